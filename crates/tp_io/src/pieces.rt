@@ -1,0 +1,60 @@
+// Texts, printed piece by piece and without memory.
+ghost use Rattle.std.specs.List.{flat_map};
+ghost use Rattle.std.specs.Prelude.{◌≡◌};
+ghost use Rattle.tp_io.specs.Pieces.{hex_digits_of, text_of};
+ghost use Rattle.tp_io.specs.Writing.{Prints, HasCause};
+
+use crate::writing::write_text;
+use crate::{Sink, SinkFault};
+use itoa::Buffer;
+
+/// A part of a printed text.
+#[derive(Clone, Copy, Debug)]
+pub enum Piece<'a> {
+    /// Text as it is.
+    Text(&'a [u8]),
+    /// A number in decimal.
+    Decimal(u64),
+    /// A number in decimal, after a `-` where it is below 0.
+    Signed(i64),
+    /// A word as eight hex digits in lower case, the highest first.
+    Word(u32),
+}
+
+/// Writes the pieces, one after the other. `SinkFault` comes only where the sink's count of faults rose; then a
+/// prefix of their text is written.
+pub fn write_pieces<K: Sink>(out: &mut K, pieces: &[Piece]) -> Result<(), SinkFault>
+    ensures text { Prints (K.holds out.old) (K.holds out.new) (flat_map text_of pieces.now) result }
+    ensures cause { HasCause (K.faults out.old) (K.faults out.new) result }
+{
+    for piece in pieces {
+        write_piece(out, *piece)?;
+    }
+    Ok(())
+}
+
+fn write_piece<K: Sink>(out: &mut K, piece: Piece) -> Result<(), SinkFault>
+    ensures text { Prints (K.holds out.old) (K.holds out.new) (text_of piece.entry) result }
+    ensures cause { HasCause (K.faults out.old) (K.faults out.new) result }
+{
+    match piece {
+        Piece::Text(text) => write_text(out, text),
+        Piece::Decimal(n) => {
+            let mut buffer = Buffer::new();
+            write_text(out, buffer.format(n).as_bytes())
+        }
+        Piece::Signed(n) => {
+            let mut buffer = Buffer::new();
+            write_text(out, buffer.format(n).as_bytes())
+        }
+        Piece::Word(w) => write_text(out, &hex_digits(w)),
+    }
+}
+
+fn hex_digits(w: u32) -> [u8; 8]
+    ensures { result ≡ hex_digits_of w }
+{
+    let mut digits = [0u8; 8];
+    hex::encode_to_slice(w.to_be_bytes(), &mut digits).unwrap();
+    digits
+}

@@ -1,0 +1,36 @@
+-- Arithmetic of words, which are whole numbers below 2 ^ 32.
+use Rattle.std.specs.Prelude.{ℕ, ℤ, pos, ◌+◌, ◌-◌, ◌*◌, ◌/◌, ◌%◌, ◌^◌, ◌-ℤ◌, Option, Some, None, nat_lt, int_div, int_rem, ◌==◌, if◌then◌else◌}
+use Rattle.std.specs.Int.{w32, cast_unsigned}
+
+-- sums, differences and products are taken modulo 2 ^ 32
+abbrev pub add : ℕ → ℕ → ℕ
+add x y = (x + y) % 2 ^ 32
+
+abbrev pub sub : ℕ → ℕ → ℕ
+sub x y = (x + (2 ^ 32 - y)) % 2 ^ 32
+
+abbrev pub mul : ℕ → ℕ → ℕ
+mul x y = (x * y) % 2 ^ 32
+
+-- a word as a signed number
+abbrev pub signed : ℕ → ℤ
+signed x = if nat_lt x (2 ^ 31) then pos x else pos x -ℤ pos (2 ^ 32)
+
+-- a signed number, modulo 2 ^ 32
+abbrev pub word_of : ℤ → ℕ
+word_of z = cast_unsigned w32 z
+
+-- The quotient of two signed numbers goes toward zero. It is taken modulo 2 ^ 32, so the least number by -1 gives itself.
+-- There is none by 0.
+abbrev pub div : ℕ → ℕ → Option ℕ
+div x y = if y == 0 then None else Some (word_of (int_div (signed x) (signed y)))
+
+abbrev pub rem : ℕ → ℕ → Option ℕ
+rem x y = if y == 0 then None else Some (word_of (int_rem (signed x) (signed y)))
+
+-- a shift by 32 or more gives 0
+abbrev pub shl : ℕ → ℕ → ℕ
+shl x y = if nat_lt y 32 then (x * 2 ^ y) % 2 ^ 32 else 0
+
+abbrev pub shr : ℕ → ℕ → ℕ
+shr x y = if nat_lt y 32 then x / 2 ^ y else 0

@@ -1,0 +1,65 @@
+// Arithmetic of words, modulo 2 ^ 32.
+ghost use Rattle.std.specs.Prelude.{◌≡◌};
+ghost use Rattle.word_store.specs.Arithmetic.{add, div, mul, rem, shl, shr, signed, sub};
+
+/// The sum.
+pub fn add(x: u32, y: u32) -> u32
+    ensures { result ≡ add x y }
+{
+    x.wrapping_add(y)
+}
+
+/// The difference.
+pub fn sub(x: u32, y: u32) -> u32
+    ensures { result ≡ sub x y }
+{
+    x.wrapping_sub(y)
+}
+
+/// The product.
+pub fn mul(x: u32, y: u32) -> u32
+    ensures { result ≡ mul x y }
+{
+    x.wrapping_mul(y)
+}
+
+/// The signed quotient, toward zero; `None` exactly where y is 0. The least number by -1 gives itself.
+pub fn div(x: u32, y: u32) -> Option<u32>
+    ensures { result ≡ div x y }
+{
+    if y == 0 {
+        return None;
+    }
+    Some(signed(x).wrapping_div(signed(y)).cast_unsigned())
+}
+
+/// The signed remainder, with the sign of x; `None` exactly where y is 0. The least number by -1 leaves 0.
+pub fn rem(x: u32, y: u32) -> Option<u32>
+    ensures { result ≡ rem x y }
+{
+    if y == 0 {
+        return None;
+    }
+    Some(signed(x).wrapping_rem(signed(y)).cast_unsigned())
+}
+
+/// x, shifted left by y bits; by 32 and more it gives 0.
+pub fn shl(x: u32, y: u32) -> u32
+    ensures { result ≡ shl x y }
+{
+    if y < 32 { x.wrapping_shl(y) } else { 0 }
+}
+
+/// x, shifted right by y bits, with zeros from the left; by 32 and more it gives 0.
+pub fn shr(x: u32, y: u32) -> u32
+    ensures { result ≡ shr x y }
+{
+    if y < 32 { x >> y } else { 0 }
+}
+
+/// The word as a signed number: x below 2 ^ 31, else x - 2 ^ 32.
+pub fn signed(x: u32) -> i32
+    ensures { result ≡ signed x }
+{
+    x.cast_signed()
+}

@@ -1,0 +1,12 @@
+// The machine's words: the store, the registers, arithmetic, and who guards the kernel's words.
+#![tactic(auto)]
+
+pub mod arithmetic;
+pub mod guarding;
+pub mod registers;
+pub mod words;
+
+pub use arithmetic::{add, div, mul, rem, shl, shr, signed, sub};
+pub use guarding::Guard;
+pub use registers::Regs;
+pub use words::{NoStoreMemory, Store};

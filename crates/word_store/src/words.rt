@@ -1,0 +1,98 @@
+// The store: words of 32 bits, addressed from 0, and their bytes, the lowest byte of a word first.
+ghost use Rattle.std.specs.Prelude.{◌≡◌, ◌+◌, ◌*◌, ◌<◌, ◌↔◌, IfOk, IfSome, IsNone, IsTrue, length, replicate, slice_get, slice_range, slice_set};
+ghost use Rattle.word_store.specs.Bytes.{byte_at, set_byte_at};
+
+use std::alloc::Global;
+use std::marker::Model;
+
+/// Memory for the store could not be had.
+#[derive(Clone, Copy, Debug, PartialEq, Eq)]
+pub struct NoStoreMemory;
+
+/// A store of fewer than 2 ^ 32 words, seen as their list.
+#[derive(Drop)]
+pub struct Store {
+    words: Vec<u32>,
+}
+
+impl Model for Store {
+    ghost use Rattle.std.specs.Prelude.{ℕ, List, ◌<◌, ◌^◌, vec_len};
+
+    ghost Value = { List ℕ };
+
+    ghost view = { λ s. s.words.items };
+
+    ghost invariant = { λ s. vec_len s.words < 2 ^ 32 };
+}
+
+impl Store {
+    /// A store of that many zeros.
+    pub fn new(alloc: Global, words: u32) -> Result<Store, NoStoreMemory>
+        ensures { IfOk result (λ s. s ≡ replicate words 0) }
+    {
+        match vec![in alloc; 0u32; words as usize] {
+            Ok(words) => Ok(Store { words }),
+            Err(_) => Err(NoStoreMemory),
+        }
+    }
+
+    /// The number of words.
+    pub fn size(&self) -> u32
+        ensures { result ≡ length self.now }
+    {
+        self.words.len() as u32
+    }
+
+    /// The word at address a, or `None` exactly where it is outside.
+    pub fn get(&self, a: u32) -> Option<u32>
+        ensures { result ≡ slice_get self.now a }
+    {
+        self.words.get(a as usize).copied()
+    }
+
+    /// Sets the word at address a. The answer is false exactly where it is outside; then nothing changes.
+    pub fn set(&mut self, a: u32, w: u32) -> bool
+        ensures inside { IsTrue result ↔ (a < length self.old) }
+        ensures after { self.new ≡ slice_set self.old a w }
+    {
+        if a >= self.size() {
+            return false;
+        }
+        self.words[a as usize] = w;
+        true
+    }
+
+    /// The byte at byte address a, or `None` exactly where it is outside.
+    pub fn get_byte(&self, a: u32) -> Option<u8>
+        ensures { result ≡ byte_at self.now a }
+    {
+        let w = self.get(a / 4)?;
+        Some(w.to_le_bytes()[(a % 4) as usize])
+    }
+
+    /// Sets the byte at byte address a. The answer is false exactly where it is outside; then nothing changes.
+    pub fn set_byte(&mut self, a: u32, b: u8) -> bool
+        ensures inside { IsTrue result ↔ (a < 4 * length self.old) }
+        ensures after { self.new ≡ set_byte_at self.old a b }
+    {
+        let Some(w) = self.get(a / 4) else {
+            return false;
+        };
+        let mut bytes = w.to_le_bytes();
+        bytes[(a % 4) as usize] = b;
+        self.set(a / 4, u32::from_le_bytes(bytes))
+    }
+
+    /// The n words from address a on, lent; `None` exactly where they pass the end of the store.
+    pub fn words(&self, a: u32, n: u32) -> Option<&[u32]>
+        ensures outside { IsNone result ↔ (length self.now < a + n) }
+        ensures inside { IfSome result (λ w. w.now ≡ slice_range self.now a (a + n)) }
+    {
+        let start = a as usize;
+        let end = start + n as usize;
+        if end > self.words.len() {
+            return None;
+        }
+        Some(&self.words[start..end])
+    }
+}
