@@ -7,6 +7,8 @@ pub mod output;
 pub mod pieces;
 pub mod reading;
 pub mod standard;
+#[cfg(test)]
+mod tests;
 pub mod whole;
 pub mod writing;
 

@@ -4,6 +4,8 @@
 pub mod arithmetic;
 pub mod guarding;
 pub mod registers;
+#[cfg(test)]
+mod tests;
 pub mod words;
 
 pub use arithmetic::{add, div, mul, rem, shl, shr, signed, sub};

@@ -1,0 +1,73 @@
+-- One instruction: what is there after it, from the words, the registers and the words that a guest may not write.
+use Rattle.std.specs.Prelude.{ℕ, Bool, true, false, List, [], ◌∷◌, length, ◌/◌, Option, Some, None, Result, Ok, Err, nat_le, ◌==◌, if◌then◌else◌, slice_set}
+use Rattle.word_store.specs.Arithmetic.{add}
+use Rattle.word_store.specs.Bytes.{byte_at}
+use Rattle.word_store.specs.declared.registers.Regs.{Regs}
+use Rattle.cint_table.specs.declared.rows.Effect.{Effect}
+use Rattle.cint_table.specs.declared.rows.Effect.TheVariants.{Sys}
+use Rattle.cint_decode.specs.declared.Instr.{Instr}
+use Rattle.cint_decode.specs.declared.DecodeEnd.{DecodeEnd}
+use Rattle.cint_decode.specs.declared.DecodeEnd.TheVariants.{Outside, Undefined, Halfword}
+use Rattle.cint_decode.specs.Decode.{decoded}
+use Rattle.cint_exec.specs.declared.Fault.{Fault}
+use Rattle.cint_exec.specs.declared.Outcome.{Outcome}
+use Rattle.cint_exec.specs.declared.Outcome.TheVariants.{Next, Sys as Call, Returned, Fault as Faulted}
+use Rattle.cint_exec.specs.Change.{Change, fault}
+use Rattle.cint_exec.specs.Effect.{change_of}
+
+pub record After : Type 0 where
+  pub outcome : Outcome
+  pub words : List ℕ
+  pub regs : Regs
+
+-- registers and words are as before
+abbrev pub unchanged : List ℕ → Regs → Outcome → After
+unchanged words r outcome = record { outcome = outcome; words = words; regs = r }
+
+-- A function or operand byte outside the store is fault 8, a byte without a row fault 1, and a halfword outside is
+-- fault 3 at its word.
+abbrev pub decode_fault : DecodeEnd → Fault
+decode_fault (Outside a) = fault 8 a
+decode_fault (Undefined a) = fault 1 a
+decode_fault (Halfword a) = fault 3 (a / 4)
+
+-- the first write, in order, that is outside the store (fault 4) or into a kernel word (fault 6)
+abbrev pub write_fault : (ℕ → Bool) → List ℕ → List (ℕ × ℕ) → Option Fault
+write_fault marks words [] = None
+write_fault marks words (w ∷ ws) =
+  if nat_le (length words) w.0 then Some (fault 4 w.0) else
+  if marks w.0 then Some (fault 6 w.0) else
+  write_fault marks words ws
+
+abbrev pub written : List ℕ → List (ℕ × ℕ) → List ℕ
+written words [] = words
+written words (w ∷ ws) = written (slice_set words w.0 w.1) ws
+
+-- all the writes are made, or none is and there is a fault
+abbrev pub made : Option Fault → List ℕ → Regs → Change → After
+made (Some f) words r change = unchanged words r (Faulted f)
+made None words r change = record { outcome = Next; words = written words change.writes; regs = change.regs }
+
+abbrev pub settled : (ℕ → Bool) → List ℕ → Regs → Result Change Fault → After
+settled marks words r (Err f) = unchanged words r (Faulted f)
+settled marks words r (Ok change) = made (write_fault marks words change.writes) words r change
+
+abbrev pub is_call : Effect → Bool
+is_call Sys = true
+is_call _ = false
+
+-- a kernel call is left to the kernel; every other effect is made
+unfoldable pub effected : (ℕ → Bool) → List ℕ → Regs → Instr → After
+effected marks words r i =
+  if is_call i.effect then unchanged words r Call else
+  settled marks words r (change_of i.effect words (record r { pc = add r.pc i.length }) i.operand i.target r.pc)
+
+abbrev pub decided : (ℕ → Bool) → List ℕ → Regs → Result Instr DecodeEnd → After
+decided marks words r (Err end) = unchanged words r (Faulted (decode_fault end))
+decided marks words r (Ok i) = effected marks words r i
+
+-- at PC 0 nothing is executed: the function at the bottom of the stack has returned
+abbrev pub instruction : (ℕ → Bool) → List ℕ → Regs → After
+instruction marks words r =
+  if r.pc == 0 then unchanged words r Returned else
+  decided marks words r (decoded (byte_at words) r.pc)

@@ -1,0 +1,38 @@
+// Jumps and their conditions.
+ghost use Rattle.std.specs.Prelude.{◌≡◌, ◌<◌, IfOk};
+ghost use Rattle.cint_exec.specs.Change.{holds, jump, jump_if};
+ghost use Rattle.cint_exec.specs.Writes.{seen};
+
+use crate::Fault;
+use crate::changes::{Change, keep};
+use cint_table::Test;
+use word_store::{Regs, signed};
+
+pub fn jump(r: Regs, to: u32) -> Result<Change, Fault>
+    requires { r.c < 256 }
+    ensures value { seen result ≡ jump r to }
+    ensures byte { IfOk result (λ x. x.regs.c < 256) }
+{
+    keep(Regs { pc: to, ..r })
+}
+
+pub fn jump_if(condition: bool, r: Regs, to: u32) -> Result<Change, Fault>
+    requires { r.c < 256 }
+    ensures value { seen result ≡ jump_if condition r to }
+    ensures byte { IfOk result (λ x. x.regs.c < 256) }
+{
+    if condition { jump(r, to) } else { keep(r) }
+}
+
+pub fn holds(test: Test, x: u32, y: u32) -> bool
+    ensures { result ≡ holds test x y }
+{
+    match test {
+        Test::Eq => x == y,
+        Test::Ne => x != y,
+        Test::Ls => signed(x) < signed(y),
+        Test::Gr => signed(y) < signed(x),
+        Test::Le => !(signed(y) < signed(x)),
+        Test::Ge => !(signed(x) < signed(y)),
+    }
+}

@@ -1,0 +1,60 @@
+// One instruction of the machine.
+#![tactic(auto)]
+
+ghost use Rattle.std.specs.Prelude.{◌≡◌, ◌<◌};
+ghost use Rattle.cint_exec.specs.Instruction.{instruction};
+
+mod bytes;
+mod changes;
+mod decoding;
+mod effects;
+mod frames;
+mod jumps;
+mod switches;
+mod unguarded;
+mod writes;
+
+pub use unguarded::NoKernel;
+
+use word_store::{Guard, Regs, Store};
+
+/// Why an instruction was not executed, and where: a word address for codes 3, 4 and 6, else a byte address.
+///
+/// 1 a byte without a row, 2 BRK, 3 a read outside the store, 4 a write outside it, 5 a division by zero, 6 a write into a
+/// kernel word, 7 an unknown call, 8 a function or operand byte outside the store. An instruction has no fault 7 itself.
+#[derive(Clone, Copy, Debug, PartialEq, Eq)]
+pub struct Fault {
+    pub code: u32,
+    pub address: u32,
+}
+
+/// How an instruction ended.
+#[derive(Clone, Copy, Debug, PartialEq, Eq)]
+pub enum Outcome {
+    /// It was executed.
+    Next,
+    /// It is SYS, a kernel call, which is left to the kernel.
+    Sys,
+    /// PC is 0: the function at the bottom of the stack has returned.
+    Returned,
+    /// It was not executed.
+    Fault(Fault),
+}
+
+/// Executes the instruction at PC. At `Sys`, `Returned` and `Fault` the registers and the store are as before.
+pub fn execute<X: Guard>(store: &mut Store, regs: &mut Regs, guard: &X) -> Outcome
+    requires byte { regs.old.c < 256 }
+    requires guard { X.can_guard guard.now store.old }
+    ensures outcome { result ≡ (instruction (X.marks guard.now store.old) store.old regs.old).outcome }
+    ensures words { store.new ≡ (instruction (X.marks guard.now store.old) store.old regs.old).words }
+    ensures regs { regs.new ≡ (instruction (X.marks guard.now store.old) store.old regs.old).regs }
+    ensures byte { regs.new.c < 256 }
+{
+    if regs.pc == 0 {
+        return Outcome::Returned;
+    }
+    match cint_decode::decode(&*store, regs.pc) {
+        Ok(instr) => effects::effect(store, regs, guard, instr),
+        Err(end) => Outcome::Fault(decoding::fault_of(end)),
+    }
+}

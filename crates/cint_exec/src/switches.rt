@@ -1,0 +1,77 @@
+// The switches by label and by key.
+ghost use Rattle.std.specs.Prelude.{◌≡◌, ◌<◌, IfOk};
+ghost use Rattle.cint_exec.specs.Switch.{halfword, jump_by, search_from, switch_by_key, switch_by_label, table_byte};
+ghost use Rattle.cint_exec.specs.Writes.{seen};
+
+use crate::Fault;
+use crate::changes::Change;
+use crate::jumps::jump;
+use cint_decode::signed_half;
+use word_store::{Regs, Store, add};
+
+fn table_byte(store: &Store, a: u32) -> Result<u8, Fault>
+    ensures { result ≡ table_byte store.now a }
+{
+    store.get_byte(a).ok_or(Fault {
+        code: 3,
+        address: a / 4,
+    })
+}
+
+fn halfword(store: &Store, a: u32) -> Result<u16, Fault>
+    ensures { result ≡ halfword store.now a }
+{
+    let low = table_byte(store, a)?;
+    let high = table_byte(store, add(a, 1))?;
+    Ok(u16::from_le_bytes([low, high]))
+}
+
+fn jump_by(store: &Store, r: Regs, a: u32) -> Result<Change, Fault>
+    requires { r.c < 256 }
+    ensures value { seen result ≡ jump_by store.now r a }
+    ensures byte { IfOk result (λ x. x.regs.c < 256) }
+{
+    let h = halfword(store, a)?;
+    jump(r, add(a, signed_half(h)))
+}
+
+pub fn switch_by_label(store: &Store, r: Regs, t: u32) -> Result<Change, Fault>
+    requires { r.c < 256 }
+    ensures value { seen result ≡ switch_by_label store.now r t }
+    ensures byte { IfOk result (λ x. x.regs.c < 256) }
+{
+    let count = halfword(store, t)? as u32;
+    let a = if r.a < count {
+        add(add(t, 4), 2 * r.a)
+    } else {
+        add(t, 2)
+    };
+    jump_by(store, r, a)
+}
+
+pub fn switch_by_key(store: &Store, r: Regs, t: u32) -> Result<Change, Fault>
+    requires { r.c < 256 }
+    ensures value { seen result ≡ switch_by_key store.now r t }
+    ensures byte { IfOk result (λ x. x.regs.c < 256) }
+{
+    let count = halfword(store, t)? as u32;
+    search(store, r, t, count)
+}
+
+// Finds the pair of the key that is A, among so many.
+fn search(store: &Store, r: Regs, t: u32, count: u32) -> Result<Change, Fault>
+    requires byte { r.c < 256 }
+    requires halfword { count < 65536 }
+    ensures value { seen result ≡ search_from count store.now r t count 1 }
+    ensures byte { IfOk result (λ x. x.regs.c < 256) }
+{
+    let mut i = 1u32;
+    while i <= count {
+        let key = halfword(store, add(t, 4 * i))? as u32;
+        if r.a == key {
+            return jump_by(store, r, add(t, 4 * i + 2));
+        }
+        i = if r.a < key { 2 * i } else { 2 * i + 1 };
+    }
+    jump_by(store, r, add(t, 2))
+}
