@@ -1,0 +1,11 @@
+// A row of the table.
+use crate::{Effect, Form};
+
+/// A row of the table.
+#[derive(Clone, Copy, Debug, PartialEq, Eq)]
+pub struct Row {
+    /// The instruction's name in assembly text.
+    pub name: &'static str,
+    pub form: Form,
+    pub effect: Effect,
+}
