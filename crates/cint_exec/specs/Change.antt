@@ -5,8 +5,8 @@ use Rattle.std.specs.Option.{ok_or}
 use Rattle.word_store.specs.Arithmetic.{add, mul, signed}
 use Rattle.word_store.specs.Bytes.{byte_of, with_byte}
 use Rattle.word_store.specs.declared.registers.Regs.{Regs}
-use Rattle.cint_table.specs.declared.rows.Test.{Test}
-use Rattle.cint_table.specs.declared.rows.Test.TheVariants.{Eq, Ne, Ls, Gr, Le, Ge}
+use Rattle.cint_table.specs.declared.effects.Test.{Test}
+use Rattle.cint_table.specs.declared.effects.Test.TheVariants.{Eq, Ne, Ls, Gr, Le, Ge}
 use Rattle.cint_exec.specs.declared.Fault.{Fault}
 
 -- the writes are pairs of an address and a word, in the order in which they are tried

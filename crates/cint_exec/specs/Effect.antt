@@ -2,8 +2,8 @@
 use Rattle.std.specs.Prelude.{ℕ, ◌-◌, ◌/◌, ◌%◌, ◌^◌, List, Result, Err, bit_and, bit_or, bit_xor}
 use Rattle.word_store.specs.Arithmetic.{add, sub, mul, div, rem, shl, shr}
 use Rattle.word_store.specs.declared.registers.Regs.{Regs}
-use Rattle.cint_table.specs.declared.rows.Effect.{Effect}
-use Rattle.cint_table.specs.declared.rows.Effect.TheVariants.{Load, LoadMinus, LoadP, LoadPAddress, LoadG, LoadGAddress, LoadGk, LoadPk, LoadTarget, LoadAtTarget, LoadTargetWord, StoreP, StoreG, StoreG0, StorePk, StoreTarget, AddP, AddG, AddN, SubN, Rv, RvP, St, StP, Gbyt, Pbyt, Xpbyt, Add, Sub, Mul, Div, Rem, And, Or, Xor, Lsh, Rsh, Neg, Not, Xch, Atb, Atc, Btc, Jump, JumpIf, JumpIfZero, Call, CallG, Rtn, Goto, Fhop, Swl, Swb, Nop, Brk, Sys}
+use Rattle.cint_table.specs.declared.effects.Effect.{Effect}
+use Rattle.cint_table.specs.declared.effects.Effect.TheVariants.{Load, LoadMinus, LoadP, LoadPAddress, LoadG, LoadGAddress, LoadGk, LoadPk, LoadTarget, LoadAtTarget, LoadTargetWord, StoreP, StoreG, StoreG0, StorePk, StoreTarget, AddP, AddG, AddN, SubN, Rv, RvP, St, StP, Gbyt, Pbyt, Xpbyt, Add, Sub, Mul, Div, Rem, And, Or, Xor, Lsh, Rsh, Neg, Not, Xch, Atb, Atc, Btc, Jump, JumpIf, JumpIfZero, Call, CallG, Rtn, Goto, Fhop, Swl, Swb, Nop, Brk, Sys}
 use Rattle.cint_decode.specs.Even.{even_above}
 use Rattle.cint_exec.specs.declared.Fault.{Fault}
 use Rattle.cint_exec.specs.Change.{Change, fault, keep, load, set_a, jump, write, load_at, load_through, add_at, set_a_at, set_a_through, write_through, get_byte, put_byte, divide, holds, jump_if, enter, enter_global, leave}

@@ -3,8 +3,8 @@ use Rattle.std.specs.Prelude.{ℕ, Bool, true, false, List, [], ◌∷◌, lengt
 use Rattle.word_store.specs.Arithmetic.{add}
 use Rattle.word_store.specs.Bytes.{byte_at}
 use Rattle.word_store.specs.declared.registers.Regs.{Regs}
-use Rattle.cint_table.specs.declared.rows.Effect.{Effect}
-use Rattle.cint_table.specs.declared.rows.Effect.TheVariants.{Sys}
+use Rattle.cint_table.specs.declared.effects.Effect.{Effect}
+use Rattle.cint_table.specs.declared.effects.Effect.TheVariants.{Sys}
 use Rattle.cint_decode.specs.declared.Instr.{Instr}
 use Rattle.cint_decode.specs.declared.DecodeEnd.{DecodeEnd}
 use Rattle.cint_decode.specs.declared.DecodeEnd.TheVariants.{Outside, Undefined, Halfword}

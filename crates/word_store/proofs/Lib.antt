@@ -1,0 +1,2 @@
+pub mod WordOf
+pub mod Wide

@@ -1,6 +1,5 @@
 -- Arithmetic of words, which are whole numbers below 2 ^ 32.
-use Rattle.std.specs.Prelude.{ℕ, ℤ, pos, ◌+◌, ◌-◌, ◌*◌, ◌/◌, ◌%◌, ◌^◌, ◌-ℤ◌, Option, Some, None, nat_lt, int_div, int_rem, ◌==◌, if◌then◌else◌}
-use Rattle.std.specs.Int.{w32, cast_unsigned}
+use Rattle.std.specs.Prelude.{ℕ, ℤ, pos, negsuc, ◌+◌, ◌-◌, ◌*◌, ◌/◌, ◌%◌, ◌^◌, ◌-ℤ◌, ◌*ℤ◌, Option, Some, None, nat_lt, int_div, int_rem, ◌==◌, if◌then◌else◌}
 
 -- sums, differences and products are taken modulo 2 ^ 32
 abbrev pub add : ℕ → ℕ → ℕ
@@ -18,7 +17,8 @@ signed x = if nat_lt x (2 ^ 31) then pos x else pos x -ℤ pos (2 ^ 32)
 
 -- a signed number, modulo 2 ^ 32
 abbrev pub word_of : ℤ → ℕ
-word_of z = cast_unsigned w32 z
+word_of (pos n) = n % 2 ^ 32
+word_of (negsuc n) = 2 ^ 32 - 1 - n % 2 ^ 32
 
 -- The quotient of two signed numbers goes toward zero. It is taken modulo 2 ^ 32, so the least number by -1 gives itself.
 -- There is none by 0.
@@ -34,3 +34,9 @@ shl x y = if nat_lt y 32 then (x * 2 ^ y) % 2 ^ 32 else 0
 
 abbrev pub shr : ℕ → ℕ → ℕ
 shr x y = if nat_lt y 32 then x / 2 ^ y else 0
+
+-- the product of signed numbers, divided toward zero: quotient and remainder modulo 2 ^ 32, or 0 and 0 by 0
+abbrev pub mul_div : ℕ → ℕ → ℕ → ℕ × ℕ
+mul_div a b c =
+    if c == 0 then (0, 0) else
+    (word_of (int_div (signed a *ℤ signed b) (signed c)), word_of (int_rem (signed a *ℤ signed b) (signed c)))

@@ -1,6 +1,7 @@
 // Arithmetic of words, modulo 2 ^ 32.
-ghost use Rattle.std.specs.Prelude.{◌≡◌};
-ghost use Rattle.word_store.specs.Arithmetic.{add, div, mul, rem, shl, shr, signed, sub};
+ghost use Rattle.std.specs.Prelude.{◌≡◌, ◌≢◌, FitsSigned, int_div, int_rem, pos};
+ghost use Rattle.std.specs.Int.{w32};
+ghost use Rattle.word_store.specs.Arithmetic.{add, div, mul, mul_div, rem, shl, shr, signed, sub, word_of};
 
 /// The sum.
 pub fn add(x: u32, y: u32) -> u32
@@ -62,4 +63,37 @@ pub fn signed(x: u32) -> i32
     ensures { result ≡ signed x }
 {
     x.cast_signed()
+}
+
+/// The signed product of a and b, in 64 bits, divided by c toward zero: the quotient modulo 2 ^ 32, and the remainder.
+/// Both are 0 where c is 0.
+pub fn mul_div(a: u32, b: u32, c: u32) -> (u32, u32)
+    ensures { result ≡ mul_div a b c }
+{
+    if c == 0 {
+        return (0, 0);
+    }
+    quotient_and_remainder(wide(a) * wide(b), wide(c))
+}
+
+// The signed number of a word, in 64 bits.
+fn wide(x: u32) -> i64
+    ensures value { result ≡ signed x }
+    ensures fits { FitsSigned w32 result }
+{
+    signed(x) as i64
+}
+
+fn quotient_and_remainder(x: i64, y: i64) -> (u32, u32)
+    requires { y ≢ pos 0 }
+    ensures { result ≡ (word_of (int_div x y), word_of (int_rem x y)) }
+{
+    (low_word(x.wrapping_div(y)), low_word(x.wrapping_rem(y)))
+}
+
+// A number modulo 2 ^ 32.
+fn low_word(x: i64) -> u32
+    ensures { result ≡ word_of x }
+{
+    (x.cast_unsigned() % 0x1_0000_0000) as u32
 }

@@ -8,7 +8,7 @@ pub mod registers;
 mod tests;
 pub mod words;
 
-pub use arithmetic::{add, div, mul, rem, shl, shr, signed, sub};
+pub use arithmetic::{add, div, mul, mul_div, rem, shl, shr, signed, sub};
 pub use guarding::Guard;
 pub use registers::Regs;
 pub use words::{NoStoreMemory, Store};

@@ -1,5 +1,5 @@
 // Arithmetic at its edges, and the bytes of a store.
-use crate::{Store, div, rem, shl, shr};
+use crate::{Store, div, mul_div, rem, shl, shr};
 use std::test::Fail;
 
 #[test]
@@ -15,6 +15,14 @@ fn computes_at_the_edges(rt: HostRuntime) {
     ] {
         assert_eq!(rt; div(x, y), quotient, "{x} by {y}");
         assert_eq!(rt; rem(x, y), remainder, "{x} by {y}");
+    }
+    for (a, b, c, answer) in [
+        (3, 0xffff_fff9, 2, (0xffff_fff6, minus_one)),
+        (least, least, minus_one, (0, 0)),
+        (least, least, 3, (0x5555_5555, 1)),
+        (7, 9, 0, (0, 0)),
+    ] {
+        assert_eq!(rt; mul_div(a, b, c), answer, "{a} times {b} by {c}");
     }
     for (y, left, right) in [
         (0, 3, 3),
