@@ -1,0 +1,4 @@
+pub mod EmptyLemmas
+pub mod Entries
+pub mod FormLemmas
+pub mod NameLemmas

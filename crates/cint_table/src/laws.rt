@@ -1,0 +1,25 @@
+// What holds of the whole table. The functions do nothing: their contracts are the laws.
+ghost use Rattle.std.specs.Prelude.{◌≡◌, ◌<◌, ◌^◌, ◌↔◌, ℕ, List, Some, Contains, IfSome, IsNone};
+ghost use Rattle.cint_table.specs.Empty.{empty_bytes};
+ghost use Rattle.cint_table.specs.FormRule.{form_named};
+ghost use Rattle.cint_table.specs.Names.{byte_named, name_at};
+ghost use Rattle.cint_table.specs.Table.{entry};
+
+/// Seven bytes are empty: 0, 1, 223, 239, 240, 254 and 255. All others have a row.
+#[tactic(auto, using(crate::proofs::EmptyLemmas::empty_where))]
+pub fn empty_law()
+    ensures { (byte : ℕ) → byte < 2 ^ 8 → (IsNone (entry byte) ↔ Contains empty_bytes byte) }
+{}
+
+/// Each name stands once, so the byte that is found by the name of a row is the byte of that row.
+#[tactic(auto, using(crate::proofs::NameLemmas::once, crate::proofs::NameLemmas::byte_named_at, crate::proofs::NameLemmas::byte_named_has))]
+pub fn name_law()
+    ensures once { (a b : ℕ) (name : List ℕ) → name_at a ≡ Some name → name_at b ≡ Some name → a ≡ b }
+    ensures found { (byte : ℕ) (name : List ℕ) → (byte_named name ≡ Some byte) ↔ (name_at byte ≡ Some name) }
+{}
+
+/// The form of each row follows from its name.
+#[tactic(auto, using(crate::proofs::FormLemmas::each_follows))]
+pub fn form_law()
+    ensures { (byte : ℕ) → IfSome (entry byte) (λ row. row.form ≡ form_named row.name) }
+{}

@@ -1,0 +1,30 @@
+// Rows, found by their names.
+ghost use Rattle.std.specs.Prelude.{◌≡◌, ◌≢◌, ◌↔◌, ℕ, Some, IfSome, IsNone};
+ghost use Rattle.cint_table.specs.Names.{byte_named, has_name, name_at};
+
+use crate::row;
+
+/// The byte whose row has the name, or `None` exactly where no row has it.
+#[tactic(auto, using(crate::proofs::NameLemmas::has_name_from, crate::proofs::NameLemmas::byte_named_at, crate::proofs::NameLemmas::never_named, crate::proofs::NameLemmas::unnamed))]
+pub fn byte_of(name: &str) -> Option<u8>
+    ensures found { IfSome result (λ byte. name_at byte ≡ Some name.now) }
+    ensures none { IsNone result ↔ ((byte : ℕ) → name_at byte ≢ Some name.now) }
+    ensures value { result ≡ byte_named name.now }
+{
+    for number in 0..256u16 {
+        let byte = number as u8;
+        if is_named(byte, name) {
+            return Some(byte);
+        }
+    }
+    None
+}
+
+fn is_named(byte: u8, name: &str) -> bool
+    ensures { result ≡ has_name name.now byte }
+{
+    match row(byte) {
+        Some(row) => row.name == name,
+        None => false,
+    }
+}
