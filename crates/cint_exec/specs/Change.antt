@@ -7,17 +7,13 @@ use Rattle.word_store.specs.Bytes.{byte_of, with_byte}
 use Rattle.word_store.specs.declared.registers.Regs.{Regs}
 use Rattle.cint_table.specs.declared.effects.Test.{Test}
 use Rattle.cint_table.specs.declared.effects.Test.TheVariants.{Eq, Ne, Ls, Gr, Le, Ge}
+use Rattle.cint_decode.specs.Steps.{◌>>=◌}
 use Rattle.cint_exec.specs.declared.Fault.{Fault}
 
 -- the writes are pairs of an address and a word, in the order in which they are tried
 pub record Change : Type 0 where
   pub regs : Regs
   pub writes : List (ℕ × ℕ)
-
-infixl 10 ◌>>=◌
-abbrev pub ◌>>=◌ : {A B E : Type 0} → Result A E → (A → Result B E) → Result B E
-(Ok x) >>= f = f x
-(Err e) >>= f = Err e
 
 abbrev pub fault : ℕ → ℕ → Fault
 fault code address = record { code = code; address = address }

@@ -5,10 +5,10 @@ use Rattle.word_store.specs.Bytes.{byte_at}
 use Rattle.word_store.specs.declared.registers.Regs.{Regs}
 use Rattle.cint_table.specs.declared.effects.Effect.{Effect}
 use Rattle.cint_table.specs.declared.effects.Effect.TheVariants.{Sys}
-use Rattle.cint_decode.specs.declared.Instr.{Instr}
-use Rattle.cint_decode.specs.declared.DecodeEnd.{DecodeEnd}
-use Rattle.cint_decode.specs.declared.DecodeEnd.TheVariants.{Outside, Undefined, Halfword}
-use Rattle.cint_decode.specs.Decode.{decoded}
+use Rattle.cint_decode.specs.declared.instructions.Instr.{Instr}
+use Rattle.cint_decode.specs.declared.instructions.DecodeEnd.{DecodeEnd}
+use Rattle.cint_decode.specs.declared.instructions.DecodeEnd.TheVariants.{Outside, Undefined, Halfword}
+use Rattle.cint_decode.specs.Decoded.{decoded}
 use Rattle.cint_exec.specs.declared.Fault.{Fault}
 use Rattle.cint_exec.specs.declared.Outcome.{Outcome}
 use Rattle.cint_exec.specs.declared.Outcome.TheVariants.{Next, Sys as Call, Returned, Fault as Faulted}
@@ -35,9 +35,9 @@ decode_fault (Halfword a) = fault 3 (a / 4)
 abbrev pub write_fault : (ℕ → Bool) → List ℕ → List (ℕ × ℕ) → Option Fault
 write_fault marks words [] = None
 write_fault marks words (w ∷ ws) =
-  if nat_le (length words) w.0 then Some (fault 4 w.0) else
-  if marks w.0 then Some (fault 6 w.0) else
-  write_fault marks words ws
+    if nat_le (length words) w.0 then Some (fault 4 w.0) else
+    if marks w.0 then Some (fault 6 w.0) else
+    write_fault marks words ws
 
 abbrev pub written : List ℕ → List (ℕ × ℕ) → List ℕ
 written words [] = words
@@ -59,8 +59,8 @@ is_call _ = false
 -- a kernel call is left to the kernel; every other effect is made
 unfoldable pub effected : (ℕ → Bool) → List ℕ → Regs → Instr → After
 effected marks words r i =
-  if is_call i.effect then unchanged words r Call else
-  settled marks words r (change_of i.effect words (record r { pc = add r.pc i.length }) i.operand i.target r.pc)
+    if is_call i.effect then unchanged words r Call else
+    settled marks words r (change_of i.effect words (record r { pc = add r.pc i.length }) i.operand i.target r.pc)
 
 abbrev pub decided : (ℕ → Bool) → List ℕ → Regs → Result Instr DecodeEnd → After
 decided marks words r (Err end) = unchanged words r (Faulted (decode_fault end))
@@ -69,5 +69,5 @@ decided marks words r (Ok i) = effected marks words r i
 -- at PC 0 nothing is executed: the function at the bottom of the stack has returned
 abbrev pub instruction : (ℕ → Bool) → List ℕ → Regs → After
 instruction marks words r =
-  if r.pc == 0 then unchanged words r Returned else
-  decided marks words r (decoded (byte_at words) r.pc)
+    if r.pc == 0 then unchanged words r Returned else
+    decided marks words r (decoded (byte_at words) r.pc)

@@ -5,9 +5,10 @@ use Rattle.std.specs.Option.{ok_or}
 use Rattle.word_store.specs.Arithmetic.{add}
 use Rattle.word_store.specs.Bytes.{byte_at}
 use Rattle.word_store.specs.declared.registers.Regs.{Regs}
-use Rattle.cint_decode.specs.Halfword.{signed_half}
+use Rattle.cint_decode.specs.Offset.{half_offset}
+use Rattle.cint_decode.specs.Steps.{◌>>=◌}
 use Rattle.cint_exec.specs.declared.Fault.{Fault}
-use Rattle.cint_exec.specs.Change.{Change, fault, jump, ◌>>=◌}
+use Rattle.cint_exec.specs.Change.{Change, fault, jump}
 
 -- a byte outside the store is fault 3 at its word
 abbrev pub table_byte : List ℕ → ℕ → Result ℕ Fault
@@ -24,7 +25,7 @@ halfword words a = do
 abbrev pub jump_by : List ℕ → Regs → ℕ → Result Change Fault
 jump_by words r a = do
   h ← halfword words a
-  jump r (add a (signed_half h))
+  jump r (add a (half_offset h))
 
 -- A count, a default, and labels. Label A is used where A is below the count, else the default.
 abbrev pub switch_by_label : List ℕ → Regs → ℕ → Result Change Fault
@@ -32,21 +33,20 @@ switch_by_label words r t = do
   count ← halfword words t
   jump_by words r (if nat_lt r.a count then add (add t 4) (2 * r.a) else add t 2)
 
+-- what follows from key i
+abbrev pub compared : (ℕ → Result Change Fault) → List ℕ → Regs → ℕ → ℕ → ℕ → Result Change Fault
+compared go_on words r t i key =
+    if r.a == key then jump_by words r (add t (4 * i + 2)) else
+    if nat_lt r.a key then go_on (2 * i) else go_on (2 * i + 1)
+
 -- A count, a default, and pairs of a key and a label, numbered from 1. Where A is key i label i is used, where A is below
 -- key i the search goes on at pair 2i, else at pair 2i + 1, and past the last pair the default is used. At most as many
 -- keys are compared as there are pairs.
 unfoldable pub search_from : ℕ → List ℕ → Regs → ℕ → ℕ → ℕ → Result Change Fault
-
--- what follows from key i
-abbrev pub compared : (ℕ → Result Change Fault) → List ℕ → Regs → ℕ → ℕ → ℕ → Result Change Fault
-compared go_on words r t i key =
-  if r.a == key then jump_by words r (add t (4 * i + 2)) else
-  if nat_lt r.a key then go_on (2 * i) else go_on (2 * i + 1)
-
 search_from zero words r t count i = jump_by words r (add t 2)
 search_from (suc k) words r t count i =
-  if nat_lt count i then jump_by words r (add t 2) else
-  (halfword words (add t (4 * i)) >>= λ key. compared (search_from k words r t count) words r t i key)
+    if nat_lt count i then jump_by words r (add t 2) else
+    (halfword words (add t (4 * i)) >>= λ key. compared (search_from k words r t count) words r t i key)
 
 abbrev pub switch_by_key : List ℕ → Regs → ℕ → Result Change Fault
 switch_by_key words r t = do

@@ -15,7 +15,6 @@ mod unguarded;
 mod writes;
 
 pub use unguarded::NoKernel;
-
 use word_store::{Guard, Regs, Store};
 
 /// Why an instruction was not executed, and where: a word address for codes 3, 4 and 6, else a byte address.

@@ -6,7 +6,7 @@ ghost use Rattle.cint_exec.specs.Writes.{seen};
 use crate::Fault;
 use crate::changes::Change;
 use crate::jumps::jump;
-use cint_decode::signed_half;
+use cint_decode::half_offset;
 use word_store::{Regs, Store, add};
 
 fn table_byte(store: &Store, a: u32) -> Result<u8, Fault>
@@ -32,7 +32,7 @@ fn jump_by(store: &Store, r: Regs, a: u32) -> Result<Change, Fault>
     ensures byte { IfOk result (λ x. x.regs.c < 256) }
 {
     let h = halfword(store, a)?;
-    jump(r, add(a, signed_half(h)))
+    jump(r, add(a, half_offset(h)))
 }
 
 pub fn switch_by_label(store: &Store, r: Regs, t: u32) -> Result<Change, Fault>

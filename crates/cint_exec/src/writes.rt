@@ -12,7 +12,10 @@ use word_store::{Guard, Regs, Store, add};
 pub enum Writes {
     Nothing,
     /// One word at an address.
-    Word { at: u32, word: u32 },
+    Word {
+        at: u32,
+        word: u32,
+    },
     /// The four words of a stack frame, from an address on.
     Frame {
         at: u32,

@@ -1,0 +1,85 @@
+-- The instruction at a byte address, or the first thing that is wrong there.
+use Rattle.std.specs.Prelude.{ℕ, ◌+◌, ◌*◌, [], ◌∷◌, Option, Result, Ok}
+use Rattle.std.specs.Int.{w16, w32, from_le_bytes}
+use Rattle.std.specs.Option.{ok_or}
+use Rattle.word_store.specs.Arithmetic.{add}
+use Rattle.cint_table.specs.declared.forms.Form.{Form}
+use Rattle.cint_table.specs.declared.forms.Form.TheVariants.{Plain, Byte, BytePlus, Half, Word, Relative, Indirect, Switch}
+use Rattle.cint_table.specs.Table.{entry}
+use Rattle.cint_decode.specs.declared.instructions.DecodeEnd.{DecodeEnd}
+use Rattle.cint_decode.specs.declared.instructions.DecodeEnd.TheVariants.{Outside, Undefined, Halfword}
+use Rattle.cint_decode.specs.declared.instructions.Instr.{Instr}
+use Rattle.cint_decode.specs.declared.decoding.Operand.{Operand}
+use Rattle.cint_decode.specs.Even.{even_below}
+use Rattle.cint_decode.specs.Offset.{byte_offset, half_offset}
+use Rattle.cint_decode.specs.Steps.{◌>>=◌}
+
+-- Code is a function that gives the byte at a byte address, where it is inside.
+abbrev pub byte_or_outside : (ℕ → Option ℕ) → ℕ → Result ℕ DecodeEnd
+byte_or_outside code a = ok_or (code a) (Outside a)
+
+-- the two bytes from an address on, the lowest first
+abbrev pub half_at : (ℕ → Option ℕ) → ℕ → Result ℕ DecodeEnd
+half_at code a = do
+  low ← byte_or_outside code a
+  high ← byte_or_outside code (add a 1)
+  Ok (from_le_bytes w16 (low ∷ high ∷ []))
+
+-- the four bytes from an address on, the lowest first
+abbrev pub word_at : (ℕ → Option ℕ) → ℕ → Result ℕ DecodeEnd
+word_at code a = do
+  first ← byte_or_outside code a
+  second ← byte_or_outside code (add a 1)
+  third ← byte_or_outside code (add a 2)
+  fourth ← byte_or_outside code (add a 3)
+  Ok (from_le_bytes w32 (first ∷ second ∷ third ∷ fourth ∷ []))
+
+abbrev pub halfword_byte : (ℕ → Option ℕ) → ℕ → Result ℕ DecodeEnd
+halfword_byte code a = ok_or (code a) (Halfword a)
+
+-- the halfword of an indirect form, as a signed number
+abbrev pub halfword_offset : (ℕ → Option ℕ) → ℕ → Result ℕ DecodeEnd
+halfword_offset code a = do
+  low ← halfword_byte code a
+  high ← halfword_byte code (add a 1)
+  Ok (half_offset (from_le_bytes w16 (low ∷ high ∷ [])))
+
+-- an operand that is a number, in an instruction of that length
+abbrev pub number : ℕ → ℕ → Operand
+number n length = record { number = n; length = length; target = 0 }
+
+-- an operand that leads to a target
+abbrev pub target : ℕ → Operand
+target t = record { number = 0; length = 2; target = t }
+
+-- the operand of a form, behind the function byte at pc
+abbrev pub operand_at : (ℕ → Option ℕ) → ℕ → Form → Result Operand DecodeEnd
+operand_at code pc (Plain n) = Ok (number n 1)
+operand_at code pc Byte = do
+  n ← byte_or_outside code (add pc 1)
+  Ok (number n 2)
+operand_at code pc BytePlus = do
+  n ← byte_or_outside code (add pc 1)
+  Ok (number (n + 256) 2)
+operand_at code pc Half = do
+  n ← half_at code (add pc 1)
+  Ok (number n 3)
+operand_at code pc Word = do
+  n ← word_at code (add pc 1)
+  Ok (number n 5)
+operand_at code pc Relative = do
+  b ← byte_or_outside code (add pc 1)
+  Ok (target (add (add pc 1) (byte_offset b)))
+operand_at code pc Indirect = do
+  b ← byte_or_outside code (add pc 1)
+  offset ← halfword_offset code (even_below (add (add pc 1) (2 * b)))
+  Ok (target (add (even_below (add (add pc 1) (2 * b))) offset))
+operand_at code pc Switch = Ok (number 0 1)
+
+-- the checks in their order
+abbrev pub decoded : (ℕ → Option ℕ) → ℕ → Result Instr DecodeEnd
+decoded code pc = do
+  byte ← byte_or_outside code pc
+  row ← ok_or (entry byte) (Undefined pc)
+  operand ← operand_at code pc row.form
+  Ok (record { byte = byte; effect = row.effect; operand = operand.number; length = operand.length; target = operand.target })

@@ -1,0 +1,4 @@
+pub mod Decoded
+pub mod Even
+pub mod Offset
+pub mod Steps

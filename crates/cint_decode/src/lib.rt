@@ -1,0 +1,17 @@
+// Decoding: the instruction at a byte address, with its operand.
+#![tactic(auto)]
+
+pub mod code;
+pub mod decoding;
+pub mod evenness;
+pub mod instructions;
+pub mod offsets;
+
+pub use code::Code;
+pub use decoding::decode;
+pub use evenness::{even_above, even_below};
+pub use instructions::{DecodeEnd, Instr};
+pub use offsets::{byte_offset, half_offset};
+
+#[cfg(test)]
+mod tests;
