@@ -1,10 +1,10 @@
 -- Appending one text after another.
-use Rattle.std.proofs.Common.{◌≡◌, ◌∙◌, ℕ, List, [], ◌++◌, Option, None, Some, refl, sym, ap, append_assoc, append-nil, ◌<◌, suc, length, get_or, take, drop, drop-cons}
+use Rattle.std.proofs.Common.{◌≡◌, ◌∙◌, ℕ, List, [], ◌++◌, Option, None, Some, Result, Ok, Err, refl, sym, ap, append_assoc, append-nil, ◌<◌, suc, length, get_or, take, drop, drop-cons}
 use Rattle.std.specs.List.{flat_map}
 use Rattle.std.proofs.lemmas.List.{take-append-drop}
 use Rattle.std.proofs.lemmas.Grind.{flat_map-append}
 use Rattle.std.specs.Io.KnownBytes.{Appends}
-use Rattle.tp_io.specs.Writing.{AppendsPrefix}
+use Rattle.tp_io.specs.Writing.{AppendsPrefix, Prints}
 
 pub Appends-nothing : (h : Option (List ℕ)) → Appends h h []
 Appends-nothing None = tt
@@ -26,6 +26,11 @@ AppendsPrefix-more h k a b q = (q.0, q.1 ++ b, ap (λ v. v ++ b) q.2 ∙ append_
 -- a whole text is a prefix of more
 pub AppendsPrefix-whole : (h k : Option (List ℕ)) (a b : List ℕ) → Appends h k a → AppendsPrefix h k (a ++ b)
 AppendsPrefix-whole h k a b p = (a, b, refl, p)
+
+-- a text that was written, and then one that was printed
+pub Prints-then : {T E : Type 0} (h m k : Option (List ℕ)) (a b : List ℕ) (r : Result T E) → Appends h m a → Prints m k b r → Prints h k (a ++ b) r
+Prints-then h m k a b (Ok x) p q = Appends-then h m k a b p q
+Prints-then h m k a b (Err e) p q = AppendsPrefix-then h m k a b p q
 
 -- a flat_map, cut at an index
 pub flat_map-at : {X A : Type 0} (f : X → List A) (xs : List X) (i : ℕ) (d : X) → i < length xs → flat_map f xs ≡ flat_map f (take i xs) ++ (f (get_or xs i d) ++ flat_map f (drop (suc i) xs))

@@ -19,7 +19,7 @@ pub use pieces::{Piece, write_pieces};
 pub use reading::{ReadStep, Source};
 pub use standard::{StdSink, StdSource};
 pub use whole::{ReadEnd, read_all};
-pub use writing::{Sink, SinkFault, WriteStep};
+pub use writing::{Sink, SinkFault, WriteStep, write_text};
 
 /// Memory could not be had.
 #[derive(Clone, Copy, Debug, PartialEq, Eq)]

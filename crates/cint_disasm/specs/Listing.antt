@@ -1,0 +1,24 @@
+-- What is listed at a byte address.
+use Rattle.std.specs.Prelude.{ℕ, List, Option, Some, Result, Ok, unwrap_or}
+use Rattle.cint_table.specs.Table.{Entry, entry}
+use Rattle.cint_decode.specs.Decoded.{decoded}
+use Rattle.cint_decode.specs.declared.instructions.DecodeEnd.{DecodeEnd}
+use Rattle.cint_decode.specs.declared.instructions.Instr.{Instr}
+use Rattle.cint_disasm.specs.Lines.{byte_line, instruction_line}
+
+-- a line, and the number of bytes that it stands for
+pub record Listed : Type 0 where
+  pub text : List ℕ
+  pub length : ℕ
+
+-- the byte's row and what is decoded there, or else the byte alone
+abbrev pub listed_as : Option Entry → Result Instr DecodeEnd → ℕ → ℕ → Listed
+listed_as (Some row) (Ok i) a byte = record { text = instruction_line row.form a row.name i; length = i.length }
+listed_as _ _ a byte = record { text = byte_line a byte; length = 1 }
+
+abbrev pub listed_byte : (ℕ → Option ℕ) → ℕ → ℕ → Listed
+listed_byte code a byte = listed_as (entry byte) (decoded code a) a byte
+
+-- the line at address a, where a byte is
+abbrev pub listed : (ℕ → Option ℕ) → ℕ → Listed
+listed code a = listed_byte code a (unwrap_or (code a) 0)

@@ -1,0 +1,10 @@
+pub mod LineEnds
+pub mod CodeLines
+pub mod Words
+pub mod Parts
+pub mod Sound
+pub mod Complete
+pub mod Bare
+pub mod Printed
+pub mod PlainLines
+pub mod ReadAgain

@@ -1,0 +1,185 @@
+-- What is read is a session's text.
+use Rattle.std.proofs.Common.{◌≡◌, ◌≢◌, ◌∙◌, ℕ, ◌<◌, ◌≤◌, ◌+◌, Bool, true, false, cond, Option, Some, None, Result, Ok, Err, List, [], ◌∷◌, ◌++◌, length, refl, sym, ap, subst, arith, nat_le}
+use Rattle.std.specs.Prelude.{codes, decimal, IsTrue, option_and_then}
+use Rattle.std.specs.Option.{ok_or, option_map_or}
+use Rattle.std.specs.Str.{bytes_eq}
+use Rattle.std.proofs.lemmas.Bool.Decides.{nat_tests}
+use Rattle.std.proofs.lemmas.Slice.Eq.{bytes_eq-Decides}
+use Rattle.hex.specs.Hex.{decode_of}
+use Rattle.hex.specs.declared.error.FromHexError.{FromHexError}
+use Rattle.session_text.specs.Fields.{IsNumberLine, after_word, number_of}
+use Rattle.session_text.specs.Refusal.{Refusal, refusal, ◌>>=◌}
+use Rattle.session_text.specs.SessionForm.{AreCodeLines, AreSessionLines, IsBare, IsCodeLine, IsSession, IsVersionLine, code_line, is_store_size, most_steps}
+use Rattle.session_text.specs.SessionReading.{bare_line, bare_session, body_lines, bytes_or_refusal, code_lines, end_of_text, first_line, go_line, head_lines, number_after, number_line, session_lines, session_of, store_line, tick_line, version_line}
+use Rattle.session_text.specs.declared.sessions.Session.{Session}
+use Rattle.session_text.specs.declared.sessions.SessionLine.{SessionLine}
+use Rattle.session_text.proofs.Parts.{HasBody, HasCode, HasHead, body_same, code_same, head_same}
+use Rattle.session_text.proofs.Words.{after_ok, number_ok}
+use Rattle.session_text.specs.TextLines.{lines_of}
+use Rattle.std.proofs.lemmas.Fmt.{decimal_digit}
+use Rattle.std.proofs.Common.{◌&&◌}
+
+-- the value of a step that was not refused
+pub bind_ok : {A B : Type 0} (r : Result A Refusal) (f : A → Result B Refusal) (y : B) → (r >>= f) ≡ Ok y → (x : A) × (r ≡ Ok x) × (f x ≡ Ok y)
+bind_ok (Ok x) f y e = (x, refl, e)
+bind_ok (Err d) f y e = cc
+
+-- a test that was not refused
+guard_ok : {A : Type 0} (b : Bool) (x : A) (d : Refusal) (y : A) → cond b (Ok x) (Err d) ≡ Ok y → (b ≡ true) × (x ≡ y)
+guard_ok true x d y e = (refl, cc)
+guard_ok false x d y e = cc
+
+ok_or_some : {A : Type 0} (o : Option A) (d : Refusal) (x : A) → ok_or o d ≡ Ok x → o ≡ Some x
+ok_or_some None d x e = cc
+ok_or_some (Some y) d x e = cc
+
+first_ok : (n : ℕ) (lines : List (List ℕ)) (x : List ℕ × List (List ℕ)) → first_line n lines ≡ Ok x → lines ≡ x.0 ∷ x.1
+first_ok n [] x e = cc
+first_ok n (line ∷ lines) x e = let p : (line, lines) ≡ x = cc in ap (λ (q : List ℕ × List (List ℕ)). q.0 ∷ q.1) p
+
+number_in : (word line : List ℕ) (n : ℕ) (o : Option (List ℕ)) → after_word word line ≡ o → option_and_then number_of o ≡ Some n → IsNumberLine word n line
+number_in word line n None e f = cc
+number_in word line n (Some digits) e f = (digits, after_ok word line digits e, number_ok digits n f)
+
+pub number_after_ok : (word : List ℕ) (n : ℕ) (line : List ℕ) (v : ℕ) → number_after word n line ≡ Ok v → IsNumberLine word v line
+number_after_ok word n line v e = number_in word line v (after_word word line) refl (ok_or_some _ _ v e)
+
+pub number_line_ok : (word : List ℕ) (is_in_range : ℕ → Bool) (n : ℕ) (line : List ℕ) (v : ℕ) → number_line word is_in_range n line ≡ Ok v → IsNumberLine word v line × (is_in_range v ≡ true)
+number_line_ok word is_in_range n line v e =
+    let b = bind_ok (number_after word n line) (λ x. cond (is_in_range x) (Ok x) (Err (refusal n 2))) v e in
+    let g = guard_ok (is_in_range b.0) b.0 (refusal n 2) v b.2 in
+    (subst (λ (x : ℕ). IsNumberLine word x line) g.1 (number_after_ok word n line b.0 b.1), subst (λ (x : ℕ). is_in_range x ≡ true) g.1 g.0)
+
+-- a line that is this version's
+version_is : (line : List ℕ) (n v : ℕ) → n < 10 → 1 ≤ n → n ≤ 2 → line ≡ codes "TRIPOS " ++ (48 + n) ∷ [] → n ≡ v → IsVersionLine v line
+version_is line n v digit low high e same =
+    subst (λ (x : ℕ). IsVersionLine x line) same ((low, high), e ∙ ap (λ (d : List ℕ). codes "TRIPOS " ++ d) (sym (decimal_digit n digit)))
+
+version_by : (line : List ℕ) (v : ℕ) (one two : Bool) → bytes_eq line (codes "TRIPOS 1") ≡ one → bytes_eq line (codes "TRIPOS 2") ≡ two
+    → cond one (Ok 1) (cond two (Ok 2) (Err (refusal 1 1))) ≡ Ok v → IsVersionLine v line
+version_by line v true two e f g =
+    version_is line 1 v (omega arith) (omega arith) (omega arith) ((bytes_eq-Decides line (codes "TRIPOS 1")).0 e) cc
+version_by line v false true e f g =
+    version_is line 2 v (omega arith) (omega arith) (omega arith) ((bytes_eq-Decides line (codes "TRIPOS 2")).0 f) cc
+version_by line v false false e f g = cc
+
+version_ok : (line : List ℕ) (v : ℕ) → version_line line ≡ Ok v → IsVersionLine v line
+version_ok line v e = version_by line v (bytes_eq line (codes "TRIPOS 1")) (bytes_eq line (codes "TRIPOS 2")) refl refl e
+
+pub head_ok : (lines : List (List ℕ)) (x : ℕ × ℕ × List (List ℕ)) → head_lines lines ≡ Ok x → HasHead lines x.0 x.1 x.2
+unfolding head_lines
+head_ok lines x e =
+    let a = bind_ok (first_line 1 lines) (λ first. version_line first.0 >>= λ version. first_line 2 first.1 >>= λ second. store_line version second.0 >>= λ store. Ok (version, store, second.1)) x e in
+    let b = bind_ok (version_line a.0.0) (λ version. first_line 2 a.0.1 >>= λ second. store_line version second.0 >>= λ store. Ok (version, store, second.1)) x a.2 in
+    let c = bind_ok (first_line 2 a.0.1) (λ second. store_line b.0 second.0 >>= λ store. Ok (b.0, store, second.1)) x b.2 in
+    let d = bind_ok (store_line b.0 c.0.0) (λ store. Ok (b.0, store, c.0.1)) x c.2 in
+    let made : (b.0, d.0, c.0.1) ≡ x = let f = d.2 in cc in
+    let n = number_line_ok (codes "STORE ") (is_store_size b.0) 2 c.0.0 d.0 d.1 in
+    head_same lines (b.0, d.0, c.0.1) x made (record {
+      first = a.0.0;
+      second = c.0.0;
+      all = first_ok 1 lines a.0 a.1 ∙ ap (λ (ls : List (List ℕ)). a.0.0 ∷ ls) (first_ok 2 a.0.1 c.0 c.1);
+      version_line = version_ok a.0.0 b.0 b.1;
+      store_line = n.0;
+      store_size = n.1;
+    })
+
+-- a line with a clock is never accepted
+tick_refused : (line : List ℕ) (u : Unit {0}) → tick_line line ≡ Ok u → ⊥
+tick_refused line u e =
+    let b = bind_ok (number_line (codes "TICK ") (λ n. nat_le 1 n && nat_le n 1000000) 3 line) (λ period. Err (refusal 3 0)) u e in
+    let f = b.2 in cc
+
+bare_by : (line : List ℕ) (u : Unit {0}) (b : Bool) → bytes_eq line (codes "BARE") ≡ b → cond b (Ok tt) (tick_line line) ≡ Ok u → line ≡ codes "BARE"
+bare_by line u true e f = (bytes_eq-Decides line (codes "BARE")).0 e
+bare_by line u false e f = absurd (tick_refused line u f)
+
+pub bare_ok : (line : List ℕ) (u : Unit {0}) → bare_line line ≡ Ok u → line ≡ codes "BARE"
+bare_ok line u e = bare_by line u (bytes_eq line (codes "BARE")) refl e
+
+bytes_ok : (n : ℕ) (r : Result (List ℕ) FromHexError) (bytes : List ℕ) → bytes_or_refusal n r ≡ Ok bytes → r ≡ Ok bytes
+bytes_ok n (Ok b) bytes e = cc
+bytes_ok n (Err d) bytes e = cc
+
+code_by : (n : ℕ) (line : List ℕ) (lines : List (List ℕ)) (x : List SessionLine × List (List ℕ)) (o : Option (List ℕ)) → after_word (codes ":") line ≡ o
+    → ((y : List SessionLine × List (List ℕ)) → code_lines (n + 1) lines ≡ Ok y → HasCode (n + 1) lines y.0 y.1)
+    → option_map_or (λ digits. bytes_or_refusal n (decode_of digits) >>= λ bytes. code_lines (n + 1) lines >>= λ more. Ok (code_line n bytes ∷ more.0, more.1)) o (Ok ([], line ∷ lines)) ≡ Ok x
+    → HasCode n (line ∷ lines) x.0 x.1
+code_by n line lines x None w next e =
+    let made : ([], line ∷ lines) ≡ x = cc in
+    code_same n (line ∷ lines) ([], line ∷ lines) x made (record { front = []; all = refl; code_lines = tt })
+code_by n line lines x (Some digits) w next e =
+    let a = bind_ok (bytes_or_refusal n (decode_of digits)) (λ bytes. code_lines (n + 1) lines >>= λ more. Ok (code_line n bytes ∷ more.0, more.1)) x e in
+    let b = bind_ok (code_lines (n + 1) lines) (λ more. Ok (code_line n a.0 ∷ more.0, more.1)) x a.2 in
+    let made : (code_line n a.0 ∷ b.0.0, b.0.1) ≡ x = let f = b.2 in cc in
+    let rest = next b.0 b.1 in
+    code_same n (line ∷ lines) (code_line n a.0 ∷ b.0.0, b.0.1) x made (record {
+      front = line ∷ rest.front;
+      all = ap (λ (ls : List (List ℕ)). line ∷ ls) rest.all;
+      code_lines = ((digits, a.0, after_ok (codes ":") line digits w, bytes_ok n (decode_of digits) a.0 a.1, refl), rest.code_lines);
+    })
+
+pub code_ok : (n : ℕ) (lines : List (List ℕ)) (x : List SessionLine × List (List ℕ)) → code_lines n lines ≡ Ok x → HasCode n lines x.0 x.1
+code_ok n [] x e =
+    let made : ([], []) ≡ x = cc in
+    code_same n [] ([], []) x made (record { front = []; all = refl; code_lines = tt })
+code_ok n (line ∷ lines) x e = code_by n line lines x (after_word (codes ":") line) refl (λ y q. code_ok (n + 1) lines y q) e
+
+end_ok : (n : ℕ) (lines : List (List ℕ)) (u : Unit {0}) → end_of_text n lines ≡ Ok u → lines ≡ []
+end_ok n [] u e = refl
+end_ok n (line ∷ lines) u e = cc
+
+pub body_ok : (lines : List (List ℕ)) (x : List SessionLine × ℕ) → body_lines lines ≡ Ok x → HasBody lines x.0 x.1
+unfolding body_lines
+body_ok lines x e =
+    let a = bind_ok (code_lines 4 lines) (λ code. first_line (4 + length code.0) code.1 >>= λ last. go_line (4 + length code.0) last.0 >>= λ go. end_of_text (5 + length code.0) last.1 >>= λ end. Ok (code.0, go)) x e in
+    let n = 4 + length a.0.0 in
+    let b = bind_ok (first_line n a.0.1) (λ last. go_line n last.0 >>= λ go. end_of_text (5 + length a.0.0) last.1 >>= λ end. Ok (a.0.0, go)) x a.2 in
+    let c = bind_ok (go_line n b.0.0) (λ go. end_of_text (5 + length a.0.0) b.0.1 >>= λ end. Ok (a.0.0, go)) x b.2 in
+    let d = bind_ok (end_of_text (5 + length a.0.0) b.0.1) (λ end. Ok (a.0.0, c.0)) x c.2 in
+    let made : (a.0.0, c.0) ≡ x = let f = d.2 in cc in
+    let code = code_ok 4 lines a.0 a.1 in
+    let go = number_line_ok (codes "GO ") (λ v. nat_le v most_steps) n b.0.0 c.0 c.1 in
+    let within : nat_le c.0 most_steps ≡ true = go.1 in
+    let rest : a.0.1 ≡ b.0.0 ∷ [] = first_ok n a.0.1 b.0 b.1 ∙ ap (λ (ls : List (List ℕ)). b.0.0 ∷ ls) (end_ok (5 + length a.0.0) b.0.1 d.0 d.1) in
+    body_same lines (a.0.0, c.0) x made (record {
+      front = code.front;
+      last = b.0.0;
+      all = code.all ∙ ap (λ (ls : List (List ℕ)). code.front ++ ls) rest;
+      code_lines = code.code_lines;
+      go_line = go.0;
+      steps = grind (arith, nat_tests);
+    })
+
+session_same : (lines : List (List ℕ)) (x y : Session) → x ≡ y → AreSessionLines x lines → AreSessionLines y lines
+session_same lines x y e h = subst (λ (z : Session). AreSessionLines z lines) e h
+
+sound_lines : (lines : List (List ℕ)) (s : Session) → session_lines lines ≡ Ok s → AreSessionLines s lines
+unfolding session_lines
+sound_lines lines s e =
+    let a = bind_ok (head_lines lines) (λ head. first_line 3 head.2 >>= λ third. bare_line third.0 >>= λ bare. body_lines third.1 >>= λ body. Ok (bare_session head.0 head.1 body.0 body.1)) s e in
+    let b = bind_ok (first_line 3 a.0.2) (λ third. bare_line third.0 >>= λ bare. body_lines third.1 >>= λ body. Ok (bare_session a.0.0 a.0.1 body.0 body.1)) s a.2 in
+    let c = bind_ok (bare_line b.0.0) (λ bare. body_lines b.0.1 >>= λ body. Ok (bare_session a.0.0 a.0.1 body.0 body.1)) s b.2 in
+    let d = bind_ok (body_lines b.0.1) (λ body. Ok (bare_session a.0.0 a.0.1 body.0 body.1)) s c.2 in
+    let made : bare_session a.0.0 a.0.1 d.0.0 d.0.1 ≡ s = let f = d.2 in cc in
+    let head = head_ok lines a.0 a.1 in
+    let body = body_ok b.0.1 d.0 d.1 in
+    let third : a.0.2 ≡ codes "BARE" ∷ (body.front ++ body.last ∷ [])
+    = first_ok 3 a.0.2 b.0 b.1 ∙ ap (λ (l : List ℕ). l ∷ b.0.1) (bare_ok b.0.0 c.0 c.1) ∙ ap (λ (ls : List (List ℕ)). codes "BARE" ∷ ls) body.all in
+    session_same lines (bare_session a.0.0 a.0.1 d.0.0 d.0.1) s made (record {
+      version = head.first;
+      store = head.second;
+      code = body.front;
+      go = body.last;
+      all = head.all ∙ ap (λ (ls : List (List ℕ)). head.first ∷ head.second ∷ ls) third;
+      version_line = head.version_line;
+      store_line = head.store_line;
+      store_size = head.store_size;
+      code_lines = body.code_lines;
+      go_line = body.go_line;
+      steps = body.steps;
+      machine = record { bare = refl; period = refl; resident = refl; debug = refl; keys = refl };
+    })
+
+pub sound : (text : List ℕ) (s : Session) → session_of text ≡ Ok s → IsSession text s
+sound text s e = sound_lines (lines_of text) s e

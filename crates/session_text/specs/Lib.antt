@@ -1,0 +1,6 @@
+pub mod TextLines
+pub mod Fields
+pub mod Refusal
+pub mod SessionForm
+pub mod SessionReading
+pub mod Canonical

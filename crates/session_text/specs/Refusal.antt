@@ -1,0 +1,17 @@
+-- Where and why a text is refused.
+use Rattle.std.specs.Prelude.{ℕ, Result, Ok, Err}
+
+-- The line, counted from 1, and a code: 1 no such form may stand here, 2 a number is out of its range, 3 the text ended
+-- before its `GO` line, 0 the form is not served yet.
+pub record Refusal : Type 0 where
+  pub line : ℕ
+  pub code : ℕ
+
+abbrev pub refusal : ℕ → ℕ → Refusal
+refusal line code = record { line = line; code = code }
+
+-- the next step, where this one was not refused
+infixl 10 ◌>>=◌
+abbrev pub ◌>>=◌ : {A B : Type 0} → Result A Refusal → (A → Result B Refusal) → Result B Refusal
+(Ok x) >>= f = f x
+(Err e) >>= f = Err e

@@ -1,0 +1,115 @@
+-- A session read line by line, or the first line in error.
+use Rattle.std.specs.Prelude.{ℕ, ◌≡◌, ◌+◌, ◌&&◌, Bool, true, false, if◌then◌else◌, List, [], ◌∷◌, length, Result, Ok, Err, codes, nat_le, option_and_then}
+use Rattle.std.specs.Option.{option_map_or, ok_or}
+use Rattle.std.specs.Str.{bytes_eq}
+use Rattle.hex.specs.Hex.{decode_of}
+use Rattle.hex.specs.declared.error.FromHexError.{FromHexError}
+use Rattle.session_text.specs.TextLines.{lines_of}
+use Rattle.session_text.specs.Fields.{after_word, number_of}
+use Rattle.session_text.specs.Refusal.{Refusal, refusal, ◌>>=◌}
+use Rattle.session_text.specs.SessionForm.{code_line, is_store_size, most_steps}
+use Rattle.session_text.specs.declared.sessions.Session.{Session}
+use Rattle.session_text.specs.declared.sessions.SessionLine.{SessionLine}
+use Rattle.session_text.specs.declared.ends.SessionEnd.{SessionEnd}
+use Rattle.session_text.specs.declared.ends.SessionEnd.TheVariants.{Bad, WantMemory}
+
+-- line n and those after it, unless the text has ended
+abbrev pub first_line : ℕ → List (List ℕ) → Result (List ℕ × List (List ℕ)) Refusal
+first_line n [] = Err (refusal n 3)
+first_line n (line ∷ lines) = Ok (line, lines)
+
+-- the number of line n, which is a word and a number
+abbrev pub number_after : List ℕ → ℕ → List ℕ → Result ℕ Refusal
+number_after word n line = ok_or (option_and_then number_of (after_word word line)) (refusal n 1)
+
+-- the same, where the number is in its range
+abbrev pub number_line : List ℕ → (ℕ → Bool) → ℕ → List ℕ → Result ℕ Refusal
+number_line word is_in_range n line = do
+  value ← number_after word n line
+  if is_in_range value then Ok value else Err (refusal n 2)
+
+-- the version, of line 1
+abbrev pub version_line : List ℕ → Result ℕ Refusal
+version_line line =
+    if bytes_eq line (codes "TRIPOS 1") then Ok 1 else
+    if bytes_eq line (codes "TRIPOS 2") then Ok 2 else
+    Err (refusal 1 1)
+
+-- the size of the store, of line 2
+abbrev pub store_line : ℕ → List ℕ → Result ℕ Refusal
+store_line version line = number_line (codes "STORE ") (is_store_size version) 2 line
+
+-- a machine with a clock is not served yet: a lawful `TICK` has code 0
+abbrev pub tick_line : {A : Type 0} → List ℕ → Result A Refusal
+tick_line line = do
+  period ← number_line (codes "TICK ") (λ n. nat_le 1 n && nat_le n 1000000) 3 line
+  Err (refusal 3 0)
+
+-- line 3 says that the machine is bare
+abbrev pub bare_line : List ℕ → Result Unit Refusal
+bare_line line = if bytes_eq line (codes "BARE") then Ok tt else tick_line line
+
+-- the bytes that the digits of line n are, where they are an even number of hex digits
+abbrev pub bytes_or_refusal : ℕ → Result (List ℕ) FromHexError → Result (List ℕ) Refusal
+bytes_or_refusal n (Ok bytes) = Ok bytes
+bytes_or_refusal n (Err e) = Err (refusal n 1)
+
+-- lines that begin with a colon, the first of them line n, and the lines after them
+abbrev pub code_lines : ℕ → List (List ℕ) → Result (List SessionLine × List (List ℕ)) Refusal
+code_lines n [] = Ok ([], [])
+code_lines n (line ∷ lines) =
+    option_map_or
+    (λ digits. bytes_or_refusal n (decode_of digits) >>= λ bytes. code_lines (n + 1) lines >>= λ more. Ok (code_line n bytes ∷ more.0, more.1))
+    (after_word (codes ":") line)
+    (Ok ([], line ∷ lines))
+
+-- the steps, of line n
+abbrev pub go_line : ℕ → List ℕ → Result ℕ Refusal
+go_line n line = number_line (codes "GO ") (λ go. nat_le go most_steps) n line
+
+-- nothing follows `GO`
+abbrev pub end_of_text : ℕ → List (List ℕ) → Result Unit Refusal
+end_of_text n [] = Ok tt
+end_of_text n (line ∷ lines) = Err (refusal n 1)
+
+-- the version and the store, and the lines after those two
+unfoldable pub head_lines : List (List ℕ) → Result (ℕ × ℕ × List (List ℕ)) Refusal
+head_lines lines = do
+  first ← first_line 1 lines
+  version ← version_line first.0
+  second ← first_line 2 first.1
+  store ← store_line version second.0
+  Ok (version, store, second.1)
+
+-- the code and the steps, of the lines from line 4 on
+unfoldable pub body_lines : List (List ℕ) → Result (List SessionLine × ℕ) Refusal
+body_lines lines = do
+  code ← code_lines 4 lines
+  last ← first_line (4 + length code.0) code.1
+  go ← go_line (4 + length code.0) last.0
+  end ← end_of_text (5 + length code.0) last.1
+  Ok (code.0, go)
+
+abbrev pub bare_session : ℕ → ℕ → List SessionLine → ℕ → Session
+bare_session version store code go = record { version = version; store = store; period = 0; bare = true; resident = false; debug = false; lines = code; keys = []; go = go }
+
+unfoldable pub session_lines : List (List ℕ) → Result Session Refusal
+session_lines lines = do
+  head ← head_lines lines
+  third ← first_line 3 head.2
+  bare ← bare_line third.0
+  body ← body_lines third.1
+  Ok (bare_session head.0 head.1 body.0 body.1)
+
+-- the session of a text
+abbrev pub session_of : List ℕ → Result Session Refusal
+session_of text = session_lines (lines_of text)
+
+-- What a reading function returned, seen by view, is what the definition gives, unless memory ran out.
+abbrev pub EndsAs : {X : Type 0} → SessionEnd → Result X Refusal → Type 0
+EndsAs (Bad line code) read = read ≡ Err (refusal line code)
+EndsAs WantMemory read = Unit {0}
+
+abbrev pub Gives : {X Y : Type 0} → (X → Y) → Result X SessionEnd → Result Y Refusal → Type 0
+Gives view (Ok x) read = read ≡ Ok (view x)
+Gives view (Err e) read = EndsAs e read

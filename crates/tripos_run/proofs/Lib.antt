@@ -1,0 +1,4 @@
+pub mod Runs
+pub mod Dumped
+pub mod Loaded
+pub mod Answering

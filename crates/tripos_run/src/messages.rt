@@ -1,0 +1,123 @@
+// The lines that the program writes besides the console bytes.
+ghost use Rattle.tp_io.specs.Writing.{Prints, HasCause};
+ghost use Rattle.tripos_run.specs.Texts.{closing_text, no_boot_text, refused_text, too_long_text, usage_text};
+
+use crate::bare::Stop;
+use tp_io::Piece::{Decimal, Text};
+use tp_io::{Sink, SinkFault, write_pieces, write_text};
+
+const STOPPED: &[u8] = b"\n* stopped after ";
+
+/// The commands that there are.
+pub fn write_usage<K: Sink>(out: &mut K) -> Result<(), SinkFault>
+    ensures text { Prints (K.holds out.old) (K.holds out.new) usage_text result }
+    ensures cause { HasCause (K.faults out.old) (K.faults out.new) result }
+{
+    write_text(
+        out,
+        b"* usage: tripos run, dump, trace, asm, disasm, debug, save, resume, ring or gen N\n",
+    )
+}
+
+/// The input is too long.
+pub fn write_too_long<K: Sink>(out: &mut K) -> Result<(), SinkFault>
+    ensures text { Prints (K.holds out.old) (K.holds out.new) too_long_text result }
+    ensures cause { HasCause (K.faults out.old) (K.faults out.new) result }
+{
+    write_text(out, b"* input too long\n")
+}
+
+/// Where and why the input was refused.
+pub fn write_refused<K: Sink>(out: &mut K, line: u32, code: u32) -> Result<(), SinkFault>
+    ensures text { Prints (K.holds out.old) (K.holds out.new) (refused_text (record { line = line; code = code })) result }
+    ensures cause { HasCause (K.faults out.old) (K.faults out.new) result }
+{
+    write_pieces(
+        out,
+        &[
+            Text(b"* refused: line "),
+            Decimal(line as u64),
+            Text(b" code "),
+            Decimal(code as u64),
+            Text(b"\n"),
+        ],
+    )
+}
+
+/// Where and why the session does not boot.
+pub fn write_no_boot<K: Sink>(out: &mut K, line: u32, code: u32) -> Result<(), SinkFault>
+    ensures text { Prints (K.holds out.old) (K.holds out.new) (no_boot_text (record { line = line; code = code })) result }
+    ensures cause { HasCause (K.faults out.old) (K.faults out.new) result }
+{
+    write_pieces(
+        out,
+        &[
+            Text(b"* no boot: line "),
+            Decimal(line as u64),
+            Text(b" code "),
+            Decimal(code as u64),
+            Text(b"\n"),
+        ],
+    )
+}
+
+/// The steps taken, and why the machine has stopped.
+pub fn write_closing<K: Sink>(out: &mut K, steps: u64, stop: Stop) -> Result<(), SinkFault>
+    ensures text { Prints (K.holds out.old) (K.holds out.new) (closing_text steps stop) result }
+    ensures cause { HasCause (K.faults out.old) (K.faults out.new) result }
+{
+    match stop {
+        Stop::Steps => write_pieces(
+            out,
+            &[Text(STOPPED), Decimal(steps), Text(b" steps: steps\n")],
+        ),
+        Stop::Quit(code) => write_quit(out, steps, code),
+        Stop::Fault {
+            code,
+            address,
+            task,
+        } => write_fault(out, steps, code, address, task),
+    }
+}
+
+fn write_quit<K: Sink>(out: &mut K, steps: u64, code: u32) -> Result<(), SinkFault>
+    ensures text { Prints (K.holds out.old) (K.holds out.new) (closing_text steps (Stop.Quit code)) result }
+    ensures cause { HasCause (K.faults out.old) (K.faults out.new) result }
+{
+    write_pieces(
+        out,
+        &[
+            Text(STOPPED),
+            Decimal(steps),
+            Text(b" steps: quit "),
+            Decimal(code as u64),
+            Text(b"\n"),
+        ],
+    )
+}
+
+fn write_fault<K: Sink>(
+    out: &mut K,
+    steps: u64,
+    code: u32,
+    address: u32,
+    task: u32,
+) -> Result<(), SinkFault>
+    ensures text { Prints (K.holds out.old) (K.holds out.new) (closing_text steps (Stop.Fault code address task)) result }
+    ensures cause { HasCause (K.faults out.old) (K.faults out.new) result }
+{
+    write_pieces(
+        out,
+        &[
+            Text(STOPPED),
+            Decimal(steps),
+            Text(b" steps: fault "),
+            Decimal(code as u64),
+            Text(b" at "),
+            Decimal(address as u64),
+            Text(b" in task "),
+            Decimal(task as u64),
+            Text(b"\n"),
+        ],
+    )
+}

@@ -1,0 +1,157 @@
+// The top call: the words of the command line and what the source has left, to what the sink gets.
+ghost use Rattle.std.specs.Prelude.{◌≡◌, ◌≤◌, ◌++◌, ◌<◌, ◌^◌, List, ℕ, is_ok, if◌then◌else◌, length, map, string_bytes, None};
+ghost use Rattle.std.specs.Io.KnownBytes.{Keeps};
+ghost use Rattle.tp_io.specs.Faults.{Rose};
+ghost use Rattle.tp_io.specs.Writing.{Prints, HasCause};
+ghost use Rattle.session_text.specs.SessionReading.{session_of};
+ghost use Rattle.tripos_run.specs.Booting.{boot};
+ghost use Rattle.tripos_run.specs.Answer.{Answers, answer, booted_answer, command_of, run_answer, session_answer, status_of, words_text};
+ghost use Rattle.tripos_run.specs.Reading.{IsInput, IsSessionEnd, IsUsageEnd, Leaves};
+ghost use Rattle.tripos_run.specs.Running.{run};
+ghost use Rattle.tripos_run.specs.Texts.{closing_text};
+
+use crate::bare::{Bare, Stop};
+use crate::booting::{BootEnd, boot};
+use crate::commands::{Command, command_of};
+use crate::dumping::write_dump;
+use crate::messages::{write_closing, write_no_boot, write_refused, write_too_long, write_usage};
+use crate::running::run;
+use crate::status::Status;
+use session_text::{Session, SessionEnd, read_session};
+use std::alloc::Global;
+use tp_io::{ReadEnd, Sink, SinkFault, Source, read_all};
+use word_store::Store;
+
+const LIMIT: usize = 67_108_864;
+
+/// Answers the words of the command line and all that the source has left.
+pub fn tripos<S: Source, K: Sink>(
+    alloc: Global,
+    words: &[String],
+    src: &mut S,
+    out: &mut K,
+) -> Status
+    // The status and the bytes are those of the answer to the words and the input, which is all that the source had left.
+    ensures answer { (input : List ℕ) × IsInput (S.left src.old) input × Answers (answer (map string_bytes words.now) input) (K.holds out.old) (K.holds out.new) result }
+
+    // The input is read to its end, or to one byte past the limit. Words that are no command read nothing.
+    ensures source { Leaves (S.left src.old) (S.left src.new) result }
+    ensures unread { command_of (map string_bytes words.now) ≡ None → Keeps (S.left src.old) (S.left src.new) × IsUsageEnd result }
+
+    // The source and the sink are blamed only where their counts of faults rose in this call.
+    ensures read_fault { result ≡ Status.ReadFault → Rose (S.faults src.old) (S.faults src.new) }
+    ensures write_fault { result ≡ Status.WriteFault → Rose (K.faults out.old) (K.faults out.new) }
+    ensures source_count { S.faults src.old ≤ S.faults src.new }
+    ensures sink_count { K.faults out.old ≤ K.faults out.new }
+{
+    let Some(command) = command_of(words) else {
+        return ended(write_usage(out), Status::Usage);
+    };
+    match read_all(alloc, src, LIMIT) {
+        Ok(text) => answer_text(alloc, command, &text, out),
+        Err(ReadEnd::TooLong) => ended(write_too_long(out), Status::TooLong),
+        Err(ReadEnd::Fault) => Status::ReadFault,
+        Err(ReadEnd::WantMemory) => Status::WantMemory,
+    }
+}
+
+// The status of a call that has printed its text, or the sink's failure.
+fn ended(written: Result<(), SinkFault>, status: Status) -> Status
+    ensures { result ≡ (if is_ok written then status else Status.WriteFault) }
+{
+    match written {
+        Ok(()) => status,
+        Err(SinkFault) => Status::WriteFault,
+    }
+}
+
+// Answers a text.
+fn answer_text<K: Sink>(alloc: Global, command: Command, text: &[u8], out: &mut K) -> Status
+    requires { length text.now < 2 ^ 32 }
+    ensures answer { Answers (session_answer command (session_of text.now)) (K.holds out.old) (K.holds out.new) result }
+    ensures ends { IsSessionEnd result }
+    ensures write_fault { result ≡ Status.WriteFault → Rose (K.faults out.old) (K.faults out.new) }
+    ensures sink_count { K.faults out.old ≤ K.faults out.new }
+{
+    match read_session(alloc, text) {
+        Ok(session) => answer_session(alloc, command, &session, out),
+        Err(SessionEnd::Bad { line, code }) => ended(
+            write_refused(out, line, code),
+            Status::Refused,
+        ),
+        Err(SessionEnd::WantMemory) => Status::WantMemory,
+    }
+}
+
+fn answer_session<K: Sink>(
+    alloc: Global,
+    command: Command,
+    session: &Session,
+    out: &mut K,
+) -> Status
+    requires { session.now.store ≤ 4194304 }
+    ensures answer { Answers (booted_answer command session.now.go (boot session.now)) (K.holds out.old) (K.holds out.new) result }
+    ensures ends { IsSessionEnd result }
+    ensures write_fault { result ≡ Status.WriteFault → Rose (K.faults out.old) (K.faults out.new) }
+    ensures sink_count { K.faults out.old ≤ K.faults out.new }
+{
+    match boot(alloc, session) {
+        Ok(mut machine) => answer_machine(command, &mut machine, session.go, out),
+        Err(BootEnd::Line { line, code }) => ended(write_no_boot(out, line, code), Status::NoBoot),
+        Err(BootEnd::WantMemory) => Status::WantMemory,
+    }
+}
+
+// Runs a machine for so many steps.
+fn answer_machine<K: Sink>(command: Command, machine: &mut Bare, go: u64, out: &mut K) -> Status
+    requires { machine.old.regs.c < 256 }
+    ensures answer { Answers (run_answer command (run go machine.old.store machine.old.regs)) (K.holds out.old) (K.holds out.new) result }
+    ensures ends { IsSessionEnd result }
+    ensures write_fault { result ≡ Status.WriteFault → Rose (K.faults out.old) (K.faults out.new) }
+    ensures sink_count { K.faults out.old ≤ K.faults out.new }
+{
+    match run(machine, go, out) {
+        Ok((steps, stop)) => {
+            let written = write_end(command, steps, stop, &machine.store, out);
+            ended(written, status_of(stop))
+        }
+        Err(SinkFault) => Status::WriteFault,
+    }
+}
+
+// The closing line, and what the command adds to it.
+fn write_end<K: Sink>(
+    command: Command,
+    steps: u64,
+    stop: Stop,
+    store: &Store,
+    out: &mut K,
+) -> Result<(), SinkFault>
+    ensures text { Prints (K.holds out.old) (K.holds out.new) (closing_text steps stop ++ words_text command store.now) result }
+    ensures cause { HasCause (K.faults out.old) (K.faults out.new) result }
+{
+    write_closing(out, steps, stop)?;
+    write_words(command, store, out)
+}
+
+fn write_words<K: Sink>(command: Command, store: &Store, out: &mut K) -> Result<(), SinkFault>
+    ensures text { Prints (K.holds out.old) (K.holds out.new) (words_text command store.now) result }
+    ensures cause { HasCause (K.faults out.old) (K.faults out.new) result }
+{
+    match command {
+        Command::Run => Ok(()),
+        Command::Dump => match store.words(0, store.size()) {
+            Some(words) => write_dump(out, words),
+            None => unreachable!(),
+        },
+    }
+}
+
+fn status_of(stop: Stop) -> Status
+    ensures { result ≡ status_of stop }
+{
+    match stop {
+        Stop::Steps | Stop::Quit(_) => Status::Done,
+        Stop::Fault { .. } => Status::GuestFault,
+    }
+}
