@@ -1,5 +1,5 @@
 // The names of files.
-ghost use Rattle.std.specs.Prelude.{◌≡◌, ◌↔◌, IsTrue};
+ghost use Rattle.std.specs.Prelude.{◌≡◌, ◌↔◌, IsTrue, codes};
 ghost use Rattle.std.specs.List.{AllPass};
 ghost use Rattle.std.specs.Option.{SomeIff};
 ghost use Rattle.ram_disc.specs.Name.{IsName, is_name_byte};
@@ -8,7 +8,7 @@ use arrayvec::ArrayVec;
 use std::marker::Model;
 
 /// The name of a file: 1 to 12 bytes, each a letter, a digit, `-`, `.` or `_`. It is seen as their list.
-#[derive(Debug, Drop)]
+#[derive(Clone, Debug, Drop, PartialEq, Eq)]
 pub struct Name {
     bytes: ArrayVec<u8, 12>,
 }
@@ -22,6 +22,19 @@ impl Model for Name {
     ghost view = { λ n. n.bytes.items };
 
     ghost invariant = { λ n. IsName n.bytes.items };
+
+    ghost inverse = { λ bytes. record { bytes = record { items = bytes } } };
+}
+
+/// The name `-`, which stands in the unused places of a list of names.
+impl Default for Name {
+    ghost is_default = { λ n. n ≡ codes "-" };
+
+    fn default() -> Name {
+        let mut bytes = ArrayVec::new();
+        bytes.push(b'-');
+        Name { bytes }
+    }
 }
 
 impl Name {
@@ -49,4 +62,32 @@ fn are_name_bytes(bytes: &[u8]) -> bool
     ensures { IsTrue result ↔ AllPass is_name_byte bytes.now }
 {
     bytes.iter().all(|b| b.is_ascii_alphanumeric() || matches!(*b, b'-' | b'.' | b'_'))
+}
+
+#[cfg(test)]
+mod tests {
+    use super::*;
+
+    #[test]
+    fn reads_lawful_names(rt: HostRuntime) {
+        for (text, lawful) in [
+            ("A", true),
+            ("HELLO.TXT", true),
+            ("a-b_c.9", true),
+            ("twelve-bytes", true),
+            ("", false),
+            ("thirteen-byte", false),
+            ("A B", false),
+            ("A/B", false),
+            ("café", false),
+        ] {
+            match Name::read(text.as_bytes()) {
+                Some(name) => {
+                    assert!(rt; lawful, "{text:?}");
+                    assert_eq!(rt; name.bytes(), text.as_bytes());
+                }
+                None => assert!(rt; !lawful, "{text:?}"),
+            }
+        }
+    }
 }

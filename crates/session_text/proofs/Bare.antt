@@ -1,10 +1,11 @@
 -- A session that was read is a bare one, whose fields are within the rules.
-use Rattle.std.proofs.Common.{◌≡◌, ℕ, ◌+◌, Result, Ok, Err, List, [], ◌∷◌, sym, ap, subst, refl}
+use Rattle.std.proofs.Common.{ℕ, ◌+◌, Result, Ok, Err, List, [], ◌∷◌, sym, ap, subst}
 use Rattle.std.specs.Prelude.{IfOk}
 use Rattle.std.specs.List.{AllByRecursion}
 use Rattle.hex.proofs.HexLemmas.{decode_of-ok}
-use Rattle.session_text.specs.SessionForm.{AreCodeLines, AreSessionLines, IsCodeLine, code_line}
-use Rattle.session_text.specs.SessionReading.{Gives, session_of}
+use Rattle.session_text.specs.SessionForm.{AreCodeLines, AreSessionLines, IsCodeLine}
+use Rattle.session_text.specs.SessionReading.{session_of}
+use Rattle.session_text.specs.Answers.{Gives}
 use Rattle.session_text.specs.Canonical.{AreNumbered, IsBareSession, IsCode}
 use Rattle.session_text.specs.TextLines.{lines_of}
 use Rattle.session_text.specs.declared.ends.SessionEnd.{SessionEnd}

@@ -1,16 +1,15 @@
 -- Every text of a session is read.
-use Rattle.std.proofs.Common.{◌≡◌, ◌∙◌, ℕ, ◌<◌, ◌≤◌, ◌+◌, Bool, true, Option, Some, None, Result, Ok, Err, List, [], ◌∷◌, ◌++◌, length, inl, inr, refl, sym, ap, subst, arith, nat_le}
+use Rattle.std.proofs.Common.{◌≡◌, ◌∙◌, ℕ, ◌≤◌, ◌+◌, Bool, true, Option, Some, None, Ok, List, [], ◌∷◌, ◌++◌, length, inl, inr, refl, sym, ap, arith, nat_le}
 use Rattle.std.specs.Prelude.{codes, decimal, option_and_then}
-use Rattle.std.specs.Option.{ok_or, option_map_or}
+use Rattle.std.specs.Option.{ok_or}
 use Rattle.std.proofs.lemmas.Bool.{cases_eq}
 use Rattle.std.proofs.lemmas.Bool.Decides.{nat_tests}
 use Rattle.std.proofs.lemmas.Fmt.{decimal_digit}
-use Rattle.hex.specs.Hex.{decode_of}
 use Rattle.session_text.specs.TextLines.{lines_of}
 use Rattle.session_text.specs.Fields.{IsNumberLine, after_word, number_of}
-use Rattle.session_text.specs.Refusal.{Refusal, refusal, ◌>>=◌}
-use Rattle.session_text.specs.SessionForm.{AreCodeLines, AreSessionLines, IsBare, IsSession, IsVersionLine, code_line, is_store_size, most_steps}
-use Rattle.session_text.specs.SessionReading.{bare_line, bare_session, body_lines, bytes_or_refusal, code_lines, end_of_text, first_line, go_line, head_lines, number_after, number_line, session_lines, session_of, store_line, version_line}
+use Rattle.session_text.specs.Refusal.{refusal}
+use Rattle.session_text.specs.SessionForm.{AreCodeLines, AreSessionLines, IsBare, IsSession, IsVersionLine, is_store_size, most_steps}
+use Rattle.session_text.specs.SessionReading.{bare_session, body_lines, code_lines, go_line, head_lines, number_after, number_line, session_lines, session_of, store_line, version_line}
 use Rattle.session_text.specs.declared.sessions.Session.{Session}
 use Rattle.session_text.specs.declared.sessions.SessionLine.{SessionLine}
 use Rattle.session_text.proofs.Parts.{HasBody, HasHead}
@@ -57,7 +56,7 @@ code_again n (c ∷ cs) (l ∷ ls) last more none h =
     rw (some, line.3, code_again (n + 1) cs ls last more none h.1, line.4) refl
 
 -- a line that is a word and a number is no line of code, unless the word begins with a colon
-go_is_no_code : (v : ℕ) (line : List ℕ) → IsNumberLine (codes "GO ") v line → after_word (codes ":") line ≡ None
+pub go_is_no_code : (v : ℕ) (line : List ℕ) → IsNumberLine (codes "GO ") v line → after_word (codes ":") line ≡ None
 go_is_no_code v line h = ap (after_word (codes ":")) h.1
 
 pub body_again : (lines : List (List ℕ)) (code : List SessionLine) (go : ℕ) → HasBody lines code go → body_lines lines ≡ Ok (code, go)

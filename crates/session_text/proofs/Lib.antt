@@ -8,3 +8,7 @@ pub mod Bare
 pub mod Printed
 pub mod PlainLines
 pub mod ReadAgain
+pub mod Refused
+pub mod Stops
+pub mod FirstErrors
+pub mod TextErrors

@@ -1,7 +1,6 @@
 -- Lines without LF and CR are the lines of their text.
-use Rattle.std.proofs.Common.{◌≡◌, ◌≢◌, ◌∙◌, ℕ, ◌<◌, ◌≤◌, ◌^◌, Bool, true, false, cond, not, ◌&&◌, ◌==◌, eqb, List, [], ◌∷◌, ◌++◌, refl, sym, ap, subst, arith, append_assoc}
+use Rattle.std.proofs.Common.{◌≡◌, ◌≢◌, ◌∙◌, ℕ, ◌<◌, ◌^◌, Bool, true, not, ◌&&◌, ◌==◌, List, [], ◌∷◌, ◌++◌, refl, ap, subst, arith, append_assoc}
 use Rattle.std.specs.Prelude.{decimal}
-use Rattle.std.specs.Char.{digit_value}
 use Rattle.std.specs.List.{AllByRecursion, list_all}
 use Rattle.std.specs.Str.Lines.{strip_carriage_return}
 use Rattle.std.specs.Str.Parse.{AllDigits}
@@ -10,7 +9,7 @@ use Rattle.std.proofs.lemmas.Bool.Decides.{nat_tests}
 use Rattle.std.proofs.lemmas.Fmt.{decimal_is_IsNumeral}
 use Rattle.std.proofs.lemmas.List.Elements.{All-weaker, recursion_from_All}
 use Rattle.std.proofs.lemmas.Str.Parse.{digit_from_value}
-use Rattle.hex.specs.Hex.{IsBytes, decode_of, encode_lower, is_hex_digit}
+use Rattle.hex.specs.Hex.{IsBytes, encode_lower, is_hex_digit}
 use Rattle.hex.proofs.HexLemmas.{decode_of-encode_lower, decode_of-ok}
 use Rattle.session_text.specs.TextLines.{lines_of, text_of_lines}
 use Rattle.session_text.proofs.LineEnds.{HasNoLf, lines_at_lf, strip_behind}
@@ -58,14 +57,14 @@ plain_literal (c ∷ cs) e =
     let cr : not (c == 13) ≡ true = q.1 in
     ((grind (arith, nat_tests), grind (arith, nat_tests)), plain_literal cs p.1)
 
-plain_digits : (digits : List ℕ) → AllDigits 10 digits → IsPlain digits
+pub plain_digits : (digits : List ℕ) → AllDigits 10 digits → IsPlain digits
 plain_digits [] h = tt
 plain_digits (c ∷ cs) h = let r = digit_from_value c h.0 in ((λ e. absurd (omega arith), λ e. absurd (omega arith)), plain_digits cs h.1)
 
 pub plain_decimal : (n : ℕ) → n < 2 ^ 64 → IsPlain (decimal n)
 plain_decimal n lt = plain_digits (decimal n) (decimal_is_IsNumeral n lt).0.1
 
-plain_hex_digit : (c : ℕ) → is_hex_digit c ≡ true → IsPlainByte c
+pub plain_hex_digit : (c : ℕ) → is_hex_digit c ≡ true → IsPlainByte c
 plain_hex_digit c h = (λ e. cc (subst (λ (v : ℕ). is_hex_digit v ≡ true) e h), λ e. cc (subst (λ (v : ℕ). is_hex_digit v ≡ true) e h))
 
 pub plain_hex : (bytes : List ℕ) → IsBytes bytes → IsPlain (encode_lower bytes)

@@ -1,15 +1,15 @@
 -- What is printed is read as the same session.
-use Rattle.std.proofs.Common.{◌≡◌, ◌∙◌, ℕ, ◌<◌, ◌≤◌, ◌+◌, ◌^◌, ◌%◌, ◌==◌, ◌&&◌, Bool, true, Result, Ok, List, [], ◌∷◌, ◌++◌, map, refl, sym, ap, arith, nat_le}
+use Rattle.std.proofs.Common.{◌≡◌, ℕ, ◌≤◌, ◌+◌, ◌%◌, ◌==◌, ◌&&◌, true, Ok, List, [], ◌∷◌, ◌++◌, refl, ap, arith, nat_le}
 use Rattle.std.specs.Prelude.{codes, decimal}
 use Rattle.std.specs.List.{AllByRecursion}
 use Rattle.std.proofs.lemmas.Bool.{and_parts}
 use Rattle.std.proofs.lemmas.Bool.Decides.{nat_tests}
 use Rattle.hex.specs.Hex.{encode_lower}
 use Rattle.hex.proofs.HexLemmas.{decode_of-encode_lower}
-use Rattle.session_text.specs.SessionForm.{AreCodeLines, AreSessionLines, IsCodeLine, IsSession, is_store_size, most_steps, most_words}
+use Rattle.session_text.specs.SessionForm.{AreCodeLines, AreSessionLines, IsCodeLine, is_store_size, most_steps, most_words}
 use Rattle.session_text.specs.SessionReading.{session_of}
 use Rattle.session_text.specs.TextLines.{lines_of, text_of_lines}
-use Rattle.session_text.specs.Canonical.{AreNumbered, IsBareSession, IsCode, canonical, canonical_lines, code_text, form_text, go_text, head_text}
+use Rattle.session_text.specs.Canonical.{AreNumbered, IsBareSession, IsCode, canonical, canonical_lines, code_text, form_text, go_text}
 use Rattle.session_text.specs.declared.sessions.Session.{Session}
 use Rattle.session_text.specs.declared.sessions.SessionLine.{SessionLine}
 use Rattle.session_text.specs.declared.sessions.LineForm.{LineForm}

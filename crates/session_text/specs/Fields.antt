@@ -1,5 +1,5 @@
 -- The words and numbers of a line.
-use Rattle.std.specs.Prelude.{ℕ, ◌≡◌, ◌≤◌, ◌&&◌, if◌then◌else◌, Bool, List, ◌++◌, length, drop, Option, Some, None, nat_eq, nat_le}
+use Rattle.std.specs.Prelude.{ℕ, ◌≡◌, ◌≤◌, ◌&&◌, if◌then◌else◌, List, ◌++◌, length, drop, Option, Some, None, nat_eq, nat_le}
 use Rattle.std.specs.List.{starts_with}
 use Rattle.std.specs.Str.{all_ascii_digits}
 use Rattle.std.specs.Str.Parse.{IsNumeral, digits_value}

@@ -27,7 +27,7 @@ most_steps = 4000000000
 abbrev pub IsVersionLine : ℕ → List ℕ → Type 0
 IsVersionLine version line = IsVersion version × (line ≡ codes "TRIPOS " ++ decimal version)
 
--- bytes that line n gives
+-- the session's line for the bytes of line n
 abbrev pub code_line : ℕ → List ℕ → SessionLine
 code_line n bytes = record { line = n; form = Code bytes }
 
@@ -65,6 +65,6 @@ pub record AreSessionLines (s : Session) (lines : List (List ℕ)) : Type 0 wher
   pub steps : s.go ≤ most_steps
   pub machine : IsBare s
 
--- the text is one of the session
+-- the text is a text of the session
 abbrev pub IsSession : List ℕ → Session → Type 0
 IsSession text s = AreSessionLines s (lines_of text)

@@ -1,5 +1,5 @@
 -- A session read line by line, or the first line in error.
-use Rattle.std.specs.Prelude.{ℕ, ◌≡◌, ◌+◌, ◌&&◌, Bool, true, false, if◌then◌else◌, List, [], ◌∷◌, length, Result, Ok, Err, codes, nat_le, option_and_then}
+use Rattle.std.specs.Prelude.{ℕ, ◌+◌, ◌&&◌, Bool, true, false, if◌then◌else◌, List, [], ◌∷◌, length, Result, Ok, Err, codes, nat_le, option_and_then}
 use Rattle.std.specs.Option.{option_map_or, ok_or}
 use Rattle.std.specs.Str.{bytes_eq}
 use Rattle.hex.specs.Hex.{decode_of}
@@ -10,8 +10,6 @@ use Rattle.session_text.specs.Refusal.{Refusal, refusal, ◌>>=◌}
 use Rattle.session_text.specs.SessionForm.{code_line, is_store_size, most_steps}
 use Rattle.session_text.specs.declared.sessions.Session.{Session}
 use Rattle.session_text.specs.declared.sessions.SessionLine.{SessionLine}
-use Rattle.session_text.specs.declared.ends.SessionEnd.{SessionEnd}
-use Rattle.session_text.specs.declared.ends.SessionEnd.TheVariants.{Bad, WantMemory}
 
 -- line n and those after it, unless the text has ended
 abbrev pub first_line : ℕ → List (List ℕ) → Result (List ℕ × List (List ℕ)) Refusal
@@ -39,13 +37,13 @@ version_line line =
 abbrev pub store_line : ℕ → List ℕ → Result ℕ Refusal
 store_line version line = number_line (codes "STORE ") (is_store_size version) 2 line
 
--- a machine with a clock is not served yet: a lawful `TICK` has code 0
+-- Until machines with a clock are served, a lawful `TICK` in line 3 has code 0.
 abbrev pub tick_line : {A : Type 0} → List ℕ → Result A Refusal
 tick_line line = do
   period ← number_line (codes "TICK ") (λ n. nat_le 1 n && nat_le n 1000000) 3 line
   Err (refusal 3 0)
 
--- line 3 says that the machine is bare
+-- line 3 says that the machine is bare; the one other form of it is a `TICK` line
 abbrev pub bare_line : List ℕ → Result Unit Refusal
 bare_line line = if bytes_eq line (codes "BARE") then Ok tt else tick_line line
 
@@ -54,12 +52,19 @@ abbrev pub bytes_or_refusal : ℕ → Result (List ℕ) FromHexError → Result 
 bytes_or_refusal n (Ok bytes) = Ok bytes
 bytes_or_refusal n (Err e) = Err (refusal n 1)
 
--- lines that begin with a colon, the first of them line n, and the lines after them
+-- line n as a line of code, before the others of its kind
+abbrev pub with_code : ℕ → Result (List ℕ) FromHexError → Result (List SessionLine × List (List ℕ)) Refusal → Result (List SessionLine × List (List ℕ)) Refusal
+with_code n digits others = do
+  bytes ← bytes_or_refusal n digits
+  more ← others
+  Ok (code_line n bytes ∷ more.0, more.1)
+
+-- the lines that begin with a colon, the first of them line n, and the lines after them
 abbrev pub code_lines : ℕ → List (List ℕ) → Result (List SessionLine × List (List ℕ)) Refusal
 code_lines n [] = Ok ([], [])
 code_lines n (line ∷ lines) =
     option_map_or
-    (λ digits. bytes_or_refusal n (decode_of digits) >>= λ bytes. code_lines (n + 1) lines >>= λ more. Ok (code_line n bytes ∷ more.0, more.1))
+    (λ digits. with_code n (decode_of digits) (code_lines (n + 1) lines))
     (after_word (codes ":") line)
     (Ok ([], line ∷ lines))
 
@@ -90,9 +95,11 @@ body_lines lines = do
   end ← end_of_text (5 + length code.0) last.1
   Ok (code.0, go)
 
+-- the session of a bare machine
 abbrev pub bare_session : ℕ → ℕ → List SessionLine → ℕ → Session
 bare_session version store code go = record { version = version; store = store; period = 0; bare = true; resident = false; debug = false; lines = code; keys = []; go = go }
 
+-- the session of all the lines
 unfoldable pub session_lines : List (List ℕ) → Result Session Refusal
 session_lines lines = do
   head ← head_lines lines
@@ -104,12 +111,3 @@ session_lines lines = do
 -- the session of a text
 abbrev pub session_of : List ℕ → Result Session Refusal
 session_of text = session_lines (lines_of text)
-
--- What a reading function returned, seen by view, is what the definition gives, unless memory ran out.
-abbrev pub EndsAs : {X : Type 0} → SessionEnd → Result X Refusal → Type 0
-EndsAs (Bad line code) read = read ≡ Err (refusal line code)
-EndsAs WantMemory read = Unit {0}
-
-abbrev pub Gives : {X Y : Type 0} → (X → Y) → Result X SessionEnd → Result Y Refusal → Type 0
-Gives view (Ok x) read = read ≡ Ok (view x)
-Gives view (Err e) read = EndsAs e read

@@ -2,7 +2,8 @@
 ghost use Rattle.std.specs.Prelude.{◌≡◌, ◌+◌, ◌≤◌, ◌<◌, ◌^◌, length, IfOk, OnOk};
 ghost use Rattle.session_text.specs.TextLines.{lines_of};
 ghost use Rattle.session_text.specs.SessionForm.{is_store_size};
-ghost use Rattle.session_text.specs.SessionReading.{Gives, bare_line, first_line, head_lines, number_after, store_line, tick_line, version_line};
+ghost use Rattle.session_text.specs.Answers.{Gives};
+ghost use Rattle.session_text.specs.SessionReading.{bare_line, first_line, head_lines, number_after, store_line, tick_line, version_line};
 
 use crate::SessionEnd;
 use crate::fields::{after_word, number};
@@ -63,7 +64,7 @@ fn store_line(version: u32, line: &[u8]) -> Result<u32, SessionEnd>
     Ok(words as u32)
 }
 
-/// Whether a store may have this size.
+// Whether a store may have this size.
 fn is_store_size(version: u32, words: u64) -> bool
     ensures { result ≡ is_store_size version words }
 {
@@ -71,7 +72,7 @@ fn is_store_size(version: u32, words: u64) -> bool
     1024 <= words && words <= most && words % 2 == 0
 }
 
-/// Line 3 says that the machine is bare.
+/// Line 3 says that the machine is bare; the one other form of it is a `TICK` line.
 pub fn bare_line(line: &[u8]) -> Result<(), SessionEnd>
     ensures { Gives (λ x. x) result (bare_line line.now) }
 {
@@ -81,7 +82,7 @@ pub fn bare_line(line: &[u8]) -> Result<(), SessionEnd>
     }
 }
 
-// A machine with a clock is not served yet: a lawful `TICK` has code 0.
+// Until machines with a clock are served, a lawful `TICK` has code 0.
 fn tick_line(line: &[u8]) -> Result<(), SessionEnd>
     ensures { Gives (λ x. x) result (tick_line line.now) }
 {

@@ -16,3 +16,6 @@ pub use lists::{Bytes, Keys, Lines, Names};
 pub use printing::print_session;
 pub use reading::read_session;
 pub use sessions::{LineForm, Session, SessionLine};
+
+#[cfg(test)]
+mod tests;

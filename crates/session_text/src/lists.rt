@@ -9,7 +9,7 @@ use std::marker::Model;
 /// Bytes, seen as their list.
 #[derive(Debug, Drop)]
 pub struct Bytes {
-    bytes: Vec<u8>,
+    list: Vec<u8>,
 }
 
 impl Model for Bytes {
@@ -17,7 +17,7 @@ impl Model for Bytes {
 
     ghost Value = { List ℕ };
 
-    ghost view = { λ b. b.bytes.items };
+    ghost view = { λ b. b.list.items };
 }
 
 impl Bytes {
@@ -25,21 +25,21 @@ impl Bytes {
     pub fn new(bytes: Vec<u8>) -> Bytes
         ensures { result ≡ bytes.items }
     {
-        Bytes { bytes }
+        Bytes { list: bytes }
     }
 
     /// The bytes, lent.
     pub fn as_slice(&self) -> &[u8]
         ensures { result.now ≡ self.now }
     {
-        self.bytes.as_slice()
+        self.list.as_slice()
     }
 }
 
 /// The lines between the head of a session and its `GO`, seen as their list.
 #[derive(Debug, Drop)]
 pub struct Lines {
-    lines: Vec<SessionLine>,
+    list: Vec<SessionLine>,
 }
 
 impl Model for Lines {
@@ -48,7 +48,7 @@ impl Model for Lines {
 
     ghost Value = { List SessionLine };
 
-    ghost view = { λ l. l.lines.items };
+    ghost view = { λ l. l.list.items };
 }
 
 impl Lines {
@@ -56,21 +56,21 @@ impl Lines {
     pub fn new(lines: Vec<SessionLine>) -> Lines
         ensures { result ≡ lines.items }
     {
-        Lines { lines }
+        Lines { list: lines }
     }
 
     /// The lines, lent.
     pub fn as_slice(&self) -> &[SessionLine]
         ensures { result.now ≡ self.now }
     {
-        self.lines.as_slice()
+        self.list.as_slice()
     }
 }
 
 /// Keys, each with the step at which it is due, seen as their list.
 #[derive(Debug, Drop)]
 pub struct Keys {
-    keys: Vec<(u64, u8)>,
+    list: Vec<(u64, u8)>,
 }
 
 impl Model for Keys {
@@ -78,7 +78,7 @@ impl Model for Keys {
 
     ghost Value = { List (ℕ × ℕ) };
 
-    ghost view = { λ k. k.keys.items };
+    ghost view = { λ k. k.list.items };
 }
 
 impl Keys {
@@ -86,21 +86,21 @@ impl Keys {
     pub fn new(keys: Vec<(u64, u8)>) -> Keys
         ensures { result ≡ keys.items }
     {
-        Keys { keys }
+        Keys { list: keys }
     }
 
     /// The keys, lent.
     pub fn as_slice(&self) -> &[(u64, u8)]
         ensures { result.now ≡ self.now }
     {
-        self.keys.as_slice()
+        self.list.as_slice()
     }
 }
 
 /// At most eight names of files, seen as their list.
 #[derive(Debug, Drop)]
 pub struct Names {
-    names: ArrayVec<Name, 8>,
+    list: ArrayVec<Name, 8>,
 }
 
 impl Model for Names {
@@ -108,7 +108,7 @@ impl Model for Names {
 
     ghost Value = { List (List ℕ) };
 
-    ghost view = { λ n. n.names.items };
+    ghost view = { λ n. n.list.items };
 }
 
 impl Names {
@@ -116,13 +116,13 @@ impl Names {
     pub fn new(names: ArrayVec<Name, 8>) -> Names
         ensures { result ≡ names.items }
     {
-        Names { names }
+        Names { list: names }
     }
 
     /// The names, lent.
     pub fn as_slice(&self) -> &[Name]
         ensures { result.now ≡ self.now }
     {
-        self.names.as_slice()
+        self.list.as_slice()
     }
 }

@@ -3,7 +3,8 @@ ghost use Rattle.std.specs.Prelude.{◌≡◌, ◌+◌, ◌^◌, ◌<◌, ◌≤
 ghost use Rattle.hex.specs.Hex.{decode_of};
 ghost use Rattle.session_text.specs.TextLines.{lines_of};
 ghost use Rattle.session_text.specs.Canonical.{AreNumbered, IsBareSession};
-ghost use Rattle.session_text.specs.SessionReading.{Gives, body_lines, bytes_or_refusal, code_lines, end_of_text, go_line, session_of};
+ghost use Rattle.session_text.specs.Answers.{Gives};
+ghost use Rattle.session_text.specs.SessionReading.{body_lines, bytes_or_refusal, code_lines, end_of_text, go_line, session_of};
 
 use crate::fields::after_word;
 use crate::heads::{bare_line, first_line, head_lines, number_after};

@@ -9,7 +9,7 @@ pub struct Session {
     pub version: u32,
     /// The size of the store in words.
     pub store: u32,
-    /// The instructions from one tick to the next; 0 on a bare machine.
+    /// The steps from one tick of the clock to the next; 0 on a bare machine.
     pub period: u32,
     /// Whether the machine is bare: it runs one program, with no kernel.
     pub bare: bool,

@@ -1,4 +1,3 @@
-use Rattle.std.proofs.Common.{◌≤◌}
 use Rattle.std.proofs.lemmas.Result.{err_from_is_err_and}
 use Rattle.session_text.proofs.Printed.{Prints-cut, code_text_at}
 use Rattle.session_text.proofs.printing.print_lines.Goals as goal

@@ -1,0 +1,217 @@
+-- The first line in error of a session's text.
+use Rattle.std.proofs.Common.{◌≡◌, ◌∙◌, ℕ, ◌+◌, ◌==◌, ◌%◌, ◌&&◌, ◌⊎◌, inl, inr, Bool, true, false, cond, Result, Ok, Err, List, [], ◌∷◌, ◌++◌, length, refl, sym, ap, subst, arith, nat_le}
+use Rattle.std.specs.Prelude.{codes, decimal, IsTrue}
+use Rattle.session_text.specs.Refusal.{Refusal, refusal, ◌>>=◌}
+use Rattle.session_text.specs.SessionForm.{AreSessionLines, IsVersionLine, is_store_size}
+use Rattle.session_text.specs.SessionReading.{bare_line, bare_session, body_lines, first_line, head_lines, session_lines, store_line, version_line}
+use Rattle.session_text.specs.Fields.{IsNumberLine}
+use Rattle.session_text.specs.Canonical.{go_text}
+use Rattle.session_text.specs.declared.sessions.Session.{Session}
+use Rattle.session_text.specs.declared.sessions.SessionLine.{SessionLine}
+use Rattle.session_text.proofs.Complete.{head_again}
+use Rattle.session_text.proofs.Parts.{HasBody, HasHead}
+use Rattle.session_text.proofs.Refused.{bare_err, bind_err, err_is, number_line_err, stop, version_err}
+use Rattle.session_text.proofs.Sound.{bare_ok, done, head_ok, session_by, version_ok}
+use Rattle.session_text.proofs.Stops.{BeginBody, EndsAt, StopsAt, body_err}
+use Rattle.session_text.proofs.Words.{decimal_number}
+
+-- ---- beginnings
+
+-- lines with which the lines of some session begin
+abbrev pub BeginLines : List (List ℕ) → Type 0
+BeginLines front = (s : Session) × (more : List (List ℕ)) × AreSessionLines s (front ++ more)
+
+-- a head and a body
+joined : (lines : List (List ℕ)) (version store : ℕ) (body : List (List ℕ)) (code : List SessionLine) (go : ℕ) → HasHead lines version store (codes "BARE" ∷ body) → HasBody body code go
+    → AreSessionLines (bare_session version store code go) lines
+joined lines version store body code go h b =
+    session_by lines (bare_session version store code go) (version, store, codes "BARE" ∷ body) (codes "BARE", body) (code, go) h refl refl b refl
+
+-- the shortest body
+least_body : HasBody (go_text 0 ∷ []) [] 0
+least_body = record {
+  front = [];
+  last = go_text 0;
+  all = refl;
+  code_lines = tt;
+  go_line = (decimal 0, refl, decimal_number 0 (omega arith));
+  steps = omega arith;
+}
+
+-- the least store is lawful in each version
+least_by : (b : Bool) → (nat_le 1024 1024 && nat_le 1024 (cond b 262144 4194304) && (1024 % 2 == 0)) ≡ true
+least_by true = refl
+least_by false = refl
+
+least_store : (version : ℕ) → IsTrue (is_store_size version 1024)
+least_store version = least_by (version == 1)
+
+least_store_line : IsNumberLine (codes "STORE ") 1024 (codes "STORE " ++ decimal 1024)
+least_store_line = (decimal 1024, refl, decimal_number 1024 (omega arith))
+
+-- a lawful first line
+begin_with_version : (version : ℕ) (first : List ℕ) → IsVersionLine version first → BeginLines (first ∷ [])
+begin_with_version version first v =
+    let second = codes "STORE " ++ decimal 1024 in
+    let lines = first ∷ second ∷ codes "BARE" ∷ go_text 0 ∷ [] in
+    let head : HasHead lines version 1024 (codes "BARE" ∷ go_text 0 ∷ []) = record { first = first; second = second; all = refl; version_line = v; store_line = least_store_line; store_size = least_store version } in
+    (bare_session version 1024 [] 0, second ∷ codes "BARE" ∷ go_text 0 ∷ [], joined lines version 1024 (go_text 0 ∷ []) [] 0 head least_body)
+
+begin_with_nothing : BeginLines []
+begin_with_nothing =
+    let b = begin_with_version 1 (codes "TRIPOS " ++ decimal 1) ((omega arith, omega arith), refl) in
+    (b.0, (codes "TRIPOS " ++ decimal 1) ∷ b.1, b.2)
+
+-- the first two lines are lawful
+record IsLawfulHead (version store : ℕ) (first second : List ℕ) : Type 0 where
+  version_line : IsVersionLine version first
+  store_line : IsNumberLine (codes "STORE ") store second
+  store_size : IsTrue (is_store_size version store)
+
+head_of : (version store : ℕ) (first second : List ℕ) (rest : List (List ℕ)) → IsLawfulHead version store first second → HasHead (first ∷ second ∷ rest) version store rest
+head_of version store first second rest h = record { first = first; second = second; all = refl; version_line = h.version_line; store_line = h.store_line; store_size = h.store_size }
+
+-- lawful first lines, and what a body begins with
+begin_with_body : (version store : ℕ) (first second : List ℕ) (front : List (List ℕ)) → IsLawfulHead version store first second → BeginBody front → BeginLines (first ∷ second ∷ codes "BARE" ∷ front)
+begin_with_body version store first second front h b =
+    let body = front ++ b.0 in
+    (bare_session version store b.1 b.2, b.0, joined (first ∷ second ∷ codes "BARE" ∷ body) version store body b.1 b.2 (head_of version store first second (codes "BARE" ∷ body) h) b.3)
+
+begin_with_head : (version store : ℕ) (first second : List ℕ) → IsLawfulHead version store first second → BeginLines (first ∷ second ∷ [])
+begin_with_head version store first second h =
+    let b = begin_with_body version store first second [] h (go_text 0 ∷ [], [], 0, least_body) in
+    (b.0, codes "BARE" ∷ b.1, b.2)
+
+-- ---- the steps of a session
+
+abbrev before_store : ℕ → List ℕ × List (List ℕ) → Result (ℕ × ℕ × List (List ℕ)) Refusal
+before_store version second = store_line version second.0 >>= λ store. Ok (version, store, second.1)
+
+abbrev before_second : List (List ℕ) → ℕ → Result (ℕ × ℕ × List (List ℕ)) Refusal
+before_second rest version = first_line 2 rest >>= before_store version
+
+abbrev before_version : List ℕ × List (List ℕ) → Result (ℕ × ℕ × List (List ℕ)) Refusal
+before_version first = version_line first.0 >>= before_second first.1
+
+abbrev before_session : ℕ × ℕ × List (List ℕ) → List SessionLine × ℕ → Result Session Refusal
+before_session head body = Ok (bare_session head.0 head.1 body.0 body.1)
+
+abbrev before_body : ℕ × ℕ × List (List ℕ) → List (List ℕ) → Unit {0} → Result Session Refusal
+before_body head rest bare = body_lines rest >>= before_session head
+
+abbrev before_bare : ℕ × ℕ × List (List ℕ) → List ℕ × List (List ℕ) → Result Session Refusal
+before_bare head third = bare_line third.0 >>= before_body head third.1
+
+abbrev before_third : ℕ × ℕ × List (List ℕ) → Result Session Refusal
+before_third head = first_line 3 head.2 >>= before_bare head
+
+-- ---- where a session stops
+
+abbrev StopsOrEnds : List (List ℕ) → Refusal → Type 0
+StopsOrEnds lines d = StopsAt session_lines BeginLines 1 lines d ⊎ EndsAt BeginLines 1 lines d
+
+ends : (lines : List (List ℕ)) (n : ℕ) (d : Refusal) → n ≡ 1 + length lines → refusal n 3 ≡ d → BeginLines lines → EndsAt BeginLines 1 lines d
+ends lines n d len e b = record { line = sym (ap (λ (r : Refusal). r.line) e) ∙ len; code = sym (ap (λ (r : Refusal). r.code) e); before = b }
+
+stops_at_first : (first : List ℕ) (rest : List (List ℕ)) (d : Refusal) → version_line first ≡ Err d → StopsAt session_lines BeginLines 1 (first ∷ rest) d
+unfolding head_lines session_lines
+stops_at_first first rest d e = record {
+  front = [];
+  line = first;
+  after = rest;
+  all = refl;
+  at = let a = version_err first d e in record { line = omega (arith, a.line); code = a.code };
+  before = begin_with_nothing;
+  stays = λ more. stop (head_lines (first ∷ more)) before_third d (stop (version_line first) (before_second more) d e);
+}
+
+stops_at_second : (first second : List ℕ) (version : ℕ) (rest : List (List ℕ)) (d : Refusal) → version_line first ≡ Ok version → store_line version second ≡ Err d → StopsAt session_lines BeginLines 1 (first ∷ second ∷ rest) d
+unfolding head_lines session_lines
+stops_at_second first second version rest d v e = record {
+  front = first ∷ [];
+  line = second;
+  after = rest;
+  all = refl;
+  at = let a = number_line_err (codes "STORE ") (is_store_size version) 2 second d e in record { line = omega (arith, a.line); code = a.code };
+  before = begin_with_version version first (version_ok first version v);
+  stays = λ more. stop (head_lines (first ∷ second ∷ more)) before_third d (rw (v, e) refl);
+}
+
+stops_at_third : (first second third : List ℕ) (version store : ℕ) (rest : List (List ℕ)) (d : Refusal) → IsLawfulHead version store first second → bare_line third ≡ Err d
+    → StopsAt session_lines BeginLines 1 (first ∷ second ∷ third ∷ rest) d
+unfolding session_lines
+stops_at_third first second third version store rest d h e = record {
+  front = first ∷ second ∷ [];
+  line = third;
+  after = rest;
+  all = refl;
+  at = let a = bare_err third d e in record { line = omega (arith, a.line); code = a.code };
+  before = begin_with_head version store first second h;
+  stays = λ more. rw (head_again (first ∷ second ∷ third ∷ more) version store (third ∷ more) (head_of version store first second (third ∷ more) h), e) refl;
+}
+
+stops_in_body : (first second : List ℕ) (version store : ℕ) (body : List (List ℕ)) (d : Refusal) → IsLawfulHead version store first second → StopsAt body_lines BeginBody 4 body d
+    → StopsAt session_lines BeginLines 1 (first ∷ second ∷ codes "BARE" ∷ body) d
+unfolding session_lines
+stops_in_body first second version store body d h s = record {
+  front = first ∷ second ∷ codes "BARE" ∷ s.front;
+  line = s.line;
+  after = s.after;
+  all = ap (λ (ls : List (List ℕ)). first ∷ second ∷ codes "BARE" ∷ ls) s.all;
+  at = let a = s.at in record { line = omega (arith, a.line); code = a.code };
+  before = begin_with_body version store first second s.front h s.before;
+  stays = λ more. let rest = codes "BARE" ∷ (s.front ++ s.line ∷ more) in
+      rw (head_again (first ∷ second ∷ rest) version store rest (head_of version store first second rest h), s.stays more) refl;
+}
+
+body_or_end : (first second : List ℕ) (version store : ℕ) (body : List (List ℕ)) (d : Refusal) → IsLawfulHead version store first second → body_lines body ≡ Err d
+    → StopsOrEnds (first ∷ second ∷ codes "BARE" ∷ body) d
+body_or_end first second version store body d h e =
+    elim (body_err body d e) [
+      | inl s ↦ inl (stops_in_body first second version store body d h s)
+      | inr s ↦ inr (record { line = omega (arith, s.line); code = s.code; before = begin_with_body version store first second body h s.before })
+    ]
+
+after_head : (first second : List ℕ) (version store : ℕ) (rest : List (List ℕ)) (d : Refusal) → IsLawfulHead version store first second → before_third (version, store, rest) ≡ Err d → StopsOrEnds (first ∷ second ∷ rest) d
+after_head first second version store [] d h e =
+    inr (ends (first ∷ second ∷ []) 3 d refl (err_is {A = Session} (refusal 3 3) d e) (begin_with_head version store first second h))
+after_head first second version store (third ∷ rest) d h e =
+    elim (bind_err (bare_line third) (before_body (version, store, third ∷ rest) rest) d e) [
+      | inl p ↦ inl (stops_at_third first second third version store rest d h p)
+      | inr p ↦
+          elim (bind_err (body_lines rest) (before_session (version, store, third ∷ rest)) d p.2) [
+            | inl q ↦ subst (λ (l : List ℕ). StopsOrEnds (first ∷ second ∷ l ∷ rest) d) (sym (bare_ok third p.0 p.1)) (body_or_end first second version store rest d h q)
+            | inr q ↦ cc q.2
+          ]
+    ]
+
+after_version : (first : List ℕ) (version : ℕ) (rest : List (List ℕ)) (d : Refusal) → version_line first ≡ Ok version → before_second rest version ≡ Err d → StopsOrEnds (first ∷ rest) d
+after_version first version [] d v e =
+    inr (ends (first ∷ []) 2 d refl (err_is {A = ℕ × ℕ × List (List ℕ)} (refusal 2 3) d e) (begin_with_version version first (version_ok first version v)))
+after_version first version (second ∷ rest) d v e =
+    elim (bind_err (store_line version second) (λ store. done (version, store, rest)) d e) [
+      | inl p ↦ inl (stops_at_second first second version rest d v p)
+      | inr p ↦ cc p.2
+    ]
+
+after_first : (first : List ℕ) (rest : List (List ℕ)) (d : Refusal) → head_lines (first ∷ rest) ≡ Err d → StopsOrEnds (first ∷ rest) d
+unfolding head_lines
+after_first first rest d e =
+    elim (bind_err (version_line first) (before_second rest) d e) [
+      | inl p ↦ inl (stops_at_first first rest d p)
+      | inr p ↦ after_version first p.0 rest d p.1 p.2
+    ]
+
+after_good_head : (lines : List (List ℕ)) (head : ℕ × ℕ × List (List ℕ)) (d : Refusal) → HasHead lines head.0 head.1 head.2 → before_third head ≡ Err d → StopsOrEnds lines d
+after_good_head lines head d h e =
+    let lawful : IsLawfulHead head.0 head.1 h.first h.second = record { version_line = h.version_line; store_line = h.store_line; store_size = h.store_size } in
+    subst (λ (ls : List (List ℕ)). StopsOrEnds ls d) (sym h.all) (after_head h.first h.second head.0 head.1 head.2 d lawful e)
+
+pub session_err : (lines : List (List ℕ)) (d : Refusal) → session_lines lines ≡ Err d → StopsAt session_lines BeginLines 1 lines d ⊎ EndsAt BeginLines 1 lines d
+unfolding head_lines session_lines
+session_err [] d e = inr (ends [] 1 d refl (err_is {A = Session} (refusal 1 3) d e) begin_with_nothing)
+session_err (first ∷ rest) d e =
+    elim (bind_err (head_lines (first ∷ rest)) before_third d e) [
+      | inl p ↦ after_first first rest d p
+      | inr p ↦ after_good_head (first ∷ rest) p.0 d (head_ok (first ∷ rest) p.0 p.1) p.2
+    ]
