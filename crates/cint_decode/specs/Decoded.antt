@@ -14,7 +14,7 @@ use Rattle.cint_decode.specs.Even.{even_below}
 use Rattle.cint_decode.specs.Offset.{byte_offset, half_offset}
 use Rattle.cint_decode.specs.Steps.{◌>>=◌}
 
--- Code is a function that gives the byte at a byte address, where it is inside.
+-- The byte at an address. Code is a function that gives the byte at a byte address, where it is inside.
 abbrev pub byte_or_outside : (ℕ → Option ℕ) → ℕ → Result ℕ DecodeEnd
 byte_or_outside code a = ok_or (code a) (Outside a)
 
@@ -34,6 +34,7 @@ word_at code a = do
   fourth ← byte_or_outside code (add a 3)
   Ok (from_le_bytes w32 (first ∷ second ∷ third ∷ fourth ∷ []))
 
+-- a byte of the halfword of an indirect form
 abbrev pub halfword_byte : (ℕ → Option ℕ) → ℕ → Result ℕ DecodeEnd
 halfword_byte code a = ok_or (code a) (Halfword a)
 
@@ -45,36 +46,40 @@ halfword_offset code a = do
   Ok (half_offset (from_le_bytes w16 (low ∷ high ∷ [])))
 
 -- an operand that is a number, in an instruction of that length
-abbrev pub number : ℕ → ℕ → Operand
-number n length = record { number = n; length = length; target = 0 }
+abbrev pub number_operand : ℕ → ℕ → Operand
+number_operand n length = record { number = n; length = length; target = 0 }
 
 -- an operand that leads to a target
-abbrev pub target : ℕ → Operand
-target t = record { number = 0; length = 2; target = t }
+abbrev pub target_operand : ℕ → Operand
+target_operand t = record { number = 0; length = 2; target = t }
+
+-- where the halfword of an indirect form stands, whose operand byte is b
+abbrev pub halfword_place : ℕ → ℕ → ℕ
+halfword_place pc b = even_below (add (add pc 1) (2 * b))
 
 -- the operand of a form, behind the function byte at pc
 abbrev pub operand_at : (ℕ → Option ℕ) → ℕ → Form → Result Operand DecodeEnd
-operand_at code pc (Plain n) = Ok (number n 1)
+operand_at code pc (Plain n) = Ok (number_operand n 1)
 operand_at code pc Byte = do
   n ← byte_or_outside code (add pc 1)
-  Ok (number n 2)
+  Ok (number_operand n 2)
 operand_at code pc BytePlus = do
   n ← byte_or_outside code (add pc 1)
-  Ok (number (n + 256) 2)
+  Ok (number_operand (n + 256) 2)
 operand_at code pc Half = do
   n ← half_at code (add pc 1)
-  Ok (number n 3)
+  Ok (number_operand n 3)
 operand_at code pc Word = do
   n ← word_at code (add pc 1)
-  Ok (number n 5)
+  Ok (number_operand n 5)
 operand_at code pc Relative = do
   b ← byte_or_outside code (add pc 1)
-  Ok (target (add (add pc 1) (byte_offset b)))
+  Ok (target_operand (add (add pc 1) (byte_offset b)))
 operand_at code pc Indirect = do
   b ← byte_or_outside code (add pc 1)
-  offset ← halfword_offset code (even_below (add (add pc 1) (2 * b)))
-  Ok (target (add (even_below (add (add pc 1) (2 * b))) offset))
-operand_at code pc Switch = Ok (number 0 1)
+  offset ← halfword_offset code (halfword_place pc b)
+  Ok (target_operand (add (halfword_place pc b) offset))
+operand_at code pc Switch = Ok (number_operand 0 1)
 
 -- the checks in their order
 abbrev pub decoded : (ℕ → Option ℕ) → ℕ → Result Instr DecodeEnd

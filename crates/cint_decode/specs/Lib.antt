@@ -1,4 +1,5 @@
 pub mod Decoded
 pub mod Even
 pub mod Offset
+pub mod Standing
 pub mod Steps

@@ -1,6 +1,6 @@
 // The instruction at a byte address.
 ghost use Rattle.std.specs.Prelude.{◌≡◌, ◌≤◌, IfOk};
-ghost use Rattle.cint_decode.specs.Decoded.{byte_or_outside, decoded, half_at, halfword_byte, halfword_offset, operand_at, word_at};
+ghost use Rattle.cint_decode.specs.Decoded.{byte_or_outside, decoded, half_at, halfword_byte, halfword_offset, number_operand, operand_at, target_operand, word_at};
 
 use crate::{Code, DecodeEnd, Instr, byte_offset, even_below, half_offset};
 use cint_table::{Form, row};
@@ -34,8 +34,8 @@ struct Operand {
     target: u32,
 }
 
-fn number(number: u32, length: u32) -> Operand
-    ensures { result ≡ record { number = number; length = length; target = 0 } }
+fn number_operand(number: u32, length: u32) -> Operand
+    ensures { result ≡ number_operand number length }
 {
     Operand {
         number,
@@ -44,8 +44,8 @@ fn number(number: u32, length: u32) -> Operand
     }
 }
 
-fn target(target: u32) -> Operand
-    ensures { result ≡ record { number = 0; length = 2; target = target } }
+fn target_operand(target: u32) -> Operand
+    ensures { result ≡ target_operand target }
 {
     Operand {
         number: 0,
@@ -60,17 +60,17 @@ fn operand_at<X: Code>(code: &X, pc: u32, form: Form) -> Result<Operand, DecodeE
 {
     let next = add(pc, 1);
     match form {
-        Form::Plain(n) => Ok(number(n, 1)),
-        Form::Byte => Ok(number(u32::from(byte_at(code, next)?), 2)),
-        Form::BytePlus => Ok(number(u32::from(byte_at(code, next)?) + 256, 2)),
-        Form::Half => Ok(number(half_at(code, next)?, 3)),
-        Form::Word => Ok(number(word_at(code, next)?, 5)),
-        Form::Relative => Ok(target(add(next, byte_offset(byte_at(code, next)?)))),
+        Form::Plain(n) => Ok(number_operand(n, 1)),
+        Form::Byte => Ok(number_operand(u32::from(byte_at(code, next)?), 2)),
+        Form::BytePlus => Ok(number_operand(u32::from(byte_at(code, next)?) + 256, 2)),
+        Form::Half => Ok(number_operand(half_at(code, next)?, 3)),
+        Form::Word => Ok(number_operand(word_at(code, next)?, 5)),
+        Form::Relative => Ok(target_operand(add(next, byte_offset(byte_at(code, next)?)))),
         Form::Indirect => {
             let place = even_below(add(next, 2 * u32::from(byte_at(code, next)?)));
-            Ok(target(add(place, halfword_offset(code, place)?)))
+            Ok(target_operand(add(place, halfword_offset(code, place)?)))
         }
-        Form::Switch => Ok(number(0, 1)),
+        Form::Switch => Ok(number_operand(0, 1)),
     }
 }
 

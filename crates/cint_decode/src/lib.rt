@@ -5,6 +5,7 @@ pub mod code;
 pub mod decoding;
 pub mod evenness;
 pub mod instructions;
+pub mod laws;
 pub mod offsets;
 
 pub use code::Code;

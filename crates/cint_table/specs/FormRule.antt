@@ -8,13 +8,16 @@ use Rattle.std.specs.Str.Parse.{digits_value}
 use Rattle.cint_table.specs.declared.forms.Form.{Form}
 use Rattle.cint_table.specs.declared.forms.Form.TheVariants.{Plain, Byte, BytePlus, Half, Word, Relative, Indirect, Switch}
 
+-- each text as its bytes
 abbrev pub texts : List String → List (List ℕ)
 texts [] = []
 texts (t ∷ ts) = codes t ∷ texts ts
 
+-- whether a name is one of these
 abbrev pub is_among : List (List ℕ) → List ℕ → Bool
 is_among names name = list_any (bytes_eq name) names
 
+-- whether a name ends so
 abbrev pub ends : String → List ℕ → Bool
 ends suffix name = ends_with nat_eq name (codes suffix)
 

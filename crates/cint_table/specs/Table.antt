@@ -16,12 +16,15 @@ pub record Entry : Type 0 where
   pub form : Form
   pub effect : Effect
 
+-- a row of the code, seen as an entry
 abbrev pub entry_of : Row → Entry
 entry_of r = record { name = r.name.now; form = r.form; effect = r.effect }
 
+-- an entry with a row
 abbrev pub row : String → Form → Effect → Option Entry
 row name form effect = Some (record { name = codes name; form = form; effect = effect })
 
+-- an entry with none
 abbrev pub empty : Option Entry
 empty = None
 
@@ -325,6 +328,7 @@ column7 =
     empty ∷
     []
 
+-- the whole table
 abbrev pub columns : List (List (Option Entry))
 columns = column0 ∷ column1 ∷ column2 ∷ column3 ∷ column4 ∷ column5 ∷ column6 ∷ column7 ∷ []
 
