@@ -15,6 +15,7 @@ use Rattle.session_text.specs.declared.sessions.SessionLine.{SessionLine}
 use Rattle.session_text.proofs.Parts.{HasBody, HasHead}
 use Rattle.session_text.proofs.Words.{after_again, number_again}
 
+-- a version line gives its version
 pub version_again : (v : ℕ) (line : List ℕ) → IsVersionLine v line → version_line line ≡ Ok v
 version_again v line h =
     let low : 1 ≤ v = h.0.0 in
@@ -29,15 +30,18 @@ version_again v line h =
           rw (e, two) refl
     ]
 
+-- a word and a number give the number
 pub number_after_again : (word : List ℕ) (n v : ℕ) (line : List ℕ) → IsNumberLine word v line → number_after word n line ≡ Ok v
 number_after_again word n v line h =
     ap (number_after word n) h.1
     ∙ ap (λ (o : Option (List ℕ)). ok_or (option_and_then number_of o) (refusal n 1)) (after_again word h.0)
     ∙ ap (λ (o : Option ℕ). ok_or o (refusal n 1)) (number_again h.0 v h.2)
 
+-- and so does a number in its range
 pub number_line_again : (word : List ℕ) (is_in_range : ℕ → Bool) (n v : ℕ) (line : List ℕ) → IsNumberLine word v line → is_in_range v ≡ true → number_line word is_in_range n line ≡ Ok v
 number_line_again word is_in_range n v line h t = rw (number_after_again word n v line h, t) refl
 
+-- a head gives its version, its store and the rest
 pub head_again : (lines : List (List ℕ)) (version store : ℕ) (rest : List (List ℕ)) → HasHead lines version store rest → head_lines lines ≡ Ok (version, store, rest)
 unfolding head_lines
 head_again lines version store rest h =
@@ -45,6 +49,7 @@ head_again lines version store rest h =
     let s : store_line version h.second ≡ Ok store = number_line_again (codes "STORE ") (is_store_size version) 2 store h.second h.store_line h.store_size in
     rw (h.all, v, s) refl
 
+-- lines of code before another line give their bytes
 pub code_again : (n : ℕ) (code : List SessionLine) (front : List (List ℕ)) (last : List ℕ) (more : List (List ℕ)) → after_word (codes ":") last ≡ None → AreCodeLines n code front
     → code_lines n (front ++ last ∷ more) ≡ Ok (code, last ∷ more)
 code_again n [] [] last more none h = rw none refl
@@ -59,6 +64,7 @@ code_again n (c ∷ cs) (l ∷ ls) last more none h =
 pub go_is_no_code : (v : ℕ) (line : List ℕ) → IsNumberLine (codes "GO ") v line → after_word (codes ":") line ≡ None
 go_is_no_code v line h = ap (after_word (codes ":")) h.1
 
+-- a body gives its code and its steps
 pub body_again : (lines : List (List ℕ)) (code : List SessionLine) (go : ℕ) → HasBody lines code go → body_lines lines ≡ Ok (code, go)
 unfolding body_lines
 body_again lines code go h =
@@ -68,6 +74,7 @@ body_again lines code go h =
     let g : go_line n h.last ≡ Ok go = number_line_again (codes "GO ") (λ v. nat_le v most_steps) n go h.last h.go_line within in
     rw (c, g) refl
 
+-- a bare session is the one that reading makes of its parts
 bare_is : (s : Session) → IsBare s → bare_session s.version s.store s.lines s.go ≡ s
 bare_is s h = λ i. record {
   version = s.version;
@@ -81,6 +88,7 @@ bare_is s h = λ i. record {
   go = s.go;
 }
 
+-- the lines of a session give it
 complete_lines : (lines : List (List ℕ)) (s : Session) → AreSessionLines s lines → session_lines lines ≡ Ok s
 unfolding session_lines
 complete_lines lines s h =
@@ -90,5 +98,6 @@ complete_lines lines s h =
     = body_again (h.code ++ h.go ∷ []) s.lines s.go (record { front = h.code; last = h.go; all = refl; code_lines = h.code_lines; go_line = h.go_line; steps = h.steps }) in
     rw (head, body) (ap (λ (x : Session). Ok x) (bare_is s h.machine))
 
+-- a text of a session gives it
 pub complete : (text : List ℕ) (s : Session) → IsSession text s → session_of text ≡ Ok s
 complete text s h = complete_lines (lines_of text) s h

@@ -43,9 +43,11 @@ least_by : (b : Bool) → (nat_le 1024 1024 && nat_le 1024 (cond b 262144 419430
 least_by true = refl
 least_by false = refl
 
+-- so 1,024 words are lawful in each
 least_store : (version : ℕ) → IsTrue (is_store_size version 1024)
 least_store version = least_by (version == 1)
 
+-- the line of that size
 least_store_line : IsNumberLine (codes "STORE ") 1024 (codes "STORE " ++ decimal 1024)
 least_store_line = (decimal 1024, refl, decimal_number 1024 (omega arith))
 
@@ -57,6 +59,7 @@ begin_with_version version first v =
     let head : HasHead lines version 1024 (codes "BARE" ∷ go_text 0 ∷ []) = record { first = first; second = second; all = refl; version_line = v; store_line = least_store_line; store_size = least_store version } in
     (bare_session version 1024 [] 0, second ∷ codes "BARE" ∷ go_text 0 ∷ [], joined lines version 1024 (go_text 0 ∷ []) [] 0 head least_body)
 
+-- no line at all
 begin_with_nothing : BeginLines []
 begin_with_nothing =
     let b = begin_with_version 1 (codes "TRIPOS " ++ decimal 1) ((omega arith, omega arith), refl) in
@@ -68,6 +71,7 @@ record IsLawfulHead (version store : ℕ) (first second : List ℕ) : Type 0 whe
   store_line : IsNumberLine (codes "STORE ") store second
   store_size : IsTrue (is_store_size version store)
 
+-- lawful first lines are a head
 head_of : (version store : ℕ) (first second : List ℕ) (rest : List (List ℕ)) → IsLawfulHead version store first second → HasHead (first ∷ second ∷ rest) version store rest
 head_of version store first second rest h = record { first = first; second = second; all = refl; version_line = h.version_line; store_line = h.store_line; store_size = h.store_size }
 
@@ -77,42 +81,53 @@ begin_with_body version store first second front h b =
     let body = front ++ b.0 in
     (bare_session version store b.1 b.2, b.0, joined (first ∷ second ∷ codes "BARE" ∷ body) version store body b.1 b.2 (head_of version store first second (codes "BARE" ∷ body) h) b.3)
 
+-- lawful first lines alone
 begin_with_head : (version store : ℕ) (first second : List ℕ) → IsLawfulHead version store first second → BeginLines (first ∷ second ∷ [])
 begin_with_head version store first second h =
     let b = begin_with_body version store first second [] h (go_text 0 ∷ [], [], 0, least_body) in
     (b.0, codes "BARE" ∷ b.1, b.2)
 
--- ---- the steps of a session
+-- ---- the steps of a session: what is left to do at each
 
+-- the head, once its second line is there
 abbrev before_store : ℕ → List ℕ × List (List ℕ) → Result (ℕ × ℕ × List (List ℕ)) Refusal
 before_store version second = store_line version second.0 >>= λ store. Ok (version, store, second.1)
 
+-- the head, once its version is read
 abbrev before_second : List (List ℕ) → ℕ → Result (ℕ × ℕ × List (List ℕ)) Refusal
 before_second rest version = first_line 2 rest >>= before_store version
 
+-- the head, once its first line is there
 abbrev before_version : List ℕ × List (List ℕ) → Result (ℕ × ℕ × List (List ℕ)) Refusal
 before_version first = version_line first.0 >>= before_second first.1
 
+-- the session, once its body is read
 abbrev before_session : ℕ × ℕ × List (List ℕ) → List SessionLine × ℕ → Result Session Refusal
 before_session head body = Ok (bare_session head.0 head.1 body.0 body.1)
 
+-- the session, once its third line is accepted
 abbrev before_body : ℕ × ℕ × List (List ℕ) → List (List ℕ) → Unit {0} → Result Session Refusal
 before_body head rest bare = body_lines rest >>= before_session head
 
+-- the session, once its third line is there
 abbrev before_bare : ℕ × ℕ × List (List ℕ) → List ℕ × List (List ℕ) → Result Session Refusal
 before_bare head third = bare_line third.0 >>= before_body head third.1
 
+-- the session, once its head is read
 abbrev before_third : ℕ × ℕ × List (List ℕ) → Result Session Refusal
 before_third head = first_line 3 head.2 >>= before_bare head
 
 -- ---- where a session stops
 
+-- a reading of a session stops at a line, or ends for want of one
 abbrev StopsOrEnds : List (List ℕ) → Refusal → Type 0
 StopsOrEnds lines d = StopsAt session_lines BeginLines 1 lines d ⊎ EndsAt BeginLines 1 lines d
 
+-- a reading that wants one more line
 ends : (lines : List (List ℕ)) (n : ℕ) (d : Refusal) → n ≡ 1 + length lines → refusal n 3 ≡ d → BeginLines lines → EndsAt BeginLines 1 lines d
 ends lines n d len e b = record { line = sym (ap (λ (r : Refusal). r.line) e) ∙ len; code = sym (ap (λ (r : Refusal). r.code) e); before = b }
 
+-- a first line that is refused
 stops_at_first : (first : List ℕ) (rest : List (List ℕ)) (d : Refusal) → version_line first ≡ Err d → StopsAt session_lines BeginLines 1 (first ∷ rest) d
 unfolding head_lines session_lines
 stops_at_first first rest d e = record {
@@ -125,6 +140,7 @@ stops_at_first first rest d e = record {
   stays = λ more. stop (head_lines (first ∷ more)) before_third d (stop (version_line first) (before_second more) d e);
 }
 
+-- a second line that is refused
 stops_at_second : (first second : List ℕ) (version : ℕ) (rest : List (List ℕ)) (d : Refusal) → version_line first ≡ Ok version → store_line version second ≡ Err d → StopsAt session_lines BeginLines 1 (first ∷ second ∷ rest) d
 unfolding head_lines session_lines
 stops_at_second first second version rest d v e = record {
@@ -137,6 +153,7 @@ stops_at_second first second version rest d v e = record {
   stays = λ more. stop (head_lines (first ∷ second ∷ more)) before_third d (rw (v, e) refl);
 }
 
+-- a third line that is refused
 stops_at_third : (first second third : List ℕ) (version store : ℕ) (rest : List (List ℕ)) (d : Refusal) → IsLawfulHead version store first second → bare_line third ≡ Err d
     → StopsAt session_lines BeginLines 1 (first ∷ second ∷ third ∷ rest) d
 unfolding session_lines
@@ -150,6 +167,7 @@ stops_at_third first second third version store rest d h e = record {
   stays = λ more. rw (head_again (first ∷ second ∷ third ∷ more) version store (third ∷ more) (head_of version store first second (third ∷ more) h), e) refl;
 }
 
+-- a line of the body that is refused
 stops_in_body : (first second : List ℕ) (version store : ℕ) (body : List (List ℕ)) (d : Refusal) → IsLawfulHead version store first second → StopsAt body_lines BeginBody 4 body d
     → StopsAt session_lines BeginLines 1 (first ∷ second ∷ codes "BARE" ∷ body) d
 unfolding session_lines
@@ -164,6 +182,7 @@ stops_in_body first second version store body d h s = record {
       rw (head_again (first ∷ second ∷ rest) version store rest (head_of version store first second rest h), s.stays more) refl;
 }
 
+-- a body that is refused
 body_or_end : (first second : List ℕ) (version store : ℕ) (body : List (List ℕ)) (d : Refusal) → IsLawfulHead version store first second → body_lines body ≡ Err d
     → StopsOrEnds (first ∷ second ∷ codes "BARE" ∷ body) d
 body_or_end first second version store body d h e =
@@ -172,6 +191,7 @@ body_or_end first second version store body d h e =
       | inr s ↦ inr (record { line = omega (arith, s.line); code = s.code; before = begin_with_body version store first second body h s.before })
     ]
 
+-- lines that are refused after lawful first lines
 after_head : (first second : List ℕ) (version store : ℕ) (rest : List (List ℕ)) (d : Refusal) → IsLawfulHead version store first second → before_third (version, store, rest) ≡ Err d → StopsOrEnds (first ∷ second ∷ rest) d
 after_head first second version store [] d h e =
     inr (ends (first ∷ second ∷ []) 3 d refl (err_is {A = Session} (refusal 3 3) d e) (begin_with_head version store first second h))
@@ -185,6 +205,7 @@ after_head first second version store (third ∷ rest) d h e =
           ]
     ]
 
+-- lines that are refused after a lawful version line
 after_version : (first : List ℕ) (version : ℕ) (rest : List (List ℕ)) (d : Refusal) → version_line first ≡ Ok version → before_second rest version ≡ Err d → StopsOrEnds (first ∷ rest) d
 after_version first version [] d v e =
     inr (ends (first ∷ []) 2 d refl (err_is {A = ℕ × ℕ × List (List ℕ)} (refusal 2 3) d e) (begin_with_version version first (version_ok first version v)))
@@ -194,6 +215,7 @@ after_version first version (second ∷ rest) d v e =
       | inr p ↦ cc p.2
     ]
 
+-- lines that are refused in their head
 after_first : (first : List ℕ) (rest : List (List ℕ)) (d : Refusal) → head_lines (first ∷ rest) ≡ Err d → StopsOrEnds (first ∷ rest) d
 unfolding head_lines
 after_first first rest d e =
@@ -202,11 +224,13 @@ after_first first rest d e =
       | inr p ↦ after_version first p.0 rest d p.1 p.2
     ]
 
+-- lines that are refused after their head
 after_good_head : (lines : List (List ℕ)) (head : ℕ × ℕ × List (List ℕ)) (d : Refusal) → HasHead lines head.0 head.1 head.2 → before_third head ≡ Err d → StopsOrEnds lines d
 after_good_head lines head d h e =
     let lawful : IsLawfulHead head.0 head.1 h.first h.second = record { version_line = h.version_line; store_line = h.store_line; store_size = h.store_size } in
     subst (λ (ls : List (List ℕ)). StopsOrEnds ls d) (sym h.all) (after_head h.first h.second head.0 head.1 head.2 d lawful e)
 
+-- lines that are refused
 pub session_err : (lines : List (List ℕ)) (d : Refusal) → session_lines lines ≡ Err d → StopsAt session_lines BeginLines 1 lines d ⊎ EndsAt BeginLines 1 lines d
 unfolding head_lines session_lines
 session_err [] d e = inr (ends [] 1 d refl (err_is {A = Session} (refusal 1 3) d e) begin_with_nothing)

@@ -15,6 +15,7 @@ use native.Mathlib.Numerals.{unary_clauses}
 abbrev pub HasNoLf : List ℕ → Type 0
 HasNoLf line = AllByRecursion (λ c. c ≢ 10) line
 
+-- a choice behind a byte
 cons_cond : (b : Bool) (c : ℕ) (xs ys : List ℕ) → cond b (c ∷ xs) (c ∷ ys) ≡ c ∷ cond b xs ys
 cons_cond true c xs ys = refl
 cons_cond false c xs ys = refl

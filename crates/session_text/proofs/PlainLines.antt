@@ -18,20 +18,24 @@ use Rattle.session_text.proofs.LineEnds.{HasNoLf, lines_at_lf, strip_behind}
 abbrev pub IsPlainByte : ℕ → Type 0
 IsPlainByte c = (c ≢ 10) × (c ≢ 13)
 
+-- and a line of such bytes
 abbrev pub IsPlain : List ℕ → Type 0
 IsPlain line = AllByRecursion IsPlainByte line
 
 -- ---- lines
 
+-- such a line has no LF
 plain_has_no_lf : (line : List ℕ) → IsPlain line → HasNoLf line
 plain_has_no_lf [] h = tt
 plain_has_no_lf (c ∷ cs) h = (h.0.0, plain_has_no_lf cs h.1)
 
+-- and no CR at its end
 strip_plain : (line : List ℕ) → IsPlain line → strip_carriage_return line ≡ line
 strip_plain [] h = refl
 strip_plain (c ∷ []) h = let ne : c ≢ 13 = h.0.1 in grind arith
 strip_plain (c ∷ d ∷ more) h = strip_behind c d more ∙ ap (λ (l : List ℕ). c ∷ l) (strip_plain (d ∷ more) h.1)
 
+-- such lines are the lines of their text
 pub lines_of_text_of_lines : (lines : List (List ℕ)) → AllByRecursion IsPlain lines → lines_of (text_of_lines lines) ≡ lines
 lines_of_text_of_lines [] h = refl
 lines_of_text_of_lines (l ∷ ls) h =
@@ -40,6 +44,7 @@ lines_of_text_of_lines (l ∷ ls) h =
 
 -- ---- which lines are plain
 
+-- two such lines, one after the other
 pub plain_append : (a b : List ℕ) → IsPlain a → IsPlain b → IsPlain (a ++ b)
 plain_append [] b h k = k
 plain_append (c ∷ cs) b h k = (h.0, plain_append cs b h.1 k)
@@ -48,6 +53,7 @@ plain_append (c ∷ cs) b h k = (h.0, plain_append cs b h.1 k)
 abbrev is_plain_byte : ℕ → Bool
 is_plain_byte c = not (c == 10) && not (c == 13)
 
+-- a literal that passes the test
 pub plain_literal : (line : List ℕ) → list_all is_plain_byte line ≡ true → IsPlain line
 plain_literal [] e = tt
 plain_literal (c ∷ cs) e =
@@ -57,16 +63,20 @@ plain_literal (c ∷ cs) e =
     let cr : not (c == 13) ≡ true = q.1 in
     ((grind (arith, nat_tests), grind (arith, nat_tests)), plain_literal cs p.1)
 
+-- decimal digits
 pub plain_digits : (digits : List ℕ) → AllDigits 10 digits → IsPlain digits
 plain_digits [] h = tt
 plain_digits (c ∷ cs) h = let r = digit_from_value c h.0 in ((λ e. absurd (omega arith), λ e. absurd (omega arith)), plain_digits cs h.1)
 
+-- a number that is printed
 pub plain_decimal : (n : ℕ) → n < 2 ^ 64 → IsPlain (decimal n)
 plain_decimal n lt = plain_digits (decimal n) (decimal_is_IsNumeral n lt).0.1
 
+-- a hex digit
 pub plain_hex_digit : (c : ℕ) → is_hex_digit c ≡ true → IsPlainByte c
 plain_hex_digit c h = (λ e. cc (subst (λ (v : ℕ). is_hex_digit v ≡ true) e h), λ e. cc (subst (λ (v : ℕ). is_hex_digit v ≡ true) e h))
 
+-- bytes that are printed in hex
 pub plain_hex : (bytes : List ℕ) → IsBytes bytes → IsPlain (encode_lower bytes)
 plain_hex bytes h =
     let digits = encode_lower bytes in

@@ -23,9 +23,11 @@ pub Prints-cut : {T E : Type 0} (h m k : Option (List ℕ)) (a b rest : List ℕ
 Prints-cut h m k a b rest (Ok x) e f p q = absurd (cc f)
 Prints-cut h m k a b rest (Err d) e f p q = AppendsPrefix-then h m k a (b ++ rest) p (AppendsPrefix-more m k b rest q)
 
+-- the text of lines, one after another
 pub text_of_lines-append : (a b : List (List ℕ)) → text_of_lines (a ++ b) ≡ text_of_lines a ++ text_of_lines b
 text_of_lines-append a b = flat_map-append (λ line. line ++ 10 ∷ []) a b
 
+-- the hex digits of bytes, one after another
 pub encode_lower-append : (a b : List ℕ) → encode_lower (a ++ b) ≡ encode_lower a ++ encode_lower b
 unfolding encode_with
 encode_lower-append [] b = refl

@@ -18,21 +18,25 @@ use Rattle.session_text.proofs.Complete.{complete}
 use Rattle.session_text.proofs.PlainLines.{IsPlain, lines_of_text_of_lines, plain_append, plain_decimal, plain_hex, plain_literal}
 use Rattle.session_text.proofs.Words.{decimal_number}
 
+-- a printed line of code is one
 one_again : (n k : ℕ) (form : LineForm) → IsCode form → k ≡ n → IsCodeLine n (record { line = k; form = form }) (form_text form)
 one_again n k (Code bytes) h e =
     (encode_lower bytes, bytes, refl, decode_of-encode_lower bytes h, ap (λ (m : ℕ). record { line = m; form = Code bytes }) e)
 one_again n k (File name bytes) h e = absurd h
 one_again n k (Task id pri stack names) h e = absurd h
 
+-- and so are several
 code_again : (n : ℕ) (lines : List SessionLine) → AllByRecursion (λ line. IsCode line.form) lines → AreNumbered n lines → AreCodeLines n lines (code_text lines)
 code_again n [] h k = tt
 code_again n (line ∷ lines) h k = (one_again n line.line line.form h.0 k.0, code_again (n + 1) lines h.1 k.1)
 
+-- a printed line of code has no LF and no CR
 plain_form : (form : LineForm) → IsCode form → IsPlain (form_text form)
 plain_form (Code bytes) h = plain_append (codes ":") (encode_lower bytes) (plain_literal (codes ":") refl) (plain_hex bytes h)
 plain_form (File name bytes) h = absurd h
 plain_form (Task id pri stack names) h = absurd h
 
+-- nor have several and a last one
 plain_lines : (lines : List SessionLine) (last : List ℕ) → AllByRecursion (λ line. IsCode line.form) lines → IsPlain last → AllByRecursion IsPlain (code_text lines ++ last ∷ [])
 plain_lines [] last h p = (p, tt)
 plain_lines (line ∷ lines) last h p = (plain_form line.form h.0, plain_lines lines last h.1 p)
@@ -45,6 +49,7 @@ store_bound version store e =
     let most : nat_le store (most_words version) ≡ true = b.1 in
     grind (arith, nat_tests)
 
+-- the canonical text is a text of its session
 pub printed_again : (s : Session) → IsBareSession s → AreNumbered 4 s.lines → session_of (canonical s) ≡ Ok s
 unfolding canonical
 printed_again s h k =

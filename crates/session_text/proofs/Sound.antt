@@ -28,6 +28,7 @@ bind_ok (Err d) f y e = cc
 abbrev pub done : {A : Type 0} → A → Result A Refusal
 done x = Ok x
 
+-- they are one value
 pub ok_is : {A : Type 0} (x y : A) → done x ≡ done y → x ≡ y
 ok_is x y e = cc
 
@@ -36,21 +37,26 @@ guard_ok : {A : Type 0} (b : Bool) (x : A) (d : Refusal) (y : A) → cond b (Ok 
 guard_ok true x d y e = (refl, cc)
 guard_ok false x d y e = cc
 
+-- a value that is there
 ok_or_some : {A : Type 0} (o : Option A) (d : Refusal) (x : A) → ok_or o d ≡ Ok x → o ≡ Some x
 ok_or_some None d x e = cc
 ok_or_some (Some y) d x e = cc
 
+-- the first line was one
 pub first_ok : (n : ℕ) (lines : List (List ℕ)) (x : List ℕ × List (List ℕ)) → first_line n lines ≡ Ok x → lines ≡ x.0 ∷ x.1
 first_ok n [] x e = cc
 first_ok n (line ∷ lines) x e = let p : (line, lines) ≡ x = cc in ap (λ (q : List ℕ × List (List ℕ)). q.0 ∷ q.1) p
 
+-- the number behind a word, by what follows the word
 number_in : (word line : List ℕ) (n : ℕ) (o : Option (List ℕ)) → after_word word line ≡ o → option_and_then number_of o ≡ Some n → IsNumberLine word n line
 number_in word line n None e f = cc
 number_in word line n (Some digits) e f = (digits, after_ok word line digits e, number_ok digits n f)
 
+-- a line that gave a number is a word and the number
 pub number_after_ok : (word : List ℕ) (n : ℕ) (line : List ℕ) (v : ℕ) → number_after word n line ≡ Ok v → IsNumberLine word v line
 number_after_ok word n line v e = number_in word line v (after_word word line) refl (ok_or_some _ _ v e)
 
+-- and the number is in its range
 pub number_line_ok : (word : List ℕ) (is_in_range : ℕ → Bool) (n : ℕ) (line : List ℕ) (v : ℕ) → number_line word is_in_range n line ≡ Ok v → IsNumberLine word v line × (is_in_range v ≡ true)
 number_line_ok word is_in_range n line v e =
     let b = bind_ok (number_after word n line) (λ x. cond (is_in_range x) (Ok x) (Err (refusal n 2))) v e in
@@ -62,6 +68,7 @@ version_is : (line : List ℕ) (n v : ℕ) → n < 10 → 1 ≤ n → n ≤ 2 �
 version_is line n v digit low high e same =
     subst (λ (x : ℕ). IsVersionLine x line) same ((low, high), e ∙ ap (λ (d : List ℕ). codes "TRIPOS " ++ d) (sym (decimal_digit n digit)))
 
+-- a line that gave a version, by the two tests
 version_by : (line : List ℕ) (v : ℕ) (one two : Bool) → bytes_eq line (codes "TRIPOS 1") ≡ one → bytes_eq line (codes "TRIPOS 2") ≡ two
     → cond one (Ok 1) (cond two (Ok 2) (Err (refusal 1 1))) ≡ Ok v → IsVersionLine v line
 version_by line v true two e f g =
@@ -70,6 +77,7 @@ version_by line v false true e f g =
     version_is line 2 v (omega arith) (omega arith) (omega arith) ((bytes_eq-Decides line (codes "TRIPOS 2")).0 f) cc
 version_by line v false false e f g = cc
 
+-- a line that gave a version is its line
 pub version_ok : (line : List ℕ) (v : ℕ) → version_line line ≡ Ok v → IsVersionLine v line
 version_ok line v e = version_by line v (bytes_eq line (codes "TRIPOS 1")) (bytes_eq line (codes "TRIPOS 2")) refl refl e
 
@@ -88,6 +96,7 @@ head_by lines x first version second store e1 e2 e3 e4 made =
       store_size = n.1;
     })
 
+-- lines that gave a head begin with it
 pub head_ok : (lines : List (List ℕ)) (x : ℕ × ℕ × List (List ℕ)) → head_lines lines ≡ Ok x → HasHead lines x.0 x.1 x.2
 unfolding head_lines
 head_ok lines x e =
@@ -103,13 +112,16 @@ tick_refused line u e =
     let b = bind_ok (number_line (codes "TICK ") (λ n. nat_le 1 n && nat_le n 1000000) 3 line) (λ period. Err (refusal 3 0)) u e in
     let f = b.2 in cc
 
+-- a third line that was accepted, by the test
 bare_by : (line : List ℕ) (u : Unit {0}) (b : Bool) → bytes_eq line (codes "BARE") ≡ b → cond b (Ok tt) (tick_line line) ≡ Ok u → line ≡ codes "BARE"
 bare_by line u true e f = (bytes_eq-Decides line (codes "BARE")).0 e
 bare_by line u false e f = absurd (tick_refused line u f)
 
+-- a third line that was accepted is `BARE`
 pub bare_ok : (line : List ℕ) (u : Unit {0}) → bare_line line ≡ Ok u → line ≡ codes "BARE"
 bare_ok line u e = bare_by line u (bytes_eq line (codes "BARE")) refl e
 
+-- digits that gave bytes
 pub bytes_ok : (n : ℕ) (r : Result (List ℕ) FromHexError) (bytes : List ℕ) → bytes_or_refusal n r ≡ Ok bytes → r ≡ Ok bytes
 bytes_ok n (Ok b) bytes e = cc
 bytes_ok n (Err d) bytes e = cc
@@ -125,6 +137,7 @@ one_more n line lines x digits bytes more w d rest made =
       code_lines = ((digits, bytes, after_ok (codes ":") line digits w, d, refl), rest.code_lines);
     })
 
+-- lines that gave code, by what follows a colon in the first of them
 code_by : (n : ℕ) (line : List ℕ) (lines : List (List ℕ)) (x : List SessionLine × List (List ℕ)) (o : Option (List ℕ)) → after_word (codes ":") line ≡ o
     → ((y : List SessionLine × List (List ℕ)) → code_lines (n + 1) lines ≡ Ok y → HasCode (n + 1) lines y.0 y.1)
     → option_map_or (λ digits. with_code n (decode_of digits) (code_lines (n + 1) lines)) o (Ok ([], line ∷ lines)) ≡ Ok x
@@ -137,12 +150,14 @@ code_by n line lines x (Some digits) w next e =
     let b = bind_ok (code_lines (n + 1) lines) (λ more. Ok (code_line n a.0 ∷ more.0, more.1)) x a.2 in
     one_more n line lines x digits a.0 b.0 w (bytes_ok n (decode_of digits) a.0 a.1) (next b.0 b.1) (ok_is (code_line n a.0 ∷ b.0.0, b.0.1) x b.2)
 
+-- lines that gave code begin with it
 pub code_ok : (n : ℕ) (lines : List (List ℕ)) (x : List SessionLine × List (List ℕ)) → code_lines n lines ≡ Ok x → HasCode n lines x.0 x.1
 code_ok n [] x e =
     let made : ([], []) ≡ x = cc in
     code_same n [] ([], []) x made (record { front = []; all = refl; code_lines = tt })
 code_ok n (line ∷ lines) x e = code_by n line lines x (after_word (codes ":") line) refl (λ y q. code_ok (n + 1) lines y q) e
 
+-- nothing followed
 end_ok : (n : ℕ) (lines : List (List ℕ)) (u : Unit {0}) → end_of_text n lines ≡ Ok u → lines ≡ []
 end_ok n [] u e = refl
 end_ok n (line ∷ lines) u e = cc
@@ -163,6 +178,7 @@ body_by lines x code n last go h e1 e2 e3 made =
       steps = grind (arith, nat_tests);
     })
 
+-- lines that gave a body are one
 pub body_ok : (lines : List (List ℕ)) (x : List SessionLine × ℕ) → body_lines lines ≡ Ok x → HasBody lines x.0 x.1
 unfolding body_lines
 body_ok lines x e =
@@ -173,6 +189,7 @@ body_ok lines x e =
     let d = bind_ok (end_of_text (5 + length a.0.0) b.0.1) (λ end. Ok (a.0.0, c.0)) x c.2 in
     body_by lines x a.0 n b.0 c.0 (code_ok 4 lines a.0 a.1) b.1 c.1 (end_ok (5 + length a.0.0) b.0.1 d.0 d.1) (ok_is (a.0.0, c.0) x d.2)
 
+-- the lines of equal sessions
 session_same : (lines : List (List ℕ)) (x y : Session) → x ≡ y → AreSessionLines x lines → AreSessionLines y lines
 session_same lines x y e h = subst (λ (z : Session). AreSessionLines z lines) e h
 
@@ -198,6 +215,7 @@ session_by lines s head third body h e1 e2 b made =
       machine = record { bare = refl; period = refl; resident = refl; debug = refl; keys = refl };
     })
 
+-- lines that gave a session are its lines
 sound_lines : (lines : List (List ℕ)) (s : Session) → session_lines lines ≡ Ok s → AreSessionLines s lines
 unfolding session_lines
 sound_lines lines s e =
@@ -207,5 +225,6 @@ sound_lines lines s e =
     let d = bind_ok (body_lines b.0.1) (λ body. Ok (bare_session a.0.0 a.0.1 body.0 body.1)) s c.2 in
     session_by lines s a.0 b.0 d.0 (head_ok lines a.0 a.1) (first_ok 3 a.0.2 b.0 b.1) (bare_ok b.0.0 c.0 c.1) (body_ok b.0.1 d.0 d.1) (ok_is (bare_session a.0.0 a.0.1 d.0.0 d.0.1) s d.2)
 
+-- a text that gave a session is a text of it
 pub sound : (text : List ℕ) (s : Session) → session_of text ≡ Ok s → IsSession text s
 sound text s e = sound_lines (lines_of text) s e

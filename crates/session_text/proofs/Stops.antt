@@ -34,15 +34,18 @@ pub record EndsAt (P : List (List ℕ) → Type 0) (n : ℕ) (lines : List (List
 
 -- ---- lines of code
 
+-- lines of some code
 abbrev pub AreCode : ℕ → List (List ℕ) → Type 0
 AreCode n front = (code : List SessionLine) × AreCodeLines n code front
 
+-- code has as many lines as its text
 pub length-code : (n : ℕ) (code : List SessionLine) (front : List (List ℕ)) → AreCodeLines n code front → length code ≡ length front
 length-code n [] [] h = refl
 length-code n [] (l ∷ ls) h = absurd h
 length-code n (c ∷ cs) [] h = absurd h
 length-code n (c ∷ cs) (l ∷ ls) h = ap (λ k. suc k) (length-code (n + 1) cs ls h.1)
 
+-- code stops after its first line
 code_more : (n : ℕ) (line : List ℕ) (lines : List (List ℕ)) (digits bytes : List ℕ) (d : Refusal) → after_word (codes ":") line ≡ Some digits → decode_of digits ≡ Ok bytes
     → StopsAt (code_lines (n + 1)) (AreCode (n + 1)) (n + 1) lines d → StopsAt (code_lines n) (AreCode n) n (line ∷ lines) d
 code_more n line lines digits bytes d w e s = record {
@@ -55,6 +58,7 @@ code_more n line lines digits bytes d w e s = record {
   stays = λ rest. rw (w, e, s.stays rest) refl;
 }
 
+-- code stops at its first line
 code_here : (n : ℕ) (line : List ℕ) (lines : List (List ℕ)) (digits : List ℕ) (d : Refusal) → after_word (codes ":") line ≡ Some digits → bytes_or_refusal n (decode_of digits) ≡ Err d
     → StopsAt (code_lines n) (AreCode n) n (line ∷ lines) d
 code_here n line lines digits d w e =
@@ -69,13 +73,15 @@ code_here n line lines digits d w e =
       stays = λ rest. rw (w, e) refl;
     }
 
--- the steps of a line of code, after its bytes
+-- code, once the lines after its first are read
 abbrev before_more : ℕ → List ℕ → List SessionLine × List (List ℕ) → Result (List SessionLine × List (List ℕ)) Refusal
 before_more n bytes more = Ok (code_line n bytes ∷ more.0, more.1)
 
+-- code, once the bytes of its first line are read
 abbrev before_others : ℕ → Result (List SessionLine × List (List ℕ)) Refusal → List ℕ → Result (List SessionLine × List (List ℕ)) Refusal
 before_others n others bytes = others >>= before_more n bytes
 
+-- lines of code that are refused, by what follows a colon in the first of them
 code_err_by : (n : ℕ) (line : List ℕ) (lines : List (List ℕ)) (d : Refusal) (o : Option (List ℕ)) → after_word (codes ":") line ≡ o
     → (code_lines (n + 1) lines ≡ Err d → StopsAt (code_lines (n + 1)) (AreCode (n + 1)) (n + 1) lines d)
     → option_map_or (λ digits. with_code n (decode_of digits) (code_lines (n + 1) lines)) o (Ok ([], line ∷ lines)) ≡ Err d
@@ -91,6 +97,7 @@ code_err_by n line lines d (Some digits) w next e =
           ]
     ]
 
+-- lines of code that are refused
 code_err : (n : ℕ) (lines : List (List ℕ)) (d : Refusal) → code_lines n lines ≡ Err d → StopsAt (code_lines n) (AreCode n) n lines d
 code_err n [] d e = cc e
 code_err n (line ∷ lines) d e = code_err_by n line lines d (after_word (codes ":") line) refl (λ q. code_err (n + 1) lines d q) e
@@ -108,6 +115,7 @@ code_last_by n line lines x l more (Some digits) w next e f =
     let b = bind_ok (code_lines (n + 1) lines) (before_more n a.0) x a.2 in
     next b.0 b.1 (ap (λ (y : List SessionLine × List (List ℕ)). y.1) (ok_is (code_line n a.0 ∷ b.0.0, b.0.1) x b.2) ∙ f)
 
+-- the same of all lines
 code_last : (n : ℕ) (lines : List (List ℕ)) (x : List SessionLine × List (List ℕ)) (l : List ℕ) (more : List (List ℕ)) → code_lines n lines ≡ Ok x → x.1 ≡ l ∷ more → after_word (codes ":") l ≡ None
 code_last n [] x l more e f =
     let none : [] ≡ l ∷ more = ap (λ (y : List SessionLine × List (List ℕ)). y.1) (ok_is ([], []) x e) ∙ f in
@@ -117,6 +125,7 @@ code_last n (line ∷ lines) x l more e f =
 
 -- ---- code and steps
 
+-- lines with which some body begins
 abbrev pub BeginBody : List (List ℕ) → Type 0
 BeginBody front = (more : List (List ℕ)) × (code : List SessionLine) × (go : ℕ) × HasBody (front ++ more) code go
 
@@ -136,13 +145,15 @@ begin_with_code code front h = (
   },
 )
 
--- the steps of a body, after its code
+-- the body, once its steps are read
 abbrev before_end : List SessionLine → List (List ℕ) → ℕ → Result (List SessionLine × ℕ) Refusal
 before_end code rest go = end_of_text (5 + length code) rest >>= λ end. Ok (code, go)
 
+-- the body, once its last line is there
 abbrev before_go : List SessionLine → List ℕ × List (List ℕ) → Result (List SessionLine × ℕ) Refusal
 before_go code last = go_line (4 + length code) last.0 >>= before_end code last.1
 
+-- the body, once its code is read
 abbrev before_last : List SessionLine × List (List ℕ) → Result (List SessionLine × ℕ) Refusal
 before_last code = first_line (4 + length code.0) code.1 >>= before_go code.0
 
@@ -217,6 +228,7 @@ body_stops_after_go lines code l m more go d h none g e =
       stays = λ rest. rw (append_assoc h.front (l ∷ []) (m ∷ rest), code_again 4 code h.front l (m ∷ rest) none h.code_lines, g) (ap (λ (r : Refusal). Err r) e);
     }
 
+-- a body that is refused after its code
 body_err_after : (lines : List (List ℕ)) (code : List SessionLine) (rest : List (List ℕ)) (d : Refusal) → HasCode 4 lines code rest → code_lines 4 lines ≡ Ok (code, rest) → before_last (code, rest) ≡ Err d
     → StopsAt body_lines BeginBody 4 lines d ⊎ EndsAt BeginBody 4 lines d
 body_err_after lines code [] d h r e = inr (body_ends lines code d h (err_is {A = List SessionLine × ℕ} (refusal (4 + length code) 3) d e))
@@ -232,6 +244,7 @@ body_err_after lines code (l ∷ m ∷ more) d h r e =
       | inr p ↦ inl (body_stops_after_go lines code l m more p.0 d h none p.1 (err_is {A = List SessionLine × ℕ} (refusal (5 + length code) 1) d p.2))
     ]
 
+-- a body that is refused
 pub body_err : (lines : List (List ℕ)) (d : Refusal) → body_lines lines ≡ Err d → StopsAt body_lines BeginBody 4 lines d ⊎ EndsAt BeginBody 4 lines d
 unfolding body_lines
 body_err lines d e =

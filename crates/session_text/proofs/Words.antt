@@ -25,6 +25,7 @@ after_again word rest =
     let t = (starts_is Decides-eqb (word ++ rest) word (starts_with nat_eq (word ++ rest) word) refl).1 rest refl in
     rw (t, drop-append_seam word rest) refl
 
+-- the digits of a number, by the test
 numerals : IsNumeralModel (λ ds. all_ascii_digits ds ≡ true) (digits_value 10)
 numerals = numerals_by_value _ tells_all_ascii_digits
 
@@ -32,6 +33,7 @@ numerals = numerals_by_value _ tells_all_ascii_digits
 abbrev is_number : List ℕ → Bool
 is_number digits = all_ascii_digits digits && nat_le 1 (length digits) && nat_le (length digits) 10
 
+-- what gave a number is one
 pub number_ok : (digits : List ℕ) (n : ℕ) → number_of digits ≡ Some n → IsNumber digits n
 number_ok digits n e =
     let p = cond_some (is_number digits) (digits_value 10 digits) n e in
@@ -41,6 +43,7 @@ number_ok digits n e =
     let few : nat_le (length digits) 10 ≡ true = a.1 in
     record { numeral = (grind (arith, nat_tests), numerals.to digits b.0); short = grind (arith, nat_tests); value = p.1 }
 
+-- a number gives itself
 pub number_again : (digits : List ℕ) (n : ℕ) → IsNumber digits n → number_of digits ≡ Some n
 number_again digits n h =
     let all : all_ascii_digits digits ≡ true = numerals.from digits h.numeral.1 in

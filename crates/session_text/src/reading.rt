@@ -15,9 +15,10 @@ use std::alloc::Global;
 
 const MOST_STEPS: u64 = 4_000_000_000;
 
-/// The session of a text. `Bad` comes exactly where the text is none, with the first line in error, from 1, and its code:
-/// 1 where no such form may stand there, 2 where a number is out of its range, 3 where the text ended before its `GO`
-/// line, which is one more than the lines that there are, and 0 at a lawful `TICK` line, which is not served yet.
+/// The session of a text. Unless memory runs out, `Bad` comes exactly where the text is none, with the first line in
+/// error, from 1, and its code: 1 where no such form may stand there, 2 where a number is out of its range, 3 where the
+/// text ended before its `GO` line, which is one more than the lines that there are, and 0 at a lawful `TICK` line, which
+/// is not served yet. `WantMemory` comes only where memory could not be had.
 pub fn read_session(alloc: Global, text: &[u8]) -> Result<Session, SessionEnd>
     requires { length text.now < 2 ^ 32 }
     ensures value { Gives (λ s. s) result (session_of text.now) }

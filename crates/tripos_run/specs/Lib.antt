@@ -6,3 +6,4 @@ pub mod Booting
 pub mod Texts
 pub mod Answer
 pub mod Reading
+pub mod Exit

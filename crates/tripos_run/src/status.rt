@@ -1,4 +1,6 @@
 // How a call of the program ends.
+ghost use Rattle.std.specs.Prelude.{◌≡◌};
+ghost use Rattle.tripos_run.specs.Exit.{exit_code};
 
 /// How a call ended. What it wrote stands beside each.
 #[derive(Clone, Copy, Debug, PartialEq, Eq)]
@@ -24,7 +26,9 @@ pub enum Status {
 }
 
 /// The exit status of the program.
-pub fn exit_code(status: Status) -> u8 {
+pub fn exit_code(status: Status) -> u8
+    ensures { result ≡ exit_code status }
+{
     match status {
         Status::Done => 0,
         Status::GuestFault => 10,

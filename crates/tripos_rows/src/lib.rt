@@ -1,0 +1,5 @@
+// Tests that cross crates, and nothing else.
+#![tactic(auto)]
+
+#[cfg(test)]
+mod instructions;
