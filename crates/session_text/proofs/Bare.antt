@@ -7,7 +7,7 @@ use Rattle.session_text.specs.SessionForm.{AreCodeLines, AreSessionLines, IsCode
 use Rattle.session_text.specs.SessionReading.{session_of}
 use Rattle.session_text.specs.Answers.{Gives}
 use Rattle.session_text.specs.Canonical.{AreNumbered, IsBareSession, IsCode}
-use Rattle.session_text.specs.TextLines.{lines_of}
+use Rattle.text_lines.specs.Lines.{lines_of}
 use Rattle.session_text.specs.declared.ends.SessionEnd.{SessionEnd}
 use Rattle.session_text.specs.declared.sessions.Session.{Session}
 use Rattle.session_text.specs.declared.sessions.SessionLine.{SessionLine}

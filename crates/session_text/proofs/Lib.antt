@@ -1,4 +1,3 @@
-pub mod LineEnds
 pub mod CodeLines
 pub mod Words
 pub mod Parts

@@ -8,7 +8,7 @@ use Rattle.hex.specs.Hex.{encode_lower}
 use Rattle.hex.proofs.HexLemmas.{decode_of-encode_lower}
 use Rattle.session_text.specs.SessionForm.{AreCodeLines, AreSessionLines, IsCodeLine, is_store_size, most_steps, most_words}
 use Rattle.session_text.specs.SessionReading.{session_of}
-use Rattle.session_text.specs.TextLines.{lines_of, text_of_lines}
+use Rattle.text_lines.specs.Lines.{lines_of, text_of_lines}
 use Rattle.session_text.specs.Canonical.{AreNumbered, IsBareSession, IsCode, canonical, canonical_lines, code_text, form_text, go_text}
 use Rattle.session_text.specs.declared.sessions.Session.{Session}
 use Rattle.session_text.specs.declared.sessions.SessionLine.{SessionLine}

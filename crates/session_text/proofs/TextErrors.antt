@@ -6,9 +6,9 @@ use Rattle.std.proofs.Math.Seq.{take-append_seam}
 use Rattle.std.proofs.lemmas.List.Elements.{All-weaker, recursion_from_All}
 use Rattle.hex.specs.Hex.{is_hex_digit}
 use Rattle.hex.proofs.HexLemmas.{decode_of-ok}
-use Rattle.session_text.specs.TextLines.{lines_of, text_of_lines}
+use Rattle.text_lines.specs.Lines.{lines_of, text_of_lines}
 use Rattle.session_text.specs.Fields.{IsNumberLine}
-use Rattle.session_text.specs.Refusal.{Refusal, refusal}
+use Rattle.text_lines.specs.Refusal.{Refusal, refusal}
 use Rattle.session_text.specs.SessionForm.{AreCodeLines, AreSessionLines, IsCodeLine}
 use Rattle.session_text.specs.SessionReading.{session_lines, session_of}
 use Rattle.session_text.specs.FirstError.{BeginSession, EndsEarly, IsFirstError}

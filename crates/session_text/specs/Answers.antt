@@ -1,6 +1,6 @@
 -- What a reading call answers.
 use Rattle.std.specs.Prelude.{◌≡◌, Result, Ok, Err}
-use Rattle.session_text.specs.Refusal.{Refusal, refusal}
+use Rattle.text_lines.specs.Refusal.{Refusal, refusal}
 use Rattle.session_text.specs.declared.ends.SessionEnd.{SessionEnd}
 use Rattle.session_text.specs.declared.ends.SessionEnd.TheVariants.{Bad, WantMemory}
 

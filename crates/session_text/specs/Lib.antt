@@ -1,6 +1,4 @@
-pub mod TextLines
 pub mod Fields
-pub mod Refusal
 pub mod SessionForm
 pub mod SessionReading
 pub mod Answers

@@ -1,7 +1,7 @@
 -- What a session's text is, line by line.
 use Rattle.std.specs.Prelude.{ℕ, ◌≡◌, ◌+◌, ◌%◌, ◌≤◌, ◌&&◌, ◌==◌, if◌then◌else◌, Bool, true, false, IsTrue, List, [], ◌∷◌, ◌++◌, Ok, codes, decimal, nat_le}
 use Rattle.hex.specs.Hex.{decode_of}
-use Rattle.session_text.specs.TextLines.{lines_of}
+use Rattle.text_lines.specs.Lines.{lines_of}
 use Rattle.session_text.specs.Fields.{IsNumberLine}
 use Rattle.session_text.specs.declared.sessions.Session.{Session}
 use Rattle.session_text.specs.declared.sessions.SessionLine.{SessionLine}

@@ -9,7 +9,6 @@ pub mod lists;
 pub mod printing;
 pub mod reading;
 pub mod sessions;
-mod splitting;
 
 pub use ends::SessionEnd;
 pub use lists::{Bytes, Keys, Lines, Names};

@@ -3,13 +3,13 @@ use Rattle.std.specs.Prelude.{ℕ, ◌≡◌, List, [], ◌∷◌, ◌++◌, len
 use Rattle.std.specs.Str.{bytes_eq}
 use Rattle.std.specs.Io.KnownBytes.{Appends, Keeps}
 use Rattle.tp_io.specs.Writing.{AppendsPrefix}
-use Rattle.session_text.specs.Refusal.{Refusal}
+use Rattle.text_lines.specs.Refusal.{Refusal}
 use Rattle.session_text.specs.SessionReading.{session_of}
 use Rattle.session_text.specs.declared.sessions.Session.{Session}
 use Rattle.tripos_run.specs.declared.bare.Stop.{Stop}
 use Rattle.tripos_run.specs.declared.bare.Stop.TheVariants.{Steps, Quit, Fault}
 use Rattle.tripos_run.specs.declared.commands.Command.{Command}
-use Rattle.tripos_run.specs.declared.commands.Command.TheVariants.{Run as RunCommand, Dump as DumpCommand}
+use Rattle.tripos_run.specs.declared.commands.Command.TheVariants.{Run as RunCommand, Dump as DumpCommand, Asm as AsmCommand, Disasm as DisasmCommand}
 use Rattle.tripos_run.specs.declared.status.Status.{Status}
 use Rattle.tripos_run.specs.declared.status.Status.TheVariants.{Done, GuestFault, Usage, Refused, NoBoot, ReadFault, WriteFault, TooLong, WantMemory}
 use Rattle.tripos_run.specs.Booting.{boot, first_regs}
@@ -25,6 +25,8 @@ abbrev pub command_named : List ℕ → Option Command
 command_named word =
     if bytes_eq word (codes "run") then Some RunCommand else
     if bytes_eq word (codes "dump") then Some DumpCommand else
+    if bytes_eq word (codes "asm") then Some AsmCommand else
+    if bytes_eq word (codes "disasm") then Some DisasmCommand else
     None
 
 abbrev pub command_of : List (List ℕ) → Option Command
@@ -42,8 +44,8 @@ status_of (Fault code address task) = GuestFault
 
 -- what a command writes after the closing line: `dump` the words that are not 0
 abbrev pub words_text : Command → List ℕ → List ℕ
-words_text RunCommand words = []
 words_text DumpCommand words = dump_text 0 words
+words_text _ words = []
 
 -- the console bytes, the closing line, and the words where they are asked for
 abbrev pub run_answer : Command → Run → Answer
@@ -58,9 +60,21 @@ abbrev pub session_answer : Command → Result Session Refusal → Answer
 session_answer command (Ok s) = booted_answer command s.go (boot s)
 session_answer command (Err r) = record { status = Refused; bytes = refused_text r }
 
+-- a text that is made of the input, or the refusal of the input
+abbrev pub made_answer : Result (List ℕ) Refusal → Answer
+made_answer (Ok text) = record { status = Done; bytes = text }
+made_answer (Err r) = record { status = Refused; bytes = refused_text r }
+
+-- `asm` writes the module of an assembly text, `disasm` the listing of a module, and the others run a session
+abbrev pub text_answer : Command → List ℕ → Answer
+text_answer AsmCommand text = made_answer (module_text_of text)
+text_answer DisasmCommand text = made_answer (listing_of text)
+text_answer RunCommand text = session_answer RunCommand (session_of text)
+text_answer DumpCommand text = session_answer DumpCommand (session_of text)
+
 unfoldable pub input_answer : Command → List ℕ → Answer
 input_answer command input =
-    if nat_le (length input) limit then session_answer command (session_of input) else
+    if nat_le (length input) limit then text_answer command input else
     record { status = TooLong; bytes = too_long_text }
 
 -- words that are no command get the usage

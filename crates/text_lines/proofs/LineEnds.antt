@@ -8,14 +8,13 @@ use Rattle.std.proofs.lemmas.List.{get_or-take}
 use Rattle.std.proofs.lemmas.List.Elements.{All-from_get_or, recursion_from_All}
 use Rattle.std.proofs.lemmas.List.Quantifiers.{position-Some}
 use Rattle.std.proofs.lemmas.List.Sums.{fails_before_first}
-use Rattle.session_text.specs.TextLines.{lines_of}
+use Rattle.text_lines.specs.Lines.{lines_of}
 use native.Mathlib.Numerals.{unary_clauses}
 
 -- no byte of a line is LF
 abbrev pub HasNoLf : List ℕ → Type 0
 HasNoLf line = AllByRecursion (λ c. c ≢ 10) line
 
--- a choice behind a byte
 cons_cond : (b : Bool) (c : ℕ) (xs ys : List ℕ) → cond b (c ∷ xs) (c ∷ ys) ≡ c ∷ cond b xs ys
 cons_cond true c xs ys = refl
 cons_cond false c xs ys = refl

@@ -1,8 +1,7 @@
 -- Where and why a text is refused.
 use Rattle.std.specs.Prelude.{ℕ, Result, Ok, Err}
 
--- The line, counted from 1, and a code: 1 no such form may stand here, 2 a number is out of its range, 3 the text ended
--- before its `GO` line, 0 the form is not served yet.
+-- the line, counted from 1, and a code, to which each reader of texts gives its meaning
 pub record Refusal : Type 0 where
   pub line : ℕ
   pub code : ℕ
