@@ -1,9 +1,13 @@
 // Code as text: a line for each instruction.
 #![tactic(auto)]
 
+pub mod hunks;
 pub mod lines;
+pub mod listing;
 
+pub use hunks::HunkBytes;
 pub use lines::line_at;
+pub use listing::{disassemble, disassemble_module};
 
 #[cfg(test)]
 mod tests;

@@ -8,7 +8,8 @@ use Rattle.std.proofs.lemmas.Slice.Eq.{bytes_eq-Decides}
 use Rattle.hex.specs.Hex.{decode_of}
 use Rattle.hex.specs.declared.error.FromHexError.{FromHexError}
 use Rattle.session_text.specs.Fields.{IsNumberLine, after_word, number_of}
-use Rattle.text_lines.specs.Refusal.{Refusal, refusal, ◌>>=◌}
+use Rattle.text_lines.specs.Refusal.{Refusal, refusal}
+use Rattle.text_lines.specs.Steps.{◌>>=◌}
 use Rattle.session_text.specs.SessionForm.{AreSessionLines, IsSession, IsVersionLine, code_line, is_store_size, most_steps}
 use Rattle.session_text.specs.SessionReading.{bare_line, bare_session, body_lines, bytes_or_refusal, code_lines, end_of_text, first_line, go_line, head_lines, number_after, number_line, session_lines, session_of, store_line, tick_line, version_line, with_code}
 use Rattle.session_text.specs.declared.sessions.Session.{Session}

@@ -6,7 +6,8 @@ use Rattle.hex.specs.Hex.{decode_of}
 use Rattle.hex.specs.declared.error.FromHexError.{FromHexError}
 use Rattle.text_lines.specs.Lines.{lines_of}
 use Rattle.session_text.specs.Fields.{after_word, number_of}
-use Rattle.text_lines.specs.Refusal.{Refusal, refusal, ◌>>=◌}
+use Rattle.text_lines.specs.Refusal.{Refusal, refusal}
+use Rattle.text_lines.specs.Steps.{◌>>=◌}
 use Rattle.session_text.specs.SessionForm.{code_line, is_store_size, most_steps}
 use Rattle.session_text.specs.declared.sessions.Session.{Session}
 use Rattle.session_text.specs.declared.sessions.SessionLine.{SessionLine}

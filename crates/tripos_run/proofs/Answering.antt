@@ -5,7 +5,6 @@ use Rattle.std.proofs.lemmas.Bool.Decides.{nat_tests}
 use Rattle.std.specs.Io.KnownBytes.{Appends, Consumes, IsAtEnd, Keeps}
 use Rattle.tp_io.specs.Writing.{AppendsPrefix, Prints}
 use Rattle.tp_io.proofs.Appending.{Appends-then, AppendsPrefix-then, AppendsPrefix-more}
-use Rattle.session_text.specs.SessionReading.{session_of}
 use Rattle.word_store.specs.declared.registers.Regs.{Regs}
 use Rattle.tripos_run.specs.declared.bare.Stop.{Stop}
 use Rattle.tripos_run.specs.declared.bare.Stop.TheVariants.{Steps, Quit, Fault}
@@ -14,8 +13,8 @@ use Rattle.tripos_run.specs.declared.status.Status.{Status}
 use Rattle.tripos_run.specs.declared.status.Status.TheVariants.{Done, GuestFault, Usage, Refused, NoBoot, ReadFault, WriteFault, TooLong, WantMemory}
 use Rattle.tripos_run.specs.Running.{HasRun, Run}
 use Rattle.tripos_run.specs.Texts.{closing_text, too_long_text, usage_text}
-use Rattle.tripos_run.specs.Answer.{Answer, Answers, command_answer, input_answer, limit, run_answer, session_answer, status_of, words_text}
-use Rattle.tripos_run.specs.Reading.{IsInput, IsSessionEnd, Leaves, TakesSome}
+use Rattle.tripos_run.specs.Answer.{Answer, Answers, command_answer, input_answer, limit, run_answer, status_of, text_answer, words_text}
+use Rattle.tripos_run.specs.Reading.{IsInput, IsTextEnd, Leaves, TakesSome}
 
 -- the bytes of a run, and its end
 text_is : (command : Command) (x : Run) (h m : Option (List ℕ)) (words : List ℕ) (regs : Regs) (steps : ℕ) (stop : Stop) → HasRun x h m words regs steps stop → x.bytes ++ (closing_text steps stop ++ words_text command words) ≡ (run_answer command x).bytes
@@ -41,7 +40,7 @@ run_answered command x h m k words regs steps stop (Err e) r p =
 pub run_cut : (command : Command) (x : Run) (h k : Option (List ℕ)) → AppendsPrefix h k x.bytes → AppendsPrefix h k (run_answer command x).bytes
 run_cut command x h k a = AppendsPrefix-more h k x.bytes (closing_text x.steps x.stop ++ words_text command x.words) a
 
-short_input : (command : Command) (input : List ℕ) → length input ≤ limit → input_answer command input ≡ session_answer command (session_of input)
+short_input : (command : Command) (input : List ℕ) → length input ≤ limit → input_answer command input ≡ text_answer command input
 unfolding input_answer
 short_input command input h = grind (arith, nat_tests)
 
@@ -93,12 +92,12 @@ whole_input (Some xs) None items c e = absurd c
 whole_input (Some xs) (Some ys) items c e = sym (c ∙ ap (λ v. items ++ v) e ∙ append-nil items)
 
 pub answered : (command : Option Command) (named : Command) (left left' : Option (List ℕ)) (items text : List ℕ) (h k : Option (List ℕ)) (s : Status) → command ≡ Some named → Consumes left left' items → IsAtEnd left' → length items ≤ limit → text ≡ items
-    → Answers (session_answer named (session_of text)) h k s → (input : List ℕ) × IsInput left input × Answers (command_answer command input) h k s
+    → Answers (text_answer named text) h k s → (input : List ℕ) × IsInput left input × Answers (command_answer command input) h k s
 answered command named left left' items text h k s is c e short same a =
     (items, whole_input left left' items c e, rw (is, short_input named items short, ← same) a)
 
 -- what is left, where a text was answered
-pub leaves_end : (old new : Option (List ℕ)) (s : Status) → IsSessionEnd s → IsAtEnd new → TakesSome old new → Leaves old new s
+pub leaves_end : (old new : Option (List ℕ)) (s : Status) → IsTextEnd s → IsAtEnd new → TakesSome old new → Leaves old new s
 leaves_end old new Done e a t = a
 leaves_end old new GuestFault e a t = a
 leaves_end old new Refused e a t = a

@@ -4,6 +4,10 @@ use Rattle.std.specs.Str.{bytes_eq}
 use Rattle.std.specs.Io.KnownBytes.{Appends, Keeps}
 use Rattle.tp_io.specs.Writing.{AppendsPrefix}
 use Rattle.text_lines.specs.Refusal.{Refusal}
+use Rattle.hunk_text.specs.ModuleReading.{module_of}
+use Rattle.hunk_text.specs.declared.modules.Module.{Module}
+use Rattle.cint_asm.specs.Assembly.{assembled}
+use Rattle.cint_disasm.specs.HunkListing.{listing_of_module}
 use Rattle.session_text.specs.SessionReading.{session_of}
 use Rattle.session_text.specs.declared.sessions.Session.{Session}
 use Rattle.tripos_run.specs.declared.bare.Stop.{Stop}
@@ -65,10 +69,15 @@ abbrev pub made_answer : Result (List ℕ) Refusal → Answer
 made_answer (Ok text) = record { status = Done; bytes = text }
 made_answer (Err r) = record { status = Refused; bytes = refused_text r }
 
+-- the listing of a module
+abbrev pub listed : Result Module Refusal → Result (List ℕ) Refusal
+listed (Ok m) = Ok (listing_of_module m.hunks)
+listed (Err r) = Err r
+
 -- `asm` writes the module of an assembly text, `disasm` the listing of a module, and the others run a session
 abbrev pub text_answer : Command → List ℕ → Answer
-text_answer AsmCommand text = made_answer (module_text_of text)
-text_answer DisasmCommand text = made_answer (listing_of text)
+text_answer AsmCommand text = made_answer (assembled text)
+text_answer DisasmCommand text = made_answer (listed (module_of text))
 text_answer RunCommand text = session_answer RunCommand (session_of text)
 text_answer DumpCommand text = session_answer DumpCommand (session_of text)
 

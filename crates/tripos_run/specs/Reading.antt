@@ -43,13 +43,13 @@ IsUsageEnd ReadFault = ⊥
 IsUsageEnd WantMemory = ⊥
 
 -- a text that was read is answered, unless the sink fails or memory runs out
-abbrev pub IsSessionEnd : Status → Type 0
-IsSessionEnd Done = Unit {0}
-IsSessionEnd GuestFault = Unit {0}
-IsSessionEnd Refused = Unit {0}
-IsSessionEnd NoBoot = Unit {0}
-IsSessionEnd WriteFault = Unit {0}
-IsSessionEnd WantMemory = Unit {0}
-IsSessionEnd Usage = ⊥
-IsSessionEnd TooLong = ⊥
-IsSessionEnd ReadFault = ⊥
+abbrev pub IsTextEnd : Status → Type 0
+IsTextEnd Done = Unit {0}
+IsTextEnd GuestFault = Unit {0}
+IsTextEnd Refused = Unit {0}
+IsTextEnd NoBoot = Unit {0}
+IsTextEnd WriteFault = Unit {0}
+IsTextEnd WantMemory = Unit {0}
+IsTextEnd Usage = ⊥
+IsTextEnd TooLong = ⊥
+IsTextEnd ReadFault = ⊥

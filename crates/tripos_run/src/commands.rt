@@ -2,13 +2,17 @@
 ghost use Rattle.std.specs.Prelude.{◌≡◌, map, string_bytes};
 ghost use Rattle.tripos_run.specs.Answer.{command_named, command_of};
 
-/// What the program is asked to do with a session.
+/// What the program is asked to do with its input.
 #[derive(Clone, Copy, Debug)]
 pub enum Command {
-    /// Run it.
+    /// Run the session.
     Run,
-    /// Run it, and write the words of its store that are not 0.
+    /// Run the session, and write the words of its store that are not 0.
     Dump,
+    /// Write the module of the assembly text.
+    Asm,
+    /// List the module.
+    Disasm,
 }
 
 /// The command that the words are, or `None` exactly where they are none.
@@ -27,6 +31,8 @@ fn command_named(word: &str) -> Option<Command>
     match word {
         "run" => Some(Command::Run),
         "dump" => Some(Command::Dump),
+        "asm" => Some(Command::Asm),
+        "disasm" => Some(Command::Disasm),
         _ => None,
     }
 }

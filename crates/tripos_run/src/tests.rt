@@ -255,3 +255,72 @@ fn takes_no_more_than_the_limit(rt: HostRuntime) -> Result<(), Fail> {
         b"* input too long\n",
     )
 }
+
+const START: &str = "GLOBAL 1 start\nstart: L 19\nSP 3\nRTN\n";
+
+const START_MODULE: &str =
+    "000003e8 00000007\n00000007 03a01360 0000007b 00000000 00000001 00000004 00000001\n000003ea\n";
+
+// The hunk's length, the code, and the closing words are bytes like all others.
+const START_LISTING: &str =
+    "HUNK 1 length 7\n0 K7\n1 DB 0\n2 DB 0\n3 DB 0\n4 L 19\n6 SP 3\n8 RTN\n9 DB 0\n10 DB 0\n11 DB 0\n12 DB 0\n13 DB 0\n14 DB 0\n15 DB 0\n16 DB 1\n17 DB 0\n18 DB 0\n19 DB 0\n20 K4\n21 DB 0\n22 DB 0\n23 DB 0\n24 DB 1\n25 DB 0\n26 DB 0\n27 DB 0\n";
+
+#[test]
+fn assembles_and_lists(rt: HostRuntime) -> Result<(), Fail> {
+    for (word, input, status, bytes) in [
+        ("asm", START, Status::Done, START_MODULE),
+        (
+            "asm",
+            "",
+            Status::Done,
+            "000003e8 00000002\n00000002 00000000\n000003ea\n",
+        ),
+        ("asm", "J x", Status::Refused, "* refused: line 1 code 4\n"),
+        ("disasm", START_MODULE, Status::Done, START_LISTING),
+        (
+            "disasm",
+            "3e8 3 1 2",
+            Status::Refused,
+            "* refused: line 1 code 2\n",
+        ),
+        (
+            "disasm",
+            "3e8 1 0 3e9 1 1 3ea",
+            Status::Refused,
+            "* refused: line 1 code 4\n",
+        ),
+        (
+            "disasm",
+            "3e8 1 0",
+            Status::Refused,
+            "* refused: line 1 code 5\n",
+        ),
+        (
+            "disasm",
+            "3ea 0",
+            Status::Refused,
+            "* refused: line 1 code 6\n",
+        ),
+        (
+            "disasm",
+            "3e7",
+            Status::Refused,
+            "* refused: line 1 code 3\n",
+        ),
+        (
+            "disasm",
+            "3eg",
+            Status::Refused,
+            "* refused: line 1 code 1\n",
+        ),
+        (
+            "disasm",
+            "3E8 1 Ab 3ea",
+            Status::Done,
+            "HUNK 1 length 1\n0 SP11\n1 DB 0\n2 DB 0\n3 DB 0\n",
+        ),
+    ] {
+        expect(&rt, &[word], input.as_bytes(), status, bytes.as_bytes())?;
+    }
+    Ok(())
+}

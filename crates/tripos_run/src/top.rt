@@ -3,10 +3,12 @@ ghost use Rattle.std.specs.Prelude.{◌≡◌, ◌≤◌, ◌++◌, ◌<◌, ◌
 ghost use Rattle.std.specs.Io.KnownBytes.{Keeps};
 ghost use Rattle.tp_io.specs.Faults.{Rose};
 ghost use Rattle.tp_io.specs.Writing.{Prints, HasCause};
+ghost use Rattle.hunk_text.specs.ModuleReading.{module_of};
+ghost use Rattle.cint_asm.specs.Assembly.{assembled};
 ghost use Rattle.session_text.specs.SessionReading.{session_of};
 ghost use Rattle.tripos_run.specs.Booting.{boot};
-ghost use Rattle.tripos_run.specs.Answer.{Answers, answer, booted_answer, command_of, run_answer, session_answer, status_of, words_text};
-ghost use Rattle.tripos_run.specs.Reading.{IsInput, IsSessionEnd, IsUsageEnd, Leaves};
+ghost use Rattle.tripos_run.specs.Answer.{Answers, answer, booted_answer, command_of, listed, made_answer, run_answer, session_answer, status_of, text_answer, words_text};
+ghost use Rattle.tripos_run.specs.Reading.{IsInput, IsTextEnd, IsUsageEnd, Leaves};
 ghost use Rattle.tripos_run.specs.Running.{run};
 ghost use Rattle.tripos_run.specs.Texts.{closing_text};
 
@@ -17,9 +19,12 @@ use crate::dumping::write_dump;
 use crate::messages::{write_closing, write_no_boot, write_refused, write_too_long, write_usage};
 use crate::running::run;
 use crate::status::Status;
+use cint_asm::{AsmEnd, assemble};
+use cint_disasm::disassemble_module;
+use hunk_text::{HunkEnd, read_module};
 use session_text::{Session, SessionEnd, read_session};
 use std::alloc::Global;
-use tp_io::{ReadEnd, Sink, SinkFault, Source, read_all};
+use tp_io::{ReadEnd, Sink, SinkFault, Source, read_all, write_text};
 use word_store::Store;
 
 const LIMIT: usize = 67_108_864;
@@ -67,18 +72,62 @@ fn ended(written: Result<(), SinkFault>, status: Status) -> Status
 
 // Answers a text.
 fn answer_text<K: Sink>(alloc: Global, command: Command, text: &[u8], out: &mut K) -> Status
+    requires { length text.now < 2 ^ 30 }
+    ensures answer { Answers (text_answer command text.now) (K.holds out.old) (K.holds out.new) result }
+    ensures ends { IsTextEnd result }
+    ensures write_fault { result ≡ Status.WriteFault → Rose (K.faults out.old) (K.faults out.new) }
+    ensures sink_count { K.faults out.old ≤ K.faults out.new }
+{
+    match command {
+        Command::Run | Command::Dump => answer_session_text(alloc, command, text, out),
+        Command::Asm => answer_assembly(alloc, text, out),
+        Command::Disasm => answer_module(alloc, text, out),
+    }
+}
+
+// Writes the module of an assembly text.
+fn answer_assembly<K: Sink>(alloc: Global, text: &[u8], out: &mut K) -> Status
+    requires { length text.now < 2 ^ 32 }
+    ensures answer { Answers (made_answer (assembled text.now)) (K.holds out.old) (K.holds out.new) result }
+    ensures ends { IsTextEnd result }
+    ensures write_fault { result ≡ Status.WriteFault → Rose (K.faults out.old) (K.faults out.new) }
+    ensures sink_count { K.faults out.old ≤ K.faults out.new }
+{
+    match assemble(alloc, text) {
+        Ok(module) => ended(write_text(out, &module), Status::Done),
+        Err(AsmEnd::Bad { line, code }) => ended(write_refused(out, line, code), Status::Refused),
+        Err(AsmEnd::WantMemory) => Status::WantMemory,
+    }
+}
+
+// Lists a module.
+fn answer_module<K: Sink>(alloc: Global, text: &[u8], out: &mut K) -> Status
+    requires { length text.now < 2 ^ 30 }
+    ensures answer { Answers (made_answer (listed (module_of text.now))) (K.holds out.old) (K.holds out.new) result }
+    ensures ends { IsTextEnd result }
+    ensures write_fault { result ≡ Status.WriteFault → Rose (K.faults out.old) (K.faults out.new) }
+    ensures sink_count { K.faults out.old ≤ K.faults out.new }
+{
+    match read_module(alloc, text) {
+        Ok(module) => ended(disassemble_module(&module, out), Status::Done),
+        Err(HunkEnd::Bad { line, code }) => ended(write_refused(out, line, code), Status::Refused),
+        Err(HunkEnd::WantMemory) => Status::WantMemory,
+    }
+}
+
+// Runs a session.
+fn answer_session_text<K: Sink>(alloc: Global, command: Command, text: &[u8], out: &mut K) -> Status
     requires { length text.now < 2 ^ 32 }
     ensures answer { Answers (session_answer command (session_of text.now)) (K.holds out.old) (K.holds out.new) result }
-    ensures ends { IsSessionEnd result }
+    ensures ends { IsTextEnd result }
     ensures write_fault { result ≡ Status.WriteFault → Rose (K.faults out.old) (K.faults out.new) }
     ensures sink_count { K.faults out.old ≤ K.faults out.new }
 {
     match read_session(alloc, text) {
         Ok(session) => answer_session(alloc, command, &session, out),
-        Err(SessionEnd::Bad { line, code }) => ended(
-            write_refused(out, line, code),
-            Status::Refused,
-        ),
+        Err(SessionEnd::Bad { line, code }) => {
+            ended(write_refused(out, line, code), Status::Refused)
+        }
         Err(SessionEnd::WantMemory) => Status::WantMemory,
     }
 }
@@ -91,7 +140,7 @@ fn answer_session<K: Sink>(
 ) -> Status
     requires { session.now.store ≤ 4194304 }
     ensures answer { Answers (booted_answer command session.now.go (boot session.now)) (K.holds out.old) (K.holds out.new) result }
-    ensures ends { IsSessionEnd result }
+    ensures ends { IsTextEnd result }
     ensures write_fault { result ≡ Status.WriteFault → Rose (K.faults out.old) (K.faults out.new) }
     ensures sink_count { K.faults out.old ≤ K.faults out.new }
 {
@@ -106,7 +155,7 @@ fn answer_session<K: Sink>(
 fn answer_machine<K: Sink>(command: Command, machine: &mut Bare, go: u64, out: &mut K) -> Status
     requires { machine.old.regs.c < 256 }
     ensures answer { Answers (run_answer command (run go machine.old.store machine.old.regs)) (K.holds out.old) (K.holds out.new) result }
-    ensures ends { IsSessionEnd result }
+    ensures ends { IsTextEnd result }
     ensures write_fault { result ≡ Status.WriteFault → Rose (K.faults out.old) (K.faults out.new) }
     ensures sink_count { K.faults out.old ≤ K.faults out.new }
 {
@@ -139,7 +188,7 @@ fn write_words<K: Sink>(command: Command, store: &Store, out: &mut K) -> Result<
     ensures cause { HasCause (K.faults out.old) (K.faults out.new) result }
 {
     match command {
-        Command::Run => Ok(()),
+        Command::Run | Command::Asm | Command::Disasm => Ok(()),
         Command::Dump => match store.words(0, store.size()) {
             Some(words) => write_dump(out, words),
             None => unreachable!(),

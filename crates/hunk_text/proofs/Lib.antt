@@ -1,0 +1,12 @@
+pub mod Digits
+pub mod Spans
+pub mod Words
+pub mod Runs
+pub mod Complete
+pub mod Sound
+pub mod Sizes
+pub mod Checked
+pub mod Gathered
+pub mod PrintedParts
+pub mod Hex
+pub mod Printed

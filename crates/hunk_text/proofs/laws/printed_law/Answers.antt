@@ -1,0 +1,5 @@
+use Rattle.hunk_text.proofs.Printed.{printed_again}
+use Rattle.hunk_text.proofs.laws.printed_law.Goals as goal
+
+pub returns : goal.returns
+returns c = printed_again

@@ -1,0 +1,9 @@
+pub mod Tokens
+pub mod Words
+pub mod Places
+pub mod ModuleForm
+pub mod Grammar
+pub mod ModuleReading
+pub mod Shapes
+pub mod Answers
+pub mod Canonical

@@ -1,0 +1,26 @@
+// The text of a module: hunks of words with their relocations, read and printed.
+#![tactic(auto)]
+
+pub mod checking;
+pub mod ends;
+mod grammar;
+pub mod laws;
+pub mod lists;
+pub mod modules;
+pub mod printing;
+pub mod reading;
+mod stepping;
+pub mod texts;
+pub mod tokens;
+
+pub use checking::{Shape, check_module};
+pub use ends::HunkEnd;
+pub use lists::{Hunks, WordList};
+pub use modules::{Hunk, Module};
+pub use printing::print_module;
+pub use reading::read_module;
+pub use texts::{SliceText, TextBytes};
+pub use tokens::{NextWord, next_word};
+
+#[cfg(test)]
+mod tests;
