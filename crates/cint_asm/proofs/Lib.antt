@@ -6,3 +6,8 @@ pub mod HunkSizes
 pub mod SurveyLemmas
 pub mod EncodeLemmas
 pub mod Printable
+pub mod ProgramLemmas
+pub mod TableLemmas
+pub mod AssemblyLemmas
+pub mod RefusalLemmas
+pub mod Refused

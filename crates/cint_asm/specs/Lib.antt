@@ -1,5 +1,6 @@
 pub mod Answers
 pub mod Assembly
+pub mod AssemblyForm
 pub mod Directives
 pub mod Encoding
 pub mod HunkWords
@@ -13,6 +14,7 @@ pub mod Operands
 pub mod Parts
 pub mod Pieces
 pub mod Places
+pub mod Program
 pub mod Reading
 pub mod Refusal
 pub mod Steps

@@ -9,6 +9,7 @@ mod errors;
 mod hunks;
 mod instructions;
 mod labels;
+pub mod laws;
 mod numbers;
 mod operands;
 mod parts;

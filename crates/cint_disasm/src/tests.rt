@@ -1,5 +1,9 @@
 // Lines that were written by hand.
-use crate::line_at;
+ghost use Rattle.std.specs.Prelude.{◌≡◌, IfOk};
+
+use crate::{disassemble, disassemble_module, line_at};
+use hunk_text::{Hunk, Hunks, Module, WordList};
+use std::alloc::AllocError;
 use std::test::Fail;
 use tp_io::MemorySink;
 use word_store::Store;
@@ -35,5 +39,46 @@ fn lists_each_form(rt: HostRuntime) -> Result<(), Fail> {
         assert_eq!(rt; line_at(&store, a, &mut out), Ok(length), "at {a}");
         assert_eq!(rt; out.bytes(), line, "at {a}");
     }
+    Ok(())
+}
+
+// The hunk of a program: its length, `L 19`, `SP 3`, `RTN`, and its table of globals.
+const PROGRAM: [u32; 7] = [7, 0x03a0_1360, 0x7b, 0, 1, 4, 1];
+
+const PROGRAM_LINES: &[u8] = b"length 7\n0 K7\n1 DB 0\n2 DB 0\n3 DB 0\n4 L 19\n6 SP 3\n8 RTN\n\
+9 DB 0\n10 DB 0\n11 DB 0\n12 DB 0\n13 DB 0\n14 DB 0\n15 DB 0\n16 DB 1\n17 DB 0\n18 DB 0\n19 DB 0\n\
+20 K4\n21 DB 0\n22 DB 0\n23 DB 0\n24 DB 1\n25 DB 0\n26 DB 0\n27 DB 0\n";
+
+fn hunk_of(rt: &HostRuntime, words: &[u32]) -> Result<Hunk, AllocError>
+    ensures { IfOk result (λ h. h.words ≡ words.now) }
+{
+    let list = Vec::from_slice(rt.alloc(), words)?;
+    Ok(Hunk {
+        words: WordList::new(list),
+        relocations: WordList::new(Vec::new(rt.alloc())),
+    })
+}
+
+#[test]
+fn lists_a_hunk_from_its_first_byte(rt: HostRuntime) -> Result<(), Fail> {
+    let hunk = hunk_of(&rt, PROGRAM.as_slice())?;
+    let mut out = MemorySink::new(rt.alloc(), 1000, &[])?;
+    assert_eq!(rt; disassemble(&hunk, 3, &mut out), Ok(()));
+    assert_eq!(rt; out.bytes().strip_prefix(b"HUNK 3 "), Some(PROGRAM_LINES));
+    Ok(())
+}
+
+#[test]
+fn numbers_the_hunks_of_a_module(rt: HostRuntime) -> Result<(), Fail> {
+    let mut hunks = Vec::new(rt.alloc());
+    hunks.push(hunk_of(&rt, &[])?)?;
+    hunks.push(hunk_of(&rt, PROGRAM.as_slice())?)?;
+    let m = Module {
+        hunks: Hunks::new(hunks),
+    };
+    let mut out = MemorySink::new(rt.alloc(), 1000, &[])?;
+    assert_eq!(rt; disassemble_module(&m, &mut out), Ok(()));
+    let lines = out.bytes().strip_prefix(b"HUNK 1 length 0\nHUNK 2 ");
+    assert_eq!(rt; lines, Some(PROGRAM_LINES));
     Ok(())
 }

@@ -1,7 +1,7 @@
 -- The shape of a module, counted token by token.
-use Rattle.std.proofs.Common.{◌≡◌, ◌∙◌, ℕ, ◌+◌, ◌<◌, ◌≤◌, Result, Ok, Err, Some, None, List, [], ◌∷◌, length, drop, refl, sym, ap, arith}
+use Rattle.std.proofs.Common.{◌≡◌, ℕ, ◌+◌, ◌<◌, ◌≤◌, Result, Ok, Err, Some, None, List, [], length, drop, refl, ap, arith}
 use Rattle.std.proofs.lemmas.List.Sums.{sum_by-cons}
-use Rattle.hunk_text.specs.Tokens.{Token, tokens_from, tokens_of}
+use Rattle.hunk_text.specs.Tokens.{tokens_from, tokens_of}
 use Rattle.hunk_text.specs.Places.{bytes_in, next_span}
 use Rattle.hunk_text.specs.Grammar.{finish}
 use Rattle.hunk_text.specs.ModuleReading.{Rest, Stop, ◌>>=◌, hunk, module_of, module_or_refusal, or_stop, put, read_token, rest, rest_of}
@@ -12,7 +12,7 @@ use Rattle.hunk_text.specs.declared.checking.Shape.{Shape}
 use Rattle.hunk_text.specs.declared.stepping.Step.{Step}
 use Rattle.hunk_text.specs.declared.grammar.Expects.{Expects}
 use Rattle.hunk_text.specs.declared.grammar.Expects.TheVariants.{FirstType, NextType, Length, Word, Count, Offset, Nothing}
-use Rattle.hunk_text.proofs.Spans.{no_token, some_token, token_of}
+use Rattle.hunk_text.proofs.Spans.{no_token, some_token}
 use Rattle.hunk_text.proofs.Runs.{tokens_ok}
 use Rattle.hunk_text.proofs.Sound.{form}
 

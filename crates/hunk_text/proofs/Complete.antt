@@ -1,15 +1,14 @@
 -- Every text of a module is read as the module.
-use Rattle.std.proofs.Common.{◌≡◌, ◌∙◌, ℕ, suc, ◌<◌, ◌-◌, true, Result, Ok, Err, List, [], ◌∷◌, ◌++◌, length, refl, sym, ap, subst, arith, append_assoc, append-nil, sub-one, nat_lt, ◌==◌, false}
+use Rattle.std.proofs.Common.{◌≡◌, ℕ, suc, ◌<◌, ◌-◌, true, Ok, List, [], ◌∷◌, ◌++◌, length, refl, sym, ap, arith, append_assoc, append-nil, nat_lt, ◌==◌, false}
 use Rattle.std.specs.List.{AllByRecursion, concat}
 use Rattle.std.proofs.lemmas.Bool.Decides.{nat_tests}
 use Rattle.hunk_text.specs.Tokens.{tokens_of}
 use Rattle.hunk_text.specs.Grammar.{offsets_or_type, words_or_type}
-use Rattle.hunk_text.specs.ModuleForm.{AreHunks, IsHunk, IsModule, end_word, hunk_type, item, relocation_items, relocation_type}
-use Rattle.hunk_text.specs.ModuleReading.{Rest, ◌>>=◌, hunk, module_of, put, rest}
+use Rattle.hunk_text.specs.ModuleForm.{AreHunks, IsHunk, IsModule, relocation_items}
+use Rattle.hunk_text.specs.ModuleReading.{Rest, hunk, module_of, rest}
 use Rattle.hunk_text.specs.declared.modules.Hunk.{Hunk}
 use Rattle.hunk_text.specs.declared.modules.Module.{Module}
-use Rattle.hunk_text.specs.declared.grammar.Expects.{Expects}
-use Rattle.hunk_text.specs.declared.grammar.Expects.TheVariants.{FirstType, NextType, Length, Word, Count, Offset, Nothing}
+use Rattle.hunk_text.specs.declared.grammar.Expects.TheVariants.{FirstType, NextType}
 use Rattle.hunk_text.proofs.Runs.{run, tokens_again}
 
 -- the words of a hunk, and what follows them

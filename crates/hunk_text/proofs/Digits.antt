@@ -1,5 +1,5 @@
 -- The word of a token, digit by digit.
-use Rattle.std.proofs.Common.{◌≡◌, ◌∙◌, ℕ, suc, ◌<◌, ◌≤◌, ◌+◌, ◌*◌, ◌-◌, ◌^◌, Bool, true, false, cond, ◌&&◌, Option, Some, None, List, [], ◌∷◌, length, get_or, take, drop, refl, sym, ap, arith, add-one, drop-cons, lit<, nat_le, nat_lt}
+use Rattle.std.proofs.Common.{◌≡◌, ℕ, suc, ◌<◌, ◌≤◌, ◌+◌, ◌*◌, ◌-◌, ◌^◌, Bool, true, false, cond, ◌&&◌, Option, Some, None, List, ◌∷◌, length, get_or, refl, ap, arith, add-one, drop-cons, lit<, nat_le, nat_lt}
 use Rattle.std.specs.Prelude.{slice_range}
 use Rattle.std.specs.Char.{digit_value, is_digit}
 use Rattle.std.specs.List.{list_all}

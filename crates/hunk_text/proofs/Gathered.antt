@@ -1,9 +1,9 @@
 -- The hunks of a module, gathered token by token.
-use Rattle.std.proofs.Common.{◌≡◌, ◌∙◌, ℕ, zero, suc, ◌+◌, arith, set, get_or, Result, Ok, Err, Some, None, List, [], ◌∷◌, ◌++◌, length, refl, sym, ap, append_assoc, append-nil}
-use Rattle.hunk_text.specs.Tokens.{line_at, tokens_of}
+use Rattle.std.proofs.Common.{◌≡◌, ◌∙◌, ℕ, zero, suc, ◌+◌, arith, set, get_or, Result, Ok, Err, Some, None, List, [], ◌∷◌, ◌++◌, length, refl, ap, append_assoc, append-nil}
+use Rattle.hunk_text.specs.Tokens.{line_at}
 use Rattle.hunk_text.specs.Places.{bytes_in, next_span}
 use Rattle.hunk_text.specs.Grammar.{finish}
-use Rattle.hunk_text.specs.ModuleReading.{Refusal, Rest, Stop, ◌>>=◌, hunk, module_of, module_or_refusal, or_stop, put, read_token, refusal, rest, rest_of, with_rest}
+use Rattle.hunk_text.specs.ModuleReading.{Refusal, Rest, Stop, hunk, module_of, module_or_refusal, put, read_token, refusal, rest, with_rest}
 use Rattle.hunk_text.specs.Answers.{Gives, or_bad}
 use Rattle.hunk_text.specs.declared.ends.HunkEnd.{HunkEnd}
 use Rattle.hunk_text.specs.declared.ends.HunkEnd.TheVariants.{Bad}

@@ -2,11 +2,11 @@
 use Rattle.std.proofs.Common.{◌≡◌, ◌∙◌, ℕ, suc, ◌<◌, ◌+◌, ◌%◌, ◌^◌, ◌==◌, ◌||◌, Bool, true, false, cond, Ok, List, [], ◌∷◌, ◌++◌, length, refl, sym, ap, subst, arith, append_assoc, append-nil, lit<}
 use Rattle.std.specs.List.{AllByRecursion, concat, flat_map}
 use Rattle.tp_io.specs.Pieces.{hex_digits_of}
-use Rattle.hunk_text.specs.Tokens.{Token, is_blank, onto_first_token, token, tokens_from, tokens_of}
+use Rattle.hunk_text.specs.Tokens.{is_blank, onto_first_token, tokens_from}
 use Rattle.hunk_text.specs.Words.{IsWord}
-use Rattle.hunk_text.specs.ModuleForm.{AreHunks, AreWords, IsHunk, IsModule, end_word, hunk_type, item, relocation_items, relocation_type}
+use Rattle.hunk_text.specs.ModuleForm.{AreHunks, AreWords, end_word, hunk_type, item, relocation_items, relocation_type}
 use Rattle.hunk_text.specs.ModuleReading.{module_of}
-use Rattle.hunk_text.specs.Canonical.{HasWords, IsPrintable, IsPrintableHunk, after_word, end_text, head_text, item_text, printed, relocations_text, text_of_hunk, word_text, words_text}
+use Rattle.hunk_text.specs.Canonical.{HasWords, IsPrintable, IsPrintableHunk, after_word, end_text, head_text, item_text, printed, relocations_text, text_of_hunk, words_text}
 use Rattle.hunk_text.specs.declared.modules.Hunk.{Hunk}
 use Rattle.hunk_text.specs.declared.modules.Module.{Module}
 use Rattle.hunk_text.proofs.Spans.{token_of}

@@ -1,5 +1,5 @@
 -- How many hunks and words a text has room for.
-use Rattle.std.proofs.Common.{◌≡◌, ◌∙◌, ℕ, suc, ◌<◌, ◌≤◌, ◌+◌, ◌^◌, Bool, true, false, cond, Result, Ok, Err, List, [], ◌∷◌, ◌++◌, length, refl, sym, ap, arith, length-append}
+use Rattle.std.proofs.Common.{◌≡◌, ◌∙◌, ℕ, suc, ◌<◌, ◌≤◌, ◌+◌, ◌^◌, Bool, true, false, cond, Result, Ok, Err, List, [], ◌∷◌, length, refl, ap, arith, length-append}
 use Rattle.std.specs.Prelude.{IfOk}
 use Rattle.std.specs.List.{AllByRecursion, concat}
 use Rattle.hunk_text.specs.Tokens.{Token, ends_token, is_blank, onto_first_token, token, tokens_from, tokens_of}

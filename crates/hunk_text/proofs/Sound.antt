@@ -1,12 +1,12 @@
 -- What is read is a module's text.
-use Rattle.std.proofs.Common.{◌≡◌, ◌∙◌, ℕ, suc, ◌<◌, ◌-◌, ◌+◌, ◌==◌, Bool, true, false, cond, Result, Ok, Err, List, [], ◌∷◌, ◌++◌, length, refl, sym, ap, subst, arith, append_assoc, nat_lt}
+use Rattle.std.proofs.Common.{◌≡◌, ◌∙◌, ℕ, ◌<◌, ◌-◌, ◌+◌, ◌==◌, Bool, true, false, cond, Result, Ok, Err, List, [], ◌∷◌, ◌++◌, length, refl, sym, ap, subst, arith, append_assoc, nat_lt}
 use Rattle.std.specs.List.{AllByRecursion, concat}
 use Rattle.std.proofs.lemmas.Bool.{eqb-true}
 use Rattle.std.proofs.lemmas.Bool.Decides.{nat_tests}
 use Rattle.hunk_text.specs.Tokens.{tokens_of}
-use Rattle.hunk_text.specs.Grammar.{finish, first_type, follow, offsets_or_type, type_after, words_or_type}
-use Rattle.hunk_text.specs.ModuleForm.{AreHunks, IsHunk, IsModule, end_word, hunk_type, item, relocation_items, relocation_type}
-use Rattle.hunk_text.specs.ModuleReading.{Rest, Stop, Refusal, ◌>>=◌, hunk, module_of, module_or_refusal, put, rest, rest_of}
+use Rattle.hunk_text.specs.Grammar.{first_type, follow, offsets_or_type, words_or_type}
+use Rattle.hunk_text.specs.ModuleForm.{AreHunks, IsModule, end_word, hunk_type, item, relocation_items, relocation_type}
+use Rattle.hunk_text.specs.ModuleReading.{Rest, Stop, ◌>>=◌, hunk, module_of, module_or_refusal, put, rest, rest_of}
 use Rattle.hunk_text.specs.declared.modules.Hunk.{Hunk}
 use Rattle.hunk_text.specs.declared.modules.Module.{Module}
 use Rattle.hunk_text.specs.declared.grammar.Expects.{Expects}
@@ -86,15 +86,17 @@ first_form w next ws r e h = first_form_by w next ws r (w == hunk_type) (w == en
 list_form : (n : ℕ) (ws : List ℕ) (r : Rest) → AreCountAndOffsets n ws r → (r.words ≡ []) × AreItems n [] (relocation_type ∷ ws) r.relocations r.hunks
 list_form n ws r h =
     let items = h.3.3 in
-    let offsets = h.3.0 in
-    (h.3.1, record {
-      lists = offsets ∷ items.lists;
-      behind = items.behind;
-      all = rw (h.2, ← h.3.2, items.all) (ap (λ (xs : List ℕ). relocation_type ∷ length offsets ∷ xs) (sym (append_assoc offsets (relocation_items items.lists) items.behind)));
-      joined = items.joined;
-      inside = items.inside;
-      more = items.more;
-    })
+    let offsets = h.3.0 in (
+      h.3.1,
+      record {
+        lists = offsets ∷ items.lists;
+        behind = items.behind;
+        all = rw (h.2, ← h.3.2, items.all) (ap (λ (xs : List ℕ). relocation_type ∷ length offsets ∷ xs) (sym (append_assoc offsets (relocation_items items.lists) items.behind)));
+        joined = items.joined;
+        inside = items.inside;
+        more = items.more;
+      },
+    )
 
 next_form_by : (n w : ℕ) (next : Expects) (ws : List ℕ) (r : Rest) (b : Bool) → (w == relocation_type) ≡ b → cond b (Ok (Count n)) (first_type w) ≡ Ok next → Form next ws r
     → (r.words ≡ []) × AreItems n [] (w ∷ ws) r.relocations r.hunks
@@ -106,10 +108,13 @@ next_form_by n w next ws r false a e h =
 -- a hunk, from its length on
 length_form : (w : ℕ) (ws : List ℕ) (r : Rest) → AreWordsLeft w w ws r → AreHunks (hunk r.words r.relocations ∷ r.hunks) (hunk_type ∷ w ∷ ws)
 length_form w ws r h =
-    let items = h.3 in
-    (item hunk_type r.words ++ relocation_items items.lists, items.behind,
+    let items = h.3 in (
+      item hunk_type r.words ++ relocation_items items.lists,
+      items.behind,
       rw (h.1, h.2, items.all) (ap (λ (xs : List ℕ). hunk_type ∷ w ∷ xs) (sym (append_assoc r.words (relocation_items items.lists) items.behind))),
-      record { lists = items.lists; all = refl; offsets = items.joined; inside = rw h.2 items.inside }, items.more)
+      record { lists = items.lists; all = refl; offsets = items.joined; inside = rw h.2 items.inside },
+      items.more,
+    )
 
 -- a word of a hunk
 word_form : (more n w : ℕ) (ws : List ℕ) (r : Rest) → AreWordsLeft more n ws r → AreWordsLeft (more + 1) n (w ∷ ws) (rest (w ∷ r.words) r.relocations r.hunks)
@@ -118,15 +123,19 @@ word_form more n w ws r h = (h.0, ap (λ (xs : List ℕ). w ∷ xs) h.1, omega (
 -- an offset
 offset_form : (more n w : ℕ) (ws : List ℕ) (r : Rest) → w < n → AreOffsetsLeft more n ws r → AreOffsetsLeft (more + 1) n (w ∷ ws) (rest r.words (w ∷ r.relocations) r.hunks)
 offset_form more n w ws r lt h =
-    let items = h.3 in
-    (w ∷ h.0, h.1, omega (arith, h.2), record {
-      lists = items.lists;
-      behind = items.behind;
-      all = ap (λ (xs : List ℕ). w ∷ xs) items.all;
-      joined = ap (λ (xs : List ℕ). w ∷ xs) items.joined;
-      inside = (lt, items.inside);
-      more = items.more;
-    })
+    let items = h.3 in (
+      w ∷ h.0,
+      h.1,
+      omega (arith, h.2),
+      record {
+        lists = items.lists;
+        behind = items.behind;
+        all = ap (λ (xs : List ℕ). w ∷ xs) items.all;
+        joined = ap (λ (xs : List ℕ). w ∷ xs) items.joined;
+        inside = (lt, items.inside);
+        more = items.more;
+      },
+    )
 
 offset_by : (more n w : ℕ) (next : Expects) (ws : List ℕ) (r : Rest) (b : Bool) → nat_lt w n ≡ b → cond b (Ok (offsets_or_type more n)) (refused 4) ≡ Ok next → Form next ws r
     → AreOffsetsLeft (more + 1) n (w ∷ ws) (rest r.words (w ∷ r.relocations) r.hunks)

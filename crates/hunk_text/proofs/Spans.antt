@@ -1,12 +1,12 @@
 -- The tokens of a text, found place by place.
-use Rattle.std.proofs.Common.{◌≡◌, ◌∙◌, ℕ, suc, ◌<◌, ◌≤◌, ◌+◌, ◌-◌, Bool, true, false, Option, Some, None, List, [], ◌∷◌, length, get_or, take, drop, refl, sym, ap, subst, arith, add-zero, drop-cons, nat_lt}
+use Rattle.std.proofs.Common.{◌≡◌, ◌∙◌, ℕ, suc, ◌<◌, ◌≤◌, ◌+◌, ◌-◌, Bool, true, false, Some, None, List, [], ◌∷◌, length, get_or, take, drop, refl, sym, ap, subst, arith, add-zero, drop-cons, nat_lt}
 use Rattle.std.specs.Prelude.{not}
 use Rattle.std.specs.List.{prefix_len}
 use Rattle.std.proofs.lemmas.Bool.Decides.{nat_tests}
 use Rattle.std.proofs.lemmas.List.{drop-drop, drop_all, get_or-drop, length-drop}
 use Rattle.std.proofs.lemmas.List.Sums.{prefix_len-drop_yes, prefix_len-le-length, prefix_len_stops}
 use Rattle.std.proofs.lemmas.Option.{cond_some}
-use Rattle.hunk_text.specs.Tokens.{Token, is_blank, onto_first_token, token, tokens_from}
+use Rattle.hunk_text.specs.Tokens.{Token, is_blank, onto_first_token, tokens_from}
 use Rattle.hunk_text.specs.Places.{bytes_in, next_span, span, token_end, token_start}
 use Rattle.hunk_text.specs.declared.tokens.Span.{Span}
 

@@ -1,5 +1,5 @@
 -- Where the tokens of a text stand.
-use Rattle.std.specs.Prelude.{ℕ, ◌+◌, ◌||◌, not, if◌then◌else◌, List, length, drop, Option, Some, None, nat_lt, option_and_then, slice_range}
+use Rattle.std.specs.Prelude.{ℕ, ◌+◌, not, if◌then◌else◌, List, length, drop, Option, Some, None, nat_lt, option_and_then, slice_range}
 use Rattle.std.specs.List.{prefix_len}
 use Rattle.std.specs.Option.{option_map}
 use Rattle.hunk_text.specs.Tokens.{is_blank}

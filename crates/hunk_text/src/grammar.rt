@@ -105,10 +105,8 @@ pub fn finish(expects: Expects) -> Result<(), u32>
 {
     match expects {
         Expects::FirstType | Expects::NextType { .. } => Err(5),
-        Expects::Length
-        | Expects::Word { .. }
-        | Expects::Count { .. }
-        | Expects::Offset { .. } => Err(2),
+        Expects::Length | Expects::Word { .. } | Expects::Count { .. } | Expects::Offset { .. } =>
+            Err(2),
         Expects::Nothing => Ok(()),
     }
 }

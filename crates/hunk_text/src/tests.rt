@@ -1,12 +1,15 @@
 // Modules' texts, written by hand.
-use crate::{HunkEnd, NextWord, Shape, SliceText, check_module, next_word, print_module, read_module};
+use crate::{
+    HunkEnd, NextWord, Shape, SliceText, check_module, next_word, print_module, read_module,
+};
 use std::test::Fail;
 use tp_io::MemorySink;
 
 // The bytes of a text, or the line and the code with which it is refused.
 type Row = (&'static [u8], Result<&'static [u8], (u32, u32)>);
 
-const EXAMPLE: &[u8] = b"000003e8 00000007\n00000007 03a01360 0000007b 00000000 00000001 00000004 00000001\n000003ea\n";
+const EXAMPLE: &[u8] =
+    b"000003e8 00000007\n00000007 03a01360 0000007b 00000000 00000001 00000004 00000001\n000003ea\n";
 
 const TWO_HUNKS: &[u8] = b"000003e8 00000000\n000003e8 0000000a\n\
 00000001 00000002 00000003 00000004 00000005 00000006 00000007 00000008\n00000009 ffffffff\n\
@@ -16,9 +19,15 @@ const TWO_HUNKS: &[u8] = b"000003e8 00000000\n000003e8 0000000a\n\
 fn reads_and_refuses(rt: HostRuntime) -> Result<(), Fail> {
     let rows: [Row; 20] = [
         (b"3ea", Ok(b"000003ea\n")),
-        (b"3E8 1 Ab 3ea", Ok(b"000003e8 00000001\n000000ab\n000003ea\n")),
+        (
+            b"3E8 1 Ab 3ea",
+            Ok(b"000003e8 00000001\n000000ab\n000003ea\n"),
+        ),
         (b" 03e8\r\n\n7 7 3a01360 7B 0 1 4 1\n3ea\n", Ok(EXAMPLE)),
-        (b"3e8 0 3e9 0 3e8 a 1 2 3 4 5 6 7 8 9 ffffffff 3e9 1 9 3e9 2 0 0 3ea", Ok(TWO_HUNKS)),
+        (
+            b"3e8 0 3e9 0 3e8 a 1 2 3 4 5 6 7 8 9 ffffffff 3e9 1 9 3e9 2 0 0 3ea",
+            Ok(TWO_HUNKS),
+        ),
         (b"3e8 3 1 2", Err((1, 2))),
         (b"3e8 1 0 3e9 1 1 3ea", Err((1, 4))),
         (b"3e8 1 0", Err((1, 5))),

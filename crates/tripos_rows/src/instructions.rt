@@ -35,16 +35,22 @@ fn every_instruction_is_run(rt: HostRuntime) -> Result<(), Fail> {
     Ok(())
 }
 
-// Marks the function bytes of a table's rows, and compares the rows' names with those of the bytes.
+// Marks the function bytes of a table's rows.
 fn mark(rt: &impl Abort, seen: &mut [bool; 256], rows: &str) -> Result<(), Fail> {
     for line in rows.lines() {
         if !is_remark(line) {
-            let Row { name, code, .. } = read_row(line)?;
-            let digits = code.split_whitespace().next().ok_or("no byte")?;
-            let byte = read_byte(digits)?;
-            assert_eq!(rt; row(byte).ok_or("no row")?.name, name, "{line}");
-            seen[usize::from(byte)] = true;
+            seen[usize::from(function_byte(rt, line)?)] = true;
         }
     }
     Ok(())
+}
+
+// The first byte of a row, whose name must be the row's.
+fn function_byte(rt: &impl Abort, line: &str) -> Result<u8, Fail> {
+    let Row { name, code, .. } = read_row(line)?;
+    let digits = code.split_whitespace().next().ok_or("no byte")?;
+    let byte = read_byte(digits)?;
+    let entry = row(byte).ok_or("no such byte")?;
+    assert_eq!(rt; entry.name, name, "{line}");
+    Ok(byte)
 }

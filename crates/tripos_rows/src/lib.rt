@@ -3,3 +3,5 @@
 
 #[cfg(test)]
 mod instructions;
+#[cfg(test)]
+mod listings;

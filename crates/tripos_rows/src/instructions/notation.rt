@@ -2,8 +2,8 @@
 //
 // A row is one line in three parts, as `ST1 95 | A=7 | 8=2222`. The first part is an instruction: its name, and the
 // bytes that stand from PC on, in hex. The second part says what stands in registers (A, B, C, P, G, PC) and in words
-// (by their addresses), where that is not the usual. The third says what the instruction leaves: what is not named there
-// stays, but for PC, which is then behind the bytes. Of an instruction that is not executed it says
+// (by their addresses), where that is not the usual. The third says what the instruction leaves: what is not named
+// there stays, but for PC, which is then behind the bytes. Of an instruction that is not executed it says
 // `fault CODE at ADDRESS`, `sys` or `returned`; then all stays.
 //
 // Usual are A=30 B=2222 C=33 P=100 G=150 PC=800. Of 1,024 words, word 40 holds 0x44332211, and every other word holds 7
@@ -27,8 +27,8 @@ pub fn is_remark(line: &str) -> bool {
 }
 
 pub fn read_row(line: &str) -> Result<Row<'_>, Fail> {
-    let (instruction, holds) = line.split_once('|').ok_or("nothing before")?;
-    let (before, after) = holds.split_once('|').ok_or("nothing after")?;
+    let (instruction, holds) = line.split_once('|').ok_or("no second part")?;
+    let (before, after) = holds.split_once('|').ok_or("no third part")?;
     let (name, code) = instruction.split_once(' ').ok_or("no name")?;
     Ok(Row {
         name,

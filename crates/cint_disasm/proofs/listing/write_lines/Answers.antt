@@ -1,4 +1,4 @@
-use Rattle.std.proofs.Common.{◌∙◌, ◌<◌, ◌+◌, ◌*◌, [], ◌++◌, length, refl, sym, ap, arith, append_assoc, List, ℕ}
+use Rattle.std.proofs.Common.{◌∙◌, ◌+◌, ◌*◌, [], ◌++◌, length, refl, sym, ap, arith, append_assoc, List, ℕ}
 use Rattle.std.proofs.lemmas.Result.{err_from_is_err_and}
 use Rattle.word_store.specs.Bytes.{byte_at}
 use Rattle.tp_io.proofs.Appending.{Appends-nothing, Appends-then}
@@ -30,10 +30,13 @@ loop-place-preserved g c =
     let line = listed (byte_at words) c.loop-place.place in
     let more = lines_more (byte_at words) (4 * length words) c.loop-place.invariant.1 c.loop-place.place (omega arith) kept.enough in
     let rest = lines_from (byte_at words) (4 * length words) more.0 (c.loop-place.place + line.length) in
-    let bounds = c.in_ok-length.ensures.bounds in
-    (front ++ line.text, more.0, record {
-      all = rw (c.from-place.ensures, c.in_ok-length.ensures.length) (append_assoc front line.text rest ∙ ap (λ (t : List ℕ). front ++ t) (sym more.2) ∙ kept.all);
-      enough = omega (arith, more.1);
-      text = Appends-then _ _ _ front line.text kept.text c.in_ok-length.ensures.text;
-      later = omega arith;
-    })
+    let bounds = c.in_ok-length.ensures.bounds in (
+      front ++ line.text,
+      more.0,
+      record {
+        all = rw (c.from-place.ensures, c.in_ok-length.ensures.length) (append_assoc front line.text rest ∙ ap (λ (t : List ℕ). front ++ t) (sym more.2) ∙ kept.all);
+        enough = omega (arith, more.1);
+        text = Appends-then _ _ _ front line.text kept.text c.in_ok-length.ensures.text;
+        later = omega arith;
+      },
+    )

@@ -1,4 +1,4 @@
-use Rattle.std.proofs.Common.{◌∙◌, ap, sym, arith}
+use Rattle.std.proofs.Common.{◌∙◌, sym, arith}
 use Rattle.std.proofs.lemmas.Result.{err_from_is_err_and}
 use Rattle.hunk_text.proofs.Checked.{check_end, check_first, check_more, check_refused, counted_few}
 use Rattle.hunk_text.proofs.checking.check_module.Goals as goal

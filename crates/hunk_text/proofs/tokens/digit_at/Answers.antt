@@ -1,4 +1,3 @@
-use Rattle.std.proofs.Common.{get_or}
 use Rattle.hunk_text.proofs.Digits.{digit_of_is}
 use Rattle.hunk_text.proofs.tokens.digit_at.Goals as goal
 

@@ -1,7 +1,7 @@
 use Rattle.std.proofs.Common.{◌≡◌, ◌∙◌, ◌-◌, sym, length, drop, arith, length-take}
 use Rattle.std.proofs.lemmas.List.{length-drop}
 use Rattle.hunk_text.specs.Places.{bytes_in}
-use Rattle.hunk_text.proofs.Digits.{digit_more, digit_none, digits_end, small_more, word_of_long, word_of_short}
+use Rattle.hunk_text.proofs.Digits.{digit_more, digit_none, small_more, word_of_short}
 use Rattle.hunk_text.proofs.tokens.word_in.Goals as goal
 
 pub returns-in_err-digit : goal.returns-in_err-digit
@@ -15,8 +15,8 @@ returns-in_err-digit g c =
     let size : length (bytes_in text token) ≡ token.end - token.start = omega (arith, length-take (token.end - token.start) (drop token.start text), length-drop token.start text) in
     c.from_residual.ensures
     ∙ sym
-      (word_of_short (bytes_in text token) (omega arith) (omega arith) ∙ sym c.loop-place.invariant.word
-      ∙ digit_none text i token.end c.loop-place.value (omega arith) (omega arith) none)
+    (word_of_short (bytes_in text token) (omega arith) (omega arith) ∙ sym c.loop-place.invariant.word
+    ∙ digit_none text i token.end c.loop-place.value (omega arith) (omega arith) none)
 
 pub overflow_mul-value : goal.overflow_mul-value
 overflow_mul-value g c =

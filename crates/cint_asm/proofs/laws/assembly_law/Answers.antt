@@ -1,0 +1,8 @@
+use Rattle.cint_asm.proofs.AssemblyLemmas.{complete, sound}
+use Rattle.cint_asm.proofs.laws.assembly_law.Goals as goal
+
+pub returns-clause-sound : goal.returns-clause-sound
+returns-clause-sound c = sound
+
+pub returns-clause-complete : goal.returns-clause-complete
+returns-clause-complete c = complete

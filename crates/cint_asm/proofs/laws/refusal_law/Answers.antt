@@ -1,0 +1,8 @@
+use Rattle.cint_asm.proofs.Refused.{refusal_complete, refusal_sound}
+use Rattle.cint_asm.proofs.laws.refusal_law.Goals as goal
+
+pub returns-clause-sound : goal.returns-clause-sound
+returns-clause-sound c = refusal_sound
+
+pub returns-clause-complete : goal.returns-clause-complete
+returns-clause-complete c = refusal_complete

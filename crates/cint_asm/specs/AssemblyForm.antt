@@ -1,0 +1,91 @@
+-- What it is that a text assembles to a module, or is refused.
+use Rattle.std.specs.Prelude.{ℕ, ◌≡◌, ◌+◌, ◌<◌, ◌≤◌, ◌⊎◌, true, Some, List, [], ◌∷◌, ◌++◌, length, Ok, Err}
+use Rattle.std.specs.List.{AllZip, filter_map, flat_map, list_any}
+use Rattle.std.specs.Str.{bytes_eq}
+use Rattle.hunk_text.specs.declared.modules.Module.{Module}
+use Rattle.text_lines.specs.Lines.{lines_of}
+use Rattle.cint_asm.specs.Assembly.{module_of}
+use Rattle.cint_asm.specs.Encoding.{Code}
+use Rattle.cint_asm.specs.Labels.{Table}
+use Rattle.cint_asm.specs.LineErrors.{code_of}
+use Rattle.cint_asm.specs.Pieces.{piece_of}
+use Rattle.cint_asm.specs.Places.{first_offset, most_words}
+use Rattle.cint_asm.specs.Program.{IsProgram, IsTable, labels_of, placed, program_size}
+use Rattle.cint_asm.specs.Reading.{line_of}
+use Rattle.cint_asm.specs.declared.errors.LineError.{LineError}
+use Rattle.cint_asm.specs.declared.errors.LineError.TheVariants.{NoForm, UnknownName, OutOfRange, UndefinedLabel, RepeatedLabel, OutOfReach, HunkTooLong}
+use Rattle.cint_asm.specs.declared.pieces.Piece.{Piece}
+use Rattle.cint_asm.specs.declared.statements.Line.{Line}
+
+-- the pieces are what the lines give at their offsets, where the labels name what the table says
+abbrev pub AreGiven : Table → List (ℕ × Line) → List Piece → Type 0
+AreGiven table lines pieces = AllZip (λ at piece. piece_of table at.0 at.1.statement ≡ Ok piece) lines pieces
+
+-- all bytes, relocations and pairs, in the order of the lines
+abbrev pub code_of_pieces : List Piece → Code
+code_of_pieces pieces = record {
+  bytes = flat_map (λ piece. piece.bytes) pieces;
+  relocations = filter_map (λ piece. piece.relocation) pieces;
+  pairs = filter_map (λ piece. piece.pair) pieces;
+}
+
+-- Some table gives each label its line's place and, with it, each line its bytes at its offset; these are the module's.
+pub record Assembles (text : List ℕ) (m : Module) : Type 0 where
+  pub program : List Line
+  pub table : Table
+  pub pieces : List Piece
+  pub lines : IsProgram (lines_of text) program
+  pub labels : IsTable table program
+  pub given : AreGiven table (placed first_offset program) pieces
+  pub made : m ≡ module_of (code_of_pieces pieces)
+
+-- the line defines a label that one of these lines defines
+pub record RepeatsLabel (program : List Line) (line : Line) : Type 0 where
+  pub name : List ℕ
+  pub label : line.label ≡ Some name
+  pub before : list_any (bytes_eq name) (labels_of program) ≡ true
+
+-- after these lines, the line makes the hunk too long
+abbrev pub IsTooMuch : List Line → Line → Type 0
+IsTooMuch program line = most_words < program_size (program ++ line ∷ [])
+
+-- the line can be read, and what it says cannot follow these lines
+abbrev pub CannotFollow : List Line → List ℕ → LineError → Type 0
+CannotFollow program text RepeatedLabel = (line : Line) × (line_of text ≡ Ok line) × RepeatsLabel program line
+CannotFollow program text HunkTooLong = (line : Line) × (line_of text ≡ Ok line) × IsTooMuch program line
+CannotFollow program text e = ⊥
+
+-- what is wrong with a line after these: it cannot be read, or it cannot follow them
+abbrev pub IsWrong : List Line → List ℕ → LineError → Type 0
+IsWrong program text e = (line_of text ≡ Err e) ⊎ CannotFollow program text e
+
+-- The lines before line n are right, and line n is not: e has the lowest code of what is wrong with it.
+pub record IsBadLine (text : List ℕ) (n : ℕ) (e : LineError) : Type 0 where
+  pub front : List (List ℕ)
+  pub line : List ℕ
+  pub rest : List (List ℕ)
+  pub program : List Line
+  pub all : lines_of text ≡ front ++ line ∷ rest
+  pub number : n ≡ length front + 1
+  pub before : IsProgram front program
+  pub wrong : IsWrong program line e
+  pub lowest : (d : LineError) → IsWrong program line d → code_of e ≤ code_of d
+
+-- No line is wrong in itself. Those before line n are given their bytes, and line n is not.
+pub record IsBadOperand (text : List ℕ) (n : ℕ) (e : LineError) : Type 0 where
+  pub program : List Line
+  pub table : Table
+  pub pieces : List Piece
+  pub front : List (ℕ × Line)
+  pub line : ℕ × Line
+  pub rest : List (ℕ × Line)
+  pub lines : IsProgram (lines_of text) program
+  pub labels : IsTable table program
+  pub all : placed first_offset program ≡ front ++ line ∷ rest
+  pub number : n ≡ length front + 1
+  pub before : AreGiven table front pieces
+  pub wrong : piece_of table line.0 line.1.statement ≡ Err e
+
+-- the text is refused at line n with that code
+abbrev pub IsRefused : List ℕ → ℕ → ℕ → Type 0
+IsRefused text n code = (e : LineError) × (code ≡ code_of e) × (IsBadLine text n e ⊎ IsBadOperand text n e)

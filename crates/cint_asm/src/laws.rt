@@ -1,0 +1,24 @@
+// Laws of assembly.
+ghost use Rattle.std.specs.Prelude.{◌≡◌, ℕ, List, Ok, Err};
+ghost use Rattle.hunk_text.specs.declared.modules.Module.{Module};
+ghost use Rattle.cint_asm.specs.Assembly.{assembly_of};
+ghost use Rattle.cint_asm.specs.AssemblyForm.{Assembles, IsRefused};
+ghost use Rattle.cint_asm.specs.Refusal.{refusal};
+
+/// What is made of a text is the module that it assembles to, and every such module is made: so a text assembles to at most
+/// one module.
+pub fn assembly_law()
+    ensures sound { (text : List ℕ) (m : Module) → assembly_of text ≡ Ok m → Assembles text m }
+    ensures complete { (text : List ℕ) (m : Module) → Assembles text m → assembly_of text ≡ Ok m }
+{}
+
+/// At most one table of labels makes a text a module.
+pub fn table_law()
+    ensures { (text : List ℕ) (m n : Module) (a : Assembles text m) (b : Assembles text n) → a.table ≡ b.table }
+{}
+
+/// A text is refused exactly at its first bad line, with the lowest code that applies to that line.
+pub fn refusal_law()
+    ensures sound { (text : List ℕ) (n code : ℕ) → assembly_of text ≡ Err (refusal n code) → IsRefused text n code }
+    ensures complete { (text : List ℕ) (n code : ℕ) → IsRefused text n code → assembly_of text ≡ Err (refusal n code) }
+{}
