@@ -24,3 +24,6 @@ mod tables;
 pub use assembling::assemble;
 pub use ends::AsmEnd;
 use errors::LineError;
+
+#[cfg(test)]
+mod tests;

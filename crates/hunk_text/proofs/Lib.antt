@@ -4,6 +4,8 @@ pub mod Words
 pub mod Runs
 pub mod Complete
 pub mod Sound
+pub mod Reached
+pub mod FirstErrors
 pub mod Sizes
 pub mod Checked
 pub mod Gathered

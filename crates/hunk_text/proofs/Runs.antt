@@ -40,7 +40,7 @@ or_code_some (Some x) w e = cc
 abbrev step_of : ℕ → Expects → Step
 step_of word next = record { word = word; next = next }
 
-token_ok : (e : Expects) (bytes : List ℕ) (s : Step) → read_token e bytes ≡ Ok s → (word_of bytes ≡ Some s.word) × (follow e s.word ≡ Ok s.next)
+pub token_ok : (e : Expects) (bytes : List ℕ) (s : Step) → read_token e bytes ≡ Ok s → (word_of bytes ≡ Some s.word) × (follow e s.word ≡ Ok s.next)
 token_ok e bytes s h =
     let a = bind_ok (or_one (word_of bytes)) (λ word. follow e word >>= λ next. Ok (step_of word next)) s h in
     let b = bind_ok (follow e a.0) (λ next. Ok (step_of a.0 next)) s a.2 in

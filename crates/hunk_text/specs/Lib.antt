@@ -7,3 +7,4 @@ pub mod ModuleReading
 pub mod Shapes
 pub mod Answers
 pub mod Canonical
+pub mod FirstError

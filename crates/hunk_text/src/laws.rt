@@ -1,7 +1,8 @@
 // Laws of modules and their texts.
-ghost use Rattle.std.specs.Prelude.{◌≡◌, ℕ, List, Ok};
+ghost use Rattle.std.specs.Prelude.{◌≡◌, ◌≢◌, ◌≤◌, ◌⊎◌, ℕ, List, Ok, Err};
+ghost use Rattle.hunk_text.specs.FirstError.{EndsEarly, IsFirstError};
 ghost use Rattle.hunk_text.specs.ModuleForm.{IsModule};
-ghost use Rattle.hunk_text.specs.ModuleReading.{module_of};
+ghost use Rattle.hunk_text.specs.ModuleReading.{module_of, refusal};
 ghost use Rattle.hunk_text.specs.Canonical.{HasWords, IsPrintable, printed};
 ghost use Rattle.hunk_text.specs.declared.modules.Module.{Module};
 
@@ -10,6 +11,15 @@ ghost use Rattle.hunk_text.specs.declared.modules.Module.{Module};
 pub fn module_law()
     ensures sound { (text : List ℕ) (m : Module) → module_of text ≡ Ok m → IsModule text m }
     ensures complete { (text : List ℕ) (m : Module) → IsModule text m → module_of text ≡ Ok m }
+{}
+
+/// Where a text is refused with code 1, 3, 4 or 6, that is the line of the first token in error: the tokens before it may
+/// begin a module's text, and with it no module's text begins. Where it is refused with code 2 or 5, all its tokens may
+/// begin a module's text, and the line is that of its end.
+pub fn refusal_law()
+    ensures error { (text : List ℕ) (line code : ℕ) → code ≢ 2 → code ≢ 5 → module_of text ≡ Err (refusal line code) → IsFirstError text line }
+    ensures early { (text : List ℕ) (line code : ℕ) → (code ≡ 2) ⊎ (code ≡ 5) → module_of text ≡ Err (refusal line code) → EndsEarly text line }
+    ensures codes { (text : List ℕ) (line code : ℕ) → module_of text ≡ Err (refusal line code) → (1 ≤ code) × (code ≤ 6) }
 {}
 
 /// The printed text of a module is read as the same module.
