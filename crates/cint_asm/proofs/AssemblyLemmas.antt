@@ -1,18 +1,17 @@
 -- What is made of a text is the module that it assembles to, and back.
-use Rattle.std.proofs.Common.{◌≡◌, ◌∙◌, ℕ, ◌+◌, ◌≤◌, Option, Some, None, Ok, Err, List, [], ◌∷◌, ◌++◌, length, refl, sym, ap, subst, arith, lit≤}
+use Rattle.std.proofs.Common.{◌≡◌, ◌∙◌, ℕ, ◌+◌, ◌≤◌, Option, Some, None, Ok, List, [], ◌∷◌, ◌++◌, length, refl, sym, ap, subst, lit≤}
 use Rattle.std.specs.Prelude.{option_to_list}
-use Rattle.std.specs.List.{AllZip, cons_option, filter_map, flat_map}
+use Rattle.std.specs.List.{cons_option, filter_map, flat_map}
 use Rattle.hunk_text.specs.declared.modules.Module.{Module}
 use Rattle.text_lines.specs.Lines.{lines_of}
 use Rattle.cint_asm.specs.Assembly.{assembly_of, module_of}
 use Rattle.cint_asm.specs.AssemblyForm.{AreGiven, Assembles, code_of_pieces}
-use Rattle.cint_asm.specs.Encoding.{Code, code_of, encode, encode_line, joined, no_code}
+use Rattle.cint_asm.specs.Encoding.{Code, code_of, encode, encode_line, joined}
 use Rattle.cint_asm.specs.Labels.{Table}
 use Rattle.cint_asm.specs.Pieces.{piece_of}
-use Rattle.cint_asm.specs.Places.{end_of, first_offset, hunk_size, most_words, pairs_of}
+use Rattle.cint_asm.specs.Places.{end_of, first_offset, hunk_size, most_words}
 use Rattle.cint_asm.specs.Program.{AreRead, IsProgram, IsTable, placed, program_size}
 use Rattle.cint_asm.specs.Reading.{line_of}
-use Rattle.cint_asm.specs.Refusal.{at_line}
 use Rattle.cint_asm.specs.Steps.{◌>>=◌}
 use Rattle.cint_asm.specs.Survey.{Layout, no_lines, survey}
 use Rattle.cint_asm.specs.declared.pieces.Piece.{Piece}

@@ -11,3 +11,5 @@ pub mod TableLemmas
 pub mod AssemblyLemmas
 pub mod RefusalLemmas
 pub mod Refused
+pub mod LineErrorLemmas
+pub mod Rising

@@ -22,11 +22,12 @@ pub later : (boundary : Boundary) (offset : ℕ) → offset ≤ rounded_up bound
 later Half offset = omega arith
 later Word offset = omega arith
 
--- what a piece is, beside its bytes: it ends there, has so many pairs, and what it relocates is inside
+-- what a piece is, beside its bytes: it ends there, has so many pairs, and what it relocates lies between
 pub record PieceFits (offset end pairs : ℕ) (p : Piece) : Type 0 where
   pub ends : offset + length p.bytes ≡ end
   pub counts : length (option_to_list p.pair) ≡ pairs
   pub inside : AllByRecursion (λ r. 4 * r + 4 ≤ end) (option_to_list p.relocation)
+  pub behind : AllByRecursion (λ r. offset ≤ 4 * r) (option_to_list p.relocation)
   pub few : 4 * length (option_to_list p.relocation) ≤ length p.bytes
 
 abbrev ok_piece : Piece → Result Piece LineError
@@ -37,7 +38,7 @@ made : (offset end pairs : ℕ) (p q : Piece) → ok_piece p ≡ Ok q → PieceF
 made offset end pairs p q e h = let same : p ≡ q = cc e in subst (λ (r : Piece). PieceFits offset end pairs r) same h
 
 plain_fits : (offset end : ℕ) (bytes : List ℕ) → offset + length bytes ≡ end → PieceFits offset end 0 (plain bytes)
-plain_fits offset end bytes h = record { ends = h; counts = refl; inside = tt; few = omega arith }
+plain_fits offset end bytes h = record { ends = h; counts = refl; inside = tt; behind = tt; few = omega arith }
 
 -- zero bytes, and then bytes of their own
 padded : (from to : ℕ) (bytes : List ℕ) → from ≤ to → from + length (zeros from to ++ bytes) ≡ to + length bytes
@@ -81,6 +82,7 @@ address_fits table offset label p e =
       ends = ends;
       counts = refl;
       inside = (omega arith, tt);
+      behind = (omega arith, tt);
       few = let four : length (to_le_bytes w32 b.0) ≡ 4 = refl in omega (arith, four, length-append (zeros offset begin) (to_le_bytes w32 b.0));
     })
 
@@ -91,7 +93,7 @@ global_piece number place = record { bytes = []; relocation = None; pair = Some 
 global_fits : (table : Table) (offset number : ℕ) (label : List ℕ) (p : Piece) → global_pair table number label ≡ Ok p → PieceFits offset offset 1 p
 global_fits table offset number label p e =
     let a = bind_ok (found table label) (λ place. Ok (global_piece number place)) p e in
-    made offset offset 1 (global_piece number a.0) p a.2 (record { ends = add-zero offset; counts = refl; inside = tt; few = omega arith })
+    made offset offset 1 (global_piece number a.0) p a.2 (record { ends = add-zero offset; counts = refl; inside = tt; behind = tt; few = omega arith })
 
 pub piece_fits : (table : Table) (offset : ℕ) (s : Statement) (p : Piece) → piece_of table offset s ≡ Ok p → PieceFits offset (end_of s offset) (pairs_of s) p
 unfolding piece_of

@@ -1,24 +1,16 @@
 -- The survey of a text is that of its program.
-use Rattle.std.proofs.Common.{◌≡◌, ◌≢◌, ◌∙◌, ℕ, ◌+◌, ◌<◌, ◌≤◌, ◌⊎◌, inl, inr, Bool, true, false, cond, Option, Some, None, Result, Ok, Err, List, [], ◌∷◌, ◌++◌, length, refl, sym, ap, subst, arith, nat_lt, zero-add, add-zero, add_assoc}
-use Rattle.std.specs.Prelude.{is_some, sum_by}
-use Rattle.std.specs.List.{AllByRecursion, AllZip, IsDistinct, filter_map}
-use Rattle.std.specs.Map.{lookup, update}
-use Rattle.std.specs.Str.{bytes_eq}
+use Rattle.std.proofs.Common.{◌≡◌, ◌∙◌, ℕ, ◌+◌, ◌≤◌, false, Ok, List, [], ◌∷◌, refl, sym, ap, subst, arith, nat_lt, zero-add, add-zero, add_assoc}
 use Rattle.std.proofs.lemmas.Bool.Decides.{nat_tests}
 use Rattle.std.proofs.lemmas.List.Sums.{sum_by-cons}
-use Rattle.cint_asm.specs.Labels.{Table, named_place, no_labels, repeats, with_label}
-use Rattle.cint_asm.specs.Places.{closing_size, end_of, first_offset, hunk_size, most_words, pairs_of, rounded_up}
-use Rattle.cint_asm.specs.Program.{AreRead, IsProgram, IsTable, defined, end_after, labels_of, pair_count, placed, program_size}
+use Rattle.cint_asm.specs.Places.{closing_size, end_of, first_offset, hunk_size, most_words, pairs_of}
+use Rattle.cint_asm.specs.Program.{AreRead, end_after, pair_count, program_size}
 use Rattle.cint_asm.specs.Reading.{line_of}
-use Rattle.cint_asm.specs.Refusal.{Refusal, at_line}
-use Rattle.cint_asm.specs.Steps.{◌>>=◌}
 use Rattle.cint_asm.specs.Survey.{Layout, admitted, no_lines, survey, survey_line, with_line}
-use Rattle.cint_asm.specs.declared.places.Place.{Place}
 use Rattle.cint_asm.specs.declared.statements.Line.{Line}
 use Rattle.cint_asm.specs.declared.statements.Statement.{Statement}
 use Rattle.cint_asm.specs.declared.statements.Statement.TheVariants.{Fixed, Relative, Indirect, Reserve, Address, Align, Global}
 use Rattle.cint_asm.proofs.PieceFits.{later}
-use Rattle.cint_asm.proofs.SurveyLemmas.{ComesNext, Surveys, survey_ok}
+use Rattle.cint_asm.proofs.SurveyLemmas.{ComesNext, survey_ok}
 
 -- the layout after lines
 abbrev pub layout_after : Layout → List Line → Layout

@@ -1,15 +1,15 @@
 -- Where the survey of a text stops, and why.
-use Rattle.std.proofs.Common.{◌≡◌, ◌∙◌, ℕ, suc, ◌+◌, ◌<◌, ◌≤◌, ◌⊎◌, inl, inr, Bool, true, false, ◌||◌, cond, Option, Some, None, Result, Ok, Err, List, [], ◌∷◌, ◌++◌, length, refl, sym, ap, subst, arith, add-zero, nat_lt}
+use Rattle.std.proofs.Common.{◌≡◌, ◌∙◌, ℕ, ◌+◌, ◌<◌, ◌⊎◌, inl, inr, Bool, true, false, ◌||◌, cond, Option, Some, None, Ok, Err, List, [], ◌∷◌, ◌++◌, length, refl, sym, ap, subst, arith, add-zero, nat_lt}
 use Rattle.std.specs.Prelude.{is_some}
 use Rattle.std.specs.List.{filter_map, list_any}
 use Rattle.std.specs.Map.{lookup}
 use Rattle.std.specs.Str.{bytes_eq}
 use Rattle.std.proofs.lemmas.Bool.Decides.{nat_tests}
-use Rattle.cint_asm.specs.AssemblyForm.{IsTooMuch, RepeatsLabel}
-use Rattle.cint_asm.specs.Labels.{Table, named_place, repeats}
+use Rattle.cint_asm.specs.AssemblyForm.{RepeatsLabel}
+use Rattle.cint_asm.specs.Labels.{named_place, repeats}
 use Rattle.cint_asm.specs.LineErrors.{code_of}
 use Rattle.cint_asm.specs.Places.{end_of, first_offset, hunk_size, most_words, pairs_of}
-use Rattle.cint_asm.specs.Program.{AreRead, IsTable, defined, labels_of, placed, program_size}
+use Rattle.cint_asm.specs.Program.{AreRead, defined, labels_of, placed, program_size}
 use Rattle.cint_asm.specs.Reading.{line_of}
 use Rattle.cint_asm.specs.Refusal.{Refusal, at_line, refusal}
 use Rattle.cint_asm.specs.Steps.{◌>>=◌}

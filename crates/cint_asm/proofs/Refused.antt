@@ -1,18 +1,18 @@
 -- A text is refused exactly where it is refused by the rules.
-use Rattle.std.proofs.Common.{◌≡◌, ◌∙◌, ℕ, suc, ◌+◌, ◌<◌, ◌≤◌, ◌⊎◌, inl, inr, Bool, true, false, Result, Ok, Err, List, [], ◌∷◌, ◌++◌, length, refl, sym, ap, subst, arith, add-zero, lit≤}
+use Rattle.std.proofs.Common.{◌≡◌, ◌∙◌, ℕ, ◌+◌, ◌<◌, ◌≤◌, ◌⊎◌, inl, inr, Bool, true, false, Ok, Err, List, [], ◌∷◌, ◌++◌, length, refl, sym, ap, subst, arith, add-zero, lit≤}
 use Rattle.text_lines.specs.Lines.{lines_of}
 use Rattle.cint_asm.specs.Assembly.{assembly_of, module_of}
-use Rattle.cint_asm.specs.AssemblyForm.{AreGiven, CannotFollow, IsBadLine, IsBadOperand, IsRefused, IsTooMuch, IsWrong, RepeatsLabel}
-use Rattle.cint_asm.specs.Encoding.{Code, code_of as code_of_piece, encode, encode_line, joined}
+use Rattle.cint_asm.specs.AssemblyForm.{AreGiven, IsBadLine, IsBadOperand, IsRefused, IsTooMuch, IsWrong}
+use Rattle.cint_asm.specs.Encoding.{code_of as code_of_piece, encode, encode_line, joined}
 use Rattle.cint_asm.specs.Labels.{Table, repeats}
 use Rattle.cint_asm.specs.LineErrors.{code_of}
 use Rattle.cint_asm.specs.Pieces.{piece_of}
-use Rattle.cint_asm.specs.Places.{end_of, first_offset, hunk_size, most_words}
-use Rattle.cint_asm.specs.Program.{AreRead, IsProgram, IsTable, placed, program_size}
+use Rattle.cint_asm.specs.Places.{end_of, first_offset, most_words}
+use Rattle.cint_asm.specs.Program.{AreRead, IsProgram, placed}
 use Rattle.cint_asm.specs.Reading.{line_of}
 use Rattle.cint_asm.specs.Refusal.{Refusal, at_line, refusal}
 use Rattle.cint_asm.specs.Steps.{◌>>=◌}
-use Rattle.cint_asm.specs.Survey.{Layout, admitted, no_lines, survey, survey_line, with_line}
+use Rattle.cint_asm.specs.Survey.{Layout, admitted, no_lines, survey, survey_line}
 use Rattle.cint_asm.specs.declared.errors.LineError.{LineError}
 use Rattle.cint_asm.specs.declared.errors.LineError.TheVariants.{NoForm, UnknownName, OutOfRange, UndefinedLabel, RepeatedLabel, OutOfReach, HunkTooLong}
 use Rattle.cint_asm.specs.declared.pieces.Piece.{Piece}
@@ -21,7 +21,7 @@ use Rattle.cint_asm.proofs.AssemblyLemmas.{comes, line_again, line_given, progra
 use Rattle.cint_asm.proofs.EncodeLemmas.{survey_fits}
 use Rattle.cint_asm.proofs.PieceFits.{piece_fits}
 use Rattle.cint_asm.proofs.ProgramLemmas.{ComeNext, layout_after, size_after, survey_again}
-use Rattle.cint_asm.proofs.RefusalLemmas.{IsNotAdmitted, IsTooLong, IsUnread, StopsSurvey, admitted_err, repeated_again, repeats_again, repeats_label, size_with, survey_err, survey_front, survey_line_err, too_long_again}
+use Rattle.cint_asm.proofs.RefusalLemmas.{StopsSurvey, admitted_err, repeated_again, repeats_again, repeats_label, size_with, survey_err, survey_front, survey_line_err, too_long_again}
 use Rattle.cint_asm.proofs.Steps.{at_line_err, at_line_ok, bind_err}
 use Rattle.cint_asm.proofs.TableLemmas.{distinct_labels}
 

@@ -1,5 +1,5 @@
 -- The labels of a program: none twice, and what the survey's table says of them.
-use Rattle.std.proofs.Common.{◌≡◌, ◌∙◌, ℕ, ◌+◌, ◌≤◌, ◌⊎◌, inl, inr, Bool, true, false, cond, Option, Some, None, List, [], ◌∷◌, refl, sym, ap, subst, arith}
+use Rattle.std.proofs.Common.{◌≡◌, ◌∙◌, ℕ, ◌≤◌, Bool, true, false, cond, Option, Some, None, List, [], ◌∷◌, refl, sym, ap, arith}
 use Rattle.std.specs.Prelude.{is_some}
 use Rattle.std.specs.Bool.{Decides}
 use Rattle.std.specs.List.{AllByRecursion, IsDistinct, filter_map}
@@ -7,8 +7,8 @@ use Rattle.std.specs.Map.{lookup, update}
 use Rattle.std.specs.Str.{bytes_eq}
 use Rattle.std.proofs.lemmas.Bool.Decides.{Decides-like, same_from_decides}
 use Rattle.std.proofs.lemmas.Slice.Eq.{bytes_eq-Decides}
-use Rattle.cint_asm.specs.Labels.{Table, named_place, no_labels, repeats, with_label}
-use Rattle.cint_asm.specs.Places.{end_of, first_offset, hunk_size, most_words, pairs_of}
+use Rattle.cint_asm.specs.Labels.{Table, named_place, no_labels, repeats}
+use Rattle.cint_asm.specs.Places.{end_of, first_offset, hunk_size, most_words}
 use Rattle.cint_asm.specs.Program.{IsTable, defined, labels_of, placed}
 use Rattle.cint_asm.specs.Survey.{Layout, no_lines, with_line}
 use Rattle.cint_asm.specs.declared.places.Place.{Place}

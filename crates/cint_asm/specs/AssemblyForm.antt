@@ -1,6 +1,7 @@
 -- What it is that a text assembles to a module, or is refused.
 use Rattle.std.specs.Prelude.{ℕ, ◌≡◌, ◌+◌, ◌<◌, ◌≤◌, ◌⊎◌, true, Some, List, [], ◌∷◌, ◌++◌, length, Ok, Err}
-use Rattle.std.specs.List.{AllZip, filter_map, flat_map, list_any}
+use Rattle.std.specs.List.Sorted.{IsStrictlyIncreasing}
+use Rattle.std.specs.List.{AllByRecursion, AllZip, filter_map, flat_map, list_any}
 use Rattle.std.specs.Str.{bytes_eq}
 use Rattle.hunk_text.specs.declared.modules.Module.{Module}
 use Rattle.text_lines.specs.Lines.{lines_of}
@@ -13,7 +14,7 @@ use Rattle.cint_asm.specs.Places.{first_offset, most_words}
 use Rattle.cint_asm.specs.Program.{IsProgram, IsTable, labels_of, placed, program_size}
 use Rattle.cint_asm.specs.Reading.{line_of}
 use Rattle.cint_asm.specs.declared.errors.LineError.{LineError}
-use Rattle.cint_asm.specs.declared.errors.LineError.TheVariants.{NoForm, UnknownName, OutOfRange, UndefinedLabel, RepeatedLabel, OutOfReach, HunkTooLong}
+use Rattle.cint_asm.specs.declared.errors.LineError.TheVariants.{RepeatedLabel, HunkTooLong}
 use Rattle.cint_asm.specs.declared.pieces.Piece.{Piece}
 use Rattle.cint_asm.specs.declared.statements.Line.{Line}
 
@@ -38,6 +39,10 @@ pub record Assembles (text : List ℕ) (m : Module) : Type 0 where
   pub labels : IsTable table program
   pub given : AreGiven table (placed first_offset program) pieces
   pub made : m ≡ module_of (code_of_pieces pieces)
+
+-- the relocations of each hunk stand in rising order
+abbrev pub RelocationsRise : Module → Type 0
+RelocationsRise m = AllByRecursion (λ hunk. IsStrictlyIncreasing hunk.relocations) m.hunks
 
 -- the line defines a label that one of these lines defines
 pub record RepeatsLabel (program : List Line) (line : Line) : Type 0 where

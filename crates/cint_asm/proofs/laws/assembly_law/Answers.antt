@@ -1,4 +1,5 @@
 use Rattle.cint_asm.proofs.AssemblyLemmas.{complete, sound}
+use Rattle.cint_asm.proofs.Rising.{relocations_rise}
 use Rattle.cint_asm.proofs.laws.assembly_law.Goals as goal
 
 pub returns-clause-sound : goal.returns-clause-sound
@@ -6,3 +7,6 @@ returns-clause-sound c = sound
 
 pub returns-clause-complete : goal.returns-clause-complete
 returns-clause-complete c = complete
+
+pub returns-clause-rising : goal.returns-clause-rising
+returns-clause-rising c = relocations_rise

@@ -1,3 +1,4 @@
+use Rattle.cint_asm.proofs.LineErrorLemmas.{line_codes, operand_codes}
 use Rattle.cint_asm.proofs.Refused.{refusal_complete, refusal_sound}
 use Rattle.cint_asm.proofs.laws.refusal_law.Goals as goal
 
@@ -6,3 +7,9 @@ returns-clause-sound c = refusal_sound
 
 pub returns-clause-complete : goal.returns-clause-complete
 returns-clause-complete c = refusal_complete
+
+pub returns-clause-lines : goal.returns-clause-lines
+returns-clause-lines c = line_codes
+
+pub returns-clause-operands : goal.returns-clause-operands
+returns-clause-operands c = operand_codes
