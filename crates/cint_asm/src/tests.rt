@@ -31,7 +31,7 @@ fn assembles(rt: HostRuntime) -> Result<(), Fail> {
 }
 
 // Each text with the line and the code of its refusal.
-const REFUSED: [(&[u8], u32, u32); 40] = [
+const REFUSED: [(&[u8], u32, u32); 52] = [
     // One code.
     (b"L", 1, 1),
     (b"L a", 1, 1),
@@ -74,6 +74,18 @@ const REFUSED: [(&[u8], u32, u32); 40] = [
     (b"a:\na: J x", 2, 5),
     (b"a:\na:\nL", 2, 5),
     (b"L 256\nL", 1, 3),
+    (b"FOO\nL", 1, 2),
+    (b"L\nFOO", 1, 1),
+    (b"FOO\nL 256", 1, 2),
+    (b"L 256\nFOO", 1, 3),
+    (b"a:\na: FOO", 2, 2),
+    (b"a:\na:\nFOO", 2, 5),
+    (b"J x\nL", 2, 1),
+    (b"J x\nL 256", 2, 3),
+    (b"J x\na:\na:", 3, 5),
+    (b"J$ a\nL\na: NOP", 2, 1),
+    (b"J$ a\na: FOO", 2, 2),
+    (b"J$ a\nL 256\na: NOP", 2, 3),
 ];
 
 #[test]
@@ -103,6 +115,10 @@ fn makes_the_largest_hunk_and_none_above_it(rt: HostRuntime) -> Result<(), Fail>
     for (line, code) in [
         (b"DB 0".as_slice(), 7),
         (b"GLOBAL 1 end", 7),
+        (b"J x", 7),
+        (b"J$ end", 7),
+        (b"FOO", 2),
+        (b"L 256", 3),
         (b"end: DB 0", 5),
         (b"DB 0 0", 1),
     ] {
