@@ -4,6 +4,7 @@ use cint_disasm::disassemble;
 use cint_table::{Form, Row, row};
 use hunk_text::read_module;
 use std::alloc::Global;
+use std::process::Abort;
 use std::test::Fail;
 use tp_io::MemorySink;
 
@@ -55,9 +56,12 @@ fn every_instruction_is_listed_as_it_was_assembled(rt: HostRuntime) -> Result<()
             for (program, line) in shapes_of(form) {
                 let program = program.replace(rt.alloc(), '@', name)?;
                 let line = line.replace(rt.alloc(), '@', name)?;
-                let listing = listing_of(rt.alloc(), program.as_bytes())?;
+                let listing = listing_of(&rt, rt.alloc(), program.as_bytes())?;
                 let listing = std::str::from_utf8(listing.bytes())?;
-                assert!(rt; listing.lines().any(|l| l == line.as_str()), "{program}: {listing}");
+                assert!(rt;
+                    listing.lines().any(|l| l == line.as_str()),
+                    "{program}: {listing}"
+                );
             }
         }
     }
@@ -65,12 +69,15 @@ fn every_instruction_is_listed_as_it_was_assembled(rt: HostRuntime) -> Result<()
 }
 
 // The listing of what a text assembles to.
-fn listing_of(alloc: Global, text: &[u8]) -> Result<MemorySink, Fail> {
+fn listing_of(rt: &impl Abort, alloc: Global, text: &[u8]) -> Result<MemorySink, Fail> {
+    assert!(rt; text.len() < 1000);
     let module = assemble(alloc, text)?;
+    assert!(rt; module.len() < 1000);
     let module = read_module(alloc, &module)?;
     let [hunk] = module.hunks.as_slice() else {
         return Err("one hunk is made".into());
     };
+    assert!(rt; hunk.words.as_slice().len() < 1000);
     let mut listing = MemorySink::new(alloc, 4096, &[])?;
     disassemble(hunk, 1, &mut listing)?;
     Ok(listing)
