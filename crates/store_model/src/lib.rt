@@ -1,0 +1,2 @@
+// The vocabulary of lists in a store: links, counted addresses, owned words and their exchange, and blocks.
+#![tactic(auto)]
