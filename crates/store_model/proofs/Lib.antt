@@ -5,3 +5,6 @@ pub mod Insertion
 pub mod Removal
 pub mod Places
 pub mod Lists
+pub mod OwnedWords
+pub mod Exchanges
+pub mod Writing

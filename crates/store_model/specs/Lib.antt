@@ -4,3 +4,7 @@ pub mod Linked
 pub mod Placing
 pub mod Walk
 pub mod Changed
+pub mod Owned
+pub mod Exchange
+pub mod LinkedWords
+pub mod Written

@@ -1,2 +1,4 @@
 // The vocabulary of lists in a store: links, counted addresses, owned words and their exchange, and blocks.
 #![tactic(auto)]
+
+pub mod laws;
