@@ -8,3 +8,4 @@ pub mod Lists
 pub mod OwnedWords
 pub mod Exchanges
 pub mod Writing
+pub mod Frames
