@@ -1,0 +1,5 @@
+pub mod Block
+pub mod Give
+pub mod Run
+pub mod Take
+pub mod Tiling
