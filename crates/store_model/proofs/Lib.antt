@@ -1,2 +1,4 @@
 pub mod Runs
 pub mod Tilings
+pub mod UsedBlocks
+pub mod Writes
