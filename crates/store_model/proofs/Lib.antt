@@ -1,4 +1,6 @@
 pub mod Runs
+pub mod SizeWords
+pub mod Takes
 pub mod Tilings
 pub mod UsedBlocks
 pub mod Writes
