@@ -1,3 +1,5 @@
+pub mod AfterGive
+pub mod AfterTake
 pub mod Runs
 pub mod SizeWords
 pub mod Takes
