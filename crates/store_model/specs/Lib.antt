@@ -1,3 +1,8 @@
+pub mod Block
+pub mod Give
+pub mod Run
+pub mod Take
+pub mod Tiling
 pub mod Count
 pub mod Chain
 pub mod Linked
