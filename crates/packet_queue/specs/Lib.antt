@@ -1,0 +1,4 @@
+pub mod Log
+pub mod KeptEvents
+pub mod EventLine
+pub mod LineNote
