@@ -1,0 +1,6 @@
+pub mod Count
+pub mod Chain
+pub mod Linked
+pub mod Placing
+pub mod Walk
+pub mod Changed
