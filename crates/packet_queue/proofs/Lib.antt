@@ -1,0 +1,4 @@
+pub mod PacketWords
+pub mod Rising
+pub mod Changes
+pub mod DueWords
