@@ -1,9 +1,8 @@
 -- The queue of a head after a packet came or went.
-use Rattle.std.proofs.Common.{◌≡◌, ◌≢◌, ℕ, ◌+◌, ◌<◌, List, [], ◌∷◌, ◌++◌, length, get_or, set, eqb, cond, Bool, true, false, Option, None, Some, refl, sym, ap, ◌∙◌, subst, arith, get_or-set_other, length-set, ◌||◌}
+use Rattle.std.proofs.Common.{◌≡◌, ◌≢◌, ℕ, ◌+◌, ◌<◌, List, [], ◌∷◌, ◌++◌, get_or, set, eqb, cond, Bool, true, false, None, Some, refl, sym, ap, ◌∙◌, subst, arith, get_or-set_other, length-set, ◌||◌}
 use Rattle.std.proofs.lemmas.Bool.Decides.{nat_tests}
 use Rattle.store_model.specs.Count.{node_words, times}
 use Rattle.store_model.specs.Chain.{IsChain, last_cell}
-use Rattle.store_model.specs.Linked.{IsNode}
 use Rattle.store_model.specs.Placing.{cell_before, has, insert_after, linked_in, without}
 use Rattle.store_model.specs.Changed.{InsertedAt, RemovedAt}
 use Rattle.store_model.proofs.Counts.{times-differ, times-within}
@@ -55,10 +54,10 @@ pub removed : (s : List ℕ) (head p : ℕ) → HasQueue s head → has p (queue
 removed s head p queue some = removed_by (list-removed s link_of packet_size head p queue some)
   where
     removed_by : RemovedAt s (set s (link_before s head p) (get_or s p 0)) link_of packet_size (link_before s head p) p
-      → BecomesList (unlinked s (link_before s head p) p) link_of packet_size head (without p (queue_at s head))
+        → BecomesList (unlinked s (link_before s head p) p) link_of packet_size head (without p (queue_at s head))
     removed_by r =
-      list-remove s (unlinked s (link_before s head p) p) link_of packet_size head p queue some
-      (removed-then s (set s (link_before s head p) (get_or s p 0)) link_of packet_size (link_before s head p) p p NO_QUEUE r
+        list-remove s (unlinked s (link_before s head p) p) link_of packet_size head p queue some
+        (removed-then s (set s (link_before s head p) (get_or s p 0)) link_of packet_size (link_before s head p) p p NO_QUEUE r
         (omega (arith, times-within p p 5 (omega arith) (omega arith))) (list-cell_before s link_of packet_size head p queue some))
 
 -- the first packet went
@@ -68,13 +67,16 @@ taken s head p queue read some = by_list (queue_at s head) refl queue.chain
     by_list : (ps : List ℕ) → queue_at s head ≡ ps → IsChain s link_of head ps → (rest : List ℕ) × (queue_at s head ≡ p ∷ rest) × BecomesList (unlinked s head p) link_of packet_size head rest
     by_list [] is chain = absurd (some (read ∙ chain))
     by_list (q ∷ rest) is chain =
-      let whole : queue_at s head ≡ p ∷ rest = is ∙ ap (λ z. z ∷ rest) (sym (read ∙ chain.0)) in
-      let same : eqb p p ≡ true = grind (arith, nat_tests) in
-      let first : has p (queue_at s head) ≡ true = ap (has p) whole ∙ ap (λ b. b || has p rest) same in
-      let cell : link_before s head p ≡ head = ap (cell_before link_of p head) whole ∙ ap (λ b. cond b head (cell_before link_of p p rest)) same in
-      let list : without p (queue_at s head) ≡ rest = ap (without p) whole ∙ ap (λ b. cond b rest (p ∷ without p rest)) same in
-      (rest, whole, subst (λ c. BecomesList (unlinked s c p) link_of packet_size head rest) cell
-        (subst (BecomesList (unlinked s (link_before s head p) p) link_of packet_size head) list (removed s head p queue first)))
+        let whole : queue_at s head ≡ p ∷ rest = is ∙ ap (λ z. z ∷ rest) (sym (read ∙ chain.0)) in
+        let same : eqb p p ≡ true = grind (arith, nat_tests) in
+        let first : has p (queue_at s head) ≡ true = ap (has p) whole ∙ ap (λ b. b || has p rest) same in
+        let cell : link_before s head p ≡ head = ap (cell_before link_of p head) whole ∙ ap (λ b. cond b head (cell_before link_of p p rest)) same in
+        let list : without p (queue_at s head) ≡ rest = ap (without p) whole ∙ ap (λ b. cond b rest (p ∷ without p rest)) same in (
+          rest,
+          whole,
+          subst (λ c. BecomesList (unlinked s c p) link_of packet_size head rest) cell
+              (subst (BecomesList (unlinked s (link_before s head p) p) link_of packet_size head) list (removed s head p queue first)),
+        )
 
 -- the head leads nowhere exactly where the queue is empty
 pub queue_at-none : (s : List ℕ) (head : ℕ) → get_or s head 0 ≡ 0 → queue_at s head ≡ []

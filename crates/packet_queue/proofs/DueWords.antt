@@ -1,13 +1,12 @@
 -- Due ticks along a queue to which a packet was appended by its due tick.
-use Rattle.std.proofs.Common.{◌≡◌, ◌≢◌, ℕ, ◌+◌, ◌<◌, ◌≤◌, List, [], ◌∷◌, ◌++◌, length, eqb, cond, refl, sym, ap, ◌∙◌, subst, arith, get_or-set_same, get_or-set_other, length-set, get_or, set}
+use Rattle.std.proofs.Common.{◌≡◌, ℕ, ◌+◌, ◌<◌, List, [], ◌∷◌, ◌++◌, length, eqb, cond, refl, sym, ap, ◌∙◌, subst, arith, get_or-set_same, length-set, get_or, set}
 use Rattle.std.specs.List.{AllByRecursion}
-use Rattle.store_model.specs.Count.{hit, node_words, times, words_of}
+use Rattle.store_model.specs.Count.{times, words_of}
 use Rattle.store_model.specs.Placing.{insert_after, linked_in}
 use Rattle.store_model.specs.Changed.{InsertedAt}
-use Rattle.store_model.proofs.Counts.{hit-same, times-append, times-differ, times-within}
-use Rattle.store_model.proofs.Lists.{BecomesList, list-inserted}
+use Rattle.store_model.proofs.Counts.{hit-same, times-differ, times-within}
 use Rattle.packet_queue.specs.Queue.{CanQueue, HasQueue, link_of, packet_size, queue_at}
-use Rattle.packet_queue.specs.Due.{due_at, due_of, is_due, last_due_link, with_due}
+use Rattle.packet_queue.specs.Due.{due_of, is_due, last_due_link, with_due}
 use Rattle.packet_queue.specs.DueOrder.{ArrivesLast, NeverFalls}
 use Rattle.packet_queue.proofs.Changes.{due_appended, due_written}
 use Rattle.packet_queue.proofs.PacketWords.{cell_after-among, due_word-no_cell, words-queued}
@@ -26,11 +25,11 @@ due_of-queued : (s : List ℕ) (head p due q : ℕ) → HasQueue s head → CanQ
 due_of-queued s head p due q queue fresh some =
     let i : InsertedAt s (with_due s head p due) link_of packet_size (last_due_link s head due) p = due_written s head p due queue fresh in
     let word : 0 < times (q + 4) (words_of packet_size (queue_at s head)) =
-      omega (arith, words-queued (q + 4) q (queue_at s head) some, times-within (q + 4) q 5 (omega arith) (omega arith))
+    omega (arith, words-queued (q + 4) q (queue_at s head) some, times-within (q + 4) q 5 (omega arith) (omega arith))
     in
     sym (i.others (q + 4)
-      (λ e. absurd (times-differ (last_due_link s head due) (q + 4) _ (cell_after-among (is_due s due) head p (queue_at s head)) (due_word-no_cell s head q queue some) (sym e)))
-      (omega (arith, word, fresh.apart (q + 4))))
+    (λ e. absurd (times-differ (last_due_link s head due) (q + 4) _ (cell_after-among (is_due s due) head p (queue_at s head)) (due_word-no_cell s head q queue some) (sym e)))
+    (omega (arith, word, fresh.apart (q + 4))))
 
 all-queued : (P : ℕ → Type 0) (ps : List ℕ) → ((q : ℕ) → 0 < times q ps → P q) → AllByRecursion P ps
 all-queued P [] h = tt
@@ -46,7 +45,7 @@ rearranged : (s : List ℕ) (head p due : ℕ) → HasQueue s head → CanQueue 
 rearranged s head p due queue fresh =
     let t : List ℕ = with_due s head p due in
     let same : AllByRecursion (λ q. due_of s q ≡ due_of t q) (queue_at s head) =
-      all-queued (λ q. due_of s q ≡ due_of t q) (queue_at s head) (λ q some. due_of-queued s head p due q queue fresh some)
+    all-queued (λ q. due_of s q ≡ due_of t q) (queue_at s head) (λ q some. due_of-queued s head p due q queue fresh some)
     in
     record {
       own = due_of-new s head p due fresh;

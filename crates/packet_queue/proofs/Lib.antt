@@ -2,3 +2,4 @@ pub mod PacketWords
 pub mod Rising
 pub mod Changes
 pub mod DueWords
+pub mod Filling

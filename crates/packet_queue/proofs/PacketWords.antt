@@ -1,5 +1,5 @@
 -- The words of queued packets: links, due ticks, and the others.
-use Rattle.std.proofs.Common.{◌≡◌, ◌≢◌, ℕ, ◌+◌, ◌<◌, ◌≤◌, List, [], ◌∷◌, refl, sym, ap, ◌∙◌, subst, arith, inl, inr, Bool}
+use Rattle.std.proofs.Common.{◌≡◌, ℕ, ◌+◌, ◌<◌, ◌≤◌, List, [], ◌∷◌, sym, ap, subst, arith, inl, inr, Bool}
 use Rattle.std.proofs.lemmas.Bool.{cases_eq}
 use Rattle.store_model.specs.Count.{hit, node_words, times, words_of}
 use Rattle.store_model.specs.Chain.{cells, last_cell}
@@ -15,10 +15,10 @@ times-packet a p =
     elim (cases_eq a p) [
       | inl e ↦ omega (arith, hit-same a p e, hit-other a (p + 4) (λ k. absurd (omega (arith, e, k))), times-within a p 5 (omega arith) (omega arith))
       | inr other ↦
-        elim (cases_eq a (p + 4)) [
-          | inl e ↦ omega (arith, hit-other a p other, hit-same a (p + 4) e, times-within a p 5 (omega arith) (omega arith))
-          | inr k ↦ omega (arith, hit-other a p other, hit-other a (p + 4) k)
-        ]
+          elim (cases_eq a (p + 4)) [
+            | inl e ↦ omega (arith, hit-other a p other, hit-same a (p + 4) e, times-within a p 5 (omega arith) (omega arith))
+            | inr k ↦ omega (arith, hit-other a p other, hit-other a (p + 4) k)
+          ]
     ]
 
 -- the words that hold due ticks

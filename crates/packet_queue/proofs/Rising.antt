@@ -1,5 +1,5 @@
 -- A number that never falls along a list, and a new element behind the last one whose number is not above its own.
-use Rattle.std.proofs.Common.{◌≡◌, ◌≢◌, ℕ, zero, suc, ◌+◌, ◌<◌, ◌≤◌, List, [], ◌∷◌, ◌++◌, length, get_or, eqb, leb, nat_le, cond, Bool, true, false, ◌||◌, refl, sym, ap, ◌∙◌, subst, arith, append-nil}
+use Rattle.std.proofs.Common.{◌≡◌, ℕ, zero, suc, ◌<◌, ◌≤◌, List, [], ◌∷◌, ◌++◌, length, get_or, eqb, nat_le, cond, Bool, true, false, ◌||◌, refl, sym, ap, ◌∙◌, arith, append-nil}
 use Rattle.std.specs.List.{AllByRecursion, filter, list_any}
 use Rattle.std.specs.List.Sorted.{IsNonDecreasingBy}
 use Rattle.std.proofs.lemmas.Bool.Decides.{nat_tests}
@@ -54,6 +54,7 @@ lowest n d q qs low some = on (nat_le (n q) d) refl some (λ more. among qs low 
         here : (b : Bool) → nat_le (n r) d ≡ b → (b || list_any (up_to n d) rs) ≡ true → (list_any (up_to n d) rs ≡ true → n q ≤ d) → n q ≤ d
         here true t k more = (let le : n r ≤ d = grind (arith, nat_tests) in omega (arith, all.0, le))
         here false t k more = more k
+
     on : (b : Bool) → nat_le (n q) d ≡ b → (b || list_any (up_to n d) qs) ≡ true → (list_any (up_to n d) qs ≡ true → n q ≤ d) → n q ≤ d
     on true t k more = grind (arith, nat_tests)
     on false t k more = more k
@@ -64,7 +65,7 @@ above n d [] none = tt
 above n d (q ∷ qs) none = on (nat_le (n q) d) refl none (λ more. above n d qs more)
   where
     on : (b : Bool) → nat_le (n q) d ≡ b → (b || list_any (up_to n d) qs) ≡ false → (list_any (up_to n d) qs ≡ false → AllByRecursion (λ r. d < n r) qs)
-      → AllByRecursion (λ r. d < n r) (q ∷ qs)
+        → AllByRecursion (λ r. d < n r) (q ∷ qs)
     on true t k more = cc
     on false t k more = (grind (arith, nat_tests), more k)
 
@@ -78,9 +79,9 @@ Rises-insert n d p (q ∷ qs) own r = on (list_any (up_to n d) (q ∷ qs)) refl 
   where
     on : (b : Bool) → list_any (up_to n d) (q ∷ qs) ≡ b → Rises n (insert_after (up_to n d) p qs) → Rises n (cond b (q ∷ insert_after (up_to n d) p qs) (p ∷ q ∷ qs))
     on true some more =
-      (all-insert (λ r. n q ≤ n r) (up_to n d) p qs (omega (arith, own, lowest n d q qs r.0 some)) r.0, more)
+        (all-insert (λ r. n q ≤ n r) (up_to n d) p qs (omega (arith, own, lowest n d q qs r.0 some)) r.0, more)
     on false none more =
-      (all-weaker (λ r. d < n r) (λ r. n p ≤ n r) (q ∷ qs) (λ x h. omega (arith, own, h)) (above n d (q ∷ qs) none), r)
+        (all-weaker (λ r. d < n r) (λ r. n p ≤ n r) (q ∷ qs) (λ x h. omega (arith, own, h)) (above n d (q ∷ qs) none), r)
 
 -- the elements with one number
 abbrev pub with_number : (ℕ → ℕ) → ℕ → List ℕ → List ℕ
@@ -100,22 +101,24 @@ with_number-insert n d p k (q ∷ qs) own r = on (list_any (up_to n d) (q ∷ qs
   where
     new : List ℕ
     new = cond (eqb d k) (p ∷ []) []
+
     step : (b : Bool) (xs ys : List ℕ) → xs ≡ ys ++ new → cond b (q ∷ xs) xs ≡ cond b (q ∷ ys) ys ++ new
     step true xs ys e = ap (λ z. q ∷ z) e
     step false xs ys e = e
+
     front : (b : Bool) → eqb d k ≡ b → AllByRecursion (λ r. d < n r) (q ∷ qs)
-      → cond b (p ∷ with_number n k (q ∷ qs)) (with_number n k (q ∷ qs)) ≡ with_number n k (q ∷ qs) ++ cond b (p ∷ []) []
+        → cond b (p ∷ with_number n k (q ∷ qs)) (with_number n k (q ∷ qs)) ≡ with_number n k (q ∷ qs) ++ cond b (p ∷ []) []
     front true same high =
-      let is : k ≡ d = grind (arith, nat_tests) in
-      let none : with_number n k (q ∷ qs) ≡ [] = ap (λ z. with_number n z (q ∷ qs)) is ∙ none-with_number n d (q ∷ qs) high in
-      ap (λ z. p ∷ z) none ∙ ap (λ z. z ++ p ∷ []) (sym none)
+        let is : k ≡ d = grind (arith, nat_tests) in
+        let none : with_number n k (q ∷ qs) ≡ [] = ap (λ z. with_number n z (q ∷ qs)) is ∙ none-with_number n d (q ∷ qs) high in
+        ap (λ z. p ∷ z) none ∙ ap (λ z. z ++ p ∷ []) (sym none)
     front false same high = sym (append-nil (with_number n k (q ∷ qs)))
+
     on : (b : Bool) → list_any (up_to n d) (q ∷ qs) ≡ b → with_number n k (insert_after (up_to n d) p qs) ≡ with_number n k qs ++ new
-      → with_number n k (cond b (q ∷ insert_after (up_to n d) p qs) (p ∷ q ∷ qs)) ≡ with_number n k (q ∷ qs) ++ new
+        → with_number n k (cond b (q ∷ insert_after (up_to n d) p qs) (p ∷ q ∷ qs)) ≡ with_number n k (q ∷ qs) ++ new
     on true some more = step (eqb (n q) k) (with_number n k (insert_after (up_to n d) p qs)) (with_number n k qs) more
     on false none more =
-      ap (λ z. cond (eqb z k) (p ∷ with_number n k (q ∷ qs)) (with_number n k (q ∷ qs))) own ∙ front (eqb d k) refl (above n d (q ∷ qs) none)
-
+        ap (λ z. cond (eqb z k) (p ∷ with_number n k (q ∷ qs)) (with_number n k (q ∷ qs))) own ∙ front (eqb d k) refl (above n d (q ∷ qs) none)
 
 pub Rises-same : (n m : ℕ → ℕ) (xs : List ℕ) → AllByRecursion (λ x. n x ≡ m x) xs → Rises n xs → Rises m xs
 Rises-same n m [] same r = tt

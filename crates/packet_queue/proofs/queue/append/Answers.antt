@@ -1,4 +1,4 @@
-use Rattle.std.proofs.Common.{◌≡◌, ◌++◌, ◌∷◌, [], set, sym, subst, ap, ◌∙◌}
+use Rattle.std.proofs.Common.{◌≡◌, ◌++◌, ◌∷◌, [], set, sym, subst}
 use Rattle.store_model.proofs.Lists.{BecomesList}
 use Rattle.packet_queue.specs.Queue.{last_link, link_of, packet_size, queue_at}
 use Rattle.packet_queue.proofs.Changes.{appended}

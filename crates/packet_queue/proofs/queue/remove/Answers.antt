@@ -1,4 +1,4 @@
-use Rattle.std.proofs.Common.{◌≡◌, ◌∙◌, ap, sym, subst, refl, true, false}
+use Rattle.std.proofs.Common.{◌≡◌, ◌∙◌, ap, sym, subst}
 use Rattle.store_model.specs.Placing.{has, without}
 use Rattle.store_model.proofs.Lists.{BecomesList}
 use Rattle.store_model.proofs.Places.{without-none}
@@ -9,13 +9,13 @@ use Rattle.packet_queue.proofs.queue.remove.Goals as goal
 pub returns-in_default-clause-queue : goal.returns-in_default-clause-queue
 returns-in_default-clause-queue c =
     sym (without-none c.args.p (queue_at c.args.store.now c.args.head)
-      (found-none (has c.args.p (queue_at c.args.store.now c.args.head)) (link_before c.args.store.now c.args.head c.args.p) c.in_default.ensures))
+    (found-none (has c.args.p (queue_at c.args.store.now c.args.head)) (link_before c.args.store.now c.args.head c.args.p) c.in_default.ensures))
 
 after : (c : goal.After-unlink) → BecomesList c.unlink.new.store link_of packet_size c.args.head (without c.args.p (queue_at c.args.store.now c.args.head))
 after c =
     let found = found-some (has c.args.p (queue_at c.args.store.now c.args.head)) (link_before c.args.store.now c.args.head c.args.p) c.in-Some.cell c.in-Some.ensures in
     let words : c.unlink.new.store ≡ unlinked c.args.store.now (link_before c.args.store.now c.args.head c.args.p) c.args.p =
-      c.unlink.ensures ∙ ap (λ z. unlinked c.args.store.now z c.args.p) found.1
+    c.unlink.ensures ∙ ap (λ z. unlinked c.args.store.now z c.args.p) found.1
     in
     subst (λ t. BecomesList t link_of packet_size c.args.head (without c.args.p (queue_at c.args.store.now c.args.head))) (sym words)
     (removed c.args.store.now c.args.head c.args.p c.requires found.0)

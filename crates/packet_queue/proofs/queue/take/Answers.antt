@@ -1,6 +1,6 @@
 use Rattle.std.proofs.Common.{◌≡◌, ◌∙◌, ℕ, List, ◌∷◌, ap, sym, subst, refl}
 use Rattle.store_model.proofs.Lists.{BecomesList}
-use Rattle.packet_queue.specs.Queue.{link_of, packet_size, queue_at, unlinked}
+use Rattle.packet_queue.specs.Queue.{link_of, packet_size, queue_at}
 use Rattle.packet_queue.proofs.Changes.{queue_at-none, taken}
 use Rattle.packet_queue.proofs.queue.take.Goals as goal
 
