@@ -1,0 +1,4 @@
+pub mod Relocated
+pub mod ModuleRow
+pub mod Placed
+pub mod Globals

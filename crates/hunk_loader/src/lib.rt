@@ -1,0 +1,2 @@
+// Modules in a store, and the globals that they set.
+#![tactic(auto)]
