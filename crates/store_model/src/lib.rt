@@ -1,2 +1,6 @@
 // The vocabulary of lists in a store: links, counted addresses, owned words and their exchange, and blocks.
 #![tactic(auto)]
+
+pub mod blocks;
+
+pub use blocks::{Block, FIRST_BLOCK, Run};
