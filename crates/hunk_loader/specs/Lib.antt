@@ -1,4 +1,5 @@
 pub mod Relocated
 pub mod ModuleRow
+pub mod Follow
 pub mod Placed
 pub mod Globals
