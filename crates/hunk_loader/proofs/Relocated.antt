@@ -1,5 +1,5 @@
 -- Words that are relocated one by one, and list by list.
-use Rattle.std.proofs.Common.{◌≡◌, ◌≢◌, ◌∙◌, ℕ, suc, ◌<◌, ◌≤◌, ◌+◌, ◌-◌, Some, List, [], ◌∷◌, ◌++◌, length, get_or, set, map, refl, sym, ap, subst, arith, append_assoc, length-set, slice_index}
+use Rattle.std.proofs.Common.{◌≡◌, ◌≢◌, ◌∙◌, ℕ, suc, ◌<◌, ◌≤◌, ◌+◌, Some, List, [], ◌∷◌, ◌++◌, length, get_or, set, refl, sym, ap, subst, arith, append_assoc, length-set}
 use Rattle.std.specs.Prelude.{IsSome}
 use Rattle.std.specs.List.{AllByRecursion, concat}
 use Rattle.std.proofs.lemmas.List.{map-append}
@@ -103,8 +103,8 @@ inside_by text s place base many left (o ∷ os) others h m n a =
       some = some_word text place o (os ++ others) h;
       here = λ r e. (let k = was_read text place r o (os ++ others) h e in let lt = a.0 in rw k.word lt);
       after = λ r t e size.
-        (let k = was_read text place r o (os ++ others) h e in
-        record { offsets = os; others = others; reads = k.rest; many = omega arith; inside = inside_same s t (places base os) size a.1 });
+          (let k = was_read text place r o (os ++ others) h e in
+          record { offsets = os; others = others; reads = k.rest; many = omega arith; inside = inside_same s t (places base os) size a.1 });
     }
 
 pub inside_more : (text s : List ℕ) (place base many left : ℕ) → OffsetsInside text s place base many → many ≡ suc left → OffsetInside text s place base left
@@ -186,8 +186,8 @@ lists_more text s t place end base r others result l e same words rest =
       lists = k.more;
       follow = record { reads = rest k.offsets (relocation_items k.more ++ others) k.follow; other = l.follow.other };
       all =
-        ap (λ (x : List ℕ). relocated base x (places base (concat k.more))) (words k.offsets (relocation_items k.more ++ others) k.follow)
-        ∙ sym (relocated_lists base s k.offsets k.more) ∙ subst Q k.is l.all;
+          ap (λ (x : List ℕ). relocated base x (places base (concat k.more))) (words k.offsets (relocation_items k.more ++ others) k.follow)
+          ∙ sym (relocated_lists base s k.offsets k.more) ∙ subst Q k.is l.all;
     }
 
 -- the first of the lists that are left, and those after it, are inside

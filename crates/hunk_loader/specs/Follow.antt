@@ -1,6 +1,6 @@
 -- What stands in a text from a place on, while a module is read from it.
-use Rattle.std.specs.Prelude.{◌≡◌, ◌≢◌, ◌<◌, ◌≤◌, ℕ, ◌+◌, List, [], ◌∷◌, ◌++◌, length, map}
-use Rattle.std.specs.List.{AllByRecursion, concat}
+use Rattle.std.specs.Prelude.{◌≡◌, ◌≢◌, ◌<◌, ℕ, ◌+◌, List, [], ◌∷◌, ◌++◌, length, map}
+use Rattle.std.specs.List.{AllByRecursion}
 use Rattle.hunk_text.specs.ModuleForm.{IsHunk, IsModule, relocation_items, relocation_type}
 use Rattle.hunk_text.specs.ReadingOn.{Reads}
 use Rattle.hunk_text.specs.declared.modules.Hunk.{Hunk}

@@ -17,7 +17,13 @@ pub(crate) fn read_word<X: TextBytes>(text: &X, place: u32) -> NextWord
 }
 
 // Copies words of the text to the addresses from `at` up to `end`. The answer is the place after the last of them.
-pub(crate) fn copy_words<X: TextBytes>(text: &X, from: u32, store: &mut Store, at: u32, end: u32) -> u32
+pub(crate) fn copy_words<X: TextBytes>(
+    text: &X,
+    from: u32,
+    store: &mut Store,
+    at: u32,
+    end: u32,
+) -> u32
     requires { (words others : List ℕ) × WordsFollow (X.text text.now) from at end words others }
     ensures words { (words others : List ℕ) → WordsFollow (X.text text.now) from at end words others → store.new ≡ with_words store.old at words }
     ensures others { (words others : List ℕ) → WordsFollow (X.text text.now) from at end words others → Reads (X.text text.now) result others }

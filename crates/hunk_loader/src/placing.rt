@@ -61,5 +61,8 @@ fn place_hunk<X: TextBytes>(text: &X, from: u32, store: &mut Store, base: u32) -
     let count = read_word(text, kind.end);
     let lists = copy_words(text, count.end, store, base, base + count.word);
     let end = relocate(text, lists, store, base);
-    PlacedHunk { length: count.word, end }
+    PlacedHunk {
+        length: count.word,
+        end,
+    }
 }

@@ -1,4 +1,4 @@
-use Rattle.std.proofs.Common.{◌≡◌, ℕ, List, length}
+use Rattle.std.proofs.Common.{ℕ, List}
 use Rattle.store_model.specs.Row.{with_words}
 use Rattle.hunk_loader.specs.Follow.{WordsFollow}
 use Rattle.hunk_loader.proofs.Copied.{CopyLeft}

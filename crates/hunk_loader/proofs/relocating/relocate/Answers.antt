@@ -1,6 +1,5 @@
-use Rattle.std.proofs.Common.{◌≡◌, ◌∙◌, ◌-◌, ◌<◌, ℕ, List, length, ap, refl, arith}
+use Rattle.std.proofs.Common.{◌≡◌, ◌∙◌, length, ap, refl, arith}
 use Rattle.hunk_loader.specs.Follow.{places}
-use Rattle.hunk_loader.specs.Relocated.{relocated}
 use Rattle.hunk_text.specs.ModuleForm.{relocation_items}
 use Rattle.std.specs.Prelude.{◌++◌}
 use Rattle.hunk_loader.proofs.Copied.{read_further}
@@ -21,11 +20,11 @@ read_word-next-requires g c = lists_some _ _ _ _ c.loop-next.invariant.inside.fo
 
 pub returns-then-next-ne-RELOCATIONS-clause-words : goal.returns-then-next-ne-RELOCATIONS-clause-words
 returns-then-next-ne-RELOCATIONS-clause-words g c = λ lists others f.
-  (lists_done _ _ _ _ c.read_word-next.result _ _ (c.loop-next.invariant.all lists others f) c.read_word-next.ensures c.if-next-ne-RELOCATIONS.true).0
+    (lists_done _ _ _ _ c.read_word-next.result _ _ (c.loop-next.invariant.all lists others f) c.read_word-next.ensures c.if-next-ne-RELOCATIONS.true).0
 
 pub returns-then-next-ne-RELOCATIONS-clause-others : goal.returns-then-next-ne-RELOCATIONS-clause-others
 returns-then-next-ne-RELOCATIONS-clause-others g c = λ lists others f.
-  (lists_done _ _ _ _ c.read_word-next.result _ _ (c.loop-next.invariant.all lists others f) c.read_word-next.ensures c.if-next-ne-RELOCATIONS.true).1
+    (lists_done _ _ _ _ c.read_word-next.result _ _ (c.loop-next.invariant.all lists others f) c.read_word-next.ensures c.if-next-ne-RELOCATIONS.true).1
 
 pub relocate_by_list-place-requires-clause-offsets : goal.relocate_by_list-place-requires-clause-offsets
 relocate_by_list-place-requires-clause-offsets g c =
@@ -53,7 +52,7 @@ loop-next-preserved g c =
     = ap length (e.words k.first.offsets others k.first.follow) ∙ length-relocated c.args.base c.loop-next.store (places c.args.base k.first.offsets) in
     record {
       all = λ lists others f.
-        lists_more _ _ _ _ _ _ c.read_word-next.result _ _ (c.loop-next.invariant.all lists others f) c.read_word-next.ensures c.if-next-ne-RELOCATIONS.false e.words e.others;
+          lists_more _ _ _ _ _ _ c.read_word-next.result _ _ (c.loop-next.invariant.all lists others f) c.read_word-next.ensures c.if-next-ne-RELOCATIONS.false e.words e.others;
       inside = record {
         lists = k.first.more;
         others = inside.others;

@@ -1,9 +1,9 @@
-use Rattle.std.proofs.Common.{◌≡◌, ◌∙◌, ◌-◌, ◌+◌, ◌<◌, ℕ, suc, List, length, get_or, refl, ap, sym, subst, arith, length-set}
+use Rattle.std.proofs.Common.{◌≡◌, ◌∙◌, ◌-◌, ◌+◌, ℕ, List, length, get_or, refl, sym, subst, arith, length-set}
 use Rattle.word_store.specs.Arithmetic.{add}
-use Rattle.hunk_loader.specs.Follow.{OffsetsFollow, places}
+use Rattle.hunk_loader.specs.Follow.{places}
 use Rattle.hunk_loader.specs.Relocated.{relocated}
 use Rattle.hunk_loader.proofs.Copied.{read_further}
-use Rattle.hunk_loader.proofs.Relocated.{OffsetInside, OffsetsInside, OffsetsLeft, inside_begin, inside_more, offsets_begin, offsets_done, offsets_more, offsets_some}
+use Rattle.hunk_loader.proofs.Relocated.{OffsetsLeft, inside_begin, inside_more, offsets_begin, offsets_done, offsets_more, offsets_some}
 use Rattle.hunk_loader.proofs.relocating.relocate_by_list.Goals as goal
 
 pub read_word-count-requires : goal.read_word-count-requires
@@ -44,9 +44,9 @@ loop-preserved g c =
     let size : length c.relocate_word.new.store ≡ length c.loop.store = rw c.relocate_word.ensures (length-set c.loop.store a (add (get_or c.loop.store a 0) c.args.base)) in
     record {
       all = λ offsets others f.
-        (let more = offsets_more _ _ _ _ _ left _ _ r (c.loop.invariant.all offsets others f) (omega arith) c.read_word-offset.ensures in
-        let P : List ℕ → Type 0 = λ s. OffsetsLeft text s r.end c.args.base left others (relocated c.args.base c.args.store.now (places c.args.base offsets)) in
-        subst P (sym c.relocate_word.ensures) more);
+          (let more = offsets_more _ _ _ _ _ left _ _ r (c.loop.invariant.all offsets others f) (omega arith) c.read_word-offset.ensures in
+          let P : List ℕ → Type 0 = λ s. OffsetsLeft text s r.end c.args.base left others (relocated c.args.base c.args.store.now (places c.args.base offsets)) in
+          subst P (sym c.relocate_word.ensures) more);
       inside = o.after r c.relocate_word.new.store c.read_word-offset.ensures size;
       size = size ∙ c.loop.invariant.size;
       further = let lt = (read_further text c.loop.place r c.read_word-offset.ensures).0 in omega arith;
@@ -54,8 +54,8 @@ loop-preserved g c =
 
 pub returns-clause-words : goal.returns-clause-words
 returns-clause-words g c = λ offsets others f.
-  (offsets_done _ _ _ _ _ _ _ (c.loop.invariant.all offsets others f) (omega arith)).0
+    (offsets_done _ _ _ _ _ _ _ (c.loop.invariant.all offsets others f) (omega arith)).0
 
 pub returns-clause-others : goal.returns-clause-others
 returns-clause-others g c = λ offsets others f.
-  (offsets_done _ _ _ _ _ _ _ (c.loop.invariant.all offsets others f) (omega arith)).1
+    (offsets_done _ _ _ _ _ _ _ (c.loop.invariant.all offsets others f) (omega arith)).1
