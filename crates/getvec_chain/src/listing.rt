@@ -38,7 +38,7 @@ impl Iterator for Blocks<'_> {
             return None;
         }
         let block = Block::of_word(self.at, self.store.get(self.at)?);
-        self.at += block.size;
+        self.at = block.end();
         Some(block)
     }
 }

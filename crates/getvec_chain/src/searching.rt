@@ -42,7 +42,7 @@ pub fn first_run(store: &Store, u: u32) -> Option<Run>
     ensures { result ≡ first_run (need u) (blocks_in store.now) }
 {
     let need = words_needed(u);
-    // the free blocks that end where the walk is
+    // the free blocks that were passed last
     let mut run = Run {
         start: FIRST_BLOCK,
         end: FIRST_BLOCK,
@@ -52,15 +52,13 @@ pub fn first_run(store: &Store, u: u32) -> Option<Run>
             run.end = block.end();
             continue;
         }
-        if need <= u64::from(run.end - run.start) {
+        if need <= u64::from(run.size()) {
             return Some(run);
         }
-        run = Run {
-            start: block.end(),
-            end: block.end(),
-        };
+        let end = block.end();
+        run = Run { start: end, end };
     }
-    if need <= u64::from(run.end - run.start) {
+    if need <= u64::from(run.size()) {
         return Some(run);
     }
     None

@@ -1,5 +1,5 @@
 -- A block is given back.
-use Rattle.std.specs.Prelude.{ℕ, ◌+◌, ◌-◌, true, List, map, slice_index, slice_set, if◌then◌else◌}
+use Rattle.std.specs.Prelude.{ℕ, ◌+◌, ◌-◌, List, map, slice_index, slice_set, if◌then◌else◌}
 use Rattle.store_model.specs.declared.blocks.Block.{Block}
 use Rattle.store_model.specs.Block.{free_block, is_used_at}
 
