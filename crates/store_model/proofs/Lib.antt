@@ -3,3 +3,14 @@ pub mod Runs
 pub mod Tilings
 pub mod UsedBlocks
 pub mod Writes
+pub mod Counts
+pub mod Chains
+pub mod Walks
+pub mod Insertion
+pub mod Removal
+pub mod Places
+pub mod Lists
+pub mod OwnedWords
+pub mod Exchanges
+pub mod Writing
+pub mod Frames

@@ -2,5 +2,6 @@
 #![tactic(auto)]
 
 pub mod blocks;
+pub mod laws;
 
 pub use blocks::{Block, FIRST_BLOCK, Run};
