@@ -1,3 +1,4 @@
 pub mod Copied
 pub mod Relocated
 pub mod PlacedHunks
+pub mod ModuleBlocks

@@ -2,5 +2,6 @@
 #![tactic(auto)]
 
 mod copying;
+mod loading;
 mod placing;
 mod relocating;

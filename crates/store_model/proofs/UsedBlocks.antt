@@ -33,7 +33,7 @@ pub record UsedBlock (s : List ℕ) (at v : ℕ) (b : Block) : Type 0 where
   pub low : at ≤ b.start
   pub inside : block_end b + 2 ≤ length s
 
-is_used_at-true : (v : ℕ) (b : Block) → is_used_at v b ≡ true → (b.free ≡ false) × (b.start + 1 ≡ v)
+pub is_used_at-true : (v : ℕ) (b : Block) → is_used_at v b ≡ true → (b.free ≡ false) × (b.start + 1 ≡ v)
 is_used_at-true v b h = on b.free refl (eqb (b.start + 1) v) refl h
   where
     on : (f : Bool) → b.free ≡ f → (x : Bool) → eqb (b.start + 1) v ≡ x → (not f && x) ≡ true → (b.free ≡ false) × (b.start + 1 ≡ v)

@@ -7,7 +7,7 @@ use Rattle.store_model.specs.Tiling.{IsTiled, StandsIn, Tiles, blocks_in, holdin
 use Rattle.store_model.proofs.Tilings.{IsTiled-by, Tiles-inside, blocks_in-is}
 use Rattle.store_model.proofs.UsedBlocks.{holding-before, used_at-holding}
 
-StandsIn-same : (s t : List ℕ) (b : Block) → get_or t b.start 0 ≡ get_or s b.start 0 → StandsIn s b → StandsIn t b
+pub StandsIn-same : (s t : List ℕ) (b : Block) → get_or t b.start 0 ≡ get_or s b.start 0 → StandsIn s b → StandsIn t b
 StandsIn-same s t b same h = record { word = same ∙ h.word; some = h.some; even = h.even }
 
 -- blocks stand in another store too, if each word from the first block to the end word that is no data of a block is the same there
