@@ -2,6 +2,7 @@
 use Rattle.std.proofs.Common.{◌≡◌, ◌≢◌, ◌⊎◌, inl, inr, ◌∙◌, ℕ, ◌+◌, ◌*◌, ◌/◌, ◌<◌, ◌≤◌, List, [], ◌∷◌, ◌++◌, length, get_or, set, eqb, Bool, true, false, ◌||◌, Some, None, refl, sym, ap, subst, arith}
 use Rattle.std.specs.Prelude.{slice_range, sum}
 use Rattle.std.specs.List.{AllByRecursion, list_any}
+use Rattle.std.proofs.lemmas.Bool.{cases_eq}
 use Rattle.std.proofs.lemmas.Bool.Decides.{nat_tests}
 use Rattle.store_model.specs.declared.blocks.Block.{Block}
 use Rattle.store_model.specs.Block.{block_end}
@@ -73,13 +74,21 @@ all_map P Q [] a f = tt
 all_map P Q (m ∷ ms) a f = (f m (omega (arith, hit-same m m refl)) a.0, all_map P Q ms a.1 (λ n some p. f n (omega arith) p))
 
 -- one of the list
-pub all_at : (P : ℕ → Type 0) (ms : List ℕ) (m : ℕ) → AllByRecursion P ms → has m ms ≡ true → P m
-all_at P [] m a e = cc
-all_at P (n ∷ ns) m a e = on (eqb m n) refl e
+pub all_times : (P : ℕ → Type 0) (ms : List ℕ) (m : ℕ) → AllByRecursion P ms → 0 < times m ms → P m
+all_times P [] m a some = absurd (omega arith)
+all_times P (n ∷ ns) m a some = on (cases_eq m n) (all_times P ns m a.1)
   where
-    on : (b : Bool) → eqb m n ≡ b → (b || has m ns) ≡ true → P m
-    on true t k = (let same : m ≡ n = grind (arith, nat_tests) in subst P (sym same) a.0)
-    on false t k = all_at P ns m a.1 k
+    on : (m ≡ n) ⊎ (m ≢ n) → (0 < times m ns → P m) → P m
+    on (inl same) more = subst P (sym same) a.0
+    on (inr differ) more = more (omega (arith, hit-other m n differ))
+
+pub times-has : (ms : List ℕ) (m : ℕ) → has m ms ≡ true → 0 < times m ms
+times-has [] m e = cc
+times-has (n ∷ ns) m e = on (eqb m n) refl e (times-has ns m)
+  where
+    on : (b : Bool) → eqb m n ≡ b → (b || has m ns) ≡ true → (has m ns ≡ true → 0 < times m ns) → 0 < times m (n ∷ ns)
+    on true t k more = omega (arith, hit-same m n (grind (arith, nat_tests)))
+    on false t k more = omega (arith, more k)
 
 -- no module stands below the first block's data
 times-low : (s : List ℕ) (ms : List ℕ) (a : ℕ) → IsTiled s → AllByRecursion (IsModuleAt s) ms → a < 201 → times a ms ≡ 0
@@ -88,7 +97,7 @@ times-low s (m ∷ ms) a t h low =
     let b = in_block s m t h.0 in
     omega (arith, times-low s ms a t h.1 low, hit-other a m (λ e. absurd (omega (arith, b.above))))
 
-times-one : (a : ℕ) (ms : List ℕ) → times a (words_of one_word ms) ≡ times a ms
+pub times-one : (a : ℕ) (ms : List ℕ) → times a (words_of one_word ms) ≡ times a ms
 times-one a [] = refl
 times-one a (m ∷ ms) = omega (arith, times-words_more one_word a m ms, times-one a ms)
 
@@ -119,6 +128,22 @@ linked s h =
 pub no_cell : (s : List ℕ) (h : HasModules s) (a : ℕ) → a ≢ 104 → times a (modules_in s) ≡ 0 → times a (cells module_link 104 (modules_in s)) ≡ 0
 no_cell s h a ne none =
     omega (arith, times-cells s module_link one_word 104 (modules_in s) (linked s h).nodes a, hit-other a 104 ne, times-one a (modules_in s))
+
+-- no module stands where no used block has its data
+pub no_block : (s : List ℕ) (ms : List ℕ) (v : ℕ) → AllByRecursion (IsModuleAt s) ms → used_at v (blocks_in s) ≡ None → times v ms ≡ 0
+no_block s [] v h e = refl
+no_block s (m ∷ ms) v h e = omega (arith, no_block s ms v h.1 e, hit-other v m differ)
+  where
+    differ : v ≢ m
+    differ same = (let here : used_at v (blocks_in s) ≡ Some h.0.block = ap (λ z. used_at z (blocks_in s)) same ∙ h.0.used in cc)
+
+-- a link stands in word 104 or in a module's first word
+pub cell_at : (s : List ℕ) (h : HasModules s) (a : ℕ) → 0 < times a (cells module_link 104 (modules_in s)) → (a ≡ 104) ⊎ (0 < times a (modules_in s))
+cell_at s h a some = on (cases_eq a 104)
+  where
+    on : (a ≡ 104) ⊎ (a ≢ 104) → (a ≡ 104) ⊎ (0 < times a (modules_in s))
+    on (inl same) = inl same
+    on (inr differ) = inr (omega (arith, times-cells s module_link one_word 104 (modules_in s) (linked s h).nodes a, hit-other a 104 differ, times-one a (modules_in s)))
 
 -- no module begins at a size word of a used block
 pub no_module : (s : List ℕ) (ms : List ℕ) (v : ℕ) (b : Block) → IsTiled s → AllByRecursion (IsModuleAt s) ms → used_at v (blocks_in s) ≡ Some b → times b.start ms ≡ 0
