@@ -1,5 +1,5 @@
 -- The first large run as a walk finds it: it has passed some free blocks, and others are left.
-use Rattle.std.proofs.Common.{◌≡◌, ◌≢◌, ℕ, ◌+◌, ◌-◌, ◌<◌, ◌≤◌, List, [], ◌∷◌, length, leb, cond, Bool, true, false, refl, sym, ap, ◌∙◌, arith, subst, Some, None, Option}
+use Rattle.std.proofs.Common.{◌≡◌, ℕ, ◌+◌, ◌-◌, ◌<◌, ◌≤◌, List, [], ◌∷◌, length, leb, cond, Bool, true, false, refl, sym, ap, ◌∙◌, arith, subst, Some, None, Option}
 use Rattle.std.proofs.lemmas.Bool.Decides.{nat_tests}
 use Rattle.store_model.specs.declared.blocks.Block.{Block}
 use Rattle.store_model.specs.declared.blocks.Run.{Run}
@@ -30,13 +30,16 @@ open-none s n at (b ∷ bs) some t = on b.free refl
   where
     small : run_size (b ∷ bs) < n → first_run n (b ∷ bs) ≡ first_run_after n (record { start = at; end = at }) (b ∷ bs)
     small lt = first_run-small n (b ∷ bs) lt ∙ sym (run_or-small n at (at + run_size (b ∷ bs)) (first_run n (after_run (b ∷ bs))) (omega (arith, lt)))
+
     large : b.free ≡ true → n ≤ run_size (b ∷ bs) → first_run n (b ∷ bs) ≡ first_run_after n (record { start = at; end = at }) (b ∷ bs)
     large free le =
         run_here n b bs free le ∙ ap (λ z. Some (record { start = z; end = z + run_size (b ∷ bs) })) t.0
         ∙ sym (run_or-large n at (at + run_size (b ∷ bs)) (first_run n (after_run (b ∷ bs))) (omega (arith, le)))
+
     by_size : b.free ≡ true → (x : Bool) → leb n (run_size (b ∷ bs)) ≡ x → (r : ℕ) → run_size (b ∷ bs) ≡ r → first_run n (b ∷ bs) ≡ first_run_after n (record { start = at; end = at }) (b ∷ bs)
     by_size free true test r is = large free (let k : leb n r ≡ true = ap (leb n) (sym is) ∙ test in let le : n ≤ r = grind (arith, nat_tests) in omega (arith, le, is))
     by_size free false test r is = small (let k : leb n r ≡ false = ap (leb n) (sym is) ∙ test in let lt : r < n = grind (arith, nat_tests) in omega (arith, lt, is))
+
     on : (f : Bool) → b.free ≡ f → first_run n (b ∷ bs) ≡ first_run_after n (record { start = at; end = at }) (b ∷ bs)
     on true free = by_size free (leb n (run_size (b ∷ bs))) refl (run_size (b ∷ bs)) refl
     on false used = small (omega (arith, some, run_size-used b bs used))
@@ -91,10 +94,10 @@ pub step-free : (s : List ℕ) (n : ℕ) (all : Option Run) (run : Run) (b : Blo
     → IsOpen s n all (record { start = run.start; end = end }) rest
 step-free s n all run b rest end order h free is =
     subst (λ z. IsOpen s n all (record { start = run.start; end = z }) rest) (sym is)
-      (record { tiles = h.rest_tiles; order = omega (arith, order, h.start); answer = h.answer ∙ open-free n run b rest h.start free })
+    (record { tiles = h.rest_tiles; order = omega (arith, order, h.start); answer = h.answer ∙ open-free n run b rest h.start free })
 
 pub step-used : (s : List ℕ) (n : ℕ) (all : Option Run) (run : Run) (b : Block) (rest : List Block) (end : ℕ) → 0 < n → AtBlock s n all run b rest → b.free ≡ false → run.end - run.start < n → end ≡ block_end b
     → IsOpen s n all (record { start = end; end = end }) rest
 step-used s n all run b rest end some h used lt is =
     subst (λ z. IsOpen s n all (record { start = z; end = z }) rest) (sym is)
-      (record { tiles = h.rest_tiles; order = omega arith; answer = h.answer ∙ open-small s n run b rest some h.rest_tiles used lt })
+    (record { tiles = h.rest_tiles; order = omega arith; answer = h.answer ∙ open-small s n run b rest some h.rest_tiles used lt })

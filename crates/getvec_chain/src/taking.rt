@@ -1,13 +1,13 @@
 // Blocks are made, taken and given back.
-ghost use Rattle.std.specs.Prelude.{◌≡◌, ◌+◌, ◌-◌, ◌%◌, ◌≤◌, [], ◌∷◌, IfErr, IfOk, IsSome, None, OnErr, OnOk, length, slice_set};
+ghost use Rattle.std.specs.Prelude.{◌≡◌, ◌+◌, ◌-◌, ◌%◌, ◌<◌, ◌≤◌, [], ◌∷◌, IfOk, IsSome, None, OnErr, OnOk, length, slice_set};
 ghost use Rattle.store_model.specs.Block.{free_block};
 ghost use Rattle.store_model.specs.Give.{given, given_store};
 ghost use Rattle.store_model.specs.Run.{first_run, need};
-ghost use Rattle.store_model.specs.Take.{IsTaken, taken};
+ghost use Rattle.store_model.specs.Take.{IsTaken, taken, taken_store};
 ghost use Rattle.store_model.specs.Tiling.{IsTiled, blocks_in, used_at};
 
 use crate::searching::{first_run, used_at, words_needed};
-use store_model::{Block, FIRST_BLOCK};
+use store_model::{FIRST_BLOCK, Run};
 use word_store::Store;
 
 /// No run of free blocks is large enough.
@@ -42,13 +42,21 @@ pub fn take(store: &mut Store, u: u32) -> Result<u32, NoRoom>
     ensures unchanged { OnErr result (store.new ≡ store.old) }
 {
     let run = first_run(store, u).ok_or(NoRoom)?;
-    let size = words_needed(u) as u32;
-    let rest = run.end - run.start - size;
+    split(store, run, words_needed(u) as u32);
+    Ok(run.start + 1)
+}
+
+// A used block of that size stands at the front of the run, and one free block of the rest, where there is any.
+fn split(store: &mut Store, run: Run, size: u32)
+    requires some { 0 < size }
+    requires fits { run.start + size ≤ run.end }
+    ensures { store.new ≡ taken_store store.old run size }
+{
+    let rest = run.end - (run.start + size);
     store.set(run.start, size);
     if rest > 0 {
         store.set(run.start + size, rest + 1);
     }
-    Ok(run.start + 1)
 }
 
 /// Gives the used block back whose data begin at address v.

@@ -1,10 +1,10 @@
 -- A store after a block was given back, beside the store before it.
-use Rattle.std.proofs.Common.{◌≡◌, ◌≢◌, ℕ, ◌+◌, ◌-◌, ◌<◌, ◌≤◌, ◌&&◌, List, [], ◌∷◌, length, get_or, set, eqb, cond, not, map, Bool, true, false, refl, sym, ap, ◌∙◌, subst, arith, Some, None, Option, get_or-set_other, get_or-set_same, length-set}
+use Rattle.std.proofs.Common.{◌≡◌, ◌≢◌, ℕ, ◌+◌, ◌-◌, ◌&&◌, List, [], ◌∷◌, length, get_or, set, eqb, cond, not, Bool, true, false, refl, sym, ap, ◌∙◌, subst, arith, Some, None, Option, get_or-set_other, get_or-set_same, length-set}
 use Rattle.std.proofs.lemmas.Bool.Decides.{nat_tests}
 use Rattle.store_model.specs.declared.blocks.Block.{Block}
-use Rattle.store_model.specs.Block.{block_end, free_block, is_used_at, size_word}
+use Rattle.store_model.specs.Block.{block_end, free_block, is_used_at}
 use Rattle.store_model.specs.Give.{given, given_store}
-use Rattle.store_model.specs.Tiling.{IsTiled, StandsIn, Tiles, blocks_in, used_at}
+use Rattle.store_model.specs.Tiling.{IsTiled, Tiles, blocks_in, used_at}
 use Rattle.store_model.proofs.Tilings.{IsTiled-by, Tiles-inside, blocks_in-is}
 use Rattle.store_model.proofs.UsedBlocks.{UsedBlock, is_used_at-true, used_at-before, used_at-is}
 use Rattle.store_model.proofs.Writes.{StandsIn-same, Tiles-above}
@@ -25,6 +25,7 @@ given-Tiles s at (b ∷ bs) v c t e = on (is_used_at v b) refl (λ k. given-Tile
   where
     r : List ℕ
     r = set s c.start (c.size + 1)
+
     on : (x : Bool) → is_used_at v b ≡ x → (used_at v bs ≡ Some c → Tiles r (block_end b) (given v bs)) → cond x (Some b) (used_at v bs) ≡ Some c → Tiles r at (cond x (free_block b.start b.size) b ∷ given v bs)
     on true test later e =
         let is : b ≡ c = cc in
@@ -33,10 +34,12 @@ given-Tiles s at (b ∷ bs) v c t e = on (is_used_at v b) refl (λ k. given-Tile
         let inside = Tiles-inside s (block_end b) bs t.2 in
         let start : c.start ≡ b.start = ap (λ z. z.start) (sym is) in
         let word : get_or r b.start 0 ≡ b.size + 1
-        = ap (λ z. get_or r z 0) (sym start) ∙ get_or-set_same s c.start (c.size + 1) 0 (omega (arith, start, inside)) ∙ ap (λ z. z.size + 1) (sym is) in
-        (t.0, record { word = word; some = t.1.some; even = t.1.even },
-         subst (Tiles r (block_end b)) (sym rest)
-           (Tiles-above s r (block_end b) bs (length-set s c.start (c.size + 1)) (λ a low. get_or-set_other s c.start a (c.size + 1) 0 (λ e. absurd (omega (arith, e, low, start, t.1.some)))) t.2))
+        = ap (λ z. get_or r z 0) (sym start) ∙ get_or-set_same s c.start (c.size + 1) 0 (omega (arith, start, inside)) ∙ ap (λ z. z.size + 1) (sym is) in (
+          t.0,
+          record { word = word; some = t.1.some; even = t.1.even },
+          subst (Tiles r (block_end b)) (sym rest)
+              (Tiles-above s r (block_end b) bs (length-set s c.start (c.size + 1)) (λ a low. get_or-set_other s c.start a (c.size + 1) 0 (λ e. absurd (omega (arith, e, low, start, t.1.some)))) t.2),
+        )
     on false test later e =
         let u = used_at-is s (block_end b) bs v c t.2 e in
         (t.0, StandsIn-same s r b (get_or-set_other s c.start b.start (c.size + 1) 0 (λ e. absurd (omega (arith, e, u.low, t.1.some)))) t.1, later e)
@@ -47,7 +50,7 @@ used_at-given-other v w [] other = refl
 used_at-given-other v w (b ∷ bs) other = on (is_used_at v b) refl (used_at-given-other v w bs other)
   where
     on : (x : Bool) → is_used_at v b ≡ x → used_at w (given v bs) ≡ used_at w bs
-      → cond (is_used_at w (cond x (free_block b.start b.size) b)) (Some (cond x (free_block b.start b.size) b)) (used_at w (given v bs)) ≡ cond (is_used_at w b) (Some b) (used_at w bs)
+        → cond (is_used_at w (cond x (free_block b.start b.size) b)) (Some (cond x (free_block b.start b.size) b)) (used_at w (given v bs)) ≡ cond (is_used_at w b) (Some b) (used_at w bs)
     on true test later =
         let start = (is_used_at-true v b test).1 in
         let no : eqb (b.start + 1) w ≡ false = grind (arith, nat_tests, other) in
@@ -64,7 +67,7 @@ used_at-given v [] = refl
 used_at-given v (b ∷ bs) = on (is_used_at v b) refl (used_at-given v bs)
   where
     on : (x : Bool) → is_used_at v b ≡ x → used_at v (given v bs) ≡ None
-      → cond (is_used_at v (cond x (free_block b.start b.size) b)) (Some (cond x (free_block b.start b.size) b)) (used_at v (given v bs)) ≡ None
+        → cond (is_used_at v (cond x (free_block b.start b.size) b)) (Some (cond x (free_block b.start b.size) b)) (used_at v (given v bs)) ≡ None
     on true test later = later
     on false test later = ap (λ z. cond z (Some b) (used_at v (given v bs))) test ∙ later
 
@@ -102,9 +105,12 @@ after_give s t v c tiled e is =
   where
     u : UsedBlock s 200 v c
     u = used_at-is s 200 (blocks_in s) v c tiled e
+
     words : t ≡ set s c.start (c.size + 1)
     words = is ∙ sym (given_store-is s v c tiled e)
+
     tiles : Tiles t 200 (given v (blocks_in s))
     tiles = subst (λ z. Tiles z 200 (given v (blocks_in s))) (sym words) (given-Tiles s 200 (blocks_in s) v c tiled e)
+
     blocks : blocks_in t ≡ given v (blocks_in s)
     blocks = blocks_in-is t (given v (blocks_in s)) tiles

@@ -1,11 +1,10 @@
 -- A store after a take, beside the store before it.
 use Rattle.std.proofs.Common.{◌≡◌, ◌≢◌, ◌⊎◌, inl, inr, ℕ, ◌+◌, ◌-◌, ◌<◌, ◌≤◌, List, length, get_or, sym, ap, ◌∙◌, subst, arith, Some, None}
 use Rattle.store_model.specs.declared.blocks.Block.{Block}
-use Rattle.store_model.specs.declared.blocks.Run.{Run}
 use Rattle.store_model.specs.Block.{block_end, used_block}
 use Rattle.store_model.specs.Tiling.{IsTiled, Tiles, blocks_in, used_at}
 use Rattle.store_model.specs.Run.{need}
-use Rattle.store_model.specs.Take.{IsTaken, split_run, taken, taken_store}
+use Rattle.store_model.specs.Take.{IsTaken, split_run, taken}
 use Rattle.store_model.proofs.Runs.{FoundRun, first_run-found, need-even}
 use Rattle.store_model.proofs.SizeWords.{length-with_size_words}
 use Rattle.store_model.proofs.Takes.{taken-Tiles, taken_store-outside, used_at-outside_run, used_at-taken, used_at-taken-other}
@@ -51,27 +50,38 @@ after_take s t u v tiled h =
   where
     n : ℕ
     n = need u
+
     f : FoundRun s n 200 h.run
     f = first_run-found s n 200 (blocks_in s) h.run tiled h.first
+
     start : h.run.start ≡ v - 1
     start = omega (arith, h.front)
+
     tiles : Tiles t 200 (taken n (blocks_in s))
     tiles = subst (λ z. Tiles z 200 (taken n (blocks_in s))) (sym h.words) (taken-Tiles s n 200 (blocks_in s) h.run (need-even u).0 (need-even u).1 tiled h.first)
+
     blocks : blocks_in t ≡ taken n (blocks_in s)
     blocks = blocks_in-is t (taken n (blocks_in s)) tiles
+
     new : (used_at (h.run.start + 1) (taken n (blocks_in s)) ≡ Some (used_block h.run.start n)) × (used_at (h.run.start + 1) (blocks_in s) ≡ None)
     new = used_at-taken s n 200 (blocks_in s) h.run tiled h.first
+
     others : (w : ℕ) → w ≢ v → used_at w (blocks_in t) ≡ used_at w (blocks_in s)
     others w other = ap (used_at w) blocks ∙ used_at-taken-other n (blocks_in s) h.run w h.first (λ e. other (e ∙ sym h.front))
+
     not_new : (w : ℕ) (b : Block) → used_at w (blocks_in s) ≡ Some b → w ≡ v → ⊥
     not_new w b is e = (let none : used_at w (blocks_in s) ≡ None = ap (λ z. used_at z (blocks_in s)) (e ∙ h.front) ∙ new.1 in cc)
+
     outside : (w : ℕ) (b : Block) → used_at w (blocks_in s) ≡ Some b → (block_end b ≤ h.run.start) ⊎ (h.run.end ≤ b.start)
     outside w b is = used_at-outside_run s n 200 (blocks_in s) h.run w b tiled h.first is
+
     stays : (a : ℕ) → (h.run.start ≤ a → h.run.end ≤ a) → get_or t a 0 ≡ get_or s a 0
     stays a out = ap (λ z. get_or z a 0) h.words ∙ taken_store-outside s n 200 a h.run (need-even u).0 (need-even u).1 f out
+
     apart_from : (b : Block) → (block_end b ≤ h.run.start) ⊎ (h.run.end ≤ b.start) → AreApart b (used_block h.run.start n)
     apart_from b (inl before) = inl before
     apart_from b (inr after) = inr (omega (arith, after, f.enough))
+
     in_block : (b : Block) (a : ℕ) → (block_end b ≤ h.run.start) ⊎ (h.run.end ≤ b.start) → b.start ≤ a → a < block_end b → h.run.start ≤ a → h.run.end ≤ a
     in_block b a (inl before) low high above = absurd (omega (arith, before, high, above))
     in_block b a (inr after) low high above = omega (arith, after, low)

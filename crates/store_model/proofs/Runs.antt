@@ -1,10 +1,10 @@
 -- Runs of free blocks among the blocks of a store.
-use Rattle.std.proofs.Common.{◌≡◌, ◌≢◌, ℕ, ◌+◌, ◌-◌, ◌*◌, ◌/◌, ◌%◌, ◌<◌, ◌≤◌, ◌&&◌, List, [], ◌∷◌, length, get_or, leb, cond, Bool, true, false, refl, sym, ap, ◌∙◌, subst, arith, Some, None, Option}
+use Rattle.std.proofs.Common.{◌≡◌, ℕ, ◌+◌, ◌-◌, ◌%◌, ◌<◌, ◌≤◌, ◌&&◌, List, [], ◌∷◌, length, leb, cond, Bool, true, false, refl, sym, ap, ◌∙◌, subst, arith, Some, Option}
 use Rattle.std.proofs.lemmas.Bool.Decides.{nat_tests}
 use Rattle.store_model.specs.declared.blocks.Block.{Block}
 use Rattle.store_model.specs.declared.blocks.Run.{Run}
 use Rattle.store_model.specs.Block.{block_end}
-use Rattle.store_model.specs.Tiling.{StandsIn, Tiles}
+use Rattle.store_model.specs.Tiling.{Tiles}
 use Rattle.store_model.specs.Run.{after_run, begins_run, first_run, need, run_size}
 use Rattle.store_model.proofs.Tilings.{Tiles-inside}
 
@@ -54,9 +54,11 @@ begins_run-true n b bs h = record { free = left b.free _ h; enough = (let test :
     left : (f x : Bool) → (f && x) ≡ true → f ≡ true
     left true x h = refl
     left false x h = h
+
     right : (f x : Bool) → (f && x) ≡ true → x ≡ true
     right true x h = h
     right false x h = cc
+
     large : (r : ℕ) → leb n r ≡ true → n ≤ r
     large r test = grind (arith, nat_tests)
 
@@ -95,8 +97,9 @@ first_run-small n (b ∷ bs) small = on b.free refl small (λ lt. first_run-smal
   where
     too_few : (r : ℕ) → r < n → leb n r ≡ false
     too_few r lt = grind (arith, nat_tests)
+
     on : (f : Bool) → b.free ≡ f → cond f (b.size + run_size bs) 0 < n → (run_size bs < n → first_run n bs ≡ first_run n (after_run bs))
-      → cond (f && leb n (cond f (b.size + run_size bs) 0)) (Some (record { start = b.start; end = b.start + cond f (b.size + run_size bs) 0 })) (first_run n bs) ≡ first_run n (cond f (after_run bs) (b ∷ bs))
+        → cond (f && leb n (cond f (b.size + run_size bs) 0)) (Some (record { start = b.start; end = b.start + cond f (b.size + run_size bs) 0 })) (first_run n bs) ≡ first_run n (cond f (after_run bs) (b ∷ bs))
     on true is lt more = ap (λ x. cond x (Some (record { start = b.start; end = b.start + (b.size + run_size bs) })) (first_run n bs)) (too_few (b.size + run_size bs) lt) ∙ more (omega (arith, lt))
     on false is lt more = sym (first_run-used n b bs is)
 
@@ -106,5 +109,6 @@ run_here n b bs free enough = ap (λ f. cond (f && leb n (run_size (b ∷ bs))) 
   where
     run : Run
     run = record { start = b.start; end = b.start + run_size (b ∷ bs) }
+
     test : (r : ℕ) → n ≤ r → leb n r ≡ true
     test r le = grind (arith, nat_tests)

@@ -1,8 +1,8 @@
 -- The size words of some blocks that follow one another are written.
-use Rattle.std.proofs.Common.{◌≡◌, ◌≢◌, ℕ, zero, suc, ◌+◌, ◌-◌, ◌%◌, ◌<◌, ◌≤◌, List, [], ◌∷◌, ◌++◌, length, get_or, set, refl, sym, ap, ◌∙◌, subst, arith, get_or-set_other, get_or-set_same, length-set}
+use Rattle.std.proofs.Common.{◌≡◌, ℕ, zero, suc, ◌+◌, ◌-◌, ◌%◌, ◌≤◌, List, [], ◌∷◌, ◌++◌, length, get_or, set, refl, sym, ◌∙◌, subst, arith, get_or-set_other, get_or-set_same, length-set}
 use Rattle.store_model.specs.declared.blocks.Block.{Block}
-use Rattle.store_model.specs.Block.{block_end, free_block, size_word}
-use Rattle.store_model.specs.Tiling.{StandsIn, Tiles}
+use Rattle.store_model.specs.Block.{block_end, size_word}
+use Rattle.store_model.specs.Tiling.{Tiles}
 use Rattle.store_model.specs.Take.{left_over, split_run, with_size_words}
 use Rattle.store_model.proofs.Tilings.{Tiles-inside}
 use Rattle.store_model.proofs.Writes.{Tiles-above}

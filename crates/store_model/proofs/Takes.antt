@@ -1,16 +1,15 @@
 -- A block is taken: what stands then, and what stays.
-use Rattle.std.proofs.Common.{◌≡◌, ◌≢◌, ◌⊎◌, inl, inr, ℕ, zero, suc, ◌+◌, ◌-◌, ◌%◌, ◌<◌, ◌≤◌, ◌&&◌, List, [], ◌∷◌, ◌++◌, length, get_or, eqb, leb, cond, not, Bool, true, false, refl, sym, ap, ◌∙◌, subst, arith, Some, None, Option}
+use Rattle.std.proofs.Common.{◌≡◌, ◌≢◌, ◌⊎◌, inl, inr, ℕ, zero, suc, ◌+◌, ◌-◌, ◌%◌, ◌<◌, ◌≤◌, ◌&&◌, List, [], ◌∷◌, ◌++◌, get_or, eqb, cond, not, Bool, true, false, refl, sym, ap, ◌∙◌, subst, arith, Some, None, Option}
 use Rattle.std.proofs.lemmas.Bool.Decides.{nat_tests}
 use Rattle.store_model.specs.declared.blocks.Block.{Block}
 use Rattle.store_model.specs.declared.blocks.Run.{Run}
 use Rattle.store_model.specs.Block.{block_end, is_used_at, used_block}
-use Rattle.store_model.specs.Tiling.{IsTiled, Tiles, blocks_in, used_at}
-use Rattle.store_model.specs.Run.{after_run, begins_run, first_run, need, run_size}
-use Rattle.store_model.specs.Take.{IsTaken, left_over, split_run, taken, taken_store}
-use Rattle.store_model.proofs.Runs.{FoundRun, begins_run-true, first_run-found, need-even, run-Tiles}
-use Rattle.store_model.proofs.SizeWords.{Follow, length-with_size_words, split_run-Follow, with_size_words-Tiles, with_size_words-outside}
-use Rattle.store_model.proofs.Tilings.{IsTiled-by, Tiles-inside, blocks_in-is}
-use Rattle.store_model.proofs.UsedBlocks.{AreApart, UsedBlock, used_at-apart, used_at-before, used_at-is}
+use Rattle.store_model.specs.Tiling.{Tiles, used_at}
+use Rattle.store_model.specs.Run.{after_run, begins_run, first_run, run_size}
+use Rattle.store_model.specs.Take.{left_over, split_run, taken, taken_store}
+use Rattle.store_model.proofs.Runs.{FoundRun, begins_run-true, first_run-found, run-Tiles}
+use Rattle.store_model.proofs.SizeWords.{Follow, split_run-Follow, with_size_words-Tiles, with_size_words-outside}
+use Rattle.store_model.proofs.UsedBlocks.{used_at-before, used_at-is}
 use Rattle.store_model.proofs.Writes.{StandsIn-same}
 
 -- words outside of the run stay
@@ -25,16 +24,17 @@ taken-Tiles s n at (b ∷ bs) run some even t e = on (begins_run n (b ∷ bs)) r
   where
     here : Run
     here = record { start = b.start; end = b.start + run_size (b ∷ bs) }
+
     on : (x : Bool) → begins_run n (b ∷ bs) ≡ x → (first_run n bs ≡ Some run → Tiles (taken_store s run n) (block_end b) (taken n bs)) → ◌≡◌ {A = Option Run} (cond x (Some here) (first_run n bs)) (Some run)
-      → Tiles (taken_store s run n) at (cond x (split_run b.start (b.start + run_size (b ∷ bs)) n ++ after_run (b ∷ bs)) (b ∷ taken n bs))
+        → Tiles (taken_store s run n) at (cond x (split_run b.start (b.start + run_size (b ∷ bs)) n ++ after_run (b ∷ bs)) (b ∷ taken n bs))
     on true test later e =
         let is : ◌≡◌ {A = Run} here run = cc in
         let front = run-Tiles s at (b ∷ bs) t in
         let enough = (begins_run-true n b bs test).enough in
         subst (λ z. Tiles (taken_store s z n) at (split_run b.start (b.start + run_size (b ∷ bs)) n ++ after_run (b ∷ bs))) is
-          (subst (λ z. Tiles (taken_store s here n) z (split_run b.start (b.start + run_size (b ∷ bs)) n ++ after_run (b ∷ bs))) t.0
-            (with_size_words-Tiles s b.start (split_run b.start (b.start + run_size (b ∷ bs)) n) (b.start + run_size (b ∷ bs)) (after_run (b ∷ bs))
-              (filled (run_size (b ∷ bs)) enough front.even) (subst (λ z. Tiles s (z + run_size (b ∷ bs)) (after_run (b ∷ bs))) (sym t.0) front.after)))
+        (subst (λ z. Tiles (taken_store s here n) z (split_run b.start (b.start + run_size (b ∷ bs)) n ++ after_run (b ∷ bs))) t.0
+        (with_size_words-Tiles s b.start (split_run b.start (b.start + run_size (b ∷ bs)) n) (b.start + run_size (b ∷ bs)) (after_run (b ∷ bs))
+        (filled (run_size (b ∷ bs)) enough front.even) (subst (λ z. Tiles s (z + run_size (b ∷ bs)) (after_run (b ∷ bs))) (sym t.0) front.after)))
       where
         filled : (r : ℕ) → n ≤ r → r % 2 ≡ 0 → Follow b.start (split_run b.start (b.start + r) n) (b.start + r)
         filled r enough even' = split_run-Follow b.start (b.start + r) n some even (omega (arith, enough)) (omega (arith, even'))
@@ -74,8 +74,9 @@ used_at-taken-other n (b ∷ bs) run v e other = on (begins_run n (b ∷ bs)) (�
   where
     end : ℕ
     end = b.start + run_size (b ∷ bs)
+
     on : (x : Bool) → (first_run n bs ≡ Some run → used_at v (taken n bs) ≡ used_at v bs) → ◌≡◌ {A = Option Run} (cond x (Some (record { start = b.start; end = end })) (first_run n bs)) (Some run)
-      → used_at v (cond x (split_run b.start end n ++ after_run (b ∷ bs)) (b ∷ taken n bs)) ≡ used_at v (b ∷ bs)
+        → used_at v (cond x (split_run b.start end n ++ after_run (b ∷ bs)) (b ∷ taken n bs)) ≡ used_at v (b ∷ bs)
     on true later e =
         let is : ◌≡◌ {A = Run} (record { start = b.start; end = end }) run = cc in
         split_run-other v b.start end n (after_run (b ∷ bs)) (λ k. other (k ∙ ap (λ r. r.start + 1) is)) ∙ used_at-after_run v (b ∷ bs)
@@ -88,16 +89,19 @@ used_at-taken s n at (b ∷ bs) run t e = on (begins_run n (b ∷ bs)) refl (λ 
   where
     here : Run
     here = record { start = b.start; end = b.start + run_size (b ∷ bs) }
+
     IsNew : Run → List Block → Type 0
     IsNew r cs = (used_at (r.start + 1) cs ≡ Some (used_block r.start n)) × (used_at (r.start + 1) (b ∷ bs) ≡ None)
+
     on : (x : Bool) → begins_run n (b ∷ bs) ≡ x → (first_run n bs ≡ Some run → (used_at (run.start + 1) (taken n bs) ≡ Some (used_block run.start n)) × (used_at (run.start + 1) bs ≡ None))
-      → ◌≡◌ {A = Option Run} (cond x (Some here) (first_run n bs)) (Some run)
-      → IsNew run (cond x (split_run b.start (b.start + run_size (b ∷ bs)) n ++ after_run (b ∷ bs)) (b ∷ taken n bs))
+        → ◌≡◌ {A = Option Run} (cond x (Some here) (first_run n bs)) (Some run)
+        → IsNew run (cond x (split_run b.start (b.start + run_size (b ∷ bs)) n ++ after_run (b ∷ bs)) (b ∷ taken n bs))
     on true test later e =
         let is : ◌≡◌ {A = Run} here run = cc in
-        subst (λ z. IsNew z (split_run b.start (b.start + run_size (b ∷ bs)) n ++ after_run (b ∷ bs))) is
-          (split_run-same b.start (b.start + run_size (b ∷ bs)) n (after_run (b ∷ bs)),
-           used_at-free (b.start + 1) b bs (begins_run-true n b bs test).free ∙ used_at-before s (block_end b) bs (b.start + 1) t.2 (omega (arith, t.1.some)))
+        subst (λ z. IsNew z (split_run b.start (b.start + run_size (b ∷ bs)) n ++ after_run (b ∷ bs))) is (
+          split_run-same b.start (b.start + run_size (b ∷ bs)) n (after_run (b ∷ bs)),
+          used_at-free (b.start + 1) b bs (begins_run-true n b bs test).free ∙ used_at-before s (block_end b) bs (b.start + 1) t.2 (omega (arith, t.1.some)),
+        )
     on false test later e =
         let l = later e in
         let low = (first_run-found s n (block_end b) bs run t.2 e).low in
@@ -115,7 +119,7 @@ used_at-outside_run s n at [] run v c t e k = cc
 used_at-outside_run s n at (b ∷ bs) run v c t e k = on (begins_run n (b ∷ bs)) (λ e k. used_at-outside_run s n (block_end b) bs run v c t.2 e k) e
   where
     on : (x : Bool) → (first_run n bs ≡ Some run → used_at v bs ≡ Some c → (block_end c ≤ run.start) ⊎ (run.end ≤ c.start))
-      → ◌≡◌ {A = Option Run} (cond x (Some (record { start = b.start; end = b.start + run_size (b ∷ bs) })) (first_run n bs)) (Some run) → (block_end c ≤ run.start) ⊎ (run.end ≤ c.start)
+        → ◌≡◌ {A = Option Run} (cond x (Some (record { start = b.start; end = b.start + run_size (b ∷ bs) })) (first_run n bs)) (Some run) → (block_end c ≤ run.start) ⊎ (run.end ≤ c.start)
     on true later e =
         let is : ◌≡◌ {A = Run} (record { start = b.start; end = b.start + run_size (b ∷ bs) }) run = cc in
         let u = used_at-is s (at + run_size (b ∷ bs)) (after_run (b ∷ bs)) v c (run-Tiles s at (b ∷ bs) t).after (used_at-after_run v (b ∷ bs) ∙ k) in

@@ -21,6 +21,7 @@ block_of_word-size_word b at w start word even =
     size_of : (f : Bool) → cond f (b.size + 1) b.size - cond f (b.size + 1) b.size % 2 ≡ b.size
     size_of true = omega (arith, even)
     size_of false = omega (arith, even)
+
     free_of : (f : Bool) → eqb (cond f (b.size + 1) b.size % 2) 1 ≡ f
     free_of true = (let e : (b.size + 1) % 2 ≡ 1 = omega (arith, even) in grind (arith, nat_tests))
     free_of false = grind (arith, nat_tests)

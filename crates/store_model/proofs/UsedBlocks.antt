@@ -1,9 +1,9 @@
 -- Blocks that are looked up: the one whose data hold an address, and the used one whose data begin at an address.
-use Rattle.std.proofs.Common.{◌≡◌, ◌≢◌, ◌⊎◌, inl, inr, ℕ, ◌+◌, ◌%◌, ◌<◌, ◌≤◌, ◌&&◌, List, [], ◌∷◌, ◌++◌, length, get_or, eqb, ltb, not, cond, Bool, true, false, refl, sym, ap, ◌∙◌, subst, arith, Some, None, Option}
+use Rattle.std.proofs.Common.{◌≡◌, ◌⊎◌, inl, inr, ℕ, ◌+◌, ◌%◌, ◌<◌, ◌≤◌, ◌&&◌, List, [], ◌∷◌, length, get_or, eqb, ltb, not, cond, Bool, true, false, refl, sym, ap, ◌∙◌, subst, arith, Some, None, Option}
 use Rattle.std.proofs.lemmas.Bool.Decides.{nat_tests}
 use Rattle.std.specs.List.{find}
 use Rattle.store_model.specs.declared.blocks.Block.{Block}
-use Rattle.store_model.specs.Block.{block_end, has_data, is_used_at, used_block}
+use Rattle.store_model.specs.Block.{block_end, has_data, is_used_at}
 use Rattle.store_model.specs.Tiling.{StandsIn, Tiles, holding, used_at}
 use Rattle.store_model.proofs.Tilings.{Tiles-inside}
 
@@ -101,7 +101,7 @@ used_at-apart s at [] v w b c t e k = cc
 used_at-apart s at (d ∷ bs) v w b c t e k = on (is_used_at v d) refl (is_used_at w d) refl (λ e k. used_at-apart s (block_end d) bs v w b c t.2 e k) e k
   where
     on : (x : Bool) → is_used_at v d ≡ x → (y : Bool) → is_used_at w d ≡ y → (used_at v bs ≡ Some b → used_at w bs ≡ Some c → (v ≡ w) ⊎ AreApart b c)
-      → cond x (Some d) (used_at v bs) ≡ Some b → cond y (Some d) (used_at w bs) ≡ Some c → (v ≡ w) ⊎ AreApart b c
+        → cond x (Some d) (used_at v bs) ≡ Some b → cond y (Some d) (used_at w bs) ≡ Some c → (v ≡ w) ⊎ AreApart b c
     on true at_v true at_w later e k = inl (sym (is_used_at-true v d at_v).1 ∙ (is_used_at-true w d at_w).1)
     on true at_v false at_w later e k = (let same : d ≡ b = cc in let u = used_at-is s (block_end d) bs w c t.2 k in inr (inl (omega (arith, u.low, ap block_end same))))
     on false at_v true at_w later e k = (let same : d ≡ c = cc in let u = used_at-is s (block_end d) bs v b t.2 e in inr (inr (omega (arith, u.low, ap block_end same))))
@@ -119,6 +119,7 @@ used_at-holding s at (d ∷ bs) v a b t e low high = on (is_used_at v d) refl (�
         let above : ltb d.start a ≡ true = grind (arith, nat_tests) in
         let below : ltb a (block_end d) ≡ true = grind (arith, nat_tests) in
         rw (above, below) (ap Some same)
+
     later_on : used_at v bs ≡ Some b → holding a bs ≡ Some b → holding a (d ∷ bs) ≡ Some b
     later_on e is =
         let u = used_at-is s (block_end d) bs v b t.2 e in
@@ -129,6 +130,7 @@ used_at-holding s at (d ∷ bs) v a b t e low high = on (is_used_at v d) refl (�
         skip : (x : Bool) → cond (x && false) (Some d) (holding a bs) ≡ holding a bs
         skip true = refl
         skip false = refl
+
     on : (x : Bool) → is_used_at v d ≡ x → (used_at v bs ≡ Some b → holding a bs ≡ Some b) → cond x (Some d) (used_at v bs) ≡ Some b → holding a (d ∷ bs) ≡ Some b
     on true at_v later e = here (cc) at_v
     on false at_v later e = later_on e (later e)

@@ -1,8 +1,8 @@
 -- Writes that change no size word: the blocks stay.
-use Rattle.std.proofs.Common.{◌≡◌, ◌≢◌, ℕ, ◌+◌, ◌-◌, ◌<◌, ◌≤◌, ◌&&◌, List, [], ◌∷◌, ◌++◌, length, get_or, set, ltb, cond, Bool, true, false, refl, sym, ap, ◌∙◌, subst, arith, Some, None, Option, get_or-set_other, length-set}
+use Rattle.std.proofs.Common.{◌≡◌, ℕ, ◌+◌, ◌<◌, ◌≤◌, ◌&&◌, List, [], ◌∷◌, length, get_or, set, ltb, cond, Bool, true, false, refl, sym, ap, ◌∙◌, arith, Some, None, get_or-set_other, length-set}
 use Rattle.std.proofs.lemmas.Bool.Decides.{nat_tests}
 use Rattle.store_model.specs.declared.blocks.Block.{Block}
-use Rattle.store_model.specs.Block.{block_end, has_data}
+use Rattle.store_model.specs.Block.{block_end}
 use Rattle.store_model.specs.Tiling.{IsTiled, StandsIn, Tiles, blocks_in, holding, used_at}
 use Rattle.store_model.proofs.Tilings.{IsTiled-by, Tiles-inside, blocks_in-is}
 use Rattle.store_model.proofs.UsedBlocks.{holding-before, used_at-holding}
@@ -13,16 +13,20 @@ StandsIn-same s t b same h = record { word = same ∙ h.word; some = h.some; eve
 -- blocks stand in another store too, if each word from the first block to the end word that is no data of a block is the same there
 pub Tiles-kept : (s t : List ℕ) (at : ℕ) (bs : List Block) → length t ≡ length s → ((a : ℕ) → at ≤ a → a + 2 ≤ length s → holding a bs ≡ None → get_or t a 0 ≡ get_or s a 0) → Tiles s at bs → Tiles t at bs
 Tiles-kept s t at [] len same h = (omega (arith, len, h.0), same at (omega arith) (omega (arith, h.0)) refl ∙ h.1)
-Tiles-kept s t at (b ∷ bs) len same h =
-    (h.0, StandsIn-same s t b (same b.start (omega (arith, h.0)) (omega (arith, inside, h.0)) first) h.1,
-     Tiles-kept s t (block_end b) bs len (λ a low high none. same a (omega (arith, low, h.0)) high (later a low ∙ none)) h.2)
+Tiles-kept s t at (b ∷ bs) len same h = (
+  h.0,
+  StandsIn-same s t b (same b.start (omega (arith, h.0)) (omega (arith, inside, h.0)) first) h.1,
+  Tiles-kept s t (block_end b) bs len (λ a low high none. same a (omega (arith, low, h.0)) high (later a low ∙ none)) h.2,
+)
   where
     inside : at + 2 ≤ length s
     inside = Tiles-inside s at (b ∷ bs) h
+
     first : holding b.start (b ∷ bs) ≡ None
     first =
         let test : ltb b.start b.start ≡ false = grind (arith, nat_tests) in
         rw test (holding-before s (block_end b) bs b.start h.2 (omega arith))
+
     later : (a : ℕ) → block_end b ≤ a → holding a (b ∷ bs) ≡ holding a bs
     later a low =
         let test : ltb a (block_end b) ≡ false = grind (arith, nat_tests) in

@@ -1,7 +1,7 @@
-use Rattle.std.proofs.Common.{◌≡◌, ◌∙◌, ℕ, ◌<◌, sym, arith}
+use Rattle.std.proofs.Common.{◌∙◌, ℕ, ◌<◌, arith}
 use Rattle.store_model.specs.Run.{need}
 use Rattle.store_model.proofs.Runs.{need-even}
-use Rattle.getvec_chain.proofs.OpenRun.{at_block, open-end, open-large, opened, run_or-large, run_or-small, step-free, step-used}
+use Rattle.getvec_chain.proofs.OpenRun.{at_block, opened, step-used}
 use Rattle.getvec_chain.proofs.searching.first_run.Goals as goal
 
 some : (u : ℕ) → 0 < need u
@@ -19,4 +19,4 @@ end-end-requires c = omega (arith, (at_block _ _ _ _ _ _ _ c.loop-block.invarian
 pub loop-block-preserved : goal.loop-block-preserved
 loop-block-preserved c =
     step-used _ _ _ _ _ _ _ (some c.args.u) (at_block _ _ _ _ _ _ _ c.loop-block.invariant c.in-Some.ensures.steps) c.if-block.false
-      (omega (arith, c.if-need-from.false, c.words_needed-need.ensures, c.from.ensures, c.size.ensures)) c.end-end.ensures
+    (omega (arith, c.if-need-from.false, c.words_needed-need.ensures, c.from.ensures, c.size.ensures)) c.end-end.ensures

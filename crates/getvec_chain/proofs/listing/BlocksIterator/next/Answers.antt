@@ -1,7 +1,7 @@
-use Rattle.std.proofs.Common.{◌≡◌, ◌≢◌, ◌∙◌, ℕ, ◌+◌, ◌<◌, ◌≤◌, List, [], ◌∷◌, length, get_or, slice_get, Some, None, ap, sym, arith}
+use Rattle.std.proofs.Common.{◌≡◌, ◌≢◌, ◌∙◌, ℕ, ◌+◌, ◌<◌, List, [], ◌∷◌, length, slice_get, Some, ap, sym, arith}
 use Rattle.std.proofs.lemmas.Option.{none-some, get_or_from_slice_get, slice_get-get_or}
 use Rattle.store_model.specs.declared.blocks.Block.{Block}
-use Rattle.store_model.specs.Block.{block_end, block_of_word}
+use Rattle.store_model.specs.Block.{block_of_word}
 use Rattle.store_model.specs.Tiling.{IsTiledFrom, blocks_from}
 use Rattle.store_model.proofs.Tilings.{IsTiledFrom-next, NextBlock, Tiles-at_end, Tiles-inside}
 use Rattle.getvec_chain.proofs.listing.BlocksIterator.next.Goals as goal
