@@ -1,3 +1,4 @@
+pub mod Row
 pub mod AfterGive
 pub mod AfterTake
 pub mod Runs

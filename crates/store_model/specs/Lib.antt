@@ -1,3 +1,4 @@
+pub mod Row
 pub mod Block
 pub mod Give
 pub mod Run
