@@ -18,3 +18,4 @@ pub mod OwnedWords
 pub mod Exchanges
 pub mod Writing
 pub mod Frames
+pub mod Members
