@@ -12,3 +12,4 @@ pub mod Gathered
 pub mod PrintedParts
 pub mod Hex
 pub mod Printed
+pub mod ReadingOn

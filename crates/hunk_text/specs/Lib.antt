@@ -8,3 +8,4 @@ pub mod Shapes
 pub mod Answers
 pub mod Canonical
 pub mod FirstError
+pub mod ReadingOn

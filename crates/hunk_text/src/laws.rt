@@ -1,7 +1,10 @@
 // Laws of modules and their texts.
-ghost use Rattle.std.specs.Prelude.{◌≡◌, ◌≢◌, ◌≤◌, ◌⊎◌, ℕ, List, Ok, Err};
+ghost use Rattle.std.specs.Prelude.{◌≡◌, ◌≢◌, ◌≤◌, ◌⊎◌, ℕ, List, [], ◌∷◌, Ok, Err, None};
 ghost use Rattle.hunk_text.specs.FirstError.{EndsEarly, IsFirstError};
-ghost use Rattle.hunk_text.specs.ModuleForm.{IsModule};
+ghost use Rattle.hunk_text.specs.Tokens.{tokens_of};
+ghost use Rattle.hunk_text.specs.Places.{next_word};
+ghost use Rattle.hunk_text.specs.ReadingOn.{Reads, ReadsOn};
+ghost use Rattle.hunk_text.specs.ModuleForm.{AreWords, IsModule};
 ghost use Rattle.hunk_text.specs.ModuleReading.{module_of, refusal};
 ghost use Rattle.hunk_text.specs.Canonical.{HasWords, IsPrintable, printed};
 ghost use Rattle.hunk_text.specs.declared.modules.Module.{Module};
@@ -25,4 +28,12 @@ pub fn refusal_law()
 /// The printed text of a module is read as the same module.
 pub fn printed_law()
     ensures { (m : Module) → IsPrintable m → HasWords m → module_of (printed m) ≡ Ok m }
+{}
+
+/// A text whose tokens are words is read word after word: from place 0 on all of them are left; while some are left, the
+/// next word is the first of these, and the others are left from its end on; and where none is left, there is no next word.
+pub fn words_law()
+    ensures all { (text words : List ℕ) → AreWords (tokens_of text) words → Reads text 0 words }
+    ensures next { (text words : List ℕ) (place word : ℕ) → Reads text place (word ∷ words) → ReadsOn text place word words }
+    ensures none { (text : List ℕ) (place : ℕ) → Reads text place [] → next_word text place ≡ None }
 {}

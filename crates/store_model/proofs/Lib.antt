@@ -1,3 +1,12 @@
+pub mod Row
+pub mod AfterGive
+pub mod AfterTake
+pub mod Runs
+pub mod SizeWords
+pub mod Takes
+pub mod Tilings
+pub mod UsedBlocks
+pub mod Writes
 pub mod Counts
 pub mod Chains
 pub mod Walks
@@ -5,3 +14,7 @@ pub mod Insertion
 pub mod Removal
 pub mod Places
 pub mod Lists
+pub mod OwnedWords
+pub mod Exchanges
+pub mod Writing
+pub mod Frames

@@ -4,7 +4,7 @@ use Rattle.std.specs.List.{AllByRecursion}
 use Rattle.std.proofs.lemmas.Bool.Decides.{nat_tests}
 use Rattle.store_model.specs.Chain.{IsChain, links_from, list_at}
 use Rattle.store_model.specs.Linked.{IsLinked, IsNode}
-use Rattle.store_model.specs.Walk.{IsWalk}
+use Rattle.store_model.specs.Walk.{CanWalk, IsWalk}
 
 -- where the word is 0 no node is left
 links_from-none : (n : ℕ) (s : List ℕ) (link : ℕ → ℕ) (at : ℕ) → get_or s at 0 ≡ 0 → links_from n s link at ≡ []
@@ -84,3 +84,9 @@ list-no_offset s head = ap (λ f. list_at s f head) no_offset
 pub walk-no_offset : (s : List ℕ) (size : ℕ → ℕ) (head : ℕ) → IsLinked s (λ p. p) size head (list_at s (λ p. p) head) → IsWalk s (λ p. p + 0) head (list_at s (λ p. p + 0) head)
 walk-no_offset s size head l =
     subst (λ f. IsWalk s f head (list_at s f head)) (sym no_offset) (linked-walk s (λ p. p) size head (list_at s (λ p. p) head) l)
+
+pub can_walk : (s : List ℕ) (link size : ℕ → ℕ) (head : ℕ) → IsLinked s link size head (list_at s link head) → CanWalk s link head
+can_walk s link size head l = linked-walk s link size head (list_at s link head) l
+
+pub can_walk-no_offset : (s : List ℕ) (head : ℕ) → CanWalk s (λ p. p) head → CanWalk s (λ p. p + 0) head
+can_walk-no_offset s head w = subst (λ f. CanWalk s f head) (sym no_offset) w

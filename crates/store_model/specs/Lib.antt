@@ -1,6 +1,16 @@
+pub mod Row
+pub mod Block
+pub mod Give
+pub mod Run
+pub mod Take
+pub mod Tiling
 pub mod Count
 pub mod Chain
 pub mod Linked
 pub mod Placing
 pub mod Walk
 pub mod Changed
+pub mod Owned
+pub mod Exchange
+pub mod LinkedWords
+pub mod Written

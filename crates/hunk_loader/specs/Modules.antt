@@ -1,0 +1,24 @@
+-- The modules of a store: a list of used blocks, the newest first.
+use Rattle.std.specs.Prelude.{◌≡◌, ℕ, ◌+◌, Some, List, sum}
+use Rattle.std.specs.List.{AllByRecursion}
+use Rattle.store_model.specs.declared.blocks.Block.{Block}
+use Rattle.store_model.specs.Chain.{IsChain}
+use Rattle.store_model.specs.Count.{IsApart}
+use Rattle.store_model.specs.Run.{need}
+use Rattle.store_model.specs.Tiling.{IsTiled, blocks_in, used_at}
+use Rattle.task_block.specs.Lists.{module_link, modules_in}
+use Rattle.hunk_loader.specs.Placed.{hunk_count, lengths_in}
+
+-- at m the data of a used block begin, which is as large as the module's words need
+pub record IsModuleAt (s : List ℕ) (m : ℕ) : Type 0 where
+  pub block : Block
+  pub used : used_at m (blocks_in s) ≡ Some block
+  pub size : block.size ≡ need (1 + hunk_count s m + sum (lengths_in s m))
+
+-- blocks and modules stand: the words from 200 on tile, the links from word 104 on lead through modules, and none of them
+-- stands twice in the list
+pub record HasModules (s : List ℕ) : Type 0 where
+  pub tiled : IsTiled s
+  pub chain : IsChain s module_link 104 (modules_in s)
+  pub modules : AllByRecursion (IsModuleAt s) (modules_in s)
+  pub apart : IsApart (modules_in s)

@@ -1,0 +1,22 @@
+-- Words read from a text, one after another.
+use Rattle.std.specs.Prelude.{ℕ, ◌≡◌, ◌<◌, ◌≤◌, List, length, drop, Some}
+use Rattle.hunk_text.specs.Tokens.{tokens_from}
+use Rattle.hunk_text.specs.Places.{next_word}
+use Rattle.hunk_text.specs.ModuleForm.{AreWords}
+use Rattle.hunk_text.specs.declared.tokens.NextWord.{NextWord}
+
+-- the tokens of the text from a place on are these words, one each
+abbrev pub Reads : List ℕ → ℕ → List ℕ → Type 0
+Reads text place words = AreWords (tokens_from place (drop place text)) words
+
+-- a word, and the place after it
+abbrev pub read : ℕ → ℕ → NextWord
+read word end = record { word = word; end = end }
+
+-- The next word from the place on is this one. It ends further on, inside the text, and from there on the others are read.
+pub record ReadsOn (text : List ℕ) (place word : ℕ) (words : List ℕ) : Type 0 where
+  pub end : ℕ
+  pub next : next_word text place ≡ Some (read word end)
+  pub further : place < end
+  pub inside : end ≤ length text
+  pub rest : Reads text end words

@@ -1,0 +1,5 @@
+pub mod TaskWords
+pub mod RootWords
+pub mod Versions
+pub mod TaskChain
+pub mod Lists

@@ -1,0 +1,100 @@
+// The words of a task block by their names.
+ghost use Rattle.std.specs.Prelude.{◌≡◌, ◌+◌, ◌<◌, length, slice_index, slice_set};
+ghost use Rattle.task_block.specs.TaskWords.{word_index};
+
+use store_links::word;
+use word_store::Store;
+
+/// The words 0 to 22 of a task block, in order.
+#[derive(Clone, Copy, Debug, PartialEq, Eq)]
+pub enum TcbField {
+    /// The next task block of the chain, or 0.
+    Link,
+    /// The number of the task, from 1.
+    Id,
+    /// Its priority, from 1 to 10,000.
+    Pri,
+    /// The first packet of its work queue, or 0.
+    Queue,
+    /// Its state.
+    State,
+    /// Its flags.
+    Flags,
+    /// The address of its stack.
+    Stack,
+    /// The highest index of the stack.
+    StackTop,
+    /// The address of its globals.
+    Globals,
+    /// The number of the task that made it, or 0.
+    Maker,
+    /// Its first module, or 0.
+    Module,
+    SavedA,
+    SavedB,
+    SavedC,
+    SavedP,
+    SavedG,
+    SavedPc,
+    /// The newest of its coroutines, or 0.
+    FirstCo,
+    /// The coroutine that runs in it, or 0 in its root.
+    CurrentCo,
+    /// The root's P while a coroutine runs.
+    RootP,
+    /// The root's PC while a coroutine runs.
+    RootPc,
+    Extra1,
+    Extra2,
+}
+
+impl TcbField {
+    /// Which word of a task block it is, from 0.
+    pub fn index(self) -> u32
+        ensures { result ≡ word_index self }
+    {
+        match self {
+            TcbField::Link => 0,
+            TcbField::Id => 1,
+            TcbField::Pri => 2,
+            TcbField::Queue => 3,
+            TcbField::State => 4,
+            TcbField::Flags => 5,
+            TcbField::Stack => 6,
+            TcbField::StackTop => 7,
+            TcbField::Globals => 8,
+            TcbField::Maker => 9,
+            TcbField::Module => 10,
+            TcbField::SavedA => 11,
+            TcbField::SavedB => 12,
+            TcbField::SavedC => 13,
+            TcbField::SavedP => 14,
+            TcbField::SavedG => 15,
+            TcbField::SavedPc => 16,
+            TcbField::FirstCo => 17,
+            TcbField::CurrentCo => 18,
+            TcbField::RootP => 19,
+            TcbField::RootPc => 20,
+            TcbField::Extra1 => 21,
+            TcbField::Extra2 => 22,
+        }
+    }
+}
+
+/// The word of the task block at t.
+pub fn field(store: &Store, t: u32, f: TcbField) -> u32
+    requires { t + word_index f < length store.now }
+    ensures { result ≡ slice_index store.now (t + word_index f) }
+{
+    let _size = store.size();
+    word(store, t + f.index())
+}
+
+/// Sets the word of the task block at t, and no other.
+pub fn set_field(store: &mut Store, t: u32, f: TcbField, w: u32)
+    requires { t + word_index f < length store.old }
+    ensures { store.new ≡ slice_set store.old (t + word_index f) w }
+{
+    let _size = store.size();
+    store.set(t + f.index(), w);
+}

@@ -1,0 +1,17 @@
+// Task blocks: their words by name, the chain of tasks and the task table, and the lists that begin there.
+#![tactic(auto)]
+
+pub mod chain;
+pub mod fields;
+pub mod listing;
+pub mod roots;
+pub mod searching;
+pub mod versions;
+
+pub use chain::{insert, unlink};
+pub use fields::{TcbField, field, set_field};
+pub use listing::{coroutine_list, modules, tasks};
+pub use roots::{RootField, root, set_root};
+pub use searching::{find, free_id, priority_used};
+pub use store_links::{Nodes as CoList, Nodes as Modules, Nodes as Tasks};
+pub use versions::{head_words, highest_id, module_at, most_modules, set_module_at};
