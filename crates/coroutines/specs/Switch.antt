@@ -13,15 +13,16 @@ entered s t regs c v = record regs { a = v; b = 0; p = slice_index s (saved_p t 
 
 -- c is called: the current one becomes its parent
 abbrev pub called : List ℕ → ℕ → Regs → ℕ → List ℕ
-called s t regs c = switched (slice_set s (parent_cell c) (as_parent t (current_in s t))) t regs.p regs.pc c
+called s t regs c = slice_set (switched s t regs.p regs.pc c) (parent_cell c) (as_parent t (current_in s t))
 
 -- the current one waits, with this P and PC: it has no parent any more, and its parent goes on
 abbrev pub waited : List ℕ → ℕ → ℕ → ℕ → List ℕ
-waited s t p pc = switched (slice_set s (parent_cell (current_in s t)) 0) t p pc (as_current t (parent_in s (current_in s t)))
+waited s t p pc = slice_set (switched s t p pc (as_current t (parent_in s (current_in s t)))) (parent_cell (current_in s t)) 0
 
 -- c takes the current one's place: it gets its parent, and the current one has none any more
 abbrev pub replaced : List ℕ → ℕ → Regs → ℕ → List ℕ
-replaced s t regs c = switched (slice_set (slice_set s (parent_cell c) (parent_in s (current_in s t))) (parent_cell (current_in s t)) 0) t regs.p regs.pc c
+replaced s t regs c =
+    slice_set (slice_set (switched s t regs.p regs.pc c) (parent_cell c) (parent_in s (current_in s t))) (parent_cell (current_in s t)) 0
 
 -- the store after c was resumed: where it is the current one, nothing is written
 abbrev pub resumed : List ℕ → ℕ → Regs → ℕ → List ℕ
