@@ -1,11 +1,10 @@
 // A coroutine is called, resumed or waits, and its function returns.
-ghost use Rattle.std.specs.Prelude.{◌≡◌, ◌≢◌, ◌×◌, [], ◌∷◌, false, if◌then◌else◌, ◌==◌, OnErr, OnOk};
-ghost use Rattle.std.specs.List.{drop};
+ghost use Rattle.std.specs.Prelude.{◌≡◌, ◌≢◌, ◌∷◌, false, true, drop, OnErr, OnOk};
 ghost use Rattle.coroutines.specs.Active.{active_in};
 ghost use Rattle.coroutines.specs.Coroutines.{HasCoroutines};
 ghost use Rattle.coroutines.specs.CoroutineWords.{as_current, current_in, parent_in};
 ghost use Rattle.coroutines.specs.Refusals.{call_answer, has_parent, is_known, resume_answer, wait_answer};
-ghost use Rattle.coroutines.specs.Switch.{called, entered, resumed, resumed_regs, returned, waited};
+ghost use Rattle.coroutines.specs.Switch.{called, entered, replaced, resumed, resumed_regs, returned, waited};
 ghost use Rattle.task_block.specs.Lists.{coroutines_in};
 
 use crate::ends::CoEnd;

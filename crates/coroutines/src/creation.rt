@@ -1,21 +1,24 @@
 // A coroutine is made, and deleted.
-ghost use Rattle.std.specs.Prelude.{◌≡◌, ◌∷◌, IfOk, None, OnErr, OnOk};
-ghost use Rattle.store_model.specs.Placing.{without};
+ghost use Rattle.std.specs.Prelude.{◌≡◌, ◌+◌, ◌∷◌, IfOk, None, OnErr, OnOk, true};
+ghost use Rattle.store_model.specs.Placing.{cell_before, without};
 ghost use Rattle.store_model.specs.Row.{with_words};
 ghost use Rattle.store_model.specs.Run.{first_run, need};
 ghost use Rattle.store_model.specs.Tiling.{blocks_in};
 ghost use Rattle.coroutines.specs.Active.{active_in};
 ghost use Rattle.coroutines.specs.Coroutines.{HasCoroutines};
 ghost use Rattle.coroutines.specs.Creation.{IsCreated, deleted, highest};
-ghost use Rattle.coroutines.specs.Refusals.{delete_answer};
-ghost use Rattle.task_block.specs.Lists.{coroutines_in};
+ghost use Rattle.coroutines.specs.Refusals.{delete_answer, is_known};
+ghost use Rattle.task_block.specs.Lists.{coroutine_link, coroutines_in};
 
 use crate::calls::{has_parent, is_known};
 use crate::ends::CoEnd;
 use getvec_chain::{NoRoom, give, take};
-use store_links::word;
+use store_links::{set_words, word};
 use task_block::{TcbField, coroutine_list, field, set_field};
 use word_store::Store;
+
+/// Which word of a coroutine links to the next one.
+const LINK: u32 = 2;
 
 /// The least highest index of a coroutine: room for its words and a few of its stack.
 const LEAST_HIGHEST: u32 = 16;
@@ -57,8 +60,24 @@ pub fn delete(store: &mut Store, t: u32, c: u32) -> Result<(), CoEnd>
         return Err(CoEnd::HasParent);
     }
     let cell = cell_before(store, t, c);
-    let next = word(store, c + 2);
+    let next = word(store, c + LINK);
     store.set(cell, next);
     let _given = give(store, c);
     Ok(())
+}
+
+// The word that links to the coroutine c of the task at t.
+fn cell_before(store: &Store, t: u32, c: u32) -> u32
+    requires coroutines { HasCoroutines store.now t }
+    requires known { is_known store.now t c ≡ true }
+    ensures { result ≡ cell_before coroutine_link c (t + 17) (coroutines_in store.now t) }
+{
+    let mut cell = t + TcbField::FirstCo.index();
+    for other in coroutine_list(store, t) {
+        if other == c {
+            return cell;
+        }
+        cell = other + LINK;
+    }
+    cell
 }

@@ -5,8 +5,6 @@ pub mod calls;
 pub mod creation;
 pub mod ends;
 mod switching;
-#[cfg(test)]
-mod tests;
 
 pub use calls::{call, ended, resume, wait};
 pub use creation::{create, delete};
