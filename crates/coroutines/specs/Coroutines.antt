@@ -21,10 +21,10 @@ pub record HasBlock (s : List ℕ) (c : ℕ) : Type 0 where
 
 -- the words of the task block at t, which are data of one used block
 pub record HasTaskBlock (s : List ℕ) (t : ℕ) : Type 0 where
-  pub data : ℕ
+  pub first : ℕ
   pub block : Block
-  pub used : used_at data (blocks_in s) ≡ Some block
-  pub low : data ≤ t
+  pub used : used_at first (blocks_in s) ≡ Some block
+  pub low : first ≤ t
   pub high : t + 23 ≤ block_end block
 
 -- the coroutines of the task at t stand

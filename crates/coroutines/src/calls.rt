@@ -1,16 +1,17 @@
 // A coroutine is called, resumed or waits, and its function returns.
-ghost use Rattle.std.specs.Prelude.{◌≡◌, ◌≢◌, ◌∷◌, false, true, drop, OnErr, OnOk};
+ghost use Rattle.std.specs.Prelude.{◌≡◌, ◌≢◌, ◌∷◌, drop, OnErr, OnOk};
 ghost use Rattle.coroutines.specs.Active.{active_in};
 ghost use Rattle.coroutines.specs.Coroutines.{HasCoroutines};
 ghost use Rattle.coroutines.specs.CoroutineWords.{as_current, current_in, parent_in};
-ghost use Rattle.coroutines.specs.Refusals.{call_answer, has_parent, is_known, resume_answer, wait_answer};
-ghost use Rattle.coroutines.specs.Switch.{called, entered, replaced, resumed, resumed_regs, returned, waited};
+ghost use Rattle.coroutines.specs.Refusals.{call_answer, resume_answer, wait_answer};
+ghost use Rattle.coroutines.specs.Switch.{called, entered, resumed, resumed_regs, returned, waited};
 ghost use Rattle.task_block.specs.Lists.{coroutines_in};
 
 use crate::ends::CoEnd;
-use crate::switching::{PARENT, as_current, as_parent, switch};
+use crate::members::{has_parent, is_known};
+use crate::switching::{enter, leave, replace};
 use store_links::word;
-use task_block::{TcbField, coroutine_list, field};
+use task_block::{TcbField, field};
 use word_store::{Regs, Store};
 
 /// Which word of a coroutine has the address of its function.
@@ -36,15 +37,19 @@ pub fn call(store: &mut Store, t: u32, regs: &mut Regs, c: u32, v: u32) -> Resul
     if has_parent(store, t, c) {
         return Err(CoEnd::HasParent);
     }
-    let current = field(store, t, TcbField::CurrentCo);
-    switch(store, t, regs, c, v);
-    store.set(c + PARENT, as_parent(t, current));
+    enter(store, t, regs, c, v);
     Ok(())
 }
 
 /// Resumes the coroutine c of the task at t with v: it takes the current one's place, whose parent becomes its own. Where it
 /// is the current one, only A becomes v, and B 0.
-pub fn resume(store: &mut Store, t: u32, regs: &mut Regs, c: u32, v: u32) -> Result<(), CoEnd>
+pub fn resume(
+    store: &mut Store,
+    t: u32,
+    regs: &mut Regs,
+    c: u32,
+    v: u32,
+) -> Result<(), CoEnd>
     requires { HasCoroutines store.old t }
     ensures answer { result ≡ resume_answer store.old t c }
     ensures words { OnOk result (store.new ≡ resumed store.old t regs.old c) }
@@ -73,22 +78,6 @@ pub fn resume(store: &mut Store, t: u32, regs: &mut Regs, c: u32, v: u32) -> Res
     Ok(())
 }
 
-// Puts the coroutine c, which has no parent, in place of the current one.
-fn replace(store: &mut Store, t: u32, regs: &mut Regs, c: u32, v: u32)
-    requires coroutines { HasCoroutines store.old t }
-    requires within { current_in store.old t ≢ 0 }
-    requires known { is_known store.old t c ≡ true }
-    requires idle { has_parent store.old t c ≡ false }
-    ensures words { store.new ≡ replaced store.old t regs.old c }
-    ensures regs { regs.new ≡ entered store.old t regs.old c v }
-{
-    let current = field(store, t, TcbField::CurrentCo);
-    let parent = word(store, current + PARENT);
-    switch(store, t, regs, c, v);
-    store.set(c + PARENT, parent);
-    store.set(current + PARENT, 0);
-}
-
 /// Makes the current coroutine of the task at t wait: it has no parent any more, and its parent goes on with v.
 pub fn wait(store: &mut Store, t: u32, regs: &mut Regs, v: u32) -> Result<(), CoEnd>
     requires { HasCoroutines store.old t }
@@ -100,13 +89,10 @@ pub fn wait(store: &mut Store, t: u32, regs: &mut Regs, v: u32) -> Result<(), Co
     ensures stand { HasCoroutines store.new t }
     ensures unchanged { OnErr result ((store.new ≡ store.old) × (regs.new ≡ regs.old)) }
 {
-    let current = field(store, t, TcbField::CurrentCo);
-    if current == 0 {
+    if field(store, t, TcbField::CurrentCo) == 0 {
         return Err(CoEnd::NoParent);
     }
-    let parent = word(store, current + PARENT);
-    switch(store, t, regs, as_current(t, parent), v);
-    store.set(current + PARENT, 0);
+    leave(store, t, regs, v);
     Ok(())
 }
 
@@ -121,33 +107,11 @@ pub fn ended(store: &mut Store, t: u32, regs: &mut Regs)
     ensures coroutines { coroutines_in store.new t ≡ coroutines_in store.old t }
     ensures stand { HasCoroutines store.new t }
 {
+    // a store has fewer than 2 ^ 32 words, so no address is larger
+    let _size = store.size();
     let current = field(store, t, TcbField::CurrentCo);
-    let parent = word(store, current + PARENT);
-    let result = regs.a;
     regs.p = current + BOTTOM;
     regs.pc = word(store, current + FUNCTION);
-    switch(store, t, regs, as_current(t, parent), result);
-    store.set(current + PARENT, 0);
-}
-
-// Whether c is a coroutine of the task at t.
-pub(crate) fn is_known(store: &Store, t: u32, c: u32) -> bool
-    requires { HasCoroutines store.now t }
-    ensures { result ≡ is_known store.now t c }
-{
-    for known in coroutine_list(store, t) {
-        if c == known {
-            return true;
-        }
-    }
-    false
-}
-
-// Whether the coroutine c of the task at t has a parent.
-pub(crate) fn has_parent(store: &Store, t: u32, c: u32) -> bool
-    requires coroutines { HasCoroutines store.now t }
-    requires known { is_known store.now t c ≡ true }
-    ensures { result ≡ has_parent store.now t c }
-{
-    word(store, c + PARENT) != 0
+    let result = regs.a;
+    leave(store, t, regs, result);
 }

@@ -1,7 +1,6 @@
 // A coroutine is made, and deleted.
 ghost use Rattle.std.specs.Prelude.{◌≡◌, ◌+◌, ◌∷◌, IfOk, None, OnErr, OnOk, true};
-ghost use Rattle.store_model.specs.Placing.{cell_before, without};
-ghost use Rattle.store_model.specs.Row.{with_words};
+ghost use Rattle.store_model.specs.Placing.{cell_before, linked_out, without};
 ghost use Rattle.store_model.specs.Run.{first_run, need};
 ghost use Rattle.store_model.specs.Tiling.{blocks_in};
 ghost use Rattle.coroutines.specs.Active.{active_in};
@@ -10,15 +9,12 @@ ghost use Rattle.coroutines.specs.Creation.{IsCreated, deleted, highest};
 ghost use Rattle.coroutines.specs.Refusals.{delete_answer, is_known};
 ghost use Rattle.task_block.specs.Lists.{coroutine_link, coroutines_in};
 
-use crate::calls::{has_parent, is_known};
+use crate::members::{LINK, cell_before, has_parent, is_known};
 use crate::ends::CoEnd;
 use getvec_chain::{NoRoom, give, take};
 use store_links::{set_words, word};
-use task_block::{TcbField, coroutine_list, field, set_field};
+use task_block::{TcbField, field, set_field};
 use word_store::Store;
-
-/// Which word of a coroutine links to the next one.
-const LINK: u32 = 2;
 
 /// The least highest index of a coroutine: room for its words and a few of its stack.
 const LEAST_HIGHEST: u32 = 16;
@@ -35,6 +31,8 @@ pub fn create(store: &mut Store, t: u32, entry: u32, u: u32) -> Result<u32, NoRo
     ensures no_room { OnErr result (first_run (need (highest u)) (blocks_in store.old) ≡ None) }
     ensures unchanged { OnErr result (store.new ≡ store.old) }
 {
+    // a store has fewer than 2 ^ 32 words, so no address is larger
+    let _size = store.size();
     let highest = u.max(LEAST_HIGHEST);
     let next = field(store, t, TcbField::FirstCo);
     let c = take(store, highest)?;
@@ -59,25 +57,20 @@ pub fn delete(store: &mut Store, t: u32, c: u32) -> Result<(), CoEnd>
     if has_parent(store, t, c) {
         return Err(CoEnd::HasParent);
     }
-    let cell = cell_before(store, t, c);
-    let next = word(store, c + LINK);
-    store.set(cell, next);
+    unlink(store, t, c);
     let _given = give(store, c);
     Ok(())
 }
 
-// The word that links to the coroutine c of the task at t.
-fn cell_before(store: &Store, t: u32, c: u32) -> u32
-    requires coroutines { HasCoroutines store.now t }
-    requires known { is_known store.now t c ≡ true }
-    ensures { result ≡ cell_before coroutine_link c (t + 17) (coroutines_in store.now t) }
+// Takes the coroutine c out of the list of the task at t.
+fn unlink(store: &mut Store, t: u32, c: u32)
+    requires coroutines { HasCoroutines store.old t }
+    requires known { is_known store.old t c ≡ true }
+    ensures { store.new ≡ linked_out store.old coroutine_link (cell_before coroutine_link c (t + 17) (coroutines_in store.old t)) c }
 {
-    let mut cell = t + TcbField::FirstCo.index();
-    for other in coroutine_list(store, t) {
-        if other == c {
-            return cell;
-        }
-        cell = other + LINK;
-    }
-    cell
+    // a store has fewer than 2 ^ 32 words, so no address is larger
+    let _size = store.size();
+    let cell = cell_before(store, t, c);
+    let next = word(store, c + LINK);
+    store.set(cell, next);
 }

@@ -4,6 +4,7 @@
 pub mod calls;
 pub mod creation;
 pub mod ends;
+mod members;
 mod switching;
 
 pub use calls::{call, ended, resume, wait};
