@@ -1,5 +1,5 @@
 -- The list of blocks, cut where a take or a give changes it.
-use Rattle.std.proofs.Common.{◌≡◌, ℕ, ◌+◌, ◌<◌, ◌≤◌, ◌&&◌, List, [], ◌∷◌, ◌++◌, leb, cond, Bool, true, false, refl, sym, ap, ◌∙◌, subst, arith, Some, None, Option}
+use Rattle.std.proofs.Common.{◌≡◌, ℕ, ◌+◌, ◌≤◌, ◌&&◌, List, [], ◌∷◌, ◌++◌, leb, cond, Bool, true, false, refl, sym, ap, ◌∙◌, subst, arith, Some, None, Option}
 use Rattle.std.proofs.lemmas.Bool.Decides.{nat_tests}
 use Rattle.store_model.specs.declared.blocks.Block.{Block}
 use Rattle.store_model.specs.declared.blocks.Run.{Run}
@@ -41,10 +41,12 @@ front_split s at (b ∷ bs) t = on b.free refl (front_split s (block_end b) bs t
   where
     Split : Bool → Type 0
     Split f = (b ∷ bs ≡ cond f (b ∷ front_run bs) [] ++ cond f (after_run bs) (b ∷ bs)) × AreFree (cond f (b ∷ front_run bs) []) × Follow at (cond f (b ∷ front_run bs) []) (at + cond f (b.size + run_size bs) 0) × (run_size (cond f (after_run bs) (b ∷ bs)) ≡ 0)
+
     split : (f : Bool) → b.free ≡ f → FrontSplit (block_end b) bs → Split f
     split true free later =
         (ap (λ z. b ∷ z) later.is, (free, later.free), (t.0, t.1.some, t.1.even, subst (Follow (block_end b) (front_run bs)) (omega (arith, t.0)) later.fills), later.whole)
     split false used later = (refl, tt, omega arith, ap (λ f. cond f (b.size + run_size bs) 0) used)
+
     on : (f : Bool) → b.free ≡ f → FrontSplit (block_end b) bs → FrontSplit at (b ∷ bs)
     on f is later = (let h : Split b.free = subst Split (sym is) (split f is later) in record { is = h.0; free = h.1; fills = h.2; whole = h.3 })
 
@@ -81,25 +83,26 @@ take_split s n at (b ∷ bs) run t e = on (begins_run n (b ∷ bs)) refl (λ k. 
   where
     here : Run
     here = record { start = b.start; end = b.start + run_size (b ∷ bs) }
+
     on : (x : Bool) → begins_run n (b ∷ bs) ≡ x → (first_run n bs ≡ Some run → TakeSplit n bs (taken n bs) run) → ◌≡◌ {A = Option Run} (cond x (Some here) (first_run n bs)) (Some run)
-      → TakeSplit n (b ∷ bs) (cond x (split_run b.start (b.start + run_size (b ∷ bs)) n ++ after_run (b ∷ bs)) (b ∷ taken n bs)) run
+        → TakeSplit n (b ∷ bs) (cond x (split_run b.start (b.start + run_size (b ∷ bs)) n ++ after_run (b ∷ bs)) (b ∷ taken n bs)) run
     on true test more e =
         let is : ◌≡◌ {A = Run} here run = cc in
         let front = front_split s at (b ∷ bs) t in
         subst (TakeSplit n (b ∷ bs) (split_run b.start (b.start + run_size (b ∷ bs)) n ++ after_run (b ∷ bs))) is
-          (record {
-            before = [];
-            free = front_run (b ∷ bs);
-            after = after_run (b ∷ bs);
-            old_is = front.is;
-            new_is = refl;
-            are_free = front.free;
-            fills = subst (λ z. Follow z (front_run (b ∷ bs)) (z + run_size (b ∷ bs))) (sym t.0) front.fills;
-            enough = subst (λ z. n ≤ run_size z) front.is (begins_run-true n b bs test).enough;
-            used_before = tt;
-            used_after = front.whole;
-            first = refl;
-          })
+        (record {
+          before = [];
+          free = front_run (b ∷ bs);
+          after = after_run (b ∷ bs);
+          old_is = front.is;
+          new_is = refl;
+          are_free = front.free;
+          fills = subst (λ z. Follow z (front_run (b ∷ bs)) (z + run_size (b ∷ bs))) (sym t.0) front.fills;
+          enough = subst (λ z. n ≤ run_size z) front.is (begins_run-true n b bs test).enough;
+          used_before = tt;
+          used_after = front.whole;
+          first = refl;
+        })
     on false test more e =
         let r = more e in
         let used : EndsUsed (b ∷ r.before) = ends r.before r.used_before (λ none. too_small n b bs test (subst (λ z. n ≤ run_size z) (sym (r.old_is ∙ ap (λ z. z ++ (r.free ++ r.after)) none)) r.enough)) in
@@ -135,7 +138,7 @@ give_split s at [] v c t e = cc
 give_split s at (b ∷ bs) v c t e = on (is_used_at v b) refl (λ k. give_split s (block_end b) bs v c t.2 k) e
   where
     on : (x : Bool) → is_used_at v b ≡ x → (used_at v bs ≡ Some c → GiveSplit bs (given v bs) c) → cond x (Some b) (used_at v bs) ≡ Some c
-      → GiveSplit (b ∷ bs) (cond x (free_block b.start b.size) b ∷ given v bs) c
+        → GiveSplit (b ∷ bs) (cond x (free_block b.start b.size) b ∷ given v bs) c
     on true test more e =
         let is : b ≡ c = cc in
         let rest : given v bs ≡ bs = given-none v bs (used_at-before s (block_end b) bs v t.2 (omega (arith, (is_used_at-true v b test).1, t.1.some))) in
