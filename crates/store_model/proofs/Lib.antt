@@ -3,6 +3,7 @@ pub mod AfterGive
 pub mod AfterTake
 pub mod Runs
 pub mod SizeWords
+pub mod Splits
 pub mod Takes
 pub mod Tilings
 pub mod UsedBlocks
