@@ -15,7 +15,8 @@ use Rattle.coroutines.specs.CoroutineWords.{as_current, as_parent, current_in, p
 use Rattle.coroutines.specs.Refusals.{has_parent, is_known}
 use Rattle.coroutines.specs.Switch.{called, replaced, switched, waited}
 use Rattle.coroutines.proofs.Known.{IsCurrent, current, in-root, known-node, no_parent-word, task-apart, task-inside}
-use Rattle.coroutines.proofs.Frame.{Again, IsCall, again}
+use Rattle.coroutines.proofs.Building.{Built}
+use Rattle.coroutines.proofs.Frame.{IsCall, again}
 use Rattle.coroutines.proofs.Outward.{LeadsOut-same}
 use Rattle.coroutines.proofs.Switches.{call-parent, current-is, other-parent, own-parent, still-current, switched-call, switched-current, switched-parent}
 
@@ -38,7 +39,7 @@ parents-same s v t c same (k ∷ ks) members none =
     (same k members.0 (λ e. h.0 (sym e)), parents-same s v t c same ks members.1 h.1)
 
 -- c was called
-pub call-again : (s : List ℕ) (t : ℕ) (regs : Regs) (c : ℕ) → HasCoroutines s t → is_known s t c ≡ true → has_parent s t c ≡ false → Again s (called s t regs c) t (c ∷ active_in s t)
+pub call-again : (s : List ℕ) (t : ℕ) (regs : Regs) (c : ℕ) → HasCoroutines s t → is_known s t c ≡ true → has_parent s t c ≡ false → Built (called s t regs c) t (coroutines_in s t) (c ∷ active_in s t)
 call-again s t regs c h known idle =
     let w : List ℕ = switched s t regs.p regs.pc c in
     let v : List ℕ = called s t regs c in
@@ -97,7 +98,7 @@ inner s t h within =
     record { is = i; members = members.1; distinct = apart.0; gone = apart.1 }
 
 -- the current one waited
-pub wait-again : (s : List ℕ) (t p pc : ℕ) → HasCoroutines s t → current_in s t ≢ 0 → Again s (waited s t p pc) t (drop 1 (active_in s t))
+pub wait-again : (s : List ℕ) (t p pc : ℕ) → HasCoroutines s t → current_in s t ≢ 0 → Built (waited s t p pc) t (coroutines_in s t) (drop 1 (active_in s t))
 wait-again s t p pc h within =
     let i : Inner s t = inner s t h within in
     let at : ℕ = current_in s t in
@@ -110,7 +111,7 @@ wait-again s t p pc h within =
     in
     let own : get_or v (at + 1) 0 ≡ 0 = own-parent s w t at 0 h call i.is.known in
     let here : get_or v (t + 18) 0 ≡ next = still-current s w t at 0 next h i.is.known (switched-current s t p pc next h) in
-    subst (λ z. Again s v t (drop 1 z)) (sym i.is.active) (
+    subst (λ z. Built v t (coroutines_in s t) (drop 1 z)) (sym i.is.active) (
     again s v t i.is.others h (call-parent s w t at 0 call i.is.known)
       (outer i.is.others i.is.out i.members i.gone here parents)
       i.members i.distinct
@@ -141,7 +142,7 @@ parents-same-both s v t c d same (k ∷ ks) members none gone =
 
 -- c took the current one's place
 pub replace-again : (s : List ℕ) (t : ℕ) (regs : Regs) (c : ℕ) → HasCoroutines s t → current_in s t ≢ 0 → is_known s t c ≡ true → has_parent s t c ≡ false
-    → Again s (replaced s t regs c) t (c ∷ drop 1 (active_in s t))
+    → Built (replaced s t regs c) t (coroutines_in s t) (c ∷ drop 1 (active_in s t))
 replace-again s t regs c h within known idle =
     let i : Inner s t = inner s t h within in
     let at : ℕ = current_in s t in
@@ -158,7 +159,7 @@ replace-again s t regs c h within known idle =
     let gone : get_or v (at + 1) 0 ≡ 0 = own-parent s x t at 0 h call' i.is.known in
     let own : get_or v (c + 1) 0 ≡ parent = other-parent s x t at c 0 h i.is.known known out_of.0 ∙ own-parent s w t c parent h call known in
     let here : get_or v (t + 18) 0 ≡ c = still-current s x t at 0 c h i.is.known (still-current s w t c parent c h known (switched-current s t regs.p regs.pc c h)) in
-    subst (λ z. Again s v t (c ∷ drop 1 z)) (sym i.is.active) (
+    subst (λ z. Built v t (coroutines_in s t) (c ∷ drop 1 z)) (sym i.is.active) (
     again s v t (c ∷ i.is.others) h (call-parent s x t at 0 call' i.is.known)
       (here, outer i.is.others i.is.out i.members out_of.1 i.gone own parents)
       (known, i.members)

@@ -20,8 +20,8 @@ use Rattle.coroutines.specs.Active.{LeadsOut, active_in}
 use Rattle.coroutines.specs.Coroutines.{HasBlock, HasCoroutines, HasTaskBlock}
 use Rattle.coroutines.specs.CoroutineWords.{coroutine_size, current_cell, highest_in, parent_in}
 use Rattle.coroutines.specs.Refusals.{is_known}
+use Rattle.coroutines.proofs.Building.{Built, all-members, built}
 use Rattle.coroutines.proofs.Known.{known-apart, known-block, known-held, known-node, known-same, task-apart, task-held, task-inside}
-use Rattle.coroutines.proofs.Outward.{IsInner, outwards-is}
 
 -- only the words 18 to 20 of the task block, and the words 0, 1 and 6 of its coroutines, have changed
 pub record IsCall (s v : List ℕ) (t : ℕ) : Type 0 where
@@ -83,41 +83,11 @@ same-list s v t h c =
         subst (λ z. get_or v z 0 ≡ get_or s z 0) (sym e)
         (known-word s v t k 2 h c known (omega arith) (λ e. absurd (omega (arith, e))) (λ e. absurd (omega (arith, e))) (λ e. absurd (omega (arith, e))))
 
--- what holds of each member follows from being a member
-pub all-members : (P : ℕ → Type 0) (cs : List ℕ) → ((c : ℕ) → has c cs ≡ true → P c) → AllByRecursion P cs
-all-members P [] each = tt
-all-members P (c ∷ cs) each = (each c here, all-members P cs (λ k some. each k (there (eqb k c) k refl some)))
-  where
-    here : has c (c ∷ cs) ≡ true
-    here = (let same : eqb c c ≡ true = grind (arith, nat_tests) in ap (λ b. b || has c cs) same)
-    there : (b : Bool) (k : ℕ) → eqb k c ≡ b → has k cs ≡ true → has k (c ∷ cs) ≡ true
-    there true k e some = ap (λ b. b || has k cs) e
-    there false k e some = ap (λ b. b || has k cs) e ∙ some
-
--- members of the list are no root and no task, and lie in the store
-pub members-inner : (s : List ℕ) (t : ℕ) → HasCoroutines s t → (cs : List ℕ) → AllByRecursion (λ c. has c (coroutines_in s t) ≡ true) cs → AllByRecursion (IsInner t) cs × AllByRecursion (λ c. c < length s) cs
-members-inner s t h [] members = (tt, tt)
-members-inner s t h (c ∷ cs) members =
-    let rest = members-inner s t h cs members.1 in
-    let node = known-node s t c h members.0 in
-    let some : c ≢ 0 = λ e. absurd (omega (arith, e, node.some)) in
-    let other : c ≢ t = λ e. task-apart s t c 0 0 h members.0 (omega arith) (omega arith) (omega (arith, e)) in
-    (((some, other), rest.0), (omega (arith, node.inside), rest.1))
-
-pub record Again (s v : List ℕ) (t : ℕ) (act : List ℕ) : Type 0 where
-  pub list : coroutines_in v t ≡ coroutines_in s t
-  pub active : active_in v t ≡ act
-  pub stand : HasCoroutines v t
-
 -- after a call the coroutines stand, with the active ones that it leaves
 pub again : (s v : List ℕ) (t : ℕ) (act : List ℕ) → HasCoroutines s t → IsCall s v t → LeadsOut v t 0 (t + 18) act → AllByRecursion (λ c. has c (coroutines_in s t) ≡ true) act → IsApart act
-    → ((c : ℕ) → is_known s t c ≡ true → has c act ≡ false → get_or v (c + 1) 0 ≡ 0) → Again s v t act
+    → ((c : ℕ) → is_known s t c ≡ true → has c act ≡ false → get_or v (c + 1) 0 ≡ 0) → Built v t (coroutines_in s t) act
 again s v t act h c out members distinct idle =
     let blocks : SameBlocks s v = same-blocks s v t h c in
-    let list : BecomesList v coroutine_link coroutine_size (t + 17) (coroutines_in s t) = same-list s v t h c in
-    let inner = members-inner s t h act members in
-    let few : length act ≤ length v = omega (arith, length-apart (length s) act distinct inner.1, c.same_length) in
-    let active : active_in v t ≡ act = outwards-is (length v) v t 0 (t + 18) act out (inl refl) inner.0 few in
     let used : (a : ℕ) → used_at a (blocks_in v) ≡ used_at a (blocks_in s) = λ a. ap (used_at a) blocks.blocks in
     let of_block : (k : ℕ) → is_known s t k ≡ true → HasBlock v k = λ k known.
       let b : HasBlock s k = known-block s t k h known in
@@ -129,20 +99,16 @@ again s v t act h c out members distinct idle =
         high = subst (λ z. 16 ≤ z) (sym high) b.high;
       }
     in
-    record {
-      list = list.list;
-      active = active;
-      stand =
-        record {
-          tiled = blocks.tiled;
-          task = record { first = h.task.first; block = h.task.block; used = used h.task.first ∙ h.task.used; low = h.task.low; high = h.task.high };
-          list = list.stands;
-          apart = subst (λ z. IsApart (range_with_len t 23 ++ words_of coroutine_size z)) (sym list.list) h.apart;
-          blocks = subst (AllByRecursion (HasBlock v)) (sym list.list) (all-members (HasBlock v) (coroutines_in s t) of_block);
-          active = subst (LeadsOut v t 0 (t + 18)) (sym active) out;
-          members = subst (AllByRecursion (λ c. has c (coroutines_in v t) ≡ true)) (sym active) (subst (λ z. AllByRecursion (λ c. has c z ≡ true) act) (sym list.list) members);
-          distinct = subst IsApart (sym active) distinct;
-          idle = subst (λ z. AllByRecursion (λ c. has c (active_in v t) ≡ false → parent_in v c ≡ 0) z) (sym list.list)
-            (subst (λ z. AllByRecursion (λ c. has c z ≡ false → parent_in v c ≡ 0) (coroutines_in s t)) (sym active) (all-members (λ c. has c act ≡ false → parent_in v c ≡ 0) (coroutines_in s t) idle));
-        };
-    }
+    built v t (coroutines_in s t) act
+    (record {
+      tiled = blocks.tiled;
+      task = record { first = h.task.first; block = h.task.block; used = used h.task.first ∙ h.task.used; low = h.task.low; high = h.task.high };
+      elsewhere = h.elsewhere;
+      list = same-list s v t h c;
+      apart = h.apart;
+      blocks = all-members (HasBlock v) (coroutines_in s t) of_block;
+      out = out;
+      members = members;
+      distinct = distinct;
+      idle = all-members (λ c. has c act ≡ false → parent_in v c ≡ 0) (coroutines_in s t) idle;
+    })

@@ -1,5 +1,6 @@
 pub mod Known
 pub mod Outward
+pub mod Building
 pub mod Frame
 pub mod Switches
 pub mod Calling

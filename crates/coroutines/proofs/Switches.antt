@@ -14,7 +14,7 @@ use Rattle.coroutines.specs.CoroutineWords.{as_current, as_parent, current_in, p
 use Rattle.coroutines.specs.Refusals.{has_parent, is_known}
 use Rattle.coroutines.specs.Switch.{switched}
 use Rattle.coroutines.proofs.Known.{IsCurrent, current, in-root, known-apart, known-node, known-same, no_parent-word, task-apart, task-inside}
-use Rattle.coroutines.proofs.Frame.{Again, IsCall, again}
+use Rattle.coroutines.proofs.Frame.{IsCall}
 use Rattle.coroutines.proofs.Outward.{LeadsOut-same}
 
 -- the root, or a coroutine of the task

@@ -1,13 +1,14 @@
 use Rattle.std.proofs.Common.{◌≡◌, ◌∙◌, sym, subst, ◌∷◌, true, false}
 use Rattle.coroutines.specs.Active.{active_in}
 use Rattle.coroutines.proofs.Calling.{call-again}
-use Rattle.coroutines.proofs.Frame.{Again}
+use Rattle.coroutines.proofs.Building.{Built}
+use Rattle.task_block.specs.Lists.{coroutines_in}
 use Rattle.coroutines.proofs.calls.call.Goals as goal
 use Rattle.coroutines.proofs.calls.call.Goals.{After-enter}
 
-after : (c : After-enter) → Again c.args.store.now c.enter.new.store c.args.t (c.args.c ∷ active_in c.args.store.now c.args.t)
+after : (c : After-enter) → Built c.enter.new.store c.args.t (coroutines_in c.args.store.now c.args.t) (c.args.c ∷ active_in c.args.store.now c.args.t)
 after c =
-    subst (λ z. Again c.args.store.now z c.args.t (c.args.c ∷ active_in c.args.store.now c.args.t)) (sym c.enter.ensures.words)
+    subst (λ z. Built z c.args.t (coroutines_in c.args.store.now c.args.t) (c.args.c ∷ active_in c.args.store.now c.args.t)) (sym c.enter.ensures.words)
     (call-again c.args.store.now c.args.t c.args.regs.now c.args.c c.requires (sym c.is_known.ensures ∙ c.if-not-is_known.false) (sym c.has_parent.ensures ∙ c.if-has_parent.false))
 
 pub returns-clause-active : goal.returns-clause-active

@@ -1,7 +1,8 @@
 use Rattle.std.proofs.Common.{◌≡◌, ◌∙◌, sym, subst, drop, arith, ◌+◌}
 use Rattle.coroutines.specs.Active.{active_in}
 use Rattle.coroutines.proofs.Calling.{wait-again}
-use Rattle.coroutines.proofs.Frame.{Again}
+use Rattle.coroutines.proofs.Building.{Built}
+use Rattle.task_block.specs.Lists.{coroutines_in}
 use Rattle.coroutines.proofs.Switches.{bounds}
 use Rattle.coroutines.proofs.calls.ended.Goals as goal
 use Rattle.coroutines.proofs.calls.ended.Goals.{After-leave}
@@ -12,9 +13,9 @@ overflow_add-regs c = omega (arith, (bounds c.args.store.now c.args.t c.requires
 pub overflow_add-current : goal.overflow_add-current
 overflow_add-current c = omega (arith, (bounds c.args.store.now c.args.t c.requires.coroutines).current, c.field-current.ensures, c.size-size.ensures, c.size-size.type_inv)
 
-after : (c : After-leave) → Again c.args.store.now c.leave.new.store c.args.t (drop 1 (active_in c.args.store.now c.args.t))
+after : (c : After-leave) → Built c.leave.new.store c.args.t (coroutines_in c.args.store.now c.args.t) (drop 1 (active_in c.args.store.now c.args.t))
 after c =
-    subst (λ z. Again c.args.store.now z c.args.t (drop 1 (active_in c.args.store.now c.args.t))) (sym c.leave.ensures.words)
+    subst (λ z. Built z c.args.t (coroutines_in c.args.store.now c.args.t) (drop 1 (active_in c.args.store.now c.args.t))) (sym c.leave.ensures.words)
     (wait-again c.args.store.now c.args.t (c.field-current.result + 7) c.word-regs.result c.requires.coroutines c.requires.within)
 
 pub returns-clause-active : goal.returns-clause-active

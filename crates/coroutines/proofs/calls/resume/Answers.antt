@@ -1,7 +1,8 @@
 use Rattle.std.proofs.Common.{◌≡◌, ◌∙◌, sym, subst, ◌∷◌, drop, arith, true, false}
 use Rattle.coroutines.specs.Active.{active_in}
 use Rattle.coroutines.proofs.Calling.{replace-again}
-use Rattle.coroutines.proofs.Frame.{Again}
+use Rattle.coroutines.proofs.Building.{Built}
+use Rattle.task_block.specs.Lists.{coroutines_in}
 use Rattle.coroutines.proofs.Switches.{bounds}
 use Rattle.coroutines.proofs.calls.resume.Goals as goal
 use Rattle.coroutines.proofs.calls.resume.Goals.{After-replace}
@@ -9,9 +10,9 @@ use Rattle.coroutines.proofs.calls.resume.Goals.{After-replace}
 pub field-current-requires : goal.field-current-requires
 field-current-requires c = omega (arith, (bounds c.args.store.now c.args.t c.requires).task)
 
-after : (c : After-replace) → Again c.args.store.now c.replace.new.store c.args.t (c.args.c ∷ drop 1 (active_in c.args.store.now c.args.t))
+after : (c : After-replace) → Built c.replace.new.store c.args.t (coroutines_in c.args.store.now c.args.t) (c.args.c ∷ drop 1 (active_in c.args.store.now c.args.t))
 after c =
-    subst (λ z. Again c.args.store.now z c.args.t (c.args.c ∷ drop 1 (active_in c.args.store.now c.args.t))) (sym c.replace.ensures.words)
+    subst (λ z. Built z c.args.t (coroutines_in c.args.store.now c.args.t) (c.args.c ∷ drop 1 (active_in c.args.store.now c.args.t))) (sym c.replace.ensures.words)
     (replace-again c.args.store.now c.args.t c.args.regs.now c.args.c c.requires (λ e. c.if-current-eq0.false (c.field-current.ensures ∙ e))
       (sym c.is_known.ensures ∙ c.if-not-is_known.false) (sym c.has_parent.ensures ∙ c.if-has_parent.false))
 

@@ -1,7 +1,8 @@
 use Rattle.std.proofs.Common.{◌≡◌, ◌∙◌, sym, subst, drop, arith}
 use Rattle.coroutines.specs.Active.{active_in}
 use Rattle.coroutines.proofs.Calling.{wait-again}
-use Rattle.coroutines.proofs.Frame.{Again}
+use Rattle.coroutines.proofs.Building.{Built}
+use Rattle.task_block.specs.Lists.{coroutines_in}
 use Rattle.coroutines.proofs.Switches.{bounds}
 use Rattle.coroutines.proofs.calls.wait.Goals as goal
 use Rattle.coroutines.proofs.calls.wait.Goals.{After-leave}
@@ -9,9 +10,9 @@ use Rattle.coroutines.proofs.calls.wait.Goals.{After-leave}
 pub field-requires : goal.field-requires
 field-requires c = omega (arith, (bounds c.args.store.now c.args.t c.requires).task)
 
-after : (c : After-leave) → Again c.args.store.now c.leave.new.store c.args.t (drop 1 (active_in c.args.store.now c.args.t))
+after : (c : After-leave) → Built c.leave.new.store c.args.t (coroutines_in c.args.store.now c.args.t) (drop 1 (active_in c.args.store.now c.args.t))
 after c =
-    subst (λ z. Again c.args.store.now z c.args.t (drop 1 (active_in c.args.store.now c.args.t))) (sym c.leave.ensures.words)
+    subst (λ z. Built z c.args.t (coroutines_in c.args.store.now c.args.t) (drop 1 (active_in c.args.store.now c.args.t))) (sym c.leave.ensures.words)
     (wait-again c.args.store.now c.args.t c.args.regs.now.p c.args.regs.now.pc c.requires (λ e. c.if-field-eq0.false (c.field.ensures ∙ e)))
 
 pub returns-clause-active : goal.returns-clause-active
