@@ -20,7 +20,7 @@ use Rattle.coroutines.proofs.Frame.{IsCall, again}
 use Rattle.coroutines.proofs.Outward.{LeadsOut-same}
 use Rattle.coroutines.proofs.Switches.{call-parent, current-is, other-parent, own-parent, still-current, switched-call, switched-current, switched-parent}
 
-has-not : (c k : ℕ) (ks : List ℕ) → has c (k ∷ ks) ≡ false → (c ≢ k) × (has c ks ≡ false)
+pub has-not : (c k : ℕ) (ks : List ℕ) → has c (k ∷ ks) ≡ false → (c ≢ k) × (has c ks ≡ false)
 has-not c k ks none = on (eqb c k) refl none
   where
     on : (b : Bool) → eqb c k ≡ b → (b || has c ks) ≡ false → (c ≢ k) × (has c ks ≡ false)

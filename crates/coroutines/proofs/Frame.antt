@@ -56,7 +56,7 @@ same-blocks s v t h c =
         (λ k known. ((λ e. no_word k 0 known (omega arith) (omega (arith, e))), no_word k 1 known (omega arith), no_word k 6 known (omega arith))))
 
 -- a cell is the head, or the link of a member
-cell-cases : (link : ℕ → ℕ) (a at : ℕ) (ps : List ℕ) → 0 < times a (cells link at ps) → (a ≡ at) ⊎ ((k : ℕ) × (has k ps ≡ true) × (a ≡ link k))
+pub cell-cases : (link : ℕ → ℕ) (a at : ℕ) (ps : List ℕ) → 0 < times a (cells link at ps) → (a ≡ at) ⊎ ((k : ℕ) × (has k ps ≡ true) × (a ≡ link k))
 cell-cases link a at [] some = elim (cases_eq a at) [ inl e ↦ inl e | inr ne ↦ absurd (omega (arith, some, hit-other a at ne)) ]
 cell-cases link a at (p ∷ ps) some =
     elim (cases_eq a at) [

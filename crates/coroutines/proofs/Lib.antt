@@ -4,3 +4,5 @@ pub mod Building
 pub mod Frame
 pub mod Switches
 pub mod Calling
+pub mod Staying
+pub mod Deleting
