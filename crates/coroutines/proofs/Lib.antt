@@ -6,3 +6,4 @@ pub mod Switches
 pub mod Calling
 pub mod Staying
 pub mod Deleting
+pub mod Making
