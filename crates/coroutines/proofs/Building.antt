@@ -1,9 +1,8 @@
 -- The coroutines of a task stand, by a list of them and a list of the active ones.
-use Rattle.std.proofs.Common.{◌≡◌, ◌≢◌, ◌⊎◌, inl, inr, ℕ, ◌+◌, ◌<◌, ◌≤◌, List, [], ◌∷◌, ◌++◌, length, get_or, eqb, ◌||◌, Bool, true, false, Some, refl, sym, ap, ◌∙◌, subst, arith}
+use Rattle.std.proofs.Common.{◌≡◌, ◌≢◌, inl, ℕ, ◌+◌, ◌<◌, List, [], ◌∷◌, ◌++◌, length, eqb, ◌||◌, Bool, true, false, refl, sym, ap, ◌∙◌, subst, arith}
 use Rattle.std.specs.List.{AllByRecursion, range_with_len}
 use Rattle.std.proofs.lemmas.Bool.Decides.{nat_tests}
-use Rattle.store_model.specs.Chain.{list_at}
-use Rattle.store_model.specs.Count.{IsApart, times, words_of}
+use Rattle.store_model.specs.Count.{IsApart, words_of}
 use Rattle.store_model.specs.Linked.{IsNode}
 use Rattle.store_model.specs.Placing.{has}
 use Rattle.store_model.specs.Tiling.{IsTiled}
@@ -24,6 +23,7 @@ all-members P (c ∷ cs) each = (each c here, all-members P cs (λ k some. each 
   where
     here : has c (c ∷ cs) ≡ true
     here = (let same : eqb c c ≡ true = grind (arith, nat_tests) in ap (λ b. b || has c cs) same)
+
     there : (b : Bool) (k : ℕ) → eqb k c ≡ b → has k cs ≡ true → has k (c ∷ cs) ≡ true
     there true k e some = ap (λ b. b || has k cs) e
     there false k e some = ap (λ b. b || has k cs) e ∙ some
@@ -55,8 +55,14 @@ members-inner v t cs nodes apart (c ∷ act) members =
     let node : IsNode v coroutine_link coroutine_size c = all-has (IsNode v coroutine_link coroutine_size) c cs nodes members.0 in
     let some : c ≢ 0 = λ e. absurd (omega (arith, e, node.some)) in
     let other : c ≢ t = λ e.
-      absurd (omega (arith, apart c, times-append c (range_with_len t 23) (words_of coroutine_size cs), times-within c t 23 (omega (arith, e)) (omega (arith, e)),
-        one-member coroutine_size c c cs members.0, times-within c c 10 (omega arith) (omega arith)))
+    absurd (omega (
+      arith,
+      apart c,
+      times-append c (range_with_len t 23) (words_of coroutine_size cs),
+      times-within c t 23 (omega (arith, e)) (omega (arith, e)),
+      one-member coroutine_size c c cs members.0,
+      times-within c c 10 (omega arith) (omega arith),
+    ))
     in
     (((some, other), rest.0), (omega (arith, node.inside), rest.1))
 
@@ -69,17 +75,17 @@ built v t cs act p =
       list = p.list.list;
       active = active;
       stand =
-        record {
-          tiled = p.tiled;
-          task = p.task;
-          elsewhere = ap (has p.task.first) p.list.list ∙ p.elsewhere;
-          list = p.list.stands;
-          apart = subst (λ z. IsApart (range_with_len t 23 ++ words_of coroutine_size z)) (sym p.list.list) p.apart;
-          blocks = subst (AllByRecursion (HasBlock v)) (sym p.list.list) p.blocks;
-          active = subst (LeadsOut v t 0 (t + 18)) (sym active) p.out;
-          members = subst (AllByRecursion (λ c. has c (coroutines_in v t) ≡ true)) (sym active) (subst (λ z. AllByRecursion (λ c. has c z ≡ true) act) (sym p.list.list) p.members);
-          distinct = subst IsApart (sym active) p.distinct;
-          idle = subst (λ z. AllByRecursion (λ c. has c (active_in v t) ≡ false → parent_in v c ≡ 0) z) (sym p.list.list)
-            (subst (λ z. AllByRecursion (λ c. has c z ≡ false → parent_in v c ≡ 0) cs) (sym active) p.idle);
-        };
+          record {
+            tiled = p.tiled;
+            task = p.task;
+            elsewhere = ap (has p.task.first) p.list.list ∙ p.elsewhere;
+            list = p.list.stands;
+            apart = subst (λ z. IsApart (range_with_len t 23 ++ words_of coroutine_size z)) (sym p.list.list) p.apart;
+            blocks = subst (AllByRecursion (HasBlock v)) (sym p.list.list) p.blocks;
+            active = subst (LeadsOut v t 0 (t + 18)) (sym active) p.out;
+            members = subst (AllByRecursion (λ c. has c (coroutines_in v t) ≡ true)) (sym active) (subst (λ z. AllByRecursion (λ c. has c z ≡ true) act) (sym p.list.list) p.members);
+            distinct = subst IsApart (sym active) p.distinct;
+            idle = subst (λ z. AllByRecursion (λ c. has c (active_in v t) ≡ false → parent_in v c ≡ 0) z) (sym p.list.list)
+                (subst (λ z. AllByRecursion (λ c. has c z ≡ false → parent_in v c ≡ 0) cs) (sym active) p.idle);
+          };
     }

@@ -1,16 +1,13 @@
 -- A coroutine goes out of its list, and its block is given back.
-use Rattle.std.proofs.Common.{◌≡◌, ◌≢◌, ◌⊎◌, inl, inr, ℕ, ◌+◌, ◌-◌, ◌<◌, ◌≤◌, List, [], ◌∷◌, ◌++◌, length, get_or, set, Bool, true, false, Some, None, refl, sym, ap, ◌∙◌, subst, arith, get_or-set_other, length-set}
+use Rattle.std.proofs.Common.{◌≡◌, ◌≢◌, ◌⊎◌, inl, inr, ℕ, ◌+◌, ◌<◌, ◌≤◌, List, [], ◌∷◌, get_or, Bool, true, false, Some, None, refl, sym, ap, ◌∙◌, subst, arith, get_or-set_other, length-set}
 use Rattle.std.specs.List.{AllByRecursion, range_with_len}
 use Rattle.std.proofs.lemmas.Bool.{false≢true}
-use Rattle.store_model.specs.declared.blocks.Block.{Block}
 use Rattle.store_model.specs.Block.{block_end, used_block}
 use Rattle.store_model.specs.Chain.{cells, last_cell, list_at}
-use Rattle.store_model.specs.Changed.{RemovedAt}
-use Rattle.store_model.specs.Count.{IsApart, hit, times, words_of}
-use Rattle.store_model.specs.Give.{given_store}
+use Rattle.store_model.specs.Count.{times, words_of}
 use Rattle.store_model.specs.Placing.{cell_before, has, linked_out, without}
 use Rattle.store_model.specs.Run.{need}
-use Rattle.store_model.specs.Tiling.{IsTiled, blocks_in, holding, used_at}
+use Rattle.store_model.specs.Tiling.{blocks_in, holding, used_at}
 use Rattle.store_model.proofs.AfterGive.{AfterGive, after_give}
 use Rattle.store_model.proofs.Chains.{nodes-apart}
 use Rattle.store_model.proofs.Counts.{hit-same, times-append, times-words_more, times-words_of}
@@ -22,15 +19,15 @@ use Rattle.store_model.proofs.Places.{Stands, stands}
 use Rattle.store_model.proofs.UsedBlocks.{UsedBlock, used_at-apart, used_at-is}
 use Rattle.store_model.proofs.Writes.{SameBlocks, SameBlocks-kept}
 use Rattle.task_block.specs.Lists.{coroutine_link, coroutines_in}
-use Rattle.coroutines.specs.Active.{LeadsOut, active_in}
-use Rattle.coroutines.specs.Coroutines.{HasBlock, HasCoroutines, HasTaskBlock}
+use Rattle.coroutines.specs.Active.{active_in}
+use Rattle.coroutines.specs.Coroutines.{HasBlock, HasCoroutines}
 use Rattle.coroutines.specs.CoroutineWords.{coroutine_size, highest_in, parent_in}
 use Rattle.coroutines.specs.Creation.{deleted}
 use Rattle.coroutines.specs.Refusals.{has_parent, is_known}
 use Rattle.coroutines.proofs.Building.{Built, all-members, built}
 use Rattle.coroutines.proofs.Calling.{has-not}
 use Rattle.coroutines.proofs.Frame.{cell-cases}
-use Rattle.coroutines.proofs.Known.{known-apart, known-block, known-held, known-same, no_parent-word, task-apart, task-held}
+use Rattle.coroutines.proofs.Known.{known-block, known-held, known-same, no_parent-word, task-apart, task-held}
 use Rattle.coroutines.proofs.Staying.{same-block, same-out}
 
 abbrev cell_of : List ℕ → ℕ → ℕ → ℕ
@@ -46,7 +43,7 @@ cell-is s t c h known =
     let r : Stands coroutine_link (t + 17) c (coroutines_in s t) = stands coroutine_link (t + 17) c (coroutines_in s t) known in
     cell-cases coroutine_link (cell_of s t c) (t + 17) (coroutines_in s t)
     (subst (λ z. 0 < times z (cells coroutine_link (t + 17) (coroutines_in s t))) (sym r.cell)
-      (subst (λ z. 0 < times (last_cell coroutine_link (t + 17) r.front) (cells coroutine_link (t + 17) z)) (sym r.whole) (times-front_cell coroutine_link (t + 17) r.front (c ∷ r.back))))
+    (subst (λ z. 0 < times (last_cell coroutine_link (t + 17) r.front) (cells coroutine_link (t + 17) z)) (sym r.whole) (times-front_cell coroutine_link (t + 17) r.front (c ∷ r.back))))
 
 cell-held : (s : List ℕ) (t c : ℕ) → HasCoroutines s t → is_known s t c ≡ true → holding (cell_of s t c) (blocks_in s) ≢ None
 cell-held s t c h known none = on (cell-is s t c h known)
@@ -98,7 +95,7 @@ size-no_task s t c i h known few e =
 pub unlinked-blocks : (s : List ℕ) (t c : ℕ) → HasCoroutines s t → is_known s t c ≡ true → SameBlocks s (unlinked s t c)
 unlinked-blocks s t c h known =
     SameBlocks-kept s (unlinked s t c) h.tiled (length-set s (cell_of s t c) (get_or s (c + 2) 0)) (λ a low high none.
-      get_or-set_other s (cell_of s t c) a (get_or s (c + 2) 0) 0 (λ e. cell-held s t c h known (ap (λ z. holding z (blocks_in s)) (sym e) ∙ none)))
+    get_or-set_other s (cell_of s t c) a (get_or s (c + 2) 0) 0 (λ e. cell-held s t c h known (ap (λ z. holding z (blocks_in s)) (sym e) ∙ none)))
 
 -- a used block that may be given back
 pub unlinked-used : (s : List ℕ) (t c : ℕ) (h : HasCoroutines s t) (known : is_known s t c ≡ true)
@@ -116,14 +113,14 @@ delete-built s t c h known idle =
     let known_of : (k : ℕ) → has k rest ≡ true → is_known s t k ≡ true = λ k some. without-has c k (coroutines_in s t) some in
     let differ : (k : ℕ) → has k rest ≡ true → k ≢ c = λ k some e. absurd (omega (arith, has-times k rest some, ap (λ z. times z rest) e, gone)) in
     let task_word : (i : ℕ) → i < 23 → i ≢ 17 → get_or v (t + i) 0 ≡ get_or s (t + i) 0 = λ i few ne.
-      after.words (t + i) (size-no_task s t c i h known few) ∙ get_or-set_other s (cell_of s t c) (t + i) (get_or s (c + 2) 0) 0 (task-no_cell s t c i h known few ne)
+    after.words (t + i) (size-no_task s t c i h known few) ∙ get_or-set_other s (cell_of s t c) (t + i) (get_or s (c + 2) 0) 0 (task-no_cell s t c i h known few ne)
     in
     let word : (k i : ℕ) → is_known s t k ≡ true → i < 10 → i ≢ 2 → get_or v (k + i) 0 ≡ get_or s (k + i) 0 = λ k i other few ne.
-      after.words (k + i) (size-no_word s t c k i h known other few) ∙ get_or-set_other s (cell_of s t c) (k + i) (get_or s (c + 2) 0) 0 (known-no_cell s t c k i h known other few ne)
+    after.words (k + i) (size-no_word s t c k i h known other few) ∙ get_or-set_other s (cell_of s t c) (k + i) (get_or s (c + 2) 0) 0 (known-no_cell s t c k i h known other few ne)
     in
     let out : BecomesList x coroutine_link coroutine_size (t + 17) rest = list-remove s x coroutine_link coroutine_size (t + 17) c h.list known (list-removed s coroutine_link coroutine_size (t + 17) c h.list known) in
     let list : BecomesList v coroutine_link coroutine_size (t + 17) (list_at x coroutine_link (t + 17)) =
-      list-same x v coroutine_link coroutine_size (t + 17) out.stands after.same_length (λ a some. after.words a (no_size a (cell-cases coroutine_link a (t + 17) (list_at x coroutine_link (t + 17)) some) out.list))
+    list-same x v coroutine_link coroutine_size (t + 17) out.stands after.same_length (λ a some. after.words a (no_size a (cell-cases coroutine_link a (t + 17) (list_at x coroutine_link (t + 17)) some) out.list))
     in
     let used : (a : ℕ) → a ≢ c → used_at a (blocks_in v) ≡ used_at a (blocks_in s) = λ a ne. after.others a ne ∙ ap (used_at a) blocks.blocks in
     let no_first : h.task.first ≢ c = λ e. false≢true (sym h.elsewhere ∙ ap (λ z. has z (coroutines_in s t)) e ∙ known) in
@@ -150,8 +147,14 @@ delete-built s t c h known idle =
 
     fewer : (a : ℕ) → times a (words_of coroutine_size (without c (coroutines_in s t))) ≤ times a (words_of coroutine_size (coroutines_in s t))
     fewer a =
-        omega (arith, ap (λ z. times a (words_of coroutine_size z)) r.whole, ap (λ z. times a (words_of coroutine_size z)) r.list, times-words_of coroutine_size a r.front (c ∷ r.back),
-          times-words_of coroutine_size a r.front r.back, times-words_more coroutine_size a c r.back)
+        omega (
+          arith,
+          ap (λ z. times a (words_of coroutine_size z)) r.whole,
+          ap (λ z. times a (words_of coroutine_size z)) r.list,
+          times-words_of coroutine_size a r.front (c ∷ r.back),
+          times-words_of coroutine_size a r.front r.back,
+          times-words_more coroutine_size a c r.back,
+        )
 
     not_in : (k : ℕ) → has k (coroutines_in s t) ≡ false → has k (without c (coroutines_in s t)) ≡ false
     not_in k none = on (has k (without c (coroutines_in s t))) refl

@@ -1,27 +1,25 @@
 -- A store in which a call has changed words of the task block and of coroutines.
-use Rattle.std.proofs.Common.{◌≡◌, ◌≢◌, ◌⊎◌, inl, inr, ℕ, ◌+◌, ◌<◌, ◌≤◌, List, [], ◌∷◌, ◌++◌, length, get_or, eqb, ◌||◌, Bool, true, false, Some, None, refl, sym, ap, ◌∙◌, subst, arith}
-use Rattle.std.specs.List.{AllByRecursion, range_with_len}
+use Rattle.std.proofs.Common.{◌≡◌, ◌≢◌, ◌⊎◌, inl, inr, ℕ, ◌+◌, ◌<◌, ◌≤◌, List, [], ◌∷◌, length, get_or, eqb, ◌||◌, Bool, true, false, Some, refl, sym, ap, ◌∙◌, subst, arith}
+use Rattle.std.specs.List.{AllByRecursion}
 use Rattle.std.proofs.lemmas.Bool.{cases_eq}
 use Rattle.std.proofs.lemmas.Bool.Decides.{nat_tests}
-use Rattle.store_model.specs.Block.{block_end, used_block}
+use Rattle.store_model.specs.Block.{used_block}
 use Rattle.store_model.specs.Chain.{cells}
-use Rattle.store_model.specs.Count.{IsApart, hit, times, words_of}
+use Rattle.store_model.specs.Count.{IsApart, times}
 use Rattle.store_model.specs.Placing.{has}
 use Rattle.store_model.specs.Run.{need}
 use Rattle.store_model.specs.Tiling.{blocks_in, holding, used_at}
-use Rattle.store_model.proofs.Chains.{length-apart}
-use Rattle.store_model.proofs.Counts.{hit-other, hit-same}
+use Rattle.store_model.proofs.Counts.{hit-other}
 use Rattle.store_model.proofs.Frames.{list-same}
 use Rattle.store_model.proofs.Lists.{BecomesList}
-use Rattle.store_model.proofs.Members.{times-has}
 use Rattle.store_model.proofs.Writes.{SameBlocks, SameBlocks-kept}
 use Rattle.task_block.specs.Lists.{coroutine_link, coroutines_in}
-use Rattle.coroutines.specs.Active.{LeadsOut, active_in}
-use Rattle.coroutines.specs.Coroutines.{HasBlock, HasCoroutines, HasTaskBlock}
-use Rattle.coroutines.specs.CoroutineWords.{coroutine_size, current_cell, highest_in, parent_in}
+use Rattle.coroutines.specs.Active.{LeadsOut}
+use Rattle.coroutines.specs.Coroutines.{HasBlock, HasCoroutines}
+use Rattle.coroutines.specs.CoroutineWords.{coroutine_size, highest_in, parent_in}
 use Rattle.coroutines.specs.Refusals.{is_known}
 use Rattle.coroutines.proofs.Building.{Built, all-members, built}
-use Rattle.coroutines.proofs.Known.{known-apart, known-block, known-held, known-node, known-same, task-apart, task-held, task-inside}
+use Rattle.coroutines.proofs.Known.{known-block, known-held, known-same, task-apart, task-held}
 
 -- only the words 18 to 20 of the task block, and the words 0, 1 and 6 of its coroutines, have changed
 pub record IsCall (s v : List ℕ) (t : ℕ) : Type 0 where
@@ -32,28 +30,30 @@ pub record IsCall (s v : List ℕ) (t : ℕ) : Type 0 where
 pub task-word : (s v : List ℕ) (t i : ℕ) → HasCoroutines s t → IsCall s v t → i < 18 → get_or v (t + i) 0 ≡ get_or s (t + i) 0
 task-word s v t i h c few =
     c.others (t + i) (λ e. absurd (omega (arith, e, few))) (λ e. absurd (omega (arith, e, few))) (λ e. absurd (omega (arith, e, few)))
-    (λ k known.
-      ((λ e. task-apart s t k i 0 h known (omega (arith, few)) (omega arith) (omega (arith, e))),
-       (λ e. task-apart s t k i 1 h known (omega (arith, few)) (omega arith) e),
-       (λ e. task-apart s t k i 6 h known (omega (arith, few)) (omega arith) e)))
+    (λ k known. (
+      (λ e. task-apart s t k i 0 h known (omega (arith, few)) (omega arith) (omega (arith, e))),
+      (λ e. task-apart s t k i 1 h known (omega (arith, few)) (omega arith) e),
+      (λ e. task-apart s t k i 6 h known (omega (arith, few)) (omega arith) e),
+    ))
 
 -- a word of a coroutine that is not among them
 pub known-word : (s v : List ℕ) (t k i : ℕ) → HasCoroutines s t → IsCall s v t → is_known s t k ≡ true → i < 10 → i ≢ 0 → i ≢ 1 → i ≢ 6 → get_or v (k + i) 0 ≡ get_or s (k + i) 0
 known-word s v t k i h c known few n0 n1 n6 =
     c.others (k + i) (λ e. task-apart s t k 18 i h known (omega arith) few (sym e)) (λ e. task-apart s t k 19 i h known (omega arith) few (sym e)) (λ e. task-apart s t k 20 i h known (omega arith) few (sym e))
-    (λ m other.
-      ((λ e. known-same s t k m i 0 h known other few (omega arith) n0 (omega (arith, e))),
-       (λ e. known-same s t k m i 1 h known other few (omega arith) n1 e),
-       (λ e. known-same s t k m i 6 h known other few (omega arith) n6 e)))
+    (λ m other. (
+      (λ e. known-same s t k m i 0 h known other few (omega arith) n0 (omega (arith, e))),
+      (λ e. known-same s t k m i 1 h known other few (omega arith) n1 e),
+      (λ e. known-same s t k m i 6 h known other few (omega arith) n6 e),
+    ))
 
 -- the blocks stay
 same-blocks : (s v : List ℕ) (t : ℕ) → HasCoroutines s t → IsCall s v t → SameBlocks s v
 same-blocks s v t h c =
     SameBlocks-kept s v h.tiled c.same_length (λ a low high none.
-      let no_task : (i : ℕ) → i < 23 → a ≢ t + i = λ i few e. task-held s t i h few (ap (λ z. holding z (blocks_in s)) (sym e) ∙ none) in
-      let no_word : (k i : ℕ) → is_known s t k ≡ true → i < 10 → a ≢ k + i = λ k i known few e. known-held s t k i h known few (ap (λ z. holding z (blocks_in s)) (sym e) ∙ none) in
-      c.others a (no_task 18 (omega arith)) (no_task 19 (omega arith)) (no_task 20 (omega arith))
-        (λ k known. ((λ e. no_word k 0 known (omega arith) (omega (arith, e))), no_word k 1 known (omega arith), no_word k 6 known (omega arith))))
+    let no_task : (i : ℕ) → i < 23 → a ≢ t + i = λ i few e. task-held s t i h few (ap (λ z. holding z (blocks_in s)) (sym e) ∙ none) in
+    let no_word : (k i : ℕ) → is_known s t k ≡ true → i < 10 → a ≢ k + i = λ k i known few e. known-held s t k i h known few (ap (λ z. holding z (blocks_in s)) (sym e) ∙ none) in
+    c.others a (no_task 18 (omega arith)) (no_task 19 (omega arith)) (no_task 20 (omega arith))
+    (λ k known. ((λ e. no_word k 0 known (omega arith) (omega (arith, e))), no_word k 1 known (omega arith), no_word k 6 known (omega arith))))
 
 -- a cell is the head, or the link of a member
 pub cell-cases : (link : ℕ → ℕ) (a at : ℕ) (ps : List ℕ) → 0 < times a (cells link at ps) → (a ≡ at) ⊎ ((k : ℕ) × (has k ps ≡ true) × (a ≡ link k))
@@ -66,9 +66,11 @@ cell-cases link a at (p ∷ ps) some =
   where
     here : has p (p ∷ ps) ≡ true
     here = (let same : eqb p p ≡ true = grind (arith, nat_tests) in ap (λ b. b || has p ps) same)
+
     there : (b : Bool) (k : ℕ) → eqb k p ≡ b → has k ps ≡ true → has k (p ∷ ps) ≡ true
     there true k e some = ap (λ b. b || has k ps) e
     there false k e some = ap (λ b. b || has k ps) e ∙ some
+
     later : (a ≡ link p) ⊎ ((k : ℕ) × (has k ps ≡ true) × (a ≡ link k)) → (a ≡ at) ⊎ ((k : ℕ) × (has k (p ∷ ps) ≡ true) × (a ≡ link k))
     later (inl e) = inr (p, here, e)
     later (inr (k, some, e)) = inr (k, there (eqb k p) k refl some, e)
@@ -90,14 +92,14 @@ again s v t act h c out members distinct idle =
     let blocks : SameBlocks s v = same-blocks s v t h c in
     let used : (a : ℕ) → used_at a (blocks_in v) ≡ used_at a (blocks_in s) = λ a. ap (used_at a) blocks.blocks in
     let of_block : (k : ℕ) → is_known s t k ≡ true → HasBlock v k = λ k known.
-      let b : HasBlock s k = known-block s t k h known in
-      let high : highest_in v k ≡ highest_in s k = known-word s v t k 4 h c known (omega arith) (λ e. absurd (omega (arith, e))) (λ e. absurd (omega (arith, e))) (λ e. absurd (omega (arith, e))) in
-      record {
-        start = b.start;
-        here = b.here;
-        block = used k ∙ b.block ∙ ap (λ z. Some (used_block b.start (need z))) (sym high);
-        high = subst (λ z. 16 ≤ z) (sym high) b.high;
-      }
+    let b : HasBlock s k = known-block s t k h known in
+    let high : highest_in v k ≡ highest_in s k = known-word s v t k 4 h c known (omega arith) (λ e. absurd (omega (arith, e))) (λ e. absurd (omega (arith, e))) (λ e. absurd (omega (arith, e))) in
+    record {
+      start = b.start;
+      here = b.here;
+      block = used k ∙ b.block ∙ ap (λ z. Some (used_block b.start (need z))) (sym high);
+      high = subst (λ z. 16 ≤ z) (sym high) b.high;
+    }
     in
     built v t (coroutines_in s t) act
     (record {

@@ -1,14 +1,13 @@
 -- A coroutine is made in a block of its own, and becomes the first of its list.
-use Rattle.std.proofs.Common.{◌≡◌, ◌≢◌, ◌⊎◌, inl, inr, ℕ, ◌+◌, ◌-◌, ◌<◌, ◌≤◌, List, [], ◌∷◌, ◌++◌, length, get_or, set, eqb, ◌||◌, Bool, true, false, Some, None, refl, sym, ap, ◌∙◌, subst, arith, get_or-set_other, get_or-set_same, length-set}
+use Rattle.std.proofs.Common.{◌≡◌, ◌≢◌, ◌⊎◌, inl, inr, ℕ, ◌+◌, ◌-◌, ◌<◌, ◌≤◌, List, [], ◌∷◌, ◌++◌, length, get_or, set, eqb, ◌||◌, true, false, Some, None, sym, ap, ◌∙◌, subst, arith, get_or-set_other, get_or-set_same, length-set}
 use Rattle.std.specs.List.{AllByRecursion, range_with_len}
-use Rattle.std.proofs.lemmas.Bool.{cases_eq, cases_lt, false≢true}
+use Rattle.std.proofs.lemmas.Bool.{cases_eq, cases_lt}
 use Rattle.std.proofs.lemmas.Bool.Decides.{nat_tests}
 use Rattle.store_model.specs.declared.blocks.Block.{Block}
 use Rattle.store_model.specs.Block.{block_end, used_block}
-use Rattle.store_model.specs.Chain.{cells, list_at}
-use Rattle.store_model.specs.Changed.{InsertedAt}
-use Rattle.store_model.specs.Count.{IsApart, hit, node_words, times, words_of}
-use Rattle.store_model.specs.Linked.{HasList, IsFresh, IsNode}
+use Rattle.store_model.specs.Chain.{list_at}
+use Rattle.store_model.specs.Count.{hit, node_words, times, words_of}
+use Rattle.store_model.specs.Linked.{IsFresh, IsNode}
 use Rattle.store_model.specs.Placing.{has}
 use Rattle.store_model.specs.Row.{with_words}
 use Rattle.store_model.specs.Run.{need}
@@ -22,15 +21,15 @@ use Rattle.store_model.proofs.Row.{get_or-with_words, get_or-with_words_outside,
 use Rattle.store_model.proofs.UsedBlocks.{UsedBlock, used_at-is}
 use Rattle.store_model.proofs.Writes.{SameBlocks, SameBlocks-set_used, SameBlocks-then, SameBlocks-used}
 use Rattle.task_block.specs.Lists.{coroutine_link, coroutines_in}
-use Rattle.coroutines.specs.Active.{LeadsOut, active_in}
-use Rattle.coroutines.specs.Coroutines.{HasBlock, HasCoroutines, HasTaskBlock}
+use Rattle.coroutines.specs.Active.{active_in}
+use Rattle.coroutines.specs.Coroutines.{HasBlock, HasCoroutines}
 use Rattle.coroutines.specs.CoroutineWords.{coroutine_size, highest_in, parent_in}
 use Rattle.coroutines.specs.Creation.{highest, new_words}
 use Rattle.coroutines.specs.Refusals.{is_known}
 use Rattle.coroutines.proofs.Building.{Built, all-members, built}
 use Rattle.coroutines.proofs.Frame.{cell-cases}
 use Rattle.coroutines.proofs.Known.{known-block, no_parent-word, task-apart, task-inside}
-use Rattle.coroutines.proofs.Staying.{has-here, has-there, range-none, same-block, same-out, words-none}
+use Rattle.coroutines.proofs.Staying.{has-there, range-none, same-block, same-out, words-none}
 
 -- the store in which the coroutine at c was made, after its block was taken
 abbrev pub made : List ℕ → List ℕ → ℕ → ℕ → ℕ → ℕ → List ℕ
@@ -100,8 +99,8 @@ made-blocks : (s x : List ℕ) (t c entry u : ℕ) → HasCoroutines s t → Aft
 made-blocks s x t c entry u h after =
     let y : List ℕ = with_words x c (new_words c (get_or s (t + 17) 0) entry u) in
     let row : SameBlocks x y =
-      SameBlocks-used x y c (used_block (c - 1) (need (highest u))) after.tiled after.is_used (length-with_words x c (new_words c (get_or s (t + 17) 0) entry u))
-        (λ a out. get_or-with_words_outside x c (new_words c (get_or s (t + 17) 0) entry u) a (where_from a (cases_lt a c) out))
+    SameBlocks-used x y c (used_block (c - 1) (need (highest u))) after.tiled after.is_used (length-with_words x c (new_words c (get_or s (t + 17) 0) entry u))
+    (λ a out. get_or-with_words_outside x c (new_words c (get_or s (t + 17) 0) entry u) a (where_from a (cases_lt a c) out))
     in
     let used : used_at h.task.first (blocks_in y) ≡ Some h.task.block = ap (used_at h.task.first) row.blocks ∙ after.kept h.task.first h.task.block h.task.used in
     SameBlocks-then x y (made s x t c entry u) row (SameBlocks-set_used y h.task.first (t + 17) c h.task.block row.tiled used (omega (arith, h.task.low)) (omega (arith, h.task.high)))
@@ -116,23 +115,23 @@ create-built s x t c entry u h taken =
     let blocks : SameBlocks x v = made-blocks s x t c entry u h after in
     let known_differs : (k : ℕ) → is_known s t k ≡ true → k ≢ c = λ k known e. absurd (is_new k known e) in
     let of_x : BecomesList x coroutine_link coroutine_size (t + 17) (coroutines_in s t) =
-      list-same s x coroutine_link coroutine_size (t + 17) h.list after.same_length (λ a some. cell_stays a (cell-cases coroutine_link a (t + 17) (coroutines_in s t) some))
+    list-same s x coroutine_link coroutine_size (t + 17) h.list after.same_length (λ a some. cell_stays a (cell-cases coroutine_link a (t + 17) (coroutines_in s t) some))
     in
     let own : (i : ℕ) → i < 10 → get_or v (c + i) 0 ≡ get_or (new_words c (get_or s (t + 17) 0) entry u) i 0 = λ i few. made-own s x t c entry u i h after few in
     let apart : (a : ℕ) → times a (node_words coroutine_size c) + times a (range_with_len t 23 ++ words_of coroutine_size (coroutines_in s t)) ≤ 1 = λ a. new_apart a in
     let node : IsNode x coroutine_link coroutine_size c = record { some = omega (arith, after.low); after = omega arith; before = omega arith; inside = omega (arith, after.inside, after.same_length, need-size u, after.low) } in
     let fresh : IsFresh x coroutine_link coroutine_size (t + 17) (list_at x coroutine_link (t + 17)) c =
-      subst (λ z. IsFresh x coroutine_link coroutine_size (t + 17) z c) (sym of_x.list)
-        (record { node = node; apart = λ a. omega (arith, apart a, times-append a (range_with_len t 23) (words_of coroutine_size (coroutines_in s t)), head_hit a) })
+    subst (λ z. IsFresh x coroutine_link coroutine_size (t + 17) z c) (sym of_x.list)
+    (record { node = node; apart = λ a. omega (arith, apart a, times-append a (range_with_len t 23) (words_of coroutine_size (coroutines_in s t)), head_hit a) })
     in
     let pushed : BecomesList v coroutine_link coroutine_size (t + 17) (c ∷ list_at x coroutine_link (t + 17)) =
-      list-push x v coroutine_link coroutine_size (t + 17) c of_x.stands fresh
-        (record {
-          same_length = length-set (with_words x c (new_words c (get_or s (t + 17) 0) entry u)) (t + 17) c ∙ length-with_words x c (new_words c (get_or s (t + 17) 0) entry u);
-          to = own 2 (omega arith) ∙ sym (task_in_x 17 (omega arith));
-          from = get_or-set_same (with_words x c (new_words c (get_or s (t + 17) 0) entry u)) (t + 17) c 0 (omega (arith, length-with_words x c (new_words c (get_or s (t + 17) 0) entry u), after.same_length, (task-inside s t h).1));
-          others = λ a ne none. get_or-set_other (with_words x c (new_words c (get_or s (t + 17) 0) entry u)) (t + 17) a c 0 ne ∙ get_or-with_words_outside x c (new_words c (get_or s (t + 17) 0) entry u) a (not_within a none);
-        })
+    list-push x v coroutine_link coroutine_size (t + 17) c of_x.stands fresh
+    (record {
+      same_length = length-set (with_words x c (new_words c (get_or s (t + 17) 0) entry u)) (t + 17) c ∙ length-with_words x c (new_words c (get_or s (t + 17) 0) entry u);
+      to = own 2 (omega arith) ∙ sym (task_in_x 17 (omega arith));
+      from = get_or-set_same (with_words x c (new_words c (get_or s (t + 17) 0) entry u)) (t + 17) c 0 (omega (arith, length-with_words x c (new_words c (get_or s (t + 17) 0) entry u), after.same_length, (task-inside s t h).1));
+      others = λ a ne none. get_or-set_other (with_words x c (new_words c (get_or s (t + 17) 0) entry u)) (t + 17) a c 0 ne ∙ get_or-with_words_outside x c (new_words c (get_or s (t + 17) 0) entry u) a (not_within a none);
+    })
     in
     let used : (a : ℕ) → a ≢ c → used_at a (blocks_in v) ≡ used_at a (blocks_in s) = λ a ne. ap (used_at a) blocks.blocks ∙ after.others a ne in
     let first_differs : h.task.first ≢ c = λ e. is_new_first e in
@@ -143,14 +142,15 @@ create-built s x t c entry u h taken =
       elsewhere = (let test : eqb h.task.first c ≡ false = grind (arith, nat_tests) in ap (λ b. b || has h.task.first (coroutines_in s t)) test ∙ h.elsewhere);
       list = subst (λ z. BecomesList v coroutine_link coroutine_size (t + 17) (c ∷ z)) of_x.list pushed;
       apart = λ a. omega (arith, apart a, times-append a (range_with_len t 23) (words_of coroutine_size (coroutines_in s t)), times-append a (range_with_len t 23) (words_of coroutine_size (c ∷ coroutines_in s t)), times-words_more coroutine_size a c (coroutines_in s t));
-      blocks =
-        (record {
-           start = c - 1;
-           here = omega (arith, after.low);
-           block = ap (used_at c) blocks.blocks ∙ after.is_used ∙ ap (λ z. Some (used_block (c - 1) (need z))) (sym (own 4 (omega arith)));
-           high = subst (λ z. 16 ≤ z) (sym (own 4 (omega arith))) (highest-low u);
-         },
-         all-members (HasBlock v) (coroutines_in s t) (λ k known. same-block s v t k h known (used k (known_differs k known)) (made-known s x t c entry u k 4 h after known (omega arith))));
+      blocks = (
+        record {
+          start = c - 1;
+          here = omega (arith, after.low);
+          block = ap (used_at c) blocks.blocks ∙ after.is_used ∙ ap (λ z. Some (used_block (c - 1) (need z))) (sym (own 4 (omega arith)));
+          high = subst (λ z. 16 ≤ z) (sym (own 4 (omega arith))) (highest-low u);
+        },
+        all-members (HasBlock v) (coroutines_in s t) (λ k known. same-block s v t k h known (used k (known_differs k known)) (made-known s x t c entry u k 4 h after known (omega arith))),
+      );
       out = same-out s v t h (made-task s x t c entry u 18 h after (omega arith) (λ e. absurd (omega (arith, e)))) (λ k known active. made-known s x t c entry u k 1 h after known (omega arith));
       members = behind (active_in s t) h.members;
       distinct = h.distinct;
@@ -193,9 +193,9 @@ create-built s x t c entry u h taken =
             let high : a < c + 10 = range-high a c 10 some in
             let same : c + (a - c) ≡ a = omega arith in
             let no_task : times a (range_with_len t 23) ≡ 0 = range-none a t 23 (λ i few e.
-              outside-differs (t + i) c (need (highest u)) (a - c) after.low (need-size u) (omega arith) (task-beside s x t c u i h after few) (sym e ∙ sym same)) in
+            outside-differs (t + i) c (need (highest u)) (a - c) after.low (need-size u) (omega arith) (task-beside s x t c u i h after few) (sym e ∙ sym same)) in
             let no_word : times a (words_of coroutine_size (coroutines_in s t)) ≡ 0 = words-none coroutine_size a (coroutines_in s t) (λ k known. range-none a k 10 (λ i few e.
-              outside-differs (k + i) c (need (highest u)) (a - c) after.low (need-size u) (omega arith) (known-beside s x t c u k i h after known few) (sym e ∙ sym same))) in
+            outside-differs (k + i) c (need (highest u)) (a - c) after.low (need-size u) (omega arith) (known-beside s x t c u k i h after known few) (sym e ∙ sym same))) in
             omega (arith, range-apart c 10 a, no_task, no_word, times-append a (range_with_len t 23) (words_of coroutine_size (coroutines_in s t)))
 
     head_hit : (a : ℕ) → hit a (t + 17) ≤ times a (range_with_len t 23)
@@ -211,3 +211,12 @@ create-built s x t c entry u h taken =
     behind : (ks : List ℕ) → AllByRecursion (λ k. has k (coroutines_in s t) ≡ true) ks → AllByRecursion (λ k. has k (c ∷ coroutines_in s t) ≡ true) ks
     behind [] members = tt
     behind (k ∷ ks) members = (has-there k c (coroutines_in s t) members.0, behind ks members.1)
+
+-- the words of the coroutine lie in the store
+pub made-room : (s x : List ℕ) (t c u : ℕ) → IsTiled s → IsTaken s x (highest u) c → c + 10 ≤ length x
+made-room s x t c u tiled taken =
+    let after : AfterTake s x (highest u) c = after_take s x (highest u) c tiled taken in
+    omega (arith, after.inside, after.same_length, after.low, need-size u)
+
+pub same-length : (s x : List ℕ) (u c : ℕ) → IsTiled s → IsTaken s x u c → length x ≡ length s
+same-length s x u c tiled taken = (after_take s x u c tiled taken).same_length

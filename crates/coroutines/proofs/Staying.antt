@@ -1,20 +1,17 @@
 -- Coroutines that stay as they are while another one is made or deleted.
-use Rattle.std.proofs.Common.{◌≡◌, ◌≢◌, ◌⊎◌, inl, inr, ℕ, zero, suc, ◌+◌, ◌-◌, ◌<◌, ◌≤◌, List, [], ◌∷◌, ◌++◌, length, get_or, eqb, ◌||◌, Bool, true, false, Some, refl, sym, ap, ◌∙◌, subst, arith}
+use Rattle.std.proofs.Common.{◌≡◌, ◌≢◌, inl, inr, ℕ, ◌+◌, ◌-◌, ◌<◌, ◌≤◌, List, [], ◌∷◌, get_or, eqb, ◌||◌, Bool, true, false, Some, refl, sym, ap, ◌∙◌, subst, arith}
 use Rattle.std.specs.List.{AllByRecursion, range_with_len}
 use Rattle.std.proofs.lemmas.Bool.{cases_lt}
 use Rattle.std.proofs.lemmas.Bool.Decides.{nat_tests}
-use Rattle.store_model.specs.declared.blocks.Block.{Block}
-use Rattle.store_model.specs.Block.{block_end, used_block}
+use Rattle.store_model.specs.Block.{used_block}
 use Rattle.store_model.specs.Count.{node_words, times, words_of}
 use Rattle.store_model.specs.Placing.{has}
 use Rattle.store_model.specs.Run.{need}
 use Rattle.store_model.specs.Tiling.{blocks_in, used_at}
-use Rattle.store_model.proofs.Counts.{range-high, range-low, times-above, times-below, times-words_more}
-use Rattle.store_model.proofs.UsedBlocks.{UsedBlock, used_at-is}
+use Rattle.store_model.proofs.Counts.{times-above, times-below, times-words_more}
 use Rattle.task_block.specs.Lists.{coroutines_in}
 use Rattle.coroutines.specs.Active.{LeadsOut, active_in}
 use Rattle.coroutines.specs.Coroutines.{HasBlock, HasCoroutines}
-use Rattle.coroutines.specs.CoroutineWords.{coroutine_size, highest_in}
 use Rattle.coroutines.specs.Refusals.{is_known}
 use Rattle.coroutines.proofs.Known.{known-block}
 use Rattle.coroutines.proofs.Outward.{LeadsOut-same}

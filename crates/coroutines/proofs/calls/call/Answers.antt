@@ -1,4 +1,4 @@
-use Rattle.std.proofs.Common.{◌≡◌, ◌∙◌, sym, subst, ◌∷◌, true, false}
+use Rattle.std.proofs.Common.{◌∙◌, sym, subst, ◌∷◌}
 use Rattle.coroutines.specs.Active.{active_in}
 use Rattle.coroutines.proofs.Calling.{call-again}
 use Rattle.coroutines.proofs.Building.{Built}

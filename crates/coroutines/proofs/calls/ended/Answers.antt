@@ -1,4 +1,4 @@
-use Rattle.std.proofs.Common.{◌≡◌, ◌∙◌, sym, subst, drop, arith, ◌+◌}
+use Rattle.std.proofs.Common.{sym, subst, drop, arith, ◌+◌}
 use Rattle.coroutines.specs.Active.{active_in}
 use Rattle.coroutines.proofs.Calling.{wait-again}
 use Rattle.coroutines.proofs.Building.{Built}

@@ -1,4 +1,4 @@
-use Rattle.std.proofs.Common.{◌≡◌, ◌∙◌, sym, subst, ap, true, false, Result, Ok, Err, Some, None, refl, ℕ, List}
+use Rattle.std.proofs.Common.{◌≡◌, ◌∙◌, sym, subst, ap, true, Result, Ok, Err, Some, None, ℕ, List}
 use Rattle.std.specs.Prelude.{OnErr, OnOk}
 use Rattle.store_model.specs.declared.blocks.Block.{Block}
 use Rattle.store_model.specs.Give.{given_store}
@@ -9,7 +9,7 @@ use Rattle.coroutines.specs.Active.{active_in}
 use Rattle.coroutines.specs.Creation.{deleted}
 use Rattle.coroutines.specs.Refusals.{is_known}
 use Rattle.coroutines.proofs.Building.{Built}
-use Rattle.coroutines.proofs.Deleting.{delete-built, unlinked, unlinked-blocks, unlinked-used}
+use Rattle.coroutines.proofs.Deleting.{delete-built, unlinked-blocks, unlinked-used}
 use Rattle.coroutines.proofs.creation.delete.Goals as goal
 use Rattle.coroutines.proofs.creation.delete.Goals.{After-give-given}
 
@@ -26,7 +26,7 @@ words : (c : After-give-given) → c.give-given.new.store ≡ deleted c.args.sto
 words c =
     let known : is_known c.args.store.now c.args.t c.args.c ≡ true = sym c.is_known.ensures ∙ c.if-not-is_known.false in
     given-words c.give-given.result c.unlink.new.store c.give-given.new.store c.args.c _ c.give-given.ensures.words c.give-given.ensures.not_a_block
-      (ap (λ z. used_at c.args.c (blocks_in z)) c.unlink.ensures ∙ unlinked-used c.args.store.now c.args.t c.args.c c.requires known)
+    (ap (λ z. used_at c.args.c (blocks_in z)) c.unlink.ensures ∙ unlinked-used c.args.store.now c.args.t c.args.c c.requires known)
     ∙ ap (λ z. given_store z c.args.c) c.unlink.ensures
 
 pub returns-clause-words : goal.returns-clause-words

@@ -1,4 +1,4 @@
-use Rattle.std.proofs.Common.{◌≡◌, arith, ◌+◌}
+use Rattle.std.proofs.Common.{arith}
 use Rattle.coroutines.proofs.Known.{known-node}
 use Rattle.coroutines.proofs.creation.unlink.Goals as goal
 

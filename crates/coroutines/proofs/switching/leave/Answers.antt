@@ -1,4 +1,4 @@
-use Rattle.std.proofs.Common.{◌≡◌, ◌∙◌, ap, arith, sym, subst, get_or, ◌+◌, ℕ}
+use Rattle.std.proofs.Common.{◌≡◌, ◌∙◌, ap, arith, sym, subst, get_or, ◌+◌}
 use Rattle.coroutines.specs.CoroutineWords.{as_current, current_in, parent_in}
 use Rattle.coroutines.proofs.Switches.{IsRootOr, bounds, parent-is}
 use Rattle.coroutines.proofs.switching.leave.Goals as goal

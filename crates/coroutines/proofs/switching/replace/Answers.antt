@@ -1,4 +1,4 @@
-use Rattle.std.proofs.Common.{◌≡◌, arith, ◌+◌}
+use Rattle.std.proofs.Common.{arith}
 use Rattle.coroutines.proofs.Known.{known-node}
 use Rattle.coroutines.proofs.Switches.{bounds}
 use Rattle.coroutines.proofs.switching.replace.Goals as goal
