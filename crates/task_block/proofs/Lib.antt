@@ -1,0 +1,5 @@
+pub mod Finding
+pub mod Falling
+pub mod Coming
+pub mod Going
+pub mod Seeking

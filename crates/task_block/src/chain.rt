@@ -1,7 +1,8 @@
 // The chain of tasks, in falling priority, and the task table: a task comes in, and goes out.
-ghost use Rattle.std.specs.Prelude.{◌≡◌, ◌+◌, true, slice_set};
+ghost use Rattle.std.specs.Prelude.{◌≡◌, ◌≢◌, ◌+◌, true, slice_set};
+ghost use Rattle.std.specs.List.{AllByRecursion};
 ghost use Rattle.store_model.specs.Placing.{cell_after, cell_before, has, insert_after, linked_in, linked_out, without};
-ghost use Rattle.task_block.specs.TaskChain.{Fall, HasTasks, IsNewTask, id_in, is_above, task_link, tasks_in};
+ghost use Rattle.task_block.specs.TaskChain.{Fall, HasTasks, IsNewTask, id_in, is_above, priority_in, task_link, tasks_in};
 
 use crate::fields::{TcbField, field};
 use crate::listing::tasks;
@@ -10,20 +11,21 @@ use crate::searching::TABLE;
 use store_links::word;
 use word_store::Store;
 
-/// Puts the task at t into the chain, directly after the last task of a higher priority, and into the table. So priorities
-/// still fall along the chain where they did and none was the same.
+/// Puts the task at t into the chain, directly after the last task of a higher priority, and into the table. Where
+/// priorities fell along the chain, and none was the same, they still fall.
 pub fn insert(store: &mut Store, t: u32)
     requires tasks { HasTasks store.old }
     requires task { IsNewTask store.old t }
     ensures chain { tasks_in store.new ≡ insert_after (is_above store.old t) t (tasks_in store.old) }
     ensures words { store.new ≡ slice_set (linked_in store.old task_link (cell_after (is_above store.old t) task_link 101 (tasks_in store.old)) t) (120 + id_in store.old t) t }
     ensures tasks { HasTasks store.new }
+    ensures order { Fall store.old (tasks_in store.old) → AllByRecursion (λ u. priority_in store.old u ≢ priority_in store.old t) (tasks_in store.old) → Fall store.new (tasks_in store.new) }
 {
+    let id = field(store, t, TcbField::Id);
     let cell = cell_above(store, t);
     let next = word(store, cell);
     store.set(t, next);
     store.set(cell, t);
-    let id = field(store, t, TcbField::Id);
     store.set(TABLE + id, t);
 }
 
@@ -50,11 +52,12 @@ pub fn unlink(store: &mut Store, t: u32)
     ensures chain { tasks_in store.new ≡ without t (tasks_in store.old) }
     ensures words { store.new ≡ slice_set (linked_out store.old task_link (cell_before task_link t 101 (tasks_in store.old)) t) (120 + id_in store.old t) 0 }
     ensures tasks { HasTasks store.new }
+    ensures order { Fall store.old (tasks_in store.old) → Fall store.new (tasks_in store.new) }
 {
+    let id = field(store, t, TcbField::Id);
     let cell = cell_before(store, t);
     let next = word(store, t);
     store.set(cell, next);
-    let id = field(store, t, TcbField::Id);
     store.set(TABLE + id, 0);
 }
 

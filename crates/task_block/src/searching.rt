@@ -33,7 +33,7 @@ pub fn free_id(store: &Store) -> Option<u32>
     requires { HasTasks store.now }
     ensures { result ≡ lowest_free_id store.now }
 {
-    for id in FIRST_GUEST..=highest_id(store) {
+    for id in FIRST_GUEST..highest_id(store) + 1 {
         if word(store, TABLE + id) == 0 {
             return Some(id);
         }

@@ -1,4 +1,4 @@
-use Rattle.std.proofs.Common.{◌≡◌, ℕ}
+use Rattle.std.proofs.Common.{◌≡◌}
 use Rattle.store_model.specs.Placing.{cell_before}
 use Rattle.task_block.specs.TaskChain.{task_link, tasks_in}
 use Rattle.task_block.proofs.chain.cell_before.Given as goal

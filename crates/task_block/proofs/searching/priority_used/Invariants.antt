@@ -1,8 +1,8 @@
-use Rattle.std.proofs.Common.{◌≡◌, ℕ, ◌&&◌, eqb}
+use Rattle.std.proofs.Common.{◌≡◌, ◌&&◌, eqb}
 use Rattle.std.specs.Prelude.{not}
 use Rattle.std.specs.List.{AllByRecursion, list_any}
 use Rattle.store_model.specs.Linked.{IsNode}
-use Rattle.task_block.specs.TaskChain.{id_in, is_priority_used, priority_in, task_link, task_size, tasks_in}
+use Rattle.task_block.specs.TaskChain.{id_in, is_priority_used, priority_in, task_link, task_size}
 use Rattle.task_block.proofs.searching.priority_used.Given as goal
 
 abbrev pub invariant-loop-t : goal.invariant-loop-t

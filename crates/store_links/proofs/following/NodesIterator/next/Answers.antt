@@ -1,7 +1,6 @@
-use Rattle.std.proofs.Common.{◌≡◌, ◌∙◌, sym, refl, ap, subst, arith, ℕ, List, ◌∷◌, [], ◌+◌, ◌-◌, ◌<◌, length}
+use Rattle.std.proofs.Common.{◌≡◌, ◌∙◌, sym, ap, arith, [], ◌+◌, ◌<◌, length}
 use Rattle.store_model.specs.Chain.{list_at}
-use Rattle.store_model.specs.Walk.{IsWalk}
-use Rattle.store_model.proofs.Walks.{GoesOn, walk-ends, walk-goes-on}
+use Rattle.store_model.proofs.Walks.{walk-ends, walk-goes-on}
 use Rattle.store_links.proofs.following.NodesIterator.next.Goals as goal
 
 pub returns-then-node-eq0-clause-steps : goal.returns-then-node-eq0-clause-steps

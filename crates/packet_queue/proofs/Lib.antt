@@ -1,0 +1,5 @@
+pub mod PacketWords
+pub mod Rising
+pub mod Changes
+pub mod DueWords
+pub mod Filling

@@ -1,0 +1,19 @@
+use Rattle.std.proofs.Common.{◌≡◌, sym, subst}
+use Rattle.store_model.specs.Placing.{insert_after}
+use Rattle.store_model.proofs.Lists.{BecomesList}
+use Rattle.packet_queue.specs.Queue.{link_of, packet_size, queue_at}
+use Rattle.packet_queue.specs.Due.{is_due, with_due}
+use Rattle.packet_queue.proofs.Changes.{due_appended}
+use Rattle.packet_queue.proofs.due.append_due.Goals as goal
+
+after : (c : goal.After-set_due) → BecomesList c.set_due.new.store link_of packet_size c.args.head (insert_after (is_due c.args.store.now c.args.due) c.args.p (queue_at c.args.store.now c.args.head))
+after c =
+    let words : c.set_due.new.store ≡ with_due c.args.store.now c.args.head c.args.p c.args.due = cc in
+    subst (λ t. BecomesList t link_of packet_size c.args.head (insert_after (is_due c.args.store.now c.args.due) c.args.p (queue_at c.args.store.now c.args.head))) (sym words)
+    (due_appended c.args.store.now c.args.head c.args.p c.args.due c.requires.queue c.requires.packet)
+
+pub returns-clause-queue : goal.returns-clause-queue
+returns-clause-queue c = (after c).list
+
+pub returns-clause-stands : goal.returns-clause-stands
+returns-clause-stands c = (after c).stands

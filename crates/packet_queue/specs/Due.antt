@@ -1,0 +1,25 @@
+-- Queues of packets that are due at a tick. The due tick is a packet's word 4.
+use Rattle.std.specs.Prelude.{ℕ, ◌+◌, Bool, nat_le, ◌==◌, List, filter, slice_index, slice_set}
+use Rattle.store_model.specs.Placing.{cell_after}
+use Rattle.packet_queue.specs.Queue.{link_of, queue_at}
+
+-- the due tick of a packet
+abbrev pub due_of : List ℕ → ℕ → ℕ
+due_of s p = slice_index s (p + 4)
+
+-- whether the packet is due at that tick or before
+abbrev pub is_due : List ℕ → ℕ → ℕ → Bool
+is_due s tick p = nat_le (due_of s p) tick
+
+-- the packets of a queue with this due tick, in their order
+abbrev pub due_at : List ℕ → ℕ → ℕ → List ℕ
+due_at s head tick = filter (λ p. due_of s p == tick) (queue_at s head)
+
+-- the word that holds the link of the last packet that is due at that tick or before: the head, where none is
+abbrev pub last_due_link : List ℕ → ℕ → ℕ → ℕ
+last_due_link s head tick = cell_after (is_due s tick) link_of head (queue_at s head)
+
+-- the store in which the packet, due at this tick, stands directly after the last one that is due no later
+abbrev pub with_due : List ℕ → ℕ → ℕ → ℕ → List ℕ
+with_due s head p due =
+    let cell = last_due_link s head due in slice_set (slice_set (slice_set s p (slice_index s cell)) cell p) (p + 4) due

@@ -1,0 +1,9 @@
+-- What a log in memory is.
+use Rattle.std.specs.Prelude.{ℕ, Bool, List}
+use Rattle.packet_queue.specs.declared.events.KernelEvent.{KernelEvent}
+
+-- the events, how many it has room for, and whether it has failed
+pub record KeptEvents : Type 0 where
+  pub events : List KernelEvent
+  pub room : ℕ
+  pub failed : Bool

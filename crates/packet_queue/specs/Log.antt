@@ -1,0 +1,11 @@
+-- What a note does to a log.
+use Rattle.std.specs.Prelude.{◌≡◌, Bool, List, [], ◌∷◌, ◌++◌, Option, IsTrue}
+use Rattle.std.specs.Bool.{OnTrue, OnFalse}
+use Rattle.std.specs.Option.{option_map}
+use Rattle.packet_queue.specs.declared.events.KernelEvent.{KernelEvent}
+
+-- A log that has failed stays so. Where it has not, the event stands at the end of those that it tells; else they stay as they were.
+pub record Notes (before now : Option (List KernelEvent)) (had_failed has_failed : Bool) (e : KernelEvent) : Type 0 where
+  pub for_good : IsTrue had_failed → IsTrue has_failed
+  pub added : OnFalse has_failed (now ≡ option_map (λ events. events ++ e ∷ []) before)
+  pub kept : OnTrue has_failed (now ≡ before)

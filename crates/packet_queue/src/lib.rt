@@ -1,0 +1,25 @@
+// Queues of packets, linked through words of a store, and the events that the kernel notes.
+#![tactic(auto)]
+
+pub mod due;
+mod due_ticks;
+pub mod events;
+pub mod laws;
+pub mod list_log;
+pub mod listing;
+pub mod logs;
+mod places;
+pub mod queue;
+pub mod sink_log;
+#[cfg(test)]
+mod tests;
+pub mod walking;
+
+pub use due::append_due;
+pub use events::KernelEvent;
+pub use list_log::ListLog;
+pub use listing::Packets;
+pub use logs::{EventLog, NoLog};
+pub use queue::{NO_QUEUE, append, remove, take};
+pub use sink_log::SinkLog;
+pub use walking::packets;

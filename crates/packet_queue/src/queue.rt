@@ -1,0 +1,69 @@
+// Queues: packets come to the end, and leave from the front or from between.
+ghost use Rattle.std.specs.Prelude.{◌≡◌, ◌↔◌, [], ◌∷◌, ◌++◌, IfNone, IfSome, IsNone, IsTrue, slice_set};
+ghost use Rattle.std.specs.Bool.{OnFalse, OnTrue};
+ghost use Rattle.store_model.specs.Placing.{has, without};
+ghost use Rattle.packet_queue.specs.Queue.{CanQueue, HasQueue, last_link, link_before, queue_at, unlinked};
+
+use crate::places::{last_link, link_before};
+use store_links::word;
+use word_store::Store;
+
+/// The link of a packet that stands in no queue.
+pub const NO_QUEUE: u32 = 0xffff_ffff;
+
+/// Puts the packet at the end of the queue.
+pub fn append(store: &mut Store, head: u32, p: u32)
+    requires queue { HasQueue store.old head }
+    requires packet { CanQueue store.old head p }
+    ensures queue { queue_at store.new head ≡ queue_at store.old head ++ p ∷ [] }
+    ensures stands { HasQueue store.new head }
+    ensures words { store.new ≡ slice_set (slice_set store.old p 0) (last_link store.old head) p }
+{
+    let cell = last_link(store, head);
+    store.set(p, 0);
+    store.set(cell, p);
+}
+
+/// Takes the first packet from the queue.
+pub fn take(store: &mut Store, head: u32) -> Option<u32>
+    requires { HasQueue store.old head }
+    ensures first { IfSome result (λ p. queue_at store.old head ≡ p ∷ queue_at store.new head) }
+    ensures stands { HasQueue store.new head }
+    ensures words { IfSome result (λ p. store.new ≡ unlinked store.old head p) }
+
+    // There is none exactly where the queue is empty, and then nothing is written.
+    ensures empty { IsNone result ↔ (queue_at store.old head ≡ []) }
+    ensures unchanged { IfNone result (store.new ≡ store.old) }
+{
+    let p = word(store, head);
+    if p == 0 {
+        return None;
+    }
+    unlink(store, head, p);
+    Some(p)
+}
+
+/// Removes the packet from the queue.
+pub fn remove(store: &mut Store, head: u32, p: u32) -> bool
+    requires { HasQueue store.old head }
+    ensures found { result ≡ has p (queue_at store.old head) }
+    ensures queue { queue_at store.new head ≡ without p (queue_at store.old head) }
+    ensures stands { HasQueue store.new head }
+    ensures words { OnTrue result (store.new ≡ unlinked store.old (link_before store.old head p) p) }
+    ensures unchanged { OnFalse result (store.new ≡ store.old) }
+{
+    let Some(cell) = link_before(store, head, p) else {
+        return false;
+    };
+    unlink(store, cell, p);
+    true
+}
+
+// Lets the word that leads to the packet lead where the packet led.
+fn unlink(store: &mut Store, cell: u32, p: u32)
+    ensures { store.new ≡ unlinked store.old cell p }
+{
+    let next = word(store, p);
+    store.set(cell, next);
+    store.set(p, NO_QUEUE);
+}

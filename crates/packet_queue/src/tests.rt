@@ -1,0 +1,3 @@
+// What no clause says: the lines as they are printed, and queues in a store that is full.
+mod logs;
+mod queues;
