@@ -2,6 +2,12 @@
 #![tactic(auto)]
 
 mod copying;
-mod loading;
+pub mod globals;
+pub mod loading;
 mod placing;
 mod relocating;
+pub mod unloading;
+
+pub use globals::{globals_fit, init_globals};
+pub use loading::{LoadEnd, load};
+pub use unloading::{NoModule, unload};
