@@ -1,14 +1,14 @@
 -- The modules of a store, as used blocks and as a linked list.
-use Rattle.std.proofs.Common.{◌≡◌, ◌≢◌, ◌⊎◌, inl, inr, ◌∙◌, ℕ, ◌+◌, ◌*◌, ◌/◌, ◌<◌, ◌≤◌, List, [], ◌∷◌, ◌++◌, length, get_or, set, eqb, Bool, true, false, ◌||◌, Some, None, refl, sym, ap, subst, arith}
+use Rattle.std.proofs.Common.{◌≡◌, ◌≢◌, ◌⊎◌, inl, inr, ◌∙◌, ℕ, ◌+◌, ◌<◌, ◌≤◌, List, [], ◌∷◌, length, get_or, eqb, Bool, true, false, ◌||◌, Some, None, refl, sym, ap, subst, arith}
 use Rattle.std.specs.Prelude.{slice_range, sum}
-use Rattle.std.specs.List.{AllByRecursion, list_any}
+use Rattle.std.specs.List.{AllByRecursion}
 use Rattle.std.proofs.lemmas.Bool.{cases_eq}
 use Rattle.std.proofs.lemmas.Bool.Decides.{nat_tests}
 use Rattle.store_model.specs.declared.blocks.Block.{Block}
 use Rattle.store_model.specs.Block.{block_end}
-use Rattle.store_model.specs.Chain.{IsChain, cells, list_at}
-use Rattle.store_model.specs.Count.{IsApart, hit, times, words_of}
-use Rattle.store_model.specs.Linked.{HasList, IsLinked, IsNode}
+use Rattle.store_model.specs.Chain.{IsChain, cells}
+use Rattle.store_model.specs.Count.{IsApart, times, words_of}
+use Rattle.store_model.specs.Linked.{HasList, IsNode}
 use Rattle.store_model.specs.Placing.{has}
 use Rattle.store_model.specs.Run.{need}
 use Rattle.store_model.specs.Tiling.{IsTiled, blocks_in, used_at}
@@ -17,7 +17,7 @@ use Rattle.store_model.proofs.Tilings.{IsTiled-inside}
 use Rattle.store_model.proofs.Walks.{walk-ends}
 use Rattle.store_model.proofs.Counts.{IsApart-cons, hit-other, hit-same, times-words_more}
 use Rattle.store_model.proofs.Row.{range_same}
-use Rattle.store_model.proofs.UsedBlocks.{AreApart, UsedBlock, used_at-apart, used_at-is}
+use Rattle.store_model.proofs.UsedBlocks.{AreApart, used_at-apart, used_at-is}
 use Rattle.task_block.specs.Lists.{module_link, modules_in}
 use Rattle.hunk_loader.specs.Modules.{HasModules, IsModuleAt}
 use Rattle.hunk_loader.specs.Placed.{hunk_count, lengths_in, module_end}
@@ -120,6 +120,7 @@ linked s h =
   where
     inside : 104 < length s
     inside = omega (arith, IsTiled-inside s h.tiled)
+
     apart : IsApart (104 ∷ words_of one_word (modules_in s))
     apart = IsApart-cons 104 (words_of one_word (modules_in s)) (times-one 104 (modules_in s) ∙ times-low s (modules_in s) 104 h.tiled h.modules (omega arith))
         (λ a. omega (arith, times-one a (modules_in s), h.apart a))

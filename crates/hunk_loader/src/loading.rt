@@ -30,9 +30,15 @@ pub fn load<X: TextBytes>(store: &mut Store, text: &X) -> Result<u32, LoadEnd>
     ensures unchanged { OnErr result (store.new ≡ store.old) }
     ensures modules { HasModules store.new }
 {
-    let shape = check_module(text).map_err(LoadEnd::Module)?;
-    let size = last_word(text, shape);
-    let m = take(store, size).map_err(|_| LoadEnd::NoRoom)?;
+    // a store has fewer than 2 ^ 32 words, so no address in it is larger
+    let _words = store.size();
+    let shape = match check_module(text) {
+        Ok(shape) => shape,
+        Err(code) => return Err(LoadEnd::Module(code)),
+    };
+    let Ok(m) = take(store, last_word(text, shape)) else {
+        return Err(LoadEnd::NoRoom);
+    };
     let link = root(store, RootField::FirstModule);
     place_module(text, store, m, link, shape.hunks);
     set_root(store, RootField::FirstModule, m);
