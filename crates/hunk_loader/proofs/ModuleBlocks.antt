@@ -1,5 +1,5 @@
 -- The modules of a store, as used blocks and as a linked list.
-use Rattle.std.proofs.Common.{◌≡◌, ◌≢◌, ◌⊎◌, inl, inr, ◌∙◌, ℕ, ◌+◌, ◌<◌, ◌≤◌, List, [], ◌∷◌, length, get_or, eqb, Bool, true, false, ◌||◌, Some, None, refl, sym, ap, subst, arith}
+use Rattle.std.proofs.Common.{◌≡◌, ◌≢◌, ◌⊎◌, inl, inr, ◌∙◌, ℕ, ◌+◌, ◌<◌, ◌≤◌, List, [], ◌∷◌, length, get_or, eqb, Bool, true, false, ◌||◌, Some, None, refl, sym, ap, subst, arith, set, get_or-set_same}
 use Rattle.std.specs.Prelude.{slice_range, sum}
 use Rattle.std.specs.List.{AllByRecursion}
 use Rattle.std.proofs.lemmas.Bool.{cases_eq}
@@ -18,6 +18,7 @@ use Rattle.store_model.proofs.Walks.{walk-ends}
 use Rattle.store_model.proofs.Counts.{IsApart-cons, hit-other, hit-same, times-words_more}
 use Rattle.store_model.proofs.Row.{range_same}
 use Rattle.store_model.proofs.UsedBlocks.{AreApart, used_at-apart, used_at-is}
+use Rattle.store_model.proofs.Writes.{SameBlocks-set_below}
 use Rattle.task_block.specs.Lists.{module_link, modules_in}
 use Rattle.hunk_loader.specs.Modules.{HasModules, IsModuleAt}
 use Rattle.hunk_loader.specs.Placed.{hunk_count, lengths_in, module_end}
@@ -173,3 +174,9 @@ stands-none s tiled none =
     let P : List ℕ → Type 0 = λ xs. IsChain s module_link 104 xs in
     let Q : List ℕ → Type 0 = λ xs. AllByRecursion (IsModuleAt s) xs in
     record { tiled = tiled; chain = subst P (sym empty) none; modules = subst Q (sym empty) tt; apart = subst IsApart (sym empty) (λ a. omega arith) }
+
+-- so where word 104 is cleared
+pub stands-cleared : (s t : List ℕ) → IsTiled s → t ≡ set s 104 0 → HasModules t
+stands-cleared s t tiled words =
+    let inside = IsTiled-inside s tiled in
+    subst HasModules (sym words) (stands-none (set s 104 0) (SameBlocks-set_below s 104 0 tiled (omega arith)).tiled (get_or-set_same s 104 0 0 (omega arith)))

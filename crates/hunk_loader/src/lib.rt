@@ -6,6 +6,8 @@ pub mod globals;
 pub mod loading;
 mod placing;
 mod relocating;
+#[cfg(test)]
+mod tests;
 pub mod unloading;
 
 pub use globals::{globals_fit, init_globals};
