@@ -1,7 +1,7 @@
 // Blocks are made, taken and given back.
-ghost use Rattle.std.specs.Prelude.{◌≡◌, ◌+◌, ◌-◌, ◌%◌, ◌<◌, ◌≤◌, [], ◌∷◌, IfOk, IsSome, None, OnErr, OnOk, length, slice_set};
-ghost use Rattle.store_model.specs.Block.{free_block};
+ghost use Rattle.std.specs.Prelude.{◌≡◌, ◌+◌, ◌%◌, ◌<◌, ◌≤◌, [], ◌∷◌, IfOk, IsSome, None, OnErr, OnOk, length};
 ghost use Rattle.store_model.specs.Give.{given, given_store};
+ghost use Rattle.store_model.specs.Make.{made_store, whole_block};
 ghost use Rattle.store_model.specs.Run.{first_run, need};
 ghost use Rattle.store_model.specs.Take.{IsTaken, taken, taken_store};
 ghost use Rattle.store_model.specs.Tiling.{IsTiled, blocks_in, used_at};
@@ -22,8 +22,8 @@ pub struct NotABlock;
 pub fn make(store: &mut Store)
     requires even { length store.old % 2 ≡ 0 }
     requires large { 1024 ≤ length store.old }
-    ensures words { store.new ≡ slice_set (slice_set store.old 200 (length store.old - 202 + 1)) (length store.old - 2) 0 }
-    ensures blocks { blocks_in store.new ≡ free_block 200 (length store.old - 202) ∷ [] }
+    ensures words { store.new ≡ made_store store.old }
+    ensures blocks { blocks_in store.new ≡ whole_block store.old ∷ [] }
     ensures tiled { IsTiled store.new }
 {
     let end = store.size() - 2;

@@ -1,37 +1,37 @@
 // What the kernel notes.
 
-/// Something that happened in the kernel. Queues and senders are named by the number of their task, or below 0 of their
-/// device; a packet is named by its address.
+/// Something that the kernel did. A task is named by its number, a device by its number below 0, and a packet by its
+/// address. A queue has the number of its task or device, and the console's pending queue has the number 103.
 #[derive(Clone, Copy, Debug, PartialEq, Eq)]
 pub enum KernelEvent {
-    /// A packet came to the end of a queue.
+    /// A packet came into a queue.
     Accepted {
-        /// Whose queue it is.
+        /// The queue.
         queue: i32,
         /// The packet.
         packet: u32,
-        /// Who sent it.
+        /// The task or device that sent it.
         sender: i32,
     },
-    /// A task took the first packet of its queue.
+    /// A packet was taken from a queue by the task or device that serves it.
     Taken {
-        /// Whose queue it is.
+        /// The queue.
         queue: i32,
         /// The packet.
         packet: u32,
-        /// Who sent it.
+        /// The task or device that sent it.
         sender: i32,
     },
-    /// A packet was removed from a queue.
+    /// A packet was removed from a queue unserved.
     Dequeued {
-        /// Whose queue it is.
+        /// The queue.
         queue: i32,
         /// The packet.
         packet: u32,
     },
-    /// A task begins to run.
+    /// Another task runs, or the same one is resumed.
     Runs {
-        /// The task.
+        /// The task, or 0 where nobody runs.
         task: u32,
     },
 }

@@ -35,7 +35,7 @@ pub(crate) fn last_due_link(store: &Store, head: u32, tick: u32) -> u32
     cell
 }
 
-/// The word that holds the link to the packet, which may stand there once.
+/// The word that holds the link to the packet, or `None` exactly where it is not in the queue.
 pub(crate) fn link_before(store: &Store, head: u32, p: u32) -> Option<u32>
     requires { HasQueue store.now head }
     ensures { result ≡ (if has p (queue_at store.now head) then Some (queue.link_before store.now head p) else None) }

@@ -24,14 +24,12 @@ pub fn append(store: &mut Store, head: u32, p: u32)
     store.set(cell, p);
 }
 
-/// Takes the first packet from the queue.
+/// Takes the first packet from the queue. There is none exactly where the queue is empty; then nothing is written.
 pub fn take(store: &mut Store, head: u32) -> Option<u32>
     requires { HasQueue store.old head }
     ensures first { IfSome result (λ p. queue_at store.old head ≡ p ∷ queue_at store.new head) }
     ensures stands { HasQueue store.new head }
     ensures words { IfSome result (λ p. store.new ≡ unlinked store.old head p) }
-
-    // There is none exactly where the queue is empty, and then nothing is written.
     ensures empty { IsNone result ↔ (queue_at store.old head ≡ []) }
     ensures unchanged { IfNone result (store.new ≡ store.old) }
 {
@@ -43,7 +41,7 @@ pub fn take(store: &mut Store, head: u32) -> Option<u32>
     Some(p)
 }
 
-/// Removes the packet from the queue.
+/// Removes the packet from the queue. The answer is false exactly where it is not there; then nothing is written.
 pub fn remove(store: &mut Store, head: u32, p: u32) -> bool
     requires { HasQueue store.old head }
     ensures found { result ≡ has p (queue_at store.old head) }

@@ -7,7 +7,7 @@ use Rattle.store_model.specs.Run.{need}
 use Rattle.store_model.specs.Take.{IsTaken, split_run, taken}
 use Rattle.store_model.proofs.Runs.{FoundRun, first_run-found, need-even}
 use Rattle.store_model.proofs.SizeWords.{length-with_size_words}
-use Rattle.store_model.proofs.Takes.{taken-Tiles, taken_store-outside, used_at-outside_run, used_at-taken, used_at-taken-other}
+use Rattle.store_model.proofs.Takes.{taken-Tiles, taken_store-outside, taken_store-unwritten, used_at-outside_run, used_at-taken, used_at-taken-other}
 use Rattle.store_model.proofs.Tilings.{IsTiled-by, blocks_in-is}
 use Rattle.store_model.proofs.UsedBlocks.{AreApart}
 
@@ -24,7 +24,9 @@ pub record AfterTake (s t : List ℕ) (u v : ℕ) : Type 0 where
   pub others : (w : ℕ) → w ≢ v → used_at w (blocks_in t) ≡ used_at w (blocks_in s)
   pub kept : (w : ℕ) (b : Block) → used_at w (blocks_in s) ≡ Some b → used_at w (blocks_in t) ≡ Some b
   pub apart : (w : ℕ) (b : Block) → used_at w (blocks_in s) ≡ Some b → AreApart b (used_block (v - 1) (need u))
-  -- their words stay, and so do those below the first block and from the end word on
+  -- only its size word and that of the rest are written
+  pub unwritten : (a : ℕ) → a ≢ v - 1 → a ≢ v - 1 + need u → get_or t a 0 ≡ get_or s a 0
+  -- so the words of the other used blocks stay, and those below the first block and from the end word on
   pub words : (w : ℕ) (b : Block) → used_at w (blocks_in s) ≡ Some b → (a : ℕ) → b.start ≤ a → a < block_end b → get_or t a 0 ≡ get_or s a 0
   pub below : (a : ℕ) → a < 200 → get_or t a 0 ≡ get_or s a 0
   pub above : (a : ℕ) → length s ≤ a + 2 → get_or t a 0 ≡ get_or s a 0
@@ -42,6 +44,7 @@ after_take s t u v tiled h =
       others = others;
       kept = λ w b is. others w (λ e. absurd (not_new w b is e)) ∙ is;
       apart = λ w b is. subst (λ z. AreApart b (used_block z n)) start (apart_from b (outside w b is));
+      unwritten = unwritten;
       words = λ w b is a low high. stays a (λ above. in_block b a (outside w b is) low high above);
       below = λ a low. stays a (λ above. absurd (omega (arith, low, above, f.low)));
       above = λ a high. stays a (λ _. omega (arith, high, f.inside));
@@ -74,6 +77,10 @@ after_take s t u v tiled h =
 
     outside : (w : ℕ) (b : Block) → used_at w (blocks_in s) ≡ Some b → (block_end b ≤ h.run.start) ⊎ (h.run.end ≤ b.start)
     outside w b is = used_at-outside_run s n 200 (blocks_in s) h.run w b tiled h.first is
+
+    unwritten : (a : ℕ) → a ≢ v - 1 → a ≢ v - 1 + n → get_or t a 0 ≡ get_or s a 0
+    unwritten a first second =
+        ap (λ z. get_or z a 0) h.words ∙ taken_store-unwritten s h.run n a (λ e. first (e ∙ start)) (λ e. second (e ∙ ap (λ z. z + n) start))
 
     stays : (a : ℕ) → (h.run.start ≤ a → h.run.end ≤ a) → get_or t a 0 ≡ get_or s a 0
     stays a out = ap (λ z. get_or z a 0) h.words ∙ taken_store-outside s n 200 a h.run (need-even u).0 (need-even u).1 f out

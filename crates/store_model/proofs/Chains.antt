@@ -88,18 +88,25 @@ IsDistinct-from_apart [] apart = tt
 IsDistinct-from_apart (x ∷ xs) apart =
     (not_among x xs (omega (arith, apart x, hit-same x x refl)), IsDistinct-from_apart xs (λ a. omega (arith, apart a)))
 
-any_below : (s : List ℕ) (link size : ℕ → ℕ) (ps : List ℕ) → AllByRecursion (IsNode s link size) ps → (q : ℕ) → list_any (eqb q) ps ≡ true → q < length s
-any_below s link size [] n q e = cc
-any_below s link size (p ∷ ps) n q e = on (eqb q p) refl e (any_below s link size ps n.1 q)
+any_below : (n : ℕ) (ps : List ℕ) → AllByRecursion (λ p. p < n) ps → (q : ℕ) → list_any (eqb q) ps ≡ true → q < n
+any_below n [] below q e = cc
+any_below n (p ∷ ps) below q e = on (eqb q p) refl e (any_below n ps below.1 q)
   where
-    on : (b : Bool) → eqb q p ≡ b → (b || list_any (eqb q) ps) ≡ true → (list_any (eqb q) ps ≡ true → q < length s) → q < length s
-    on true t k more = (let same : q ≡ p = grind (arith, nat_tests) in omega (arith, same, n.0.after, n.0.before, n.0.inside))
+    on : (b : Bool) → eqb q p ≡ b → (b || list_any (eqb q) ps) ≡ true → (list_any (eqb q) ps ≡ true → q < n) → q < n
+    on true t k more = (let same : q ≡ p = grind (arith, nat_tests) in omega (arith, same, below.0))
     on false t k more = more k
+
+-- there are no more addresses below a number than that number, where none stands twice
+pub length-apart : (n : ℕ) (ps : List ℕ) → IsApart ps → AllByRecursion (λ p. p < n) ps → length ps ≤ n
+length-apart n ps apart below = length-le_from_distinct_below ps n (IsDistinct-from_apart ps apart) (any_below n ps below)
 
 -- a list has no more nodes than the store has words
 pub length-linked : (s : List ℕ) (link size : ℕ → ℕ) (head : ℕ) (ps : List ℕ) → IsLinked s link size head ps → length ps ≤ length s
-length-linked s link size head ps l =
-    length-le_from_distinct_below ps (length s) (IsDistinct-from_apart ps (nodes-apart s link size head ps l)) (any_below s link size ps l.nodes)
+length-linked s link size head ps l = length-apart (length s) ps (nodes-apart s link size head ps l) (below ps l.nodes)
+  where
+    below : (ps : List ℕ) → AllByRecursion (IsNode s link size) ps → AllByRecursion (λ p. p < length s) ps
+    below [] n = tt
+    below (p ∷ ps) n = (omega (arith, n.0.after, n.0.before, n.0.inside), below ps n.1)
 
 -- the store alone says which list stands at a head
 pub list_at-is : (s : List ℕ) (link size : ℕ → ℕ) (head : ℕ) (ps : List ℕ) → IsLinked s link size head ps → list_at s link head ≡ ps

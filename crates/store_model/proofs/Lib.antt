@@ -3,6 +3,7 @@ pub mod AfterGive
 pub mod AfterTake
 pub mod Runs
 pub mod SizeWords
+pub mod Splits
 pub mod Takes
 pub mod Tilings
 pub mod UsedBlocks
@@ -18,3 +19,4 @@ pub mod OwnedWords
 pub mod Exchanges
 pub mod Writing
 pub mod Frames
+pub mod Members

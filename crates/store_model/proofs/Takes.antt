@@ -1,12 +1,12 @@
 -- A block is taken: what stands then, and what stays.
-use Rattle.std.proofs.Common.{◌≡◌, ◌≢◌, ◌⊎◌, inl, inr, ℕ, zero, suc, ◌+◌, ◌-◌, ◌%◌, ◌<◌, ◌≤◌, ◌&&◌, List, [], ◌∷◌, ◌++◌, get_or, eqb, cond, not, Bool, true, false, refl, sym, ap, ◌∙◌, subst, arith, Some, None, Option}
+use Rattle.std.proofs.Common.{◌≡◌, ◌≢◌, ◌⊎◌, inl, inr, ℕ, zero, suc, ◌+◌, ◌-◌, ◌%◌, ◌<◌, ◌≤◌, ◌&&◌, List, [], ◌∷◌, ◌++◌, get_or, set, eqb, cond, not, Bool, true, false, refl, sym, ap, ◌∙◌, subst, arith, Some, None, Option, get_or-set_other}
 use Rattle.std.proofs.lemmas.Bool.Decides.{nat_tests}
 use Rattle.store_model.specs.declared.blocks.Block.{Block}
 use Rattle.store_model.specs.declared.blocks.Run.{Run}
 use Rattle.store_model.specs.Block.{block_end, is_used_at, used_block}
 use Rattle.store_model.specs.Tiling.{Tiles, used_at}
 use Rattle.store_model.specs.Run.{after_run, begins_run, first_run, run_size}
-use Rattle.store_model.specs.Take.{left_over, split_run, taken, taken_store}
+use Rattle.store_model.specs.Take.{left_over, split_run, taken, taken_store, with_size_words}
 use Rattle.store_model.proofs.Runs.{FoundRun, begins_run-true, first_run-found, run-Tiles}
 use Rattle.store_model.proofs.SizeWords.{Follow, split_run-Follow, with_size_words-Tiles, with_size_words-outside}
 use Rattle.store_model.proofs.UsedBlocks.{used_at-before, used_at-is}
@@ -16,6 +16,14 @@ use Rattle.store_model.proofs.Writes.{StandsIn-same}
 pub taken_store-outside : (s : List ℕ) (n at a : ℕ) (run : Run) → 2 ≤ n → n % 2 ≡ 0 → FoundRun s n at run → (run.start ≤ a → run.end ≤ a) → get_or (taken_store s run n) a 0 ≡ get_or s a 0
 taken_store-outside s n at a run some even f out =
     with_size_words-outside s run.start (split_run run.start run.end n) run.end a (split_run-Follow run.start run.end n some even f.enough f.even) out
+
+-- only two words are written: the block's size word, and that of the rest
+pub taken_store-unwritten : (s : List ℕ) (run : Run) (n a : ℕ) → a ≢ run.start → a ≢ run.start + n → get_or (taken_store s run n) a 0 ≡ get_or s a 0
+taken_store-unwritten s run n a first second = by (run.end - (run.start + n))
+  where
+    by : (m : ℕ) → get_or (with_size_words s (used_block run.start n ∷ left_over (run.start + n) m)) a 0 ≡ get_or s a 0
+    by zero = get_or-set_other s run.start a n 0 first
+    by (suc m) = get_or-set_other (set s run.start n) (run.start + n) a (suc m + 1) 0 second ∙ get_or-set_other s run.start a n 0 first
 
 -- the blocks after the take stand
 pub taken-Tiles : (s : List ℕ) (n at : ℕ) (bs : List Block) (run : Run) → 2 ≤ n → n % 2 ≡ 0 → Tiles s at bs → first_run n bs ≡ Some run → Tiles (taken_store s run n) at (taken n bs)

@@ -1,6 +1,7 @@
 pub mod Row
 pub mod Block
 pub mod Give
+pub mod Make
 pub mod Run
 pub mod Take
 pub mod Tiling

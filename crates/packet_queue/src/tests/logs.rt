@@ -1,7 +1,21 @@
 // Logs of events.
+ghost use Rattle.std.specs.Prelude.{false};
+ghost use Rattle.packet_queue.specs.EventLine.{line_of};
+ghost use Rattle.packet_queue.specs.LineNote.{WritesLine, HasFailCause};
+
 use crate::{EventLog, KernelEvent, ListLog, NoLog, SinkLog};
 use std::test::Fail;
-use tp_io::MemorySink;
+use tp_io::{MemorySink, Sink};
+
+// Notes the event in a log of its own.
+fn note_once<K: Sink>(out: &mut K, e: KernelEvent) -> bool
+    ensures line { WritesLine false result (K.holds out.old) (K.holds out.new) (line_of e) }
+    ensures cause { HasFailCause false result (K.faults out.old) (K.faults out.new) }
+{
+    let mut log = SinkLog::new(out);
+    log.note(e);
+    log.failed()
+}
 
 #[test]
 fn a_line_for_each_event(rt: HostRuntime) -> Result<(), Fail> {
@@ -26,9 +40,7 @@ fn a_line_for_each_event(rt: HostRuntime) -> Result<(), Fail> {
         (KernelEvent::Runs { task: 12 }, b"run 12\n".as_slice()),
     ] {
         let mut sink = MemorySink::new(rt.alloc(), 64, &[]).map_err(|_| "memory")?;
-        let mut log = SinkLog::new(&mut sink);
-        log.note(event);
-        assert!(rt; !log.failed());
+        assert!(rt; !note_once(&mut sink, event));
         assert_eq!(rt; sink.bytes(), line);
     }
     Ok(())

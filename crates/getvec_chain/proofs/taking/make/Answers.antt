@@ -1,10 +1,10 @@
 use Rattle.std.proofs.Common.{◌≡◌, ◌∙◌, ℕ, ◌+◌, ◌-◌, ◌%◌, ◌≤◌, List, [], ◌∷◌, length, set, get_or, refl, ap, arith, get_or-set_other, get_or-set_same, length-set}
-use Rattle.store_model.specs.Block.{free_block}
+use Rattle.store_model.specs.Make.{whole_block}
 use Rattle.store_model.specs.Tiling.{Tiles}
 use Rattle.store_model.proofs.Tilings.{IsTiled-by, blocks_in-is}
 use Rattle.getvec_chain.proofs.taking.make.Goals as goal
 
-made : (s t : List ℕ) (end : ℕ) → length s % 2 ≡ 0 → 1024 ≤ length s → end ≡ length s - 2 → t ≡ set (set s 200 (end - 200 + 1)) end 0 → Tiles t 200 (free_block 200 (length s - 202) ∷ [])
+made : (s t : List ℕ) (end : ℕ) → length s % 2 ≡ 0 → 1024 ≤ length s → end ≡ length s - 2 → t ≡ set (set s 200 (end - 200 + 1)) end 0 → Tiles t 200 (whole_block s ∷ [])
 made s t end even large is words =
     let r : List ℕ = set s 200 (end - 200 + 1) in
     let all : length t ≡ length s = ap length words ∙ length-set r end 0 ∙ length-set s 200 (end - 200 + 1) in
@@ -16,7 +16,7 @@ made s t end even large is words =
     (refl, record { word = first; some = omega (arith, large); even = omega (arith, even) }, (omega (arith, all, large), ap (λ z. get_or t z 0) place ∙ last))
 
 -- the store is as the first write left it, and then as the second did
-made_by : (s r t : List ℕ) (size : ℕ) → length s % 2 ≡ 0 → 1024 ≤ length s → size ≡ length s → r ≡ set s 200 (size - 2 - 200 + 1) → t ≡ set r (size - 2) 0 → Tiles t 200 (free_block 200 (length s - 202) ∷ [])
+made_by : (s r t : List ℕ) (size : ℕ) → length s % 2 ≡ 0 → 1024 ≤ length s → size ≡ length s → r ≡ set s 200 (size - 2 - 200 + 1) → t ≡ set r (size - 2) 0 → Tiles t 200 (whole_block s ∷ [])
 made_by s r t size even large is first second = made s t (size - 2) even large (ap (λ z. z - 2) is) (second ∙ ap (λ z. set z (size - 2) 0) first)
 
 pub returns-clause-blocks : goal.returns-clause-blocks
@@ -25,4 +25,4 @@ returns-clause-blocks c =
 
 pub returns-clause-tiled : goal.returns-clause-tiled
 returns-clause-tiled c =
-    IsTiled-by _ (free_block 200 (length c.args.store.now - 202) ∷ []) (made_by _ _ _ _ c.requires.even c.requires.large c.size-end.ensures c.set.ensures.after c.set-2.ensures.after)
+    IsTiled-by _ (whole_block c.args.store.now ∷ []) (made_by _ _ _ _ c.requires.even c.requires.large c.size-end.ensures c.set.ensures.after c.set-2.ensures.after)

@@ -1,0 +1,5 @@
+pub mod Known
+pub mod Outward
+pub mod Frame
+pub mod Switches
+pub mod Calling

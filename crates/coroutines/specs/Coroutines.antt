@@ -1,0 +1,42 @@
+-- The coroutines of a task, in a store with blocks.
+use Rattle.std.specs.Prelude.{◌≡◌, ℕ, ◌+◌, ◌<◌, ◌≤◌, Bool, true, false, Some, None, Option, List, [], ◌∷◌, ◌++◌, slice_index}
+use Rattle.std.specs.List.{AllByRecursion, range_with_len}
+use Rattle.store_model.specs.declared.blocks.Block.{Block}
+use Rattle.store_model.specs.Block.{block_end, used_block}
+use Rattle.store_model.specs.Count.{IsApart, words_of}
+use Rattle.store_model.specs.Linked.{HasList}
+use Rattle.store_model.specs.Placing.{has}
+use Rattle.store_model.specs.Run.{need}
+use Rattle.store_model.specs.Tiling.{IsTiled, blocks_in, used_at}
+use Rattle.task_block.specs.Lists.{coroutine_link, coroutines_in}
+use Rattle.coroutines.specs.Active.{LeadsOut, active_in}
+use Rattle.coroutines.specs.CoroutineWords.{coroutine_size, current_cell, highest_in, parent_in}
+
+-- a coroutine is alone in a block of the size that its highest index needs, which is 16 or more
+pub record HasBlock (s : List ℕ) (c : ℕ) : Type 0 where
+  pub start : ℕ
+  pub here : c ≡ start + 1
+  pub block : used_at c (blocks_in s) ≡ Some (used_block start (need (highest_in s c)))
+  pub high : 16 ≤ highest_in s c
+
+-- the words of the task block at t, which are data of one used block
+pub record HasTaskBlock (s : List ℕ) (t : ℕ) : Type 0 where
+  pub first : ℕ
+  pub block : Block
+  pub used : used_at first (blocks_in s) ≡ Some block
+  pub low : first ≤ t
+  pub high : t + 23 ≤ block_end block
+
+-- the coroutines of the task at t stand
+pub record HasCoroutines (s : List ℕ) (t : ℕ) : Type 0 where
+  pub tiled : IsTiled s
+  pub task : HasTaskBlock s t
+  pub list : HasList s coroutine_link coroutine_size (t + 17)
+  -- their words meet neither one another nor the task block
+  pub apart : IsApart (range_with_len t 23 ++ words_of coroutine_size (coroutines_in s t))
+  pub blocks : AllByRecursion (HasBlock s) (coroutines_in s t)
+  -- the active ones are distinct, and each other one has the parent 0
+  pub active : LeadsOut s t 0 (current_cell t) (active_in s t)
+  pub members : AllByRecursion (λ c. has c (coroutines_in s t) ≡ true) (active_in s t)
+  pub distinct : IsApart (active_in s t)
+  pub idle : AllByRecursion (λ c. has c (active_in s t) ≡ false → parent_in s c ≡ 0) (coroutines_in s t)

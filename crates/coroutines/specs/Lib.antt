@@ -1,0 +1,6 @@
+pub mod CoroutineWords
+pub mod Active
+pub mod Coroutines
+pub mod Switch
+pub mod Refusals
+pub mod Creation

@@ -1,0 +1,76 @@
+// A coroutine is made, and deleted.
+ghost use Rattle.std.specs.Prelude.{◌≡◌, ◌+◌, ◌∷◌, IfOk, None, OnErr, OnOk, true};
+ghost use Rattle.store_model.specs.Placing.{cell_before, linked_out, without};
+ghost use Rattle.store_model.specs.Run.{first_run, need};
+ghost use Rattle.store_model.specs.Tiling.{blocks_in};
+ghost use Rattle.coroutines.specs.Active.{active_in};
+ghost use Rattle.coroutines.specs.Coroutines.{HasCoroutines};
+ghost use Rattle.coroutines.specs.Creation.{IsCreated, deleted, highest};
+ghost use Rattle.coroutines.specs.Refusals.{delete_answer, is_known};
+ghost use Rattle.task_block.specs.Lists.{coroutine_link, coroutines_in};
+
+use crate::members::{LINK, cell_before, has_parent, is_known};
+use crate::ends::CoEnd;
+use getvec_chain::{NoRoom, give, take};
+use store_links::{set_words, word};
+use task_block::{TcbField, field, set_field};
+use word_store::Store;
+
+/// The least highest index of a coroutine: room for its words and a few of its stack.
+const LEAST_HIGHEST: u32 = 16;
+
+/// Makes a coroutine of the task at t, which will start at the function `entry`, in a block with the data words 0 to u, or
+/// to 16 where u is less. It is the first in the task's list. The answer is its address; `NoRoom` comes exactly where no run of
+/// free blocks is large enough, and then nothing is written.
+pub fn create(store: &mut Store, t: u32, entry: u32, u: u32) -> Result<u32, NoRoom>
+    requires { HasCoroutines store.old t }
+    ensures words { IfOk result (λ c. IsCreated store.old store.new t c entry u) }
+    ensures coroutines { IfOk result (λ c. coroutines_in store.new t ≡ c ∷ coroutines_in store.old t) }
+    ensures active { active_in store.new t ≡ active_in store.old t }
+    ensures stand { HasCoroutines store.new t }
+    ensures no_room { OnErr result (first_run (need (highest u)) (blocks_in store.old) ≡ None) }
+    ensures unchanged { OnErr result (store.new ≡ store.old) }
+{
+    // a store has fewer than 2 ^ 32 words, so no address is larger
+    let _size = store.size();
+    let highest = u.max(LEAST_HIGHEST);
+    let next = field(store, t, TcbField::FirstCo);
+    let c = take(store, highest)?;
+    set_words(store, c, &[c + 7, 0, next, entry, highest, c, entry, 0, 0, entry]);
+    set_field(store, t, TcbField::FirstCo, c);
+    Ok(c)
+}
+
+/// Deletes the coroutine c of the task at t and gives its block back.
+pub fn delete(store: &mut Store, t: u32, c: u32) -> Result<(), CoEnd>
+    requires { HasCoroutines store.old t }
+    ensures answer { result ≡ delete_answer store.old t c }
+    ensures words { OnOk result (store.new ≡ deleted store.old t c) }
+    ensures coroutines { OnOk result (coroutines_in store.new t ≡ without c (coroutines_in store.old t)) }
+    ensures active { active_in store.new t ≡ active_in store.old t }
+    ensures stand { HasCoroutines store.new t }
+    ensures unchanged { OnErr result (store.new ≡ store.old) }
+{
+    if !is_known(store, t, c) {
+        return Err(CoEnd::Unknown);
+    }
+    if has_parent(store, t, c) {
+        return Err(CoEnd::HasParent);
+    }
+    unlink(store, t, c);
+    let _given = give(store, c);
+    Ok(())
+}
+
+// Takes the coroutine c out of the list of the task at t.
+fn unlink(store: &mut Store, t: u32, c: u32)
+    requires coroutines { HasCoroutines store.old t }
+    requires known { is_known store.old t c ≡ true }
+    ensures { store.new ≡ linked_out store.old coroutine_link (cell_before coroutine_link c (t + 17) (coroutines_in store.old t)) c }
+{
+    // a store has fewer than 2 ^ 32 words, so no address is larger
+    let _size = store.size();
+    let cell = cell_before(store, t, c);
+    let next = word(store, c + LINK);
+    store.set(cell, next);
+}

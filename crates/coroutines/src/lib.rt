@@ -1,0 +1,12 @@
+// Coroutines of a task: made, deleted, called, resumed, and waiting for their parents.
+#![tactic(auto)]
+
+pub mod calls;
+pub mod creation;
+pub mod ends;
+mod members;
+mod switching;
+
+pub use calls::{call, ended, resume, wait};
+pub use creation::{create, delete};
+pub use ends::CoEnd;
