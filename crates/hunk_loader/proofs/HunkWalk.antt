@@ -4,6 +4,7 @@ use Rattle.std.specs.Prelude.{slice_range, sum}
 use Rattle.std.specs.List.{AllByRecursion, flat_map}
 use Rattle.std.proofs.lemmas.List.Sums.{sum_by-cons}
 use Rattle.store_model.specs.Placing.{has}
+use Rattle.store_model.proofs.Members.{all-has}
 use Rattle.store_model.proofs.Row.{range_first, range_none, range_same}
 use Rattle.task_block.specs.Lists.{modules_in}
 use Rattle.hunk_loader.specs.Globals.{GlobalsFit, globals_in, globals_of_hunk, highest, most_globals, with_globals}
@@ -11,12 +12,12 @@ use Rattle.hunk_loader.specs.GlobalWords.{AreClear}
 use Rattle.hunk_loader.specs.Modules.{HasModules, IsModuleAt}
 use Rattle.hunk_loader.specs.Placed.{PlacedHunk, hunk_count, hunks_at, hunks_in, lengths_in, module_end, placed}
 use Rattle.hunk_loader.proofs.GlobalLists.{hunk-are, length-with_globals, with_globals-append, with_globals-other}
-use Rattle.hunk_loader.proofs.ModuleBlocks.{all_times, in_block, times-has}
+use Rattle.hunk_loader.proofs.ModuleBlocks.{in_block}
 
 -- a module of the list lies in the store
 pub module_inside : (s : List ℕ) (m : ℕ) → HasModules s → has m (modules_in s) ≡ true → module_end s m + 2 ≤ length s
 module_inside s m h e =
-    let k = all_times (IsModuleAt s) (modules_in s) m h.modules (times-has (modules_in s) m e) in
+    let k = all-has (IsModuleAt s) m (modules_in s) h.modules e in
     let b = in_block s m h.tiled k in
     omega (arith, b.words, b.inside)
 

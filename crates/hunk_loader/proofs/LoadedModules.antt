@@ -22,6 +22,7 @@ use Rattle.store_model.proofs.AfterTake.{AfterTake, after_take}
 use Rattle.store_model.proofs.Counts.{IsApart-cons, hit-le, hit-other}
 use Rattle.store_model.proofs.Frames.{list-same}
 use Rattle.store_model.proofs.Lists.{BecomesList, list-push, list-pushed}
+use Rattle.store_model.proofs.Members.{all-has, times-has}
 use Rattle.store_model.proofs.Row.{IsOutside, get_or-with_words, get_or-with_words_outside, length-with_words, range-with_words, range_same, with_words-append}
 use Rattle.store_model.proofs.UsedBlocks.{AreApart}
 use Rattle.store_model.proofs.Writes.{SameBlocks, SameBlocks-set_below, SameBlocks-used}
@@ -30,7 +31,7 @@ use Rattle.hunk_loader.specs.ModuleRow.{hunks_image, last_word, lengths_of, modu
 use Rattle.hunk_loader.specs.Modules.{HasModules, IsModuleAt}
 use Rattle.hunk_loader.specs.Relocated.{relocated}
 use Rattle.hunk_loader.specs.Placed.{hunk_count, lengths_in}
-use Rattle.hunk_loader.proofs.ModuleBlocks.{all_map, all_times, cell_at, in_block, linked, module-same, no_block, one_word, stands, times-one}
+use Rattle.hunk_loader.proofs.ModuleBlocks.{all_map, cell_at, in_block, linked, module-same, no_block, one_word, stands, times-one}
 use Rattle.hunk_loader.proofs.PlacedHunks.{words_in-cons}
 use Rattle.hunk_loader.proofs.Relocated.{length-relocated}
 
@@ -177,7 +178,7 @@ list_kept s t1 m hunks h p = list-same s t1 module_link one_word 104 (linked s h
   where
     by : (a : ℕ) → (a ≡ 104) ⊎ (0 < times a (modules_in s)) → get_or t1 a 0 ≡ get_or s a 0
     by a (inl head) = p.below a (omega arith)
-    by a (inr some) = old_module s t1 m hunks h.tiled p a (all_times (IsModuleAt s) (modules_in s) a h.modules some)
+    by a (inr some) = old_module s t1 m hunks h.tiled p a (all-has (IsModuleAt s) a (modules_in s) h.modules (times-has a (modules_in s) some))
 
 -- the new module is none of them
 is_fresh : (s t1 : List ℕ) (m : ℕ) (hunks : List Hunk) → HasModules s → Placed s t1 m hunks → IsFresh t1 module_link one_word 104 (modules_in s) m

@@ -1,15 +1,13 @@
 -- The modules of a store, as used blocks and as a linked list.
-use Rattle.std.proofs.Common.{◌≡◌, ◌≢◌, ◌⊎◌, inl, inr, ◌∙◌, ℕ, ◌+◌, ◌<◌, ◌≤◌, List, [], ◌∷◌, length, get_or, eqb, Bool, true, false, ◌||◌, Some, None, refl, sym, ap, subst, arith, set, get_or-set_same}
+use Rattle.std.proofs.Common.{◌≡◌, ◌≢◌, ◌⊎◌, inl, inr, ◌∙◌, ℕ, ◌+◌, ◌<◌, ◌≤◌, List, [], ◌∷◌, length, get_or, Some, None, refl, sym, ap, subst, arith, set, get_or-set_same}
 use Rattle.std.specs.Prelude.{slice_range, sum}
 use Rattle.std.specs.List.{AllByRecursion}
 use Rattle.std.proofs.lemmas.Bool.{cases_eq}
-use Rattle.std.proofs.lemmas.Bool.Decides.{nat_tests}
 use Rattle.store_model.specs.declared.blocks.Block.{Block}
 use Rattle.store_model.specs.Block.{block_end}
 use Rattle.store_model.specs.Chain.{IsChain, cells}
 use Rattle.store_model.specs.Count.{IsApart, times, words_of}
 use Rattle.store_model.specs.Linked.{HasList, IsNode}
-use Rattle.store_model.specs.Placing.{has}
 use Rattle.store_model.specs.Run.{need}
 use Rattle.store_model.specs.Tiling.{IsTiled, blocks_in, used_at}
 use Rattle.store_model.proofs.Chains.{times-cells}
@@ -73,23 +71,6 @@ modules-apart s m n t h k differ = on (used_at-apart s 200 (blocks_in s) m n h.b
 pub all_map : (P Q : ℕ → Type 0) (ms : List ℕ) → AllByRecursion P ms → ((m : ℕ) → 0 < times m ms → P m → Q m) → AllByRecursion Q ms
 all_map P Q [] a f = tt
 all_map P Q (m ∷ ms) a f = (f m (omega (arith, hit-same m m refl)) a.0, all_map P Q ms a.1 (λ n some p. f n (omega arith) p))
-
--- one of the list
-pub all_times : (P : ℕ → Type 0) (ms : List ℕ) (m : ℕ) → AllByRecursion P ms → 0 < times m ms → P m
-all_times P [] m a some = absurd (omega arith)
-all_times P (n ∷ ns) m a some = on (cases_eq m n) (all_times P ns m a.1)
-  where
-    on : (m ≡ n) ⊎ (m ≢ n) → (0 < times m ns → P m) → P m
-    on (inl same) more = subst P (sym same) a.0
-    on (inr differ) more = more (omega (arith, hit-other m n differ))
-
-pub times-has : (ms : List ℕ) (m : ℕ) → has m ms ≡ true → 0 < times m ms
-times-has [] m e = cc
-times-has (n ∷ ns) m e = on (eqb m n) refl e (times-has ns m)
-  where
-    on : (b : Bool) → eqb m n ≡ b → (b || has m ns) ≡ true → (has m ns ≡ true → 0 < times m ns) → 0 < times m (n ∷ ns)
-    on true t k more = omega (arith, hit-same m n (grind (arith, nat_tests)))
-    on false t k more = omega (arith, more k)
 
 -- no module stands below the first block's data
 times-low : (s : List ℕ) (ms : List ℕ) (a : ℕ) → IsTiled s → AllByRecursion (IsModuleAt s) ms → a < 201 → times a ms ≡ 0

@@ -14,11 +14,12 @@ use Rattle.store_model.proofs.Chains.{times-cells}
 use Rattle.store_model.proofs.Counts.{hit-other, hit-same}
 use Rattle.store_model.proofs.Frames.{list-set}
 use Rattle.store_model.proofs.Lists.{BecomesList, list-remove, list-removed}
+use Rattle.store_model.proofs.Members.{all-has, times-has}
 use Rattle.store_model.proofs.UsedBlocks.{AreApart}
 use Rattle.store_model.proofs.Writes.{SameBlocks, SameBlocks-set_below, SameBlocks-set_used}
 use Rattle.task_block.specs.Lists.{module_link, modules_in}
 use Rattle.hunk_loader.specs.Modules.{HasModules, IsModuleAt}
-use Rattle.hunk_loader.proofs.ModuleBlocks.{InBlock, all_map, all_times, in_block, linked, module-same, modules-apart, no_module, one_word, stands, times-has, times-one}
+use Rattle.hunk_loader.proofs.ModuleBlocks.{InBlock, all_map, in_block, linked, module-same, modules-apart, no_module, one_word, stands, times-one}
 
 -- ---- the list without one of its members
 
@@ -77,7 +78,7 @@ out_linked s m h e =
     record { here = k; blocks = same; used = ap (used_at m) same.blocks ∙ k.used }
   where
     k : IsModuleAt s m
-    k = all_times (IsModuleAt s) (modules_in s) m h.modules (times-has (modules_in s) m e)
+    k = all-has (IsModuleAt s) m (modules_in s) h.modules e
 
     cell : ℕ
     cell = cell_before module_link m 104 (modules_in s)
@@ -85,7 +86,7 @@ out_linked s m h e =
     by : (cell ≡ 104) ⊎ (0 < times cell (modules_in s)) → SameBlocks s (linked_out s module_link cell m)
     by (inl head) = SameBlocks-set_below s cell (get_or s m 0) h.tiled (omega arith)
     by (inr some) =
-        let c = all_times (IsModuleAt s) (modules_in s) cell h.modules some in
+        let c = all-has (IsModuleAt s) cell (modules_in s) h.modules (times-has cell (modules_in s) some) in
         let b = in_block s cell h.tiled c in
         SameBlocks-set_used s cell cell (get_or s m 0) c.block h.tiled c.used (omega arith) (omega (arith, b.few))
 
@@ -169,7 +170,7 @@ unload_stands s t m h e words =
         by (inr some) = among (cases_eq n cell)
           where
             kc : IsModuleAt s cell
-            kc = all_times (IsModuleAt s) (modules_in s) cell h.modules some
+            kc = all-has (IsModuleAt s) cell (modules_in s) h.modules (times-has cell (modules_in s) some)
 
             bc : InBlock s cell kc.block
             bc = in_block s cell h.tiled kc
