@@ -7,3 +7,4 @@ pub mod Calling
 pub mod Staying
 pub mod Deleting
 pub mod Making
+pub mod Fresh

@@ -6,6 +6,8 @@ pub mod creation;
 pub mod ends;
 mod members;
 mod switching;
+#[cfg(test)]
+mod tests;
 
 pub use calls::{call, ended, resume, wait};
 pub use creation::{create, delete};
