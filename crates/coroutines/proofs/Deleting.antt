@@ -5,6 +5,7 @@ use Rattle.std.proofs.lemmas.Bool.{false≢true}
 use Rattle.store_model.specs.Block.{block_end, used_block}
 use Rattle.store_model.specs.Chain.{cells, last_cell, list_at}
 use Rattle.store_model.specs.Count.{times, words_of}
+use Rattle.store_model.specs.Give.{given}
 use Rattle.store_model.specs.Placing.{cell_before, has, linked_out, without}
 use Rattle.store_model.specs.Run.{need}
 use Rattle.store_model.specs.Tiling.{blocks_in, holding, used_at}
@@ -173,3 +174,13 @@ delete-built s t c h known idle =
         → a ≢ (known-block s t c h known).start
     no_size a (inl e) is k = size-no_task s t c 17 h known (omega arith) (sym e ∙ k)
     no_size a (inr (m, some, e)) is k = size-no_word s t c m 2 h known (without-has c m (coroutines_in s t) (sym (ap (has m) is) ∙ some)) (omega arith) (sym e ∙ k)
+
+-- the blocks are those that the giving leaves
+pub delete-blocks : (s : List ℕ) (t c : ℕ) → HasCoroutines s t → is_known s t c ≡ true → blocks_in (deleted s t c) ≡ given c (blocks_in s)
+delete-blocks s t c h known =
+    let b : HasBlock s c = known-block s t c h known in
+    let blocks : SameBlocks s (unlinked s t c) = unlinked-blocks s t c h known in
+    let after : AfterGive (unlinked s t c) (deleted s t c) c (used_block b.start (need (highest_in s c))) =
+      after_give (unlinked s t c) (deleted s t c) c (used_block b.start (need (highest_in s c))) blocks.tiled (unlinked-used s t c h known) refl
+    in
+    after.blocks ∙ ap (given c) blocks.blocks

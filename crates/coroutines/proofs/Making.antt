@@ -11,7 +11,7 @@ use Rattle.store_model.specs.Linked.{IsFresh, IsNode}
 use Rattle.store_model.specs.Placing.{has}
 use Rattle.store_model.specs.Row.{with_words}
 use Rattle.store_model.specs.Run.{need}
-use Rattle.store_model.specs.Take.{IsTaken}
+use Rattle.store_model.specs.Take.{IsTaken, taken}
 use Rattle.store_model.specs.Tiling.{IsTiled, blocks_in, used_at}
 use Rattle.store_model.proofs.AfterTake.{AfterTake, after_take}
 use Rattle.store_model.proofs.Counts.{hit-other, hit-same, range-apart, range-high, range-low, times-append, times-within, times-words_more}
@@ -220,3 +220,9 @@ made-room s x t c u tiled taken =
 
 pub same-length : (s x : List ℕ) (u c : ℕ) → IsTiled s → IsTaken s x u c → length x ≡ length s
 same-length s x u c tiled taken = (after_take s x u c tiled taken).same_length
+
+-- the blocks are those that the take leaves
+pub create-blocks : (s x : List ℕ) (t c entry u : ℕ) → HasCoroutines s t → IsTaken s x (highest u) c → blocks_in (made s x t c entry u) ≡ taken (need (highest u)) (blocks_in s)
+create-blocks s x t c entry u h taken =
+    let after : AfterTake s x (highest u) c = after_take s x (highest u) c h.tiled taken in
+    (made-blocks s x t c entry u h after).blocks ∙ after.blocks

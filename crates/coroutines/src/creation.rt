@@ -1,7 +1,9 @@
 // A coroutine is made, and deleted.
 ghost use Rattle.std.specs.Prelude.{◌≡◌, ◌+◌, ◌∷◌, IfOk, None, OnErr, OnOk, true};
+ghost use Rattle.store_model.specs.Give.{given};
 ghost use Rattle.store_model.specs.Placing.{cell_before, linked_out, without};
 ghost use Rattle.store_model.specs.Run.{first_run, need};
+ghost use Rattle.store_model.specs.Take.{taken};
 ghost use Rattle.store_model.specs.Tiling.{blocks_in};
 ghost use Rattle.coroutines.specs.Active.{active_in};
 ghost use Rattle.coroutines.specs.Coroutines.{HasCoroutines};
@@ -25,6 +27,7 @@ const LEAST_HIGHEST: u32 = 16;
 pub fn create(store: &mut Store, t: u32, entry: u32, u: u32) -> Result<u32, NoRoom>
     requires { HasCoroutines store.old t }
     ensures words { IfOk result (λ c. IsCreated store.old store.new t c entry u) }
+    ensures blocks { OnOk result (blocks_in store.new ≡ taken (need (highest u)) (blocks_in store.old)) }
     ensures coroutines { IfOk result (λ c. coroutines_in store.new t ≡ c ∷ coroutines_in store.old t) }
     ensures active { active_in store.new t ≡ active_in store.old t }
     ensures stand { HasCoroutines store.new t }
@@ -50,6 +53,7 @@ pub fn delete(store: &mut Store, t: u32, c: u32) -> Result<(), CoEnd>
     requires { HasCoroutines store.old t }
     ensures answer { result ≡ delete_answer store.old t c }
     ensures words { OnOk result (store.new ≡ deleted store.old t c) }
+    ensures blocks { OnOk result (blocks_in store.new ≡ given c (blocks_in store.old)) }
     ensures coroutines { OnOk result (coroutines_in store.new t ≡ without c (coroutines_in store.old t)) }
     ensures active { active_in store.new t ≡ active_in store.old t }
     ensures stand { HasCoroutines store.new t }

@@ -1,12 +1,13 @@
 use Rattle.std.proofs.Common.{◌≡◌, ◌∙◌, sym, subst, ap, set, get_or, arith, ◌∷◌, [], ◌+◌, ℕ, List}
 use Rattle.store_model.specs.Row.{with_words}
 use Rattle.store_model.specs.Take.{IsTaken}
+use Rattle.store_model.specs.Tiling.{blocks_in}
 use Rattle.task_block.specs.Lists.{coroutines_in}
 use Rattle.coroutines.specs.Active.{active_in}
 use Rattle.coroutines.specs.Creation.{highest}
 use Rattle.coroutines.proofs.Building.{Built}
 use Rattle.coroutines.proofs.Known.{task-inside}
-use Rattle.coroutines.proofs.Making.{create-built, made, made-room, same-length}
+use Rattle.coroutines.proofs.Making.{create-blocks, create-built, made, made-room, same-length}
 use Rattle.coroutines.proofs.creation.create.Goals as goal
 use Rattle.coroutines.proofs.creation.create.Goals.{After-set_field}
 
@@ -49,3 +50,9 @@ returns-clause-active c = (after c).active
 
 pub returns-clause-stand : goal.returns-clause-stand
 returns-clause-stand c = (after c).stand
+
+pub returns-clause-blocks : goal.returns-clause-blocks
+returns-clause-blocks c =
+    ap blocks_in (words c)
+    ∙ create-blocks c.args.store.now c.take.new.store c.args.t c.in_ok-c.c c.args.entry c.args.u c.requires
+      (subst (λ z. IsTaken c.args.store.now c.take.new.store z c.in_ok-c.c) c.max-highest.ensures c.in_ok-c.ensures.taken)

@@ -9,7 +9,7 @@ use Rattle.coroutines.specs.Active.{active_in}
 use Rattle.coroutines.specs.Creation.{deleted}
 use Rattle.coroutines.specs.Refusals.{is_known}
 use Rattle.coroutines.proofs.Building.{Built}
-use Rattle.coroutines.proofs.Deleting.{delete-built, unlinked-blocks, unlinked-used}
+use Rattle.coroutines.proofs.Deleting.{delete-blocks, delete-built, unlinked-blocks, unlinked-used}
 use Rattle.coroutines.proofs.creation.delete.Goals as goal
 use Rattle.coroutines.proofs.creation.delete.Goals.{After-give-given}
 
@@ -45,3 +45,6 @@ returns-clause-active c = (after c).active
 
 pub returns-clause-stand : goal.returns-clause-stand
 returns-clause-stand c = (after c).stand
+
+pub returns-clause-blocks : goal.returns-clause-blocks
+returns-clause-blocks c = ap blocks_in (words c) ∙ delete-blocks c.args.store.now c.args.t c.args.c c.requires (sym c.is_known.ensures ∙ c.if-not-is_known.false)
