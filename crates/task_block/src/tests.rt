@@ -12,7 +12,7 @@ use std::alloc::Global;
 use std::process::Abort;
 use std::test::Fail;
 use store_links::word;
-use word_store::Store;
+use word_store::{NoStoreMemory, Store};
 
 const WORDS: u32 = 1024;
 
@@ -68,7 +68,7 @@ fn number(version: u32, a: u32) -> u32 {
     a.wrapping_add(version).wrapping_sub(111)
 }
 
-fn numbered(alloc: Global, version: u32) -> Result<Store, Fail> {
+fn numbered(alloc: Global, version: u32) -> Result<Store, NoStoreMemory> {
     let mut store = Store::new(alloc, WORDS)?;
     for a in 0..WORDS {
         store.set(a, number(version, a));
@@ -93,7 +93,8 @@ fn the_words_of_a_task_block_by_name(rt: HostRuntime) -> Result<(), Fail> {
     let mut store = numbered(rt.alloc(), 1)?;
     for i in 0..23 {
         let f = FIELDS[i as usize];
-        assert!(rt; f.index() == i && store.size() == WORDS);
+        assert!(rt; f.index() == i);
+        assert!(rt; store.size() == WORDS);
         let before = field(&store, TASK, f);
         assert_eq!(rt; before, number(1, TASK + i));
         set_field(&mut store, TASK, f, CHANGED);
@@ -144,7 +145,9 @@ fn the_words_of_modules(rt: HostRuntime) -> Result<(), Fail> {
         (2, 8, 29),
     ] {
         let mut store = numbered(rt.alloc(), version)?;
-        assert!(rt; 1 <= i && i <= most_modules(&store) && store.size() == WORDS);
+        assert!(rt; 1 <= i);
+        assert!(rt; i <= most_modules(&store));
+        assert!(rt; store.size() == WORDS);
         assert_eq!(rt; module_at(&store, TASK, i), number(version, TASK + offset));
         set_module_at(&mut store, TASK, i, CHANGED);
         assert_changed(&rt, &store, version, TASK + offset);
@@ -153,7 +156,7 @@ fn the_words_of_modules(rt: HostRuntime) -> Result<(), Fail> {
 }
 
 // A store without a task, where numbers go up to the highest.
-fn without_tasks(alloc: Global, words: u32, highest: u32) -> Result<Store, Fail>
+fn without_tasks(alloc: Global, words: u32, highest: u32) -> Result<Store, NoStoreMemory>
     requires words { 184 ≤ words }
     requires highest { highest ≤ 63 }
     ensures tasks { IfOk result (λ store. HasTasksBelow store 184) }
@@ -189,38 +192,36 @@ fn unlink_task(rt: &impl Abort, store: &mut Store, id: u32)
     }
 }
 
-fn assert_tasks(rt: &impl Abort, alloc: Global, store: &Store, wanted: &[u32]) -> Result<(), Fail>
+fn assert_tasks(rt: &impl Abort, store: &Store, wanted: &[u32])
     requires { HasTasks store.now }
 {
-    let found: Vec<u32> = tasks(store).collect(alloc)?;
-    assert_eq!(rt; found.as_slice(), wanted);
-    Ok(())
+    assert!(rt; tasks(store).eq(wanted.iter().copied()));
 }
 
 // A store with the tasks 5, 6 and 8, whose priorities are 100, 300 and 200.
-fn three(rt: &impl Abort, alloc: Global) -> Result<Store, Fail>
+fn three(rt: &impl Abort, alloc: Global) -> Result<Store, NoStoreMemory>
     ensures { IfOk result (λ store. HasTasks store) }
 {
     let mut store = without_tasks(alloc, WORDS, 20)?;
-    insert_above(rt, &mut store, 300, 5, 100);
-    insert_above(rt, &mut store, 400, 6, 300);
-    insert_above(rt, &mut store, 500, 8, 200);
+    insert_above(rt, &mut store, 184, 5, 100);
+    insert_above(rt, &mut store, 207, 6, 300);
+    insert_above(rt, &mut store, 230, 8, 200);
     Ok(store)
 }
 
 #[test]
 fn tasks_come_and_go(rt: HostRuntime) -> Result<(), Fail> {
     let mut one = without_tasks(rt.alloc(), WORDS, 20)?;
-    assert_tasks(&rt, rt.alloc(), &one, &[])?;
-    insert_above(&rt, &mut one, 300, 5, 100);
-    assert_tasks(&rt, rt.alloc(), &one, &[300])?;
+    assert_tasks(&rt, &one, &[]);
+    insert_above(&rt, &mut one, 184, 5, 100);
+    assert_tasks(&rt, &one, &[184]);
     unlink_task(&rt, &mut one, 5);
-    assert_tasks(&rt, rt.alloc(), &one, &[])?;
-    assert_tasks(&rt, rt.alloc(), &three(&rt, rt.alloc())?, &[400, 500, 300])?;
-    for (id, left) in [(6, [500, 300]), (8, [400, 300]), (5, [400, 500])] {
+    assert_tasks(&rt, &one, &[]);
+    assert_tasks(&rt, &three(&rt, rt.alloc())?, &[207, 230, 184]);
+    for (id, left) in [(6, [230, 184]), (8, [207, 184]), (5, [207, 230])] {
         let mut store = three(&rt, rt.alloc())?;
         unlink_task(&rt, &mut store, id);
-        assert_tasks(&rt, rt.alloc(), &store, left.as_slice())?;
+        assert_tasks(&rt, &store, left.as_slice());
         assert_eq!(rt; find(&store, id), None);
     }
     Ok(())
@@ -231,10 +232,10 @@ fn tasks_are_found(rt: HostRuntime) -> Result<(), Fail> {
     let store = three(&rt, rt.alloc())?;
     for (id, t) in [
         (0, None),
-        (5, Some(300)),
-        (6, Some(400)),
+        (5, Some(184)),
+        (6, Some(207)),
         (7, None),
-        (8, Some(500)),
+        (8, Some(230)),
         (20, None),
         (21, None),
     ] {
@@ -255,7 +256,7 @@ fn tasks_are_found(rt: HostRuntime) -> Result<(), Fail> {
 }
 
 // A store with each task from 1 to the highest, their blocks one after another, and each of a higher priority than the one before.
-fn full(rt: &impl Abort, alloc: Global, highest: u32) -> Result<Store, Fail>
+fn full(rt: &impl Abort, alloc: Global, highest: u32) -> Result<Store, NoStoreMemory>
     requires { highest ≤ 63 }
     ensures { IfOk result (λ store. HasTasks store) }
 {
@@ -285,12 +286,13 @@ fn all_numbers_are_used(rt: HostRuntime) -> Result<(), Fail> {
 }
 
 // A store with an empty list.
-fn without_nodes(alloc: Global, head: u32, offset: u32) -> Result<Store, Fail>
+fn without_nodes(alloc: Global, head: u32, offset: u32) -> Result<Store, NoStoreMemory>
     requires { head < 350 }
     ensures list { IfOk result (λ store. HasListBelow store offset head 350) }
     ensures size { IfOk result (λ store. length store ≡ WORDS) }
 {
-    Ok(Store::new(alloc, WORDS)?)
+    let store = Store::new(alloc, WORDS)?;
+    Ok(store)
 }
 
 // Links a node that lies above the others in at the front.
@@ -309,27 +311,23 @@ fn push_above(store: &mut Store, head: u32, offset: u32, node: u32)
 #[test]
 fn modules_are_listed(rt: HostRuntime) -> Result<(), Fail> {
     let mut store = without_nodes(rt.alloc(), 104, 0)?;
-    assert_eq!(rt; modules(&store).next(), None);
-    push_above(&mut store, 104, 0, 400);
-    let one: Vec<u32> = modules(&store).collect(rt.alloc())?;
-    assert_eq!(rt; one.as_slice(), [400].as_slice());
-    push_above(&mut store, 104, 0, 500);
-    push_above(&mut store, 104, 0, 600);
-    let three: Vec<u32> = modules(&store).collect(rt.alloc())?;
-    assert_eq!(rt; three.as_slice(), [600, 500, 400].as_slice());
+    assert!(rt; modules(&store).eq([]));
+    push_above(&mut store, 104, 0, 350);
+    assert!(rt; modules(&store).eq([350]));
+    push_above(&mut store, 104, 0, 351);
+    push_above(&mut store, 104, 0, 352);
+    assert!(rt; modules(&store).eq([352, 351, 350]));
     Ok(())
 }
 
 #[test]
 fn coroutines_are_listed(rt: HostRuntime) -> Result<(), Fail> {
     let mut store = without_nodes(rt.alloc(), TASK + 17, 2)?;
-    assert_eq!(rt; coroutine_list(&store, TASK).next(), None);
-    push_above(&mut store, TASK + 17, 2, 400);
-    let one: Vec<u32> = coroutine_list(&store, TASK).collect(rt.alloc())?;
-    assert_eq!(rt; one.as_slice(), [400].as_slice());
-    push_above(&mut store, TASK + 17, 2, 500);
-    push_above(&mut store, TASK + 17, 2, 600);
-    let three: Vec<u32> = coroutine_list(&store, TASK).collect(rt.alloc())?;
-    assert_eq!(rt; three.as_slice(), [600, 500, 400].as_slice());
+    assert!(rt; coroutine_list(&store, TASK).eq([]));
+    push_above(&mut store, TASK + 17, 2, 350);
+    assert!(rt; coroutine_list(&store, TASK).eq([350]));
+    push_above(&mut store, TASK + 17, 2, 353);
+    push_above(&mut store, TASK + 17, 2, 356);
+    assert!(rt; coroutine_list(&store, TASK).eq([356, 353, 350]));
     Ok(())
 }

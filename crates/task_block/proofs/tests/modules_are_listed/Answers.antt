@@ -5,7 +5,7 @@ pub modules-requires : goal.modules-requires
 modules-requires g c = modules-walk _ 350 c.in_ok-store.ensures.list
 
 pub modules-requires-2 : goal.modules-requires-2
-modules-requires-2 g c = modules-walk _ 401 c.push_above.ensures.list
+modules-requires-2 g c = modules-walk _ 351 c.push_above.ensures.list
 
 pub modules-requires-3 : goal.modules-requires-3
-modules-requires-3 g c = modules-walk _ 601 c.push_above-3.ensures.list
+modules-requires-3 g c = modules-walk _ 353 c.push_above-3.ensures.list
