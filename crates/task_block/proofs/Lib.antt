@@ -3,3 +3,4 @@ pub mod Falling
 pub mod Coming
 pub mod Going
 pub mod Seeking
+pub mod Filling

@@ -11,8 +11,9 @@ use crate::searching::TABLE;
 use store_links::word;
 use word_store::Store;
 
-/// Puts the task at t into the chain, directly after the last task of a higher priority, and into the table. Where
-/// priorities fell along the chain, and none was the same, they still fall.
+/// Puts the task at t into the chain, directly after the last task of a higher priority and at the front where there is
+/// none, and into the table by its number. Written are the task's link, the link or head before it, and its entry of the
+/// table. Where priorities fell along the chain, and none was the same, they still fall.
 pub fn insert(store: &mut Store, t: u32)
     requires tasks { HasTasks store.old }
     requires task { IsNewTask store.old t }
@@ -45,7 +46,8 @@ fn cell_above(store: &Store, t: u32) -> u32
     cell
 }
 
-/// Takes the task at t out of the chain and out of the table.
+/// Takes the task at t out of the chain and out of the table. Written are the link or head before it and its entry of the
+/// table, so the words of its block stay, the link too. Where priorities fell along the chain, they still fall.
 pub fn unlink(store: &mut Store, t: u32)
     requires tasks { HasTasks store.old }
     requires task { has t (tasks_in store.old) ≡ true }

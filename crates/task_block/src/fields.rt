@@ -5,7 +5,7 @@ ghost use Rattle.task_block.specs.TaskWords.{word_index};
 use store_links::word;
 use word_store::Store;
 
-/// The words 0 to 22 of a task block, in order.
+/// The words 0 to 22 of a task block, in order. In version 2 a guest's has 30, the others of which have modules.
 #[derive(Clone, Copy, Debug, PartialEq, Eq)]
 pub enum TcbField {
     /// The next task block of the chain, or 0.
@@ -30,11 +30,17 @@ pub enum TcbField {
     Maker,
     /// Its first module, or 0.
     Module,
+    /// Its register A while it does not run.
     SavedA,
+    /// Its register B while it does not run.
     SavedB,
+    /// Its register C while it does not run.
     SavedC,
+    /// Its register P while it does not run.
     SavedP,
+    /// Its register G while it does not run.
     SavedG,
+    /// Its register PC while it does not run.
     SavedPc,
     /// The newest of its coroutines, or 0.
     FirstCo,
@@ -44,7 +50,9 @@ pub enum TcbField {
     RootP,
     /// The root's PC while a coroutine runs.
     RootPc,
+    /// The code of its fault, or 0 where it has not faulted.
     Extra1,
+    /// The address of its fault, or 0.
     Extra2,
 }
 

@@ -6,6 +6,8 @@ pub mod fields;
 pub mod listing;
 pub mod roots;
 pub mod searching;
+#[cfg(test)]
+mod tests;
 pub mod versions;
 
 pub use chain::{insert, unlink};

@@ -14,7 +14,7 @@ pub(crate) const TABLE: u32 = 120;
 /// The lowest number of a guest.
 const FIRST_GUEST: u32 = 5;
 
-/// The task block of the task with that number; `None` exactly where there is no such task.
+/// The address of the task block of the task with that number; `None` exactly where there is no such task.
 pub fn find(store: &Store, id: u32) -> Option<u32>
     requires { HasTasks store.now }
     ensures { result ≡ task_with store.now id (tasks_in store.now) }
@@ -28,7 +28,7 @@ pub fn find(store: &Store, id: u32) -> Option<u32>
     }
 }
 
-/// The lowest number from 5 on that no task has; `None` exactly where tasks have them all.
+/// The lowest number from 5 to the highest that no task has; `None` exactly where tasks have them all.
 pub fn free_id(store: &Store) -> Option<u32>
     requires { HasTasks store.now }
     ensures { result ≡ lowest_free_id store.now }
@@ -41,7 +41,8 @@ pub fn free_id(store: &Store) -> Option<u32>
     None
 }
 
-/// Whether a task with another number than `except` has the priority.
+/// Whether a task with another number than `except` has the priority. No task has the number 0, so with 0 it is whether any
+/// task has it.
 pub fn priority_used(store: &Store, pri: u32, except: u32) -> bool
     requires { HasTasks store.now }
     ensures { result ≡ is_priority_used store.now pri except }

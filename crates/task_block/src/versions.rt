@@ -9,7 +9,7 @@ use word_store::Store;
 /// Where the highest number of a task stands.
 const HIGHEST_ID: u32 = 120;
 
-/// The highest number that a task may have.
+/// The highest number that a task may have, which word 120 holds: 20, or 63 in version 2.
 pub fn highest_id(store: &Store) -> u32
     ensures { result ≡ highest_id store.now }
 {
@@ -38,7 +38,8 @@ pub fn most_modules(store: &Store) -> u32
     }
 }
 
-/// The i-th module of the task at t, from 1, or 0.
+/// The i-th module of the task at t, from 1, or 0 where the task has fewer. It is in word 10 of the task block, and from
+/// the second on in word 21 + i.
 pub fn module_at(store: &Store, t: u32, i: u32) -> u32
     requires number { 1 ≤ i }
     requires most { i ≤ most_modules store.now }
@@ -49,7 +50,7 @@ pub fn module_at(store: &Store, t: u32, i: u32) -> u32
     word(store, t + module_index(i))
 }
 
-/// Sets the word of the i-th module of the task at t, from 1, and no other.
+/// Sets the word that has the i-th module of the task at t, from 1, and no other.
 pub fn set_module_at(store: &mut Store, t: u32, i: u32, w: u32)
     requires number { 1 ≤ i }
     requires most { i ≤ most_modules store.old }
