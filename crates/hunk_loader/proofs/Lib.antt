@@ -4,3 +4,7 @@ pub mod PlacedHunks
 pub mod ModuleBlocks
 pub mod LoadedModules
 pub mod UnloadedModules
+pub mod TextModules
+pub mod GlobalLists
+pub mod Loads
+pub mod HunkWalk

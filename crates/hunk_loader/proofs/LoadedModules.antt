@@ -1,5 +1,5 @@
 -- The modules of a store after a load.
-use Rattle.std.proofs.Common.{◌≡◌, ◌≢◌, ◌⊎◌, inl, inr, ◌∙◌, ℕ, suc, ◌+◌, ◌-◌, ◌*◌, ◌/◌, ◌<◌, ◌≤◌, List, [], ◌∷◌, ◌++◌, length, map, get_or, set, Some, None, refl, sym, ap, subst, arith, add-zero, length-append, length-set, get_or-set_other, get_or-set_same}
+use Rattle.std.proofs.Common.{◌≡◌, ◌≢◌, ◌⊎◌, inl, inr, ◌∙◌, ℕ, ◌+◌, ◌-◌, ◌<◌, ◌≤◌, List, [], ◌∷◌, ◌++◌, length, get_or, set, Some, None, refl, sym, ap, subst, arith, add-zero, length-append, length-set, get_or-set_other}
 use Rattle.std.specs.Prelude.{slice_range, sum}
 use Rattle.std.specs.List.{AllByRecursion}
 use Rattle.std.proofs.lemmas.Bool.{cases_eq, cases_lt}
@@ -9,28 +9,29 @@ use Rattle.hunk_text.specs.Shapes.{words_in}
 use Rattle.hunk_text.specs.declared.modules.Hunk.{Hunk}
 use Rattle.store_model.specs.declared.blocks.Block.{Block}
 use Rattle.store_model.specs.Block.{block_end, used_block}
-use Rattle.store_model.specs.Chain.{cells, list_at}
+use Rattle.store_model.specs.Chain.{list_at}
 use Rattle.store_model.specs.Changed.{InsertedAt}
-use Rattle.store_model.specs.Count.{IsApart, hit, node_words, times, words_of}
-use Rattle.store_model.specs.Linked.{HasList, IsFresh}
+use Rattle.store_model.specs.Count.{IsApart, node_words, times, words_of}
+use Rattle.store_model.specs.Linked.{IsFresh}
 use Rattle.store_model.specs.Placing.{linked_in}
 use Rattle.store_model.specs.Row.{with_words}
 use Rattle.store_model.specs.Run.{need}
 use Rattle.store_model.specs.Take.{IsTaken, taken}
 use Rattle.store_model.specs.Tiling.{IsTiled, blocks_in, used_at}
 use Rattle.store_model.proofs.AfterTake.{AfterTake, after_take}
-use Rattle.store_model.proofs.Counts.{IsApart-cons, hit-le, hit-other, hit-same}
+use Rattle.store_model.proofs.Counts.{IsApart-cons, hit-le, hit-other}
 use Rattle.store_model.proofs.Frames.{list-same}
 use Rattle.store_model.proofs.Lists.{BecomesList, list-push, list-pushed}
+use Rattle.store_model.proofs.Members.{all-has, times-has}
 use Rattle.store_model.proofs.Row.{IsOutside, get_or-with_words, get_or-with_words_outside, length-with_words, range-with_words, range_same, with_words-append}
-use Rattle.store_model.proofs.UsedBlocks.{AreApart, used_at-is}
-use Rattle.store_model.proofs.Writes.{SameBlocks, SameBlocks-set_below, SameBlocks-then, SameBlocks-used}
+use Rattle.store_model.proofs.UsedBlocks.{AreApart}
+use Rattle.store_model.proofs.Writes.{SameBlocks, SameBlocks-set_below, SameBlocks-used}
 use Rattle.task_block.specs.Lists.{module_link, modules_in}
 use Rattle.hunk_loader.specs.ModuleRow.{hunks_image, last_word, lengths_of, module_row}
 use Rattle.hunk_loader.specs.Modules.{HasModules, IsModuleAt}
 use Rattle.hunk_loader.specs.Relocated.{relocated}
 use Rattle.hunk_loader.specs.Placed.{hunk_count, lengths_in}
-use Rattle.hunk_loader.proofs.ModuleBlocks.{all_map, all_times, cell_at, in_block, linked, module-same, no_block, one_word, stands, times-one}
+use Rattle.hunk_loader.proofs.ModuleBlocks.{all_map, cell_at, in_block, linked, module-same, no_block, one_word, stands, times-one}
 use Rattle.hunk_loader.proofs.PlacedHunks.{words_in-cons}
 use Rattle.hunk_loader.proofs.Relocated.{length-relocated}
 
@@ -89,41 +90,57 @@ placed s t0 m hunks tiled h =
   where
     u : ℕ
     u = last_word hunks
+
     link : ℕ
     link = get_or s 104 0
+
     row : List ℕ
     row = module_row link m hunks
+
     t1 : List ℕ
     t1 = with_words t0 m row
+
     k : AfterTake s t0 u m
     k = after_take s t0 u m tiled h
+
     b : Block
     b = used_block (m - 1) (need u)
+
     many : length row ≡ 1 + u
     many = length-row link m hunks
+
     size : length t1 ≡ length t0
     size = length-with_words t0 m row
+
     end : m + length row ≤ block_end b
     end = omega (arith, many, k.low)
+
     fits : m + length row ≤ length t0
     fits = omega (arith, end, k.inside, k.same_length)
+
     inside : m + 1 + u + 2 ≤ length s
     inside = omega (arith, many, end, k.inside)
+
     outside : (a : ℕ) → (m ≤ a → block_end b ≤ a) → get_or t1 a 0 ≡ get_or t0 a 0
     outside a out = get_or-with_words_outside t0 m row a (by (cases_lt a m))
       where
         by : (a < m) ⊎ (m ≤ a) → IsOutside a m (length row)
         by (inl low) = inl low
         by (inr high) = inr (omega (arith, end, out high))
+
     same : SameBlocks t0 t1
     same = SameBlocks-used t0 t1 m b k.tiled k.is_used size outside
+
     apart : (c : Block) → AreApart c b → (a : ℕ) → c.start ≤ a → a < block_end c → m ≤ a → block_end b ≤ a
     apart c (inl before) a low high above = absurd (omega (arith, k.low))
     apart c (inr after) a low high above = omega arith
+
     first : get_or t1 m 0 ≡ link
     first = ap (λ (a : ℕ). get_or t1 a 0) (sym (add-zero m)) ∙ get_or-with_words t0 m row 0 (omega (arith, many)) fits
+
     second : hunk_count t1 m ≡ length hunks
     second = get_or-with_words t0 m row 1 (omega (arith, many)) fits
+
     lengths : slice_range t1 (m + 2) (m + 2 + length hunks) ≡ lengths_of hunks
     lengths =
         let base = m + 2 + length hunks in
@@ -139,15 +156,16 @@ placed s t0 m hunks tiled h =
         let long' : length q ≡ length r = length-with_words r (m + 2) (lengths_of hunks) in
         ap (λ (x : List ℕ). slice_range x (m + 2) (m + 2 + length hunks)) all
         ∙ range_same q (with_words q base image) (m + 2) (length hunks) (omega (arith, inside, k.same_length)) (omega (arith, length-with_words q base image, inside, k.same_length))
-            (λ i low high. get_or-with_words_outside q base image i (inl high))
+        (λ i low high. get_or-with_words_outside q base image i (inl high))
         ∙ ap (λ (x : ℕ). slice_range q (m + 2) (m + 2 + x)) (sym n)
         ∙ range-with_words r (m + 2) (lengths_of hunks) (omega (arith, n, inside, k.same_length))
 
 -- ---- and its address put into word 104
 
-pub record Loaded (s t : List ℕ) (m : ℕ) : Type 0 where
+pub record Loaded (s t : List ℕ) (u m : ℕ) : Type 0 where
   pub modules : modules_in t ≡ m ∷ modules_in s
   pub stands : HasModules t
+  pub blocks : blocks_in t ≡ taken (need u) (blocks_in s)
 
 old_module : (s t1 : List ℕ) (m : ℕ) (hunks : List Hunk) → IsTiled s → Placed s t1 m hunks → (n : ℕ) → IsModuleAt s n → get_or t1 n 0 ≡ get_or s n 0
 old_module s t1 m hunks tiled p n h =
@@ -160,7 +178,7 @@ list_kept s t1 m hunks h p = list-same s t1 module_link one_word 104 (linked s h
   where
     by : (a : ℕ) → (a ≡ 104) ⊎ (0 < times a (modules_in s)) → get_or t1 a 0 ≡ get_or s a 0
     by a (inl head) = p.below a (omega arith)
-    by a (inr some) = old_module s t1 m hunks h.tiled p a (all_times (IsModuleAt s) (modules_in s) a h.modules some)
+    by a (inr some) = old_module s t1 m hunks h.tiled p a (all-has (IsModuleAt s) a (modules_in s) h.modules (times-has a (modules_in s) some))
 
 -- the new module is none of them
 is_fresh : (s t1 : List ℕ) (m : ℕ) (hunks : List Hunk) → HasModules s → Placed s t1 m hunks → IsFresh t1 module_link one_word 104 (modules_in s) m
@@ -177,36 +195,46 @@ is_fresh s t1 m hunks h p =
         omega (arith, hit-le a m, times-one a (modules_in s), hit-other a 104 (λ e. absurd (omega (arith, p.above))))
     by a (inr differ) = omega (arith, hit-other a m differ, (linked s h).apart a)
 
-pub load_stands : (s t1 : List ℕ) (m : ℕ) (hunks : List Hunk) → HasModules s → Placed s t1 m hunks → Loaded s (set t1 104 m) m
+pub load_stands : (s t1 : List ℕ) (m : ℕ) (hunks : List Hunk) → HasModules s → Placed s t1 m hunks → Loaded s (set t1 104 m) (last_word hunks) m
 load_stands s t1 m hunks h p =
-    record { modules = list; stands = stands t (m ∷ modules_in s) blocks.tiled now.stands list (new, old) apart }
+    record { modules = list; stands = stands t (m ∷ modules_in s) blocks.tiled now.stands list (new, old) apart; blocks = blocks.blocks ∙ p.taken }
   where
     t : List ℕ
     t = set t1 104 m
+
     kept : BecomesList t1 module_link one_word 104 (modules_in s)
     kept = list_kept s t1 m hunks h p
+
     fresh : IsFresh t1 module_link one_word 104 (list_at t1 module_link 104) m
     fresh = subst (λ ms. IsFresh t1 module_link one_word 104 ms m) (sym kept.list) (is_fresh s t1 m hunks h p)
+
     words : linked_in t1 module_link 104 m ≡ t
     words =
         let same : get_or t1 104 0 ≡ get_or t1 m 0 = p.below 104 (omega arith) ∙ sym p.link in
         ap (λ (w : ℕ). set (set t1 m w) 104 m) same ∙ ap (λ (x : List ℕ). set x 104 m) (set-get_or t1 m 0)
+
     now : BecomesList t module_link one_word 104 (m ∷ list_at t1 module_link 104)
     now = list-push t1 t module_link one_word 104 m kept.stands fresh
         (subst (λ x. InsertedAt t1 x module_link one_word 104 m) words (list-pushed t1 module_link one_word 104 m kept.stands fresh))
+
     list : modules_in t ≡ m ∷ modules_in s
     list = now.list ∙ ap (λ (ms : List ℕ). m ∷ ms) kept.list
+
     blocks : SameBlocks t1 t
     blocks = SameBlocks-set_below t1 104 m p.tiled (omega arith)
+
     size : length t ≡ length s
     size = length-set t1 104 m ∙ p.same_length
+
     other : (a : ℕ) → 104 < a → get_or t a 0 ≡ get_or t1 a 0
     other a above = get_or-set_other t1 104 a m 0 (λ e. absurd (omega arith))
+
     old : AllByRecursion (IsModuleAt t) (modules_in s)
     old = all_map (IsModuleAt s) (IsModuleAt t) (modules_in s) h.modules (λ n some k.
-      (let b = in_block s n h.tiled k in
-      module-same s t n h.tiled k size (ap (used_at n) blocks.blocks ∙ p.kept n k.block k.used)
-      (λ a low high. other a (omega (arith, b.above)) ∙ p.words n k.block k.used a (omega (arith, b.start)) high)))
+        (let b = in_block s n h.tiled k in
+        module-same s t n h.tiled k size (ap (used_at n) blocks.blocks ∙ p.kept n k.block k.used)
+        (λ a low high. other a (omega (arith, b.above)) ∙ p.words n k.block k.used a (omega (arith, b.start)) high)))
+
     new : IsModuleAt t m
     new =
         let u = last_word hunks in
@@ -220,5 +248,6 @@ load_stands s t1 m hunks h p =
         = ap (λ (n : ℕ). 1 + n + sum (lengths_in t m)) count ∙ ap (λ (ns : List ℕ). 1 + length hunks + sum ns) lengths
         ∙ ap (λ (n : ℕ). 1 + length hunks + n) (sum-map (λ (x : Hunk). length x.words) hunks) in
         record { block = used_block (m - 1) (need u); used = ap (used_at m) blocks.blocks ∙ p.blocks; size = ap need (sym all) }
+
     apart : IsApart (m ∷ modules_in s)
     apart = IsApart-cons m (modules_in s) (no_block s (modules_in s) m h.modules p.fresh) h.apart

@@ -1,15 +1,13 @@
 -- The modules of a store, as used blocks and as a linked list.
-use Rattle.std.proofs.Common.{◌≡◌, ◌≢◌, ◌⊎◌, inl, inr, ◌∙◌, ℕ, ◌+◌, ◌*◌, ◌/◌, ◌<◌, ◌≤◌, List, [], ◌∷◌, ◌++◌, length, get_or, set, eqb, Bool, true, false, ◌||◌, Some, None, refl, sym, ap, subst, arith}
+use Rattle.std.proofs.Common.{◌≡◌, ◌≢◌, ◌⊎◌, inl, inr, ◌∙◌, ℕ, ◌+◌, ◌<◌, ◌≤◌, List, [], ◌∷◌, length, get_or, Some, None, refl, sym, ap, subst, arith, set, get_or-set_same}
 use Rattle.std.specs.Prelude.{slice_range, sum}
-use Rattle.std.specs.List.{AllByRecursion, list_any}
+use Rattle.std.specs.List.{AllByRecursion}
 use Rattle.std.proofs.lemmas.Bool.{cases_eq}
-use Rattle.std.proofs.lemmas.Bool.Decides.{nat_tests}
 use Rattle.store_model.specs.declared.blocks.Block.{Block}
 use Rattle.store_model.specs.Block.{block_end}
-use Rattle.store_model.specs.Chain.{IsChain, cells, list_at}
-use Rattle.store_model.specs.Count.{IsApart, hit, times, words_of}
-use Rattle.store_model.specs.Linked.{HasList, IsLinked, IsNode}
-use Rattle.store_model.specs.Placing.{has}
+use Rattle.store_model.specs.Chain.{IsChain, cells}
+use Rattle.store_model.specs.Count.{IsApart, times, words_of}
+use Rattle.store_model.specs.Linked.{HasList, IsNode}
 use Rattle.store_model.specs.Run.{need}
 use Rattle.store_model.specs.Tiling.{IsTiled, blocks_in, used_at}
 use Rattle.store_model.proofs.Chains.{times-cells}
@@ -17,7 +15,8 @@ use Rattle.store_model.proofs.Tilings.{IsTiled-inside}
 use Rattle.store_model.proofs.Walks.{walk-ends}
 use Rattle.store_model.proofs.Counts.{IsApart-cons, hit-other, hit-same, times-words_more}
 use Rattle.store_model.proofs.Row.{range_same}
-use Rattle.store_model.proofs.UsedBlocks.{AreApart, UsedBlock, used_at-apart, used_at-is}
+use Rattle.store_model.proofs.UsedBlocks.{AreApart, used_at-apart, used_at-is}
+use Rattle.store_model.proofs.Writes.{SameBlocks-set_below}
 use Rattle.task_block.specs.Lists.{module_link, modules_in}
 use Rattle.hunk_loader.specs.Modules.{HasModules, IsModuleAt}
 use Rattle.hunk_loader.specs.Placed.{hunk_count, lengths_in, module_end}
@@ -73,23 +72,6 @@ pub all_map : (P Q : ℕ → Type 0) (ms : List ℕ) → AllByRecursion P ms →
 all_map P Q [] a f = tt
 all_map P Q (m ∷ ms) a f = (f m (omega (arith, hit-same m m refl)) a.0, all_map P Q ms a.1 (λ n some p. f n (omega arith) p))
 
--- one of the list
-pub all_times : (P : ℕ → Type 0) (ms : List ℕ) (m : ℕ) → AllByRecursion P ms → 0 < times m ms → P m
-all_times P [] m a some = absurd (omega arith)
-all_times P (n ∷ ns) m a some = on (cases_eq m n) (all_times P ns m a.1)
-  where
-    on : (m ≡ n) ⊎ (m ≢ n) → (0 < times m ns → P m) → P m
-    on (inl same) more = subst P (sym same) a.0
-    on (inr differ) more = more (omega (arith, hit-other m n differ))
-
-pub times-has : (ms : List ℕ) (m : ℕ) → has m ms ≡ true → 0 < times m ms
-times-has [] m e = cc
-times-has (n ∷ ns) m e = on (eqb m n) refl e (times-has ns m)
-  where
-    on : (b : Bool) → eqb m n ≡ b → (b || has m ns) ≡ true → (has m ns ≡ true → 0 < times m ns) → 0 < times m (n ∷ ns)
-    on true t k more = omega (arith, hit-same m n (grind (arith, nat_tests)))
-    on false t k more = omega (arith, more k)
-
 -- no module stands below the first block's data
 times-low : (s : List ℕ) (ms : List ℕ) (a : ℕ) → IsTiled s → AllByRecursion (IsModuleAt s) ms → a < 201 → times a ms ≡ 0
 times-low s [] a t h low = refl
@@ -120,6 +102,7 @@ linked s h =
   where
     inside : 104 < length s
     inside = omega (arith, IsTiled-inside s h.tiled)
+
     apart : IsApart (104 ∷ words_of one_word (modules_in s))
     apart = IsApart-cons 104 (words_of one_word (modules_in s)) (times-one 104 (modules_in s) ∙ times-low s (modules_in s) 104 h.tiled h.modules (omega arith))
         (λ a. omega (arith, times-one a (modules_in s), h.apart a))
@@ -172,3 +155,9 @@ stands-none s tiled none =
     let P : List ℕ → Type 0 = λ xs. IsChain s module_link 104 xs in
     let Q : List ℕ → Type 0 = λ xs. AllByRecursion (IsModuleAt s) xs in
     record { tiled = tiled; chain = subst P (sym empty) none; modules = subst Q (sym empty) tt; apart = subst IsApart (sym empty) (λ a. omega arith) }
+
+-- so where word 104 is cleared
+pub stands-cleared : (s t : List ℕ) → IsTiled s → t ≡ set s 104 0 → HasModules t
+stands-cleared s t tiled words =
+    let inside = IsTiled-inside s tiled in
+    subst HasModules (sym words) (stands-none (set s 104 0) (SameBlocks-set_below s 104 0 tiled (omega arith)).tiled (get_or-set_same s 104 0 0 (omega arith)))

@@ -175,6 +175,17 @@ hunks_more text s t place at base many left end result l f n e r =
           ∙ sym (more_all s at base h f.hs (omega arith)) ∙ subst P f.is l.all;
     }
 
+-- the same, by the numbers that the calls gave
+pub hunks_then : (text s t u : List ℕ) (place at next base n many left end : ℕ) (result : List ℕ) (l : HunksLeft text s place at base many result) (f : HunkFirst text place l.hunks left) → many ≡ suc left
+    → t ≡ with_words s base (relocated base f.h.words f.h.relocations) → Reads text end f.others → n ≡ length f.h.words → next ≡ at + 1 → u ≡ set t at n
+    → HunksLeft text u end next (base + n) left result
+hunks_then text s t u place at next base n many left end result l f some e r count one put =
+    let more = hunks_more text s t place at base many left end result l f some e r in
+    let P : ℕ → Type 0 = λ x. HunksLeft text (set t at x) end (at + 1) (base + x) left result in
+    let Q : ℕ → Type 0 = λ x. HunksLeft text (set t at n) end x (base + n) left result in
+    let R : List ℕ → Type 0 = λ x. HunksLeft text x end next (base + n) left result in
+    subst R (sym put) (subst Q (sym one) (subst P (sym count) more))
+
 done_by : (s : List ℕ) (at base left : ℕ) (hunks : List Hunk) (result : List ℕ) → length hunks ≡ left → left ≡ 0 → with_words (with_words s base (hunks_image base hunks)) at (lengths_of hunks) ≡ result → s ≡ result
 done_by s at base left [] result m z a = a
 done_by s at base left (h ∷ hs) result m z a = absurd (omega arith)

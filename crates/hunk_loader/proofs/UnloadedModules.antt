@@ -1,26 +1,25 @@
 -- The modules of a store after one was unloaded.
-use Rattle.std.proofs.Common.{◌≡◌, ◌≢◌, ◌⊎◌, inl, inr, ◌∙◌, ℕ, ◌+◌, ◌-◌, ◌<◌, ◌≤◌, List, [], ◌∷◌, ◌++◌, length, get_or, set, eqb, cond, Bool, true, false, ◌||◌, Some, None, refl, sym, ap, subst, arith, length-set, get_or-set_other}
-use Rattle.std.specs.List.{AllByRecursion, list_any}
+use Rattle.std.proofs.Common.{◌≡◌, ◌≢◌, ◌⊎◌, inl, inr, ◌∙◌, ℕ, ◌+◌, ◌-◌, ◌<◌, ◌≤◌, List, [], ◌∷◌, length, get_or, set, eqb, cond, Bool, true, false, Some, refl, sym, ap, subst, arith, length-set, get_or-set_other}
+use Rattle.std.specs.List.{AllByRecursion}
 use Rattle.std.proofs.lemmas.Bool.{cases_eq}
 use Rattle.std.proofs.lemmas.Bool.Decides.{nat_tests}
-use Rattle.store_model.specs.declared.blocks.Block.{Block}
 use Rattle.store_model.specs.Block.{block_end}
 use Rattle.store_model.specs.Chain.{cells, list_at}
-use Rattle.store_model.specs.Count.{IsApart, hit, times}
-use Rattle.store_model.specs.Give.{given, given_store}
-use Rattle.store_model.specs.Linked.{HasList}
+use Rattle.store_model.specs.Count.{IsApart, times}
+use Rattle.store_model.specs.Give.{given_store}
 use Rattle.store_model.specs.Placing.{cell_before, has, linked_out, without}
-use Rattle.store_model.specs.Tiling.{IsTiled, blocks_in, used_at}
+use Rattle.store_model.specs.Tiling.{blocks_in, used_at}
 use Rattle.store_model.proofs.AfterGive.{AfterGive, after_give}
 use Rattle.store_model.proofs.Chains.{times-cells}
 use Rattle.store_model.proofs.Counts.{hit-other, hit-same}
 use Rattle.store_model.proofs.Frames.{list-set}
 use Rattle.store_model.proofs.Lists.{BecomesList, list-remove, list-removed}
-use Rattle.store_model.proofs.UsedBlocks.{AreApart, used_at-is}
+use Rattle.store_model.proofs.Members.{all-has, times-has}
+use Rattle.store_model.proofs.UsedBlocks.{AreApart}
 use Rattle.store_model.proofs.Writes.{SameBlocks, SameBlocks-set_below, SameBlocks-set_used}
 use Rattle.task_block.specs.Lists.{module_link, modules_in}
 use Rattle.hunk_loader.specs.Modules.{HasModules, IsModuleAt}
-use Rattle.hunk_loader.proofs.ModuleBlocks.{InBlock, all_map, all_times, in_block, linked, module-same, modules-apart, no_cell, no_module, one_word, stands, times-has, times-one}
+use Rattle.hunk_loader.proofs.ModuleBlocks.{InBlock, all_map, in_block, linked, module-same, modules-apart, no_module, one_word, stands, times-one}
 
 -- ---- the list without one of its members
 
@@ -54,7 +53,7 @@ cell-among [] m at = inl refl
 cell-among (n ∷ ns) m at = on (eqb m n) (cell-among ns m n)
   where
     on : (b : Bool) → (cell_before module_link m n ns ≡ n) ⊎ (0 < times (cell_before module_link m n ns) ns)
-      → (cond b at (cell_before module_link m n ns) ≡ at) ⊎ (0 < times (cond b at (cell_before module_link m n ns)) (n ∷ ns))
+        → (cond b at (cell_before module_link m n ns) ≡ at) ⊎ (0 < times (cond b at (cell_before module_link m n ns)) (n ∷ ns))
     on true later = inl refl
     on false (inl same) = inr (omega (arith, hit-same (cell_before module_link m n ns) n same))
     on false (inr some) = inr (omega arith)
@@ -79,15 +78,18 @@ out_linked s m h e =
     record { here = k; blocks = same; used = ap (used_at m) same.blocks ∙ k.used }
   where
     k : IsModuleAt s m
-    k = all_times (IsModuleAt s) (modules_in s) m h.modules (times-has (modules_in s) m e)
+    k = all-has (IsModuleAt s) m (modules_in s) h.modules e
+
     cell : ℕ
     cell = cell_before module_link m 104 (modules_in s)
+
     by : (cell ≡ 104) ⊎ (0 < times cell (modules_in s)) → SameBlocks s (linked_out s module_link cell m)
     by (inl head) = SameBlocks-set_below s cell (get_or s m 0) h.tiled (omega arith)
     by (inr some) =
-        let c = all_times (IsModuleAt s) (modules_in s) cell h.modules some in
+        let c = all-has (IsModuleAt s) cell (modules_in s) h.modules (times-has cell (modules_in s) some) in
         let b = in_block s cell h.tiled c in
         SameBlocks-set_used s cell cell (get_or s m 0) c.block h.tiled c.used (omega arith) (omega (arith, b.few))
+
     same : SameBlocks s (linked_out s module_link cell m)
     same = by (cell-where s m)
 
@@ -97,28 +99,40 @@ unload_stands s t m h e words =
   where
     rest : List ℕ
     rest = without m (modules_in s)
+
     cell : ℕ
     cell = cell_before module_link m 104 (modules_in s)
+
     r : List ℕ
     r = linked_out s module_link cell m
+
     l : LinkedOut s m
     l = out_linked s m h e
+
     k : IsModuleAt s m
     k = l.here
+
     g : AfterGive r t m k.block
     g = after_give r t m k.block l.blocks.tiled l.used words
+
     long : length r ≡ length s
     long = length-set s cell (get_or s m 0)
+
     first : BecomesList r module_link one_word 104 rest
     first = list-remove s r module_link one_word 104 m (linked s h) e (list-removed s module_link one_word 104 m (linked s h) e)
+
     b : InBlock s m k.block
     b = in_block s m h.tiled k
+
     start : m - 1 ≡ k.block.start
     start = omega (arith, b.start)
+
     size_word : times k.block.start (modules_in s) ≡ 0
     size_word = no_module s (modules_in s) m k.block h.tiled h.modules k.used
+
     above : 201 ≤ m
     above = b.above
+
     no_link : times (m - 1) (cells module_link 104 (list_at r module_link 104)) ≡ 0
     no_link =
         let at = m - 1 in
@@ -131,47 +145,59 @@ unload_stands s t m h e words =
           times-without (modules_in s) m at,
           hit-other at 104 (λ e. absurd (omega (arith, above))),
         )
+
     now : BecomesList t module_link one_word 104 rest
     now =
         let w = get_or r (m - 1) 0 + 1 in
         let given : BecomesList (set r (m - 1) w) module_link one_word 104 (list_at r module_link 104) = list-set r module_link one_word 104 (m - 1) w first.stands no_link in
         subst (λ x. BecomesList x module_link one_word 104 rest) (sym words) (subst (λ ms. BecomesList (set r (m - 1) w) module_link one_word 104 ms) first.list given)
+
     list : modules_in t ≡ rest
     list = now.list
+
     long' : length t ≡ length s
     long' = g.same_length ∙ long
+
     -- a word of another module, after its link, is neither the word before this one nor its size word
     no_cell_word : (n a : ℕ) (kn : IsModuleAt s n) → n < a → a < block_end kn.block → a ≢ cell
     no_cell_word n a kn low high = by (cell-where s m)
       where
         bn : InBlock s n kn.block
         bn = in_block s n h.tiled kn
+
         by : (cell ≡ 104) ⊎ (0 < times cell (modules_in s)) → a ≢ cell
         by (inl head) = λ e. absurd (omega (arith, bn.above))
         by (inr some) = among (cases_eq n cell)
           where
             kc : IsModuleAt s cell
-            kc = all_times (IsModuleAt s) (modules_in s) cell h.modules some
+            kc = all-has (IsModuleAt s) cell (modules_in s) h.modules (times-has cell (modules_in s) some)
+
             bc : InBlock s cell kc.block
             bc = in_block s cell h.tiled kc
+
             apart_by : AreApart kn.block kc.block → a ≢ cell
             apart_by (inl before) = λ e. absurd (omega (arith, bn.start, bc.start))
             apart_by (inr after) = λ e. absurd (omega (arith, bn.start, bc.start, bc.few))
+
             among : (n ≡ cell) ⊎ (n ≢ cell) → a ≢ cell
             among (inl same) = λ e. absurd (omega arith)
             among (inr differ) = apart_by (modules-apart s n cell h.tiled kn kc differ)
+
     no_size_word : (n a : ℕ) (kn : IsModuleAt s n) → n ≢ m → n < a → a < block_end kn.block → a ≢ k.block.start
     no_size_word n a kn differ low high = apart_by (modules-apart s n m h.tiled kn k differ)
       where
         bn : InBlock s n kn.block
         bn = in_block s n h.tiled kn
+
         apart_by : AreApart kn.block k.block → a ≢ k.block.start
         apart_by (inl before) = λ e. absurd (omega arith)
         apart_by (inr after) = λ e. absurd (omega (arith, bn.start, b.start, b.few))
+
     other : (n : ℕ) → 0 < times n rest → IsModuleAt s n → IsModuleAt t n
     other n some kn =
         let differ : n ≢ m = λ e. absurd (omega (arith, some, ap (λ (x : ℕ). times x rest) e, times-out (modules_in s) m h.apart)) in
         module-same s t n h.tiled kn long' (g.others n differ ∙ ap (used_at n) l.blocks.blocks ∙ kn.used) (λ a low high.
-          g.words a (no_size_word n a kn differ low high) ∙ get_or-set_other s cell a (get_or s m 0) 0 (no_cell_word n a kn low high))
+        g.words a (no_size_word n a kn differ low high) ∙ get_or-set_other s cell a (get_or s m 0) 0 (no_cell_word n a kn low high))
+
     all : AllByRecursion (IsModuleAt t) rest
     all = all_map (IsModuleAt s) (IsModuleAt t) rest (all-without (IsModuleAt s) (modules_in s) m h.modules) other

@@ -24,17 +24,17 @@ pub record Global : Type 0 where
 abbrev pub global : ℕ → ℕ → Global
 global number value = record { number = number; value = value }
 
--- the global of a pair: its value is the byte address at that offset in the hunk. Other numbers are passed over.
-abbrev pub global_of_pair : ℕ → ℕ → ℕ → List Global
-global_of_pair base number offset =
-    if nat_le 1 number && nat_le number most_globals then global number (add (mul 4 base) offset) ∷ [] else []
+-- a number from 1 to the highest is that of a global; others are passed over
+abbrev pub global_of_number : ℕ → ℕ → List Global
+global_of_number number value = if nat_le 1 number && nat_le number most_globals then global number value ∷ [] else []
 
--- the globals of pairs (number, offset), of which the words are read from the last one back, up to an offset 0 or too few words
+-- the globals of pairs (number, offset), of which the words are read from the last one back, up to an offset 0 or too few
+-- words. A global's value is the byte address at that offset in the hunk.
 abbrev pub globals_of_pairs : ℕ → List ℕ → List Global
 globals_of_pairs base [] = []
 globals_of_pairs base (offset ∷ []) = []
 globals_of_pairs base (offset ∷ number ∷ before) =
-    if offset == 0 then [] else global_of_pair base number offset ++ globals_of_pairs base before
+    if offset == 0 then [] else global_of_number number (add (mul 4 base) offset) ++ globals_of_pairs base before
 
 -- the pairs stand before the highest number; where that is 0, or there are no words, there are none
 abbrev pub globals_back : ℕ → List ℕ → List Global

@@ -5,3 +5,4 @@ pub mod Placed
 pub mod Modules
 pub mod Loading
 pub mod Globals
+pub mod GlobalWords

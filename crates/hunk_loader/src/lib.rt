@@ -2,6 +2,14 @@
 #![tactic(auto)]
 
 mod copying;
-mod loading;
+pub mod globals;
+pub mod loading;
 mod placing;
 mod relocating;
+#[cfg(test)]
+mod tests;
+pub mod unloading;
+
+pub use globals::{globals_fit, init_globals};
+pub use loading::{LoadEnd, load};
+pub use unloading::{NoModule, unload};

@@ -43,13 +43,13 @@ fn place_hunks<X: TextBytes>(text: &X, store: &mut Store, m: u32, count: u32)
 
 // The number of a hunk's words, and the place after its relocation lists.
 #[derive(Clone, Copy)]
-struct PlacedHunk {
+struct ReadHunk {
     length: u32,
     end: u32,
 }
 
 // Puts a hunk's words at the base, and relocates them.
-fn place_hunk<X: TextBytes>(text: &X, from: u32, store: &mut Store, base: u32) -> PlacedHunk
+fn place_hunk<X: TextBytes>(text: &X, from: u32, store: &mut Store, base: u32) -> ReadHunk
     requires hunk { (h : Hunk) × (others : List ℕ) × HunkFollows (X.text text.now) from h others × (base + length h.words ≤ length store.old) }
     requires addresses { length store.old < 2 ^ 32 }
     ensures words { (h : Hunk) (others : List ℕ) → HunkFollows (X.text text.now) from h others → base + length h.words ≤ length store.old
@@ -61,7 +61,7 @@ fn place_hunk<X: TextBytes>(text: &X, from: u32, store: &mut Store, base: u32) -
     let count = read_word(text, kind.end);
     let lists = copy_words(text, count.end, store, base, base + count.word);
     let end = relocate(text, lists, store, base);
-    PlacedHunk {
+    ReadHunk {
         length: count.word,
         end,
     }

@@ -15,7 +15,7 @@ pub mod tokens;
 
 pub use checking::{Shape, check_module};
 pub use ends::HunkEnd;
-pub use grammar::{END, HUNK, RELOCATIONS};
+pub use grammar::RELOCATIONS;
 pub use lists::{Hunks, WordList};
 pub use modules::{Hunk, Module};
 pub use printing::print_module;

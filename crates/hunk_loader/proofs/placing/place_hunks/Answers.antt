@@ -1,7 +1,7 @@
-use Rattle.std.proofs.Common.{◌≡◌, ◌∙◌, ◌+◌, ◌-◌, ℕ, List, length, refl, ap, sym, subst, arith, length-set, set}
+use Rattle.std.proofs.Common.{◌≡◌, ◌∙◌, ◌+◌, ◌-◌, length, refl, ap, arith, length-set}
 use Rattle.store_model.proofs.Row.{length-with_words}
 use Rattle.hunk_loader.specs.Relocated.{relocated}
-use Rattle.hunk_loader.proofs.PlacedHunks.{HunksLeft, first_inside, hunk_first, hunks_begin, hunks_done, hunks_more, row_behind}
+use Rattle.hunk_loader.proofs.PlacedHunks.{first_inside, hunk_first, hunks_begin, hunks_done, hunks_then, row_behind}
 use Rattle.hunk_loader.proofs.placing.place_hunks.Goals as goal
 
 pub loop-i-init : goal.loop-i-init
@@ -32,31 +32,32 @@ overflow_add-base-in-loop-i g c =
 pub loop-i-preserved : goal.loop-i-preserved
 loop-i-preserved g c =
     let text = g.X.TextBytes.text c.args.text.now in
+    let s = c.loop-i.store in
+    let base = c.loop-i.base in
+    let many = c.args.count - c.loop-i.i in
     let left = c.args.count - (c.loop-i.i + 1) in
+    let at = c.args.m + 2 + c.loop-i.i in
+    let next = c.args.m + 2 + (c.loop-i.i + 1) in
     let t = c.place_hunk-hunk.new.store in
     let n = c.place_hunk-hunk.result.length in
-    let at = c.args.m + 2 + c.loop-i.i in
-    let one : at + 1 ≡ c.args.m + 2 + (c.loop-i.i + 1) = omega arith in
+    let end = c.place_hunk-hunk.result.end in
+    let e = c.place_hunk-hunk.ensures in
     let l0 = c.loop-i.invariant.all c.requires.fits.0 c.requires.fits.1 in
     let f0 = hunk_first _ _ _ _ _ _ left _ l0 (omega arith) in
     let inside0 = first_inside _ _ _ _ _ _ _ _ l0 f0 in
-    let words0 = c.place_hunk-hunk.ensures.words f0.h f0.others f0.follow (omega arith) in
-    let size : length c.set.new.self ≡ length c.loop-i.store
-    = ap length c.set.ensures.after ∙ length-set t at n ∙ ap length words0 ∙ length-with_words c.loop-i.store c.loop-i.base (relocated c.loop-i.base f0.h.words f0.h.relocations)
+    let words0 = e.words f0.h f0.others f0.follow (omega arith) in
+    let size : length c.set.new.self ≡ length s
+    = ap length c.set.ensures.after ∙ length-set t at n ∙ ap length words0 ∙ length-with_words s base (relocated base f0.h.words f0.h.relocations)
     in
     record {
       all = λ hunks fits.
           (let l = c.loop-i.invariant.all hunks fits in
           let f = hunk_first _ _ _ _ _ _ left _ l (omega arith) in
           let inside = first_inside _ _ _ _ _ _ _ _ l f in
-          let e = c.place_hunk-hunk.ensures in
           let result = row_behind c.args.store.now c.args.m c.args.count hunks.hunks in
-          let end = c.place_hunk-hunk.result.end in
-          let more = hunks_more _ _ t _ at _ _ left end _ l f (omega arith) (e.words f.h f.others f.follow (omega arith)) (e.others f.h f.others f.follow) in
-          let P : ℕ → Type 0 = λ x. HunksLeft text (set t at x) end (at + 1) (c.loop-i.base + x) left result in
-          let Q : ℕ → Type 0 = λ x. HunksLeft text (set t at n) end x (c.loop-i.base + n) left result in
-          let R : List ℕ → Type 0 = λ x. HunksLeft text x end (c.args.m + 2 + (c.loop-i.i + 1)) (c.loop-i.base + n) left result in
-          subst R (sym c.set.ensures.after) (subst Q one (subst P (sym (e.count f.h f.others f.follow)) more)));
+          let words = e.words f.h f.others f.follow (omega arith) in
+          hunks_then text s t c.set.new.self c.loop-i.place at next base n many left end result l f (omega arith) words (e.others f.h f.others f.follow)
+          (e.count f.h f.others f.follow) (omega arith) c.set.ensures.after);
       size = size ∙ c.loop-i.invariant.size;
     }
 

@@ -44,7 +44,10 @@ loop-preserved g c =
     let size : length c.relocate_word.new.store ≡ length c.loop.store = rw c.relocate_word.ensures (length-set c.loop.store a (add (get_or c.loop.store a 0) c.args.base)) in
     record {
       all = λ offsets others f.
-          (let more = offsets_more _ _ _ _ _ left _ _ r (c.loop.invariant.all offsets others f) (omega arith) c.read_word-offset.ensures in
+          (let now = c.loop.invariant.all offsets others f in
+          let result = relocated c.args.base c.args.store.now (places c.args.base offsets) in
+          let many = c.read_word-count.result.word - c.loop.counter in
+          let more = offsets_more text c.loop.store c.loop.place c.args.base many left others result r now (omega arith) c.read_word-offset.ensures in
           let P : List ℕ → Type 0 = λ s. OffsetsLeft text s r.end c.args.base left others (relocated c.args.base c.args.store.now (places c.args.base offsets)) in
           subst P (sym c.relocate_word.ensures) more);
       inside = o.after r c.relocate_word.new.store c.read_word-offset.ensures size;
