@@ -3,3 +3,4 @@ pub mod Rising
 pub mod Changes
 pub mod DueWords
 pub mod Filling
+pub mod AppendWords

@@ -6,3 +6,4 @@ pub mod Queue
 pub mod Due
 pub mod DueOrder
 pub mod Filled
+pub mod QueueWords
