@@ -132,7 +132,7 @@ fn with_tasks(rt: &impl Abort, alloc: Global) -> Result<Store, Fail>
     Ok(store)
 }
 
-// Sets the words of a task that has the module, and its global 1, to what the module says.
+// Sets the words of a task that has the module, and its global 1 as the module sets it.
 fn fill_task(store: &mut Store, t: u32)
     requires { t + 23 ≤ length store.old }
     ensures { length store.new ≡ length store.old }
@@ -162,15 +162,11 @@ fn queue_packet(rt: &impl Abort, store: &mut Store, head: u32)
 fn fill_root(store: &mut Store)
     ensures { length store.new ≡ length store.old }
 {
-    for (name, w) in [
-        (RootField::Table, 120),
-        (RootField::FirstBlock, 200),
-        (RootField::Size, WORDS),
-        (RootField::Period, 50),
-        (RootField::Version, 1),
-    ] {
-        set_root(store, name, w);
-    }
+    set_root(store, RootField::Table, 120);
+    set_root(store, RootField::FirstBlock, 200);
+    set_root(store, RootField::Size, WORDS);
+    set_root(store, RootField::Period, 50);
+    set_root(store, RootField::Version, 1);
 }
 
 // Loads the module into the first block.
@@ -212,7 +208,13 @@ fn every_word_that_is_drawn(rt: HostRuntime) -> Result<(), Fail> {
         size: 1722,
         free: true,
     };
-    let drawn = [used(200, 12), used(212, 1076), used(1288, 1076), used(2364, 8), rest];
+    let drawn = [
+        used(200, 12),
+        used(212, 1076),
+        used(1288, 1076),
+        used(2364, 8),
+        rest,
+    ];
     assert_eq!(rt; all.as_slice(), drawn.as_slice());
     for (a, w) in PICTURE {
         assert_eq!(rt; store.get(a), Some(w), "word {a}");
