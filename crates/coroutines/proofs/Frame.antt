@@ -1,27 +1,25 @@
 -- A store in which a call has changed words of the task block and of coroutines.
-use Rattle.std.proofs.Common.{◌≡◌, ◌≢◌, ◌⊎◌, inl, inr, ℕ, ◌+◌, ◌<◌, ◌≤◌, List, [], ◌∷◌, ◌++◌, length, get_or, eqb, ◌||◌, Bool, true, false, Some, None, refl, sym, ap, ◌∙◌, subst, arith}
-use Rattle.std.specs.List.{AllByRecursion, range_with_len}
+use Rattle.std.proofs.Common.{◌≡◌, ◌≢◌, ◌⊎◌, inl, inr, ℕ, ◌+◌, ◌<◌, ◌≤◌, List, [], ◌∷◌, length, get_or, eqb, ◌||◌, Bool, true, false, Some, refl, sym, ap, ◌∙◌, subst, arith}
+use Rattle.std.specs.List.{AllByRecursion}
 use Rattle.std.proofs.lemmas.Bool.{cases_eq}
 use Rattle.std.proofs.lemmas.Bool.Decides.{nat_tests}
-use Rattle.store_model.specs.Block.{block_end, used_block}
+use Rattle.store_model.specs.Block.{used_block}
 use Rattle.store_model.specs.Chain.{cells}
-use Rattle.store_model.specs.Count.{IsApart, hit, times, words_of}
+use Rattle.store_model.specs.Count.{IsApart, times}
 use Rattle.store_model.specs.Placing.{has}
 use Rattle.store_model.specs.Run.{need}
 use Rattle.store_model.specs.Tiling.{blocks_in, holding, used_at}
-use Rattle.store_model.proofs.Chains.{length-apart}
-use Rattle.store_model.proofs.Counts.{hit-other, hit-same}
+use Rattle.store_model.proofs.Counts.{hit-other}
 use Rattle.store_model.proofs.Frames.{list-same}
 use Rattle.store_model.proofs.Lists.{BecomesList}
-use Rattle.store_model.proofs.Members.{times-has}
 use Rattle.store_model.proofs.Writes.{SameBlocks, SameBlocks-kept}
 use Rattle.task_block.specs.Lists.{coroutine_link, coroutines_in}
-use Rattle.coroutines.specs.Active.{LeadsOut, active_in}
-use Rattle.coroutines.specs.Coroutines.{HasBlock, HasCoroutines, HasTaskBlock}
-use Rattle.coroutines.specs.CoroutineWords.{coroutine_size, current_cell, highest_in, parent_in}
+use Rattle.coroutines.specs.Active.{LeadsOut}
+use Rattle.coroutines.specs.Coroutines.{HasBlock, HasCoroutines}
+use Rattle.coroutines.specs.CoroutineWords.{coroutine_size, highest_in, parent_in}
 use Rattle.coroutines.specs.Refusals.{is_known}
-use Rattle.coroutines.proofs.Known.{known-apart, known-block, known-held, known-node, known-same, task-apart, task-held, task-inside}
-use Rattle.coroutines.proofs.Outward.{IsInner, outwards-is}
+use Rattle.coroutines.proofs.Building.{Built, all-members, built}
+use Rattle.coroutines.proofs.Known.{known-block, known-held, known-same, task-apart, task-held}
 
 -- only the words 18 to 20 of the task block, and the words 0, 1 and 6 of its coroutines, have changed
 pub record IsCall (s v : List ℕ) (t : ℕ) : Type 0 where
@@ -32,31 +30,33 @@ pub record IsCall (s v : List ℕ) (t : ℕ) : Type 0 where
 pub task-word : (s v : List ℕ) (t i : ℕ) → HasCoroutines s t → IsCall s v t → i < 18 → get_or v (t + i) 0 ≡ get_or s (t + i) 0
 task-word s v t i h c few =
     c.others (t + i) (λ e. absurd (omega (arith, e, few))) (λ e. absurd (omega (arith, e, few))) (λ e. absurd (omega (arith, e, few)))
-    (λ k known.
-      ((λ e. task-apart s t k i 0 h known (omega (arith, few)) (omega arith) (omega (arith, e))),
-       (λ e. task-apart s t k i 1 h known (omega (arith, few)) (omega arith) e),
-       (λ e. task-apart s t k i 6 h known (omega (arith, few)) (omega arith) e)))
+    (λ k known. (
+      (λ e. task-apart s t k i 0 h known (omega (arith, few)) (omega arith) (omega (arith, e))),
+      (λ e. task-apart s t k i 1 h known (omega (arith, few)) (omega arith) e),
+      (λ e. task-apart s t k i 6 h known (omega (arith, few)) (omega arith) e),
+    ))
 
 -- a word of a coroutine that is not among them
 pub known-word : (s v : List ℕ) (t k i : ℕ) → HasCoroutines s t → IsCall s v t → is_known s t k ≡ true → i < 10 → i ≢ 0 → i ≢ 1 → i ≢ 6 → get_or v (k + i) 0 ≡ get_or s (k + i) 0
 known-word s v t k i h c known few n0 n1 n6 =
     c.others (k + i) (λ e. task-apart s t k 18 i h known (omega arith) few (sym e)) (λ e. task-apart s t k 19 i h known (omega arith) few (sym e)) (λ e. task-apart s t k 20 i h known (omega arith) few (sym e))
-    (λ m other.
-      ((λ e. known-same s t k m i 0 h known other few (omega arith) n0 (omega (arith, e))),
-       (λ e. known-same s t k m i 1 h known other few (omega arith) n1 e),
-       (λ e. known-same s t k m i 6 h known other few (omega arith) n6 e)))
+    (λ m other. (
+      (λ e. known-same s t k m i 0 h known other few (omega arith) n0 (omega (arith, e))),
+      (λ e. known-same s t k m i 1 h known other few (omega arith) n1 e),
+      (λ e. known-same s t k m i 6 h known other few (omega arith) n6 e),
+    ))
 
 -- the blocks stay
 same-blocks : (s v : List ℕ) (t : ℕ) → HasCoroutines s t → IsCall s v t → SameBlocks s v
 same-blocks s v t h c =
     SameBlocks-kept s v h.tiled c.same_length (λ a low high none.
-      let no_task : (i : ℕ) → i < 23 → a ≢ t + i = λ i few e. task-held s t i h few (ap (λ z. holding z (blocks_in s)) (sym e) ∙ none) in
-      let no_word : (k i : ℕ) → is_known s t k ≡ true → i < 10 → a ≢ k + i = λ k i known few e. known-held s t k i h known few (ap (λ z. holding z (blocks_in s)) (sym e) ∙ none) in
-      c.others a (no_task 18 (omega arith)) (no_task 19 (omega arith)) (no_task 20 (omega arith))
-        (λ k known. ((λ e. no_word k 0 known (omega arith) (omega (arith, e))), no_word k 1 known (omega arith), no_word k 6 known (omega arith))))
+    let no_task : (i : ℕ) → i < 23 → a ≢ t + i = λ i few e. task-held s t i h few (ap (λ z. holding z (blocks_in s)) (sym e) ∙ none) in
+    let no_word : (k i : ℕ) → is_known s t k ≡ true → i < 10 → a ≢ k + i = λ k i known few e. known-held s t k i h known few (ap (λ z. holding z (blocks_in s)) (sym e) ∙ none) in
+    c.others a (no_task 18 (omega arith)) (no_task 19 (omega arith)) (no_task 20 (omega arith))
+    (λ k known. ((λ e. no_word k 0 known (omega arith) (omega (arith, e))), no_word k 1 known (omega arith), no_word k 6 known (omega arith))))
 
 -- a cell is the head, or the link of a member
-cell-cases : (link : ℕ → ℕ) (a at : ℕ) (ps : List ℕ) → 0 < times a (cells link at ps) → (a ≡ at) ⊎ ((k : ℕ) × (has k ps ≡ true) × (a ≡ link k))
+pub cell-cases : (link : ℕ → ℕ) (a at : ℕ) (ps : List ℕ) → 0 < times a (cells link at ps) → (a ≡ at) ⊎ ((k : ℕ) × (has k ps ≡ true) × (a ≡ link k))
 cell-cases link a at [] some = elim (cases_eq a at) [ inl e ↦ inl e | inr ne ↦ absurd (omega (arith, some, hit-other a at ne)) ]
 cell-cases link a at (p ∷ ps) some =
     elim (cases_eq a at) [
@@ -66,9 +66,11 @@ cell-cases link a at (p ∷ ps) some =
   where
     here : has p (p ∷ ps) ≡ true
     here = (let same : eqb p p ≡ true = grind (arith, nat_tests) in ap (λ b. b || has p ps) same)
+
     there : (b : Bool) (k : ℕ) → eqb k p ≡ b → has k ps ≡ true → has k (p ∷ ps) ≡ true
     there true k e some = ap (λ b. b || has k ps) e
     there false k e some = ap (λ b. b || has k ps) e ∙ some
+
     later : (a ≡ link p) ⊎ ((k : ℕ) × (has k ps ≡ true) × (a ≡ link k)) → (a ≡ at) ⊎ ((k : ℕ) × (has k (p ∷ ps) ≡ true) × (a ≡ link k))
     later (inl e) = inr (p, here, e)
     later (inr (k, some, e)) = inr (k, there (eqb k p) k refl some, e)
@@ -83,66 +85,32 @@ same-list s v t h c =
         subst (λ z. get_or v z 0 ≡ get_or s z 0) (sym e)
         (known-word s v t k 2 h c known (omega arith) (λ e. absurd (omega (arith, e))) (λ e. absurd (omega (arith, e))) (λ e. absurd (omega (arith, e))))
 
--- what holds of each member follows from being a member
-pub all-members : (P : ℕ → Type 0) (cs : List ℕ) → ((c : ℕ) → has c cs ≡ true → P c) → AllByRecursion P cs
-all-members P [] each = tt
-all-members P (c ∷ cs) each = (each c here, all-members P cs (λ k some. each k (there (eqb k c) k refl some)))
-  where
-    here : has c (c ∷ cs) ≡ true
-    here = (let same : eqb c c ≡ true = grind (arith, nat_tests) in ap (λ b. b || has c cs) same)
-    there : (b : Bool) (k : ℕ) → eqb k c ≡ b → has k cs ≡ true → has k (c ∷ cs) ≡ true
-    there true k e some = ap (λ b. b || has k cs) e
-    there false k e some = ap (λ b. b || has k cs) e ∙ some
-
--- members of the list are no root and no task, and lie in the store
-pub members-inner : (s : List ℕ) (t : ℕ) → HasCoroutines s t → (cs : List ℕ) → AllByRecursion (λ c. has c (coroutines_in s t) ≡ true) cs → AllByRecursion (IsInner t) cs × AllByRecursion (λ c. c < length s) cs
-members-inner s t h [] members = (tt, tt)
-members-inner s t h (c ∷ cs) members =
-    let rest = members-inner s t h cs members.1 in
-    let node = known-node s t c h members.0 in
-    let some : c ≢ 0 = λ e. absurd (omega (arith, e, node.some)) in
-    let other : c ≢ t = λ e. task-apart s t c 0 0 h members.0 (omega arith) (omega arith) (omega (arith, e)) in
-    (((some, other), rest.0), (omega (arith, node.inside), rest.1))
-
-pub record Again (s v : List ℕ) (t : ℕ) (act : List ℕ) : Type 0 where
-  pub list : coroutines_in v t ≡ coroutines_in s t
-  pub active : active_in v t ≡ act
-  pub stand : HasCoroutines v t
-
 -- after a call the coroutines stand, with the active ones that it leaves
 pub again : (s v : List ℕ) (t : ℕ) (act : List ℕ) → HasCoroutines s t → IsCall s v t → LeadsOut v t 0 (t + 18) act → AllByRecursion (λ c. has c (coroutines_in s t) ≡ true) act → IsApart act
-    → ((c : ℕ) → is_known s t c ≡ true → has c act ≡ false → get_or v (c + 1) 0 ≡ 0) → Again s v t act
+    → ((c : ℕ) → is_known s t c ≡ true → has c act ≡ false → get_or v (c + 1) 0 ≡ 0) → Built v t (coroutines_in s t) act
 again s v t act h c out members distinct idle =
     let blocks : SameBlocks s v = same-blocks s v t h c in
-    let list : BecomesList v coroutine_link coroutine_size (t + 17) (coroutines_in s t) = same-list s v t h c in
-    let inner = members-inner s t h act members in
-    let few : length act ≤ length v = omega (arith, length-apart (length s) act distinct inner.1, c.same_length) in
-    let active : active_in v t ≡ act = outwards-is (length v) v t 0 (t + 18) act out (inl refl) inner.0 few in
     let used : (a : ℕ) → used_at a (blocks_in v) ≡ used_at a (blocks_in s) = λ a. ap (used_at a) blocks.blocks in
     let of_block : (k : ℕ) → is_known s t k ≡ true → HasBlock v k = λ k known.
-      let b : HasBlock s k = known-block s t k h known in
-      let high : highest_in v k ≡ highest_in s k = known-word s v t k 4 h c known (omega arith) (λ e. absurd (omega (arith, e))) (λ e. absurd (omega (arith, e))) (λ e. absurd (omega (arith, e))) in
-      record {
-        start = b.start;
-        here = b.here;
-        block = used k ∙ b.block ∙ ap (λ z. Some (used_block b.start (need z))) (sym high);
-        high = subst (λ z. 16 ≤ z) (sym high) b.high;
-      }
-    in
+    let b : HasBlock s k = known-block s t k h known in
+    let high : highest_in v k ≡ highest_in s k = known-word s v t k 4 h c known (omega arith) (λ e. absurd (omega (arith, e))) (λ e. absurd (omega (arith, e))) (λ e. absurd (omega (arith, e))) in
     record {
-      list = list.list;
-      active = active;
-      stand =
-        record {
-          tiled = blocks.tiled;
-          task = record { first = h.task.first; block = h.task.block; used = used h.task.first ∙ h.task.used; low = h.task.low; high = h.task.high };
-          list = list.stands;
-          apart = subst (λ z. IsApart (range_with_len t 23 ++ words_of coroutine_size z)) (sym list.list) h.apart;
-          blocks = subst (AllByRecursion (HasBlock v)) (sym list.list) (all-members (HasBlock v) (coroutines_in s t) of_block);
-          active = subst (LeadsOut v t 0 (t + 18)) (sym active) out;
-          members = subst (AllByRecursion (λ c. has c (coroutines_in v t) ≡ true)) (sym active) (subst (λ z. AllByRecursion (λ c. has c z ≡ true) act) (sym list.list) members);
-          distinct = subst IsApart (sym active) distinct;
-          idle = subst (λ z. AllByRecursion (λ c. has c (active_in v t) ≡ false → parent_in v c ≡ 0) z) (sym list.list)
-            (subst (λ z. AllByRecursion (λ c. has c z ≡ false → parent_in v c ≡ 0) (coroutines_in s t)) (sym active) (all-members (λ c. has c act ≡ false → parent_in v c ≡ 0) (coroutines_in s t) idle));
-        };
+      start = b.start;
+      here = b.here;
+      block = used k ∙ b.block ∙ ap (λ z. Some (used_block b.start (need z))) (sym high);
+      high = subst (λ z. 16 ≤ z) (sym high) b.high;
     }
+    in
+    built v t (coroutines_in s t) act
+    (record {
+      tiled = blocks.tiled;
+      task = record { first = h.task.first; block = h.task.block; used = used h.task.first ∙ h.task.used; low = h.task.low; high = h.task.high };
+      elsewhere = h.elsewhere;
+      list = same-list s v t h c;
+      apart = h.apart;
+      blocks = all-members (HasBlock v) (coroutines_in s t) of_block;
+      out = out;
+      members = members;
+      distinct = distinct;
+      idle = all-members (λ c. has c act ≡ false → parent_in v c ≡ 0) (coroutines_in s t) idle;
+    })

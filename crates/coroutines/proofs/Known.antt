@@ -1,21 +1,21 @@
 -- Where the words of a task block and of its coroutines lie.
-use Rattle.std.proofs.Common.{◌≡◌, ◌≢◌, ℕ, ◌+◌, ◌<◌, ◌≤◌, List, [], ◌∷◌, ◌++◌, length, get_or, eqb, ◌||◌, Bool, true, false, Option, Some, None, refl, sym, ap, ◌∙◌, subst, arith, inl, inr}
+use Rattle.std.proofs.Common.{◌≡◌, ◌≢◌, ℕ, ◌+◌, ◌<◌, ◌≤◌, List, [], ◌∷◌, length, get_or, eqb, ◌||◌, Bool, true, false, Some, None, refl, sym, ap, ◌∙◌, subst, arith, inl, inr}
 use Rattle.std.specs.List.{AllByRecursion, range_with_len}
 use Rattle.std.proofs.lemmas.Bool.{cases_eq}
 use Rattle.std.proofs.lemmas.Bool.Decides.{nat_tests}
 use Rattle.store_model.specs.declared.blocks.Block.{Block}
-use Rattle.store_model.specs.Block.{block_end, used_block}
-use Rattle.store_model.specs.Count.{IsApart, node_words, times, words_of}
+use Rattle.store_model.specs.Block.{used_block}
+use Rattle.store_model.specs.Count.{words_of}
 use Rattle.store_model.specs.Linked.{IsNode}
 use Rattle.store_model.specs.Placing.{has}
 use Rattle.store_model.specs.Run.{need}
-use Rattle.store_model.specs.Tiling.{IsTiled, blocks_in, holding, used_at}
+use Rattle.store_model.specs.Tiling.{blocks_in, holding}
 use Rattle.store_model.proofs.Counts.{times-append, times-within}
 use Rattle.store_model.proofs.Members.{all-has, one-member, two-members}
 use Rattle.store_model.proofs.UsedBlocks.{UsedBlock, used_at-holding, used_at-is}
 use Rattle.task_block.specs.Lists.{coroutine_link, coroutines_in}
 use Rattle.coroutines.specs.Active.{LeadsOut, active_in}
-use Rattle.coroutines.specs.Coroutines.{HasBlock, HasCoroutines, HasTaskBlock}
+use Rattle.coroutines.specs.Coroutines.{HasBlock, HasCoroutines}
 use Rattle.coroutines.specs.CoroutineWords.{coroutine_size, current_in, highest_in}
 use Rattle.coroutines.specs.Refusals.{has_parent, is_known}
 
@@ -35,14 +35,26 @@ known-block s t c h known = all-has (HasBlock s) c (coroutines_in s t) h.blocks 
 -- no word of the task block is one of a coroutine
 pub task-apart : (s : List ℕ) (t c i j : ℕ) → HasCoroutines s t → is_known s t c ≡ true → i < 23 → j < 10 → t + i ≢ c + j
 task-apart s t c i j h known few less e =
-    absurd (omega (arith, h.apart (t + i), times-append (t + i) (range_with_len t 23) (words_of coroutine_size (coroutines_in s t)),
-      times-within (t + i) t 23 (omega arith) (omega arith), one-member coroutine_size (t + i) c (coroutines_in s t) known, times-within (t + i) c 10 (omega (arith, e)) (omega (arith, e))))
+    absurd (omega (
+      arith,
+      h.apart (t + i),
+      times-append (t + i) (range_with_len t 23) (words_of coroutine_size (coroutines_in s t)),
+      times-within (t + i) t 23 (omega arith) (omega arith),
+      one-member coroutine_size (t + i) c (coroutines_in s t) known,
+      times-within (t + i) c 10 (omega (arith, e)) (omega (arith, e)),
+    ))
 
 -- words of two coroutines are the same only where they are one
 pub known-apart : (s : List ℕ) (t c k i j : ℕ) → HasCoroutines s t → is_known s t c ≡ true → is_known s t k ≡ true → c ≢ k → i < 10 → j < 10 → c + i ≢ k + j
 known-apart s t c k i j h known other differ few less e =
-    absurd (omega (arith, h.apart (c + i), times-append (c + i) (range_with_len t 23) (words_of coroutine_size (coroutines_in s t)),
-      two-members coroutine_size (c + i) c k (coroutines_in s t) known other differ, times-within (c + i) c 10 (omega arith) (omega arith), times-within (c + i) k 10 (omega (arith, e)) (omega (arith, e))))
+    absurd (omega (
+      arith,
+      h.apart (c + i),
+      times-append (c + i) (range_with_len t 23) (words_of coroutine_size (coroutines_in s t)),
+      two-members coroutine_size (c + i) c k (coroutines_in s t) known other differ,
+      times-within (c + i) c 10 (omega arith) (omega arith),
+      times-within (c + i) k 10 (omega (arith, e)) (omega (arith, e)),
+    ))
 
 pub known-same : (s : List ℕ) (t c k i j : ℕ) → HasCoroutines s t → is_known s t c ≡ true → is_known s t k ≡ true → i < 10 → j < 10 → i ≢ j → c + i ≢ k + j
 known-same s t c k i j h known other few less differ e =
@@ -106,6 +118,7 @@ parent-word s t c h known some = on 0 (t + 18) (active_in s t) h.active h.member
         next : (ks : List ℕ) → LeadsOut s t t (k + 1) ks → AllByRecursion (λ c. has c (coroutines_in s t) ≡ true) ks → get_or s (k + 1) 0 ≢ 0
         next [] out members e = absurd (omega (arith, out, e, (task-inside s t h).0))
         next (m ∷ ms) out members e = absurd (omega (arith, out.0, e, (known-node s t m h members.0).some))
+
         here : (b : Bool) → eqb c k ≡ b → (b || has c ks) ≡ true → (has c ks ≡ true → get_or s (c + 1) 0 ≢ 0) → get_or s (c + 1) 0 ≢ 0
         here true e some more = (let same : c ≡ k = grind (arith, nat_tests) in subst (λ z. get_or s (z + 1) 0 ≢ 0) (sym same) (next ks out.1 members.1))
         here false e some more = more some

@@ -1,8 +1,8 @@
 -- The active coroutines, as the store alone gives them.
-use Rattle.std.proofs.Common.{◌≡◌, ◌≢◌, ◌⊎◌, inl, inr, ℕ, zero, suc, ◌+◌, ◌<◌, ◌≤◌, List, [], ◌∷◌, length, get_or, eqb, ◌||◌, Bool, true, false, refl, sym, ap, ◌∙◌, subst, arith}
+use Rattle.std.proofs.Common.{◌≡◌, ◌≢◌, ◌⊎◌, inl, inr, ℕ, zero, suc, ◌+◌, ◌≤◌, List, [], ◌∷◌, length, get_or, eqb, ◌||◌, Bool, true, false, refl, ap, ◌∙◌, arith}
 use Rattle.std.specs.List.{AllByRecursion}
 use Rattle.std.proofs.lemmas.Bool.Decides.{nat_tests}
-use Rattle.coroutines.specs.Active.{LeadsOut, active_in, outwards}
+use Rattle.coroutines.specs.Active.{LeadsOut, outwards}
 
 -- an address that names a coroutine of the task at t, and neither its root nor the task
 abbrev pub IsInner : ℕ → ℕ → Type 0

@@ -1,21 +1,17 @@
 -- The switch to another coroutine, or to the root.
-use Rattle.std.proofs.Common.{◌≡◌, ◌≢◌, ◌⊎◌, inl, inr, ℕ, ◌+◌, ◌<◌, ◌≤◌, List, [], ◌∷◌, length, get_or, set, eqb, cond, Bool, true, false, refl, sym, ap, ◌∙◌, subst, arith, get_or-set_other, get_or-set_same, length-set}
+use Rattle.std.proofs.Common.{◌≡◌, ◌≢◌, ◌⊎◌, inl, inr, ℕ, ◌+◌, ◌≤◌, List, [], ◌∷◌, length, get_or, set, eqb, cond, true, false, sym, ap, ◌∙◌, subst, arith, get_or-set_other, get_or-set_same, length-set}
 use Rattle.std.specs.List.{AllByRecursion}
 use Rattle.std.proofs.lemmas.Bool.{cases_eq}
 use Rattle.std.proofs.lemmas.Bool.Decides.{nat_tests}
-use Rattle.store_model.specs.Count.{IsApart, hit, times}
 use Rattle.store_model.specs.Placing.{has}
-use Rattle.store_model.proofs.Counts.{hit-other, hit-same, IsApart-cons}
-use Rattle.store_model.proofs.Members.{has-none, has-times, times-has}
 use Rattle.task_block.specs.Lists.{coroutines_in}
-use Rattle.coroutines.specs.Active.{LeadsOut, active_in}
+use Rattle.coroutines.specs.Active.{LeadsOut}
 use Rattle.coroutines.specs.Coroutines.{HasCoroutines}
-use Rattle.coroutines.specs.CoroutineWords.{as_current, as_parent, current_in, parent_in, saved_p, saved_pc}
-use Rattle.coroutines.specs.Refusals.{has_parent, is_known}
+use Rattle.coroutines.specs.CoroutineWords.{as_current, current_in, parent_in, saved_p, saved_pc}
+use Rattle.coroutines.specs.Refusals.{is_known}
 use Rattle.coroutines.specs.Switch.{switched}
-use Rattle.coroutines.proofs.Known.{IsCurrent, current, in-root, known-apart, known-node, known-same, no_parent-word, task-apart, task-inside}
-use Rattle.coroutines.proofs.Frame.{Again, IsCall, again}
-use Rattle.coroutines.proofs.Outward.{LeadsOut-same}
+use Rattle.coroutines.proofs.Known.{IsCurrent, current, known-apart, known-node, known-same, task-apart, task-inside}
+use Rattle.coroutines.proofs.Frame.{IsCall}
 
 -- the root, or a coroutine of the task
 abbrev pub IsRootOr : List ℕ → ℕ → ℕ → Type 0
@@ -57,9 +53,11 @@ length-switched s t p pc c =
 pub switched-parent : (s : List ℕ) (t p pc c k : ℕ) → HasCoroutines s t → is_known s t k ≡ true → get_or (switched s t p pc c) (k + 1) 0 ≡ get_or s (k + 1) 0
 switched-parent s t p pc c k h known =
     let apart = saved-other s t (current_in s t) (k + 1) h (current-is s t h)
-        (λ e. task-apart s t k 19 1 h known (omega arith) (omega arith) (sym e)) (λ e. task-apart s t k 20 1 h known (omega arith) (omega arith) (sym e))
-        (λ m other. ((λ e. known-same s t k m 1 0 h known other (omega arith) (omega arith) (λ z. absurd (omega (arith, z))) (omega (arith, e))),
-          (λ e. known-same s t k m 1 6 h known other (omega arith) (omega arith) (λ z. absurd (omega (arith, z))) e)))
+    (λ e. task-apart s t k 19 1 h known (omega arith) (omega arith) (sym e)) (λ e. task-apart s t k 20 1 h known (omega arith) (omega arith) (sym e))
+    (λ m other. (
+      (λ e. known-same s t k m 1 0 h known other (omega arith) (omega arith) (λ z. absurd (omega (arith, z))) (omega (arith, e))),
+      (λ e. known-same s t k m 1 6 h known other (omega arith) (omega arith) (λ z. absurd (omega (arith, z))) e),
+    ))
     in
     switched-other s t p pc c (k + 1) apart.0 apart.1 (λ e. task-apart s t k 18 1 h known (omega arith) (omega arith) (sym e))
 
@@ -75,8 +73,8 @@ switched-call s t p pc c h =
     record {
       same_length = length-switched s t p pc c;
       others = λ a n18 n19 n20 each.
-        let apart = saved-other s t (current_in s t) a h (current-is s t h) n19 n20 (λ k known. ((each k known).0, (each k known).2)) in
-        switched-other s t p pc c a apart.0 apart.1 n18;
+          let apart = saved-other s t (current_in s t) a h (current-is s t h) n19 n20 (λ k known. ((each k known).0, (each k known).2)) in
+          switched-other s t p pc c a apart.0 apart.1 n18;
     }
 
 -- and a parent that is written besides leaves it one

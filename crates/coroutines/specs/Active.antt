@@ -1,5 +1,5 @@
 -- The coroutines of a task that are active: the current one, its parent, and so on out to the root.
-use Rattle.std.specs.Prelude.{◌≡◌, ℕ, zero, suc, ◌+◌, ◌==◌, ◌||◌, if◌then◌else◌, List, [], ◌∷◌, length, slice_index}
+use Rattle.std.specs.Prelude.{◌≡◌, ℕ, zero, suc, ◌==◌, ◌||◌, if◌then◌else◌, List, [], ◌∷◌, length, slice_index}
 use Rattle.coroutines.specs.CoroutineWords.{current_cell, parent_cell}
 
 -- from the word at `at` on, the coroutines lead outwards through these, and the last word is `end`: 0 where none is active, and

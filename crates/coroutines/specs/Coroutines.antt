@@ -1,5 +1,5 @@
 -- The coroutines of a task, in a store with blocks.
-use Rattle.std.specs.Prelude.{◌≡◌, ℕ, ◌+◌, ◌<◌, ◌≤◌, Bool, true, false, Some, None, Option, List, [], ◌∷◌, ◌++◌, slice_index}
+use Rattle.std.specs.Prelude.{◌≡◌, ℕ, ◌+◌, ◌≤◌, true, false, Some, List, ◌++◌}
 use Rattle.std.specs.List.{AllByRecursion, range_with_len}
 use Rattle.store_model.specs.declared.blocks.Block.{Block}
 use Rattle.store_model.specs.Block.{block_end, used_block}
@@ -31,6 +31,8 @@ pub record HasTaskBlock (s : List ℕ) (t : ℕ) : Type 0 where
 pub record HasCoroutines (s : List ℕ) (t : ℕ) : Type 0 where
   pub tiled : IsTiled s
   pub task : HasTaskBlock s t
+  -- the task block lies in no coroutine's block
+  pub elsewhere : has task.first (coroutines_in s t) ≡ false
   pub list : HasList s coroutine_link coroutine_size (t + 17)
   -- their words meet neither one another nor the task block
   pub apart : IsApart (range_with_len t 23 ++ words_of coroutine_size (coroutines_in s t))

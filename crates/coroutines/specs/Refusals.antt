@@ -1,5 +1,5 @@
 -- When a call on coroutines is refused, and with what.
-use Rattle.std.specs.Prelude.{ℕ, Bool, true, not, ◌==◌, ◌&&◌, ◌||◌, Option, Some, None, Result, Ok, Err, List, [], ◌∷◌, if◌then◌else◌}
+use Rattle.std.specs.Prelude.{ℕ, Bool, not, ◌==◌, ◌||◌, Result, Ok, Err, List, [], ◌∷◌, if◌then◌else◌}
 use Rattle.store_model.specs.Placing.{has}
 use Rattle.task_block.specs.Lists.{coroutines_in}
 use Rattle.coroutines.specs.Active.{active_in}

@@ -1,5 +1,5 @@
 -- What the calls on coroutines do to the words of the store and to the registers.
-use Rattle.std.specs.Prelude.{ℕ, ◌+◌, ◌==◌, if◌then◌else◌, List, slice_index, slice_set}
+use Rattle.std.specs.Prelude.{ℕ, ◌==◌, if◌then◌else◌, List, slice_index, slice_set}
 use Rattle.word_store.specs.declared.registers.Regs.{Regs}
 use Rattle.coroutines.specs.CoroutineWords.{as_current, as_parent, bottom, current_cell, current_in, function_in, parent_cell, parent_in, saved_p, saved_pc}
 

@@ -43,13 +43,7 @@ pub fn call(store: &mut Store, t: u32, regs: &mut Regs, c: u32, v: u32) -> Resul
 
 /// Resumes the coroutine c of the task at t with v: it takes the current one's place, whose parent becomes its own. Where it
 /// is the current one, only A becomes v, and B 0.
-pub fn resume(
-    store: &mut Store,
-    t: u32,
-    regs: &mut Regs,
-    c: u32,
-    v: u32,
-) -> Result<(), CoEnd>
+pub fn resume(store: &mut Store, t: u32, regs: &mut Regs, c: u32, v: u32) -> Result<(), CoEnd>
     requires { HasCoroutines store.old t }
     ensures answer { result ≡ resume_answer store.old t c }
     ensures words { OnOk result (store.new ≡ resumed store.old t regs.old c) }

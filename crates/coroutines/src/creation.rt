@@ -9,8 +9,8 @@ ghost use Rattle.coroutines.specs.Creation.{IsCreated, deleted, highest};
 ghost use Rattle.coroutines.specs.Refusals.{delete_answer, is_known};
 ghost use Rattle.task_block.specs.Lists.{coroutine_link, coroutines_in};
 
-use crate::members::{LINK, cell_before, has_parent, is_known};
 use crate::ends::CoEnd;
+use crate::members::{LINK, cell_before, has_parent, is_known};
 use getvec_chain::{NoRoom, give, take};
 use store_links::{set_words, word};
 use task_block::{TcbField, field, set_field};
@@ -36,7 +36,11 @@ pub fn create(store: &mut Store, t: u32, entry: u32, u: u32) -> Result<u32, NoRo
     let highest = u.max(LEAST_HIGHEST);
     let next = field(store, t, TcbField::FirstCo);
     let c = take(store, highest)?;
-    set_words(store, c, &[c + 7, 0, next, entry, highest, c, entry, 0, 0, entry]);
+    set_words(
+        store,
+        c,
+        &[c + 7, 0, next, entry, highest, c, entry, 0, 0, entry],
+    );
     set_field(store, t, TcbField::FirstCo, c);
     Ok(c)
 }

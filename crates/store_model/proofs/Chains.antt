@@ -1,5 +1,5 @@
 -- Chains of links, and the list that a store alone gives.
-use Rattle.std.proofs.Common.{◌≡◌, ◌≢◌, ℕ, zero, suc, ◌+◌, ◌<◌, ◌≤◌, List, [], ◌∷◌, ◌++◌, length, get_or, eqb, cond, Bool, true, false, refl, sym, ap, ◌∙◌, subst, arith, inl, inr, ◌||◌}
+use Rattle.std.proofs.Common.{◌≡◌, ◌≢◌, ℕ, zero, suc, ◌<◌, ◌≤◌, List, [], ◌∷◌, length, get_or, eqb, Bool, true, false, refl, sym, ap, ◌∙◌, subst, arith, inl, inr, ◌||◌}
 use Rattle.std.specs.List.{AllByRecursion, IsDistinct, list_any}
 use Rattle.std.proofs.lemmas.Bool.{cases_eq}
 use Rattle.std.proofs.lemmas.Bool.Decides.{nat_tests}
@@ -7,7 +7,7 @@ use Rattle.std.proofs.lemmas.Map.Steps.{length-le_from_distinct_below}
 use Rattle.store_model.specs.Count.{IsApart, hit, node_words, times, words_of}
 use Rattle.store_model.specs.Chain.{IsChain, cells, last_cell, links_from, list_at}
 use Rattle.store_model.specs.Linked.{IsLinked, IsNode}
-use Rattle.store_model.proofs.Counts.{hit-other, hit-same, times-append, times-within, times-words_more}
+use Rattle.store_model.proofs.Counts.{hit-other, hit-same, times-within, times-words_more}
 
 -- a chain stands where its cells are as they were
 pub IsChain-same : (s t : List ℕ) (link : ℕ → ℕ) (at : ℕ) (ps : List ℕ) → IsChain s link at ps

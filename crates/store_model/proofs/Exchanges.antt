@@ -1,7 +1,6 @@
 -- Exchanges of owned words, and how they compose.
-use Rattle.std.proofs.Common.{◌≡◌, ℕ, suc, ◌+◌, ◌<◌, ◌≤◌, List, [], ◌∷◌, ◌++◌, length, refl, sym, ap, ◌∙◌, subst, arith}
+use Rattle.std.proofs.Common.{◌≡◌, ℕ, suc, ◌+◌, List, [], ◌∷◌, ◌++◌, length, refl, sym, subst, arith}
 use Rattle.std.specs.List.{flat_map}
-use Rattle.store_model.specs.Count.{hit}
 use Rattle.store_model.specs.Owned.{Holds, Pairs, owners, row_from}
 use Rattle.store_model.specs.Exchange.{Exchange, Splits}
 use Rattle.store_model.specs.LinkedWords.{LinksAt, first_of, headed_words, last_link, linked_words}

@@ -1,10 +1,10 @@
 -- A list stands on where the words that hold its links are as they were.
-use Rattle.std.proofs.Common.{◌≡◌, ◌≢◌, ℕ, ◌+◌, ◌<◌, ◌≤◌, List, [], ◌∷◌, ◌++◌, length, get_or, set, refl, sym, ap, ◌∙◌, subst, arith, get_or-set_other, length-set}
+use Rattle.std.proofs.Common.{◌≡◌, ◌≢◌, ℕ, ◌+◌, ◌<◌, ◌≤◌, List, [], ◌∷◌, ◌++◌, length, get_or, set, subst, arith, get_or-set_other, length-set}
 use Rattle.std.specs.List.{AllByRecursion}
-use Rattle.store_model.specs.Count.{IsApart, hit, node_words, times, words_of}
+use Rattle.store_model.specs.Count.{node_words, times, words_of}
 use Rattle.store_model.specs.Chain.{cells, list_at}
 use Rattle.store_model.specs.Linked.{HasList, IsLinked, IsNode}
-use Rattle.store_model.proofs.Counts.{hit-other, hit-same, times-words_more}
+use Rattle.store_model.proofs.Counts.{hit-other, times-words_more}
 use Rattle.store_model.proofs.Chains.{IsChain-same, nodes-same, times-cells, times-link}
 use Rattle.store_model.proofs.Lists.{BecomesList, becomes}
 

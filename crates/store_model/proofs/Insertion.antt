@@ -1,13 +1,13 @@
 -- A node is linked in.
-use Rattle.std.proofs.Common.{◌≡◌, ◌≢◌, ℕ, zero, suc, ◌+◌, ◌<◌, ◌≤◌, List, [], ◌∷◌, ◌++◌, length, get_or, set, eqb, true, false, refl, sym, ap, ◌∙◌, subst, arith, get_or-set_other, get_or-set_same, length-set}
+use Rattle.std.proofs.Common.{◌≡◌, ◌≢◌, ℕ, ◌<◌, List, [], ◌∷◌, ◌++◌, length, get_or, set, refl, sym, ◌∙◌, subst, arith, get_or-set_other, get_or-set_same, length-set}
 use Rattle.std.specs.List.{AllByRecursion}
-use Rattle.store_model.specs.Count.{IsApart, hit, node_words, times, words_of}
-use Rattle.store_model.specs.Chain.{IsChain, cells, last_cell, list_at}
+use Rattle.store_model.specs.Count.{IsApart, node_words, times}
+use Rattle.store_model.specs.Chain.{IsChain, cells, last_cell}
 use Rattle.store_model.specs.Linked.{IsFresh, IsLinked, IsNode}
 use Rattle.store_model.specs.Placing.{linked_in}
 use Rattle.store_model.specs.Changed.{InsertedAt}
-use Rattle.store_model.proofs.Counts.{hit-other, hit-same, times-append, times-within, times-words_more, times-words_of}
-use Rattle.store_model.proofs.Chains.{IsChain-same, cells-apart, last_cell-inside, linked-found, list_at-is, nodes-same, times-cells, times-link}
+use Rattle.store_model.proofs.Counts.{hit-same, times-words_more, times-words_of}
+use Rattle.store_model.proofs.Chains.{IsChain-same, cells-apart, last_cell-inside, nodes-same, times-cells, times-link}
 
 -- the last cell of a front is one of all the cells
 pub times-front_cell : (link : ℕ → ℕ) (at : ℕ) (xs ys : List ℕ) → 0 < times (last_cell link at xs) (cells link at (xs ++ ys))

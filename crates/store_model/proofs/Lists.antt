@@ -1,5 +1,5 @@
 -- The list of a head, as the store alone gives it, after a node was linked in or out.
-use Rattle.std.proofs.Common.{◌≡◌, ◌≢◌, ℕ, ◌+◌, ◌<◌, List, [], ◌∷◌, ◌++◌, length, get_or, set, Bool, true, false, refl, sym, ap, ◌∙◌, subst, arith, append-nil}
+use Rattle.std.proofs.Common.{◌≡◌, ℕ, List, [], ◌∷◌, ◌++◌, Bool, true, sym, subst, append-nil}
 use Rattle.store_model.specs.Count.{node_words, times}
 use Rattle.store_model.specs.Chain.{last_cell, list_at}
 use Rattle.store_model.specs.Linked.{HasList, IsFresh, IsLinked, IsNode}

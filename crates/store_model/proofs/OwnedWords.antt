@@ -1,8 +1,7 @@
 -- Owned words, joined, looked up and written.
-use Rattle.std.proofs.Common.{◌≡◌, ◌≢◌, ℕ, zero, suc, ◌+◌, ◌<◌, ◌≤◌, List, [], ◌∷◌, ◌++◌, length, get_or, set, eqb, cond, Bool, true, false, refl, sym, ap, ◌∙◌, subst, arith, get_or-set_other, get_or-set_same, length-set, Some, None}
+use Rattle.std.proofs.Common.{◌≡◌, ◌≢◌, ℕ, ◌+◌, ◌<◌, List, [], ◌∷◌, ◌++◌, length, get_or, set, eqb, cond, true, false, refl, sym, ap, ◌∙◌, arith, get_or-set_other, get_or-set_same, length-set, Some, None}
 use Rattle.std.proofs.lemmas.Bool.Decides.{nat_tests}
-use Rattle.store_model.specs.Count.{hit}
-use Rattle.store_model.specs.Owned.{AreApart, AreInside, Holds, Pairs, owners, row_from, word_in, written}
+use Rattle.store_model.specs.Owned.{AreApart, AreInside, Holds, Pairs, owners, word_in, written}
 use Rattle.store_model.proofs.Counts.{hit-other, hit-same}
 
 pub owners-append : (a : ℕ) (xs ys : Pairs) → owners a (xs ++ ys) ≡ owners a xs + owners a ys

@@ -1,13 +1,13 @@
 -- A node is linked out.
-use Rattle.std.proofs.Common.{◌≡◌, ◌≢◌, ℕ, zero, suc, ◌+◌, ◌<◌, ◌≤◌, List, [], ◌∷◌, ◌++◌, length, get_or, set, eqb, true, false, refl, sym, ap, ◌∙◌, subst, arith, get_or-set_other, get_or-set_same, length-set}
+use Rattle.std.proofs.Common.{◌≡◌, ◌≢◌, ℕ, ◌+◌, ◌<◌, ◌≤◌, List, [], ◌∷◌, ◌++◌, get_or, set, refl, ◌∙◌, subst, arith, get_or-set_other, get_or-set_same, length-set}
 use Rattle.std.specs.List.{AllByRecursion}
-use Rattle.store_model.specs.Count.{IsApart, hit, node_words, times, words_of}
-use Rattle.store_model.specs.Chain.{IsChain, cells, last_cell, list_at}
+use Rattle.store_model.specs.Count.{IsApart, node_words, times, words_of}
+use Rattle.store_model.specs.Chain.{IsChain, cells, last_cell}
 use Rattle.store_model.specs.Linked.{IsLinked, IsNode}
 use Rattle.store_model.specs.Placing.{linked_out}
 use Rattle.store_model.specs.Changed.{RemovedAt}
-use Rattle.store_model.proofs.Counts.{hit-other, hit-same, times-append, times-words_more, times-words_of}
-use Rattle.store_model.proofs.Chains.{IsChain-same, cells-apart, last_cell-inside, nodes-same, times-cells, times-link}
+use Rattle.store_model.proofs.Counts.{hit-same, times-words_more, times-words_of}
+use Rattle.store_model.proofs.Chains.{IsChain-same, cells-apart, last_cell-inside, nodes-same, times-cells}
 use Rattle.store_model.proofs.Insertion.{all-append, all-back, all-front, front_cell-differs, times-front_cell}
 
 chain-remove : (s t : List ℕ) (link : ℕ → ℕ) (at : ℕ) (xs ys : List ℕ) (p : ℕ) → IsChain s link at (xs ++ p ∷ ys) → IsApart (cells link at (xs ++ p ∷ ys))

@@ -1,8 +1,7 @@
 -- The words that a call writes, and what the store holds afterwards.
-use Rattle.std.proofs.Common.{◌≡◌, ◌≢◌, ℕ, ◌+◌, ◌<◌, ◌≤◌, List, [], ◌∷◌, ◌++◌, length, get_or, refl, sym, ap, ◌∙◌, subst, arith, inl, inr}
+use Rattle.std.proofs.Common.{◌≡◌, ℕ, ◌+◌, ◌<◌, List, ◌++◌, get_or, sym, ◌∙◌, subst, arith, inl, inr}
 use Rattle.std.proofs.lemmas.Bool.{cases_lt}
 use Rattle.store_model.specs.Owned.{AreApart, AreInside, Holds, Pairs, owners, written}
-use Rattle.store_model.specs.Exchange.{Exchange}
 use Rattle.store_model.specs.Written.{IsWritten, Writes}
 use Rattle.store_model.proofs.OwnedWords.{Holds-append, Holds-same, Holds-written, length-written, owners-append, written-append, written-other}
 

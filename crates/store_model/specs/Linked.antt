@@ -1,5 +1,5 @@
 -- A linked list in a store: nodes of some words each, which lie in the store and apart from one another and from the head.
-use Rattle.std.specs.Prelude.{◌≡◌, ℕ, ◌+◌, ◌<◌, ◌≤◌, List, [], ◌∷◌, ◌++◌, length}
+use Rattle.std.specs.Prelude.{ℕ, ◌+◌, ◌<◌, ◌≤◌, List, ◌∷◌, length}
 use Rattle.std.specs.List.{AllByRecursion}
 use Rattle.store_model.specs.Count.{IsApart, node_words, times, words_of}
 use Rattle.store_model.specs.Chain.{IsChain, list_at}

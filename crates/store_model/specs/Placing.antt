@@ -1,7 +1,6 @@
 -- Places in a linked list: where a node comes in, and where one goes out.
 use Rattle.std.specs.Prelude.{ℕ, Bool, ◌==◌, if◌then◌else◌, List, [], ◌∷◌, slice_set, slice_index}
 use Rattle.std.specs.List.{list_any}
-use Rattle.store_model.specs.Chain.{last_cell}
 
 -- the list with p directly after the last node that passes the test, or at the front where none does
 abbrev pub insert_after : (ℕ → Bool) → ℕ → List ℕ → List ℕ

@@ -1,4 +1,4 @@
-use Rattle.std.proofs.Common.{◌≡◌, ◌∙◌, arith, ap, sym, ℕ, ◌+◌, length, length-set, ◌<◌}
+use Rattle.std.proofs.Common.{arith, ap, length, length-set}
 use Rattle.coroutines.proofs.Switches.{bounds, root-or-inside}
 use Rattle.coroutines.proofs.switching.switch.Goals as goal
 
@@ -26,5 +26,11 @@ saved_pc-requires-2-clause-coroutine c =
 
 pub set_field-requires : goal.set_field-requires
 set_field-requires c =
-    omega (arith, (bounds c.args.store.now c.args.t c.requires.coroutines).task, ap length c.set-2.ensures.after, length-set c.set.new.self c.saved_pc-2.result c.args.regs.now.pc,
-      ap length c.set.ensures.after, length-set c.args.store.now c.saved_p-2.result c.args.regs.now.p)
+    omega (
+      arith,
+      (bounds c.args.store.now c.args.t c.requires.coroutines).task,
+      ap length c.set-2.ensures.after,
+      length-set c.set.new.self c.saved_pc-2.result c.args.regs.now.pc,
+      ap length c.set.ensures.after,
+      length-set c.args.store.now c.saved_p-2.result c.args.regs.now.p,
+    )

@@ -1,0 +1,21 @@
+use Rattle.std.proofs.Common.{◌∙◌, sym, subst, ◌∷◌}
+use Rattle.coroutines.specs.Active.{active_in}
+use Rattle.coroutines.proofs.Calling.{call-again}
+use Rattle.coroutines.proofs.Building.{Built}
+use Rattle.task_block.specs.Lists.{coroutines_in}
+use Rattle.coroutines.proofs.calls.call.Goals as goal
+use Rattle.coroutines.proofs.calls.call.Goals.{After-enter}
+
+after : (c : After-enter) → Built c.enter.new.store c.args.t (coroutines_in c.args.store.now c.args.t) (c.args.c ∷ active_in c.args.store.now c.args.t)
+after c =
+    subst (λ z. Built z c.args.t (coroutines_in c.args.store.now c.args.t) (c.args.c ∷ active_in c.args.store.now c.args.t)) (sym c.enter.ensures.words)
+    (call-again c.args.store.now c.args.t c.args.regs.now c.args.c c.requires (sym c.is_known.ensures ∙ c.if-not-is_known.false) (sym c.has_parent.ensures ∙ c.if-has_parent.false))
+
+pub returns-clause-active : goal.returns-clause-active
+returns-clause-active c = (after c).active
+
+pub returns-clause-coroutines : goal.returns-clause-coroutines
+returns-clause-coroutines c = (after c).list
+
+pub returns-clause-stand : goal.returns-clause-stand
+returns-clause-stand c = (after c).stand

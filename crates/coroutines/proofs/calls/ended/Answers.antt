@@ -1,0 +1,28 @@
+use Rattle.std.proofs.Common.{sym, subst, drop, arith, ◌+◌}
+use Rattle.coroutines.specs.Active.{active_in}
+use Rattle.coroutines.proofs.Calling.{wait-again}
+use Rattle.coroutines.proofs.Building.{Built}
+use Rattle.task_block.specs.Lists.{coroutines_in}
+use Rattle.coroutines.proofs.Switches.{bounds}
+use Rattle.coroutines.proofs.calls.ended.Goals as goal
+use Rattle.coroutines.proofs.calls.ended.Goals.{After-leave}
+
+pub overflow_add-regs : goal.overflow_add-regs
+overflow_add-regs c = omega (arith, (bounds c.args.store.now c.args.t c.requires.coroutines).current, c.field-current.ensures, c.size-size.ensures, c.size-size.type_inv)
+
+pub overflow_add-current : goal.overflow_add-current
+overflow_add-current c = omega (arith, (bounds c.args.store.now c.args.t c.requires.coroutines).current, c.field-current.ensures, c.size-size.ensures, c.size-size.type_inv)
+
+after : (c : After-leave) → Built c.leave.new.store c.args.t (coroutines_in c.args.store.now c.args.t) (drop 1 (active_in c.args.store.now c.args.t))
+after c =
+    subst (λ z. Built z c.args.t (coroutines_in c.args.store.now c.args.t) (drop 1 (active_in c.args.store.now c.args.t))) (sym c.leave.ensures.words)
+    (wait-again c.args.store.now c.args.t (c.field-current.result + 7) c.word-regs.result c.requires.coroutines c.requires.within)
+
+pub returns-clause-active : goal.returns-clause-active
+returns-clause-active c = (after c).active
+
+pub returns-clause-coroutines : goal.returns-clause-coroutines
+returns-clause-coroutines c = (after c).list
+
+pub returns-clause-stand : goal.returns-clause-stand
+returns-clause-stand c = (after c).stand

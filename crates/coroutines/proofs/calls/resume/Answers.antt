@@ -1,0 +1,26 @@
+use Rattle.std.proofs.Common.{◌∙◌, sym, subst, ◌∷◌, drop, arith}
+use Rattle.coroutines.specs.Active.{active_in}
+use Rattle.coroutines.proofs.Calling.{replace-again}
+use Rattle.coroutines.proofs.Building.{Built}
+use Rattle.task_block.specs.Lists.{coroutines_in}
+use Rattle.coroutines.proofs.Switches.{bounds}
+use Rattle.coroutines.proofs.calls.resume.Goals as goal
+use Rattle.coroutines.proofs.calls.resume.Goals.{After-replace}
+
+pub field-current-requires : goal.field-current-requires
+field-current-requires c = omega (arith, (bounds c.args.store.now c.args.t c.requires).task)
+
+after : (c : After-replace) → Built c.replace.new.store c.args.t (coroutines_in c.args.store.now c.args.t) (c.args.c ∷ drop 1 (active_in c.args.store.now c.args.t))
+after c =
+    subst (λ z. Built z c.args.t (coroutines_in c.args.store.now c.args.t) (c.args.c ∷ drop 1 (active_in c.args.store.now c.args.t))) (sym c.replace.ensures.words)
+    (replace-again c.args.store.now c.args.t c.args.regs.now c.args.c c.requires (λ e. c.if-current-eq0.false (c.field-current.ensures ∙ e))
+    (sym c.is_known.ensures ∙ c.if-not-is_known.false) (sym c.has_parent.ensures ∙ c.if-has_parent.false))
+
+pub returns-clause-active : goal.returns-clause-active
+returns-clause-active c = (after c).active
+
+pub returns-clause-coroutines : goal.returns-clause-coroutines
+returns-clause-coroutines c = (after c).list
+
+pub returns-clause-stand : goal.returns-clause-stand
+returns-clause-stand c = (after c).stand
