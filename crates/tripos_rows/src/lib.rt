@@ -5,3 +5,5 @@
 mod instructions;
 #[cfg(test)]
 mod listings;
+#[cfg(test)]
+mod pictured;
