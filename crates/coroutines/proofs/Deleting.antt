@@ -181,6 +181,6 @@ delete-blocks s t c h known =
     let b : HasBlock s c = known-block s t c h known in
     let blocks : SameBlocks s (unlinked s t c) = unlinked-blocks s t c h known in
     let after : AfterGive (unlinked s t c) (deleted s t c) c (used_block b.start (need (highest_in s c))) =
-      after_give (unlinked s t c) (deleted s t c) c (used_block b.start (need (highest_in s c))) blocks.tiled (unlinked-used s t c h known) refl
+    after_give (unlinked s t c) (deleted s t c) c (used_block b.start (need (highest_in s c))) blocks.tiled (unlinked-used s t c h known) refl
     in
     after.blocks ∙ ap (given c) blocks.blocks

@@ -1,7 +1,6 @@
 -- A task that has no coroutines.
-use Rattle.std.proofs.Common.{◌≡◌, ℕ, zero, suc, ◌+◌, ◌<◌, ◌≤◌, List, [], ◌∷◌, ◌++◌, ◌-◌, length, get_or, set, refl, sym, ap, ◌∙◌, subst, arith, get_or-set_other, get_or-set_same, length-set}
+use Rattle.std.proofs.Common.{◌≡◌, ℕ, ◌+◌, ◌<◌, ◌≤◌, List, [], ◌-◌, length, get_or, set, refl, ap, ◌∙◌, arith, get_or-set_other, get_or-set_same, length-set}
 use Rattle.std.specs.List.{range_with_len}
-use Rattle.store_model.specs.Count.{IsApart, hit, times}
 use Rattle.store_model.specs.Linked.{IsLinked}
 use Rattle.store_model.specs.Block.{used_block}
 use Rattle.store_model.specs.Run.{need}

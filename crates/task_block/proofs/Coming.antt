@@ -6,13 +6,14 @@ use Rattle.std.proofs.lemmas.Bool.{cases_eq}
 use Rattle.store_model.specs.Count.{IsApart, node_words, times, words_of}
 use Rattle.store_model.specs.Chain.{cells, last_cell, list_at}
 use Rattle.store_model.specs.Linked.{IsFresh, IsLinked}
-use Rattle.store_model.specs.Placing.{cell_after, insert_after, linked_in}
+use Rattle.store_model.specs.Placing.{insert_after, linked_in}
 use Rattle.store_model.proofs.Counts.{hit-other, hit-same, times-append, times-within, times-words_more, times-words_of}
 use Rattle.store_model.proofs.Chains.{times-cells}
 use Rattle.store_model.proofs.Frames.{list-set, word-no_cell}
 use Rattle.store_model.proofs.Insertion.{all-append, all-back, all-front, times-front_cell}
 use Rattle.store_model.proofs.Lists.{BecomesList, list-cell, list-insert, list-inserted}
 use Rattle.store_model.proofs.Places.{IsPlace, place}
+use Rattle.task_block.specs.Moves.{link_above, with_task}
 use Rattle.task_block.specs.Versions.{highest_id}
 use Rattle.task_block.specs.TaskChain.{Fall, HasTasks, IsInTable, IsNewTask, id_in, is_above, priority_in, root_words, task_link, task_size, task_with, tasks_in}
 use Rattle.task_block.proofs.Falling.{Fall-insert, Fall-same, all-insert}
@@ -33,15 +34,8 @@ new-fresh s t n =
       ];
     }
 
-abbrev cell_of : List ℕ → ℕ → ℕ
-cell_of s t = cell_after (is_above s t) task_link 101 (tasks_in s)
-
--- the store in which the task has come in
-abbrev pub with_task : List ℕ → ℕ → List ℕ
-with_task s t = set (linked_in s task_link (cell_of s t) t) (120 + id_in s t) t
-
 -- the cell before the task is the head or a word of the chain's tasks, and a cell of the chain
-pub cell-is-cell : (s : List ℕ) (t : ℕ) → 0 < times (cell_of s t) (cells task_link 101 (tasks_in s))
+pub cell-is-cell : (s : List ℕ) (t : ℕ) → 0 < times (link_above s t) (cells task_link 101 (tasks_in s))
 cell-is-cell s t =
     let r : IsPlace (is_above s t) task_link 101 t (tasks_in s) = place (is_above s t) task_link 101 t (tasks_in s) in
     subst (λ c. 0 < times c (cells task_link 101 (tasks_in s))) (sym r.cell)
@@ -52,20 +46,20 @@ pub root-no_cell : (s : List ℕ) → HasTasks s → (a : ℕ) → 100 ≤ a →
 root-no_cell s h a low high ne =
     omega (arith, times-cells s task_link task_size 101 (tasks_in s) h.chain.nodes a, h.apart a, times-append a root_words (words_of task_size (tasks_in s)), root-hit a low high, hit-other a 101 ne)
 
-not-cell : (s : List ℕ) (t a : ℕ) → times a (cells task_link 101 (tasks_in s)) ≡ 0 → a ≢ cell_of s t
+not-cell : (s : List ℕ) (t a : ℕ) → times a (cells task_link 101 (tasks_in s)) ≡ 0 → a ≢ link_above s t
 not-cell s t a none e = absurd (omega (arith, none, subst (λ z. 0 < times z (cells task_link 101 (tasks_in s))) (sym e) (cell-is-cell s t)))
 
 -- any other word than the task's link, the cell before it and its entry stays
-pub with_task-other : (s : List ℕ) (t a : ℕ) → a ≢ t → a ≢ cell_of s t → a ≢ 120 + id_in s t → get_or (with_task s t) a 0 ≡ get_or s a 0
+pub with_task-other : (s : List ℕ) (t a : ℕ) → a ≢ t → a ≢ link_above s t → a ≢ 120 + id_in s t → get_or (with_task s t) a 0 ≡ get_or s a 0
 with_task-other s t a no_link no_cell no_entry =
-    get_or-set_other (linked_in s task_link (cell_of s t) t) (120 + id_in s t) a t 0 no_entry
-    ∙ get_or-set_other (set s t (get_or s (cell_of s t) 0)) (cell_of s t) a t 0 no_cell
-    ∙ get_or-set_other s t a (get_or s (cell_of s t) 0) 0 no_link
+    get_or-set_other (linked_in s task_link (link_above s t) t) (120 + id_in s t) a t 0 no_entry
+    ∙ get_or-set_other (set s t (get_or s (link_above s t) 0)) (link_above s t) a t 0 no_cell
+    ∙ get_or-set_other s t a (get_or s (link_above s t) 0) 0 no_link
 
 length-with_task : (s : List ℕ) (t : ℕ) → length (with_task s t) ≡ length s
 length-with_task s t =
-    length-set (linked_in s task_link (cell_of s t) t) (120 + id_in s t) t
-    ∙ length-set (set s t (get_or s (cell_of s t) 0)) (cell_of s t) t ∙ length-set s t (get_or s (cell_of s t) 0)
+    length-set (linked_in s task_link (link_above s t) t) (120 + id_in s t) t
+    ∙ length-set (set s t (get_or s (link_above s t) 0)) (link_above s t) t ∙ length-set s t (get_or s (link_above s t) 0)
 
 -- a word of the root or the table is not the task's link
 root-not_task : (s : List ℕ) (t a : ℕ) → IsNewTask s t → 100 ≤ a → a < 184 → a ≢ t
@@ -116,7 +110,7 @@ pub own-stays : (s : List ℕ) (t j : ℕ) → HasTasks s → IsNewTask s t → 
 own-stays s t j h n some few =
     let word : times (t + j) (node_words task_size t) ≡ 1 = times-within (t + j) t 23 (omega arith) (omega arith) in
     let parts = times-append (t + j) root_words (words_of task_size (tasks_in s)) in
-    let cell_none : times (cell_of s t) (node_words task_size t) ≡ 0 = list-cell s (is_above s t) task_link task_size 101 t h.chain (new-fresh s t n) in
+    let cell_none : times (link_above s t) (node_words task_size t) ≡ 0 = list-cell s (is_above s t) task_link task_size 101 t h.chain (new-fresh s t n) in
     with_task-other s t (t + j) (λ e. absurd (omega (arith, e, some)))
     (λ e. absurd (omega (arith, word, subst (λ z. times z (node_words task_size t) ≡ 0) (sym e) cell_none)))
     (λ e. absurd (omega (arith, n.apart (t + j), parts, word, root-hit (t + j) (omega (arith, e)) (omega (arith, e, (entry-inside s t h n).1)))))
@@ -148,7 +142,7 @@ task-in s t h n =
     let v : List ℕ = with_task s t in
     let fresh : IsFresh s task_link task_size 101 (tasks_in s) t = new-fresh s t n in
     let r : IsPlace (is_above s t) task_link 101 t (tasks_in s) = place (is_above s t) task_link 101 t (tasks_in s) in
-    let u : List ℕ = linked_in s task_link (cell_of s t) t in
+    let u : List ℕ = linked_in s task_link (link_above s t) t in
     let linked : BecomesList u task_link task_size 101 (insert_after (is_above s t) t (tasks_in s)) =
     list-insert s u (is_above s t) task_link task_size 101 t h.chain fresh (list-inserted s (is_above s t) task_link task_size 101 t h.chain fresh)
     in
@@ -181,7 +175,7 @@ task-in s t h n =
     let listed : AllByRecursion (IsInTable v) (r.front ++ r.back) =
     in-table s t h n (r.front ++ r.back) (subst (AllByRecursion (IsInTable s)) r.whole h.listed) others ids top
     in
-    let here : get_or v (120 + id_in s t) 0 ≡ t = get_or-set_same u (120 + id_in s t) t 0 (omega (arith, entry.1, h.root, length-set (set s t (get_or s (cell_of s t) 0)) (cell_of s t) t, length-set s t (get_or s (cell_of s t) 0))) in
+    let here : get_or v (120 + id_in s t) 0 ≡ t = get_or-set_same u (120 + id_in s t) t 0 (omega (arith, entry.1, h.root, length-set (set s t (get_or s (link_above s t) 0)) (link_above s t) t, length-set s t (get_or s (link_above s t) 0))) in
     let own_entry : IsInTable v t = record { low = omega (arith, own, n.low); high = omega (arith, own, top, n.high); entry = ap (λ i. get_or v (120 + i) 0) own ∙ here } in
     let table : (i : ℕ) → 1 ≤ i → i ≤ highest_id v → get_or v (120 + i) 0 ≡ unwrap_or (task_with v i (r.front ++ t ∷ r.back)) 0 = λ i low high.
     elim (cases_eq i (id_in s t)) [

@@ -1,44 +1,38 @@
 -- A task goes out of the chain and the table.
-use Rattle.std.proofs.Common.{◌≡◌, ◌≢◌, ℕ, ◌+◌, ◌<◌, ◌≤◌, List, [], ◌∷◌, ◌++◌, length, get_or, set, true, refl, sym, ap, ◌∙◌, subst, arith, inl, inr, get_or-set_other, get_or-set_same, length-set}
+use Rattle.std.proofs.Common.{◌≡◌, ◌≢◌, ℕ, ◌+◌, ◌<◌, ◌≤◌, List, [], ◌∷◌, ◌++◌, length, get_or, true, refl, sym, ap, ◌∙◌, subst, arith, inl, inr, get_or-set_other, get_or-set_same, length-set}
 use Rattle.std.specs.Prelude.{unwrap_or}
 use Rattle.std.specs.List.{AllByRecursion}
 use Rattle.std.proofs.lemmas.Bool.{cases_eq}
 use Rattle.store_model.specs.Count.{IsApart, node_words, times, words_of}
 use Rattle.store_model.specs.Chain.{cells, last_cell, list_at}
 use Rattle.store_model.specs.Linked.{IsLinked}
-use Rattle.store_model.specs.Placing.{cell_before, has, linked_out, without}
+use Rattle.store_model.specs.Placing.{has, linked_out, without}
 use Rattle.store_model.proofs.Counts.{hit-other, times-append, times-within, times-words_more, times-words_of}
 use Rattle.store_model.proofs.Chains.{times-cells}
 use Rattle.store_model.proofs.Frames.{list-set, word-no_cell}
 use Rattle.store_model.proofs.Insertion.{all-append, all-back, all-front, times-front_cell}
 use Rattle.store_model.proofs.Lists.{BecomesList, list-node, list-remove, list-removed}
 use Rattle.store_model.proofs.Places.{Stands, stands}
+use Rattle.task_block.specs.Moves.{link_before, without_task}
 use Rattle.task_block.specs.Versions.{highest_id}
 use Rattle.task_block.specs.TaskChain.{Fall, HasTasks, IsInTable, id_in, root_words, task_link, task_size, task_with, tasks_in}
 use Rattle.task_block.proofs.Coming.{root-hit, root-no_cell}
 use Rattle.task_block.proofs.Falling.{Fall-same, Fall-without}
 use Rattle.task_block.proofs.Finding.{none-task_with, task_with-other, task_with-same}
 
-abbrev cell_of : List ℕ → ℕ → ℕ
-cell_of s t = cell_before task_link t 101 (tasks_in s)
-
--- the store in which the task has gone out
-abbrev pub without_task : List ℕ → ℕ → List ℕ
-without_task s t = set (linked_out s task_link (cell_of s t) t) (120 + id_in s t) 0
-
 length-without_task : (s : List ℕ) (t : ℕ) → length (without_task s t) ≡ length s
-length-without_task s t = length-set (linked_out s task_link (cell_of s t) t) (120 + id_in s t) 0 ∙ length-set s (cell_of s t) (get_or s t 0)
+length-without_task s t = length-set (linked_out s task_link (link_before s t) t) (120 + id_in s t) 0 ∙ length-set s (link_before s t) (get_or s t 0)
 
 -- the word before a task is a cell of the chain
-cell-is-cell : (s : List ℕ) (t : ℕ) → Stands task_link 101 t (tasks_in s) → 0 < times (cell_of s t) (cells task_link 101 (tasks_in s))
+cell-is-cell : (s : List ℕ) (t : ℕ) → Stands task_link 101 t (tasks_in s) → 0 < times (link_before s t) (cells task_link 101 (tasks_in s))
 cell-is-cell s t r =
     subst (λ c. 0 < times c (cells task_link 101 (tasks_in s))) (sym r.cell)
     (subst (λ z. 0 < times (last_cell task_link 101 r.front) (cells task_link 101 z)) (sym r.whole) (times-front_cell task_link 101 r.front (t ∷ r.back)))
 
 stays : (s : List ℕ) (t a : ℕ) → Stands task_link 101 t (tasks_in s) → times a (cells task_link 101 (tasks_in s)) ≡ 0 → a ≢ 120 + id_in s t → get_or (without_task s t) a 0 ≡ get_or s a 0
 stays s t a r none no_entry =
-    get_or-set_other (linked_out s task_link (cell_of s t) t) (120 + id_in s t) a 0 0 no_entry
-    ∙ get_or-set_other s (cell_of s t) a (get_or s t 0) 0 (λ e. absurd (omega (arith, none, subst (λ z. 0 < times z (cells task_link 101 (tasks_in s))) (sym e) (cell-is-cell s t r))))
+    get_or-set_other (linked_out s task_link (link_before s t) t) (120 + id_in s t) a 0 0 no_entry
+    ∙ get_or-set_other s (link_before s t) a (get_or s t 0) 0 (λ e. absurd (omega (arith, none, subst (λ z. 0 < times z (cells task_link 101 (tasks_in s))) (sym e) (cell-is-cell s t r))))
 
 -- a task of the chain: what its number is, and that its words are apart
 record InChain (s : List ℕ) (u : ℕ) : Type 0 where
@@ -89,7 +83,7 @@ pub task-out : (s : List ℕ) (t : ℕ) → HasTasks s → has t (tasks_in s) �
 task-out s t h some =
     let v : List ℕ = without_task s t in
     let r : Stands task_link 101 t (tasks_in s) = stands task_link 101 t (tasks_in s) some in
-    let u : List ℕ = linked_out s task_link (cell_of s t) t in
+    let u : List ℕ = linked_out s task_link (link_before s t) t in
     let linked : BecomesList u task_link task_size 101 (without t (tasks_in s)) =
     list-remove s u task_link task_size 101 t h.chain some (list-removed s task_link task_size 101 t h.chain some)
     in
@@ -121,7 +115,7 @@ task-out s t h some =
     let same : (j : ℕ) → 0 < j → j < 23 → AllByRecursion (λ u. get_or v (u + j) 0 ≡ get_or s (u + j) 0) (r.front ++ r.back) = λ j some few. same_word s t h r mine j some few (r.front ++ r.back) rest in
     let ids : AllByRecursion (λ u. id_in v u ≡ id_in s u) (r.front ++ r.back) = same 1 (omega arith) (omega arith) in
     let others : AllByRecursion (λ u. id_in s u ≢ id_in s t) (r.front ++ r.back) = differ s t mine (r.front ++ r.back) rest (not-there s t h r) in
-    let here : get_or v (120 + id_in s t) 0 ≡ 0 = get_or-set_same u (120 + id_in s t) 0 0 (omega (arith, mine.table.high, h.highest, h.root, length-set s (cell_of s t) (get_or s t 0))) in
+    let here : get_or v (120 + id_in s t) 0 ≡ 0 = get_or-set_same u (120 + id_in s t) 0 0 (omega (arith, mine.table.high, h.highest, h.root, length-set s (link_before s t) (get_or s t 0))) in
     let table : (i : ℕ) → 1 ≤ i → i ≤ highest_id v → get_or v (120 + i) 0 ≡ unwrap_or (task_with v i (r.front ++ r.back)) 0 = λ i low high.
     elim (cases_eq i (id_in s t)) [
       | inl e ↦

@@ -1,7 +1,8 @@
 // The chain of tasks, in falling priority, and the task table: a task comes in, and goes out.
 ghost use Rattle.std.specs.Prelude.{◌≡◌, ◌≢◌, ◌+◌, true, slice_set};
 ghost use Rattle.std.specs.List.{AllByRecursion};
-ghost use Rattle.store_model.specs.Placing.{cell_after, cell_before, has, insert_after, linked_in, linked_out, without};
+ghost use Rattle.store_model.specs.Placing.{has, insert_after, without};
+ghost use Rattle.task_block.specs.Moves.{link_above, link_before, with_task, without_task};
 ghost use Rattle.task_block.specs.TaskChain.{Fall, HasTasks, IsNewTask, id_in, is_above, priority_in, task_link, tasks_in};
 
 use crate::fields::{TcbField, field};
@@ -18,12 +19,12 @@ pub fn insert(store: &mut Store, t: u32)
     requires tasks { HasTasks store.old }
     requires task { IsNewTask store.old t }
     ensures chain { tasks_in store.new ≡ insert_after (is_above store.old t) t (tasks_in store.old) }
-    ensures words { store.new ≡ slice_set (linked_in store.old task_link (cell_after (is_above store.old t) task_link 101 (tasks_in store.old)) t) (120 + id_in store.old t) t }
+    ensures words { store.new ≡ with_task store.old t }
     ensures tasks { HasTasks store.new }
     ensures order { Fall store.old (tasks_in store.old) → AllByRecursion (λ u. priority_in store.old u ≢ priority_in store.old t) (tasks_in store.old) → Fall store.new (tasks_in store.new) }
 {
     let id = field(store, t, TcbField::Id);
-    let cell = cell_above(store, t);
+    let cell = link_above(store, t);
     let next = word(store, cell);
     store.set(t, next);
     store.set(cell, t);
@@ -31,10 +32,10 @@ pub fn insert(store: &mut Store, t: u32)
 }
 
 // The word that leads on from the last task of a higher priority than the one at t, or the head of the chain.
-fn cell_above(store: &Store, t: u32) -> u32
+fn link_above(store: &Store, t: u32) -> u32
     requires tasks { HasTasks store.now }
     requires task { IsNewTask store.now t }
-    ensures { result ≡ cell_after (is_above store.now t) task_link 101 (tasks_in store.now) }
+    ensures { result ≡ link_above store.now t }
 {
     let own = field(store, t, TcbField::Pri);
     let mut cell = RootField::FirstTask.address();
@@ -52,22 +53,22 @@ pub fn unlink(store: &mut Store, t: u32)
     requires tasks { HasTasks store.old }
     requires task { has t (tasks_in store.old) ≡ true }
     ensures chain { tasks_in store.new ≡ without t (tasks_in store.old) }
-    ensures words { store.new ≡ slice_set (linked_out store.old task_link (cell_before task_link t 101 (tasks_in store.old)) t) (120 + id_in store.old t) 0 }
+    ensures words { store.new ≡ without_task store.old t }
     ensures tasks { HasTasks store.new }
     ensures order { Fall store.old (tasks_in store.old) → Fall store.new (tasks_in store.new) }
 {
     let id = field(store, t, TcbField::Id);
-    let cell = cell_before(store, t);
+    let cell = link_before(store, t);
     let next = word(store, t);
     store.set(cell, next);
     store.set(TABLE + id, 0);
 }
 
 // The word that leads to the task at t.
-fn cell_before(store: &Store, t: u32) -> u32
+fn link_before(store: &Store, t: u32) -> u32
     requires tasks { HasTasks store.now }
     requires task { has t (tasks_in store.now) ≡ true }
-    ensures { result ≡ cell_before task_link t 101 (tasks_in store.now) }
+    ensures { result ≡ link_before store.now t }
 {
     let mut cell = RootField::FirstTask.address();
     for u in tasks(store) {

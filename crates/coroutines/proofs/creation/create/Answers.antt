@@ -55,4 +55,4 @@ pub returns-clause-blocks : goal.returns-clause-blocks
 returns-clause-blocks c =
     ap blocks_in (words c)
     ∙ create-blocks c.args.store.now c.take.new.store c.args.t c.in_ok-c.c c.args.entry c.args.u c.requires
-      (subst (λ z. IsTaken c.args.store.now c.take.new.store z c.in_ok-c.c) c.max-highest.ensures c.in_ok-c.ensures.taken)
+    (subst (λ z. IsTaken c.args.store.now c.take.new.store z c.in_ok-c.c) c.max-highest.ensures c.in_ok-c.ensures.taken)

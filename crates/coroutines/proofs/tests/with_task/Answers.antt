@@ -1,4 +1,4 @@
-use Rattle.std.proofs.Common.{◌≡◌, ◌∙◌, ap, set, length, subst, sym, arith, length-set}
+use Rattle.std.proofs.Common.{◌∙◌, ap, set, length, subst, sym, arith, length-set}
 use Rattle.coroutines.specs.Coroutines.{HasCoroutines}
 use Rattle.coroutines.proofs.Fresh.{fresh-task, task-room}
 use Rattle.coroutines.proofs.tests.with_task.Goals as goal

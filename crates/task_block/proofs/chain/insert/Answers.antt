@@ -1,6 +1,7 @@
 use Rattle.std.proofs.Common.{◌≡◌, ◌∙◌, ap, set, subst, sym, get_or, ℕ, List, ◌+◌}
+use Rattle.task_block.specs.Moves.{with_task}
 use Rattle.task_block.specs.TaskChain.{Fall, HasTasks, id_in, tasks_in}
-use Rattle.task_block.proofs.Coming.{fall-in, task-in, with_task}
+use Rattle.task_block.proofs.Coming.{fall-in, task-in}
 use Rattle.task_block.proofs.chain.insert.Goals as goal
 
 -- the writes, one after the other
@@ -14,8 +15,8 @@ words : (c : goal.After-set-3) → c.set-3.new.self ≡ with_task c.args.store.n
 words c =
     let s : List ℕ = c.args.store.now in
     let t : ℕ = c.args.t in
-    c.set-3.ensures.after ∙ ap (λ z. set z (120 + c.field-id.result) t) (c.set-2.ensures.after ∙ ap (λ z. set z c.cell_above-cell.result t) c.set.ensures.after)
-    ∙ put s t c.cell_above-cell.result c.word-next.result c.field-id.result _ (id_in s t) c.cell_above-cell.ensures c.word-next.ensures c.field-id.ensures
+    c.set-3.ensures.after ∙ ap (λ z. set z (120 + c.field-id.result) t) (c.set-2.ensures.after ∙ ap (λ z. set z c.link_above-cell.result t) c.set.ensures.after)
+    ∙ put s t c.link_above-cell.result c.word-next.result c.field-id.result _ (id_in s t) c.link_above-cell.ensures c.word-next.ensures c.field-id.ensures
 
 pub returns-clause-words : goal.returns-clause-words
 returns-clause-words c = words c

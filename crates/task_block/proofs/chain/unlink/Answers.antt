@@ -1,6 +1,7 @@
 use Rattle.std.proofs.Common.{◌≡◌, ◌∙◌, ap, set, subst, sym, get_or, ℕ, List, ◌+◌, arith}
+use Rattle.task_block.specs.Moves.{without_task}
 use Rattle.task_block.specs.TaskChain.{Fall, HasTasks, id_in, tasks_in}
-use Rattle.task_block.proofs.Going.{fall-out, leaving, task-out, without_task}
+use Rattle.task_block.proofs.Going.{fall-out, leaving, task-out}
 use Rattle.task_block.proofs.chain.unlink.Goals as goal
 
 pub field-id-requires : goal.field-id-requires
@@ -18,7 +19,7 @@ words : (c : goal.After-set-2) → c.set-2.new.self ≡ without_task c.args.stor
 words c =
     let s : List ℕ = c.args.store.now in
     c.set-2.ensures.after ∙ ap (λ z. set z (120 + c.field-id.result) 0) c.set.ensures.after
-    ∙ put s c.cell_before-cell.result c.word-next.result c.field-id.result _ c.args.t (id_in s c.args.t) c.cell_before-cell.ensures c.word-next.ensures c.field-id.ensures
+    ∙ put s c.link_before-cell.result c.word-next.result c.field-id.result _ c.args.t (id_in s c.args.t) c.link_before-cell.ensures c.word-next.ensures c.field-id.ensures
 
 pub returns-clause-words : goal.returns-clause-words
 returns-clause-words c = words c

@@ -3,7 +3,7 @@ use Rattle.std.specs.List.{AllByRecursion}
 use Rattle.store_model.specs.Linked.{IsNode}
 use Rattle.store_model.specs.Placing.{cell_after}
 use Rattle.task_block.specs.TaskChain.{is_above, task_link, task_size, tasks_in}
-use Rattle.task_block.proofs.chain.cell_above.Given as goal
+use Rattle.task_block.proofs.chain.link_above.Given as goal
 
 abbrev pub invariant-loop-u : goal.invariant-loop-u
 invariant-loop-u l =
