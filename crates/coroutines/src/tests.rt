@@ -83,11 +83,22 @@ fn makes_and_deletes(rt: HostRuntime) -> Result<(), Fail> {
     Ok(())
 }
 
+// The same store with two coroutines, at 233 and 251.
+fn with_two(rt: &HostRuntime) -> Result<Store, Fail>
+    ensures { IfOk result (λ s. HasCoroutines s 201) }
+{
+    let mut store = with_task(rt)?;
+    for (entry, c) in [(800, 233), (900, 251)] {
+        if create(&mut store, TASK, entry, 0) != Ok(c) {
+            return Err(Fail::from("a coroutine"));
+        }
+    }
+    Ok(store)
+}
+
 #[test]
-fn calls_resumes_and_waits(rt: HostRuntime) -> Result<(), Fail> {
-    let mut store = with_task(&rt)?;
-    assert_eq!(rt; create(&mut store, TASK, 800, 0), Ok(233));
-    assert_eq!(rt; create(&mut store, TASK, 900, 0), Ok(251));
+fn refuses_in_the_root(rt: HostRuntime) -> Result<(), Fail> {
+    let mut store = with_two(&rt)?;
     let mut regs = at(50, 1000);
     assert_eq!(rt; wait(&mut store, TASK, &mut regs, 7), Err(CoEnd::NoParent));
     assert_eq!(rt;
@@ -103,8 +114,13 @@ fn calls_resumes_and_waits(rt: HostRuntime) -> Result<(), Fail> {
         Err(CoEnd::Unknown)
     );
     assert_eq!(rt; regs, at(50, 1000));
+    Ok(())
+}
 
-    // from the root into 233, and from there into 251
+#[test]
+fn calls_from_the_root_and_from_within(rt: HostRuntime) -> Result<(), Fail> {
+    let mut store = with_two(&rt)?;
+    let mut regs = at(50, 1000);
     assert_eq!(rt; call(&mut store, TASK, &mut regs, 233, 7), Ok(()));
     assert_eq!(rt; regs, on(7, 240, 800));
     assert!(rt; words_are(&store, 219, &[233, 50, 1000]));
@@ -119,17 +135,32 @@ fn calls_resumes_and_waits(rt: HostRuntime) -> Result<(), Fail> {
     assert!(rt; words_are(&store, 233, &[60, 201, 0, 800, 16, 233, 1100, 0, 0, 800]));
     assert!(rt; words_are(&store, 251, &[258, 233]));
     assert!(rt; words_are(&store, 219, &[251, 50, 1000]));
+    Ok(())
+}
 
-    // 251 resumes itself, and may not resume its parent
-    regs = at(70, 1200);
+// The same store where 233 was called from the root, and 251 from there.
+fn within_two(rt: &HostRuntime) -> Result<Store, Fail>
+    ensures { IfOk result (λ s. HasCoroutines s 201) }
+{
+    let mut store = with_two(rt)?;
+    for (c, mut regs) in [(233, at(50, 1000)), (251, at(60, 1100))] {
+        if call(&mut store, TASK, &mut regs, c, 7).is_err() {
+            return Err(Fail::from("a call"));
+        }
+    }
+    Ok(store)
+}
+
+#[test]
+fn resumes_and_waits(rt: HostRuntime) -> Result<(), Fail> {
+    let mut store = within_two(&rt)?;
+    let mut regs = at(70, 1200);
     assert_eq!(rt; resume(&mut store, TASK, &mut regs, 251, 9), Ok(()));
     assert_eq!(rt; regs, on(9, 70, 1200));
     assert_eq!(rt;
         resume(&mut store, TASK, &mut regs, 233, 9),
         Err(CoEnd::HasParent)
     );
-
-    // 251 waits, and 233 resumes it in its own place
     assert_eq!(rt; wait(&mut store, TASK, &mut regs, 10), Ok(()));
     assert_eq!(rt; regs, on(10, 60, 1100));
     assert!(rt; words_are(&store, 251, &[70, 0, 233, 900, 16, 251, 1200]));
@@ -137,8 +168,14 @@ fn calls_resumes_and_waits(rt: HostRuntime) -> Result<(), Fail> {
     assert_eq!(rt; regs, on(11, 70, 1200));
     assert!(rt; words_are(&store, 251, &[70, 201]));
     assert!(rt; words_are(&store, 233, &[60, 0, 0, 800, 16, 233, 1100]));
+    Ok(())
+}
 
-    // the function of 251 returns: it will start again at its function
+#[test]
+fn starts_again_at_its_function(rt: HostRuntime) -> Result<(), Fail> {
+    let mut store = with_two(&rt)?;
+    let mut regs = at(50, 1000);
+    assert_eq!(rt; call(&mut store, TASK, &mut regs, 251, 7), Ok(()));
     regs = at(0, 0);
     regs.a = 12;
     ended(&mut store, TASK, &mut regs);
