@@ -16,17 +16,21 @@ use Rattle.coroutines.specs.Coroutines.{HasBlock, HasCoroutines, HasTaskBlock}
 use Rattle.coroutines.specs.CoroutineWords.{coroutine_size, parent_in}
 use Rattle.coroutines.proofs.Outward.{IsInner, outwards-is}
 
+-- a member at the front, and behind it
+pub has-here : (k : ℕ) (ks : List ℕ) → has k (k ∷ ks) ≡ true
+has-here k ks = (let same : eqb k k ≡ true = grind (arith, nat_tests) in ap (λ b. b || has k ks) same)
+
+pub has-there : (m k : ℕ) (ks : List ℕ) → has m ks ≡ true → has m (k ∷ ks) ≡ true
+has-there m k ks some = on (eqb m k) refl
+  where
+    on : (b : Bool) → eqb m k ≡ b → has m (k ∷ ks) ≡ true
+    on true e = ap (λ b. b || has m ks) e
+    on false e = ap (λ b. b || has m ks) e ∙ some
+
 -- what holds of each member follows from being a member
 pub all-members : (P : ℕ → Type 0) (cs : List ℕ) → ((c : ℕ) → has c cs ≡ true → P c) → AllByRecursion P cs
 all-members P [] each = tt
-all-members P (c ∷ cs) each = (each c here, all-members P cs (λ k some. each k (there (eqb k c) k refl some)))
-  where
-    here : has c (c ∷ cs) ≡ true
-    here = (let same : eqb c c ≡ true = grind (arith, nat_tests) in ap (λ b. b || has c cs) same)
-
-    there : (b : Bool) (k : ℕ) → eqb k c ≡ b → has k cs ≡ true → has k (c ∷ cs) ≡ true
-    there true k e some = ap (λ b. b || has k cs) e
-    there false k e some = ap (λ b. b || has k cs) e ∙ some
+all-members P (c ∷ cs) each = (each c (has-here c cs), all-members P cs (λ k some. each k (has-there k c cs some)))
 
 -- what has to hold of a store for these coroutines, of which these are active
 pub record Parts (v : List ℕ) (t : ℕ) (cs act : List ℕ) : Type 0 where

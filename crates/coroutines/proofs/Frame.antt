@@ -1,8 +1,7 @@
 -- A store in which a call has changed words of the task block and of coroutines.
-use Rattle.std.proofs.Common.{◌≡◌, ◌≢◌, ◌⊎◌, inl, inr, ℕ, ◌+◌, ◌<◌, ◌≤◌, List, [], ◌∷◌, length, get_or, eqb, ◌||◌, Bool, true, false, Some, refl, sym, ap, ◌∙◌, subst, arith}
+use Rattle.std.proofs.Common.{◌≡◌, ◌≢◌, ◌⊎◌, inl, inr, ℕ, ◌+◌, ◌<◌, ◌≤◌, List, [], ◌∷◌, length, get_or, true, false, Some, sym, ap, ◌∙◌, subst, arith}
 use Rattle.std.specs.List.{AllByRecursion}
 use Rattle.std.proofs.lemmas.Bool.{cases_eq}
-use Rattle.std.proofs.lemmas.Bool.Decides.{nat_tests}
 use Rattle.store_model.specs.Block.{used_block}
 use Rattle.store_model.specs.Chain.{cells}
 use Rattle.store_model.specs.Count.{IsApart, times}
@@ -18,7 +17,7 @@ use Rattle.coroutines.specs.Active.{LeadsOut}
 use Rattle.coroutines.specs.Coroutines.{HasBlock, HasCoroutines}
 use Rattle.coroutines.specs.CoroutineWords.{coroutine_size, highest_in, parent_in}
 use Rattle.coroutines.specs.Refusals.{is_known}
-use Rattle.coroutines.proofs.Building.{Built, all-members, built}
+use Rattle.coroutines.proofs.Building.{Built, all-members, built, has-here, has-there}
 use Rattle.coroutines.proofs.Known.{known-block, known-held, known-same, task-apart, task-held}
 
 -- only the words 18 to 20 of the task block, and the words 0, 1 and 6 of its coroutines, have changed
@@ -64,16 +63,9 @@ cell-cases link a at (p ∷ ps) some =
       | inr ne ↦ later (cell-cases link a (link p) ps (omega (arith, some, hit-other a at ne)))
     ]
   where
-    here : has p (p ∷ ps) ≡ true
-    here = (let same : eqb p p ≡ true = grind (arith, nat_tests) in ap (λ b. b || has p ps) same)
-
-    there : (b : Bool) (k : ℕ) → eqb k p ≡ b → has k ps ≡ true → has k (p ∷ ps) ≡ true
-    there true k e some = ap (λ b. b || has k ps) e
-    there false k e some = ap (λ b. b || has k ps) e ∙ some
-
     later : (a ≡ link p) ⊎ ((k : ℕ) × (has k ps ≡ true) × (a ≡ link k)) → (a ≡ at) ⊎ ((k : ℕ) × (has k (p ∷ ps) ≡ true) × (a ≡ link k))
-    later (inl e) = inr (p, here, e)
-    later (inr (k, some, e)) = inr (k, there (eqb k p) k refl some, e)
+    later (inl e) = inr (p, has-here p ps, e)
+    later (inr (k, some, e)) = inr (k, has-there k p ps some, e)
 
 same-list : (s v : List ℕ) (t : ℕ) → HasCoroutines s t → IsCall s v t → BecomesList v coroutine_link coroutine_size (t + 17) (coroutines_in s t)
 same-list s v t h c =

@@ -1,8 +1,7 @@
 -- Coroutines that stay as they are while another one is made or deleted.
-use Rattle.std.proofs.Common.{◌≡◌, ◌≢◌, inl, inr, ℕ, ◌+◌, ◌-◌, ◌<◌, ◌≤◌, List, [], ◌∷◌, get_or, eqb, ◌||◌, Bool, true, false, Some, refl, sym, ap, ◌∙◌, subst, arith}
+use Rattle.std.proofs.Common.{◌≡◌, ◌≢◌, inl, inr, ℕ, ◌+◌, ◌-◌, ◌<◌, ◌≤◌, List, [], ◌∷◌, get_or, true, Some, refl, sym, ap, ◌∙◌, subst, arith}
 use Rattle.std.specs.List.{AllByRecursion, range_with_len}
 use Rattle.std.proofs.lemmas.Bool.{cases_lt}
-use Rattle.std.proofs.lemmas.Bool.Decides.{nat_tests}
 use Rattle.store_model.specs.Block.{used_block}
 use Rattle.store_model.specs.Count.{node_words, times, words_of}
 use Rattle.store_model.specs.Placing.{has}
@@ -13,19 +12,9 @@ use Rattle.task_block.specs.Lists.{coroutines_in}
 use Rattle.coroutines.specs.Active.{LeadsOut, active_in}
 use Rattle.coroutines.specs.Coroutines.{HasBlock, HasCoroutines}
 use Rattle.coroutines.specs.Refusals.{is_known}
+use Rattle.coroutines.proofs.Building.{has-here, has-there}
 use Rattle.coroutines.proofs.Known.{known-block}
 use Rattle.coroutines.proofs.Outward.{LeadsOut-same}
-
--- a member at the front, and behind it
-pub has-here : (k : ℕ) (ks : List ℕ) → has k (k ∷ ks) ≡ true
-has-here k ks = (let same : eqb k k ≡ true = grind (arith, nat_tests) in ap (λ b. b || has k ks) same)
-
-pub has-there : (m k : ℕ) (ks : List ℕ) → has m ks ≡ true → has m (k ∷ ks) ≡ true
-has-there m k ks some = on (eqb m k) refl
-  where
-    on : (b : Bool) → eqb m k ≡ b → has m (k ∷ ks) ≡ true
-    on true e = ap (λ b. b || has m ks) e
-    on false e = ap (λ b. b || has m ks) e ∙ some
 
 -- the active ones lead out as before, where the words that name them are as they were
 pub same-out : (s v : List ℕ) (t : ℕ) → HasCoroutines s t → get_or v (t + 18) 0 ≡ get_or s (t + 18) 0 → ((k : ℕ) → is_known s t k ≡ true → has k (active_in s t) ≡ true → get_or v (k + 1) 0 ≡ get_or s (k + 1) 0)

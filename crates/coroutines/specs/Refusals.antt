@@ -24,11 +24,9 @@ has_parent s t c = has c (active_in s t)
 abbrev pub is_within : List ℕ → ℕ → Bool
 is_within s t = not (current_in s t == 0)
 
-abbrev pub delete_answer : List ℕ → ℕ → ℕ → Result Unit CoEnd
-delete_answer s t c = first_refusal ((is_known s t c, Unknown) ∷ (not (has_parent s t c), HasParent) ∷ [])
-
-abbrev pub call_answer : List ℕ → ℕ → ℕ → Result Unit CoEnd
-call_answer s t c = first_refusal ((is_known s t c, Unknown) ∷ (not (has_parent s t c), HasParent) ∷ [])
+-- what is deleted or called has to be a coroutine of the task without a parent
+abbrev pub idle_answer : List ℕ → ℕ → ℕ → Result Unit CoEnd
+idle_answer s t c = first_refusal ((is_known s t c, Unknown) ∷ (not (has_parent s t c), HasParent) ∷ [])
 
 -- the current one may be resumed too
 abbrev pub resume_answer : List ℕ → ℕ → ℕ → Result Unit CoEnd

@@ -3,7 +3,7 @@ ghost use Rattle.std.specs.Prelude.{◌≡◌, ◌≢◌, ◌∷◌, drop, OnErr
 ghost use Rattle.coroutines.specs.Active.{active_in};
 ghost use Rattle.coroutines.specs.Coroutines.{HasCoroutines};
 ghost use Rattle.coroutines.specs.CoroutineWords.{as_current, current_in, parent_in};
-ghost use Rattle.coroutines.specs.Refusals.{call_answer, resume_answer, wait_answer};
+ghost use Rattle.coroutines.specs.Refusals.{idle_answer, resume_answer, wait_answer};
 ghost use Rattle.coroutines.specs.Switch.{called, entered, resumed, resumed_regs, returned, waited};
 ghost use Rattle.task_block.specs.Lists.{coroutines_in};
 
@@ -23,7 +23,7 @@ const BOTTOM: u32 = 7;
 /// Calls the coroutine c of the task at t with v: the current one becomes its parent, and c goes on.
 pub fn call(store: &mut Store, t: u32, regs: &mut Regs, c: u32, v: u32) -> Result<(), CoEnd>
     requires { HasCoroutines store.old t }
-    ensures answer { result ≡ call_answer store.old t c }
+    ensures answer { result ≡ idle_answer store.old t c }
     ensures words { OnOk result (store.new ≡ called store.old t regs.old c) }
     ensures regs { OnOk result (regs.new ≡ entered store.old t regs.old c v) }
     ensures active { OnOk result (active_in store.new t ≡ c ∷ active_in store.old t) }

@@ -8,7 +8,7 @@ ghost use Rattle.store_model.specs.Tiling.{blocks_in};
 ghost use Rattle.coroutines.specs.Active.{active_in};
 ghost use Rattle.coroutines.specs.Coroutines.{HasCoroutines};
 ghost use Rattle.coroutines.specs.Creation.{IsCreated, deleted, highest};
-ghost use Rattle.coroutines.specs.Refusals.{delete_answer, is_known};
+ghost use Rattle.coroutines.specs.Refusals.{idle_answer, is_known};
 ghost use Rattle.task_block.specs.Lists.{coroutine_link, coroutines_in};
 
 use crate::ends::CoEnd;
@@ -51,7 +51,7 @@ pub fn create(store: &mut Store, t: u32, entry: u32, u: u32) -> Result<u32, NoRo
 /// Deletes the coroutine c of the task at t and gives its block back.
 pub fn delete(store: &mut Store, t: u32, c: u32) -> Result<(), CoEnd>
     requires { HasCoroutines store.old t }
-    ensures answer { result ≡ delete_answer store.old t c }
+    ensures answer { result ≡ idle_answer store.old t c }
     ensures words { OnOk result (store.new ≡ deleted store.old t c) }
     ensures blocks { OnOk result (blocks_in store.new ≡ given c (blocks_in store.old)) }
     ensures coroutines { OnOk result (coroutines_in store.new t ≡ without c (coroutines_in store.old t)) }
