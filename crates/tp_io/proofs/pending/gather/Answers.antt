@@ -6,7 +6,7 @@ use Rattle.tp_io.proofs.pending.gather.Goals as goal
 pub returns-in_err-pass_on-clause-text : goal.returns-in_err-pass_on-clause-text
 returns-in_err-pass_on-clause-text g c =
     let p = err_from_is_err_and c.from_residual.result c.from_residual.ensures.1 in
-    rw p.1 (AppendsPrefix-more _ _ _ _ c.in_err-pass_on.ensures.text)
+    rw p.1 (record { prefix = AppendsPrefix-more _ _ _ _ c.in_err-pass_on.ensures.text })
 
 pub returns-clause-text : goal.returns-clause-text
 returns-clause-text g c =

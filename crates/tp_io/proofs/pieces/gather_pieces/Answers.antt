@@ -5,7 +5,7 @@ use Rattle.tp_io.specs.Pieces.{text_of}
 use Rattle.tp_io.specs.declared.pieces.Piece.{Piece}
 use Rattle.tp_io.specs.declared.pieces.Piece.TheVariants.{Text}
 use Rattle.tp_io.proofs.Appending.{flat_map-at, flat_map-more}
-use Rattle.tp_io.proofs.GatheredTexts.{Gathers-more, IsGathered-cut, IsGathered-then}
+use Rattle.tp_io.proofs.GatheredTexts.{IsCut-more, IsCut-then, IsGathered-then}
 use Rattle.tp_io.proofs.pieces.gather_pieces.Goals as goal
 
 abbrev no_piece : Piece
@@ -17,7 +17,7 @@ returns-in_err-gather_piece-clause-text g c =
     let pieces = c.args.pieces.now in
     let p = err_from_is_err_and c.from_residual.result c.from_residual.ensures.1 in
     rw p.1 (rw (flat_map-at text_of pieces i no_piece c.loop-piece-test.true)
-    (IsGathered-cut c.loop-piece.invariant.text _ _ (Gathers-more _ _ _ _ (flat_map text_of (drop (suc i) pieces)) c.in_err-gather_piece.ensures.text)))
+    (IsCut-then c.loop-piece.invariant.text (IsCut-more (flat_map text_of (drop (suc i) pieces)) c.in_err-gather_piece.ensures.text)))
 
 pub loop-piece-preserved : goal.loop-piece-preserved
 loop-piece-preserved g c = record {
