@@ -1,6 +1,7 @@
 // The calls that a bare machine knows.
 ghost use Rattle.std.specs.Prelude.{◌≡◌, ◌<◌};
-ghost use Rattle.tripos_run.specs.Calls.{answered, argument, called, multiply_divide, quit, write_character};
+ghost use Rattle.tripos_machine.specs.Calls.{argument, call_answer, regs_after};
+ghost use Rattle.tripos_machine.specs.Calls.{multiply_divide, quit, write_character};
 
 use crate::bare::Stop;
 use cint_exec::Fault;
@@ -8,7 +9,7 @@ use word_store::{Regs, Store, add, mul_div};
 
 /// What a call leaves: new registers, the byte for the console, and why the machine has stopped.
 #[derive(Clone, Copy, Debug)]
-pub struct Called {
+pub struct CallAnswer {
     pub regs: Regs,
     pub byte: Option<u8>,
     pub stop: Option<Stop>,
@@ -16,8 +17,8 @@ pub struct Called {
 
 /// The call that SYS makes. The fault is 3 where its number or an argument is outside the store, and 7 where a bare machine
 /// has no such call.
-pub fn call(store: &Store, r: Regs) -> Result<Called, Fault>
-    ensures { result ≡ called store.now r }
+pub fn call(store: &Store, r: Regs) -> Result<CallAnswer, Fault>
+    ensures { result ≡ call_answer store.now r }
 {
     let number = argument(store, r, 0)?;
     match number {
@@ -44,8 +45,8 @@ fn argument(store: &Store, r: Regs, i: u32) -> Result<u32, Fault>
 }
 
 // The registers after a call with this answer.
-fn answered(r: Regs, a: u32, b: u32) -> Regs
-    ensures { result ≡ answered r a b }
+fn regs_after(r: Regs, a: u32, b: u32) -> Regs
+    ensures { result ≡ regs_after r a b }
 {
     Regs {
         a,
@@ -55,37 +56,37 @@ fn answered(r: Regs, a: u32, b: u32) -> Regs
     }
 }
 
-fn quit(store: &Store, r: Regs) -> Result<Called, Fault>
+fn quit(store: &Store, r: Regs) -> Result<CallAnswer, Fault>
     ensures { result ≡ quit store.now r }
 {
     let code = argument(store, r, 1)?;
-    Ok(Called {
-        regs: answered(r, u32::MAX, 0),
+    Ok(CallAnswer {
+        regs: regs_after(r, u32::MAX, 0),
         byte: None,
         stop: Some(Stop::Quit(code)),
     })
 }
 
-fn write_character(store: &Store, r: Regs) -> Result<Called, Fault>
+fn write_character(store: &Store, r: Regs) -> Result<CallAnswer, Fault>
     ensures { result ≡ write_character store.now r }
 {
     let ch = argument(store, r, 1)?;
-    Ok(Called {
-        regs: answered(r, ch, 0),
+    Ok(CallAnswer {
+        regs: regs_after(r, ch, 0),
         byte: Some((ch % 256) as u8),
         stop: None,
     })
 }
 
-fn multiply_divide(store: &Store, r: Regs) -> Result<Called, Fault>
+fn multiply_divide(store: &Store, r: Regs) -> Result<CallAnswer, Fault>
     ensures { result ≡ multiply_divide store.now r }
 {
     let a = argument(store, r, 1)?;
     let b = argument(store, r, 2)?;
     let c = argument(store, r, 3)?;
     let (quotient, remainder) = mul_div(a, b, c);
-    Ok(Called {
-        regs: answered(r, quotient, remainder),
+    Ok(CallAnswer {
+        regs: regs_after(r, quotient, remainder),
         byte: None,
         stop: None,
     })

@@ -1,8 +1,8 @@
 // A machine without a kernel.
 ghost use Rattle.std.specs.Prelude.{◌≡◌, ◌<◌};
-ghost use Rattle.tripos_run.specs.Calls.{called};
-ghost use Rattle.tripos_run.specs.Bare.{after_call, step};
-ghost use Rattle.tripos_run.specs.Stepping.{HasStepped};
+ghost use Rattle.tripos_machine.specs.Calls.{call_answer};
+ghost use Rattle.tripos_machine.specs.Bare.{after_call, after_instruction, step};
+ghost use Rattle.tripos_machine.specs.Step.{IsStep};
 
 use crate::calls::call;
 use cint_exec::{Fault, NoKernel, Outcome, execute};
@@ -34,43 +34,61 @@ pub struct Bare {
 }
 
 impl Bare {
-    /// One step: an instruction, or a call.
+    /// One instruction. At `Next` it is a step of its own; after another outcome `end` has to follow, and both together
+    /// are one step.
+    #[inline(always)]
     #[tactic(auto, unfolding(crate::specs::Bare::step))]
-    pub fn step(&mut self) -> Step
+    pub fn start(&mut self) -> Outcome
         requires { self.old.regs.c < 256 }
-        ensures step { HasStepped (step self.old.store self.old.regs) self.new.store self.new.regs result }
+        ensures step { step self.old.store self.old.regs
+            ≡ after_instruction self.new.store self.new.regs result }
         ensures byte { self.new.regs.c < 256 }
     {
-        match execute(&mut self.store, &mut self.regs, &NoKernel) {
+        execute(&mut self.store, &mut self.regs, &NoKernel)
+    }
+
+    /// The rest of a step, whose instruction came to this outcome.
+    #[inline(always)]
+    pub fn end(&mut self, outcome: Outcome) -> Step
+        requires { self.old.regs.c < 256 }
+        ensures step { IsStep (after_instruction self.old.store self.old.regs outcome)
+            self.new.store self.new.regs result }
+        ensures byte { self.new.regs.c < 256 }
+    {
+        match outcome {
             Outcome::Next => Step {
                 byte: None,
                 stop: None,
             },
             Outcome::Sys => self.call(),
-            Outcome::Returned => stopped(Stop::Quit(0)),
-            Outcome::Fault(fault) => faulted(fault),
+            Outcome::Returned => stop_step(Stop::Quit(0)),
+            Outcome::Fault(fault) => fault_step(fault),
         }
     }
 
+    #[cold]
+    #[inline(never)]
     fn call(&mut self) -> Step
         requires { self.old.regs.c < 256 }
-        ensures step { HasStepped (after_call self.old.store self.old.regs (called self.old.store self.old.regs)) self.new.store self.new.regs result }
+        ensures step { IsStep
+            (after_call self.old.store self.old.regs (call_answer self.old.store self.old.regs))
+            self.new.store self.new.regs result }
         ensures byte { self.new.regs.c < 256 }
     {
         match call(&self.store, self.regs) {
-            Ok(called) => {
-                self.regs = called.regs;
+            Ok(answer) => {
+                self.regs = answer.regs;
                 Step {
-                    byte: called.byte,
-                    stop: called.stop,
+                    byte: answer.byte,
+                    stop: answer.stop,
                 }
             }
-            Err(fault) => faulted(fault),
+            Err(fault) => fault_step(fault),
         }
     }
 }
 
-fn stopped(stop: Stop) -> Step
+fn stop_step(stop: Stop) -> Step
     ensures { result ≡ record { byte = None; stop = Some stop } }
 {
     Step {
@@ -80,10 +98,10 @@ fn stopped(stop: Stop) -> Step
 }
 
 // A bare machine runs no task.
-fn faulted(fault: Fault) -> Step
+fn fault_step(fault: Fault) -> Step
     ensures { result ≡ record { byte = None; stop = Some (Stop.Fault fault.code fault.address 0) } }
 {
-    stopped(Stop::Fault {
+    stop_step(Stop::Fault {
         code: fault.code,
         address: fault.address,
         task: 0,

@@ -1,6 +1,6 @@
 // What a bare session puts into its machine.
 ghost use Rattle.std.specs.Prelude.{◌≡◌, ◌+◌, ◌^◌, ◌<◌, ◌≤◌, length, IfOk};
-ghost use Rattle.tripos_run.specs.Booting.{Boots, boot, code_of, first_regs, with_bytes, with_lines};
+ghost use Rattle.tripos_machine.specs.Boot.{Boots, boot, code_of, first_regs, with_bytes, with_lines};
 
 use crate::bare::Bare;
 use session_text::{LineForm, Session, SessionLine};
@@ -20,7 +20,7 @@ pub enum BootEnd {
 
 impl From<NoStoreMemory> for BootEnd {
     ghost use Rattle.std.specs.Prelude.{◌≡◌};
-    ghost use Rattle.tripos_run.specs.declared.booting.BootEnd.TheVariants.{WantMemory};
+    ghost use Rattle.tripos_machine.specs.declared.boot.BootEnd.TheVariants.{WantMemory};
 
     ghost from_gives = { λ _ e. e ≡ WantMemory };
 
@@ -30,7 +30,7 @@ impl From<NoStoreMemory> for BootEnd {
 }
 
 /// The machine of a bare session: its code stands in the store from byte 800 on, and all other words are 0.
-#[tactic(auto, unfolding(crate::specs::Booting::boot))]
+#[tactic(auto, unfolding(crate::specs::Boot::boot))]
 pub fn boot(alloc: Global, session: &Session) -> Result<Bare, BootEnd>
     requires { session.now.store ≤ 4194304 }
     ensures store { Boots (λ m. m.store) result (boot session.now) }
