@@ -4,41 +4,46 @@ use Rattle.std.specs.Prelude.{is_ok, if◌then◌else◌}
 use Rattle.std.proofs.lemmas.Bool.Decides.{nat_tests}
 use Rattle.std.specs.Io.KnownBytes.{Appends, Consumes, IsAtEnd, Keeps}
 use Rattle.tp_io.specs.Writing.{AppendsPrefix, Prints}
-use Rattle.tp_io.proofs.Appending.{Appends-then, AppendsPrefix-then, AppendsPrefix-more}
+use Rattle.tp_io.specs.Pending.{IsCut, IsGathered}
+use Rattle.tp_io.proofs.Appending.{AppendsPrefix-more}
+use Rattle.tp_io.proofs.GatheredTexts.{IsCut-first, Prints-after}
 use Rattle.word_store.specs.declared.registers.Regs.{Regs}
-use Rattle.tripos_run.specs.declared.bare.Stop.{Stop}
-use Rattle.tripos_run.specs.declared.bare.Stop.TheVariants.{Steps, Quit, Fault}
+use Rattle.tripos_machine.specs.declared.bare.Stop.{Stop}
+use Rattle.tripos_machine.specs.declared.bare.Stop.TheVariants.{Steps, Quit, Fault}
 use Rattle.tripos_run.specs.declared.commands.Command.{Command}
 use Rattle.tripos_run.specs.declared.status.Status.{Status}
 use Rattle.tripos_run.specs.declared.status.Status.TheVariants.{Done, GuestFault, Usage, Refused, NoBoot, ReadFault, WriteFault, TooLong, WantMemory}
-use Rattle.tripos_run.specs.Running.{HasRun, Run}
+use Rattle.tripos_machine.specs.Run.{IsRunEnd, Run}
 use Rattle.tripos_run.specs.Texts.{closing_text, too_long_text, usage_text}
 use Rattle.tripos_run.specs.Answer.{Answer, Answers, command_answer, input_answer, limit, run_answer, status_of, text_answer, words_text}
-use Rattle.tripos_run.specs.Reading.{IsInput, IsTextEnd, Leaves, TakesSome}
+use Rattle.tripos_run.specs.Input.{IsInput}
 
--- the bytes of a run, and its end
-text_is : (command : Command) (x : Run) (h m : Option (List ℕ)) (words : List ℕ) (regs : Regs) (steps : ℕ) (stop : Stop) → HasRun x h m words regs steps stop → x.bytes ++ (closing_text steps stop ++ words_text command words) ≡ (run_answer command x).bytes
-text_is command x h m words regs steps stop r = rw (r.steps_are, r.stop_is, r.words_are) refl
+-- the status of a call that has printed its text
+abbrev pub status_after : {T E : Type 0} → Result T E → Status → Status
+status_after written s = if is_ok written then s else WriteFault
 
 answers_stop : (a : Answer) (h k : Option (List ℕ)) (stop : Stop) → a.status ≡ status_of stop → Appends h k a.bytes → Answers a h k (status_of stop)
 answers_stop a h k Steps e p = (e, p)
 answers_stop a h k (Quit code) e p = (e, p)
 answers_stop a h k (Fault code address task) e p = (e, p)
 
--- the status of a call that has printed its text
-abbrev pub status_after : {T E : Type 0} → Result T E → Status → Status
-status_after written s = if is_ok written then s else WriteFault
+run_printed : {T E : Type 0} (a : Answer) (h k : Option (List ℕ)) (stop : Stop) (written : Result T E) → a.status ≡ status_of stop → Prints h k a.bytes written → Answers a h k (status_after written (status_of stop))
+run_printed a h k stop (Ok t) e p = answers_stop a h k stop e p
+run_printed a h k stop (Err d) e p = p
 
-pub run_answered : {T E : Type 0} (command : Command) (x : Run) (h m k : Option (List ℕ)) (words : List ℕ) (regs : Regs) (steps : ℕ) (stop : Stop) (written : Result T E) → HasRun x h m words regs steps stop
-    → Prints m k (closing_text steps stop ++ words_text command words) written → Answers (run_answer command x) h k (status_after written (status_of stop))
-run_answered command x h m k words regs steps stop (Ok t) r p =
-    answers_stop (run_answer command x) h k stop (ap status_of (sym r.stop_is))
-    (subst (Appends h k) (text_is command x h m words regs steps stop r) (Appends-then h m k x.bytes _ r.written p))
-run_answered command x h m k words regs steps stop (Err e) r p =
-    subst (AppendsPrefix h k) (text_is command x h m words regs steps stop r) (AppendsPrefix-then h m k x.bytes _ r.written p)
+-- the bytes of a run are gathered, where nothing was pending, and printed with its end
+pub run_answered : {T E : Type 0} (command : Command) (x : Run) {h m : Option (List ℕ)} {p q : List ℕ} (k : Option (List ℕ)) {words : List ℕ} {regs : Regs} (steps : ℕ) (stop : Stop) (written : Result T E) → p ≡ []
+    → IsRunEnd x words regs steps stop → IsGathered h m p q x.bytes → Prints m k (q ++ (closing_text steps stop ++ words_text command words)) written
+    → Answers (run_answer command x) h k (status_after written (status_of stop))
+run_answered command x {h} {m} {p} {q} k {words} steps stop written none end gathered last =
+    let text : closing_text steps stop ++ words_text command words ≡ closing_text x.steps x.stop ++ words_text command x.words = rw (end.steps_are, end.stop_is, end.words_are) refl in
+    let whole = Prints-after gathered k (closing_text steps stop ++ words_text command words) written last in
+    run_printed (run_answer command x) h k stop written (ap status_of (sym end.stop_is))
+    (subst (λ (v : List ℕ). Prints h k (x.bytes ++ v) written) text (subst (λ (v : List ℕ). Prints h k (v ++ (x.bytes ++ (closing_text steps stop ++ words_text command words))) written) none whole))
 
-pub run_cut : (command : Command) (x : Run) (h k : Option (List ℕ)) → AppendsPrefix h k x.bytes → AppendsPrefix h k (run_answer command x).bytes
-run_cut command x h k a = AppendsPrefix-more h k x.bytes (closing_text x.steps x.stop ++ words_text command x.words) a
+-- the sink failed while the bytes of a run were gathered
+pub run_cut : (command : Command) (x : Run) {h k : Option (List ℕ)} {p : List ℕ} → p ≡ [] → IsCut h k p x.bytes → AppendsPrefix h k (run_answer command x).bytes
+run_cut command x {h} {k} none cut = AppendsPrefix-more h k x.bytes (closing_text x.steps x.stop ++ words_text command x.words) (IsCut-first none cut)
 
 short_input : (command : Command) (input : List ℕ) → length input ≤ limit → input_answer command input ≡ text_answer command input
 unfolding input_answer
@@ -95,15 +100,3 @@ pub answered : (command : Option Command) (named : Command) (left left' : Option
     → Answers (text_answer named text) h k s → (input : List ℕ) × IsInput left input × Answers (command_answer command input) h k s
 answered command named left left' items text h k s is c e short same a =
     (items, whole_input left left' items c e, rw (is, short_input named items short, ← same) a)
-
--- what is left, where a text was answered
-pub leaves_end : (old new : Option (List ℕ)) (s : Status) → IsTextEnd s → IsAtEnd new → TakesSome old new → Leaves old new s
-leaves_end old new Done e a t = a
-leaves_end old new GuestFault e a t = a
-leaves_end old new Refused e a t = a
-leaves_end old new NoBoot e a t = a
-leaves_end old new WriteFault e a t = t
-leaves_end old new WantMemory e a t = t
-leaves_end old new Usage e a t = absurd e
-leaves_end old new TooLong e a t = absurd e
-leaves_end old new ReadFault e a t = absurd e
