@@ -16,7 +16,8 @@ use word_store::signed;
 /// one byte. `SinkFault` comes only where the sink's count of faults rose; then a prefix of the line is written.
 pub fn line_at<X: Code, K: Sink>(code: &X, a: u32, out: &mut K) -> Result<u32, SinkFault>
     requires { IsSome (X.code_bytes code.now a) }
-    ensures text { Prints (K.holds out.old) (K.holds out.new) (listed (X.code_bytes code.now) a).text result }
+    ensures text { Prints (K.holds out.old) (K.holds out.new)
+        (listed (X.code_bytes code.now) a).text result }
     ensures length { IfOk result (λ n. n ≡ (listed (X.code_bytes code.now) a).length) }
     ensures bounds { IfOk result (λ n. (1 ≤ n) × (n ≤ 5)) }
     ensures cause { HasCause (K.faults out.old) (K.faults out.new) result }

@@ -15,7 +15,8 @@ use tp_io::{Output, Piece, Sink, SinkFault, gather_pieces, pass_on};
 /// the sink's count of faults rose; then a prefix of the listing is written.
 pub fn disassemble<K: Sink>(hunk: &Hunk, number: u32, out: &mut K) -> Result<(), SinkFault>
     requires { length hunk.now.words < 2 ^ 30 }
-    ensures text { Prints (K.holds out.old) (K.holds out.new) (listing number hunk.now.words) result }
+    ensures text { Prints (K.holds out.old) (K.holds out.new)
+        (listing number hunk.now.words) result }
     ensures cause { HasCause (K.faults out.old) (K.faults out.new) result }
 {
     let mut pending = Output::new();
@@ -28,7 +29,8 @@ pub fn disassemble<K: Sink>(hunk: &Hunk, number: u32, out: &mut K) -> Result<(),
 pub fn disassemble_module<K: Sink>(m: &Module, out: &mut K) -> Result<(), SinkFault>
     requires count { length m.now.hunks < 2 ^ 32 }
     requires words { AllByRecursion (λ h. length h.words < 2 ^ 30) m.now.hunks }
-    ensures text { Prints (K.holds out.old) (K.holds out.new) (listing_of_module m.now.hunks) result }
+    ensures text { Prints (K.holds out.old) (K.holds out.new)
+        (listing_of_module m.now.hunks) result }
     ensures cause { HasCause (K.faults out.old) (K.faults out.new) result }
 {
     let mut pending = Output::new();

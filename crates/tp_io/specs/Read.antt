@@ -27,3 +27,7 @@ abbrev pub ReadFailsWhere : ReadStep → Type 0 → Type 0
 ReadFailsWhere Failed P = P
 ReadFailsWhere (Got n) P = ¬ P
 ReadFailsWhere End P = ¬ P
+
+-- at most so many bytes were taken
+abbrev pub TakesAtMost : ℕ → Option (List ℕ) → Option (List ℕ) → Type 0
+TakesAtMost most old new = (bytes : List ℕ) × (length bytes ≤ most) × Consumes old new bytes

@@ -1,4 +1,4 @@
-// A source over any reader, and a sink over any writer, of which the program's own input and output are two.
+// A source over any reader, and a sink over any writer.
 ghost use Rattle.std.specs.Prelude.{◌≡◌, ◌≤◌, length, take, MatchResult};
 ghost use Rattle.std.specs.Io.KnownBytes.{Appends, Keeps};
 ghost use Rattle.tp_io.specs.Writing.{Prints};
@@ -48,8 +48,8 @@ impl<R: Read + Drop> Source for StdSource<R> {
     }
 }
 
-/// A sink over any writer. It tells the bytes that the writer tells. Each write ends with a flush, whose failure is
-/// `Failed`.
+/// A sink over any writer. It tells the bytes that the writer tells. Each write ends with a flush,
+/// whose failure is `Failed`.
 #[derive(Drop)]
 pub struct StdSink<W: Write + Drop> {
     writer: W,
@@ -122,7 +122,8 @@ fn flush<W: Write>(writer: &mut W) -> Result<(), SinkFault>
 // Writes some bytes from the front of a piece, or none where the writer was interrupted.
 fn write_some<W: Write>(writer: &mut W, piece: &[u8]) -> Result<usize, SinkFault>
     ensures { MatchResult result
-        (λ n. (n ≤ length piece.now) × Appends (W.contents writer.old) (W.contents writer.new) (take n piece.now))
+        (λ n. (n ≤ length piece.now)
+        × Appends (W.contents writer.old) (W.contents writer.new) (take n piece.now))
         (λ _. Keeps (W.contents writer.old) (W.contents writer.new)) }
 {
     match writer.write(piece) {

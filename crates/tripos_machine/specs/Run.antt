@@ -34,7 +34,8 @@ run zero words r = run_end words r Steps
 run (suc n) words r = after_step (run n) (step words r)
 
 -- what is left of a machine, and what was answered, is the end of a run
-pub record IsRunEnd (x : Run) (words : List ℕ) (regs : Regs) (steps : ℕ) (stop : Stop) : Type 0 where
+pub record IsRunEnd (x : Run) (words : List ℕ) (regs : Regs) (steps : ℕ) (stop : Stop)
+    : Type 0 where
   pub words_are : words ≡ x.words
   pub regs_are : regs ≡ x.regs
   pub steps_are : steps ≡ x.steps

@@ -1,6 +1,7 @@
 -- What a call takes from its source, and what it leaves there.
-use Rattle.std.specs.Prelude.{ℕ, ◌≡◌, ◌+◌, ◌≤◌, ◌⊎◌, List, length, Option, Some, None}
+use Rattle.std.specs.Prelude.{ℕ, ◌≡◌, ◌+◌, ◌⊎◌, List, length, Option, Some, None}
 use Rattle.std.specs.Io.KnownBytes.{Consumes, IsAtEnd, Keeps}
+use Rattle.tp_io.specs.Read.{TakesAtMost}
 use Rattle.tripos_run.specs.declared.commands.Command.{Command}
 use Rattle.tripos_run.specs.declared.status.Status.{Status}
 use Rattle.tripos_run.specs.declared.status.Status.TheVariants.{Done, GuestFault, Usage, Refused, NoBoot, ReadFault, WriteFault, TooLong, WantMemory}
@@ -10,10 +11,6 @@ use Rattle.tripos_run.specs.Answer.{limit}
 abbrev pub IsInput : Option (List ℕ) → List ℕ → Type 0
 IsInput None input = Unit {0}
 IsInput (Some left) input = input ≡ left
-
--- at most so many bytes were taken
-abbrev pub TakesAtMost : ℕ → Option (List ℕ) → Option (List ℕ) → Type 0
-TakesAtMost n old new = (bytes : List ℕ) × (length bytes ≤ n) × Consumes old new bytes
 
 -- the limit was taken, and one byte more
 abbrev pub TakesTooMuch : Option (List ℕ) → Option (List ℕ) → Type 0

@@ -6,26 +6,37 @@ use Rattle.tripos_machine.specs.declared.bare.Stop.{Stop}
 use Rattle.tripos_machine.specs.declared.bare.Stop.TheVariants.{Steps, Quit, Fault}
 
 abbrev pub usage_text : List ℕ
-usage_text = codes "* usage: tripos run, dump, trace, asm, disasm, debug, save, resume, ring or gen N\n"
+usage_text =
+    codes "* usage: tripos run, dump, trace, asm, disasm, debug, save, resume, ring or gen N\n"
 
 abbrev pub too_long_text : List ℕ
 too_long_text = codes "* input too long\n"
 
 abbrev pub refused_text : Refusal → List ℕ
-refused_text r = joined (codes "* refused: line " ∷ decimal r.line ∷ codes " code " ∷ decimal r.code ∷ codes "\n" ∷ [])
+refused_text r =
+    joined (codes "* refused: line " ∷ decimal r.line ∷ codes " code " ∷ decimal r.code
+    ∷ codes "\n" ∷ [])
 
 abbrev pub no_boot_text : Refusal → List ℕ
-no_boot_text r = joined (codes "* no boot: line " ∷ decimal r.line ∷ codes " code " ∷ decimal r.code ∷ codes "\n" ∷ [])
+no_boot_text r =
+    joined (codes "* no boot: line " ∷ decimal r.line ∷ codes " code " ∷ decimal r.code
+    ∷ codes "\n" ∷ [])
 
 -- the closing line, which begins on a line of its own: the steps taken, and why the machine has stopped
 abbrev pub closing_text : ℕ → Stop → List ℕ
-closing_text steps Steps = joined (codes "\n* stopped after " ∷ decimal steps ∷ codes " steps: steps\n" ∷ [])
-closing_text steps (Quit code) = joined (codes "\n* stopped after " ∷ decimal steps ∷ codes " steps: quit " ∷ decimal code ∷ codes "\n" ∷ [])
-closing_text steps (Fault code address task) = joined (codes "\n* stopped after " ∷ decimal steps ∷ codes " steps: fault " ∷ decimal code ∷ codes " at " ∷ decimal address ∷ codes " in task " ∷ decimal task ∷ codes "\n" ∷ [])
+closing_text steps Steps =
+    joined (codes "\n* stopped after " ∷ decimal steps ∷ codes " steps: steps\n" ∷ [])
+closing_text steps (Quit code) =
+    joined (codes "\n* stopped after " ∷ decimal steps ∷ codes " steps: quit " ∷ decimal code
+    ∷ codes "\n" ∷ [])
+closing_text steps (Fault code address task) =
+    joined (codes "\n* stopped after " ∷ decimal steps ∷ codes " steps: fault " ∷ decimal code
+    ∷ codes " at " ∷ decimal address ∷ codes " in task " ∷ decimal task ∷ codes "\n" ∷ [])
 
 -- the line of a word that is not 0
 abbrev pub word_text : ℕ → ℕ → List ℕ
-word_text a w = if w == 0 then [] else joined (decimal a ∷ codes " " ∷ hex_digits_of w ∷ codes "\n" ∷ [])
+word_text a w =
+    if w == 0 then [] else joined (decimal a ∷ codes " " ∷ hex_digits_of w ∷ codes "\n" ∷ [])
 
 -- the lines of the words from address a on
 abbrev pub dump_text : ℕ → List ℕ → List ℕ

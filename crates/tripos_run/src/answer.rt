@@ -29,7 +29,8 @@ pub fn status_after(end: Result<(), SinkFault>, status: Status) -> Status
 /// Answers a text.
 pub fn answer_text<K: Sink>(alloc: Global, command: Command, text: &[u8], out: &mut K) -> Status
     requires { length text.now < 2 ^ 30 }
-    ensures answer { Answers (text_answer command text.now) (K.holds out.old) (K.holds out.new) result }
+    ensures answer { Answers (text_answer command text.now)
+        (K.holds out.old) (K.holds out.new) result }
     ensures ends { IsTextEnd result }
     ensures cause { HasFaultCause Status.WriteFault (K.faults out.old) (K.faults out.new) result }
 {
@@ -43,7 +44,8 @@ pub fn answer_text<K: Sink>(alloc: Global, command: Command, text: &[u8], out: &
 // Writes the module of an assembly text.
 fn answer_assembly<K: Sink>(alloc: Global, text: &[u8], out: &mut K) -> Status
     requires { length text.now < 2 ^ 32 }
-    ensures answer { Answers (made_answer (assembled text.now)) (K.holds out.old) (K.holds out.new) result }
+    ensures answer { Answers (made_answer (assembled text.now))
+        (K.holds out.old) (K.holds out.new) result }
     ensures ends { IsTextEnd result }
     ensures cause { HasFaultCause Status.WriteFault (K.faults out.old) (K.faults out.new) result }
 {

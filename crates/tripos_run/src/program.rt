@@ -40,16 +40,22 @@ pub fn tripos<S: Source, K: Sink>(
     src: &mut S,
     out: &mut K,
 ) -> Status
-    // The status and the bytes are those of the answer to the words and the input, which is all that the source had left.
+    // The status and the bytes are those of the answer to the words and the input, which is all that
+    // the source had left.
     ensures answer { (input : List ℕ) × IsInput (S.left src.old) input
-        × Answers (answer (map string_bytes words.now) input) (K.holds out.old) (K.holds out.new) result }
+        × Answers (answer (map string_bytes words.now) input)
+        (K.holds out.old) (K.holds out.new) result }
 
-    // The input is read to its end, or to one byte past the limit. Words that are no command read nothing.
-    ensures source { Leaves (command_of (map string_bytes words.now)) (S.left src.old) (S.left src.new) result }
+    // The input is read to its end, or to one byte past the limit. Words that are no command read
+    // nothing.
+    ensures source { Leaves (command_of (map string_bytes words.now))
+        (S.left src.old) (S.left src.new) result }
 
     // The source and the sink are blamed only where their counts of faults rose in this call.
-    ensures read_fault { HasFaultCause Status.ReadFault (S.faults src.old) (S.faults src.new) result }
-    ensures write_fault { HasFaultCause Status.WriteFault (K.faults out.old) (K.faults out.new) result }
+    ensures read_fault { HasFaultCause Status.ReadFault
+        (S.faults src.old) (S.faults src.new) result }
+    ensures write_fault { HasFaultCause Status.WriteFault
+        (K.faults out.old) (K.faults out.new) result }
 {
     let Some(command) = command_of(words) else {
         return status_after(write_usage(out), Status::Usage);

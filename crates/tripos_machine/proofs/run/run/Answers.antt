@@ -10,13 +10,15 @@ loop-i-init g c = ([], record { under_way = IsUnderWay-first _ _ _; gathered = I
 
 pub loop-i-preserved-in-Next : goal.loop-i-preserved-in-Next
 loop-i-preserved-in-Next g c =
-    let kept = c.loop-i.invariant in
-    (kept.0, record {
-      under_way = run-next kept.1.under_way c.loop-i-test.true c.in-Next.ensures.step _ _ refl;
-      gathered = kept.1.gathered;
-      later = kept.1.later;
-      byte = c.in-Next.ensures.byte;
-    })
+    let kept = c.loop-i.invariant in (
+      kept.0,
+      record {
+        under_way = run-next kept.1.under_way c.loop-i-test.true c.in-Next.ensures.step _ _ refl;
+        gathered = kept.1.gathered;
+        later = kept.1.later;
+        byte = c.in-Next.ensures.byte;
+      },
+    )
 
 pub returns-in_err-gather_byte-clause-bytes : goal.returns-in_err-gather_byte-clause-bytes
 returns-in_err-gather_byte-clause-bytes g c =
@@ -38,13 +40,15 @@ returns-in-Some-clause-bytes g c =
 
 pub loop-i-preserved : goal.loop-i-preserved
 loop-i-preserved g c =
-    let kept = c.loop-i.invariant in
-    (kept.0 ++ option_to_list c.end-step.result.byte, record {
-      under_way = run-more kept.1.under_way c.loop-i-test.true c.start-outcome.ensures.step c.end-step.ensures.step c.in_default-stop.is;
-      gathered = IsGathered-then kept.1.gathered c.in_ok-gather_byte.ensures.text;
-      later = omega (arith, c.in_ok-gather_byte.ensures.cause);
-      byte = omega arith;
-    })
+    let kept = c.loop-i.invariant in (
+      kept.0 ++ option_to_list c.end-step.result.byte,
+      record {
+        under_way = run-more kept.1.under_way c.loop-i-test.true c.start-outcome.ensures.step c.end-step.ensures.step c.in_default-stop.is;
+        gathered = IsGathered-then kept.1.gathered c.in_ok-gather_byte.ensures.text;
+        later = omega (arith, c.in_ok-gather_byte.ensures.cause);
+        byte = omega arith;
+      },
+    )
 
 pub returns-clause-end : goal.returns-clause-end
 returns-clause-end g c = run-ends _ _ _ _ _ _ (run-all c.loop-i.invariant.1.under_way c.loop-i-test.false c.loop-i.auto.i-end)
