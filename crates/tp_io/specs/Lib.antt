@@ -1,5 +1,7 @@
 pub mod Faults
-pub mod Reading
+pub mod Read
 pub mod Writing
 pub mod Memory
+pub mod Standard
 pub mod Pieces
+pub mod Pending

@@ -1,5 +1,10 @@
 -- What a source and a sink in memory are.
-use Rattle.std.specs.Prelude.{ℕ, List}
+use Rattle.std.specs.Prelude.{ℕ, List, ◌++◌, drop}
+use Rattle.tp_io.specs.Faults.{one_more}
+use Rattle.tp_io.specs.declared.source.ReadStep.{ReadStep}
+use Rattle.tp_io.specs.declared.source.ReadStep.TheVariants.{Got, End, Failed as ReadFailed}
+use Rattle.tp_io.specs.declared.sink.WriteStep.{WriteStep}
+use Rattle.tp_io.specs.declared.sink.WriteStep.TheVariants.{All, Failed as WriteFailed}
 
 -- the bytes left, the numbers of the calls that fail, the calls made and the faults counted
 pub record Input : Type 0 where
@@ -15,3 +20,14 @@ pub record Kept : Type 0 where
   pub fails : List ℕ
   pub calls : ℕ
   pub faults : ℕ
+
+-- The source after a call, by what the call answered: one call more, and n bytes fewer or one fault more.
+abbrev pub after_read : Input → ReadStep → Input
+after_read s (Got n) = record s { left = drop n s.left; calls = one_more s.calls }
+after_read s End = record s { calls = one_more s.calls }
+after_read s ReadFailed = record s { calls = one_more s.calls; faults = one_more s.faults }
+
+-- The sink after a call with a piece: one call more, and the piece more or one fault more.
+abbrev pub after_write : Kept → List ℕ → WriteStep → Kept
+after_write s piece All = record s { bytes = s.bytes ++ piece; calls = one_more s.calls }
+after_write s piece WriteFailed = record s { calls = one_more s.calls; faults = one_more s.faults }

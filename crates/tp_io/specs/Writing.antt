@@ -2,8 +2,8 @@
 use Rattle.std.specs.Prelude.{◌≡◌, ℕ, ◌≤◌, List, ◌++◌, Option, Result, Ok, Err, OnErr}
 use Rattle.std.specs.Io.KnownBytes.{Appends}
 use Rattle.tp_io.specs.Faults.{Rose}
-use Rattle.tp_io.specs.declared.writing.WriteStep.{WriteStep}
-use Rattle.tp_io.specs.declared.writing.WriteStep.TheVariants.{All, Failed}
+use Rattle.tp_io.specs.declared.sink.WriteStep.{WriteStep}
+use Rattle.tp_io.specs.declared.sink.WriteStep.TheVariants.{All, Failed}
 
 -- the bytes held grow by a prefix of these
 abbrev pub AppendsPrefix : Option (List ℕ) → Option (List ℕ) → List ℕ → Type 0

@@ -1,25 +1,27 @@
 // Bytes in and out: sources, sinks, and counts of their faults.
 #![tactic(auto)]
 
-pub mod discarding;
 pub mod memory;
+pub mod no_sink;
 pub mod output;
+pub mod pending;
 pub mod pieces;
-pub mod reading;
+pub mod sink;
+pub mod source;
 pub mod standard;
 #[cfg(test)]
 mod tests;
 pub mod whole;
-pub mod writing;
 
-pub use discarding::NoSink;
 pub use memory::{MemorySink, MemorySource};
+pub use no_sink::NoSink;
 pub use output::Output;
-pub use pieces::{Piece, write_pieces};
-pub use reading::{ReadStep, Source};
+pub use pending::{gather, pass_on};
+pub use pieces::{Piece, gather_pieces, write_pieces};
+pub use sink::{Sink, SinkFault, WriteStep, write_text};
+pub use source::{ReadStep, Source};
 pub use standard::{StdSink, StdSource};
 pub use whole::{ReadEnd, read_all};
-pub use writing::{Sink, SinkFault, WriteStep, write_text};
 
 /// Memory could not be had.
 #[derive(Clone, Copy, Debug, PartialEq, Eq)]

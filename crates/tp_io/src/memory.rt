@@ -1,6 +1,8 @@
 // A source and a sink in memory, which fail at the calls that they were told to.
-ghost use Rattle.std.specs.Prelude.{◌≡◌, ◌+◌, ◌<◌, ◌↔◌, ◌⊎◌, [], length, Some, IfOk, IsTrue, Contains, min, take};
-ghost use Rattle.tp_io.specs.Reading.{Reads, HasReadCause, ReadFailsWhere};
+ghost use Rattle.std.specs.Prelude.{◌≡◌, ◌+◌, ◌<◌, ◌↔◌, ◌⊎◌, [], length, Some, IfOk, IsTrue};
+ghost use Rattle.std.specs.Prelude.{Contains, min, take};
+ghost use Rattle.tp_io.specs.Memory.{after_read, after_write};
+ghost use Rattle.tp_io.specs.Read.{Reads, HasReadCause, ReadFailsWhere};
 ghost use Rattle.tp_io.specs.Writing.{Writes, HasWriteCause, WriteFailsWhere};
 
 use crate::{ReadStep, Sink, Source, WantMemory, WriteStep};
@@ -23,7 +25,12 @@ impl Model for MemorySource {
 
     ghost Value = { Input };
 
-    ghost view = { λ s. record { left = drop s.at s.bytes.items; fails = s.fails.items; calls = s.calls; faults = s.faults } };
+    ghost view = { λ s. record {
+      left = drop s.at s.bytes.items;
+      fails = s.fails.items;
+      calls = s.calls;
+      faults = s.faults;
+    } };
 
     ghost invariant = { λ s. s.at ≤ vec_len s.bytes };
 }
@@ -31,7 +38,12 @@ impl Model for MemorySource {
 impl MemorySource {
     /// A source with these bytes left.
     pub fn new(alloc: Global, bytes: &[u8], fails: &[u32]) -> Result<MemorySource, WantMemory>
-        ensures { IfOk result (λ s. s ≡ record { left = bytes.now; fails = fails.now; calls = 0; faults = 0 }) }
+        ensures { IfOk result (λ s. s ≡ record {
+          left = bytes.now;
+          fails = fails.now;
+          calls = 0;
+          faults = 0;
+        }) }
     {
         let Ok(bytes) = Vec::from_slice(alloc, bytes) else {
             return Err(WantMemory);
@@ -65,6 +77,7 @@ impl Source for MemorySource {
         requires { 0 < length into.old }
         ensures bytes { Reads (Some self.old.left) (Some self.new.left) result into.new }
         ensures cause { HasReadCause self.old.faults self.new.faults result }
+        ensures state { self.new ≡ after_read self.old result }
         ensures fails { ReadFailsWhere result (Contains self.old.fails (self.old.calls + 1)) }
     {
         let fails = is_next(&self.fails, self.calls);
@@ -117,7 +130,13 @@ impl Model for MemorySink {
 
     ghost Value = { Kept };
 
-    ghost view = { λ s. record { bytes = s.bytes.items; room = s.room; fails = s.fails.items; calls = s.calls; faults = s.faults } };
+    ghost view = { λ s. record {
+      bytes = s.bytes.items;
+      room = s.room;
+      fails = s.fails.items;
+      calls = s.calls;
+      faults = s.faults;
+    } };
 
     ghost invariant = { λ s. (vec_len s.bytes ≤ s.room) × (s.room ≤ vec_capacity s.bytes) };
 }
@@ -125,7 +144,13 @@ impl Model for MemorySink {
 impl MemorySink {
     /// An empty sink with room for that many bytes.
     pub fn new(alloc: Global, room: usize, fails: &[u32]) -> Result<MemorySink, WantMemory>
-        ensures { IfOk result (λ s. s ≡ record { bytes = []; room = room; fails = fails.now; calls = 0; faults = 0 }) }
+        ensures { IfOk result (λ s. s ≡ record {
+          bytes = [];
+          room = room;
+          fails = fails.now;
+          calls = 0;
+          faults = 0;
+        }) }
     {
         let Ok(bytes) = Vec::with_capacity(alloc, room) else {
             return Err(WantMemory);
@@ -158,7 +183,9 @@ impl Sink for MemorySink {
     fn write(&mut self, piece: &[u8]) -> WriteStep
         ensures bytes { Writes (Some self.old.bytes) (Some self.new.bytes) result piece.now }
         ensures cause { HasWriteCause self.old.faults self.new.faults result }
-        ensures fails { WriteFailsWhere result (Contains self.old.fails (self.old.calls + 1) ⊎ (self.old.room < length self.old.bytes + length piece.now)) }
+        ensures state { self.new ≡ after_write self.old piece.now result }
+        ensures fails { WriteFailsWhere result (Contains self.old.fails (self.old.calls + 1)
+            ⊎ (self.old.room < length self.old.bytes + length piece.now)) }
     {
         let fails = is_next(&self.fails, self.calls);
         self.calls = self.calls.saturating_add(1);

@@ -1,5 +1,5 @@
-// The console bytes of one step.
-ghost use Rattle.std.specs.Prelude.{◌≡◌, ◌<◌, [], ◌∷◌, ◌++◌, length};
+// Bytes on their way to a sink.
+ghost use Rattle.std.specs.Prelude.{◌≡◌, ◌+◌, ◌≤◌, [], ◌++◌, length};
 
 use arrayvec::ArrayVec;
 use std::marker::Model;
@@ -28,12 +28,22 @@ impl Output {
         }
     }
 
-    /// Adds a byte at the end.
-    pub fn push(&mut self, b: u8)
-        requires { length self.old < 8192 }
-        ensures { self.new ≡ self.old ++ b ∷ [] }
+    /// How many bytes it has room for besides its own.
+    pub fn room(&self) -> usize
+        ensures { result + length self.now ≡ 8192 }
     {
-        self.bytes.push(b);
+        self.bytes.remaining_capacity()
+    }
+
+    /// Adds a text at the end.
+    pub fn append(&mut self, text: &[u8])
+        requires { length self.old + length text.now ≤ 8192 }
+        ensures { self.new ≡ self.old ++ text.now }
+    {
+        match self.bytes.try_extend_from_slice(text) {
+            Ok(()) => {}
+            Err(_) => unreachable!(),
+        }
     }
 
     /// The bytes, lent.

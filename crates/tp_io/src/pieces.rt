@@ -1,11 +1,11 @@
 // Texts, printed piece by piece and without memory.
 ghost use Rattle.std.specs.List.{flat_map};
 ghost use Rattle.std.specs.Prelude.{◌≡◌};
+ghost use Rattle.tp_io.specs.Pending.{Gathers};
 ghost use Rattle.tp_io.specs.Pieces.{hex_digits_of, text_of};
 ghost use Rattle.tp_io.specs.Writing.{Prints, HasCause};
 
-use crate::writing::write_text;
-use crate::{Sink, SinkFault};
+use crate::{Output, Sink, SinkFault, gather, pass_on};
 use itoa::Buffer;
 
 /// A part of a printed text.
@@ -27,27 +27,43 @@ pub fn write_pieces<K: Sink>(out: &mut K, pieces: &[Piece]) -> Result<(), SinkFa
     ensures text { Prints (K.holds out.old) (K.holds out.new) (flat_map text_of pieces.now) result }
     ensures cause { HasCause (K.faults out.old) (K.faults out.new) result }
 {
+    let mut pending = Output::new();
+    gather_pieces(out, &mut pending, pieces)?;
+    pass_on(out, &mut pending)
+}
+
+/// Adds the texts of the pieces, one after the other, to what is pending.
+pub fn gather_pieces<K: Sink>(
+    out: &mut K,
+    pending: &mut Output,
+    pieces: &[Piece],
+) -> Result<(), SinkFault>
+    ensures text { Gathers (K.holds out.old) (K.holds out.new) pending.old pending.new
+        (flat_map text_of pieces.now) result }
+    ensures cause { HasCause (K.faults out.old) (K.faults out.new) result }
+{
     for piece in pieces {
-        write_piece(out, *piece)?;
+        gather_piece(out, pending, *piece)?;
     }
     Ok(())
 }
 
-fn write_piece<K: Sink>(out: &mut K, piece: Piece) -> Result<(), SinkFault>
-    ensures text { Prints (K.holds out.old) (K.holds out.new) (text_of piece.entry) result }
+fn gather_piece<K: Sink>(out: &mut K, pending: &mut Output, piece: Piece) -> Result<(), SinkFault>
+    ensures text { Gathers (K.holds out.old) (K.holds out.new) pending.old pending.new
+        (text_of piece.entry) result }
     ensures cause { HasCause (K.faults out.old) (K.faults out.new) result }
 {
     match piece {
-        Piece::Text(text) => write_text(out, text),
+        Piece::Text(text) => gather(out, pending, text),
         Piece::Decimal(n) => {
             let mut buffer = Buffer::new();
-            write_text(out, buffer.format(n).as_bytes())
+            gather(out, pending, buffer.format(n).as_bytes())
         }
         Piece::Signed(n) => {
             let mut buffer = Buffer::new();
-            write_text(out, buffer.format(n).as_bytes())
+            gather(out, pending, buffer.format(n).as_bytes())
         }
-        Piece::Word(w) => write_text(out, &hex_digits(w)),
+        Piece::Word(w) => gather(out, pending, &hex_digits(w)),
     }
 }
 

@@ -1,8 +1,10 @@
-// Reading, writing and printing, in memory and over std's readers and writers.
+// Reading and writing in memory, and over std's readers and writers.
 use crate::{
     MemorySink, MemorySource, Piece, ReadEnd, ReadStep, Sink, SinkFault, Source, StdSink,
     StdSource, WriteStep, read_all, write_pieces,
 };
+use std::io;
+use std::io::{ErrorKind, Read, Write};
 use std::test::Fail;
 
 #[test]
@@ -21,8 +23,10 @@ fn reads_up_to_a_limit(rt: HostRuntime) -> Result<(), Fail> {
     Ok(())
 }
 
+// Pieces go to the sink in one call, and a text that is too long for that in one of its own.
 #[test]
 fn prints_pieces(rt: HostRuntime) -> Result<(), Fail> {
+    let long = [b'-'; 8200];
     let pieces = [
         Piece::Text(b"a "),
         Piece::Decimal(u64::MAX),
@@ -30,28 +34,98 @@ fn prints_pieces(rt: HostRuntime) -> Result<(), Fail> {
         Piece::Signed(-2147483648),
         Piece::Text(b" "),
         Piece::Word(0x00ab_cdef),
+        Piece::Text(&long),
     ];
-    let whole = b"a 18446744073709551615 -2147483648 00abcdef".as_slice();
-    for (room, fail, written, bytes) in [
-        (64, 0, Ok(()), whole),
-        (64, 2, Err(SinkFault), b"a ".as_slice()),
-        (23, 0, Err(SinkFault), b"a 18446744073709551615 ".as_slice()),
+    let front = b"a 18446744073709551615 -2147483648 00abcdef".as_slice();
+    for (count, room, fail, wanted, bytes) in [
+        (6, 43, 2, Ok(()), 43),
+        (6, 43, 1, Err(SinkFault), 0),
+        (6, 42, 0, Err(SinkFault), 0),
+        (7, 8243, 4, Ok(()), 8243),
+        (7, 8243, 2, Err(SinkFault), 43),
     ] {
         let mut sink = MemorySink::new(rt.alloc(), room, &[fail]).map_err(|_| "memory")?;
-        assert_eq!(rt; write_pieces(&mut sink, &pieces), written);
-        assert_eq!(rt; sink.bytes(), bytes);
+        assert_eq!(rt; write_pieces(&mut sink, pieces.split_at(count).0), wanted);
+        assert_eq!(rt; sink.bytes().len(), bytes);
+        assert!(rt; bytes == 0 || sink.bytes().starts_with(front));
     }
     Ok(())
 }
 
+// A reader that gives one byte, and then fails.
+#[derive(Drop)]
+struct CutReader {
+    calls: u8,
+}
+
+impl Read for CutReader {
+    fn read(&mut self, into: &mut [u8]) -> io::Result<usize> {
+        if self.calls > 0 || into.is_empty() {
+            return Err(io::Error::from(ErrorKind::Other));
+        }
+        self.calls = 1;
+        into[0] = b'x';
+        Ok(1)
+    }
+}
+
 #[test]
-fn reads_and_writes_over_std(rt: HostRuntime) -> Result<(), Fail> {
+fn a_reader_that_fails_is_not_at_its_end(rt: HostRuntime) -> Result<(), Fail> {
+    let mut source = StdSource::new(CutReader { calls: 0 });
+    let read = read_all(rt.alloc(), &mut source, 10).map(|bytes| bytes.len());
+    assert_eq!(rt; read, Err(ReadEnd::Fault));
     let mut source = StdSource::new(b"xyz".as_slice());
     let mut piece = [0u8; 2];
-    assert_eq!(rt; source.read(&mut piece), ReadStep::Got(2));
-    assert_eq!(rt; source.read(&mut piece), ReadStep::Got(1));
-    assert_eq!(rt; source.read(&mut piece), ReadStep::End);
+    for wanted in [ReadStep::Got(2), ReadStep::Got(1), ReadStep::End] {
+        assert_eq!(rt; source.read(&mut piece), wanted);
+    }
     assert_eq!(rt; piece, *b"zy");
+    Ok(())
+}
+
+// A writer that is interrupted at its first call, takes two bytes a call, and flushes that many times.
+#[derive(Drop)]
+struct SlowWriter {
+    calls: u8,
+    taken: usize,
+    flushes: u8,
+}
+
+impl Write for SlowWriter {
+    fn write(&mut self, piece: &[u8]) -> io::Result<usize> {
+        if self.calls == 0 {
+            self.calls = 1;
+            return Err(io::Error::from(ErrorKind::Interrupted));
+        }
+        let n = piece.len().min(2);
+        self.taken = self.taken.saturating_add(n);
+        Ok(n)
+    }
+
+    fn flush(&mut self) -> io::Result<()> {
+        if self.flushes == 0 {
+            return Err(io::Error::from(ErrorKind::Other));
+        }
+        self.flushes -= 1;
+        Ok(())
+    }
+}
+
+#[test]
+fn a_write_is_whole_and_flushed(rt: HostRuntime) -> Result<(), Fail> {
+    let mut sink = StdSink::new(SlowWriter {
+        calls: 0,
+        taken: 0,
+        flushes: 2,
+    });
+    for (piece, wanted, taken) in [
+        (b"abc".as_slice(), WriteStep::All, 2),
+        (b"".as_slice(), WriteStep::All, 1),
+        (b"de".as_slice(), WriteStep::Failed, 0),
+    ] {
+        assert_eq!(rt; sink.write(piece), wanted, "with {taken} flushes left");
+    }
+    assert_eq!(rt; sink.into_writer().taken, 5);
     let mut kept = [0u8; 2];
     let mut sink = StdSink::new(kept.as_mut_slice());
     assert_eq!(rt; sink.write(b"o"), WriteStep::All);

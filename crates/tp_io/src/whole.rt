@@ -20,7 +20,7 @@ pub enum ReadEnd {
 }
 
 /// All the bytes that the source has left, at most `limit` of them. `Fault` comes only where the source's count of
-/// faults rose, and `TooLong` exactly where `limit` bytes were taken and the source gave one more.
+/// faults rose, after at most `limit` bytes, and `TooLong` exactly where `limit` bytes were taken and the source gave one more.
 pub fn read_all<S: Source>(alloc: Global, src: &mut S, limit: usize) -> Result<Vec<u8>, ReadEnd>
     ensures taken { IfOk result (λ v. Consumes (S.left src.old) (S.left src.new) v.items) }
     ensures end { OnOk result (IsAtEnd (S.left src.new)) }
@@ -28,6 +28,8 @@ pub fn read_all<S: Source>(alloc: Global, src: &mut S, limit: usize) -> Result<V
     ensures too_long { result ≡ Err ReadEnd.TooLong →
         (bytes : List ℕ) × (length bytes ≡ limit + 1) × Consumes (S.left src.old) (S.left src.new) bytes }
     ensures fault { result ≡ Err ReadEnd.Fault → Rose (S.faults src.old) (S.faults src.new) }
+    ensures fault_taken { result ≡ Err ReadEnd.Fault →
+        (bytes : List ℕ) × (length bytes ≤ limit) × Consumes (S.left src.old) (S.left src.new) bytes }
 
     // Whatever the answer is, no more than one byte past the limit was taken, and the count has not fallen.
     ensures given { (bytes : List ℕ) × (length bytes ≤ limit + 1) × Consumes (S.left src.old) (S.left src.new) bytes }

@@ -48,13 +48,13 @@ fn a_line_for_each_event(rt: HostRuntime) -> Result<(), Fail> {
 
 #[test]
 fn a_failed_log_writes_no_more(rt: HostRuntime) -> Result<(), Fail> {
-    let mut sink = MemorySink::new(rt.alloc(), 64, &[5]).map_err(|_| "memory")?;
+    let mut sink = MemorySink::new(rt.alloc(), 64, &[2]).map_err(|_| "memory")?;
     let mut log = SinkLog::new(&mut sink);
     for (task, failed) in [(7, false), (8, true), (9, true)] {
         log.note(KernelEvent::Runs { task });
         assert_eq!(rt; log.failed(), failed, "after task {task}");
     }
-    assert_eq!(rt; sink.bytes(), b"run 7\nrun ".as_slice());
+    assert_eq!(rt; sink.bytes(), b"run 7\n".as_slice());
     Ok(())
 }
 

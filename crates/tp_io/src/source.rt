@@ -1,6 +1,6 @@
 // Where bytes come from.
 ghost use Rattle.std.specs.Prelude.{◌<◌, List, ℕ, Option, length};
-ghost use Rattle.tp_io.specs.Reading.{Reads, HasReadCause};
+ghost use Rattle.tp_io.specs.Read.{Reads, HasReadCause};
 
 /// What a read answers.
 #[derive(Clone, Copy, Debug, PartialEq, Eq)]

@@ -2,8 +2,8 @@
 use Rattle.std.specs.Prelude.{ℕ, ◌<◌, ◌≤◌, List, length, take, Option}
 use Rattle.std.specs.Io.KnownBytes.{Consumes, IsAtEnd, Keeps}
 use Rattle.tp_io.specs.Faults.{Rose}
-use Rattle.tp_io.specs.declared.reading.ReadStep.{ReadStep}
-use Rattle.tp_io.specs.declared.reading.ReadStep.TheVariants.{Got, End, Failed}
+use Rattle.tp_io.specs.declared.source.ReadStep.{ReadStep}
+use Rattle.tp_io.specs.declared.source.ReadStep.TheVariants.{Got, End, Failed}
 
 -- The bytes left lose those that the piece has got. At the end none were left, and none are.
 abbrev pub Reads : Option (List ℕ) → Option (List ℕ) → ReadStep → List ℕ → Type 0

@@ -1,11 +1,11 @@
 use Rattle.std.proofs.Common.{◌≤◌, take}
 use Rattle.std.specs.List.{flat_map}
-use Rattle.std.specs.Io.KnownBytes.{Appends}
+use Rattle.tp_io.specs.Pending.{IsGathered}
 use Rattle.tp_io.specs.Pieces.{text_of}
-use Rattle.tp_io.proofs.pieces.write_pieces.Given as goal
+use Rattle.tp_io.proofs.pieces.gather_pieces.Given as goal
 
 abbrev pub invariant-loop-piece : goal.invariant-loop-piece
 invariant-loop-piece g l = record {
-  text : Appends (g.K.Sink.holds l.fn.out) (g.K.Sink.holds l.out) (flat_map text_of (take l.piece-index l.pieces));
+  text : IsGathered (g.K.Sink.holds l.fn.out) (g.K.Sink.holds l.out) l.fn.pending l.pending (flat_map text_of (take l.piece-index l.pieces));
   later : g.K.Sink.faults l.fn.out ≤ g.K.Sink.faults l.out;
 }
