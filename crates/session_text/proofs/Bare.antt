@@ -5,9 +5,9 @@ use Rattle.std.specs.List.{AllByRecursion}
 use Rattle.hex.proofs.HexLemmas.{decode_of-ok}
 use Rattle.session_text.specs.SessionForm.{AreCodeLines, AreSessionLines, IsCodeLine}
 use Rattle.session_text.specs.SessionReading.{session_of}
-use Rattle.session_text.specs.Answers.{Gives}
+use Rattle.text_reader.specs.Answers.{Gives}
 use Rattle.session_text.specs.Canonical.{AreNumbered, IsBareSession, IsCode}
-use Rattle.text_lines.specs.Lines.{lines_of}
+use Rattle.text_reader.specs.Lines.{lines_of}
 use Rattle.session_text.specs.declared.ends.SessionEnd.{SessionEnd}
 use Rattle.session_text.specs.declared.sessions.Session.{Session}
 use Rattle.session_text.specs.declared.sessions.SessionLine.{SessionLine}

@@ -5,9 +5,9 @@ use Rattle.std.specs.Option.{ok_or}
 use Rattle.std.proofs.lemmas.Bool.{cases_eq}
 use Rattle.std.proofs.lemmas.Bool.Decides.{nat_tests}
 use Rattle.std.proofs.lemmas.Fmt.{decimal_digit}
-use Rattle.text_lines.specs.Lines.{lines_of}
-use Rattle.session_text.specs.Fields.{IsNumberLine, after_word, number_of}
-use Rattle.text_lines.specs.Refusal.{refusal}
+use Rattle.text_reader.specs.Lines.{lines_of}
+use Rattle.text_reader.specs.Fields.{IsNumberLine, after_word, number_after, number_line}
+use Rattle.text_reader.specs.Refusal.{refusal}
 use Rattle.session_text.specs.SessionForm.{AreCodeLines, AreSessionLines, IsBare, IsSession, IsVersionLine, is_store_size, most_steps}
 use Rattle.session_text.specs.SessionReading.{bare_session, body_lines, code_lines, go_line, head_lines, number_after, number_line, session_lines, session_of, store_line, version_line}
 use Rattle.session_text.specs.declared.sessions.Session.{Session}

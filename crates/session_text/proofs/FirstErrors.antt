@@ -1,11 +1,11 @@
 -- The first line in error of a session's text.
 use Rattle.std.proofs.Common.{◌≡◌, ◌∙◌, ℕ, ◌+◌, ◌==◌, ◌%◌, ◌&&◌, ◌⊎◌, inl, inr, Bool, true, false, cond, Result, Ok, Err, List, [], ◌∷◌, ◌++◌, length, refl, sym, ap, subst, arith, nat_le}
 use Rattle.std.specs.Prelude.{codes, decimal, IsTrue}
-use Rattle.text_lines.specs.Refusal.{Refusal, refusal}
-use Rattle.text_lines.specs.Steps.{◌>>=◌}
+use Rattle.text_reader.specs.Refusal.{Refusal, refusal}
+use Rattle.text_reader.specs.Steps.{◌>>=◌}
 use Rattle.session_text.specs.SessionForm.{AreSessionLines, IsVersionLine, is_store_size}
 use Rattle.session_text.specs.SessionReading.{bare_line, bare_session, body_lines, first_line, head_lines, session_lines, store_line, version_line}
-use Rattle.session_text.specs.Fields.{IsNumberLine}
+use Rattle.text_reader.specs.Fields.{IsNumberLine}
 use Rattle.session_text.specs.Canonical.{go_text}
 use Rattle.session_text.specs.declared.sessions.Session.{Session}
 use Rattle.session_text.specs.declared.sessions.SessionLine.{SessionLine}

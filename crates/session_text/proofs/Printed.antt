@@ -8,7 +8,7 @@ use Rattle.std.proofs.lemmas.List.{map-append, take-append-drop}
 use Rattle.hex.specs.Hex.{encode_lower, encode_with}
 use Rattle.tp_io.specs.Writing.{AppendsPrefix, Prints}
 use Rattle.tp_io.proofs.Appending.{Appends-then, AppendsPrefix-then, AppendsPrefix-more}
-use Rattle.text_lines.specs.Lines.{text_of_lines}
+use Rattle.text_reader.specs.Lines.{text_of_lines}
 use Rattle.session_text.specs.Canonical.{canonical, code_text, form_text, go_text, head_text}
 use Rattle.session_text.specs.declared.sessions.Session.{Session}
 use Rattle.session_text.specs.declared.sessions.SessionLine.{SessionLine}

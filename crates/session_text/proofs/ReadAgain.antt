@@ -8,14 +8,14 @@ use Rattle.hex.specs.Hex.{encode_lower}
 use Rattle.hex.proofs.HexLemmas.{decode_of-encode_lower}
 use Rattle.session_text.specs.SessionForm.{AreCodeLines, AreSessionLines, IsCodeLine, is_store_size, most_steps, most_words}
 use Rattle.session_text.specs.SessionReading.{session_of}
-use Rattle.text_lines.specs.Lines.{lines_of, text_of_lines}
+use Rattle.text_reader.specs.Lines.{lines_of, text_of_lines}
 use Rattle.session_text.specs.Canonical.{AreNumbered, IsBareSession, IsCode, canonical, canonical_lines, code_text, form_text, go_text}
 use Rattle.session_text.specs.declared.sessions.Session.{Session}
 use Rattle.session_text.specs.declared.sessions.SessionLine.{SessionLine}
 use Rattle.session_text.specs.declared.sessions.LineForm.{LineForm}
 use Rattle.session_text.specs.declared.sessions.LineForm.TheVariants.{Code, File, Task}
 use Rattle.session_text.proofs.Complete.{complete}
-use Rattle.session_text.proofs.PlainLines.{IsPlain, lines_of_text_of_lines, plain_append, plain_decimal, plain_hex, plain_literal}
+use Rattle.text_reader.proofs.PlainLines.{IsPlain, lines_of_text_of_lines, plain_append, plain_decimal, plain_hex, plain_literal}
 use Rattle.session_text.proofs.Words.{decimal_number}
 
 -- a printed line of code is one

@@ -4,9 +4,9 @@ use Rattle.std.specs.Prelude.{codes, option_and_then}
 use Rattle.std.specs.Option.{ok_or}
 use Rattle.std.specs.Str.{bytes_eq}
 use Rattle.hex.specs.declared.error.FromHexError.{FromHexError}
-use Rattle.session_text.specs.Fields.{after_word, number_of}
-use Rattle.text_lines.specs.Refusal.{Refusal, refusal}
-use Rattle.text_lines.specs.Steps.{◌>>=◌}
+use Rattle.text_reader.specs.Fields.{after_word, number_of}
+use Rattle.text_reader.specs.Refusal.{Refusal, refusal}
+use Rattle.text_reader.specs.Steps.{◌>>=◌}
 use Rattle.session_text.specs.SessionReading.{bare_line, bytes_or_refusal, number_after, number_line, tick_line, version_line}
 
 -- a line is refused with code 0, 1 or 2

@@ -7,16 +7,16 @@ use Rattle.std.proofs.lemmas.Bool.Decides.{nat_tests}
 use Rattle.std.proofs.lemmas.Slice.Eq.{bytes_eq-Decides}
 use Rattle.hex.specs.Hex.{decode_of}
 use Rattle.hex.specs.declared.error.FromHexError.{FromHexError}
-use Rattle.session_text.specs.Fields.{IsNumberLine, after_word, number_of}
-use Rattle.text_lines.specs.Refusal.{Refusal, refusal}
-use Rattle.text_lines.specs.Steps.{◌>>=◌}
+use Rattle.text_reader.specs.Fields.{IsNumberLine, after_word, number_after, number_line}
+use Rattle.text_reader.specs.Refusal.{Refusal, refusal}
+use Rattle.text_reader.specs.Steps.{◌>>=◌}
 use Rattle.session_text.specs.SessionForm.{AreSessionLines, IsSession, IsVersionLine, code_line, is_store_size, most_steps}
 use Rattle.session_text.specs.SessionReading.{bare_line, bare_session, body_lines, bytes_or_refusal, code_lines, end_of_text, first_line, go_line, head_lines, number_after, number_line, session_lines, session_of, store_line, tick_line, version_line, with_code}
 use Rattle.session_text.specs.declared.sessions.Session.{Session}
 use Rattle.session_text.specs.declared.sessions.SessionLine.{SessionLine}
 use Rattle.session_text.proofs.Parts.{HasBody, HasCode, HasHead, body_same, code_same, head_same}
 use Rattle.session_text.proofs.Words.{after_ok, number_ok}
-use Rattle.text_lines.specs.Lines.{lines_of}
+use Rattle.text_reader.specs.Lines.{lines_of}
 use Rattle.std.proofs.lemmas.Fmt.{decimal_digit}
 use Rattle.std.proofs.Common.{◌&&◌}
 

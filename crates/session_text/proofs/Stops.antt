@@ -4,9 +4,9 @@ use Rattle.std.specs.Prelude.{codes, decimal}
 use Rattle.std.specs.Option.{option_map_or}
 use Rattle.std.proofs.lemmas.Bool.Decides.{nat_tests}
 use Rattle.hex.specs.Hex.{decode_of}
-use Rattle.session_text.specs.Fields.{after_word}
-use Rattle.text_lines.specs.Refusal.{Refusal, refusal}
-use Rattle.text_lines.specs.Steps.{◌>>=◌}
+use Rattle.text_reader.specs.Fields.{after_word}
+use Rattle.text_reader.specs.Refusal.{Refusal, refusal}
+use Rattle.text_reader.specs.Steps.{◌>>=◌}
 use Rattle.session_text.specs.SessionForm.{AreCodeLines, code_line, most_steps}
 use Rattle.session_text.specs.SessionReading.{body_lines, bytes_or_refusal, code_lines, end_of_text, first_line, go_line, with_code}
 use Rattle.session_text.specs.Canonical.{go_text}

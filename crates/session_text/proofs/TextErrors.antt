@@ -6,9 +6,9 @@ use Rattle.std.proofs.Math.Seq.{take-append_seam}
 use Rattle.std.proofs.lemmas.List.Elements.{All-weaker, recursion_from_All}
 use Rattle.hex.specs.Hex.{is_hex_digit}
 use Rattle.hex.proofs.HexLemmas.{decode_of-ok}
-use Rattle.text_lines.specs.Lines.{lines_of, text_of_lines}
-use Rattle.session_text.specs.Fields.{IsNumberLine}
-use Rattle.text_lines.specs.Refusal.{Refusal, refusal}
+use Rattle.text_reader.specs.Lines.{lines_of, text_of_lines}
+use Rattle.text_reader.specs.Fields.{IsNumberLine}
+use Rattle.text_reader.specs.Refusal.{Refusal, refusal}
 use Rattle.session_text.specs.SessionForm.{AreCodeLines, AreSessionLines, IsCodeLine}
 use Rattle.session_text.specs.SessionReading.{session_lines, session_of}
 use Rattle.session_text.specs.FirstError.{BeginSession, EndsEarly, IsFirstError}
@@ -16,7 +16,7 @@ use Rattle.session_text.specs.declared.sessions.Session.{Session}
 use Rattle.session_text.specs.declared.sessions.SessionLine.{SessionLine}
 use Rattle.session_text.proofs.Complete.{complete}
 use Rattle.session_text.proofs.FirstErrors.{BeginLines, session_err}
-use Rattle.session_text.proofs.PlainLines.{IsPlain, IsPlainByte, lines_of_text_of_lines, plain_append, plain_decimal, plain_digits, plain_hex_digit, plain_literal}
+use Rattle.text_reader.proofs.PlainLines.{IsPlain, IsPlainByte, lines_of_text_of_lines, plain_append, plain_decimal, plain_digits, plain_hex_digit, plain_literal}
 use Rattle.session_text.proofs.Stops.{EndsAt, StopsAt}
 
 -- ---- the lines of a session are those of a text

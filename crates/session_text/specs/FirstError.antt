@@ -1,6 +1,6 @@
 -- Which line of a text is the first in error.
 use Rattle.std.specs.Prelude.{ℕ, ◌≡◌, ◌+◌, ◌-◌, ◌≤◌, List, ◌++◌, length, take}
-use Rattle.text_lines.specs.Lines.{lines_of}
+use Rattle.text_reader.specs.Lines.{lines_of}
 use Rattle.session_text.specs.SessionForm.{IsSession}
 use Rattle.session_text.specs.declared.sessions.Session.{Session}
 

@@ -1,8 +1,8 @@
 -- What a session's text is, line by line.
 use Rattle.std.specs.Prelude.{ℕ, ◌≡◌, ◌+◌, ◌%◌, ◌≤◌, ◌&&◌, ◌==◌, if◌then◌else◌, Bool, true, false, IsTrue, List, [], ◌∷◌, ◌++◌, Ok, codes, decimal, nat_le}
 use Rattle.hex.specs.Hex.{decode_of}
-use Rattle.text_lines.specs.Lines.{lines_of}
-use Rattle.session_text.specs.Fields.{IsNumberLine}
+use Rattle.text_reader.specs.Lines.{lines_of}
+use Rattle.text_reader.specs.Fields.{IsNumberLine}
 use Rattle.session_text.specs.declared.sessions.Session.{Session}
 use Rattle.session_text.specs.declared.sessions.SessionLine.{SessionLine}
 use Rattle.session_text.specs.declared.sessions.LineForm.TheVariants.{Code}

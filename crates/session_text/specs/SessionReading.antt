@@ -4,10 +4,10 @@ use Rattle.std.specs.Option.{option_map_or, ok_or}
 use Rattle.std.specs.Str.{bytes_eq}
 use Rattle.hex.specs.Hex.{decode_of}
 use Rattle.hex.specs.declared.error.FromHexError.{FromHexError}
-use Rattle.text_lines.specs.Lines.{lines_of}
-use Rattle.session_text.specs.Fields.{after_word, number_of}
-use Rattle.text_lines.specs.Refusal.{Refusal, refusal}
-use Rattle.text_lines.specs.Steps.{◌>>=◌}
+use Rattle.text_reader.specs.Lines.{lines_of}
+use Rattle.text_reader.specs.Fields.{after_word, number_of}
+use Rattle.text_reader.specs.Refusal.{Refusal, refusal}
+use Rattle.text_reader.specs.Steps.{◌>>=◌}
 use Rattle.session_text.specs.SessionForm.{code_line, is_store_size, most_steps}
 use Rattle.session_text.specs.declared.sessions.Session.{Session}
 use Rattle.session_text.specs.declared.sessions.SessionLine.{SessionLine}

@@ -1,13 +1,13 @@
 // The head of a session: its first three lines.
 ghost use Rattle.std.specs.Prelude.{◌≡◌, ◌+◌, ◌≤◌, ◌<◌, ◌^◌, length, IfOk, OnOk};
-ghost use Rattle.text_lines.specs.Lines.{lines_of};
+ghost use Rattle.text_reader.specs.Lines.{lines_of};
 ghost use Rattle.session_text.specs.SessionForm.{is_store_size};
-ghost use Rattle.session_text.specs.Answers.{Gives};
+ghost use Rattle.text_reader.specs.Answers.{Gives};
 ghost use Rattle.session_text.specs.SessionReading.{bare_line, first_line, head_lines, number_after, store_line, tick_line, version_line};
 
 use crate::SessionEnd;
 use crate::fields::{after_word, number};
-use text_lines::split_line;
+use text_reader::split_line;
 
 /// Line n, and the text after it; code 3 where the text has ended.
 pub fn first_line(n: u32, text: &[u8]) -> Result<(&[u8], &[u8]), SessionEnd>

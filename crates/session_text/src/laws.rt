@@ -1,7 +1,7 @@
 // Laws of sessions and their texts.
 ghost use Rattle.std.specs.Prelude.{◌≡◌, ◌≢◌, ◌≤◌, ℕ, List, Ok, Err};
 ghost use Rattle.session_text.specs.FirstError.{EndsEarly, IsFirstError};
-ghost use Rattle.text_lines.specs.Refusal.{refusal};
+ghost use Rattle.text_reader.specs.Refusal.{refusal};
 ghost use Rattle.session_text.specs.SessionForm.{IsSession};
 ghost use Rattle.session_text.specs.SessionReading.{session_of};
 ghost use Rattle.session_text.specs.Canonical.{AreNumbered, IsBareSession, canonical};

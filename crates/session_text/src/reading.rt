@@ -1,9 +1,9 @@
 // Reading a session.
 ghost use Rattle.std.specs.Prelude.{◌≡◌, ◌+◌, ◌^◌, ◌<◌, ◌≤◌, length, IfOk};
 ghost use Rattle.hex.specs.Hex.{decode_of};
-ghost use Rattle.text_lines.specs.Lines.{lines_of};
+ghost use Rattle.text_reader.specs.Lines.{lines_of};
 ghost use Rattle.session_text.specs.Canonical.{AreNumbered, IsBareSession};
-ghost use Rattle.session_text.specs.Answers.{Gives};
+ghost use Rattle.text_reader.specs.Answers.{Gives};
 ghost use Rattle.session_text.specs.SessionReading.{body_lines, bytes_or_refusal, code_lines, end_of_text, go_line, session_of};
 
 use crate::fields::after_word;
@@ -11,7 +11,7 @@ use crate::heads::{bare_line, first_line, head_lines, number_after};
 use crate::{Bytes, Keys, LineForm, Lines, Session, SessionEnd, SessionLine};
 use hex::FromHexError;
 use std::alloc::Global;
-use text_lines::split_line;
+use text_reader::split_line;
 
 const MOST_STEPS: u64 = 4_000_000_000;
 

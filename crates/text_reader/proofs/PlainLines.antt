@@ -11,8 +11,8 @@ use Rattle.std.proofs.lemmas.List.Elements.{All-weaker, recursion_from_All}
 use Rattle.std.proofs.lemmas.Str.Parse.{digit_from_value}
 use Rattle.hex.specs.Hex.{IsBytes, encode_lower, is_hex_digit}
 use Rattle.hex.proofs.HexLemmas.{decode_of-encode_lower, decode_of-ok}
-use Rattle.text_lines.specs.Lines.{lines_of, text_of_lines}
-use Rattle.text_lines.proofs.LineEnds.{HasNoLf, lines_at_lf, strip_behind}
+use Rattle.text_reader.specs.Lines.{lines_of, text_of_lines}
+use Rattle.text_reader.proofs.LineEnds.{HasNoLf, lines_at_lf, strip_behind}
 
 -- a byte that is neither LF nor CR
 abbrev pub IsPlainByte : ℕ → Type 0

@@ -2,7 +2,7 @@
 ghost use Rattle.std.specs.Prelude.{◌≡◌, ◌==◌, ◌+◌, ◌<◌, ◌≤◌, ◌∷◌, [], length, IfSome, MatchOption};
 ghost use Rattle.std.specs.List.{position};
 ghost use Rattle.std.specs.Str.Lines.{strip_carriage_return};
-ghost use Rattle.text_lines.specs.Lines.{lines_of};
+ghost use Rattle.text_reader.specs.Lines.{lines_of};
 
 /// The first line, without its end, and the text after it; `None` exactly where the text is empty.
 pub fn split_line(text: &[u8]) -> Option<(&[u8], &[u8])>

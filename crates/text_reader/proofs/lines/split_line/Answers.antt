@@ -1,8 +1,8 @@
 use Rattle.std.proofs.Common.{arith}
 use Rattle.std.proofs.lemmas.Bool.Decides.{nat_tests}
 use Rattle.std.proofs.lemmas.List.{take_rest}
-use Rattle.text_lines.proofs.LineEnds.{first_line_at, first_line_all}
-use Rattle.text_lines.proofs.splitting.split_line.Goals as goal
+use Rattle.text_reader.proofs.LineEnds.{first_line_at, first_line_all}
+use Rattle.text_reader.proofs.lines.split_line.Goals as goal
 
 pub returns-in-Some-clause-cases : goal.returns-in-Some-clause-cases
 returns-in-Some-clause-cases c =
