@@ -28,6 +28,15 @@ abbrev pub AreNumbered : ℕ → List SessionLine → Type 0
 AreNumbered n [] = Unit {0}
 AreNumbered n (line ∷ lines) = (line.line ≡ n) × AreNumbered (n + 1) lines
 
+-- the lines with their numbers from n on, and all else as it was
+abbrev pub numbered : ℕ → List SessionLine → List SessionLine
+numbered n [] = []
+numbered n (line ∷ lines) = record line { line = n } ∷ numbered (n + 1) lines
+
+-- the session with the numbers that its lines have in its text
+abbrev pub with_numbers : Session → Session
+with_numbers s = record s { lines = numbered 4 s.lines }
+
 -- the text of a line: a colon, and bytes in lower-case hex (a bare session has no other lines)
 abbrev pub form_text : LineForm → List ℕ
 form_text (Code bytes) = codes ":" ++ encode_lower bytes

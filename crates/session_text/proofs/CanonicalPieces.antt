@@ -1,27 +1,14 @@
 -- Texts that are printed one after another.
-use Rattle.std.proofs.Common.{◌≡◌, ◌∙◌, ℕ, suc, ◌<◌, ◌+◌, Option, Result, Ok, Err, List, [], ◌∷◌, ◌++◌, length, get_or, take, drop, refl, sym, ap, append_assoc, drop-cons, add-one}
+use Rattle.std.proofs.Common.{◌≡◌, ◌∙◌, ℕ, suc, ◌<◌, ◌+◌, List, [], ◌∷◌, ◌++◌, length, get_or, take, drop, refl, sym, ap, append_assoc, drop-cons, add-one}
 use Rattle.std.specs.Prelude.{codes, decimal}
-use Rattle.std.specs.Io.KnownBytes.{Appends}
 use Rattle.std.proofs.Math.Seq.{split_at, take-suc}
 use Rattle.std.proofs.lemmas.Grind.{flat_map-append}
 use Rattle.std.proofs.lemmas.List.{map-append, take-append-drop}
 use Rattle.hex.specs.Hex.{encode_lower, encode_with}
-use Rattle.tp_io.specs.Writing.{AppendsPrefix, Prints}
-use Rattle.tp_io.proofs.Appending.{Appends-then, AppendsPrefix-then, AppendsPrefix-more}
 use Rattle.text_reader.specs.Lines.{text_of_lines}
 use Rattle.session_text.specs.Canonical.{canonical, code_text, form_text, go_text, head_text}
 use Rattle.session_text.specs.declared.sessions.Session.{Session}
 use Rattle.session_text.specs.declared.sessions.SessionLine.{SessionLine}
-
--- a text after one that is written
-pub Prints-then : {T E : Type 0} (h m k : Option (List ℕ)) (a b : List ℕ) (r : Result T E) → Appends h m a → Prints m k b r → Prints h k (a ++ b) r
-Prints-then h m k a b (Ok x) p q = Appends-then h m k a b p q
-Prints-then h m k a b (Err e) p q = AppendsPrefix-then h m k a b p q
-
--- a text whose writing fails, after one that is written and before one that is not
-pub Prints-cut : {T E : Type 0} (h m k : Option (List ℕ)) (a b rest : List ℕ) (r : Result T E) (e : E) → r ≡ Err e → Appends h m a → AppendsPrefix m k b → Prints h k (a ++ (b ++ rest)) r
-Prints-cut h m k a b rest (Ok x) e f p q = absurd (cc f)
-Prints-cut h m k a b rest (Err d) e f p q = AppendsPrefix-then h m k a (b ++ rest) p (AppendsPrefix-more m k b rest q)
 
 -- the text of lines, one after another
 pub text_of_lines-append : (a b : List (List ℕ)) → text_of_lines (a ++ b) ≡ text_of_lines a ++ text_of_lines b

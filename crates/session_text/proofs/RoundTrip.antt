@@ -9,26 +9,25 @@ use Rattle.hex.proofs.HexLemmas.{decode_of-encode_lower}
 use Rattle.session_text.specs.SessionForm.{AreCodeLines, AreSessionLines, IsCodeLine, is_store_size, most_steps, most_words}
 use Rattle.session_text.specs.SessionReading.{session_of}
 use Rattle.text_reader.specs.Lines.{lines_of, text_of_lines}
-use Rattle.session_text.specs.Canonical.{AreNumbered, IsBareSession, IsCode, canonical, canonical_lines, code_text, form_text, go_text}
+use Rattle.session_text.specs.Canonical.{IsBareSession, IsCode, canonical, canonical_lines, code_text, form_text, go_text, numbered, with_numbers}
 use Rattle.session_text.specs.declared.sessions.Session.{Session}
 use Rattle.session_text.specs.declared.sessions.SessionLine.{SessionLine}
 use Rattle.session_text.specs.declared.sessions.LineForm.{LineForm}
 use Rattle.session_text.specs.declared.sessions.LineForm.TheVariants.{Code, File, Task}
 use Rattle.session_text.proofs.Complete.{complete}
 use Rattle.text_reader.proofs.PlainLines.{IsPlain, lines_of_text_of_lines, plain_append, plain_decimal, plain_hex, plain_literal}
-use Rattle.session_text.proofs.Words.{decimal_number}
+use Rattle.text_reader.proofs.NumberLemmas.{decimal_number}
 
 -- a printed line of code is one
-one_again : (n k : ℕ) (form : LineForm) → IsCode form → k ≡ n → IsCodeLine n (record { line = k; form = form }) (form_text form)
-one_again n k (Code bytes) h e =
-    (encode_lower bytes, bytes, refl, decode_of-encode_lower bytes h, ap (λ (m : ℕ). record { line = m; form = Code bytes }) e)
-one_again n k (File name bytes) h e = absurd h
-one_again n k (Task id pri stack names) h e = absurd h
+one_again : (n : ℕ) (form : LineForm) → IsCode form → IsCodeLine n (record { line = n; form = form }) (form_text form)
+one_again n (Code bytes) h = (encode_lower bytes, bytes, refl, decode_of-encode_lower bytes h, refl)
+one_again n (File name bytes) h = absurd h
+one_again n (Task id pri stack names) h = absurd h
 
--- and so are several
-code_again : (n : ℕ) (lines : List SessionLine) → AllByRecursion (λ line. IsCode line.form) lines → AreNumbered n lines → AreCodeLines n lines (code_text lines)
-code_again n [] h k = tt
-code_again n (line ∷ lines) h k = (one_again n line.line line.form h.0 k.0, code_again (n + 1) lines h.1 k.1)
+-- and so are several, with the numbers that they have there
+code_again : (n : ℕ) (lines : List SessionLine) → AllByRecursion (λ line. IsCode line.form) lines → AreCodeLines n (numbered n lines) (code_text lines)
+code_again n [] h = tt
+code_again n (line ∷ lines) h = (one_again n line.form h.0, code_again (n + 1) lines h.1)
 
 -- a printed line of code has no LF and no CR
 plain_form : (form : LineForm) → IsCode form → IsPlain (form_text form)
@@ -50,13 +49,13 @@ store_bound version store e =
     grind (arith, nat_tests)
 
 -- the canonical text is a text of its session
-pub printed_again : (s : Session) → IsBareSession s → AreNumbered 4 s.lines → session_of (canonical s) ≡ Ok s
+pub printed_again : (s : Session) → IsBareSession s → session_of (canonical s) ≡ Ok (with_numbers s)
 unfolding canonical
-printed_again s h k =
+printed_again s h =
     let store : s.store ≤ 4194304 = store_bound s.version s.store h.store in
     let steps : s.go ≤ most_steps = h.steps in
     let high : s.version ≤ 2 = h.version.1 in
-    let form : AreSessionLines s (canonical_lines s) = record {
+    let form : AreSessionLines (with_numbers s) (canonical_lines s) = record {
       version = codes "TRIPOS " ++ decimal s.version;
       store = codes "STORE " ++ decimal s.store;
       code = code_text s.lines;
@@ -65,10 +64,10 @@ printed_again s h k =
       version_line = (h.version, refl);
       store_line = (decimal s.store, refl, decimal_number s.store (omega arith));
       store_size = h.store;
-      code_lines = code_again 4 s.lines h.lines k;
+      code_lines = code_again 4 s.lines h.lines;
       go_line = (decimal s.go, refl, decimal_number s.go (omega arith));
       steps = steps;
-      machine = h.machine;
+      machine = record { bare = h.machine.bare; period = h.machine.period; resident = h.machine.resident; debug = h.machine.debug; keys = h.machine.keys };
     } in
     let version_plain = plain_append (codes "TRIPOS ") (decimal s.version) (plain_literal (codes "TRIPOS ") refl) (plain_decimal s.version (omega arith)) in
     let store_plain = plain_append (codes "STORE ") (decimal s.store) (plain_literal (codes "STORE ") refl) (plain_decimal s.store (omega arith)) in
@@ -76,4 +75,4 @@ printed_again s h k =
     let plain : AllByRecursion IsPlain (canonical_lines s)
     = (version_plain, (store_plain, (plain_literal (codes "BARE") refl, plain_lines s.lines (go_text s.go) h.lines go_plain))) in
     let same : lines_of (text_of_lines (canonical_lines s)) ≡ canonical_lines s = lines_of_text_of_lines (canonical_lines s) plain in
-    complete (text_of_lines (canonical_lines s)) s (rw same form)
+    complete (text_of_lines (canonical_lines s)) (with_numbers s) (rw same form)
