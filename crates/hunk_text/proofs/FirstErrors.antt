@@ -11,7 +11,7 @@ use Rattle.hunk_text.specs.declared.modules.Module.{Module}
 use Rattle.hunk_text.specs.declared.stepping.Step.{Step}
 use Rattle.hunk_text.specs.declared.grammar.Expects.{Expects}
 use Rattle.hunk_text.specs.declared.grammar.Expects.TheVariants.{FirstType, NextType, Length, Word, Count, Offset, Nothing}
-use Rattle.hunk_text.proofs.Words.{word_again, word_ok}
+use Rattle.text_reader.proofs.NumberLemmas.{number_in-again, number_in-ok}
 use Rattle.hunk_text.proofs.Runs.{token_ok}
 use Rattle.hunk_text.proofs.Reached.{after, may_begin, none_begins}
 
@@ -60,7 +60,7 @@ more_at e t ts s d r h =
       words = s.word ∷ h.words;
       next = h.next;
       all = ap (λ (xs : List Token). t ∷ xs) h.all;
-      before = (word_ok t.bytes s.word one.0, h.before);
+      before = (number_in-ok 16 8 t.bytes s.word one.0, h.before);
       reached = rw one.1 h.reached;
       refused = h.refused;
       place = h.place;
@@ -69,7 +69,7 @@ more_at e t ts s d r h =
 more_end : (e : Expects) (end : ℕ) (t : Token) (ts : List Token) (s : Step) (d : Stop) → read_token e t.bytes ≡ Ok s → EndsAt s.next end ts d → EndsAt e end (t ∷ ts) d
 more_end e end t ts s d r h =
     let one = token_ok e t.bytes s r in
-    record { words = s.word ∷ h.words; next = h.next; all = (word_ok t.bytes s.word one.0, h.all); reached = rw one.1 h.reached; refused = h.refused; place = h.place }
+    record { words = s.word ∷ h.words; next = h.next; all = (number_in-ok 16 8 t.bytes s.word one.0, h.all); reached = rw one.1 h.reached; refused = h.refused; place = h.place }
 
 more_stop : (e : Expects) (end : ℕ) (t : Token) (ts : List Token) (s : Step) (d : Stop) → read_token e t.bytes ≡ Ok s → StopsAt s.next ts d ⊎ EndsAt s.next end ts d → StopsAt e (t ∷ ts) d ⊎ EndsAt e end (t ∷ ts) d
 more_stop e end t ts s d r (inl h) = inl (more_at e t ts s d r h)
@@ -171,7 +171,7 @@ read_code e bytes code h = read_code_by e code (word_of bytes) h
 
 -- a word that is refused as a token is refused
 word_refused : (e : Expects) (bytes : List ℕ) (w code : ℕ) → IsWord bytes w → read_token e bytes ≡ Err code → follow e w ≡ Err code
-word_refused e bytes w code is h = step_err w code (follow e w) (rw (word_again bytes w is) at h)
+word_refused e bytes w code is h = step_err w code (follow e w) (rw (number_in-again 16 8 bytes w is) at h)
 
 -- ---- texts
 

@@ -9,7 +9,8 @@ use Rattle.hunk_text.specs.ModuleForm.{end_word, hunk_type, relocation_items, re
 use Rattle.hunk_text.specs.ModuleReading.{Rest, ◌>>=◌, hunk, put, rest}
 use Rattle.hunk_text.specs.declared.grammar.Expects.{Expects}
 use Rattle.hunk_text.specs.declared.grammar.Expects.TheVariants.{FirstType, NextType, Length, Word, Count, Offset, Nothing}
-use Rattle.hunk_text.proofs.Runs.{bind_ok, ok_is, run}
+use Rattle.text_reader.proofs.StepLemmas.{Ok-same, bind-ok}
+use Rattle.hunk_text.proofs.Runs.{run}
 use Rattle.hunk_text.proofs.Complete.{hunks_again}
 use Rattle.hunk_text.proofs.Sound.{form}
 
@@ -24,16 +25,16 @@ run_more : (e next : Expects) (w : ℕ) (ws : List ℕ) (q : Rest) → follow e 
 run_more e next w ws q f h = rw (f, h) refl
 
 run_after : (e next : Expects) (ws more : List ℕ) (r : Rest) → after e ws ≡ Ok next → run next more ≡ Ok r → (q : Rest) × (run e (ws ++ more) ≡ Ok q)
-run_after e next [] more r a h = (r, subst (λ (x : Expects). run x more ≡ Ok r) (sym (ok_is e next a)) h)
+run_after e next [] more r a h = (r, subst (λ (x : Expects). run x more ≡ Ok r) (sym (Ok-same e next a)) h)
 run_after e next (w ∷ ws) more r a h =
-    let s = bind_ok (follow e w) (λ x. after x ws) next a in
+    let s = bind-ok (follow e w) (λ x. after x ws) next a in
     let q = run_after s.0 next ws more r s.2 h in
     (put e w q.0, run_more e s.0 w (ws ++ more) q.0 s.1 q.1)
 
 run_refused : (e next : Expects) (ws : List ℕ) (w : ℕ) (more : List ℕ) (code : ℕ) → after e ws ≡ Ok next → follow next w ≡ Err code → run e (ws ++ w ∷ more) ≡ Err code
-run_refused e next [] w more code a h = let f = subst (λ (x : Expects). follow x w ≡ Err code) (sym (ok_is e next a)) h in rw f refl
+run_refused e next [] w more code a h = let f = subst (λ (x : Expects). follow x w ≡ Err code) (sym (Ok-same e next a)) h in rw f refl
 run_refused e next (v ∷ ws) w more code a h =
-    let s = bind_ok (follow e v) (λ x. after x ws) next a in
+    let s = bind-ok (follow e v) (λ x. after x ws) next a in
     rw (s.1, run_refused s.0 next ws w more code s.2 h) refl
 
 -- no module's words begin with a word that was refused
@@ -110,8 +111,8 @@ then_want e next ws same h = subst (λ (x : Expects). WantFrom x ws) (sym same) 
 
 first_by : (w : ℕ) (next : Expects) (ws : List ℕ) (is_hunk is_end : Bool) → (w == hunk_type) ≡ is_hunk → (w == end_word) ≡ is_end
     → cond is_hunk (Ok Length) (cond is_end (Ok Nothing) (refused 3)) ≡ Ok next → WantFrom next ws → WantOffsetInNone (w ∷ ws)
-first_by w next ws true is_end a b e h = rw (eqb-true w hunk_type a) (then_want Length next ws (ok_is Length next e) h)
-first_by w next ws false true a b e h = absurd (then_want Nothing next ws (ok_is Nothing next e) h)
+first_by w next ws true is_end a b e h = rw (eqb-true w hunk_type a) (then_want Length next ws (Ok-same Length next e) h)
+first_by w next ws false true a b e h = absurd (then_want Nothing next ws (Ok-same Nothing next e) h)
 first_by w next ws false false a b e h = cc e
 
 first_want : (w : ℕ) (next : Expects) (ws : List ℕ) → first_type w ≡ Ok next → WantFrom next ws → WantOffsetInNone (w ∷ ws)
@@ -123,7 +124,7 @@ count_want n ws (inr h) = inr h
 
 type_by : (n w : ℕ) (next : Expects) (ws : List ℕ) (b : Bool) → (w == relocation_type) ≡ b → cond b (Ok (Count n)) (first_type w) ≡ Ok next → WantFrom next ws → WantFrom (NextType n) (w ∷ ws)
 type_by n w next ws true a e h =
-    subst (λ (x : ℕ). WantFrom (NextType n) (x ∷ ws)) (sym (eqb-true w relocation_type a)) (count_want n ws (then_want (Count n) next ws (ok_is (Count n) next e) h))
+    subst (λ (x : ℕ). WantFrom (NextType n) (x ∷ ws)) (sym (eqb-true w relocation_type a)) (count_want n ws (then_want (Count n) next ws (Ok-same (Count n) next e) h))
 type_by n w next ws false a e h = inl (first_want w next ws e h)
 
 none_want : (ws : List ℕ) → WantFrom (NextType 0) ws → WantOffsetInNone (hunk_type ∷ 0 ∷ ws)
@@ -170,24 +171,24 @@ more_by more n w ws false some h = offset_want (more - 1) n w ws some h
 offset_by : (more n w : ℕ) (next : Expects) (ws : List ℕ) (b : Bool) → nat_lt w n ≡ b → cond b (Ok (offsets_or_type more n)) (refused 4) ≡ Ok next → WantFrom next ws → WantFrom (Offset more n) (w ∷ ws)
 offset_by more n w next ws true a e h =
     let some : 0 < n = grind (arith, nat_tests) in
-    inl (more_by more n w ws (more == 0) some (then_want (offsets_or_type more n) next ws (ok_is (offsets_or_type more n) next e) h))
+    inl (more_by more n w ws (more == 0) some (then_want (offsets_or_type more n) next ws (Ok-same (offsets_or_type more n) next e) h))
 offset_by more n w next ws false a e h = cc e
 
 want_step : (e : Expects) (w : ℕ) (next : Expects) (ws : List ℕ) → follow e w ≡ Ok next → WantFrom next ws → WantFrom e (w ∷ ws)
 want_step FirstType w next ws e h = first_want w next ws e h
 want_step (NextType n) w next ws e h = type_by n w next ws (w == relocation_type) refl e h
-want_step Length w next ws e h = length_by w ws (w == 0) refl (then_want (words_or_type w w) next ws (ok_is (words_or_type w w) next e) h)
-want_step (Word more n) w next ws e h = word_by more n w ws (more == 0) (then_want (words_or_type more n) next ws (ok_is (words_or_type more n) next e) h)
-want_step (Count n) w next ws e h = count_by n w ws (w == 0) refl (then_want (offsets_or_type w n) next ws (ok_is (offsets_or_type w n) next e) h)
+want_step Length w next ws e h = length_by w ws (w == 0) refl (then_want (words_or_type w w) next ws (Ok-same (words_or_type w w) next e) h)
+want_step (Word more n) w next ws e h = word_by more n w ws (more == 0) (then_want (words_or_type more n) next ws (Ok-same (words_or_type more n) next e) h)
+want_step (Count n) w next ws e h = count_by n w ws (w == 0) refl (then_want (offsets_or_type w n) next ws (Ok-same (offsets_or_type w n) next e) h)
 want_step (Offset more n) w next ws e h = offset_by more n w next ws (nat_lt w n) refl e h
 want_step Nothing w next ws e h = cc e
 
 want_from : (e : Expects) (ws : List ℕ) (more : ℕ) → after e ws ≡ Ok (Offset more 0) → WantFrom e ws
 want_from e [] more a =
     let P : Expects → Type 0 = λ x. WantFrom x [] in
-    subst P (sym (ok_is e (Offset more 0) a)) (inr (refl, refl))
+    subst P (sym (Ok-same e (Offset more 0) a)) (inr (refl, refl))
 want_from e (w ∷ ws) more a =
-    let s = bind_ok (follow e w) (λ x. after x ws) (Offset more 0) a in
+    let s = bind-ok (follow e w) (λ x. after x ws) (Offset more 0) a in
     want_step e w s.0 ws s.1 (want_from s.0 ws more s.2)
 
 -- ---- words that were read
