@@ -1,6 +1,6 @@
 pub mod PartLemmas
 pub mod NameLemmas
-pub mod Steps
+pub mod LineSteps
 pub mod PieceFits
 pub mod HunkSizes
 pub mod SurveyLemmas

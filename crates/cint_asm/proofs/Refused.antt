@@ -1,6 +1,6 @@
 -- A text is refused exactly where it is refused by the rules.
 use Rattle.std.proofs.Common.{◌≡◌, ◌∙◌, ℕ, ◌+◌, ◌<◌, ◌≤◌, ◌⊎◌, inl, inr, Bool, true, false, Ok, Err, List, [], ◌∷◌, ◌++◌, length, refl, sym, ap, subst, arith, add-zero, lit≤}
-use Rattle.text_lines.specs.Lines.{lines_of}
+use Rattle.text_reader.specs.Lines.{lines_of}
 use Rattle.cint_asm.specs.Assembly.{assembly_of, module_of}
 use Rattle.cint_asm.specs.AssemblyForm.{AreGiven, IsBadLine, IsBadOperand, IsRefused, IsTooMuch, IsWrong}
 use Rattle.cint_asm.specs.Encoding.{code_of as code_of_piece, encode, encode_line, joined}
@@ -11,7 +11,7 @@ use Rattle.cint_asm.specs.Places.{end_of, first_offset, most_words}
 use Rattle.cint_asm.specs.Program.{AreRead, IsProgram, placed}
 use Rattle.cint_asm.specs.Reading.{line_of}
 use Rattle.cint_asm.specs.Refusal.{Refusal, at_line, refusal}
-use Rattle.cint_asm.specs.Steps.{◌>>=◌}
+use Rattle.text_reader.specs.Steps.{◌>>=◌}
 use Rattle.cint_asm.specs.Survey.{Layout, admitted, no_lines, survey, survey_line}
 use Rattle.cint_asm.specs.declared.errors.LineError.{LineError}
 use Rattle.cint_asm.specs.declared.errors.LineError.TheVariants.{NoForm, UnknownName, OutOfRange, UndefinedLabel, RepeatedLabel, OutOfReach, HunkTooLong}
@@ -22,7 +22,8 @@ use Rattle.cint_asm.proofs.EncodeLemmas.{survey_fits}
 use Rattle.cint_asm.proofs.PieceFits.{piece_fits}
 use Rattle.cint_asm.proofs.ProgramLemmas.{ComeNext, layout_after, size_after, survey_again}
 use Rattle.cint_asm.proofs.RefusalLemmas.{StopsSurvey, admitted_err, repeated_again, repeats_again, repeats_label, size_with, survey_err, survey_front, survey_line_err, too_long_again}
-use Rattle.cint_asm.proofs.Steps.{at_line_err, at_line_ok, bind_err}
+use Rattle.text_reader.proofs.StepLemmas.{bind-err}
+use Rattle.cint_asm.proofs.LineSteps.{at_line_err, at_line_ok}
 use Rattle.cint_asm.proofs.TableLemmas.{distinct_labels}
 
 -- ---- a line that cannot follow
@@ -133,7 +134,7 @@ record StopsEncode (n : ℕ) (table : Table) (offset : ℕ) (program : List Line
 line_not_given : (n : ℕ) (table : Table) (offset : ℕ) (text : List ℕ) (line : Line) (d : Refusal) → line_of text ≡ Ok line → encode_line n table offset text ≡ Err d
     → (e : LineError) × (piece_of table offset line.statement ≡ Err e) × (d ≡ refusal n (code_of e))
 line_not_given n table offset text line d read h =
-    elim (bind_err (at_line n (line_of text)) (λ l. at_line n (piece_of table offset l.statement)) d h) [
+    elim (bind-err (at_line n (line_of text)) (λ l. at_line n (piece_of table offset l.statement)) d h) [
       | inl p ↦ let a = at_line_err n (line_of text) d p in let other = a.1 in cc
       | inr p ↦
           let a = at_line_err n (piece_of table offset p.0.statement) d p.2 in
@@ -146,7 +147,7 @@ encode_err : (n : ℕ) (table : Table) (offset : ℕ) (texts : List (List ℕ)) 
 encode_err n table offset [] program d read h = cc h
 encode_err n table offset (text ∷ texts) [] d read h = absurd read
 encode_err n table offset (text ∷ texts) (line ∷ lines) d read h =
-    elim (bind_err (encode_line n table offset text) (λ piece. encode (n + 1) table (offset + length piece.bytes) texts >>= λ more. Ok (joined (code_of_piece piece) more)) d h) [
+    elim (bind-err (encode_line n table offset text) (λ piece. encode (n + 1) table (offset + length piece.bytes) texts >>= λ more. Ok (joined (code_of_piece piece) more)) d h) [
       | inl p ↦
           let a = line_not_given n table offset text line d read.0 p in
           record {
@@ -162,7 +163,7 @@ encode_err n table offset (text ∷ texts) (line ∷ lines) d read h =
           }
       | inr p ↦
           let g = line_given n table offset text line p.0 read.0 p.1 in
-          elim (bind_err (encode (n + 1) table (offset + length p.0.bytes) texts) (λ more. Ok (joined (code_of_piece p.0) more)) d p.2) [
+          elim (bind-err (encode (n + 1) table (offset + length p.0.bytes) texts) (λ more. Ok (joined (code_of_piece p.0) more)) d p.2) [
             | inl q ↦
                 let r = encode_err (n + 1) table (end_of line.statement offset) texts lines d read.1 (ap (λ (o : ℕ). encode (n + 1) table o texts) (sym g.1) ∙ q) in
                 let number : n + 1 + length r.front ≡ n + length ((offset, line) ∷ r.front) = omega arith in
@@ -207,10 +208,10 @@ refused_by_encoding text n code last surveyed h =
 pub refusal_sound : (text : List ℕ) (n code : ℕ) → assembly_of text ≡ Err (refusal n code) → IsRefused text n code
 unfolding assembly_of
 refusal_sound text n code h =
-    elim (bind_err (survey 1 no_lines (lines_of text)) (λ layout. encode 1 layout.table first_offset (lines_of text) >>= λ code. Ok (module_of code)) (refusal n code) h) [
+    elim (bind-err (survey 1 no_lines (lines_of text)) (λ layout. encode 1 layout.table first_offset (lines_of text) >>= λ code. Ok (module_of code)) (refusal n code) h) [
       | inl p ↦ refused_by_survey text n code (survey_err 1 no_lines (lines_of text) (refusal n code) p)
       | inr p ↦
-          elim (bind_err (encode 1 p.0.table first_offset (lines_of text)) (λ code. Ok (module_of code)) (refusal n code) p.2) [
+          elim (bind-err (encode 1 p.0.table first_offset (lines_of text)) (λ code. Ok (module_of code)) (refusal n code) p.2) [
             | inl q ↦ refused_by_encoding text n code p.0 p.1 q
             | inr q ↦ cc q.2
           ]

@@ -1,7 +1,7 @@
 // What the lines give to the hunk.
 ghost use Rattle.std.specs.Prelude.{◌≡◌, ◌<◌, ◌^◌, length, IsOk, OnOk};
-ghost use Rattle.text_lines.specs.Lines.{lines_of};
-ghost use Rattle.cint_asm.specs.Answers.{Gives};
+ghost use Rattle.text_reader.specs.Lines.{lines_of};
+ghost use Rattle.text_reader.specs.Answers.{Gives};
 ghost use Rattle.cint_asm.specs.Encoding.{code_of, encode, encode_line, joined};
 ghost use Rattle.cint_asm.specs.KeptCode.{kept_code};
 ghost use Rattle.cint_asm.specs.KeptLabels.{table_of};
@@ -14,7 +14,7 @@ use crate::reading::read_line;
 use crate::survey::refused;
 use std::alloc::{AllocError, Global};
 use std::collections::BTreeMap;
-use text_lines::split_line;
+use text_reader::split_line;
 
 /// What lines give to the hunk.
 #[derive(Drop)]

@@ -4,7 +4,6 @@
 pub mod assembling;
 mod directives;
 mod encoding;
-pub mod ends;
 mod errors;
 mod hunks;
 mod instructions;
@@ -22,8 +21,8 @@ mod survey;
 mod tables;
 
 pub use assembling::assemble;
-pub use ends::AsmEnd;
 use errors::LineError;
+pub use text_reader::TextEnd as AsmEnd;
 
 #[cfg(test)]
 mod tests;

@@ -4,9 +4,10 @@ use Rattle.hunk_text.specs.Tokens.{line_at}
 use Rattle.hunk_text.specs.Places.{bytes_in, next_span}
 use Rattle.hunk_text.specs.Grammar.{finish}
 use Rattle.hunk_text.specs.ModuleReading.{Refusal, Rest, Stop, hunk, module_of, module_or_refusal, put, read_token, refusal, rest, with_rest}
-use Rattle.hunk_text.specs.Answers.{Gives, or_bad}
-use Rattle.hunk_text.specs.declared.ends.HunkEnd.{HunkEnd}
-use Rattle.hunk_text.specs.declared.ends.HunkEnd.TheVariants.{Bad}
+use Rattle.hunk_text.specs.Answers.{or_bad}
+use Rattle.text_reader.specs.Answers.{Gives}
+use Rattle.text_reader.specs.declared.ends.TextEnd.{TextEnd}
+use Rattle.text_reader.specs.declared.ends.TextEnd.TheVariants.{Bad}
 use Rattle.hunk_text.specs.declared.modules.Hunk.{Hunk}
 use Rattle.hunk_text.specs.declared.modules.Module.{Module}
 use Rattle.hunk_text.specs.declared.tokens.Span.{Span}
@@ -106,9 +107,9 @@ pub ok_from : {X : Type 0} (line : ℕ) (r : Result X ℕ) (x : X) → Ok x ≡ 
 ok_from line (Ok y) x e = cc
 ok_from line (Err code) x e = cc
 
-pub bad_from : {X : Type 0} (line : ℕ) (r : Result X ℕ) (end : HunkEnd) → Err end ≡ or_bad line r → (code : ℕ) × (r ≡ Err code) × (end ≡ Bad line code)
+pub bad_from : {X : Type 0} (line : ℕ) (r : Result X ℕ) (end : TextEnd) → Err end ≡ or_bad line r → (code : ℕ) × (r ≡ Err code) × (end ≡ Bad line code)
 bad_from line (Ok y) end e = cc
 bad_from line (Err code) end e = (code, refl, cc)
 
-pub gives_bad : (r : Result Module HunkEnd) (read : Result Module Refusal) (end : HunkEnd) (line code : ℕ) → r ≡ Err end → end ≡ Bad line code → read ≡ Err (refusal line code) → Gives r read
+pub gives_bad : (r : Result Module TextEnd) (read : Result Module Refusal) (end : TextEnd) (line code : ℕ) → r ≡ Err end → end ≡ Bad line code → read ≡ Err (refusal line code) → Gives (λ m. m) r read
 gives_bad r read end line code e f h = rw (e, f) h

@@ -1,6 +1,5 @@
 pub mod Digits
 pub mod Spans
-pub mod Words
 pub mod Runs
 pub mod Complete
 pub mod Sound

@@ -1,22 +1,9 @@
 -- Texts that are printed part by part.
 use Rattle.std.proofs.Common.{◌≡◌, ◌∙◌, ℕ, suc, ◌<◌, ◌+◌, Option, Result, Ok, Err, List, [], ◌∷◌, ◌++◌, length, get_or, take, drop, refl, sym, ap, arith, append_assoc, append-nil, add-one, add-zero, drop-cons, length-take}
-use Rattle.std.specs.Io.KnownBytes.{Appends}
 use Rattle.std.proofs.Math.Seq.{take-suc}
 use Rattle.std.proofs.lemmas.List.{take-append-drop}
-use Rattle.tp_io.specs.Writing.{AppendsPrefix, Prints}
-use Rattle.tp_io.proofs.Appending.{AppendsPrefix-more, AppendsPrefix-then}
 use Rattle.hunk_text.specs.ModuleForm.{relocation_type}
 use Rattle.hunk_text.specs.Canonical.{item_text, relocations_text, word_text, words_text}
-
--- a text whose writing fails, before one that is not written
-pub Prints-first : {T E : Type 0} (h k : Option (List ℕ)) (a b : List ℕ) (r : Result T E) (e : E) → r ≡ Err e → AppendsPrefix h k a → Prints h k (a ++ b) r
-Prints-first h k a b (Ok x) e f p = absurd (cc f)
-Prints-first h k a b (Err d) e f p = AppendsPrefix-more h k a b p
-
--- the same, after one that is written
-pub Prints-cut : {T E : Type 0} (h m k : Option (List ℕ)) (a b rest : List ℕ) (r : Result T E) (e : E) → r ≡ Err e → Appends h m a → AppendsPrefix m k b → Prints h k (a ++ (b ++ rest)) r
-Prints-cut h m k a b rest (Ok x) e f p q = absurd (cc f)
-Prints-cut h m k a b rest (Err d) e f p q = AppendsPrefix-then h m k a (b ++ rest) p (AppendsPrefix-more m k b rest q)
 
 words_text-append : (i n : ℕ) (xs ys : List ℕ) → words_text i n (xs ++ ys) ≡ words_text i n xs ++ words_text (i + length xs) n ys
 words_text-append i n [] ys = rw (add-zero i) refl

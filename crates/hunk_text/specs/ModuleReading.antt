@@ -1,8 +1,8 @@
 -- A module read token by token, or the first token that cannot follow.
 use Rattle.std.specs.Prelude.{ℕ, List, [], ◌∷◌, ◌++◌, length, Result, Ok, Err}
 use Rattle.std.specs.Option.{ok_or}
-pub use Rattle.text_lines.specs.Refusal.{Refusal, refusal}
-pub use Rattle.text_lines.specs.Steps.{◌>>=◌}
+pub use Rattle.text_reader.specs.Refusal.{Refusal, refusal}
+pub use Rattle.text_reader.specs.Steps.{◌>>=◌}
 use Rattle.hunk_text.specs.Tokens.{Token, line_at, tokens_of}
 use Rattle.hunk_text.specs.Words.{word_of}
 use Rattle.hunk_text.specs.Grammar.{finish, follow}

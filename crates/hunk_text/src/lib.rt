@@ -2,7 +2,6 @@
 #![tactic(auto)]
 
 pub mod checking;
-pub mod ends;
 mod grammar;
 pub mod laws;
 pub mod lists;
@@ -14,12 +13,12 @@ pub mod texts;
 pub mod tokens;
 
 pub use checking::{Shape, check_module};
-pub use ends::HunkEnd;
 pub use grammar::RELOCATIONS;
 pub use lists::{Hunks, WordList};
 pub use modules::{Hunk, Module};
 pub use printing::print_module;
 pub use reading::read_module;
+pub use text_reader::TextEnd as HunkEnd;
 pub use texts::{SliceText, TextBytes};
 pub use tokens::{NextWord, next_word};
 

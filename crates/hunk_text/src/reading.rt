@@ -1,10 +1,11 @@
 // Reading the text of a module.
 ghost use Rattle.std.specs.Prelude.{◌≡◌, ◌-◌, ◌<◌, ◌≤◌, ◌^◌, [], ◌∷◌, length, IfErr, IfOk, OnOk};
 ghost use Rattle.hunk_text.specs.Places.{bytes_in};
-ghost use Rattle.hunk_text.specs.Answers.{Gives, or_bad};
+ghost use Rattle.text_reader.specs.Answers.{Gives};
+ghost use Rattle.hunk_text.specs.Answers.{or_bad};
 ghost use Rattle.hunk_text.specs.Canonical.{IsPrintable};
 ghost use Rattle.hunk_text.specs.Grammar.{finish};
-ghost use Rattle.hunk_text.specs.declared.ends.HunkEnd.TheVariants.{WantMemory};
+ghost use Rattle.text_reader.specs.declared.ends.TextEnd.TheVariants.{WantMemory};
 ghost use Rattle.hunk_text.specs.Tokens.{line_at};
 ghost use Rattle.hunk_text.specs.ModuleReading.{Rest, hunk, module_of, put, read_token, rest, with_rest};
 
@@ -20,7 +21,7 @@ use std::alloc::Global;
 /// follows the end word.
 pub fn read_module(alloc: Global, text: &[u8]) -> Result<Module, HunkEnd>
     requires { length text.now < 2 ^ 32 - 1 }
-    ensures value { Gives result (module_of text.now) }
+    ensures value { Gives (λ m. m) result (module_of text.now) }
 
     // A module that was read has no more hunks than its text has bytes, and from a text of fewer than 2 ^ 30 bytes it can
     // be printed.
@@ -33,7 +34,7 @@ pub fn read_module(alloc: Global, text: &[u8]) -> Result<Module, HunkEnd>
 // The module of a text, token by token.
 fn whole_module(alloc: Global, text: &[u8]) -> Result<Module, HunkEnd>
     requires { length text.now < 2 ^ 32 - 1 }
-    ensures { Gives result (module_of text.now) }
+    ensures { Gives (λ m. m) result (module_of text.now) }
 {
     let mut hunks = Vec::new(alloc);
     let mut expects = Expects::FirstType;

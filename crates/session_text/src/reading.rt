@@ -1,17 +1,16 @@
 // Reading a session.
 ghost use Rattle.std.specs.Prelude.{◌≡◌, ◌+◌, ◌^◌, ◌<◌, ◌≤◌, length, IfOk};
 ghost use Rattle.hex.specs.Hex.{decode_of};
-ghost use Rattle.text_lines.specs.Lines.{lines_of};
+ghost use Rattle.text_reader.specs.Answers.{Gives};
+ghost use Rattle.text_reader.specs.Lines.{lines_of};
 ghost use Rattle.session_text.specs.Canonical.{AreNumbered, IsBareSession};
-ghost use Rattle.session_text.specs.Answers.{Gives};
-ghost use Rattle.session_text.specs.SessionReading.{body_lines, bytes_or_refusal, code_lines, end_of_text, go_line, session_of};
+ghost use Rattle.session_text.specs.SessionReading.{body_lines, bytes_or_refusal, code_lines, go_line, session_of};
 
-use crate::fields::after_word;
-use crate::heads::{bare_line, first_line, head_lines, number_after};
+use crate::heads::{bare_line, head_lines};
 use crate::{Bytes, Keys, LineForm, Lines, Session, SessionEnd, SessionLine};
 use hex::FromHexError;
 use std::alloc::Global;
-use text_lines::split_line;
+use text_reader::{after_word, end_of_text, first_line, number_after, split_line};
 
 const MOST_STEPS: u64 = 4_000_000_000;
 
@@ -111,14 +110,4 @@ fn go_line(n: u32, line: &[u8]) -> Result<u64, SessionEnd>
         return Err(SessionEnd::Bad { line: n, code: 2 });
     }
     Ok(go)
-}
-
-// Nothing follows `GO`: the text after it begins with line n.
-fn end_of_text(n: u32, text: &[u8]) -> Result<(), SessionEnd>
-    ensures { Gives (λ x. x) result (end_of_text n (lines_of text.now)) }
-{
-    match split_line(text) {
-        None => Ok(()),
-        Some(_) => Err(SessionEnd::Bad { line: n, code: 1 }),
-    }
 }

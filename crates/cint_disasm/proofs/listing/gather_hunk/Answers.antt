@@ -1,7 +1,7 @@
 use Rattle.std.proofs.Common.{length}
 use Rattle.std.proofs.lemmas.Result.{err_from_is_err_and}
 use Rattle.tp_io.proofs.Appending.{Prints-then}
-use Rattle.hunk_text.proofs.PrintedParts.{Prints-first}
+use Rattle.tp_io.proofs.FailedPrint.{Prints-first}
 use Rattle.cint_disasm.specs.HunkListing.{head_line, lines_of_words, listing}
 use Rattle.cint_disasm.proofs.listing.disassemble.Goals as goal
 

@@ -1,7 +1,7 @@
 use Rattle.std.proofs.Common.{◌<◌, length, arith}
 use Rattle.std.proofs.lemmas.Result.{err_from_is_err_and}
 use Rattle.tp_io.proofs.Appending.{Appends-then}
-use Rattle.hunk_text.proofs.PrintedParts.{Prints-cut}
+use Rattle.tp_io.proofs.FailedPrint.{Prints-cut}
 use Rattle.cint_disasm.proofs.HunkLines.{listings_at, listings_more}
 use Rattle.cint_disasm.proofs.listing.disassemble_module.Goals as goal
 

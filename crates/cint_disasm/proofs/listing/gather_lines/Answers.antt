@@ -2,7 +2,7 @@ use Rattle.std.proofs.Common.{◌∙◌, ◌+◌, ◌*◌, [], ◌++◌, length,
 use Rattle.std.proofs.lemmas.Result.{err_from_is_err_and}
 use Rattle.word_store.specs.Bytes.{byte_at}
 use Rattle.tp_io.proofs.Appending.{Appends-nothing, Appends-then}
-use Rattle.hunk_text.proofs.PrintedParts.{Prints-cut}
+use Rattle.tp_io.proofs.FailedPrint.{Prints-cut}
 use Rattle.cint_disasm.specs.Listing.{listed}
 use Rattle.cint_disasm.specs.HunkListing.{lines_from}
 use Rattle.cint_disasm.proofs.HunkLines.{byte_some, lines_more}

@@ -1,6 +1,6 @@
 use Rattle.std.proofs.lemmas.Result.{err_from_is_err_and}
 use Rattle.tp_io.proofs.Appending.{Prints-then}
-use Rattle.hunk_text.proofs.PrintedParts.{Prints-first}
+use Rattle.tp_io.proofs.FailedPrint.{Prints-first}
 use Rattle.hunk_text.proofs.printing.print_hunk.Goals as goal
 
 pub returns-in_err-print_item-clause-text : goal.returns-in_err-print_item-clause-text

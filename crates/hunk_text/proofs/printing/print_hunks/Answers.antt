@@ -1,7 +1,7 @@
 use Rattle.std.proofs.lemmas.Result.{err_from_is_err_and}
 use Rattle.tp_io.proofs.Appending.{flat_map-at}
 use Rattle.hunk_text.specs.Canonical.{text_of_hunk}
-use Rattle.hunk_text.proofs.PrintedParts.{Prints-cut}
+use Rattle.tp_io.proofs.FailedPrint.{Prints-cut}
 use Rattle.hunk_text.proofs.printing.print_hunks.Goals as goal
 
 pub returns-in_err-print_hunk-clause-text : goal.returns-in_err-print_hunk-clause-text

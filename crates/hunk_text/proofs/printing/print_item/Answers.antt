@@ -1,6 +1,6 @@
 use Rattle.std.proofs.lemmas.Result.{err_from_is_err_and}
 use Rattle.tp_io.proofs.Appending.{Prints-then}
-use Rattle.hunk_text.proofs.PrintedParts.{Prints-first}
+use Rattle.tp_io.proofs.FailedPrint.{Prints-first}
 use Rattle.hunk_text.proofs.printing.print_item.Goals as goal
 
 pub returns-in_err-print_head-clause-text : goal.returns-in_err-print_head-clause-text

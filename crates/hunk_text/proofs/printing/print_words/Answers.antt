@@ -1,7 +1,8 @@
 use Rattle.std.proofs.Common.{arith}
 use Rattle.std.proofs.lemmas.Result.{err_from_is_err_and}
 use Rattle.tp_io.proofs.Appending.{Appends-then}
-use Rattle.hunk_text.proofs.PrintedParts.{Prints-cut, words_at, words_more}
+use Rattle.tp_io.proofs.FailedPrint.{Prints-cut}
+use Rattle.hunk_text.proofs.PrintedParts.{words_at, words_more}
 use Rattle.hunk_text.proofs.printing.print_words.Goals as goal
 
 pub returns-in_err-print_word-clause-text : goal.returns-in_err-print_word-clause-text

@@ -1,7 +1,8 @@
 use Rattle.std.proofs.Common.{[], ◌∷◌}
 use Rattle.std.proofs.lemmas.Result.{err_from_is_err_and}
 use Rattle.tp_io.proofs.Appending.{Appends-nothing}
-use Rattle.session_text.proofs.Printed.{Prints-cut, Prints-then}
+use Rattle.tp_io.proofs.Appending.{Prints-then}
+use Rattle.tp_io.proofs.FailedPrint.{Prints-cut}
 use Rattle.session_text.proofs.printing.print_form.Goals as goal
 
 pub returns-in_err-write_pieces-in-Code-clause-text : goal.returns-in_err-write_pieces-in-Code-clause-text

@@ -1,5 +1,6 @@
 use Rattle.std.proofs.lemmas.Result.{err_from_is_err_and}
-use Rattle.session_text.proofs.Printed.{Prints-cut, code_text_at}
+use Rattle.tp_io.proofs.FailedPrint.{Prints-cut}
+use Rattle.session_text.proofs.CanonicalPieces.{code_text_at}
 use Rattle.session_text.proofs.printing.print_lines.Goals as goal
 
 pub returns-in_err-print_form-clause-text : goal.returns-in_err-print_form-clause-text

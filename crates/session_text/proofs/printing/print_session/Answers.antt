@@ -1,7 +1,9 @@
 use Rattle.std.proofs.Common.{[]}
 use Rattle.std.proofs.lemmas.Result.{err_from_is_err_and}
 use Rattle.tp_io.proofs.Appending.{Appends-nothing}
-use Rattle.session_text.proofs.Printed.{Prints-cut, Prints-then, canonical_parts}
+use Rattle.tp_io.proofs.Appending.{Prints-then}
+use Rattle.tp_io.proofs.FailedPrint.{Prints-cut}
+use Rattle.session_text.proofs.CanonicalPieces.{canonical_parts}
 use Rattle.session_text.proofs.printing.print_session.Goals as goal
 
 pub returns-in_err-print_head-clause-text : goal.returns-in_err-print_head-clause-text
