@@ -1,16 +1,16 @@
 -- A task that has no coroutines.
 use Rattle.std.proofs.Common.{◌≡◌, ℕ, ◌+◌, ◌<◌, ◌≤◌, List, [], ◌-◌, length, get_or, set, refl, ap, ◌∙◌, arith, get_or-set_other, get_or-set_same, length-set}
 use Rattle.std.specs.List.{range_with_len}
-use Rattle.store_model.specs.Linked.{IsLinked}
-use Rattle.store_model.specs.Block.{used_block}
-use Rattle.store_model.specs.Run.{need}
-use Rattle.store_model.specs.Take.{IsTaken}
-use Rattle.store_model.specs.Tiling.{IsTiled, blocks_in, used_at}
-use Rattle.store_model.proofs.AfterTake.{AfterTake, after_take}
-use Rattle.store_model.proofs.Counts.{hit-le, range-apart, times-append}
-use Rattle.store_model.proofs.Lists.{becomes}
-use Rattle.store_model.proofs.UsedBlocks.{used_at-is}
-use Rattle.store_model.proofs.Writes.{SameBlocks, SameBlocks-set_used}
+use Rattle.linked_list.specs.Linked.{IsLinked}
+use Rattle.getvec_chain.specs.Block.{used_block}
+use Rattle.getvec_chain.specs.Run.{need}
+use Rattle.getvec_chain.specs.Take.{IsTaken}
+use Rattle.getvec_chain.specs.Tiling.{IsTiled, blocks_in, used_at}
+use Rattle.getvec_chain.proofs.AfterTake.{AfterTake, after_take}
+use Rattle.linked_list.proofs.Counts.{hit-le, range-apart, times-append}
+use Rattle.linked_list.proofs.Lists.{becomes}
+use Rattle.getvec_chain.proofs.UsedBlocks.{used_at-is}
+use Rattle.getvec_chain.proofs.Writes.{SameBlocks, SameBlocks-set_used}
 use Rattle.task_block.specs.Lists.{coroutine_link}
 use Rattle.coroutines.specs.Coroutines.{HasCoroutines, HasTaskBlock}
 use Rattle.coroutines.specs.CoroutineWords.{coroutine_size}

@@ -1,13 +1,13 @@
 -- The coroutines of a task, in a store with blocks.
 use Rattle.std.specs.Prelude.{◌≡◌, ℕ, ◌+◌, ◌≤◌, true, false, Some, List, ◌++◌}
 use Rattle.std.specs.List.{AllByRecursion, range_with_len}
-use Rattle.store_model.specs.declared.blocks.Block.{Block}
-use Rattle.store_model.specs.Block.{block_end, used_block}
-use Rattle.store_model.specs.Count.{IsApart, words_of}
-use Rattle.store_model.specs.Linked.{HasList}
-use Rattle.store_model.specs.Placing.{has}
-use Rattle.store_model.specs.Run.{need}
-use Rattle.store_model.specs.Tiling.{IsTiled, blocks_in, used_at}
+use Rattle.getvec_chain.specs.declared.pieces.Block.{Block}
+use Rattle.getvec_chain.specs.Block.{block_end, used_block}
+use Rattle.linked_list.specs.Count.{IsApart, words_of}
+use Rattle.linked_list.specs.Linked.{HasList}
+use Rattle.linked_list.specs.Placing.{has}
+use Rattle.getvec_chain.specs.Run.{need}
+use Rattle.getvec_chain.specs.Tiling.{IsTiled, blocks_in, used_at}
 use Rattle.task_block.specs.Lists.{coroutine_link, coroutines_in}
 use Rattle.coroutines.specs.Active.{LeadsOut, active_in}
 use Rattle.coroutines.specs.CoroutineWords.{coroutine_size, current_cell, highest_in, parent_in}

@@ -1,9 +1,9 @@
 -- A coroutine is made, and goes.
 use Rattle.std.specs.Prelude.{◌≡◌, ℕ, ◌+◌, max, List, [], ◌∷◌, slice_index, slice_set}
-use Rattle.store_model.specs.Give.{given_store}
-use Rattle.store_model.specs.Placing.{cell_before, linked_out}
-use Rattle.store_model.specs.Row.{with_words}
-use Rattle.store_model.specs.Take.{IsTaken}
+use Rattle.getvec_chain.specs.Give.{given_store}
+use Rattle.linked_list.specs.Placing.{cell_before, linked_out}
+use Rattle.word_store.specs.Row.{with_words}
+use Rattle.getvec_chain.specs.Take.{IsTaken}
 use Rattle.task_block.specs.Lists.{coroutine_link, coroutines_in}
 use Rattle.coroutines.specs.CoroutineWords.{bottom}
 

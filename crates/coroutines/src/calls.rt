@@ -9,10 +9,9 @@ ghost use Rattle.task_block.specs.Lists.{coroutines_in};
 
 use crate::ends::CoEnd;
 use crate::members::{has_parent, is_known};
-use crate::switching::{enter, leave, replace};
-use store_links::word;
+use crate::switch::{enter, leave, replace};
+use word_store::{Regs, Store, word};
 use task_block::{TcbField, field};
-use word_store::{Regs, Store};
 
 /// Which word of a coroutine has the address of its function.
 const FUNCTION: u32 = 3;

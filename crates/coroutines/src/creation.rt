@@ -1,10 +1,10 @@
 // A coroutine is made, and deleted.
 ghost use Rattle.std.specs.Prelude.{◌≡◌, ◌+◌, ◌∷◌, IfOk, None, OnErr, OnOk, true};
-ghost use Rattle.store_model.specs.Give.{given};
-ghost use Rattle.store_model.specs.Placing.{cell_before, linked_out, without};
-ghost use Rattle.store_model.specs.Run.{first_run, need};
-ghost use Rattle.store_model.specs.Take.{taken};
-ghost use Rattle.store_model.specs.Tiling.{blocks_in};
+ghost use Rattle.getvec_chain.specs.Give.{given};
+ghost use Rattle.linked_list.specs.Placing.{cell_before, linked_out, without};
+ghost use Rattle.getvec_chain.specs.Run.{first_run, need};
+ghost use Rattle.getvec_chain.specs.Take.{taken};
+ghost use Rattle.getvec_chain.specs.Tiling.{blocks_in};
 ghost use Rattle.coroutines.specs.Active.{active_in};
 ghost use Rattle.coroutines.specs.Coroutines.{HasCoroutines};
 ghost use Rattle.coroutines.specs.Creation.{IsCreated, deleted, highest};
@@ -14,9 +14,8 @@ ghost use Rattle.task_block.specs.Lists.{coroutine_link, coroutines_in};
 use crate::ends::CoEnd;
 use crate::members::{LINK, cell_before, has_parent, is_known};
 use getvec_chain::{NoRoom, give, take};
-use store_links::{set_words, word};
+use word_store::{Store, set_words, word};
 use task_block::{TcbField, field, set_field};
-use word_store::Store;
 
 /// The least highest index of a coroutine: room for its words and a few of its stack.
 const LEAST_HIGHEST: u32 = 16;

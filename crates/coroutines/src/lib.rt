@@ -5,9 +5,7 @@ pub mod calls;
 pub mod creation;
 pub mod ends;
 mod members;
-mod switching;
-#[cfg(test)]
-mod tests;
+mod switch;
 
 pub use calls::{call, ended, resume, wait};
 pub use creation::{create, delete};

@@ -1,14 +1,13 @@
 // Which coroutines a task has, and which of them have a parent.
 ghost use Rattle.std.specs.Prelude.{◌≡◌, ◌+◌, true};
-ghost use Rattle.store_model.specs.Placing.{cell_before};
+ghost use Rattle.linked_list.specs.Placing.{cell_before};
 ghost use Rattle.coroutines.specs.Coroutines.{HasCoroutines};
 ghost use Rattle.coroutines.specs.Refusals.{has_parent, is_known};
 ghost use Rattle.task_block.specs.Lists.{coroutine_link, coroutines_in};
 
-use crate::switching::PARENT;
-use store_links::word;
+use crate::switch::PARENT;
+use word_store::{Store, word};
 use task_block::{TcbField, coroutine_list};
-use word_store::Store;
 
 /// Which word of a coroutine links to the next one.
 pub(crate) const LINK: u32 = 2;

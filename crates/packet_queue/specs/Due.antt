@@ -1,6 +1,6 @@
 -- Queues of packets that are due at a tick. The due tick is a packet's word 4.
 use Rattle.std.specs.Prelude.{ℕ, ◌+◌, Bool, nat_le, ◌==◌, List, filter, slice_index, slice_set}
-use Rattle.store_model.specs.Placing.{cell_after}
+use Rattle.linked_list.specs.Placing.{cell_after}
 use Rattle.packet_queue.specs.Queue.{link_of, queue_at}
 
 -- the due tick of a packet

@@ -1,9 +1,9 @@
 -- Queues of packets. A packet is five words: its link, its sender, its type and two results. The first packet's address is
 -- in the head, each next one's in a link.
 use Rattle.std.specs.Prelude.{ℕ, List, slice_index, slice_set}
-use Rattle.store_model.specs.Chain.{last_cell, list_at}
-use Rattle.store_model.specs.Linked.{HasList, IsFresh}
-use Rattle.store_model.specs.Placing.{cell_before}
+use Rattle.linked_list.specs.Chain.{last_cell, list_at}
+use Rattle.linked_list.specs.Linked.{HasList, IsFresh}
+use Rattle.linked_list.specs.Placing.{cell_before}
 use Rattle.packet_queue.specs.declared.queue.TheConstants.{NO_QUEUE}
 
 -- a packet's link is its word 0

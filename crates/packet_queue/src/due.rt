@@ -1,13 +1,12 @@
 // Queues of packets that are due at a tick.
 ghost use Rattle.std.specs.Prelude.{◌≡◌};
-ghost use Rattle.store_model.specs.Placing.{insert_after};
+ghost use Rattle.linked_list.specs.Placing.{insert_after};
 ghost use Rattle.packet_queue.specs.Queue.{CanQueue, HasQueue, queue_at};
 ghost use Rattle.packet_queue.specs.Due.{is_due, with_due};
 
 use crate::due_ticks::set_due;
 use crate::places::last_due_link;
-use store_links::word;
-use word_store::Store;
+use word_store::{Store, word};
 
 /// Puts the packet directly after the last one in the queue that is due no later, and at the front where there is none. So
 /// where the due ticks never fall along the queue, it stands after all that are due no later, and before the others.

@@ -2,8 +2,7 @@
 ghost use Rattle.std.specs.Prelude.{◌≡◌, ◌+◌, ◌<◌, length, slice_set};
 ghost use Rattle.packet_queue.specs.Due as due;
 
-use store_links::word;
-use word_store::Store;
+use word_store::{Store, word};
 
 /// The due tick of the packet.
 pub(crate) fn due_of(store: &Store, p: u32) -> u32

@@ -1,12 +1,12 @@
 // Places in a queue, found by a walk.
 ghost use Rattle.std.specs.Prelude.{◌≡◌, None, Some, if◌then◌else◌};
-ghost use Rattle.store_model.specs.Placing.{has};
+ghost use Rattle.linked_list.specs.Placing.{has};
 ghost use Rattle.packet_queue.specs.Queue as queue;
 ghost use Rattle.packet_queue.specs.Queue.{HasQueue, queue_at};
 ghost use Rattle.packet_queue.specs.Due as due;
 
 use crate::due_ticks::due_of;
-use crate::walking::packets;
+use crate::walk::packets;
 use word_store::Store;
 
 /// The word that holds the last link.

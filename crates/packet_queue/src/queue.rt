@@ -1,12 +1,11 @@
 // Queues: packets come to the end, and leave from the front or from between.
 ghost use Rattle.std.specs.Prelude.{◌≡◌, ◌↔◌, [], ◌∷◌, ◌++◌, IfNone, IfSome, IsNone, IsTrue, slice_set};
 ghost use Rattle.std.specs.Bool.{OnFalse, OnTrue};
-ghost use Rattle.store_model.specs.Placing.{has, without};
+ghost use Rattle.linked_list.specs.Placing.{has, without};
 ghost use Rattle.packet_queue.specs.Queue.{CanQueue, HasQueue, last_link, link_before, queue_at, unlinked};
 
 use crate::places::{last_link, link_before};
-use store_links::word;
-use word_store::Store;
+use word_store::{Store, word};
 
 /// The link of a packet that stands in no queue.
 pub const NO_QUEUE: u32 = 0xffff_ffff;

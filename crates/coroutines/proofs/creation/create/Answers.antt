@@ -1,7 +1,7 @@
 use Rattle.std.proofs.Common.{◌≡◌, ◌∙◌, sym, subst, ap, set, get_or, arith, ◌∷◌, [], ◌+◌, ℕ, List}
-use Rattle.store_model.specs.Row.{with_words}
-use Rattle.store_model.specs.Take.{IsTaken}
-use Rattle.store_model.specs.Tiling.{blocks_in}
+use Rattle.word_store.specs.Row.{with_words}
+use Rattle.getvec_chain.specs.Take.{IsTaken}
+use Rattle.getvec_chain.specs.Tiling.{blocks_in}
 use Rattle.task_block.specs.Lists.{coroutines_in}
 use Rattle.coroutines.specs.Active.{active_in}
 use Rattle.coroutines.specs.Creation.{highest}

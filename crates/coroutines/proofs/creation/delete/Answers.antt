@@ -1,9 +1,9 @@
 use Rattle.std.proofs.Common.{◌≡◌, ◌∙◌, sym, subst, ap, true, Result, Ok, Err, Some, None, ℕ, List}
 use Rattle.std.specs.Prelude.{OnErr, OnOk}
-use Rattle.store_model.specs.declared.blocks.Block.{Block}
-use Rattle.store_model.specs.Give.{given_store}
-use Rattle.store_model.specs.Placing.{without}
-use Rattle.store_model.specs.Tiling.{IsTiled, blocks_in, used_at}
+use Rattle.getvec_chain.specs.declared.pieces.Block.{Block}
+use Rattle.getvec_chain.specs.Give.{given_store}
+use Rattle.linked_list.specs.Placing.{without}
+use Rattle.getvec_chain.specs.Tiling.{IsTiled, blocks_in, used_at}
 use Rattle.task_block.specs.Lists.{coroutines_in}
 use Rattle.coroutines.specs.Active.{active_in}
 use Rattle.coroutines.specs.Creation.{deleted}

@@ -1,6 +1,6 @@
 use Rattle.std.proofs.Common.{◌≡◌, ◌+◌, ◌<◌, length}
 use Rattle.std.specs.List.{AllByRecursion}
-use Rattle.store_model.specs.Placing.{cell_before}
+use Rattle.linked_list.specs.Placing.{cell_before}
 use Rattle.task_block.specs.Lists.{coroutine_link, coroutines_in}
 use Rattle.coroutines.proofs.members.cell_before.Given as goal
 

@@ -1,9 +1,9 @@
 use Rattle.std.proofs.Common.{◌≡◌, sym, subst}
-use Rattle.store_model.specs.Placing.{insert_after}
-use Rattle.store_model.proofs.Lists.{BecomesList}
+use Rattle.linked_list.specs.Placing.{insert_after}
+use Rattle.linked_list.proofs.Lists.{BecomesList}
 use Rattle.packet_queue.specs.Queue.{link_of, packet_size, queue_at}
 use Rattle.packet_queue.specs.Due.{is_due, with_due}
-use Rattle.packet_queue.proofs.Changes.{due_appended}
+use Rattle.packet_queue.proofs.QueueChanges.{due_appended}
 use Rattle.packet_queue.proofs.due.append_due.Goals as goal
 
 after : (c : goal.After-set_due) → BecomesList c.set_due.new.store link_of packet_size c.args.head (insert_after (is_due c.args.store.now c.args.due) c.args.p (queue_at c.args.store.now c.args.head))

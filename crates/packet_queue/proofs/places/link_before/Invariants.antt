@@ -1,5 +1,5 @@
 use Rattle.std.proofs.Common.{◌≡◌}
-use Rattle.store_model.specs.Placing.{cell_before, has}
+use Rattle.linked_list.specs.Placing.{cell_before, has}
 use Rattle.packet_queue.specs.Queue as queue
 use Rattle.packet_queue.proofs.places.link_before.Given as goal
 

@@ -1,9 +1,9 @@
 use Rattle.std.proofs.Common.{◌≡◌, ◌∙◌, ap, sym, subst}
-use Rattle.store_model.specs.Placing.{has, without}
-use Rattle.store_model.proofs.Lists.{BecomesList}
-use Rattle.store_model.proofs.Places.{without-none}
+use Rattle.linked_list.specs.Placing.{has, without}
+use Rattle.linked_list.proofs.Lists.{BecomesList}
+use Rattle.linked_list.proofs.Places.{without-none}
 use Rattle.packet_queue.specs.Queue.{link_before, link_of, packet_size, queue_at, unlinked}
-use Rattle.packet_queue.proofs.Changes.{found-none, found-some, removed}
+use Rattle.packet_queue.proofs.QueueChanges.{found-none, found-some, removed}
 use Rattle.packet_queue.proofs.queue.remove.Goals as goal
 
 pub returns-in_default-clause-queue : goal.returns-in_default-clause-queue

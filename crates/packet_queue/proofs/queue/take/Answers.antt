@@ -1,7 +1,7 @@
 use Rattle.std.proofs.Common.{◌≡◌, ◌∙◌, ℕ, List, ◌∷◌, ap, sym, subst, refl}
-use Rattle.store_model.proofs.Lists.{BecomesList}
+use Rattle.linked_list.proofs.Lists.{BecomesList}
 use Rattle.packet_queue.specs.Queue.{link_of, packet_size, queue_at}
-use Rattle.packet_queue.proofs.Changes.{queue_at-none, taken}
+use Rattle.packet_queue.proofs.QueueChanges.{queue_at-none, taken}
 use Rattle.packet_queue.proofs.queue.take.Goals as goal
 
 pub returns-then-p-eq0-clause-empty : goal.returns-then-p-eq0-clause-empty

@@ -1,0 +1,18 @@
+use Rattle.std.proofs.Common.{arith}
+use Rattle.coroutines.proofs.Known.{known-node}
+use Rattle.coroutines.proofs.Switches.{bounds}
+use Rattle.coroutines.proofs.switch.replace.Goals as goal
+
+pub field-current-requires : goal.field-current-requires
+field-current-requires c = omega (arith, (bounds c.args.store.now c.args.t c.requires.coroutines).task)
+
+pub overflow_add-current : goal.overflow_add-current
+overflow_add-current c =
+    omega (arith, (bounds c.args.store.now c.args.t c.requires.coroutines).current, c.field-current.ensures, c.size-size.ensures, c.size-size.type_inv)
+
+pub overflow_add-c : goal.overflow_add-c
+overflow_add-c c = omega (arith, (known-node c.args.store.now c.args.t c.args.c c.requires.coroutines c.requires.known).inside, c.size-size.ensures, c.size-size.type_inv)
+
+pub overflow_add-current-2 : goal.overflow_add-current-2
+overflow_add-current-2 c =
+    omega (arith, (bounds c.args.store.now c.args.t c.requires.coroutines).current, c.field-current.ensures, c.size-size.ensures, c.size-size.type_inv)
