@@ -8,9 +8,8 @@ use Rattle.linked_list.specs.Changed.{InsertedAt, RemovedAt}
 use Rattle.linked_list.proofs.Counts.{times-differ, times-within}
 use Rattle.linked_list.proofs.Lists.{BecomesList, list-append, list-appended, list-cell, list-cell_before, list-insert, list-inserted, list-remove, list-removed}
 use Rattle.linked_list.proofs.Removal.{removed-then}
-use Rattle.linked_list.proofs.Walks.{walk-ends}
-use Rattle.packet_queue.specs.declared.queue.TheConstants.{NO_QUEUE}
-use Rattle.packet_queue.specs.Queue.{CanQueue, HasQueue, last_link, link_before, link_of, packet_size, queue_at, unlinked}
+use Rattle.linked_list.proofs.Walks.{can_walk, walk-ends, walk-goes-on}
+use Rattle.packet_queue.specs.Queue.{CanQueue, HasQueue, last_link, link_of, no_queue, packet_size, queue_at, unlinked}
 use Rattle.packet_queue.specs.Due.{is_due, last_due_link, with_due}
 
 -- the last link is 0
@@ -50,43 +49,28 @@ due_appended s head p due queue fresh =
     list-insert s (with_due s head p due) (is_due s due) link_of packet_size head p queue fresh (due_written s head p due queue fresh)
 
 pub removed : (s : List ℕ) (head p : ℕ) → HasQueue s head → has p (queue_at s head) ≡ true
-    → BecomesList (unlinked s (link_before s head p) p) link_of packet_size head (without p (queue_at s head))
-removed s head p queue some = removed_by (list-removed s link_of packet_size head p queue some)
-  where
-    removed_by : RemovedAt s (set s (link_before s head p) (get_or s p 0)) link_of packet_size (link_before s head p) p
-        → BecomesList (unlinked s (link_before s head p) p) link_of packet_size head (without p (queue_at s head))
-    removed_by r =
-        list-remove s (unlinked s (link_before s head p) p) link_of packet_size head p queue some
-        (removed-then s (set s (link_before s head p) (get_or s p 0)) link_of packet_size (link_before s head p) p p NO_QUEUE r
-        (omega (arith, times-within p p 5 (omega arith) (omega arith))) (list-cell_before s link_of packet_size head p queue some))
+    → BecomesList (unlinked s head p) link_of packet_size head (without p (queue_at s head))
+removed s head p queue some =
+    let cell : ℕ = cell_before link_of p head (queue_at s head) in
+    list-remove s (unlinked s head p) link_of packet_size head p queue some
+    (removed-then s (set s cell (get_or s p 0)) link_of packet_size cell p p no_queue (list-removed s link_of packet_size head p queue some)
+    (omega (arith, times-within p p 5 (omega arith) (omega arith))) (list-cell_before s link_of packet_size head p queue some))
 
--- the first packet went
-pub taken : (s : List ℕ) (head p : ℕ) → HasQueue s head → p ≡ get_or s head 0 → p ≢ 0 → (rest : List ℕ) × (queue_at s head ≡ p ∷ rest) × BecomesList (unlinked s head p) link_of packet_size head rest
-taken s head p queue read some = by_list (queue_at s head) refl queue.chain
-  where
-    by_list : (ps : List ℕ) → queue_at s head ≡ ps → IsChain s link_of head ps → (rest : List ℕ) × (queue_at s head ≡ p ∷ rest) × BecomesList (unlinked s head p) link_of packet_size head rest
-    by_list [] is chain = absurd (some (read ∙ chain))
-    by_list (q ∷ rest) is chain =
-        let whole : queue_at s head ≡ p ∷ rest = is ∙ ap (λ z. z ∷ rest) (sym (read ∙ chain.0)) in
-        let same : eqb p p ≡ true = grind (arith, nat_tests) in
-        let first : has p (queue_at s head) ≡ true = ap (has p) whole ∙ ap (λ b. b || has p rest) same in
-        let cell : link_before s head p ≡ head = ap (cell_before link_of p head) whole ∙ ap (λ b. cond b head (cell_before link_of p p rest)) same in
-        let list : without p (queue_at s head) ≡ rest = ap (without p) whole ∙ ap (λ b. cond b rest (p ∷ without p rest)) same in (
-          rest,
-          whole,
-          subst (λ c. BecomesList (unlinked s c p) link_of packet_size head rest) cell
-              (subst (BecomesList (unlinked s (link_before s head p) p) link_of packet_size head) list (removed s head p queue first)),
-        )
+-- the packet to which the head leads is the first one
+pub record FirstPacket (s : List ℕ) (head p : ℕ) : Type 0 where
+  pub among : has p (queue_at s head) ≡ true
+  pub whole : queue_at s head ≡ p ∷ without p (queue_at s head)
+
+pub first-packet : (s : List ℕ) (head p : ℕ) → HasQueue s head → p ≡ get_or s head 0 → p ≢ 0 → FirstPacket s head p
+first-packet s head p queue read some =
+    let rest : List ℕ = queue_at s p in
+    let whole : queue_at s head ≡ p ∷ rest = (walk-goes-on s link_of head p (can_walk s link_of packet_size head queue) read some).list in
+    let same : eqb p p ≡ true = grind (arith, nat_tests) in
+    record {
+      among = ap (has p) whole ∙ ap (λ b. b || has p rest) same;
+      whole = whole ∙ ap (λ z. p ∷ z) (sym (ap (without p) whole ∙ ap (λ b. cond b rest (p ∷ without p rest)) same));
+    }
 
 -- the head leads nowhere exactly where the queue is empty
 pub queue_at-none : (s : List ℕ) (head : ℕ) → get_or s head 0 ≡ 0 → queue_at s head ≡ []
 queue_at-none s head none = walk-ends s link_of head none
-
--- what a search for the word before a packet found
-pub found-some : (b : Bool) (x cell : ℕ) → Some cell ≡ cond b (Some x) None → (b ≡ true) × (cell ≡ x)
-found-some true x cell e = (refl, cc)
-found-some false x cell e = cc
-
-pub found-none : (b : Bool) (x : ℕ) → None ≡ cond b (Some x) None → b ≡ false
-found-none true x e = cc
-found-none false x e = refl

@@ -6,7 +6,9 @@ ghost use Rattle.packet_queue.specs.Due.{is_due, with_due};
 
 use crate::due_ticks::set_due;
 use crate::places::last_due_link;
-use word_store::{Store, word};
+use crate::walk::PACKET_LINK;
+use linked_list::link_in;
+use word_store::Store;
 
 /// Puts the packet directly after the last one in the queue that is due no later, and at the front where there is none. So
 /// where the due ticks never fall along the queue, it stands after all that are due no later, and before the others.
@@ -18,8 +20,6 @@ pub fn append_due(store: &mut Store, head: u32, p: u32, due: u32)
     ensures words { store.new ≡ with_due store.old head p due }
 {
     let cell = last_due_link(store, head, due);
-    let next = word(store, cell);
-    store.set(p, next);
-    store.set(cell, p);
+    link_in(store, cell, p, PACKET_LINK);
     set_due(store, p, due);
 }

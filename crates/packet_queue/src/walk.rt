@@ -6,12 +6,15 @@ use crate::packet_list::Packets;
 use linked_list::follow;
 use word_store::Store;
 
+/// Which word of a packet links to the next one.
+pub(crate) const PACKET_LINK: u32 = 0;
+
 /// The packets of the queue, in order.
 pub fn packets(store: &Store, head: u32) -> Packets<'_>
     requires { HasQueue store.now head }
     ensures { result ≡ queue_at store.now head }
 {
     Packets {
-        nodes: follow(store, head, 0),
+        nodes: follow(store, head, PACKET_LINK),
     }
 }
