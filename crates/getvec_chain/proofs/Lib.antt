@@ -1,6 +1,7 @@
 pub mod AfterGive
 pub mod AfterTake
 pub mod FirstFound
+pub mod GiveAnswer
 pub mod OpenRun
 pub mod Runs
 pub mod SizeWords
