@@ -2,14 +2,14 @@
 use Rattle.std.proofs.Common.{◌≡◌, ◌≢◌, inl, ℕ, ◌+◌, ◌<◌, List, [], ◌∷◌, ◌++◌, length, eqb, ◌||◌, Bool, true, false, refl, sym, ap, ◌∙◌, subst, arith}
 use Rattle.std.specs.List.{AllByRecursion, range_with_len}
 use Rattle.std.proofs.lemmas.Bool.Decides.{nat_tests}
-use Rattle.store_model.specs.Count.{IsApart, words_of}
-use Rattle.store_model.specs.Linked.{IsNode}
-use Rattle.store_model.specs.Placing.{has}
-use Rattle.store_model.specs.Tiling.{IsTiled}
-use Rattle.store_model.proofs.Chains.{length-apart}
-use Rattle.store_model.proofs.Counts.{times-append, times-within}
-use Rattle.store_model.proofs.Lists.{BecomesList}
-use Rattle.store_model.proofs.Members.{all-has, one-member}
+use Rattle.linked_list.specs.Count.{IsApart, words_of}
+use Rattle.linked_list.specs.Linked.{IsNode}
+use Rattle.linked_list.specs.Placing.{has}
+use Rattle.getvec_chain.specs.Tiling.{IsTiled}
+use Rattle.linked_list.proofs.Chains.{length-apart}
+use Rattle.linked_list.proofs.Counts.{times-append, times-within}
+use Rattle.linked_list.proofs.Lists.{BecomesList}
+use Rattle.linked_list.proofs.Members.{all-has, one-member}
 use Rattle.task_block.specs.Lists.{coroutine_link, coroutines_in}
 use Rattle.coroutines.specs.Active.{LeadsOut, active_in}
 use Rattle.coroutines.specs.Coroutines.{HasBlock, HasCoroutines, HasTaskBlock}

@@ -4,10 +4,10 @@ use Rattle.std.specs.List.{AllByRecursion}
 use Rattle.std.proofs.lemmas.Bool.{cases_eq, false≢true}
 use Rattle.std.proofs.lemmas.Bool.Decides.{nat_tests}
 use Rattle.word_store.specs.declared.registers.Regs.{Regs}
-use Rattle.store_model.specs.Count.{IsApart, times}
-use Rattle.store_model.specs.Placing.{has}
-use Rattle.store_model.proofs.Counts.{IsApart-cons, hit-same}
-use Rattle.store_model.proofs.Members.{has-none, times-has}
+use Rattle.linked_list.specs.Count.{IsApart, times}
+use Rattle.linked_list.specs.Placing.{has}
+use Rattle.linked_list.proofs.Counts.{IsApart-cons, hit-same}
+use Rattle.linked_list.proofs.Members.{has-none, times-has}
 use Rattle.task_block.specs.Lists.{coroutines_in}
 use Rattle.coroutines.specs.Active.{LeadsOut, active_in}
 use Rattle.coroutines.specs.Coroutines.{HasCoroutines}

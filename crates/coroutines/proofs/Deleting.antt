@@ -2,23 +2,23 @@
 use Rattle.std.proofs.Common.{◌≡◌, ◌≢◌, ◌⊎◌, inl, inr, ℕ, ◌+◌, ◌<◌, ◌≤◌, List, [], ◌∷◌, get_or, Bool, true, false, Some, None, refl, sym, ap, ◌∙◌, subst, arith, get_or-set_other, length-set}
 use Rattle.std.specs.List.{AllByRecursion, range_with_len}
 use Rattle.std.proofs.lemmas.Bool.{false≢true}
-use Rattle.store_model.specs.Block.{block_end, used_block}
-use Rattle.store_model.specs.Chain.{cells, last_cell, list_at}
-use Rattle.store_model.specs.Count.{times, words_of}
-use Rattle.store_model.specs.Give.{given}
-use Rattle.store_model.specs.Placing.{cell_before, has, linked_out, without}
-use Rattle.store_model.specs.Run.{need}
-use Rattle.store_model.specs.Tiling.{blocks_in, holding, used_at}
-use Rattle.store_model.proofs.AfterGive.{AfterGive, after_give}
-use Rattle.store_model.proofs.Chains.{nodes-apart}
-use Rattle.store_model.proofs.Counts.{hit-same, times-append, times-words_more, times-words_of}
-use Rattle.store_model.proofs.Frames.{list-same}
-use Rattle.store_model.proofs.Insertion.{times-front_cell}
-use Rattle.store_model.proofs.Lists.{BecomesList, list-remove, list-removed}
-use Rattle.store_model.proofs.Members.{has-times, without-has, without-keeps}
-use Rattle.store_model.proofs.Places.{Stands, stands}
-use Rattle.store_model.proofs.UsedBlocks.{UsedBlock, used_at-apart, used_at-is}
-use Rattle.store_model.proofs.Writes.{SameBlocks, SameBlocks-kept}
+use Rattle.getvec_chain.specs.Block.{block_end, used_block}
+use Rattle.linked_list.specs.Chain.{cells, last_cell, list_at}
+use Rattle.linked_list.specs.Count.{times, words_of}
+use Rattle.getvec_chain.specs.Give.{given}
+use Rattle.linked_list.specs.Placing.{cell_before, has, linked_out, without}
+use Rattle.getvec_chain.specs.Run.{need}
+use Rattle.getvec_chain.specs.Tiling.{blocks_in, holding, used_at}
+use Rattle.getvec_chain.proofs.AfterGive.{AfterGive, after_give}
+use Rattle.linked_list.proofs.Chains.{nodes-apart}
+use Rattle.linked_list.proofs.Counts.{hit-same, times-append, times-words_more, times-words_of}
+use Rattle.linked_list.proofs.Frames.{list-same}
+use Rattle.linked_list.proofs.Insertion.{times-front_cell}
+use Rattle.linked_list.proofs.Lists.{BecomesList, list-remove, list-removed}
+use Rattle.linked_list.proofs.Members.{has-times, without-has, without-keeps}
+use Rattle.linked_list.proofs.Places.{Stands, stands}
+use Rattle.getvec_chain.proofs.UsedBlocks.{UsedBlock, used_at-apart, used_at-is}
+use Rattle.getvec_chain.proofs.Writes.{SameBlocks, SameBlocks-kept}
 use Rattle.task_block.specs.Lists.{coroutine_link, coroutines_in}
 use Rattle.coroutines.specs.Active.{active_in}
 use Rattle.coroutines.specs.Coroutines.{HasBlock, HasCoroutines}

@@ -2,16 +2,16 @@
 use Rattle.std.proofs.Common.{◌≡◌, ◌≢◌, ◌⊎◌, inl, inr, ℕ, ◌+◌, ◌<◌, ◌≤◌, List, [], ◌∷◌, length, get_or, true, false, Some, sym, ap, ◌∙◌, subst, arith}
 use Rattle.std.specs.List.{AllByRecursion}
 use Rattle.std.proofs.lemmas.Bool.{cases_eq}
-use Rattle.store_model.specs.Block.{used_block}
-use Rattle.store_model.specs.Chain.{cells}
-use Rattle.store_model.specs.Count.{IsApart, times}
-use Rattle.store_model.specs.Placing.{has}
-use Rattle.store_model.specs.Run.{need}
-use Rattle.store_model.specs.Tiling.{blocks_in, holding, used_at}
-use Rattle.store_model.proofs.Counts.{hit-other}
-use Rattle.store_model.proofs.Frames.{list-same}
-use Rattle.store_model.proofs.Lists.{BecomesList}
-use Rattle.store_model.proofs.Writes.{SameBlocks, SameBlocks-kept}
+use Rattle.getvec_chain.specs.Block.{used_block}
+use Rattle.linked_list.specs.Chain.{cells}
+use Rattle.linked_list.specs.Count.{IsApart, times}
+use Rattle.linked_list.specs.Placing.{has}
+use Rattle.getvec_chain.specs.Run.{need}
+use Rattle.getvec_chain.specs.Tiling.{blocks_in, holding, used_at}
+use Rattle.linked_list.proofs.Counts.{hit-other}
+use Rattle.linked_list.proofs.Frames.{list-same}
+use Rattle.linked_list.proofs.Lists.{BecomesList}
+use Rattle.getvec_chain.proofs.Writes.{SameBlocks, SameBlocks-kept}
 use Rattle.task_block.specs.Lists.{coroutine_link, coroutines_in}
 use Rattle.coroutines.specs.Active.{LeadsOut}
 use Rattle.coroutines.specs.Coroutines.{HasBlock, HasCoroutines}

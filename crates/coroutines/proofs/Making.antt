@@ -3,23 +3,23 @@ use Rattle.std.proofs.Common.{◌≡◌, ◌≢◌, ◌⊎◌, inl, inr, ℕ, �
 use Rattle.std.specs.List.{AllByRecursion, range_with_len}
 use Rattle.std.proofs.lemmas.Bool.{cases_eq, cases_lt}
 use Rattle.std.proofs.lemmas.Bool.Decides.{nat_tests}
-use Rattle.store_model.specs.declared.blocks.Block.{Block}
-use Rattle.store_model.specs.Block.{block_end, used_block}
-use Rattle.store_model.specs.Chain.{list_at}
-use Rattle.store_model.specs.Count.{hit, node_words, times, words_of}
-use Rattle.store_model.specs.Linked.{IsFresh, IsNode}
-use Rattle.store_model.specs.Placing.{has}
-use Rattle.store_model.specs.Row.{with_words}
-use Rattle.store_model.specs.Run.{need}
-use Rattle.store_model.specs.Take.{IsTaken, taken}
-use Rattle.store_model.specs.Tiling.{IsTiled, blocks_in, used_at}
-use Rattle.store_model.proofs.AfterTake.{AfterTake, after_take}
-use Rattle.store_model.proofs.Counts.{hit-other, hit-same, range-apart, range-high, range-low, times-append, times-within, times-words_more}
-use Rattle.store_model.proofs.Frames.{list-same}
-use Rattle.store_model.proofs.Lists.{BecomesList, list-push}
-use Rattle.store_model.proofs.Row.{get_or-with_words, get_or-with_words_outside, length-with_words}
-use Rattle.store_model.proofs.UsedBlocks.{UsedBlock, used_at-is}
-use Rattle.store_model.proofs.Writes.{SameBlocks, SameBlocks-set_used, SameBlocks-then, SameBlocks-used}
+use Rattle.getvec_chain.specs.declared.pieces.Block.{Block}
+use Rattle.getvec_chain.specs.Block.{block_end, used_block}
+use Rattle.linked_list.specs.Chain.{list_at}
+use Rattle.linked_list.specs.Count.{hit, node_words, times, words_of}
+use Rattle.linked_list.specs.Linked.{IsFresh, IsNode}
+use Rattle.linked_list.specs.Placing.{has}
+use Rattle.word_store.specs.Row.{with_words}
+use Rattle.getvec_chain.specs.Run.{need}
+use Rattle.getvec_chain.specs.Take.{IsTaken, taken}
+use Rattle.getvec_chain.specs.Tiling.{IsTiled, blocks_in, used_at}
+use Rattle.getvec_chain.proofs.AfterTake.{AfterTake, after_take}
+use Rattle.linked_list.proofs.Counts.{hit-other, hit-same, range-apart, range-high, range-low, times-append, times-within, times-words_more}
+use Rattle.linked_list.proofs.Frames.{list-same}
+use Rattle.linked_list.proofs.Lists.{BecomesList, list-push}
+use Rattle.word_store.proofs.Rows.{get_or-with_words, get_or-with_words_outside, length-with_words}
+use Rattle.getvec_chain.proofs.UsedBlocks.{UsedBlock, used_at-is}
+use Rattle.getvec_chain.proofs.Writes.{SameBlocks, SameBlocks-set_used, SameBlocks-then, SameBlocks-used}
 use Rattle.task_block.specs.Lists.{coroutine_link, coroutines_in}
 use Rattle.coroutines.specs.Active.{active_in}
 use Rattle.coroutines.specs.Coroutines.{HasBlock, HasCoroutines}

@@ -1,2 +1,12 @@
-pub mod Finding
+pub mod AfterGive
+pub mod AfterTake
+pub mod FirstFound
+pub mod GiveAnswer
 pub mod OpenRun
+pub mod Runs
+pub mod SizeWords
+pub mod Splits
+pub mod Takes
+pub mod Tilings
+pub mod UsedBlocks
+pub mod Writes

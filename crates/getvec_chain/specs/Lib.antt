@@ -1,0 +1,6 @@
+pub mod Block
+pub mod Give
+pub mod Make
+pub mod Run
+pub mod Take
+pub mod Tiling

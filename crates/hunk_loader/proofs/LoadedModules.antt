@@ -7,25 +7,25 @@ use Rattle.std.proofs.lemmas.List.{length-map, set-get_or}
 use Rattle.std.proofs.lemmas.List.Sums.{sum-map}
 use Rattle.hunk_text.specs.Shapes.{words_in}
 use Rattle.hunk_text.specs.declared.modules.Hunk.{Hunk}
-use Rattle.store_model.specs.declared.blocks.Block.{Block}
-use Rattle.store_model.specs.Block.{block_end, used_block}
-use Rattle.store_model.specs.Chain.{list_at}
-use Rattle.store_model.specs.Changed.{InsertedAt}
-use Rattle.store_model.specs.Count.{IsApart, node_words, times, words_of}
-use Rattle.store_model.specs.Linked.{IsFresh}
-use Rattle.store_model.specs.Placing.{linked_in}
-use Rattle.store_model.specs.Row.{with_words}
-use Rattle.store_model.specs.Run.{need}
-use Rattle.store_model.specs.Take.{IsTaken, taken}
-use Rattle.store_model.specs.Tiling.{IsTiled, blocks_in, used_at}
-use Rattle.store_model.proofs.AfterTake.{AfterTake, after_take}
-use Rattle.store_model.proofs.Counts.{IsApart-cons, hit-le, hit-other}
-use Rattle.store_model.proofs.Frames.{list-same}
-use Rattle.store_model.proofs.Lists.{BecomesList, list-push, list-pushed}
-use Rattle.store_model.proofs.Members.{all-has, times-has}
-use Rattle.store_model.proofs.Row.{IsOutside, get_or-with_words, get_or-with_words_outside, length-with_words, range-with_words, range_same, with_words-append}
-use Rattle.store_model.proofs.UsedBlocks.{AreApart}
-use Rattle.store_model.proofs.Writes.{SameBlocks, SameBlocks-set_below, SameBlocks-used}
+use Rattle.getvec_chain.specs.declared.pieces.Block.{Block}
+use Rattle.getvec_chain.specs.Block.{block_end, used_block}
+use Rattle.linked_list.specs.Chain.{list_at}
+use Rattle.linked_list.specs.Changed.{InsertedAt}
+use Rattle.linked_list.specs.Count.{IsApart, node_words, times, words_of}
+use Rattle.linked_list.specs.Linked.{IsFresh}
+use Rattle.linked_list.specs.Placing.{linked_in}
+use Rattle.word_store.specs.Row.{with_words}
+use Rattle.getvec_chain.specs.Run.{need}
+use Rattle.getvec_chain.specs.Take.{IsTaken, taken}
+use Rattle.getvec_chain.specs.Tiling.{IsTiled, blocks_in, used_at}
+use Rattle.getvec_chain.proofs.AfterTake.{AfterTake, after_take}
+use Rattle.linked_list.proofs.Counts.{IsApart-cons, hit-le, hit-other}
+use Rattle.linked_list.proofs.Frames.{list-same}
+use Rattle.linked_list.proofs.Lists.{BecomesList, list-push, list-pushed}
+use Rattle.linked_list.proofs.Members.{all-has, times-has}
+use Rattle.word_store.proofs.Rows.{IsOutside, get_or-with_words, get_or-with_words_outside, length-with_words, range-with_words, range_same, with_words-append}
+use Rattle.getvec_chain.proofs.UsedBlocks.{AreDisjoint}
+use Rattle.getvec_chain.proofs.Writes.{SameBlocks, SameBlocks-set_below, SameBlocks-used}
 use Rattle.task_block.specs.Lists.{module_link, modules_in}
 use Rattle.hunk_loader.specs.ModuleRow.{hunks_image, last_word, lengths_of, module_row}
 use Rattle.hunk_loader.specs.Modules.{HasModules, IsModuleAt}
@@ -131,7 +131,7 @@ placed s t0 m hunks tiled h =
     same : SameBlocks t0 t1
     same = SameBlocks-used t0 t1 m b k.tiled k.is_used size outside
 
-    apart : (c : Block) → AreApart c b → (a : ℕ) → c.start ≤ a → a < block_end c → m ≤ a → block_end b ≤ a
+    apart : (c : Block) → AreDisjoint c b → (a : ℕ) → c.start ≤ a → a < block_end c → m ≤ a → block_end b ≤ a
     apart c (inl before) a low high above = absurd (omega (arith, k.low))
     apart c (inr after) a low high above = omega arith
 

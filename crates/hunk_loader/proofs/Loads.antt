@@ -2,10 +2,10 @@
 use Rattle.std.proofs.Common.{◌≡◌, ◌∙◌, ℕ, ◌+◌, ◌∷◌, List, get_or, set, Ok, sym, ap, subst, arith}
 use Rattle.hunk_text.specs.Shapes.{check_of}
 use Rattle.hunk_text.specs.declared.checking.Shape.{Shape}
-use Rattle.store_model.specs.Row.{with_words}
-use Rattle.store_model.specs.Take.{IsTaken}
-use Rattle.store_model.specs.Tiling.{IsTiled}
-use Rattle.store_model.proofs.AfterTake.{after_take}
+use Rattle.word_store.specs.Row.{with_words}
+use Rattle.getvec_chain.specs.Take.{IsTaken}
+use Rattle.getvec_chain.specs.Tiling.{IsTiled}
+use Rattle.getvec_chain.proofs.AfterTake.{after_take}
 use Rattle.task_block.specs.Lists.{modules_in}
 use Rattle.hunk_loader.specs.Follow.{FitsAt}
 use Rattle.hunk_loader.specs.Loading.{IsLoaded}

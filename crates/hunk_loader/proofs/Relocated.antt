@@ -9,8 +9,8 @@ use Rattle.hunk_text.specs.ReadingOn.{Reads}
 use Rattle.hunk_text.specs.ModuleForm.{relocation_items, relocation_type}
 use Rattle.hunk_text.specs.declared.tokens.NextWord.{NextWord}
 use Rattle.hunk_text.proofs.Complete.{all_back, all_front}
-use Rattle.store_model.specs.Row.{with_words}
-use Rattle.store_model.proofs.Row.{get_or-with_words, set-with_words}
+use Rattle.word_store.specs.Row.{with_words}
+use Rattle.word_store.proofs.Rows.{get_or-with_words, set-with_words}
 use Rattle.hunk_loader.specs.Follow.{AreInside, BeginsOther, ListsFollow, OffsetsFollow, places}
 use Rattle.hunk_loader.specs.Relocated.{relocated}
 use Rattle.hunk_loader.proofs.Copied.{some_word, was_read}

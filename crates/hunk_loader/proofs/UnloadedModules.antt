@@ -3,20 +3,20 @@ use Rattle.std.proofs.Common.{◌≡◌, ◌≢◌, ◌⊎◌, inl, inr, ◌∙�
 use Rattle.std.specs.List.{AllByRecursion}
 use Rattle.std.proofs.lemmas.Bool.{cases_eq}
 use Rattle.std.proofs.lemmas.Bool.Decides.{nat_tests}
-use Rattle.store_model.specs.Block.{block_end}
-use Rattle.store_model.specs.Chain.{cells, list_at}
-use Rattle.store_model.specs.Count.{IsApart, times}
-use Rattle.store_model.specs.Give.{given_store}
-use Rattle.store_model.specs.Placing.{cell_before, has, linked_out, without}
-use Rattle.store_model.specs.Tiling.{blocks_in, used_at}
-use Rattle.store_model.proofs.AfterGive.{AfterGive, after_give}
-use Rattle.store_model.proofs.Chains.{times-cells}
-use Rattle.store_model.proofs.Counts.{hit-other, hit-same}
-use Rattle.store_model.proofs.Frames.{list-set}
-use Rattle.store_model.proofs.Lists.{BecomesList, list-remove, list-removed}
-use Rattle.store_model.proofs.Members.{all-has, times-has}
-use Rattle.store_model.proofs.UsedBlocks.{AreApart}
-use Rattle.store_model.proofs.Writes.{SameBlocks, SameBlocks-set_below, SameBlocks-set_used}
+use Rattle.getvec_chain.specs.Block.{block_end}
+use Rattle.linked_list.specs.Chain.{cells, list_at}
+use Rattle.linked_list.specs.Count.{IsApart, times}
+use Rattle.getvec_chain.specs.Give.{given_store}
+use Rattle.linked_list.specs.Placing.{cell_before, has, linked_out, without}
+use Rattle.getvec_chain.specs.Tiling.{blocks_in, used_at}
+use Rattle.getvec_chain.proofs.AfterGive.{AfterGive, after_give}
+use Rattle.linked_list.proofs.Chains.{times-cells}
+use Rattle.linked_list.proofs.Counts.{hit-other, hit-same}
+use Rattle.linked_list.proofs.Frames.{list-set}
+use Rattle.linked_list.proofs.Lists.{BecomesList, list-remove, list-removed}
+use Rattle.linked_list.proofs.Members.{all-has, times-has}
+use Rattle.getvec_chain.proofs.UsedBlocks.{AreDisjoint}
+use Rattle.getvec_chain.proofs.Writes.{SameBlocks, SameBlocks-set_below, SameBlocks-set_used}
 use Rattle.task_block.specs.Lists.{module_link, modules_in}
 use Rattle.hunk_loader.specs.Modules.{HasModules, IsModuleAt}
 use Rattle.hunk_loader.proofs.ModuleBlocks.{InBlock, all_map, in_block, linked, module-same, modules-apart, no_module, one_word, stands, times-one}
@@ -175,7 +175,7 @@ unload_stands s t m h e words =
             bc : InBlock s cell kc.block
             bc = in_block s cell h.tiled kc
 
-            apart_by : AreApart kn.block kc.block → a ≢ cell
+            apart_by : AreDisjoint kn.block kc.block → a ≢ cell
             apart_by (inl before) = λ e. absurd (omega (arith, bn.start, bc.start))
             apart_by (inr after) = λ e. absurd (omega (arith, bn.start, bc.start, bc.few))
 
@@ -189,7 +189,7 @@ unload_stands s t m h e words =
         bn : InBlock s n kn.block
         bn = in_block s n h.tiled kn
 
-        apart_by : AreApart kn.block k.block → a ≢ k.block.start
+        apart_by : AreDisjoint kn.block k.block → a ≢ k.block.start
         apart_by (inl before) = λ e. absurd (omega arith)
         apart_by (inr after) = λ e. absurd (omega (arith, bn.start, b.start, b.few))
 

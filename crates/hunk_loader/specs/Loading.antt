@@ -1,9 +1,9 @@
 -- A module is loaded, or not.
 use Rattle.std.specs.Prelude.{◌≡◌, ℕ, None, Err, List, slice_index, slice_set}
-use Rattle.store_model.specs.Row.{with_words}
-use Rattle.store_model.specs.Run.{first_run, need}
-use Rattle.store_model.specs.Take.{IsTaken, taken}
-use Rattle.store_model.specs.Tiling.{blocks_in}
+use Rattle.word_store.specs.Row.{with_words}
+use Rattle.getvec_chain.specs.Run.{first_run, need}
+use Rattle.getvec_chain.specs.Take.{IsTaken, taken}
+use Rattle.getvec_chain.specs.Tiling.{blocks_in}
 use Rattle.hunk_text.specs.ModuleForm.{IsModule}
 use Rattle.hunk_text.specs.Shapes.{check_of}
 use Rattle.hunk_text.specs.declared.modules.Module.{Module}

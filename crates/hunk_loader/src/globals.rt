@@ -1,14 +1,13 @@
 // The globals that a module sets.
 ghost use Rattle.std.specs.Prelude.{◌≡◌, ◌≤◌, ◌<◌, ◌+◌, ◌-◌, ◌^◌, ◌↔◌, IsTrue, length, slice_range, true};
-ghost use Rattle.store_model.specs.Placing.{has};
+ghost use Rattle.linked_list.specs.Placing.{has};
 ghost use Rattle.task_block.specs.Lists.{modules_in};
 ghost use Rattle.hunk_loader.specs.Globals.{GlobalsFit, global_of_number, globals_in, globals_of_hunk, highest, with_globals};
 ghost use Rattle.hunk_loader.specs.GlobalWords.{AreClear};
 ghost use Rattle.hunk_loader.specs.Modules.{HasModules};
 ghost use Rattle.hunk_loader.specs.Placed.{module_end, placed};
 
-use store_links::word;
-use word_store::{Store, add, mul};
+use word_store::{Store, add, mul, word};
 
 /// The highest number of a global.
 const MOST_GLOBALS: u32 = 1000;

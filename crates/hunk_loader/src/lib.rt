@@ -1,13 +1,11 @@
 // Modules in a store, and the globals that they set.
 #![tactic(auto)]
 
-mod copying;
+mod copies;
 pub mod globals;
 pub mod loading;
-mod placing;
-mod relocating;
-#[cfg(test)]
-mod tests;
+mod placement;
+mod relocation;
 pub mod unloading;
 
 pub use globals::{globals_fit, init_globals};

@@ -5,7 +5,7 @@ ghost use Rattle.task_block.specs.Lists.{modules_in};
 ghost use Rattle.hunk_loader.specs.Loading.{IsLoaded, IsRefused};
 ghost use Rattle.hunk_loader.specs.Modules.{HasModules};
 
-use crate::placing::place_module;
+use crate::placement::place_module;
 use getvec_chain::take;
 use hunk_text::{Shape, TextBytes, check_module};
 use task_block::{RootField, root, set_root};

@@ -1,15 +1,14 @@
 // A module is taken out of the list, and its block given back.
 ghost use Rattle.std.specs.Prelude.{◌≡◌, OnErr, OnOk, Some, None, false, true, if◌then◌else◌};
-ghost use Rattle.store_model.specs.Give.{given, given_store};
-ghost use Rattle.store_model.specs.Placing.{cell_before, has, linked_out, without};
-ghost use Rattle.store_model.specs.Tiling.{blocks_in};
+ghost use Rattle.getvec_chain.specs.Give.{given, given_store};
+ghost use Rattle.linked_list.specs.Placing.{cell_before, has, linked_out, without};
+ghost use Rattle.getvec_chain.specs.Tiling.{blocks_in};
 ghost use Rattle.task_block.specs.Lists.{module_link, modules_in};
 ghost use Rattle.hunk_loader.specs.Modules.{HasModules};
 
 use getvec_chain::give;
-use store_links::word;
+use word_store::{Store, word};
 use task_block::{RootField, modules};
-use word_store::Store;
 
 /// No module of the list stands there.
 #[derive(Clone, Copy, Debug, PartialEq, Eq)]

@@ -3,5 +3,4 @@ pub mod RootWords
 pub mod Versions
 pub mod TaskChain
 pub mod Lists
-pub mod Filled
 pub mod Moves

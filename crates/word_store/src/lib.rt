@@ -9,6 +9,7 @@ mod tests;
 pub mod words;
 
 pub use arithmetic::{add, div, mul, mul_div, rem, shl, shr, signed, sub};
+pub use words::by_address::{set_word_at, set_words, word, word_at};
 pub use guarding::Guard;
 pub use registers::Regs;
 pub use words::{NoStoreMemory, Store};

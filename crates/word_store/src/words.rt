@@ -2,6 +2,8 @@
 ghost use Rattle.std.specs.Prelude.{◌≡◌, ◌+◌, ◌*◌, ◌<◌, ◌↔◌, IfOk, IfSome, IsNone, IsTrue, length, replicate, slice_get, slice_range, slice_set};
 ghost use Rattle.word_store.specs.Bytes.{byte_at, set_byte_at};
 
+pub mod by_address;
+
 use std::alloc::Global;
 use std::marker::Model;
 

@@ -1,6 +1,6 @@
 use Rattle.std.proofs.Common.{◌≡◌, ◌∙◌, ℕ, sym, ap}
-use Rattle.store_model.specs.Run.{first_run, need}
-use Rattle.store_model.specs.Tiling.{blocks_in}
+use Rattle.getvec_chain.specs.Run.{first_run, need}
+use Rattle.getvec_chain.specs.Tiling.{blocks_in}
 use Rattle.hunk_loader.specs.ModuleRow.{last_word}
 use Rattle.hunk_loader.proofs.TextModules.{module_found}
 use Rattle.hunk_loader.proofs.Loads.{done, taken_for}

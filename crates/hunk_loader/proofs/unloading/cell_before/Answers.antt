@@ -1,4 +1,4 @@
-use Rattle.store_model.proofs.Walks.{can_walk}
+use Rattle.linked_list.proofs.Walks.{can_walk}
 use Rattle.task_block.specs.Lists.{module_link}
 use Rattle.hunk_loader.proofs.ModuleBlocks.{linked, one_word}
 use Rattle.hunk_loader.proofs.unloading.cell_before.Goals as goal

@@ -1,5 +1,5 @@
 use Rattle.std.proofs.Common.{◌≡◌}
-use Rattle.store_model.specs.Placing.{cell_before, has}
+use Rattle.linked_list.specs.Placing.{cell_before, has}
 use Rattle.task_block.specs.Lists.{module_link, modules_in}
 use Rattle.hunk_loader.proofs.unloading.cell_before.Given as goal
 

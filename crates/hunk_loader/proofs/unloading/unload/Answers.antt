@@ -1,11 +1,11 @@
 use Rattle.std.proofs.Common.{◌≡◌, ◌∙◌, ℕ, Bool, true, false, cond, slice_index, Option, Some, None, Result, Ok, Err, List, set, refl, sym, ap, subst}
 use Rattle.std.specs.Prelude.{IsOk, OnErr, OnOk}
 use Rattle.std.specs.Option.{ok_or}
-use Rattle.store_model.specs.Give.{given, given_store}
-use Rattle.store_model.specs.Placing.{cell_before, linked_out}
-use Rattle.store_model.specs.Tiling.{IsTiled, blocks_in, used_at}
-use Rattle.getvec_chain.specs.declared.taking.NotABlock.{NotABlock}
-use Rattle.store_model.specs.declared.blocks.Block.{Block}
+use Rattle.getvec_chain.specs.Give.{given, given_store}
+use Rattle.linked_list.specs.Placing.{cell_before, linked_out}
+use Rattle.getvec_chain.specs.Tiling.{IsTiled, blocks_in, used_at}
+use Rattle.getvec_chain.specs.declared.calls.NotABlock.{NotABlock}
+use Rattle.getvec_chain.specs.declared.pieces.Block.{Block}
 use Rattle.task_block.specs.Lists.{module_link, modules_in}
 use Rattle.hunk_loader.specs.declared.unloading.NoModule.{NoModule}
 use Rattle.hunk_loader.proofs.UnloadedModules.{out_linked, unload_stands}

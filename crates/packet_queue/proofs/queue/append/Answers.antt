@@ -1,7 +1,7 @@
 use Rattle.std.proofs.Common.{◌≡◌, ◌++◌, ◌∷◌, [], set, sym, subst}
-use Rattle.store_model.proofs.Lists.{BecomesList}
+use Rattle.linked_list.proofs.Lists.{BecomesList}
 use Rattle.packet_queue.specs.Queue.{last_link, link_of, packet_size, queue_at}
-use Rattle.packet_queue.proofs.Changes.{appended}
+use Rattle.packet_queue.proofs.QueueChanges.{appended}
 use Rattle.packet_queue.proofs.queue.append.Goals as goal
 
 after : (c : goal.After-set-2) → BecomesList c.set-2.new.self link_of packet_size c.args.head (queue_at c.args.store.now c.args.head ++ c.args.p ∷ [])
