@@ -2,3 +2,5 @@ pub mod EmptyLemmas
 pub mod Entries
 pub mod FormLemmas
 pub mod NameLemmas
+pub mod RowLemmas
+pub mod ShapeLemmas

@@ -1,2 +1,3 @@
+pub mod ByteOf
 pub mod WordOf
 pub mod Wide
