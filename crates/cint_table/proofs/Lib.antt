@@ -1,3 +1,4 @@
+pub mod EffectLemmas
 pub mod EmptyLemmas
 pub mod Entries
 pub mod FormLemmas

@@ -39,12 +39,12 @@ fn slot_at(byte: u8) -> Slot
 }
 
 #[inline(always)]
-fn shape_by(kind: Kind, number: u8, effect: Effect) -> Option<Shape>
+fn shape_by(kind: Kind, number: u32, effect: Effect) -> Option<Shape>
     ensures { result ≡ shape_by kind number effect }
 {
     let form = match kind {
         Kind::Empty => return None,
-        Kind::Plain => Form::Plain(u32::from(number)),
+        Kind::Plain => Form::Plain(number),
         Kind::Byte => Form::Byte,
         Kind::BytePlus => Form::BytePlus,
         Kind::Half => Form::Half,

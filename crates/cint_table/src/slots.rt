@@ -17,7 +17,7 @@ pub enum Kind {
 
 /// The kind of a row's form, the number of a plain form, and the effect.
 #[derive(Clone, Copy)]
-pub struct Slot(pub Kind, pub u8, pub Effect);
+pub struct Slot(pub Kind, pub u32, pub Effect);
 
 pub static SLOTS: [Slot; 256] = [
     // 0 to 31
