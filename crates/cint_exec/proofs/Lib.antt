@@ -1,1 +1,2 @@
+pub mod ByteRegister
 pub mod Searching
