@@ -1,12 +1,13 @@
 // The line of one instruction.
 ghost use Rattle.std.specs.Prelude.{◌≡◌, ◌≤◌, IfOk, IsSome};
+ghost use Rattle.tp_io.specs.Pending.{Gathers};
 ghost use Rattle.tp_io.specs.Writing.{Prints, HasCause};
 ghost use Rattle.cint_disasm.specs.Lines.{byte_line, instruction_line, number_line, plain_line, target_line};
 ghost use Rattle.cint_disasm.specs.Listing.{listed};
 
 use cint_decode::{Code, Instr, decode};
 use cint_table::{Form, Row, row};
-use tp_io::{Piece, Sink, SinkFault, write_pieces};
+use tp_io::{Output, Piece, Sink, SinkFault, gather_pieces, pass_on};
 use word_store::signed;
 
 /// Writes the line of the instruction at byte address a, and answers the number of bytes that it takes, 1 to 5. The line
@@ -20,35 +21,69 @@ pub fn line_at<X: Code, K: Sink>(code: &X, a: u32, out: &mut K) -> Result<u32, S
     ensures bounds { IfOk result (λ n. (1 ≤ n) × (n ≤ 5)) }
     ensures cause { HasCause (K.faults out.old) (K.faults out.new) result }
 {
+    let mut pending = Output::new();
+    let length = gather_line(code, a, out, &mut pending)?;
+    pass_on(out, &mut pending)?;
+    Ok(length)
+}
+
+/// The same, but the line is gathered.
+pub fn gather_line<X: Code, K: Sink>(
+    code: &X,
+    a: u32,
+    out: &mut K,
+    pending: &mut Output,
+) -> Result<u32, SinkFault>
+    requires { IsSome (X.code_bytes code.now a) }
+    ensures text { Gathers (K.holds out.old) (K.holds out.new) pending.old pending.new
+        (listed (X.code_bytes code.now) a).text result }
+    ensures length { IfOk result (λ n. n ≡ (listed (X.code_bytes code.now) a).length) }
+    ensures bounds { IfOk result (λ n. (1 ≤ n) × (n ≤ 5)) }
+    ensures cause { HasCause (K.faults out.old) (K.faults out.new) result }
+{
     let byte = code.byte(a).unwrap();
     let Ok(i) = decode(code, a) else {
-        write_byte(a, byte, out)?;
+        gather_byte(a, byte, out, pending)?;
         return Ok(1);
     };
     let row = row(byte).unwrap();
-    write_instruction(a, row, i, out)?;
+    gather_instruction(a, row, i, out, pending)?;
     Ok(i.length)
 }
 
-fn write_instruction<K: Sink>(a: u32, row: Row, i: Instr, out: &mut K) -> Result<(), SinkFault>
-    ensures text { Prints (K.holds out.old) (K.holds out.new) (instruction_line row.form a row.name.now i) result }
+fn gather_instruction<K: Sink>(
+    a: u32,
+    row: Row,
+    i: Instr,
+    out: &mut K,
+    pending: &mut Output,
+) -> Result<(), SinkFault>
+    ensures text { Gathers (K.holds out.old) (K.holds out.new) pending.old pending.new
+        (instruction_line row.form a row.name.now i) result }
     ensures cause { HasCause (K.faults out.old) (K.faults out.new) result }
 {
     match row.form {
-        Form::Plain(_) | Form::Switch => write_plain(a, row.name, out),
-        Form::Byte | Form::BytePlus | Form::Half | Form::Word => write_number(
-            a, row.name, i.operand, out,
+        Form::Plain(_) | Form::Switch => gather_plain(a, row.name, out, pending),
+        Form::Byte | Form::BytePlus | Form::Half | Form::Word => gather_number(
+            a, row.name, i.operand, out, pending,
         ),
-        Form::Relative | Form::Indirect => write_target(a, row.name, i.target, out),
+        Form::Relative | Form::Indirect => gather_target(a, row.name, i.target, out, pending),
     }
 }
 
-fn write_plain<K: Sink>(a: u32, name: &str, out: &mut K) -> Result<(), SinkFault>
-    ensures text { Prints (K.holds out.old) (K.holds out.new) (plain_line a name.now) result }
+fn gather_plain<K: Sink>(
+    a: u32,
+    name: &str,
+    out: &mut K,
+    pending: &mut Output,
+) -> Result<(), SinkFault>
+    ensures text { Gathers (K.holds out.old) (K.holds out.new) pending.old pending.new
+        (plain_line a name.now) result }
     ensures cause { HasCause (K.faults out.old) (K.faults out.new) result }
 {
-    write_pieces(
+    gather_pieces(
         out,
+        pending,
         &[
             Piece::Decimal(u64::from(a)),
             Piece::Text(b" "),
@@ -58,12 +93,20 @@ fn write_plain<K: Sink>(a: u32, name: &str, out: &mut K) -> Result<(), SinkFault
     )
 }
 
-fn write_number<K: Sink>(a: u32, name: &str, n: u32, out: &mut K) -> Result<(), SinkFault>
-    ensures text { Prints (K.holds out.old) (K.holds out.new) (number_line a name.now n) result }
+fn gather_number<K: Sink>(
+    a: u32,
+    name: &str,
+    n: u32,
+    out: &mut K,
+    pending: &mut Output,
+) -> Result<(), SinkFault>
+    ensures text { Gathers (K.holds out.old) (K.holds out.new) pending.old pending.new
+        (number_line a name.now n) result }
     ensures cause { HasCause (K.faults out.old) (K.faults out.new) result }
 {
-    write_pieces(
+    gather_pieces(
         out,
+        pending,
         &[
             Piece::Decimal(u64::from(a)),
             Piece::Text(b" "),
@@ -75,12 +118,20 @@ fn write_number<K: Sink>(a: u32, name: &str, n: u32, out: &mut K) -> Result<(), 
     )
 }
 
-fn write_target<K: Sink>(a: u32, name: &str, t: u32, out: &mut K) -> Result<(), SinkFault>
-    ensures text { Prints (K.holds out.old) (K.holds out.new) (target_line a name.now t) result }
+fn gather_target<K: Sink>(
+    a: u32,
+    name: &str,
+    t: u32,
+    out: &mut K,
+    pending: &mut Output,
+) -> Result<(), SinkFault>
+    ensures text { Gathers (K.holds out.old) (K.holds out.new) pending.old pending.new
+        (target_line a name.now t) result }
     ensures cause { HasCause (K.faults out.old) (K.faults out.new) result }
 {
-    write_pieces(
+    gather_pieces(
         out,
+        pending,
         &[
             Piece::Decimal(u64::from(a)),
             Piece::Text(b" "),
@@ -92,12 +143,19 @@ fn write_target<K: Sink>(a: u32, name: &str, t: u32, out: &mut K) -> Result<(), 
     )
 }
 
-fn write_byte<K: Sink>(a: u32, byte: u8, out: &mut K) -> Result<(), SinkFault>
-    ensures text { Prints (K.holds out.old) (K.holds out.new) (byte_line a byte) result }
+fn gather_byte<K: Sink>(
+    a: u32,
+    byte: u8,
+    out: &mut K,
+    pending: &mut Output,
+) -> Result<(), SinkFault>
+    ensures text { Gathers (K.holds out.old) (K.holds out.new) pending.old pending.new
+        (byte_line a byte) result }
     ensures cause { HasCause (K.faults out.old) (K.faults out.new) result }
 {
-    write_pieces(
+    gather_pieces(
         out,
+        pending,
         &[
             Piece::Decimal(u64::from(a)),
             Piece::Text(b" DB "),

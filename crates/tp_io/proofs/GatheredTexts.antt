@@ -35,11 +35,17 @@ module _ {h m : Option (List ℕ)} {p q a : List ℕ} (first : IsGathered h m p 
   Gathers-then k r b (Ok x) second = IsGathered-then second
   Gathers-then k r b (Err e) cut = IsCut-then cut
 
+  -- and then what is pending is passed on
+  pub Prints-passed : {T E : Type 0} (k : Option (List ℕ)) (result : Result T E) → Prints m k q result → Prints h k (p ++ a) result
+  Prints-passed k result last = rw first.whole (Prints-then h m k first.front q result first.sent last)
+
+  -- and then what is pending is printed, and another text after it
+  pub Prints-after : {T E : Type 0} (k : Option (List ℕ)) (b : List ℕ) (result : Result T E) → Prints m k (q ++ b) result → Prints h k (p ++ (a ++ b)) result
+  Prints-after k b result last = rw (regrouped b) (Prints-then h m k first.front (q ++ b) result first.sent last)
+
 -- the text a is gathered where nothing was pending, and what is pending is passed on
 pub Prints-gathered : {T E : Type 0} {h m : Option (List ℕ)} {p q a : List ℕ} (k : Option (List ℕ)) (result : Result T E) → p ≡ [] → IsGathered h m p q a → Prints m k q result → Prints h k a result
-Prints-gathered {h = h} {m = m} {p = p} {q = q} {a = a} k result none g last =
-    let whole : a ≡ g.front ++ q = ap (λ v. v ++ a) (sym none) ∙ g.whole in
-    rw whole (Prints-then h m k g.front q result g.sent last)
+Prints-gathered {h = h} {p = p} {a = a} k result none g last = subst (λ (v : List ℕ). Prints h k (v ++ a) result) none (Prints-passed g k result last)
 
 -- what was pending is passed on, and then the text a goes to the sink without being pending
 pub Gathers-past : {T E : Type 0} (h m k : Option (List ℕ)) (p q a : List ℕ) (result : Result T E) → q ≡ [] → Appends h m p → Prints m k a result → Gathers h k p q a result

@@ -1,4 +1,2 @@
-pub mod Runs
-pub mod Dumped
-pub mod Loaded
-pub mod Answering
+pub mod DumpLines
+pub mod AnswerParts

@@ -10,14 +10,14 @@ use Rattle.cint_asm.specs.Assembly.{assembled}
 use Rattle.cint_disasm.specs.HunkListing.{listing_of_module}
 use Rattle.session_text.specs.SessionReading.{session_of}
 use Rattle.session_text.specs.declared.sessions.Session.{Session}
-use Rattle.tripos_run.specs.declared.bare.Stop.{Stop}
-use Rattle.tripos_run.specs.declared.bare.Stop.TheVariants.{Steps, Quit, Fault}
+use Rattle.tripos_machine.specs.declared.bare.Stop.{Stop}
+use Rattle.tripos_machine.specs.declared.bare.Stop.TheVariants.{Steps, Quit, Fault}
 use Rattle.tripos_run.specs.declared.commands.Command.{Command}
 use Rattle.tripos_run.specs.declared.commands.Command.TheVariants.{Run as RunCommand, Dump as DumpCommand, Asm as AsmCommand, Disasm as DisasmCommand}
 use Rattle.tripos_run.specs.declared.status.Status.{Status}
 use Rattle.tripos_run.specs.declared.status.Status.TheVariants.{Done, GuestFault, Usage, Refused, NoBoot, ReadFault, WriteFault, TooLong, WantMemory}
-use Rattle.tripos_run.specs.Booting.{boot, first_regs}
-use Rattle.tripos_run.specs.Running.{Run, run}
+use Rattle.tripos_machine.specs.Boot.{boot, first_regs}
+use Rattle.tripos_machine.specs.Run.{Run, run}
 use Rattle.tripos_run.specs.Texts.{closing_text, dump_text, no_boot_text, refused_text, too_long_text, usage_text}
 
 pub record Answer : Type 0 where
@@ -53,7 +53,10 @@ words_text _ words = []
 
 -- the console bytes, the closing line, and the words where they are asked for
 abbrev pub run_answer : Command → Run → Answer
-run_answer command x = record { status = status_of x.stop; bytes = x.bytes ++ (closing_text x.steps x.stop ++ words_text command x.words) }
+run_answer command x = record {
+  status = status_of x.stop;
+  bytes = x.bytes ++ (closing_text x.steps x.stop ++ words_text command x.words);
+}
 
 -- the run of a session that boots
 abbrev pub booted_answer : Command → ℕ → Result (List ℕ) Refusal → Answer

@@ -1,9 +1,5 @@
-pub mod Calls
-pub mod Bare
-pub mod Stepping
-pub mod Running
-pub mod Booting
 pub mod Texts
 pub mod Answer
-pub mod Reading
+pub mod Input
+pub mod Cause
 pub mod Exit

@@ -2,8 +2,8 @@
 use Rattle.std.specs.Prelude.{ℕ, ◌+◌, List, [], ◌∷◌, ◌++◌, codes, decimal, ◌==◌, if◌then◌else◌}
 use Rattle.tp_io.specs.Pieces.{joined, hex_digits_of}
 use Rattle.text_reader.specs.Refusal.{Refusal}
-use Rattle.tripos_run.specs.declared.bare.Stop.{Stop}
-use Rattle.tripos_run.specs.declared.bare.Stop.TheVariants.{Steps, Quit, Fault}
+use Rattle.tripos_machine.specs.declared.bare.Stop.{Stop}
+use Rattle.tripos_machine.specs.declared.bare.Stop.TheVariants.{Steps, Quit, Fault}
 
 abbrev pub usage_text : List ℕ
 usage_text = codes "* usage: tripos run, dump, trace, asm, disasm, debug, save, resume, ring or gen N\n"

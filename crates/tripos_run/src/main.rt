@@ -1,23 +1,18 @@
 // Runs one session of the machine: its text is read from standard input, and what happened is written.
 #![tactic(auto)]
 
-mod bare;
-mod booting;
-mod calls;
+mod answer;
 mod commands;
-mod dumping;
-mod laws;
+mod dump;
 mod messages;
-mod running;
+mod program;
+mod session;
 mod status;
 #[cfg(test)]
 mod tests;
-mod top;
 
-use crate::status::exit_code;
 use std::process::ExitCode;
 use std::{env, io};
-use tp_io::{StdSink, StdSource};
 
 /// Ends with the status of the call, or with 9 where the system can't give the words.
 fn main(rt: HostRuntime) -> ExitCode {
@@ -30,8 +25,6 @@ fn main(rt: HostRuntime) -> ExitCode {
             return ExitCode::from(9);
         }
     }
-    let mut src = StdSource::new(rt.reader());
-    let mut out = StdSink::new(io::writer(&rt));
-    let status = top::tripos(rt.alloc(), words.as_slice(), &mut src, &mut out);
-    ExitCode::from(exit_code(status))
+    let (status, _) = program::run(rt.alloc(), words.as_slice(), rt.reader(), io::writer(&rt));
+    ExitCode::from(status)
 }

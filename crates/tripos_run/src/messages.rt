@@ -1,10 +1,11 @@
 // The lines that the program writes besides the console bytes.
+ghost use Rattle.tp_io.specs.Pending.{Gathers};
 ghost use Rattle.tp_io.specs.Writing.{Prints, HasCause};
 ghost use Rattle.tripos_run.specs.Texts.{closing_text, no_boot_text, refused_text, too_long_text, usage_text};
 
-use crate::bare::Stop;
 use tp_io::Piece::{Decimal, Text};
-use tp_io::{Sink, SinkFault, write_pieces, write_text};
+use tp_io::{Output, Sink, SinkFault, gather_pieces, write_pieces, write_text};
+use tripos_machine::Stop;
 
 const STOPPED: &[u8] = b"\n* stopped after ";
 
@@ -29,7 +30,8 @@ pub fn write_too_long<K: Sink>(out: &mut K) -> Result<(), SinkFault>
 
 /// Where and why the input was refused.
 pub fn write_refused<K: Sink>(out: &mut K, line: u32, code: u32) -> Result<(), SinkFault>
-    ensures text { Prints (K.holds out.old) (K.holds out.new) (refused_text (record { line = line; code = code })) result }
+    ensures text { Prints (K.holds out.old) (K.holds out.new)
+        (refused_text (record { line = line; code = code })) result }
     ensures cause { HasCause (K.faults out.old) (K.faults out.new) result }
 {
     write_pieces(
@@ -46,7 +48,8 @@ pub fn write_refused<K: Sink>(out: &mut K, line: u32, code: u32) -> Result<(), S
 
 /// Where and why the session does not boot.
 pub fn write_no_boot<K: Sink>(out: &mut K, line: u32, code: u32) -> Result<(), SinkFault>
-    ensures text { Prints (K.holds out.old) (K.holds out.new) (no_boot_text (record { line = line; code = code })) result }
+    ensures text { Prints (K.holds out.old) (K.holds out.new)
+        (no_boot_text (record { line = line; code = code })) result }
     ensures cause { HasCause (K.faults out.old) (K.faults out.new) result }
 {
     write_pieces(
@@ -62,30 +65,52 @@ pub fn write_no_boot<K: Sink>(out: &mut K, line: u32, code: u32) -> Result<(), S
 }
 
 /// The steps taken, and why the machine has stopped.
-pub fn write_closing<K: Sink>(out: &mut K, steps: u64, stop: Stop) -> Result<(), SinkFault>
-    ensures text { Prints (K.holds out.old) (K.holds out.new) (closing_text steps stop) result }
+pub fn gather_closing<K: Sink>(
+    steps: u64,
+    stop: Stop,
+    out: &mut K,
+    pending: &mut Output,
+) -> Result<(), SinkFault>
+    ensures text { Gathers (K.holds out.old) (K.holds out.new) pending.old pending.new
+        (closing_text steps stop) result }
     ensures cause { HasCause (K.faults out.old) (K.faults out.new) result }
 {
     match stop {
-        Stop::Steps => write_pieces(
-            out,
-            &[Text(STOPPED), Decimal(steps), Text(b" steps: steps\n")],
-        ),
-        Stop::Quit(code) => write_quit(out, steps, code),
+        Stop::Steps => gather_steps(steps, out, pending),
+        Stop::Quit(code) => gather_quit(steps, code, out, pending),
         Stop::Fault {
             code,
             address,
             task,
-        } => write_fault(out, steps, code, address, task),
+        } => gather_fault(steps, code, address, task, out, pending),
     }
 }
 
-fn write_quit<K: Sink>(out: &mut K, steps: u64, code: u32) -> Result<(), SinkFault>
-    ensures text { Prints (K.holds out.old) (K.holds out.new) (closing_text steps (Stop.Quit code)) result }
+fn gather_steps<K: Sink>(steps: u64, out: &mut K, pending: &mut Output) -> Result<(), SinkFault>
+    ensures text { Gathers (K.holds out.old) (K.holds out.new) pending.old pending.new
+        (closing_text steps Stop.Steps) result }
     ensures cause { HasCause (K.faults out.old) (K.faults out.new) result }
 {
-    write_pieces(
+    gather_pieces(
         out,
+        pending,
+        &[Text(STOPPED), Decimal(steps), Text(b" steps: steps\n")],
+    )
+}
+
+fn gather_quit<K: Sink>(
+    steps: u64,
+    code: u32,
+    out: &mut K,
+    pending: &mut Output,
+) -> Result<(), SinkFault>
+    ensures text { Gathers (K.holds out.old) (K.holds out.new) pending.old pending.new
+        (closing_text steps (Stop.Quit code)) result }
+    ensures cause { HasCause (K.faults out.old) (K.faults out.new) result }
+{
+    gather_pieces(
+        out,
+        pending,
         &[
             Text(STOPPED),
             Decimal(steps),
@@ -96,18 +121,21 @@ fn write_quit<K: Sink>(out: &mut K, steps: u64, code: u32) -> Result<(), SinkFau
     )
 }
 
-fn write_fault<K: Sink>(
-    out: &mut K,
+fn gather_fault<K: Sink>(
     steps: u64,
     code: u32,
     address: u32,
     task: u32,
+    out: &mut K,
+    pending: &mut Output,
 ) -> Result<(), SinkFault>
-    ensures text { Prints (K.holds out.old) (K.holds out.new) (closing_text steps (Stop.Fault code address task)) result }
+    ensures text { Gathers (K.holds out.old) (K.holds out.new) pending.old pending.new
+        (closing_text steps (Stop.Fault code address task)) result }
     ensures cause { HasCause (K.faults out.old) (K.faults out.new) result }
 {
-    write_pieces(
+    gather_pieces(
         out,
+        pending,
         &[
             Text(STOPPED),
             Decimal(steps),

@@ -1,6 +1,6 @@
 // The program's answers, in memory: words and an input to a status and the bytes written.
+use crate::program::tripos;
 use crate::status::Status;
-use crate::top::tripos;
 use std::process::Abort;
 use std::test::Fail;
 use tp_io::{MemorySink, MemorySource};

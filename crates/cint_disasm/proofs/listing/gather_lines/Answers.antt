@@ -1,18 +1,17 @@
 use Rattle.std.proofs.Common.{◌∙◌, ◌+◌, ◌*◌, [], ◌++◌, length, refl, sym, ap, arith, append_assoc, List, ℕ}
 use Rattle.std.proofs.lemmas.Result.{err_from_is_err_and}
 use Rattle.word_store.specs.Bytes.{byte_at}
-use Rattle.tp_io.proofs.Appending.{Appends-nothing, Appends-then}
-use Rattle.tp_io.proofs.FailedPrint.{Prints-cut}
+use Rattle.tp_io.proofs.GatheredTexts.{IsCut-more, IsCut-then, IsGathered-nothing, IsGathered-then}
 use Rattle.cint_disasm.specs.Listing.{listed}
 use Rattle.cint_disasm.specs.HunkListing.{lines_from}
 use Rattle.cint_disasm.proofs.HunkLines.{byte_some, lines_more}
-use Rattle.cint_disasm.proofs.listing.write_lines.Goals as goal
+use Rattle.cint_disasm.proofs.listing.gather_lines.Goals as goal
 
 pub loop-place-init : goal.loop-place-init
-loop-place-init g c = ([], 4 * length c.args.code.now, record { all = refl; enough = omega arith; text = Appends-nothing _; later = omega arith })
+loop-place-init g c = ([], 4 * length c.args.code.now, record { all = refl; enough = omega arith; text = IsGathered-nothing _ _; later = omega arith })
 
-pub line_at-requires : goal.line_at-requires
-line_at-requires g c = byte_some c.args.code.now c.loop-place.place (omega arith)
+pub gather_line-requires : goal.gather_line-requires
+gather_line-requires g c = byte_some c.args.code.now c.loop-place.place (omega arith)
 
 pub returns-in_err-length-clause-text : goal.returns-in_err-length-clause-text
 returns-in_err-length-clause-text g c =
@@ -20,7 +19,7 @@ returns-in_err-length-clause-text g c =
     let p = err_from_is_err_and c.from_residual.result c.from_residual.ensures.1 in
     let kept = c.loop-place.invariant.2 in
     let more = lines_more (byte_at words) (4 * length words) c.loop-place.invariant.1 c.loop-place.place (omega arith) kept.enough in
-    rw (← kept.all, more.2) (Prints-cut _ _ _ _ _ _ _ p.0 p.1 kept.text c.in_err-length.ensures.text)
+    rw p.1 (rw (← kept.all, more.2) (IsCut-then kept.text (IsCut-more _ c.in_err-length.ensures.text)))
 
 pub loop-place-preserved : goal.loop-place-preserved
 loop-place-preserved g c =
@@ -36,7 +35,7 @@ loop-place-preserved g c =
       record {
         all = rw (c.from-place.ensures, c.in_ok-length.ensures.length) (append_assoc front line.text rest ∙ ap (λ (t : List ℕ). front ++ t) (sym more.2) ∙ kept.all);
         enough = omega (arith, more.1);
-        text = Appends-then _ _ _ front line.text kept.text c.in_ok-length.ensures.text;
+        text = IsGathered-then kept.text c.in_ok-length.ensures.text;
         later = omega arith;
       },
     )

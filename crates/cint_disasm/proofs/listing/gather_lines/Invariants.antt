@@ -1,8 +1,8 @@
 use Rattle.std.proofs.Common.{◌≡◌, ◌≤◌, ◌-◌, ◌+◌, ◌*◌, ℕ, List, ◌++◌, length}
-use Rattle.std.specs.Io.KnownBytes.{Appends}
+use Rattle.tp_io.specs.Pending.{IsGathered}
 use Rattle.word_store.specs.Bytes.{byte_at}
 use Rattle.cint_disasm.specs.HunkListing.{lines_from, lines_of_words}
-use Rattle.cint_disasm.proofs.listing.write_lines.Given as goal
+use Rattle.cint_disasm.proofs.listing.gather_lines.Given as goal
 
 abbrev pub invariant-loop-place : goal.invariant-loop-place
 invariant-loop-place g l =
@@ -10,7 +10,7 @@ invariant-loop-place g l =
     × record {
       all : front ++ lines_from (byte_at l.code) (4 * length l.code) most l.place ≡ lines_of_words l.code;
       enough : 4 * length l.code ≤ l.place + most;
-      text : Appends (g.K.Sink.holds l.fn.out) (g.K.Sink.holds l.out) front;
+      text : IsGathered (g.K.Sink.holds l.fn.out) (g.K.Sink.holds l.out) l.fn.pending l.pending front;
       later : g.K.Sink.faults l.fn.out ≤ g.K.Sink.faults l.out;
     }
 

@@ -1,0 +1,15 @@
+use Rattle.std.proofs.Common.{◌≤◌, ◌<◌, ℕ, List}
+use Rattle.tp_io.specs.Pending.{IsGathered}
+use Rattle.tripos_machine.specs.Run.{run}
+use Rattle.tripos_machine.proofs.RunSteps.{IsUnderWay}
+use Rattle.tripos_machine.proofs.run.run.Given as goal
+
+abbrev pub invariant-loop-i : goal.invariant-loop-i
+invariant-loop-i g l =
+    (bytes : List ℕ)
+    × record {
+      under_way : IsUnderWay (run l.n l.fn.machine.store l.fn.machine.regs) l.n l.i bytes l.machine.store l.machine.regs;
+      gathered : IsGathered (g.K.Sink.holds l.fn.out) (g.K.Sink.holds l.out) l.fn.pending l.pending bytes;
+      later : g.K.Sink.faults l.fn.out ≤ g.K.Sink.faults l.out;
+      byte : l.machine.regs.c < 256;
+    }

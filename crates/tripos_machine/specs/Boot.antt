@@ -1,0 +1,51 @@
+-- What a bare session puts into the machine before its first step.
+use Rattle.std.specs.Prelude.{ℕ, ◌≡◌, ◌+◌, ◌*◌, List, [], ◌∷◌, length, Result, Ok, Err, nat_le, replicate, if◌then◌else◌}
+use Rattle.word_store.specs.Bytes.{set_byte_at}
+use Rattle.word_store.specs.declared.registers.Regs.{Regs}
+use Rattle.text_reader.specs.Refusal.{Refusal, refusal}
+use Rattle.session_text.specs.declared.sessions.Session.{Session}
+use Rattle.session_text.specs.declared.sessions.SessionLine.{SessionLine}
+use Rattle.session_text.specs.declared.sessions.LineForm.{LineForm}
+use Rattle.session_text.specs.declared.sessions.LineForm.TheVariants.{Code, File, Task}
+use Rattle.tripos_machine.specs.declared.boot.BootEnd.{BootEnd}
+use Rattle.tripos_machine.specs.declared.boot.BootEnd.TheVariants.{Line, WantMemory}
+
+-- the byte address of the program
+abbrev pub program : ℕ
+program = 800
+
+-- bytes in the store, from a byte address on
+abbrev pub with_bytes : List ℕ → ℕ → List ℕ → List ℕ
+with_bytes words a [] = words
+with_bytes words a (b ∷ bs) = with_bytes (set_byte_at words a b) (a + 1) bs
+
+-- the bytes of a line of code; other lines have none
+abbrev pub code_of : LineForm → List ℕ
+code_of (Code bytes) = bytes
+code_of (File name bytes) = []
+code_of (Task id pri stack names) = []
+
+-- The lines' bytes go into the store one after the other. The line whose bytes pass the store's end is refused with code 1.
+abbrev pub with_lines : List ℕ → ℕ → List SessionLine → Result (List ℕ) Refusal
+with_lines words a [] = Ok words
+with_lines words a (line ∷ lines) =
+    if nat_le (a + length (code_of line.form)) (4 * length words) then
+    with_lines (with_bytes words a (code_of line.form)) (a + length (code_of line.form)) lines else
+    Err (refusal line.line 1)
+
+-- all other words are 0
+unfoldable pub boot : Session → Result (List ℕ) Refusal
+boot s = with_lines (replicate s.store 0) program s.lines
+
+-- PC is at the program, the stack frame at word 100 and the globals at word 20
+abbrev pub first_regs : Regs
+first_regs = record { a = 0; b = 0; c = 0; p = 100; g = 20; pc = program }
+
+-- what a booting function returned, seen by view, is what the definition gives, unless memory ran out
+abbrev pub BootEndsAs : {X : Type 0} → BootEnd → Result X Refusal → Type 0
+BootEndsAs (Line line code) booted = booted ≡ Err (refusal line code)
+BootEndsAs WantMemory booted = Unit {0}
+
+abbrev pub Boots : {X Y : Type 0} → (X → Y) → Result X BootEnd → Result Y Refusal → Type 0
+Boots view (Ok x) booted = booted ≡ Ok (view x)
+Boots view (Err e) booted = BootEndsAs e booted

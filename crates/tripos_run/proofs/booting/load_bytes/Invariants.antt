@@ -1,6 +1,0 @@
-use Rattle.std.proofs.Common.{◌≡◌, ◌+◌, drop}
-use Rattle.tripos_run.specs.Booting.{with_bytes}
-use Rattle.tripos_run.proofs.booting.load_bytes.Given as goal
-
-abbrev pub invariant-loop-i : goal.invariant-loop-i
-invariant-loop-i l = with_bytes l.store (l.a + l.i) (drop l.i l.bytes) ≡ with_bytes l.fn.store l.a l.bytes

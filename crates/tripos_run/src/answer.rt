@@ -1,0 +1,76 @@
+// The answer to a text that was read.
+ghost use Rattle.std.specs.Prelude.{◌≡◌, ◌<◌, ◌^◌, is_ok, if◌then◌else◌, length};
+ghost use Rattle.hunk_text.specs.ModuleReading.{module_of};
+ghost use Rattle.cint_asm.specs.Assembly.{assembled};
+ghost use Rattle.tripos_run.specs.Answer.{Answers, listed, made_answer, text_answer};
+ghost use Rattle.tripos_run.specs.Cause.{HasFaultCause};
+ghost use Rattle.tripos_run.specs.Input.{IsTextEnd};
+
+use crate::commands::Command;
+use crate::messages::write_refused;
+use crate::session::answer_session_text;
+use crate::status::Status;
+use cint_asm::{AsmEnd, assemble};
+use cint_disasm::disassemble_module;
+use hunk_text::{HunkEnd, read_module};
+use std::alloc::Global;
+use tp_io::{Sink, SinkFault, write_text};
+
+/// The status of a call that has printed its text, or the sink's failure.
+pub fn status_after(end: Result<(), SinkFault>, status: Status) -> Status
+    ensures { result ≡ (if is_ok end then status else Status.WriteFault) }
+{
+    match end {
+        Ok(()) => status,
+        Err(SinkFault) => Status::WriteFault,
+    }
+}
+
+/// Answers a text.
+pub fn answer_text<K: Sink>(alloc: Global, command: Command, text: &[u8], out: &mut K) -> Status
+    requires { length text.now < 2 ^ 30 }
+    ensures answer { Answers (text_answer command text.now) (K.holds out.old) (K.holds out.new) result }
+    ensures ends { IsTextEnd result }
+    ensures cause { HasFaultCause Status.WriteFault (K.faults out.old) (K.faults out.new) result }
+{
+    match command {
+        Command::Run | Command::Dump => answer_session_text(alloc, command, text, out),
+        Command::Asm => answer_assembly(alloc, text, out),
+        Command::Disasm => answer_module(alloc, text, out),
+    }
+}
+
+// Writes the module of an assembly text.
+fn answer_assembly<K: Sink>(alloc: Global, text: &[u8], out: &mut K) -> Status
+    requires { length text.now < 2 ^ 32 }
+    ensures answer { Answers (made_answer (assembled text.now)) (K.holds out.old) (K.holds out.new) result }
+    ensures ends { IsTextEnd result }
+    ensures cause { HasFaultCause Status.WriteFault (K.faults out.old) (K.faults out.new) result }
+{
+    match assemble(alloc, text) {
+        Ok(module) => status_after(write_text(out, &module), Status::Done),
+        Err(AsmEnd::Bad { line, code }) => status_after(
+            write_refused(out, line, code),
+            Status::Refused,
+        ),
+        Err(AsmEnd::WantMemory) => Status::WantMemory,
+    }
+}
+
+// Lists a module.
+fn answer_module<K: Sink>(alloc: Global, text: &[u8], out: &mut K) -> Status
+    requires { length text.now < 2 ^ 30 }
+    ensures answer { Answers (made_answer (listed (module_of text.now)))
+        (K.holds out.old) (K.holds out.new) result }
+    ensures ends { IsTextEnd result }
+    ensures cause { HasFaultCause Status.WriteFault (K.faults out.old) (K.faults out.new) result }
+{
+    match read_module(alloc, text) {
+        Ok(module) => status_after(disassemble_module(&module, out), Status::Done),
+        Err(HunkEnd::Bad { line, code }) => status_after(
+            write_refused(out, line, code),
+            Status::Refused,
+        ),
+        Err(HunkEnd::WantMemory) => Status::WantMemory,
+    }
+}

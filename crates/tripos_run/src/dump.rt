@@ -1,0 +1,39 @@
+// The words of a store, printed.
+ghost use Rattle.std.specs.Prelude.{◌≡◌, ◌<◌, ◌^◌, length};
+ghost use Rattle.tp_io.specs.Pending.{Gathers};
+ghost use Rattle.tp_io.specs.Writing.{HasCause};
+ghost use Rattle.tripos_run.specs.Texts.{dump_text, word_text};
+
+use tp_io::Piece::{Decimal, Text, Word};
+use tp_io::{Output, Sink, SinkFault, gather_pieces};
+
+/// Gathers a line for each word that is not 0, in rising order: its address in decimal, and eight hex digits.
+pub fn gather_dump<K: Sink>(
+    words: &[u32],
+    out: &mut K,
+    pending: &mut Output,
+) -> Result<(), SinkFault>
+    ensures text { Gathers (K.holds out.old) (K.holds out.new) pending.old pending.new
+        (dump_text 0 words.now) result }
+    ensures cause { HasCause (K.faults out.old) (K.faults out.new) result }
+{
+    for (a, w) in words.iter().enumerate() {
+        gather_word(a as u64, *w, out, pending)?;
+    }
+    Ok(())
+}
+
+fn gather_word<K: Sink>(a: u64, w: u32, out: &mut K, pending: &mut Output) -> Result<(), SinkFault>
+    ensures text { Gathers (K.holds out.old) (K.holds out.new) pending.old pending.new
+        (word_text a w) result }
+    ensures cause { HasCause (K.faults out.old) (K.faults out.new) result }
+{
+    if w == 0 {
+        return Ok(());
+    }
+    gather_pieces(
+        out,
+        pending,
+        &[Decimal(a), Text(b" "), Word(w), Text(b"\n")],
+    )
+}

@@ -1,0 +1,63 @@
+// The program: the words of the command line and an input, to an exit status and the bytes written.
+ghost use Rattle.std.specs.Prelude.{◌≡◌, List, ℕ, map, string_bytes};
+ghost use Rattle.tripos_run.specs.Answer.{Answers, answer, command_of};
+ghost use Rattle.tripos_run.specs.Cause.{HasFaultCause};
+ghost use Rattle.tripos_run.specs.Exit.{exit_code};
+ghost use Rattle.tripos_run.specs.Input.{IsInput, Leaves};
+
+use crate::answer::{answer_text, status_after};
+use crate::commands::command_of;
+use crate::messages::{write_too_long, write_usage};
+use crate::status::{Status, exit_code};
+use std::alloc::Global;
+use std::io::{Read, Write};
+use tp_io::{ReadEnd, Sink, Source, StdSink, StdSource, read_all};
+
+const LIMIT: usize = 67_108_864;
+
+/// The exit status of the program with these words, over any reader and any writer, which is given back.
+pub fn run<R: Read + Drop, W: Write + Drop>(
+    alloc: Global,
+    words: &[String],
+    reader: R,
+    writer: W,
+) -> (u8, W)
+    ensures { (input : List ℕ) × (status : Status) × IsInput (R.remaining reader) input
+        × (result.0 ≡ exit_code status)
+        × Answers (answer (map string_bytes words.now) input)
+        (W.contents writer) (W.contents result.1) status }
+{
+    let mut src = StdSource::new(reader);
+    let mut out = StdSink::new(writer);
+    let status = tripos(alloc, words, &mut src, &mut out);
+    (exit_code(status), out.into_writer())
+}
+
+/// Answers the words of the command line and all that the source has left.
+pub fn tripos<S: Source, K: Sink>(
+    alloc: Global,
+    words: &[String],
+    src: &mut S,
+    out: &mut K,
+) -> Status
+    // The status and the bytes are those of the answer to the words and the input, which is all that the source had left.
+    ensures answer { (input : List ℕ) × IsInput (S.left src.old) input
+        × Answers (answer (map string_bytes words.now) input) (K.holds out.old) (K.holds out.new) result }
+
+    // The input is read to its end, or to one byte past the limit. Words that are no command read nothing.
+    ensures source { Leaves (command_of (map string_bytes words.now)) (S.left src.old) (S.left src.new) result }
+
+    // The source and the sink are blamed only where their counts of faults rose in this call.
+    ensures read_fault { HasFaultCause Status.ReadFault (S.faults src.old) (S.faults src.new) result }
+    ensures write_fault { HasFaultCause Status.WriteFault (K.faults out.old) (K.faults out.new) result }
+{
+    let Some(command) = command_of(words) else {
+        return status_after(write_usage(out), Status::Usage);
+    };
+    match read_all(alloc, src, LIMIT) {
+        Ok(text) => answer_text(alloc, command, &text, out),
+        Err(ReadEnd::TooLong) => status_after(write_too_long(out), Status::TooLong),
+        Err(ReadEnd::Fault) => Status::ReadFault,
+        Err(ReadEnd::WantMemory) => Status::WantMemory,
+    }
+}
