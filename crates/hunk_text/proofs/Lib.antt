@@ -3,8 +3,8 @@ pub mod Spans
 pub mod Runs
 pub mod Complete
 pub mod Sound
-pub mod Reached
-pub mod FirstErrors
+pub mod Progress
+pub mod TextRefusals
 pub mod Sizes
 pub mod Checked
 pub mod Gathered
