@@ -1,5 +1,5 @@
 -- A text is refused exactly where and why it is by the rules.
-use Rattle.std.proofs.Common.{◌≡◌, ◌∙◌, ℕ, ◌≤◌, ◌==◌, ◌⊎◌, ◌↔◌, inl, inr, cond, Option, Some, None, Result, Ok, Err, List, [], ◌∷◌, ◌++◌, length, refl, sym, ap, subst, arith, nat_lt}
+use Rattle.std.proofs.Common.{◌≡◌, ◌∙◌, ℕ, zero, suc, ◌≤◌, ◌==◌, ◌⊎◌, ◌↔◌, inl, inr, cond, Option, Some, None, Result, Ok, Err, List, [], ◌∷◌, ◌++◌, length, refl, sym, ap, subst, arith, nat_lt}
 use Rattle.std.specs.Option.{ok_or}
 use Rattle.text_reader.proofs.NumberLemmas.{number_in-again, number_in-ok}
 use Rattle.text_reader.proofs.StepLemmas.{Err-same, Ok-same, bind-ok, cond-cases}
@@ -178,14 +178,19 @@ word_refused e bytes w code is h = step_err w code (follow e w) (rw (number_in-a
 -- ---- what a refusal says
 
 -- what a code says of a text
-abbrev Says : List ℕ → ℕ → ℕ → Type 0
-Says text line code =
-    ((1 ≡ code) × IsFirstError text line IsNoWord)
-    ⊎ (((2 ≡ code) × EndsEarly text line IsInsideItem)
-    ⊎ (((3 ≡ code) × IsFirstError text line IsNoType)
-    ⊎ (((4 ≡ code) × IsFirstError text line IsNoOffset)
-    ⊎ (((5 ≡ code) × EndsEarly text line IsTypeDue)
-    ⊎ ((6 ≡ code) × IsFirstError text line IsBeyond)))))
+abbrev Meaning : List ℕ → ℕ → ℕ → Type 0
+Meaning text line zero = ⊥
+Meaning text line (suc zero) = IsFirstError text line IsNoWord
+Meaning text line (suc (suc zero)) = EndsEarly text line IsInsideItem
+Meaning text line (suc (suc (suc zero))) = IsFirstError text line IsNoType
+Meaning text line (suc (suc (suc (suc zero)))) = IsFirstError text line IsNoOffset
+Meaning text line (suc (suc (suc (suc (suc zero))))) = EndsEarly text line IsTypeDue
+Meaning text line (suc (suc (suc (suc (suc (suc zero)))))) = IsFirstError text line IsBeyond
+Meaning text line (suc (suc (suc (suc (suc (suc (suc code))))))) = ⊥
+
+-- the same of two codes that are one
+meaning_of : (text : List ℕ) (line k code : ℕ) → k ≡ code → Meaning text line k → Meaning text line code
+meaning_of text line k code e m = subst (λ (c : ℕ). Meaning text line c) e m
 
 at_token : (text : List ℕ) (line : ℕ) (d : Stop) (Why : List ℕ → List ℕ → Type 0) (s : StopsAt FirstType (tokens_of text) d) → line_at text d.place ≡ line → Why s.words s.token.bytes → IsFirstError text line Why
 at_token text line d Why s e why = record {
@@ -203,30 +208,34 @@ at_token text line d Why s e why = record {
   why = why;
 }
 
-says_at : (text : List ℕ) (line code : ℕ) (d : Stop) (s : StopsAt FirstType (tokens_of text) d) → line_at text d.place ≡ line → d.code ≡ code → TokenCode s.next s.token.bytes d.code → Says text line code
-says_at text line code d s e c (inl t) = inl (t.0 ∙ c, at_token text line d IsNoWord s e t.1)
+says_at : (text : List ℕ) (line code : ℕ) (d : Stop) (s : StopsAt FirstType (tokens_of text) d) → line_at text d.place ≡ line → d.code ≡ code → TokenCode s.next s.token.bytes d.code → Meaning text line code
+says_at text line code d s e c (inl t) = meaning_of text line 1 code (t.0 ∙ c) (at_token text line d IsNoWord s e t.1)
 says_at text line code d s e c (inr t) =
     let has : HasWord s.token.bytes = (t.0, t.1) in
     elim (follow_code s.next t.0 d.code t.2) [
-      | inl p ↦ inr (inr (inl (p.0 ∙ c, at_token text line d IsNoType s e (has, is_type_due s.words s.next s.reached p.1))))
+      | inl p ↦ meaning_of text line 3 code (p.0 ∙ c) (at_token text line d IsNoType s e (has, is_type_due s.words s.next s.reached p.1))
       | inr p ↦
           elim p [
-            | inl q ↦ inr (inr (inr (inl (q.0 ∙ c, at_token text line d IsNoOffset s e (has, is_offset_due s.words q.1.0 q.1.1 (s.reached ∙ ap (λ (x : Expects). Ok x) q.1.2))))))
-            | inr q ↦ inr (inr (inr (inr (inr (q.0 ∙ c, at_token text line d IsBeyond s e (has, is_whole s.words (s.reached ∙ ap (λ (x : Expects). Ok x) q.1)))))))
+            | inl q ↦
+                let here = s.reached ∙ ap (λ (x : Expects). Ok x) q.1.2 in
+                meaning_of text line 4 code (q.0 ∙ c) (at_token text line d IsNoOffset s e (has, is_offset_due s.words q.1.0 q.1.1 here))
+            | inr q ↦
+                let here = s.reached ∙ ap (λ (x : Expects). Ok x) q.1 in
+                meaning_of text line 6 code (q.0 ∙ c) (at_token text line d IsBeyond s e (has, is_whole s.words here))
           ]
     ]
 
 at_end : (text : List ℕ) (line : ℕ) (d : Stop) (Why : List ℕ → Type 0) (s : EndsAt FirstType (length text) (tokens_of text) d) → line_at text d.place ≡ line → Why s.words → EndsEarly text line Why
 at_end text line d Why s e why = record { words = s.words; all = s.all; at = sym e ∙ ap (line_at text) s.place; why = why }
 
-says_end : (text : List ℕ) (line code : ℕ) (d : Stop) (s : EndsAt FirstType (length text) (tokens_of text) d) → line_at text d.place ≡ line → d.code ≡ code → EndCode s.next d.code → Says text line code
-says_end text line code d s e c (inl t) = inr (inl (t.0 ∙ c, at_end text line d IsInsideItem s e (is_inside s.words s.next s.reached t.1)))
-says_end text line code d s e c (inr t) = inr (inr (inr (inr (inl (t.0 ∙ c, at_end text line d IsTypeDue s e (is_type_due s.words s.next s.reached t.1))))))
+says_end : (text : List ℕ) (line code : ℕ) (d : Stop) (s : EndsAt FirstType (length text) (tokens_of text) d) → line_at text d.place ≡ line → d.code ≡ code → EndCode s.next d.code → Meaning text line code
+says_end text line code d s e c (inl t) = meaning_of text line 2 code (t.0 ∙ c) (at_end text line d IsInsideItem s e (is_inside s.words s.next s.reached t.1))
+says_end text line code d s e c (inr t) = meaning_of text line 5 code (t.0 ∙ c) (at_end text line d IsTypeDue s e (is_type_due s.words s.next s.reached t.1))
 
 abbrev no_module : Refusal → Result Module Refusal
 no_module r = Err r
 
-says_by : (text : List ℕ) (line code : ℕ) (r : Result Rest Stop) → rest_of FirstType (length text) (tokens_of text) ≡ r → module_or_refusal text r ≡ no_module (refusal line code) → Says text line code
+says_by : (text : List ℕ) (line code : ℕ) (r : Result Rest Stop) → rest_of FirstType (length text) (tokens_of text) ≡ r → module_or_refusal text r ≡ no_module (refusal line code) → Meaning text line code
 says_by text line code (Ok r) g h = cc h
 says_by text line code (Err d) g h =
     let same = Err-same {A = Module} (refusal (line_at text d.place) d.code) (refusal line code) h in
@@ -237,7 +246,7 @@ says_by text line code (Err d) g h =
       | inr s ↦ says_end text line code d s at with (finish_code s.next d.code s.refused)
     ]
 
-says : (text : List ℕ) (line code : ℕ) → module_of text ≡ Err (refusal line code) → Says text line code
+says : (text : List ℕ) (line code : ℕ) → module_of text ≡ Err (refusal line code) → Meaning text line code
 unfolding module_of
 says text line code h = says_by text line code (rest_of FirstType (length text) (tokens_of text)) refl h
 
@@ -343,97 +352,51 @@ type_ends Nothing h = absurd h
 
 -- ---- the codes
 
-says_one : (text : List ℕ) (line : ℕ) → Says text line 1 → IsFirstError text line IsNoWord
-says_one text line (inl p) = p.1
-says_one text line (inr (inl p)) = absurd (omega (arith, p.0))
-says_one text line (inr (inr (inl p))) = absurd (omega (arith, p.0))
-says_one text line (inr (inr (inr (inl p)))) = absurd (omega (arith, p.0))
-says_one text line (inr (inr (inr (inr (inl p))))) = absurd (omega (arith, p.0))
-says_one text line (inr (inr (inr (inr (inr p))))) = absurd (omega (arith, p.0))
-
-says_two : (text : List ℕ) (line : ℕ) → Says text line 2 → EndsEarly text line IsInsideItem
-says_two text line (inl p) = absurd (omega (arith, p.0))
-says_two text line (inr (inl p)) = p.1
-says_two text line (inr (inr (inl p))) = absurd (omega (arith, p.0))
-says_two text line (inr (inr (inr (inl p)))) = absurd (omega (arith, p.0))
-says_two text line (inr (inr (inr (inr (inl p))))) = absurd (omega (arith, p.0))
-says_two text line (inr (inr (inr (inr (inr p))))) = absurd (omega (arith, p.0))
-
-says_three : (text : List ℕ) (line : ℕ) → Says text line 3 → IsFirstError text line IsNoType
-says_three text line (inl p) = absurd (omega (arith, p.0))
-says_three text line (inr (inl p)) = absurd (omega (arith, p.0))
-says_three text line (inr (inr (inl p))) = p.1
-says_three text line (inr (inr (inr (inl p)))) = absurd (omega (arith, p.0))
-says_three text line (inr (inr (inr (inr (inl p))))) = absurd (omega (arith, p.0))
-says_three text line (inr (inr (inr (inr (inr p))))) = absurd (omega (arith, p.0))
-
-says_four : (text : List ℕ) (line : ℕ) → Says text line 4 → IsFirstError text line IsNoOffset
-says_four text line (inl p) = absurd (omega (arith, p.0))
-says_four text line (inr (inl p)) = absurd (omega (arith, p.0))
-says_four text line (inr (inr (inl p))) = absurd (omega (arith, p.0))
-says_four text line (inr (inr (inr (inl p)))) = p.1
-says_four text line (inr (inr (inr (inr (inl p))))) = absurd (omega (arith, p.0))
-says_four text line (inr (inr (inr (inr (inr p))))) = absurd (omega (arith, p.0))
-
-says_five : (text : List ℕ) (line : ℕ) → Says text line 5 → EndsEarly text line IsTypeDue
-says_five text line (inl p) = absurd (omega (arith, p.0))
-says_five text line (inr (inl p)) = absurd (omega (arith, p.0))
-says_five text line (inr (inr (inl p))) = absurd (omega (arith, p.0))
-says_five text line (inr (inr (inr (inl p)))) = absurd (omega (arith, p.0))
-says_five text line (inr (inr (inr (inr (inl p))))) = p.1
-says_five text line (inr (inr (inr (inr (inr p))))) = absurd (omega (arith, p.0))
-
-says_six : (text : List ℕ) (line : ℕ) → Says text line 6 → IsFirstError text line IsBeyond
-says_six text line (inl p) = absurd (omega (arith, p.0))
-says_six text line (inr (inl p)) = absurd (omega (arith, p.0))
-says_six text line (inr (inr (inl p))) = absurd (omega (arith, p.0))
-says_six text line (inr (inr (inr (inl p)))) = absurd (omega (arith, p.0))
-says_six text line (inr (inr (inr (inr (inl p))))) = absurd (omega (arith, p.0))
-says_six text line (inr (inr (inr (inr (inr p))))) = p.1
-
-says_some : (text : List ℕ) (line code : ℕ) → Says text line code → (1 ≤ code) × (code ≤ 6)
-says_some text line code (inl p) = (omega (arith, p.0), omega (arith, p.0))
-says_some text line code (inr (inl p)) = (omega (arith, p.0), omega (arith, p.0))
-says_some text line code (inr (inr (inl p))) = (omega (arith, p.0), omega (arith, p.0))
-says_some text line code (inr (inr (inr (inl p)))) = (omega (arith, p.0), omega (arith, p.0))
-says_some text line code (inr (inr (inr (inr (inl p))))) = (omega (arith, p.0), omega (arith, p.0))
-says_some text line code (inr (inr (inr (inr (inr p))))) = (omega (arith, p.0), omega (arith, p.0))
+bounds_of : (text : List ℕ) (line code : ℕ) → Meaning text line code → (1 ≤ code) × (code ≤ 6)
+bounds_of text line zero m = absurd m
+bounds_of text line (suc zero) m = (omega arith, omega arith)
+bounds_of text line (suc (suc zero)) m = (omega arith, omega arith)
+bounds_of text line (suc (suc (suc zero))) m = (omega arith, omega arith)
+bounds_of text line (suc (suc (suc (suc zero)))) m = (omega arith, omega arith)
+bounds_of text line (suc (suc (suc (suc (suc zero))))) m = (omega arith, omega arith)
+bounds_of text line (suc (suc (suc (suc (suc (suc zero)))))) m = (omega arith, omega arith)
+bounds_of text line (suc (suc (suc (suc (suc (suc (suc code))))))) m = absurd m
 
 pub code_bounds : (text : List ℕ) (line code : ℕ) → module_of text ≡ Err (refusal line code) → (1 ≤ code) × (code ≤ 6)
-code_bounds text line code h = says_some text line code (says text line code h)
+code_bounds text line code h = bounds_of text line code (says text line code h)
 
 pub no_word_law : (text : List ℕ) (line : ℕ) → (module_of text ≡ Err (refusal line 1)) ↔ IsFirstError text line IsNoWord
 no_word_law text line = (
-  λ h. says_one text line (says text line 1 h),
+  λ h. says text line 1 h,
   λ f. let r = begun_reaches f.words f.begun in error_again text line 1 IsNoWord f r.0 r.1 (no_word_refused r.0 f.token.bytes f.why),
 )
 
 pub inside_law : (text : List ℕ) (line : ℕ) → (module_of text ≡ Err (refusal line 2)) ↔ EndsEarly text line IsInsideItem
 inside_law text line = (
-  λ h. says_two text line (says text line 2 h),
+  λ h. says text line 2 h,
   λ f. let r = inside_part f.words f.why in end_again text line 2 IsInsideItem f r.next r.reached (part_ends r.next r.part),
 )
 
 pub no_type_law : (text : List ℕ) (line : ℕ) → (module_of text ≡ Err (refusal line 3)) ↔ IsFirstError text line IsNoType
 no_type_law text line = (
-  λ h. says_three text line (says text line 3 h),
+  λ h. says text line 3 h,
   λ f. let r = type_due f.words f.why.1 in code_again text line 3 IsNoType f f.why.0 r.next r.reached (λ k. type_only r.next k r.type),
 )
 
 pub no_offset_law : (text : List ℕ) (line : ℕ) → (module_of text ≡ Err (refusal line 4)) ↔ IsFirstError text line IsNoOffset
 no_offset_law text line = (
-  λ h. says_four text line (says text line 4 h),
+  λ h. says text line 4 h,
   λ f. let r = offset_due f.words f.why.1 in code_again text line 4 IsNoOffset f f.why.0 (Offset r.more r.size) r.reached (offset_only r.more r.size),
 )
 
 pub between_law : (text : List ℕ) (line : ℕ) → (module_of text ≡ Err (refusal line 5)) ↔ EndsEarly text line IsTypeDue
 between_law text line = (
-  λ h. says_five text line (says text line 5 h),
+  λ h. says text line 5 h,
   λ f. let r = type_due f.words f.why in end_again text line 5 IsTypeDue f r.next r.reached (type_ends r.next r.type),
 )
 
 pub beyond_law : (text : List ℕ) (line : ℕ) → (module_of text ≡ Err (refusal line 6)) ↔ IsFirstError text line IsBeyond
 beyond_law text line = (
-  λ h. says_six text line (says text line 6 h),
+  λ h. says text line 6 h,
   λ f. code_again text line 6 IsBeyond f f.why.0 Nothing (whole_reaches f.words f.why.1) nothing_only,
 )
