@@ -22,10 +22,6 @@ after e (w ∷ ws) = follow e w >>= λ next. after next ws
 abbrev refused : ℕ → Result Expects ℕ
 refused code = Err code
 
--- two results of one reading are one
-pub expects-unique : (r : Result Expects ℕ) (e f : Expects) → r ≡ Ok e → r ≡ Ok f → e ≡ f
-expects-unique r e f p q = Ok-same {E = ℕ} e f (sym p ∙ q)
-
 -- ---- words after words
 
 bind_after : (r : Result Expects ℕ) (a b : List ℕ) → ((e : Expects) → after e (a ++ b) ≡ (after e a >>= λ next. after next b))

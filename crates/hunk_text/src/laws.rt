@@ -1,11 +1,11 @@
 // Laws of modules and their texts.
-ghost use Rattle.std.specs.Prelude.{◌≡◌, ◌↔◌, ◌≤◌, ◌⊎◌, ℕ, List, [], ◌∷◌, Ok, Err, None};
+ghost use Rattle.std.specs.Prelude.{◌≡◌, ◌↔◌, ◌≤◌, ◌⊎◌, ℕ, List, [], ◌∷◌, Ok, None};
 ghost use Rattle.hunk_text.specs.FirstError.{BeginModule, EndsEarly, IsBegun, IsBeyond, IsFirstError, IsInsideItem, IsNoOffset, IsNoType, IsNoWord, IsOffsetDue, IsTypeDue};
 ghost use Rattle.hunk_text.specs.Tokens.{tokens_of};
 ghost use Rattle.hunk_text.specs.Places.{next_word};
 ghost use Rattle.hunk_text.specs.ReadingOn.{Reads, ReadsOn};
 ghost use Rattle.hunk_text.specs.ModuleForm.{AreWords, IsModule};
-ghost use Rattle.hunk_text.specs.ModuleReading.{module_of, refusal};
+ghost use Rattle.hunk_text.specs.ModuleReading.{IsRefused, module_of};
 ghost use Rattle.hunk_text.specs.Canonical.{HasWords, IsPrintable, printed};
 ghost use Rattle.hunk_text.specs.declared.modules.Module.{Module};
 
@@ -21,13 +21,17 @@ pub fn module_law()
 /// offset is due, and 3 where a type is. Code 2 comes exactly where the text ends inside an item, and 5 where it ends where
 /// an item could begin.
 pub fn refusal_law()
-    ensures no_word { (text : List ℕ) (line : ℕ) → (module_of text ≡ Err (refusal line 1)) ↔ IsFirstError text line IsNoWord }
-    ensures inside { (text : List ℕ) (line : ℕ) → (module_of text ≡ Err (refusal line 2)) ↔ EndsEarly text line IsInsideItem }
-    ensures no_type { (text : List ℕ) (line : ℕ) → (module_of text ≡ Err (refusal line 3)) ↔ IsFirstError text line IsNoType }
-    ensures no_offset { (text : List ℕ) (line : ℕ) → (module_of text ≡ Err (refusal line 4)) ↔ IsFirstError text line IsNoOffset }
-    ensures between { (text : List ℕ) (line : ℕ) → (module_of text ≡ Err (refusal line 5)) ↔ EndsEarly text line IsTypeDue }
-    ensures beyond { (text : List ℕ) (line : ℕ) → (module_of text ≡ Err (refusal line 6)) ↔ IsFirstError text line IsBeyond }
-    ensures codes { (text : List ℕ) (line code : ℕ) → module_of text ≡ Err (refusal line code) → (1 ≤ code) × (code ≤ 6) }
+    ensures no_word { (text : List ℕ) (n : ℕ) → IsRefused text n 1 ↔ IsFirstError text n IsNoWord }
+    ensures inside { (text : List ℕ) (n : ℕ) → IsRefused text n 2 ↔ EndsEarly text n IsInsideItem }
+    ensures no_type { (text : List ℕ) (n : ℕ) → IsRefused text n 3 ↔ IsFirstError text n IsNoType }
+    ensures no_offset {
+        (text : List ℕ) (n : ℕ) → IsRefused text n 4 ↔ IsFirstError text n IsNoOffset
+    }
+    ensures between { (text : List ℕ) (n : ℕ) → IsRefused text n 5 ↔ EndsEarly text n IsTypeDue }
+    ensures beyond { (text : List ℕ) (n : ℕ) → IsRefused text n 6 ↔ IsFirstError text n IsBeyond }
+    ensures codes {
+        (text : List ℕ) (n code : ℕ) → IsRefused text n code → (1 ≤ code) × (code ≤ 6)
+    }
 {}
 
 /// Words that begin a module's words are begun. Begun words begin a module's words, or an offset is due after them: into
@@ -46,6 +50,9 @@ pub fn printed_law()
 /// next word is the first of these, and the others are left from its end on; and where none is left, there is no next word.
 pub fn words_law()
     ensures all { (text words : List ℕ) → AreWords (tokens_of text) words → Reads text 0 words }
-    ensures next { (text words : List ℕ) (place word : ℕ) → Reads text place (word ∷ words) → ReadsOn text place word words }
+    ensures next {
+        (text words : List ℕ) (place word : ℕ) →
+        Reads text place (word ∷ words) → ReadsOn text place word words
+    }
     ensures none { (text : List ℕ) (place : ℕ) → Reads text place [] → next_word text place ≡ None }
 {}

@@ -7,7 +7,7 @@ ghost use Rattle.hunk_text.specs.Canonical.{IsPrintable};
 ghost use Rattle.hunk_text.specs.Grammar.{finish};
 ghost use Rattle.text_reader.specs.declared.ends.TextEnd.TheVariants.{WantMemory};
 ghost use Rattle.hunk_text.specs.Tokens.{line_at};
-ghost use Rattle.hunk_text.specs.ModuleReading.{Rest, hunk, module_of, put, read_token, rest, with_rest};
+ghost use Rattle.hunk_text.specs.ModuleReading.{Adds, Rest, hunk, module_of, put, read_token, rest};
 
 use crate::grammar::{Expects, finish};
 use crate::stepping::{Step, read_token};
@@ -56,7 +56,10 @@ fn step_or_refusal(text: &[u8], expects: Expects, token: Span) -> Result<Step, H
     requires short { length text.now < 2 ^ 32 - 1 }
     requires some { token.start < token.end }
     requires inside { token.end ≤ length text.now }
-    ensures { result ≡ or_bad (line_at text.now token.start) (read_token expects (bytes_in text.now token)) }
+    ensures {
+        let step = read_token expects (bytes_in text.now token) in
+        result ≡ or_bad (line_at text.now token.start) step
+    }
 {
     read_token(&SliceText::new(text), expects, token).map_err(|code| HunkEnd::Bad {
         line: line_at(text, token.start),
@@ -87,7 +90,7 @@ fn line_at(text: &[u8], place: u32) -> u32
 
 // Adds a word of which this was expected to the hunks: a length begins a hunk.
 fn put(alloc: Global, hunks: &mut Vec<Hunk>, expects: Expects, word: u32) -> Result<(), HunkEnd>
-    ensures added { OnOk result ((r : Rest) → with_rest hunks.new.items r ≡ with_rest hunks.old.items (put expects word r)) }
+    ensures added { OnOk result (Adds (put expects word) hunks.old.items hunks.new.items) }
     ensures memory { IfErr result (λ e. e ≡ WantMemory) }
 {
     match expects {
@@ -111,7 +114,10 @@ fn no_words(alloc: Global) -> Hunk
 
 // Adds a word to the last hunk.
 fn push_word(hunks: &mut Vec<Hunk>, word: u32) -> Result<(), HunkEnd>
-    ensures added { OnOk result ((r : Rest) → with_rest hunks.new.items r ≡ with_rest hunks.old.items (rest (word ∷ r.words) r.relocations r.hunks)) }
+    ensures added {
+        let with_word = λ (r : Rest). rest (word ∷ r.words) r.relocations r.hunks in
+        OnOk result (Adds with_word hunks.old.items hunks.new.items)
+    }
     ensures memory { IfErr result (λ e. e ≡ WantMemory) }
 {
     if let Some(hunk) = hunks.last_mut() {
@@ -122,7 +128,10 @@ fn push_word(hunks: &mut Vec<Hunk>, word: u32) -> Result<(), HunkEnd>
 
 // Adds a relocation to the last hunk.
 fn push_offset(hunks: &mut Vec<Hunk>, offset: u32) -> Result<(), HunkEnd>
-    ensures added { OnOk result ((r : Rest) → with_rest hunks.new.items r ≡ with_rest hunks.old.items (rest r.words (offset ∷ r.relocations) r.hunks)) }
+    ensures added {
+        let with_offset = λ (r : Rest). rest r.words (offset ∷ r.relocations) r.hunks in
+        OnOk result (Adds with_offset hunks.old.items hunks.new.items)
+    }
     ensures memory { IfErr result (λ e. e ≡ WantMemory) }
 {
     if let Some(hunk) = hunks.last_mut() {

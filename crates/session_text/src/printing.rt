@@ -23,7 +23,10 @@ pub fn print_session<K: Sink>(s: &Session, out: &mut K) -> Result<(), SinkFault>
 
 // Writes the first three lines.
 fn print_head<K: Sink>(version: u32, store: u32, out: &mut K) -> Result<(), SinkFault>
-    ensures text { Prints (K.holds out.old) (K.holds out.new) (text_of_lines (head_text version store)) result }
+    ensures text {
+        let text = text_of_lines (head_text version store) in
+        Prints (K.holds out.old) (K.holds out.new) text result
+    }
     ensures cause { HasCause (K.faults out.old) (K.faults out.new) result }
 {
     write_pieces(
@@ -40,7 +43,9 @@ fn print_head<K: Sink>(version: u32, store: u32, out: &mut K) -> Result<(), Sink
 
 // Writes the last line.
 fn print_go<K: Sink>(go: u64, out: &mut K) -> Result<(), SinkFault>
-    ensures text { Prints (K.holds out.old) (K.holds out.new) (text_of_lines (go_text go ∷ [])) result }
+    ensures text {
+        Prints (K.holds out.old) (K.holds out.new) (text_of_lines (go_text go ∷ [])) result
+    }
     ensures cause { HasCause (K.faults out.old) (K.faults out.new) result }
 {
     write_pieces(
@@ -52,7 +57,10 @@ fn print_go<K: Sink>(go: u64, out: &mut K) -> Result<(), SinkFault>
 // Writes the lines of code.
 fn print_lines<K: Sink>(lines: &[SessionLine], out: &mut K) -> Result<(), SinkFault>
     requires { AllByRecursion (λ line. IsCode line.form) lines.now }
-    ensures text { Prints (K.holds out.old) (K.holds out.new) (text_of_lines (code_text lines.now)) result }
+    ensures text {
+        let text = text_of_lines (code_text lines.now) in
+        Prints (K.holds out.old) (K.holds out.new) text result
+    }
     ensures cause { HasCause (K.faults out.old) (K.faults out.new) result }
 {
     for line in lines {
@@ -64,7 +72,9 @@ fn print_lines<K: Sink>(lines: &[SessionLine], out: &mut K) -> Result<(), SinkFa
 // Writes a line of code.
 fn print_form<K: Sink>(form: &LineForm, out: &mut K) -> Result<(), SinkFault>
     requires { IsCode form.now }
-    ensures text { Prints (K.holds out.old) (K.holds out.new) (form_text form.now ++ 10 ∷ []) result }
+    ensures text {
+        Prints (K.holds out.old) (K.holds out.new) (form_text form.now ++ 10 ∷ []) result
+    }
     ensures cause { HasCause (K.faults out.old) (K.faults out.new) result }
 {
     match form {
