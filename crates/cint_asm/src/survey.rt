@@ -10,7 +10,7 @@ ghost use Rattle.cint_asm.specs.Survey.{admitted, no_lines, survey, survey_line,
 ghost use Rattle.text_reader.specs.declared.ends.TextEnd.TheVariants.{Bad};
 
 use crate::places::{FIRST_OFFSET, MOST_WORDS, Place, end_of, hunk_size, pairs_of, place_of};
-use crate::reading::read_line;
+use crate::read::read_line;
 use crate::statements::{Line, Statement};
 use crate::tables::{define, look_up};
 use crate::{AsmEnd, LineError};

@@ -12,7 +12,7 @@ use Rattle.hunk_text.specs.Words.{IsWord, word_of}
 use Rattle.hunk_text.specs.declared.grammar.Expects.{Expects}
 use Rattle.hunk_text.specs.declared.grammar.Expects.TheVariants.{FirstType, NextType, Length, Word, Count, Offset, Nothing}
 use Rattle.hunk_text.specs.declared.modules.Module.{Module}
-use Rattle.hunk_text.specs.declared.stepping.Step.{Step}
+use Rattle.hunk_text.specs.declared.step.Step.{Step}
 use Rattle.hunk_text.proofs.Progress.{ExpectsPart, ExpectsType, after, after_none, after_one, begun_reaches, inside_part, is_begun, is_inside, is_offset_due, is_type_due, is_whole, offset_due, type_due, whole_reaches}
 use Rattle.hunk_text.proofs.Runs.{token_ok}
 

@@ -8,7 +8,7 @@ use Rattle.hunk_text.specs.Words.{word_of}
 use Rattle.hunk_text.specs.Grammar.{finish, follow}
 use Rattle.hunk_text.specs.declared.modules.Hunk.{Hunk}
 use Rattle.hunk_text.specs.declared.modules.Module.{Module}
-use Rattle.hunk_text.specs.declared.stepping.Step.{Step}
+use Rattle.hunk_text.specs.declared.step.Step.{Step}
 use Rattle.hunk_text.specs.declared.grammar.Expects.{Expects}
 use Rattle.hunk_text.specs.declared.grammar.Expects.TheVariants.{FirstType, NextType, Length, Word, Count, Offset, Nothing}
 
