@@ -56,10 +56,8 @@ pub fn survey(alloc: Global, text: &[u8]) -> Result<Surveyed<'_>, AsmEnd>
 fn survey_line<'a>(known: &mut Surveyed<'a>, n: u32, text: &'a [u8]) -> Result<(), AsmEnd>
     requires low { known.old.offset ≤ 262144 }
     requires few { known.old.pairs ≤ 65536 }
-    ensures value {
-        let layout = survey_line n (layout_of known.old) text.now in
-        Gives (λ _. layout_of known.new) result layout
-    }
+    ensures value { let layout = survey_line n (layout_of known.old) text.now in
+        Gives (λ _. layout_of known.new) result layout }
     ensures low { OnOk result (known.new.offset ≤ 262144) }
     ensures few { OnOk result (known.new.pairs ≤ 65536) }
 {

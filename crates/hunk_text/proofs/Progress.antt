@@ -55,7 +55,6 @@ after_none e f g a w code p q h =
     let none = rw q at one in
     cc none
 
-
 run_more : (e next : Expects) (w : ℕ) (ws : List ℕ) (q : Rest) → follow e w ≡ Ok next → run next ws ≡ Ok q → run e (w ∷ ws) ≡ Ok (put e w q)
 run_more e next w ws q f h = rw (f, h) refl
 

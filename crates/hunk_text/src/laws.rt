@@ -24,14 +24,11 @@ pub fn refusal_law()
     ensures no_word { (text : List ℕ) (n : ℕ) → IsRefused text n 1 ↔ IsFirstError text n IsNoWord }
     ensures inside { (text : List ℕ) (n : ℕ) → IsRefused text n 2 ↔ EndsEarly text n IsInsideItem }
     ensures no_type { (text : List ℕ) (n : ℕ) → IsRefused text n 3 ↔ IsFirstError text n IsNoType }
-    ensures no_offset {
-        (text : List ℕ) (n : ℕ) → IsRefused text n 4 ↔ IsFirstError text n IsNoOffset
-    }
+    ensures no_offset { (text : List ℕ) (n : ℕ) →
+        IsRefused text n 4 ↔ IsFirstError text n IsNoOffset }
     ensures between { (text : List ℕ) (n : ℕ) → IsRefused text n 5 ↔ EndsEarly text n IsTypeDue }
     ensures beyond { (text : List ℕ) (n : ℕ) → IsRefused text n 6 ↔ IsFirstError text n IsBeyond }
-    ensures codes {
-        (text : List ℕ) (n code : ℕ) → IsRefused text n code → (1 ≤ code) × (code ≤ 6)
-    }
+    ensures codes { (text : List ℕ) (n code : ℕ) → IsRefused text n code → (1 ≤ code) × (code ≤ 6) }
 {}
 
 /// Words that begin a module's words are begun. Begun words begin a module's words, or an offset is due after them: into
@@ -50,9 +47,7 @@ pub fn printed_law()
 /// next word is the first of these, and the others are left from its end on; and where none is left, there is no next word.
 pub fn words_law()
     ensures all { (text words : List ℕ) → AreWords (tokens_of text) words → Reads text 0 words }
-    ensures next {
-        (text words : List ℕ) (place word : ℕ) →
-        Reads text place (word ∷ words) → ReadsOn text place word words
-    }
+    ensures next { (text words : List ℕ) (place word : ℕ) →
+        Reads text place (word ∷ words) → ReadsOn text place word words }
     ensures none { (text : List ℕ) (place : ℕ) → Reads text place [] → next_word text place ≡ None }
 {}

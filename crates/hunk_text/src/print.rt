@@ -36,9 +36,8 @@ fn print_end<K: Sink>(out: &mut K) -> Result<(), SinkFault>
 // Writes the hunks.
 fn print_hunks<K: Sink>(hunks: &[Hunk], out: &mut K) -> Result<(), SinkFault>
     requires { AllByRecursion IsPrintableHunk hunks.now }
-    ensures text {
-        Prints (K.holds out.old) (K.holds out.new) (flat_map text_of_hunk hunks.now) result
-    }
+    ensures text { let text = flat_map text_of_hunk hunks.now in
+        Prints (K.holds out.old) (K.holds out.new) text result }
     ensures cause { HasCause (K.faults out.old) (K.faults out.new) result }
 {
     for hunk in hunks {
@@ -60,9 +59,8 @@ fn print_hunk<K: Sink>(hunk: &Hunk, out: &mut K) -> Result<(), SinkFault>
 // Writes all relocations of a hunk, if there are any.
 fn print_relocations<K: Sink>(offsets: &[u32], out: &mut K) -> Result<(), SinkFault>
     requires { length offsets.now < 2 ^ 32 }
-    ensures text {
-        Prints (K.holds out.old) (K.holds out.new) (relocations_text offsets.now) result
-    }
+    ensures text { let text = relocations_text offsets.now in
+        Prints (K.holds out.old) (K.holds out.new) text result }
     ensures cause { HasCause (K.faults out.old) (K.faults out.new) result }
 {
     if offsets.is_empty() {
@@ -99,10 +97,8 @@ fn print_head<K: Sink>(kind: u32, count: u32, out: &mut K) -> Result<(), SinkFau
 
 // Writes words, eight a line.
 fn print_words<K: Sink>(words: &[u32], out: &mut K) -> Result<(), SinkFault>
-    ensures text {
-        let text = words_text 0 (length words.now) words.now in
-        Prints (K.holds out.old) (K.holds out.new) text result
-    }
+    ensures text { let text = words_text 0 (length words.now) words.now in
+        Prints (K.holds out.old) (K.holds out.new) text result }
     ensures cause { HasCause (K.faults out.old) (K.faults out.new) result }
 {
     for (i, word) in words.iter().enumerate() {

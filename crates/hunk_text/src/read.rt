@@ -56,10 +56,8 @@ fn step_or_refusal(text: &[u8], expects: Expects, token: Span) -> Result<Step, H
     requires short { length text.now < 2 ^ 32 - 1 }
     requires some { token.start < token.end }
     requires inside { token.end ≤ length text.now }
-    ensures {
-        let step = read_token expects (bytes_in text.now token) in
-        result ≡ or_bad (line_at text.now token.start) step
-    }
+    ensures { let step = read_token expects (bytes_in text.now token) in
+        result ≡ or_bad (line_at text.now token.start) step }
 {
     read_token(&SliceText::new(text), expects, token).map_err(|code| HunkEnd::Bad {
         line: line_at(text, token.start),
@@ -114,10 +112,8 @@ fn no_words(alloc: Global) -> Hunk
 
 // Adds a word to the last hunk.
 fn push_word(hunks: &mut Vec<Hunk>, word: u32) -> Result<(), HunkEnd>
-    ensures added {
-        let with_word = λ (r : Rest). rest (word ∷ r.words) r.relocations r.hunks in
-        OnOk result (Adds with_word hunks.old.items hunks.new.items)
-    }
+    ensures added { let with_word = λ (r : Rest). rest (word ∷ r.words) r.relocations r.hunks in
+        OnOk result (Adds with_word hunks.old.items hunks.new.items) }
     ensures memory { IfErr result (λ e. e ≡ WantMemory) }
 {
     if let Some(hunk) = hunks.last_mut() {
@@ -128,10 +124,8 @@ fn push_word(hunks: &mut Vec<Hunk>, word: u32) -> Result<(), HunkEnd>
 
 // Adds a relocation to the last hunk.
 fn push_offset(hunks: &mut Vec<Hunk>, offset: u32) -> Result<(), HunkEnd>
-    ensures added {
-        let with_offset = λ (r : Rest). rest r.words (offset ∷ r.relocations) r.hunks in
-        OnOk result (Adds with_offset hunks.old.items hunks.new.items)
-    }
+    ensures added { let with_offset = λ (r : Rest). rest r.words (offset ∷ r.relocations) r.hunks in
+        OnOk result (Adds with_offset hunks.old.items hunks.new.items) }
     ensures memory { IfErr result (λ e. e ≡ WantMemory) }
 {
     if let Some(hunk) = hunks.last_mut() {

@@ -3,8 +3,7 @@ use crate::{NextWord, Shape, SliceText, check_module, next_word, print_module, r
 use std::test::Fail;
 use tp_io::MemorySink;
 
-const EXAMPLE: &[u8] =
-    b"000003e8 00000007\n\
+const EXAMPLE: &[u8] = b"000003e8 00000007\n\
 00000007 03a01360 0000007b 00000000 00000001 00000004 00000001\n000003ea\n";
 
 const TWO_HUNKS: &[u8] = b"000003e8 00000000\n000003e8 0000000a\n\
@@ -15,10 +14,7 @@ const TWO_HUNKS: &[u8] = b"000003e8 00000000\n000003e8 0000000a\n\
 fn reads_and_prints(rt: HostRuntime) -> Result<(), Fail> {
     let rows: [(&[u8], &[u8]); 4] = [
         (b"3ea", b"000003ea\n"),
-        (
-            b"3E8 1 Ab 3ea",
-            b"000003e8 00000001\n000000ab\n000003ea\n",
-        ),
+        (b"3E8 1 Ab 3ea", b"000003e8 00000001\n000000ab\n000003ea\n"),
         (b" 03e8\r\n\n7 7 3a01360 7B 0 1 4 1\n3ea\n", EXAMPLE),
         (
             b"3e8 0 3e9 0 3e8 a 1 2 3 4 5 6 7 8 9 ffffffff 3e9 1 9 3e9 2 0 0 3ea",
@@ -49,7 +45,10 @@ fn gives_lists_back(rt: HostRuntime) -> Result<(), Fail> {
 fn tells_the_shape(rt: HostRuntime) {
     let text = SliceText::new(b"3e8 2 0 0 3e9 1 1 3e8 0 3e8 1 0 3ea");
     assert_eq!(rt; check_module(&text), Ok(Shape { hunks: 3, words: 3 }));
-    assert_eq!(rt; check_module(&SliceText::new(b"3e8 1 0 3e9 1 1 3ea")), Err(4));
+    assert_eq!(rt;
+        check_module(&SliceText::new(b"3e8 1 0 3e9 1 1 3ea")),
+        Err(4)
+    );
 }
 
 #[test]

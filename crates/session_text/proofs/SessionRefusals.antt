@@ -227,19 +227,28 @@ wrong_third first second third d e =
     let wrong = bare_err third d e in
     let front = first ∷ second ∷ [] in
     elim wrong.1 [
-      | inl p ↦ inl (p.0, λ form may has. elim (third_form first second form may) [
-        | inl bare ↦ wrong.0 (rw bare at has)
-        | inr tick ↦ let h = rw tick at has in p.1 h.0 h.1
-      ])
+      | inl p ↦ inl (
+        p.0,
+        λ form may has. elim (third_form first second form may) [
+          | inl bare ↦ wrong.0 (rw bare at has)
+          | inr tick ↦ let h = rw tick at has in p.1 h.0 h.1
+        ],
+      )
       | inr p ↦
           elim p [
             | inl q ↦
                 let o = q.1 in
-                inr (inl (q.0, ((Tick, inr (refl, refl), (o.number, o.line_is)), λ c.
-                let same = number-unique (codes "TICK ") c.period o.number third c.number o.line_is in
-                let inside = c.in_range in
-                let outside = rw (← same) at o.outside in
-                cc (sym inside ∙ outside))))
+                inr (inl (
+                  q.0,
+                  (
+                    (Tick, inr (refl, refl), (o.number, o.line_is)),
+                    λ c.
+                        let same = number-unique (codes "TICK ") c.period o.number third c.number o.line_is in
+                        let inside = c.in_range in
+                        let outside = rw (← same) at o.outside in
+                        cc (sym inside ∙ outside),
+                  ),
+                ))
             | inr q ↦ inr (inr (q.0, record { third = refl; period = q.1.period; number = q.1.number; in_range = q.1.in_range }))
           ]
     ]

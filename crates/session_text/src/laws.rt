@@ -19,9 +19,8 @@ pub fn session_law()
 /// Code 3 comes exactly where all lines begin a session's text, and are none.
 pub fn refusal_law()
     ensures form { (text : List ℕ) (n : ℕ) → IsRefused text n 1 ↔ IsFirstError text n HasNoForm }
-    ensures range {
-        (text : List ℕ) (n : ℕ) → IsRefused text n 2 ↔ IsFirstError text n IsOutOfRange
-    }
+    ensures range { (text : List ℕ) (n : ℕ) →
+        IsRefused text n 2 ↔ IsFirstError text n IsOutOfRange }
     ensures end { (text : List ℕ) (n : ℕ) → IsRefused text n 3 ↔ EndsEarly text n }
     ensures clock { (text : List ℕ) (n : ℕ) → IsRefused text n 0 ↔ IsFirstError text n IsClockLine }
     ensures codes { (text : List ℕ) (n code : ℕ) → IsRefused text n code → code ≤ 3 }

@@ -23,10 +23,8 @@ pub fn print_session<K: Sink>(s: &Session, out: &mut K) -> Result<(), SinkFault>
 
 // Writes the first three lines.
 fn print_head<K: Sink>(version: u32, store: u32, out: &mut K) -> Result<(), SinkFault>
-    ensures text {
-        let text = text_of_lines (head_text version store) in
-        Prints (K.holds out.old) (K.holds out.new) text result
-    }
+    ensures text { let text = text_of_lines (head_text version store) in
+        Prints (K.holds out.old) (K.holds out.new) text result }
     ensures cause { HasCause (K.faults out.old) (K.faults out.new) result }
 {
     write_pieces(
@@ -43,9 +41,8 @@ fn print_head<K: Sink>(version: u32, store: u32, out: &mut K) -> Result<(), Sink
 
 // Writes the last line.
 fn print_go<K: Sink>(go: u64, out: &mut K) -> Result<(), SinkFault>
-    ensures text {
-        Prints (K.holds out.old) (K.holds out.new) (text_of_lines (go_text go ∷ [])) result
-    }
+    ensures text { let text = text_of_lines (go_text go ∷ []) in
+        Prints (K.holds out.old) (K.holds out.new) text result }
     ensures cause { HasCause (K.faults out.old) (K.faults out.new) result }
 {
     write_pieces(
@@ -57,10 +54,8 @@ fn print_go<K: Sink>(go: u64, out: &mut K) -> Result<(), SinkFault>
 // Writes the lines of code.
 fn print_lines<K: Sink>(lines: &[SessionLine], out: &mut K) -> Result<(), SinkFault>
     requires { AllByRecursion (λ line. IsCode line.form) lines.now }
-    ensures text {
-        let text = text_of_lines (code_text lines.now) in
-        Prints (K.holds out.old) (K.holds out.new) text result
-    }
+    ensures text { let text = text_of_lines (code_text lines.now) in
+        Prints (K.holds out.old) (K.holds out.new) text result }
     ensures cause { HasCause (K.faults out.old) (K.faults out.new) result }
 {
     for line in lines {
@@ -72,9 +67,8 @@ fn print_lines<K: Sink>(lines: &[SessionLine], out: &mut K) -> Result<(), SinkFa
 // Writes a line of code.
 fn print_form<K: Sink>(form: &LineForm, out: &mut K) -> Result<(), SinkFault>
     requires { IsCode form.now }
-    ensures text {
-        Prints (K.holds out.old) (K.holds out.new) (form_text form.now ++ 10 ∷ []) result
-    }
+    ensures text { let text = form_text form.now ++ 10 ∷ [] in
+        Prints (K.holds out.old) (K.holds out.new) text result }
     ensures cause { HasCause (K.faults out.old) (K.faults out.new) result }
 {
     match form {

@@ -69,9 +69,8 @@ fn body_lines(alloc: Global, text: &[u8]) -> Result<(Vec<SessionLine>, u64), Ses
 // The lines of code, the first of them line 4, and the text after them.
 fn code_lines(alloc: Global, text: &[u8]) -> Result<(Vec<SessionLine>, &[u8]), SessionEnd>
     requires { length text.now + 8 < 2 ^ 32 }
-    ensures value {
-        Gives (λ x. (x.0.items, lines_of x.1.now)) result (code_lines 4 (lines_of text.now))
-    }
+    ensures value { let code = code_lines 4 (lines_of text.now) in
+        Gives (λ x. (x.0.items, lines_of x.1.now)) result code }
     ensures shorter { IfOk result (λ x. length x.0.items + length x.1.now ≤ length text.now) }
 {
     let mut lines = Vec::new(alloc);
