@@ -21,10 +21,6 @@ use Rattle.cint_asm.proofs.SurveyLemmas.{Surveys, survey_ok}
 abbrev pub after_code : Code → Result Code Refusal → Result Code Refusal
 after_code front read = read >>= λ more. Ok (joined front more)
 
-pub after_no_code : (read : Result Code Refusal) → after_code no_code read ≡ read
-after_no_code (Ok code) = refl
-after_no_code (Err d) = refl
-
 joined_joined : (a b c : Code) → joined a (joined b c) ≡ joined (joined a b) c
 joined_joined a b c =
     let bytes : a.bytes ++ (b.bytes ++ c.bytes) ≡ (a.bytes ++ b.bytes) ++ c.bytes = sym (append_assoc a.bytes b.bytes c.bytes) in
@@ -42,10 +38,6 @@ pub encode_more : (front : Code) (n : ℕ) (table : Table) (offset : ℕ) (text 
 encode_more front n table offset text texts piece e =
     rw e (after_more front (code_of piece) (encode (n + 1) table (offset + length piece.bytes) texts))
 
-pub encode_stops : (front : Code) (n : ℕ) (table : Table) (offset : ℕ) (text : List ℕ) (texts : List (List ℕ)) (d : Refusal) → encode_line n table offset text ≡ Err d
-    → after_code front (encode n table offset (text ∷ texts)) ≡ Err d
-encode_stops front n table offset text texts d e = rw e refl
-
 pub encode_line_ok : (n : ℕ) (table : Table) (offset : ℕ) (text : List ℕ) (piece : Piece) → encode_line n table offset text ≡ Ok piece → (line : Line) × (line_of text ≡ Ok line) × (piece_of table offset line.statement ≡ Ok piece)
 encode_line_ok n table offset text piece e =
     let a = bind-ok (at_line n (line_of text)) (λ line. at_line n (piece_of table offset line.statement)) piece e in
@@ -57,10 +49,6 @@ pub record IsSurveyed (n offset : ℕ) (lines : List (List ℕ)) : Type 0 where
   pub last : Layout
   pub begins : layout.offset ≡ offset
   pub all : survey n layout lines ≡ Ok last
-
-pub surveyed_first : (layout : Layout) (n : ℕ) (lines : List (List ℕ)) (read : Result Layout Refusal) → survey n layout lines ≡ read → IsOk read → IsSurveyed n layout.offset lines
-surveyed_first layout n lines (Ok last) e ok = record { layout = layout; last = last; begins = refl; all = e }
-surveyed_first layout n lines (Err d) e ok = cc ok
 
 -- a hunk within its limit ends early
 pub low_end : (offset pairs : ℕ) → hunk_size offset pairs ≤ most_words → offset ≤ 262144

@@ -10,7 +10,7 @@ ghost use Rattle.cint_asm.specs.Survey.{admitted, no_lines, survey, survey_line,
 ghost use Rattle.text_reader.specs.declared.ends.TextEnd.TheVariants.{Bad};
 
 use crate::places::{FIRST_OFFSET, MOST_WORDS, Place, end_of, hunk_size, pairs_of, place_of};
-use crate::reading::read_line;
+use crate::read::read_line;
 use crate::statements::{Line, Statement};
 use crate::tables::{define, look_up};
 use crate::{AsmEnd, LineError};
@@ -56,7 +56,8 @@ pub fn survey(alloc: Global, text: &[u8]) -> Result<Surveyed<'_>, AsmEnd>
 fn survey_line<'a>(known: &mut Surveyed<'a>, n: u32, text: &'a [u8]) -> Result<(), AsmEnd>
     requires low { known.old.offset ≤ 262144 }
     requires few { known.old.pairs ≤ 65536 }
-    ensures value { Gives (λ _. layout_of known.new) result (survey_line n (layout_of known.old) text.now) }
+    ensures value { let layout = survey_line n (layout_of known.old) text.now in
+        Gives (λ _. layout_of known.new) result layout }
     ensures low { OnOk result (known.new.offset ≤ 262144) }
     ensures few { OnOk result (known.new.pairs ≤ 65536) }
 {

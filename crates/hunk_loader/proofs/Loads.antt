@@ -1,7 +1,7 @@
 -- A load, from its calls.
 use Rattle.std.proofs.Common.{◌≡◌, ◌∙◌, ℕ, ◌+◌, ◌∷◌, List, get_or, set, Ok, sym, ap, subst, arith}
 use Rattle.hunk_text.specs.Shapes.{check_of}
-use Rattle.hunk_text.specs.declared.checking.Shape.{Shape}
+use Rattle.hunk_text.specs.declared.check.Shape.{Shape}
 use Rattle.word_store.specs.Row.{with_words}
 use Rattle.getvec_chain.specs.Take.{IsTaken}
 use Rattle.getvec_chain.specs.Tiling.{IsTiled}

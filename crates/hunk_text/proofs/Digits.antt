@@ -23,10 +23,6 @@ pub digit_none : (text : List ℕ) (i end value : ℕ) → i < end → end ≤ l
 digit_none text i end value lt le e =
     rw (range_first text i end lt le) (number-none 16 value (get_or text i 0) (slice_range text (i + 1) end) e)
 
--- no more digits
-pub digits_end : (text : List ℕ) (i value : ℕ) → number_after_value 16 value (slice_range text i i) ≡ Some value
-digits_end text i value = let none : i - i ≡ 0 = omega arith in rw none refl
-
 -- a value of as many digits as were read has room for one more
 pub small_more : (value d i start end : ℕ) → value < 16 ^ (i - start) → d < 16 → start ≤ i → i < end → end - start ≤ 8 → (value * 16 + d < 2 ^ 32) × (value * 16 + d < 16 ^ (i + 1 - start))
 small_more value d i start end small digit from lt short =

@@ -1,19 +1,20 @@
--- Where the reading of a text stops.
-use Rattle.std.proofs.Common.{◌≡◌, ◌≢◌, ◌∙◌, ℕ, ◌≤◌, Bool, true, false, cond, ◌⊎◌, inl, inr, Option, Some, None, Result, Ok, Err, List, [], ◌∷◌, ◌++◌, length, refl, sym, ap, subst, arith, nat_eq, nat_lt}
+-- A text is refused exactly where and why it is by the rules.
+use Rattle.std.proofs.Common.{◌≡◌, ◌∙◌, ℕ, zero, suc, ◌≤◌, ◌==◌, ◌⊎◌, ◌↔◌, inl, inr, cond, Option, Some, None, Result, Ok, Err, List, [], ◌∷◌, ◌++◌, length, refl, sym, ap, subst, arith, nat_lt}
 use Rattle.std.specs.Option.{ok_or}
-use Rattle.hunk_text.specs.Tokens.{Token, line_at, tokens_of}
-use Rattle.hunk_text.specs.Words.{IsWord, word_of}
-use Rattle.hunk_text.specs.FirstError.{EndsEarly, IsFirstError}
+use Rattle.text_reader.proofs.NumberLemmas.{number_in-again, number_in-ok}
+use Rattle.text_reader.proofs.StepLemmas.{Err-same, Ok-same, bind-ok, cond-cases}
+use Rattle.hunk_text.specs.FirstError.{EndsEarly, HasWord, IsBegun, IsBeyond, IsFirstError, IsInsideItem, IsNoOffset, IsNoType, IsNoWord, IsOffsetDue, IsTypeDue, IsWhole}
 use Rattle.hunk_text.specs.Grammar.{finish, first_type, follow, offsets_or_type}
 use Rattle.hunk_text.specs.ModuleForm.{AreWords, end_word, hunk_type, relocation_type}
 use Rattle.hunk_text.specs.ModuleReading.{Refusal, Rest, Stop, ◌>>=◌, module_of, module_or_refusal, or_stop, put, read_token, refusal, rest, rest_of, stop}
-use Rattle.hunk_text.specs.declared.modules.Module.{Module}
-use Rattle.hunk_text.specs.declared.stepping.Step.{Step}
+use Rattle.hunk_text.specs.Tokens.{Token, line_at, tokens_of}
+use Rattle.hunk_text.specs.Words.{IsWord, word_of}
 use Rattle.hunk_text.specs.declared.grammar.Expects.{Expects}
 use Rattle.hunk_text.specs.declared.grammar.Expects.TheVariants.{FirstType, NextType, Length, Word, Count, Offset, Nothing}
-use Rattle.text_reader.proofs.NumberLemmas.{number_in-again, number_in-ok}
+use Rattle.hunk_text.specs.declared.modules.Module.{Module}
+use Rattle.hunk_text.specs.declared.step.Step.{Step}
+use Rattle.hunk_text.proofs.Progress.{ExpectsPart, ExpectsType, after, after_none, after_one, begun_reaches, inside_part, is_begun, is_inside, is_offset_due, is_type_due, is_whole, offset_due, type_due, whole_reaches}
 use Rattle.hunk_text.proofs.Runs.{token_ok}
-use Rattle.hunk_text.proofs.Reached.{after, may_begin, none_begins}
 
 -- the reading stops at a token that cannot follow
 pub record StopsAt (e : Expects) (ts : List Token) (d : Stop) : Type 0 where
@@ -37,16 +38,13 @@ pub record EndsAt (e : Expects) (end : ℕ) (ts : List Token) (d : Stop) : Type 
   pub refused : finish next ≡ Err d.code
   pub place : d.place ≡ end
 
-abbrev failed : Stop → Result Rest Stop
-failed d = Err d
+abbrev stopped : Stop → Result Rest Stop
+stopped d = Err d
 
-stop_is : (d k : Stop) → failed d ≡ failed k → d ≡ k
-stop_is d k e = cc
-
-end_by : (e : Expects) (end : ℕ) (d : Stop) (f : Result Unit ℕ) → finish e ≡ f → (or_stop end f >>= λ u. Ok (rest [] [] [])) ≡ failed d → EndsAt e end [] d
+end_by : (e : Expects) (end : ℕ) (d : Stop) (f : Result Unit ℕ) → finish e ≡ f → (or_stop end f >>= λ u. Ok (rest [] [] [])) ≡ stopped d → EndsAt e end [] d
 end_by e end d (Ok u) g h = cc h
 end_by e end d (Err code) g h =
-    let same = stop_is (stop end code) d h in
+    let same = Err-same {A = Rest} (stop end code) d h in
     let P : Stop → Type 0 = λ x. EndsAt e end [] x in
     subst P same (record { words = []; next = e; all = tt; reached = refl; refused = g; place = refl })
 
@@ -75,171 +73,330 @@ more_stop : (e : Expects) (end : ℕ) (t : Token) (ts : List Token) (s : Step) (
 more_stop e end t ts s d r (inl h) = inl (more_at e t ts s d r h)
 more_stop e end t ts s d r (inr h) = inr (more_end e end t ts s d r h)
 
-rest_err : (e : Expects) (w : ℕ) (r : Result Rest Stop) (d : Stop) → (r >>= λ q. Ok (put e w q)) ≡ failed d → r ≡ failed d
+rest_err : (e : Expects) (w : ℕ) (r : Result Rest Stop) (d : Stop) → (r >>= λ q. Ok (put e w q)) ≡ stopped d → r ≡ stopped d
 rest_err e w (Ok q) d h = cc h
 rest_err e w (Err k) d h = h
 
 token_by : (e : Expects) (end : ℕ) (t : Token) (ts : List Token) (d : Stop) (f : Result Step ℕ) → read_token e t.bytes ≡ f
-    → ((s : Step) → rest_of s.next end ts ≡ failed d → StopsAt s.next ts d ⊎ EndsAt s.next end ts d)
-    → (or_stop t.place f >>= λ s. rest_of s.next end ts >>= λ q. Ok (put e s.word q)) ≡ failed d → StopsAt e (t ∷ ts) d ⊎ EndsAt e end (t ∷ ts) d
+    → ((s : Step) → rest_of s.next end ts ≡ stopped d → StopsAt s.next ts d ⊎ EndsAt s.next end ts d)
+    → (or_stop t.place f >>= λ s. rest_of s.next end ts >>= λ q. Ok (put e s.word q)) ≡ stopped d → StopsAt e (t ∷ ts) d ⊎ EndsAt e end (t ∷ ts) d
 token_by e end t ts d (Ok s) g next h = more_stop e end t ts s d g (next s (rest_err e s.word (rest_of s.next end ts) d h))
 token_by e end t ts d (Err code) g next h =
-    let same = stop_is (stop t.place code) d h in
+    let same = Err-same {A = Rest} (stop t.place code) d h in
     let P : Stop → Type 0 = λ x. StopsAt e (t ∷ ts) x in
     inl (subst P same (record { front = []; token = t; behind = ts; words = []; next = e; all = refl; before = tt; reached = refl; refused = g; place = refl }))
 
-stops : (e : Expects) (end : ℕ) (ts : List Token) (d : Stop) → rest_of e end ts ≡ failed d → StopsAt e ts d ⊎ EndsAt e end ts d
+stops : (e : Expects) (end : ℕ) (ts : List Token) (d : Stop) → rest_of e end ts ≡ stopped d → StopsAt e ts d ⊎ EndsAt e end ts d
 stops e end [] d h = inr (end_by e end d (finish e) refl h)
 stops e end (t ∷ ts) d h = token_by e end t ts d (read_token e t.bytes) refl (λ s k. stops s.next end ts d k) h
 
--- ---- codes
-
-abbrev IsTokenCode : ℕ → Type 0
-IsTokenCode code = (1 ≤ code) × (code ≤ 6) × (code ≢ 2) × (code ≢ 5)
+-- ---- why a word or an end is refused
 
 abbrev refused_word : ℕ → Result Expects ℕ
 refused_word code = Err code
 
-code_is : (a b : ℕ) → refused_word a ≡ refused_word b → a ≡ b
-code_is a b e = cc
+-- an offset is expected
+abbrev ExpectsOffset : Expects → Type 0
+ExpectsOffset e = (more n : ℕ) × (e ≡ Offset more n)
 
-code_in : (a b : ℕ) → IsTokenCode a → refused_word a ≡ refused_word b → IsTokenCode b
-code_in a b h e = subst (λ (x : ℕ). IsTokenCode x) (code_is a b e) h
+-- a refused word has code 3 where a type is expected, 4 where an offset is, and 6 where nothing is
+abbrev WordCode : Expects → ℕ → Type 0
+WordCode e code = ((3 ≡ code) × ExpectsType e) ⊎ (((4 ≡ code) × ExpectsOffset e) ⊎ ((6 ≡ code) × (e ≡ Nothing)))
 
-three : IsTokenCode 3
-three = (omega arith, omega arith, λ e. absurd (omega arith), λ e. absurd (omega arith))
+first_code : (w code : ℕ) → first_type w ≡ refused_word code → 3 ≡ code
+first_code w code h =
+    elim (cond-cases (w == hunk_type) (Ok Length) (cond (w == end_word) (Ok Nothing) (refused_word 3)) (refused_word code) h) [
+      | inl p ↦ cc p.1
+      | inr p ↦
+          elim (cond-cases (w == end_word) (Ok Nothing) (refused_word 3) (refused_word code) p.1) [
+            | inl q ↦ cc q.1
+            | inr q ↦ Err-same {A = Expects} 3 code q.1
+          ]
+    ]
 
-four : IsTokenCode 4
-four = (omega arith, omega arith, λ e. absurd (omega arith), λ e. absurd (omega arith))
-
-six : IsTokenCode 6
-six = (omega arith, omega arith, λ e. absurd (omega arith), λ e. absurd (omega arith))
-
-one : IsTokenCode 1
-one = (omega arith, omega arith, λ e. absurd (omega arith), λ e. absurd (omega arith))
-
-first_by : (code : ℕ) (a b : Bool) → cond a (Ok Length) (cond b (Ok Nothing) (refused_word 3)) ≡ refused_word code → IsTokenCode code
-first_by code true b e = cc e
-first_by code false true e = cc e
-first_by code false false e = code_in 3 code three e
-
-first_code : (w code : ℕ) → first_type w ≡ refused_word code → IsTokenCode code
-first_code w code e = first_by code (nat_eq w hunk_type) (nat_eq w end_word) e
-
-type_by : (n w code : ℕ) (a : Bool) → cond a (Ok (Count n)) (first_type w) ≡ refused_word code → IsTokenCode code
-type_by n w code true e = cc e
-type_by n w code false e = first_code w code e
-
-offset_by : (more n code : ℕ) (a : Bool) → cond a (Ok (offsets_or_type more n)) (refused_word 4) ≡ refused_word code → IsTokenCode code
-offset_by more n code true e = cc e
-offset_by more n code false e = code_in 4 code four e
-
-follow_code : (e : Expects) (w code : ℕ) → follow e w ≡ refused_word code → IsTokenCode code
-follow_code FirstType w code h = first_code w code h
-follow_code (NextType n) w code h = type_by n w code (nat_eq w relocation_type) h
+follow_code : (e : Expects) (w code : ℕ) → follow e w ≡ refused_word code → WordCode e code
+follow_code FirstType w code h = inl (first_code w code h, tt)
+follow_code (NextType n) w code h =
+    elim (cond-cases (w == relocation_type) (Ok (Count n)) (first_type w) (refused_word code) h) [
+      | inl p ↦ cc p.1
+      | inr p ↦ inl (first_code w code p.1, tt)
+    ]
 follow_code Length w code h = cc h
 follow_code (Word more n) w code h = cc h
 follow_code (Count n) w code h = cc h
-follow_code (Offset more n) w code h = offset_by more n code (nat_lt w n) h
-follow_code Nothing w code h = code_in 6 code six h
+follow_code (Offset more n) w code h =
+    elim (cond-cases (nat_lt w n) (Ok (offsets_or_type more n)) (refused_word 4) (refused_word code) h) [
+      | inl p ↦ cc p.1
+      | inr p ↦ inr (inl (Err-same {A = Expects} 4 code p.1, (more, n, refl)))
+    ]
+follow_code Nothing w code h = inr (inr (Err-same {A = Expects} 6 code h, refl))
 
-finish_code : (e : Expects) (code : ℕ) → finish e ≡ Err code → (code ≡ 2) ⊎ (code ≡ 5)
-finish_code FirstType code h = inr cc
-finish_code (NextType n) code h = inr cc
-finish_code Length code h = inl cc
-finish_code (Word more n) code h = inl cc
-finish_code (Count n) code h = inl cc
-finish_code (Offset more n) code h = inl cc
+abbrev no_end : ℕ → Result (Unit {0}) ℕ
+no_end code = Err code
+
+-- an end has code 2 inside an item, and 5 where a type is expected
+abbrev EndCode : Expects → ℕ → Type 0
+EndCode e code = ((2 ≡ code) × ExpectsPart e) ⊎ ((5 ≡ code) × ExpectsType e)
+
+finish_code : (e : Expects) (code : ℕ) → finish e ≡ no_end code → EndCode e code
+finish_code FirstType code h = inr (Err-same {A = Unit {0}} 5 code h, tt)
+finish_code (NextType n) code h = inr (Err-same {A = Unit {0}} 5 code h, tt)
+finish_code Length code h = inl (Err-same {A = Unit {0}} 2 code h, tt)
+finish_code (Word more n) code h = inl (Err-same {A = Unit {0}} 2 code h, tt)
+finish_code (Count n) code h = inl (Err-same {A = Unit {0}} 2 code h, tt)
+finish_code (Offset more n) code h = inl (Err-same {A = Unit {0}} 2 code h, tt)
 finish_code Nothing code h = cc h
 
-abbrev stepping : ℕ → Result Expects ℕ → Result Step ℕ
-stepping w f = f >>= λ next. Ok (record { word = w; next = next })
+abbrev with_next : ℕ → Result Expects ℕ → Result Step ℕ
+with_next w f = f >>= λ next. Ok (record { word = w; next = next })
 
 abbrev no_step : ℕ → Result Step ℕ
 no_step code = Err code
 
-step_err : (w code : ℕ) (f : Result Expects ℕ) → stepping w f ≡ no_step code → f ≡ refused_word code
+step_err : (w code : ℕ) (f : Result Expects ℕ) → with_next w f ≡ no_step code → f ≡ refused_word code
 step_err w code (Ok x) h = cc h
-step_err w code (Err k) h = cc
+step_err w code (Err k) h = ap refused_word (Err-same {A = Step} k code h)
 
-read_code_by : (e : Expects) (code : ℕ) (o : Option ℕ) → (ok_or o 1 >>= λ w. stepping w (follow e w)) ≡ no_step code → IsTokenCode code
-read_code_by e code (Some w) h = follow_code e w code (step_err w code (follow e w) h)
-read_code_by e code None h = code_in 1 code one cc
+-- a refused token is no word, with code 1, or a word that cannot follow
+abbrev TokenCode : Expects → List ℕ → ℕ → Type 0
+TokenCode e bytes code = ((1 ≡ code) × ¬ HasWord bytes) ⊎ ((w : ℕ) × IsWord bytes w × (follow e w ≡ refused_word code))
 
-read_code : (e : Expects) (bytes : List ℕ) (code : ℕ) → read_token e bytes ≡ Err code → IsTokenCode code
-read_code e bytes code h = read_code_by e code (word_of bytes) h
+no_word : (bytes : List ℕ) → word_of bytes ≡ None → ¬ HasWord bytes
+no_word bytes e h = cc (sym e ∙ number_in-again 16 8 bytes h.0 h.1)
+
+token_code_by : (e : Expects) (bytes : List ℕ) (code : ℕ) (o : Option ℕ) → word_of bytes ≡ o → (ok_or o 1 >>= λ w. with_next w (follow e w)) ≡ no_step code → TokenCode e bytes code
+token_code_by e bytes code (Some w) g h = inr (w, number_in-ok 16 8 bytes w g, step_err w code (follow e w) h)
+token_code_by e bytes code None g h = inl (Err-same {A = Step} 1 code h, no_word bytes g)
+
+token_code : (e : Expects) (bytes : List ℕ) (code : ℕ) → read_token e bytes ≡ no_step code → TokenCode e bytes code
+token_code e bytes code h = token_code_by e bytes code (word_of bytes) refl h
 
 -- a word that is refused as a token is refused
-word_refused : (e : Expects) (bytes : List ℕ) (w code : ℕ) → IsWord bytes w → read_token e bytes ≡ Err code → follow e w ≡ Err code
+word_refused : (e : Expects) (bytes : List ℕ) (w code : ℕ) → IsWord bytes w → read_token e bytes ≡ no_step code → follow e w ≡ refused_word code
 word_refused e bytes w code is h = step_err w code (follow e w) (rw (number_in-again 16 8 bytes w is) at h)
 
--- ---- texts
+-- ---- what a refusal says
 
-at_token : (text : List ℕ) (line code : ℕ) (d : Stop) → StopsAt FirstType (tokens_of text) d → refusal (line_at text d.place) d.code ≡ refusal line code → IsFirstError text line
-at_token text line code d s e = record {
+-- what a code says of a text
+abbrev Meaning : List ℕ → ℕ → ℕ → Type 0
+Meaning text line zero = ⊥
+Meaning text line (suc zero) = IsFirstError text line IsNoWord
+Meaning text line (suc (suc zero)) = EndsEarly text line IsInsideItem
+Meaning text line (suc (suc (suc zero))) = IsFirstError text line IsNoType
+Meaning text line (suc (suc (suc (suc zero)))) = IsFirstError text line IsNoOffset
+Meaning text line (suc (suc (suc (suc (suc zero))))) = EndsEarly text line IsTypeDue
+Meaning text line (suc (suc (suc (suc (suc (suc zero)))))) = IsFirstError text line IsBeyond
+Meaning text line (suc (suc (suc (suc (suc (suc (suc code))))))) = ⊥
+
+-- the same of two codes that are one
+meaning_of : (text : List ℕ) (line k code : ℕ) → k ≡ code → Meaning text line k → Meaning text line code
+meaning_of text line k code e m = subst (λ (c : ℕ). Meaning text line c) e m
+
+at_token : (text : List ℕ) (line : ℕ) (d : Stop) (Why : List ℕ → List ℕ → Type 0) (s : StopsAt FirstType (tokens_of text) d) → line_at text d.place ≡ line → Why s.words s.token.bytes → IsFirstError text line Why
+at_token text line d Why s e why = record {
   front = s.front;
   token = s.token;
   after = s.behind;
   words = s.words;
   all = s.all;
-  at = sym (ap (λ (r : Refusal). r.line) e) ∙ ap (line_at text) s.place;
+  at = sym e ∙ ap (line_at text) s.place;
   before = s.before;
-  begins = may_begin s.words s.next s.reached;
-  up_to = λ w is. none_begins s.words s.next w d.code s.reached (word_refused s.next s.token.bytes w d.code is s.refused);
+  begun = is_begun s.words s.next s.reached;
+  up_to = λ w is b.
+      let r = begun_reaches (s.words ++ w ∷ []) b in
+      after_none FirstType s.next r.0 s.words w d.code s.reached (word_refused s.next s.token.bytes w d.code is s.refused) r.1;
+  why = why;
 }
 
-at_end : (text : List ℕ) (line code : ℕ) (d : Stop) → EndsAt FirstType (length text) (tokens_of text) d → refusal (line_at text d.place) d.code ≡ refusal line code → EndsEarly text line
-at_end text line code d s e = record {
-  words = s.words;
-  all = s.all;
-  at = sym (ap (λ (r : Refusal). r.line) e) ∙ ap (line_at text) s.place;
-  begins = may_begin s.words s.next s.reached;
-}
+says_at : (text : List ℕ) (line code : ℕ) (d : Stop) (s : StopsAt FirstType (tokens_of text) d) → line_at text d.place ≡ line → d.code ≡ code → TokenCode s.next s.token.bytes d.code → Meaning text line code
+says_at text line code d s e c (inl t) = meaning_of text line 1 code (t.0 ∙ c) (at_token text line d IsNoWord s e t.1)
+says_at text line code d s e c (inr t) =
+    let has : HasWord s.token.bytes = (t.0, t.1) in
+    elim (follow_code s.next t.0 d.code t.2) [
+      | inl p ↦ meaning_of text line 3 code (p.0 ∙ c) (at_token text line d IsNoType s e (has, is_type_due s.words s.next s.reached p.1))
+      | inr p ↦
+          elim p [
+            | inl q ↦
+                let here = s.reached ∙ ap (λ (x : Expects). Ok x) q.1.2 in
+                meaning_of text line 4 code (q.0 ∙ c) (at_token text line d IsNoOffset s e (has, is_offset_due s.words q.1.0 q.1.1 here))
+            | inr q ↦
+                let here = s.reached ∙ ap (λ (x : Expects). Ok x) q.1 in
+                meaning_of text line 6 code (q.0 ∙ c) (at_token text line d IsBeyond s e (has, is_whole s.words here))
+          ]
+    ]
 
-abbrev Ends : List ℕ → ℕ → ℕ → Type 0
-Ends text line code = (IsTokenCode code × IsFirstError text line) ⊎ (((code ≡ 2) ⊎ (code ≡ 5)) × EndsEarly text line)
+at_end : (text : List ℕ) (line : ℕ) (d : Stop) (Why : List ℕ → Type 0) (s : EndsAt FirstType (length text) (tokens_of text) d) → line_at text d.place ≡ line → Why s.words → EndsEarly text line Why
+at_end text line d Why s e why = record { words = s.words; all = s.all; at = sym e ∙ ap (line_at text) s.place; why = why }
 
-ends_by : (text : List ℕ) (line code : ℕ) (d : Stop) → refusal (line_at text d.place) d.code ≡ refusal line code
-    → StopsAt FirstType (tokens_of text) d ⊎ EndsAt FirstType (length text) (tokens_of text) d → Ends text line code
-ends_by text line code d e (inl s) =
-    let same : d.code ≡ code = ap (λ (r : Refusal). r.code) e in
-    inl (subst (λ (x : ℕ). IsTokenCode x) same (read_code s.next s.token.bytes d.code s.refused), at_token text line code d s e)
-ends_by text line code d e (inr s) =
-    let same : d.code ≡ code = ap (λ (r : Refusal). r.code) e in
-    inr (subst (λ (x : ℕ). (x ≡ 2) ⊎ (x ≡ 5)) same (finish_code s.next d.code s.refused), at_end text line code d s e)
+says_end : (text : List ℕ) (line code : ℕ) (d : Stop) (s : EndsAt FirstType (length text) (tokens_of text) d) → line_at text d.place ≡ line → d.code ≡ code → EndCode s.next d.code → Meaning text line code
+says_end text line code d s e c (inl t) = meaning_of text line 2 code (t.0 ∙ c) (at_end text line d IsInsideItem s e (is_inside s.words s.next s.reached t.1))
+says_end text line code d s e c (inr t) = meaning_of text line 5 code (t.0 ∙ c) (at_end text line d IsTypeDue s e (is_type_due s.words s.next s.reached t.1))
 
 abbrev no_module : Refusal → Result Module Refusal
 no_module r = Err r
 
-refusal_is : (a b : Refusal) → no_module a ≡ no_module b → a ≡ b
-refusal_is a b e = cc
+says_by : (text : List ℕ) (line code : ℕ) (r : Result Rest Stop) → rest_of FirstType (length text) (tokens_of text) ≡ r → module_or_refusal text r ≡ no_module (refusal line code) → Meaning text line code
+says_by text line code (Ok r) g h = cc h
+says_by text line code (Err d) g h =
+    let same = Err-same {A = Module} (refusal (line_at text d.place) d.code) (refusal line code) h in
+    let at = ap (λ (r : Refusal). r.line) same in
+    let with = ap (λ (r : Refusal). r.code) same in
+    elim (stops FirstType (length text) (tokens_of text) d g) [
+      | inl s ↦ says_at text line code d s at with (token_code s.next s.token.bytes d.code s.refused)
+      | inr s ↦ says_end text line code d s at with (finish_code s.next d.code s.refused)
+    ]
 
-refused_by : (text : List ℕ) (line code : ℕ) (r : Result Rest Stop) → rest_of FirstType (length text) (tokens_of text) ≡ r → module_or_refusal text r ≡ no_module (refusal line code) → Ends text line code
-refused_by text line code (Ok r) g h = cc h
-refused_by text line code (Err d) g h = ends_by text line code d (refusal_is (refusal (line_at text d.place) d.code) (refusal line code) h) (stops FirstType (length text) (tokens_of text) d g)
-
-ends : (text : List ℕ) (line code : ℕ) → module_of text ≡ Err (refusal line code) → Ends text line code
+says : (text : List ℕ) (line code : ℕ) → module_of text ≡ Err (refusal line code) → Meaning text line code
 unfolding module_of
-ends text line code h = refused_by text line code (rest_of FirstType (length text) (tokens_of text)) refl h
+says text line code h = says_by text line code (rest_of FirstType (length text) (tokens_of text)) refl h
 
-error_of : (text : List ℕ) (line code : ℕ) → code ≢ 2 → code ≢ 5 → Ends text line code → IsFirstError text line
-error_of text line code no_two no_five (inl h) = h.1
-error_of text line code no_two no_five (inr h) = elim h.0 [ inl e ↦ absurd (no_two e) | inr e ↦ absurd (no_five e) ]
+-- ---- and back
 
-early_of : (text : List ℕ) (line code : ℕ) → (code ≡ 2) ⊎ (code ≡ 5) → Ends text line code → EndsEarly text line
-early_of text line code (inl e) (inl h) = absurd (h.0.2 e)
-early_of text line code (inr e) (inl h) = absurd (h.0.3 e)
-early_of text line code k (inr h) = h.1
+rest_more : (e : Expects) (end : ℕ) (t : Token) (ts : List Token) (w : ℕ) (next : Expects) (d : Stop) → word_of t.bytes ≡ Some w → follow e w ≡ Ok next → rest_of next end ts ≡ stopped d → rest_of e end (t ∷ ts) ≡ stopped d
+rest_more e end t ts w next d a b h = rw (a, b, h) refl
 
-codes_of : (text : List ℕ) (line code : ℕ) → Ends text line code → (1 ≤ code) × (code ≤ 6)
-codes_of text line code (inl h) = (h.0.0, h.0.1)
-codes_of text line code (inr h) = elim h.0 [ inl e ↦ (omega arith, omega arith) | inr e ↦ (omega arith, omega arith) ]
+-- a reading that stops at a token
+rest_stops : (e : Expects) (end : ℕ) (front : List Token) (t : Token) (behind : List Token) (words : List ℕ) (next : Expects) (code : ℕ) → AreWords front words → after e words ≡ Ok next → read_token next t.bytes ≡ Err code
+    → rest_of e end (front ++ t ∷ behind) ≡ stopped (stop t.place code)
+rest_stops e end [] t behind [] next code h a r =
+    let here = subst (λ (x : Expects). read_token x t.bytes ≡ no_step code) (sym (Ok-same {E = ℕ} e next a)) r in
+    rw here refl
+rest_stops e end [] t behind (w ∷ ws) next code h a r = absurd h
+rest_stops e end (f ∷ fs) t behind [] next code h a r = absurd h
+rest_stops e end (f ∷ fs) t behind (w ∷ ws) next code h a r =
+    let s = bind-ok (follow e w) (λ x. after x ws) next a in
+    rest_more e end f (fs ++ t ∷ behind) w s.0 (stop t.place code) (number_in-again 16 8 f.bytes w h.0) s.1 (rest_stops s.0 end fs t behind ws next code h.1 s.2 r)
 
-pub error : (text : List ℕ) (line code : ℕ) → code ≢ 2 → code ≢ 5 → module_of text ≡ Err (refusal line code) → IsFirstError text line
-error text line code no_two no_five h = error_of text line code no_two no_five (ends text line code h)
+-- a reading that ends early
+rest_ends : (e : Expects) (end : ℕ) (ts : List Token) (words : List ℕ) (next : Expects) (code : ℕ) → AreWords ts words → after e words ≡ Ok next → finish next ≡ Err code → rest_of e end ts ≡ stopped (stop end code)
+rest_ends e end [] [] next code h a r =
+    let here = subst (λ (x : Expects). finish x ≡ no_end code) (sym (Ok-same {E = ℕ} e next a)) r in
+    rw here refl
+rest_ends e end [] (w ∷ ws) next code h a r = absurd h
+rest_ends e end (t ∷ ts) [] next code h a r = absurd h
+rest_ends e end (t ∷ ts) (w ∷ ws) next code h a r =
+    let s = bind-ok (follow e w) (λ x. after x ws) next a in
+    rest_more e end t ts w s.0 (stop end code) (number_in-again 16 8 t.bytes w h.0) s.1 (rest_ends s.0 end ts ws next code h.1 s.2 r)
 
-pub early : (text : List ℕ) (line code : ℕ) → (code ≡ 2) ⊎ (code ≡ 5) → module_of text ≡ Err (refusal line code) → EndsEarly text line
-early text line code k h = early_of text line code k (ends text line code h)
+stopped_module : (text : List ℕ) (place line code : ℕ) → line ≡ line_at text place → rest_of FirstType (length text) (tokens_of text) ≡ stopped (stop place code) → module_of text ≡ Err (refusal line code)
+unfolding module_of
+stopped_module text place line code e h = rw h (ap (λ (k : ℕ). Err (refusal k code)) (sym e))
+
+-- a text whose first token in error is refused with a code
+error_again : (text : List ℕ) (line code : ℕ) (Why : List ℕ → List ℕ → Type 0) (f : IsFirstError text line Why) (next : Expects) → after FirstType f.words ≡ Ok next → read_token next f.token.bytes ≡ Err code
+    → module_of text ≡ Err (refusal line code)
+error_again text line code Why f next a r =
+    stopped_module text f.token.place line code f.at
+    (ap (rest_of FirstType (length text)) f.all ∙ rest_stops FirstType (length text) f.front f.token f.after f.words next code f.before a r)
+
+end_again : (text : List ℕ) (line code : ℕ) (Why : List ℕ → Type 0) (f : EndsEarly text line Why) (next : Expects) → after FirstType f.words ≡ Ok next → finish next ≡ Err code → module_of text ≡ Err (refusal line code)
+end_again text line code Why f next a r =
+    stopped_module text (length text) line code f.at (rest_ends FirstType (length text) (tokens_of text) f.words next code f.all a r)
+
+none_word : (bytes : List ℕ) (o : Option ℕ) → word_of bytes ≡ o → ¬ HasWord bytes → word_of bytes ≡ None
+none_word bytes None e h = e
+none_word bytes (Some w) e h = absurd (h (w, number_in-ok 16 8 bytes w e))
+
+-- a token that is no word is refused with code 1
+no_word_refused : (e : Expects) (bytes : List ℕ) → ¬ HasWord bytes → read_token e bytes ≡ no_step 1
+no_word_refused e bytes h = rw (none_word bytes (word_of bytes) refl h) refl
+
+refused_step : (e : Expects) (bytes : List ℕ) (w code : ℕ) → IsWord bytes w → follow e w ≡ refused_word code → read_token e bytes ≡ no_step code
+refused_step e bytes w code is h = rw (number_in-again 16 8 bytes w is, h) refl
+
+-- the word of a token in error is refused, with some code
+followed_by : (text : List ℕ) (line : ℕ) (Why : List ℕ → List ℕ → Type 0) (f : IsFirstError text line Why) (w : ℕ) → IsWord f.token.bytes w → (next : Expects) → after FirstType f.words ≡ Ok next
+    → (r : Result Expects ℕ) → follow next w ≡ r → (code : ℕ) × (follow next w ≡ refused_word code)
+followed_by text line Why f w is next a (Err code) e = (code, e)
+followed_by text line Why f w is next a (Ok then_next) e = absurd (f.up_to w is (is_begun (f.words ++ w ∷ []) then_next (after_one FirstType next then_next f.words w a e)))
+
+code_again : (text : List ℕ) (line code : ℕ) (Why : List ℕ → List ℕ → Type 0) (f : IsFirstError text line Why) → HasWord f.token.bytes → (next : Expects) → after FirstType f.words ≡ Ok next
+    → ((k : ℕ) → WordCode next k → code ≡ k) → module_of text ≡ Err (refusal line code)
+code_again text line code Why f has next a only =
+    let r = followed_by text line Why f has.0 has.1 next a (follow next has.0) refl in
+    let same = only r.0 (follow_code next has.0 r.0 r.1) in
+    error_again text line code Why f next a (refused_step next f.token.bytes has.0 code has.1 (r.1 ∙ ap refused_word (sym same)))
+
+type_only : (e : Expects) (k : ℕ) → ExpectsType e → WordCode e k → 3 ≡ k
+type_only e k t (inl p) = p.0
+type_only e k t (inr (inl p)) = absurd (rw p.1.2 at t)
+type_only e k t (inr (inr p)) = absurd (rw p.1 at t)
+
+offset_only : (more n k : ℕ) → WordCode (Offset more n) k → 4 ≡ k
+offset_only more n k (inl p) = absurd p.1
+offset_only more n k (inr (inl p)) = p.0
+offset_only more n k (inr (inr p)) = cc p.1
+
+nothing_only : (k : ℕ) → WordCode Nothing k → 6 ≡ k
+nothing_only k (inl p) = absurd p.1
+nothing_only k (inr (inl p)) = cc p.1.2
+nothing_only k (inr (inr p)) = p.0
+
+part_ends : (e : Expects) → ExpectsPart e → finish e ≡ no_end 2
+part_ends FirstType h = absurd h
+part_ends (NextType n) h = absurd h
+part_ends Length h = refl
+part_ends (Word more n) h = refl
+part_ends (Count n) h = refl
+part_ends (Offset more n) h = refl
+part_ends Nothing h = absurd h
+
+type_ends : (e : Expects) → ExpectsType e → finish e ≡ no_end 5
+type_ends FirstType h = refl
+type_ends (NextType n) h = refl
+type_ends Length h = absurd h
+type_ends (Word more n) h = absurd h
+type_ends (Count n) h = absurd h
+type_ends (Offset more n) h = absurd h
+type_ends Nothing h = absurd h
+
+-- ---- the codes
+
+bounds_of : (text : List ℕ) (line code : ℕ) → Meaning text line code → (1 ≤ code) × (code ≤ 6)
+bounds_of text line zero m = absurd m
+bounds_of text line (suc zero) m = (omega arith, omega arith)
+bounds_of text line (suc (suc zero)) m = (omega arith, omega arith)
+bounds_of text line (suc (suc (suc zero))) m = (omega arith, omega arith)
+bounds_of text line (suc (suc (suc (suc zero)))) m = (omega arith, omega arith)
+bounds_of text line (suc (suc (suc (suc (suc zero))))) m = (omega arith, omega arith)
+bounds_of text line (suc (suc (suc (suc (suc (suc zero)))))) m = (omega arith, omega arith)
+bounds_of text line (suc (suc (suc (suc (suc (suc (suc code))))))) m = absurd m
 
 pub code_bounds : (text : List ℕ) (line code : ℕ) → module_of text ≡ Err (refusal line code) → (1 ≤ code) × (code ≤ 6)
-code_bounds text line code h = codes_of text line code (ends text line code h)
+code_bounds text line code h = bounds_of text line code (says text line code h)
+
+pub no_word_law : (text : List ℕ) (line : ℕ) → (module_of text ≡ Err (refusal line 1)) ↔ IsFirstError text line IsNoWord
+no_word_law text line = (
+  λ h. says text line 1 h,
+  λ f. let r = begun_reaches f.words f.begun in error_again text line 1 IsNoWord f r.0 r.1 (no_word_refused r.0 f.token.bytes f.why),
+)
+
+pub inside_law : (text : List ℕ) (line : ℕ) → (module_of text ≡ Err (refusal line 2)) ↔ EndsEarly text line IsInsideItem
+inside_law text line = (
+  λ h. says text line 2 h,
+  λ f. let r = inside_part f.words f.why in end_again text line 2 IsInsideItem f r.next r.reached (part_ends r.next r.part),
+)
+
+pub no_type_law : (text : List ℕ) (line : ℕ) → (module_of text ≡ Err (refusal line 3)) ↔ IsFirstError text line IsNoType
+no_type_law text line = (
+  λ h. says text line 3 h,
+  λ f. let r = type_due f.words f.why.1 in code_again text line 3 IsNoType f f.why.0 r.next r.reached (λ k. type_only r.next k r.type),
+)
+
+pub no_offset_law : (text : List ℕ) (line : ℕ) → (module_of text ≡ Err (refusal line 4)) ↔ IsFirstError text line IsNoOffset
+no_offset_law text line = (
+  λ h. says text line 4 h,
+  λ f. let r = offset_due f.words f.why.1 in code_again text line 4 IsNoOffset f f.why.0 (Offset r.more r.size) r.reached (offset_only r.more r.size),
+)
+
+pub between_law : (text : List ℕ) (line : ℕ) → (module_of text ≡ Err (refusal line 5)) ↔ EndsEarly text line IsTypeDue
+between_law text line = (
+  λ h. says text line 5 h,
+  λ f. let r = type_due f.words f.why in end_again text line 5 IsTypeDue f r.next r.reached (type_ends r.next r.type),
+)
+
+pub beyond_law : (text : List ℕ) (line : ℕ) → (module_of text ≡ Err (refusal line 6)) ↔ IsFirstError text line IsBeyond
+beyond_law text line = (
+  λ h. says text line 6 h,
+  λ f. code_again text line 6 IsBeyond f f.why.0 Nothing (whole_reaches f.words f.why.1) nothing_only,
+)

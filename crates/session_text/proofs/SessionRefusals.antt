@@ -142,10 +142,6 @@ before_store version second = store_line version second.0 >>= λ store. Ok (vers
 abbrev before_second : List (List ℕ) → ℕ → Result (ℕ × ℕ × List (List ℕ)) Refusal
 before_second rest version = first_line 2 rest >>= before_store version
 
--- the head, once its first line is there
-abbrev before_version : List ℕ × List (List ℕ) → Result (ℕ × ℕ × List (List ℕ)) Refusal
-before_version first = version_line first.0 >>= before_second first.1
-
 -- the session, once its body is read
 abbrev before_session : ℕ × ℕ × List (List ℕ) → List SessionLine × ℕ → Result Session Refusal
 before_session head body = Ok (bare_session head.0 head.1 body.0 body.1)
@@ -231,90 +227,100 @@ wrong_third first second third d e =
     let wrong = bare_err third d e in
     let front = first ∷ second ∷ [] in
     elim wrong.1 [
-      | inl p ↦ inl (p.0, λ form may has. elim (third_form first second form may) [
-        | inl bare ↦ wrong.0 (rw bare at has)
-        | inr tick ↦ let h = rw tick at has in p.1 h.0 h.1
-      ])
+      | inl p ↦ inl (
+        p.0,
+        λ form may has. elim (third_form first second form may) [
+          | inl bare ↦ wrong.0 (rw bare at has)
+          | inr tick ↦ let h = rw tick at has in p.1 h.0 h.1
+        ],
+      )
       | inr p ↦
           elim p [
             | inl q ↦
                 let o = q.1 in
-                inr (inl (q.0, ((Tick, inr (refl, refl), (o.number, o.line_is)), λ c.
-                let same = number-unique (codes "TICK ") c.period o.number third c.number o.line_is in
-                let inside = c.in_range in
-                let outside = rw (← same) at o.outside in
-                cc (sym inside ∙ outside))))
+                inr (inl (
+                  q.0,
+                  (
+                    (Tick, inr (refl, refl), (o.number, o.line_is)),
+                    λ c.
+                        let same = number-unique (codes "TICK ") c.period o.number third c.number o.line_is in
+                        let inside = c.in_range in
+                        let outside = rw (← same) at o.outside in
+                        cc (sym inside ∙ outside),
+                  ),
+                ))
             | inr q ↦ inr (inr (q.0, record { third = refl; period = q.1.period; number = q.1.number; in_range = q.1.in_range }))
           ]
     ]
 
--- a third line that is refused
-stops_at_third : (first second third : List ℕ) (version store : ℕ) (rest : List (List ℕ)) (d : Refusal) → IsLawfulHead version store first second → bare_line third ≡ Err d
-    → Stops (first ∷ second ∷ third ∷ rest) d
-unfolding session_lines
-stops_at_third first second third version store rest d h e = record {
-  front = first ∷ second ∷ [];
-  line = third;
-  after = rest;
-  all = refl;
-  before = begin_with_head version store first second h;
-  stays = λ more. rw (head_again (first ∷ second ∷ third ∷ more) version store (third ∷ more) (head_of version store first second (third ∷ more) h), e) refl;
-  why = wrong_third first second third d e;
-}
+-- after lawful first lines
+module _ (first second : List ℕ) (version store : ℕ) (h : IsLawfulHead version store first second) where
+  -- a third line that is refused
+  stops_at_third : (third : List ℕ) (rest : List (List ℕ)) (d : Refusal) → bare_line third ≡ Err d → Stops (first ∷ second ∷ third ∷ rest) d
+  unfolding session_lines
+  stops_at_third third rest d e = record {
+    front = first ∷ second ∷ [];
+    line = third;
+    after = rest;
+    all = refl;
+    before = begin_with_head version store first second h;
+    stays = λ more. rw (head_again (first ∷ second ∷ third ∷ more) version store (third ∷ more) (head_of version store first second (third ∷ more) h), e) refl;
+    why = wrong_third first second third d e;
+  }
 
--- why a line of the body is refused
-wrong_in_body : (first second : List ℕ) (version store : ℕ) (front : List (List ℕ)) (line : List ℕ) (d : Refusal) → IsLawfulHead version store first second → IsWrongInBody front line d
-    → IsRefusedLine (first ∷ second ∷ codes "BARE" ∷ front) line d
-wrong_in_body first second version store front line d h (inl p) =
-    inl (refusal-at (length (first ∷ second ∷ codes "BARE" ∷ front) + 1) (4 + length front) 1 d (omega arith) p.0, λ form may has. p.1 form (body_form first second (codes "BARE") front form may) has)
-wrong_in_body first second version store front line d h (inr p) =
-    let may = p.1.1 in
-    let begins = begin_text (first ∷ second ∷ codes "BARE" ∷ (front ++ may.0 ∷ [])) (begin_with_body version store first second (front ++ may.0 ∷ []) h may.2) in
-    inr (inl (
-      refusal-at (length (first ∷ second ∷ codes "BARE" ∷ front) + 1) (4 + length front) 2 d (omega arith) p.0,
-      ((p.1.0, inl (may.0, may.1, begins), p.1.2), no_clock (first ∷ second ∷ codes "BARE" ∷ front) line (λ two. absurd (omega (arith, two)))),
-    ))
+  -- why a line of the body is refused
+  wrong_in_body : (front : List (List ℕ)) (line : List ℕ) (d : Refusal) → IsWrongInBody front line d
+      → IsRefusedLine (first ∷ second ∷ codes "BARE" ∷ front) line d
+  wrong_in_body front line d (inl p) =
+      inl (refusal-at (length (first ∷ second ∷ codes "BARE" ∷ front) + 1) (4 + length front) 1 d (omega arith) p.0, λ form may has. p.1 form (body_form first second (codes "BARE") front form may) has)
+  wrong_in_body front line d (inr p) =
+      let may = p.1.1 in
+      let begins = begin_text (first ∷ second ∷ codes "BARE" ∷ (front ++ may.0 ∷ [])) (begin_with_body version store first second (front ++ may.0 ∷ []) h may.2) in
+      inr (inl (
+        refusal-at (length (first ∷ second ∷ codes "BARE" ∷ front) + 1) (4 + length front) 2 d (omega arith) p.0,
+        ((p.1.0, inl (may.0, may.1, begins), p.1.2), no_clock (first ∷ second ∷ codes "BARE" ∷ front) line (λ two. absurd (omega (arith, two)))),
+      ))
 
--- a line of the body that is refused
-stops_in_body : (first second : List ℕ) (version store : ℕ) (body : List (List ℕ)) (d : Refusal) → IsLawfulHead version store first second → StopsAt body_lines BeginBody IsWrongInBody body d
-    → Stops (first ∷ second ∷ codes "BARE" ∷ body) d
-unfolding session_lines
-stops_in_body first second version store body d h s = record {
-  front = first ∷ second ∷ codes "BARE" ∷ s.front;
-  line = s.line;
-  after = s.after;
-  all = ap (λ (ls : List (List ℕ)). first ∷ second ∷ codes "BARE" ∷ ls) s.all;
-  before = begin_with_body version store first second s.front h s.before;
-  stays = λ more. let rest = codes "BARE" ∷ (s.front ++ s.line ∷ more) in
-      rw (head_again (first ∷ second ∷ rest) version store rest (head_of version store first second rest h), s.stays more) refl;
-  why = wrong_in_body first second version store s.front s.line d h s.why;
-}
+  -- a line of the body that is refused
+  stops_in_body : (body : List (List ℕ)) (d : Refusal) → StopsAt body_lines BeginBody IsWrongInBody body d
+      → Stops (first ∷ second ∷ codes "BARE" ∷ body) d
+  unfolding session_lines
+  stops_in_body body d s = record {
+    front = first ∷ second ∷ codes "BARE" ∷ s.front;
+    line = s.line;
+    after = s.after;
+    all = ap (λ (ls : List (List ℕ)). first ∷ second ∷ codes "BARE" ∷ ls) s.all;
+    before = begin_with_body version store first second s.front h s.before;
+    stays = λ more. let rest = codes "BARE" ∷ (s.front ++ s.line ∷ more) in
+        rw (head_again (first ∷ second ∷ rest) version store rest (head_of version store first second rest h), s.stays more) refl;
+    why = wrong_in_body s.front s.line d s.why;
+  }
 
--- a body that is refused
-body_or_end : (first second : List ℕ) (version store : ℕ) (body : List (List ℕ)) (d : Refusal) → IsLawfulHead version store first second → body_lines body ≡ Err d
-    → StopsOrEnds (first ∷ second ∷ codes "BARE" ∷ body) d
-body_or_end first second version store body d h e =
-    elim (body_err body d e) [
-      | inl s ↦ inl (stops_in_body first second version store body d h s)
-      | inr s ↦ inr (record {
-        refused = refusal-at (1 + length (first ∷ second ∷ codes "BARE" ∷ body)) (4 + length body) 3 d (omega arith) s.refused;
-        before = begin_with_body version store first second body h s.before;
-      })
-    ]
+  -- a body that is refused
+  body_or_end : (body : List (List ℕ)) (d : Refusal) → body_lines body ≡ Err d
+      → StopsOrEnds (first ∷ second ∷ codes "BARE" ∷ body) d
+  body_or_end body d e =
+      elim (body_err body d e) [
+        | inl s ↦ inl (stops_in_body body d s)
+        | inr s ↦ inr (record {
+          refused = refusal-at (1 + length (first ∷ second ∷ codes "BARE" ∷ body)) (4 + length body) 3 d (omega arith) s.refused;
+          before = begin_with_body version store first second body h s.before;
+        })
+      ]
 
--- lines that are refused after lawful first lines
-after_head : (first second : List ℕ) (version store : ℕ) (rest : List (List ℕ)) (d : Refusal) → IsLawfulHead version store first second → before_third (version, store, rest) ≡ Err d → StopsOrEnds (first ∷ second ∷ rest) d
-after_head first second version store [] d h e =
-    inr (ends (first ∷ second ∷ []) 3 d refl (Err-same {A = Session} (refusal 3 3) d e) (begin_with_head version store first second h))
-after_head first second version store (third ∷ rest) d h e =
-    elim (bind-err (bare_line third) (before_body (version, store, third ∷ rest) rest) d e) [
-      | inl p ↦ inl (stops_at_third first second third version store rest d h p)
-      | inr p ↦
-          elim (bind-err (body_lines rest) (before_session (version, store, third ∷ rest)) d p.2) [
-            | inl q ↦ subst (λ (l : List ℕ). StopsOrEnds (first ∷ second ∷ l ∷ rest) d) (sym (bare_ok third p.0 p.1)) (body_or_end first second version store rest d h q)
-            | inr q ↦ cc q.2
-          ]
-    ]
+  -- lines that are refused after lawful first lines
+  after_head : (rest : List (List ℕ)) (d : Refusal) → before_third (version, store, rest) ≡ Err d → StopsOrEnds (first ∷ second ∷ rest) d
+  after_head [] d e =
+      inr (ends (first ∷ second ∷ []) 3 d refl (Err-same {A = Session} (refusal 3 3) d e) (begin_with_head version store first second h))
+  after_head (third ∷ rest) d e =
+      elim (bind-err (bare_line third) (before_body (version, store, third ∷ rest) rest) d e) [
+        | inl p ↦ inl (stops_at_third third rest d p)
+        | inr p ↦
+            elim (bind-err (body_lines rest) (before_session (version, store, third ∷ rest)) d p.2) [
+              | inl q ↦ subst (λ (l : List ℕ). StopsOrEnds (first ∷ second ∷ l ∷ rest) d) (sym (bare_ok third p.0 p.1)) (body_or_end rest d q)
+              | inr q ↦ cc q.2
+            ]
+      ]
 
 -- lines that are refused after a lawful version line
 after_version : (first : List ℕ) (version : ℕ) (rest : List (List ℕ)) (d : Refusal) → version_line first ≡ Ok version → before_second rest version ≡ Err d → StopsOrEnds (first ∷ rest) d
@@ -339,7 +345,7 @@ after_first first rest d e =
 after_good_head : (lines : List (List ℕ)) (head : ℕ × ℕ × List (List ℕ)) (d : Refusal) → HasHead lines head.0 head.1 head.2 → before_third head ≡ Err d → StopsOrEnds lines d
 after_good_head lines head d h e =
     let lawful : IsLawfulHead head.0 head.1 h.first h.second = record { version_line = h.version_line; store_line = h.store_line; store_size = h.store_size } in
-    subst (λ (ls : List (List ℕ)). StopsOrEnds ls d) (sym h.all) (after_head h.first h.second head.0 head.1 head.2 d lawful e)
+    subst (λ (ls : List (List ℕ)). StopsOrEnds ls d) (sym h.all) (after_head h.first h.second head.0 head.1 lawful head.2 d e)
 
 -- lines that are refused
 pub session_err : (lines : List (List ℕ)) (d : Refusal) → session_lines lines ≡ Err d → StopsAt session_lines BeginLines IsRefusedLine lines d ⊎ EndsAt BeginLines 1 lines d

@@ -1,5 +1,5 @@
 -- A text is refused exactly where and why it is by the rules.
-use Rattle.std.proofs.Common.{◌≡◌, ◌≢◌, ◌∙◌, ℕ, ◌≤◌, ◌+◌, ◌⊎◌, ◌↔◌, inl, inr, Result, Ok, Err, List, [], ◌∷◌, ◌++◌, length, refl, sym, ap, subst, arith, append_assoc}
+use Rattle.std.proofs.Common.{◌≡◌, ◌≢◌, ◌∙◌, ℕ, zero, suc, ◌≤◌, ◌+◌, ◌⊎◌, ◌↔◌, inl, inr, Result, Ok, Err, List, [], ◌∷◌, ◌++◌, length, refl, sym, ap, subst, arith, append_assoc}
 use Rattle.text_reader.specs.Lines.{lines_of}
 use Rattle.text_reader.specs.Refusal.{Refusal, refusal}
 use Rattle.text_reader.proofs.StepLemmas.{Err-same}
@@ -49,41 +49,50 @@ line_of-same : (m n code k : ℕ) → refusal m code ≡ refusal n k → (m ≡ 
 line_of-same m n code k e = (ap (λ (r : Refusal). r.line) e, ap (λ (r : Refusal). r.code) e)
 
 -- what a code says of a text
-abbrev Says : List ℕ → ℕ → ℕ → Type 0
-Says text n code =
-    ((code ≡ 1) × IsFirstError text n HasNoForm)
-    ⊎ (((code ≡ 2) × IsFirstError text n IsOutOfRange) ⊎ (((code ≡ 0) × IsFirstError text n IsClockLine) ⊎ ((code ≡ 3) × EndsEarly text n)))
+abbrev Meaning : List ℕ → ℕ → ℕ → Type 0
+Meaning text n zero = IsFirstError text n IsClockLine
+Meaning text n (suc zero) = IsFirstError text n HasNoForm
+Meaning text n (suc (suc zero)) = IsFirstError text n IsOutOfRange
+Meaning text n (suc (suc (suc zero))) = EndsEarly text n
+Meaning text n (suc (suc (suc (suc code)))) = ⊥
 
-says_at : (text : List ℕ) (n code : ℕ) (s : StopsAt session_lines BeginLines IsRefusedLine (lines_of text) (refusal n code)) → IsRefusedLine s.front s.line (refusal n code) → Says text n code
+-- the same of two codes that are one
+meaning_of : (text : List ℕ) (n k code : ℕ) → k ≡ code → Meaning text n k → Meaning text n code
+meaning_of text n k code e m = subst (λ (c : ℕ). Meaning text n c) e m
+
+says_at : (text : List ℕ) (n code : ℕ) (s : StopsAt session_lines BeginLines IsRefusedLine (lines_of text) (refusal n code)) → IsRefusedLine s.front s.line (refusal n code) → Meaning text n code
 says_at text n code s (inl w) =
     let e = line_of-same (length s.front + 1) n 1 code w.0 in
-    inl (sym e.1, first_error text n (refusal n code) HasNoForm s (sym e.0) w.1)
+    meaning_of text n 1 code e.1 (first_error text n (refusal n code) HasNoForm s (sym e.0) w.1)
 says_at text n code s (inr (inl w)) =
     let e = line_of-same (length s.front + 1) n 2 code w.0 in
-    inr (inl (sym e.1, first_error text n (refusal n code) IsOutOfRange s (sym e.0) w.1))
+    meaning_of text n 2 code e.1 (first_error text n (refusal n code) IsOutOfRange s (sym e.0) w.1)
 says_at text n code s (inr (inr w)) =
     let e = line_of-same (length s.front + 1) n 0 code w.0 in
-    inr (inr (inl (sym e.1, first_error text n (refusal n code) IsClockLine s (sym e.0) w.1)))
+    meaning_of text n 0 code e.1 (first_error text n (refusal n code) IsClockLine s (sym e.0) w.1)
 
-says : (text : List ℕ) (n code : ℕ) → session_of text ≡ Err (refusal n code) → Says text n code
+says : (text : List ℕ) (n code : ℕ) → session_of text ≡ Err (refusal n code) → Meaning text n code
 says text n code e =
     elim (session_err (lines_of text) (refusal n code) e) [
       | inl s ↦ says_at text n code s s.why
       | inr s ↦
           let same = line_of-same (1 + length (lines_of text)) n 3 code s.refused in
-          inr (inr (inr (sym same.1, record {
+          meaning_of text n 3 code same.1 (record {
             next = omega (arith, same.0);
             before = begin_text (lines_of text) s.before;
             short = λ k. not_read text k (refusal n code) e;
-          })))
+          })
     ]
 
+bound_of : (text : List ℕ) (n code : ℕ) → Meaning text n code → code ≤ 3
+bound_of text n zero m = omega arith
+bound_of text n (suc zero) m = omega arith
+bound_of text n (suc (suc zero)) m = omega arith
+bound_of text n (suc (suc (suc zero))) m = omega arith
+bound_of text n (suc (suc (suc (suc code)))) m = absurd m
+
 pub code_bound : (text : List ℕ) (n code : ℕ) → session_of text ≡ Err (refusal n code) → code ≤ 3
-code_bound text n code e =
-    elim (says text n code e) [
-      | inl p ↦ omega (arith, p.0)
-      | inr p ↦ elim p [ inl q ↦ omega (arith, q.0) | inr q ↦ elim q [ inl r ↦ omega (arith, r.0) | inr r ↦ omega (arith, r.0) ] ]
-    ]
+code_bound text n code e = bound_of text n code (says text n code e)
 
 -- ---- and back
 
@@ -169,37 +178,13 @@ ended_by text n f (Err d) e =
 -- ---- the codes
 
 pub form_law : (text : List ℕ) (n : ℕ) → (session_of text ≡ Err (refusal n 1)) ↔ IsFirstError text n HasNoForm
-form_law text n = (
-  λ e. elim (says text n 1 e) [
-    | inl p ↦ p.1
-    | inr p ↦ elim p [ inl q ↦ absurd (omega (arith, q.0)) | inr q ↦ elim q [ inl r ↦ absurd (omega (arith, r.0)) | inr r ↦ absurd (omega (arith, r.0)) ] ]
-  ],
-  λ f. refused_by text n 1 HasNoForm (form_by n) f (session_of text) refl,
-)
+form_law text n = (λ e. says text n 1 e, λ f. refused_by text n 1 HasNoForm (form_by n) f (session_of text) refl)
 
 pub range_law : (text : List ℕ) (n : ℕ) → (session_of text ≡ Err (refusal n 2)) ↔ IsFirstError text n IsOutOfRange
-range_law text n = (
-  λ e. elim (says text n 2 e) [
-    | inl p ↦ absurd (omega (arith, p.0))
-    | inr p ↦ elim p [ inl q ↦ q.1 | inr q ↦ elim q [ inl r ↦ absurd (omega (arith, r.0)) | inr r ↦ absurd (omega (arith, r.0)) ] ]
-  ],
-  λ f. refused_by text n 2 IsOutOfRange (range_by n) f (session_of text) refl,
-)
+range_law text n = (λ e. says text n 2 e, λ f. refused_by text n 2 IsOutOfRange (range_by n) f (session_of text) refl)
 
 pub clock_law : (text : List ℕ) (n : ℕ) → (session_of text ≡ Err (refusal n 0)) ↔ IsFirstError text n IsClockLine
-clock_law text n = (
-  λ e. elim (says text n 0 e) [
-    | inl p ↦ absurd (omega (arith, p.0))
-    | inr p ↦ elim p [ inl q ↦ absurd (omega (arith, q.0)) | inr q ↦ elim q [ inl r ↦ r.1 | inr r ↦ absurd (omega (arith, r.0)) ] ]
-  ],
-  λ f. refused_by text n 0 IsClockLine (clock_by n) f (session_of text) refl,
-)
+clock_law text n = (λ e. says text n 0 e, λ f. refused_by text n 0 IsClockLine (clock_by n) f (session_of text) refl)
 
 pub end_law : (text : List ℕ) (n : ℕ) → (session_of text ≡ Err (refusal n 3)) ↔ EndsEarly text n
-end_law text n = (
-  λ e. elim (says text n 3 e) [
-    | inl p ↦ absurd (omega (arith, p.0))
-    | inr p ↦ elim p [ inl q ↦ absurd (omega (arith, q.0)) | inr q ↦ elim q [ inl r ↦ absurd (omega (arith, r.0)) | inr r ↦ r.1 ] ]
-  ],
-  λ f. ended_by text n f (session_of text) refl,
-)
+end_law text n = (λ e. says text n 3 e, λ f. ended_by text n f (session_of text) refl)

@@ -1,5 +1,5 @@
 -- A session read line by line, or the first line in error.
-use Rattle.std.specs.Prelude.{ℕ, ◌+◌, true, false, if◌then◌else◌, List, [], ◌∷◌, length, Result, Ok, Err, codes, nat_le}
+use Rattle.std.specs.Prelude.{ℕ, ◌≡◌, ◌+◌, true, false, if◌then◌else◌, List, [], ◌∷◌, length, Result, Ok, Err, codes, nat_le}
 use Rattle.std.specs.Option.{option_map_or}
 use Rattle.std.specs.Str.{bytes_eq}
 use Rattle.hex.specs.Hex.{decode_of}
@@ -103,3 +103,7 @@ session_lines lines = do
 -- the session of a text
 abbrev pub session_of : List ℕ → Result Session Refusal
 session_of text = session_lines (lines_of text)
+
+-- the text is refused at line n with this code
+abbrev pub IsRefused : List ℕ → ℕ → ℕ → Type 0
+IsRefused text n code = session_of text ≡ Err (refusal n code)

@@ -11,7 +11,8 @@ use text_reader::{first_line, number_after};
 /// The version and the size of the store, and the text after their two lines.
 #[tactic(auto, unfolding(crate::specs::SessionReading::head_lines))]
 pub fn head_lines(text: &[u8]) -> Result<(u32, u32, &[u8]), SessionEnd>
-    ensures value { Gives (λ x. (x.0, x.1, lines_of x.2.now)) result (head_lines (lines_of text.now)) }
+    ensures value { let head = head_lines (lines_of text.now) in
+        Gives (λ x. (x.0, x.1, lines_of x.2.now)) result head }
     ensures shorter { IfOk result (λ x. length x.2.now + 8 ≤ length text.now) }
 {
     let (first, rest) = first_line(1, text)?;

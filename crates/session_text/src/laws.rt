@@ -1,10 +1,9 @@
 // Laws of sessions and their texts.
-ghost use Rattle.std.specs.Prelude.{◌≡◌, ◌↔◌, ◌≤◌, ℕ, List, Ok, Err};
-ghost use Rattle.text_reader.specs.Refusal.{refusal};
+ghost use Rattle.std.specs.Prelude.{◌≡◌, ◌↔◌, ◌≤◌, ℕ, List, Ok};
 ghost use Rattle.session_text.specs.Canonical.{IsBareSession, canonical, with_numbers};
 ghost use Rattle.session_text.specs.FirstError.{EndsEarly, HasNoForm, IsClockLine, IsFirstError, IsOutOfRange};
 ghost use Rattle.session_text.specs.SessionForm.{IsSession};
-ghost use Rattle.session_text.specs.SessionReading.{session_of};
+ghost use Rattle.session_text.specs.SessionReading.{IsRefused, session_of};
 ghost use Rattle.session_text.specs.declared.sessions.Session.{Session};
 
 /// What is read from a text is the session whose text it is, and every text of a session is read: so a text has at most
@@ -19,11 +18,12 @@ pub fn session_law()
 /// bytes, 2 where one has but for its number, and 0 where it says that the machine has a clock, which is not served yet.
 /// Code 3 comes exactly where all lines begin a session's text, and are none.
 pub fn refusal_law()
-    ensures form { (text : List ℕ) (n : ℕ) → (session_of text ≡ Err (refusal n 1)) ↔ IsFirstError text n HasNoForm }
-    ensures range { (text : List ℕ) (n : ℕ) → (session_of text ≡ Err (refusal n 2)) ↔ IsFirstError text n IsOutOfRange }
-    ensures end { (text : List ℕ) (n : ℕ) → (session_of text ≡ Err (refusal n 3)) ↔ EndsEarly text n }
-    ensures clock { (text : List ℕ) (n : ℕ) → (session_of text ≡ Err (refusal n 0)) ↔ IsFirstError text n IsClockLine }
-    ensures codes { (text : List ℕ) (n code : ℕ) → session_of text ≡ Err (refusal n code) → code ≤ 3 }
+    ensures form { (text : List ℕ) (n : ℕ) → IsRefused text n 1 ↔ IsFirstError text n HasNoForm }
+    ensures range { (text : List ℕ) (n : ℕ) →
+        IsRefused text n 2 ↔ IsFirstError text n IsOutOfRange }
+    ensures end { (text : List ℕ) (n : ℕ) → IsRefused text n 3 ↔ EndsEarly text n }
+    ensures clock { (text : List ℕ) (n : ℕ) → IsRefused text n 0 ↔ IsFirstError text n IsClockLine }
+    ensures codes { (text : List ℕ) (n code : ℕ) → IsRefused text n code → code ≤ 3 }
 {}
 
 /// The canonical text of a bare session is read as the same session, with the numbers that its lines have there.

@@ -4,13 +4,13 @@
 mod heads;
 pub mod laws;
 pub mod lists;
-pub mod printing;
-pub mod reading;
+pub mod print;
+pub mod read;
 pub mod sessions;
 
 pub use lists::{Bytes, Keys, Lines, Names};
-pub use printing::print_session;
-pub use reading::read_session;
+pub use print::print_session;
+pub use read::read_session;
 pub use sessions::{LineForm, Session, SessionLine};
 pub use text_reader::TextEnd as SessionEnd;
 

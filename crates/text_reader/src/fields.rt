@@ -28,7 +28,8 @@ pub fn number_after(word: &[u8], n: u32, line: &[u8]) -> Result<u64, TextEnd>
 
 /// Line n, and the text after it; code 3 where the text has ended.
 pub fn first_line(n: u32, text: &[u8]) -> Result<(&[u8], &[u8]), TextEnd>
-    ensures value { Gives (λ x. (x.0.now, lines_of x.1.now)) result (first_line n (lines_of text.now)) }
+    ensures value { let read = first_line n (lines_of text.now) in
+        Gives (λ x. (x.0.now, lines_of x.1.now)) result read }
     ensures shorter { IfOk result (λ x. length x.0.now + length x.1.now ≤ length text.now) }
     ensures goes_on { IfOk result (λ x. length x.1.now < length text.now) }
 {

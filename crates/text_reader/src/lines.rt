@@ -6,7 +6,8 @@ ghost use Rattle.text_reader.specs.Lines.{lines_of};
 
 /// The first line, without its end, and the text after it; `None` exactly where the text is empty.
 pub fn split_line(text: &[u8]) -> Option<(&[u8], &[u8])>
-    ensures cases { MatchOption result (lines_of text.now ≡ []) (λ x. lines_of text.now ≡ x.0.now ∷ lines_of x.1.now) }
+    ensures cases { let lines = lines_of text.now in
+        MatchOption result (lines ≡ []) (λ x. lines ≡ x.0.now ∷ lines_of x.1.now) }
     ensures shorter { IfSome result (λ x. length x.0.now + length x.1.now ≤ length text.now) }
     ensures goes_on { IfSome result (λ x. length x.1.now < length text.now) }
 {
