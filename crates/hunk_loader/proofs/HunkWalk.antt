@@ -10,7 +10,7 @@ use Rattle.task_block.specs.Lists.{modules_in}
 use Rattle.hunk_loader.specs.Globals.{GlobalsFit, globals_in, globals_of_hunk, highest, most_globals, with_globals}
 use Rattle.hunk_loader.specs.GlobalWords.{AreClear}
 use Rattle.hunk_loader.specs.Modules.{HasModules, IsModuleAt}
-use Rattle.hunk_loader.specs.Placed.{PlacedHunk, hunk_count, hunks_at, hunks_in, lengths_in, module_end, placed}
+use Rattle.hunk_loader.specs.ModuleHunks.{PlacedHunk, hunk_count, hunks_at, hunks_in, lengths_in, module_end, placed}
 use Rattle.hunk_loader.proofs.GlobalLists.{hunk-are, length-with_globals, with_globals-append, with_globals-other}
 use Rattle.hunk_loader.proofs.ModuleBlocks.{in_block}
 

@@ -29,11 +29,11 @@ use Rattle.getvec_chain.proofs.Writes.{SameBlocks, SameBlocks-set_below, SameBlo
 use Rattle.task_block.specs.Lists.{module_link, modules_in}
 use Rattle.hunk_loader.specs.ModuleRow.{hunks_image, last_word, lengths_of, module_row}
 use Rattle.hunk_loader.specs.Modules.{HasModules, IsModuleAt}
-use Rattle.hunk_loader.specs.Relocated.{relocated}
-use Rattle.hunk_loader.specs.Placed.{hunk_count, lengths_in}
+use Rattle.hunk_loader.specs.RelocatedWords.{relocated}
+use Rattle.hunk_loader.specs.ModuleHunks.{hunk_count, lengths_in}
 use Rattle.hunk_loader.proofs.ModuleBlocks.{all_map, cell_at, in_block, linked, module-same, no_block, one_word, stands, times-one}
 use Rattle.hunk_loader.proofs.PlacedHunks.{words_in-cons}
-use Rattle.hunk_loader.proofs.Relocated.{length-relocated}
+use Rattle.hunk_loader.proofs.RelocationLists.{length-relocated}
 
 -- ---- the row of a module
 

@@ -19,7 +19,7 @@ use Rattle.getvec_chain.proofs.UsedBlocks.{AreDisjoint, used_at-apart, used_at-i
 use Rattle.getvec_chain.proofs.Writes.{SameBlocks-set_below}
 use Rattle.task_block.specs.Lists.{module_link, modules_in}
 use Rattle.hunk_loader.specs.Modules.{HasModules, IsModuleAt}
-use Rattle.hunk_loader.specs.Placed.{hunk_count, lengths_in, module_end}
+use Rattle.hunk_loader.specs.ModuleHunks.{hunk_count, lengths_in, module_end}
 
 -- as nodes of the list, modules count by their link words alone
 abbrev pub one_word : ℕ → ℕ
