@@ -3,12 +3,11 @@ use Rattle.std.proofs.Common.{◌≡◌, ◌≢◌, inl, ℕ, ◌+◌, ◌<◌, 
 use Rattle.std.specs.List.{AllByRecursion, range_with_len}
 use Rattle.std.proofs.lemmas.Bool.Decides.{nat_tests}
 use Rattle.linked_list.specs.Count.{IsApart, words_of}
-use Rattle.linked_list.specs.Linked.{IsNode}
+use Rattle.linked_list.specs.Linked.{IsNode, IsListAt}
 use Rattle.linked_list.specs.Placing.{has}
 use Rattle.getvec_chain.specs.Tiling.{IsTiled}
 use Rattle.linked_list.proofs.Chains.{length-apart}
 use Rattle.linked_list.proofs.Counts.{times-append, times-within}
-use Rattle.linked_list.proofs.Lists.{BecomesList}
 use Rattle.linked_list.proofs.Members.{all-has, one-member}
 use Rattle.task_block.specs.Lists.{coroutine_link, coroutines_in}
 use Rattle.coroutines.specs.Active.{LeadsOut, active_in}
@@ -37,7 +36,7 @@ pub record Parts (v : List ℕ) (t : ℕ) (cs act : List ℕ) : Type 0 where
   pub tiled : IsTiled v
   pub task : HasTaskBlock v t
   pub elsewhere : has task.first cs ≡ false
-  pub list : BecomesList v coroutine_link coroutine_size (t + 17) cs
+  pub list : IsListAt v coroutine_link coroutine_size (t + 17) cs
   pub apart : IsApart (range_with_len t 23 ++ words_of coroutine_size cs)
   pub blocks : AllByRecursion (HasBlock v) cs
   pub out : LeadsOut v t 0 (t + 18) act

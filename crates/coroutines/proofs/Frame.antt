@@ -10,7 +10,7 @@ use Rattle.getvec_chain.specs.Run.{need}
 use Rattle.getvec_chain.specs.Tiling.{blocks_in, holding, used_at}
 use Rattle.linked_list.proofs.Counts.{hit-other}
 use Rattle.linked_list.proofs.Frames.{list-same}
-use Rattle.linked_list.proofs.Lists.{BecomesList}
+use Rattle.linked_list.specs.Linked.{IsListAt}
 use Rattle.getvec_chain.proofs.Writes.{SameBlocks, SameBlocks-kept}
 use Rattle.task_block.specs.Lists.{coroutine_link, coroutines_in}
 use Rattle.coroutines.specs.Active.{LeadsOut}
@@ -67,7 +67,7 @@ cell-cases link a at (p ∷ ps) some =
     later (inl e) = inr (p, has-here p ps, e)
     later (inr (k, some, e)) = inr (k, has-there k p ps some, e)
 
-same-list : (s v : List ℕ) (t : ℕ) → HasCoroutines s t → IsCall s v t → BecomesList v coroutine_link coroutine_size (t + 17) (coroutines_in s t)
+same-list : (s v : List ℕ) (t : ℕ) → HasCoroutines s t → IsCall s v t → IsListAt v coroutine_link coroutine_size (t + 17) (coroutines_in s t)
 same-list s v t h c =
     list-same s v coroutine_link coroutine_size (t + 17) h.list c.same_length (λ a some. on a (cell-cases coroutine_link a (t + 17) (coroutines_in s t) some))
   where

@@ -1,5 +1,5 @@
 -- Hunks that are put into a store one by one.
-use Rattle.std.proofs.Common.{◌≡◌, ◌≢◌, ◌∙◌, ℕ, suc, ◌<◌, ◌≤◌, ◌+◌, Some, List, [], ◌∷◌, ◌++◌, length, set, refl, sym, ap, subst, arith, append_assoc, length-set}
+use Rattle.std.proofs.Common.{◌≡◌, ◌≢◌, ◌∙◌, ℕ, suc, ◌<◌, ◌≤◌, ◌+◌, Some, List, [], ◌∷◌, ◌++◌, length, set, refl, sym, ap, subst, arith, append_assoc, length-set, inl}
 use Rattle.std.specs.Prelude.{IsSome}
 use Rattle.std.specs.List.{AllByRecursion, concat}
 use Rattle.std.proofs.lemmas.List.{length-map}
@@ -14,7 +14,6 @@ use Rattle.hunk_text.specs.declared.tokens.NextWord.{NextWord}
 use Rattle.hunk_text.proofs.ReadingOn.{reads_all}
 use Rattle.word_store.specs.Row.{with_words}
 use Rattle.word_store.proofs.Rows.{length-with_words, with_words-apart, with_words-append, with_words-set_outside}
-use Rattle.std.proofs.Common.{inl}
 use Rattle.hunk_loader.specs.Follow.{AreInside, BeginsOther, FitsAt, HunkFollows, ListsFollow, WordsFollow, places}
 use Rattle.hunk_loader.specs.ModuleRow.{hunks_image, lengths_of, module_row}
 use Rattle.hunk_loader.specs.RelocatedWords.{relocated}

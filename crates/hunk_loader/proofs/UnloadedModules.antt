@@ -13,7 +13,8 @@ use Rattle.getvec_chain.proofs.AfterGive.{AfterGive, after_give}
 use Rattle.linked_list.proofs.Chains.{times-cells}
 use Rattle.linked_list.proofs.Counts.{hit-other, hit-same}
 use Rattle.linked_list.proofs.Frames.{list-set}
-use Rattle.linked_list.proofs.Lists.{BecomesList, list-remove, list-removed}
+use Rattle.linked_list.proofs.Lists.{list-remove, list-removed}
+use Rattle.linked_list.specs.Linked.{IsListAt}
 use Rattle.linked_list.proofs.Members.{all-has, times-has}
 use Rattle.getvec_chain.proofs.UsedBlocks.{AreDisjoint}
 use Rattle.getvec_chain.proofs.Writes.{SameBlocks, SameBlocks-set_below, SameBlocks-set_used}
@@ -118,7 +119,7 @@ unload_stands s t m h e words =
     long : length r ≡ length s
     long = length-set s cell (get_or s m 0)
 
-    first : BecomesList r module_link one_word 104 rest
+    first : IsListAt r module_link one_word 104 rest
     first = list-remove s r module_link one_word 104 m (linked s h) e (list-removed s module_link one_word 104 m (linked s h) e)
 
     b : InBlock s m k.block
@@ -146,11 +147,11 @@ unload_stands s t m h e words =
           hit-other at 104 (λ e. absurd (omega (arith, above))),
         )
 
-    now : BecomesList t module_link one_word 104 rest
+    now : IsListAt t module_link one_word 104 rest
     now =
         let w = get_or r (m - 1) 0 + 1 in
-        let given : BecomesList (set r (m - 1) w) module_link one_word 104 (list_at r module_link 104) = list-set r module_link one_word 104 (m - 1) w first.stands no_link in
-        subst (λ x. BecomesList x module_link one_word 104 rest) (sym words) (subst (λ ms. BecomesList (set r (m - 1) w) module_link one_word 104 ms) first.list given)
+        let given : IsListAt (set r (m - 1) w) module_link one_word 104 (list_at r module_link 104) = list-set r module_link one_word 104 (m - 1) w first.stands no_link in
+        subst (λ x. IsListAt x module_link one_word 104 rest) (sym words) (subst (λ ms. IsListAt (set r (m - 1) w) module_link one_word 104 ms) first.list given)
 
     list : modules_in t ≡ rest
     list = now.list

@@ -5,13 +5,13 @@ use Rattle.std.specs.List.{AllByRecursion}
 use Rattle.std.proofs.lemmas.Bool.{cases_eq}
 use Rattle.linked_list.specs.Count.{IsApart, node_words, times, words_of}
 use Rattle.linked_list.specs.Chain.{cells, last_cell, list_at}
-use Rattle.linked_list.specs.Linked.{IsLinked}
+use Rattle.linked_list.specs.Linked.{IsLinked, IsListAt}
 use Rattle.linked_list.specs.Placing.{cell_before, has, linked_out, without}
 use Rattle.linked_list.proofs.Counts.{hit-other, times-append, times-within, times-words_more, times-words_of}
 use Rattle.linked_list.proofs.Chains.{times-cells}
 use Rattle.linked_list.proofs.Frames.{list-set, word-no_cell}
 use Rattle.linked_list.proofs.Insertion.{all-append, all-back, all-front, times-front_cell}
-use Rattle.linked_list.proofs.Lists.{BecomesList, list-node, list-remove, list-removed}
+use Rattle.linked_list.proofs.Lists.{list-node, list-remove, list-removed}
 use Rattle.linked_list.proofs.Places.{Stands, stands}
 use Rattle.task_block.specs.Moves.{without_task}
 use Rattle.task_block.specs.Versions.{highest_id}
@@ -76,7 +76,7 @@ task-out s t h some =
     let v : List ℕ = without_task s t in
     let r : Stands task_link 101 t (tasks_in s) = stands task_link 101 t (tasks_in s) some in
     let u : List ℕ = linked_out s task_link (link_before s t) t in
-    let linked : BecomesList u task_link task_size 101 (without t (tasks_in s)) =
+    let linked : IsListAt u task_link task_size 101 (without t (tasks_in s)) =
     list-remove s u task_link task_size 101 t h.chain some (list-removed s task_link task_size 101 t h.chain some)
     in
     let mine : InChain s t = in-chain s h r.front t r.back r.whole in
@@ -98,7 +98,7 @@ task-out s t h some =
       hit-other (120 + id_in s t) 101 (λ k. absurd (omega (arith, k))),
     )
     in
-    let done : BecomesList v task_link task_size 101 (list_at u task_link 101) = list-set u task_link task_size 101 (120 + id_in s t) 0 linked.stands no_cell in
+    let done : IsListAt v task_link task_size 101 (list_at u task_link 101) = list-set u task_link task_size 101 (120 + id_in s t) 0 linked.stands no_cell in
     let v_list : tasks_in v ≡ r.front ++ r.back = done.list ∙ u_list in
     let root_stays : (a : ℕ) → 100 ≤ a → a < 184 → a ≢ 101 → a ≢ 120 + id_in s t → get_or v a 0 ≡ get_or s a 0 = λ a low high ne no_entry. stays s t a r (root-no_cell s h a low high ne) no_entry in
     let top : highest_id v ≡ highest_id s = root_stays 120 (omega arith) (omega arith) (λ k. absurd (omega (arith, k))) (λ k. absurd (omega (arith, k, mine.table.low))) in
