@@ -16,7 +16,7 @@ use Rattle.linked_list.proofs.Frames.{list-same}
 use Rattle.linked_list.proofs.Insertion.{times-front_cell}
 use Rattle.linked_list.proofs.Lists.{list-remove, list-removed}
 use Rattle.linked_list.specs.Linked.{IsListAt}
-use Rattle.linked_list.proofs.Members.{has-times, without-has, without-keeps}
+use Rattle.linked_list.proofs.Members.{has-times, without-has, without-keeps, has-not, cell-cases}
 use Rattle.linked_list.proofs.Places.{Stands, stands}
 use Rattle.getvec_chain.proofs.UsedBlocks.{UsedBlock, used_at-apart, used_at-is}
 use Rattle.getvec_chain.proofs.Writes.{SameBlocks, SameBlocks-kept}
@@ -26,9 +26,8 @@ use Rattle.coroutines.specs.Coroutines.{HasBlock, HasCoroutines}
 use Rattle.coroutines.specs.CoroutineWords.{coroutine_size, highest_in, parent_in}
 use Rattle.coroutines.specs.Creation.{deleted}
 use Rattle.coroutines.specs.Refusals.{has_parent, is_known}
-use Rattle.coroutines.proofs.Building.{Built, all-members, built}
-use Rattle.coroutines.proofs.Calling.{has-not}
-use Rattle.coroutines.proofs.Frame.{cell-cases}
+use Rattle.coroutines.proofs.Building.{Built, built}
+use Rattle.linked_list.proofs.AllMembers.{all-members}
 use Rattle.coroutines.proofs.Known.{known-block, known-held, known-same, no_parent-word, task-apart, task-held}
 use Rattle.coroutines.proofs.Staying.{same-block, same-out}
 

@@ -26,8 +26,9 @@ use Rattle.coroutines.specs.Coroutines.{HasBlock, HasCoroutines}
 use Rattle.coroutines.specs.CoroutineWords.{coroutine_size, highest_in, parent_in}
 use Rattle.coroutines.specs.Creation.{highest, new_words}
 use Rattle.coroutines.specs.Refusals.{is_known}
-use Rattle.coroutines.proofs.Building.{Built, all-members, built, has-there}
-use Rattle.coroutines.proofs.Frame.{cell-cases}
+use Rattle.coroutines.proofs.Building.{Built, built}
+use Rattle.linked_list.proofs.AllMembers.{all-members}
+use Rattle.linked_list.proofs.Members.{has-there, cell-cases}
 use Rattle.coroutines.proofs.Known.{known-block, no_parent-word, task-apart, task-inside}
 use Rattle.coroutines.proofs.Staying.{range-none, same-block, same-out, words-none}
 

@@ -22,7 +22,8 @@ use Rattle.getvec_chain.proofs.AfterTake.{AfterTake, after_take}
 use Rattle.linked_list.proofs.Counts.{IsApart-cons, hit-le, hit-other}
 use Rattle.linked_list.proofs.Frames.{list-same}
 use Rattle.linked_list.proofs.Lists.{list-push, list-pushed}
-use Rattle.linked_list.proofs.Members.{all-has, times-has}
+use Rattle.linked_list.proofs.Members.{times-has}
+use Rattle.linked_list.proofs.AllMembers.{all-has, all-map}
 use Rattle.word_store.proofs.Rows.{IsOutside, get_or-with_words, get_or-with_words_outside, length-with_words, range-with_words, range_same, with_words-append}
 use Rattle.getvec_chain.proofs.UsedBlocks.{AreDisjoint}
 use Rattle.getvec_chain.proofs.Writes.{SameBlocks, SameBlocks-set_below, SameBlocks-used}
@@ -31,7 +32,7 @@ use Rattle.hunk_loader.specs.ModuleRow.{hunks_image, last_word, lengths_of, modu
 use Rattle.hunk_loader.specs.Modules.{HasModules, IsModuleAt}
 use Rattle.hunk_loader.specs.RelocatedWords.{relocated}
 use Rattle.hunk_loader.specs.ModuleHunks.{hunk_count, lengths_in}
-use Rattle.hunk_loader.proofs.ModuleBlocks.{all_map, cell_at, in_block, linked, module-same, no_block, one_word, stands, times-one}
+use Rattle.hunk_loader.proofs.ModuleBlocks.{cell_at, in_block, linked, module-same, no_block, one_word, stands, times-one}
 use Rattle.hunk_loader.proofs.PlacedHunks.{words_in-cons}
 use Rattle.hunk_loader.proofs.RelocationLists.{length-relocated}
 
@@ -230,10 +231,10 @@ load_stands s t1 m hunks h p =
     other a above = get_or-set_other t1 104 a m 0 (λ e. absurd (omega arith))
 
     old : AllByRecursion (IsModuleAt t) (modules_in s)
-    old = all_map (IsModuleAt s) (IsModuleAt t) (modules_in s) h.modules (λ n some k.
+    old = all-map (IsModuleAt s) (IsModuleAt t) (modules_in s) (λ n some k.
         (let b = in_block s n h.tiled k in
         module-same s t n h.tiled k size (ap (used_at n) blocks.blocks ∙ p.kept n k.block k.used)
-        (λ a low high. other a (omega (arith, b.above)) ∙ p.words n k.block k.used a (omega (arith, b.start)) high)))
+        (λ a low high. other a (omega (arith, b.above)) ∙ p.words n k.block k.used a (omega (arith, b.start)) high))) h.modules
 
     new : IsModuleAt t m
     new =

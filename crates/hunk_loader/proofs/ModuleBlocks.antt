@@ -68,10 +68,6 @@ modules-apart s m n t h k differ = on (used_at-apart s 200 (blocks_in s) m n h.b
 
 -- ---- all modules
 
-pub all_map : (P Q : ℕ → Type 0) (ms : List ℕ) → AllByRecursion P ms → ((m : ℕ) → 0 < times m ms → P m → Q m) → AllByRecursion Q ms
-all_map P Q [] a f = tt
-all_map P Q (m ∷ ms) a f = (f m (omega (arith, hit-same m m refl)) a.0, all_map P Q ms a.1 (λ n some p. f n (omega arith) p))
-
 -- no module stands below the first block's data
 times-low : (s : List ℕ) (ms : List ℕ) (a : ℕ) → IsTiled s → AllByRecursion (IsModuleAt s) ms → a < 201 → times a ms ≡ 0
 times-low s [] a t h low = refl

@@ -10,13 +10,14 @@ use Rattle.linked_list.specs.Placing.{insert_after, linked_in}
 use Rattle.linked_list.proofs.Counts.{hit-other, hit-same, times-append, times-within, times-words_more, times-words_of}
 use Rattle.linked_list.proofs.Chains.{times-cells}
 use Rattle.linked_list.proofs.Frames.{list-set, word-no_cell}
-use Rattle.linked_list.proofs.Insertion.{all-append, all-back, all-front, times-front_cell}
+use Rattle.linked_list.proofs.Insertion.{times-front_cell}
+use Rattle.linked_list.proofs.AllMembers.{all-back, all-front, all-append, all-insert}
 use Rattle.linked_list.proofs.Lists.{list-cell, list-insert, list-inserted}
 use Rattle.linked_list.proofs.Places.{IsPlace, place}
 use Rattle.task_block.specs.Moves.{link_above, with_task}
 use Rattle.task_block.specs.Versions.{highest_id}
 use Rattle.task_block.specs.TaskChain.{Fall, HasTasks, IsInTable, IsNewTask, id_in, is_above, priority_in, root_words, task_link, task_size, task_with, tasks_in}
-use Rattle.task_block.proofs.PriorityOrder.{Fall-insert, Fall-same, all-insert}
+use Rattle.task_block.proofs.PriorityOrder.{Fall-insert, Fall-same}
 use Rattle.task_block.proofs.TaskNumbers.{task_with-here, task_with-none, task_with-other, task_with-same}
 
 -- the words of the root and the table are no words of a new task, and none of the chain's tasks

@@ -5,17 +5,18 @@ use Rattle.std.specs.List.{AllByRecursion}
 use Rattle.std.proofs.lemmas.Bool.{cases_eq}
 use Rattle.linked_list.specs.Count.{IsApart, node_words, times, words_of}
 use Rattle.linked_list.specs.Chain.{cells, last_cell, list_at}
-use Rattle.linked_list.specs.Linked.{IsLinked, IsListAt}
+use Rattle.linked_list.specs.Linked.{IsLinked, IsListAt, IsNode}
 use Rattle.linked_list.specs.Placing.{cell_before, has, linked_out, without}
 use Rattle.linked_list.proofs.Counts.{hit-other, times-append, times-within, times-words_more, times-words_of}
 use Rattle.linked_list.proofs.Chains.{times-cells}
 use Rattle.linked_list.proofs.Frames.{list-set, word-no_cell}
-use Rattle.linked_list.proofs.Insertion.{all-append, all-back, all-front, times-front_cell}
+use Rattle.linked_list.proofs.Insertion.{times-front_cell}
+use Rattle.linked_list.proofs.AllMembers.{all-back, all-front, all-append}
 use Rattle.linked_list.proofs.Lists.{list-node, list-remove, list-removed}
 use Rattle.linked_list.proofs.Places.{Stands, stands}
 use Rattle.task_block.specs.Moves.{without_task}
 use Rattle.task_block.specs.Versions.{highest_id}
-use Rattle.task_block.specs.TaskChain.{Fall, HasTasks, IsInTable, id_in, root_words, task_link, task_size, task_with, tasks_in}
+use Rattle.task_block.specs.TaskChain.{Fall, HasTasks, IsInTable, IsNewTask, id_in, root_words, task_link, task_size, task_with, tasks_in}
 use Rattle.task_block.proofs.TaskInsertion.{root-hit, root-no_cell}
 use Rattle.task_block.proofs.PriorityOrder.{Fall-same, Fall-without}
 use Rattle.task_block.proofs.TaskNumbers.{none-task_with, task_with-other, task_with-same}
@@ -70,6 +71,9 @@ pub record TaskOut (s v : List ℕ) (t : ℕ) : Type 0 where
   pub list : tasks_in v ≡ without t (tasks_in s)
   pub tasks : HasTasks v
   pub same : (j : ℕ) → 0 < j → j < 23 → AllByRecursion (λ u. get_or v (u + j) 0 ≡ get_or s (u + j) 0) (tasks_in v)
+  pub own : (j : ℕ) → 0 < j → j < 23 → get_or v (t + j) 0 ≡ get_or s (t + j) 0
+  pub task : IsNewTask v t
+  pub others : AllByRecursion (λ u. id_in s u ≢ id_in s t) (tasks_in v)
 
 pub task-out : (s : List ℕ) (t : ℕ) → HasTasks s → has t (tasks_in s) ≡ true → TaskOut s (without_task s t) t
 task-out s t h some =
@@ -119,8 +123,31 @@ task-out s t h some =
           ∙ ap (λ o. unwrap_or o 0) (ap (λ z. task_with s i z) r.whole ∙ task_with-other s i r.front t r.back (λ k. ne (sym k)) ∙ sym (task_with-same s v i (r.front ++ r.back) ids))
     ]
     in
+    let own : (j : ℕ) → 0 < j → j < 23 → get_or v (t + j) 0 ≡ get_or s (t + j) 0 = λ j some few. (same_word s t h r mine j some few (t ∷ []) (mine, tt)).0 in
+    let id : id_in v t ≡ id_in s t = own 1 (omega arith) (omega arith) in
+    let node : IsNode s task_link task_size t = list-node s task_link task_size 101 t h.chain some in
     record {
       list = v_list ∙ sym r.list;
+      own = own;
+      others = subst (AllByRecursion (λ u. id_in s u ≢ id_in s t)) (sym v_list) others;
+      task =
+          record {
+            node = record { some = node.some; after = node.after; before = node.before; inside = omega (arith, node.inside, length-without_task s t) };
+            apart = λ a.
+                omega (
+                  arith,
+                  h.apart a,
+                  counts a,
+                  ap (λ z. times a (words_of task_size z)) v_list,
+                  times-append a root_words (words_of task_size (tasks_in s)),
+                  times-append a root_words (words_of task_size (tasks_in v)),
+                );
+            low = omega (arith, id, mine.table.low);
+            high = omega (arith, id, top, mine.table.high);
+            unused =
+                ap (task_with v (id_in v t)) v_list ∙ task_with-same s v (id_in v t) (r.front ++ r.back) ids
+                ∙ none-task_with s (id_in v t) (r.front ++ r.back) (subst (λ k. AllByRecursion (λ u. id_in s u ≢ k) (r.front ++ r.back)) (sym id) others);
+          };
       tasks =
           record {
             root = omega (arith, length-without_task s t, h.root);
