@@ -11,7 +11,8 @@ use Rattle.linked_list.specs.Placing.{has}
 use Rattle.getvec_chain.specs.Run.{need}
 use Rattle.getvec_chain.specs.Tiling.{blocks_in, holding}
 use Rattle.linked_list.proofs.Counts.{times-append, times-within}
-use Rattle.linked_list.proofs.Members.{all-has, one-member, two-members}
+use Rattle.linked_list.proofs.Members.{one-member, two-members}
+use Rattle.linked_list.proofs.AllMembers.{all-has}
 use Rattle.getvec_chain.proofs.UsedBlocks.{UsedBlock, used_at-holding, used_at-is}
 use Rattle.task_block.specs.Lists.{coroutine_link, coroutines_in}
 use Rattle.coroutines.specs.Active.{LeadsOut, active_in}

@@ -12,7 +12,7 @@ use Rattle.task_block.specs.Lists.{coroutines_in}
 use Rattle.coroutines.specs.Active.{LeadsOut, active_in}
 use Rattle.coroutines.specs.Coroutines.{HasBlock, HasCoroutines}
 use Rattle.coroutines.specs.Refusals.{is_known}
-use Rattle.coroutines.proofs.Building.{has-here, has-there}
+use Rattle.linked_list.proofs.Members.{has-there, has-here}
 use Rattle.coroutines.proofs.Known.{known-block}
 use Rattle.coroutines.proofs.Outward.{LeadsOut-same}
 

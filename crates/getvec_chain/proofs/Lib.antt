@@ -1,7 +1,9 @@
 pub mod AfterGive
 pub mod AfterTake
+pub mod BlockExchanges
 pub mod FirstFound
 pub mod GiveAnswer
+pub mod MaximalRuns
 pub mod OpenRun
 pub mod Runs
 pub mod SizeWords

@@ -2,15 +2,10 @@
 use Rattle.std.proofs.Common.{◌≡◌, ℕ, zero, suc, ◌+◌, ◌-◌, ◌%◌, ◌≤◌, List, [], ◌∷◌, ◌++◌, length, get_or, set, refl, sym, ◌∙◌, subst, arith, get_or-set_other, get_or-set_same, length-set}
 use Rattle.getvec_chain.specs.declared.pieces.Block.{Block}
 use Rattle.getvec_chain.specs.Block.{block_end, size_word}
-use Rattle.getvec_chain.specs.Tiling.{Tiles}
+use Rattle.getvec_chain.specs.Tiling.{Follow, Tiles}
 use Rattle.getvec_chain.specs.Take.{left_over, split_run, with_size_words}
 use Rattle.getvec_chain.proofs.Tilings.{Tiles-inside}
 use Rattle.getvec_chain.proofs.Writes.{Tiles-above}
-
--- from at to end the blocks follow one another, with even sizes of 2 or more
-abbrev pub Follow : ℕ → List Block → ℕ → Type 0
-Follow at [] end = at ≡ end
-Follow at (b ∷ bs) end = (b.start ≡ at) × (2 ≤ b.size) × (b.size % 2 ≡ 0) × Follow (block_end b) bs end
 
 pub Follow-order : (at : ℕ) (bs : List Block) (end : ℕ) → Follow at bs end → at ≤ end
 Follow-order at [] end f = omega (arith, f)

@@ -5,12 +5,11 @@ use Rattle.getvec_chain.specs.declared.pieces.Block.{Block}
 use Rattle.getvec_chain.specs.declared.pieces.Run.{Run}
 use Rattle.getvec_chain.specs.Block.{block_end, free_block, is_used_at}
 use Rattle.getvec_chain.specs.Give.{given}
-use Rattle.getvec_chain.specs.Run.{after_run, begins_run, first_run, run_size}
+use Rattle.getvec_chain.specs.Run.{AreFree, BeginsUsed, EndsUsed, after_run, begins_run, first_run, run_size}
 use Rattle.getvec_chain.specs.Take.{split_run, taken}
-use Rattle.getvec_chain.specs.Tiling.{Tiles, used_at}
+use Rattle.getvec_chain.specs.Tiling.{Tiles, used_at, Follow}
 use Rattle.getvec_chain.proofs.AfterGive.{given-none}
 use Rattle.getvec_chain.proofs.Runs.{begins_run-true}
-use Rattle.getvec_chain.proofs.SizeWords.{Follow}
 use Rattle.getvec_chain.proofs.UsedBlocks.{is_used_at-true, used_at-before}
 
 -- the free blocks at the front of the list
@@ -18,34 +17,24 @@ abbrev pub front_run : List Block → List Block
 front_run [] = []
 front_run (b ∷ bs) = cond b.free (b ∷ front_run bs) []
 
-abbrev pub AreFree : List Block → Type 0
-AreFree [] = Unit {0}
-AreFree (b ∷ bs) = (b.free ≡ true) × AreFree bs
-
--- the list is empty, or its last block is used
-abbrev pub EndsUsed : List Block → Type 0
-EndsUsed [] = Unit {0}
-EndsUsed (b ∷ []) = b.free ≡ false
-EndsUsed (b ∷ c ∷ bs) = EndsUsed (c ∷ bs)
-
 -- the front of the list is its run: all of its blocks are free, they fill it, and no free block follows
 pub record FrontSplit (at : ℕ) (bs : List Block) : Type 0 where
   pub is : bs ≡ front_run bs ++ after_run bs
   pub free : AreFree (front_run bs)
   pub fills : Follow at (front_run bs) (at + run_size bs)
-  pub whole : run_size (after_run bs) ≡ 0
+  pub whole : BeginsUsed (after_run bs)
 
 pub front_split : (s : List ℕ) (at : ℕ) (bs : List Block) → Tiles s at bs → FrontSplit at bs
-front_split s at [] t = record { is = refl; free = tt; fills = omega arith; whole = refl }
+front_split s at [] t = record { is = refl; free = tt; fills = omega arith; whole = tt }
 front_split s at (b ∷ bs) t = on b.free refl (front_split s (block_end b) bs t.2)
   where
     Split : Bool → Type 0
-    Split f = (b ∷ bs ≡ cond f (b ∷ front_run bs) [] ++ cond f (after_run bs) (b ∷ bs)) × AreFree (cond f (b ∷ front_run bs) []) × Follow at (cond f (b ∷ front_run bs) []) (at + cond f (b.size + run_size bs) 0) × (run_size (cond f (after_run bs) (b ∷ bs)) ≡ 0)
+    Split f = (b ∷ bs ≡ cond f (b ∷ front_run bs) [] ++ cond f (after_run bs) (b ∷ bs)) × AreFree (cond f (b ∷ front_run bs) []) × Follow at (cond f (b ∷ front_run bs) []) (at + cond f (b.size + run_size bs) 0) × BeginsUsed (cond f (after_run bs) (b ∷ bs))
 
     split : (f : Bool) → b.free ≡ f → FrontSplit (block_end b) bs → Split f
     split true free later =
         (ap (λ z. b ∷ z) later.is, (free, later.free), (t.0, t.1.some, t.1.even, subst (Follow (block_end b) (front_run bs)) (omega (arith, t.0)) later.fills), later.whole)
-    split false used later = (refl, tt, omega arith, ap (λ f. cond f (b.size + run_size bs) 0) used)
+    split false used later = (refl, tt, omega arith, used)
 
     on : (f : Bool) → b.free ≡ f → FrontSplit (block_end b) bs → FrontSplit at (b ∷ bs)
     on f is later = (let h : Split b.free = subst Split (sym is) (split f is later) in record { is = h.0; free = h.1; fills = h.2; whole = h.3 })
@@ -65,7 +54,7 @@ pub record TakeSplit (n : ℕ) (old new : List Block) (run : Run) : Type 0 where
   pub fills : Follow run.start free run.end
   pub enough : n ≤ run_size (free ++ after)
   pub used_before : EndsUsed before
-  pub used_after : run_size after ≡ 0
+  pub used_after : BeginsUsed after
   pub first : first_run n before ≡ None
 
 too_small : (n : ℕ) (b : Block) (bs : List Block) → begins_run n (b ∷ bs) ≡ false → n ≤ run_size bs → b.free ≡ false

@@ -4,11 +4,11 @@ use Rattle.std.proofs.lemmas.Bool.Decides.{nat_tests}
 use Rattle.getvec_chain.specs.declared.pieces.Block.{Block}
 use Rattle.getvec_chain.specs.declared.pieces.Run.{Run}
 use Rattle.getvec_chain.specs.Block.{block_end, is_used_at, used_block}
-use Rattle.getvec_chain.specs.Tiling.{Tiles, used_at}
+use Rattle.getvec_chain.specs.Tiling.{Tiles, used_at, Follow}
 use Rattle.getvec_chain.specs.Run.{after_run, begins_run, first_run, run_size}
 use Rattle.getvec_chain.specs.Take.{left_over, split_run, taken, taken_store, with_size_words}
 use Rattle.getvec_chain.proofs.Runs.{FoundRun, begins_run-true, first_run-found, run-Tiles}
-use Rattle.getvec_chain.proofs.SizeWords.{Follow, split_run-Follow, with_size_words-Tiles, with_size_words-outside}
+use Rattle.getvec_chain.proofs.SizeWords.{split_run-Follow, with_size_words-Tiles, with_size_words-outside}
 use Rattle.getvec_chain.proofs.UsedBlocks.{used_at-before, used_at-is}
 use Rattle.getvec_chain.proofs.Writes.{StandsIn-same}
 

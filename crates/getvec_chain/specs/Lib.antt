@@ -1,4 +1,5 @@
 pub mod Block
+pub mod BlockWords
 pub mod Give
 pub mod Make
 pub mod Run

@@ -14,6 +14,11 @@ abbrev pub Tiles : List ℕ → ℕ → List Block → Type 0
 Tiles s at [] = (at + 2 ≡ length s) × (slice_index s at ≡ 0)
 Tiles s at (b ∷ bs) = (b.start ≡ at) × StandsIn s b × Tiles s (block_end b) bs
 
+-- from at to end the blocks follow one another, with even sizes of 2 or more
+abbrev pub Follow : ℕ → List Block → ℕ → Type 0
+Follow at [] end = at ≡ end
+Follow at (b ∷ bs) end = (b.start ≡ at) × (2 ≤ b.size) × (b.size % 2 ≡ 0) × Follow (block_end b) bs end
+
 -- the blocks that the size words make from the address up to the end word, n of them at most
 unfoldable pub first_blocks : ℕ → List ℕ → ℕ → List Block
 first_blocks zero s at = []

@@ -5,6 +5,7 @@ mod block_walk;
 mod pieces;
 mod search;
 mod calls;
+pub mod laws;
 
 pub use block_walk::Blocks;
 pub use search::{block_of, blocks, first_run};

@@ -19,7 +19,7 @@ use Rattle.getvec_chain.proofs.UsedBlocks.{AreDisjoint, used_at-apart, used_at-i
 use Rattle.getvec_chain.proofs.Writes.{SameBlocks-set_below}
 use Rattle.task_block.specs.Lists.{module_link, modules_in}
 use Rattle.hunk_loader.specs.Modules.{HasModules, IsModuleAt}
-use Rattle.hunk_loader.specs.Placed.{hunk_count, lengths_in, module_end}
+use Rattle.hunk_loader.specs.ModuleHunks.{hunk_count, lengths_in, module_end}
 
 -- as nodes of the list, modules count by their link words alone
 abbrev pub one_word : ℕ → ℕ
@@ -67,10 +67,6 @@ modules-apart s m n t h k differ = on (used_at-apart s 200 (blocks_in s) m n h.b
     on (inr apart) = apart
 
 -- ---- all modules
-
-pub all_map : (P Q : ℕ → Type 0) (ms : List ℕ) → AllByRecursion P ms → ((m : ℕ) → 0 < times m ms → P m → Q m) → AllByRecursion Q ms
-all_map P Q [] a f = tt
-all_map P Q (m ∷ ms) a f = (f m (omega (arith, hit-same m m refl)) a.0, all_map P Q ms a.1 (λ n some p. f n (omega arith) p))
 
 -- no module stands below the first block's data
 times-low : (s : List ℕ) (ms : List ℕ) (a : ℕ) → IsTiled s → AllByRecursion (IsModuleAt s) ms → a < 201 → times a ms ≡ 0

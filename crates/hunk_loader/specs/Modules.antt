@@ -7,7 +7,7 @@ use Rattle.linked_list.specs.Count.{IsApart}
 use Rattle.getvec_chain.specs.Run.{need}
 use Rattle.getvec_chain.specs.Tiling.{IsTiled, blocks_in, used_at}
 use Rattle.task_block.specs.Lists.{module_link, modules_in}
-use Rattle.hunk_loader.specs.Placed.{hunk_count, lengths_in}
+use Rattle.hunk_loader.specs.ModuleHunks.{hunk_count, lengths_in}
 
 -- at m the data of a used block begin, which is as large as the module's words need
 pub record IsModuleAt (s : List ℕ) (m : ℕ) : Type 0 where

@@ -25,8 +25,10 @@ pub(crate) fn copy_words<X: TextBytes>(
     end: u32,
 ) -> u32
     requires { (words others : List ℕ) × WordsFollow (X.text text.now) from at end words others }
-    ensures words { (words others : List ℕ) → WordsFollow (X.text text.now) from at end words others → store.new ≡ with_words store.old at words }
-    ensures others { (words others : List ℕ) → WordsFollow (X.text text.now) from at end words others → Reads (X.text text.now) result others }
+    ensures words { (words others : List ℕ) → WordsFollow (X.text text.now) from at end words others
+        → store.new ≡ with_words store.old at words }
+    ensures others { (words others : List ℕ) → WordsFollow (X.text text.now) from at end words others
+        → Reads (X.text text.now) result others }
 {
     let mut place = from;
     for a in at..end {

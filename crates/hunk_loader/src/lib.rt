@@ -1,13 +1,11 @@
 // Modules in a store, and the globals that they set.
 #![tactic(auto)]
 
+pub mod calls;
 mod copies;
 pub mod globals;
-pub mod loading;
 mod placement;
 mod relocation;
-pub mod unloading;
 
+pub use calls::{LoadEnd, NoModule, load, unload};
 pub use globals::{globals_fit, init_globals};
-pub use loading::{LoadEnd, load};
-pub use unloading::{NoModule, unload};

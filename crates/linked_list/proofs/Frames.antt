@@ -3,10 +3,10 @@ use Rattle.std.proofs.Common.{◌≡◌, ◌≢◌, ℕ, ◌+◌, ◌<◌, ◌�
 use Rattle.std.specs.List.{AllByRecursion}
 use Rattle.linked_list.specs.Count.{node_words, times, words_of}
 use Rattle.linked_list.specs.Chain.{cells, list_at}
-use Rattle.linked_list.specs.Linked.{HasList, IsLinked, IsNode}
+use Rattle.linked_list.specs.Linked.{HasList, IsLinked, IsNode, IsListAt}
 use Rattle.linked_list.proofs.Counts.{hit-other, times-words_more}
 use Rattle.linked_list.proofs.Chains.{IsChain-same, nodes-same, times-cells, times-link}
-use Rattle.linked_list.proofs.Lists.{BecomesList, becomes}
+use Rattle.linked_list.proofs.Lists.{list_at-linked}
 
 pub IsLinked-same : (s t : List ℕ) (link size : ℕ → ℕ) (head : ℕ) (ps : List ℕ) → IsLinked s link size head ps → length t ≡ length s
     → ((a : ℕ) → 0 < times a (cells link head ps) → get_or t a 0 ≡ get_or s a 0) → IsLinked t link size head ps
@@ -20,12 +20,12 @@ IsLinked-same s t link size head ps l len same =
 
 -- the same list stands in a store with the same links
 pub list-same : (s t : List ℕ) (link size : ℕ → ℕ) (head : ℕ) → HasList s link size head → length t ≡ length s
-    → ((a : ℕ) → 0 < times a (cells link head (list_at s link head)) → get_or t a 0 ≡ get_or s a 0) → BecomesList t link size head (list_at s link head)
-list-same s t link size head l len same = becomes t link size head (list_at s link head) (IsLinked-same s t link size head (list_at s link head) l len same)
+    → ((a : ℕ) → 0 < times a (cells link head (list_at s link head)) → get_or t a 0 ≡ get_or s a 0) → IsListAt t link size head (list_at s link head)
+list-same s t link size head l len same = list_at-linked t link size head (list_at s link head) (IsLinked-same s t link size head (list_at s link head) l len same)
 
 -- a write to another word than a link
 pub list-set : (s : List ℕ) (link size : ℕ → ℕ) (head a w : ℕ) → HasList s link size head → times a (cells link head (list_at s link head)) ≡ 0
-    → BecomesList (set s a w) link size head (list_at s link head)
+    → IsListAt (set s a w) link size head (list_at s link head)
 list-set s link size head a w l none =
     list-same s (set s a w) link size head l (length-set s a w)
     (λ b some. get_or-set_other s a b w 0 (λ e. absurd (omega (arith, some, none, subst (λ z. 0 < times z (cells link head (list_at s link head))) e some))))

@@ -8,6 +8,7 @@ use Rattle.linked_list.specs.Placing.{linked_in}
 use Rattle.linked_list.specs.Changed.{InsertedAt}
 use Rattle.linked_list.proofs.Counts.{hit-same, times-words_more, times-words_of}
 use Rattle.linked_list.proofs.Chains.{IsChain-same, cells-apart, last_cell-inside, nodes-same, times-cells, times-link}
+use Rattle.linked_list.proofs.AllMembers.{all-append, all-front, all-back}
 
 -- the last cell of a front is one of all the cells
 pub times-front_cell : (link : ℕ → ℕ) (at : ℕ) (xs ys : List ℕ) → 0 < times (last_cell link at xs) (cells link at (xs ++ ys))
@@ -31,18 +32,6 @@ chain-insert s t link at (x ∷ xs) ys p chain apart to from same = (
   same at (omega (arith, hit-same at at refl)) (front_cell-differs link at x xs ys apart) ∙ chain.0,
   chain-insert s t link (link x) xs ys p chain.1 (λ a. omega (arith, apart a)) to from (λ a h. same a (omega arith)),
 )
-
-pub all-append : {X : Type 0} (P : X → Type 0) (xs ys : List X) → AllByRecursion P xs → AllByRecursion P ys → AllByRecursion P (xs ++ ys)
-all-append P [] ys h k = k
-all-append P (x ∷ xs) ys h k = (h.0, all-append P xs ys h.1 k)
-
-pub all-front : {X : Type 0} (P : X → Type 0) (xs ys : List X) → AllByRecursion P (xs ++ ys) → AllByRecursion P xs
-all-front P [] ys h = tt
-all-front P (x ∷ xs) ys h = (h.0, all-front P xs ys h.1)
-
-pub all-back : {X : Type 0} (P : X → Type 0) (xs ys : List X) → AllByRecursion P (xs ++ ys) → AllByRecursion P ys
-all-back P [] ys h = h
-all-back P (x ∷ xs) ys h = all-back P xs ys h.1
 
 -- the list has the node at its place
 pub IsLinked-insert : (s t : List ℕ) (link size : ℕ → ℕ) (head : ℕ) (xs ys : List ℕ) (p : ℕ) → IsLinked s link size head (xs ++ ys) → IsFresh s link size head (xs ++ ys) p

@@ -3,6 +3,7 @@ pub mod Counts
 pub mod Frames
 pub mod Insertion
 pub mod Lists
+pub mod AllMembers
 pub mod Members
 pub mod Places
 pub mod Removal

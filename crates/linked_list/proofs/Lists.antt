@@ -2,7 +2,7 @@
 use Rattle.std.proofs.Common.{◌≡◌, ℕ, List, [], ◌∷◌, ◌++◌, Bool, true, sym, subst, append-nil}
 use Rattle.linked_list.specs.Count.{node_words, times}
 use Rattle.linked_list.specs.Chain.{last_cell, list_at}
-use Rattle.linked_list.specs.Linked.{HasList, IsFresh, IsLinked, IsNode}
+use Rattle.linked_list.specs.Linked.{IsListAt, HasList, IsFresh, IsLinked, IsNode}
 use Rattle.linked_list.specs.Placing.{cell_after, cell_before, has, insert_after, linked_in, linked_out, without}
 use Rattle.linked_list.specs.Changed.{InsertedAt, RemovedAt}
 use Rattle.linked_list.proofs.Chains.{linked-found, list_at-is}
@@ -10,21 +10,16 @@ use Rattle.linked_list.proofs.Insertion.{IsLinked-insert, fresh-cell, inserted}
 use Rattle.linked_list.proofs.Removal.{IsLinked-remove, cell-before-node, node-of, removed}
 use Rattle.linked_list.proofs.Places.{IsPlace, Stands, place, stands}
 
--- the list is this one
-pub record BecomesList (t : List ℕ) (link size : ℕ → ℕ) (head : ℕ) (ps : List ℕ) : Type 0 where
-  pub stands : HasList t link size head
-  pub list : list_at t link head ≡ ps
-
-pub becomes : (t : List ℕ) (link size : ℕ → ℕ) (head : ℕ) (ps : List ℕ) → IsLinked t link size head ps → BecomesList t link size head ps
-becomes t link size head ps l = record { stands = linked-found t link size head ps l; list = list_at-is t link size head ps l }
+pub list_at-linked : (t : List ℕ) (link size : ℕ → ℕ) (head : ℕ) (ps : List ℕ) → IsLinked t link size head ps → IsListAt t link size head ps
+list_at-linked t link size head ps l = record { stands = linked-found t link size head ps l; list = list_at-is t link size head ps l }
 
 -- a node came in behind the last one that passes a test
 pub list-insert : (s t : List ℕ) (f : ℕ → Bool) (link size : ℕ → ℕ) (head p : ℕ) → HasList s link size head → IsFresh s link size head (list_at s link head) p
-    → InsertedAt s t link size (cell_after f link head (list_at s link head)) p → BecomesList t link size head (insert_after f p (list_at s link head))
+    → InsertedAt s t link size (cell_after f link head (list_at s link head)) p → IsListAt t link size head (insert_after f p (list_at s link head))
 list-insert s t f link size head p l fresh i =
     let r : IsPlace f link head p (list_at s link head) = place f link head p (list_at s link head) in
-    subst (BecomesList t link size head) (sym r.list)
-    (becomes t link size head (r.front ++ p ∷ r.back)
+    subst (IsListAt t link size head) (sym r.list)
+    (list_at-linked t link size head (r.front ++ p ∷ r.back)
     (IsLinked-insert s t link size head r.front r.back p (subst (IsLinked s link size head) r.whole l) (subst (λ z. IsFresh s link size head z p) r.whole fresh)
     (subst (λ c. InsertedAt s t link size c p) r.cell i)))
 
@@ -46,8 +41,8 @@ list-cell s f link size head p l fresh =
 
 -- a node came in at the front
 pub list-push : (s t : List ℕ) (link size : ℕ → ℕ) (head p : ℕ) → HasList s link size head → IsFresh s link size head (list_at s link head) p
-    → InsertedAt s t link size head p → BecomesList t link size head (p ∷ list_at s link head)
-list-push s t link size head p l fresh i = becomes t link size head (p ∷ list_at s link head) (IsLinked-insert s t link size head [] (list_at s link head) p l fresh i)
+    → InsertedAt s t link size head p → IsListAt t link size head (p ∷ list_at s link head)
+list-push s t link size head p l fresh i = list_at-linked t link size head (p ∷ list_at s link head) (IsLinked-insert s t link size head [] (list_at s link head) p l fresh i)
 
 pub list-pushed : (s : List ℕ) (link size : ℕ → ℕ) (head p : ℕ) → HasList s link size head → IsFresh s link size head (list_at s link head) p
     → InsertedAt s (linked_in s link head p) link size head p
@@ -55,10 +50,10 @@ list-pushed s link size head p l fresh = inserted s link size head [] (list_at s
 
 -- a node came in at the end
 pub list-append : (s t : List ℕ) (link size : ℕ → ℕ) (head p : ℕ) → HasList s link size head → IsFresh s link size head (list_at s link head) p
-    → InsertedAt s t link size (last_cell link head (list_at s link head)) p → BecomesList t link size head (list_at s link head ++ p ∷ [])
+    → InsertedAt s t link size (last_cell link head (list_at s link head)) p → IsListAt t link size head (list_at s link head ++ p ∷ [])
 list-append s t link size head p l fresh i =
     let whole : list_at s link head ≡ list_at s link head ++ [] = sym (append-nil (list_at s link head)) in
-    becomes t link size head (list_at s link head ++ p ∷ [])
+    list_at-linked t link size head (list_at s link head ++ p ∷ [])
     (IsLinked-insert s t link size head (list_at s link head) [] p (subst (IsLinked s link size head) whole l) (subst (λ z. IsFresh s link size head z p) whole fresh) i)
 
 pub list-appended : (s : List ℕ) (link size : ℕ → ℕ) (head p : ℕ) → HasList s link size head → IsFresh s link size head (list_at s link head) p
@@ -69,11 +64,11 @@ list-appended s link size head p l fresh =
 
 -- a node of the list went out
 pub list-remove : (s t : List ℕ) (link size : ℕ → ℕ) (head p : ℕ) → HasList s link size head → has p (list_at s link head) ≡ true
-    → RemovedAt s t link size (cell_before link p head (list_at s link head)) p → BecomesList t link size head (without p (list_at s link head))
+    → RemovedAt s t link size (cell_before link p head (list_at s link head)) p → IsListAt t link size head (without p (list_at s link head))
 list-remove s t link size head p l some r =
     let h : Stands link head p (list_at s link head) = stands link head p (list_at s link head) some in
-    subst (BecomesList t link size head) (sym h.list)
-    (becomes t link size head (h.front ++ h.back)
+    subst (IsListAt t link size head) (sym h.list)
+    (list_at-linked t link size head (h.front ++ h.back)
     (IsLinked-remove s t link size head h.front h.back p (subst (IsLinked s link size head) h.whole l) (subst (λ c. RemovedAt s t link size c p) h.cell r)))
 
 -- the write for it

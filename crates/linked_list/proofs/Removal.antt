@@ -8,7 +8,8 @@ use Rattle.linked_list.specs.Placing.{linked_out}
 use Rattle.linked_list.specs.Changed.{RemovedAt}
 use Rattle.linked_list.proofs.Counts.{hit-same, times-words_more, times-words_of}
 use Rattle.linked_list.proofs.Chains.{IsChain-same, cells-apart, last_cell-inside, nodes-same, times-cells}
-use Rattle.linked_list.proofs.Insertion.{all-append, all-back, all-front, front_cell-differs, times-front_cell}
+use Rattle.linked_list.proofs.Insertion.{front_cell-differs, times-front_cell}
+use Rattle.linked_list.proofs.AllMembers.{all-back, all-front, all-append}
 
 chain-remove : (s t : List ℕ) (link : ℕ → ℕ) (at : ℕ) (xs ys : List ℕ) (p : ℕ) → IsChain s link at (xs ++ p ∷ ys) → IsApart (cells link at (xs ++ p ∷ ys))
     → get_or t (last_cell link at xs) 0 ≡ get_or s (link p) 0

@@ -1,5 +1,5 @@
 -- A linked list in a store: nodes of some words each, which lie in the store and apart from one another and from the head.
-use Rattle.std.specs.Prelude.{ℕ, ◌+◌, ◌<◌, ◌≤◌, List, ◌∷◌, length}
+use Rattle.std.specs.Prelude.{◌≡◌, ℕ, ◌+◌, ◌<◌, ◌≤◌, List, ◌∷◌, length}
 use Rattle.std.specs.List.{AllByRecursion}
 use Rattle.linked_list.specs.Count.{IsApart, node_words, times, words_of}
 use Rattle.linked_list.specs.Chain.{IsChain, list_at}
@@ -21,6 +21,11 @@ pub record IsLinked (s : List ℕ) (link size : ℕ → ℕ) (head : ℕ) (ps : 
 -- a linked list stands at the head
 abbrev pub HasList : List ℕ → (ℕ → ℕ) → (ℕ → ℕ) → ℕ → Type 0
 HasList s link size head = IsLinked s link size head (list_at s link head)
+
+-- and it is this one
+pub record IsListAt (s : List ℕ) (link size : ℕ → ℕ) (head : ℕ) (ps : List ℕ) : Type 0 where
+  pub stands : HasList s link size head
+  pub list : list_at s link head ≡ ps
 
 -- the words of a node that may come into the list lie in the store, apart from it
 pub record IsFresh (s : List ℕ) (link size : ℕ → ℕ) (head : ℕ) (ps : List ℕ) (p : ℕ) : Type 0 where

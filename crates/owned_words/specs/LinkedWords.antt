@@ -1,6 +1,7 @@
 -- The words of linked things. A kind of thing has an address, a word that links to the next one, and words, its link among them.
-use Rattle.std.specs.Prelude.{ℕ, List, [], ◌∷◌, ◌++◌}
-use Rattle.owned_words.specs.Owned.{Pairs}
+use Rattle.std.specs.Prelude.{◌≡◌, ◌<◌, ◌≤◌, ℕ, ◌+◌, List, [], ◌∷◌, ◌++◌}
+use Rattle.linked_list.specs.Count.{node_words, times}
+use Rattle.owned_words.specs.Owned.{Pairs, owners}
 use Rattle.owned_words.specs.Exchange.{Exchange}
 
 -- the address of the first one, or what the last link holds
@@ -25,3 +26,11 @@ last_link cell head (x ∷ xs) = last_link cell (cell x) xs
 -- a thing's link stands at its cell, and its other words do not depend on it
 abbrev pub LinksAt : {X : Type 0} → (X → ℕ) → (X → ℕ → Pairs) → Type 0
 LinksAt {X} cell words = (x : X) (n m : ℕ) → Exchange (words x n) (words x m) ((cell x, n) ∷ []) ((cell x, m) ∷ [])
+
+-- Things of a kind are the nodes of a list: each has its link where the list has it, and owns at least the words of its node.
+pub record AreNodes {X : Type 0} (address cell : X → ℕ) (words : X → ℕ → Pairs) (link size : ℕ → ℕ) : Type 0 where
+  pub links : LinksAt cell words
+  pub leads : (x : X) → link (address x) ≡ cell x
+  pub low : (x : X) → address x ≤ cell x
+  pub high : (x : X) → cell x < address x + size (address x)
+  pub count : (a : ℕ) (x : X) (n : ℕ) → times a (node_words size (address x)) ≤ owners a (words x n)

@@ -4,6 +4,7 @@ use Rattle.std.specs.List.{AllByRecursion, filter, list_any}
 use Rattle.std.specs.List.Sorted.{IsNonDecreasingBy}
 use Rattle.std.proofs.lemmas.Bool.Decides.{nat_tests}
 use Rattle.linked_list.specs.Placing.{insert_after}
+use Rattle.linked_list.proofs.AllMembers.{all-insert, all-map}
 
 -- the number of each element is at most that of each later one
 abbrev pub Rises : (ℕ → ℕ) → List ℕ → Type 0
@@ -35,14 +36,6 @@ Rises-to n (x ∷ xs) r (suc i) (suc j) d low less = Rises-to n xs r.1 i j d (om
 abbrev pub up_to : (ℕ → ℕ) → ℕ → ℕ → Bool
 up_to n d q = nat_le (n q) d
 
-all-insert : (P : ℕ → Type 0) (f : ℕ → Bool) (p : ℕ) (ps : List ℕ) → P p → AllByRecursion P ps → AllByRecursion P (insert_after f p ps)
-all-insert P f p [] new all = (new, tt)
-all-insert P f p (q ∷ qs) new all = on (list_any f (q ∷ qs)) (all-insert P f p qs new all.1)
-  where
-    on : (b : Bool) → AllByRecursion P (insert_after f p qs) → AllByRecursion P (cond b (q ∷ insert_after f p qs) (p ∷ q ∷ qs))
-    on true more = (all.0, more)
-    on false more = (new, all)
-
 -- where one passes, the first does, since it is the lowest
 lowest : (n : ℕ → ℕ) (d q : ℕ) (qs : List ℕ) → AllByRecursion (λ r. n q ≤ n r) qs → list_any (up_to n d) (q ∷ qs) ≡ true → n q ≤ d
 lowest n d q qs low some = on (nat_le (n q) d) refl some (λ more. among qs low more)
@@ -69,10 +62,6 @@ above n d (q ∷ qs) none = on (nat_le (n q) d) refl none (λ more. above n d qs
     on true t k more = cc
     on false t k more = (grind (arith, nat_tests), more k)
 
-all-weaker : (P Q : ℕ → Type 0) (xs : List ℕ) → ((x : ℕ) → P x → Q x) → AllByRecursion P xs → AllByRecursion Q xs
-all-weaker P Q [] h all = tt
-all-weaker P Q (x ∷ xs) h all = (h x all.0, all-weaker P Q xs h all.1)
-
 pub Rises-insert : (n : ℕ → ℕ) (d p : ℕ) (ps : List ℕ) → n p ≡ d → Rises n ps → Rises n (insert_after (up_to n d) p ps)
 Rises-insert n d p [] own r = (tt, tt)
 Rises-insert n d p (q ∷ qs) own r = on (list_any (up_to n d) (q ∷ qs)) refl (Rises-insert n d p qs own r.1)
@@ -81,7 +70,7 @@ Rises-insert n d p (q ∷ qs) own r = on (list_any (up_to n d) (q ∷ qs)) refl 
     on true some more =
         (all-insert (λ r. n q ≤ n r) (up_to n d) p qs (omega (arith, own, lowest n d q qs r.0 some)) r.0, more)
     on false none more =
-        (all-weaker (λ r. d < n r) (λ r. n p ≤ n r) (q ∷ qs) (λ x h. omega (arith, own, h)) (above n d (q ∷ qs) none), r)
+        (all-map (λ r. d < n r) (λ r. n p ≤ n r) (q ∷ qs) (λ x some h. omega (arith, own, h)) (above n d (q ∷ qs) none), r)
 
 -- the elements with one number
 abbrev pub with_number : (ℕ → ℕ) → ℕ → List ℕ → List ℕ

@@ -6,7 +6,8 @@ use Rattle.linked_list.specs.Chain.{IsChain, last_cell}
 use Rattle.linked_list.specs.Placing.{cell_before, has, insert_after, linked_in, without}
 use Rattle.linked_list.specs.Changed.{InsertedAt, RemovedAt}
 use Rattle.linked_list.proofs.Counts.{times-differ, times-within}
-use Rattle.linked_list.proofs.Lists.{BecomesList, list-append, list-appended, list-cell, list-cell_before, list-insert, list-inserted, list-remove, list-removed}
+use Rattle.linked_list.proofs.Lists.{list-append, list-appended, list-cell, list-cell_before, list-insert, list-inserted, list-remove, list-removed}
+use Rattle.linked_list.specs.Linked.{IsListAt}
 use Rattle.linked_list.proofs.Removal.{removed-then}
 use Rattle.linked_list.proofs.Walks.{can_walk, walk-ends, walk-goes-on}
 use Rattle.packet_queue.specs.Queue.{CanQueue, HasQueue, last_link, link_of, no_queue, packet_size, queue_at, unlinked}
@@ -18,7 +19,7 @@ last_cell-none s at [] chain = chain
 last_cell-none s at (p ∷ ps) chain = last_cell-none s p ps chain.1
 
 pub appended : (s : List ℕ) (head p : ℕ) → HasQueue s head → CanQueue s head p
-    → BecomesList (set (set s p 0) (last_link s head) p) link_of packet_size head (queue_at s head ++ p ∷ [])
+    → IsListAt (set (set s p 0) (last_link s head) p) link_of packet_size head (queue_at s head ++ p ∷ [])
 appended s head p queue fresh =
     let cell : ℕ = last_link s head in
     let words : linked_in s link_of cell p ≡ set (set s p 0) cell p = ap (λ w. set (set s p w) cell p) (last_cell-none s head (queue_at s head) queue.chain) in
@@ -44,12 +45,12 @@ due_written s head p due queue fresh =
     (omega (arith, times-within (p + 4) p 5 (omega arith) (omega arith))) (λ e. absurd (omega (arith, e))) (list-cell s (is_due s due) link_of packet_size head p queue fresh)
 
 pub due_appended : (s : List ℕ) (head p due : ℕ) → HasQueue s head → CanQueue s head p
-    → BecomesList (with_due s head p due) link_of packet_size head (insert_after (is_due s due) p (queue_at s head))
+    → IsListAt (with_due s head p due) link_of packet_size head (insert_after (is_due s due) p (queue_at s head))
 due_appended s head p due queue fresh =
     list-insert s (with_due s head p due) (is_due s due) link_of packet_size head p queue fresh (due_written s head p due queue fresh)
 
 pub removed : (s : List ℕ) (head p : ℕ) → HasQueue s head → has p (queue_at s head) ≡ true
-    → BecomesList (unlinked s head p) link_of packet_size head (without p (queue_at s head))
+    → IsListAt (unlinked s head p) link_of packet_size head (without p (queue_at s head))
 removed s head p queue some =
     let cell : ℕ = cell_before link_of p head (queue_at s head) in
     list-remove s (unlinked s head p) link_of packet_size head p queue some

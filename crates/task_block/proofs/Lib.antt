@@ -2,4 +2,6 @@ pub mod TaskNumbers
 pub mod PriorityOrder
 pub mod TaskInsertion
 pub mod TaskRemoval
+pub mod NewTask
+pub mod HeldTaskBlocks
 pub mod TableEntries

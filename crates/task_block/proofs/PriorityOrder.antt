@@ -4,18 +4,7 @@ use Rattle.std.specs.List.{AllByRecursion, list_any}
 use Rattle.std.proofs.lemmas.Bool.Decides.{nat_tests}
 use Rattle.linked_list.specs.Placing.{insert_after, without}
 use Rattle.task_block.specs.TaskChain.{Fall, is_above, priority_in}
-
-pub all-insert : (P : ℕ → Type 0) (f : ℕ → Bool) (t : ℕ) (ts : List ℕ) → P t → AllByRecursion P ts → AllByRecursion P (insert_after f t ts)
-all-insert P f t [] h all = (h, tt)
-all-insert P f t (q ∷ qs) h all =
-    elim (list_any f (q ∷ qs)) as (λ b. AllByRecursion P (cond b (q ∷ insert_after f t qs) (t ∷ q ∷ qs))) [
-      | true ↦ (all.0, all-insert P f t qs h all.1)
-      | false ↦ (h, all)
-    ]
-
-all-without : (P : ℕ → Type 0) (t : ℕ) (ts : List ℕ) → AllByRecursion P ts → AllByRecursion P (without t ts)
-all-without P t [] all = tt
-all-without P t (q ∷ qs) all = elim (eqb t q) as (λ b. AllByRecursion P (cond b qs (q ∷ without t qs))) [ true ↦ all.1 | false ↦ (all.0, all-without P t qs all.1) ]
+use Rattle.linked_list.proofs.AllMembers.{all-insert, all-without}
 
 -- where one of falling priorities is above, the first is
 first-above : (s : List ℕ) (t q : ℕ) (qs : List ℕ) → AllByRecursion (λ u. priority_in s u < priority_in s q) qs → list_any (is_above s t) (q ∷ qs) ≡ true → priority_in s t < priority_in s q

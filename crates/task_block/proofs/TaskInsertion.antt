@@ -5,18 +5,19 @@ use Rattle.std.specs.List.{AllByRecursion}
 use Rattle.std.proofs.lemmas.Bool.{cases_eq}
 use Rattle.linked_list.specs.Count.{IsApart, node_words, times, words_of}
 use Rattle.linked_list.specs.Chain.{cells, last_cell, list_at}
-use Rattle.linked_list.specs.Linked.{IsFresh, IsLinked}
+use Rattle.linked_list.specs.Linked.{IsFresh, IsLinked, IsListAt}
 use Rattle.linked_list.specs.Placing.{insert_after, linked_in}
 use Rattle.linked_list.proofs.Counts.{hit-other, hit-same, times-append, times-within, times-words_more, times-words_of}
 use Rattle.linked_list.proofs.Chains.{times-cells}
 use Rattle.linked_list.proofs.Frames.{list-set, word-no_cell}
-use Rattle.linked_list.proofs.Insertion.{all-append, all-back, all-front, times-front_cell}
-use Rattle.linked_list.proofs.Lists.{BecomesList, list-cell, list-insert, list-inserted}
+use Rattle.linked_list.proofs.Insertion.{times-front_cell}
+use Rattle.linked_list.proofs.AllMembers.{all-back, all-front, all-append, all-insert}
+use Rattle.linked_list.proofs.Lists.{list-cell, list-insert, list-inserted}
 use Rattle.linked_list.proofs.Places.{IsPlace, place}
 use Rattle.task_block.specs.Moves.{link_above, with_task}
 use Rattle.task_block.specs.Versions.{highest_id}
 use Rattle.task_block.specs.TaskChain.{Fall, HasTasks, IsInTable, IsNewTask, id_in, is_above, priority_in, root_words, task_link, task_size, task_with, tasks_in}
-use Rattle.task_block.proofs.PriorityOrder.{Fall-insert, Fall-same, all-insert}
+use Rattle.task_block.proofs.PriorityOrder.{Fall-insert, Fall-same}
 use Rattle.task_block.proofs.TaskNumbers.{task_with-here, task_with-none, task_with-other, task_with-same}
 
 -- the words of the root and the table are no words of a new task, and none of the chain's tasks
@@ -143,7 +144,7 @@ task-in s t h n =
     let fresh : IsFresh s task_link task_size 101 (tasks_in s) t = new-fresh s t n in
     let r : IsPlace (is_above s t) task_link 101 t (tasks_in s) = place (is_above s t) task_link 101 t (tasks_in s) in
     let u : List ℕ = linked_in s task_link (link_above s t) t in
-    let linked : BecomesList u task_link task_size 101 (insert_after (is_above s t) t (tasks_in s)) =
+    let linked : IsListAt u task_link task_size 101 (insert_after (is_above s t) t (tasks_in s)) =
     list-insert s u (is_above s t) task_link task_size 101 t h.chain fresh (list-inserted s (is_above s t) task_link task_size 101 t h.chain fresh)
     in
     let list : insert_after (is_above s t) t (tasks_in s) ≡ r.front ++ t ∷ r.back = r.list in
@@ -166,7 +167,7 @@ task-in s t h n =
       hit-other (120 + id_in s t) 101 (λ k. absurd (omega (arith, k))),
     )
     in
-    let done : BecomesList v task_link task_size 101 (list_at u task_link 101) = list-set u task_link task_size 101 (120 + id_in s t) t linked.stands no_cell in
+    let done : IsListAt v task_link task_size 101 (list_at u task_link 101) = list-set u task_link task_size 101 (120 + id_in s t) t linked.stands no_cell in
     let v_list : tasks_in v ≡ r.front ++ t ∷ r.back = done.list ∙ u_list in
     let top : highest_id v ≡ highest_id s = root-stays s t 120 h n (omega arith) (omega arith) (λ k. absurd (omega (arith, k))) (λ k. absurd (omega (arith, k, n.low))) in
     let ids : AllByRecursion (λ u. id_in v u ≡ id_in s u) (r.front ++ r.back) = subst (AllByRecursion (λ u. id_in v u ≡ id_in s u)) r.whole (all-stay s t 1 h n (omega arith) (omega arith)) in

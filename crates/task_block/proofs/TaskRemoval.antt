@@ -5,17 +5,18 @@ use Rattle.std.specs.List.{AllByRecursion}
 use Rattle.std.proofs.lemmas.Bool.{cases_eq}
 use Rattle.linked_list.specs.Count.{IsApart, node_words, times, words_of}
 use Rattle.linked_list.specs.Chain.{cells, last_cell, list_at}
-use Rattle.linked_list.specs.Linked.{IsLinked}
+use Rattle.linked_list.specs.Linked.{IsLinked, IsListAt, IsNode}
 use Rattle.linked_list.specs.Placing.{cell_before, has, linked_out, without}
 use Rattle.linked_list.proofs.Counts.{hit-other, times-append, times-within, times-words_more, times-words_of}
 use Rattle.linked_list.proofs.Chains.{times-cells}
 use Rattle.linked_list.proofs.Frames.{list-set, word-no_cell}
-use Rattle.linked_list.proofs.Insertion.{all-append, all-back, all-front, times-front_cell}
-use Rattle.linked_list.proofs.Lists.{BecomesList, list-node, list-remove, list-removed}
+use Rattle.linked_list.proofs.Insertion.{times-front_cell}
+use Rattle.linked_list.proofs.AllMembers.{all-back, all-front, all-append}
+use Rattle.linked_list.proofs.Lists.{list-node, list-remove, list-removed}
 use Rattle.linked_list.proofs.Places.{Stands, stands}
 use Rattle.task_block.specs.Moves.{without_task}
 use Rattle.task_block.specs.Versions.{highest_id}
-use Rattle.task_block.specs.TaskChain.{Fall, HasTasks, IsInTable, id_in, root_words, task_link, task_size, task_with, tasks_in}
+use Rattle.task_block.specs.TaskChain.{Fall, HasTasks, IsInTable, IsNewTask, id_in, root_words, task_link, task_size, task_with, tasks_in}
 use Rattle.task_block.proofs.TaskInsertion.{root-hit, root-no_cell}
 use Rattle.task_block.proofs.PriorityOrder.{Fall-same, Fall-without}
 use Rattle.task_block.proofs.TaskNumbers.{none-task_with, task_with-other, task_with-same}
@@ -70,13 +71,16 @@ pub record TaskOut (s v : List ℕ) (t : ℕ) : Type 0 where
   pub list : tasks_in v ≡ without t (tasks_in s)
   pub tasks : HasTasks v
   pub same : (j : ℕ) → 0 < j → j < 23 → AllByRecursion (λ u. get_or v (u + j) 0 ≡ get_or s (u + j) 0) (tasks_in v)
+  pub own : (j : ℕ) → 0 < j → j < 23 → get_or v (t + j) 0 ≡ get_or s (t + j) 0
+  pub task : IsNewTask v t
+  pub others : AllByRecursion (λ u. id_in s u ≢ id_in s t) (tasks_in v)
 
 pub task-out : (s : List ℕ) (t : ℕ) → HasTasks s → has t (tasks_in s) ≡ true → TaskOut s (without_task s t) t
 task-out s t h some =
     let v : List ℕ = without_task s t in
     let r : Stands task_link 101 t (tasks_in s) = stands task_link 101 t (tasks_in s) some in
     let u : List ℕ = linked_out s task_link (link_before s t) t in
-    let linked : BecomesList u task_link task_size 101 (without t (tasks_in s)) =
+    let linked : IsListAt u task_link task_size 101 (without t (tasks_in s)) =
     list-remove s u task_link task_size 101 t h.chain some (list-removed s task_link task_size 101 t h.chain some)
     in
     let mine : InChain s t = in-chain s h r.front t r.back r.whole in
@@ -98,7 +102,7 @@ task-out s t h some =
       hit-other (120 + id_in s t) 101 (λ k. absurd (omega (arith, k))),
     )
     in
-    let done : BecomesList v task_link task_size 101 (list_at u task_link 101) = list-set u task_link task_size 101 (120 + id_in s t) 0 linked.stands no_cell in
+    let done : IsListAt v task_link task_size 101 (list_at u task_link 101) = list-set u task_link task_size 101 (120 + id_in s t) 0 linked.stands no_cell in
     let v_list : tasks_in v ≡ r.front ++ r.back = done.list ∙ u_list in
     let root_stays : (a : ℕ) → 100 ≤ a → a < 184 → a ≢ 101 → a ≢ 120 + id_in s t → get_or v a 0 ≡ get_or s a 0 = λ a low high ne no_entry. stays s t a r (root-no_cell s h a low high ne) no_entry in
     let top : highest_id v ≡ highest_id s = root_stays 120 (omega arith) (omega arith) (λ k. absurd (omega (arith, k))) (λ k. absurd (omega (arith, k, mine.table.low))) in
@@ -119,8 +123,31 @@ task-out s t h some =
           ∙ ap (λ o. unwrap_or o 0) (ap (λ z. task_with s i z) r.whole ∙ task_with-other s i r.front t r.back (λ k. ne (sym k)) ∙ sym (task_with-same s v i (r.front ++ r.back) ids))
     ]
     in
+    let own : (j : ℕ) → 0 < j → j < 23 → get_or v (t + j) 0 ≡ get_or s (t + j) 0 = λ j some few. (same_word s t h r mine j some few (t ∷ []) (mine, tt)).0 in
+    let id : id_in v t ≡ id_in s t = own 1 (omega arith) (omega arith) in
+    let node : IsNode s task_link task_size t = list-node s task_link task_size 101 t h.chain some in
     record {
       list = v_list ∙ sym r.list;
+      own = own;
+      others = subst (AllByRecursion (λ u. id_in s u ≢ id_in s t)) (sym v_list) others;
+      task =
+          record {
+            node = record { some = node.some; after = node.after; before = node.before; inside = omega (arith, node.inside, length-without_task s t) };
+            apart = λ a.
+                omega (
+                  arith,
+                  h.apart a,
+                  counts a,
+                  ap (λ z. times a (words_of task_size z)) v_list,
+                  times-append a root_words (words_of task_size (tasks_in s)),
+                  times-append a root_words (words_of task_size (tasks_in v)),
+                );
+            low = omega (arith, id, mine.table.low);
+            high = omega (arith, id, top, mine.table.high);
+            unused =
+                ap (task_with v (id_in v t)) v_list ∙ task_with-same s v (id_in v t) (r.front ++ r.back) ids
+                ∙ none-task_with s (id_in v t) (r.front ++ r.back) (subst (λ k. AllByRecursion (λ u. id_in s u ≢ k) (r.front ++ r.back)) (sym id) others);
+          };
       tasks =
           record {
             root = omega (arith, length-without_task s t, h.root);

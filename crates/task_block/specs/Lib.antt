@@ -4,3 +4,4 @@ pub mod Versions
 pub mod TaskChain
 pub mod Lists
 pub mod Moves
+pub mod HeldTasks

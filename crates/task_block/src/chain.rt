@@ -47,13 +47,15 @@ fn link_above(store: &Store, t: u32) -> u32
 }
 
 /// Takes the task at t out of the chain and out of the table. Written are the link or head before it and its entry of the
-/// table, so the words of its block stay, the link too. Where priorities fell along the chain, they still fall.
+/// table, so the words of its block stay, the link too, and it may come in again. Where priorities fell along the chain,
+/// they still fall.
 pub fn unlink(store: &mut Store, t: u32)
     requires tasks { HasTasks store.old }
     requires task { has t (tasks_in store.old) ≡ true }
     ensures chain { tasks_in store.new ≡ without t (tasks_in store.old) }
     ensures words { store.new ≡ without_task store.old t }
     ensures tasks { HasTasks store.new }
+    ensures task { IsNewTask store.new t }
     ensures order { Fall store.old (tasks_in store.old) → Fall store.new (tasks_in store.new) }
 {
     let id = field(store, t, TcbField::Id);

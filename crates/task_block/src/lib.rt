@@ -3,6 +3,7 @@
 
 pub mod chain;
 pub mod fields;
+pub mod laws;
 pub mod lists;
 pub mod roots;
 pub mod search;

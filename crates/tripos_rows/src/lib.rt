@@ -5,5 +5,3 @@
 mod instructions;
 #[cfg(test)]
 mod listings;
-#[cfg(test)]
-mod pictured;

@@ -1,13 +1,13 @@
 // Words by their addresses. What stands at an address is a row of words, numbered from 0.
-ghost use Rattle.std.specs.Prelude.{◌≡◌, ◌+◌, ◌<◌, ◌≤◌, length, slice_index, slice_set};
+ghost use Rattle.std.specs.Prelude.{◌≡◌, ◌+◌, ◌≤◌, length, slice_index, slice_set};
 ghost use Rattle.word_store.specs.Row.{with_words};
 
 use super::Store;
 
 impl Store {
-    /// The address of word i of what stands at address a, where it is inside.
+    /// The address of word i of what stands at address a. It is inside, or directly behind the last word.
     pub fn address_of(&self, a: u32, i: u32) -> u32
-        requires { a + i < length self.now }
+        requires { a + i ≤ length self.now }
         ensures { result ≡ a + i }
     {
         // an address is the number of words before it

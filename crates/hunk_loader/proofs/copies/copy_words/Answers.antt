@@ -1,6 +1,6 @@
 use Rattle.std.proofs.Common.{refl, sym, arith, subst, ◌+◌, List, ℕ}
 use Rattle.word_store.specs.Row.{with_words}
-use Rattle.hunk_loader.proofs.Copied.{CopyLeft, copy_done, copy_more, copy_some}
+use Rattle.hunk_loader.proofs.CopiedWords.{CopyLeft, copy_done, copy_more, copy_some}
 use Rattle.hunk_loader.proofs.copies.copy_words.Goals as goal
 
 pub loop-a-init : goal.loop-a-init

@@ -2,13 +2,13 @@ use Rattle.std.proofs.Common.{◌≡◌, ◌∙◌, length, ap, refl, arith}
 use Rattle.hunk_loader.specs.Follow.{places}
 use Rattle.hunk_text.specs.ModuleForm.{relocation_items}
 use Rattle.std.specs.Prelude.{◌++◌}
-use Rattle.hunk_loader.proofs.Copied.{read_further}
-use Rattle.hunk_loader.proofs.Relocated.{inside_same, length-relocated, list_inside, lists_done, lists_more, lists_some}
+use Rattle.hunk_loader.proofs.CopiedWords.{read_further}
+use Rattle.hunk_loader.proofs.RelocationLists.{inside_same, length-relocated, list_inside, lists_done, lists_more, lists_some}
 use Rattle.hunk_loader.proofs.relocation.relocate.Goals as goal
 
 pub loop-next-init : goal.loop-next-init
 loop-next-init g c =
-    let r = c.requires.lists in
+    let r = c.requires in
     record {
       all = λ lists others f. record { lists = lists; follow = f; all = refl };
       inside = record { lists = r.0; others = r.1; follow = r.2; inside = r.3 };
@@ -26,13 +26,10 @@ pub returns-then-next-ne-RELOCATIONS-clause-others : goal.returns-then-next-ne-R
 returns-then-next-ne-RELOCATIONS-clause-others g c = λ lists others f.
     (lists_done _ _ _ _ c.read_word-next.result _ _ (c.loop-next.invariant.all lists others f) c.read_word-next.ensures c.if-next-ne-RELOCATIONS.true).1
 
-pub relocate_by_list-place-requires-clause-offsets : goal.relocate_by_list-place-requires-clause-offsets
-relocate_by_list-place-requires-clause-offsets g c =
+pub relocate_by_list-place-requires : goal.relocate_by_list-place-requires
+relocate_by_list-place-requires g c =
     let k = list_inside _ _ _ _ c.read_word-next.result c.loop-next.invariant.inside c.read_word-next.ensures c.if-next-ne-RELOCATIONS.false in
     (k.first.offsets, relocation_items k.first.more ++ c.loop-next.invariant.inside.others, k.first.follow, k.inside)
-
-pub relocate_by_list-place-requires-clause-addresses : goal.relocate_by_list-place-requires-clause-addresses
-relocate_by_list-place-requires-clause-addresses g c = let size = c.loop-next.invariant.size in omega (arith, c.requires.addresses)
 
 pub loop-next-smaller : goal.loop-next-smaller
 loop-next-smaller g c =

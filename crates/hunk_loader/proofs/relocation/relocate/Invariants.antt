@@ -1,8 +1,8 @@
 use Rattle.std.proofs.Common.{◌≡◌, ◌-◌, ℕ, List, length}
 use Rattle.std.specs.List.{concat}
 use Rattle.hunk_loader.specs.Follow.{ListsFollow, places}
-use Rattle.hunk_loader.specs.Relocated.{relocated}
-use Rattle.hunk_loader.proofs.Relocated.{ListsInside, ListsLeft}
+use Rattle.hunk_loader.specs.RelocatedWords.{relocated}
+use Rattle.hunk_loader.proofs.RelocationLists.{ListsInside, ListsLeft}
 use Rattle.hunk_loader.proofs.relocation.relocate.Given as goal
 
 abbrev pub invariant-loop-next : goal.invariant-loop-next

@@ -1,13 +1,13 @@
 use Rattle.std.proofs.Common.{◌≡◌, ◌∙◌, ◌-◌, ◌+◌, ℕ, List, length, get_or, refl, sym, subst, arith, length-set}
 use Rattle.word_store.specs.Arithmetic.{add}
 use Rattle.hunk_loader.specs.Follow.{places}
-use Rattle.hunk_loader.specs.Relocated.{relocated}
-use Rattle.hunk_loader.proofs.Copied.{read_further}
-use Rattle.hunk_loader.proofs.Relocated.{OffsetsLeft, inside_begin, inside_more, offsets_begin, offsets_done, offsets_more, offsets_some}
+use Rattle.hunk_loader.specs.RelocatedWords.{relocated}
+use Rattle.hunk_loader.proofs.CopiedWords.{read_further}
+use Rattle.hunk_loader.proofs.RelocationLists.{OffsetsLeft, inside_begin, inside_more, offsets_begin, offsets_done, offsets_more, offsets_some}
 use Rattle.hunk_loader.proofs.relocation.relocate_by_list.Goals as goal
 
 pub read_word-count-requires : goal.read_word-count-requires
-read_word-count-requires g c = offsets_some _ _ _ _ c.requires.offsets.2
+read_word-count-requires g c = offsets_some _ _ _ _ c.requires.2
 
 pub loop-init : goal.loop-init
 loop-init g c =
@@ -15,24 +15,13 @@ loop-init g c =
     let r = c.read_word-count.result in
     record {
       all = λ offsets others f. offsets_begin text c.args.store.now c.args.from c.args.base (r.word - 0) r offsets others f c.read_word-count.ensures (omega arith);
-      inside = inside_begin text c.args.store.now c.args.from c.args.base (r.word - 0) r _ _ c.requires.offsets.2 c.requires.offsets.3 c.read_word-count.ensures (omega arith);
+      inside = inside_begin text c.args.store.now c.args.from c.args.base (r.word - 0) r _ _ c.requires.2 c.requires.3 c.read_word-count.ensures (omega arith);
       size = refl;
       further = (read_further text c.args.from r c.read_word-count.ensures).0;
     }
 
 pub read_word-offset-requires : goal.read_word-offset-requires
 read_word-offset-requires g c = (inside_more _ _ _ _ _ (c.read_word-count.result.word - (c.loop.counter + 1)) c.loop.invariant.inside (omega arith)).some
-
-pub overflow_add-base : goal.overflow_add-base
-overflow_add-base g c =
-    let o = inside_more _ _ _ _ _ (c.read_word-count.result.word - (c.loop.counter + 1)) c.loop.invariant.inside (omega arith) in
-    let here = o.here c.read_word-offset.result c.read_word-offset.ensures in
-    omega arith
-
-pub relocate_word-requires : goal.relocate_word-requires
-relocate_word-requires g c =
-    let o = inside_more _ _ _ _ _ (c.read_word-count.result.word - (c.loop.counter + 1)) c.loop.invariant.inside (omega arith) in
-    o.here c.read_word-offset.result c.read_word-offset.ensures
 
 pub loop-preserved : goal.loop-preserved
 loop-preserved g c =

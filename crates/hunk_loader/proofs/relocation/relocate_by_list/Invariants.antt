@@ -1,7 +1,7 @@
 use Rattle.std.proofs.Common.{◌≡◌, ◌-◌, ◌<◌, ℕ, List, length}
 use Rattle.hunk_loader.specs.Follow.{OffsetsFollow, places}
-use Rattle.hunk_loader.specs.Relocated.{relocated}
-use Rattle.hunk_loader.proofs.Relocated.{OffsetsInside, OffsetsLeft}
+use Rattle.hunk_loader.specs.RelocatedWords.{relocated}
+use Rattle.hunk_loader.proofs.RelocationLists.{OffsetsInside, OffsetsLeft}
 use Rattle.hunk_loader.proofs.relocation.relocate_by_list.Given as goal
 
 abbrev pub invariant-loop : goal.invariant-loop

@@ -1,6 +1,6 @@
 use Rattle.std.proofs.Common.{◌≡◌, ◌∙◌, ◌+◌, ap, set, sym, subst}
 use Rattle.linked_list.specs.Placing.{insert_after, linked_in}
-use Rattle.linked_list.proofs.Lists.{BecomesList}
+use Rattle.linked_list.specs.Linked.{IsListAt}
 use Rattle.linked_list.proofs.Walks.{no_offset}
 use Rattle.packet_queue.specs.Queue.{link_of, packet_size, queue_at}
 use Rattle.packet_queue.specs.Due.{is_due, with_due}
@@ -15,9 +15,9 @@ words c =
 pub returns-clause-words : goal.returns-clause-words
 returns-clause-words c = words c
 
-after : (c : goal.After-set_due) → BecomesList c.set_due.new.store link_of packet_size c.args.head (insert_after (is_due c.args.store.now c.args.due) c.args.p (queue_at c.args.store.now c.args.head))
+after : (c : goal.After-set_due) → IsListAt c.set_due.new.store link_of packet_size c.args.head (insert_after (is_due c.args.store.now c.args.due) c.args.p (queue_at c.args.store.now c.args.head))
 after c =
-    subst (λ t. BecomesList t link_of packet_size c.args.head (insert_after (is_due c.args.store.now c.args.due) c.args.p (queue_at c.args.store.now c.args.head))) (sym (words c))
+    subst (λ t. IsListAt t link_of packet_size c.args.head (insert_after (is_due c.args.store.now c.args.due) c.args.p (queue_at c.args.store.now c.args.head))) (sym (words c))
     (due_appended c.args.store.now c.args.head c.args.p c.args.due c.requires.queue c.requires.packet)
 
 pub returns-clause-queue : goal.returns-clause-queue

@@ -1,6 +1,6 @@
 use Rattle.std.proofs.Common.{◌≡◌, ◌∙◌, ℕ, List, true, false, refl, ap, set, sym, subst}
 use Rattle.linked_list.specs.Placing.{has, without}
-use Rattle.linked_list.proofs.Lists.{BecomesList}
+use Rattle.linked_list.specs.Linked.{IsListAt}
 use Rattle.linked_list.proofs.Places.{without-none}
 use Rattle.linked_list.proofs.UnlinkAnswer.{unlink-found, unlink-words}
 use Rattle.linked_list.proofs.Walks.{no_offset}
@@ -21,7 +21,7 @@ returns-then-not-unlink-clause-queue c =
 -- the packet was there, and went
 record Removal (s v : List ℕ) (head p : ℕ) : Type 0 where
   pub words : v ≡ unlinked s head p
-  pub queue : BecomesList v link_of packet_size head (without p (queue_at s head))
+  pub queue : IsListAt v link_of packet_size head (without p (queue_at s head))
 
 after : (c : goal.After-set) → Removal c.args.store.now c.set.new.self c.args.head c.args.p
 after c =
@@ -32,7 +32,7 @@ after c =
     ∙ ap (λ z. set z c.args.p no_queue) (unlink-words s c.unlink.new.store c.args.p true no_offset refl c.if-not-unlink.ensures.found there c.if-not-unlink.ensures.words) in
     record {
       words = words;
-      queue = subst (λ t. BecomesList t link_of packet_size c.args.head (without c.args.p (queue_at s c.args.head))) (sym words)
+      queue = subst (λ t. IsListAt t link_of packet_size c.args.head (without c.args.p (queue_at s c.args.head))) (sym words)
           (removed s c.args.head c.args.p c.requires there);
     }
 

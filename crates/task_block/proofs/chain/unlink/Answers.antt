@@ -6,7 +6,7 @@ use Rattle.linked_list.specs.Placing.{has, without_node}
 use Rattle.linked_list.proofs.UnlinkAnswer.{unlink-words}
 use Rattle.linked_list.proofs.Walks.{no_offset}
 use Rattle.task_block.specs.Moves.{without_task}
-use Rattle.task_block.specs.TaskChain.{Fall, HasTasks, task_link, tasks_in}
+use Rattle.task_block.specs.TaskChain.{Fall, HasTasks, IsNewTask, task_link, tasks_in}
 use Rattle.task_block.proofs.TaskRemoval.{fall-out, task-out}
 use Rattle.task_block.proofs.chain.unlink.Goals as goal
 
@@ -25,6 +25,9 @@ returns-clause-chain c = ap tasks_in (words c) ∙ (task-out c.args.store.now c.
 
 pub returns-clause-tasks : goal.returns-clause-tasks
 returns-clause-tasks c = subst HasTasks (sym (words c)) (task-out c.args.store.now c.args.t c.requires.tasks c.requires.task).tasks
+
+pub returns-clause-task : goal.returns-clause-task
+returns-clause-task c = subst (λ v. IsNewTask v c.args.t) (sym (words c)) (task-out c.args.store.now c.args.t c.requires.tasks c.requires.task).task
 
 pub returns-clause-order : goal.returns-clause-order
 returns-clause-order c = λ fall. subst (λ v. Fall v (tasks_in v)) (sym (words c)) (fall-out c.args.store.now c.args.t c.requires.tasks c.requires.task fall)

@@ -9,7 +9,7 @@ returns-then-node-eq0-clause-steps c =
     (none, none)
 
 pub address_of-self-inside-requires : goal.address_of-self-inside-requires
-address_of-self-inside-requires c = (walk-goes-on _ _ _ _ c.self.invariant c.word-node.ensures c.if-node-eq0.false).inside
+address_of-self-inside-requires c = omega (arith, (walk-goes-on _ _ _ _ c.self.invariant c.word-node.ensures c.if-node-eq0.false).inside)
 
 pub invariant_of-self : goal.invariant_of-self
 invariant_of-self c = rw c.address_of-self-inside.ensures (walk-goes-on _ _ _ _ c.self.invariant c.word-node.ensures c.if-node-eq0.false).walk

@@ -1,6 +1,6 @@
 use Rattle.std.proofs.Common.{arith}
 use Rattle.hunk_loader.proofs.TextModules.{last_word_few, module_found}
-use Rattle.hunk_loader.proofs.loading.last_word.Goals as goal
+use Rattle.hunk_loader.proofs.calls.last_word.Goals as goal
 
 pub overflow_add-result : goal.overflow_add-result
 overflow_add-result g c =

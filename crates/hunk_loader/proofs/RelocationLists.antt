@@ -12,8 +12,8 @@ use Rattle.hunk_text.proofs.Complete.{all_back, all_front}
 use Rattle.word_store.specs.Row.{with_words}
 use Rattle.word_store.proofs.Rows.{get_or-with_words, set-with_words}
 use Rattle.hunk_loader.specs.Follow.{AreInside, BeginsOther, ListsFollow, OffsetsFollow, places}
-use Rattle.hunk_loader.specs.Relocated.{relocated}
-use Rattle.hunk_loader.proofs.Copied.{some_word, was_read}
+use Rattle.hunk_loader.specs.RelocatedWords.{relocated}
+use Rattle.hunk_loader.proofs.CopiedWords.{some_word, was_read}
 
 -- ---- the words that relocation makes
 

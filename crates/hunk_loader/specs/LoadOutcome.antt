@@ -8,8 +8,8 @@ use Rattle.hunk_text.specs.ModuleForm.{IsModule}
 use Rattle.hunk_text.specs.Shapes.{check_of}
 use Rattle.hunk_text.specs.declared.modules.Module.{Module}
 use Rattle.hunk_loader.specs.ModuleRow.{last_word, module_row}
-use Rattle.hunk_loader.specs.declared.loading.LoadEnd.{LoadEnd}
-use Rattle.hunk_loader.specs.declared.loading.LoadEnd.TheVariants.{Module as BadText, NoRoom}
+use Rattle.hunk_loader.specs.declared.calls.LoadEnd.{LoadEnd}
+use Rattle.hunk_loader.specs.declared.calls.LoadEnd.TheVariants.{Module as BadText, NoRoom}
 
 -- the store t is s, where a block was taken for the module of the text, and its words were put there, from the link to the
 -- end of the last hunk, and its address in word 104

@@ -3,8 +3,8 @@ use Rattle.getvec_chain.specs.Run.{first_run, need}
 use Rattle.getvec_chain.specs.Tiling.{blocks_in}
 use Rattle.hunk_loader.specs.ModuleRow.{last_word}
 use Rattle.hunk_loader.proofs.TextModules.{module_found}
-use Rattle.hunk_loader.proofs.Loads.{done, taken_for}
-use Rattle.hunk_loader.proofs.loading.load.Goals as goal
+use Rattle.hunk_loader.proofs.LoadCall.{done, taken_for}
+use Rattle.hunk_loader.proofs.calls.load.Goals as goal
 
 pub returns-in_default-clause-refused : goal.returns-in_default-clause-refused
 returns-in_default-clause-refused g c =
@@ -12,8 +12,8 @@ returns-in_default-clause-refused g c =
     let size : last_word f.hunks.hunks ≡ c.last_word.result = sym (c.last_word.ensures ∙ f.words) in
     (f.hunks, f.is, ap (λ (u : ℕ). first_run (need u) (blocks_in c.args.store.now)) size ∙ c.in_default.ensures.no_room)
 
-pub place_module-requires-clause-fits : goal.place_module-requires-clause-fits
-place_module-requires-clause-fits g c =
+pub place_module-requires : goal.place_module-requires
+place_module-requires g c =
     let k = taken_for _ _ _ _ _ _ c.requires.tiled c.in-Ok.ensures c.last_word.ensures c.in-Ok-take.ensures.taken in
     (k.found.hunks, k.fits)
 

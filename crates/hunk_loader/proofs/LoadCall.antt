@@ -8,7 +8,7 @@ use Rattle.getvec_chain.specs.Tiling.{IsTiled}
 use Rattle.getvec_chain.proofs.AfterTake.{after_take}
 use Rattle.task_block.specs.Lists.{modules_in}
 use Rattle.hunk_loader.specs.Follow.{FitsAt}
-use Rattle.hunk_loader.specs.Loading.{IsLoaded}
+use Rattle.hunk_loader.specs.LoadOutcome.{IsLoaded}
 use Rattle.hunk_loader.specs.ModuleRow.{last_word, module_row}
 use Rattle.hunk_loader.specs.Modules.{HasModules}
 use Rattle.hunk_loader.proofs.LoadedModules.{Loaded, load_stands, placed}
