@@ -2,8 +2,6 @@
 #![tactic(auto)]
 
 #[cfg(test)]
-mod instructions;
-#[cfg(test)]
 mod listings;
 #[cfg(test)]
 mod pictured;
