@@ -1,5 +1,5 @@
 -- C stays a byte.
-use Rattle.std.proofs.Common.{◌≡◌, ℕ, zero, suc, ◌<◌, ◌%◌, ◌/◌, slice_get, ◌*◌, ◌+◌, ◌==◌, Bool, true, false, cond, List, Option, Some, None, Result, Ok, Err, IfOk, arith, nat_lt}
+use Rattle.std.proofs.Common.{ℕ, zero, suc, ◌<◌, ◌%◌, ◌/◌, slice_get, ◌*◌, ◌+◌, ◌==◌, Bool, true, false, cond, List, Option, Some, None, Result, Ok, Err, IfOk, arith, nat_lt}
 use Rattle.std.specs.Option.{ok_or}
 use Rattle.word_store.specs.Arithmetic.{add, div, rem}
 use Rattle.word_store.specs.Bytes.{byte_of, with_byte}
@@ -68,7 +68,7 @@ module _ (words : List ℕ) (r : Regs) (h : r.c < 256) where
   leave-byte : KeepsByte (leave words r)
   leave-byte =
       after_step (read words (add r.p 1)) (λ pc. read words r.p >>= λ p. keep (record r { pc = pc; p = p }))
-          (λ pc. after_step (read words r.p) (λ p. keep (record r { pc = pc; p = p })) (λ _. h))
+      (λ pc. after_step (read words r.p) (λ p. keep (record r { pc = pc; p = p })) (λ _. h))
 
   jump_by-byte : (a : ℕ) → KeepsByte (jump_by words r a)
   jump_by-byte a = after_step (halfword words a) (λ offset. jump r (add a (half_offset offset))) (λ _. h)
@@ -83,10 +83,10 @@ module _ (words : List ℕ) (r : Regs) (h : r.c < 256) where
   search_from-byte (suc k) t count i =
       let go_on : ℕ → Result Change Fault = search_from k words r t count in
       let after_key : (key : ℕ) → KeepsByte (compared go_on words r t i key) = λ key.
-          either (r.a == key) (jump_by words r (add t (4 * i + 2))) (cond (nat_lt r.a key) (go_on (2 * i)) (go_on (2 * i + 1))) (jump_by-byte (add t (4 * i + 2)))
-              (either (nat_lt r.a key) (go_on (2 * i)) (go_on (2 * i + 1)) (search_from-byte k t count (2 * i)) (search_from-byte k t count (2 * i + 1))) in
+      either (r.a == key) (jump_by words r (add t (4 * i + 2))) (cond (nat_lt r.a key) (go_on (2 * i)) (go_on (2 * i + 1))) (jump_by-byte (add t (4 * i + 2)))
+      (either (nat_lt r.a key) (go_on (2 * i)) (go_on (2 * i + 1)) (search_from-byte k t count (2 * i)) (search_from-byte k t count (2 * i + 1))) in
       either (nat_lt count i) (jump_by words r (add t 2)) (halfword words (add t (4 * i)) >>= λ key. compared go_on words r t i key) (jump_by-byte (add t 2))
-          (after_step (halfword words (add t (4 * i))) (compared go_on words r t i) after_key)
+      (after_step (halfword words (add t (4 * i))) (compared go_on words r t i) after_key)
 
   switch_by_key-byte : (t : ℕ) → KeepsByte (switch_by_key words r t)
   switch_by_key-byte t = after_step (halfword words t) (λ count. search_from count words r t count 1) (λ count. search_from-byte count t count 1)
@@ -137,4 +137,4 @@ module _ (marks : ℕ → Bool) (words : List ℕ) (r : Regs) (h : r.c < 256) wh
   unfolding effected
   effected-byte i =
       either-byte (is_call i.effect) (after Call words r) (settled marks words r (change_of i.effect words (record r { pc = add r.pc i.length }) i.operand i.target r.pc)) h
-          (settled-byte _ (change_of-byte words (record r { pc = add r.pc i.length }) h i.effect i.operand i.target r.pc))
+      (settled-byte _ (change_of-byte words (record r { pc = add r.pc i.length }) h i.effect i.operand i.target r.pc))

@@ -23,9 +23,8 @@ use word_store::{Guard, Regs, Store, add, div, mul, rem, shl, shr, sub};
 pub fn effect<X: Guard>(store: &mut Store, regs: &mut Regs, guard: &X, i: Instr) -> Outcome
     requires byte { regs.old.c < 256 }
     requires guard { X.can_guard guard.now store.old }
-    ensures {
-        after result store.new regs.new ≡ effected (X.marks guard.now store.old) store.old regs.old i
-    }
+    ensures { let marks = X.marks guard.now store.old in
+        after result store.new regs.new ≡ effected marks store.old regs.old i }
 {
     // Makes a change of the registers r, which have PC at the next instruction. It stands in each arm, and not once
     // behind them, since a change that passes a join of arms is kept in memory.

@@ -10,6 +10,7 @@ mod decoding;
 mod effects;
 mod frames;
 mod jumps;
+pub mod laws;
 mod switches;
 mod unguarded;
 mod writes;
@@ -45,18 +46,12 @@ pub enum Outcome {
 pub fn execute<X: Guard>(store: &mut Store, regs: &mut Regs, guard: &X) -> Outcome
     requires byte { regs.old.c < 256 }
     requires guard { X.can_guard guard.now store.old }
-    ensures outcome {
-        let marks = X.marks guard.now store.old in
-        result ≡ (instruction marks store.old regs.old).outcome
-    }
-    ensures words {
-        let marks = X.marks guard.now store.old in
-        store.new ≡ (instruction marks store.old regs.old).words
-    }
-    ensures regs {
-        let marks = X.marks guard.now store.old in
-        regs.new ≡ (instruction marks store.old regs.old).regs
-    }
+    ensures outcome { let marks = X.marks guard.now store.old in
+        result ≡ (instruction marks store.old regs.old).outcome }
+    ensures words { let marks = X.marks guard.now store.old in
+        store.new ≡ (instruction marks store.old regs.old).words }
+    ensures regs { let marks = X.marks guard.now store.old in
+        regs.new ≡ (instruction marks store.old regs.old).regs }
     ensures byte { regs.new.c < 256 }
 {
     if regs.pc == 0 {

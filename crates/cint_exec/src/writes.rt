@@ -35,10 +35,8 @@ pub fn settle<X: Guard>(
     guard: &X,
 ) -> Outcome
     requires { X.can_guard guard.now store.old }
-    ensures {
-        after result store.new regs.new
-        ≡ settled (X.marks guard.now store.old) store.old regs.old (seen change)
-    }
+    ensures { after result store.new regs.new
+        ≡ settled (X.marks guard.now store.old) store.old regs.old (seen change) }
 {
     match change {
         Ok(change) => make(store, regs, guard, change),
@@ -51,10 +49,9 @@ pub fn settle<X: Guard>(
 #[inline(always)]
 fn make<X: Guard>(store: &mut Store, regs: &mut Regs, guard: &X, change: Change) -> Outcome
     requires { X.can_guard guard.now store.old }
-    ensures {
-        let fault = write_fault (X.marks guard.now store.old) store.old (list_of change.writes) in
-        after result store.new regs.new ≡ made fault store.old regs.old (change_seen change)
-    }
+    ensures { let marks = X.marks guard.now store.old in
+        let fault = write_fault marks store.old (list_of change.writes) in
+        after result store.new regs.new ≡ made fault store.old regs.old (change_seen change) }
 {
     if let Some(fault) = first_fault(store, guard, change.writes) {
         return Outcome::Fault(fault);

@@ -1,5 +1,5 @@
 -- A row is its name, its form and its effect.
-use Rattle.std.proofs.Common.{◌≡◌, ℕ, List, Option, Some, None, sym, ap, refl}
+use Rattle.std.proofs.Common.{◌≡◌, ℕ, List, Option, Some, None, refl}
 use Rattle.std.specs.Option.{option_map}
 use Rattle.cint_table.specs.declared.rows.Shape.{Shape}
 use Rattle.cint_table.specs.Names.{name_at}

@@ -1,6 +1,6 @@
 -- The rule by which a name tells the effect of its instruction.
 use Prim.Native.String.{String}
-use Rattle.std.specs.Prelude.{ℕ, Bool, ◌-◌, List, [], ◌∷◌, Option, Some, None, length, take, drop, codes, nat_eq, take_while, if◌then◌else◌}
+use Rattle.std.specs.Prelude.{ℕ, ◌-◌, List, [], ◌∷◌, Option, Some, None, length, take, drop, codes, nat_eq, take_while, if◌then◌else◌}
 use Rattle.std.specs.Char.{is_ascii_digit, is_ascii_uppercase}
 use Rattle.std.specs.List.{starts_with}
 use Rattle.std.specs.Option.{option_map, option_or}

@@ -15,8 +15,10 @@ pub fn empty_law()
 /// Each name stands once, so the byte that is found by the name of a row is the byte of that row.
 #[tactic(auto, using(crate::proofs::NameLemmas::once, crate::proofs::NameLemmas::byte_named_at, crate::proofs::NameLemmas::byte_named_has))]
 pub fn name_law()
-    ensures once { (a b : ℕ) (name : List ℕ) → name_at a ≡ Some name → name_at b ≡ Some name → a ≡ b }
-    ensures found { (byte : ℕ) (name : List ℕ) → (byte_named name ≡ Some byte) ↔ (name_at byte ≡ Some name) }
+    ensures once { (a b : ℕ) (name : List ℕ) →
+        name_at a ≡ Some name → name_at b ≡ Some name → a ≡ b }
+    ensures found { (byte : ℕ) (name : List ℕ) →
+        (byte_named name ≡ Some byte) ↔ (name_at byte ≡ Some name) }
 {}
 
 /// The form of each row follows from its name.

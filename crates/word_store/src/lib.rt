@@ -4,8 +4,6 @@
 pub mod arithmetic;
 pub mod guarding;
 pub mod registers;
-#[cfg(test)]
-mod tests;
 pub mod words;
 
 pub use arithmetic::{add, div, mul, mul_div, rem, shl, shr, signed, sub};
