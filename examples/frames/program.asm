@@ -5,8 +5,6 @@
 ; address to return to, the function and the argument. The last argument is 0,
 ; and a dump leaves out the words that are 0. Word 104 is the argument of the
 ; call that stops the machine, and from word 200 on stands the program.
-;
-; The session has a line of bytes for each paragraph of this program.
 
         L3              ; A := 3 factorial
         LF fact
@@ -25,3 +23,5 @@ more:   S1              ; n factorial is n times the factorial of n - 1
         LP3             ; B := that factorial, A := n
         MUL
         RTN
+
+; Try this: use K8 for the inner calls too, and see where the frames stand then.

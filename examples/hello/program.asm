@@ -12,3 +12,6 @@
         SP 3            ; a0 03    P!3 := 0, the call that quits
         SP 4            ; a0 04    P!4 := 0, the code to quit with
         SYS             ; 91       stops the machine
+
+; Try this: write a second letter before the program quits, and give the session
+; the steps that it then needs.

@@ -3,8 +3,6 @@
 ; A kernel call takes its number from P!3 and its arguments from P!4 on. Call
 ; 19 writes the character in P!4 and answers it in A; call 0 stops the machine
 ; with the number in P!4. A load moves the old A to B.
-;
-; The session has a line of bytes for each paragraph of this program.
 
         L 19            ; P!3 := 19, which stays there for every letter
         SP3
@@ -25,3 +23,5 @@ loop:   SP4             ; P!4 := the letter
         SP3
         SP4
         SYS
+
+; Try this: write the letters from Z to A.

@@ -7,8 +7,6 @@
 ; K4 calls the function at A with the argument B, in a frame at P+4. LF loads
 ; the address of a function; what was in A becomes the argument. K4G 1 calls
 ; global 1 with the argument A. RTN drops the frame and goes back.
-;
-; The session has a line of bytes for each paragraph of this program.
 
         LF wrch         ; global 1 is the function that writes a character
         SG 1
@@ -54,3 +52,5 @@ wrch:   SP4
         SP3
         SYS
         RTN
+
+; Try this: write 20 factorial, and find out why the answer is not the real one.

@@ -1,7 +1,5 @@
 ; Writes a letter for each value of a list: for 0, 1 and 2 by a switch with a
 ; label for each of them, for other values by a switch that looks for a key.
-;
-; The session has a line of bytes for each paragraph of this program.
 
         J start
 
@@ -92,3 +90,6 @@ done:   L10             ; write a line feed, which is 10
         SP3
         SP4
         SYS
+
+; Try this: add the key 5000 with a letter of its own. Mind where its pair comes in
+; the tree.

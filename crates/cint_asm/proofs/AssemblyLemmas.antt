@@ -3,7 +3,7 @@ use Rattle.std.proofs.Common.{◌≡◌, ◌∙◌, ℕ, ◌+◌, ◌≤◌, Opt
 use Rattle.std.specs.Prelude.{option_to_list}
 use Rattle.std.specs.List.{cons_option, filter_map, flat_map}
 use Rattle.hunk_text.specs.declared.modules.Module.{Module}
-use Rattle.text_lines.specs.Lines.{lines_of}
+use Rattle.text_reader.specs.Lines.{lines_of}
 use Rattle.cint_asm.specs.Assembly.{assembly_of, module_of}
 use Rattle.cint_asm.specs.AssemblyForm.{AreGiven, Assembles, code_of_pieces}
 use Rattle.cint_asm.specs.Encoding.{Code, code_of, encode, encode_line, joined}
@@ -12,7 +12,7 @@ use Rattle.cint_asm.specs.Pieces.{piece_of}
 use Rattle.cint_asm.specs.Places.{end_of, first_offset, hunk_size, most_words}
 use Rattle.cint_asm.specs.Program.{AreRead, IsProgram, IsTable, placed, program_size}
 use Rattle.cint_asm.specs.Reading.{line_of}
-use Rattle.cint_asm.specs.Steps.{◌>>=◌}
+use Rattle.text_reader.specs.Steps.{◌>>=◌}
 use Rattle.cint_asm.specs.Survey.{Layout, no_lines, survey}
 use Rattle.cint_asm.specs.declared.pieces.Piece.{Piece}
 use Rattle.cint_asm.specs.declared.statements.Line.{Line}
@@ -20,7 +20,7 @@ use Rattle.cint_asm.proofs.EncodeLemmas.{encode_line_ok, survey_fits}
 use Rattle.cint_asm.proofs.PieceFits.{piece_fits}
 use Rattle.cint_asm.proofs.Printable.{assembly_ok}
 use Rattle.cint_asm.proofs.ProgramLemmas.{ComeNext, layout_after, size_after, survey_again, survey_program}
-use Rattle.cint_asm.proofs.Steps.{bind_ok}
+use Rattle.text_reader.proofs.StepLemmas.{bind-ok}
 use Rattle.cint_asm.proofs.TableLemmas.{all_free, come_next, distinct_labels, table_of_program}
 
 cons_is : {A : Type 0} (o : Option A) (xs : List A) → option_to_list o ++ xs ≡ cons_option o xs
@@ -53,8 +53,8 @@ encode_pieces n table offset [] [] code read e = record { pieces = []; given = t
 encode_pieces n table offset [] (line ∷ lines) code read e = absurd read
 encode_pieces n table offset (text ∷ texts) [] code read e = absurd read
 encode_pieces n table offset (text ∷ texts) (line ∷ lines) code read e =
-    let a = bind_ok (encode_line n table offset text) (λ piece. encode (n + 1) table (offset + length piece.bytes) texts >>= λ more. Ok (joined (code_of piece) more)) code e in
-    let b = bind_ok (encode (n + 1) table (offset + length a.0.bytes) texts) (λ more. Ok (joined (code_of a.0) more)) code a.2 in
+    let a = bind-ok (encode_line n table offset text) (λ piece. encode (n + 1) table (offset + length piece.bytes) texts >>= λ more. Ok (joined (code_of piece) more)) code e in
+    let b = bind-ok (encode (n + 1) table (offset + length a.0.bytes) texts) (λ more. Ok (joined (code_of a.0) more)) code a.2 in
     let g = line_given n table offset text line a.0 read.0 a.1 in
     let rest = encode_pieces (n + 1) table (end_of line.statement offset) texts lines b.0 read.1 (ap (λ (o : ℕ). encode (n + 1) table o texts) (sym g.1) ∙ b.1) in
     let made : joined (code_of a.0) b.0 ≡ code = let m = b.2 in cc in

@@ -8,21 +8,18 @@ use Rattle.cint_asm.specs.Pieces.{piece_of}
 use Rattle.cint_asm.specs.Places.{end_of, hunk_size, most_words, pairs_of}
 use Rattle.cint_asm.specs.Reading.{line_of}
 use Rattle.cint_asm.specs.Refusal.{Refusal, at_line}
-use Rattle.cint_asm.specs.Steps.{◌>>=◌}
+use Rattle.text_reader.specs.Steps.{◌>>=◌}
 use Rattle.cint_asm.specs.Survey.{Layout, survey}
 use Rattle.cint_asm.specs.declared.pieces.Piece.{Piece}
 use Rattle.cint_asm.specs.declared.statements.Line.{Line}
 use Rattle.cint_asm.proofs.PieceFits.{PieceFits, piece_fits}
-use Rattle.cint_asm.proofs.Steps.{at_line_ok, bind_ok}
+use Rattle.text_reader.proofs.StepLemmas.{bind-ok}
+use Rattle.cint_asm.proofs.LineSteps.{at_line_ok}
 use Rattle.cint_asm.proofs.SurveyLemmas.{Surveys, survey_ok}
 
 -- code before what a reading gives
 abbrev pub after_code : Code → Result Code Refusal → Result Code Refusal
 after_code front read = read >>= λ more. Ok (joined front more)
-
-pub after_no_code : (read : Result Code Refusal) → after_code no_code read ≡ read
-after_no_code (Ok code) = refl
-after_no_code (Err d) = refl
 
 joined_joined : (a b c : Code) → joined a (joined b c) ≡ joined (joined a b) c
 joined_joined a b c =
@@ -41,13 +38,9 @@ pub encode_more : (front : Code) (n : ℕ) (table : Table) (offset : ℕ) (text 
 encode_more front n table offset text texts piece e =
     rw e (after_more front (code_of piece) (encode (n + 1) table (offset + length piece.bytes) texts))
 
-pub encode_stops : (front : Code) (n : ℕ) (table : Table) (offset : ℕ) (text : List ℕ) (texts : List (List ℕ)) (d : Refusal) → encode_line n table offset text ≡ Err d
-    → after_code front (encode n table offset (text ∷ texts)) ≡ Err d
-encode_stops front n table offset text texts d e = rw e refl
-
 pub encode_line_ok : (n : ℕ) (table : Table) (offset : ℕ) (text : List ℕ) (piece : Piece) → encode_line n table offset text ≡ Ok piece → (line : Line) × (line_of text ≡ Ok line) × (piece_of table offset line.statement ≡ Ok piece)
 encode_line_ok n table offset text piece e =
-    let a = bind_ok (at_line n (line_of text)) (λ line. at_line n (piece_of table offset line.statement)) piece e in
+    let a = bind-ok (at_line n (line_of text)) (λ line. at_line n (piece_of table offset line.statement)) piece e in
     (a.0, at_line_ok n (line_of text) a.0 a.1, at_line_ok n (piece_of table offset a.0.statement) piece a.2)
 
 -- the lines from line n on, the first of them at the offset, have been surveyed
@@ -56,10 +49,6 @@ pub record IsSurveyed (n offset : ℕ) (lines : List (List ℕ)) : Type 0 where
   pub last : Layout
   pub begins : layout.offset ≡ offset
   pub all : survey n layout lines ≡ Ok last
-
-pub surveyed_first : (layout : Layout) (n : ℕ) (lines : List (List ℕ)) (read : Result Layout Refusal) → survey n layout lines ≡ read → IsOk read → IsSurveyed n layout.offset lines
-surveyed_first layout n lines (Ok last) e ok = record { layout = layout; last = last; begins = refl; all = e }
-surveyed_first layout n lines (Err d) e ok = cc ok
 
 -- a hunk within its limit ends early
 pub low_end : (offset pairs : ℕ) → hunk_size offset pairs ≤ most_words → offset ≤ 262144
@@ -139,8 +128,8 @@ encode_fits n table layout last [] code e f =
     nothing_fits layout last code same none
 encode_fits n table layout last (text ∷ texts) code e f =
     let s = survey_ok n layout last text texts e in
-    let a = bind_ok (encode_line n table layout.offset text) (λ piece. encode (n + 1) table (layout.offset + length piece.bytes) texts >>= λ more. Ok (joined (code_of piece) more)) code f in
-    let b = bind_ok (encode (n + 1) table (layout.offset + length a.0.bytes) texts) (λ more. Ok (joined (code_of a.0) more)) code a.2 in
+    let a = bind-ok (encode_line n table layout.offset text) (λ piece. encode (n + 1) table (layout.offset + length piece.bytes) texts >>= λ more. Ok (joined (code_of piece) more)) code f in
+    let b = bind-ok (encode (n + 1) table (layout.offset + length a.0.bytes) texts) (λ more. Ok (joined (code_of a.0) more)) code a.2 in
     let p = line_fits n table layout s.0 text a.0 s.1 a.1 in
     let rest = encode_fits (n + 1) table s.0 last texts b.0 s.2 (ap (λ (o : ℕ). encode (n + 1) table o texts) (sym p.1.ends) ∙ b.1) in
     let made : joined (code_of a.0) b.0 ≡ code = let m = b.2 in cc in

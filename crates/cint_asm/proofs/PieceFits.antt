@@ -7,7 +7,7 @@ use Rattle.std.specs.Int.{w16, w32, to_le_bytes}
 use Rattle.cint_asm.specs.Labels.{Table}
 use Rattle.cint_asm.specs.Pieces.{address, distance, found, global_pair, half_distance, indirect, piece_of, plain, relative, reserved, word_address, zeros}
 use Rattle.cint_asm.specs.Places.{end_of, pairs_of, rounded_up}
-use Rattle.cint_asm.specs.Steps.{◌>>=◌}
+use Rattle.text_reader.specs.Steps.{◌>>=◌}
 use Rattle.cint_asm.specs.declared.errors.LineError.{LineError}
 use Rattle.cint_asm.specs.declared.pieces.Piece.{Piece}
 use Rattle.cint_asm.specs.declared.places.Place.{Place}
@@ -15,7 +15,7 @@ use Rattle.cint_asm.specs.declared.statements.Boundary.{Boundary}
 use Rattle.cint_asm.specs.declared.statements.Boundary.TheVariants.{Half, Word}
 use Rattle.cint_asm.specs.declared.statements.Statement.{Statement}
 use Rattle.cint_asm.specs.declared.statements.Statement.TheVariants.{Fixed, Relative, Indirect, Reserve, Address, Align, Global}
-use Rattle.cint_asm.proofs.Steps.{bind_ok}
+use Rattle.text_reader.proofs.StepLemmas.{bind-ok}
 
 -- an offset, and then the next on a boundary
 pub later : (boundary : Boundary) (offset : ℕ) → offset ≤ rounded_up boundary offset
@@ -46,21 +46,21 @@ padded from to bytes h = simp (length-append) (omega (arith, length-replicate {A
 
 relative_fits : (table : Table) (offset byte : ℕ) (label : List ℕ) (p : Piece) → relative table offset byte label ≡ Ok p → PieceFits offset (offset + 2) 0 p
 relative_fits table offset byte label p e =
-    let a = bind_ok (found table label) (λ place. distance 128 (offset + 1) place.offset >>= λ operand. Ok (plain (byte ∷ operand ∷ []))) p e in
-    let b = bind_ok (distance 128 (offset + 1) a.0.offset) (λ operand. Ok (plain (byte ∷ operand ∷ []))) p a.2 in
+    let a = bind-ok (found table label) (λ place. distance 128 (offset + 1) place.offset >>= λ operand. Ok (plain (byte ∷ operand ∷ []))) p e in
+    let b = bind-ok (distance 128 (offset + 1) a.0.offset) (λ operand. Ok (plain (byte ∷ operand ∷ []))) p a.2 in
     made offset (offset + 2) 0 (plain (byte ∷ b.0 ∷ [])) p b.2 (plain_fits offset (offset + 2) (byte ∷ b.0 ∷ []) refl)
 
 indirect_fits : (table : Table) (offset byte : ℕ) (label : List ℕ) (p : Piece) → indirect table offset byte label ≡ Ok p → PieceFits offset (offset + 2) 0 p
 indirect_fits table offset byte label p e =
-    let a = bind_ok (found table label) (λ place. half_distance (offset + 1) place >>= λ operand. Ok (plain (byte ∷ operand ∷ []))) p e in
-    let b = bind_ok (half_distance (offset + 1) a.0) (λ operand. Ok (plain (byte ∷ operand ∷ []))) p a.2 in
+    let a = bind-ok (found table label) (λ place. half_distance (offset + 1) place >>= λ operand. Ok (plain (byte ∷ operand ∷ []))) p e in
+    let b = bind-ok (half_distance (offset + 1) a.0) (λ operand. Ok (plain (byte ∷ operand ∷ []))) p a.2 in
     made offset (offset + 2) 0 (plain (byte ∷ b.0 ∷ [])) p b.2 (plain_fits offset (offset + 2) (byte ∷ b.0 ∷ []) refl)
 
 reserved_fits : (table : Table) (offset : ℕ) (label : List ℕ) (p : Piece) → reserved table offset label ≡ Ok p → PieceFits offset (rounded_up Half offset + 2) 0 p
 reserved_fits table offset label p e =
     let begin = rounded_up Half offset in
-    let a = bind_ok (found table label) (λ place. distance 32768 begin place.offset >>= λ half. Ok (plain (zeros offset begin ++ to_le_bytes w16 half))) p e in
-    let b = bind_ok (distance 32768 begin a.0.offset) (λ half. Ok (plain (zeros offset begin ++ to_le_bytes w16 half))) p a.2 in
+    let a = bind-ok (found table label) (λ place. distance 32768 begin place.offset >>= λ half. Ok (plain (zeros offset begin ++ to_le_bytes w16 half))) p e in
+    let b = bind-ok (distance 32768 begin a.0.offset) (λ half. Ok (plain (zeros offset begin ++ to_le_bytes w16 half))) p a.2 in
     let bytes = zeros offset begin ++ to_le_bytes w16 b.0 in
     made offset (begin + 2) 0 (plain bytes) p b.2 (plain_fits offset (begin + 2) bytes (padded offset begin (to_le_bytes w16 b.0) (later Half offset)))
 
@@ -75,8 +75,8 @@ address_piece offset word = record {
 address_fits : (table : Table) (offset : ℕ) (label : List ℕ) (p : Piece) → address table offset label ≡ Ok p → PieceFits offset (rounded_up Word offset + 4) 0 p
 address_fits table offset label p e =
     let begin = rounded_up Word offset in
-    let a = bind_ok (found table label) (λ place. word_address place >>= λ word. Ok (address_piece offset word)) p e in
-    let b = bind_ok (word_address a.0) (λ word. Ok (address_piece offset word)) p a.2 in
+    let a = bind-ok (found table label) (λ place. word_address place >>= λ word. Ok (address_piece offset word)) p e in
+    let b = bind-ok (word_address a.0) (λ word. Ok (address_piece offset word)) p a.2 in
     let ends = padded offset begin (to_le_bytes w32 b.0) (later Word offset) in
     made offset (begin + 4) 0 (address_piece offset b.0) p b.2 (record {
       ends = ends;
@@ -92,7 +92,7 @@ global_piece number place = record { bytes = []; relocation = None; pair = Some 
 
 global_fits : (table : Table) (offset number : ℕ) (label : List ℕ) (p : Piece) → global_pair table number label ≡ Ok p → PieceFits offset offset 1 p
 global_fits table offset number label p e =
-    let a = bind_ok (found table label) (λ place. Ok (global_piece number place)) p e in
+    let a = bind-ok (found table label) (λ place. Ok (global_piece number place)) p e in
     made offset offset 1 (global_piece number a.0) p a.2 (record { ends = add-zero offset; counts = refl; inside = tt; behind = tt; few = omega arith })
 
 pub piece_fits : (table : Table) (offset : ℕ) (s : Statement) (p : Piece) → piece_of table offset s ≡ Ok p → PieceFits offset (end_of s offset) (pairs_of s) p

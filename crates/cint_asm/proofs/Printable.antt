@@ -3,17 +3,17 @@ use Rattle.std.proofs.Common.{◌≡◌, ◌∙◌, ℕ, ◌+◌, ◌*◌, ◌<�
 use Rattle.std.specs.List.{AllByRecursion}
 use Rattle.hunk_text.specs.Canonical.{IsPrintable}
 use Rattle.hunk_text.specs.declared.modules.Module.{Module}
-use Rattle.text_lines.specs.Lines.{lines_of}
+use Rattle.text_reader.specs.Lines.{lines_of}
 use Rattle.cint_asm.specs.Assembly.{assembly_of, module_of}
 use Rattle.cint_asm.specs.Encoding.{Code, encode}
 use Rattle.cint_asm.specs.HunkWords.{body, hunk_words}
 use Rattle.cint_asm.specs.Labels.{Table}
 use Rattle.cint_asm.specs.Places.{hunk_size, most_words}
-use Rattle.cint_asm.specs.Steps.{◌>>=◌}
+use Rattle.text_reader.specs.Steps.{◌>>=◌}
 use Rattle.cint_asm.specs.Survey.{Layout, no_lines, survey}
 use Rattle.cint_asm.proofs.EncodeLemmas.{encode_fits, low_end, survey_fits}
 use Rattle.cint_asm.proofs.HunkSizes.{body_size}
-use Rattle.cint_asm.proofs.Steps.{bind_ok}
+use Rattle.text_reader.proofs.StepLemmas.{bind-ok}
 
 -- the whole hunk is as long as the survey says
 pub code_size : (table : Table) (last : Layout) (lines : List (List ℕ)) (code : Code) → survey 1 no_lines lines ≡ Ok last → encode 1 table 4 lines ≡ Ok code
@@ -59,8 +59,8 @@ pub record IsEncoded (text : List ℕ) (m : Module) : Type 0 where
 pub assembly_ok : (text : List ℕ) (m : Module) → assembly_of text ≡ Ok m → IsEncoded text m
 unfolding assembly_of
 assembly_ok text m e =
-    let a = bind_ok (survey 1 no_lines (lines_of text)) (λ layout. encode 1 layout.table 4 (lines_of text) >>= λ code. Ok (module_of code)) m e in
-    let b = bind_ok (encode 1 a.0.table 4 (lines_of text)) (λ code. Ok (module_of code)) m a.2 in
+    let a = bind-ok (survey 1 no_lines (lines_of text)) (λ layout. encode 1 layout.table 4 (lines_of text) >>= λ code. Ok (module_of code)) m e in
+    let b = bind-ok (encode 1 a.0.table 4 (lines_of text)) (λ code. Ok (module_of code)) m a.2 in
     record { last = a.0; code = b.0; surveyed = a.1; encoded = b.1; made = let same = b.2 in cc }
 
 pub printable_text : (text : List ℕ) (m : Module) → assembly_of text ≡ Ok m → IsPrintable m

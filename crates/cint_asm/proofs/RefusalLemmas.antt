@@ -12,7 +12,7 @@ use Rattle.cint_asm.specs.Places.{end_of, first_offset, hunk_size, most_words, p
 use Rattle.cint_asm.specs.Program.{AreRead, defined, labels_of, placed, program_size}
 use Rattle.cint_asm.specs.Reading.{line_of}
 use Rattle.cint_asm.specs.Refusal.{Refusal, at_line, refusal}
-use Rattle.cint_asm.specs.Steps.{◌>>=◌}
+use Rattle.text_reader.specs.Steps.{◌>>=◌}
 use Rattle.cint_asm.specs.Survey.{Layout, admitted, no_lines, survey, survey_line, with_line}
 use Rattle.cint_asm.specs.declared.errors.LineError.{LineError}
 use Rattle.cint_asm.specs.declared.errors.LineError.TheVariants.{RepeatedLabel, HunkTooLong}
@@ -20,7 +20,8 @@ use Rattle.cint_asm.specs.declared.places.Place.{Place}
 use Rattle.cint_asm.specs.declared.statements.Line.{Line}
 use Rattle.cint_asm.specs.declared.statements.Statement.{Statement}
 use Rattle.cint_asm.proofs.ProgramLemmas.{ComeNext, layout_after, size_after, survey_line_next}
-use Rattle.cint_asm.proofs.Steps.{at_line_err, at_line_ok, bind_err, chosen}
+use Rattle.text_reader.proofs.StepLemmas.{bind-err, cond-cases}
+use Rattle.cint_asm.proofs.LineSteps.{at_line_err, at_line_ok}
 use Rattle.cint_asm.proofs.SurveyLemmas.{survey_line_ok}
 use Rattle.cint_asm.proofs.TableLemmas.{table_of_program}
 
@@ -39,7 +40,7 @@ pub record StopsSurvey (n : ℕ) (layout : Layout) (texts : List (List ℕ)) (d 
 pub survey_err : (n : ℕ) (layout : Layout) (texts : List (List ℕ)) (d : Refusal) → survey n layout texts ≡ Err d → StopsSurvey n layout texts d
 survey_err n layout [] d e = cc e
 survey_err n layout (text ∷ texts) d e =
-    elim (bind_err (survey_line n layout text) (λ next. survey (n + 1) next texts) d e) [
+    elim (bind-err (survey_line n layout text) (λ next. survey (n + 1) next texts) d e) [
       | inl p ↦ record {
         front = [];
         program = [];
@@ -89,10 +90,10 @@ pub admitted_err : (layout : Layout) (line : Line) (e : LineError) → admitted 
 unfolding admitted
 admitted_err layout line e h =
     let size = hunk_size (end_of line.statement layout.offset) (layout.pairs + pairs_of line.statement) in
-    elim (chosen (repeats layout.table line) (Err RepeatedLabel) (cond (nat_lt most_words size) (Err HunkTooLong) (Ok tt)) (Err e) h) [
+    elim (cond-cases (repeats layout.table line) (Err RepeatedLabel) (cond (nat_lt most_words size) (Err HunkTooLong) (Ok tt)) (Err e) h) [
       | inl p ↦ let same : RepeatedLabel ≡ e = cc p.1 in inl (sym same, p.0)
       | inr p ↦
-          elim (chosen (nat_lt most_words size) (Err HunkTooLong) (Ok tt) (Err e) p.1) [
+          elim (cond-cases (nat_lt most_words size) (Err HunkTooLong) (Ok tt) (Err e) p.1) [
             | inl q ↦
                 let same : HunkTooLong ≡ e = cc q.1 in
                 let t = q.0 in
@@ -126,10 +127,10 @@ pub record IsNotAdmitted (n : ℕ) (layout : Layout) (text : List ℕ) (d : Refu
 
 pub survey_line_err : (n : ℕ) (layout : Layout) (text : List ℕ) (d : Refusal) → survey_line n layout text ≡ Err d → IsUnread n text d ⊎ IsNotAdmitted n layout text d
 survey_line_err n layout text d e =
-    elim (bind_err (at_line n (line_of text)) (λ line. at_line n (admitted layout line) >>= λ fits. Ok (with_line layout line)) d e) [
+    elim (bind-err (at_line n (line_of text)) (λ line. at_line n (admitted layout line) >>= λ fits. Ok (with_line layout line)) d e) [
       | inl p ↦ let a = at_line_err n (line_of text) d p in inl (record { error = a.0; read = a.1; is = a.2 })
       | inr p ↦
-          elim (bind_err (at_line n (admitted layout p.0)) (λ fits. Ok (with_line layout p.0)) d p.2) [
+          elim (bind-err (at_line n (admitted layout p.0)) (λ fits. Ok (with_line layout p.0)) d p.2) [
             | inl q ↦
                 let a = at_line_err n (admitted layout p.0) d q in
                 inr (record { line = p.0; error = a.0; read = at_line_ok n (line_of text) p.0 p.1; refused = a.1; is = a.2 })

@@ -5,11 +5,12 @@ use Rattle.cint_asm.specs.Labels.{repeats}
 use Rattle.cint_asm.specs.Places.{end_of, hunk_size, most_words, pairs_of}
 use Rattle.cint_asm.specs.Reading.{line_of}
 use Rattle.cint_asm.specs.Refusal.{at_line}
-use Rattle.cint_asm.specs.Steps.{◌>>=◌}
+use Rattle.text_reader.specs.Steps.{◌>>=◌}
 use Rattle.cint_asm.specs.Survey.{Layout, admitted, survey, survey_line, with_line}
 use Rattle.cint_asm.specs.declared.errors.LineError.TheVariants.{RepeatedLabel, HunkTooLong}
 use Rattle.cint_asm.specs.declared.statements.Line.{Line}
-use Rattle.cint_asm.proofs.Steps.{at_line_ok, bind_ok, chosen}
+use Rattle.text_reader.proofs.StepLemmas.{bind-ok, cond-cases}
+use Rattle.cint_asm.proofs.LineSteps.{at_line_ok}
 
 -- a line that may come next
 pub record ComesNext (layout : Layout) (line : Line) : Type 0 where
@@ -20,10 +21,10 @@ pub admitted_ok : (layout : Layout) (line : Line) (u : Unit {0}) → admitted la
 unfolding admitted
 admitted_ok layout line u e =
     let size = hunk_size (end_of line.statement layout.offset) (layout.pairs + pairs_of line.statement) in
-    elim (chosen (repeats layout.table line) (Err RepeatedLabel) (cond (nat_lt most_words size) (Err HunkTooLong) (Ok tt)) (Ok u) e) [
+    elim (cond-cases (repeats layout.table line) (Err RepeatedLabel) (cond (nat_lt most_words size) (Err HunkTooLong) (Ok tt)) (Ok u) e) [
       | inl p ↦ cc p.1
       | inr p ↦
-          elim (chosen (nat_lt most_words size) (Err HunkTooLong) (Ok tt) (Ok u) p.1) [
+          elim (cond-cases (nat_lt most_words size) (Err HunkTooLong) (Ok tt) (Ok u) p.1) [
             | inl q ↦ cc q.1
             | inr q ↦ let t = q.0 in record { new = p.0; fits = grind (arith, nat_tests) }
           ]
@@ -38,8 +39,8 @@ pub record Surveys (layout next : Layout) (text : List ℕ) : Type 0 where
 
 pub survey_line_ok : (n : ℕ) (layout next : Layout) (text : List ℕ) → survey_line n layout text ≡ Ok next → Surveys layout next text
 survey_line_ok n layout next text e =
-    let a = bind_ok (at_line n (line_of text)) (λ line. at_line n (admitted layout line) >>= λ fits. Ok (with_line layout line)) next e in
-    let b = bind_ok (at_line n (admitted layout a.0)) (λ fits. Ok (with_line layout a.0)) next a.2 in
+    let a = bind-ok (at_line n (line_of text)) (λ line. at_line n (admitted layout line) >>= λ fits. Ok (with_line layout line)) next e in
+    let b = bind-ok (at_line n (admitted layout a.0)) (λ fits. Ok (with_line layout a.0)) next a.2 in
     record {
       line = a.0;
       read = at_line_ok n (line_of text) a.0 a.1;
@@ -49,5 +50,5 @@ survey_line_ok n layout next text e =
 
 pub survey_ok : (n : ℕ) (layout last : Layout) (text : List ℕ) (texts : List (List ℕ)) → survey n layout (text ∷ texts) ≡ Ok last → (next : Layout) × Surveys layout next text × (survey (n + 1) next texts ≡ Ok last)
 survey_ok n layout last text texts e =
-    let a = bind_ok (survey_line n layout text) (λ next. survey (n + 1) next texts) last e in
+    let a = bind-ok (survey_line n layout text) (λ next. survey (n + 1) next texts) last e in
     (a.0, survey_line_ok n layout a.0 text a.1, a.2)

@@ -1,4 +1,3 @@
-pub mod Answers
 pub mod Assembly
 pub mod AssemblyForm
 pub mod Directives
@@ -17,5 +16,4 @@ pub mod Places
 pub mod Program
 pub mod Reading
 pub mod Refusal
-pub mod Steps
 pub mod Survey

@@ -1,21 +1,15 @@
 -- Numbers in decimal.
-use Rattle.std.specs.Prelude.{ℕ, ℤ, pos, neg_ℤ, ◌%◌, ◌^◌, ◌&&◌, Bool, if◌then◌else◌, List, length, drop, nat_eq, nat_le, int_le, codes, Option, Some, None}
+use Rattle.std.specs.Prelude.{ℕ, ℤ, pos, neg_ℤ, ◌%◌, ◌^◌, ◌&&◌, Bool, if◌then◌else◌, List, drop, nat_eq, int_le, codes, Option}
 use Rattle.std.specs.Int.{w64, cast_unsigned}
 use Rattle.std.specs.List.{starts_with}
 use Rattle.std.specs.Option.{option_map}
-use Rattle.std.specs.Str.{all_ascii_digits}
-use Rattle.std.specs.Str.Parse.{digits_value}
-
--- the number that 1 to 10 decimal digits are
-abbrev pub digits_number : List ℕ → Option ℕ
-digits_number digits =
-    if all_ascii_digits digits && nat_le 1 (length digits) && nat_le (length digits) 10 then Some (digits_value 10 digits) else None
+use Rattle.text_reader.specs.Numbers.{number_of as digits_number_of}
 
 -- the number that a part of a line is, if it is one: digits, which may follow a `-`
 abbrev pub number_of : List ℕ → Option ℤ
 number_of part =
-    if starts_with nat_eq part (codes "-") then option_map (λ n. neg_ℤ (pos n)) (digits_number (drop 1 part)) else
-    option_map pos (digits_number part)
+    if starts_with nat_eq part (codes "-") then option_map (λ n. neg_ℤ (pos n)) (digits_number_of (drop 1 part)) else
+    option_map pos (digits_number_of part)
 
 -- n is from low to high
 abbrev pub is_from_to : ℤ → ℤ → ℤ → Bool

@@ -12,7 +12,7 @@ use Rattle.cint_asm.specs.Names.{is_name, label_of}
 use Rattle.cint_asm.specs.Numbers.{is_from_to, word_of}
 use Rattle.cint_asm.specs.Operands.{label_operand, no_operand, number_operand, numbered_label, operands_of, unknown_name}
 use Rattle.cint_asm.specs.Parts.{parts_of, without_comment}
-use Rattle.cint_asm.specs.Steps.{◌>>=◌}
+use Rattle.text_reader.specs.Steps.{◌>>=◌}
 use Rattle.cint_asm.specs.declared.directives.Directive.{Directive}
 use Rattle.cint_asm.specs.declared.directives.Directive.TheVariants as directive
 use Rattle.cint_asm.specs.declared.errors.LineError.{LineError}

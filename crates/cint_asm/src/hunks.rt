@@ -4,7 +4,7 @@ ghost use Rattle.cint_asm.specs.HunkWords.{closing, highest, hunk_words, pair_wo
 ghost use Rattle.cint_asm.specs.KeptCode.{kept_code};
 ghost use Rattle.cint_asm.specs.Places.{hunk_size};
 
-use crate::encoding::Encoded;
+use crate::encode::Encoded;
 use std::alloc::{AllocError, Global};
 
 /// The words of the hunk, as many as `size`.

@@ -17,14 +17,19 @@ pub fn assembly_law()
 
 /// At most one table of labels makes a text a module.
 pub fn table_law()
-    ensures { (text : List ℕ) (m n : Module) (a : Assembles text m) (b : Assembles text n) → a.table ≡ b.table }
+    ensures { (text : List ℕ) (m n : Module) (a : Assembles text m) (b : Assembles text n) →
+        a.table ≡ b.table }
 {}
 
 /// A text is refused exactly at its first bad line, with the lowest code that applies to that line. A line that is bad where
 /// it stands has a code other than 4 and 6; a line whose label is not found, or cannot be reached, has 4 or 6.
 pub fn refusal_law()
-    ensures sound { (text : List ℕ) (n code : ℕ) → assembly_of text ≡ Err (refusal n code) → IsRefused text n code }
-    ensures complete { (text : List ℕ) (n code : ℕ) → IsRefused text n code → assembly_of text ≡ Err (refusal n code) }
-    ensures lines { (text : List ℕ) (n : ℕ) (e : LineError) → IsBadLine text n e → (code_of e ≢ 4) × (code_of e ≢ 6) }
-    ensures operands { (text : List ℕ) (n : ℕ) (e : LineError) → IsBadOperand text n e → (code_of e ≡ 4) ⊎ (code_of e ≡ 6) }
+    ensures sound { (text : List ℕ) (n code : ℕ) →
+        assembly_of text ≡ Err (refusal n code) → IsRefused text n code }
+    ensures complete { (text : List ℕ) (n code : ℕ) →
+        IsRefused text n code → assembly_of text ≡ Err (refusal n code) }
+    ensures lines { (text : List ℕ) (n : ℕ) (e : LineError) →
+        IsBadLine text n e → (code_of e ≢ 4) × (code_of e ≢ 6) }
+    ensures operands { (text : List ℕ) (n : ℕ) (e : LineError) →
+        IsBadOperand text n e → (code_of e ≡ 4) ⊎ (code_of e ≡ 6) }
 {}

@@ -1,10 +1,9 @@
 // Assembly text, and the module text that it makes.
 #![tactic(auto)]
 
-pub mod assembling;
+pub mod assembly;
 mod directives;
-mod encoding;
-pub mod ends;
+mod encode;
 mod errors;
 mod hunks;
 mod instructions;
@@ -15,15 +14,15 @@ mod operands;
 mod parts;
 mod pieces;
 mod places;
-mod reading;
+mod read;
 mod sinks;
 mod statements;
 mod survey;
 mod tables;
 
-pub use assembling::assemble;
-pub use ends::AsmEnd;
+pub use assembly::assemble;
 use errors::LineError;
+pub use text_reader::TextEnd as AsmEnd;
 
 #[cfg(test)]
 mod tests;

@@ -1,33 +1,15 @@
 // Numbers in decimal.
-ghost use Rattle.std.specs.Prelude.{◌≡◌, length, IfSome, ◌<◌, ◌≤◌, ◌^◌};
-ghost use Rattle.cint_asm.specs.Numbers.{digits_number, is_from_to, number_of, word_of};
+ghost use Rattle.std.specs.Prelude.{◌≡◌};
+ghost use Rattle.cint_asm.specs.Numbers.{is_from_to, number_of, word_of};
 
 /// The number that this part of a line is: 1 to 10 decimal digits, which may follow a `-`. `None` exactly where it is none.
 pub fn number(part: &[u8]) -> Option<i64>
     ensures { result ≡ number_of part.now }
 {
     match part.strip_prefix(b"-") {
-        Some(digits) => digits_number(digits).map(|n| -(n as i64)),
-        None => digits_number(part).map(|n| n as i64),
+        Some(digits) => text_reader::number(digits).map(|n| -(n as i64)),
+        None => text_reader::number(part).map(|n| n as i64),
     }
-}
-
-// The number that 1 to 10 decimal digits are.
-fn digits_number(digits: &[u8]) -> Option<u64>
-    ensures value { result ≡ digits_number digits.now }
-    ensures small { IfSome result (λ n. n < 10 ^ 10) }
-{
-    if digits.is_empty() || digits.len() > 10 {
-        return None;
-    }
-    let mut value = 0u64;
-    for digit in digits {
-        if !digit.is_ascii_digit() {
-            return None;
-        }
-        value = 10 * value + u64::from(*digit - b'0');
-    }
-    Some(value)
 }
 
 /// Whether n is from `low` to `high`.

@@ -22,7 +22,8 @@ fn semicolon(line: &[u8]) -> Option<usize>
 
 /// The first part of a line, and what follows it; `None` exactly where the line has no part.
 pub fn split_part(line: &[u8]) -> Option<(&[u8], &[u8])>
-    ensures { MatchOption result (parts_of line.now ≡ []) (λ x. parts_of line.now ≡ x.0.now ∷ parts_of x.1.now) }
+    ensures { let parts = parts_of line.now in
+        MatchOption result (parts ≡ []) (λ x. parts ≡ x.0.now ∷ parts_of x.1.now) }
 {
     let start = first_byte(line)?;
     let (_, line) = line.split_at(start);

@@ -1,22 +1,22 @@
 // The lines of a text, surveyed: where each stands and what its label names.
 ghost use Rattle.std.specs.Prelude.{◌≡◌, ◌≤◌, ◌+◌, ◌<◌, ◌^◌, length, IfOk, OnOk};
-ghost use Rattle.text_lines.specs.Lines.{lines_of};
-ghost use Rattle.cint_asm.specs.Answers.{Gives};
+ghost use Rattle.text_reader.specs.Lines.{lines_of};
+ghost use Rattle.text_reader.specs.Answers.{Gives};
 ghost use Rattle.cint_asm.specs.KeptLabels.{layout_of};
 ghost use Rattle.cint_asm.specs.LineErrors.{code_of};
 ghost use Rattle.cint_asm.specs.Labels.{named_place, repeats};
 ghost use Rattle.cint_asm.specs.Places.{end_of, pairs_of};
 ghost use Rattle.cint_asm.specs.Survey.{admitted, no_lines, survey, survey_line, with_line};
-ghost use Rattle.cint_asm.specs.declared.ends.AsmEnd.TheVariants.{Bad};
+ghost use Rattle.text_reader.specs.declared.ends.TextEnd.TheVariants.{Bad};
 
 use crate::places::{FIRST_OFFSET, MOST_WORDS, Place, end_of, hunk_size, pairs_of, place_of};
-use crate::reading::read_line;
+use crate::read::read_line;
 use crate::statements::{Line, Statement};
 use crate::tables::{define, look_up};
 use crate::{AsmEnd, LineError};
 use std::alloc::{AllocError, Global};
 use std::collections::BTreeMap;
-use text_lines::split_line;
+use text_reader::split_line;
 
 /// What is known after some lines.
 #[derive(Drop)]
@@ -56,7 +56,8 @@ pub fn survey(alloc: Global, text: &[u8]) -> Result<Surveyed<'_>, AsmEnd>
 fn survey_line<'a>(known: &mut Surveyed<'a>, n: u32, text: &'a [u8]) -> Result<(), AsmEnd>
     requires low { known.old.offset ≤ 262144 }
     requires few { known.old.pairs ≤ 65536 }
-    ensures value { Gives (λ _. layout_of known.new) result (survey_line n (layout_of known.old) text.now) }
+    ensures value { let layout = survey_line n (layout_of known.old) text.now in
+        Gives (λ _. layout_of known.new) result layout }
     ensures low { OnOk result (known.new.offset ≤ 262144) }
     ensures few { OnOk result (known.new.pairs ≤ 65536) }
 {

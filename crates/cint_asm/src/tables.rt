@@ -14,7 +14,8 @@ pub fn define<'a>(
     name: &'a [u8],
     place: Place,
 ) -> Result<(), AllocError>
-    ensures { OnOk result (table_of labels.new ≡ update bytes_eq (table_of labels.old) name.now (Some place)) }
+    ensures { let table = update bytes_eq (table_of labels.old) name.now (Some place) in
+        OnOk result (table_of labels.new ≡ table) }
 {
     labels.insert(name, place)?;
     Ok(())

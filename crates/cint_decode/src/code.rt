@@ -17,6 +17,7 @@ pub trait Code {
 impl Code for Store {
     ghost code_bytes = { byte_at };
 
+    #[inline]
     fn byte(&self, a: u32) -> Option<u8> {
         self.get_byte(a)
     }

@@ -3,23 +3,24 @@ ghost use Rattle.std.specs.Prelude.{◌≡◌, ◌≤◌, IfOk};
 ghost use Rattle.cint_decode.specs.Decoded.{byte_or_outside, decoded, half_at, halfword_byte, halfword_offset, number_operand, operand_at, target_operand, word_at};
 
 use crate::{Code, DecodeEnd, Instr, byte_offset, even_below, half_offset};
-use cint_table::{Form, row};
+use cint_table::{Form, shape};
 use word_store::add;
 
 /// The instruction at byte address pc. The checks are made in this order: the function byte is inside (else `Outside`)
 /// and has a row (else `Undefined`), the operand's bytes are inside (else `Outside`), and the two bytes of an indirect
 /// form's halfword are inside (else `Halfword`); of several bytes the first that is outside is named. Addresses are
 /// taken modulo 2 ^ 32.
+#[inline(always)]
 pub fn decode<X: Code>(code: &X, pc: u32) -> Result<Instr, DecodeEnd>
     ensures value { result ≡ decoded (X.code_bytes code.now) pc }
     ensures length { IfOk result (λ i. (1 ≤ i.length) × (i.length ≤ 5)) }
 {
     let byte = byte_at(code, pc)?;
-    let row = row(byte).ok_or(DecodeEnd::Undefined(pc))?;
-    let operand = operand_at(code, pc, row.form)?;
+    let shape = shape(byte).ok_or(DecodeEnd::Undefined(pc))?;
+    let operand = operand_at(code, pc, shape.form)?;
     Ok(Instr {
         byte,
-        effect: row.effect,
+        effect: shape.effect,
         operand: operand.number,
         length: operand.length,
         target: operand.target,
@@ -34,6 +35,7 @@ struct Operand {
     target: u32,
 }
 
+#[inline(always)]
 fn number_operand(number: u32, length: u32) -> Operand
     ensures { result ≡ number_operand number length }
 {
@@ -44,6 +46,7 @@ fn number_operand(number: u32, length: u32) -> Operand
     }
 }
 
+#[inline(always)]
 fn target_operand(target: u32) -> Operand
     ensures { result ≡ target_operand target }
 {
@@ -54,6 +57,7 @@ fn target_operand(target: u32) -> Operand
     }
 }
 
+#[inline(always)]
 fn operand_at<X: Code>(code: &X, pc: u32, form: Form) -> Result<Operand, DecodeEnd>
     ensures value { result ≡ operand_at (X.code_bytes code.now) pc form }
     ensures length { IfOk result (λ o. (1 ≤ o.length) × (o.length ≤ 5)) }
@@ -74,12 +78,14 @@ fn operand_at<X: Code>(code: &X, pc: u32, form: Form) -> Result<Operand, DecodeE
     }
 }
 
+#[inline(always)]
 fn byte_at<X: Code>(code: &X, a: u32) -> Result<u8, DecodeEnd>
     ensures { result ≡ byte_or_outside (X.code_bytes code.now) a }
 {
     code.byte(a).ok_or(DecodeEnd::Outside(a))
 }
 
+#[inline(always)]
 fn half_at<X: Code>(code: &X, a: u32) -> Result<u32, DecodeEnd>
     ensures { result ≡ half_at (X.code_bytes code.now) a }
 {
@@ -88,6 +94,7 @@ fn half_at<X: Code>(code: &X, a: u32) -> Result<u32, DecodeEnd>
     Ok(u32::from(u16::from_le_bytes([low, high])))
 }
 
+#[inline(always)]
 fn word_at<X: Code>(code: &X, a: u32) -> Result<u32, DecodeEnd>
     ensures { result ≡ word_at (X.code_bytes code.now) a }
 {
@@ -98,6 +105,7 @@ fn word_at<X: Code>(code: &X, a: u32) -> Result<u32, DecodeEnd>
     Ok(u32::from_le_bytes([first, second, third, fourth]))
 }
 
+#[inline(always)]
 fn halfword_offset<X: Code>(code: &X, a: u32) -> Result<u32, DecodeEnd>
     ensures { result ≡ halfword_offset (X.code_bytes code.now) a }
 {
@@ -106,6 +114,7 @@ fn halfword_offset<X: Code>(code: &X, a: u32) -> Result<u32, DecodeEnd>
     Ok(half_offset(u16::from_le_bytes([low, high])))
 }
 
+#[inline(always)]
 fn halfword_byte<X: Code>(code: &X, a: u32) -> Result<u8, DecodeEnd>
     ensures { result ≡ halfword_byte (X.code_bytes code.now) a }
 {

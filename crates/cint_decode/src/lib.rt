@@ -13,6 +13,3 @@ pub use decoding::decode;
 pub use evenness::{even_above, even_below};
 pub use instructions::{DecodeEnd, Instr};
 pub use offsets::{byte_offset, half_offset};
-
-#[cfg(test)]
-mod tests;

@@ -17,7 +17,7 @@ pub record IsSearching (words : List ℕ) (r : Regs) (t count i : ℕ) : Type 0 
 pub begins : (words : List ℕ) (r : Regs) (t count : ℕ) → IsSearching words r t count 1
 begins words r t count = record { turns = count; enough = omega arith; numbered = omega arith; same = refl }
 
-past_last : (k : ℕ) (words : List ℕ) (r : Regs) (t count i : ℕ) → count < i → search_from k words r t count i ≡ jump_by words r (add t 2)
+pub past_last : (k : ℕ) (words : List ℕ) (r : Regs) (t count i : ℕ) → count < i → search_from k words r t count i ≡ jump_by words r (add t 2)
 unfolding search_from
 past_last zero words r t count i h = refl
 past_last (suc k) words r t count i h = grind (arith, nat_tests)
@@ -25,7 +25,7 @@ past_last (suc k) words r t count i h = grind (arith, nat_tests)
 pub ends : (words : List ℕ) (r : Regs) (t count i : ℕ) → count < i → IsSearching words r t count i → jump_by words r (add t 2) ≡ search_from count words r t count 1
 ends words r t count i h s = sym (past_last s.turns words r t count i h) ∙ s.same
 
-turn : (k : ℕ) (words : List ℕ) (r : Regs) (t count i : ℕ) → i ≤ count → search_from (suc k) words r t count i ≡ (halfword words (add t (4 * i)) >>= λ key. compared (search_from k words r t count) words r t i key)
+pub turn : (k : ℕ) (words : List ℕ) (r : Regs) (t count i : ℕ) → i ≤ count → search_from (suc k) words r t count i ≡ (halfword words (add t (4 * i)) >>= λ key. compared (search_from k words r t count) words r t i key)
 unfolding search_from
 turn k words r t count i h = grind (arith, nat_tests)
 

@@ -20,9 +20,8 @@ pub record After : Type 0 where
   pub words : List ℕ
   pub regs : Regs
 
--- registers and words are as before
-abbrev pub unchanged : List ℕ → Regs → Outcome → After
-unchanged words r outcome = record { outcome = outcome; words = words; regs = r }
+abbrev pub after : Outcome → List ℕ → Regs → After
+after outcome words r = record { outcome = outcome; words = words; regs = r }
 
 -- A function or operand byte outside the store is fault 8, a byte without a row fault 1, and a halfword outside is
 -- fault 3 at its word.
@@ -45,11 +44,11 @@ written words (w ∷ ws) = written (slice_set words w.0 w.1) ws
 
 -- all the writes are made, or none is and there is a fault
 abbrev pub made : Option Fault → List ℕ → Regs → Change → After
-made (Some f) words r change = unchanged words r (Faulted f)
-made None words r change = record { outcome = Next; words = written words change.writes; regs = change.regs }
+made (Some f) words r change = after (Faulted f) words r
+made None words r change = after Next (written words change.writes) change.regs
 
 abbrev pub settled : (ℕ → Bool) → List ℕ → Regs → Result Change Fault → After
-settled marks words r (Err f) = unchanged words r (Faulted f)
+settled marks words r (Err f) = after (Faulted f) words r
 settled marks words r (Ok change) = made (write_fault marks words change.writes) words r change
 
 abbrev pub is_call : Effect → Bool
@@ -59,15 +58,15 @@ is_call _ = false
 -- a kernel call is left to the kernel; every other effect is made
 unfoldable pub effected : (ℕ → Bool) → List ℕ → Regs → Instr → After
 effected marks words r i =
-    if is_call i.effect then unchanged words r Call else
+    if is_call i.effect then after Call words r else
     settled marks words r (change_of i.effect words (record r { pc = add r.pc i.length }) i.operand i.target r.pc)
 
 abbrev pub decided : (ℕ → Bool) → List ℕ → Regs → Result Instr DecodeEnd → After
-decided marks words r (Err end) = unchanged words r (Faulted (decode_fault end))
+decided marks words r (Err end) = after (Faulted (decode_fault end)) words r
 decided marks words r (Ok i) = effected marks words r i
 
 -- at PC 0 nothing is executed: the function at the bottom of the stack has returned
 abbrev pub instruction : (ℕ → Bool) → List ℕ → Regs → After
 instruction marks words r =
-    if r.pc == 0 then unchanged words r Returned else
+    if r.pc == 0 then after Returned words r else
     decided marks words r (decoded (byte_at words) r.pc)

@@ -1,5 +1,6 @@
 pub mod Change
-pub mod Switch
 pub mod Effect
 pub mod Instruction
+pub mod SearchOrder
+pub mod Switch
 pub mod Writes

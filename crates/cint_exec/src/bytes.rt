@@ -1,5 +1,5 @@
 // Access to single bytes.
-ghost use Rattle.std.specs.Prelude.{◌≡◌, ◌<◌, IfOk};
+ghost use Rattle.std.specs.Prelude.{◌≡◌, ◌<◌};
 ghost use Rattle.cint_exec.specs.Change.{byte_place, get_byte, put_byte};
 ghost use Rattle.cint_exec.specs.Writes.{seen};
 
@@ -8,27 +8,26 @@ use crate::changes::{Change, read, set_a, write};
 use word_store::{Regs, Store, add, mul};
 
 // The byte address of byte i of the words from x on.
+#[inline(always)]
 fn byte_place(x: u32, i: u32) -> u32
     ensures { result ≡ byte_place x i }
 {
     add(mul(4, x), i)
 }
 
+#[inline(always)]
 pub fn get_byte(store: &Store, r: Regs, x: u32, i: u32) -> Result<Change, Fault>
-    requires { r.c < 256 }
-    ensures value { seen result ≡ get_byte store.now r x i }
-    ensures byte { IfOk result (λ x. x.regs.c < 256) }
+    ensures { seen result ≡ get_byte store.now r x i }
 {
     let place = byte_place(x, i);
     let w = read(store, place / 4)?;
     set_a(r, w.to_le_bytes()[(place % 4) as usize] as u32)
 }
 
+#[inline(always)]
 pub fn put_byte(store: &Store, r: Regs, x: u32, i: u32, c: u32) -> Result<Change, Fault>
-    requires regs { r.c < 256 }
-    requires byte { c < 256 }
-    ensures value { seen result ≡ put_byte store.now r x i c }
-    ensures byte { IfOk result (λ x. x.regs.c < 256) }
+    requires { c < 256 }
+    ensures { seen result ≡ put_byte store.now r x i c }
 {
     let place = byte_place(x, i);
     let w = store.get(place / 4).ok_or(Fault {

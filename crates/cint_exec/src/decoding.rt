@@ -5,6 +5,7 @@ ghost use Rattle.cint_exec.specs.Instruction.{decode_fault};
 use crate::Fault;
 use cint_decode::DecodeEnd;
 
+#[inline(always)]
 pub fn fault_of(end: DecodeEnd) -> Fault
     ensures { result ≡ decode_fault end }
 {

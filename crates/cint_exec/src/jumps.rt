@@ -1,5 +1,5 @@
 // Jumps and their conditions.
-ghost use Rattle.std.specs.Prelude.{◌≡◌, ◌<◌, IfOk};
+ghost use Rattle.std.specs.Prelude.{◌≡◌};
 ghost use Rattle.cint_exec.specs.Change.{holds, jump, jump_if};
 ghost use Rattle.cint_exec.specs.Writes.{seen};
 
@@ -8,22 +8,21 @@ use crate::changes::{Change, keep};
 use cint_table::Test;
 use word_store::{Regs, signed};
 
+#[inline(always)]
 pub fn jump(r: Regs, to: u32) -> Result<Change, Fault>
-    requires { r.c < 256 }
-    ensures value { seen result ≡ jump r to }
-    ensures byte { IfOk result (λ x. x.regs.c < 256) }
+    ensures { seen result ≡ jump r to }
 {
     keep(Regs { pc: to, ..r })
 }
 
+#[inline(always)]
 pub fn jump_if(condition: bool, r: Regs, to: u32) -> Result<Change, Fault>
-    requires { r.c < 256 }
-    ensures value { seen result ≡ jump_if condition r to }
-    ensures byte { IfOk result (λ x. x.regs.c < 256) }
+    ensures { seen result ≡ jump_if condition r to }
 {
     if condition { jump(r, to) } else { keep(r) }
 }
 
+#[inline(always)]
 pub fn holds(test: Test, x: u32, y: u32) -> bool
     ensures { result ≡ holds test x y }
 {

@@ -10,6 +10,7 @@ mod decoding;
 mod effects;
 mod frames;
 mod jumps;
+pub mod laws;
 mod switches;
 mod unguarded;
 mod writes;
@@ -41,12 +42,16 @@ pub enum Outcome {
 }
 
 /// Executes the instruction at PC. At `Sys`, `Returned` and `Fault` the registers and the store are as before.
+#[inline(always)]
 pub fn execute<X: Guard>(store: &mut Store, regs: &mut Regs, guard: &X) -> Outcome
     requires byte { regs.old.c < 256 }
     requires guard { X.can_guard guard.now store.old }
-    ensures outcome { result ≡ (instruction (X.marks guard.now store.old) store.old regs.old).outcome }
-    ensures words { store.new ≡ (instruction (X.marks guard.now store.old) store.old regs.old).words }
-    ensures regs { regs.new ≡ (instruction (X.marks guard.now store.old) store.old regs.old).regs }
+    ensures outcome { let marks = X.marks guard.now store.old in
+        result ≡ (instruction marks store.old regs.old).outcome }
+    ensures words { let marks = X.marks guard.now store.old in
+        store.new ≡ (instruction marks store.old regs.old).words }
+    ensures regs { let marks = X.marks guard.now store.old in
+        regs.new ≡ (instruction marks store.old regs.old).regs }
     ensures byte { regs.new.c < 256 }
 {
     if regs.pc == 0 {

@@ -1,5 +1,5 @@
 // The switches by label and by key.
-ghost use Rattle.std.specs.Prelude.{◌≡◌, ◌<◌, IfOk};
+ghost use Rattle.std.specs.Prelude.{◌≡◌, ◌<◌};
 ghost use Rattle.cint_exec.specs.Switch.{halfword, jump_by, search_from, switch_by_key, switch_by_label, table_byte};
 ghost use Rattle.cint_exec.specs.Writes.{seen};
 
@@ -9,6 +9,7 @@ use crate::jumps::jump;
 use cint_decode::half_offset;
 use word_store::{Regs, Store, add};
 
+#[inline(always)]
 fn table_byte(store: &Store, a: u32) -> Result<u8, Fault>
     ensures { result ≡ table_byte store.now a }
 {
@@ -18,6 +19,7 @@ fn table_byte(store: &Store, a: u32) -> Result<u8, Fault>
     })
 }
 
+#[inline(always)]
 fn halfword(store: &Store, a: u32) -> Result<u16, Fault>
     ensures { result ≡ halfword store.now a }
 {
@@ -26,19 +28,17 @@ fn halfword(store: &Store, a: u32) -> Result<u16, Fault>
     Ok(u16::from_le_bytes([low, high]))
 }
 
+#[inline(always)]
 fn jump_by(store: &Store, r: Regs, a: u32) -> Result<Change, Fault>
-    requires { r.c < 256 }
-    ensures value { seen result ≡ jump_by store.now r a }
-    ensures byte { IfOk result (λ x. x.regs.c < 256) }
+    ensures { seen result ≡ jump_by store.now r a }
 {
     let h = halfword(store, a)?;
     jump(r, add(a, half_offset(h)))
 }
 
+#[inline(always)]
 pub fn switch_by_label(store: &Store, r: Regs, t: u32) -> Result<Change, Fault>
-    requires { r.c < 256 }
-    ensures value { seen result ≡ switch_by_label store.now r t }
-    ensures byte { IfOk result (λ x. x.regs.c < 256) }
+    ensures { seen result ≡ switch_by_label store.now r t }
 {
     let count = halfword(store, t)? as u32;
     let a = if r.a < count {
@@ -49,21 +49,19 @@ pub fn switch_by_label(store: &Store, r: Regs, t: u32) -> Result<Change, Fault>
     jump_by(store, r, a)
 }
 
+#[inline(always)]
 pub fn switch_by_key(store: &Store, r: Regs, t: u32) -> Result<Change, Fault>
-    requires { r.c < 256 }
-    ensures value { seen result ≡ switch_by_key store.now r t }
-    ensures byte { IfOk result (λ x. x.regs.c < 256) }
+    ensures { seen result ≡ switch_by_key store.now r t }
 {
     let count = halfword(store, t)? as u32;
     search(store, r, t, count)
 }
 
 // Finds the pair of the key that is A, among so many.
+#[inline(always)]
 fn search(store: &Store, r: Regs, t: u32, count: u32) -> Result<Change, Fault>
-    requires byte { r.c < 256 }
-    requires halfword { count < 65536 }
-    ensures value { seen result ≡ search_from count store.now r t count 1 }
-    ensures byte { IfOk result (λ x. x.regs.c < 256) }
+    requires { count < 65536 }
+    ensures { seen result ≡ search_from count store.now r t count 1 }
 {
     let mut i = 1u32;
     while i <= count {

@@ -1,7 +1,7 @@
 // The writes of an instruction: all are made, or none.
-ghost use Rattle.std.specs.Prelude.{◌≡◌, ◌<◌, [], ◌∷◌};
-ghost use Rattle.cint_exec.specs.Instruction.{made, write_fault, written};
-ghost use Rattle.cint_exec.specs.Writes.{list_of, change_seen};
+ghost use Rattle.std.specs.Prelude.{◌≡◌, [], ◌∷◌};
+ghost use Rattle.cint_exec.specs.Instruction.{after, made, settled, write_fault, written};
+ghost use Rattle.cint_exec.specs.Writes.{change_seen, list_of, seen};
 
 use crate::changes::Change;
 use crate::{Fault, Outcome};
@@ -26,24 +26,47 @@ pub enum Writes {
     },
 }
 
-/// Makes all the writes and sets the registers, or names the first write that can't be made.
-pub fn make<X: Guard>(store: &mut Store, regs: &mut Regs, guard: &X, change: Change) -> Outcome
-    requires guard { X.can_guard guard.now store.old }
-    requires byte { change.regs.c < 256 }
-    requires old_byte { regs.old.c < 256 }
-    ensures outcome { result ≡ (made (write_fault (X.marks guard.now store.old) store.old (list_of change.writes)) store.old regs.old (change_seen change)).outcome }
-    ensures words { store.new ≡ (made (write_fault (X.marks guard.now store.old) store.old (list_of change.writes)) store.old regs.old (change_seen change)).words }
-    ensures regs { regs.new ≡ (made (write_fault (X.marks guard.now store.old) store.old (list_of change.writes)) store.old regs.old (change_seen change)).regs }
-    ensures byte { regs.new.c < 256 }
+/// Makes a change, or names its fault.
+#[inline(always)]
+pub fn settle<X: Guard>(
+    change: Result<Change, Fault>,
+    store: &mut Store,
+    regs: &mut Regs,
+    guard: &X,
+) -> Outcome
+    requires { X.can_guard guard.now store.old }
+    ensures { after result store.new regs.new
+        ≡ settled (X.marks guard.now store.old) store.old regs.old (seen change) }
+{
+    match change {
+        Ok(change) => make(store, regs, guard, change),
+        Err(fault) => Outcome::Fault(fault),
+    }
+}
+
+// Makes all the writes and sets the registers, or names the first write that can't be made. The registers are set one by
+// one, before the store is written, so that they need not be kept meanwhile.
+#[inline(always)]
+fn make<X: Guard>(store: &mut Store, regs: &mut Regs, guard: &X, change: Change) -> Outcome
+    requires { X.can_guard guard.now store.old }
+    ensures { let marks = X.marks guard.now store.old in
+        let fault = write_fault marks store.old (list_of change.writes) in
+        after result store.new regs.new ≡ made fault store.old regs.old (change_seen change) }
 {
     if let Some(fault) = first_fault(store, guard, change.writes) {
         return Outcome::Fault(fault);
     }
+    regs.a = change.regs.a;
+    regs.b = change.regs.b;
+    regs.c = change.regs.c;
+    regs.p = change.regs.p;
+    regs.g = change.regs.g;
+    regs.pc = change.regs.pc;
     write_all(store, change.writes);
-    *regs = change.regs;
     Outcome::Next
 }
 
+#[inline(always)]
 fn first_fault<X: Guard>(store: &Store, guard: &X, writes: Writes) -> Option<Fault>
     requires { X.can_guard guard.now store.now }
     ensures { result ≡ write_fault (X.marks guard.now store.now) store.now (list_of writes) }
@@ -58,6 +81,7 @@ fn first_fault<X: Guard>(store: &Store, guard: &X, writes: Writes) -> Option<Fau
     }
 }
 
+#[inline(always)]
 fn fault_at<X: Guard>(store: &Store, guard: &X, a: u32) -> Option<Fault>
     requires { X.can_guard guard.now store.now }
     ensures { result ≡ write_fault (X.marks guard.now store.now) store.now ((a, 0) ∷ []) }
@@ -77,6 +101,7 @@ fn fault_at<X: Guard>(store: &Store, guard: &X, a: u32) -> Option<Fault>
     None
 }
 
+#[inline(always)]
 fn write_all(store: &mut Store, writes: Writes)
     ensures { store.new ≡ written store.old (list_of writes) }
 {

@@ -1,4 +1,7 @@
+pub mod EffectLemmas
 pub mod EmptyLemmas
 pub mod Entries
 pub mod FormLemmas
 pub mod NameLemmas
+pub mod RowLemmas
+pub mod ShapeLemmas

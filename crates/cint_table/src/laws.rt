@@ -1,6 +1,7 @@
 // What holds of the whole table. The functions do nothing: their contracts are the laws.
 ghost use Rattle.std.specs.Prelude.{◌≡◌, ◌<◌, ◌^◌, ◌↔◌, ℕ, List, Some, Contains, IfSome, IsNone};
 ghost use Rattle.cint_table.specs.Empty.{empty_bytes};
+ghost use Rattle.cint_table.specs.EffectRule.{effect_named};
 ghost use Rattle.cint_table.specs.FormRule.{form_named};
 ghost use Rattle.cint_table.specs.Names.{byte_named, name_at};
 ghost use Rattle.cint_table.specs.Table.{entry};
@@ -14,12 +15,20 @@ pub fn empty_law()
 /// Each name stands once, so the byte that is found by the name of a row is the byte of that row.
 #[tactic(auto, using(crate::proofs::NameLemmas::once, crate::proofs::NameLemmas::byte_named_at, crate::proofs::NameLemmas::byte_named_has))]
 pub fn name_law()
-    ensures once { (a b : ℕ) (name : List ℕ) → name_at a ≡ Some name → name_at b ≡ Some name → a ≡ b }
-    ensures found { (byte : ℕ) (name : List ℕ) → (byte_named name ≡ Some byte) ↔ (name_at byte ≡ Some name) }
+    ensures once { (a b : ℕ) (name : List ℕ) →
+        name_at a ≡ Some name → name_at b ≡ Some name → a ≡ b }
+    ensures found { (byte : ℕ) (name : List ℕ) →
+        (byte_named name ≡ Some byte) ↔ (name_at byte ≡ Some name) }
 {}
 
 /// The form of each row follows from its name.
-#[tactic(auto, using(crate::proofs::FormLemmas::each_follows))]
+#[tactic(auto, using(crate::proofs::FormLemmas::form_follows))]
 pub fn form_law()
     ensures { (byte : ℕ) → IfSome (entry byte) (λ row. row.form ≡ form_named row.name) }
+{}
+
+/// The effect of each row follows from its name.
+#[tactic(auto, using(crate::proofs::EffectLemmas::effect_follows))]
+pub fn effect_law()
+    ensures { (byte : ℕ) → IfSome (entry byte) (λ row. Some row.effect ≡ effect_named row.name) }
 {}

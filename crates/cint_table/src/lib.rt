@@ -5,11 +5,14 @@ pub mod columns;
 pub mod effects;
 pub mod forms;
 pub mod laws;
+pub mod lookup;
 pub mod names;
 pub mod rows;
+mod slots;
 
-pub use columns::row;
+pub use columns::name;
 pub use effects::{Effect, Test};
 pub use forms::Form;
+pub use lookup::{row, shape};
 pub use names::byte_of;
-pub use rows::Row;
+pub use rows::{Row, Shape};

@@ -2,7 +2,7 @@
 ghost use Rattle.std.specs.Prelude.{◌≡◌, ◌≢◌, ◌↔◌, ℕ, Some, IfSome, IsNone};
 ghost use Rattle.cint_table.specs.Names.{byte_named, has_name, name_at};
 
-use crate::row;
+use crate::name as row_name;
 
 /// The byte whose row has the name, or `None` exactly where no row has it.
 #[tactic(auto, using(crate::proofs::NameLemmas::has_name_from, crate::proofs::NameLemmas::byte_named_at, crate::proofs::NameLemmas::never_named, crate::proofs::NameLemmas::unnamed))]
@@ -23,8 +23,8 @@ pub fn byte_of(name: &str) -> Option<u8>
 fn is_named(byte: u8, name: &str) -> bool
     ensures { result ≡ has_name name.now byte }
 {
-    match row(byte) {
-        Some(row) => row.name == name,
+    match row_name(byte) {
+        Some(row_name) => row_name == name,
         None => false,
     }
 }

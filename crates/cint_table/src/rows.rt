@@ -1,4 +1,4 @@
-// A row of the table.
+// What the table says of a function byte.
 use crate::{Effect, Form};
 
 /// A row of the table.
@@ -6,6 +6,13 @@ use crate::{Effect, Form};
 pub struct Row {
     /// The instruction's name in assembly text.
     pub name: &'static str,
+    pub form: Form,
+    pub effect: Effect,
+}
+
+/// A row without its name.
+#[derive(Clone, Copy, Debug, PartialEq, Eq)]
+pub struct Shape {
     pub form: Form,
     pub effect: Effect,
 }

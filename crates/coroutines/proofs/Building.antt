@@ -2,42 +2,26 @@
 use Rattle.std.proofs.Common.{◌≡◌, ◌≢◌, inl, ℕ, ◌+◌, ◌<◌, List, [], ◌∷◌, ◌++◌, length, eqb, ◌||◌, Bool, true, false, refl, sym, ap, ◌∙◌, subst, arith}
 use Rattle.std.specs.List.{AllByRecursion, range_with_len}
 use Rattle.std.proofs.lemmas.Bool.Decides.{nat_tests}
-use Rattle.store_model.specs.Count.{IsApart, words_of}
-use Rattle.store_model.specs.Linked.{IsNode}
-use Rattle.store_model.specs.Placing.{has}
-use Rattle.store_model.specs.Tiling.{IsTiled}
-use Rattle.store_model.proofs.Chains.{length-apart}
-use Rattle.store_model.proofs.Counts.{times-append, times-within}
-use Rattle.store_model.proofs.Lists.{BecomesList}
-use Rattle.store_model.proofs.Members.{all-has, one-member}
+use Rattle.linked_list.specs.Count.{IsApart, words_of}
+use Rattle.linked_list.specs.Linked.{IsNode, IsListAt}
+use Rattle.linked_list.specs.Placing.{has}
+use Rattle.getvec_chain.specs.Tiling.{IsTiled}
+use Rattle.linked_list.proofs.Chains.{length-apart}
+use Rattle.linked_list.proofs.Counts.{times-append, times-within}
+use Rattle.linked_list.proofs.Members.{one-member}
+use Rattle.linked_list.proofs.AllMembers.{all-has}
 use Rattle.task_block.specs.Lists.{coroutine_link, coroutines_in}
 use Rattle.coroutines.specs.Active.{LeadsOut, active_in}
 use Rattle.coroutines.specs.Coroutines.{HasBlock, HasCoroutines, HasTaskBlock}
 use Rattle.coroutines.specs.CoroutineWords.{coroutine_size, parent_in}
 use Rattle.coroutines.proofs.Outward.{IsInner, outwards-is}
 
--- a member at the front, and behind it
-pub has-here : (k : ℕ) (ks : List ℕ) → has k (k ∷ ks) ≡ true
-has-here k ks = (let same : eqb k k ≡ true = grind (arith, nat_tests) in ap (λ b. b || has k ks) same)
-
-pub has-there : (m k : ℕ) (ks : List ℕ) → has m ks ≡ true → has m (k ∷ ks) ≡ true
-has-there m k ks some = on (eqb m k) refl
-  where
-    on : (b : Bool) → eqb m k ≡ b → has m (k ∷ ks) ≡ true
-    on true e = ap (λ b. b || has m ks) e
-    on false e = ap (λ b. b || has m ks) e ∙ some
-
--- what holds of each member follows from being a member
-pub all-members : (P : ℕ → Type 0) (cs : List ℕ) → ((c : ℕ) → has c cs ≡ true → P c) → AllByRecursion P cs
-all-members P [] each = tt
-all-members P (c ∷ cs) each = (each c (has-here c cs), all-members P cs (λ k some. each k (has-there k c cs some)))
-
 -- what has to hold of a store for these coroutines, of which these are active
 pub record Parts (v : List ℕ) (t : ℕ) (cs act : List ℕ) : Type 0 where
   pub tiled : IsTiled v
   pub task : HasTaskBlock v t
   pub elsewhere : has task.first cs ≡ false
-  pub list : BecomesList v coroutine_link coroutine_size (t + 17) cs
+  pub list : IsListAt v coroutine_link coroutine_size (t + 17) cs
   pub apart : IsApart (range_with_len t 23 ++ words_of coroutine_size cs)
   pub blocks : AllByRecursion (HasBlock v) cs
   pub out : LeadsOut v t 0 (t + 18) act

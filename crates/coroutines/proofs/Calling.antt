@@ -4,10 +4,10 @@ use Rattle.std.specs.List.{AllByRecursion}
 use Rattle.std.proofs.lemmas.Bool.{cases_eq, false≢true}
 use Rattle.std.proofs.lemmas.Bool.Decides.{nat_tests}
 use Rattle.word_store.specs.declared.registers.Regs.{Regs}
-use Rattle.store_model.specs.Count.{IsApart, times}
-use Rattle.store_model.specs.Placing.{has}
-use Rattle.store_model.proofs.Counts.{IsApart-cons, hit-same}
-use Rattle.store_model.proofs.Members.{has-none, times-has}
+use Rattle.linked_list.specs.Count.{IsApart, times}
+use Rattle.linked_list.specs.Placing.{has}
+use Rattle.linked_list.proofs.Counts.{IsApart-cons, hit-same}
+use Rattle.linked_list.proofs.Members.{has-none, has-not, none-times, not-has}
 use Rattle.task_block.specs.Lists.{coroutines_in}
 use Rattle.coroutines.specs.Active.{LeadsOut, active_in}
 use Rattle.coroutines.specs.Coroutines.{HasCoroutines}
@@ -19,16 +19,6 @@ use Rattle.coroutines.proofs.Building.{Built}
 use Rattle.coroutines.proofs.Frame.{IsCall, again}
 use Rattle.coroutines.proofs.Outward.{LeadsOut-same}
 use Rattle.coroutines.proofs.Switches.{call-parent, other-parent, own-parent, still-current, switched-call, switched-current, switched-parent}
-
-pub has-not : (c k : ℕ) (ks : List ℕ) → has c (k ∷ ks) ≡ false → (c ≢ k) × (has c ks ≡ false)
-has-not c k ks none = on (eqb c k) refl none
-  where
-    on : (b : Bool) → eqb c k ≡ b → (b || has c ks) ≡ false → (c ≢ k) × (has c ks ≡ false)
-    on true e none = cc
-    on false e none = (let differ : c ≢ k = grind (arith, nat_tests) in (differ, none))
-
-not-has : (c k : ℕ) (ks : List ℕ) → c ≢ k → has c ks ≡ false → has c (k ∷ ks) ≡ false
-not-has c k ks ne none = (let test : eqb c k ≡ false = grind (arith, nat_tests) in ap (λ b. b || has c ks) test ∙ none)
 
 -- the parents of members other than one
 parents-same : (s v : List ℕ) (t c : ℕ) → ((k : ℕ) → is_known s t k ≡ true → k ≢ c → get_or v (k + 1) 0 ≡ get_or s (k + 1) 0)
@@ -57,9 +47,6 @@ call-again s t regs c h known idle =
     let apart = has-not k c (active_in s t) none in
     parents k other apart.0 ∙ no_parent-word s t k h other apart.1)
   where
-    none-times : (c : ℕ) (cs : List ℕ) → has c cs ≡ false → times c cs ≡ 0
-    none-times c cs none = elim (cases_eq (times c cs) 0) [ inl e ↦ e | inr ne ↦ absurd (false≢true (sym none ∙ times-has c cs (omega (arith, ne)))) ]
-
     outer : (cs : List ℕ) → LeadsOut s t 0 (t + 18) cs → AllByRecursion (λ k. has k (coroutines_in s t) ≡ true) cs → has c cs ≡ false
         → get_or (called s t regs c) (c + 1) 0 ≡ as_parent t (current_in s t)
         → ((k : ℕ) → is_known s t k ≡ true → k ≢ c → get_or (called s t regs c) (k + 1) 0 ≡ get_or s (k + 1) 0)
@@ -174,9 +161,6 @@ replace-again s t regs c h within known idle =
       | inr ne ↦ parents k other apart.0 ne ∙ no_parent-word s t k h other (ap (has k) i.is.active ∙ not-has k at i.is.others ne apart.1)
     ]))
   where
-    none-times : (c : ℕ) (cs : List ℕ) → has c cs ≡ false → times c cs ≡ 0
-    none-times c cs none = elim (cases_eq (times c cs) 0) [ inl e ↦ e | inr ne ↦ absurd (false≢true (sym none ∙ times-has c cs (omega (arith, ne)))) ]
-
     outer : (cs : List ℕ) → LeadsOut s t t (current_in s t + 1) cs → AllByRecursion (λ k. has k (coroutines_in s t) ≡ true) cs → has c cs ≡ false → has (current_in s t) cs ≡ false
         → get_or (replaced s t regs c) (c + 1) 0 ≡ parent_in s (current_in s t)
         → ((k : ℕ) → is_known s t k ≡ true → k ≢ c → k ≢ current_in s t → get_or (replaced s t regs c) (k + 1) 0 ≡ get_or s (k + 1) 0)

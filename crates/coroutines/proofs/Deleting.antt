@@ -2,32 +2,32 @@
 use Rattle.std.proofs.Common.{◌≡◌, ◌≢◌, ◌⊎◌, inl, inr, ℕ, ◌+◌, ◌<◌, ◌≤◌, List, [], ◌∷◌, get_or, Bool, true, false, Some, None, refl, sym, ap, ◌∙◌, subst, arith, get_or-set_other, length-set}
 use Rattle.std.specs.List.{AllByRecursion, range_with_len}
 use Rattle.std.proofs.lemmas.Bool.{false≢true}
-use Rattle.store_model.specs.Block.{block_end, used_block}
-use Rattle.store_model.specs.Chain.{cells, last_cell, list_at}
-use Rattle.store_model.specs.Count.{times, words_of}
-use Rattle.store_model.specs.Give.{given}
-use Rattle.store_model.specs.Placing.{cell_before, has, linked_out, without}
-use Rattle.store_model.specs.Run.{need}
-use Rattle.store_model.specs.Tiling.{blocks_in, holding, used_at}
-use Rattle.store_model.proofs.AfterGive.{AfterGive, after_give}
-use Rattle.store_model.proofs.Chains.{nodes-apart}
-use Rattle.store_model.proofs.Counts.{hit-same, times-append, times-words_more, times-words_of}
-use Rattle.store_model.proofs.Frames.{list-same}
-use Rattle.store_model.proofs.Insertion.{times-front_cell}
-use Rattle.store_model.proofs.Lists.{BecomesList, list-remove, list-removed}
-use Rattle.store_model.proofs.Members.{has-times, without-has, without-keeps}
-use Rattle.store_model.proofs.Places.{Stands, stands}
-use Rattle.store_model.proofs.UsedBlocks.{UsedBlock, used_at-apart, used_at-is}
-use Rattle.store_model.proofs.Writes.{SameBlocks, SameBlocks-kept}
+use Rattle.getvec_chain.specs.Block.{block_end, used_block}
+use Rattle.linked_list.specs.Chain.{cells, last_cell, list_at}
+use Rattle.linked_list.specs.Count.{times, words_of}
+use Rattle.getvec_chain.specs.Give.{given}
+use Rattle.linked_list.specs.Placing.{cell_before, has, linked_out, without}
+use Rattle.getvec_chain.specs.Run.{need}
+use Rattle.getvec_chain.specs.Tiling.{blocks_in, holding, used_at}
+use Rattle.getvec_chain.proofs.AfterGive.{AfterGive, after_give}
+use Rattle.linked_list.proofs.Chains.{nodes-apart}
+use Rattle.linked_list.proofs.Counts.{hit-same, times-append, times-words_more, times-words_of}
+use Rattle.linked_list.proofs.Frames.{list-same}
+use Rattle.linked_list.proofs.Insertion.{times-front_cell}
+use Rattle.linked_list.proofs.Lists.{list-remove, list-removed}
+use Rattle.linked_list.specs.Linked.{IsListAt}
+use Rattle.linked_list.proofs.Members.{has-times, without-has, without-keeps, has-not, cell-cases}
+use Rattle.linked_list.proofs.Places.{Stands, stands}
+use Rattle.getvec_chain.proofs.UsedBlocks.{UsedBlock, used_at-apart, used_at-is}
+use Rattle.getvec_chain.proofs.Writes.{SameBlocks, SameBlocks-kept}
 use Rattle.task_block.specs.Lists.{coroutine_link, coroutines_in}
 use Rattle.coroutines.specs.Active.{active_in}
 use Rattle.coroutines.specs.Coroutines.{HasBlock, HasCoroutines}
 use Rattle.coroutines.specs.CoroutineWords.{coroutine_size, highest_in, parent_in}
 use Rattle.coroutines.specs.Creation.{deleted}
 use Rattle.coroutines.specs.Refusals.{has_parent, is_known}
-use Rattle.coroutines.proofs.Building.{Built, all-members, built}
-use Rattle.coroutines.proofs.Calling.{has-not}
-use Rattle.coroutines.proofs.Frame.{cell-cases}
+use Rattle.coroutines.proofs.Building.{Built, built}
+use Rattle.linked_list.proofs.AllMembers.{all-members}
 use Rattle.coroutines.proofs.Known.{known-block, known-held, known-same, no_parent-word, task-apart, task-held}
 use Rattle.coroutines.proofs.Staying.{same-block, same-out}
 
@@ -119,8 +119,8 @@ delete-built s t c h known idle =
     let word : (k i : ℕ) → is_known s t k ≡ true → i < 10 → i ≢ 2 → get_or v (k + i) 0 ≡ get_or s (k + i) 0 = λ k i other few ne.
     after.words (k + i) (size-no_word s t c k i h known other few) ∙ get_or-set_other s (cell_of s t c) (k + i) (get_or s (c + 2) 0) 0 (known-no_cell s t c k i h known other few ne)
     in
-    let out : BecomesList x coroutine_link coroutine_size (t + 17) rest = list-remove s x coroutine_link coroutine_size (t + 17) c h.list known (list-removed s coroutine_link coroutine_size (t + 17) c h.list known) in
-    let list : BecomesList v coroutine_link coroutine_size (t + 17) (list_at x coroutine_link (t + 17)) =
+    let out : IsListAt x coroutine_link coroutine_size (t + 17) rest = list-remove s x coroutine_link coroutine_size (t + 17) c h.list known (list-removed s coroutine_link coroutine_size (t + 17) c h.list known) in
+    let list : IsListAt v coroutine_link coroutine_size (t + 17) (list_at x coroutine_link (t + 17)) =
     list-same x v coroutine_link coroutine_size (t + 17) out.stands after.same_length (λ a some. after.words a (no_size a (cell-cases coroutine_link a (t + 17) (list_at x coroutine_link (t + 17)) some) out.list))
     in
     let used : (a : ℕ) → a ≢ c → used_at a (blocks_in v) ≡ used_at a (blocks_in s) = λ a ne. after.others a ne ∙ ap (used_at a) blocks.blocks in
@@ -130,7 +130,7 @@ delete-built s t c h known idle =
       tiled = after.tiled;
       task = record { first = h.task.first; block = h.task.block; used = used h.task.first no_first ∙ h.task.used; low = h.task.low; high = h.task.high };
       elsewhere = not_in h.task.first h.elsewhere;
-      list = subst (BecomesList v coroutine_link coroutine_size (t + 17)) out.list list;
+      list = subst (IsListAt v coroutine_link coroutine_size (t + 17)) out.list list;
       apart = λ a. omega (arith, h.apart a, times-append a (range_with_len t 23) (words_of coroutine_size (coroutines_in s t)), times-append a (range_with_len t 23) (words_of coroutine_size rest), fewer a);
       blocks = all-members (HasBlock v) rest (λ k some. same-block s v t k h (known_of k some) (used k (differ k some)) (word k 4 (known_of k some) (omega arith) (λ e. absurd (omega (arith, e)))));
       out = same-out s v t h (task_word 18 (omega arith) (λ e. absurd (omega (arith, e)))) (λ k other active. word k 1 other (omega arith) (λ e. absurd (omega (arith, e))));

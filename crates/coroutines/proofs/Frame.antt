@@ -2,22 +2,24 @@
 use Rattle.std.proofs.Common.{◌≡◌, ◌≢◌, ◌⊎◌, inl, inr, ℕ, ◌+◌, ◌<◌, ◌≤◌, List, [], ◌∷◌, length, get_or, true, false, Some, sym, ap, ◌∙◌, subst, arith}
 use Rattle.std.specs.List.{AllByRecursion}
 use Rattle.std.proofs.lemmas.Bool.{cases_eq}
-use Rattle.store_model.specs.Block.{used_block}
-use Rattle.store_model.specs.Chain.{cells}
-use Rattle.store_model.specs.Count.{IsApart, times}
-use Rattle.store_model.specs.Placing.{has}
-use Rattle.store_model.specs.Run.{need}
-use Rattle.store_model.specs.Tiling.{blocks_in, holding, used_at}
-use Rattle.store_model.proofs.Counts.{hit-other}
-use Rattle.store_model.proofs.Frames.{list-same}
-use Rattle.store_model.proofs.Lists.{BecomesList}
-use Rattle.store_model.proofs.Writes.{SameBlocks, SameBlocks-kept}
+use Rattle.getvec_chain.specs.Block.{used_block}
+use Rattle.linked_list.specs.Chain.{cells}
+use Rattle.linked_list.specs.Count.{IsApart, times}
+use Rattle.linked_list.specs.Placing.{has}
+use Rattle.getvec_chain.specs.Run.{need}
+use Rattle.getvec_chain.specs.Tiling.{blocks_in, holding, used_at}
+use Rattle.linked_list.proofs.Counts.{hit-other}
+use Rattle.linked_list.proofs.Frames.{list-same}
+use Rattle.linked_list.specs.Linked.{IsListAt}
+use Rattle.getvec_chain.proofs.Writes.{SameBlocks, SameBlocks-kept}
 use Rattle.task_block.specs.Lists.{coroutine_link, coroutines_in}
 use Rattle.coroutines.specs.Active.{LeadsOut}
 use Rattle.coroutines.specs.Coroutines.{HasBlock, HasCoroutines}
 use Rattle.coroutines.specs.CoroutineWords.{coroutine_size, highest_in, parent_in}
 use Rattle.coroutines.specs.Refusals.{is_known}
-use Rattle.coroutines.proofs.Building.{Built, all-members, built, has-here, has-there}
+use Rattle.coroutines.proofs.Building.{Built, built}
+use Rattle.linked_list.proofs.AllMembers.{all-members}
+use Rattle.linked_list.proofs.Members.{has-there, has-here, cell-cases}
 use Rattle.coroutines.proofs.Known.{known-block, known-held, known-same, task-apart, task-held}
 
 -- only the words 18 to 20 of the task block, and the words 0, 1 and 6 of its coroutines, have changed
@@ -54,20 +56,7 @@ same-blocks s v t h c =
     c.others a (no_task 18 (omega arith)) (no_task 19 (omega arith)) (no_task 20 (omega arith))
     (λ k known. ((λ e. no_word k 0 known (omega arith) (omega (arith, e))), no_word k 1 known (omega arith), no_word k 6 known (omega arith))))
 
--- a cell is the head, or the link of a member
-pub cell-cases : (link : ℕ → ℕ) (a at : ℕ) (ps : List ℕ) → 0 < times a (cells link at ps) → (a ≡ at) ⊎ ((k : ℕ) × (has k ps ≡ true) × (a ≡ link k))
-cell-cases link a at [] some = elim (cases_eq a at) [ inl e ↦ inl e | inr ne ↦ absurd (omega (arith, some, hit-other a at ne)) ]
-cell-cases link a at (p ∷ ps) some =
-    elim (cases_eq a at) [
-      | inl e ↦ inl e
-      | inr ne ↦ later (cell-cases link a (link p) ps (omega (arith, some, hit-other a at ne)))
-    ]
-  where
-    later : (a ≡ link p) ⊎ ((k : ℕ) × (has k ps ≡ true) × (a ≡ link k)) → (a ≡ at) ⊎ ((k : ℕ) × (has k (p ∷ ps) ≡ true) × (a ≡ link k))
-    later (inl e) = inr (p, has-here p ps, e)
-    later (inr (k, some, e)) = inr (k, has-there k p ps some, e)
-
-same-list : (s v : List ℕ) (t : ℕ) → HasCoroutines s t → IsCall s v t → BecomesList v coroutine_link coroutine_size (t + 17) (coroutines_in s t)
+same-list : (s v : List ℕ) (t : ℕ) → HasCoroutines s t → IsCall s v t → IsListAt v coroutine_link coroutine_size (t + 17) (coroutines_in s t)
 same-list s v t h c =
     list-same s v coroutine_link coroutine_size (t + 17) h.list c.same_length (λ a some. on a (cell-cases coroutine_link a (t + 17) (coroutines_in s t) some))
   where

@@ -3,16 +3,17 @@ use Rattle.std.proofs.Common.{◌≡◌, ◌≢◌, ℕ, ◌+◌, ◌<◌, ◌�
 use Rattle.std.specs.List.{AllByRecursion, range_with_len}
 use Rattle.std.proofs.lemmas.Bool.{cases_eq}
 use Rattle.std.proofs.lemmas.Bool.Decides.{nat_tests}
-use Rattle.store_model.specs.declared.blocks.Block.{Block}
-use Rattle.store_model.specs.Block.{used_block}
-use Rattle.store_model.specs.Count.{words_of}
-use Rattle.store_model.specs.Linked.{IsNode}
-use Rattle.store_model.specs.Placing.{has}
-use Rattle.store_model.specs.Run.{need}
-use Rattle.store_model.specs.Tiling.{blocks_in, holding}
-use Rattle.store_model.proofs.Counts.{times-append, times-within}
-use Rattle.store_model.proofs.Members.{all-has, one-member, two-members}
-use Rattle.store_model.proofs.UsedBlocks.{UsedBlock, used_at-holding, used_at-is}
+use Rattle.getvec_chain.specs.declared.pieces.Block.{Block}
+use Rattle.getvec_chain.specs.Block.{used_block}
+use Rattle.linked_list.specs.Count.{words_of}
+use Rattle.linked_list.specs.Linked.{IsNode}
+use Rattle.linked_list.specs.Placing.{has}
+use Rattle.getvec_chain.specs.Run.{need}
+use Rattle.getvec_chain.specs.Tiling.{blocks_in, holding}
+use Rattle.linked_list.proofs.Counts.{times-append, times-within}
+use Rattle.linked_list.proofs.Members.{one-member, two-members}
+use Rattle.linked_list.proofs.AllMembers.{all-has}
+use Rattle.getvec_chain.proofs.UsedBlocks.{UsedBlock, used_at-holding, used_at-is}
 use Rattle.task_block.specs.Lists.{coroutine_link, coroutines_in}
 use Rattle.coroutines.specs.Active.{LeadsOut, active_in}
 use Rattle.coroutines.specs.Coroutines.{HasBlock, HasCoroutines}

@@ -1,4 +1,5 @@
 pub mod Known
+pub mod IdleAnswer
 pub mod Outward
 pub mod Building
 pub mod Frame
@@ -7,4 +8,3 @@ pub mod Calling
 pub mod Staying
 pub mod Deleting
 pub mod Making
-pub mod Fresh

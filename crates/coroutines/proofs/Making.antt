@@ -3,31 +3,32 @@ use Rattle.std.proofs.Common.{◌≡◌, ◌≢◌, ◌⊎◌, inl, inr, ℕ, �
 use Rattle.std.specs.List.{AllByRecursion, range_with_len}
 use Rattle.std.proofs.lemmas.Bool.{cases_eq, cases_lt}
 use Rattle.std.proofs.lemmas.Bool.Decides.{nat_tests}
-use Rattle.store_model.specs.declared.blocks.Block.{Block}
-use Rattle.store_model.specs.Block.{block_end, used_block}
-use Rattle.store_model.specs.Chain.{list_at}
-use Rattle.store_model.specs.Count.{hit, node_words, times, words_of}
-use Rattle.store_model.specs.Linked.{IsFresh, IsNode}
-use Rattle.store_model.specs.Placing.{has}
-use Rattle.store_model.specs.Row.{with_words}
-use Rattle.store_model.specs.Run.{need}
-use Rattle.store_model.specs.Take.{IsTaken, taken}
-use Rattle.store_model.specs.Tiling.{IsTiled, blocks_in, used_at}
-use Rattle.store_model.proofs.AfterTake.{AfterTake, after_take}
-use Rattle.store_model.proofs.Counts.{hit-other, hit-same, range-apart, range-high, range-low, times-append, times-within, times-words_more}
-use Rattle.store_model.proofs.Frames.{list-same}
-use Rattle.store_model.proofs.Lists.{BecomesList, list-push}
-use Rattle.store_model.proofs.Row.{get_or-with_words, get_or-with_words_outside, length-with_words}
-use Rattle.store_model.proofs.UsedBlocks.{UsedBlock, used_at-is}
-use Rattle.store_model.proofs.Writes.{SameBlocks, SameBlocks-set_used, SameBlocks-then, SameBlocks-used}
+use Rattle.getvec_chain.specs.declared.pieces.Block.{Block}
+use Rattle.getvec_chain.specs.Block.{block_end, used_block}
+use Rattle.linked_list.specs.Chain.{list_at}
+use Rattle.linked_list.specs.Count.{hit, node_words, times, words_of}
+use Rattle.linked_list.specs.Linked.{IsFresh, IsNode, IsListAt}
+use Rattle.linked_list.specs.Placing.{has}
+use Rattle.word_store.specs.Row.{with_words}
+use Rattle.getvec_chain.specs.Run.{need}
+use Rattle.getvec_chain.specs.Take.{IsTaken, taken}
+use Rattle.getvec_chain.specs.Tiling.{IsTiled, blocks_in, used_at}
+use Rattle.getvec_chain.proofs.AfterTake.{AfterTake, after_take}
+use Rattle.linked_list.proofs.Counts.{hit-other, hit-same, range-apart, range-high, range-low, times-append, times-within, times-words_more}
+use Rattle.linked_list.proofs.Frames.{list-same}
+use Rattle.linked_list.proofs.Lists.{list-push}
+use Rattle.word_store.proofs.Rows.{get_or-with_words, get_or-with_words_outside, length-with_words}
+use Rattle.getvec_chain.proofs.UsedBlocks.{UsedBlock, used_at-is}
+use Rattle.getvec_chain.proofs.Writes.{SameBlocks, SameBlocks-set_used, SameBlocks-then, SameBlocks-used}
 use Rattle.task_block.specs.Lists.{coroutine_link, coroutines_in}
 use Rattle.coroutines.specs.Active.{active_in}
 use Rattle.coroutines.specs.Coroutines.{HasBlock, HasCoroutines}
 use Rattle.coroutines.specs.CoroutineWords.{coroutine_size, highest_in, parent_in}
 use Rattle.coroutines.specs.Creation.{highest, new_words}
 use Rattle.coroutines.specs.Refusals.{is_known}
-use Rattle.coroutines.proofs.Building.{Built, all-members, built, has-there}
-use Rattle.coroutines.proofs.Frame.{cell-cases}
+use Rattle.coroutines.proofs.Building.{Built, built}
+use Rattle.linked_list.proofs.AllMembers.{all-members}
+use Rattle.linked_list.proofs.Members.{has-there, cell-cases}
 use Rattle.coroutines.proofs.Known.{known-block, no_parent-word, task-apart, task-inside}
 use Rattle.coroutines.proofs.Staying.{range-none, same-block, same-out, words-none}
 
@@ -114,7 +115,7 @@ create-built s x t c entry u h taken =
     let v : List ℕ = made s x t c entry u in
     let blocks : SameBlocks x v = made-blocks s x t c entry u h after in
     let known_differs : (k : ℕ) → is_known s t k ≡ true → k ≢ c = λ k known e. absurd (is_new k known e) in
-    let of_x : BecomesList x coroutine_link coroutine_size (t + 17) (coroutines_in s t) =
+    let of_x : IsListAt x coroutine_link coroutine_size (t + 17) (coroutines_in s t) =
     list-same s x coroutine_link coroutine_size (t + 17) h.list after.same_length (λ a some. cell_stays a (cell-cases coroutine_link a (t + 17) (coroutines_in s t) some))
     in
     let own : (i : ℕ) → i < 10 → get_or v (c + i) 0 ≡ get_or (new_words c (get_or s (t + 17) 0) entry u) i 0 = λ i few. made-own s x t c entry u i h after few in
@@ -124,7 +125,7 @@ create-built s x t c entry u h taken =
     subst (λ z. IsFresh x coroutine_link coroutine_size (t + 17) z c) (sym of_x.list)
     (record { node = node; apart = λ a. omega (arith, apart a, times-append a (range_with_len t 23) (words_of coroutine_size (coroutines_in s t)), head_hit a) })
     in
-    let pushed : BecomesList v coroutine_link coroutine_size (t + 17) (c ∷ list_at x coroutine_link (t + 17)) =
+    let pushed : IsListAt v coroutine_link coroutine_size (t + 17) (c ∷ list_at x coroutine_link (t + 17)) =
     list-push x v coroutine_link coroutine_size (t + 17) c of_x.stands fresh
     (record {
       same_length = length-set (with_words x c (new_words c (get_or s (t + 17) 0) entry u)) (t + 17) c ∙ length-with_words x c (new_words c (get_or s (t + 17) 0) entry u);
@@ -140,7 +141,7 @@ create-built s x t c entry u h taken =
       tiled = blocks.tiled;
       task = record { first = h.task.first; block = h.task.block; used = used h.task.first first_differs ∙ h.task.used; low = h.task.low; high = h.task.high };
       elsewhere = (let test : eqb h.task.first c ≡ false = grind (arith, nat_tests) in ap (λ b. b || has h.task.first (coroutines_in s t)) test ∙ h.elsewhere);
-      list = subst (λ z. BecomesList v coroutine_link coroutine_size (t + 17) (c ∷ z)) of_x.list pushed;
+      list = subst (λ z. IsListAt v coroutine_link coroutine_size (t + 17) (c ∷ z)) of_x.list pushed;
       apart = λ a. omega (arith, apart a, times-append a (range_with_len t 23) (words_of coroutine_size (coroutines_in s t)), times-append a (range_with_len t 23) (words_of coroutine_size (c ∷ coroutines_in s t)), times-words_more coroutine_size a c (coroutines_in s t));
       blocks = (
         record {

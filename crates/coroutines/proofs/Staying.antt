@@ -2,17 +2,17 @@
 use Rattle.std.proofs.Common.{◌≡◌, ◌≢◌, inl, inr, ℕ, ◌+◌, ◌-◌, ◌<◌, ◌≤◌, List, [], ◌∷◌, get_or, true, Some, refl, sym, ap, ◌∙◌, subst, arith}
 use Rattle.std.specs.List.{AllByRecursion, range_with_len}
 use Rattle.std.proofs.lemmas.Bool.{cases_lt}
-use Rattle.store_model.specs.Block.{used_block}
-use Rattle.store_model.specs.Count.{node_words, times, words_of}
-use Rattle.store_model.specs.Placing.{has}
-use Rattle.store_model.specs.Run.{need}
-use Rattle.store_model.specs.Tiling.{blocks_in, used_at}
-use Rattle.store_model.proofs.Counts.{times-above, times-below, times-words_more}
+use Rattle.getvec_chain.specs.Block.{used_block}
+use Rattle.linked_list.specs.Count.{node_words, times, words_of}
+use Rattle.linked_list.specs.Placing.{has}
+use Rattle.getvec_chain.specs.Run.{need}
+use Rattle.getvec_chain.specs.Tiling.{blocks_in, used_at}
+use Rattle.linked_list.proofs.Counts.{times-above, times-below, times-words_more}
 use Rattle.task_block.specs.Lists.{coroutines_in}
 use Rattle.coroutines.specs.Active.{LeadsOut, active_in}
 use Rattle.coroutines.specs.Coroutines.{HasBlock, HasCoroutines}
 use Rattle.coroutines.specs.Refusals.{is_known}
-use Rattle.coroutines.proofs.Building.{has-here, has-there}
+use Rattle.linked_list.proofs.Members.{has-there, has-here}
 use Rattle.coroutines.proofs.Known.{known-block}
 use Rattle.coroutines.proofs.Outward.{LeadsOut-same}
 

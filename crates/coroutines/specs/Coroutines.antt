@@ -1,14 +1,15 @@
 -- The coroutines of a task, in a store with blocks.
 use Rattle.std.specs.Prelude.{◌≡◌, ℕ, ◌+◌, ◌≤◌, true, false, Some, List, ◌++◌}
-use Rattle.std.specs.List.{AllByRecursion, range_with_len}
-use Rattle.store_model.specs.declared.blocks.Block.{Block}
-use Rattle.store_model.specs.Block.{block_end, used_block}
-use Rattle.store_model.specs.Count.{IsApart, words_of}
-use Rattle.store_model.specs.Linked.{HasList}
-use Rattle.store_model.specs.Placing.{has}
-use Rattle.store_model.specs.Run.{need}
-use Rattle.store_model.specs.Tiling.{IsTiled, blocks_in, used_at}
-use Rattle.task_block.specs.Lists.{coroutine_link, coroutines_in}
+use Rattle.std.specs.List.{AllByRecursion}
+use Rattle.getvec_chain.specs.declared.pieces.Block.{Block}
+use Rattle.getvec_chain.specs.Block.{block_end, used_block}
+use Rattle.linked_list.specs.Count.{IsApart, node_words, words_of}
+use Rattle.linked_list.specs.Linked.{HasList}
+use Rattle.linked_list.specs.Placing.{has}
+use Rattle.getvec_chain.specs.Run.{need}
+use Rattle.getvec_chain.specs.Tiling.{IsTiled, blocks_in, used_at}
+use Rattle.task_block.specs.Lists.{coroutine_link, coroutines_in, first_coroutine}
+use Rattle.task_block.specs.TaskChain.{task_size}
 use Rattle.coroutines.specs.Active.{LeadsOut, active_in}
 use Rattle.coroutines.specs.CoroutineWords.{coroutine_size, current_cell, highest_in, parent_in}
 
@@ -25,7 +26,7 @@ pub record HasTaskBlock (s : List ℕ) (t : ℕ) : Type 0 where
   pub block : Block
   pub used : used_at first (blocks_in s) ≡ Some block
   pub low : first ≤ t
-  pub high : t + 23 ≤ block_end block
+  pub high : t + task_size t ≤ block_end block
 
 -- the coroutines of the task at t stand
 pub record HasCoroutines (s : List ℕ) (t : ℕ) : Type 0 where
@@ -33,9 +34,9 @@ pub record HasCoroutines (s : List ℕ) (t : ℕ) : Type 0 where
   pub task : HasTaskBlock s t
   -- the task block lies in no coroutine's block
   pub elsewhere : has task.first (coroutines_in s t) ≡ false
-  pub list : HasList s coroutine_link coroutine_size (t + 17)
+  pub list : HasList s coroutine_link coroutine_size (first_coroutine t)
   -- their words meet neither one another nor the task block
-  pub apart : IsApart (range_with_len t 23 ++ words_of coroutine_size (coroutines_in s t))
+  pub apart : IsApart (node_words task_size t ++ words_of coroutine_size (coroutines_in s t))
   pub blocks : AllByRecursion (HasBlock s) (coroutines_in s t)
   -- the active ones are distinct, and each other one has the parent 0
   pub active : LeadsOut s t 0 (current_cell t) (active_in s t)

@@ -1,10 +1,10 @@
 -- A coroutine is made, and goes.
-use Rattle.std.specs.Prelude.{◌≡◌, ℕ, ◌+◌, max, List, [], ◌∷◌, slice_index, slice_set}
-use Rattle.store_model.specs.Give.{given_store}
-use Rattle.store_model.specs.Placing.{cell_before, linked_out}
-use Rattle.store_model.specs.Row.{with_words}
-use Rattle.store_model.specs.Take.{IsTaken}
-use Rattle.task_block.specs.Lists.{coroutine_link, coroutines_in}
+use Rattle.std.specs.Prelude.{◌≡◌, ℕ, max, List, [], ◌∷◌, slice_index, slice_set}
+use Rattle.getvec_chain.specs.Give.{given_store}
+use Rattle.linked_list.specs.Placing.{without_node}
+use Rattle.word_store.specs.Row.{with_words}
+use Rattle.getvec_chain.specs.Take.{IsTaken}
+use Rattle.task_block.specs.Lists.{coroutine_link, first_coroutine}
 use Rattle.coroutines.specs.CoroutineWords.{bottom}
 
 -- the highest index of a coroutine that is asked for with this one
@@ -19,8 +19,8 @@ new_words c next entry u = bottom c ∷ 0 ∷ next ∷ entry ∷ highest u ∷ c
 pub record IsCreated (s t : List ℕ) (task c entry u : ℕ) : Type 0 where
   pub taken : List ℕ
   pub block : IsTaken s taken (highest u) c
-  pub words : t ≡ slice_set (with_words taken c (new_words c (slice_index s (task + 17)) entry u)) (task + 17) c
+  pub words : t ≡ slice_set (with_words taken c (new_words c (slice_index s (first_coroutine task)) entry u)) (first_coroutine task) c
 
 -- the store in which c went out of the list and its block was given back
 abbrev pub deleted : List ℕ → ℕ → ℕ → List ℕ
-deleted s t c = given_store (linked_out s coroutine_link (cell_before coroutine_link c (t + 17) (coroutines_in s t)) c) c
+deleted s t c = given_store (without_node s coroutine_link (first_coroutine t) c) c

@@ -1,7 +1,7 @@
 -- What the calls on coroutines do to the words of the store and to the registers.
 use Rattle.std.specs.Prelude.{ℕ, ◌==◌, if◌then◌else◌, List, slice_index, slice_set}
 use Rattle.word_store.specs.declared.registers.Regs.{Regs}
-use Rattle.coroutines.specs.CoroutineWords.{as_current, as_parent, bottom, current_cell, current_in, function_in, parent_cell, parent_in, saved_p, saved_pc}
+use Rattle.coroutines.specs.CoroutineWords.{as_parent, bottom, current_cell, current_in, current_parent, function_in, parent_cell, parent_in, saved_p, saved_pc}
 
 -- the store in which P and PC of the current coroutine are saved, and c is the current one
 abbrev pub switched : List ℕ → ℕ → ℕ → ℕ → ℕ → List ℕ
@@ -17,7 +17,7 @@ called s t regs c = slice_set (switched s t regs.p regs.pc c) (parent_cell c) (a
 
 -- the current one waits, with this P and PC: it has no parent any more, and its parent goes on
 abbrev pub waited : List ℕ → ℕ → ℕ → ℕ → List ℕ
-waited s t p pc = slice_set (switched s t p pc (as_current t (parent_in s (current_in s t)))) (parent_cell (current_in s t)) 0
+waited s t p pc = slice_set (switched s t p pc (current_parent s t)) (parent_cell (current_in s t)) 0
 
 -- c takes the current one's place: it gets its parent, and the current one has none any more
 abbrev pub replaced : List ℕ → ℕ → Regs → ℕ → List ℕ

@@ -2,25 +2,24 @@
 ghost use Rattle.std.specs.Prelude.{◌≡◌, ◌≢◌, ◌∷◌, drop, OnErr, OnOk};
 ghost use Rattle.coroutines.specs.Active.{active_in};
 ghost use Rattle.coroutines.specs.Coroutines.{HasCoroutines};
-ghost use Rattle.coroutines.specs.CoroutineWords.{as_current, current_in, parent_in};
+ghost use Rattle.coroutines.specs.CoroutineWords.{current_in, current_parent};
 ghost use Rattle.coroutines.specs.Refusals.{idle_answer, resume_answer, wait_answer};
 ghost use Rattle.coroutines.specs.Switch.{called, entered, resumed, resumed_regs, returned, waited};
 ghost use Rattle.task_block.specs.Lists.{coroutines_in};
 
 use crate::ends::CoEnd;
-use crate::members::{has_parent, is_known};
-use crate::switching::{enter, leave, replace};
-use store_links::word;
+use crate::members::{check_idle, has_parent, is_known};
+use crate::switch::{enter, leave, replace};
+use word_store::{Regs, Store, word_at};
 use task_block::{TcbField, field};
-use word_store::{Regs, Store};
 
 /// Which word of a coroutine has the address of its function.
 const FUNCTION: u32 = 3;
 
 /// The frame at the bottom of a coroutine's stack, in words from its address.
-const BOTTOM: u32 = 7;
+pub(crate) const BOTTOM: u32 = 7;
 
-/// Calls the coroutine c of the task at t with v: the current one becomes its parent, and c goes on.
+/// Calls the coroutine c of the task at t with v: the current one list_at-linked its parent, and c goes on.
 pub fn call(store: &mut Store, t: u32, regs: &mut Regs, c: u32, v: u32) -> Result<(), CoEnd>
     requires { HasCoroutines store.old t }
     ensures answer { result ≡ idle_answer store.old t c }
@@ -31,18 +30,13 @@ pub fn call(store: &mut Store, t: u32, regs: &mut Regs, c: u32, v: u32) -> Resul
     ensures stand { HasCoroutines store.new t }
     ensures unchanged { OnErr result ((store.new ≡ store.old) × (regs.new ≡ regs.old)) }
 {
-    if !is_known(store, t, c) {
-        return Err(CoEnd::Unknown);
-    }
-    if has_parent(store, t, c) {
-        return Err(CoEnd::HasParent);
-    }
+    check_idle(store, t, c)?;
     enter(store, t, regs, c, v);
     Ok(())
 }
 
-/// Resumes the coroutine c of the task at t with v: it takes the current one's place, whose parent becomes its own. Where it
-/// is the current one, only A becomes v, and B 0.
+/// Resumes the coroutine c of the task at t with v: it takes the current one's place, whose parent list_at-linked its own. Where it
+/// is the current one, only A list_at-linked v, and B 0.
 pub fn resume(store: &mut Store, t: u32, regs: &mut Regs, c: u32, v: u32) -> Result<(), CoEnd>
     requires { HasCoroutines store.old t }
     ensures answer { result ≡ resume_answer store.old t c }
@@ -77,7 +71,7 @@ pub fn wait(store: &mut Store, t: u32, regs: &mut Regs, v: u32) -> Result<(), Co
     requires { HasCoroutines store.old t }
     ensures answer { result ≡ wait_answer store.old t }
     ensures words { OnOk result (store.new ≡ waited store.old t regs.old.p regs.old.pc) }
-    ensures regs { OnOk result (regs.new ≡ entered store.old t regs.old (as_current t (parent_in store.old (current_in store.old t))) v) }
+    ensures regs { OnOk result (regs.new ≡ entered store.old t regs.old (current_parent store.old t) v) }
     ensures active { OnOk result (active_in store.new t ≡ drop 1 (active_in store.old t)) }
     ensures coroutines { coroutines_in store.new t ≡ coroutines_in store.old t }
     ensures stand { HasCoroutines store.new t }
@@ -96,16 +90,14 @@ pub fn ended(store: &mut Store, t: u32, regs: &mut Regs)
     requires coroutines { HasCoroutines store.old t }
     requires within { current_in store.old t ≢ 0 }
     ensures words { store.new ≡ returned store.old t }
-    ensures regs { regs.new ≡ entered store.old t regs.old (as_current t (parent_in store.old (current_in store.old t))) regs.old.a }
+    ensures regs { regs.new ≡ entered store.old t regs.old (current_parent store.old t) regs.old.a }
     ensures active { active_in store.new t ≡ drop 1 (active_in store.old t) }
     ensures coroutines { coroutines_in store.new t ≡ coroutines_in store.old t }
     ensures stand { HasCoroutines store.new t }
 {
-    // a store has fewer than 2 ^ 32 words, so no address is larger
-    let _size = store.size();
     let current = field(store, t, TcbField::CurrentCo);
-    regs.p = current + BOTTOM;
-    regs.pc = word(store, current + FUNCTION);
+    regs.p = store.address_of(current, BOTTOM);
+    regs.pc = word_at(store, current, FUNCTION);
     let result = regs.a;
     leave(store, t, regs, result);
 }

@@ -1,22 +1,26 @@
 // A coroutine is made, and deleted.
-ghost use Rattle.std.specs.Prelude.{◌≡◌, ◌+◌, ◌∷◌, IfOk, None, OnErr, OnOk, true};
-ghost use Rattle.store_model.specs.Give.{given};
-ghost use Rattle.store_model.specs.Placing.{cell_before, linked_out, without};
-ghost use Rattle.store_model.specs.Run.{first_run, need};
-ghost use Rattle.store_model.specs.Take.{taken};
-ghost use Rattle.store_model.specs.Tiling.{blocks_in};
+ghost use Rattle.std.specs.Prelude.{◌≡◌, ◌∷◌, IfOk, None, OnErr, OnOk};
+ghost use Rattle.getvec_chain.specs.Give.{given};
+ghost use Rattle.linked_list.specs.Placing.{without};
+ghost use Rattle.getvec_chain.specs.Run.{first_run, need};
+ghost use Rattle.getvec_chain.specs.Take.{taken};
+ghost use Rattle.getvec_chain.specs.Tiling.{blocks_in};
 ghost use Rattle.coroutines.specs.Active.{active_in};
 ghost use Rattle.coroutines.specs.Coroutines.{HasCoroutines};
 ghost use Rattle.coroutines.specs.Creation.{IsCreated, deleted, highest};
-ghost use Rattle.coroutines.specs.Refusals.{idle_answer, is_known};
-ghost use Rattle.task_block.specs.Lists.{coroutine_link, coroutines_in};
+ghost use Rattle.coroutines.specs.Refusals.{idle_answer};
+ghost use Rattle.task_block.specs.Lists.{coroutines_in};
 
 use crate::ends::CoEnd;
-use crate::members::{LINK, cell_before, has_parent, is_known};
+use crate::calls::BOTTOM;
+use crate::members::check_idle;
 use getvec_chain::{NoRoom, give, take};
-use store_links::{set_words, word};
+use linked_list::unlink;
+use word_store::{Store, set_words};
 use task_block::{TcbField, field, set_field};
-use word_store::Store;
+
+/// Which word of a coroutine links to the next one.
+const LINK: u32 = 2;
 
 /// The least highest index of a coroutine: room for its words and a few of its stack.
 const LEAST_HIGHEST: u32 = 16;
@@ -34,15 +38,14 @@ pub fn create(store: &mut Store, t: u32, entry: u32, u: u32) -> Result<u32, NoRo
     ensures no_room { OnErr result (first_run (need (highest u)) (blocks_in store.old) ≡ None) }
     ensures unchanged { OnErr result (store.new ≡ store.old) }
 {
-    // a store has fewer than 2 ^ 32 words, so no address is larger
-    let _size = store.size();
     let highest = u.max(LEAST_HIGHEST);
     let next = field(store, t, TcbField::FirstCo);
     let c = take(store, highest)?;
+    let bottom = store.address_of(c, BOTTOM);
     set_words(
         store,
         c,
-        &[c + 7, 0, next, entry, highest, c, entry, 0, 0, entry],
+        &[bottom, 0, next, entry, highest, c, entry, 0, 0, entry],
     );
     set_field(store, t, TcbField::FirstCo, c);
     Ok(c)
@@ -59,26 +62,9 @@ pub fn delete(store: &mut Store, t: u32, c: u32) -> Result<(), CoEnd>
     ensures stand { HasCoroutines store.new t }
     ensures unchanged { OnErr result (store.new ≡ store.old) }
 {
-    if !is_known(store, t, c) {
-        return Err(CoEnd::Unknown);
-    }
-    if has_parent(store, t, c) {
-        return Err(CoEnd::HasParent);
-    }
-    unlink(store, t, c);
-    let _given = give(store, c);
+    check_idle(store, t, c)?;
+    let head = store.address_of(t, TcbField::FirstCo.index());
+    unlink(store, head, c, LINK);
+    give(store, c).unwrap();
     Ok(())
-}
-
-// Takes the coroutine c out of the list of the task at t.
-fn unlink(store: &mut Store, t: u32, c: u32)
-    requires coroutines { HasCoroutines store.old t }
-    requires known { is_known store.old t c ≡ true }
-    ensures { store.new ≡ linked_out store.old coroutine_link (cell_before coroutine_link c (t + 17) (coroutines_in store.old t)) c }
-{
-    // a store has fewer than 2 ^ 32 words, so no address is larger
-    let _size = store.size();
-    let cell = cell_before(store, t, c);
-    let next = word(store, c + LINK);
-    store.set(cell, next);
 }

@@ -4,11 +4,10 @@
 pub mod calls;
 pub mod creation;
 pub mod ends;
-mod members;
-mod switching;
-#[cfg(test)]
-mod tests;
+pub mod members;
+mod switch;
 
 pub use calls::{call, ended, resume, wait};
 pub use creation::{create, delete};
 pub use ends::CoEnd;
+pub use members::check_idle;

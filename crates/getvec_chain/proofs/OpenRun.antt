@@ -1,13 +1,13 @@
 -- The first large run as a walk finds it: it has passed some free blocks, and others are left.
 use Rattle.std.proofs.Common.{◌≡◌, ℕ, ◌+◌, ◌-◌, ◌<◌, ◌≤◌, List, [], ◌∷◌, length, leb, cond, Bool, true, false, refl, sym, ap, ◌∙◌, arith, subst, Some, None, Option}
 use Rattle.std.proofs.lemmas.Bool.Decides.{nat_tests}
-use Rattle.store_model.specs.declared.blocks.Block.{Block}
-use Rattle.store_model.specs.declared.blocks.Run.{Run}
-use Rattle.store_model.specs.Block.{block_end}
-use Rattle.store_model.specs.Tiling.{Tiles}
-use Rattle.store_model.specs.Run.{after_run, first_run, run_size}
-use Rattle.store_model.proofs.Runs.{after_run-free, after_run-used, first_run-small, first_run-used, run_here, run_size-free, run_size-used}
-use Rattle.store_model.proofs.Tilings.{Tiles-inside}
+use Rattle.getvec_chain.specs.declared.pieces.Block.{Block}
+use Rattle.getvec_chain.specs.declared.pieces.Run.{Run}
+use Rattle.getvec_chain.specs.Block.{block_end}
+use Rattle.getvec_chain.specs.Tiling.{Tiles}
+use Rattle.getvec_chain.specs.Run.{after_run, first_run, run_size}
+use Rattle.getvec_chain.proofs.Runs.{after_run-free, after_run-used, first_run-small, first_run-used, run_here, run_size-free, run_size-used}
+use Rattle.getvec_chain.proofs.Tilings.{Tiles-inside}
 
 -- the run from start to end where it has n words or more, else another
 abbrev pub run_or : ℕ → ℕ → ℕ → Option Run → Option Run

@@ -1,13 +1,13 @@
 // Store handed out in blocks: they lie side by side from word 200 up to the end word, each with its size word.
 #![tactic(auto)]
 
-mod listing;
-mod searching;
-mod taking;
-#[cfg(test)]
-mod tests;
+mod block_walk;
+mod pieces;
+mod search;
+mod calls;
+pub mod laws;
 
-pub use listing::Blocks;
-pub use searching::{block_of, blocks, first_run};
-pub use store_model::{Block, Run};
-pub use taking::{NoRoom, NotABlock, give, make, take};
+pub use block_walk::Blocks;
+pub use search::{block_of, blocks, first_run};
+pub use pieces::{Block, FIRST_BLOCK, Run};
+pub use calls::{NoRoom, NotABlock, give, make, take};

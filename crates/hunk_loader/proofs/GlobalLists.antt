@@ -5,10 +5,10 @@ use Rattle.std.specs.List.{AllByRecursion}
 use Rattle.std.proofs.lemmas.Bool.Decides.{nat_tests}
 use Rattle.std.proofs.lemmas.List.{get_or-drop, length-drop, reverse-append, take_more}
 use Rattle.word_store.specs.Arithmetic.{add, mul}
-use Rattle.store_model.proofs.Row.{range_first, range_none}
+use Rattle.word_store.proofs.Rows.{range_first, range_none}
 use Rattle.hunk_loader.specs.Globals.{Global, global, global_of_number, globals_back, globals_of_hunk, globals_of_pairs, highest, with_globals}
 use Rattle.hunk_loader.specs.GlobalWords.{AreClear}
-use Rattle.hunk_loader.specs.Placed.{placed}
+use Rattle.hunk_loader.specs.ModuleHunks.{placed}
 
 -- ---- globals that are set
 
@@ -126,28 +126,29 @@ globals-some s base n end fits last le some =
 -- ---- pairs
 
 -- the last pair, whose offset is not 0, and those before it
-pub pairs-more : (s : List ℕ) (base end e : ℕ) → e + 2 ≡ end → base ≤ e → end ≤ length s → get_or s (end - 1) 0 ≢ 0
-    → globals_of_pairs base (reverse (slice_range s base end)) ≡ global_of_number (get_or s (end - 2) 0) (add (mul 4 base) (get_or s (end - 1) 0)) ++ globals_of_pairs base (reverse (slice_range s base e))
-pairs-more s base end e is le fits some =
-    let two : end ≡ e + 1 + 1 = omega arith in
-    let one : end - 1 ≡ e + 1 = omega arith in
-    let none : end - 2 ≡ e = omega arith in
-    let differs : get_or s (e + 1) 0 ≢ 0 = λ k. some (ap (λ (x : ℕ). get_or s x 0) one ∙ k) in
-    let test : nat_eq (get_or s (e + 1) 0) 0 ≡ false = grind (arith, nat_tests) in
-    rw (one, none, two, range_back s base (e + 1) (omega arith) (omega arith), range_back s base e le (omega arith), test) refl
+pub pairs-more : (s : List ℕ) (base left rest : ℕ) → rest + 2 ≡ left → base + left ≤ length s → get_or s (base + (left - 1)) 0 ≢ 0
+    → globals_of_pairs base (reverse (slice_range s base (base + left)))
+    ≡ global_of_number (get_or s (base + (left - 2)) 0) (add (mul 4 base) (get_or s (base + (left - 1)) 0)) ++ globals_of_pairs base (reverse (slice_range s base (base + rest)))
+pairs-more s base left rest is fits some =
+    let two : base + left ≡ base + rest + 1 + 1 = omega arith in
+    let one : base + (left - 1) ≡ base + rest + 1 = omega arith in
+    let none : base + (left - 2) ≡ base + rest = omega arith in
+    let differs : get_or s (base + rest + 1) 0 ≢ 0 = λ k. some (ap (λ (x : ℕ). get_or s x 0) one ∙ k) in
+    let test : nat_eq (get_or s (base + rest + 1) 0) 0 ≡ false = grind (arith, nat_tests) in
+    rw (one, none, two, range_back s base (base + rest + 1) (omega arith) (omega arith), range_back s base (base + rest) (omega arith) (omega arith), test) refl
 
 -- a last pair with offset 0
-pub pairs-stop : (s : List ℕ) (base end e : ℕ) → e + 2 ≡ end → base ≤ e → end ≤ length s → get_or s (end - 1) 0 ≡ 0 → globals_of_pairs base (reverse (slice_range s base end)) ≡ []
-pairs-stop s base end e is le fits none =
-    let two : end ≡ e + 1 + 1 = omega arith in
-    let zero' : get_or s (e + 1) 0 ≡ 0 = ap (λ (x : ℕ). get_or s x 0) (omega arith) ∙ none in
-    rw (two, range_back s base (e + 1) (omega arith) (omega arith), range_back s base e le (omega arith), zero') refl
+pub pairs-stop : (s : List ℕ) (base left : ℕ) → 2 ≤ left → base + left ≤ length s → get_or s (base + (left - 1)) 0 ≡ 0 → globals_of_pairs base (reverse (slice_range s base (base + left))) ≡ []
+pairs-stop s base left some fits none = by (left - 2) (omega arith)
+  where
+    by : (rest : ℕ) → rest + 2 ≡ left → globals_of_pairs base (reverse (slice_range s base (base + left))) ≡ []
+    by rest is =
+        let two : base + left ≡ base + rest + 1 + 1 = omega arith in
+        let zero' : get_or s (base + rest + 1) 0 ≡ 0 = ap (λ (x : ℕ). get_or s x 0) (omega arith) ∙ none in
+        rw (two, range_back s base (base + rest + 1) (omega arith) (omega arith), range_back s base (base + rest) (omega arith) (omega arith), zero') refl
 
 -- too few words are left
-pub pairs-end : (s : List ℕ) (base end : ℕ) → base ≤ end → end ≤ length s → end - base < 2 → globals_of_pairs base (reverse (slice_range s base end)) ≡ []
-pairs-end s base end le fits few = on (end - base) refl few
-  where
-    on : (n : ℕ) → end - base ≡ n → n < 2 → globals_of_pairs base (reverse (slice_range s base end)) ≡ []
-    on zero is lt = (let same : end ≡ base = omega arith in rw (same, range_none s base) refl)
-    on (suc zero) is lt = (let one : end ≡ base + 1 = omega arith in rw (one, range_back s base base (omega arith) (omega arith), range_none s base) refl)
-    on (suc (suc n)) is lt = absurd (omega arith)
+pub pairs-end : (s : List ℕ) (base left : ℕ) → base + left ≤ length s → left < 2 → globals_of_pairs base (reverse (slice_range s base (base + left))) ≡ []
+pairs-end s base zero fits few = rw (add-zero base, range_none s base) refl
+pairs-end s base (suc zero) fits few = rw (range_back s base base (omega arith) (omega arith), range_none s base) refl
+pairs-end s base (suc (suc n)) fits few = absurd (omega arith)

@@ -3,14 +3,14 @@ use Rattle.std.proofs.Common.{◌≡◌, ◌⊎◌, inl, inr, ◌∙◌, ℕ, �
 use Rattle.std.specs.Prelude.{slice_range, sum}
 use Rattle.std.specs.List.{AllByRecursion, flat_map}
 use Rattle.std.proofs.lemmas.List.Sums.{sum_by-cons}
-use Rattle.store_model.specs.Placing.{has}
-use Rattle.store_model.proofs.Members.{all-has}
-use Rattle.store_model.proofs.Row.{range_first, range_none, range_same}
+use Rattle.linked_list.specs.Placing.{has}
+use Rattle.linked_list.proofs.AllMembers.{all-has}
+use Rattle.word_store.proofs.Rows.{range_first, range_none, range_same}
 use Rattle.task_block.specs.Lists.{modules_in}
 use Rattle.hunk_loader.specs.Globals.{GlobalsFit, globals_in, globals_of_hunk, highest, most_globals, with_globals}
 use Rattle.hunk_loader.specs.GlobalWords.{AreClear}
 use Rattle.hunk_loader.specs.Modules.{HasModules, IsModuleAt}
-use Rattle.hunk_loader.specs.Placed.{PlacedHunk, hunk_count, hunks_at, hunks_in, lengths_in, module_end, placed}
+use Rattle.hunk_loader.specs.ModuleHunks.{PlacedHunk, hunk_count, hunks_at, hunks_in, lengths_in, module_end, placed}
 use Rattle.hunk_loader.proofs.GlobalLists.{hunk-are, length-with_globals, with_globals-append, with_globals-other}
 use Rattle.hunk_loader.proofs.ModuleBlocks.{in_block}
 

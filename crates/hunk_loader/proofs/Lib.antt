@@ -1,10 +1,10 @@
-pub mod Copied
-pub mod Relocated
+pub mod CopiedWords
+pub mod RelocationLists
 pub mod PlacedHunks
 pub mod ModuleBlocks
 pub mod LoadedModules
 pub mod UnloadedModules
 pub mod TextModules
 pub mod GlobalLists
-pub mod Loads
+pub mod LoadCall
 pub mod HunkWalk

@@ -7,33 +7,34 @@ use Rattle.std.proofs.lemmas.List.{length-map, set-get_or}
 use Rattle.std.proofs.lemmas.List.Sums.{sum-map}
 use Rattle.hunk_text.specs.Shapes.{words_in}
 use Rattle.hunk_text.specs.declared.modules.Hunk.{Hunk}
-use Rattle.store_model.specs.declared.blocks.Block.{Block}
-use Rattle.store_model.specs.Block.{block_end, used_block}
-use Rattle.store_model.specs.Chain.{list_at}
-use Rattle.store_model.specs.Changed.{InsertedAt}
-use Rattle.store_model.specs.Count.{IsApart, node_words, times, words_of}
-use Rattle.store_model.specs.Linked.{IsFresh}
-use Rattle.store_model.specs.Placing.{linked_in}
-use Rattle.store_model.specs.Row.{with_words}
-use Rattle.store_model.specs.Run.{need}
-use Rattle.store_model.specs.Take.{IsTaken, taken}
-use Rattle.store_model.specs.Tiling.{IsTiled, blocks_in, used_at}
-use Rattle.store_model.proofs.AfterTake.{AfterTake, after_take}
-use Rattle.store_model.proofs.Counts.{IsApart-cons, hit-le, hit-other}
-use Rattle.store_model.proofs.Frames.{list-same}
-use Rattle.store_model.proofs.Lists.{BecomesList, list-push, list-pushed}
-use Rattle.store_model.proofs.Members.{all-has, times-has}
-use Rattle.store_model.proofs.Row.{IsOutside, get_or-with_words, get_or-with_words_outside, length-with_words, range-with_words, range_same, with_words-append}
-use Rattle.store_model.proofs.UsedBlocks.{AreApart}
-use Rattle.store_model.proofs.Writes.{SameBlocks, SameBlocks-set_below, SameBlocks-used}
+use Rattle.getvec_chain.specs.declared.pieces.Block.{Block}
+use Rattle.getvec_chain.specs.Block.{block_end, used_block}
+use Rattle.linked_list.specs.Chain.{list_at}
+use Rattle.linked_list.specs.Changed.{InsertedAt}
+use Rattle.linked_list.specs.Count.{IsApart, node_words, times, words_of}
+use Rattle.linked_list.specs.Linked.{IsFresh, IsListAt}
+use Rattle.linked_list.specs.Placing.{linked_in}
+use Rattle.word_store.specs.Row.{with_words}
+use Rattle.getvec_chain.specs.Run.{need}
+use Rattle.getvec_chain.specs.Take.{IsTaken, taken}
+use Rattle.getvec_chain.specs.Tiling.{IsTiled, blocks_in, used_at}
+use Rattle.getvec_chain.proofs.AfterTake.{AfterTake, after_take}
+use Rattle.linked_list.proofs.Counts.{IsApart-cons, hit-le, hit-other}
+use Rattle.linked_list.proofs.Frames.{list-same}
+use Rattle.linked_list.proofs.Lists.{list-push, list-pushed}
+use Rattle.linked_list.proofs.Members.{times-has}
+use Rattle.linked_list.proofs.AllMembers.{all-has, all-map}
+use Rattle.word_store.proofs.Rows.{IsOutside, get_or-with_words, get_or-with_words_outside, length-with_words, range-with_words, range_same, with_words-append}
+use Rattle.getvec_chain.proofs.UsedBlocks.{AreDisjoint}
+use Rattle.getvec_chain.proofs.Writes.{SameBlocks, SameBlocks-set_below, SameBlocks-used}
 use Rattle.task_block.specs.Lists.{module_link, modules_in}
 use Rattle.hunk_loader.specs.ModuleRow.{hunks_image, last_word, lengths_of, module_row}
 use Rattle.hunk_loader.specs.Modules.{HasModules, IsModuleAt}
-use Rattle.hunk_loader.specs.Relocated.{relocated}
-use Rattle.hunk_loader.specs.Placed.{hunk_count, lengths_in}
-use Rattle.hunk_loader.proofs.ModuleBlocks.{all_map, cell_at, in_block, linked, module-same, no_block, one_word, stands, times-one}
+use Rattle.hunk_loader.specs.RelocatedWords.{relocated}
+use Rattle.hunk_loader.specs.ModuleHunks.{hunk_count, lengths_in}
+use Rattle.hunk_loader.proofs.ModuleBlocks.{cell_at, in_block, linked, module-same, no_block, one_word, stands, times-one}
 use Rattle.hunk_loader.proofs.PlacedHunks.{words_in-cons}
-use Rattle.hunk_loader.proofs.Relocated.{length-relocated}
+use Rattle.hunk_loader.proofs.RelocationLists.{length-relocated}
 
 -- ---- the row of a module
 
@@ -131,7 +132,7 @@ placed s t0 m hunks tiled h =
     same : SameBlocks t0 t1
     same = SameBlocks-used t0 t1 m b k.tiled k.is_used size outside
 
-    apart : (c : Block) → AreApart c b → (a : ℕ) → c.start ≤ a → a < block_end c → m ≤ a → block_end b ≤ a
+    apart : (c : Block) → AreDisjoint c b → (a : ℕ) → c.start ≤ a → a < block_end c → m ≤ a → block_end b ≤ a
     apart c (inl before) a low high above = absurd (omega (arith, k.low))
     apart c (inr after) a low high above = omega arith
 
@@ -173,7 +174,7 @@ old_module s t1 m hunks tiled p n h =
     p.words n h.block h.used n (omega (arith, b.start)) (omega (arith, b.few))
 
 -- the list that was there stands on
-list_kept : (s t1 : List ℕ) (m : ℕ) (hunks : List Hunk) → HasModules s → Placed s t1 m hunks → BecomesList t1 module_link one_word 104 (modules_in s)
+list_kept : (s t1 : List ℕ) (m : ℕ) (hunks : List Hunk) → HasModules s → Placed s t1 m hunks → IsListAt t1 module_link one_word 104 (modules_in s)
 list_kept s t1 m hunks h p = list-same s t1 module_link one_word 104 (linked s h) p.same_length (λ a some. by a (cell_at s h a some))
   where
     by : (a : ℕ) → (a ≡ 104) ⊎ (0 < times a (modules_in s)) → get_or t1 a 0 ≡ get_or s a 0
@@ -202,7 +203,7 @@ load_stands s t1 m hunks h p =
     t : List ℕ
     t = set t1 104 m
 
-    kept : BecomesList t1 module_link one_word 104 (modules_in s)
+    kept : IsListAt t1 module_link one_word 104 (modules_in s)
     kept = list_kept s t1 m hunks h p
 
     fresh : IsFresh t1 module_link one_word 104 (list_at t1 module_link 104) m
@@ -213,7 +214,7 @@ load_stands s t1 m hunks h p =
         let same : get_or t1 104 0 ≡ get_or t1 m 0 = p.below 104 (omega arith) ∙ sym p.link in
         ap (λ (w : ℕ). set (set t1 m w) 104 m) same ∙ ap (λ (x : List ℕ). set x 104 m) (set-get_or t1 m 0)
 
-    now : BecomesList t module_link one_word 104 (m ∷ list_at t1 module_link 104)
+    now : IsListAt t module_link one_word 104 (m ∷ list_at t1 module_link 104)
     now = list-push t1 t module_link one_word 104 m kept.stands fresh
         (subst (λ x. InsertedAt t1 x module_link one_word 104 m) words (list-pushed t1 module_link one_word 104 m kept.stands fresh))
 
@@ -230,10 +231,10 @@ load_stands s t1 m hunks h p =
     other a above = get_or-set_other t1 104 a m 0 (λ e. absurd (omega arith))
 
     old : AllByRecursion (IsModuleAt t) (modules_in s)
-    old = all_map (IsModuleAt s) (IsModuleAt t) (modules_in s) h.modules (λ n some k.
+    old = all-map (IsModuleAt s) (IsModuleAt t) (modules_in s) (λ n some k.
         (let b = in_block s n h.tiled k in
         module-same s t n h.tiled k size (ap (used_at n) blocks.blocks ∙ p.kept n k.block k.used)
-        (λ a low high. other a (omega (arith, b.above)) ∙ p.words n k.block k.used a (omega (arith, b.start)) high)))
+        (λ a low high. other a (omega (arith, b.above)) ∙ p.words n k.block k.used a (omega (arith, b.start)) high))) h.modules
 
     new : IsModuleAt t m
     new =

@@ -3,23 +3,23 @@ use Rattle.std.proofs.Common.{◌≡◌, ◌≢◌, ◌⊎◌, inl, inr, ◌∙�
 use Rattle.std.specs.Prelude.{slice_range, sum}
 use Rattle.std.specs.List.{AllByRecursion}
 use Rattle.std.proofs.lemmas.Bool.{cases_eq}
-use Rattle.store_model.specs.declared.blocks.Block.{Block}
-use Rattle.store_model.specs.Block.{block_end}
-use Rattle.store_model.specs.Chain.{IsChain, cells}
-use Rattle.store_model.specs.Count.{IsApart, times, words_of}
-use Rattle.store_model.specs.Linked.{HasList, IsNode}
-use Rattle.store_model.specs.Run.{need}
-use Rattle.store_model.specs.Tiling.{IsTiled, blocks_in, used_at}
-use Rattle.store_model.proofs.Chains.{times-cells}
-use Rattle.store_model.proofs.Tilings.{IsTiled-inside}
-use Rattle.store_model.proofs.Walks.{walk-ends}
-use Rattle.store_model.proofs.Counts.{IsApart-cons, hit-other, hit-same, times-words_more}
-use Rattle.store_model.proofs.Row.{range_same}
-use Rattle.store_model.proofs.UsedBlocks.{AreApart, used_at-apart, used_at-is}
-use Rattle.store_model.proofs.Writes.{SameBlocks-set_below}
+use Rattle.getvec_chain.specs.declared.pieces.Block.{Block}
+use Rattle.getvec_chain.specs.Block.{block_end}
+use Rattle.linked_list.specs.Chain.{IsChain, cells}
+use Rattle.linked_list.specs.Count.{IsApart, times, words_of}
+use Rattle.linked_list.specs.Linked.{HasList, IsNode}
+use Rattle.getvec_chain.specs.Run.{need}
+use Rattle.getvec_chain.specs.Tiling.{IsTiled, blocks_in, used_at}
+use Rattle.linked_list.proofs.Chains.{times-cells}
+use Rattle.getvec_chain.proofs.Tilings.{IsTiled-inside}
+use Rattle.linked_list.proofs.Walks.{walk-ends}
+use Rattle.linked_list.proofs.Counts.{IsApart-cons, hit-other, hit-same, times-words_more}
+use Rattle.word_store.proofs.Rows.{range_same}
+use Rattle.getvec_chain.proofs.UsedBlocks.{AreDisjoint, used_at-apart, used_at-is}
+use Rattle.getvec_chain.proofs.Writes.{SameBlocks-set_below}
 use Rattle.task_block.specs.Lists.{module_link, modules_in}
 use Rattle.hunk_loader.specs.Modules.{HasModules, IsModuleAt}
-use Rattle.hunk_loader.specs.Placed.{hunk_count, lengths_in, module_end}
+use Rattle.hunk_loader.specs.ModuleHunks.{hunk_count, lengths_in, module_end}
 
 -- as nodes of the list, modules count by their link words alone
 abbrev pub one_word : ℕ → ℕ
@@ -59,18 +59,14 @@ module-same s t m tiled h size used same =
     }
 
 -- words of two modules are apart
-pub modules-apart : (s : List ℕ) (m n : ℕ) → IsTiled s → (h : IsModuleAt s m) (k : IsModuleAt s n) → m ≢ n → AreApart h.block k.block
+pub modules-apart : (s : List ℕ) (m n : ℕ) → IsTiled s → (h : IsModuleAt s m) (k : IsModuleAt s n) → m ≢ n → AreDisjoint h.block k.block
 modules-apart s m n t h k differ = on (used_at-apart s 200 (blocks_in s) m n h.block k.block t h.used k.used)
   where
-    on : (m ≡ n) ⊎ AreApart h.block k.block → AreApart h.block k.block
+    on : (m ≡ n) ⊎ AreDisjoint h.block k.block → AreDisjoint h.block k.block
     on (inl e) = absurd (differ e)
     on (inr apart) = apart
 
 -- ---- all modules
-
-pub all_map : (P Q : ℕ → Type 0) (ms : List ℕ) → AllByRecursion P ms → ((m : ℕ) → 0 < times m ms → P m → Q m) → AllByRecursion Q ms
-all_map P Q [] a f = tt
-all_map P Q (m ∷ ms) a f = (f m (omega (arith, hit-same m m refl)) a.0, all_map P Q ms a.1 (λ n some p. f n (omega arith) p))
 
 -- no module stands below the first block's data
 times-low : (s : List ℕ) (ms : List ℕ) (a : ℕ) → IsTiled s → AllByRecursion (IsModuleAt s) ms → a < 201 → times a ms ≡ 0
@@ -137,7 +133,7 @@ no_module s (m ∷ ms) v b t h e =
     let differ : b.start ≢ m = on k.start k.few u.start u.some (used_at-apart s 200 (blocks_in s) m v h.0.block b t h.0.used e) in
     omega (arith, no_module s ms v b t h.1 e, hit-other b.start m differ)
   where
-    on : h.0.block.start + 1 ≡ m → m + 2 + hunk_count s m ≤ block_end h.0.block → b.start + 1 ≡ v → 2 ≤ b.size → (m ≡ v) ⊎ AreApart h.0.block b → b.start ≢ m
+    on : h.0.block.start + 1 ≡ m → m + 2 + hunk_count s m ≤ block_end h.0.block → b.start + 1 ≡ v → 2 ≤ b.size → (m ≡ v) ⊎ AreDisjoint h.0.block b → b.start ≢ m
     on start few s1 some (inl e) = λ same. absurd (omega arith)
     on start few s1 some (inr (inl before)) = λ same. absurd (omega arith)
     on start few s1 some (inr (inr after)) = λ same. absurd (omega arith)

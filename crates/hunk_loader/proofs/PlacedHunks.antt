@@ -1,5 +1,5 @@
 -- Hunks that are put into a store one by one.
-use Rattle.std.proofs.Common.{◌≡◌, ◌≢◌, ◌∙◌, ℕ, suc, ◌<◌, ◌≤◌, ◌+◌, Some, List, [], ◌∷◌, ◌++◌, length, set, refl, sym, ap, subst, arith, append_assoc, length-set}
+use Rattle.std.proofs.Common.{◌≡◌, ◌≢◌, ◌∙◌, ℕ, suc, ◌<◌, ◌≤◌, ◌+◌, Some, List, [], ◌∷◌, ◌++◌, length, set, refl, sym, ap, subst, arith, append_assoc, length-set, inl}
 use Rattle.std.specs.Prelude.{IsSome}
 use Rattle.std.specs.List.{AllByRecursion, concat}
 use Rattle.std.proofs.lemmas.List.{length-map}
@@ -12,14 +12,13 @@ use Rattle.hunk_text.specs.declared.modules.Hunk.{Hunk}
 use Rattle.hunk_text.specs.declared.modules.Module.{Module}
 use Rattle.hunk_text.specs.declared.tokens.NextWord.{NextWord}
 use Rattle.hunk_text.proofs.ReadingOn.{reads_all}
-use Rattle.store_model.specs.Row.{with_words}
-use Rattle.store_model.proofs.Row.{length-with_words, with_words-apart, with_words-append, with_words-set_outside}
-use Rattle.std.proofs.Common.{inl}
+use Rattle.word_store.specs.Row.{with_words}
+use Rattle.word_store.proofs.Rows.{length-with_words, with_words-apart, with_words-append, with_words-set_outside}
 use Rattle.hunk_loader.specs.Follow.{AreInside, BeginsOther, FitsAt, HunkFollows, ListsFollow, WordsFollow, places}
 use Rattle.hunk_loader.specs.ModuleRow.{hunks_image, lengths_of, module_row}
-use Rattle.hunk_loader.specs.Relocated.{relocated}
-use Rattle.hunk_loader.proofs.Copied.{some_word, was_read}
-use Rattle.hunk_loader.proofs.Relocated.{length-relocated, places_inside, relocated-row}
+use Rattle.hunk_loader.specs.RelocatedWords.{relocated}
+use Rattle.hunk_loader.proofs.CopiedWords.{some_word, was_read}
+use Rattle.hunk_loader.proofs.RelocationLists.{length-relocated, places_inside, relocated-row}
 
 -- ---- one hunk
 
@@ -46,15 +45,15 @@ pub count_some : (text : List ℕ) (place : ℕ) (h : Hunk) (others : List ℕ) 
 count_some text place h others f kind e = some_word text kind.end (length h.words) (h.words ++ after_words text place h others f) (hunk_count text place h others f kind e)
 
 -- and the words after it
-pub record CountRead (text : List ℕ) (place : ℕ) (h : Hunk) (others : List ℕ) (f : HunkFollows text place h others) (base : ℕ) (count : NextWord) : Type 0 where
+pub record CountRead (text : List ℕ) (place : ℕ) (h : Hunk) (others : List ℕ) (f : HunkFollows text place h others) (base after : ℕ) (count : NextWord) : Type 0 where
   pub many : count.word ≡ length h.words
-  pub follow : WordsFollow text count.end base (base + count.word) h.words (after_words text place h others f)
+  pub follow : WordsFollow text count.end base after h.words (after_words text place h others f)
 
-pub count_read : (text : List ℕ) (place : ℕ) (h : Hunk) (others : List ℕ) (f : HunkFollows text place h others) (base : ℕ) (kind count : NextWord) → next_word text place ≡ Some kind → next_word text kind.end ≡ Some count
-    → CountRead text place h others f base count
-count_read text place h others f base kind count e n =
+pub count_read : (text : List ℕ) (place : ℕ) (h : Hunk) (others : List ℕ) (f : HunkFollows text place h others) (base after : ℕ) (kind count : NextWord) → next_word text place ≡ Some kind → next_word text kind.end ≡ Some count
+    → after ≡ base + count.word → CountRead text place h others f base after count
+count_read text place h others f base after kind count e n at =
     let k = was_read text kind.end count (length h.words) (h.words ++ after_words text place h others f) (hunk_count text place h others f kind e) n in
-    record { many = k.word; follow = record { reads = k.rest; fill = ap (λ (x : ℕ). base + x) (sym k.word) } }
+    record { many = k.word; follow = record { reads = k.rest; fill = ap (λ (x : ℕ). base + x) (sym k.word) ∙ sym at } }
 
 pub lists_follow : (text : List ℕ) (place : ℕ) (h : Hunk) (others : List ℕ) (f : HunkFollows text place h others) (after : ℕ) → Reads text after (after_words text place h others f) → ListsFollow text after f.is.lists others
 lists_follow text place h others f after h' = record { reads = h'; other = f.other }
@@ -176,15 +175,15 @@ hunks_more text s t place at base many left end result l f n e r =
     }
 
 -- the same, by the numbers that the calls gave
-pub hunks_then : (text s t u : List ℕ) (place at next base n many left end : ℕ) (result : List ℕ) (l : HunksLeft text s place at base many result) (f : HunkFirst text place l.hunks left) → many ≡ suc left
-    → t ≡ with_words s base (relocated base f.h.words f.h.relocations) → Reads text end f.others → n ≡ length f.h.words → next ≡ at + 1 → u ≡ set t at n
-    → HunksLeft text u end next (base + n) left result
-hunks_then text s t u place at next base n many left end result l f some e r count one put =
+pub hunks_then : (text s t u : List ℕ) (place at at' next base base' n many left end : ℕ) (result : List ℕ) (l : HunksLeft text s place at base many result) (f : HunkFirst text place l.hunks left) → many ≡ suc left
+    → t ≡ with_words s base (relocated base f.h.words f.h.relocations) → Reads text end f.others → n ≡ length f.h.words → next ≡ at + 1 → at' ≡ at → base' ≡ base + n → u ≡ set t at' n
+    → HunksLeft text u end next base' left result
+hunks_then text s t u place at at' next base base' n many left end result l f some e r count one here room put =
     let more = hunks_more text s t place at base many left end result l f some e r in
     let P : ℕ → Type 0 = λ x. HunksLeft text (set t at x) end (at + 1) (base + x) left result in
     let Q : ℕ → Type 0 = λ x. HunksLeft text (set t at n) end x (base + n) left result in
     let R : List ℕ → Type 0 = λ x. HunksLeft text x end next (base + n) left result in
-    subst R (sym put) (subst Q (sym one) (subst P (sym count) more))
+    subst (λ b. HunksLeft text u end next b left result) (sym room) (subst R (sym (put ∙ ap (λ z. set t z n) here)) (subst Q (sym one) (subst P (sym count) more)))
 
 done_by : (s : List ℕ) (at base left : ℕ) (hunks : List Hunk) (result : List ℕ) → length hunks ≡ left → left ≡ 0 → with_words (with_words s base (hunks_image base hunks)) at (lengths_of hunks) ≡ result → s ≡ result
 done_by s at base left [] result m z a = a

@@ -4,7 +4,7 @@ use Rattle.hunk_text.specs.ModuleForm.{AreHunks, IsModule, hunk_type, item, relo
 use Rattle.hunk_text.specs.ModuleReading.{Refusal, module_of}
 use Rattle.hunk_text.specs.ReadingOn.{Reads}
 use Rattle.hunk_text.specs.Shapes.{check, check_of, shape_of, words_in}
-use Rattle.hunk_text.specs.declared.checking.Shape.{Shape}
+use Rattle.hunk_text.specs.declared.check.Shape.{Shape}
 use Rattle.hunk_text.specs.declared.modules.Hunk.{Hunk}
 use Rattle.hunk_text.specs.declared.modules.Module.{Module}
 use Rattle.hunk_text.proofs.ReadingOn.{reads_all, reads_on}

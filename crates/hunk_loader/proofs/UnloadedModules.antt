@@ -3,60 +3,25 @@ use Rattle.std.proofs.Common.{◌≡◌, ◌≢◌, ◌⊎◌, inl, inr, ◌∙�
 use Rattle.std.specs.List.{AllByRecursion}
 use Rattle.std.proofs.lemmas.Bool.{cases_eq}
 use Rattle.std.proofs.lemmas.Bool.Decides.{nat_tests}
-use Rattle.store_model.specs.Block.{block_end}
-use Rattle.store_model.specs.Chain.{cells, list_at}
-use Rattle.store_model.specs.Count.{IsApart, times}
-use Rattle.store_model.specs.Give.{given_store}
-use Rattle.store_model.specs.Placing.{cell_before, has, linked_out, without}
-use Rattle.store_model.specs.Tiling.{blocks_in, used_at}
-use Rattle.store_model.proofs.AfterGive.{AfterGive, after_give}
-use Rattle.store_model.proofs.Chains.{times-cells}
-use Rattle.store_model.proofs.Counts.{hit-other, hit-same}
-use Rattle.store_model.proofs.Frames.{list-set}
-use Rattle.store_model.proofs.Lists.{BecomesList, list-remove, list-removed}
-use Rattle.store_model.proofs.Members.{all-has, times-has}
-use Rattle.store_model.proofs.UsedBlocks.{AreApart}
-use Rattle.store_model.proofs.Writes.{SameBlocks, SameBlocks-set_below, SameBlocks-set_used}
+use Rattle.getvec_chain.specs.Block.{block_end}
+use Rattle.linked_list.specs.Chain.{cells, list_at}
+use Rattle.linked_list.specs.Count.{IsApart, times}
+use Rattle.getvec_chain.specs.Give.{given_store}
+use Rattle.linked_list.specs.Placing.{cell_before, has, linked_out, without}
+use Rattle.getvec_chain.specs.Tiling.{blocks_in, used_at}
+use Rattle.getvec_chain.proofs.AfterGive.{AfterGive, after_give}
+use Rattle.linked_list.proofs.Chains.{times-cells}
+use Rattle.linked_list.proofs.Counts.{hit-other, hit-same}
+use Rattle.linked_list.proofs.Frames.{list-set}
+use Rattle.linked_list.proofs.Lists.{list-remove, list-removed}
+use Rattle.linked_list.specs.Linked.{IsListAt}
+use Rattle.linked_list.proofs.Members.{cell_before-cases, times-without, without-times}
+use Rattle.linked_list.proofs.AllMembers.{all-has, all-map, all-without}
+use Rattle.getvec_chain.proofs.UsedBlocks.{AreDisjoint}
+use Rattle.getvec_chain.proofs.Writes.{SameBlocks, SameBlocks-set_below, SameBlocks-set_used}
 use Rattle.task_block.specs.Lists.{module_link, modules_in}
 use Rattle.hunk_loader.specs.Modules.{HasModules, IsModuleAt}
-use Rattle.hunk_loader.proofs.ModuleBlocks.{InBlock, all_map, in_block, linked, module-same, modules-apart, no_module, one_word, stands, times-one}
-
--- ---- the list without one of its members
-
-times-without : (ms : List ℕ) (m a : ℕ) → times a (without m ms) ≤ times a ms
-times-without [] m a = omega arith
-times-without (n ∷ ns) m a = on (eqb m n) (times-without ns m a)
-  where
-    on : (b : Bool) → times a (without m ns) ≤ times a ns → times a (cond b ns (n ∷ without m ns)) ≤ times a (n ∷ ns)
-    on true le = omega arith
-    on false le = omega arith
-
-times-out : (ms : List ℕ) (m : ℕ) → IsApart ms → times m (without m ms) ≡ 0
-times-out [] m apart = refl
-times-out (n ∷ ns) m apart = on (eqb m n) refl (times-out ns m (λ a. omega (arith, apart a)))
-  where
-    on : (b : Bool) → eqb m n ≡ b → times m (without m ns) ≡ 0 → times m (cond b ns (n ∷ without m ns)) ≡ 0
-    on true t none = (let same : m ≡ n = grind (arith, nat_tests) in omega (arith, apart m, hit-same m n same))
-    on false t none = (let differ : m ≢ n = grind (arith, nat_tests) in omega (arith, none, hit-other m n differ))
-
-all-without : (P : ℕ → Type 0) (ms : List ℕ) (m : ℕ) → AllByRecursion P ms → AllByRecursion P (without m ms)
-all-without P [] m a = tt
-all-without P (n ∷ ns) m a = on (eqb m n) (all-without P ns m a.1)
-  where
-    on : (b : Bool) → AllByRecursion P (without m ns) → AllByRecursion P (cond b ns (n ∷ without m ns))
-    on true rest = a.1
-    on false rest = (a.0, rest)
-
--- the word before a member is the head, or the first word of a member
-cell-among : (ms : List ℕ) (m at : ℕ) → (cell_before module_link m at ms ≡ at) ⊎ (0 < times (cell_before module_link m at ms) ms)
-cell-among [] m at = inl refl
-cell-among (n ∷ ns) m at = on (eqb m n) (cell-among ns m n)
-  where
-    on : (b : Bool) → (cell_before module_link m n ns ≡ n) ⊎ (0 < times (cell_before module_link m n ns) ns)
-        → (cond b at (cell_before module_link m n ns) ≡ at) ⊎ (0 < times (cond b at (cell_before module_link m n ns)) (n ∷ ns))
-    on true later = inl refl
-    on false (inl same) = inr (omega (arith, hit-same (cell_before module_link m n ns) n same))
-    on false (inr some) = inr (omega arith)
+use Rattle.hunk_loader.proofs.ModuleBlocks.{InBlock, in_block, linked, module-same, modules-apart, no_module, one_word, stands, times-one}
 
 -- ---- a module is linked out, and its block given back
 
@@ -70,8 +35,15 @@ pub record Unloaded (s t : List ℕ) (m : ℕ) : Type 0 where
   pub stands : HasModules t
 
 -- the word before it is word 104, or a module's first word
-cell-where : (s : List ℕ) (m : ℕ) → (cell_before module_link m 104 (modules_in s) ≡ 104) ⊎ (0 < times (cell_before module_link m 104 (modules_in s)) (modules_in s))
-cell-where s m = cell-among (modules_in s) m 104
+cell-where : (s : List ℕ) (m : ℕ) → (cell_before module_link m 104 (modules_in s) ≡ 104) ⊎ (has (cell_before module_link m 104 (modules_in s)) (modules_in s) ≡ true)
+cell-where s m = on (cell_before-cases module_link m 104 (modules_in s))
+  where
+    cell : ℕ
+    cell = cell_before module_link m 104 (modules_in s)
+
+    on : (cell ≡ 104) ⊎ ((k : ℕ) × (has k (modules_in s) ≡ true) × (cell ≡ k)) → (cell ≡ 104) ⊎ (has cell (modules_in s) ≡ true)
+    on (inl e) = inl e
+    on (inr (k, some, e)) = inr (subst (λ z. has z (modules_in s) ≡ true) (sym e) some)
 
 pub out_linked : (s : List ℕ) (m : ℕ) → HasModules s → has m (modules_in s) ≡ true → LinkedOut s m
 out_linked s m h e =
@@ -83,10 +55,10 @@ out_linked s m h e =
     cell : ℕ
     cell = cell_before module_link m 104 (modules_in s)
 
-    by : (cell ≡ 104) ⊎ (0 < times cell (modules_in s)) → SameBlocks s (linked_out s module_link cell m)
+    by : (cell ≡ 104) ⊎ (has cell (modules_in s) ≡ true) → SameBlocks s (linked_out s module_link cell m)
     by (inl head) = SameBlocks-set_below s cell (get_or s m 0) h.tiled (omega arith)
     by (inr some) =
-        let c = all-has (IsModuleAt s) cell (modules_in s) h.modules (times-has cell (modules_in s) some) in
+        let c = all-has (IsModuleAt s) cell (modules_in s) h.modules some in
         let b = in_block s cell h.tiled c in
         SameBlocks-set_used s cell cell (get_or s m 0) c.block h.tiled c.used (omega arith) (omega (arith, b.few))
 
@@ -118,7 +90,7 @@ unload_stands s t m h e words =
     long : length r ≡ length s
     long = length-set s cell (get_or s m 0)
 
-    first : BecomesList r module_link one_word 104 rest
+    first : IsListAt r module_link one_word 104 rest
     first = list-remove s r module_link one_word 104 m (linked s h) e (list-removed s module_link one_word 104 m (linked s h) e)
 
     b : InBlock s m k.block
@@ -146,11 +118,11 @@ unload_stands s t m h e words =
           hit-other at 104 (λ e. absurd (omega (arith, above))),
         )
 
-    now : BecomesList t module_link one_word 104 rest
+    now : IsListAt t module_link one_word 104 rest
     now =
         let w = get_or r (m - 1) 0 + 1 in
-        let given : BecomesList (set r (m - 1) w) module_link one_word 104 (list_at r module_link 104) = list-set r module_link one_word 104 (m - 1) w first.stands no_link in
-        subst (λ x. BecomesList x module_link one_word 104 rest) (sym words) (subst (λ ms. BecomesList (set r (m - 1) w) module_link one_word 104 ms) first.list given)
+        let given : IsListAt (set r (m - 1) w) module_link one_word 104 (list_at r module_link 104) = list-set r module_link one_word 104 (m - 1) w first.stands no_link in
+        subst (λ x. IsListAt x module_link one_word 104 rest) (sym words) (subst (λ ms. IsListAt (set r (m - 1) w) module_link one_word 104 ms) first.list given)
 
     list : modules_in t ≡ rest
     list = now.list
@@ -165,17 +137,17 @@ unload_stands s t m h e words =
         bn : InBlock s n kn.block
         bn = in_block s n h.tiled kn
 
-        by : (cell ≡ 104) ⊎ (0 < times cell (modules_in s)) → a ≢ cell
+        by : (cell ≡ 104) ⊎ (has cell (modules_in s) ≡ true) → a ≢ cell
         by (inl head) = λ e. absurd (omega (arith, bn.above))
         by (inr some) = among (cases_eq n cell)
           where
             kc : IsModuleAt s cell
-            kc = all-has (IsModuleAt s) cell (modules_in s) h.modules (times-has cell (modules_in s) some)
+            kc = all-has (IsModuleAt s) cell (modules_in s) h.modules some
 
             bc : InBlock s cell kc.block
             bc = in_block s cell h.tiled kc
 
-            apart_by : AreApart kn.block kc.block → a ≢ cell
+            apart_by : AreDisjoint kn.block kc.block → a ≢ cell
             apart_by (inl before) = λ e. absurd (omega (arith, bn.start, bc.start))
             apart_by (inr after) = λ e. absurd (omega (arith, bn.start, bc.start, bc.few))
 
@@ -189,15 +161,15 @@ unload_stands s t m h e words =
         bn : InBlock s n kn.block
         bn = in_block s n h.tiled kn
 
-        apart_by : AreApart kn.block k.block → a ≢ k.block.start
+        apart_by : AreDisjoint kn.block k.block → a ≢ k.block.start
         apart_by (inl before) = λ e. absurd (omega arith)
         apart_by (inr after) = λ e. absurd (omega (arith, bn.start, b.start, b.few))
 
     other : (n : ℕ) → 0 < times n rest → IsModuleAt s n → IsModuleAt t n
     other n some kn =
-        let differ : n ≢ m = λ e. absurd (omega (arith, some, ap (λ (x : ℕ). times x rest) e, times-out (modules_in s) m h.apart)) in
+        let differ : n ≢ m = λ e. absurd (omega (arith, some, ap (λ (x : ℕ). times x rest) e, without-times m (modules_in s) h.apart)) in
         module-same s t n h.tiled kn long' (g.others n differ ∙ ap (used_at n) l.blocks.blocks ∙ kn.used) (λ a low high.
         g.words a (no_size_word n a kn differ low high) ∙ get_or-set_other s cell a (get_or s m 0) 0 (no_cell_word n a kn low high))
 
     all : AllByRecursion (IsModuleAt t) rest
-    all = all_map (IsModuleAt s) (IsModuleAt t) rest (all-without (IsModuleAt s) (modules_in s) m h.modules) other
+    all = all-map (IsModuleAt s) (IsModuleAt t) rest other (all-without (IsModuleAt s) m (modules_in s) h.modules)

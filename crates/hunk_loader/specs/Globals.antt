@@ -2,7 +2,7 @@
 use Rattle.std.specs.Prelude.{ℕ, ◌+◌, ◌-◌, ◌≤◌, ◌==◌, ◌&&◌, if◌then◌else◌, List, [], ◌∷◌, ◌++◌, length, nat_le, reverse, slice_index, slice_set}
 use Rattle.std.specs.List.{AllByRecursion, flat_map}
 use Rattle.word_store.specs.Arithmetic.{add, mul}
-use Rattle.hunk_loader.specs.Placed.{PlacedHunk, hunks_in}
+use Rattle.hunk_loader.specs.ModuleHunks.{PlacedHunk, hunks_in}
 
 -- the highest number of a global
 abbrev pub most_globals : ℕ

@@ -1,8 +1,8 @@
-pub mod Relocated
+pub mod RelocatedWords
 pub mod ModuleRow
 pub mod Follow
-pub mod Placed
+pub mod ModuleHunks
 pub mod Modules
-pub mod Loading
+pub mod LoadOutcome
 pub mod Globals
 pub mod GlobalWords

@@ -2,7 +2,7 @@
 use Rattle.std.specs.Prelude.{ℕ, ◌+◌, List, [], ◌∷◌, ◌++◌, length, map}
 use Rattle.hunk_text.specs.Shapes.{words_in}
 use Rattle.hunk_text.specs.declared.modules.Hunk.{Hunk}
-use Rattle.hunk_loader.specs.Relocated.{relocated}
+use Rattle.hunk_loader.specs.RelocatedWords.{relocated}
 
 -- the numbers of the hunks' words
 abbrev pub lengths_of : List Hunk → List ℕ

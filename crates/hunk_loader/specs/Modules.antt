@@ -1,13 +1,13 @@
 -- The modules of a store: a list of used blocks, the newest first.
 use Rattle.std.specs.Prelude.{◌≡◌, ℕ, ◌+◌, Some, List, sum}
 use Rattle.std.specs.List.{AllByRecursion}
-use Rattle.store_model.specs.declared.blocks.Block.{Block}
-use Rattle.store_model.specs.Chain.{IsChain}
-use Rattle.store_model.specs.Count.{IsApart}
-use Rattle.store_model.specs.Run.{need}
-use Rattle.store_model.specs.Tiling.{IsTiled, blocks_in, used_at}
+use Rattle.getvec_chain.specs.declared.pieces.Block.{Block}
+use Rattle.linked_list.specs.Chain.{IsChain}
+use Rattle.linked_list.specs.Count.{IsApart}
+use Rattle.getvec_chain.specs.Run.{need}
+use Rattle.getvec_chain.specs.Tiling.{IsTiled, blocks_in, used_at}
 use Rattle.task_block.specs.Lists.{module_link, modules_in}
-use Rattle.hunk_loader.specs.Placed.{hunk_count, lengths_in}
+use Rattle.hunk_loader.specs.ModuleHunks.{hunk_count, lengths_in}
 
 -- at m the data of a used block begin, which is as large as the module's words need
 pub record IsModuleAt (s : List ℕ) (m : ℕ) : Type 0 where

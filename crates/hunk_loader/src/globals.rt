@@ -1,14 +1,13 @@
 // The globals that a module sets.
-ghost use Rattle.std.specs.Prelude.{◌≡◌, ◌≤◌, ◌<◌, ◌+◌, ◌-◌, ◌^◌, ◌↔◌, IsTrue, length, slice_range, true};
-ghost use Rattle.store_model.specs.Placing.{has};
+ghost use Rattle.std.specs.Prelude.{◌≡◌, ◌≤◌, ◌<◌, ◌+◌, ◌↔◌, IsTrue, length, slice_range, true};
+ghost use Rattle.linked_list.specs.Placing.{has};
 ghost use Rattle.task_block.specs.Lists.{modules_in};
 ghost use Rattle.hunk_loader.specs.Globals.{GlobalsFit, global_of_number, globals_in, globals_of_hunk, highest, with_globals};
 ghost use Rattle.hunk_loader.specs.GlobalWords.{AreClear};
 ghost use Rattle.hunk_loader.specs.Modules.{HasModules};
-ghost use Rattle.hunk_loader.specs.Placed.{module_end, placed};
+ghost use Rattle.hunk_loader.specs.ModuleHunks.{module_end, placed};
 
-use store_links::word;
-use word_store::{Store, add, mul};
+use word_store::{Store, add, mul, set_word_at, word_at};
 
 /// The highest number of a global.
 const MOST_GLOBALS: u32 = 1000;
@@ -19,30 +18,28 @@ pub fn globals_fit(store: &Store, m: u32) -> bool
     requires listed { has m (modules_in store.now) ≡ true }
     ensures { IsTrue result ↔ GlobalsFit store.now m }
 {
-    // a store has fewer than 2 ^ 32 words, so no address in it is larger
-    let _size = store.size();
-    let count = word(store, m + 1);
-    let mut base = m + 2 + count;
+    let count = word_at(store, m, 1);
+    let lengths = store.address_of(m, 2);
+    let mut base = store.address_of(lengths, count);
     for i in 0..count {
-        let length = word(store, m + 2 + i);
+        let length = word_at(store, lengths, i);
         if highest(store, base, length) > MOST_GLOBALS {
             return false;
         }
-        base += length;
+        base = store.address_of(base, length);
     }
     true
 }
 
 // The last word of the hunk at the base, or 0 where it has none.
 fn highest(store: &Store, base: u32, count: u32) -> u32
-    requires inside { base + count ≤ length store.now }
-    requires addresses { length store.now < 2 ^ 32 }
+    requires { base + count ≤ length store.now }
     ensures { result ≡ highest (slice_range store.now base (base + count)) }
 {
     if count == 0 {
         return 0;
     }
-    word(store, base + (count - 1))
+    word_at(store, base, count - 1)
 }
 
 /// Sets the globals of the module at m in the words from g on, the hunks in their order. A hunk's last word is the highest
@@ -52,51 +49,47 @@ fn highest(store: &Store, base: u32, count: u32) -> u32
 pub fn init_globals(store: &mut Store, m: u32, g: u32)
     requires modules { HasModules store.old }
     requires listed { has m (modules_in store.old) ≡ true }
-    requires inside { g + 1000 < length store.old }
     requires clear { AreClear g m (module_end store.old m) }
     ensures { store.new ≡ with_globals store.old g (globals_in store.old m) }
 {
-    // a store has fewer than 2 ^ 32 words, so no address in it is larger
-    let _size = store.size();
-    let count = word(store, m + 1);
-    let mut base = m + 2 + count;
+    let count = word_at(store, m, 1);
+    let lengths = store.address_of(m, 2);
+    let mut base = store.address_of(lengths, count);
     for i in 0..count {
-        let length = word(store, m + 2 + i);
+        let length = word_at(store, lengths, i);
         init_hunk(store, base, length, g);
-        base += length;
+        base = store.address_of(base, length);
     }
 }
 
 // Sets the globals of the hunk at the base.
 fn init_hunk(store: &mut Store, base: u32, count: u32, g: u32)
     requires hunk { base + count ≤ length store.old }
-    requires inside { g + 1000 < length store.old }
-    requires addresses { length store.old < 2 ^ 32 }
     requires clear { AreClear g base (base + count) }
-    ensures { store.new ≡ with_globals store.old g (globals_of_hunk (placed base (slice_range store.old base (base + count)))) }
+    ensures { store.new ≡ with_globals store.old g
+        (globals_of_hunk (placed base (slice_range store.old base (base + count)))) }
 {
     if highest(store, base, count) == 0 {
         return;
     }
-    // the pairs that are left end here
-    let mut end = base + (count - 1);
-    while end - base >= 2 {
-        let offset = word(store, end - 1);
+    // the pairs that are left have so many words
+    let mut left = count - 1;
+    while left >= 2 {
+        let offset = word_at(store, base, left - 1);
         if offset == 0 {
             return;
         }
-        let number = word(store, end - 2);
+        let number = word_at(store, base, left - 2);
         init_global(store, g, number, add(mul(4, base), offset));
-        end -= 2;
+        left -= 2;
     }
 }
 
 // Sets a global, where the number is that of one.
 fn init_global(store: &mut Store, g: u32, number: u32, value: u32)
-    requires { g + 1000 < 2 ^ 32 }
     ensures { store.new ≡ with_globals store.old g (global_of_number number value) }
 {
     if (1..=MOST_GLOBALS).contains(&number) {
-        store.set(g + number, value);
+        set_word_at(store, g, number, value);
     }
 }

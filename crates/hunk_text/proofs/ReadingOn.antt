@@ -6,7 +6,7 @@ use Rattle.hunk_text.specs.Places.{bytes_in, next_span, next_word, span, token_e
 use Rattle.hunk_text.specs.ModuleForm.{AreWords}
 use Rattle.hunk_text.specs.ReadingOn.{Reads, ReadsOn}
 use Rattle.hunk_text.proofs.Spans.{no_token, some_token, start_inside}
-use Rattle.hunk_text.proofs.Words.{word_again}
+use Rattle.text_reader.proofs.NumberLemmas.{number_in-again}
 
 -- ---- a word is left
 
@@ -20,7 +20,7 @@ next_by text place w ws true e h =
     let ends = start_inside text place lt in
     record {
       end = t.end;
-      next = rw (found, word_again (bytes_in text t) w words.0) refl;
+      next = rw (found, number_in-again 16 8 (bytes_in text t) w words.0) refl;
       further = omega (arith, ends.0);
       inside = ends.1;
       rest = words.1;

@@ -5,9 +5,9 @@ use Rattle.std.specs.List.{AllByRecursion, concat}
 use Rattle.hunk_text.specs.Tokens.{Token, ends_token, is_blank, onto_first_token, token, tokens_from, tokens_of}
 use Rattle.hunk_text.specs.ModuleForm.{AreHunks, AreWords, IsHunk, IsModule, hunk_type, item, relocation_items, relocation_type}
 use Rattle.hunk_text.specs.ModuleReading.{module_of}
-use Rattle.hunk_text.specs.Answers.{Gives}
+use Rattle.text_reader.specs.Answers.{Gives}
 use Rattle.hunk_text.specs.Canonical.{IsPrintable, IsPrintableHunk}
-use Rattle.hunk_text.specs.declared.ends.HunkEnd.{HunkEnd}
+use Rattle.text_reader.specs.declared.ends.TextEnd.{TextEnd}
 use Rattle.hunk_text.specs.declared.modules.Hunk.{Hunk}
 use Rattle.hunk_text.specs.declared.modules.Module.{Module}
 use Rattle.hunk_text.proofs.Sound.{sound}
@@ -61,13 +61,13 @@ text_size : (text : List ℕ) (m : Module) (h : IsModule text m) → length h.0 
 text_size text m h = omega (arith, words_few (tokens_of text) h.0 h.1, tokens_few 0 text)
 
 -- a module that was read can be printed
-pub printable : (text : List ℕ) (r : Result Module HunkEnd) → Gives r (module_of text) → length text < 2 ^ 30 → IfOk r IsPrintable
+pub printable : (text : List ℕ) (r : Result Module TextEnd) → Gives (λ m. m) r (module_of text) → length text < 2 ^ 30 → IfOk r IsPrintable
 printable text (Err e) g short = tt
 printable text (Ok m) g short =
     let h = sound text m g in
     printable_hunks m.hunks h.0 h.2 (omega (arith, text_size text m h))
 
 -- and has no more hunks than its text has bytes
-pub few_hunks : (text : List ℕ) (r : Result Module HunkEnd) → Gives r (module_of text) → IfOk r (λ m. length m.hunks ≤ length text)
+pub few_hunks : (text : List ℕ) (r : Result Module TextEnd) → Gives (λ m. m) r (module_of text) → IfOk r (λ m. length m.hunks ≤ length text)
 few_hunks text (Err e) g = tt
 few_hunks text (Ok m) g = let h = sound text m g in omega (arith, hunks_few m.hunks h.0 h.2, text_size text m h)

@@ -11,7 +11,8 @@ use Rattle.hunk_text.specs.declared.modules.Hunk.{Hunk}
 use Rattle.hunk_text.specs.declared.modules.Module.{Module}
 use Rattle.hunk_text.specs.declared.grammar.Expects.{Expects}
 use Rattle.hunk_text.specs.declared.grammar.Expects.TheVariants.{FirstType, NextType, Length, Word, Count, Offset, Nothing}
-use Rattle.hunk_text.proofs.Runs.{bind_ok, ok_is, run, tokens_ok}
+use Rattle.text_reader.proofs.StepLemmas.{Ok-same, bind-ok}
+use Rattle.hunk_text.proofs.Runs.{run, tokens_ok}
 
 -- The words are these offsets, relocation lists, and further hunks with the end word. All offsets lie inside a hunk of
 -- n words.
@@ -72,9 +73,9 @@ then_form e next ws r same h = subst (λ (x : Expects). Form x ws r) (sym same) 
 
 first_form_by : (w : ℕ) (next : Expects) (ws : List ℕ) (r : Rest) (is_hunk is_end : Bool) → (w == hunk_type) ≡ is_hunk → (w == end_word) ≡ is_end
     → cond is_hunk (Ok Length) (cond is_end (Ok Nothing) (refused 3)) ≡ Ok next → Form next ws r → (r.words ≡ []) × (r.relocations ≡ []) × AreHunks r.hunks (w ∷ ws)
-first_form_by w next ws r true is_end a b e h = rw (eqb-true w hunk_type a) (then_form Length next ws r (ok_is Length next e) h)
+first_form_by w next ws r true is_end a b e h = rw (eqb-true w hunk_type a) (then_form Length next ws r (Ok-same Length next e) h)
 first_form_by w next ws r false true a b e h =
-    let k = then_form Nothing next ws r (ok_is Nothing next e) h in
+    let k = then_form Nothing next ws r (Ok-same Nothing next e) h in
     let P : Rest → Type 0 = λ q. (q.words ≡ []) × (q.relocations ≡ []) × AreHunks q.hunks (w ∷ ws) in
     subst P k.1 (refl, refl, rw (k.0, eqb-true w end_word b) refl)
 first_form_by w next ws r false false a b e h = cc e
@@ -100,7 +101,7 @@ list_form n ws r h =
 
 next_form_by : (n w : ℕ) (next : Expects) (ws : List ℕ) (r : Rest) (b : Bool) → (w == relocation_type) ≡ b → cond b (Ok (Count n)) (first_type w) ≡ Ok next → Form next ws r
     → (r.words ≡ []) × AreItems n [] (w ∷ ws) r.relocations r.hunks
-next_form_by n w next ws r true a e h = rw (eqb-true w relocation_type a) (list_form n ws r (then_form (Count n) next ws r (ok_is (Count n) next e) h))
+next_form_by n w next ws r true a e h = rw (eqb-true w relocation_type a) (list_form n ws r (then_form (Count n) next ws r (Ok-same (Count n) next e) h))
 next_form_by n w next ws r false a e h =
     let k = first_form w next ws r e h in
     (k.0, record { lists = []; behind = w ∷ ws; all = refl; joined = k.1; inside = rw k.1 tt; more = k.2 })
@@ -141,15 +142,15 @@ offset_by : (more n w : ℕ) (next : Expects) (ws : List ℕ) (r : Rest) (b : Bo
     → AreOffsetsLeft (more + 1) n (w ∷ ws) (rest r.words (w ∷ r.relocations) r.hunks)
 offset_by more n w next ws r true a e h =
     let lt : w < n = grind (arith, nat_tests) in
-    offset_form more n w ws r lt (offsets_left more n ws r (then_form (offsets_or_type more n) next ws r (ok_is (offsets_or_type more n) next e) h))
+    offset_form more n w ws r lt (offsets_left more n ws r (then_form (offsets_or_type more n) next ws r (Ok-same (offsets_or_type more n) next e) h))
 offset_by more n w next ws r false a e h = cc e
 
 pub form_more : (e : Expects) (w : ℕ) (next : Expects) (ws : List ℕ) (r : Rest) → follow e w ≡ Ok next → Form next ws r → Form e (w ∷ ws) (put e w r)
 form_more FirstType w next ws r e h = first_form w next ws r e h
 form_more (NextType n) w next ws r e h = next_form_by n w next ws r (w == relocation_type) refl e h
-form_more Length w next ws r e h = (refl, refl, length_form w ws r (words_left w w ws r (then_form (words_or_type w w) next ws r (ok_is (words_or_type w w) next e) h)))
-form_more (Word more n) w next ws r e h = word_form more n w ws r (words_left more n ws r (then_form (words_or_type more n) next ws r (ok_is (words_or_type more n) next e) h))
-form_more (Count n) w next ws r e h = (w, ws, refl, offsets_left w n ws r (then_form (offsets_or_type w n) next ws r (ok_is (offsets_or_type w n) next e) h))
+form_more Length w next ws r e h = (refl, refl, length_form w ws r (words_left w w ws r (then_form (words_or_type w w) next ws r (Ok-same (words_or_type w w) next e) h)))
+form_more (Word more n) w next ws r e h = word_form more n w ws r (words_left more n ws r (then_form (words_or_type more n) next ws r (Ok-same (words_or_type more n) next e) h))
+form_more (Count n) w next ws r e h = (w, ws, refl, offsets_left w n ws r (then_form (offsets_or_type w n) next ws r (Ok-same (offsets_or_type w n) next e) h))
 form_more (Offset more n) w next ws r e h = offset_by more n w next ws r (nat_lt w n) refl e h
 form_more Nothing w next ws r e h = cc e
 
@@ -162,22 +163,22 @@ form_none Length r h = cc h
 form_none (Word more n) r h = cc h
 form_none (Count n) r h = cc h
 form_none (Offset more n) r h = cc h
-form_none Nothing r h = (refl, ok_is (rest [] [] []) r h)
+form_none Nothing r h = (refl, Ok-same (rest [] [] []) r h)
 
 pub form : (e : Expects) (ws : List ℕ) (r : Rest) → run e ws ≡ Ok r → Form e ws r
 form e [] r h = form_none e r h
 form e (w ∷ ws) r h =
-    let a = bind_ok (follow e w) (λ next. run next ws >>= λ q. Ok (put e w q)) r h in
-    let b = bind_ok (run a.0 ws) (λ q. Ok (put e w q)) r a.2 in
+    let a = bind-ok (follow e w) (λ next. run next ws >>= λ q. Ok (put e w q)) r h in
+    let b = bind-ok (run a.0 ws) (λ q. Ok (put e w q)) r a.2 in
     let P : Rest → Type 0 = λ q. Form e (w ∷ ws) q in
-    subst P (ok_is (put e w b.0) r b.2) (form_more e w a.0 ws b.0 a.1 (form a.0 ws b.0 b.1))
+    subst P (Ok-same (put e w b.0) r b.2) (form_more e w a.0 ws b.0 a.1 (form a.0 ws b.0 b.1))
 
 sound_by : (text : List ℕ) (m : Module) (r : Result Rest Stop) → rest_of FirstType (length text) (tokens_of text) ≡ r → module_or_refusal text r ≡ Ok m → IsModule text m
 sound_by text m (Err s) e h = cc h
 sound_by text m (Ok r) e h =
     let k = tokens_ok FirstType (length text) (tokens_of text) r e in
     let f = form FirstType k.0 r k.2 in
-    let same : record { hunks = r.hunks } ≡ m = ok_is (record { hunks = r.hunks }) m h in
+    let same : record { hunks = r.hunks } ≡ m = Ok-same (record { hunks = r.hunks }) m h in
     let P : Module → Type 0 = λ x. IsModule text x in
     subst P same (k.0, k.1, f.2)
 

@@ -1,28 +1,78 @@
--- Which token of a text is the first in error.
-use Rattle.std.specs.Prelude.{ℕ, suc, ◌≡◌, ◌⊎◌, List, [], ◌∷◌, ◌++◌, length, replicate}
+-- Which token of a text is the first in error, and why.
+use Rattle.std.specs.Prelude.{ℕ, ◌≡◌, ◌<◌, ◌⊎◌, List, [], ◌∷◌, ◌++◌, length}
 use Rattle.hunk_text.specs.Tokens.{Token, line_at, tokens_of}
 use Rattle.hunk_text.specs.Words.{IsWord}
-use Rattle.hunk_text.specs.ModuleForm.{AreHunks, AreWords, hunk_type, item, relocation_items, relocation_type}
+use Rattle.hunk_text.specs.ModuleForm.{AreHunks, AreWords, end_word, item, relocation_type}
 use Rattle.hunk_text.specs.declared.modules.Hunk.{Hunk}
+
+-- ---- where words may end
+
+-- the words are a whole module's
+abbrev pub IsWhole : List ℕ → Type 0
+IsWhole words = (hunks : List Hunk) × AreHunks hunks words
 
 -- some module's words begin with these
 abbrev pub BeginModule : List ℕ → Type 0
-BeginModule words = (hunks : List Hunk) × (more : List ℕ) × AreHunks hunks (words ++ more)
+BeginModule words = (more : List ℕ) × IsWhole (words ++ more)
 
--- The words end in the relocations of a hunk of no words, at the count of a list that has offsets. No offset is below that
--- hunk's length, so no module's words begin so; but each word of them may follow those before it.
-pub record WantOffsetInNone (words : List ℕ) : Type 0 where
+-- an item could begin after the words: with the end word they are a whole module's
+abbrev pub IsTypeDue : List ℕ → Type 0
+IsTypeDue words = IsWhole (words ++ end_word ∷ [])
+
+-- what follows the type of an item is nothing, or a number and fewer words than that
+abbrev pub IsCutOff : List ℕ → List ℕ → Type 0
+IsCutOff rest words = ((rest ≡ []) × (words ≡ [])) ⊎ ((count : ℕ) × (rest ≡ count ∷ words) × (length words < count))
+
+-- The words end inside an item. If it had only the words that are there, another could begin after it.
+pub record IsInsideItem (words : List ℕ) : Type 0 where
   pub front : List ℕ
-  pub lists : ℕ
+  pub type : ℕ
+  pub rest : List ℕ
+  pub there : List ℕ
+  pub all : words ≡ front ++ type ∷ rest
+  pub before : IsTypeDue front
+  pub cut_off : IsCutOff rest there
+  pub so_far : IsTypeDue (front ++ item type there)
+
+-- the words end inside a relocation list, and its number was read: an offset is due
+pub record IsOffsetDue (words : List ℕ) : Type 0 where
+  pub front : List ℕ
   pub count : ℕ
-  pub all : words ≡ front ++ (item hunk_type [] ++ (relocation_items (replicate lists []) ++ relocation_type ∷ suc count ∷ []))
+  pub offsets : List ℕ
+  pub all : words ≡ front ++ relocation_type ∷ count ∷ offsets
+  pub before : IsTypeDue front
+  pub few : length offsets < count
+  pub so_far : IsTypeDue (front ++ item relocation_type offsets)
 
--- the words begin a module's words, or want an offset that there is none of
-abbrev pub MayBegin : List ℕ → Type 0
-MayBegin words = BeginModule words ⊎ WantOffsetInNone words
+-- the words are a module's as far as they go: whole, or up to where an item could begin, or up to a place inside an item
+abbrev pub IsBegun : List ℕ → Type 0
+IsBegun words = IsWhole words ⊎ (IsTypeDue words ⊎ IsInsideItem words)
 
--- the tokens before one on this line may begin a module's text, and with it they do not
-pub record IsFirstError (text : List ℕ) (line : ℕ) : Type 0 where
+-- ---- what is wrong with a token after words
+
+abbrev pub HasWord : List ℕ → Type 0
+HasWord bytes = (w : ℕ) × IsWord bytes w
+
+-- it is no word
+abbrev pub IsNoWord : List ℕ → List ℕ → Type 0
+IsNoWord words bytes = ¬ HasWord bytes
+
+-- it is a word, and should be a type
+abbrev pub IsNoType : List ℕ → List ℕ → Type 0
+IsNoType words bytes = HasWord bytes × IsTypeDue words
+
+-- it is a word, and should be an offset
+abbrev pub IsNoOffset : List ℕ → List ℕ → Type 0
+IsNoOffset words bytes = HasWord bytes × IsOffsetDue words
+
+-- it is a word after a whole module
+abbrev pub IsBeyond : List ℕ → List ℕ → Type 0
+IsBeyond words bytes = HasWord bytes × IsWhole words
+
+-- ---- texts
+
+-- The words before a token on this line are begun, and with it they are not. Why holds of them and it.
+pub record IsFirstError (text : List ℕ) (line : ℕ) (Why : List ℕ → List ℕ → Type 0) : Type 0 where
   pub front : List Token
   pub token : Token
   pub after : List Token
@@ -30,12 +80,13 @@ pub record IsFirstError (text : List ℕ) (line : ℕ) : Type 0 where
   pub all : tokens_of text ≡ front ++ token ∷ after
   pub at : line ≡ line_at text token.place
   pub before : AreWords front words
-  pub begins : MayBegin words
-  pub up_to : (w : ℕ) → IsWord token.bytes w → ¬ BeginModule (words ++ w ∷ [])
+  pub begun : IsBegun words
+  pub up_to : (w : ℕ) → IsWord token.bytes w → ¬ IsBegun (words ++ w ∷ [])
+  pub why : Why words token.bytes
 
--- all tokens may begin a module's text, and the text ends on this line
-pub record EndsEarly (text : List ℕ) (line : ℕ) : Type 0 where
+-- all tokens are words, of which Why holds, and the text ends on this line
+pub record EndsEarly (text : List ℕ) (line : ℕ) (Why : List ℕ → Type 0) : Type 0 where
   pub words : List ℕ
   pub all : AreWords (tokens_of text) words
   pub at : line ≡ line_at text (length text)
-  pub begins : MayBegin words
+  pub why : Why words

@@ -1,14 +1,14 @@
 -- A module read token by token, or the first token that cannot follow.
-use Rattle.std.specs.Prelude.{ℕ, List, [], ◌∷◌, ◌++◌, length, Result, Ok, Err}
+use Rattle.std.specs.Prelude.{ℕ, ◌≡◌, List, [], ◌∷◌, ◌++◌, length, Result, Ok, Err}
 use Rattle.std.specs.Option.{ok_or}
-pub use Rattle.text_lines.specs.Refusal.{Refusal, refusal}
-pub use Rattle.text_lines.specs.Steps.{◌>>=◌}
+pub use Rattle.text_reader.specs.Refusal.{Refusal, refusal}
+pub use Rattle.text_reader.specs.Steps.{◌>>=◌}
 use Rattle.hunk_text.specs.Tokens.{Token, line_at, tokens_of}
 use Rattle.hunk_text.specs.Words.{word_of}
 use Rattle.hunk_text.specs.Grammar.{finish, follow}
 use Rattle.hunk_text.specs.declared.modules.Hunk.{Hunk}
 use Rattle.hunk_text.specs.declared.modules.Module.{Module}
-use Rattle.hunk_text.specs.declared.stepping.Step.{Step}
+use Rattle.hunk_text.specs.declared.step.Step.{Step}
 use Rattle.hunk_text.specs.declared.grammar.Expects.{Expects}
 use Rattle.hunk_text.specs.declared.grammar.Expects.TheVariants.{FirstType, NextType, Length, Word, Count, Offset, Nothing}
 
@@ -59,6 +59,10 @@ with_rest [] r = r.hunks
 with_rest (h ∷ []) r = hunk (h.words ++ r.words) (h.relocations ++ r.relocations) ∷ r.hunks
 with_rest (h ∷ k ∷ hs) r = h ∷ with_rest (k ∷ hs) r
 
+-- other hunks come from hunks where words are put before whatever rest there is
+abbrev pub Adds : (Rest → Rest) → List Hunk → List Hunk → Type 0
+Adds put_before old new = (r : Rest) → with_rest new r ≡ with_rest old (put_before r)
+
 -- the rest that the tokens are, before the text's end at this place
 abbrev pub rest_of : Expects → ℕ → List Token → Result Rest Stop
 rest_of expects end [] = do
@@ -77,3 +81,7 @@ module_or_refusal text (Err s) = Err (refusal (line_at text s.place) s.code)
 -- the module of a text
 unfoldable pub module_of : List ℕ → Result Module Refusal
 module_of text = module_or_refusal text (rest_of FirstType (length text) (tokens_of text))
+
+-- the text is refused at this line with this code
+abbrev pub IsRefused : List ℕ → ℕ → ℕ → Type 0
+IsRefused text line code = module_of text ≡ Err (refusal line code)

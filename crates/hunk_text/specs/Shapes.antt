@@ -3,7 +3,7 @@ use Rattle.std.specs.Prelude.{ℕ, ◌+◌, List, length, Result, Ok, Err, sum_b
 use Rattle.hunk_text.specs.ModuleReading.{Refusal, module_of}
 use Rattle.hunk_text.specs.declared.modules.Module.{Module}
 use Rattle.hunk_text.specs.declared.modules.Hunk.{Hunk}
-use Rattle.hunk_text.specs.declared.checking.Shape.{Shape}
+use Rattle.hunk_text.specs.declared.check.Shape.{Shape}
 use Rattle.hunk_text.specs.declared.grammar.Expects.{Expects}
 use Rattle.hunk_text.specs.declared.grammar.Expects.TheVariants.{FirstType, NextType, Length, Word, Count, Offset, Nothing}
 

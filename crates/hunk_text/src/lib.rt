@@ -1,25 +1,24 @@
 // The text of a module: hunks of words with their relocations, read and printed.
 #![tactic(auto)]
 
-pub mod checking;
-pub mod ends;
+pub mod check;
 mod grammar;
 pub mod laws;
 pub mod lists;
 pub mod modules;
-pub mod printing;
-pub mod reading;
-mod stepping;
+pub mod print;
+pub mod read;
+mod step;
 pub mod texts;
 pub mod tokens;
 
-pub use checking::{Shape, check_module};
-pub use ends::HunkEnd;
+pub use check::{Shape, check_module};
 pub use grammar::RELOCATIONS;
 pub use lists::{Hunks, WordList};
 pub use modules::{Hunk, Module};
-pub use printing::print_module;
-pub use reading::read_module;
+pub use print::print_module;
+pub use read::read_module;
+pub use text_reader::TextEnd as HunkEnd;
 pub use texts::{SliceText, TextBytes};
 pub use tokens::{NextWord, next_word};
 

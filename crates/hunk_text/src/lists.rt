@@ -1,5 +1,5 @@
 // The lists in a module. Each is made from a vector and lent as a slice, and takes no memory then.
-ghost use Rattle.std.specs.Prelude.{◌≡◌, [], ◌∷◌, ◌++◌, OnOk};
+ghost use Rattle.std.specs.Prelude.{◌≡◌, [], ◌∷◌, ◌++◌, IfErr, OnErr, OnOk};
 
 use crate::Hunk;
 use std::alloc::AllocFailed;
@@ -27,9 +27,11 @@ impl WordList {
         WordList { list: words }
     }
 
-    /// Adds a word at the end.
+    /// Adds a word at the end. Where memory cannot be had, the list stays as it was, and the word is given back.
     pub fn push(&mut self, word: u32) -> Result<(), AllocFailed<u32>>
-        ensures { OnOk result (self.new ≡ self.old ++ word ∷ []) }
+        ensures ok { OnOk result (self.new ≡ self.old ++ word ∷ []) }
+        ensures err { OnErr result (self.new ≡ self.old) }
+        ensures value_returned { IfErr result (λ e. e.value ≡ word) }
     {
         self.list.push(word)
     }
@@ -39,6 +41,13 @@ impl WordList {
         ensures { result.now ≡ self.now }
     {
         self.list.as_slice()
+    }
+
+    /// The words, without taking memory.
+    pub fn into_vec(self) -> Vec<u32>
+        ensures { result.items ≡ self }
+    {
+        self.list
     }
 }
 
@@ -70,5 +79,12 @@ impl Hunks {
         ensures { result.now ≡ self.now }
     {
         self.list.as_slice()
+    }
+
+    /// The hunks, without taking memory.
+    pub fn into_vec(self) -> Vec<Hunk>
+        ensures { result.items ≡ self }
+    {
+        self.list
     }
 }

@@ -2,9 +2,10 @@
 ghost use Rattle.std.specs.Prelude.{◌≡◌, ◌<◌, ◌≤◌, ◌+◌, length, slice_index, IfSome};
 ghost use Rattle.hunk_text.specs.Tokens.{is_blank};
 ghost use Rattle.hunk_text.specs.Places.{bytes_in, next_span, next_word, token_end, token_start};
-ghost use Rattle.hunk_text.specs.Words.{digit_of, word_of};
+ghost use Rattle.hunk_text.specs.Words.{word_of};
 
 use crate::TextBytes;
+use text_reader::digit;
 
 /// The most digits of a word.
 const MOST_DIGITS: u32 = 8;
@@ -101,17 +102,8 @@ pub fn word_in<X: TextBytes>(text: &X, token: Span) -> Option<u32>
     }
     let mut value = 0;
     for place in token.start..token.end {
-        let digit = digit_at(text, place)?;
+        let digit = digit(16, byte_at(text, place))?;
         value = value * 16 + digit;
     }
     Some(value)
-}
-
-// The value of the hex digit at a place, of either case.
-fn digit_at<X: TextBytes>(text: &X, place: u32) -> Option<u32>
-    requires { place < length (X.text text.now) }
-    ensures value { result ≡ digit_of (slice_index (X.text text.now) place) }
-    ensures small { IfSome result (λ d. d < 16) }
-{
-    char::from(byte_at(text, place)).to_digit(16)
 }

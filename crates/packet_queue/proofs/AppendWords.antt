@@ -1,11 +1,11 @@
 -- The words of a queue to which a packet is appended.
 use Rattle.std.proofs.Common.{◌≡◌, ℕ, List, [], ◌∷◌, ◌++◌, map, set, refl, sym, ap, ◌∙◌, subst, arith, append-nil}
-use Rattle.store_model.specs.Chain.{last_cell}
-use Rattle.store_model.specs.Owned.{Holds, Pairs}
-use Rattle.store_model.specs.LinkedWords as linked
-use Rattle.store_model.specs.Written.{IsWritten}
-use Rattle.store_model.proofs.Exchanges.{exchange-insert, links-first}
-use Rattle.store_model.proofs.Writing.{writes-hold}
+use Rattle.linked_list.specs.Chain.{last_cell}
+use Rattle.owned_words.specs.Owned.{Holds, Pairs}
+use Rattle.owned_words.specs.LinkedWords as linked
+use Rattle.owned_words.specs.Written.{IsWritten}
+use Rattle.owned_words.proofs.Exchanges.{exchange-insert, links-first}
+use Rattle.owned_words.proofs.Writing.{writes-hold}
 use Rattle.packet_queue.specs.Queue.{last_link, link_of}
 use Rattle.packet_queue.specs.QueueWords.{CanAppend, QueuedPacket, address_of, other_words, packet_words, queue_words}
 

@@ -1,16 +1,16 @@
 -- Due ticks along a queue to which a packet was appended by its due tick.
 use Rattle.std.proofs.Common.{◌≡◌, ℕ, ◌+◌, ◌<◌, List, [], ◌∷◌, ◌++◌, length, eqb, cond, refl, sym, ap, ◌∙◌, subst, arith, get_or-set_same, length-set, get_or, set}
 use Rattle.std.specs.List.{AllByRecursion}
-use Rattle.store_model.specs.Count.{times, words_of}
-use Rattle.store_model.specs.Placing.{insert_after, linked_in}
-use Rattle.store_model.specs.Changed.{InsertedAt}
-use Rattle.store_model.proofs.Counts.{hit-same, times-differ, times-within}
+use Rattle.linked_list.specs.Count.{times, words_of}
+use Rattle.linked_list.specs.Placing.{insert_after, linked_in}
+use Rattle.linked_list.specs.Changed.{InsertedAt}
+use Rattle.linked_list.proofs.Counts.{hit-same, times-differ, times-within}
 use Rattle.packet_queue.specs.Queue.{CanQueue, HasQueue, link_of, packet_size, queue_at}
 use Rattle.packet_queue.specs.Due.{due_of, is_due, last_due_link, with_due}
 use Rattle.packet_queue.specs.DueOrder.{ArrivesLast, NeverFalls}
-use Rattle.packet_queue.proofs.Changes.{due_appended, due_written}
+use Rattle.packet_queue.proofs.QueueChanges.{due_appended, due_written}
 use Rattle.packet_queue.proofs.PacketWords.{cell_after-among, due_word-no_cell, words-queued}
-use Rattle.packet_queue.proofs.Rising.{Rises, Rises-from, Rises-insert, Rises-same, Rises-to, insert_after-same, with_number, with_number-insert, with_number-same}
+use Rattle.packet_queue.proofs.NumberOrder.{Rises, Rises-from, Rises-insert, Rises-same, Rises-to, insert_after-same, with_number, with_number-insert, with_number-same}
 
 -- the packet has its own due tick
 due_of-new : (s : List ℕ) (head p due : ℕ) → CanQueue s head p → due_of (with_due s head p due) p ≡ due

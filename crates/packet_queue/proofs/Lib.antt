@@ -1,6 +1,5 @@
 pub mod PacketWords
-pub mod Rising
-pub mod Changes
+pub mod NumberOrder
+pub mod QueueChanges
 pub mod DueWords
-pub mod Filling
 pub mod AppendWords

@@ -1,12 +1,12 @@
 -- The words of queued packets: links, due ticks, and the others.
 use Rattle.std.proofs.Common.{◌≡◌, ℕ, ◌+◌, ◌<◌, ◌≤◌, List, [], ◌∷◌, sym, ap, subst, arith, inl, inr, Bool}
 use Rattle.std.proofs.lemmas.Bool.{cases_eq}
-use Rattle.store_model.specs.Count.{hit, node_words, times, words_of}
-use Rattle.store_model.specs.Chain.{cells, last_cell}
-use Rattle.store_model.specs.Placing.{cell_after}
-use Rattle.store_model.proofs.Counts.{hit-other, hit-same, times-within, times-words_more}
-use Rattle.store_model.proofs.Insertion.{times-front_cell}
-use Rattle.store_model.proofs.Places.{IsPlace, place}
+use Rattle.linked_list.specs.Count.{hit, node_words, times, words_of}
+use Rattle.linked_list.specs.Chain.{cells, last_cell}
+use Rattle.linked_list.specs.Placing.{cell_after}
+use Rattle.linked_list.proofs.Counts.{hit-other, hit-same, times-within, times-words_more}
+use Rattle.linked_list.proofs.Insertion.{times-front_cell}
+use Rattle.linked_list.proofs.Places.{IsPlace, place}
 use Rattle.packet_queue.specs.Queue.{HasQueue, link_of, packet_size, queue_at}
 
 -- a packet's link and its due tick are two of its words

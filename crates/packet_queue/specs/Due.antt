@@ -1,11 +1,14 @@
--- Queues of packets that are due at a tick. The due tick is a packet's word 4.
+-- Queues of packets that are due at a tick.
 use Rattle.std.specs.Prelude.{ℕ, ◌+◌, Bool, nat_le, ◌==◌, List, filter, slice_index, slice_set}
-use Rattle.store_model.specs.Placing.{cell_after}
+use Rattle.linked_list.specs.Placing.{cell_after, linked_in}
 use Rattle.packet_queue.specs.Queue.{link_of, queue_at}
 
--- the due tick of a packet
+-- the word that has the due tick of a packet
+abbrev pub due_word : ℕ → ℕ
+due_word p = p + 4
+
 abbrev pub due_of : List ℕ → ℕ → ℕ
-due_of s p = slice_index s (p + 4)
+due_of s p = slice_index s (due_word p)
 
 -- whether the packet is due at that tick or before
 abbrev pub is_due : List ℕ → ℕ → ℕ → Bool
@@ -21,5 +24,4 @@ last_due_link s head tick = cell_after (is_due s tick) link_of head (queue_at s 
 
 -- the store in which the packet, due at this tick, stands directly after the last one that is due no later
 abbrev pub with_due : List ℕ → ℕ → ℕ → ℕ → List ℕ
-with_due s head p due =
-    let cell = last_due_link s head due in slice_set (slice_set (slice_set s p (slice_index s cell)) cell p) (p + 4) due
+with_due s head p due = slice_set (linked_in s link_of (last_due_link s head due) p) (due_word p) due

@@ -5,5 +5,4 @@ pub mod LineNote
 pub mod Queue
 pub mod Due
 pub mod DueOrder
-pub mod Filled
 pub mod QueueWords

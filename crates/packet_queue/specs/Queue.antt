@@ -1,10 +1,9 @@
 -- Queues of packets. A packet is five words: its link, its sender, its type and two results. The first packet's address is
 -- in the head, each next one's in a link.
-use Rattle.std.specs.Prelude.{ℕ, List, slice_index, slice_set}
-use Rattle.store_model.specs.Chain.{last_cell, list_at}
-use Rattle.store_model.specs.Linked.{HasList, IsFresh}
-use Rattle.store_model.specs.Placing.{cell_before}
-use Rattle.packet_queue.specs.declared.queue.TheConstants.{NO_QUEUE}
+use Rattle.std.specs.Prelude.{ℕ, ◌-◌, ◌^◌, List, slice_set}
+use Rattle.linked_list.specs.Chain.{last_cell, list_at}
+use Rattle.linked_list.specs.Linked.{HasList, IsFresh}
+use Rattle.linked_list.specs.Placing.{without_node}
 
 -- a packet's link is its word 0
 abbrev pub link_of : ℕ → ℕ
@@ -30,10 +29,10 @@ CanQueue s head p = IsFresh s link_of packet_size head (queue_at s head) p
 abbrev pub last_link : List ℕ → ℕ → ℕ
 last_link s head = last_cell link_of head (queue_at s head)
 
--- the word that holds the link to the packet
-abbrev pub link_before : List ℕ → ℕ → ℕ → ℕ
-link_before s head p = cell_before link_of p head (queue_at s head)
+-- the link of a packet that is in no queue: all its bits are set
+abbrev pub no_queue : ℕ
+no_queue = 2 ^ 32 - 1
 
--- the store in which this word, which led to the packet, leads where the packet led, and the packet to no other
+-- the store in which the packet has gone out of the queue: it is linked out, and its link says so
 abbrev pub unlinked : List ℕ → ℕ → ℕ → List ℕ
-unlinked s cell p = slice_set (slice_set s cell (slice_index s p)) p NO_QUEUE
+unlinked s head p = slice_set (without_node s link_of head p) (link_of p) no_queue

@@ -1,7 +1,7 @@
 -- The words of queued packets, as pairs of an address and the word that stands there.
 use Rattle.std.specs.Prelude.{◌≡◌, ℕ, List, [], ◌∷◌, ◌++◌, map}
-use Rattle.store_model.specs.Owned.{AreApart, AreInside, Holds, Pairs, row_from}
-use Rattle.store_model.specs.LinkedWords.{headed_words}
+use Rattle.owned_words.specs.Owned.{AreApart, AreInside, Holds, Pairs, row_from}
+use Rattle.owned_words.specs.LinkedWords.{headed_words}
 use Rattle.packet_queue.specs.Queue.{queue_at}
 
 -- a packet: its address, and what is in its words 1 to 4

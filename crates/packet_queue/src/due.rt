@@ -1,12 +1,13 @@
 // Queues of packets that are due at a tick.
 ghost use Rattle.std.specs.Prelude.{◌≡◌};
-ghost use Rattle.store_model.specs.Placing.{insert_after};
+ghost use Rattle.linked_list.specs.Placing.{insert_after};
 ghost use Rattle.packet_queue.specs.Queue.{CanQueue, HasQueue, queue_at};
 ghost use Rattle.packet_queue.specs.Due.{is_due, with_due};
 
 use crate::due_ticks::set_due;
 use crate::places::last_due_link;
-use store_links::word;
+use crate::walk::PACKET_LINK;
+use linked_list::link_in;
 use word_store::Store;
 
 /// Puts the packet directly after the last one in the queue that is due no later, and at the front where there is none. So
@@ -19,8 +20,6 @@ pub fn append_due(store: &mut Store, head: u32, p: u32, due: u32)
     ensures words { store.new ≡ with_due store.old head p due }
 {
     let cell = last_due_link(store, head, due);
-    let next = word(store, cell);
-    store.set(p, next);
-    store.set(cell, p);
+    link_in(store, cell, p, PACKET_LINK);
     set_due(store, p, due);
 }

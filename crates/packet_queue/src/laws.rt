@@ -1,6 +1,6 @@
 // Laws of queues.
 ghost use Rattle.std.specs.Prelude.{ℕ, List, [], ◌∷◌, ◌++◌, slice_set};
-ghost use Rattle.store_model.specs.Written.{IsWritten};
+ghost use Rattle.owned_words.specs.Written.{IsWritten};
 ghost use Rattle.packet_queue.specs.Queue.{CanQueue, HasQueue, last_link};
 ghost use Rattle.packet_queue.specs.Due.{with_due};
 ghost use Rattle.packet_queue.specs.DueOrder.{ArrivesLast, NeverFalls};

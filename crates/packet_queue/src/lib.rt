@@ -6,20 +6,18 @@ mod due_ticks;
 pub mod events;
 pub mod laws;
 pub mod list_log;
-pub mod listing;
+pub mod packet_list;
 pub mod logs;
 mod places;
 pub mod queue;
 pub mod sink_log;
-#[cfg(test)]
-mod tests;
-pub mod walking;
+pub mod walk;
 
 pub use due::append_due;
 pub use events::KernelEvent;
 pub use list_log::ListLog;
-pub use listing::Packets;
+pub use packet_list::Packets;
 pub use logs::{EventLog, NoLog};
 pub use queue::{NO_QUEUE, append, remove, take};
 pub use sink_log::SinkLog;
-pub use walking::packets;
+pub use walk::packets;

@@ -1,12 +1,11 @@
 // Places in a queue, found by a walk.
-ghost use Rattle.std.specs.Prelude.{◌≡◌, None, Some, if◌then◌else◌};
-ghost use Rattle.store_model.specs.Placing.{has};
+ghost use Rattle.std.specs.Prelude.{◌≡◌};
 ghost use Rattle.packet_queue.specs.Queue as queue;
-ghost use Rattle.packet_queue.specs.Queue.{HasQueue, queue_at};
+ghost use Rattle.packet_queue.specs.Queue.{HasQueue};
 ghost use Rattle.packet_queue.specs.Due as due;
 
 use crate::due_ticks::due_of;
-use crate::walking::packets;
+use crate::walk::packets;
 use word_store::Store;
 
 /// The word that holds the last link.
@@ -33,19 +32,4 @@ pub(crate) fn last_due_link(store: &Store, head: u32, tick: u32) -> u32
         }
     }
     cell
-}
-
-/// The word that holds the link to the packet, or `None` exactly where it is not in the queue.
-pub(crate) fn link_before(store: &Store, head: u32, p: u32) -> Option<u32>
-    requires { HasQueue store.now head }
-    ensures { result ≡ (if has p (queue_at store.now head) then Some (queue.link_before store.now head p) else None) }
-{
-    let mut cell = head;
-    for q in packets(store, head) {
-        if p == q {
-            return Some(cell);
-        }
-        cell = q;
-    }
-    None
 }

@@ -1,12 +1,13 @@
 // Queues: packets come to the end, and leave from the front or from between.
 ghost use Rattle.std.specs.Prelude.{◌≡◌, ◌↔◌, [], ◌∷◌, ◌++◌, IfNone, IfSome, IsNone, IsTrue, slice_set};
 ghost use Rattle.std.specs.Bool.{OnFalse, OnTrue};
-ghost use Rattle.store_model.specs.Placing.{has, without};
-ghost use Rattle.packet_queue.specs.Queue.{CanQueue, HasQueue, last_link, link_before, queue_at, unlinked};
+ghost use Rattle.linked_list.specs.Placing.{has, without};
+ghost use Rattle.packet_queue.specs.Queue.{CanQueue, HasQueue, last_link, queue_at, unlinked};
 
-use crate::places::{last_link, link_before};
-use store_links::word;
-use word_store::Store;
+use crate::places::last_link;
+use crate::walk::PACKET_LINK;
+use linked_list::unlink;
+use word_store::{Store, word};
 
 /// The link of a packet that stands in no queue.
 pub const NO_QUEUE: u32 = 0xffff_ffff;
@@ -37,7 +38,7 @@ pub fn take(store: &mut Store, head: u32) -> Option<u32>
     if p == 0 {
         return None;
     }
-    unlink(store, head, p);
+    remove(store, head, p);
     Some(p)
 }
 
@@ -47,21 +48,12 @@ pub fn remove(store: &mut Store, head: u32, p: u32) -> bool
     ensures found { result ≡ has p (queue_at store.old head) }
     ensures queue { queue_at store.new head ≡ without p (queue_at store.old head) }
     ensures stands { HasQueue store.new head }
-    ensures words { OnTrue result (store.new ≡ unlinked store.old (link_before store.old head p) p) }
+    ensures words { OnTrue result (store.new ≡ unlinked store.old head p) }
     ensures unchanged { OnFalse result (store.new ≡ store.old) }
 {
-    let Some(cell) = link_before(store, head, p) else {
+    if !unlink(store, head, p, PACKET_LINK) {
         return false;
-    };
-    unlink(store, cell, p);
-    true
-}
-
-// Lets the word that leads to the packet lead where the packet led.
-fn unlink(store: &mut Store, cell: u32, p: u32)
-    ensures { store.new ≡ unlinked store.old cell p }
-{
-    let next = word(store, p);
-    store.set(cell, next);
+    }
     store.set(p, NO_QUEUE);
+    true
 }

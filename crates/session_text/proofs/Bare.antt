@@ -5,10 +5,10 @@ use Rattle.std.specs.List.{AllByRecursion}
 use Rattle.hex.proofs.HexLemmas.{decode_of-ok}
 use Rattle.session_text.specs.SessionForm.{AreCodeLines, AreSessionLines, IsCodeLine}
 use Rattle.session_text.specs.SessionReading.{session_of}
-use Rattle.session_text.specs.Answers.{Gives}
+use Rattle.text_reader.specs.Answers.{Gives}
 use Rattle.session_text.specs.Canonical.{AreNumbered, IsBareSession, IsCode}
-use Rattle.text_lines.specs.Lines.{lines_of}
-use Rattle.session_text.specs.declared.ends.SessionEnd.{SessionEnd}
+use Rattle.text_reader.specs.Lines.{lines_of}
+use Rattle.text_reader.specs.declared.ends.TextEnd.{TextEnd}
 use Rattle.session_text.specs.declared.sessions.Session.{Session}
 use Rattle.session_text.specs.declared.sessions.SessionLine.{SessionLine}
 use Rattle.session_text.proofs.Sound.{sound}
@@ -41,11 +41,11 @@ bare_session_of s lines h = record {
 }
 
 -- so is the session that a call gives
-pub is_bare : (text : List ℕ) (r : Result Session SessionEnd) → Gives (λ s. s) r (session_of text) → IfOk r IsBareSession
+pub is_bare : (text : List ℕ) (r : Result Session TextEnd) → Gives (λ s. s) r (session_of text) → IfOk r IsBareSession
 is_bare text (Ok s) e = bare_session_of s (lines_of text) (sound text s e)
 is_bare text (Err d) e = tt
 
 -- and its lines are numbered from 4 on
-pub is_numbered : (text : List ℕ) (r : Result Session SessionEnd) → Gives (λ s. s) r (session_of text) → IfOk r (λ s. AreNumbered 4 s.lines)
+pub is_numbered : (text : List ℕ) (r : Result Session TextEnd) → Gives (λ s. s) r (session_of text) → IfOk r (λ s. AreNumbered 4 s.lines)
 is_numbered text (Ok s) e = let h = sound text s e in are_numbered 4 s.lines h.code h.code_lines
 is_numbered text (Err d) e = tt

@@ -1,7 +1,7 @@
 -- Lines of code, one after another.
 use Rattle.std.proofs.Common.{ℕ, List, ◌++◌, Result, Ok}
-use Rattle.text_lines.specs.Refusal.{Refusal}
-use Rattle.text_lines.specs.Steps.{◌>>=◌}
+use Rattle.text_reader.specs.Refusal.{Refusal}
+use Rattle.text_reader.specs.Steps.{◌>>=◌}
 use Rattle.session_text.specs.declared.sessions.SessionLine.{SessionLine}
 
 -- the lines read before, and those read after them

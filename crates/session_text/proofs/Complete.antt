@@ -1,19 +1,17 @@
 -- Every text of a session is read.
-use Rattle.std.proofs.Common.{◌≡◌, ◌∙◌, ℕ, ◌≤◌, ◌+◌, Bool, true, Option, Some, None, Ok, List, [], ◌∷◌, ◌++◌, length, inl, inr, refl, sym, ap, arith, nat_le}
-use Rattle.std.specs.Prelude.{codes, decimal, option_and_then}
-use Rattle.std.specs.Option.{ok_or}
+use Rattle.std.proofs.Common.{◌≡◌, ◌∙◌, ℕ, ◌≤◌, ◌+◌, true, Some, None, Ok, List, [], ◌∷◌, ◌++◌, length, inl, inr, refl, sym, ap, arith, nat_le}
+use Rattle.std.specs.Prelude.{codes, decimal}
 use Rattle.std.proofs.lemmas.Bool.{cases_eq}
 use Rattle.std.proofs.lemmas.Bool.Decides.{nat_tests}
 use Rattle.std.proofs.lemmas.Fmt.{decimal_digit}
-use Rattle.text_lines.specs.Lines.{lines_of}
-use Rattle.session_text.specs.Fields.{IsNumberLine, after_word, number_of}
-use Rattle.text_lines.specs.Refusal.{refusal}
+use Rattle.text_reader.specs.Fields.{IsNumberLine, after_word}
+use Rattle.text_reader.specs.Lines.{lines_of}
+use Rattle.text_reader.proofs.FieldLemmas.{after_word-again, number_line-again}
 use Rattle.session_text.specs.SessionForm.{AreCodeLines, AreSessionLines, IsBare, IsSession, IsVersionLine, is_store_size, most_steps}
-use Rattle.session_text.specs.SessionReading.{bare_session, body_lines, code_lines, go_line, head_lines, number_after, number_line, session_lines, session_of, store_line, version_line}
+use Rattle.session_text.specs.SessionReading.{bare_session, body_lines, code_lines, go_line, head_lines, session_lines, session_of, store_line, version_line}
 use Rattle.session_text.specs.declared.sessions.Session.{Session}
 use Rattle.session_text.specs.declared.sessions.SessionLine.{SessionLine}
 use Rattle.session_text.proofs.Parts.{HasBody, HasHead}
-use Rattle.session_text.proofs.Words.{after_again, number_again}
 
 -- a version line gives its version
 pub version_again : (v : ℕ) (line : List ℕ) → IsVersionLine v line → version_line line ≡ Ok v
@@ -30,23 +28,12 @@ version_again v line h =
           rw (e, two) refl
     ]
 
--- a word and a number give the number
-pub number_after_again : (word : List ℕ) (n v : ℕ) (line : List ℕ) → IsNumberLine word v line → number_after word n line ≡ Ok v
-number_after_again word n v line h =
-    ap (number_after word n) h.1
-    ∙ ap (λ (o : Option (List ℕ)). ok_or (option_and_then number_of o) (refusal n 1)) (after_again word h.0)
-    ∙ ap (λ (o : Option ℕ). ok_or o (refusal n 1)) (number_again h.0 v h.2)
-
--- and so does a number in its range
-pub number_line_again : (word : List ℕ) (is_in_range : ℕ → Bool) (n v : ℕ) (line : List ℕ) → IsNumberLine word v line → is_in_range v ≡ true → number_line word is_in_range n line ≡ Ok v
-number_line_again word is_in_range n v line h t = rw (number_after_again word n v line h, t) refl
-
 -- a head gives its version, its store and the rest
 pub head_again : (lines : List (List ℕ)) (version store : ℕ) (rest : List (List ℕ)) → HasHead lines version store rest → head_lines lines ≡ Ok (version, store, rest)
 unfolding head_lines
 head_again lines version store rest h =
     let v = version_again version h.first h.version_line in
-    let s : store_line version h.second ≡ Ok store = number_line_again (codes "STORE ") (is_store_size version) 2 store h.second h.store_line h.store_size in
+    let s : store_line version h.second ≡ Ok store = number_line-again (codes "STORE ") (is_store_size version) 2 store h.second h.store_line h.store_size in
     rw (h.all, v, s) refl
 
 -- lines of code before another line give their bytes
@@ -57,7 +44,7 @@ code_again n [] (l ∷ ls) last more none h = absurd h
 code_again n (c ∷ cs) [] last more none h = absurd h
 code_again n (c ∷ cs) (l ∷ ls) last more none h =
     let line = h.0 in
-    let some : after_word (codes ":") l ≡ Some line.0 = ap (after_word (codes ":")) line.2 ∙ after_again (codes ":") line.0 in
+    let some : after_word (codes ":") l ≡ Some line.0 = ap (after_word (codes ":")) line.2 ∙ after_word-again (codes ":") line.0 in
     rw (some, line.3, code_again (n + 1) cs ls last more none h.1, line.4) refl
 
 -- a line that is a word and a number is no line of code, unless the word begins with a colon
@@ -71,7 +58,7 @@ body_again lines code go h =
     let n = 4 + length code in
     let c : code_lines 4 lines ≡ Ok (code, h.last ∷ []) = ap (code_lines 4) h.all ∙ code_again 4 code h.front h.last [] (go_is_no_code go h.last h.go_line) h.code_lines in
     let within : nat_le go most_steps ≡ true = let s = h.steps in grind (arith, nat_tests) in
-    let g : go_line n h.last ≡ Ok go = number_line_again (codes "GO ") (λ v. nat_le v most_steps) n go h.last h.go_line within in
+    let g : go_line n h.last ≡ Ok go = number_line-again (codes "GO ") (λ v. nat_le v most_steps) n go h.last h.go_line within in
     rw (c, g) refl
 
 -- a bare session is the one that reading makes of its parts

@@ -1,7 +1,7 @@
 -- The parts of a session's text: its head, and its code and steps.
 use Rattle.std.proofs.Common.{◌≡◌, ℕ, ◌≤◌, List, [], ◌∷◌, ◌++◌, subst}
 use Rattle.std.specs.Prelude.{codes, IsTrue}
-use Rattle.session_text.specs.Fields.{IsNumberLine}
+use Rattle.text_reader.specs.Fields.{IsNumberLine}
 use Rattle.session_text.specs.SessionForm.{AreCodeLines, IsVersionLine, is_store_size, most_steps}
 use Rattle.session_text.specs.declared.sessions.SessionLine.{SessionLine}
 

@@ -1,68 +1,24 @@
 -- What is read is a session's text.
 use Rattle.std.proofs.Common.{◌≡◌, ◌∙◌, ℕ, ◌<◌, ◌≤◌, ◌+◌, Bool, true, false, cond, Option, Some, None, Result, Ok, Err, List, [], ◌∷◌, ◌++◌, length, refl, sym, ap, subst, arith, nat_le}
-use Rattle.std.specs.Prelude.{codes, option_and_then}
-use Rattle.std.specs.Option.{ok_or, option_map_or}
+use Rattle.std.specs.Prelude.{codes}
+use Rattle.std.specs.Option.{option_map_or}
 use Rattle.std.specs.Str.{bytes_eq}
 use Rattle.std.proofs.lemmas.Bool.Decides.{nat_tests}
+use Rattle.std.proofs.lemmas.Fmt.{decimal_digit}
 use Rattle.std.proofs.lemmas.Slice.Eq.{bytes_eq-Decides}
 use Rattle.hex.specs.Hex.{decode_of}
 use Rattle.hex.specs.declared.error.FromHexError.{FromHexError}
-use Rattle.session_text.specs.Fields.{IsNumberLine, after_word, number_of}
-use Rattle.text_lines.specs.Refusal.{Refusal, refusal}
-use Rattle.text_lines.specs.Steps.{◌>>=◌}
-use Rattle.session_text.specs.SessionForm.{AreSessionLines, IsSession, IsVersionLine, code_line, is_store_size, most_steps}
-use Rattle.session_text.specs.SessionReading.{bare_line, bare_session, body_lines, bytes_or_refusal, code_lines, end_of_text, first_line, go_line, head_lines, number_after, number_line, session_lines, session_of, store_line, tick_line, version_line, with_code}
+use Rattle.text_reader.specs.Fields.{after_word, end_of_text, first_line, number_line}
+use Rattle.text_reader.specs.Lines.{lines_of}
+use Rattle.text_reader.specs.Refusal.{Refusal, refusal}
+use Rattle.text_reader.specs.Steps.{◌>>=◌}
+use Rattle.text_reader.proofs.FieldLemmas.{after_word-ok, end_of_text-ok, first_line-ok, number_line-ok}
+use Rattle.text_reader.proofs.StepLemmas.{Ok-same, bind-ok}
+use Rattle.session_text.specs.SessionForm.{AreSessionLines, IsSession, IsVersionLine, code_line, is_period, is_store_size, most_steps}
+use Rattle.session_text.specs.SessionReading.{bare_line, bare_session, body_lines, bytes_or_refusal, code_lines, go_line, head_lines, session_lines, session_of, store_line, tick_line, version_line, with_code}
 use Rattle.session_text.specs.declared.sessions.Session.{Session}
 use Rattle.session_text.specs.declared.sessions.SessionLine.{SessionLine}
 use Rattle.session_text.proofs.Parts.{HasBody, HasCode, HasHead, body_same, code_same, head_same}
-use Rattle.session_text.proofs.Words.{after_ok, number_ok}
-use Rattle.text_lines.specs.Lines.{lines_of}
-use Rattle.std.proofs.lemmas.Fmt.{decimal_digit}
-use Rattle.std.proofs.Common.{◌&&◌}
-
--- the value of a step that was not refused
-pub bind_ok : {A B : Type 0} (r : Result A Refusal) (f : A → Result B Refusal) (y : B) → (r >>= f) ≡ Ok y → (x : A) × (r ≡ Ok x) × (f x ≡ Ok y)
-bind_ok (Ok x) f y e = (x, refl, e)
-bind_ok (Err d) f y e = cc
-
--- two values of one result
-abbrev pub done : {A : Type 0} → A → Result A Refusal
-done x = Ok x
-
--- they are one value
-pub ok_is : {A : Type 0} (x y : A) → done x ≡ done y → x ≡ y
-ok_is x y e = cc
-
--- a test that was not refused
-guard_ok : {A : Type 0} (b : Bool) (x : A) (d : Refusal) (y : A) → cond b (Ok x) (Err d) ≡ Ok y → (b ≡ true) × (x ≡ y)
-guard_ok true x d y e = (refl, cc)
-guard_ok false x d y e = cc
-
--- a value that is there
-ok_or_some : {A : Type 0} (o : Option A) (d : Refusal) (x : A) → ok_or o d ≡ Ok x → o ≡ Some x
-ok_or_some None d x e = cc
-ok_or_some (Some y) d x e = cc
-
--- the first line was one
-pub first_ok : (n : ℕ) (lines : List (List ℕ)) (x : List ℕ × List (List ℕ)) → first_line n lines ≡ Ok x → lines ≡ x.0 ∷ x.1
-first_ok n [] x e = cc
-first_ok n (line ∷ lines) x e = let p : (line, lines) ≡ x = cc in ap (λ (q : List ℕ × List (List ℕ)). q.0 ∷ q.1) p
-
--- the number behind a word, by what follows the word
-number_in : (word line : List ℕ) (n : ℕ) (o : Option (List ℕ)) → after_word word line ≡ o → option_and_then number_of o ≡ Some n → IsNumberLine word n line
-number_in word line n None e f = cc
-number_in word line n (Some digits) e f = (digits, after_ok word line digits e, number_ok digits n f)
-
--- a line that gave a number is a word and the number
-pub number_after_ok : (word : List ℕ) (n : ℕ) (line : List ℕ) (v : ℕ) → number_after word n line ≡ Ok v → IsNumberLine word v line
-number_after_ok word n line v e = number_in word line v (after_word word line) refl (ok_or_some _ _ v e)
-
--- and the number is in its range
-pub number_line_ok : (word : List ℕ) (is_in_range : ℕ → Bool) (n : ℕ) (line : List ℕ) (v : ℕ) → number_line word is_in_range n line ≡ Ok v → IsNumberLine word v line × (is_in_range v ≡ true)
-number_line_ok word is_in_range n line v e =
-    let b = bind_ok (number_after word n line) (λ x. cond (is_in_range x) (Ok x) (Err (refusal n 2))) v e in
-    let g = guard_ok (is_in_range b.0) b.0 (refusal n 2) v b.2 in
-    (subst (λ (x : ℕ). IsNumberLine word x line) g.1 (number_after_ok word n line b.0 b.1), subst (λ (x : ℕ). is_in_range x ≡ true) g.1 g.0)
 
 -- a line that is this version's
 version_is : (line : List ℕ) (n v : ℕ) → n < 10 → 1 ≤ n → n ≤ 2 → line ≡ codes "TRIPOS " ++ (48 + n) ∷ [] → n ≡ v → IsVersionLine v line
@@ -87,11 +43,11 @@ head_by : (lines : List (List ℕ)) (x : ℕ × ℕ × List (List ℕ)) (first :
     → first_line 1 lines ≡ Ok first → version_line first.0 ≡ Ok version → first_line 2 first.1 ≡ Ok second → store_line version second.0 ≡ Ok store
     → (version, store, second.1) ≡ x → HasHead lines x.0 x.1 x.2
 head_by lines x first version second store e1 e2 e3 e4 made =
-    let n = number_line_ok (codes "STORE ") (is_store_size version) 2 second.0 store e4 in
+    let n = number_line-ok (codes "STORE ") (is_store_size version) 2 second.0 store e4 in
     head_same lines (version, store, second.1) x made (record {
       first = first.0;
       second = second.0;
-      all = first_ok 1 lines first e1 ∙ ap (λ (ls : List (List ℕ)). first.0 ∷ ls) (first_ok 2 first.1 second e3);
+      all = first_line-ok 1 lines first e1 ∙ ap (λ (ls : List (List ℕ)). first.0 ∷ ls) (first_line-ok 2 first.1 second e3);
       version_line = version_ok first.0 version e2;
       store_line = n.0;
       store_size = n.1;
@@ -101,16 +57,16 @@ head_by lines x first version second store e1 e2 e3 e4 made =
 pub head_ok : (lines : List (List ℕ)) (x : ℕ × ℕ × List (List ℕ)) → head_lines lines ≡ Ok x → HasHead lines x.0 x.1 x.2
 unfolding head_lines
 head_ok lines x e =
-    let a = bind_ok (first_line 1 lines) (λ first. version_line first.0 >>= λ version. first_line 2 first.1 >>= λ second. store_line version second.0 >>= λ store. Ok (version, store, second.1)) x e in
-    let b = bind_ok (version_line a.0.0) (λ version. first_line 2 a.0.1 >>= λ second. store_line version second.0 >>= λ store. Ok (version, store, second.1)) x a.2 in
-    let c = bind_ok (first_line 2 a.0.1) (λ second. store_line b.0 second.0 >>= λ store. Ok (b.0, store, second.1)) x b.2 in
-    let d = bind_ok (store_line b.0 c.0.0) (λ store. Ok (b.0, store, c.0.1)) x c.2 in
-    head_by lines x a.0 b.0 c.0 d.0 a.1 b.1 c.1 d.1 (ok_is (b.0, d.0, c.0.1) x d.2)
+    let a = bind-ok (first_line 1 lines) (λ first. version_line first.0 >>= λ version. first_line 2 first.1 >>= λ second. store_line version second.0 >>= λ store. Ok (version, store, second.1)) x e in
+    let b = bind-ok (version_line a.0.0) (λ version. first_line 2 a.0.1 >>= λ second. store_line version second.0 >>= λ store. Ok (version, store, second.1)) x a.2 in
+    let c = bind-ok (first_line 2 a.0.1) (λ second. store_line b.0 second.0 >>= λ store. Ok (b.0, store, second.1)) x b.2 in
+    let d = bind-ok (store_line b.0 c.0.0) (λ store. Ok (b.0, store, c.0.1)) x c.2 in
+    head_by lines x a.0 b.0 c.0 d.0 a.1 b.1 c.1 d.1 (Ok-same (b.0, d.0, c.0.1) x d.2)
 
 -- a line with a clock is never accepted
 tick_refused : (line : List ℕ) (u : Unit {0}) → tick_line line ≡ Ok u → ⊥
 tick_refused line u e =
-    let b = bind_ok (number_line (codes "TICK ") (λ n. nat_le 1 n && nat_le n 1000000) 3 line) (λ period. Err (refusal 3 0)) u e in
+    let b = bind-ok (number_line (codes "TICK ") is_period 3 line) (λ period. Err (refusal 3 0)) u e in
     let f = b.2 in cc
 
 -- a third line that was accepted, by the test
@@ -135,7 +91,7 @@ one_more n line lines x digits bytes more w d rest made =
     code_same n (line ∷ lines) (code_line n bytes ∷ more.0, more.1) x made (record {
       front = line ∷ rest.front;
       all = ap (λ (ls : List (List ℕ)). line ∷ ls) rest.all;
-      code_lines = ((digits, bytes, after_ok (codes ":") line digits w, d, refl), rest.code_lines);
+      code_lines = ((digits, bytes, after_word-ok (codes ":") line digits w, d, refl), rest.code_lines);
     })
 
 -- lines that gave code, by what follows a colon in the first of them
@@ -147,9 +103,9 @@ code_by n line lines x None w next e =
     let made : ([], line ∷ lines) ≡ x = cc in
     code_same n (line ∷ lines) ([], line ∷ lines) x made (record { front = []; all = refl; code_lines = tt })
 code_by n line lines x (Some digits) w next e =
-    let a = bind_ok (bytes_or_refusal n (decode_of digits)) (λ bytes. code_lines (n + 1) lines >>= λ more. Ok (code_line n bytes ∷ more.0, more.1)) x e in
-    let b = bind_ok (code_lines (n + 1) lines) (λ more. Ok (code_line n a.0 ∷ more.0, more.1)) x a.2 in
-    one_more n line lines x digits a.0 b.0 w (bytes_ok n (decode_of digits) a.0 a.1) (next b.0 b.1) (ok_is (code_line n a.0 ∷ b.0.0, b.0.1) x b.2)
+    let a = bind-ok (bytes_or_refusal n (decode_of digits)) (λ bytes. code_lines (n + 1) lines >>= λ more. Ok (code_line n bytes ∷ more.0, more.1)) x e in
+    let b = bind-ok (code_lines (n + 1) lines) (λ more. Ok (code_line n a.0 ∷ more.0, more.1)) x a.2 in
+    one_more n line lines x digits a.0 b.0 w (bytes_ok n (decode_of digits) a.0 a.1) (next b.0 b.1) (Ok-same (code_line n a.0 ∷ b.0.0, b.0.1) x b.2)
 
 -- lines that gave code begin with it
 pub code_ok : (n : ℕ) (lines : List (List ℕ)) (x : List SessionLine × List (List ℕ)) → code_lines n lines ≡ Ok x → HasCode n lines x.0 x.1
@@ -158,18 +114,13 @@ code_ok n [] x e =
     code_same n [] ([], []) x made (record { front = []; all = refl; code_lines = tt })
 code_ok n (line ∷ lines) x e = code_by n line lines x (after_word (codes ":") line) refl (λ y q. code_ok (n + 1) lines y q) e
 
--- nothing followed
-end_ok : (n : ℕ) (lines : List (List ℕ)) (u : Unit {0}) → end_of_text n lines ≡ Ok u → lines ≡ []
-end_ok n [] u e = refl
-end_ok n (line ∷ lines) u e = cc
-
 -- the steps of the body, one by one
 body_by : (lines : List (List ℕ)) (x : List SessionLine × ℕ) (code : List SessionLine × List (List ℕ)) (n : ℕ) (last : List ℕ × List (List ℕ)) (go : ℕ)
     → HasCode 4 lines code.0 code.1 → first_line n code.1 ≡ Ok last → go_line n last.0 ≡ Ok go → last.1 ≡ [] → (code.0, go) ≡ x → HasBody lines x.0 x.1
 body_by lines x code n last go h e1 e2 e3 made =
-    let g = number_line_ok (codes "GO ") (λ v. nat_le v most_steps) n last.0 go e2 in
+    let g = number_line-ok (codes "GO ") (λ v. nat_le v most_steps) n last.0 go e2 in
     let within : nat_le go most_steps ≡ true = g.1 in
-    let rest : code.1 ≡ last.0 ∷ [] = first_ok n code.1 last e1 ∙ ap (λ (ls : List (List ℕ)). last.0 ∷ ls) e3 in
+    let rest : code.1 ≡ last.0 ∷ [] = first_line-ok n code.1 last e1 ∙ ap (λ (ls : List (List ℕ)). last.0 ∷ ls) e3 in
     body_same lines (code.0, go) x made (record {
       front = h.front;
       last = last.0;
@@ -183,12 +134,12 @@ body_by lines x code n last go h e1 e2 e3 made =
 pub body_ok : (lines : List (List ℕ)) (x : List SessionLine × ℕ) → body_lines lines ≡ Ok x → HasBody lines x.0 x.1
 unfolding body_lines
 body_ok lines x e =
-    let a = bind_ok (code_lines 4 lines) (λ code. first_line (4 + length code.0) code.1 >>= λ last. go_line (4 + length code.0) last.0 >>= λ go. end_of_text (5 + length code.0) last.1 >>= λ end. Ok (code.0, go)) x e in
+    let a = bind-ok (code_lines 4 lines) (λ code. first_line (4 + length code.0) code.1 >>= λ last. go_line (4 + length code.0) last.0 >>= λ go. end_of_text (5 + length code.0) last.1 >>= λ end. Ok (code.0, go)) x e in
     let n = 4 + length a.0.0 in
-    let b = bind_ok (first_line n a.0.1) (λ last. go_line n last.0 >>= λ go. end_of_text (5 + length a.0.0) last.1 >>= λ end. Ok (a.0.0, go)) x a.2 in
-    let c = bind_ok (go_line n b.0.0) (λ go. end_of_text (5 + length a.0.0) b.0.1 >>= λ end. Ok (a.0.0, go)) x b.2 in
-    let d = bind_ok (end_of_text (5 + length a.0.0) b.0.1) (λ end. Ok (a.0.0, c.0)) x c.2 in
-    body_by lines x a.0 n b.0 c.0 (code_ok 4 lines a.0 a.1) b.1 c.1 (end_ok (5 + length a.0.0) b.0.1 d.0 d.1) (ok_is (a.0.0, c.0) x d.2)
+    let b = bind-ok (first_line n a.0.1) (λ last. go_line n last.0 >>= λ go. end_of_text (5 + length a.0.0) last.1 >>= λ end. Ok (a.0.0, go)) x a.2 in
+    let c = bind-ok (go_line n b.0.0) (λ go. end_of_text (5 + length a.0.0) b.0.1 >>= λ end. Ok (a.0.0, go)) x b.2 in
+    let d = bind-ok (end_of_text (5 + length a.0.0) b.0.1) (λ end. Ok (a.0.0, c.0)) x c.2 in
+    body_by lines x a.0 n b.0 c.0 (code_ok 4 lines a.0 a.1) b.1 c.1 (end_of_text-ok (5 + length a.0.0) b.0.1 d.0 d.1) (Ok-same (a.0.0, c.0) x d.2)
 
 -- the lines of equal sessions
 session_same : (lines : List (List ℕ)) (x y : Session) → x ≡ y → AreSessionLines x lines → AreSessionLines y lines
@@ -220,11 +171,11 @@ session_by lines s head third body h e1 e2 b made =
 sound_lines : (lines : List (List ℕ)) (s : Session) → session_lines lines ≡ Ok s → AreSessionLines s lines
 unfolding session_lines
 sound_lines lines s e =
-    let a = bind_ok (head_lines lines) (λ head. first_line 3 head.2 >>= λ third. bare_line third.0 >>= λ bare. body_lines third.1 >>= λ body. Ok (bare_session head.0 head.1 body.0 body.1)) s e in
-    let b = bind_ok (first_line 3 a.0.2) (λ third. bare_line third.0 >>= λ bare. body_lines third.1 >>= λ body. Ok (bare_session a.0.0 a.0.1 body.0 body.1)) s a.2 in
-    let c = bind_ok (bare_line b.0.0) (λ bare. body_lines b.0.1 >>= λ body. Ok (bare_session a.0.0 a.0.1 body.0 body.1)) s b.2 in
-    let d = bind_ok (body_lines b.0.1) (λ body. Ok (bare_session a.0.0 a.0.1 body.0 body.1)) s c.2 in
-    session_by lines s a.0 b.0 d.0 (head_ok lines a.0 a.1) (first_ok 3 a.0.2 b.0 b.1) (bare_ok b.0.0 c.0 c.1) (body_ok b.0.1 d.0 d.1) (ok_is (bare_session a.0.0 a.0.1 d.0.0 d.0.1) s d.2)
+    let a = bind-ok (head_lines lines) (λ head. first_line 3 head.2 >>= λ third. bare_line third.0 >>= λ bare. body_lines third.1 >>= λ body. Ok (bare_session head.0 head.1 body.0 body.1)) s e in
+    let b = bind-ok (first_line 3 a.0.2) (λ third. bare_line third.0 >>= λ bare. body_lines third.1 >>= λ body. Ok (bare_session a.0.0 a.0.1 body.0 body.1)) s a.2 in
+    let c = bind-ok (bare_line b.0.0) (λ bare. body_lines b.0.1 >>= λ body. Ok (bare_session a.0.0 a.0.1 body.0 body.1)) s b.2 in
+    let d = bind-ok (body_lines b.0.1) (λ body. Ok (bare_session a.0.0 a.0.1 body.0 body.1)) s c.2 in
+    session_by lines s a.0 b.0 d.0 (head_ok lines a.0 a.1) (first_line-ok 3 a.0.2 b.0 b.1) (bare_ok b.0.0 c.0 c.1) (body_ok b.0.1 d.0 d.1) (Ok-same (bare_session a.0.0 a.0.1 d.0.0 d.0.1) s d.2)
 
 -- a text that gave a session is a text of it
 pub sound : (text : List ℕ) (s : Session) → session_of text ≡ Ok s → IsSession text s

@@ -2,7 +2,7 @@
 use Rattle.std.specs.Prelude.{ℕ, ◌≡◌, ◌+◌, ◌≤◌, IsTrue, List, [], ◌∷◌, ◌++◌, map, codes, decimal}
 use Rattle.std.specs.List.{AllByRecursion}
 use Rattle.hex.specs.Hex.{IsBytes, encode_lower}
-use Rattle.text_lines.specs.Lines.{text_of_lines}
+use Rattle.text_reader.specs.Lines.{text_of_lines}
 use Rattle.session_text.specs.SessionForm.{IsBare, IsVersion, is_store_size, most_steps}
 use Rattle.session_text.specs.declared.sessions.Session.{Session}
 use Rattle.session_text.specs.declared.sessions.SessionLine.{SessionLine}
@@ -27,6 +27,15 @@ pub record IsBareSession (s : Session) : Type 0 where
 abbrev pub AreNumbered : ℕ → List SessionLine → Type 0
 AreNumbered n [] = Unit {0}
 AreNumbered n (line ∷ lines) = (line.line ≡ n) × AreNumbered (n + 1) lines
+
+-- the lines with their numbers from n on, and all else as it was
+abbrev pub numbered : ℕ → List SessionLine → List SessionLine
+numbered n [] = []
+numbered n (line ∷ lines) = record line { line = n } ∷ numbered (n + 1) lines
+
+-- the session with the numbers that its lines have in its text
+abbrev pub with_numbers : Session → Session
+with_numbers s = record s { lines = numbered 4 s.lines }
 
 -- the text of a line: a colon, and bytes in lower-case hex (a bare session has no other lines)
 abbrev pub form_text : LineForm → List ℕ

@@ -1,6 +1,5 @@
-pub mod Fields
-pub mod SessionForm
-pub mod SessionReading
-pub mod Answers
 pub mod Canonical
 pub mod FirstError
+pub mod Forms
+pub mod SessionForm
+pub mod SessionReading

@@ -1,8 +1,8 @@
 -- What a session's text is, line by line.
 use Rattle.std.specs.Prelude.{ℕ, ◌≡◌, ◌+◌, ◌%◌, ◌≤◌, ◌&&◌, ◌==◌, if◌then◌else◌, Bool, true, false, IsTrue, List, [], ◌∷◌, ◌++◌, Ok, codes, decimal, nat_le}
 use Rattle.hex.specs.Hex.{decode_of}
-use Rattle.text_lines.specs.Lines.{lines_of}
-use Rattle.session_text.specs.Fields.{IsNumberLine}
+use Rattle.text_reader.specs.Lines.{lines_of}
+use Rattle.text_reader.specs.Fields.{IsNumberLine}
 use Rattle.session_text.specs.declared.sessions.Session.{Session}
 use Rattle.session_text.specs.declared.sessions.SessionLine.{SessionLine}
 use Rattle.session_text.specs.declared.sessions.LineForm.TheVariants.{Code}
@@ -19,6 +19,10 @@ most_words version = if version == 1 then 262144 else 4194304
 abbrev pub is_store_size : ℕ → ℕ → Bool
 is_store_size version words = nat_le 1024 words && nat_le words (most_words version) && (words % 2 == 0)
 
+-- the steps from one tick of a clock to the next
+abbrev pub is_period : ℕ → Bool
+is_period steps = nat_le 1 steps && nat_le steps 1000000
+
 -- the most steps of a session
 abbrev pub most_steps : ℕ
 most_steps = 4000000000
@@ -33,7 +37,8 @@ code_line n bytes = record { line = n; form = Code bytes }
 
 -- line n of a text is a colon and the hex digits of bytes
 abbrev pub IsCodeLine : ℕ → SessionLine → List ℕ → Type 0
-IsCodeLine n code line = (digits bytes : List ℕ) × (line ≡ codes ":" ++ digits) × (decode_of digits ≡ Ok bytes) × (code ≡ code_line n bytes)
+IsCodeLine n code line =
+    (digits bytes : List ℕ) × (line ≡ codes ":" ++ digits) × (decode_of digits ≡ Ok bytes) × (code ≡ code_line n bytes)
 
 -- the lines of a text from line n on are such lines, one each
 abbrev pub AreCodeLines : ℕ → List SessionLine → List (List ℕ) → Type 0

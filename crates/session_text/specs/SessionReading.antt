@@ -1,31 +1,16 @@
 -- A session read line by line, or the first line in error.
-use Rattle.std.specs.Prelude.{ℕ, ◌+◌, ◌&&◌, Bool, true, false, if◌then◌else◌, List, [], ◌∷◌, length, Result, Ok, Err, codes, nat_le, option_and_then}
-use Rattle.std.specs.Option.{option_map_or, ok_or}
+use Rattle.std.specs.Prelude.{ℕ, ◌≡◌, ◌+◌, true, false, if◌then◌else◌, List, [], ◌∷◌, length, Result, Ok, Err, codes, nat_le}
+use Rattle.std.specs.Option.{option_map_or}
 use Rattle.std.specs.Str.{bytes_eq}
 use Rattle.hex.specs.Hex.{decode_of}
 use Rattle.hex.specs.declared.error.FromHexError.{FromHexError}
-use Rattle.text_lines.specs.Lines.{lines_of}
-use Rattle.session_text.specs.Fields.{after_word, number_of}
-use Rattle.text_lines.specs.Refusal.{Refusal, refusal}
-use Rattle.text_lines.specs.Steps.{◌>>=◌}
-use Rattle.session_text.specs.SessionForm.{code_line, is_store_size, most_steps}
+use Rattle.text_reader.specs.Fields.{after_word, end_of_text, first_line, number_line}
+use Rattle.text_reader.specs.Lines.{lines_of}
+use Rattle.text_reader.specs.Refusal.{Refusal, refusal}
+use Rattle.text_reader.specs.Steps.{◌>>=◌}
+use Rattle.session_text.specs.SessionForm.{code_line, is_period, is_store_size, most_steps}
 use Rattle.session_text.specs.declared.sessions.Session.{Session}
 use Rattle.session_text.specs.declared.sessions.SessionLine.{SessionLine}
-
--- line n and those after it, unless the text has ended
-abbrev pub first_line : ℕ → List (List ℕ) → Result (List ℕ × List (List ℕ)) Refusal
-first_line n [] = Err (refusal n 3)
-first_line n (line ∷ lines) = Ok (line, lines)
-
--- the number of line n, which is a word and a number
-abbrev pub number_after : List ℕ → ℕ → List ℕ → Result ℕ Refusal
-number_after word n line = ok_or (option_and_then number_of (after_word word line)) (refusal n 1)
-
--- the same, where the number is in its range
-abbrev pub number_line : List ℕ → (ℕ → Bool) → ℕ → List ℕ → Result ℕ Refusal
-number_line word is_in_range n line = do
-  value ← number_after word n line
-  if is_in_range value then Ok value else Err (refusal n 2)
 
 -- the version, of line 1
 abbrev pub version_line : List ℕ → Result ℕ Refusal
@@ -41,7 +26,7 @@ store_line version line = number_line (codes "STORE ") (is_store_size version) 2
 -- Until machines with a clock are served, a lawful `TICK` in line 3 has code 0.
 abbrev pub tick_line : {A : Type 0} → List ℕ → Result A Refusal
 tick_line line = do
-  period ← number_line (codes "TICK ") (λ n. nat_le 1 n && nat_le n 1000000) 3 line
+  period ← number_line (codes "TICK ") is_period 3 line
   Err (refusal 3 0)
 
 -- line 3 says that the machine is bare; the one other form of it is a `TICK` line
@@ -54,7 +39,8 @@ bytes_or_refusal n (Ok bytes) = Ok bytes
 bytes_or_refusal n (Err e) = Err (refusal n 1)
 
 -- line n as a line of code, before the others of its kind
-abbrev pub with_code : ℕ → Result (List ℕ) FromHexError → Result (List SessionLine × List (List ℕ)) Refusal → Result (List SessionLine × List (List ℕ)) Refusal
+abbrev pub with_code : ℕ → Result (List ℕ) FromHexError → Result (List SessionLine × List (List ℕ)) Refusal
+    → Result (List SessionLine × List (List ℕ)) Refusal
 with_code n digits others = do
   bytes ← bytes_or_refusal n digits
   more ← others
@@ -72,11 +58,6 @@ code_lines n (line ∷ lines) =
 -- the steps, of line n
 abbrev pub go_line : ℕ → List ℕ → Result ℕ Refusal
 go_line n line = number_line (codes "GO ") (λ go. nat_le go most_steps) n line
-
--- nothing follows `GO`
-abbrev pub end_of_text : ℕ → List (List ℕ) → Result Unit Refusal
-end_of_text n [] = Ok tt
-end_of_text n (line ∷ lines) = Err (refusal n 1)
 
 -- the version and the store, and the lines after those two
 unfoldable pub head_lines : List (List ℕ) → Result (ℕ × ℕ × List (List ℕ)) Refusal
@@ -98,7 +79,17 @@ body_lines lines = do
 
 -- the session of a bare machine
 abbrev pub bare_session : ℕ → ℕ → List SessionLine → ℕ → Session
-bare_session version store code go = record { version = version; store = store; period = 0; bare = true; resident = false; debug = false; lines = code; keys = []; go = go }
+bare_session version store code go = record {
+  version = version;
+  store = store;
+  period = 0;
+  bare = true;
+  resident = false;
+  debug = false;
+  lines = code;
+  keys = [];
+  go = go;
+}
 
 -- the session of all the lines
 unfoldable pub session_lines : List (List ℕ) → Result Session Refusal
@@ -112,3 +103,7 @@ session_lines lines = do
 -- the session of a text
 abbrev pub session_of : List ℕ → Result Session Refusal
 session_of text = session_lines (lines_of text)
+
+-- the text is refused at line n with this code
+abbrev pub IsRefused : List ℕ → ℕ → ℕ → Type 0
+IsRefused text n code = session_of text ≡ Err (refusal n code)

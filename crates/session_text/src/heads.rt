@@ -1,35 +1,18 @@
 // The head of a session: its first three lines.
-ghost use Rattle.std.specs.Prelude.{◌≡◌, ◌+◌, ◌≤◌, ◌<◌, ◌^◌, length, IfOk, OnOk};
-ghost use Rattle.text_lines.specs.Lines.{lines_of};
+ghost use Rattle.std.specs.Prelude.{◌≡◌, ◌+◌, ◌≤◌, length, IfOk, OnOk};
+ghost use Rattle.text_reader.specs.Answers.{Gives};
+ghost use Rattle.text_reader.specs.Lines.{lines_of};
 ghost use Rattle.session_text.specs.SessionForm.{is_store_size};
-ghost use Rattle.session_text.specs.Answers.{Gives};
-ghost use Rattle.session_text.specs.SessionReading.{bare_line, first_line, head_lines, number_after, store_line, tick_line, version_line};
+ghost use Rattle.session_text.specs.SessionReading.{bare_line, head_lines, store_line, tick_line, version_line};
 
 use crate::SessionEnd;
-use crate::fields::{after_word, number};
-use text_lines::split_line;
-
-/// Line n, and the text after it; code 3 where the text has ended.
-pub fn first_line(n: u32, text: &[u8]) -> Result<(&[u8], &[u8]), SessionEnd>
-    ensures value { Gives (λ x. (x.0.now, lines_of x.1.now)) result (first_line n (lines_of text.now)) }
-    ensures shorter { IfOk result (λ x. length x.0.now + length x.1.now ≤ length text.now) }
-{
-    split_line(text).ok_or(SessionEnd::Bad { line: n, code: 3 })
-}
-
-/// The number of line n, where that is a word and a number; else code 1.
-pub fn number_after(word: &[u8], n: u32, line: &[u8]) -> Result<u64, SessionEnd>
-    ensures { Gives (λ x. x) result (number_after word.now n line.now) }
-{
-    after_word(word, line)
-        .and_then(number)
-        .ok_or(SessionEnd::Bad { line: n, code: 1 })
-}
+use text_reader::{first_line, number_after};
 
 /// The version and the size of the store, and the text after their two lines.
 #[tactic(auto, unfolding(crate::specs::SessionReading::head_lines))]
 pub fn head_lines(text: &[u8]) -> Result<(u32, u32, &[u8]), SessionEnd>
-    ensures value { Gives (λ x. (x.0, x.1, lines_of x.2.now)) result (head_lines (lines_of text.now)) }
+    ensures value { let head = head_lines (lines_of text.now) in
+        Gives (λ x. (x.0, x.1, lines_of x.2.now)) result head }
     ensures shorter { IfOk result (λ x. length x.2.now + 8 ≤ length text.now) }
 {
     let (first, rest) = first_line(1, text)?;

@@ -1,10 +1,9 @@
 // Laws of sessions and their texts.
-ghost use Rattle.std.specs.Prelude.{◌≡◌, ◌≢◌, ◌≤◌, ℕ, List, Ok, Err};
-ghost use Rattle.session_text.specs.FirstError.{EndsEarly, IsFirstError};
-ghost use Rattle.text_lines.specs.Refusal.{refusal};
+ghost use Rattle.std.specs.Prelude.{◌≡◌, ◌↔◌, ◌≤◌, ℕ, List, Ok};
+ghost use Rattle.session_text.specs.Canonical.{IsBareSession, canonical, with_numbers};
+ghost use Rattle.session_text.specs.FirstError.{EndsEarly, HasNoForm, IsClockLine, IsFirstError, IsOutOfRange};
 ghost use Rattle.session_text.specs.SessionForm.{IsSession};
-ghost use Rattle.session_text.specs.SessionReading.{session_of};
-ghost use Rattle.session_text.specs.Canonical.{AreNumbered, IsBareSession, canonical};
+ghost use Rattle.session_text.specs.SessionReading.{IsRefused, session_of};
 ghost use Rattle.session_text.specs.declared.sessions.Session.{Session};
 
 /// What is read from a text is the session whose text it is, and every text of a session is read: so a text has at most
@@ -14,16 +13,20 @@ pub fn session_law()
     ensures complete { (text : List ℕ) (s : Session) → IsSession text s → session_of text ≡ Ok s }
 {}
 
-/// Where a text is refused with code 0, 1 or 2, that line is the first in error: some session has a text that begins with
-/// the lines before it, and none has one that begins with the lines up to it. Where a text is refused with code 3, some
-/// session has a text that begins with all of its lines.
+/// A text is refused at its first line in error: some session has a text that begins with the lines before it, and none
+/// has one that begins with the lines up to it. The code is 1 exactly where no form that may stand there has the line's
+/// bytes, 2 where one has but for its number, and 0 where it says that the machine has a clock, which is not served yet.
+/// Code 3 comes exactly where all lines begin a session's text, and are none.
 pub fn refusal_law()
-    ensures error { (text : List ℕ) (n code : ℕ) → code ≢ 3 → session_of text ≡ Err (refusal n code) → IsFirstError text n }
-    ensures early { (text : List ℕ) (n : ℕ) → session_of text ≡ Err (refusal n 3) → EndsEarly text n }
-    ensures codes { (text : List ℕ) (n code : ℕ) → session_of text ≡ Err (refusal n code) → code ≤ 3 }
+    ensures form { (text : List ℕ) (n : ℕ) → IsRefused text n 1 ↔ IsFirstError text n HasNoForm }
+    ensures range { (text : List ℕ) (n : ℕ) →
+        IsRefused text n 2 ↔ IsFirstError text n IsOutOfRange }
+    ensures end { (text : List ℕ) (n : ℕ) → IsRefused text n 3 ↔ EndsEarly text n }
+    ensures clock { (text : List ℕ) (n : ℕ) → IsRefused text n 0 ↔ IsFirstError text n IsClockLine }
+    ensures codes { (text : List ℕ) (n code : ℕ) → IsRefused text n code → code ≤ 3 }
 {}
 
-/// The canonical text of a bare session, whose lines are numbered as they stand there, is read as the same session.
+/// The canonical text of a bare session is read as the same session, with the numbers that its lines have there.
 pub fn printed_law()
-    ensures { (s : Session) → IsBareSession s → AreNumbered 4 s.lines → session_of (canonical s) ≡ Ok s }
+    ensures { (s : Session) → IsBareSession s → session_of (canonical s) ≡ Ok (with_numbers s) }
 {}

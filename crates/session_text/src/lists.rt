@@ -34,6 +34,13 @@ impl Bytes {
     {
         self.list.as_slice()
     }
+
+    /// The bytes, without taking memory.
+    pub fn into_vec(self) -> Vec<u8>
+        ensures { result.items ≡ self }
+    {
+        self.list
+    }
 }
 
 /// The lines between the head of a session and its `GO`, seen as their list.
@@ -65,6 +72,13 @@ impl Lines {
     {
         self.list.as_slice()
     }
+
+    /// The lines, without taking memory.
+    pub fn into_vec(self) -> Vec<SessionLine>
+        ensures { result.items ≡ self }
+    {
+        self.list
+    }
 }
 
 /// Keys, each with the step at which it is due, seen as their list.
@@ -95,6 +109,13 @@ impl Keys {
     {
         self.list.as_slice()
     }
+
+    /// The keys, without taking memory.
+    pub fn into_vec(self) -> Vec<(u64, u8)>
+        ensures { result.items ≡ self }
+    {
+        self.list
+    }
 }
 
 /// At most eight names of files, seen as their list.
@@ -124,5 +145,12 @@ impl Names {
         ensures { result.now ≡ self.now }
     {
         self.list.as_slice()
+    }
+
+    /// The names, without taking memory.
+    pub fn into_array(self) -> ArrayVec<Name, 8>
+        ensures { result.items ≡ self }
+    {
+        self.list
     }
 }

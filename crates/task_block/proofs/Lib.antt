@@ -1,6 +1,7 @@
-pub mod Finding
-pub mod Falling
-pub mod Coming
-pub mod Going
-pub mod Seeking
-pub mod Filling
+pub mod TaskNumbers
+pub mod PriorityOrder
+pub mod TaskInsertion
+pub mod TaskRemoval
+pub mod NewTask
+pub mod HeldTaskBlocks
+pub mod TableEntries

@@ -3,5 +3,5 @@ pub mod RootWords
 pub mod Versions
 pub mod TaskChain
 pub mod Lists
-pub mod Filled
 pub mod Moves
+pub mod HeldTasks

@@ -1,19 +1,26 @@
 -- The lists of modules and of a task's coroutines.
 use Rattle.std.specs.Prelude.{ℕ, ◌+◌, List}
-use Rattle.store_model.specs.Chain.{list_at}
+use Rattle.linked_list.specs.Chain.{list_at}
+use Rattle.task_block.specs.RootWords.{first_module}
+use Rattle.task_block.specs.TaskWords.{word_index}
+use Rattle.task_block.specs.declared.fields.TcbField.TheVariants.{FirstCo}
 
 -- a module's link is its word 0
 abbrev pub module_link : ℕ → ℕ
 module_link m = m
 
--- the modules, the newest first. Word 104 is their head
+-- the modules, the newest first
 abbrev pub modules_in : List ℕ → List ℕ
-modules_in s = list_at s module_link 104
+modules_in s = list_at s module_link first_module
 
 -- a coroutine's link is its word 2
 abbrev pub coroutine_link : ℕ → ℕ
 coroutine_link c = c + 2
 
--- the coroutines of the task at t, the newest first. Word 17 of the task is their head
+-- the head of the coroutines of the task at t
+abbrev pub first_coroutine : ℕ → ℕ
+first_coroutine t = t + word_index FirstCo
+
+-- these coroutines, the newest first
 abbrev pub coroutines_in : List ℕ → ℕ → List ℕ
-coroutines_in s t = list_at s coroutine_link (t + 17)
+coroutines_in s t = list_at s coroutine_link (first_coroutine t)

@@ -17,3 +17,10 @@ root_address Size = 109
 root_address Period = 110
 root_address Version = 111
 root_address Residents = 112
+
+-- the head of the chain of tasks, and that of the list of modules
+abbrev pub first_task : ℕ
+first_task = root_address FirstTask
+
+abbrev pub first_module : ℕ
+first_module = root_address FirstModule

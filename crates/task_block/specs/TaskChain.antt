@@ -1,10 +1,13 @@
 -- The chain of tasks, and the table that has each task by its number.
-use Rattle.std.specs.Prelude.{◌≡◌, ℕ, ◌+◌, ◌-◌, ◌<◌, ◌≤◌, ◌==◌, ◌&&◌, Bool, not, nat_lt, Option, None, is_none, find, unwrap_or, List, [], ◌∷◌, ◌++◌, length, slice_index}
+use Rattle.std.specs.Prelude.{◌≡◌, ◌≢◌, ℕ, ◌+◌, ◌-◌, ◌<◌, ◌≤◌, ◌==◌, ◌&&◌, Bool, not, nat_lt, Option, None, is_none, find, unwrap_or, List, [], ◌∷◌, ◌++◌, length, slice_index}
 use Rattle.std.specs.List.{AllByRecursion, list_any, range_with_len}
-use Rattle.store_model.specs.Count.{IsApart, node_words, times, words_of}
-use Rattle.store_model.specs.Chain.{list_at}
-use Rattle.store_model.specs.Linked.{HasList, IsNode}
+use Rattle.linked_list.specs.Count.{IsApart, node_words, times, words_of}
+use Rattle.linked_list.specs.Chain.{list_at}
+use Rattle.linked_list.specs.Linked.{HasList, IsNode}
+use Rattle.task_block.specs.RootWords.{first_task}
+use Rattle.task_block.specs.TaskWords.{word_index}
 use Rattle.task_block.specs.Versions.{highest_id}
+use Rattle.task_block.specs.declared.fields.TcbField.TheVariants.{Id, Pri}
 
 -- a task block's link is its word 0, and every task block has the words 0 to 22
 abbrev pub task_link : ℕ → ℕ
@@ -13,16 +16,16 @@ task_link t = t
 abbrev pub task_size : ℕ → ℕ
 task_size t = 23
 
--- the tasks in the order of the chain, whose head is word 101
+-- the tasks in the order of the chain
 abbrev pub tasks_in : List ℕ → List ℕ
-tasks_in s = list_at s task_link 101
+tasks_in s = list_at s task_link first_task
 
 -- the number of a task, and its priority
 abbrev pub id_in : List ℕ → ℕ → ℕ
-id_in s t = slice_index s (t + 1)
+id_in s t = slice_index s (t + word_index Id)
 
 abbrev pub priority_in : List ℕ → ℕ → ℕ
-priority_in s t = slice_index s (t + 2)
+priority_in s t = slice_index s (t + word_index Pri)
 
 -- the task with the number
 abbrev pub task_with : List ℕ → ℕ → List ℕ → Option ℕ
@@ -32,20 +35,24 @@ task_with s i ts = find (λ t. id_in s t == i) ts
 abbrev pub root_words : List ℕ
 root_words = range_with_len 100 84
 
+-- the entry of the table for a number
+abbrev pub table_entry : ℕ → ℕ
+table_entry i = 120 + i
+
 -- a task's number is in the table's range, and the table leads to the task
 pub record IsInTable (s : List ℕ) (t : ℕ) : Type 0 where
   pub low : 1 ≤ id_in s t
   pub high : id_in s t ≤ highest_id s
-  pub entry : slice_index s (120 + id_in s t) ≡ t
+  pub entry : slice_index s (table_entry (id_in s t)) ≡ t
 
 -- the chain stands, apart from the root and the table, and the table agrees with it
 pub record HasTasks (s : List ℕ) : Type 0 where
   pub root : 184 ≤ length s
-  pub chain : HasList s task_link task_size 101
+  pub chain : HasList s task_link task_size first_task
   pub apart : IsApart (root_words ++ words_of task_size (tasks_in s))
   pub highest : highest_id s ≤ 63
   pub listed : AllByRecursion (IsInTable s) (tasks_in s)
-  pub table : (i : ℕ) → 1 ≤ i → i ≤ highest_id s → slice_index s (120 + i) ≡ unwrap_or (task_with s i (tasks_in s)) 0
+  pub table : (i : ℕ) → 1 ≤ i → i ≤ highest_id s → slice_index s (table_entry i) ≡ unwrap_or (task_with s i (tasks_in s)) 0
 
 -- a task block that may come into the chain
 pub record IsNewTask (s : List ℕ) (t : ℕ) : Type 0 where
@@ -63,6 +70,10 @@ is_above s t u = nat_lt (priority_in s t) (priority_in s u)
 abbrev pub Fall : List ℕ → List ℕ → Type 0
 Fall s [] = Unit {0}
 Fall s (t ∷ ts) = AllByRecursion (λ u. priority_in s u < priority_in s t) ts × Fall s ts
+
+-- no task has the priority of the one at t
+abbrev pub IsNewPriority : List ℕ → ℕ → Type 0
+IsNewPriority s t = AllByRecursion (λ u. priority_in s u ≢ priority_in s t) (tasks_in s)
 
 -- whether a task with another number has the priority
 abbrev pub is_priority_used : List ℕ → ℕ → ℕ → Bool

@@ -1,16 +1,16 @@
 // The chain of tasks, in falling priority, and the task table: a task comes in, and goes out.
 ghost use Rattle.std.specs.Prelude.{◌≡◌, ◌≢◌, ◌+◌, true, slice_set};
 ghost use Rattle.std.specs.List.{AllByRecursion};
-ghost use Rattle.store_model.specs.Placing.{has, insert_after, without};
-ghost use Rattle.task_block.specs.Moves.{link_above, link_before, with_task, without_task};
-ghost use Rattle.task_block.specs.TaskChain.{Fall, HasTasks, IsNewTask, id_in, is_above, priority_in, task_link, tasks_in};
+ghost use Rattle.linked_list.specs.Placing.{has, insert_after, without};
+ghost use Rattle.task_block.specs.Moves.{link_above, with_task, without_task};
+ghost use Rattle.task_block.specs.TaskChain.{Fall, HasTasks, IsNewPriority, IsNewTask, id_in, is_above, task_link, tasks_in};
 
 use crate::fields::{TcbField, field};
-use crate::listing::tasks;
+use crate::lists::{TASK_LINK, tasks};
 use crate::roots::RootField;
-use crate::searching::TABLE;
-use store_links::word;
-use word_store::Store;
+use crate::search::TABLE;
+use linked_list::{link_in, unlink as unlink_node};
+use word_store::{Store, set_word_at};
 
 /// Puts the task at t into the chain, directly after the last task of a higher priority and at the front where there is
 /// none, and into the table by its number. Written are the task's link, the link or head before it, and its entry of the
@@ -21,14 +21,13 @@ pub fn insert(store: &mut Store, t: u32)
     ensures chain { tasks_in store.new ≡ insert_after (is_above store.old t) t (tasks_in store.old) }
     ensures words { store.new ≡ with_task store.old t }
     ensures tasks { HasTasks store.new }
-    ensures order { Fall store.old (tasks_in store.old) → AllByRecursion (λ u. priority_in store.old u ≢ priority_in store.old t) (tasks_in store.old) → Fall store.new (tasks_in store.new) }
+    ensures order { Fall store.old (tasks_in store.old) → IsNewPriority store.old t
+        → Fall store.new (tasks_in store.new) }
 {
     let id = field(store, t, TcbField::Id);
     let cell = link_above(store, t);
-    let next = word(store, cell);
-    store.set(t, next);
-    store.set(cell, t);
-    store.set(TABLE + id, t);
+    link_in(store, cell, t, TASK_LINK);
+    set_word_at(store, TABLE, id, t);
 }
 
 // The word that leads on from the last task of a higher priority than the one at t, or the head of the chain.
@@ -48,34 +47,18 @@ fn link_above(store: &Store, t: u32) -> u32
 }
 
 /// Takes the task at t out of the chain and out of the table. Written are the link or head before it and its entry of the
-/// table, so the words of its block stay, the link too. Where priorities fell along the chain, they still fall.
+/// table, so the words of its block stay, the link too, and it may come in again. Where priorities fell along the chain,
+/// they still fall.
 pub fn unlink(store: &mut Store, t: u32)
     requires tasks { HasTasks store.old }
     requires task { has t (tasks_in store.old) ≡ true }
     ensures chain { tasks_in store.new ≡ without t (tasks_in store.old) }
     ensures words { store.new ≡ without_task store.old t }
     ensures tasks { HasTasks store.new }
+    ensures task { IsNewTask store.new t }
     ensures order { Fall store.old (tasks_in store.old) → Fall store.new (tasks_in store.new) }
 {
     let id = field(store, t, TcbField::Id);
-    let cell = link_before(store, t);
-    let next = word(store, t);
-    store.set(cell, next);
-    store.set(TABLE + id, 0);
-}
-
-// The word that leads to the task at t.
-fn link_before(store: &Store, t: u32) -> u32
-    requires tasks { HasTasks store.now }
-    requires task { has t (tasks_in store.now) ≡ true }
-    ensures { result ≡ link_before store.now t }
-{
-    let mut cell = RootField::FirstTask.address();
-    for u in tasks(store) {
-        if u == t {
-            return cell;
-        }
-        cell = u;
-    }
-    cell
+    unlink_node(store, RootField::FirstTask.address(), t, TASK_LINK);
+    set_word_at(store, TABLE, id, 0);
 }

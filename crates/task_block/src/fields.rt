@@ -1,9 +1,8 @@
 // The words of a task block by their names.
-ghost use Rattle.std.specs.Prelude.{◌≡◌, ◌+◌, ◌<◌, length, slice_index, slice_set};
+ghost use Rattle.std.specs.Prelude.{◌≡◌, ◌+◌, slice_index, slice_set};
 ghost use Rattle.task_block.specs.TaskWords.{word_index};
 
-use store_links::word;
-use word_store::Store;
+use word_store::{Store, set_word_at, word_at};
 
 /// The words 0 to 22 of a task block, in order. In version 2 a guest's has 30, the others of which have modules.
 #[derive(Clone, Copy, Debug, PartialEq, Eq)]
@@ -89,20 +88,16 @@ impl TcbField {
     }
 }
 
-/// The word of the task block at t.
+/// The word of the task block at t, or 0 where the store ends before it.
 pub fn field(store: &Store, t: u32, f: TcbField) -> u32
-    requires { t + word_index f < length store.now }
     ensures { result ≡ slice_index store.now (t + word_index f) }
 {
-    let _size = store.size();
-    word(store, t + f.index())
+    word_at(store, t, f.index())
 }
 
-/// Sets the word of the task block at t, and no other.
+/// Sets the word of the task block at t, and no other. Where the store ends before it, nothing is written.
 pub fn set_field(store: &mut Store, t: u32, f: TcbField, w: u32)
-    requires { t + word_index f < length store.old }
     ensures { store.new ≡ slice_set store.old (t + word_index f) w }
 {
-    let _size = store.size();
-    store.set(t + f.index(), w);
+    set_word_at(store, t, f.index(), w);
 }

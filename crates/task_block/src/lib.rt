@@ -3,17 +3,16 @@
 
 pub mod chain;
 pub mod fields;
-pub mod listing;
+pub mod laws;
+pub mod lists;
 pub mod roots;
-pub mod searching;
-#[cfg(test)]
-mod tests;
+pub mod search;
 pub mod versions;
 
 pub use chain::{insert, unlink};
 pub use fields::{TcbField, field, set_field};
-pub use listing::{coroutine_list, modules, tasks};
+pub use lists::{coroutine_list, modules, tasks};
 pub use roots::{RootField, root, set_root};
-pub use searching::{find, free_id, priority_used};
-pub use store_links::{Nodes as CoList, Nodes as Modules, Nodes as Tasks};
+pub use search::{find, free_id, priority_used};
+pub use linked_list::{Nodes as CoList, Nodes as Modules, Nodes as Tasks};
 pub use versions::{head_words, highest_id, module_at, most_modules, set_module_at};

@@ -2,8 +2,7 @@
 ghost use Rattle.std.specs.Prelude.{◌≡◌, slice_index, slice_set};
 ghost use Rattle.task_block.specs.RootWords.{root_address};
 
-use store_links::word;
-use word_store::Store;
+use word_store::{Store, word};
 
 /// The words 100 to 112 of the store, in order.
 #[derive(Clone, Copy, Debug, PartialEq, Eq)]

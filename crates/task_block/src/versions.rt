@@ -1,10 +1,9 @@
 // What the version of the layout says: how many tasks there may be, the words of a task block, and its modules.
-ghost use Rattle.std.specs.Prelude.{◌≡◌, ◌+◌, ◌<◌, ◌≤◌, length, slice_index, slice_set};
+ghost use Rattle.std.specs.Prelude.{◌≡◌, ◌+◌, ◌<◌, ◌≤◌, slice_index, slice_set};
 ghost use Rattle.task_block.specs.Versions.{head_words, highest_id, module_index, most_modules};
 
 use crate::roots::{RootField, root};
-use store_links::word;
-use word_store::Store;
+use word_store::{Store, set_word_at, word, word_at};
 
 /// Where the highest number of a task stands.
 const HIGHEST_ID: u32 = 120;
@@ -43,22 +42,18 @@ pub fn most_modules(store: &Store) -> u32
 pub fn module_at(store: &Store, t: u32, i: u32) -> u32
     requires number { 1 ≤ i }
     requires most { i ≤ most_modules store.now }
-    requires inside { t + module_index i < length store.now }
     ensures { result ≡ slice_index store.now (t + module_index i) }
 {
-    let _size = store.size();
-    word(store, t + module_index(i))
+    word_at(store, t, module_index(i))
 }
 
 /// Sets the word that has the i-th module of the task at t, from 1, and no other.
 pub fn set_module_at(store: &mut Store, t: u32, i: u32, w: u32)
     requires number { 1 ≤ i }
     requires most { i ≤ most_modules store.old }
-    requires inside { t + module_index i < length store.old }
     ensures { store.new ≡ slice_set store.old (t + module_index i) w }
 {
-    let _size = store.size();
-    store.set(t + module_index(i), w);
+    set_word_at(store, t, module_index(i), w);
 }
 
 // Which word of a task block has the i-th module.

@@ -2,8 +2,4 @@
 #![tactic(auto)]
 
 #[cfg(test)]
-mod instructions;
-#[cfg(test)]
 mod listings;
-#[cfg(test)]
-mod pictured;

@@ -3,7 +3,7 @@ use Rattle.std.specs.Prelude.{ℕ, ◌≡◌, List, [], ◌∷◌, ◌++◌, len
 use Rattle.std.specs.Str.{bytes_eq}
 use Rattle.std.specs.Io.KnownBytes.{Appends, Keeps}
 use Rattle.tp_io.specs.Writing.{AppendsPrefix}
-use Rattle.text_lines.specs.Refusal.{Refusal}
+use Rattle.text_reader.specs.Refusal.{Refusal}
 use Rattle.hunk_text.specs.ModuleReading.{module_of}
 use Rattle.hunk_text.specs.declared.modules.Module.{Module}
 use Rattle.cint_asm.specs.Assembly.{assembled}

@@ -1,7 +1,7 @@
 -- The texts that the program writes besides the console bytes.
 use Rattle.std.specs.Prelude.{ℕ, ◌+◌, List, [], ◌∷◌, ◌++◌, codes, decimal, ◌==◌, if◌then◌else◌}
 use Rattle.tp_io.specs.Pieces.{joined, hex_digits_of}
-use Rattle.text_lines.specs.Refusal.{Refusal}
+use Rattle.text_reader.specs.Refusal.{Refusal}
 use Rattle.tripos_machine.specs.declared.bare.Stop.{Stop}
 use Rattle.tripos_machine.specs.declared.bare.Stop.TheVariants.{Steps, Quit, Fault}
 

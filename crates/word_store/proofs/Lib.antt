@@ -1,2 +1,4 @@
+pub mod ByteOf
+pub mod Rows
 pub mod WordOf
 pub mod Wide

@@ -4,6 +4,7 @@ ghost use Rattle.std.specs.Int.{w32};
 ghost use Rattle.word_store.specs.Arithmetic.{add, div, mul, mul_div, rem, shl, shr, signed, sub, word_of};
 
 /// The sum.
+#[inline]
 pub fn add(x: u32, y: u32) -> u32
     ensures { result ≡ add x y }
 {
@@ -11,6 +12,7 @@ pub fn add(x: u32, y: u32) -> u32
 }
 
 /// The difference.
+#[inline]
 pub fn sub(x: u32, y: u32) -> u32
     ensures { result ≡ sub x y }
 {
@@ -18,6 +20,7 @@ pub fn sub(x: u32, y: u32) -> u32
 }
 
 /// The product.
+#[inline]
 pub fn mul(x: u32, y: u32) -> u32
     ensures { result ≡ mul x y }
 {
@@ -45,6 +48,7 @@ pub fn rem(x: u32, y: u32) -> Option<u32>
 }
 
 /// x, shifted left by y bits; by 32 and more it gives 0.
+#[inline]
 pub fn shl(x: u32, y: u32) -> u32
     ensures { result ≡ shl x y }
 {
@@ -52,6 +56,7 @@ pub fn shl(x: u32, y: u32) -> u32
 }
 
 /// x, shifted right by y bits, with zeros from the left; by 32 and more it gives 0.
+#[inline]
 pub fn shr(x: u32, y: u32) -> u32
     ensures { result ≡ shr x y }
 {
@@ -59,6 +64,7 @@ pub fn shr(x: u32, y: u32) -> u32
 }
 
 /// The word as a signed number: x below 2 ^ 31, else x - 2 ^ 32.
+#[inline]
 pub fn signed(x: u32) -> i32
     ensures { result ≡ signed x }
 {

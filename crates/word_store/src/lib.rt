@@ -4,11 +4,10 @@
 pub mod arithmetic;
 pub mod guarding;
 pub mod registers;
-#[cfg(test)]
-mod tests;
 pub mod words;
 
 pub use arithmetic::{add, div, mul, mul_div, rem, shl, shr, signed, sub};
+pub use words::by_address::{set_word_at, set_words, word, word_at};
 pub use guarding::Guard;
 pub use registers::Regs;
 pub use words::{NoStoreMemory, Store};

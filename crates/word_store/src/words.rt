@@ -1,6 +1,8 @@
 // The store: words of 32 bits, addressed from 0, and their bytes, the lowest byte of a word first.
 ghost use Rattle.std.specs.Prelude.{◌≡◌, ◌+◌, ◌*◌, ◌<◌, ◌↔◌, IfOk, IfSome, IsNone, IsTrue, length, replicate, slice_get, slice_range, slice_set};
-ghost use Rattle.word_store.specs.Bytes.{byte_at, set_byte_at};
+ghost use Rattle.word_store.specs.Bytes.{byte_at, byte_of, set_byte_at};
+
+pub mod by_address;
 
 use std::alloc::Global;
 use std::marker::Model;
@@ -37,6 +39,7 @@ impl Store {
     }
 
     /// The number of words.
+    #[inline]
     pub fn size(&self) -> u32
         ensures { result ≡ length self.now }
     {
@@ -44,6 +47,7 @@ impl Store {
     }
 
     /// The word at address a, or `None` exactly where it is outside.
+    #[inline]
     pub fn get(&self, a: u32) -> Option<u32>
         ensures { result ≡ slice_get self.now a }
     {
@@ -51,6 +55,7 @@ impl Store {
     }
 
     /// Sets the word at address a. The answer is false exactly where it is outside; then nothing changes.
+    #[inline]
     pub fn set(&mut self, a: u32, w: u32) -> bool
         ensures inside { IsTrue result ↔ (a < length self.old) }
         ensures after { self.new ≡ slice_set self.old a w }
@@ -63,11 +68,12 @@ impl Store {
     }
 
     /// The byte at byte address a, or `None` exactly where it is outside.
+    #[inline]
     pub fn get_byte(&self, a: u32) -> Option<u8>
         ensures { result ≡ byte_at self.now a }
     {
         let w = self.get(a / 4)?;
-        Some(w.to_le_bytes()[(a % 4) as usize])
+        Some(byte_of(w, a % 4))
     }
 
     /// Sets the byte at byte address a. The answer is false exactly where it is outside; then nothing changes.
@@ -95,4 +101,14 @@ impl Store {
         }
         Some(&self.words[start..end])
     }
+}
+
+// Byte i of a word, the lowest first.
+#[inline]
+#[tactic(auto, using(crate::proofs::ByteOf::byte_of_by_shift))]
+fn byte_of(w: u32, i: u32) -> u8
+    requires { i < 4 }
+    ensures { result ≡ byte_of w i }
+{
+    ((w >> (8 * i)) % 256) as u8
 }

@@ -1,5 +1,5 @@
 use Rattle.cint_asm.proofs.AssemblyLemmas.{complete, sound}
-use Rattle.cint_asm.proofs.Rising.{relocations_rise}
+use Rattle.cint_asm.proofs.RelocationOrder.{relocations_rise}
 use Rattle.cint_asm.proofs.laws.assembly_law.Goals as goal
 
 pub returns-clause-sound : goal.returns-clause-sound

@@ -1,5 +1,5 @@
 use Rattle.cint_asm.proofs.LineErrorLemmas.{line_codes, operand_codes}
-use Rattle.cint_asm.proofs.Refused.{refusal_complete, refusal_sound}
+use Rattle.cint_asm.proofs.TextRefusals.{refusal_complete, refusal_sound}
 use Rattle.cint_asm.proofs.laws.refusal_law.Goals as goal
 
 pub returns-clause-sound : goal.returns-clause-sound

@@ -8,16 +8,16 @@ use Rattle.cint_exec.proofs.switches.search.Goals as goal
 pub loop-i-init : goal.loop-i-init
 loop-i-init c = record { searching = begins c.args.store.now c.args.r c.args.t c.args.count; small = omega arith }
 
-pub returns-in_err-key-clause-value : goal.returns-in_err-key-clause-value
-returns-in_err-key-clause-value c =
+pub returns-in_err-key : goal.returns-in_err-key
+returns-in_err-key c =
     let key : halfword c.args.store.now (add c.args.t (4 * c.loop-i.i)) ≡ Err c.in_err-key.field-0.0 = rw (← c.add.ensures) (sym c.halfword.ensures ∙ c.in_err-key.was) in
     let p = err_from_is_err_and c.from_residual.result c.from_residual.ensures.1 in
     rw (p.1, p.2) (faults c.args.store.now c.args.r c.args.t c.args.count c.loop-i.i c.in_err-key.field-0.0 c.loop-i-test.true key c.loop-i.invariant.searching)
 
-pub returns-then-r-key-clause-value : goal.returns-then-r-key-clause-value
-returns-then-r-key-clause-value c =
+pub returns-then-r-key : goal.returns-then-r-key
+returns-then-r-key c =
     let key : halfword c.args.store.now (add c.args.t (4 * c.loop-i.i)) ≡ Ok c.in_ok-key.field-0 = rw (← c.add.ensures) (sym c.halfword.ensures ∙ c.in_ok-key.was) in
-    rw c.add-then-r-key.ensures at c.jump_by.ensures.value
+    rw c.add-then-r-key.ensures at c.jump_by.ensures
     ∙ finds c.args.store.now c.args.r c.args.t c.args.count c.loop-i.i c.in_ok-key.field-0 c.loop-i-test.true key c.if-r-key.true c.loop-i.invariant.searching
 
 pub loop-i-preserved-then-r-key-2 : goal.loop-i-preserved-then-r-key-2
@@ -38,7 +38,7 @@ loop-i-preserved c =
       small = omega arith;
     }
 
-pub returns-clause-value : goal.returns-clause-value
-returns-clause-value c =
-    rw c.add-2.ensures at c.jump_by-2.ensures.value
+pub returns : goal.returns
+returns c =
+    rw c.add-2.ensures at c.jump_by-2.ensures
     ∙ ends c.args.store.now c.args.r c.args.t c.args.count c.loop-i.i c.loop-i-test.false c.loop-i.invariant.searching

@@ -1,15 +1,17 @@
-use Rattle.std.proofs.Common.{◌∙◌, sym, subst, ◌∷◌}
+use Rattle.std.proofs.Common.{sym, subst, ◌∷◌}
 use Rattle.coroutines.specs.Active.{active_in}
 use Rattle.coroutines.proofs.Calling.{call-again}
 use Rattle.coroutines.proofs.Building.{Built}
 use Rattle.task_block.specs.Lists.{coroutines_in}
+use Rattle.coroutines.proofs.IdleAnswer.{IsIdle, idle}
 use Rattle.coroutines.proofs.calls.call.Goals as goal
 use Rattle.coroutines.proofs.calls.call.Goals.{After-enter}
 
 after : (c : After-enter) → Built c.enter.new.store c.args.t (coroutines_in c.args.store.now c.args.t) (c.args.c ∷ active_in c.args.store.now c.args.t)
 after c =
+    let i : IsIdle c.args.store.now c.args.t c.args.c = idle c.args.store.now c.args.t c.args.c _ c.in_ok-check_idle.ensures in
     subst (λ z. Built z c.args.t (coroutines_in c.args.store.now c.args.t) (c.args.c ∷ active_in c.args.store.now c.args.t)) (sym c.enter.ensures.words)
-    (call-again c.args.store.now c.args.t c.args.regs.now c.args.c c.requires (sym c.is_known.ensures ∙ c.if-not-is_known.false) (sym c.has_parent.ensures ∙ c.if-has_parent.false))
+    (call-again c.args.store.now c.args.t c.args.regs.now c.args.c c.requires i.known i.alone)
 
 pub returns-clause-active : goal.returns-clause-active
 returns-clause-active c = (after c).active

@@ -7,16 +7,13 @@ use Rattle.coroutines.proofs.Switches.{bounds}
 use Rattle.coroutines.proofs.calls.ended.Goals as goal
 use Rattle.coroutines.proofs.calls.ended.Goals.{After-leave}
 
-pub overflow_add-regs : goal.overflow_add-regs
-overflow_add-regs c = omega (arith, (bounds c.args.store.now c.args.t c.requires.coroutines).current, c.field-current.ensures, c.size-size.ensures, c.size-size.type_inv)
-
-pub overflow_add-current : goal.overflow_add-current
-overflow_add-current c = omega (arith, (bounds c.args.store.now c.args.t c.requires.coroutines).current, c.field-current.ensures, c.size-size.ensures, c.size-size.type_inv)
+pub address_of-regs-requires : goal.address_of-regs-requires
+address_of-regs-requires c = omega (arith, (bounds c.args.store.now c.args.t c.requires.coroutines).current, c.field-current.ensures)
 
 after : (c : After-leave) → Built c.leave.new.store c.args.t (coroutines_in c.args.store.now c.args.t) (drop 1 (active_in c.args.store.now c.args.t))
 after c =
     subst (λ z. Built z c.args.t (coroutines_in c.args.store.now c.args.t) (drop 1 (active_in c.args.store.now c.args.t))) (sym c.leave.ensures.words)
-    (wait-again c.args.store.now c.args.t (c.field-current.result + 7) c.word-regs.result c.requires.coroutines c.requires.within)
+    (wait-again c.args.store.now c.args.t _ _ c.requires.coroutines c.requires.within)
 
 pub returns-clause-active : goal.returns-clause-active
 returns-clause-active c = (after c).active

@@ -1,14 +1,10 @@
-use Rattle.std.proofs.Common.{◌∙◌, sym, subst, drop, arith}
+use Rattle.std.proofs.Common.{◌∙◌, sym, subst, drop}
 use Rattle.coroutines.specs.Active.{active_in}
 use Rattle.coroutines.proofs.Calling.{wait-again}
 use Rattle.coroutines.proofs.Building.{Built}
 use Rattle.task_block.specs.Lists.{coroutines_in}
-use Rattle.coroutines.proofs.Switches.{bounds}
 use Rattle.coroutines.proofs.calls.wait.Goals as goal
 use Rattle.coroutines.proofs.calls.wait.Goals.{After-leave}
-
-pub field-requires : goal.field-requires
-field-requires c = omega (arith, (bounds c.args.store.now c.args.t c.requires).task)
 
 after : (c : After-leave) → Built c.leave.new.store c.args.t (coroutines_in c.args.store.now c.args.t) (drop 1 (active_in c.args.store.now c.args.t))
 after c =

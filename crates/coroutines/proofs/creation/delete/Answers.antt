@@ -1,41 +1,55 @@
-use Rattle.std.proofs.Common.{◌≡◌, ◌∙◌, sym, subst, ap, true, Result, Ok, Err, Some, None, ℕ, List}
-use Rattle.std.specs.Prelude.{OnErr, OnOk}
-use Rattle.store_model.specs.declared.blocks.Block.{Block}
-use Rattle.store_model.specs.Give.{given_store}
-use Rattle.store_model.specs.Placing.{without}
-use Rattle.store_model.specs.Tiling.{IsTiled, blocks_in, used_at}
-use Rattle.task_block.specs.Lists.{coroutines_in}
+use Rattle.std.proofs.Common.{◌≡◌, ◌∙◌, ◌+◌, sym, subst, ap, refl, ℕ, List, Bool, Ok}
+use Rattle.std.specs.Bool.{OnTrue}
+use Rattle.getvec_chain.proofs.GiveAnswer.{give-ok, give-on}
+use Rattle.getvec_chain.specs.Give.{given_store}
+use Rattle.getvec_chain.specs.Tiling.{IsTiled, blocks_in, used_at}
+use Rattle.linked_list.proofs.UnlinkAnswer.{unlink-words}
+use Rattle.linked_list.specs.Chain.{list_at}
+use Rattle.linked_list.specs.Placing.{has, without, without_node}
+use Rattle.task_block.specs.Lists.{coroutine_link, coroutines_in}
 use Rattle.coroutines.specs.Active.{active_in}
 use Rattle.coroutines.specs.Creation.{deleted}
-use Rattle.coroutines.specs.Refusals.{is_known}
+use Rattle.coroutines.specs.Refusals.{idle_answer}
 use Rattle.coroutines.proofs.Building.{Built}
-use Rattle.coroutines.proofs.Deleting.{delete-blocks, delete-built, unlinked-blocks, unlinked-used}
+use Rattle.coroutines.proofs.Deleting.{delete-blocks, delete-built, unlinked, unlinked-blocks, unlinked-used}
+use Rattle.coroutines.proofs.IdleAnswer.{IsIdle, idle}
 use Rattle.coroutines.proofs.creation.delete.Goals as goal
-use Rattle.coroutines.proofs.creation.delete.Goals.{After-give-given}
 
-pub give-given-requires : goal.give-given-requires
-give-given-requires c = subst IsTiled (sym c.unlink.ensures) (unlinked-blocks c.args.store.now c.args.t c.args.c c.requires (sym c.is_known.ensures ∙ c.if-not-is_known.false)).tiled
+-- the coroutine is known and alone, and was linked out
+record LinkedOut (s x : List ℕ) (t c : ℕ) : Type 0 where
+  pub is_idle : IsIdle s t c
+  pub words : x ≡ unlinked s t c
 
--- a used block is given back
-given-words : {E : Type 0} (r : Result (Unit {0}) E) (x v : List ℕ) (c : ℕ) (b : Block) → OnOk r (v ≡ given_store x c) → OnErr r (used_at c (blocks_in x) ≡ None) → used_at c (blocks_in x) ≡ Some b
-    → v ≡ given_store x c
-given-words (Ok u) x v c b done none used = done
-given-words (Err e) x v c b done none used = cc
+out : (s x : List ℕ) (t c head i : ℕ) (u : Unit) (b : Bool) → Ok u ≡ idle_answer s t c → head ≡ t + i → i ≡ 17 → b ≡ has c (list_at s coroutine_link head)
+    → OnTrue b (x ≡ without_node s coroutine_link head c) → LinkedOut s x t c
+out s x t c head i u b answer at here found words =
+    let is_idle : IsIdle s t c = idle s t c u answer in
+    record { is_idle = is_idle; words = unlink-words s x c b refl (at ∙ ap (λ z. t + z) here) found is_idle.known words }
 
-words : (c : After-give-given) → c.give-given.new.store ≡ deleted c.args.store.now c.args.t c.args.c
+pub give-requires : goal.give-requires
+give-requires c =
+    let o = out c.args.store.now _ c.args.t c.args.c _ _ _ _ c.in_ok-check_idle.ensures c.address_of-head.ensures c.index.ensures c.unlink.ensures.found c.unlink.ensures.words in
+    subst IsTiled (sym o.words) (unlinked-blocks c.args.store.now c.args.t c.args.c c.requires o.is_idle.known).tiled
+
+pub unwrap-requires : goal.unwrap-requires
+unwrap-requires c =
+    let o = out c.args.store.now _ c.args.t c.args.c _ _ _ _ c.in_ok-check_idle.ensures c.address_of-head.ensures c.index.ensures c.unlink.ensures.found c.unlink.ensures.words in
+    give-ok c.give.result _ _ c.give.ensures.not_a_block
+    (ap (λ z. used_at c.args.c (blocks_in z)) o.words ∙ unlinked-used c.args.store.now c.args.t c.args.c c.requires o.is_idle.known)
+
+words : (c : goal.After-unwrap) → c.give.new.store ≡ deleted c.args.store.now c.args.t c.args.c
 words c =
-    let known : is_known c.args.store.now c.args.t c.args.c ≡ true = sym c.is_known.ensures ∙ c.if-not-is_known.false in
-    given-words c.give-given.result c.unlink.new.store c.give-given.new.store c.args.c _ c.give-given.ensures.words c.give-given.ensures.not_a_block
-    (ap (λ z. used_at c.args.c (blocks_in z)) c.unlink.ensures ∙ unlinked-used c.args.store.now c.args.t c.args.c c.requires known)
-    ∙ ap (λ z. given_store z c.args.c) c.unlink.ensures
+    let o = out c.args.store.now _ c.args.t c.args.c _ _ _ _ c.in_ok-check_idle.ensures c.address_of-head.ensures c.index.ensures c.unlink.ensures.found c.unlink.ensures.words in
+    give-on c.give.result c.unwrap.result _ c.unwrap.ensures c.give.ensures.words ∙ ap (λ z. given_store z c.args.c) o.words
 
 pub returns-clause-words : goal.returns-clause-words
 returns-clause-words c = words c
 
-after : (c : After-give-given) → Built c.give-given.new.store c.args.t (without c.args.c (coroutines_in c.args.store.now c.args.t)) (active_in c.args.store.now c.args.t)
+after : (c : goal.After-unwrap) → Built c.give.new.store c.args.t (without c.args.c (coroutines_in c.args.store.now c.args.t)) (active_in c.args.store.now c.args.t)
 after c =
+    let i : IsIdle c.args.store.now c.args.t c.args.c = idle c.args.store.now c.args.t c.args.c _ c.in_ok-check_idle.ensures in
     subst (λ z. Built z c.args.t (without c.args.c (coroutines_in c.args.store.now c.args.t)) (active_in c.args.store.now c.args.t)) (sym (words c))
-    (delete-built c.args.store.now c.args.t c.args.c c.requires (sym c.is_known.ensures ∙ c.if-not-is_known.false) (sym c.has_parent.ensures ∙ c.if-has_parent.false))
+    (delete-built c.args.store.now c.args.t c.args.c c.requires i.known i.alone)
 
 pub returns-clause-coroutines : goal.returns-clause-coroutines
 returns-clause-coroutines c = (after c).list
@@ -47,4 +61,4 @@ pub returns-clause-stand : goal.returns-clause-stand
 returns-clause-stand c = (after c).stand
 
 pub returns-clause-blocks : goal.returns-clause-blocks
-returns-clause-blocks c = ap blocks_in (words c) ∙ delete-blocks c.args.store.now c.args.t c.args.c c.requires (sym c.is_known.ensures ∙ c.if-not-is_known.false)
+returns-clause-blocks c = ap blocks_in (words c) ∙ delete-blocks c.args.store.now c.args.t c.args.c c.requires (idle c.args.store.now c.args.t c.args.c _ c.in_ok-check_idle.ensures).known

@@ -2,21 +2,18 @@ use Rattle.std.proofs.Common.{◌≡◌, ◌≢◌, ◌∙◌, arith, ap, sym, e
 use Rattle.std.specs.Prelude.{not}
 use Rattle.std.proofs.lemmas.Bool.Decides.{nat_tests}
 use Rattle.coroutines.specs.Refusals.{has_parent}
-use Rattle.coroutines.proofs.Known.{known-node, no_parent-word, parent-word}
+use Rattle.coroutines.proofs.Known.{no_parent-word, parent-word}
 use Rattle.coroutines.proofs.members.has_parent.Goals as goal
-
-pub overflow_add-c : goal.overflow_add-c
-overflow_add-c c = omega (arith, (known-node c.args.store.now c.args.t c.args.c c.requires.coroutines c.requires.known).inside, c.size-size.ensures, c.size-size.type_inv)
 
 pub returns : goal.returns
 returns c = on (has_parent c.args.store.now c.args.t c.args.c) refl
   where
-    on : (b : Bool) → has_parent c.args.store.now c.args.t c.args.c ≡ b → not (eqb c.word.result 0) ≡ b
+    on : (b : Bool) → has_parent c.args.store.now c.args.t c.args.c ≡ b → not (eqb c.word_at.result 0) ≡ b
     on true e =
-        let some : c.word.result ≢ 0 = λ z. parent-word c.args.store.now c.args.t c.args.c c.requires.coroutines c.requires.known e (sym c.word.ensures ∙ z) in
-        let test : eqb c.word.result 0 ≡ false = grind (arith, nat_tests) in
+        let some : c.word_at.result ≢ 0 = λ z. parent-word c.args.store.now c.args.t c.args.c c.requires.coroutines c.requires.known e (sym c.word_at.ensures ∙ z) in
+        let test : eqb c.word_at.result 0 ≡ false = grind (arith, nat_tests) in
         ap not test
     on false e =
-        let none : c.word.result ≡ 0 = c.word.ensures ∙ no_parent-word c.args.store.now c.args.t c.args.c c.requires.coroutines c.requires.known e in
-        let test : eqb c.word.result 0 ≡ true = grind (arith, nat_tests) in
+        let none : c.word_at.result ≡ 0 = c.word_at.ensures ∙ no_parent-word c.args.store.now c.args.t c.args.c c.requires.coroutines c.requires.known e in
+        let test : eqb c.word_at.result 0 ≡ true = grind (arith, nat_tests) in
         ap not test

@@ -1,4 +1,4 @@
-use Rattle.hunk_text.proofs.Printed.{printed_again}
+use Rattle.hunk_text.proofs.RoundTrip.{printed_again}
 use Rattle.hunk_text.proofs.laws.printed_law.Goals as goal
 
 pub returns : goal.returns

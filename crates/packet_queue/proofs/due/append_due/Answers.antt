@@ -1,15 +1,23 @@
-use Rattle.std.proofs.Common.{◌≡◌, sym, subst}
-use Rattle.store_model.specs.Placing.{insert_after}
-use Rattle.store_model.proofs.Lists.{BecomesList}
+use Rattle.std.proofs.Common.{◌≡◌, ◌∙◌, ◌+◌, ap, set, sym, subst}
+use Rattle.linked_list.specs.Placing.{insert_after, linked_in}
+use Rattle.linked_list.specs.Linked.{IsListAt}
+use Rattle.linked_list.proofs.Walks.{no_offset}
 use Rattle.packet_queue.specs.Queue.{link_of, packet_size, queue_at}
 use Rattle.packet_queue.specs.Due.{is_due, with_due}
-use Rattle.packet_queue.proofs.Changes.{due_appended}
+use Rattle.packet_queue.proofs.QueueChanges.{due_appended}
 use Rattle.packet_queue.proofs.due.append_due.Goals as goal
 
-after : (c : goal.After-set_due) → BecomesList c.set_due.new.store link_of packet_size c.args.head (insert_after (is_due c.args.store.now c.args.due) c.args.p (queue_at c.args.store.now c.args.head))
+words : (c : goal.After-set_due) → c.set_due.new.store ≡ with_due c.args.store.now c.args.head c.args.p c.args.due
+words c =
+    c.set_due.ensures ∙ ap (λ z. set z (c.args.p + 4) c.args.due)
+    (c.link_in.ensures ∙ (λ i. linked_in c.args.store.now (no_offset i) (c.last_due_link-cell.ensures i) c.args.p))
+
+pub returns-clause-words : goal.returns-clause-words
+returns-clause-words c = words c
+
+after : (c : goal.After-set_due) → IsListAt c.set_due.new.store link_of packet_size c.args.head (insert_after (is_due c.args.store.now c.args.due) c.args.p (queue_at c.args.store.now c.args.head))
 after c =
-    let words : c.set_due.new.store ≡ with_due c.args.store.now c.args.head c.args.p c.args.due = cc in
-    subst (λ t. BecomesList t link_of packet_size c.args.head (insert_after (is_due c.args.store.now c.args.due) c.args.p (queue_at c.args.store.now c.args.head))) (sym words)
+    subst (λ t. IsListAt t link_of packet_size c.args.head (insert_after (is_due c.args.store.now c.args.due) c.args.p (queue_at c.args.store.now c.args.head))) (sym (words c))
     (due_appended c.args.store.now c.args.head c.args.p c.args.due c.requires.queue c.requires.packet)
 
 pub returns-clause-queue : goal.returns-clause-queue

@@ -1,13 +1,13 @@
 use Rattle.std.proofs.Common.{◌≡◌, ◌++◌, ◌∷◌, [], set, sym, subst}
-use Rattle.store_model.proofs.Lists.{BecomesList}
+use Rattle.linked_list.specs.Linked.{IsListAt}
 use Rattle.packet_queue.specs.Queue.{last_link, link_of, packet_size, queue_at}
-use Rattle.packet_queue.proofs.Changes.{appended}
+use Rattle.packet_queue.proofs.QueueChanges.{appended}
 use Rattle.packet_queue.proofs.queue.append.Goals as goal
 
-after : (c : goal.After-set-2) → BecomesList c.set-2.new.self link_of packet_size c.args.head (queue_at c.args.store.now c.args.head ++ c.args.p ∷ [])
+after : (c : goal.After-set-2) → IsListAt c.set-2.new.self link_of packet_size c.args.head (queue_at c.args.store.now c.args.head ++ c.args.p ∷ [])
 after c =
     let words : c.set-2.new.self ≡ set (set c.args.store.now c.args.p 0) (last_link c.args.store.now c.args.head) c.args.p = cc in
-    subst (λ t. BecomesList t link_of packet_size c.args.head (queue_at c.args.store.now c.args.head ++ c.args.p ∷ [])) (sym words)
+    subst (λ t. IsListAt t link_of packet_size c.args.head (queue_at c.args.store.now c.args.head ++ c.args.p ∷ [])) (sym words)
     (appended c.args.store.now c.args.head c.args.p c.requires.queue c.requires.packet)
 
 pub returns-clause-queue : goal.returns-clause-queue

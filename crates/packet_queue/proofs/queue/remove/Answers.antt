@@ -1,27 +1,46 @@
-use Rattle.std.proofs.Common.{◌≡◌, ◌∙◌, ap, sym, subst}
-use Rattle.store_model.specs.Placing.{has, without}
-use Rattle.store_model.proofs.Lists.{BecomesList}
-use Rattle.store_model.proofs.Places.{without-none}
-use Rattle.packet_queue.specs.Queue.{link_before, link_of, packet_size, queue_at, unlinked}
-use Rattle.packet_queue.proofs.Changes.{found-none, found-some, removed}
+use Rattle.std.proofs.Common.{◌≡◌, ◌∙◌, ℕ, List, true, false, refl, ap, set, sym, subst}
+use Rattle.linked_list.specs.Placing.{has, without}
+use Rattle.linked_list.specs.Linked.{IsListAt}
+use Rattle.linked_list.proofs.Places.{without-none}
+use Rattle.linked_list.proofs.UnlinkAnswer.{unlink-found, unlink-words}
+use Rattle.linked_list.proofs.Walks.{no_offset}
+use Rattle.packet_queue.specs.Queue.{link_of, no_queue, packet_size, queue_at, unlinked}
+use Rattle.packet_queue.proofs.QueueChanges.{removed}
 use Rattle.packet_queue.proofs.queue.remove.Goals as goal
 
-pub returns-in_default-clause-queue : goal.returns-in_default-clause-queue
-returns-in_default-clause-queue c =
-    sym (without-none c.args.p (queue_at c.args.store.now c.args.head)
-    (found-none (has c.args.p (queue_at c.args.store.now c.args.head)) (link_before c.args.store.now c.args.head c.args.p) c.in_default.ensures))
+pub returns-then-not-unlink-clause-found : goal.returns-then-not-unlink-clause-found
+returns-then-not-unlink-clause-found c =
+    unlink-found c.args.store.now c.unlink.new.store c.args.p false no_offset refl c.if-not-unlink.ensures.found
 
-after : (c : goal.After-unlink) → BecomesList c.unlink.new.store link_of packet_size c.args.head (without c.args.p (queue_at c.args.store.now c.args.head))
+pub returns-then-not-unlink-clause-queue : goal.returns-then-not-unlink-clause-queue
+returns-then-not-unlink-clause-queue c =
+    let s : List ℕ = c.args.store.now in
+    ap (λ z. queue_at z c.args.head) c.if-not-unlink.ensures.unchanged
+    ∙ sym (without-none c.args.p (queue_at s c.args.head) (sym (unlink-found s c.unlink.new.store c.args.p false no_offset refl c.if-not-unlink.ensures.found)))
+
+-- the packet was there, and went
+record Removal (s v : List ℕ) (head p : ℕ) : Type 0 where
+  pub words : v ≡ unlinked s head p
+  pub queue : IsListAt v link_of packet_size head (without p (queue_at s head))
+
+after : (c : goal.After-set) → Removal c.args.store.now c.set.new.self c.args.head c.args.p
 after c =
-    let found = found-some (has c.args.p (queue_at c.args.store.now c.args.head)) (link_before c.args.store.now c.args.head c.args.p) c.in-Some.cell c.in-Some.ensures in
-    let words : c.unlink.new.store ≡ unlinked c.args.store.now (link_before c.args.store.now c.args.head c.args.p) c.args.p =
-    c.unlink.ensures ∙ ap (λ z. unlinked c.args.store.now z c.args.p) found.1
-    in
-    subst (λ t. BecomesList t link_of packet_size c.args.head (without c.args.p (queue_at c.args.store.now c.args.head))) (sym words)
-    (removed c.args.store.now c.args.head c.args.p c.requires found.0)
+    let s : List ℕ = c.args.store.now in
+    let there : has c.args.p (queue_at s c.args.head) ≡ true = sym (unlink-found s c.unlink.new.store c.args.p true no_offset refl c.if-not-unlink.ensures.found) in
+    let words : c.set.new.self ≡ unlinked s c.args.head c.args.p
+    = c.set.ensures.after
+    ∙ ap (λ z. set z c.args.p no_queue) (unlink-words s c.unlink.new.store c.args.p true no_offset refl c.if-not-unlink.ensures.found there c.if-not-unlink.ensures.words) in
+    record {
+      words = words;
+      queue = subst (λ t. IsListAt t link_of packet_size c.args.head (without c.args.p (queue_at s c.args.head))) (sym words)
+          (removed s c.args.head c.args.p c.requires there);
+    }
+
+pub returns-clause-words : goal.returns-clause-words
+returns-clause-words c = (after c).words
 
 pub returns-clause-queue : goal.returns-clause-queue
-returns-clause-queue c = (after c).list
+returns-clause-queue c = (after c).queue.list
 
 pub returns-clause-stands : goal.returns-clause-stands
-returns-clause-stands c = (after c).stands
+returns-clause-stands c = (after c).queue.stands

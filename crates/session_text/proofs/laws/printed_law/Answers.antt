@@ -1,4 +1,4 @@
-use Rattle.session_text.proofs.ReadAgain.{printed_again}
+use Rattle.session_text.proofs.RoundTrip.{printed_again}
 use Rattle.session_text.proofs.laws.printed_law.Goals as goal
 
 pub returns : goal.returns

@@ -1,11 +1,17 @@
-use Rattle.session_text.proofs.TextErrors.{code_bound, early, error}
+use Rattle.session_text.proofs.TextRefusals.{clock_law, code_bound, end_law, form_law, range_law}
 use Rattle.session_text.proofs.laws.refusal_law.Goals as goal
 
-pub returns-clause-error : goal.returns-clause-error
-returns-clause-error c = error
+pub returns-clause-form : goal.returns-clause-form
+returns-clause-form c = form_law
 
-pub returns-clause-early : goal.returns-clause-early
-returns-clause-early c = early
+pub returns-clause-range : goal.returns-clause-range
+returns-clause-range c = range_law
+
+pub returns-clause-end : goal.returns-clause-end
+returns-clause-end c = end_law
+
+pub returns-clause-clock : goal.returns-clause-clock
+returns-clause-clock c = clock_law
 
 pub returns-clause-codes : goal.returns-clause-codes
 returns-clause-codes c = code_bound

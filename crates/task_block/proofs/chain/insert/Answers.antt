@@ -1,22 +1,17 @@
-use Rattle.std.proofs.Common.{◌≡◌, ◌∙◌, ap, set, subst, sym, get_or, ℕ, List, ◌+◌}
+use Rattle.std.proofs.Common.{◌≡◌, ◌∙◌, ap, set, subst, sym, ℕ, List, ◌+◌}
+use Rattle.linked_list.specs.Placing.{linked_in}
+use Rattle.linked_list.proofs.Walks.{no_offset}
 use Rattle.task_block.specs.Moves.{with_task}
-use Rattle.task_block.specs.TaskChain.{Fall, HasTasks, id_in, tasks_in}
-use Rattle.task_block.proofs.Coming.{fall-in, task-in}
+use Rattle.task_block.specs.TaskChain.{Fall, HasTasks, task_link, tasks_in}
+use Rattle.task_block.proofs.TaskInsertion.{fall-in, task-in}
 use Rattle.task_block.proofs.chain.insert.Goals as goal
 
--- the writes, one after the other
-put : (s : List ℕ) (t c n i c' i' : ℕ) → c ≡ c' → n ≡ get_or s c 0 → i ≡ i' → set (set (set s t n) c t) (120 + i) t ≡ set (set (set s t (get_or s c' 0)) c' t) (120 + i') t
-put s t c n i c' i' e read ids =
-    ap (λ w. set (set (set s t w) c t) (120 + i) t) read
-    ∙ ap (λ z. set (set (set s t (get_or s z 0)) z t) (120 + i) t) e
-    ∙ ap (λ j. set (set (set s t (get_or s c' 0)) c' t) (120 + j) t) ids
-
-words : (c : goal.After-set-3) → c.set-3.new.self ≡ with_task c.args.store.now c.args.t
+words : (c : goal.After-set_word_at) → c.set_word_at.new.store ≡ with_task c.args.store.now c.args.t
 words c =
     let s : List ℕ = c.args.store.now in
     let t : ℕ = c.args.t in
-    c.set-3.ensures.after ∙ ap (λ z. set z (120 + c.field-id.result) t) (c.set-2.ensures.after ∙ ap (λ z. set z c.link_above-cell.result t) c.set.ensures.after)
-    ∙ put s t c.link_above-cell.result c.word-next.result c.field-id.result _ (id_in s t) c.link_above-cell.ensures c.word-next.ensures c.field-id.ensures
+    c.set_word_at.ensures ∙ ap (λ z. set z (120 + c.field-id.result) t) (c.link_in.ensures ∙ ap (λ f. linked_in s f c.link_above-cell.result t) no_offset)
+    ∙ (λ i. set (linked_in s task_link (c.link_above-cell.ensures i) t) (120 + c.field-id.ensures i) t)
 
 pub returns-clause-words : goal.returns-clause-words
 returns-clause-words c = words c

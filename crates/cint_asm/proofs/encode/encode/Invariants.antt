@@ -1,0 +1,18 @@
+use Rattle.std.proofs.Common.{◌≡◌, ◌≤◌, ◌+◌, length}
+use Rattle.text_reader.specs.Lines.{lines_of}
+use Rattle.cint_asm.specs.Encoding.{encode}
+use Rattle.cint_asm.specs.KeptCode.{kept_code}
+use Rattle.cint_asm.specs.KeptLabels.{table_of}
+use Rattle.cint_asm.proofs.EncodeLemmas.{IsSurveyed, after_code}
+use Rattle.cint_asm.proofs.encode.encode.Given as goal
+
+abbrev pub invariant-loop-line : goal.invariant-loop-line
+invariant-loop-line l = record {
+  code : after_code (kept_code l.code) (encode (l.n + 1) (table_of l.labels) l.offset (lines_of l.rest)) ≡ encode 1 (table_of l.labels) 4 (lines_of l.text);
+  surveyed : IsSurveyed (l.n + 1) l.offset (lines_of l.rest);
+  low : l.offset ≤ 262144;
+  number : l.n + length l.rest ≤ length l.text;
+}
+
+abbrev pub decreases-loop-line : goal.decreases-loop-line
+decreases-loop-line l = length l.rest

@@ -1,2 +1,0 @@
--- Steps that may fail, one after another.
-pub use Rattle.text_lines.specs.Steps.{◌>>=◌}

@@ -1,6 +1,0 @@
-use Rattle.std.proofs.Common.{arith}
-use Rattle.coroutines.proofs.Known.{known-node}
-use Rattle.coroutines.proofs.creation.unlink.Goals as goal
-
-pub overflow_add-c : goal.overflow_add-c
-overflow_add-c c = omega (arith, (known-node c.args.store.now c.args.t c.args.c c.requires.coroutines c.requires.known).inside, c.size-size.ensures, c.size-size.type_inv)

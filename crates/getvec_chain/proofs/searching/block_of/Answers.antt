@@ -1,8 +1,0 @@
-use Rattle.std.proofs.Common.{rules}
-use borrow.Author.Tests.{tests}
-use Rattle.store_model.specs.Block.{has_data}
-use Rattle.getvec_chain.proofs.Finding.{found-first}
-use Rattle.getvec_chain.proofs.searching.block_of.Goals as goal
-
-pub returns : goal.returns
-returns c = found-first (λ b. has_data b c.args.a) _ _ _ c.find.result c.find.ensures.ran c.blocks-2.ensures.blocks (λ x b q k. search (rules, tests))

@@ -1,7 +1,0 @@
-use Rattle.store_model.specs.Run.{first_run, need}
-use Rattle.store_model.specs.Tiling.{blocks_in}
-use Rattle.getvec_chain.proofs.OpenRun.{IsOpen}
-use Rattle.getvec_chain.proofs.searching.first_run.Given as goal
-
-abbrev pub invariant-loop-block : goal.invariant-loop-block
-invariant-loop-block l = IsOpen l.store (need l.u) (first_run (need l.u) (blocks_in l.store)) l.run l.block-iterator

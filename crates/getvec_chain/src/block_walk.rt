@@ -1,0 +1,44 @@
+// The blocks of a store, in rising order.
+ghost use Rattle.std.specs.Iterator.{YieldsFirst, item_count};
+
+use std::marker::Model;
+use crate::pieces::Block;
+use word_store::Store;
+
+/// The blocks that are left.
+#[derive(Drop)]
+pub struct Blocks<'a> {
+    pub(crate) store: &'a Store,
+    pub(crate) at: u32,
+    pub(crate) end: u32,
+}
+
+impl<'a> Model for Blocks<'a> {
+    ghost use Rattle.std.specs.Prelude.{◌≡◌, ◌+◌, List, length};
+    ghost use Rattle.getvec_chain.specs.declared.pieces.Block.{Block};
+    ghost use Rattle.getvec_chain.specs.Tiling.{IsTiledFrom, blocks_from};
+
+    ghost Value = { List Block };
+
+    ghost view = { λ it. blocks_from it.store.now it.at };
+
+    // the words from the iterator's place on tile, up to the end word
+    ghost invariant = { λ it. IsTiledFrom it.store.now it.at × (it.end + 2 ≡ length it.store.now) };
+}
+
+impl Iterator for Blocks<'_> {
+    type Item = Block;
+
+    ghost next_gives = { YieldsFirst (λ rest. rest) };
+
+    ghost remaining = { item_count (λ rest. rest) };
+
+    fn next(&mut self) -> Option<Block> {
+        if self.at == self.end {
+            return None;
+        }
+        let block = Block::of_word(self.at, self.store.get(self.at)?);
+        self.at = block.end();
+        Some(block)
+    }
+}

@@ -1,0 +1,75 @@
+// Blocks of a store, and runs of free blocks.
+ghost use Rattle.std.specs.Prelude.{◌≡◌, ◌+◌, ◌-◌, ◌<◌, ◌≤◌, ◌^◌};
+ghost use Rattle.getvec_chain.specs.Block.{block_end, block_of_word, has_data, is_used_at, size_word};
+
+/// The address of the first block.
+pub const FIRST_BLOCK: u32 = 200;
+
+/// A block: the address of its size word, its size in words, the size word included, and whether it is free. Its data
+/// are the words after the size word.
+#[derive(Clone, Copy, Debug, PartialEq, Eq)]
+pub struct Block {
+    pub start: u32,
+    pub size: u32,
+    pub free: bool,
+}
+
+/// A run of adjacent free blocks: the address of its first word, and the address after its last.
+#[derive(Clone, Copy, Debug, PartialEq, Eq)]
+pub struct Run {
+    pub start: u32,
+    pub end: u32,
+}
+
+impl Block {
+    /// The block that a size word makes at an address.
+    pub fn of_word(start: u32, word: u32) -> Block
+        ensures { result ≡ block_of_word start word }
+    {
+        Block {
+            start,
+            size: word - word % 2,
+            free: word % 2 == 1,
+        }
+    }
+
+    /// The block's size word.
+    pub fn size_word(self) -> u32
+        requires { self.size + 1 < 2 ^ 32 }
+        ensures { result ≡ size_word self }
+    {
+        if self.free { self.size + 1 } else { self.size }
+    }
+
+    /// The address after the block's last word.
+    pub fn end(self) -> u32
+        requires { self.start + self.size < 2 ^ 32 }
+        ensures { result ≡ block_end self }
+    {
+        self.start + self.size
+    }
+
+    /// Whether the word at address a is one of the block's data.
+    pub fn has_data(self, a: u32) -> bool
+        ensures { result ≡ has_data self a }
+    {
+        self.start < a && a - self.start < self.size
+    }
+
+    /// Whether the block is used and its data begin at address v.
+    pub fn is_used_at(self, v: u32) -> bool
+        ensures { result ≡ is_used_at v self }
+    {
+        !self.free && v.checked_sub(1) == Some(self.start)
+    }
+}
+
+impl Run {
+    /// The number of words.
+    pub fn size(self) -> u32
+        requires { self.start ≤ self.end }
+        ensures { result ≡ self.end - self.start }
+    {
+        self.end - self.start
+    }
+}

@@ -1,0 +1,72 @@
+// What stands where among the blocks of a store.
+ghost use Rattle.std.specs.Prelude.{◌≡◌, ◌^◌, ◌<◌, length};
+ghost use Rattle.getvec_chain.specs.Run.{first_run, need};
+ghost use Rattle.getvec_chain.specs.Tiling.{IsTiled, blocks_in, holding, used_at};
+
+use crate::block_walk::Blocks;
+use crate::pieces::{Block, FIRST_BLOCK, Run};
+use word_store::Store;
+
+/// The blocks of the store, in rising order.
+pub fn blocks(store: &Store) -> Blocks<'_>
+    requires { IsTiled store.now }
+    ensures blocks { result ≡ blocks_in store.now }
+    ensures addresses { length store.now < 2 ^ 32 }
+{
+    Blocks {
+        store,
+        at: FIRST_BLOCK,
+        end: store.size() - 2,
+    }
+}
+
+/// The block whose data hold the word at address a.
+pub fn block_of(store: &Store, a: u32) -> Option<Block>
+    requires { IsTiled store.now }
+    ensures { result ≡ holding a (blocks_in store.now) }
+{
+    blocks(store).find(|block| block.has_data(a))
+}
+
+/// The used block whose data begin at address v.
+pub(crate) fn used_at(store: &Store, v: u32) -> Option<Block>
+    requires { IsTiled store.now }
+    ensures { result ≡ used_at v (blocks_in store.now) }
+{
+    blocks(store).find(|block| block.is_used_at(v))
+}
+
+/// The whole run that a block with the data words 0 to u would be taken from.
+pub fn first_run(store: &Store, u: u32) -> Option<Run>
+    requires { IsTiled store.now }
+    ensures { result ≡ first_run (need u) (blocks_in store.now) }
+{
+    let need = words_needed(u);
+    // the free blocks that were passed last
+    let mut run = Run {
+        start: FIRST_BLOCK,
+        end: FIRST_BLOCK,
+    };
+    for block in blocks(store) {
+        if block.free {
+            run.end = block.end();
+            continue;
+        }
+        if need <= u64::from(run.size()) {
+            return Some(run);
+        }
+        let end = block.end();
+        run = Run { start: end, end };
+    }
+    if need <= u64::from(run.size()) {
+        return Some(run);
+    }
+    None
+}
+
+/// The size of a block with the data words 0 to u.
+pub(crate) fn words_needed(u: u32) -> u64
+    ensures { result ≡ need u }
+{
+    (u64::from(u) + 3) / 2 * 2
+}

@@ -1,0 +1,27 @@
+-- A module is loaded, or not.
+use Rattle.std.specs.Prelude.{◌≡◌, ℕ, None, Err, List, slice_index, slice_set}
+use Rattle.word_store.specs.Row.{with_words}
+use Rattle.getvec_chain.specs.Run.{first_run, need}
+use Rattle.getvec_chain.specs.Take.{IsTaken, taken}
+use Rattle.getvec_chain.specs.Tiling.{blocks_in}
+use Rattle.hunk_text.specs.ModuleForm.{IsModule}
+use Rattle.hunk_text.specs.Shapes.{check_of}
+use Rattle.hunk_text.specs.declared.modules.Module.{Module}
+use Rattle.hunk_loader.specs.ModuleRow.{last_word, module_row}
+use Rattle.hunk_loader.specs.declared.calls.LoadEnd.{LoadEnd}
+use Rattle.hunk_loader.specs.declared.calls.LoadEnd.TheVariants.{Module as BadText, NoRoom}
+
+-- the store t is s, where a block was taken for the module of the text, and its words were put there, from the link to the
+-- end of the last hunk, and its address in word 104
+pub record IsLoaded (s t text : List ℕ) (m : ℕ) : Type 0 where
+  pub hunks : Module
+  pub is : IsModule text hunks
+  pub with_block : List ℕ
+  pub block : IsTaken s with_block (last_word hunks.hunks) m
+  pub blocks : blocks_in t ≡ taken (need (last_word hunks.hunks)) (blocks_in s)
+  pub words : t ≡ slice_set (with_words with_block m (module_row (slice_index s 104) m hunks.hunks)) 104 m
+
+-- the text is no module, and this is the code; or it is, and no run of free blocks is large enough for its words
+abbrev pub IsRefused : List ℕ → List ℕ → LoadEnd → Type 0
+IsRefused s text (BadText code) = check_of text ≡ Err code
+IsRefused s text NoRoom = (hunks : Module) × IsModule text hunks × (first_run (need (last_word hunks.hunks)) (blocks_in s) ≡ None)

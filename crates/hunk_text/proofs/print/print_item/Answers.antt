@@ -1,0 +1,12 @@
+use Rattle.std.proofs.lemmas.Result.{err_from_is_err_and}
+use Rattle.tp_io.proofs.Appending.{Prints-then}
+use Rattle.tp_io.proofs.FailedPrint.{Prints-first}
+use Rattle.hunk_text.proofs.print.print_item.Goals as goal
+
+pub returns-in_err-print_head-clause-text : goal.returns-in_err-print_head-clause-text
+returns-in_err-print_head-clause-text g c =
+    let p = err_from_is_err_and c.from_residual.result c.from_residual.ensures.1 in
+    Prints-first _ _ _ _ _ p.0 p.1 c.in_err-print_head.ensures.text
+
+pub returns-clause-text : goal.returns-clause-text
+returns-clause-text g c = Prints-then _ _ _ _ _ _ c.in_ok-print_head.ensures.text c.print_words.ensures.text

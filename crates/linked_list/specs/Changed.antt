@@ -1,0 +1,16 @@
+-- What a store has become where one node was linked in, or out: only its own words and the cell before it have changed.
+use Rattle.std.specs.Prelude.{◌≡◌, ◌≢◌, ℕ, List, length, slice_index}
+use Rattle.linked_list.specs.Count.{node_words, times}
+
+-- p stands behind the cell, and leads where the cell led
+pub record InsertedAt (s t : List ℕ) (link size : ℕ → ℕ) (cell p : ℕ) : Type 0 where
+  pub same_length : length t ≡ length s
+  pub to : slice_index t (link p) ≡ slice_index s cell
+  pub from : slice_index t cell ≡ p
+  pub others : (a : ℕ) → a ≢ cell → times a (node_words size p) ≡ 0 → slice_index t a ≡ slice_index s a
+
+-- the cell leads where p led
+pub record RemovedAt (s t : List ℕ) (link size : ℕ → ℕ) (cell p : ℕ) : Type 0 where
+  pub same_length : length t ≡ length s
+  pub from : slice_index t cell ≡ slice_index s (link p)
+  pub others : (a : ℕ) → a ≢ cell → times a (node_words size p) ≡ 0 → slice_index t a ≡ slice_index s a

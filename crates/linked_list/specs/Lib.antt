@@ -1,0 +1,6 @@
+pub mod Chain
+pub mod Changed
+pub mod Count
+pub mod Linked
+pub mod Placing
+pub mod Walk

@@ -1,0 +1,5 @@
+use Rattle.owned_words.proofs.Writing.{ordered-hold}
+use Rattle.owned_words.proofs.laws.ordered_law.Goals as goal
+
+pub returns : goal.returns
+returns c = ordered-hold

@@ -1,0 +1,5 @@
+use Rattle.owned_words.proofs.Writing.{stands-hold}
+use Rattle.owned_words.proofs.laws.standing_law.Goals as goal
+
+pub returns : goal.returns
+returns c = stands-hold

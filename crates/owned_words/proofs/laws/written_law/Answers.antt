@@ -1,0 +1,5 @@
+use Rattle.owned_words.proofs.Writing.{writes-hold}
+use Rattle.owned_words.proofs.laws.written_law.Goals as goal
+
+pub returns : goal.returns
+returns c = writes-hold

@@ -1,0 +1,15 @@
+-- Owned words of which some are exchanged for others.
+use Rattle.std.specs.Prelude.{◌≡◌, ℕ, ◌+◌, List}
+use Rattle.owned_words.specs.Owned.{Holds, Pairs, owners}
+
+-- the pairs are these two parts, in some order
+pub record Splits (whole rest part : Pairs) : Type 0 where
+  pub count : (a : ℕ) → owners a whole ≡ owners a rest + owners a part
+  pub opens : (s : List ℕ) → Holds s whole → Holds s rest × Holds s part
+  pub closes : (s : List ℕ) → Holds s rest → Holds s part → Holds s whole
+
+-- in place of `old`, `new` is owned, and the rest is owned as before
+pub record Exchange (before after old new : Pairs) : Type 0 where
+  pub rest : Pairs
+  pub first : Splits before rest old
+  pub then' : Splits after rest new

@@ -1,0 +1,37 @@
+-- What a call that exchanges owned words has to write.
+use Rattle.std.specs.Prelude.{◌≡◌, ℕ, ◌<◌, List, ◌++◌, slice_index}
+use Rattle.owned_words.specs.Owned.{AreApart, AreInside, Holds, Pairs, owners, written}
+use Rattle.owned_words.specs.Exchange.{Exchange, Splits}
+
+-- Where a store holds the words that are owned before, the words `new` are written for `old`, the words `kept` come to be
+-- owned as they stand, and the words `plain` are written besides, which nobody owns afterwards.
+pub record Writes (s : List ℕ) (before after old new kept plain : Pairs) : Type 0 where
+  pub holds : Holds s before
+  pub exchange : Exchange before after old (new ++ kept)
+  pub stands : Holds s kept
+  pub apart : AreApart after
+  pub inside : AreInside s after
+  pub unowned : (a : ℕ) → 0 < owners a plain → owners a after ≡ 0
+
+-- then the store holds what is owned afterwards, and only the plain words that were written have changed besides
+pub record IsWritten (s t : List ℕ) (after plain : Pairs) : Type 0 where
+  pub holds : Holds t after
+  pub others : (a : ℕ) → owners a after ≡ 0 → slice_index t a ≡ slice_index (written plain s) a
+
+-- The same, where the new words and the plain ones are written in an order of the call's own: `all` are both, and no plain word
+-- is written twice.
+pub record OrderedWrites (s : List ℕ) (before after old new kept plain all : Pairs) : Type 0 where
+  pub writes : Writes s before after old new kept plain
+  pub order : Splits all plain new
+  pub once : AreApart plain
+  pub plain_inside : AreInside s plain
+
+-- The same of any store t, however it came about, also where a word was written twice: the new words stand in it, and each
+-- other word is as it was, or as it was written besides.
+pub record StandsWritten (s t : List ℕ) (before after old new plain : Pairs) : Type 0 where
+  pub holds : Holds s before
+  pub exchange : Exchange before after old new
+  pub stands : Holds t new
+  pub others : (a : ℕ) → owners a new ≡ 0 → slice_index t a ≡ slice_index (written plain s) a
+  pub apart : AreApart after
+  pub unowned : (a : ℕ) → 0 < owners a plain → owners a after ≡ 0

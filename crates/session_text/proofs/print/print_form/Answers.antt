@@ -1,0 +1,21 @@
+use Rattle.std.proofs.Common.{[], ◌∷◌}
+use Rattle.std.proofs.lemmas.Result.{err_from_is_err_and}
+use Rattle.tp_io.proofs.Appending.{Appends-nothing}
+use Rattle.tp_io.proofs.Appending.{Prints-then}
+use Rattle.tp_io.proofs.FailedPrint.{Prints-cut}
+use Rattle.session_text.proofs.print.print_form.Goals as goal
+
+pub returns-in_err-write_pieces-in-Code-clause-text : goal.returns-in_err-write_pieces-in-Code-clause-text
+returns-in_err-write_pieces-in-Code-clause-text g c =
+    let p = err_from_is_err_and c.from_residual.result c.from_residual.ensures.1 in
+    rw c.in-Code.is (Prints-cut _ _ _ [] (58 ∷ []) _ _ p.0 p.1 (Appends-nothing _) c.in_err-write_pieces-in-Code.ensures.text)
+
+pub returns-in_err-print_hex-in-Code-clause-text : goal.returns-in_err-print_hex-in-Code-clause-text
+returns-in_err-print_hex-in-Code-clause-text g c =
+    let p = err_from_is_err_and c.from_residual-in_err-print_hex-in-Code.result c.from_residual-in_err-print_hex-in-Code.ensures.1 in
+    rw (c.in-Code.is, ← c.as_slice.ensures) (Prints-cut _ _ _ (58 ∷ []) _ (10 ∷ []) _ p.0 p.1 c.in_ok-write_pieces-in-Code.ensures.text c.in_err-print_hex-in-Code.ensures.text)
+
+pub returns-clause-text : goal.returns-clause-text
+returns-clause-text g c =
+    rw (c.in-Code.is, ← c.as_slice.ensures) (Prints-then _ _ _ (58 ∷ []) _ _ c.in_ok-write_pieces-in-Code.ensures.text
+    (Prints-then _ _ _ _ (10 ∷ []) _ c.in_ok-print_hex-in-Code.ensures.text c.write_pieces-in-Code.ensures.text))

@@ -1,0 +1,19 @@
+// Laws of a task that is out of the chain.
+ghost use Rattle.std.specs.Prelude.{◌≡◌, ◌<◌, ◌≤◌, ◌+◌, ℕ, List, slice_set, true};
+ghost use Rattle.linked_list.specs.Placing.{has};
+ghost use Rattle.task_block.specs.Moves.{HasNewPriority, StaysNew, with_priority};
+ghost use Rattle.task_block.specs.TaskChain.{HasTasks, IsNewTask, tasks_in};
+
+/// A word of a task block that may come into the chain, its link and its number aside, may be written: the chain and the table
+/// are as they were, and the task may still come in.
+pub fn new_task_law()
+    ensures { (s : List ℕ) (t j w : ℕ) → HasTasks s → IsNewTask s t → 2 ≤ j → j < 23
+        → StaysNew s (slice_set s (t + j) w) t }
+{}
+
+/// A task of the chain that went out, and has another priority, may come in again. Where no other task has this priority, its
+/// priority is none of the chain's.
+pub fn priority_law()
+    ensures { (s : List ℕ) (t pri : ℕ) → HasTasks s → has t (tasks_in s) ≡ true
+        → HasNewPriority s (with_priority s t pri) t pri }
+{}

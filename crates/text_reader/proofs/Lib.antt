@@ -1,0 +1,5 @@
+pub mod FieldLemmas
+pub mod LineEnds
+pub mod NumberLemmas
+pub mod PlainLines
+pub mod StepLemmas

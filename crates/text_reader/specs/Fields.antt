@@ -1,0 +1,35 @@
+-- The fields of a line, and lines one after another.
+use Rattle.std.specs.Prelude.{ℕ, ◌≡◌, Bool, if◌then◌else◌, List, [], ◌∷◌, ◌++◌, length, drop, Option, Some, None, Result, Ok, Err, nat_eq, option_and_then}
+use Rattle.std.specs.List.{starts_with}
+use Rattle.std.specs.Option.{ok_or}
+use Rattle.text_reader.specs.Numbers.{IsNumber, number_of}
+use Rattle.text_reader.specs.Refusal.{Refusal, refusal}
+use Rattle.text_reader.specs.Steps.{◌>>=◌}
+
+-- a line is this word and a number
+abbrev pub IsNumberLine : List ℕ → ℕ → List ℕ → Type 0
+IsNumberLine word n line = (digits : List ℕ) × (line ≡ word ++ digits) × IsNumber digits n
+
+-- what follows a word at the front of a line
+abbrev pub after_word : List ℕ → List ℕ → Option (List ℕ)
+after_word word line = if starts_with nat_eq line word then Some (drop (length word) line) else None
+
+-- the number of line n, which is a word and a number
+abbrev pub number_after : List ℕ → ℕ → List ℕ → Result ℕ Refusal
+number_after word n line = ok_or (option_and_then number_of (after_word word line)) (refusal n 1)
+
+-- the same, where the number is in its range
+abbrev pub number_line : List ℕ → (ℕ → Bool) → ℕ → List ℕ → Result ℕ Refusal
+number_line word is_in_range n line = do
+  value ← number_after word n line
+  if is_in_range value then Ok value else Err (refusal n 2)
+
+-- line n and those after it, unless the text has ended
+abbrev pub first_line : ℕ → List (List ℕ) → Result (List ℕ × List (List ℕ)) Refusal
+first_line n [] = Err (refusal n 3)
+first_line n (line ∷ lines) = Ok (line, lines)
+
+-- the text has ended before line n
+abbrev pub end_of_text : ℕ → List (List ℕ) → Result Unit Refusal
+end_of_text n [] = Ok tt
+end_of_text n (line ∷ lines) = Err (refusal n 1)

@@ -1,0 +1,15 @@
+// What readers of texts share: lines, fields, numbers, and why a text is refused.
+#![tactic(auto)]
+
+pub mod ends;
+pub mod fields;
+pub mod lines;
+pub mod numbers;
+
+pub use ends::TextEnd;
+pub use fields::{after_word, end_of_text, first_line, number_after};
+pub use lines::split_line;
+pub use numbers::{any_number, digit, number};
+
+#[cfg(test)]
+mod tests;

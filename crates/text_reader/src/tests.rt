@@ -1,0 +1,17 @@
+// Numbers of any length.
+use super::*;
+
+#[test]
+fn caps_long_numbers(rt: HostRuntime) {
+    for (digits, wanted) in [
+        ("", None),
+        ("0", Some(0)),
+        ("00000000000000000000000000012", Some(12)),
+        ("18446744073709551614", Some(18_446_744_073_709_551_614)),
+        ("18446744073709551616", Some(18_446_744_073_709_551_615)),
+        ("99999999999999999999", Some(18_446_744_073_709_551_615)),
+        ("1_", None),
+    ] {
+        assert_eq!(rt; any_number(digits.as_bytes()), wanted, "{digits}");
+    }
+}
