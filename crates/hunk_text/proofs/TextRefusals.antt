@@ -3,7 +3,7 @@ use Rattle.std.proofs.Common.{◌≡◌, ◌∙◌, ℕ, zero, suc, ◌≤◌, �
 use Rattle.std.specs.Option.{ok_or}
 use Rattle.text_reader.proofs.NumberLemmas.{number_in-again, number_in-ok}
 use Rattle.text_reader.proofs.StepLemmas.{Err-same, Ok-same, bind-ok, cond-cases}
-use Rattle.hunk_text.specs.FirstError.{EndsEarly, HasWord, IsBegun, IsBeyond, IsFirstError, IsInsideItem, IsNoOffset, IsNoType, IsNoWord, IsOffsetDue, IsTypeDue, IsWhole}
+use Rattle.hunk_text.specs.FirstError.{EndsEarly, HasWord, IsBeyond, IsFirstError, IsInsideItem, IsNoOffset, IsNoType, IsNoWord, IsTypeDue}
 use Rattle.hunk_text.specs.Grammar.{finish, first_type, follow, offsets_or_type}
 use Rattle.hunk_text.specs.ModuleForm.{AreWords, end_word, hunk_type, relocation_type}
 use Rattle.hunk_text.specs.ModuleReading.{Refusal, Rest, Stop, ◌>>=◌, module_of, module_or_refusal, or_stop, put, read_token, refusal, rest, rest_of, stop}

@@ -1,20 +1,18 @@
 -- Lines that are refused, and why.
-use Rattle.std.proofs.Common.{◌≡◌, ◌≢◌, ◌∙◌, ℕ, ◌⊎◌, inl, inr, Bool, true, false, cond, Option, Some, None, Result, Ok, Err, List, ◌∷◌, [], ◌++◌, refl, sym, ap}
+use Rattle.std.proofs.Common.{◌≡◌, ◌≢◌, ◌∙◌, ℕ, ◌⊎◌, inl, inr, Bool, true, false, cond, Some, Result, Ok, Err, List, ◌++◌, refl, sym, ap}
 use Rattle.std.specs.Prelude.{codes}
 use Rattle.std.specs.Str.{bytes_eq}
 use Rattle.std.proofs.lemmas.Slice.Eq.{bytes_eq-Decides}
 use Rattle.hex.specs.Hex.{decode_of}
 use Rattle.hex.specs.declared.error.FromHexError.{FromHexError}
-use Rattle.text_reader.specs.Fields.{IsNumberLine, after_word, number_after, number_line}
+use Rattle.text_reader.specs.Fields.{IsNumberLine, after_word, number_line}
 use Rattle.text_reader.specs.Refusal.{Refusal, refusal}
-use Rattle.text_reader.specs.Steps.{◌>>=◌}
 use Rattle.text_reader.proofs.FieldLemmas.{IsOutOfRange, after_word-again, number_after-again, number_line-err, number_line-ok}
-use Rattle.text_reader.proofs.StepLemmas.{Err-same, Ok-same, bind-err, failed, guard-err}
-use Rattle.session_text.specs.Forms.{Form, Code, Go, HasForm, HasNumber}
+use Rattle.text_reader.proofs.StepLemmas.{Err-same, Ok-same, bind-err}
+use Rattle.session_text.specs.Forms.{Form, Code, Go, HasForm}
 use Rattle.session_text.specs.SessionForm.{IsVersionLine, is_period}
 use Rattle.session_text.specs.SessionReading.{bare_line, bytes_or_refusal, tick_line, version_line}
 use Rattle.session_text.proofs.Complete.{version_again}
-use Rattle.session_text.proofs.FormLemmas.{form-unique}
 
 -- Where these forms may stand, line n has none of them, or one with a number out of its range.
 abbrev pub IsWrong : (Form → Type 0) → ℕ → List ℕ → Refusal → Type 0

@@ -1,5 +1,5 @@
 -- What is printed is read as the same session.
-use Rattle.std.proofs.Common.{◌≡◌, ℕ, ◌≤◌, ◌+◌, ◌%◌, ◌==◌, ◌&&◌, true, Ok, List, [], ◌∷◌, ◌++◌, refl, ap, arith, nat_le}
+use Rattle.std.proofs.Common.{◌≡◌, ℕ, ◌≤◌, ◌+◌, ◌%◌, ◌==◌, ◌&&◌, true, Ok, List, [], ◌∷◌, ◌++◌, refl, arith, nat_le}
 use Rattle.std.specs.Prelude.{codes, decimal}
 use Rattle.std.specs.List.{AllByRecursion}
 use Rattle.std.proofs.lemmas.Bool.{and_parts}

@@ -9,7 +9,7 @@ use Rattle.text_reader.proofs.NumberLemmas.{decimal_number}
 use Rattle.text_reader.proofs.StepLemmas.{Err-same, bind-err, bind-stop, succeeded}
 use Rattle.session_text.specs.Canonical.{go_text}
 use Rattle.session_text.specs.FirstError.{HasNoForm, IsClockLine, IsOutOfRange, MayStand}
-use Rattle.session_text.specs.Forms.{Form, Version, Store, Bare, Tick, Code, Go, HasForm}
+use Rattle.session_text.specs.Forms.{Form, Version, Store, Bare, Tick}
 use Rattle.session_text.specs.SessionForm.{AreSessionLines, IsVersionLine, is_store_size}
 use Rattle.session_text.specs.SessionReading.{bare_line, bare_session, body_lines, head_lines, session_lines, store_line, version_line}
 use Rattle.session_text.specs.declared.sessions.Session.{Session}
@@ -17,7 +17,7 @@ use Rattle.session_text.specs.declared.sessions.SessionLine.{SessionLine}
 use Rattle.session_text.proofs.BodyRefusals.{BeginBody, EndsAt, IsWrongInBody, MayFollow, StopsAt, body_err, refusal-at}
 use Rattle.session_text.proofs.Complete.{head_again}
 use Rattle.session_text.proofs.FormLemmas.{form-unique}
-use Rattle.session_text.proofs.LineRefusals.{TickEnds, bare_err, number-unique, version_err}
+use Rattle.session_text.proofs.LineRefusals.{bare_err, number-unique, version_err}
 use Rattle.session_text.proofs.Parts.{HasBody, HasHead}
 use Rattle.session_text.proofs.SessionTexts.{BeginLines, begin_lines, begin_text}
 use Rattle.session_text.proofs.Sound.{bare_ok, head_ok, session_by, version_ok}

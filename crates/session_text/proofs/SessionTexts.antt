@@ -6,7 +6,7 @@ use Rattle.std.proofs.lemmas.List.Elements.{All-weaker, recursion_from_All}
 use Rattle.hex.specs.Hex.{is_hex_digit}
 use Rattle.hex.proofs.HexLemmas.{decode_of-ok}
 use Rattle.text_reader.specs.Fields.{IsNumberLine}
-use Rattle.text_reader.specs.Lines.{lines_of, text_of_lines}
+use Rattle.text_reader.specs.Lines.{text_of_lines}
 use Rattle.text_reader.proofs.PlainLines.{IsPlain, IsPlainByte, lines_of_text_of_lines, plain_append, plain_decimal, plain_digits, plain_hex_digit, plain_literal}
 use Rattle.session_text.specs.FirstError.{BeginSession}
 use Rattle.session_text.specs.SessionForm.{AreCodeLines, AreSessionLines, IsCodeLine}

@@ -10,7 +10,7 @@ use Rattle.hex.specs.Hex.{decode_of}
 use Rattle.hex.specs.declared.error.FromHexError.{FromHexError}
 use Rattle.text_reader.specs.Fields.{after_word, end_of_text, first_line, number_line}
 use Rattle.text_reader.specs.Lines.{lines_of}
-use Rattle.text_reader.specs.Refusal.{Refusal, refusal}
+use Rattle.text_reader.specs.Refusal.{refusal}
 use Rattle.text_reader.specs.Steps.{◌>>=◌}
 use Rattle.text_reader.proofs.FieldLemmas.{after_word-ok, end_of_text-ok, first_line-ok, number_line-ok}
 use Rattle.text_reader.proofs.StepLemmas.{Ok-same, bind-ok}

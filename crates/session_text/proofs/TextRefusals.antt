@@ -1,14 +1,13 @@
 -- A text is refused exactly where and why it is by the rules.
-use Rattle.std.proofs.Common.{◌≡◌, ◌≢◌, ◌∙◌, ℕ, zero, suc, ◌≤◌, ◌+◌, ◌⊎◌, ◌↔◌, inl, inr, Result, Ok, Err, List, [], ◌∷◌, ◌++◌, length, refl, sym, ap, subst, arith, append_assoc}
+use Rattle.std.proofs.Common.{◌≡◌, ◌≢◌, ◌∙◌, ℕ, zero, suc, ◌≤◌, ◌+◌, ◌↔◌, inl, inr, Result, Ok, Err, List, [], ◌∷◌, ◌++◌, length, refl, sym, ap, subst, arith, append_assoc}
 use Rattle.text_reader.specs.Lines.{lines_of}
 use Rattle.text_reader.specs.Refusal.{Refusal, refusal}
-use Rattle.text_reader.proofs.StepLemmas.{Err-same}
 use Rattle.session_text.specs.FirstError.{BeginSession, EndsEarly, HasNoForm, IsClockLine, IsFirstError, IsOutOfRange}
 use Rattle.session_text.specs.Forms.{Tick}
 use Rattle.session_text.specs.SessionForm.{AreSessionLines, IsSession}
 use Rattle.session_text.specs.SessionReading.{session_lines, session_of}
 use Rattle.session_text.specs.declared.sessions.Session.{Session}
-use Rattle.session_text.proofs.BodyRefusals.{EndsAt, StopsAt}
+use Rattle.session_text.proofs.BodyRefusals.{StopsAt}
 use Rattle.session_text.proofs.Complete.{complete}
 use Rattle.session_text.proofs.SessionRefusals.{IsRefusedLine, session_err}
 use Rattle.session_text.proofs.SessionTexts.{BeginLines, begin_lines, begin_text}

@@ -10,9 +10,8 @@ use Rattle.std.proofs.lemmas.Slice.Eq.{starts_is}
 use Rattle.text_reader.specs.Fields.{IsNumberLine, after_word, end_of_text, first_line, number_after, number_line}
 use Rattle.text_reader.specs.Numbers.{number_of}
 use Rattle.text_reader.specs.Refusal.{Refusal, refusal}
-use Rattle.text_reader.specs.Steps.{◌>>=◌}
 use Rattle.text_reader.proofs.NumberLemmas.{number_in-again, number_in-ok}
-use Rattle.text_reader.proofs.StepLemmas.{Err-same, bind-err, bind-ok, guard-err, guard-ok, ok_or-err, ok_or-ok}
+use Rattle.text_reader.proofs.StepLemmas.{bind-err, bind-ok, guard-err, guard-ok, ok_or-err, ok_or-ok}
 
 -- ---- words
 

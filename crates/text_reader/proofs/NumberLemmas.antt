@@ -1,5 +1,5 @@
 -- The numbers that digits are, from the test and back, and digit by digit.
-use Rattle.std.proofs.Common.{◌≡◌, ◌∙◌, ℕ, suc, ◌<◌, ◌≤◌, ◌+◌, ◌*◌, ◌^◌, Bool, true, false, cond, ◌&&◌, Option, Some, None, List, [], ◌∷◌, length, get_or, drop, refl, sym, ap, arith, drop-cons, min, nat_le, nat_lt}
+use Rattle.std.proofs.Common.{◌≡◌, ℕ, suc, ◌<◌, ◌≤◌, ◌+◌, ◌*◌, ◌^◌, Bool, true, false, cond, ◌&&◌, Option, Some, None, List, [], ◌∷◌, length, get_or, drop, refl, sym, ap, arith, drop-cons, min, nat_le, nat_lt}
 use Rattle.std.specs.Prelude.{decimal}
 use Rattle.std.specs.Char.{digit_value, is_digit}
 use Rattle.std.specs.List.{list_all}
