@@ -10,8 +10,8 @@ use Rattle.coroutines.specs.Coroutines.{HasCoroutines}
 use Rattle.coroutines.specs.CoroutineWords.{as_current, current_in, parent_in, saved_p, saved_pc}
 use Rattle.coroutines.specs.Refusals.{is_known}
 use Rattle.coroutines.specs.Switch.{switched}
-use Rattle.coroutines.proofs.Known.{IsCurrent, current, known-apart, known-node, known-same, task-apart, task-inside}
-use Rattle.coroutines.proofs.Frame.{IsCall}
+use Rattle.coroutines.proofs.KnownCoroutines.{IsCurrent, current, known-apart, known-node, known-same, task-apart, task-inside}
+use Rattle.coroutines.proofs.CallFrame.{IsCall}
 
 -- the root, or a coroutine of the task
 abbrev pub IsRootOr : List ℕ → ℕ → ℕ → Type 0

@@ -4,3 +4,4 @@ pub mod Coroutines
 pub mod Switch
 pub mod Refusals
 pub mod Creation
+pub mod HeldCoroutines

@@ -4,6 +4,7 @@
 pub mod calls;
 pub mod creation;
 pub mod ends;
+pub mod laws;
 pub mod members;
 mod switch;
 

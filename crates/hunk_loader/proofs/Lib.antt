@@ -8,3 +8,4 @@ pub mod TextModules
 pub mod GlobalLists
 pub mod LoadCall
 pub mod HunkWalk
+pub mod HeldModuleLists

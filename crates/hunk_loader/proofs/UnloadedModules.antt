@@ -67,7 +67,7 @@ out_linked s m h e =
 
 pub unload_stands : (s t : List ℕ) (m : ℕ) → HasModules s → has m (modules_in s) ≡ true → t ≡ given_store (linked_out s module_link (cell_before module_link m 104 (modules_in s)) m) m → Unloaded s t m
 unload_stands s t m h e words =
-    record { modules = list; stands = stands t rest g.tiled now.stands list all (λ a. omega (arith, times-without (modules_in s) m a, h.apart a)) }
+    record { modules = list; stands = stands t rest g.tiled now.stands list all (λ a. omega (arith, times-without a m (modules_in s), h.apart a)) }
   where
     rest : List ℕ
     rest = without m (modules_in s)
@@ -114,7 +114,7 @@ unload_stands s t m h e words =
           arith,
           times-cells r module_link one_word 104 (list_at r module_link 104) first.stands.nodes at,
           times-one at (list_at r module_link 104),
-          times-without (modules_in s) m at,
+          times-without at m (modules_in s),
           hit-other at 104 (λ e. absurd (omega (arith, above))),
         )
 

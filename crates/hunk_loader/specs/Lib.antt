@@ -6,3 +6,4 @@ pub mod Modules
 pub mod LoadOutcome
 pub mod Globals
 pub mod GlobalWords
+pub mod HeldModules

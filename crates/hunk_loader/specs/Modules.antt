@@ -7,6 +7,7 @@ use Rattle.linked_list.specs.Count.{IsApart}
 use Rattle.getvec_chain.specs.Run.{need}
 use Rattle.getvec_chain.specs.Tiling.{IsTiled, blocks_in, used_at}
 use Rattle.task_block.specs.Lists.{module_link, modules_in}
+use Rattle.task_block.specs.RootWords.{first_module}
 use Rattle.hunk_loader.specs.ModuleHunks.{hunk_count, lengths_in}
 
 -- at m the data of a used block begin, which is as large as the module's words need
@@ -15,10 +16,10 @@ pub record IsModuleAt (s : List ℕ) (m : ℕ) : Type 0 where
   pub used : used_at m (blocks_in s) ≡ Some block
   pub size : block.size ≡ need (1 + hunk_count s m + sum (lengths_in s m))
 
--- blocks and modules stand: the words from 200 on tile, the links from word 104 on lead through modules, and none of them
+-- blocks and modules stand: the words from 200 on tile, the links from the head on lead through modules, and none of them
 -- stands twice in the list
 pub record HasModules (s : List ℕ) : Type 0 where
   pub tiled : IsTiled s
-  pub chain : IsChain s module_link 104 (modules_in s)
+  pub chain : IsChain s module_link first_module (modules_in s)
   pub modules : AllByRecursion (IsModuleAt s) (modules_in s)
   pub apart : IsApart (modules_in s)

@@ -4,6 +4,7 @@
 pub mod calls;
 mod copies;
 pub mod globals;
+pub mod laws;
 mod placement;
 mod relocation;
 

@@ -5,6 +5,7 @@ pub mod Insertion
 pub mod Lists
 pub mod AllMembers
 pub mod Members
+pub mod MappedLists
 pub mod Places
 pub mod Removal
 pub mod UnlinkAnswer

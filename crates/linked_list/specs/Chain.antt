@@ -23,6 +23,6 @@ cells link head [] = head ∷ []
 cells link head (p ∷ ps) = head ∷ cells link (link p) ps
 
 -- the word that holds the last link
-abbrev pub last_cell : (ℕ → ℕ) → ℕ → List ℕ → ℕ
+abbrev pub last_cell : {X : Type 0} → (X → ℕ) → ℕ → List X → ℕ
 last_cell link at [] = at
 last_cell link at (p ∷ ps) = last_cell link (link p) ps

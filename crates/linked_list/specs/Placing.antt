@@ -3,20 +3,26 @@ use Rattle.std.specs.Prelude.{ℕ, Bool, ◌==◌, if◌then◌else◌, List, []
 use Rattle.std.specs.List.{list_any}
 use Rattle.linked_list.specs.Chain.{list_at}
 
+-- The nodes are addresses, or things that have one.
+
 -- the list with p directly after the last node that passes the test, or at the front where none does
-abbrev pub insert_after : (ℕ → Bool) → ℕ → List ℕ → List ℕ
+abbrev pub insert_after : {X : Type 0} → (X → Bool) → X → List X → List X
 insert_after f p [] = p ∷ []
 insert_after f p (q ∷ qs) = if list_any f (q ∷ qs) then q ∷ insert_after f p qs else p ∷ q ∷ qs
 
 -- the link word of the last node that passes the test, or the word at `at` where none does
-abbrev pub cell_after : (ℕ → Bool) → (ℕ → ℕ) → ℕ → List ℕ → ℕ
+abbrev pub cell_after : {X : Type 0} → (X → Bool) → (X → ℕ) → ℕ → List X → ℕ
 cell_after f link at [] = at
 cell_after f link at (q ∷ qs) = cell_after f link (if f q then link q else at) qs
 
+-- the list without the first node that passes the test
+abbrev pub without_first : {X : Type 0} → (X → Bool) → List X → List X
+without_first f [] = []
+without_first f (q ∷ qs) = if f q then qs else q ∷ without_first f qs
+
 -- the list without p, which stands once at most
 abbrev pub without : ℕ → List ℕ → List ℕ
-without p [] = []
-without p (q ∷ qs) = if p == q then qs else q ∷ without p qs
+without p ps = without_first (λ q. p == q) ps
 
 -- whether p is among the nodes
 abbrev pub has : ℕ → List ℕ → Bool

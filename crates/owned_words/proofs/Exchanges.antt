@@ -3,7 +3,8 @@ use Rattle.std.proofs.Common.{◌≡◌, ℕ, suc, ◌+◌, List, [], ◌∷◌,
 use Rattle.std.specs.List.{flat_map}
 use Rattle.owned_words.specs.Owned.{Holds, Pairs, owners, row_from}
 use Rattle.owned_words.specs.Exchange.{Exchange, Splits}
-use Rattle.owned_words.specs.LinkedWords.{LinksAt, first_of, headed_words, last_link, linked_words}
+use Rattle.linked_list.specs.Chain.{last_cell}
+use Rattle.owned_words.specs.LinkedWords.{LinksAt, first_of, headed_words, linked_words}
 use Rattle.owned_words.proofs.OwnedWords.{Holds-append, Holds-left, Holds-right, owners-append}
 
 -- ---- parts
@@ -139,7 +140,7 @@ exchange-behind A B L M old new c u v x y =
 -- a thing comes in among linked things: the link before it, and its words
 pub exchange-insert : {X : Type 0} (address cell : X → ℕ) (words : X → ℕ → Pairs) → LinksAt cell words → (head : ℕ) (xs : List X) (x : X) (ys : List X) (end : ℕ)
     → Exchange (headed_words address words head (xs ++ ys) end) (headed_words address words head (xs ++ x ∷ ys) end)
-    ((last_link cell head xs, first_of address ys end) ∷ []) ((last_link cell head xs, address x) ∷ words x (first_of address ys end))
+    ((last_cell cell head xs, first_of address ys end) ∷ []) ((last_cell cell head xs, address x) ∷ words x (first_of address ys end))
 exchange-insert address cell words links head [] x ys end =
     record {
       rest = linked_words address words ys end;
@@ -159,7 +160,7 @@ exchange-insert address cell words links head (z ∷ zs) x ys end =
 -- a thing goes out
 pub exchange-remove : {X : Type 0} (address cell : X → ℕ) (words : X → ℕ → Pairs) → LinksAt cell words → (head : ℕ) (xs : List X) (x : X) (ys : List X) (end : ℕ)
     → Exchange (headed_words address words head (xs ++ x ∷ ys) end) (headed_words address words head (xs ++ ys) end)
-    ((last_link cell head xs, address x) ∷ words x (first_of address ys end)) ((last_link cell head xs, first_of address ys end) ∷ [])
+    ((last_cell cell head xs, address x) ∷ words x (first_of address ys end)) ((last_cell cell head xs, first_of address ys end) ∷ [])
 exchange-remove address cell words links head xs x ys end = exchange-back _ _ _ _ (exchange-insert address cell words links head xs x ys end)
 
 first_of-same : {X : Type 0} (address : X → ℕ) (xs : List X) (x y : X) (ys : List X) (end : ℕ) → address x ≡ address y → first_of address (xs ++ x ∷ ys) end ≡ first_of address (xs ++ y ∷ ys) end

@@ -1,7 +1,8 @@
 -- The words of linked things. A kind of thing has an address, a word that links to the next one, and words, its link among them.
 use Rattle.std.specs.Prelude.{◌≡◌, ◌<◌, ◌≤◌, ℕ, ◌+◌, List, [], ◌∷◌, ◌++◌}
+use Rattle.std.specs.List.{AllByRecursion}
 use Rattle.linked_list.specs.Count.{node_words, times}
-use Rattle.owned_words.specs.Owned.{Pairs, owners}
+use Rattle.owned_words.specs.Owned.{AreApart, AreInside, Holds, Pairs, owners}
 use Rattle.owned_words.specs.Exchange.{Exchange}
 
 -- the address of the first one, or what the last link holds
@@ -18,19 +19,20 @@ linked_words address words (x ∷ xs) end = words x (first_of address xs end) ++
 abbrev pub headed_words : {X : Type 0} → (X → ℕ) → (X → ℕ → Pairs) → ℕ → List X → ℕ → Pairs
 headed_words address words head xs end = (head, first_of address xs end) ∷ linked_words address words xs end
 
--- the word that holds the last link
-abbrev pub last_link : {X : Type 0} → (X → ℕ) → ℕ → List X → ℕ
-last_link cell head [] = head
-last_link cell head (x ∷ xs) = last_link cell (cell x) xs
-
 -- a thing's link stands at its cell, and its other words do not depend on it
 abbrev pub LinksAt : {X : Type 0} → (X → ℕ) → (X → ℕ → Pairs) → Type 0
 LinksAt {X} cell words = (x : X) (n m : ℕ) → Exchange (words x n) (words x m) ((cell x, n) ∷ []) ((cell x, m) ∷ [])
 
 -- Things of a kind are the nodes of a list: each has its link where the list has it, and owns at least the words of its node.
-pub record AreNodes {X : Type 0} (address cell : X → ℕ) (words : X → ℕ → Pairs) (link size : ℕ → ℕ) : Type 0 where
-  pub links : LinksAt cell words
-  pub leads : (x : X) → link (address x) ≡ cell x
-  pub low : (x : X) → address x ≤ cell x
-  pub high : (x : X) → cell x < address x + size (address x)
+pub record AreNodes {X : Type 0} (address : X → ℕ) (words : X → ℕ → Pairs) (link size : ℕ → ℕ) : Type 0 where
+  pub links : LinksAt (λ x. link (address x)) words
+  pub low : (x : X) → address x ≤ link (address x)
+  pub high : (x : X) → link (address x) < address x + size (address x)
   pub count : (a : ℕ) (x : X) (n : ℕ) → times a (node_words size (address x)) ≤ owners a (words x n)
+
+-- A store holds the words of linked things, from the head on to an end: they are apart and lie in the store, and none is at 0.
+pub record AreHeld {X : Type 0} (address : X → ℕ) (words : X → ℕ → Pairs) (s : List ℕ) (head : ℕ) (xs : List X) : Type 0 where
+  pub holds : Holds s (headed_words address words head xs 0)
+  pub apart : AreApart (headed_words address words head xs 0)
+  pub inside : AreInside s (headed_words address words head xs 0)
+  pub some : AllByRecursion (λ x. 0 < address x) xs

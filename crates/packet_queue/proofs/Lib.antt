@@ -2,4 +2,4 @@ pub mod PacketWords
 pub mod NumberOrder
 pub mod QueueChanges
 pub mod DueWords
-pub mod AppendWords
+pub mod HeldQueues

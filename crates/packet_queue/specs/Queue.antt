@@ -29,6 +29,10 @@ CanQueue s head p = IsFresh s link_of packet_size head (queue_at s head) p
 abbrev pub last_link : List ℕ → ℕ → ℕ
 last_link s head = last_cell link_of head (queue_at s head)
 
+-- the store in which the packet has come to the end
+abbrev pub appended : List ℕ → ℕ → ℕ → List ℕ
+appended s head p = slice_set (slice_set s (link_of p) 0) (last_link s head) p
+
 -- the link of a packet that is in no queue: all its bits are set
 abbrev pub no_queue : ℕ
 no_queue = 2 ^ 32 - 1

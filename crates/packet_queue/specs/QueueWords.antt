@@ -1,8 +1,13 @@
 -- The words of queued packets, as pairs of an address and the word that stands there.
-use Rattle.std.specs.Prelude.{◌≡◌, ℕ, List, [], ◌∷◌, ◌++◌, map}
-use Rattle.owned_words.specs.Owned.{AreApart, AreInside, Holds, Pairs, row_from}
-use Rattle.owned_words.specs.LinkedWords.{headed_words}
-use Rattle.packet_queue.specs.Queue.{queue_at}
+use Rattle.std.specs.Prelude.{◌≡◌, ◌<◌, ℕ, List, [], ◌∷◌, ◌++◌, nat_le}
+use Rattle.std.specs.List.{AllByRecursion}
+use Rattle.linked_list.specs.Chain.{last_cell}
+use Rattle.linked_list.specs.Placing.{insert_after}
+use Rattle.owned_words.specs.Owned.{AreApart, AreInside, Holds, Pairs, row_from, written}
+use Rattle.owned_words.specs.Exchange.{Exchange}
+use Rattle.owned_words.specs.LinkedWords.{AreHeld, first_of, headed_words}
+use Rattle.packet_queue.specs.Due.{due_word}
+use Rattle.packet_queue.specs.Queue.{no_queue}
 
 -- a packet: its address, and what is in its words 1 to 4
 pub record QueuedPacket : Type 0 where
@@ -27,11 +32,54 @@ packet_words p link = (p.address, link) ∷ other_words p
 abbrev pub queue_words : ℕ → List QueuedPacket → Pairs
 queue_words head ps = headed_words address_of packet_words head ps 0
 
--- The packets are queued at the head, and p may be appended: the store holds their words and p's words 1 to 4, and the words
--- of the longer queue are apart and in the store.
+-- the packets are queued at the head: the store holds their words, apart from one another and from the head
+abbrev pub HeldQueue : List ℕ → ℕ → List QueuedPacket → Type 0
+HeldQueue s head ps = AreHeld address_of packet_words s head ps
+
+-- The store holds the words of these packets and p's words 1 to 4, and the words of the queue with p at its end are apart and
+-- in the store.
 pub record CanAppend (s : List ℕ) (head : ℕ) (ps : List QueuedPacket) (p : QueuedPacket) : Type 0 where
-  pub queue : queue_at s head ≡ map address_of ps
   pub holds : Holds s (queue_words head ps)
   pub packet : Holds s (other_words p)
   pub apart : AreApart (queue_words head (ps ++ p ∷ []))
   pub inside : AreInside s (queue_words head (ps ++ p ∷ []))
+  pub some : AllByRecursion (λ q. 0 < q.address) (ps ++ p ∷ [])
+
+-- the words of a queue are exchanged, and these words are written
+pub record QueueExchange (s t : List ℕ) (before after old new writes : Pairs) : Type 0 where
+  pub exchange : Exchange before after old new
+  pub words : t ≡ written writes s
+
+-- the word that holds the link behind these packets, and the first of those packets
+abbrev pub link_behind : ℕ → List QueuedPacket → ℕ
+link_behind head ps = last_cell address_of head ps
+
+abbrev pub first_packet : List QueuedPacket → ℕ
+first_packet ps = first_of address_of ps 0
+
+-- a packet p comes to the end
+abbrev pub AppendExchange : List ℕ → List ℕ → ℕ → List QueuedPacket → QueuedPacket → Type 0
+AppendExchange s t head ps p =
+    QueueExchange s t (queue_words head ps) (queue_words head (ps ++ p ∷ []))
+    ((link_behind head ps, 0) ∷ [])
+    ((link_behind head ps, p.address) ∷ packet_words p 0)
+    ((link_behind head ps, p.address) ∷ (p.address, 0) ∷ [])
+
+-- a packet p, due at that tick, comes between two parts of the queue
+pub record DueExchange (s t : List ℕ) (head : ℕ) (ps : List QueuedPacket) (p : QueuedPacket) : Type 0 where
+  pub front : List QueuedPacket
+  pub back : List QueuedPacket
+  pub is : ps ≡ front ++ back
+  pub becomes : insert_after (λ q. nat_le q.last p.last) p ps ≡ front ++ p ∷ back
+  pub words : QueueExchange s t (queue_words head (front ++ back)) (queue_words head (front ++ p ∷ back))
+      ((link_behind head front, first_packet back) ∷ [])
+      ((link_behind head front, p.address) ∷ packet_words p (first_packet back))
+      ((due_word p.address, p.last) ∷ (link_behind head front, p.address) ∷ (p.address, first_packet back) ∷ [])
+
+-- a packet p goes out from between two parts of the queue
+abbrev pub RemoveExchange : List ℕ → List ℕ → ℕ → List QueuedPacket → QueuedPacket → List QueuedPacket → Type 0
+RemoveExchange s t head front p back =
+    QueueExchange s t (queue_words head (front ++ p ∷ back)) (queue_words head (front ++ back))
+    ((link_behind head front, p.address) ∷ packet_words p (first_packet back))
+    ((link_behind head front, first_packet back) ∷ [])
+    ((p.address, no_queue) ∷ (link_behind head front, first_packet back) ∷ [])

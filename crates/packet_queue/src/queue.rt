@@ -1,8 +1,8 @@
 // Queues: packets come to the end, and leave from the front or from between.
-ghost use Rattle.std.specs.Prelude.{◌≡◌, ◌↔◌, [], ◌∷◌, ◌++◌, IfNone, IfSome, IsNone, IsTrue, slice_set};
+ghost use Rattle.std.specs.Prelude.{◌≡◌, ◌↔◌, [], ◌∷◌, ◌++◌, IfNone, IfSome, IsNone, IsTrue};
 ghost use Rattle.std.specs.Bool.{OnFalse, OnTrue};
 ghost use Rattle.linked_list.specs.Placing.{has, without};
-ghost use Rattle.packet_queue.specs.Queue.{CanQueue, HasQueue, last_link, queue_at, unlinked};
+ghost use Rattle.packet_queue.specs.Queue.{CanQueue, HasQueue, appended, queue_at, unlinked};
 
 use crate::places::last_link;
 use crate::walk::PACKET_LINK;
@@ -18,7 +18,7 @@ pub fn append(store: &mut Store, head: u32, p: u32)
     requires packet { CanQueue store.old head p }
     ensures queue { queue_at store.new head ≡ queue_at store.old head ++ p ∷ [] }
     ensures stands { HasQueue store.new head }
-    ensures words { store.new ≡ slice_set (slice_set store.old p 0) (last_link store.old head) p }
+    ensures words { store.new ≡ appended store.old head p }
 {
     let cell = last_link(store, head);
     store.set(p, 0);

@@ -83,7 +83,7 @@ module _ {X : Type 0} (address id : X → ℕ) (words : X → ℕ → Pairs) (ki
       let inside : (a : ℕ) → 0 < owners a (headed_words address words 101 xs 0) → a < length s = λ a some.
       elim (cases_eq a 101) [ inl e ↦ omega (arith, e, h.root) | inr ne ↦ h.inside a (omega (arith, some, hit-other a 101 ne)) ]
       in
-      let list : IsListAt s task_link task_size 101 (map address xs) = held-list address address words task_link task_size kind.nodes s 101 xs h.holds apart inside h.some in
+      let list : IsListAt s task_link task_size 101 (map address xs) = held-list address words task_link task_size kind.nodes s 101 xs (record { holds = h.holds; apart = apart; inside = inside; some = h.some }) in
       let same : AllByRecursion (λ x. id_in s (address x) ≡ id x) xs = numbers s xs 0 h.holds.1 in
       record {
         tasks =
@@ -94,7 +94,7 @@ module _ {X : Type 0} (address id : X → ℕ) (words : X → ℕ → Pairs) (ki
                   omega (
                     arith,
                     h.apart a,
-                    held-count address address words task_link task_size kind.nodes a xs 0,
+                    held-count address words task_link task_size kind.nodes a xs 0,
                     times-append a root_words (words_of task_size (tasks_in s)),
                     ap (λ z. times a (words_of task_size z)) list.list,
                   );

@@ -15,7 +15,7 @@ address_with address id (x ∷ xs) i = if id x == i then address x else address_
 
 -- things of a kind are task blocks
 pub record AreTasks {X : Type 0} (address id : X → ℕ) (words : X → ℕ → Pairs) : Type 0 where
-  pub nodes : AreNodes address address words task_link task_size
+  pub nodes : AreNodes address words task_link task_size
   pub number : (s : List ℕ) (x : X) (n : ℕ) → Holds s (words x n) → id_in s (address x) ≡ id x
 
 -- The store holds the words of these tasks, from the head of the chain on, apart from the root and the table, and the table

@@ -1,7 +1,7 @@
 use Rattle.std.proofs.Common.{sym, subst, ◌∷◌}
 use Rattle.coroutines.specs.Active.{active_in}
-use Rattle.coroutines.proofs.Calling.{call-again}
-use Rattle.coroutines.proofs.Building.{Built}
+use Rattle.coroutines.proofs.ActiveChanges.{call-again}
+use Rattle.coroutines.proofs.CoroutineLists.{Built}
 use Rattle.task_block.specs.Lists.{coroutines_in}
 use Rattle.coroutines.proofs.IdleAnswer.{IsIdle, idle}
 use Rattle.coroutines.proofs.calls.call.Goals as goal

@@ -1,7 +1,7 @@
 use Rattle.std.proofs.Common.{sym, subst, drop, arith, ◌+◌}
 use Rattle.coroutines.specs.Active.{active_in}
-use Rattle.coroutines.proofs.Calling.{wait-again}
-use Rattle.coroutines.proofs.Building.{Built}
+use Rattle.coroutines.proofs.ActiveChanges.{wait-again}
+use Rattle.coroutines.proofs.CoroutineLists.{Built}
 use Rattle.task_block.specs.Lists.{coroutines_in}
 use Rattle.coroutines.proofs.Switches.{bounds}
 use Rattle.coroutines.proofs.calls.ended.Goals as goal

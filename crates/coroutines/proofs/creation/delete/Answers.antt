@@ -10,8 +10,8 @@ use Rattle.task_block.specs.Lists.{coroutine_link, coroutines_in}
 use Rattle.coroutines.specs.Active.{active_in}
 use Rattle.coroutines.specs.Creation.{deleted}
 use Rattle.coroutines.specs.Refusals.{idle_answer}
-use Rattle.coroutines.proofs.Building.{Built}
-use Rattle.coroutines.proofs.Deleting.{delete-blocks, delete-built, unlinked, unlinked-blocks, unlinked-used}
+use Rattle.coroutines.proofs.CoroutineLists.{Built}
+use Rattle.coroutines.proofs.Deletion.{delete-blocks, delete-built, unlinked, unlinked-blocks, unlinked-used}
 use Rattle.coroutines.proofs.IdleAnswer.{IsIdle, idle}
 use Rattle.coroutines.proofs.creation.delete.Goals as goal
 

@@ -2,7 +2,7 @@ use Rattle.std.proofs.Common.{◌≡◌, ◌≢◌, ◌∙◌, arith, ap, sym, e
 use Rattle.std.specs.Prelude.{not}
 use Rattle.std.proofs.lemmas.Bool.Decides.{nat_tests}
 use Rattle.coroutines.specs.Refusals.{has_parent}
-use Rattle.coroutines.proofs.Known.{no_parent-word, parent-word}
+use Rattle.coroutines.proofs.KnownCoroutines.{no_parent-word, parent-word}
 use Rattle.coroutines.proofs.members.has_parent.Goals as goal
 
 pub returns : goal.returns

@@ -1,5 +1,11 @@
-use Rattle.packet_queue.proofs.AppendWords.{appended-words}
+use Rattle.packet_queue.proofs.HeldQueues.{appendable, appended-words, held-queue}
 use Rattle.packet_queue.proofs.laws.append_words_law.Goals as goal
 
-pub returns : goal.returns
-returns c = appended-words
+pub returns-clause-queue : goal.returns-clause-queue
+returns-clause-queue c = λ s head ps p can. (held-queue s head ps (appendable s head ps p can).queue).stands
+
+pub returns-clause-packet : goal.returns-clause-packet
+returns-clause-packet c = λ s head ps p can. (appendable s head ps p can).packet
+
+pub returns-clause-words : goal.returns-clause-words
+returns-clause-words c = appended-words

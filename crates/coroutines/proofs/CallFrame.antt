@@ -17,10 +17,10 @@ use Rattle.coroutines.specs.Active.{LeadsOut}
 use Rattle.coroutines.specs.Coroutines.{HasBlock, HasCoroutines}
 use Rattle.coroutines.specs.CoroutineWords.{coroutine_size, highest_in, parent_in}
 use Rattle.coroutines.specs.Refusals.{is_known}
-use Rattle.coroutines.proofs.Building.{Built, built}
+use Rattle.coroutines.proofs.CoroutineLists.{Built, built}
 use Rattle.linked_list.proofs.AllMembers.{all-members}
 use Rattle.linked_list.proofs.Members.{has-there, has-here, cell-cases}
-use Rattle.coroutines.proofs.Known.{known-block, known-held, known-same, task-apart, task-held}
+use Rattle.coroutines.proofs.KnownCoroutines.{known-block, known-held, known-same, task-apart, task-held}
 
 -- only the words 18 to 20 of the task block, and the words 0, 1 and 6 of its coroutines, have changed
 pub record IsCall (s v : List ℕ) (t : ℕ) : Type 0 where

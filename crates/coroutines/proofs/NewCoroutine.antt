@@ -26,11 +26,11 @@ use Rattle.coroutines.specs.Coroutines.{HasBlock, HasCoroutines}
 use Rattle.coroutines.specs.CoroutineWords.{coroutine_size, highest_in, parent_in}
 use Rattle.coroutines.specs.Creation.{highest, new_words}
 use Rattle.coroutines.specs.Refusals.{is_known}
-use Rattle.coroutines.proofs.Building.{Built, built}
+use Rattle.coroutines.proofs.CoroutineLists.{Built, built}
 use Rattle.linked_list.proofs.AllMembers.{all-members}
 use Rattle.linked_list.proofs.Members.{has-there, cell-cases}
-use Rattle.coroutines.proofs.Known.{known-block, no_parent-word, task-apart, task-inside}
-use Rattle.coroutines.proofs.Staying.{range-none, same-block, same-out, words-none}
+use Rattle.coroutines.proofs.KnownCoroutines.{known-block, no_parent-word, task-apart, task-inside}
+use Rattle.coroutines.proofs.KeptWords.{range-none, same-block, same-out, words-none}
 
 -- the store in which the coroutine at c was made, after its block was taken
 abbrev pub made : List ℕ → List ℕ → ℕ → ℕ → ℕ → ℕ → List ℕ

@@ -14,7 +14,7 @@ use Rattle.task_block.specs.Lists.{coroutine_link, coroutines_in}
 use Rattle.coroutines.specs.Active.{LeadsOut, active_in}
 use Rattle.coroutines.specs.Coroutines.{HasBlock, HasCoroutines, HasTaskBlock}
 use Rattle.coroutines.specs.CoroutineWords.{coroutine_size, parent_in}
-use Rattle.coroutines.proofs.Outward.{IsInner, outwards-is}
+use Rattle.coroutines.proofs.OutwardLists.{IsInner, outwards-is}
 
 -- what has to hold of a store for these coroutines, of which these are active
 pub record Parts (v : List ℕ) (t : ℕ) (cs act : List ℕ) : Type 0 where

@@ -26,10 +26,10 @@ use Rattle.coroutines.specs.Coroutines.{HasBlock, HasCoroutines}
 use Rattle.coroutines.specs.CoroutineWords.{coroutine_size, highest_in, parent_in}
 use Rattle.coroutines.specs.Creation.{deleted}
 use Rattle.coroutines.specs.Refusals.{has_parent, is_known}
-use Rattle.coroutines.proofs.Building.{Built, built}
+use Rattle.coroutines.proofs.CoroutineLists.{Built, built}
 use Rattle.linked_list.proofs.AllMembers.{all-members}
-use Rattle.coroutines.proofs.Known.{known-block, known-held, known-same, no_parent-word, task-apart, task-held}
-use Rattle.coroutines.proofs.Staying.{same-block, same-out}
+use Rattle.coroutines.proofs.KnownCoroutines.{known-block, known-held, known-same, no_parent-word, task-apart, task-held}
+use Rattle.coroutines.proofs.KeptWords.{same-block, same-out}
 
 abbrev cell_of : List ℕ → ℕ → ℕ → ℕ
 cell_of s t c = cell_before coroutine_link c (t + 17) (coroutines_in s t)

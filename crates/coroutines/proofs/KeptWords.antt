@@ -13,8 +13,8 @@ use Rattle.coroutines.specs.Active.{LeadsOut, active_in}
 use Rattle.coroutines.specs.Coroutines.{HasBlock, HasCoroutines}
 use Rattle.coroutines.specs.Refusals.{is_known}
 use Rattle.linked_list.proofs.Members.{has-there, has-here}
-use Rattle.coroutines.proofs.Known.{known-block}
-use Rattle.coroutines.proofs.Outward.{LeadsOut-same}
+use Rattle.coroutines.proofs.KnownCoroutines.{known-block}
+use Rattle.coroutines.proofs.OutwardLists.{LeadsOut-same}
 
 -- the active ones lead out as before, where the words that name them are as they were
 pub same-out : (s v : List ℕ) (t : ℕ) → HasCoroutines s t → get_or v (t + 18) 0 ≡ get_or s (t + 18) 0 → ((k : ℕ) → is_known s t k ≡ true → has k (active_in s t) ≡ true → get_or v (k + 1) 0 ≡ get_or s (k + 1) 0)

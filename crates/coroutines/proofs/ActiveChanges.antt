@@ -14,10 +14,10 @@ use Rattle.coroutines.specs.Coroutines.{HasCoroutines}
 use Rattle.coroutines.specs.CoroutineWords.{as_current, as_parent, current_in, parent_in}
 use Rattle.coroutines.specs.Refusals.{has_parent, is_known}
 use Rattle.coroutines.specs.Switch.{called, replaced, switched, waited}
-use Rattle.coroutines.proofs.Known.{IsCurrent, current, known-node, no_parent-word, task-apart}
-use Rattle.coroutines.proofs.Building.{Built}
-use Rattle.coroutines.proofs.Frame.{IsCall, again}
-use Rattle.coroutines.proofs.Outward.{LeadsOut-same}
+use Rattle.coroutines.proofs.KnownCoroutines.{IsCurrent, current, known-node, no_parent-word, task-apart}
+use Rattle.coroutines.proofs.CoroutineLists.{Built}
+use Rattle.coroutines.proofs.CallFrame.{IsCall, again}
+use Rattle.coroutines.proofs.OutwardLists.{LeadsOut-same}
 use Rattle.coroutines.proofs.Switches.{call-parent, other-parent, own-parent, still-current, switched-call, switched-current, switched-parent}
 
 -- the parents of members other than one

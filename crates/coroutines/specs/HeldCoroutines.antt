@@ -1,0 +1,59 @@
+-- Coroutines of a task whose words a store holds.
+use Rattle.std.specs.Prelude.{◌≡◌, ℕ, ◌+◌, ◌≤◌, ◌==◌, if◌then◌else◌, true, false, Some, List, [], ◌∷◌, map, slice_index}
+use Rattle.std.specs.List.{AllByRecursion}
+use Rattle.getvec_chain.specs.Block.{used_block}
+use Rattle.getvec_chain.specs.Run.{need}
+use Rattle.getvec_chain.specs.Tiling.{IsTiled, blocks_in, used_at}
+use Rattle.linked_list.specs.Count.{IsApart, node_words, times}
+use Rattle.linked_list.specs.Placing.{has}
+use Rattle.owned_words.specs.LinkedWords.{AreHeld, first_of, linked_words}
+use Rattle.owned_words.specs.Owned.{Pairs, owners, row_from}
+use Rattle.task_block.specs.Lists.{first_coroutine}
+use Rattle.task_block.specs.TaskChain.{task_size}
+use Rattle.coroutines.specs.Coroutines.{HasTaskBlock}
+use Rattle.coroutines.specs.CoroutineWords.{current_in}
+
+-- a coroutine: its address, its function, its highest index, and the P and the PC that are saved in it
+pub record Coroutine : Type 0 where
+  pub address : ℕ
+  pub function : ℕ
+  pub highest : ℕ
+  pub saved_p : ℕ
+  pub saved_pc : ℕ
+
+abbrev pub address_of : Coroutine → ℕ
+address_of c = c.address
+
+-- the first of these active ones, or what is named where there is none
+abbrev pub first_active : List ℕ → ℕ → ℕ
+first_active cs none = first_of (λ c. c) cs none
+
+-- the parent of a coroutine of the task at t: the next active one, the task for the last, and 0 where it is not active
+abbrev pub parent_of : ℕ → List ℕ → ℕ → ℕ
+parent_of t [] c = 0
+parent_of t (d ∷ ds) c = if c == d then first_active ds t else parent_of t ds c
+
+-- the words of a coroutine of the task at t, where these are active
+abbrev pub coroutine_words : ℕ → List ℕ → Coroutine → ℕ → Pairs
+coroutine_words t act c link =
+    row_from c.address 0
+    (c.saved_p ∷ parent_of t act c.address ∷ link ∷ c.function ∷ c.highest ∷ c.address ∷ c.saved_pc ∷ 0 ∷ 0 ∷ c.function ∷ [])
+
+-- it is alone in its block
+pub record HasCoroutineBlock (s : List ℕ) (c : Coroutine) : Type 0 where
+  pub start : ℕ
+  pub here : c.address ≡ start + 1
+  pub block : used_at c.address (blocks_in s) ≡ Some (used_block start (need c.highest))
+  pub high : 16 ≤ c.highest
+
+-- the store holds the words of these coroutines of the task at t, from the head on, and these are active
+pub record HeldCoroutines (s : List ℕ) (t : ℕ) (cs : List Coroutine) (act : List ℕ) : Type 0 where
+  pub tiled : IsTiled s
+  pub task : HasTaskBlock s t
+  pub elsewhere : has task.first (map address_of cs) ≡ false
+  pub held : AreHeld address_of (coroutine_words t act) s (first_coroutine t) cs
+  pub apart : (a : ℕ) → times a (node_words task_size t) + owners a (linked_words address_of (coroutine_words t act) cs 0) ≤ 1
+  pub current : current_in s t ≡ first_active act 0
+  pub blocks : AllByRecursion (HasCoroutineBlock s) cs
+  pub members : AllByRecursion (λ c. has c (map address_of cs) ≡ true) act
+  pub distinct : IsApart act

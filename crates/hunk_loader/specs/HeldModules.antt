@@ -1,0 +1,33 @@
+-- Modules whose words a store holds.
+use Rattle.std.specs.Prelude.{◌≡◌, ℕ, ◌+◌, Some, List, ◌∷◌, length, sum}
+use Rattle.std.specs.List.{AllByRecursion}
+use Rattle.getvec_chain.specs.declared.pieces.Block.{Block}
+use Rattle.getvec_chain.specs.Run.{need}
+use Rattle.getvec_chain.specs.Tiling.{IsTiled, blocks_in, used_at}
+use Rattle.owned_words.specs.LinkedWords.{AreHeld}
+use Rattle.owned_words.specs.Owned.{Pairs, row_from}
+use Rattle.task_block.specs.RootWords.{first_module}
+
+-- a module: its address, and how many words each of its hunks has
+pub record LoadedModule : Type 0 where
+  pub address : ℕ
+  pub lengths : List ℕ
+
+abbrev pub module_address : LoadedModule → ℕ
+module_address m = m.address
+
+-- its link, its number of hunks, and their lengths
+abbrev pub module_words : LoadedModule → ℕ → Pairs
+module_words m link = (m.address, link) ∷ row_from m.address 1 (length m.lengths ∷ m.lengths)
+
+-- it has a block of its size
+pub record HasModuleBlock (s : List ℕ) (m : LoadedModule) : Type 0 where
+  pub block : Block
+  pub used : used_at m.address (blocks_in s) ≡ Some block
+  pub size : block.size ≡ need (1 + length m.lengths + sum m.lengths)
+
+-- the store holds the words of these modules, from the head on
+pub record HeldModules (s : List ℕ) (ms : List LoadedModule) : Type 0 where
+  pub tiled : IsTiled s
+  pub held : AreHeld module_address module_words s first_module ms
+  pub blocks : AllByRecursion (HasModuleBlock s) ms
