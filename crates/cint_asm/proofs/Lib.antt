@@ -13,3 +13,4 @@ pub mod RefusalLemmas
 pub mod Refused
 pub mod LineErrorLemmas
 pub mod Rising
+pub mod InstructionLemmas

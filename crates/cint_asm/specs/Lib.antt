@@ -19,3 +19,4 @@ pub mod Reading
 pub mod Refusal
 pub mod Steps
 pub mod Survey
+pub mod InstructionOperands

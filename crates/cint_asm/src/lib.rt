@@ -7,6 +7,7 @@ mod encoding;
 pub mod ends;
 mod errors;
 mod hunks;
+pub mod instruction_law;
 mod instructions;
 mod labels;
 pub mod laws;
