@@ -1,6 +1,7 @@
 pub mod AssemblyLemmas
 pub mod EncodeLemmas
 pub mod HunkSizes
+pub mod InstructionLemmas
 pub mod LineErrorLemmas
 pub mod LineSteps
 pub mod NameLemmas

@@ -17,3 +17,4 @@ pub mod Program
 pub mod Reading
 pub mod Refusal
 pub mod Survey
+pub mod InstructionOperands

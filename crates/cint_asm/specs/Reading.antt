@@ -1,9 +1,9 @@
 -- A line, read: the label that it defines, and what else it says.
 use Rattle.std.specs.Prelude.{ℕ, ℤ, pos, negsuc, ◌-◌, not, if◌then◌else◌, List, [], ◌∷◌, ◌++◌, length, take, codes, nat_eq, Option, Some, None, Result, Ok, Err, option_and_then}
-use Rattle.std.specs.Int.{w32, to_le_bytes}
 use Rattle.std.specs.List.{ends_with}
 use Rattle.std.specs.Option.{ok_or, option_map, option_map_or}
 use Rattle.cint_table.specs.Names.{byte_named}
+use Rattle.cint_table.specs.Operand.{low_bytes, operand_size}
 use Rattle.cint_table.specs.Table.{entry}
 use Rattle.cint_table.specs.declared.forms.Form.{Form}
 use Rattle.cint_table.specs.declared.forms.Form.TheVariants.{Plain, Byte, BytePlus, Half, Word, Relative, Indirect, Switch}
@@ -29,15 +29,11 @@ number_from_to low high operands = do
   n ← number_operand operands
   if is_from_to low high n then Ok n else Err OutOfRange
 
--- the lowest bytes of a number, as many as that
-abbrev pub low_bytes : ℕ → ℤ → List ℕ
-low_bytes count n = take count (to_le_bytes w32 (word_of n))
-
 -- these bytes, and then those of the number
 abbrev pub with_number : List ℕ → ℕ → ℤ → ℤ → Operands → Result Statement LineError
 with_number front count low high operands = do
   n ← number_from_to low high operands
-  Ok (says.Fixed (front ++ low_bytes count n))
+  Ok (says.Fixed (front ++ low_bytes count (word_of n)))
 
 -- an instruction, by the form of its operand
 abbrev pub instruction : ℕ → Form → Operands → Result Statement LineError
@@ -47,10 +43,10 @@ instruction byte (Plain k) operands = do
 instruction byte Switch operands = do
   nothing ← no_operand operands
   Ok (says.Fixed (byte ∷ []))
-instruction byte Byte operands = with_number (byte ∷ []) 1 (pos 0) (pos 255) operands
-instruction byte BytePlus operands = with_number (byte ∷ []) 1 (pos 256) (pos 511) operands
-instruction byte Half operands = with_number (byte ∷ []) 2 (pos 0) (pos 65535) operands
-instruction byte Word operands = with_number (byte ∷ []) 4 (negsuc 2147483647) (pos 4294967295) operands
+instruction byte Byte operands = with_number (byte ∷ []) (operand_size Byte) (pos 0) (pos 255) operands
+instruction byte BytePlus operands = with_number (byte ∷ []) (operand_size BytePlus) (pos 256) (pos 511) operands
+instruction byte Half operands = with_number (byte ∷ []) (operand_size Half) (pos 0) (pos 65535) operands
+instruction byte Word operands = with_number (byte ∷ []) (operand_size Word) (negsuc 2147483647) (pos 4294967295) operands
 instruction byte Relative operands = do
   label ← label_operand operands
   Ok (says.Relative byte label)

@@ -6,6 +6,7 @@ mod directives;
 mod encode;
 mod errors;
 mod hunks;
+pub mod instruction_law;
 mod instructions;
 mod labels;
 pub mod laws;

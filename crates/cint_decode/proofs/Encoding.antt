@@ -35,8 +35,8 @@ offset_standing code a z fits s =
 -- so is an operand, by its form
 number_standing : (code : ℕ → Option ℕ) (pc n : ℕ) (form : Form) → HasRoom form n → StandsAt code (add pc 1) (operand_bytes form n) → operand_at code pc form ≡ Ok (number_operand n (1 + length (operand_bytes form n)))
 number_standing code pc n (Plain k) h s = rw h refl
-number_standing code pc n Byte h s = rw s.0 refl
-number_standing code pc n BytePlus h s = let e : n - 256 + 256 ≡ n = omega arith in rw (s.0, e) refl
+number_standing code pc n Byte h s = let e : n % 256 ≡ n = omega arith in rw (s.0, e) refl
+number_standing code pc n BytePlus h s = let e : n % 256 + 256 ≡ n = omega arith in rw (s.0, e) refl
 number_standing code pc n Half h s = rw (half_standing code (add pc 1) n h s) refl
 number_standing code pc n Word h s = rw (word_standing code (add pc 1) n h s) refl
 number_standing code pc n Relative h s = absurd h

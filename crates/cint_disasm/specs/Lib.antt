@@ -1,3 +1,4 @@
+pub mod Cover
+pub mod HunkListing
 pub mod Lines
 pub mod Listing
-pub mod HunkListing

@@ -2,6 +2,7 @@
 #![tactic(auto)]
 
 pub mod hunks;
+pub mod laws;
 pub mod lines;
 pub mod listing;
 

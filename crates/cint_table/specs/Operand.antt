@@ -1,6 +1,6 @@
--- The bytes of an operand that is a number. They follow the function byte.
-use Rattle.std.specs.Prelude.{◌≡◌, ℕ, ◌-◌, ◌^◌, ◌<◌, ◌≤◌, List, [], ◌∷◌}
-use Rattle.std.specs.Int.{w16, w32, to_le_bytes}
+-- The bytes of an operand, which follow the function byte.
+use Rattle.std.specs.Prelude.{◌≡◌, ℕ, ◌^◌, ◌<◌, ◌≤◌, List, take}
+use Rattle.std.specs.Int.{w32, to_le_bytes}
 use Rattle.cint_table.specs.declared.forms.Form.{Form}
 use Rattle.cint_table.specs.declared.forms.Form.TheVariants.{Plain, Byte, BytePlus, Half, Word, Relative, Indirect, Switch}
 
@@ -15,13 +15,21 @@ HasRoom Relative n = ⊥
 HasRoom Indirect n = ⊥
 HasRoom Switch n = n ≡ 0
 
--- the lowest byte first
+-- the number of bytes that follow the function byte
+abbrev pub operand_size : Form → ℕ
+operand_size (Plain k) = 0
+operand_size Byte = 1
+operand_size BytePlus = 1
+operand_size Half = 2
+operand_size Word = 4
+operand_size Relative = 1
+operand_size Indirect = 1
+operand_size Switch = 0
+
+-- the lowest bytes of a word, as many as that, the lowest first
+abbrev pub low_bytes : ℕ → ℕ → List ℕ
+low_bytes count n = take count (to_le_bytes w32 n)
+
+-- the bytes of an operand that is a number
 abbrev pub operand_bytes : Form → ℕ → List ℕ
-operand_bytes (Plain k) n = []
-operand_bytes Byte n = n ∷ []
-operand_bytes BytePlus n = (n - 256) ∷ []
-operand_bytes Half n = to_le_bytes w16 n
-operand_bytes Word n = to_le_bytes w32 n
-operand_bytes Relative n = []
-operand_bytes Indirect n = []
-operand_bytes Switch n = []
+operand_bytes form n = low_bytes (operand_size form) n
