@@ -11,8 +11,8 @@ with_bytes-length words a [] = refl
 with_bytes-length words a (b ∷ bs) = with_bytes-length (set_byte_at words a b) (a + 1) bs ∙ simp length-set
 
 -- a line that has its place
-pub next_line : (words : List ℕ) (a : ℕ) (lines : List SessionLine) (i : ℕ) (line : SessionLine) (bytes : List ℕ) → i < length lines → line ≡ get_or lines i line → bytes ≡ code_of line.form → a + length bytes ≤ 4 * length words
+pub with_lines-next : (words : List ℕ) (a : ℕ) (lines : List SessionLine) (i : ℕ) (line : SessionLine) (bytes : List ℕ) → i < length lines → line ≡ get_or lines i line → bytes ≡ code_of line.form → a + length bytes ≤ 4 * length words
     → with_lines words a (drop i lines) ≡ with_lines (with_bytes words a bytes) (a + length bytes) (drop (i + 1) lines)
-next_line words a lines i line bytes lt is e fits =
+with_lines-next words a lines i line bytes lt is e fits =
     let first : drop i lines ≡ line ∷ drop (i + 1) lines = rw (drop-cons lines i line lt, ← is, add-one) refl in
     rw (first, e) (let place : a + length (code_of line.form) ≤ 4 * length words = rw (← e) fits in grind (arith, nat_tests))

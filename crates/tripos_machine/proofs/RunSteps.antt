@@ -9,13 +9,13 @@ use Rattle.tripos_machine.specs.Bare.{AfterStep, step}
 use Rattle.tripos_machine.specs.Step.{IsStep}
 use Rattle.tripos_machine.specs.Run.{IsRunEnd, Run, after_step, after_steps, run, run_end, unless_stopped}
 
-run_none : (words : List ℕ) (r : Regs) → run 0 words r ≡ run_end words r Steps
+run-zero : (words : List ℕ) (r : Regs) → run 0 words r ≡ run_end words r Steps
 unfolding run
-run_none words r = refl
+run-zero words r = refl
 
-run_more : (n i : ℕ) (words : List ℕ) (r : Regs) → i < n → run (n - i) words r ≡ after_step (run (n - (i + 1))) (step words r)
+run-suc : (n i : ℕ) (words : List ℕ) (r : Regs) → i < n → run (n - i) words r ≡ after_step (run (n - (i + 1))) (step words r)
 unfolding run
-run_more n i words r h = let e : n - i ≡ suc (n - (i + 1)) = omega arith in rw e refl
+run-suc n i words r h = let e : n - i ≡ suc (n - (i + 1)) = omega arith in rw e refl
 
 after_steps-after_steps : (i k : ℕ) (a b : List ℕ) (x : Run) → after_steps i a (after_steps k b x) ≡ after_steps (i + k) (a ++ b) x
 after_steps-after_steps i k a b x = rw (append_assoc a b x.bytes, add_assoc i k x.steps) refl
@@ -46,40 +46,40 @@ module _ {x : Run} {n i : ℕ} {bytes words : List ℕ} {r : Regs} (u : IsUnderW
   run-all ge le =
       let none : n - i ≡ 0 = omega arith in
       let all : i ≡ n = omega arith in
-      u.so_far ∙ ap (λ k. after_steps i bytes (run k words r)) none ∙ ap (after_steps i bytes) (run_none words r) ∙ ap (λ (k : ℕ). after_steps k bytes (run_end words r Steps)) all
+      u.so_far ∙ ap (λ k. after_steps i bytes (run k words r)) none ∙ ap (after_steps i bytes) (run-zero words r) ∙ ap (λ (k : ℕ). after_steps k bytes (run_end words r Steps)) all
 
   -- one more step, which is this one
   module _ (lt : i < n) {s : AfterStep} (e : step words r ≡ s) where
-    one_more : x ≡ after_steps (i + 1) (bytes ++ option_to_list s.byte) (unless_stopped (run (n - (i + 1))) s s.stop)
-    one_more =
-        u.so_far ∙ ap (after_steps i bytes) (run_more n i words r lt ∙ ap (after_step (run (n - (i + 1)))) e)
+    run-one_more : x ≡ after_steps (i + 1) (bytes ++ option_to_list s.byte) (unless_stopped (run (n - (i + 1))) s s.stop)
+    run-one_more =
+        u.so_far ∙ ap (after_steps i bytes) (run-suc n i words r lt ∙ ap (after_step (run (n - (i + 1)))) e)
         ∙ after_steps-after_steps i 1 bytes (option_to_list s.byte) (unless_stopped (run (n - (i + 1))) s s.stop)
 
     -- an instruction alone
     pub run-next : (words' : List ℕ) (r' : Regs) → s ≡ record { words = words'; regs = r'; byte = None; stop = None } → IsUnderWay x n (i + 1) bytes words' r'
-    run-next words' r' next = record { so_far = one_more ∙ rw (next, append-nil bytes) refl }
+    run-next words' r' next = record { so_far = run-one_more ∙ rw (next, append-nil bytes) refl }
 
     module _ {words' : List ℕ} {r' : Regs} {t : Step} (is : IsStep s words' r' t) where
       -- after which the machine goes on
       pub run-more : t.stop ≡ None → IsUnderWay x n (i + 1) (bytes ++ option_to_list t.byte) words' r'
-      run-more none = record { so_far = one_more ∙ rw (← is.byte_is, ← is.words_are, ← is.regs_are, ← is.stop_is, none) refl }
+      run-more none = record { so_far = run-one_more ∙ rw (← is.byte_is, ← is.words_are, ← is.regs_are, ← is.stop_is, none) refl }
 
       -- after which it has stopped
       pub run-stops : (stop : Stop) → t.stop ≡ Some stop → x ≡ after_steps (i + 1) (bytes ++ option_to_list t.byte) (run_end words' r' stop)
-      run-stops stop some = one_more ∙ rw (← is.byte_is, ← is.words_are, ← is.regs_are, ← is.stop_is, some) refl
+      run-stops stop some = run-one_more ∙ rw (← is.byte_is, ← is.words_are, ← is.regs_are, ← is.stop_is, some) refl
 
       -- its byte is one of the run's
       pub run-prefix : (rest : List ℕ) × (x.bytes ≡ bytes ++ (option_to_list t.byte ++ rest))
       run-prefix =
           let others = (unless_stopped (run (n - (i + 1))) s s.stop).bytes in
-          (others, ap (λ (y : Run). y.bytes) one_more ∙ append_assoc bytes (option_to_list s.byte) others ∙ ap (λ b. bytes ++ (option_to_list b ++ others)) (sym is.byte_is))
+          (others, ap (λ (y : Run). y.bytes) run-one_more ∙ append_assoc bytes (option_to_list s.byte) others ∙ ap (λ b. bytes ++ (option_to_list b ++ others)) (sym is.byte_is))
 
-ended_within : (n : ℕ) (go_on : List ℕ → Regs → Run) (s : AfterStep) (o : Option Stop) → ((words : List ℕ) (r : Regs) → (go_on words r).steps ≤ n) → 1 + (unless_stopped go_on s o).steps ≤ suc n
-ended_within n go_on s None h = omega (arith, h s.words s.regs)
-ended_within n go_on s (Some t) h = omega arith
+unless_stopped-steps_le : (n : ℕ) (go_on : List ℕ → Regs → Run) (s : AfterStep) (o : Option Stop) → ((words : List ℕ) (r : Regs) → (go_on words r).steps ≤ n) → 1 + (unless_stopped go_on s o).steps ≤ suc n
+unless_stopped-steps_le n go_on s None h = omega (arith, h s.words s.regs)
+unless_stopped-steps_le n go_on s (Some t) h = omega arith
 
 -- a run takes at most its steps
-pub steps_bound : (n : ℕ) (words : List ℕ) (r : Regs) → (run n words r).steps ≤ n
+pub run-steps_le : (n : ℕ) (words : List ℕ) (r : Regs) → (run n words r).steps ≤ n
 unfolding run
-steps_bound zero words r = omega arith
-steps_bound (suc n) words r = ended_within n (run n) (step words r) (step words r).stop (steps_bound n)
+run-steps_le zero words r = omega arith
+run-steps_le (suc n) words r = unless_stopped-steps_le n (run n) (step words r) (step words r).stop (run-steps_le n)

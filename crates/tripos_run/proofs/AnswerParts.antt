@@ -3,6 +3,7 @@ use Rattle.std.proofs.Common.{◌≡◌, ◌∙◌, ℕ, ◌≤◌, ◌<◌, ◌
 use Rattle.std.specs.Prelude.{is_ok, if◌then◌else◌}
 use Rattle.std.proofs.lemmas.Bool.Decides.{nat_tests}
 use Rattle.std.specs.Io.KnownBytes.{Appends, Consumes, IsAtEnd, Keeps}
+use Rattle.std.proofs.KnownBytes.{Keeps-refl}
 use Rattle.tp_io.specs.Writing.{AppendsPrefix, Prints}
 use Rattle.tp_io.specs.Pending.{IsCut, IsGathered}
 use Rattle.tp_io.proofs.Appending.{AppendsPrefix-more}
@@ -22,81 +23,77 @@ use Rattle.tripos_run.specs.Input.{IsInput}
 abbrev pub status_after : {T E : Type 0} → Result T E → Status → Status
 status_after written s = if is_ok written then s else WriteFault
 
-answers_stop : (a : Answer) (h k : Option (List ℕ)) (stop : Stop) → a.status ≡ status_of stop → Appends h k a.bytes → Answers a h k (status_of stop)
-answers_stop a h k Steps e p = (e, p)
-answers_stop a h k (Quit code) e p = (e, p)
-answers_stop a h k (Fault code address task) e p = (e, p)
+Answers-stop : (a : Answer) (h k : Option (List ℕ)) (stop : Stop) → a.status ≡ status_of stop → Appends h k a.bytes → Answers a h k (status_of stop)
+Answers-stop a h k Steps e p = (e, p)
+Answers-stop a h k (Quit code) e p = (e, p)
+Answers-stop a h k (Fault code address task) e p = (e, p)
 
-run_printed : {T E : Type 0} (a : Answer) (h k : Option (List ℕ)) (stop : Stop) (written : Result T E) → a.status ≡ status_of stop → Prints h k a.bytes written → Answers a h k (status_after written (status_of stop))
-run_printed a h k stop (Ok t) e p = answers_stop a h k stop e p
-run_printed a h k stop (Err d) e p = p
+Answers-run_text : {T E : Type 0} (a : Answer) (h k : Option (List ℕ)) (stop : Stop) (written : Result T E) → a.status ≡ status_of stop → Prints h k a.bytes written → Answers a h k (status_after written (status_of stop))
+Answers-run_text a h k stop (Ok t) e p = Answers-stop a h k stop e p
+Answers-run_text a h k stop (Err d) e p = p
 
 -- the bytes of a run are gathered, where nothing was pending, and printed with its end
-pub run_answered : {T E : Type 0} (command : Command) (x : Run) {h m : Option (List ℕ)} {p q : List ℕ} (k : Option (List ℕ)) {words : List ℕ} {regs : Regs} (steps : ℕ) (stop : Stop) (written : Result T E) → p ≡ []
+pub Answers-run : {T E : Type 0} (command : Command) (x : Run) {h m : Option (List ℕ)} {p q : List ℕ} (k : Option (List ℕ)) {words : List ℕ} {regs : Regs} (steps : ℕ) (stop : Stop) (written : Result T E) → p ≡ []
     → IsRunEnd x words regs steps stop → IsGathered h m p q x.bytes → Prints m k (q ++ (closing_text steps stop ++ words_text command words)) written
     → Answers (run_answer command x) h k (status_after written (status_of stop))
-run_answered command x {h} {m} {p} {q} k {words} steps stop written none end gathered last =
+Answers-run command x {h} {m} {p} {q} k {words} steps stop written none end gathered last =
     let text : closing_text steps stop ++ words_text command words ≡ closing_text x.steps x.stop ++ words_text command x.words = rw (end.steps_are, end.stop_is, end.words_are) refl in
     let whole = Prints-after gathered k (closing_text steps stop ++ words_text command words) written last in
-    run_printed (run_answer command x) h k stop written (ap status_of (sym end.stop_is))
+    Answers-run_text (run_answer command x) h k stop written (ap status_of (sym end.stop_is))
     (subst (λ (v : List ℕ). Prints h k (x.bytes ++ v) written) text (subst (λ (v : List ℕ). Prints h k (v ++ (x.bytes ++ (closing_text steps stop ++ words_text command words))) written) none whole))
 
 -- the sink failed while the bytes of a run were gathered
-pub run_cut : (command : Command) (x : Run) {h k : Option (List ℕ)} {p : List ℕ} → p ≡ [] → IsCut h k p x.bytes → AppendsPrefix h k (run_answer command x).bytes
-run_cut command x {h} {k} none cut = AppendsPrefix-more h k x.bytes (closing_text x.steps x.stop ++ words_text command x.words) (IsCut-first none cut)
+pub AppendsPrefix-run : (command : Command) (x : Run) {h k : Option (List ℕ)} {p : List ℕ} → p ≡ [] → IsCut h k p x.bytes → AppendsPrefix h k (run_answer command x).bytes
+AppendsPrefix-run command x {h} {k} none cut = AppendsPrefix-more h k x.bytes (closing_text x.steps x.stop ++ words_text command x.words) (IsCut-first none cut)
 
-short_input : (command : Command) (input : List ℕ) → length input ≤ limit → input_answer command input ≡ text_answer command input
+input_answer-short : (command : Command) (input : List ℕ) → length input ≤ limit → input_answer command input ≡ text_answer command input
 unfolding input_answer
-short_input command input h = grind (arith, nat_tests)
+input_answer-short command input h = grind (arith, nat_tests)
 
-long_input : (command : Command) (input : List ℕ) → limit < length input → input_answer command input ≡ record { status = TooLong; bytes = too_long_text }
+input_answer-long : (command : Command) (input : List ℕ) → limit < length input → input_answer command input ≡ record { status = TooLong; bytes = too_long_text }
 unfolding input_answer
-long_input command input h = grind (arith, nat_tests)
+input_answer-long command input h = grind (arith, nat_tests)
 
 -- some input there is, whatever the source tells
-some_input : (left : Option (List ℕ)) → (input : List ℕ) × IsInput left input
-some_input None = ([], tt)
-some_input (Some xs) = (xs, refl)
-
-keeps_same : (h : Option (List ℕ)) → Keeps h h
-keeps_same None = tt
-keeps_same (Some xs) = refl
+IsInput-some : (left : Option (List ℕ)) → (input : List ℕ) × IsInput left input
+IsInput-some None = ([], tt)
+IsInput-some (Some xs) = (xs, refl)
 
 -- where nothing is written, whatever the input is
-pub answered_nothing : (left h : Option (List ℕ)) → (input : List ℕ) × IsInput left input × Keeps h h
-answered_nothing left h = let some = some_input left in (some.0, some.1, keeps_same h)
+pub Answers-nothing : (left h : Option (List ℕ)) → (input : List ℕ) × IsInput left input × Keeps h h
+Answers-nothing left h = let some = IsInput-some left in (some.0, some.1, Keeps-refl h)
 
-usage_printed : {T E : Type 0} (a : Answer) (h k : Option (List ℕ)) (written : Result T E) → a.status ≡ Usage → Prints h k a.bytes written → Answers a h k (status_after written Usage)
-usage_printed a h k (Ok t) e p = (e, p)
-usage_printed a h k (Err d) e p = p
+Answers-usage_text : {T E : Type 0} (a : Answer) (h k : Option (List ℕ)) (written : Result T E) → a.status ≡ Usage → Prints h k a.bytes written → Answers a h k (status_after written Usage)
+Answers-usage_text a h k (Ok t) e p = (e, p)
+Answers-usage_text a h k (Err d) e p = p
 
-pub answered_usage : {T E : Type 0} (command : Option Command) (left h k : Option (List ℕ)) (written : Result T E) → command ≡ None → Prints h k usage_text written → (input : List ℕ) × IsInput left input × Answers (command_answer command input) h k (status_after written Usage)
-answered_usage command left h k written is p =
-    let some = some_input left in
-    (some.0, some.1, rw is (usage_printed (record { status = Usage; bytes = usage_text }) h k written refl p))
+pub Answers-usage : {T E : Type 0} (command : Option Command) (left h k : Option (List ℕ)) (written : Result T E) → command ≡ None → Prints h k usage_text written → (input : List ℕ) × IsInput left input × Answers (command_answer command input) h k (status_after written Usage)
+Answers-usage command left h k written is p =
+    let some = IsInput-some left in
+    (some.0, some.1, rw is (Answers-usage_text (record { status = Usage; bytes = usage_text }) h k written refl p))
 
-too_long_printed : {T E : Type 0} (h k : Option (List ℕ)) (written : Result T E) → Prints h k too_long_text written → Answers (record { status = TooLong; bytes = too_long_text }) h k (status_after written TooLong)
-too_long_printed h k (Ok t) p = (refl, p)
-too_long_printed h k (Err d) p = p
+Answers-too_long_text : {T E : Type 0} (h k : Option (List ℕ)) (written : Result T E) → Prints h k too_long_text written → Answers (record { status = TooLong; bytes = too_long_text }) h k (status_after written TooLong)
+Answers-too_long_text h k (Ok t) p = (refl, p)
+Answers-too_long_text h k (Err d) p = p
 
-longer : (left left' : Option (List ℕ)) (items : List ℕ) → Consumes left left' items → length items ≡ limit + 1 → (input : List ℕ) × IsInput left input × (limit < length input)
-longer None left' items c l = (items, tt, omega arith)
-longer (Some xs) None items c l = absurd c
-longer (Some xs) (Some ys) items c l = (xs, refl, omega (arith, ap length c, length-append items ys))
+IsInput-long : (left left' : Option (List ℕ)) (items : List ℕ) → Consumes left left' items → length items ≡ limit + 1 → (input : List ℕ) × IsInput left input × (limit < length input)
+IsInput-long None left' items c l = (items, tt, omega arith)
+IsInput-long (Some xs) None items c l = absurd c
+IsInput-long (Some xs) (Some ys) items c l = (xs, refl, omega (arith, ap length c, length-append items ys))
 
-pub answered_too_long : {T E : Type 0} (command : Option Command) (named : Command) (left left' : Option (List ℕ)) (items : List ℕ) (h k : Option (List ℕ)) (written : Result T E) → command ≡ Some named → Consumes left left' items → length items ≡ limit + 1
+pub Answers-too_long : {T E : Type 0} (command : Option Command) (named : Command) (left left' : Option (List ℕ)) (items : List ℕ) (h k : Option (List ℕ)) (written : Result T E) → command ≡ Some named → Consumes left left' items → length items ≡ limit + 1
     → Prints h k too_long_text written → (input : List ℕ) × IsInput left input × Answers (command_answer command input) h k (status_after written TooLong)
-answered_too_long command named left left' items h k written is c l p =
-    let long = longer left left' items c l in
-    (long.0, long.1, rw (is, long_input named long.0 long.2) (too_long_printed h k written p))
+Answers-too_long command named left left' items h k written is c l p =
+    let long = IsInput-long left left' items c l in
+    (long.0, long.1, rw (is, input_answer-long named long.0 long.2) (Answers-too_long_text h k written p))
 
 -- all that was taken is all that was left
-whole_input : (left left' : Option (List ℕ)) (items : List ℕ) → Consumes left left' items → IsAtEnd left' → IsInput left items
-whole_input None left' items c e = tt
-whole_input (Some xs) None items c e = absurd c
-whole_input (Some xs) (Some ys) items c e = sym (c ∙ ap (λ v. items ++ v) e ∙ append-nil items)
+IsInput-whole : (left left' : Option (List ℕ)) (items : List ℕ) → Consumes left left' items → IsAtEnd left' → IsInput left items
+IsInput-whole None left' items c e = tt
+IsInput-whole (Some xs) None items c e = absurd c
+IsInput-whole (Some xs) (Some ys) items c e = sym (c ∙ ap (λ v. items ++ v) e ∙ append-nil items)
 
-pub answered : (command : Option Command) (named : Command) (left left' : Option (List ℕ)) (items text : List ℕ) (h k : Option (List ℕ)) (s : Status) → command ≡ Some named → Consumes left left' items → IsAtEnd left' → length items ≤ limit → text ≡ items
+pub Answers-text : (command : Option Command) (named : Command) (left left' : Option (List ℕ)) (items text : List ℕ) (h k : Option (List ℕ)) (s : Status) → command ≡ Some named → Consumes left left' items → IsAtEnd left' → length items ≤ limit → text ≡ items
     → Answers (text_answer named text) h k s → (input : List ℕ) × IsInput left input × Answers (command_answer command input) h k s
-answered command named left left' items text h k s is c e short same a =
-    (items, whole_input left left' items c e, rw (is, short_input named items short, ← same) a)
+Answers-text command named left left' items text h k s is c e short same a =
+    (items, IsInput-whole left left' items c e, rw (is, input_answer-short named items short, ← same) a)

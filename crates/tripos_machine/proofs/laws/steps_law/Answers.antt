@@ -1,5 +1,5 @@
-use Rattle.tripos_machine.proofs.RunSteps.{steps_bound}
+use Rattle.tripos_machine.proofs.RunSteps.{run-steps_le}
 use Rattle.tripos_machine.proofs.laws.steps_law.Goals as goal
 
 pub returns : goal.returns
-returns c = steps_bound
+returns c = run-steps_le
