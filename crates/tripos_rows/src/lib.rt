@@ -2,6 +2,10 @@
 #![tactic(auto)]
 
 #[cfg(test)]
+mod blocks;
+#[cfg(test)]
 mod instructions;
 #[cfg(test)]
 mod listings;
+#[cfg(test)]
+mod logs;
