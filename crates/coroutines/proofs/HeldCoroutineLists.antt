@@ -36,10 +36,12 @@ parent_of-none t (d ∷ ds) c none = on (eqb c d) refl (parent_of-none t ds c)
 leads-out : (s : List ℕ) (t : ℕ) (pre cs : List ℕ) (at end : ℕ) → IsApart (pre ++ cs) → get_or s at 0 ≡ first_active cs end
     → AllByRecursion (λ c. parent_in s c ≡ parent_of t (pre ++ cs) c) cs → LeadsOut s t end at cs
 leads-out s t pre [] at end apart here each = here
-leads-out s t pre (c ∷ cs) at end apart here each =
-    (here, leads-out s t (pre ++ c ∷ []) cs (c + 1) t (subst IsApart (shift pre) apart)
+leads-out s t pre (c ∷ cs) at end apart here each = (
+  here,
+  leads-out s t (pre ++ c ∷ []) cs (c + 1) t (subst IsApart (shift pre) apart)
       (each.0 ∙ next pre (λ some. absurd (omega (arith, some, apart c, times-append c pre (c ∷ cs), hit-same c c refl))))
-      (subst (λ z. AllByRecursion (λ d. parent_in s d ≡ parent_of t z d) cs) (shift pre) each.1))
+      (subst (λ z. AllByRecursion (λ d. parent_in s d ≡ parent_of t z d) cs) (shift pre) each.1),
+)
   where
     shift : (xs : List ℕ) → xs ++ c ∷ cs ≡ (xs ++ c ∷ []) ++ cs
     shift [] = refl
@@ -60,8 +62,11 @@ module _ (s : List ℕ) (t : ℕ) (act : List ℕ) where
         low = λ x. omega arith;
         high = λ x. omega arith;
         count = λ a x n.
-            omega (arith, owners-row a x.address 0 (x.saved_p ∷ parent_of t act x.address ∷ n ∷ x.function ∷ x.highest ∷ x.address ∷ x.saved_pc ∷ 0 ∷ 0 ∷ x.function ∷ [])
-            ∙ ap (λ z. times a (range_with_len z 10)) (add-zero x.address));
+            omega (
+              arith,
+              owners-row a x.address 0 (x.saved_p ∷ parent_of t act x.address ∷ n ∷ x.function ∷ x.highest ∷ x.address ∷ x.saved_pc ∷ 0 ∷ 0 ∷ x.function ∷ [])
+                  ∙ ap (λ z. times a (range_with_len z 10)) (add-zero x.address),
+            );
       }
 
   -- what follows from the parent and the highest index of each coroutine

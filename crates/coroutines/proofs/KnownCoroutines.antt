@@ -100,14 +100,6 @@ current s t h within = on (active_in s t) refl h.active h.members
           out = subst (λ z. LeadsOut s t t (z + 1) cs) (sym out.0) out.1;
         }
 
--- in the root none is active
-pub in-root : (s : List ℕ) (t : ℕ) → HasCoroutines s t → current_in s t ≡ 0 → active_in s t ≡ []
-in-root s t h root = on (active_in s t) h.active h.members
-  where
-    on : (cs : List ℕ) → LeadsOut s t 0 (t + 18) cs → AllByRecursion (λ c. has c (coroutines_in s t) ≡ true) cs → cs ≡ []
-    on [] out members = refl
-    on (c ∷ cs) out members = absurd (omega (arith, out.0, root, (known-node s t c h members.0).some))
-
 -- a coroutine has a parent exactly where its word names one
 pub parent-word : (s : List ℕ) (t c : ℕ) → HasCoroutines s t → is_known s t c ≡ true → has_parent s t c ≡ true → get_or s (c + 1) 0 ≢ 0
 parent-word s t c h known some = on 0 (t + 18) (active_in s t) h.active h.members some

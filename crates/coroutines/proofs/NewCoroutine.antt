@@ -219,9 +219,6 @@ made-room s x t c u tiled taken =
     let after : AfterTake s x (highest u) c = after_take s x (highest u) c tiled taken in
     omega (arith, after.inside, after.same_length, after.low, need-size u)
 
-pub same-length : (s x : List ℕ) (u c : ℕ) → IsTiled s → IsTaken s x u c → length x ≡ length s
-same-length s x u c tiled taken = (after_take s x u c tiled taken).same_length
-
 -- the blocks are those that the take leaves
 pub create-blocks : (s x : List ℕ) (t c entry u : ℕ) → HasCoroutines s t → IsTaken s x (highest u) c → blocks_in (made s x t c entry u) ≡ taken (need (highest u)) (blocks_in s)
 create-blocks s x t c entry u h taken =

@@ -110,16 +110,3 @@ pub record Bounds (s : List ℕ) (t : ℕ) : Type 0 where
 
 pub bounds : (s : List ℕ) (t : ℕ) → HasCoroutines s t → Bounds s t
 bounds s t h = record { task = (task-inside s t h).1; current = root-or-inside s t (current_in s t) h (current-is s t h) }
-
--- the parent of the current coroutine is the root or one of the task
-pub parent-is : (s : List ℕ) (t : ℕ) → HasCoroutines s t → current_in s t ≢ 0 → IsRootOr s t (as_current t (parent_in s (current_in s t)))
-parent-is s t h within =
-    let i : IsCurrent s t = current s t h within in
-    on i.others i.out (subst (AllByRecursion (λ k. has k (coroutines_in s t) ≡ true)) i.active h.members).1
-  where
-    on : (cs : List ℕ) → LeadsOut s t t (current_in s t + 1) cs → AllByRecursion (λ k. has k (coroutines_in s t) ≡ true) cs → IsRootOr s t (as_current t (parent_in s (current_in s t)))
-    on [] out members = (let test : eqb (parent_in s (current_in s t)) t ≡ true = (let e : parent_in s (current_in s t) ≡ t = out in grind (arith, nat_tests)) in inl (ap (λ b. cond b 0 (parent_in s (current_in s t))) test))
-    on (k ∷ ks) out members =
-        let ne : parent_in s (current_in s t) ≢ t = λ e. task-apart s t k 0 0 h members.0 (omega arith) (omega arith) (omega (arith, sym e ∙ out.0)) in
-        let test : eqb (parent_in s (current_in s t)) t ≡ false = grind (arith, nat_tests) in
-        inr (ap (λ z. has z (coroutines_in s t)) (ap (λ b. cond b 0 (parent_in s (current_in s t))) test ∙ out.0) ∙ members.0)

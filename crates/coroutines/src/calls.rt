@@ -10,8 +10,8 @@ ghost use Rattle.task_block.specs.Lists.{coroutines_in};
 use crate::ends::CoEnd;
 use crate::members::{check_idle, has_parent, is_known};
 use crate::switch::{enter, leave, replace};
-use word_store::{Regs, Store, word_at};
 use task_block::{TcbField, field};
+use word_store::{Regs, Store, word_at};
 
 /// Which word of a coroutine has the address of its function.
 const FUNCTION: u32 = 3;
@@ -71,7 +71,8 @@ pub fn wait(store: &mut Store, t: u32, regs: &mut Regs, v: u32) -> Result<(), Co
     requires { HasCoroutines store.old t }
     ensures answer { result ≡ wait_answer store.old t }
     ensures words { OnOk result (store.new ≡ waited store.old t regs.old.p regs.old.pc) }
-    ensures regs { OnOk result (regs.new ≡ entered store.old t regs.old (current_parent store.old t) v) }
+    ensures regs { OnOk result
+        (regs.new ≡ entered store.old t regs.old (current_parent store.old t) v) }
     ensures active { OnOk result (active_in store.new t ≡ drop 1 (active_in store.old t)) }
     ensures coroutines { coroutines_in store.new t ≡ coroutines_in store.old t }
     ensures stand { HasCoroutines store.new t }

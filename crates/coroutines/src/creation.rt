@@ -11,13 +11,13 @@ ghost use Rattle.coroutines.specs.Creation.{IsCreated, deleted, highest};
 ghost use Rattle.coroutines.specs.Refusals.{idle_answer};
 ghost use Rattle.task_block.specs.Lists.{coroutines_in};
 
-use crate::ends::CoEnd;
 use crate::calls::BOTTOM;
+use crate::ends::CoEnd;
 use crate::members::check_idle;
 use getvec_chain::{NoRoom, give, take};
 use linked_list::unlink;
-use word_store::{Store, set_words};
 use task_block::{TcbField, field, set_field};
+use word_store::{Store, set_words};
 
 /// Which word of a coroutine links to the next one.
 const LINK: u32 = 2;
@@ -31,8 +31,10 @@ const LEAST_HIGHEST: u32 = 16;
 pub fn create(store: &mut Store, t: u32, entry: u32, u: u32) -> Result<u32, NoRoom>
     requires { HasCoroutines store.old t }
     ensures words { IfOk result (λ c. IsCreated store.old store.new t c entry u) }
-    ensures blocks { OnOk result (blocks_in store.new ≡ taken (need (highest u)) (blocks_in store.old)) }
-    ensures coroutines { IfOk result (λ c. coroutines_in store.new t ≡ c ∷ coroutines_in store.old t) }
+    ensures blocks { OnOk result
+        (blocks_in store.new ≡ taken (need (highest u)) (blocks_in store.old)) }
+    ensures coroutines { IfOk result
+        (λ c. coroutines_in store.new t ≡ c ∷ coroutines_in store.old t) }
     ensures active { active_in store.new t ≡ active_in store.old t }
     ensures stand { HasCoroutines store.new t }
     ensures no_room { OnErr result (first_run (need (highest u)) (blocks_in store.old) ≡ None) }
@@ -57,7 +59,8 @@ pub fn delete(store: &mut Store, t: u32, c: u32) -> Result<(), CoEnd>
     ensures answer { result ≡ idle_answer store.old t c }
     ensures words { OnOk result (store.new ≡ deleted store.old t c) }
     ensures blocks { OnOk result (blocks_in store.new ≡ given c (blocks_in store.old)) }
-    ensures coroutines { OnOk result (coroutines_in store.new t ≡ without c (coroutines_in store.old t)) }
+    ensures coroutines { OnOk result
+        (coroutines_in store.new t ≡ without c (coroutines_in store.old t)) }
     ensures active { active_in store.new t ≡ active_in store.old t }
     ensures stand { HasCoroutines store.new t }
     ensures unchanged { OnErr result (store.new ≡ store.old) }

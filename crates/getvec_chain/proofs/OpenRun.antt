@@ -50,21 +50,11 @@ open-free n run b bs start free =
     let end : run.end + run_size (b ∷ bs) ≡ block_end b + run_size bs = omega (arith, start, run_size-free b bs free) in
     λ i. run_or n run.start (end i) (first_run n (after_run-free b bs free i))
 
--- a used block ends the run
-pub open-large : (n : ℕ) (run : Run) (b : Block) (bs : List Block) → b.free ≡ false → n ≤ run.end - run.start → first_run_after n run (b ∷ bs) ≡ Some run
-open-large n run b bs used le =
-    let end : run.end + run_size (b ∷ bs) ≡ run.end = omega (arith, run_size-used b bs used) in
-    ap (λ z. run_or n run.start z (first_run n (after_run (b ∷ bs)))) end ∙ run_or-large n run.start run.end (first_run n (after_run (b ∷ bs))) le
-
 pub open-small : (s : List ℕ) (n : ℕ) (run : Run) (b : Block) (bs : List Block) → 0 < n → Tiles s (block_end b) bs → b.free ≡ false → run.end - run.start < n
     → first_run_after n run (b ∷ bs) ≡ first_run_after n (record { start = block_end b; end = block_end b }) bs
 open-small s n run b bs some t used lt =
     run_or-small n run.start (run.end + run_size (b ∷ bs)) (first_run n (after_run (b ∷ bs))) (omega (arith, lt, run_size-used b bs used))
     ∙ ap (first_run n) (after_run-used b bs used) ∙ first_run-used n b bs used ∙ open-none s n (block_end b) bs some t
-
--- the end word ends the run too
-pub open-end : (n : ℕ) (run : Run) → first_run_after n run [] ≡ run_or n run.start run.end None
-open-end n run = (let end : run.end + 0 ≡ run.end = omega arith in ap (λ z. run_or n run.start z None) end)
 
 -- where the walk stands
 pub record IsOpen (s : List ℕ) (n : ℕ) (all : Option Run) (run : Run) (bs : List Block) : Type 0 where
@@ -88,13 +78,6 @@ pub at_block : (s : List ℕ) (n : ℕ) (all : Option Run) (run : Run) (items : 
 at_block s n all run items b rest here is =
     let t : Tiles s run.end (b ∷ rest) = subst (Tiles s run.end) is here.tiles in
     record { start = t.0; rest_tiles = t.2; inside = Tiles-inside s (block_end b) rest t.2; some = t.1.some; answer = here.answer ∙ ap (first_run_after n run) is }
-
--- a step over a free block, and over a used one after a run that is too small
-pub step-free : (s : List ℕ) (n : ℕ) (all : Option Run) (run : Run) (b : Block) (rest : List Block) (end : ℕ) → run.start ≤ run.end → AtBlock s n all run b rest → b.free ≡ true → end ≡ block_end b
-    → IsOpen s n all (record { start = run.start; end = end }) rest
-step-free s n all run b rest end order h free is =
-    subst (λ z. IsOpen s n all (record { start = run.start; end = z }) rest) (sym is)
-    (record { tiles = h.rest_tiles; order = omega (arith, order, h.start); answer = h.answer ∙ open-free n run b rest h.start free })
 
 pub step-used : (s : List ℕ) (n : ℕ) (all : Option Run) (run : Run) (b : Block) (rest : List Block) (end : ℕ) → 0 < n → AtBlock s n all run b rest → b.free ≡ false → run.end - run.start < n → end ≡ block_end b
     → IsOpen s n all (record { start = end; end = end }) rest

@@ -12,10 +12,6 @@ use Rattle.getvec_chain.proofs.Tilings.{Tiles-inside}
 pub need-even : (u : ℕ) → (2 ≤ need u) × (need u % 2 ≡ 0)
 need-even u = (omega arith, omega arith)
 
--- it has room for the size word and the data words 0 to u, and for one word more at most
-pub need-room : (u : ℕ) → (u + 2 ≤ need u) × (need u ≤ u + 3)
-need-room u = (omega arith, omega arith)
-
 -- the run at the front of the blocks: those after it stand from its end on, and its size is even
 pub record FrontRun (s : List ℕ) (at : ℕ) (bs : List Block) : Type 0 where
   pub after : Tiles s (at + run_size bs) (after_run bs)

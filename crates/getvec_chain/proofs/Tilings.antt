@@ -105,6 +105,3 @@ length-first_blocks (suc n) s at = on (eqb (get_or s at 0) 0) (length-first_bloc
     on : (x : Bool) → length rest ≤ n → length (cond x [] (block_of_word at (get_or s at 0) ∷ rest)) ≤ suc n
     on true later = omega arith
     on false later = omega (arith, later)
-
-pub length-blocks_in : (s : List ℕ) → length (blocks_in s) ≤ length s
-length-blocks_in s = length-first_blocks (length s) s 200

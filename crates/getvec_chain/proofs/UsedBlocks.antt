@@ -134,27 +134,3 @@ used_at-holding s at (d ∷ bs) v a b t e low high = on (is_used_at v d) refl (�
     on : (x : Bool) → is_used_at v d ≡ x → (used_at v bs ≡ Some b → holding a bs ≡ Some b) → cond x (Some d) (used_at v bs) ≡ Some b → holding a (d ∷ bs) ≡ Some b
     on true at_v later e = here (cc) at_v
     on false at_v later e = later_on e (later e)
-
--- a used block that holds data is found where its data begin
-pub holding-used_at : (s : List ℕ) (at : ℕ) (bs : List Block) (a : ℕ) (b : Block) → Tiles s at bs → holding a bs ≡ Some b → b.free ≡ false → used_at (b.start + 1) bs ≡ Some b
-holding-used_at s at [] a b t e used = cc
-holding-used_at s at (d ∷ bs) a b t e used = on (has_data d a) (λ k. holding-used_at s (block_end d) bs a b t.2 k used) e
-  where
-    here : eqb (b.start + 1) (b.start + 1) ≡ true
-    here = grind (arith, nat_tests)
-
-    past : holding a bs ≡ Some b → eqb (d.start + 1) (b.start + 1) ≡ false
-    past e =
-        let low = (holding-is s (block_end d) bs a b t.2 e).low in
-        let before : d.start < b.start = omega (arith, low, t.1.some) in
-        grind (arith, nat_tests)
-
-    skip : (f : Bool) → cond (f && false) (Some d) (used_at (b.start + 1) bs) ≡ used_at (b.start + 1) bs
-    skip true = refl
-    skip false = refl
-
-    on : (x : Bool) → (holding a bs ≡ Some b → used_at (b.start + 1) bs ≡ Some b) → cond x (Some d) (holding a bs) ≡ Some b → used_at (b.start + 1) (d ∷ bs) ≡ Some b
-    on true later e =
-        let is : b ≡ d = cc in
-        subst (λ z. used_at (b.start + 1) (z ∷ bs) ≡ Some b) is (ap (λ f. cond (not f && eqb (b.start + 1) (b.start + 1)) (Some b) (used_at (b.start + 1) bs)) used ∙ ap (λ x. cond x (Some b) (used_at (b.start + 1) bs)) here)
-    on false later e = rw (past e) (skip (not d.free)) ∙ later e

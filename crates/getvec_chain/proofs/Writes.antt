@@ -78,7 +78,3 @@ SameBlocks-used s t v b tiled is len same =
 -- a write below the first block
 pub SameBlocks-set_below : (s : List ℕ) (a w : ℕ) → IsTiled s → a < 200 → SameBlocks s (set s a w)
 SameBlocks-set_below s a w tiled low = SameBlocks-kept s (set s a w) tiled (length-set s a w) (λ c above _ _. get_or-set_other s a c w 0 (λ e. absurd (omega (arith, e, above, low))))
-
--- a write to the last word, and to any word past the end word
-pub SameBlocks-set_above : (s : List ℕ) (a w : ℕ) → IsTiled s → length s ≤ a + 1 → SameBlocks s (set s a w)
-SameBlocks-set_above s a w tiled high = SameBlocks-kept s (set s a w) tiled (length-set s a w) (λ c _ inside _. get_or-set_other s a c w 0 (λ e. absurd (omega (arith, e, inside, high))))

@@ -1,8 +1,8 @@
 // The blocks of a store, in rising order.
 ghost use Rattle.std.specs.Iterator.{YieldsFirst, item_count};
 
-use std::marker::Model;
 use crate::pieces::Block;
+use std::marker::Model;
 use word_store::Store;
 
 /// The blocks that are left.

@@ -6,8 +6,8 @@ ghost use Rattle.getvec_chain.specs.Run.{first_run, need};
 ghost use Rattle.getvec_chain.specs.Take.{IsTaken, taken, taken_store};
 ghost use Rattle.getvec_chain.specs.Tiling.{IsTiled, blocks_in, used_at};
 
-use crate::search::{first_run, used_at, words_needed};
 use crate::pieces::{FIRST_BLOCK, Run};
+use crate::search::{first_run, used_at, words_needed};
 use word_store::Store;
 
 /// No run of free blocks is large enough.

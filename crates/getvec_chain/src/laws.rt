@@ -24,7 +24,8 @@ pub fn held_blocks_law()
     ensures tiled { (s : List ℕ) (bs : List Block) (end : ℕ) → Follow 200 bs end
         → end + 2 ≡ length s → slice_index s end ≡ 0 → Holds s (blocks_words bs) → IsTiled s }
     ensures blocks { (s : List ℕ) (bs : List Block) (end : ℕ) → Follow 200 bs end
-        → end + 2 ≡ length s → slice_index s end ≡ 0 → Holds s (blocks_words bs) → blocks_in s ≡ bs }
+        → end + 2 ≡ length s → slice_index s end ≡ 0 → Holds s (blocks_words bs)
+        → blocks_in s ≡ bs }
 {}
 
 /// What a take and a give do to the words that blocks own.

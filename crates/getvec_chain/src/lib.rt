@@ -2,12 +2,12 @@
 #![tactic(auto)]
 
 mod block_walk;
-mod pieces;
-mod search;
 mod calls;
 pub mod laws;
+mod pieces;
+mod search;
 
 pub use block_walk::Blocks;
-pub use search::{block_of, blocks, first_run};
-pub use pieces::{Block, FIRST_BLOCK, Run};
 pub use calls::{NoRoom, NotABlock, give, make, take};
+pub use pieces::{Block, FIRST_BLOCK, Run};
+pub use search::{block_of, blocks, first_run};

@@ -151,9 +151,3 @@ stands-none s tiled none =
     let P : List ℕ → Type 0 = λ xs. IsChain s module_link 104 xs in
     let Q : List ℕ → Type 0 = λ xs. AllByRecursion (IsModuleAt s) xs in
     record { tiled = tiled; chain = subst P (sym empty) none; modules = subst Q (sym empty) tt; apart = subst IsApart (sym empty) (λ a. omega arith) }
-
--- so where word 104 is cleared
-pub stands-cleared : (s t : List ℕ) → IsTiled s → t ≡ set s 104 0 → HasModules t
-stands-cleared s t tiled words =
-    let inside = IsTiled-inside s tiled in
-    subst HasModules (sym words) (stands-none (set s 104 0) (SameBlocks-set_below s 104 0 tiled (omega arith)).tiled (get_or-set_same s 104 0 0 (omega arith)))

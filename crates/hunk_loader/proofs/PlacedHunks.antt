@@ -219,10 +219,3 @@ hunks_begin text s m count hunks at left f e n =
       inside = omega arith;
       all = ap (λ (x : ℕ). with_words (with_words s (m + 2 + count) image) x (lengths_of hs)) e ∙ apart ∙ sym joined;
     }
-
--- the whole row
-pub row_placed : (s : List ℕ) (m link count : ℕ) (hunks : List Hunk) → length hunks ≡ count → row_behind (set (set s m link) (m + 1) count) m count hunks ≡ with_words s m (module_row link m hunks)
-row_placed s m link count hunks e =
-    let two : m + 2 ≡ m + 1 + 1 = omega arith in
-    let P : ℕ → Type 0 = λ n. row_behind (set (set s m link) (m + 1) n) m n hunks ≡ with_words s m (module_row link m hunks) in
-    subst P e (ap (λ (x : ℕ). with_words (set (set s m link) (m + 1) (length hunks)) x (lengths_of hunks ++ hunks_image (m + 2 + length hunks) hunks)) two)

@@ -70,7 +70,8 @@ pub fn unload(store: &mut Store, m: u32) -> Result<(), NoModule>
     requires { HasModules store.old }
     ensures listed { OnOk result (has m (modules_in store.old) ≡ true) }
     ensures without { OnOk result (modules_in store.new ≡ without m (modules_in store.old)) }
-    ensures words { OnOk result (store.new ≡ given_store (without_node store.old module_link first_module m) m) }
+    ensures words { OnOk result
+        (store.new ≡ given_store (without_node store.old module_link first_module m) m) }
     ensures blocks { OnOk result (blocks_in store.new ≡ given m (blocks_in store.old)) }
     ensures not_listed { OnErr result (has m (modules_in store.old) ≡ false) }
     ensures unchanged { OnErr result (store.new ≡ store.old) }

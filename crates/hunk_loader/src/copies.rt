@@ -27,7 +27,8 @@ pub(crate) fn copy_words<X: TextBytes>(
     requires { (words others : List ℕ) × WordsFollow (X.text text.now) from at end words others }
     ensures words { (words others : List ℕ) → WordsFollow (X.text text.now) from at end words others
         → store.new ≡ with_words store.old at words }
-    ensures others { (words others : List ℕ) → WordsFollow (X.text text.now) from at end words others
+    ensures others { (words others : List ℕ)
+        → WordsFollow (X.text text.now) from at end words others
         → Reads (X.text text.now) result others }
 {
     let mut place = from;

@@ -8,5 +8,6 @@ ghost use Rattle.task_block.specs.Lists.{modules_in};
 /// its modules.
 pub fn held_modules_law()
     ensures modules { (s : List ℕ) (ms : List LoadedModule) → HeldModules s ms → HasModules s }
-    ensures list { (s : List ℕ) (ms : List LoadedModule) → HeldModules s ms → modules_in s ≡ map module_address ms }
+    ensures list { (s : List ℕ) (ms : List LoadedModule) → HeldModules s ms
+        → modules_in s ≡ map module_address ms }
 {}

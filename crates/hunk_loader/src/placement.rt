@@ -28,7 +28,8 @@ pub(crate) fn place_module<X: TextBytes>(text: &X, store: &mut Store, m: u32, li
 fn place_hunks<X: TextBytes>(text: &X, store: &mut Store, m: u32, count: u32)
     requires { (hunks : Module) × FitsAt (X.text text.now) store.old m count hunks }
     ensures { (hunks : Module) → FitsAt (X.text text.now) store.old m count hunks
-        → store.new ≡ with_words store.old (m + 2) (lengths_of hunks.hunks ++ hunks_image (m + 2 + count) hunks.hunks) }
+        → store.new ≡ with_words store.old (m + 2)
+        (lengths_of hunks.hunks ++ hunks_image (m + 2 + count) hunks.hunks) }
 {
     let lengths = store.address_of(m, 2);
     let mut place = 0;

@@ -12,11 +12,14 @@ use word_store::{Store, add, set_word_at, word_at};
 
 // Relocates the words of the hunk at the base by all relocation lists that follow. The answer is the place after them.
 pub(crate) fn relocate<X: TextBytes>(text: &X, from: u32, store: &mut Store, base: u32) -> u32
-    requires { (lists : List (List ℕ)) × (others : List ℕ) × ListsFollow (X.text text.now) from lists others
+    requires { (lists : List (List ℕ)) × (others : List ℕ)
+        × ListsFollow (X.text text.now) from lists others
         × AreInside store.old (places base (concat lists)) }
-    ensures words { (lists : List (List ℕ)) (others : List ℕ) → ListsFollow (X.text text.now) from lists others
+    ensures words { (lists : List (List ℕ)) (others : List ℕ)
+        → ListsFollow (X.text text.now) from lists others
         → store.new ≡ relocated base store.old (places base (concat lists)) }
-    ensures others { (lists : List (List ℕ)) (others : List ℕ) → ListsFollow (X.text text.now) from lists others
+    ensures others { (lists : List (List ℕ)) (others : List ℕ)
+        → ListsFollow (X.text text.now) from lists others
         → Reads (X.text text.now) result others }
 {
     let mut place = from;
@@ -51,7 +54,8 @@ fn relocate_by_list<X: TextBytes>(text: &X, from: u32, store: &mut Store, base: 
 
 // Adds the base to the word at an offset from it.
 fn relocate_word(store: &mut Store, base: u32, offset: u32)
-    ensures { store.new ≡ slice_set store.old (base + offset) (add (slice_index store.old (base + offset)) base) }
+    ensures { store.new
+        ≡ slice_set store.old (base + offset) (add (slice_index store.old (base + offset)) base) }
 {
     let word = word_at(store, base, offset);
     set_word_at(store, base, offset, add(word, base));

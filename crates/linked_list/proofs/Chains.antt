@@ -55,11 +55,6 @@ cells-apart s link size head ps l a = omega (arith, times-cells s link size head
 pub nodes-apart : (s : List ℕ) (link size : ℕ → ℕ) (head : ℕ) (ps : List ℕ) → IsLinked s link size head ps → IsApart ps
 nodes-apart s link size head ps l a = omega (arith, times-nodes s link size ps l.nodes a, l.apart a)
 
--- the last cell is one of the cells, and lies in the store
-pub times-last_cell : (link : ℕ → ℕ) (at : ℕ) (ps : List ℕ) → 0 < times (last_cell link at ps) (cells link at ps)
-times-last_cell link at [] = omega (arith, hit-same at at refl)
-times-last_cell link at (p ∷ ps) = omega (arith, times-last_cell link (link p) ps)
-
 pub last_cell-inside : (s : List ℕ) (link size : ℕ → ℕ) (at : ℕ) (ps : List ℕ) → at < length s → AllByRecursion (IsNode s link size) ps → last_cell link at ps < length s
 last_cell-inside s link size at [] h n = h
 last_cell-inside s link size at (p ∷ ps) h n = last_cell-inside s link size (link p) ps (omega (arith, n.0.before, n.0.inside)) n.1

@@ -5,6 +5,7 @@ ghost use Rattle.linked_list.specs.Linked.{IsLinked};
 
 /// A store has at most one linked list at a head: the one that its links alone give.
 pub fn list_law()
-    ensures { (s : List ℕ) (link size : ℕ → ℕ) (head : ℕ) (ps : List ℕ) → IsLinked s link size head ps
+    ensures { (s : List ℕ) (link size : ℕ → ℕ) (head : ℕ) (ps : List ℕ)
+        → IsLinked s link size head ps
         → list_at s link head ≡ ps }
 {}

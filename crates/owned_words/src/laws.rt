@@ -27,5 +27,6 @@ pub fn standing_law()
 
 /// Words that are written one after another are written as the pairs of their row.
 pub fn row_law()
-    ensures { (s : List ℕ) (a : ℕ) (words : List ℕ) → with_words s a words ≡ written (row_from a 0 words) s }
+    ensures { (s : List ℕ) (a : ℕ) (words : List ℕ)
+        → with_words s a words ≡ written (row_from a 0 words) s }
 {}

@@ -55,7 +55,8 @@ impl EventLog for ListLog {
     ghost has_failed = { λ log. log.failed };
 
     fn note(&mut self, e: KernelEvent)
-        ensures notes { Notes (Some self.old.events) (Some self.new.events) self.old.failed self.new.failed e }
+        ensures notes { Notes (Some self.old.events)
+            (Some self.new.events) self.old.failed self.new.failed e }
         ensures room { self.new.room ≡ self.old.room }
         ensures fails { IsTrue self.new.failed ↔ (length self.old.events ≡ self.old.room) }
     {

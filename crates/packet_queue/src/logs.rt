@@ -15,7 +15,8 @@ pub trait EventLog {
 
     /// Notes the event.
     fn note(&mut self, e: KernelEvent)
-        ensures { Notes (noted self.old) (noted self.new) (has_failed self.old) (has_failed self.new) e };
+        ensures { Notes (noted self.old) (noted self.new) (has_failed self.old)
+            (has_failed self.new) e };
 
     /// Whether the log has failed.
     fn failed(&self) -> bool

@@ -2,8 +2,8 @@
 ghost use Rattle.std.specs.Prelude.{◌≡◌};
 ghost use Rattle.std.specs.Iterator.{YieldsFirst, item_count};
 
-use std::marker::Model;
 use linked_list::Nodes;
+use std::marker::Model;
 
 /// The packets of a queue that are left, seen as the list of their addresses.
 #[derive(Drop)]

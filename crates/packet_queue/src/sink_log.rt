@@ -38,8 +38,10 @@ impl<K: Sink> EventLog for SinkLog<'_, K> {
     fn note(&mut self, e: KernelEvent)
         ensures notes { Notes None None self.old.failed self.new.failed e }
         ensures same_reference { self.new.out.ghost_name ≡ self.old.out.ghost_name }
-        ensures line { WritesLine self.old.failed self.new.failed (K.holds self.old.out.now) (K.holds self.new.out.now) (line_of e) }
-        ensures cause { HasFailCause self.old.failed self.new.failed (K.faults self.old.out.now) (K.faults self.new.out.now) }
+        ensures line { WritesLine self.old.failed self.new.failed (K.holds self.old.out.now)
+            (K.holds self.new.out.now) (line_of e) }
+        ensures cause { HasFailCause self.old.failed self.new.failed (K.faults self.old.out.now)
+            (K.faults self.new.out.now) }
         ensures silent { OnTrue self.old.failed (self.new.out.now ≡ self.old.out.now) }
     {
         if !self.failed {
@@ -79,7 +81,8 @@ fn write_with_sender<K: Sink>(
     packet: u32,
     sender: i32,
 ) -> Result<(), SinkFault>
-    ensures text { Prints (K.holds out.old) (K.holds out.new) (sender_line verb.now queue packet sender) result }
+    ensures text { Prints (K.holds out.old) (K.holds out.new)
+        (sender_line verb.now queue packet sender) result }
     ensures cause { HasCause (K.faults out.old) (K.faults out.new) result }
 {
     write_pieces(
@@ -98,7 +101,8 @@ fn write_with_sender<K: Sink>(
 }
 
 fn write_dequeued<K: Sink>(out: &mut K, queue: i32, packet: u32) -> Result<(), SinkFault>
-    ensures text { Prints (K.holds out.old) (K.holds out.new) (line_of (KernelEvent.Dequeued queue packet)) result }
+    ensures text { Prints (K.holds out.old) (K.holds out.new)
+        (line_of (KernelEvent.Dequeued queue packet)) result }
     ensures cause { HasCause (K.faults out.old) (K.faults out.new) result }
 {
     write_pieces(
@@ -114,7 +118,8 @@ fn write_dequeued<K: Sink>(out: &mut K, queue: i32, packet: u32) -> Result<(), S
 }
 
 fn write_runs<K: Sink>(out: &mut K, task: u32) -> Result<(), SinkFault>
-    ensures text { Prints (K.holds out.old) (K.holds out.new) (line_of (KernelEvent.Runs task)) result }
+    ensures text { Prints (K.holds out.old) (K.holds out.new)
+        (line_of (KernelEvent.Runs task)) result }
     ensures cause { HasCause (K.faults out.old) (K.faults out.new) result }
 {
     write_pieces(

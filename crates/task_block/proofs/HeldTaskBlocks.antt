@@ -20,9 +20,10 @@ module _ {X : Type 0} (address id : X → ℕ) (words : X → ℕ → Pairs) (ki
   -- each task's number is in the store
   numbers : (s : List ℕ) (xs : List X) (end : ℕ) → Holds s (linked_words address words xs end) → AllByRecursion (λ x. id_in s (address x) ≡ id x) xs
   numbers s [] end h = tt
-  numbers s (x ∷ xs) end h =
-      (kind.number s x (first_of address xs end) (Holds-left s (words x (first_of address xs end)) (linked_words address words xs end) h),
-       numbers s xs end (Holds-right s (words x (first_of address xs end)) (linked_words address words xs end) h))
+  numbers s (x ∷ xs) end h = (
+    kind.number s x (first_of address xs end) (Holds-left s (words x (first_of address xs end)) (linked_words address words xs end) h),
+    numbers s xs end (Holds-right s (words x (first_of address xs end)) (linked_words address words xs end) h),
+  )
 
   -- the store finds by a number what they have
   task_with-held : (s : List ℕ) (i : ℕ) (xs : List X) → AllByRecursion (λ x. id_in s (address x) ≡ id x) xs → unwrap_or (task_with s i (map address xs)) 0 ≡ address_with address id xs i
@@ -38,9 +39,10 @@ module _ {X : Type 0} (address id : X → ℕ) (words : X → ℕ → Pairs) (ki
   -- each task is found by its number, where the earlier ones have others
   found : (pre xs : List X) → IsApart (map id (pre ++ xs)) → AllByRecursion (λ x. address_with address id (pre ++ xs) (id x) ≡ address x) xs
   found pre [] apart = tt
-  found pre (x ∷ xs) apart =
-      (first pre (omega (arith, apart (id x), join pre, hit-same (id x) (id x) refl)),
-       subst (λ z. AllByRecursion (λ y. address_with address id z (id y) ≡ address y) xs) (sym (shift pre)) (found (pre ++ x ∷ []) xs (subst (λ z. IsApart (map id z)) (shift pre) apart)))
+  found pre (x ∷ xs) apart = (
+    first pre (omega (arith, apart (id x), join pre, hit-same (id x) (id x) refl)),
+    subst (λ z. AllByRecursion (λ y. address_with address id z (id y) ≡ address y) xs) (sym (shift pre)) (found (pre ++ x ∷ []) xs (subst (λ z. IsApart (map id z)) (shift pre) apart)),
+  )
     where
       shift : (ys : List X) → ys ++ x ∷ xs ≡ (ys ++ x ∷ []) ++ xs
       shift [] = refl

@@ -54,19 +54,3 @@ task_with-has P s i t (u ∷ ts) all e = on (eqb (id_in s u) i) refl e (task_wit
         let has : id_in s u ≡ i = grind (arith, nat_tests) in
         (subst P same all.0, subst (λ z. id_in s z ≡ i) same has)
     on false out e more = more e
-
--- and it is among them
-pub task_with-among : (s : List ℕ) (i t : ℕ) (ts : List ℕ) → task_with s i ts ≡ Some t → has t ts ≡ true
-task_with-among s i t [] e = cc
-task_with-among s i t (u ∷ ts) e = on (eqb (id_in s u) i) e (task_with-among s i t ts)
-  where
-    first : (b : Bool) → u ≡ t → (eqb t u || b) ≡ true
-    first b same = (let test : eqb t u ≡ true = grind (arith, nat_tests) in ap (λ c. c || b) test)
-
-    on : (b : Bool) → cond b (Some u) (task_with s i ts) ≡ Some t → (task_with s i ts ≡ Some t → has t ts ≡ true) → (eqb t u || has t ts) ≡ true
-    on true e more = first (has t ts) cc
-    on false e more = later (eqb t u) (more e)
-      where
-        later : (b : Bool) → has t ts ≡ true → (b || has t ts) ≡ true
-        later true h = refl
-        later false h = h

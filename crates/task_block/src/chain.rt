@@ -18,7 +18,8 @@ use word_store::{Store, set_word_at};
 pub fn insert(store: &mut Store, t: u32)
     requires tasks { HasTasks store.old }
     requires task { IsNewTask store.old t }
-    ensures chain { tasks_in store.new ≡ insert_after (is_above store.old t) t (tasks_in store.old) }
+    ensures chain { tasks_in store.new
+        ≡ insert_after (is_above store.old t) t (tasks_in store.old) }
     ensures words { store.new ≡ with_task store.old t }
     ensures tasks { HasTasks store.new }
     ensures order { Fall store.old (tasks_in store.old) → IsNewPriority store.old t

@@ -12,8 +12,11 @@ use Rattle.coroutines.proofs.creation.create.Goals.{After-set_field}
 
 pub address_of-bottom-requires : goal.address_of-bottom-requires
 address_of-bottom-requires c =
-    omega (arith, made-room c.args.store.now c.take.new.store c.args.t c.in_ok-c.c c.args.u c.requires.tiled
-    (subst (λ z. IsTaken c.args.store.now c.take.new.store z c.in_ok-c.c) c.max-highest.ensures c.in_ok-c.ensures.taken))
+    omega (
+      arith,
+      made-room c.args.store.now c.take.new.store c.args.t c.in_ok-c.c c.args.u c.requires.tiled
+          (subst (λ z. IsTaken c.args.store.now c.take.new.store z c.in_ok-c.c) c.max-highest.ensures c.in_ok-c.ensures.taken),
+    )
 
 pub set_words-requires : goal.set_words-requires
 set_words-requires c =

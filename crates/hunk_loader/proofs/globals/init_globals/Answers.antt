@@ -33,7 +33,7 @@ pub init_hunk-requires-clause-hunk : goal.init_hunk-requires-clause-hunk
 init_hunk-requires-clause-hunk c =
     let inside = module_inside c.args.store.now c.args.m c.requires.modules c.requires.listed in
     let r = room c.args.store.now c.loop-i.store c.args.m c.args.g c.loop-i.i c.loop-i.base c.word_at-count.result c.word_at-length.result c.address_of-lengths.result c.loop-i.invariant inside
-        c.word_at-count.ensures c.loop-i-test.true c.address_of-lengths.ensures c.word_at-length.ensures in
+    c.word_at-count.ensures c.loop-i-test.true c.address_of-lengths.ensures c.word_at-length.ensures in
     omega (arith, c.loop-i.invariant.size)
 
 pub init_hunk-requires-clause-clear : goal.init_hunk-requires-clause-clear
@@ -41,7 +41,7 @@ init_hunk-requires-clause-clear c =
     let s = c.args.store.now in
     let inside = module_inside s c.args.m c.requires.modules c.requires.listed in
     let r = room s c.loop-i.store c.args.m c.args.g c.loop-i.i c.loop-i.base c.word_at-count.result c.word_at-length.result c.address_of-lengths.result c.loop-i.invariant inside
-        c.word_at-count.ensures c.loop-i-test.true c.address_of-lengths.ensures c.word_at-length.ensures in
+    c.word_at-count.ensures c.loop-i-test.true c.address_of-lengths.ensures c.word_at-length.ensures in
     hunk_clear s c.args.m c.args.g c.loop-i.base c.word_at-length.result c.requires.clear c.loop-i.invariant.above r
 
 pub address_of-base-requires-in-loop-i : goal.address_of-base-requires-in-loop-i
@@ -49,7 +49,7 @@ address_of-base-requires-in-loop-i c =
     let s = c.args.store.now in
     let inside = module_inside s c.args.m c.requires.modules c.requires.listed in
     let r = room s c.loop-i.store c.args.m c.args.g c.loop-i.i c.loop-i.base c.word_at-count.result c.word_at-length.result c.address_of-lengths.result c.loop-i.invariant inside
-        c.word_at-count.ensures c.loop-i-test.true c.address_of-lengths.ensures c.word_at-length.ensures in
+    c.word_at-count.ensures c.loop-i-test.true c.address_of-lengths.ensures c.word_at-length.ensures in
     omega (arith, c.loop-i.invariant.size, ap length c.init_hunk.ensures, length-with_globals c.loop-i.store c.args.g (globals_of_hunk (placed c.loop-i.base (slice_range c.loop-i.store c.loop-i.base (c.loop-i.base + c.word_at-length.result)))))
 
 pub loop-i-preserved : goal.loop-i-preserved

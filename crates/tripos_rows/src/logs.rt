@@ -1,0 +1,47 @@
+// Logs of events: the lines that are printed, and the events that are kept.
+use packet_queue::{EventLog, KernelEvent, ListLog, SinkLog};
+use std::test::Fail;
+use tp_io::MemorySink;
+
+#[test]
+fn a_line_for_each_event(rt: HostRuntime) -> Result<(), Fail> {
+    let mut sink = MemorySink::new(rt.alloc(), 256, &[]).map_err(|_| "memory")?;
+    let mut log = SinkLog::new(&mut sink);
+    for event in [
+        KernelEvent::Accepted {
+            queue: -2147483648,
+            packet: 4294967295,
+            sender: 3,
+        },
+        KernelEvent::Taken {
+            queue: 3,
+            packet: 1000,
+            sender: -2,
+        },
+        KernelEvent::Dequeued {
+            queue: -1,
+            packet: 120,
+        },
+        KernelEvent::Runs { task: 12 },
+    ] {
+        log.note(event);
+    }
+    assert!(rt; !log.failed());
+    assert_eq!(rt;
+        sink.bytes(),
+        b"accept -2147483648 4294967295 3\ntake 3 1000 -2\ndequeue -1 120\nrun 12\n".as_slice()
+    );
+    Ok(())
+}
+
+#[test]
+fn a_list_log_keeps_what_it_has_room_for(rt: HostRuntime) -> Result<(), Fail> {
+    let mut log = ListLog::make(rt.alloc(), 2).map_err(|_| "memory")?;
+    for (task, failed) in [(7, false), (8, false), (9, true)] {
+        log.note(KernelEvent::Runs { task });
+        assert_eq!(rt; log.failed(), failed, "after task {task}");
+    }
+    let kept = [KernelEvent::Runs { task: 7 }, KernelEvent::Runs { task: 8 }];
+    assert_eq!(rt; log.events(), kept.as_slice());
+    Ok(())
+}
