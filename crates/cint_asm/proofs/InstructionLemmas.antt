@@ -1,9 +1,9 @@
 -- What the names of the table and numbers make.
-use Rattle.std.proofs.Common.{◌≡◌, ◌∙◌, ap, sym, ℕ, ℤ, pos, negsuc, ◌%◌, ◌^◌, ◌<◌, ◌≤◌, Bool, true, not, ◌&&◌, inl, inr, Some, None, Option, List, [], ◌∷◌, Result, Ok, Err, refl, subst, arith}
-use Rattle.std.specs.Option.{is_none, option_and_then, option_map, option_map_or}
+use Rattle.std.proofs.Common.{◌≡◌, ap, ℕ, pos, negsuc, ◌<◌, Bool, true, ◌&&◌, inl, inr, Some, None, Option, List, ◌∷◌, Result, Ok, refl, subst, arith}
+use Rattle.std.specs.Option.{is_none, option_map, option_map_or}
 use Rattle.std.proofs.lemmas.Bool.{and_parts, cases_lt}
 use Rattle.std.proofs.lemmas.Bool.Decides.{nat_tests}
-use Rattle.cint_table.specs.Names.{byte_named, name_at}
+use Rattle.cint_table.specs.Names.{byte_named}
 use Rattle.cint_table.specs.Operand.{HasRoom, operand_bytes}
 use Rattle.cint_table.specs.Table.{Entry, entry, column0, column1, column2, column3, column4, column5, column6, column7}
 use Rattle.cint_table.specs.declared.forms.Form.{Form}

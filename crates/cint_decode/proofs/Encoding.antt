@@ -1,5 +1,5 @@
 -- What is decoded is what was written.
-use Rattle.std.proofs.Common.{◌≡◌, ◌∙◌, refl, sym, ap, ℕ, ℤ, ◌+◌, ◌-◌, ◌%◌, ◌^◌, ◌<◌, [], ◌∷◌, length, Option, Some, Ok, FitsSigned, arith}
+use Rattle.std.proofs.Common.{◌≡◌, ◌∙◌, refl, sym, ap, ℕ, ℤ, ◌+◌, ◌%◌, ◌^◌, ◌<◌, [], ◌∷◌, length, Option, Some, Ok, FitsSigned, arith}
 use Rattle.std.specs.Int.{w8, w16, w32, cast_signed, cast_unsigned, to_le_bytes}
 use Rattle.std.proofs.Math.Facts.{Fits-lt-pow, Fits-of_z}
 use Rattle.std.proofs.Math.Nat.{mod-add-mod}

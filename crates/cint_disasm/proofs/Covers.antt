@@ -1,21 +1,19 @@
 -- The lines of a hunk cover it.
-use Rattle.std.proofs.Common.{◌≡◌, ◌∙◌, ℕ, zero, suc, ◌+◌, ◌-◌, ◌*◌, ◌/◌, ◌%◌, ◌^◌, ◌<◌, ◌≤◌, Bool, true, false, cond, inl, inr, Some, None, Option, List, [], ◌∷◌, ◌++◌, length, Result, Ok, Err, refl, sym, ap, subst, arith, nat_lt, nat_le}
+use Rattle.std.proofs.Common.{◌≡◌, ℕ, zero, suc, ◌+◌, ◌*◌, ◌/◌, ◌%◌, ◌^◌, ◌<◌, ◌≤◌, Bool, true, false, cond, inl, inr, Some, None, Option, List, [], ◌∷◌, ◌++◌, length, Result, Ok, Err, refl, ap, arith, nat_lt}
 use Rattle.std.specs.Prelude.{filter, slice_get}
 use Rattle.std.specs.List.{flat_map}
-use Rattle.std.specs.Option.{ok_or, option_map}
+use Rattle.std.specs.Option.{option_map}
 use Rattle.std.proofs.lemmas.Bool.{cases_lt}
 use Rattle.std.proofs.lemmas.Bool.Decides.{nat_tests}
-use Rattle.word_store.specs.Arithmetic.{add}
 use Rattle.word_store.specs.Bytes.{byte_at, byte_of}
-use Rattle.cint_table.specs.Table.{Entry, entry}
+use Rattle.cint_table.specs.Table.{Entry}
 use Rattle.cint_decode.specs.Decoded.{decoded}
 use Rattle.cint_decode.proofs.Inside.{decoded_inside}
 use Rattle.cint_decode.specs.declared.instructions.DecodeEnd.{DecodeEnd}
 use Rattle.cint_decode.specs.declared.instructions.Instr.{Instr}
 use Rattle.cint_disasm.specs.Cover.{Follow, ListedLine, hunk_lines, line_at, lines_between, stands_for}
 use Rattle.cint_disasm.specs.HunkListing.{lines_from, lines_of_words}
-use Rattle.cint_disasm.specs.Lines.{instruction_line}
-use Rattle.cint_disasm.specs.Listing.{Listed, listed, listed_as}
+use Rattle.cint_disasm.specs.Listing.{listed, listed_as}
 
 get_inside : (words : List ℕ) (i w : ℕ) (f : ℕ → ℕ) → option_map f (slice_get words i) ≡ Some w → i < length words
 get_inside [] i w f h = absurd (cc)
