@@ -1,10 +1,10 @@
 -- The active coroutines after each call.
-use Rattle.std.proofs.Common.{◌≡◌, ◌≢◌, inl, inr, ℕ, ◌+◌, List, [], ◌∷◌, drop, get_or, set, eqb, cond, ◌||◌, Bool, true, false, refl, sym, ap, ◌∙◌, subst, arith}
+use Rattle.std.proofs.Common.{◌≡◌, ◌≢◌, inl, inr, ℕ, ◌+◌, List, [], ◌∷◌, drop, get_or, set, eqb, cond, true, false, refl, sym, ap, ◌∙◌, subst, arith}
 use Rattle.std.specs.List.{AllByRecursion}
-use Rattle.std.proofs.lemmas.Bool.{cases_eq, false≢true}
+use Rattle.std.proofs.lemmas.Bool.{cases_eq}
 use Rattle.std.proofs.lemmas.Bool.Decides.{nat_tests}
 use Rattle.word_store.specs.declared.registers.Regs.{Regs}
-use Rattle.linked_list.specs.Count.{IsApart, times}
+use Rattle.linked_list.specs.Count.{IsApart}
 use Rattle.linked_list.specs.Placing.{has}
 use Rattle.linked_list.proofs.Counts.{IsApart-cons, hit-same}
 use Rattle.linked_list.proofs.Members.{has-none, has-not, none-times, not-has}

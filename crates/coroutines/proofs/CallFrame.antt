@@ -1,14 +1,11 @@
 -- A store in which a call has changed words of the task block and of coroutines.
-use Rattle.std.proofs.Common.{◌≡◌, ◌≢◌, ◌⊎◌, inl, inr, ℕ, ◌+◌, ◌<◌, ◌≤◌, List, [], ◌∷◌, length, get_or, true, false, Some, sym, ap, ◌∙◌, subst, arith}
+use Rattle.std.proofs.Common.{◌≡◌, ◌≢◌, ◌⊎◌, inl, inr, ℕ, ◌+◌, ◌<◌, ◌≤◌, List, length, get_or, true, false, Some, sym, ap, ◌∙◌, subst, arith}
 use Rattle.std.specs.List.{AllByRecursion}
-use Rattle.std.proofs.lemmas.Bool.{cases_eq}
 use Rattle.getvec_chain.specs.Block.{used_block}
-use Rattle.linked_list.specs.Chain.{cells}
-use Rattle.linked_list.specs.Count.{IsApart, times}
+use Rattle.linked_list.specs.Count.{IsApart}
 use Rattle.linked_list.specs.Placing.{has}
 use Rattle.getvec_chain.specs.Run.{need}
 use Rattle.getvec_chain.specs.Tiling.{blocks_in, holding, used_at}
-use Rattle.linked_list.proofs.Counts.{hit-other}
 use Rattle.linked_list.proofs.Frames.{list-same}
 use Rattle.linked_list.specs.Linked.{IsListAt}
 use Rattle.getvec_chain.proofs.Writes.{SameBlocks, SameBlocks-kept}
@@ -19,7 +16,7 @@ use Rattle.coroutines.specs.CoroutineWords.{coroutine_size, highest_in, parent_i
 use Rattle.coroutines.specs.Refusals.{is_known}
 use Rattle.coroutines.proofs.CoroutineLists.{Built, built}
 use Rattle.linked_list.proofs.AllMembers.{all-members}
-use Rattle.linked_list.proofs.Members.{has-there, has-here, cell-cases}
+use Rattle.linked_list.proofs.Members.{cell-cases}
 use Rattle.coroutines.proofs.KnownCoroutines.{known-block, known-held, known-same, task-apart, task-held}
 
 -- only the words 18 to 20 of the task block, and the words 0, 1 and 6 of its coroutines, have changed

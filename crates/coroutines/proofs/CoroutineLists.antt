@@ -1,7 +1,6 @@
 -- The coroutines of a task stand, by a list of them and a list of the active ones.
-use Rattle.std.proofs.Common.{◌≡◌, ◌≢◌, inl, ℕ, ◌+◌, ◌<◌, List, [], ◌∷◌, ◌++◌, length, eqb, ◌||◌, Bool, true, false, refl, sym, ap, ◌∙◌, subst, arith}
+use Rattle.std.proofs.Common.{◌≡◌, ◌≢◌, inl, ℕ, ◌+◌, ◌<◌, List, [], ◌∷◌, ◌++◌, length, true, false, refl, sym, ap, ◌∙◌, subst, arith}
 use Rattle.std.specs.List.{AllByRecursion, range_with_len}
-use Rattle.std.proofs.lemmas.Bool.Decides.{nat_tests}
 use Rattle.linked_list.specs.Count.{IsApart, words_of}
 use Rattle.linked_list.specs.Linked.{IsNode, IsListAt}
 use Rattle.linked_list.specs.Placing.{has}

@@ -1,18 +1,17 @@
 -- Coroutines whose words a store holds are the task's coroutines.
-use Rattle.std.proofs.Common.{◌≡◌, ◌≢◌, ℕ, ◌+◌, ◌<◌, ◌≤◌, List, [], ◌∷◌, ◌++◌, length, map, get_or, cond, eqb, ◌||◌, Bool, true, false, Some, refl, sym, ap, ◌∙◌, subst, arith, add-zero}
+use Rattle.std.proofs.Common.{◌≡◌, ◌≢◌, ℕ, ◌+◌, ◌<◌, List, [], ◌∷◌, ◌++◌, map, get_or, cond, eqb, ◌||◌, Bool, true, false, Some, refl, sym, ap, ◌∙◌, subst, arith, add-zero}
 use Rattle.std.specs.List.{AllByRecursion, range_with_len}
 use Rattle.std.proofs.lemmas.Bool.{false≢true}
 use Rattle.std.proofs.lemmas.Bool.Decides.{nat_tests}
 use Rattle.getvec_chain.specs.Block.{used_block}
 use Rattle.getvec_chain.specs.Run.{need}
-use Rattle.getvec_chain.specs.Tiling.{blocks_in, used_at}
-use Rattle.linked_list.specs.Count.{IsApart, hit, node_words, times, words_of}
+use Rattle.linked_list.specs.Count.{IsApart, times, words_of}
 use Rattle.linked_list.specs.Linked.{IsListAt}
 use Rattle.linked_list.specs.Placing.{has}
 use Rattle.linked_list.proofs.AllMembers.{all-has}
 use Rattle.linked_list.proofs.Counts.{hit-same, times-append}
 use Rattle.owned_words.specs.LinkedWords.{AreNodes, first_of, linked_words}
-use Rattle.owned_words.specs.Owned.{Holds, owners}
+use Rattle.owned_words.specs.Owned.{Holds}
 use Rattle.owned_words.proofs.Exchanges.{exchange-row}
 use Rattle.owned_words.proofs.HeldLists.{held-count, held-list}
 use Rattle.owned_words.proofs.OwnedWords.{Holds-left, Holds-right}
@@ -22,7 +21,7 @@ use Rattle.coroutines.specs.Active.{LeadsOut}
 use Rattle.coroutines.specs.Coroutines.{HasBlock}
 use Rattle.coroutines.specs.CoroutineWords.{coroutine_size, highest_in, parent_in}
 use Rattle.coroutines.specs.HeldCoroutines.{Coroutine, HasCoroutineBlock, HeldCoroutines, address_of, coroutine_words, first_active, parent_of}
-use Rattle.coroutines.proofs.CoroutineLists.{Built, Parts, built}
+use Rattle.coroutines.proofs.CoroutineLists.{Built, built}
 
 parent_of-none : (t : ℕ) (act : List ℕ) (c : ℕ) → has c act ≡ false → parent_of t act c ≡ 0
 parent_of-none t [] c none = refl

@@ -1,8 +1,7 @@
 -- What follows from an answer that a coroutine is known and has no parent.
-use Rattle.std.proofs.Common.{◌≡◌, ℕ, List, Bool, true, false, Result, Ok, refl}
+use Rattle.std.proofs.Common.{◌≡◌, ℕ, List, Bool, true, false, Ok, refl}
 use Rattle.std.specs.Prelude.{[], ◌∷◌, not}
 use Rattle.coroutines.specs.Refusals.{first_refusal, has_parent, idle_answer, is_known}
-use Rattle.coroutines.specs.declared.ends.CoEnd.{CoEnd}
 use Rattle.coroutines.specs.declared.ends.CoEnd.TheVariants.{HasParent, Unknown}
 
 pub record IsIdle (s : List ℕ) (t c : ℕ) : Type 0 where

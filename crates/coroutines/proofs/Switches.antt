@@ -1,16 +1,12 @@
 -- The switch to another coroutine, or to the root.
-use Rattle.std.proofs.Common.{◌≡◌, ◌≢◌, ◌⊎◌, inl, inr, ℕ, ◌+◌, ◌≤◌, List, [], ◌∷◌, length, get_or, set, eqb, cond, true, false, sym, ap, ◌∙◌, subst, arith, get_or-set_other, get_or-set_same, length-set}
-use Rattle.std.specs.List.{AllByRecursion}
+use Rattle.std.proofs.Common.{◌≡◌, ◌≢◌, ◌⊎◌, inl, inr, ℕ, ◌+◌, ◌≤◌, List, length, get_or, set, eqb, cond, true, false, sym, ap, ◌∙◌, arith, get_or-set_other, get_or-set_same, length-set}
 use Rattle.std.proofs.lemmas.Bool.{cases_eq}
 use Rattle.std.proofs.lemmas.Bool.Decides.{nat_tests}
-use Rattle.linked_list.specs.Placing.{has}
-use Rattle.task_block.specs.Lists.{coroutines_in}
-use Rattle.coroutines.specs.Active.{LeadsOut}
 use Rattle.coroutines.specs.Coroutines.{HasCoroutines}
-use Rattle.coroutines.specs.CoroutineWords.{as_current, current_in, parent_in, saved_p, saved_pc}
+use Rattle.coroutines.specs.CoroutineWords.{current_in, saved_p, saved_pc}
 use Rattle.coroutines.specs.Refusals.{is_known}
 use Rattle.coroutines.specs.Switch.{switched}
-use Rattle.coroutines.proofs.KnownCoroutines.{IsCurrent, current, known-apart, known-node, known-same, task-apart, task-inside}
+use Rattle.coroutines.proofs.KnownCoroutines.{current, known-apart, known-node, known-same, task-apart, task-inside}
 use Rattle.coroutines.proofs.CallFrame.{IsCall}
 
 -- the root, or a coroutine of the task

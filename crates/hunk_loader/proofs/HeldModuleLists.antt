@@ -1,11 +1,9 @@
 -- Modules whose words a store holds are its modules.
-use Rattle.std.proofs.Common.{◌≡◌, ℕ, suc, ◌+◌, ◌<◌, ◌≤◌, List, [], ◌∷◌, length, map, get_or, refl, sym, ap, ◌∙◌, subst, arith}
+use Rattle.std.proofs.Common.{◌≡◌, ℕ, suc, ◌+◌, ◌<◌, List, [], ◌∷◌, length, map, sym, ap, ◌∙◌, subst, arith}
 use Rattle.std.specs.Prelude.{slice_range, sum}
 use Rattle.std.specs.List.{AllByRecursion}
 use Rattle.getvec_chain.specs.Run.{need}
-use Rattle.linked_list.specs.Chain.{IsChain}
-use Rattle.linked_list.specs.Count.{IsApart}
-use Rattle.linked_list.specs.Linked.{HasList, IsListAt}
+use Rattle.linked_list.specs.Linked.{IsListAt}
 use Rattle.linked_list.proofs.Chains.{nodes-apart}
 use Rattle.linked_list.proofs.Counts.{times-within}
 use Rattle.owned_words.specs.LinkedWords.{AreNodes, first_of, linked_words}

@@ -1,5 +1,5 @@
 -- The modules of a store, as used blocks and as a linked list.
-use Rattle.std.proofs.Common.{◌≡◌, ◌≢◌, ◌⊎◌, inl, inr, ◌∙◌, ℕ, ◌+◌, ◌<◌, ◌≤◌, List, [], ◌∷◌, length, get_or, Some, None, refl, sym, ap, subst, arith, set, get_or-set_same}
+use Rattle.std.proofs.Common.{◌≡◌, ◌≢◌, ◌⊎◌, inl, inr, ◌∙◌, ℕ, ◌+◌, ◌<◌, ◌≤◌, List, [], ◌∷◌, length, get_or, Some, None, refl, sym, ap, subst, arith}
 use Rattle.std.specs.Prelude.{slice_range, sum}
 use Rattle.std.specs.List.{AllByRecursion}
 use Rattle.std.proofs.lemmas.Bool.{cases_eq}
@@ -13,10 +13,9 @@ use Rattle.getvec_chain.specs.Tiling.{IsTiled, blocks_in, used_at}
 use Rattle.linked_list.proofs.Chains.{times-cells}
 use Rattle.getvec_chain.proofs.Tilings.{IsTiled-inside}
 use Rattle.linked_list.proofs.Walks.{walk-ends}
-use Rattle.linked_list.proofs.Counts.{IsApart-cons, hit-other, hit-same, times-words_more}
+use Rattle.linked_list.proofs.Counts.{IsApart-cons, hit-other, times-words_more}
 use Rattle.word_store.proofs.Rows.{range_same}
 use Rattle.getvec_chain.proofs.UsedBlocks.{AreDisjoint, used_at-apart, used_at-is}
-use Rattle.getvec_chain.proofs.Writes.{SameBlocks-set_below}
 use Rattle.task_block.specs.Lists.{module_link, modules_in}
 use Rattle.hunk_loader.specs.Modules.{HasModules, IsModuleAt}
 use Rattle.hunk_loader.specs.ModuleHunks.{hunk_count, lengths_in, module_end}

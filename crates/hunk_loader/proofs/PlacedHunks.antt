@@ -15,7 +15,7 @@ use Rattle.hunk_text.proofs.ReadingOn.{reads_all}
 use Rattle.word_store.specs.Row.{with_words}
 use Rattle.word_store.proofs.Rows.{length-with_words, with_words-apart, with_words-append, with_words-set_outside}
 use Rattle.hunk_loader.specs.Follow.{AreInside, BeginsOther, FitsAt, HunkFollows, ListsFollow, WordsFollow, places}
-use Rattle.hunk_loader.specs.ModuleRow.{hunks_image, lengths_of, module_row}
+use Rattle.hunk_loader.specs.ModuleRow.{hunks_image, lengths_of}
 use Rattle.hunk_loader.specs.RelocatedWords.{relocated}
 use Rattle.hunk_loader.proofs.CopiedWords.{some_word, was_read}
 use Rattle.hunk_loader.proofs.RelocationLists.{length-relocated, places_inside, relocated-row}

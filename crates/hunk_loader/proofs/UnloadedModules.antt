@@ -1,17 +1,16 @@
 -- The modules of a store after one was unloaded.
-use Rattle.std.proofs.Common.{◌≡◌, ◌≢◌, ◌⊎◌, inl, inr, ◌∙◌, ℕ, ◌+◌, ◌-◌, ◌<◌, ◌≤◌, List, [], ◌∷◌, length, get_or, set, eqb, cond, Bool, true, false, Some, refl, sym, ap, subst, arith, length-set, get_or-set_other}
+use Rattle.std.proofs.Common.{◌≡◌, ◌≢◌, ◌⊎◌, inl, inr, ◌∙◌, ℕ, ◌+◌, ◌-◌, ◌<◌, ◌≤◌, List, length, get_or, set, true, Some, sym, ap, subst, arith, length-set, get_or-set_other}
 use Rattle.std.specs.List.{AllByRecursion}
 use Rattle.std.proofs.lemmas.Bool.{cases_eq}
-use Rattle.std.proofs.lemmas.Bool.Decides.{nat_tests}
 use Rattle.getvec_chain.specs.Block.{block_end}
 use Rattle.linked_list.specs.Chain.{cells, list_at}
-use Rattle.linked_list.specs.Count.{IsApart, times}
+use Rattle.linked_list.specs.Count.{times}
 use Rattle.getvec_chain.specs.Give.{given_store}
 use Rattle.linked_list.specs.Placing.{cell_before, has, linked_out, without}
 use Rattle.getvec_chain.specs.Tiling.{blocks_in, used_at}
 use Rattle.getvec_chain.proofs.AfterGive.{AfterGive, after_give}
 use Rattle.linked_list.proofs.Chains.{times-cells}
-use Rattle.linked_list.proofs.Counts.{hit-other, hit-same}
+use Rattle.linked_list.proofs.Counts.{hit-other}
 use Rattle.linked_list.proofs.Frames.{list-set}
 use Rattle.linked_list.proofs.Lists.{list-remove, list-removed}
 use Rattle.linked_list.specs.Linked.{IsListAt}

@@ -1,6 +1,5 @@
 -- A node is linked in.
 use Rattle.std.proofs.Common.{◌≡◌, ◌≢◌, ℕ, ◌<◌, List, [], ◌∷◌, ◌++◌, length, get_or, set, refl, sym, ◌∙◌, subst, arith, get_or-set_other, get_or-set_same, length-set}
-use Rattle.std.specs.List.{AllByRecursion}
 use Rattle.linked_list.specs.Count.{IsApart, node_words, times}
 use Rattle.linked_list.specs.Chain.{IsChain, cells, last_cell}
 use Rattle.linked_list.specs.Linked.{IsFresh, IsLinked, IsNode}

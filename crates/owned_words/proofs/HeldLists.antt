@@ -1,7 +1,7 @@
 -- Linked things whose words a store holds stand there as a linked list, and what it is to link one in or out.
-use Rattle.std.proofs.Common.{◌≡◌, ℕ, zero, suc, ◌+◌, ◌<◌, ◌≤◌, List, [], ◌∷◌, ◌++◌, length, map, get_or, set, false, refl, sym, ap, ◌∙◌, subst, arith}
+use Rattle.std.proofs.Common.{◌≡◌, ℕ, zero, suc, ◌+◌, ◌<◌, ◌≤◌, List, [], ◌∷◌, ◌++◌, length, map, get_or, set, false, refl, ap, ◌∙◌, subst, arith}
 use Rattle.std.specs.List.{AllByRecursion}
-use Rattle.linked_list.specs.Count.{IsApart, hit, node_words, times, words_of}
+use Rattle.linked_list.specs.Count.{IsApart, times, words_of}
 use Rattle.linked_list.specs.Chain.{IsChain, last_cell, list_at}
 use Rattle.linked_list.specs.Linked.{IsLinked, IsListAt, IsNode}
 use Rattle.linked_list.specs.Placing.{cell_before, has, linked_in, without_node}
@@ -11,7 +11,7 @@ use Rattle.linked_list.proofs.Lists.{list_at-linked}
 use Rattle.linked_list.proofs.MappedLists.{last_cell-map, map-append}
 use Rattle.linked_list.proofs.Members.{has-none}
 use Rattle.linked_list.proofs.Places.{cell_before-front}
-use Rattle.owned_words.specs.Owned.{AreApart, AreInside, Holds, Pairs, owners}
+use Rattle.owned_words.specs.Owned.{AreInside, Holds, Pairs, owners}
 use Rattle.owned_words.specs.LinkedWords.{AreHeld, AreNodes, first_of, headed_words, linked_words}
 use Rattle.owned_words.proofs.OwnedWords.{Holds-left, Holds-right, owners-append}
 

@@ -1,7 +1,7 @@
 -- An exchange in a part is one of the whole.
-use Rattle.std.proofs.Common.{◌≡◌, ℕ, ◌+◌, List, [], ◌∷◌, ◌++◌, refl, sym, subst, arith}
+use Rattle.std.proofs.Common.{◌≡◌, ℕ, List, [], ◌∷◌, ◌++◌, refl, sym, subst, arith}
 use Rattle.std.specs.List.{flat_map}
-use Rattle.owned_words.specs.Owned.{Holds, Pairs, owners}
+use Rattle.owned_words.specs.Owned.{Pairs}
 use Rattle.owned_words.specs.Exchange.{Exchange, Splits}
 use Rattle.owned_words.specs.LinkedWords.{first_of, linked_words}
 use Rattle.owned_words.proofs.OwnedWords.{Holds-append, Holds-left, Holds-right, owners-append}

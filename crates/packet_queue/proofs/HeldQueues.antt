@@ -1,25 +1,25 @@
 -- Packets whose words a store holds stand in a queue, and a call exchanges some of these words.
-use Rattle.std.proofs.Common.{◌≡◌, ℕ, ◌+◌, ◌<◌, ◌≤◌, List, [], ◌∷◌, ◌++◌, length, map, get_or, set, nat_le, refl, sym, ap, ◌∙◌, subst, arith, append-nil}
+use Rattle.std.proofs.Common.{◌≡◌, ℕ, ◌+◌, ◌<◌, ◌≤◌, List, [], ◌∷◌, ◌++◌, map, set, nat_le, sym, ap, ◌∙◌, subst, arith, append-nil}
 use Rattle.std.specs.List.{AllByRecursion}
 use Rattle.linked_list.specs.Chain.{last_cell}
-use Rattle.linked_list.specs.Count.{node_words, times, words_of}
+use Rattle.linked_list.specs.Count.{times, words_of}
 use Rattle.linked_list.specs.Linked.{IsListAt, IsNode}
-use Rattle.linked_list.specs.Placing.{cell_after, insert_after, linked_in}
+use Rattle.linked_list.specs.Placing.{cell_after, linked_in}
 use Rattle.linked_list.proofs.AllMembers.{all-back, all-front}
-use Rattle.linked_list.proofs.Counts.{hit-same, times-words_more, times-words_of}
+use Rattle.linked_list.proofs.Counts.{times-words_more, times-words_of}
 use Rattle.linked_list.proofs.MappedLists.{cell_after-map, cell_after-same, last_cell-map, map-append}
 use Rattle.linked_list.proofs.Places.{IsPlace, place}
 use Rattle.owned_words.specs.Exchange.{Exchange}
-use Rattle.owned_words.specs.Owned.{AreApart, AreInside, Holds, Pairs, owners}
-use Rattle.owned_words.specs.LinkedWords.{AreHeld, AreNodes, first_of, linked_words}
+use Rattle.owned_words.specs.Owned.{Holds, owners}
+use Rattle.owned_words.specs.LinkedWords.{AreNodes, first_of, linked_words}
 use Rattle.owned_words.specs.Written.{IsWritten}
 use Rattle.owned_words.proofs.Exchanges.{exchange-insert, exchange-remove, links-first}
 use Rattle.owned_words.proofs.HeldLists.{held-count, held-linked_in, held-list, held-nodes, held-without_node}
 use Rattle.owned_words.proofs.OwnedWords.{Holds-left, Holds-right}
 use Rattle.owned_words.proofs.RowWords.{owners-row}
 use Rattle.owned_words.proofs.Writing.{writes-hold}
-use Rattle.packet_queue.specs.Due.{due_of, is_due, last_due_link, with_due}
-use Rattle.packet_queue.specs.Queue.{CanQueue, HasQueue, appended, last_link, link_of, no_queue, packet_size, queue_at, unlinked}
+use Rattle.packet_queue.specs.Due.{is_due, last_due_link, with_due}
+use Rattle.packet_queue.specs.Queue.{CanQueue, appended, last_link, link_of, no_queue, packet_size, unlinked}
 use Rattle.packet_queue.specs.QueueWords.{AppendExchange, CanAppend, DueExchange, HeldQueue, QueuedPacket, RemoveExchange, address_of, first_packet, link_behind, other_words, packet_words, queue_words}
 
 are_packets : AreNodes address_of packet_words link_of packet_size

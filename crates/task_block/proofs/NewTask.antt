@@ -1,5 +1,5 @@
 -- The words of a task block that is not in the chain.
-use Rattle.std.proofs.Common.{◌≡◌, ◌≢◌, ℕ, ◌+◌, ◌-◌, ◌<◌, ◌≤◌, ◌&&◌, ◌||◌, Bool, true, false, not, cond, eqb, List, [], ◌∷◌, ◌++◌, length, get_or, set, refl, sym, ap, ◌∙◌, subst, arith, get_or-set_other, get_or-set_same, length-set}
+use Rattle.std.proofs.Common.{◌≡◌, ◌≢◌, ℕ, ◌+◌, ◌<◌, ◌≤◌, ◌&&◌, ◌||◌, Bool, true, false, not, eqb, List, [], ◌∷◌, ◌++◌, get_or, set, refl, sym, ap, ◌∙◌, subst, arith, get_or-set_other, get_or-set_same, length-set}
 use Rattle.std.specs.Prelude.{unwrap_or}
 use Rattle.std.specs.List.{AllByRecursion, list_any}
 use Rattle.std.proofs.lemmas.Bool.Decides.{nat_tests}
@@ -13,7 +13,7 @@ use Rattle.linked_list.specs.Placing.{has}
 use Rattle.linked_list.proofs.AllMembers.{all-members, all-without}
 use Rattle.task_block.specs.Moves.{HasNewPriority, StaysNew, with_priority, without_task}
 use Rattle.task_block.specs.Versions.{highest_id}
-use Rattle.task_block.specs.TaskChain.{Fall, HasTasks, IsInTable, IsNewPriority, IsNewTask, id_in, is_priority_used, priority_in, root_words, task_link, task_size, task_with, tasks_in}
+use Rattle.task_block.specs.TaskChain.{Fall, HasTasks, IsInTable, IsNewTask, id_in, priority_in, root_words, task_link, task_size, task_with, tasks_in}
 use Rattle.task_block.proofs.PriorityOrder.{Fall-same}
 use Rattle.task_block.proofs.TaskInsertion.{root-hit}
 use Rattle.task_block.proofs.TaskNumbers.{task_with-same}

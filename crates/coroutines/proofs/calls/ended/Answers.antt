@@ -1,4 +1,4 @@
-use Rattle.std.proofs.Common.{sym, subst, drop, arith, ◌+◌}
+use Rattle.std.proofs.Common.{sym, subst, drop, arith}
 use Rattle.coroutines.specs.Active.{active_in}
 use Rattle.coroutines.proofs.ActiveChanges.{wait-again}
 use Rattle.coroutines.proofs.CoroutineLists.{Built}

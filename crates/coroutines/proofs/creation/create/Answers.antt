@@ -4,7 +4,6 @@ use Rattle.getvec_chain.specs.Take.{IsTaken}
 use Rattle.getvec_chain.specs.Tiling.{blocks_in}
 use Rattle.task_block.specs.Lists.{coroutines_in}
 use Rattle.coroutines.specs.Active.{active_in}
-use Rattle.coroutines.specs.Creation.{highest}
 use Rattle.coroutines.proofs.CoroutineLists.{Built}
 use Rattle.coroutines.proofs.NewCoroutine.{create-blocks, create-built, made, made-room}
 use Rattle.coroutines.proofs.creation.create.Goals as goal

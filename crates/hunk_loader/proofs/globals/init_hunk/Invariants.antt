@@ -1,4 +1,4 @@
-use Rattle.std.proofs.Common.{◌≡◌, ◌≤◌, ◌<◌, ◌+◌, ℕ, length, get_or, reverse}
+use Rattle.std.proofs.Common.{◌≡◌, ◌≤◌, ◌<◌, ◌+◌, ℕ, get_or, reverse}
 use Rattle.std.specs.Prelude.{slice_range}
 use Rattle.hunk_loader.specs.Globals.{globals_of_hunk, globals_of_pairs, with_globals}
 use Rattle.hunk_loader.specs.ModuleHunks.{placed}

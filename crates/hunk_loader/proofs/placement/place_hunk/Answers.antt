@@ -1,4 +1,4 @@
-use Rattle.std.proofs.Common.{◌∙◌, refl, arith}
+use Rattle.std.proofs.Common.{refl, arith}
 use Rattle.hunk_loader.proofs.PlacedHunks.{after_words, count_read, count_some, hunk_inside, hunk_placed, hunk_some, lists_follow}
 use Rattle.hunk_loader.proofs.placement.place_hunk.Goals as goal
 

@@ -1,8 +1,5 @@
-use Rattle.std.proofs.Common.{◌≡◌, ◌∙◌, Bool, true, false, ap, set, subst, sym, ℕ, List, ◌+◌}
-use Rattle.std.specs.Bool.{OnTrue}
-use Rattle.std.proofs.lemmas.Bool.{false≢true}
-use Rattle.linked_list.specs.Chain.{list_at}
-use Rattle.linked_list.specs.Placing.{has, without_node}
+use Rattle.std.proofs.Common.{◌≡◌, ◌∙◌, ap, set, subst, sym, ℕ, List, ◌+◌}
+use Rattle.linked_list.specs.Placing.{without_node}
 use Rattle.linked_list.proofs.UnlinkAnswer.{unlink-words}
 use Rattle.linked_list.proofs.Walks.{no_offset}
 use Rattle.task_block.specs.Moves.{without_task}
