@@ -11,7 +11,7 @@ use Rattle.cint_asm.specs.Labels.{Table}
 use Rattle.cint_asm.specs.Pieces.{piece_of}
 use Rattle.cint_asm.specs.Places.{end_of, first_offset, hunk_size, most_words}
 use Rattle.cint_asm.specs.Program.{AreRead, IsProgram, IsTable, placed, program_size}
-use Rattle.cint_asm.specs.Reading.{line_of}
+use Rattle.cint_asm.specs.LineText.{line_of}
 use Rattle.text_reader.specs.Steps.{◌>>=◌}
 use Rattle.cint_asm.specs.Survey.{Layout, no_lines, survey}
 use Rattle.cint_asm.specs.declared.pieces.Piece.{Piece}

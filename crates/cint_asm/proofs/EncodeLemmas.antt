@@ -6,7 +6,7 @@ use Rattle.cint_asm.specs.Encoding.{Code, code_of, encode, encode_line, joined, 
 use Rattle.cint_asm.specs.Labels.{Table}
 use Rattle.cint_asm.specs.Pieces.{piece_of}
 use Rattle.cint_asm.specs.Places.{end_of, hunk_size, most_words, pairs_of}
-use Rattle.cint_asm.specs.Reading.{line_of}
+use Rattle.cint_asm.specs.LineText.{line_of}
 use Rattle.cint_asm.specs.Refusal.{Refusal, at_line}
 use Rattle.text_reader.specs.Steps.{◌>>=◌}
 use Rattle.cint_asm.specs.Survey.{Layout, survey}

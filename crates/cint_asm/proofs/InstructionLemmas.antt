@@ -11,13 +11,13 @@ use Rattle.cint_table.specs.declared.forms.Form.TheVariants.{Plain, Byte, BytePl
 use Rattle.cint_table.proofs.Entries.{entry_past, passes_at, passes_below}
 use Rattle.cint_table.proofs.NameLemmas.{byte_named_at}
 use Rattle.cint_decode.specs.Decoded.{decoded}
-use Rattle.cint_decode.specs.Standing.{StandsAt, with_number}
+use Rattle.cint_decode.specs.BytesAt.{StandsAt, with_number}
 use Rattle.cint_decode.proofs.Encoding.{number_decoded}
 use Rattle.cint_asm.specs.Directives.{directive_named}
 use Rattle.cint_asm.specs.InstructionOperands.{operands_with}
 use Rattle.cint_asm.specs.Names.{is_name}
 use Rattle.cint_asm.specs.Numbers.{is_from_to, word_of}
-use Rattle.cint_asm.specs.Reading.{instruction, instruction_named, statement_named}
+use Rattle.cint_asm.specs.LineText.{instruction, instruction_named, statement_named}
 use Rattle.cint_asm.specs.declared.errors.LineError.{LineError}
 use Rattle.cint_asm.specs.declared.statements.Statement.{Statement}
 use Rattle.cint_asm.specs.declared.statements.Statement.TheVariants.{Fixed}

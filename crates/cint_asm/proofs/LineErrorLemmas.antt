@@ -14,7 +14,7 @@ use Rattle.cint_asm.specs.Operands.{label_operand, no_operand, number_operand, n
 use Rattle.cint_asm.specs.Parts.{parts_of, without_comment}
 use Rattle.cint_asm.specs.Pieces.{found, piece_of}
 use Rattle.cint_asm.specs.Places.{rounded_up}
-use Rattle.cint_asm.specs.Reading.{align, before_colon, directed, global, instruction, instruction_named, labelled, line_of, line_of_parts, statement_of, unlabelled, with_number}
+use Rattle.cint_asm.specs.LineText.{align, before_colon, directed, global, instruction, instruction_named, labelled, line_of, line_of_parts, statement_of, unlabelled, with_number}
 use Rattle.text_reader.specs.Steps.{◌>>=◌}
 use Rattle.cint_asm.specs.declared.directives.Directive.{Directive}
 use Rattle.cint_asm.specs.declared.directives.Directive.TheVariants as directive

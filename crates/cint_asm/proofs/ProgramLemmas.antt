@@ -4,7 +4,7 @@ use Rattle.std.proofs.lemmas.Bool.Decides.{nat_tests}
 use Rattle.std.proofs.lemmas.List.Sums.{sum_by-cons}
 use Rattle.cint_asm.specs.Places.{closing_size, end_of, first_offset, hunk_size, most_words, pairs_of}
 use Rattle.cint_asm.specs.Program.{AreRead, end_after, pair_count, program_size}
-use Rattle.cint_asm.specs.Reading.{line_of}
+use Rattle.cint_asm.specs.LineText.{line_of}
 use Rattle.cint_asm.specs.Survey.{Layout, admitted, no_lines, survey, survey_line, with_line}
 use Rattle.cint_asm.specs.declared.statements.Line.{Line}
 use Rattle.cint_asm.specs.declared.statements.Statement.{Statement}

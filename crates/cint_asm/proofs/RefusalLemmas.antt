@@ -10,7 +10,7 @@ use Rattle.cint_asm.specs.Labels.{named_place, repeats}
 use Rattle.cint_asm.specs.LineErrors.{code_of}
 use Rattle.cint_asm.specs.Places.{end_of, first_offset, hunk_size, most_words, pairs_of}
 use Rattle.cint_asm.specs.Program.{AreRead, defined, labels_of, placed, program_size}
-use Rattle.cint_asm.specs.Reading.{line_of}
+use Rattle.cint_asm.specs.LineText.{line_of}
 use Rattle.cint_asm.specs.Refusal.{Refusal, at_line, refusal}
 use Rattle.text_reader.specs.Steps.{◌>>=◌}
 use Rattle.cint_asm.specs.Survey.{Layout, admitted, no_lines, survey, survey_line, with_line}

@@ -9,7 +9,7 @@ use Rattle.cint_asm.specs.LineErrors.{code_of}
 use Rattle.cint_asm.specs.Pieces.{piece_of}
 use Rattle.cint_asm.specs.Places.{end_of, first_offset, most_words}
 use Rattle.cint_asm.specs.Program.{AreRead, IsProgram, placed}
-use Rattle.cint_asm.specs.Reading.{line_of}
+use Rattle.cint_asm.specs.LineText.{line_of}
 use Rattle.cint_asm.specs.Refusal.{Refusal, at_line, refusal}
 use Rattle.text_reader.specs.Steps.{◌>>=◌}
 use Rattle.cint_asm.specs.Survey.{Layout, admitted, no_lines, survey, survey_line}

@@ -12,7 +12,7 @@ use Rattle.cint_asm.specs.LineErrors.{code_of}
 use Rattle.cint_asm.specs.Pieces.{piece_of}
 use Rattle.cint_asm.specs.Places.{first_offset, most_words}
 use Rattle.cint_asm.specs.Program.{IsProgram, IsTable, labels_of, placed, program_size}
-use Rattle.cint_asm.specs.Reading.{line_of}
+use Rattle.cint_asm.specs.LineText.{line_of}
 use Rattle.cint_asm.specs.declared.errors.LineError.{LineError}
 use Rattle.cint_asm.specs.declared.errors.LineError.TheVariants.{RepeatedLabel, HunkTooLong}
 use Rattle.cint_asm.specs.declared.pieces.Piece.{Piece}

@@ -2,7 +2,7 @@
 use Rattle.std.specs.Prelude.{ℕ, ◌+◌, List, [], ◌∷◌, ◌++◌, length, option_to_list, Result, Ok}
 use Rattle.cint_asm.specs.Labels.{Table}
 use Rattle.cint_asm.specs.Pieces.{piece_of}
-use Rattle.cint_asm.specs.Reading.{line_of}
+use Rattle.cint_asm.specs.LineText.{line_of}
 use Rattle.cint_asm.specs.Refusal.{Refusal, at_line}
 use Rattle.text_reader.specs.Steps.{◌>>=◌}
 use Rattle.cint_asm.specs.declared.pieces.Piece.{Piece}

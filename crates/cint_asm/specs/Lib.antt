@@ -14,7 +14,7 @@ pub mod Parts
 pub mod Pieces
 pub mod Places
 pub mod Program
-pub mod Reading
+pub mod LineText
 pub mod Refusal
 pub mod Survey
 pub mod InstructionOperands

@@ -2,7 +2,7 @@
 use Rattle.std.specs.Prelude.{ℕ, ◌+◌, if◌then◌else◌, List, [], ◌∷◌, nat_lt, Result, Ok, Err}
 use Rattle.cint_asm.specs.Labels.{Table, no_labels, repeats, with_label}
 use Rattle.cint_asm.specs.Places.{end_of, first_offset, hunk_size, most_words, pairs_of}
-use Rattle.cint_asm.specs.Reading.{line_of}
+use Rattle.cint_asm.specs.LineText.{line_of}
 use Rattle.cint_asm.specs.Refusal.{Refusal, at_line}
 use Rattle.text_reader.specs.Steps.{◌>>=◌}
 use Rattle.cint_asm.specs.declared.errors.LineError.{LineError}

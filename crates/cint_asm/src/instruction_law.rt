@@ -3,9 +3,9 @@ ghost use Rattle.std.specs.Prelude.{◌≡◌, ℕ, ◌∷◌, List, Option, Som
 ghost use Rattle.cint_table.specs.Operand.{HasRoom, operand_bytes};
 ghost use Rattle.cint_table.specs.Table.{Entry, entry};
 ghost use Rattle.cint_decode.specs.Decoded.{decoded};
-ghost use Rattle.cint_decode.specs.Standing.{StandsAt, with_number};
+ghost use Rattle.cint_decode.specs.BytesAt.{StandsAt, with_number};
 ghost use Rattle.cint_asm.specs.InstructionOperands.{operands_with};
-ghost use Rattle.cint_asm.specs.Reading.{statement_named};
+ghost use Rattle.cint_asm.specs.LineText.{statement_named};
 ghost use Rattle.cint_asm.specs.declared.statements.Statement.TheVariants.{Fixed};
 
 /// The name of a row and a number that its form has room for make the row's function byte and the bytes of the number; and

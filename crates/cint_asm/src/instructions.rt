@@ -1,6 +1,6 @@
 // What a name and its operands say.
 ghost use Rattle.std.specs.Prelude.{◌≡◌, ◌≤◌, ◌+◌, length};
-ghost use Rattle.cint_asm.specs.Reading.{align, directed, global, instruction, number_from_to, with_number};
+ghost use Rattle.cint_asm.specs.LineText.{align, directed, global, instruction, number_from_to, with_number};
 
 use crate::LineError;
 use crate::directives::Directive;

@@ -3,7 +3,7 @@ ghost use Rattle.std.specs.Prelude.{◌≡◌, IsTrue};
 ghost use Rattle.std.specs.Option.{option_copied};
 ghost use Rattle.cint_asm.specs.Names.{is_name};
 ghost use Rattle.cint_asm.specs.Parts.{parts_of};
-ghost use Rattle.cint_asm.specs.Reading.{before_colon, instruction_named, labelled, line_of, line_of_parts, statement_named, statement_of, unlabelled};
+ghost use Rattle.cint_asm.specs.LineText.{before_colon, instruction_named, labelled, line_of, line_of_parts, statement_named, statement_of, unlabelled};
 
 use crate::LineError;
 use crate::directives::directive_named;
@@ -15,7 +15,7 @@ use crate::statements::{Line, LineBytes, Statement};
 use cint_table::{Form, byte_of, row};
 
 /// A line of a text, without its end. Its error is the lowest of `NoForm`, `UnknownName` and `OutOfRange` that it has.
-#[tactic(auto, unfolding(crate::specs::Reading::line_of))]
+#[tactic(auto, unfolding(crate::specs::LineText::line_of))]
 pub fn read_line(line: &[u8]) -> Result<Line<'_>, LineError>
     ensures { result ≡ line_of line.now }
 {

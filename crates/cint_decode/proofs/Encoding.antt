@@ -10,9 +10,9 @@ use Rattle.cint_table.specs.declared.forms.Form.{Form}
 use Rattle.cint_table.specs.declared.forms.Form.TheVariants.{Plain, Byte, BytePlus, Half, Word, Relative, Indirect, Switch}
 use Rattle.cint_table.specs.Operand.{HasRoom, operand_bytes}
 use Rattle.cint_table.specs.Table.{Entry, entry}
-use Rattle.cint_decode.specs.declared.decoding.Operand.{Operand}
+use Rattle.cint_decode.specs.declared.fetch.Operand.{Operand}
 use Rattle.cint_decode.specs.Decoded.{decoded, halfword_offset, halfword_place, half_at, number_operand, operand_at, target_operand, word_at}
-use Rattle.cint_decode.specs.Standing.{StandsAt, with_number, with_target}
+use Rattle.cint_decode.specs.BytesAt.{StandsAt, with_number, with_target}
 
 -- one address on from k addresses on
 add_add : (a k : ℕ) → add (add a k) 1 ≡ add a (k + 1)

@@ -8,7 +8,7 @@ use Rattle.cint_table.specs.declared.forms.Form.TheVariants.{Plain, Byte, BytePl
 use Rattle.cint_table.specs.Table.{Entry, entry}
 use Rattle.cint_decode.specs.Decoded.{byte_or_outside, decoded, half_at, halfword_offset, halfword_place, number_operand, operand_at, target_operand, word_at}
 use Rattle.cint_decode.specs.Steps.{◌>>=◌}
-use Rattle.cint_decode.specs.declared.decoding.Operand.{Operand}
+use Rattle.cint_decode.specs.declared.fetch.Operand.{Operand}
 use Rattle.cint_decode.specs.declared.instructions.DecodeEnd.{DecodeEnd}
 use Rattle.cint_decode.specs.declared.instructions.DecodeEnd.TheVariants.{Outside, Undefined}
 use Rattle.cint_decode.specs.declared.instructions.Instr.{Instr}

@@ -9,7 +9,7 @@ use Rattle.cint_table.specs.Table.{entry}
 use Rattle.cint_decode.specs.declared.instructions.DecodeEnd.{DecodeEnd}
 use Rattle.cint_decode.specs.declared.instructions.DecodeEnd.TheVariants.{Outside, Undefined, Halfword}
 use Rattle.cint_decode.specs.declared.instructions.Instr.{Instr}
-use Rattle.cint_decode.specs.declared.decoding.Operand.{Operand}
+use Rattle.cint_decode.specs.declared.fetch.Operand.{Operand}
 use Rattle.cint_decode.specs.Even.{even_below}
 use Rattle.cint_decode.specs.Offset.{byte_offset, half_offset}
 use Rattle.cint_decode.specs.Steps.{◌>>=◌}

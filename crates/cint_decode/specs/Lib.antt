@@ -1,5 +1,5 @@
 pub mod Decoded
 pub mod Even
 pub mod Offset
-pub mod Standing
+pub mod BytesAt
 pub mod Steps

@@ -6,7 +6,7 @@ ghost use Rattle.cint_table.specs.Operand.{HasRoom, operand_bytes};
 ghost use Rattle.cint_table.specs.Table.{Entry, entry};
 ghost use Rattle.cint_table.specs.declared.forms.Form.TheVariants.{Relative, Indirect};
 ghost use Rattle.cint_decode.specs.Decoded.{decoded, halfword_place};
-ghost use Rattle.cint_decode.specs.Standing.{StandsAt, with_number, with_target};
+ghost use Rattle.cint_decode.specs.BytesAt.{StandsAt, with_number, with_target};
 
 /// A function byte and its operand's bytes are decoded to that operand. In a relative or an indirect form, a signed offset
 /// z leads z bytes on, from the operand byte or from the halfword.

@@ -1,7 +1,7 @@
 // The line of one instruction.
 ghost use Rattle.std.specs.Prelude.{◌≡◌, ◌≤◌, IfOk, IsSome};
 ghost use Rattle.tp_io.specs.Pending.{Gathers};
-ghost use Rattle.tp_io.specs.Writing.{Prints, HasCause};
+ghost use Rattle.tp_io.specs.Write.{Prints, HasCause};
 ghost use Rattle.cint_disasm.specs.Lines.{byte_line, instruction_line, number_line, plain_line, target_line};
 ghost use Rattle.cint_disasm.specs.Listing.{listed};
 

@@ -2,7 +2,7 @@
 ghost use Rattle.std.specs.Prelude.{◌≡◌, ◌<◌, ◌^◌, length};
 ghost use Rattle.std.specs.List.{AllByRecursion};
 ghost use Rattle.tp_io.specs.Pending.{Gathers};
-ghost use Rattle.tp_io.specs.Writing.{Prints, HasCause};
+ghost use Rattle.tp_io.specs.Write.{Prints, HasCause};
 ghost use Rattle.cint_disasm.specs.HunkListing.{head_line, lines_of_words, listing, listing_of_module};
 
 use crate::hunks::HunkBytes;

@@ -1,3 +1,3 @@
 pub mod ByteRegister
 pub mod SearchLaw
-pub mod Searching
+pub mod KeySearch

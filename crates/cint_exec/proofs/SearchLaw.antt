@@ -10,7 +10,7 @@ use Rattle.cint_exec.specs.declared.Fault.{Fault}
 use Rattle.cint_exec.specs.Change.{Change}
 use Rattle.cint_exec.specs.SearchOrder.{HasKeys, IsSearchOrder, IsUnder}
 use Rattle.cint_exec.specs.Switch.{compared, jump_by, search_from, switch_by_key}
-use Rattle.cint_exec.proofs.Searching.{past_last, turn}
+use Rattle.cint_exec.proofs.KeySearch.{past_last, turn}
 
 -- a number is its half, once or twice, and perhaps one more
 halved_once : (j times : ℕ) → j / 2 ^ suc times ≡ j / 2 ^ times / 2

@@ -6,7 +6,7 @@ ghost use Rattle.cint_exec.specs.Instruction.{instruction};
 
 mod bytes;
 mod changes;
-mod decoding;
+mod decode_faults;
 mod effects;
 mod frames;
 mod jumps;
@@ -59,6 +59,6 @@ pub fn execute<X: Guard>(store: &mut Store, regs: &mut Regs, guard: &X) -> Outco
     }
     match cint_decode::decode(&*store, regs.pc) {
         Ok(instr) => effects::effect(store, regs, guard, instr),
-        Err(end) => Outcome::Fault(decoding::fault_of(end)),
+        Err(end) => Outcome::Fault(decode_faults::fault_of(end)),
     }
 }

@@ -5,7 +5,7 @@ use Rattle.std.proofs.lemmas.Bool.{cases_eq}
 use Rattle.std.proofs.lemmas.Bool.Decides.{nat_tests}
 use Rattle.word_store.specs.declared.registers.Regs.{Regs}
 use Rattle.linked_list.specs.Count.{IsApart}
-use Rattle.linked_list.specs.Placing.{has}
+use Rattle.linked_list.specs.Places.{has}
 use Rattle.linked_list.proofs.Counts.{IsApart-cons, hit-same}
 use Rattle.linked_list.proofs.Members.{has-none, has-not, none-times, not-has}
 use Rattle.task_block.specs.Lists.{coroutines_in}

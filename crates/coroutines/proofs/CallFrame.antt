@@ -3,7 +3,7 @@ use Rattle.std.proofs.Common.{◌≡◌, ◌≢◌, ◌⊎◌, inl, inr, ℕ, �
 use Rattle.std.specs.List.{AllByRecursion}
 use Rattle.getvec_chain.specs.Block.{used_block}
 use Rattle.linked_list.specs.Count.{IsApart}
-use Rattle.linked_list.specs.Placing.{has}
+use Rattle.linked_list.specs.Places.{has}
 use Rattle.getvec_chain.specs.Run.{need}
 use Rattle.getvec_chain.specs.Tiling.{blocks_in, holding, used_at}
 use Rattle.linked_list.proofs.Frames.{list-same}

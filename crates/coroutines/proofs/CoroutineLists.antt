@@ -3,7 +3,7 @@ use Rattle.std.proofs.Common.{◌≡◌, ◌≢◌, inl, ℕ, ◌+◌, ◌<◌, 
 use Rattle.std.specs.List.{AllByRecursion, range_with_len}
 use Rattle.linked_list.specs.Count.{IsApart, words_of}
 use Rattle.linked_list.specs.Linked.{IsNode, IsListAt}
-use Rattle.linked_list.specs.Placing.{has}
+use Rattle.linked_list.specs.Places.{has}
 use Rattle.getvec_chain.specs.Tiling.{IsTiled}
 use Rattle.linked_list.proofs.Chains.{length-apart}
 use Rattle.linked_list.proofs.Counts.{times-append, times-within}

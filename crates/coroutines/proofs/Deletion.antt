@@ -6,7 +6,7 @@ use Rattle.getvec_chain.specs.Block.{block_end, used_block}
 use Rattle.linked_list.specs.Chain.{cells, last_cell, list_at}
 use Rattle.linked_list.specs.Count.{times, words_of}
 use Rattle.getvec_chain.specs.Give.{given}
-use Rattle.linked_list.specs.Placing.{cell_before, has, linked_out, without}
+use Rattle.linked_list.specs.Places.{cell_before, has, linked_out, without}
 use Rattle.getvec_chain.specs.Run.{need}
 use Rattle.getvec_chain.specs.Tiling.{blocks_in, holding, used_at}
 use Rattle.getvec_chain.proofs.AfterGive.{AfterGive, after_give}

@@ -7,7 +7,7 @@ use Rattle.getvec_chain.specs.Block.{used_block}
 use Rattle.getvec_chain.specs.Run.{need}
 use Rattle.linked_list.specs.Count.{IsApart, times, words_of}
 use Rattle.linked_list.specs.Linked.{IsListAt}
-use Rattle.linked_list.specs.Placing.{has}
+use Rattle.linked_list.specs.Places.{has}
 use Rattle.linked_list.proofs.AllMembers.{all-has}
 use Rattle.linked_list.proofs.Counts.{hit-same, times-append}
 use Rattle.owned_words.specs.LinkedWords.{AreNodes, first_of, linked_words}

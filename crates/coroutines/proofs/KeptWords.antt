@@ -4,7 +4,7 @@ use Rattle.std.specs.List.{AllByRecursion, range_with_len}
 use Rattle.std.proofs.lemmas.Bool.{cases_lt}
 use Rattle.getvec_chain.specs.Block.{used_block}
 use Rattle.linked_list.specs.Count.{node_words, times, words_of}
-use Rattle.linked_list.specs.Placing.{has}
+use Rattle.linked_list.specs.Places.{has}
 use Rattle.getvec_chain.specs.Run.{need}
 use Rattle.getvec_chain.specs.Tiling.{blocks_in, used_at}
 use Rattle.linked_list.proofs.Counts.{times-above, times-below, times-words_more}

@@ -7,7 +7,7 @@ use Rattle.getvec_chain.specs.declared.pieces.Block.{Block}
 use Rattle.getvec_chain.specs.Block.{used_block}
 use Rattle.linked_list.specs.Count.{words_of}
 use Rattle.linked_list.specs.Linked.{IsNode}
-use Rattle.linked_list.specs.Placing.{has}
+use Rattle.linked_list.specs.Places.{has}
 use Rattle.getvec_chain.specs.Run.{need}
 use Rattle.getvec_chain.specs.Tiling.{blocks_in, holding}
 use Rattle.linked_list.proofs.Counts.{times-append, times-within}

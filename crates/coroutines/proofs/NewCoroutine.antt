@@ -8,7 +8,7 @@ use Rattle.getvec_chain.specs.Block.{block_end, used_block}
 use Rattle.linked_list.specs.Chain.{list_at}
 use Rattle.linked_list.specs.Count.{hit, node_words, times, words_of}
 use Rattle.linked_list.specs.Linked.{IsFresh, IsNode, IsListAt}
-use Rattle.linked_list.specs.Placing.{has}
+use Rattle.linked_list.specs.Places.{has}
 use Rattle.word_store.specs.Row.{with_words}
 use Rattle.getvec_chain.specs.Run.{need}
 use Rattle.getvec_chain.specs.Take.{IsTaken, taken}

@@ -5,7 +5,7 @@ use Rattle.getvec_chain.specs.declared.pieces.Block.{Block}
 use Rattle.getvec_chain.specs.Block.{block_end, used_block}
 use Rattle.linked_list.specs.Count.{IsApart, node_words, words_of}
 use Rattle.linked_list.specs.Linked.{HasList}
-use Rattle.linked_list.specs.Placing.{has}
+use Rattle.linked_list.specs.Places.{has}
 use Rattle.getvec_chain.specs.Run.{need}
 use Rattle.getvec_chain.specs.Tiling.{IsTiled, blocks_in, used_at}
 use Rattle.task_block.specs.Lists.{coroutine_link, coroutines_in, first_coroutine}

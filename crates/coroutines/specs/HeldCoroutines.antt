@@ -5,7 +5,7 @@ use Rattle.getvec_chain.specs.Block.{used_block}
 use Rattle.getvec_chain.specs.Run.{need}
 use Rattle.getvec_chain.specs.Tiling.{IsTiled, blocks_in, used_at}
 use Rattle.linked_list.specs.Count.{IsApart, node_words, times}
-use Rattle.linked_list.specs.Placing.{has}
+use Rattle.linked_list.specs.Places.{has}
 use Rattle.owned_words.specs.LinkedWords.{AreHeld, first_of, linked_words}
 use Rattle.owned_words.specs.Owned.{Pairs, owners, row_from}
 use Rattle.task_block.specs.Lists.{first_coroutine}

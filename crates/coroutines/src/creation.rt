@@ -1,7 +1,7 @@
 // A coroutine is made, and deleted.
 ghost use Rattle.std.specs.Prelude.{◌≡◌, ◌∷◌, IfOk, None, OnErr, OnOk};
 ghost use Rattle.getvec_chain.specs.Give.{given};
-ghost use Rattle.linked_list.specs.Placing.{without};
+ghost use Rattle.linked_list.specs.Places.{without};
 ghost use Rattle.getvec_chain.specs.Run.{first_run, need};
 ghost use Rattle.getvec_chain.specs.Take.{taken};
 ghost use Rattle.getvec_chain.specs.Tiling.{blocks_in};

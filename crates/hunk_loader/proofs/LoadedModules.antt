@@ -13,7 +13,7 @@ use Rattle.linked_list.specs.Chain.{list_at}
 use Rattle.linked_list.specs.Changed.{InsertedAt}
 use Rattle.linked_list.specs.Count.{IsApart, node_words, times, words_of}
 use Rattle.linked_list.specs.Linked.{IsFresh, IsListAt}
-use Rattle.linked_list.specs.Placing.{linked_in}
+use Rattle.linked_list.specs.Places.{linked_in}
 use Rattle.word_store.specs.Row.{with_words}
 use Rattle.getvec_chain.specs.Run.{need}
 use Rattle.getvec_chain.specs.Take.{IsTaken, taken}

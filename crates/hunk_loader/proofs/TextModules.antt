@@ -1,7 +1,7 @@
 -- The module of a text that was checked, and how long it is.
 use Rattle.std.proofs.Common.{◌≡◌, ◌∙◌, ℕ, ◌+◌, ◌≤◌, Result, Ok, Err, List, [], ◌∷◌, length, refl, sym, ap, arith, length-append}
 use Rattle.hunk_text.specs.ModuleForm.{AreHunks, IsModule, hunk_type, item, relocation_items}
-use Rattle.hunk_text.specs.ModuleReading.{Refusal, module_of}
+use Rattle.hunk_text.specs.ModuleOfText.{Refusal, module_of}
 use Rattle.hunk_text.specs.ReadingOn.{Reads}
 use Rattle.hunk_text.specs.Shapes.{check, check_of, shape_of, words_in}
 use Rattle.hunk_text.specs.declared.check.Shape.{Shape}

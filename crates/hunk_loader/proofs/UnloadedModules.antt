@@ -6,7 +6,7 @@ use Rattle.getvec_chain.specs.Block.{block_end}
 use Rattle.linked_list.specs.Chain.{cells, list_at}
 use Rattle.linked_list.specs.Count.{times}
 use Rattle.getvec_chain.specs.Give.{given_store}
-use Rattle.linked_list.specs.Placing.{cell_before, has, linked_out, without}
+use Rattle.linked_list.specs.Places.{cell_before, has, linked_out, without}
 use Rattle.getvec_chain.specs.Tiling.{blocks_in, used_at}
 use Rattle.getvec_chain.proofs.AfterGive.{AfterGive, after_give}
 use Rattle.linked_list.proofs.Chains.{times-cells}

@@ -3,7 +3,7 @@ ghost use Rattle.std.specs.Prelude.{◌≡◌, ◌+◌, ◌∷◌, IfErr, IfOk, 
 ghost use Rattle.getvec_chain.specs.Give.{given, given_store};
 ghost use Rattle.getvec_chain.specs.Tiling.{blocks_in};
 ghost use Rattle.hunk_text.specs.Shapes.{check_of};
-ghost use Rattle.linked_list.specs.Placing.{has, without, without_node};
+ghost use Rattle.linked_list.specs.Places.{has, without, without_node};
 ghost use Rattle.task_block.specs.Lists.{module_link, modules_in};
 ghost use Rattle.task_block.specs.RootWords.{first_module};
 ghost use Rattle.hunk_loader.specs.LoadOutcome.{IsLoaded, IsRefused};

@@ -1,6 +1,6 @@
 // The globals that a module sets.
 ghost use Rattle.std.specs.Prelude.{◌≡◌, ◌≤◌, ◌<◌, ◌+◌, ◌↔◌, IsTrue, length, slice_range, true};
-ghost use Rattle.linked_list.specs.Placing.{has};
+ghost use Rattle.linked_list.specs.Places.{has};
 ghost use Rattle.task_block.specs.Lists.{modules_in};
 ghost use Rattle.hunk_loader.specs.Globals.{GlobalsFit, global_of_number, globals_in, globals_of_hunk, highest, with_globals};
 ghost use Rattle.hunk_loader.specs.GlobalWords.{AreClear};

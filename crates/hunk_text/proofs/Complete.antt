@@ -5,7 +5,7 @@ use Rattle.std.proofs.lemmas.Bool.Decides.{nat_tests}
 use Rattle.hunk_text.specs.Tokens.{tokens_of}
 use Rattle.hunk_text.specs.Grammar.{offsets_or_type, words_or_type}
 use Rattle.hunk_text.specs.ModuleForm.{AreHunks, IsHunk, IsModule, relocation_items}
-use Rattle.hunk_text.specs.ModuleReading.{Rest, hunk, module_of, rest}
+use Rattle.hunk_text.specs.ModuleOfText.{Rest, hunk, module_of, rest}
 use Rattle.hunk_text.specs.declared.modules.Hunk.{Hunk}
 use Rattle.hunk_text.specs.declared.modules.Module.{Module}
 use Rattle.hunk_text.specs.declared.grammar.Expects.TheVariants.{FirstType, NextType}

@@ -3,7 +3,7 @@ use Rattle.std.proofs.Common.{◌≡◌, ◌∙◌, ℕ, zero, suc, ◌+◌, ari
 use Rattle.hunk_text.specs.Tokens.{line_at}
 use Rattle.hunk_text.specs.Places.{bytes_in, next_span}
 use Rattle.hunk_text.specs.Grammar.{finish}
-use Rattle.hunk_text.specs.ModuleReading.{Refusal, Rest, Stop, hunk, module_of, module_or_refusal, put, read_token, refusal, rest, with_rest}
+use Rattle.hunk_text.specs.ModuleOfText.{Refusal, Rest, Stop, hunk, module_of, module_or_refusal, put, read_token, refusal, rest, with_rest}
 use Rattle.hunk_text.specs.Answers.{or_bad}
 use Rattle.text_reader.specs.Answers.{Gives}
 use Rattle.text_reader.specs.declared.ends.TextEnd.{TextEnd}

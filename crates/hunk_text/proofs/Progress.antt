@@ -7,7 +7,7 @@ use Rattle.text_reader.proofs.StepLemmas.{Ok-same, bind-ok, cond-cases}
 use Rattle.hunk_text.specs.FirstError.{BeginModule, IsBegun, IsInsideItem, IsOffsetDue, IsTypeDue, IsWhole}
 use Rattle.hunk_text.specs.Grammar.{finish, first_type, follow, offsets_or_type, words_or_type}
 use Rattle.hunk_text.specs.ModuleForm.{end_word, hunk_type, item, relocation_type}
-use Rattle.hunk_text.specs.ModuleReading.{Rest, ◌>>=◌, hunk, put, rest}
+use Rattle.hunk_text.specs.ModuleOfText.{Rest, ◌>>=◌, hunk, put, rest}
 use Rattle.hunk_text.specs.declared.grammar.Expects.{Expects}
 use Rattle.hunk_text.specs.declared.grammar.Expects.TheVariants.{FirstType, NextType, Length, Word, Count, Offset, Nothing}
 use Rattle.hunk_text.proofs.Complete.{hunks_again}

@@ -5,7 +5,7 @@ use Rattle.tp_io.specs.Pieces.{hex_digits_of}
 use Rattle.hunk_text.specs.Tokens.{is_blank, onto_first_token, tokens_from}
 use Rattle.hunk_text.specs.Words.{IsWord}
 use Rattle.hunk_text.specs.ModuleForm.{AreHunks, AreWords, end_word, hunk_type, item, relocation_items, relocation_type}
-use Rattle.hunk_text.specs.ModuleReading.{module_of}
+use Rattle.hunk_text.specs.ModuleOfText.{module_of}
 use Rattle.hunk_text.specs.Canonical.{HasWords, IsPrintable, IsPrintableHunk, after_word, end_text, head_text, item_text, printed, relocations_text, text_of_hunk, words_text}
 use Rattle.hunk_text.specs.declared.modules.Hunk.{Hunk}
 use Rattle.hunk_text.specs.declared.modules.Module.{Module}

@@ -5,7 +5,7 @@ use Rattle.hunk_text.specs.Tokens.{Token}
 use Rattle.hunk_text.specs.Words.{word_of}
 use Rattle.hunk_text.specs.ModuleForm.{AreWords}
 use Rattle.hunk_text.specs.Grammar.{finish, follow}
-use Rattle.hunk_text.specs.ModuleReading.{Rest, ◌>>=◌, or_stop, put, read_token, rest, rest_of}
+use Rattle.hunk_text.specs.ModuleOfText.{Rest, ◌>>=◌, or_stop, put, read_token, rest, rest_of}
 use Rattle.hunk_text.specs.declared.grammar.Expects.{Expects}
 use Rattle.hunk_text.specs.declared.step.Step.{Step}
 use Rattle.text_reader.proofs.StepLemmas.{Ok-same, bind-ok}

@@ -4,7 +4,7 @@ use Rattle.std.specs.Prelude.{IfOk}
 use Rattle.std.specs.List.{AllByRecursion, concat}
 use Rattle.hunk_text.specs.Tokens.{Token, ends_token, is_blank, onto_first_token, token, tokens_from, tokens_of}
 use Rattle.hunk_text.specs.ModuleForm.{AreHunks, AreWords, IsHunk, IsModule, hunk_type, item, relocation_items, relocation_type}
-use Rattle.hunk_text.specs.ModuleReading.{module_of}
+use Rattle.hunk_text.specs.ModuleOfText.{module_of}
 use Rattle.text_reader.specs.Answers.{Gives}
 use Rattle.hunk_text.specs.Canonical.{IsPrintable, IsPrintableHunk}
 use Rattle.text_reader.specs.declared.ends.TextEnd.{TextEnd}

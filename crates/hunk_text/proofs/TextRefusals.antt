@@ -6,7 +6,7 @@ use Rattle.text_reader.proofs.StepLemmas.{Err-same, Ok-same, bind-ok, cond-cases
 use Rattle.hunk_text.specs.FirstError.{EndsEarly, HasWord, IsBeyond, IsFirstError, IsInsideItem, IsNoOffset, IsNoType, IsNoWord, IsTypeDue}
 use Rattle.hunk_text.specs.Grammar.{finish, first_type, follow, offsets_or_type}
 use Rattle.hunk_text.specs.ModuleForm.{AreWords, end_word, hunk_type, relocation_type}
-use Rattle.hunk_text.specs.ModuleReading.{Refusal, Rest, Stop, ◌>>=◌, module_of, module_or_refusal, or_stop, put, read_token, refusal, rest, rest_of, stop}
+use Rattle.hunk_text.specs.ModuleOfText.{Refusal, Rest, Stop, ◌>>=◌, module_of, module_or_refusal, or_stop, put, read_token, refusal, rest, rest_of, stop}
 use Rattle.hunk_text.specs.Tokens.{Token, line_at, tokens_of}
 use Rattle.hunk_text.specs.Words.{IsWord, word_of}
 use Rattle.hunk_text.specs.declared.grammar.Expects.{Expects}

@@ -3,7 +3,7 @@ pub mod Words
 pub mod Places
 pub mod ModuleForm
 pub mod Grammar
-pub mod ModuleReading
+pub mod ModuleOfText
 pub mod Shapes
 pub mod Answers
 pub mod Canonical

@@ -1,6 +1,6 @@
 -- How large a module is.
 use Rattle.std.specs.Prelude.{ℕ, ◌+◌, List, length, Result, Ok, Err, sum_by}
-use Rattle.hunk_text.specs.ModuleReading.{Refusal, module_of}
+use Rattle.hunk_text.specs.ModuleOfText.{Refusal, module_of}
 use Rattle.hunk_text.specs.declared.modules.Module.{Module}
 use Rattle.hunk_text.specs.declared.modules.Hunk.{Hunk}
 use Rattle.hunk_text.specs.declared.check.Shape.{Shape}

@@ -5,7 +5,7 @@ ghost use Rattle.hunk_text.specs.Tokens.{tokens_of};
 ghost use Rattle.hunk_text.specs.Places.{next_word};
 ghost use Rattle.hunk_text.specs.ReadingOn.{Reads, ReadsOn};
 ghost use Rattle.hunk_text.specs.ModuleForm.{AreWords, IsModule};
-ghost use Rattle.hunk_text.specs.ModuleReading.{IsRefused, module_of};
+ghost use Rattle.hunk_text.specs.ModuleOfText.{IsRefused, module_of};
 ghost use Rattle.hunk_text.specs.Canonical.{HasWords, IsPrintable, printed};
 ghost use Rattle.hunk_text.specs.declared.modules.Module.{Module};
 

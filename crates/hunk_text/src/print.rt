@@ -1,7 +1,7 @@
 // Printing a module.
 ghost use Rattle.std.specs.Prelude.{◌≡◌, ◌<◌, ◌^◌, length};
 ghost use Rattle.std.specs.List.{AllByRecursion, flat_map};
-ghost use Rattle.tp_io.specs.Writing.{Prints, HasCause};
+ghost use Rattle.tp_io.specs.Write.{Prints, HasCause};
 ghost use Rattle.hunk_text.specs.Canonical.{IsPrintable, IsPrintableHunk, after_word, end_text, head_text, item_text, printed, relocations_text, text_of_hunk, word_text, words_text};
 
 use crate::grammar::{END, HUNK, RELOCATIONS};

@@ -7,7 +7,7 @@ ghost use Rattle.hunk_text.specs.Canonical.{IsPrintable};
 ghost use Rattle.hunk_text.specs.Grammar.{finish};
 ghost use Rattle.text_reader.specs.declared.ends.TextEnd.TheVariants.{WantMemory};
 ghost use Rattle.hunk_text.specs.Tokens.{line_at};
-ghost use Rattle.hunk_text.specs.ModuleReading.{Adds, Rest, hunk, module_of, put, read_token, rest};
+ghost use Rattle.hunk_text.specs.ModuleOfText.{Adds, Rest, hunk, module_of, put, read_token, rest};
 
 use crate::grammar::{Expects, finish};
 use crate::step::{Step, read_token};

@@ -1,7 +1,7 @@
 // One token more.
 ghost use Rattle.std.specs.Prelude.{◌≡◌, ◌<◌, ◌≤◌, length};
 ghost use Rattle.hunk_text.specs.Places.{bytes_in};
-ghost use Rattle.hunk_text.specs.ModuleReading.{read_token};
+ghost use Rattle.hunk_text.specs.ModuleOfText.{read_token};
 
 use crate::TextBytes;
 use crate::grammar::{Expects, follow};

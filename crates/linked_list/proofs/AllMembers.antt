@@ -3,7 +3,7 @@ use Rattle.std.proofs.Common.{◌≡◌, ℕ, ◌<◌, List, [], ◌∷◌, ◌+
 use Rattle.std.specs.List.{AllByRecursion, list_any}
 use Rattle.std.proofs.lemmas.Bool.Decides.{nat_tests}
 use Rattle.linked_list.specs.Count.{times}
-use Rattle.linked_list.specs.Placing.{has, insert_after, without}
+use Rattle.linked_list.specs.Places.{has, insert_after, without}
 use Rattle.linked_list.proofs.Counts.{hit-same}
 use Rattle.linked_list.proofs.Members.{has-here, has-there}
 

@@ -3,7 +3,7 @@ use Rattle.std.proofs.Common.{◌≡◌, ◌≢◌, ℕ, ◌<◌, List, [], ◌�
 use Rattle.linked_list.specs.Count.{IsApart, node_words, times}
 use Rattle.linked_list.specs.Chain.{IsChain, cells, last_cell}
 use Rattle.linked_list.specs.Linked.{IsFresh, IsLinked, IsNode}
-use Rattle.linked_list.specs.Placing.{linked_in}
+use Rattle.linked_list.specs.Places.{linked_in}
 use Rattle.linked_list.specs.Changed.{InsertedAt}
 use Rattle.linked_list.proofs.Counts.{hit-same, times-words_more, times-words_of}
 use Rattle.linked_list.proofs.Chains.{IsChain-same, cells-apart, last_cell-inside, nodes-same, times-cells, times-link}

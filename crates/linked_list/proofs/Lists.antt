@@ -3,7 +3,7 @@ use Rattle.std.proofs.Common.{◌≡◌, ℕ, List, [], ◌∷◌, ◌++◌, Boo
 use Rattle.linked_list.specs.Count.{node_words, times}
 use Rattle.linked_list.specs.Chain.{last_cell, list_at}
 use Rattle.linked_list.specs.Linked.{IsListAt, HasList, IsFresh, IsLinked, IsNode}
-use Rattle.linked_list.specs.Placing.{cell_after, cell_before, has, insert_after, linked_in, linked_out, without}
+use Rattle.linked_list.specs.Places.{cell_after, cell_before, has, insert_after, linked_in, linked_out, without}
 use Rattle.linked_list.specs.Changed.{InsertedAt, RemovedAt}
 use Rattle.linked_list.proofs.Chains.{linked-found, list_at-is}
 use Rattle.linked_list.proofs.Insertion.{IsLinked-insert, fresh-cell, inserted}

@@ -2,7 +2,7 @@
 use Rattle.std.proofs.Common.{◌≡◌, ℕ, List, [], ◌∷◌, ◌++◌, map, cond, eqb, ◌||◌, Bool, true, false, refl, ap, ◌∙◌}
 use Rattle.std.specs.List.{AllByRecursion, list_any}
 use Rattle.linked_list.specs.Chain.{last_cell}
-use Rattle.linked_list.specs.Placing.{cell_after, insert_after, without, without_first}
+use Rattle.linked_list.specs.Places.{cell_after, insert_after, without, without_first}
 
 module _ {X : Type 0} (address : X → ℕ) where
   pub map-append : (xs ys : List X) → map address (xs ++ ys) ≡ map address xs ++ map address ys

@@ -4,7 +4,7 @@ use Rattle.std.specs.List.{list_any}
 use Rattle.std.proofs.lemmas.Bool.{false≢true}
 use Rattle.std.proofs.lemmas.Bool.Decides.{nat_tests}
 use Rattle.linked_list.specs.Chain.{last_cell}
-use Rattle.linked_list.specs.Placing.{cell_after, cell_before, has, insert_after, without}
+use Rattle.linked_list.specs.Places.{cell_after, cell_before, has, insert_after, without}
 
 -- where a node comes in behind the last one that passes a test
 pub record IsPlace {X : Type 0} (f : X → Bool) (link : X → ℕ) (at : ℕ) (p : X) (ps : List X) : Type 0 where

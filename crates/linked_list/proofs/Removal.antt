@@ -4,7 +4,7 @@ use Rattle.std.specs.List.{AllByRecursion}
 use Rattle.linked_list.specs.Count.{IsApart, node_words, times, words_of}
 use Rattle.linked_list.specs.Chain.{IsChain, cells, last_cell}
 use Rattle.linked_list.specs.Linked.{IsLinked, IsNode}
-use Rattle.linked_list.specs.Placing.{linked_out}
+use Rattle.linked_list.specs.Places.{linked_out}
 use Rattle.linked_list.specs.Changed.{RemovedAt}
 use Rattle.linked_list.proofs.Counts.{hit-same, times-words_more, times-words_of}
 use Rattle.linked_list.proofs.Chains.{IsChain-same, cells-apart, last_cell-inside, nodes-same, times-cells}

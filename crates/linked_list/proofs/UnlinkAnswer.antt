@@ -3,7 +3,7 @@ use Rattle.std.proofs.Common.{◌≡◌, ◌∙◌, ℕ, List, Bool, true, false
 use Rattle.std.specs.Bool.{OnTrue}
 use Rattle.std.proofs.lemmas.Bool.{false≢true}
 use Rattle.linked_list.specs.Chain.{list_at}
-use Rattle.linked_list.specs.Placing.{has, without_node}
+use Rattle.linked_list.specs.Places.{has, without_node}
 
 module _ (s v : List ℕ) {link link' : ℕ → ℕ} {head head' : ℕ} (p : ℕ) (b : Bool) (links : link ≡ link') (heads : head ≡ head') (found : b ≡ has p (list_at s link head)) where
   -- whether the node was there

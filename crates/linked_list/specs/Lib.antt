@@ -2,5 +2,5 @@ pub mod Chain
 pub mod Changed
 pub mod Count
 pub mod Linked
-pub mod Placing
+pub mod Places
 pub mod Walk

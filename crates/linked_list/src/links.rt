@@ -2,7 +2,7 @@
 ghost use Rattle.std.specs.Prelude.{◌≡◌, ◌+◌, None, Some, if◌then◌else◌};
 ghost use Rattle.std.specs.Bool.{OnFalse, OnTrue};
 ghost use Rattle.linked_list.specs.Chain.{list_at};
-ghost use Rattle.linked_list.specs.Placing.{cell_before, has, linked_in, linked_out, without_node};
+ghost use Rattle.linked_list.specs.Places.{cell_before, has, linked_in, linked_out, without_node};
 ghost use Rattle.linked_list.specs.Walk.{CanWalk};
 
 use crate::walk::follow;

@@ -4,7 +4,7 @@ use Rattle.std.specs.List.{AllByRecursion}
 use Rattle.linked_list.specs.Count.{IsApart, times, words_of}
 use Rattle.linked_list.specs.Chain.{IsChain, last_cell, list_at}
 use Rattle.linked_list.specs.Linked.{IsLinked, IsListAt, IsNode}
-use Rattle.linked_list.specs.Placing.{cell_before, has, linked_in, without_node}
+use Rattle.linked_list.specs.Places.{cell_before, has, linked_in, without_node}
 use Rattle.linked_list.proofs.Chains.{nodes-apart}
 use Rattle.linked_list.proofs.Counts.{hit-same, times-append, times-within, times-words_more}
 use Rattle.linked_list.proofs.Lists.{list_at-linked}

@@ -4,4 +4,4 @@ pub mod MemberExchanges
 pub mod OwnedWords
 pub mod Parts
 pub mod RowWords
-pub mod Writing
+pub mod WrittenWords

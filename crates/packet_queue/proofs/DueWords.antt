@@ -2,7 +2,7 @@
 use Rattle.std.proofs.Common.{◌≡◌, ℕ, ◌+◌, ◌<◌, List, [], ◌∷◌, ◌++◌, length, eqb, cond, refl, sym, ap, ◌∙◌, subst, arith, get_or-set_same, length-set, get_or, set}
 use Rattle.std.specs.List.{AllByRecursion}
 use Rattle.linked_list.specs.Count.{times, words_of}
-use Rattle.linked_list.specs.Placing.{insert_after, linked_in}
+use Rattle.linked_list.specs.Places.{insert_after, linked_in}
 use Rattle.linked_list.specs.Changed.{InsertedAt}
 use Rattle.linked_list.proofs.Counts.{hit-same, times-differ, times-within}
 use Rattle.packet_queue.specs.Queue.{CanQueue, HasQueue, link_of, packet_size, queue_at}

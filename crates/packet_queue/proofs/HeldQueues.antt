@@ -4,7 +4,7 @@ use Rattle.std.specs.List.{AllByRecursion}
 use Rattle.linked_list.specs.Chain.{last_cell}
 use Rattle.linked_list.specs.Count.{times, words_of}
 use Rattle.linked_list.specs.Linked.{IsListAt, IsNode}
-use Rattle.linked_list.specs.Placing.{cell_after, linked_in}
+use Rattle.linked_list.specs.Places.{cell_after, linked_in}
 use Rattle.linked_list.proofs.AllMembers.{all-back, all-front}
 use Rattle.linked_list.proofs.Counts.{times-words_more, times-words_of}
 use Rattle.linked_list.proofs.MappedLists.{cell_after-map, cell_after-same, last_cell-map, map-append}
@@ -17,7 +17,7 @@ use Rattle.owned_words.proofs.Exchanges.{exchange-insert, exchange-remove, links
 use Rattle.owned_words.proofs.HeldLists.{held-count, held-linked_in, held-list, held-nodes, held-without_node}
 use Rattle.owned_words.proofs.OwnedWords.{Holds-left, Holds-right}
 use Rattle.owned_words.proofs.RowWords.{owners-row}
-use Rattle.owned_words.proofs.Writing.{writes-hold}
+use Rattle.owned_words.proofs.WrittenWords.{writes-hold}
 use Rattle.packet_queue.specs.Due.{is_due, last_due_link, with_due}
 use Rattle.packet_queue.specs.Queue.{CanQueue, appended, last_link, link_of, no_queue, packet_size, unlinked}
 use Rattle.packet_queue.specs.QueueWords.{AppendExchange, CanAppend, DueExchange, HeldQueue, QueuedPacket, RemoveExchange, address_of, first_packet, link_behind, other_words, packet_words, queue_words}

@@ -3,7 +3,7 @@ use Rattle.std.proofs.Common.{◌≡◌, ℕ, ◌+◌, ◌<◌, ◌≤◌, List,
 use Rattle.std.proofs.lemmas.Bool.{cases_eq}
 use Rattle.linked_list.specs.Count.{hit, node_words, times, words_of}
 use Rattle.linked_list.specs.Chain.{cells, last_cell}
-use Rattle.linked_list.specs.Placing.{cell_after}
+use Rattle.linked_list.specs.Places.{cell_after}
 use Rattle.linked_list.proofs.Counts.{hit-other, hit-same, times-within, times-words_more}
 use Rattle.linked_list.proofs.Insertion.{times-front_cell}
 use Rattle.linked_list.proofs.Places.{IsPlace, place}

@@ -3,7 +3,7 @@ use Rattle.std.proofs.Common.{◌≡◌, ◌≢◌, ℕ, ◌+◌, ◌<◌, List,
 use Rattle.std.proofs.lemmas.Bool.Decides.{nat_tests}
 use Rattle.linked_list.specs.Count.{node_words, times}
 use Rattle.linked_list.specs.Chain.{IsChain, last_cell}
-use Rattle.linked_list.specs.Placing.{cell_before, has, insert_after, linked_in, without}
+use Rattle.linked_list.specs.Places.{cell_before, has, insert_after, linked_in, without}
 use Rattle.linked_list.specs.Changed.{InsertedAt}
 use Rattle.linked_list.proofs.Counts.{times-differ, times-within}
 use Rattle.linked_list.proofs.Lists.{list-append, list-appended, list-cell, list-cell_before, list-insert, list-inserted, list-remove, list-removed}

@@ -3,7 +3,7 @@ use Rattle.std.specs.Prelude.{ℕ, ◌≤◌, Bool, true, false, List, Option}
 use Rattle.std.specs.Bool.{OnTrue, OnFalse}
 use Rattle.std.specs.Io.KnownBytes.{Appends}
 use Rattle.tp_io.specs.Faults.{Rose}
-use Rattle.tp_io.specs.Writing.{AppendsPrefix}
+use Rattle.tp_io.specs.Write.{AppendsPrefix}
 
 -- Where the log has not failed, the sink holds this line more; where it fails in this note, a prefix of the line.
 abbrev pub WritesLine : (had_failed has_failed : Bool) → Option (List ℕ) → Option (List ℕ) → List ℕ → Type 0

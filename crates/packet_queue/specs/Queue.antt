@@ -3,7 +3,7 @@
 use Rattle.std.specs.Prelude.{ℕ, ◌-◌, ◌^◌, List, slice_set}
 use Rattle.linked_list.specs.Chain.{last_cell, list_at}
 use Rattle.linked_list.specs.Linked.{HasList, IsFresh}
-use Rattle.linked_list.specs.Placing.{without_node}
+use Rattle.linked_list.specs.Places.{without_node}
 
 -- a packet's link is its word 0
 abbrev pub link_of : ℕ → ℕ

@@ -1,6 +1,6 @@
 // Queues of packets that are due at a tick.
 ghost use Rattle.std.specs.Prelude.{◌≡◌};
-ghost use Rattle.linked_list.specs.Placing.{insert_after};
+ghost use Rattle.linked_list.specs.Places.{insert_after};
 ghost use Rattle.packet_queue.specs.Queue.{CanQueue, HasQueue, queue_at};
 ghost use Rattle.packet_queue.specs.Due.{is_due, with_due};
 

@@ -1,7 +1,7 @@
 // Queues: packets come to the end, and leave from the front or from between.
 ghost use Rattle.std.specs.Prelude.{◌≡◌, ◌↔◌, [], ◌∷◌, ◌++◌, IfNone, IfSome, IsNone, IsTrue};
 ghost use Rattle.std.specs.Bool.{OnFalse, OnTrue};
-ghost use Rattle.linked_list.specs.Placing.{has, without};
+ghost use Rattle.linked_list.specs.Places.{has, without};
 ghost use Rattle.packet_queue.specs.Queue.{CanQueue, HasQueue, appended, queue_at, unlinked};
 
 use crate::places::last_link;

@@ -1,7 +1,7 @@
 // A log that writes a line for each event.
 ghost use Rattle.std.specs.Prelude.{◌≡◌, None, false};
 ghost use Rattle.std.specs.Bool.{OnTrue};
-ghost use Rattle.tp_io.specs.Writing.{Prints, HasCause};
+ghost use Rattle.tp_io.specs.Write.{Prints, HasCause};
 ghost use Rattle.packet_queue.specs.EventLine.{line_of, sender_line};
 ghost use Rattle.packet_queue.specs.LineNote.{WritesLine, HasFailCause};
 ghost use Rattle.packet_queue.specs.Log.{Notes};

@@ -4,7 +4,7 @@ use Rattle.std.specs.Prelude.{IfOk}
 use Rattle.std.specs.List.{AllByRecursion}
 use Rattle.hex.proofs.HexLemmas.{decode_of-ok}
 use Rattle.session_text.specs.SessionForm.{AreCodeLines, AreSessionLines, IsCodeLine}
-use Rattle.session_text.specs.SessionReading.{session_of}
+use Rattle.session_text.specs.SessionOfText.{session_of}
 use Rattle.text_reader.specs.Answers.{Gives}
 use Rattle.session_text.specs.Canonical.{AreNumbered, IsBareSession, IsCode}
 use Rattle.text_reader.specs.Lines.{lines_of}

@@ -12,7 +12,7 @@ use Rattle.text_reader.proofs.NumberLemmas.{decimal_number}
 use Rattle.text_reader.proofs.StepLemmas.{Err-same, Ok-same, bind-err, bind-ok, bind-stop}
 use Rattle.session_text.specs.Forms.{Form, Code, Go, HasForm}
 use Rattle.session_text.specs.SessionForm.{AreCodeLines, code_line, most_steps}
-use Rattle.session_text.specs.SessionReading.{body_lines, bytes_or_refusal, code_lines, go_line, with_code}
+use Rattle.session_text.specs.SessionOfText.{body_lines, bytes_or_refusal, code_lines, go_line, with_code}
 use Rattle.session_text.specs.Canonical.{go_text}
 use Rattle.session_text.specs.declared.sessions.SessionLine.{SessionLine}
 use Rattle.session_text.proofs.Complete.{code_again}

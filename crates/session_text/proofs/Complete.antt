@@ -8,7 +8,7 @@ use Rattle.text_reader.specs.Fields.{IsNumberLine, after_word}
 use Rattle.text_reader.specs.Lines.{lines_of}
 use Rattle.text_reader.proofs.FieldLemmas.{after_word-again, number_line-again}
 use Rattle.session_text.specs.SessionForm.{AreCodeLines, AreSessionLines, IsBare, IsSession, IsVersionLine, is_store_size, most_steps}
-use Rattle.session_text.specs.SessionReading.{bare_session, body_lines, code_lines, go_line, head_lines, session_lines, session_of, store_line, version_line}
+use Rattle.session_text.specs.SessionOfText.{bare_session, body_lines, code_lines, go_line, head_lines, session_lines, session_of, store_line, version_line}
 use Rattle.session_text.specs.declared.sessions.Session.{Session}
 use Rattle.session_text.specs.declared.sessions.SessionLine.{SessionLine}
 use Rattle.session_text.proofs.Parts.{HasBody, HasHead}

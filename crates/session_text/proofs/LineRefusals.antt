@@ -11,7 +11,7 @@ use Rattle.text_reader.proofs.FieldLemmas.{IsOutOfRange, after_word-again, numbe
 use Rattle.text_reader.proofs.StepLemmas.{Err-same, Ok-same, bind-err}
 use Rattle.session_text.specs.Forms.{Form, Code, Go, HasForm}
 use Rattle.session_text.specs.SessionForm.{IsVersionLine, is_period}
-use Rattle.session_text.specs.SessionReading.{bare_line, bytes_or_refusal, tick_line, version_line}
+use Rattle.session_text.specs.SessionOfText.{bare_line, bytes_or_refusal, tick_line, version_line}
 use Rattle.session_text.proofs.Complete.{version_again}
 
 -- Where these forms may stand, line n has none of them, or one with a number out of its range.

@@ -7,7 +7,7 @@ use Rattle.std.proofs.lemmas.Bool.Decides.{nat_tests}
 use Rattle.hex.specs.Hex.{encode_lower}
 use Rattle.hex.proofs.HexLemmas.{decode_of-encode_lower}
 use Rattle.session_text.specs.SessionForm.{AreCodeLines, AreSessionLines, IsCodeLine, is_store_size, most_steps, most_words}
-use Rattle.session_text.specs.SessionReading.{session_of}
+use Rattle.session_text.specs.SessionOfText.{session_of}
 use Rattle.text_reader.specs.Lines.{lines_of, text_of_lines}
 use Rattle.session_text.specs.Canonical.{IsBareSession, IsCode, canonical, canonical_lines, code_text, form_text, go_text, numbered, with_numbers}
 use Rattle.session_text.specs.declared.sessions.Session.{Session}

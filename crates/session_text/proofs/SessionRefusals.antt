@@ -11,7 +11,7 @@ use Rattle.session_text.specs.Canonical.{go_text}
 use Rattle.session_text.specs.FirstError.{HasNoForm, IsClockLine, IsOutOfRange, MayStand}
 use Rattle.session_text.specs.Forms.{Form, Version, Store, Bare, Tick}
 use Rattle.session_text.specs.SessionForm.{AreSessionLines, IsVersionLine, is_store_size}
-use Rattle.session_text.specs.SessionReading.{bare_line, bare_session, body_lines, head_lines, session_lines, store_line, version_line}
+use Rattle.session_text.specs.SessionOfText.{bare_line, bare_session, body_lines, head_lines, session_lines, store_line, version_line}
 use Rattle.session_text.specs.declared.sessions.Session.{Session}
 use Rattle.session_text.specs.declared.sessions.SessionLine.{SessionLine}
 use Rattle.session_text.proofs.BodyRefusals.{BeginBody, EndsAt, IsWrongInBody, MayFollow, StopsAt, body_err, refusal-at}

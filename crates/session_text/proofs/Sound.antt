@@ -15,7 +15,7 @@ use Rattle.text_reader.specs.Steps.{◌>>=◌}
 use Rattle.text_reader.proofs.FieldLemmas.{after_word-ok, end_of_text-ok, first_line-ok, number_line-ok}
 use Rattle.text_reader.proofs.StepLemmas.{Ok-same, bind-ok}
 use Rattle.session_text.specs.SessionForm.{AreSessionLines, IsSession, IsVersionLine, code_line, is_period, is_store_size, most_steps}
-use Rattle.session_text.specs.SessionReading.{bare_line, bare_session, body_lines, bytes_or_refusal, code_lines, go_line, head_lines, session_lines, session_of, store_line, tick_line, version_line, with_code}
+use Rattle.session_text.specs.SessionOfText.{bare_line, bare_session, body_lines, bytes_or_refusal, code_lines, go_line, head_lines, session_lines, session_of, store_line, tick_line, version_line, with_code}
 use Rattle.session_text.specs.declared.sessions.Session.{Session}
 use Rattle.session_text.specs.declared.sessions.SessionLine.{SessionLine}
 use Rattle.session_text.proofs.Parts.{HasBody, HasCode, HasHead, body_same, code_same, head_same}

@@ -5,7 +5,7 @@ use Rattle.text_reader.specs.Refusal.{Refusal, refusal}
 use Rattle.session_text.specs.FirstError.{BeginSession, EndsEarly, HasNoForm, IsClockLine, IsFirstError, IsOutOfRange}
 use Rattle.session_text.specs.Forms.{Tick}
 use Rattle.session_text.specs.SessionForm.{AreSessionLines, IsSession}
-use Rattle.session_text.specs.SessionReading.{session_lines, session_of}
+use Rattle.session_text.specs.SessionOfText.{session_lines, session_of}
 use Rattle.session_text.specs.declared.sessions.Session.{Session}
 use Rattle.session_text.proofs.BodyRefusals.{StopsAt}
 use Rattle.session_text.proofs.Complete.{complete}

@@ -2,4 +2,4 @@ pub mod Canonical
 pub mod FirstError
 pub mod Forms
 pub mod SessionForm
-pub mod SessionReading
+pub mod SessionOfText

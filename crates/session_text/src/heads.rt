@@ -3,13 +3,13 @@ ghost use Rattle.std.specs.Prelude.{◌≡◌, ◌+◌, ◌≤◌, length, IfOk,
 ghost use Rattle.text_reader.specs.Answers.{Gives};
 ghost use Rattle.text_reader.specs.Lines.{lines_of};
 ghost use Rattle.session_text.specs.SessionForm.{is_store_size};
-ghost use Rattle.session_text.specs.SessionReading.{bare_line, head_lines, store_line, tick_line, version_line};
+ghost use Rattle.session_text.specs.SessionOfText.{bare_line, head_lines, store_line, tick_line, version_line};
 
 use crate::SessionEnd;
 use text_reader::{first_line, number_after};
 
 /// The version and the size of the store, and the text after their two lines.
-#[tactic(auto, unfolding(crate::specs::SessionReading::head_lines))]
+#[tactic(auto, unfolding(crate::specs::SessionOfText::head_lines))]
 pub fn head_lines(text: &[u8]) -> Result<(u32, u32, &[u8]), SessionEnd>
     ensures value { let head = head_lines (lines_of text.now) in
         Gives (λ x. (x.0, x.1, lines_of x.2.now)) result head }

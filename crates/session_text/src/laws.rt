@@ -3,7 +3,7 @@ ghost use Rattle.std.specs.Prelude.{◌≡◌, ◌↔◌, ◌≤◌, ℕ, List, 
 ghost use Rattle.session_text.specs.Canonical.{IsBareSession, canonical, with_numbers};
 ghost use Rattle.session_text.specs.FirstError.{EndsEarly, HasNoForm, IsClockLine, IsFirstError, IsOutOfRange};
 ghost use Rattle.session_text.specs.SessionForm.{IsSession};
-ghost use Rattle.session_text.specs.SessionReading.{IsRefused, session_of};
+ghost use Rattle.session_text.specs.SessionOfText.{IsRefused, session_of};
 ghost use Rattle.session_text.specs.declared.sessions.Session.{Session};
 
 /// What is read from a text is the session whose text it is, and every text of a session is read: so a text has at most

@@ -2,7 +2,7 @@
 ghost use Rattle.std.specs.Prelude.{◌≡◌, [], ◌∷◌, ◌++◌};
 ghost use Rattle.std.specs.List.{AllByRecursion};
 ghost use Rattle.hex.specs.Hex.{encode_lower};
-ghost use Rattle.tp_io.specs.Writing.{Prints, HasCause};
+ghost use Rattle.tp_io.specs.Write.{Prints, HasCause};
 ghost use Rattle.text_reader.specs.Lines.{text_of_lines};
 ghost use Rattle.session_text.specs.Canonical.{IsBareSession, IsCode, canonical, code_text, form_text, go_text, head_text};
 

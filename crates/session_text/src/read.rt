@@ -4,7 +4,7 @@ ghost use Rattle.hex.specs.Hex.{decode_of};
 ghost use Rattle.text_reader.specs.Answers.{Gives};
 ghost use Rattle.text_reader.specs.Lines.{lines_of};
 ghost use Rattle.session_text.specs.Canonical.{AreNumbered, IsBareSession};
-ghost use Rattle.session_text.specs.SessionReading.{body_lines, bytes_or_refusal, code_lines, go_line, session_of};
+ghost use Rattle.session_text.specs.SessionOfText.{body_lines, bytes_or_refusal, code_lines, go_line, session_of};
 
 use crate::heads::{bare_line, head_lines};
 use crate::{Bytes, Keys, LineForm, Lines, Session, SessionEnd, SessionLine};
@@ -30,7 +30,7 @@ pub fn read_session(alloc: Global, text: &[u8]) -> Result<Session, SessionEnd>
 }
 
 // The session of a text, part by part.
-#[tactic(auto, unfolding(crate::specs::SessionReading::session_lines))]
+#[tactic(auto, unfolding(crate::specs::SessionOfText::session_lines))]
 fn whole_session(alloc: Global, text: &[u8]) -> Result<Session, SessionEnd>
     requires { length text.now < 2 ^ 32 }
     ensures { Gives (λ s. s) result (session_of text.now) }
@@ -53,7 +53,7 @@ fn whole_session(alloc: Global, text: &[u8]) -> Result<Session, SessionEnd>
 }
 
 // The code and the steps, of the lines from line 4 on.
-#[tactic(auto, unfolding(crate::specs::SessionReading::body_lines))]
+#[tactic(auto, unfolding(crate::specs::SessionOfText::body_lines))]
 fn body_lines(alloc: Global, text: &[u8]) -> Result<(Vec<SessionLine>, u64), SessionEnd>
     requires { length text.now + 8 < 2 ^ 32 }
     ensures { Gives (λ x. (x.0.items, x.1)) result (body_lines (lines_of text.now)) }

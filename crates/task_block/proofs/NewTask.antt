@@ -9,7 +9,7 @@ use Rattle.linked_list.specs.Linked.{IsListAt}
 use Rattle.linked_list.proofs.Chains.{times-cells}
 use Rattle.linked_list.proofs.Counts.{hit-other, times-append, times-within, times-words_more}
 use Rattle.linked_list.proofs.Frames.{list-set}
-use Rattle.linked_list.specs.Placing.{has}
+use Rattle.linked_list.specs.Places.{has}
 use Rattle.linked_list.proofs.AllMembers.{all-members, all-without}
 use Rattle.task_block.specs.Moves.{HasNewPriority, StaysNew, with_priority, without_task}
 use Rattle.task_block.specs.Versions.{highest_id}

@@ -2,7 +2,7 @@
 use Rattle.std.proofs.Common.{◌≡◌, ◌≢◌, ℕ, ◌<◌, ◌≤◌, List, [], ◌∷◌, cond, eqb, ◌||◌, Bool, true, false, refl, arith}
 use Rattle.std.specs.List.{AllByRecursion, list_any}
 use Rattle.std.proofs.lemmas.Bool.Decides.{nat_tests}
-use Rattle.linked_list.specs.Placing.{insert_after, without}
+use Rattle.linked_list.specs.Places.{insert_after, without}
 use Rattle.task_block.specs.TaskChain.{Fall, is_above, priority_in}
 use Rattle.linked_list.proofs.AllMembers.{all-insert, all-without}
 

@@ -6,7 +6,7 @@ use Rattle.std.proofs.lemmas.Bool.{cases_eq}
 use Rattle.linked_list.specs.Count.{IsApart, node_words, times, words_of}
 use Rattle.linked_list.specs.Chain.{cells, last_cell, list_at}
 use Rattle.linked_list.specs.Linked.{IsLinked, IsListAt, IsNode}
-use Rattle.linked_list.specs.Placing.{cell_before, has, linked_out, without}
+use Rattle.linked_list.specs.Places.{cell_before, has, linked_out, without}
 use Rattle.linked_list.proofs.Counts.{hit-other, times-append, times-within, times-words_more, times-words_of}
 use Rattle.linked_list.proofs.Chains.{times-cells}
 use Rattle.linked_list.proofs.Frames.{list-set, word-no_cell}

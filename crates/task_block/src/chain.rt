@@ -1,7 +1,7 @@
 // The chain of tasks, in falling priority, and the task table: a task comes in, and goes out.
 ghost use Rattle.std.specs.Prelude.{◌≡◌, ◌≢◌, ◌+◌, true, slice_set};
 ghost use Rattle.std.specs.List.{AllByRecursion};
-ghost use Rattle.linked_list.specs.Placing.{has, insert_after, without};
+ghost use Rattle.linked_list.specs.Places.{has, insert_after, without};
 ghost use Rattle.task_block.specs.Moves.{link_above, with_task, without_task};
 ghost use Rattle.task_block.specs.TaskChain.{Fall, HasTasks, IsNewPriority, IsNewTask, id_in, is_above, task_link, tasks_in};
 

@@ -1,6 +1,6 @@
 // Laws of a task that is out of the chain.
 ghost use Rattle.std.specs.Prelude.{◌≡◌, ◌<◌, ◌≤◌, ◌+◌, ℕ, List, slice_set, true};
-ghost use Rattle.linked_list.specs.Placing.{has};
+ghost use Rattle.linked_list.specs.Places.{has};
 ghost use Rattle.task_block.specs.Moves.{HasNewPriority, StaysNew, with_priority};
 ghost use Rattle.task_block.specs.TaskChain.{HasTasks, IsNewTask, tasks_in};
 

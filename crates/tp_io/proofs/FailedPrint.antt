@@ -1,8 +1,8 @@
 -- Texts whose writing fails part by part.
 use Rattle.std.proofs.Common.{◌≡◌, ℕ, List, ◌++◌, Option, Result, Ok, Err}
 use Rattle.std.specs.Io.KnownBytes.{Appends}
-use Rattle.tp_io.specs.Writing.{AppendsPrefix, Prints}
-use Rattle.tp_io.proofs.Appending.{AppendsPrefix-more, AppendsPrefix-then}
+use Rattle.tp_io.specs.Write.{AppendsPrefix, Prints}
+use Rattle.tp_io.proofs.AppendedTexts.{AppendsPrefix-more, AppendsPrefix-then}
 
 -- a text whose writing fails, before one that is not written
 pub Prints-first : {T E : Type 0} (h k : Option (List ℕ)) (a rest : List ℕ) (r : Result T E) (e : E)

@@ -2,8 +2,8 @@
 use Rattle.std.proofs.Common.{◌≡◌, ◌∙◌, ℕ, List, [], ◌++◌, Option, Result, Ok, Err, sym, ap, subst, append_assoc, append-nil}
 use Rattle.std.specs.Io.KnownBytes.{Appends}
 use Rattle.tp_io.specs.Pending.{IsCut, IsGathered, Gathers}
-use Rattle.tp_io.specs.Writing.{AppendsPrefix, Prints}
-use Rattle.tp_io.proofs.Appending.{Appends-nothing, Appends-then, AppendsPrefix-then, AppendsPrefix-more, Prints-then}
+use Rattle.tp_io.specs.Write.{AppendsPrefix, Prints}
+use Rattle.tp_io.proofs.AppendedTexts.{Appends-nothing, Appends-then, AppendsPrefix-then, AppendsPrefix-more, Prints-then}
 
 -- nothing is gathered yet
 pub IsGathered-nothing : (h : Option (List ℕ)) (p : List ℕ) → IsGathered h h p p []

@@ -1,3 +1,3 @@
-pub mod Appending
+pub mod AppendedTexts
 pub mod FailedPrint
 pub mod GatheredTexts

@@ -1,6 +1,6 @@
 pub mod Faults
 pub mod Read
-pub mod Writing
+pub mod Write
 pub mod Memory
 pub mod Standard
 pub mod Pieces

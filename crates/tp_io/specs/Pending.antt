@@ -1,7 +1,7 @@
 -- What becomes of a text that is gathered before it goes to a sink.
 use Rattle.std.specs.Prelude.{◌≡◌, ℕ, List, ◌++◌, Option, Result, Ok, Err}
 use Rattle.std.specs.Io.KnownBytes.{Appends}
-use Rattle.tp_io.specs.Writing.{AppendsPrefix}
+use Rattle.tp_io.specs.Write.{AppendsPrefix}
 
 -- What was pending, and the text after it, has gone to the sink, but for its end, which is
 -- pending now.

@@ -3,7 +3,7 @@ ghost use Rattle.std.specs.Prelude.{◌≡◌, ◌+◌, ◌<◌, ◌↔◌, ◌�
 ghost use Rattle.std.specs.Prelude.{Contains, min, take};
 ghost use Rattle.tp_io.specs.Memory.{after_read, after_write};
 ghost use Rattle.tp_io.specs.Read.{Reads, HasReadCause, ReadFailsWhere};
-ghost use Rattle.tp_io.specs.Writing.{Writes, HasWriteCause, WriteFailsWhere};
+ghost use Rattle.tp_io.specs.Write.{Writes, HasWriteCause, WriteFailsWhere};
 
 use crate::{ReadStep, Sink, Source, WantMemory, WriteStep};
 use std::alloc::Global;

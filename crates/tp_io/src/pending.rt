@@ -1,7 +1,7 @@
 // Output that is gathered before it goes to a sink.
 ghost use Rattle.std.specs.Prelude.{◌≡◌, []};
 ghost use Rattle.tp_io.specs.Pending.{Gathers};
-ghost use Rattle.tp_io.specs.Writing.{Prints, HasCause};
+ghost use Rattle.tp_io.specs.Write.{Prints, HasCause};
 
 use crate::{Output, Sink, SinkFault, write_text};
 

@@ -3,7 +3,7 @@ ghost use Rattle.std.specs.List.{flat_map};
 ghost use Rattle.std.specs.Prelude.{◌≡◌};
 ghost use Rattle.tp_io.specs.Pending.{Gathers};
 ghost use Rattle.tp_io.specs.Pieces.{hex_digits_of, text_of};
-ghost use Rattle.tp_io.specs.Writing.{Prints, HasCause};
+ghost use Rattle.tp_io.specs.Write.{Prints, HasCause};
 
 use crate::{Output, Sink, SinkFault, gather, pass_on};
 use itoa::Buffer;

@@ -1,6 +1,6 @@
 // Where bytes go.
 ghost use Rattle.std.specs.Prelude.{List, ℕ, Option};
-ghost use Rattle.tp_io.specs.Writing.{Prints, Writes, HasCause, HasWriteCause};
+ghost use Rattle.tp_io.specs.Write.{Prints, Writes, HasCause, HasWriteCause};
 
 /// What a write answers.
 #[derive(Clone, Copy, Debug, PartialEq, Eq)]

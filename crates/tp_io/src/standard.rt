@@ -1,7 +1,7 @@
 // A source over any reader, and a sink over any writer.
 ghost use Rattle.std.specs.Prelude.{◌≡◌, ◌≤◌, length, take, MatchResult};
 ghost use Rattle.std.specs.Io.KnownBytes.{Appends, Keeps};
-ghost use Rattle.tp_io.specs.Writing.{Prints};
+ghost use Rattle.tp_io.specs.Write.{Prints};
 
 use crate::{ReadStep, Sink, SinkFault, Source, WriteStep};
 use std::io::{ErrorKind, Read, Write};

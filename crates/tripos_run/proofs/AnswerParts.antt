@@ -4,9 +4,9 @@ use Rattle.std.specs.Prelude.{is_ok, if◌then◌else◌}
 use Rattle.std.proofs.lemmas.Bool.Decides.{nat_tests}
 use Rattle.std.specs.Io.KnownBytes.{Appends, Consumes, IsAtEnd, Keeps}
 use Rattle.std.proofs.KnownBytes.{Keeps-refl}
-use Rattle.tp_io.specs.Writing.{AppendsPrefix, Prints}
+use Rattle.tp_io.specs.Write.{AppendsPrefix, Prints}
 use Rattle.tp_io.specs.Pending.{IsCut, IsGathered}
-use Rattle.tp_io.proofs.Appending.{AppendsPrefix-more}
+use Rattle.tp_io.proofs.AppendedTexts.{AppendsPrefix-more}
 use Rattle.tp_io.proofs.GatheredTexts.{IsCut-first, Prints-after}
 use Rattle.word_store.specs.declared.registers.Regs.{Regs}
 use Rattle.tripos_machine.specs.declared.bare.Stop.{Stop}

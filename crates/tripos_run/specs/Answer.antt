@@ -2,13 +2,13 @@
 use Rattle.std.specs.Prelude.{ℕ, ◌≡◌, List, [], ◌∷◌, ◌++◌, length, codes, Option, Some, None, Result, Ok, Err, nat_le, if◌then◌else◌}
 use Rattle.std.specs.Str.{bytes_eq}
 use Rattle.std.specs.Io.KnownBytes.{Appends, Keeps}
-use Rattle.tp_io.specs.Writing.{AppendsPrefix}
+use Rattle.tp_io.specs.Write.{AppendsPrefix}
 use Rattle.text_reader.specs.Refusal.{Refusal}
-use Rattle.hunk_text.specs.ModuleReading.{module_of}
+use Rattle.hunk_text.specs.ModuleOfText.{module_of}
 use Rattle.hunk_text.specs.declared.modules.Module.{Module}
 use Rattle.cint_asm.specs.Assembly.{assembled}
 use Rattle.cint_disasm.specs.HunkListing.{listing_of_module}
-use Rattle.session_text.specs.SessionReading.{session_of}
+use Rattle.session_text.specs.SessionOfText.{session_of}
 use Rattle.session_text.specs.declared.sessions.Session.{Session}
 use Rattle.tripos_machine.specs.declared.bare.Stop.{Stop}
 use Rattle.tripos_machine.specs.declared.bare.Stop.TheVariants.{Steps, Quit, Fault}

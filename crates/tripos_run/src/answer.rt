@@ -1,6 +1,6 @@
 // The answer to a text that was read.
 ghost use Rattle.std.specs.Prelude.{◌≡◌, ◌<◌, ◌^◌, is_ok, if◌then◌else◌, length};
-ghost use Rattle.hunk_text.specs.ModuleReading.{module_of};
+ghost use Rattle.hunk_text.specs.ModuleOfText.{module_of};
 ghost use Rattle.cint_asm.specs.Assembly.{assembled};
 ghost use Rattle.tripos_run.specs.Answer.{Answers, listed, made_answer, text_answer};
 ghost use Rattle.tripos_run.specs.Cause.{HasFaultCause};

@@ -1,7 +1,7 @@
 // The words of a store, printed.
 ghost use Rattle.std.specs.Prelude.{◌≡◌, ◌<◌, ◌^◌, length};
 ghost use Rattle.tp_io.specs.Pending.{Gathers};
-ghost use Rattle.tp_io.specs.Writing.{HasCause};
+ghost use Rattle.tp_io.specs.Write.{HasCause};
 ghost use Rattle.tripos_run.specs.Texts.{dump_text, word_text};
 
 use tp_io::Piece::{Decimal, Text, Word};

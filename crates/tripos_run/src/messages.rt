@@ -1,6 +1,6 @@
 // The lines that the program writes besides the console bytes.
 ghost use Rattle.tp_io.specs.Pending.{Gathers};
-ghost use Rattle.tp_io.specs.Writing.{Prints, HasCause};
+ghost use Rattle.tp_io.specs.Write.{Prints, HasCause};
 ghost use Rattle.tripos_run.specs.Texts.{closing_text, no_boot_text, refused_text, too_long_text, usage_text};
 
 use tp_io::Piece::{Decimal, Text};

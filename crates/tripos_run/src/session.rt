@@ -1,8 +1,8 @@
 // The answer to the text of a session.
 ghost use Rattle.std.specs.Prelude.{◌≡◌, ◌≤◌, ◌++◌, ◌<◌, ◌^◌, length};
 ghost use Rattle.tp_io.specs.Pending.{Gathers};
-ghost use Rattle.tp_io.specs.Writing.{Prints, HasCause};
-ghost use Rattle.session_text.specs.SessionReading.{session_of};
+ghost use Rattle.tp_io.specs.Write.{Prints, HasCause};
+ghost use Rattle.session_text.specs.SessionOfText.{session_of};
 ghost use Rattle.tripos_machine.specs.Boot.{boot};
 ghost use Rattle.tripos_machine.specs.Run.{run};
 ghost use Rattle.tripos_run.specs.Answer.{Answers, booted_answer, run_answer, session_answer, status_of, words_text};

@@ -2,12 +2,12 @@
 #![tactic(auto)]
 
 pub mod arithmetic;
-pub mod guarding;
+pub mod guards;
 pub mod registers;
 pub mod words;
 
 pub use arithmetic::{add, div, mul, mul_div, rem, shl, shr, signed, sub};
-pub use words::by_address::{set_word_at, set_words, word, word_at};
-pub use guarding::Guard;
+pub use guards::Guard;
 pub use registers::Regs;
+pub use words::by_address::{set_word_at, set_words, word, word_at};
 pub use words::{NoStoreMemory, Store};

@@ -2,7 +2,7 @@ use Rattle.std.proofs.Common.{◌≡◌, ◌≤◌, ◌<◌, ◌∙◌, ◌+◌,
 use Rattle.std.proofs.lemmas.Result.{err_from_is_err_and}
 use Rattle.word_store.specs.Arithmetic.{add}
 use Rattle.cint_exec.specs.Switch.{halfword}
-use Rattle.cint_exec.proofs.Searching.{begins, ends, faults, finds, goes_on}
+use Rattle.cint_exec.proofs.KeySearch.{begins, ends, faults, finds, goes_on}
 use Rattle.cint_exec.proofs.switches.search.Goals as goal
 
 pub loop-i-init : goal.loop-i-init

@@ -1,5 +1,5 @@
 use Rattle.std.proofs.Common.{◌+◌, ◌-◌, ◌≤◌, ◌*◌}
-use Rattle.cint_exec.proofs.Searching.{IsSearching}
+use Rattle.cint_exec.proofs.KeySearch.{IsSearching}
 use Rattle.cint_exec.proofs.switches.search.Given as goal
 
 abbrev pub invariant-loop-i : goal.invariant-loop-i

@@ -3,7 +3,7 @@ use Rattle.getvec_chain.specs.Give.{given, given_store}
 use Rattle.getvec_chain.specs.Tiling.{IsTiled, blocks_in, used_at}
 use Rattle.getvec_chain.proofs.GiveAnswer.{give-ok, give-on}
 use Rattle.linked_list.specs.Chain.{list_at}
-use Rattle.linked_list.specs.Placing.{has, without_node}
+use Rattle.linked_list.specs.Places.{has, without_node}
 use Rattle.linked_list.specs.Walk.{CanWalk}
 use Rattle.linked_list.proofs.UnlinkAnswer.{unlink-found, unlink-words}
 use Rattle.linked_list.proofs.Walks.{can_walk, no_offset}

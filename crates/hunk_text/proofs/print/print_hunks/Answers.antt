@@ -1,5 +1,5 @@
 use Rattle.std.proofs.lemmas.Result.{err_from_is_err_and}
-use Rattle.tp_io.proofs.Appending.{flat_map-at}
+use Rattle.tp_io.proofs.AppendedTexts.{flat_map-at}
 use Rattle.hunk_text.specs.Canonical.{text_of_hunk}
 use Rattle.tp_io.proofs.FailedPrint.{Prints-cut}
 use Rattle.hunk_text.proofs.print.print_hunks.Goals as goal

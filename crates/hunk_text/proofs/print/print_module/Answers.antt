@@ -1,5 +1,5 @@
 use Rattle.std.proofs.lemmas.Result.{err_from_is_err_and}
-use Rattle.tp_io.proofs.Appending.{Prints-then}
+use Rattle.tp_io.proofs.AppendedTexts.{Prints-then}
 use Rattle.hunk_text.specs.Canonical.{printed}
 use Rattle.tp_io.proofs.FailedPrint.{Prints-first}
 use Rattle.hunk_text.proofs.print.print_module.Goals as goal

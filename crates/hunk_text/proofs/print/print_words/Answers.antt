@@ -1,6 +1,6 @@
 use Rattle.std.proofs.Common.{arith}
 use Rattle.std.proofs.lemmas.Result.{err_from_is_err_and}
-use Rattle.tp_io.proofs.Appending.{Appends-then}
+use Rattle.tp_io.proofs.AppendedTexts.{Appends-then}
 use Rattle.tp_io.proofs.FailedPrint.{Prints-cut}
 use Rattle.hunk_text.proofs.PrintParts.{words_at, words_more}
 use Rattle.hunk_text.proofs.print.print_words.Goals as goal

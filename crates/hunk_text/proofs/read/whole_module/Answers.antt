@@ -3,7 +3,7 @@ use Rattle.std.proofs.lemmas.Result.{err_from_is_err_and}
 use Rattle.hunk_text.specs.Tokens.{line_at}
 use Rattle.hunk_text.specs.Places.{bytes_in}
 use Rattle.hunk_text.specs.Grammar.{finish}
-use Rattle.hunk_text.specs.ModuleReading.{module_of, read_token}
+use Rattle.hunk_text.specs.ModuleOfText.{module_of, read_token}
 use Rattle.hunk_text.proofs.HunkLists.{bad_from, gather_cut, gather_end, gather_first, gather_more, gather_refused, gives_bad, ok_from}
 use Rattle.hunk_text.proofs.read.whole_module.Goals as goal
 

@@ -1,5 +1,5 @@
 use Rattle.std.proofs.Common.{◌≡◌, ◌≤◌, ◌-◌, length}
-use Rattle.hunk_text.specs.ModuleReading.{module_of}
+use Rattle.hunk_text.specs.ModuleOfText.{module_of}
 use Rattle.hunk_text.proofs.ShapeCounts.{left}
 use Rattle.hunk_text.proofs.HunkLists.{gathered}
 use Rattle.hunk_text.proofs.read.whole_module.Given as goal

@@ -1,7 +1,7 @@
 use Rattle.std.proofs.Common.{◌≡◌, ◌+◌, ◌<◌, length}
 use Rattle.std.specs.List.{AllByRecursion}
 use Rattle.linked_list.specs.Chain.{list_at}
-use Rattle.linked_list.specs.Placing.{cell_before, has}
+use Rattle.linked_list.specs.Places.{cell_before, has}
 use Rattle.linked_list.proofs.links.cell_before.Given as goal
 
 abbrev pub invariant-loop-q : goal.invariant-loop-q

@@ -1,4 +1,4 @@
-use Rattle.owned_words.proofs.Writing.{stands-hold}
+use Rattle.owned_words.proofs.WrittenWords.{stands-hold}
 use Rattle.owned_words.proofs.laws.standing_law.Goals as goal
 
 pub returns : goal.returns

@@ -1,4 +1,4 @@
-use Rattle.owned_words.proofs.Writing.{writes-hold}
+use Rattle.owned_words.proofs.WrittenWords.{writes-hold}
 use Rattle.owned_words.proofs.laws.written_law.Goals as goal
 
 pub returns : goal.returns

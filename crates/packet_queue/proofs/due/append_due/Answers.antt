@@ -1,5 +1,5 @@
 use Rattle.std.proofs.Common.{◌≡◌, ◌∙◌, ◌+◌, ap, set, sym, subst}
-use Rattle.linked_list.specs.Placing.{insert_after, linked_in}
+use Rattle.linked_list.specs.Places.{insert_after, linked_in}
 use Rattle.linked_list.specs.Linked.{IsListAt}
 use Rattle.linked_list.proofs.Walks.{no_offset}
 use Rattle.packet_queue.specs.Queue.{link_of, packet_size, queue_at}

@@ -1,5 +1,5 @@
 use Rattle.std.proofs.Common.{◌≡◌, ◌∙◌, ℕ, List, true, false, refl, ap, set, sym, subst}
-use Rattle.linked_list.specs.Placing.{has, without}
+use Rattle.linked_list.specs.Places.{has, without}
 use Rattle.linked_list.specs.Linked.{IsListAt}
 use Rattle.linked_list.proofs.Places.{without-none}
 use Rattle.linked_list.proofs.UnlinkAnswer.{unlink-found, unlink-words}

@@ -1,7 +1,7 @@
 use Rattle.std.proofs.Common.{[]}
 use Rattle.std.proofs.lemmas.Result.{err_from_is_err_and}
-use Rattle.tp_io.proofs.Appending.{Appends-nothing}
-use Rattle.tp_io.proofs.Appending.{Prints-then}
+use Rattle.tp_io.proofs.AppendedTexts.{Appends-nothing}
+use Rattle.tp_io.proofs.AppendedTexts.{Prints-then}
 use Rattle.tp_io.proofs.FailedPrint.{Prints-cut}
 use Rattle.session_text.proofs.CanonicalPieces.{canonical_parts}
 use Rattle.session_text.proofs.print.print_session.Goals as goal

@@ -1,6 +1,6 @@
 use Rattle.std.proofs.Common.{◌≡◌, ◌≤◌, ◌+◌, vec_len, length}
 use Rattle.text_reader.specs.Lines.{lines_of}
-use Rattle.session_text.specs.SessionReading.{code_lines}
+use Rattle.session_text.specs.SessionOfText.{code_lines}
 use Rattle.session_text.proofs.CodeLines.{after_front}
 use Rattle.session_text.proofs.read.code_lines.Given as goal
 

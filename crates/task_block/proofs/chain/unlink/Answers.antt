@@ -1,5 +1,5 @@
 use Rattle.std.proofs.Common.{◌≡◌, ◌∙◌, ap, set, subst, sym, ℕ, List, ◌+◌}
-use Rattle.linked_list.specs.Placing.{without_node}
+use Rattle.linked_list.specs.Places.{without_node}
 use Rattle.linked_list.proofs.UnlinkAnswer.{unlink-words}
 use Rattle.linked_list.proofs.Walks.{no_offset}
 use Rattle.task_block.specs.Moves.{without_task}

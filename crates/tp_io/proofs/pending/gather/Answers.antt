@@ -1,5 +1,5 @@
 use Rattle.std.proofs.lemmas.Result.{err_from_is_err_and}
-use Rattle.tp_io.proofs.Appending.{AppendsPrefix-more}
+use Rattle.tp_io.proofs.AppendedTexts.{AppendsPrefix-more}
 use Rattle.tp_io.proofs.GatheredTexts.{Gathers-past}
 use Rattle.tp_io.proofs.pending.gather.Goals as goal
 

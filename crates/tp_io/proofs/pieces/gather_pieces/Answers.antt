@@ -4,7 +4,7 @@ use Rattle.std.proofs.lemmas.Result.{err_from_is_err_and}
 use Rattle.tp_io.specs.Pieces.{text_of}
 use Rattle.tp_io.specs.declared.pieces.Piece.{Piece}
 use Rattle.tp_io.specs.declared.pieces.Piece.TheVariants.{Text}
-use Rattle.tp_io.proofs.Appending.{flat_map-at, flat_map-more}
+use Rattle.tp_io.proofs.AppendedTexts.{flat_map-at, flat_map-more}
 use Rattle.tp_io.proofs.GatheredTexts.{IsCut-more, IsCut-then, IsGathered-then}
 use Rattle.tp_io.proofs.pieces.gather_pieces.Goals as goal
 

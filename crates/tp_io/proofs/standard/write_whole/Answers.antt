@@ -2,7 +2,7 @@ use Rattle.std.proofs.Common.{◌≡◌, ℕ, ◌+◌, List, Option, take, drop,
 use Rattle.std.proofs.Math.Seq.{take-add}
 use Rattle.std.proofs.lemmas.List.{take-append-drop}
 use Rattle.std.specs.Io.KnownBytes.{Appends}
-use Rattle.tp_io.proofs.Appending.{Appends-then}
+use Rattle.tp_io.proofs.AppendedTexts.{Appends-then}
 use Rattle.tp_io.proofs.standard.write_whole.Goals as goal
 
 -- n bytes more of a piece

@@ -5,7 +5,7 @@ use Rattle.std.proofs.Math.Seq.{take-suc}
 use Rattle.std.proofs.lemmas.List.{take-append-drop}
 use Rattle.std.proofs.lemmas.Grind.{flat_map-append}
 use Rattle.std.specs.Io.KnownBytes.{Appends}
-use Rattle.tp_io.specs.Writing.{AppendsPrefix, Prints}
+use Rattle.tp_io.specs.Write.{AppendsPrefix, Prints}
 
 pub Appends-nothing : (h : Option (List ℕ)) → Appends h h []
 Appends-nothing None = tt
