@@ -1,6 +1,6 @@
 -- What the lines give, line by line.
 use Rattle.std.proofs.Common.{◌≡◌, ◌∙◌, ℕ, ◌+◌, ◌*◌, ◌≤◌, Result, Ok, Err, List, [], ◌∷◌, ◌++◌, length, refl, sym, ap, subst, arith, add-zero, append_assoc, length-append}
-use Rattle.std.specs.Prelude.{IsOk, option_to_list}
+use Rattle.std.specs.Prelude.{option_to_list}
 use Rattle.std.specs.List.{AllByRecursion}
 use Rattle.cint_asm.specs.Encoding.{Code, code_of, encode, encode_line, joined, no_code}
 use Rattle.cint_asm.specs.Labels.{Table}
