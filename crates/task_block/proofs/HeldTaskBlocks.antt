@@ -12,7 +12,8 @@ use Rattle.owned_words.specs.Owned.{Holds, Pairs, owners}
 use Rattle.owned_words.proofs.HeldLists.{held-count, held-list}
 use Rattle.owned_words.proofs.OwnedWords.{Holds-left, Holds-right}
 use Rattle.task_block.specs.HeldTasks.{AreTasks, HasTheseTasks, HeldTasks, address_with}
-use Rattle.task_block.specs.TaskChain.{IsInTable, id_in, root_words, table_entry, task_link, task_size, task_with, tasks_in}
+use Rattle.task_block.specs.TaskChain.{IsInTable, id_in, root_words, task_link, task_size, task_with, tasks_in}
+use Rattle.task_block.specs.RootWords.{table_entry}
 use Rattle.task_block.specs.Versions.{highest_id}
 use Rattle.task_block.proofs.TaskInsertion.{root-hit}
 

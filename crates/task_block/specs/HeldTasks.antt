@@ -4,8 +4,8 @@ use Rattle.std.specs.List.{AllByRecursion}
 use Rattle.linked_list.specs.Count.{IsApart, times}
 use Rattle.owned_words.specs.LinkedWords.{AreNodes, headed_words, linked_words}
 use Rattle.owned_words.specs.Owned.{AreInside, Holds, Pairs, owners}
-use Rattle.task_block.specs.RootWords.{first_task}
-use Rattle.task_block.specs.TaskChain.{HasTasks, id_in, root_words, table_entry, task_link, task_size, tasks_in}
+use Rattle.task_block.specs.RootWords.{first_task, table_entry}
+use Rattle.task_block.specs.TaskChain.{HasTasks, id_in, root_words, task_link, task_size, tasks_in}
 use Rattle.task_block.specs.Versions.{highest_id}
 
 -- the address of the first one with the number, or 0

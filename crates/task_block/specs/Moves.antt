@@ -2,8 +2,8 @@
 use Rattle.std.specs.Prelude.{◌≡◌, ℕ, ◌+◌, ◌<◌, false, List, slice_index, slice_set}
 use Rattle.std.specs.List.{AllByRecursion}
 use Rattle.linked_list.specs.Places.{cell_after, linked_in, without, without_node}
-use Rattle.task_block.specs.RootWords.{first_task}
-use Rattle.task_block.specs.TaskChain.{Fall, HasTasks, IsNewPriority, IsNewTask, id_in, is_above, is_priority_used, priority_in, table_entry, task_link, tasks_in}
+use Rattle.task_block.specs.RootWords.{first_task, table_entry}
+use Rattle.task_block.specs.TaskChain.{Fall, HasTasks, IsNewPriority, IsNewTask, id_in, is_above, is_priority_used, priority_in, task_link, tasks_in}
 use Rattle.task_block.specs.TaskWords.{word_index}
 use Rattle.task_block.specs.declared.fields.TcbField.TheVariants.{Pri}
 

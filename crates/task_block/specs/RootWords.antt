@@ -1,5 +1,5 @@
 -- Which word of the root node has which name.
-use Rattle.std.specs.Prelude.{ℕ}
+use Rattle.std.specs.Prelude.{ℕ, ◌+◌}
 use Rattle.task_block.specs.declared.roots.RootField.{RootField}
 use Rattle.task_block.specs.declared.roots.RootField.TheVariants.{Table, FirstTask, Running, FirstBlock, FirstModule, ClockQueue, KeyQueue, OutputQueue, Tick, Size, Period, Version, Residents}
 
@@ -24,3 +24,7 @@ first_task = root_address FirstTask
 
 abbrev pub first_module : ℕ
 first_module = root_address FirstModule
+
+-- the entry of the task table for a number; entry 0 has the highest number
+abbrev pub table_entry : ℕ → ℕ
+table_entry i = 120 + i

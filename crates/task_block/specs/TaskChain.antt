@@ -4,7 +4,7 @@ use Rattle.std.specs.List.{AllByRecursion, list_any, range_with_len}
 use Rattle.linked_list.specs.Count.{IsApart, node_words, times, words_of}
 use Rattle.linked_list.specs.Chain.{list_at}
 use Rattle.linked_list.specs.Linked.{HasList, IsNode}
-use Rattle.task_block.specs.RootWords.{first_task}
+use Rattle.task_block.specs.RootWords.{first_task, table_entry}
 use Rattle.task_block.specs.TaskWords.{word_index}
 use Rattle.task_block.specs.Versions.{highest_id}
 use Rattle.task_block.specs.declared.fields.TcbField.TheVariants.{Id, Pri}
@@ -34,10 +34,6 @@ task_with s i ts = find (λ t. id_in s t == i) ts
 -- the words 100 to 183, which are the root node and the task table
 abbrev pub root_words : List ℕ
 root_words = range_with_len 100 84
-
--- the entry of the table for a number
-abbrev pub table_entry : ℕ → ℕ
-table_entry i = 120 + i
 
 -- a task's number is in the table's range, and the table leads to the task
 pub record IsInTable (s : List ℕ) (t : ℕ) : Type 0 where
