@@ -13,7 +13,7 @@ use Rattle.tripos_machine.specs.declared.bare.Stop.{Stop}
 use Rattle.tripos_machine.specs.declared.bare.Stop.TheVariants.{Steps, Quit, Fault}
 use Rattle.tripos_run.specs.declared.commands.Command.{Command}
 use Rattle.tripos_run.specs.declared.status.Status.{Status}
-use Rattle.tripos_run.specs.declared.status.Status.TheVariants.{Done, GuestFault, Usage, Refused, NoBoot, ReadFault, WriteFault, TooLong, WantMemory}
+use Rattle.tripos_run.specs.declared.status.Status.TheVariants.{Usage, WriteFault, TooLong}
 use Rattle.tripos_machine.specs.Run.{IsRunEnd, Run}
 use Rattle.tripos_run.specs.Texts.{closing_text, too_long_text, usage_text}
 use Rattle.tripos_run.specs.Answer.{Answer, Answers, command_answer, input_answer, limit, run_answer, status_of, text_answer, words_text}
