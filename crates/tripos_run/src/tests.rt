@@ -1,11 +1,9 @@
-// What no run of the program can show: sources and sinks that fail, and an input past the limit.
-ghost use Rattle.std.specs.Prelude.{None};
-
+// What no run of the program can show: sources and sinks that fail.
 use crate::program::{run, tripos};
 use crate::status::Status;
 use std::process::Abort;
 use std::test::Fail;
-use tp_io::{MemorySink, MemorySource, ReadStep, Source};
+use tp_io::{MemorySink, MemorySource};
 
 const LETTER: &[u8] = b"TRIPOS 1\nSTORE 1024\nBARE\n:6013a0036041a004916000a003a00491\nGO 100\n";
 
@@ -63,42 +61,6 @@ fn runs_over_a_reader_and_a_writer(rt: HostRuntime) -> Result<(), Fail> {
         let (status, _) = run(rt.alloc(), words.as_slice(), LETTER, writer);
         assert_eq!(rt; status, wanted);
         assert!(rt; kept.starts_with(LETTER_RUN.split_at(room).0));
-    }
-    Ok(())
-}
-
-// A source of so many bytes 0.
-#[derive(Drop)]
-struct Zeros {
-    left: usize,
-}
-
-impl Source for Zeros {
-    ghost left = { λ _. None };
-
-    ghost faults = { λ _. 0 };
-
-    fn read(&mut self, into: &mut [u8]) -> ReadStep {
-        let n = self.left.min(into.len());
-        if n == 0 {
-            return ReadStep::End;
-        }
-        self.left -= n;
-        into[..n].fill(0);
-        ReadStep::Got(n)
-    }
-}
-
-#[test]
-fn takes_no_more_than_the_limit(rt: HostRuntime) -> Result<(), Fail> {
-    let words = words_of(&rt, &["disasm"])?;
-    for (left, status) in [(67_108_864, Status::Refused), (67_108_865, Status::TooLong)] {
-        let mut out = MemorySink::new(rt.alloc(), 64, &[]).map_err(|_| "memory")?;
-        let mut src = Zeros { left };
-        assert_eq!(rt;
-            tripos(rt.alloc(), words.as_slice(), &mut src, &mut out),
-            status
-        );
     }
     Ok(())
 }
