@@ -24,6 +24,3 @@ mod tables;
 pub use assembly::assemble;
 use errors::LineError;
 pub use text_reader::TextEnd as AsmEnd;
-
-#[cfg(test)]
-mod tests;

@@ -9,6 +9,3 @@ pub mod listing;
 pub use hunks::HunkBytes;
 pub use lines::line_at;
 pub use listing::{disassemble, disassemble_module};
-
-#[cfg(test)]
-mod tests;

@@ -21,6 +21,3 @@ pub use read::read_module;
 pub use text_reader::TextEnd as HunkEnd;
 pub use texts::{SliceText, TextBytes};
 pub use tokens::{NextWord, next_word};
-
-#[cfg(test)]
-mod tests;

@@ -63,31 +63,3 @@ fn are_name_bytes(bytes: &[u8]) -> bool
 {
     bytes.iter().all(|b| b.is_ascii_alphanumeric() || matches!(*b, b'-' | b'.' | b'_'))
 }
-
-#[cfg(test)]
-mod tests {
-    use super::*;
-
-    #[test]
-    fn reads_lawful_names(rt: HostRuntime) {
-        for (text, lawful) in [
-            ("A", true),
-            ("HELLO.TXT", true),
-            ("a-b_c.9", true),
-            ("twelve-bytes", true),
-            ("", false),
-            ("thirteen-byte", false),
-            ("A B", false),
-            ("A/B", false),
-            ("café", false),
-        ] {
-            match Name::read(text.as_bytes()) {
-                Some(name) => {
-                    assert!(rt; lawful, "{text:?}");
-                    assert_eq!(rt; name.bytes(), text.as_bytes());
-                }
-                None => assert!(rt; !lawful, "{text:?}"),
-            }
-        }
-    }
-}

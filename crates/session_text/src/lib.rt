@@ -13,6 +13,3 @@ pub use print::print_session;
 pub use read::read_session;
 pub use sessions::{LineForm, Session, SessionLine};
 pub use text_reader::TextEnd as SessionEnd;
-
-#[cfg(test)]
-mod tests;

@@ -10,6 +10,3 @@ pub use ends::TextEnd;
 pub use fields::{after_word, end_of_text, first_line, number_after};
 pub use lines::split_line;
 pub use numbers::{any_number, digit, number};
-
-#[cfg(test)]
-mod tests;

@@ -9,8 +9,6 @@ pub mod pieces;
 pub mod sink;
 pub mod source;
 pub mod standard;
-#[cfg(test)]
-mod tests;
 pub mod whole;
 
 pub use memory::{MemorySink, MemorySource};

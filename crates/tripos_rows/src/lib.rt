@@ -7,3 +7,11 @@ mod blocks;
 mod listings;
 #[cfg(test)]
 mod logs;
+#[cfg(test)]
+mod modules;
+#[cfg(test)]
+mod readers;
+#[cfg(test)]
+mod sessions;
+#[cfg(test)]
+mod streams;

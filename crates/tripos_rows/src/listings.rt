@@ -1,84 +1,39 @@
-// Each instruction, in each shape of its operand, is assembled and listed again.
-use cint_asm::assemble;
-use cint_disasm::disassemble;
-use cint_table::{Form, Row, row};
-use hunk_text::read_module;
-use std::alloc::Global;
-use std::process::Abort;
+// Lines of a listing, of the code in a store.
+use cint_disasm::line_at;
 use std::test::Fail;
 use tp_io::MemorySink;
+use word_store::Store;
 
-// A program and a line of its listing, both with @ for an instruction's name.
-type Shape = (&'static str, &'static str);
+const LOADS_AND_JUMPS: [[u8; 4]; 3] = [[0; 4], [96, 19, 160, 3], [123, 186, 128, 187]];
 
-const PLAIN: [Shape; 1] = [("@", "4 @")];
-
-const BYTE: [Shape; 2] = [("@ 0", "4 @ 0"), ("@ 255", "4 @ 255")];
-
-const BYTE_PLUS: [Shape; 2] = [("@ 256", "4 @ 256"), ("@ 511", "4 @ 511")];
-
-const HALF: [Shape; 2] = [("@ 258", "4 @ 258"), ("@ 65535", "4 @ 65535")];
-
-const WORD: [Shape; 3] = [
-    ("@ 16909060", "4 @ 16909060"),
-    ("@ 4294967295", "4 @ 4294967295"),
-    ("@ -2147483648", "4 @ 2147483648"),
-];
-
-const RELATIVE: [Shape; 3] = [
-    ("here: @ here", "4 @ 4"),
-    ("back: NOP\n@ back", "5 @ 4"),
-    ("@ on\nNOP\non: NOP", "4 @ 7"),
-];
-
-const INDIRECT: [Shape; 3] = [
-    ("@ by\nby: RES by", "4 @ 6"),
-    ("back: NOP\n@ by\nNOP\nby: RES back", "5 @ 4"),
-    ("@ by\nDW 0\nDW 0\nby: RES on\nNOP\non: NOP", "4 @ 17"),
-];
-
-fn shapes_of(form: Form) -> &'static [Shape] {
-    match form {
-        Form::Plain(_) | Form::Switch => &PLAIN,
-        Form::Byte => &BYTE,
-        Form::BytePlus => &BYTE_PLUS,
-        Form::Half => &HALF,
-        Form::Word => &WORD,
-        Form::Relative => &RELATIVE,
-        Form::Indirect => &INDIRECT,
-    }
-}
+const OTHER_FORMS: [[u8; 4]; 3] = [[80, 255, 226, 255], [255, 255, 255, 147], [31, 0, 13, 200]];
 
 #[test]
-fn every_instruction_is_listed_as_it_was_assembled(rt: HostRuntime) -> Result<(), Fail> {
-    for byte in 0..=255u8 {
-        if let Some(Row { name, form, .. }) = row(byte) {
-            for (program, line) in shapes_of(form) {
-                let program = program.replace(rt.alloc(), '@', name)?;
-                let line = line.replace(rt.alloc(), '@', name)?;
-                let listing = listing_of(&rt, rt.alloc(), program.as_bytes())?;
-                let listing = std::str::from_utf8(listing.bytes())?;
-                assert!(rt;
-                    listing.lines().any(|l| l == line.as_str()),
-                    "{program}: {listing}"
-                );
-            }
+fn lists_each_form(rt: HostRuntime) -> Result<(), Fail> {
+    // The words of a store, a byte address, the line and the number of bytes.
+    let rows: [([[u8; 4]; 3], u32, &[u8], u32); 11] = [
+        (LOADS_AND_JUMPS, 4, b"4 L 19\n", 2),
+        (LOADS_AND_JUMPS, 6, b"6 SP 3\n", 2),
+        (LOADS_AND_JUMPS, 8, b"8 RTN\n", 1),
+        (LOADS_AND_JUMPS, 9, b"9 J -118\n", 2),
+        (OTHER_FORMS, 0, b"0 LG1 511\n", 2),
+        (OTHER_FORMS, 2, b"2 AW 4294967295\n", 5),
+        (OTHER_FORMS, 7, b"7 SWL\n", 1),
+        (OTHER_FORMS, 8, b"8 JEQ0$ 39\n", 2),
+        // no row, an operand outside, and a halfword outside
+        (LOADS_AND_JUMPS, 3, b"3 DB 0\n", 1),
+        (LOADS_AND_JUMPS, 11, b"11 DB 187\n", 1),
+        (OTHER_FORMS, 10, b"10 DB 13\n", 1),
+    ];
+    for (words, a, line, length) in rows {
+        let mut store = Store::new(rt.alloc(), 3)?;
+        for (i, word) in words.iter().enumerate() {
+            store.set(i as u32, u32::from_le_bytes(*word));
         }
+        let mut out = MemorySink::new(rt.alloc(), 64, &[])?;
+        assert!(rt; store.get_byte(a).is_some());
+        assert_eq!(rt; line_at(&store, a, &mut out), Ok(length), "at {a}");
+        assert_eq!(rt; out.bytes(), line, "at {a}");
     }
     Ok(())
-}
-
-// The listing of what a text assembles to.
-fn listing_of(rt: &impl Abort, alloc: Global, text: &[u8]) -> Result<MemorySink, Fail> {
-    assert!(rt; text.len() < 1000);
-    let module = assemble(alloc, text)?;
-    assert!(rt; module.len() < 1000);
-    let module = read_module(alloc, &module)?;
-    let [hunk] = module.hunks.as_slice() else {
-        return Err("one hunk is made".into());
-    };
-    assert!(rt; hunk.words.as_slice().len() < 1000);
-    let mut listing = MemorySink::new(alloc, 4096, &[])?;
-    disassemble(hunk, 1, &mut listing)?;
-    Ok(listing)
 }

@@ -1,7 +1,7 @@
-// What no command shows: a session printed, and its lists.
-use super::*;
+// What no command shows of a session: its text printed, and its lists.
 use arrayvec::ArrayVec;
 use ram_disc::Name;
+use session_text::{Bytes, Names, print_session, read_session};
 use std::test::Fail;
 use tp_io::MemorySink;
 

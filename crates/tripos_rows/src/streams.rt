@@ -1,11 +1,11 @@
 // Reading and writing in memory, and over std's readers and writers.
-use crate::{
-    MemorySink, MemorySource, Piece, ReadEnd, ReadStep, Sink, SinkFault, Source, StdSink,
-    StdSource, WriteStep, read_all, write_pieces,
-};
 use std::io;
 use std::io::{ErrorKind, Read, Write};
 use std::test::Fail;
+use tp_io::{
+    MemorySink, MemorySource, Piece, ReadEnd, ReadStep, Sink, SinkFault, Source, StdSink,
+    StdSource, WriteStep, read_all, write_pieces,
+};
 
 #[test]
 fn reads_up_to_a_limit(rt: HostRuntime) -> Result<(), Fail> {

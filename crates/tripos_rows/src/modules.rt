@@ -1,5 +1,5 @@
 // What no command shows: a module printed, its shape, and its words one by one.
-use crate::{NextWord, Shape, SliceText, check_module, next_word, print_module, read_module};
+use hunk_text::{NextWord, Shape, SliceText, check_module, next_word, print_module, read_module};
 use std::test::Fail;
 use tp_io::MemorySink;
 
