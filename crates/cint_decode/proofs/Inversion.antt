@@ -9,9 +9,9 @@ use Rattle.cint_table.specs.declared.forms.Form.{Form}
 use Rattle.cint_table.specs.declared.forms.Form.TheVariants.{Plain, Byte, BytePlus, Half, Word, Relative, Indirect, Switch}
 use Rattle.cint_decode.specs.Decoded.{byte_or_outside, decoded, half_at, number_operand, operand_at, target_operand, word_at}
 use Rattle.cint_decode.specs.Offset.{byte_offset}
-use Rattle.cint_decode.specs.Standing.{StandsAt}
+use Rattle.cint_decode.specs.BytesAt.{StandsAt}
 use Rattle.cint_decode.specs.Steps.{◌>>=◌}
-use Rattle.cint_decode.specs.declared.decoding.Operand.{Operand}
+use Rattle.cint_decode.specs.declared.fetch.Operand.{Operand}
 use Rattle.cint_decode.specs.declared.instructions.DecodeEnd.{DecodeEnd}
 use Rattle.cint_decode.specs.declared.instructions.DecodeEnd.TheVariants.{Outside, Undefined}
 use Rattle.cint_decode.specs.declared.instructions.Instr.{Instr}
