@@ -1,5 +1,5 @@
 -- What the names of the table and numbers make.
-use Rattle.std.proofs.Common.{◌≡◌, ap, ℕ, pos, negsuc, ◌<◌, Bool, true, ◌&&◌, inl, inr, Some, None, Option, List, ◌∷◌, Result, Ok, refl, subst, arith}
+use Rattle.std.proofs.Common.{◌≡◌, ◌∙◌, ap, ℕ, pos, negsuc, ◌<◌, Bool, true, ◌&&◌, inl, inr, Some, None, Option, List, ◌∷◌, Result, Ok, refl, subst, arith}
 use Rattle.std.specs.Option.{is_none, option_map, option_map_or}
 use Rattle.std.proofs.lemmas.Bool.{and_parts, cases_lt}
 use Rattle.std.proofs.lemmas.Bool.Decides.{nat_tests}
@@ -19,6 +19,7 @@ use Rattle.cint_asm.specs.Names.{is_name}
 use Rattle.cint_asm.specs.Numbers.{is_from_to, word_of}
 use Rattle.cint_asm.specs.LineText.{instruction, instruction_named, statement_named}
 use Rattle.cint_asm.specs.declared.errors.LineError.{LineError}
+use Rattle.cint_asm.specs.declared.operands.Operands.{Operands}
 use Rattle.cint_asm.specs.declared.statements.Statement.{Statement}
 use Rattle.cint_asm.specs.declared.statements.Statement.TheVariants.{Fixed}
 
@@ -34,7 +35,7 @@ all_fit : passes_below (λ byte. fits (entry byte)) 256 ≡ true
 unfolding passes_below entry column0 column1 column2 column3 column4 column5 column6 column7
 all_fit = refl
 
-byte_below : (byte : ℕ) (row : Entry) → entry byte ≡ Some row → byte < 256
+pub byte_below : (byte : ℕ) (row : Entry) → entry byte ≡ Some row → byte < 256
 byte_below byte row e = elim (cases_lt byte 256) [ inl lt ↦ lt | inr past ↦ let none = entry_past byte past in absurd (cc) ]
 
 name_fits : (o : Option Entry) (row : Entry) → o ≡ Some row → fits o ≡ true → is_instruction_name row.name ≡ true
@@ -77,13 +78,17 @@ with_room byte n Relative h = absurd h
 with_room byte n Indirect h = absurd h
 with_room byte n Switch h = refl
 
-pub made : (byte n : ℕ) (row : Entry) → entry byte ≡ Some row → HasRoom row.form n → statement_named row.name (operands_with row.form n) ≡ Ok (Fixed (byte ∷ operand_bytes row.form n))
-made byte n row e h =
+-- the name of a row stands for its instruction, whatever its operands are
+pub statement_of_row : (byte : ℕ) (row : Entry) (operands : Operands) → entry byte ≡ Some row → statement_named row.name operands ≡ instruction byte row.form operands
+statement_of_row byte row operands e =
     let tests = name_fits (entry byte) row e (passes_at (λ b. fits (entry b)) 256 byte all_fit (byte_below byte row e)) in
     let p = and_parts (is_name row.name) (is_none (directive_named row.name)) tests in
     let directive = is_none_from (directive_named row.name) p.1 in
     let instr = named byte row e in
-    rw (p.0, directive, instr) (with_room byte n row.form h)
+    rw (p.0, directive, instr) refl
+
+pub made : (byte n : ℕ) (row : Entry) → entry byte ≡ Some row → HasRoom row.form n → statement_named row.name (operands_with row.form n) ≡ Ok (Fixed (byte ∷ operand_bytes row.form n))
+made byte n row e h = statement_of_row byte row (operands_with row.form n) e ∙ with_room byte n row.form h
 
 bytes_of : (a b : List ℕ) (r : Result Statement LineError) → r ≡ Ok (Fixed a) → r ≡ Ok (Fixed b) → a ≡ b
 bytes_of a b r p q = cc

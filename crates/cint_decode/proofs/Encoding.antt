@@ -15,7 +15,7 @@ use Rattle.cint_decode.specs.Decoded.{decoded, halfword_offset, halfword_place, 
 use Rattle.cint_decode.specs.BytesAt.{StandsAt, with_number, with_target}
 
 -- one address on from k addresses on
-add_add : (a k : ℕ) → add (add a k) 1 ≡ add a (k + 1)
+pub add_add : (a k : ℕ) → add (add a k) 1 ≡ add a (k + 1)
 add_add a k = mod-add-mod (a + k) (2 ^ 32) 1 ∙ ap (λ n. n % 2 ^ 32) (omega arith)
 
 -- bytes that stand in the code are read

@@ -13,11 +13,11 @@ use Rattle.cint_decode.specs.declared.instructions.DecodeEnd.{DecodeEnd}
 use Rattle.cint_decode.specs.declared.instructions.DecodeEnd.TheVariants.{Outside, Undefined}
 use Rattle.cint_decode.specs.declared.instructions.Instr.{Instr}
 
-first_ok : {A B E : Type 0} (x : Result A E) (f : A → Result B E) (y : B) → (x >>= f) ≡ Ok y → (v : A) × (x ≡ Ok v) × (f v ≡ Ok y)
+pub first_ok : {A B E : Type 0} (x : Result A E) (f : A → Result B E) (y : B) → (x >>= f) ≡ Ok y → (v : A) × (x ≡ Ok v) × (f v ≡ Ok y)
 first_ok (Ok v) f y h = (v, refl, h)
 first_ok (Err e) f y h = absurd (cc)
 
-some_from : {A E : Type 0} (o : Option A) (e : E) (v : A) → ok_or o e ≡ Ok v → o ≡ Some v
+pub some_from : {A E : Type 0} (o : Option A) (e : E) (v : A) → ok_or o e ≡ Ok v → o ≡ Some v
 some_from (Some x) e v h = cc
 some_from None e v h = absurd (cc)
 

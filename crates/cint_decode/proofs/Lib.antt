@@ -1,2 +1,3 @@
 pub mod Encoding
 pub mod Inside
+pub mod Inversion

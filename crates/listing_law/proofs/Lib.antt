@@ -1,0 +1,7 @@
+pub mod CodeBytes
+pub mod LineParts
+pub mod ListedLines
+pub mod ListingAgain
+pub mod SourceLines
+pub mod SourceNames
+pub mod SourcePrograms

@@ -1,0 +1,2 @@
+pub mod PlainCode
+pub mod Source
