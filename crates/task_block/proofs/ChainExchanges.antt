@@ -20,7 +20,7 @@ use Rattle.owned_words.proofs.HeldLists.{held-linked_in, held-without_node}
 use Rattle.owned_words.proofs.OwnedWords.{Holds-left, Holds-right}
 use Rattle.owned_words.proofs.RowWords.{owners-row}
 use Rattle.task_block.specs.ChainWords.{BlockComesIn, BlockInsert, BlockUnlink, ComesIn, HavePriorities, HeldBlocks, InsertExchange, TaskBlock, UnlinkExchange, absent_words, block_address, block_id, block_priority, block_words, entries, listed_words, present_words}
-use Rattle.task_block.specs.HeldTasks.{AreTasks, HeldTasks, address_with}
+use Rattle.task_block.specs.HeldTasks.{AreTasks, HasTheseTasks, HeldTasks, address_with}
 use Rattle.task_block.specs.Moves.{link_above, with_task, without_task}
 use Rattle.task_block.specs.TaskChain.{id_in, is_above, priority_in, task_link, task_size, task_with, tasks_in}
 use Rattle.task_block.specs.Versions.{highest_id}
@@ -184,6 +184,9 @@ are_blocks =
           };
       number = λ s b n h. h.1.0;
     }
+
+pub blocks-held : (s : List ℕ) (bs : List TaskBlock) → HeldBlocks s bs → HasTheseTasks s (map block_address bs)
+blocks-held s bs h = held-tasks block_address block_id block_words are_blocks s bs h
 
 pub blocks-insert : (s : List ℕ) (bs : List TaskBlock) (b : TaskBlock) → HeldBlocks s bs → BlockComesIn s b → BlockInsert s (with_task s b.address) bs b
 blocks-insert s bs b h c = insert-exchange block_address block_id block_words are_blocks block_priority (record { level = λ s b n h. h.1.1.0 }) s bs b h c
