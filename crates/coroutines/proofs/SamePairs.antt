@@ -22,6 +22,11 @@ same-then A B C x y = record { count = λ a. x.count a ∙ y.count a; there = λ
 pub same-swap : (e f : ℕ × ℕ) → AreSame (e ∷ f ∷ []) (f ∷ e ∷ [])
 same-swap e f = record { count = λ a. omega arith; there = λ s h. (h.1.0, (h.0, tt)); back = λ s h. (h.1.0, (h.0, tt)) }
 
+pub same-values : (a b w x y z : ℕ) → w ≡ x → y ≡ z → AreSame ((a, w) ∷ (b, y) ∷ []) ((a, x) ∷ (b, z) ∷ [])
+same-values a b w x y z e f =
+    subst (λ u. AreSame ((a, w) ∷ (b, y) ∷ []) ((a, u) ∷ (b, z) ∷ [])) e
+    (subst (λ u. AreSame ((a, w) ∷ (b, y) ∷ []) ((a, w) ∷ (b, u) ∷ [])) f (same-equal ((a, w) ∷ (b, y) ∷ []) ((a, w) ∷ (b, y) ∷ []) refl))
+
 -- two kinds of pieces
 pub same-pieces : {X : Type 0} (f g : X → Pairs) (xs : List X) (A B : Pairs) → flat_map f xs ≡ A → flat_map g xs ≡ B → AreSame (flat_map (λ x. f x ++ g x) xs) (A ++ B)
 same-pieces f g xs A B a b =

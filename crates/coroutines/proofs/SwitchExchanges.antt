@@ -22,7 +22,7 @@ use Rattle.owned_words.proofs.OwnedWords.{Holds-left, Holds-right}
 use Rattle.owned_words.proofs.Parts.{exchange-within}
 use Rattle.word_store.specs.declared.registers.Regs.{Regs}
 use Rattle.task_block.specs.Lists.{coroutine_link}
-use Rattle.coroutines.specs.CoroutineExchanges.{CallExchange, EndExchange, HoldsCoroutines, ResumeExchange, Rewrites, TaskCoroutines, WaitExchange, current_of, function_of, owned_words, standing, switch_words, with_frame, with_saved}
+use Rattle.coroutines.specs.CoroutineExchanges.{CallExchange, EndExchange, HoldsCoroutines, ResumeExchange, Rewrites, TaskCoroutines, WaitExchange, current_of, function_of, words_of_coroutines, standing, switch_words, with_frame, with_saved}
 use Rattle.coroutines.specs.CoroutineWords.{as_current, as_parent, bottom, coroutine_size, current_in, function_in, parent_in, saved_p, saved_pc}
 use Rattle.coroutines.specs.HeldCoroutines.{Coroutine, HeldCoroutines, address_of, coroutine_words, first_active, parent_of}
 use Rattle.coroutines.specs.Refusals.{first_refusal, has_parent, idle_answer, is_known, is_within, resume_answer, wait_answer}
@@ -32,7 +32,7 @@ use Rattle.coroutines.specs.Switch.{called, replaced, resumed, returned, waited}
 use Rattle.coroutines.proofs.HeldCoroutineLists.{are_coroutines, held-coroutines, held-parents, parent_of-none}
 use Rattle.coroutines.proofs.CoroutineLists.{Built}
 use Rattle.coroutines.proofs.KnownCoroutines.{task-apart}
-use Rattle.coroutines.proofs.SamePairs.{AreSame, exchange-same, rewrites, same-equal, same-gathered, same-pieces, same-swap, same-then}
+use Rattle.coroutines.proofs.SamePairs.{AreSame, exchange-same, rewrites, same-equal, same-gathered, same-pieces, same-swap, same-then, same-values}
 use Rattle.coroutines.proofs.Switches.{saved-known}
 
 -- ---- the words of one coroutine
@@ -99,7 +99,7 @@ new_words t k p pc act w =
 
 -- any switch, where these are active afterwards
 switch-exchange : (t : ℕ) (k : TaskCoroutines) (p pc : ℕ) (act : List ℕ) (w : ℕ → Bool) → ((a : ℕ) → w a ≡ false → parent_of t act a ≡ parent_of t k.active a)
-    → Exchange (owned_words t k) (owned_words t (record (with_saved p pc k) { active = act })) (old_words t k w) (new_words t k p pc act w)
+    → Exchange (words_of_coroutines t k) (words_of_coroutines t (record (with_saved p pc k) { active = act })) (old_words t k w) (new_words t k p pc act w)
 switch-exchange t k p pc act w same =
     let d : ℕ = current_of k in
     let old : Pairs = changed d (λ x. x.saved_p) (λ x. x.saved_pc) t k.active w k.list in
@@ -228,7 +228,7 @@ current-member s t k h = on k.active h.coroutines.members
     on [] members = inl refl
     on (c ∷ cs) members = inr (member s t c k.list k.active h.coroutines members.0)
 
-pub holds-owned : (s : List ℕ) (t : ℕ) (k : TaskCoroutines) → HoldsCoroutines s t k → Holds s (owned_words t k)
+pub holds-owned : (s : List ℕ) (t : ℕ) (k : TaskCoroutines) → HoldsCoroutines s t k → Holds s (words_of_coroutines t k)
 holds-owned s t k h = (h.coroutines.current, (h.root_p, (h.root_pc, h.coroutines.held.holds)))
 
 -- ---- the calls
@@ -242,7 +242,7 @@ module _ (s : List ℕ) (t : ℕ) (k : TaskCoroutines) (h : HoldsCoroutines s t 
       → AreSame (flat_map (λ x. cond (w x.address) (parent t k.active x) []) k.list) old → AreSame (flat_map (λ x. cond (w x.address) (parent t act x) []) k.list) new
       → ((p' pc' : ℕ) → standing s (new ++ switch_words t k p pc (first_active act 0)) ≡ standing s (old ++ switch_words t k p' pc' (current_of k)))
       → v ≡ written (new ++ switch_words t k p pc (first_active act 0)) s
-      → Rewrites s v (owned_words t k) (owned_words t (record (with_saved p pc k) { active = act })) (new ++ switch_words t k p pc (first_active act 0))
+      → Rewrites s v (words_of_coroutines t k) (words_of_coroutines t (record (with_saved p pc k) { active = act })) (new ++ switch_words t k p pc (first_active act 0))
   switch-rewrites v p pc act w same old new of_old of_new addresses words =
       let d : ℕ = current_of k in
       let one : IsRootOr d k.list = current-member s t k h in
@@ -383,7 +383,7 @@ module _ (s : List ℕ) (t : ℕ) (k : TaskCoroutines) (h : HoldsCoroutines s t 
           ∙ ap (λ z. (cond (eqb x.address d) (parent t act x) [] ++ cond (eqb x.address c) (parent t act x) []) ++ z) (pieces xs)
 
   replace-exchange : (regs : Regs) (c : ℕ) → current_of k ≢ 0 → current_of k ≢ c → has c (map address_of k.list) ≡ true
-      → Rewrites s (replaced s t regs c) (owned_words t k) (owned_words t (record (with_saved regs.p regs.pc k) { active = c ∷ outwards }))
+      → Rewrites s (replaced s t regs c) (words_of_coroutines t k) (words_of_coroutines t (record (with_saved regs.p regs.pc k) { active = c ∷ outwards }))
       ((current_of k + 1, 0) ∷ (c + 1, first_active outwards t) ∷ switch_words t k regs.p regs.pc c)
   replace-exchange regs c ne other known =
       let d : ℕ = current_of k in
@@ -398,7 +398,7 @@ module _ (s : List ℕ) (t : ℕ) (k : TaskCoroutines) (h : HoldsCoroutines s t 
       ((d + 1, parent_of t k.active d) ∷ (c + 1, parent_of t k.active c) ∷ []) ((d + 1, 0) ∷ (c + 1, first_active outwards t) ∷ [])
       (two-parents k.active d c other md mc)
       (same-then _ _ _ (two-parents (c ∷ outwards) d c other md mc)
-      (same-equal _ _ (ap (λ z. (d + 1, z) ∷ (c + 1, parent_of t (c ∷ outwards) c) ∷ []) none ∙ ap (λ z. (d + 1, 0) ∷ (c + 1, z) ∷ []) up)))
+      (same-values (d + 1) (c + 1) _ _ _ _ none up))
       (λ p' pc'. refl)
       (subst (λ y. replaced s t regs c ≡ set (set (set (set (set s (saved_p t d) regs.p) (saved_pc t d) regs.pc) (t + 18) c) (c + 1) y) (d + 1) 0) i.parent_word
       (ap (λ z. set (set (set (set (set s (saved_p t z) regs.p) (saved_pc t z) regs.pc) (t + 18) c) (c + 1) (parent_in s z)) (z + 1) 0) h.coroutines.current))
@@ -415,9 +415,9 @@ module _ (s : List ℕ) (t : ℕ) (k : TaskCoroutines) (h : HoldsCoroutines s t 
       subst (λ z. ResumeExchange s (cond (eqb z c) s (replaced s t regs c)) t k c regs.p regs.pc) (sym h.coroutines.current) (on (eqb (current_of k) c) refl)
     where
       on : (b : Bool) → eqb (current_of k) c ≡ b
-          → Rewrites s (cond b s (replaced s t regs c)) (owned_words t k) (owned_words t (cond b k (record (with_saved regs.p regs.pc k) { active = c ∷ outwards })))
+          → Rewrites s (cond b s (replaced s t regs c)) (words_of_coroutines t k) (words_of_coroutines t (cond b k (record (with_saved regs.p regs.pc k) { active = c ∷ outwards })))
           (cond b [] ((current_of k + 1, 0) ∷ (c + 1, first_active outwards t) ∷ switch_words t k regs.p regs.pc c))
-      on true e = record { exchange = exchange-none (owned_words t k); writes = refl }
+      on true e = record { exchange = exchange-none (words_of_coroutines t k); writes = refl }
       on false e = (let other : current_of k ≢ c = grind (arith, nat_tests) in replace-exchange regs c ne other known)
 
   -- ---- from the answers

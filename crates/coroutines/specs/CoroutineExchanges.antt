@@ -25,8 +25,8 @@ abbrev pub current_of : TaskCoroutines → ℕ
 current_of k = first_active k.active 0
 
 -- the words 17 to 20 of the task at t, and the words of its coroutines
-abbrev pub owned_words : ℕ → TaskCoroutines → Pairs
-owned_words t k =
+abbrev pub words_of_coroutines : ℕ → TaskCoroutines → Pairs
+words_of_coroutines t k =
     (current_cell t, current_of k) ∷ (saved_p t 0, k.root_p) ∷ (saved_pc t 0, k.root_pc)
     ∷ headed_words address_of (coroutine_words t k.active) (first_coroutine t) k.list 0
 
@@ -73,7 +73,7 @@ with_called c p pc k = record (with_saved p pc k) { active = c ∷ k.active }
 
 abbrev pub CallExchange : List ℕ → List ℕ → ℕ → TaskCoroutines → ℕ → ℕ → ℕ → Type 0
 CallExchange s v t k c p pc =
-    Rewrites s v (owned_words t k) (owned_words t (with_called c p pc k))
+    Rewrites s v (words_of_coroutines t k) (words_of_coroutines t (with_called c p pc k))
     ((parent_cell c, as_parent t (current_of k)) ∷ switch_words t k p pc c)
 
 -- the current one waits
@@ -82,7 +82,7 @@ with_waiting p pc k = record (with_saved p pc k) { active = drop 1 k.active }
 
 abbrev pub WaitExchange : List ℕ → List ℕ → ℕ → TaskCoroutines → ℕ → ℕ → Type 0
 WaitExchange s v t k p pc =
-    Rewrites s v (owned_words t k) (owned_words t (with_waiting p pc k))
+    Rewrites s v (words_of_coroutines t k) (words_of_coroutines t (with_waiting p pc k))
     ((parent_cell (current_of k), 0) ∷ switch_words t k p pc (first_active (drop 1 k.active) 0))
 
 -- c takes the place of the current one, unless it is that
@@ -96,7 +96,7 @@ resume_words t k c p pc =
     else (parent_cell (current_of k), 0) ∷ (parent_cell c, first_active (drop 1 k.active) t) ∷ switch_words t k p pc c
 
 abbrev pub ResumeExchange : List ℕ → List ℕ → ℕ → TaskCoroutines → ℕ → ℕ → ℕ → Type 0
-ResumeExchange s v t k c p pc = Rewrites s v (owned_words t k) (owned_words t (with_resumed c p pc k)) (resume_words t k c p pc)
+ResumeExchange s v t k c p pc = Rewrites s v (words_of_coroutines t k) (words_of_coroutines t (with_resumed c p pc k)) (resume_words t k c p pc)
 
 -- the function of the coroutine at c
 abbrev pub function_of : ℕ → List Coroutine → ℕ
@@ -126,8 +126,8 @@ pub record CreateExchange (s v : List ℕ) (t : ℕ) (k : TaskCoroutines) (c ent
   pub taken : List ℕ
   pub block : TakeExchange s taken (highest u)
   pub exchange : Exchange
-      (owned_words t k)
-      (owned_words t (with_list (new_coroutine c entry u ∷ k.list) k))
+      (words_of_coroutines t k)
+      (words_of_coroutines t (with_list (new_coroutine c entry u ∷ k.list) k))
       ((first_coroutine t, first_of address_of k.list 0) ∷ [])
       (created_words t k c entry u)
   pub writes : v ≡ written (created_words t k c entry u) taken
@@ -141,8 +141,8 @@ link_behind t front = last_cell (λ x. coroutine_link x.address) (first_coroutin
 pub record DeleteExchange (s v : List ℕ) (t : ℕ) (k : TaskCoroutines) (front : List Coroutine) (x : Coroutine) (back : List Coroutine) : Type 0 where
   pub unlinked : List ℕ
   pub exchange : Exchange
-      (owned_words t (with_list (front ++ x ∷ back) k))
-      (owned_words t (with_list (front ++ back) k))
+      (words_of_coroutines t (with_list (front ++ x ∷ back) k))
+      (words_of_coroutines t (with_list (front ++ back) k))
       ((link_behind t front, x.address) ∷ coroutine_words t k.active x (first_of address_of back 0))
       ((link_behind t front, first_of address_of back 0) ∷ [])
   pub writes : unlinked ≡ written ((link_behind t front, first_of address_of back 0) ∷ []) s
