@@ -23,7 +23,7 @@ use Rattle.coroutines.specs.CoroutineWords.{coroutine_size, highest_in, parent_i
 use Rattle.coroutines.specs.HeldCoroutines.{Coroutine, HasCoroutineBlock, HeldCoroutines, address_of, coroutine_words, first_active, parent_of}
 use Rattle.coroutines.proofs.CoroutineLists.{Built, built}
 
-parent_of-none : (t : ℕ) (act : List ℕ) (c : ℕ) → has c act ≡ false → parent_of t act c ≡ 0
+pub parent_of-none : (t : ℕ) (act : List ℕ) (c : ℕ) → has c act ≡ false → parent_of t act c ≡ 0
 parent_of-none t [] c none = refl
 parent_of-none t (d ∷ ds) c none = on (eqb c d) refl (parent_of-none t ds c)
   where
@@ -54,7 +54,7 @@ leads-out s t pre (c ∷ cs) at end apart here each = (
         ap (λ b. cond b (first_active (xs ++ c ∷ cs) t) (parent_of t (xs ++ c ∷ cs) c)) test ∙ next xs (λ some. none (omega (arith, some)))
 
 module _ (s : List ℕ) (t : ℕ) (act : List ℕ) where
-  are_coroutines : AreNodes address_of (coroutine_words t act) coroutine_link coroutine_size
+  pub are_coroutines : AreNodes address_of (coroutine_words t act) coroutine_link coroutine_size
   are_coroutines =
       record {
         links = λ x n m. exchange-row x.address 0 n m (x.saved_p ∷ parent_of t act x.address ∷ []) (x.function ∷ x.highest ∷ x.address ∷ x.saved_pc ∷ 0 ∷ 0 ∷ x.function ∷ []);
@@ -80,10 +80,13 @@ module _ (s : List ℕ) (t : ℕ) (act : List ℕ) where
   all-active P cs [] each members = tt
   all-active P cs (c ∷ act) each members = (all-has P c cs each members.0, all-active P cs act each members.1)
 
+  pub held-parents : (cs : List Coroutine) → HeldCoroutines s t cs act → AllByRecursion (λ c. parent_in s c ≡ parent_of t act c) (map address_of cs)
+  held-parents cs h = each-held (λ c. parent_in s c ≡ parent_of t act c) cs 0 h.held.holds.1 h.blocks (λ c block up highest. up)
+
   pub held-coroutines : (cs : List Coroutine) → HeldCoroutines s t cs act → Built s t (map address_of cs) act
   held-coroutines cs h =
       let list : IsListAt s coroutine_link coroutine_size (t + 17) (map address_of cs) = held-list address_of (coroutine_words t act) coroutine_link coroutine_size are_coroutines s (t + 17) cs h.held in
-      let parents : AllByRecursion (λ c. parent_in s c ≡ parent_of t act c) (map address_of cs) = each-held (λ c. parent_in s c ≡ parent_of t act c) cs 0 h.held.holds.1 h.blocks (λ c block parent highest. parent) in
+      let parents : AllByRecursion (λ c. parent_in s c ≡ parent_of t act c) (map address_of cs) = held-parents cs h in
       built s t (map address_of cs) act
       (record {
         tiled = h.tiled;

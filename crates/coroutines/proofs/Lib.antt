@@ -9,3 +9,6 @@ pub mod KeptWords
 pub mod Deletion
 pub mod NewCoroutine
 pub mod HeldCoroutineLists
+pub mod SamePairs
+pub mod SwitchExchanges
+pub mod CreationExchanges

@@ -5,3 +5,4 @@ pub mod Switch
 pub mod Refusals
 pub mod Creation
 pub mod HeldCoroutines
+pub mod CoroutineExchanges

@@ -18,10 +18,10 @@ use Rattle.hunk_loader.specs.ModuleHunks.{hunk_count, lengths_in}
 use Rattle.hunk_loader.specs.Modules.{HasModules, IsModuleAt}
 
 -- a module has its link and its number of hunks at least
-abbrev module_size : ℕ → ℕ
+abbrev pub module_size : ℕ → ℕ
 module_size m = 2
 
-are_modules : AreNodes module_address module_words module_link module_size
+pub are_modules : AreNodes module_address module_words module_link module_size
 are_modules =
     record {
       links = links-first module_address (λ m. row_from m.address 1 (length m.lengths ∷ m.lengths));

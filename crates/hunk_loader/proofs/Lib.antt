@@ -9,3 +9,4 @@ pub mod GlobalLists
 pub mod LoadCall
 pub mod HunkWalk
 pub mod HeldModuleLists
+pub mod ModuleExchanges

@@ -46,7 +46,7 @@ length-image base (h ∷ hs) =
     ∙ ap (λ (n : ℕ). n + length (hunks_image (base + length h.words) hs)) (length-relocated base h.words h.relocations)
     ∙ ap (λ (n : ℕ). length h.words + n) (length-image (base + length h.words) hs) ∙ sym (words_in-cons h hs)
 
-length-lengths : (hunks : List Hunk) → length (lengths_of hunks) ≡ length hunks
+pub length-lengths : (hunks : List Hunk) → length (lengths_of hunks) ≡ length hunks
 length-lengths hunks = length-map hunks (λ (h : Hunk). length h.words)
 
 pub length-row : (link m : ℕ) (hunks : List Hunk) → length (module_row link m hunks) ≡ 1 + last_word hunks

@@ -7,3 +7,4 @@ pub mod LoadOutcome
 pub mod Globals
 pub mod GlobalWords
 pub mod HeldModules
+pub mod ModuleExchanges

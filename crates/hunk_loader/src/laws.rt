@@ -1,8 +1,13 @@
 // Laws of modules.
-ghost use Rattle.std.specs.Prelude.{◌≡◌, List, map, ℕ};
+ghost use Rattle.std.specs.Prelude.{◌≡◌, ◌++◌, ◌∷◌, List, map, ℕ};
 ghost use Rattle.hunk_loader.specs.HeldModules.{HeldModules, LoadedModule, module_address};
+ghost use Rattle.hunk_loader.specs.LoadOutcome.{IsLoaded};
+ghost use Rattle.hunk_loader.specs.ModuleExchanges.{LoadExchange, UnloadExchange};
 ghost use Rattle.hunk_loader.specs.Modules.{HasModules};
-ghost use Rattle.task_block.specs.Lists.{modules_in};
+ghost use Rattle.getvec_chain.specs.Give.{given_store};
+ghost use Rattle.linked_list.specs.Places.{without_node};
+ghost use Rattle.task_block.specs.Lists.{module_link, modules_in};
+ghost use Rattle.task_block.specs.RootWords.{first_module};
 
 /// Where a tiled store holds the words of modules, each in a block of its size, with the head that leads to them, these are
 /// its modules.
@@ -10,4 +15,16 @@ pub fn held_modules_law()
     ensures modules { (s : List ℕ) (ms : List LoadedModule) → HeldModules s ms → HasModules s }
     ensures list { (s : List ℕ) (ms : List LoadedModule) → HeldModules s ms
         → modules_in s ≡ map module_address ms }
+{}
+
+/// What a load and an unload do to the words that modules own, and to those that blocks own.
+pub fn module_words_law()
+    ensures load { (s t text : List ℕ) (ms : List LoadedModule) (m : ℕ)
+        → HeldModules s ms → IsLoaded s t text m
+        → LoadExchange s t text ms m }
+    ensures unload { (s t : List ℕ) (front : List LoadedModule) (m : LoadedModule)
+        (back : List LoadedModule)
+        → HeldModules s (front ++ m ∷ back)
+        → t ≡ given_store (without_node s module_link first_module m.address) m.address
+        → UnloadExchange s t front m back }
 {}

@@ -1,5 +1,5 @@
 -- Tasks whose words a store holds stand in its chain and in its table.
-use Rattle.std.proofs.Common.{◌≡◌, ◌≢◌, ℕ, ◌+◌, ◌<◌, ◌≤◌, List, [], ◌∷◌, ◌++◌, length, map, get_or, cond, eqb, Bool, true, false, Some, refl, sym, ap, ◌∙◌, subst, arith, inl, inr}
+use Rattle.std.proofs.Common.{◌≡◌, ◌≢◌, ℕ, ◌+◌, ◌≤◌, List, [], ◌∷◌, ◌++◌, map, get_or, cond, eqb, Bool, true, false, Some, refl, sym, ap, ◌∙◌, subst, arith, inl, inr}
 use Rattle.std.specs.Prelude.{unwrap_or}
 use Rattle.std.specs.List.{AllByRecursion}
 use Rattle.std.proofs.lemmas.Bool.{cases_eq}
@@ -7,7 +7,7 @@ use Rattle.std.proofs.lemmas.Bool.Decides.{nat_tests}
 use Rattle.linked_list.specs.Count.{IsApart, hit, times, words_of}
 use Rattle.linked_list.specs.Linked.{IsListAt}
 use Rattle.linked_list.proofs.Counts.{hit-other, hit-same, times-append}
-use Rattle.owned_words.specs.LinkedWords.{first_of, headed_words, linked_words}
+use Rattle.owned_words.specs.LinkedWords.{AreHeld, first_of, headed_words, linked_words}
 use Rattle.owned_words.specs.Owned.{Holds, Pairs, owners}
 use Rattle.owned_words.proofs.HeldLists.{held-count, held-list}
 use Rattle.owned_words.proofs.OwnedWords.{Holds-left, Holds-right}
@@ -19,7 +19,7 @@ use Rattle.task_block.proofs.TaskInsertion.{root-hit}
 
 module _ {X : Type 0} (address id : X → ℕ) (words : X → ℕ → Pairs) (kind : AreTasks address id words) where
   -- each task's number is in the store
-  numbers : (s : List ℕ) (xs : List X) (end : ℕ) → Holds s (linked_words address words xs end) → AllByRecursion (λ x. id_in s (address x) ≡ id x) xs
+  pub numbers : (s : List ℕ) (xs : List X) (end : ℕ) → Holds s (linked_words address words xs end) → AllByRecursion (λ x. id_in s (address x) ≡ id x) xs
   numbers s [] end h = tt
   numbers s (x ∷ xs) end h = (
     kind.number s x (first_of address xs end) (Holds-left s (words x (first_of address xs end)) (linked_words address words xs end) h),
@@ -27,7 +27,7 @@ module _ {X : Type 0} (address id : X → ℕ) (words : X → ℕ → Pairs) (ki
   )
 
   -- the store finds by a number what they have
-  task_with-held : (s : List ℕ) (i : ℕ) (xs : List X) → AllByRecursion (λ x. id_in s (address x) ≡ id x) xs → unwrap_or (task_with s i (map address xs)) 0 ≡ address_with address id xs i
+  pub task_with-held : (s : List ℕ) (i : ℕ) (xs : List X) → AllByRecursion (λ x. id_in s (address x) ≡ id x) xs → unwrap_or (task_with s i (map address xs)) 0 ≡ address_with address id xs i
   task_with-held s i [] same = refl
   task_with-held s i (x ∷ xs) same =
       ap (λ z. unwrap_or (cond (eqb z i) (Some (address x)) (task_with s i (map address xs))) 0) same.0 ∙ on (eqb (id x) i) (task_with-held s i xs same.1)
@@ -37,11 +37,19 @@ module _ {X : Type 0} (address id : X → ℕ) (words : X → ℕ → Pairs) (ki
       on true more = refl
       on false more = more
 
+  -- what has a number is found by it where no earlier one has it
+  pub address_with-here : (i : ℕ) (xs : List X) (x : X) (ys : List X) → id x ≡ i → times i (map id xs) ≡ 0 → address_with address id (xs ++ x ∷ ys) i ≡ address x
+  address_with-here i [] x ys e none = (let test : eqb (id x) i ≡ true = grind (arith, nat_tests) in ap (λ b. cond b (address x) (address_with address id ys i)) test)
+  address_with-here i (z ∷ zs) x ys e none =
+      let ne : id z ≢ i = λ k. absurd (omega (arith, none, hit-same i (id z) (sym k))) in
+      let test : eqb (id z) i ≡ false = grind (arith, nat_tests) in
+      ap (λ b. cond b (address z) (address_with address id (zs ++ x ∷ ys) i)) test ∙ address_with-here i zs x ys e (omega (arith, none))
+
   -- each task is found by its number, where the earlier ones have others
   found : (pre xs : List X) → IsApart (map id (pre ++ xs)) → AllByRecursion (λ x. address_with address id (pre ++ xs) (id x) ≡ address x) xs
   found pre [] apart = tt
   found pre (x ∷ xs) apart = (
-    first pre (omega (arith, apart (id x), join pre, hit-same (id x) (id x) refl)),
+    address_with-here (id x) pre x xs refl (omega (arith, apart (id x), join pre, hit-same (id x) (id x) refl)),
     subst (λ z. AllByRecursion (λ y. address_with address id z (id y) ≡ address y) xs) (sym (shift pre)) (found (pre ++ x ∷ []) xs (subst (λ z. IsApart (map id z)) (shift pre) apart)),
   )
     where
@@ -52,13 +60,6 @@ module _ {X : Type 0} (address id : X → ℕ) (words : X → ℕ → Pairs) (ki
       join : (ys : List X) → times (id x) (map id (ys ++ x ∷ xs)) ≡ times (id x) (map id ys) + (hit (id x) (id x) + times (id x) (map id xs))
       join [] = omega arith
       join (y ∷ ys) = omega (arith, join ys)
-
-      first : (ys : List X) → times (id x) (map id ys) ≡ 0 → address_with address id (ys ++ x ∷ xs) (id x) ≡ address x
-      first [] none = (let test : eqb (id x) (id x) ≡ true = grind (arith, nat_tests) in ap (λ b. cond b (address x) (address_with address id xs (id x))) test)
-      first (y ∷ ys) none =
-          let ne : id y ≢ id x = λ e. absurd (omega (arith, none, hit-same (id x) (id y) (sym e))) in
-          let test : eqb (id y) (id x) ≡ false = grind (arith, nat_tests) in
-          ap (λ b. cond b (address y) (address_with address id (ys ++ x ∷ xs) (id x))) test ∙ first ys (omega (arith, none))
 
   in-table : (s : List ℕ) (all xs : List X) → ((i : ℕ) → 1 ≤ i → i ≤ highest_id s → get_or s (table_entry i) 0 ≡ address_with address id all i)
       → AllByRecursion (λ x. (1 ≤ id x) × (id x ≤ highest_id s)) xs → AllByRecursion (λ x. id_in s (address x) ≡ id x) xs
@@ -73,20 +74,24 @@ module _ {X : Type 0} (address id : X → ℕ) (words : X → ℕ → Pairs) (ki
     in-table s all xs table range.1 same.1 there.1,
   )
 
+  -- they are held, with the head of the chain
+  pub tasks-held : (s : List ℕ) (xs : List X) → HeldTasks address id words s xs → AreHeld address words s 101 xs
+  tasks-held s xs h =
+      let owned : (a : ℕ) → owners a (headed_words address words 101 xs 0) ≡ hit a 101 + owners a (linked_words address words xs 0) = λ a. refl in
+      record {
+        holds = h.holds;
+        apart = λ a.
+            elim (cases_eq a 101) [
+              | inl e ↦ omega (arith, owned a, h.apart a, hit-same a 101 e, root-hit a (omega (arith, e)) (omega (arith, e)))
+              | inr ne ↦ omega (arith, owned a, h.apart a, hit-other a 101 ne)
+            ];
+        inside = λ a some. elim (cases_eq a 101) [ inl e ↦ omega (arith, e, h.root) | inr ne ↦ h.inside a (omega (arith, owned a, some, hit-other a 101 ne)) ];
+        some = h.some;
+      }
+
   pub held-tasks : (s : List ℕ) (xs : List X) → HeldTasks address id words s xs → HasTheseTasks s (map address xs)
   held-tasks s xs h =
-      let chain : Pairs = linked_words address words xs 0 in
-      let owned : (a : ℕ) → owners a (headed_words address words 101 xs 0) ≡ hit a 101 + owners a chain = λ a. refl in
-      let apart : (a : ℕ) → owners a (headed_words address words 101 xs 0) ≤ 1 = λ a.
-      elim (cases_eq a 101) [
-        | inl e ↦ omega (arith, h.apart a, hit-same a 101 e, root-hit a (omega (arith, e)) (omega (arith, e)))
-        | inr ne ↦ omega (arith, h.apart a, hit-other a 101 ne)
-      ]
-      in
-      let inside : (a : ℕ) → 0 < owners a (headed_words address words 101 xs 0) → a < length s = λ a some.
-      elim (cases_eq a 101) [ inl e ↦ omega (arith, e, h.root) | inr ne ↦ h.inside a (omega (arith, some, hit-other a 101 ne)) ]
-      in
-      let list : IsListAt s task_link task_size 101 (map address xs) = held-list address words task_link task_size kind.nodes s 101 xs (record { holds = h.holds; apart = apart; inside = inside; some = h.some }) in
+      let list : IsListAt s task_link task_size 101 (map address xs) = held-list address words task_link task_size kind.nodes s 101 xs (tasks-held s xs h) in
       let same : AllByRecursion (λ x. id_in s (address x) ≡ id x) xs = numbers s xs 0 h.holds.1 in
       record {
         tasks =

@@ -4,4 +4,5 @@ pub mod TaskInsertion
 pub mod TaskRemoval
 pub mod NewTask
 pub mod HeldTaskBlocks
+pub mod ChainExchanges
 pub mod TableEntries

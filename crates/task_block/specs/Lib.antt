@@ -5,3 +5,4 @@ pub mod TaskChain
 pub mod Lists
 pub mod Moves
 pub mod HeldTasks
+pub mod ChainWords

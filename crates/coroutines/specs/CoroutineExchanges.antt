@@ -1,0 +1,152 @@
+-- What the calls do to the words that the coroutines of a task own.
+use Rattle.std.specs.Prelude.{◌≡◌, ℕ, ◌+◌, ◌==◌, if◌then◌else◌, List, [], ◌∷◌, ◌++◌, drop, map, slice_index}
+use Rattle.getvec_chain.specs.Block.{used_block}
+use Rattle.getvec_chain.specs.BlockWords.{GiveExchange, TakeExchange}
+use Rattle.getvec_chain.specs.Run.{need}
+use Rattle.getvec_chain.specs.Tiling.{blocks_in}
+use Rattle.linked_list.specs.Chain.{last_cell}
+use Rattle.owned_words.specs.Exchange.{Exchange}
+use Rattle.owned_words.specs.LinkedWords.{first_of, headed_words}
+use Rattle.owned_words.specs.Owned.{Pairs, written}
+use Rattle.task_block.specs.Lists.{coroutine_link, first_coroutine}
+use Rattle.coroutines.specs.CoroutineWords.{as_parent, bottom, current_cell, parent_cell, saved_p, saved_pc}
+use Rattle.coroutines.specs.Creation.{highest}
+use Rattle.coroutines.specs.HeldCoroutines.{Coroutine, HeldCoroutines, address_of, coroutine_words, first_active}
+
+-- the coroutines of a task, which of them are active, from the current one outwards, and the P and the PC of the task's root
+pub record TaskCoroutines : Type 0 where
+  pub list : List Coroutine
+  pub active : List ℕ
+  pub root_p : ℕ
+  pub root_pc : ℕ
+
+-- the current one, or 0 in the root
+abbrev pub current_of : TaskCoroutines → ℕ
+current_of k = first_active k.active 0
+
+-- the words 17 to 20 of the task at t, and the words of its coroutines
+abbrev pub words_of_coroutines : ℕ → TaskCoroutines → Pairs
+words_of_coroutines t k =
+    (current_cell t, current_of k) ∷ (saved_p t 0, k.root_p) ∷ (saved_pc t 0, k.root_pc)
+    ∷ headed_words address_of (coroutine_words t k.active) (first_coroutine t) k.list 0
+
+-- the store holds them
+pub record HoldsCoroutines (s : List ℕ) (t : ℕ) (k : TaskCoroutines) : Type 0 where
+  pub coroutines : HeldCoroutines s t k.list k.active
+  pub root_p : slice_index s (saved_p t 0) ≡ k.root_p
+  pub root_pc : slice_index s (saved_pc t 0) ≡ k.root_pc
+
+-- ---- words that are written over
+
+-- what stands at the addresses of these pairs
+abbrev pub standing : List ℕ → Pairs → Pairs
+standing s [] = []
+standing s (e ∷ es) = (e.0, slice_index s e.0) ∷ standing s es
+
+-- the words that stand there are exchanged for these new ones, which are written
+pub record Rewrites (s v : List ℕ) (before after new : Pairs) : Type 0 where
+  pub exchange : Exchange before after (standing s new) new
+  pub writes : v ≡ written new s
+
+-- ---- switches
+
+-- P and PC are saved in the coroutine at c
+abbrev pub with_frame : ℕ → ℕ → ℕ → Coroutine → Coroutine
+with_frame c p pc x = record x { saved_p = if x.address == c then p else x.saved_p; saved_pc = if x.address == c then pc else x.saved_pc }
+
+-- they are saved in the current one, or as the root's
+abbrev pub with_saved : ℕ → ℕ → TaskCoroutines → TaskCoroutines
+with_saved p pc k =
+    record k {
+      list = map (with_frame (current_of k) p pc) k.list;
+      root_p = if current_of k == 0 then p else k.root_p;
+      root_pc = if current_of k == 0 then pc else k.root_pc;
+    }
+
+-- the words for that, where c is the next current one
+abbrev pub switch_words : ℕ → TaskCoroutines → ℕ → ℕ → ℕ → Pairs
+switch_words t k p pc c = (current_cell t, c) ∷ (saved_pc t (current_of k), pc) ∷ (saved_p t (current_of k), p) ∷ []
+
+-- c is called
+abbrev pub with_called : ℕ → ℕ → ℕ → TaskCoroutines → TaskCoroutines
+with_called c p pc k = record (with_saved p pc k) { active = c ∷ k.active }
+
+abbrev pub CallExchange : List ℕ → List ℕ → ℕ → TaskCoroutines → ℕ → ℕ → ℕ → Type 0
+CallExchange s v t k c p pc =
+    Rewrites s v (words_of_coroutines t k) (words_of_coroutines t (with_called c p pc k))
+    ((parent_cell c, as_parent t (current_of k)) ∷ switch_words t k p pc c)
+
+-- the current one waits
+abbrev pub with_waiting : ℕ → ℕ → TaskCoroutines → TaskCoroutines
+with_waiting p pc k = record (with_saved p pc k) { active = drop 1 k.active }
+
+abbrev pub WaitExchange : List ℕ → List ℕ → ℕ → TaskCoroutines → ℕ → ℕ → Type 0
+WaitExchange s v t k p pc =
+    Rewrites s v (words_of_coroutines t k) (words_of_coroutines t (with_waiting p pc k))
+    ((parent_cell (current_of k), 0) ∷ switch_words t k p pc (first_active (drop 1 k.active) 0))
+
+-- c takes the place of the current one, unless it is that
+abbrev pub with_resumed : ℕ → ℕ → ℕ → TaskCoroutines → TaskCoroutines
+with_resumed c p pc k = if current_of k == c then k else record (with_saved p pc k) { active = c ∷ drop 1 k.active }
+
+abbrev pub resume_words : ℕ → TaskCoroutines → ℕ → ℕ → ℕ → Pairs
+resume_words t k c p pc =
+    if current_of k == c
+    then []
+    else (parent_cell (current_of k), 0) ∷ (parent_cell c, first_active (drop 1 k.active) t) ∷ switch_words t k p pc c
+
+abbrev pub ResumeExchange : List ℕ → List ℕ → ℕ → TaskCoroutines → ℕ → ℕ → ℕ → Type 0
+ResumeExchange s v t k c p pc = Rewrites s v (words_of_coroutines t k) (words_of_coroutines t (with_resumed c p pc k)) (resume_words t k c p pc)
+
+-- the function of the coroutine at c
+abbrev pub function_of : ℕ → List Coroutine → ℕ
+function_of c [] = 0
+function_of c (x ∷ xs) = if x.address == c then x.function else function_of c xs
+
+-- the function of the current one has returned
+abbrev pub EndExchange : List ℕ → List ℕ → ℕ → TaskCoroutines → Type 0
+EndExchange s v t k = WaitExchange s v t k (bottom (current_of k)) (function_of (current_of k) k.list)
+
+-- ---- coroutines come and go
+
+-- the task with these coroutines
+abbrev pub with_list : List Coroutine → TaskCoroutines → TaskCoroutines
+with_list cs k = record k { list = cs }
+
+-- the coroutine that is made at c
+abbrev pub new_coroutine : ℕ → ℕ → ℕ → Coroutine
+new_coroutine c entry u = record { address = c; function = entry; highest = highest u; saved_p = bottom c; saved_pc = entry }
+
+-- the head that leads to it, and its words
+abbrev pub created_words : ℕ → TaskCoroutines → ℕ → ℕ → ℕ → Pairs
+created_words t k c entry u = (first_coroutine t, c) ∷ coroutine_words t k.active (new_coroutine c entry u) (first_of address_of k.list 0)
+
+-- A block is taken, and then the head is exchanged for these words, which are all written.
+pub record CreateExchange (s v : List ℕ) (t : ℕ) (k : TaskCoroutines) (c entry u : ℕ) : Type 0 where
+  pub taken : List ℕ
+  pub block : TakeExchange s taken (highest u)
+  pub exchange : Exchange
+      (words_of_coroutines t k)
+      (words_of_coroutines t (with_list (new_coroutine c entry u ∷ k.list) k))
+      ((first_coroutine t, first_of address_of k.list 0) ∷ [])
+      (created_words t k c entry u)
+  pub writes : v ≡ written (created_words t k c entry u) taken
+
+-- the word that leads on behind these coroutines
+abbrev pub link_behind : ℕ → List Coroutine → ℕ
+link_behind t front = last_cell (λ x. coroutine_link x.address) (first_coroutine t) front
+
+-- The coroutine x goes out from between two parts of the list: the link to it and its words are exchanged for the link that
+-- leads past it, which is written, and then its block is given back.
+pub record DeleteExchange (s v : List ℕ) (t : ℕ) (k : TaskCoroutines) (front : List Coroutine) (x : Coroutine) (back : List Coroutine) : Type 0 where
+  pub unlinked : List ℕ
+  pub exchange : Exchange
+      (words_of_coroutines t (with_list (front ++ x ∷ back) k))
+      (words_of_coroutines t (with_list (front ++ back) k))
+      ((link_behind t front, x.address) ∷ coroutine_words t k.active x (first_of address_of back 0))
+      ((link_behind t front, first_of address_of back 0) ∷ [])
+  pub writes : unlinked ≡ written ((link_behind t front, first_of address_of back 0) ∷ []) s
+  pub same_blocks : blocks_in unlinked ≡ blocks_in s
+  pub start : ℕ
+  pub here : x.address ≡ start + 1
+  pub block : GiveExchange unlinked v (used_block start (need x.highest))

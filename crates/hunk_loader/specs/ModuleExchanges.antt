@@ -1,0 +1,70 @@
+-- What the calls do to the words that modules own.
+use Rattle.std.specs.Prelude.{◌≡◌, ℕ, ◌+◌, List, [], ◌∷◌, ◌++◌, length, sum}
+use Rattle.getvec_chain.specs.declared.pieces.Block.{Block}
+use Rattle.getvec_chain.specs.BlockWords.{GiveExchange, TakeExchange}
+use Rattle.getvec_chain.specs.Run.{need}
+use Rattle.getvec_chain.specs.Tiling.{blocks_in}
+use Rattle.hunk_text.specs.ModuleForm.{IsModule}
+use Rattle.hunk_text.specs.declared.modules.Hunk.{Hunk}
+use Rattle.hunk_text.specs.declared.modules.Module.{Module}
+use Rattle.linked_list.specs.Chain.{last_cell}
+use Rattle.owned_words.specs.Exchange.{Exchange}
+use Rattle.owned_words.specs.LinkedWords.{first_of, headed_words}
+use Rattle.owned_words.specs.Owned.{Pairs, row_from, written}
+use Rattle.task_block.specs.RootWords.{first_module}
+use Rattle.hunk_loader.specs.HeldModules.{LoadedModule, module_address, module_words}
+use Rattle.hunk_loader.specs.ModuleRow.{hunks_image, last_word, lengths_of}
+
+-- the words of modules, from the head on
+abbrev pub modules_words : List LoadedModule → Pairs
+modules_words ms = headed_words module_address module_words first_module ms 0
+
+-- the first of these modules, or 0
+abbrev pub first_of_modules : List LoadedModule → ℕ
+first_of_modules ms = first_of module_address ms 0
+
+-- the module of these hunks at an address
+abbrev pub loaded_module : ℕ → List Hunk → LoadedModule
+loaded_module m hunks = record { address = m; lengths = lengths_of hunks }
+
+-- the head that leads to it, and its words before those of the hunks
+abbrev pub loaded_words : ℕ → List Hunk → List LoadedModule → Pairs
+loaded_words m hunks ms = (first_module, m) ∷ module_words (loaded_module m hunks) (first_of_modules ms)
+
+-- the relocated words of the hunks, which nobody owns
+abbrev pub hunk_words : ℕ → List Hunk → Pairs
+hunk_words m hunks = row_from m (2 + length hunks) (hunks_image (m + 2 + length hunks) hunks)
+
+-- A block is taken for the module of the text, and then the head is exchanged for these words. Written are they and the words
+-- of the hunks.
+pub record LoadExchange (s t text : List ℕ) (ms : List LoadedModule) (m : ℕ) : Type 0 where
+  pub found : Module
+  pub is : IsModule text found
+  pub taken : List ℕ
+  pub block : TakeExchange s taken (last_word found.hunks)
+  pub exchange : Exchange
+      (modules_words ms)
+      (modules_words (loaded_module m found.hunks ∷ ms))
+      ((first_module, first_of_modules ms) ∷ [])
+      (loaded_words m found.hunks ms)
+  pub writes : t ≡ written (loaded_words m found.hunks ms ++ hunk_words m found.hunks) taken
+
+-- the word that leads on behind these modules
+abbrev pub link_behind : List LoadedModule → ℕ
+link_behind front = last_cell module_address first_module front
+
+-- The module m goes out from between two parts of the list: the link to it and its words are exchanged for the link that leads
+-- past it, which is written, and then its block is given back.
+pub record UnloadExchange (s t : List ℕ) (front : List LoadedModule) (m : LoadedModule) (back : List LoadedModule) : Type 0 where
+  pub unlinked : List ℕ
+  pub exchange : Exchange
+      (modules_words (front ++ m ∷ back))
+      (modules_words (front ++ back))
+      ((link_behind front, m.address) ∷ module_words m (first_of_modules back))
+      ((link_behind front, first_of_modules back) ∷ [])
+  pub writes : unlinked ≡ written ((link_behind front, first_of_modules back) ∷ []) s
+  pub same_blocks : blocks_in unlinked ≡ blocks_in s
+  pub block : Block
+  pub here : m.address ≡ block.start + 1
+  pub size : block.size ≡ need (1 + length m.lengths + sum m.lengths)
+  pub give : GiveExchange unlinked t block
