@@ -1,0 +1,4 @@
+pub mod Answer
+pub mod Line
+pub mod Refusal
+pub mod Template

@@ -1,0 +1,8 @@
+// Command lines, read by their templates.
+#![tactic(auto)]
+
+pub mod args;
+pub mod entries;
+pub mod items;
+
+pub use args::{Arg, read_args};
