@@ -1,11 +1,13 @@
 -- What a line gives the entries of a template.
-use Rattle.std.specs.Prelude.{ℕ, ◌&&◌, ◌||◌, not, ◌==◌, if◌then◌else◌, Bool, true, false, bool_eq, List, [], ◌∷◌, slice_range, slice_set, slice_index_or, replicate, Option, Some, None, Result, Ok, Err}
+use Rattle.std.specs.Prelude.{ℕ, ◌<◌, ◌&&◌, ◌||◌, not, if◌then◌else◌, Bool, true, false, List, [], ◌∷◌, slice_range, slice_set, slice_index_or, replicate, Option, Some, None, Result, Ok, Err}
 use Rattle.std.specs.List.{list_any, list_all, position, zip}
 use Rattle.rdargs.specs.declared.args.Arg.{Arg}
 use Rattle.rdargs.specs.declared.args.Arg.TheVariants.{Unset, Switch, Span}
 use Rattle.rdargs.specs.declared.items.Item.{Item}
 use Rattle.rdargs.specs.declared.items.Form.{Form}
 use Rattle.rdargs.specs.declared.items.Form.TheVariants.{Word, Quoted, Open}
+use Rattle.rdargs.specs.declared.entries.Role.{Role}
+use Rattle.rdargs.specs.declared.entries.Role.TheVariants.{SwitchName, EntryName, NoName}
 use Rattle.rdargs.specs.Line.{items}
 use Rattle.rdargs.specs.Template.{entries, has_name, is_keyword, is_required, is_switch, is_template}
 
@@ -23,17 +25,31 @@ is_word item = elim item.form [ Word ↦ true | Open ↦ false | Quoted ↦ fals
 abbrev pub span : Item → Arg
 span item = Span item.from item.to
 
--- the entry that has this word among its names, if it is a switch, or if it is none
-abbrev pub named : Bool → List ℕ → List (List ℕ) → Option ℕ
-named switch word all = position (λ entry. has_name word entry && bool_eq (is_switch entry) switch) all
+-- the switch, and the other entry, that has this word among its names
+abbrev pub switch_named : List ℕ → List (List ℕ) → Option ℕ
+switch_named word all = position (λ entry. has_name word entry && is_switch entry) all
+
+abbrev pub other_named : List ℕ → List (List ℕ) → Option ℕ
+other_named word all = position (λ entry. has_name word entry && not (is_switch entry)) all
+
+-- what a word is: the name of a switch, the name of another entry, or no name
+abbrev pub word_role : List ℕ → List (List ℕ) → Role
+word_role word all =
+    elim (switch_named word all) [ Some k ↦ SwitchName k | None ↦ elim (other_named word all) [ Some k ↦ EntryName k | None ↦ NoName ] ]
 
 -- the same of an item, which is no name where it is quoted
-abbrev pub named_by : Bool → List ℕ → List (List ℕ) → Item → Option ℕ
-named_by switch line all item = if is_word item then named switch (slice_range line item.from item.to) all else None
+abbrev pub role_of : List ℕ → List (List ℕ) → Item → Role
+role_of line all item = if is_word item then word_role (slice_range line item.from item.to) all else NoName
+
+-- the entry that it names is one of the first so many
+abbrev pub IsBelow : ℕ → Role → Type 0
+IsBelow n (SwitchName k) = k < n
+IsBelow n (EntryName k) = k < n
+IsBelow n NoName = Unit {0}
 
 -- whether a value that stands alone may be this entry's
 abbrev pub is_free : List ℕ × Arg → Bool
-is_free (entry, arg) = is_unset arg && not (is_keyword entry || is_switch entry)
+is_free pair = is_unset pair.1 && not (is_keyword pair.0 || is_switch pair.0)
 
 -- the entries after an item, and the entry whose name the item is, if that waits for its value
 abbrev pub Step : Type 0
@@ -48,14 +64,16 @@ waits args k = if is_unset (slice_index_or args k Unset) then Ok (args, Some k) 
 abbrev pub alone : List (List ℕ) → List Arg → Item → Step
 alone all args item = elim (position is_free (zip all args)) [ None ↦ Err 52 | Some k ↦ Ok (slice_set args k (span item), None) ]
 
--- an item that no name waits for is a switch's name, another entry's name, or a value that stands alone
+-- what an item of this role gives, where no name waits for it
+abbrev pub act : List (List ℕ) → List Arg → Item → Role → Step
+act all args item (SwitchName k) = switched args k
+act all args item (EntryName k) = waits args k
+act all args item NoName = alone all args item
+
+-- an item is the value of the name before it, where that waits for one
 abbrev pub step : List (List ℕ) → List ℕ → List Arg → Option ℕ → Item → Step
 step all line args (Some k) item = Ok (slice_set args k (span item), None)
-step all line args None item =
-    elim (named_by true line all item) [
-      Some k ↦ switched args k
-    | None ↦ elim (named_by false line all item) [ Some k ↦ waits args k | None ↦ alone all args item ]
-    ]
+step all line args None item = act all args item (role_of line all item)
 
 -- what the items give, one after another; a name at the end lacks its value
 abbrev pub filled : List (List ℕ) → List ℕ → List Arg → Option ℕ → List Item → Result (List Arg) ℕ
@@ -64,9 +82,12 @@ filled all line args (Some k) [] = Err 53
 filled all line args name (item ∷ items) =
     elim (step all line args name item) [ Ok next ↦ filled all line next.0 next.1 items | Err code ↦ Err code ]
 
--- no required entry is unset
+-- a required entry that is unset, and that there is none
+abbrev pub lacks : List ℕ × Arg → Bool
+lacks pair = is_required pair.0 && is_unset pair.1
+
 abbrev pub is_whole : List (List ℕ) → List Arg → Bool
-is_whole all args = list_all (λ pair. not (is_required pair.0 && is_unset pair.1)) (zip all args)
+is_whole all args = list_all (λ pair. not (lacks pair)) (zip all args)
 
 abbrev pub whole : List (List ℕ) → Result (List Arg) ℕ → Result (List Arg) ℕ
 whole all (Ok args) = if is_whole all args then Ok args else Err 51

@@ -10,9 +10,9 @@ item form from to = record { form = form; from = from; to = to }
 
 -- where a byte of a line stands: between items, in a word that began at a place, or in quotes
 pub data Place : Type 0 where
-  pub between : Place
-  pub in_word : ℕ → Place
-  pub in_quotes : ℕ → Place
+  between : Place
+  in_word : ℕ → Place
+  in_quotes : ℕ → Place
 
 -- The items of the bytes from a place of the line on, whose number is at. Spaces separate items. A `"` opens quotes at the front of
 -- an item, and is a byte as others inside a word. The next `"` closes them, and another item may follow directly.

@@ -45,8 +45,12 @@ abbrev pub stands_once : List (List ℕ) → List ℕ → List ℕ → Bool
 stands_once all entry name =
     (count_by (λ other. str_eq_ignore_ascii_case other name) (names entry) == 1) && (count_by (has_name name) all == 1)
 
+-- an entry's names are names, and stand nowhere else
+abbrev pub are_names : List (List ℕ) → List ℕ → Bool
+are_names all entry = list_all (λ name. is_name name && stands_once all entry name) (names entry)
+
 abbrev pub is_entry : List (List ℕ) → List ℕ → Bool
-is_entry all entry = are_qualifiers (qualifiers entry) && list_all (λ name. is_name name && stands_once all entry name) (names entry)
+is_entry all entry = are_qualifiers (qualifiers entry) && are_names all entry
 
 -- at most 8 entries
 abbrev pub is_template : List (List ℕ) → Bool

@@ -1,12 +1,13 @@
 // What a command line gives the entries of a template.
-ghost use Rattle.std.specs.Prelude.{◌≡◌, ◌==◌, ◌&&◌, ◌||◌, ◌+◌, ◌≤◌, ◌<◌, ◌^◌, length, not, IfSome, Ok, Err, Some, None, replicate, MatchResult, OnErr, slice_set, slice_range, IfOk};
+ghost use Rattle.std.specs.Prelude.{◌≡◌, ◌==◌, ◌&&◌, ◌||◌, ◌+◌, ◌≤◌, ◌<◌, ◌^◌, length, not, IfSome, Ok, Err, Some, None, true, false, replicate, MatchResult, OnErr, slice_set, slice_range, IfOk};
 ghost use Rattle.std.specs.List.{position, zip};
-ghost use Rattle.rdargs.specs.Answer.{alone, answer, filled, is_free, is_unset, is_whole, named_by, span, step, switched, waits};
+ghost use Rattle.rdargs.specs.declared.args.Arg.TheVariants.{Unset};
+ghost use Rattle.rdargs.specs.Answer.{IsBelow, answer, filled, is_free, is_unset, is_whole, role_of, span, step};
 ghost use Rattle.rdargs.specs.Line.{items};
 ghost use Rattle.rdargs.specs.Refusal.{code_of};
 ghost use Rattle.rdargs.specs.Template.{entries, is_template};
 
-use crate::entries::{entry_named, is_keyword, is_required, is_switch, is_template};
+use crate::entries::{Role, is_keyword, is_required, is_switch, is_template, word_role};
 use crate::items::{Form, Item, has_open_quote, next_item};
 
 /// What a line gives an entry.
@@ -111,29 +112,33 @@ fn read_item(template: &[u8], line: &[u8], name: Option<usize>, item: Item, out:
         out[k] = span(item);
         return Ok(None);
     }
-    if let Some(k) = entry_of(template, true, line, item) {
-        check_unset(out[k])?;
-        out[k] = Arg::Switch;
-        return Ok(None);
+    match role_of(template, line, item) {
+        Role::SwitchName(k) => {
+            check_unset(out[k])?;
+            out[k] = Arg::Switch;
+            Ok(None)
+        }
+        Role::EntryName(k) => {
+            check_unset(out[k])?;
+            Ok(Some(k))
+        }
+        Role::NoName => {
+            let k = free_entry(template, out).ok_or(Refusal::Surplus)?;
+            out[k] = span(item);
+            Ok(None)
+        }
     }
-    if let Some(k) = entry_of(template, false, line, item) {
-        check_unset(out[k])?;
-        return Ok(Some(k));
-    }
-    let k = free_entry(template, out).ok_or(Refusal::Surplus)?;
-    out[k] = span(item);
-    Ok(None)
 }
 
-// The entry that an item names, of those that are switches, or of those that are none.
-fn entry_of(template: &[u8], is_switch_name: bool, line: &[u8], item: Item) -> Option<usize>
+// What an item is: a quoted one is no name.
+fn role_of(template: &[u8], line: &[u8], item: Item) -> Role
     requires { (item.from ≤ item.to) × (item.to ≤ length line.now) }
-    ensures value { result ≡ named_by is_switch_name line.now (entries template.now) item }
-    ensures small { IfSome result (λ k. k < length (entries template.now)) }
+    ensures value { result ≡ role_of line.now (entries template.now) item }
+    ensures below { IsBelow (length (entries template.now)) result }
 {
     match item.form {
-        Form::Word => entry_named(template, is_switch_name, &line[item.from..item.to]),
-        Form::Quoted | Form::Open => None,
+        Form::Word => word_role(template, &line[item.from..item.to]),
+        Form::Quoted | Form::Open => Role::NoName,
     }
 }
 
@@ -157,7 +162,7 @@ fn free_entry(template: &[u8], out: &[Arg; 8]) -> Option<usize>
     template
         .split(|c| *c == b',')
         .zip(out.iter())
-        .position(|(entry, arg)| is_unset(*arg) && !is_keyword(entry) && !is_switch(entry))
+        .position(|(entry, arg)| is_unset(*arg) && !(is_keyword(entry) || is_switch(entry)))
 }
 
 // Whether no required entry is unset.

@@ -1,36 +1,45 @@
 // Templates: entries between commas, each with its names and its qualifiers.
-ghost use Rattle.std.specs.Prelude.{◌≡◌, ◌==◌, ◌&&◌, ◌||◌, ◌≤◌, ◌<◌, length, map, not, IfSome, bool_eq};
-ghost use Rattle.std.specs.List.{count_by, position_or_len, before_first};
+ghost use Rattle.std.specs.Prelude.{◌≡◌, ◌==◌, ◌&&◌, ◌||◌, ◌≤◌, ◌<◌, length, map, not, IfSome};
+ghost use Rattle.std.specs.List.{count_by, list_all, before_first};
+ghost use Rattle.std.specs.Char.{is_ascii_alphanumeric};
 ghost use Rattle.std.specs.Str.{str_eq_ignore_ascii_case};
-ghost use Rattle.rdargs.specs.Template.{entries, names, qualifiers, are_qualifiers, is_name, has_name, stands_once, is_entry, is_template, is_switch, is_keyword, is_required};
-ghost use Rattle.rdargs.specs.Answer.{named};
+ghost use Rattle.rdargs.specs.Template.{entries, names, qualifiers, are_names, are_qualifiers, is_name, has_name, stands_once, is_entry, is_template, is_switch, is_keyword, is_required};
+ghost use Rattle.rdargs.specs.Answer.{IsBelow, other_named, switch_named, word_role};
+
+use crate::cuts::length_before;
 
 /// The most entries of a template.
 pub const MOST_ENTRIES: usize = 8;
+
+/// What an item is by its template.
+#[derive(Clone, Copy, Debug)]
+pub enum Role {
+    /// A name of the switch with this number.
+    SwitchName(usize),
+    /// A name of the entry with this number, which is no switch.
+    EntryName(usize),
+    NoName,
+}
 
 /// Whether the text is a template of at most `MOST_ENTRIES` entries.
 pub fn is_template(template: &[u8]) -> bool
     ensures { result ≡ is_template (entries template.now) }
 {
-    if template.is_empty() {
-        return true;
-    }
-    if template.split(|c| *c == b',').count() > MOST_ENTRIES {
-        return false;
-    }
-    template.split(|c| *c == b',').all(|entry| is_entry(template, entry))
+    entry_count(template) <= MOST_ENTRIES && are_entries(template)
 }
 
-/// The first entry that has this name, of those that are switches, or of those that are none.
-pub fn entry_named(template: &[u8], is_switch_name: bool, word: &[u8]) -> Option<usize>
-    ensures value { result ≡ named is_switch_name word.now (entries template.now) }
+/// What a word is by its template: a name of the entry with this number, or no name.
+pub fn word_role(template: &[u8], word: &[u8]) -> Role
+    ensures value { result ≡ word_role word.now (entries template.now) }
+    ensures below { IsBelow (length (entries template.now)) result }
 {
-    if template.is_empty() {
-        return None;
+    if let Some(k) = switch_named(template, word) {
+        return Role::SwitchName(k);
     }
-    template
-        .split(|c| *c == b',')
-        .position(|entry| has_name(word, entry) && is_switch(entry) == is_switch_name)
+    match other_named(template, word) {
+        Some(k) => Role::EntryName(k),
+        None => Role::NoName,
+    }
 }
 
 /// Whether the entry needs a value.
@@ -54,38 +63,77 @@ pub fn is_switch(entry: &[u8]) -> bool
     qualifiers(entry).contains(&b'S')
 }
 
+fn entry_count(template: &[u8]) -> usize
+    ensures { result ≡ length (entries template.now) }
+{
+    if template.is_empty() {
+        return 0;
+    }
+    template.split(|c| *c == b',').count()
+}
+
+fn are_entries(template: &[u8]) -> bool
+    ensures { result ≡ list_all (is_entry (entries template.now)) (entries template.now) }
+{
+    if template.is_empty() {
+        return true;
+    }
+    template.split(|c| *c == b',').all(|entry| is_entry(template, entry))
+}
+
 // Whether this is an entry, none of whose names stands anywhere else in the template.
 fn is_entry(template: &[u8], entry: &[u8]) -> bool
     ensures { result ≡ is_entry (entries template.now) entry.now }
 {
-    if !are_qualifiers(qualifiers(entry)) {
-        return false;
-    }
+    are_qualifiers(qualifiers(entry)) && are_names(template, entry)
+}
+
+fn are_names(template: &[u8], entry: &[u8]) -> bool
+    ensures { result ≡ are_names (entries template.now) entry.now }
+{
     names(entry)
         .split(|c| *c == b'=')
         .all(|name| is_name(name) && stands_once(template, entry, name))
+}
+
+// The switch that has this name.
+fn switch_named(template: &[u8], word: &[u8]) -> Option<usize>
+    ensures value { result ≡ switch_named word.now (entries template.now) }
+    ensures inside { IfSome result (λ k. k < length (entries template.now)) }
+{
+    if template.is_empty() {
+        return None;
+    }
+    template
+        .split(|c| *c == b',')
+        .position(|entry| has_name(word, entry) && is_switch(entry))
+}
+
+// The entry that has this name and is no switch.
+fn other_named(template: &[u8], word: &[u8]) -> Option<usize>
+    ensures value { result ≡ other_named word.now (entries template.now) }
+    ensures inside { IfSome result (λ k. k < length (entries template.now)) }
+{
+    if template.is_empty() {
+        return None;
+    }
+    template
+        .split(|c| *c == b',')
+        .position(|entry| has_name(word, entry) && !is_switch(entry))
 }
 
 // The text of an entry's names.
 fn names(entry: &[u8]) -> &[u8]
     ensures { result.now ≡ before_first (λ b. b == 47) entry.now }
 {
-    &entry[..slash(entry)]
+    &entry[..length_before(b'/', entry)]
 }
 
 // The text of an entry's qualifiers.
 fn qualifiers(entry: &[u8]) -> &[u8]
     ensures { result.now ≡ qualifiers entry.now }
 {
-    &entry[slash(entry)..]
-}
-
-// Where an entry's qualifiers begin.
-fn slash(entry: &[u8]) -> usize
-    ensures value { result ≡ position_or_len (λ b. b == 47) entry.now }
-    ensures inside { result ≤ length entry.now }
-{
-    entry.iter().position(|c| *c == b'/').unwrap_or(entry.len())
+    &entry[length_before(b'/', entry)..]
 }
 
 fn are_qualifiers(text: &[u8]) -> bool
@@ -97,7 +145,13 @@ fn are_qualifiers(text: &[u8]) -> bool
 fn is_name(name: &[u8]) -> bool
     ensures { result ≡ is_name name.now }
 {
-    !name.is_empty() && name.iter().all(|c| c.is_ascii_alphanumeric())
+    !name.is_empty() && are_letters_and_digits(name)
+}
+
+fn are_letters_and_digits(name: &[u8]) -> bool
+    ensures { result ≡ list_all is_ascii_alphanumeric name.now }
+{
+    name.iter().all(|c| c.is_ascii_alphanumeric())
 }
 
 fn has_name(word: &[u8], entry: &[u8]) -> bool
@@ -105,7 +159,7 @@ fn has_name(word: &[u8], entry: &[u8]) -> bool
 {
     names(entry)
         .split(|c| *c == b'=')
-        .any(|name| name.eq_ignore_ascii_case(word))
+        .any(|name| is_same(name, word))
 }
 
 // Whether a name stands once among its entry's, and in no other entry.
@@ -121,7 +175,7 @@ fn times_in_entry(entry: &[u8], name: &[u8]) -> usize
 {
     names(entry)
         .split(|c| *c == b'=')
-        .filter(|other| other.eq_ignore_ascii_case(name))
+        .filter(|other| is_same(other, name))
         .count()
 }
 
@@ -136,4 +190,12 @@ fn entries_with(template: &[u8], name: &[u8]) -> usize
         .split(|c| *c == b',')
         .filter(|entry| has_name(name, entry))
         .count()
+}
+
+// Whether two names are one, case ignored.
+#[tactic(auto, using(crate::proofs::Chains::sameness))]
+fn is_same(a: &[u8], b: &[u8]) -> bool
+    ensures { result ≡ str_eq_ignore_ascii_case a.now b.now }
+{
+    a.eq_ignore_ascii_case(b)
 }

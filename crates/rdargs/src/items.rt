@@ -5,6 +5,8 @@ ghost use Rattle.rdargs.specs.Line.{items, items_from, items_in};
 ghost use Rattle.rdargs.specs.Line.Place.{in_quotes, in_word};
 ghost use Rattle.rdargs.specs.Answer.{is_open};
 
+use crate::cuts::{length_before, length_of_spaces};
+
 /// How an item stands in its line.
 #[derive(Clone, Copy, Debug, PartialEq, Eq)]
 pub enum Form {
@@ -32,8 +34,11 @@ pub fn next_item(line: &[u8], at: usize) -> Option<(Item, usize)>
     ensures inside { IfSome result (λ x. (x.0.from ≤ x.0.to) × (x.0.to ≤ x.1)) }
     ensures goes_on { IfSome result (λ x. (at < x.1) × (x.1 ≤ length line.now)) }
 {
-    let gap = line[at..].iter().position(|c| *c != b' ')?;
-    let from = at + gap;
+    let rest = &line[at..];
+    let from = at + length_of_spaces(rest);
+    if from == line.len() {
+        return None;
+    }
     if line[from] == b'"' {
         Some(quoted_item(line, from + 1))
     } else {
@@ -63,15 +68,12 @@ fn quoted_item(line: &[u8], from: usize) -> (Item, usize)
     ensures inside { (result.0.from ≤ result.0.to) × (result.0.to ≤ result.1) }
     ensures goes_on { (from ≤ result.1) × (result.1 ≤ length line.now) }
 {
-    match line[from..].iter().position(|c| *c == b'"') {
-        Some(length) => {
-            let to = from + length;
-            (Item { form: Form::Quoted, from, to }, to + 1)
-        }
-        None => {
-            let to = line.len();
-            (Item { form: Form::Open, from, to }, to)
-        }
+    let rest = &line[from..];
+    let to = from + length_before(b'"', rest);
+    if to == line.len() {
+        (Item { form: Form::Open, from, to }, to)
+    } else {
+        (Item { form: Form::Quoted, from, to }, to + 1)
     }
 }
 
@@ -84,7 +86,6 @@ fn word(line: &[u8], from: usize) -> (Item, usize)
     ensures goes_on { (from < result.1) × (result.1 ≤ length line.now) }
 {
     let rest = &line[from + 1..];
-    let length = rest.iter().position(|c| *c == b' ').unwrap_or(rest.len());
-    let to = from + 1 + length;
+    let to = from + 1 + length_before(b' ', rest);
     (Item { form: Form::Word, from, to }, to)
 }

@@ -2,6 +2,7 @@
 #![tactic(auto)]
 
 pub mod args;
+pub mod cuts;
 pub mod entries;
 pub mod items;
 
