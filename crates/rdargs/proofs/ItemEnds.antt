@@ -77,7 +77,6 @@ in_quotes-open from at (c ∷ cs) h = let more = in_quotes-open from (at + 1) cs
 
 -- the same at a place of a line
 module _ (line : List ℕ) (from to : ℕ) (inside : from ≤ length line) where
-
   pub open-at : to ≡ from + position_or_len (λ c. c == 34) (drop from line) → to ≡ length line →
       items_in (in_quotes from) from (drop from line) ≡ item Open from to ∷ items_from to (drop to line)
   open-at e all =
@@ -105,7 +104,6 @@ module _ (line : List ℕ) (from to : ℕ) (inside : from ≤ length line) where
 
 -- where an item begins
 module _ (line : List ℕ) (at : ℕ) (inside : at < length line) where
-
   here : drop at line ≡ get_or line at 0 ∷ drop (at + 1) line
   here = rw add-one (drop-cons line at 0 inside)
 

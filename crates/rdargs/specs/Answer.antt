@@ -61,26 +61,31 @@ switched args k = if is_unset (slice_index_or args k Unset) then Ok (slice_set a
 abbrev pub waits : List Arg → ℕ → Step
 waits args k = if is_unset (slice_index_or args k Unset) then Ok (args, Some k) else Err 53
 
-abbrev pub alone : List (List ℕ) → List Arg → Item → Step
-alone all args item = elim (position is_free (zip all args)) [ None ↦ Err 52 | Some k ↦ Ok (slice_set args k (span item), None) ]
+abbrev pub placed : List Arg → Item → Option ℕ → Step
+placed args item None = Err 52
+placed args item (Some k) = Ok (slice_set args k (span item), None)
 
 -- what an item of this role gives, where no name waits for it
 abbrev pub act : List (List ℕ) → List Arg → Item → Role → Step
 act all args item (SwitchName k) = switched args k
 act all args item (EntryName k) = waits args k
-act all args item NoName = alone all args item
+act all args item NoName = placed args item (position is_free (zip all args))
 
 -- an item is the value of the name before it, where that waits for one
 abbrev pub step : List (List ℕ) → List ℕ → List Arg → Option ℕ → Item → Step
 step all line args (Some k) item = Ok (slice_set args k (span item), None)
 step all line args None item = act all args item (role_of line all item)
 
+abbrev pub and_then : Step → (List Arg → Option ℕ → Result (List Arg) ℕ) → Result (List Arg) ℕ
+and_then (Ok next) f = f next.0 next.1
+and_then (Err code) f = Err code
+
 -- what the items give, one after another; a name at the end lacks its value
 abbrev pub filled : List (List ℕ) → List ℕ → List Arg → Option ℕ → List Item → Result (List Arg) ℕ
 filled all line args None [] = Ok args
 filled all line args (Some k) [] = Err 53
 filled all line args name (item ∷ items) =
-    elim (step all line args name item) [ Ok next ↦ filled all line next.0 next.1 items | Err code ↦ Err code ]
+    and_then (step all line args name item) (λ after waiting. filled all line after waiting items)
 
 -- a required entry that is unset, and that there is none
 abbrev pub lacks : List ℕ × Arg → Bool

@@ -79,7 +79,11 @@ fn fill(template: &[u8], line: &[u8], out: &mut [Arg; 8]) -> Result<(), Refusal>
         return Err(Refusal::OpenQuote);
     }
     read_items(template, line, out)?;
-    if is_whole(template, out) { Ok(()) } else { Err(Refusal::Missing) }
+    if is_whole(template, out) {
+        Ok(())
+    } else {
+        Err(Refusal::Missing)
+    }
 }
 
 // Reads the items from left to right.
@@ -95,11 +99,21 @@ fn read_items(template: &[u8], line: &[u8], out: &mut [Arg; 8]) -> Result<(), Re
         name = read_item(template, line, name, item, out)?;
         at = after;
     }
-    if name.is_some() { Err(Refusal::Name) } else { Ok(()) }
+    if name.is_some() {
+        Err(Refusal::Name)
+    } else {
+        Ok(())
+    }
 }
 
 // Reads an item behind a name that waits for its value, if there is one, and gives the name that waits then.
-fn read_item(template: &[u8], line: &[u8], name: Option<usize>, item: Item, out: &mut [Arg; 8]) -> Result<Option<usize>, Refusal>
+fn read_item(
+    template: &[u8],
+    line: &[u8],
+    name: Option<usize>,
+    item: Item,
+    out: &mut [Arg; 8],
+) -> Result<Option<usize>, Refusal>
     requires place { (item.from ≤ item.to) × (item.to ≤ length line.now) }
     requires short { length line.now < 2 ^ 32 }
     requires few { length (entries template.now) ≤ 8 }
@@ -159,10 +173,8 @@ fn free_entry(template: &[u8], out: &[Arg; 8]) -> Option<usize>
     if template.is_empty() {
         return None;
     }
-    template
-        .split(|c| *c == b',')
-        .zip(out.iter())
-        .position(|(entry, arg)| is_unset(*arg) && !(is_keyword(entry) || is_switch(entry)))
+    template.split(|c| *c == b',').zip(out.iter()).position(|(entry, arg)| is_unset(*arg)
+        && !(is_keyword(entry) || is_switch(entry)))
 }
 
 // Whether no required entry is unset.
@@ -202,6 +214,7 @@ mod tests {
 
     // What a line gives an entry, as a row writes it.
     const NONE: Arg = Arg::Unset;
+
     const SET: Arg = Arg::Switch;
 
     const fn at(from: u32, to: u32) -> Arg {
@@ -247,7 +260,11 @@ mod tests {
             let mut out = [Arg::Switch; 8];
             let answered = read_args(template.as_bytes(), line.as_bytes(), &mut out);
             assert_eq!(rt; answered, outcome, "{template:?} {line:?}");
-            assert_eq!(rt; out, [first, second, NONE, NONE, NONE, NONE, NONE, NONE], "{template:?} {line:?}");
+            assert_eq!(rt;
+                out,
+                [first, second, NONE, NONE, NONE, NONE, NONE, NONE],
+                "{template:?} {line:?}"
+            );
         }
     }
 }

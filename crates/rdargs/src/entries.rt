@@ -78,7 +78,9 @@ fn are_entries(template: &[u8]) -> bool
     if template.is_empty() {
         return true;
     }
-    template.split(|c| *c == b',').all(|entry| is_entry(template, entry))
+    template
+        .split(|c| *c == b',')
+        .all(|entry| is_entry(template, entry))
 }
 
 // Whether this is an entry, none of whose names stands anywhere else in the template.

@@ -71,9 +71,23 @@ fn quoted_item(line: &[u8], from: usize) -> (Item, usize)
     let rest = &line[from..];
     let to = from + length_before(b'"', rest);
     if to == line.len() {
-        (Item { form: Form::Open, from, to }, to)
+        (
+            Item {
+                form: Form::Open,
+                from,
+                to,
+            },
+            to,
+        )
     } else {
-        (Item { form: Form::Quoted, from, to }, to + 1)
+        (
+            Item {
+                form: Form::Quoted,
+                from,
+                to,
+            },
+            to + 1,
+        )
     }
 }
 
@@ -87,5 +101,12 @@ fn word(line: &[u8], from: usize) -> (Item, usize)
 {
     let rest = &line[from + 1..];
     let to = from + 1 + length_before(b' ', rest);
-    (Item { form: Form::Word, from, to }, to)
+    (
+        Item {
+            form: Form::Word,
+            from,
+            to,
+        },
+        to,
+    )
 }

@@ -10,7 +10,7 @@ invariant-loop-item l = record {
   inside : l.at ≤ length l.line;
   named : IfSome l.name (λ k. k < 8);
   left : filled (entries l.template) l.line l.out l.name (items_from l.at (drop l.at l.line))
-    ≡ filled (entries l.template) l.line l.initial.out None (items l.line);
+      ≡ filled (entries l.template) l.line l.initial.out None (items l.line);
 }
 
 abbrev pub decreases-loop-item : goal.decreases-loop-item

@@ -12,6 +12,6 @@ returns c =
     let e = c.if-is_empty.ensures in
     let some : 1 ≤ length c.args.template.now = grind (arith, nat_tests) in
     all_from_yields_List (is_entry (entries c.args.template.now)) _ _ c.all.result c.all.ensures.ran
-        (YieldsList-from_slice_split _ (λ b. b == 44) c.args.template.now (cc) (cc) (cc) (λ x b q k. search (rules, tests)))
-        (λ x b q k. search (rules, tests))
-        ∙ ap (list_all (is_entry (entries c.args.template.now))) (sym (entries-split c.args.template.now some))
+    (YieldsList-from_slice_split _ (λ b. b == 44) c.args.template.now (cc) (cc) (cc) (λ x b q k. search (rules, tests)))
+    (λ x b q k. search (rules, tests))
+    ∙ ap (list_all (is_entry (entries c.args.template.now))) (sym (entries-split c.args.template.now some))

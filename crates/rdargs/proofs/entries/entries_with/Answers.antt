@@ -13,7 +13,7 @@ returns c =
     let e = c.if-is_empty.ensures in
     let some : 1 ≤ length c.args.template.now = grind (arith, nat_tests) in
     count_from_yields_List _ c.count.result c.count.ensures.ran
-        (YieldsList-from_filter _ (has_name c.args.name.now)
-            (YieldsList-from_slice_split _ (λ b. b == 44) c.args.template.now (cc) (cc) (cc) (λ x b q k. search (rules, tests))) c.filter.ensures.closure (λ x b q k. search (rules, tests)))
-        ∙ length-filter (has_name c.args.name.now) (slice_split (λ b. b == 44) c.args.template.now)
-        ∙ ap (count_by (has_name c.args.name.now)) (sym (entries-split c.args.template.now some))
+    (YieldsList-from_filter _ (has_name c.args.name.now)
+    (YieldsList-from_slice_split _ (λ b. b == 44) c.args.template.now (cc) (cc) (cc) (λ x b q k. search (rules, tests))) c.filter.ensures.closure (λ x b q k. search (rules, tests)))
+    ∙ length-filter (has_name c.args.name.now) (slice_split (λ b. b == 44) c.args.template.now)
+    ∙ ap (count_by (has_name c.args.name.now)) (sym (entries-split c.args.template.now some))

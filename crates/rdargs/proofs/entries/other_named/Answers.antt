@@ -14,9 +14,9 @@ returns-clause-value c =
     let some : 1 ≤ length c.args.template.now = grind (arith, nat_tests) in
     let test : List ℕ → Bool = λ entry. has_name c.args.word.now entry && not (is_switch entry) in
     position_from_yields_List test _ _ c.position.result c.position.ensures.ran
-        (YieldsList-from_slice_split _ (λ b. b == 44) c.args.template.now (cc) (cc) (cc) (λ x b q k. search (rules, tests)))
-        (λ x b q k. search (rules, tests))
-        ∙ ap (position test) (sym (entries-split c.args.template.now some))
+    (YieldsList-from_slice_split _ (λ b. b == 44) c.args.template.now (cc) (cc) (cc) (λ x b q k. search (rules, tests)))
+    (λ x b q k. search (rules, tests))
+    ∙ ap (position test) (sym (entries-split c.args.template.now some))
 
 pub returns-clause-inside : goal.returns-clause-inside
 returns-clause-inside c =

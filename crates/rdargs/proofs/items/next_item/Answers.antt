@@ -16,8 +16,8 @@ returns-then-line-from-eq34-clause-value c =
     let line = c.args.line.now in
     let from = c.args.at + c.length_of_spaces.result in
     between-at line c.args.at from (omega arith) (ap (λ n. c.args.at + n) (rw take_rest at c.length_of_spaces.ensures.value))
-        ∙ quote-at line from (omega arith) c.if-line-from-eq34.true
-        ∙ c.quoted_item.ensures.value
+    ∙ quote-at line from (omega arith) c.if-line-from-eq34.true
+    ∙ c.quoted_item.ensures.value
 
 pub returns-else-line-from-eq34-clause-value : goal.returns-else-line-from-eq34-clause-value
 returns-else-line-from-eq34-clause-value c =
@@ -25,5 +25,5 @@ returns-else-line-from-eq34-clause-value c =
     let from = c.args.at + c.length_of_spaces.result in
     let behind = ap (λ n. c.args.at + n) (rw take_rest at c.length_of_spaces.ensures.value) in
     between-at line c.args.at from (omega arith) behind
-        ∙ start-at line from (omega arith) (no_space-behind line c.args.at from behind (omega arith)) c.if-line-from-eq34.false
-        ∙ c.word.ensures.value
+    ∙ start-at line from (omega arith) (no_space-behind line c.args.at from behind (omega arith)) c.if-line-from-eq34.false
+    ∙ c.word.ensures.value

@@ -6,4 +6,4 @@ use Rattle.rdargs.proofs.items.word.Goals as goal
 pub returns-clause-value : goal.returns-clause-value
 returns-clause-value c =
     word-at c.args.line.now (c.args.from + 1) (c.args.from + 1 + c.length_before.result) (omega arith) c.args.from
-        (ap (λ n. c.args.from + 1 + n) (rw take_rest at c.length_before.ensures.value))
+    (ap (λ n. c.args.from + 1 + n) (rw take_rest at c.length_before.ensures.value))
