@@ -1,0 +1,3 @@
+pub mod Chains
+pub mod ItemEnds
+pub mod Rules

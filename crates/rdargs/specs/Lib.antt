@@ -1,0 +1,5 @@
+pub mod Answer
+pub mod Args
+pub mod Line
+pub mod Refusal
+pub mod Template

@@ -1,0 +1,270 @@
+// What a command line gives the entries of a template.
+ghost use Rattle.std.specs.Prelude.{◌≡◌, ◌==◌, ◌&&◌, ◌||◌, ◌+◌, ◌≤◌, ◌<◌, ◌^◌, length, not, IfSome, Ok, Err, Some, None, true, false, replicate, MatchResult, OnErr, slice_set, slice_range, IfOk};
+ghost use Rattle.std.specs.List.{position, zip};
+ghost use Rattle.rdargs.specs.declared.args.Arg.TheVariants.{Unset};
+ghost use Rattle.rdargs.specs.Answer.{IsBelow, answer, filled, is_free, is_unset, is_whole, role_of, span, step};
+ghost use Rattle.rdargs.specs.Line.{items};
+ghost use Rattle.rdargs.specs.Refusal.{code_of};
+ghost use Rattle.rdargs.specs.Template.{entries, is_template};
+
+use crate::entries::{Role, is_keyword, is_required, is_switch, is_template, word_role};
+use crate::items::{Form, Item, has_open_quote, next_item};
+
+/// What a line gives an entry.
+#[derive(Clone, Copy, Debug, PartialEq, Eq)]
+pub enum Arg {
+    /// Nothing.
+    Unset,
+    /// The name of a switch.
+    Switch,
+    /// A value, by the places in the line where it begins and ends.
+    Span { from: u32, to: u32 },
+}
+
+/// Why a line is refused.
+#[derive(Clone, Copy, Debug, PartialEq, Eq)]
+enum Refusal {
+    /// The template is none, or has too many entries.
+    Template,
+    /// A quote is open.
+    OpenQuote,
+    /// There is no entry for an item.
+    Surplus,
+    /// A name's entry is set, or the name lacks its value.
+    Name,
+    /// A required entry is unset.
+    Missing,
+}
+
+impl Refusal {
+    fn code(self) -> u32
+        ensures { result ≡ code_of self }
+    {
+        match self {
+            Refusal::Template => 50,
+            Refusal::Missing => 51,
+            Refusal::Surplus => 52,
+            Refusal::Name => 53,
+            Refusal::OpenQuote => 54,
+        }
+    }
+}
+
+/// Reads a line by a template: what each of its entries is given, or the code of the refusal, after which all are unset.
+pub fn read_args(template: &[u8], line: &[u8], out: &mut [Arg; 8]) -> Result<(), u32>
+    requires short { length line.now < 2 ^ 32 }
+    ensures answer { let given = answer template.now line.now in
+        MatchResult result (λ _. given ≡ Ok out.new) (λ code. given ≡ Err code) }
+    ensures unset { OnErr result (out.new ≡ replicate 8 Unset) }
+{
+    *out = [Arg::Unset; 8];
+    let outcome = fill(template, line, out);
+    if outcome.is_err() {
+        *out = [Arg::Unset; 8];
+    }
+    outcome.map_err(|refusal| refusal.code())
+}
+
+// The same, where out comes with all entries unset and may be left with some set.
+fn fill(template: &[u8], line: &[u8], out: &mut [Arg; 8]) -> Result<(), Refusal>
+    requires short { length line.now < 2 ^ 32 }
+    requires fresh { out.old ≡ replicate 8 Unset }
+    ensures { let given = answer template.now line.now in
+        MatchResult result (λ _. given ≡ Ok out.new) (λ e. given ≡ Err (code_of e)) }
+{
+    if !is_template(template) {
+        return Err(Refusal::Template);
+    }
+    if has_open_quote(line) {
+        return Err(Refusal::OpenQuote);
+    }
+    read_items(template, line, out)?;
+    if is_whole(template, out) {
+        Ok(())
+    } else {
+        Err(Refusal::Missing)
+    }
+}
+
+// Reads the items from left to right.
+fn read_items(template: &[u8], line: &[u8], out: &mut [Arg; 8]) -> Result<(), Refusal>
+    requires short { length line.now < 2 ^ 32 }
+    requires few { length (entries template.now) ≤ 8 }
+    ensures { let given = filled (entries template.now) line.now out.old None (items line.now) in
+        MatchResult result (λ _. given ≡ Ok out.new) (λ e. given ≡ Err (code_of e)) }
+{
+    let mut at = 0;
+    let mut name = None;
+    while let Some((item, after)) = next_item(line, at) {
+        name = read_item(template, line, name, item, out)?;
+        at = after;
+    }
+    if name.is_some() {
+        Err(Refusal::Name)
+    } else {
+        Ok(())
+    }
+}
+
+// Reads an item behind a name that waits for its value, if there is one, and gives the name that waits then.
+fn read_item(
+    template: &[u8],
+    line: &[u8],
+    name: Option<usize>,
+    item: Item,
+    out: &mut [Arg; 8],
+) -> Result<Option<usize>, Refusal>
+    requires place { (item.from ≤ item.to) × (item.to ≤ length line.now) }
+    requires short { length line.now < 2 ^ 32 }
+    requires few { length (entries template.now) ≤ 8 }
+    requires name { IfSome name (λ k. k < 8) }
+    ensures value { let next = step (entries template.now) line.now out.old name item in
+        MatchResult result (λ k. next ≡ Ok (out.new, k)) (λ e. next ≡ Err (code_of e)) }
+    ensures name { IfOk result (λ next. IfSome next (λ k. k < 8)) }
+{
+    if let Some(k) = name {
+        out[k] = span(item);
+        return Ok(None);
+    }
+    match role_of(template, line, item) {
+        Role::SwitchName(k) => {
+            check_unset(out[k])?;
+            out[k] = Arg::Switch;
+            Ok(None)
+        }
+        Role::EntryName(k) => {
+            check_unset(out[k])?;
+            Ok(Some(k))
+        }
+        Role::NoName => {
+            let k = free_entry(template, out).ok_or(Refusal::Surplus)?;
+            out[k] = span(item);
+            Ok(None)
+        }
+    }
+}
+
+// What an item is: a quoted one is no name.
+fn role_of(template: &[u8], line: &[u8], item: Item) -> Role
+    requires { (item.from ≤ item.to) × (item.to ≤ length line.now) }
+    ensures value { result ≡ role_of line.now (entries template.now) item }
+    ensures below { IsBelow (length (entries template.now)) result }
+{
+    match item.form {
+        Form::Word => word_role(template, &line[item.from..item.to]),
+        Form::Quoted | Form::Open => Role::NoName,
+    }
+}
+
+fn check_unset(arg: Arg) -> Result<(), Refusal>
+    ensures { MatchResult result (λ _. is_unset arg ≡ true) (λ e. (is_unset arg ≡ false) × (code_of e ≡ 53)) }
+{
+    match arg {
+        Arg::Unset => Ok(()),
+        Arg::Switch | Arg::Span { .. } => Err(Refusal::Name),
+    }
+}
+
+// The first unset entry that takes a value which stands alone.
+fn free_entry(template: &[u8], out: &[Arg; 8]) -> Option<usize>
+    ensures value { result ≡ position is_free (zip (entries template.now) out.now) }
+    ensures small { IfSome result (λ k. k < 8) }
+{
+    if template.is_empty() {
+        return None;
+    }
+    template.split(|c| *c == b',').zip(out.iter()).position(|(entry, arg)| is_unset(*arg)
+        && !(is_keyword(entry) || is_switch(entry)))
+}
+
+// Whether no required entry is unset.
+fn is_whole(template: &[u8], out: &[Arg; 8]) -> bool
+    ensures { result ≡ is_whole (entries template.now) out.now }
+{
+    if template.is_empty() {
+        return true;
+    }
+    template
+        .split(|c| *c == b',')
+        .zip(out.iter())
+        .all(|(entry, arg)| !(is_required(entry) && is_unset(*arg)))
+}
+
+fn is_unset(arg: Arg) -> bool
+    ensures { result ≡ is_unset arg }
+{
+    matches!(arg, Arg::Unset)
+}
+
+// An item as a value.
+fn span(item: Item) -> Arg
+    requires low { item.from < 2 ^ 32 }
+    requires high { item.to < 2 ^ 32 }
+    ensures { result ≡ span item }
+{
+    Arg::Span {
+        from: item.from as u32,
+        to: item.to as u32,
+    }
+}
+
+#[cfg(test)]
+mod tests {
+    use super::*;
+
+    // What a line gives an entry, as a row writes it.
+    const NONE: Arg = Arg::Unset;
+
+    const SET: Arg = Arg::Switch;
+
+    const fn at(from: u32, to: u32) -> Arg {
+        Arg::Span { from, to }
+    }
+
+    #[test]
+    fn reads_lines(rt: HostRuntime) {
+        let rename = "FROM/A,TO=AS/A";
+        for (template, line, outcome, first, second) in [
+            (rename, "a AS b", Ok(()), at(0, 1), at(5, 6)),
+            (rename, "a", Err(51), NONE, NONE),
+            (rename, "a b c", Err(52), NONE, NONE),
+            (rename, "a AS", Err(53), NONE, NONE),
+            (rename, "\"a b", Err(54), NONE, NONE),
+            (rename, "to b from a", Ok(()), at(10, 11), at(3, 4)),
+            (rename, "  AS as\"\"", Err(51), NONE, NONE),
+            (rename, "\"a b\"\"\"", Ok(()), at(1, 4), at(6, 6)),
+            (rename, "\"TO\" a\"b", Ok(()), at(1, 3), at(5, 8)),
+            (rename, "AS to from", Err(53), NONE, NONE),
+            (rename, "a b c \"", Err(54), NONE, NONE),
+            (rename, "a TO b AS c d", Err(53), NONE, NONE),
+            (rename, "FROM TO TO x", Ok(()), at(5, 7), at(11, 12)),
+            ("", "", Ok(()), NONE, NONE),
+            ("", "  ", Ok(()), NONE, NONE),
+            ("", "x", Err(52), NONE, NONE),
+            ("PRI/K,B/S", "b", Ok(()), NONE, SET),
+            ("PRI/K,B/S", "b b", Err(53), NONE, NONE),
+            ("PRI/K,B/S", "x", Err(52), NONE, NONE),
+            ("PRI/K/A,B/S", "B", Err(51), NONE, NONE),
+            ("PRI/A/K,X", "y pri B", Ok(()), at(6, 7), at(0, 1)),
+            ("PRI/A,B/S/A", "x", Err(50), NONE, NONE),
+            ("A/K/K", "", Err(50), NONE, NONE),
+            ("A/a", "", Err(50), NONE, NONE),
+            ("A,B=a", "\"", Err(50), NONE, NONE),
+            ("A=a", "", Err(50), NONE, NONE),
+            ("A,", "", Err(50), NONE, NONE),
+            ("A=", "", Err(50), NONE, NONE),
+            ("A-B", "", Err(50), NONE, NONE),
+            ("A,B,C,D,E,F,G,H", "", Ok(()), NONE, NONE),
+            ("A,B,C,D,E,F,G,H,I", "", Err(50), NONE, NONE),
+        ] {
+            let mut out = [Arg::Switch; 8];
+            let answered = read_args(template.as_bytes(), line.as_bytes(), &mut out);
+            assert_eq!(rt; answered, outcome, "{template:?} {line:?}");
+            assert_eq!(rt;
+                out,
+                [first, second, NONE, NONE, NONE, NONE, NONE, NONE],
+                "{template:?} {line:?}"
+            );
+        }
+    }
+}
