@@ -19,7 +19,7 @@ const FUNCTION: u32 = 3;
 /// The frame at the bottom of a coroutine's stack, in words from its address.
 pub(crate) const BOTTOM: u32 = 7;
 
-/// Calls the coroutine c of the task at t with v: the current one list_at-linked its parent, and c goes on.
+/// Calls the coroutine c of the task at t with v: the current one becomes its parent, and c goes on.
 pub fn call(store: &mut Store, t: u32, regs: &mut Regs, c: u32, v: u32) -> Result<(), CoEnd>
     requires { HasCoroutines store.old t }
     ensures answer { result ≡ idle_answer store.old t c }
@@ -35,8 +35,8 @@ pub fn call(store: &mut Store, t: u32, regs: &mut Regs, c: u32, v: u32) -> Resul
     Ok(())
 }
 
-/// Resumes the coroutine c of the task at t with v: it takes the current one's place, whose parent list_at-linked its own. Where it
-/// is the current one, only A list_at-linked v, and B 0.
+/// Resumes the coroutine c of the task at t with v: it takes the current one's place, whose parent becomes its own. Where it
+/// is the current one, only A becomes v, and B 0.
 pub fn resume(store: &mut Store, t: u32, regs: &mut Regs, c: u32, v: u32) -> Result<(), CoEnd>
     requires { HasCoroutines store.old t }
     ensures answer { result ≡ resume_answer store.old t c }

@@ -27,7 +27,7 @@ fn switch(store: &mut Store, t: u32, regs: &mut Regs, c: u32, v: u32)
     regs.pc = next.pc;
 }
 
-// Goes on in c, whose parent the current one list_at-linked.
+// Goes on in c, whose parent the current one became.
 pub(crate) fn enter(store: &mut Store, t: u32, regs: &mut Regs, c: u32, v: u32)
     ensures words { store.new ≡ called store.old t regs.old c }
     ensures regs { regs.new ≡ entered store.old t regs.old c v }
