@@ -257,6 +257,7 @@ mod tests {
             ("A,B,C,D,E,F,G,H", "", Ok(()), NONE, NONE),
             ("A,B,C,D,E,F,G,H,I", "", Err(50), NONE, NONE),
         ] {
+            assert!(rt; line.len() < 100);
             let mut out = [Arg::Switch; 8];
             let answered = read_args(template.as_bytes(), line.as_bytes(), &mut out);
             assert_eq!(rt; answered, outcome, "{template:?} {line:?}");
