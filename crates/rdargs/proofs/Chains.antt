@@ -1,5 +1,5 @@
 -- Entries as a template's text is split at commas, and where a search ends.
-use Rattle.std.proofs.Common.{◌≡◌, ℕ, ◌<◌, ◌≤◌, ◌==◌, Bool, true, false, cond, not, Option, Some, None, List, [], ◌∷◌, length, refl, arith}
+use Rattle.std.proofs.Common.{◌≡◌, ℕ, ◌<◌, ◌≤◌, ◌==◌, Bool, not, List, [], ◌∷◌, length, refl, arith}
 use Rattle.std.specs.Option.{unwrap_or, IfSome}
 use Rattle.std.specs.List.{position, position_or_len, slice_split}
 use Rattle.std.proofs.lemmas.Bool.Decides.{nat_tests}

@@ -1,11 +1,10 @@
 -- Where items begin and end.
-use Rattle.std.proofs.Common.{◌≡◌, ◌∙◌, ℕ, suc, ◌+◌, ◌<◌, ◌≤◌, ◌==◌, eqb, Bool, true, false, cond, not, Option, Some, None, List, [], ◌∷◌, length, get_or, drop, refl, sym, ap, arith, add-one, add-zero}
-use Rattle.std.specs.List.{position, position_or_len}
+use Rattle.std.proofs.Common.{◌≡◌, ℕ, suc, ◌+◌, ◌<◌, ◌≤◌, ◌==◌, eqb, Bool, true, false, not, List, [], ◌∷◌, length, get_or, drop, refl, arith, add-one, add-zero}
+use Rattle.std.specs.List.{position_or_len}
 use Rattle.std.proofs.lemmas.Bool.Decides.{nat_tests}
 use Rattle.std.proofs.Math.Seq.{drop-cons}
 use Rattle.std.proofs.lemmas.List.{drop-drop, drop_all, get_or-drop, length-drop}
 use Rattle.std.proofs.lemmas.List.Sums.{passes_at_first}
-use Rattle.rdargs.specs.declared.items.Item.{Item}
 use Rattle.rdargs.specs.declared.items.Form.TheVariants.{Word, Quoted, Open}
 use Rattle.rdargs.specs.Line.{item, items_from, items_in}
 use Rattle.rdargs.specs.Line.Place.{between, in_word, in_quotes}

@@ -4,7 +4,6 @@ use Rattle.std.specs.List.{list_any, list_all, position, zip}
 use Rattle.rdargs.specs.declared.args.Arg.{Arg}
 use Rattle.rdargs.specs.declared.args.Arg.TheVariants.{Unset, Switch, Span}
 use Rattle.rdargs.specs.declared.items.Item.{Item}
-use Rattle.rdargs.specs.declared.items.Form.{Form}
 use Rattle.rdargs.specs.declared.items.Form.TheVariants.{Word, Quoted, Open}
 use Rattle.rdargs.specs.declared.entries.Role.{Role}
 use Rattle.rdargs.specs.declared.entries.Role.TheVariants.{SwitchName, EntryName, NoName}

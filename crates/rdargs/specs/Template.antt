@@ -1,8 +1,8 @@
 -- Templates of command lines.
-use Rattle.std.specs.Prelude.{ℕ, ◌==◌, ◌&&◌, not, if◌then◌else◌, Bool, List, [], ◌∷◌, length, drop, codes, nat_le, nat_eq}
+use Rattle.std.specs.Prelude.{ℕ, ◌==◌, ◌&&◌, Bool, List, [], ◌∷◌, length, drop, codes, nat_le}
 use Rattle.std.specs.Char.{is_ascii_alphanumeric}
 use Rattle.std.specs.List.{list_any, list_all, count_by, slice_split, before_first, position_or_len}
-use Rattle.std.specs.Str.{bytes_eq, byte, str_eq_ignore_ascii_case}
+use Rattle.std.specs.Str.{bytes_eq, str_eq_ignore_ascii_case}
 
 -- a template is empty, or is entries separated by commas
 abbrev pub entries : List ℕ → List (List ℕ)

@@ -4,6 +4,8 @@
 #[cfg(test)]
 mod blocks;
 #[cfg(test)]
+mod command_lines;
+#[cfg(test)]
 mod listings;
 #[cfg(test)]
 mod logs;

@@ -1,4 +1,4 @@
-use Rattle.std.proofs.Common.{rules, tests, ◌==◌, ◌≤◌, length, arith, ◌<◌, ◌&&◌, not, ◌∙◌, ap, sym, subst, List, Bool, ℕ, Option}
+use Rattle.std.proofs.Common.{rules, tests, ◌==◌, ◌≤◌, length, arith, ◌<◌, ◌&&◌, ◌∙◌, ap, sym, subst, List, Bool, ℕ, Option}
 use Rattle.std.proofs.lemmas.Iterator.Splits.{YieldsList-from_slice_split}
 use Rattle.std.proofs.lemmas.Iterator.Search.{position_from_yields_List}
 use Rattle.std.specs.List.{position}

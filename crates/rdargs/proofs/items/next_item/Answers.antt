@@ -1,4 +1,4 @@
-use Rattle.std.proofs.Common.{◌∙◌, ◌+◌, ◌≡◌, length, refl, ap, arith, eqb}
+use Rattle.std.proofs.Common.{◌∙◌, ◌+◌, refl, ap, arith}
 use Rattle.std.proofs.lemmas.List.{drop_all}
 use Rattle.std.proofs.lemmas.List.{take_rest}
 use Rattle.rdargs.proofs.ItemEnds.{between-at, no_space-behind, quote-at, start-at}
