@@ -12,6 +12,8 @@ mod logs;
 #[cfg(test)]
 mod modules;
 #[cfg(test)]
+mod programs;
+#[cfg(test)]
 mod readers;
 #[cfg(test)]
 mod sessions;

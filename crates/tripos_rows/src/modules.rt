@@ -32,16 +32,6 @@ fn reads_and_prints(rt: HostRuntime) -> Result<(), Fail> {
 }
 
 #[test]
-fn gives_lists_back(rt: HostRuntime) -> Result<(), Fail> {
-    let module = read_module(rt.alloc(), b"3e8 1 5 3e9 1 0 3ea")?;
-    for hunk in module.hunks.into_vec() {
-        assert_eq!(rt; hunk.words.into_vec().as_slice(), [5].as_slice());
-        assert_eq!(rt; hunk.relocations.into_vec().as_slice(), [0].as_slice());
-    }
-    Ok(())
-}
-
-#[test]
 fn tells_the_shape(rt: HostRuntime) {
     let text = SliceText::new(b"3e8 2 0 0 3e9 1 1 3e8 0 3e8 1 0 3ea");
     assert_eq!(rt; check_module(&text), Ok(Shape { hunks: 3, words: 3 }));

@@ -1,5 +1,4 @@
-// Numbers of any length, names of files, and an assembly text with memory to spare.
-use cint_asm::assemble;
+// Numbers of any length, and names of files.
 use ram_disc::Name;
 use std::test::Fail;
 use text_reader::any_number;
@@ -40,20 +39,4 @@ fn reads_lawful_names(rt: HostRuntime) {
             None => assert!(rt; !lawful, "{text:?}"),
         }
     }
-}
-
-#[test]
-fn assembles(rt: HostRuntime) -> Result<(), Fail> {
-    let made = assemble(
-        rt.alloc(),
-        b"GLOBAL 1 start\nstart: L 19\nSP 3\nDA start\nRTN\n",
-    )?;
-    assert_eq!(rt;
-        made.as_slice(),
-        b"000003e8 00000008\n\
-00000008 03a01360 00000001 0000007b 00000000 00000001 00000004 00000001\n\
-000003e9 00000001\n00000002\n000003ea\n"
-            .as_slice()
-    );
-    Ok(())
 }

@@ -1,15 +1,5 @@
-// Runs one session of the machine: its text is read from standard input, and what happened is written.
+// The program: the process's words, input and output are given to the one call that does the rest.
 #![tactic(auto)]
-
-mod answer;
-mod commands;
-mod dump;
-mod messages;
-mod program;
-mod session;
-mod status;
-#[cfg(test)]
-mod tests;
 
 use std::process::ExitCode;
 use std::{env, io};
@@ -25,6 +15,6 @@ fn main(rt: HostRuntime) -> ExitCode {
             return ExitCode::from(9);
         }
     }
-    let (status, _) = program::run(rt.alloc(), words.as_slice(), rt.reader(), io::writer(&rt));
+    let (status, _) = tripos_run::run(rt.alloc(), words.as_slice(), rt.reader(), io::writer(&rt));
     ExitCode::from(status)
 }

@@ -1,9 +1,8 @@
-// What no run of the program can show: sources and sinks that fail.
-use crate::program::{run, tripos};
-use crate::status::Status;
+// The program's answers where a source or a sink fails.
 use std::process::Abort;
 use std::test::Fail;
 use tp_io::{MemorySink, MemorySource};
+use tripos_run::{Status, run, tripos};
 
 const LETTER: &[u8] = b"TRIPOS 1\nSTORE 1024\nBARE\n:6013a0036041a004916000a003a00491\nGO 100\n";
 

@@ -1,0 +1,13 @@
+// What the program does: a command, its input, and the answer.
+#![tactic(auto)]
+
+mod answer;
+mod commands;
+mod dump;
+mod messages;
+pub mod program;
+mod session;
+pub mod status;
+
+pub use program::{run, tripos};
+pub use status::Status;
