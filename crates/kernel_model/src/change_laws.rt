@@ -1,0 +1,77 @@
+// Laws of changes: what keeps lists valid.
+ghost use Rattle.std.specs.Prelude.{◌≡◌, ◌≢◌, ◌+◌, ◌<◌, ◌++◌, ◌∷◌, ℕ, Some, List, [], true, false};
+ghost use Rattle.std.specs.List.{AllByRecursion};
+ghost use Rattle.getvec_chain.specs.declared.pieces.Run.{Run};
+ghost use Rattle.getvec_chain.specs.Give.{given};
+ghost use Rattle.getvec_chain.specs.Run.{first_run, need};
+ghost use Rattle.getvec_chain.specs.Take.{taken};
+ghost use Rattle.packet_queue.specs.QueueWords.{QueuedPacket};
+ghost use Rattle.kernel_model.specs.Changes.{AreUnowned, HasNoPacketsOut, HasPlace, IsIdleBlock, KeepsOrder, SameTask, queue_of, with_blocks, with_new_task, with_queue, with_tasks};
+ghost use Rattle.kernel_model.specs.Lists.{Lists, has_task};
+ghost use Rattle.kernel_model.specs.Task.{Task, is_guest_id};
+ghost use Rattle.kernel_model.specs.ValidBlocks.{HasBlock};
+ghost use Rattle.kernel_model.specs.ValidLists.{AreValid};
+ghost use Rattle.kernel_model.specs.ValidQueues.{MayStand, Place, is_fault_packet, is_key_packet};
+ghost use Rattle.kernel_model.specs.ValidTasks.{CoroutinesStand, IsTask};
+ghost use Rattle.kernel_model.specs.Versions.{head_words_of};
+
+/// A block is taken: the lists are valid with it, its data begin behind the front of the run, and nobody owns them.
+pub fn taken_law()
+    ensures valid { (l : Lists) (u : ℕ) (run : Run) → AreValid l
+        → first_run (need u) l.blocks ≡ Some run
+        → AreValid (with_blocks (taken (need u) l.blocks) l) }
+    ensures block { (l : Lists) (u : ℕ) (run : Run) → AreValid l
+        → first_run (need u) l.blocks ≡ Some run
+        → HasBlock (taken (need u) l.blocks) (run.start + 1) u }
+    ensures unowned { (l : Lists) (u : ℕ) (run : Run) → AreValid l
+        → first_run (need u) l.blocks ≡ Some run
+        → AreUnowned (with_blocks (taken (need u) l.blocks) l) (run.start + 1) (run.start + need u) }
+{}
+
+/// A user's block in which no queued packet lies is given back.
+pub fn given_law()
+    ensures { (l : Lists) (v : ℕ) → AreValid l → IsIdleBlock l v
+        → AreValid (with_blocks (given v l.blocks) l) }
+{}
+
+/// A task's words change, but for its number, its priority, its queue and which coroutines it has.
+pub fn same_task_law()
+    ensures { (l : Lists) (front back : List Task) (t u : Task) → AreValid l
+        → l.tasks ≡ front ++ t ∷ back → SameTask t u → IsTask l u → CoroutinesStand l u
+        → AreValid (with_tasks (front ++ u ∷ back) l) }
+{}
+
+/// A packet comes into a queue: anywhere, or, at the clock, where due ticks never fall.
+pub fn queued_law()
+    ensures { (l : Lists) (at : Place) (p : QueuedPacket) (front back : List QueuedPacket)
+        → AreValid l → HasPlace l at → queue_of at l ≡ front ++ back
+        → MayStand l at p → AreUnowned l p.address (p.address + 5)
+        → KeepsOrder at (front ++ p ∷ back)
+        → AreValid (with_queue at (front ++ p ∷ back) l) }
+{}
+
+/// A packet goes out of a queue. It is none of the two that residents have of their own.
+pub fn unqueued_law()
+    ensures { (l : Lists) (at : Place) (p : QueuedPacket) (front back : List QueuedPacket)
+        → AreValid l → HasPlace l at → queue_of at l ≡ front ++ p ∷ back
+        → is_key_packet l p ≡ false → is_fault_packet l p ≡ false
+        → AreValid (with_queue at (front ++ back) l) }
+{}
+
+/// A guest comes in, without packets and coroutines, whose number and priority no task has, and whose words nobody owns.
+pub fn new_task_law()
+    ensures { (l : Lists) (t : Task) → AreValid l → IsTask l t → is_guest_id t.id ≡ true
+        → has_task t.id l.tasks ≡ false → AllByRecursion (λ u. u.priority ≢ t.priority) l.tasks
+        → t.queue ≡ [] → t.coroutines.list ≡ [] → t.coroutines.active ≡ []
+        → AreUnowned l t.address (t.address + head_words_of l.version)
+        → AreValid (with_new_task t l) }
+{}
+
+/// A guest goes out that has no packets and no coroutines, does not run, and has sent none that a resident or a device still has.
+pub fn gone_task_law()
+    ensures { (l : Lists) (front back : List Task) (t : Task) → AreValid l
+        → l.tasks ≡ front ++ t ∷ back → is_guest_id t.id ≡ true
+        → t.queue ≡ [] → t.coroutines.list ≡ [] → l.running ≢ t.id
+        → HasNoPacketsOut l t.id
+        → AreValid (with_tasks (front ++ back) l) }
+{}
