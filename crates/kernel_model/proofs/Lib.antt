@@ -1,0 +1,10 @@
+pub mod CutRanges
+pub mod EachMember
+pub mod TaskKind
+pub mod OwnedParts
+pub mod RootCounts
+pub mod TaskPlaces
+pub mod ReadQueues
+pub mod ReadTasks
+pub mod ReadCoroutines
+pub mod Reading
