@@ -1,6 +1,7 @@
 -- What holds of each member of a list of things.
-use Rattle.std.proofs.Common.{◌≡◌, ℕ, ◌+◌, List, [], ◌∷◌, cond, Bool, true, false, Some, refl, sym, ap, ◌∙◌, arith}
+use Rattle.std.proofs.Common.{◌≡◌, ℕ, ◌+◌, ◌<◌, List, [], ◌∷◌, cond, Bool, true, false, Some, refl, sym, ap, ◌∙◌, arith, inl, inr}
 use Rattle.std.specs.Prelude.{find}
+use Rattle.std.proofs.lemmas.Bool.{cases_lt}
 use Rattle.std.specs.List.{AllByRecursion}
 use Rattle.owned_words.specs.LinkedWords.{first_of, linked_words}
 use Rattle.owned_words.specs.Owned.{AreApart, AreInside, Holds, Pairs, owners}
@@ -36,3 +37,14 @@ held-each address words s P Q each (x ∷ xs) end h apart inside all =
       each x n (Holds-left s (words x n) rest h) (λ a. omega (arith, apart a, join a)) (λ a some. inside a (omega (arith, some, join a))) all.0,
       held-each address words s P Q each xs end (Holds-right s (words x n) rest h) (λ a. omega (arith, apart a, join a)) (λ a some. inside a (omega (arith, some, join a))) all.1,
     )
+
+-- what holds of the addresses of each of the linked things holds of all
+pub linked-each : {X : Type 0} (D : ℕ → Type 0) (address : X → ℕ) (words : X → ℕ → Pairs) (xs : List X) (end a : ℕ) → AllByRecursion (λ x. (n : ℕ) → 0 < owners a (words x n) → D a) xs
+    → 0 < owners a (linked_words address words xs end) → D a
+linked-each D address words [] end a all some = absurd (omega (arith, some))
+linked-each D address words (x ∷ xs) end a all some =
+    let n : ℕ = first_of address xs end in
+    elim (cases_lt 0 (owners a (words x n))) [
+      | inl here ↦ all.0 n here
+      | inr none ↦ linked-each D address words xs end a all.1 (omega (arith, some, none, owners-append a (words x n) (linked_words address words xs end)))
+    ]

@@ -8,3 +8,6 @@ pub mod ReadQueues
 pub mod ReadTasks
 pub mod ReadCoroutines
 pub mod Reading
+pub mod FollowedBlocks
+pub mod UsedData
+pub mod DataLaw
