@@ -11,3 +11,5 @@ pub mod Reading
 pub mod FollowedBlocks
 pub mod UsedData
 pub mod DataLaw
+pub mod ImageWords
+pub mod SettledWords
