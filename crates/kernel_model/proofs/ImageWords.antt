@@ -1,6 +1,6 @@
 -- The store that a kernel stands for, word by word and as a list.
 use Rattle.std.proofs.Common.{◌≡◌, ◌≢◌, ℕ, ◌<◌, List, [], ◌∷◌, length, get_or, cond, Bool, true, false, Some, refl, sym, ap, ◌∙◌, arith, inl, inr}
-use Rattle.std.specs.Prelude.{MatchBool, unwrap_or}
+use Rattle.std.specs.Prelude.{unwrap_or}
 use Rattle.std.proofs.lemmas.Bool.{cases_lt, eq-eqb, ne_eqb}
 use Rattle.std.proofs.lemmas.List.{ext_get_or}
 use Rattle.std.proofs.lemmas.List.FromFn.{get_or-map-range_with_len, length-map-range_with_len}
@@ -10,7 +10,7 @@ use Rattle.owned_words.proofs.OwnedWords.{word_in-holds, word_in-none}
 use Rattle.kernel_model.specs.Image.{HasPlainWords, IsImage, image, plain_at, word_of}
 use Rattle.kernel_model.specs.Kernel.{Kernel, owned_by}
 use Rattle.kernel_model.specs.Owned.{owned}
-use Rattle.kernel_model.specs.ValidKernel.{IsBareMachine, IsFullMachine, IsValid}
+use Rattle.kernel_model.specs.ValidKernel.{IsMachine, IsValid}
 
 image-word : (s : List ℕ) (k : Kernel) → IsImage s k → (a : ℕ) → a < length s → word_of k a ≡ get_or s a 0
 unfolding word_of
@@ -59,7 +59,7 @@ image-of k apart inside plain =
 pub valid-image : (k : Kernel) → IsValid k → IsImage (image k) k
 valid-image k v = on k.bare refl v
   where
-    on : (b : Bool) → k.bare ≡ b → MatchBool b (IsBareMachine k) (IsFullMachine k) → IsImage (image k) k
+    on : (b : Bool) → k.bare ≡ b → IsMachine b k → IsImage (image k) k
     on true bare v =
         let none : owned_by k ≡ [] = ap (λ b. cond b [] (owned k.lists)) bare in
         let few : (a : ℕ) → owners a (owned_by k) ≡ 0 = λ a. ap (owners a) none in

@@ -1,5 +1,5 @@
 -- The rules of pipes.
-use Rattle.std.specs.Prelude.{◌≡◌, ℕ, ◌≤◌, ◌||◌, true, false, Option, Some, None, List, length, replicate, slice_index_or}
+use Rattle.std.specs.Prelude.{◌≡◌, ◌≢◌, ℕ, ◌≤◌, ◌||◌, Bool, true, false, Option, Some, None, List, [], ◌∷◌, is_none, length, replicate, slice_index_or}
 use Rattle.ram_disc.specs.Name.{IsName}
 use Rattle.kernel_model.specs.Kernel.{Kernel, Pipe}
 
@@ -20,7 +20,7 @@ pipe_at ps k = slice_index_or ps k None
 -- an end is open, and a writing end that is open was ever opened
 pub record IsPipe (p : Pipe) : Type 0 where
   pub name : IsName p.name
-  pub some_end : p.reading || p.writing ≡ true
+  pub end_open : (p.reading || p.writing) ≡ true
   pub ever : p.writing ≡ true → p.written ≡ true
   pub room : length p.held ≤ most_held
 
