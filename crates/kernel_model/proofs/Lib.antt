@@ -13,3 +13,9 @@ pub mod UsedData
 pub mod DataLaw
 pub mod ImageWords
 pub mod SettledWords
+pub mod RangeCounts
+pub mod ListRanges
+pub mod QueuedWords
+pub mod WalkedLists
+pub mod RangesOwned
+pub mod PacketRanges
