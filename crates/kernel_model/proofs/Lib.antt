@@ -13,3 +13,8 @@ pub mod UsedData
 pub mod DataLaw
 pub mod ImageWords
 pub mod SettledWords
+pub mod RecoveredParts
+pub mod RecoveredTasks
+pub mod QueuedLinks
+pub mod RecoveredLists
+pub mod OneKernel
