@@ -1,11 +1,10 @@
 -- At most one valid kernel has a given image and given other parts.
-use Rattle.std.proofs.Common.{◌≡◌, ℕ, ◌<◌, List, [], length, get_or, cond, Bool, true, false, None, refl, sym, ap, ◌∙◌, subst, arith, inl, inr}
+use Rattle.std.proofs.Common.{◌≡◌, ℕ, ◌<◌, List, [], length, cond, Bool, true, false, None, refl, sym, ap, ◌∙◌, subst, arith, inl, inr}
 use Rattle.std.proofs.lemmas.Bool.{cases_lt}
 use Rattle.std.proofs.lemmas.List.{ext_get_or}
-use Rattle.owned_words.specs.Owned.{Holds, Pairs, owners}
+use Rattle.owned_words.specs.Owned.{Holds, owners}
 use Rattle.kernel_model.specs.Image.{HasPlainWords, IsImage, plain_at}
 use Rattle.kernel_model.specs.Kernel.{Kernel, owned_by}
-use Rattle.kernel_model.specs.Lists.{Lists}
 use Rattle.kernel_model.specs.OneKernel.{HaveSameParts}
 use Rattle.kernel_model.specs.Owned.{owned}
 use Rattle.kernel_model.specs.Recovered.{lists_in}

@@ -1,5 +1,5 @@
 -- The link of a queued packet is 0 or a word of the store, and so never the mark of a packet that is on no queue.
-use Rattle.std.proofs.Common.{◌≡◌, ◌⊎◌, inl, inr, ℕ, ◌+◌, ◌-◌, ◌<◌, ◌≤◌, ◌||◌, List, [], ◌∷◌, ◌++◌, length, map, get_or, eqb, Bool, true, false, refl, sym, ap, ◌∙◌, subst, arith}
+use Rattle.std.proofs.Common.{◌≡◌, ◌⊎◌, inl, inr, ℕ, ◌<◌, List, [], ◌∷◌, ◌++◌, length, map, get_or, eqb, Bool, true, sym, ap, ◌∙◌, subst, arith}
 use Rattle.std.specs.List.{AllByRecursion, flat_map, list_any}
 use Rattle.std.proofs.lemmas.Bool.{eqb-true, or_cases}
 use Rattle.std.proofs.lemmas.List.Folds.{list_any-append}
@@ -10,7 +10,7 @@ use Rattle.owned_words.proofs.OwnedWords.{Holds-left, Holds-right}
 use Rattle.packet_queue.specs.Queue.{link_of, packet_size}
 use Rattle.packet_queue.specs.QueueWords.{HeldQueue, QueuedPacket, address_of, packet_words}
 use Rattle.packet_queue.proofs.HeldQueues.{held-queue}
-use Rattle.kernel_model.specs.Lists.{Lists, is_queued, queued}
+use Rattle.kernel_model.specs.Lists.{Lists, is_queued}
 use Rattle.kernel_model.specs.Owned.{clock_head, keyboard_head, output_head}
 use Rattle.kernel_model.specs.ReadsLists.{ReadsLists}
 use Rattle.kernel_model.specs.Residents.{pending_head}

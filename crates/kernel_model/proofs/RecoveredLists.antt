@@ -1,10 +1,9 @@
 -- Valid lists are what a store that holds their words says.
-use Rattle.std.proofs.Common.{◌≡◌, ◌≢◌, ◌⊎◌, inl, inr, ℕ, ◌+◌, ◌-◌, ◌^◌, ◌<◌, ◌≤◌, ◌&&◌, ◌||◌, ◌++◌, List, [], ◌∷◌, length, map, get_or, eqb, leb, not, cond, Bool, true, false, Option, Some, None, refl, sym, ap, ◌∙◌, subst, arith}
+use Rattle.std.proofs.Common.{◌≡◌, ◌⊎◌, inl, inr, ℕ, ◌+◌, ◌<◌, ◌≤◌, ◌&&◌, ◌||◌, ◌++◌, List, [], ◌∷◌, length, map, get_or, eqb, leb, not, cond, Bool, true, false, Option, Some, None, refl, sym, ap, ◌∙◌, subst, arith}
 use Rattle.std.specs.Prelude.{is_some}
 use Rattle.std.specs.List.{AllByRecursion, list_any}
-use Rattle.std.proofs.lemmas.Bool.{and_parts, eq-eqb, eqb-false, eqb-true, false≢true, leb-true, ne_eqb, not-false}
-use Rattle.owned_words.specs.LinkedWords.{linked_words}
-use Rattle.owned_words.specs.Owned.{AreApart, AreInside, Holds, Pairs, owners}
+use Rattle.std.proofs.lemmas.Bool.{and_parts, eq-eqb, eqb-true, false≢true, leb-true, ne_eqb, not-false}
+use Rattle.owned_words.specs.Owned.{Holds, Pairs}
 use Rattle.owned_words.proofs.OwnedWords.{Holds-left, Holds-right}
 use Rattle.packet_queue.specs.Queue.{no_queue}
 use Rattle.packet_queue.specs.QueueWords.{HeldQueue, queue_words}
@@ -16,7 +15,7 @@ use Rattle.coroutines.specs.CoroutineExchanges.{HoldsCoroutines}
 use Rattle.kernel_model.specs.Lists.{Lists, address_of_task, has_task, is_queued}
 use Rattle.kernel_model.specs.Owned.{clock_head, keyboard_head, output_head, owned}
 use Rattle.kernel_model.specs.ReadsLists.{ReadsLists}
-use Rattle.kernel_model.specs.Recovered.{has_residents, has_task_in, is_free, key_in, lists_in, module_in, number_of, packets_at, pending_in, task_in}
+use Rattle.kernel_model.specs.Recovered.{has_residents, has_task_in, is_free, key_in, lists_in, number_of, packets_at, pending_in, task_in}
 use Rattle.kernel_model.specs.Residents.{fault_packet, fault_packet_words, key_arguments, key_packet, key_words, pending_head, resident_words}
 use Rattle.kernel_model.specs.Task.{Task, queue_head, task_address, task_id, task_words}
 use Rattle.kernel_model.specs.ValidLists.{AreValid}

@@ -1,10 +1,9 @@
 -- Packets, coroutines and modules are what a store that holds their words says.
-use Rattle.std.proofs.Common.{◌≡◌, ℕ, suc, ◌+◌, ◌<◌, ◌≤◌, List, [], ◌∷◌, length, map, get_or, refl, sym, ap, ◌∙◌, subst, arith, add-zero}
+use Rattle.std.proofs.Common.{◌≡◌, ℕ, suc, ◌+◌, ◌<◌, List, [], ◌∷◌, length, map, get_or, sym, ap, ◌∙◌, arith, add-zero}
 use Rattle.std.specs.Prelude.{slice_range}
 use Rattle.std.specs.List.{AllByRecursion}
 use Rattle.linked_list.proofs.Counts.{times-within}
-use Rattle.owned_words.specs.LinkedWords.{first_of, linked_words}
-use Rattle.owned_words.specs.Owned.{AreInside, Holds, owners}
+use Rattle.owned_words.specs.Owned.{AreInside, Holds}
 use Rattle.owned_words.proofs.RowWords.{Holds-range, owners-row}
 use Rattle.hunk_loader.specs.HeldModules.{HeldModules, LoadedModule, module_address, module_words}
 use Rattle.hunk_loader.specs.ModuleHunks.{lengths_in}
@@ -17,7 +16,7 @@ use Rattle.coroutines.specs.HeldCoroutines.{Coroutine, address_of as coroutine_a
 use Rattle.coroutines.proofs.CoroutineLists.{Built}
 use Rattle.coroutines.proofs.HeldCoroutineLists.{held-coroutines}
 use Rattle.kernel_model.specs.Recovered.{coroutine_in, coroutines_of, module_in, packet_in, packets_at}
-use Rattle.kernel_model.proofs.EachMember.{all-each, held-each, holds-each, map-back}
+use Rattle.kernel_model.proofs.EachMember.{held-each, holds-each, map-back}
 
 -- ---- packets
 

@@ -1,15 +1,14 @@
 -- A task is what a store that holds its words says.
-use Rattle.std.proofs.Common.{◌≡◌, ◌≢◌, ◌⊎◌, inl, inr, ℕ, zero, suc, ◌+◌, ◌-◌, ◌*◌, ◌/◌, ◌%◌, ◌<◌, ◌≤◌, List, [], ◌∷◌, length, map, drop, get_or, eqb, not, cond, Bool, true, false, refl, sym, ap, ◌∙◌, subst, arith}
+use Rattle.std.proofs.Common.{◌≡◌, inl, inr, ℕ, zero, suc, ◌+◌, ◌-◌, ◌/◌, ◌%◌, ◌<◌, ◌≤◌, List, [], ◌∷◌, length, map, drop, get_or, eqb, not, cond, Bool, true, false, refl, sym, ap, ◌∙◌, arith}
 use Rattle.std.specs.Prelude.{slice_range}
 use Rattle.std.specs.List.{AllByRecursion, filter, range_with_len}
 use Rattle.std.proofs.lemmas.Bool.{eq-eqb, ne_eqb}
-use Rattle.word_store.specs.declared.registers.Regs.{Regs}
 use Rattle.linked_list.specs.Count.{times}
 use Rattle.linked_list.specs.Places.{has}
 use Rattle.linked_list.proofs.AllMembers.{all-has}
 use Rattle.linked_list.proofs.Counts.{times-within}
 use Rattle.owned_words.specs.LinkedWords.{first_of}
-use Rattle.owned_words.specs.Owned.{AreInside, Holds, owners, row_from}
+use Rattle.owned_words.specs.Owned.{AreInside, Holds, row_from}
 use Rattle.owned_words.proofs.RowWords.{Holds-range}
 use Rattle.hunk_loader.specs.HeldModules.{module_address}
 use Rattle.packet_queue.specs.QueueWords.{HeldQueue, QueuedPacket}
