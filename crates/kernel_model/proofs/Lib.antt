@@ -19,3 +19,8 @@ pub mod QueuedWords
 pub mod WalkedLists
 pub mod RangesOwned
 pub mod PacketRanges
+pub mod RecoveredParts
+pub mod RecoveredTasks
+pub mod QueuedLinks
+pub mod RecoveredLists
+pub mod OneKernel
