@@ -15,12 +15,8 @@ use Rattle.kernel_model.specs.ValidLists.{AreValid}
 use Rattle.kernel_model.specs.ValidQueues.{HasSender, MayStand, Place, QueuesStand}
 use Rattle.kernel_model.specs.ValidQueues.Place.{Clock, Keyboard, Output, Pending, Work}
 use Rattle.kernel_model.specs.ValidTasks.{CoroutinesStand, IsCoroutine, IsTask, PrioritiesFall}
-use Rattle.kernel_model.proofs.AllThings.{all-here, all-kept, all-put, map-put}
-use Rattle.kernel_model.proofs.ChainRules.{falls-same, has_task-same}
-use Rattle.kernel_model.proofs.OwnerCounts.{owned-tasks, owners-task_between, owns-fewer}
-use Rattle.kernel_model.proofs.QueuedPackets.{is_queued-same, work_packets-put}
-use Rattle.kernel_model.proofs.RulesKept.{CoroutinesStand-kept, IsTask-kept, MayStand-kept, MayStand-more}
-use Rattle.kernel_model.proofs.TaskCounts.{owners-same_task}
+use Rattle.kernel_model.proofs.AllThings.{all-kept, and_not-same}
+use Rattle.kernel_model.proofs.RulesKept.{CoroutinesStand-kept, IsTask-kept}
 
 -- What a chain in place of another has to meet: the residents of before are there, its tasks and their coroutines stand in order,
 -- the packets may stand where they are queued, the residents' two packets are queued as before, and the running task is there.
@@ -35,8 +31,8 @@ pub record FitsChain (l : Lists) (ts : List Task) : Type 0 where
   pub keyboard : AllByRecursion (MayStand (with_tasks ts l) Keyboard) l.keyboard
   pub output : AllByRecursion (MayStand (with_tasks ts l) Output) l.output
   pub pending : AllByRecursion (MayStand (with_tasks ts l) Pending) l.pending
-  pub key : is_queued key_packet (with_tasks ts l) ≡ is_queued key_packet l
-  pub fault : is_queued fault_packet (with_tasks ts l) ≡ is_queued fault_packet l
+  pub key : l.residents ≡ true → is_queued key_packet (with_tasks ts l) ≡ is_queued key_packet l
+  pub fault : has_task 2 l.tasks ≡ true → is_queued fault_packet (with_tasks ts l) ≡ is_queued fault_packet l
   pub running : (l.running ≡ 0) ⊎ (has_task l.running ts ≡ true)
   pub owns : OwnsApart (with_tasks ts l)
 
@@ -72,8 +68,8 @@ chain-valid l ts v f =
             pending = f.pending;
             due = v.queues.due;
             no_console = v.queues.no_console;
-            key = v.queues.key ∙ ap (λ b. l.residents && not b) (sym f.key);
-            fault = v.queues.fault ∙ (λ i. sym (f.residents 2 refl) i && not (sym f.fault i));
+            key = v.queues.key ∙ sym (and_not-same l.residents _ _ f.key);
+            fault = v.queues.fault ∙ sym (and_not-same (has_task 2 l.tasks) _ _ f.fault) ∙ ap (λ b. b && not (is_queued fault_packet m)) (sym (f.residents 2 refl));
             running = f.running;
           };
       owns = f.owns;

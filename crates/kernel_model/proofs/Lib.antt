@@ -1,8 +1,14 @@
 pub mod AllThings
 pub mod ChainChanges
 pub mod ChainRules
+pub mod FollowingBlocks
 pub mod OneTask
+pub mod OwnedPackets
 pub mod OwnerCounts
+pub mod PacketMoves
+pub mod QueueCounts
+pub mod QueuePlaces
 pub mod QueuedPackets
 pub mod RulesKept
 pub mod TaskCounts
+pub mod WorkQueues

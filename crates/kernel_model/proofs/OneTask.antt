@@ -40,7 +40,7 @@ module _ (l : Lists) (front : List Task) (t u : Task) (back : List Task) (is : l
       beside x y b u t p q r = omega arith
 
   pub task-changed : AreValid l → u.id ≡ t.id → u.priority ≡ t.priority → IsTask l u → CoroutinesStand l u → AllByRecursion (MayStand l (Work u.id)) u.queue
-      → stands_in key_packet u.queue ≡ stands_in key_packet t.queue → stands_in fault_packet u.queue ≡ stands_in fault_packet t.queue
+      → (l.residents ≡ true → stands_in key_packet u.queue ≡ stands_in key_packet t.queue) → (has_task 2 l.tasks ≡ true → stands_in fault_packet u.queue ≡ stands_in fault_packet t.queue)
       → OwnsApart (with_tasks (front ++ u ∷ back) l) → AreValid (with_tasks (front ++ u ∷ back) l)
   task-changed v id priority task coroutines queue key fault owns =
       chain-valid l (front ++ u ∷ back) v
@@ -57,8 +57,8 @@ module _ (l : Lists) (front : List Task) (t u : Task) (back : List Task) (is : l
         keyboard = queue-kept Keyboard l.keyboard v.queues.keyboard;
         output = queue-kept Output l.output v.queues.output;
         pending = queue-kept Pending l.pending v.queues.pending;
-        key = same-queued key_packet key;
-        fault = same-queued fault_packet fault;
+        key = λ is. same-queued key_packet (key is);
+        fault = λ is. same-queued fault_packet (fault is);
         running = elim v.queues.running [ inl none ↦ inl none | inr some ↦ inr (same l.running ∙ some) ];
         owns = owns;
       })
@@ -78,7 +78,7 @@ module _ (l : Lists) (front : List Task) (t u : Task) (back : List Task) (is : l
 -- the law of a task whose other words change
 pub same_task-valid : (l : Lists) (front back : List Task) (t u : Task) → AreValid l → l.tasks ≡ front ++ t ∷ back → SameTask t u → IsTask l u → CoroutinesStand l u → AreValid (with_tasks (front ++ u ∷ back) l)
 same_task-valid l front back t u v is same task coroutines =
-    task-changed l front t u back is v same.id same.priority task coroutines queue (ap (stands_in key_packet) same.queue) (ap (stands_in fault_packet) same.queue)
+    task-changed l front t u back is v same.id same.priority task coroutines queue (λ _. ap (stands_in key_packet) same.queue) (λ _. ap (stands_in fault_packet) same.queue)
     (owns-fewer l (with_tasks (front ++ u ∷ back) l) refl (λ a. count a) v.owns)
   where
     there : AllByRecursion (MayStand l (Work t.id)) t.queue

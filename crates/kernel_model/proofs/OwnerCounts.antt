@@ -1,5 +1,5 @@
 -- How often an address is owned: by each part of the owned words, and by linked things, whatever their links hold.
-use Rattle.std.proofs.Common.{◌≡◌, ℕ, zero, suc, ◌+◌, ◌<◌, ◌≤◌, List, [], ◌∷◌, ◌++◌, refl, ap, arith, inl, inr}
+use Rattle.std.proofs.Common.{◌≡◌, ℕ, zero, suc, ◌+◌, ◌<◌, ◌≤◌, List, [], ◌∷◌, ◌++◌, cond, true, Option, refl, ap, ◌∙◌, arith, inl, inr}
 use Rattle.std.proofs.lemmas.Bool.{cases_lt}
 use Rattle.linked_list.specs.Count.{hit}
 use Rattle.owned_words.specs.LinkedWords.{first_of, headed_words, linked_words}
@@ -15,7 +15,7 @@ use Rattle.task_block.specs.RootWords.{first_task}
 use Rattle.kernel_model.specs.Changes.{with_blocks, with_tasks}
 use Rattle.kernel_model.specs.Lists.{Lists, address_of_task}
 use Rattle.kernel_model.specs.Owned.{OwnsApart, clock_head, device_words, keyboard_head, output_head, owned, tasks_words}
-use Rattle.kernel_model.specs.Residents.{resident_words}
+use Rattle.kernel_model.specs.Residents.{fault_packet_words, key_arguments, key_words, pending_head, resident_words}
 use Rattle.kernel_model.specs.Root.{root_words}
 use Rattle.kernel_model.specs.Task.{Task, task_address, task_id, task_words}
 
@@ -92,14 +92,22 @@ pub owners-task_between : (a version top : ℕ) (front : List Task) (t : Task) (
     → owners a (listed_words task_address task_id (task_words version) top (front ++ t ∷ back)) ≡ owners a (listed_words task_address task_id (task_words version) top (front ++ back)) + owners a (task_words version t 0)
 owners-task_between a version top front t back = owners-listed_between a task_address task_id (task_words version) (λ x n k. refl) top front t back
 
--- a packet in a queue
-pub owners-packet_between : (a head : ℕ) (front : List QueuedPacket) (p : QueuedPacket) (back : List QueuedPacket)
-    → owners a (queue_words head (front ++ p ∷ back)) ≡ owners a (queue_words head (front ++ back)) + owners a (packet_words p 0)
-owners-packet_between a head front p back = headed head address_of packet_words (λ x n k. refl) front p back
+-- the packets of a queue, without the head
+abbrev pub packets_count : ℕ → List QueuedPacket → ℕ
+packets_count a ps = owners a (linked_words address_of packet_words ps 0)
+
+pub owners-packet_between : (a : ℕ) (front : List QueuedPacket) (p : QueuedPacket) (back : List QueuedPacket) → packets_count a (front ++ p ∷ back) ≡ packets_count a (front ++ back) + owners a (packet_words p 0)
+owners-packet_between a front p back = owners-linked_between a address_of packet_words (λ x n k. refl) front p back 0
+
+-- the words of residents, where there are any
+pub owners-residents : (a : ℕ) (l : Lists) → l.residents ≡ true
+    → owners a (resident_words l) ≡ owners a (queue_words pending_head l.pending) + (owners a (key_words l.key) + (owners a key_arguments + owners a (fault_packet_words l.fault_packet_free)))
+owners-residents a l is =
+    ap (λ b. owners a (cond b (queue_words pending_head l.pending ++ (key_words l.key ++ (key_arguments ++ fault_packet_words l.fault_packet_free))) [])) is
+    ∙ four (queue_words pending_head l.pending) (key_words l.key) key_arguments (fault_packet_words l.fault_packet_free)
   where
-    headed : {X : Type 0} (head : ℕ) (address : X → ℕ) (words : X → ℕ → Pairs) → HasSteadyWords a words → (front : List X) (x : X) (back : List X)
-        → owners a (headed_words address words head (front ++ x ∷ back) 0) ≡ owners a (headed_words address words head (front ++ back) 0) + owners a (words x 0)
-    headed head address words steady front x back = omega (arith, owners-linked_between a address words steady front x back 0)
+    four : (A B C D : Pairs) → owners a (A ++ (B ++ (C ++ D))) ≡ owners a A + (owners a B + (owners a C + owners a D))
+    four A B C D = omega (arith, owners-append a A (B ++ (C ++ D)), owners-append a B (C ++ D), owners-append a C D)
 
 -- ---- one part changes
 
@@ -108,6 +116,13 @@ second w w' r b b' c d e f k n old new h = omega arith
 
 third : (w w' r b c c' d e f k n : ℕ) → w ≡ r + (b + (c + (d + (e + f)))) → w' ≡ r + (b + (c' + (d + (e + f)))) → c' + k ≡ c + n → w' + k ≡ w + n
 third w w' r b c c' d e f k n old new h = omega arith
+
+last_two : (w w' r b c d e e' f f' k n : ℕ) → w ≡ r + (b + (c + (d + (e + f)))) → w' ≡ r + (b + (c + (d + (e' + f')))) → (e' + f') + k ≡ (e + f) + n → w' + k ≡ w + n
+last_two w w' r b c d e e' f f' k n old new h = omega arith
+
+-- the lists with other queues of devices and residents, and with another state of the key packet
+abbrev pub with_queues : List QueuedPacket → List QueuedPacket → List QueuedPacket → List QueuedPacket → Option ℕ → Lists → Lists
+with_queues c k o p x l = record l { clock = c; keyboard = k; output = o; pending = p; key = x }
 
 -- from lists with a count to others, where in place of k of the words there are n others
 module _ (a : ℕ) (l : Lists) (k n : ℕ) where
@@ -122,6 +137,15 @@ module _ (a : ℕ) (l : Lists) (k n : ℕ) where
       third (owners a (owned l)) (owners a (owned (with_tasks ts l))) (root_count a l) (owners a (blocks_words l.blocks)) (owners a (tasks_words l))
       (owners a (tasks_words (with_tasks ts l))) (owners a (modules_words l.modules)) (owners a (device_words l)) (owners a (resident_words l)) k n
       (owners-owned a l) (owners-owned a (with_tasks ts l)) h
+
+  pub owned-queues : (c kb o p : List QueuedPacket) (x : Option ℕ)
+      → (owners a (device_words (with_queues c kb o p x l)) + owners a (resident_words (with_queues c kb o p x l))) + k ≡ (owners a (device_words l) + owners a (resident_words l)) + n
+      → owners a (owned (with_queues c kb o p x l)) + k ≡ owners a (owned l) + n
+  owned-queues c kb o p x h =
+      let m : Lists = with_queues c kb o p x l in
+      last_two (owners a (owned l)) (owners a (owned m)) (root_count a l) (owners a (blocks_words l.blocks)) (owners a (tasks_words l))
+      (owners a (modules_words l.modules)) (owners a (device_words l)) (owners a (device_words m)) (owners a (resident_words l)) (owners a (resident_words m)) k n
+      (owners-owned a l) (owners-owned a m) h
 
 -- ---- apart and inside
 
