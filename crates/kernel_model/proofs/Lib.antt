@@ -1,5 +1,6 @@
 pub mod AllThings
 pub mod ChainChanges
+pub mod ChainMoves
 pub mod ChainRules
 pub mod FollowingBlocks
 pub mod OneTask
@@ -11,4 +12,5 @@ pub mod QueuePlaces
 pub mod QueuedPackets
 pub mod RulesKept
 pub mod TaskCounts
+pub mod TaskSpans
 pub mod WorkQueues

@@ -41,7 +41,12 @@ work_packets-put a (z ∷ zs) t u back e =
     ∙ ap (λ b. stands_in a z.queue || b) (work_packets-put a zs t u back e)
     ∙ sym (list_any-append (λ q. eqb q.address a) z.queue (work_packets (zs ++ t ∷ back)))
 
--- a task without packets
-pub work_packets-between : (front : List Task) (t : Task) (back : List Task) → t.queue ≡ [] → work_packets (front ++ t ∷ back) ≡ work_packets (front ++ back)
-work_packets-between [] t back none = ap (λ q. q ++ work_packets back) none
-work_packets-between (z ∷ zs) t back none = ap (λ r. z.queue ++ r) (work_packets-between zs t back none)
+-- a task without that packet
+pub work_packets-between : (a : ℕ) (front : List Task) (t : Task) (back : List Task) → stands_in a t.queue ≡ false → stands_in a (work_packets (front ++ t ∷ back)) ≡ stands_in a (work_packets (front ++ back))
+work_packets-between a [] t back none =
+    list_any-append (λ q. eqb q.address a) t.queue (work_packets back)
+    ∙ ap (λ b. b || stands_in a (work_packets back)) none
+work_packets-between a (z ∷ zs) t back none =
+    list_any-append (λ q. eqb q.address a) z.queue (work_packets (zs ++ t ∷ back))
+    ∙ ap (λ b. stands_in a z.queue || b) (work_packets-between a zs t back none)
+    ∙ sym (list_any-append (λ q. eqb q.address a) z.queue (work_packets (zs ++ back)))
