@@ -20,7 +20,7 @@ pipe_at ps k = slice_index_or ps k None
 -- an end is open, and a writing end that is open was ever opened
 pub record IsPipe (p : Pipe) : Type 0 where
   pub name : IsName p.name
-  pub open : p.reading || p.writing ≡ true
+  pub end_open : (p.reading || p.writing) ≡ true
   pub ever : p.writing ≡ true → p.written ≡ true
   pub room : length p.held ≤ most_held
 

@@ -1,5 +1,5 @@
 -- A valid kernel, or a valid bare machine.
-use Rattle.std.specs.Prelude.{◌≡◌, ℕ, ◌<◌, ◌≤◌, Bool, true, false, IsTrue, Option, Some, None, List, [], if◌then◌else◌}
+use Rattle.std.specs.Prelude.{◌≡◌, ℕ, ◌<◌, ◌≤◌, Bool, true, false, IsTrue, Option, Some, None, List, []}
 use Rattle.std.specs.List.{AllByRecursion}
 use Rattle.ram_disc.specs.Disc.{empty_disc}
 use Rattle.session_text.specs.SessionForm.{IsVersion, is_store_size, most_steps}
@@ -68,8 +68,12 @@ pub record IsFullMachine (k : Kernel) : Type 0 where
   pub pipes : PipesStand k
   pub steps : HasSteps k
 
+abbrev pub IsMachine : Bool → Kernel → Type 0
+IsMachine true k = IsBareMachine k
+IsMachine false k = IsFullMachine k
+
 abbrev pub IsValid : Kernel → Type 0
-IsValid k = if k.bare then IsBareMachine k else IsFullMachine k
+IsValid k = IsMachine k.bare k
 
 -- What the code cannot reach yet: residents, and with them task 2 and pipes.
 pub record IsBuilt (k : Kernel) : Type 0 where
