@@ -1,4 +1,6 @@
 pub mod AllThings
+pub mod BlockChanges
+pub mod BlockStarts
 pub mod ChainChanges
 pub mod ChainMoves
 pub mod ChainRules
@@ -7,6 +9,7 @@ pub mod DataLaw
 pub mod EachMember
 pub mod FollowedBlocks
 pub mod FollowingBlocks
+pub mod GivenBlocks
 pub mod ImageWords
 pub mod OneTask
 pub mod OwnedPackets
@@ -23,6 +26,7 @@ pub mod Reading
 pub mod RootCounts
 pub mod RulesKept
 pub mod SettledWords
+pub mod TakenBlocks
 pub mod TaskCounts
 pub mod TaskKind
 pub mod TaskPlaces
