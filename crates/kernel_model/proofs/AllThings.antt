@@ -5,17 +5,13 @@ use Rattle.linked_list.specs.Places.{insert_after}
 use Rattle.linked_list.proofs.AllMembers.{all-append, all-back, all-front}
 use Rattle.linked_list.proofs.Places.{IsPlace, place}
 
-pub all-kept : {X : Type 0} (P Q : X → Type 0) → ((x : X) → P x → Q x) → (xs : List X) → AllByRecursion P xs → AllByRecursion Q xs
-all-kept P Q each [] all = tt
-all-kept P Q each (x ∷ xs) all = (each x all.0, all-kept P Q each xs all.1)
-
 pub all-always : {X : Type 0} (P : X → Type 0) → ((x : X) → P x) → (xs : List X) → AllByRecursion P xs
 all-always P each [] = tt
 all-always P each (x ∷ xs) = (each x, all-always P each xs)
 
-pub all-both : {X : Type 0} (P Q R : X → Type 0) → ((x : X) → P x → Q x → R x) → (xs : List X) → AllByRecursion P xs → AllByRecursion Q xs → AllByRecursion R xs
-all-both P Q R each [] p q = tt
-all-both P Q R each (x ∷ xs) p q = (each x p.0 q.0, all-both P Q R each xs p.1 q.1)
+pub all-from_both : {X : Type 0} (P Q R : X → Type 0) → ((x : X) → P x → Q x → R x) → (xs : List X) → AllByRecursion P xs → AllByRecursion Q xs → AllByRecursion R xs
+all-from_both P Q R each [] p q = tt
+all-from_both P Q R each (x ∷ xs) p q = (each x p.0 q.0, all-from_both P Q R each xs p.1 q.1)
 
 -- one comes in, goes out, or is another
 module _ {X : Type 0} (P : X → Type 0) (front : List X) (x : X) (back : List X) where

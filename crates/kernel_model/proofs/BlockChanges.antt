@@ -15,7 +15,7 @@ use Rattle.kernel_model.specs.ValidLists.{AreValid}
 use Rattle.kernel_model.specs.ValidQueues.{MayStand, Place}
 use Rattle.kernel_model.specs.ValidQueues.Place.{Clock, Keyboard, Output, Pending, Work}
 use Rattle.kernel_model.specs.ValidTasks.{CoroutinesStand, IsCoroutine, IsTask}
-use Rattle.kernel_model.proofs.AllThings.{all-both, all-pieces}
+use Rattle.kernel_model.proofs.AllThings.{all-from_both, all-pieces}
 use Rattle.kernel_model.proofs.QueuedPackets.{work_packets}
 use Rattle.kernel_model.proofs.RulesKept.{CoroutinesStand-kept, IsTask-kept, MayStand-more}
 
@@ -47,7 +47,7 @@ blocks-valid l bs v f =
       tasks =
           record {
             each =
-                all-both (IsTask l) (λ t. is_guest_id t.id ≡ true → KeepsBlock l.blocks bs t.address) (IsTask m) (λ t h keeps. IsTask-kept l m t refl refl (λ all. all) keeps h) l.tasks v.tasks.each
+                all-from_both (IsTask l) (λ t. is_guest_id t.id ≡ true → KeepsBlock l.blocks bs t.address) (IsTask m) (λ t h keeps. IsTask-kept l m t refl refl (λ all. all) keeps h) l.tasks v.tasks.each
                 f.guests;
             distinct = v.tasks.distinct;
             order = v.tasks.order;
@@ -57,12 +57,12 @@ blocks-valid l bs v f =
             reporter = v.tasks.reporter;
           };
       coroutines =
-          all-both (CoroutinesStand l) (λ t. AllByRecursion (λ c. KeepsBlock l.blocks bs c.address) t.coroutines.list) (CoroutinesStand m)
+          all-from_both (CoroutinesStand l) (λ t. AllByRecursion (λ c. KeepsBlock l.blocks bs c.address) t.coroutines.list) (CoroutinesStand m)
           (λ t h keeps. CoroutinesStand-kept l m t (λ all. coroutine t all keeps) h) l.tasks v.coroutines f.coroutines;
       queues =
           record {
             tasks =
-                all-both (λ t. AllByRecursion (MayStand l (Work t.id)) t.queue) (λ t. AllByRecursion (KeepsData l.blocks bs) t.queue) (λ t. AllByRecursion (MayStand m (Work t.id)) t.queue)
+                all-from_both (λ t. AllByRecursion (MayStand l (Work t.id)) t.queue) (λ t. AllByRecursion (KeepsData l.blocks bs) t.queue) (λ t. AllByRecursion (MayStand m (Work t.id)) t.queue)
                 (λ t all keeps. stay (Work t.id) t.queue all keeps) l.tasks v.queues.tasks (all-pieces (KeepsData l.blocks bs) (λ t. t.queue) l.tasks (all-front (KeepsData l.blocks bs) (work_packets l.tasks) devices f.packets));
             clock = stay Clock l.clock v.queues.clock (all-front (KeepsData l.blocks bs) l.clock (l.keyboard ++ (l.output ++ l.pending)) on_devices);
             keyboard = stay Keyboard l.keyboard v.queues.keyboard (all-front (KeepsData l.blocks bs) l.keyboard (l.output ++ l.pending) on_last);
@@ -91,7 +91,7 @@ blocks-valid l bs v f =
 
     coroutine : (t : Task) → AllByRecursion (IsCoroutine l) t.coroutines.list → AllByRecursion (λ c. KeepsBlock l.blocks bs c.address) t.coroutines.list → AllByRecursion (IsCoroutine m) t.coroutines.list
     coroutine t all keeps =
-        all-both (IsCoroutine l) (λ c. KeepsBlock l.blocks bs c.address) (IsCoroutine m) (λ c h keep. record { block = keep c.highest h.block; high = h.high }) t.coroutines.list all keeps
+        all-from_both (IsCoroutine l) (λ c. KeepsBlock l.blocks bs c.address) (IsCoroutine m) (λ c h keep. record { block = keep c.highest h.block; high = h.high }) t.coroutines.list all keeps
 
     stay : (at : Place) (ps : List QueuedPacket) → AllByRecursion (MayStand l at) ps → AllByRecursion (KeepsData l.blocks bs) ps → AllByRecursion (MayStand m at) ps
-    stay at ps all keeps = all-both (MayStand l at) (KeepsData l.blocks bs) (MayStand m at) (λ p h keep. MayStand-more l m at p refl refl keep (λ i some. some) h) ps all keeps
+    stay at ps all keeps = all-from_both (MayStand l at) (KeepsData l.blocks bs) (MayStand m at) (λ p h keep. MayStand-more l m at p refl refl keep (λ i some. some) h) ps all keeps

@@ -15,8 +15,9 @@ use Rattle.kernel_model.specs.ValidLists.{AreValid}
 use Rattle.kernel_model.specs.ValidQueues.{HasSender, MayStand, Place, QueuesStand}
 use Rattle.kernel_model.specs.ValidQueues.Place.{Clock, Keyboard, Output, Pending, Work}
 use Rattle.kernel_model.specs.ValidTasks.{CoroutinesStand, IsCoroutine, IsTask, PrioritiesFall}
-use Rattle.kernel_model.proofs.AllThings.{all-kept, and_not-same}
+use Rattle.kernel_model.proofs.AllThings.{and_not-same}
 use Rattle.kernel_model.proofs.RulesKept.{CoroutinesStand-kept, IsTask-kept}
+use Rattle.kernel_model.proofs.EachMember.{all-each}
 
 -- What a chain in place of another has to meet: the residents of before are there, its tasks and their coroutines stand in order,
 -- the packets may stand where they are queued, the residents' two packets are queued as before, and the running task is there.
@@ -50,7 +51,7 @@ chain-valid l ts v f =
       modules = v.modules;
       tasks =
           record {
-            each = all-kept (IsTask l) (IsTask m) (λ t h. IsTask-kept l m t refl (f.residents 2 refl) (λ h. h) (λ _ u h. h) h) ts f.each;
+            each = all-each (IsTask l) (IsTask m) (λ t h. IsTask-kept l m t refl (f.residents 2 refl) (λ h. h) (λ _ u h. h) h) ts f.each;
             distinct = f.distinct;
             order = f.order;
             shell = f.residents 1 refl ∙ v.tasks.shell;
@@ -58,7 +59,7 @@ chain-valid l ts v f =
             files = f.residents 4 refl ∙ v.tasks.files;
             reporter = λ is. v.tasks.reporter (sym (f.residents 2 refl) ∙ is);
           };
-      coroutines = all-kept (CoroutinesStand l) (CoroutinesStand m) (λ t h. CoroutinesStand-kept l m t (coroutine t) h) ts f.coroutines;
+      coroutines = all-each (CoroutinesStand l) (CoroutinesStand m) (λ t h. CoroutinesStand-kept l m t (coroutine t) h) ts f.coroutines;
       queues =
           record {
             tasks = f.work;
@@ -79,4 +80,4 @@ chain-valid l ts v f =
     m = with_tasks ts l
 
     coroutine : (t : Task) → AllByRecursion (IsCoroutine l) t.coroutines.list → AllByRecursion (IsCoroutine m) t.coroutines.list
-    coroutine t all = all-kept (IsCoroutine l) (IsCoroutine m) (λ c h. record { block = h.block; high = h.high }) t.coroutines.list all
+    coroutine t all = all-each (IsCoroutine l) (IsCoroutine m) (λ c h. record { block = h.block; high = h.high }) t.coroutines.list all

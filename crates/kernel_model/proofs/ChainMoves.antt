@@ -1,10 +1,10 @@
 -- A guest comes into the chain, or goes out of it, and the lists stay valid.
 use Rattle.std.proofs.Common.{◌≡◌, ◌≢◌, ℕ, ◌+◌, ◌<◌, ◌≤◌, ◌⊎◌, List, [], ◌∷◌, ◌++◌, map, eqb, leb, nat_lt, Bool, true, false, inl, inr, refl, sym, ap, ◌∙◌, subst, arith}
 use Rattle.std.proofs.lemmas.Bool.{and_from, cases_lt, eqb-false, eqb-true, leb-false, lt-leb, false≢true, ne_eqb}
-use Rattle.std.specs.List.{AllByRecursion}
+use Rattle.std.specs.List.{AllByRecursion, range_with_len}
 use Rattle.linked_list.specs.Count.{IsApart, times}
 use Rattle.linked_list.specs.Places.{insert_after}
-use Rattle.linked_list.proofs.Counts.{IsApart-cons}
+use Rattle.linked_list.proofs.Counts.{IsApart-cons, range-apart, range-high, range-low}
 use Rattle.linked_list.proofs.Places.{IsPlace, place}
 use Rattle.owned_words.specs.Owned.{owners}
 use Rattle.packet_queue.specs.QueueWords.{QueuedPacket}
@@ -19,15 +19,15 @@ use Rattle.kernel_model.specs.ValidQueues.{HasSender, IsFaultPacket, IsKeyPacket
 use Rattle.kernel_model.specs.ValidQueues.Place.{Clock, Keyboard, Output, Pending, Work}
 use Rattle.kernel_model.specs.ValidTasks.{CoroutinesStand, IsTask, PrioritiesFall}
 use Rattle.kernel_model.specs.Versions.{head_words_of, highest_id_of}
-use Rattle.kernel_model.proofs.AllThings.{all-beside, all-between, all-both, all-here, all-kept, any-found, any-more}
+use Rattle.kernel_model.proofs.AllThings.{all-beside, all-between, all-from_both, all-here, any-found, any-more}
 use Rattle.kernel_model.proofs.ChainChanges.{chain-valid}
 use Rattle.kernel_model.proofs.ChainRules.{falls-beside, falls-insert, guest-other, has_task-other, none-times_id, times-id}
-use Rattle.kernel_model.proofs.FollowingBlocks.{HasBlock-inside}
+use Rattle.kernel_model.proofs.DataInside.{HasBlock-inside}
 use Rattle.kernel_model.proofs.OwnerCounts.{owned-tasks, owners-task_between, owns-fewer, owns-more}
 use Rattle.kernel_model.proofs.QueuedPackets.{is_queued-same, stands_in, work_packets, work_packets-between}
 use Rattle.kernel_model.proofs.RulesKept.{HasSender-kept, MayStand-kept, MayStand-more}
-use Rattle.kernel_model.proofs.TaskCounts.{further_count}
-use Rattle.kernel_model.proofs.TaskSpans.{guest-span, owners-new_task, span, span-once, span-within}
+use Rattle.kernel_model.proofs.TaskCounts.{owners-new_task}
+use Rattle.kernel_model.proofs.EachMember.{all-each}
 
 -- ---- a guest comes in
 
@@ -45,7 +45,7 @@ module _ (l : Lists) (t : Task) (v : AreValid l) (task : IsTask l t) (guest : is
         work =
             all-between (λ z. AllByRecursion (MayStand m (Work z.id)) z.queue) front t back (subst (AllByRecursion (MayStand m (Work t.id))) (sym queue) tt)
             (subst (AllByRecursion (λ z. AllByRecursion (MayStand m (Work z.id)) z.queue)) is
-            (all-kept (λ z. AllByRecursion (MayStand l (Work z.id)) z.queue) (λ z. AllByRecursion (MayStand m (Work z.id)) z.queue) (λ z all. kept (Work z.id) z.queue all) l.tasks v.queues.tasks));
+            (all-each (λ z. AllByRecursion (MayStand l (Work z.id)) z.queue) (λ z. AllByRecursion (MayStand m (Work z.id)) z.queue) (λ z all. kept (Work z.id) z.queue all) l.tasks v.queues.tasks));
         clock = kept Clock l.clock v.queues.clock;
         keyboard = kept Keyboard l.keyboard v.queues.keyboard;
         output = kept Output l.output v.queues.output;
@@ -75,7 +75,7 @@ module _ (l : Lists) (t : Task) (v : AreValid l) (task : IsTask l t) (guest : is
       reporter = has_task-other 2 front t back (guest-other t.id 2 guest refl) ∙ ap (has_task 2) (sym is)
 
       kept : (at : Place) (ps : List QueuedPacket) → AllByRecursion (MayStand l at) ps → AllByRecursion (MayStand m at) ps
-      kept at ps all = all-kept (MayStand l at) (MayStand m at) (λ p h. MayStand-more l m at p refl reporter (λ d. d) keeps h) ps all
+      kept at ps all = all-each (MayStand l at) (MayStand m at) (λ p h. MayStand-more l m at p refl reporter (λ d. d) keeps h) ps all
 
       same : (a : ℕ) → is_queued a m ≡ is_queued a l
       same a = is_queued-same a l m (work_packets-between a front t back (ap (stands_in a) queue) ∙ ap (λ z. stands_in a (work_packets z)) (sym is)) refl refl refl refl
@@ -95,17 +95,18 @@ module _ (l : Lists) (t : Task) (v : AreValid l) (task : IsTask l t) (guest : is
           plain : (x y n : ℕ) → x + 0 ≡ y + n → x ≡ y + n
           plain x y n e = omega arith
 
-      spans : (a : ℕ) → owners a (task_words l.version t 0) ≡ span a t.address (head_words_of l.version)
-      spans a = owners-new_task a l.version t queue list ∙ ap (span a t.address) (guest-span l.version t.id guest)
+      spans : (a : ℕ) → owners a (task_words l.version t 0) ≡ times a (range_with_len t.address (head_words_of l.version))
+      spans a = owners-new_task a l.version t guest queue list
 
       once : (a : ℕ) → owners a (task_words l.version t 0) ≤ 1
-      once a = subst (λ n. n ≤ 1) (sym (spans a)) (span-once a t.address (head_words_of l.version))
+      once a = subst (λ n. n ≤ 1) (sym (spans a)) (range-apart t.address (head_words_of l.version) a)
 
       fresh : (a : ℕ) → 0 < owners a (task_words l.version t 0) → (owners a (owned l) ≡ 0) × (a < l.size)
       fresh a some =
-          let w = span-within a t.address (head_words_of l.version) (subst (λ n. 0 < n) (spans a) some) in
-          let high : a ≤ t.address + (head_words_of l.version + 1001 + t.highest) = plain (head_words_of l.version) w.1 in
-          (unowned a w.0 w.1, HasBlock-inside l t.address (head_words_of l.version + 1001 + t.highest) a v.blocks (task.guest guest).block high)
+          let there : 0 < times a (range_with_len t.address (head_words_of l.version)) = subst (λ n. 0 < n) (spans a) some in
+          let high : a < t.address + head_words_of l.version = range-high a t.address (head_words_of l.version) there in
+          let within : a ≤ t.address + (head_words_of l.version + 1001 + t.highest) = plain (head_words_of l.version) high in
+          (unowned a (range-low a t.address (head_words_of l.version) there) high, HasBlock-inside l t.address (head_words_of l.version + 1001 + t.highest) a v.blocks (task.guest guest).block within)
         where
           plain : (h : ℕ) → a < t.address + h → a ≤ t.address + (h + 1001 + t.highest)
           plain h below = omega arith
@@ -147,13 +148,13 @@ module _ (l : Lists) (front : List Task) (t : Task) (back : List Task) (v : AreV
       number e = cc
 
   stay : (at : Place) (ps : List QueuedPacket) → AllByRecursion (MayStand l at) ps → AllByRecursion (λ p. eqb p.sender t.id ≡ false) ps → AllByRecursion (MayStand (with_tasks (front ++ back) l) at) ps
-  stay at ps all others = all-both (MayStand l at) (λ p. eqb p.sender t.id ≡ false) (MayStand (with_tasks (front ++ back) l) at) (stays at) ps all others
+  stay at ps all others = all-from_both (MayStand l at) (λ p. eqb p.sender t.id ≡ false) (MayStand (with_tasks (front ++ back) l) at) (stays at) ps all others
 
   work-stays : (z : Task) → AllByRecursion (MayStand l (Work z.id)) z.queue → (z.id < 5 → AllByRecursion (λ p. eqb p.sender t.id ≡ false) z.queue) → AllByRecursion (MayStand (with_tasks (front ++ back) l) (Work z.id)) z.queue
   work-stays z all others = on (is_guest_id z.id) refl
     where
       on : (b : Bool) → is_guest_id z.id ≡ b → AllByRecursion (MayStand (with_tasks (front ++ back) l) (Work z.id)) z.queue
-      on true high = all-kept (MayStand l (Work z.id)) (MayStand (with_tasks (front ++ back) l) (Work z.id)) (λ p h. stays-with_guest z.id p high h) z.queue all
+      on true high = all-each (MayStand l (Work z.id)) (MayStand (with_tasks (front ++ back) l) (Work z.id)) (λ p h. stays-with_guest z.id p high h) z.queue all
       on false low = stay (Work z.id) z.queue all (others (leb-false 5 z.id low))
 
   -- a guest's queue has none of the residents' packets
@@ -214,7 +215,7 @@ module _ (l : Lists) (front : List Task) (t : Task) (back : List Task) (v : AreV
         work =
             all-beside (λ z. AllByRecursion (MayStand m (Work z.id)) z.queue) front t back
             (subst (AllByRecursion (λ z. AllByRecursion (MayStand m (Work z.id)) z.queue)) is
-            (all-both (λ z. AllByRecursion (MayStand l (Work z.id)) z.queue) (λ z. z.id < 5 → AllByRecursion (λ p. eqb p.sender t.id ≡ false) z.queue)
+            (all-from_both (λ z. AllByRecursion (MayStand l (Work z.id)) z.queue) (λ z. z.id < 5 → AllByRecursion (λ p. eqb p.sender t.id ≡ false) z.queue)
               (λ z. AllByRecursion (MayStand m (Work z.id)) z.queue) work-stays l.tasks v.queues.tasks out.tasks));
         clock = stay Clock l.clock v.queues.clock out.clock;
         keyboard = stay Keyboard l.keyboard v.queues.keyboard out.keyboard;

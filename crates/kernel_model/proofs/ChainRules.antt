@@ -9,7 +9,7 @@ use Rattle.linked_list.proofs.MappedLists.{map-append}
 use Rattle.kernel_model.specs.Lists.{has_task}
 use Rattle.kernel_model.specs.Task.{Task, is_guest_id, task_id}
 use Rattle.kernel_model.specs.ValidTasks.{PrioritiesFall}
-use Rattle.kernel_model.proofs.AllThings.{all-beside, all-both, all-fail, all-inserted, all-put, any-between, any-found, any-put}
+use Rattle.kernel_model.proofs.AllThings.{all-beside, all-fail, all-from_both, all-inserted, all-put, any-between, any-found, any-put}
 
 -- ---- numbers
 
@@ -81,4 +81,4 @@ falls-insert t (q ∷ qs) fall differ = on (list_any (above t) (q ∷ qs)) refl 
 
     on : (b : Bool) → list_any (above t) (q ∷ qs) ≡ b → PrioritiesFall (insert_after (above t) t qs) → PrioritiesFall (cond b (q ∷ insert_after (above t) t qs) (t ∷ q ∷ qs))
     on true some more = (all-inserted (λ u. u.priority < q.priority) (above t) t qs (first-above t q qs fall.0 some) fall.0, more)
-    on false none more = (all-both (λ u. above t u ≡ false) (λ u. u.priority ≢ t.priority) (λ u. u.priority < t.priority) lower (q ∷ qs) (all-fail (above t) (q ∷ qs) none) differ, fall)
+    on false none more = (all-from_both (λ u. above t u ≡ false) (λ u. u.priority ≢ t.priority) (λ u. u.priority < t.priority) lower (q ∷ qs) (all-fail (above t) (q ∷ qs) none) differ, fall)

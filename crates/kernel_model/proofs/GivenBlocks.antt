@@ -24,7 +24,7 @@ use Rattle.kernel_model.specs.Owned.{owned}
 use Rattle.kernel_model.specs.Task.{Task, is_guest_id, task_address}
 use Rattle.kernel_model.specs.ValidBlocks.{AreData, HasBlock, last_module_word, last_resident_word}
 use Rattle.kernel_model.specs.ValidLists.{AreValid}
-use Rattle.kernel_model.proofs.AllThings.{all-both, and-other}
+use Rattle.kernel_model.proofs.AllThings.{all-from_both, and-other}
 use Rattle.kernel_model.proofs.BlockChanges.{KeepsBlock, KeepsData, blocks-valid}
 use Rattle.kernel_model.proofs.BlockStarts.{AreData-kept}
 use Rattle.kernel_model.proofs.EachMember.{all-each, find-passes}
@@ -88,7 +88,7 @@ given-valid l v valid idle =
       follow = follow;
       residents = λ r. keeps 201 (λ e. eqb-false v 201 (and-other l.residents (eqb v 201) users.residents r) (sym e)) (last_resident_word l) (valid.numbers.residents r);
       modules =
-          all-both (λ m. HasBlock l.blocks m.address (last_module_word m)) (λ m. m.address ≢ v) (λ m. HasBlock (given v l.blocks) m.address (last_module_word m))
+          all-from_both (λ m. HasBlock l.blocks m.address (last_module_word m)) (λ m. m.address ≢ v) (λ m. HasBlock (given v l.blocks) m.address (last_module_word m))
           (λ m h ne. keeps m.address ne (last_module_word m) h) l.modules valid.modules (all-elsewhere module_address v l.modules users.modules);
       guests = all-each (λ t. t.address ≢ v) (λ t. is_guest_id t.id ≡ true → KeepsBlock l.blocks (given v l.blocks) t.address) (λ t ne _. keeps t.address ne) l.tasks (all-elsewhere task_address v l.tasks users.tasks);
       coroutines =

@@ -5,10 +5,10 @@ pub mod ChainChanges
 pub mod ChainMoves
 pub mod ChainRules
 pub mod CutRanges
+pub mod DataInside
 pub mod DataLaw
 pub mod EachMember
 pub mod FollowedBlocks
-pub mod FollowingBlocks
 pub mod GivenBlocks
 pub mod ImageWords
 pub mod OneTask
@@ -30,6 +30,5 @@ pub mod TakenBlocks
 pub mod TaskCounts
 pub mod TaskKind
 pub mod TaskPlaces
-pub mod TaskSpans
 pub mod UsedData
 pub mod WorkQueues

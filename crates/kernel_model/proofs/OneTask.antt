@@ -15,13 +15,14 @@ use Rattle.kernel_model.specs.ValidQueues.{MayStand, Place}
 use Rattle.kernel_model.specs.ValidQueues.Place.{Clock, Keyboard, Output, Pending, Work}
 use Rattle.kernel_model.specs.ValidTasks.{CoroutinesStand, IsTask, PrioritiesFall}
 use Rattle.kernel_model.specs.Versions.{highest_id_of}
-use Rattle.kernel_model.proofs.AllThings.{all-here, all-kept, all-put, map-put}
+use Rattle.kernel_model.proofs.AllThings.{all-here, all-put, map-put}
 use Rattle.kernel_model.proofs.ChainChanges.{chain-valid}
 use Rattle.kernel_model.proofs.ChainRules.{falls-same, has_task-same}
 use Rattle.kernel_model.proofs.OwnerCounts.{owned-tasks, owners-task_between, owns-fewer}
 use Rattle.kernel_model.proofs.QueuedPackets.{is_queued-same, stands_in, work_packets, work_packets-put}
 use Rattle.kernel_model.proofs.RulesKept.{MayStand-more}
 use Rattle.kernel_model.proofs.TaskCounts.{owners-same_task}
+use Rattle.kernel_model.proofs.EachMember.{all-each}
 
 module _ (l : Lists) (front : List Task) (t u : Task) (back : List Task) (is : l.tasks ≡ front ++ t ∷ back) where
   -- what is owned changes by what the task owns
@@ -51,7 +52,7 @@ module _ (l : Lists) (front : List Task) (t u : Task) (back : List Task) (is : l
         order = falls-same front t u back priority (subst PrioritiesFall is v.tasks.order);
         coroutines = all-put (CoroutinesStand l) front t back u coroutines (subst (AllByRecursion (CoroutinesStand l)) is v.coroutines);
         work =
-            all-kept (λ z. AllByRecursion (MayStand l (Work z.id)) z.queue) (λ z. AllByRecursion (MayStand m (Work z.id)) z.queue) (λ z all. queue-kept (Work z.id) z.queue all) (front ++ u ∷ back)
+            all-each (λ z. AllByRecursion (MayStand l (Work z.id)) z.queue) (λ z. AllByRecursion (MayStand m (Work z.id)) z.queue) (λ z all. queue-kept (Work z.id) z.queue all) (front ++ u ∷ back)
             (all-put (λ z. AllByRecursion (MayStand l (Work z.id)) z.queue) front t back u queue (subst (AllByRecursion (λ z. AllByRecursion (MayStand l (Work z.id)) z.queue)) is v.queues.tasks));
         clock = queue-kept Clock l.clock v.queues.clock;
         keyboard = queue-kept Keyboard l.keyboard v.queues.keyboard;
@@ -70,7 +71,7 @@ module _ (l : Lists) (front : List Task) (t u : Task) (back : List Task) (is : l
       same i = has_task-same i front t u back id ∙ ap (has_task i) (sym is)
 
       queue-kept : (at : Place) (ps : List QueuedPacket) → AllByRecursion (MayStand l at) ps → AllByRecursion (MayStand m at) ps
-      queue-kept at ps all = all-kept (MayStand l at) (MayStand m at) (λ p h. MayStand-more l m at p refl (same 2) (λ d. d) (λ i some. same i ∙ some) h) ps all
+      queue-kept at ps all = all-each (MayStand l at) (MayStand m at) (λ p h. MayStand-more l m at p refl (same 2) (λ d. d) (λ i some. same i ∙ some) h) ps all
 
       same-queued : (a : ℕ) → stands_in a u.queue ≡ stands_in a t.queue → is_queued a m ≡ is_queued a l
       same-queued a e = is_queued-same a l m (work_packets-put a front t u back e ∙ ap (λ z. stands_in a (work_packets z)) (sym is)) refl refl refl refl

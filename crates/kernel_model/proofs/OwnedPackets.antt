@@ -4,7 +4,8 @@ use Rattle.std.specs.Prelude.{is_some}
 use Rattle.std.specs.List.{list_any, range_with_len}
 use Rattle.std.proofs.lemmas.Bool.{and_parts, eqb-true, false≢true, or_cases}
 use Rattle.std.proofs.lemmas.List.Folds.{list_any-append}
-use Rattle.linked_list.specs.Count.{hit, times}
+use Rattle.linked_list.specs.Count.{hit, times, words_of}
+use Rattle.coroutines.specs.CoroutineWords.{coroutine_size}
 use Rattle.linked_list.proofs.Counts.{hit-same}
 use Rattle.owned_words.specs.LinkedWords.{first_of, headed_words, linked_words}
 use Rattle.owned_words.specs.Owned.{owners}
@@ -28,7 +29,7 @@ use Rattle.kernel_model.specs.ValidQueues.{is_fault_packet, is_key_packet}
 use Rattle.kernel_model.specs.Versions.{highest_id_of}
 use Rattle.kernel_model.proofs.OwnerCounts.{owners-devices, owners-owned, owners-residents, packets_count, root_count}
 use Rattle.kernel_model.proofs.QueuedPackets.{is_queued-parts, stands_in, work_packets}
-use Rattle.kernel_model.proofs.TaskCounts.{coroutines_count, further_count, owners-task, state_count}
+use Rattle.kernel_model.proofs.TaskCounts.{further_count, owners-task_by}
 
 -- ---- a packet of a queue
 
@@ -45,11 +46,11 @@ packets-owned a (p ∷ ps) some = on (eqb p.address a) refl some (packets-owned 
 
 task-owned : (a version : ℕ) (t : Task) (n : ℕ) → 0 < packets_count a t.queue → 0 < owners a (task_words version t n)
 task-owned a version t n some =
-    within (hit a t.address) (times a (range_with_len (t.address + 1) 2)) (state_count a t.address) (times a (range_with_len (t.address + word_index Extra1) (suc (suc (further_count version t.id)))))
-    (hit a (queue_head t.address)) (packets_count a t.queue) (coroutines_count a t.address (coroutine_addresses t)) (owners a (task_words version t n)) (owners-task a version t n) some
+    within (times a (range_with_len t.address 23)) (times a (range_with_len (t.address + 23) (further_count version t.id))) (packets_count a t.queue) (times a (words_of coroutine_size (coroutine_addresses t)))
+    (owners a (task_words version t n)) (owners-task_by a version t n) some
   where
-    within : (h n s f q p c w : ℕ) → w ≡ h + (n + (s + (f + ((q + p) + c)))) → 0 < p → 0 < w
-    within h n s f q p c w e some = omega arith
+    within : (h f p c w : ℕ) → w ≡ h + (f + (p + c)) → 0 < p → 0 < w
+    within h f p c w e some = omega arith
 
 -- a packet of a work queue
 work-owned : (a version : ℕ) (ts : List Task) → stands_in a (work_packets ts) ≡ true → 0 < owners a (linked_words task_address (task_words version) ts 0)

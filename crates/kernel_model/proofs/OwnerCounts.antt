@@ -18,6 +18,7 @@ use Rattle.kernel_model.specs.Owned.{OwnsApart, clock_head, device_words, keyboa
 use Rattle.kernel_model.specs.Residents.{fault_packet_words, key_arguments, key_words, pending_head, resident_words}
 use Rattle.kernel_model.specs.Root.{root_words}
 use Rattle.kernel_model.specs.Task.{Task, task_address, task_id, task_words}
+use Rattle.kernel_model.proofs.RootCounts.{owners-entries}
 
 -- ---- linked things
 
@@ -71,11 +72,6 @@ owners-owned a l = plus-six a (root_words l (address_of_task l l.running)) (bloc
 pub owners-devices : (a : ℕ) (l : Lists) → owners a (device_words l) ≡ owners a (queue_words clock_head l.clock) + (owners a (queue_words keyboard_head l.keyboard) + owners a (queue_words output_head l.output))
 owners-devices a l = plus-three a (queue_words clock_head l.clock) (queue_words keyboard_head l.keyboard) (queue_words output_head l.output)
 
--- the entries of the table, whatever they hold
-pub owners-entries : (a : ℕ) (f g : ℕ → ℕ) (i n : ℕ) → owners a (entries f i n) ≡ owners a (entries g i n)
-owners-entries a f g i zero = refl
-owners-entries a f g i (suc n) = ap (λ z. hit a (120 + i) + z) (owners-entries a f g (i + 1) n)
-
 -- what comes into a chain with its table
 pub owners-listed_between : {X : Type 0} (a : ℕ) (address id : X → ℕ) (words : X → ℕ → Pairs) → HasSteadyWords a words → (top : ℕ) (front : List X) (x : X) (back : List X)
     → owners a (listed_words address id words top (front ++ x ∷ back)) ≡ owners a (listed_words address id words top (front ++ back)) + owners a (words x 0)
@@ -84,7 +80,8 @@ owners-listed_between a address id words steady top front x back =
       arith,
       owners-append a (entries (address_with address id (front ++ x ∷ back)) 1 top) (headed_words address words first_task (front ++ x ∷ back) 0),
       owners-append a (entries (address_with address id (front ++ back)) 1 top) (headed_words address words first_task (front ++ back) 0),
-      owners-entries a (address_with address id (front ++ x ∷ back)) (address_with address id (front ++ back)) 1 top,
+      owners-entries a (address_with address id (front ++ x ∷ back)) 1 top,
+      owners-entries a (address_with address id (front ++ back)) 1 top,
       owners-linked_between a address words steady front x back 0,
     )
 

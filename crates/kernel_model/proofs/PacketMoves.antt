@@ -11,7 +11,7 @@ use Rattle.kernel_model.specs.ValidLists.{AreValid}
 use Rattle.kernel_model.specs.ValidQueues.{MayStand, Place, is_fault_packet, is_key_packet}
 use Rattle.kernel_model.specs.ValidQueues.Place.{Clock, Keyboard, Output, Pending, Work}
 use Rattle.kernel_model.proofs.AllThings.{all-beside, all-between, and-other, any-between}
-use Rattle.kernel_model.proofs.FollowingBlocks.{AreData-inside}
+use Rattle.kernel_model.proofs.DataInside.{AreData-inside}
 use Rattle.kernel_model.proofs.OwnedPackets.{unowned-no_fault, unowned-no_key}
 use Rattle.kernel_model.proofs.OwnerCounts.{owners-packet_between, owns-fewer, owns-more, packets_count}
 use Rattle.kernel_model.proofs.QueueCounts.{owned-queue, packet-once, packet-within}

@@ -32,19 +32,14 @@ packet-within a p n some =
 
 -- ---- a queue in place of another
 
-cancel : (x y h q r : ℕ) → x + (h + q) ≡ y + (h + r) → x + q ≡ y + r
-cancel x y h q r e = omega arith
-
 pub owned-queue : (a : ℕ) (l : Lists) (at : Place) (ps : List QueuedPacket) → IsApart (map task_id l.tasks) → HasPlace l at
     → owners a (owned (with_queue at ps l)) + packets_count a (queue_of at l) ≡ owners a (owned l) + packets_count a ps
 owned-queue a l (Work id) ps apart has =
     let r : WorkSplit id ps l.tasks = work-split id ps l.tasks apart has in
     let u : Task = record r.task { queue = ps } in
-    let h : ℕ = queue_head r.task.address in
-    cancel (owners a (owned (with_queue (Work id) ps l))) (owners a (owned l)) (hit a h) (packets_count a (queue_of (Work id) l)) (packets_count a ps)
-    (subst (λ q. owners a (owned (with_queue (Work id) ps l)) + (hit a h + packets_count a q) ≡ owners a (owned l) + (hit a h + packets_count a ps)) (sym r.queue)
-    (subst (λ z. owners a (owned (with_tasks z l)) + (hit a h + packets_count a r.task.queue) ≡ owners a (owned l) + (hit a h + packets_count a ps)) (sym r.becomes)
-    (owned-one_task l r.front r.task u r.back r.whole a (owners a (queue_words h r.task.queue)) (owners a (queue_words h ps)) (owners-task_queue a l.version r.task ps))))
+    subst (λ q. owners a (owned (with_queue (Work id) ps l)) + packets_count a q ≡ owners a (owned l) + packets_count a ps) (sym r.queue)
+    (subst (λ z. owners a (owned (with_tasks z l)) + packets_count a r.task.queue ≡ owners a (owned l) + packets_count a ps) (sym r.becomes)
+    (owned-one_task l r.front r.task u r.back r.whole a (packets_count a r.task.queue) (packets_count a ps) (owners-task_queue a l.version r.task ps)))
 owned-queue a l Clock ps apart has =
     owned-queues a l (packets_count a l.clock) (packets_count a ps) ps l.keyboard l.output l.pending l.key
     (first (owners a (device_words l)) (owners a (device_words (with_queues ps l.keyboard l.output l.pending l.key l))) (hit a clock_head) (packets_count a l.clock) (packets_count a ps)

@@ -13,12 +13,13 @@ use Rattle.kernel_model.specs.ValidLists.{AreValid}
 use Rattle.kernel_model.specs.ValidQueues.{MayStand, NeverFall, Place}
 use Rattle.kernel_model.specs.ValidQueues.Place.{Clock, Keyboard, Output, Pending, Work}
 use Rattle.kernel_model.specs.ValidTasks.{CoroutinesStand, IsCoroutine, IsTask}
-use Rattle.kernel_model.proofs.AllThings.{all-beside, all-here, all-kept, and_not-same}
+use Rattle.kernel_model.proofs.AllThings.{all-beside, all-here, and_not-same}
 use Rattle.kernel_model.proofs.OneTask.{task-changed}
 use Rattle.kernel_model.proofs.OwnerCounts.{with_queues}
 use Rattle.kernel_model.proofs.QueuedPackets.{is_queued-same, stands_in}
 use Rattle.kernel_model.proofs.RulesKept.{CoroutinesStand-kept, IsTask-kept, IsTask-queue, MayStand-more}
 use Rattle.kernel_model.proofs.WorkQueues.{WorkSplit, work-split}
+use Rattle.kernel_model.proofs.EachMember.{all-each}
 
 -- ---- the order of due ticks
 
@@ -77,7 +78,7 @@ queues-valid l c k o p x v f key fault owns =
       modules = v.modules;
       tasks =
           record {
-            each = all-kept (IsTask l) (IsTask m) (λ t h. IsTask-kept l m t refl refl (λ h. h) (λ _ u h. h) h) l.tasks v.tasks.each;
+            each = all-each (IsTask l) (IsTask m) (λ t h. IsTask-kept l m t refl refl (λ h. h) (λ _ u h. h) h) l.tasks v.tasks.each;
             distinct = v.tasks.distinct;
             order = v.tasks.order;
             shell = v.tasks.shell;
@@ -85,10 +86,10 @@ queues-valid l c k o p x v f key fault owns =
             files = v.tasks.files;
             reporter = v.tasks.reporter;
           };
-      coroutines = all-kept (CoroutinesStand l) (CoroutinesStand m) (λ t h. CoroutinesStand-kept l m t (coroutine t) h) l.tasks v.coroutines;
+      coroutines = all-each (CoroutinesStand l) (CoroutinesStand m) (λ t h. CoroutinesStand-kept l m t (coroutine t) h) l.tasks v.coroutines;
       queues =
           record {
-            tasks = all-kept (λ t. AllByRecursion (MayStand l (Work t.id)) t.queue) (λ t. AllByRecursion (MayStand m (Work t.id)) t.queue) (λ t all. moved (Work t.id) t.queue all) l.tasks v.queues.tasks;
+            tasks = all-each (λ t. AllByRecursion (MayStand l (Work t.id)) t.queue) (λ t. AllByRecursion (MayStand m (Work t.id)) t.queue) (λ t all. moved (Work t.id) t.queue all) l.tasks v.queues.tasks;
             clock = moved Clock c f.clock;
             keyboard = moved Keyboard k f.keyboard;
             output = moved Output o f.output;
@@ -106,10 +107,10 @@ queues-valid l c k o p x v f key fault owns =
     m = with_queues c k o p x l
 
     coroutine : (t : Task) → AllByRecursion (IsCoroutine l) t.coroutines.list → AllByRecursion (IsCoroutine m) t.coroutines.list
-    coroutine t all = all-kept (IsCoroutine l) (IsCoroutine m) (λ c h. record { block = h.block; high = h.high }) t.coroutines.list all
+    coroutine t all = all-each (IsCoroutine l) (IsCoroutine m) (λ c h. record { block = h.block; high = h.high }) t.coroutines.list all
 
     moved : (at : Place) (ps : List QueuedPacket) → AllByRecursion (MayStand l at) ps → AllByRecursion (MayStand m at) ps
-    moved at ps all = all-kept (MayStand l at) (MayStand m at) (λ p h. MayStand-more l m at p refl refl (λ d. d) (λ i some. some) h) ps all
+    moved at ps all = all-each (MayStand l at) (MayStand m at) (λ p h. MayStand-more l m at p refl refl (λ d. d) (λ i some. some) h) ps all
 
 -- ---- a queue at any place, where the residents' two packets are on it as before
 
