@@ -67,11 +67,11 @@ pub fn new_task_law()
         → AreValid (with_new_task t l) }
 {}
 
-/// A guest goes out that has no packets and no coroutines, does not run, and has sent none that a resident or a device still has.
+/// A guest goes out that does not run, and has sent no packet that a resident or a device still has. Its own packets and
+/// coroutines go with it: their words are nobody's then.
 pub fn gone_task_law()
     ensures { (l : Lists) (front back : List Task) (t : Task) → AreValid l
         → l.tasks ≡ front ++ t ∷ back → is_guest_id t.id ≡ true
-        → t.queue ≡ [] → t.coroutines.list ≡ [] → l.running ≢ t.id
-        → HasNoPacketsOut l t.id
+        → l.running ≢ t.id → HasNoPacketsOut l t.id
         → AreValid (with_tasks (front ++ back) l) }
 {}

@@ -1,0 +1,30 @@
+-- Data of blocks are words of the store.
+use Rattle.std.proofs.Common.{◌≡◌, ℕ, ◌+◌, ◌-◌, ◌<◌, ◌≤◌, arith}
+use Rattle.getvec_chain.specs.declared.pieces.Block.{Block}
+use Rattle.getvec_chain.specs.Block.{block_end, has_data, is_used_at, used_block}
+use Rattle.getvec_chain.specs.Run.{need}
+use Rattle.getvec_chain.specs.Tiling.{Follow, holding, used_at}
+use Rattle.kernel_model.specs.Lists.{Lists}
+use Rattle.kernel_model.specs.ValidBlocks.{AreData, BlocksTile, HasBlock}
+use Rattle.kernel_model.proofs.FollowedBlocks.{IsWithin, found-within}
+
+-- data of a block are words of the store
+pub AreData-inside : (l : Lists) (p n a : ℕ) → BlocksTile l → AreData l.blocks p n → a < p + n → a < l.size
+AreData-inside l p n a tile d below =
+    let r = found-within (λ b. has_data b p) 200 l.blocks (l.size - 2) d.block tile d.holds in
+    inside d.block.start d.block.size (l.size) r.low r.high r.some d.whole
+  where
+    inside : (start size top : ℕ) → 200 ≤ start → start + size ≤ top - 2 → 2 ≤ size → p + n ≤ start + size → a < top
+    inside start size top low high some whole = omega (arith, below, low, high, some, whole)
+
+-- and so are those of a used block
+pub HasBlock-inside : (l : Lists) (v u a : ℕ) → BlocksTile l → HasBlock l.blocks v u → a ≤ v + u → a < l.size
+HasBlock-inside l v u a tile h below =
+    let r = found-within (is_used_at v) 200 l.blocks (l.size - 2) (used_block h.start (need u)) tile h.block in
+    inside h.start (need u) l.size h.here (large u) r.low r.high
+  where
+    large : (u : ℕ) → u + 2 ≤ need u
+    large u = omega arith
+
+    inside : (start size top : ℕ) → v ≡ start + 1 → u + 2 ≤ size → 200 ≤ start → start + size ≤ top - 2 → a < top
+    inside start size top here some low high = omega (arith, below, here, some, low, high)

@@ -1,0 +1,119 @@
+-- The rules of one task, of its coroutines and of one packet, from some lists to others that have what they ask.
+use Rattle.std.proofs.Common.{◌≡◌, ℕ, ◌+◌, ◌<◌, ◌≤◌, List, map, length, Bool, true, false, refl, sym, ap, ◌∙◌, subst}
+use Rattle.std.specs.List.{AllByRecursion}
+use Rattle.linked_list.specs.Places.{has}
+use Rattle.hunk_loader.specs.HeldModules.{module_address}
+use Rattle.packet_queue.specs.QueueWords.{QueuedPacket}
+use Rattle.kernel_model.specs.Lists.{Lists, has_task}
+use Rattle.kernel_model.specs.Task.{Task, is_guest_id}
+use Rattle.kernel_model.specs.ValidBlocks.{AreData, HasBlock}
+use Rattle.kernel_model.specs.ValidQueues.{HasSender, IsFaultPacket, IsKeyPacket, MayStand, Place, is_fault_packet, is_key_packet}
+use Rattle.kernel_model.specs.ValidQueues.Place.{Clock, Keyboard, Output, Pending, Work}
+use Rattle.kernel_model.specs.ValidTasks.{CoroutinesStand, IsCoroutine, IsGuest, IsTask}
+use Rattle.kernel_model.specs.Versions.{head_words_of, highest_id_of, most_modules_of}
+
+-- a module is there
+abbrev pub HasModule : Lists → ℕ → Type 0
+HasModule l m = has m (map module_address l.modules) ≡ true
+
+pub IsGuest-kept : (l m : Lists) (t : Task) → m.version ≡ l.version → has_task 2 m.tasks ≡ has_task 2 l.tasks
+    → (AllByRecursion (HasModule l) t.modules → AllByRecursion (HasModule m) t.modules)
+    → ((u : ℕ) → HasBlock l.blocks t.address u → HasBlock m.blocks t.address u)
+    → IsGuest l t → IsGuest m t
+IsGuest-kept l m t version reporter modules blocks g =
+    record {
+      high = subst (λ v. t.id ≤ highest_id_of v) (sym version) g.high;
+      block =
+          subst (λ v. HasBlock m.blocks t.address (head_words_of v + 1001 + t.highest)) (sym version)
+          (blocks (head_words_of l.version + 1001 + t.highest) g.block);
+      some_module = g.some_module;
+      most = subst (λ v. length t.modules ≤ most_modules_of v) (sym version) g.most;
+      modules = modules g.modules;
+      fault = g.fault;
+      unreported = λ none. g.unreported (sym reporter ∙ none);
+    }
+
+pub IsTask-kept : (l m : Lists) (t : Task) → m.version ≡ l.version → has_task 2 m.tasks ≡ has_task 2 l.tasks
+    → (AllByRecursion (HasModule l) t.modules → AllByRecursion (HasModule m) t.modules)
+    → (is_guest_id t.id ≡ true → (u : ℕ) → HasBlock l.blocks t.address u → HasBlock m.blocks t.address u)
+    → IsTask l t → IsTask m t
+IsTask-kept l m t version reporter modules blocks h =
+    record {
+      low = h.low;
+      high = h.high;
+      maker = subst (λ v. t.maker ≤ highest_id_of v) (sym version) h.maker;
+      field = h.field;
+      byte = h.byte;
+      guest = λ is. IsGuest-kept l m t version reporter modules (blocks is) (h.guest is);
+      resident = h.resident;
+    }
+
+-- the rules of a task do not ask for its queue
+pub IsTask-queue : (l : Lists) (t : Task) (ps : List QueuedPacket) → IsTask l t → IsTask l (record t { queue = ps })
+IsTask-queue l t ps h =
+    record {
+      low = h.low;
+      high = h.high;
+      maker = h.maker;
+      field = h.field;
+      byte = h.byte;
+      guest = λ is.
+          let g = h.guest is in
+          record { high = g.high; block = g.block; some_module = g.some_module; most = g.most; modules = g.modules; fault = g.fault; unreported = g.unreported };
+      resident = λ is.
+          let r = h.resident is in
+          record {
+            place = r.place;
+            modules = r.modules;
+            stack = r.stack;
+            fault = r.fault;
+            fault_address = r.fault_address;
+            saved = r.saved;
+            coroutines = r.coroutines;
+            active = r.active;
+            alive = r.alive;
+            free = r.free;
+          };
+    }
+
+pub CoroutinesStand-kept : (l m : Lists) (t : Task) → (AllByRecursion (IsCoroutine l) t.coroutines.list → AllByRecursion (IsCoroutine m) t.coroutines.list) → CoroutinesStand l t → CoroutinesStand m t
+CoroutinesStand-kept l m t each h = record { each = each h.each; members = h.members; distinct = h.distinct }
+
+-- ---- packets
+
+-- who sent it is still there
+pub HasSender-kept : (l m : Lists) (at : Place) (s : ℕ) → (has_task s l.tasks ≡ true → has_task s m.tasks ≡ true) → HasSender l at s → HasSender m at s
+HasSender-kept l m (Work id) s keeps h = λ resident. keeps (h resident)
+HasSender-kept l m Clock s keeps h = (h.0, keeps h.1)
+HasSender-kept l m Keyboard s keeps h = (h.0, keeps h.1)
+HasSender-kept l m Output s keeps h = (h.0, keeps h.1)
+HasSender-kept l m Pending s keeps h = keeps h
+
+pub MayStand-kept : (l m : Lists) (at : Place) (p : QueuedPacket) → m.residents ≡ l.residents → has_task 2 m.tasks ≡ has_task 2 l.tasks
+    → (AreData l.blocks p.address 5 → AreData m.blocks p.address 5)
+    → (HasSender l at p.sender → HasSender m at p.sender)
+    → (at ≡ Work 2 → has_task p.sender l.tasks ≡ true → has_task p.sender m.tasks ≡ true)
+    → MayStand l at p → MayStand m at p
+MayStand-kept l m at p residents reporter lodged sender by_fault h =
+    record {
+      lodged = lodged h.lodged;
+      key = λ is. h.key (sym key_same ∙ is);
+      fault = λ is.
+          let f : IsFaultPacket l at p = h.fault (sym fault_same ∙ is) in
+          record { place = f.place; kind = f.kind; res1 = f.res1; last = f.last; sender = by_fault f.place f.sender };
+      sender = λ none. sender (h.sender (sym key_same ∙ none));
+    }
+  where
+    key_same : is_key_packet m p ≡ is_key_packet l p
+    key_same = rw residents
+
+    fault_same : is_fault_packet m p ≡ is_fault_packet l p
+    fault_same = rw reporter
+
+-- where the same packets are data, and all tasks are still there
+pub MayStand-more : (l m : Lists) (at : Place) (p : QueuedPacket) → m.residents ≡ l.residents → has_task 2 m.tasks ≡ has_task 2 l.tasks
+    → (AreData l.blocks p.address 5 → AreData m.blocks p.address 5)
+    → ((i : ℕ) → has_task i l.tasks ≡ true → has_task i m.tasks ≡ true)
+    → MayStand l at p → MayStand m at p
+MayStand-more l m at p residents reporter lodged keeps h =
+    MayStand-kept l m at p residents reporter lodged (HasSender-kept l m at p.sender (keeps p.sender)) (λ _. keeps p.sender) h
