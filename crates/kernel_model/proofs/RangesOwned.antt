@@ -162,6 +162,7 @@ module _ (s : List ℕ) (l : Lists) (i : HoldsLists s l) (a : ℕ) where
       }
 
   pub ranges-owned : (is_kernel_word s a ≡ true) ↔ (0 < owners a (owned l))
-  ranges-owned =
-      (λ found. omega (arith, found-hits a (kernel_ranges s) found, all-near.high),
-      λ some. hits-found a (kernel_ranges s) (omega (arith, some, all-near.low)))
+  ranges-owned = (
+    λ found. omega (arith, found-hits a (kernel_ranges s) found, all-near.high),
+    λ some. hits-found a (kernel_ranges s) (omega (arith, some, all-near.low)),
+  )

@@ -95,8 +95,8 @@ module _ (s : List ℕ) (l : Lists) (i : HoldsLists s l) where
       })
       l.tasks
       (all-both _ _ l.tasks
-        ids-read
-        (all-both _ _ l.tasks reads.work reads.coroutines))
+      ids-read
+      (all-both _ _ l.tasks reads.work reads.coroutines))
 
   has-read : (ts : List Task) → AllByRecursion (λ t. id_in s t.address ≡ t.id) ts → list_any (λ t. eqb (id_in s t) 2) (map task_address ts) ≡ has_task 2 ts
   has-read [] all = refl
@@ -145,11 +145,11 @@ module _ (s : List ℕ) (l : Lists) (i : HoldsLists s l) where
       record {
         tiled = reads.tiled;
         module_words = subst (AllByRecursion (IsModuleIn s)) (sym modules.list) (all-addresses module_address (IsModuleIn s) l.modules
-          (modules-inside l.modules 0 parts.modules.1 (λ a some. reads.modules.held.inside a (omega (arith, some)))));
+            (modules-inside l.modules 0 parts.modules.1 (λ a some. reads.modules.held.inside a (omega (arith, some)))));
         chain = can_walk s task_link task_size first_task reads.tasks.tasks.chain;
         modules = can_walk s module_link module_size 104 modules.stands;
         tasks = subst (AllByRecursion (CanWalkTask s)) (sym reads.tasks.chain) (all-addresses task_address (CanWalkTask s) l.tasks
-          (all-each _ (λ t. CanWalkTask s t.address) (λ t both. task-walk t both.0 both.1) l.tasks (all-both _ _ l.tasks reads.work reads.coroutines)));
+            (all-each _ (λ t. CanWalkTask s t.address) (λ t both. task-walk t both.0 both.1) l.tasks (all-both _ _ l.tasks reads.work reads.coroutines)));
         clock = list-walk clock_head l.clock reads.clock;
         keyboard = list-walk keyboard_head l.keyboard reads.keyboard;
         output = list-walk output_head l.output reads.output;

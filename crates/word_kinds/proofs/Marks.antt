@@ -1,13 +1,13 @@
 -- What becomes known where ranges are claimed, released, or shown to an empty map.
-use Rattle.std.proofs.Common.{◌≡◌, ◌↔◌, ℕ, ◌+◌, ◌<◌, ◌≤◌, ◌&&◌, ◌||◌, Bool, true, false, List, cond, get_or, leb, length, ltb, refl, replicate, sym, ap, ◌∙◌, subst, arith, inl, inr, le-leb, lt-ltb}
-use Rattle.std.specs.List.{list_any, range_with_len}
+use Rattle.std.proofs.Common.{◌≡◌, ◌↔◌, ℕ, ◌+◌, ◌<◌, ◌≤◌, ◌&&◌, ◌||◌, Bool, true, false, List, cond, leb, length, ltb, refl, replicate, sym, ap, ◌∙◌, arith, inl, inr}
+use Rattle.std.specs.List.{range_with_len}
 use Rattle.std.proofs.lemmas.Bool.{cases_lt, false≢true}
 use Rattle.std.proofs.lemmas.Bool.Decides.{nat_tests}
 use Rattle.std.proofs.lemmas.List.{get_or-replicate, get_or_past, length-replicate}
 use Rattle.linked_list.specs.Count.{IsApart, times}
 use Rattle.linked_list.proofs.Counts.{times-above, times-below, times-within}
 use Rattle.kernel_model.specs.Lists.{Lists}
-use Rattle.kernel_model.specs.KernelRanges.{is_kernel_word, kernel_ranges, meets}
+use Rattle.kernel_model.specs.KernelRanges.{is_kernel_word, kernel_ranges}
 use Rattle.word_kinds.specs.ByteMap.{AreShown, IsSet, MarksAll, is_marked}
 use Rattle.word_kinds.specs.Keeper.{AreTogether, IsStoreOf, kernel-known}
 

@@ -33,7 +33,7 @@ pub shown-both : (u v w : List Bool) (xs ys : List Words) → AreShown u v xs �
 shown-both u v w xs ys one two = record {
   size = two.size ∙ one.size;
   marks = λ a low.
-    let f : Words → Bool = meets a (a + 1) in
-    two.marks a (subst (λ n. a < n) (sym one.size) low)
-    ∙ (ap (λ z. z || list_any f ys) (one.marks a low) ∙ (or-or (is_marked u a) (list_any f xs) (list_any f ys) ∙ ap (λ z. is_marked u a || z) (sym (list_any-append f xs ys))));
+      let f : Words → Bool = meets a (a + 1) in
+      two.marks a (subst (λ n. a < n) (sym one.size) low)
+      ∙ (ap (λ z. z || list_any f ys) (one.marks a low) ∙ (or-or (is_marked u a) (list_any f xs) (list_any f ys) ∙ ap (λ z. is_marked u a || z) (sym (list_any-append f xs ys))));
 }

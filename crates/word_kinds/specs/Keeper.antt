@@ -1,5 +1,5 @@
 -- What a keeper of kinds knows: the addresses of the kernel's words, in any order.
-use Rattle.std.specs.Prelude.{◌≡◌, ◌↔◌, ℕ, ◌+◌, ◌<◌, true, List, length}
+use Rattle.std.specs.Prelude.{◌≡◌, ◌↔◌, ℕ, ◌+◌, ◌<◌, true, List}
 use Rattle.linked_list.specs.Count.{times}
 use Rattle.owned_words.specs.Owned.{owners}
 use Rattle.kernel_model.specs.HoldsLists.{HoldsLists}

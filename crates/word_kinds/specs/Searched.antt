@@ -1,5 +1,5 @@
 -- A search that was shown ranges.
-use Rattle.std.specs.Prelude.{◌≡◌, ◌||◌, Bool, true, false, List, [], ◌∷◌, ◌++◌, refl}
+use Rattle.std.specs.Prelude.{◌≡◌, ◌||◌, Bool, true, false, List, [], ◌++◌, refl}
 use Rattle.std.proofs.Common.{ap, sym, ◌∙◌}
 use Rattle.std.specs.List.{list_any}
 use Rattle.std.proofs.lemmas.List.Folds.{list_any-append}
@@ -30,7 +30,7 @@ searched_both u v w xs ys one two =
       from = two.from ∙ one.from;
       to = two.to ∙ one.to;
       found =
-        two.found
-        ∙ ((λ i. one.found i || list_any (meets (one.from i) (one.to i)) ys)
+          two.found
+          ∙ ((λ i. one.found i || list_any (meets (one.from i) (one.to i)) ys)
           ∙ (or-or u.found (list_any f xs) (list_any f ys) ∙ ap (λ z. u.found || z) (sym (list_any-append f xs ys))));
     }

@@ -39,7 +39,11 @@ impl Visitor for Search {
 
     fn show(&mut self, first: u32, count: u32) {
         let first = u64::from(first);
-        if count > 0 && self.from < self.to && first < self.to && self.from < first + u64::from(count) {
+        if count > 0
+            && self.from < self.to
+            && first < self.to
+            && self.from < first + u64::from(count)
+        {
             self.found = true;
         }
     }

@@ -17,14 +17,17 @@ use word_store::{Store, word_at};
 
 /// The first word of the root node, and how many words it and the task table have.
 const ROOT: u32 = 100;
+
 const ROOT_WORDS: u32 = 84;
 
 /// The head of the console's reads that wait for a line; its key packet follows.
 const PENDING_HEAD: u32 = 270;
+
 const CONSOLE_WORDS: u32 = 9;
 
 /// The packet of the task that reports faults, and the number of that task.
 const FAULT_PACKET: u32 = 310;
+
 const REPORTER: u32 = 2;
 
 /// The lowest number of a guest.
@@ -32,7 +35,9 @@ const FIRST_GUEST: u32 = 5;
 
 /// The kernel's words of a resident's task block, of a coroutine and of a queued packet.
 const RESIDENT_WORDS: u32 = 23;
+
 const COROUTINE_WORDS: u32 = 10;
+
 const PACKET_WORDS: u32 = 5;
 
 /// Is shown ranges of words, one after the other.

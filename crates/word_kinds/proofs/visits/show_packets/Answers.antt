@@ -10,4 +10,4 @@ returns g c =
     (both _ _ _ _ _ (subst (λ a. g.V.Visitor.shown c.show_work.new.visitor c.show_queue.new.visitor (packets_at c.args.store.now a)) c.address.ensures c.show_queue.ensures)
     (both _ _ _ _ _ (subst (λ a. g.V.Visitor.shown c.show_queue.new.visitor c.show_queue-2.new.visitor (packets_at c.args.store.now a)) c.address-2.ensures c.show_queue-2.ensures)
     (both _ _ _ _ _ (subst (λ a. g.V.Visitor.shown c.show_queue-2.new.visitor c.show_queue-3.new.visitor (packets_at c.args.store.now a)) c.address-3.ensures c.show_queue-3.ensures)
-      c.show_pending.ensures)))
+    c.show_pending.ensures)))
