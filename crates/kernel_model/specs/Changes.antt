@@ -80,6 +80,13 @@ pub record SameTask (t u : Task) : Type 0 where
 abbrev pub with_tasks : List Task → Lists → Lists
 with_tasks ts l = record l { tasks = ts }
 
+-- the lists with the task of this number changed
+abbrev pub change_of : ℕ → (Task → Task) → Task → Task
+change_of id change t = if t.id == id then change t else t
+
+abbrev pub with_task : ℕ → (Task → Task) → Lists → Lists
+with_task id change l = with_tasks (map (change_of id change) l.tasks) l
+
 -- ---- the chain of tasks
 
 -- the chain with a task at its place by priority
