@@ -43,3 +43,4 @@ pub mod TaskKind
 pub mod TaskPlaces
 pub mod UsedData
 pub mod WorkQueues
+pub mod OneTaskExchange
