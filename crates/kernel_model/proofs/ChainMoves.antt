@@ -24,7 +24,7 @@ use Rattle.kernel_model.proofs.ChainChanges.{chain-valid}
 use Rattle.kernel_model.proofs.ChainRules.{falls-beside, falls-insert, guest-other, has_task-other, none-times_id, times-id}
 use Rattle.kernel_model.proofs.DataInside.{HasBlock-inside}
 use Rattle.kernel_model.proofs.OwnerCounts.{owned-tasks, owners-task_between, owns-fewer, owns-more}
-use Rattle.kernel_model.proofs.QueuedPackets.{is_queued-same, stands_in, work_packets, work_packets-between}
+use Rattle.kernel_model.proofs.QueuedPackets.{fault-kept, is_queued-same, key-kept, stands_in, work_packets, work_packets-between}
 use Rattle.kernel_model.proofs.RulesKept.{HasSender-kept, MayStand-kept, MayStand-more}
 use Rattle.kernel_model.proofs.TaskCounts.{owners-new_task}
 use Rattle.kernel_model.proofs.EachMember.{all-each}
@@ -35,7 +35,7 @@ module _ (l : Lists) (t : Task) (v : AreValid l) (task : IsTask l t) (guest : is
   new-between : (front back : List Task) → l.tasks ≡ front ++ back → PrioritiesFall (front ++ t ∷ back) → has_task t.id l.tasks ≡ false → t.coroutines.list ≡ [] → t.coroutines.active ≡ []
       → AreUnowned l t.address (t.address + head_words_of l.version) → AreValid (with_tasks (front ++ t ∷ back) l)
   new-between front back is order absent list active unowned =
-      chain-valid l (front ++ t ∷ back) v
+      chain-valid l (front ++ t ∷ back) l.key l.fault_packet_free v
       (record {
         residents = λ i resident. has_task-other i front t back (guest-other t.id i guest resident) ∙ ap (has_task i) (sym is);
         each = all-between (IsTask l) front t back task (subst (AllByRecursion (IsTask l)) is v.tasks.each);
@@ -50,8 +50,8 @@ module _ (l : Lists) (t : Task) (v : AreValid l) (task : IsTask l t) (guest : is
         keyboard = kept Keyboard l.keyboard v.queues.keyboard;
         output = kept Output l.output v.queues.output;
         pending = kept Pending l.pending v.queues.pending;
-        key = λ _. same key_packet;
-        fault = λ _. same fault_packet;
+        key = key-kept l m v.queues.key (λ _. same key_packet);
+        fault = fault-kept l m v.queues.fault (λ _. same fault_packet);
         running = elim v.queues.running [ inl e ↦ inl e | inr some ↦ inr (keeps l.running some) ];
         owns = owns-more l m (task_words l.version t 0) refl count once fresh v.owns;
       })
@@ -124,7 +124,7 @@ new_task-valid l t v task guest absent differ queue list active unowned =
 -- ---- a guest goes out
 
 -- who is left
-module _ (l : Lists) (front : List Task) (t : Task) (back : List Task) (v : AreValid l) (is : l.tasks ≡ front ++ t ∷ back) (guest : is_guest_id t.id ≡ true) where
+module _ (l : Lists) (front back : List Task) (t : Task) (v : AreValid l) (is : l.tasks ≡ front ++ t ∷ back) (guest : is_guest_id t.id ≡ true) where
   keeps-others : (i : ℕ) → i ≢ t.id → has_task i l.tasks ≡ true → has_task i (front ++ back) ≡ true
   keeps-others i ne some = sym (has_task-other i front t back (λ e. ne (sym e))) ∙ subst (λ z. has_task i z ≡ true) is some
 
@@ -205,7 +205,7 @@ module _ (l : Lists) (front : List Task) (t : Task) (back : List Task) (v : AreV
 
   pub gone_task-valid : l.running ≢ t.id → HasNoPacketsOut l t.id → AreValid (with_tasks (front ++ back) l)
   gone_task-valid idle out =
-      chain-valid l (front ++ back) v
+      chain-valid l (front ++ back) l.key l.fault_packet_free v
       (record {
         residents = residents-same;
         each = all-beside (IsTask l) front t back (subst (AllByRecursion (IsTask l)) is v.tasks.each);
@@ -221,8 +221,8 @@ module _ (l : Lists) (front : List Task) (t : Task) (back : List Task) (v : AreV
         keyboard = stay Keyboard l.keyboard v.queues.keyboard out.keyboard;
         output = stay Output l.output v.queues.output out.output;
         pending = stay Pending l.pending v.queues.pending out.pending;
-        key = λ r. same-queued key_packet (no_key r);
-        fault = λ r. same-queued fault_packet (no_fault r);
+        key = key-kept l m v.queues.key (λ r. same-queued key_packet (no_key r));
+        fault = fault-kept l m v.queues.fault (λ r. same-queued fault_packet (no_fault r));
         running = elim v.queues.running [ inl none ↦ inl none | inr some ↦ inr (keeps-others l.running idle some) ];
         owns = owns-fewer l m refl fewer v.owns;
       })

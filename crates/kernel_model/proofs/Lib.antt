@@ -23,6 +23,7 @@ pub mod ReadCoroutines
 pub mod ReadQueues
 pub mod ReadTasks
 pub mod Reading
+pub mod ResidentPackets
 pub mod RootCounts
 pub mod RulesKept
 pub mod SettledWords

@@ -11,6 +11,7 @@ use Rattle.kernel_model.specs.ValidQueues.{HasSender, IsFaultPacket, IsKeyPacket
 use Rattle.kernel_model.specs.ValidQueues.Place.{Clock, Keyboard, Output, Pending, Work}
 use Rattle.kernel_model.specs.ValidTasks.{CoroutinesStand, IsCoroutine, IsGuest, IsTask}
 use Rattle.kernel_model.specs.Versions.{head_words_of, highest_id_of, most_modules_of}
+use Rattle.kernel_model.proofs.EachMember.{all-each}
 
 -- a module is there
 abbrev pub HasModule : Lists → ℕ → Type 0
@@ -78,6 +79,12 @@ IsTask-queue l t ps h =
 
 pub CoroutinesStand-kept : (l m : Lists) (t : Task) → (AllByRecursion (IsCoroutine l) t.coroutines.list → AllByRecursion (IsCoroutine m) t.coroutines.list) → CoroutinesStand l t → CoroutinesStand m t
 CoroutinesStand-kept l m t each h = record { each = each h.each; members = h.members; distinct = h.distinct }
+
+-- in the same blocks
+pub CoroutinesStand-same : (l m : Lists) (t : Task) → m.blocks ≡ l.blocks → CoroutinesStand l t → CoroutinesStand m t
+CoroutinesStand-same l m t same h =
+    CoroutinesStand-kept l m t
+    (λ all. all-each (IsCoroutine l) (IsCoroutine m) (λ c i. record { block = subst (λ bs. HasBlock bs c.address c.highest) (sym same) i.block; high = i.high }) t.coroutines.list all) h
 
 -- ---- packets
 

@@ -1,17 +1,19 @@
 // Laws of changes: what keeps lists valid.
-ghost use Rattle.std.specs.Prelude.{◌≡◌, ◌≢◌, ◌+◌, ◌<◌, ◌++◌, ◌∷◌, ℕ, Some, List, [], true, false};
+ghost use Rattle.std.specs.Prelude.{◌≡◌, ◌≢◌, ◌+◌, ◌<◌, ◌++◌, ◌∷◌, ℕ, None, Some, List, [], is_some, true, false};
 ghost use Rattle.std.specs.List.{AllByRecursion};
 ghost use Rattle.getvec_chain.specs.declared.pieces.Run.{Run};
 ghost use Rattle.getvec_chain.specs.Give.{given};
 ghost use Rattle.getvec_chain.specs.Run.{first_run, need};
 ghost use Rattle.getvec_chain.specs.Take.{taken};
 ghost use Rattle.packet_queue.specs.QueueWords.{QueuedPacket};
-ghost use Rattle.kernel_model.specs.Changes.{AreUnowned, HasNoPacketsOut, HasPlace, IsIdleBlock, KeepsOrder, SameTask, queue_of, with_blocks, with_new_task, with_queue, with_tasks};
+ghost use Rattle.kernel_model.specs.Changes.{AreUnowned, HasNoPacketsOut, HasPlace, IsIdleBlock, KeepsOrder, SameTask, queue_of, with_blocks, with_fault_packet, with_key, with_new_task, with_queue, with_tasks};
 ghost use Rattle.kernel_model.specs.Lists.{Lists, has_task};
+ghost use Rattle.kernel_model.specs.Residents.{fault_packet, key_packet};
 ghost use Rattle.kernel_model.specs.Task.{Task, is_guest_id};
 ghost use Rattle.kernel_model.specs.ValidBlocks.{HasBlock};
 ghost use Rattle.kernel_model.specs.ValidLists.{AreValid};
-ghost use Rattle.kernel_model.specs.ValidQueues.{MayStand, Place, is_fault_packet, is_key_packet};
+ghost use Rattle.kernel_model.specs.ValidQueues.{IsFaultPacket, IsKeyPacket, MayStand, Place, is_fault_packet, is_key_packet};
+ghost use Rattle.kernel_model.specs.ValidQueues.Place.{Work};
 ghost use Rattle.kernel_model.specs.ValidTasks.{CoroutinesStand, IsTask};
 ghost use Rattle.kernel_model.specs.Versions.{head_words_of};
 
@@ -53,9 +55,32 @@ pub fn queued_law()
 /// A packet goes out of a queue. It is none of the two that residents have of their own.
 pub fn unqueued_law()
     ensures { (l : Lists) (at : Place) (p : QueuedPacket) (front back : List QueuedPacket)
-        → AreValid l → HasPlace l at → queue_of at l ≡ front ++ p ∷ back
+        → AreValid l → queue_of at l ≡ front ++ p ∷ back
         → is_key_packet l p ≡ false → is_fault_packet l p ≡ false
         → AreValid (with_queue at (front ++ back) l) }
+{}
+
+/// The console's key packet, which is on no queue, comes into one where it may stand, and one that is queued goes out of its queue:
+/// its res1 is what its packet had.
+pub fn key_packet_law()
+    ensures queued { (l : Lists) (at : Place) (p : QueuedPacket) (front back : List QueuedPacket)
+        → AreValid l → queue_of at l ≡ front ++ back → is_some l.key ≡ true
+        → p.address ≡ key_packet → IsKeyPacket at p
+        → AreValid (with_key None (with_queue at (front ++ p ∷ back) l)) }
+    ensures unqueued { (l : Lists) (at : Place) (p : QueuedPacket) (front back : List QueuedPacket)
+        → AreValid l → queue_of at l ≡ front ++ p ∷ back → is_key_packet l p ≡ true
+        → AreValid (with_key (Some p.res1) (with_queue at (front ++ back) l)) }
+{}
+
+/// The same for the packet of the task that reports faults, which stands on its work queue alone.
+pub fn fault_packet_law()
+    ensures queued { (l : Lists) (p : QueuedPacket) (front back : List QueuedPacket)
+        → AreValid l → queue_of (Work 2) l ≡ front ++ back → l.fault_packet_free ≡ true
+        → p.address ≡ fault_packet → IsFaultPacket l (Work 2) p
+        → AreValid (with_fault_packet false (with_queue (Work 2) (front ++ p ∷ back) l)) }
+    ensures unqueued { (l : Lists) (p : QueuedPacket) (front back : List QueuedPacket)
+        → AreValid l → queue_of (Work 2) l ≡ front ++ p ∷ back → p.address ≡ fault_packet
+        → AreValid (with_fault_packet true (with_queue (Work 2) (front ++ back) l)) }
 {}
 
 /// A guest comes in, without packets and coroutines, whose number and priority no task has, and whose words nobody owns.

@@ -2,4 +2,4 @@ use Rattle.kernel_model.proofs.ChainMoves.{gone_task-valid}
 use Rattle.kernel_model.proofs.change_laws.gone_task_law.Goals as goal
 
 pub returns : goal.returns
-returns c = λ l front back t v is guest idle out. gone_task-valid l front t back v is guest idle out
+returns c = gone_task-valid

@@ -2,4 +2,4 @@ use Rattle.kernel_model.proofs.PacketMoves.{unqueued-valid}
 use Rattle.kernel_model.proofs.change_laws.unqueued_law.Goals as goal
 
 pub returns : goal.returns
-returns c = λ l at p front back v has is no_key no_fault. unqueued-valid l at p front back v has is no_key no_fault
+returns c = unqueued-valid
