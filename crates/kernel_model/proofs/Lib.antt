@@ -4,6 +4,7 @@ pub mod BlockStarts
 pub mod ChainChanges
 pub mod ChainMoves
 pub mod ChainRules
+pub mod CoroutineMoves
 pub mod CutRanges
 pub mod DataInside
 pub mod DataLaw
@@ -11,6 +12,7 @@ pub mod EachMember
 pub mod FollowedBlocks
 pub mod GivenBlocks
 pub mod ImageWords
+pub mod ModuleMoves
 pub mod OneTask
 pub mod OwnedPackets
 pub mod OwnedParts

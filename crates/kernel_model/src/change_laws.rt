@@ -1,20 +1,23 @@
 // Laws of changes: what keeps lists valid.
-ghost use Rattle.std.specs.Prelude.{◌≡◌, ◌≢◌, ◌+◌, ◌<◌, ◌++◌, ◌∷◌, ℕ, None, Some, List, [], is_some, true, false};
+ghost use Rattle.std.specs.Prelude.{◌≡◌, ◌≢◌, ◌+◌, ◌<◌, ◌++◌, ◌∷◌, ℕ, None, Some, List, [], is_some, length, true, false};
 ghost use Rattle.std.specs.List.{AllByRecursion};
 ghost use Rattle.getvec_chain.specs.declared.pieces.Run.{Run};
 ghost use Rattle.getvec_chain.specs.Give.{given};
 ghost use Rattle.getvec_chain.specs.Run.{first_run, need};
 ghost use Rattle.getvec_chain.specs.Take.{taken};
+ghost use Rattle.hunk_loader.specs.HeldModules.{LoadedModule};
+ghost use Rattle.linked_list.specs.Places.{has};
 ghost use Rattle.packet_queue.specs.QueueWords.{QueuedPacket};
-ghost use Rattle.kernel_model.specs.Changes.{AreUnowned, HasNoPacketsOut, HasPlace, IsIdleBlock, KeepsOrder, SameTask, queue_of, with_blocks, with_fault_packet, with_key, with_new_task, with_queue, with_tasks};
+ghost use Rattle.coroutines.specs.HeldCoroutines.{Coroutine};
+ghost use Rattle.kernel_model.specs.Changes.{AreUnowned, HasNoPacketsOut, HasPlace, IsIdleBlock, KeepsOrder, SameTask, queue_of, with_blocks, with_coroutines, with_fault_packet, with_key, with_modules, with_new_task, with_queue, with_tasks};
 ghost use Rattle.kernel_model.specs.Lists.{Lists, has_task};
 ghost use Rattle.kernel_model.specs.Residents.{fault_packet, key_packet};
 ghost use Rattle.kernel_model.specs.Task.{Task, is_guest_id};
-ghost use Rattle.kernel_model.specs.ValidBlocks.{HasBlock};
+ghost use Rattle.kernel_model.specs.ValidBlocks.{HasBlock, last_module_word};
 ghost use Rattle.kernel_model.specs.ValidLists.{AreValid};
 ghost use Rattle.kernel_model.specs.ValidQueues.{IsFaultPacket, IsKeyPacket, MayStand, Place, is_fault_packet, is_key_packet};
 ghost use Rattle.kernel_model.specs.ValidQueues.Place.{Work};
-ghost use Rattle.kernel_model.specs.ValidTasks.{CoroutinesStand, IsTask};
+ghost use Rattle.kernel_model.specs.ValidTasks.{CoroutinesStand, IsCoroutine, IsTask};
 ghost use Rattle.kernel_model.specs.Versions.{head_words_of};
 
 /// A block is taken: the lists are valid with it, its data begin behind the front of the run, and nobody owns them.
@@ -99,4 +102,36 @@ pub fn gone_task_law()
         → l.tasks ≡ front ++ t ∷ back → is_guest_id t.id ≡ true
         → l.running ≢ t.id → HasNoPacketsOut l t.id
         → AreValid (with_tasks (front ++ back) l) }
+{}
+
+/// A module comes in anywhere in the list, whose block is of its size, and whose words before its hunks nobody owns.
+pub fn new_module_law()
+    ensures { (l : Lists) (front back : List LoadedModule) (m : LoadedModule) → AreValid l
+        → l.modules ≡ front ++ back → HasBlock l.blocks m.address (last_module_word m)
+        → AreUnowned l m.address (m.address + 2 + length m.lengths)
+        → AreValid (with_modules (front ++ m ∷ back) l) }
+{}
+
+/// A module goes out that no task has.
+pub fn gone_module_law()
+    ensures { (l : Lists) (front back : List LoadedModule) (m : LoadedModule) → AreValid l
+        → l.modules ≡ front ++ m ∷ back
+        → AllByRecursion (λ t. has m.address t.modules ≡ false) l.tasks
+        → AreValid (with_modules (front ++ back) l) }
+{}
+
+/// A coroutine of a guest comes in anywhere in its list, whose first ten words nobody owns.
+pub fn new_coroutine_law()
+    ensures { (l : Lists) (before after : List Task) (t : Task) (front back : List Coroutine) (c : Coroutine)
+        → AreValid l → l.tasks ≡ before ++ t ∷ after → t.coroutines.list ≡ front ++ back
+        → is_guest_id t.id ≡ true → IsCoroutine l c → AreUnowned l c.address (c.address + 10)
+        → AreValid (with_tasks (before ++ with_coroutines (front ++ c ∷ back) t ∷ after) l) }
+{}
+
+/// A coroutine of a task goes out that is not active.
+pub fn gone_coroutine_law()
+    ensures { (l : Lists) (before after : List Task) (t : Task) (front back : List Coroutine) (c : Coroutine)
+        → AreValid l → l.tasks ≡ before ++ t ∷ after → t.coroutines.list ≡ front ++ c ∷ back
+        → has c.address t.coroutines.active ≡ false
+        → AreValid (with_tasks (before ++ with_coroutines (front ++ back) t ∷ after) l) }
 {}
