@@ -216,7 +216,7 @@ module _ (l : Lists) (front back : List Task) (t : Task) (v : AreValid l) (is : 
             all-beside (λ z. AllByRecursion (MayStand m (Work z.id)) z.queue) front t back
             (subst (AllByRecursion (λ z. AllByRecursion (MayStand m (Work z.id)) z.queue)) is
             (all-from_both (λ z. AllByRecursion (MayStand l (Work z.id)) z.queue) (λ z. z.id < 5 → AllByRecursion (λ p. eqb p.sender t.id ≡ false) z.queue)
-              (λ z. AllByRecursion (MayStand m (Work z.id)) z.queue) work-stays l.tasks v.queues.tasks out.tasks));
+            (λ z. AllByRecursion (MayStand m (Work z.id)) z.queue) work-stays l.tasks v.queues.tasks out.tasks));
         clock = stay Clock l.clock v.queues.clock out.clock;
         keyboard = stay Keyboard l.keyboard v.queues.keyboard out.keyboard;
         output = stay Output l.output v.queues.output out.output;

@@ -1,5 +1,5 @@
 -- What holds of each member of a list of things.
-use Rattle.std.proofs.Common.{◌≡◌, ℕ, ◌+◌, ◌<◌, List, [], ◌∷◌, cond, Bool, true, false, Some, refl, sym, ap, ◌∙◌, arith, inl, inr}
+use Rattle.std.proofs.Common.{◌≡◌, ℕ, ◌+◌, ◌<◌, List, [], ◌∷◌, map, cond, Bool, true, false, Some, refl, sym, ap, ◌∙◌, arith, inl, inr}
 use Rattle.std.specs.Prelude.{find}
 use Rattle.std.proofs.lemmas.Bool.{cases_lt}
 use Rattle.std.specs.List.{AllByRecursion}
@@ -48,3 +48,23 @@ linked-each D address words (x ∷ xs) end a all some =
       | inl here ↦ all.0 n here
       | inr none ↦ linked-each D address words xs end a all.1 (omega (arith, some, none, owners-append a (words x n) (linked_words address words xs end)))
     ]
+
+-- the words of each of the linked things are held
+pub holds-each : {X : Type 0} (address : X → ℕ) (words : X → ℕ → Pairs) (s : List ℕ) (Q : X → Type 0) → ((x : X) (n : ℕ) → Holds s (words x n) → Q x)
+    → (xs : List X) (end : ℕ) → Holds s (linked_words address words xs end) → AllByRecursion Q xs
+holds-each address words s Q each [] end h = tt
+holds-each address words s Q each (x ∷ xs) end h =
+    let n : ℕ = first_of address xs end in (
+      each x n (Holds-left s (words x n) (linked_words address words xs end) h),
+      holds-each address words s Q each xs end (Holds-right s (words x n) (linked_words address words xs end) h),
+    )
+
+-- things that are found again from their addresses
+pub map-back : {X : Type 0} (f : ℕ → X) (address : X → ℕ) (xs : List X) → AllByRecursion (λ x. f (address x) ≡ x) xs → map f (map address xs) ≡ xs
+map-back f address [] all = refl
+map-back f address (x ∷ xs) all = λ i. all.0 i ∷ map-back f address xs all.1 i
+
+-- what holds of the address of each thing
+pub all-addresses : {X : Type 0} (P : ℕ → Type 0) (address : X → ℕ) (xs : List X) → AllByRecursion (λ x. P (address x)) xs → AllByRecursion P (map address xs)
+all-addresses P address [] all = tt
+all-addresses P address (x ∷ xs) all = (all.0, all-addresses P address xs all.1)

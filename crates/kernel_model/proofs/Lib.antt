@@ -29,6 +29,17 @@ pub mod ResidentPackets
 pub mod RootCounts
 pub mod RulesKept
 pub mod SettledWords
+pub mod RangeCounts
+pub mod ListRanges
+pub mod QueuedWords
+pub mod WalkedLists
+pub mod RangesOwned
+pub mod PacketRanges
+pub mod RecoveredParts
+pub mod RecoveredTasks
+pub mod QueuedLinks
+pub mod RecoveredLists
+pub mod OneKernel
 pub mod TakenBlocks
 pub mod TaskCounts
 pub mod TaskKind

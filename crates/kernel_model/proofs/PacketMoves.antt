@@ -37,10 +37,10 @@ module _ (l : Lists) (at : Place) (p : QueuedPacket) (front back : List QueuedPa
       (λ r. any-between (λ q. eqb q.address key_packet) front p back (and-other l.residents _ (unowned-no_key l p v none) r) ∙ ap (stands_in key_packet) (sym is))
       (λ r. any-between (λ q. eqb q.address fault_packet) front p back (and-other (has_task 2 l.tasks) _ (unowned-no_fault l p v none) r) ∙ ap (stands_in fault_packet) (sym is))
       (owns-more l (with_queue at (front ++ p ∷ back) l) (packet_words p 0) (with_queue-size at (front ++ p ∷ back) l)
-        (λ a. more a _ _ (packets_count a (queue_of at l)) (owned-queue a l at (front ++ p ∷ back) v.tasks.distinct has) (ap (packets_count a) is))
-        (λ a. packet-once a p 0)
-        (λ a some. (let w = packet-within a p 0 some in (unowned a w.0 w.1, AreData-inside l p.address 5 a v.blocks stands.lodged w.1)))
-        v.owns)
+      (λ a. more a _ _ (packets_count a (queue_of at l)) (owned-queue a l at (front ++ p ∷ back) v.tasks.distinct has) (ap (packets_count a) is))
+      (λ a. packet-once a p 0)
+      (λ a some. (let w = packet-within a p 0 some in (unowned a w.0 w.1, AreData-inside l p.address 5 a v.blocks stands.lodged w.1)))
+      v.owns)
     where
       none : owners p.address (owned l) ≡ 0
       none = unowned p.address (omega arith) (omega arith)
@@ -53,5 +53,5 @@ module _ (l : Lists) (at : Place) (p : QueuedPacket) (front back : List QueuedPa
       (λ r. sym (any-between (λ q. eqb q.address key_packet) front p back (and-other l.residents _ no_key r)) ∙ ap (stands_in key_packet) (sym is))
       (λ r. sym (any-between (λ q. eqb q.address fault_packet) front p back (and-other (has_task 2 l.tasks) _ no_fault r)) ∙ ap (stands_in fault_packet) (sym is))
       (owns-fewer l (with_queue at (front ++ back) l) (with_queue-size at (front ++ back) l)
-        (λ a. fewer a _ _ (packets_count a (queue_of at l)) (owned-queue a l at (front ++ back) v.tasks.distinct has) (ap (packets_count a) is))
-        v.owns)
+      (λ a. fewer a _ _ (packets_count a (queue_of at l)) (owned-queue a l at (front ++ back) v.tasks.distinct has) (ap (packets_count a) is))
+      v.owns)

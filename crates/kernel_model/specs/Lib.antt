@@ -1,8 +1,10 @@
 pub mod Between
 pub mod BlockUse
 pub mod Changes
+pub mod HoldsLists
 pub mod Image
 pub mod Kernel
+pub mod KernelRanges
 pub mod Lists
 pub mod OneKernel
 pub mod Owned

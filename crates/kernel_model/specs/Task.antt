@@ -81,7 +81,7 @@ abbrev pub state_words : ℕ → Task → Pairs
 state_words version t =
     row_from t.address (word_index State)
     (state_word t ∷ t.flags ∷ stack_of version t ∷ t.highest ∷ globals_of version t ∷ t.maker ∷ first_of (λ m. m) t.modules 0
-      ∷ t.saved.a ∷ t.saved.b ∷ t.saved.c ∷ t.saved.p ∷ t.saved.g ∷ t.saved.pc ∷ [])
+    ∷ t.saved.a ∷ t.saved.b ∷ t.saved.c ∷ t.saved.p ∷ t.saved.g ∷ t.saved.pc ∷ [])
 
 -- its words from 21 on: the fault, its address, and the further modules
 abbrev pub fault_words : ℕ → Task → Pairs
