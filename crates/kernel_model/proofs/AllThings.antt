@@ -1,5 +1,5 @@
 -- What holds of all things of a list, and of some.
-use Rattle.std.proofs.Common.{◌≡◌, List, [], ◌∷◌, ◌++◌, map, cond, ◌&&◌, ◌||◌, Bool, true, false, refl, sym, ap, ◌∙◌, subst}
+use Rattle.std.proofs.Common.{◌≡◌, List, [], ◌∷◌, ◌++◌, map, ◌&&◌, ◌||◌, Bool, true, false, refl, sym, ap, subst}
 use Rattle.std.specs.List.{AllByRecursion, flat_map, list_any}
 use Rattle.linked_list.specs.Places.{insert_after}
 use Rattle.linked_list.proofs.AllMembers.{all-append, all-back, all-front}

@@ -4,7 +4,6 @@ use Rattle.std.specs.List.{AllByRecursion}
 use Rattle.linked_list.proofs.AllMembers.{all-back, all-front}
 use Rattle.getvec_chain.specs.declared.pieces.Block.{Block}
 use Rattle.getvec_chain.specs.Tiling.{Follow}
-use Rattle.coroutines.specs.HeldCoroutines.{Coroutine}
 use Rattle.packet_queue.specs.QueueWords.{QueuedPacket}
 use Rattle.kernel_model.specs.Changes.{with_blocks}
 use Rattle.kernel_model.specs.Lists.{Lists, queued}

@@ -1,20 +1,18 @@
 -- The chain of tasks changes, and the lists stay valid.
-use Rattle.std.proofs.Common.{◌≡◌, ◌≢◌, ℕ, ◌+◌, ◌<◌, ◌≤◌, ◌⊎◌, List, [], ◌∷◌, ◌++◌, map, cond, not, ◌&&◌, Bool, true, false, Option, inl, inr, refl, sym, ap, ◌∙◌, subst, arith}
+use Rattle.std.proofs.Common.{◌≡◌, ℕ, ◌⊎◌, List, map, cond, not, ◌&&◌, Bool, true, false, Option, refl, sym, ap, ◌∙◌, subst}
 use Rattle.std.specs.Prelude.{is_some}
 use Rattle.std.specs.List.{AllByRecursion}
-use Rattle.linked_list.specs.Count.{IsApart, times}
-use Rattle.owned_words.specs.Owned.{owners}
-use Rattle.packet_queue.specs.QueueWords.{QueuedPacket}
-use Rattle.kernel_model.specs.Changes.{SameTask, with_tasks}
+use Rattle.linked_list.specs.Count.{IsApart}
+use Rattle.kernel_model.specs.Changes.{with_tasks}
 use Rattle.kernel_model.specs.Lists.{Lists, has_task, is_queued}
-use Rattle.kernel_model.specs.Owned.{OwnsApart, owned}
+use Rattle.kernel_model.specs.Owned.{OwnsApart}
 use Rattle.kernel_model.specs.Residents.{fault_packet, key_packet}
 use Rattle.kernel_model.specs.Task.{Task, is_guest_id, task_id}
-use Rattle.kernel_model.specs.ValidBlocks.{HasBlock, last_resident_word}
+use Rattle.kernel_model.specs.ValidBlocks.{HasBlock}
 use Rattle.kernel_model.specs.ValidLists.{AreValid}
-use Rattle.kernel_model.specs.ValidQueues.{HasSender, MayStand, Place, QueuesStand}
+use Rattle.kernel_model.specs.ValidQueues.{MayStand}
 use Rattle.kernel_model.specs.ValidQueues.Place.{Clock, Keyboard, Output, Pending, Work}
-use Rattle.kernel_model.specs.ValidTasks.{CoroutinesStand, IsCoroutine, IsTask, PrioritiesFall}
+use Rattle.kernel_model.specs.ValidTasks.{CoroutinesStand, IsTask, PrioritiesFall}
 use Rattle.kernel_model.proofs.RulesKept.{CoroutinesStand-same, IsTask-kept}
 use Rattle.kernel_model.proofs.EachMember.{all-each}
 

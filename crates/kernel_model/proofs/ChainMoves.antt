@@ -1,9 +1,8 @@
 -- A guest comes into the chain, or goes out of it, and the lists stay valid.
-use Rattle.std.proofs.Common.{◌≡◌, ◌≢◌, ℕ, ◌+◌, ◌<◌, ◌≤◌, ◌⊎◌, List, [], ◌∷◌, ◌++◌, map, eqb, leb, nat_lt, Bool, true, false, inl, inr, refl, sym, ap, ◌∙◌, subst, arith}
-use Rattle.std.proofs.lemmas.Bool.{and_from, cases_lt, eqb-false, eqb-true, leb-false, lt-leb, false≢true, ne_eqb}
+use Rattle.std.proofs.Common.{◌≡◌, ◌≢◌, ℕ, ◌+◌, ◌<◌, ◌≤◌, List, [], ◌∷◌, ◌++◌, map, eqb, nat_lt, Bool, true, false, inl, inr, refl, sym, ap, ◌∙◌, subst, arith}
+use Rattle.std.proofs.lemmas.Bool.{and_from, eqb-false, leb-false, false≢true}
 use Rattle.std.specs.List.{AllByRecursion, range_with_len}
 use Rattle.linked_list.specs.Count.{IsApart, times}
-use Rattle.linked_list.specs.Places.{insert_after}
 use Rattle.linked_list.proofs.Counts.{IsApart-cons, range-apart, range-high, range-low}
 use Rattle.linked_list.proofs.Places.{IsPlace, place}
 use Rattle.owned_words.specs.Owned.{owners}
@@ -11,11 +10,11 @@ use Rattle.packet_queue.specs.QueueWords.{QueuedPacket}
 use Rattle.task_block.specs.ChainWords.{listed_words}
 use Rattle.kernel_model.specs.Changes.{AreUnowned, HasNoPacketsOut, with_new_task, with_tasks}
 use Rattle.kernel_model.specs.Lists.{Lists, has_task, is_queued}
-use Rattle.kernel_model.specs.Owned.{OwnsApart, owned, tasks_words}
+use Rattle.kernel_model.specs.Owned.{owned, tasks_words}
 use Rattle.kernel_model.specs.Residents.{fault_packet, key_packet}
 use Rattle.kernel_model.specs.Task.{Task, is_guest_id, task_address, task_id, task_words}
 use Rattle.kernel_model.specs.ValidLists.{AreValid}
-use Rattle.kernel_model.specs.ValidQueues.{HasSender, IsFaultPacket, IsKeyPacket, MayStand, Place}
+use Rattle.kernel_model.specs.ValidQueues.{IsFaultPacket, IsKeyPacket, MayStand, Place}
 use Rattle.kernel_model.specs.ValidQueues.Place.{Clock, Keyboard, Output, Pending, Work}
 use Rattle.kernel_model.specs.ValidTasks.{CoroutinesStand, IsTask, PrioritiesFall}
 use Rattle.kernel_model.specs.Versions.{head_words_of, highest_id_of}

@@ -13,7 +13,7 @@ use Rattle.coroutines.specs.HeldCoroutines.{Coroutine, address_of, coroutine_wor
 use Rattle.kernel_model.specs.BlockUse.{coroutine_addresses}
 use Rattle.kernel_model.specs.Changes.{AreUnowned, with_coroutines, with_tasks}
 use Rattle.kernel_model.specs.Lists.{Lists}
-use Rattle.kernel_model.specs.Owned.{OwnsApart, owned}
+use Rattle.kernel_model.specs.Owned.{owned}
 use Rattle.kernel_model.specs.Task.{Task, is_guest_id, task_words}
 use Rattle.kernel_model.specs.ValidLists.{AreValid}
 use Rattle.kernel_model.specs.ValidTasks.{CoroutinesStand, IsCoroutine, IsTask}

@@ -1,9 +1,7 @@
 -- Data of blocks are words of the store.
 use Rattle.std.proofs.Common.{◌≡◌, ℕ, ◌+◌, ◌-◌, ◌<◌, ◌≤◌, refl, arith}
-use Rattle.getvec_chain.specs.declared.pieces.Block.{Block}
-use Rattle.getvec_chain.specs.Block.{block_end, has_data, is_used_at, used_block}
+use Rattle.getvec_chain.specs.Block.{has_data, is_used_at, used_block}
 use Rattle.getvec_chain.specs.Run.{need}
-use Rattle.getvec_chain.specs.Tiling.{Follow, holding, used_at}
 use Rattle.kernel_model.specs.Lists.{Lists}
 use Rattle.kernel_model.specs.ValidBlocks.{AreData, BlocksTile, HasBlock}
 use Rattle.kernel_model.proofs.FollowedBlocks.{found-holding, found-within}

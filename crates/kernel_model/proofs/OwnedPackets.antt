@@ -1,7 +1,7 @@
 -- Packets that are queued are owned, and so are the residents' two while they are not; so a packet that nobody owns is none of them.
-use Rattle.std.proofs.Common.{◌≡◌, ℕ, suc, ◌+◌, ◌<◌, ◌≤◌, ◌⊎◌, List, [], ◌∷◌, ◌++◌, eqb, not, ◌&&◌, ◌||◌, Bool, true, false, Option, Some, None, inl, inr, refl, sym, ap, ◌∙◌, subst, arith}
+use Rattle.std.proofs.Common.{◌≡◌, ℕ, ◌+◌, ◌<◌, ◌⊎◌, List, [], ◌∷◌, eqb, not, ◌&&◌, ◌||◌, Bool, true, false, Option, Some, None, inl, inr, refl, sym, ap, ◌∙◌, subst, arith}
 use Rattle.std.specs.Prelude.{is_some}
-use Rattle.std.specs.List.{list_any, range_with_len}
+use Rattle.std.specs.List.{range_with_len}
 use Rattle.std.proofs.lemmas.Bool.{and_parts, eqb-true, false≢true, or_cases}
 use Rattle.std.proofs.lemmas.List.Folds.{list_any-append}
 use Rattle.linked_list.specs.Count.{hit, times, words_of}
@@ -12,18 +12,15 @@ use Rattle.owned_words.specs.Owned.{owners}
 use Rattle.owned_words.proofs.OwnedWords.{owners-append}
 use Rattle.getvec_chain.specs.BlockWords.{blocks_words}
 use Rattle.hunk_loader.specs.ModuleExchanges.{modules_words}
-use Rattle.packet_queue.specs.QueueWords.{QueuedPacket, address_of, packet_words, queue_words}
+use Rattle.packet_queue.specs.QueueWords.{QueuedPacket, address_of, packet_words}
 use Rattle.task_block.specs.ChainWords.{entries}
 use Rattle.task_block.specs.HeldTasks.{address_with}
 use Rattle.task_block.specs.RootWords.{first_task}
-use Rattle.task_block.specs.TaskWords.{word_index}
-use Rattle.task_block.specs.declared.fields.TcbField.TheVariants.{Extra1}
 use Rattle.kernel_model.specs.BlockUse.{coroutine_addresses}
-use Rattle.kernel_model.specs.Changes.{AreUnowned}
 use Rattle.kernel_model.specs.Lists.{Lists, has_task, is_queued}
 use Rattle.kernel_model.specs.Owned.{clock_head, device_words, keyboard_head, output_head, owned, tasks_words}
 use Rattle.kernel_model.specs.Residents.{fault_packet, fault_packet_words, key_arguments, key_packet, key_words, pending_head, resident_words}
-use Rattle.kernel_model.specs.Task.{Task, queue_head, task_address, task_id, task_words}
+use Rattle.kernel_model.specs.Task.{Task, task_address, task_id, task_words}
 use Rattle.kernel_model.specs.ValidLists.{AreValid}
 use Rattle.kernel_model.specs.ValidQueues.{is_fault_packet, is_key_packet}
 use Rattle.kernel_model.specs.Versions.{highest_id_of}

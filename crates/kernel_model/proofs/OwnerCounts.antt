@@ -1,7 +1,6 @@
 -- How often an address is owned: by each part of the owned words, and by linked things, whatever their links hold.
-use Rattle.std.proofs.Common.{◌≡◌, ℕ, zero, suc, ◌+◌, ◌<◌, ◌≤◌, List, [], ◌∷◌, ◌++◌, cond, Bool, true, Option, refl, ap, ◌∙◌, arith, inl, inr}
+use Rattle.std.proofs.Common.{◌≡◌, ℕ, ◌+◌, ◌<◌, ◌≤◌, List, [], ◌∷◌, ◌++◌, cond, Bool, true, Option, refl, ap, ◌∙◌, arith, inl, inr}
 use Rattle.std.proofs.lemmas.Bool.{cases_lt}
-use Rattle.linked_list.specs.Count.{hit}
 use Rattle.owned_words.specs.LinkedWords.{first_of, headed_words, linked_words}
 use Rattle.owned_words.specs.Owned.{Pairs, owners}
 use Rattle.owned_words.proofs.OwnedWords.{owners-append}

@@ -1,15 +1,14 @@
 -- A packet comes into a queue, or goes out of one, and the lists stay valid.
-use Rattle.std.proofs.Common.{◌≡◌, ℕ, ◌+◌, ◌<◌, ◌≤◌, List, [], ◌∷◌, ◌++◌, eqb, true, false, refl, sym, ap, ◌∙◌, subst, arith}
+use Rattle.std.proofs.Common.{◌≡◌, ℕ, ◌+◌, ◌≤◌, List, ◌∷◌, ◌++◌, eqb, false, sym, ap, ◌∙◌, subst, arith}
 use Rattle.std.specs.List.{AllByRecursion}
 use Rattle.owned_words.specs.Owned.{owners}
 use Rattle.packet_queue.specs.QueueWords.{QueuedPacket, packet_words}
 use Rattle.kernel_model.specs.Changes.{AreUnowned, HasPlace, KeepsOrder, queue_of, with_queue}
 use Rattle.kernel_model.specs.Lists.{Lists, has_task}
-use Rattle.kernel_model.specs.Owned.{OwnsApart, owned}
+use Rattle.kernel_model.specs.Owned.{owned}
 use Rattle.kernel_model.specs.Residents.{fault_packet, key_packet}
 use Rattle.kernel_model.specs.ValidLists.{AreValid}
 use Rattle.kernel_model.specs.ValidQueues.{MayStand, Place, is_fault_packet, is_key_packet}
-use Rattle.kernel_model.specs.ValidQueues.Place.{Clock, Keyboard, Output, Pending, Work}
 use Rattle.kernel_model.proofs.AllThings.{all-beside, all-between, and-other, any-between}
 use Rattle.kernel_model.proofs.DataInside.{AreData-inside}
 use Rattle.kernel_model.proofs.OwnedPackets.{unowned-no_fault, unowned-no_key}

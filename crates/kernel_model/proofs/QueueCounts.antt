@@ -1,5 +1,5 @@
 -- How often an address is owned, where a queue is another.
-use Rattle.std.proofs.Common.{◌≡◌, ℕ, ◌+◌, ◌<◌, ◌≤◌, List, [], ◌∷◌, ◌++◌, map, true, refl, sym, ap, ◌∙◌, subst, arith}
+use Rattle.std.proofs.Common.{◌≡◌, ℕ, ◌+◌, ◌<◌, ◌≤◌, List, [], ◌∷◌, map, sym, ap, subst, arith}
 use Rattle.linked_list.specs.Count.{IsApart, hit, times}
 use Rattle.linked_list.proofs.Counts.{range-apart, range-high, range-low}
 use Rattle.std.specs.List.{range_with_len}
@@ -10,7 +10,7 @@ use Rattle.kernel_model.specs.Changes.{HasPlace, queue_of, with_queue, with_task
 use Rattle.kernel_model.specs.Lists.{Lists}
 use Rattle.kernel_model.specs.Owned.{clock_head, device_words, keyboard_head, output_head, owned}
 use Rattle.kernel_model.specs.Residents.{fault_packet_words, key_arguments, key_words, pending_head, resident_words}
-use Rattle.kernel_model.specs.Task.{Task, queue_head, task_id, task_words}
+use Rattle.kernel_model.specs.Task.{Task, task_id}
 use Rattle.kernel_model.specs.ValidQueues.{Place}
 use Rattle.kernel_model.specs.ValidQueues.Place.{Clock, Keyboard, Output, Pending, Work}
 use Rattle.kernel_model.proofs.OneTask.{owned-one_task}

@@ -1,28 +1,25 @@
 -- The residents' two packets come into queues and go out, and the lists stay valid.
-use Rattle.std.proofs.Common.{◌≡◌, ℕ, ◌+◌, ◌-◌, ◌<◌, ◌≤◌, List, [], ◌∷◌, ◌++◌, map, cond, eqb, is_some, not, ◌&&◌, Bool, true, false, Option, Some, None, refl, sym, ap, ◌∙◌, subst, arith}
+use Rattle.std.proofs.Common.{◌≡◌, ℕ, ◌+◌, ◌<◌, ◌≤◌, List, [], ◌∷◌, ◌++◌, cond, eqb, is_some, not, ◌&&◌, Bool, true, false, Option, Some, None, refl, sym, ap, ◌∙◌, subst, arith}
 use Rattle.std.specs.List.{AllByRecursion, range_with_len}
 use Rattle.std.proofs.lemmas.Bool.{and_from, and_parts, eq-eqb, eqb-true, false≢true}
 use Rattle.linked_list.specs.Count.{hit, times}
 use Rattle.linked_list.proofs.Counts.{hit-same}
 use Rattle.owned_words.specs.Owned.{owners}
 use Rattle.owned_words.proofs.RowWords.{owners-row}
-use Rattle.getvec_chain.specs.Block.{is_used_at, used_block}
-use Rattle.getvec_chain.specs.Run.{need}
 use Rattle.packet_queue.specs.Queue.{no_queue}
 use Rattle.packet_queue.specs.QueueWords.{QueuedPacket, other_words, packet_words, queue_words}
 use Rattle.kernel_model.specs.Changes.{HasPlace, KeepsOrder, queue_of, with_fault_packet, with_key, with_queue}
 use Rattle.kernel_model.specs.Lists.{Lists, has_task, is_queued}
-use Rattle.kernel_model.specs.Owned.{OwnsApart, device_words, owned}
+use Rattle.kernel_model.specs.Owned.{device_words, owned}
 use Rattle.kernel_model.specs.Residents.{fault_packet, fault_packet_words, key_arguments, key_packet, key_words, keyboard, pending_head, resident_words}
-use Rattle.kernel_model.specs.Task.{task_id}
 use Rattle.kernel_model.specs.ValidBlocks.{AreData, HasBlock, last_resident_word}
 use Rattle.kernel_model.specs.ValidLists.{AreValid}
-use Rattle.kernel_model.specs.ValidQueues.{IsFaultPacket, IsKeyPacket, MayStand, Place, is_fault_packet, is_key_packet}
+use Rattle.kernel_model.specs.ValidQueues.{IsFaultPacket, IsKeyPacket, MayStand, Place, is_key_packet}
 use Rattle.kernel_model.specs.ValidQueues.Place.{Clock, Keyboard, Output, Pending, Work}
-use Rattle.kernel_model.proofs.AllThings.{all-beside, all-between, and-other, any-between, any-here}
+use Rattle.kernel_model.proofs.AllThings.{all-beside, all-between, any-between, any-here}
 use Rattle.kernel_model.proofs.DataInside.{HasBlock-data}
 use Rattle.kernel_model.proofs.OwnedPackets.{queued-owned}
-use Rattle.kernel_model.proofs.OwnerCounts.{owned-queues, owners-packet_between, owners-residents, owns-fewer, packets_count, with_queues}
+use Rattle.kernel_model.proofs.OwnerCounts.{owned-queues, owners-packet_between, owners-residents, owns-fewer, packets_count}
 use Rattle.kernel_model.proofs.QueueCounts.{owned-queue, owners-packet}
 use Rattle.kernel_model.proofs.QueuePlaces.{KeepsOrder-beside, is_queued-here, is_queued-place, place-order, place-stands, place-there, place-valid, with_packets, with_queue-key, with_queue-packets, with_queue-residents, with_queue-size}
 use Rattle.kernel_model.proofs.QueuedPackets.{fault-kept, key-kept, stands_in}

@@ -1,5 +1,5 @@
 -- The rules of one task, of its coroutines and of one packet, from some lists to others that have what they ask.
-use Rattle.std.proofs.Common.{◌≡◌, ℕ, ◌+◌, ◌<◌, ◌≤◌, List, [], map, length, Bool, true, false, refl, sym, ap, ◌∙◌, subst}
+use Rattle.std.proofs.Common.{◌≡◌, ℕ, ◌+◌, ◌≤◌, List, [], map, length, true, false, sym, ◌∙◌, subst}
 use Rattle.std.specs.List.{AllByRecursion}
 use Rattle.linked_list.specs.Places.{has}
 use Rattle.hunk_loader.specs.HeldModules.{module_address}
@@ -10,7 +10,7 @@ use Rattle.kernel_model.specs.Changes.{with_coroutines}
 use Rattle.kernel_model.specs.Lists.{Lists, has_task}
 use Rattle.kernel_model.specs.Task.{Task, is_guest_id}
 use Rattle.kernel_model.specs.ValidBlocks.{AreData, HasBlock}
-use Rattle.kernel_model.specs.ValidQueues.{HasSender, IsFaultPacket, IsKeyPacket, MayStand, Place, is_fault_packet, is_key_packet}
+use Rattle.kernel_model.specs.ValidQueues.{HasSender, IsFaultPacket, MayStand, Place, is_fault_packet, is_key_packet}
 use Rattle.kernel_model.specs.ValidQueues.Place.{Clock, Keyboard, Output, Pending, Work}
 use Rattle.kernel_model.specs.ValidTasks.{CoroutinesStand, IsCoroutine, IsGuest, IsTask}
 use Rattle.kernel_model.specs.Versions.{head_words_of, highest_id_of, most_modules_of}

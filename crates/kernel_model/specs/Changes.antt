@@ -1,22 +1,20 @@
 -- The changes of which calls are made: in the blocks, in one queue, in one task, in the chain of tasks.
-use Rattle.std.specs.Prelude.{◌≡◌, ℕ, ◌+◌, ◌<◌, ◌≤◌, ◌==◌, ◌⊎◌, Bool, true, false, if◌then◌else◌, Option, Some, None, List, [], ◌∷◌, ◌++◌, map, nat_lt}
+use Rattle.std.specs.Prelude.{◌≡◌, ℕ, ◌<◌, ◌≤◌, ◌==◌, Bool, true, false, if◌then◌else◌, Option, Some, List, [], ◌∷◌, map, nat_lt}
 use Rattle.std.specs.List.{AllByRecursion}
-use Rattle.linked_list.specs.Count.{node_words, times}
 use Rattle.linked_list.specs.Places.{insert_after}
 use Rattle.owned_words.specs.Owned.{owners}
 use Rattle.getvec_chain.specs.declared.pieces.Block.{Block}
-use Rattle.getvec_chain.specs.Block.{block_end, has_data}
+use Rattle.getvec_chain.specs.Block.{has_data}
 use Rattle.getvec_chain.specs.Tiling.{used_at}
-use Rattle.packet_queue.specs.Queue.{packet_size}
 use Rattle.packet_queue.specs.QueueWords.{QueuedPacket}
 use Rattle.hunk_loader.specs.HeldModules.{LoadedModule}
 use Rattle.coroutines.specs.CoroutineExchanges.{with_list}
-use Rattle.coroutines.specs.HeldCoroutines.{Coroutine, address_of}
-use Rattle.kernel_model.specs.BlockUse.{Use, coroutine_addresses, use_of_data}
+use Rattle.coroutines.specs.HeldCoroutines.{Coroutine}
+use Rattle.kernel_model.specs.BlockUse.{coroutine_addresses, use_of_data}
 use Rattle.kernel_model.specs.BlockUse.Use.{User}
 use Rattle.kernel_model.specs.Lists.{Lists, has_task, queued}
 use Rattle.kernel_model.specs.Owned.{owned}
-use Rattle.kernel_model.specs.Task.{Task, task_priority, task_words}
+use Rattle.kernel_model.specs.Task.{Task}
 use Rattle.kernel_model.specs.ValidQueues.{NeverFall, Place}
 use Rattle.kernel_model.specs.ValidQueues.Place.{Clock, Keyboard, Output, Pending, Work}
 
