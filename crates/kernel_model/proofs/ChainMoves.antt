@@ -187,11 +187,11 @@ module _ (l : Lists) (front back : List Task) (t : Task) (v : AreValid l) (is : 
   same-queued a none =
       is_queued-same a l (with_tasks (front ++ back) l) (sym (work_packets-between a front t back none) ∙ ap (λ z. stands_in a (work_packets z)) (sym is)) refl refl refl refl
 
-  fewer : (a : ℕ) → owners a (owned (with_tasks (front ++ back) l)) ≤ owners a (owned l)
-  fewer a =
-      plain (owners a (owned (with_tasks (front ++ back) l))) (owners a (owned l)) (owners a (task_words l.version t 0))
-      (owned-tasks a l (owners a (task_words l.version t 0)) 0 (front ++ back)
-      (removed (listed (front ++ back)) (owners a (tasks_words l)) (listed (front ++ t ∷ back)) (owners a (task_words l.version t 0)) (owners-task_between a l.version (highest_id_of l.version) front t back) (ap listed is)))
+  -- what it owned is taken away
+  count : (a : ℕ) → owners a (owned (with_tasks (front ++ back) l)) + owners a (task_words l.version t 0) ≡ owners a (owned l) + 0
+  count a =
+      owned-tasks a l (owners a (task_words l.version t 0)) 0 (front ++ back)
+      (removed (listed (front ++ back)) (owners a (tasks_words l)) (listed (front ++ t ∷ back)) (owners a (task_words l.version t 0)) (owners-task_between a l.version (highest_id_of l.version) front t back) (ap listed is))
     where
       listed : List Task → ℕ
       listed zs = owners a (listed_words task_address task_id (task_words l.version) (highest_id_of l.version) zs)
@@ -199,8 +199,17 @@ module _ (l : Lists) (front back : List Task) (t : Task) (v : AreValid l) (is : 
       removed : (x y b n : ℕ) → b ≡ x + n → y ≡ b → x + n ≡ y + 0
       removed x y b n e f = omega arith
 
+  fewer : (a : ℕ) → owners a (owned (with_tasks (front ++ back) l)) ≤ owners a (owned l)
+  fewer a = plain (owners a (owned (with_tasks (front ++ back) l))) (owners a (owned l)) (owners a (task_words l.version t 0)) (count a)
+    where
       plain : (x y n : ℕ) → x + n ≡ y + 0 → x ≤ y
       plain x y n e = omega arith
+
+  pub gone_task-unowned : (a : ℕ) → 0 < owners a (task_words l.version t 0) → owners a (owned (with_tasks (front ++ back) l)) ≡ 0
+  gone_task-unowned a some = plain (owners a (owned (with_tasks (front ++ back) l))) (owners a (owned l)) (owners a (task_words l.version t 0)) (count a) (v.owns.apart a) some
+    where
+      plain : (x y n : ℕ) → x + n ≡ y + 0 → y ≤ 1 → 0 < n → x ≡ 0
+      plain x y n e once some = omega arith
 
   pub gone_task-valid : l.running ≢ t.id → HasNoPacketsOut l t.id → AreValid (with_tasks (front ++ back) l)
   gone_task-valid idle out =

@@ -85,7 +85,7 @@ module _ (l : Lists) (front back : List LoadedModule) (m : LoadedModule) (v : Ar
   new_module-valid is block unowned =
       modules-valid l (front ++ m ∷ back) v (all-between Stands front m back block (subst (AllByRecursion Stands) is v.modules))
       (all-always (λ t. AllByRecursion (HasModule l) t.modules → AllByRecursion (HasModule (with_modules (front ++ m ∷ back) l)) t.modules)
-        (λ t all. all-each (HasModule l) (HasModule (with_modules (front ++ m ∷ back) l)) keeps t.modules all) l.tasks)
+      (λ t all. all-each (HasModule l) (HasModule (with_modules (front ++ m ∷ back) l)) keeps t.modules all) l.tasks)
       (owns-more l (with_modules (front ++ m ∷ back) l) (module_words m 0) refl count once fresh v.owns)
     where
       k : ℕ

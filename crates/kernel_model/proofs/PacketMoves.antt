@@ -1,6 +1,7 @@
 -- A packet comes into a queue, or goes out of one, and the lists stay valid.
 use Rattle.std.proofs.Common.{◌≡◌, ℕ, ◌+◌, ◌≤◌, List, ◌∷◌, ◌++◌, eqb, false, sym, ap, ◌∙◌, subst, arith}
 use Rattle.std.specs.List.{AllByRecursion}
+use Rattle.linked_list.proofs.Counts.{times-within}
 use Rattle.owned_words.specs.Owned.{owners}
 use Rattle.packet_queue.specs.QueueWords.{QueuedPacket, packet_words}
 use Rattle.kernel_model.specs.Changes.{AreUnowned, HasPlace, KeepsOrder, queue_of, with_queue}
@@ -13,7 +14,7 @@ use Rattle.kernel_model.proofs.AllThings.{all-beside, all-between, and-other, an
 use Rattle.kernel_model.proofs.DataInside.{AreData-inside}
 use Rattle.kernel_model.proofs.OwnedPackets.{unowned-no_fault, unowned-no_key}
 use Rattle.kernel_model.proofs.OwnerCounts.{owners-packet_between, owns-fewer, owns-more, packets_count}
-use Rattle.kernel_model.proofs.QueueCounts.{owned-queue, packet-once, packet-within}
+use Rattle.kernel_model.proofs.QueueCounts.{owned-queue, owners-packet, packet-once, packet-within}
 use Rattle.kernel_model.proofs.QueuePlaces.{KeepsOrder-beside, place-order, place-stands, place-there, queue-valid, with_queue-size}
 use Rattle.kernel_model.proofs.QueuedPackets.{stands_in}
 
@@ -54,3 +55,13 @@ module _ (l : Lists) (at : Place) (p : QueuedPacket) (front back : List QueuedPa
       (owns-fewer l (with_queue at (front ++ back) l) (with_queue-size at (front ++ back) l)
       (λ a. fewer a _ _ (packets_count a (queue_of at l)) (owned-queue a l at (front ++ back) v.tasks.distinct has) (ap (packets_count a) is))
       v.owns)
+
+  -- its words are nobody's then
+  pub unqueued-unowned : queue_of at l ≡ front ++ p ∷ back → AreUnowned (with_queue at (front ++ back) l) p.address (p.address + 5)
+  unqueued-unowned is a low high =
+      plain (owners a (owned (with_queue at (front ++ back) l))) (owners a (owned l)) (packets_count a (queue_of at l)) (packets_count a (front ++ p ∷ back)) (packets_count a (front ++ back)) (owners a (packet_words p 0))
+      (owned-queue a l at (front ++ back) v.tasks.distinct (place-there l at front p back v is)) (ap (packets_count a) is) (owners-packet_between a front p back)
+      (owners-packet a p 0 ∙ times-within a p.address 5 low high) (v.owns.apart a)
+    where
+      plain : (m w q s t n : ℕ) → m + q ≡ w + t → q ≡ s → s ≡ t + n → n ≡ 1 → w ≤ 1 → m ≡ 0
+      plain m w q s t n e f g one once = omega arith

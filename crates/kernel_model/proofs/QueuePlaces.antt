@@ -170,7 +170,7 @@ is_queued-here a l Keyboard ps apart has some =
 is_queued-here a l Output ps apart has some =
     is_queued-parts a (with_queue Output ps l)
     ∙ behind (stands_in a (work_packets l.tasks)) (stands_in a l.clock) (stands_in a l.keyboard || (stands_in a ps || stands_in a l.pending))
-      (or_right (stands_in a l.keyboard) (stands_in a ps || stands_in a l.pending) (or_left (stands_in a ps) (stands_in a l.pending) some))
+    (or_right (stands_in a l.keyboard) (stands_in a ps || stands_in a l.pending) (or_left (stands_in a ps) (stands_in a l.pending) some))
 is_queued-here a l Pending ps apart has some =
     is_queued-parts a (with_queue Pending ps l)
     ∙ behind (stands_in a (work_packets l.tasks)) (stands_in a l.clock) (stands_in a l.keyboard || (stands_in a l.output || stands_in a ps)) (behind (stands_in a l.keyboard) (stands_in a l.output) (stands_in a ps) some)

@@ -20,6 +20,7 @@ use Rattle.kernel_model.proofs.AllThings.{all-beside, all-between, any-between, 
 use Rattle.kernel_model.proofs.DataInside.{HasBlock-data}
 use Rattle.kernel_model.proofs.OwnedPackets.{queued-owned}
 use Rattle.kernel_model.proofs.OwnerCounts.{owned-queues, owners-packet_between, owners-residents, owns-fewer, packets_count}
+use Rattle.kernel_model.proofs.PacketMoves.{unqueued-unowned}
 use Rattle.kernel_model.proofs.QueueCounts.{owned-queue, owners-packet}
 use Rattle.kernel_model.proofs.QueuePlaces.{KeepsOrder-beside, is_queued-here, is_queued-place, place-order, place-stands, place-there, place-valid, with_packets, with_queue-key, with_queue-packets, with_queue-residents, with_queue-size}
 use Rattle.kernel_model.proofs.QueuedPackets.{fault-kept, key-kept, stands_in}
@@ -71,9 +72,9 @@ module _ (l : Lists) (at : Place) (p : QueuedPacket) (front back : List QueuedPa
   comes is stands order key fault less =
       place-valid l at (front ++ p ∷ back) x f v has (all-between (MayStand l at) front p back stands (subst (AllByRecursion (MayStand l at)) is (place-stands l at v has))) order key fault
       (owns-fewer l (with_packets x f (with_queue at (front ++ p ∷ back) l)) (with_queue-size at (front ++ p ∷ back) l)
-        (λ a. plain (owners a (owned (with_packets x f (with_queue at (front ++ p ∷ back) l)))) (owners a (owned l)) (before a) (after a) (packets_count a (queue_of at l)) (packets_count a (front ++ p ∷ back)) (packets_count a (front ++ back)) (owners a (packet_words p 0))
-          (count a (front ++ p ∷ back)) (ap (packets_count a) is) (owners-packet_between a front p back) (less a))
-        v.owns)
+      (λ a. plain (owners a (owned (with_packets x f (with_queue at (front ++ p ∷ back) l)))) (owners a (owned l)) (before a) (after a) (packets_count a (queue_of at l)) (packets_count a (front ++ p ∷ back)) (packets_count a (front ++ back)) (owners a (packet_words p 0))
+      (count a (front ++ p ∷ back)) (ap (packets_count a) is) (owners-packet_between a front p back) (less a))
+      v.owns)
     where
       plain : (m w b c q s t n : ℕ) → m + (b + q) ≡ w + (c + s) → q ≡ t → s ≡ t + n → c + n ≤ b → m ≤ w
       plain m w b c q s t n e g h le = omega arith
@@ -85,34 +86,23 @@ module _ (l : Lists) (at : Place) (p : QueuedPacket) (front back : List QueuedPa
       place-valid l at (front ++ back) x f v has (all-beside (MayStand l at) front p back (subst (AllByRecursion (MayStand l at)) is (place-stands l at v has)))
       (KeepsOrder-beside at front p back (subst (KeepsOrder at) is (place-order l at v))) key fault
       (owns-fewer l (with_packets x f (with_queue at (front ++ back) l)) (with_queue-size at (front ++ back) l)
-        (λ a. plain (owners a (owned (with_packets x f (with_queue at (front ++ back) l)))) (owners a (owned l)) (before a) (after a) (packets_count a (queue_of at l)) (packets_count a (front ++ p ∷ back)) (packets_count a (front ++ back)) (owners a (packet_words p 0))
-          (count a (front ++ back)) (ap (packets_count a) is) (owners-packet_between a front p back) (less a))
-        v.owns)
+      (λ a. plain (owners a (owned (with_packets x f (with_queue at (front ++ back) l)))) (owners a (owned l)) (before a) (after a) (packets_count a (queue_of at l)) (packets_count a (front ++ p ∷ back)) (packets_count a (front ++ back)) (owners a (packet_words p 0))
+      (count a (front ++ back)) (ap (packets_count a) is) (owners-packet_between a front p back) (less a))
+      v.owns)
     where
       plain : (m w b c q s t n : ℕ) → m + (b + q) ≡ w + (c + t) → q ≡ s → s ≡ t + n → c ≤ b + n → m ≤ w
       plain m w b c q s t n e g h le = omega arith
 
 -- once it is off its queue a packet is on none
-gone-unqueued : (l : Lists) (at : Place) (p : QueuedPacket) (front back : List QueuedPacket) → AreValid l → HasPlace l at → l.residents ≡ true → queue_of at l ≡ front ++ p ∷ back
+gone-unqueued : (l : Lists) (at : Place) (p : QueuedPacket) (front back : List QueuedPacket) → AreValid l → l.residents ≡ true → queue_of at l ≡ front ++ p ∷ back
     → is_queued p.address (with_queue at (front ++ back) l) ≡ false
-gone-unqueued l at p front back v has r is = on (is_queued p.address m) refl
+gone-unqueued l at p front back v r is = on (is_queued p.address m) refl
   where
     m : Lists
     m = with_queue at (front ++ back) l
 
-    first : 0 < owners p.address (packet_words p 0)
-    first = plain (hit p.address p.address) (owners p.address (other_words p)) (hit-same p.address p.address refl)
-      where
-        plain : (h n : ℕ) → h ≡ 1 → 0 < h + n
-        plain h n e = omega arith
-
     nobody : owners p.address (owned m) ≡ 0
-    nobody =
-        plain (owners p.address (owned m)) (owners p.address (owned l)) (packets_count p.address (queue_of at l)) (packets_count p.address (front ++ p ∷ back)) (packets_count p.address (front ++ back)) (owners p.address (packet_words p 0))
-        (owned-queue p.address l at (front ++ back) v.tasks.distinct has) (ap (packets_count p.address) is) (owners-packet_between p.address front p back) first (v.owns.apart p.address)
-      where
-        plain : (m w q s t n : ℕ) → m + q ≡ w + t → q ≡ s → s ≡ t + n → 0 < n → w ≤ 1 → m ≡ 0
-        plain m w q s t n e g h some once = omega arith
+    nobody = unqueued-unowned l at p front back v is p.address (omega arith) (omega arith)
 
     on : (b : Bool) → is_queued p.address m ≡ b → b ≡ false
     on false e = refl
@@ -152,7 +142,7 @@ key_queued-valid l at p front back v is free address k =
     (comes l at p front back None l.fault_packet_free v has r is stands (key-order at p ps k)
     (sym (ap (λ b. l.residents && not b) here ∙ ap (λ b. b && false) r))
     (fault-kept l (with_queue at ps l) v.queues.fault
-      (λ _. is_queued-place fault_packet l at ps v.tasks.distinct has (any-between (λ q. eqb q.address fault_packet) front p back (ap (λ a. eqb a fault_packet) address) ∙ ap (stands_in fault_packet) (sym is))))
+    (λ _. is_queued-place fault_packet l at ps v.tasks.distinct has (any-between (λ q. eqb q.address fault_packet) front p back (ap (λ a. eqb a fault_packet) address) ∙ ap (stands_in fault_packet) (sym is))))
     (λ a. less a l.key free))
   where
     ps : List QueuedPacket
@@ -195,7 +185,7 @@ key_unqueued-valid l at p front back v is is_key =
     (goes l at p front back (Some p.res1) l.fault_packet_free v has r is
     (sym (λ i. r i && not (nowhere i)))
     (fault-kept l (with_queue at (front ++ back) l) v.queues.fault
-      (λ _. is_queued-place fault_packet l at (front ++ back) v.tasks.distinct has (sym (any-between (λ q. eqb q.address fault_packet) front p back (ap (λ a. eqb a fault_packet) address)) ∙ ap (stands_in fault_packet) (sym is))))
+    (λ _. is_queued-place fault_packet l at (front ++ back) v.tasks.distinct has (sym (any-between (λ q. eqb q.address fault_packet) front p back (ap (λ a. eqb a fault_packet) address)) ∙ ap (stands_in fault_packet) (sym is))))
     (λ a. less a))
   where
     r : l.residents ≡ true
@@ -208,7 +198,7 @@ key_unqueued-valid l at p front back v is is_key =
     has = place-there l at front p back v is
 
     nowhere : is_queued key_packet (with_queue at (front ++ back) l) ≡ false
-    nowhere = subst (λ a. is_queued a (with_queue at (front ++ back) l) ≡ false) address (gone-unqueued l at p front back v has r is)
+    nowhere = subst (λ a. is_queued a (with_queue at (front ++ back) l) ≡ false) address (gone-unqueued l at p front back v r is)
 
     less : (a : ℕ) → owners a (key_words (Some p.res1)) + owners a (fault_packet_words l.fault_packet_free) ≤ (owners a (key_words l.key) + owners a (fault_packet_words l.fault_packet_free)) + owners a (packet_words p 0)
     less a =
@@ -225,7 +215,7 @@ pub fault_queued-valid : (l : Lists) (p : QueuedPacket) (front back : List Queue
 fault_queued-valid l p front back v is free address k =
     comes l (Work 2) p front back l.key false v has r is stands tt
     (key-kept l (with_queue (Work 2) ps l) v.queues.key
-      (λ _. is_queued-place key_packet l (Work 2) ps v.tasks.distinct has (any-between (λ q. eqb q.address key_packet) front p back (ap (λ a. eqb a key_packet) address) ∙ ap (stands_in key_packet) (sym is))))
+    (λ _. is_queued-place key_packet l (Work 2) ps v.tasks.distinct has (any-between (λ q. eqb q.address key_packet) front p back (ap (λ a. eqb a key_packet) address) ∙ ap (stands_in key_packet) (sym is))))
     (sym (ap (λ b. has_task 2 l.tasks && not b) here ∙ ap (λ b. b && false) has))
     (λ a. less a)
   where
@@ -270,7 +260,7 @@ pub fault_unqueued-valid : (l : Lists) (p : QueuedPacket) (front back : List Que
 fault_unqueued-valid l p front back v is address =
     goes l (Work 2) p front back l.key true v has r is
     (key-kept l (with_queue (Work 2) (front ++ back) l) v.queues.key
-      (λ _. is_queued-place key_packet l (Work 2) (front ++ back) v.tasks.distinct has (sym (any-between (λ q. eqb q.address key_packet) front p back (ap (λ a. eqb a key_packet) address)) ∙ ap (stands_in key_packet) (sym is))))
+    (λ _. is_queued-place key_packet l (Work 2) (front ++ back) v.tasks.distinct has (sym (any-between (λ q. eqb q.address key_packet) front p back (ap (λ a. eqb a key_packet) address)) ∙ ap (stands_in key_packet) (sym is))))
     (sym (λ i. has i && not (nowhere i)))
     (λ a. less a)
   where
@@ -281,7 +271,7 @@ fault_unqueued-valid l p front back v is address =
     r = v.tasks.reporter has
 
     nowhere : is_queued fault_packet (with_queue (Work 2) (front ++ back) l) ≡ false
-    nowhere = subst (λ a. is_queued a (with_queue (Work 2) (front ++ back) l) ≡ false) address (gone-unqueued l (Work 2) p front back v has r is)
+    nowhere = subst (λ a. is_queued a (with_queue (Work 2) (front ++ back) l) ≡ false) address (gone-unqueued l (Work 2) p front back v r is)
 
     less : (a : ℕ) → owners a (key_words l.key) + owners a (fault_packet_words true) ≤ (owners a (key_words l.key) + owners a (fault_packet_words l.fault_packet_free)) + owners a (packet_words p 0)
     less a =

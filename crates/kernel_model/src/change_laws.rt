@@ -7,12 +7,14 @@ ghost use Rattle.getvec_chain.specs.Run.{first_run, need};
 ghost use Rattle.getvec_chain.specs.Take.{taken};
 ghost use Rattle.hunk_loader.specs.HeldModules.{LoadedModule};
 ghost use Rattle.linked_list.specs.Places.{has};
+ghost use Rattle.owned_words.specs.Owned.{owners};
 ghost use Rattle.packet_queue.specs.QueueWords.{QueuedPacket};
 ghost use Rattle.coroutines.specs.HeldCoroutines.{Coroutine};
 ghost use Rattle.kernel_model.specs.Changes.{AreUnowned, HasNoPacketsOut, HasPlace, IsIdleBlock, KeepsOrder, SameTask, queue_of, with_blocks, with_coroutines, with_fault_packet, with_key, with_modules, with_new_task, with_queue, with_tasks};
 ghost use Rattle.kernel_model.specs.Lists.{Lists, has_task};
+ghost use Rattle.kernel_model.specs.Owned.{owned};
 ghost use Rattle.kernel_model.specs.Residents.{fault_packet, key_packet};
-ghost use Rattle.kernel_model.specs.Task.{Task, is_guest_id};
+ghost use Rattle.kernel_model.specs.Task.{Task, is_guest_id, task_words};
 ghost use Rattle.kernel_model.specs.ValidBlocks.{HasBlock, last_module_word};
 ghost use Rattle.kernel_model.specs.ValidLists.{AreValid};
 ghost use Rattle.kernel_model.specs.ValidQueues.{IsFaultPacket, IsKeyPacket, MayStand, Place, is_fault_packet, is_key_packet};
@@ -30,7 +32,8 @@ pub fn taken_law()
         → HasBlock (taken (need u) l.blocks) (run.start + 1) u }
     ensures unowned { (l : Lists) (u : ℕ) (run : Run) → AreValid l
         → first_run (need u) l.blocks ≡ Some run
-        → AreUnowned (with_blocks (taken (need u) l.blocks) l) (run.start + 1) (run.start + need u) }
+        → AreUnowned (with_blocks (taken (need u) l.blocks) l)
+            (run.start + 1) (run.start + need u) }
 {}
 
 /// A user's block in which no queued packet lies is given back.
@@ -55,16 +58,19 @@ pub fn queued_law()
         → AreValid (with_queue at (front ++ p ∷ back) l) }
 {}
 
-/// A packet goes out of a queue. It is none of the two that residents have of their own.
+/// A packet goes out of a queue, and its words are nobody's then. It is none of the two that residents have of their own.
 pub fn unqueued_law()
-    ensures { (l : Lists) (at : Place) (p : QueuedPacket) (front back : List QueuedPacket)
+    ensures valid { (l : Lists) (at : Place) (p : QueuedPacket) (front back : List QueuedPacket)
         → AreValid l → queue_of at l ≡ front ++ p ∷ back
         → is_key_packet l p ≡ false → is_fault_packet l p ≡ false
         → AreValid (with_queue at (front ++ back) l) }
+    ensures unowned { (l : Lists) (at : Place) (p : QueuedPacket) (front back : List QueuedPacket)
+        → AreValid l → queue_of at l ≡ front ++ p ∷ back
+        → AreUnowned (with_queue at (front ++ back) l) p.address (p.address + 5) }
 {}
 
-/// The console's key packet, which is on no queue, comes into one where it may stand, and one that is queued goes out of its queue:
-/// its res1 is what its packet had.
+/// The console's key packet comes into a queue where it may stand, off which it was; or it goes out of its queue, and its res1
+/// is kept.
 pub fn key_packet_law()
     ensures queued { (l : Lists) (at : Place) (p : QueuedPacket) (front back : List QueuedPacket)
         → AreValid l → queue_of at l ≡ front ++ back → is_some l.key ≡ true
@@ -96,12 +102,16 @@ pub fn new_task_law()
 {}
 
 /// A guest goes out that does not run, and has sent no packet that a resident or a device still has. Its own packets and
-/// coroutines go with it: their words are nobody's then.
+/// coroutines go with it: whatever it owned is nobody's then.
 pub fn gone_task_law()
-    ensures { (l : Lists) (front back : List Task) (t : Task) → AreValid l
+    ensures valid { (l : Lists) (front back : List Task) (t : Task) → AreValid l
         → l.tasks ≡ front ++ t ∷ back → is_guest_id t.id ≡ true
         → l.running ≢ t.id → HasNoPacketsOut l t.id
         → AreValid (with_tasks (front ++ back) l) }
+    ensures unowned { (l : Lists) (front back : List Task) (t : Task) → AreValid l
+        → l.tasks ≡ front ++ t ∷ back → is_guest_id t.id ≡ true
+        → (a : ℕ) → 0 < owners a (task_words l.version t 0)
+        → owners a (owned (with_tasks (front ++ back) l)) ≡ 0 }
 {}
 
 /// A module comes in anywhere in the list, whose block is of its size, and whose words before its hunks nobody owns.
@@ -122,16 +132,18 @@ pub fn gone_module_law()
 
 /// A coroutine of a guest comes in anywhere in its list, whose first ten words nobody owns.
 pub fn new_coroutine_law()
-    ensures { (l : Lists) (before after : List Task) (t : Task) (front back : List Coroutine) (c : Coroutine)
-        → AreValid l → l.tasks ≡ before ++ t ∷ after → t.coroutines.list ≡ front ++ back
+    ensures { (l : Lists) (before after : List Task) (t : Task)
+        (front back : List Coroutine) (c : Coroutine) → AreValid l
+        → l.tasks ≡ before ++ t ∷ after → t.coroutines.list ≡ front ++ back
         → is_guest_id t.id ≡ true → IsCoroutine l c → AreUnowned l c.address (c.address + 10)
         → AreValid (with_tasks (before ++ with_coroutines (front ++ c ∷ back) t ∷ after) l) }
 {}
 
 /// A coroutine of a task goes out that is not active.
 pub fn gone_coroutine_law()
-    ensures { (l : Lists) (before after : List Task) (t : Task) (front back : List Coroutine) (c : Coroutine)
-        → AreValid l → l.tasks ≡ before ++ t ∷ after → t.coroutines.list ≡ front ++ c ∷ back
+    ensures { (l : Lists) (before after : List Task) (t : Task)
+        (front back : List Coroutine) (c : Coroutine) → AreValid l
+        → l.tasks ≡ before ++ t ∷ after → t.coroutines.list ≡ front ++ c ∷ back
         → has c.address t.coroutines.active ≡ false
         → AreValid (with_tasks (before ++ with_coroutines (front ++ back) t ∷ after) l) }
 {}
