@@ -5,7 +5,7 @@ use Rattle.std.proofs.lemmas.Bool.{false≢true, ne_eqb}
 use Rattle.linked_list.specs.Count.{times, words_of}
 use Rattle.linked_list.specs.Places.{has}
 use Rattle.linked_list.proofs.AllMembers.{all-members}
-use Rattle.linked_list.proofs.Counts.{range-apart, range-high, range-low, times-words_more, times-words_of}
+use Rattle.linked_list.proofs.Counts.{range-apart, range-high, range-low, times-within, times-words_more, times-words_of}
 use Rattle.linked_list.proofs.MappedLists.{map-append}
 use Rattle.owned_words.specs.Owned.{owners}
 use Rattle.coroutines.specs.CoroutineWords.{coroutine_size}
@@ -99,6 +99,17 @@ module _ (l : Lists) (before after : List Task) (t : Task) (front back : List Co
           let high : a < c.address + 10 = range-high a c.address 10 there in
           (unowned a (range-low a c.address 10 there) high, HasBlock-inside l c.address c.highest a v.blocks new.block (omega (arith, high, new.high)))
 
+  -- what it owned is taken away
+  gone-count : t.coroutines.list ≡ front ++ c ∷ back → (a : ℕ) → owners a (owned (with_tasks (before ++ with_coroutines (front ++ back) t ∷ after) l)) + times a (range_with_len c.address 10) ≡ owners a (owned l)
+  gone-count list a =
+      plain (owners a (owned (with_tasks (before ++ with_coroutines (front ++ back) t ∷ after) l))) (owners a (owned l)) (times a (words_of coroutine_size (coroutine_addresses t)))
+      (times a (words_of coroutine_size (map address_of (front ++ back)))) (times a (words_of coroutine_size (map address_of (front ++ c ∷ back)))) (times a (range_with_len c.address 10))
+      (owned-one_task l before t (with_coroutines (front ++ back) t) after is a (times a (words_of coroutine_size (coroutine_addresses t))) (times a (words_of coroutine_size (map address_of (front ++ back)))) (owners-with_coroutines a l.version t (front ++ back)))
+      (ap (λ z. times a (words_of coroutine_size (map address_of z))) list) (words-between a front c back)
+    where
+      plain : (m w k n b r : ℕ) → m + k ≡ w + n → k ≡ b → b ≡ n + r → m + r ≡ w
+      plain m w k n b r p q s = omega arith
+
   pub gone_coroutine-valid : t.coroutines.list ≡ front ++ c ∷ back → has c.address t.coroutines.active ≡ false → AreValid (with_tasks (before ++ with_coroutines (front ++ back) t ∷ after) l)
   gone_coroutine-valid list idle =
       task-same_queue l before t u after is v refl refl refl (IsTask-coroutines l t (front ++ back) task (λ resident. absurd (some front (sym (task.resident resident).coroutines ∙ list)))) coroutines
@@ -131,11 +142,15 @@ module _ (l : Lists) (before after : List Task) (t : Task) (front back : List Co
           }
 
       count : (a : ℕ) → owners a (owned (with_tasks (before ++ u ∷ after) l)) ≤ owners a (owned l)
-      count a =
-          plain (owners a (owned (with_tasks (before ++ u ∷ after) l))) (owners a (owned l)) (times a (words_of coroutine_size (coroutine_addresses t))) (times a (words_of coroutine_size (coroutine_addresses u)))
-          (times a (words_of coroutine_size (map address_of (front ++ c ∷ back)))) (times a (range_with_len c.address 10))
-          (owned-one_task l before t u after is a (times a (words_of coroutine_size (coroutine_addresses t))) (times a (words_of coroutine_size (coroutine_addresses u))) (owners-with_coroutines a l.version t (front ++ back)))
-          (ap (λ z. times a (words_of coroutine_size (map address_of z))) list) (words-between a front c back)
+      count a = plain (owners a (owned (with_tasks (before ++ u ∷ after) l))) (owners a (owned l)) (times a (range_with_len c.address 10)) (gone-count list a)
         where
-          plain : (m w k n b r : ℕ) → m + k ≡ w + n → k ≡ b → b ≡ n + r → m ≤ w
-          plain m w k n b r p q s = omega arith
+          plain : (m w r : ℕ) → m + r ≡ w → m ≤ w
+          plain m w r e = omega arith
+
+  pub gone_coroutine-unowned : t.coroutines.list ≡ front ++ c ∷ back → AreUnowned (with_tasks (before ++ with_coroutines (front ++ back) t ∷ after) l) c.address (c.address + 10)
+  gone_coroutine-unowned list a low high =
+      plain (owners a (owned (with_tasks (before ++ with_coroutines (front ++ back) t ∷ after) l))) (owners a (owned l)) (times a (range_with_len c.address 10)) (gone-count list a)
+      (times-within a c.address 10 low high) (v.owns.apart a)
+    where
+      plain : (m w r : ℕ) → m + r ≡ w → r ≡ 1 → w ≤ 1 → m ≡ 0
+      plain m w r e one once = omega arith

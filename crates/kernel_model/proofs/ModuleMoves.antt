@@ -5,7 +5,7 @@ use Rattle.std.proofs.lemmas.Bool.{false≢true, ne_eqb}
 use Rattle.linked_list.specs.Count.{hit, times}
 use Rattle.linked_list.specs.Places.{has}
 use Rattle.linked_list.proofs.AllMembers.{all-members}
-use Rattle.linked_list.proofs.Counts.{range-apart, range-high, range-low}
+use Rattle.linked_list.proofs.Counts.{range-apart, range-high, range-low, times-within}
 use Rattle.linked_list.proofs.MappedLists.{map-append}
 use Rattle.owned_words.specs.Owned.{owners}
 use Rattle.owned_words.proofs.RowWords.{owners-row}
@@ -121,6 +121,16 @@ module _ (l : Lists) (front back : List LoadedModule) (m : LoadedModule) (v : Ar
           let high : a < m.address + k = range-high a m.address k there in
           (unowned a (range-low a m.address k there) (omega (arith, high)), HasBlock-inside l m.address (last_module_word m) a v.blocks block (omega (arith, high)))
 
+  -- what it owned is taken away
+  gone-count : l.modules ≡ front ++ m ∷ back → (a : ℕ) → owners a (owned (with_modules (front ++ back) l)) + owners a (module_words m 0) ≡ owners a (owned l) + 0
+  gone-count is a =
+      owned-modules a l (owners a (module_words m 0)) 0 (front ++ back)
+      (removed (owners a (modules_words (front ++ back))) (owners a (modules_words l.modules)) (owners a (modules_words (front ++ m ∷ back))) (owners a (module_words m 0)) (owners-module_between a front m back)
+      (ap (λ z. owners a (modules_words z)) is))
+    where
+      removed : (x y b n : ℕ) → b ≡ x + n → y ≡ b → x + n ≡ y + 0
+      removed x y b n e f = omega arith
+
   pub gone_module-valid : l.modules ≡ front ++ m ∷ back → AllByRecursion (λ t. has m.address t.modules ≡ false) l.tasks → AreValid (with_modules (front ++ back) l)
   gone_module-valid is unused =
       modules-valid l (front ++ back) v (all-beside Stands front m back (subst (AllByRecursion Stands) is v.modules))
@@ -144,14 +154,15 @@ module _ (l : Lists) (front back : List LoadedModule) (m : LoadedModule) (v : Ar
           (all-members (λ a. eqb a m.address ≡ false) t.modules (λ a some. ne_eqb a m.address (λ e. false≢true (sym none ∙ ap (λ z. has z t.modules) (sym e) ∙ some))))
 
       count : (a : ℕ) → owners a (owned (with_modules (front ++ back) l)) ≤ owners a (owned l)
-      count a =
-          plain (owners a (owned (with_modules (front ++ back) l))) (owners a (owned l)) (owners a (module_words m 0))
-          (owned-modules a l (owners a (module_words m 0)) 0 (front ++ back)
-          (removed (owners a (modules_words (front ++ back))) (owners a (modules_words l.modules)) (owners a (modules_words (front ++ m ∷ back))) (owners a (module_words m 0)) (owners-module_between a front m back)
-          (ap (λ z. owners a (modules_words z)) is)))
+      count a = plain (owners a (owned (with_modules (front ++ back) l))) (owners a (owned l)) (owners a (module_words m 0)) (gone-count is a)
         where
-          removed : (x y b n : ℕ) → b ≡ x + n → y ≡ b → x + n ≡ y + 0
-          removed x y b n e f = omega arith
-
           plain : (x y n : ℕ) → x + n ≡ y + 0 → x ≤ y
           plain x y n e = omega arith
+
+  pub gone_module-unowned : l.modules ≡ front ++ m ∷ back → AreUnowned (with_modules (front ++ back) l) m.address (m.address + 2 + length m.lengths)
+  gone_module-unowned is a low high =
+      plain (owners a (owned (with_modules (front ++ back) l))) (owners a (owned l)) (owners a (module_words m 0)) (gone-count is a)
+      (owners-module a m 0 ∙ times-within a m.address (suc (suc (length m.lengths))) low (omega (arith, high))) (v.owns.apart a)
+    where
+      plain : (x y n : ℕ) → x + n ≡ y + 0 → n ≡ 1 → y ≤ 1 → x ≡ 0
+      plain x y n e one once = omega arith

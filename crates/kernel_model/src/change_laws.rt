@@ -10,6 +10,8 @@ ghost use Rattle.linked_list.specs.Places.{has};
 ghost use Rattle.owned_words.specs.Owned.{owners};
 ghost use Rattle.packet_queue.specs.QueueWords.{QueuedPacket};
 ghost use Rattle.coroutines.specs.HeldCoroutines.{Coroutine};
+ghost use Rattle.kernel_model.specs.BlockUse.{use_of_data};
+ghost use Rattle.kernel_model.specs.BlockUse.Use.{User};
 ghost use Rattle.kernel_model.specs.Changes.{AreUnowned, HasNoPacketsOut, HasPlace, IsIdleBlock, KeepsOrder, SameTask, queue_of, with_blocks, with_coroutines, with_fault_packet, with_key, with_modules, with_new_task, with_queue, with_tasks};
 ghost use Rattle.kernel_model.specs.Lists.{Lists, has_task};
 ghost use Rattle.kernel_model.specs.Owned.{owned};
@@ -40,6 +42,11 @@ pub fn taken_law()
 pub fn given_law()
     ensures { (l : Lists) (v : ℕ) → AreValid l → IsIdleBlock l v
         → AreValid (with_blocks (given v l.blocks) l) }
+{}
+
+/// A block whose first data word nobody owns is a user's, as one that was taken is, and that of a thing that went out.
+pub fn users_law()
+    ensures { (l : Lists) (v : ℕ) → AreValid l → owners v (owned l) ≡ 0 → use_of_data l v ≡ User }
 {}
 
 /// A task's words change, but for its number, its priority, its queue and which coroutines it has.
@@ -122,12 +129,15 @@ pub fn new_module_law()
         → AreValid (with_modules (front ++ m ∷ back) l) }
 {}
 
-/// A module goes out that no task has.
+/// A module goes out that no task has, and its words are nobody's then.
 pub fn gone_module_law()
-    ensures { (l : Lists) (front back : List LoadedModule) (m : LoadedModule) → AreValid l
+    ensures valid { (l : Lists) (front back : List LoadedModule) (m : LoadedModule) → AreValid l
         → l.modules ≡ front ++ m ∷ back
         → AllByRecursion (λ t. has m.address t.modules ≡ false) l.tasks
         → AreValid (with_modules (front ++ back) l) }
+    ensures unowned { (l : Lists) (front back : List LoadedModule) (m : LoadedModule) → AreValid l
+        → l.modules ≡ front ++ m ∷ back
+        → AreUnowned (with_modules (front ++ back) l) m.address (m.address + 2 + length m.lengths) }
 {}
 
 /// A coroutine of a guest comes in anywhere in its list, whose first ten words nobody owns.
@@ -139,11 +149,16 @@ pub fn new_coroutine_law()
         → AreValid (with_tasks (before ++ with_coroutines (front ++ c ∷ back) t ∷ after) l) }
 {}
 
-/// A coroutine of a task goes out that is not active.
+/// A coroutine of a task goes out that is not active, and its words are nobody's then.
 pub fn gone_coroutine_law()
-    ensures { (l : Lists) (before after : List Task) (t : Task)
+    ensures valid { (l : Lists) (before after : List Task) (t : Task)
         (front back : List Coroutine) (c : Coroutine) → AreValid l
         → l.tasks ≡ before ++ t ∷ after → t.coroutines.list ≡ front ++ c ∷ back
         → has c.address t.coroutines.active ≡ false
         → AreValid (with_tasks (before ++ with_coroutines (front ++ back) t ∷ after) l) }
+    ensures unowned { (l : Lists) (before after : List Task) (t : Task)
+        (front back : List Coroutine) (c : Coroutine) → AreValid l
+        → l.tasks ≡ before ++ t ∷ after → t.coroutines.list ≡ front ++ c ∷ back
+        → AreUnowned (with_tasks (before ++ with_coroutines (front ++ back) t ∷ after) l)
+            c.address (c.address + 10) }
 {}
