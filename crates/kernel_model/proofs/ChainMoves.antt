@@ -22,7 +22,7 @@ use Rattle.kernel_model.proofs.AllThings.{all-beside, all-between, all-from_both
 use Rattle.kernel_model.proofs.ChainChanges.{chain-valid}
 use Rattle.kernel_model.proofs.ChainRules.{falls-beside, falls-insert, guest-other, has_task-other, none-times_id, times-id}
 use Rattle.kernel_model.proofs.DataInside.{HasBlock-inside}
-use Rattle.kernel_model.proofs.OwnerCounts.{owned-tasks, owners-task_between, owns-fewer, owns-more}
+use Rattle.kernel_model.proofs.OwnerCounts.{owned-tasks, owners-task_between, owns-more, owns-without}
 use Rattle.kernel_model.proofs.QueuedPackets.{fault-kept, is_queued-same, key-kept, stands_in, work_packets, work_packets-between}
 use Rattle.kernel_model.proofs.RulesKept.{HasSender-kept, MayStand-kept, MayStand-more}
 use Rattle.kernel_model.proofs.TaskCounts.{owners-new_task}
@@ -199,12 +199,6 @@ module _ (l : Lists) (front back : List Task) (t : Task) (v : AreValid l) (is : 
       removed : (x y b n : ℕ) → b ≡ x + n → y ≡ b → x + n ≡ y + 0
       removed x y b n e f = omega arith
 
-  fewer : (a : ℕ) → owners a (owned (with_tasks (front ++ back) l)) ≤ owners a (owned l)
-  fewer a = plain (owners a (owned (with_tasks (front ++ back) l))) (owners a (owned l)) (owners a (task_words l.version t 0)) (count a)
-    where
-      plain : (x y n : ℕ) → x + n ≡ y + 0 → x ≤ y
-      plain x y n e = omega arith
-
   pub gone_task-unowned : (a : ℕ) → 0 < owners a (task_words l.version t 0) → owners a (owned (with_tasks (front ++ back) l)) ≡ 0
   gone_task-unowned a some = plain (owners a (owned (with_tasks (front ++ back) l))) (owners a (owned l)) (owners a (task_words l.version t 0)) (count a) (v.owns.apart a) some
     where
@@ -232,7 +226,7 @@ module _ (l : Lists) (front back : List Task) (t : Task) (v : AreValid l) (is : 
         key = key-kept l m v.queues.key (λ r. same-queued key_packet (no_key r));
         fault = fault-kept l m v.queues.fault (λ r. same-queued fault_packet (no_fault r));
         running = elim v.queues.running [ inl none ↦ inl none | inr some ↦ inr (keeps-others l.running idle some) ];
-        owns = owns-fewer l m refl fewer v.owns;
+        owns = owns-without l m (λ a. owners a (task_words l.version t 0)) refl count v.owns;
       })
     where
       m : Lists

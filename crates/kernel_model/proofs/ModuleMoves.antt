@@ -24,8 +24,8 @@ use Rattle.kernel_model.specs.ValidTasks.{CoroutinesStand, IsTask}
 use Rattle.kernel_model.proofs.AllThings.{all-always, all-beside, all-between, all-from_both, any-between, any-more}
 use Rattle.kernel_model.proofs.DataInside.{HasBlock-inside}
 use Rattle.kernel_model.proofs.EachMember.{all-each}
-use Rattle.kernel_model.proofs.OwnerCounts.{owned-modules, owners-module_between, owns-fewer, owns-more}
-use Rattle.kernel_model.proofs.RulesKept.{CoroutinesStand-same, HasModule, IsTask-kept, MayStand-more}
+use Rattle.kernel_model.proofs.OwnerCounts.{owned-modules, owners-module_between, owns-more, owns-without}
+use Rattle.kernel_model.proofs.RulesKept.{CoroutinesStand-same, HasModule, IsTask-kept, MayStand-more, TasksStand-same}
 
 -- other modules, of which each has its block, and among which each task has its own
 modules-valid : (l : Lists) (ms : List LoadedModule) → AreValid l → ModulesStand (with_modules ms l)
@@ -37,17 +37,9 @@ modules-valid l ms v stand keeps owns =
       numbers = record { version = v.numbers.version; size = v.numbers.size; period = v.numbers.period; residents = v.numbers.residents };
       modules = stand;
       tasks =
-          record {
-            each =
-                all-from_both (IsTask l) (λ t. AllByRecursion (HasModule l) t.modules → AllByRecursion (HasModule m) t.modules) (IsTask m) (λ t h keep. IsTask-kept l m t refl refl keep (λ _ u b. b) h)
-                l.tasks v.tasks.each keeps;
-            distinct = v.tasks.distinct;
-            order = v.tasks.order;
-            shell = v.tasks.shell;
-            console = v.tasks.console;
-            files = v.tasks.files;
-            reporter = v.tasks.reporter;
-          };
+          TasksStand-same l m refl refl
+          (all-from_both (IsTask l) (λ t. AllByRecursion (HasModule l) t.modules → AllByRecursion (HasModule m) t.modules) (IsTask m) (λ t h keep. IsTask-kept l m t refl refl keep (λ _ u b. b) h) l.tasks v.tasks.each keeps)
+          v.tasks;
       coroutines = all-each (CoroutinesStand l) (CoroutinesStand m) (λ t h. CoroutinesStand-same l m t refl h) l.tasks v.coroutines;
       queues =
           record {
@@ -135,7 +127,7 @@ module _ (l : Lists) (front back : List LoadedModule) (m : LoadedModule) (v : Ar
   gone_module-valid is unused =
       modules-valid l (front ++ back) v (all-beside Stands front m back (subst (AllByRecursion Stands) is v.modules))
       (all-each (λ t. has m.address t.modules ≡ false) (λ t. AllByRecursion (HasModule l) t.modules → AllByRecursion (HasModule (with_modules (front ++ back) l)) t.modules) keep l.tasks unused)
-      (owns-fewer l (with_modules (front ++ back) l) refl count v.owns)
+      (owns-without l (with_modules (front ++ back) l) (λ a. owners a (module_words m 0)) refl (gone-count is) v.owns)
     where
       Stands : LoadedModule → Type 0
       Stands x = HasBlock l.blocks x.address (last_module_word x)
@@ -152,12 +144,6 @@ module _ (l : Lists) (front back : List LoadedModule) (m : LoadedModule) (v : Ar
       keep t none all =
           all-from_both (HasModule l) (λ a. eqb a m.address ≡ false) (HasModule (with_modules (front ++ back) l)) keeps t.modules all
           (all-members (λ a. eqb a m.address ≡ false) t.modules (λ a some. ne_eqb a m.address (λ e. false≢true (sym none ∙ ap (λ z. has z t.modules) (sym e) ∙ some))))
-
-      count : (a : ℕ) → owners a (owned (with_modules (front ++ back) l)) ≤ owners a (owned l)
-      count a = plain (owners a (owned (with_modules (front ++ back) l))) (owners a (owned l)) (owners a (module_words m 0)) (gone-count is a)
-        where
-          plain : (x y n : ℕ) → x + n ≡ y + 0 → x ≤ y
-          plain x y n e = omega arith
 
   pub gone_module-unowned : l.modules ≡ front ++ m ∷ back → AreUnowned (with_modules (front ++ back) l) m.address (m.address + 2 + length m.lengths)
   gone_module-unowned is a low high =

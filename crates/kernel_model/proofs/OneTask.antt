@@ -18,7 +18,7 @@ use Rattle.kernel_model.specs.Versions.{highest_id_of}
 use Rattle.kernel_model.proofs.AllThings.{all-here, all-put, map-put}
 use Rattle.kernel_model.proofs.ChainChanges.{chain-valid, with_chain}
 use Rattle.kernel_model.proofs.ChainRules.{falls-same, has_task-same}
-use Rattle.kernel_model.proofs.OwnerCounts.{owned-tasks, owners-task_between, owns-fewer}
+use Rattle.kernel_model.proofs.OwnerCounts.{owned-tasks, owners-task_between, owns-without}
 use Rattle.kernel_model.proofs.QueuedPackets.{fault-kept, is_queued-same, key-kept, stands_in, work_packets, work_packets-put}
 use Rattle.kernel_model.proofs.RulesKept.{MayStand-more}
 use Rattle.kernel_model.proofs.TaskCounts.{owners-same_task}
@@ -94,10 +94,5 @@ module _ (l : Lists) (front : List Task) (t u : Task) (back : List Task) (is : l
 -- the law of a task whose other words change
 pub same_task-valid : (l : Lists) (front back : List Task) (t u : Task) → AreValid l → l.tasks ≡ front ++ t ∷ back → SameTask t u → IsTask l u → CoroutinesStand l u → AreValid (with_tasks (front ++ u ∷ back) l)
 same_task-valid l front back t u v is same task coroutines =
-    task-same_queue l front t u back is v same.id same.priority same.queue task coroutines (owns-fewer l (with_tasks (front ++ u ∷ back) l) refl count v.owns)
-  where
-    count : (a : ℕ) → owners a (owned (with_tasks (front ++ u ∷ back) l)) ≤ owners a (owned l)
-    count a = equal (owners a (owned (with_tasks (front ++ u ∷ back) l))) (owners a (owned l)) (owned-one_task l front t u back is a 0 0 (ap (λ n. n + 0) (owners-same_task a l.version t u same)))
-      where
-        equal : (x y : ℕ) → x + 0 ≡ y + 0 → x ≤ y
-        equal x y e = omega arith
+    task-same_queue l front t u back is v same.id same.priority same.queue task coroutines
+    (owns-without l (with_tasks (front ++ u ∷ back) l) (λ _. 0) refl (λ a. owned-one_task l front t u back is a 0 0 (ap (λ n. n + 0) (owners-same_task a l.version t u same))) v.owns)

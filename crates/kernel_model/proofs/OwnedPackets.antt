@@ -153,28 +153,20 @@ fault_packet-owned l v has = on (is_queued fault_packet l) refl
 
 -- so a packet of which nobody owns the first word is none of them
 module _ (l : Lists) (p : QueuedPacket) (v : AreValid l) (none : owners p.address (owned l) ≡ 0) where
-  pub unowned-no_key : is_key_packet l p ≡ false
-  unowned-no_key = on (is_key_packet l p) refl
+  elsewhere : (there : Bool) (a : ℕ) → (there ≡ true → 0 < owners a (owned l)) → (there && eqb p.address a) ≡ false
+  elsewhere there a own = on (there && eqb p.address a) refl
     where
-      on : (b : Bool) → is_key_packet l p ≡ b → b ≡ false
+      clash : (n : ℕ) → n ≡ 0 → 0 < n → ⊥
+      clash n e some = omega arith
+
+      on : (b : Bool) → (there && eqb p.address a) ≡ b → b ≡ false
       on false e = refl
       on true e =
-          let both = and_parts l.residents (eqb p.address key_packet) e in
-          let there : 0 < owners p.address (owned l) = subst (λ a. 0 < owners a (owned l)) (sym (eqb-true p.address key_packet both.1)) (key_packet-owned l v both.0) in
-          absurd (clash (owners p.address (owned l)) none there)
-        where
-          clash : (n : ℕ) → n ≡ 0 → 0 < n → ⊥
-          clash n e h = omega arith
+          let both = and_parts there (eqb p.address a) e in
+          absurd (clash (owners p.address (owned l)) none (subst (λ z. 0 < owners z (owned l)) (sym (eqb-true p.address a both.1)) (own both.0)))
+
+  pub unowned-no_key : is_key_packet l p ≡ false
+  unowned-no_key = elsewhere l.residents key_packet (key_packet-owned l v)
 
   pub unowned-no_fault : is_fault_packet l p ≡ false
-  unowned-no_fault = on (is_fault_packet l p) refl
-    where
-      on : (b : Bool) → is_fault_packet l p ≡ b → b ≡ false
-      on false e = refl
-      on true e =
-          let both = and_parts (has_task 2 l.tasks) (eqb p.address fault_packet) e in
-          let there : 0 < owners p.address (owned l) = subst (λ a. 0 < owners a (owned l)) (sym (eqb-true p.address fault_packet both.1)) (fault_packet-owned l v both.0) in
-          absurd (clash (owners p.address (owned l)) none there)
-        where
-          clash : (n : ℕ) → n ≡ 0 → 0 < n → ⊥
-          clash n e h = omega arith
+  unowned-no_fault = elsewhere (has_task 2 l.tasks) fault_packet (fault_packet-owned l v)

@@ -170,6 +170,13 @@ owns-fewer l m size fewer h =
       inside = λ a some. omega (arith, size, h.inside a (omega (arith, some, fewer a)));
     }
 
+-- where some of it was taken away
+pub owns-without : (l m : Lists) (n : ℕ → ℕ) → m.size ≡ l.size → ((a : ℕ) → owners a (owned m) + n a ≡ owners a (owned l) + 0) → OwnsApart l → OwnsApart m
+owns-without l m n size less h = owns-fewer l m size (λ a. plain (owners a (owned m)) (owners a (owned l)) (n a) (less a)) h
+  where
+    plain : (x y k : ℕ) → x + k ≡ y + 0 → x ≤ y
+    plain x y k e = omega arith
+
 pub owns-more : (l m : Lists) (es : Pairs) → m.size ≡ l.size → ((a : ℕ) → owners a (owned m) ≡ owners a (owned l) + owners a es)
     → ((a : ℕ) → owners a es ≤ 1) → ((a : ℕ) → 0 < owners a es → (owners a (owned l) ≡ 0) × (a < l.size)) → OwnsApart l → OwnsApart m
 owns-more l m es size more once fresh h =

@@ -19,7 +19,7 @@ use Rattle.kernel_model.proofs.ChainChanges.{with_chain}
 use Rattle.kernel_model.proofs.OneTask.{queued-one_task, task-changed}
 use Rattle.kernel_model.proofs.OwnerCounts.{with_queues}
 use Rattle.kernel_model.proofs.QueuedPackets.{fault-kept, is_queued-parts, is_queued-same, key-kept, stands_in, work_packets, work_packets-here}
-use Rattle.kernel_model.proofs.RulesKept.{CoroutinesStand-same, IsTask-kept, IsTask-queue, MayStand-more}
+use Rattle.kernel_model.proofs.RulesKept.{CoroutinesStand-same, IsTask-kept, IsTask-queue, MayStand-more, TasksStand-same}
 use Rattle.kernel_model.proofs.WorkQueues.{WorkSplit, work-split}
 use Rattle.kernel_model.proofs.EachMember.{all-each}
 
@@ -107,15 +107,9 @@ queues-valid l c k o p x f v fit key fault owns =
       numbers = record { version = v.numbers.version; size = v.numbers.size; period = v.numbers.period; residents = v.numbers.residents };
       modules = v.modules;
       tasks =
-          record {
-            each = all-each (IsTask l) (IsTask m) (λ t h. IsTask-kept l m t refl refl (λ all. all) (λ _ u h. h) h) l.tasks v.tasks.each;
-            distinct = v.tasks.distinct;
-            order = v.tasks.order;
-            shell = v.tasks.shell;
-            console = v.tasks.console;
-            files = v.tasks.files;
-            reporter = v.tasks.reporter;
-          };
+          TasksStand-same l m refl refl
+          (all-each (IsTask l) (IsTask m) (λ t h. IsTask-kept l m t refl refl (λ all. all) (λ _ u h. h) h) l.tasks v.tasks.each)
+          v.tasks;
       coroutines = all-each (CoroutinesStand l) (CoroutinesStand m) (λ t h. CoroutinesStand-same l m t refl h) l.tasks v.coroutines;
       queues =
           record {

@@ -1,26 +1,23 @@
 -- A task, a module, a coroutine and the residents own the first word of their block, so a block whose first data word nobody owns is a
 -- user's.
-use Rattle.std.proofs.Common.{◌≡◌, ℕ, ◌+◌, ◌<◌, ◌≤◌, ◌⊎◌, List, [], ◌∷◌, ◌++◌, map, cond, length, eqb, ◌&&◌, ◌||◌, Bool, true, false, Option, Some, inl, inr, refl, sym, ap, ◌∙◌, subst, arith}
+use Rattle.std.proofs.Common.{◌≡◌, ℕ, ◌+◌, ◌<◌, List, [], ◌∷◌, map, cond, length, eqb, ◌&&◌, ◌||◌, Bool, true, false, Option, Some, inl, inr, refl, sym, ap, ◌∙◌, subst, arith}
 use Rattle.std.specs.Prelude.{unwrap_or}
 use Rattle.std.specs.List.{AllByRecursion, flat_map, range_with_len}
 use Rattle.std.proofs.lemmas.Bool.{and_parts, eqb-true, or_cases}
 use Rattle.std.proofs.lemmas.List.Folds.{list_any-append}
-use Rattle.linked_list.specs.Count.{hit, times}
+use Rattle.linked_list.specs.Count.{times}
 use Rattle.linked_list.specs.Places.{has}
 use Rattle.linked_list.proofs.Counts.{hit-same, times-within}
 use Rattle.linked_list.proofs.Members.{has-here, has-there}
-use Rattle.owned_words.specs.LinkedWords.{first_of, headed_words, linked_words}
+use Rattle.owned_words.specs.LinkedWords.{first_of, linked_words}
 use Rattle.owned_words.specs.Owned.{Pairs, owners, row_from}
 use Rattle.owned_words.proofs.OwnedWords.{owners-append}
 use Rattle.hunk_loader.specs.HeldModules.{module_address, module_words}
 use Rattle.coroutines.specs.HeldCoroutines.{Coroutine, address_of, coroutine_words}
-use Rattle.packet_queue.specs.QueueWords.{address_of as packet_address, packet_words}
-use Rattle.getvec_chain.specs.BlockWords.{blocks_words}
-use Rattle.kernel_model.specs.BlockUse.{Use, coroutine_addresses, use_of_data}
+use Rattle.kernel_model.specs.BlockUse.{coroutine_addresses, use_of_data}
 use Rattle.kernel_model.specs.BlockUse.Use.{OfCoroutine, OfModule, OfResidents, OfTask, User}
 use Rattle.kernel_model.specs.Lists.{Lists, has_task}
 use Rattle.kernel_model.specs.Owned.{owned}
-use Rattle.kernel_model.specs.Residents.{resident_words}
 use Rattle.kernel_model.specs.Task.{Task, is_guest_id, other_words, task_address, task_words}
 use Rattle.kernel_model.specs.ValidLists.{AreValid}
 use Rattle.kernel_model.specs.ValidTasks.{IsTask, resident_place}

@@ -26,8 +26,7 @@ ghost use Rattle.kernel_model.specs.Versions.{head_words_of};
 
 /// A block is taken: the lists are valid with it, its data begin behind the front of the run, and nobody owns them.
 pub fn taken_law()
-    ensures valid { (l : Lists) (u : ℕ) (run : Run) → AreValid l
-        → first_run (need u) l.blocks ≡ Some run
+    ensures valid { (l : Lists) (u : ℕ) → AreValid l
         → AreValid (with_blocks (taken (need u) l.blocks) l) }
     ensures block { (l : Lists) (u : ℕ) (run : Run) → AreValid l
         → first_run (need u) l.blocks ≡ Some run
@@ -35,7 +34,7 @@ pub fn taken_law()
     ensures unowned { (l : Lists) (u : ℕ) (run : Run) → AreValid l
         → first_run (need u) l.blocks ≡ Some run
         → AreUnowned (with_blocks (taken (need u) l.blocks) l)
-            (run.start + 1) (run.start + need u) }
+        (run.start + 1) (run.start + need u) }
 {}
 
 /// A user's block in which no queued packet lies is given back.
@@ -160,5 +159,5 @@ pub fn gone_coroutine_law()
         (front back : List Coroutine) (c : Coroutine) → AreValid l
         → l.tasks ≡ before ++ t ∷ after → t.coroutines.list ≡ front ++ c ∷ back
         → AreUnowned (with_tasks (before ++ with_coroutines (front ++ back) t ∷ after) l)
-            c.address (c.address + 10) }
+        c.address (c.address + 10) }
 {}
