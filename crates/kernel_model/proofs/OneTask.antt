@@ -1,5 +1,5 @@
 -- One task of the chain changes, with its number and its priority.
-use Rattle.std.proofs.Common.{◌≡◌, ℕ, ◌+◌, ◌≤◌, List, ◌∷◌, ◌++◌, map, is_some, not, ◌&&◌, Bool, Option, inl, inr, refl, sym, ap, ◌∙◌, subst, arith}
+use Rattle.std.proofs.Common.{◌≡◌, ℕ, ◌+◌, List, ◌∷◌, ◌++◌, map, is_some, not, ◌&&◌, Bool, Option, inl, inr, refl, sym, ap, ◌∙◌, subst, arith}
 use Rattle.std.specs.List.{AllByRecursion}
 use Rattle.linked_list.specs.Count.{IsApart}
 use Rattle.owned_words.specs.Owned.{owners}
