@@ -47,3 +47,4 @@ pub mod UnownedBlocks
 pub mod UsedData
 pub mod WalkedLists
 pub mod WorkQueues
+pub mod OneTaskExchange

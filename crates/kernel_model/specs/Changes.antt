@@ -97,6 +97,13 @@ with_tasks ts l = record l { tasks = ts }
 abbrev pub with_coroutines : List Coroutine → Task → Task
 with_coroutines cs t = record t { coroutines = with_list cs t.coroutines }
 
+-- the lists with the task of this number changed
+abbrev pub change_of : ℕ → (Task → Task) → Task → Task
+change_of id change t = if t.id == id then change t else t
+
+abbrev pub with_task : ℕ → (Task → Task) → Lists → Lists
+with_task id change l = with_tasks (map (change_of id change) l.tasks) l
+
 -- ---- the chain of tasks
 
 -- the chain with a task at its place by priority

@@ -1,11 +1,13 @@
 pub mod Between
 pub mod BlockUse
+pub mod ChangedStore
 pub mod Changes
 pub mod HoldsLists
 pub mod Image
 pub mod Kernel
 pub mod KernelRanges
 pub mod Lists
+pub mod NotedEvents
 pub mod OneKernel
 pub mod Owned
 pub mod Pipes
