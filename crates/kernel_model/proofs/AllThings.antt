@@ -1,5 +1,5 @@
 -- What holds of all things of a list, and of some.
-use Rattle.std.proofs.Common.{◌≡◌, List, [], ◌∷◌, ◌++◌, map, cond, not, ◌&&◌, ◌||◌, Bool, true, false, refl, sym, ap, ◌∙◌, subst}
+use Rattle.std.proofs.Common.{◌≡◌, List, [], ◌∷◌, ◌++◌, map, ◌&&◌, ◌||◌, Bool, true, false, refl, sym, ap, subst}
 use Rattle.std.specs.List.{AllByRecursion, flat_map, list_any}
 use Rattle.linked_list.specs.Places.{insert_after}
 use Rattle.linked_list.proofs.AllMembers.{all-append, all-back, all-front}
@@ -88,11 +88,6 @@ all-fail f (x ∷ xs) none = on (f x) refl none (all-fail f xs)
 pub map-put : {X A : Type 0} (f : X → A) (front : List X) (x y : X) (back : List X) → f y ≡ f x → map f (front ++ y ∷ back) ≡ map f (front ++ x ∷ back)
 map-put f [] x y back e = ap (λ z. z ∷ map f back) e
 map-put f (z ∷ zs) x y back e = ap (λ r. f z ∷ r) (map-put f zs x y back e)
-
--- a test that matters only under another
-pub and_not-same : (b x y : Bool) → (b ≡ true → x ≡ y) → (b && not x) ≡ (b && not y)
-and_not-same true x y same = ap not (same refl)
-and_not-same false x y same = refl
 
 pub and-other : (b x : Bool) → (b && x) ≡ false → b ≡ true → x ≡ false
 and-other true x none is = none

@@ -4,7 +4,6 @@ use Rattle.std.specs.List.{AllByRecursion}
 use Rattle.linked_list.proofs.AllMembers.{all-back, all-front}
 use Rattle.getvec_chain.specs.declared.pieces.Block.{Block}
 use Rattle.getvec_chain.specs.Tiling.{Follow}
-use Rattle.coroutines.specs.HeldCoroutines.{Coroutine}
 use Rattle.packet_queue.specs.QueueWords.{QueuedPacket}
 use Rattle.kernel_model.specs.Changes.{with_blocks}
 use Rattle.kernel_model.specs.Lists.{Lists, queued}
@@ -17,7 +16,7 @@ use Rattle.kernel_model.specs.ValidQueues.Place.{Clock, Keyboard, Output, Pendin
 use Rattle.kernel_model.specs.ValidTasks.{CoroutinesStand, IsCoroutine, IsTask}
 use Rattle.kernel_model.proofs.AllThings.{all-from_both, all-pieces}
 use Rattle.kernel_model.proofs.QueuedPackets.{work_packets}
-use Rattle.kernel_model.proofs.RulesKept.{CoroutinesStand-kept, IsTask-kept, MayStand-more}
+use Rattle.kernel_model.proofs.RulesKept.{CoroutinesStand-kept, IsTask-kept, MayStand-more, TasksStand-same}
 
 -- a block of any size that begins there is still one
 abbrev pub KeepsBlock : List Block → List Block → ℕ → Type 0
@@ -45,17 +44,9 @@ blocks-valid l bs v f =
       numbers = record { version = v.numbers.version; size = v.numbers.size; period = v.numbers.period; residents = f.residents };
       modules = f.modules;
       tasks =
-          record {
-            each =
-                all-from_both (IsTask l) (λ t. is_guest_id t.id ≡ true → KeepsBlock l.blocks bs t.address) (IsTask m) (λ t h keeps. IsTask-kept l m t refl refl (λ all. all) keeps h) l.tasks v.tasks.each
-                f.guests;
-            distinct = v.tasks.distinct;
-            order = v.tasks.order;
-            shell = v.tasks.shell;
-            console = v.tasks.console;
-            files = v.tasks.files;
-            reporter = v.tasks.reporter;
-          };
+          TasksStand-same l m refl refl
+          (all-from_both (IsTask l) (λ t. is_guest_id t.id ≡ true → KeepsBlock l.blocks bs t.address) (IsTask m) (λ t h keeps. IsTask-kept l m t refl refl (λ all. all) keeps h) l.tasks v.tasks.each f.guests)
+          v.tasks;
       coroutines =
           all-from_both (CoroutinesStand l) (λ t. AllByRecursion (λ c. KeepsBlock l.blocks bs c.address) t.coroutines.list) (CoroutinesStand m)
           (λ t h keeps. CoroutinesStand-kept l m t (λ all. coroutine t all keeps) h) l.tasks v.coroutines f.coroutines;

@@ -1,11 +1,11 @@
 -- Where the blocks of a list begin and lie, and a store that has them.
-use Rattle.std.proofs.Common.{◌≡◌, ◌⊎◌, ℕ, ◌+◌, ◌-◌, ◌<◌, ◌≤◌, List, [], ◌∷◌, ◌++◌, length, replicate, get_or, eqb, not, ◌&&◌, cond, Bool, true, false, Option, Some, None, inl, inr, refl, sym, ap, ◌∙◌, subst, arith, append-nil}
-use Rattle.std.proofs.lemmas.Bool.{cases_eq, cases_lt, eq-eqb, false≢true, ne_eqb}
+use Rattle.std.proofs.Common.{◌≡◌, ◌⊎◌, ℕ, ◌+◌, ◌<◌, ◌≤◌, List, [], ◌∷◌, ◌++◌, length, replicate, eqb, not, ◌&&◌, cond, Bool, true, false, Some, inl, inr, refl, sym, ap, ◌∙◌, subst, arith, append-nil}
+use Rattle.std.proofs.lemmas.Bool.{cases_eq, cases_lt, eq-eqb, ne_eqb}
 use Rattle.std.proofs.lemmas.List.{get_or-replicate, length-replicate}
 use Rattle.linked_list.proofs.Counts.{hit-other, hit-same}
 use Rattle.owned_words.specs.Owned.{owners}
 use Rattle.getvec_chain.specs.declared.pieces.Block.{Block}
-use Rattle.getvec_chain.specs.Block.{block_end, free_block, has_data, is_used_at}
+use Rattle.getvec_chain.specs.Block.{block_end, has_data, is_used_at}
 use Rattle.getvec_chain.specs.BlockWords.{blocks_words}
 use Rattle.getvec_chain.specs.Run.{AreFree}
 use Rattle.getvec_chain.specs.Take.{with_size_words}

@@ -1,9 +1,8 @@
 -- A guest comes into the chain, or goes out of it, and the lists stay valid.
-use Rattle.std.proofs.Common.{◌≡◌, ◌≢◌, ℕ, ◌+◌, ◌<◌, ◌≤◌, ◌⊎◌, List, [], ◌∷◌, ◌++◌, map, eqb, leb, nat_lt, Bool, true, false, inl, inr, refl, sym, ap, ◌∙◌, subst, arith}
-use Rattle.std.proofs.lemmas.Bool.{and_from, cases_lt, eqb-false, eqb-true, leb-false, lt-leb, false≢true, ne_eqb}
+use Rattle.std.proofs.Common.{◌≡◌, ◌≢◌, ℕ, ◌+◌, ◌<◌, ◌≤◌, List, [], ◌∷◌, ◌++◌, map, eqb, nat_lt, Bool, true, false, inl, inr, refl, sym, ap, ◌∙◌, subst, arith}
+use Rattle.std.proofs.lemmas.Bool.{and_from, eqb-false, leb-false, false≢true}
 use Rattle.std.specs.List.{AllByRecursion, range_with_len}
 use Rattle.linked_list.specs.Count.{IsApart, times}
-use Rattle.linked_list.specs.Places.{insert_after}
 use Rattle.linked_list.proofs.Counts.{IsApart-cons, range-apart, range-high, range-low}
 use Rattle.linked_list.proofs.Places.{IsPlace, place}
 use Rattle.owned_words.specs.Owned.{owners}
@@ -11,11 +10,11 @@ use Rattle.packet_queue.specs.QueueWords.{QueuedPacket}
 use Rattle.task_block.specs.ChainWords.{listed_words}
 use Rattle.kernel_model.specs.Changes.{AreUnowned, HasNoPacketsOut, with_new_task, with_tasks}
 use Rattle.kernel_model.specs.Lists.{Lists, has_task, is_queued}
-use Rattle.kernel_model.specs.Owned.{OwnsApart, owned, tasks_words}
+use Rattle.kernel_model.specs.Owned.{owned, tasks_words}
 use Rattle.kernel_model.specs.Residents.{fault_packet, key_packet}
 use Rattle.kernel_model.specs.Task.{Task, is_guest_id, task_address, task_id, task_words}
 use Rattle.kernel_model.specs.ValidLists.{AreValid}
-use Rattle.kernel_model.specs.ValidQueues.{HasSender, IsFaultPacket, IsKeyPacket, MayStand, Place}
+use Rattle.kernel_model.specs.ValidQueues.{IsFaultPacket, IsKeyPacket, MayStand, Place}
 use Rattle.kernel_model.specs.ValidQueues.Place.{Clock, Keyboard, Output, Pending, Work}
 use Rattle.kernel_model.specs.ValidTasks.{CoroutinesStand, IsTask, PrioritiesFall}
 use Rattle.kernel_model.specs.Versions.{head_words_of, highest_id_of}
@@ -23,8 +22,8 @@ use Rattle.kernel_model.proofs.AllThings.{all-beside, all-between, all-from_both
 use Rattle.kernel_model.proofs.ChainChanges.{chain-valid}
 use Rattle.kernel_model.proofs.ChainRules.{falls-beside, falls-insert, guest-other, has_task-other, none-times_id, times-id}
 use Rattle.kernel_model.proofs.DataInside.{HasBlock-inside}
-use Rattle.kernel_model.proofs.OwnerCounts.{owned-tasks, owners-task_between, owns-fewer, owns-more}
-use Rattle.kernel_model.proofs.QueuedPackets.{is_queued-same, stands_in, work_packets, work_packets-between}
+use Rattle.kernel_model.proofs.OwnerCounts.{owned-tasks, owners-task_between, owns-more, owns-without}
+use Rattle.kernel_model.proofs.QueuedPackets.{fault-kept, is_queued-same, key-kept, stands_in, work_packets, work_packets-between}
 use Rattle.kernel_model.proofs.RulesKept.{HasSender-kept, MayStand-kept, MayStand-more}
 use Rattle.kernel_model.proofs.TaskCounts.{owners-new_task}
 use Rattle.kernel_model.proofs.EachMember.{all-each}
@@ -35,7 +34,7 @@ module _ (l : Lists) (t : Task) (v : AreValid l) (task : IsTask l t) (guest : is
   new-between : (front back : List Task) → l.tasks ≡ front ++ back → PrioritiesFall (front ++ t ∷ back) → has_task t.id l.tasks ≡ false → t.coroutines.list ≡ [] → t.coroutines.active ≡ []
       → AreUnowned l t.address (t.address + head_words_of l.version) → AreValid (with_tasks (front ++ t ∷ back) l)
   new-between front back is order absent list active unowned =
-      chain-valid l (front ++ t ∷ back) v
+      chain-valid l (front ++ t ∷ back) l.key l.fault_packet_free v
       (record {
         residents = λ i resident. has_task-other i front t back (guest-other t.id i guest resident) ∙ ap (has_task i) (sym is);
         each = all-between (IsTask l) front t back task (subst (AllByRecursion (IsTask l)) is v.tasks.each);
@@ -50,8 +49,8 @@ module _ (l : Lists) (t : Task) (v : AreValid l) (task : IsTask l t) (guest : is
         keyboard = kept Keyboard l.keyboard v.queues.keyboard;
         output = kept Output l.output v.queues.output;
         pending = kept Pending l.pending v.queues.pending;
-        key = λ _. same key_packet;
-        fault = λ _. same fault_packet;
+        key = key-kept l m v.queues.key (λ _. same key_packet);
+        fault = fault-kept l m v.queues.fault (λ _. same fault_packet);
         running = elim v.queues.running [ inl e ↦ inl e | inr some ↦ inr (keeps l.running some) ];
         owns = owns-more l m (task_words l.version t 0) refl count once fresh v.owns;
       })
@@ -124,7 +123,7 @@ new_task-valid l t v task guest absent differ queue list active unowned =
 -- ---- a guest goes out
 
 -- who is left
-module _ (l : Lists) (front : List Task) (t : Task) (back : List Task) (v : AreValid l) (is : l.tasks ≡ front ++ t ∷ back) (guest : is_guest_id t.id ≡ true) where
+module _ (l : Lists) (front back : List Task) (t : Task) (v : AreValid l) (is : l.tasks ≡ front ++ t ∷ back) (guest : is_guest_id t.id ≡ true) where
   keeps-others : (i : ℕ) → i ≢ t.id → has_task i l.tasks ≡ true → has_task i (front ++ back) ≡ true
   keeps-others i ne some = sym (has_task-other i front t back (λ e. ne (sym e))) ∙ subst (λ z. has_task i z ≡ true) is some
 
@@ -188,11 +187,11 @@ module _ (l : Lists) (front : List Task) (t : Task) (back : List Task) (v : AreV
   same-queued a none =
       is_queued-same a l (with_tasks (front ++ back) l) (sym (work_packets-between a front t back none) ∙ ap (λ z. stands_in a (work_packets z)) (sym is)) refl refl refl refl
 
-  fewer : (a : ℕ) → owners a (owned (with_tasks (front ++ back) l)) ≤ owners a (owned l)
-  fewer a =
-      plain (owners a (owned (with_tasks (front ++ back) l))) (owners a (owned l)) (owners a (task_words l.version t 0))
-      (owned-tasks a l (owners a (task_words l.version t 0)) 0 (front ++ back)
-      (removed (listed (front ++ back)) (owners a (tasks_words l)) (listed (front ++ t ∷ back)) (owners a (task_words l.version t 0)) (owners-task_between a l.version (highest_id_of l.version) front t back) (ap listed is)))
+  -- what it owned is taken away
+  count : (a : ℕ) → owners a (owned (with_tasks (front ++ back) l)) + owners a (task_words l.version t 0) ≡ owners a (owned l) + 0
+  count a =
+      owned-tasks a l (owners a (task_words l.version t 0)) 0 (front ++ back)
+      (removed (listed (front ++ back)) (owners a (tasks_words l)) (listed (front ++ t ∷ back)) (owners a (task_words l.version t 0)) (owners-task_between a l.version (highest_id_of l.version) front t back) (ap listed is))
     where
       listed : List Task → ℕ
       listed zs = owners a (listed_words task_address task_id (task_words l.version) (highest_id_of l.version) zs)
@@ -200,12 +199,15 @@ module _ (l : Lists) (front : List Task) (t : Task) (back : List Task) (v : AreV
       removed : (x y b n : ℕ) → b ≡ x + n → y ≡ b → x + n ≡ y + 0
       removed x y b n e f = omega arith
 
-      plain : (x y n : ℕ) → x + n ≡ y + 0 → x ≤ y
-      plain x y n e = omega arith
+  pub gone_task-unowned : (a : ℕ) → 0 < owners a (task_words l.version t 0) → owners a (owned (with_tasks (front ++ back) l)) ≡ 0
+  gone_task-unowned a some = plain (owners a (owned (with_tasks (front ++ back) l))) (owners a (owned l)) (owners a (task_words l.version t 0)) (count a) (v.owns.apart a) some
+    where
+      plain : (x y n : ℕ) → x + n ≡ y + 0 → y ≤ 1 → 0 < n → x ≡ 0
+      plain x y n e once some = omega arith
 
   pub gone_task-valid : l.running ≢ t.id → HasNoPacketsOut l t.id → AreValid (with_tasks (front ++ back) l)
   gone_task-valid idle out =
-      chain-valid l (front ++ back) v
+      chain-valid l (front ++ back) l.key l.fault_packet_free v
       (record {
         residents = residents-same;
         each = all-beside (IsTask l) front t back (subst (AllByRecursion (IsTask l)) is v.tasks.each);
@@ -221,10 +223,10 @@ module _ (l : Lists) (front : List Task) (t : Task) (back : List Task) (v : AreV
         keyboard = stay Keyboard l.keyboard v.queues.keyboard out.keyboard;
         output = stay Output l.output v.queues.output out.output;
         pending = stay Pending l.pending v.queues.pending out.pending;
-        key = λ r. same-queued key_packet (no_key r);
-        fault = λ r. same-queued fault_packet (no_fault r);
+        key = key-kept l m v.queues.key (λ r. same-queued key_packet (no_key r));
+        fault = fault-kept l m v.queues.fault (λ r. same-queued fault_packet (no_fault r));
         running = elim v.queues.running [ inl none ↦ inl none | inr some ↦ inr (keeps-others l.running idle some) ];
-        owns = owns-fewer l m refl fewer v.owns;
+        owns = owns-without l m (λ a. owners a (task_words l.version t 0)) refl count v.owns;
       })
     where
       m : Lists

@@ -1,12 +1,10 @@
 -- Data of blocks are words of the store.
-use Rattle.std.proofs.Common.{◌≡◌, ℕ, ◌+◌, ◌-◌, ◌<◌, ◌≤◌, arith}
-use Rattle.getvec_chain.specs.declared.pieces.Block.{Block}
-use Rattle.getvec_chain.specs.Block.{block_end, has_data, is_used_at, used_block}
+use Rattle.std.proofs.Common.{◌≡◌, ℕ, ◌+◌, ◌-◌, ◌<◌, ◌≤◌, refl, arith}
+use Rattle.getvec_chain.specs.Block.{has_data, is_used_at, used_block}
 use Rattle.getvec_chain.specs.Run.{need}
-use Rattle.getvec_chain.specs.Tiling.{Follow, holding, used_at}
 use Rattle.kernel_model.specs.Lists.{Lists}
 use Rattle.kernel_model.specs.ValidBlocks.{AreData, BlocksTile, HasBlock}
-use Rattle.kernel_model.proofs.FollowedBlocks.{IsWithin, found-within}
+use Rattle.kernel_model.proofs.FollowedBlocks.{found-holding, found-within}
 
 -- data of a block are words of the store
 pub AreData-inside : (l : Lists) (p n a : ℕ) → BlocksTile l → AreData l.blocks p n → a < p + n → a < l.size
@@ -28,3 +26,16 @@ HasBlock-inside l v u a tile h below =
 
     inside : (start size top : ℕ) → v ≡ start + 1 → u + 2 ≤ size → 200 ≤ start → start + size ≤ top - 2 → a < top
     inside start size top here some low high = omega (arith, below, here, some, low, high)
+
+-- words of a used block are data of it
+pub HasBlock-data : (l : Lists) (v u p n : ℕ) → BlocksTile l → HasBlock l.blocks v u → v ≤ p → p + n ≤ v + u + 1 → 0 < n → AreData l.blocks p n
+HasBlock-data l v u p n tile h low high some =
+    record {
+      block = used_block h.start (need u);
+      holds = found-holding (is_used_at v) 200 l.blocks (l.size - 2) (used_block h.start (need u)) p tile h.block (omega (arith, h.here, low)) (omega (arith, h.here, high, large u, some));
+      used = refl;
+      whole = omega (arith, h.here, high, large u);
+    }
+  where
+    large : (u : ℕ) → u + 2 ≤ need u
+    large u = omega arith

@@ -1,5 +1,5 @@
 -- A user's block is given back, and the lists stay valid.
-use Rattle.std.proofs.Common.{◌≡◌, ◌≢◌, ℕ, ◌+◌, ◌-◌, ◌≤◌, List, [], ◌∷◌, ◌++◌, map, cond, eqb, ◌&&◌, ◌||◌, Bool, true, false, Option, Some, inl, inr, refl, sym, ap, ◌∙◌, subst, arith}
+use Rattle.std.proofs.Common.{◌≡◌, ◌≢◌, ℕ, ◌+◌, ◌-◌, List, [], ◌∷◌, map, cond, eqb, ◌&&◌, Bool, true, false, Option, Some, refl, sym, ap, ◌∙◌}
 use Rattle.std.specs.List.{AllByRecursion, flat_map}
 use Rattle.std.proofs.lemmas.Bool.{eqb-false, false≢true, or_parts}
 use Rattle.std.proofs.lemmas.List.Folds.{list_any-append}
@@ -16,19 +16,18 @@ use Rattle.getvec_chain.proofs.AfterGive.{used_at-given-other}
 use Rattle.hunk_loader.specs.HeldModules.{module_address}
 use Rattle.coroutines.specs.HeldCoroutines.{address_of}
 use Rattle.packet_queue.specs.QueueWords.{QueuedPacket}
-use Rattle.kernel_model.specs.BlockUse.{Use, coroutine_addresses, use_of_data}
-use Rattle.kernel_model.specs.BlockUse.Use.{Free, OfCoroutine, OfModule, OfResidents, OfTask, User}
+use Rattle.kernel_model.specs.BlockUse.{coroutine_addresses, use_of_data}
+use Rattle.kernel_model.specs.BlockUse.Use.{OfCoroutine, OfModule, OfResidents, OfTask, User}
 use Rattle.kernel_model.specs.Changes.{IsIdleBlock, with_blocks}
 use Rattle.kernel_model.specs.Lists.{Lists, queued}
-use Rattle.kernel_model.specs.Owned.{owned}
 use Rattle.kernel_model.specs.Task.{Task, is_guest_id, task_address}
-use Rattle.kernel_model.specs.ValidBlocks.{AreData, HasBlock, last_module_word, last_resident_word}
+use Rattle.kernel_model.specs.ValidBlocks.{HasBlock, last_module_word, last_resident_word}
 use Rattle.kernel_model.specs.ValidLists.{AreValid}
 use Rattle.kernel_model.proofs.AllThings.{all-from_both, and-other}
 use Rattle.kernel_model.proofs.BlockChanges.{KeepsBlock, KeepsData, blocks-valid}
 use Rattle.kernel_model.proofs.BlockStarts.{AreData-kept}
 use Rattle.kernel_model.proofs.EachMember.{all-each, find-passes}
-use Rattle.kernel_model.proofs.OwnerCounts.{owned-blocks, owns-fewer}
+use Rattle.kernel_model.proofs.OwnerCounts.{owned-blocks, owns-without}
 
 -- ---- the blocks
 
@@ -96,7 +95,7 @@ given-valid l v valid idle =
           (λ t all. all-each (λ c. c.address ≢ v) (λ c. KeepsBlock l.blocks (given v l.blocks) c.address) (λ c ne. keeps c.address ne) t.coroutines.list all) l.tasks
           (coroutines-elsewhere v l.tasks users.coroutines);
       packets = all-each (λ p. has_data idle.block p.address ≡ false) (KeepsData l.blocks (given v l.blocks)) packet (queued l) idle.empty;
-      owns = owns-fewer l (with_blocks (given v l.blocks) l) refl fewer valid.owns;
+      owns = owns-without l (with_blocks (given v l.blocks) l) (λ _. 0) refl (λ a. owned-blocks a l 0 0 (given v l.blocks) (ap (λ n. n + 0) (owners-given a v l.blocks))) valid.owns;
     })
   where
     users : IsUsers l v
@@ -120,9 +119,3 @@ given-valid l v valid idle =
         other used e =
             let is : idle.block ≡ d.block = same idle.block d.block (sym idle.used ∙ ap (λ w. used_at w l.blocks) (sym e) ∙ used) in
             false≢true (sym none ∙ ap (λ b. has_data b p.address) is ∙ find-passes (λ b. has_data b p.address) l.blocks d.block d.holds)
-
-    fewer : (a : ℕ) → owners a (owned (with_blocks (given v l.blocks) l)) ≤ owners a (owned l)
-    fewer a = equal (owners a (owned (with_blocks (given v l.blocks) l))) (owners a (owned l)) (owned-blocks a l 0 0 (given v l.blocks) (ap (λ n. n + 0) (owners-given a v l.blocks)))
-      where
-        equal : (x y : ℕ) → x + 0 ≡ y + 0 → x ≤ y
-        equal x y e = omega arith

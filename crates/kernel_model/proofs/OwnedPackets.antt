@@ -1,7 +1,7 @@
 -- Packets that are queued are owned, and so are the residents' two while they are not; so a packet that nobody owns is none of them.
-use Rattle.std.proofs.Common.{◌≡◌, ℕ, suc, ◌+◌, ◌<◌, ◌≤◌, ◌⊎◌, List, [], ◌∷◌, ◌++◌, eqb, not, ◌&&◌, ◌||◌, Bool, true, false, Option, Some, None, inl, inr, refl, sym, ap, ◌∙◌, subst, arith}
+use Rattle.std.proofs.Common.{◌≡◌, ℕ, ◌+◌, ◌<◌, ◌⊎◌, List, [], ◌∷◌, eqb, not, ◌&&◌, ◌||◌, Bool, true, false, Option, Some, None, inl, inr, refl, sym, ap, ◌∙◌, subst, arith}
 use Rattle.std.specs.Prelude.{is_some}
-use Rattle.std.specs.List.{list_any, range_with_len}
+use Rattle.std.specs.List.{range_with_len}
 use Rattle.std.proofs.lemmas.Bool.{and_parts, eqb-true, false≢true, or_cases}
 use Rattle.std.proofs.lemmas.List.Folds.{list_any-append}
 use Rattle.linked_list.specs.Count.{hit, times, words_of}
@@ -12,18 +12,15 @@ use Rattle.owned_words.specs.Owned.{owners}
 use Rattle.owned_words.proofs.OwnedWords.{owners-append}
 use Rattle.getvec_chain.specs.BlockWords.{blocks_words}
 use Rattle.hunk_loader.specs.ModuleExchanges.{modules_words}
-use Rattle.packet_queue.specs.QueueWords.{QueuedPacket, address_of, packet_words, queue_words}
+use Rattle.packet_queue.specs.QueueWords.{QueuedPacket, address_of, packet_words}
 use Rattle.task_block.specs.ChainWords.{entries}
 use Rattle.task_block.specs.HeldTasks.{address_with}
 use Rattle.task_block.specs.RootWords.{first_task}
-use Rattle.task_block.specs.TaskWords.{word_index}
-use Rattle.task_block.specs.declared.fields.TcbField.TheVariants.{Extra1}
 use Rattle.kernel_model.specs.BlockUse.{coroutine_addresses}
-use Rattle.kernel_model.specs.Changes.{AreUnowned}
 use Rattle.kernel_model.specs.Lists.{Lists, has_task, is_queued}
 use Rattle.kernel_model.specs.Owned.{clock_head, device_words, keyboard_head, output_head, owned, tasks_words}
 use Rattle.kernel_model.specs.Residents.{fault_packet, fault_packet_words, key_arguments, key_packet, key_words, pending_head, resident_words}
-use Rattle.kernel_model.specs.Task.{Task, queue_head, task_address, task_id, task_words}
+use Rattle.kernel_model.specs.Task.{Task, task_address, task_id, task_words}
 use Rattle.kernel_model.specs.ValidLists.{AreValid}
 use Rattle.kernel_model.specs.ValidQueues.{is_fault_packet, is_key_packet}
 use Rattle.kernel_model.specs.Versions.{highest_id_of}
@@ -156,28 +153,20 @@ fault_packet-owned l v has = on (is_queued fault_packet l) refl
 
 -- so a packet of which nobody owns the first word is none of them
 module _ (l : Lists) (p : QueuedPacket) (v : AreValid l) (none : owners p.address (owned l) ≡ 0) where
-  pub unowned-no_key : is_key_packet l p ≡ false
-  unowned-no_key = on (is_key_packet l p) refl
+  elsewhere : (there : Bool) (a : ℕ) → (there ≡ true → 0 < owners a (owned l)) → (there && eqb p.address a) ≡ false
+  elsewhere there a own = on (there && eqb p.address a) refl
     where
-      on : (b : Bool) → is_key_packet l p ≡ b → b ≡ false
+      clash : (n : ℕ) → n ≡ 0 → 0 < n → ⊥
+      clash n e some = omega arith
+
+      on : (b : Bool) → (there && eqb p.address a) ≡ b → b ≡ false
       on false e = refl
       on true e =
-          let both = and_parts l.residents (eqb p.address key_packet) e in
-          let there : 0 < owners p.address (owned l) = subst (λ a. 0 < owners a (owned l)) (sym (eqb-true p.address key_packet both.1)) (key_packet-owned l v both.0) in
-          absurd (clash (owners p.address (owned l)) none there)
-        where
-          clash : (n : ℕ) → n ≡ 0 → 0 < n → ⊥
-          clash n e h = omega arith
+          let both = and_parts there (eqb p.address a) e in
+          absurd (clash (owners p.address (owned l)) none (subst (λ z. 0 < owners z (owned l)) (sym (eqb-true p.address a both.1)) (own both.0)))
+
+  pub unowned-no_key : is_key_packet l p ≡ false
+  unowned-no_key = elsewhere l.residents key_packet (key_packet-owned l v)
 
   pub unowned-no_fault : is_fault_packet l p ≡ false
-  unowned-no_fault = on (is_fault_packet l p) refl
-    where
-      on : (b : Bool) → is_fault_packet l p ≡ b → b ≡ false
-      on false e = refl
-      on true e =
-          let both = and_parts (has_task 2 l.tasks) (eqb p.address fault_packet) e in
-          let there : 0 < owners p.address (owned l) = subst (λ a. 0 < owners a (owned l)) (sym (eqb-true p.address fault_packet both.1)) (fault_packet-owned l v both.0) in
-          absurd (clash (owners p.address (owned l)) none there)
-        where
-          clash : (n : ℕ) → n ≡ 0 → 0 < n → ⊥
-          clash n e h = omega arith
+  unowned-no_fault = elsewhere (has_task 2 l.tasks) fault_packet (fault_packet-owned l v)

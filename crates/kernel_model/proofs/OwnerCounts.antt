@@ -1,18 +1,18 @@
 -- How often an address is owned: by each part of the owned words, and by linked things, whatever their links hold.
-use Rattle.std.proofs.Common.{◌≡◌, ℕ, zero, suc, ◌+◌, ◌<◌, ◌≤◌, List, [], ◌∷◌, ◌++◌, cond, true, Option, refl, ap, ◌∙◌, arith, inl, inr}
+use Rattle.std.proofs.Common.{◌≡◌, ℕ, ◌+◌, ◌<◌, ◌≤◌, List, [], ◌∷◌, ◌++◌, cond, Bool, true, Option, refl, ap, ◌∙◌, arith, inl, inr}
 use Rattle.std.proofs.lemmas.Bool.{cases_lt}
-use Rattle.linked_list.specs.Count.{hit}
 use Rattle.owned_words.specs.LinkedWords.{first_of, headed_words, linked_words}
 use Rattle.owned_words.specs.Owned.{Pairs, owners}
 use Rattle.owned_words.proofs.OwnedWords.{owners-append}
 use Rattle.getvec_chain.specs.declared.pieces.Block.{Block}
 use Rattle.getvec_chain.specs.BlockWords.{blocks_words}
+use Rattle.hunk_loader.specs.HeldModules.{LoadedModule, module_address, module_words}
 use Rattle.hunk_loader.specs.ModuleExchanges.{modules_words}
 use Rattle.packet_queue.specs.QueueWords.{QueuedPacket, address_of, packet_words, queue_words}
 use Rattle.task_block.specs.ChainWords.{entries, listed_words}
 use Rattle.task_block.specs.HeldTasks.{address_with}
-use Rattle.task_block.specs.RootWords.{first_task}
-use Rattle.kernel_model.specs.Changes.{with_blocks, with_tasks}
+use Rattle.task_block.specs.RootWords.{first_module, first_task}
+use Rattle.kernel_model.specs.Changes.{with_blocks, with_modules, with_tasks}
 use Rattle.kernel_model.specs.Lists.{Lists, address_of_task}
 use Rattle.kernel_model.specs.Owned.{OwnsApart, clock_head, device_words, keyboard_head, output_head, owned, tasks_words}
 use Rattle.kernel_model.specs.Residents.{fault_packet_words, key_arguments, key_words, pending_head, resident_words}
@@ -89,6 +89,14 @@ pub owners-task_between : (a version top : ℕ) (front : List Task) (t : Task) (
     → owners a (listed_words task_address task_id (task_words version) top (front ++ t ∷ back)) ≡ owners a (listed_words task_address task_id (task_words version) top (front ++ back)) + owners a (task_words version t 0)
 owners-task_between a version top front t back = owners-listed_between a task_address task_id (task_words version) (λ x n k. refl) top front t back
 
+-- a module in the list
+pub owners-module_between : (a : ℕ) (front : List LoadedModule) (m : LoadedModule) (back : List LoadedModule) → owners a (modules_words (front ++ m ∷ back)) ≡ owners a (modules_words (front ++ back)) + owners a (module_words m 0)
+owners-module_between a front m back = headed first_module module_address module_words (λ x n k. refl) front m back
+  where
+    headed : {X : Type 0} (head : ℕ) (address : X → ℕ) (words : X → ℕ → Pairs) → HasSteadyWords a words → (front : List X) (x : X) (back : List X)
+        → owners a (headed_words address words head (front ++ x ∷ back) 0) ≡ owners a (headed_words address words head (front ++ back) 0) + owners a (words x 0)
+    headed head address words steady front x back = omega (arith, owners-linked_between a address words steady front x back 0)
+
 -- the packets of a queue, without the head
 abbrev pub packets_count : ℕ → List QueuedPacket → ℕ
 packets_count a ps = owners a (linked_words address_of packet_words ps 0)
@@ -114,12 +122,15 @@ second w w' r b b' c d e f k n old new h = omega arith
 third : (w w' r b c c' d e f k n : ℕ) → w ≡ r + (b + (c + (d + (e + f)))) → w' ≡ r + (b + (c' + (d + (e + f)))) → c' + k ≡ c + n → w' + k ≡ w + n
 third w w' r b c c' d e f k n old new h = omega arith
 
+fourth : (w w' r b c d d' e f k n : ℕ) → w ≡ r + (b + (c + (d + (e + f)))) → w' ≡ r + (b + (c + (d' + (e + f)))) → d' + k ≡ d + n → w' + k ≡ w + n
+fourth w w' r b c d d' e f k n old new h = omega arith
+
 last_two : (w w' r b c d e e' f f' k n : ℕ) → w ≡ r + (b + (c + (d + (e + f)))) → w' ≡ r + (b + (c + (d + (e' + f')))) → (e' + f') + k ≡ (e + f) + n → w' + k ≡ w + n
 last_two w w' r b c d e e' f f' k n old new h = omega arith
 
--- the lists with other queues of devices and residents, and with another state of the key packet
-abbrev pub with_queues : List QueuedPacket → List QueuedPacket → List QueuedPacket → List QueuedPacket → Option ℕ → Lists → Lists
-with_queues c k o p x l = record l { clock = c; keyboard = k; output = o; pending = p; key = x }
+-- the lists with other queues of devices and residents, and another state of the residents' two packets
+abbrev pub with_queues : List QueuedPacket → List QueuedPacket → List QueuedPacket → List QueuedPacket → Option ℕ → Bool → Lists → Lists
+with_queues c k o p x f l = record l { clock = c; keyboard = k; output = o; pending = p; key = x; fault_packet_free = f }
 
 -- from lists with a count to others, where in place of k of the words there are n others
 module _ (a : ℕ) (l : Lists) (k n : ℕ) where
@@ -135,11 +146,17 @@ module _ (a : ℕ) (l : Lists) (k n : ℕ) where
       (owners a (tasks_words (with_tasks ts l))) (owners a (modules_words l.modules)) (owners a (device_words l)) (owners a (resident_words l)) k n
       (owners-owned a l) (owners-owned a (with_tasks ts l)) h
 
-  pub owned-queues : (c kb o p : List QueuedPacket) (x : Option ℕ)
-      → (owners a (device_words (with_queues c kb o p x l)) + owners a (resident_words (with_queues c kb o p x l))) + k ≡ (owners a (device_words l) + owners a (resident_words l)) + n
-      → owners a (owned (with_queues c kb o p x l)) + k ≡ owners a (owned l) + n
-  owned-queues c kb o p x h =
-      let m : Lists = with_queues c kb o p x l in
+  pub owned-modules : (ms : List LoadedModule) → owners a (modules_words ms) + k ≡ owners a (modules_words l.modules) + n → owners a (owned (with_modules ms l)) + k ≡ owners a (owned l) + n
+  owned-modules ms h =
+      fourth (owners a (owned l)) (owners a (owned (with_modules ms l))) (root_count a l) (owners a (blocks_words l.blocks)) (owners a (tasks_words l))
+      (owners a (modules_words l.modules)) (owners a (modules_words ms)) (owners a (device_words l)) (owners a (resident_words l)) k n
+      (owners-owned a l) (owners-owned a (with_modules ms l)) h
+
+  pub owned-queues : (c kb o p : List QueuedPacket) (x : Option ℕ) (f : Bool)
+      → (owners a (device_words (with_queues c kb o p x f l)) + owners a (resident_words (with_queues c kb o p x f l))) + k ≡ (owners a (device_words l) + owners a (resident_words l)) + n
+      → owners a (owned (with_queues c kb o p x f l)) + k ≡ owners a (owned l) + n
+  owned-queues c kb o p x f h =
+      let m : Lists = with_queues c kb o p x f l in
       last_two (owners a (owned l)) (owners a (owned m)) (root_count a l) (owners a (blocks_words l.blocks)) (owners a (tasks_words l))
       (owners a (modules_words l.modules)) (owners a (device_words l)) (owners a (device_words m)) (owners a (resident_words l)) (owners a (resident_words m)) k n
       (owners-owned a l) (owners-owned a m) h
@@ -152,6 +169,13 @@ owns-fewer l m size fewer h =
       apart = λ a. omega (arith, fewer a, h.apart a);
       inside = λ a some. omega (arith, size, h.inside a (omega (arith, some, fewer a)));
     }
+
+-- where some of it was taken away
+pub owns-without : (l m : Lists) (n : ℕ → ℕ) → m.size ≡ l.size → ((a : ℕ) → owners a (owned m) + n a ≡ owners a (owned l) + 0) → OwnsApart l → OwnsApart m
+owns-without l m n size less h = owns-fewer l m size (λ a. plain (owners a (owned m)) (owners a (owned l)) (n a) (less a)) h
+  where
+    plain : (x y k : ℕ) → x + k ≡ y + 0 → x ≤ y
+    plain x y k e = omega arith
 
 pub owns-more : (l m : Lists) (es : Pairs) → m.size ≡ l.size → ((a : ℕ) → owners a (owned m) ≡ owners a (owned l) + owners a es)
     → ((a : ℕ) → owners a es ≤ 1) → ((a : ℕ) → 0 < owners a es → (owners a (owned l) ≡ 0) × (a < l.size)) → OwnsApart l → OwnsApart m

@@ -1,5 +1,5 @@
 -- How often an address is owned, where a queue is another.
-use Rattle.std.proofs.Common.{◌≡◌, ℕ, ◌+◌, ◌<◌, ◌≤◌, List, [], ◌∷◌, ◌++◌, map, true, refl, sym, ap, ◌∙◌, subst, arith}
+use Rattle.std.proofs.Common.{◌≡◌, ℕ, ◌+◌, ◌<◌, ◌≤◌, List, [], ◌∷◌, map, sym, ap, subst, arith}
 use Rattle.linked_list.specs.Count.{IsApart, hit, times}
 use Rattle.linked_list.proofs.Counts.{range-apart, range-high, range-low}
 use Rattle.std.specs.List.{range_with_len}
@@ -10,7 +10,7 @@ use Rattle.kernel_model.specs.Changes.{HasPlace, queue_of, with_queue, with_task
 use Rattle.kernel_model.specs.Lists.{Lists}
 use Rattle.kernel_model.specs.Owned.{clock_head, device_words, keyboard_head, output_head, owned}
 use Rattle.kernel_model.specs.Residents.{fault_packet_words, key_arguments, key_words, pending_head, resident_words}
-use Rattle.kernel_model.specs.Task.{Task, queue_head, task_id, task_words}
+use Rattle.kernel_model.specs.Task.{Task, task_id}
 use Rattle.kernel_model.specs.ValidQueues.{Place}
 use Rattle.kernel_model.specs.ValidQueues.Place.{Clock, Keyboard, Output, Pending, Work}
 use Rattle.kernel_model.proofs.OneTask.{owned-one_task}
@@ -41,34 +41,34 @@ owned-queue a l (Work id) ps apart has =
     (subst (λ z. owners a (owned (with_tasks z l)) + packets_count a r.task.queue ≡ owners a (owned l) + packets_count a ps) (sym r.becomes)
     (owned-one_task l r.front r.task u r.back r.whole a (packets_count a r.task.queue) (packets_count a ps) (owners-task_queue a l.version r.task ps)))
 owned-queue a l Clock ps apart has =
-    owned-queues a l (packets_count a l.clock) (packets_count a ps) ps l.keyboard l.output l.pending l.key
-    (first (owners a (device_words l)) (owners a (device_words (with_queues ps l.keyboard l.output l.pending l.key l))) (hit a clock_head) (packets_count a l.clock) (packets_count a ps)
+    owned-queues a l (packets_count a l.clock) (packets_count a ps) ps l.keyboard l.output l.pending l.key l.fault_packet_free
+    (first (owners a (device_words l)) (owners a (device_words (with_queues ps l.keyboard l.output l.pending l.key l.fault_packet_free l))) (hit a clock_head) (packets_count a l.clock) (packets_count a ps)
     (owners a (queue_words keyboard_head l.keyboard)) (owners a (queue_words output_head l.output)) (owners a (resident_words l))
-    (owners-devices a l) (owners-devices a (with_queues ps l.keyboard l.output l.pending l.key l)))
+    (owners-devices a l) (owners-devices a (with_queues ps l.keyboard l.output l.pending l.key l.fault_packet_free l)))
   where
     first : (d d' h q q' y z r : ℕ) → d ≡ (h + q) + (y + z) → d' ≡ (h + q') + (y + z) → (d' + r) + q ≡ (d + r) + q'
     first d d' h q q' y z r e f = omega arith
 owned-queue a l Keyboard ps apart has =
-    owned-queues a l (packets_count a l.keyboard) (packets_count a ps) l.clock ps l.output l.pending l.key
-    (middle (owners a (device_words l)) (owners a (device_words (with_queues l.clock ps l.output l.pending l.key l))) (hit a keyboard_head) (packets_count a l.keyboard) (packets_count a ps)
+    owned-queues a l (packets_count a l.keyboard) (packets_count a ps) l.clock ps l.output l.pending l.key l.fault_packet_free
+    (middle (owners a (device_words l)) (owners a (device_words (with_queues l.clock ps l.output l.pending l.key l.fault_packet_free l))) (hit a keyboard_head) (packets_count a l.keyboard) (packets_count a ps)
     (owners a (queue_words clock_head l.clock)) (owners a (queue_words output_head l.output)) (owners a (resident_words l))
-    (owners-devices a l) (owners-devices a (with_queues l.clock ps l.output l.pending l.key l)))
+    (owners-devices a l) (owners-devices a (with_queues l.clock ps l.output l.pending l.key l.fault_packet_free l)))
   where
     middle : (d d' h q q' y z r : ℕ) → d ≡ y + ((h + q) + z) → d' ≡ y + ((h + q') + z) → (d' + r) + q ≡ (d + r) + q'
     middle d d' h q q' y z r e f = omega arith
 owned-queue a l Output ps apart has =
-    owned-queues a l (packets_count a l.output) (packets_count a ps) l.clock l.keyboard ps l.pending l.key
-    (last (owners a (device_words l)) (owners a (device_words (with_queues l.clock l.keyboard ps l.pending l.key l))) (hit a output_head) (packets_count a l.output) (packets_count a ps)
+    owned-queues a l (packets_count a l.output) (packets_count a ps) l.clock l.keyboard ps l.pending l.key l.fault_packet_free
+    (last (owners a (device_words l)) (owners a (device_words (with_queues l.clock l.keyboard ps l.pending l.key l.fault_packet_free l))) (hit a output_head) (packets_count a l.output) (packets_count a ps)
     (owners a (queue_words clock_head l.clock)) (owners a (queue_words keyboard_head l.keyboard)) (owners a (resident_words l))
-    (owners-devices a l) (owners-devices a (with_queues l.clock l.keyboard ps l.pending l.key l)))
+    (owners-devices a l) (owners-devices a (with_queues l.clock l.keyboard ps l.pending l.key l.fault_packet_free l)))
   where
     last : (d d' h q q' y z r : ℕ) → d ≡ y + (z + (h + q)) → d' ≡ y + (z + (h + q')) → (d' + r) + q ≡ (d + r) + q'
     last d d' h q q' y z r e f = omega arith
 owned-queue a l Pending ps apart has =
-    owned-queues a l (packets_count a l.pending) (packets_count a ps) l.clock l.keyboard l.output ps l.key
-    (resident (owners a (resident_words l)) (owners a (resident_words (with_queues l.clock l.keyboard l.output ps l.key l))) (hit a pending_head) (packets_count a l.pending) (packets_count a ps)
+    owned-queues a l (packets_count a l.pending) (packets_count a ps) l.clock l.keyboard l.output ps l.key l.fault_packet_free
+    (resident (owners a (resident_words l)) (owners a (resident_words (with_queues l.clock l.keyboard l.output ps l.key l.fault_packet_free l))) (hit a pending_head) (packets_count a l.pending) (packets_count a ps)
     (owners a (key_words l.key) + (owners a key_arguments + owners a (fault_packet_words l.fault_packet_free))) (owners a (device_words l))
-    (owners-residents a l has) (owners-residents a (with_queues l.clock l.keyboard l.output ps l.key l) has))
+    (owners-residents a l has) (owners-residents a (with_queues l.clock l.keyboard l.output ps l.key l.fault_packet_free l) has))
   where
     resident : (f f' h q q' x d : ℕ) → f ≡ (h + q) + x → f' ≡ (h + q') + x → (d + f') + q ≡ (d + f) + q'
     resident f f' h q q' x d e g = omega arith

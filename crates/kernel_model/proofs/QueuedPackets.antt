@@ -1,9 +1,11 @@
 -- Which packets are queued, where a queue or the chain of tasks changes.
-use Rattle.std.proofs.Common.{◌≡◌, ◌≢◌, ℕ, List, [], ◌∷◌, ◌++◌, eqb, ◌||◌, Bool, true, false, refl, sym, ap, ◌∙◌}
-use Rattle.std.specs.List.{AllByRecursion, flat_map, list_any}
+use Rattle.std.proofs.Common.{◌≡◌, ℕ, List, [], ◌∷◌, ◌++◌, eqb, is_some, not, ◌&&◌, ◌||◌, Bool, true, false, refl, sym, ap, ◌∙◌}
+use Rattle.std.specs.List.{flat_map, list_any}
+use Rattle.std.proofs.lemmas.Bool.{or_left, or_right}
 use Rattle.std.proofs.lemmas.List.Folds.{list_any-append}
 use Rattle.packet_queue.specs.QueueWords.{QueuedPacket}
-use Rattle.kernel_model.specs.Lists.{Lists, is_queued, queued}
+use Rattle.kernel_model.specs.Lists.{Lists, has_task, is_queued}
+use Rattle.kernel_model.specs.Residents.{fault_packet, key_packet}
 use Rattle.kernel_model.specs.Task.{Task}
 
 -- whether the packet at an address is on one queue
@@ -50,3 +52,25 @@ work_packets-between a (z ∷ zs) t back none =
     list_any-append (λ q. eqb q.address a) z.queue (work_packets (zs ++ t ∷ back))
     ∙ ap (λ b. stands_in a z.queue || b) (work_packets-between a zs t back none)
     ∙ sym (list_any-append (λ q. eqb q.address a) z.queue (work_packets (zs ++ back)))
+
+pub work_packets-here : (a : ℕ) (front : List Task) (t : Task) (back : List Task) → stands_in a t.queue ≡ true → stands_in a (work_packets (front ++ t ∷ back)) ≡ true
+work_packets-here a [] t back some = list_any-append (λ q. eqb q.address a) t.queue (work_packets back) ∙ or_left (stands_in a t.queue) (stands_in a (work_packets back)) some
+work_packets-here a (z ∷ zs) t back some =
+    list_any-append (λ q. eqb q.address a) z.queue (work_packets (zs ++ t ∷ back))
+    ∙ or_right (stands_in a z.queue) (stands_in a (work_packets (zs ++ t ∷ back))) (work_packets-here a zs t back some)
+
+-- ---- the residents' two packets
+
+-- a test that matters only under another
+and_not-same : (b x y : Bool) → (b ≡ true → x ≡ y) → (b && not x) ≡ (b && not y)
+and_not-same true x y same = ap not (same refl)
+and_not-same false x y same = refl
+
+-- they are on no queue where they were on none
+pub key-kept : (l m : Lists) → is_some l.key ≡ (l.residents && not (is_queued key_packet l)) → (l.residents ≡ true → is_queued key_packet m ≡ is_queued key_packet l)
+    → is_some l.key ≡ (l.residents && not (is_queued key_packet m))
+key-kept l m key same = key ∙ sym (and_not-same l.residents (is_queued key_packet m) (is_queued key_packet l) same)
+
+pub fault-kept : (l m : Lists) → l.fault_packet_free ≡ (has_task 2 l.tasks && not (is_queued fault_packet l)) → (has_task 2 l.tasks ≡ true → is_queued fault_packet m ≡ is_queued fault_packet l)
+    → l.fault_packet_free ≡ (has_task 2 l.tasks && not (is_queued fault_packet m))
+fault-kept l m fault same = fault ∙ sym (and_not-same (has_task 2 l.tasks) (is_queued fault_packet m) (is_queued fault_packet l) same)

@@ -1,16 +1,21 @@
 -- The rules of one task, of its coroutines and of one packet, from some lists to others that have what they ask.
-use Rattle.std.proofs.Common.{◌≡◌, ℕ, ◌+◌, ◌<◌, ◌≤◌, List, map, length, Bool, true, false, refl, sym, ap, ◌∙◌, subst}
+use Rattle.std.proofs.Common.{◌≡◌, ℕ, ◌+◌, ◌≤◌, List, [], map, length, true, false, sym, ap, ◌∙◌, subst}
 use Rattle.std.specs.List.{AllByRecursion}
+use Rattle.linked_list.specs.Count.{IsApart}
 use Rattle.linked_list.specs.Places.{has}
 use Rattle.hunk_loader.specs.HeldModules.{module_address}
 use Rattle.packet_queue.specs.QueueWords.{QueuedPacket}
+use Rattle.coroutines.specs.CoroutineExchanges.{TaskCoroutines, with_list}
+use Rattle.coroutines.specs.HeldCoroutines.{Coroutine}
+use Rattle.kernel_model.specs.Changes.{with_coroutines}
 use Rattle.kernel_model.specs.Lists.{Lists, has_task}
-use Rattle.kernel_model.specs.Task.{Task, is_guest_id}
+use Rattle.kernel_model.specs.Task.{Task, is_guest_id, task_id}
 use Rattle.kernel_model.specs.ValidBlocks.{AreData, HasBlock}
-use Rattle.kernel_model.specs.ValidQueues.{HasSender, IsFaultPacket, IsKeyPacket, MayStand, Place, is_fault_packet, is_key_packet}
+use Rattle.kernel_model.specs.ValidQueues.{HasSender, IsFaultPacket, MayStand, Place, is_fault_packet, is_key_packet}
 use Rattle.kernel_model.specs.ValidQueues.Place.{Clock, Keyboard, Output, Pending, Work}
-use Rattle.kernel_model.specs.ValidTasks.{CoroutinesStand, IsCoroutine, IsGuest, IsTask}
+use Rattle.kernel_model.specs.ValidTasks.{CoroutinesStand, IsCoroutine, IsGuest, IsTask, PrioritiesFall, TasksStand}
 use Rattle.kernel_model.specs.Versions.{head_words_of, highest_id_of, most_modules_of}
+use Rattle.kernel_model.proofs.EachMember.{all-each}
 
 -- a module is there
 abbrev pub HasModule : Lists → ℕ → Type 0
@@ -48,9 +53,9 @@ IsTask-kept l m t version reporter modules blocks h =
       resident = h.resident;
     }
 
--- the rules of a task do not ask for its queue
-pub IsTask-queue : (l : Lists) (t : Task) (ps : List QueuedPacket) → IsTask l t → IsTask l (record t { queue = ps })
-IsTask-queue l t ps h =
+-- the rules of a task do not ask for its queue, and of its coroutines only that a resident has none
+IsTask-with : (l : Lists) (t : Task) (ps : List QueuedPacket) (k : TaskCoroutines) → (is_guest_id t.id ≡ false → (k.list ≡ []) × (k.active ≡ [])) → IsTask l t → IsTask l (record t { queue = ps; coroutines = k })
+IsTask-with l t ps k none h =
     record {
       low = h.low;
       high = h.high;
@@ -69,15 +74,40 @@ IsTask-queue l t ps h =
             fault = r.fault;
             fault_address = r.fault_address;
             saved = r.saved;
-            coroutines = r.coroutines;
-            active = r.active;
+            coroutines = (none is).0;
+            active = (none is).1;
             alive = r.alive;
             free = r.free;
           };
     }
 
+pub IsTask-queue : (l : Lists) (t : Task) (ps : List QueuedPacket) → IsTask l t → IsTask l (record t { queue = ps })
+IsTask-queue l t ps h = IsTask-with l t ps t.coroutines (λ is. ((h.resident is).coroutines, (h.resident is).active)) h
+
+pub IsTask-coroutines : (l : Lists) (t : Task) (cs : List Coroutine) → IsTask l t → (is_guest_id t.id ≡ false → cs ≡ []) → IsTask l (with_coroutines cs t)
+IsTask-coroutines l t cs h none = IsTask-with l t t.queue (with_list cs t.coroutines) (λ is. (none is, (h.resident is).active)) h
+
+-- the same tasks
+pub TasksStand-same : (l m : Lists) → m.tasks ≡ l.tasks → m.residents ≡ l.residents → AllByRecursion (IsTask m) l.tasks → TasksStand l → TasksStand m
+TasksStand-same l m same residents each h =
+    record {
+      each = subst (AllByRecursion (IsTask m)) (sym same) each;
+      distinct = subst (λ ts. IsApart (map task_id ts)) (sym same) h.distinct;
+      order = subst PrioritiesFall (sym same) h.order;
+      shell = ap (has_task 1) same ∙ h.shell ∙ sym residents;
+      console = ap (has_task 3) same ∙ h.console ∙ sym residents;
+      files = ap (has_task 4) same ∙ h.files ∙ sym residents;
+      reporter = λ some. residents ∙ h.reporter (ap (has_task 2) (sym same) ∙ some);
+    }
+
 pub CoroutinesStand-kept : (l m : Lists) (t : Task) → (AllByRecursion (IsCoroutine l) t.coroutines.list → AllByRecursion (IsCoroutine m) t.coroutines.list) → CoroutinesStand l t → CoroutinesStand m t
 CoroutinesStand-kept l m t each h = record { each = each h.each; members = h.members; distinct = h.distinct }
+
+-- in the same blocks
+pub CoroutinesStand-same : (l m : Lists) (t : Task) → m.blocks ≡ l.blocks → CoroutinesStand l t → CoroutinesStand m t
+CoroutinesStand-same l m t same h =
+    CoroutinesStand-kept l m t
+    (λ all. all-each (IsCoroutine l) (IsCoroutine m) (λ c i. record { block = subst (λ bs. HasBlock bs c.address c.highest) (sym same) i.block; high = i.high }) t.coroutines.list all) h
 
 -- ---- packets
 

@@ -1,5 +1,5 @@
 -- A block is taken, and the lists stay valid.
-use Rattle.std.proofs.Common.{◌≡◌, ◌≢◌, ℕ, ◌+◌, ◌-◌, ◌<◌, ◌≤◌, ◌⊎◌, List, [], ◌∷◌, ◌++◌, true, Option, Some, None, inl, inr, refl, sym, ap, ◌∙◌, subst, arith, append_assoc}
+use Rattle.std.proofs.Common.{◌≡◌, ℕ, ◌+◌, ◌-◌, ◌<◌, ◌≤◌, ◌⊎◌, List, [], ◌∷◌, ◌++◌, cond, Bool, true, false, Option, Some, None, inl, inr, refl, sym, ap, ◌∙◌, subst, arith, append_assoc}
 use Rattle.std.proofs.lemmas.Bool.{cases_lt}
 use Rattle.std.proofs.lemmas.Grind.{flat_map-append}
 use Rattle.std.specs.List.{AllByRecursion}
@@ -9,7 +9,7 @@ use Rattle.getvec_chain.specs.declared.pieces.Block.{Block}
 use Rattle.getvec_chain.specs.declared.pieces.Run.{Run}
 use Rattle.getvec_chain.specs.Block.{used_block}
 use Rattle.getvec_chain.specs.BlockWords.{block_words, blocks_words}
-use Rattle.getvec_chain.specs.Run.{first_run, need}
+use Rattle.getvec_chain.specs.Run.{after_run, begins_run, first_run, need, run_size}
 use Rattle.getvec_chain.specs.Take.{left_over, split_run, taken, taken_store}
 use Rattle.getvec_chain.specs.Tiling.{Follow, Tiles, used_at}
 use Rattle.getvec_chain.proofs.Runs.{FoundRun, first_run-found, need-even}
@@ -148,7 +148,7 @@ module _ (l : Lists) (u : ℕ) (run : Run) (v : AreValid l) (first : first_run (
         inside = λ a some. elim (owned-taken a) [ inl fewer ↦ v.owns.inside a (omega (arith, some, fewer)) | inr one ↦ one.1 ];
       }
 
-  pub taken-valid : AreValid (with_blocks after_take l)
+  taken-valid : AreValid (with_blocks after_take l)
   taken-valid =
       blocks-valid l after_take v
       (record {
@@ -189,3 +189,24 @@ module _ (l : Lists) (u : ℕ) (run : Run) (v : AreValid l) (first : first_run (
         where
           plain : (m w f s : ℕ) → m + f ≡ w + s → s ≡ 0 → w ≡ 0 → m ≡ 0
           plain m w f s e none gone = omega arith
+
+-- ---- where no run is large enough nothing changes
+
+taken-none : (n : ℕ) (bs : List Block) → first_run n bs ≡ None → taken n bs ≡ bs
+taken-none n [] e = refl
+taken-none n (b ∷ bs) e = on (begins_run n (b ∷ bs)) e (taken-none n bs)
+  where
+    end_of_run : ℕ
+    end_of_run = b.start + run_size (b ∷ bs)
+
+    on : (x : Bool) → ◌≡◌ {A = Option Run} (cond x (Some (record { start = b.start; end = end_of_run })) (first_run n bs)) None → (first_run n bs ≡ None → taken n bs ≡ bs)
+        → cond x (split_run b.start end_of_run n ++ after_run (b ∷ bs)) (b ∷ taken n bs) ≡ b ∷ bs
+    on true e more = cc
+    on false e more = ap (λ z. b ∷ z) (more e)
+
+pub take-valid : (l : Lists) (u : ℕ) → AreValid l → AreValid (with_blocks (taken (need u) l.blocks) l)
+take-valid l u v = on (first_run (need u) l.blocks) refl
+  where
+    on : (o : Option Run) → first_run (need u) l.blocks ≡ o → AreValid (with_blocks (taken (need u) l.blocks) l)
+    on None none = subst (λ bs. AreValid (with_blocks bs l)) (sym (taken-none (need u) l.blocks none)) v
+    on (Some run) first = taken-valid l u run v first

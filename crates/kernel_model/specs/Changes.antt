@@ -1,20 +1,20 @@
 -- The changes of which calls are made: in the blocks, in one queue, in one task, in the chain of tasks.
-use Rattle.std.specs.Prelude.{◌≡◌, ℕ, ◌+◌, ◌<◌, ◌≤◌, ◌==◌, ◌⊎◌, Bool, true, false, if◌then◌else◌, Option, Some, None, List, [], ◌∷◌, ◌++◌, map, nat_lt}
+use Rattle.std.specs.Prelude.{◌≡◌, ℕ, ◌<◌, ◌≤◌, ◌==◌, Bool, true, false, if◌then◌else◌, Option, Some, List, [], ◌∷◌, map, nat_lt}
 use Rattle.std.specs.List.{AllByRecursion}
-use Rattle.linked_list.specs.Count.{node_words, times}
 use Rattle.linked_list.specs.Places.{insert_after}
 use Rattle.owned_words.specs.Owned.{owners}
 use Rattle.getvec_chain.specs.declared.pieces.Block.{Block}
-use Rattle.getvec_chain.specs.Block.{block_end, has_data}
+use Rattle.getvec_chain.specs.Block.{has_data}
 use Rattle.getvec_chain.specs.Tiling.{used_at}
-use Rattle.packet_queue.specs.Queue.{packet_size}
 use Rattle.packet_queue.specs.QueueWords.{QueuedPacket}
-use Rattle.coroutines.specs.HeldCoroutines.{address_of}
-use Rattle.kernel_model.specs.BlockUse.{Use, coroutine_addresses, use_of_data}
+use Rattle.hunk_loader.specs.HeldModules.{LoadedModule}
+use Rattle.coroutines.specs.CoroutineExchanges.{with_list}
+use Rattle.coroutines.specs.HeldCoroutines.{Coroutine}
+use Rattle.kernel_model.specs.BlockUse.{coroutine_addresses, use_of_data}
 use Rattle.kernel_model.specs.BlockUse.Use.{User}
 use Rattle.kernel_model.specs.Lists.{Lists, has_task, queued}
 use Rattle.kernel_model.specs.Owned.{owned}
-use Rattle.kernel_model.specs.Task.{Task, task_priority, task_words}
+use Rattle.kernel_model.specs.Task.{Task}
 use Rattle.kernel_model.specs.ValidQueues.{NeverFall, Place}
 use Rattle.kernel_model.specs.ValidQueues.Place.{Clock, Keyboard, Output, Pending, Work}
 
@@ -67,6 +67,19 @@ HasPlace l Keyboard = Unit {0}
 HasPlace l Output = Unit {0}
 HasPlace l Pending = l.residents ≡ true
 
+-- the lists with another state of the residents' two packets: the key packet's res1 where it is on no queue, and whether the
+-- fault packet is on none
+abbrev pub with_key : Option ℕ → Lists → Lists
+with_key x l = record l { key = x }
+
+abbrev pub with_fault_packet : Bool → Lists → Lists
+with_fault_packet f l = record l { fault_packet_free = f }
+
+-- ---- modules
+
+abbrev pub with_modules : List LoadedModule → Lists → Lists
+with_modules ms l = record l { modules = ms }
+
 -- ---- one task
 
 -- the task in the same place of the chain, with the same words, of which some may have changed
@@ -79,6 +92,10 @@ pub record SameTask (t u : Task) : Type 0 where
 
 abbrev pub with_tasks : List Task → Lists → Lists
 with_tasks ts l = record l { tasks = ts }
+
+-- the task with these coroutines
+abbrev pub with_coroutines : List Coroutine → Task → Task
+with_coroutines cs t = record t { coroutines = with_list cs t.coroutines }
 
 -- the lists with the task of this number changed
 abbrev pub change_of : ℕ → (Task → Task) → Task → Task
