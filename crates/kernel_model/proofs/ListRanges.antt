@@ -1,5 +1,5 @@
 -- The ranges of each list have the addresses that its things own.
-use Rattle.std.proofs.Common.{◌≡◌, ℕ, ◌+◌, List, [], ◌∷◌, ◌++◌, length, map, refl, sym, ap, ◌∙◌, arith, add-zero}
+use Rattle.std.proofs.Common.{◌≡◌, ℕ, ◌+◌, List, [], ◌∷◌, length, map, refl, ap, arith}
 use Rattle.std.specs.List.{AllByRecursion, flat_map, range_with_len}
 use Rattle.linked_list.specs.Count.{times}
 use Rattle.owned_words.specs.LinkedWords.{first_of, linked_words}
@@ -13,10 +13,12 @@ use Rattle.hunk_loader.specs.ModuleHunks.{hunk_count}
 use Rattle.packet_queue.specs.Queue.{queue_at}
 use Rattle.packet_queue.specs.QueueWords.{QueuedPacket, address_of as packet_address, packet_words}
 use Rattle.task_block.specs.Lists.{coroutines_in}
-use Rattle.coroutines.specs.HeldCoroutines.{Coroutine, address_of as coroutine_address, coroutine_words, parent_of}
+use Rattle.coroutines.specs.HeldCoroutines.{Coroutine, address_of as coroutine_address, coroutine_words}
 use Rattle.kernel_model.specs.Task.{Task, further_modules, queue_head, task_address, task_words}
 use Rattle.kernel_model.proofs.CutRanges.{times-cut}
-use Rattle.kernel_model.proofs.TaskKind.{frames_of, owners-whole, packets_of}
+use Rattle.kernel_model.proofs.QueueCounts.{owners-packet}
+use Rattle.kernel_model.proofs.TaskCounts.{owners-coroutine}
+use Rattle.kernel_model.proofs.TaskKind.{owners-whole}
 use Rattle.kernel_model.specs.KernelRanges.{Words, block_range, module_ranges, packets_at, task_ranges, task_size_in, words}
 use Rattle.kernel_model.proofs.RangeCounts.{hits, hits-append}
 
@@ -31,7 +33,7 @@ hits-packets a (p ∷ ps) end =
     omega (
       arith,
       hits-packets a ps end,
-      owners-row a p.address 1 (p.sender ∷ p.kind ∷ p.res1 ∷ p.last ∷ []),
+      owners-packet a p (first_of packet_address ps end),
       owners-append a (packet_words p (first_of packet_address ps end)) (linked_words packet_address packet_words ps end),
     )
 
@@ -43,8 +45,7 @@ hits-coroutines a t act (c ∷ cs) end =
     omega (
       arith,
       hits-coroutines a t act cs end,
-      owners-row a c.address 0 (c.saved_p ∷ parent_of t act c.address ∷ n ∷ c.function ∷ c.highest ∷ c.address ∷ c.saved_pc ∷ 0 ∷ 0 ∷ c.function ∷ []),
-      ap (λ z. times a (range_with_len z 10)) (add-zero c.address),
+      owners-coroutine a t act c n,
       owners-append a (coroutine_words t act c n) (linked_words coroutine_address (coroutine_words t act) cs end),
     )
 

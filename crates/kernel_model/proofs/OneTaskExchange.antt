@@ -1,5 +1,5 @@
 -- An exchange among the words of one task is one of all owned words, and so is one of the word that names the running task.
-use Rattle.std.proofs.Common.{◌≡◌, ℕ, ◌+◌, ◌-◌, List, [], ◌∷◌, ◌++◌, cond, eqb, refl, sym, ap, ◌∙◌, subst, arith}
+use Rattle.std.proofs.Common.{◌≡◌, ℕ, ◌-◌, List, [], ◌∷◌, ◌++◌, cond, eqb, refl, ap, subst, arith}
 use Rattle.owned_words.specs.Exchange.{Exchange}
 use Rattle.owned_words.specs.LinkedWords.{first_of, headed_words, linked_words}
 use Rattle.owned_words.specs.Owned.{Pairs, row_from}

@@ -4,7 +4,7 @@ use Rattle.std.specs.List.{AllByRecursion, flat_map}
 use Rattle.packet_queue.specs.QueueWords.{HeldQueue, QueuedPacket, address_of as packet_address}
 use Rattle.packet_queue.proofs.HeldQueues.{held-queue}
 use Rattle.kernel_model.specs.HoldsLists.{HoldsLists}
-use Rattle.kernel_model.specs.KernelRanges.{Words, device_packets, packet_ranges, packet_words_of, packets_at, pending_packets, work_packets, words}
+use Rattle.kernel_model.specs.KernelRanges.{packet_ranges, packet_words_of, packets_at, pending_packets, words}
 use Rattle.kernel_model.specs.Lists.{Lists, queued}
 use Rattle.kernel_model.specs.Owned.{clock_head, keyboard_head, output_head}
 use Rattle.kernel_model.specs.Task.{Task, queue_head, task_address}

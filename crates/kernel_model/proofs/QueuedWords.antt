@@ -1,21 +1,20 @@
 -- The ranges of the kernel's words have exactly the addresses of the words that are owned.
-use Rattle.std.proofs.Common.{◌≡◌, ℕ, ◌+◌, ◌-◌, ◌*◌, ◌<◌, ◌≤◌, ◌&&◌, ◌||◌, Bool, true, false, not, Option, Some, None, List, [], ◌∷◌, ◌++◌, length, map, cond, eqb, is_some, refl, sym, ap, ◌∙◌, arith}
-use Rattle.std.specs.List.{AllByRecursion, flat_map, list_any, range_with_len}
+use Rattle.std.proofs.Common.{◌≡◌, ℕ, ◌≤◌, Bool, true, false, List, [], ◌∷◌, ◌++◌, cond, eqb, refl, sym, ap, ◌∙◌, arith}
+use Rattle.std.specs.List.{flat_map, list_any, range_with_len}
 use Rattle.std.proofs.lemmas.Bool.{eqb-true, false≢true}
 use Rattle.std.proofs.lemmas.List.Folds.{list_any-append}
-use Rattle.linked_list.specs.Count.{hit, times}
+use Rattle.linked_list.specs.Count.{times}
 use Rattle.owned_words.specs.LinkedWords.{first_of, linked_words}
 use Rattle.owned_words.specs.Owned.{Pairs, owners}
 use Rattle.owned_words.proofs.OwnedWords.{owners-append}
-use Rattle.owned_words.proofs.RowWords.{owners-row}
-use Rattle.packet_queue.specs.Queue.{no_queue}
 use Rattle.packet_queue.specs.QueueWords.{QueuedPacket, address_of as packet_address, packet_words, queue_words}
-use Rattle.kernel_model.specs.Lists.{Lists, has_task, is_queued}
+use Rattle.kernel_model.specs.Lists.{Lists, is_queued}
 use Rattle.kernel_model.specs.Owned.{owned}
-use Rattle.kernel_model.specs.Residents.{fault_packet_words, key_arguments, key_words, keyboard, resident_words}
+use Rattle.kernel_model.specs.Residents.{fault_packet_words, key_arguments, key_words, resident_words}
 use Rattle.kernel_model.specs.Task.{Task, task_address, task_words}
+use Rattle.kernel_model.proofs.QueueCounts.{owners-packet}
 use Rattle.kernel_model.proofs.RootCounts.{owners-nodes}
-use Rattle.kernel_model.proofs.TaskKind.{owners-whole, packets_of}
+use Rattle.kernel_model.proofs.TaskKind.{owners-whole}
 use Rattle.kernel_model.proofs.RangeCounts.{either}
 
 abbrev pub packets_words : List QueuedPacket → Pairs
@@ -23,16 +22,13 @@ packets_words ps = linked_words packet_address packet_words ps 0
 
 -- ---- a queued packet's words are owned
 
-packet-owned : (a : ℕ) (p : QueuedPacket) (n : ℕ) → owners a (packet_words p n) ≡ times a (range_with_len p.address 5)
-packet-owned a p n = omega (arith, owners-row a p.address 1 (p.sender ∷ p.kind ∷ p.res1 ∷ p.last ∷ []))
-
 listed-owned : (a p : ℕ) (ps : List QueuedPacket) → list_any (λ q. eqb q.address p) ps ≡ true → times a (range_with_len p 5) ≤ owners a (packets_words ps)
 listed-owned a p [] e = absurd (false≢true e)
 listed-owned a p (q ∷ qs) e =
     let n : ℕ = first_of packet_address qs 0 in
     let join = owners-append a (packet_words q n) (packets_words qs) in
     either (eqb q.address p) (list_any (λ q. eqb q.address p) qs) (times a (range_with_len p 5) ≤ owners a (packets_words (q ∷ qs))) e
-    (λ here. omega (arith, join, packet-owned a q n, ap (λ z. times a (range_with_len z 5)) (eqb-true q.address p here)))
+    (λ here. omega (arith, join, owners-packet a q n, ap (λ z. times a (range_with_len z 5)) (eqb-true q.address p here)))
     (λ later. omega (arith, join, listed-owned a p qs later))
 
 tasks-owned : (a p version : ℕ) (ts : List Task) → list_any (λ q. eqb q.address p) (flat_map (λ t. t.queue) ts) ≡ true

@@ -1,29 +1,25 @@
 -- A store that stands for a kernel: a word is among the ranges exactly where it is owned.
-use Rattle.std.proofs.Common.{◌≡◌, ◌↔◌, ℕ, ◌+◌, ◌-◌, ◌*◌, ◌<◌, ◌≤◌, ◌&&◌, Bool, true, false, not, Option, Some, None, List, [], ◌∷◌, ◌++◌, length, map, cond, eqb, is_some, refl, sym, ap, ◌∙◌, arith}
+use Rattle.std.proofs.Common.{◌≡◌, ◌↔◌, ℕ, ◌+◌, ◌-◌, ◌*◌, ◌<◌, ◌≤◌, ◌&&◌, Bool, true, false, not, Option, Some, None, List, [], ◌∷◌, ◌++◌, map, cond, is_some, refl, sym, ap, ◌∙◌, arith}
 use Rattle.std.proofs.lemmas.Bool.{false≢true}
-use Rattle.std.specs.List.{AllByRecursion, flat_map, list_any, range_with_len}
+use Rattle.std.specs.List.{flat_map, range_with_len}
 use Rattle.linked_list.specs.Count.{hit, times}
-use Rattle.owned_words.specs.LinkedWords.{linked_words}
 use Rattle.owned_words.specs.Owned.{Pairs, owners}
 use Rattle.owned_words.proofs.OwnedWords.{owners-append}
 use Rattle.owned_words.proofs.RowWords.{owners-row}
-use Rattle.owned_words.proofs.HeldLists.{held-list}
 use Rattle.getvec_chain.specs.Tiling.{blocks_in}
-use Rattle.hunk_loader.specs.HeldModules.{module_address}
 use Rattle.hunk_loader.proofs.HeldModuleLists.{held-modules}
-use Rattle.packet_queue.specs.Queue.{no_queue, queue_at}
-use Rattle.packet_queue.specs.QueueWords.{HeldQueue, QueuedPacket, address_of as packet_address, packet_words, queue_words}
+use Rattle.packet_queue.specs.Queue.{no_queue}
+use Rattle.packet_queue.specs.QueueWords.{HeldQueue, QueuedPacket, queue_words}
 use Rattle.packet_queue.proofs.HeldQueues.{held-queue}
 use Rattle.task_block.specs.Lists.{modules_in}
-use Rattle.task_block.specs.TaskChain.{id_in, tasks_in}
+use Rattle.task_block.specs.TaskChain.{tasks_in}
 use Rattle.kernel_model.specs.Lists.{Lists, has_task, is_queued}
 use Rattle.kernel_model.specs.Owned.{clock_head, keyboard_head, output_head, owned}
 use Rattle.kernel_model.specs.Residents.{fault_packet_words, key_arguments, key_words, keyboard, resident_words}
-use Rattle.kernel_model.specs.Task.{Task, task_address, task_words}
 use Rattle.kernel_model.proofs.CutRanges.{times-cut}
 use Rattle.kernel_model.proofs.RootCounts.{owners-nodes}
 use Rattle.kernel_model.specs.HoldsLists.{HoldsLists}
-use Rattle.kernel_model.specs.KernelRanges.{block_range, console_ranges, device_packets, fault_ranges, has_reporter, is_kernel_word, kernel_ranges, list_ranges, meets, module_ranges, packet_ranges, packets_at, pending_packets, root_ranges, task_ranges, work_packets, words}
+use Rattle.kernel_model.specs.KernelRanges.{block_range, console_ranges, device_packets, fault_ranges, is_kernel_word, kernel_ranges, list_ranges, module_ranges, packet_ranges, packets_at, pending_packets, root_ranges, task_ranges, work_packets, words}
 use Rattle.kernel_model.proofs.RangeCounts.{found-hits, hits, hits-append, hits-found}
 use Rattle.kernel_model.proofs.QueuedWords.{packets_words, queued-owned}
 use Rattle.kernel_model.proofs.WalkedLists.{counts-read, reads, reporter-read, residents-read, tasks-read}

@@ -1,24 +1,22 @@
 -- In a store that stands for a kernel the lists can be walked, and tasks and modules have the kernel's sizes.
-use Rattle.std.proofs.Common.{◌≡◌, ℕ, ◌+◌, ◌-◌, ◌<◌, ◌≤◌, ◌||◌, Bool, true, false, List, [], ◌∷◌, length, map, cond, drop, eqb, get_or, leb, not, refl, sym, ap, ◌∙◌, subst, arith, add-zero}
+use Rattle.std.proofs.Common.{◌≡◌, ℕ, ◌+◌, ◌-◌, ◌||◌, Bool, true, false, List, [], ◌∷◌, length, map, cond, drop, eqb, get_or, leb, not, refl, sym, ap, ◌∙◌, subst, arith}
 use Rattle.std.specs.List.{AllByRecursion, list_any, range_with_len}
 use Rattle.linked_list.specs.Count.{times}
-use Rattle.linked_list.specs.Walk.{CanWalk}
 use Rattle.linked_list.proofs.Counts.{times-within}
 use Rattle.linked_list.proofs.Walks.{can_walk}
 use Rattle.owned_words.specs.LinkedWords.{first_of, linked_words}
-use Rattle.owned_words.specs.Owned.{AreInside, Holds, Pairs, owners}
+use Rattle.owned_words.specs.Owned.{AreInside, Holds, Pairs}
 use Rattle.owned_words.proofs.HeldLists.{held-list}
 use Rattle.owned_words.proofs.OwnedWords.{Holds-left, Holds-right, owners-append}
 use Rattle.owned_words.proofs.RowWords.{owners-row}
-use Rattle.hunk_loader.specs.HeldModules.{HeldModules, LoadedModule, module_address, module_words}
+use Rattle.hunk_loader.specs.HeldModules.{LoadedModule, module_address, module_words}
 use Rattle.hunk_loader.proofs.HeldModuleLists.{are_modules, module_size}
-use Rattle.packet_queue.specs.Queue.{HasQueue, queue_at}
-use Rattle.packet_queue.specs.QueueWords.{HeldQueue, QueuedPacket, address_of as packet_address}
+use Rattle.packet_queue.specs.Queue.{HasQueue}
+use Rattle.packet_queue.specs.QueueWords.{HeldQueue, QueuedPacket}
 use Rattle.packet_queue.proofs.HeldQueues.{held-queue}
 use Rattle.task_block.specs.Lists.{coroutine_link, first_coroutine, module_link}
 use Rattle.task_block.specs.RootWords.{first_task}
-use Rattle.task_block.specs.TaskChain.{id_in, task_link, task_size, tasks_in}
-use Rattle.task_block.specs.Versions.{head_words}
+use Rattle.task_block.specs.TaskChain.{id_in, task_link, task_size}
 use Rattle.coroutines.specs.CoroutineExchanges.{HoldsCoroutines}
 use Rattle.coroutines.specs.CoroutineWords.{coroutine_size}
 use Rattle.coroutines.proofs.HeldCoroutineLists.{held-coroutines}
@@ -26,8 +24,7 @@ use Rattle.kernel_model.specs.Lists.{Lists, has_task}
 use Rattle.kernel_model.specs.Owned.{clock_head, keyboard_head, output_head}
 use Rattle.kernel_model.specs.Residents.{pending_head}
 use Rattle.kernel_model.specs.ReadsLists.{ReadsLists}
-use Rattle.kernel_model.specs.Task.{Task, filled, further_modules, is_guest_id, queue_head, task_address, task_id, task_words}
-use Rattle.kernel_model.specs.ValidLists.{AreValid}
+use Rattle.kernel_model.specs.Task.{Task, filled, further_modules, is_guest_id, queue_head, task_address, task_words}
 use Rattle.kernel_model.specs.Versions.{head_words_of}
 use Rattle.kernel_model.proofs.EachMember.{all-both, all-each}
 use Rattle.kernel_model.proofs.OwnedParts.{HoldsParts, holds-parts}

@@ -1,5 +1,5 @@
 -- What holds besides between steps: the tick, the task that runs, the registers, and what residents keep.
-use Rattle.std.specs.Prelude.{◌≡◌, ◌↔◌, ℕ, ◌/◌, ◌<◌, ◌≤◌, ◌==◌, ◌&&◌, ◌||◌, Bool, true, false, not, find, is_some, is_none, Option, Some, None, List, [], ◌∷◌, length, nat_le, nat_lt}
+use Rattle.std.specs.Prelude.{◌≡◌, ◌↔◌, ℕ, ◌/◌, ◌<◌, ◌≤◌, ◌==◌, ◌&&◌, ◌||◌, Bool, true, false, not, find, is_some, is_none, Option, List, [], ◌∷◌, length, nat_le, nat_lt}
 use Rattle.std.specs.List.{AllByRecursion, list_any}
 use Rattle.std.specs.Option.{option_map_or}
 use Rattle.packet_queue.specs.QueueWords.{QueuedPacket}
@@ -7,7 +7,7 @@ use Rattle.ram_disc.specs.Disc.{IsDisc, Stream, shell_stream, stream_at}
 use Rattle.kernel_model.specs.Changes.{work_of}
 use Rattle.kernel_model.specs.Kernel.{Kernel, Mode}
 use Rattle.kernel_model.specs.Kernel.Mode.{Prompt, Reading, Typing, Waiting}
-use Rattle.kernel_model.specs.Lists.{Lists, has_task}
+use Rattle.kernel_model.specs.Lists.{has_task}
 use Rattle.kernel_model.specs.Residents.{fault_packet}
 use Rattle.kernel_model.specs.Task.{Task, is_guest_id}
 use Rattle.kernel_model.specs.ValidTasks.{interrupted, no_regs, runs}

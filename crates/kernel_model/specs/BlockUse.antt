@@ -1,5 +1,5 @@
 -- What a block is used for. The lists tell it: a used block that is none of theirs is a user's.
-use Rattle.std.specs.Prelude.{ℕ, ◌+◌, ◌==◌, ◌&&◌, Bool, if◌then◌else◌, List, map}
+use Rattle.std.specs.Prelude.{ℕ, ◌+◌, ◌==◌, ◌&&◌, if◌then◌else◌, List, map}
 use Rattle.std.specs.List.{flat_map}
 use Rattle.linked_list.specs.Places.{has}
 use Rattle.getvec_chain.specs.declared.pieces.Block.{Block}

@@ -1,5 +1,5 @@
 -- The rules of pipes.
-use Rattle.std.specs.Prelude.{◌≡◌, ◌≢◌, ℕ, ◌≤◌, ◌||◌, Bool, true, false, Option, Some, None, List, [], ◌∷◌, is_none, length, replicate, slice_index_or}
+use Rattle.std.specs.Prelude.{◌≡◌, ℕ, ◌≤◌, ◌||◌, true, false, Option, Some, None, List, length, replicate, slice_index_or}
 use Rattle.ram_disc.specs.Name.{IsName}
 use Rattle.kernel_model.specs.Kernel.{Kernel, Pipe}
 

@@ -1,6 +1,6 @@
 -- The lists, read off a store.
-use Rattle.std.specs.Prelude.{ℕ, ◌+◌, ◌-◌, ◌/◌, ◌%◌, ◌==◌, ◌&&◌, Bool, not, if◌then◌else◌, Option, Some, None, List, [], ◌∷◌, ◌++◌, filter, length, map, slice_index, slice_range}
-use Rattle.std.specs.List.{flat_map, list_any}
+use Rattle.std.specs.Prelude.{ℕ, ◌+◌, ◌-◌, ◌/◌, ◌%◌, ◌==◌, ◌&&◌, Bool, not, if◌then◌else◌, Option, Some, None, List, [], ◌∷◌, filter, map, slice_index, slice_range}
+use Rattle.std.specs.List.{list_any}
 use Rattle.getvec_chain.specs.Tiling.{blocks_in}
 use Rattle.hunk_loader.specs.HeldModules.{LoadedModule}
 use Rattle.hunk_loader.specs.ModuleHunks.{lengths_in}

@@ -1,5 +1,5 @@
 -- The words of the resident block that are no task's: the console's pending reads, its key packet, and the fault packet.
-use Rattle.std.specs.Prelude.{ℕ, ◌-◌, ◌^◌, Bool, if◌then◌else◌, Option, Some, None, List, [], ◌∷◌, ◌++◌}
+use Rattle.std.specs.Prelude.{ℕ, ◌-◌, ◌^◌, Bool, if◌then◌else◌, Option, Some, None, [], ◌∷◌, ◌++◌}
 use Rattle.owned_words.specs.Owned.{Pairs, row_from}
 use Rattle.packet_queue.specs.Queue.{no_queue}
 use Rattle.packet_queue.specs.QueueWords.{queue_words}

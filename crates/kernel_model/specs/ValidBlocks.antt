@@ -1,5 +1,5 @@
 -- The rules of blocks, of the machine's numbers, and of modules.
-use Rattle.std.specs.Prelude.{◌≡◌, ℕ, ◌+◌, ◌-◌, ◌<◌, ◌≤◌, Bool, true, false, IsTrue, if◌then◌else◌, Option, Some, List, length, sum}
+use Rattle.std.specs.Prelude.{◌≡◌, ℕ, ◌+◌, ◌-◌, ◌≤◌, true, false, IsTrue, if◌then◌else◌, Some, List, length, sum}
 use Rattle.std.specs.List.{AllByRecursion}
 use Rattle.getvec_chain.specs.declared.pieces.Block.{Block}
 use Rattle.getvec_chain.specs.Block.{block_end, used_block}

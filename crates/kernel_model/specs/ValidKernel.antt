@@ -1,11 +1,11 @@
 -- A valid kernel, or a valid bare machine.
-use Rattle.std.specs.Prelude.{◌≡◌, ℕ, ◌<◌, ◌≤◌, Bool, true, false, IsTrue, Option, Some, None, List, []}
+use Rattle.std.specs.Prelude.{◌≡◌, ℕ, ◌<◌, ◌≤◌, Bool, true, false, IsTrue, None, []}
 use Rattle.std.specs.List.{AllByRecursion}
 use Rattle.ram_disc.specs.Disc.{empty_disc}
 use Rattle.session_text.specs.SessionForm.{IsVersion, is_store_size, most_steps}
 use Rattle.kernel_model.specs.Between.{FaultsStand, RegistersStand, ResidentsStand, RunsFirstReady}
 use Rattle.kernel_model.specs.Image.{HasPlainWords}
-use Rattle.kernel_model.specs.Kernel.{Console, Kernel, Mode, Shell}
+use Rattle.kernel_model.specs.Kernel.{Console, Kernel, Shell}
 use Rattle.kernel_model.specs.Kernel.Mode.{Prompt}
 use Rattle.kernel_model.specs.Lists.{Lists}
 use Rattle.kernel_model.specs.Pipes.{PipesStand, no_pipes}
