@@ -1,1 +1,3 @@
+pub mod Disc
+pub mod DiscCalls
 pub mod Name

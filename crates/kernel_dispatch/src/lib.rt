@@ -1,0 +1,2 @@
+// Dispatch: the first ready task runs.
+#![tactic(auto)]

@@ -1,0 +1,32 @@
+-- What a block is used for. The lists tell it: a used block that is none of theirs is a user's.
+use Rattle.std.specs.Prelude.{ℕ, ◌+◌, ◌==◌, ◌&&◌, if◌then◌else◌, List, map}
+use Rattle.std.specs.List.{flat_map}
+use Rattle.linked_list.specs.Places.{has}
+use Rattle.getvec_chain.specs.declared.pieces.Block.{Block}
+use Rattle.hunk_loader.specs.HeldModules.{module_address}
+use Rattle.coroutines.specs.HeldCoroutines.{address_of}
+use Rattle.kernel_model.specs.Lists.{Lists}
+use Rattle.kernel_model.specs.Task.{Task, task_address}
+
+pub data Use : Type 0 where
+  Free : Use
+  User : Use
+  OfTask : Use
+  OfModule : Use
+  OfCoroutine : Use
+  OfResidents : Use
+
+-- the addresses of a task's coroutines
+abbrev pub coroutine_addresses : Task → List ℕ
+coroutine_addresses t = map address_of t.coroutines.list
+
+abbrev pub use_of_data : Lists → ℕ → Use
+use_of_data l v =
+    if l.residents && (v == 201) then OfResidents else
+    if has v (map task_address l.tasks) then OfTask else
+    if has v (map module_address l.modules) then OfModule else
+    if has v (flat_map coroutine_addresses l.tasks) then OfCoroutine else
+    User
+
+abbrev pub use_of : Lists → Block → Use
+use_of l b = if b.free then Free else use_of_data l (b.start + 1)

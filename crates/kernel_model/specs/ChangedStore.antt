@@ -1,0 +1,25 @@
+-- A store and a keeper of kinds, before and after a part of a step.
+use Rattle.std.specs.Prelude.{◌≡◌, ℕ, ◌≤◌, List, length}
+use Rattle.linked_list.specs.Count.{times}
+use Rattle.owned_words.specs.Owned.{Pairs, owners}
+use Rattle.owned_words.specs.Written.{IsWritten}
+use Rattle.kernel_model.specs.HoldsLists.{HoldsLists}
+use Rattle.kernel_model.specs.Lists.{Lists}
+use Rattle.kernel_model.specs.Owned.{owned}
+
+-- From the store s the store t has become one that holds these lists; of the words that nobody owns then, these plain words were
+-- written, and no others have changed.
+pub record IsChanged (s t : List ℕ) (l : Lists) (plain : Pairs) : Type 0 where
+  pub lists : HoldsLists t l
+  pub size : length t ≡ length s
+  pub written : IsWritten s t (owned l) plain
+
+-- A keeper, seen by what it tells, knows the words that these lists own, in whatever order they are listed.
+abbrev pub Knows : (List ℕ → Type 0) → Lists → Type 0
+Knows tells l = (known : List ℕ) → ((a : ℕ) → times a known ≡ owners a (owned l)) → tells known
+
+-- The store holds these lists, and the keeper knows their words and has room for the store's.
+pub record HasKeeper (s : List ℕ) (tells : List ℕ → Type 0) (room : ℕ) (l : Lists) : Type 0 where
+  pub lists : HoldsLists s l
+  pub knows : Knows tells l
+  pub enough : length s ≤ room

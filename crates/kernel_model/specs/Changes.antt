@@ -1,0 +1,127 @@
+-- The changes of which calls are made: in the blocks, in one queue, in one task, in the chain of tasks.
+use Rattle.std.specs.Prelude.{◌≡◌, ℕ, ◌<◌, ◌≤◌, ◌==◌, Bool, true, false, if◌then◌else◌, Option, Some, List, [], ◌∷◌, map, nat_lt}
+use Rattle.std.specs.List.{AllByRecursion}
+use Rattle.linked_list.specs.Places.{insert_after}
+use Rattle.owned_words.specs.Owned.{owners}
+use Rattle.getvec_chain.specs.declared.pieces.Block.{Block}
+use Rattle.getvec_chain.specs.Block.{has_data}
+use Rattle.getvec_chain.specs.Tiling.{used_at}
+use Rattle.packet_queue.specs.QueueWords.{QueuedPacket}
+use Rattle.hunk_loader.specs.HeldModules.{LoadedModule}
+use Rattle.coroutines.specs.CoroutineExchanges.{with_list}
+use Rattle.coroutines.specs.HeldCoroutines.{Coroutine}
+use Rattle.kernel_model.specs.BlockUse.{coroutine_addresses, use_of_data}
+use Rattle.kernel_model.specs.BlockUse.Use.{User}
+use Rattle.kernel_model.specs.Lists.{Lists, has_task, queued}
+use Rattle.kernel_model.specs.Owned.{owned}
+use Rattle.kernel_model.specs.Task.{Task}
+use Rattle.kernel_model.specs.ValidQueues.{NeverFall, Place}
+use Rattle.kernel_model.specs.ValidQueues.Place.{Clock, Keyboard, Output, Pending, Work}
+
+-- ---- blocks
+
+abbrev pub with_blocks : List Block → Lists → Lists
+with_blocks bs l = record l { blocks = bs }
+
+-- a used block of a user begins its data at v, and no queued packet lies in it
+pub record IsIdleBlock (l : Lists) (v : ℕ) : Type 0 where
+  pub block : Block
+  pub used : used_at v l.blocks ≡ Some block
+  pub user : use_of_data l v ≡ User
+  pub empty : AllByRecursion (λ p. has_data block p.address ≡ false) (queued l)
+
+-- nobody owns the words from a on, up to before b
+abbrev pub AreUnowned : Lists → ℕ → ℕ → Type 0
+AreUnowned l a b = (c : ℕ) → a ≤ c → c < b → owners c (owned l) ≡ 0
+
+-- ---- queues
+
+abbrev pub with_work : ℕ → List QueuedPacket → Task → Task
+with_work id ps t = if t.id == id then record t { queue = ps } else t
+
+-- the queue of a task, which is empty where there is no such task
+abbrev pub work_of : ℕ → List Task → List QueuedPacket
+work_of id [] = []
+work_of id (t ∷ ts) = if t.id == id then t.queue else work_of id ts
+
+-- the queue that stands at a place, and the lists with another one there
+abbrev pub queue_of : Place → Lists → List QueuedPacket
+queue_of (Work id) l = work_of id l.tasks
+queue_of Clock l = l.clock
+queue_of Keyboard l = l.keyboard
+queue_of Output l = l.output
+queue_of Pending l = l.pending
+
+abbrev pub with_queue : Place → List QueuedPacket → Lists → Lists
+with_queue (Work id) ps l = record l { tasks = map (with_work id ps) l.tasks }
+with_queue Clock ps l = record l { clock = ps }
+with_queue Keyboard ps l = record l { keyboard = ps }
+with_queue Output ps l = record l { output = ps }
+with_queue Pending ps l = record l { pending = ps }
+
+-- there is a queue at the place: the devices have theirs, a task its own, and the residents that of the console's reads
+abbrev pub HasPlace : Lists → Place → Type 0
+HasPlace l (Work id) = has_task id l.tasks ≡ true
+HasPlace l Clock = Unit {0}
+HasPlace l Keyboard = Unit {0}
+HasPlace l Output = Unit {0}
+HasPlace l Pending = l.residents ≡ true
+
+-- the lists with another state of the residents' two packets: the key packet's res1 where it is on no queue, and whether the
+-- fault packet is on none
+abbrev pub with_key : Option ℕ → Lists → Lists
+with_key x l = record l { key = x }
+
+abbrev pub with_fault_packet : Bool → Lists → Lists
+with_fault_packet f l = record l { fault_packet_free = f }
+
+-- ---- modules
+
+abbrev pub with_modules : List LoadedModule → Lists → Lists
+with_modules ms l = record l { modules = ms }
+
+-- ---- one task
+
+-- the task in the same place of the chain, with the same words, of which some may have changed
+pub record SameTask (t u : Task) : Type 0 where
+  pub id : u.id ≡ t.id
+  pub address : u.address ≡ t.address
+  pub priority : u.priority ≡ t.priority
+  pub queue : u.queue ≡ t.queue
+  pub coroutines : coroutine_addresses u ≡ coroutine_addresses t
+
+abbrev pub with_tasks : List Task → Lists → Lists
+with_tasks ts l = record l { tasks = ts }
+
+-- the task with these coroutines
+abbrev pub with_coroutines : List Coroutine → Task → Task
+with_coroutines cs t = record t { coroutines = with_list cs t.coroutines }
+
+-- the lists with the task of this number changed
+abbrev pub change_of : ℕ → (Task → Task) → Task → Task
+change_of id change t = if t.id == id then change t else t
+
+abbrev pub with_task : ℕ → (Task → Task) → Lists → Lists
+with_task id change l = with_tasks (map (change_of id change) l.tasks) l
+
+-- ---- the chain of tasks
+
+-- the chain with a task at its place by priority
+abbrev pub with_new_task : Task → Lists → Lists
+with_new_task t l = record l { tasks = insert_after (λ u. nat_lt t.priority u.priority) t l.tasks }
+
+-- no packet that is queued for a resident or a device, or that waits for a line, is from the task
+pub record HasNoPacketsOut (l : Lists) (id : ℕ) : Type 0 where
+  pub tasks : AllByRecursion (λ t. t.id < 5 → AllByRecursion (λ p. (p.sender == id) ≡ false) t.queue) l.tasks
+  pub clock : AllByRecursion (λ p. (p.sender == id) ≡ false) l.clock
+  pub keyboard : AllByRecursion (λ p. (p.sender == id) ≡ false) l.keyboard
+  pub output : AllByRecursion (λ p. (p.sender == id) ≡ false) l.output
+  pub pending : AllByRecursion (λ p. (p.sender == id) ≡ false) l.pending
+
+-- due ticks never fall along the clock's queue; the other queues have no order of their own
+abbrev pub KeepsOrder : Place → List QueuedPacket → Type 0
+KeepsOrder (Work id) ps = Unit {0}
+KeepsOrder Clock ps = NeverFall ps
+KeepsOrder Keyboard ps = Unit {0}
+KeepsOrder Output ps = Unit {0}
+KeepsOrder Pending ps = Unit {0}

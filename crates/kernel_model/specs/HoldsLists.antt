@@ -1,0 +1,11 @@
+-- A store that holds the words of valid lists.
+use Rattle.std.specs.Prelude.{◌≡◌, ℕ, List, length}
+use Rattle.owned_words.specs.Owned.{Holds}
+use Rattle.kernel_model.specs.Lists.{Lists}
+use Rattle.kernel_model.specs.Owned.{owned}
+use Rattle.kernel_model.specs.ValidLists.{AreValid}
+
+pub record HoldsLists (s : List ℕ) (l : Lists) : Type 0 where
+  pub valid : AreValid l
+  pub size : length s ≡ l.size
+  pub holds : Holds s (owned l)

@@ -1,0 +1,15 @@
+-- What the events of a part of a step do to a log.
+use Rattle.std.specs.Prelude.{◌≡◌, Bool, List, [], ◌++◌, Option, IsTrue}
+use Rattle.std.specs.Bool.{OnFalse, OnTrue}
+use Rattle.std.specs.Option.{option_map}
+use Rattle.packet_queue.specs.declared.events.KernelEvent.{KernelEvent}
+
+-- The log has gained these events, or the first of them where it has failed; and none where it had failed before.
+pub record NotesAll (before now : Option (List KernelEvent)) (had_failed has_failed : Bool) (events : List KernelEvent) : Type 0 where
+  pub front : List KernelEvent
+  pub rest : List KernelEvent
+  pub is : events ≡ front ++ rest
+  pub gained : now ≡ option_map (λ es. es ++ front) before
+  pub whole : OnFalse has_failed (rest ≡ [])
+  pub none : OnTrue had_failed (front ≡ [])
+  pub for_good : IsTrue had_failed → IsTrue has_failed

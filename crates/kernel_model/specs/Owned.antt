@@ -1,0 +1,42 @@
+-- The words that the kernel owns, each with what stands there.
+use Rattle.std.specs.Prelude.{ℕ, ◌<◌, ◌++◌}
+use Rattle.owned_words.specs.Owned.{AreApart, Pairs, owners}
+use Rattle.getvec_chain.specs.BlockWords.{blocks_words}
+use Rattle.hunk_loader.specs.ModuleExchanges.{modules_words}
+use Rattle.packet_queue.specs.QueueWords.{queue_words}
+use Rattle.task_block.specs.ChainWords.{listed_words}
+use Rattle.task_block.specs.RootWords.{root_address}
+use Rattle.task_block.specs.declared.roots.RootField.TheVariants.{ClockQueue, KeyQueue, OutputQueue}
+use Rattle.kernel_model.specs.Lists.{Lists, address_of_task}
+use Rattle.kernel_model.specs.Residents.{resident_words}
+use Rattle.kernel_model.specs.Root.{root_words}
+use Rattle.kernel_model.specs.Task.{task_address, task_id, task_words}
+use Rattle.kernel_model.specs.Versions.{highest_id_of}
+
+-- the heads of the queues of the clock, the keyboard and the output
+abbrev pub clock_head : ℕ
+clock_head = root_address ClockQueue
+
+abbrev pub keyboard_head : ℕ
+keyboard_head = root_address KeyQueue
+
+abbrev pub output_head : ℕ
+output_head = root_address OutputQueue
+
+-- the table, the head of the chain, and each task's words with its queue and its coroutines
+abbrev pub tasks_words : Lists → Pairs
+tasks_words l = listed_words task_address task_id (task_words l.version) (highest_id_of l.version) l.tasks
+
+-- the three queues of devices
+abbrev pub device_words : Lists → Pairs
+device_words l = queue_words clock_head l.clock ++ (queue_words keyboard_head l.keyboard ++ queue_words output_head l.output)
+
+unfoldable pub owned : Lists → Pairs
+owned l =
+    root_words l (address_of_task l l.running)
+    ++ (blocks_words l.blocks ++ (tasks_words l ++ (modules_words l.modules ++ (device_words l ++ resident_words l))))
+
+-- no word is owned twice, and each is one of the store
+pub record OwnsApart (l : Lists) : Type 0 where
+  pub apart : AreApart (owned l)
+  pub inside : (a : ℕ) → 0 < owners a (owned l) → a < l.size

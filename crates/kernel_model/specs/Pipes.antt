@@ -1,0 +1,33 @@
+-- The rules of pipes.
+use Rattle.std.specs.Prelude.{◌≡◌, ℕ, ◌≤◌, ◌||◌, true, false, Option, Some, None, List, length, replicate, slice_index_or}
+use Rattle.ram_disc.specs.Name.{IsName}
+use Rattle.kernel_model.specs.Kernel.{Kernel, Pipe}
+
+-- the most pipes, and the most bytes that one holds
+abbrev pub most_pipes : ℕ
+most_pipes = 8
+
+abbrev pub most_held : ℕ
+most_held = 1024
+
+abbrev pub no_pipes : List (Option Pipe)
+no_pipes = replicate most_pipes None
+
+-- pipe k, from 0, where it is there
+abbrev pub pipe_at : List (Option Pipe) → ℕ → Option Pipe
+pipe_at ps k = slice_index_or ps k None
+
+-- an end is open, and a writing end that is open was ever opened
+pub record IsPipe (p : Pipe) : Type 0 where
+  pub name : IsName p.name
+  pub end_open : (p.reading || p.writing) ≡ true
+  pub ever : p.writing ≡ true → p.written ≡ true
+  pub room : length p.held ≤ most_held
+
+-- their names are distinct; without residents, and in version 1, there are none
+pub record PipesStand (k : Kernel) : Type 0 where
+  pub places : length k.pipes ≡ most_pipes
+  pub each : (i : ℕ) (p : Pipe) → pipe_at k.pipes i ≡ Some p → IsPipe p
+  pub distinct : (i j : ℕ) (p q : Pipe) → pipe_at k.pipes i ≡ Some p → pipe_at k.pipes j ≡ Some q → p.name ≡ q.name → i ≡ j
+  pub no_residents : k.lists.residents ≡ false → k.pipes ≡ no_pipes
+  pub first_version : k.lists.version ≡ 1 → k.pipes ≡ no_pipes

@@ -1,0 +1,27 @@
+-- Where owned words lie: in the root, in a size word, or in the data of a used block.
+use Rattle.std.specs.Prelude.{◌≡◌, ℕ, ◌+◌, ◌⊎◌, ◌<◌, false, Some, List}
+use Rattle.owned_words.specs.Owned.{owners}
+use Rattle.getvec_chain.specs.declared.pieces.Block.{Block}
+use Rattle.getvec_chain.specs.BlockWords.{blocks_words}
+use Rattle.getvec_chain.specs.Tiling.{holding}
+use Rattle.task_block.specs.TaskChain.{root_words}
+use Rattle.linked_list.specs.Count.{times}
+use Rattle.kernel_model.specs.Lists.{Lists}
+
+-- the word at the address is one of the data of a used block
+pub record IsUsedData (bs : List Block) (a : ℕ) : Type 0 where
+  pub block : Block
+  pub holds : holding a bs ≡ Some block
+  pub used : block.free ≡ false
+
+-- the word is one of the words 100 to 183, or the end word
+abbrev pub IsRootWord : Lists → ℕ → Type 0
+IsRootWord l a = (0 < times a root_words) ⊎ (a + 2 ≡ l.size)
+
+-- a size word of a block
+abbrev pub IsSizeWord : Lists → ℕ → Type 0
+IsSizeWord l a = 0 < owners a (blocks_words l.blocks)
+
+-- an owned word lies in one of these three
+abbrev pub OwnedWhere : Lists → ℕ → Type 0
+OwnedWhere l a = IsRootWord l a ⊎ IsSizeWord l a ⊎ IsUsedData l.blocks a

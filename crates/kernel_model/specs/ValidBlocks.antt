@@ -1,0 +1,46 @@
+-- The rules of blocks, of the machine's numbers, and of modules.
+use Rattle.std.specs.Prelude.{◌≡◌, ℕ, ◌+◌, ◌-◌, ◌≤◌, true, false, IsTrue, if◌then◌else◌, Some, List, length, sum}
+use Rattle.std.specs.List.{AllByRecursion}
+use Rattle.getvec_chain.specs.declared.pieces.Block.{Block}
+use Rattle.getvec_chain.specs.Block.{block_end, used_block}
+use Rattle.getvec_chain.specs.Run.{need}
+use Rattle.getvec_chain.specs.Tiling.{Follow, holding, used_at}
+use Rattle.hunk_loader.specs.HeldModules.{LoadedModule}
+use Rattle.session_text.specs.SessionForm.{IsVersion, is_period, is_store_size}
+use Rattle.kernel_model.specs.Lists.{Lists, has_task}
+
+-- the blocks follow one another from 200 up to the end word, with even sizes of 2 or more
+abbrev pub BlocksTile : Lists → Type 0
+BlocksTile l = Follow 200 l.blocks (l.size - 2)
+
+-- at v begin the data of a used block with room for the words 0 to u
+pub record HasBlock (bs : List Block) (v u : ℕ) : Type 0 where
+  pub start : ℕ
+  pub here : v ≡ start + 1
+  pub block : used_at v bs ≡ Some (used_block start (need u))
+
+-- so many words from p on are data of one used block
+pub record AreData (bs : List Block) (p n : ℕ) : Type 0 where
+  pub block : Block
+  pub holds : holding p bs ≡ Some block
+  pub used : block.free ≡ false
+  pub whole : p + n ≤ block_end block
+
+-- the last data word of the resident block, which is larger where faults are reported
+abbrev pub last_resident_word : Lists → ℕ
+last_resident_word l = if has_task 2 l.tasks then 114 else 86
+
+-- The version, the size of the store and the period are those that a session may name, and the residents have the first block.
+pub record NumbersStand (l : Lists) : Type 0 where
+  pub version : IsVersion l.version
+  pub size : IsTrue (is_store_size l.version l.size)
+  pub period : IsTrue (is_period l.period)
+  pub residents : l.residents ≡ true → HasBlock l.blocks 201 (last_resident_word l)
+
+-- the number of a module's last word
+abbrev pub last_module_word : LoadedModule → ℕ
+last_module_word m = 1 + length m.lengths + sum m.lengths
+
+-- each module has a block of its size
+abbrev pub ModulesStand : Lists → Type 0
+ModulesStand l = AllByRecursion (λ m. HasBlock l.blocks m.address (last_module_word m)) l.modules

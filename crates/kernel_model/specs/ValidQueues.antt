@@ -1,0 +1,81 @@
+-- The rules of queued packets: where each may stand, and from whom.
+use Rattle.std.specs.Prelude.{◌≡◌, ℕ, ◌≤◌, ◌⊎◌, ◌==◌, ◌&&◌, Bool, true, false, not, List, [], ◌∷◌, is_some}
+use Rattle.std.specs.List.{AllByRecursion}
+use Rattle.packet_queue.specs.QueueWords.{QueuedPacket}
+use Rattle.kernel_model.specs.Lists.{Lists, has_task, is_queued}
+use Rattle.kernel_model.specs.Residents.{fault_packet, key_packet, keyboard}
+use Rattle.kernel_model.specs.Task.{is_guest_id}
+use Rattle.kernel_model.specs.ValidBlocks.{AreData}
+
+-- the places where packets are queued: a task's work queue, a device, and the console's reads that wait for a line
+pub data Place : Type 0 where
+  Work : ℕ → Place
+  Clock : Place
+  Keyboard : Place
+  Output : Place
+  Pending : Place
+
+-- the packet is the key packet, or the fault packet; without a task that reports faults there is none
+abbrev pub is_key_packet : Lists → QueuedPacket → Bool
+is_key_packet l p = l.residents && (p.address == key_packet)
+
+abbrev pub is_fault_packet : Lists → QueuedPacket → Bool
+is_fault_packet l p = has_task 2 l.tasks && (p.address == fault_packet)
+
+-- a guest with the number is there
+abbrev pub HasGuest : Lists → ℕ → Type 0
+HasGuest l id = (is_guest_id id ≡ true) × (has_task id l.tasks ≡ true)
+
+-- Who may have sent what is queued there: a guest that exists to a device, and a task that exists to a resident. What was sent
+-- to a guest may be from one that has gone.
+abbrev pub HasSender : Lists → Place → ℕ → Type 0
+HasSender l (Work id) sender = is_guest_id id ≡ false → has_task sender l.tasks ≡ true
+HasSender l Clock sender = HasGuest l sender
+HasSender l Keyboard sender = HasGuest l sender
+HasSender l Output sender = HasGuest l sender
+HasSender l Pending sender = has_task sender l.tasks ≡ true
+
+-- the key packet is at the keyboard, sent by the console, or comes back from there to the console's work queue
+abbrev pub IsKeyPlace : Place → ℕ → Type 0
+IsKeyPlace (Work id) sender = (id ≡ 3) × (sender ≡ keyboard)
+IsKeyPlace Clock sender = ⊥
+IsKeyPlace Keyboard sender = sender ≡ 3
+IsKeyPlace Output sender = ⊥
+IsKeyPlace Pending sender = ⊥
+
+pub record IsKeyPacket (at : Place) (p : QueuedPacket) : Type 0 where
+  pub place : IsKeyPlace at p.sender
+  pub kind : p.kind ≡ 0
+  pub last : p.last ≡ 0
+
+-- the fault packet is on the work queue of the task that reports faults
+pub record IsFaultPacket (l : Lists) (at : Place) (p : QueuedPacket) : Type 0 where
+  pub place : at ≡ Work 2
+  pub kind : p.kind ≡ 40
+  pub res1 : p.res1 ≡ 0
+  pub last : p.last ≡ 0
+  pub sender : has_task p.sender l.tasks ≡ true
+
+-- a packet may stand there
+pub record MayStand (l : Lists) (at : Place) (p : QueuedPacket) : Type 0 where
+  pub lodged : AreData l.blocks p.address 5
+  pub key : is_key_packet l p ≡ true → IsKeyPacket at p
+  pub fault : is_fault_packet l p ≡ true → IsFaultPacket l at p
+  pub sender : is_key_packet l p ≡ false → HasSender l at p.sender
+
+-- due ticks never fall along the clock's queue
+abbrev pub NeverFall : List QueuedPacket → Type 0
+NeverFall [] = Unit {0}
+NeverFall (p ∷ ps) = AllByRecursion (λ q. p.last ≤ q.last) ps × NeverFall ps
+
+pub record QueuesStand (l : Lists) : Type 0 where
+  pub tasks : AllByRecursion (λ t. AllByRecursion (MayStand l (Work t.id)) t.queue) l.tasks
+  pub clock : AllByRecursion (MayStand l Clock) l.clock
+  pub keyboard : AllByRecursion (MayStand l Keyboard) l.keyboard
+  pub output : AllByRecursion (MayStand l Output) l.output
+  pub pending : AllByRecursion (MayStand l Pending) l.pending
+  pub due : NeverFall l.clock
+  pub no_console : l.residents ≡ false → l.pending ≡ []
+  pub key : is_some l.key ≡ (l.residents && not (is_queued key_packet l))
+  pub fault : l.fault_packet_free ≡ (has_task 2 l.tasks && not (is_queued fault_packet l))
+  pub running : (l.running ≡ 0) ⊎ (has_task l.running l.tasks ≡ true)

@@ -1,0 +1,111 @@
+-- The rules of tasks and of their coroutines.
+use Rattle.std.specs.Prelude.{◌≡◌, ◌≢◌, ℕ, ◌+◌, ◌<◌, ◌≤◌, ◌⊎◌, true, false, Option, Some, None, List, [], ◌∷◌, length, map, ◌==◌, if◌then◌else◌}
+use Rattle.std.specs.List.{AllByRecursion}
+use Rattle.linked_list.specs.Count.{IsApart}
+use Rattle.linked_list.specs.Places.{has}
+use Rattle.word_store.specs.declared.registers.Regs.{Regs}
+use Rattle.hunk_loader.specs.HeldModules.{module_address}
+use Rattle.coroutines.specs.HeldCoroutines.{Coroutine}
+use Rattle.kernel_model.specs.BlockUse.{coroutine_addresses}
+use Rattle.kernel_model.specs.Lists.{Lists, has_task}
+use Rattle.kernel_model.specs.Task.{Task, is_guest_id, task_id}
+use Rattle.kernel_model.specs.ValidBlocks.{HasBlock}
+use Rattle.kernel_model.specs.Versions.{head_words_of, highest_id_of, most_modules_of}
+
+-- the fields of a state: it runs, it waits, it is interrupted, it is dead
+abbrev pub runs : ℕ
+runs = 0
+
+abbrev pub waits : ℕ
+waits = 4
+
+abbrev pub interrupted : ℕ
+interrupted = 8
+
+abbrev pub dead : ℕ
+dead = 12
+
+abbrev pub IsField : ℕ → Type 0
+IsField f = (f ≡ runs) ⊎ (f ≡ waits) ⊎ (f ≡ interrupted) ⊎ (f ≡ dead)
+
+-- a fault that is recorded: 1 to 8, but for a write into a kernel word, which stops the machine
+pub record IsRecordedFault (f : ℕ) : Type 0 where
+  pub low : 1 ≤ f
+  pub high : f ≤ 8
+  pub other : f ≢ 6
+
+-- the fault word of a task: none, a fault, or 256 more where it was reported
+abbrev pub IsFaultWord : ℕ → ℕ → Type 0
+IsFaultWord code address =
+    ((code ≡ 0) × (address ≡ 0)) ⊎ IsRecordedFault code ⊎ ((f : ℕ) × IsRecordedFault f × (code ≡ f + 256))
+
+-- A guest has a block for its task block, its globals and its stack, and from one to the most modules of the list.
+pub record IsGuest (l : Lists) (t : Task) : Type 0 where
+  pub high : t.id ≤ highest_id_of l.version
+  pub block : HasBlock l.blocks t.address (head_words_of l.version + 1001 + t.highest)
+  pub some_module : 1 ≤ length t.modules
+  pub most : length t.modules ≤ most_modules_of l.version
+  pub modules : AllByRecursion (λ m. has m (map module_address l.modules) ≡ true) t.modules
+  pub fault : IsFaultWord t.fault t.fault_address
+  pub unreported : has_task 2 l.tasks ≡ false → t.fault ≡ 0
+
+-- the address and the priority of each resident: the shell, the reporter of faults, the console and the file handler
+abbrev pub resident_place : ℕ → Option (ℕ × ℕ)
+resident_place id =
+    if id == 1 then Some (201, 1000) else
+    if id == 2 then Some (287, 3000) else
+    if id == 3 then Some (224, 6000) else
+    if id == 4 then Some (247, 5000) else
+    None
+
+-- the registers of which nothing is saved
+abbrev pub no_regs : Regs
+no_regs = record { a = 0; b = 0; c = 0; p = 0; g = 0; pc = 0 }
+
+-- A resident has its place, and no modules, stack, faults, saved registers and coroutines; it is never dead and never held.
+pub record IsResident (t : Task) : Type 0 where
+  pub place : resident_place t.id ≡ Some (t.address, t.priority)
+  pub modules : t.modules ≡ []
+  pub stack : t.highest ≡ 0
+  pub fault : t.fault ≡ 0
+  pub fault_address : t.fault_address ≡ 0
+  pub saved : t.saved ≡ no_regs
+  pub coroutines : t.coroutines.list ≡ []
+  pub active : t.coroutines.active ≡ []
+  pub alive : t.field ≢ dead
+  pub free : t.held ≡ false
+
+pub record IsTask (l : Lists) (t : Task) : Type 0 where
+  pub low : 1 ≤ t.priority
+  pub high : t.priority ≤ 10000
+  pub maker : t.maker ≤ highest_id_of l.version
+  pub field : IsField t.field
+  pub byte : t.saved.c < 256
+  pub guest : is_guest_id t.id ≡ true → IsGuest l t
+  pub resident : is_guest_id t.id ≡ false → IsResident t
+
+-- priorities fall along the chain, so no two are the same
+abbrev pub PrioritiesFall : List Task → Type 0
+PrioritiesFall [] = Unit {0}
+PrioritiesFall (t ∷ ts) = AllByRecursion (λ u. u.priority < t.priority) ts × PrioritiesFall ts
+
+-- numbers are distinct and priorities fall, and the residents are there, or none of them is; the reporter of faults may be absent
+pub record TasksStand (l : Lists) : Type 0 where
+  pub each : AllByRecursion (IsTask l) l.tasks
+  pub distinct : IsApart (map task_id l.tasks)
+  pub order : PrioritiesFall l.tasks
+  pub shell : has_task 1 l.tasks ≡ l.residents
+  pub console : has_task 3 l.tasks ≡ l.residents
+  pub files : has_task 4 l.tasks ≡ l.residents
+  pub reporter : has_task 2 l.tasks ≡ true → l.residents ≡ true
+
+-- a coroutine has a block for the words up to its highest index, which is 16 or more
+pub record IsCoroutine (l : Lists) (c : Coroutine) : Type 0 where
+  pub block : HasBlock l.blocks c.address c.highest
+  pub high : 16 ≤ c.highest
+
+-- the active ones are distinct coroutines of the task
+pub record CoroutinesStand (l : Lists) (t : Task) : Type 0 where
+  pub each : AllByRecursion (IsCoroutine l) t.coroutines.list
+  pub members : AllByRecursion (λ c. has c (coroutine_addresses t) ≡ true) t.coroutines.active
+  pub distinct : IsApart t.coroutines.active

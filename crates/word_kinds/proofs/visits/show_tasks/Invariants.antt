@@ -1,0 +1,11 @@
+use Rattle.std.proofs.Common.{◌≡◌, ◌++◌}
+use Rattle.std.specs.List.{AllByRecursion, flat_map}
+use Rattle.task_block.specs.TaskChain.{tasks_in}
+use Rattle.kernel_model.specs.KernelRanges.{CanWalkTask, task_ranges}
+use Rattle.word_kinds.proofs.visits.show_tasks.Given as goal
+
+abbrev pub invariant-loop-t : goal.invariant-loop-t
+invariant-loop-t g l =
+    g.V.Visitor.shown l.fn.visitor l.visitor (flat_map (task_ranges l.store) l.yielded)
+    × (tasks_in l.store ≡ l.yielded ++ l.t-iterator)
+    × AllByRecursion (CanWalkTask l.store) l.t-iterator

@@ -1,0 +1,12 @@
+use Rattle.std.proofs.Common.{◌≡◌, ◌++◌}
+use Rattle.std.specs.List.{AllByRecursion, flat_map}
+use Rattle.task_block.specs.TaskChain.{tasks_in}
+use Rattle.kernel_model.specs.Task.{queue_head}
+use Rattle.kernel_model.specs.KernelRanges.{CanWalkTask, packets_at}
+use Rattle.word_kinds.proofs.visits.show_work.Given as goal
+
+abbrev pub invariant-loop-t : goal.invariant-loop-t
+invariant-loop-t g l =
+    g.V.Visitor.shown l.fn.visitor l.visitor (flat_map (λ t. packets_at l.store (queue_head t)) l.yielded)
+    × (tasks_in l.store ≡ l.yielded ++ l.t-iterator)
+    × AllByRecursion (CanWalkTask l.store) l.t-iterator

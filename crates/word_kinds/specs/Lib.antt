@@ -1,0 +1,3 @@
+pub mod ByteMap
+pub mod Keeper
+pub mod Searched
