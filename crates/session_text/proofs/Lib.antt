@@ -1,13 +1,4 @@
-pub mod Bare
-pub mod BodyRefusals
-pub mod CanonicalPieces
-pub mod CodeLines
-pub mod Complete
-pub mod FormLemmas
-pub mod LineRefusals
-pub mod Parts
-pub mod RoundTrip
-pub mod SessionRefusals
-pub mod SessionTexts
-pub mod Sound
-pub mod TextRefusals
+pub mod FieldParts
+pub mod FileTexts
+pub mod HexByte
+pub mod NameLemmas

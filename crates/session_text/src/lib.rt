@@ -1,15 +1,15 @@
 // The text of a session: what it says, read and printed.
 #![tactic(auto)]
 
-mod heads;
-pub mod laws;
+mod drafts;
+mod fields;
 pub mod lists;
-pub mod print;
+mod ranges;
 pub mod read;
 pub mod sessions;
+mod statements;
 
 pub use lists::{Bytes, Keys, Lines, Names};
-pub use print::print_session;
 pub use read::read_session;
 pub use sessions::{LineForm, Session, SessionLine};
 pub use text_reader::TextEnd as SessionEnd;
