@@ -18,7 +18,7 @@ abbrev cut : List ℕ → Option ℕ → Option (List ℕ × List ℕ)
 cut text place = option_map (λ k. (take k text, drop (k + 1) text)) place
 
 -- a place that was found
-place_is : (text : List ℕ) (i : ℕ) (b : Bool) (x : List ℕ × List ℕ) → nat_lt i (length text) ≡ b
+pub place_is : (text : List ℕ) (i : ℕ) (b : Bool) (x : List ℕ × List ℕ) → nat_lt i (length text) ≡ b
     → cut text (cond b (Some i) None) ≡ Some x → (i < length text) × ((take i text, drop (i + 1) text) ≡ x)
 place_is text i true x e h = (grind (arith, nat_tests), cc)
 place_is text i false x e h = cc h

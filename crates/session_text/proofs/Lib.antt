@@ -1,4 +1,9 @@
+pub mod Blanks
+pub mod Complete
 pub mod FieldParts
 pub mod FileTexts
 pub mod HexByte
 pub mod NameLemmas
+pub mod Parts
+pub mod Sound
+pub mod StatementLines

@@ -1,8 +1,8 @@
 -- The entries of a machine with a clock: files with their text, tasks, and keys; and what each puts into the session.
-use Rattle.std.specs.Prelude.{ℕ, ◌≡◌, ◌+◌, ◌&&◌, Bool, true, false, IsTrue, List, [], ◌∷◌, ◌++◌, map, length, codes}
+use Rattle.std.specs.Prelude.{ℕ, ◌≡◌, ◌+◌, ◌&&◌, Bool, true, false, IsTrue, List, [], ◌∷◌, ◌++◌, map, length, codes, nat_le}
 use Rattle.std.specs.List.{AllByRecursion, flat_map, list_all}
 use Rattle.text_reader.specs.Lines.{text_of_lines}
-use Rattle.session_text.specs.Ranges.{is_name, is_priority, is_stack, is_step, is_task}
+use Rattle.session_text.specs.Ranges.{is_name, is_priority, is_stack, is_step, is_task, most_names}
 use Rattle.session_text.specs.Statements.{Statement, File, Task, At, Key, Go, States, is_text}
 use Rattle.session_text.specs.declared.sessions.SessionLine.{SessionLine}
 use Rattle.session_text.specs.declared.sessions.LineForm.TheVariants.{File as FileForm, Task as TaskForm}
@@ -15,6 +15,11 @@ is_in_range version (Task id pri stack names) =
 is_in_range version (At step text) = is_step step
 is_in_range version (Key step byte) = is_step step
 is_in_range version (Go steps) = is_step steps
+
+-- a task has no more names than its version allows
+abbrev pub names_fit : ℕ → Statement → Bool
+names_fit version (Task id pri stack names) = nat_le (length names) (most_names version)
+names_fit version _ = true
 
 -- a statement, and the lines of text after it, without their colons
 pub record Entry : Type 0 where
@@ -36,6 +41,7 @@ pub record IsEntry (version : ℕ) (entry : Entry) (lines : List (List ℕ)) : T
   pub head : List ℕ
   pub all : lines ≡ head ∷ map colon_line entry.texts
   pub states : States entry.statement head
+  pub fits : IsTrue (names_fit version entry.statement)
   pub in_range : IsTrue (is_in_range version entry.statement)
   pub texts_are : MayHave entry.statement entry.texts
 
