@@ -90,18 +90,22 @@ no_debug (Go steps) line h = ap (λ l. bytes_eq l (codes "DEBUG")) h.1
 entry_again : (s : Session) (n : ℕ) (line : List ℕ) (x : Statement) → States x line → names_fit s.version x ≡ true → is_in_range s.version x ≡ true → entry_step s n line ≡ Ok (with_statement s n x)
 entry_again s n line x h f r = rw (statement_of-again s.version line x h, f, r) refl
 
+-- a statement's line is read as one, where it may stand
+pub enters : (p : Place) (s : Session) (n : ℕ) (line : List ℕ) (x : Statement) → MayHaveEntry p → States x line → step (draft p s) n line ≡ entry_step s n line
+unfolding step
+enters AtVersion s n line x a h = absurd a
+enters AtStore s n line x a h = absurd a
+enters AtMachine s n line x a h = absurd a
+enters AtCode s n line x a h = absurd a
+enters AtResident s n line x a h = rw (no_resident x line h) refl
+enters AtDebug s n line x a h = rw (no_debug x line h) refl
+enters AtEntry s n line x a h = refl
+enters AtText s n line x a h = rw (no_colon x line h) refl
+enters AtEnd s n line x a h = absurd a
+
 pub statement_again : (p : Place) (s : Session) (n : ℕ) (line : List ℕ) (x : Statement) → MayHaveEntry p → States x line → names_fit s.version x ≡ true → is_in_range s.version x ≡ true
     → step (draft p s) n line ≡ Ok (with_statement s n x)
-unfolding step
-statement_again AtVersion s n line x a h f r = absurd a
-statement_again AtStore s n line x a h f r = absurd a
-statement_again AtMachine s n line x a h f r = absurd a
-statement_again AtCode s n line x a h f r = absurd a
-statement_again AtResident s n line x a h f r = rw (no_resident x line h) (entry_again s n line x h f r)
-statement_again AtDebug s n line x a h f r = rw (no_debug x line h) (entry_again s n line x h f r)
-statement_again AtEntry s n line x a h f r = entry_again s n line x h f r
-statement_again AtText s n line x a h f r = rw (no_colon x line h) (entry_again s n line x h f r)
-statement_again AtEnd s n line x a h f r = absurd a
+statement_again p s n line x a h f r = enters p s n line x a h ∙ entry_again s n line x h f r
 
 -- lines of text go to the last file
 texts_again : (s whole : Session) (n m : ℕ) (texts more : List (List ℕ)) → m ≡ n + length texts → AllByRecursion (λ text. IsTrue (is_text text)) texts

@@ -1,9 +1,14 @@
+pub mod Advances
 pub mod Blanks
 pub mod Complete
 pub mod FieldParts
 pub mod FileTexts
 pub mod HexByte
+pub mod LineRefusals
 pub mod NameLemmas
 pub mod Parts
+pub mod SessionTexts
 pub mod Sound
 pub mod StatementLines
+pub mod StatementTexts
+pub mod StepRefusals
