@@ -83,7 +83,7 @@ pub record EndsAt (d : Draft) (n : ℕ) (lines : List (List ℕ)) (r : Refusal) 
   pub before : advance d n lines ≡ Ok at
   pub refused : refusal (n + length lines) 3 ≡ r
 
-ended_err : (p : Place) (s : Session) (n : ℕ) (r : Refusal) → ended p s n ≡ Err r → refusal n 3 ≡ r
+pub ended_err : (p : Place) (s : Session) (n : ℕ) (r : Refusal) → ended p s n ≡ Err r → refusal n 3 ≡ r
 ended_err AtVersion s n r e = Err-same {A = Session} (refusal n 3) r e
 ended_err AtStore s n r e = Err-same {A = Session} (refusal n 3) r e
 ended_err AtMachine s n r e = Err-same {A = Session} (refusal n 3) r e

@@ -12,3 +12,4 @@ pub mod Sound
 pub mod StatementLines
 pub mod StatementTexts
 pub mod StepRefusals
+pub mod TextRefusals

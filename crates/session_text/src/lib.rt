@@ -3,6 +3,7 @@
 
 mod drafts;
 mod fields;
+pub mod laws;
 pub mod lists;
 mod ranges;
 pub mod read;
