@@ -3,10 +3,14 @@ pub mod Blanks
 pub mod Complete
 pub mod FieldParts
 pub mod FileTexts
+pub mod FrontLines
 pub mod HexByte
+pub mod Lawful
 pub mod LineRefusals
 pub mod NameLemmas
 pub mod Parts
+pub mod PrintedTexts
+pub mod RoundTrip
 pub mod SessionTexts
 pub mod Sound
 pub mod StatementLines

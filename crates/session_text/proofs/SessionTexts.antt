@@ -36,12 +36,17 @@ plain_graphic (c ∷ cs) h =
     let t : is_ascii_graphic c ≡ true = p.0 in
     ((grind (arith, nat_tests), grind (arith, nat_tests)), plain_graphic cs p.1)
 
+-- nor have several texts
+pub plain_texts : (texts : List (List ℕ)) → AllByRecursion (λ text. IsTrue (is_text text)) texts → AllByRecursion IsPlain texts
+plain_texts [] h = tt
+plain_texts (t ∷ ts) h = (plain_text t h.0, plain_texts ts h.1)
+
 -- nor has a field
 pub plain_field : (field : List ℕ) → is_field field ≡ true → IsPlain field
 plain_field field h = plain_graphic field (and_parts _ (list_all is_ascii_graphic field) h).1
 
 -- nor have names
-pub plain_names : (names : List (List ℕ)) → list_all is_field names ≡ true → IsPlain (names_text names)
+plain_names : (names : List (List ℕ)) → list_all is_field names ≡ true → IsPlain (names_text names)
 plain_names [] h = tt
 plain_names (name ∷ names) h =
     let p = and_parts (is_field name) (list_all is_field names) h in
@@ -80,12 +85,12 @@ all-append [] b h k = k
 all-append (l ∷ ls) b h k = (h.0, all-append ls b h.1 k)
 
 -- lines of text
-plain_texts : (texts : List (List ℕ)) → AllByRecursion (λ text. IsTrue (is_text text)) texts → AllByRecursion IsPlain (map colon_line texts)
-plain_texts [] h = tt
-plain_texts (t ∷ ts) h = (((plain_literal (codes ":") refl).0, plain_text t h.0), plain_texts ts h.1)
+plain_colon_lines : (texts : List (List ℕ)) → AllByRecursion (λ text. IsTrue (is_text text)) texts → AllByRecursion IsPlain (map colon_line texts)
+plain_colon_lines [] h = tt
+plain_colon_lines (t ∷ ts) h = (((plain_literal (codes ":") refl).0, plain_text t h.0), plain_colon_lines ts h.1)
 
 plain_may : (x : Statement) (texts : List (List ℕ)) → MayHave x texts → AllByRecursion IsPlain (map colon_line texts)
-plain_may (File name) texts h = plain_texts texts h
+plain_may (File name) texts h = plain_colon_lines texts h
 plain_may (Task id pri stack names) [] h = tt
 plain_may (Task id pri stack names) (t ∷ ts) h = cc h
 plain_may (At k text) [] h = tt

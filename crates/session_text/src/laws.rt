@@ -25,3 +25,9 @@ pub fn refusal_law()
     ensures codes { (text : List ℕ) (n code : ℕ) →
         IsRefused text n code → (1 ≤ code) × (code ≤ 3) }
 {}
+
+/// The canonical text of a session whose fields are within the rules is read as the same session, with the numbers that
+/// its lines have there.
+pub fn printed_law()
+    ensures { (s : Session) → IsLawful s → session_of (canonical s) ≡ Ok (with_numbers s) }
+{}

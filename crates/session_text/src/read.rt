@@ -1,6 +1,7 @@
 // Reading a session.
 ghost use Rattle.std.specs.Prelude.{◌≡◌, ◌^◌, ◌<◌, length, IfOk};
 ghost use Rattle.text_reader.specs.Answers.{Gives};
+ghost use Rattle.session_text.specs.Canonical.{IsLawful};
 ghost use Rattle.session_text.specs.SessionOfText.{session_of};
 
 use crate::drafts::Draft;
@@ -15,6 +16,17 @@ use text_reader::split_line;
 pub fn read_session(alloc: Global, text: &[u8]) -> Result<Session, SessionEnd>
     requires { length text.now < 2 ^ 32 }
     ensures value { Gives (λ s. s) result (session_of text.now) }
+
+    // A session that was read can be printed.
+    ensures lawful { IfOk result IsLawful }
+{
+    whole_session(alloc, text)
+}
+
+// The session of a text, line by line.
+fn whole_session(alloc: Global, text: &[u8]) -> Result<Session, SessionEnd>
+    requires { length text.now < 2 ^ 32 }
+    ensures { Gives (λ s. s) result (session_of text.now) }
 {
     let mut draft = Draft::new(alloc);
     let mut n = 1;

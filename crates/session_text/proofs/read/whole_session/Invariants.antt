@@ -2,7 +2,7 @@ use Rattle.std.proofs.Common.{◌≡◌, ◌^◌, ◌<◌, ◌≤◌, ◌+◌, �
 use Rattle.text_reader.specs.Lines.{lines_of}
 use Rattle.session_text.specs.SessionOfText.{read_on, session_of}
 use Rattle.session_text.specs.declared.drafts.Place.TheVariants.{Version}
-use Rattle.session_text.proofs.read.read_session.Given as goal
+use Rattle.session_text.proofs.read.whole_session.Given as goal
 
 abbrev pub invariant-loop-line : goal.invariant-loop-line
 invariant-loop-line l = record {
