@@ -1,8 +1,8 @@
 -- Texts that are cut at blanks, and put together again.
-use Rattle.std.proofs.Common.{◌≡◌, ◌≢◌, ◌∙◌, ℕ, suc, ◌+◌, ◌<◌, ◌≤◌, ◌==◌, ◌&&◌, ◌||◌, not, Bool, true, false, cond, Option, Some, None, List, [], ◌∷◌, ◌++◌, length, length-append, take, drop, nat_lt, refl, sym, ap, subst, arith, add-one, append-nil, get_or}
-use Rattle.std.specs.Prelude.{option_map, option_and_then}
+use Rattle.std.proofs.Common.{◌≡◌, ◌≢◌, ◌∙◌, ℕ, suc, ◌+◌, ◌==◌, Bool, true, false, cond, Option, Some, None, List, [], ◌∷◌, ◌++◌, length, length-append, take, drop, nat_lt, refl, sym, ap, subst, arith, add-one, append-nil, get_or}
+use Rattle.std.specs.Prelude.{option_and_then}
 use Rattle.std.specs.Char.{is_ascii_graphic}
-use Rattle.std.specs.List.{AllByRecursion, list_all, onto_first, position, position_or_len, slice_split}
+use Rattle.std.specs.List.{AllByRecursion, list_all, onto_first, position_or_len}
 use Rattle.std.specs.Str.Parse.{AllDigits}
 use Rattle.std.proofs.Math.Seq.{split_at}
 use Rattle.std.proofs.lemmas.Bool.{and_parts}

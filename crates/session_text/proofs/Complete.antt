@@ -1,18 +1,18 @@
 -- Every text of a session is read.
-use Rattle.std.proofs.Common.{◌≡◌, ◌∙◌, ℕ, ◌≤◌, ◌+◌, Bool, true, false, cond, None, Ok, ◌⊎◌, inl, inr, List, [], ◌∷◌, ◌++◌, map, length, refl, sym, ap, subst, arith, append_assoc, append-nil}
+use Rattle.std.proofs.Common.{◌≡◌, ◌∙◌, ℕ, ◌≤◌, ◌+◌, Bool, true, false, None, Ok, ◌⊎◌, inl, inr, List, [], ◌∷◌, ◌++◌, map, length, refl, sym, ap, subst, arith, append_assoc, append-nil}
 use Rattle.std.specs.Prelude.{codes, decimal, IsTrue}
 use Rattle.std.specs.List.{AllByRecursion}
 use Rattle.std.specs.Str.{bytes_eq}
 use Rattle.std.proofs.lemmas.Bool.{cases_eq}
 use Rattle.std.proofs.lemmas.Fmt.{decimal_digit}
-use Rattle.text_reader.specs.Fields.{IsNumberLine, after_word, number_line}
+use Rattle.text_reader.specs.Fields.{IsNumberLine, after_word}
 use Rattle.text_reader.specs.Lines.{lines_of}
 use Rattle.text_reader.proofs.FieldLemmas.{after_word-again, number_line-again}
-use Rattle.session_text.specs.Entries.{AreEntries, Entry, IsEntry, MayHave, colon_line, is_in_range, keys_in, lines_in, names_fit}
+use Rattle.session_text.specs.Entries.{AreEntries, Entry, MayHave, colon_line, is_in_range, keys_in, lines_in, names_fit}
 use Rattle.session_text.specs.FileText.{with_text}
 use Rattle.session_text.specs.Ranges.{is_period, is_step, is_store_size}
 use Rattle.session_text.specs.SessionForm.{AreBareLines, AreClockLines, AreCodeLines, AreOptions, AreSessionLines, IsBare, IsSession, IsVersionLine, code_line}
-use Rattle.session_text.specs.SessionOfText.{draft, entry_step, first_draft, read_on, session_lines, session_of, step, version_line, with_statement}
+use Rattle.session_text.specs.SessionOfText.{draft, entry_step, read_on, session_lines, session_of, step, version_line, with_statement}
 use Rattle.session_text.specs.Statements.{Statement, File, Task, At, Key, Go, States, is_text}
 use Rattle.session_text.specs.declared.drafts.Place.{Place}
 use Rattle.session_text.specs.declared.drafts.Place.TheVariants.{Version as AtVersion, Store as AtStore, Machine as AtMachine, Code as AtCode, Resident as AtResident, Debug as AtDebug, Entry as AtEntry, Text as AtText, End as AtEnd}
@@ -143,10 +143,10 @@ entries_again s p n (entry ∷ entries) rest last go a h g t =
     let one = statement_again p s n e.head x a e.states e.fits e.in_range in
     let lines : rest ++ last ∷ [] ≡ e.head ∷ (map colon_line entry.texts ++ (h.1 ++ last ∷ []))
     = ap (λ (ls : List (List ℕ)). ls ++ last ∷ []) (h.2 ∙ ap (λ (ls : List (List ℕ)). ls ++ h.1) e.all)
-        ∙ ap (λ (ls : List (List ℕ)). e.head ∷ ls) (append_assoc (map colon_line entry.texts) h.1 (last ∷ [])) in
+    ∙ ap (λ (ls : List (List ℕ)). e.head ∷ ls) (append_assoc (map colon_line entry.texts) h.1 (last ∷ [])) in
     let t1 = record (with_statement s n x).session { lines = with_texts (with_statement s n x).session.lines entry.texts } in
     let more = behind_again s (made s [] n (entry ∷ entries) go) n m x entry.texts (h.1 ++ last ∷ []) e.texts_are refl
-        (λ q b. entries_again t1 q m entries h.1 last go b h.4 g t ∙ ap (λ (k : Session). Ok k) (made-entry s n x entry.texts entries go e.texts_are)) in
+    (λ q b. entries_again t1 q m entries h.1 last go b h.4 g t ∙ ap (λ (k : Session). Ok k) (made-entry s n x entry.texts entries go e.texts_are)) in
     rw (lines, one) more
 
 -- ---- the options
@@ -220,7 +220,7 @@ clock_again s machine go h g t =
     let tick = number_line-again (codes "TICK ") is_period 3 s.period h.tick h.tick_line h.period in
     let same = clock_is s h.clock (4 + length h.options) h.entries h.lines_are h.keys_are in
     let rest = options_again s.version s.store s.period s.resident s.debug h.options (h.rest ++ go ∷ []) s h.option_lines
-        (λ p a. entries_again (clock_session s.version s.store s.period s.resident s.debug) p (4 + length h.options) h.entries h.rest go s.go a h.entry_lines g t ∙ ap (λ (k : Session). Ok k) same) in
+    (λ p a. entries_again (clock_session s.version s.store s.period s.resident s.debug) p (4 + length h.options) h.entries h.rest go s.go a h.entry_lines g t ∙ ap (λ (k : Session). Ok k) same) in
     let lines : machine ++ go ∷ [] ≡ h.tick ∷ (h.options ++ (h.rest ++ go ∷ []))
     = ap (λ (ls : List (List ℕ)). ls ++ go ∷ []) h.all ∙ ap (λ (ls : List (List ℕ)). h.tick ∷ ls) (append_assoc h.options h.rest (go ∷ [])) in
     rw (lines, no_bare s.period h.tick h.tick_line, tick) rest

@@ -1,5 +1,5 @@
 -- One byte in hex.
-use Rattle.std.proofs.Common.{◌≡◌, ◌∙◌, ℕ, ◌*◌, Result, Ok, Err, Some, None, inl, inr, List, [], ◌∷◌, length, get_or, refl, sym, ap, arith}
+use Rattle.std.proofs.Common.{◌≡◌, ◌∙◌, ℕ, ◌*◌, Result, Ok, Err, Some, None, inl, inr, List, [], ◌∷◌, length, get_or, refl, sym, arith}
 use Rattle.std.specs.Prelude.{MatchResult}
 use Rattle.std.proofs.lemmas.Bool.{cases_eq}
 use Rattle.hex.specs.Hex.{decode_of, decode_sized}
@@ -18,16 +18,6 @@ other_count (Ok (b ∷ [])) n h other = let e = h (b ∷ []) refl in absurd (oth
 other_count (Ok (b ∷ c ∷ bytes)) n h other = refl
 other_count (Err e) n h other = refl
 
-byte_by : (d : Result (List ℕ) FromHexError) (out : List ℕ) → ((bytes : List ℕ) → d ≡ Ok bytes → 2 ≡ 2 * length bytes) → MatchResult d (λ bytes. out ≡ bytes) (λ e. ⊥) → one_byte d ≡ Some (get_or out 0 0)
-byte_by (Ok []) out h m = let e = h [] refl in absurd (omega (arith, e))
-byte_by (Ok (b ∷ [])) out h m = rw m refl
-byte_by (Ok (b ∷ c ∷ bytes)) out h m = let e = h (b ∷ c ∷ bytes) refl in absurd (omega (arith, e))
-byte_by (Err e) out h m = absurd m
-
-out_is : (d : Result (List ℕ) FromHexError) (r : Result (Unit {0}) FromHexError) (out : List ℕ) → MatchResult d (λ bytes. (r ≡ Ok tt) × (out ≡ bytes)) (λ e. r ≡ Err e) → r ≡ Ok tt → MatchResult d (λ bytes. out ≡ bytes) (λ e. ⊥)
-out_is (Ok bytes) r out m e = m.1
-out_is (Err x) r out m e = cc
-
 err_is : (d : Result (List ℕ) FromHexError) (r : Result (Unit {0}) FromHexError) (out : List ℕ) (x : FromHexError) → MatchResult d (λ bytes. (r ≡ Ok tt) × (out ≡ bytes)) (λ e. r ≡ Err e) → r ≡ Err x → (y : FromHexError) × (d ≡ Err y)
 err_is (Ok bytes) r out x m e = cc
 err_is (Err y) r out x m e = (y, refl)
@@ -37,21 +27,6 @@ count_is digits bytes e = (decode_of-ok digits bytes e).2
 
 no_byte : (d : Result (List ℕ) FromHexError) (x : FromHexError) → d ≡ Err x → one_byte d ≡ None
 no_byte d x e = rw e refl
-
-sized_by : (digits out : List ℕ) → ¬ (length digits ≡ 2) → (d : Result (List ℕ) FromHexError) → decode_sized digits 1 ≡ d → MatchResult d (λ bytes. out ≡ bytes) (λ e. ⊥) → ⊥
-sized_by digits out other (Ok bytes) e m = let n = decode_sized-ok digits 1 bytes e in other (omega (arith, n))
-sized_by digits out other (Err x) e m = m
-
--- what was decoded is the byte
-pub one_byte-ok : (digits : List ℕ) (r : Result (Unit {0}) FromHexError) (out : List ℕ) → Decodes digits r out → r ≡ Ok tt → one_byte (decode_of digits) ≡ Some (get_or out 0 0)
-one_byte-ok digits r out m e =
-    let some = out_is (decode_sized digits 1) r out m e in
-    elim (cases_eq (length digits) 2) [
-      | inl two ↦
-          let same = decode_sized-twice digits 1 (omega (arith, two)) in
-          byte_by (decode_of digits) out (λ bytes k. let n = count_is digits bytes k in omega (arith, n, two)) (rw same at some)
-      | inr other ↦ absurd (sized_by digits out other (decode_sized digits 1) refl some)
-    ]
 
 -- where nothing was decoded there is none
 pub one_byte-err : (digits : List ℕ) (r : Result (Unit {0}) FromHexError) (out : List ℕ) (x : FromHexError) → Decodes digits r out → r ≡ Err x → one_byte (decode_of digits) ≡ None

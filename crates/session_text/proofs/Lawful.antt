@@ -1,29 +1,24 @@
 -- A session that was read is within the rules.
-use Rattle.std.proofs.Common.{◌≡◌, ◌∙◌, ℕ, ◌<◌, ◌≤◌, ◌+◌, ◌==◌, ◌&&◌, ◌||◌, ◌⊎◌, inl, inr, Bool, true, false, Result, Ok, Err, List, [], ◌∷◌, ◌++◌, map, length, nat_le, refl, sym, subst, arith}
-use Rattle.std.specs.Prelude.{IfOk, IsTrue}
+use Rattle.std.proofs.Common.{◌≡◌, ℕ, ◌+◌, ◌==◌, ◌||◌, ◌⊎◌, inl, inr, Bool, true, false, Result, Ok, Err, List, [], ◌∷◌, ◌++◌, map, length, nat_le, refl, sym, subst, arith}
+use Rattle.std.specs.Prelude.{IfOk}
 use Rattle.std.specs.Char.{is_ascii_graphic}
 use Rattle.std.specs.List.{AllByRecursion}
 use Rattle.std.proofs.lemmas.Bool.{and_parts}
 use Rattle.std.proofs.lemmas.Bool.Decides.{nat_tests}
-use Rattle.hex.specs.Hex.{decode_of}
 use Rattle.hex.proofs.HexLemmas.{decode_of-ok}
 use Rattle.text_reader.specs.Answers.{Gives}
 use Rattle.text_reader.specs.Lines.{lines_of, text_of_lines}
 use Rattle.text_reader.specs.declared.ends.TextEnd.{TextEnd}
 use Rattle.session_text.specs.Canonical.{IsLawful, IsLawfulForm, IsLawfulKey, IsLawfulMachine}
-use Rattle.session_text.specs.Entries.{AreEntries, Entry, IsEntry, MayHave, is_in_range, keys_in, lines_in, names_fit, statement_keys, statement_lines}
+use Rattle.session_text.specs.Entries.{AreEntries, Entry, MayHave, is_in_range, keys_in, lines_in, names_fit, statement_keys, statement_lines}
 use Rattle.session_text.specs.Ranges.{is_step, most_names}
 use Rattle.session_text.specs.SessionForm.{AreBareLines, AreClockLines, AreCodeLines, AreOptions, AreSessionLines}
 use Rattle.session_text.specs.SessionOfText.{session_of}
 use Rattle.session_text.specs.Statements.{Statement, File, Task, At, Key, Go, States, is_text}
 use Rattle.session_text.specs.declared.sessions.Session.{Session}
 use Rattle.session_text.specs.declared.sessions.SessionLine.{SessionLine}
+use Rattle.session_text.proofs.Parts.{all-append}
 use Rattle.session_text.proofs.Sound.{sound}
-
--- what holds of two lists holds of both
-pub all-append : {X : Type 0} (P : X → Type 0) (a b : List X) → AllByRecursion P a → AllByRecursion P b → AllByRecursion P (a ++ b)
-all-append P [] b h k = k
-all-append P (x ∷ xs) b h k = (h.0, all-append P xs b h.1 k)
 
 -- ---- a bare machine
 
@@ -72,9 +67,10 @@ entries_are_lawful version n (entry ∷ entries) lines h =
     let e = h.3 in
     let more = entries_are_lawful version (n + 1 + length entry.texts) entries h.1 h.4 in
     let line = statement_is_lawful version n entry.statement entry.texts e.head e.states e.fits e.in_range e.texts_are in
-    let keys = keys_are_lawful version entry.statement e.head e.states e.in_range in
-    (all-append (LineIsLawful version) (statement_lines n entry.statement (text_of_lines entry.texts)) (lines_in (n + 1 + length entry.texts) entries) line more.0,
-     all-append IsLawfulKey (statement_keys entry.statement) (keys_in entries) keys more.1)
+    let keys = keys_are_lawful version entry.statement e.head e.states e.in_range in (
+      all-append (LineIsLawful version) (statement_lines n entry.statement (text_of_lines entry.texts)) (lines_in (n + 1 + length entry.texts) entries) line more.0,
+      all-append IsLawfulKey (statement_keys entry.statement) (keys_in entries) keys more.1,
+    )
 
 options_are_lawful : (resident debug : Bool) (lines : List (List ℕ)) → AreOptions resident debug lines → debug ≡ true → resident ≡ true
 options_are_lawful true debug lines h e = refl
@@ -86,15 +82,17 @@ options_are_lawful false false lines h e = cc e
 machine_is_lawful : (s : Session) (lines : List (List ℕ)) → AreBareLines s lines ⊎ AreClockLines s lines
     → IsLawfulMachine s.bare s × AllByRecursion (λ line. IsLawfulForm s.bare s.version line.form) s.lines
 machine_is_lawful s lines (inl h) =
-    let code = code_is_lawful s.version 4 s.lines h.code h.code_lines in
-    (subst (λ (b : Bool). IsLawfulMachine b s) (sym h.machine.bare) h.machine,
-     subst (λ (b : Bool). AllByRecursion (λ line. IsLawfulForm b s.version line.form) s.lines) (sym h.machine.bare) code)
+    let code = code_is_lawful s.version 4 s.lines h.code h.code_lines in (
+      subst (λ (b : Bool). IsLawfulMachine b s) (sym h.machine.bare) h.machine,
+      subst (λ (b : Bool). AllByRecursion (λ line. IsLawfulForm b s.version line.form) s.lines) (sym h.machine.bare) code,
+    )
 machine_is_lawful s lines (inr h) =
     let e = entries_are_lawful s.version (4 + length h.options) h.entries h.rest h.entry_lines in
     let lines_are = subst (λ (ls : List SessionLine). AllByRecursion (LineIsLawful s.version) ls) (sym h.lines_are) e.0 in
-    let keys_are = subst (λ (ks : List (ℕ × ℕ)). AllByRecursion IsLawfulKey ks) (sym h.keys_are) e.1 in
-    (subst (λ (b : Bool). IsLawfulMachine b s) (sym h.clock) (h.period, options_are_lawful s.resident s.debug h.options h.option_lines, keys_are),
-     subst (λ (b : Bool). AllByRecursion (λ line. IsLawfulForm b s.version line.form) s.lines) (sym h.clock) lines_are)
+    let keys_are = subst (λ (ks : List (ℕ × ℕ)). AllByRecursion IsLawfulKey ks) (sym h.keys_are) e.1 in (
+      subst (λ (b : Bool). IsLawfulMachine b s) (sym h.clock) (h.period, options_are_lawful s.resident s.debug h.options h.option_lines, keys_are),
+      subst (λ (b : Bool). AllByRecursion (λ line. IsLawfulForm b s.version line.form) s.lines) (sym h.clock) lines_are,
+    )
 
 pub session_is_lawful : (s : Session) (lines : List (List ℕ)) → AreSessionLines s lines → IsLawful s
 session_is_lawful s lines h =

@@ -1,6 +1,5 @@
 -- Names, by the test of their bytes.
-use Rattle.std.proofs.Common.{◌≡◌, ◌∙◌, ℕ, ◌≤◌, ◌&&◌, Bool, true, false, cond, Option, Some, None, List, length, nat_le, refl, sym, ap, arith}
-use Rattle.std.specs.Bool.{Decides}
+use Rattle.std.proofs.Common.{◌≡◌, ℕ, ◌&&◌, Bool, true, false, cond, Option, Some, None, List, length, nat_le, refl, ap, arith}
 use Rattle.std.specs.List.{list_all}
 use Rattle.std.specs.Option.{SomeIff}
 use Rattle.std.proofs.lemmas.Bool.{and_from, and_parts}

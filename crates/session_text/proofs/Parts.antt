@@ -8,7 +8,7 @@ use Rattle.session_text.specs.Entries.{AreEntries, Entry, MayHave, colon_line, k
 use Rattle.session_text.specs.FileText.{with_text}
 use Rattle.session_text.specs.Ranges.{is_step}
 use Rattle.session_text.specs.SessionForm.{AreCodeLines}
-use Rattle.session_text.specs.SessionOfText.{draft, with_statement}
+use Rattle.session_text.specs.SessionOfText.{with_statement}
 use Rattle.session_text.specs.Statements.{Statement, File, Task, At, Key, Go, is_text}
 use Rattle.session_text.specs.declared.drafts.Place.{Place}
 use Rattle.session_text.specs.declared.drafts.Place.TheVariants.{Entry as AtEntry, Text as AtText}
@@ -16,6 +16,11 @@ use Rattle.session_text.specs.declared.sessions.Session.{Session}
 use Rattle.session_text.specs.declared.sessions.SessionLine.{SessionLine}
 use Rattle.session_text.specs.declared.sessions.LineForm.TheVariants.{File as FileForm}
 use Rattle.session_text.proofs.FileTexts.{with_text-push}
+
+-- what holds of two lists holds of both
+pub all-append : {X : Type 0} (P : X → Type 0) (a b : List X) → AllByRecursion P a → AllByRecursion P b → AllByRecursion P (a ++ b)
+all-append P [] b h k = k
+all-append P (x ∷ xs) b h k = (h.0, all-append P xs b h.1 k)
 
 -- ---- text of a file
 
@@ -57,7 +62,7 @@ pub made-entry : (s : Session) (n : ℕ) (x : Statement) (texts : List (List ℕ
     → made (with_statement s n x).session texts (n + 1 + length texts) entries go ≡ made s [] n (record { statement = x; texts = texts } ∷ entries) go
 made-entry s n x texts entries go h =
     let lines = ap (λ (ls : List SessionLine). ls ++ lines_in (n + 1 + length texts) entries) (with_texts-statement s.lines n x texts h)
-        ∙ append_assoc s.lines (statement_lines n x (text_of_lines texts)) (lines_in (n + 1 + length texts) entries) in
+    ∙ append_assoc s.lines (statement_lines n x (text_of_lines texts)) (lines_in (n + 1 + length texts) entries) in
     let keys = append_assoc s.keys (statement_keys x) (keys_in entries) in
     λ i. record s { lines = lines i; keys = keys i; go = go }
 

@@ -1,5 +1,5 @@
 -- What is printed is read as the same session.
-use Rattle.std.proofs.Common.{◌≡◌, ◌∙◌, ℕ, suc, ◌<◌, ◌≤◌, ◌+◌, ◌%◌, ◌^◌, ◌==◌, ◌&&◌, Bool, true, false, cond, Ok, inl, inr, ◌⊎◌, List, [], ◌∷◌, ◌++◌, map, length, append_assoc, append-nil, refl, sym, ap, subst, arith, nat_le}
+use Rattle.std.proofs.Common.{◌≡◌, ◌∙◌, ℕ, ◌<◌, ◌≤◌, ◌+◌, ◌%◌, ◌^◌, ◌==◌, ◌&&◌, Bool, true, false, cond, Ok, inl, inr, ◌⊎◌, List, [], ◌∷◌, ◌++◌, map, length, append_assoc, append-nil, refl, sym, ap, subst, arith, nat_le}
 use Rattle.std.specs.Prelude.{codes, decimal, IsTrue}
 use Rattle.std.specs.List.{AllByRecursion, list_all}
 use Rattle.std.proofs.lemmas.Bool.{and_parts}
@@ -7,23 +7,22 @@ use Rattle.std.proofs.lemmas.Bool.Decides.{nat_tests}
 use Rattle.std.proofs.lemmas.List.{length-map}
 use Rattle.hex.specs.Hex.{encode_lower}
 use Rattle.hex.proofs.HexLemmas.{decode_of-encode_lower}
-use Rattle.text_reader.specs.Fields.{IsNumberLine}
 use Rattle.text_reader.specs.Lines.{lines_of, text_of_lines}
 use Rattle.text_reader.proofs.NumberLemmas.{decimal_number}
-use Rattle.text_reader.proofs.PlainLines.{IsPlain, lines_of_text_of_lines}
+use Rattle.text_reader.proofs.PlainLines.{lines_of_text_of_lines}
 use Rattle.session_text.specs.Canonical.{IsFileText, IsLawful, IsLawfulForm, IsLawfulKey, IsLawfulMachine, canonical, canonical_lines, form_text, keys_text, lines_text, machine_text, numbered, statement_text, with_numbers}
-use Rattle.session_text.specs.Entries.{AreEntries, Entry, IsEntry, MayHave, colon_line, is_in_range, keys_in, lines_in, names_fit, statement_lines}
+use Rattle.session_text.specs.Entries.{AreEntries, Entry, IsEntry, colon_line, is_in_range, keys_in, lines_in, statement_lines}
 use Rattle.session_text.specs.Ranges.{highest_task, is_name, is_period, is_priority, is_stack, is_step, is_store_size, is_task, most_names, most_steps, most_words}
-use Rattle.session_text.specs.SessionForm.{AreBareLines, AreClockLines, AreCodeLines, AreOptions, AreSessionLines, IsBare, IsCodeLine}
+use Rattle.session_text.specs.SessionForm.{AreBareLines, AreClockLines, AreCodeLines, AreOptions, AreSessionLines, IsCodeLine}
 use Rattle.session_text.specs.SessionOfText.{session_of}
-use Rattle.session_text.specs.Statements.{Statement, File as FileOf, Task as TaskOf, At as AtOf, Key as KeyOf, Go as GoOf, States, is_text}
+use Rattle.session_text.specs.Statements.{File as FileOf, Task as TaskOf, At as AtOf, Key as KeyOf, is_text}
 use Rattle.session_text.specs.declared.sessions.Session.{Session}
 use Rattle.session_text.specs.declared.sessions.SessionLine.{SessionLine}
 use Rattle.session_text.specs.declared.sessions.LineForm.{LineForm}
 use Rattle.session_text.specs.declared.sessions.LineForm.TheVariants.{Code, File, Task}
 use Rattle.session_text.proofs.Complete.{complete}
 use Rattle.session_text.proofs.SessionTexts.{plain_session, plain_texts}
-use Rattle.session_text.proofs.StatementTexts.{IsBytes-one, IsPrintable, are_fields-names, is_field-name, states_text}
+use Rattle.session_text.proofs.StatementTexts.{IsBytes-one, are_fields-names, is_field-name, states_text}
 
 -- ---- ranges are below 10 ^ 10
 

@@ -1,5 +1,5 @@
 -- The lines of a session are those of a text.
-use Rattle.std.proofs.Common.{◌≡◌, ◌≢◌, ℕ, Bool, true, false, ◌≤◌, ◌+◌, ◌==◌, ◌&&◌, ◌||◌, ◌⊎◌, inl, inr, Ok, List, [], ◌∷◌, ◌++◌, map, refl, sym, subst, arith}
+use Rattle.std.proofs.Common.{◌≡◌, ℕ, Bool, true, false, ◌≤◌, ◌+◌, ◌==◌, ◌||◌, ◌⊎◌, inl, inr, Ok, List, [], ◌∷◌, ◌++◌, map, refl, sym, subst, arith}
 use Rattle.std.specs.Prelude.{codes, decimal, IsTrue}
 use Rattle.std.specs.Char.{is_ascii_graphic}
 use Rattle.std.specs.List.{AllByRecursion, list_all}
@@ -11,13 +11,14 @@ use Rattle.hex.proofs.HexLemmas.{decode_of-ok}
 use Rattle.text_reader.specs.Fields.{IsNumberLine}
 use Rattle.text_reader.specs.Lines.{text_of_lines}
 use Rattle.text_reader.proofs.PlainLines.{IsPlain, IsPlainByte, lines_of_text_of_lines, plain_append, plain_decimal, plain_digits, plain_hex_digit, plain_literal}
-use Rattle.session_text.specs.Entries.{AreEntries, Entry, IsEntry, MayHave, colon_line}
+use Rattle.session_text.specs.Entries.{AreEntries, Entry, MayHave, colon_line}
 use Rattle.session_text.specs.FirstError.{BeginSession}
-use Rattle.session_text.specs.SessionForm.{AreBareLines, AreClockLines, AreCodeLines, AreOptions, AreSessionLines, IsCodeLine}
+use Rattle.session_text.specs.SessionForm.{AreBareLines, AreClockLines, AreCodeLines, AreOptions, AreSessionLines}
 use Rattle.session_text.specs.Statements.{Statement, File, Task, At, Key, Go, States, is_field, is_text, names_text}
 use Rattle.session_text.specs.declared.sessions.Session.{Session}
 use Rattle.session_text.specs.declared.sessions.SessionLine.{SessionLine}
 use Rattle.session_text.proofs.Advances.{BeginLines}
+use Rattle.session_text.proofs.Parts.{all-append}
 
 -- ---- bytes
 
@@ -79,11 +80,6 @@ plain_states (Key k byte) line h =
     subst IsPlain (sym h.4) (plain_append (codes "KEY ") (h.0 ++ (codes " " ++ h.1)) (plain_literal (codes "KEY ") refl) (plain_append h.0 (codes " " ++ h.1) (plain_digits h.0 h.2.numeral.1) byte_plain))
 plain_states (Go steps) line h = plain_number (codes "GO ") line steps (plain_literal (codes "GO ") refl) h
 
--- lines, one after another
-all-append : (a b : List (List ℕ)) → AllByRecursion IsPlain a → AllByRecursion IsPlain b → AllByRecursion IsPlain (a ++ b)
-all-append [] b h k = k
-all-append (l ∷ ls) b h k = (h.0, all-append ls b h.1 k)
-
 -- lines of text
 plain_colon_lines : (texts : List (List ℕ)) → AllByRecursion (λ text. IsTrue (is_text text)) texts → AllByRecursion IsPlain (map colon_line texts)
 plain_colon_lines [] h = tt
@@ -105,7 +101,7 @@ plain_entries version [] lines h = let none : lines ≡ [] = h in subst (AllByRe
 plain_entries version (entry ∷ entries) lines h =
     let e = h.3 in
     let front = subst (AllByRecursion IsPlain) (sym e.all) (plain_states entry.statement e.head e.states, plain_may entry.statement entry.texts e.texts_are) in
-    subst (AllByRecursion IsPlain) (sym h.2) (all-append h.0 h.1 front (plain_entries version entries h.1 h.4))
+    subst (AllByRecursion IsPlain) (sym h.2) (all-append IsPlain h.0 h.1 front (plain_entries version entries h.1 h.4))
 
 -- lines of code
 plain_codes : (n : ℕ) (code : List SessionLine) (lines : List (List ℕ)) → AreCodeLines n code lines → AllByRecursion IsPlain lines
@@ -126,7 +122,7 @@ plain_machine : (s : Session) (lines : List (List ℕ)) → AreBareLines s lines
 plain_machine s lines (inl h) = subst (AllByRecursion IsPlain) (sym h.all) (plain_literal (codes "BARE") refl, plain_codes 4 s.lines h.code h.code_lines)
 plain_machine s lines (inr h) =
     let tick = plain_number (codes "TICK ") h.tick s.period (plain_literal (codes "TICK ") refl) h.tick_line in
-    let rest = all-append h.options h.rest (plain_options s.resident s.debug h.options h.option_lines) (plain_entries s.version h.entries h.rest h.entry_lines) in
+    let rest = all-append IsPlain h.options h.rest (plain_options s.resident s.debug h.options h.option_lines) (plain_entries s.version h.entries h.rest h.entry_lines) in
     subst (AllByRecursion IsPlain) (sym h.all) (tick, rest)
 
 -- no line of a session has an LF or a CR
@@ -136,7 +132,7 @@ plain_session s lines h =
     let version : IsPlain h.version = subst IsPlain (sym h.version_line.1) (plain_append (codes "TRIPOS ") (decimal s.version) (plain_literal (codes "TRIPOS ") refl) (plain_decimal s.version (omega arith))) in
     let store = plain_number (codes "STORE ") h.store s.store (plain_literal (codes "STORE ") refl) h.store_line in
     let go = plain_number (codes "GO ") h.go s.go (plain_literal (codes "GO ") refl) h.go_line in
-    subst (AllByRecursion IsPlain) (sym h.all) (version, (store, all-append h.machine (h.go ∷ []) (plain_machine s h.machine h.machine_lines) (go, tt)))
+    subst (AllByRecursion IsPlain) (sym h.all) (version, (store, all-append IsPlain h.machine (h.go ∷ []) (plain_machine s h.machine h.machine_lines) (go, tt)))
 
 -- lines that begin a session's lines begin a text of it
 pub begin_text : (front : List (List ℕ)) → BeginLines front → BeginSession front

@@ -1,5 +1,5 @@
 -- What is read is a session's text.
-use Rattle.std.proofs.Common.{◌≡◌, ◌≢◌, ◌∙◌, ℕ, ◌<◌, ◌≤◌, ◌+◌, Bool, true, false, cond, Option, Some, None, Result, Ok, Err, inl, inr, List, [], ◌∷◌, ◌++◌, map, length, refl, sym, ap, subst, arith, append_assoc, append-nil, nat_le}
+use Rattle.std.proofs.Common.{◌≡◌, ◌∙◌, ℕ, ◌<◌, ◌≤◌, ◌+◌, Bool, true, false, cond, Option, Some, None, Result, Ok, Err, inl, inr, List, [], ◌∷◌, ◌++◌, map, length, refl, sym, ap, subst, arith, append_assoc, append-nil}
 use Rattle.std.specs.Prelude.{codes, IsTrue}
 use Rattle.std.specs.Option.{ok_or, option_map_or}
 use Rattle.std.specs.Str.{bytes_eq}
@@ -12,18 +12,16 @@ use Rattle.text_reader.specs.Lines.{lines_of}
 use Rattle.text_reader.specs.Refusal.{Refusal, refusal}
 use Rattle.text_reader.specs.Steps.{◌>>=◌}
 use Rattle.text_reader.proofs.FieldLemmas.{after_word-ok, number_line-ok}
-use Rattle.text_reader.proofs.StepLemmas.{Ok-same, bind-ok, cond-cases, guard-ok, ok_or-ok}
-use Rattle.session_text.specs.Entries.{Entry, MayHave, colon_line, is_in_range, lines_in, names_fit}
+use Rattle.text_reader.proofs.StepLemmas.{Ok-same, bind-ok, guard-ok, ok_or-ok}
+use Rattle.session_text.specs.Entries.{MayHave, colon_line, is_in_range, lines_in, names_fit}
 use Rattle.session_text.specs.FileText.{with_text}
 use Rattle.session_text.specs.Ranges.{is_period, is_step, is_store_size}
-use Rattle.session_text.specs.SessionForm.{AreClockLines, AreOptions, AreSessionLines, IsSession, IsVersionLine, code_line}
-use Rattle.session_text.specs.SessionOfText.{bytes_or_refusal, bytes_step, code_step, debug_step, draft, ended, entry_step, file_step, first_draft, go_step, machine_step, place_after, read_on, resident_step, session_lines, session_of, statement_step, step, store_step, text_step, tick_step, version_line, version_step, with_statement}
+use Rattle.session_text.specs.SessionForm.{AreOptions, AreSessionLines, IsSession, IsVersionLine, code_line}
+use Rattle.session_text.specs.SessionOfText.{bytes_or_refusal, bytes_step, draft, entry_step, file_step, first_draft, go_step, read_on, session_lines, session_of, statement_step, step, store_step, tick_step, version_line, version_step, with_statement}
 use Rattle.session_text.specs.Statements.{Statement, File, Task, At, Key, Go, States, is_text, statement_of}
 use Rattle.session_text.specs.declared.drafts.Draft.{Draft}
-use Rattle.session_text.specs.declared.drafts.Place.{Place}
-use Rattle.session_text.specs.declared.drafts.Place.TheVariants.{Version as AtVersion, Store as AtStore, Machine as AtMachine, Code as AtCode, Resident as AtResident, Debug as AtDebug, Entry as AtEntry, Text as AtText, End as AtEnd}
+use Rattle.session_text.specs.declared.drafts.Place.TheVariants.{Store as AtStore, Machine as AtMachine, Code as AtCode, Resident as AtResident, Debug as AtDebug, Entry as AtEntry, Text as AtText, End as AtEnd}
 use Rattle.session_text.specs.declared.sessions.Session.{Session}
-use Rattle.session_text.specs.declared.sessions.SessionLine.{SessionLine}
 use Rattle.session_text.proofs.Parts.{HasCode, HasRest, entry_place, made, made-entry, with_texts}
 use Rattle.session_text.proofs.StatementLines.{statement_of-again, statement_of-ok}
 

@@ -1,5 +1,5 @@
 -- What a line states, from its bytes and back.
-use Rattle.std.proofs.Common.{◌≡◌, ◌∙◌, ℕ, ◌+◌, ◌≤◌, ◌&&◌, Bool, true, false, cond, Option, Some, None, Result, Ok, Err, List, [], ◌∷◌, ◌++◌, length, nat_le, refl, sym, ap, subst, arith}
+use Rattle.std.proofs.Common.{◌≡◌, ◌∙◌, ℕ, ◌≤◌, true, cond, Option, Some, None, Result, Ok, Err, List, [], ◌∷◌, ◌++◌, length, nat_le, refl, sym, ap, subst, arith}
 use Rattle.std.specs.Prelude.{codes, option_and_then, option_map}
 use Rattle.std.specs.List.{list_all}
 use Rattle.std.specs.Option.{option_map_or}
@@ -10,7 +10,7 @@ use Rattle.hex.specs.Hex.{decode_of}
 use Rattle.hex.specs.declared.error.FromHexError.{FromHexError}
 use Rattle.text_reader.specs.Fields.{after_word}
 use Rattle.text_reader.specs.Numbers.{IsNumber, number_of}
-use Rattle.text_reader.proofs.FieldLemmas.{after_word-again, after_word-ok}
+use Rattle.text_reader.proofs.FieldLemmas.{after_word-ok}
 use Rattle.text_reader.proofs.NumberLemmas.{number_in-again, number_in-ok}
 use Rattle.session_text.specs.Entries.{names_fit}
 use Rattle.session_text.specs.Ranges.{most_names}

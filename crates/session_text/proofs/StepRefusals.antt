@@ -1,25 +1,23 @@
 -- Why a step is refused.
-use Rattle.std.proofs.Common.{◌≡◌, ◌≢◌, ◌∙◌, ℕ, ◌<◌, ◌≤◌, ◌+◌, ◌^◌, ◌⊎◌, inl, inr, Bool, true, false, cond, ◌&&◌, ◌==◌, Option, Some, None, Result, Ok, Err, List, [], ◌∷◌, ◌++◌, map, length, refl, sym, ap, subst, arith, nat_eq, nat_le}
+use Rattle.std.proofs.Common.{◌≡◌, ◌∙◌, ℕ, ◌<◌, ◌≤◌, ◌^◌, inl, inr, Bool, true, false, cond, ◌&&◌, ◌==◌, Option, Some, None, Result, Ok, Err, List, [], ◌∷◌, ◌++◌, map, length, refl, sym, ap, subst, arith, nat_le}
 use Rattle.std.specs.Prelude.{codes, decimal}
-use Rattle.std.specs.List.{list_all, starts_with}
+use Rattle.std.specs.List.{list_all}
 use Rattle.std.specs.Option.{ok_or, option_map_or}
 use Rattle.std.specs.Str.{bytes_eq}
 use Rattle.std.proofs.lemmas.List.{length-map}
-use Rattle.std.proofs.lemmas.Slice.Eq.{bytes_eq-Decides}
 use Rattle.hex.specs.Hex.{decode_of}
 use Rattle.hex.specs.declared.error.FromHexError.{FromHexError}
 use Rattle.text_reader.specs.Fields.{IsNumberLine, after_word, number_line}
 use Rattle.text_reader.specs.Refusal.{Refusal, refusal}
-use Rattle.text_reader.specs.Steps.{◌>>=◌}
-use Rattle.text_reader.proofs.FieldLemmas.{after_word-ok, number_line-again, number_line-err, number_line-ok}
+use Rattle.text_reader.proofs.FieldLemmas.{number_line-again, number_line-err}
 use Rattle.text_reader.proofs.NumberLemmas.{decimal_number}
-use Rattle.text_reader.proofs.StepLemmas.{Err-same, Ok-same, bind-err, bind-ok, cond-cases, guard-err, ok_or-err, ok_or-ok}
+use Rattle.text_reader.proofs.StepLemmas.{Err-same, bind-err, cond-cases, guard-err, ok_or-err, ok_or-ok}
 use Rattle.session_text.specs.Canonical.{statement_text}
 use Rattle.session_text.specs.Entries.{is_in_range, names_fit}
 use Rattle.session_text.specs.FileText.{with_text}
 use Rattle.session_text.specs.Forms.{Form, Store, Tick, File, Task, At, Key, Go, Fixed, HasForm, HasStatement, form_of}
-use Rattle.session_text.specs.Ranges.{is_name, is_period, is_step, is_store_size, is_task, most_names}
-use Rattle.session_text.specs.SessionOfText.{bytes_or_refusal, bytes_step, code_step, debug_step, draft, entry_step, file_step, go_step, machine_step, resident_step, statement_step, step, store_step, text_step, tick_step, version_line, version_step, with_statement}
+use Rattle.session_text.specs.Ranges.{is_name, is_period, is_step, is_store_size, most_names}
+use Rattle.session_text.specs.SessionOfText.{bytes_or_refusal, bytes_step, draft, entry_step, file_step, go_step, statement_step, step, store_step, tick_step, version_line, with_statement}
 use Rattle.session_text.specs.SessionForm.{code_line}
 use Rattle.session_text.specs.Statements.{Statement, File as FileOf, Task as TaskOf, At as AtOf, Key as KeyOf, Go as GoOf, States, is_field, is_text, statement_of}
 use Rattle.session_text.specs.declared.drafts.Draft.{Draft}
@@ -28,7 +26,7 @@ use Rattle.session_text.specs.declared.drafts.Place.TheVariants.{Version as AtVe
 use Rattle.session_text.specs.declared.sessions.Session.{Session}
 use Rattle.session_text.proofs.Advances.{least_store}
 use Rattle.session_text.proofs.Complete.{MayHaveEntry, enters, statement_again}
-use Rattle.session_text.proofs.Sound.{entry_step-ok, version_ok}
+use Rattle.session_text.proofs.Sound.{entry_step-ok}
 use Rattle.session_text.proofs.StatementLines.{statement_of-again, statement_of-ok}
 use Rattle.session_text.proofs.StatementTexts.{IsBytes-one, IsPrintable, states_text}
 use Rattle.session_text.proofs.LineRefusals.{Accepts, IsWrong, Stands, StandsAsEntry, shape, stands_entry, wrong_colon, wrong_form}

@@ -2,14 +2,13 @@
 use Rattle.std.proofs.Common.{◌≡◌, ◌∙◌, ℕ, zero, suc, ◌≤◌, ◌+◌, ◌↔◌, inl, inr, Result, Ok, Err, List, [], ◌∷◌, ◌++◌, length, refl, sym, ap, subst, arith, append-nil}
 use Rattle.text_reader.specs.Lines.{lines_of}
 use Rattle.text_reader.specs.Refusal.{Refusal, refusal}
-use Rattle.text_reader.specs.Steps.{◌>>=◌}
 use Rattle.session_text.specs.FirstError.{BeginSession, EndsEarly, HasNoForm, IsFirstError, IsOutOfRange, MayStand}
-use Rattle.session_text.specs.Forms.{Form, HasForm}
+use Rattle.session_text.specs.Forms.{Form}
 use Rattle.session_text.specs.SessionForm.{IsSession}
 use Rattle.session_text.specs.SessionOfText.{ended, first_draft, read_on, session_of, step}
 use Rattle.session_text.specs.declared.drafts.Draft.{Draft}
 use Rattle.session_text.specs.declared.sessions.Session.{Session}
-use Rattle.session_text.proofs.Advances.{EndsAt, StopsAt, advance, advance-begin, advance-more, begin_lines-advance, ended_err, read_on-behind, read_on-err}
+use Rattle.session_text.proofs.Advances.{StopsAt, advance, advance-begin, advance-more, begin_lines-advance, ended_err, read_on-behind, read_on-err}
 use Rattle.session_text.proofs.Complete.{complete}
 use Rattle.session_text.proofs.LineRefusals.{Accepts, IsWrong}
 use Rattle.session_text.proofs.SessionTexts.{begin_lines, begin_text}

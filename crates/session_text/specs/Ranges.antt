@@ -1,5 +1,5 @@
 -- The ranges of the numbers and names of a session.
-use Rattle.std.specs.Prelude.{ℕ, ◌≡◌, ◌%◌, ◌≤◌, ◌&&◌, ◌==◌, if◌then◌else◌, Bool, List, length, nat_le}
+use Rattle.std.specs.Prelude.{ℕ, ◌%◌, ◌≤◌, ◌&&◌, ◌==◌, if◌then◌else◌, Bool, List, length, nat_le}
 use Rattle.std.specs.List.{list_all}
 use Rattle.ram_disc.specs.Name.{is_name_byte}
 

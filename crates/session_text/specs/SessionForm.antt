@@ -1,5 +1,5 @@
 -- What a session's text is, line by line.
-use Rattle.std.specs.Prelude.{ℕ, ◌≡◌, ◌+◌, ◌≤◌, ◌⊎◌, Bool, true, false, IsTrue, List, [], ◌∷◌, ◌++◌, length, Ok, codes, decimal}
+use Rattle.std.specs.Prelude.{ℕ, ◌≡◌, ◌+◌, ◌⊎◌, Bool, true, false, IsTrue, List, [], ◌∷◌, ◌++◌, length, Ok, codes, decimal}
 use Rattle.hex.specs.Hex.{decode_of}
 use Rattle.text_reader.specs.Lines.{lines_of}
 use Rattle.text_reader.specs.Fields.{IsNumberLine}

@@ -7,7 +7,9 @@ ghost use Rattle.session_text.specs.SessionOfText.{bytes_or_refusal, bytes_step,
 ghost use Rattle.session_text.specs.Statements.{At, File, Go, HasFewNames, Key, Task, fields};
 
 use crate::fields::is_text;
-use crate::ranges::{is_period, is_priority, is_stack, is_step, is_store_size, is_task, name_of, names_of};
+use crate::ranges::{
+    is_period, is_priority, is_stack, is_step, is_store_size, is_task, name_of, names_of,
+};
 use crate::statements::{Statement, statement_of};
 use crate::{Bytes, Keys, LineForm, Lines, Session, SessionEnd, SessionLine};
 use hex::FromHexError;
@@ -226,7 +228,12 @@ impl Draft {
     {
         match statement {
             Statement::File(name) => self.add_file(alloc, n, name),
-            Statement::Task { id, pri, stack, names } => self.add_task(n, id, pri, stack, names),
+            Statement::Task {
+                id,
+                pri,
+                stack,
+                names,
+            } => self.add_task(n, id, pri, stack, names),
             Statement::At { step, text } => self.add_typed(n, step, text),
             Statement::Key { step, byte } => self.add_key(n, step, byte),
             Statement::Go(steps) => self.add_steps(n, steps),

@@ -129,7 +129,17 @@ fn form_with_text(form: LineForm, text: &[u8]) -> Result<LineForm, SessionEnd>
             Ok(LineForm::File { name, bytes })
         }
         LineForm::Code(bytes) => Ok(LineForm::Code(bytes)),
-        LineForm::Task { id, pri, stack, names } => Ok(LineForm::Task { id, pri, stack, names }),
+        LineForm::Task {
+            id,
+            pri,
+            stack,
+            names,
+        } => Ok(LineForm::Task {
+            id,
+            pri,
+            stack,
+            names,
+        }),
     }
 }
 

@@ -21,9 +21,15 @@ pub enum Statement<'a> {
         names: &'a [u8],
     },
     /// Text that is typed at a step.
-    At { step: u64, text: &'a [u8] },
+    At {
+        step: u64,
+        text: &'a [u8],
+    },
     /// A key that is typed at a step.
-    Key { step: u64, byte: u8 },
+    Key {
+        step: u64,
+        byte: u8,
+    },
     /// The most steps.
     Go(u64),
 }
@@ -72,7 +78,12 @@ fn task_of(most: usize, text: &[u8]) -> Option<Statement<'_>>
     let (id, rest) = number_field(text)?;
     let (pri, rest) = number_field(rest)?;
     let (stack, names) = number_field(rest)?;
-    are_fields(most, names).then_some(Statement::Task { id, pri, stack, names })
+    are_fields(most, names).then_some(Statement::Task {
+        id,
+        pri,
+        stack,
+        names,
+    })
 }
 
 fn at_of(text: &[u8]) -> Option<Statement<'_>>

@@ -10,6 +10,5 @@ returns-clause-range c = range_law
 pub returns-clause-end : goal.returns-clause-end
 returns-clause-end c = end_law
 
-
 pub returns-clause-codes : goal.returns-clause-codes
 returns-clause-codes c = code_bound

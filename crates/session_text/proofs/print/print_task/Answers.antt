@@ -1,5 +1,4 @@
 use Rattle.std.proofs.Common.{ℕ, List, [], ◌∷◌, sym, subst}
-use Rattle.std.specs.Prelude.{codes}
 use Rattle.std.proofs.lemmas.Result.{err_from_is_err_and}
 use Rattle.tp_io.proofs.FailedPrint.{Prints-cut}
 use Rattle.tp_io.proofs.AppendedTexts.{Appends-nothing, Prints-then}
