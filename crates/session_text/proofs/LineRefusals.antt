@@ -1,103 +1,247 @@
 -- Lines that are refused, and why.
-use Rattle.std.proofs.Common.{◌≡◌, ◌≢◌, ◌∙◌, ℕ, ◌⊎◌, inl, inr, Bool, true, false, cond, Some, Result, Ok, Err, List, ◌++◌, refl, sym, ap}
+use Rattle.std.proofs.Common.{◌≡◌, ◌∙◌, ℕ, ◌⊎◌, inl, inr, Bool, true, cond, Option, Some, None, Ok, Err, List, [], ◌++◌, refl, sym, ap, subst, nat_eq}
 use Rattle.std.specs.Prelude.{codes}
+use Rattle.std.specs.List.{starts_with}
+use Rattle.std.specs.Option.{option_map_or}
 use Rattle.std.specs.Str.{bytes_eq}
 use Rattle.std.proofs.lemmas.Slice.Eq.{bytes_eq-Decides}
-use Rattle.hex.specs.Hex.{decode_of}
-use Rattle.hex.specs.declared.error.FromHexError.{FromHexError}
-use Rattle.text_reader.specs.Fields.{IsNumberLine, after_word, number_line}
+use Rattle.text_reader.specs.Fields.{after_word, number_line}
 use Rattle.text_reader.specs.Refusal.{Refusal, refusal}
-use Rattle.text_reader.proofs.FieldLemmas.{IsOutOfRange, after_word-again, number_after-again, number_line-err, number_line-ok}
-use Rattle.text_reader.proofs.StepLemmas.{Err-same, Ok-same, bind-err}
-use Rattle.session_text.specs.Forms.{Form, Code, Go, HasForm}
-use Rattle.session_text.specs.SessionForm.{IsVersionLine, is_period}
-use Rattle.session_text.specs.SessionOfText.{bare_line, bytes_or_refusal, tick_line, version_line}
-use Rattle.session_text.proofs.Complete.{version_again}
+use Rattle.text_reader.proofs.FieldLemmas.{after_word-ok, number_line-ok}
+use Rattle.text_reader.proofs.StepLemmas.{bind-ok, cond-cases}
+use Rattle.session_text.specs.Forms.{Form, Store, Tick, File, Task, At, Key, Go, Fixed, HasForm, HasStatement, form_of}
+use Rattle.session_text.specs.Ranges.{is_period, is_step, is_store_size}
+use Rattle.session_text.specs.SessionOfText.{bytes_step, draft, entry_step, file_step, go_step, step, version_line}
+use Rattle.session_text.specs.Statements.{Statement, File as FileOf, Task as TaskOf, At as AtOf, Key as KeyOf, Go as GoOf, States}
+use Rattle.session_text.specs.declared.drafts.Draft.{Draft}
+use Rattle.session_text.specs.declared.drafts.Place.{Place}
+use Rattle.session_text.specs.declared.drafts.Place.TheVariants.{Version as AtVersion, Store as AtStore, Machine as AtMachine, Code as AtCode, Resident as AtResident, Debug as AtDebug, Entry as AtEntry, Text as AtText, End as AtEnd}
+use Rattle.session_text.specs.declared.sessions.Session.{Session}
+use Rattle.session_text.proofs.Complete.{MayHaveEntry}
+use Rattle.session_text.proofs.Sound.{entry_step-ok, version_ok}
 
--- Where these forms may stand, line n has none of them, or one with a number out of its range.
-abbrev pub IsWrong : (Form → Type 0) → ℕ → List ℕ → Refusal → Type 0
-IsWrong forms n line d =
-    ((refusal n 1 ≡ d) × ((form : Form) → forms form → ¬ HasForm form line))
-    ⊎ ((refusal n 2 ≡ d) × ((form : Form) × forms form × HasForm form line))
+-- ---- the kinds of lines
 
-abbrev no_value : Refusal → Result ℕ Refusal
-no_value d = Err d
+-- a form without its numbers: a count of names, or the bytes of a line
+abbrev pub shape : Form → Form
+shape Store = Store
+shape Tick = Tick
+shape File = File
+shape (Task count) = Task 0
+shape At = At
+shape Key = Key
+shape Go = Go
+shape (Fixed bytes) = Fixed []
 
--- ---- numbers
+-- the shape that a line's first bytes tell
+abbrev kind : List ℕ → Form
+kind line =
+    cond (starts_with nat_eq line (codes "STORE ")) Store
+    (cond (starts_with nat_eq line (codes "TICK ")) Tick
+    (cond (starts_with nat_eq line (codes "FILE ")) File
+    (cond (starts_with nat_eq line (codes "TASK ")) (Task 0)
+    (cond (starts_with nat_eq line (codes "AT ")) At
+    (cond (starts_with nat_eq line (codes "KEY ")) Key
+    (cond (starts_with nat_eq line (codes "GO ")) Go
+    (Fixed [])))))))
 
--- a word and a number have one number
-pub number-unique : (word : List ℕ) (v w : ℕ) (line : List ℕ) → IsNumberLine word v line → IsNumberLine word w line → v ≡ w
-number-unique word v w line h k =
-    Ok-same {E = Refusal} v w (sym (number_after-again word 0 v line h) ∙ number_after-again word 0 w line k)
+kind-states : (x : Statement) (line : List ℕ) → States x line → kind line ≡ shape (form_of x)
+kind-states (FileOf name) line h = ap kind h.1
+kind-states (TaskOf id pri stack names) line h = ap kind h.8
+kind-states (AtOf k text) line h = ap kind h.3
+kind-states (KeyOf k byte) line h = ap kind h.4
+kind-states (GoOf steps) line h = ap kind h.1
 
--- ---- the first line
+kind-statement : (form : Form) (line : List ℕ) → HasStatement form line → kind line ≡ shape form
+kind-statement form line h = kind-states h.0 line h.1 ∙ ap shape h.2
 
-version_err_by : (one two : Bool) (d : Refusal) → cond {A = Result ℕ Refusal} one (Ok 1) (cond two (Ok 2) (Err (refusal 1 1))) ≡ Err d → refusal 1 1 ≡ d
-version_err_by true two d e = cc e
-version_err_by false true d e = cc e
-version_err_by false false d e = Err-same {A = ℕ} (refusal 1 1) d e
+-- a line with a number or a name has the kind of its form
+kind-form : (form : Form) (line : List ℕ) → HasForm form line → (form ≡ Fixed line) ⊎ (kind line ≡ shape form)
+kind-form Store line h = inr (ap kind h.1.1)
+kind-form Tick line h = inr (ap kind h.1.1)
+kind-form File line h = inr (kind-statement File line h)
+kind-form (Task count) line h = inr (kind-statement (Task count) line h)
+kind-form At line h = inr (kind-statement At line h)
+kind-form Key line h = inr (kind-statement Key line h)
+kind-form Go line h = inr (kind-statement Go line h)
+kind-form (Fixed bytes) line h = inl (ap (λ (l : List ℕ). Fixed l) (sym h))
 
-pub version_err : (line : List ℕ) (d : Refusal) → version_line line ≡ Err d → (refusal 1 1 ≡ d) × ((v : ℕ) → ¬ IsVersionLine v line)
-version_err line d e = (
-  version_err_by (bytes_eq line (codes "TRIPOS 1")) (bytes_eq line (codes "TRIPOS 2")) d e,
-  λ v h. let again : no_value d ≡ Ok v = sym e ∙ version_again v line h in cc again,
-)
+-- a line of no such kind has a form of its own
+fixed_form : (form : Form) (line : List ℕ) → HasForm form line → shape form ≡ Fixed [] → form ≡ Fixed line
+fixed_form Store line h e = cc e
+fixed_form Tick line h e = cc e
+fixed_form File line h e = cc e
+fixed_form (Task count) line h e = cc e
+fixed_form At line h e = cc e
+fixed_form Key line h e = cc e
+fixed_form Go line h e = cc e
+fixed_form (Fixed bytes) line h e = ap (λ (l : List ℕ). Fixed l) (sym h)
 
--- ---- the third line
+-- ---- which forms stand where
 
--- a `TICK` line with a period in its range
-pub record IsTick (line : List ℕ) : Type 0 where
-  pub period : ℕ
-  pub number : IsNumberLine (codes "TICK ") period line
-  pub in_range : is_period period ≡ true
+-- lines of this shape state something
+abbrev pub StandsAsEntry : Form → Type 0
+StandsAsEntry Store = ⊥
+StandsAsEntry Tick = ⊥
+StandsAsEntry (Fixed bytes) = ⊥
+StandsAsEntry _ = Unit {0}
 
-abbrev pub TickEnds : List ℕ → Refusal → Type 0
-TickEnds line d =
-    ((refusal 3 1 ≡ d) × ((v : ℕ) → ¬ IsNumberLine (codes "TICK ") v line))
-    ⊎ (((refusal 3 2 ≡ d) × IsOutOfRange (codes "TICK ") is_period line) ⊎ ((refusal 3 0 ≡ d) × IsTick line))
+-- lines of this shape may stand at the place
+abbrev pub Stands : Place → Form → Type 0
+Stands AtStore Store = Unit {0}
+Stands AtMachine Tick = Unit {0}
+Stands AtCode Go = Unit {0}
+Stands AtResident form = StandsAsEntry form
+Stands AtDebug form = StandsAsEntry form
+Stands AtEntry form = StandsAsEntry form
+Stands AtText form = StandsAsEntry form
+Stands _ _ = ⊥
 
-abbrev not_served : ℕ → Result (Unit {0}) Refusal
-not_served period = Err (refusal 3 0)
+pub stands_entry : (p : Place) (form : Form) → MayHaveEntry p → Stands p form → StandsAsEntry form
+stands_entry AtResident form a h = h
+stands_entry AtDebug form a h = h
+stands_entry AtEntry form a h = h
+stands_entry AtText form a h = h
+stands_entry AtVersion form a h = absurd a
+stands_entry AtStore form a h = absurd a
+stands_entry AtMachine form a h = absurd a
+stands_entry AtCode form a h = absurd a
+stands_entry AtEnd form a h = absurd a
 
-tick_err : (line : List ℕ) (d : Refusal) → tick_line {A = Unit {0}} line ≡ Err d → TickEnds line d
-tick_err line d e =
-    elim (bind-err (number_line (codes "TICK ") is_period 3 line) not_served d e) [
-      | inl p ↦ elim (number_line-err (codes "TICK ") is_period 3 line d p) [ inl q ↦ inl q | inr q ↦ inr (inl q) ]
+entry_stands : (p : Place) (form : Form) → MayHaveEntry p → StandsAsEntry form → Stands p form
+entry_stands AtResident form a h = h
+entry_stands AtDebug form a h = h
+entry_stands AtEntry form a h = h
+entry_stands AtText form a h = h
+entry_stands AtVersion form a h = absurd a
+entry_stands AtStore form a h = absurd a
+entry_stands AtMachine form a h = absurd a
+entry_stands AtCode form a h = absurd a
+entry_stands AtEnd form a h = absurd a
+
+-- no line without a number or a name is among them
+not_fixed : (p : Place) → ¬ Stands p (Fixed [])
+not_fixed AtResident h = h
+not_fixed AtDebug h = h
+not_fixed AtEntry h = h
+not_fixed AtText h = h
+not_fixed AtVersion h = h
+not_fixed AtStore h = h
+not_fixed AtMachine h = h
+not_fixed AtCode h = h
+not_fixed AtEnd h = h
+
+abbrev IsKindAt : Place → List ℕ → Type 0
+IsKindAt p line = (kind line ≡ Fixed []) ⊎ Stands p (kind line)
+
+-- a statement stands at each place for entries
+stands_statement : (p : Place) (x : Statement) → MayHaveEntry p → Stands p (shape (form_of x))
+stands_statement p (FileOf name) a = entry_stands p File a tt
+stands_statement p (TaskOf id pri stack names) a = entry_stands p (Task 0) a tt
+stands_statement p (AtOf k text) a = entry_stands p At a tt
+stands_statement p (KeyOf k byte) a = entry_stands p Key a tt
+stands_statement p (GoOf steps) a = entry_stands p Go a tt
+
+-- an accepted entry
+entry_kind : (p : Place) (s : Session) (n : ℕ) (line : List ℕ) (e : Draft) → MayHaveEntry p → entry_step s n line ≡ Ok e → IsKindAt p line
+entry_kind p s n line e a h =
+    let x = entry_step-ok s n line e h in
+    inr (subst (Stands p) (sym (kind-states x.statement line x.states)) (stands_statement p x.statement a))
+
+word_kind : (p : Place) (line word : List ℕ) → kind word ≡ Fixed [] → bytes_eq line word ≡ true → IsKindAt p line
+word_kind p line word k t = inl (ap kind ((bytes_eq-Decides line word).0 t) ∙ k)
+
+number_kind : (p : Place) (word : List ℕ) (k : Form) (test : ℕ → Bool) (n v : ℕ) (line : List ℕ) → ((digits : List ℕ) → kind (word ++ digits) ≡ k) → Stands p k → number_line word test n line ≡ Ok v → IsKindAt p line
+number_kind p word k test n v line is stands h =
+    let g = number_line-ok word test n line v h in
+    inr (subst (Stands p) (sym (ap kind g.0.1 ∙ is g.0.0)) stands)
+
+colon_kind : (p : Place) (line rest : List ℕ) → after_word (codes ":") line ≡ Some rest → IsKindAt p line
+colon_kind p line rest w = inl (ap kind (after_word-ok (codes ":") line rest w))
+
+code_kind : (s : Session) (n : ℕ) (line : List ℕ) (e : Draft) (o : Option (List ℕ)) → after_word (codes ":") line ≡ o → option_map_or (bytes_step s n) o (go_step s n line) ≡ Ok e → IsKindAt AtCode line
+code_kind s n line e None w h =
+    let b = bind-ok (number_line (codes "GO ") is_step n line) (λ go. Ok (draft AtEnd (record s { go = go }))) e h in
+    number_kind AtCode (codes "GO ") Go is_step n b.0 line (λ digits. refl) tt b.1
+code_kind s n line e (Some digits) w h = colon_kind AtCode line digits w
+
+text_kind : (s : Session) (n : ℕ) (line : List ℕ) (e : Draft) (o : Option (List ℕ)) → after_word (codes ":") line ≡ o → option_map_or (file_step s n) o (entry_step s n line) ≡ Ok e → IsKindAt AtText line
+text_kind s n line e None w h = entry_kind AtText s n line e tt h
+text_kind s n line e (Some text) w h = colon_kind AtText line text w
+
+-- an accepted line is of a kind that may stand there
+accepted_kind : (p : Place) (s : Session) (n : ℕ) (line : List ℕ) (e : Draft) → step (draft p s) n line ≡ Ok e → IsKindAt p line
+unfolding step
+accepted_kind AtVersion s n line e h =
+    let b = bind-ok (version_line n line) (λ version. Ok (draft AtStore (record s { version = version }))) e h in
+    inl (ap kind (version_ok n line b.0 b.1).1)
+accepted_kind AtStore s n line e h =
+    let b = bind-ok (number_line (codes "STORE ") (is_store_size s.version) n line) (λ store. Ok (draft AtMachine (record s { store = store }))) e h in
+    number_kind AtStore (codes "STORE ") Store (is_store_size s.version) n b.0 line (λ digits. refl) tt b.1
+accepted_kind AtMachine s n line e h =
+    elim (cond-cases (bytes_eq line (codes "BARE")) _ _ _ h) [
+      | inl p ↦ word_kind AtMachine line (codes "BARE") refl p.0
       | inr p ↦
-          let n = number_line-ok (codes "TICK ") is_period 3 line p.0 p.1 in
-          inr (inr (Err-same {A = Unit {0}} (refusal 3 0) d p.2, record { period = p.0; number = n.0; in_range = n.1 }))
+          let b = bind-ok (number_line (codes "TICK ") is_period n line) (λ period. Ok (draft AtResident (record s { period = period }))) e p.1 in
+          number_kind AtMachine (codes "TICK ") Tick is_period n b.0 line (λ digits. refl) tt b.1
+    ]
+accepted_kind AtCode s n line e h = code_kind s n line e (after_word (codes ":") line) refl h
+accepted_kind AtResident s n line e h =
+    elim (cond-cases (bytes_eq line (codes "RESIDENT")) _ _ _ h) [
+      | inl p ↦ word_kind AtResident line (codes "RESIDENT") refl p.0
+      | inr p ↦ entry_kind AtResident s n line e tt p.1
+    ]
+accepted_kind AtDebug s n line e h =
+    elim (cond-cases (bytes_eq line (codes "DEBUG")) _ _ _ h) [
+      | inl p ↦ word_kind AtDebug line (codes "DEBUG") refl p.0
+      | inr p ↦ entry_kind AtDebug s n line e tt p.1
+    ]
+accepted_kind AtEntry s n line e h = entry_kind AtEntry s n line e tt h
+accepted_kind AtText s n line e h = text_kind s n line e (after_word (codes ":") line) refl h
+accepted_kind AtEnd s n line e h = cc h
+
+-- so a form that has an accepted line has that line alone, or stands there
+accepted_form : (p : Place) (s : Session) (n : ℕ) (form : Form) (line : List ℕ) (e : Draft) → HasForm form line → step (draft p s) n line ≡ Ok e → (form ≡ Fixed line) ⊎ Stands p (shape form)
+accepted_form p s n form line e has h =
+    elim (kind-form form line has) [
+      | inl fixed ↦ inl fixed
+      | inr is ↦
+          elim (accepted_kind p s n line e h) [
+            | inl other ↦ inl (fixed_form form line has (sym is ∙ other))
+            | inr stands ↦ inr (subst (Stands p) is stands)
+          ]
     ]
 
-bare_err_by : (line : List ℕ) (b : Bool) (d : Refusal) → bytes_eq line (codes "BARE") ≡ b → cond {A = Result (Unit {0}) Refusal} b (Ok tt) (tick_line line) ≡ Err d
-    → (line ≢ codes "BARE") × TickEnds line d
-bare_err_by line true d t e = cc e
-bare_err_by line false d t e =
-    (λ same. let yes : bytes_eq line (codes "BARE") ≡ true = (bytes_eq-Decides line (codes "BARE")).1 same in cc (sym t ∙ yes), tick_err line d e)
+-- ---- why a line is refused
 
-pub bare_err : (line : List ℕ) (d : Refusal) → bare_line line ≡ Err d → (line ≢ codes "BARE") × TickEnds line d
-bare_err line d e = bare_err_by line (bytes_eq line (codes "BARE")) d refl e
+-- some line of the form is accepted
+abbrev pub Accepts : Draft → ℕ → Form → Type 0
+Accepts d n form = (line : List ℕ) × HasForm form line × (e : Draft) × (step d n line ≡ Ok e)
 
--- ---- a line of code
+-- no form of which some line is accepted has the line, or one has it but for its numbers and names
+abbrev pub IsWrong : Draft → ℕ → List ℕ → Refusal → Type 0
+IsWrong d n line r =
+    ((refusal n 1 ≡ r) × ((form : Form) → Accepts d n form → ¬ HasForm form line))
+    ⊎ ((refusal n 2 ≡ r) × ((form : Form) × Accepts d n form × HasForm form line))
 
-bytes_err_by : (n : ℕ) (r : Result (List ℕ) FromHexError) (d : Refusal) → bytes_or_refusal n r ≡ Err d → (refusal n 1 ≡ d) × ((bytes : List ℕ) → r ≢ Ok bytes)
-bytes_err_by n (Ok bytes) d e = cc e
-bytes_err_by n (Err x) d e = (Err-same {A = List ℕ} (refusal n 1) d e, λ bytes h. cc h)
+-- a line that has none of the forms that stand there
+module _ (p : Place) (s : Session) (n : ℕ) (line : List ℕ) (r : Refusal) (refused : step (draft p s) n line ≡ Err r) where
+  pub wrong_form : refusal n 1 ≡ r → ((form : Form) → Stands p (shape form) → Accepts (draft p s) n form → ¬ HasForm form line) → IsWrong (draft p s) n line r
+  wrong_form code lacks = inl (
+    code,
+    λ form accepts has. elim (accepted_form p s n form accepts.0 accepts.2 accepts.1 accepts.3) [
+      | inl fixed ↦
+          let same : line ≡ accepts.0 = subst (λ (f : Form). HasForm f line) fixed has in
+          cc (sym refused ∙ ap (step (draft p s) n) same ∙ accepts.3)
+      | inr stands ↦ lacks form stands accepts has
+    ],
+  )
 
--- a line that begins with a colon, whose digits give no bytes
-pub code_line_err : (n : ℕ) (line digits : List ℕ) (d : Refusal) → line ≡ codes ":" ++ digits → bytes_or_refusal n (decode_of digits) ≡ Err d
-    → (refusal n 1 ≡ d) × ((form : Form) → (form ≡ Code) ⊎ (form ≡ Go) → ¬ HasForm form line)
-code_line_err n line digits d w e =
-    let b = bytes_err_by n (decode_of digits) d e in (
-      b.0,
-      λ form one has. elim one [
-        | inl code ↦
-            let h = rw code at has in
-            let same : Some h.0 ≡ Some digits = sym (after_word-again (codes ":") h.0) ∙ ap (after_word (codes ":")) (sym h.2 ∙ w) ∙ after_word-again (codes ":") digits in
-            let digits_same : h.0 ≡ digits = cc in
-            b.1 h.1 (ap decode_of (sym digits_same) ∙ h.3)
-        | inr go ↦
-            let h = rw go at has in
-            let clash : codes "GO " ++ h.1.0 ≡ codes ":" ++ digits = sym h.1.1 ∙ w in
-            cc clash
-      ],
-    )
+  -- a line that begins with a colon has none
+  pub wrong_colon : (rest : List ℕ) → after_word (codes ":") line ≡ Some rest → refusal n 1 ≡ r → IsWrong (draft p s) n line r
+  wrong_colon rest w code =
+      let fixed : kind line ≡ Fixed [] = ap kind (after_word-ok (codes ":") line rest w) in
+      wrong_form code (λ form stands accepts has. elim (kind-form form line has) [
+        | inl same ↦ not_fixed p (subst (λ (f : Form). Stands p (shape f)) same stands)
+        | inr is ↦ not_fixed p (subst (Stands p) (sym is ∙ fixed) stands)
+      ])

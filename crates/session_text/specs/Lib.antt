@@ -1,5 +1,11 @@
 pub mod Canonical
+pub mod Entries
+pub mod FileText
 pub mod FirstError
 pub mod Forms
+pub mod Front
+pub mod Ranges
+pub mod Seen
 pub mod SessionForm
 pub mod SessionOfText
+pub mod Statements

@@ -1,35 +1,19 @@
 -- What a session's text is, line by line.
-use Rattle.std.specs.Prelude.{ℕ, ◌≡◌, ◌+◌, ◌%◌, ◌≤◌, ◌&&◌, ◌==◌, if◌then◌else◌, Bool, true, false, IsTrue, List, [], ◌∷◌, ◌++◌, Ok, codes, decimal, nat_le}
+use Rattle.std.specs.Prelude.{ℕ, ◌≡◌, ◌+◌, ◌⊎◌, Bool, true, false, IsTrue, List, [], ◌∷◌, ◌++◌, length, Ok, codes, decimal}
 use Rattle.hex.specs.Hex.{decode_of}
 use Rattle.text_reader.specs.Lines.{lines_of}
 use Rattle.text_reader.specs.Fields.{IsNumberLine}
+use Rattle.session_text.specs.Entries.{Entry, AreEntries, keys_in, lines_in}
+use Rattle.session_text.specs.Ranges.{IsVersion, is_period, is_step, is_store_size}
 use Rattle.session_text.specs.declared.sessions.Session.{Session}
 use Rattle.session_text.specs.declared.sessions.SessionLine.{SessionLine}
 use Rattle.session_text.specs.declared.sessions.LineForm.TheVariants.{Code}
 
--- the versions are 1 and 2
-abbrev pub IsVersion : ℕ → Type 0
-IsVersion version = (1 ≤ version) × (version ≤ 2)
-
--- the most words of a store
-abbrev pub most_words : ℕ → ℕ
-most_words version = if version == 1 then 262144 else 4194304
-
--- the size of a store is even, and at least 1,024 words
-abbrev pub is_store_size : ℕ → ℕ → Bool
-is_store_size version words = nat_le 1024 words && nat_le words (most_words version) && (words % 2 == 0)
-
--- the steps from one tick of a clock to the next
-abbrev pub is_period : ℕ → Bool
-is_period steps = nat_le 1 steps && nat_le steps 1000000
-
--- the most steps of a session
-abbrev pub most_steps : ℕ
-most_steps = 4000000000
-
 -- the first line
 abbrev pub IsVersionLine : ℕ → List ℕ → Type 0
 IsVersionLine version line = IsVersion version × (line ≡ codes "TRIPOS " ++ decimal version)
+
+-- ---- a bare machine
 
 -- the session's line for the bytes of line n
 abbrev pub code_line : ℕ → List ℕ → SessionLine
@@ -55,20 +39,52 @@ pub record IsBare (s : Session) : Type 0 where
   pub debug : s.debug ≡ false
   pub keys : s.keys ≡ []
 
--- the lines of a session: its version, its store, `BARE`, its code and its `GO`
+-- its lines from the third on, but for the last: `BARE` and code
+pub record AreBareLines (s : Session) (lines : List (List ℕ)) : Type 0 where
+  pub code : List (List ℕ)
+  pub all : lines ≡ codes "BARE" ∷ code
+  pub code_lines : AreCodeLines 4 s.lines code
+  pub machine : IsBare s
+
+-- ---- a machine with a clock
+
+-- the lines that say whether there are residents, and a task that reports faults
+abbrev pub AreOptions : Bool → Bool → List (List ℕ) → Type 0
+AreOptions true true lines = lines ≡ codes "RESIDENT" ∷ codes "DEBUG" ∷ []
+AreOptions true false lines = lines ≡ codes "RESIDENT" ∷ []
+AreOptions false true lines = ⊥
+AreOptions false false lines = lines ≡ []
+
+-- its lines from the third on, but for the last: the period, the options and the entries
+pub record AreClockLines (s : Session) (lines : List (List ℕ)) : Type 0 where
+  pub tick : List ℕ
+  pub options : List (List ℕ)
+  pub rest : List (List ℕ)
+  pub entries : List Entry
+  pub all : lines ≡ tick ∷ (options ++ rest)
+  pub clock : s.bare ≡ false
+  pub tick_line : IsNumberLine (codes "TICK ") s.period tick
+  pub period : IsTrue (is_period s.period)
+  pub option_lines : AreOptions s.resident s.debug options
+  pub entry_lines : AreEntries s.version entries rest
+  pub lines_are : s.lines ≡ lines_in (4 + length options) entries
+  pub keys_are : s.keys ≡ keys_in entries
+
+-- ---- both
+
+-- the lines of a session: its version, its store, its machine and its `GO`
 pub record AreSessionLines (s : Session) (lines : List (List ℕ)) : Type 0 where
   pub version : List ℕ
   pub store : List ℕ
-  pub code : List (List ℕ)
+  pub machine : List (List ℕ)
   pub go : List ℕ
-  pub all : lines ≡ version ∷ store ∷ codes "BARE" ∷ (code ++ go ∷ [])
+  pub all : lines ≡ version ∷ store ∷ (machine ++ go ∷ [])
   pub version_line : IsVersionLine s.version version
   pub store_line : IsNumberLine (codes "STORE ") s.store store
   pub store_size : IsTrue (is_store_size s.version s.store)
-  pub code_lines : AreCodeLines 4 s.lines code
+  pub machine_lines : AreBareLines s machine ⊎ AreClockLines s machine
   pub go_line : IsNumberLine (codes "GO ") s.go go
-  pub steps : s.go ≤ most_steps
-  pub machine : IsBare s
+  pub steps : IsTrue (is_step s.go)
 
 -- the text is a text of the session
 abbrev pub IsSession : List ℕ → Session → Type 0

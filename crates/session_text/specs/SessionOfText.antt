@@ -1,104 +1,178 @@
 -- A session read line by line, or the first line in error.
-use Rattle.std.specs.Prelude.{ℕ, ◌≡◌, ◌+◌, true, false, if◌then◌else◌, List, [], ◌∷◌, length, Result, Ok, Err, codes, nat_le}
-use Rattle.std.specs.Option.{option_map_or}
+use Rattle.std.specs.Prelude.{ℕ, ◌≡◌, ◌+◌, true, false, if◌then◌else◌, List, [], ◌∷◌, ◌++◌, Result, Ok, Err, codes}
+use Rattle.std.specs.Option.{ok_or, option_map_or}
 use Rattle.std.specs.Str.{bytes_eq}
 use Rattle.hex.specs.Hex.{decode_of}
 use Rattle.hex.specs.declared.error.FromHexError.{FromHexError}
-use Rattle.text_reader.specs.Fields.{after_word, end_of_text, first_line, number_line}
+use Rattle.text_reader.specs.Fields.{after_word, number_line}
 use Rattle.text_reader.specs.Lines.{lines_of}
 use Rattle.text_reader.specs.Refusal.{Refusal, refusal}
 use Rattle.text_reader.specs.Steps.{◌>>=◌}
-use Rattle.session_text.specs.SessionForm.{code_line, is_period, is_store_size, most_steps}
+use Rattle.session_text.specs.Entries.{is_in_range, statement_keys, statement_lines}
+use Rattle.session_text.specs.FileText.{with_text}
+use Rattle.session_text.specs.Ranges.{is_period, is_step, is_store_size}
+use Rattle.session_text.specs.SessionForm.{code_line}
+use Rattle.session_text.specs.Statements.{Statement, File, Go, is_text, statement_of}
+use Rattle.session_text.specs.declared.drafts.Draft.{Draft}
+use Rattle.session_text.specs.declared.drafts.Place.{Place}
+use Rattle.session_text.specs.declared.drafts.Place.TheVariants.{Version as AtVersion, Store as AtStore, Machine as AtMachine, Code as AtCode, Resident as AtResident, Debug as AtDebug, Entry as AtEntry, Text as AtText, End as AtEnd}
 use Rattle.session_text.specs.declared.sessions.Session.{Session}
-use Rattle.session_text.specs.declared.sessions.SessionLine.{SessionLine}
 
--- the version, of line 1
-abbrev pub version_line : List ℕ → Result ℕ Refusal
-version_line line =
+-- a session as far as it was read, and what may come next
+abbrev pub draft : Place → Session → Draft
+draft place s = record { place = place; session = s }
+
+-- nothing was read
+abbrev pub first_draft : Draft
+first_draft = draft AtVersion (record {
+  version = 0;
+  store = 0;
+  period = 0;
+  bare = false;
+  resident = false;
+  debug = false;
+  lines = [];
+  keys = [];
+  go = 0;
+})
+
+-- ---- the first three lines
+
+-- the version
+abbrev pub version_line : ℕ → List ℕ → Result ℕ Refusal
+version_line n line =
     if bytes_eq line (codes "TRIPOS 1") then Ok 1 else
     if bytes_eq line (codes "TRIPOS 2") then Ok 2 else
-    Err (refusal 1 1)
+    Err (refusal n 1)
 
--- the size of the store, of line 2
-abbrev pub store_line : ℕ → List ℕ → Result ℕ Refusal
-store_line version line = number_line (codes "STORE ") (is_store_size version) 2 line
+abbrev pub version_step : Session → ℕ → List ℕ → Result Draft Refusal
+version_step s n line = do
+  version ← version_line n line
+  Ok (draft AtStore (record s { version = version }))
 
--- Until machines with a clock are served, a lawful `TICK` in line 3 has code 0.
-abbrev pub tick_line : {A : Type 0} → List ℕ → Result A Refusal
-tick_line line = do
-  period ← number_line (codes "TICK ") is_period 3 line
-  Err (refusal 3 0)
+-- the size of the store
+abbrev pub store_step : Session → ℕ → List ℕ → Result Draft Refusal
+store_step s n line = do
+  store ← number_line (codes "STORE ") (is_store_size s.version) n line
+  Ok (draft AtMachine (record s { store = store }))
 
--- line 3 says that the machine is bare; the one other form of it is a `TICK` line
-abbrev pub bare_line : List ℕ → Result Unit Refusal
-bare_line line = if bytes_eq line (codes "BARE") then Ok tt else tick_line line
+-- a clock with its period
+abbrev pub tick_step : Session → ℕ → List ℕ → Result Draft Refusal
+tick_step s n line = do
+  period ← number_line (codes "TICK ") is_period n line
+  Ok (draft AtResident (record s { period = period }))
+
+-- `BARE`, or a clock
+abbrev pub machine_step : Session → ℕ → List ℕ → Result Draft Refusal
+machine_step s n line =
+    if bytes_eq line (codes "BARE") then Ok (draft AtCode (record s { bare = true })) else tick_step s n line
+
+-- ---- a bare machine
+
+-- the steps
+abbrev pub go_step : Session → ℕ → List ℕ → Result Draft Refusal
+go_step s n line = do
+  go ← number_line (codes "GO ") is_step n line
+  Ok (draft AtEnd (record s { go = go }))
 
 -- the bytes that the digits of line n are, where they are an even number of hex digits
 abbrev pub bytes_or_refusal : ℕ → Result (List ℕ) FromHexError → Result (List ℕ) Refusal
 bytes_or_refusal n (Ok bytes) = Ok bytes
 bytes_or_refusal n (Err e) = Err (refusal n 1)
 
--- line n as a line of code, before the others of its kind
-abbrev pub with_code : ℕ → Result (List ℕ) FromHexError → Result (List SessionLine × List (List ℕ)) Refusal
-    → Result (List SessionLine × List (List ℕ)) Refusal
-with_code n digits others = do
-  bytes ← bytes_or_refusal n digits
-  more ← others
-  Ok (code_line n bytes ∷ more.0, more.1)
+-- bytes of the program, behind those of the lines before
+abbrev pub bytes_step : Session → ℕ → List ℕ → Result Draft Refusal
+bytes_step s n digits = do
+  bytes ← bytes_or_refusal n (decode_of digits)
+  Ok (draft AtCode (record s { lines = s.lines ++ code_line n bytes ∷ [] }))
 
--- the lines that begin with a colon, the first of them line n, and the lines after them
-abbrev pub code_lines : ℕ → List (List ℕ) → Result (List SessionLine × List (List ℕ)) Refusal
-code_lines n [] = Ok ([], [])
-code_lines n (line ∷ lines) =
-    option_map_or
-    (λ digits. with_code n (decode_of digits) (code_lines (n + 1) lines))
-    (after_word (codes ":") line)
-    (Ok ([], line ∷ lines))
+-- bytes, or the steps
+abbrev pub code_step : Session → ℕ → List ℕ → Result Draft Refusal
+code_step s n line = option_map_or (bytes_step s n) (after_word (codes ":") line) (go_step s n line)
 
--- the steps, of line n
-abbrev pub go_line : ℕ → List ℕ → Result ℕ Refusal
-go_line n line = number_line (codes "GO ") (λ go. nat_le go most_steps) n line
+-- ---- a machine with a clock
 
--- the version and the store, and the lines after those two
-unfoldable pub head_lines : List (List ℕ) → Result (ℕ × ℕ × List (List ℕ)) Refusal
-head_lines lines = do
-  first ← first_line 1 lines
-  version ← version_line first.0
-  second ← first_line 2 first.1
-  store ← store_line version second.0
-  Ok (version, store, second.1)
+-- text of a file may follow a `FILE` line, and nothing a `GO` line
+abbrev pub place_after : Statement → Place
+place_after (File name) = AtText
+place_after (Go steps) = AtEnd
+place_after _ = AtEntry
 
--- the code and the steps, of the lines from line 4 on
-unfoldable pub body_lines : List (List ℕ) → Result (List SessionLine × ℕ) Refusal
-body_lines lines = do
-  code ← code_lines 4 lines
-  last ← first_line (4 + length code.0) code.1
-  go ← go_line (4 + length code.0) last.0
-  end ← end_of_text (5 + length code.0) last.1
-  Ok (code.0, go)
+-- the steps of a session after a statement
+abbrev pub steps_after : ℕ → Statement → ℕ
+steps_after old (Go steps) = steps
+steps_after old _ = old
 
--- the session of a bare machine
-abbrev pub bare_session : ℕ → ℕ → List SessionLine → ℕ → Session
-bare_session version store code go = record {
-  version = version;
-  store = store;
-  period = 0;
-  bare = true;
-  resident = false;
-  debug = false;
-  lines = code;
-  keys = [];
-  go = go;
-}
+-- what line n states is put behind what the lines before it put there
+abbrev pub with_statement : Session → ℕ → Statement → Draft
+with_statement s n statement = draft (place_after statement) (record s {
+  lines = s.lines ++ statement_lines n statement [];
+  keys = s.keys ++ statement_keys statement;
+  go = steps_after s.go statement;
+})
+
+-- the same, where its numbers and names are in their ranges
+abbrev pub statement_step : Session → ℕ → Statement → Result Draft Refusal
+statement_step s n statement =
+    if is_in_range s.version statement then Ok (with_statement s n statement) else Err (refusal n 2)
+
+-- a statement
+abbrev pub entry_step : Session → ℕ → List ℕ → Result Draft Refusal
+entry_step s n line = do
+  statement ← ok_or (statement_of s.version line) (refusal n 1)
+  statement_step s n statement
+
+-- `DEBUG`, or a statement
+abbrev pub debug_step : Session → ℕ → List ℕ → Result Draft Refusal
+debug_step s n line =
+    if bytes_eq line (codes "DEBUG") then Ok (draft AtEntry (record s { debug = true })) else entry_step s n line
+
+-- `RESIDENT`, or a statement
+abbrev pub resident_step : Session → ℕ → List ℕ → Result Draft Refusal
+resident_step s n line =
+    if bytes_eq line (codes "RESIDENT") then Ok (draft AtDebug (record s { resident = true })) else entry_step s n line
+
+-- text goes to the last file
+abbrev pub file_step : Session → ℕ → List ℕ → Result Draft Refusal
+file_step s n text =
+    if is_text text then Ok (draft AtText (record s { lines = with_text s.lines text })) else Err (refusal n 1)
+
+-- text, or a statement
+abbrev pub text_step : Session → ℕ → List ℕ → Result Draft Refusal
+text_step s n line = option_map_or (file_step s n) (after_word (codes ":") line) (entry_step s n line)
+
+-- ---- all lines
+
+-- line n, by what may come there
+abbrev pub step_at : Place → Session → ℕ → List ℕ → Result Draft Refusal
+step_at AtVersion s n line = version_step s n line
+step_at AtStore s n line = store_step s n line
+step_at AtMachine s n line = machine_step s n line
+step_at AtCode s n line = code_step s n line
+step_at AtResident s n line = resident_step s n line
+step_at AtDebug s n line = debug_step s n line
+step_at AtEntry s n line = entry_step s n line
+step_at AtText s n line = text_step s n line
+step_at AtEnd s n line = Err (refusal n 1)
+
+unfoldable pub step : Draft → ℕ → List ℕ → Result Draft Refusal
+step d n line = step_at d.place d.session n line
+
+-- the session, once its `GO` was read; line n would be the next
+abbrev pub ended : Place → Session → ℕ → Result Session Refusal
+ended AtEnd s n = Ok s
+ended _ s n = Err (refusal n 3)
+
+-- the session, from line n on
+abbrev pub read_on : Draft → ℕ → List (List ℕ) → Result Session Refusal
+read_on d n [] = ended d.place d.session n
+read_on d n (line ∷ lines) = do
+  next ← step d n line
+  read_on next (n + 1) lines
 
 -- the session of all the lines
-unfoldable pub session_lines : List (List ℕ) → Result Session Refusal
-session_lines lines = do
-  head ← head_lines lines
-  third ← first_line 3 head.2
-  bare ← bare_line third.0
-  body ← body_lines third.1
-  Ok (bare_session head.0 head.1 body.0 body.1)
+abbrev pub session_lines : List (List ℕ) → Result Session Refusal
+session_lines lines = read_on first_draft 1 lines
 
 -- the session of a text
 abbrev pub session_of : List ℕ → Result Session Refusal

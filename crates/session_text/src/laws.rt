@@ -1,7 +1,7 @@
 // Laws of sessions and their texts.
 ghost use Rattle.std.specs.Prelude.{◌≡◌, ◌↔◌, ◌≤◌, ℕ, List, Ok};
-ghost use Rattle.session_text.specs.Canonical.{IsBareSession, canonical, with_numbers};
-ghost use Rattle.session_text.specs.FirstError.{EndsEarly, HasNoForm, IsClockLine, IsFirstError, IsOutOfRange};
+ghost use Rattle.session_text.specs.Canonical.{IsLawful, canonical, with_numbers};
+ghost use Rattle.session_text.specs.FirstError.{EndsEarly, HasNoForm, IsFirstError, IsOutOfRange};
 ghost use Rattle.session_text.specs.SessionForm.{IsSession};
 ghost use Rattle.session_text.specs.SessionOfText.{IsRefused, session_of};
 ghost use Rattle.session_text.specs.declared.sessions.Session.{Session};
@@ -15,18 +15,19 @@ pub fn session_law()
 
 /// A text is refused at its first line in error: some session has a text that begins with the lines before it, and none
 /// has one that begins with the lines up to it. The code is 1 exactly where no form that may stand there has the line's
-/// bytes, 2 where one has but for its number, and 0 where it says that the machine has a clock, which is not served yet.
-/// Code 3 comes exactly where all lines begin a session's text, and are none.
+/// bytes, and 2 where one has but for its numbers and names. Code 3 comes exactly where all lines begin a session's text,
+/// and are none.
 pub fn refusal_law()
     ensures form { (text : List ℕ) (n : ℕ) → IsRefused text n 1 ↔ IsFirstError text n HasNoForm }
     ensures range { (text : List ℕ) (n : ℕ) →
         IsRefused text n 2 ↔ IsFirstError text n IsOutOfRange }
     ensures end { (text : List ℕ) (n : ℕ) → IsRefused text n 3 ↔ EndsEarly text n }
-    ensures clock { (text : List ℕ) (n : ℕ) → IsRefused text n 0 ↔ IsFirstError text n IsClockLine }
-    ensures codes { (text : List ℕ) (n code : ℕ) → IsRefused text n code → code ≤ 3 }
+    ensures codes { (text : List ℕ) (n code : ℕ) →
+        IsRefused text n code → (1 ≤ code) × (code ≤ 3) }
 {}
 
-/// The canonical text of a bare session is read as the same session, with the numbers that its lines have there.
+/// The canonical text of a session whose fields are within the rules is read as the same session, with the numbers that
+/// its lines have there.
 pub fn printed_law()
-    ensures { (s : Session) → IsBareSession s → session_of (canonical s) ≡ Ok (with_numbers s) }
+    ensures { (s : Session) → IsLawful s → session_of (canonical s) ≡ Ok (with_numbers s) }
 {}

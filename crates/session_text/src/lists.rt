@@ -1,9 +1,12 @@
 // The lists in a session. Each is made from a vector and lent as a slice, and takes no memory.
-ghost use Rattle.std.specs.Prelude.{◌≡◌};
+ghost use Rattle.std.specs.Prelude.{◌≡◌, [], ◌∷◌, ◌++◌, Ok, OnErr, OnOk, map};
+ghost use Rattle.text_reader.specs.Answers.{Gives};
+ghost use Rattle.session_text.specs.FileText.{form_with_text, line_with_text, with_text};
 
-use crate::SessionLine;
+use crate::{LineForm, SessionEnd, SessionLine};
 use arrayvec::ArrayVec;
 use ram_disc::Name;
+use std::alloc::AllocFailed;
 use std::marker::Model;
 
 /// Bytes, seen as their list.
@@ -33,6 +36,16 @@ impl Bytes {
         ensures { result.now ≡ self.now }
     {
         self.list.as_slice()
+    }
+
+    /// A line of text behind the bytes, with an LF.
+    pub fn with_line(self, text: &[u8]) -> Result<Bytes, SessionEnd>
+        ensures { Gives (λ b. b) result (Ok (self ++ (text.now ++ 10 ∷ []))) }
+    {
+        let mut list = self.list;
+        list.extend_from_slice(text)?;
+        list.push(b'\n')?;
+        Ok(Bytes { list })
     }
 
     /// The bytes, without taking memory.
@@ -66,6 +79,24 @@ impl Lines {
         Lines { list: lines }
     }
 
+    /// Adds a line at the end.
+    pub fn push(&mut self, line: SessionLine) -> Result<(), AllocFailed<SessionLine>>
+        ensures ok { OnOk result (self.new ≡ self.old ++ line ∷ []) }
+        ensures err { OnErr result (self.new ≡ self.old) }
+    {
+        self.list.push(line)
+    }
+
+    /// Adds a line of text to the last file, if that is the last line.
+    pub fn add_text(&mut self, text: &[u8]) -> Result<(), SessionEnd>
+        ensures { Gives (λ _. self.new) result (Ok (with_text self.old text.now)) }
+    {
+        if let Some(last) = self.list.pop() {
+            self.list.push(line_with_text(last, text)?)?;
+        }
+        Ok(())
+    }
+
     /// The lines, lent.
     pub fn as_slice(&self) -> &[SessionLine]
         ensures { result.now ≡ self.now }
@@ -78,6 +109,37 @@ impl Lines {
         ensures { result.items ≡ self }
     {
         self.list
+    }
+}
+
+fn line_with_text(line: SessionLine, text: &[u8]) -> Result<SessionLine, SessionEnd>
+    ensures { Gives (λ l. l) result (Ok (line_with_text line text.now)) }
+{
+    let SessionLine { line, form } = line;
+    let form = form_with_text(form, text)?;
+    Ok(SessionLine { line, form })
+}
+
+fn form_with_text(form: LineForm, text: &[u8]) -> Result<LineForm, SessionEnd>
+    ensures { Gives (λ f. f) result (Ok (form_with_text form text.now)) }
+{
+    match form {
+        LineForm::File { name, bytes } => {
+            let bytes = bytes.with_line(text)?;
+            Ok(LineForm::File { name, bytes })
+        }
+        LineForm::Code(bytes) => Ok(LineForm::Code(bytes)),
+        LineForm::Task {
+            id,
+            pri,
+            stack,
+            names,
+        } => Ok(LineForm::Task {
+            id,
+            pri,
+            stack,
+            names,
+        }),
     }
 }
 
@@ -101,6 +163,24 @@ impl Keys {
         ensures { result ≡ keys.items }
     {
         Keys { list: keys }
+    }
+
+    /// Adds a key at the end.
+    pub fn push(&mut self, step: u64, byte: u8) -> Result<(), AllocFailed<(u64, u8)>>
+        ensures ok { OnOk result (self.new ≡ self.old ++ (step, byte) ∷ []) }
+        ensures err { OnErr result (self.new ≡ self.old) }
+    {
+        self.list.push((step, byte))
+    }
+
+    /// Adds the bytes of a text at the end, as keys that are due at one step.
+    pub fn add_text(&mut self, step: u64, text: &[u8]) -> Result<(), SessionEnd>
+        ensures { Gives (λ _. self.new) result (Ok (self.old ++ map (λ c. (step, c)) text.now)) }
+    {
+        for byte in text {
+            self.list.push((step, *byte))?;
+        }
+        Ok(())
     }
 
     /// The keys, lent.

@@ -1,27 +1,31 @@
 // Printing a session.
-ghost use Rattle.std.specs.Prelude.{◌≡◌, [], ◌∷◌, ◌++◌};
-ghost use Rattle.std.specs.List.{AllByRecursion};
+ghost use Rattle.std.specs.Prelude.{◌≡◌, [], ◌∷◌, ◌++◌, false, if◌then◌else◌, map};
 ghost use Rattle.hex.specs.Hex.{encode_lower};
 ghost use Rattle.tp_io.specs.Write.{Prints, HasCause};
-ghost use Rattle.text_reader.specs.Lines.{text_of_lines};
-ghost use Rattle.session_text.specs.Canonical.{IsBareSession, IsCode, canonical, code_text, form_text, go_text, head_text};
+ghost use Rattle.text_reader.specs.Lines.{lines_of, text_of_lines};
+ghost use Rattle.session_text.specs.Canonical.{canonical, form_text, head_text, keys_text, lines_text, machine_text, statement_text};
+ghost use Rattle.session_text.specs.Entries.{colon_line};
+ghost use Rattle.session_text.specs.Statements.{File, Go, Key, Task, names_text};
 
 use crate::{LineForm, Session, SessionLine};
+use ram_disc::Name;
+use text_reader::split_line;
 use tp_io::{Piece, Sink, SinkFault, write_pieces};
 
-/// Writes the canonical text of a bare session. It takes no memory. `SinkFault` comes only where the sink's count of
-/// faults rose; then a prefix of the text is written.
+/// Writes the canonical text of a session. It takes no memory. `SinkFault` comes only where the sink's count of faults
+/// rose; then a prefix of the text is written.
 pub fn print_session<K: Sink>(s: &Session, out: &mut K) -> Result<(), SinkFault>
-    requires { IsBareSession s.now }
     ensures text { Prints (K.holds out.old) (K.holds out.new) (canonical s.now) result }
     ensures cause { HasCause (K.faults out.old) (K.faults out.new) result }
 {
     print_head(s.version, s.store, out)?;
+    print_machine(s.bare, s.period, s.resident, s.debug, out)?;
     print_lines(s.lines.as_slice(), out)?;
+    print_keys(s.keys.as_slice(), out)?;
     print_go(s.go, out)
 }
 
-// Writes the first three lines.
+// Writes the first two lines.
 fn print_head<K: Sink>(version: u32, store: u32, out: &mut K) -> Result<(), SinkFault>
     ensures text { let text = text_of_lines (head_text version store) in
         Prints (K.holds out.old) (K.holds out.new) text result }
@@ -34,27 +38,68 @@ fn print_head<K: Sink>(version: u32, store: u32, out: &mut K) -> Result<(), Sink
             Piece::Decimal(u64::from(version)),
             Piece::Text(b"\nSTORE "),
             Piece::Decimal(u64::from(store)),
-            Piece::Text(b"\nBARE\n"),
+            Piece::Text(b"\n"),
         ],
     )
 }
 
-// Writes the last line.
-fn print_go<K: Sink>(go: u64, out: &mut K) -> Result<(), SinkFault>
-    ensures text { let text = text_of_lines (go_text go ∷ []) in
+// Writes the lines that say which machine it is.
+fn print_machine<K: Sink>(
+    bare: bool,
+    period: u32,
+    resident: bool,
+    debug: bool,
+    out: &mut K,
+) -> Result<(), SinkFault>
+    ensures text { let text = text_of_lines (machine_text bare period resident debug) in
+        Prints (K.holds out.old) (K.holds out.new) text result }
+    ensures cause { HasCause (K.faults out.old) (K.faults out.new) result }
+{
+    if bare {
+        write_pieces(out, &[Piece::Text(b"BARE\n")])
+    } else {
+        print_clock(period, resident, debug, out)
+    }
+}
+
+fn print_clock<K: Sink>(
+    period: u32,
+    resident: bool,
+    debug: bool,
+    out: &mut K,
+) -> Result<(), SinkFault>
+    ensures text { let text = text_of_lines (machine_text false period resident debug) in
         Prints (K.holds out.old) (K.holds out.new) text result }
     ensures cause { HasCause (K.faults out.old) (K.faults out.new) result }
 {
     write_pieces(
         out,
-        &[Piece::Text(b"GO "), Piece::Decimal(go), Piece::Text(b"\n")],
-    )
+        &[
+            Piece::Text(b"TICK "),
+            Piece::Decimal(u64::from(period)),
+            Piece::Text(b"\n"),
+        ],
+    )?;
+    print_option(resident, b"RESIDENT\n", out)?;
+    print_option(debug, b"DEBUG\n", out)
 }
 
-// Writes the lines of code.
+// Writes a line, where it is to be there.
+fn print_option<K: Sink>(shown: bool, line: &[u8], out: &mut K) -> Result<(), SinkFault>
+    ensures text { let text = if shown then line.now else [] in
+        Prints (K.holds out.old) (K.holds out.new) text result }
+    ensures cause { HasCause (K.faults out.old) (K.faults out.new) result }
+{
+    if shown {
+        write_pieces(out, &[Piece::Text(line)])
+    } else {
+        Ok(())
+    }
+}
+
+// Writes the lines of code, or of files and tasks.
 fn print_lines<K: Sink>(lines: &[SessionLine], out: &mut K) -> Result<(), SinkFault>
-    requires { AllByRecursion (λ line. IsCode line.form) lines.now }
-    ensures text { let text = text_of_lines (code_text lines.now) in
+    ensures text { let text = text_of_lines (lines_text lines.now) in
         Prints (K.holds out.old) (K.holds out.new) text result }
     ensures cause { HasCause (K.faults out.old) (K.faults out.new) result }
 {
@@ -64,21 +109,146 @@ fn print_lines<K: Sink>(lines: &[SessionLine], out: &mut K) -> Result<(), SinkFa
     Ok(())
 }
 
-// Writes a line of code.
+// Writes the lines of code, of a file or of a task.
 fn print_form<K: Sink>(form: &LineForm, out: &mut K) -> Result<(), SinkFault>
-    requires { IsCode form.now }
-    ensures text { let text = form_text form.now ++ 10 ∷ [] in
+    ensures text { let text = text_of_lines (form_text form.now) in
         Prints (K.holds out.old) (K.holds out.new) text result }
     ensures cause { HasCause (K.faults out.old) (K.faults out.new) result }
 {
     match form {
-        LineForm::Code(bytes) => {
-            write_pieces(out, &[Piece::Text(b":")])?;
-            print_hex(bytes.as_slice(), out)?;
-            write_pieces(out, &[Piece::Text(b"\n")])
-        }
-        LineForm::File { .. } | LineForm::Task { .. } => unreachable!(),
+        LineForm::Code(bytes) => print_code(bytes.as_slice(), out),
+        LineForm::File { name, bytes } => print_file(name, bytes.as_slice(), out),
+        LineForm::Task {
+            id,
+            pri,
+            stack,
+            names,
+        } => print_task(*id, *pri, *stack, names.as_slice(), out),
     }
+}
+
+// Writes a line of code.
+fn print_code<K: Sink>(bytes: &[u8], out: &mut K) -> Result<(), SinkFault>
+    ensures text { let text = 58 ∷ (encode_lower bytes.now ++ 10 ∷ []) in
+        Prints (K.holds out.old) (K.holds out.new) text result }
+    ensures cause { HasCause (K.faults out.old) (K.faults out.new) result }
+{
+    write_pieces(out, &[Piece::Text(b":")])?;
+    print_hex(bytes, out)?;
+    write_pieces(out, &[Piece::Text(b"\n")])
+}
+
+// Writes a file and its text.
+fn print_file<K: Sink>(name: &Name, bytes: &[u8], out: &mut K) -> Result<(), SinkFault>
+    ensures text { let text = text_of_lines (statement_text (File name.now) ∷ map colon_line (lines_of bytes.now)) in
+        Prints (K.holds out.old) (K.holds out.new) text result }
+    ensures cause { HasCause (K.faults out.old) (K.faults out.new) result }
+{
+    write_pieces(
+        out,
+        &[
+            Piece::Text(b"FILE "),
+            Piece::Text(name.bytes()),
+            Piece::Text(b"\n"),
+        ],
+    )?;
+    print_text(bytes, out)
+}
+
+// Writes the lines of a text, each behind a colon.
+fn print_text<K: Sink>(text: &[u8], out: &mut K) -> Result<(), SinkFault>
+    ensures text { let text = text_of_lines (map colon_line (lines_of text.now)) in
+        Prints (K.holds out.old) (K.holds out.new) text result }
+    ensures cause { HasCause (K.faults out.old) (K.faults out.new) result }
+{
+    let mut rest = text;
+    while let Some((line, others)) = split_line(rest) {
+        write_pieces(
+            out,
+            &[Piece::Text(b":"), Piece::Text(line), Piece::Text(b"\n")],
+        )?;
+        rest = others;
+    }
+    Ok(())
+}
+
+// Writes a task.
+fn print_task<K: Sink>(
+    id: u32,
+    pri: u32,
+    stack: u32,
+    names: &[Name],
+    out: &mut K,
+) -> Result<(), SinkFault>
+    ensures text { let text = text_of_lines (statement_text (Task id pri stack names.now) ∷ []) in
+        Prints (K.holds out.old) (K.holds out.new) text result }
+    ensures cause { HasCause (K.faults out.old) (K.faults out.new) result }
+{
+    write_pieces(
+        out,
+        &[
+            Piece::Text(b"TASK "),
+            Piece::Decimal(u64::from(id)),
+            Piece::Text(b" "),
+            Piece::Decimal(u64::from(pri)),
+            Piece::Text(b" "),
+            Piece::Decimal(u64::from(stack)),
+        ],
+    )?;
+    print_names(names, out)?;
+    write_pieces(out, &[Piece::Text(b"\n")])
+}
+
+// Writes names, each behind a blank.
+fn print_names<K: Sink>(names: &[Name], out: &mut K) -> Result<(), SinkFault>
+    ensures text { Prints (K.holds out.old) (K.holds out.new) (names_text names.now) result }
+    ensures cause { HasCause (K.faults out.old) (K.faults out.new) result }
+{
+    for name in names {
+        write_pieces(out, &[Piece::Text(b" "), Piece::Text(name.bytes())])?;
+    }
+    Ok(())
+}
+
+// Writes a line for each key.
+fn print_keys<K: Sink>(keys: &[(u64, u8)], out: &mut K) -> Result<(), SinkFault>
+    ensures text { let text = text_of_lines (keys_text keys.now) in
+        Prints (K.holds out.old) (K.holds out.new) text result }
+    ensures cause { HasCause (K.faults out.old) (K.faults out.new) result }
+{
+    for key in keys {
+        print_key(key.0, key.1, out)?;
+    }
+    Ok(())
+}
+
+fn print_key<K: Sink>(step: u64, byte: u8, out: &mut K) -> Result<(), SinkFault>
+    ensures text { let text = text_of_lines (statement_text (Key step byte) ∷ []) in
+        Prints (K.holds out.old) (K.holds out.new) text result }
+    ensures cause { HasCause (K.faults out.old) (K.faults out.new) result }
+{
+    write_pieces(
+        out,
+        &[
+            Piece::Text(b"KEY "),
+            Piece::Decimal(step),
+            Piece::Text(b" "),
+            Piece::Text(&hex_digits(byte)),
+            Piece::Text(b"\n"),
+        ],
+    )
+}
+
+// Writes the last line.
+fn print_go<K: Sink>(go: u64, out: &mut K) -> Result<(), SinkFault>
+    ensures text { let text = text_of_lines (statement_text (Go go) ∷ []) in
+        Prints (K.holds out.old) (K.holds out.new) text result }
+    ensures cause { HasCause (K.faults out.old) (K.faults out.new) result }
+{
+    write_pieces(
+        out,
+        &[Piece::Text(b"GO "), Piece::Decimal(go), Piece::Text(b"\n")],
+    )
 }
 
 // Writes bytes in hex, each as two digits.
@@ -97,7 +267,14 @@ fn print_byte<K: Sink>(byte: u8, out: &mut K) -> Result<(), SinkFault>
     ensures text { Prints (K.holds out.old) (K.holds out.new) (encode_lower (byte ∷ [])) result }
     ensures cause { HasCause (K.faults out.old) (K.faults out.new) result }
 {
+    write_pieces(out, &[Piece::Text(&hex_digits(byte))])
+}
+
+// A byte as two hex digits in lower case.
+fn hex_digits(byte: u8) -> [u8; 2]
+    ensures { result ≡ encode_lower (byte ∷ []) }
+{
     let mut digits = [0u8; 2];
     hex::encode_to_slice([byte], &mut digits).unwrap();
-    write_pieces(out, &[Piece::Text(&digits)])
+    digits
 }

@@ -3,7 +3,7 @@ use Rattle.std.specs.Prelude.{ℕ, ◌≡◌, List, [], ◌∷◌, ◌++◌, len
 use Rattle.std.specs.Str.{bytes_eq}
 use Rattle.std.specs.Io.KnownBytes.{Appends, Keeps}
 use Rattle.tp_io.specs.Write.{AppendsPrefix}
-use Rattle.text_reader.specs.Refusal.{Refusal}
+use Rattle.text_reader.specs.Refusal.{Refusal, refusal}
 use Rattle.hunk_text.specs.ModuleOfText.{module_of}
 use Rattle.hunk_text.specs.declared.modules.Module.{Module}
 use Rattle.cint_asm.specs.Assembly.{assembled}
@@ -67,6 +67,11 @@ abbrev pub session_answer : Command → Result Session Refusal → Answer
 session_answer command (Ok s) = booted_answer command s.go (boot s)
 session_answer command (Err r) = record { status = Refused; bytes = refused_text r }
 
+-- A machine with a clock is not served yet: its session is refused at the line of the clock, with a code of its own.
+abbrev pub served : Result Session Refusal → Result Session Refusal
+served (Ok s) = if s.bare then Ok s else Err (refusal 3 0)
+served (Err r) = Err r
+
 -- a text that is made of the input, or the refusal of the input
 abbrev pub made_answer : Result (List ℕ) Refusal → Answer
 made_answer (Ok text) = record { status = Done; bytes = text }
@@ -81,8 +86,8 @@ listed (Err r) = Err r
 abbrev pub text_answer : Command → List ℕ → Answer
 text_answer AsmCommand text = made_answer (assembled text)
 text_answer DisasmCommand text = made_answer (listed (module_of text))
-text_answer RunCommand text = session_answer RunCommand (session_of text)
-text_answer DumpCommand text = session_answer DumpCommand (session_of text)
+text_answer RunCommand text = session_answer RunCommand (served (session_of text))
+text_answer DumpCommand text = session_answer DumpCommand (served (session_of text))
 
 unfoldable pub input_answer : Command → List ℕ → Answer
 input_answer command input =

@@ -5,7 +5,7 @@ ghost use Rattle.tp_io.specs.Write.{Prints, HasCause};
 ghost use Rattle.session_text.specs.SessionOfText.{session_of};
 ghost use Rattle.tripos_machine.specs.Boot.{boot};
 ghost use Rattle.tripos_machine.specs.Run.{run};
-ghost use Rattle.tripos_run.specs.Answer.{Answers, booted_answer, run_answer, session_answer, status_of, words_text};
+ghost use Rattle.tripos_run.specs.Answer.{Answers, booted_answer, run_answer, served, session_answer, status_of, words_text};
 ghost use Rattle.tripos_run.specs.Cause.{HasFaultCause};
 ghost use Rattle.tripos_run.specs.Input.{IsMachineEnd, IsTextEnd};
 ghost use Rattle.tripos_run.specs.Texts.{closing_text};
@@ -31,13 +31,19 @@ pub fn answer_session_text<K: Sink>(
     out: &mut K,
 ) -> Status
     requires { length text.now < 2 ^ 32 }
-    ensures answer { Answers (session_answer command (session_of text.now))
+    ensures answer { Answers (session_answer command (served (session_of text.now)))
         (K.holds out.old) (K.holds out.new) result }
     ensures ends { IsTextEnd result }
     ensures cause { HasFaultCause Status.WriteFault (K.faults out.old) (K.faults out.new) result }
 {
     match read_session(alloc, text) {
-        Ok(session) => answer_session(alloc, command, &session, out),
+        Ok(session) => {
+            if session.bare {
+                answer_session(alloc, command, &session, out)
+            } else {
+                status_after(write_refused(out, 3, 0), Status::Refused)
+            }
+        }
         Err(SessionEnd::Bad { line, code }) => {
             status_after(write_refused(out, line, code), Status::Refused)
         }

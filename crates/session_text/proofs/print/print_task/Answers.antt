@@ -1,0 +1,27 @@
+use Rattle.std.proofs.Common.{ℕ, List, [], ◌∷◌, sym, subst}
+use Rattle.std.proofs.lemmas.Result.{err_from_is_err_and}
+use Rattle.tp_io.proofs.FailedPrint.{Prints-cut}
+use Rattle.tp_io.proofs.AppendedTexts.{Appends-nothing, Prints-then}
+use Rattle.tp_io.specs.Write.{Prints}
+use Rattle.session_text.proofs.PrintedTexts.{task_pieces}
+use Rattle.session_text.proofs.print.print_task.Goals as goal
+
+pub returns-in_err-write_pieces-clause-text : goal.returns-in_err-write_pieces-clause-text
+returns-in_err-write_pieces-clause-text g c =
+    let p = err_from_is_err_and c.from_residual.result c.from_residual.ensures.1 in
+    let P = λ (t : List ℕ). Prints (g.K.Sink.holds c.args.out.now) (g.K.Sink.holds c.write_pieces.new.out) t c.from_residual.result in
+    rw (← c.from.ensures, ← c.from-2.ensures, ← c.from-3.ensures)
+    (subst P (sym (task_pieces c.from.result c.from-2.result c.from-3.result c.args.names.now)) (Prints-cut _ _ _ [] _ _ _ p.0 p.1 (Appends-nothing _) c.in_err-write_pieces.ensures.text))
+
+pub returns-in_err-print_names-clause-text : goal.returns-in_err-print_names-clause-text
+returns-in_err-print_names-clause-text g c =
+    let p = err_from_is_err_and c.from_residual-in_err-print_names.result c.from_residual-in_err-print_names.ensures.1 in
+    let P = λ (t : List ℕ). Prints (g.K.Sink.holds c.args.out.now) (g.K.Sink.holds c.print_names.new.out) t c.from_residual-in_err-print_names.result in
+    rw (← c.from.ensures, ← c.from-2.ensures, ← c.from-3.ensures)
+    (subst P (sym (task_pieces c.from.result c.from-2.result c.from-3.result c.args.names.now)) (Prints-cut _ _ _ _ _ (10 ∷ []) _ p.0 p.1 c.in_ok-write_pieces.ensures.text c.in_err-print_names.ensures.text))
+
+pub returns-clause-text : goal.returns-clause-text
+returns-clause-text g c =
+    let P = λ (t : List ℕ). Prints (g.K.Sink.holds c.args.out.now) (g.K.Sink.holds c.write_pieces-2.new.out) t c.write_pieces-2.result in
+    rw (← c.from.ensures, ← c.from-2.ensures, ← c.from-3.ensures)
+    (subst P (sym (task_pieces c.from.result c.from-2.result c.from-3.result c.args.names.now)) (Prints-then _ _ _ _ _ _ c.in_ok-write_pieces.ensures.text (Prints-then _ _ _ _ (10 ∷ []) _ c.in_ok-print_names.ensures.text c.write_pieces-2.ensures.text)))
