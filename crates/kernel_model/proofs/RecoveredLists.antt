@@ -7,7 +7,7 @@ use Rattle.owned_words.specs.Owned.{Holds, Pairs}
 use Rattle.owned_words.proofs.OwnedWords.{Holds-left, Holds-right}
 use Rattle.packet_queue.specs.Queue.{no_queue}
 use Rattle.packet_queue.specs.QueueWords.{HeldQueue, queue_words}
-use Rattle.session_text.specs.SessionForm.{most_words}
+use Rattle.session_text.specs.Ranges.{most_words}
 use Rattle.task_block.specs.HeldTasks.{address_with}
 use Rattle.task_block.specs.TaskChain.{id_in, tasks_in}
 use Rattle.task_block.proofs.HeldTaskBlocks.{numbers}

@@ -6,7 +6,7 @@ use Rattle.getvec_chain.specs.Block.{block_end, used_block}
 use Rattle.getvec_chain.specs.Run.{need}
 use Rattle.getvec_chain.specs.Tiling.{Follow, holding, used_at}
 use Rattle.hunk_loader.specs.HeldModules.{LoadedModule}
-use Rattle.session_text.specs.SessionForm.{IsVersion, is_period, is_store_size}
+use Rattle.session_text.specs.Ranges.{IsVersion, is_period, is_store_size}
 use Rattle.kernel_model.specs.Lists.{Lists, has_task}
 
 -- the blocks follow one another from 200 up to the end word, with even sizes of 2 or more
