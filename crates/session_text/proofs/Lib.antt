@@ -6,6 +6,7 @@ pub mod FileTexts
 pub mod FrontLines
 pub mod HexByte
 pub mod Lawful
+pub mod LineNumbers
 pub mod LineRefusals
 pub mod NameLemmas
 pub mod Parts

@@ -4,6 +4,7 @@ pub mod FileText
 pub mod FirstError
 pub mod Forms
 pub mod Front
+pub mod Numbering
 pub mod Ranges
 pub mod Seen
 pub mod SessionForm

@@ -224,7 +224,8 @@ impl Draft {
 
     fn add(&mut self, alloc: Global, n: u32, statement: Statement<'_>) -> Result<(), SessionEnd>
         requires { HasFewNames (seen statement) }
-        ensures { Gives (λ _. self.new) result (statement_step self.old.session n (seen statement.entry)) }
+        ensures { Gives (λ _. self.new) result
+            (statement_step self.old.session n (seen statement.entry)) }
     {
         match statement {
             Statement::File(name) => self.add_file(alloc, n, name),
@@ -283,7 +284,8 @@ impl Draft {
     }
 
     fn add_typed(&mut self, n: u32, step: u64, text: &[u8]) -> Result<(), SessionEnd>
-        ensures { Gives (λ _. self.new) result (statement_step self.old.session n (At step text.now)) }
+        ensures { Gives (λ _. self.new) result
+            (statement_step self.old.session n (At step text.now)) }
     {
         if !is_step(step) {
             return Err(SessionEnd::Bad { line: n, code: 2 });

@@ -140,7 +140,8 @@ fn print_code<K: Sink>(bytes: &[u8], out: &mut K) -> Result<(), SinkFault>
 
 // Writes a file and its text.
 fn print_file<K: Sink>(name: &Name, bytes: &[u8], out: &mut K) -> Result<(), SinkFault>
-    ensures text { let text = text_of_lines (statement_text (File name.now) ∷ map colon_line (lines_of bytes.now)) in
+    ensures text { let lines = map colon_line (lines_of bytes.now) in
+        let text = text_of_lines (statement_text (File name.now) ∷ lines) in
         Prints (K.holds out.old) (K.holds out.new) text result }
     ensures cause { HasCause (K.faults out.old) (K.faults out.new) result }
 {

@@ -2,6 +2,7 @@
 ghost use Rattle.std.specs.Prelude.{◌≡◌, ◌^◌, ◌<◌, length, IfOk};
 ghost use Rattle.text_reader.specs.Answers.{Gives};
 ghost use Rattle.session_text.specs.Canonical.{IsLawful};
+ghost use Rattle.session_text.specs.Numbering.{IsNumbered};
 ghost use Rattle.session_text.specs.SessionOfText.{session_of};
 
 use crate::drafts::Draft;
@@ -17,8 +18,9 @@ pub fn read_session(alloc: Global, text: &[u8]) -> Result<Session, SessionEnd>
     requires { length text.now < 2 ^ 32 }
     ensures value { Gives (λ s. s) result (session_of text.now) }
 
-    // A session that was read can be printed.
+    // A session that was read can be printed, and its lines have the numbers of lines.
     ensures lawful { IfOk result IsLawful }
+    ensures numbered { IfOk result (λ s. IsNumbered s.bare s.lines) }
 {
     whole_session(alloc, text)
 }

@@ -41,7 +41,12 @@ fn reads_fronts(rt: HostRuntime) -> Result<(), Fail> {
     for (text, steps, end, lines) in [
         ("TRIPOS 1\nSTORE 1024\nBARE\nGO 1\nSTEP 1\nGO 2\n", 1, 30, 4),
         ("TRIPOS 1\r\nSTORE 1024\r\nBARE\r\nGO 20\r\n\r\n", 20, 35, 4),
-        ("TRIPOS 1\nSTORE 1024\nTICK 1\nFILE GO\n:GO 1\nGO 3", 3, 45, 6),
+        (
+            "TRIPOS 1\nSTORE 1024\nTICK 1\nFILE GO\n:GO 1\nGO 3",
+            3,
+            45,
+            6,
+        ),
     ] {
         let front = read_front(rt.alloc(), text.as_bytes())?;
         assert_eq!(rt; front.session.go, steps);
