@@ -1,3 +1,4 @@
+pub mod Chain
 pub mod Disc
 pub mod DiscCalls
 pub mod Name

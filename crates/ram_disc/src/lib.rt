@@ -2,5 +2,6 @@
 #![tactic(auto)]
 
 pub mod names;
+mod sectors;
 
 pub use names::Name;
