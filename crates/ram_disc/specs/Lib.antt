@@ -1,4 +1,5 @@
 pub mod Chain
+pub mod Contents
 pub mod Disc
 pub mod DiscCalls
 pub mod Name
