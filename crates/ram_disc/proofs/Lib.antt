@@ -1,3 +1,9 @@
 pub mod ChainLemmas
 pub mod ContentsLemmas
+pub mod FileLists
+pub mod KeptSlots
+pub mod KeptStreams
+pub mod NameOrder
 pub mod SectorLemmas
+pub mod SlotLemmas
+pub mod StreamLemmas

@@ -3,3 +3,4 @@ pub mod Contents
 pub mod Disc
 pub mod DiscCalls
 pub mod Name
+pub mod Slots

@@ -145,12 +145,15 @@ impl Contents {
         }
     }
 
-    /// The sector of a position of a slot. It costs a step for each sector before it.
+    /// The sector of a position of a slot, where it is in the file. It costs a step for each sector before it.
     pub(crate) fn sector_at(&self, slot: usize, position: u32) -> u16
-        requires slot { slot < most_files }
-        requires within { position < length (bytes_at self.now slot) }
-        ensures { result ≡ slice_index (chain_at self.now slot) (position / 512) }
+        requires { slot < most_files }
+        ensures { position < length (bytes_at self.now slot)
+            → result ≡ slice_index (chain_at self.now slot) (position / 512) }
     {
+        if position >= self.sizes[slot] {
+            return 0;
+        }
         self.sectors.nth(slot, (position / SECTOR_BYTES) as u16)
     }
 

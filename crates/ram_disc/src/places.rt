@@ -1,0 +1,59 @@
+// Where the streams of a disc stand.
+ghost use Rattle.std.specs.Prelude.{◌≡◌, Some, length, if◌then◌else◌, position, take};
+ghost use Rattle.std.specs.List.{list_any};
+ghost use Rattle.std.specs.Option.{is_none};
+ghost use Rattle.ram_disc.specs.Disc.{most_streams};
+ghost use Rattle.ram_disc.specs.Slots.{stands_on, writes_on};
+
+/// The number of streams. The last one is the shell's, those before it are the file handler's.
+pub(crate) const STREAMS: usize = 17;
+
+const SHELL: usize = 16;
+
+/// Where a stream stands: the slot of its file, the position in it, the sector of that position, where it is in the
+/// file, and whether the stream writes.
+#[derive(Clone, Copy, Debug)]
+pub(crate) struct Place {
+    pub(crate) slot: u8,
+    pub(crate) position: u32,
+    pub(crate) sector: u16,
+    pub(crate) writes: bool,
+}
+
+/// Whether a stream is open on a slot.
+pub(crate) fn is_open(streams: &[Option<Place>], slot: u8) -> bool
+    ensures { result ≡ list_any (stands_on slot) streams.now }
+{
+    streams
+        .iter()
+        .any(|place| matches!(place, Some(place) if place.slot == slot))
+}
+
+/// Whether a stream writes a slot.
+pub(crate) fn is_written(streams: &[Option<Place>], slot: u8) -> bool
+    ensures { result ≡ list_any (writes_on slot) streams.now }
+{
+    streams
+        .iter()
+        .any(|place| matches!(place, Some(place) if place.slot == slot && place.writes))
+}
+
+/// The stream that an opening takes, counted from 0: the shell's, or the lowest of the file handler's that is free.
+pub(crate) fn stream_to_open(streams: &[Option<Place>], shell: bool) -> Option<usize>
+    requires { length streams.now ≡ most_streams }
+    ensures { result ≡ (if shell then Some 16 else position is_none (take 16 streams.now)) }
+{
+    if shell {
+        Some(SHELL)
+    } else {
+        free_stream(streams)
+    }
+}
+
+/// The lowest of the file handler's streams that is free, counted from 0.
+pub(crate) fn free_stream(streams: &[Option<Place>]) -> Option<usize>
+    requires { length streams.now ≡ most_streams }
+    ensures { result ≡ position is_none (take 16 streams.now) }
+{
+    streams[..SHELL].iter().position(|place| place.is_none())
+}
