@@ -14,10 +14,10 @@ use Rattle.ram_disc.proofs.SlotLemmas.{files-bytes, get_or-files, length-files, 
 use Rattle.ram_disc.proofs.StreamLemmas.{any-none}
 use Rattle.ram_disc.proofs.ChainLemmas.{times-get_or}
 
-some-same : (p q : Place) → Some p ≡ Some q → p ≡ q
+pub some-same : (p q : Place) → Some p ≡ Some q → p ≡ q
 some-same p q e = cc
 
-none-some : (p : Place) → None ≡ Some p → ⊥
+pub none-some : (p : Place) → None ≡ Some p → ⊥
 none-some p e = cc
 
 -- a stream stands at a number of the disc

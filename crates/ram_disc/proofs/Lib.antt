@@ -1,3 +1,4 @@
+pub mod Calls
 pub mod ChainLemmas
 pub mod ContentsLemmas
 pub mod FileLists
@@ -7,3 +8,4 @@ pub mod NameOrder
 pub mod SectorLemmas
 pub mod SlotLemmas
 pub mod StreamLemmas
+pub mod ValidDisc

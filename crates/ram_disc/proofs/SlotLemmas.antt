@@ -1,10 +1,11 @@
 -- The slots of a disc, and the files in them.
 use Rattle.std.proofs.Common.{◌≡◌, ◌≢◌, ◌⊎◌, ℕ, zero, suc, ◌+◌, ◌-◌, ◌<◌, ◌≤◌, List, [], ◌∷◌, ◌++◌, length, map, get_or, set, take, drop, eqb, ◌&&◌, ◌||◌, Bool, true, false, Option, Some, None, refl, sym, ap, ◌∙◌, subst, arith, inl, inr}
-use Rattle.std.specs.List.{find, insert, list_any, remove}
+use Rattle.std.specs.List.{find, insert, list_any, range_with_len, remove}
 use Rattle.std.specs.Option.{option_map, unwrap_or}
 use Rattle.std.specs.Str.{bytes_eq}
 use Rattle.std.proofs.lemmas.Bool.{cases_eq, cases_lt}
-use Rattle.std.proofs.lemmas.List.{drop-map, ext_get_or, get_or-map, get_or-set_other, get_or-set_same, length-map, length-set, map-append, take-append-drop, take-map}
+use Rattle.std.proofs.lemmas.List.{drop-map, ext_get_or, get_or-map, get_or-set_other, get_or-set_same, length-map, length-set, map-append, map-id, take-append-drop, take-map}
+use Rattle.std.proofs.lemmas.List.FromFn.{map-range_with_len_more}
 use Rattle.linked_list.specs.Count.{hit, times}
 use Rattle.linked_list.proofs.Counts.{hit-other, hit-same, times-append}
 use Rattle.ram_disc.specs.Disc.{AreInOrder, Disc, File, bytes_of, file_named, has_file, has_name, is_before, most_files}
@@ -170,3 +171,8 @@ module _ (names bytes : List (List ℕ)) (used unused : List ℕ) (d : Disc) whe
   pub file_named-none : HasFiles → (name : List ℕ) (i : ℕ) → HasPlace names used name i → file_named d name ≡ None
   file_named-none h name i place =
       ap (find (has_name name)) h.files ∙ find-no_name name (file [] []) (files_in names bytes used) (no-name name i place)
+
+-- one slot more
+pub range-more : (n : ℕ) → range_with_len 0 (n + 1) ≡ range_with_len 0 n ++ n ∷ []
+range-more n =
+    sym (map-id (range_with_len 0 (n + 1))) ∙ map-range_with_len_more (λ x. x) 0 n n (omega arith) ∙ ap (λ xs. xs ++ n ∷ []) (map-id (range_with_len 0 n))

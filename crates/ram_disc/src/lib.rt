@@ -4,9 +4,11 @@
 mod contents;
 pub mod file_bytes;
 pub mod names;
-mod order;
+mod directory;
+pub mod discs;
 mod places;
 mod sectors;
 
+pub use discs::Disc;
 pub use file_bytes::FileBytes;
 pub use names::Name;

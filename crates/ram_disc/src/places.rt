@@ -1,9 +1,9 @@
 // Where the streams of a disc stand.
-ghost use Rattle.std.specs.Prelude.{◌≡◌, Some, length, if◌then◌else◌, position, take};
+ghost use Rattle.std.specs.Prelude.{◌≡◌, Some, true, length, if◌then◌else◌, position, take};
 ghost use Rattle.std.specs.List.{list_any};
 ghost use Rattle.std.specs.Option.{is_none};
 ghost use Rattle.ram_disc.specs.Disc.{most_streams};
-ghost use Rattle.ram_disc.specs.Slots.{stands_on, writes_on};
+ghost use Rattle.ram_disc.specs.Slots.{place_in, stands_on, writes_on};
 
 /// The number of streams. The last one is the shell's, those before it are the file handler's.
 pub(crate) const STREAMS: usize = 17;
@@ -56,4 +56,26 @@ pub(crate) fn free_stream(streams: &[Option<Place>]) -> Option<usize>
     ensures { result ≡ position is_none (take 16 streams.now) }
 {
     streams[..SHELL].iter().position(|place| place.is_none())
+}
+
+/// Where stream k stands, from 1, where it is open.
+pub(crate) fn place_at(streams: &[Option<Place>], k: u32) -> Option<Place>
+    ensures { result ≡ place_in streams.now k }
+{
+    if k == 0 {
+        return None;
+    }
+    *streams.get(k as usize - 1)?
+}
+
+/// A stream that writes an empty slot.
+pub(crate) fn writer(slot: u8) -> Place
+    ensures { result ≡ record { slot = slot; position = 0; sector = 0; writes = true } }
+{
+    Place {
+        slot,
+        position: 0,
+        sector: 0,
+        writes: true,
+    }
 }
