@@ -1,5 +1,6 @@
 pub mod Calls
 pub mod ChainLemmas
+pub mod ChangeCalls
 pub mod ContentsLemmas
 pub mod FileLists
 pub mod KeptSlots
@@ -8,4 +9,5 @@ pub mod NameOrder
 pub mod SectorLemmas
 pub mod SlotLemmas
 pub mod StreamLemmas
+pub mod TransferCalls
 pub mod ValidDisc

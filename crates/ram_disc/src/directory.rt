@@ -120,6 +120,31 @@ impl Directory {
         self.names[slot as usize] = name.copy();
         self.used.insert(to, slot);
     }
+
+    /// Makes the directory what the other is.
+    pub(crate) fn copy_from(&mut self, other: &Directory)
+        requires old { length self.old.names.items ≡ most_files }
+        requires other { length other.now.names.items ≡ most_files }
+        ensures names { self.new.names.items ≡ other.now.names.items }
+        ensures used { self.new.used.items ≡ other.now.used.items }
+        ensures unused { self.new.unused.items ≡ other.now.unused.items }
+    {
+        for i in 0..SLOTS {
+            self.names[i] = other.names[i].copy();
+        }
+        self.used = copy_of(&other.used);
+        self.unused = copy_of(&other.unused);
+    }
+}
+
+fn copy_of(slots: &ArrayVec<u8, 64>) -> ArrayVec<u8, 64>
+    ensures { result.items ≡ slots.now.items }
+{
+    let mut copy = ArrayVec::new();
+    for slot in slots.as_slice() {
+        copy.push(*slot);
+    }
+    copy
 }
 
 fn all_slots() -> ArrayVec<u8, 64>

@@ -1,5 +1,5 @@
 // A disc: files in memory, and the streams that are open on them.
-ghost use Rattle.std.specs.Prelude.{◌≡◌, ◌<◌, ◌≤◌, ◌++◌, None, IfOk, IsTrue, drop, length};
+ghost use Rattle.std.specs.Prelude.{◌≡◌, ◌<◌, ◌≤◌, ◌++◌, ◌-◌, None, IfOk, IsTrue, drop, length, nat_lt, if◌then◌else◌};
 ghost use Rattle.std.specs.Option.{option_map};
 ghost use Rattle.ram_disc.specs.Disc.{IsDisc, empty_disc, file_named, shell_stream, stream_at};
 ghost use Rattle.ram_disc.specs.DiscCalls.{after_append, after_close, after_delete, after_open_read, after_open_write, after_read_on, after_rename, after_restore, bytes_read, can_stand, nth_of, size_of, stream_of};
@@ -125,6 +125,115 @@ impl Disc {
         Ok(k as u32 + 1)
     }
 
+    /// Opens a file to write, by the lowest free stream. The file is emptied, or made.
+    pub fn open_write(&mut self, name: &Name) -> Result<u32, u32>
+        ensures answer { result ≡ (after_open_write self.old name.now).answer }
+        ensures disc { self.new ≡ (after_open_write self.old name.now).disc }
+    {
+        match self.directory.place_of(name) {
+            Ok(place) => {
+                let slot = self.directory.slot_at(place);
+                if is_open(&self.streams, slot) {
+                    return Err(IN_USE);
+                }
+                let Some(k) = free_stream(&self.streams) else {
+                    return Err(NO_STREAM);
+                };
+                self.contents.clear(slot as usize);
+                self.streams[k] = Some(writer(slot));
+                Ok(k as u32 + 1)
+            }
+            Err(place) => {
+                let Some(k) = free_stream(&self.streams) else {
+                    return Err(NO_STREAM);
+                };
+                let Some(slot) = self.directory.add(name, place) else {
+                    return Err(DIRECTORY_FULL);
+                };
+                self.streams[k] = Some(writer(slot));
+                Ok(k as u32 + 1)
+            }
+        }
+    }
+
+    /// Gives the next bytes of a stream that reads, as many as there is room for, and how many they are. At the end of
+    /// the file there are none.
+    pub fn read_on(&mut self, stream: u32, into: &mut [u8]) -> Result<u32, u32>
+        ensures answer { result ≡ (after_read_on self.old stream (length into.old)).answer }
+        ensures disc { self.new ≡ (after_read_on self.old stream (length into.old)).disc }
+        ensures bytes { into.new ≡ bytes_read self.old stream (length into.old)
+            ++ drop (length (bytes_read self.old stream (length into.old))) into.old }
+    {
+        let Some(place) = place_at(&self.streams, stream) else {
+            return Err(NOT_OPEN);
+        };
+        if place.writes {
+            return Err(NOT_OPEN);
+        }
+        let slot = place.slot as usize;
+        let left = self.contents.len(slot) - place.position;
+        let count = into.len().min(left as usize);
+        let piece = &mut into[..count];
+        let sector = self.contents.read(slot, place.position, place.sector, piece);
+        self.streams[stream as usize - 1] = Some(place.after(count as u32, sector));
+        Ok(count as u32)
+    }
+
+    /// Writes bytes behind those of the file of a stream that writes.
+    pub fn append(&mut self, stream: u32, bytes: &[u8]) -> Result<(), u32>
+        requires { length bytes.now ≤ 4096 }
+        ensures answer { result ≡ (after_append self.old stream bytes.now).answer }
+        ensures disc { self.new ≡ (after_append self.old stream bytes.now).disc }
+    {
+        let Some(place) = place_at(&self.streams, stream) else {
+            return Err(NOT_OPEN);
+        };
+        if !place.writes {
+            return Err(NOT_OPEN);
+        }
+        let slot = place.slot as usize;
+        if !self.contents.has_room(slot, bytes.len() as u32) {
+            return Err(DISC_FULL);
+        }
+        self.contents.append(slot, bytes);
+        self.streams[stream as usize - 1] = Some(place.after(bytes.len() as u32, place.sector));
+        Ok(())
+    }
+
+    /// Deletes a file on which no stream is open.
+    pub fn delete(&mut self, name: &Name) -> Result<(), u32>
+        ensures answer { result ≡ (after_delete self.old name.now).answer }
+        ensures disc { self.new ≡ (after_delete self.old name.now).disc }
+    {
+        let Ok(place) = self.directory.place_of(name) else {
+            return Err(NOT_FOUND);
+        };
+        if is_open(&self.streams, self.directory.slot_at(place)) {
+            return Err(IN_USE);
+        }
+        let slot = self.directory.remove(place);
+        self.contents.clear(slot as usize);
+        Ok(())
+    }
+
+    /// Gives a file, on which no stream is open, a name that no file has.
+    pub fn rename(&mut self, from: &Name, to: &Name) -> Result<(), u32>
+        ensures answer { result ≡ (after_rename self.old from.now to.now).answer }
+        ensures disc { self.new ≡ (after_rename self.old from.now to.now).disc }
+    {
+        let Ok(place) = self.directory.place_of(from) else {
+            return Err(NOT_FOUND);
+        };
+        let Err(end) = self.directory.place_of(to) else {
+            return Err(THERE_ALREADY);
+        };
+        if is_open(&self.streams, self.directory.slot_at(place)) {
+            return Err(IN_USE);
+        }
+        self.directory.rename(place, to, place_without(end, place));
+        Ok(())
+    }
+
     /// Closes a stream.
     pub fn close(&mut self, stream: u32) -> Result<(), u32>
         ensures answer { result ≡ (after_close self.old stream).answer }
@@ -136,4 +245,50 @@ impl Disc {
         self.streams[stream as usize - 1] = None;
         Ok(())
     }
+
+    /// Sets stream k on a place of a file, as `stream` told it. The answer is false where the stream may not stand there;
+    /// then nothing changes.
+    pub fn restore_stream(&mut self, k: u32, name: &Name, pos: u32, write: bool) -> bool
+        ensures answer { result ≡ can_stand self.old k name.now pos write }
+        ensures disc { self.new ≡ after_restore self.old k name.now pos write }
+    {
+        if k == 0 || k as usize > STREAMS || place_at(&self.streams, k).is_some() {
+            return false;
+        }
+        let Ok(place) = self.directory.place_of(name) else {
+            return false;
+        };
+        let slot = self.directory.slot_at(place);
+        let size = self.contents.len(slot as usize);
+        if pos > size || is_written(&self.streams, slot) {
+            return false;
+        }
+        if write && (k as usize == STREAMS || pos != size || is_open(&self.streams, slot)) {
+            return false;
+        }
+        let sector = self.contents.sector_at(slot as usize, pos);
+        self.streams[k as usize - 1] = Some(Place {
+            slot,
+            position: pos,
+            sector,
+            writes: write,
+        });
+        true
+    }
+
+    /// Makes the disc what the other is.
+    pub fn copy_from(&mut self, other: &Disc)
+        ensures { self.new ≡ other.now }
+    {
+        self.contents.copy_from(&other.contents);
+        self.directory.copy_from(&other.directory);
+        self.streams = other.streams;
+    }
+}
+
+// A place in a list, once the one at another place has gone out of it.
+fn place_without(place: usize, gone: usize) -> usize
+    ensures { result ≡ (if nat_lt gone place then place - 1 else place) }
+{
+    if gone < place { place - 1 } else { place }
 }

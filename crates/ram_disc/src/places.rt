@@ -1,5 +1,5 @@
 // Where the streams of a disc stand.
-ghost use Rattle.std.specs.Prelude.{◌≡◌, Some, true, length, if◌then◌else◌, position, take};
+ghost use Rattle.std.specs.Prelude.{◌≡◌, ◌+◌, ◌<◌, ◌^◌, Some, true, length, if◌then◌else◌, position, take};
 ghost use Rattle.std.specs.List.{list_any};
 ghost use Rattle.std.specs.Option.{is_none};
 ghost use Rattle.ram_disc.specs.Disc.{most_streams};
@@ -18,6 +18,21 @@ pub(crate) struct Place {
     pub(crate) position: u32,
     pub(crate) sector: u16,
     pub(crate) writes: bool,
+}
+
+impl Place {
+    /// The place so many bytes further on, which is in this sector.
+    pub(crate) fn after(self, count: u32, sector: u16) -> Place
+        requires { self.position + count < 2 ^ 32 }
+        ensures { result ≡ record self { position = self.position + count; sector = sector } }
+    {
+        Place {
+            slot: self.slot,
+            position: self.position + count,
+            sector,
+            writes: self.writes,
+        }
+    }
 }
 
 /// Whether a stream is open on a slot.
