@@ -6,6 +6,7 @@ pub mod FileLists
 pub mod KeptSlots
 pub mod KeptStreams
 pub mod NameOrder
+pub mod RestoreCalls
 pub mod SectorLemmas
 pub mod SlotLemmas
 pub mod StreamLemmas

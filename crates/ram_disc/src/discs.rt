@@ -8,7 +8,7 @@ use crate::Name;
 use crate::contents::Contents;
 use crate::directory::Directory;
 use crate::file_bytes::FileBytes;
-use crate::places::{Place, STREAMS, free_stream, is_open, is_written, place_at, stream_to_open, writer};
+use crate::places::{Place, STREAMS, free_stream, is_free, is_open, is_written, may_stand, place_at, stream_to_open, writer};
 use std::alloc::Global;
 use std::marker::Model;
 use tp_io::WantMemory;
@@ -252,7 +252,7 @@ impl Disc {
         ensures answer { result ≡ can_stand self.old k name.now pos write }
         ensures disc { self.new ≡ after_restore self.old k name.now pos write }
     {
-        if k == 0 || k as usize > STREAMS || place_at(&self.streams, k).is_some() {
+        if !is_free(&self.streams, k) {
             return false;
         }
         let Ok(place) = self.directory.place_of(name) else {
@@ -260,10 +260,7 @@ impl Disc {
         };
         let slot = self.directory.slot_at(place);
         let size = self.contents.len(slot as usize);
-        if pos > size || is_written(&self.streams, slot) {
-            return false;
-        }
-        if write && (k as usize == STREAMS || pos != size || is_open(&self.streams, slot)) {
+        if !may_stand(&self.streams, k, slot, pos, size, write) {
             return false;
         }
         let sector = self.contents.sector_at(slot as usize, pos);

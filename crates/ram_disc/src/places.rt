@@ -1,8 +1,8 @@
 // Where the streams of a disc stand.
-ghost use Rattle.std.specs.Prelude.{◌≡◌, ◌+◌, ◌<◌, ◌^◌, Some, true, length, if◌then◌else◌, position, take};
+ghost use Rattle.std.specs.Prelude.{◌≡◌, ◌+◌, ◌<◌, ◌^◌, ◌==◌, ◌&&◌, ◌||◌, nat_le, not, Some, true, length, if◌then◌else◌, position, take};
 ghost use Rattle.std.specs.List.{list_any};
 ghost use Rattle.std.specs.Option.{is_none};
-ghost use Rattle.ram_disc.specs.Disc.{most_streams};
+ghost use Rattle.ram_disc.specs.Disc.{most_streams, shell_stream};
 ghost use Rattle.ram_disc.specs.Slots.{place_in, stands_on, writes_on};
 
 /// The number of streams. The last one is the shell's, those before it are the file handler's.
@@ -93,4 +93,36 @@ pub(crate) fn writer(slot: u8) -> Place
         sector: 0,
         writes: true,
     }
+}
+
+/// Whether stream k, from 1, is one of the disc's and not open.
+pub(crate) fn is_free(streams: &[Option<Place>], k: u32) -> bool
+    ensures { result ≡ (nat_le 1 k && nat_le k most_streams && is_none (place_in streams.now k)) }
+{
+    1 <= k && k <= STREAMS as u32 && place_at(streams, k).is_none()
+}
+
+/// Whether stream k may stand on a slot at this position, where the slot has so many bytes. A stream that writes stands
+/// at their end, and with no other on the slot.
+pub(crate) fn may_stand(
+    streams: &[Option<Place>],
+    k: u32,
+    slot: u8,
+    position: u32,
+    size: u32,
+    writes: bool,
+) -> bool
+    ensures { result ≡ (nat_le position size && not (list_any (writes_on slot) streams.now)
+        && (not writes || (not (k == shell_stream)
+            && ((position == size) && not (list_any (stands_on slot) streams.now))))) }
+{
+    position <= size && !is_written(streams, slot) && (!writes || may_write(streams, k, slot, position == size))
+}
+
+// Whether stream k may write a slot, at the end of its bytes or not.
+fn may_write(streams: &[Option<Place>], k: u32, slot: u8, at_end: bool) -> bool
+    ensures { result ≡ (not (k == shell_stream)
+        && (at_end && not (list_any (stands_on slot) streams.now))) }
+{
+    k != STREAMS as u32 && at_end && !is_open(streams, slot)
 }
