@@ -1,19 +1,18 @@
 -- What the calls on a disc that is kept in slots come to.
-use Rattle.std.proofs.Common.{◌≡◌, ◌≢◌, ℕ, zero, suc, ◌+◌, ◌-◌, ◌/◌, ◌<◌, ◌≤◌, List, [], ◌∷◌, ◌++◌, length, map, get_or, set, take, drop, cond, not, eqb, leb, ltb, ◌&&◌, ◌||◌, Bool, true, false, Option, Some, None, Result, Ok, Err, refl, sym, ap, ◌∙◌, subst, arith, inl, inr}
-use Rattle.std.specs.List.{insert, list_any, position, position_or_len, remove}
-use Rattle.std.specs.Option.{is_none, is_some, option_map, unwrap_or}
-use Rattle.std.proofs.lemmas.Bool.{cases_eq, eq-eqb, ltb-true, ne_eqb, true≢false}
-use Rattle.std.proofs.lemmas.List.{length-take, length-take-le, map-set}
-use Rattle.linked_list.specs.Count.{times}
-use Rattle.ram_disc.specs.Contents.{Adds, Area, Empties, bytes_at, chain_at}
-use Rattle.ram_disc.specs.Disc.{Disc, Stream, bytes_of, file_named, has_file, is_used, is_written, most_streams, sectors_of, sectors_taken, shell_stream, stream_at}
-use Rattle.ram_disc.specs.DiscCalls.{Outcome, after_close, after_open_read, file, free_stream, has_free_stream, reader, stream_to_read, unless_refused, with_stream}
-use Rattle.ram_disc.specs.Slots.{AreKept, HasPlace, IsAt, StandsAt, disc_in, file_in, files_in, name_in, place_in, stands_on, stream_in, streams_in, writes_on}
+use Rattle.std.proofs.Common.{◌≡◌, ◌≢◌, ℕ, ◌+◌, ◌-◌, ◌<◌, List, [], ◌∷◌, length, get_or, set, take, cond, not, ltb, ◌&&◌, ◌||◌, Bool, true, false, Option, Some, None, Result, Ok, Err, refl, sym, ap, ◌∙◌, arith}
+use Rattle.std.specs.List.{list_any, position, position_or_len}
+use Rattle.std.specs.Option.{is_none, is_some, unwrap_or}
+use Rattle.std.proofs.lemmas.Bool.{eq-eqb, ltb-true, true≢false}
+use Rattle.std.proofs.lemmas.List.{length-take, map-set}
+use Rattle.ram_disc.specs.Contents.{Area, bytes_at, chain_at}
+use Rattle.ram_disc.specs.Disc.{Disc, is_written, most_streams, stream_at}
+use Rattle.ram_disc.specs.DiscCalls.{Outcome, after_close, after_open_read, has_free_stream, reader, stream_to_read, unless_refused, with_stream}
+use Rattle.ram_disc.specs.Slots.{AreKept, HasPlace, IsAt, disc_in, place_in, stream_in, streams_in, writes_on}
 use Rattle.ram_disc.specs.declared.places.Place.{Place}
 use Rattle.ram_disc.proofs.ChainLemmas.{times-get_or}
-use Rattle.ram_disc.proofs.KeptStreams.{Comes, keep-none, keep-stream, none-some, place-inside, some-same}
-use Rattle.ram_disc.proofs.SlotLemmas.{HasFiles, bytes_of-at, file_named-at, file_named-none, has_file-at, has_file-none}
-use Rattle.ram_disc.proofs.StreamLemmas.{any-none, free-stream, is_used-at, is_written-at, stream_at-place}
+use Rattle.ram_disc.proofs.KeptStreams.{keep-stream, place-inside}
+use Rattle.ram_disc.proofs.SlotLemmas.{HasFiles, has_file-at, has_file-none}
+use Rattle.ram_disc.proofs.StreamLemmas.{any-none, free-stream, is_written-at, stream_at-place}
 use Rattle.ram_disc.proofs.ValidDisc.{place-number}
 
 abbrev pub outcome : {A : Type 0} → Result A ℕ → Disc → Outcome A
@@ -91,7 +90,7 @@ module _ (names : List (List ℕ)) (a : Area) (used unused : List ℕ) (ps : Lis
   pub open_read-done : AreKept names a used unused ps → (name : List ℕ) (shell : Bool) (i k sector : ℕ) → IsAt names used name i
       → list_any (writes_on (get_or used i 0)) ps ≡ false → cond shell (Some 16) (position is_none (take 16 ps)) ≡ Some k
       → after_open_read D name shell
-        ≡ outcome (Ok (k + 1)) (disc_in names a.bytes used (set ps k (Some (record { slot = get_or used i 0; position = 0; sector = sector; writes = false }))))
+      ≡ outcome (Ok (k + 1)) (disc_in names a.bytes used (set ps k (Some (record { slot = get_or used i 0; position = 0; sector = sector; writes = false }))))
   open_read-done h name shell i k sector at none e =
       let p : Place = record { slot = get_or used i 0; position = 0; sector = sector; writes = false } in
       let found = to-open shell k h e in

@@ -1,10 +1,10 @@
 -- Chains of sectors.
-use Rattle.std.proofs.Common.{◌≡◌, ◌≢◌, ℕ, zero, suc, ◌+◌, ◌-◌, ◌<◌, ◌≤◌, List, [], ◌∷◌, ◌++◌, length, get_or, set, refl, sym, ap, ◌∙◌, subst, arith, inl, inr}
+use Rattle.std.proofs.Common.{◌≡◌, ◌≢◌, ℕ, zero, suc, ◌+◌, ◌<◌, ◌≤◌, List, [], ◌∷◌, ◌++◌, length, get_or, set, refl, sym, ap, ◌∙◌, subst, arith, inl, inr}
 use Rattle.std.proofs.lemmas.Bool.{cases_eq}
 use Rattle.std.proofs.lemmas.List.{get_or-set_other, get_or-set_same}
 use Rattle.std.specs.List.{range_with_len}
-use Rattle.linked_list.specs.Count.{hit, times}
-use Rattle.linked_list.proofs.Counts.{hit-le, hit-other, hit-same}
+use Rattle.linked_list.specs.Count.{times}
+use Rattle.linked_list.proofs.Counts.{hit-other, hit-same}
 use Rattle.ram_disc.specs.Chain.{chain_from}
 
 pub length-chain : (links : List ℕ) (first n : ℕ) → length (chain_from links first n) ≡ n

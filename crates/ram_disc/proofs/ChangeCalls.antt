@@ -1,26 +1,25 @@
 -- What the calls come to that make, empty, delete and rename files on a disc that is kept in slots.
-use Rattle.std.proofs.Common.{◌≡◌, ◌≢◌, ℕ, zero, suc, ◌+◌, ◌-◌, ◌/◌, ◌<◌, ◌≤◌, List, [], ◌∷◌, ◌++◌, length, map, get_or, set, take, drop, replicate, cond, not, eqb, leb, ltb, ◌&&◌, ◌||◌, Bool, true, false, Option, Some, None, Result, Ok, Err, refl, sym, ap, ◌∙◌, subst, arith, inl, inr}
+use Rattle.std.proofs.Common.{◌≡◌, ◌≢◌, ℕ, zero, suc, ◌+◌, ◌-◌, ◌<◌, List, [], ◌∷◌, ◌++◌, length, map, get_or, set, take, replicate, cond, not, ltb, ◌||◌, Bool, true, false, Option, Some, None, Ok, Err, refl, sym, ap, ◌∙◌, subst, arith, inl, inr}
 use Rattle.std.specs.List.{insert, list_any, position, range_with_len, remove}
-use Rattle.std.specs.Option.{is_none, is_some}
-use Rattle.std.specs.Str.{bytes_eq}
-use Rattle.std.proofs.lemmas.Bool.{cases_eq, cases_lt, le-ltb, lt-ltb, true≢false}
+use Rattle.std.specs.Option.{is_none}
+use Rattle.std.proofs.lemmas.Bool.{cases_lt, le-ltb, lt-ltb}
 use Rattle.std.proofs.lemmas.List.{ext_get_or, get_or-replicate, get_or-set_other, get_or-set_same, length-append, length-map, length-replicate, length-take, map-set}
 use Rattle.std.proofs.lemmas.List.Edits.{get_or-remove_above, get_or-remove_below, length-remove}
 use Rattle.std.proofs.lemmas.List.FromFn.{length-range_with_len}
-use Rattle.linked_list.specs.Count.{hit, times}
+use Rattle.linked_list.specs.Count.{times}
 use Rattle.linked_list.proofs.Counts.{hit-same, range-apart, range-high, times-append}
-use Rattle.ram_disc.specs.Contents.{Area, Empties, bytes_at, chain_at}
+use Rattle.ram_disc.specs.Contents.{Area, Empties, bytes_at}
 use Rattle.ram_disc.specs.Disc.{AreInOrder, Disc, File, Stream, bytes_of, has_file, is_before, is_on, is_used, most_files, most_sectors, most_streams, sectors_taken}
 use Rattle.ram_disc.specs.DiscCalls.{Outcome, after_delete, after_open_write, after_rename, file, free_stream, has_free_stream, has_place, unless_refused, with_file, with_stream, without_file, writer}
 use Rattle.ram_disc.specs.Name.{IsName}
-use Rattle.ram_disc.specs.Slots.{AreKept, AreSlots, HasPlace, IsAt, StandsAt, disc_in, file_in, files_in, name_in, stands_on, stream_in, streams_in}
+use Rattle.ram_disc.specs.Slots.{AreKept, HasPlace, IsAt, StandsAt, disc_in, file_in, files_in, name_in, stands_on, stream_in, streams_in}
 use Rattle.ram_disc.specs.declared.places.Place.{Place}
 use Rattle.ram_disc.proofs.Calls.{none-to-open, outcome, position-below, to-open}
 use Rattle.ram_disc.proofs.ChainLemmas.{place-times, times-get_or}
-use Rattle.ram_disc.proofs.FileLists.{names_of, with_file-insert, with_file-set, without_file-remove}
-use Rattle.ram_disc.proofs.KeptSlots.{keep-delete, keep-new, keep-rename}
-use Rattle.ram_disc.proofs.KeptStreams.{Comes, keep-clear, keep-stream, none-some, place-inside, place-other}
-use Rattle.ram_disc.proofs.NameOrder.{bytes_eq-other, is_before-differ, order-get_or, is_before-trans}
+use Rattle.ram_disc.proofs.FileLists.{with_file-insert, with_file-set, without_file-remove}
+use Rattle.ram_disc.proofs.KeptSlots.{keep-new}
+use Rattle.ram_disc.proofs.KeptStreams.{keep-clear, keep-stream, none-some, place-other}
+use Rattle.ram_disc.proofs.NameOrder.{bytes_eq-other, is_before-differ}
 use Rattle.ram_disc.proofs.SlotLemmas.{HasFiles, bytes_of-at, files-bytes, files-other_bytes, files-other_name, get_or-files, has_file-at, has_file-none, length-files, map-insert, map-remove, ordered, times-insert, times-remove, used-below, used-inside, used-once}
 use Rattle.ram_disc.proofs.StreamLemmas.{any-agree, get_or-streams, is_used-at}
 
@@ -76,28 +75,28 @@ place-without names used name i j lt place =
     let ln = length-remove used i lt in
     elim (cases_lt i j) [
       | inl low ↦ (
-        let P : ℕ → Type 0 = HasPlace names (remove used i) name in
-        subst P (sym (ap (λ b. cond b (j - 1) j) (lt-ltb i j low))) (record {
-          within = omega (arith, place.within, ln);
-          before = λ k h. elim (cases_lt k i) [
-            | inl early ↦ ap (λ s. is_before (name_in names s) name) (get_or-remove_below used i 0 k early lt) ∙ place.before k (omega arith)
-            | inr late ↦ ap (λ s. is_before (name_in names s) name) (get_or-remove_above used i 0 k late lt) ∙ place.before (k + 1) (omega arith)
-          ];
-          after = λ k h l. ap (λ s. is_before name (name_in names s)) (get_or-remove_above used i 0 k (omega arith) lt)
-            ∙ place.after (k + 1) (omega arith) (omega (arith, l, ln));
-        })
-      )
+          let P : ℕ → Type 0 = HasPlace names (remove used i) name in
+          subst P (sym (ap (λ b. cond b (j - 1) j) (lt-ltb i j low))) (record {
+            within = omega (arith, place.within, ln);
+            before = λ k h. elim (cases_lt k i) [
+              | inl early ↦ ap (λ s. is_before (name_in names s) name) (get_or-remove_below used i 0 k early lt) ∙ place.before k (omega arith)
+              | inr late ↦ ap (λ s. is_before (name_in names s) name) (get_or-remove_above used i 0 k late lt) ∙ place.before (k + 1) (omega arith)
+            ];
+            after = λ k h l. ap (λ s. is_before name (name_in names s)) (get_or-remove_above used i 0 k (omega arith) lt)
+                ∙ place.after (k + 1) (omega arith) (omega (arith, l, ln));
+          })
+          )
       | inr high ↦ (
-        let P : ℕ → Type 0 = HasPlace names (remove used i) name in
-        subst P (sym (ap (λ b. cond b (j - 1) j) (le-ltb i j high))) (record {
-          within = omega (arith, high, lt, ln);
-          before = λ k h. ap (λ s. is_before (name_in names s) name) (get_or-remove_below used i 0 k (omega arith) lt) ∙ place.before k h;
-          after = λ k h l. elim (cases_lt k i) [
-            | inl early ↦ ap (λ s. is_before name (name_in names s)) (get_or-remove_below used i 0 k early lt) ∙ place.after k h (omega (arith, l, ln))
-            | inr late ↦ ap (λ s. is_before name (name_in names s)) (get_or-remove_above used i 0 k late lt) ∙ place.after (k + 1) (omega arith) (omega (arith, l, ln))
-          ];
-        })
-      )
+          let P : ℕ → Type 0 = HasPlace names (remove used i) name in
+          subst P (sym (ap (λ b. cond b (j - 1) j) (le-ltb i j high))) (record {
+            within = omega (arith, high, lt, ln);
+            before = λ k h. ap (λ s. is_before (name_in names s) name) (get_or-remove_below used i 0 k (omega arith) lt) ∙ place.before k h;
+            after = λ k h l. elim (cases_lt k i) [
+              | inl early ↦ ap (λ s. is_before name (name_in names s)) (get_or-remove_below used i 0 k early lt) ∙ place.after k h (omega (arith, l, ln))
+              | inr late ↦ ap (λ s. is_before name (name_in names s)) (get_or-remove_above used i 0 k late lt) ∙ place.after (k + 1) (omega arith) (omega (arith, l, ln))
+            ];
+          })
+          )
     ]
 
 -- a file comes in at its name's place
@@ -107,7 +106,7 @@ files-place names bytes used f i place =
     with_file-insert f (files_in names bytes used) i (omega (arith, place.within, length-files names bytes used))
     (λ k h. ap (λ g. is_before g.name f.name) (get_or-files names bytes used k f (omega (arith, h, place.within))) ∙ place.before k h)
     (λ k h l. let lt : k < length used = omega (arith, l, length-files names bytes used) in
-      ap (λ g. is_before f.name g.name) (get_or-files names bytes used k f lt) ∙ place.after k h lt)
+    ap (λ g. is_before f.name g.name) (get_or-files names bytes used k f lt) ∙ place.after k h lt)
 
 module _ (names : List (List ℕ)) (a : Area) (used unused : List ℕ) (ps : List (Option Place)) where
   abbrev D : Disc
@@ -128,7 +127,7 @@ module _ (names : List (List ℕ)) (a : Area) (used unused : List ℕ) (ps : Lis
   files-set b i name x h at bytes =
       let inside : S i < length a.bytes = omega (arith, used-below names used unused h.slots i at.within, h.filled.table) in
       with_file-set (file name x) (files_in names a.bytes used) i (ordered names used unused h.slots a.bytes) (omega (arith, at.within, length-files names a.bytes used))
-        (ap (λ f. f.name) (get_or-files names a.bytes used i (file name x) at.within) ∙ at.is)
+      (ap (λ f. f.name) (get_or-files names a.bytes used i (file name x) at.within) ∙ at.is)
       ∙ ap (λ n. set (files_in names a.bytes used) i (file n x)) (sym at.is)
       ∙ sym (files-bytes names a.bytes used i x (used-once names used unused h.slots) at.within inside)
       ∙ ap (λ bs. files_in names bs used) (sym bytes)
@@ -200,14 +199,15 @@ module _ (names : List (List ℕ)) (a : Area) (used unused : List ℕ) (ps : Lis
       none : (qs : List (Option Place)) → list_any (λ q. false) qs ≡ false
       none [] = refl
       none (q ∷ qs) = none qs
+
       on : (k : ℕ) (o : Option Place) → ((q : Place) → o ≡ Some q → StandsAt a used ps k q) → is_on name (stream_in names o) ≡ false
       on k None stand = refl
       on k (Some q) stand =
           let spot = place-times q.slot used (stand q refl).is_there in
           let other : name_in names (get_or used spot.0 0) ≢ name = elim (cases_lt spot.0 i) [
-                | inl low ↦ is_before-differ (name_in names (get_or used spot.0 0)) name (place.before spot.0 low)
-                | inr high ↦ λ same. is_before-differ name (name_in names (get_or used spot.0 0)) (place.after spot.0 high spot.1) (sym same)
-              ] in
+            | inl low ↦ is_before-differ (name_in names (get_or used spot.0 0)) name (place.before spot.0 low)
+            | inr high ↦ λ same. is_before-differ name (name_in names (get_or used spot.0 0)) (place.after spot.0 high spot.1) (sym same)
+          ] in
           bytes_eq-other (name_in names q.slot) name (λ same. other (ap (name_in names) spot.2 ∙ same))
 
   write-new : AreKept names a used unused ps → (name : List ℕ) (i : ℕ) → HasPlace names used name i
@@ -215,7 +215,7 @@ module _ (names : List (List ℕ)) (a : Area) (used unused : List ℕ) (ps : Lis
   write-new h name i place =
       ap (λ t. Write name (not t) (has_free_stream D) (has_place D name) (free_stream D)) (is_used-none h name i place)
       ∙ ap (λ t. Write name true (has_free_stream D) (t || ltb (length (files_in names a.bytes used)) most_files) (free_stream D))
-        (has_file-none names a.bytes used unused D (files h) name i place)
+      (has_file-none names a.bytes used unused D (files h) name i place)
 
   pub write-new-full : AreKept names a used unused ps → (name : List ℕ) (i : ℕ) → HasPlace names used name i → position is_none (take 16 ps) ≡ None
       → after_open_write D name ≡ outcome (Err 45) D
@@ -243,16 +243,16 @@ module _ (names : List (List ℕ)) (a : Area) (used unused : List ℕ) (ps : Lis
       let nil : bytes_at a s ≡ [] = h.filled.empty s (omega (arith, counts)) in
       let it : file name [] ≡ file_in now a.bytes s = ap (λ m. file m []) (sym same) ∙ ap (file (name_in now s)) (sym nil) in
       let fs : with_file (file name []) (files_in names a.bytes used) ≡ files_in now a.bytes (insert used i s) =
-          files-place names a.bytes used (file name []) i place
-          ∙ ap (insert (files_in names a.bytes used) i) it
-          ∙ ap (λ xs. insert xs i (file_in now a.bytes s)) (sym (files-other_name names a.bytes used s name free))
-          ∙ sym (map-insert (file_in now a.bytes) used i s) in
+      files-place names a.bytes used (file name []) i place
+      ∙ ap (insert (files_in names a.bytes used) i) it
+      ∙ ap (λ xs. insert xs i (file_in now a.bytes s)) (sym (files-other_name names a.bytes used s name free))
+      ∙ sym (map-insert (file_in now a.bytes) used i s) in
       let streams : streams_in names ps ≡ streams_in now ps = sym (streams-name names ps s name (λ j q f same.
-            absurd (omega (arith, free, subst (λ t. 0 < times t used) same (h.stand j q f).is_there)))) in
+      absurd (omega (arith, free, subst (λ t. 0 < times t used) same (h.stand j q f).is_there)))) in
       write-new h name i place
       ∙ ap (λ t. Write name true t (ltb (length (files_in names a.bytes used)) most_files) (free_stream D)) found.0
       ∙ ap (λ t. Write name true true t (free_stream D)) (lt-ltb (length (files_in names a.bytes used)) most_files
-          (omega (arith, h.slots.all, ap length split, length-append rest (s ∷ []), length-files names a.bytes used)))
+      (omega (arith, h.slots.all, ap length split, length-append rest (s ∷ []), length-files names a.bytes used)))
       ∙ ap (Write name true true true) found.1
       ∙ ap (λ xs. outcome (Ok (k + 1)) (with_stream (record D { files = xs }) (k + 1) (Some (writer name 0)))) fs
       ∙ ap (λ m. outcome (Ok (k + 1)) (with_stream (record D { files = files_in now a.bytes (insert used i s) }) (k + 1) (Some (writer m 0)))) (sym same)
@@ -267,7 +267,7 @@ module _ (names : List (List ℕ)) (a : Area) (used unused : List ℕ) (ps : Lis
       let free : times s used ≡ 0 = omega (arith, h.slots.once s, counts) in
       let nil : bytes_at a s ≡ [] = h.filled.empty s (omega (arith, counts)) in
       let other : (j : ℕ) (q : Place) → get_or ps j None ≡ Some q → q.slot ≢ s =
-          λ j q f same. absurd (omega (arith, free, subst (λ t. 0 < times t used) same (h.stand j q f).is_there)) in
+      λ j q f same. absurd (omega (arith, free, subst (λ t. 0 < times t used) same (h.stand j q f).is_there)) in
       keep-stream (set names s name) a (insert used i s) rest ps k (W s) (keep-new names a used unused ps rest s i name h split place lawful) (omega (arith, below, length-take 16 ps)) (record {
         is_there = omega (arith, times-insert s used i s, hit-same s s refl);
         within = omega arith;
@@ -300,10 +300,10 @@ module _ (names : List (List ℕ)) (a : Area) (used unused : List ℕ) (ps : Lis
       let lt = at.within in
       let gone : times (S i) (remove used i) ≡ 0 = omega (arith, times-remove (S i) used i lt, h.slots.once (S i), hit-same (S i) (S i) refl) in
       let fs : without_file name (files_in names a.bytes used) ≡ files_in names b.bytes (remove used i) =
-          without_file-remove name (file [] []) (files_in names a.bytes used) i (ordered names used unused h.slots a.bytes) (omega (arith, lt, length-files names a.bytes used))
-            (ap (λ f. f.name) (get_or-files names a.bytes used i (file [] []) lt) ∙ at.is)
-          ∙ sym (map-remove (file_in names a.bytes) used i)
-          ∙ sym (ap (λ bs. files_in names bs (remove used i)) e.bytes ∙ files-other_bytes names a.bytes (remove used i) (S i) [] gone) in
+      without_file-remove name (file [] []) (files_in names a.bytes used) i (ordered names used unused h.slots a.bytes) (omega (arith, lt, length-files names a.bytes used))
+      (ap (λ f. f.name) (get_or-files names a.bytes used i (file [] []) lt) ∙ at.is)
+      ∙ sym (map-remove (file_in names a.bytes) used i)
+      ∙ sym (ap (λ bs. files_in names bs (remove used i)) e.bytes ∙ files-other_bytes names a.bytes (remove used i) (S i) [] gone) in
       delete-found h name i at ∙ ap (λ t. Delete name true (not t)) none
       ∙ ap (λ xs. outcome (Ok tt) (record D { files = xs })) fs
 
@@ -343,17 +343,17 @@ module _ (names : List (List ℕ)) (a : Area) (used unused : List ℕ) (ps : Lis
       let same : name_in now s ≡ to = get_or-set_same names s to [] inside in
       let gone : times s rest ≡ 0 = omega (arith, times-remove s used i lt, h.slots.once s, hit-same s s refl) in
       let it : file to (bytes_of D from) ≡ file_in now a.bytes s =
-          ap (file to) (bytes_of-at names a.bytes used unused D (files h) from i at) ∙ ap (λ m. file m (bytes_at a s)) (sym same) in
+      ap (file to) (bytes_of-at names a.bytes used unused D (files h) from i at) ∙ ap (λ m. file m (bytes_at a s)) (sym same) in
       let left : without_file from (files_in names a.bytes used) ≡ files_in names a.bytes rest =
-          without_file-remove from (file [] []) (files_in names a.bytes used) i (ordered names used unused h.slots a.bytes) (omega (arith, lt, length-files names a.bytes used))
-            (ap (λ f. f.name) (get_or-files names a.bytes used i (file [] []) lt) ∙ at.is)
-          ∙ sym (map-remove (file_in names a.bytes) used i) in
+      without_file-remove from (file [] []) (files_in names a.bytes used) i (ordered names used unused h.slots a.bytes) (omega (arith, lt, length-files names a.bytes used))
+      (ap (λ f. f.name) (get_or-files names a.bytes used i (file [] []) lt) ∙ at.is)
+      ∙ sym (map-remove (file_in names a.bytes) used i) in
       let fs : with_file (file to (bytes_of D from)) (without_file from (files_in names a.bytes used)) ≡ files_in now a.bytes (insert rest k s) =
-          ap (with_file (file to (bytes_of D from))) left
-          ∙ files-place names a.bytes rest (file to (bytes_of D from)) k there
-          ∙ ap (insert (files_in names a.bytes rest) k) it
-          ∙ ap (λ xs. insert xs k (file_in now a.bytes s)) (sym (files-other_name names a.bytes rest s to gone))
-          ∙ sym (map-insert (file_in now a.bytes) rest k s) in
+      ap (with_file (file to (bytes_of D from))) left
+      ∙ files-place names a.bytes rest (file to (bytes_of D from)) k there
+      ∙ ap (insert (files_in names a.bytes rest) k) it
+      ∙ ap (λ xs. insert xs k (file_in now a.bytes s)) (sym (files-other_name names a.bytes rest s to gone))
+      ∙ sym (map-insert (file_in now a.bytes) rest k s) in
       let streams : streams_in names ps ≡ streams_in now ps = sym (streams-name names ps s to (λ m q f. place-other ps s m q none f)) in
       rename-found h from to i j at place ∙ ap (λ t. Rename from to true true (not t)) none
       ∙ ap (λ xs. outcome (Ok tt) (record D { files = xs })) fs

@@ -1,8 +1,7 @@
 -- Files in byte order of their names: looking one up, putting one in, leaving one out.
-use Rattle.std.proofs.Common.{◌≡◌, ◌≢◌, ℕ, zero, suc, ◌+◌, ◌<◌, ◌≤◌, List, [], ◌∷◌, ◌++◌, length, map, get_or, set, cond, not, ◌||◌, Bool, true, false, Option, None, Some, refl, sym, ap, ◌∙◌, subst, arith}
+use Rattle.std.proofs.Common.{◌≡◌, ◌≢◌, ℕ, zero, suc, ◌<◌, ◌≤◌, List, [], ◌∷◌, ◌++◌, length, map, get_or, set, cond, not, ◌||◌, Bool, true, false, None, Some, refl, sym, ap, ◌∙◌, subst, arith}
 use Rattle.std.specs.List.{AllByRecursion, filter, find, insert, list_any, remove}
 use Rattle.std.specs.Str.{bytes_eq}
-use Rattle.std.proofs.lemmas.List.{get_or-map, length-map}
 use Rattle.ram_disc.specs.Disc.{AreInOrder, File, has_name, is_before}
 use Rattle.ram_disc.specs.DiscCalls.{with_file, without_file}
 use Rattle.ram_disc.proofs.NameOrder.{all-get_or, bytes_eq-other, bytes_eq-self, get_or-all, is_before-back, is_before-differ, is_before-self}
@@ -56,7 +55,7 @@ module _ (f : File) where
       let none : Before g ≡ false = ap (λ m. is_before m f.name) same ∙ is_before-self f.name in
       let no : After g ≡ false = ap (is_before f.name) same ∙ is_before-self f.name in
       let all : AllByRecursion (λ m. is_before f.name m ≡ true) (names_of gs) =
-          subst (λ n. AllByRecursion (λ m. is_before n m ≡ true) (names_of gs)) same order.0 in
+      subst (λ n. AllByRecursion (λ m. is_before n m ≡ true) (names_of gs)) same order.0 in
       ap (λ b. cond b (g ∷ filter Before gs) (filter Before gs) ++ f ∷ filter After (g ∷ gs)) none
       ∙ ap (λ b. filter Before gs ++ f ∷ cond b (g ∷ filter After gs) (filter After gs)) no
       ∙ all-behind gs (all-names (λ m. is_before f.name m ≡ true) gs all)
@@ -84,9 +83,9 @@ module _ (name : List ℕ) (d : File) where
   without_file-remove (g ∷ gs) zero order h same =
       let here : has_name name g ≡ true = ap (λ n. bytes_eq n name) same ∙ bytes_eq-self name in
       let others : AllByRecursion (λ f. not (bytes_eq f.name name) ≡ true) gs =
-          all-weaker (λ f. is_before g.name f.name ≡ true) (λ f. not (bytes_eq f.name name) ≡ true) gs
-          (λ f h. ap not (bytes_eq-other f.name name (λ e. is_before-differ g.name f.name h (same ∙ sym e))))
-          (all-names (λ m. is_before g.name m ≡ true) gs order.0) in
+      all-weaker (λ f. is_before g.name f.name ≡ true) (λ f. not (bytes_eq f.name name) ≡ true) gs
+      (λ f h. ap not (bytes_eq-other f.name name (λ e. is_before-differ g.name f.name h (same ∙ sym e))))
+      (all-names (λ m. is_before g.name m ≡ true) gs order.0) in
       ap (λ b. cond (not b) (g ∷ without_file name gs) (without_file name gs)) here
       ∙ filter-all (λ f. not (bytes_eq f.name name)) gs others
   without_file-remove (g ∷ gs) (suc i) order h same =

@@ -1,5 +1,5 @@
 -- Streams that come, go and move on a disc.
-use Rattle.std.proofs.Common.{◌≡◌, ◌≢◌, ℕ, zero, suc, ◌+◌, ◌-◌, ◌/◌, ◌<◌, ◌≤◌, List, [], ◌∷◌, ◌++◌, length, get_or, set, eqb, Bool, true, false, Option, Some, None, refl, sym, ap, ◌∙◌, subst, arith, inl, inr}
+use Rattle.std.proofs.Common.{◌≡◌, ◌≢◌, ℕ, ◌+◌, ◌/◌, ◌<◌, ◌≤◌, List, [], ◌++◌, length, get_or, set, true, false, Option, Some, None, sym, ap, ◌∙◌, subst, arith, inl, inr}
 use Rattle.std.specs.List.{list_any, sum_by}
 use Rattle.std.proofs.lemmas.Bool.{cases_eq, cases_lt, eqb-false, true≢false}
 use Rattle.std.proofs.lemmas.List.{get_or-set_other, get_or-set_same, get_or_past, length-append, length-set}
@@ -8,7 +8,7 @@ use Rattle.linked_list.specs.Count.{times}
 use Rattle.ram_disc.specs.Contents.{Adds, Area, Empties, bytes_at, chain_at}
 use Rattle.ram_disc.specs.Disc.{File, most_streams, sectors_of, shell_stream}
 use Rattle.ram_disc.specs.DiscCalls.{file}
-use Rattle.ram_disc.specs.Slots.{AreFilled, AreKept, AreSlots, StandsAt, files_in, name_in, stands_on}
+use Rattle.ram_disc.specs.Slots.{AreFilled, AreKept, StandsAt, files_in, name_in, stands_on}
 use Rattle.ram_disc.specs.declared.places.Place.{Place}
 use Rattle.ram_disc.proofs.SlotLemmas.{files-bytes, get_or-files, length-files, used-below, used-once}
 use Rattle.ram_disc.proofs.StreamLemmas.{any-none}
@@ -64,38 +64,38 @@ module _ (names : List (List ℕ)) (a : Area) (used unused : List ℕ) (ps : Lis
         numbers = length-set ps k (Some p) ∙ h.numbers;
         stand = λ j q e. elim (cases_eq j k) [
           | inl same ↦ (
-            let here : get_or new j None ≡ Some p = ap (λ i. get_or new i None) same ∙ get_or-set_same ps k (Some p) None room in
-            let P : Place → Type 0 = λ r. StandsAt a used new j r in
-            subst P (some-same p q (sym here ∙ e)) (record {
-              is_there = c.is_there;
-              within = c.within;
-              at_end = c.at_end;
-              alone = λ w i o f slot. elim (cases_eq i k) [
-                | inl t ↦ t ∙ sym same
-                | inr ne ↦ c.alone w i o (sym (get_or-set_other ps k i (Some p) None ne) ∙ f) slot ∙ sym same
-              ];
-              shell_reads = λ t. c.shell_reads (omega (arith, t, same));
-              sector = c.sector;
-            })
-          )
+              let here : get_or new j None ≡ Some p = ap (λ i. get_or new i None) same ∙ get_or-set_same ps k (Some p) None room in
+              let P : Place → Type 0 = λ r. StandsAt a used new j r in
+              subst P (some-same p q (sym here ∙ e)) (record {
+                is_there = c.is_there;
+                within = c.within;
+                at_end = c.at_end;
+                alone = λ w i o f slot. elim (cases_eq i k) [
+                  | inl t ↦ t ∙ sym same
+                  | inr ne ↦ c.alone w i o (sym (get_or-set_other ps k i (Some p) None ne) ∙ f) slot ∙ sym same
+                ];
+                shell_reads = λ t. c.shell_reads (omega (arith, t, same));
+                sector = c.sector;
+              })
+              )
           | inr ne ↦ (
-            let there : get_or ps j None ≡ Some q = sym (get_or-set_other ps k j (Some p) None ne) ∙ e in
-            let was = h.stand j q there in
-            record {
-              is_there = was.is_there;
-              within = was.within;
-              at_end = was.at_end;
-              alone = λ w i o f slot. elim (cases_eq i k) [
-                | inl t ↦ (
-                  let here : get_or new i None ≡ Some p = ap (λ x. get_or new x None) t ∙ get_or-set_same ps k (Some p) None room in
-                  let is : p ≡ o = some-same p o (sym here ∙ f) in
-                  absurd (ne (c.others j q there w (sym (ap (λ r. r.slot) is ∙ slot)))) )
-                | inr other ↦ was.alone w i o (sym (get_or-set_other ps k i (Some p) None other) ∙ f) slot
-              ];
-              shell_reads = was.shell_reads;
-              sector = was.sector;
-            }
-          )
+              let there : get_or ps j None ≡ Some q = sym (get_or-set_other ps k j (Some p) None ne) ∙ e in
+              let was = h.stand j q there in
+              record {
+                is_there = was.is_there;
+                within = was.within;
+                at_end = was.at_end;
+                alone = λ w i o f slot. elim (cases_eq i k) [
+                  | inl t ↦ (
+                      let here : get_or new i None ≡ Some p = ap (λ x. get_or new x None) t ∙ get_or-set_same ps k (Some p) None room in
+                      let is : p ≡ o = some-same p o (sym here ∙ f) in
+                      absurd (ne (c.others j q there w (sym (ap (λ r. r.slot) is ∙ slot)))))
+                  | inr other ↦ was.alone w i o (sym (get_or-set_other ps k i (Some p) None other) ∙ f) slot
+                ];
+                shell_reads = was.shell_reads;
+                sector = was.sector;
+              }
+              )
         ];
       }
 
@@ -112,19 +112,19 @@ module _ (names : List (List ℕ)) (a : Area) (used unused : List ℕ) (ps : Lis
         stand = λ j q e. elim (cases_eq j k) [
           | inl same ↦ absurd (none-some q (sym (gone j same) ∙ e))
           | inr ne ↦ (
-            let was = h.stand j q (sym (get_or-set_other ps k j None None ne) ∙ e) in
-            record {
-              is_there = was.is_there;
-              within = was.within;
-              at_end = was.at_end;
-              alone = λ w i o f slot. elim (cases_eq i k) [
-                | inl t ↦ absurd (none-some o (sym (gone i t) ∙ f))
-                | inr other ↦ was.alone w i o (sym (get_or-set_other ps k i None None other) ∙ f) slot
-              ];
-              shell_reads = was.shell_reads;
-              sector = was.sector;
-            }
-          )
+              let was = h.stand j q (sym (get_or-set_other ps k j None None ne) ∙ e) in
+              record {
+                is_there = was.is_there;
+                within = was.within;
+                at_end = was.at_end;
+                alone = λ w i o f slot. elim (cases_eq i k) [
+                  | inl t ↦ absurd (none-some o (sym (gone i t) ∙ f))
+                  | inr other ↦ was.alone w i o (sym (get_or-set_other ps k i None None other) ∙ f) slot
+                ];
+                shell_reads = was.shell_reads;
+                sector = was.sector;
+              }
+              )
         ];
       }
 
@@ -142,13 +142,19 @@ module _ (names : List (List ℕ)) (a : Area) (used unused : List ℕ) (ps : Lis
       let size : File → ℕ = λ f. sectors_of (length f.bytes) in
       let old = files_in names a.bytes used in
       let files : files_in names b.bytes used ≡ set old i (file (name_in names s) x) =
-          ap (λ bs. files_in names bs used) bytes ∙ files-bytes names a.bytes used i x (used-once names used unused h.slots) lt inside in
+      ap (λ bs. files_in names bs used) bytes ∙ files-bytes names a.bytes used i x (used-once names used unused h.slots) lt inside in
       let was = get_or-files names a.bytes used i (file [] []) lt in
       record {
         table = ap length bytes ∙ length-set a.bytes s x ∙ h.filled.table;
         empty = λ t some. ap (λ bs. get_or bs t []) bytes ∙ get_or-set_other a.bytes s t x [] (unused-other h i t lt some) ∙ h.filled.empty t some;
-        room = omega (arith, h.filled.room, left, ap (sum_by size) files,
-          sum_by-set size old i (file (name_in names s) x) (file [] []) (omega (arith, lt, length-files names a.bytes used)), ap size was);
+        room = omega (
+          arith,
+          h.filled.room,
+          left,
+          ap (sum_by size) files,
+          sum_by-set size old i (file (name_in names s) x) (file [] []) (omega (arith, lt, length-files names a.bytes used)),
+          ap size was,
+        );
       }
 
   -- a slot on which no stream stands is emptied
@@ -178,8 +184,8 @@ module _ (names : List (List ℕ)) (a : Area) (used unused : List ℕ) (ps : Lis
       let inside : s < length a.bytes = omega (arith, used-below names used unused h.slots i lt, h.filled.table) in
       let here : bytes_at b s ≡ bytes_at a s ++ more = ap (λ bs. get_or bs s []) adds.bytes ∙ get_or-set_same a.bytes s (bytes_at a s ++ more) [] inside in
       let size : length (bytes_at b q.slot) ≡ length (bytes_at a p.slot) + length more =
-          ap (λ t. length (bytes_at b t)) (same_slot ∙ sym slot) ∙ ap length here ∙ length-append (bytes_at a s) more
-          ∙ ap (λ t. length (bytes_at a t) + length more) slot in
+      ap (λ t. length (bytes_at b t)) (same_slot ∙ sym slot) ∙ ap length here ∙ length-append (bytes_at a s) more
+      ∙ ap (λ t. length (bytes_at a t) + length more) slot in
       let end : q.position ≡ length (bytes_at b q.slot) = omega (arith, moved, was.at_end writes, size) in
       record {
         slots = h.slots;
@@ -187,41 +193,41 @@ module _ (names : List (List ℕ)) (a : Area) (used unused : List ℕ) (ps : Lis
         numbers = length-set ps k (Some q) ∙ h.numbers;
         stand = λ j r e. elim (cases_eq j k) [
           | inl same ↦ (
-            let is : get_or new j None ≡ Some q = ap (λ x. get_or new x None) same ∙ get_or-set_same ps k (Some q) None room in
-            let Q : Place → Type 0 = λ o. StandsAt b used new j o in
-            subst Q (some-same q r (sym is ∙ e)) (record {
-              is_there = subst (λ t. 0 < times t used) (sym same_slot) was.is_there;
-              within = omega (arith, end);
-              at_end = λ w. end;
-              alone = λ w x o f other. elim (cases_eq x k) [
-                | inl t ↦ t ∙ sym same
-                | inr ne ↦ was.alone writes x o (sym (get_or-set_other ps k x (Some q) None ne) ∙ f) (other ∙ same_slot) ∙ sym same
-              ];
-              shell_reads = λ t. absurd (true≢false (sym writes ∙ was.shell_reads (omega (arith, t, same))));
-              sector = λ less. absurd (omega (arith, less, end));
-            })
-          )
+              let is : get_or new j None ≡ Some q = ap (λ x. get_or new x None) same ∙ get_or-set_same ps k (Some q) None room in
+              let Q : Place → Type 0 = λ o. StandsAt b used new j o in
+              subst Q (some-same q r (sym is ∙ e)) (record {
+                is_there = subst (λ t. 0 < times t used) (sym same_slot) was.is_there;
+                within = omega (arith, end);
+                at_end = λ w. end;
+                alone = λ w x o f other. elim (cases_eq x k) [
+                  | inl t ↦ t ∙ sym same
+                  | inr ne ↦ was.alone writes x o (sym (get_or-set_other ps k x (Some q) None ne) ∙ f) (other ∙ same_slot) ∙ sym same
+                ];
+                shell_reads = λ t. absurd (true≢false (sym writes ∙ was.shell_reads (omega (arith, t, same))));
+                sector = λ less. absurd (omega (arith, less, end));
+              })
+              )
           | inr ne ↦ (
-            let there : get_or ps j None ≡ Some r = sym (get_or-set_other ps k j (Some q) None ne) ∙ e in
-            let old = h.stand j r there in
-            let apart : r.slot ≢ s = λ t. ne (was.alone writes j r there (t ∙ slot)) in
-            let still = stands-still a b used used ps j r old old.is_there
-                  (ap (λ bs. get_or bs r.slot []) adds.bytes ∙ get_or-set_other a.bytes s r.slot (bytes_at a s ++ more) [] apart)
-                  (adds.others r.slot apart) in
-            record {
-              is_there = still.is_there;
-              within = still.within;
-              at_end = still.at_end;
-              alone = λ w x o f other. elim (cases_eq x k) [
-                | inl t ↦ (
-                  let is : get_or new x None ≡ Some q = ap (λ y. get_or new y None) t ∙ get_or-set_same ps k (Some q) None room in
-                  absurd (apart (sym other ∙ sym (ap (λ y. y.slot) (some-same q o (sym is ∙ f))) ∙ same_slot ∙ sym slot))
-                )
-                | inr third ↦ still.alone w x o (sym (get_or-set_other ps k x (Some q) None third) ∙ f) other
-              ];
-              shell_reads = still.shell_reads;
-              sector = still.sector;
-            }
-          )
+              let there : get_or ps j None ≡ Some r = sym (get_or-set_other ps k j (Some q) None ne) ∙ e in
+              let old = h.stand j r there in
+              let apart : r.slot ≢ s = λ t. ne (was.alone writes j r there (t ∙ slot)) in
+              let still = stands-still a b used used ps j r old old.is_there
+              (ap (λ bs. get_or bs r.slot []) adds.bytes ∙ get_or-set_other a.bytes s r.slot (bytes_at a s ++ more) [] apart)
+              (adds.others r.slot apart) in
+              record {
+                is_there = still.is_there;
+                within = still.within;
+                at_end = still.at_end;
+                alone = λ w x o f other. elim (cases_eq x k) [
+                  | inl t ↦ (
+                      let is : get_or new x None ≡ Some q = ap (λ y. get_or new y None) t ∙ get_or-set_same ps k (Some q) None room in
+                      absurd (apart (sym other ∙ sym (ap (λ y. y.slot) (some-same q o (sym is ∙ f))) ∙ same_slot ∙ sym slot))
+                      )
+                  | inr third ↦ still.alone w x o (sym (get_or-set_other ps k x (Some q) None third) ∙ f) other
+                ];
+                shell_reads = still.shell_reads;
+                sector = still.sector;
+              }
+              )
         ];
       }

@@ -1,5 +1,5 @@
 -- Names in byte order.
-use Rattle.std.proofs.Common.{◌≡◌, ◌≢◌, ℕ, zero, suc, ◌+◌, ◌-◌, ◌<◌, ◌≤◌, List, [], ◌∷◌, ◌++◌, length, get_or, take, drop, Bool, true, false, Ordering, refl, sym, ap, ◌∙◌, subst, arith}
+use Rattle.std.proofs.Common.{◌≡◌, ◌≢◌, ℕ, zero, suc, ◌<◌, ◌≤◌, List, [], ◌∷◌, length, get_or, Bool, true, false, Ordering, refl, sym, ap, ◌∙◌, arith}
 use Rattle.std.specs.declared.cmp.Ordering.TheVariants.{Less, Equal, Greater}
 use Rattle.std.specs.List.{AllByRecursion, insert, remove}
 use Rattle.std.specs.Ordering.{is_lt, nat_cmp, ordering_reverse}
@@ -94,9 +94,10 @@ pub order-insert : (ns : List (List ℕ)) (i : ℕ) (name : List ℕ) → AreInO
     → ((k : ℕ) → i ≤ k → k < length ns → is_before name (get_or ns k []) ≡ true) → AreInOrder (insert ns i name)
 order-insert ns zero name order before after = (get_or-all (λ m. is_before name m ≡ true) ns [] (λ k h. after k (omega arith) h), order)
 order-insert [] (suc i) name order before after = (tt, tt)
-order-insert (n ∷ ns) (suc i) name order before after =
-    ( all-insert (λ m. is_before n m ≡ true) ns i name (before zero (omega arith) (omega arith)) order.0
-    , order-insert ns i name order.1 (λ k h l. before (suc k) (omega arith) (omega arith)) (λ k h l. after (suc k) (omega arith) (omega arith)) )
+order-insert (n ∷ ns) (suc i) name order before after = (
+  all-insert (λ m. is_before n m ≡ true) ns i name (before zero (omega arith) (omega arith)) order.0,
+  order-insert ns i name order.1 (λ k h l. before (suc k) (omega arith) (omega arith)) (λ k h l. after (suc k) (omega arith) (omega arith)),
+)
 
 pub order-remove : (ns : List (List ℕ)) (i : ℕ) → AreInOrder ns → AreInOrder (remove ns i)
 order-remove [] zero order = tt

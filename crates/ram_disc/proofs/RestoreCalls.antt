@@ -1,17 +1,16 @@
 -- What restoring a stream comes to on a disc that is kept in slots.
-use Rattle.std.proofs.Common.{◌≡◌, ◌≢◌, ℕ, ◌+◌, ◌-◌, ◌/◌, ◌<◌, ◌≤◌, List, [], length, get_or, set, cond, not, eqb, leb, ◌&&◌, ◌||◌, Bool, true, false, Option, Some, None, refl, sym, ap, ◌∙◌, subst, arith}
+use Rattle.std.proofs.Common.{◌≡◌, ℕ, ◌-◌, ◌/◌, ◌<◌, List, length, get_or, set, not, eqb, leb, ◌&&◌, ◌||◌, Bool, true, false, Option, Some, refl, sym, ap, ◌∙◌, arith}
 use Rattle.std.specs.List.{list_any}
-use Rattle.std.specs.Option.{is_none, is_some}
+use Rattle.std.specs.Option.{is_none}
 use Rattle.std.proofs.lemmas.Bool.{and_parts, eq-eqb, eqb-true, leb-true, not-true, true≢false}
-use Rattle.linked_list.specs.Count.{times}
 use Rattle.ram_disc.specs.Contents.{Area, bytes_at, chain_at}
 use Rattle.ram_disc.specs.Disc.{Disc, bytes_of, has_file, is_used, is_written, most_streams, shell_stream, stream_at}
 use Rattle.ram_disc.specs.DiscCalls.{can_stand, can_write_from, with_place}
-use Rattle.ram_disc.specs.Slots.{AreKept, HasPlace, IsAt, disc_in, name_in, place_in, stands_on, streams_in, writes_on}
+use Rattle.ram_disc.specs.Slots.{AreKept, HasPlace, IsAt, disc_in, place_in, stands_on, writes_on}
 use Rattle.ram_disc.specs.declared.places.Place.{Place}
 use Rattle.ram_disc.proofs.Calls.{open-at, place-reads, stream-set}
 use Rattle.ram_disc.proofs.ChainLemmas.{times-get_or}
-use Rattle.ram_disc.proofs.KeptStreams.{Comes, keep-stream, place-other}
+use Rattle.ram_disc.proofs.KeptStreams.{keep-stream, place-other}
 use Rattle.ram_disc.proofs.SlotLemmas.{HasFiles, bytes_of-at, has_file-at, has_file-none}
 use Rattle.ram_disc.proofs.StreamLemmas.{is_used-at, is_written-at}
 
@@ -59,24 +58,24 @@ module _ (names : List (List ℕ)) (a : Area) (used unused : List ℕ) (ps : Lis
       → can_stand D k name place writes ≡ false
   restore-missing h k name place writes i at =
       ap (λ f. Can (leb 1 k && leb k most_streams && is_none (stream_at D k)) f (leb place (length (bytes_of D name))) (not (is_written D name))
-        (not writes || (not (eqb k shell_stream) && can_write_from D name place))) (has_file-none names a.bytes used unused D (files h) name i at)
+      (not writes || (not (eqb k shell_stream) && can_write_from D name place))) (has_file-none names a.bytes used unused D (files h) name i at)
       ∙ missing (leb 1 k && leb k most_streams && is_none (stream_at D k)) (leb place (length (bytes_of D name))) (not (is_written D name))
-        (not writes || (not (eqb k shell_stream) && can_write_from D name place))
+      (not writes || (not (eqb k shell_stream) && can_write_from D name place))
 
   can-is : AreKept names a used unused ps → (k : ℕ) (name : List ℕ) (place : ℕ) (writes : Bool) (i : ℕ) → IsAt names used name i → Free ps k ≡ true
       → can_stand D k name place writes ≡ May ps k (get_or used i 0) place (length (bytes_at a (get_or used i 0))) writes
   can-is h k name place writes i at free =
       let s = get_or used i 0 in
       ap (λ x. Can x (has_file D name) (leb place (length (bytes_of D name))) (not (is_written D name)) (not writes || (not (eqb k shell_stream) && can_write_from D name place)))
-        (free-is k ∙ free)
+      (free-is k ∙ free)
       ∙ ap (λ f. Can true f (leb place (length (bytes_of D name))) (not (is_written D name)) (not writes || (not (eqb k shell_stream) && can_write_from D name place)))
-        (has_file-at names a.bytes used unused D (files h) name i at)
+      (has_file-at names a.bytes used unused D (files h) name i at)
       ∙ ap (λ bs. Can true true (leb place (length bs)) (not (is_written D name)) (not writes || (not (eqb k shell_stream) && (eqb place (length bs) && not (is_used D name)))))
-        (bytes_of-at names a.bytes used unused D (files h) name i at)
+      (bytes_of-at names a.bytes used unused D (files h) name i at)
       ∙ ap (λ w. Can true true (leb place (length (bytes_at a s))) (not w) (not writes || (not (eqb k shell_stream) && (eqb place (length (bytes_at a s)) && not (is_used D name)))))
-        (is_written-at names a used unused ps h D name i refl at)
+      (is_written-at names a used unused ps h D name i refl at)
       ∙ ap (λ u. Can true true (leb place (length (bytes_at a s))) (not (list_any (writes_on s) ps)) (not writes || (not (eqb k shell_stream) && (eqb place (length (bytes_at a s)) && not u))))
-        (is_used-at names a used unused ps h D name i refl at)
+      (is_used-at names a used unused ps h D name i refl at)
 
   pub restore-not : AreKept names a used unused ps → (k : ℕ) (name : List ℕ) (place : ℕ) (writes : Bool) (i : ℕ) → IsAt names used name i → Free ps k ≡ true
       → May ps k (get_or used i 0) place (length (bytes_at a (get_or used i 0))) writes ≡ false → can_stand D k name place writes ≡ false
@@ -88,7 +87,7 @@ module _ (names : List (List ℕ)) (a : Area) (used unused : List ℕ) (ps : Lis
 
   pub restore-done : AreKept names a used unused ps → (k : ℕ) (name : List ℕ) (place : ℕ) (writes : Bool) (i sector : ℕ) → IsAt names used name i
       → with_place D k name place writes
-        ≡ disc_in names a.bytes used (set ps (k - 1) (Some (record { slot = get_or used i 0; position = place; sector = sector; writes = writes })))
+      ≡ disc_in names a.bytes used (set ps (k - 1) (Some (record { slot = get_or used i 0; position = place; sector = sector; writes = writes })))
   restore-done h k name place writes i sector at =
       ap (λ n. with_place D k n place writes) (sym at.is)
       ∙ stream-set names a used unused ps k (k - 1) (Some (record { slot = get_or used i 0; position = place; sector = sector; writes = writes })) refl
@@ -106,8 +105,8 @@ module _ (names : List (List ℕ)) (a : Area) (used unused : List ℕ) (ps : Lis
       let reads : list_any (writes_on s) ps ≡ false = not-true (list_any (writes_on s) ps) first.1 in
       let write : writes ≡ true → MayWrite ps k s place (length (bytes_at a s)) ≡ true = λ w. sym (ap (λ b. not b || MayWrite ps k s place (length (bytes_at a s))) w) ∙ parts.1 in
       let alone : writes ≡ true → list_any (stands_on s) ps ≡ false =
-          λ w. let m = and_parts (not (eqb k shell_stream)) (eqb place (length (bytes_at a s)) && not (list_any (stands_on s) ps)) (write w) in
-            not-true (list_any (stands_on s) ps) (and_parts (eqb place (length (bytes_at a s))) (not (list_any (stands_on s) ps)) m.1).1 in
+      λ w. let m = and_parts (not (eqb k shell_stream)) (eqb place (length (bytes_at a s)) && not (list_any (stands_on s) ps)) (write w) in
+      not-true (list_any (stands_on s) ps) (and_parts (eqb place (length (bytes_at a s))) (not (list_any (stands_on s) ps)) m.1).1 in
       keep-stream names a used unused ps (k - 1) _ h (omega (arith, leb-true 1 k range.0, leb-true k most_streams range.1)) (record {
         is_there = times-get_or used i at.within;
         within = leb-true place (length (bytes_at a s)) first.0;

@@ -1,16 +1,16 @@
 -- The sectors of a disc, as chains of slots and the free chain.
-use Rattle.std.proofs.Common.{◌≡◌, ◌≢◌, ◌⊎◌, ℕ, zero, suc, ◌+◌, ◌-◌, ◌<◌, ◌≤◌, List, [], ◌∷◌, ◌++◌, length, map, get_or, set, replicate, cond, eqb, Bool, true, false, refl, sym, ap, ◌∙◌, subst, arith, inl, inr}
+use Rattle.std.proofs.Common.{◌≡◌, ◌≢◌, ℕ, zero, suc, ◌+◌, ◌-◌, ◌<◌, ◌≤◌, List, [], ◌∷◌, ◌++◌, length, get_or, set, replicate, cond, eqb, Bool, false, refl, sym, ap, ◌∙◌, subst, arith, inl, inr}
 use Rattle.std.specs.List.{All, range_with_len, sum_by}
-use Rattle.std.proofs.lemmas.Bool.{cases_eq, cases_lt, ne_eqb}
+use Rattle.std.proofs.lemmas.Bool.{cases_eq, ne_eqb}
 use Rattle.std.proofs.lemmas.List.{get_or_default, get_or_push, get_or-map, get_or-set_other, get_or-set_same, length-append, length-map, length-replicate, length-set}
 use Rattle.std.proofs.lemmas.List.Elements.{All-replicate}
 use Rattle.std.proofs.lemmas.List.Sums.{get_or-le-sum_by, sum_by-cons, sum_by-set}
 use Rattle.linked_list.specs.Count.{hit, times}
-use Rattle.linked_list.proofs.Counts.{hit-other, hit-same, range-apart, range-high, times-append}
-use Rattle.ram_disc.specs.Chain.{AreApart, AreChained, Chains, EndsAtLast, chain_from, chain_of, chains_of, no_sector, sector_before, times_in, with_last}
+use Rattle.linked_list.proofs.Counts.{hit-same, range-apart, range-high, times-append}
+use Rattle.ram_disc.specs.Chain.{AreApart, AreChained, EndsAtLast, chain_from, chain_of, chains_of, no_sector, sector_before, times_in, with_last}
 use Rattle.ram_disc.specs.Disc.{most_files, most_sectors}
 use Rattle.ram_disc.specs.declared.sectors.Chain.{Chain}
-use Rattle.ram_disc.proofs.ChainLemmas.{chain-join, chain-next, chain-range, chain-set-other, length-chain, place-times, times-get_or}
+use Rattle.ram_disc.proofs.ChainLemmas.{chain-join, chain-next, chain-range, chain-set-other, length-chain, times-get_or}
 
 -- the counts in two lists of several
 pub two-counts : (s i j : ℕ) (xs : List (List ℕ)) → i ≢ j → i < length xs → j < length xs

@@ -1,20 +1,18 @@
 -- The slots of a disc, and the files in them.
-use Rattle.std.proofs.Common.{◌≡◌, ◌≢◌, ◌⊎◌, ℕ, zero, suc, ◌+◌, ◌-◌, ◌<◌, ◌≤◌, List, [], ◌∷◌, ◌++◌, length, map, get_or, set, take, drop, eqb, ◌&&◌, ◌||◌, Bool, true, false, Option, Some, None, refl, sym, ap, ◌∙◌, subst, arith, inl, inr}
+use Rattle.std.proofs.Common.{◌≡◌, ◌≢◌, ℕ, zero, suc, ◌+◌, ◌<◌, ◌≤◌, List, [], ◌∷◌, ◌++◌, length, map, get_or, set, take, drop, true, false, Some, None, refl, sym, ap, ◌∙◌, subst, arith, inl, inr}
 use Rattle.std.specs.List.{find, insert, list_any, range_with_len, remove}
 use Rattle.std.specs.Option.{option_map, unwrap_or}
-use Rattle.std.specs.Str.{bytes_eq}
 use Rattle.std.proofs.lemmas.Bool.{cases_eq, cases_lt}
 use Rattle.std.proofs.lemmas.List.{drop-map, ext_get_or, get_or-map, get_or-set_other, get_or-set_same, length-map, length-set, map-append, map-id, take-append-drop, take-map}
 use Rattle.std.proofs.lemmas.List.FromFn.{map-range_with_len_more}
 use Rattle.linked_list.specs.Count.{hit, times}
-use Rattle.linked_list.proofs.Counts.{hit-other, hit-same, times-append}
-use Rattle.ram_disc.specs.Disc.{AreInOrder, Disc, File, bytes_of, file_named, has_file, has_name, is_before, most_files}
+use Rattle.linked_list.proofs.Counts.{times-append}
+use Rattle.ram_disc.specs.Disc.{AreInOrder, Disc, File, bytes_of, file_named, has_file, has_name, most_files}
 use Rattle.ram_disc.specs.DiscCalls.{file}
-use Rattle.ram_disc.specs.Slots.{AreSlots, HasPlace, IsAt, disc_in, file_in, files_in, name_in}
-use Rattle.ram_disc.specs.declared.places.Place.{Place}
+use Rattle.ram_disc.specs.Slots.{AreSlots, HasPlace, IsAt, file_in, files_in, name_in}
 use Rattle.ram_disc.proofs.ChainLemmas.{place-times, places-differ, times-get_or}
 use Rattle.ram_disc.proofs.FileLists.{any-name, any-no_name, find-name, find-no_name, names_of}
-use Rattle.ram_disc.proofs.NameOrder.{bytes_eq-other, bytes_eq-self, is_before-differ, order-distinct}
+use Rattle.ram_disc.proofs.NameOrder.{is_before-differ, order-distinct}
 
 -- functions that agree at each element map the list to the same
 pub map-agree : {X : Type 0} (f g : ℕ → X) (xs : List ℕ) → ((k : ℕ) → k < length xs → f (get_or xs k 0) ≡ g (get_or xs k 0)) → map f xs ≡ map g xs
@@ -64,19 +62,19 @@ files-bytes names bytes used i x once h inside =
     let ln = length-files names (set bytes s x) used in
     let lo = length-files names bytes used in
     ext_get_or d new changed (omega (arith, ln, lo, length-set (files_in names bytes used) i (file (name_in names s) x))) (λ k l.
-      let lt : k < length used = omega (arith, l, ln) in
-      get_or-files names (set bytes s x) used k d lt
-      ∙ elim (cases_eq k i) [
-          | inl e ↦ (
-            ap (λ j. file_in names (set bytes s x) (get_or used j 0)) e
-            ∙ ap (file (name_in names s)) (get_or-set_same bytes s x [] inside)
-            ∙ sym (ap (λ j. get_or changed j d) e ∙ get_or-set_same (files_in names bytes used) i (file (name_in names s) x) d (omega (arith, h, lo)))
+    let lt : k < length used = omega (arith, l, ln) in
+    get_or-files names (set bytes s x) used k d lt
+    ∙ elim (cases_eq k i) [
+      | inl e ↦ (
+          ap (λ j. file_in names (set bytes s x) (get_or used j 0)) e
+          ∙ ap (file (name_in names s)) (get_or-set_same bytes s x [] inside)
+          ∙ sym (ap (λ j. get_or changed j d) e ∙ get_or-set_same (files_in names bytes used) i (file (name_in names s) x) d (omega (arith, h, lo)))
           )
-          | inr ne ↦ (
-            ap (file (name_in names (get_or used k 0))) (get_or-set_other bytes s (get_or used k 0) x [] (places-differ used k i once lt h ne))
-            ∙ sym (get_or-set_other (files_in names bytes used) i k (file (name_in names s) x) d ne ∙ get_or-files names bytes used k d lt)
+      | inr ne ↦ (
+          ap (file (name_in names (get_or used k 0))) (get_or-set_other bytes s (get_or used k 0) x [] (places-differ used k i once lt h ne))
+          ∙ sym (get_or-set_other (files_in names bytes used) i k (file (name_in names s) x) d ne ∙ get_or-files names bytes used k d lt)
           )
-        ])
+    ])
 
 -- a slot that is not among these changes
 pub not-among : (s : ℕ) (used : List ℕ) (k : ℕ) → times s used ≡ 0 → k < length used → get_or used k 0 ≢ s
@@ -123,7 +121,7 @@ module _ (names : List (List ℕ)) (used unused : List ℕ) where
           let ni : get_or (map (name_in names) used) i [] ≡ name_in names s = get_or-map (name_in names) used i 0 [] hi ∙ ap (name_in names) ei in
           let nj : get_or (map (name_in names) used) j [] ≡ name_in names t = get_or-map (name_in names) used j 0 [] hj ∙ ap (name_in names) ej in
           let e : i ≡ j = order-distinct (map (name_in names) used) i j h.in_order (omega (arith, hi, length-map used (name_in names)))
-                (omega (arith, hj, length-map used (name_in names))) (ni ∙ same ∙ sym nj) in
+          (omega (arith, hj, length-map used (name_in names))) (ni ∙ same ∙ sym nj) in
           sym ei ∙ ap (λ k. get_or used k 0) e ∙ ej
 
   -- the name's slot is used
@@ -141,14 +139,14 @@ module _ (names bytes : List (List ℕ)) (used unused : List ℕ) (d : Disc) whe
       let e = file [] [] in
       ap (list_any (has_name name)) h.files
       ∙ any-name name e (files_in names bytes used) i (omega (arith, at.within, length-files names bytes used))
-        (ap (λ f. f.name) (get_or-files names bytes used i e at.within) ∙ at.is)
+      (ap (λ f. f.name) (get_or-files names bytes used i e at.within) ∙ at.is)
 
   pub file_named-at : HasFiles → (name : List ℕ) (i : ℕ) → IsAt names used name i → file_named d name ≡ Some (file_in names bytes (get_or used i 0))
   file_named-at h name i at =
       let e = file [] [] in
       ap (find (has_name name)) h.files
       ∙ find-name name e (files_in names bytes used) i (ordered names used unused h.slots bytes) (omega (arith, at.within, length-files names bytes used))
-        (ap (λ f. f.name) (get_or-files names bytes used i e at.within) ∙ at.is)
+      (ap (λ f. f.name) (get_or-files names bytes used i e at.within) ∙ at.is)
       ∙ ap Some (get_or-files names bytes used i e at.within)
 
   pub bytes_of-at : HasFiles → (name : List ℕ) (i : ℕ) → IsAt names used name i → bytes_of d name ≡ get_or bytes (get_or used i 0) []

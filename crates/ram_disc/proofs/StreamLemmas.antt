@@ -1,14 +1,14 @@
 -- The streams of a disc, and the slots that they stand on.
-use Rattle.std.proofs.Common.{◌≡◌, ◌≢◌, ℕ, zero, suc, ◌+◌, ◌-◌, ◌/◌, ◌<◌, ◌≤◌, List, [], ◌∷◌, length, map, get_or, set, take, cond, not, eqb, ltb, ◌&&◌, ◌||◌, Bool, true, false, Option, Some, None, refl, sym, ap, ◌∙◌, subst, arith, inl, inr}
+use Rattle.std.proofs.Common.{◌≡◌, ℕ, zero, suc, ◌+◌, ◌-◌, ◌<◌, List, [], ◌∷◌, length, get_or, take, cond, eqb, ltb, ◌&&◌, ◌||◌, Bool, true, false, Option, Some, None, refl, sym, ap, ◌∙◌, arith, inl, inr}
 use Rattle.std.specs.List.{list_any, position, position_or_len}
 use Rattle.std.specs.Option.{is_none}
 use Rattle.std.specs.Str.{bytes_eq}
 use Rattle.std.proofs.lemmas.Bool.{cases_eq, eq-eqb, ne_eqb, true≢false}
-use Rattle.std.proofs.lemmas.List.{get_or-set_other, get_or-set_same, length-map, length-set, take-map}
+use Rattle.std.proofs.lemmas.List.{length-map, take-map}
 use Rattle.linked_list.specs.Count.{times}
-use Rattle.ram_disc.specs.Contents.{Area, bytes_at, chain_at}
-use Rattle.ram_disc.specs.Disc.{Disc, Stream, is_on, is_used, is_writer_of, is_written, most_streams, shell_stream, stream_at}
-use Rattle.ram_disc.specs.Slots.{AreKept, AreSlots, HasPlace, IsAt, StandsAt, name_in, place_in, stands_on, stream_in, streams_in, writes_on}
+use Rattle.ram_disc.specs.Contents.{Area}
+use Rattle.ram_disc.specs.Disc.{Disc, Stream, is_on, is_used, is_writer_of, is_written, stream_at}
+use Rattle.ram_disc.specs.Slots.{AreKept, AreSlots, IsAt, StandsAt, name_in, place_in, stands_on, stream_in, streams_in, writes_on}
 use Rattle.ram_disc.specs.declared.places.Place.{Place}
 use Rattle.ram_disc.proofs.NameOrder.{bytes_eq-other, bytes_eq-self}
 use Rattle.ram_disc.proofs.SlotLemmas.{at-times, slots-distinct}
@@ -74,9 +74,9 @@ module _ (names : List (List ℕ)) (a : Area) (used unused : List ℕ) (ps : Lis
       elim (cases_eq t (get_or used i 0)) [
         | inl e ↦ ap (λ n. bytes_eq n name) (ap (name_in names) e ∙ at.is) ∙ bytes_eq-self name ∙ sym (eq-eqb t (get_or used i 0) e)
         | inr ne ↦ (
-          bytes_eq-other (name_in names t) name (λ same. ne (slots-distinct names used unused h t (get_or used i 0) some (at-times names used unused name i at) (same ∙ sym at.is)))
-          ∙ sym (ne_eqb t (get_or used i 0) ne)
-        )
+            bytes_eq-other (name_in names t) name (λ same. ne (slots-distinct names used unused h t (get_or used i 0) some (at-times names used unused name i at) (same ∙ sym at.is)))
+            ∙ sym (ne_eqb t (get_or used i 0) ne)
+            )
       ]
 
   pub is_used-at : AreKept names a used unused ps → (d : Disc) (name : List ℕ) (i : ℕ) → d.streams ≡ streams_in names ps → IsAt names used name i

@@ -1,23 +1,22 @@
 -- What reading on, appending and restoring a stream come to on a disc that is kept in slots.
-use Rattle.std.proofs.Common.{◌≡◌, ◌≢◌, ℕ, zero, suc, ◌+◌, ◌-◌, ◌*◌, ◌/◌, ◌<◌, ◌≤◌, List, [], ◌∷◌, ◌++◌, length, map, get_or, set, take, drop, cond, not, eqb, leb, ltb, ◌&&◌, ◌||◌, Bool, true, false, Option, Some, None, Result, Ok, Err, refl, sym, ap, ◌∙◌, subst, arith, inl, inr}
-use Rattle.std.specs.List.{list_any, sum_by}
-use Rattle.std.specs.Option.{is_none, is_some}
-use Rattle.std.proofs.lemmas.Bool.{cases_eq, cases_lt, le-leb, lt-leb, true≢false}
-use Rattle.std.proofs.lemmas.List.{length-append, length-drop, length-take-le, map-set}
+use Rattle.std.proofs.Common.{◌≡◌, ℕ, ◌+◌, ◌-◌, ◌*◌, ◌/◌, ◌<◌, ◌≤◌, List, [], ◌∷◌, ◌++◌, length, get_or, set, take, drop, cond, not, leb, Bool, true, false, Option, Some, None, Ok, Err, refl, sym, ap, ◌∙◌, subst, arith, inl, inr}
+use Rattle.std.specs.List.{sum_by}
+use Rattle.std.proofs.lemmas.Bool.{cases_lt, le-leb, lt-leb, true≢false}
+use Rattle.std.proofs.lemmas.List.{length-append, map-set}
 use Rattle.std.proofs.lemmas.List.Sums.{get_or-le-sum_by, sum_by-set}
 use Rattle.linked_list.specs.Count.{times}
 use Rattle.ram_disc.specs.Contents.{Adds, Area, bytes_at, chain_at}
-use Rattle.ram_disc.specs.Disc.{Disc, File, Stream, bytes_of, has_file, is_used, is_written, most_sectors, most_streams, sectors_of, sectors_taken, shell_stream, stream_at}
-use Rattle.ram_disc.specs.DiscCalls.{Outcome, after_append, after_read_on, after_restore, bytes_left, bytes_read, can_stand, can_write_from, file, has_room, is_reader, is_writer, moved_on, unless_refused, with_bytes, with_file, with_more, with_place, with_stream}
-use Rattle.ram_disc.specs.Slots.{AreKept, HasPlace, IsAt, StandsAt, disc_in, file_in, files_in, name_in, place_in, stands_on, stream_in, streams_in, writes_on}
+use Rattle.ram_disc.specs.Disc.{Disc, File, Stream, bytes_of, most_sectors, sectors_of, sectors_taken, stream_at}
+use Rattle.ram_disc.specs.DiscCalls.{Outcome, after_append, after_read_on, bytes_left, bytes_read, file, has_room, is_reader, is_writer, moved_on, unless_refused, with_bytes, with_file, with_more, with_stream}
+use Rattle.ram_disc.specs.Slots.{AreKept, IsAt, disc_in, files_in, name_in, place_in, stream_in, streams_in}
 use Rattle.ram_disc.specs.declared.places.Place.{Place}
-use Rattle.ram_disc.proofs.Calls.{outcome, place-reads, stream-set}
-use Rattle.ram_disc.proofs.ChainLemmas.{place-times, times-get_or}
+use Rattle.ram_disc.proofs.Calls.{outcome, stream-set}
+use Rattle.ram_disc.proofs.ChainLemmas.{place-times}
 use Rattle.ram_disc.proofs.ChangeCalls.{files-set}
 use Rattle.ram_disc.proofs.FileLists.{with_file-set}
-use Rattle.ram_disc.proofs.KeptStreams.{Comes, keep-append, keep-stream, none-some, place-inside, place-other, some-same}
-use Rattle.ram_disc.proofs.SlotLemmas.{HasFiles, bytes_of-at, get_or-files, has_file-at, has_file-none, length-files, ordered}
-use Rattle.ram_disc.proofs.StreamLemmas.{is_used-at, is_written-at, stream_at-place}
+use Rattle.ram_disc.proofs.KeptStreams.{keep-append, keep-stream, place-inside}
+use Rattle.ram_disc.proofs.SlotLemmas.{HasFiles, bytes_of-at, get_or-files, length-files, ordered}
+use Rattle.ram_disc.proofs.StreamLemmas.{stream_at-place}
 use Rattle.ram_disc.proofs.ValidDisc.{place-number, stream_of_place}
 
 module _ (names : List (List ℕ)) (a : Area) (used unused : List ℕ) (ps : List (Option Place)) where
@@ -42,8 +41,13 @@ module _ (names : List (List ℕ)) (a : Area) (used unused : List ℕ) (ps : Lis
       let spot = spot-at h p some in
       let old = files_in names a.bytes used in
       let size : File → ℕ = λ f. sectors_of (length f.bytes) in
-      omega (arith, h.filled.room, get_or-le-sum_by size old spot.0 (file [] []) (omega (arith, spot.2.within, length-files names a.bytes used)),
-        ap size (get_or-files names a.bytes used spot.0 (file [] []) spot.2.within), ap (λ t. sectors_of (length (bytes_at a t))) spot.1)
+      omega (
+        arith,
+        h.filled.room,
+        get_or-le-sum_by size old spot.0 (file [] []) (omega (arith, spot.2.within, length-files names a.bytes used)),
+        ap size (get_or-files names a.bytes used spot.0 (file [] []) spot.2.within),
+        ap (λ t. sectors_of (length (bytes_at a t))) spot.1,
+      )
 
   -- the stream of a number
   stream-is : (k : ℕ) (p : Place) → place_in ps k ≡ Some p → stream_at D k ≡ Some (stream_of_place names p)
@@ -57,15 +61,17 @@ module _ (names : List (List ℕ)) (a : Area) (used unused : List ℕ) (ps : Lis
 
   pub read-none : (k count : ℕ) → place_in ps k ≡ None → (after_read_on D k count ≡ outcome (Err 46) D) × (bytes_read D k count ≡ [])
   read-none k count e =
-      let none = stream-none k e in
-      ( ap (λ s. Read k (bytes_read D k count) (stream_at D k) (is_reader s)) none
-      , ap (λ s. cond (is_reader s) (take count (bytes_left D (stream_at D k))) []) none )
+      let none = stream-none k e in (
+        ap (λ s. Read k (bytes_read D k count) (stream_at D k) (is_reader s)) none,
+        ap (λ s. cond (is_reader s) (take count (bytes_left D (stream_at D k))) []) none,
+      )
 
   pub read-writer : (k count : ℕ) (p : Place) → place_in ps k ≡ Some p → p.writes ≡ true → (after_read_on D k count ≡ outcome (Err 46) D) × (bytes_read D k count ≡ [])
   read-writer k count p e w =
-      let no : is_reader (stream_at D k) ≡ false = ap is_reader (stream-is k p e) ∙ ap not w in
-      ( ap (Read k (bytes_read D k count) (stream_at D k)) no
-      , ap (λ t. cond t (take count (bytes_left D (stream_at D k))) []) no )
+      let no : is_reader (stream_at D k) ≡ false = ap is_reader (stream-is k p e) ∙ ap not w in (
+        ap (Read k (bytes_read D k count) (stream_at D k)) no,
+        ap (λ t. cond t (take count (bytes_left D (stream_at D k))) []) no,
+      )
 
   -- the bytes that are read
   pub read-bytes : AreKept names a used unused ps → (k count : ℕ) (p : Place) → place_in ps k ≡ Some p → p.writes ≡ false
@@ -85,9 +91,9 @@ module _ (names : List (List ℕ)) (a : Area) (used unused : List ℕ) (ps : Lis
       let yes : is_reader (stream_at D k) ≡ true = ap is_reader (stream-is k p e) ∙ ap not r in
       let len : length (bytes_read D k count) ≡ n = ap length (read-bytes h k count p e r) ∙ size in
       let new : moved_on n (Some (stream_of_place names p)) ≡ stream_in names (Some q) =
-          ap (λ x. Some (stream (name_in names p.slot) x p.writes)) (sym moved)
-          ∙ ap (λ t. Some (stream (name_in names t) q.position p.writes)) (sym slot)
-          ∙ ap (λ w. Some (stream (name_in names q.slot) q.position w)) (sym mode) in
+      ap (λ x. Some (stream (name_in names p.slot) x p.writes)) (sym moved)
+      ∙ ap (λ t. Some (stream (name_in names t) q.position p.writes)) (sym slot)
+      ∙ ap (λ w. Some (stream (name_in names q.slot) q.position w)) (sym mode) in
       ap (Read k (bytes_read D k count) (stream_at D k)) yes
       ∙ ap (λ m. outcome (Ok m) (with_stream D k (moved_on m (stream_at D k)))) len
       ∙ ap (λ s. outcome (Ok n) (with_stream D k (moved_on n s))) (stream-is k p e)
@@ -114,7 +120,7 @@ module _ (names : List (List ℕ)) (a : Area) (used unused : List ℕ) (ps : Lis
         others = λ j o f w same. sym ((h.stand j o f).alone w (k - 1) p number.1 (sym (same ∙ slot)));
         shell_reads = λ t. reads;
         sector = λ less. sector (omega (arith, less, moved, ap length bytes)) ∙ ap (λ t. get_or (chain_at a t) ((p.position + n) / 512) 0) (sym slot)
-          ∙ ap (λ x. get_or (chain_at a q.slot) (x / 512) 0) (sym moved);
+            ∙ ap (λ x. get_or (chain_at a q.slot) (x / 512) 0) (sym moved);
       })
 
   abbrev Append : ℕ → List ℕ → Bool → Bool → Outcome Unit
@@ -147,11 +153,17 @@ module _ (names : List (List ℕ)) (a : Area) (used unused : List ℕ) (ps : Lis
       let size : File → ℕ = λ f. sectors_of (length f.bytes) in
       let lt : spot.0 < length old = omega (arith, spot.2.within, length-files names a.bytes used) in
       let is : Files p more ≡ set old spot.0 new =
-          with_file-set new old spot.0 (ordered names used unused h.slots a.bytes) lt
-          (ap (λ f. f.name) (get_or-files names a.bytes used spot.0 new spot.2.within) ∙ spot.2.is) in
-      omega (arith, ap (sum_by size) is, sum_by-set size old spot.0 new (file [] []) lt,
-        ap size (get_or-files names a.bytes used spot.0 (file [] []) spot.2.within), ap (λ t. sectors_of (length (bytes_at a t))) spot.1,
-        h.filled.room, length-append (bytes_at a p.slot) more)
+      with_file-set new old spot.0 (ordered names used unused h.slots a.bytes) lt
+      (ap (λ f. f.name) (get_or-files names a.bytes used spot.0 new spot.2.within) ∙ spot.2.is) in
+      omega (
+        arith,
+        ap (sum_by size) is,
+        sum_by-set size old spot.0 new (file [] []) lt,
+        ap size (get_or-files names a.bytes used spot.0 (file [] []) spot.2.within),
+        ap (λ t. sectors_of (length (bytes_at a t))) spot.1,
+        h.filled.room,
+        length-append (bytes_at a p.slot) more,
+      )
 
   append-writer : AreKept names a used unused ps → (k : ℕ) (more : List ℕ) (p : Place) → place_in ps k ≡ Some p → p.writes ≡ true
       → after_append D k more ≡ Append k more true (leb (sectors_taken (Files p more)) most_sectors)
@@ -174,12 +186,12 @@ module _ (names : List (List ℕ)) (a : Area) (used unused : List ℕ) (ps : Lis
       let st = h.stand (k - 1) p (place-number ps k p e).1 in
       let spot = spot-at h p st.is_there in
       let fs : Files p more ≡ files_in names b.bytes used =
-          files-set names a used unused ps b spot.0 (name_in names p.slot) (bytes_at a p.slot ++ more) h spot.2
-          (adds.bytes ∙ ap (λ t. set a.bytes t (bytes_at a p.slot ++ more)) (sym spot.1)) in
+      files-set names a used unused ps b spot.0 (name_in names p.slot) (bytes_at a p.slot ++ more) h spot.2
+      (adds.bytes ∙ ap (λ t. set a.bytes t (bytes_at a p.slot ++ more)) (sym spot.1)) in
       let new : moved_on (length more) (Some (stream_of_place names p)) ≡ stream_in names (Some q) =
-          ap (λ x. Some (stream (name_in names p.slot) x p.writes)) (sym moved)
-          ∙ ap (λ t. Some (stream (name_in names t) q.position p.writes)) (sym slot)
-          ∙ ap (λ x. Some (stream (name_in names q.slot) q.position x)) (sym mode) in
+      ap (λ x. Some (stream (name_in names p.slot) x p.writes)) (sym moved)
+      ∙ ap (λ t. Some (stream (name_in names t) q.position p.writes)) (sym slot)
+      ∙ ap (λ x. Some (stream (name_in names q.slot) q.position x)) (sym mode) in
       append-writer h k more p e w
       ∙ ap (Append k more true) (le-leb (sectors_taken (Files p more)) most_sectors (omega (arith, room, sectors-then h more p st.is_there)))
       ∙ ap (λ d. outcome (Ok tt) (with_stream d k (moved_on (length more) (stream_at D k)))) (append-is h k more p e)

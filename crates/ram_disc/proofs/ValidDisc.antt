@@ -1,8 +1,7 @@
 -- A disc that is kept in slots is a valid one.
-use Rattle.std.proofs.Common.{◌≡◌, ◌≢◌, ℕ, zero, suc, ◌+◌, ◌-◌, ◌<◌, ◌≤◌, List, [], ◌∷◌, length, map, get_or, cond, eqb, Bool, true, false, Option, Some, None, refl, sym, ap, ◌∙◌, subst, arith, inl, inr}
+use Rattle.std.proofs.Common.{◌≡◌, ℕ, ◌-◌, ◌<◌, List, [], length, get_or, cond, Option, Some, None, refl, sym, ap, ◌∙◌, subst, arith, inl, inr}
 use Rattle.std.proofs.lemmas.Bool.{cases_eq, eq-eqb, ne_eqb}
 use Rattle.std.proofs.lemmas.List.{length-map}
-use Rattle.linked_list.specs.Count.{times}
 use Rattle.ram_disc.specs.Contents.{Area, bytes_at}
 use Rattle.ram_disc.specs.Disc.{Disc, IsDisc, StandsOn, Stream, bytes_of, stream_at}
 use Rattle.ram_disc.specs.DiscCalls.{file}
@@ -51,7 +50,7 @@ module _ (names : List (List ℕ)) (a : Area) (used unused : List ℕ) (ps : Lis
       let at : IsAt names used (name_in names p.slot) spot.0 = record { within = spot.1; is = ap (name_in names) spot.2 } in
       let files : HasFiles names a.bytes used unused D = record { slots = h.slots; files = refl } in
       let bytes : bytes_of D (name_in names p.slot) ≡ bytes_at a p.slot =
-          bytes_of-at names a.bytes used unused D files (name_in names p.slot) spot.0 at ∙ ap (λ s. get_or a.bytes s []) spot.2 in
+      bytes_of-at names a.bytes used unused D files (name_in names p.slot) spot.0 at ∙ ap (λ s. get_or a.bytes s []) spot.2 in
       record {
         is_there = has_file-at names a.bytes used unused D files (name_in names p.slot) spot.0 at;
         within = omega (arith, st.within, ap length bytes);

@@ -72,8 +72,7 @@ impl Directory {
 
     /// Gives a slot this name, at its place, where one is left.
     pub(crate) fn add(&mut self, name: &Name, place: usize) -> Option<u8>
-        requires slots {
-            AreSlots self.old.names.items self.old.used.items self.old.unused.items }
+        requires slots { AreSlots self.old.names.items self.old.used.items self.old.unused.items }
         requires place { place ≤ length self.old.used.items }
         ensures names { MatchOption result (self.new.names.items ≡ self.old.names.items)
             (λ s. self.new.names.items ≡ slice_set self.old.names.items s name.now) }
@@ -91,8 +90,7 @@ impl Directory {
 
     /// Makes the slot at a place one that is not used.
     pub(crate) fn remove(&mut self, place: usize) -> u8
-        requires slots {
-            AreSlots self.old.names.items self.old.used.items self.old.unused.items }
+        requires slots { AreSlots self.old.names.items self.old.used.items self.old.unused.items }
         requires place { place < length self.old.used.items }
         ensures slot { result ≡ slice_index self.old.used.items place }
         ensures names { self.new.names.items ≡ self.old.names.items }
@@ -106,8 +104,7 @@ impl Directory {
 
     /// Gives the slot at a place another name, which no slot has. It comes to the place that is the name's then.
     pub(crate) fn rename(&mut self, place: usize, name: &Name, to: usize)
-        requires slots {
-            AreSlots self.old.names.items self.old.used.items self.old.unused.items }
+        requires slots { AreSlots self.old.names.items self.old.used.items self.old.unused.items }
         requires place { place < length self.old.used.items }
         requires to { to < length self.old.used.items }
         ensures names { self.new.names.items

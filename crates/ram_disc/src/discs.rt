@@ -8,17 +8,26 @@ use crate::Name;
 use crate::contents::Contents;
 use crate::directory::Directory;
 use crate::file_bytes::FileBytes;
-use crate::places::{Place, STREAMS, free_stream, is_free, is_open, is_written, may_stand, place_at, stream_to_open, writer};
+use crate::places::{
+    Place, STREAMS, free_stream, is_free, is_open, is_written, may_stand, place_at, stream_to_open,
+    writer,
+};
 use std::alloc::Global;
 use std::marker::Model;
 use tp_io::WantMemory;
 
 const NOT_FOUND: u32 = 41;
+
 const THERE_ALREADY: u32 = 42;
+
 const DISC_FULL: u32 = 43;
+
 const DIRECTORY_FULL: u32 = 44;
+
 const NO_STREAM: u32 = 45;
+
 const NOT_OPEN: u32 = 46;
+
 const IN_USE: u32 = 47;
 
 /// A disc of 64 files at most and 4,096 sectors of 512 bytes, on which 17 streams may be open.
@@ -74,7 +83,10 @@ impl Disc {
             return None;
         }
         let slot = self.directory.slot_at(k as usize - 1);
-        Some((self.directory.name_of(slot), self.contents.len(slot as usize)))
+        Some((
+            self.directory.name_of(slot),
+            self.contents.len(slot as usize),
+        ))
     }
 
     /// The bytes of the file of this name, lent, where there is one.
@@ -96,7 +108,11 @@ impl Disc {
         let Some(place) = place_at(&self.streams, k) else {
             return None;
         };
-        Some((self.directory.name_of(place.slot), place.position, place.writes))
+        Some((
+            self.directory.name_of(place.slot),
+            place.position,
+            place.writes,
+        ))
     }
 
     /// Opens a file to read, from its start: for the shell by its own stream, which is not open, else by the lowest free one.
@@ -174,7 +190,9 @@ impl Disc {
         let left = self.contents.len(slot) - place.position;
         let count = into.len().min(left as usize);
         let piece = &mut into[..count];
-        let sector = self.contents.read(slot, place.position, place.sector, piece);
+        let sector = self
+            .contents
+            .read(slot, place.position, place.sector, piece);
         self.streams[stream as usize - 1] = Some(place.after(count as u32, sector));
         Ok(count as u32)
     }

@@ -2,10 +2,10 @@
 #![tactic(auto)]
 
 mod contents;
-pub mod file_bytes;
-pub mod names;
 mod directory;
 pub mod discs;
+pub mod file_bytes;
+pub mod names;
 mod places;
 mod sectors;
 

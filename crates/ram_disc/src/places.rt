@@ -48,9 +48,7 @@ pub(crate) fn is_open(streams: &[Option<Place>], slot: u8) -> bool
 pub(crate) fn is_written(streams: &[Option<Place>], slot: u8) -> bool
     ensures { result ≡ list_any (writes_on slot) streams.now }
 {
-    streams
-        .iter()
-        .any(|place| matches!(place, Some(place) if place.slot == slot && place.writes))
+    streams.iter().any(|place| matches!(place, Some(place) if place.slot == slot && place.writes))
 }
 
 /// The stream that an opening takes, counted from 0: the shell's, or the lowest of the file handler's that is free.
@@ -114,9 +112,11 @@ pub(crate) fn may_stand(
 ) -> bool
     ensures { result ≡ (nat_le position size && not (list_any (writes_on slot) streams.now)
         && (not writes || (not (k == shell_stream)
-            && ((position == size) && not (list_any (stands_on slot) streams.now))))) }
+        && ((position == size) && not (list_any (stands_on slot) streams.now))))) }
 {
-    position <= size && !is_written(streams, slot) && (!writes || may_write(streams, k, slot, position == size))
+    position <= size
+        && !is_written(streams, slot)
+        && (!writes || may_write(streams, k, slot, position == size))
 }
 
 // Whether stream k may write a slot, at the end of its bytes or not.

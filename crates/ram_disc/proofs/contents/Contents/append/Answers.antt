@@ -1,6 +1,6 @@
-use Rattle.std.proofs.Common.{[], ◌∷◌, ◌≡◌, ◌++◌, ◌+◌, ◌<◌, length, get_or, set, take, sym, subst, ap, ◌∙◌, arith}
+use Rattle.std.proofs.Common.{[], ◌∷◌, ◌≡◌, ◌++◌, ◌+◌, length, get_or, take, sym, subst, ap, ◌∙◌, arith}
 use Rattle.std.proofs.lemmas.List.{get_or-set_same, length-append, length-set, length-take-le, take_all, take_more}
-use Rattle.ram_disc.specs.Contents.{Adds, Area, bytes_at}
+use Rattle.ram_disc.specs.Contents.{Adds, bytes_at}
 use Rattle.ram_disc.proofs.ContentsLemmas.{Adds-more, Adds-none}
 use Rattle.ram_disc.proofs.contents.Contents.append.Goals as goal
 

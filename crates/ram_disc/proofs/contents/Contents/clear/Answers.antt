@@ -1,4 +1,4 @@
-use Rattle.std.proofs.Common.{[], ◌∷◌, ◌≡◌, ◌++◌, ◌+◌, ◌<◌, length, get_or, set, refl, sym, subst, ap, ◌∙◌, arith}
+use Rattle.std.proofs.Common.{[], ◌<◌, length, get_or, set, subst, ap, ◌∙◌, arith}
 use Rattle.std.proofs.lemmas.List.{get_or-set_other}
 use Rattle.ram_disc.specs.Contents.{Area, Empties, all_bytes}
 use Rattle.ram_disc.proofs.ContentsLemmas.{clear-area, clear-bytes, length-slot}

@@ -1,7 +1,5 @@
-use Rattle.std.proofs.Common.{[], ◌≡◌, ℕ, ◌+◌, ◌*◌, ◌<◌, length, get_or, replicate, refl, sym, subst, ap, ◌∙◌, arith}
-use Rattle.ram_disc.specs.Chain.{Chains}
-use Rattle.ram_disc.specs.Contents.{Area, IsArea, all_bytes}
-use Rattle.ram_disc.specs.Disc.{most_files, most_sectors}
+use Rattle.std.proofs.Common.{refl, arith}
+use Rattle.ram_disc.specs.Disc.{most_files}
 use Rattle.ram_disc.proofs.ContentsLemmas.{area-new, bytes-new}
 use Rattle.ram_disc.proofs.contents.Contents.new.Goals as goal
 

@@ -1,5 +1,4 @@
-use Rattle.std.proofs.Common.{[], ◌∷◌, ◌≡◌, ◌++◌, ◌+◌, ◌*◌, ◌%◌, ◌<◌, length, get_or, set, refl, sym, subst, ap, ◌∙◌, arith}
-use Rattle.std.proofs.lemmas.List.{length-set}
+use Rattle.std.proofs.Common.{[], ◌∷◌, ◌+◌, ◌<◌, length, get_or, set, refl, sym, subst, ap, ◌∙◌, arith}
 use Rattle.ram_disc.specs.Contents.{Adds, Area, IsArea, all_bytes, bytes_at}
 use Rattle.ram_disc.proofs.ContentsLemmas.{at-inside, length-slot, push-area, push-bytes, size-below}
 use Rattle.ram_disc.proofs.contents.Contents.push.Goals as goal

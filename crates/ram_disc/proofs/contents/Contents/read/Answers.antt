@@ -1,4 +1,4 @@
-use Rattle.std.proofs.Common.{[], ◌≡◌, ℕ, ◌+◌, ◌*◌, ◌/◌, ◌%◌, ◌<◌, ◌≤◌, ◌≢◌, length, get_or, set, take, drop, sym, ap, ◌∙◌, arith, below_more}
+use Rattle.std.proofs.Common.{[], ◌≡◌, ◌/◌, ◌<◌, ◌≢◌, length, get_or, take, drop, sym, ap, ◌∙◌, arith, below_more}
 use Rattle.std.proofs.lemmas.List.{get_or-drop, get_or-set_other, get_or-set_same, get_or-take, get_or_read, length-drop, length-take-le}
 use Rattle.std.proofs.lemmas.Grind.{same_number_lists}
 use Rattle.ram_disc.specs.Contents.{Area, bytes_at, chain_at, place_in}

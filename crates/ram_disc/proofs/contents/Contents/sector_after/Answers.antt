@@ -1,4 +1,4 @@
-use Rattle.std.proofs.Common.{[], ◌≡◌, ◌+◌, ◌/◌, ◌%◌, ◌<◌, length, get_or, sym, ap, ◌∙◌, arith}
+use Rattle.std.proofs.Common.{[], ◌≡◌, ◌+◌, ◌/◌, ◌<◌, length, get_or, sym, ap, ◌∙◌, arith}
 use Rattle.ram_disc.specs.Contents.{Area, bytes_at, chain_at}
 use Rattle.ram_disc.proofs.ContentsLemmas.{apart-below, length-slot, size-below}
 use Rattle.ram_disc.proofs.contents.Contents.sector_after.Goals as goal

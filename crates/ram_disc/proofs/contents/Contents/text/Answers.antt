@@ -1,4 +1,4 @@
-use Rattle.std.proofs.Common.{[], ◌≡◌, ◌+◌, ◌/◌, ◌<◌, length, get_or, sym, ap, ◌∙◌, arith}
+use Rattle.std.proofs.Common.{◌<◌, length, get_or, sym, ap, ◌∙◌, arith}
 use Rattle.ram_disc.specs.Contents.{Area, bytes_at, bytes_in, place_in}
 use Rattle.ram_disc.proofs.ContentsLemmas.{get_or-all_bytes, place-inside}
 use Rattle.ram_disc.proofs.contents.Contents.text.Goals as goal

@@ -1,4 +1,4 @@
-use Rattle.std.proofs.Common.{[], ◌≡◌, ◌<◌, length, get_or, ◌∙◌, sym, arith}
+use Rattle.std.proofs.Common.{[], arith}
 use Rattle.std.proofs.lemmas.List.{ext_get_or}
 use Rattle.ram_disc.proofs.directory.Directory.copy_from.Goals as goal
 

@@ -1,4 +1,4 @@
-use Rattle.std.proofs.Common.{◌≡◌, get_or, ◌∙◌, arith}
+use Rattle.std.proofs.Common.{arith}
 use Rattle.std.proofs.lemmas.List.{get_or_read}
 use Rattle.ram_disc.proofs.SlotLemmas.{used-inside}
 use Rattle.ram_disc.proofs.directory.Directory.rename.Goals as goal

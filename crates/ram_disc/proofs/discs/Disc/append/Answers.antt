@@ -1,11 +1,9 @@
-use Rattle.std.proofs.Common.{◌≡◌, ◌≢◌, ℕ, ◌+◌, ◌-◌, ◌/◌, ◌<◌, ◌≤◌, [], ◌∷◌, ◌++◌, length, get_or, set, take, drop, cond, not, min, Bool, true, false, Some, None, Ok, Err, refl, sym, ap, ◌∙◌, subst, arith}
-use Rattle.std.specs.List.{insert, list_any, position, remove}
-use Rattle.std.specs.Option.{is_none, is_some}
-use Rattle.ram_disc.specs.Contents.{Adds, Empties, bytes_at, chain_at}
+use Rattle.std.proofs.Common.{◌≡◌, ◌+◌, ◌-◌, ◌<◌, ◌≤◌, length, set, true, Some, Ok, Err, sym, ap, ◌∙◌, subst, arith}
+use Rattle.ram_disc.specs.Contents.{bytes_at}
 use Rattle.ram_disc.specs.Disc.{Disc, sectors_of}
-use Rattle.ram_disc.specs.Slots.{AreKept, HasPlace, IsAt, disc_in, place_in, stands_on, writes_on}
+use Rattle.ram_disc.specs.Slots.{disc_in, place_in}
 use Rattle.ram_disc.specs.declared.places.Place.{Place}
-use Rattle.std.proofs.lemmas.Bool.{false≢true, not-false, not-true}
+use Rattle.std.proofs.lemmas.Bool.{false≢true, not-false}
 use Rattle.ram_disc.specs.DiscCalls.{after_append}
 use Rattle.ram_disc.proofs.TransferCalls.{append-done, append-full, append-kept, lt-of-not, size-kept}
 use Rattle.ram_disc.proofs.ValidDisc.{place-number}
@@ -23,7 +21,7 @@ returns-then-not-has_room-clause-answer c =
     let e : place_in ps c.args.stream ≡ Some p = sym c.place_at.ensures ∙ c.in-Some.is in
     let w : p.writes ≡ true = not-false p.writes c.if-not-place.false in
     let full : sectors_of (length (bytes_at s.contents p.slot)) + s.contents.left < sectors_of (length (bytes_at s.contents p.slot) + length c.args.bytes.now) =
-        lt-of-not _ _ (λ room. false≢true (sym c.if-not-has_room.true ∙ c.has_room.ensures.1 room)) in
+    lt-of-not _ _ (λ room. false≢true (sym c.if-not-has_room.true ∙ c.has_room.ensures.1 room)) in
     subst (λ (d : Disc). Err 43 ≡ (after_append d c.args.stream c.args.bytes.now).answer) c.self.view_is
     (sym (ap (λ o. o.answer) (append-full ns s.contents us fs ps k c.args.stream c.args.bytes.now p e w full)))
 
@@ -39,7 +37,7 @@ returns-then-not-has_room-clause-disc c =
     let e : place_in ps c.args.stream ≡ Some p = sym c.place_at.ensures ∙ c.in-Some.is in
     let w : p.writes ≡ true = not-false p.writes c.if-not-place.false in
     let full : sectors_of (length (bytes_at s.contents p.slot)) + s.contents.left < sectors_of (length (bytes_at s.contents p.slot) + length c.args.bytes.now) =
-        lt-of-not _ _ (λ room. false≢true (sym c.if-not-has_room.true ∙ c.has_room.ensures.1 room)) in
+    lt-of-not _ _ (λ room. false≢true (sym c.if-not-has_room.true ∙ c.has_room.ensures.1 room)) in
     subst (λ (d : Disc). d ≡ (after_append d c.args.stream c.args.bytes.now).disc) c.self.view_is
     (sym (ap (λ o. o.disc) (append-full ns s.contents us fs ps k c.args.stream c.args.bytes.now p e w full)))
 
@@ -69,7 +67,7 @@ invariant_of-self c =
     let e : place_in ps c.args.stream ≡ Some p = sym c.place_at.ensures ∙ c.in-Some.is in
     let w : p.writes ≡ true = not-false p.writes c.if-not-place.false in
     let room : sectors_of (length (bytes_at s.contents p.slot) + length c.args.bytes.now) ≤ sectors_of (length (bytes_at s.contents p.slot)) + s.contents.left =
-        c.has_room.ensures.0 c.if-not-has_room.false in
+    c.has_room.ensures.0 c.if-not-has_room.false in
     let b = c.append.new.self in
     let q = c.after.result in
     let slot : q.slot ≡ p.slot = ap (λ (x : Place). x.slot) c.after.ensures in
@@ -89,7 +87,7 @@ returns-clause-answer c =
     let e : place_in ps c.args.stream ≡ Some p = sym c.place_at.ensures ∙ c.in-Some.is in
     let w : p.writes ≡ true = not-false p.writes c.if-not-place.false in
     let room : sectors_of (length (bytes_at s.contents p.slot) + length c.args.bytes.now) ≤ sectors_of (length (bytes_at s.contents p.slot)) + s.contents.left =
-        c.has_room.ensures.0 c.if-not-has_room.false in
+    c.has_room.ensures.0 c.if-not-has_room.false in
     let b = c.append.new.self in
     let q = c.after.result in
     let slot : q.slot ≡ p.slot = ap (λ (x : Place). x.slot) c.after.ensures in
@@ -110,7 +108,7 @@ returns-clause-disc c =
     let e : place_in ps c.args.stream ≡ Some p = sym c.place_at.ensures ∙ c.in-Some.is in
     let w : p.writes ≡ true = not-false p.writes c.if-not-place.false in
     let room : sectors_of (length (bytes_at s.contents p.slot) + length c.args.bytes.now) ≤ sectors_of (length (bytes_at s.contents p.slot)) + s.contents.left =
-        c.has_room.ensures.0 c.if-not-has_room.false in
+    c.has_room.ensures.0 c.if-not-has_room.false in
     let b = c.append.new.self in
     let q = c.after.result in
     let slot : q.slot ≡ p.slot = ap (λ (x : Place). x.slot) c.after.ensures in

@@ -1,10 +1,8 @@
-use Rattle.std.proofs.Common.{◌≡◌, ◌≢◌, ℕ, ◌+◌, ◌-◌, ◌/◌, ◌<◌, ◌≤◌, [], ◌∷◌, ◌++◌, length, get_or, set, take, drop, cond, not, min, Bool, true, false, Some, None, Ok, Err, refl, sym, ap, ◌∙◌, subst, arith}
-use Rattle.std.specs.List.{insert, list_any, position, remove}
-use Rattle.std.specs.Option.{is_none, is_some}
-use Rattle.ram_disc.specs.Contents.{Adds, Empties, bytes_at, chain_at}
-use Rattle.ram_disc.specs.Disc.{Disc, sectors_of}
-use Rattle.ram_disc.specs.Slots.{AreKept, HasPlace, IsAt, disc_in, place_in, stands_on, writes_on}
-use Rattle.ram_disc.specs.declared.places.Place.{Place}
+use Rattle.std.proofs.Common.{◌≡◌, [], ◌∷◌, ◌++◌, get_or, true, false, Ok, Err, sym, ap, ◌∙◌, subst}
+use Rattle.std.specs.List.{list_any, remove}
+use Rattle.ram_disc.specs.Contents.{Empties}
+use Rattle.ram_disc.specs.Disc.{Disc}
+use Rattle.ram_disc.specs.Slots.{AreKept, disc_in, stands_on}
 use Rattle.ram_disc.specs.DiscCalls.{after_delete}
 use Rattle.ram_disc.proofs.ChangeCalls.{delete-done, delete-missing, delete-used}
 use Rattle.ram_disc.proofs.KeptSlots.{keep-delete}
@@ -74,7 +72,7 @@ invariant_of-self c =
     let unused : r.new.self.unused.items ≡ fs ++ get_or us c.in-Ok.place 0 ∷ [] = r.ensures.unused ∙ ap (λ t. fs ++ t ∷ []) r.ensures.slot in
     subst (λ n. AreKept n c.clear.new.self r.new.self.used.items r.new.self.unused.items ps) (sym r.ensures.names)
     (subst (λ u. AreKept ns c.clear.new.self u r.new.self.unused.items ps) (sym r.ensures.used)
-     (subst (λ u. AreKept ns c.clear.new.self (remove us c.in-Ok.place) u ps) (sym unused) kept))
+    (subst (λ u. AreKept ns c.clear.new.self (remove us c.in-Ok.place) u ps) (sym unused) kept))
 
 pub returns-clause-answer : goal.returns-clause-answer
 returns-clause-answer c =

@@ -1,4 +1,4 @@
-use Rattle.std.proofs.Common.{◌≡◌, refl, sym, ap, ◌∙◌, arith}
+use Rattle.std.proofs.Common.{arith}
 use Rattle.ram_disc.proofs.ChangeCalls.{kept-new}
 use Rattle.ram_disc.proofs.discs.Disc.new.Goals as goal
 

@@ -1,4 +1,4 @@
-use Rattle.std.proofs.Common.{[], ◌≡◌, ◌-◌, ◌<◌, length, get_or, cond, Some, None, refl, sym, ap, ◌∙◌, subst, arith}
+use Rattle.std.proofs.Common.{[], ◌≡◌, ◌-◌, ◌<◌, length, get_or, cond, Some, None, sym, ap, ◌∙◌, subst, arith}
 use Rattle.std.specs.List.{slice_get}
 use Rattle.std.specs.Option.{option_map}
 use Rattle.std.proofs.lemmas.Bool.{ne_eqb}
@@ -27,9 +27,9 @@ returns c =
     let fs = files_in ns s.contents.bytes us in
     let d = disc_in ns s.contents.bytes us s.streams in
     let is : nth_of d k ≡ Some (name_in ns (get_or us (k - 1) 0), length (bytes_at s.contents (get_or us (k - 1) 0))) =
-        ap (λ b. cond b None (option_map (λ f. (f.name, length f.bytes)) (slice_get fs (k - 1)))) (ne_eqb k 0 c.if-k-eq0.false)
-        ∙ ap (option_map (λ f. (f.name, length f.bytes))) (slice_get-get_or fs (k - 1) (file [] []) (omega (arith, lt, length-files ns s.contents.bytes us))
-          ∙ ap Some (get_or-files ns s.contents.bytes us (k - 1) (file [] []) lt)) in
+    ap (λ b. cond b None (option_map (λ f. (f.name, length f.bytes)) (slice_get fs (k - 1)))) (ne_eqb k 0 c.if-k-eq0.false)
+    ∙ ap (option_map (λ f. (f.name, length f.bytes))) (slice_get-get_or fs (k - 1) (file [] []) (omega (arith, lt, length-files ns s.contents.bytes us))
+    ∙ ap Some (get_or-files ns s.contents.bytes us (k - 1) (file [] []) lt)) in
     let name : c.name_of.result ≡ name_in ns (get_or us (k - 1) 0) = c.name_of.ensures ∙ ap (name_in ns) c.slot_at-slot.ensures in
     let size : c.len-2.result ≡ length (bytes_at s.contents (get_or us (k - 1) 0)) = c.len-2.ensures ∙ ap (λ t. length (bytes_at s.contents t)) c.slot_at-slot.ensures in
     subst (λ (d : Disc). Some (c.name_of.result, c.len-2.result) ≡ nth_of d k) c.self.view_is

@@ -1,10 +1,10 @@
-use Rattle.std.proofs.Common.{◌≡◌, ◌≢◌, ℕ, ◌+◌, ◌-◌, ◌/◌, ◌<◌, ◌≤◌, [], ◌∷◌, ◌++◌, length, get_or, set, take, drop, cond, not, Bool, true, false, Some, None, Ok, Err, refl, sym, ap, ◌∙◌, subst, arith}
+use Rattle.std.proofs.Common.{◌≡◌, ℕ, ◌+◌, ◌<◌, length, get_or, set, take, cond, true, false, Some, Ok, Err, sym, ap, ◌∙◌, subst, arith}
 use Rattle.std.specs.List.{list_any, position}
 use Rattle.std.specs.Option.{is_none}
 use Rattle.ram_disc.specs.Contents.{bytes_at, chain_at}
 use Rattle.ram_disc.specs.Disc.{Disc}
 use Rattle.ram_disc.specs.DiscCalls.{after_open_read}
-use Rattle.ram_disc.specs.Slots.{AreKept, IsAt, disc_in, writes_on}
+use Rattle.ram_disc.specs.Slots.{AreKept, disc_in, writes_on}
 use Rattle.ram_disc.specs.declared.places.Place.{Place}
 use Rattle.ram_disc.proofs.Calls.{open_read-done, open_read-full, open_read-kept, open_read-missing, open_read-written, to-open}
 use Rattle.ram_disc.proofs.discs.Disc.open_read.Goals as goal
@@ -135,7 +135,7 @@ invariant_of-self c =
     let P : ℕ → Place = λ t. record { slot = t; position = 0; sector = c.sector_at-sector.result; writes = false } in
     subst (λ t. AreKept ns s.contents us fs (set ps c.in-Some.k (Some (P t)))) (sym e)
     (open_read-kept ns s.contents us fs ps c.self.invariant c.args.name.now c.args.shell c.in-Ok.place c.in-Some.k c.sector_at-sector.result at none found
-      (λ some. subst (λ t. 0 < length (bytes_at s.contents t) → c.sector_at-sector.result ≡ get_or (chain_at s.contents t) 0 0) e c.sector_at-sector.ensures some))
+    (λ some. subst (λ t. 0 < length (bytes_at s.contents t) → c.sector_at-sector.result ≡ get_or (chain_at s.contents t) 0 0) e c.sector_at-sector.ensures some))
 
 pub returns-clause-answer : goal.returns-clause-answer
 returns-clause-answer c =

@@ -1,9 +1,9 @@
-use Rattle.std.proofs.Common.{◌≡◌, ◌≢◌, ℕ, ◌+◌, ◌-◌, ◌/◌, ◌<◌, ◌≤◌, [], ◌∷◌, ◌++◌, length, get_or, set, take, drop, cond, not, min, Bool, true, false, Some, None, Ok, Err, refl, sym, ap, ◌∙◌, subst, arith}
-use Rattle.std.specs.List.{insert, list_any, position, remove}
-use Rattle.std.specs.Option.{is_none, is_some}
-use Rattle.ram_disc.specs.Contents.{Adds, Empties, bytes_at, chain_at}
-use Rattle.ram_disc.specs.Disc.{Disc, sectors_of}
-use Rattle.ram_disc.specs.Slots.{AreKept, HasPlace, IsAt, disc_in, place_in, stands_on, writes_on}
+use Rattle.std.proofs.Common.{◌≡◌, ℕ, ◌+◌, get_or, set, take, true, false, Some, Ok, Err, sym, ap, ◌∙◌, subst, arith}
+use Rattle.std.specs.List.{insert, list_any, position}
+use Rattle.std.specs.Option.{is_none}
+use Rattle.ram_disc.specs.Contents.{Empties}
+use Rattle.ram_disc.specs.Disc.{Disc}
+use Rattle.ram_disc.specs.Slots.{AreKept, disc_in, stands_on}
 use Rattle.ram_disc.specs.declared.places.Place.{Place}
 use Rattle.ram_disc.specs.DiscCalls.{after_open_write}
 use Rattle.ram_disc.proofs.Calls.{to-open}
@@ -205,7 +205,7 @@ returns-in_default-add-clause-disc c =
     let found : position is_none (take 16 ps) ≡ Some c.in-Some-free_stream.k = sym c.free_stream-in-Err.ensures ∙ c.in-Some-free_stream.is in
     let d = c.add.new.self in
     let same : disc_in d.names.items s.contents.bytes d.used.items ps ≡ disc_in ns s.contents.bytes us ps =
-        ap (λ n. disc_in n s.contents.bytes d.used.items ps) c.in_default-add.ensures.names ∙ ap (λ u. disc_in ns s.contents.bytes u ps) c.in_default-add.ensures.used in
+    ap (λ n. disc_in n s.contents.bytes d.used.items ps) c.in_default-add.ensures.names ∙ ap (λ u. disc_in ns s.contents.bytes u ps) c.in_default-add.ensures.used in
     subst (λ (x : Disc). disc_in d.names.items s.contents.bytes d.used.items ps ≡ (after_open_write x c.args.name.now).disc) c.self.view_is (same ∙ sym (ap (λ o. o.disc) (write-new-none ns s.contents us fs ps k c.args.name.now c.in-Err.place c.in-Some-free_stream.k c.in-Err.ensures.place found c.in_default-add.ensures.unused.0)))
 
 pub offset_bounds-self-inside-k-in-Err : goal.offset_bounds-self-inside-k-in-Err
@@ -272,7 +272,7 @@ invariant_of-self-in-Err c =
     let kept : AreKept (set ns t n) s.contents (insert us i t) d.unused.items streams = write-new-kept ns s.contents us fs ps k d.unused.items t n i m c.in-Err.ensures.place c.in-Err.ensures.lawful found made.unused in
     subst (λ p. AreKept d.names.items s.contents d.used.items d.unused.items (set ps m (Some p))) (sym c.writer-in-Err.ensures)
     (subst (λ x. AreKept x s.contents d.used.items d.unused.items streams) (sym made.names)
-     (subst (λ x. AreKept (set ns t n) s.contents x d.unused.items streams) (sym made.used) kept))
+    (subst (λ x. AreKept (set ns t n) s.contents x d.unused.items streams) (sym made.used) kept))
 
 pub returns-in-Some-add-clause-answer : goal.returns-in-Some-add-clause-answer
 returns-in-Some-add-clause-answer c =
@@ -312,6 +312,6 @@ returns-in-Some-add-clause-disc c =
     let streams = set ps m (Some w) in
     subst (λ (x : Disc). disc_in d.names.items s.contents.bytes d.used.items (set ps m (Some c.writer-in-Err.result)) ≡ (after_open_write x n).disc) c.self.view_is
     (ap (λ p. disc_in d.names.items s.contents.bytes d.used.items (set ps m (Some p))) c.writer-in-Err.ensures
-     ∙ ap (λ x. disc_in x s.contents.bytes d.used.items streams) made.names
-     ∙ ap (λ x. disc_in (set ns t n) s.contents.bytes x streams) made.used
-     ∙ sym (ap (λ o. o.disc) (write-new-done ns s.contents us fs ps k d.unused.items t n i m c.in-Err.ensures.place found made.unused)))
+    ∙ ap (λ x. disc_in x s.contents.bytes d.used.items streams) made.names
+    ∙ ap (λ x. disc_in (set ns t n) s.contents.bytes x streams) made.used
+    ∙ sym (ap (λ o. o.disc) (write-new-done ns s.contents us fs ps k d.unused.items t n i m c.in-Err.ensures.place found made.unused)))

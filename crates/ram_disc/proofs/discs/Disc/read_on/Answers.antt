@@ -1,9 +1,7 @@
-use Rattle.std.proofs.Common.{◌≡◌, ◌≢◌, ℕ, ◌+◌, ◌-◌, ◌/◌, ◌<◌, ◌≤◌, [], ◌∷◌, ◌++◌, length, get_or, set, take, drop, cond, not, min, Bool, true, false, Some, None, Ok, Err, refl, sym, ap, ◌∙◌, subst, arith}
-use Rattle.std.specs.List.{insert, list_any, position, remove}
-use Rattle.std.specs.Option.{is_none, is_some}
-use Rattle.ram_disc.specs.Contents.{Adds, Empties, bytes_at, chain_at}
-use Rattle.ram_disc.specs.Disc.{Disc, sectors_of}
-use Rattle.ram_disc.specs.Slots.{AreKept, HasPlace, IsAt, disc_in, place_in, stands_on, writes_on}
+use Rattle.std.proofs.Common.{◌≡◌, ◌+◌, ◌-◌, ◌/◌, ◌<◌, ◌≤◌, ◌++◌, length, get_or, set, take, drop, min, Some, Ok, sym, ap, ◌∙◌, subst, arith}
+use Rattle.ram_disc.specs.Contents.{bytes_at, chain_at}
+use Rattle.ram_disc.specs.Disc.{Disc}
+use Rattle.ram_disc.specs.Slots.{disc_in, place_in}
 use Rattle.ram_disc.specs.declared.places.Place.{Place}
 use Rattle.std.proofs.lemmas.List.{length-drop, length-take, length-take-le, take_min}
 use Rattle.ram_disc.specs.DiscCalls.{after_read_on, bytes_read}
@@ -27,7 +25,7 @@ invariant_of-self c =
     let into = c.args.into.now in
     let left = drop p.position (bytes_at s.contents p.slot) in
     let size : length (take (length into) left) ≡ n =
-        length-take (length into) left ∙ ap (min (length into)) (length-drop p.position (bytes_at s.contents p.slot) ∙ ap (λ m. m - p.position) (sym c.len.ensures)) ∙ sym c.min-count.ensures in
+    length-take (length into) left ∙ ap (min (length into)) (length-drop p.position (bytes_at s.contents p.slot) ∙ ap (λ m. m - p.position) (sym c.len.ensures)) ∙ sym c.min-count.ensures in
     let within : p.position + n ≤ length (bytes_at s.contents p.slot) = omega (arith, c.min-count.ensures, c.len.ensures, st.within) in
     let piece : length (take n into) ≡ n = length-take-le n into (omega (arith, c.min-count.ensures)) in
     let q = c.after.result in
@@ -35,8 +33,8 @@ invariant_of-self c =
     let mode : q.writes ≡ p.writes = ap (λ (x : Place). x.writes) c.after.ensures in
     let moved : q.position ≡ p.position + n = ap (λ (x : Place). x.position) c.after.ensures in
     let sector : p.position + n < length (bytes_at s.contents p.slot) → q.sector ≡ get_or (chain_at s.contents p.slot) ((p.position + n) / 512) 0 =
-        λ less. ap (λ (x : Place). x.sector) c.after.ensures
-          ∙ subst (λ m. p.position + m < length (bytes_at s.contents p.slot) → c.read-sector.result ≡ get_or (chain_at s.contents p.slot) ((p.position + m) / 512) 0) piece c.read-sector.ensures.sector less in
+    λ less. ap (λ (x : Place). x.sector) c.after.ensures
+    ∙ subst (λ m. p.position + m < length (bytes_at s.contents p.slot) → c.read-sector.result ≡ get_or (chain_at s.contents p.slot) ((p.position + m) / 512) 0) piece c.read-sector.ensures.sector less in
     read-kept ns s.contents us fs ps k c.args.stream n p q e r within slot mode moved sector
 
 pub returns-clause-answer : goal.returns-clause-answer
@@ -55,7 +53,7 @@ returns-clause-answer c =
     let into = c.args.into.now in
     let left = drop p.position (bytes_at s.contents p.slot) in
     let size : length (take (length into) left) ≡ n =
-        length-take (length into) left ∙ ap (min (length into)) (length-drop p.position (bytes_at s.contents p.slot) ∙ ap (λ m. m - p.position) (sym c.len.ensures)) ∙ sym c.min-count.ensures in
+    length-take (length into) left ∙ ap (min (length into)) (length-drop p.position (bytes_at s.contents p.slot) ∙ ap (λ m. m - p.position) (sym c.len.ensures)) ∙ sym c.min-count.ensures in
     let within : p.position + n ≤ length (bytes_at s.contents p.slot) = omega (arith, c.min-count.ensures, c.len.ensures, st.within) in
     let piece : length (take n into) ≡ n = length-take-le n into (omega (arith, c.min-count.ensures)) in
     let q = c.after.result in
@@ -80,7 +78,7 @@ returns-clause-disc c =
     let into = c.args.into.now in
     let left = drop p.position (bytes_at s.contents p.slot) in
     let size : length (take (length into) left) ≡ n =
-        length-take (length into) left ∙ ap (min (length into)) (length-drop p.position (bytes_at s.contents p.slot) ∙ ap (λ m. m - p.position) (sym c.len.ensures)) ∙ sym c.min-count.ensures in
+    length-take (length into) left ∙ ap (min (length into)) (length-drop p.position (bytes_at s.contents p.slot) ∙ ap (λ m. m - p.position) (sym c.len.ensures)) ∙ sym c.min-count.ensures in
     let within : p.position + n ≤ length (bytes_at s.contents p.slot) = omega (arith, c.min-count.ensures, c.len.ensures, st.within) in
     let piece : length (take n into) ≡ n = length-take-le n into (omega (arith, c.min-count.ensures)) in
     let q = c.after.result in
@@ -105,7 +103,7 @@ returns-clause-bytes c =
     let into = c.args.into.now in
     let left = drop p.position (bytes_at s.contents p.slot) in
     let size : length (take (length into) left) ≡ n =
-        length-take (length into) left ∙ ap (min (length into)) (length-drop p.position (bytes_at s.contents p.slot) ∙ ap (λ m. m - p.position) (sym c.len.ensures)) ∙ sym c.min-count.ensures in
+    length-take (length into) left ∙ ap (min (length into)) (length-drop p.position (bytes_at s.contents p.slot) ∙ ap (λ m. m - p.position) (sym c.len.ensures)) ∙ sym c.min-count.ensures in
     let within : p.position + n ≤ length (bytes_at s.contents p.slot) = omega (arith, c.min-count.ensures, c.len.ensures, st.within) in
     let piece : length (take n into) ≡ n = length-take-le n into (omega (arith, c.min-count.ensures)) in
     let q = c.after.result in
@@ -114,7 +112,7 @@ returns-clause-bytes c =
     let moved : q.position ≡ p.position + n = ap (λ (x : Place). x.position) c.after.ensures in
     let got : bytes_read (disc_in ns s.contents.bytes us ps) c.args.stream (length into) ≡ take (length into) left = read-bytes ns s.contents us fs ps k c.args.stream (length into) p e r in
     let same : c.read-sector.new.into ≡ take (length into) left =
-        c.read-sector.ensures.bytes ∙ ap (λ m. take m left) (piece ∙ sym size ∙ length-take (length into) left) ∙ take_min (length into) left in
+    c.read-sector.ensures.bytes ∙ ap (λ m. take m left) (piece ∙ sym size ∙ length-take (length into) left) ∙ take_min (length into) left in
     subst (λ (d : Disc). c.read-sector.new.into ++ drop n into ≡ bytes_read d c.args.stream (length into) ++ drop (length (bytes_read d c.args.stream (length into))) into) c.self.view_is
     (ap (λ xs. xs ++ drop n into) (same ∙ sym got)
-     ∙ ap (λ m. bytes_read (disc_in ns s.contents.bytes us ps) c.args.stream (length into) ++ drop m into) (sym size ∙ ap length (sym got)))
+    ∙ ap (λ m. bytes_read (disc_in ns s.contents.bytes us ps) c.args.stream (length into) ++ drop m into) (sym size ∙ ap length (sym got)))

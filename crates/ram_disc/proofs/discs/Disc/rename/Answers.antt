@@ -1,10 +1,7 @@
-use Rattle.std.proofs.Common.{◌≡◌, ◌≢◌, ℕ, ◌+◌, ◌-◌, ◌/◌, ◌<◌, ◌≤◌, [], ◌∷◌, ◌++◌, length, get_or, set, take, drop, cond, not, min, Bool, true, false, Some, None, Ok, Err, refl, sym, ap, ◌∙◌, subst, arith}
-use Rattle.std.specs.List.{insert, list_any, position, remove}
-use Rattle.std.specs.Option.{is_none, is_some}
-use Rattle.ram_disc.specs.Contents.{Adds, Empties, bytes_at, chain_at}
-use Rattle.ram_disc.specs.Disc.{Disc, sectors_of}
-use Rattle.ram_disc.specs.Slots.{AreKept, HasPlace, IsAt, disc_in, place_in, stands_on, writes_on}
-use Rattle.ram_disc.specs.declared.places.Place.{Place}
+use Rattle.std.proofs.Common.{◌≡◌, get_or, set, true, false, Ok, Err, sym, ap, ◌∙◌, subst}
+use Rattle.std.specs.List.{insert, list_any, remove}
+use Rattle.ram_disc.specs.Disc.{Disc}
+use Rattle.ram_disc.specs.Slots.{AreKept, HasPlace, disc_in, stands_on}
 use Rattle.ram_disc.specs.DiscCalls.{after_rename}
 use Rattle.ram_disc.proofs.ChangeCalls.{place-without, rename-done, rename-missing, rename-there, rename-used}
 use Rattle.ram_disc.proofs.KeptSlots.{keep-rename}
@@ -96,11 +93,11 @@ invariant_of-self c =
     let i = c.in-Ok.place in
     let t = get_or us i 0 in
     let there : HasPlace ns (remove us i) c.args.to.now c.place_without.result =
-        subst (HasPlace ns (remove us i) c.args.to.now) (sym c.place_without.ensures) (place-without ns us c.args.to.now i c.in-Err.end at.within c.in-Err.ensures.place) in
+    subst (HasPlace ns (remove us i) c.args.to.now) (sym c.place_without.ensures) (place-without ns us c.args.to.now i c.in-Err.end at.within c.in-Err.ensures.place) in
     let kept : AreKept (set ns t c.args.to.now) s.contents (insert (remove us i) c.place_without.result t) fs ps = keep-rename ns s.contents us fs ps i c.place_without.result c.args.to.now k at.within there c.in-Err.ensures.lawful in
     subst (λ n. AreKept n s.contents r.new.self.used.items r.new.self.unused.items ps) (sym r.ensures.names)
     (subst (λ u. AreKept (set ns t c.args.to.now) s.contents u r.new.self.unused.items ps) (sym r.ensures.used)
-     (subst (λ u. AreKept (set ns t c.args.to.now) s.contents (insert (remove us i) c.place_without.result t) u ps) (sym r.ensures.unused) kept))
+    (subst (λ u. AreKept (set ns t c.args.to.now) s.contents (insert (remove us i) c.place_without.result t) u ps) (sym r.ensures.unused) kept))
 
 pub returns-clause-answer : goal.returns-clause-answer
 returns-clause-answer c =
@@ -116,7 +113,7 @@ returns-clause-answer c =
     let i = c.in-Ok.place in
     let t = get_or us i 0 in
     let there : HasPlace ns (remove us i) c.args.to.now c.place_without.result =
-        subst (HasPlace ns (remove us i) c.args.to.now) (sym c.place_without.ensures) (place-without ns us c.args.to.now i c.in-Err.end at.within c.in-Err.ensures.place) in
+    subst (HasPlace ns (remove us i) c.args.to.now) (sym c.place_without.ensures) (place-without ns us c.args.to.now i c.in-Err.end at.within c.in-Err.ensures.place) in
     subst (λ (d : Disc). Ok tt ≡ (after_rename d c.args.from.now c.args.to.now).answer) c.self.view_is
     (sym (ap (λ o. o.answer) (rename-done ns s.contents us fs ps k c.args.from.now c.args.to.now i c.in-Err.end c.place_without.result at c.in-Err.ensures.place none there)))
 
@@ -134,6 +131,6 @@ returns-clause-disc c =
     let i = c.in-Ok.place in
     let t = get_or us i 0 in
     let there : HasPlace ns (remove us i) c.args.to.now c.place_without.result =
-        subst (HasPlace ns (remove us i) c.args.to.now) (sym c.place_without.ensures) (place-without ns us c.args.to.now i c.in-Err.end at.within c.in-Err.ensures.place) in
+    subst (HasPlace ns (remove us i) c.args.to.now) (sym c.place_without.ensures) (place-without ns us c.args.to.now i c.in-Err.end at.within c.in-Err.ensures.place) in
     subst (λ (d : Disc). disc_in r.new.self.names.items s.contents.bytes r.new.self.used.items ps ≡ (after_rename d c.args.from.now c.args.to.now).disc) c.self.view_is
     (ap (λ n. disc_in n s.contents.bytes r.new.self.used.items ps) r.ensures.names ∙ ap (λ u. disc_in (set ns t c.args.to.now) s.contents.bytes u ps) r.ensures.used ∙ sym (ap (λ o. o.disc) (rename-done ns s.contents us fs ps k c.args.from.now c.args.to.now i c.in-Err.end c.place_without.result at c.in-Err.ensures.place none there)))

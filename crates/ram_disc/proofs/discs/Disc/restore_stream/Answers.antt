@@ -1,9 +1,7 @@
-use Rattle.std.proofs.Common.{◌≡◌, ◌≢◌, ℕ, ◌+◌, ◌-◌, ◌/◌, ◌<◌, ◌≤◌, [], ◌∷◌, ◌++◌, length, get_or, set, take, drop, cond, not, min, Bool, true, false, Some, None, Ok, Err, refl, sym, ap, ◌∙◌, subst, arith}
-use Rattle.std.specs.List.{insert, list_any, position, remove}
-use Rattle.std.specs.Option.{is_none, is_some}
-use Rattle.ram_disc.specs.Contents.{Adds, Empties, bytes_at, chain_at}
-use Rattle.ram_disc.specs.Disc.{Disc, sectors_of}
-use Rattle.ram_disc.specs.Slots.{AreKept, HasPlace, IsAt, disc_in, place_in, stands_on, writes_on}
+use Rattle.std.proofs.Common.{◌≡◌, ℕ, ◌-◌, ◌/◌, ◌<◌, length, get_or, set, cond, true, false, Some, sym, ap, ◌∙◌, subst}
+use Rattle.ram_disc.specs.Contents.{bytes_at, chain_at}
+use Rattle.ram_disc.specs.Disc.{Disc}
+use Rattle.ram_disc.specs.Slots.{AreKept, disc_in}
 use Rattle.ram_disc.specs.declared.places.Place.{Place}
 use Rattle.ram_disc.specs.DiscCalls.{after_restore, can_stand, with_place}
 use Rattle.ram_disc.proofs.RestoreCalls.{May, restore-can, restore-done, restore-kept, restore-missing, restore-not, restore-taken}
@@ -66,7 +64,7 @@ returns-then-not-may_stand-clause-answer c =
     let free = sym c.is_free.ensures ∙ c.if-not-is_free.false in
     let size : c.len-size.result ≡ length (bytes_at s.contents t) = c.len-size.ensures ∙ ap (λ x. length (bytes_at s.contents x)) c.slot_at-slot.ensures in
     let may : c.may_stand.result ≡ May ps c.args.k t c.args.pos (length (bytes_at s.contents t)) c.args.write =
-        c.may_stand.ensures ∙ ap (λ x. May ps c.args.k x c.args.pos c.len-size.result c.args.write) c.slot_at-slot.ensures ∙ ap (λ n. May ps c.args.k t c.args.pos n c.args.write) size in
+    c.may_stand.ensures ∙ ap (λ x. May ps c.args.k x c.args.pos c.len-size.result c.args.write) c.slot_at-slot.ensures ∙ ap (λ n. May ps c.args.k t c.args.pos n c.args.write) size in
     subst (λ (d : Disc). false ≡ can_stand d c.args.k c.args.name.now c.args.pos c.args.write) c.self.view_is (sym (restore-not ns s.contents us fs ps k c.args.k c.args.name.now c.args.pos c.args.write c.in-Ok.place at free (sym may ∙ c.if-not-may_stand.true)))
 
 pub returns-then-not-may_stand-clause-disc : goal.returns-then-not-may_stand-clause-disc
@@ -82,7 +80,7 @@ returns-then-not-may_stand-clause-disc c =
     let free = sym c.is_free.ensures ∙ c.if-not-is_free.false in
     let size : c.len-size.result ≡ length (bytes_at s.contents t) = c.len-size.ensures ∙ ap (λ x. length (bytes_at s.contents x)) c.slot_at-slot.ensures in
     let may : c.may_stand.result ≡ May ps c.args.k t c.args.pos (length (bytes_at s.contents t)) c.args.write =
-        c.may_stand.ensures ∙ ap (λ x. May ps c.args.k x c.args.pos c.len-size.result c.args.write) c.slot_at-slot.ensures ∙ ap (λ n. May ps c.args.k t c.args.pos n c.args.write) size in
+    c.may_stand.ensures ∙ ap (λ x. May ps c.args.k x c.args.pos c.len-size.result c.args.write) c.slot_at-slot.ensures ∙ ap (λ n. May ps c.args.k t c.args.pos n c.args.write) size in
     let no = restore-not ns s.contents us fs ps k c.args.k c.args.name.now c.args.pos c.args.write c.in-Ok.place at free (sym may ∙ c.if-not-may_stand.true) in
     subst (λ (d : Disc). d ≡ after_restore d c.args.k c.args.name.now c.args.pos c.args.write) c.self.view_is
     (sym (ap (λ t. cond t (with_place (disc_in ns s.contents.bytes us ps) c.args.k c.args.name.now c.args.pos c.args.write) (disc_in ns s.contents.bytes us ps)) no))
@@ -100,12 +98,12 @@ invariant_of-self c =
     let free = sym c.is_free.ensures ∙ c.if-not-is_free.false in
     let size : c.len-size.result ≡ length (bytes_at s.contents t) = c.len-size.ensures ∙ ap (λ x. length (bytes_at s.contents x)) c.slot_at-slot.ensures in
     let may : c.may_stand.result ≡ May ps c.args.k t c.args.pos (length (bytes_at s.contents t)) c.args.write =
-        c.may_stand.ensures ∙ ap (λ x. May ps c.args.k x c.args.pos c.len-size.result c.args.write) c.slot_at-slot.ensures ∙ ap (λ n. May ps c.args.k t c.args.pos n c.args.write) size in
+    c.may_stand.ensures ∙ ap (λ x. May ps c.args.k x c.args.pos c.len-size.result c.args.write) c.slot_at-slot.ensures ∙ ap (λ n. May ps c.args.k t c.args.pos n c.args.write) size in
     let yes = sym may ∙ c.if-not-may_stand.false in
     let P : ℕ → Place = λ x. record { slot = x; position = c.args.pos; sector = c.sector_at-sector.result; writes = c.args.write } in
     subst (λ x. AreKept ns s.contents us fs (set ps (c.args.k - 1) (Some (P x)))) (sym c.slot_at-slot.ensures)
     (restore-kept ns s.contents us fs ps k c.args.k c.args.name.now c.args.pos c.args.write c.in-Ok.place c.sector_at-sector.result at free yes
-      (subst (λ x. c.args.pos < length (bytes_at s.contents x) → c.sector_at-sector.result ≡ get_or (chain_at s.contents x) (c.args.pos / 512) 0) c.slot_at-slot.ensures c.sector_at-sector.ensures))
+    (subst (λ x. c.args.pos < length (bytes_at s.contents x) → c.sector_at-sector.result ≡ get_or (chain_at s.contents x) (c.args.pos / 512) 0) c.slot_at-slot.ensures c.sector_at-sector.ensures))
 
 pub returns-clause-answer : goal.returns-clause-answer
 returns-clause-answer c =
@@ -120,7 +118,7 @@ returns-clause-answer c =
     let free = sym c.is_free.ensures ∙ c.if-not-is_free.false in
     let size : c.len-size.result ≡ length (bytes_at s.contents t) = c.len-size.ensures ∙ ap (λ x. length (bytes_at s.contents x)) c.slot_at-slot.ensures in
     let may : c.may_stand.result ≡ May ps c.args.k t c.args.pos (length (bytes_at s.contents t)) c.args.write =
-        c.may_stand.ensures ∙ ap (λ x. May ps c.args.k x c.args.pos c.len-size.result c.args.write) c.slot_at-slot.ensures ∙ ap (λ n. May ps c.args.k t c.args.pos n c.args.write) size in
+    c.may_stand.ensures ∙ ap (λ x. May ps c.args.k x c.args.pos c.len-size.result c.args.write) c.slot_at-slot.ensures ∙ ap (λ n. May ps c.args.k t c.args.pos n c.args.write) size in
     let yes = sym may ∙ c.if-not-may_stand.false in
     let P : ℕ → Place = λ x. record { slot = x; position = c.args.pos; sector = c.sector_at-sector.result; writes = c.args.write } in
     subst (λ (d : Disc). true ≡ can_stand d c.args.k c.args.name.now c.args.pos c.args.write) c.self.view_is (sym (restore-can ns s.contents us fs ps k c.args.k c.args.name.now c.args.pos c.args.write c.in-Ok.place at free yes))
@@ -138,10 +136,10 @@ returns-clause-disc c =
     let free = sym c.is_free.ensures ∙ c.if-not-is_free.false in
     let size : c.len-size.result ≡ length (bytes_at s.contents t) = c.len-size.ensures ∙ ap (λ x. length (bytes_at s.contents x)) c.slot_at-slot.ensures in
     let may : c.may_stand.result ≡ May ps c.args.k t c.args.pos (length (bytes_at s.contents t)) c.args.write =
-        c.may_stand.ensures ∙ ap (λ x. May ps c.args.k x c.args.pos c.len-size.result c.args.write) c.slot_at-slot.ensures ∙ ap (λ n. May ps c.args.k t c.args.pos n c.args.write) size in
+    c.may_stand.ensures ∙ ap (λ x. May ps c.args.k x c.args.pos c.len-size.result c.args.write) c.slot_at-slot.ensures ∙ ap (λ n. May ps c.args.k t c.args.pos n c.args.write) size in
     let yes = sym may ∙ c.if-not-may_stand.false in
     let P : ℕ → Place = λ x. record { slot = x; position = c.args.pos; sector = c.sector_at-sector.result; writes = c.args.write } in
     let can = restore-can ns s.contents us fs ps k c.args.k c.args.name.now c.args.pos c.args.write c.in-Ok.place at free yes in
     subst (λ (d : Disc). disc_in ns s.contents.bytes us (set ps (c.args.k - 1) (Some (P c.slot_at-slot.result))) ≡ after_restore d c.args.k c.args.name.now c.args.pos c.args.write) c.self.view_is
     (ap (λ x. disc_in ns s.contents.bytes us (set ps (c.args.k - 1) (Some (P x)))) c.slot_at-slot.ensures
-     ∙ sym (ap (λ x. cond x (with_place (disc_in ns s.contents.bytes us ps) c.args.k c.args.name.now c.args.pos c.args.write) (disc_in ns s.contents.bytes us ps)) can ∙ restore-done ns s.contents us fs ps k c.args.k c.args.name.now c.args.pos c.args.write c.in-Ok.place c.sector_at-sector.result at))
+    ∙ sym (ap (λ x. cond x (with_place (disc_in ns s.contents.bytes us ps) c.args.k c.args.name.now c.args.pos c.args.write) (disc_in ns s.contents.bytes us ps)) can ∙ restore-done ns s.contents us fs ps k c.args.k c.args.name.now c.args.pos c.args.write c.in-Ok.place c.sector_at-sector.result at))

@@ -1,7 +1,6 @@
-use Rattle.std.proofs.Common.{◌≡◌, ◌-◌, ◌<◌, ◌++◌, ◌∷◌, [], length, get_or, set, subst, sym, ap, ◌∙◌, arith}
+use Rattle.std.proofs.Common.{◌≡◌, ◌-◌, ◌<◌, ◌++◌, ◌∷◌, [], get_or, set, sym, ap, ◌∙◌, arith}
 use Rattle.std.proofs.lemmas.List.{get_or_read}
-use Rattle.ram_disc.specs.Chain.{AreApart, AreChained, Chains, chains_of, no_sector, sector_before, times_in, with_last}
-use Rattle.ram_disc.specs.Disc.{most_sectors}
+use Rattle.ram_disc.specs.Chain.{Chains, no_sector, times_in}
 use Rattle.ram_disc.proofs.SectorLemmas.{apart-chained, before-below, chained-grow, chains-grow, fresh-grow, free-below, grows-slot, length-below}
 use Rattle.ram_disc.proofs.sectors.Sectors.grow.Goals as goal
 

@@ -1,6 +1,6 @@
-use Rattle.std.proofs.Common.{[], ◌∷◌, ◌++◌, ◌≡◌, ◌+◌, ◌<◌, ◌≤◌, length, get_or, take, sym, subst, ap, ◌∙◌, refl, rules, arith}
-use Rattle.std.proofs.lemmas.List.{get_or_read, length-take-le, take_all, take_more}
-use Rattle.ram_disc.specs.Chain.{AreApart, Chains, chain_of, chains_of, no_sector}
+use Rattle.std.proofs.Common.{[], ◌∷◌, ◌++◌, ◌≡◌, ◌+◌, ◌<◌, length, get_or, take, sym, subst, ap, ◌∙◌, rules, arith}
+use Rattle.std.proofs.lemmas.List.{get_or_read, take_all, take_more}
+use Rattle.ram_disc.specs.Chain.{AreApart, Chains, chains_of, no_sector}
 use Rattle.ram_disc.proofs.ChainLemmas.{length-chain}
 use Rattle.ram_disc.proofs.SectorLemmas.{apart-chained, chained-below, get_or-chains, length-below, slot-first, slot-next}
 use Rattle.ram_disc.proofs.sectors.Sectors.list.Goals as goal

@@ -1,5 +1,4 @@
-use Rattle.std.proofs.Common.{◌≡◌, ap, refl, arith}
-use Rattle.ram_disc.specs.Chain.{Chains}
+use Rattle.std.proofs.Common.{ap, refl, arith}
 use Rattle.ram_disc.specs.Disc.{most_files, most_sectors}
 use Rattle.ram_disc.proofs.SectorLemmas.{chained-new, none-chained}
 use Rattle.ram_disc.proofs.sectors.Sectors.new.Goals as goal

@@ -1,5 +1,4 @@
 use Rattle.std.proofs.Common.{[], ◌≡◌, get_or}
-use Rattle.ram_disc.specs.Chain.{chain_of, no_sector}
 use Rattle.ram_disc.proofs.sectors.Sectors.nth.Given as goal
 
 abbrev pub invariant-loop-i : goal.invariant-loop-i

@@ -1,7 +1,6 @@
 use Rattle.std.proofs.Common.{◌≡◌, ◌-◌, ◌+◌, ◌<◌, suc, [], length, get_or, set, subst, sym, ap, ◌∙◌, arith}
 use Rattle.std.proofs.lemmas.List.{nil_from_length, set-get_or}
-use Rattle.ram_disc.specs.Chain.{AreApart, AreChained, Chains, chain_of, chains_of, no_sector}
-use Rattle.ram_disc.specs.Disc.{most_sectors}
+use Rattle.ram_disc.specs.Chain.{AreApart, AreChained, Chains, chain_of, no_sector}
 use Rattle.ram_disc.proofs.ChainLemmas.{length-chain}
 use Rattle.ram_disc.proofs.SectorLemmas.{apart-chained, chained-give, chains-give, get_or-chains, gives-slot, last-below, length-below}
 use Rattle.ram_disc.proofs.sectors.Sectors.release.Goals as goal
