@@ -1,0 +1,14 @@
+pub mod Calls
+pub mod ChainLemmas
+pub mod ChangeCalls
+pub mod ContentsLemmas
+pub mod FileLists
+pub mod KeptSlots
+pub mod KeptStreams
+pub mod NameOrder
+pub mod RestoreCalls
+pub mod SectorLemmas
+pub mod SlotLemmas
+pub mod StreamLemmas
+pub mod TransferCalls
+pub mod ValidDisc

@@ -1,6 +1,14 @@
-// Files in memory: their names.
+// Files in memory: a disc of sectors, with names and streams.
 #![tactic(auto)]
 
+mod contents;
+mod directory;
+pub mod discs;
+pub mod file_bytes;
 pub mod names;
+mod places;
+mod sectors;
 
+pub use discs::Disc;
+pub use file_bytes::FileBytes;
 pub use names::Name;

@@ -49,6 +49,17 @@ impl Name {
         Some(Name { bytes })
     }
 
+    /// The same name again. It takes no memory.
+    pub fn copy(&self) -> Name
+        ensures { result ≡ self.now }
+    {
+        let mut bytes = ArrayVec::new();
+        for byte in self.bytes.as_slice() {
+            bytes.push(*byte);
+        }
+        Name { bytes }
+    }
+
     /// The bytes of the name, lent.
     pub fn bytes(&self) -> &[u8]
         ensures value { result.now ≡ self.now }

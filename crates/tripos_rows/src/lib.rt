@@ -6,6 +6,8 @@ mod blocks;
 #[cfg(test)]
 mod command_lines;
 #[cfg(test)]
+mod discs;
+#[cfg(test)]
 mod kinds;
 #[cfg(test)]
 mod listings;

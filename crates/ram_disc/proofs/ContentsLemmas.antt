@@ -1,0 +1,309 @@
+-- The bytes of slots.
+use Rattle.std.proofs.Common.{◌≡◌, ◌≢◌, ℕ, ◌+◌, ◌*◌, ◌/◌, ◌%◌, ◌<◌, ◌≤◌, List, [], ◌∷◌, ◌++◌, length, get_or, set, replicate, refl, sym, ap, ◌∙◌, subst, arith, inl, inr}
+use Rattle.std.proofs.lemmas.Bool.{cases_eq}
+use Rattle.std.proofs.lemmas.List.{append-nil, append_assoc, ext_get_or, get_or-set_other, get_or-set_same, get_or-replicate, length-append, length-replicate, length-set, set-get_or, set-set}
+use Rattle.std.proofs.lemmas.List.FromFn.{get_or-map-range_with_len, length-map-range_with_len, map-range_with_len_more}
+use Rattle.std.proofs.lemmas.List.Sums.{get_or-le-sum_by}
+use Rattle.linked_list.specs.Count.{times}
+use Rattle.ram_disc.specs.Chain.{AreApart, Chains, times_in}
+use Rattle.ram_disc.specs.Contents.{Adds, Area, IsArea, Reserves, all_bytes, bytes_at, bytes_in, place_in}
+use Rattle.ram_disc.specs.Disc.{most_files, most_sectors, sectors_of}
+use Rattle.ram_disc.proofs.ChainLemmas.{places-differ, times-get_or}
+use Rattle.ram_disc.proofs.SectorLemmas.{one-count, two-counts}
+
+pub length-bytes : (stored chain : List ℕ) (n : ℕ) → length (bytes_in stored chain n) ≡ n
+unfolding bytes_in
+length-bytes stored chain n = length-map-range_with_len _ 0 n
+
+pub get_or-bytes : (stored chain : List ℕ) (n p : ℕ) → p < n → get_or (bytes_in stored chain n) p 0 ≡ get_or stored (place_in chain p) 0
+unfolding bytes_in
+get_or-bytes stored chain n p h = get_or-map-range_with_len (λ q. get_or stored (place_in chain q) 0) 0 n p p 0 h (omega arith)
+
+pub length-all_bytes : (stored : List ℕ) (chains : List (List ℕ)) (sizes : List ℕ) → length (all_bytes stored chains sizes) ≡ length sizes
+unfolding all_bytes
+length-all_bytes stored chains sizes = length-map-range_with_len _ 0 (length sizes)
+
+pub get_or-all_bytes : (stored : List ℕ) (chains : List (List ℕ)) (sizes : List ℕ) (i : ℕ) → i < length sizes
+    → get_or (all_bytes stored chains sizes) i [] ≡ bytes_in stored (get_or chains i []) (get_or sizes i 0)
+unfolding all_bytes
+get_or-all_bytes stored chains sizes i h =
+    get_or-map-range_with_len (λ j. bytes_in stored (get_or chains j []) (get_or sizes j 0)) 0 (length sizes) i i [] h (omega arith)
+
+-- the number of a slot's bytes
+pub length-slot : (stored : List ℕ) (chains : List (List ℕ)) (sizes : List ℕ) (i : ℕ) → i < length sizes
+    → length (get_or (all_bytes stored chains sizes) i []) ≡ get_or sizes i 0
+length-slot stored chains sizes i h =
+    ap length (get_or-all_bytes stored chains sizes i h) ∙ length-bytes stored (get_or chains i []) (get_or sizes i 0)
+
+-- byte p of a slot
+pub get_or-slot : (stored : List ℕ) (chains : List (List ℕ)) (sizes : List ℕ) (i p : ℕ) → i < length sizes → p < get_or sizes i 0
+    → get_or (get_or (all_bytes stored chains sizes) i []) p 0 ≡ get_or stored (place_in (get_or chains i []) p) 0
+get_or-slot stored chains sizes i p h k =
+    ap (λ xs. get_or xs p 0) (get_or-all_bytes stored chains sizes i h) ∙ get_or-bytes stored (get_or chains i []) (get_or sizes i 0) p k
+
+-- bytes that stand in places with the same bytes are the same
+pub bytes-agree : (stored other chain chain' : List ℕ) (n : ℕ)
+    → ((p : ℕ) → p < n → get_or other (place_in chain' p) 0 ≡ get_or stored (place_in chain p) 0)
+    → bytes_in other chain' n ≡ bytes_in stored chain n
+bytes-agree stored other chain chain' n each =
+    ext_get_or 0 (bytes_in other chain' n) (bytes_in stored chain n) (length-bytes other chain' n ∙ sym (length-bytes stored chain n))
+    (λ p h. let lt : p < n = omega (arith, h, length-bytes other chain' n) in
+    get_or-bytes other chain' n p lt ∙ each p lt ∙ sym (get_or-bytes stored chain n p lt))
+
+-- one byte more
+pub bytes-more : (stored chain : List ℕ) (n : ℕ) → bytes_in stored chain (n + 1) ≡ bytes_in stored chain n ++ get_or stored (place_in chain n) 0 ∷ []
+unfolding bytes_in
+bytes-more stored chain n = map-range_with_len_more (λ p. get_or stored (place_in chain p) 0) 0 n n (omega arith)
+
+-- different places of sectors, or different sectors, make different places
+pub same-place : (s t p q : ℕ) → 512 * s + p % 512 ≡ 512 * t + q % 512 → s ≡ t
+same-place s t p q e = omega arith
+
+-- the places of two bytes in one chain differ
+pub places-in : (chain : List ℕ) (p q : ℕ) → ((a : ℕ) → times a chain ≤ 1) → p / 512 < length chain → q / 512 < length chain → p ≢ q
+    → place_in chain p ≢ place_in chain q
+places-in chain p q once h k ne same =
+    elim (cases_eq (p / 512) (q / 512)) [
+      | inl e ↦ (let f : get_or chain (p / 512) 0 ≡ get_or chain (q / 512) 0 = ap (λ i. get_or chain i 0) e in ne (omega (arith, same, f, e)))
+      | inr other ↦ places-differ chain (p / 512) (q / 512) once h k other (same-place (get_or chain (p / 512) 0) (get_or chain (q / 512) 0) p q same)
+    ]
+
+-- and so do those in the chains of two slots
+pub places-apart : (chains : List (List ℕ)) (i j p q : ℕ) → ((a : ℕ) → times_in a chains ≤ 1) → i ≢ j → i < length chains → j < length chains
+    → p / 512 < length (get_or chains i []) → q / 512 < length (get_or chains j []) → place_in (get_or chains i []) p ≢ place_in (get_or chains j []) q
+places-apart chains i j p q once ne hi hj h k same =
+    let x = get_or chains i [] in
+    let y = get_or chains j [] in
+    let e = same-place (get_or x (p / 512) 0) (get_or y (q / 512) 0) p q same in
+    let some : 0 < times (get_or y (q / 512) 0) x = subst (λ z. 0 < times z x) e (times-get_or x (p / 512) h) in
+    omega (arith, some, times-get_or y (q / 512) k, once (get_or y (q / 512) 0), two-counts (get_or y (q / 512) 0) i j chains ne hi hj)
+
+-- what the chain of a slot has
+pub apart-below : (c : Chains) (i k : ℕ) → AreApart c → i < length c.chains → k < length (get_or c.chains i [])
+    → get_or (get_or c.chains i []) k 0 < most_sectors
+apart-below c i k apart h within =
+    let x = get_or c.chains i [] in
+    apart.below (get_or x k 0) (omega (arith, times-get_or x k within, one-count (get_or x k 0) i c.chains h))
+
+pub slot-once : (c : Chains) (i : ℕ) → AreApart c → i < length c.chains → (a : ℕ) → times a (get_or c.chains i []) ≤ 1
+slot-once c i apart h a = omega (arith, apart.once a, one-count a i c.chains h)
+
+-- a byte of a slot stands among the disc's bytes
+pub place-inside : (stored : List ℕ) (c : Chains) (sizes : List ℕ) (i p : ℕ) → IsArea stored c sizes → i < length sizes → p < get_or sizes i 0
+    → place_in (get_or c.chains i []) p < length stored
+place-inside stored c sizes i p area h within =
+    let lt : p / 512 < length (get_or c.chains i []) = omega (arith, area.lengths i h) in
+    omega (arith, area.size, apart-below c i (p / 512) area.apart (omega (arith, area.slots, area.apart.slots)) lt)
+
+-- one more byte of a slot
+module _ (stored : List ℕ) (c c' : Chains) (sizes : List ℕ) (slot n sector b : ℕ) where
+  abbrev At : ℕ
+  At = 512 * sector + n % 512
+
+  abbrev Written : List ℕ
+  Written = set stored At b
+
+  abbrev Sizes : List ℕ
+  Sizes = set sizes slot (n + 1)
+
+  pub record Pushes : Type 0 where
+    pub area : IsArea stored c sizes
+    pub reserves : Reserves c c' slot n sector
+    pub inside : slot < length sizes
+    pub is : get_or sizes slot 0 ≡ n
+
+  pub at-new : Pushes → At ≡ place_in (get_or c'.chains slot []) n
+  at-new g = omega (arith, g.reserves.last)
+
+  pub at-inside : Pushes → At < length stored
+  at-inside g =
+      let lt : n / 512 < length (get_or c'.chains slot []) = omega (arith, g.reserves.size) in
+      omega (
+        arith,
+        g.area.size,
+        g.reserves.last,
+        apart-below c' slot (n / 512) g.reserves.apart (omega (arith, g.reserves.apart.slots, g.area.slots, g.inside)) lt,
+      )
+
+  -- the old bytes stand where they stood
+  old-bytes : Pushes → bytes_in Written (get_or c'.chains slot []) n ≡ bytes_in stored (get_or c.chains slot []) n
+  old-bytes g =
+      bytes-agree stored Written (get_or c.chains slot []) (get_or c'.chains slot []) n (λ p h.
+      let lt : p / 512 < length (get_or c.chains slot []) = omega (arith, g.area.lengths slot g.inside, g.is) in
+      let same : place_in (get_or c'.chains slot []) p ≡ place_in (get_or c.chains slot []) p = omega (arith, g.reserves.before (p / 512) lt) in
+      let ne : p ≢ n = omega arith in
+      let new : n / 512 < length (get_or c'.chains slot []) = omega (arith, g.reserves.size) in
+      let early : p / 512 < length (get_or c'.chains slot []) = omega (arith, g.reserves.size) in
+      let apart = places-in (get_or c'.chains slot []) p n
+      (slot-once c' slot g.reserves.apart (omega (arith, g.reserves.apart.slots, g.area.slots, g.inside))) early new ne in
+      get_or-set_other stored At (place_in (get_or c'.chains slot []) p) b 0 (λ e. apart (e ∙ at-new g))
+      ∙ ap (λ q. get_or stored q 0) same)
+
+  new-bytes : Pushes → bytes_in Written (get_or c'.chains slot []) (n + 1) ≡ bytes_in stored (get_or c.chains slot []) n ++ b ∷ []
+  new-bytes g =
+      let y = get_or c'.chains slot [] in
+      let here : get_or Written (place_in y n) 0 ≡ b = ap (λ q. get_or Written q 0) (sym (at-new g)) ∙ get_or-set_same stored At b 0 (at-inside g) in
+      bytes-more Written y n ∙ ap (λ x. bytes_in Written y n ++ x ∷ []) here ∙ ap (λ xs. xs ++ b ∷ []) (old-bytes g)
+
+  other-bytes : Pushes → (j : ℕ) → j < length sizes → j ≢ slot
+      → bytes_in Written (get_or c'.chains j []) (get_or sizes j 0) ≡ bytes_in stored (get_or c.chains j []) (get_or sizes j 0)
+  other-bytes g j h ne =
+      bytes-agree stored Written (get_or c.chains j []) (get_or c'.chains j []) (get_or sizes j 0) (λ p within.
+      let same = g.reserves.others j ne in
+      let lt : p / 512 < length (get_or c'.chains j []) = omega (arith, g.area.lengths j h, ap length same) in
+      let new : n / 512 < length (get_or c'.chains slot []) = omega (arith, g.reserves.size) in
+      let apart = places-apart c'.chains j slot p n g.reserves.apart.once ne (omega (arith, g.reserves.apart.slots, g.area.slots, h))
+      (omega (arith, g.reserves.apart.slots, g.area.slots, g.inside)) lt new in
+      get_or-set_other stored At (place_in (get_or c'.chains j []) p) b 0 (λ e. apart (e ∙ at-new g))
+      ∙ ap (λ x. get_or stored (place_in x p) 0) same)
+
+  pub push-bytes : Pushes
+      → all_bytes Written c'.chains Sizes ≡ set (all_bytes stored c.chains sizes) slot (get_or (all_bytes stored c.chains sizes) slot [] ++ b ∷ [])
+  push-bytes g =
+      let old = all_bytes stored c.chains sizes in
+      let new = get_or old slot [] ++ b ∷ [] in
+      let lo = length-all_bytes stored c.chains sizes in
+      let ln = length-all_bytes Written c'.chains Sizes in
+      let ls = length-set sizes slot (n + 1) in
+      ext_get_or [] (all_bytes Written c'.chains Sizes) (set old slot new) (omega (arith, lo, ln, ls, length-set old slot new)) (λ j h.
+      let lt : j < length sizes = omega (arith, h, ln, ls) in
+      get_or-all_bytes Written c'.chains Sizes j (omega (arith, lt, ls))
+      ∙ elim (cases_eq j slot) [
+        | inl e ↦ (
+            let size : get_or Sizes j 0 ≡ n + 1 = ap (λ i. get_or Sizes i 0) e ∙ get_or-set_same sizes slot (n + 1) 0 g.inside in
+            let was : get_or old slot [] ≡ bytes_in stored (get_or c.chains slot []) n =
+            get_or-all_bytes stored c.chains sizes slot g.inside ∙ ap (bytes_in stored (get_or c.chains slot [])) g.is in
+            let now : get_or (set old slot new) j [] ≡ new =
+            ap (λ i. get_or (set old slot new) i []) e ∙ get_or-set_same old slot new [] (omega (arith, lo, g.inside)) in
+            ap (bytes_in Written (get_or c'.chains j [])) size ∙ ap (λ i. bytes_in Written (get_or c'.chains i []) (n + 1)) e
+            ∙ new-bytes g ∙ ap (λ xs. xs ++ b ∷ []) (sym was) ∙ sym now
+            )
+        | inr ne ↦ (
+            let size : get_or Sizes j 0 ≡ get_or sizes j 0 = get_or-set_other sizes slot j (n + 1) 0 ne in
+            ap (bytes_in Written (get_or c'.chains j [])) size ∙ other-bytes g j lt ne
+            ∙ sym (get_or-all_bytes stored c.chains sizes j lt) ∙ sym (get_or-set_other old slot j new [] ne)
+            )
+      ])
+
+  pub push-area : Pushes → IsArea Written c' Sizes
+  push-area g = record {
+    apart = g.reserves.apart;
+    size = length-set stored At b ∙ g.area.size;
+    slots = length-set sizes slot (n + 1) ∙ g.area.slots;
+    lengths = λ j h.
+        let lt : j < length sizes = omega (arith, h, length-set sizes slot (n + 1)) in
+        elim (cases_eq j slot) [
+          | inl e ↦ ap (λ i. length (get_or c'.chains i [])) e ∙ g.reserves.size
+              ∙ ap sectors_of (sym (ap (λ i. get_or Sizes i 0) e ∙ get_or-set_same sizes slot (n + 1) 0 g.inside))
+          | inr ne ↦ ap length (g.reserves.others j ne) ∙ g.area.lengths j lt ∙ ap sectors_of (sym (get_or-set_other sizes slot j (n + 1) 0 ne))
+        ];
+  }
+
+  -- the size of a slot is below that of the whole disc
+  pub size-below : (i : ℕ) → IsArea stored c sizes → i < length sizes → get_or sizes i 0 ≤ 512 * most_sectors
+  size-below i area h = omega (arith, area.lengths i h, area.apart.all, get_or-le-sum_by length c.chains i [] (omega (arith, area.slots, area.apart.slots, h)))
+
+-- a slot is emptied
+module _ (stored : List ℕ) (c c' : Chains) (sizes : List ℕ) (slot : ℕ) where
+  pub record Clears : Type 0 where
+    pub area : IsArea stored c sizes
+    pub inside : slot < length sizes
+    pub chains : c'.chains ≡ set c.chains slot []
+    pub apart : AreApart c'
+
+  chain-cleared : Clears → (j : ℕ) → j ≢ slot → get_or c'.chains j [] ≡ get_or c.chains j []
+  chain-cleared g j ne = ap (λ xs. get_or xs j []) g.chains ∙ get_or-set_other c.chains slot j [] [] ne
+
+  slot-cleared : Clears → get_or c'.chains slot [] ≡ []
+  slot-cleared g = ap (λ xs. get_or xs slot []) g.chains ∙ get_or-set_same c.chains slot [] [] (omega (arith, g.area.slots, g.area.apart.slots, g.inside))
+
+  pub clear-bytes : Clears → all_bytes stored c'.chains (set sizes slot 0) ≡ set (all_bytes stored c.chains sizes) slot []
+  unfolding bytes_in
+  clear-bytes g =
+      let old = all_bytes stored c.chains sizes in
+      let lo = length-all_bytes stored c.chains sizes in
+      let ln = length-all_bytes stored c'.chains (set sizes slot 0) in
+      let ls = length-set sizes slot 0 in
+      ext_get_or [] (all_bytes stored c'.chains (set sizes slot 0)) (set old slot []) (omega (arith, lo, ln, ls, length-set old slot [])) (λ j h.
+      let lt : j < length sizes = omega (arith, h, ln, ls) in
+      get_or-all_bytes stored c'.chains (set sizes slot 0) j (omega (arith, lt, ls))
+      ∙ elim (cases_eq j slot) [
+        | inl e ↦ (
+            let size : get_or (set sizes slot 0) j 0 ≡ 0 = ap (λ i. get_or (set sizes slot 0) i 0) e ∙ get_or-set_same sizes slot 0 0 g.inside in
+            ap (bytes_in stored (get_or c'.chains j [])) size
+            ∙ sym (ap (λ i. get_or (set old slot []) i []) e ∙ get_or-set_same old slot [] [] (omega (arith, lo, g.inside)))
+            )
+        | inr ne ↦ (
+            let size : get_or (set sizes slot 0) j 0 ≡ get_or sizes j 0 = get_or-set_other sizes slot j 0 0 ne in
+            ap (bytes_in stored (get_or c'.chains j [])) size ∙ ap (λ x. bytes_in stored x (get_or sizes j 0)) (chain-cleared g j ne)
+            ∙ sym (get_or-all_bytes stored c.chains sizes j lt) ∙ sym (get_or-set_other old slot j [] [] ne)
+            )
+      ])
+
+  pub clear-area : Clears → IsArea stored c' (set sizes slot 0)
+  clear-area g = record {
+    apart = g.apart;
+    size = g.area.size;
+    slots = length-set sizes slot 0 ∙ g.area.slots;
+    lengths = λ j h.
+        let lt : j < length sizes = omega (arith, h, length-set sizes slot 0) in
+        elim (cases_eq j slot) [
+          | inl e ↦ ap (λ i. length (get_or c'.chains i [])) e ∙ ap length (slot-cleared g)
+              ∙ ap sectors_of (sym (ap (λ i. get_or (set sizes slot 0) i 0) e ∙ get_or-set_same sizes slot 0 0 g.inside))
+          | inr ne ↦ ap length (chain-cleared g j ne) ∙ g.area.lengths j lt ∙ ap sectors_of (sym (get_or-set_other sizes slot j 0 0 ne))
+        ];
+  }
+
+-- bytes come behind those of a slot, and others behind them
+pub Adds-more : (old now new : Area) (slot : ℕ) (some more : List ℕ) → slot < length old.bytes → Adds old now slot some → Adds now new slot more
+    → Adds old new slot (some ++ more)
+Adds-more old now new slot some more h first second =
+    let here : bytes_at now slot ≡ bytes_at old slot ++ some =
+    ap (λ xs. get_or xs slot []) first.bytes ∙ get_or-set_same old.bytes slot (bytes_at old slot ++ some) [] h in
+    let lens : length (bytes_at now slot) ≡ length (bytes_at old slot) + length some = ap length here ∙ length-append (bytes_at old slot) some in
+    record {
+      bytes = second.bytes ∙ ap (λ xs. set xs slot (bytes_at now slot ++ more)) first.bytes
+          ∙ set-set old.bytes slot (bytes_at old slot ++ some) (bytes_at now slot ++ more)
+          ∙ ap (λ xs. set old.bytes slot (xs ++ more)) here
+          ∙ ap (set old.bytes slot) (append_assoc (bytes_at old slot) some more);
+      others = λ j ne. second.others j ne ∙ first.others j ne;
+      left = omega (arith, first.left, second.left, lens, length-append some more);
+    }
+
+-- no bytes come
+pub Adds-none : (a : Area) (slot : ℕ) → Adds a a slot []
+Adds-none a slot = record {
+  bytes = sym (ap (set a.bytes slot) (append-nil (bytes_at a slot)) ∙ set-get_or a.bytes slot []);
+  others = λ j ne. refl;
+  left = omega arith;
+}
+
+-- slots with no bytes
+pub area-new : (stored : List ℕ) (c : Chains) (k : ℕ) → k ≡ most_files → length stored ≡ 512 * most_sectors
+    → c ≡ record { chains = replicate most_files []; left = most_sectors } → AreApart c → IsArea stored c (replicate k 0)
+area-new stored c k e size is apart = record {
+  apart = apart;
+  size = size;
+  slots = length-replicate {A = ℕ} k 0 ∙ e;
+  lengths = λ i h.
+      let lt : i < most_files = omega (arith, h, length-replicate {A = ℕ} k 0, e) in
+      let under : i < k = omega (arith, h, length-replicate {A = ℕ} k 0) in
+      ap (λ (x : Chains). length (get_or x.chains i [])) is ∙ ap length (get_or-replicate {A = List ℕ} most_files i [] [] lt)
+      ∙ ap sectors_of (sym (get_or-replicate {A = ℕ} k i 0 0 under));
+}
+
+abbrev pub area : List (List ℕ) → List (List ℕ) → ℕ → Area
+area chains bytes left = record { chains = chains; bytes = bytes; left = left }
+
+pub bytes-new : (stored : List ℕ) (c : Chains) (k : ℕ) → c ≡ record { chains = replicate most_files []; left = most_sectors }
+    → area c.chains (all_bytes stored c.chains (replicate k 0)) c.left ≡ area (replicate most_files []) (replicate k []) most_sectors
+unfolding bytes_in
+bytes-new stored c k is =
+    let none : all_bytes stored c.chains (replicate k 0) ≡ replicate k [] =
+    ext_get_or [] (all_bytes stored c.chains (replicate k 0)) (replicate k [])
+    (length-all_bytes stored c.chains (replicate k 0) ∙ length-replicate {A = ℕ} k 0 ∙ sym (length-replicate {A = List ℕ} k []))
+    (λ i h. let lt : i < k = omega (arith, h, length-all_bytes stored c.chains (replicate k 0), length-replicate {A = ℕ} k 0) in
+    get_or-all_bytes stored c.chains (replicate k 0) i (omega (arith, lt, length-replicate {A = ℕ} k 0))
+    ∙ ap (bytes_in stored (get_or c.chains i [])) (get_or-replicate {A = ℕ} k i 0 0 lt)
+    ∙ sym (get_or-replicate {A = List ℕ} k i [] [] lt)) in
+    ap (λ bs. area c.chains bs c.left) none ∙ ap (λ (x : Chains). area x.chains (replicate k []) x.left) is

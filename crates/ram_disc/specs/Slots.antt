@@ -1,0 +1,85 @@
+-- The slots of a disc. A slot that is used has the name and the bytes of a file; the used ones stand in byte order of
+-- their names. A stream stands on a slot.
+use Rattle.std.specs.Prelude.{ℕ, ◌≡◌, ◌+◌, ◌-◌, ◌/◌, ◌<◌, ◌≤◌, ◌==◌, ◌&&◌, if◌then◌else◌, Bool, true, false, Option, Some, None, List, [], length, map, slice_index, slice_index_or}
+use Rattle.linked_list.specs.Count.{times}
+use Rattle.ram_disc.specs.Contents.{Area, bytes_at, chain_at}
+use Rattle.ram_disc.specs.Disc.{AreInOrder, Disc, File, Stream, is_before, most_files, most_sectors, most_streams, sectors_taken, shell_stream}
+use Rattle.ram_disc.specs.Name.{IsName}
+use Rattle.ram_disc.specs.declared.places.Place.{Place}
+
+abbrev pub name_in : List (List ℕ) → ℕ → List ℕ
+name_in names slot = slice_index_or names slot []
+
+abbrev pub file_in : List (List ℕ) → List (List ℕ) → ℕ → File
+file_in names bytes slot = record { name = name_in names slot; bytes = slice_index_or bytes slot [] }
+
+-- the files of these slots
+abbrev pub files_in : List (List ℕ) → List (List ℕ) → List ℕ → List File
+files_in names bytes used = map (file_in names bytes) used
+
+abbrev pub stream_in : List (List ℕ) → Option Place → Option Stream
+stream_in names None = None
+stream_in names (Some p) = Some (record { name = name_in names p.slot; position = p.position; writes = p.writes })
+
+abbrev pub streams_in : List (List ℕ) → List (Option Place) → List (Option Stream)
+streams_in names places = map (stream_in names) places
+
+-- the disc of these slots and streams
+abbrev pub disc_in : List (List ℕ) → List (List ℕ) → List ℕ → List (Option Place) → Disc
+disc_in names bytes used places = record { files = files_in names bytes used; streams = streams_in names places }
+
+-- a stream stands on the slot
+abbrev pub stands_on : ℕ → Option Place → Bool
+stands_on slot None = false
+stands_on slot (Some p) = p.slot == slot
+
+-- it writes there
+abbrev pub writes_on : ℕ → Option Place → Bool
+writes_on slot None = false
+writes_on slot (Some p) = (p.slot == slot) && p.writes
+
+-- the place of stream k, from 1, where it is open
+abbrev pub place_in : List (Option Place) → ℕ → Option Place
+place_in places k = if k == 0 then None else slice_index_or places (k - 1) None
+
+-- the name is that of the used slot at this place
+pub record IsAt (names : List (List ℕ)) (used : List ℕ) (name : List ℕ) (i : ℕ) : Type 0 where
+  pub within : i < length used
+  pub is : name_in names (slice_index used i) ≡ name
+
+-- the name is that of no used slot, and this is its place: those before stand before it, and it stands before the others
+pub record HasPlace (names : List (List ℕ)) (used : List ℕ) (name : List ℕ) (i : ℕ) : Type 0 where
+  pub within : i ≤ length used
+  pub before : (k : ℕ) → k < i → is_before (name_in names (slice_index used k)) name ≡ true
+  pub after : (k : ℕ) → i ≤ k → k < length used → is_before name (name_in names (slice_index used k)) ≡ true
+
+-- each slot is used or not, and the used ones stand in the order of their names
+pub record AreSlots (names : List (List ℕ)) (used unused : List ℕ) : Type 0 where
+  pub once : (s : ℕ) → times s used + times s unused ≤ 1
+  pub below : (s : ℕ) → 0 < times s used + times s unused → s < most_files
+  pub all : length used + length unused ≡ most_files
+  pub table : length names ≡ most_files
+  pub in_order : AreInOrder (map (name_in names) used)
+  pub lawful : (s : ℕ) → 0 < times s used → IsName (name_in names s)
+
+-- the slots that are not used are empty, and the sectors that are left are those that no file takes
+pub record AreFilled (names : List (List ℕ)) (a : Area) (used unused : List ℕ) : Type 0 where
+  pub table : length a.bytes ≡ most_files
+  pub empty : (s : ℕ) → 0 < times s unused → bytes_at a s ≡ []
+  pub room : a.left + sectors_taken (files_in names a.bytes used) ≡ most_sectors
+
+-- Stream k, counted from 0, stands on a used slot: a reader at most at its end, a writer at its end and with no other
+-- stream on the slot. The shell's stream reads. The place has the sector of its position.
+pub record StandsAt (a : Area) (used : List ℕ) (places : List (Option Place)) (k : ℕ) (p : Place) : Type 0 where
+  pub is_there : 0 < times p.slot used
+  pub within : p.position ≤ length (bytes_at a p.slot)
+  pub at_end : p.writes ≡ true → p.position ≡ length (bytes_at a p.slot)
+  pub alone : p.writes ≡ true → (j : ℕ) (other : Place) → slice_index_or places j None ≡ Some other → other.slot ≡ p.slot → j ≡ k
+  pub shell_reads : k + 1 ≡ shell_stream → p.writes ≡ false
+  pub sector : p.position < length (bytes_at a p.slot) → p.sector ≡ slice_index (chain_at a p.slot) (p.position / 512)
+
+pub record AreKept (names : List (List ℕ)) (a : Area) (used unused : List ℕ) (places : List (Option Place)) : Type 0 where
+  pub slots : AreSlots names used unused
+  pub filled : AreFilled names a used unused
+  pub numbers : length places ≡ most_streams
+  pub stand : (k : ℕ) (p : Place) → slice_index_or places k None ≡ Some p → StandsAt a used places k p
