@@ -60,7 +60,11 @@ fn make(disc: &mut Disc, count: u8) -> Result<u32, u32> {
 
 fn nth(disc: &Disc, k: u32, text: &str) -> Result<u32, u32> {
     let (name, size) = disc.nth(k).ok_or(41u32)?;
-    if name == named(text)? { Ok(size) } else { Err(0) }
+    if name == named(text)? {
+        Ok(size)
+    } else {
+        Err(0)
+    }
 }
 
 fn byte_at(disc: &Disc, name: &str, place: u32) -> Result<u32, u32> {
