@@ -1,0 +1,6 @@
+pub mod FoundTask
+pub mod GuestTask
+pub mod OneWord
+pub mod Refusals
+pub mod Held
+pub mod Flagged

@@ -1,0 +1,5 @@
+pub mod Called
+pub mod OneTask
+pub mod HoldTask
+pub mod ReleaseTask
+pub mod SetFlags

@@ -1,0 +1,13 @@
+// The codes with which calls are refused.
+
+/// There is no such task.
+pub(crate) const NO_TASK: u32 = 2;
+
+/// The task is a resident.
+pub(crate) const RESIDENT: u32 = 14;
+
+/// The task is not held.
+pub(crate) const NOT_HELD: u32 = 15;
+
+/// The task is held already.
+pub(crate) const HELD_ALREADY: u32 = 16;
