@@ -9,7 +9,8 @@ use Rattle.kernel_model.specs.Lists.{Lists}
 use Rattle.kernel_model.specs.Task.{Task, globals_of, name_words, stack_of, state_word, state_words, task_words}
 use Rattle.kernel_calls.specs.OneTask.{GuestAt}
 use Rattle.kernel_calls.specs.SetFlags.{flagged, with_flags}
-use Rattle.kernel_calls.proofs.GuestTask.{GuestFacts, IsTask-altered, guest-facts}
+use Rattle.kernel_model.proofs.AlteredTask.{IsTask-altered}
+use Rattle.kernel_calls.proofs.GuestTask.{GuestFacts, guest-facts}
 use Rattle.kernel_calls.proofs.Held.{behind_state}
 use Rattle.kernel_calls.proofs.OneWord.{word-changed}
 

@@ -1,5 +1,5 @@
--- What a store has of a guest that was found in it, and the guest with other flags, held or not, and of another priority.
-use Rattle.std.proofs.Common.{◌≡◌, ℕ, ◌+◌, ◌/◌, ◌%◌, ◌≤◌, List, get_or, map, eqb, ◌&&◌, Bool, true, sym, ap, ◌∙◌, subst}
+-- What a store has of a guest that was found in it.
+use Rattle.std.proofs.Common.{◌≡◌, ℕ, ◌+◌, ◌/◌, ◌%◌, List, get_or, map, eqb, ◌&&◌, true, sym, ap, ◌∙◌, subst}
 use Rattle.std.specs.List.{AllByRecursion, list_any}
 use Rattle.linked_list.specs.Count.{IsApart}
 use Rattle.owned_words.specs.Owned.{Holds}
@@ -14,24 +14,6 @@ use Rattle.kernel_model.proofs.RecoveredTasks.{state-held}
 use Rattle.kernel_calls.specs.OneTask.{GuestAt, is_held}
 use Rattle.kernel_calls.proofs.FoundTask.{any-one, reads}
 use Rattle.kernel_calls.proofs.Refusals.{accepted-guest}
-
--- the task with other flags, held or not, and of another priority
-abbrev pub altered : ℕ → Bool → ℕ → Task → Task
-altered flags held priority t = record t { flags = flags; held = held; priority = priority }
-
-pub IsTask-altered : (l : Lists) (t : Task) (flags : ℕ) (held : Bool) (priority : ℕ) → 1 ≤ priority → priority ≤ 10000 → is_guest_id t.id ≡ true → IsTask l t → IsTask l (altered flags held priority t)
-IsTask-altered l t flags held priority low high guest h =
-    record {
-      low = low;
-      high = high;
-      maker = h.maker;
-      field = h.field;
-      byte = h.byte;
-      guest = λ is.
-          let g = h.guest is in
-          record { high = g.high; block = g.block; some_module = g.some_module; most = g.most; modules = g.modules; fault = g.fault; unreported = g.unreported };
-      resident = λ is. cc;
-    }
 
 -- its words, its rules, and whether it is held
 pub record GuestFacts (s : List ℕ) (l : Lists) (id address : ℕ) (t : Task) : Type 0 where
