@@ -4,3 +4,6 @@ pub mod OneWord
 pub mod Refusals
 pub mod Held
 pub mod Flagged
+pub mod MovedWords
+pub mod Priorities
+pub mod ChangedPriority

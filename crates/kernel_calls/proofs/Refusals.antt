@@ -1,12 +1,12 @@
 -- Refusals by tests in their order, and the tests of a guest.
-use Rattle.std.proofs.Common.{◌≡◌, ℕ, ◌<◌, ◌≤◌, List, [], ◌∷◌, ◌++◌, cond, eqb, Bool, true, false, Option, Some, None, refl, sym, ap, ◌∙◌, subst, arith}
+use Rattle.std.proofs.Common.{◌≡◌, ℕ, ◌<◌, ◌≤◌, List, [], ◌∷◌, ◌++◌, cond, eqb, Bool, true, false, Option, Some, None, Result, Ok, refl, sym, ap, ◌∙◌, subst, arith}
 use Rattle.std.proofs.lemmas.Bool.{eq-eqb}
 use Rattle.std.proofs.lemmas.Bool.Decides.{nat_tests}
 use Rattle.kernel_model.specs.Lists.{Lists, has_task}
 use Rattle.kernel_model.specs.Task.{is_guest_id}
 use Rattle.kernel_model.proofs.AllThings.{any-here}
 use Rattle.kernel_calls.specs.Called.{first_refusal}
-use Rattle.kernel_calls.specs.OneTask.{GuestAt, guest_tests}
+use Rattle.kernel_calls.specs.OneTask.{GuestAt, answer_of, guest_tests}
 use Rattle.kernel_calls.proofs.FoundTask.{TaskAt}
 
 -- further tests
@@ -57,3 +57,9 @@ accepted-guest l id a g = on (has_task id l.tasks) (is_guest_id id) g.accepted
     on true true e = refl
     on true false e = cc
     on false c e = cc
+
+-- ---- answers
+
+pub answer_of-ok : (o : Option ℕ) (u : Unit {0}) → ◌≡◌ {A = Result (Unit {0}) ℕ} (Ok u) (answer_of o) → o ≡ None
+answer_of-ok None u e = refl
+answer_of-ok (Some code) u e = cc

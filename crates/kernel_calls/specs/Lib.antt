@@ -3,3 +3,4 @@ pub mod OneTask
 pub mod HoldTask
 pub mod ReleaseTask
 pub mod SetFlags
+pub mod ChangePri

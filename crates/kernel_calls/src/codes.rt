@@ -3,6 +3,12 @@
 /// There is no such task.
 pub(crate) const NO_TASK: u32 = 2;
 
+/// A task with another number has the priority.
+pub(crate) const PRIORITY_TAKEN: u32 = 8;
+
+/// It is no priority.
+pub(crate) const NO_PRIORITY: u32 = 9;
+
 /// The task is a resident.
 pub(crate) const RESIDENT: u32 = 14;
 
