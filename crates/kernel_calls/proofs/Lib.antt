@@ -1,3 +1,4 @@
+pub mod AroundChain
 pub mod FoundTask
 pub mod GuestTask
 pub mod OneWord

@@ -1,7 +1,7 @@
 -- A guest goes out of the chain, gets another priority, and comes in again: what the store holds then.
-use Rattle.std.proofs.Common.{◌≡◌, ◌≢◌, ℕ, ◌+◌, ◌<◌, ◌≤◌, List, [], ◌∷◌, ◌++◌, length, get_or, set, map, cond, eqb, Bool, true, false, refl, sym, ap, ◌∙◌, subst, arith, inl, inr}
+use Rattle.std.proofs.Common.{◌≡◌, ◌≢◌, ℕ, ◌+◌, ◌<◌, ◌≤◌, List, [], ◌∷◌, ◌++◌, length, get_or, set, map, cond, eqb, true, refl, sym, ap, ◌∙◌, subst, arith, inl, inr}
 use Rattle.std.specs.List.{AllByRecursion}
-use Rattle.std.proofs.lemmas.Bool.{cases_eq, eq-eqb, eqb-true, or_left, or_right}
+use Rattle.std.proofs.lemmas.Bool.{cases_eq, eq-eqb, or_left, or_right}
 use Rattle.linked_list.specs.Count.{times}
 use Rattle.linked_list.specs.Places.{has}
 use Rattle.linked_list.proofs.Counts.{hit-other, hit-same, times-append}
@@ -11,7 +11,7 @@ use Rattle.owned_words.specs.LinkedWords.{first_of, headed_words, linked_words}
 use Rattle.owned_words.specs.Owned.{Holds, Pairs, owners, written}
 use Rattle.owned_words.specs.Written.{IsWritten}
 use Rattle.owned_words.proofs.Exchanges.{exchange-left, exchange-right, exchange-row}
-use Rattle.owned_words.proofs.OwnedWords.{Holds-left, Holds-right, Holds-same, length-written, owners-append, written-other}
+use Rattle.owned_words.proofs.OwnedWords.{Holds-left, Holds-right, Holds-same, length-written, written-other}
 use Rattle.owned_words.proofs.WrittenWords.{ordered-hold, writes-hold}
 use Rattle.getvec_chain.specs.BlockWords.{blocks_words}
 use Rattle.hunk_loader.specs.ModuleExchanges.{modules_words}
@@ -27,7 +27,7 @@ use Rattle.kernel_model.specs.Changes.{with_tasks}
 use Rattle.kernel_model.specs.HoldsLists.{HoldsLists}
 use Rattle.kernel_model.specs.Lists.{Lists, address_of_task}
 use Rattle.kernel_model.specs.MovedTask.{with_moved_task, with_priority}
-use Rattle.kernel_model.specs.Owned.{device_words, owned, tasks_words}
+use Rattle.kernel_model.specs.Owned.{device_words, owned}
 use Rattle.kernel_model.specs.Residents.{resident_words}
 use Rattle.kernel_model.specs.Root.{root_words}
 use Rattle.kernel_model.specs.Task.{Task, is_guest_id, name_words, other_words, state_words, task_address, task_id, task_priority, task_words}
@@ -40,59 +40,9 @@ use Rattle.kernel_model.proofs.OwnedParts.{holds-parts}
 use Rattle.kernel_model.proofs.OwnerCounts.{owners-linked_between, owners-task_between}
 use Rattle.kernel_model.proofs.RootCounts.{Holds-entry, RootWords, highest-high, root-held}
 use Rattle.kernel_model.proofs.TaskKind.{are_tasks}
+use Rattle.kernel_calls.proofs.AroundChain.{address_with-out, around, around-count, around-exchange, listed, owned-around, owned-chain}
 use Rattle.kernel_calls.proofs.FoundTask.{reads}
 use Rattle.kernel_calls.proofs.Held.{behind_state}
-
--- the table leads to a task by its number, wherever it stands in the chain
-address_with-out : (front : List Task) (t : Task) (back : List Task) (i : ℕ) → times t.id (map task_id front) ≡ 0
-    → address_with task_address task_id (front ++ t ∷ back) i ≡ cond (eqb t.id i) t.address (address_with task_address task_id (front ++ back) i)
-address_with-out [] t back i none = refl
-address_with-out (z ∷ zs) t back i none =
-    ap (λ w. cond (eqb z.id i) z.address w) (address_with-out zs t back i (omega (arith, none)))
-    ∙ on (eqb z.id i) refl (eqb t.id i) refl
-  where
-    rest : ℕ
-    rest = address_with task_address task_id (zs ++ back) i
-
-    on : (b : Bool) → eqb z.id i ≡ b → (c : Bool) → eqb t.id i ≡ c → cond b z.address (cond c t.address rest) ≡ cond c t.address (cond b z.address rest)
-    on true p true q = absurd (omega (arith, none, hit-same t.id z.id (eqb-true t.id i q ∙ sym (eqb-true z.id i p))))
-    on true p false q = refl
-    on false p c q = refl
-
-module _ (l : Lists) where
-  -- all owned words, with these of the chain and the table
-  abbrev around : Pairs → Pairs
-  around L = root_words l (address_of_task l l.running) ++ (blocks_words l.blocks ++ (L ++ (modules_words l.modules ++ (device_words l ++ resident_words l))))
-
-  abbrev listed : List Task → Pairs
-  listed ts = listed_words task_address task_id (task_words l.version) (highest_id_of l.version) ts
-
-  around-exchange : (L M old new : Pairs) → Exchange L M old new → Exchange (around L) (around M) old new
-  around-exchange L M old new x = exchange-right (root_words l (address_of_task l l.running)) _ _ _ _ (exchange-right (blocks_words l.blocks) _ _ _ _ (exchange-left L M _ old new x))
-
-  around-count : (a : ℕ) (L M : Pairs) (k : ℕ) → owners a L ≡ owners a M + k → owners a (around L) ≡ owners a (around M) + k
-  around-count a L M k e =
-      let root : Pairs = root_words l (address_of_task l l.running) in
-      let blocks : Pairs = blocks_words l.blocks in
-      let last : Pairs = modules_words l.modules ++ (device_words l ++ resident_words l) in
-      omega (
-        arith,
-        e,
-        owners-append a root (blocks ++ (L ++ last)),
-        owners-append a root (blocks ++ (M ++ last)),
-        owners-append a blocks (L ++ last),
-        owners-append a blocks (M ++ last),
-        owners-append a L last,
-        owners-append a M last,
-      )
-
-  owned-around : owned l ≡ around (tasks_words l)
-  unfolding owned
-  owned-around = refl
-
-  owned-chain : (ts : List Task) → address_with task_address task_id ts l.running ≡ address_of_task l l.running → owned (with_tasks ts l) ≡ around (listed ts)
-  unfolding owned
-  owned-chain ts same = ap (λ r. root_words l r ++ (blocks_words l.blocks ++ (listed ts ++ (modules_words l.modules ++ (device_words l ++ resident_words l))))) same
 
 module _ (s : List ℕ) (l : Lists) (front : List Task) (x : Task) (back : List Task) (pri : ℕ) (h : HoldsLists s l) (is : l.tasks ≡ front ++ x ∷ back) where
   abbrev words : Task → ℕ → Pairs
