@@ -1,7 +1,5 @@
 -- What a kernel call leaves.
-use Rattle.std.specs.Prelude.{ℕ, ◌^◌, ◌-◌, ◌%◌, Bool, if◌then◌else◌, Option, Some, None, Result, Ok, Err, List, [], ◌∷◌}
-use Rattle.word_store.specs.Arithmetic.{add}
-use Rattle.word_store.specs.declared.registers.Regs.{Regs}
+use Rattle.std.specs.Prelude.{ℕ, ◌^◌, ◌-◌, Bool, if◌then◌else◌, Option, Some, None, Result, Ok, Err, List, [], ◌∷◌}
 use Rattle.owned_words.specs.Owned.{Pairs}
 use Rattle.packet_queue.specs.declared.events.KernelEvent.{KernelEvent}
 use Rattle.kernel_model.specs.Lists.{Lists}

@@ -1,4 +1,5 @@
 pub mod AllThings
+pub mod AlteredTask
 pub mod BlockChanges
 pub mod BlockStarts
 pub mod ChainChanges
@@ -14,6 +15,7 @@ pub mod GivenBlocks
 pub mod ImageWords
 pub mod ListRanges
 pub mod ModuleMoves
+pub mod MovedTask
 pub mod OneKernel
 pub mod OneTask
 pub mod OwnedPackets

@@ -47,7 +47,7 @@ state-field t f = on t.held
     on true = omega (arith, field-even t.field f, bit-low t.queue)
     on false = omega (arith, field-even t.field f, bit-low t.queue)
 
-state-held : (t : Task) → IsField t.field → eqb (state_word t / 2 % 2) 1 ≡ t.held
+pub state-held : (t : Task) → IsField t.field → eqb (state_word t / 2 % 2) 1 ≡ t.held
 state-held t f = on t.held
   where
     on : (b : Bool) → eqb ((t.field + queue_bit t.queue + cond b 2 0) / 2 % 2) 1 ≡ b

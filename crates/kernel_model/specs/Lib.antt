@@ -7,6 +7,7 @@ pub mod Image
 pub mod Kernel
 pub mod KernelRanges
 pub mod Lists
+pub mod MovedTask
 pub mod NotedEvents
 pub mod OneKernel
 pub mod Owned

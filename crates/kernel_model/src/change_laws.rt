@@ -1,5 +1,5 @@
 // Laws of changes: what keeps lists valid.
-ghost use Rattle.std.specs.Prelude.{◌≡◌, ◌≢◌, ◌+◌, ◌<◌, ◌++◌, ◌∷◌, ℕ, None, Some, List, [], is_some, length, true, false};
+ghost use Rattle.std.specs.Prelude.{◌≡◌, ◌≢◌, ◌+◌, ◌<◌, ◌≤◌, ◌++◌, ◌∷◌, ℕ, None, Some, List, [], is_some, length, true, false};
 ghost use Rattle.std.specs.List.{AllByRecursion};
 ghost use Rattle.getvec_chain.specs.declared.pieces.Run.{Run};
 ghost use Rattle.getvec_chain.specs.Give.{given};
@@ -14,6 +14,7 @@ ghost use Rattle.kernel_model.specs.BlockUse.{use_of_data};
 ghost use Rattle.kernel_model.specs.BlockUse.Use.{User};
 ghost use Rattle.kernel_model.specs.Changes.{AreUnowned, HasNoPacketsOut, HasPlace, IsIdleBlock, KeepsOrder, SameTask, queue_of, with_blocks, with_coroutines, with_fault_packet, with_key, with_modules, with_new_task, with_queue, with_tasks};
 ghost use Rattle.kernel_model.specs.Lists.{Lists, has_task};
+ghost use Rattle.kernel_model.specs.MovedTask.{with_moved_task};
 ghost use Rattle.kernel_model.specs.Owned.{owned};
 ghost use Rattle.kernel_model.specs.Residents.{fault_packet, key_packet};
 ghost use Rattle.kernel_model.specs.Task.{Task, is_guest_id, task_words};
@@ -53,6 +54,15 @@ pub fn same_task_law()
     ensures { (l : Lists) (front back : List Task) (t u : Task) → AreValid l
         → l.tasks ≡ front ++ t ∷ back → SameTask t u → IsTask l u → CoroutinesStand l u
         → AreValid (with_tasks (front ++ u ∷ back) l) }
+{}
+
+/// A guest has another priority, which no other task has, and its place in the chain by it.
+pub fn moved_task_law()
+    ensures { (l : Lists) (front back : List Task) (t : Task) (priority : ℕ) → AreValid l
+        → l.tasks ≡ front ++ t ∷ back → is_guest_id t.id ≡ true
+        → 1 ≤ priority → priority ≤ 10000
+        → AllByRecursion (λ u. u.priority ≢ priority) (front ++ back)
+        → AreValid (with_moved_task priority t (front ++ back) l) }
 {}
 
 /// A packet comes into a queue: anywhere, or, at the clock, where due ticks never fall.

@@ -1,0 +1,105 @@
+-- The task that a store finds by a number, and the list with that task changed.
+use Rattle.std.proofs.Common.{◌≡◌, ℕ, List, [], ◌∷◌, ◌++◌, map, cond, eqb, ◌≤◌, ◌&&◌, ◌||◌, Bool, true, false, Option, Some, None, refl, sym, ap, ◌∙◌, subst, arith}
+use Rattle.std.proofs.lemmas.Bool.{eq-eqb, eqb-true, ne_eqb}
+use Rattle.std.specs.List.{AllByRecursion, list_any}
+use Rattle.linked_list.specs.Count.{IsApart, times}
+use Rattle.linked_list.proofs.Counts.{hit-same, times-append}
+use Rattle.linked_list.proofs.MappedLists.{map-append}
+use Rattle.task_block.specs.TaskChain.{id_in, task_with, tasks_in}
+use Rattle.task_block.proofs.HeldTaskBlocks.{numbers}
+use Rattle.kernel_model.specs.Changes.{change_of}
+use Rattle.kernel_model.specs.HoldsLists.{HoldsLists}
+use Rattle.kernel_model.specs.Lists.{Lists, has_task}
+use Rattle.kernel_model.specs.ReadsLists.{ReadsLists}
+use Rattle.kernel_model.specs.Task.{Task, task_address, task_id, task_words}
+use Rattle.kernel_model.proofs.Reading.{read-lists}
+use Rattle.kernel_model.proofs.TaskKind.{are_tasks}
+
+-- the task with the number is the one at the address
+pub record TaskAt (ts : List Task) (id address : ℕ) : Type 0 where
+  pub front : List Task
+  pub task : Task
+  pub back : List Task
+  pub is : ts ≡ front ++ task ∷ back
+  pub number : task.id ≡ id
+  pub at : task.address ≡ address
+
+abbrev pub Finds : ℕ → List Task → Option ℕ → Type 0
+Finds id ts None = has_task id ts ≡ false
+Finds id ts (Some address) = TaskAt ts id address
+
+find-among : (s : List ℕ) (id : ℕ) (ts : List Task) → AllByRecursion (λ t. id_in s t.address ≡ t.id) ts → Finds id ts (task_with s id (map task_address ts))
+find-among s id [] same = refl
+find-among s id (t ∷ ts) same =
+    subst (λ z. Finds id (t ∷ ts) (cond (eqb z id) (Some t.address) (task_with s id (map task_address ts)))) (sym same.0)
+    (on (eqb t.id id) refl (find-among s id ts same.1))
+  where
+    behind : eqb t.id id ≡ false → (o : Option ℕ) → Finds id ts o → Finds id (t ∷ ts) o
+    behind e None none = ap (λ b. b || has_task id ts) e ∙ none
+    behind e (Some a) m = record { front = t ∷ m.front; task = m.task; back = m.back; is = ap (λ z. t ∷ z) m.is; number = m.number; at = m.at }
+
+    on : (b : Bool) → eqb t.id id ≡ b → Finds id ts (task_with s id (map task_address ts)) → Finds id (t ∷ ts) (cond b (Some t.address) (task_with s id (map task_address ts)))
+    on true e more = record { front = []; task = t; back = ts; is = refl; number = eqb-true t.id id e; at = refl }
+    on false e more = behind e (task_with s id (map task_address ts)) more
+
+pub reads : (s : List ℕ) (l : Lists) → HoldsLists s l → ReadsLists s l
+reads s l h = read-lists s l h.valid h.size h.holds
+
+pub find-task : (s : List ℕ) (l : Lists) (id : ℕ) → HoldsLists s l → Finds id l.tasks (task_with s id (tasks_in s))
+find-task s l id h =
+    let r : ReadsLists s l = reads s l h in
+    subst (λ ts. Finds id l.tasks (task_with s id ts)) (sym r.tasks.chain)
+    (find-among s id l.tasks (numbers task_address task_id (task_words l.version) (are_tasks l.version) s l.tasks 0 r.held_tasks.holds.1))
+
+-- ---- the task with a number changes
+
+module _ (id : ℕ) (change : Task → Task) where
+  change_of-others : (ts : List Task) → times id (map task_id ts) ≡ 0 → map (change_of id change) ts ≡ ts
+  change_of-others [] none = refl
+  change_of-others (t ∷ ts) none =
+      let test : eqb t.id id ≡ false = ne_eqb t.id id (λ e. absurd (omega (arith, none, hit-same id t.id (sym e)))) in
+      ap (λ b. cond b (change t) t ∷ map (change_of id change) ts) test ∙ ap (λ z. t ∷ z) (change_of-others ts (omega (arith, none)))
+
+  changed-append : (xs ys : List Task) → map (change_of id change) (xs ++ ys) ≡ map (change_of id change) xs ++ map (change_of id change) ys
+  changed-append [] ys = refl
+  changed-append (x ∷ xs) ys = ap (λ z. change_of id change x ∷ z) (changed-append xs ys)
+
+  pub change_of-one : (front : List Task) (t : Task) (back : List Task) → t.id ≡ id → IsApart (map task_id (front ++ t ∷ back))
+      → map (change_of id change) (front ++ t ∷ back) ≡ front ++ change t ∷ back
+  change_of-one front t back e apart =
+      let count = ap (times id) (map-append task_id front (t ∷ back)) in
+      let sum = times-append id (map task_id front) (map task_id (t ∷ back)) in
+      let here = hit-same id t.id (sym e) in
+      let test : eqb t.id id ≡ true = eq-eqb t.id id e in
+      changed-append front (t ∷ back)
+      ∙ ap (λ z. z ++ map (change_of id change) (t ∷ back)) (change_of-others front (omega (arith, apart id, count, sum, here)))
+      ∙ ap (λ b. front ++ cond b (change t) t ∷ map (change_of id change) back) test
+      ∙ ap (λ z. front ++ change t ∷ z) (change_of-others back (omega (arith, apart id, count, sum, here)))
+
+-- ---- a test that only the task with a number may pass
+
+module _ (id : ℕ) (test : Task → Bool) where
+  abbrev among : List Task → Bool
+  among ts = list_any (λ t. eqb t.id id && test t) ts
+
+  any-others : (ts : List Task) → times id (map task_id ts) ≡ 0 → among ts ≡ false
+  any-others [] none = refl
+  any-others (t ∷ ts) none =
+      let other : eqb t.id id ≡ false = ne_eqb t.id id (λ e. absurd (omega (arith, none, hit-same id t.id (sym e)))) in
+      ap (λ b. b && test t || among ts) other ∙ any-others ts (omega (arith, none))
+
+  pub any-one : (front : List Task) (t : Task) (back : List Task) → t.id ≡ id → IsApart (map task_id (front ++ t ∷ back)) → among (front ++ t ∷ back) ≡ test t
+  any-one [] t back e apart =
+      let same : eqb t.id id ≡ true = eq-eqb t.id id e in
+      ap (λ b. b && test t || among back) same ∙ ap (λ b. test t || b) (any-others back (omega (arith, apart id, hit-same id t.id (sym e)))) ∙ or_false (test t)
+    where
+      or_false : (b : Bool) → (b || false) ≡ b
+      or_false true = refl
+      or_false false = refl
+  any-one (z ∷ zs) t back e apart =
+      let other : eqb z.id id ≡ false = ne_eqb z.id id (λ f. absurd (omega (arith, apart id, hit-same id z.id (sym f), here zs))) in
+      ap (λ b. b && test z || among (zs ++ t ∷ back)) other ∙ any-one zs t back e (λ a. omega (arith, apart a))
+    where
+      here : (ws : List Task) → 1 ≤ times id (map task_id (ws ++ t ∷ back))
+      here [] = omega (arith, hit-same id t.id (sym e))
+      here (w ∷ ws) = omega (arith, here ws)

@@ -1,0 +1,10 @@
+pub mod AroundChain
+pub mod FoundTask
+pub mod GuestTask
+pub mod OneWord
+pub mod Refusals
+pub mod Held
+pub mod Flagged
+pub mod MovedWords
+pub mod Priorities
+pub mod ChangedPriority

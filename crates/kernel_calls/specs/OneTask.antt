@@ -1,0 +1,40 @@
+-- What the calls on one task share: their first tests, the guest that they find, how they answer, and what they leave.
+use Rattle.std.specs.Prelude.{◌≡◌, ℕ, ◌==◌, ◌&&◌, Bool, Option, Some, None, Result, Ok, Err, List, [], ◌∷◌, ◌++◌}
+use Rattle.std.specs.List.{list_any}
+use Rattle.kernel_model.specs.ChangedStore.{IsChanged}
+use Rattle.kernel_model.specs.Lists.{Lists, has_task}
+use Rattle.kernel_model.specs.Task.{Task, is_guest_id}
+use Rattle.kernel_calls.specs.Called.{first_refusal}
+
+-- there is a task with the number (code 2), and it is no resident (code 14)
+abbrev pub guest_tests : Lists → ℕ → List (Bool × ℕ)
+guest_tests l id = (has_task id l.tasks, 2) ∷ (is_guest_id id, 14) ∷ []
+
+-- the guest with the number is the task at the address
+pub record GuestAt (l : Lists) (id address : ℕ) : Type 0 where
+  pub front : List Task
+  pub task : Task
+  pub back : List Task
+  pub is : l.tasks ≡ front ++ task ∷ back
+  pub number : task.id ≡ id
+  pub at : task.address ≡ address
+  pub accepted : first_refusal (guest_tests l id) ≡ None
+
+-- the address of the guest, or the code of the first of these tests that fails
+abbrev pub IsGuestOf : Lists → ℕ → Result ℕ ℕ → Type 0
+IsGuestOf l id (Ok address) = GuestAt l id address
+IsGuestOf l id (Err code) = first_refusal (guest_tests l id) ≡ Some code
+
+-- whether the task with the number is held
+abbrev pub is_held : Lists → ℕ → Bool
+is_held l id = list_any (λ t. (t.id == id) && t.held) l.tasks
+
+-- how a call answers: with the code of its refusal, if it has one
+abbrev pub answer_of : Option ℕ → Result (Unit {0}) ℕ
+answer_of None = Ok tt
+answer_of (Some code) = Err code
+
+-- what it leaves: refused, the store of before, and else a store that holds these lists and has no other change
+abbrev pub Leaves : Option ℕ → List ℕ → List ℕ → Lists → Type 0
+Leaves None s t l = IsChanged s t l []
+Leaves (Some code) s t l = t ≡ s
