@@ -12,7 +12,7 @@ use Rattle.kernel_model.specs.HoldsLists.{HoldsLists}
 use Rattle.kernel_model.specs.Lists.{Lists}
 use Rattle.kernel_model.specs.MovedTask.{with_moved_task}
 use Rattle.kernel_model.specs.Task.{task_id}
-use Rattle.kernel_calls.specs.Called.{first_refusal}
+use Rattle.kernel_calls.specs.Refusals.{first_refusal}
 use Rattle.kernel_calls.specs.ChangePri.{is_priority, is_taken, moved, priority_refusal, priority_tests, with_new_priority}
 use Rattle.kernel_calls.specs.OneTask.{GuestAt, guest_tests}
 use Rattle.kernel_calls.proofs.GuestTask.{guest-facts}

@@ -14,7 +14,7 @@ use Rattle.kernel_model.specs.Task.{Task, fault_words, globals_of, name_words, q
 use Rattle.kernel_calls.specs.HoldTask.{hold_refusal, with_held}
 use Rattle.kernel_calls.specs.OneTask.{GuestAt, guest_tests, is_held}
 use Rattle.kernel_calls.specs.ReleaseTask.{release_refusal, with_released}
-use Rattle.kernel_calls.specs.Called.{first_refusal}
+use Rattle.kernel_calls.specs.Refusals.{first_refusal}
 use Rattle.kernel_model.proofs.AlteredTask.{IsTask-altered}
 use Rattle.kernel_calls.proofs.GuestTask.{GuestFacts, guest-facts}
 use Rattle.kernel_calls.proofs.OneWord.{word-changed}

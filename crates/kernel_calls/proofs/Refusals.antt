@@ -5,7 +5,7 @@ use Rattle.std.proofs.lemmas.Bool.Decides.{nat_tests}
 use Rattle.kernel_model.specs.Lists.{Lists, has_task}
 use Rattle.kernel_model.specs.Task.{is_guest_id}
 use Rattle.kernel_model.proofs.AllThings.{any-here}
-use Rattle.kernel_calls.specs.Called.{first_refusal}
+use Rattle.kernel_calls.specs.Refusals.{first_refusal}
 use Rattle.kernel_calls.specs.OneTask.{GuestAt, answer_of, guest_tests}
 use Rattle.kernel_calls.proofs.FoundTask.{TaskAt}
 

@@ -5,7 +5,7 @@ use Rattle.linked_list.specs.Places.{without_first}
 use Rattle.kernel_model.specs.Lists.{Lists}
 use Rattle.kernel_model.specs.MovedTask.{with_moved_task}
 use Rattle.kernel_model.specs.Task.{Task}
-use Rattle.kernel_calls.specs.Called.{first_refusal}
+use Rattle.kernel_calls.specs.Refusals.{first_refusal}
 use Rattle.kernel_calls.specs.OneTask.{guest_tests}
 
 abbrev pub is_priority : ℕ → Bool

@@ -1,4 +1,4 @@
-pub mod Called
+pub mod Refusals
 pub mod OneTask
 pub mod HoldTask
 pub mod ReleaseTask

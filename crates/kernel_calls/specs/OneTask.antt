@@ -4,7 +4,7 @@ use Rattle.std.specs.List.{list_any}
 use Rattle.kernel_model.specs.ChangedStore.{IsChanged}
 use Rattle.kernel_model.specs.Lists.{Lists, has_task}
 use Rattle.kernel_model.specs.Task.{Task, is_guest_id}
-use Rattle.kernel_calls.specs.Called.{first_refusal}
+use Rattle.kernel_calls.specs.Refusals.{first_refusal}
 
 -- there is a task with the number (code 2), and it is no resident (code 14)
 abbrev pub guest_tests : Lists → ℕ → List (Bool × ℕ)

@@ -3,7 +3,7 @@ use Rattle.std.specs.Prelude.{ℕ, Bool, false, Option, List, [], ◌∷◌, ◌
 use Rattle.kernel_model.specs.Changes.{with_task}
 use Rattle.kernel_model.specs.Lists.{Lists}
 use Rattle.kernel_model.specs.Task.{Task}
-use Rattle.kernel_calls.specs.Called.{first_refusal}
+use Rattle.kernel_calls.specs.Refusals.{first_refusal}
 use Rattle.kernel_calls.specs.OneTask.{guest_tests, is_held}
 
 -- it is held (code 15)

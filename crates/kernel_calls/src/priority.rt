@@ -5,7 +5,7 @@ ghost use Rattle.task_block.specs.Moves as moves;
 ghost use Rattle.task_block.specs.TaskChain.{HasTasks, tasks_in};
 ghost use Rattle.kernel_model.specs.HoldsLists.{HoldsLists};
 ghost use Rattle.kernel_model.specs.Lists.{Lists};
-ghost use Rattle.kernel_calls.specs.Called.{first_refusal};
+ghost use Rattle.kernel_calls.specs.Refusals.{first_refusal};
 ghost use Rattle.kernel_calls.specs.ChangePri.{is_priority, priority_refusal, priority_tests, with_new_priority};
 ghost use Rattle.kernel_calls.specs.OneTask.{Leaves, answer_of};
 

@@ -1,6 +1,6 @@
 use Rattle.std.proofs.Common.{◌≡◌, None, [], sym, ◌∙◌, subst}
 use Rattle.kernel_model.specs.ChangedStore.{IsChanged}
-use Rattle.kernel_calls.specs.Called.{first_refusal}
+use Rattle.kernel_calls.specs.Refusals.{first_refusal}
 use Rattle.kernel_calls.specs.ChangePri.{priority_tests, with_new_priority}
 use Rattle.kernel_calls.specs.OneTask.{GuestAt, Leaves}
 use Rattle.kernel_calls.proofs.ChangedPriority.{guest-in_chain, priority-changed, refusal-is}
