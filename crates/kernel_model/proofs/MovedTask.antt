@@ -1,5 +1,5 @@
 -- A guest has another priority and another place in the chain, and the lists stay valid.
-use Rattle.std.proofs.Common.{◌≡◌, ◌≢◌, ℕ, ◌+◌, ◌≤◌, List, [], ◌∷◌, ◌++◌, map, eqb, nat_lt, ◌||◌, Bool, true, false, inl, inr, refl, sym, ap, ◌∙◌, subst, arith}
+use Rattle.std.proofs.Common.{◌≡◌, ◌≢◌, ℕ, ◌+◌, ◌≤◌, List, [], ◌∷◌, ◌++◌, map, eqb, nat_lt, ◌||◌, Bool, true, false, inl, inr, refl, sym, ap, ◌∙◌, subst}
 use Rattle.std.specs.List.{AllByRecursion, list_any}
 use Rattle.std.proofs.lemmas.List.Folds.{list_any-append}
 use Rattle.linked_list.specs.Count.{times}
@@ -10,7 +10,7 @@ use Rattle.task_block.specs.ChainWords.{listed_words}
 use Rattle.kernel_model.specs.Changes.{with_tasks}
 use Rattle.kernel_model.specs.Lists.{Lists, has_task, is_queued}
 use Rattle.kernel_model.specs.MovedTask.{with_moved_task, with_priority}
-use Rattle.kernel_model.specs.Owned.{owned, tasks_words}
+use Rattle.kernel_model.specs.Owned.{owned}
 use Rattle.kernel_model.specs.Residents.{fault_packet, key_packet}
 use Rattle.kernel_model.specs.Task.{Task, is_guest_id, task_address, task_id, task_words}
 use Rattle.kernel_model.specs.ValidLists.{AreValid}

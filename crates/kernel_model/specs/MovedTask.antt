@@ -1,5 +1,5 @@
 -- A task of another priority, which has another place in the chain.
-use Rattle.std.specs.Prelude.{ℕ, List, ◌++◌}
+use Rattle.std.specs.Prelude.{ℕ, List}
 use Rattle.kernel_model.specs.Changes.{with_new_task, with_tasks}
 use Rattle.kernel_model.specs.Lists.{Lists}
 use Rattle.kernel_model.specs.Task.{Task}
