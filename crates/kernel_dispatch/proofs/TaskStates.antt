@@ -14,6 +14,7 @@ use Rattle.kernel_model.proofs.AllThings.{all-from_both}
 use Rattle.kernel_model.proofs.EachMember.{all-both, holds-each}
 use Rattle.kernel_model.proofs.ReadCoroutines.{HoldsTask, holds-task}
 use Rattle.kernel_model.proofs.Reading.{read-lists}
+use Rattle.kernel_dispatch.specs.DispatchWords.{state_of}
 use Rattle.kernel_dispatch.specs.ReadyTasks.{is_ready_in, is_ready_state}
 
 -- what holds of the four fields
@@ -59,3 +60,9 @@ tells-tasks s l h =
       ready = ap is_ready_state own.state.0 ∙ ready-state t is.0.field;
     })
     l.tasks words (all-both (IsTask l) (λ t. (1 ≤ t.id) × (t.id ≤ get_or s 120 0)) l.tasks h.valid.tasks.each r.held_tasks.numbers)
+
+-- the state of each task, as the store has it
+pub tells-states : (s : List ℕ) (l : Lists) → HoldsLists s l → AllByRecursion (λ t. state_of s t.address ≡ state_word t) l.tasks
+tells-states s l h =
+    let r : ReadsLists s l = read-lists s l h.valid h.size h.holds in
+    holds-each task_address (task_words l.version) s (λ t. state_of s t.address ≡ state_word t) (λ t n own. (holds-task s l.version t n own).state.0) l.tasks 0 r.held_tasks.holds.1

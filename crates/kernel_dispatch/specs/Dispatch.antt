@@ -45,6 +45,13 @@ packets_taken t = if takes_packet t then take 1 t.queue else []
 abbrev pub packets_left : Task → List QueuedPacket
 packets_left t = if takes_packet t then drop 1 t.queue else t.queue
 
+-- the task once it has taken them, and once it runs
+abbrev pub with_packet_taken : Task → Task
+with_packet_taken t = record t { queue = packets_left t }
+
+abbrev pub started : Task → Task
+started t = record t { field = runs }
+
 abbrev pub resumed : Task → Task
 resumed t = record t { field = runs; queue = packets_left t }
 

@@ -1,2 +1,4 @@
 pub mod Dispatch
 pub mod ReadyTasks
+pub mod DispatchWords
+pub mod Turn
