@@ -1,5 +1,5 @@
 -- The registers that the next task gets.
-use Rattle.std.proofs.Common.{◌≡◌, ◌≢◌, ◌⊎◌, ℕ, ◌+◌, ◌<◌, ◌≤◌, ◌&&◌, ◌||◌, Bool, true, false, Option, Some, None, List, [], ◌∷◌, ◌++◌, cond, drop, eqb, get_or, leb, map, take, inl, inr, refl, sym, ap, ◌∙◌, subst, arith}
+use Rattle.std.proofs.Common.{◌≡◌, ◌≢◌, ℕ, ◌+◌, ◌<◌, ◌&&◌, ◌||◌, Bool, true, false, Option, List, [], ◌∷◌, cond, eqb, get_or, leb, map, take, inl, inr, refl, sym, ap, ◌∙◌, subst, arith}
 use Rattle.std.specs.List.{AllByRecursion}
 use Rattle.std.specs.Prelude.{not}
 use Rattle.std.proofs.lemmas.Bool.{and_parts, eq-eqb, eqb-true, ne_eqb}
@@ -18,7 +18,7 @@ use Rattle.kernel_model.proofs.RootCounts.{head-low}
 use Rattle.kernel_model.specs.Changes.{change_of, with_task}
 use Rattle.kernel_model.specs.HoldsLists.{HoldsLists}
 use Rattle.kernel_model.specs.Lists.{Lists, address_of_task}
-use Rattle.kernel_model.specs.Task.{Task, globals_of, is_guest_id, queue_bit, queue_head, stack_of, state_word, task_address, task_id, task_words}
+use Rattle.kernel_model.specs.Task.{Task, globals_of, is_guest_id, queue_bit, stack_of, task_address, task_id, task_words}
 use Rattle.kernel_model.specs.ValidTasks.{IsField, no_regs}
 use Rattle.kernel_model.proofs.AllThings.{all-here}
 use Rattle.kernel_model.proofs.ChainSplits.{HasNumbered, IsBetween, address-between, address-none, found-between, numbered}
@@ -26,8 +26,8 @@ use Rattle.kernel_model.proofs.EachMember.{all-each, holds-each}
 use Rattle.kernel_model.proofs.ReadCoroutines.{HoldsTask, holds-task}
 use Rattle.kernel_model.proofs.Reading.{read-lists}
 use Rattle.kernel_model.proofs.TaskPlaces.{TaskPlace, task-places, task-some}
-use Rattle.kernel_dispatch.specs.Dispatch.{entry_regs, guest_regs, packets_left, packets_taken, resumed_regs, suspended, takes_packet, unlinked_words, with_packet_taken}
-use Rattle.kernel_dispatch.specs.DispatchWords.{entry_in, guest_regs_in, next_regs_in, running_in, saved_in, state_of}
+use Rattle.kernel_dispatch.specs.Dispatch.{entry_regs, guest_regs, packets_left, packets_taken, resumed_regs, suspended, unlinked_words, with_packet_taken}
+use Rattle.kernel_dispatch.specs.DispatchWords.{entry_in, guest_regs_in, next_regs_in, running_in, saved_in}
 use Rattle.kernel_dispatch.specs.Turn.{HasTaken, IsNext}
 use Rattle.kernel_dispatch.proofs.ResumedTask.{takes-suspended}
 use Rattle.kernel_dispatch.proofs.SuspendedLists.{none-runs, running-held}

@@ -1,5 +1,5 @@
 -- Nobody runs any more, or the running task goes on.
-use Rattle.std.proofs.Common.{◌≡◌, ◌⊎◌, ℕ, ◌+◌, ◌<◌, ◌≤◌, ◌&&◌, Bool, true, false, Option, Some, None, List, [], ◌∷◌, cond, eqb, get_or, ltb, map, set, inl, inr, refl, sym, ap, ◌∙◌, subst, arith}
+use Rattle.std.proofs.Common.{◌≡◌, ℕ, ◌&&◌, Bool, true, false, Option, Some, None, List, [], ◌∷◌, cond, eqb, ltb, map, set, inl, inr, refl, sym, ap, ◌∙◌, subst, arith}
 use Rattle.std.specs.List.{AllByRecursion}
 use Rattle.std.specs.Option.{option_map}
 use Rattle.std.proofs.lemmas.Bool.{eq-eqb, ne_eqb}
@@ -9,7 +9,6 @@ use Rattle.task_block.specs.HeldTasks.{address_with}
 use Rattle.packet_queue.specs.QueueWords.{QueuedPacket}
 use Rattle.packet_queue.specs.declared.events.KernelEvent.{KernelEvent}
 use Rattle.packet_queue.specs.declared.events.KernelEvent.TheVariants.{Runs}
-use Rattle.kernel_model.specs.Between.{is_ready}
 use Rattle.kernel_model.specs.ChangedStore.{HasKeeper, IsChanged, Knows}
 use Rattle.kernel_model.specs.Changes.{change_of}
 use Rattle.kernel_model.specs.HoldsLists.{HoldsLists}
@@ -20,11 +19,10 @@ use Rattle.kernel_model.specs.ValidTasks.{IsField, no_regs}
 use Rattle.kernel_model.proofs.AllThings.{all-here}
 use Rattle.kernel_model.proofs.ChainSplits.{HasNumbered, address-between, address-none, numbered}
 use Rattle.kernel_model.proofs.ChangedLists.{changed-none, changed-then, knows-same, running-changed}
-use Rattle.kernel_model.proofs.EachMember.{all-each}
 use Rattle.kernel_model.proofs.NotedInTurn.{notes-none}
 use Rattle.kernel_model.proofs.RunningTask.{owners-running, running-valid, with_running}
 use Rattle.kernel_model.proofs.TaskPlaces.{TaskPlace, task-places, task-some}
-use Rattle.kernel_dispatch.specs.Dispatch.{CanDispatch, Dispatched, dispatched, first_ready_block, first_ready_task, goes_on, suspended, unchanged, with_next, with_nobody, with_suspended}
+use Rattle.kernel_dispatch.specs.Dispatch.{CanDispatch, dispatched, first_ready_block, first_ready_task, goes_on, suspended, unchanged, with_next, with_nobody, with_suspended}
 use Rattle.kernel_dispatch.specs.DispatchWords.{goes_on_in, running_in, state_of, with_running_saved}
 use Rattle.kernel_dispatch.specs.Turn.{IsDispatched, IsNext}
 use Rattle.kernel_dispatch.proofs.NextRegisters.{runs-told}
@@ -49,8 +47,8 @@ somebody-told s l h = elim h.valid.queues.running [ inl none ↦ nobody none | i
     somebody n =
         let p : TaskPlace l n.task = all-here (TaskPlace l) n.between.front n.task n.between.back (subst (AllByRecursion (TaskPlace l)) n.between.is places) in
         let word : running_in s ≡ n.task.address =
-            running-held s l h ∙ ap (address_of_task l) (sym n.number) ∙ ap (λ ts. address_with task_address task_id ts n.task.id) n.between.is
-            ∙ address-between n.between.front n.task n.between.back (subst (λ ts. IsApart (map task_id ts)) n.between.is h.valid.tasks.distinct)
+        running-held s l h ∙ ap (address_of_task l) (sym n.number) ∙ ap (λ ts. address_with task_address task_id ts n.task.id) n.between.is
+        ∙ address-between n.between.front n.task n.between.back (subst (λ ts. IsApart (map task_id ts)) n.between.is h.valid.tasks.distinct)
         in
         ne_eqb (running_in s) 0 (λ e. absurd (omega (arith, e, word, task-some l n.task p)))
         ∙ sym (ne_eqb l.running 0 (λ e. absurd (omega (arith, e, n.number, p.low_id))))

@@ -1,14 +1,13 @@
 -- The task that goes on: the registers that it gets, and the lists in which it runs.
-use Rattle.std.proofs.Common.{◌≡◌, ◌≢◌, ◌⊎◌, ℕ, ◌+◌, ◌<◌, ◌≤◌, ◌&&◌, ◌||◌, Bool, true, false, Option, Some, None, List, [], ◌∷◌, ◌++◌, cond, drop, eqb, get_or, leb, map, take, inl, inr, refl, sym, ap, ◌∙◌, subst, arith}
+use Rattle.std.proofs.Common.{◌≡◌, ℕ, ◌&&◌, ◌||◌, Bool, true, false, Some, List, [], ◌∷◌, cond, drop, eqb, map, refl, sym, ap, ◌∙◌}
 use Rattle.std.specs.Prelude.{find}
 use Rattle.std.specs.Option.{option_map}
-use Rattle.std.specs.List.{AllByRecursion}
 use Rattle.std.proofs.lemmas.Bool.{eqb-true}
 use Rattle.kernel_model.specs.Between.{is_ready}
 use Rattle.kernel_model.specs.Changes.{change_of}
 use Rattle.word_store.specs.declared.registers.Regs.{Regs}
 use Rattle.kernel_model.specs.Task.{Task, is_guest_id}
-use Rattle.kernel_dispatch.specs.Dispatch.{packets_left, packets_taken, resumed, started, suspended, takes_packet, with_packet_taken}
+use Rattle.kernel_dispatch.specs.Dispatch.{resumed, started, suspended, takes_packet, with_packet_taken}
 
 -- ---- one task: suspended, where it ran, and resumed, where it is next
 

@@ -1,7 +1,6 @@
 -- A task runs.
 use Rattle.std.proofs.Common.{◌≡◌, ℕ, ◌+◌, ◌%◌, Bool, true, false, List, [], ◌∷◌, ◌++◌, set, inl, inr, refl, sym, ap, ◌∙◌, subst}
 use Rattle.std.specs.List.{AllByRecursion}
-use Rattle.std.proofs.lemmas.List.{append-nil}
 use Rattle.owned_words.specs.Exchange.{Exchange}
 use Rattle.owned_words.specs.LinkedWords.{first_of}
 use Rattle.owned_words.specs.Owned.{Pairs, owners}
@@ -12,7 +11,7 @@ use Rattle.kernel_model.specs.Changes.{with_tasks}
 use Rattle.kernel_model.specs.HoldsLists.{HoldsLists}
 use Rattle.kernel_model.specs.Lists.{Lists}
 use Rattle.kernel_model.specs.Owned.{owned}
-use Rattle.kernel_model.specs.Task.{Task, queue_head, state_word, task_address, task_words}
+use Rattle.kernel_model.specs.Task.{Task, queue_head, state_word, task_address}
 use Rattle.kernel_model.specs.ValidLists.{AreValid}
 use Rattle.kernel_model.specs.ValidTasks.{CoroutinesStand, IsField, IsTask}
 use Rattle.kernel_model.proofs.AllThings.{all-here}
@@ -99,8 +98,8 @@ module _ (s t : List ℕ) (l : Lists) (front : List Task) (c : Task) (back : Lis
   changed-started is_t =
       let task : IsTask l c = all-here (IsTask l) front c back (subst (AllByRecursion (IsTask l)) is h.valid.tasks.each) in
       let state : state_of s c.address % 4 ≡ state_word (started c) =
-          ap (λ w. w % 4) (all-here (λ z. state_of s z.address ≡ state_word z) front c back (subst (AllByRecursion (λ z. state_of s z.address ≡ state_word z)) is (tells-states s l h)))
-          ∙ started-state c task.field
+      ap (λ w. w % 4) (all-here (λ z. state_of s z.address ≡ state_word z) front c back (subst (AllByRecursion (λ z. state_of s z.address ≡ state_word z)) is (tells-states s l h)))
+      ∙ started-state c task.field
       in
       let between : List ℕ = set s (c.address + 4) (state_of s c.address % 4) in
       let first : IsChanged s between resumed_lists [] = exchange-owned s between l resumed_lists old new h valid-state refl exchange (ap (set s (c.address + 4)) state) in

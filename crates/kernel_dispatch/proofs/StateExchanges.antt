@@ -1,10 +1,10 @@
 -- Exchanges among the words of a task: its state, its saved registers, and its work queue.
-use Rattle.std.proofs.Common.{◌≡◌, ℕ, ◌+◌, List, [], ◌∷◌, ◌++◌, arith}
+use Rattle.std.proofs.Common.{ℕ, ◌+◌, List, [], ◌∷◌, ◌++◌, arith}
 use Rattle.word_store.specs.declared.registers.Regs.{Regs}
 use Rattle.owned_words.specs.Exchange.{Exchange, Splits}
 use Rattle.owned_words.specs.LinkedWords.{first_of}
 use Rattle.owned_words.specs.Owned.{Pairs, row_from}
-use Rattle.owned_words.proofs.Exchanges.{exchange-both, exchange-left, exchange-none, exchange-right, exchange-row}
+use Rattle.owned_words.proofs.Exchanges.{exchange-both, exchange-left, exchange-right, exchange-row}
 use Rattle.packet_queue.specs.QueueWords.{QueuedPacket, queue_words}
 use Rattle.coroutines.specs.CoroutineExchanges.{words_of_coroutines}
 use Rattle.kernel_model.specs.Task.{Task, fault_words, globals_of, name_words, queue_head, stack_of, state_word, state_words, task_words}

@@ -1,5 +1,5 @@
 -- The task that runs is suspended, if one runs.
-use Rattle.std.proofs.Common.{◌≡◌, ◌⊎◌, ℕ, ◌<◌, ◌≤◌, Bool, true, false, List, [], ◌∷◌, ◌++◌, cond, eqb, get_or, map, inl, inr, refl, sym, ap, ◌∙◌, subst, arith}
+use Rattle.std.proofs.Common.{◌≡◌, ℕ, ◌<◌, ◌≤◌, false, List, [], ◌∷◌, ◌++◌, cond, map, inl, inr, refl, sym, ap, ◌∙◌, subst, arith}
 use Rattle.std.specs.List.{AllByRecursion}
 use Rattle.std.proofs.lemmas.Bool.{eq-eqb, ne_eqb}
 use Rattle.linked_list.specs.Count.{IsApart, times}
@@ -10,7 +10,7 @@ use Rattle.task_block.specs.HeldTasks.{address_with}
 use Rattle.kernel_model.specs.ChangedStore.{IsChanged}
 use Rattle.kernel_model.specs.Changes.{change_of, with_tasks}
 use Rattle.kernel_model.specs.HoldsLists.{HoldsLists}
-use Rattle.kernel_model.specs.Lists.{Lists, address_of_task, has_task}
+use Rattle.kernel_model.specs.Lists.{Lists, address_of_task}
 use Rattle.kernel_model.specs.Owned.{owned}
 use Rattle.kernel_model.specs.Task.{Task, is_guest_id, task_address, task_id}
 use Rattle.kernel_model.specs.ValidTasks.{no_regs}
@@ -49,7 +49,7 @@ lists-suspended s t l r h byte idle is = elim h.valid.queues.running [ inl none 
         let zero_none : times 0 (map task_id l.tasks) ≡ 0 = none-runs l (task-places l h.valid) in
         let word : running_in s ≡ 0 = running-held s l h ∙ ap (address_of_task l) none ∙ address-none 0 l.tasks zero_none in
         let same : with_suspended r l ≡ l =
-            ap (λ i. with_tasks (map (change_of i (suspended r)) l.tasks) l) none ∙ ap (λ ts. with_tasks ts l) (change-none 0 (suspended r) l.tasks zero_none)
+        ap (λ i. with_tasks (map (change_of i (suspended r)) l.tasks) l) none ∙ ap (λ ts. with_tasks ts l) (change-none 0 (suspended r) l.tasks zero_none)
         in
         let stays : t ≡ s = is ∙ ap (λ b. cond b s (with_saved s (running_in s) r)) (eq-eqb (running_in s) 0 word) in
         record {
@@ -64,20 +64,20 @@ lists-suspended s t l r h byte idle is = elim h.valid.queues.running [ inl none 
         let back : List Task = n.between.back in
         let apart : IsApart (map task_id (front ++ c ∷ back)) = subst (λ ts. IsApart (map task_id ts)) n.between.is h.valid.tasks.distinct in
         let word : running_in s ≡ c.address =
-            running-held s l h ∙ ap (address_of_task l) (sym n.number) ∙ ap (λ ts. address_with task_address task_id ts c.id) n.between.is ∙ address-between front c back apart
+        running-held s l h ∙ ap (address_of_task l) (sym n.number) ∙ ap (λ ts. address_with task_address task_id ts c.id) n.between.is ∙ address-between front c back apart
         in
         let some : 0 < c.address = all-here (λ z. 0 < z.address) front c back
-            (subst (AllByRecursion (λ z. 0 < z.address)) n.between.is (all-each (TaskPlace l) (λ z. 0 < z.address) (task-some l) l.tasks (task-places l h.valid)))
+        (subst (AllByRecursion (λ z. 0 < z.address)) n.between.is (all-each (TaskPlace l) (λ z. 0 < z.address) (task-some l) l.tasks (task-places l h.valid)))
         in
         let same : with_suspended r l ≡ with_tasks (front ++ suspended r c ∷ back) l =
-            ap (λ i. with_tasks (map (change_of i (suspended r)) l.tasks) l) (sym n.number)
-            ∙ ap (λ ts. with_tasks (map (change_of c.id (suspended r)) ts) l) n.between.is
-            ∙ ap (λ ts. with_tasks ts l) (change-between (suspended r) front c back apart)
+        ap (λ i. with_tasks (map (change_of i (suspended r)) l.tasks) l) (sym n.number)
+        ∙ ap (λ ts. with_tasks (map (change_of c.id (suspended r)) ts) l) n.between.is
+        ∙ ap (λ ts. with_tasks ts l) (change-between (suspended r) front c back apart)
         in
         let store : t ≡ with_saved s c.address r =
-            is
-            ∙ ap (λ b. cond b s (with_saved s (running_in s) r)) (ne_eqb (running_in s) 0 (λ e. absurd (omega (arith, e, word, some))))
-            ∙ ap (λ z. with_saved s z r) word
+        is
+        ∙ ap (λ b. cond b s (with_saved s (running_in s) r)) (ne_eqb (running_in s) 0 (λ e. absurd (omega (arith, e, word, some))))
+        ∙ ap (λ z. with_saved s z r) word
         in
         record {
           lists = subst (λ z. IsChanged s t z []) (sym same) (changed-suspended s t l front c back r n.between.is h byte (λ guest. idle (ap is_guest_id (sym n.number) ∙ guest)) store);

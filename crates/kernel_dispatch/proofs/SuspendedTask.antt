@@ -1,5 +1,5 @@
 -- The task that ran is suspended.
-use Rattle.std.proofs.Common.{◌≡◌, ℕ, ◌+◌, ◌<◌, Bool, true, false, List, [], ◌∷◌, ◌++◌, cond, eqb, inl, inr, refl, sym, ap, ◌∙◌, subst, arith}
+use Rattle.std.proofs.Common.{◌≡◌, ℕ, ◌<◌, Bool, true, false, List, [], ◌∷◌, ◌++◌, cond, eqb, inl, inr, refl, ap, ◌∙◌, subst}
 use Rattle.std.specs.List.{AllByRecursion}
 use Rattle.std.proofs.lemmas.List.{append-nil}
 use Rattle.word_store.specs.declared.registers.Regs.{Regs}
@@ -101,7 +101,7 @@ module _ (s t : List ℕ) (l : Lists) (front : List Task) (c : Task) (back : Lis
   changed-suspended byte idle is_t =
       let task : IsTask l c = all-here (IsTask l) front c back (subst (AllByRecursion (IsTask l)) is h.valid.tasks.each) in
       let state : suspended_state (state_of s c.address) ≡ state_word (suspended r c) =
-          ap suspended_state (all-here (λ z. state_of s z.address ≡ state_word z) front c back (subst (AllByRecursion (λ z. state_of s z.address ≡ state_word z)) is (tells-states s l h)))
-          ∙ suspended-state c task.field
+      ap suspended_state (all-here (λ z. state_of s z.address ≡ state_word z) front c back (subst (AllByRecursion (λ z. state_of s z.address ≡ state_word z)) is (tells-states s l h)))
+      ∙ suspended-state c task.field
       in
       exchange-owned s t l after old new h (valid-suspended byte idle) refl exchange (is_t ∙ ap (λ w. written (saved_words c.address w r) s) state)

@@ -1,5 +1,5 @@
 -- A task takes its first packet.
-use Rattle.std.proofs.Common.{◌≡◌, ◌≢◌, ℕ, ◌+◌, ◌-◌, ◌%◌, ◌<◌, ◌≤◌, Bool, cond, true, false, List, [], ◌∷◌, ◌++◌, map, get_or, length, set, inl, inr, refl, sym, ap, ◌∙◌, subst, arith}
+use Rattle.std.proofs.Common.{◌≡◌, ◌≢◌, ℕ, ◌+◌, ◌-◌, ◌%◌, ◌<◌, Bool, cond, true, false, List, [], ◌∷◌, ◌++◌, map, get_or, length, set, inl, inr, refl, sym, ap, ◌∙◌, subst, arith}
 use Rattle.std.specs.List.{AllByRecursion, range_with_len}
 use Rattle.std.proofs.lemmas.Bool.{cases_eq, false_from_ne_true, leb-true, ne_eqb}
 use Rattle.std.proofs.lemmas.List.{get_or-set_other, get_or-set_same, length-set}
@@ -7,7 +7,7 @@ use Rattle.linked_list.specs.Count.{IsApart, times}
 use Rattle.linked_list.proofs.Counts.{hit-other, hit-same}
 use Rattle.owned_words.specs.Exchange.{Exchange}
 use Rattle.owned_words.specs.LinkedWords.{first_of}
-use Rattle.owned_words.specs.Owned.{AreApart, AreInside, Holds, Pairs, owners, written}
+use Rattle.owned_words.specs.Owned.{Pairs, owners, written}
 use Rattle.owned_words.proofs.OwnedWords.{Holds-written, written-other}
 use Rattle.packet_queue.specs.Queue.{no_queue, unlinked}
 use Rattle.packet_queue.specs.QueueWords.{HeldQueue, QueuedPacket, RemoveExchange, first_packet, packet_words, queue_words}
@@ -132,8 +132,8 @@ module _ (s t : List ℕ) (l : Lists) (front : List Task) (c : Task) (back : Lis
   changed-taken is_t =
       let task : IsTask l c = all-here (IsTask l) front c back (subst (AllByRecursion (IsTask l)) is h.valid.tasks.each) in
       let state : state_of s c.address ≡ state_word (record c { queue = p ∷ qs }) =
-          all-here (λ z. state_of s z.address ≡ state_word z) front c back (subst (AllByRecursion (λ z. state_of s z.address ≡ state_word z)) is (tells-states s l h))
-          ∙ ap (λ z. state_word (record c { queue = z })) queue
+      all-here (λ z. state_of s z.address ≡ state_word z) front c back (subst (AllByRecursion (λ z. state_of s z.address ≡ state_word z)) is (tells-states s l h))
+      ∙ ap (λ z. state_word (record c { queue = z })) queue
       in
       exchange-changed s t l after old new ((p.address, no_queue) ∷ []) ((c.address + 4, state_word u) ∷ links) h valid-taken refl exchange
       (record { count = λ a. omega arith; opens = λ v k. ((k.1.0, tt), (k.0, k.1.1)); closes = λ v j k. (k.0, (j.0, k.1)) })

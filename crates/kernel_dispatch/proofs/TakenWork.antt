@@ -1,14 +1,14 @@
 -- The task that goes on takes its packet, where it takes one.
-use Rattle.std.proofs.Common.{◌≡◌, ◌≢◌, ℕ, ℤ, pos, ◌+◌, ◌-◌, ◌<◌, ◌≤◌, ◌^◌, ◌&&◌, ◌||◌, Bool, true, false, Option, Some, None, List, [], ◌∷◌, ◌++◌, cond, drop, eqb, get_or, leb, ltb, map, take, inl, inr, refl, sym, ap, ◌∙◌, subst, arith, ◌%◌, ◌-ℤ◌}
+use Rattle.std.proofs.Common.{◌≡◌, ℕ, pos, ◌+◌, ◌≤◌, ◌^◌, ◌&&◌, ◌||◌, Bool, true, false, Option, Some, None, List, [], ◌∷◌, ◌++◌, cond, drop, eqb, get_or, leb, map, take, refl, sym, ap, ◌∙◌, subst, arith, ◌%◌, ◌-ℤ◌}
 use Rattle.std.specs.Prelude.{not, slice_get}
 use Rattle.std.specs.List.{AllByRecursion, range_with_len}
-use Rattle.std.proofs.lemmas.Bool.{and_parts, eqb-true, le-leb, lt-ltb}
-use Rattle.linked_list.specs.Count.{IsApart, times}
+use Rattle.std.proofs.lemmas.Bool.{and_parts, lt-ltb}
+use Rattle.linked_list.specs.Count.{IsApart}
 use Rattle.word_store.specs.Arithmetic.{signed}
 use Rattle.owned_words.specs.LinkedWords.{first_of}
-use Rattle.owned_words.specs.Owned.{Pairs, owners, written}
+use Rattle.owned_words.specs.Owned.{written}
 use Rattle.packet_queue.specs.Log.{Notes}
-use Rattle.packet_queue.specs.Queue.{HasQueue, no_queue, queue_at}
+use Rattle.packet_queue.specs.Queue.{HasQueue, queue_at}
 use Rattle.packet_queue.specs.QueueWords.{HeldQueue, QueuedPacket, address_of}
 use Rattle.packet_queue.specs.declared.events.KernelEvent.{KernelEvent}
 use Rattle.packet_queue.specs.declared.events.KernelEvent.TheVariants.{Taken}
@@ -16,10 +16,8 @@ use Rattle.packet_queue.proofs.HeldQueues.{held-queue}
 use Rattle.kernel_model.specs.Between.{is_empty_queue, is_ready}
 use Rattle.kernel_model.specs.ChangedStore.{HasKeeper, IsChanged, Knows}
 use Rattle.kernel_model.specs.Changes.{change_of, with_task, with_tasks}
-use Rattle.kernel_model.specs.HoldsLists.{HoldsLists}
 use Rattle.kernel_model.specs.Lists.{Lists}
 use Rattle.kernel_model.specs.NotedEvents.{NotesAll}
-use Rattle.kernel_model.specs.Owned.{owned}
 use Rattle.kernel_model.specs.Task.{Task, is_guest_id, queue_head, state_word, task_id}
 use Rattle.kernel_model.specs.ValidTasks.{IsField, IsTask}
 use Rattle.kernel_model.proofs.AllThings.{all-here}
@@ -29,7 +27,7 @@ use Rattle.kernel_model.proofs.NotedInTurn.{notes-none, notes-one}
 use Rattle.kernel_model.proofs.Reading.{read-lists}
 use Rattle.word_kinds.specs.Keeper.{AreTogether}
 use Rattle.word_kinds.proofs.KnownWords.{knows-released}
-use Rattle.kernel_dispatch.specs.Dispatch.{first_ready_task, packets_left, packets_taken, taken_event, takes_packet, unlinked_words, with_packet_taken}
+use Rattle.kernel_dispatch.specs.Dispatch.{packets_left, packets_taken, taken_event, takes_packet, unlinked_words, with_packet_taken}
 use Rattle.kernel_dispatch.specs.DispatchWords.{state_of, takes_packet_by, with_taken}
 use Rattle.kernel_dispatch.specs.Turn.{HasTaken, IsNext}
 use Rattle.kernel_dispatch.proofs.TakenPacket.{changed-taken, others-stay, owners-taken, sender-stays}
@@ -119,7 +117,7 @@ module _ (s : List ℕ) (tells : List ℕ → Type 0) (room : ℕ) (l : Lists) (
       let none : packets_taken w ≡ [] = ap (λ b. cond b (take 1 w.queue) []) idle in
       let left : packets_left w ≡ w.queue = ap (λ b. cond b (drop 1 w.queue) w.queue) idle in
       let same : with_task w.id with_packet_taken l ≡ l =
-          after-is ∙ ap (λ z. with_tasks (place.front ++ (record w { queue = z }) ∷ place.back) l) left ∙ ap (λ ts. with_tasks ts l) (sym place.is)
+      after-is ∙ ap (λ z. with_tasks (place.front ++ (record w { queue = z }) ∷ place.back) l) left ∙ ap (λ ts. with_tasks ts l) (sym place.is)
       in
       record {
         lists = subst (λ z. IsChanged s s z (unlinked_words (packets_taken w))) (sym same) (subst (λ z. IsChanged s s l (unlinked_words z)) (sym none) (changed-none s l k.lists));

@@ -1,7 +1,6 @@
 -- What the words of a task tell: its number, and whether it is ready.
-use Rattle.std.proofs.Common.{◌≡◌, ℕ, ◌+◌, ◌≤◌, Bool, true, false, List, [], ◌∷◌, get_or, inl, inr, refl, ap, ◌∙◌, sym, subst, arith}
+use Rattle.std.proofs.Common.{◌≡◌, ℕ, ◌≤◌, Bool, true, false, List, [], ◌∷◌, get_or, inl, inr, refl, ap, ◌∙◌, sym, subst, arith}
 use Rattle.std.specs.List.{AllByRecursion}
-use Rattle.owned_words.specs.Owned.{Holds}
 use Rattle.packet_queue.specs.QueueWords.{QueuedPacket}
 use Rattle.task_block.specs.TaskChain.{id_in}
 use Rattle.kernel_model.specs.Between.{is_ready}
@@ -49,7 +48,7 @@ pub tells-tasks : (s : List ℕ) (l : Lists) → HoldsLists s l → AllByRecursi
 tells-tasks s l h =
     let r : ReadsLists s l = read-lists s l h.valid h.size h.holds in
     let words : AllByRecursion (HoldsTask s l.version) l.tasks =
-        holds-each task_address (task_words l.version) s (HoldsTask s l.version) (λ t n own. holds-task s l.version t n own) l.tasks 0 r.held_tasks.holds.1
+    holds-each task_address (task_words l.version) s (HoldsTask s l.version) (λ t n own. holds-task s l.version t n own) l.tasks 0 r.held_tasks.holds.1
     in
     all-from_both (HoldsTask s l.version) (λ t. IsTask l t × ((1 ≤ t.id) × (t.id ≤ get_or s 120 0))) (TellsTask s)
     (λ t own is.

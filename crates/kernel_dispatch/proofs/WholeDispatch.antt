@@ -1,5 +1,5 @@
 -- The next task goes on: the whole of the dispatch.
-use Rattle.std.proofs.Common.{◌≡◌, ◌≢◌, ℕ, pos, ◌+◌, ◌&&◌, Bool, true, false, Option, Some, List, [], ◌∷◌, ◌++◌, cond, eqb, get_or, map, refl, sym, ap, ◌∙◌, subst, arith}
+use Rattle.std.proofs.Common.{◌≡◌, ◌≢◌, ℕ, pos, ◌+◌, ◌&&◌, Bool, true, false, Option, Some, List, [], ◌∷◌, ◌++◌, cond, eqb, get_or, map, refl, sym, ap, ◌∙◌, subst}
 use Rattle.std.specs.Option.{option_map}
 use Rattle.std.proofs.lemmas.Bool.{eq-eqb}
 use Rattle.std.proofs.lemmas.List.{map-append}
@@ -14,7 +14,6 @@ use Rattle.packet_queue.specs.declared.events.KernelEvent.TheVariants.{Runs, Tak
 use Rattle.kernel_model.specs.Between.{is_ready}
 use Rattle.kernel_model.specs.ChangedStore.{HasKeeper, IsChanged, Knows}
 use Rattle.kernel_model.specs.Changes.{change_of, with_task, with_tasks}
-use Rattle.kernel_model.specs.HoldsLists.{HoldsLists}
 use Rattle.kernel_model.specs.Lists.{Lists}
 use Rattle.kernel_model.specs.NotedEvents.{NotesAll}
 use Rattle.kernel_model.specs.Owned.{owned}

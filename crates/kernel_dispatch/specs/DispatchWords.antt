@@ -1,5 +1,5 @@
 -- The words that a dispatch writes, and the registers that it gives, as the store has them.
-use Rattle.std.specs.Prelude.{ℕ, ◌+◌, ◌-◌, ◌%◌, ◌==◌, ◌&&◌, ◌||◌, Bool, if◌then◌else◌, List, [], ◌∷◌, nat_le, nat_lt, slice_index, slice_set, Option, Some, None, false}
+use Rattle.std.specs.Prelude.{ℕ, ◌+◌, ◌-◌, ◌%◌, ◌==◌, ◌&&◌, Bool, if◌then◌else◌, List, [], ◌∷◌, nat_le, nat_lt, slice_index, slice_set, Option, Some, None, false}
 use Rattle.word_store.specs.declared.registers.Regs.{Regs}
 use Rattle.owned_words.specs.Owned.{Pairs, written}
 use Rattle.packet_queue.specs.Queue.{unlinked}

@@ -5,7 +5,6 @@ use Rattle.task_block.specs.TaskWords.{word_index}
 use Rattle.task_block.specs.declared.fields.TcbField.TheVariants.{State}
 use Rattle.kernel_model.specs.Between.{is_ready}
 use Rattle.kernel_model.specs.Lists.{Lists}
-use Rattle.kernel_model.specs.Task.{Task}
 
 -- a state of 2 modulo 4, or 3, is that of a held task; a field of 0 or 8 is below 4 modulo 8; the state is odd where packets wait
 abbrev pub is_ready_state : ℕ → Bool

@@ -7,12 +7,12 @@ use Rattle.packet_queue.specs.QueueWords.{address_of}
 use Rattle.packet_queue.specs.declared.events.KernelEvent.{KernelEvent}
 use Rattle.task_block.specs.TaskWords.{word_index}
 use Rattle.task_block.specs.declared.fields.TcbField.TheVariants.{State}
-use Rattle.kernel_model.specs.ChangedStore.{HasKeeper, IsChanged, Knows}
+use Rattle.kernel_model.specs.ChangedStore.{IsChanged, Knows}
 use Rattle.kernel_model.specs.Changes.{with_task}
 use Rattle.kernel_model.specs.Lists.{Lists}
 use Rattle.kernel_model.specs.NotedEvents.{NotesAll}
 use Rattle.kernel_model.specs.Task.{Task, queue_head}
-use Rattle.kernel_dispatch.specs.Dispatch.{Dispatched, dispatched, first_ready_task, packets_taken, taken_event, unlinked_words, with_packet_taken}
+use Rattle.kernel_dispatch.specs.Dispatch.{dispatched, first_ready_task, packets_taken, taken_event, unlinked_words, with_packet_taken}
 
 -- The store holds the lists that the dispatch leaves, its plain words and no others have changed, the registers are the ones that
 -- it gives, the keeper knows the words of these lists, and the log has gained its events.

@@ -44,7 +44,12 @@ pub(crate) fn resume<Q: KindKeeper, L: EventLog>(
 }
 
 // The task at t takes the packet that it goes on with, where it takes one; where not, the answer is 0.
-fn take_due<Q: KindKeeper, L: EventLog>(store: &mut Store, kinds: &mut Q, t: u32, log: &mut L) -> u32
+fn take_due<Q: KindKeeper, L: EventLog>(
+    store: &mut Store,
+    kinds: &mut Q,
+    t: u32,
+    log: &mut L,
+) -> u32
     requires { (l : Lists) × (w : Task)
         × HasKeeper store.old (Q.tells kinds.old) (Q.room kinds.old) l × IsNext l w t }
     ensures taken { (l : Lists) (w : Task)

@@ -1,4 +1,4 @@
-use Rattle.std.proofs.Common.{◌∙◌, sym, subst, ap, cond, [], ◌∷◌}
+use Rattle.std.proofs.Common.{◌∙◌, sym, subst, cond, [], ◌∷◌}
 use Rattle.std.proofs.lemmas.Bool.{ne_eqb}
 use Rattle.packet_queue.specs.declared.events.KernelEvent.TheVariants.{Runs}
 use Rattle.kernel_model.specs.NotedEvents.{NotesAll}

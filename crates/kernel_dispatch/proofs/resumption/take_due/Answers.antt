@@ -1,4 +1,4 @@
-use Rattle.std.proofs.Common.{◌≡◌, ◌∙◌, sym, subst, ap, true}
+use Rattle.std.proofs.Common.{◌≡◌, ◌∙◌, sym, subst, true}
 use Rattle.word_store.specs.Arithmetic.{signed}
 use Rattle.packet_queue.specs.Log.{Notes}
 use Rattle.packet_queue.specs.declared.events.KernelEvent.TheVariants.{Taken}
@@ -20,16 +20,16 @@ take_work-requires-clause-queue g c =
 pub returns-in_default-clause-taken : goal.returns-in_default-clause-taken
 returns-in_default-clause-taken g c = λ l w k n.
     let takes : takes_packet w ≡ true =
-        sym (takes-told c.args.store.now (g.Q.KindKeeper.tells c.args.kinds.now) (g.Q.KindKeeper.room c.args.kinds.now) l w c.args.t k n)
-        ∙ (λ i. takes_packet_by (sym c.field-id.ensures i) (sym c.field.ensures i)) ∙ sym c.takes_packet.ensures ∙ c.if-not-takes_packet.false
+    sym (takes-told c.args.store.now (g.Q.KindKeeper.tells c.args.kinds.now) (g.Q.KindKeeper.room c.args.kinds.now) l w c.args.t k n)
+    ∙ (λ i. takes_packet_by (sym c.field-id.ensures i) (sym c.field.ensures i)) ∙ sym c.takes_packet.ensures ∙ c.if-not-takes_packet.false
     in
     absurd (some-taken c.args.store.now (g.Q.KindKeeper.tells c.args.kinds.now) (g.Q.KindKeeper.room c.args.kinds.now) l w c.args.t k n c.take_work.result takes c.take_work.ensures.first c.in_default.is)
 
 pub returns-clause-taken : goal.returns-clause-taken
 returns-clause-taken g c = λ l w k n.
     let takes : takes_packet w ≡ true =
-        sym (takes-told c.args.store.now (g.Q.KindKeeper.tells c.args.kinds.now) (g.Q.KindKeeper.room c.args.kinds.now) l w c.args.t k n)
-        ∙ (λ i. takes_packet_by (sym c.field-id.ensures i) (sym c.field.ensures i)) ∙ sym c.takes_packet.ensures ∙ c.if-not-takes_packet.false
+    sym (takes-told c.args.store.now (g.Q.KindKeeper.tells c.args.kinds.now) (g.Q.KindKeeper.room c.args.kinds.now) l w c.args.t k n)
+    ∙ (λ i. takes_packet_by (sym c.field-id.ensures i) (sym c.field.ensures i)) ∙ sym c.takes_packet.ensures ∙ c.if-not-takes_packet.false
     in
     one-taken c.args.store.now (g.Q.KindKeeper.tells c.args.kinds.now) (g.Q.KindKeeper.room c.args.kinds.now) l w c.args.t k n c.take_work.new.store c.take_work.result c.in-Some.packet
     (g.Q.KindKeeper.tells c.release.new.self) (g.L.EventLog.noted c.args.log.now) (g.L.EventLog.noted c.note.new.self) (g.L.EventLog.has_failed c.args.log.now) (g.L.EventLog.has_failed c.note.new.self)

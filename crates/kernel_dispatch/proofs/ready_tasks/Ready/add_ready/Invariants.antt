@@ -8,4 +8,4 @@ abbrev pub invariant-loop-t : goal.invariant-loop-t
 invariant-loop-t l =
     (i : ℕ) → i < 64
     → (is_in l.self i || list_any (λ t. eqb (id_in l.store t) i && is_ready_in l.store t) l.t-iterator)
-        ≡ (is_in l.fn.self i || list_any (λ t. eqb (id_in l.store t) i && is_ready_in l.store t) (tasks_in l.store))
+    ≡ (is_in l.fn.self i || list_any (λ t. eqb (id_in l.store t) i && is_ready_in l.store t) (tasks_in l.store))
