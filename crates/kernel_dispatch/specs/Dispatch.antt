@@ -1,6 +1,7 @@
 -- Dispatch: the first ready task runs.
 use Rattle.std.specs.Prelude.{◌≡◌, ℕ, pos, ◌+◌, ◌<◌, ◌==◌, ◌&&◌, ◌||◌, Bool, false, if◌then◌else◌, Option, Some, None, List, [], ◌∷◌, ◌++◌, drop, find, map, slice_index, take}
 use Rattle.std.specs.List.{AllByRecursion}
+use Rattle.std.specs.Option.{option_map}
 use Rattle.word_store.specs.Arithmetic.{signed}
 use Rattle.word_store.specs.declared.registers.Regs.{Regs}
 use Rattle.owned_words.specs.LinkedWords.{first_of}
@@ -12,7 +13,7 @@ use Rattle.packet_queue.specs.declared.events.KernelEvent.TheVariants.{Runs, Tak
 use Rattle.kernel_model.specs.Between.{is_ready}
 use Rattle.kernel_model.specs.Changes.{with_task}
 use Rattle.kernel_model.specs.Lists.{Lists}
-use Rattle.kernel_model.specs.Task.{Task, globals_of, is_guest_id, stack_of}
+use Rattle.kernel_model.specs.Task.{Task, globals_of, is_guest_id, stack_of, task_address}
 use Rattle.kernel_model.specs.ValidTasks.{dead, interrupted, no_regs, runs, waits}
 
 -- what a dispatch leaves: the lists, the plain words that it wrote, the registers, and its events
@@ -43,6 +44,13 @@ packets_taken t = if takes_packet t then take 1 t.queue else []
 
 abbrev pub packets_left : Task → List QueuedPacket
 packets_left t = if takes_packet t then drop 1 t.queue else t.queue
+
+-- the task once it has taken them, and once it runs
+abbrev pub with_packet_taken : Task → Task
+with_packet_taken t = record t { queue = packets_left t }
+
+abbrev pub started : Task → Task
+started t = record t { field = runs }
 
 abbrev pub resumed : Task → Task
 resumed t = record t { field = runs; queue = packets_left t }
@@ -105,6 +113,10 @@ with_next words l (Some t) = with_resumed words t l
 
 abbrev pub first_ready_task : Lists → Option Task
 first_ready_task l = find is_ready l.tasks
+
+-- the task block of the first ready task
+abbrev pub first_ready_block : Lists → Option ℕ
+first_ready_block l = option_map task_address (first_ready_task l)
 
 abbrev pub unchanged : Lists → Regs → Dispatched
 unchanged l r = record { lists = l; plain = []; regs = r; events = [] }

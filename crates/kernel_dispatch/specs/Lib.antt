@@ -1,1 +1,4 @@
 pub mod Dispatch
+pub mod ReadyTasks
+pub mod DispatchWords
+pub mod Turn

@@ -50,3 +50,7 @@ pub mod UsedData
 pub mod WalkedLists
 pub mod WorkQueues
 pub mod OneTaskExchange
+pub mod ChainSplits
+pub mod RunningTask
+pub mod ChangedLists
+pub mod NotedInTurn

@@ -1,0 +1,37 @@
+-- What a dispatch did to the store, the registers, the keeper of kinds and the log.
+use Rattle.std.specs.Prelude.{◌≡◌, ◌≢◌, ℕ, ◌+◌, Bool, Option, Some, List, map, slice_index}
+use Rattle.word_store.specs.declared.registers.Regs.{Regs}
+use Rattle.owned_words.specs.LinkedWords.{first_of}
+use Rattle.owned_words.specs.Owned.{written}
+use Rattle.packet_queue.specs.QueueWords.{address_of}
+use Rattle.packet_queue.specs.declared.events.KernelEvent.{KernelEvent}
+use Rattle.task_block.specs.TaskWords.{word_index}
+use Rattle.task_block.specs.declared.fields.TcbField.TheVariants.{State}
+use Rattle.kernel_model.specs.ChangedStore.{IsChanged, Knows}
+use Rattle.kernel_model.specs.Changes.{with_task}
+use Rattle.kernel_model.specs.Lists.{Lists}
+use Rattle.kernel_model.specs.NotedEvents.{NotesAll}
+use Rattle.kernel_model.specs.Task.{Task, queue_head}
+use Rattle.kernel_dispatch.specs.Dispatch.{dispatched, first_ready_task, packets_taken, taken_event, unlinked_words, with_packet_taken}
+
+-- The store holds the lists that the dispatch leaves, its plain words and no others have changed, the registers are the ones that
+-- it gives, the keeper knows the words of these lists, and the log has gained its events.
+pub record IsDispatched (s t : List ℕ) (l : Lists) (before after : Regs) (tells : List ℕ → Type 0) (old new : Option (List KernelEvent)) (had_failed has_failed : Bool) : Type 0 where
+  pub lists : IsChanged s t (dispatched s l before).lists (dispatched s l before).plain
+  pub regs : after ≡ (dispatched s l before).regs
+  pub knows : Knows tells (dispatched s l before).lists
+  pub notes : NotesAll old new had_failed has_failed (dispatched s l before).events
+
+-- the first ready task of the lists, with its task block at t
+pub record IsNext (l : Lists) (w : Task) (t : ℕ) : Type 0 where
+  pub first : first_ready_task l ≡ Some w
+  pub address : w.address ≡ t
+
+-- the task has taken the packet that it goes on with, if it takes one
+pub record HasTaken (s t : List ℕ) (l : Lists) (w : Task) (packet : ℕ) (tells : List ℕ → Type 0) (old new : Option (List KernelEvent)) (had_failed has_failed : Bool) : Type 0 where
+  pub lists : IsChanged s t (with_task w.id with_packet_taken l) (unlinked_words (packets_taken w))
+  pub others : (a : ℕ) → a ≢ queue_head w.address → a ≢ w.address + word_index State
+      → slice_index t a ≡ slice_index (written (unlinked_words (packets_taken w)) s) a
+  pub taken : packet ≡ first_of address_of (packets_taken w) 0
+  pub knows : Knows tells (with_task w.id with_packet_taken l)
+  pub notes : NotesAll old new had_failed has_failed (map (taken_event w) (packets_taken w))

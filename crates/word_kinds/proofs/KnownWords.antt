@@ -1,0 +1,18 @@
+-- A keeper that was told of words that are nobody's any more knows the words of the lists.
+use Rattle.std.proofs.Common.{◌≡◌, ℕ, ◌+◌, List, ◌++◌, arith}
+use Rattle.std.specs.List.{range_with_len}
+use Rattle.linked_list.specs.Count.{IsApart, times}
+use Rattle.linked_list.proofs.Counts.{times-append}
+use Rattle.owned_words.specs.Owned.{owners}
+use Rattle.kernel_model.specs.ChangedStore.{Knows}
+use Rattle.kernel_model.specs.Lists.{Lists}
+use Rattle.kernel_model.specs.Owned.{OwnsApart, owned}
+use Rattle.word_kinds.specs.Keeper.{AreTogether}
+
+pub knows-released : (tells told : List ℕ → Type 0) (l m : Lists) (p n : ℕ) → OwnsApart l → ((a : ℕ) → owners a (owned l) ≡ owners a (owned m) + times a (range_with_len p n)) → Knows tells l
+    → ((known after : List ℕ) → tells known → IsApart known → AreTogether known after (range_with_len p n) → told after) → Knows told m
+knows-released tells told l m p n owns less knows release after count =
+    let known : List ℕ = after ++ range_with_len p n in
+    let together : AreTogether known after (range_with_len p n) = λ a. times-append a after (range_with_len p n) in
+    let same : (a : ℕ) → times a known ≡ owners a (owned l) = λ a. omega (arith, together a, count a, less a) in
+    release known after (knows known same) (λ a. omega (arith, same a, owns.apart a)) together
