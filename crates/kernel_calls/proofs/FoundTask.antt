@@ -3,11 +3,9 @@ use Rattle.std.proofs.Common.{◌≡◌, ℕ, List, [], ◌∷◌, ◌++◌, map
 use Rattle.std.proofs.lemmas.Bool.{eq-eqb, eqb-true, ne_eqb}
 use Rattle.std.specs.List.{AllByRecursion, list_any}
 use Rattle.linked_list.specs.Count.{IsApart, times}
-use Rattle.linked_list.proofs.Counts.{hit-same, times-append}
-use Rattle.linked_list.proofs.MappedLists.{map-append}
+use Rattle.linked_list.proofs.Counts.{hit-same}
 use Rattle.task_block.specs.TaskChain.{id_in, task_with, tasks_in}
 use Rattle.task_block.proofs.HeldTaskBlocks.{numbers}
-use Rattle.kernel_model.specs.Changes.{change_of}
 use Rattle.kernel_model.specs.HoldsLists.{HoldsLists}
 use Rattle.kernel_model.specs.Lists.{Lists, has_task}
 use Rattle.kernel_model.specs.ReadsLists.{ReadsLists}
@@ -50,31 +48,6 @@ find-task s l id h =
     let r : ReadsLists s l = reads s l h in
     subst (λ ts. Finds id l.tasks (task_with s id ts)) (sym r.tasks.chain)
     (find-among s id l.tasks (numbers task_address task_id (task_words l.version) (are_tasks l.version) s l.tasks 0 r.held_tasks.holds.1))
-
--- ---- the task with a number changes
-
-module _ (id : ℕ) (change : Task → Task) where
-  change_of-others : (ts : List Task) → times id (map task_id ts) ≡ 0 → map (change_of id change) ts ≡ ts
-  change_of-others [] none = refl
-  change_of-others (t ∷ ts) none =
-      let test : eqb t.id id ≡ false = ne_eqb t.id id (λ e. absurd (omega (arith, none, hit-same id t.id (sym e)))) in
-      ap (λ b. cond b (change t) t ∷ map (change_of id change) ts) test ∙ ap (λ z. t ∷ z) (change_of-others ts (omega (arith, none)))
-
-  changed-append : (xs ys : List Task) → map (change_of id change) (xs ++ ys) ≡ map (change_of id change) xs ++ map (change_of id change) ys
-  changed-append [] ys = refl
-  changed-append (x ∷ xs) ys = ap (λ z. change_of id change x ∷ z) (changed-append xs ys)
-
-  pub change_of-one : (front : List Task) (t : Task) (back : List Task) → t.id ≡ id → IsApart (map task_id (front ++ t ∷ back))
-      → map (change_of id change) (front ++ t ∷ back) ≡ front ++ change t ∷ back
-  change_of-one front t back e apart =
-      let count = ap (times id) (map-append task_id front (t ∷ back)) in
-      let sum = times-append id (map task_id front) (map task_id (t ∷ back)) in
-      let here = hit-same id t.id (sym e) in
-      let test : eqb t.id id ≡ true = eq-eqb t.id id e in
-      changed-append front (t ∷ back)
-      ∙ ap (λ z. z ++ map (change_of id change) (t ∷ back)) (change_of-others front (omega (arith, apart id, count, sum, here)))
-      ∙ ap (λ b. front ++ cond b (change t) t ∷ map (change_of id change) back) test
-      ∙ ap (λ z. front ++ change t ∷ z) (change_of-others back (omega (arith, apart id, count, sum, here)))
 
 -- ---- a test that only the task with a number may pass
 
