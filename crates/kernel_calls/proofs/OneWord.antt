@@ -52,6 +52,6 @@ pub word-changed : (s : List ℕ) (l : Lists) (id address : ℕ) (change : Task 
 word-changed s l id address change a w x h g same task coroutines inner =
     subst (λ ts. IsChanged s (set s a x) (with_tasks ts l) [])
     (sym (ap (map (change_of id change)) g.is
-      ∙ subst (λ i. map (change_of i change) (g.front ++ g.task ∷ g.back) ≡ g.front ++ change g.task ∷ g.back) g.number
-      (change-between change g.front g.task g.back (subst (λ ts. IsApart (map task_id ts)) g.is h.valid.tasks.distinct))))
+    ∙ subst (λ i. map (change_of i change) (g.front ++ g.task ∷ g.back) ≡ g.front ++ change g.task ∷ g.back) g.number
+    (change-between change g.front g.task g.back (subst (λ ts. IsApart (map task_id ts)) g.is h.valid.tasks.distinct))))
     (one-word s l g.front g.task (change g.task) g.back a w x h g.is same task coroutines inner)

@@ -27,21 +27,21 @@ exchange-changed s t l m old new plain all h valid size x order once inside unow
     let long : length t ≡ length s = ap length is ∙ length-written all s in
     let whole : Exchange (owned l) (owned m) old (new ++ []) = subst (Exchange (owned l) (owned m) old) (sym (append-nil new)) x in
     let w : IsWritten s (written all s) (owned m) plain =
-        ordered-hold s (owned l) (owned m) old new [] plain all
-        (record {
-          writes =
-              record {
-                holds = h.holds;
-                exchange = whole;
-                stands = tt;
-                apart = valid.owns.apart;
-                inside = λ a some. omega (arith, valid.owns.inside a some, size, h.size);
-                unowned = unowned;
-              };
-          order = order;
-          once = once;
-          plain_inside = inside;
-        })
+    ordered-hold s (owned l) (owned m) old new [] plain all
+    (record {
+      writes =
+          record {
+            holds = h.holds;
+            exchange = whole;
+            stands = tt;
+            apart = valid.owns.apart;
+            inside = λ a some. omega (arith, valid.owns.inside a some, size, h.size);
+            unowned = unowned;
+          };
+      order = order;
+      once = once;
+      plain_inside = inside;
+    })
     in
     let v : IsWritten s t (owned m) plain = subst (λ z. IsWritten s z (owned m) plain) (sym is) w in
     record { lists = record { valid = valid; size = long ∙ h.size ∙ sym size; holds = v.holds }; size = long; written = v }

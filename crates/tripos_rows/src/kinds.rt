@@ -9,7 +9,13 @@ fn marks_what_is_claimed(rt: HostRuntime) -> Result<(), Fail> {
     let mut kinds = ByteKinds::new(rt.alloc(), 1024).map_err(|_| "memory")?;
     assert!(rt; !kinds.is_kernel(&store, 200));
     kinds.claim(200, 5);
-    for (a, owned) in [(199, false), (200, true), (204, true), (205, false), (1024, false)] {
+    for (a, owned) in [
+        (199, false),
+        (200, true),
+        (204, true),
+        (205, false),
+        (1024, false),
+    ] {
         assert_eq!(rt; kinds.is_kernel(&store, a), owned, "{a}");
     }
     kinds.release(201, 2);

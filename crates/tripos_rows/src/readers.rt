@@ -1,6 +1,4 @@
-// Numbers of any length, and names of files.
-use ram_disc::Name;
-use std::test::Fail;
+// Numbers of any length.
 use text_reader::any_number;
 
 #[test]
@@ -15,28 +13,5 @@ fn caps_long_numbers(rt: HostRuntime) {
         ("1_", None),
     ] {
         assert_eq!(rt; any_number(digits.as_bytes()), wanted, "{digits}");
-    }
-}
-
-#[test]
-fn reads_lawful_names(rt: HostRuntime) {
-    for (text, lawful) in [
-        ("A", true),
-        ("HELLO.TXT", true),
-        ("a-b_c.9", true),
-        ("twelve-bytes", true),
-        ("", false),
-        ("thirteen-byte", false),
-        ("A B", false),
-        ("A/B", false),
-        ("café", false),
-    ] {
-        match Name::read(text.as_bytes()) {
-            Some(name) => {
-                assert!(rt; lawful, "{text:?}");
-                assert_eq!(rt; name.bytes(), text.as_bytes());
-            }
-            None => assert!(rt; !lawful, "{text:?}"),
-        }
     }
 }

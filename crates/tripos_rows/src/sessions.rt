@@ -1,7 +1,5 @@
-// What no command shows of a session: its text printed, its lists, and the front of a text.
-use arrayvec::ArrayVec;
-use ram_disc::Name;
-use session_text::{Bytes, Names, print_session, read_front, read_session};
+// What no command shows of a session: its text printed, and the front of a text.
+use session_text::{print_session, read_front, read_session};
 use std::test::Fail;
 use tp_io::MemorySink;
 
@@ -54,18 +52,5 @@ fn reads_fronts(rt: HostRuntime) -> Result<(), Fail> {
         assert_eq!(rt; front.lines, lines);
     }
     assert!(rt; read_front(rt.alloc(), b"TRIPOS 1\nGO 1\nSTORE 1024\nBARE\nGO 1\n").is_err());
-    Ok(())
-}
-
-#[test]
-fn gives_lists_back(rt: HostRuntime) -> Result<(), Fail> {
-    let session = read_session(rt.alloc(), b"TRIPOS 1\nSTORE 1024\nBARE\n:01ff\nGO 1\n")?;
-    assert_eq!(rt; session.lines.into_vec().len(), 1);
-    assert_eq!(rt; session.keys.into_vec().len(), 0);
-    let bytes = Bytes::new([1u8, 255].to_vec(rt.alloc())?);
-    assert_eq!(rt; bytes.into_vec().as_slice(), [1, 255].as_slice());
-    let mut list = ArrayVec::new();
-    list.push(Name::read(b"HELLO").ok_or("a name")?);
-    assert_eq!(rt; Names::new(list).into_array().len(), 1);
     Ok(())
 }
