@@ -1,18 +1,17 @@
 -- A store whose lists change: the words of one task, who runs, and two changes one after the other.
-use Rattle.std.proofs.Common.{◌≡◌, ℕ, ◌+◌, ◌<◌, List, [], ◌∷◌, ◌++◌, get_or, length, set, inl, inr, refl, sym, ap, ◌∙◌, subst, arith}
+use Rattle.std.proofs.Common.{◌≡◌, ℕ, ◌<◌, List, [], ◌∷◌, ◌++◌, length, set, refl, sym, ap, ◌∙◌, subst, arith}
 use Rattle.std.proofs.lemmas.List.{append-nil}
 use Rattle.owned_words.specs.Exchange.{Exchange, Splits}
 use Rattle.owned_words.specs.LinkedWords.{first_of}
-use Rattle.owned_words.specs.Owned.{AreApart, AreInside, Holds, Pairs, owners, written}
-use Rattle.owned_words.specs.Written.{IsWritten, OrderedWrites}
-use Rattle.owned_words.proofs.Exchanges.{splits-all}
-use Rattle.owned_words.proofs.OwnedWords.{length-written, written-other}
+use Rattle.owned_words.specs.Owned.{AreApart, AreInside, Pairs, owners, written}
+use Rattle.owned_words.specs.Written.{IsWritten}
+use Rattle.owned_words.proofs.OwnedWords.{length-written}
 use Rattle.owned_words.proofs.WrittenWords.{ordered-hold}
 use Rattle.kernel_model.specs.ChangedStore.{IsChanged, Knows}
 use Rattle.kernel_model.specs.Changes.{with_tasks}
 use Rattle.kernel_model.specs.HoldsLists.{HoldsLists}
 use Rattle.kernel_model.specs.Lists.{Lists, address_of_task}
-use Rattle.kernel_model.specs.Owned.{OwnsApart, owned}
+use Rattle.kernel_model.specs.Owned.{owned}
 use Rattle.kernel_model.specs.Task.{Task, task_address, task_words}
 use Rattle.kernel_model.specs.ValidLists.{AreValid}
 use Rattle.kernel_model.proofs.OneTaskExchange.{one_task-exchange, running-exchange}
@@ -27,21 +26,21 @@ exchange-changed s t l m old new plain all h valid size x order once inside unow
     let long : length t ≡ length s = ap length is ∙ length-written all s in
     let whole : Exchange (owned l) (owned m) old (new ++ []) = subst (Exchange (owned l) (owned m) old) (sym (append-nil new)) x in
     let w : IsWritten s (written all s) (owned m) plain =
-        ordered-hold s (owned l) (owned m) old new [] plain all
-        (record {
-          writes =
-              record {
-                holds = h.holds;
-                exchange = whole;
-                stands = tt;
-                apart = valid.owns.apart;
-                inside = λ a some. omega (arith, valid.owns.inside a some, size, h.size);
-                unowned = unowned;
-              };
-          order = order;
-          once = once;
-          plain_inside = inside;
-        })
+    ordered-hold s (owned l) (owned m) old new [] plain all
+    (record {
+      writes =
+          record {
+            holds = h.holds;
+            exchange = whole;
+            stands = tt;
+            apart = valid.owns.apart;
+            inside = λ a some. omega (arith, valid.owns.inside a some, size, h.size);
+            unowned = unowned;
+          };
+      order = order;
+      once = once;
+      plain_inside = inside;
+    })
     in
     let v : IsWritten s t (owned m) plain = subst (λ z. IsWritten s z (owned m) plain) (sym is) w in
     record { lists = record { valid = valid; size = long ∙ h.size ∙ sym size; holds = v.holds }; size = long; written = v }
