@@ -1,18 +1,17 @@
 -- A store whose lists change: the words of one task, who runs, and two changes one after the other.
-use Rattle.std.proofs.Common.{◌≡◌, ℕ, ◌+◌, ◌<◌, List, [], ◌∷◌, ◌++◌, get_or, length, set, inl, inr, refl, sym, ap, ◌∙◌, subst, arith}
+use Rattle.std.proofs.Common.{◌≡◌, ℕ, ◌<◌, List, [], ◌∷◌, ◌++◌, length, set, refl, sym, ap, ◌∙◌, subst, arith}
 use Rattle.std.proofs.lemmas.List.{append-nil}
 use Rattle.owned_words.specs.Exchange.{Exchange, Splits}
 use Rattle.owned_words.specs.LinkedWords.{first_of}
-use Rattle.owned_words.specs.Owned.{AreApart, AreInside, Holds, Pairs, owners, written}
-use Rattle.owned_words.specs.Written.{IsWritten, OrderedWrites}
-use Rattle.owned_words.proofs.Exchanges.{splits-all}
-use Rattle.owned_words.proofs.OwnedWords.{length-written, written-other}
+use Rattle.owned_words.specs.Owned.{AreApart, AreInside, Pairs, owners, written}
+use Rattle.owned_words.specs.Written.{IsWritten}
+use Rattle.owned_words.proofs.OwnedWords.{length-written}
 use Rattle.owned_words.proofs.WrittenWords.{ordered-hold}
 use Rattle.kernel_model.specs.ChangedStore.{IsChanged, Knows}
 use Rattle.kernel_model.specs.Changes.{with_tasks}
 use Rattle.kernel_model.specs.HoldsLists.{HoldsLists}
 use Rattle.kernel_model.specs.Lists.{Lists, address_of_task}
-use Rattle.kernel_model.specs.Owned.{OwnsApart, owned}
+use Rattle.kernel_model.specs.Owned.{owned}
 use Rattle.kernel_model.specs.Task.{Task, task_address, task_words}
 use Rattle.kernel_model.specs.ValidLists.{AreValid}
 use Rattle.kernel_model.proofs.OneTaskExchange.{one_task-exchange, running-exchange}
