@@ -1,0 +1,43 @@
+-- What a store has of a guest that was found in it.
+use Rattle.std.proofs.Common.{◌≡◌, ℕ, ◌+◌, ◌/◌, ◌%◌, List, get_or, map, eqb, ◌&&◌, true, sym, ap, ◌∙◌, subst}
+use Rattle.std.specs.List.{AllByRecursion}
+use Rattle.owned_words.specs.Owned.{Holds}
+use Rattle.kernel_model.specs.HoldsLists.{HoldsLists}
+use Rattle.kernel_model.specs.Lists.{Lists}
+use Rattle.kernel_model.specs.Task.{Task, is_guest_id, state_word, state_words, task_address, task_words}
+use Rattle.kernel_model.specs.ValidTasks.{CoroutinesStand, IsTask}
+use Rattle.kernel_model.proofs.AllThings.{all-here}
+use Rattle.kernel_model.proofs.EachMember.{holds-each}
+use Rattle.kernel_model.proofs.ReadCoroutines.{holds-task}
+use Rattle.kernel_model.proofs.RecoveredTasks.{state-held}
+use Rattle.call_answers.specs.Guests.{GuestAt}
+use Rattle.call_answers.proofs.FoundTask.{reads}
+use Rattle.call_answers.proofs.Refusals.{accepted-guest}
+
+-- its words and its rules
+pub record GuestFacts (s : List ℕ) (l : Lists) (id address : ℕ) (t : Task) : Type 0 where
+  pub state : get_or s (address + 4) 0 ≡ state_word t
+  pub flags : get_or s (address + 5) 0 ≡ t.flags
+  pub task : IsTask l t
+  pub coroutines : CoroutinesStand l t
+  pub guest : is_guest_id t.id ≡ true
+  pub bit : eqb (get_or s (address + 4) 0 / 2 % 2) 1 ≡ t.held
+
+pub guest-facts : (s : List ℕ) (l : Lists) (id address : ℕ) → HoldsLists s l → (g : GuestAt l id address) → GuestFacts s l id address g.task
+guest-facts s l id address h g =
+    let t : Task = g.task in
+    let words : Holds s (state_words l.version t) =
+    all-here (λ u. Holds s (state_words l.version u)) g.front t g.back
+    (subst (AllByRecursion (λ u. Holds s (state_words l.version u))) g.is
+    (holds-each task_address (task_words l.version) s (λ u. Holds s (state_words l.version u)) (λ u n own. (holds-task s l.version u n own).state) l.tasks 0 (reads s l h).held_tasks.holds.1))
+    in
+    let task : IsTask l t = all-here (IsTask l) g.front t g.back (subst (AllByRecursion (IsTask l)) g.is h.valid.tasks.each) in
+    let state : get_or s (address + 4) 0 ≡ state_word t = ap (λ a. get_or s (a + 4) 0) (sym g.at) ∙ words.0 in
+    record {
+      state = state;
+      flags = ap (λ a. get_or s (a + 5) 0) (sym g.at) ∙ words.1.0;
+      task = task;
+      coroutines = all-here (CoroutinesStand l) g.front t g.back (subst (AllByRecursion (CoroutinesStand l)) g.is h.valid.coroutines);
+      guest = ap is_guest_id g.number ∙ accepted-guest l id address g;
+      bit = ap (λ w. eqb (w / 2 % 2) 1) state ∙ state-held t task.field;
+    }

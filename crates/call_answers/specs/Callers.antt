@@ -1,0 +1,12 @@
+-- The task that makes a call: the running one.
+use Rattle.std.specs.Prelude.{◌≡◌, true}
+use Rattle.std.specs.List.{AllByRecursion}
+use Rattle.kernel_model.specs.Lists.{Lists, has_task}
+use Rattle.kernel_model.specs.Task.{is_guest_id}
+use Rattle.kernel_model.specs.ValidTasks.{runs}
+
+-- a guest runs, and its state says so
+pub record HasCaller (l : Lists) : Type 0 where
+  pub guest : is_guest_id l.running ≡ true
+  pub there : has_task l.running l.tasks ≡ true
+  pub field : AllByRecursion (λ t. t.id ≡ l.running → t.field ≡ runs) l.tasks

@@ -1,0 +1,4 @@
+pub mod Refusals
+pub mod Guests
+pub mod Callers
+pub mod Made

@@ -1,0 +1,51 @@
+-- What a kernel call makes of the kernel's lists, and how it answers.
+use Rattle.std.specs.Prelude.{◌≡◌, ℕ, ◌-◌, ◌^◌, Bool, Option, Some, None, Result, Ok, Err, List, []}
+use Rattle.owned_words.specs.Owned.{Pairs}
+use Rattle.packet_queue.specs.declared.events.KernelEvent.{KernelEvent}
+use Rattle.kernel_model.specs.ChangedStore.{IsChanged, Knows}
+use Rattle.kernel_model.specs.Lists.{Lists}
+use Rattle.call_answers.specs.Refusals.{first_refusal}
+
+-- Its answer, or the code with which it is refused; the lists that it leaves, the plain words that it writes, and its events.
+pub record Made : Type 0 where
+  pub answer : Result ℕ ℕ
+  pub lists : Lists
+  pub plain : Pairs
+  pub events : List KernelEvent
+
+-- refused with this code, it changes nothing
+abbrev pub refused : Lists → ℕ → Made
+refused l code = record { answer = Err code; lists = l; plain = []; events = [] }
+
+-- refused or not, as this says, it makes that of the lists
+abbrev pub by_refusal : Option ℕ → Lists → Made → Made
+by_refusal None l made = made
+by_refusal (Some code) l made = refused l code
+
+-- it is refused by the first of its tests that does not hold, and else makes this
+abbrev pub unless_refused : List (Bool × ℕ) → Lists → Made → Made
+unless_refused tests l made = by_refusal (first_refusal tests) l made
+
+-- a call without an answer of its own answers -1
+abbrev pub minus_one : ℕ
+minus_one = 2 ^ 32 - 1
+
+-- it leaves these lists, and does nothing else
+abbrev pub done : Lists → Made
+done l = record { answer = Ok minus_one; lists = l; plain = []; events = [] }
+
+-- a result without a value, as an answer
+abbrev pub plain_answer : Result (Unit {0}) ℕ → Result ℕ ℕ
+plain_answer (Ok u) = Ok minus_one
+plain_answer (Err code) = Err code
+
+-- The store that was s is t: it holds the lists that the call leaves, its plain words and no others have changed besides, and it
+-- answers so.
+pub record Leaves (s t : List ℕ) (answer : Result ℕ ℕ) (m : Made) : Type 0 where
+  pub lists : IsChanged s t m.lists m.plain
+  pub answer : answer ≡ m.answer
+
+-- And the keeper knows the words of these lists.
+pub record IsMade (s t : List ℕ) (tells : List ℕ → Type 0) (answer : Result ℕ ℕ) (m : Made) : Type 0 where
+  pub leaves : Leaves s t answer m
+  pub knows : Knows tells m.lists

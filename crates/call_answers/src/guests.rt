@@ -1,0 +1,23 @@
+// The guest with a number.
+ghost use Rattle.kernel_model.specs.HoldsLists.{HoldsLists};
+ghost use Rattle.kernel_model.specs.Lists.{Lists};
+ghost use Rattle.call_answers.specs.Guests.{IsGuestOf};
+
+use crate::codes::{NO_TASK, RESIDENT};
+use task_block::find;
+use word_store::Store;
+
+/// The lowest number of a guest.
+const FIRST_GUEST: u32 = 5;
+
+/// The address of the guest's task block. Refused where there is no such task, or it is a resident.
+pub fn guest(store: &Store, id: u32) -> Result<u32, u32>
+    requires { (l : Lists) × HoldsLists store.now l }
+    ensures { (l : Lists) → HoldsLists store.now l → IsGuestOf l id result }
+{
+    match find(store, id) {
+        None => Err(NO_TASK),
+        Some(_) if id < FIRST_GUEST => Err(RESIDENT),
+        Some(task) => Ok(task),
+    }
+}

@@ -1,6 +1,0 @@
-pub mod Refusals
-pub mod OneTask
-pub mod HoldTask
-pub mod ReleaseTask
-pub mod SetFlags
-pub mod ChangePri

@@ -1,7 +1,0 @@
--- How a kernel call is refused.
-use Rattle.std.specs.Prelude.{ℕ, Bool, if◌then◌else◌, Option, Some, None, List, [], ◌∷◌}
-
--- The tests of a call in their order, each with the code of its refusal: the first that does not hold refuses.
-abbrev pub first_refusal : List (Bool × ℕ) → Option ℕ
-first_refusal [] = None
-first_refusal (test ∷ tests) = if test.0 then first_refusal tests else Some test.1

@@ -1,0 +1,27 @@
+// A task is released.
+ghost use Rattle.kernel_model.specs.HoldsLists.{HoldsLists};
+ghost use Rattle.kernel_model.specs.Lists.{Lists};
+ghost use Rattle.call_answers.specs.Made.{Leaves, plain_answer};
+ghost use Rattle.task_calls.specs.ReleaseTask.{release};
+
+use crate::states::{HELD, has_held_bit};
+use call_answers::codes::NOT_HELD;
+use call_answers::guest;
+use task_block::{TcbField, field, set_field};
+use word_store::Store;
+
+/// Releases the task with the number, which is held. Refused where there is no such task (2), where it is a resident (14),
+/// and where it is not held (15).
+pub fn release_task(store: &mut Store, id: u32) -> Result<(), u32>
+    requires { (l : Lists) × HoldsLists store.old l }
+    ensures { (l : Lists) → HoldsLists store.old l
+        → Leaves store.old store.new (plain_answer result) (release l id) }
+{
+    let task = guest(store, id)?;
+    let state = field(store, task, TcbField::State);
+    if !has_held_bit(state) {
+        return Err(NOT_HELD);
+    }
+    set_field(store, task, TcbField::State, state - HELD);
+    Ok(())
+}
