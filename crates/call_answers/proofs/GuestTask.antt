@@ -1,5 +1,5 @@
 -- What a store has of a guest that was found in it.
-use Rattle.std.proofs.Common.{◌≡◌, ℕ, ◌+◌, ◌/◌, ◌%◌, List, get_or, map, eqb, ◌&&◌, true, sym, ap, ◌∙◌, subst}
+use Rattle.std.proofs.Common.{◌≡◌, ℕ, ◌+◌, ◌/◌, ◌%◌, List, get_or, eqb, true, sym, ap, ◌∙◌, subst}
 use Rattle.std.specs.List.{AllByRecursion}
 use Rattle.owned_words.specs.Owned.{Holds}
 use Rattle.kernel_model.specs.HoldsLists.{HoldsLists}

@@ -1,5 +1,6 @@
 pub mod FoundTask
 pub mod Refusals
 pub mod GuestTask
-pub mod Caller
+pub mod RunningTask
 pub mod MadeCalls
+pub mod ChangedTwice

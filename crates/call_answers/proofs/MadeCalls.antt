@@ -1,6 +1,6 @@
 -- What a call leaves, whether it is refused or not.
-use Rattle.std.proofs.Common.{◌≡◌, ℕ, List, Bool, Option, Some, None, Result, Ok, Err, refl, sym, subst}
-use Rattle.kernel_model.specs.ChangedStore.{HasKeeper, Knows}
+use Rattle.std.proofs.Common.{◌≡◌, ℕ, List, Bool, Some, None, Result, Err, refl, sym, subst}
+use Rattle.kernel_model.specs.ChangedStore.{Knows}
 use Rattle.kernel_model.specs.HoldsLists.{HoldsLists}
 use Rattle.kernel_model.specs.Lists.{Lists}
 use Rattle.kernel_model.proofs.ChangedLists.{changed-none}
@@ -10,11 +10,11 @@ use Rattle.call_answers.specs.Made.{IsMade, Leaves, Made, by_refusal, unless_ref
 module _ (s : List ℕ) (l : Lists) (tests : List (Bool × ℕ)) (made : Made) where
   -- refused with the code of the first test that fails, it leaves all as it was
   pub leaves-refused : (code : ℕ) → HoldsLists s l → first_refusal tests ≡ Some code → Leaves s s (Err code) (unless_refused tests l made)
-  leaves-refused code h e = subst (λ o. Leaves s s (Err code) (by_refusal o l made)) (sym e) (record { lists = changed-none s l h; answer = refl })
+  leaves-refused code h e = subst (λ o. Leaves s s (Err code) (by_refusal o l made)) (sym e) (record { lists = changed-none s l h; answered = refl })
 
   pub made-refused : (tells : List ℕ → Type 0) (code : ℕ) → HoldsLists s l → Knows tells l → first_refusal tests ≡ Some code → IsMade s s tells (Err code) (unless_refused tests l made)
   made-refused tells code h knows e =
-      subst (λ o. IsMade s s tells (Err code) (by_refusal o l made)) (sym e) (record { leaves = record { lists = changed-none s l h; answer = refl }; knows = knows })
+      subst (λ o. IsMade s s tells (Err code) (by_refusal o l made)) (sym e) (record { leaves = record { lists = changed-none s l h; answered = refl }; knows = knows })
 
   -- where all hold, it leaves what it makes
   pub leaves-accepted : (t : List ℕ) (answer : Result ℕ ℕ) → first_refusal tests ≡ None → Leaves s t answer made → Leaves s t answer (unless_refused tests l made)

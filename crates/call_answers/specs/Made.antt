@@ -43,7 +43,7 @@ plain_answer (Err code) = Err code
 -- answers so.
 pub record Leaves (s t : List ℕ) (answer : Result ℕ ℕ) (m : Made) : Type 0 where
   pub lists : IsChanged s t m.lists m.plain
-  pub answer : answer ≡ m.answer
+  pub answered : answer ≡ m.answer
 
 -- And the keeper knows the words of these lists.
 pub record IsMade (s t : List ℕ) (tells : List ℕ → Type 0) (answer : Result ℕ ℕ) (m : Made) : Type 0 where

@@ -1,9 +1,9 @@
--- A keeper that was told of words that are nobody's any more knows the words of the lists.
-use Rattle.std.proofs.Common.{◌≡◌, ℕ, ◌+◌, List, ◌++◌, arith}
+-- A keeper that was told of words that became the kernel's, or are nobody's any more, knows the words of the lists.
+use Rattle.std.proofs.Common.{◌≡◌, ℕ, ◌+◌, List, [], ◌∷◌, ◌++◌, map, refl, arith}
 use Rattle.std.specs.List.{range_with_len}
 use Rattle.linked_list.specs.Count.{IsApart, times}
 use Rattle.linked_list.proofs.Counts.{times-append}
-use Rattle.owned_words.specs.Owned.{owners}
+use Rattle.owned_words.specs.Owned.{Pairs, owners}
 use Rattle.kernel_model.specs.ChangedStore.{Knows}
 use Rattle.kernel_model.specs.Lists.{Lists}
 use Rattle.kernel_model.specs.Owned.{OwnsApart, owned}
@@ -16,3 +16,18 @@ knows-released tells told l m p n owns less knows release after count =
     let together : AreTogether known after (range_with_len p n) = λ a. times-append a after (range_with_len p n) in
     let same : (a : ℕ) → times a known ≡ owners a (owned l) = λ a. omega (arith, together a, count a, less a) in
     release known after (knows known same) (λ a. omega (arith, same a, owns.apart a)) together
+
+-- the addresses of owned words
+abbrev addresses : Pairs → List ℕ
+addresses ps = map (λ e. e.0) ps
+
+times-addresses : (a : ℕ) (ps : Pairs) → times a (addresses ps) ≡ owners a ps
+times-addresses a [] = refl
+times-addresses a (e ∷ es) = omega (arith, times-addresses a es)
+
+pub knows-claimed : (tells told : List ℕ → Type 0) (l m : Lists) (p n : ℕ) → ((a : ℕ) → owners a (owned m) ≡ owners a (owned l) + times a (range_with_len p n)) → Knows tells l
+    → ((known after : List ℕ) → tells known → AreTogether after known (range_with_len p n) → told after) → Knows told m
+knows-claimed tells told l m p n more knows claim after count =
+    let known : List ℕ = addresses (owned l) in
+    let same : (a : ℕ) → times a known ≡ owners a (owned l) = λ a. times-addresses a (owned l) in
+    claim known after (knows known same) (λ a. omega (arith, same a, count a, more a))

@@ -1,14 +1,21 @@
-use Rattle.std.proofs.Common.{◌+◌, [], bit_or, set, sym, ap, ◌∙◌, subst}
+use Rattle.std.proofs.Common.{◌+◌, [], Ok, bit_or, set, refl, sym, ap, ◌∙◌, subst}
 use Rattle.kernel_model.specs.ChangedStore.{IsChanged}
-use Rattle.task_calls.specs.OneTask.{GuestAt, Leaves}
-use Rattle.task_calls.specs.SetFlags.{with_flags}
+use Rattle.kernel_model.specs.Changes.{with_task}
+use Rattle.call_answers.specs.Guests.{GuestAt, guest_tests}
+use Rattle.call_answers.specs.Made.{done, minus_one}
+use Rattle.call_answers.proofs.MadeCalls.{leaves-accepted}
+use Rattle.task_calls.specs.SetFlags.{flagged}
 use Rattle.task_calls.proofs.Flagged.{flags-changed}
 use Rattle.task_calls.proofs.flags.set_flags.Goals as goal
 
-pub returns-clause-lists : goal.returns-clause-lists
-returns-clause-lists c = λ l h.
+pub returns : goal.returns
+returns c = λ l h.
     let g : GuestAt l c.args.id c.in_ok-task.task = c.in_ok-task.ensures l h in
-    subst (λ o. Leaves o c.args.store.now c.set_field.new.store (with_flags c.args.id c.args.flags l)) (sym g.accepted)
-    (subst (λ t. IsChanged c.args.store.now t (with_flags c.args.id c.args.flags l) [])
-    (sym (c.set_field.ensures ∙ ap (λ w. set c.args.store.now (c.in_ok-task.task + 5) (bit_or w c.args.flags)) c.field-old.ensures))
-    (flags-changed c.args.store.now l c.args.id c.in_ok-task.task c.args.flags h g))
+    leaves-accepted c.args.store.now l (guest_tests l c.args.id) (done (with_task c.args.id (flagged c.args.flags) l)) c.set_field.new.store (Ok minus_one) g.accepted
+    (record {
+      lists =
+          subst (λ t. IsChanged c.args.store.now t (with_task c.args.id (flagged c.args.flags) l) [])
+          (sym (c.set_field.ensures ∙ ap (λ w. set c.args.store.now (c.in_ok-task.task + 5) (bit_or w c.args.flags)) c.field-old.ensures))
+          (flags-changed c.args.store.now l c.args.id c.in_ok-task.task c.args.flags h g);
+      answered = refl;
+    })

@@ -1,10 +1,32 @@
-use Rattle.std.proofs.Common.{◌≡◌, ℕ, ◌+◌, ◌/◌, ◌%◌, [], eqb, set, Bool, true, false, refl, sym, ap, ◌∙◌, subst}
-use Rattle.std.specs.Prelude.{Ok}
+use Rattle.std.proofs.Common.{◌≡◌, ℕ, ◌+◌, ◌/◌, ◌%◌, [], eqb, set, Bool, true, false, Ok, refl, sym, ap, ◌∙◌, subst}
 use Rattle.kernel_model.specs.ChangedStore.{IsChanged}
 use Rattle.kernel_model.specs.Changes.{with_task}
 use Rattle.call_answers.specs.Made.{done, minus_one}
 use Rattle.call_answers.proofs.MadeCalls.{leaves-accepted, leaves-refused}
 use Rattle.call_answers.proofs.Refusals.{first_refusal-failed}
+use Rattle.call_answers.specs.Guests.{guest_tests}
 use Rattle.task_calls.specs.HoldTask.{held, hold_tests}
+use Rattle.task_calls.specs.OneTask.{is_held}
 use Rattle.task_calls.proofs.Held.{hold-accepted, hold-changed, hold-refused}
 use Rattle.task_calls.proofs.hold.hold_task.Goals as goal
+
+bit : (w v : ℕ) (b d : Bool) → w ≡ v → b ≡ eqb (w / 2 % 2) 1 → b ≡ d → eqb (v / 2 % 2) 1 ≡ d
+bit w v b d same is e = ap (λ z. eqb (z / 2 % 2) 1) (sym same) ∙ sym is ∙ e
+
+pub returns-then-has_held_bit : goal.returns-then-has_held_bit
+returns-then-has_held_bit c = λ l h.
+    leaves-refused c.args.store.now l (hold_tests l c.args.id) (done (with_task c.args.id held l)) 16 h
+    (hold-refused c.args.store.now l c.args.id c.in_ok-task.task h (c.in_ok-task.ensures l h) (bit _ _ _ true c.field-state.ensures c.has_held_bit.ensures c.if-has_held_bit.true))
+
+pub returns : goal.returns
+returns c = λ l h.
+    let free = bit _ _ _ false c.field-state.ensures c.has_held_bit.ensures c.if-has_held_bit.false in
+    leaves-accepted c.args.store.now l (hold_tests l c.args.id) (done (with_task c.args.id held l)) c.set_field.new.store (Ok minus_one)
+    (hold-accepted c.args.store.now l c.args.id c.in_ok-task.task h (c.in_ok-task.ensures l h) free)
+    (record {
+      lists =
+          subst (λ t. IsChanged c.args.store.now t (with_task c.args.id held l) [])
+          (sym (c.set_field.ensures ∙ ap (λ w. set c.args.store.now (c.in_ok-task.task + 4) (w + 2)) c.field-state.ensures))
+          (hold-changed c.args.store.now l c.args.id c.in_ok-task.task h (c.in_ok-task.ensures l h) free);
+      answered = refl;
+    })

@@ -1,5 +1,5 @@
 -- The running task, by the root's word that leads to it.
-use Rattle.std.proofs.Common.{◌≡◌, ℕ, ◌++◌, List, [], ◌∷◌, get_or, cond, eqb, ◌||◌, Bool, true, false, refl, sym, ap, ◌∙◌, subst}
+use Rattle.std.proofs.Common.{◌≡◌, ℕ, List, [], ◌∷◌, get_or, cond, eqb, ◌||◌, Bool, true, false, refl, sym, ap, subst}
 use Rattle.std.proofs.lemmas.Bool.{eqb-true}
 use Rattle.task_block.specs.HeldTasks.{address_with}
 use Rattle.kernel_model.specs.HoldsLists.{HoldsLists}
@@ -14,14 +14,15 @@ use Rattle.call_answers.proofs.Refusals.{guest-at}
 -- a task that is there stands where the table leads to
 there-at : (id : ℕ) (ts : List Task) → has_task id ts ≡ true → TaskAt ts id (address_with task_address task_id ts id)
 there-at id [] e = cc
-there-at id (t ∷ ts) e = on (eqb t.id id) refl e
+there-at id (t ∷ ts) e = on (eqb t.id id) refl e (there-at id ts)
   where
     behind : (a : ℕ) → TaskAt ts id a → TaskAt (t ∷ ts) id a
     behind a m = record { front = t ∷ m.front; task = m.task; back = m.back; is = ap (λ z. t ∷ z) m.is; number = m.number; at = m.at }
 
-    on : (b : Bool) → eqb t.id id ≡ b → (b || has_task id ts) ≡ true → TaskAt (t ∷ ts) id (cond b t.address (address_with task_address task_id ts id))
-    on true f e = record { front = []; task = t; back = ts; is = refl; number = eqb-true t.id id f; at = refl }
-    on false f e = behind (address_with task_address task_id ts id) (there-at id ts e)
+    on : (b : Bool) → eqb t.id id ≡ b → (b || has_task id ts) ≡ true → (has_task id ts ≡ true → TaskAt ts id (address_with task_address task_id ts id))
+        → TaskAt (t ∷ ts) id (cond b t.address (address_with task_address task_id ts id))
+    on true f e more = record { front = []; task = t; back = ts; is = refl; number = eqb-true t.id id f; at = refl }
+    on false f e more = behind (address_with task_address task_id ts id) (more e)
 
 running-word : (s : List ℕ) (l : Lists) → HoldsLists s l → get_or s 102 0 ≡ address_of_task l l.running
 unfolding owned
