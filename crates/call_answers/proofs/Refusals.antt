@@ -1,5 +1,5 @@
 -- Refusals by tests in their order, and the tests of a guest.
-use Rattle.std.proofs.Common.{◌≡◌, ℕ, ◌<◌, ◌≤◌, List, [], ◌∷◌, ◌++◌, cond, eqb, Bool, true, false, Option, Some, None, Result, Ok, refl, sym, ap, ◌∙◌, subst, arith}
+use Rattle.std.proofs.Common.{◌≡◌, ℕ, ◌<◌, ◌≤◌, List, [], ◌∷◌, ◌++◌, cond, eqb, Bool, true, false, Option, Some, None, Result, Ok, Err, refl, sym, ap, ◌∙◌, subst, arith}
 use Rattle.std.proofs.lemmas.Bool.{eq-eqb}
 use Rattle.std.proofs.lemmas.Bool.Decides.{nat_tests}
 use Rattle.kernel_model.specs.Lists.{Lists, has_task}
@@ -63,3 +63,7 @@ accepted-guest l id a g = on (has_task id l.tasks) (is_guest_id id) g.accepted
 pub answer_of-ok : (o : Option ℕ) (u : Unit {0}) → ◌≡◌ {A = Result (Unit {0}) ℕ} (Ok u) (answer_of o) → o ≡ None
 answer_of-ok None u e = refl
 answer_of-ok (Some code) u e = cc
+
+pub answer_of-err : (o : Option ℕ) (code : ℕ) → ◌≡◌ {A = Result (Unit {0}) ℕ} (Err code) (answer_of o) → o ≡ Some code
+answer_of-err None code e = cc
+answer_of-err (Some c) code e = cc

@@ -1,5 +1,8 @@
--- What setting flags leaves.
-use Rattle.std.proofs.Common.{ℕ, ◌+◌, List, [], ◌∷◌, get_or, set, bit_or, refl, sym, subst}
+-- What other flags of a task leave.
+use Rattle.std.proofs.Common.{◌≡◌, ◌∙◌, ap, bit_and, eqb, map, Ok, ℕ, ◌+◌, List, [], ◌∷◌, get_or, set, refl, sym, subst}
+use Rattle.std.specs.Prelude.{find}
+use Rattle.std.specs.Option.{option_map_or}
+use Rattle.linked_list.specs.Count.{IsApart}
 use Rattle.owned_words.specs.Exchange.{Exchange}
 use Rattle.owned_words.specs.LinkedWords.{first_of}
 use Rattle.owned_words.proofs.Exchanges.{exchange-left, exchange-right, exchange-row}
@@ -7,13 +10,14 @@ use Rattle.kernel_model.specs.ChangedStore.{IsChanged}
 use Rattle.kernel_model.specs.Changes.{with_task}
 use Rattle.kernel_model.specs.HoldsLists.{HoldsLists}
 use Rattle.kernel_model.specs.Lists.{Lists}
-use Rattle.kernel_model.specs.Task.{Task, globals_of, name_words, stack_of, state_word, state_words, task_words}
+use Rattle.kernel_model.specs.Task.{Task, globals_of, name_words, stack_of, state_word, state_words, task_id, task_words}
 use Rattle.call_answers.specs.Guests.{GuestAt}
-use Rattle.task_calls.specs.SetFlags.{flagged}
 use Rattle.kernel_model.proofs.AlteredTask.{IsTask-altered}
 use Rattle.call_answers.proofs.GuestTask.{GuestFacts, guest-facts}
 use Rattle.task_calls.proofs.Held.{behind_state}
+use Rattle.task_calls.specs.TestFlags.{test_flags}
 use Rattle.task_calls.proofs.OneWord.{word-changed}
+use Rattle.task_calls.proofs.Priorities.{found-here}
 
 -- its words 6 to 16
 abbrev behind_flags : ℕ → Task → List ℕ
@@ -28,15 +32,23 @@ flags-exchange version t f n =
     (exchange-left (state_words version t) (state_words version (record t { flags = f })) (behind_state version t) _ _
     (exchange-row t.address 4 t.flags f (state_word t ∷ []) (behind_flags version t)))
 
-pub flags-changed : (s : List ℕ) (l : Lists) (id address flags : ℕ) → HoldsLists s l → GuestAt l id address
-    → IsChanged s (set s (address + 5) (bit_or (get_or s (address + 5) 0) flags)) (with_task id (flagged flags) l) []
-flags-changed s l id address flags h g =
+-- other flags, as a function of those that it has
+pub flags-changed : (s : List ℕ) (l : Lists) (id address : ℕ) (f : ℕ → ℕ) → HoldsLists s l → GuestAt l id address
+    → IsChanged s (set s (address + 5) (f (get_or s (address + 5) 0))) (with_task id (λ t. record t { flags = f t.flags }) l) []
+flags-changed s l id address f h g =
     let facts : GuestFacts s l id address g.task = guest-facts s l id address h g in
-    let f : ℕ = bit_or g.task.flags flags in
-    subst (λ a. IsChanged s (set s (a + 5) (bit_or (get_or s (address + 5) 0) flags)) (with_task id (flagged flags) l) []) g.at
-    (subst (λ z. IsChanged s (set s (g.task.address + 5) (bit_or z flags)) (with_task id (flagged flags) l) []) (sym facts.flags)
-    (word-changed s l id address (flagged flags) (g.task.address + 5) g.task.flags f h g
+    let change : Task → Task = λ t. record t { flags = f t.flags } in
+    subst (λ a. IsChanged s (set s (a + 5) (f (get_or s (address + 5) 0))) (with_task id change l) []) g.at
+    (subst (λ z. IsChanged s (set s (g.task.address + 5) (f z)) (with_task id change l) []) (sym facts.flags)
+    (word-changed s l id address change (g.task.address + 5) g.task.flags (f g.task.flags) h g
     (record { id = refl; address = refl; priority = refl; queue = refl; coroutines = refl })
-    (IsTask-altered l g.task f g.task.held g.task.priority facts.task.low facts.task.high facts.guest facts.task)
+    (IsTask-altered l g.task (f g.task.flags) g.task.held g.task.priority facts.task.low facts.task.high facts.guest facts.task)
     (record { each = facts.coroutines.each; members = facts.coroutines.members; distinct = facts.coroutines.distinct })
-    (flags-exchange l.version g.task f)))
+    (flags-exchange l.version g.task (f g.task.flags))))
+
+-- what it has of some flags
+pub flags-tested : (s : List ℕ) (l : Lists) (address mask : ℕ) → HoldsLists s l → GuestAt l l.running address → Ok (bit_and (get_or s (address + 5) 0) mask) ≡ (test_flags l mask).answer
+flags-tested s l address mask h g =
+    ap (λ w. Ok (bit_and w mask)) (guest-facts s l l.running address h g).flags
+    ∙ ap (λ o. Ok (option_map_or (λ t. bit_and t.flags mask) o 0))
+        (sym (ap (find (λ u. eqb u.id l.running)) g.is ∙ found-here l.running g.front g.task g.back g.number (subst (λ ts. IsApart (map task_id ts)) g.is h.valid.tasks.distinct)))

@@ -1,8 +1,5 @@
 pub mod AroundChain
-pub mod FoundTask
-pub mod GuestTask
 pub mod OneWord
-pub mod Refusals
 pub mod Held
 pub mod Flagged
 pub mod MovedWords

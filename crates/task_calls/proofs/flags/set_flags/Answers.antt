@@ -16,6 +16,6 @@ returns c = λ l h.
       lists =
           subst (λ t. IsChanged c.args.store.now t (with_task c.args.id (flagged c.args.flags) l) [])
           (sym (c.set_field.ensures ∙ ap (λ w. set c.args.store.now (c.in_ok-task.task + 5) (bit_or w c.args.flags)) c.field-old.ensures))
-          (flags-changed c.args.store.now l c.args.id c.in_ok-task.task c.args.flags h g);
+          (flags-changed c.args.store.now l c.args.id c.in_ok-task.task (λ f. bit_or f c.args.flags) h g);
       answered = refl;
     })

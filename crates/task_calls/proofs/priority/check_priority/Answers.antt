@@ -1,5 +1,5 @@
 use Rattle.std.proofs.Common.{true, false, sym, ap, ◌∙◌}
-use Rattle.task_calls.specs.OneTask.{answer_of}
+use Rattle.call_answers.specs.Refusals.{answer_of}
 use Rattle.task_calls.proofs.ChangedPriority.{no_priority, priority_taken}
 use Rattle.call_answers.proofs.FoundTask.{reads}
 use Rattle.task_calls.proofs.Priorities.{taken-used}

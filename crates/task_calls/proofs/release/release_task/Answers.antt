@@ -1,14 +1,25 @@
-use Rattle.std.proofs.Common.{◌≡◌, ℕ, ◌+◌, ◌-◌, ◌/◌, ◌%◌, [], eqb, set, Bool, true, false, Ok, refl, sym, ap, ◌∙◌, subst}
+use Rattle.std.proofs.Common.{◌≡◌, ℕ, ◌+◌, ◌-◌, ◌/◌, ◌%◌, [], ◌∷◌, eqb, set, Bool, true, false, Ok, refl, sym, ap, ◌∙◌, subst}
+use Rattle.std.proofs.lemmas.Result.{err_from_is_err_and}
 use Rattle.kernel_model.specs.ChangedStore.{IsChanged}
 use Rattle.kernel_model.specs.Changes.{with_task}
 use Rattle.call_answers.specs.Made.{done, minus_one}
+use Rattle.call_answers.specs.Guests.{guest_tests}
+use Rattle.call_answers.proofs.Refusals.{first_refusal-failed}
 use Rattle.call_answers.proofs.MadeCalls.{leaves-accepted, leaves-refused}
+use Rattle.task_calls.specs.OneTask.{is_held}
 use Rattle.task_calls.specs.ReleaseTask.{release_tests, released}
 use Rattle.task_calls.proofs.Held.{release-accepted, release-changed, release-refused}
 use Rattle.task_calls.proofs.release.release_task.Goals as goal
 
 bit : (w v : ℕ) (b d : Bool) → w ≡ v → b ≡ eqb (w / 2 % 2) 1 → b ≡ d → eqb (v / 2 % 2) 1 ≡ d
 bit w v b d same is e = ap (λ z. eqb (z / 2 % 2) 1) (sym same) ∙ sym is ∙ e
+
+pub returns-in_err-task : goal.returns-in_err-task
+returns-in_err-task c = λ l h.
+    let p = err_from_is_err_and c.from_residual.result c.from_residual.ensures.1 in
+    rw (p.1, p.2)
+    (leaves-refused c.args.store.now l (release_tests l c.args.id) (done (with_task c.args.id released l)) c.in_err-task.field-0.0 h
+    (first_refusal-failed (guest_tests l c.args.id) ((is_held l c.args.id, 15) ∷ []) c.in_err-task.field-0.0 (c.in_err-task.ensures l h)))
 
 pub returns-then-not-has_held_bit : goal.returns-then-not-has_held_bit
 returns-then-not-has_held_bit c = λ l h.
