@@ -26,6 +26,15 @@ first_refusal-failed (x ∷ xs) ys code e = on x.0 e (first_refusal-failed xs ys
     on true e more = more e
     on false e more = e
 
+-- where all tests hold, those in front do
+pub first_refusal-front : (xs ys : List (Bool × ℕ)) → first_refusal (xs ++ ys) ≡ None → first_refusal xs ≡ None
+first_refusal-front [] ys e = refl
+first_refusal-front (x ∷ xs) ys e = on x.0 e (first_refusal-front xs ys)
+  where
+    on : (b : Bool) → cond b (first_refusal (xs ++ ys)) (Some x.1) ≡ None → (first_refusal (xs ++ ys) ≡ None → first_refusal xs ≡ None) → cond b (first_refusal xs) (Some x.1) ≡ None
+    on true e more = more e
+    on false e more = cc
+
 -- ---- a guest
 
 pub low-resident : (id : ℕ) → id < 5 → is_guest_id id ≡ false
@@ -57,6 +66,14 @@ accepted-guest l id a g = on (has_task id l.tasks) (is_guest_id id) g.accepted
     on true true e = refl
     on true false e = cc
     on false c e = cc
+
+accepted-parts : (b c : Bool) → ◌≡◌ {A = Option ℕ} (cond b (cond c None (Some 14)) (Some 2)) None → (b ≡ true) × (c ≡ true)
+accepted-parts true true e = (refl, refl)
+accepted-parts true false e = cc
+accepted-parts false c e = cc
+
+pub guest-parts : (l : Lists) (id : ℕ) → first_refusal (guest_tests l id) ≡ None → (has_task id l.tasks ≡ true) × (is_guest_id id ≡ true)
+guest-parts l id e = accepted-parts (has_task id l.tasks) (is_guest_id id) e
 
 -- ---- answers
 

@@ -12,7 +12,7 @@ use Rattle.call_answers.proofs.FoundTask.{TaskAt}
 use Rattle.call_answers.proofs.Refusals.{guest-at}
 
 -- a task that is there stands where the table leads to
-there-at : (id : ℕ) (ts : List Task) → has_task id ts ≡ true → TaskAt ts id (address_with task_address task_id ts id)
+pub there-at : (id : ℕ) (ts : List Task) → has_task id ts ≡ true → TaskAt ts id (address_with task_address task_id ts id)
 there-at id [] e = cc
 there-at id (t ∷ ts) e = on (eqb t.id id) refl e (there-at id ts)
   where

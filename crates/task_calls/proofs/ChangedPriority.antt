@@ -5,18 +5,20 @@ use Rattle.std.specs.List.{AllByRecursion, list_any}
 use Rattle.std.proofs.lemmas.Bool.{and_parts, leb-true}
 use Rattle.linked_list.specs.Count.{IsApart}
 use Rattle.linked_list.specs.Places.{has, without_first}
+use Rattle.owned_words.specs.Owned.{owners}
 use Rattle.task_block.specs.Moves.{with_priority as priority_set, with_task as task_in}
 use Rattle.task_block.specs.TaskChain.{tasks_in}
 use Rattle.kernel_model.specs.ChangedStore.{IsChanged}
 use Rattle.kernel_model.specs.HoldsLists.{HoldsLists}
 use Rattle.kernel_model.specs.Lists.{Lists}
 use Rattle.kernel_model.specs.MovedTask.{with_moved_task}
+use Rattle.kernel_model.specs.Owned.{owned}
 use Rattle.kernel_model.specs.Task.{task_id}
 use Rattle.call_answers.specs.Refusals.{first_refusal}
 use Rattle.call_answers.specs.Guests.{GuestAt, guest_tests}
 use Rattle.task_calls.specs.ChangePri.{is_priority, is_taken, moved, priority_tests, with_new_priority}
 use Rattle.call_answers.proofs.GuestTask.{guest-facts}
-use Rattle.task_calls.proofs.MovedWords.{in-chain, moved-changed}
+use Rattle.task_calls.proofs.MovedWords.{in-chain, moved-changed, moved-owners}
 use Rattle.task_calls.proofs.Priorities.{moved-here, others-differ, untaken}
 use Rattle.call_answers.proofs.Refusals.{first_refusal-passed}
 
@@ -60,3 +62,7 @@ module _ (s : List ℕ) (l : Lists) (id address pri : ℕ) (h : HoldsLists s l) 
       subst (λ a. IsChanged s (task_in (priority_set s a pri) a) (with_new_priority id pri l) []) g.at
       (subst (λ m. IsChanged s (task_in (priority_set s g.task.address pri) g.task.address) m []) (sym lists-are)
       (moved-changed s l g.front g.task g.back pri h g.is (guest-facts s l id address h g).guest (leb-true 1 pri range.0) (leb-true pri 10000 range.1) unused))
+
+  -- the same words are owned
+  pub priority-owners : (a : ℕ) → owners a (owned (with_new_priority id pri l)) ≡ owners a (owned l)
+  priority-owners a = ap (λ m. owners a (owned m)) lists-are ∙ moved-owners s l g.front g.task g.back pri h g.is a

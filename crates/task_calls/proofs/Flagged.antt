@@ -25,7 +25,7 @@ behind_flags version t =
     stack_of version t ∷ t.highest ∷ globals_of version t ∷ t.maker ∷ first_of (λ m. m) t.modules 0
     ∷ t.saved.a ∷ t.saved.b ∷ t.saved.c ∷ t.saved.p ∷ t.saved.g ∷ t.saved.pc ∷ []
 
-flags-exchange : (version : ℕ) (t : Task) (f n : ℕ)
+pub flags-exchange : (version : ℕ) (t : Task) (f n : ℕ)
     → Exchange (task_words version t n) (task_words version (record t { flags = f }) n) ((t.address + 5, t.flags) ∷ []) ((t.address + 5, f) ∷ [])
 flags-exchange version t f n =
     exchange-right ((t.address, n) ∷ name_words t) _ _ _ _
@@ -51,4 +51,4 @@ pub flags-tested : (s : List ℕ) (l : Lists) (address mask : ℕ) → HoldsList
 flags-tested s l address mask h g =
     ap (λ w. Ok (bit_and w mask)) (guest-facts s l l.running address h g).flags
     ∙ ap (λ o. Ok (option_map_or (λ t. bit_and t.flags mask) o 0))
-        (sym (ap (find (λ u. eqb u.id l.running)) g.is ∙ found-here l.running g.front g.task g.back g.number (subst (λ ts. IsApart (map task_id ts)) g.is h.valid.tasks.distinct)))
+    (sym (ap (find (λ u. eqb u.id l.running)) g.is ∙ found-here l.running g.front g.task g.back g.number (subst (λ ts. IsApart (map task_id ts)) g.is h.valid.tasks.distinct)))

@@ -35,7 +35,7 @@ behind_word version t =
     ∷ t.saved.a ∷ t.saved.b ∷ t.saved.c ∷ t.saved.p ∷ t.saved.g ∷ t.saved.pc ∷ []
 
 -- the word of its state alone tells whether it is held
-state-exchange : (version : ℕ) (t : Task) (b : Bool) (n : ℕ)
+pub state-exchange : (version : ℕ) (t : Task) (b : Bool) (n : ℕ)
     → Exchange (task_words version t n) (task_words version (record t { held = b }) n) ((t.address + 4, state_word t) ∷ []) ((t.address + 4, state_word (record t { held = b })) ∷ [])
 state-exchange version t b n =
     exchange-right ((t.address, n) ∷ name_words t) _ _ _ _

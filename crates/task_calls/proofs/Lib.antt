@@ -5,3 +5,4 @@ pub mod Flagged
 pub mod MovedWords
 pub mod Priorities
 pub mod ChangedPriority
+pub mod SameWords

@@ -243,6 +243,18 @@ module _ (s : List ℕ) (l : Lists) (front : List Task) (x : Task) (back : List 
   owned-after : owned (with_moved_task pri x rest l) ≡ around l (listed l chain)
   owned-after = ap (λ ts. owned (with_tasks ts l)) inserted.becomes ∙ owned-chain l chain (same-address l.running)
 
+  -- the same words are owned
+  pub moved-owners : (a : ℕ) → owners a (owned (with_moved_task pri x rest l)) ≡ owners a (owned l)
+  moved-owners a =
+      omega (
+        arith,
+        ap (owners a) owned-after,
+        second-count a,
+        first-count a,
+        ap (owners a) owned-before,
+        ap (λ ts. owners a (around l (listed l ts))) is,
+      )
+
   pub moved-changed : is_guest_id x.id ≡ true → 1 ≤ pri → pri ≤ 10000 → AllByRecursion (λ u. u.priority ≢ pri) rest → IsChanged s (task_in out x.address) (with_moved_task pri x rest l) []
   moved-changed guest low high unused =
       let valid : AreValid (with_moved_task pri x rest l) = moved_task-valid l front back x pri h.valid is guest low high unused in

@@ -1,5 +1,5 @@
 -- The call that tests flags of the task that makes it.
-use Rattle.std.specs.Prelude.{ℕ, ◌-◌, ◌^◌, ◌==◌, Ok, List, [], bit_and, find}
+use Rattle.std.specs.Prelude.{ℕ, ◌-◌, ◌^◌, ◌==◌, Ok, [], bit_and, find}
 use Rattle.std.specs.Option.{option_map_or}
 use Rattle.kernel_model.specs.Changes.{with_task}
 use Rattle.kernel_model.specs.Lists.{Lists}

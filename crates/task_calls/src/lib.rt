@@ -3,6 +3,7 @@
 
 mod flags;
 mod hold;
+pub mod laws;
 mod priority;
 mod release;
 mod states;
