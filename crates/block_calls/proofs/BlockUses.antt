@@ -14,7 +14,7 @@ use Rattle.hunk_loader.proofs.HeldModuleLists.{held-modules}
 use Rattle.task_block.specs.Lists.{coroutines_in, modules_in}
 use Rattle.task_block.specs.TaskChain.{tasks_in}
 use Rattle.kernel_model.specs.BlockUse.{Use, coroutine_addresses, use_of_data}
-use Rattle.kernel_model.specs.BlockUse.Use.{OfCoroutine, OfModule, OfResidents, OfTask, User}
+use Rattle.kernel_model.specs.BlockUse.Use.{Free, OfCoroutine, OfModule, OfResidents, OfTask, User}
 use Rattle.kernel_model.specs.HoldsLists.{HoldsLists}
 use Rattle.kernel_model.specs.KernelRanges.{has_residents}
 use Rattle.kernel_model.specs.Lists.{Lists}
@@ -83,7 +83,12 @@ module _ (l : Lists) (v : ℕ) where
 
 -- a block of a user is none of the others
 pub user-is : (u : Use) → is_user u ≡ true → u ≡ User
-user-is u e = cc
+user-is Free e = cc
+user-is User e = refl
+user-is OfTask e = cc
+user-is OfModule e = cc
+user-is OfCoroutine e = cc
+user-is OfResidents e = cc
 
 pub not-user : (b : Bool) → true ≡ not b → b ≡ false
 not-user true e = cc

@@ -28,7 +28,7 @@ module _ (s : List ℕ) (tells : List ℕ → Type 0) (room : ℕ) (l : Lists) (
   pub given-nothing : v ≡ 0 → IsMade s s tells (Ok minus_one) (freevec l v)
   given-nothing e =
       subst (λ z. IsMade s s tells (Ok minus_one) (freevec l z)) (sym e)
-      (record { leaves = record { lists = changed-none s l k.lists; answer = refl }; knows = k.knows })
+      (record { leaves = record { lists = changed-none s l k.lists; answered = refl }; knows = k.knows })
 
   abbrev made : Made
   made = done (with_given v l)
@@ -62,7 +62,7 @@ module _ (s : List ℕ) (tells : List ℕ → Type 0) (room : ℕ) (l : Lists) (
       where
         on : (x : Bool) → list_any (lies_in b) (queued l) ≡ x → IsMade s s tells (Err 7) (freevec l v)
         on true e = refused-by 7 some (tests-are true e)
-        on false e = absurd (owned (subst (AreUnowned l v) (sym end-is) (idle-unowned l v k.lists.valid (none-idle l v b k.lists.valid users.0 users.1 e))))
+        on false e = absurd (owned (subst (AreUnowned l v) (sym end-is) (idle-unowned l v b k.lists.valid users.0 (none-idle l v b k.lists.valid users.0 users.1 e))))
 
     pub given-made : (t : List ℕ) → v ≢ 0 → AreUnowned l v (v + (b.size - 1)) → t ≡ given_store s v → IsMade s t tells (Ok minus_one) (freevec l v)
     given-made t some unowned is =
@@ -72,6 +72,6 @@ module _ (s : List ℕ) (tells : List ℕ → Type 0) (room : ℕ) (l : Lists) (
         (made-accepted s l (freevec_tests l v) made t tells (Ok minus_one) (tests-are false empty)
         (subst (λ z. IsMade s z tells (Ok minus_one) made) (sym is)
         (record {
-          leaves = record { lists = given-changed s l v k.lists idle; answer = refl };
+          leaves = record { lists = given-changed s l v k.lists idle; answered = refl };
           knows = knows-same tells l (with_given v l) (λ a. given-owners s l v k.lists idle a) k.knows;
         })))

@@ -2,12 +2,11 @@
 use Rattle.std.proofs.Common.{◌≡◌, ℕ, suc, ◌+◌, ◌-◌, ◌<◌, ◌≤◌, ◌&&◌, ◌||◌, List, [], ◌∷◌, ◌++◌, cond, eqb, not, Bool, true, false, Option, Some, None, inl, inr, refl, sym, ap, ◌∙◌, subst, arith}
 use Rattle.std.specs.List.{AllByRecursion, flat_map, list_any, range_with_len}
 use Rattle.std.proofs.lemmas.Bool.{and_from, and_parts, eq-eqb, lt-ltb}
-use Rattle.std.proofs.lemmas.Grind.{flat_map-append}
+use Rattle.linked_list.specs.Count.{hit}
 use Rattle.owned_words.specs.Owned.{Pairs, owners}
-use Rattle.owned_words.proofs.OwnedWords.{owners-append}
 use Rattle.getvec_chain.specs.declared.pieces.Block.{Block}
 use Rattle.getvec_chain.specs.Block.{block_end, free_block, has_data, is_used_at}
-use Rattle.getvec_chain.specs.BlockWords.{block_words, blocks_words}
+use Rattle.getvec_chain.specs.BlockWords.{blocks_words}
 use Rattle.getvec_chain.specs.Give.{given}
 use Rattle.getvec_chain.specs.Tiling.{Follow, Tiles, holding, used_at}
 use Rattle.getvec_chain.proofs.Splits.{GiveSplit, give_split}
@@ -36,18 +35,20 @@ use Rattle.block_calls.specs.Freevec.{lies_in}
 
 -- ---- an idle block
 
+-- blocks that begin at the same words own the same
+owners-put : (a : ℕ) (before : List Block) (b c : Block) (after : List Block) → b.start ≡ c.start → owners a (blocks_words (before ++ (b ∷ after))) ≡ owners a (blocks_words (before ++ (c ∷ after)))
+owners-put a [] b c after e = ap (λ n. hit a n + owners a (blocks_words after)) e
+owners-put a (z ∷ zs) b c after e = ap (λ n. hit a z.start + n) (owners-put a zs b c after e)
+
 -- where it were free, nobody would own its data; and the same words are owned
-pub idle-unowned : (l : Lists) (v : ℕ) → AreValid l → (i : IsIdleBlock l v) → AreUnowned l v (block_end i.block)
-idle-unowned l v valid i a low high =
+pub idle-unowned : (l : Lists) (v : ℕ) (b : Block) → AreValid l → used_at v l.blocks ≡ Some b → IsIdleBlock l v → AreUnowned l v (block_end b)
+idle-unowned l v b valid used i a low high =
     let m : Lists = with_blocks (given v l.blocks) l in
-    let p : GiveSplit l.blocks (given v l.blocks) i.block = give_split (store_of l.blocks (l.size - 2)) 200 l.blocks v i.block (store-Tiles 200 l.blocks (l.size - 2) valid.blocks) i.used in
-    let start : i.block.start + 1 ≡ v = (is_used_at-true v i.block (find-passes (is_used_at v) l.blocks i.block i.used)).1 in
-    let none : owners a (owned m) ≡ 0 = free-data m p.before (free_block i.block.start i.block.size) p.after a (given-valid l v valid i) p.new_is refl (omega (arith, start, low)) high in
-    let parts : (b : Block) → owners a (blocks_words (p.before ++ (b ∷ p.after))) ≡ owners a (blocks_words p.before) + (owners a (block_words b) + owners a (blocks_words p.after)) =
-    λ b. ap (owners a) (flat_map-append block_words p.before (b ∷ p.after)) ∙ owners-append a (blocks_words p.before) (blocks_words (b ∷ p.after))
-    in
+    let p : GiveSplit l.blocks (given v l.blocks) b = give_split (store_of l.blocks (l.size - 2)) 200 l.blocks v b (store-Tiles 200 l.blocks (l.size - 2) valid.blocks) used in
+    let start : b.start + 1 ≡ v = (is_used_at-true v b (find-passes (is_used_at v) l.blocks b used)).1 in
+    let none : owners a (owned m) ≡ 0 = free-data m p.before (free_block b.start b.size) p.after a (given-valid l v valid i) p.new_is refl (omega (arith, start, low)) high in
     let same : owners a (blocks_words (given v l.blocks)) ≡ owners a (blocks_words l.blocks) =
-    ap (λ bs. owners a (blocks_words bs)) p.new_is ∙ parts (free_block i.block.start i.block.size) ∙ sym (parts i.block) ∙ sym (ap (λ bs. owners a (blocks_words bs)) p.old_is)
+    ap (λ bs. owners a (blocks_words bs)) p.new_is ∙ owners-put a p.before (free_block b.start b.size) b p.after refl ∙ sym (ap (λ bs. owners a (blocks_words bs)) p.old_is)
     in
     omega (arith, none, owned-blocks a l 0 0 (given v l.blocks) (ap (λ n. n + 0) same))
 

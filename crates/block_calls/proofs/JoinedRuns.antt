@@ -1,5 +1,5 @@
 -- The size words of a run of free blocks: that of its front, and those of the blocks that are joined to it.
-use Rattle.std.proofs.Common.{◌≡◌, ℕ, zero, suc, ◌+◌, ◌-◌, ◌<◌, ◌≤◌, ◌⊎◌, ◌&&◌, List, [], ◌∷◌, ◌++◌, cond, ltb, Bool, true, false, inl, inr, refl, sym, ap, ◌∙◌, subst, arith, append_assoc}
+use Rattle.std.proofs.Common.{◌≡◌, ℕ, zero, suc, ◌+◌, ◌-◌, ◌<◌, ◌≤◌, ◌⊎◌, ◌&&◌, List, [], ◌∷◌, ◌++◌, cond, ltb, Bool, true, false, inl, inr, refl, sym, ap, ◌∙◌, subst, arith, append-nil, append_assoc}
 use Rattle.std.specs.List.{flat_map}
 use Rattle.std.proofs.lemmas.Bool.{and_parts, cases_eq, cases_lt, le-ltb, lt-ltb}
 use Rattle.std.proofs.lemmas.Bool.Decides.{nat_tests}
@@ -14,7 +14,7 @@ use Rattle.getvec_chain.specs.Block.{block_end}
 use Rattle.getvec_chain.specs.BlockWords.{block_words, blocks_words}
 use Rattle.getvec_chain.specs.Run.{AreFree}
 use Rattle.getvec_chain.specs.Take.{left_over}
-use Rattle.getvec_chain.specs.Tiling.{Follow, Tiles}
+use Rattle.getvec_chain.specs.Tiling.{Follow, IsTiled, Tiles, blocks_in}
 use Rattle.kernel_model.proofs.BlockStarts.{InFree, in-free, starts-once, starts-within}
 use Rattle.kernel_model.proofs.FollowedBlocks.{member-data}
 use Rattle.block_calls.specs.ToldWords.{joined_start, joined_starts, rest_start}
@@ -154,8 +154,15 @@ tiles-from s at [] b back t = (refl, t.1, t.2)
 tiles-from s at (f ∷ fs) b back t = tiles-from s (block_end f) fs b back t.2
 
 -- so what was joined up to a block behind the run is all
-pub joined-so_far : (s : List ℕ) (run : Run) (front : List Block) (b : Block) (back : List Block) → Tiles s 200 (front ++ b ∷ back) → run.end ≤ b.start
-    → joined_starts run (front ++ b ∷ back) ≡ joined_starts run front ++ []
-joined-so_far s run front b back t behind =
-    flat_map-append (joined_start run) front (b ∷ back)
-    ∙ ap (λ z. joined_starts run front ++ z) (joined-behind s run b.start (b ∷ back) (tiles-from s 200 front b back t) behind)
+pub joined-so_far : (s : List ℕ) (run : Run) (front items : List Block) (b : Block) (back : List Block) → IsTiled s → blocks_in s ≡ front ++ items → items ≡ b ∷ back → run.end ≤ b.start
+    → joined_starts run (blocks_in s) ≡ joined_starts run front
+joined-so_far s run front items b back t all is behind =
+    let whole : blocks_in s ≡ front ++ b ∷ back = all ∙ ap (λ z. front ++ z) is in
+    ap (joined_starts run) whole
+    ∙ flat_map-append (joined_start run) front (b ∷ back)
+    ∙ ap (λ z. joined_starts run front ++ z) (joined-behind s run b.start (b ∷ back) (tiles-from s 200 front b back (subst (Tiles s 200) whole t)) behind)
+    ∙ append-nil (joined_starts run front)
+
+-- one more block
+pub joined-more : (run : Run) (bs : List Block) (b : Block) → joined_starts run bs ++ joined_start run b ≡ joined_starts run (bs ++ b ∷ [])
+joined-more run bs b = sym (flat_map-append (joined_start run) bs (b ∷ []) ∙ ap (λ z. joined_starts run bs ++ z) (append-nil (joined_start run b)))

@@ -1,10 +1,9 @@
 -- What a keeper that knows the words of lists marks: the words that they own.
-use Rattle.std.proofs.Common.{◌≡◌, ℕ, ◌+◌, ◌^◌, ◌<◌, ◌≤◌, ◌&&◌, List, [], ◌∷◌, map, cond, eqb, leb, Bool, true, false, inl, inr, refl, sym, ap, ◌∙◌, subst, arith}
+use Rattle.std.proofs.Common.{◌≡◌, ℕ, ◌+◌, ◌^◌, ◌%◌, ◌<◌, ◌≤◌, ◌&&◌, List, [], ◌∷◌, map, cond, eqb, leb, Bool, true, false, inl, inr, refl, sym, ap, ◌∙◌, subst, arith}
 use Rattle.std.specs.Prelude.{◌↔◌, IsTrue}
 use Rattle.std.proofs.lemmas.Bool.{and_parts, cases_lt, false_from_ne_true, leb-true}
 use Rattle.linked_list.specs.Count.{hit, times}
 use Rattle.owned_words.specs.Owned.{Pairs, owners}
-use Rattle.session_text.specs.Ranges.{most_words}
 use Rattle.kernel_model.specs.ChangedStore.{HasKeeper, Knows}
 use Rattle.kernel_model.specs.Changes.{AreUnowned}
 use Rattle.kernel_model.specs.HoldsLists.{HoldsLists}
@@ -30,10 +29,14 @@ tells-owned tells l knows = knows (addresses (owned l)) (λ a. times-addresses a
 
 -- a store has fewer than 2 ^ 32 words
 pub size-low : (l : Lists) → AreValid l → l.size < 2 ^ 32
-size-low l v =
-    let le : leb l.size (most_words l.version) ≡ true = (and_parts (leb 1024 l.size) (leb l.size (most_words l.version)) (and_parts (leb 1024 l.size && leb l.size (most_words l.version)) _ v.numbers.size).0).1 in
-    let most : most_words l.version ≤ 4194304 = elim (eqb l.version 1) as (λ b. cond b 262144 4194304 ≤ 4194304) [ true ↦ omega arith | false ↦ omega arith ] in
-    omega (arith, leb-true l.size (most_words l.version) le, most)
+size-low l v = on (eqb l.version 1) (and_parts (leb 1024 l.size) (leb l.size most) (and_parts (leb 1024 l.size && leb l.size most) (eqb (l.size % 2) 0) v.numbers.size).0).1
+  where
+    most : ℕ
+    most = cond (eqb l.version 1) 262144 4194304
+
+    on : (b : Bool) → leb l.size (cond b 262144 4194304) ≡ true → l.size < 2 ^ 32
+    on true le = omega (arith, leb-true l.size 262144 le)
+    on false le = omega (arith, leb-true l.size 4194304 le)
 
 -- so words that are clear of marks are unowned, and the other way round
 pub clear-unowned : (marks : ℕ → Bool) (l : Lists) (a b : ℕ) → AreValid l → ((c : ℕ) → marks c ≡ true ↔ 0 < times c (addresses (owned l))) → AreClear marks a b ↔ AreUnowned l a b

@@ -1,17 +1,17 @@
 -- A keeper that was told of a take knows the words of the lists once the block was taken.
 use Rattle.std.proofs.Common.{◌≡◌, ℕ, ◌+◌, ◌-◌, ◌<◌, ◌≤◌, List, [], ◌∷◌, ◌++◌, length, Some, refl, sym, ap, ◌∙◌, subst, arith}
+use Rattle.std.proofs.lemmas.Grind.{flat_map-append}
 use Rattle.linked_list.specs.Count.{hit, times}
 use Rattle.owned_words.specs.Owned.{owners}
 use Rattle.owned_words.proofs.OwnedWords.{owners-append}
 use Rattle.getvec_chain.specs.declared.pieces.Block.{Block}
 use Rattle.getvec_chain.specs.declared.pieces.Run.{Run}
-use Rattle.getvec_chain.specs.BlockWords.{TakeExchange, blocks_words, taken_words}
+use Rattle.getvec_chain.specs.BlockWords.{block_words, blocks_words}
 use Rattle.getvec_chain.specs.Run.{first_run, need}
-use Rattle.getvec_chain.specs.Take.{IsTaken, left_over, taken, taken_store}
+use Rattle.getvec_chain.specs.Take.{split_run, taken}
 use Rattle.getvec_chain.specs.Tiling.{Follow, blocks_in}
-use Rattle.getvec_chain.proofs.AfterTake.{after_take}
-use Rattle.getvec_chain.proofs.BlockExchanges.{take-exchange}
 use Rattle.getvec_chain.proofs.Runs.{FoundRun, first_run-found, need-even}
+use Rattle.getvec_chain.proofs.Splits.{TakeSplit, take_split}
 use Rattle.kernel_model.specs.ChangedStore.{Knows}
 use Rattle.kernel_model.specs.HoldsLists.{HoldsLists}
 use Rattle.kernel_model.specs.Lists.{Lists}
@@ -27,9 +27,6 @@ module _ (s : List ℕ) (l : Lists) (u : ℕ) (run : Run) (h : HoldsLists s l) (
   abbrev n : ℕ
   n = need u
 
-  abbrev t : List ℕ
-  t = taken_store s run n
-
   abbrev gone : List ℕ
   gone = joined_starts run (blocks_in s)
 
@@ -39,46 +36,55 @@ module _ (s : List ℕ) (l : Lists) (u : ℕ) (run : Run) (h : HoldsLists s l) (
   r : ReadsLists s l
   r = reads s l h
 
-  is_taken : IsTaken s t u (run.start + 1)
-  is_taken = record { run = run; first = first; front = refl; words = refl }
-
-  x : TakeExchange s t u
-  x = take-exchange s t u (run.start + 1) r.tiled is_taken
+  split : TakeSplit n (blocks_in s) (taken n (blocks_in s)) run
+  split = take_split s n 200 (blocks_in s) run r.tiled first
 
   pub found : FoundRun s n 200 run
   found = first_run-found s n 200 (blocks_in s) run r.tiled first
 
-  free-is : (a : ℕ) → owners a (blocks_words x.free) ≡ times a gone + hit a run.start
+  free-is : (a : ℕ) → owners a (blocks_words split.free) ≡ times a gone + hit a run.start
   free-is a =
-      subst (λ bs. owners a (blocks_words x.free) ≡ times a (joined_starts run bs) + hit a run.start) (sym x.is)
-      (run-starts a run x.before x.free x.after (l.size - 2) (subst (λ bs. Follow 200 bs (l.size - 2)) (sym r.blocks ∙ x.is) h.valid.blocks) x.fills x.are_free
+      subst (λ bs. owners a (blocks_words split.free) ≡ times a (joined_starts run bs) + hit a run.start) (sym split.old_is)
+      (run-starts a run split.before split.free split.after (l.size - 2) (subst (λ bs. Follow 200 bs (l.size - 2)) (sym r.blocks ∙ split.old_is) h.valid.blocks) split.fills split.are_free
       (omega (arith, found.enough, (need-even u).0)))
 
-  new-is : (a : ℕ) → owners a (taken_words run n) ≡ times a rest + hit a run.start
-  new-is a =
+  abbrev parts : List Block
+  parts = split_run run.start run.end n
+
+  new-is : (a : ℕ) → owners a (blocks_words parts) ≡ times a rest + hit a run.start
+  new-is a = omega (arith, rest-starts a (run.start + n) run.end)
+
+  -- how often some blocks begin at an address
+  joined : (a : ℕ) (xs : List Block) → owners a (blocks_words (split.before ++ (xs ++ split.after))) ≡ owners a (blocks_words split.before) + (owners a (blocks_words xs) + owners a (blocks_words split.after))
+  joined a xs =
       omega (
         arith,
-        owners-append a (blocks_words (left_over (run.start + n) (run.end - (run.start + n)))) ((run.start, n) ∷ []),
-        rest-starts a (run.start + n) run.end,
+        ap (owners a) (flat_map-append block_words split.before (xs ++ split.after)),
+        ap (owners a) (flat_map-append block_words xs split.after),
+        owners-append a (blocks_words split.before) (blocks_words (xs ++ split.after)),
+        owners-append a (blocks_words xs) (blocks_words split.after),
       )
 
-  blocks-count : (a : ℕ) → owners a (blocks_words (taken n l.blocks)) + owners a (blocks_words x.free) ≡ owners a (blocks_words l.blocks) + owners a (taken_words run n)
+  old-count : (a : ℕ) → owners a (blocks_words l.blocks) ≡ owners a (blocks_words split.before) + (owners a (blocks_words split.free) + owners a (blocks_words split.after))
+  old-count a = ap (λ bs. owners a (blocks_words bs)) (sym r.blocks ∙ split.old_is) ∙ joined a split.free
+
+  new-count : (a : ℕ) → owners a (blocks_words (taken n l.blocks)) ≡ owners a (blocks_words split.before) + (owners a (blocks_words parts) + owners a (blocks_words split.after))
+  new-count a = ap (λ bs. owners a (blocks_words bs)) (ap (taken n) (sym r.blocks) ∙ split.new_is) ∙ joined a parts
+
+  blocks-count : (a : ℕ) → owners a (blocks_words (taken n l.blocks)) + owners a (blocks_words split.free) ≡ owners a (blocks_words l.blocks) + owners a (blocks_words parts)
   blocks-count a =
-      let become : blocks_in t ≡ taken n l.blocks = (after_take s t u (run.start + 1) r.tiled is_taken).blocks ∙ ap (taken n) r.blocks in
-      omega (
-        arith,
-        x.exchange.first.count a,
-        x.exchange.then'.count a,
-        ap (λ bs. owners a (blocks_words bs)) r.blocks,
-        ap (λ bs. owners a (blocks_words bs)) become,
-      )
+      plain (owners a (blocks_words (taken n l.blocks))) (owners a (blocks_words split.free)) (owners a (blocks_words l.blocks)) (owners a (blocks_words parts))
+      (owners a (blocks_words split.before)) (owners a (blocks_words split.after)) (old-count a) (new-count a)
+    where
+      plain : (m f w p b e : ℕ) → w ≡ b + (f + e) → m ≡ b + (p + e) → m + f ≡ w + p
+      plain m f w p b e old new = omega arith
 
   -- the starts of joined blocks are owned no more, and that of the rest is
   pub owners-told : (a : ℕ) → owners a (owned (with_taken u l)) + times a gone ≡ owners a (owned l) + times a rest
   owners-told a =
       omega (
         arith,
-        owned-blocks a l (owners a (blocks_words x.free)) (owners a (taken_words run n)) (taken n l.blocks) (blocks-count a),
+        owned-blocks a l (owners a (blocks_words split.free)) (owners a (blocks_words parts)) (taken n l.blocks) (blocks-count a),
         free-is a,
         new-is a,
       )
@@ -88,8 +94,7 @@ module _ (s : List ℕ) (l : Lists) (u : ℕ) (run : Run) (h : HoldsLists s l) (
       omega (
         arith,
         free-is a,
-        x.exchange.first.count a,
-        ap (λ bs. owners a (blocks_words bs)) r.blocks,
+        old-count a,
         owners-owned a l,
       )
 

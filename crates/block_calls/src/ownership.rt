@@ -1,5 +1,5 @@
 // Whether words are the kernel's, by what a keeper of kinds knows.
-ghost use Rattle.std.specs.Prelude.{◌≤◌, ◌+◌, ◌↔◌, IsTrue, length};
+ghost use Rattle.std.specs.Prelude.{◌+◌, ◌↔◌, IsTrue};
 ghost use Rattle.kernel_model.specs.ChangedStore.{HasKeeper};
 ghost use Rattle.kernel_model.specs.Changes.{AreUnowned};
 ghost use Rattle.kernel_model.specs.Lists.{Lists};
@@ -7,10 +7,9 @@ ghost use Rattle.kernel_model.specs.Lists.{Lists};
 use word_kinds::{KindKeeper, clear};
 use word_store::Store;
 
-/// Whether the kernel owns none of the n words from a on, which lie in the store.
+/// Whether the kernel owns none of the n words from a on.
 pub fn are_unowned<Q: KindKeeper>(store: &Store, kinds: &Q, a: u32, n: u32) -> bool
-    requires keeper { (l : Lists) × HasKeeper store.now (Q.tells kinds.now) (Q.room kinds.now) l }
-    requires inside { a + n ≤ length store.now }
+    requires { (l : Lists) × HasKeeper store.now (Q.tells kinds.now) (Q.room kinds.now) l }
     ensures { (l : Lists) → HasKeeper store.now (Q.tells kinds.now) (Q.room kinds.now) l
         → IsTrue result ↔ AreUnowned l a (a + n) }
 {

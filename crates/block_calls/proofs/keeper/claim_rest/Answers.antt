@@ -4,8 +4,8 @@ use Rattle.block_calls.specs.ToldWords.{WasClaimed}
 use Rattle.block_calls.proofs.ToldWords.{claimed-none, claimed-one}
 use Rattle.block_calls.proofs.keeper.claim_rest.Goals as goal
 
-pub returns-then-rest-clause-claimed : goal.returns-then-rest-clause-claimed
-returns-then-rest-clause-claimed g c =
+pub returns-then-rest-end-clause-claimed : goal.returns-then-rest-end-clause-claimed
+returns-then-rest-end-clause-claimed g c =
     subst (λ b. WasClaimed (g.Q.KindKeeper.tells c.args.kinds.now) (g.Q.KindKeeper.tells c.args.kinds.now) (cond b (c.args.rest ∷ []) []))
     (sym (le-ltb c.args.rest c.args.end c.if-rest-end.true)) (claimed-none (g.Q.KindKeeper.tells c.args.kinds.now))
 
