@@ -1,5 +1,5 @@
 -- The use of a block, as a store tells it.
-use Rattle.std.proofs.Common.{◌≡◌, ℕ, ◌+◌, ◌-◌, List, [], ◌∷◌, ◌++◌, map, cond, eqb, not, ◌&&◌, ◌||◌, Bool, true, false, Option, Some, None, Ok, refl, sym, ap, ◌∙◌, arith}
+use Rattle.std.proofs.Common.{◌≡◌, ℕ, ◌+◌, ◌-◌, List, [], ◌∷◌, map, cond, eqb, not, ◌&&◌, ◌||◌, Bool, true, false, Option, Some, None, Ok, refl, sym, ap, ◌∙◌, arith}
 use Rattle.std.specs.Prelude.{is_some}
 use Rattle.std.specs.List.{AllByRecursion, flat_map, list_any}
 use Rattle.std.proofs.lemmas.Bool.{false≢true}
@@ -18,7 +18,6 @@ use Rattle.kernel_model.specs.BlockUse.Use.{Free, OfCoroutine, OfModule, OfResid
 use Rattle.kernel_model.specs.HoldsLists.{HoldsLists}
 use Rattle.kernel_model.specs.KernelRanges.{has_residents}
 use Rattle.kernel_model.specs.Lists.{Lists}
-use Rattle.kernel_model.specs.ReadsLists.{ReadsLists}
 use Rattle.kernel_model.specs.Task.{Task, task_address}
 use Rattle.kernel_model.proofs.BlockStarts.{holding-used_at}
 use Rattle.kernel_model.proofs.EachMember.{find-passes}

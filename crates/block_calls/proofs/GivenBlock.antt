@@ -1,12 +1,11 @@
 -- What the call that gives a block back makes, by its tests.
-use Rattle.std.proofs.Common.{◌≡◌, ◌≢◌, ℕ, ◌+◌, ◌-◌, List, cond, eqb, not, Bool, true, false, Some, None, Option, Result, Ok, Err, refl, sym, ap, ◌∙◌, subst, arith}
+use Rattle.std.proofs.Common.{◌≡◌, ◌≢◌, ℕ, ◌+◌, ◌-◌, List, cond, not, Bool, true, false, Some, None, Result, Ok, Err, refl, sym, ap, ◌∙◌, subst, arith}
 use Rattle.std.specs.Prelude.{◌&&◌, is_some}
 use Rattle.std.specs.List.{list_any}
 use Rattle.std.proofs.lemmas.Bool.{ne_eqb}
 use Rattle.getvec_chain.specs.declared.pieces.Block.{Block}
 use Rattle.getvec_chain.specs.Block.{block_end, is_used_at}
 use Rattle.getvec_chain.specs.Give.{given_store}
-use Rattle.getvec_chain.specs.Tiling.{used_at}
 use Rattle.getvec_chain.proofs.UsedBlocks.{is_used_at-true}
 use Rattle.kernel_model.specs.BlockUse.{use_of_data}
 use Rattle.kernel_model.specs.BlockUse.Use.{User}

@@ -1,14 +1,14 @@
 -- A user's block, in which nobody owns a word exactly where no packet lies in it.
-use Rattle.std.proofs.Common.{◌≡◌, ℕ, suc, ◌+◌, ◌-◌, ◌<◌, ◌≤◌, ◌&&◌, ◌||◌, List, [], ◌∷◌, ◌++◌, cond, eqb, not, Bool, true, false, Option, Some, None, inl, inr, refl, sym, ap, ◌∙◌, subst, arith}
+use Rattle.std.proofs.Common.{◌≡◌, ℕ, ◌+◌, ◌-◌, ◌<◌, ◌||◌, List, [], ◌∷◌, ◌++◌, eqb, Bool, true, false, Option, Some, refl, sym, ap, ◌∙◌, arith}
 use Rattle.std.specs.List.{AllByRecursion, flat_map, list_any, range_with_len}
-use Rattle.std.proofs.lemmas.Bool.{and_from, and_parts, eq-eqb, lt-ltb}
+use Rattle.std.proofs.lemmas.Bool.{eq-eqb}
 use Rattle.linked_list.specs.Count.{hit}
-use Rattle.owned_words.specs.Owned.{Pairs, owners}
+use Rattle.owned_words.specs.Owned.{owners}
 use Rattle.getvec_chain.specs.declared.pieces.Block.{Block}
 use Rattle.getvec_chain.specs.Block.{block_end, free_block, has_data, is_used_at}
 use Rattle.getvec_chain.specs.BlockWords.{blocks_words}
 use Rattle.getvec_chain.specs.Give.{given}
-use Rattle.getvec_chain.specs.Tiling.{Follow, Tiles, holding, used_at}
+use Rattle.getvec_chain.specs.Tiling.{Follow, holding, used_at}
 use Rattle.getvec_chain.proofs.Splits.{GiveSplit, give_split}
 use Rattle.getvec_chain.proofs.UsedBlocks.{has_data-true, is_used_at-true}
 use Rattle.packet_queue.specs.QueueWords.{QueuedPacket}
@@ -18,7 +18,6 @@ use Rattle.kernel_model.specs.BlockUse.Use.{User}
 use Rattle.kernel_model.specs.Changes.{AreUnowned, IsIdleBlock, with_blocks}
 use Rattle.kernel_model.specs.Lists.{Lists, queued}
 use Rattle.kernel_model.specs.Owned.{owned}
-use Rattle.kernel_model.specs.Task.{Task}
 use Rattle.kernel_model.specs.ValidBlocks.{AreData}
 use Rattle.kernel_model.specs.ValidLists.{AreValid}
 use Rattle.kernel_model.specs.ValidQueues.Place.{Clock, Keyboard, Output, Pending, Work}

@@ -1,10 +1,10 @@
 -- What the call that takes a block makes.
-use Rattle.std.proofs.Common.{◌≡◌, ℕ, ◌+◌, List, [], cond, Option, Some, None, Result, Ok, Err, refl, sym, ap, ◌∙◌, subst}
+use Rattle.std.proofs.Common.{◌≡◌, ℕ, List, [], cond, Some, None, Result, Ok, Err, sym, ap, ◌∙◌, subst}
 use Rattle.std.specs.Prelude.{is_some}
 use Rattle.getvec_chain.specs.Run.{first_run, need}
 use Rattle.getvec_chain.specs.Take.{IsTaken}
 use Rattle.getvec_chain.specs.Tiling.{blocks_in}
-use Rattle.kernel_model.specs.ChangedStore.{HasKeeper, Knows}
+use Rattle.kernel_model.specs.ChangedStore.{Knows}
 use Rattle.kernel_model.specs.HoldsLists.{HoldsLists}
 use Rattle.kernel_model.specs.Lists.{Lists}
 use Rattle.call_answers.specs.Made.{IsMade, Made}

@@ -1,13 +1,12 @@
 -- What a keeper of kinds knows, once it was told of addresses that came or went.
-use Rattle.std.proofs.Common.{◌≡◌, ℕ, ◌+◌, ◌<◌, ◌≤◌, List, [], ◌∷◌, ◌++◌, cond, eqb, Bool, true, false, refl, sym, ap, ◌∙◌, subst, arith}
-use Rattle.std.specs.List.{flat_map, range_with_len}
+use Rattle.std.proofs.Common.{◌≡◌, ℕ, ◌+◌, ◌<◌, List, [], ◌∷◌, ◌++◌, cond, eqb, Bool, true, false, refl, ap, arith}
+use Rattle.std.specs.List.{range_with_len}
 use Rattle.std.proofs.lemmas.Bool.{eqb-true}
-use Rattle.std.proofs.lemmas.Grind.{flat_map-append}
 use Rattle.linked_list.specs.Count.{IsApart, hit, times}
 use Rattle.linked_list.specs.Places.{without}
 use Rattle.linked_list.proofs.Counts.{hit-same, times-append}
 use Rattle.word_kinds.specs.Keeper.{AreTogether}
-use Rattle.block_calls.specs.ToldWords.{KnowsCounts, WasClaimed, WasReleased}
+use Rattle.block_calls.specs.ToldWords.{WasClaimed, WasReleased}
 
 -- ---- released
 

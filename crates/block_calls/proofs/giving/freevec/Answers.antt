@@ -1,4 +1,4 @@
-use Rattle.std.proofs.Common.{◌≡◌, ◌∙◌, ◌+◌, ◌-◌, ◌≤◌, ℕ, List, Bool, true, false, Option, Some, None, Result, Ok, Err, refl, ap, sym, subst, arith}
+use Rattle.std.proofs.Common.{◌≡◌, ◌∙◌, ◌-◌, ◌≤◌, ℕ, List, Bool, true, false, Option, Some, None, Result, Ok, Err, refl, ap, subst, arith}
 use Rattle.std.specs.Prelude.{IsOk, OnErr, OnOk}
 use Rattle.std.proofs.lemmas.Result.{err_from_is_err_and}
 use Rattle.getvec_chain.specs.declared.pieces.Block.{Block}
@@ -8,10 +8,9 @@ use Rattle.getvec_chain.specs.Tiling.{blocks_in, used_at}
 use Rattle.kernel_model.specs.HoldsLists.{HoldsLists}
 use Rattle.kernel_model.specs.Lists.{Lists}
 use Rattle.kernel_model.proofs.FollowedBlocks.{found-within}
-use Rattle.call_answers.specs.Made.{plain_answer}
 use Rattle.call_answers.proofs.FoundTask.{reads}
 use Rattle.block_calls.specs.Freevec.{freevec}
-use Rattle.block_calls.proofs.GivenBlock.{given-made, given-no_users, given-nothing, given-packet, handed-plain}
+use Rattle.block_calls.proofs.GivenBlock.{given-made, given-no_users, given-packet, handed-plain}
 use Rattle.block_calls.proofs.giving.freevec.Goals as goal
 
 some-word : (l : Lists) (s : List ℕ) (v : ℕ) (b : Block) → HoldsLists s l → used_at v l.blocks ≡ Some b → 1 ≤ b.size

@@ -1,4 +1,4 @@
-use Rattle.std.proofs.Common.{List, [], ◌∷◌, cond, Bool, sym, subst, arith}
+use Rattle.std.proofs.Common.{[], ◌∷◌, cond, sym, subst, arith}
 use Rattle.std.proofs.lemmas.Bool.{le-ltb, lt-ltb}
 use Rattle.block_calls.specs.ToldWords.{WasClaimed}
 use Rattle.block_calls.proofs.ToldWords.{claimed-none, claimed-one}

@@ -1,5 +1,5 @@
-use Rattle.std.proofs.Common.{List, [], ◌∷◌, cond, Bool, ap, sym, ◌∙◌, subst}
-use Rattle.block_calls.specs.ToldWords.{WasReleased, is_joined}
+use Rattle.std.proofs.Common.{[], ◌∷◌, cond, sym, ◌∙◌, subst}
+use Rattle.block_calls.specs.ToldWords.{WasReleased}
 use Rattle.block_calls.proofs.ToldWords.{released-none, released-one}
 use Rattle.block_calls.proofs.keeper.release_start.Goals as goal
 

@@ -1,9 +1,9 @@
-use Rattle.std.proofs.Common.{◌≡◌, ◌∙◌, ◌≤◌, ℕ, length, List, Option, Some, None, Ok, ap, sym, subst, arith}
+use Rattle.std.proofs.Common.{◌≡◌, ℕ, List, Option, Some, None, Ok, arith}
 use Rattle.std.specs.Option.{ok_or}
 use Rattle.getvec_chain.specs.declared.pieces.Run.{Run}
 use Rattle.getvec_chain.specs.Run.{first_run, need}
 use Rattle.getvec_chain.specs.Tiling.{blocks_in}
-use Rattle.getvec_chain.proofs.Runs.{FoundRun, need-even}
+use Rattle.getvec_chain.proofs.Runs.{FoundRun}
 use Rattle.kernel_model.specs.HoldsLists.{HoldsLists}
 use Rattle.kernel_model.specs.Lists.{Lists}
 use Rattle.call_answers.proofs.FoundTask.{reads}
