@@ -1,0 +1,9 @@
+pub mod ToldWords
+pub mod JoinedRuns
+pub mod TakenStore
+pub mod TakenWords
+pub mod TakenBlock
+pub mod OwnedMarks
+pub mod IdleBlocks
+pub mod BlockUses
+pub mod GivenBlock

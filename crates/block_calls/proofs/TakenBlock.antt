@@ -1,0 +1,34 @@
+-- What the call that takes a block makes.
+use Rattle.std.proofs.Common.{◌≡◌, ℕ, List, [], cond, Some, None, Result, Ok, Err, sym, ap, ◌∙◌, subst}
+use Rattle.std.specs.Prelude.{is_some}
+use Rattle.getvec_chain.specs.Run.{first_run, need}
+use Rattle.getvec_chain.specs.Take.{IsTaken}
+use Rattle.getvec_chain.specs.Tiling.{blocks_in}
+use Rattle.kernel_model.specs.ChangedStore.{Knows}
+use Rattle.kernel_model.specs.HoldsLists.{HoldsLists}
+use Rattle.kernel_model.specs.Lists.{Lists}
+use Rattle.call_answers.specs.Made.{IsMade, Made}
+use Rattle.call_answers.proofs.FoundTask.{reads}
+use Rattle.call_answers.proofs.MadeCalls.{made-accepted, made-refused}
+use Rattle.block_calls.specs.FreeStore.{data_of_front, data_taken, with_taken}
+use Rattle.block_calls.specs.Getvec.{getvec, getvec_tests}
+use Rattle.block_calls.proofs.TakenStore.{HasTakenBlock, taken-changed}
+
+-- a code that `?` hands on
+pub handed-on : (s t : List ℕ) (tells : List ℕ → Type 0) (r : Result ℕ ℕ) (e code : ℕ) (m : Made) → r ≡ Err e → e ≡ code → IsMade s t tells (Err code) m → IsMade s t tells r m
+handed-on s t tells r e code m is same h = subst (λ z. IsMade s t tells z m) (sym (is ∙ ap Err same)) h
+
+module _ (s : List ℕ) (l : Lists) (u : ℕ) (h : HoldsLists s l) where
+  abbrev made : Made
+  made = record { answer = Ok (data_taken u l); lists = with_taken u l; plain = []; events = [] }
+
+  pub getvec-refused : (tells : List ℕ → Type 0) → Knows tells l → first_run (need u) (blocks_in s) ≡ None → IsMade s s tells (Err 1) (getvec l u)
+  getvec-refused tells knows none =
+      made-refused s l (getvec_tests l u) made tells 1 h knows
+      (ap (λ o. cond (is_some o) None (Some 1)) (ap (first_run (need u)) (sym (reads s l h).blocks) ∙ none))
+
+  pub getvec-made : (t : List ℕ) (v : ℕ) (told : List ℕ → Type 0) → Knows told (with_taken u l) → IsTaken s t u v → IsMade s t told (Ok v) (getvec l u)
+  getvec-made t v told knows is_taken =
+      let b : HasTakenBlock s t l u v = taken-changed s t l u v h is_taken in
+      made-accepted s l (getvec_tests l u) made t told (Ok v) (ap (λ o. cond (is_some o) None (Some 1)) b.first)
+      (record { leaves = record { lists = b.changed; answered = ap Ok (b.front ∙ ap data_of_front (sym b.first)) }; knows = knows })

@@ -1,0 +1,60 @@
+use Rattle.std.proofs.Common.{◌≡◌, ◌∙◌, ◌-◌, ◌≤◌, ℕ, List, Bool, true, false, Option, Some, None, Result, Ok, Err, refl, ap, subst, arith}
+use Rattle.std.specs.Prelude.{IsOk, OnErr, OnOk}
+use Rattle.std.proofs.lemmas.Result.{err_from_is_err_and}
+use Rattle.getvec_chain.specs.declared.pieces.Block.{Block}
+use Rattle.getvec_chain.specs.Block.{is_used_at}
+use Rattle.getvec_chain.specs.Give.{given_store}
+use Rattle.getvec_chain.specs.Tiling.{blocks_in, used_at}
+use Rattle.kernel_model.specs.HoldsLists.{HoldsLists}
+use Rattle.kernel_model.specs.Lists.{Lists}
+use Rattle.kernel_model.proofs.FollowedBlocks.{found-within}
+use Rattle.call_answers.proofs.FoundTask.{reads}
+use Rattle.block_calls.specs.Freevec.{freevec}
+use Rattle.block_calls.proofs.GivenBlock.{given-made, given-no_users, given-packet, handed-plain}
+use Rattle.block_calls.proofs.giving.freevec.Goals as goal
+
+some-word : (l : Lists) (s : List ℕ) (v : ℕ) (b : Block) → HoldsLists s l → used_at v l.blocks ≡ Some b → 1 ≤ b.size
+some-word l s v b h used = omega (arith, (found-within (is_used_at v) 200 l.blocks (l.size - 2) b h.valid.blocks used).some)
+
+-- the block is given back
+gives : {A E : Type 0} (r : Result A E) (o : Option Block) (b : Block) → OnErr r (o ≡ None) → o ≡ Some b → IsOk r
+gives (Ok a) o b none some = refl
+gives (Err e) o b none some = cc
+
+clash : (x : Bool) → x ≡ false → x ≡ true → ⊥
+clash x e f = cc
+
+pub returns-in_err-block : goal.returns-in_err-block
+returns-in_err-block g c = record {
+  made = λ l k.
+      let p = err_from_is_err_and c.from_residual.result c.from_residual.ensures.1 in
+      let none = c.in_err-block.ensures l k.lists in
+      handed-plain c.args.store.now c.args.store.now (g.Q.KindKeeper.tells c.args.kinds.now) c.from_residual.result p.0 (freevec l c.args.v) p.1
+      (given-no_users c.args.store.now (g.Q.KindKeeper.tells c.args.kinds.now) (g.Q.KindKeeper.room c.args.kinds.now) l c.args.v k p.0 c.if-v-eq0.false (none.0, p.2 ∙ none.1));
+}
+
+pub overflow_sub-block : goal.overflow_sub-block
+overflow_sub-block g c = some-word c.requires.0 c.args.store.now c.args.v c.in_ok-block.block c.requires.1.lists (c.in_ok-block.ensures c.requires.0 c.requires.1.lists).0
+
+pub returns-then-not-are_unowned : goal.returns-then-not-are_unowned
+returns-then-not-are_unowned g c = record {
+  made = λ l k.
+      given-packet c.args.store.now (g.Q.KindKeeper.tells c.args.kinds.now) (g.Q.KindKeeper.room c.args.kinds.now) l c.args.v k c.in_ok-block.block (c.in_ok-block.ensures l k.lists)
+      c.if-v-eq0.false (λ unowned. clash c.are_unowned.result c.if-not-are_unowned.true ((c.are_unowned.ensures l k).1 unowned));
+}
+
+pub give-requires : goal.give-requires
+give-requires g c = (reads c.args.store.now c.requires.0 c.requires.1.lists).tiled
+
+pub unwrap-requires : goal.unwrap-requires
+unwrap-requires g c =
+    gives c.give.result (used_at c.args.v (blocks_in c.args.store.now)) c.in_ok-block.block c.give.ensures.not_a_block
+    (ap (used_at c.args.v) (reads c.args.store.now c.requires.0 c.requires.1.lists).blocks ∙ (c.in_ok-block.ensures c.requires.0 c.requires.1.lists).0)
+
+pub returns : goal.returns
+returns g c = record {
+  made = λ l k.
+      given-made c.args.store.now (g.Q.KindKeeper.tells c.args.kinds.now) (g.Q.KindKeeper.room c.args.kinds.now) l c.args.v k c.in_ok-block.block (c.in_ok-block.ensures l k.lists)
+      c.give.new.store c.if-v-eq0.false ((c.are_unowned.ensures l k).0 c.if-not-are_unowned.false)
+      (subst (λ r. OnOk r (c.give.new.store ≡ given_store c.args.store.now c.args.v)) c.unwrap.ensures c.give.ensures.words);
+}

@@ -1,0 +1,10 @@
+use Rattle.std.proofs.Common.{◌≡◌, ◌++◌}
+use Rattle.getvec_chain.specs.Tiling.{blocks_in}
+use Rattle.block_calls.specs.ToldWords.{WasReleased, joined_starts}
+use Rattle.block_calls.proofs.keeper.release_joined.Given as goal
+
+abbrev pub invariant-loop-block : goal.invariant-loop-block
+invariant-loop-block g l =
+    WasReleased (g.Q.KindKeeper.tells l.fn.kinds) (g.Q.KindKeeper.tells l.kinds) (joined_starts l.run l.yielded)
+    × (g.Q.KindKeeper.room l.kinds ≡ g.Q.KindKeeper.room l.fn.kinds)
+    × (blocks_in l.store ≡ l.yielded ++ l.block-iterator)

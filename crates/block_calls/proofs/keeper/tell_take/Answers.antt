@@ -1,0 +1,53 @@
+use Rattle.std.proofs.Common.{◌≡◌, ℕ, List, Option, Some, None, Ok, arith}
+use Rattle.std.specs.Option.{ok_or}
+use Rattle.getvec_chain.specs.declared.pieces.Run.{Run}
+use Rattle.getvec_chain.specs.Run.{first_run, need}
+use Rattle.getvec_chain.specs.Tiling.{blocks_in}
+use Rattle.getvec_chain.proofs.Runs.{FoundRun}
+use Rattle.kernel_model.specs.HoldsLists.{HoldsLists}
+use Rattle.kernel_model.specs.Lists.{Lists}
+use Rattle.call_answers.proofs.FoundTask.{reads}
+use Rattle.block_calls.proofs.OwnedMarks.{size-low}
+use Rattle.block_calls.proofs.TakenWords.{found, knows-take}
+use Rattle.block_calls.proofs.keeper.tell_take.Goals as goal
+
+-- the run that the `?` lets through is the first one
+first : (o p : Option Run) (run : Run) (e : ℕ) → Ok run ≡ ok_or o e → o ≡ p → p ≡ Some run
+first None p run e is same = cc
+first (Some a) p run e is same = cc
+
+-- and it lies in the store
+inside : (s : List ℕ) (l : Lists) (u : ℕ) (o : Option Run) (run : Run) (e : ℕ) → HoldsLists s l → Ok run ≡ ok_or o e → o ≡ first_run (need u) (blocks_in s) → FoundRun s (need u) 200 run
+inside s l u o run e h is same = found s l u run h (first o (first_run (need u) (blocks_in s)) run e is same)
+
+pub first_run-requires : goal.first_run-requires
+first_run-requires g c = (reads c.args.store.now c.requires.0 c.requires.1.lists).tiled
+
+pub overflow_add-rest : goal.overflow_add-rest
+overflow_add-rest g c =
+    let f = inside c.args.store.now c.requires.0 c.args.u _ c.in_ok-run.run' _ c.requires.1.lists c.in_ok-run.ensures.value c.first_run.ensures in
+    omega (arith, f.enough, f.low, f.inside, size-low c.requires.0 c.requires.1.lists.valid, c.requires.1.lists.size)
+
+pub overflow_mul-rest : goal.overflow_mul-rest
+overflow_mul-rest g c =
+    let f = inside c.args.store.now c.requires.0 c.args.u _ c.in_ok-run.run' _ c.requires.1.lists c.in_ok-run.ensures.value c.first_run.ensures in
+    omega (arith, f.enough, f.low, f.inside, size-low c.requires.0 c.requires.1.lists.valid, c.requires.1.lists.size)
+
+pub overflow_add-rest-2 : goal.overflow_add-rest-2
+overflow_add-rest-2 g c =
+    let f = inside c.args.store.now c.requires.0 c.args.u _ c.in_ok-run.run' _ c.requires.1.lists c.in_ok-run.ensures.value c.first_run.ensures in
+    omega (arith, f.enough, f.low, f.inside, size-low c.requires.0 c.requires.1.lists.valid, c.requires.1.lists.size)
+
+pub release_joined-requires : goal.release_joined-requires
+release_joined-requires g c = (reads c.args.store.now c.requires.0 c.requires.1.lists).tiled
+
+pub claim_rest-requires : goal.claim_rest-requires
+claim_rest-requires g c =
+    let f = inside c.args.store.now c.requires.0 c.args.u _ c.in_ok-run.run' _ c.requires.1.lists c.in_ok-run.ensures.value c.first_run.ensures in
+    omega (arith, f.inside, c.requires.1.enough, c.release_joined.ensures.room)
+
+pub returns-clause-knows : goal.returns-clause-knows
+returns-clause-knows g c = λ l k.
+    knows-take c.args.store.now l c.args.u c.in_ok-run.run' k.lists (first _ (first_run (need c.args.u) (blocks_in c.args.store.now)) c.in_ok-run.run' _ c.in_ok-run.ensures.value c.first_run.ensures)
+    (g.Q.KindKeeper.tells c.args.kinds.now) (g.Q.KindKeeper.tells c.release_joined.new.kinds) (g.Q.KindKeeper.tells c.claim_rest.new.kinds) k.knows
+    c.release_joined.ensures.released c.claim_rest.ensures.claimed

@@ -1,0 +1,7 @@
+use Rattle.std.proofs.Common.{◌≡◌}
+use Rattle.linked_list.specs.Places.{has}
+use Rattle.task_block.specs.TaskChain.{tasks_in}
+use Rattle.block_calls.proofs.uses.is_task.Given as goal
+
+abbrev pub invariant-loop-t : goal.invariant-loop-t
+invariant-loop-t l = has l.v (tasks_in l.store) ≡ has l.v l.t-iterator

@@ -1,0 +1,24 @@
+// A block is taken.
+ghost use Rattle.std.specs.Prelude.{◌≡◌};
+ghost use Rattle.kernel_model.specs.ChangedStore.{HasKeeper};
+ghost use Rattle.kernel_model.specs.Lists.{Lists};
+ghost use Rattle.call_answers.specs.Made.{IsMade};
+ghost use Rattle.block_calls.specs.Getvec.{getvec};
+
+use crate::keeper::tell_take;
+use getvec_chain::take;
+use word_kinds::KindKeeper;
+use word_store::Store;
+
+/// Takes a block with the data words 0 to u from the first run of free blocks that is large enough. The answer is the
+/// address of its data. Refused where no run is large enough (1).
+pub fn getvec<Q: KindKeeper>(store: &mut Store, kinds: &mut Q, u: u32) -> Result<u32, u32>
+    requires { (l : Lists) × HasKeeper store.old (Q.tells kinds.old) (Q.room kinds.old) l }
+    ensures made { (l : Lists)
+        → HasKeeper store.old (Q.tells kinds.old) (Q.room kinds.old) l
+        → IsMade store.old store.new (Q.tells kinds.new) result (getvec l u) }
+    ensures room { Q.room kinds.new ≡ Q.room kinds.old }
+{
+    tell_take(store, kinds, u)?;
+    Ok(take(store, u).unwrap())
+}

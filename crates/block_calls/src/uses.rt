@@ -1,0 +1,109 @@
+// What a block is used for.
+ghost use Rattle.std.specs.Prelude.{◌≡◌, ◌&&◌, ◌==◌, not, slice_index, true};
+ghost use Rattle.std.specs.List.{AllByRecursion, list_any};
+ghost use Rattle.linked_list.specs.Places.{has};
+ghost use Rattle.linked_list.specs.Walk.{CanWalk};
+ghost use Rattle.task_block.specs.Lists.{coroutines_in, module_link, modules_in};
+ghost use Rattle.task_block.specs.RootWords.{first_module, first_task};
+ghost use Rattle.task_block.specs.TaskChain.{task_link, tasks_in};
+ghost use Rattle.kernel_model.specs.BlockUse.{use_of_data};
+ghost use Rattle.kernel_model.specs.HoldsLists.{HoldsLists};
+ghost use Rattle.kernel_model.specs.KernelRanges.{CanWalkTask, has_residents};
+ghost use Rattle.kernel_model.specs.Lists.{Lists};
+ghost use Rattle.block_calls.specs.Freevec.{IsUsersBlock, is_user};
+
+use call_answers::codes::NO_USER_BLOCK;
+use getvec_chain::{Block, block_of};
+use task_block::{RootField, coroutine_list, modules, root, tasks};
+use word_store::Store;
+
+/// Where the data of the residents' block begin.
+const RESIDENT_DATA: u32 = 201;
+
+/// The used block of a user whose data begin at address v. Refused where there is none (6).
+pub(crate) fn users_block(store: &Store, v: u32) -> Result<Block, u32>
+    requires { (l : Lists) × HoldsLists store.now l }
+    ensures { (l : Lists) → HoldsLists store.now l → IsUsersBlock l v result }
+{
+    let block = block_of(store, v).ok_or(NO_USER_BLOCK)?;
+    if !block.is_used_at(v) {
+        return Err(NO_USER_BLOCK);
+    }
+    if is_of_lists(store, v) {
+        return Err(NO_USER_BLOCK);
+    }
+    Ok(block)
+}
+
+// Whether the data of the residents, or of a task, a module or a coroutine begin at v.
+fn is_of_lists(store: &Store, v: u32) -> bool
+    requires { (l : Lists) × HoldsLists store.now l }
+    ensures { (l : Lists) → HoldsLists store.now l → result ≡ not (is_user (use_of_data l v)) }
+{
+    if is_of_residents(store, v) {
+        return true;
+    }
+    if is_task(store, v) {
+        return true;
+    }
+    if is_module(store, v) {
+        return true;
+    }
+    is_coroutine(store, v)
+}
+
+fn is_of_residents(store: &Store, v: u32) -> bool
+    ensures { result ≡ (has_residents store.now && (v == 201)) }
+{
+    root(store, RootField::Residents) != 0 && v == RESIDENT_DATA
+}
+
+fn is_task(store: &Store, v: u32) -> bool
+    requires { CanWalk store.now task_link first_task }
+    ensures { result ≡ has v (tasks_in store.now) }
+{
+    for t in tasks(store) {
+        if t == v {
+            return true;
+        }
+    }
+    false
+}
+
+fn is_module(store: &Store, v: u32) -> bool
+    requires { CanWalk store.now module_link first_module }
+    ensures { result ≡ has v (modules_in store.now) }
+{
+    for m in modules(store) {
+        if m == v {
+            return true;
+        }
+    }
+    false
+}
+
+// Whether a task has a coroutine there.
+fn is_coroutine(store: &Store, v: u32) -> bool
+    requires chain { CanWalk store.now task_link first_task }
+    requires tasks { AllByRecursion (CanWalkTask store.now) (tasks_in store.now) }
+    ensures { result ≡ list_any (λ t. has v (coroutines_in store.now t)) (tasks_in store.now) }
+{
+    for t in tasks(store) {
+        if has_coroutine(store, t, v) {
+            return true;
+        }
+    }
+    false
+}
+
+fn has_coroutine(store: &Store, t: u32, v: u32) -> bool
+    requires { CanWalkTask store.now t }
+    ensures { result ≡ has v (coroutines_in store.now t) }
+{
+    for c in coroutine_list(store, t) {
+        if c == v {
+            return true;
+        }
+    }
+    false
+}

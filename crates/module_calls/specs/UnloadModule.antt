@@ -1,0 +1,32 @@
+-- The call that takes a module out.
+use Rattle.std.specs.Prelude.{ℕ, ◌==◌, Bool, not, List, [], ◌∷◌, ◌++◌, map}
+use Rattle.std.specs.List.{list_any}
+use Rattle.linked_list.specs.Places.{has, without_first}
+use Rattle.hunk_loader.specs.HeldModules.{module_address}
+use Rattle.kernel_model.specs.Changes.{with_modules}
+use Rattle.kernel_model.specs.Lists.{Lists}
+use Rattle.call_answers.specs.Made.{Made, done, unless_refused}
+use Rattle.block_calls.specs.Freevec.{has_packet_in, with_given}
+
+-- a module stands there
+abbrev pub has_module : Lists → ℕ → Bool
+has_module l m = has m (map module_address l.modules)
+
+-- a task has it among its modules
+abbrev pub is_in_use : Lists → ℕ → Bool
+is_in_use l m = list_any (λ t. has m t.modules) l.tasks
+
+-- there is such a module (code 17), and no task has it (code 26)
+abbrev pub use_tests : Lists → ℕ → List (Bool × ℕ)
+use_tests l m = (has_module l m, 17) ∷ (not (is_in_use l m), 26) ∷ []
+
+-- and no packet lies in its block (code 7)
+abbrev pub unload_tests : Lists → ℕ → List (Bool × ℕ)
+unload_tests l m = use_tests l m ++ (not (has_packet_in l m), 7) ∷ []
+
+abbrev pub without_module : ℕ → Lists → Lists
+without_module m l = with_modules (without_first (λ x. m == x.address) l.modules) l
+
+-- it goes out, and its block is given back
+abbrev pub unload_module : Lists → ℕ → Made
+unload_module l m = unless_refused (unload_tests l m) l (done (with_given m (without_module m l)))
