@@ -1,0 +1,2 @@
+pub mod EmptyLists
+pub mod EmptyWords

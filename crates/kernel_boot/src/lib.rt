@@ -1,0 +1,6 @@
+// How a kernel begins.
+#![tactic(auto)]
+
+mod start;
+
+pub use start::make_kernel;

@@ -1,0 +1,39 @@
+// A kernel without tasks, modules and packets.
+ghost use Rattle.std.specs.Prelude.{◌≡◌, IsTrue, length, replicate};
+ghost use Rattle.session_text.specs.Ranges.{IsVersion, is_period, is_store_size};
+ghost use Rattle.kernel_model.specs.HoldsLists.{HoldsLists};
+ghost use Rattle.kernel_model.specs.Versions.{highest_id_of};
+ghost use Rattle.kernel_boot.specs.EmptyKernel.{empty_lists};
+
+use getvec_chain::{FIRST_BLOCK, make};
+use task_block::{RootField, set_root};
+use word_store::Store;
+
+/// Where the task table begins; its first word has the highest number of a task.
+const TABLE: u32 = 120;
+
+/// Makes a kernel in a store of zeros: the root node, the task table, and one free block of all words from 200 up to the end
+/// word. Its clock ticks each `period` steps.
+pub fn make_kernel(store: &mut Store, version: u32, period: u32)
+    requires zeros { store.old ≡ replicate (length store.old) 0 }
+    requires version { IsVersion version }
+    requires size { IsTrue (is_store_size version (length store.old)) }
+    requires period { IsTrue (is_period period) }
+    ensures { HoldsLists store.new (empty_lists version period (length store.old)) }
+{
+    let words = store.size();
+    set_root(store, RootField::Table, TABLE);
+    set_root(store, RootField::FirstBlock, FIRST_BLOCK);
+    set_root(store, RootField::Size, words);
+    set_root(store, RootField::Period, period);
+    set_root(store, RootField::Version, version);
+    store.set(TABLE, highest_id(version));
+    make(store);
+}
+
+// The highest number of a task.
+fn highest_id(version: u32) -> u32
+    ensures { result ≡ highest_id_of version }
+{
+    if version == 2 { 63 } else { 20 }
+}

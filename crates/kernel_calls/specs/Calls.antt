@@ -1,0 +1,145 @@
+-- The kernel call: what each of them makes, and how the caller's registers answer.
+use Rattle.std.specs.Prelude.{◌≡◌, ℕ, ◌%◌, Bool, List, [], ◌∷◌, ◌++◌, Option, Result, Ok, Err}
+use Rattle.word_store.specs.Arithmetic.{add, mul_div}
+use Rattle.word_store.specs.declared.registers.Regs.{Regs}
+use Rattle.owned_words.specs.Owned.{Pairs}
+use Rattle.packet_queue.specs.QueueWords.{QueuedPacket}
+use Rattle.packet_queue.specs.declared.events.KernelEvent.{KernelEvent}
+use Rattle.kernel_model.specs.ChangedStore.{IsChanged, Knows}
+use Rattle.kernel_model.specs.Changes.{queue_of}
+use Rattle.kernel_model.specs.Lists.{Lists}
+use Rattle.kernel_model.specs.NotedEvents.{NotesAll}
+use Rattle.kernel_model.specs.ValidQueues.Place.{Work}
+use Rattle.call_answers.specs.Made.{Made, minus_one}
+use Rattle.block_calls.specs.Freevec.{freevec}
+use Rattle.block_calls.specs.Getvec.{getvec}
+use Rattle.module_calls.specs.AddModule.{add_module}
+use Rattle.module_calls.specs.UnloadModule.{unload_module}
+use Rattle.packet_calls.specs.Dqpkt.{dqpkt}
+use Rattle.packet_calls.specs.Qpkt.{qpkt}
+use Rattle.packet_calls.specs.TaskWait.{taskwait}
+use Rattle.task_calls.specs.ChangePri.{change_pri}
+use Rattle.task_calls.specs.CreateTask.{create_task}
+use Rattle.task_calls.specs.DeleteTask.{delete_task}
+use Rattle.task_calls.specs.HoldTask.{hold}
+use Rattle.task_calls.specs.ReleaseTask.{release}
+use Rattle.task_calls.specs.SetFlags.{set_flags}
+use Rattle.task_calls.specs.TestFlags.{test_flags}
+use Rattle.coroutine_calls.specs.CallCo.{callco}
+use Rattle.coroutine_calls.specs.CoWait.{cowait}
+use Rattle.coroutine_calls.specs.CreateCo.{createco}
+use Rattle.coroutine_calls.specs.DeleteCo.{deleteco}
+use Rattle.coroutine_calls.specs.ResumeCo.{resumeco}
+use Rattle.coroutine_calls.specs.Switched.{Switched}
+use Rattle.kernel_calls.specs.Requests.{call_of}
+use Rattle.kernel_calls.specs.declared.requests.CallOutcome.{CallOutcome}
+use Rattle.kernel_calls.specs.declared.requests.CallOutcome.TheVariants.{Done, Waits, Quit as Quits}
+use Rattle.kernel_calls.specs.declared.requests.KernelCall.{KernelCall}
+use Rattle.kernel_calls.specs.declared.requests.KernelCall.TheVariants.{AddModule, CallCo, ChangePri, CoWait, CreateCo, CreateTask, DeleteCo, DeleteTask, Dqpkt, Freevec, Getvec, Hold, MulDiv, Qpkt, Quit, Release, ResumeCo, SetFlags, TaskWait, TestFlags, Unload, Wrch}
+
+-- What a call leaves: the lists, the plain words that it wrote, the registers, the bytes that went to the console, its events, and
+-- how it ended.
+pub record Called : Type 0 where
+  pub lists : Lists
+  pub plain : Pairs
+  pub regs : Regs
+  pub bytes : List ℕ
+  pub events : List KernelEvent
+  pub outcome : CallOutcome
+
+-- ---- registers
+
+-- SYS has one byte
+abbrev pub past_call : Regs → Regs
+past_call r = record r { pc = add r.pc 1 }
+
+-- an accepted call sets A to its answer and B to 0, and a refused one sets A to 0 and B to the code
+abbrev pub answered : Regs → Result ℕ ℕ → Regs
+answered r (Ok a) = record r { a = a; b = 0 }
+answered r (Err code) = record r { a = 0; b = code }
+
+-- ---- the kinds of calls
+
+-- it ends so, and nothing but these registers has changed
+abbrev pub ended_with : CallOutcome → Lists → Regs → Called
+ended_with outcome l r = record { lists = l; plain = []; regs = r; bytes = []; events = []; outcome = outcome }
+
+-- it answers, and the caller goes on
+abbrev pub of_made : Regs → Made → Called
+of_made r m = record { lists = m.lists; plain = m.plain; regs = answered r m.answer; bytes = []; events = m.events; outcome = Done }
+
+-- the caller goes on in one of its coroutines, or is refused
+abbrev pub regs_of_switch : Regs → Result (Unit {0}) ℕ → Regs
+regs_of_switch r (Ok u) = r
+regs_of_switch r (Err code) = answered r (Err code)
+
+abbrev pub of_switched : Switched → Called
+of_switched m = record { lists = m.lists; plain = []; regs = regs_of_switch m.regs m.answer; bytes = []; events = []; outcome = Done }
+
+-- the caller has a packet, or waits for one and keeps its registers
+abbrev pub of_wait : Regs → List QueuedPacket → Made → Called
+of_wait r [] m = record { lists = m.lists; plain = m.plain; regs = r; bytes = []; events = m.events; outcome = Waits }
+of_wait r (p ∷ ps) m = of_made r m
+
+-- a byte goes to the console
+abbrev pub of_byte : ℕ → Called → Called
+of_byte b c = record c { bytes = b ∷ [] }
+
+-- A is the quotient and B the remainder
+abbrev pub divided : Regs → (ℕ × ℕ) → Regs
+divided r q = record r { a = q.0; b = q.1 }
+
+-- ---- the calls
+
+abbrev pub made : List ℕ → Lists → Regs → KernelCall → Called
+made s l r (Quit result) = ended_with (Quits result) l (answered r (Ok minus_one))
+made s l r (Getvec u) = of_made r (getvec l u)
+made s l r (Freevec v) = of_made r (freevec l v)
+made s l r (CreateTask m u pri) = of_made r (create_task s l 0 (m ∷ []) u pri l.running)
+made s l r (DeleteTask id) = of_made r (delete_task l id)
+made s l r (ChangePri id pri) = of_made r (change_pri l id pri)
+made s l r (SetFlags id flags) = of_made r (set_flags l id flags)
+made s l r (TestFlags mask) = of_made r (test_flags l mask)
+made s l r (Hold id) = of_made r (hold l id)
+made s l r (Release id) = of_made r (release l id)
+made s l r TaskWait = of_wait r (queue_of (Work l.running) l) (taskwait l)
+made s l r (Qpkt p) = of_made r (qpkt s l p)
+made s l r (Dqpkt id p) = of_made r (dqpkt l id p)
+made s l r (Unload m) = of_made r (unload_module l m)
+made s l r (CreateCo fn u) = of_made r (createco l fn u)
+made s l r (DeleteCo c) = of_made r (deleteco l c)
+made s l r (CallCo c v) = of_switched (callco l r c v)
+made s l r (ResumeCo c v) = of_switched (resumeco l r c v)
+made s l r (CoWait v) = of_switched (cowait l r v)
+made s l r (Wrch ch) = of_byte (ch % 256) (ended_with Done l (answered r (Ok ch)))
+made s l r (MulDiv a b c) = ended_with Done l (divided r (mul_div a b c))
+made s l r (AddModule id m) = of_made r (add_module s l id m)
+
+-- it is made past the SYS; where there is no such call, or an argument is outside the store, nothing changes
+abbrev pub requested : List ℕ → Lists → Regs → Result KernelCall CallOutcome → Called
+requested s l r (Ok call) = made s l (past_call r) call
+requested s l r (Err outcome) = ended_with outcome l r
+
+unfoldable pub kernel_call : List ℕ → Lists → Regs → Called
+kernel_call s l r = requested s l r (call_of s r)
+
+-- ---- what the code leaves
+
+-- what a call sees besides the kernel: the bytes of the console, the events that were noted, and whether the log has failed
+pub record Outside : Type 0 where
+  pub shown : List ℕ
+  pub noted : Option (List KernelEvent)
+  pub failed : Bool
+
+abbrev pub outside : List ℕ → Option (List KernelEvent) → Bool → Outside
+outside shown noted failed = record { shown = shown; noted = noted; failed = failed }
+
+-- The store that was s is t: it holds the lists that the call leaves, its plain words and no others have changed besides; these are
+-- its registers and its end; the keeper knows the words of those lists; its bytes went to the console, and its events to the log.
+pub record IsCalled (s t : List ℕ) (regs : Regs) (tells : List ℕ → Type 0) (old new : Outside) (outcome : CallOutcome) (c : Called) : Type 0 where
+  pub lists : IsChanged s t c.lists c.plain
+  pub registers : regs ≡ c.regs
+  pub ends : outcome ≡ c.outcome
+  pub knows : Knows tells c.lists
+  pub bytes : new.shown ≡ old.shown ++ c.bytes
+  pub notes : NotesAll old.noted new.noted old.failed new.failed c.events
