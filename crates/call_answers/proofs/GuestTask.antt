@@ -14,6 +14,13 @@ use Rattle.call_answers.specs.Guests.{GuestAt}
 use Rattle.call_answers.proofs.FoundTask.{reads}
 use Rattle.call_answers.proofs.Refusals.{accepted-guest}
 
+-- the words 4 to 16 of its task block
+pub guest-words : (s : List ℕ) (l : Lists) (id address : ℕ) → HoldsLists s l → (g : GuestAt l id address) → Holds s (state_words l.version g.task)
+guest-words s l id address h g =
+    all-here (λ u. Holds s (state_words l.version u)) g.front g.task g.back
+    (subst (AllByRecursion (λ u. Holds s (state_words l.version u))) g.is
+    (holds-each task_address (task_words l.version) s (λ u. Holds s (state_words l.version u)) (λ u n own. (holds-task s l.version u n own).state) l.tasks 0 (reads s l h).held_tasks.holds.1))
+
 -- its words and its rules
 pub record GuestFacts (s : List ℕ) (l : Lists) (id address : ℕ) (t : Task) : Type 0 where
   pub state : get_or s (address + 4) 0 ≡ state_word t
@@ -26,11 +33,7 @@ pub record GuestFacts (s : List ℕ) (l : Lists) (id address : ℕ) (t : Task) :
 pub guest-facts : (s : List ℕ) (l : Lists) (id address : ℕ) → HoldsLists s l → (g : GuestAt l id address) → GuestFacts s l id address g.task
 guest-facts s l id address h g =
     let t : Task = g.task in
-    let words : Holds s (state_words l.version t) =
-    all-here (λ u. Holds s (state_words l.version u)) g.front t g.back
-    (subst (AllByRecursion (λ u. Holds s (state_words l.version u))) g.is
-    (holds-each task_address (task_words l.version) s (λ u. Holds s (state_words l.version u)) (λ u n own. (holds-task s l.version u n own).state) l.tasks 0 (reads s l h).held_tasks.holds.1))
-    in
+    let words : Holds s (state_words l.version t) = guest-words s l id address h g in
     let task : IsTask l t = all-here (IsTask l) g.front t g.back (subst (AllByRecursion (IsTask l)) g.is h.valid.tasks.each) in
     let state : get_or s (address + 4) 0 ≡ state_word t = ap (λ a. get_or s (a + 4) 0) (sym g.at) ∙ words.0 in
     record {

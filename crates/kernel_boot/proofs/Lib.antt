@@ -1,2 +1,3 @@
+pub mod BegunTask
 pub mod EmptyLists
 pub mod EmptyWords

@@ -1,1 +1,2 @@
 pub mod EmptyKernel
+pub mod BegunTask

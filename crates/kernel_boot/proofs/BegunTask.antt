@@ -1,0 +1,107 @@
+-- What letting a task begin leaves.
+use Rattle.std.proofs.Common.{◌≡◌, ℕ, ◌+◌, ◌%◌, Bool, true, false, List, [], ◌∷◌, ◌++◌, get_or, map, inl, inr, refl, sym, ap, ◌∙◌, subst, arith}
+use Rattle.std.proofs.lemmas.List.{append-nil}
+use Rattle.linked_list.specs.Count.{IsApart}
+use Rattle.word_store.specs.declared.registers.Regs.{Regs}
+use Rattle.owned_words.specs.Exchange.{Exchange}
+use Rattle.owned_words.specs.LinkedWords.{first_of}
+use Rattle.owned_words.specs.Owned.{Holds, Pairs, written}
+use Rattle.owned_words.proofs.Exchanges.{exchange-none}
+use Rattle.packet_queue.specs.QueueWords.{QueuedPacket, queue_words}
+use Rattle.kernel_model.specs.ChangedStore.{IsChanged}
+use Rattle.kernel_model.specs.Changes.{change_of, with_tasks}
+use Rattle.kernel_model.specs.HoldsLists.{HoldsLists}
+use Rattle.kernel_model.specs.Lists.{Lists}
+use Rattle.kernel_model.specs.Owned.{owned}
+use Rattle.kernel_model.specs.Task.{Task, is_guest_id, queue_head, state_word, state_words, task_address, task_id, task_words}
+use Rattle.kernel_model.specs.ValidLists.{AreValid}
+use Rattle.kernel_model.specs.ValidTasks.{IsField, IsTask}
+use Rattle.kernel_model.proofs.ChainSplits.{change-between}
+use Rattle.kernel_model.proofs.ChangedLists.{exchange-owned, one_task-owned}
+use Rattle.kernel_model.proofs.OneTask.{same_task-valid}
+use Rattle.kernel_dispatch.specs.DispatchWords.{saved_words}
+use Rattle.kernel_dispatch.proofs.StateExchanges.{exchange-suspended, exchange-task}
+use Rattle.kernel_dispatch.proofs.TaskStates.{by-field}
+use Rattle.call_answers.specs.Guests.{GuestAt}
+use Rattle.call_answers.proofs.GuestTask.{GuestFacts, guest-facts, guest-words}
+use Rattle.kernel_boot.specs.BegunTask.{begin_regs, begun, with_begun}
+
+-- the two bits of a state stay
+begun-state : (t : Task) → IsField t.field → state_word t % 4 + 8 ≡ state_word (record t { field = 8 })
+begun-state t f = on t.held t.queue
+  where
+    Says : Bool → List QueuedPacket → ℕ → Type 0
+    Says h ps n = state_word (record t { field = n; held = h; queue = ps }) % 4 + 8 ≡ state_word (record t { field = 8; held = h; queue = ps })
+
+    on : (h : Bool) (ps : List QueuedPacket) → Says h ps t.field
+    on true [] = by-field (Says true []) refl refl refl refl t.field f
+    on true (p ∷ ps) = by-field (Says true (p ∷ ps)) refl refl refl refl t.field f
+    on false [] = by-field (Says false []) refl refl refl refl t.field f
+    on false (p ∷ ps) = by-field (Says false (p ∷ ps)) refl refl refl refl t.field f
+
+begun-task : (l : Lists) (t : Task) (r : Regs) → r.c ≡ 0 → is_guest_id t.id ≡ true → IsTask l t → IsTask l (record t { field = 8; saved = r })
+begun-task l t r byte guest h =
+    record {
+      low = h.low;
+      high = h.high;
+      maker = h.maker;
+      field = inr (inr (inl refl));
+      byte = omega (arith, byte);
+      guest = λ is.
+          let g = h.guest is in
+          record { high = g.high; block = g.block; some_module = g.some_module; most = g.most; modules = g.modules; fault = g.fault; unreported = g.unreported };
+      resident = λ is. cc;
+    }
+
+module _ (s : List ℕ) (l : Lists) (id address : ℕ) (h : HoldsLists s l) (g : GuestAt l id address) where
+  abbrev regs : Regs
+  regs = begin_regs l.version s g.task
+
+  facts : GuestFacts s l id address g.task
+  facts = guest-facts s l id address h g
+
+  abbrev after : Lists
+  after = with_tasks (g.front ++ begun l.version s g.task ∷ g.back) l
+
+  valid : AreValid after
+  valid =
+      same_task-valid l g.front g.back g.task (begun l.version s g.task) h.valid g.is (record { id = refl; address = refl; priority = refl; queue = refl; coroutines = refl })
+      (begun-task l g.task regs refl facts.guest facts.task)
+      (record { each = facts.coroutines.each; members = facts.coroutines.members; distinct = facts.coroutines.distinct })
+
+  abbrev old : Pairs
+  old = saved_words g.task.address (state_word g.task) g.task.saved
+
+  abbrev new : Pairs
+  new = saved_words g.task.address (state_word (begun l.version s g.task)) regs
+
+  exchange : Exchange (owned l) (owned after) old new
+  exchange =
+      let n : ℕ = first_of task_address g.back 0 in
+      one_task-owned l g.front g.task (begun l.version s g.task) g.back old new g.is refl refl
+      (subst (λ z. Exchange (task_words l.version g.task n) (task_words l.version (begun l.version s g.task) n) z new) (append-nil old)
+      (subst (Exchange (task_words l.version g.task n) (task_words l.version (begun l.version s g.task) n) (old ++ [])) (append-nil new)
+      (exchange-task l.version g.task 8 regs g.task.queue n old new [] [] (exchange-suspended l.version g.task 8 regs) (exchange-none (queue_words (queue_head g.task.address) g.task.queue)))))
+
+  split : map (change_of id (begun l.version s)) l.tasks ≡ g.front ++ begun l.version s g.task ∷ g.back
+  split =
+      ap (map (change_of id (begun l.version s))) g.is
+      ∙ subst (λ i. map (change_of i (begun l.version s)) (g.front ++ g.task ∷ g.back) ≡ g.front ++ begun l.version s g.task ∷ g.back) g.number
+      (change-between (begun l.version s) g.front g.task g.back (subst (λ ts. IsApart (map task_id ts)) g.is h.valid.tasks.distinct))
+
+  words : Holds s (state_words l.version g.task)
+  words = guest-words s l id address h g
+
+  -- the registers, read from the task block at the address
+  pub regs-read : ◌≡◌ {A = Regs}
+      (record { a = 0; b = 0; c = 0; p = get_or s (address + 6) 0; g = get_or s (address + 8) 0; pc = get_or s (get_or s (address + 8) 0 + 1) 0 }) regs
+  regs-read =
+      let stack = ap (λ a. get_or s (a + 6) 0) (sym g.at) ∙ words.1.1.0 in
+      let globals = ap (λ a. get_or s (a + 8) 0) (sym g.at) ∙ words.1.1.1.1.0 in
+      λ i. record { a = 0; b = 0; c = 0; p = stack i; g = globals i; pc = get_or s (globals i + 1) 0 }
+
+  pub begun-changed : (t : List ℕ) (r : Regs) → r ≡ regs → t ≡ written (saved_words address (get_or s (address + 4) 0 % 4 + 8) r) s → IsChanged s t (with_begun s id l) []
+  begun-changed t r same is =
+      let state : get_or s (address + 4) 0 % 4 + 8 ≡ state_word (begun l.version s g.task) = ap (λ w. w % 4 + 8) facts.state ∙ begun-state g.task facts.task.field in
+      subst (λ ts. IsChanged s t (with_tasks ts l) []) (sym split)
+      (exchange-owned s t l after old new h valid refl exchange (is ∙ (λ i. written (saved_words (sym g.at i) (state i) (same i)) s)))
