@@ -18,10 +18,10 @@ knows-released tells told l m p n owns less knows release after count =
     release known after (knows known same) (λ a. omega (arith, same a, owns.apart a)) together
 
 -- the addresses of owned words
-abbrev addresses : Pairs → List ℕ
+abbrev pub addresses : Pairs → List ℕ
 addresses ps = map (λ e. e.0) ps
 
-times-addresses : (a : ℕ) (ps : Pairs) → times a (addresses ps) ≡ owners a ps
+pub times-addresses : (a : ℕ) (ps : Pairs) → times a (addresses ps) ≡ owners a ps
 times-addresses a [] = refl
 times-addresses a (e ∷ es) = omega (arith, times-addresses a es)
 

@@ -1,0 +1,2 @@
+pub mod MarkedWords
+pub mod GuardedLists

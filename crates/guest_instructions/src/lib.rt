@@ -1,0 +1,6 @@
+// An instruction of a guest.
+#![tactic(auto)]
+
+mod instructions;
+
+pub use instructions::execute_guest;
