@@ -11,21 +11,7 @@ use Rattle.kernel_model.specs.KernelRanges.{AreClear}
 use Rattle.kernel_model.specs.Lists.{Lists}
 use Rattle.kernel_model.specs.Owned.{owned}
 use Rattle.kernel_model.specs.ValidLists.{AreValid}
-use Rattle.word_kinds.specs.Keeper.{IsStoreOf}
-
--- the addresses of owned words
-abbrev pub addresses : Pairs → List ℕ
-addresses es = map (λ e. e.0) es
-
-pub times-addresses : (a : ℕ) (es : Pairs) → times a (addresses es) ≡ owners a es
-times-addresses a [] = refl
-times-addresses a (e ∷ es) = ap (λ n. hit a e.0 + n) (times-addresses a es)
-
-pub store-of : (s : List ℕ) (l : Lists) → HoldsLists s l → IsStoreOf s (addresses (owned l)) l
-store-of s l h = record { lists = h; addresses = λ a. times-addresses a (owned l) }
-
-pub tells-owned : (tells : List ℕ → Type 0) (l : Lists) → Knows tells l → tells (addresses (owned l))
-tells-owned tells l knows = knows (addresses (owned l)) (λ a. times-addresses a (owned l))
+use Rattle.word_kinds.proofs.KnownWords.{addresses, times-addresses}
 
 -- a store has fewer than 2 ^ 32 words
 pub size-low : (l : Lists) → AreValid l → l.size < 2 ^ 32

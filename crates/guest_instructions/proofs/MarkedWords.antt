@@ -1,5 +1,5 @@
 -- An instruction writes no word that is marked, whatever it is.
-use Rattle.std.proofs.Common.{◌≡◌, ◌≢◌, ℕ, Bool, true, false, List, [], ◌∷◌, length, get_or, set, cond, Option, Some, None, Result, Ok, Err, refl, sym, ap, ◌∙◌, arith, get_or-set_other, length-set}
+use Rattle.std.proofs.Common.{◌≡◌, ℕ, Bool, true, false, List, [], ◌∷◌, length, get_or, set, cond, eqb, Option, Some, None, Result, Ok, Err, refl, ap, ◌∙◌, get_or-set_other, length-set}
 use Rattle.std.specs.Prelude.{nat_le}
 use Rattle.std.specs.List.{AllByRecursion}
 use Rattle.word_store.specs.declared.registers.Regs.{Regs}
@@ -10,7 +10,7 @@ use Rattle.cint_exec.specs.Change.{Change}
 use Rattle.cint_exec.specs.Effect.{change_of}
 use Rattle.cint_exec.specs.Instruction.{After, after, decided, effected, instruction, is_call, made, settled, write_fault, written}
 use Rattle.cint_exec.specs.declared.Fault.{Fault}
-use Rattle.cint_exec.specs.declared.Outcome.TheVariants.{Sys as Call}
+use Rattle.cint_exec.specs.declared.Outcome.TheVariants.{Returned, Sys as Call}
 use Rattle.word_store.specs.Arithmetic.{add}
 use Rattle.word_store.specs.Bytes.{byte_at}
 
@@ -22,6 +22,10 @@ pub record KeepsMarked (marks : ℕ → Bool) (s t : List ℕ) : Type 0 where
 module _ (marks : ℕ → Bool) (s : List ℕ) (r : Regs) where
   keeps-none : KeepsMarked marks s s
   keeps-none = record { size = refl; same = λ a e. refl }
+
+  keeps-either : (b : Bool) (x y : After) → KeepsMarked marks s x.words → KeepsMarked marks s y.words → KeepsMarked marks s (cond b x y).words
+  keeps-either true x y h k = h
+  keeps-either false x y h k = k
 
   -- writes without a fault go to words that are not marked
   unmarked : (ws : List (ℕ × ℕ)) → write_fault marks s ws ≡ None → AllByRecursion (λ w. marks w.0 ≡ false) ws
@@ -54,19 +58,13 @@ module _ (marks : ℕ → Bool) (s : List ℕ) (r : Regs) where
 
   keeps-effected : (i : Instr) → KeepsMarked marks s (effected marks s r i).words
   unfolding effected
-  keeps-effected i = on (is_call i.effect) (keeps-settled (change_of i.effect s (record r { pc = add r.pc i.length }) i.operand i.target r.pc))
-    where
-      on : (b : Bool) {x : After} → KeepsMarked marks s x.words → KeepsMarked marks s (cond b (after Call s r) x).words
-      on true k = keeps-none
-      on false k = k
+  keeps-effected i =
+      let c : Result Change Fault = change_of i.effect s (record r { pc = add r.pc i.length }) i.operand i.target r.pc in
+      keeps-either (is_call i.effect) (after Call s r) (settled marks s r c) keeps-none (keeps-settled c)
 
   keeps-decided : (d : Result Instr DecodeEnd) → KeepsMarked marks s (decided marks s r d).words
   keeps-decided (Err e) = keeps-none
   keeps-decided (Ok i) = keeps-effected i
 
   pub keeps-marked : KeepsMarked marks s (instruction marks s r).words
-  keeps-marked = on (nat_le r.pc 0) (keeps-decided (decoded (byte_at s) r.pc))
-    where
-      on : (b : Bool) {x : After} → KeepsMarked marks s x.words → KeepsMarked marks s (cond b (after (Rattle.cint_exec.specs.declared.Outcome.TheVariants.Returned) s r) x).words
-      on true k = keeps-none
-      on false k = k
+  keeps-marked = keeps-either (eqb r.pc 0) (after Returned s r) (decided marks s r (decoded (byte_at s) r.pc)) keeps-none (keeps-decided (decoded (byte_at s) r.pc))

@@ -5,9 +5,10 @@ use Rattle.linked_list.specs.Count.{IsApart, times}
 use Rattle.linked_list.proofs.Counts.{times-append}
 use Rattle.owned_words.specs.Owned.{Pairs, owners}
 use Rattle.kernel_model.specs.ChangedStore.{Knows}
+use Rattle.kernel_model.specs.HoldsLists.{HoldsLists}
 use Rattle.kernel_model.specs.Lists.{Lists}
 use Rattle.kernel_model.specs.Owned.{OwnsApart, owned}
-use Rattle.word_kinds.specs.Keeper.{AreTogether}
+use Rattle.word_kinds.specs.Keeper.{AreTogether, IsStoreOf}
 
 pub knows-released : (tells told : List ℕ → Type 0) (l m : Lists) (p n : ℕ) → OwnsApart l → ((a : ℕ) → owners a (owned l) ≡ owners a (owned m) + times a (range_with_len p n)) → Knows tells l
     → ((known after : List ℕ) → tells known → IsApart known → AreTogether known after (range_with_len p n) → told after) → Knows told m
@@ -17,13 +18,20 @@ knows-released tells told l m p n owns less knows release after count =
     let same : (a : ℕ) → times a known ≡ owners a (owned l) = λ a. omega (arith, together a, count a, less a) in
     release known after (knows known same) (λ a. omega (arith, same a, owns.apart a)) together
 
--- the addresses of owned words
-abbrev pub addresses : Pairs → List ℕ
-addresses ps = map (λ e. e.0) ps
+-- ---- the addresses of owned words, which such a keeper knows
 
-pub times-addresses : (a : ℕ) (ps : Pairs) → times a (addresses ps) ≡ owners a ps
+abbrev pub addresses : Pairs → List ℕ
+addresses es = map (λ e. e.0) es
+
+pub times-addresses : (a : ℕ) (es : Pairs) → times a (addresses es) ≡ owners a es
 times-addresses a [] = refl
 times-addresses a (e ∷ es) = omega (arith, times-addresses a es)
+
+pub store-of : (s : List ℕ) (l : Lists) → HoldsLists s l → IsStoreOf s (addresses (owned l)) l
+store-of s l h = record { lists = h; addresses = λ a. times-addresses a (owned l) }
+
+pub tells-owned : (tells : List ℕ → Type 0) (l : Lists) → Knows tells l → tells (addresses (owned l))
+tells-owned tells l knows = knows (addresses (owned l)) (λ a. times-addresses a (owned l))
 
 pub knows-claimed : (tells told : List ℕ → Type 0) (l m : Lists) (p n : ℕ) → ((a : ℕ) → owners a (owned m) ≡ owners a (owned l) + times a (range_with_len p n)) → Knows tells l
     → ((known after : List ℕ) → tells known → AreTogether after known (range_with_len p n) → told after) → Knows told m
