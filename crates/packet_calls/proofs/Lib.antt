@@ -4,3 +4,6 @@ pub mod Arrival
 pub mod ArrivalWords
 pub mod Departure
 pub mod DueOrder
+pub mod HeldPlaces
+pub mod CallerTask
+pub mod WaitCall

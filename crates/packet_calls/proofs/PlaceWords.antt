@@ -1,6 +1,6 @@
 -- The words of a queue among all owned words: an exchange in the queue at a place is one of all, together with the state of the
 -- task whose queue it is.
-use Rattle.std.proofs.Common.{◌≡◌, ◌≢◌, ℕ, ◌+◌, ◌%◌, ◌-◌, ◌<◌, ◌||◌, Bool, true, false, None, List, [], ◌∷◌, ◌++◌, map, cond, eqb, refl, sym, ap, ◌∙◌, subst, arith}
+use Rattle.std.proofs.Common.{◌≡◌, ◌≢◌, ℕ, ◌+◌, ◌%◌, ◌-◌, ◌<◌, ◌||◌, Bool, true, false, None, List, [], ◌∷◌, ◌++◌, map, cond, eqb, inl, inr, refl, sym, ap, ◌∙◌, subst, arith}
 use Rattle.std.specs.List.{AllByRecursion}
 use Rattle.std.proofs.lemmas.Bool.{eq-eqb, ne_eqb}
 use Rattle.linked_list.specs.Count.{IsApart, times}
@@ -175,9 +175,9 @@ by-field P a b c d n f =
 abbrev with_bit : ℕ → Bool → ℕ → ℕ
 with_bit bit h n = n + bit + cond h 2 0
 
-one-bit : (h : Bool) (b : ℕ) (bit : queue_bit [] ≡ b) (n : ℕ) → IsField n → state_with_packets (with_bit 0 h n) ≡ with_bit 1 h n
-one-bit true b bit n f = by-field (λ m. state_with_packets (with_bit 0 true m) ≡ with_bit 1 true m) refl refl refl refl n f
-one-bit false b bit n f = by-field (λ m. state_with_packets (with_bit 0 false m) ≡ with_bit 1 false m) refl refl refl refl n f
+one-bit : (h : Bool) (n : ℕ) → IsField n → state_with_packets (with_bit 0 h n) ≡ with_bit 1 h n
+one-bit true n f = by-field (λ m. state_with_packets (with_bit 0 true m) ≡ with_bit 1 true m) refl refl refl refl n f
+one-bit false n f = by-field (λ m. state_with_packets (with_bit 0 false m) ≡ with_bit 1 false m) refl refl refl refl n f
 
 same-bit : (h : Bool) (n : ℕ) → IsField n → state_with_packets (with_bit 1 h n) ≡ with_bit 1 h n
 same-bit true n f = by-field (λ m. state_with_packets (with_bit 1 true m) ≡ with_bit 1 true m) refl refl refl refl n f
@@ -192,7 +192,7 @@ bit-more [] p back = refl
 bit-more (q ∷ qs) p back = refl
 
 state-comes : (t : Task) (ps : List QueuedPacket) (p : QueuedPacket) → IsField t.field → state_with_packets (state_word (record t { queue = ps })) ≡ state_word (record t { queue = ps ++ p ∷ [] })
-state-comes t [] p f = one-bit t.held 0 refl t.field f
+state-comes t [] p f = one-bit t.held t.field f
 state-comes t (q ∷ qs) p f = same-bit t.held t.field f
 
 state-goes : (t : Task) (front : List QueuedPacket) (p : QueuedPacket) (back qs : List QueuedPacket) → front ++ back ≡ qs → IsField t.field → AllByRecursion (λ q. 0 < q.address) qs
@@ -219,11 +219,8 @@ pub work-goes : (id : ℕ) (ts : List Task) (front : List QueuedPacket) (p : Que
 work-goes id [] front p back has fields some = cc
 work-goes id (t ∷ ts) front p back has fields some = on (eqb t.id id) has (λ more. work-goes id ts front p back more fields.1 some)
   where
-    abbrev next : ℕ
-    next = first_packet (front ++ back)
-
-    on : (b : Bool) → (b || has_task id ts) ≡ true → (has_task id ts ≡ true → state_left (state_of_work id ts (front ++ p ∷ back)) next ≡ state_of_work id ts (front ++ back))
-        → state_left (cond b (state_word (record t { queue = front ++ p ∷ back })) (state_of_work id ts (front ++ p ∷ back))) next
+    on : (b : Bool) → (b || has_task id ts) ≡ true → (has_task id ts ≡ true → state_left (state_of_work id ts (front ++ p ∷ back)) (first_packet (front ++ back)) ≡ state_of_work id ts (front ++ back))
+        → state_left (cond b (state_word (record t { queue = front ++ p ∷ back })) (state_of_work id ts (front ++ p ∷ back))) (first_packet (front ++ back))
         ≡ cond b (state_word (record t { queue = front ++ back })) (state_of_work id ts (front ++ back))
     on true has more = state-goes t front p back (front ++ back) refl fields.0 some
     on false has more = more has

@@ -1,5 +1,5 @@
 -- The words that are written where a packet comes into a queue, and where it goes out.
-use Rattle.std.specs.Prelude.{ℕ, ◌+◌, ◌-◌, ◌%◌, ◌^◌, ◌==◌, if◌then◌else◌, List, nat_min, slice_index, slice_set}
+use Rattle.std.specs.Prelude.{ℕ, ◌+◌, ◌-◌, ◌%◌, ◌^◌, ◌==◌, if◌then◌else◌, List, min, slice_index, slice_set}
 use Rattle.packet_queue.specs.Due.{with_due}
 use Rattle.packet_queue.specs.Queue.{appended, unlinked}
 use Rattle.task_block.specs.RootWords.{root_address}
@@ -51,7 +51,7 @@ left_queue s OfReads p = unlinked s pending_head p
 
 -- so many ticks from now on, or at the last tick that there is
 abbrev pub due_tick : ℕ → ℕ → ℕ
-due_tick tick delay = nat_min (tick + delay) (2 ^ 32 - 1)
+due_tick tick delay = min (tick + delay) (2 ^ 32 - 1)
 
 -- that of a packet, of which word 5 has the delay
 abbrev pub due_in : List ℕ → ℕ → ℕ

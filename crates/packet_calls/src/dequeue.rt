@@ -11,14 +11,15 @@ ghost use Rattle.packet_calls.specs.Destinations.{is_destination, place_of, queu
 ghost use Rattle.packet_calls.specs.Dqpkt.{dqpkt, found_in, found_in_own, is_residents_packet, located};
 
 use crate::destinations::destination;
+use crate::events::dequeued;
 use crate::packets::{PACKET_WORDS, SENDER};
 use crate::queues::{Queue, has_packet, leave};
 use call_answers::caller;
 use call_answers::codes::{NO_DESTINATION, NOT_QUEUED, RESIDENT};
-use packet_queue::{EventLog, KernelEvent};
+use packet_queue::EventLog;
 use task_block::{RootField, TcbField, field, find, root};
 use word_kinds::KindKeeper;
-use word_store::{Store, set_word_at, signed};
+use word_store::{Store, set_word_at};
 
 /// The numbers of the console, of its reads that wait for a line, and of the task that reports faults.
 const CONSOLE: u32 = 3;
@@ -70,10 +71,7 @@ pub fn dqpkt<Q: KindKeeper, L: EventLog>(
     leave(store, found.queue, p);
     set_word_at(store, p, SENDER, found.answer);
     kinds.release(p, PACKET_WORDS);
-    log.note(KernelEvent::Dequeued {
-        queue: signed(found.number),
-        packet: p,
-    });
+    log.note(dequeued(found.number, p));
     Ok(found.answer)
 }
 

@@ -3,15 +3,16 @@
 
 mod dequeue;
 mod destinations;
+mod events;
+mod own_packets;
 mod packets;
 mod queues;
-mod reply;
+mod replies;
 mod send;
-mod send_own;
 mod wait;
 
 pub use dequeue::dqpkt;
-pub use reply::reply;
+pub use own_packets::send_own;
+pub use replies::reply;
 pub use send::qpkt;
-pub use send_own::send_own;
 pub use wait::taskwait;

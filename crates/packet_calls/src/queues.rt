@@ -45,7 +45,15 @@ pub(crate) fn has_packet(store: &Store, queue: Queue, p: u32) -> bool
     requires { HasQueue store.now (head_of queue) }
     ensures { result ≡ has p (queue_at store.now (head_of queue)) }
 {
-    for q in packets(store, head(store, queue)) {
+    is_linked(store, head(store, queue), p)
+}
+
+// Whether the packet is on the queue at the head.
+fn is_linked(store: &Store, head: u32, p: u32) -> bool
+    requires { HasQueue store.now head }
+    ensures { result ≡ has p (queue_at store.now head) }
+{
+    for q in packets(store, head) {
         if p == q {
             return true;
         }

@@ -11,11 +11,12 @@ ghost use Rattle.call_answers.specs.Refusals.{answer_of, first_refusal};
 ghost use Rattle.packet_calls.specs.Qpkt.{is_lodged, packet_tests, qpkt};
 
 use crate::destinations::destination;
+use crate::events::accepted;
 use crate::packets::{PACKET_WORDS, SENDER, send};
 use call_answers::caller;
 use call_answers::codes::{LINK_IN_USE, MISPLACED, NO_DESTINATION};
 use getvec_chain::{Block, block_of};
-use packet_queue::{EventLog, KernelEvent, NO_QUEUE};
+use packet_queue::{EventLog, NO_QUEUE};
 use task_block::{TcbField, field};
 use word_kinds::{KindKeeper, clear};
 use word_store::{Store, signed, word, word_at};
@@ -49,11 +50,7 @@ pub fn qpkt<Q: KindKeeper, L: EventLog>(
     let sender = field(store, caller(store), TcbField::Id);
     send(store, queue, p, sender);
     kinds.claim(p, PACKET_WORDS);
-    log.note(KernelEvent::Accepted {
-        queue: signed(number),
-        packet: p,
-        sender: signed(sender),
-    });
+    log.note(accepted(signed(number), p, signed(sender)));
     Ok(())
 }
 

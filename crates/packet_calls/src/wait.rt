@@ -9,13 +9,14 @@ ghost use Rattle.call_answers.specs.Callers.{HasCaller};
 ghost use Rattle.call_answers.specs.Made.{IsMade};
 ghost use Rattle.packet_calls.specs.TaskWait.{answer_of_wait, first_of_queue, taskwait};
 
+use crate::events::taken;
 use crate::packets::{PACKET_WORDS, SENDER};
 use crate::queues::{Queue, leave};
 use call_answers::caller;
-use packet_queue::{EventLog, KernelEvent};
+use packet_queue::EventLog;
 use task_block::{TcbField, field, set_field};
 use word_kinds::KindKeeper;
-use word_store::{Store, signed, word_at};
+use word_store::{Store, word_at};
 
 /// By so much the state of a task that waits is larger than that of one that runs.
 const WAITS: u32 = 4;
@@ -46,13 +47,9 @@ pub fn taskwait<Q: KindKeeper, L: EventLog>(
         set_field(store, task, TcbField::State, state + WAITS);
         return None;
     }
-    let queue = signed(field(store, task, TcbField::Id));
+    let id = field(store, task, TcbField::Id);
     leave(store, Queue::OfTask(task), p);
     kinds.release(p, PACKET_WORDS);
-    log.note(KernelEvent::Taken {
-        queue,
-        packet: p,
-        sender: signed(word_at(store, p, SENDER)),
-    });
+    log.note(taken(id, p, word_at(store, p, SENDER)));
     Some(p)
 }

@@ -7,9 +7,10 @@ ghost use Rattle.kernel_model.specs.NotedEvents.{NotesAll};
 ghost use Rattle.call_answers.specs.Made.{Leaves, minus_one};
 ghost use Rattle.packet_calls.specs.Reply.{CanReply, reply};
 
+use crate::events::accepted;
 use crate::packets::{SENDER, give_back};
 use crate::queues::Queue;
-use packet_queue::{EventLog, KernelEvent};
+use packet_queue::EventLog;
 use task_block::find;
 use word_store::{Store, signed, word_at};
 
@@ -36,9 +37,5 @@ pub fn reply<L: EventLog>(
         return;
     };
     give_back(store, Queue::OfTask(task), p, from.cast_unsigned(), res1, res2);
-    log.note(KernelEvent::Accepted {
-        queue: signed(sender),
-        packet: p,
-        sender: from,
-    });
+    log.note(accepted(signed(sender), p, from));
 }

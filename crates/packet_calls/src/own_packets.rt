@@ -8,8 +8,9 @@ ghost use Rattle.call_answers.specs.Made.{IsMade, minus_one};
 ghost use Rattle.packet_calls.specs.SendOwn.{CanSendOwn, send_own};
 
 use crate::destinations::{KEYBOARD, destination};
+use crate::events::accepted;
 use crate::packets::{PACKET_WORDS, send};
-use packet_queue::{EventLog, KernelEvent};
+use packet_queue::EventLog;
 use word_kinds::KindKeeper;
 use word_store::{Store, signed};
 
@@ -43,9 +44,5 @@ pub fn send_own<Q: KindKeeper, L: EventLog>(
     if number != KEYBOARD {
         kinds.claim(p, PACKET_WORDS);
     }
-    log.note(KernelEvent::Accepted {
-        queue: to,
-        packet: p,
-        sender: signed(from),
-    });
+    log.note(accepted(to, p, signed(from)));
 }
