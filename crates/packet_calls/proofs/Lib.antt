@@ -7,3 +7,9 @@ pub mod DueOrder
 pub mod HeldPlaces
 pub mod CallerTask
 pub mod WaitCall
+pub mod PlacedPackets
+pub mod SentPackets
+pub mod OwnedMarks
+pub mod PacketTests
+pub mod NamedQueues
+pub mod SendCall

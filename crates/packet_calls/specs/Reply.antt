@@ -1,6 +1,6 @@
 -- A packet is returned to the task that sent it.
-use Rattle.std.specs.Prelude.{◌≡◌, ℕ, ℤ, ◌+◌, true, Ok, List, [], ◌∷◌, slice_index}
-use Rattle.word_store.specs.Arithmetic.{signed, word_of}
+use Rattle.std.specs.Prelude.{◌≡◌, ℕ, ◌+◌, true, Ok, List, [], ◌∷◌, slice_index}
+use Rattle.word_store.specs.Arithmetic.{signed}
 use Rattle.packet_queue.specs.QueueWords.{QueuedPacket}
 use Rattle.packet_queue.specs.declared.events.KernelEvent.{KernelEvent}
 use Rattle.packet_queue.specs.declared.events.KernelEvent.TheVariants.{Accepted}
@@ -23,10 +23,10 @@ pub record CanReply (s : List ℕ) (l : Lists) (p from : ℕ) : Type 0 where
 abbrev pub returned : List ℕ → ℕ → ℕ → ℕ → ℕ → QueuedPacket
 returned s p from res1 res2 = record (packet_at s p) { sender = from; res1 = res1; last = res2 }
 
-abbrev pub reply : List ℕ → Lists → ℕ → ℤ → ℕ → ℕ → Made
+abbrev pub reply : List ℕ → Lists → ℕ → ℕ → ℕ → ℕ → Made
 reply s l p from res1 res2 = record {
   answer = Ok minus_one;
-  lists = with_arrived (Work (slice_index s (p + 1))) (returned s p (word_of from) res1 res2) l;
+  lists = with_arrived (Work (slice_index s (p + 1))) (returned s p from res1 res2) l;
   plain = [];
-  events = Accepted (signed (slice_index s (p + 1))) p from ∷ [];
+  events = Accepted (signed (slice_index s (p + 1))) p (signed from) ∷ [];
 }

@@ -1,6 +1,6 @@
 -- A resident sends a packet of its own.
-use Rattle.std.specs.Prelude.{◌≡◌, ℕ, ℤ, ◌+◌, ◌⊎◌, ◌==◌, true, is_some, if◌then◌else◌, None, Ok, List, [], ◌∷◌}
-use Rattle.word_store.specs.Arithmetic.{signed, word_of}
+use Rattle.std.specs.Prelude.{◌≡◌, ℕ, ◌+◌, ◌⊎◌, ◌==◌, true, is_some, if◌then◌else◌, None, Ok, List, [], ◌∷◌}
+use Rattle.word_store.specs.Arithmetic.{signed}
 use Rattle.packet_queue.specs.QueueWords.{QueuedPacket}
 use Rattle.packet_queue.specs.declared.events.KernelEvent.{KernelEvent}
 use Rattle.packet_queue.specs.declared.events.KernelEvent.TheVariants.{Accepted}
@@ -36,10 +36,10 @@ with_sent s p from to l =
     then with_key None (with_arrived Keyboard (sent_packet s l Keyboard p from) l)
     else with_arrived (Work to) (sent_packet s l (Work to) p from) l
 
-abbrev pub send_own : List ℕ → Lists → ℕ → ℕ → ℤ → Made
+abbrev pub send_own : List ℕ → Lists → ℕ → ℕ → ℕ → Made
 send_own s l p from to = record {
   answer = Ok minus_one;
-  lists = with_sent s p from (word_of to) l;
+  lists = with_sent s p from to l;
   plain = [];
-  events = Accepted to p (signed from) ∷ [];
+  events = Accepted (signed to) p (signed from) ∷ [];
 }

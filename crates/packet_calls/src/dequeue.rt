@@ -90,14 +90,15 @@ fn find_packet(store: &Store, id: u32, named: Queue, p: u32) -> Option<Found>
             answer: id,
         });
     }
-    if id == CONSOLE {
-        if has_packet(store, Queue::OfReads, p) {
-            return Some(Found {
-                queue: Queue::OfReads,
-                number: READS,
-                answer: id,
-            });
-        }
+    if id != CONSOLE {
+        return find_own(store, p);
+    }
+    if has_packet(store, Queue::OfReads, p) {
+        return Some(Found {
+            queue: Queue::OfReads,
+            number: READS,
+            answer: id,
+        });
     }
     find_own(store, p)
 }

@@ -22,10 +22,15 @@ pub(crate) fn destination(store: &Store, number: u32) -> Option<Queue>
     requires { (l : Lists) × HoldsLists store.now l }
     ensures { (l : Lists) → HoldsLists store.now l → result ≡ destination_of l number }
 {
-    match number {
-        CLOCK => Some(Queue::OfClock),
-        KEYBOARD => Some(Queue::OfKeyboard),
-        OUTPUT => Some(Queue::OfOutput),
-        id => Some(Queue::OfTask(find(store, id)?)),
+    if number == CLOCK {
+        return Some(Queue::OfClock);
     }
+    if number == KEYBOARD {
+        return Some(Queue::OfKeyboard);
+    }
+    if number == OUTPUT {
+        return Some(Queue::OfOutput);
+    }
+    let task = find(store, number)?;
+    Some(Queue::OfTask(task))
 }

@@ -1,18 +1,18 @@
-// The events of packets.
+// The events of packets. Tasks and devices are named by words here, and by signed numbers in the events.
 ghost use Rattle.std.specs.Prelude.{◌≡◌};
 ghost use Rattle.word_store.specs.Arithmetic.{signed};
 
 use packet_queue::KernelEvent;
 use word_store::signed;
 
-/// A packet came into a queue.
-pub(crate) fn accepted(queue: i32, packet: u32, sender: i32) -> KernelEvent
-    ensures { result ≡ KernelEvent.Accepted queue packet sender }
+/// A packet came into a queue, from a task or a device.
+pub(crate) fn accepted(queue: u32, packet: u32, sender: u32) -> KernelEvent
+    ensures { result ≡ KernelEvent.Accepted (signed queue) packet (signed sender) }
 {
     KernelEvent::Accepted {
-        queue,
+        queue: signed(queue),
         packet,
-        sender,
+        sender: signed(sender),
     }
 }
 

@@ -12,7 +12,7 @@ use crate::events::accepted;
 use crate::packets::{PACKET_WORDS, send};
 use packet_queue::EventLog;
 use word_kinds::KindKeeper;
-use word_store::{Store, signed};
+use word_store::Store;
 
 /// Sends the packet at p, which is on no queue, from the task `from` to the end of the work queue of the task `to`. Or it sends
 /// the console's key packet to the keyboard (-2): the words of this packet are the kernel's whether it is queued or not, so the
@@ -30,10 +30,10 @@ pub fn send_own<Q: KindKeeper, L: EventLog>(
     ensures made { (l : Lists) → HasKeeper store.old (Q.tells kinds.old) (Q.room kinds.old) l
         → CanSendOwn l p from (word_of to)
         → IsMade store.old store.new (Q.tells kinds.new) (Ok minus_one)
-        (send_own store.old l p from to) }
+        (send_own store.old l p from (word_of to)) }
     ensures notes { (l : Lists) → HasKeeper store.old (Q.tells kinds.old) (Q.room kinds.old) l
         → CanSendOwn l p from (word_of to) → NotesAll (L.noted log.old) (L.noted log.new)
-        (L.has_failed log.old) (L.has_failed log.new) (send_own store.old l p from to).events }
+        (L.has_failed log.old) (L.has_failed log.new) (send_own store.old l p from (word_of to)).events }
     ensures room { Q.room kinds.new ≡ Q.room kinds.old }
 {
     let number = to.cast_unsigned();
@@ -44,5 +44,5 @@ pub fn send_own<Q: KindKeeper, L: EventLog>(
     if number != KEYBOARD {
         kinds.claim(p, PACKET_WORDS);
     }
-    log.note(accepted(to, p, signed(from)));
+    log.note(accepted(number, p, from));
 }

@@ -12,7 +12,7 @@ use crate::packets::{SENDER, give_back};
 use crate::queues::Queue;
 use packet_queue::EventLog;
 use task_block::find;
-use word_store::{Store, signed, word_at};
+use word_store::{Store, word_at};
 
 /// Returns the packet at p, which is on no queue, with these results to the task that its word 1 names: it comes to the end of
 /// the work queue of that task, and its word 1 has then the number of who returns it. A keeper that was not told that its
@@ -27,15 +27,16 @@ pub fn reply<L: EventLog>(
 )
     requires { (l : Lists) × HoldsLists store.old l × CanReply store.old l p (word_of from) }
     ensures made { (l : Lists) → HoldsLists store.old l → CanReply store.old l p (word_of from)
-        → Leaves store.old store.new (Ok minus_one) (reply store.old l p from res1 res2) }
+        → Leaves store.old store.new (Ok minus_one) (reply store.old l p (word_of from) res1 res2) }
     ensures notes { (l : Lists) → HoldsLists store.old l → CanReply store.old l p (word_of from)
         → NotesAll (L.noted log.old) (L.noted log.new)
-        (L.has_failed log.old) (L.has_failed log.new) (reply store.old l p from res1 res2).events }
+        (L.has_failed log.old) (L.has_failed log.new) (reply store.old l p (word_of from) res1 res2).events }
 {
     let sender = word_at(store, p, SENDER);
     let Some(task) = find(store, sender) else {
         return;
     };
-    give_back(store, Queue::OfTask(task), p, from.cast_unsigned(), res1, res2);
-    log.note(accepted(signed(sender), p, from));
+    let from = from.cast_unsigned();
+    give_back(store, Queue::OfTask(task), p, from, res1, res2);
+    log.note(accepted(sender, p, from));
 }

@@ -19,7 +19,7 @@ use getvec_chain::{Block, block_of};
 use packet_queue::{EventLog, NO_QUEUE};
 use task_block::{TcbField, field};
 use word_kinds::{KindKeeper, clear};
-use word_store::{Store, signed, word, word_at};
+use word_store::{Store, word, word_at};
 
 /// Sends the packet at p to the task or the device that its word 1 names; this word has then the number of the task that
 /// calls. At the clock (-1) it stands by its due tick, which is the tick plus the packet's word 5, but not above 2^32 - 1, and
@@ -50,7 +50,7 @@ pub fn qpkt<Q: KindKeeper, L: EventLog>(
     let sender = field(store, caller(store), TcbField::Id);
     send(store, queue, p, sender);
     kinds.claim(p, PACKET_WORDS);
-    log.note(accepted(signed(number), p, signed(sender)));
+    log.note(accepted(number, p, sender));
     Ok(())
 }
 
