@@ -13,3 +13,5 @@ pub mod OwnedMarks
 pub mod PacketTests
 pub mod NamedQueues
 pub mod SendCall
+pub mod Searches
+pub mod DequeueCall

@@ -45,8 +45,8 @@ pub record Names (l : Lists) (n : ℕ) (q : Queue) : Type 0 where
   pub queue : q ≡ queue_for l (place_of n)
   pub place : HasPlace l (place_of n)
 
-place-there : (l : Lists) (n : ℕ) → is_destination l n ≡ true → HasPlace l (place_of n)
-place-there l n e = on (eqb n (device 1)) (eqb n (device 2)) (eqb n (device 3)) e
+pub named-place : (l : Lists) (n : ℕ) → is_destination l n ≡ true → HasPlace l (place_of n)
+named-place l n e = on (eqb n (device 1)) (eqb n (device 2)) (eqb n (device 3)) e
   where
     on : (a b c : Bool) → (a || (b || (c || has_task n l.tasks))) ≡ true → HasPlace l (cond a Clock (cond b Keyboard (cond c Output (Work n))))
     on true b c e = tt
@@ -58,7 +58,7 @@ pub names-some : (l : Lists) (n : ℕ) (q : Queue) → destination_of l n ≡ So
 names-some l n q e = on (is_destination l n) refl e
   where
     on : (b : Bool) → is_destination l n ≡ b → cond b (Some (queue_for l (place_of n))) None ≡ Some q → Names l n q
-    on true is e = record { is = is; queue = cc; place = place-there l n is }
+    on true is e = record { is = is; queue = cc; place = named-place l n is }
     on false is e = cc
 
 -- a queue, or the code where there is none
