@@ -15,3 +15,5 @@ pub mod NamedQueues
 pub mod SendCall
 pub mod Searches
 pub mod DequeueCall
+pub mod ReplyCall
+pub mod OwnPackets

@@ -7,7 +7,7 @@ ghost use Rattle.kernel_model.specs.NotedEvents.{NotesAll};
 ghost use Rattle.call_answers.specs.Made.{IsMade, minus_one};
 ghost use Rattle.packet_calls.specs.SendOwn.{CanSendOwn, send_own};
 
-use crate::destinations::{KEYBOARD, destination};
+use crate::destinations::{KEYBOARD, destination, number_word};
 use crate::events::accepted;
 use crate::packets::{PACKET_WORDS, send};
 use packet_queue::EventLog;
@@ -36,13 +36,14 @@ pub fn send_own<Q: KindKeeper, L: EventLog>(
         (L.has_failed log.old) (L.has_failed log.new) (send_own store.old l p from (word_of to)).events }
     ensures room { Q.room kinds.new ≡ Q.room kinds.old }
 {
-    let number = to.cast_unsigned();
+    let number = number_word(to);
     let Some(queue) = destination(store, number) else {
         return;
     };
     send(store, queue, p, from);
-    if number != KEYBOARD {
-        kinds.claim(p, PACKET_WORDS);
-    }
     log.note(accepted(number, p, from));
+    if number == KEYBOARD {
+        return;
+    }
+    kinds.claim(p, PACKET_WORDS);
 }

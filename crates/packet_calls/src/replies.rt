@@ -7,6 +7,7 @@ ghost use Rattle.kernel_model.specs.NotedEvents.{NotesAll};
 ghost use Rattle.call_answers.specs.Made.{Leaves, minus_one};
 ghost use Rattle.packet_calls.specs.Reply.{CanReply, reply};
 
+use crate::destinations::number_word;
 use crate::events::accepted;
 use crate::packets::{SENDER, give_back};
 use crate::queues::Queue;
@@ -36,7 +37,7 @@ pub fn reply<L: EventLog>(
     let Some(task) = find(store, sender) else {
         return;
     };
-    let from = from.cast_unsigned();
+    let from = number_word(from);
     give_back(store, Queue::OfTask(task), p, from, res1, res2);
     log.note(accepted(sender, p, from));
 }
