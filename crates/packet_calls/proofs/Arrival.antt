@@ -9,7 +9,7 @@ use Rattle.owned_words.specs.Owned.{Holds, Pairs, owners, written}
 use Rattle.owned_words.proofs.Exchanges.{exchange-all, exchange-insert, links-first, splits-all, splits-both}
 use Rattle.owned_words.proofs.OwnedWords.{Holds-left, Holds-right, Holds-same, length-written, owners-append, written-append, written-other}
 use Rattle.packet_queue.specs.Queue.{CanQueue}
-use Rattle.packet_queue.specs.QueueWords.{CanAppend, HeldQueue, QueuedPacket, address_of, first_packet, link_behind, other_words, packet_words, queue_words}
+use Rattle.packet_queue.specs.QueueWords.{HeldQueue, QueuedPacket, address_of, first_packet, link_behind, other_words, packet_words, queue_words}
 use Rattle.packet_queue.proofs.HeldQueues.{appendable}
 use Rattle.kernel_model.specs.ChangedStore.{IsChanged}
 use Rattle.kernel_model.specs.Changes.{HasPlace, queue_of, with_queue}

@@ -1,7 +1,7 @@
 -- What a packet that comes into a queue writes.
-use Rattle.std.proofs.Common.{◌≡◌, ℕ, ◌+◌, List, [], ◌∷◌, ◌++◌, set, true, refl, ap, ◌∙◌, subst}
+use Rattle.std.proofs.Common.{◌≡◌, ℕ, ◌+◌, List, [], ◌∷◌, ◌++◌, set, ap, ◌∙◌}
 use Rattle.std.specs.List.{AllByRecursion}
-use Rattle.owned_words.specs.Owned.{Holds, Pairs, written}
+use Rattle.owned_words.specs.Owned.{Holds, written}
 use Rattle.packet_queue.specs.QueueWords.{HeldQueue, QueuedPacket, link_behind}
 use Rattle.packet_queue.proofs.HeldQueues.{append-exchange}
 use Rattle.kernel_model.specs.Changes.{HasPlace}

@@ -1,5 +1,5 @@
 -- The task that calls: its number, its queue and its state, as the store has them.
-use Rattle.std.proofs.Common.{◌≡◌, ℕ, ◌+◌, ◌≤◌, Bool, true, false, Some, None, List, [], ◌∷◌, ◌++◌, map, cond, get_or, refl, sym, ap, ◌∙◌, subst, arith}
+use Rattle.std.proofs.Common.{◌≡◌, ℕ, ◌+◌, ◌≤◌, Bool, true, false, List, [], ◌∷◌, ◌++◌, map, cond, get_or, sym, ap, ◌∙◌, subst, arith}
 use Rattle.std.specs.List.{AllByRecursion}
 use Rattle.linked_list.specs.Count.{IsApart}
 use Rattle.packet_queue.specs.QueueWords.{QueuedPacket, first_packet}
@@ -7,7 +7,7 @@ use Rattle.task_block.specs.HeldTasks.{address_with}
 use Rattle.kernel_model.specs.Changes.{queue_of}
 use Rattle.kernel_model.specs.HoldsLists.{HoldsLists}
 use Rattle.kernel_model.specs.Lists.{Lists, address_of_task, has_task}
-use Rattle.kernel_model.specs.Task.{Task, is_guest_id, queue_bit, queue_head, state_word, task_address, task_id, task_words}
+use Rattle.kernel_model.specs.Task.{Task, queue_bit, state_word, task_address, task_id, task_words}
 use Rattle.kernel_model.specs.ValidQueues.Place.{Work}
 use Rattle.kernel_model.specs.ValidTasks.{runs}
 use Rattle.kernel_model.proofs.AllThings.{all-here}
@@ -19,7 +19,6 @@ use Rattle.call_answers.specs.Guests.{GuestAt}
 use Rattle.call_answers.proofs.FoundTask.{reads}
 use Rattle.call_answers.proofs.GuestTask.{guest-facts}
 use Rattle.packet_calls.specs.Destinations.{queue_for}
-use Rattle.packet_calls.specs.declared.queues.Queue.{Queue}
 use Rattle.packet_calls.specs.declared.queues.Queue.TheVariants.{OfTask}
 use Rattle.packet_calls.proofs.HeldPlaces.{held-at}
 

@@ -1,16 +1,15 @@
 -- A packet goes out of a queue, and the store holds the lists without it.
-use Rattle.std.proofs.Common.{◌≡◌, ◌≢◌, ℕ, ◌+◌, ◌<◌, ◌≤◌, true, List, [], ◌∷◌, ◌++◌, map, get_or, set, length, inl, inr, refl, sym, ap, ◌∙◌, subst, arith}
+use Rattle.std.proofs.Common.{◌≡◌, ℕ, ◌+◌, ◌<◌, ◌≤◌, List, [], ◌∷◌, ◌++◌, get_or, set, length, inl, inr, sym, ap, ◌∙◌, subst, arith}
 use Rattle.std.specs.List.{AllByRecursion, range_with_len}
 use Rattle.std.proofs.lemmas.Bool.{cases_eq}
-use Rattle.std.proofs.lemmas.List.{get_or-set_other, get_or-set_same, length-set}
-use Rattle.linked_list.specs.Count.{IsApart, times}
+use Rattle.linked_list.specs.Count.{times}
 use Rattle.linked_list.proofs.Counts.{hit-le, hit-other, times-within}
 use Rattle.owned_words.specs.Exchange.{Exchange}
 use Rattle.owned_words.specs.Owned.{Holds, Pairs, owners, written}
 use Rattle.owned_words.specs.Written.{IsWritten}
 use Rattle.owned_words.proofs.Exchanges.{exchange-all}
 use Rattle.owned_words.proofs.WrittenWords.{ordered-hold}
-use Rattle.owned_words.proofs.OwnedWords.{Holds-append, Holds-left, Holds-right, Holds-written, length-written, owners-append, written-other}
+use Rattle.owned_words.proofs.OwnedWords.{Holds-append, Holds-left, Holds-right, owners-append, written-other}
 use Rattle.packet_queue.specs.Queue.{no_queue, unlinked}
 use Rattle.packet_queue.specs.QueueWords.{HeldQueue, QueuedPacket, RemoveExchange, first_packet, link_behind, packet_words, queue_words}
 use Rattle.packet_queue.proofs.HeldQueues.{remove-exchange}
@@ -19,7 +18,6 @@ use Rattle.kernel_model.specs.Changes.{HasPlace, queue_of, with_queue}
 use Rattle.kernel_model.specs.HoldsLists.{HoldsLists}
 use Rattle.kernel_model.specs.Lists.{Lists, address_of_task}
 use Rattle.kernel_model.specs.Owned.{owned}
-use Rattle.kernel_model.specs.Task.{task_id}
 use Rattle.kernel_model.specs.ValidLists.{AreValid}
 use Rattle.kernel_model.specs.ValidQueues.{MayStand, Place}
 use Rattle.kernel_model.specs.ValidQueues.Place.{Clock, Keyboard, Output, Pending, Work}

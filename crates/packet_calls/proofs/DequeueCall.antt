@@ -1,7 +1,6 @@
 -- What a task that takes a packet back leaves.
-use Rattle.std.proofs.Common.{◌≡◌, ℕ, ◌+◌, ◌<◌, ◌≤◌, ◌&&◌, ◌||◌, Bool, true, false, not, Option, Some, None, Result, Ok, Err, List, [], ◌∷◌, ◌++◌, cond, eqb, get_or, is_some, length, set, refl, sym, ap, ◌∙◌, subst, arith}
+use Rattle.std.proofs.Common.{◌≡◌, ℕ, ◌+◌, ◌<◌, ◌&&◌, ◌||◌, Bool, true, false, not, Option, Some, None, Ok, Err, List, [], ◌∷◌, ◌++◌, cond, eqb, is_some, length, set, refl, sym, ap, ◌∙◌, subst, arith}
 use Rattle.std.specs.List.{range_with_len}
-use Rattle.std.proofs.lemmas.List.{length-set}
 use Rattle.word_store.specs.Arithmetic.{signed}
 use Rattle.linked_list.specs.Count.{IsApart}
 use Rattle.linked_list.specs.Places.{has}
@@ -18,17 +17,17 @@ use Rattle.kernel_model.specs.NotedEvents.{NotesAll}
 use Rattle.kernel_model.specs.Owned.{owned}
 use Rattle.kernel_model.specs.Residents.{fault_packet, key_packet}
 use Rattle.kernel_model.specs.ValidLists.{AreValid}
-use Rattle.kernel_model.specs.ValidQueues.{Place, is_fault_packet, is_key_packet}
+use Rattle.kernel_model.specs.ValidQueues.{is_fault_packet, is_key_packet}
 use Rattle.kernel_model.proofs.NotedInTurn.{notes-none, notes-one}
 use Rattle.kernel_model.proofs.PacketMoves.{unqueued-unowned, unqueued-valid}
 use Rattle.kernel_model.proofs.QueuePlaces.{place-there}
 use Rattle.word_kinds.specs.Keeper.{AreTogether}
 use Rattle.word_kinds.proofs.KnownWords.{knows-released}
-use Rattle.call_answers.specs.Made.{IsMade, by_refusal, minus_one}
+use Rattle.call_answers.specs.Made.{IsMade, by_refusal}
 use Rattle.call_answers.specs.Refusals.{first_refusal}
 use Rattle.call_answers.proofs.MadeCalls.{made-accepted, made-refused}
 use Rattle.packet_calls.specs.Destinations.{is_destination, queue_for}
-use Rattle.packet_calls.specs.Dqpkt.{Search, dequeued, dqpkt, dqpkt_tests, found_in, is_residents_packet, located, searches}
+use Rattle.packet_calls.specs.Dqpkt.{Search, dequeued, dqpkt, dqpkt_tests, found_in, is_residents_packet, searches}
 use Rattle.packet_calls.specs.PacketMoves.{departed, stands_in}
 use Rattle.packet_calls.specs.QueueWords.{head_of, left_queue}
 use Rattle.packet_calls.specs.declared.dequeue.Found.{Found}

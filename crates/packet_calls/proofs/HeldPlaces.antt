@@ -1,10 +1,9 @@
 -- The queue at a place, as the store has it.
-use Rattle.std.proofs.Common.{◌≡◌, ℕ, ◌+◌, ◌<◌, ◌||◌, Bool, true, false, List, [], ◌∷◌, ◌++◌, map, cond, eqb, length, refl, sym, ap, ◌∙◌, subst, arith}
-use Rattle.std.specs.List.{AllByRecursion, list_any}
+use Rattle.std.proofs.Common.{◌≡◌, ℕ, ◌+◌, ◌||◌, Bool, true, false, List, [], ◌∷◌, ◌++◌, map, cond, eqb, refl, sym, ap, ◌∙◌, arith}
 use Rattle.std.proofs.lemmas.Bool.{eqb-true}
 use Rattle.linked_list.specs.Places.{has}
 use Rattle.owned_words.specs.Exchange.{Exchange}
-use Rattle.owned_words.specs.Owned.{Holds, Pairs, owners}
+use Rattle.owned_words.specs.Owned.{Pairs, owners}
 use Rattle.owned_words.proofs.Exchanges.{exchange-all}
 use Rattle.owned_words.proofs.OwnedWords.{Holds-right, owners-append}
 use Rattle.packet_queue.specs.Queue.{HasQueue, queue_at}

@@ -3,11 +3,10 @@
 use Rattle.std.proofs.Common.{◌≡◌, ◌≢◌, ℕ, ◌<◌, List, [], ◌∷◌, ◌++◌, get_or, length, set, inl, inr, sym, ap, ◌∙◌, subst, arith}
 use Rattle.std.proofs.lemmas.Bool.{cases_eq}
 use Rattle.std.proofs.lemmas.List.{get_or-set_other, get_or-set_same, length-set}
-use Rattle.linked_list.proofs.Counts.{hit-same}
 use Rattle.owned_words.specs.Exchange.{Exchange, Splits}
 use Rattle.owned_words.specs.Owned.{Holds, Pairs, owners, written}
 use Rattle.owned_words.specs.Written.{IsWritten}
-use Rattle.owned_words.proofs.Exchanges.{exchange-as, splits-then}
+use Rattle.owned_words.proofs.Exchanges.{exchange-as}
 use Rattle.owned_words.proofs.OwnedWords.{Holds-append, Holds-left, Holds-right, Holds-same, length-written, owners-append}
 use Rattle.owned_words.proofs.WrittenWords.{ordered-hold}
 use Rattle.kernel_model.specs.ChangedStore.{IsChanged}

@@ -1,27 +1,27 @@
 -- What a packet that a resident sends leaves.
-use Rattle.std.proofs.Common.{◌≡◌, ◌≢◌, ℕ, ◌+◌, ◌<◌, ◌≤◌, ◌&&◌, Bool, true, false, not, Option, Some, None, Ok, List, [], ◌∷◌, ◌++◌, map, cond, eqb, get_or, is_some, set, inl, inr, refl, sym, ap, ◌∙◌, subst, arith, append-nil}
+use Rattle.std.proofs.Common.{◌≡◌, ◌≢◌, ℕ, ◌+◌, ◌<◌, ◌≤◌, Bool, true, not, Option, Some, None, Ok, List, [], ◌∷◌, ◌++◌, cond, get_or, is_some, set, inl, inr, refl, sym, ap, ◌∙◌, subst, arith, append-nil}
 use Rattle.std.specs.List.{AllByRecursion, range_with_len}
 use Rattle.std.proofs.lemmas.Bool.{and_parts, eq-eqb, ne_eqb}
 use Rattle.word_store.specs.Arithmetic.{signed}
 use Rattle.linked_list.specs.Count.{times}
 use Rattle.linked_list.proofs.AllMembers.{all-append}
 use Rattle.owned_words.specs.Exchange.{Exchange}
-use Rattle.owned_words.specs.Owned.{Holds, Pairs, owners, written}
+use Rattle.owned_words.specs.Owned.{Holds, Pairs, owners}
 use Rattle.owned_words.proofs.RowWords.{owners-row}
 use Rattle.packet_queue.specs.Log.{Notes}
 use Rattle.packet_queue.specs.Queue.{CanQueue, HasQueue, no_queue}
 use Rattle.packet_queue.specs.QueueWords.{QueuedPacket}
 use Rattle.packet_queue.specs.declared.events.KernelEvent.{KernelEvent}
 use Rattle.packet_queue.specs.declared.events.KernelEvent.TheVariants.{Accepted}
-use Rattle.kernel_model.specs.ChangedStore.{HasKeeper, IsChanged, Knows}
+use Rattle.kernel_model.specs.ChangedStore.{HasKeeper, IsChanged}
 use Rattle.kernel_model.specs.Changes.{with_key, with_queue}
 use Rattle.kernel_model.specs.HoldsLists.{HoldsLists}
 use Rattle.kernel_model.specs.Lists.{Lists, has_task, is_queued}
 use Rattle.kernel_model.specs.NotedEvents.{NotesAll}
 use Rattle.kernel_model.specs.Owned.{owned}
-use Rattle.kernel_model.specs.Residents.{device, key_packet, key_words, keyboard}
+use Rattle.kernel_model.specs.Residents.{key_packet, key_words, keyboard}
 use Rattle.kernel_model.specs.ValidLists.{AreValid}
-use Rattle.kernel_model.specs.ValidQueues.{IsKeyPacket, Place}
+use Rattle.kernel_model.specs.ValidQueues.{IsKeyPacket}
 use Rattle.kernel_model.specs.ValidQueues.Place.{Keyboard, Work}
 use Rattle.kernel_model.specs.ValidTasks.{IsField}
 use Rattle.kernel_model.proofs.AllThings.{all-here}

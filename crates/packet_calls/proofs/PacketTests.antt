@@ -1,5 +1,5 @@
 -- What the tests of a packet say of its words.
-use Rattle.std.proofs.Common.{◌≡◌, ℕ, zero, suc, ◌+◌, ◌<◌, ◌≤◌, ◌&&◌, ◌||◌, Bool, true, false, not, Option, Some, None, Result, Err, List, [], ◌∷◌, cond, eqb, ltb, find, get_or, inl, inr, refl, sym, ap, ◌∙◌, subst, arith}
+use Rattle.std.proofs.Common.{◌≡◌, ℕ, zero, suc, ◌+◌, ◌<◌, ◌≤◌, ◌&&◌, ◌||◌, Bool, true, false, not, Option, Some, None, Result, Err, List, [], ◌∷◌, cond, eqb, ltb, find, get_or, inl, inr, refl, sym, ap, ◌∙◌, arith}
 use Rattle.std.specs.List.{list_any, range_with_len}
 use Rattle.std.specs.Option.{option_map_or}
 use Rattle.std.proofs.lemmas.Bool.{and_parts, cases_eq, cases_lt, lt-ltb, ltb-true}
@@ -13,8 +13,7 @@ use Rattle.kernel_model.specs.Lists.{Lists}
 use Rattle.kernel_model.specs.Owned.{owned}
 use Rattle.kernel_model.specs.ValidBlocks.{AreData}
 use Rattle.call_answers.specs.Refusals.{answer_of, first_refusal}
-use Rattle.packet_calls.specs.Destinations.{is_destination}
-use Rattle.packet_calls.specs.Qpkt.{is_lodged, is_plain, packet_tests, qpkt_tests}
+use Rattle.packet_calls.specs.Qpkt.{is_lodged, is_plain, packet_tests}
 
 -- what was found passes the test
 pub found-passes : {X : Type 0} (f : X → Bool) (xs : List X) (x : X) → find f xs ≡ Some x → f x ≡ true

@@ -1,6 +1,6 @@
 -- The words of a queue among all owned words: an exchange in the queue at a place is one of all, together with the state of the
 -- task whose queue it is.
-use Rattle.std.proofs.Common.{◌≡◌, ◌≢◌, ℕ, ◌+◌, ◌%◌, ◌-◌, ◌<◌, ◌||◌, Bool, true, false, None, List, [], ◌∷◌, ◌++◌, map, cond, eqb, inl, inr, refl, sym, ap, ◌∙◌, subst, arith}
+use Rattle.std.proofs.Common.{◌≡◌, ℕ, ◌+◌, ◌%◌, ◌-◌, ◌<◌, ◌||◌, Bool, true, false, None, List, [], ◌∷◌, ◌++◌, map, cond, eqb, inl, inr, refl, sym, ap, ◌∙◌, subst, arith}
 use Rattle.std.specs.List.{AllByRecursion}
 use Rattle.std.proofs.lemmas.Bool.{eq-eqb, ne_eqb}
 use Rattle.linked_list.specs.Count.{IsApart, times}

@@ -1,11 +1,10 @@
 -- What a packet that is returned leaves.
-use Rattle.std.proofs.Common.{◌≡◌, ℕ, ◌+◌, ◌<◌, Bool, true, false, Option, Some, None, Ok, List, [], ◌∷◌, ◌++◌, get_or, set, refl, sym, ap, ◌∙◌, subst, arith, append-nil}
-use Rattle.std.specs.List.{AllByRecursion, range_with_len}
+use Rattle.std.proofs.Common.{◌≡◌, ℕ, ◌+◌, ◌<◌, Bool, Option, Some, None, Ok, List, [], ◌∷◌, ◌++◌, get_or, refl, sym, ap, ◌∙◌, subst, arith, append-nil}
+use Rattle.std.specs.List.{AllByRecursion}
 use Rattle.std.proofs.lemmas.Bool.{false≢true}
 use Rattle.word_store.specs.Arithmetic.{signed}
-use Rattle.linked_list.specs.Count.{times}
 use Rattle.owned_words.specs.Exchange.{Exchange}
-use Rattle.owned_words.specs.Owned.{Pairs, owners, written}
+use Rattle.owned_words.specs.Owned.{Pairs}
 use Rattle.owned_words.proofs.Exchanges.{exchange-none}
 use Rattle.packet_queue.specs.Log.{Notes}
 use Rattle.packet_queue.specs.Queue.{CanQueue, HasQueue}
@@ -13,7 +12,6 @@ use Rattle.packet_queue.specs.QueueWords.{QueuedPacket}
 use Rattle.packet_queue.specs.declared.events.KernelEvent.{KernelEvent}
 use Rattle.packet_queue.specs.declared.events.KernelEvent.TheVariants.{Accepted}
 use Rattle.task_block.specs.TaskChain.{task_with, tasks_in}
-use Rattle.kernel_model.specs.ChangedStore.{IsChanged}
 use Rattle.kernel_model.specs.Changes.{queue_of, with_queue}
 use Rattle.kernel_model.specs.HoldsLists.{HoldsLists}
 use Rattle.kernel_model.specs.Lists.{Lists, has_task}

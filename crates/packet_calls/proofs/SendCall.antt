@@ -1,8 +1,7 @@
 -- What a task that sends a packet leaves.
-use Rattle.std.proofs.Common.{◌≡◌, ℕ, ◌+◌, ◌<◌, ◌≤◌, Bool, true, false, Option, Some, None, Result, Ok, Err, List, [], ◌∷◌, ◌++◌, cond, get_or, length, set, refl, sym, ap, ◌∙◌, subst, arith}
+use Rattle.std.proofs.Common.{◌≡◌, ℕ, ◌+◌, ◌≤◌, Bool, false, Option, Some, None, Ok, Err, List, [], ◌∷◌, cond, get_or, set, refl, sym, ap, ◌∙◌, subst, arith}
 use Rattle.std.specs.List.{range_with_len}
 use Rattle.word_store.specs.Arithmetic.{signed}
-use Rattle.linked_list.specs.Count.{IsApart}
 use Rattle.packet_queue.specs.Log.{Notes}
 use Rattle.packet_queue.specs.Queue.{CanQueue, HasQueue}
 use Rattle.packet_queue.specs.declared.events.KernelEvent.{KernelEvent}

@@ -1,11 +1,11 @@
 -- A packet that nobody owns is sent to a queue.
-use Rattle.std.proofs.Common.{◌≡◌, ℕ, ◌+◌, ◌<◌, ◌≤◌, Bool, true, false, List, [], ◌∷◌, ◌++◌, map, get_or, set, inl, inr, refl, sym, ap, ◌∙◌, subst, arith, append-nil}
+use Rattle.std.proofs.Common.{◌≡◌, ℕ, ◌+◌, ◌<◌, List, [], ◌∷◌, ◌++◌, get_or, set, inl, inr, refl, sym, ap, ◌∙◌, subst, arith, append-nil}
 use Rattle.std.specs.List.{AllByRecursion, range_with_len}
 use Rattle.std.proofs.lemmas.Bool.{cases_eq, false≢true}
 use Rattle.linked_list.specs.Count.{times}
 use Rattle.linked_list.proofs.Counts.{hit-other, times-within}
 use Rattle.owned_words.specs.Exchange.{Exchange, Splits}
-use Rattle.owned_words.specs.Owned.{Holds, Pairs, owners, written}
+use Rattle.owned_words.specs.Owned.{Pairs, owners}
 use Rattle.owned_words.proofs.Exchanges.{exchange-none}
 use Rattle.packet_queue.specs.Queue.{CanQueue, HasQueue}
 use Rattle.packet_queue.specs.QueueWords.{HeldQueue, QueuedPacket, packet_words}

@@ -1,5 +1,5 @@
 -- What a task that takes its first packet leaves, and one that waits for a packet.
-use Rattle.std.proofs.Common.{◌≡◌, ◌≢◌, ℕ, ◌+◌, ◌≤◌, ◌<◌, Bool, true, false, Option, Some, None, Ok, List, [], ◌∷◌, ◌++◌, map, cond, get_or, set, eqb, inl, inr, refl, sym, ap, ◌∙◌, subst, arith}
+use Rattle.std.proofs.Common.{◌≡◌, ◌≢◌, ℕ, ◌+◌, ◌<◌, Bool, true, false, Option, Some, None, Ok, List, [], ◌∷◌, ◌++◌, map, cond, get_or, set, eqb, inl, inr, refl, sym, ap, ◌∙◌, subst, arith}
 use Rattle.std.specs.List.{AllByRecursion, range_with_len}
 use Rattle.std.proofs.lemmas.Bool.{eq-eqb, false_from_ne_true, leb-true, or_left}
 use Rattle.word_store.specs.Arithmetic.{signed}
@@ -7,7 +7,6 @@ use Rattle.linked_list.specs.Count.{IsApart}
 use Rattle.linked_list.specs.Places.{has}
 use Rattle.owned_words.specs.Exchange.{Exchange}
 use Rattle.owned_words.specs.LinkedWords.{first_of}
-use Rattle.owned_words.specs.Owned.{owners}
 use Rattle.owned_words.proofs.Exchanges.{exchange-left, exchange-right, exchange-row}
 use Rattle.packet_queue.specs.Log.{Notes}
 use Rattle.packet_queue.specs.Queue.{HasQueue, queue_at}
@@ -17,7 +16,6 @@ use Rattle.packet_queue.specs.declared.events.KernelEvent.TheVariants.{Taken}
 use Rattle.coroutines.specs.CoroutineExchanges.{words_of_coroutines}
 use Rattle.kernel_model.specs.ChangedStore.{HasKeeper, IsChanged, Knows}
 use Rattle.kernel_model.specs.Changes.{change_of, queue_of, with_queue, with_task, with_tasks}
-use Rattle.kernel_model.specs.HoldsLists.{HoldsLists}
 use Rattle.kernel_model.specs.Lists.{Lists, has_task}
 use Rattle.kernel_model.specs.NotedEvents.{NotesAll}
 use Rattle.kernel_model.specs.Owned.{owned}
@@ -25,7 +23,7 @@ use Rattle.kernel_model.specs.Task.{Task, fault_words, globals_of, is_guest_id, 
 use Rattle.kernel_model.specs.ValidLists.{AreValid}
 use Rattle.kernel_model.specs.ValidQueues.{IsFaultPacket, IsKeyPacket, MayStand, Place, is_fault_packet, is_key_packet}
 use Rattle.kernel_model.specs.ValidQueues.Place.{Clock, Keyboard, Output, Pending, Work}
-use Rattle.kernel_model.specs.ValidTasks.{CoroutinesStand, IsTask, runs, waits}
+use Rattle.kernel_model.specs.ValidTasks.{IsTask}
 use Rattle.kernel_model.proofs.ChainSplits.{change-between}
 use Rattle.kernel_model.proofs.ChangedLists.{exchange-owned, knows-same, one_task-owned, owners-exchanged}
 use Rattle.kernel_model.proofs.NotedInTurn.{notes-none, notes-one}
@@ -41,9 +39,9 @@ use Rattle.call_answers.proofs.GuestTask.{GuestFacts, guest-facts}
 use Rattle.packet_calls.specs.Destinations.{queue_for}
 use Rattle.packet_calls.specs.PacketMoves.{stands_in}
 use Rattle.packet_calls.specs.QueueWords.{head_of, left_queue}
-use Rattle.packet_calls.specs.TaskWait.{answer_of_wait, first_of_queue, taskwait, waited, waiting}
+use Rattle.packet_calls.specs.TaskWait.{first_of_queue, taskwait, waited, waiting}
 use Rattle.packet_calls.specs.declared.queues.Queue.TheVariants.{OfTask}
-use Rattle.packet_calls.proofs.CallerTask.{caller-first, caller-number, caller-packets, caller-queue, caller-runs, caller-state, caller-there}
+use Rattle.packet_calls.proofs.CallerTask.{caller-first, caller-number, caller-queue, caller-runs, caller-state, caller-there}
 use Rattle.packet_calls.proofs.HeldPlaces.{has-at, held-at, stands-at}
 use Rattle.packet_calls.proofs.Departure.{departed-changed, held-before, others-kept, owners-departed}
 

@@ -2,7 +2,6 @@
 use Rattle.std.specs.Prelude.{ℕ, ◌+◌, ◌==◌, ◌&&◌, ◌||◌, Bool, if◌then◌else◌, not, find, is_some, Option, Some, None, Ok, List, [], ◌∷◌, ◌++◌}
 use Rattle.word_store.specs.Arithmetic.{signed}
 use Rattle.packet_queue.specs.Queue.{no_queue}
-use Rattle.packet_queue.specs.declared.events.KernelEvent.{KernelEvent}
 use Rattle.packet_queue.specs.declared.events.KernelEvent.TheVariants.{Dequeued}
 use Rattle.kernel_model.specs.Changes.{queue_of}
 use Rattle.kernel_model.specs.Lists.{Lists, has_task}

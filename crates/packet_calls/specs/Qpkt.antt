@@ -7,7 +7,6 @@ use Rattle.owned_words.specs.Owned.{owners}
 use Rattle.getvec_chain.specs.Block.{has_data}
 use Rattle.getvec_chain.specs.Tiling.{holding}
 use Rattle.packet_queue.specs.Queue.{no_queue}
-use Rattle.packet_queue.specs.declared.events.KernelEvent.{KernelEvent}
 use Rattle.packet_queue.specs.declared.events.KernelEvent.TheVariants.{Accepted}
 use Rattle.kernel_model.specs.Lists.{Lists}
 use Rattle.kernel_model.specs.Owned.{owned}

@@ -2,7 +2,6 @@
 use Rattle.std.specs.Prelude.{◌≡◌, ℕ, ◌+◌, true, Ok, List, [], ◌∷◌, slice_index}
 use Rattle.word_store.specs.Arithmetic.{signed}
 use Rattle.packet_queue.specs.QueueWords.{QueuedPacket}
-use Rattle.packet_queue.specs.declared.events.KernelEvent.{KernelEvent}
 use Rattle.packet_queue.specs.declared.events.KernelEvent.TheVariants.{Accepted}
 use Rattle.kernel_model.specs.Changes.{AreUnowned}
 use Rattle.kernel_model.specs.Lists.{Lists, has_task}

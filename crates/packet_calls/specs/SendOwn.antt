@@ -1,8 +1,6 @@
 -- A resident sends a packet of its own.
 use Rattle.std.specs.Prelude.{◌≡◌, ℕ, ◌+◌, ◌⊎◌, ◌==◌, true, is_some, if◌then◌else◌, None, Ok, List, [], ◌∷◌}
 use Rattle.word_store.specs.Arithmetic.{signed}
-use Rattle.packet_queue.specs.QueueWords.{QueuedPacket}
-use Rattle.packet_queue.specs.declared.events.KernelEvent.{KernelEvent}
 use Rattle.packet_queue.specs.declared.events.KernelEvent.TheVariants.{Accepted}
 use Rattle.kernel_model.specs.Changes.{AreUnowned, with_key}
 use Rattle.kernel_model.specs.Lists.{Lists, has_task}

@@ -1,9 +1,8 @@
 -- The call by which a task takes its first packet, or waits for one.
-use Rattle.std.specs.Prelude.{ℕ, ◌+◌, Option, Some, None, Result, Ok, List, [], ◌∷◌}
+use Rattle.std.specs.Prelude.{ℕ, Option, Some, None, Result, Ok, List, [], ◌∷◌}
 use Rattle.word_store.specs.Arithmetic.{signed}
 use Rattle.packet_queue.specs.Queue.{no_queue}
 use Rattle.packet_queue.specs.QueueWords.{QueuedPacket}
-use Rattle.packet_queue.specs.declared.events.KernelEvent.{KernelEvent}
 use Rattle.packet_queue.specs.declared.events.KernelEvent.TheVariants.{Taken}
 use Rattle.kernel_model.specs.Changes.{queue_of, with_queue, with_task}
 use Rattle.kernel_model.specs.Lists.{Lists}

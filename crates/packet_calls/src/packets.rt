@@ -33,14 +33,7 @@ pub(crate) fn send(store: &mut Store, queue: Queue, p: u32, sender: u32)
 }
 
 /// Returns the packet with these results to the queue.
-pub(crate) fn give_back(
-    store: &mut Store,
-    queue: Queue,
-    p: u32,
-    sender: u32,
-    res1: u32,
-    res2: u32,
-)
+pub(crate) fn give_back(store: &mut Store, queue: Queue, p: u32, sender: u32, res1: u32, res2: u32)
     requires queue { HasQueue (with_results store.old p sender res1 res2) (head_of queue) }
     requires packet { CanQueue (with_results store.old p sender res1 res2) (head_of queue) p }
     ensures { store.new ≡ joined (with_results store.old p sender res1 res2) queue p 0 }

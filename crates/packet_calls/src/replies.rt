@@ -18,14 +18,7 @@ use word_store::{Store, word_at};
 /// Returns the packet at p, which is on no queue, with these results to the task that its word 1 names: it comes to the end of
 /// the work queue of that task, and its word 1 has then the number of who returns it. A keeper that was not told that its
 /// words ceased to be the kernel's knows the words of the lists then.
-pub fn reply<L: EventLog>(
-    store: &mut Store,
-    p: u32,
-    from: i32,
-    res1: u32,
-    res2: u32,
-    log: &mut L,
-)
+pub fn reply<L: EventLog>(store: &mut Store, p: u32, from: i32, res1: u32, res2: u32, log: &mut L)
     requires { (l : Lists) × HoldsLists store.old l × CanReply store.old l p (word_of from) }
     ensures made { (l : Lists) → HoldsLists store.old l → CanReply store.old l p (word_of from)
         → Leaves store.old store.new (Ok minus_one) (reply store.old l p (word_of from) res1 res2) }

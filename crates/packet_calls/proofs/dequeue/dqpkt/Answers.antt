@@ -1,10 +1,8 @@
-use Rattle.std.proofs.Common.{◌≡◌, ℕ, Option, Some, None, Result, Ok, Err, option_map, sym, ap, ◌∙◌, subst}
+use Rattle.std.proofs.Common.{Err, sym, ap, ◌∙◌, subst}
 use Rattle.std.proofs.lemmas.Result.{err_from_is_err_and}
 use Rattle.packet_queue.specs.Log.{Notes}
-use Rattle.kernel_model.specs.ChangedStore.{HasKeeper}
-use Rattle.kernel_model.specs.Lists.{Lists}
 use Rattle.call_answers.specs.Made.{IsMade}
-use Rattle.packet_calls.specs.Dqpkt.{dqpkt, found_in, located}
+use Rattle.packet_calls.specs.Dqpkt.{dqpkt}
 use Rattle.packet_calls.proofs.DequeueCall.{found-packet, found-queue, is-dequeued, is-noted, not-dequeued, not-noted, not-queued, nowhere, residents-own, some-found}
 use Rattle.packet_calls.proofs.NamedQueues.{Names, names-none, names-some, queue-none, queue-some}
 use Rattle.packet_calls.proofs.Searches.{IsFound, found-none, found-some, is-found, not-found}

@@ -1,4 +1,4 @@
-use Rattle.std.proofs.Common.{true, false, Option, Some, None, cond, option_map, sym, ap, ◌∙◌, subst, ◌≡◌}
+use Rattle.std.proofs.Common.{true, false, Some, None, cond, option_map, sym, ap, ◌∙◌, subst, ◌≡◌}
 use Rattle.linked_list.specs.Places.{has}
 use Rattle.packet_queue.specs.Queue.{HasQueue, queue_at}
 use Rattle.kernel_model.specs.Changes.{queue_of}
@@ -6,7 +6,6 @@ use Rattle.kernel_model.specs.ValidQueues.Place.{Work}
 use Rattle.packet_calls.specs.Dqpkt.{Search, located}
 use Rattle.packet_calls.specs.PacketMoves.{stands_in}
 use Rattle.packet_calls.specs.QueueWords.{head_of}
-use Rattle.packet_calls.specs.declared.dequeue.Found.{Found}
 use Rattle.packet_calls.proofs.CallerTask.{caller-number, caller-queue, caller-there}
 use Rattle.packet_calls.proofs.HeldPlaces.{has-at, stands-at}
 use Rattle.packet_calls.proofs.dequeue.find_own.Goals as goal

@@ -1,9 +1,7 @@
-use Rattle.std.proofs.Common.{◌≡◌, true, false, Option, Some, None, option_map, sym, ap, ◌∙◌, subst}
+use Rattle.std.proofs.Common.{◌≡◌, true, false, Some, option_map, sym, ap, ◌∙◌, subst}
 use Rattle.linked_list.specs.Places.{has}
 use Rattle.packet_queue.specs.Queue.{HasQueue, queue_at}
 use Rattle.kernel_model.specs.Changes.{queue_of}
-use Rattle.kernel_model.specs.Lists.{Lists}
-use Rattle.kernel_model.specs.HoldsLists.{HoldsLists}
 use Rattle.kernel_model.specs.ValidQueues.Place.{Pending}
 use Rattle.packet_calls.specs.Destinations.{place_of}
 use Rattle.packet_calls.specs.Dqpkt.{located}

@@ -1,4 +1,4 @@
-use Rattle.std.proofs.Common.{◌+◌, true, false, eqb, sym, ap, ◌∙◌}
+use Rattle.std.proofs.Common.{◌+◌, true, false, sym, ap, ◌∙◌}
 use Rattle.std.proofs.lemmas.Bool.{eq-eqb, false_from_ne_true, false≢true}
 use Rattle.packet_queue.specs.Queue.{no_queue}
 use Rattle.kernel_model.specs.Owned.{owned}
