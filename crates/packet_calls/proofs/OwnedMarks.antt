@@ -1,0 +1,56 @@
+-- What a keeper that knows the words of lists marks: the words that they own.
+use Rattle.std.proofs.Common.{◌≡◌, ℕ, ◌+◌, ◌^◌, ◌%◌, ◌<◌, ◌&&◌, List, [], ◌∷◌, map, cond, eqb, leb, Bool, true, false, inl, inr, refl, sym, ap, subst, arith}
+use Rattle.std.specs.Prelude.{◌↔◌}
+use Rattle.std.proofs.lemmas.Bool.{and_parts, cases_lt, false_from_ne_true, leb-true}
+use Rattle.linked_list.specs.Count.{hit, times}
+use Rattle.owned_words.specs.Owned.{Pairs, owners}
+use Rattle.kernel_model.specs.ChangedStore.{Knows}
+use Rattle.kernel_model.specs.Changes.{AreUnowned}
+use Rattle.kernel_model.specs.HoldsLists.{HoldsLists}
+use Rattle.kernel_model.specs.KernelRanges.{AreClear}
+use Rattle.kernel_model.specs.Lists.{Lists}
+use Rattle.kernel_model.specs.Owned.{owned}
+use Rattle.kernel_model.specs.ValidLists.{AreValid}
+use Rattle.word_kinds.specs.Keeper.{IsStoreOf}
+
+-- the addresses of owned words
+abbrev pub addresses : Pairs → List ℕ
+addresses es = map (λ e. e.0) es
+
+pub times-addresses : (a : ℕ) (es : Pairs) → times a (addresses es) ≡ owners a es
+times-addresses a [] = refl
+times-addresses a (e ∷ es) = ap (λ n. hit a e.0 + n) (times-addresses a es)
+
+pub store-of : (s : List ℕ) (l : Lists) → HoldsLists s l → IsStoreOf s (addresses (owned l)) l
+store-of s l h = record { lists = h; addresses = λ a. times-addresses a (owned l) }
+
+pub tells-owned : (tells : List ℕ → Type 0) (l : Lists) → Knows tells l → tells (addresses (owned l))
+tells-owned tells l knows = knows (addresses (owned l)) (λ a. times-addresses a (owned l))
+
+-- a store has fewer than 2 ^ 32 words
+pub size-low : (l : Lists) → AreValid l → l.size < 2 ^ 32
+size-low l v = on (eqb l.version 1) (and_parts (leb 1024 l.size) (leb l.size most) (and_parts (leb 1024 l.size && leb l.size most) (eqb (l.size % 2) 0) v.numbers.size).0).1
+  where
+    most : ℕ
+    most = cond (eqb l.version 1) 262144 4194304
+
+    on : (b : Bool) → leb l.size (cond b 262144 4194304) ≡ true → l.size < 2 ^ 32
+    on true le = omega (arith, leb-true l.size 262144 le)
+    on false le = omega (arith, leb-true l.size 4194304 le)
+
+-- so words that are clear of marks are unowned, and the other way round
+pub clear-unowned : (marks : ℕ → Bool) (l : Lists) (a b : ℕ) → AreValid l → ((c : ℕ) → marks c ≡ true ↔ 0 < times c (addresses (owned l))) → AreClear marks a b ↔ AreUnowned l a b
+clear-unowned marks l a b v marked = (there, back)
+  where
+    there : AreClear marks a b → AreUnowned l a b
+    there clear c low high =
+        elim (cases_lt 0 (owners c (owned l))) [
+          | inl some ↦ absurd (clash (marks c) (clear c low high (omega (arith, v.owns.inside c some, size-low l v))) ((marked c).1 (subst (λ n. 0 < n) (sym (times-addresses c (owned l))) some)))
+          | inr none ↦ omega (arith, none)
+        ]
+      where
+        clash : (x : Bool) → x ≡ false → x ≡ true → ⊥
+        clash x e f = cc
+
+    back : AreUnowned l a b → AreClear marks a b
+    back unowned c low high _ = false_from_ne_true (marks c) (λ yes. absurd (omega (arith, (marked c).0 yes, times-addresses c (owned l), unowned c low high)))

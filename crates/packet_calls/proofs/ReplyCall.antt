@@ -1,0 +1,117 @@
+-- What a packet that is returned leaves.
+use Rattle.std.proofs.Common.{◌≡◌, ℕ, ◌+◌, ◌<◌, Bool, Option, Some, None, Ok, List, [], ◌∷◌, ◌++◌, get_or, refl, sym, ap, ◌∙◌, subst, arith, append-nil}
+use Rattle.std.specs.List.{AllByRecursion}
+use Rattle.std.proofs.lemmas.Bool.{false≢true}
+use Rattle.word_store.specs.Arithmetic.{signed}
+use Rattle.owned_words.specs.Exchange.{Exchange}
+use Rattle.owned_words.specs.Owned.{Pairs}
+use Rattle.owned_words.proofs.Exchanges.{exchange-none}
+use Rattle.packet_queue.specs.Log.{Notes}
+use Rattle.packet_queue.specs.Queue.{CanQueue, HasQueue}
+use Rattle.packet_queue.specs.QueueWords.{QueuedPacket}
+use Rattle.packet_queue.specs.declared.events.KernelEvent.{KernelEvent}
+use Rattle.packet_queue.specs.declared.events.KernelEvent.TheVariants.{Accepted}
+use Rattle.task_block.specs.TaskChain.{task_with, tasks_in}
+use Rattle.kernel_model.specs.Changes.{queue_of, with_queue}
+use Rattle.kernel_model.specs.HoldsLists.{HoldsLists}
+use Rattle.kernel_model.specs.Lists.{Lists, has_task}
+use Rattle.kernel_model.specs.NotedEvents.{NotesAll}
+use Rattle.kernel_model.specs.Owned.{owned}
+use Rattle.kernel_model.specs.Task.{queue_head}
+use Rattle.kernel_model.specs.ValidLists.{AreValid}
+use Rattle.kernel_model.specs.ValidQueues.{Place}
+use Rattle.kernel_model.specs.ValidQueues.Place.{Work}
+use Rattle.kernel_model.specs.ValidTasks.{IsField}
+use Rattle.kernel_model.proofs.NotedInTurn.{notes-one}
+use Rattle.kernel_model.proofs.QueueCounts.{owners-packet}
+use Rattle.call_answers.specs.Made.{Leaves, minus_one}
+use Rattle.call_answers.proofs.FoundTask.{Finds, find-task}
+use Rattle.packet_calls.specs.Destinations.{queue_for}
+use Rattle.packet_calls.specs.QueueWords.{head_of, joined, with_results}
+use Rattle.packet_calls.specs.Reply.{CanReply, reply, returned}
+use Rattle.packet_calls.specs.declared.queues.Queue.TheVariants.{OfTask}
+use Rattle.packet_calls.proofs.Arrival.{AreOfPacket}
+use Rattle.packet_calls.proofs.NamedQueues.{found-address}
+use Rattle.packet_calls.proofs.PlacedPackets.{AreSet, end-changed, end-packet, end-queue}
+use Rattle.packet_calls.proofs.SentPackets.{comes-some, comes-valid, fields-stand}
+
+module _ (s : List ℕ) (l : Lists) (p from res1 res2 : ℕ) (h : HoldsLists s l) (r : CanReply s l p from) where
+  abbrev to : ℕ
+  to = get_or s (p + 1) 0
+
+  abbrev q : QueuedPacket
+  q = returned s p from res1 res2
+
+  abbrev at : Place
+  at = Work to
+
+  abbrev ps : List QueuedPacket
+  ps = queue_of at l
+
+  -- its words that are set, and the one that is kept
+  abbrev ws : Pairs
+  ws = (p + 4, res2) ∷ (p + 3, res1) ∷ (p + 1, from) ∷ []
+
+  abbrev kept : Pairs
+  kept = (p + 2, get_or s (p + 2) 0) ∷ []
+
+  own : AreOfPacket p ws
+  own a some = omega (arith, some, owners-packet a q 0)
+
+  are_set : AreSet q ws kept
+  are_set link =
+      record {
+        count = λ a. omega arith;
+        opens = λ t k. ((k.1.1.1.0, tt), (k.0, (k.1.0, (k.1.1.1.1.1.0, (k.1.1.1.1.0, (k.1.1.0, tt))))));
+        closes = λ t j k. (k.0, (k.1.0, (k.1.1.1.1.0, (j.0, (k.1.1.1.0, (k.1.1.0, tt))))));
+      }
+
+  none : Exchange (owned l) (owned l) [] []
+  none = exchange-none (owned l)
+
+  whole : ps ≡ ps ++ []
+  whole = sym (append-nil ps)
+
+  valid : AreValid (with_queue at (ps ++ q ∷ []) l)
+  valid = comes-valid s l at q h r.there r.lodged r.plain r.sender ps [] whole tt
+
+  some : AllByRecursion (λ z. 0 < z.address) (ps ++ q ∷ [])
+  some = comes-some s l at q h r.there r.lodged r.plain r.sender ps [] whole
+
+  fields : AllByRecursion (λ t. IsField t.field) l.tasks
+  fields = fields-stand l h.valid
+
+  queue : HasQueue (with_results s p from res1 res2) (head_of (queue_for l at))
+  queue = end-queue s l l [] at q ws kept h none h.valid.tasks.distinct r.there valid refl some tt fields own are_set (refl, tt)
+
+  packet : CanQueue (with_results s p from res1 res2) (head_of (queue_for l at)) p
+  packet = end-packet s l l [] at q ws kept h none h.valid.tasks.distinct r.there valid refl some tt fields own are_set (refl, tt)
+
+  -- the task is there
+  module _ (sender : ℕ) (is_sender : sender ≡ to) where
+    pub reply-nobody : task_with s sender (tasks_in s) ≡ None → ⊥
+    reply-nobody e =
+        absurd (false≢true
+        (sym (subst (Finds sender l.tasks) e (find-task s l sender h)) ∙ ap (λ i. has_task i l.tasks) is_sender ∙ r.there))
+
+    module _ (task : ℕ) (found : task_with s sender (tasks_in s) ≡ Some task) where
+      queue-is : queue_for l at ≡ OfTask task
+      queue-is = ap (λ i. queue_for l (Work i)) (sym is_sender) ∙ ap OfTask (found-address l sender task h.valid.tasks.distinct (subst (Finds sender l.tasks) found (find-task s l sender h)))
+
+      pub reply-queue : HasQueue (with_results s p from res1 res2) (queue_head task)
+      reply-queue = subst (λ z. HasQueue (with_results s p from res1 res2) (head_of z)) queue-is queue
+
+      pub reply-packet : CanQueue (with_results s p from res1 res2) (queue_head task) p
+      reply-packet = subst (λ z. CanQueue (with_results s p from res1 res2) (head_of z) p) queue-is packet
+
+      pub is-returned : (v : List ℕ) → v ≡ joined (with_results s p from res1 res2) (OfTask task) p 0 → Leaves s v (Ok minus_one) (reply s l p from res1 res2)
+      is-returned v is =
+          record {
+            lists =
+                end-changed s l l [] at q ws kept h none h.valid.tasks.distinct r.there valid refl some tt fields own are_set (refl, tt) v 0
+                (is ∙ ap (λ z. joined (with_results s p from res1 res2) z p 0) (sym queue-is));
+            answered = refl;
+          }
+
+    pub is-noted : (before now : Option (List KernelEvent)) (b d : Bool) → Notes before now b d (Accepted (signed sender) p (signed from)) → NotesAll before now b d (reply s l p from res1 res2).events
+    is-noted before now b d notes = subst (λ z. NotesAll before now b d (Accepted (signed z) p (signed from) ∷ [])) is_sender (notes-one before now b d _ notes)

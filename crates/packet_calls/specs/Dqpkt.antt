@@ -1,0 +1,69 @@
+-- The call that takes a packet back out of a queue.
+use Rattle.std.specs.Prelude.{ℕ, ◌+◌, ◌==◌, ◌&&◌, ◌||◌, Bool, if◌then◌else◌, not, find, is_some, Option, Some, None, Ok, List, [], ◌∷◌, ◌++◌}
+use Rattle.word_store.specs.Arithmetic.{signed}
+use Rattle.packet_queue.specs.Queue.{no_queue}
+use Rattle.packet_queue.specs.declared.events.KernelEvent.TheVariants.{Dequeued}
+use Rattle.kernel_model.specs.Changes.{queue_of}
+use Rattle.kernel_model.specs.Lists.{Lists, has_task}
+use Rattle.kernel_model.specs.Residents.{fault_packet, key_packet}
+use Rattle.kernel_model.specs.ValidQueues.{Place}
+use Rattle.kernel_model.specs.ValidQueues.Place.{Pending, Work}
+use Rattle.call_answers.specs.Made.{Made, done, unless_refused}
+use Rattle.packet_calls.specs.Destinations.{is_destination, place_of, queue_for}
+use Rattle.packet_calls.specs.PacketMoves.{stands_in, with_departed}
+use Rattle.packet_calls.specs.declared.dequeue.Found.{Found}
+
+-- A queue that is searched: where it stands, its number as events name it, and the answer where the packet is found in it.
+pub record Search : Type 0 where
+  pub place : Place
+  pub number : ℕ
+  pub answer : ℕ
+
+-- the number of the console's reads that wait for a line
+abbrev pub reads_number : ℕ
+reads_number = 103
+
+-- with the console's queue, also the reads that wait for a line
+abbrev pub further_searches : ℕ → List Search
+further_searches id = if id == 3 then record { place = Pending; number = reads_number; answer = id } ∷ [] else []
+
+-- the queue that the number names, those reads, and the queue of the task that calls, in this order
+abbrev pub searches : Lists → ℕ → List Search
+searches l id =
+    record { place = place_of id; number = id; answer = id }
+    ∷ (further_searches id ++ record { place = Work l.running; number = l.running; answer = l.running } ∷ [])
+
+-- the first of these queues that has the packet
+abbrev pub found_in : Lists → ℕ → ℕ → Option Search
+found_in l id p = find (λ w. stands_in p (queue_of w.place l)) (searches l id)
+
+-- the last of them alone
+abbrev pub found_in_own : Lists → ℕ → Option Search
+found_in_own l p =
+    if stands_in p (queue_of (Work l.running) l) then Some (record { place = Work l.running; number = l.running; answer = l.running }) else None
+
+-- the same, as the code has it
+abbrev pub located : Lists → Search → Found
+located l w = record { queue = queue_for l w.place; number = w.number; answer = w.answer }
+
+-- the packet is the console's key packet, or that of the task that reports faults
+abbrev pub is_residents_packet : Lists → ℕ → Bool
+is_residents_packet l p = (l.residents && (p == key_packet)) || (has_task 2 l.tasks && (p == fault_packet))
+
+-- the number names a task or a device (code 4), one of the queues has the packet (code 19), which is none of the residents' own
+-- (code 14)
+abbrev pub dqpkt_tests : Lists → ℕ → ℕ → List (Bool × ℕ)
+dqpkt_tests l id p = (is_destination l id, 4) ∷ (is_some (found_in l id p), 19) ∷ (not (is_residents_packet l p), 14) ∷ []
+
+-- the packet is on no queue then, and its word 1 is the answer
+abbrev pub dequeued : ℕ → Option Search → Lists → Made
+dequeued p None l = done l
+dequeued p (Some w) l = record {
+  answer = Ok w.answer;
+  lists = with_departed p w.place l;
+  plain = (p + 1, w.answer) ∷ (p, no_queue) ∷ [];
+  events = Dequeued (signed w.number) p ∷ [];
+}
+
+abbrev pub dqpkt : Lists → ℕ → ℕ → Made
+dqpkt l id p = unless_refused (dqpkt_tests l id p) l (dequeued p (found_in l id p) l)

@@ -1,0 +1,31 @@
+-- A packet is returned to the task that sent it.
+use Rattle.std.specs.Prelude.{◌≡◌, ℕ, ◌+◌, true, Ok, List, [], ◌∷◌, slice_index}
+use Rattle.word_store.specs.Arithmetic.{signed}
+use Rattle.packet_queue.specs.QueueWords.{QueuedPacket}
+use Rattle.packet_queue.specs.declared.events.KernelEvent.TheVariants.{Accepted}
+use Rattle.kernel_model.specs.Changes.{AreUnowned}
+use Rattle.kernel_model.specs.Lists.{Lists, has_task}
+use Rattle.kernel_model.specs.ValidBlocks.{AreData}
+use Rattle.kernel_model.specs.ValidQueues.{HasSender}
+use Rattle.kernel_model.specs.ValidQueues.Place.{Work}
+use Rattle.call_answers.specs.Made.{Made, minus_one}
+use Rattle.packet_calls.specs.PacketMoves.{packet_at, with_arrived}
+
+-- the packet's sender is there, its words are data of one used block, nobody owns them, and who returns it may send to its sender
+pub record CanReply (s : List ℕ) (l : Lists) (p from : ℕ) : Type 0 where
+  pub there : has_task (slice_index s (p + 1)) l.tasks ≡ true
+  pub lodged : AreData l.blocks p 5
+  pub plain : AreUnowned l p (p + 5)
+  pub sender : HasSender l (Work (slice_index s (p + 1))) from
+
+-- the packet with these results, from its new sender
+abbrev pub returned : List ℕ → ℕ → ℕ → ℕ → ℕ → QueuedPacket
+returned s p from res1 res2 = record (packet_at s p) { sender = from; res1 = res1; last = res2 }
+
+abbrev pub reply : List ℕ → Lists → ℕ → ℕ → ℕ → ℕ → Made
+reply s l p from res1 res2 = record {
+  answer = Ok minus_one;
+  lists = with_arrived (Work (slice_index s (p + 1))) (returned s p from res1 res2) l;
+  plain = [];
+  events = Accepted (signed (slice_index s (p + 1))) p (signed from) ∷ [];
+}

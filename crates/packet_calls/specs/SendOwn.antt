@@ -1,0 +1,43 @@
+-- A resident sends a packet of its own.
+use Rattle.std.specs.Prelude.{◌≡◌, ℕ, ◌+◌, ◌⊎◌, ◌==◌, true, is_some, if◌then◌else◌, None, Ok, List, [], ◌∷◌}
+use Rattle.word_store.specs.Arithmetic.{signed}
+use Rattle.packet_queue.specs.declared.events.KernelEvent.TheVariants.{Accepted}
+use Rattle.kernel_model.specs.Changes.{AreUnowned, with_key}
+use Rattle.kernel_model.specs.Lists.{Lists, has_task}
+use Rattle.kernel_model.specs.Residents.{key_packet, keyboard}
+use Rattle.kernel_model.specs.ValidBlocks.{AreData}
+use Rattle.kernel_model.specs.ValidQueues.Place.{Keyboard, Work}
+use Rattle.call_answers.specs.Made.{Made, minus_one}
+use Rattle.packet_calls.specs.PacketMoves.{sent_packet, with_arrived}
+
+-- A packet that is plain goes from one task to another, or the same one.
+pub record CanSendToTask (l : Lists) (p from to : ℕ) : Type 0 where
+  pub sender : has_task from l.tasks ≡ true
+  pub there : has_task to l.tasks ≡ true
+  pub lodged : AreData l.blocks p 5
+  pub plain : AreUnowned l p (p + 5)
+
+-- The console's key packet, which is on no queue, goes to the keyboard.
+pub record CanSendKeys (l : Lists) (p from to : ℕ) : Type 0 where
+  pub packet : p ≡ key_packet
+  pub off : is_some l.key ≡ true
+  pub sender : from ≡ 3
+  pub to_keyboard : to ≡ keyboard
+
+abbrev pub CanSendOwn : Lists → ℕ → ℕ → ℕ → Type 0
+CanSendOwn l p from to = CanSendToTask l p from to ⊎ CanSendKeys l p from to
+
+-- what is sent to the keyboard is the key packet
+abbrev pub with_sent : List ℕ → ℕ → ℕ → ℕ → Lists → Lists
+with_sent s p from to l =
+    if to == keyboard
+    then with_key None (with_arrived Keyboard (sent_packet s l Keyboard p from) l)
+    else with_arrived (Work to) (sent_packet s l (Work to) p from) l
+
+abbrev pub send_own : List ℕ → Lists → ℕ → ℕ → ℕ → Made
+send_own s l p from to = record {
+  answer = Ok minus_one;
+  lists = with_sent s p from to l;
+  plain = [];
+  events = Accepted (signed to) p (signed from) ∷ [];
+}

@@ -1,0 +1,18 @@
+// The kernel calls about packets: they are sent, waited for and taken back, and residents return them and send their own.
+#![tactic(auto)]
+
+mod dequeue;
+mod destinations;
+mod events;
+mod own_packets;
+mod packets;
+mod queues;
+mod replies;
+mod send;
+mod wait;
+
+pub use dequeue::dqpkt;
+pub use own_packets::send_own;
+pub use replies::reply;
+pub use send::qpkt;
+pub use wait::taskwait;

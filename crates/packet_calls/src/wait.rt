@@ -1,0 +1,55 @@
+// A task takes its first packet, or waits for one.
+ghost use Rattle.std.specs.Prelude.{◌≡◌};
+ghost use Rattle.kernel_model.specs.ChangedStore.{HasKeeper};
+ghost use Rattle.kernel_model.specs.Lists.{Lists};
+ghost use Rattle.kernel_model.specs.NotedEvents.{NotesAll};
+ghost use Rattle.kernel_model.specs.Changes.{queue_of};
+ghost use Rattle.kernel_model.specs.ValidQueues.Place.{Work};
+ghost use Rattle.call_answers.specs.Callers.{HasCaller};
+ghost use Rattle.call_answers.specs.Made.{IsMade};
+ghost use Rattle.packet_calls.specs.TaskWait.{answer_of_wait, first_of_queue, taskwait};
+
+use crate::events::taken;
+use crate::packets::{PACKET_WORDS, SENDER};
+use crate::queues::{Queue, leave};
+use call_answers::caller;
+use packet_queue::EventLog;
+use task_block::{TcbField, field, set_field};
+use word_kinds::KindKeeper;
+use word_store::{Store, word_at};
+
+/// By so much the state of a task that waits is larger than that of one that runs.
+const WAITS: u32 = 4;
+
+/// The task that calls takes its first packet, which is then on no queue. Where it has none, it waits, and there is no answer
+/// yet.
+pub fn taskwait<Q: KindKeeper, L: EventLog>(
+    store: &mut Store,
+    kinds: &mut Q,
+    log: &mut L,
+) -> Option<u32>
+    requires { (l : Lists) × HasKeeper store.old (Q.tells kinds.old) (Q.room kinds.old) l
+        × HasCaller l }
+    ensures made { (l : Lists) → HasKeeper store.old (Q.tells kinds.old) (Q.room kinds.old) l
+        → HasCaller l
+        → IsMade store.old store.new (Q.tells kinds.new) (answer_of_wait result) (taskwait l) }
+    ensures packet { (l : Lists) → HasKeeper store.old (Q.tells kinds.old) (Q.room kinds.old) l
+        → HasCaller l → result ≡ first_of_queue (queue_of (Work l.running) l) }
+    ensures notes { (l : Lists) → HasKeeper store.old (Q.tells kinds.old) (Q.room kinds.old) l
+        → HasCaller l → NotesAll (L.noted log.old) (L.noted log.new)
+        (L.has_failed log.old) (L.has_failed log.new) (taskwait l).events }
+    ensures room { Q.room kinds.new ≡ Q.room kinds.old }
+{
+    let task = caller(store);
+    let p = field(store, task, TcbField::Queue);
+    if p == 0 {
+        let state = field(store, task, TcbField::State);
+        set_field(store, task, TcbField::State, state + WAITS);
+        return None;
+    }
+    let id = field(store, task, TcbField::Id);
+    leave(store, Queue::OfTask(task), p);
+    kinds.release(p, PACKET_WORDS);
+    log.note(taken(id, p, word_at(store, p, SENDER)));
+    Some(p)
+}
