@@ -1,0 +1,4 @@
+pub mod CallersTask
+pub mod SavedFrames
+pub mod CodedAnswers
+pub mod MadeSwitches
