@@ -1,5 +1,5 @@
 -- What the calls make that go on in another coroutine.
-use Rattle.std.proofs.Common.{◌≡◌, ◌≢◌, ℕ, List, [], ◌∷◌, ◌++◌, cond, drop, eqb, get_or, map, Bool, true, false, Some, None, Option, Ok, Err, Result, refl, sym, ap, ◌∙◌, subst, arith}
+use Rattle.std.proofs.Common.{◌≡◌, ◌≢◌, ℕ, ◌+◌, List, [], ◌∷◌, ◌++◌, cond, drop, eqb, get_or, map, Bool, true, false, Some, None, Option, Ok, Err, Result, refl, sym, ap, ◌∙◌, subst, arith}
 use Rattle.std.specs.Prelude.{OnErr, OnOk, not}
 use Rattle.std.specs.List.{AllByRecursion}
 use Rattle.std.proofs.lemmas.Bool.{eqb-true, false≢true, ne_eqb}
@@ -39,7 +39,7 @@ use Rattle.coroutine_calls.specs.ResumeCo.{resume_tests, resumeco, resumed_itsel
 use Rattle.coroutine_calls.specs.Switched.{IsSwitched, Switched, by_refusal, refused, entered, handed, switched, unless_refused}
 use Rattle.coroutine_calls.proofs.CallersTask.{AreRewritten, callers-found, callers-held, callers-rewritten, callers-stand}
 use Rattle.coroutine_calls.proofs.CodedAnswers.{answer_of-err, idle-coded, idle-passed, resume-coded, resume-passed, wait-coded, wait-passed}
-use Rattle.coroutine_calls.proofs.SavedFrames.{IsRootOr, first-one, one-some, regs-read}
+use Rattle.coroutine_calls.proofs.SavedFrames.{first-one, regs-read}
 
 -- ---- coroutines with a frame saved stand as before
 
