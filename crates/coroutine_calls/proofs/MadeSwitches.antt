@@ -1,8 +1,8 @@
 -- What the calls make that go on in another coroutine.
-use Rattle.std.proofs.Common.{◌≡◌, ◌≢◌, ℕ, ◌+◌, List, [], ◌∷◌, ◌++◌, cond, drop, eqb, get_or, map, Bool, true, false, Some, None, Option, Ok, Err, Result, refl, sym, ap, ◌∙◌, subst, arith}
+use Rattle.std.proofs.Common.{◌≡◌, ◌≢◌, ℕ, ◌+◌, List, [], ◌∷◌, cond, drop, eqb, map, Bool, true, false, Some, None, Option, Ok, Err, Result, refl, sym, ap, ◌∙◌, subst}
 use Rattle.std.specs.Prelude.{OnErr, OnOk, not}
 use Rattle.std.specs.List.{AllByRecursion}
-use Rattle.std.proofs.lemmas.Bool.{eqb-true, false≢true, ne_eqb}
+use Rattle.std.proofs.lemmas.Bool.{false≢true}
 use Rattle.word_store.specs.declared.registers.Regs.{Regs}
 use Rattle.linked_list.specs.Count.{IsApart}
 use Rattle.linked_list.specs.Places.{has}
@@ -16,7 +16,6 @@ use Rattle.coroutines.specs.HeldCoroutines.{Coroutine, address_of, first_active}
 use Rattle.coroutines.specs.Refusals as reasons
 use Rattle.coroutines.specs.Switch as store
 use Rattle.coroutines.specs.declared.ends.CoEnd.{CoEnd}
-use Rattle.coroutines.proofs.ActiveChanges.{wait-again}
 use Rattle.coroutines.proofs.CoroutineLists.{Built}
 use Rattle.coroutines.proofs.HeldCoroutineLists.{held-coroutines}
 use Rattle.coroutines.proofs.KnownCoroutines.{current}
@@ -29,7 +28,7 @@ use Rattle.kernel_model.specs.Task.{Task}
 use Rattle.kernel_model.specs.ValidTasks.{CoroutinesStand, IsCoroutine}
 use Rattle.kernel_model.proofs.ChangedLists.{changed-none}
 use Rattle.call_answers.specs.Guests.{GuestAt}
-use Rattle.call_answers.specs.Refusals.{answer_of, first_refusal}
+use Rattle.call_answers.specs.Refusals.{first_refusal}
 use Rattle.call_answers.proofs.Refusals.{answer_of-ok}
 use Rattle.coroutine_calls.specs.CallCo.{callco, idle_tests}
 use Rattle.coroutine_calls.specs.CallersCoroutines.{coroutines_of_caller, is_one_of, is_within, with_callers, with_changed}
@@ -38,7 +37,7 @@ use Rattle.coroutine_calls.specs.Refusals.{code_of, coded}
 use Rattle.coroutine_calls.specs.ResumeCo.{resume_tests, resumeco, resumed_itself}
 use Rattle.coroutine_calls.specs.Switched.{IsSwitched, Switched, by_refusal, refused, entered, handed, switched, unless_refused}
 use Rattle.coroutine_calls.proofs.CallersTask.{AreRewritten, callers-found, callers-held, callers-rewritten, callers-stand}
-use Rattle.coroutine_calls.proofs.CodedAnswers.{answer_of-err, idle-coded, idle-passed, resume-coded, resume-passed, wait-coded, wait-passed}
+use Rattle.coroutine_calls.proofs.CodedAnswers.{answer_of-err, idle-coded, resume-coded, wait-coded, wait-passed}
 use Rattle.coroutine_calls.proofs.SavedFrames.{first-one, regs-read}
 
 -- ---- coroutines with a frame saved stand as before
@@ -90,7 +89,7 @@ module _ (s : List ℕ) (l : Lists) (t : ℕ) (h : HoldsLists s l) (g : GuestAt 
       → IsSwitched s v l after (Err code) (unless_refused tests l r made)
   refused-made tests made v after code e kept =
       subst (λ o. IsSwitched s v l after (Err code) (by_refusal o l r made)) (sym e)
-      (subst (λ z. IsSwitched s z l after (Err code) (refused l r code)) (sym kept.0) (record { lists = changed-none s l h; regs = kept.1; answer = refl; same = λ a. refl }))
+      (subst (λ z. IsSwitched s z l after (Err code) (refused l r code)) (sym kept.0) (record { lists = changed-none s l h; regs = kept.1; answered = refl; same = λ a. refl }))
 
   accepted-made : (tests : List (Bool × ℕ)) (made : Switched) (v : List ℕ) (after : Regs) → first_refusal tests ≡ None → IsSwitched s v l after (Ok tt) made
       → IsSwitched s v l after (Ok tt) (unless_refused tests l r made)
@@ -114,7 +113,7 @@ module _ (s : List ℕ) (l : Lists) (t : ℕ) (h : HoldsLists s l) (g : GuestAt 
         regs =
             subst (λ k. after ≡ entered (current_of (change k)) w k r) (sym (callers-found s l t h g))
             (regs ∙ ap (λ z. store.entered s t r z w) goes ∙ regs-read s t own held (first_active act 0) w r (first-one act own members) ∙ ap (λ k. entered (current_of k) w own r) (sym becomes));
-        answer = refl;
+        answered = refl;
         same = changed.same;
       }
 
@@ -147,7 +146,7 @@ module _ (s : List ℕ) (l : Lists) (t : ℕ) (h : HoldsLists s l) (g : GuestAt 
       let test : eqb (current_in s t) c ≡ true = ap (λ z. eqb z c) held.coroutines.current ∙ e in
       subst (IsSwitched s v l after (Ok tt)) (sym (resumes-is c w true e))
       (subst (λ z. IsSwitched s z l after (Ok tt) (resumed_itself w l r)) (sym (words ∙ ap (λ b. cond b s (store.replaced s t r c)) test))
-      (record { lists = changed-none s l h; regs = regs ∙ ap (λ b. cond b (handed w r) (store.entered s t r c w)) test; answer = refl; same = λ a. refl }))
+      (record { lists = changed-none s l h; regs = regs ∙ ap (λ b. cond b (handed w r) (store.entered s t r c w)) test; answered = refl; same = λ a. refl }))
   resume-on v after c w false e is words regs active list stand =
       let test : eqb (current_in s t) c ≡ false = ap (λ z. eqb z c) held.coroutines.current ∙ e in
       subst (IsSwitched s v l after (Ok tt)) (sym (resumes-is c w false e))

@@ -4,3 +4,5 @@ pub mod Refusals
 pub mod CallCo
 pub mod ResumeCo
 pub mod CoWait
+pub mod CreateCo
+pub mod DeleteCo

@@ -63,5 +63,5 @@ switched change v l r = record {
 pub record IsSwitched (s t : List ℕ) (l : Lists) (after : Regs) (result : Result (Unit {0}) ℕ) (m : Switched) : Type 0 where
   pub lists : IsChanged s t m.lists []
   pub regs : after ≡ m.regs
-  pub answer : result ≡ m.answer
+  pub answered : result ≡ m.answer
   pub same : (a : ℕ) → owners a (owned m.lists) ≡ owners a (owned l)
