@@ -1,0 +1,132 @@
+-- The coroutines of the running task, in its place in the chain.
+use Rattle.std.proofs.Common.{◌≡◌, ℕ, ◌≤◌, List, [], ◌∷◌, ◌++◌, cond, eqb, map, true, Some, refl, sym, ap, ◌∙◌, subst, arith}
+use Rattle.std.specs.Prelude.{find}
+use Rattle.std.specs.List.{AllByRecursion}
+use Rattle.std.specs.Option.{option_map_or}
+use Rattle.std.proofs.lemmas.Bool.{eq-eqb, false≢true, ne_eqb}
+use Rattle.linked_list.specs.Count.{IsApart, times}
+use Rattle.linked_list.proofs.Counts.{hit-same}
+use Rattle.owned_words.specs.Exchange.{Exchange}
+use Rattle.owned_words.specs.LinkedWords.{first_of}
+use Rattle.owned_words.specs.Owned.{Pairs, owners}
+use Rattle.owned_words.proofs.Exchanges.{exchange-right}
+use Rattle.packet_queue.specs.QueueWords.{queue_words}
+use Rattle.coroutines.specs.CoroutineExchanges.{HoldsCoroutines, Rewrites, TaskCoroutines, standing, words_of_coroutines}
+use Rattle.coroutines.specs.Coroutines.{HasCoroutines}
+use Rattle.coroutines.specs.HeldCoroutines.{address_of}
+use Rattle.coroutines.proofs.HeldCoroutineLists.{held-coroutines}
+use Rattle.kernel_model.specs.BlockUse.{coroutine_addresses}
+use Rattle.kernel_model.specs.ChangedStore.{IsChanged}
+use Rattle.kernel_model.specs.Changes.{change_of, with_tasks}
+use Rattle.kernel_model.specs.HoldsLists.{HoldsLists}
+use Rattle.kernel_model.specs.Lists.{Lists}
+use Rattle.kernel_model.specs.Owned.{owned}
+use Rattle.kernel_model.specs.Task.{Task, fault_words, is_guest_id, name_words, queue_head, state_words, task_address, task_id, task_words}
+use Rattle.kernel_model.specs.ValidLists.{AreValid}
+use Rattle.kernel_model.specs.ValidTasks.{CoroutinesStand, IsTask}
+use Rattle.kernel_model.proofs.AllThings.{all-here}
+use Rattle.kernel_model.proofs.ChainSplits.{change-between}
+use Rattle.kernel_model.proofs.ChangedLists.{exchange-owned, one_task-owned, owners-exchanged}
+use Rattle.kernel_model.proofs.OneTask.{same_task-valid}
+use Rattle.call_answers.specs.Guests.{GuestAt}
+use Rattle.call_answers.proofs.FoundTask.{reads}
+use Rattle.call_answers.proofs.Refusals.{accepted-guest}
+use Rattle.coroutine_calls.specs.CallersCoroutines.{coroutines_of_caller, no_coroutines, with_callers, with_changed}
+
+-- the task with a number, where numbers are distinct
+pub find-numbered : (id : ℕ) (front : List Task) (t : Task) (back : List Task) → t.id ≡ id → IsApart (map task_id (front ++ t ∷ back)) → find (λ u. eqb u.id id) (front ++ t ∷ back) ≡ Some t
+find-numbered id [] t back e apart = ap (λ b. cond b (Some t) (find (λ u. eqb u.id id) back)) (eq-eqb t.id id e)
+find-numbered id (z ∷ zs) t back e apart =
+    ap (λ b. cond b (Some z) (find (λ u. eqb u.id id) (zs ++ t ∷ back))) (ne_eqb z.id id (λ f. absurd (omega (arith, apart id, hit-same id z.id (sym f), there zs))))
+    ∙ find-numbered id zs t back e (λ a. omega (arith, apart a))
+  where
+    there : (ws : List Task) → 1 ≤ times id (map task_id (ws ++ t ∷ back))
+    there [] = omega (arith, hit-same id t.id (sym e))
+    there (w ∷ ws) = omega (arith, there ws)
+
+-- what stands at these addresses has the same owners
+owners-standing : (s : List ℕ) (new : Pairs) (a : ℕ) → owners a (standing s new) ≡ owners a new
+owners-standing s [] a = refl
+owners-standing s (e ∷ es) a = omega (arith, owners-standing s es a)
+
+-- the words of a task with other coroutines
+pub task-exchange : (version : ℕ) (t : Task) (k : TaskCoroutines) (n : ℕ) (old new : Pairs) → Exchange (words_of_coroutines t.address t.coroutines) (words_of_coroutines t.address k) old new
+    → Exchange (task_words version t n) (task_words version (record t { coroutines = k }) n) old new
+task-exchange version t k n old new x =
+    exchange-right ((t.address, n) ∷ []) _ _ old new
+    (exchange-right (name_words t) _ _ old new
+    (exchange-right (state_words version t) _ _ old new (exchange-right (fault_words version t) _ _ old new (exchange-right (queue_words (queue_head t.address) t.queue) _ _ old new x))))
+
+-- The store v came from s, which held the lists l, and holds the lists m; no word has come or gone.
+pub record AreRewritten (s v : List ℕ) (l m : Lists) : Type 0 where
+  pub lists : IsChanged s v m []
+  pub same : (a : ℕ) → owners a (owned m) ≡ owners a (owned l)
+
+module _ (s : List ℕ) (l : Lists) (address : ℕ) (h : HoldsLists s l) (g : GuestAt l l.running address) where
+  distinct : IsApart (map task_id (g.front ++ g.task ∷ g.back))
+  distinct = subst (λ ts. IsApart (map task_id ts)) g.is h.valid.tasks.distinct
+
+  pub callers-found : coroutines_of_caller l ≡ g.task.coroutines
+  callers-found =
+      ap (λ ts. option_map_or (λ (t : Task). t.coroutines) (find (λ t. eqb t.id l.running) ts) no_coroutines) g.is
+      ∙ ap (λ o. option_map_or (λ (t : Task). t.coroutines) o no_coroutines) (find-numbered l.running g.front g.task g.back g.number distinct)
+
+  pub callers-between : (change : TaskCoroutines → TaskCoroutines) → map (change_of l.running (with_changed change)) l.tasks ≡ g.front ++ with_changed change g.task ∷ g.back
+  callers-between change =
+      ap (map (change_of l.running (with_changed change))) g.is
+      ∙ subst (λ id. map (change_of id (with_changed change)) (g.front ++ g.task ∷ g.back) ≡ g.front ++ with_changed change g.task ∷ g.back) g.number
+      (change-between (with_changed change) g.front g.task g.back distinct)
+
+  pub callers-held : HoldsCoroutines s address g.task.coroutines
+  callers-held =
+      subst (λ a. HoldsCoroutines s a g.task.coroutines) g.at
+      (all-here (λ t. HoldsCoroutines s t.address t.coroutines) g.front g.task g.back (subst (AllByRecursion (λ t. HoldsCoroutines s t.address t.coroutines)) g.is (reads s l h).coroutines))
+
+  pub callers-stood : HasCoroutines s address
+  callers-stood = (held-coroutines s address g.task.coroutines.active g.task.coroutines.list callers-held.coroutines).stand
+
+  pub callers-stand : CoroutinesStand l g.task
+  callers-stand = all-here (CoroutinesStand l) g.front g.task g.back (subst (AllByRecursion (CoroutinesStand l)) g.is h.valid.coroutines)
+
+  pub callers-guest : is_guest_id g.task.id ≡ true
+  callers-guest = ap is_guest_id g.number ∙ accepted-guest l l.running address g
+
+  -- with other coroutines it is a task too
+  pub callers-task : (k : TaskCoroutines) → IsTask l (record g.task { coroutines = k })
+  callers-task k =
+      let t : IsTask l g.task = all-here (IsTask l) g.front g.task g.back (subst (AllByRecursion (IsTask l)) g.is h.valid.tasks.each) in
+      record {
+        low = t.low;
+        high = t.high;
+        maker = t.maker;
+        field = t.field;
+        byte = t.byte;
+        guest = λ is.
+            let q = t.guest is in
+            record { high = q.high; block = q.block; some_module = q.some_module; most = q.most; modules = q.modules; fault = q.fault; unreported = q.unreported };
+        resident = λ is. absurd (false≢true (sym is ∙ callers-guest));
+      }
+
+  -- the words of its coroutines are written over
+  pub callers-rewritten : (v : List ℕ) (change : TaskCoroutines → TaskCoroutines) (new : Pairs)
+      → map address_of (change g.task.coroutines).list ≡ coroutine_addresses g.task → CoroutinesStand l (with_changed change g.task)
+      → Rewrites s v (words_of_coroutines address g.task.coroutines) (words_of_coroutines address (change g.task.coroutines)) new
+      → AreRewritten s v l (with_callers change l)
+  callers-rewritten v change new same stand w =
+      let k : TaskCoroutines = change g.task.coroutines in
+      let u : Task = with_changed change g.task in
+      let m : Lists = with_tasks (g.front ++ u ∷ g.back) l in
+      let valid : AreValid m =
+      same_task-valid l g.front g.back g.task u h.valid g.is (record { id = refl; address = refl; priority = refl; queue = refl; coroutines = same }) (callers-task k) stand
+      in
+      let inner : Exchange (words_of_coroutines g.task.address g.task.coroutines) (words_of_coroutines g.task.address k) (standing s new) new =
+      subst (λ a. Exchange (words_of_coroutines a g.task.coroutines) (words_of_coroutines a k) (standing s new) new) (sym g.at) w.exchange
+      in
+      let x : Exchange (owned l) (owned m) (standing s new) new =
+      one_task-owned l g.front g.task u g.back (standing s new) new g.is refl refl (task-exchange l.version g.task k (first_of task_address g.back 0) (standing s new) new inner)
+      in
+      subst (λ ts. AreRewritten s v l (with_tasks ts l)) (sym (callers-between change))
+      (record {
+        lists = exchange-owned s v l m (standing s new) new h valid refl x w.writes;
+        same = λ a. sym (owners-exchanged (owned l) (owned m) (standing s new) new a x (owners-standing s new a));
+      })

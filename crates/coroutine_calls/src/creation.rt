@@ -1,0 +1,45 @@
+// A coroutine of the running task is made.
+ghost use Rattle.std.specs.Prelude.{◌≡◌};
+ghost use Rattle.kernel_model.specs.ChangedStore.{HasKeeper};
+ghost use Rattle.kernel_model.specs.Lists.{Lists};
+ghost use Rattle.call_answers.specs.Callers.{HasCaller};
+ghost use Rattle.call_answers.specs.Made.{IsMade};
+ghost use Rattle.coroutine_calls.specs.CreateCo.{createco};
+
+use block_calls::tell_take;
+use call_answers::caller;
+use call_answers::codes::NO_COROUTINE_ROOM;
+use coroutines::create;
+use word_kinds::KindKeeper;
+use word_store::Store;
+
+/// The least highest index of a coroutine.
+const LEAST_HIGHEST: u32 = 16;
+
+/// How many words of a coroutine are the kernel's.
+pub(crate) const COROUTINE_WORDS: u32 = 10;
+
+/// Makes a coroutine of the running task, the first in its list, in a block with the data words 0 to u, or to 16 where u is
+/// less. It will start at the byte address `function`. The answer is its word address. Refused where no run of free blocks is
+/// large enough (20).
+pub fn createco<Q: KindKeeper>(
+    store: &mut Store,
+    kinds: &mut Q,
+    function: u32,
+    u: u32,
+) -> Result<u32, u32>
+    requires { (l : Lists)
+        × HasKeeper store.old (Q.tells kinds.old) (Q.room kinds.old) l × HasCaller l }
+    ensures made { (l : Lists) → HasKeeper store.old (Q.tells kinds.old) (Q.room kinds.old) l
+        → HasCaller l
+        → IsMade store.old store.new (Q.tells kinds.new) result (createco l function u) }
+    ensures room { Q.room kinds.new ≡ Q.room kinds.old }
+{
+    if tell_take(store, kinds, u.max(LEAST_HIGHEST)).is_err() {
+        return Err(NO_COROUTINE_ROOM);
+    }
+    let task = caller(store);
+    let c = create(store, task, function, u).unwrap();
+    kinds.claim(c, COROUTINE_WORDS);
+    Ok(c)
+}

@@ -1,0 +1,52 @@
+// A coroutine of the running task is deleted.
+ghost use Rattle.std.specs.Prelude.{◌≡◌, ◌+◌, ◌↔◌, IsTrue};
+ghost use Rattle.getvec_chain.specs.declared.pieces.Block.{Block};
+ghost use Rattle.getvec_chain.specs.Block.{block_end};
+ghost use Rattle.kernel_model.specs.ChangedStore.{HasKeeper};
+ghost use Rattle.kernel_model.specs.Changes.{AreUnowned};
+ghost use Rattle.kernel_model.specs.Lists.{Lists};
+ghost use Rattle.call_answers.specs.Callers.{HasCaller};
+ghost use Rattle.call_answers.specs.Made.{IsMade, plain_answer};
+ghost use Rattle.coroutine_calls.specs.DeleteCo.{IsRoomy, deleteco};
+
+use crate::creation::COROUTINE_WORDS;
+use crate::refusals::coded;
+use block_calls::are_unowned;
+use call_answers::caller;
+use call_answers::codes::PACKET_IN_COROUTINE;
+use coroutines::{check_idle, delete};
+use word_kinds::KindKeeper;
+use word_store::{Store, word};
+
+/// Deletes the coroutine c of the running task and gives its block back. Refused where the task has no such coroutine (21),
+/// where it has a parent (22), and where a queued packet lies in its block (24).
+pub fn deleteco<Q: KindKeeper>(store: &mut Store, kinds: &mut Q, c: u32) -> Result<(), u32>
+    requires { (l : Lists)
+        × HasKeeper store.old (Q.tells kinds.old) (Q.room kinds.old) l × HasCaller l }
+    ensures made { (l : Lists) → HasKeeper store.old (Q.tells kinds.old) (Q.room kinds.old) l
+        → HasCaller l
+        → IsMade store.old store.new (Q.tells kinds.new) (plain_answer result) (deleteco l c) }
+    ensures room { Q.room kinds.new ≡ Q.room kinds.old }
+{
+    let task = caller(store);
+    coded(check_idle(store, task, c))?;
+    if !is_clear_behind(store, kinds, c) {
+        return Err(PACKET_IN_COROUTINE);
+    }
+    delete(store, task, c).unwrap();
+    kinds.release(c, COROUTINE_WORDS);
+    Ok(())
+}
+
+// Whether nobody owns the words of the block at c that come behind a coroutine's own.
+fn is_clear_behind<Q: KindKeeper>(store: &Store, kinds: &Q, c: u32) -> bool
+    requires { (l : Lists) × (b : Block)
+        × HasKeeper store.now (Q.tells kinds.now) (Q.room kinds.now) l × IsRoomy l c b }
+    ensures { (l : Lists) (b : Block)
+        → HasKeeper store.now (Q.tells kinds.now) (Q.room kinds.now) l → IsRoomy l c b
+        → IsTrue result ↔ AreUnowned l (c + 10) (block_end b) }
+{
+    let size = word(store, c - 1);
+    let behind = store.address_of(c, COROUTINE_WORDS);
+    are_unowned(store, kinds, behind, size - 1 - COROUTINE_WORDS)
+}
