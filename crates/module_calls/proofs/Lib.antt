@@ -1,0 +1,4 @@
+pub mod CheckedTexts
+pub mod ModuleParts
+pub mod LoadedWords
+pub mod LoadedModule
