@@ -1,3 +1,3 @@
 pub mod LoadModule
 pub mod UnloadModule
-pub mod AddModule
+pub mod ModuleFields

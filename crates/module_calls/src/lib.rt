@@ -2,5 +2,8 @@
 #![tactic(auto)]
 
 mod loading;
+mod modules_of;
+mod unloading;
 
 pub use loading::load_module;
+pub use unloading::unload_module;
