@@ -1,0 +1,97 @@
+// A task gets one more module.
+ghost use Rattle.std.specs.Prelude.{◌≡◌, ◌≤◌, ◌+◌, ◌*◌, ◌/◌, ◌==◌, ℕ, length, slice_index};
+ghost use Rattle.task_block.specs.Versions.{head_words};
+ghost use Rattle.kernel_model.specs.ChangedStore.{HasKeeper};
+ghost use Rattle.kernel_model.specs.HoldsLists.{HoldsLists};
+ghost use Rattle.kernel_model.specs.Lists.{Lists};
+ghost use Rattle.kernel_model.specs.ValidTasks.{dead};
+ghost use Rattle.call_answers.specs.Guests.{GuestAt};
+ghost use Rattle.call_answers.specs.Made.{IsMade};
+ghost use Rattle.module_calls.specs.AddModule.{IsCounted, add_module};
+ghost use Rattle.module_calls.specs.ModuleFields.{further_count};
+
+use crate::modules_of::is_module;
+use block_calls::are_unowned;
+use call_answers::codes::{GLOBALS_TOO_HIGH, MODULES_FULL, NO_MODULE, NOT_DEAD, PACKET_INSIDE};
+use call_answers::guest;
+use hunk_loader::{globals_fit, init_globals};
+use task_block::{TcbField, field, module_at, most_modules, set_module_at};
+use word_kinds::KindKeeper;
+use word_store::Store;
+
+/// The words of a task's globals.
+const GLOBAL_WORDS: u32 = 1001;
+
+/// The state of a dead task, without the bits that say that packets wait and that it is held.
+const DEAD: u32 = 12;
+
+/// Gives the dead task with the number the module at m as its last one, and sets the module's globals in those of the task.
+/// The answer is the number of its modules. Refused where there is no such task (2), where it is a resident (14), where it
+/// is not dead (11), where there is no such module (17), where the task has as many modules as it may have (28), where a
+/// hunk of the module has a number of a global above 1,000 (18), and where a word of a queued packet lies in the task's
+/// globals (7).
+pub fn add_module<Q: KindKeeper>(
+    store: &mut Store,
+    kinds: &Q,
+    id: u32,
+    m: u32,
+) -> Result<u32, u32>
+    requires { (l : Lists) × HasKeeper store.old (Q.tells kinds.now) (Q.room kinds.now) l }
+    ensures made { (l : Lists)
+        → HasKeeper store.old (Q.tells kinds.now) (Q.room kinds.now) l
+        → IsMade store.old store.new (Q.tells kinds.now) result (add_module store.old l id m) }
+{
+    let task = guest(store, id)?;
+    let count = check_addition(store, task, m)?;
+    let globals = field(store, task, TcbField::Globals);
+    if !are_unowned(store, kinds, globals, GLOBAL_WORDS) {
+        return Err(PACKET_INSIDE);
+    }
+    init_globals(store, m, globals);
+    set_module_at(store, task, count + 1, m);
+    Ok(count + 1)
+}
+
+// How many modules the task has. Refused where it is not dead, where there is no such module, where it has as many as it
+// may have, and where the module's globals do not fit.
+fn check_addition(store: &Store, task: u32, m: u32) -> Result<u32, u32>
+    requires { (l : Lists) × (id : ℕ) × HoldsLists store.now l × GuestAt l id task }
+    ensures { (l : Lists) (id : ℕ) (g : GuestAt l id task) → HoldsLists store.now l
+        → IsCounted store.now l id m g.task result }
+{
+    if !is_dead(store, task) {
+        return Err(NOT_DEAD);
+    }
+    if !is_module(store, m) {
+        return Err(NO_MODULE);
+    }
+    let count = count_modules(store, task);
+    if count == most_modules(store) {
+        return Err(MODULES_FULL);
+    }
+    if !globals_fit(store, m) {
+        return Err(GLOBALS_TOO_HIGH);
+    }
+    Ok(count)
+}
+
+fn is_dead(store: &Store, task: u32) -> bool
+    ensures { result ≡ (slice_index store.now (task + 4) / 4 * 4 == dead) }
+{
+    field(store, task, TcbField::State) / 4 * 4 == DEAD
+}
+
+// The number of a guest's modules, of which it has one at least.
+fn count_modules(store: &Store, task: u32) -> u32
+    requires { task + head_words store.now ≤ length store.now }
+    ensures { result ≡ 1 + further_count store.now task }
+{
+    let mut count = 1;
+    for i in 2..most_modules(store) + 1 {
+        if module_at(store, task, i) == 0 {
+            continue;
+        }
+        count += 1;
+    }
+    count
+}
