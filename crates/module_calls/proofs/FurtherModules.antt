@@ -68,5 +68,5 @@ count-end s t i most is e =
     let end : t + (21 + i) ≡ t + head_words s = omega (arith, e, is, most-heads s) in
     ap (λ a. length (filter some_module (slice_range s a (t + head_words s)))) end ∙ ap (λ ws. length (filter some_module ws)) (range_none s (t + head_words s))
 
-pub most-low : (s : List ℕ) → most_modules s ≤ 8
-most-low s = elim (eqb (get_or s 111 0) 2) as (λ b. cond b 8 1 ≤ 8) [ true ↦ omega arith | false ↦ omega arith ]
+pub most-some : (s : List ℕ) → 1 ≤ most_modules s
+most-some s = elim (eqb (get_or s 111 0) 2) as (λ b. 1 ≤ cond b 8 1) [ true ↦ omega arith | false ↦ omega arith ]

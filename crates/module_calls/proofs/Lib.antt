@@ -5,3 +5,6 @@ pub mod LoadedModule
 pub mod ModuleUses
 pub mod FurtherModules
 pub mod GoneModule
+pub mod AdditionTests
+pub mod AddedModule
+pub mod AddedWords

@@ -1,5 +1,5 @@
 -- Whether a module is there, and whether a task has it, as a store tells it.
-use Rattle.std.proofs.Common.{◌≡◌, ◌≢◌, ℕ, suc, ◌+◌, ◌-◌, ◌<◌, ◌≤◌, List, [], ◌∷◌, ◌++◌, length, map, get_or, cond, eqb, leb, not, ◌&&◌, ◌||◌, Bool, true, false, Some, None, Option, Result, Err, refl, sym, ap, ◌∙◌, subst, arith}
+use Rattle.std.proofs.Common.{◌≡◌, ◌≢◌, ℕ, suc, ◌+◌, ◌-◌, ◌<◌, ◌≤◌, List, [], ◌∷◌, ◌++◌, length, map, drop, get_or, cond, eqb, leb, not, ◌&&◌, ◌||◌, Bool, true, false, Some, None, Option, Result, Err, refl, sym, ap, ◌∙◌, subst, arith}
 use Rattle.std.specs.Prelude.{slice_range}
 use Rattle.std.specs.List.{AllByRecursion, filter, list_any}
 use Rattle.std.proofs.lemmas.Bool.{eqb-true, ne_eqb}
@@ -40,7 +40,7 @@ module-some l m v some =
 
 -- ---- tasks
 
-tasks-told : (s : List ℕ) (l : Lists) → HoldsLists s l → map (task_in s) (tasks_in s) ≡ l.tasks
+pub tasks-told : (s : List ℕ) (l : Lists) → HoldsLists s l → map (task_in s) (tasks_in s) ≡ l.tasks
 unfolding lists_in
 tasks-told s l h = ap (λ z. z.tasks) (lists-back s l h.valid h.size h.holds)
 
@@ -60,16 +60,30 @@ use-told s l m h some = among (tasks_in s) ∙ ap (list_any (λ t. has m t.modul
     among [] = refl
     among (t ∷ ts) = λ i. sym (has-filtered m (module_fields s t) some) i || among ts i
 
-pub tasks-inside : (s : List ℕ) (l : Lists) → HoldsLists s l → AllByRecursion (IsTaskIn s) (tasks_in s)
-tasks-inside s l h =
-    subst (AllByRecursion (IsTaskIn s)) (sym (reads s l h).tasks.chain)
-    (all-addresses (IsTaskIn s) task_address l.tasks
-    (all-each (λ t. TaskPlace l t × TaskReads s l.version t) (λ t. IsTaskIn s t.address) inside l.tasks (all-both (TaskPlace l) (TaskReads s l.version) l.tasks (task-places l h.valid) (tasks-read s l h))))
+-- the store has all words of each task block
+pub each-inside : (s : List ℕ) (l : Lists) → HoldsLists s l → AllByRecursion (λ t. IsTaskIn s t.address) l.tasks
+each-inside s l h =
+    all-each (λ t. TaskPlace l t × TaskReads s l.version t) (λ t. IsTaskIn s t.address) inside l.tasks (all-both (TaskPlace l) (TaskReads s l.version) l.tasks (task-places l h.valid) (tasks-read s l h))
   where
     inside : (t : Task) → TaskPlace l t × TaskReads s l.version t → IsTaskIn s t.address
     inside t both =
         let last : ℕ = t.address + (22 + length (further_modules l.version t)) in
         omega (arith, both.1.size, h.size, both.0.high, HasBlock-inside l both.0.first both.0.last last h.valid.blocks both.0.block (omega (arith, both.0.high)))
+
+pub tasks-inside : (s : List ℕ) (l : Lists) → HoldsLists s l → AllByRecursion (IsTaskIn s) (tasks_in s)
+tasks-inside s l h = subst (AllByRecursion (IsTaskIn s)) (sym (reads s l h).tasks.chain) (all-addresses (IsTaskIn s) task_address l.tasks (each-inside s l h))
+
+-- each task is what its words say
+pub each-told : (s : List ℕ) (l : Lists) → HoldsLists s l → AllByRecursion (λ t. task_in s t.address ≡ t) l.tasks
+each-told s l h = among l.tasks (ap (map (task_in s)) (sym (reads s l h).tasks.chain) ∙ tasks-told s l h)
+  where
+    among : (ts : List Task) → map (task_in s) (map task_address ts) ≡ ts → AllByRecursion (λ t. task_in s t.address ≡ t) ts
+    among [] e = tt
+    among (t ∷ ts) e = (ap (λ zs. head_of zs t) e, among ts (ap (λ zs. drop 1 zs) e))
+      where
+        head_of : List Task → Task → Task
+        head_of [] none = none
+        head_of (z ∷ zs) none = z
 
 -- ---- the tests
 

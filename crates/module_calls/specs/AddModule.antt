@@ -1,5 +1,5 @@
 -- The call that gives a task one more module.
-use Rattle.std.specs.Prelude.{◌≡◌, ℕ, ◌+◌, ◌==◌, ◌&&◌, Bool, not, Result, Ok, Err, Option, Some, None, find, length, map, reverse, List, [], ◌∷◌, ◌++◌, nat_le, nat_lt}
+use Rattle.std.specs.Prelude.{◌≡◌, ℕ, ◌+◌, ◌==◌, ◌&&◌, Bool, not, Result, Ok, Err, Option, Some, None, find, length, List, [], ◌∷◌, ◌++◌, nat_le, nat_lt}
 use Rattle.std.specs.List.{list_all, list_any, range_with_len}
 use Rattle.owned_words.specs.Owned.{Pairs}
 use Rattle.packet_queue.specs.QueueWords.{QueuedPacket}
@@ -67,7 +67,8 @@ with_further m t = record t { modules = t.modules ++ m ∷ [] }
 
 -- the words of globals that are set from g on: of two with one number the later one stays, so it comes first
 abbrev pub global_words : ℕ → List Global → Pairs
-global_words g xs = reverse (map (λ x. (g + x.number, x.value)) xs)
+global_words g [] = []
+global_words g (x ∷ xs) = global_words g xs ++ (g + x.number, x.value) ∷ []
 
 -- the answer is how many modules the task has then
 abbrev pub add_module : List ℕ → Lists → ℕ → ℕ → Made

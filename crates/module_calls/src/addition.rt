@@ -1,9 +1,11 @@
 // A task gets one more module.
-ghost use Rattle.std.specs.Prelude.{◌≡◌, ◌≤◌, ◌+◌, ◌*◌, ◌/◌, ◌==◌, ℕ, length, slice_index};
+ghost use Rattle.std.specs.Prelude.{◌≡◌, ◌≤◌, ◌+◌, ◌-◌, ◌%◌, ◌==◌, ℕ, length};
 ghost use Rattle.task_block.specs.Versions.{head_words};
+ghost use Rattle.task_block.specs.declared.fields.TcbField.TheVariants.{State};
 ghost use Rattle.kernel_model.specs.ChangedStore.{HasKeeper};
 ghost use Rattle.kernel_model.specs.HoldsLists.{HoldsLists};
 ghost use Rattle.kernel_model.specs.Lists.{Lists};
+ghost use Rattle.kernel_model.specs.Recovered.{field_in};
 ghost use Rattle.kernel_model.specs.ValidTasks.{dead};
 ghost use Rattle.call_answers.specs.Guests.{GuestAt};
 ghost use Rattle.call_answers.specs.Made.{IsMade};
@@ -76,9 +78,10 @@ fn check_addition(store: &Store, task: u32, m: u32) -> Result<u32, u32>
 }
 
 fn is_dead(store: &Store, task: u32) -> bool
-    ensures { result ≡ (slice_index store.now (task + 4) / 4 * 4 == dead) }
+    ensures { result ≡ (field_in store.now task State - field_in store.now task State % 4 == dead) }
 {
-    field(store, task, TcbField::State) / 4 * 4 == DEAD
+    let state = field(store, task, TcbField::State);
+    state - state % 4 == DEAD
 }
 
 // The number of a guest's modules, of which it has one at least.
