@@ -2,7 +2,7 @@
 use Rattle.std.proofs.Common.{◌≡◌, ◌≢◌, ℕ, suc, ◌+◌, ◌-◌, ◌%◌, ◌<◌, ◌≤◌, ◌⊎◌, List, [], ◌∷◌, ◌++◌, length, map, get_or, cond, eqb, ltb, leb, not, ◌&&◌, Bool, true, false, Option, Some, None, inl, inr, refl, sym, ap, ◌∙◌, subst, arith}
 use Rattle.std.specs.Prelude.{◌↔◌, IsTrue, filter, slice_range}
 use Rattle.std.specs.List.{AllByRecursion, list_all}
-use Rattle.std.proofs.lemmas.Bool.{cases_eq, eq-eqb, false_from_ne_true, le-leb, le-ltb, leb-true, lt-ltb, ne_eqb}
+use Rattle.std.proofs.lemmas.Bool.{cases_eq, cases_lt, eq-eqb, false_from_ne_true, le-leb, le-ltb, leb-true, lt-ltb, ne_eqb}
 use Rattle.linked_list.specs.Count.{IsApart}
 use Rattle.linked_list.specs.Places.{has}
 use Rattle.owned_words.specs.LinkedWords.{first_of}
@@ -57,7 +57,7 @@ fits-told s m b both = on b refl (globals_fit s m) refl
     on false e true f = (let k : b ≡ true = both.1 (all (hunks_in s m) f) in cc)
 
 -- the version
-most-told : (s : List ℕ) (l : Lists) → HoldsLists s l → most_modules s ≡ most_modules_of l.version
+pub most-told : (s : List ℕ) (l : Lists) → HoldsLists s l → most_modules s ≡ most_modules_of l.version
 unfolding lists_in
 most-told s l h = ap (λ z. most_modules_of z.version) (lists-back s l h.valid h.size h.holds)
 
@@ -147,3 +147,32 @@ module _ (s : List ℕ) (l : Lists) (id m : ℕ) where
   pub tests-by : (b c d : Bool) → is_dead l id ≡ true → has_module l m ≡ b → has_module_room l id ≡ c → globals_fit s m ≡ d
       → first_refusal (check_tests s l id m) ≡ cond b (cond c (cond d None (Some 18)) (Some 28)) (Some 17)
   tests-by b c d dead e f k = λ i. cond (dead i) (cond (e i) (cond (f i) (cond (k i) None (Some 18)) (Some 28)) (Some 17)) (Some 11)
+
+-- where all hold there is such a module, and there is room for it
+pub record IsChecked (l : Lists) (id m : ℕ) : Type 0 where
+  pub there : has_module l m ≡ true
+  pub room : has_module_room l id ≡ true
+
+pub checks-passed : (s : List ℕ) (l : Lists) (id m : ℕ) → first_refusal (check_tests s l id m) ≡ None → IsChecked l id m
+checks-passed s l id m e = on (is_dead l id) (has_module l m) refl (has_module_room l id) refl (globals_fit s m) e
+  where
+    on : (a b : Bool) → has_module l m ≡ b → (c : Bool) → has_module_room l id ≡ c → (d : Bool)
+        → ◌≡◌ {A = Option ℕ} (cond a (cond b (cond c (cond d None (Some 18)) (Some 28)) (Some 17)) (Some 11)) None → IsChecked l id m
+    on true true p true q d e = record { there = p; room = q }
+    on true true p false q d e = cc
+    on true false p c q d e = cc
+    on false b p c q d e = cc
+
+-- so it has fewer modules than it may have
+pub room-is : (s : List ℕ) (l : Lists) (id address : ℕ) (h : HoldsLists s l) (g : GuestAt l id address) → has_module_room l id ≡ true → length g.task.modules < most_modules_of l.version
+room-is s l id address h g e =
+    by (cases_lt (length g.task.modules) (most_modules_of l.version))
+  where
+    room : has_module_room l id ≡ ltb (length g.task.modules) (most_modules_of l.version)
+    room =
+        ap (λ ts. has_module_room (record l { tasks = ts }) id) g.is
+        ∙ any-one id (λ t. ltb (length t.modules) (most_modules_of l.version)) g.front g.task g.back g.number (subst (λ ts. IsApart (map task_id ts)) g.is h.valid.tasks.distinct)
+
+    by : (length g.task.modules < most_modules_of l.version) ⊎ (most_modules_of l.version ≤ length g.task.modules) → length g.task.modules < most_modules_of l.version
+    by (inl few) = few
+    by (inr many) = (let f : has_module_room l id ≡ false = room ∙ le-ltb (length g.task.modules) (most_modules_of l.version) many in cc)

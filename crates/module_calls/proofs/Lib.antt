@@ -8,3 +8,5 @@ pub mod GoneModule
 pub mod AdditionTests
 pub mod AddedModule
 pub mod AddedWords
+pub mod TaskGlobals
+pub mod AdditionCall
