@@ -1,6 +1,6 @@
 -- The words that change where a guest gets one more module: one of its task block, and its globals.
 use Rattle.std.proofs.Common.{◌≡◌, ℕ, zero, suc, ◌+◌, ◌-◌, ◌<◌, ◌≤◌, List, [], ◌∷◌, ◌++◌, length, drop, set, cond, Bool, true, inl, inr, refl, sym, ap, ◌∙◌, subst, arith}
-use Rattle.std.specs.List.{AllByRecursion, flat_map}
+use Rattle.std.specs.List.{flat_map}
 use Rattle.std.proofs.lemmas.Bool.{cases_eq}
 use Rattle.linked_list.proofs.AllMembers.{all-append}
 use Rattle.linked_list.proofs.Counts.{hit-other}

@@ -5,7 +5,6 @@ use Rattle.hunk_loader.specs.Globals.{globals_in, with_globals}
 use Rattle.task_block.specs.Versions.{module_index}
 use Rattle.kernel_model.specs.ChangedStore.{HasKeeper, IsChanged}
 use Rattle.kernel_model.specs.Changes.{AreUnowned, with_task}
-use Rattle.kernel_model.specs.HoldsLists.{HoldsLists}
 use Rattle.kernel_model.specs.Lists.{Lists}
 use Rattle.kernel_model.specs.Owned.{owned}
 use Rattle.kernel_model.specs.Versions.{most_modules_of}

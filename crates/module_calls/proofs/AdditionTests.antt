@@ -2,7 +2,7 @@
 use Rattle.std.proofs.Common.{◌≡◌, ◌≢◌, ℕ, suc, ◌+◌, ◌-◌, ◌%◌, ◌<◌, ◌≤◌, ◌⊎◌, List, [], ◌∷◌, ◌++◌, length, map, get_or, cond, eqb, ltb, leb, not, ◌&&◌, Bool, true, false, Option, Some, None, inl, inr, refl, sym, ap, ◌∙◌, subst, arith}
 use Rattle.std.specs.Prelude.{◌↔◌, IsTrue, filter, slice_range}
 use Rattle.std.specs.List.{AllByRecursion, list_all}
-use Rattle.std.proofs.lemmas.Bool.{cases_eq, cases_lt, eq-eqb, false_from_ne_true, le-leb, le-ltb, leb-true, lt-ltb, ne_eqb}
+use Rattle.std.proofs.lemmas.Bool.{cases_eq, cases_lt, eq-eqb, le-leb, le-ltb, leb-true, lt-ltb, ne_eqb}
 use Rattle.linked_list.specs.Count.{IsApart}
 use Rattle.linked_list.specs.Places.{has}
 use Rattle.owned_words.specs.LinkedWords.{first_of}
@@ -16,7 +16,7 @@ use Rattle.kernel_model.specs.HoldsLists.{HoldsLists}
 use Rattle.kernel_model.specs.KernelRanges.{task_size_in}
 use Rattle.kernel_model.specs.Lists.{Lists}
 use Rattle.kernel_model.specs.Recovered.{lists_in, modules_of, task_in}
-use Rattle.kernel_model.specs.Task.{Task, is_guest_id, state_words, task_address, task_id, task_words}
+use Rattle.kernel_model.specs.Task.{is_guest_id, state_words, task_address, task_id, task_words}
 use Rattle.kernel_model.specs.ValidTasks.{IsGuest}
 use Rattle.kernel_model.specs.Versions.{most_modules_of}
 use Rattle.kernel_model.proofs.AllThings.{all-here}
@@ -122,6 +122,7 @@ module _ (s : List ℕ) (l : Lists) (id address : ℕ) (h : HoldsLists s l) (g :
       ap (λ b. length (cond (not b) (get_or s (address + 10) 0 ∷ filter some rest) (filter some rest))) (ne_eqb (get_or s (address + 10) 0) 0 field)
       in
       omega (arith, ap length modules, behind, front)
+
   pub room-told : (count : ℕ) → count ≡ length g.task.modules → eqb count (most_modules s) ≡ not (has_module_room l id)
   room-told count e =
       let room : has_module_room l id ≡ ltb (length g.task.modules) (most_modules_of l.version) =

@@ -1,5 +1,5 @@
 -- A store of the kernel's after a module went out, and its block was given back.
-use Rattle.std.proofs.Common.{◌≡◌, ℕ, suc, ◌+◌, ◌-◌, ◌^◌, ◌<◌, ◌≤◌, List, [], ◌∷◌, ◌++◌, length, map, get_or, cond, eqb, not, ◌||◌, Bool, true, false, Option, Some, None, Result, Ok, Err, inl, inr, refl, sym, ap, ◌∙◌, subst, arith}
+use Rattle.std.proofs.Common.{◌≡◌, ℕ, suc, ◌+◌, ◌-◌, ◌^◌, ◌<◌, ◌≤◌, List, [], ◌∷◌, ◌++◌, length, map, get_or, cond, eqb, not, ◌||◌, Bool, true, false, Some, None, Ok, Err, inl, inr, refl, sym, ap, ◌∙◌, subst, arith}
 use Rattle.std.specs.List.{AllByRecursion, list_any, range_with_len}
 use Rattle.std.proofs.lemmas.Bool.{cases_lt, eqb-true}
 use Rattle.linked_list.specs.Count.{IsApart, hit, times}
@@ -7,7 +7,7 @@ use Rattle.linked_list.specs.Places.{has, without_first, without_node}
 use Rattle.linked_list.proofs.Counts.{times-above}
 use Rattle.owned_words.specs.Exchange.{Exchange}
 use Rattle.owned_words.specs.LinkedWords.{AreHeld}
-use Rattle.owned_words.specs.Owned.{Pairs, owners}
+use Rattle.owned_words.specs.Owned.{owners}
 use Rattle.owned_words.proofs.Exchanges.{exchange-remove}
 use Rattle.owned_words.proofs.HeldLists.{held-without_node}
 use Rattle.getvec_chain.specs.declared.pieces.Block.{Block}
@@ -16,13 +16,13 @@ use Rattle.getvec_chain.specs.Give.{given_store}
 use Rattle.getvec_chain.specs.Run.{need}
 use Rattle.getvec_chain.specs.Tiling.{blocks_in, used_at}
 use Rattle.getvec_chain.proofs.UsedBlocks.{UsedBlock, used_at-is}
-use Rattle.hunk_loader.specs.HeldModules.{HeldModules, LoadedModule, module_address, module_words}
+use Rattle.hunk_loader.specs.HeldModules.{LoadedModule, module_address, module_words}
 use Rattle.hunk_loader.specs.ModuleExchanges.{first_of_modules, link_behind, modules_words}
 use Rattle.hunk_loader.proofs.HeldModuleLists.{are_modules, module_size}
 use Rattle.task_block.specs.Lists.{module_link}
 use Rattle.kernel_model.specs.BlockUse.{use_of_data}
 use Rattle.kernel_model.specs.BlockUse.Use.{User}
-use Rattle.kernel_model.specs.ChangedStore.{HasKeeper, IsChanged, Knows}
+use Rattle.kernel_model.specs.ChangedStore.{IsChanged, Knows}
 use Rattle.kernel_model.specs.Changes.{AreUnowned, IsIdleBlock, with_modules}
 use Rattle.kernel_model.specs.HoldsLists.{HoldsLists}
 use Rattle.kernel_model.specs.Lists.{Lists, queued}

@@ -1,22 +1,20 @@
 -- A store of the kernel's after a load.
-use Rattle.std.proofs.Common.{◌≡◌, ℕ, suc, ◌+◌, ◌-◌, ◌<◌, ◌≤◌, List, [], ◌∷◌, ◌++◌, length, cond, Option, Some, None, Result, Ok, Err, refl, sym, ap, ◌∙◌, subst, arith, append-nil}
+use Rattle.std.proofs.Common.{◌≡◌, ℕ, suc, ◌+◌, ◌<◌, ◌≤◌, List, [], ◌∷◌, ◌++◌, length, cond, Some, None, Ok, Err, refl, sym, ap, ◌∙◌, subst, arith, append-nil}
 use Rattle.std.specs.Prelude.{is_some}
 use Rattle.std.specs.List.{range_with_len}
 use Rattle.linked_list.specs.Count.{hit, times}
-use Rattle.linked_list.proofs.Counts.{hit-other, times-above}
+use Rattle.linked_list.proofs.Counts.{times-above}
 use Rattle.owned_words.specs.Exchange.{Exchange}
 use Rattle.owned_words.specs.Owned.{Pairs, owners}
 use Rattle.owned_words.proofs.Exchanges.{exchange-insert}
 use Rattle.owned_words.proofs.OwnedWords.{Holds-append, Holds-left, Holds-right, owners-append}
 use Rattle.getvec_chain.specs.Run.{first_run, need}
 use Rattle.getvec_chain.specs.Tiling.{blocks_in}
-use Rattle.hunk_text.specs.ModuleForm.{IsModule}
 use Rattle.hunk_text.specs.declared.modules.Hunk.{Hunk}
-use Rattle.hunk_text.specs.declared.modules.Module.{Module}
 use Rattle.hunk_loader.specs.HeldModules.{LoadedModule, module_address, module_words}
 use Rattle.hunk_loader.specs.LoadOutcome.{IsLoaded}
-use Rattle.hunk_loader.specs.ModuleExchanges.{first_of_modules, hunk_words, loaded_module, loaded_words, modules_words}
-use Rattle.hunk_loader.specs.ModuleRow.{last_word, lengths_of}
+use Rattle.hunk_loader.specs.ModuleExchanges.{first_of_modules, hunk_words, loaded_module, loaded_words}
+use Rattle.hunk_loader.specs.ModuleRow.{last_word}
 use Rattle.hunk_loader.proofs.HeldModuleLists.{are_modules}
 use Rattle.hunk_loader.proofs.LoadedModules.{length-lengths}
 use Rattle.kernel_model.specs.ChangedStore.{IsChanged, Knows}

@@ -1,6 +1,5 @@
 -- Whether a module is there, and whether a task has it, as a store tells it.
-use Rattle.std.proofs.Common.{◌≡◌, ◌≢◌, ℕ, suc, ◌+◌, ◌-◌, ◌<◌, ◌≤◌, List, [], ◌∷◌, ◌++◌, length, map, drop, get_or, cond, eqb, leb, not, ◌&&◌, ◌||◌, Bool, true, false, Some, None, Option, Result, Err, refl, sym, ap, ◌∙◌, subst, arith}
-use Rattle.std.specs.Prelude.{slice_range}
+use Rattle.std.proofs.Common.{◌≡◌, ℕ, ◌+◌, ◌<◌, List, [], ◌∷◌, length, map, drop, cond, eqb, not, ◌||◌, Bool, true, false, Some, None, Option, Result, Err, refl, sym, ap, ◌∙◌, subst, arith}
 use Rattle.std.specs.List.{AllByRecursion, filter, list_any}
 use Rattle.std.proofs.lemmas.Bool.{eqb-true, ne_eqb}
 use Rattle.linked_list.specs.Places.{has}
@@ -10,9 +9,8 @@ use Rattle.hunk_loader.proofs.HeldModuleLists.{held-modules}
 use Rattle.task_block.specs.Lists.{modules_in}
 use Rattle.task_block.specs.TaskChain.{tasks_in}
 use Rattle.kernel_model.specs.HoldsLists.{HoldsLists}
-use Rattle.kernel_model.specs.KernelRanges.{task_size_in}
 use Rattle.kernel_model.specs.Lists.{Lists}
-use Rattle.kernel_model.specs.Recovered.{lists_in, modules_of, task_in}
+use Rattle.kernel_model.specs.Recovered.{lists_in, task_in}
 use Rattle.kernel_model.specs.Task.{Task, further_modules, task_address}
 use Rattle.kernel_model.specs.ValidBlocks.{HasBlock, last_module_word}
 use Rattle.kernel_model.specs.ValidLists.{AreValid}

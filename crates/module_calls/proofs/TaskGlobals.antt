@@ -1,16 +1,15 @@
 -- Where the globals of a guest lie: behind its task block, in a block of its own.
-use Rattle.std.proofs.Common.{◌≡◌, ◌≢◌, ℕ, zero, suc, ◌+◌, ◌-◌, ◌<◌, ◌≤◌, ◌⊎◌, ◌||◌, List, [], ◌∷◌, ◌++◌, map, get_or, cond, eqb, ltb, Bool, true, false, Option, Some, None, inl, inr, refl, sym, ap, ◌∙◌, subst, arith}
+use Rattle.std.proofs.Common.{◌≡◌, ◌≢◌, ℕ, zero, suc, ◌+◌, ◌<◌, ◌≤◌, ◌⊎◌, ◌||◌, List, [], ◌∷◌, ◌++◌, map, get_or, cond, eqb, ltb, true, false, Some, inl, inr, refl, sym, ap, ◌∙◌, subst, arith}
 use Rattle.std.specs.Prelude.{find}
 use Rattle.std.specs.List.{list_any, range_with_len}
-use Rattle.std.proofs.lemmas.Bool.{cases_eq, eq-eqb, le-ltb, lt-ltb, ne_eqb, or_parts}
+use Rattle.std.proofs.lemmas.Bool.{cases_eq, eq-eqb, le-ltb, ne_eqb, or_parts}
 use Rattle.std.proofs.lemmas.Bool.Decides.{nat_tests}
 use Rattle.linked_list.specs.Count.{IsApart, times}
-use Rattle.linked_list.specs.Places.{has}
 use Rattle.linked_list.proofs.AllMembers.{all-has}
 use Rattle.linked_list.proofs.Counts.{hit-same}
 use Rattle.owned_words.specs.LinkedWords.{linked_words}
-use Rattle.owned_words.specs.Owned.{owners, row_from}
-use Rattle.getvec_chain.specs.Block.{block_end, used_block}
+use Rattle.owned_words.specs.Owned.{owners}
+use Rattle.getvec_chain.specs.Block.{used_block}
 use Rattle.getvec_chain.specs.Run.{need}
 use Rattle.getvec_chain.specs.Tiling.{blocks_in, used_at}
 use Rattle.getvec_chain.proofs.UsedBlocks.{AreDisjoint, used_at-apart}
@@ -27,7 +26,6 @@ use Rattle.kernel_model.specs.Lists.{Lists}
 use Rattle.kernel_model.specs.Owned.{owned}
 use Rattle.kernel_model.specs.Task.{Task, globals_of, task_address, task_id, task_words}
 use Rattle.kernel_model.specs.ValidBlocks.{HasBlock}
-use Rattle.kernel_model.specs.ValidTasks.{IsGuest}
 use Rattle.kernel_model.specs.Versions.{head_words_of}
 use Rattle.kernel_model.proofs.OwnerCounts.{owners-linked_here}
 use Rattle.kernel_model.proofs.RootCounts.{owners-nodes}

@@ -32,12 +32,7 @@ const DEAD: u32 = 12;
 /// is not dead (11), where there is no such module (17), where the task has as many modules as it may have (28), where a
 /// hunk of the module has a number of a global above 1,000 (18), and where a word of a queued packet lies in the task's
 /// globals (7).
-pub fn add_module<Q: KindKeeper>(
-    store: &mut Store,
-    kinds: &Q,
-    id: u32,
-    m: u32,
-) -> Result<u32, u32>
+pub fn add_module<Q: KindKeeper>(store: &mut Store, kinds: &Q, id: u32, m: u32) -> Result<u32, u32>
     requires { (l : Lists) × HasKeeper store.old (Q.tells kinds.now) (Q.room kinds.now) l }
     ensures made { (l : Lists)
         → HasKeeper store.old (Q.tells kinds.now) (Q.room kinds.now) l

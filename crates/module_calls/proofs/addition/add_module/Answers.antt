@@ -1,7 +1,6 @@
-use Rattle.std.proofs.Common.{◌≡◌, ◌∙◌, ℕ, ◌+◌, ◌≤◌, cond, eqb, Bool, true, false, List, set, sym, ap, subst, arith}
+use Rattle.std.proofs.Common.{◌≡◌, ◌∙◌, ℕ, ◌+◌, ◌≤◌, cond, eqb, Bool, true, false, set, sym, ap, subst, arith}
 use Rattle.std.proofs.lemmas.Result.{err_from_is_err_and}
 use Rattle.hunk_loader.specs.GlobalWords.{AreClear}
-use Rattle.hunk_loader.specs.Globals.{globals_in, with_globals}
 use Rattle.hunk_loader.specs.ModuleHunks.{module_end}
 use Rattle.hunk_loader.proofs.HeldModuleLists.{held-modules}
 use Rattle.task_block.specs.Versions.{module_index, most_modules}

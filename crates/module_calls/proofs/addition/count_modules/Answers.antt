@@ -1,4 +1,4 @@
-use Rattle.std.proofs.Common.{◌∙◌, sym, arith}
+use Rattle.std.proofs.Common.{arith}
 use Rattle.module_calls.proofs.FurtherModules.{count-end, count-none, count-one, most-some}
 use Rattle.module_calls.proofs.addition.count_modules.Goals as goal
 

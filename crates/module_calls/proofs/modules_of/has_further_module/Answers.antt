@@ -1,4 +1,4 @@
-use Rattle.std.proofs.Common.{◌∙◌, sym, arith}
+use Rattle.std.proofs.Common.{◌∙◌, sym}
 use Rattle.module_calls.proofs.FurtherModules.{further-here, further-next}
 use Rattle.module_calls.proofs.modules_of.has_further_module.Goals as goal
 

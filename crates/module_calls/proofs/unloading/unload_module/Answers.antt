@@ -1,4 +1,4 @@
-use Rattle.std.proofs.Common.{◌≡◌, ◌∙◌, ℕ, ◌+◌, ◌-◌, List, Bool, true, false, Result, Ok, Err, length, get_or, refl, sym, ap, subst, arith}
+use Rattle.std.proofs.Common.{◌≡◌, ◌∙◌, ℕ, ◌+◌, ◌-◌, List, Bool, true, false, Result, Ok, Err, length, get_or, refl, ap, subst, arith}
 use Rattle.std.specs.Prelude.{IsOk, OnErr, OnOk}
 use Rattle.std.proofs.lemmas.Result.{err_from_is_err_and}
 use Rattle.getvec_chain.specs.Block.{block_end}
@@ -6,7 +6,6 @@ use Rattle.getvec_chain.specs.Give.{given_store}
 use Rattle.hunk_loader.proofs.HeldModuleLists.{held-modules}
 use Rattle.linked_list.specs.Places.{without_node}
 use Rattle.task_block.specs.Lists.{module_link}
-use Rattle.kernel_model.specs.Changes.{AreUnowned}
 use Rattle.kernel_model.specs.HoldsLists.{HoldsLists}
 use Rattle.kernel_model.specs.Lists.{Lists}
 use Rattle.call_answers.specs.Refusals.{answer_of, first_refusal}
