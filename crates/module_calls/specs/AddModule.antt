@@ -1,16 +1,17 @@
 -- The call that gives a task one more module.
-use Rattle.std.specs.Prelude.{ℕ, ◌+◌, ◌==◌, ◌&&◌, Bool, not, Ok, Option, Some, None, find, length, map, reverse, List, [], ◌∷◌, ◌++◌, nat_le, nat_lt}
+use Rattle.std.specs.Prelude.{◌≡◌, ℕ, ◌+◌, ◌==◌, ◌&&◌, Bool, not, Result, Ok, Err, Option, Some, None, find, length, List, [], ◌∷◌, ◌++◌, nat_le, nat_lt}
 use Rattle.std.specs.List.{list_all, list_any, range_with_len}
-use Rattle.owned_words.specs.Owned.{Pairs}
-use Rattle.packet_queue.specs.QueueWords.{QueuedPacket}
+use Rattle.owned_words.specs.Owned.{Pairs, owners}
 use Rattle.hunk_loader.specs.Globals.{Global, globals_in, highest, most_globals}
 use Rattle.hunk_loader.specs.ModuleHunks.{hunks_in}
 use Rattle.kernel_model.specs.Changes.{with_task}
-use Rattle.kernel_model.specs.Lists.{Lists, queued}
+use Rattle.kernel_model.specs.Lists.{Lists}
+use Rattle.kernel_model.specs.Owned.{owned}
 use Rattle.kernel_model.specs.Task.{Task, globals_of}
 use Rattle.kernel_model.specs.ValidTasks.{dead}
 use Rattle.kernel_model.specs.Versions.{most_modules_of}
 use Rattle.call_answers.specs.Guests.{guest_tests}
+use Rattle.call_answers.specs.Refusals.{first_refusal}
 use Rattle.call_answers.specs.Made.{Made, unless_refused}
 use Rattle.module_calls.specs.UnloadModule.{has_module}
 
@@ -40,19 +41,27 @@ task_of id l = find (λ t. t.id == id) l.tasks
 abbrev pub globals_of_task : ℕ → Lists → ℕ
 globals_of_task id l = globals_at l.version (task_of id l)
 
--- a word of the packet is one of the 1,001 words of globals at g
-abbrev pub lies_in_globals : ℕ → QueuedPacket → Bool
-lies_in_globals g p = list_any (λ a. nat_le g a && nat_lt a (g + 1001)) (range_with_len p.address 5)
+-- whether the kernel owns one of so many words from an address on
+unfoldable pub owns_some : Lists → ℕ → ℕ → Bool
+owns_some l a n = list_any (λ c. nat_lt 0 (owners c (owned l))) (range_with_len a n)
 
+-- Of the words of the task's block the kernel owns those before its globals, and those of queued packets; so where it owns one of the
+-- 1,001 words of globals, a packet lies there.
 abbrev pub has_packet_in_globals : Lists → ℕ → Bool
-has_packet_in_globals l id = list_any (lies_in_globals (globals_of_task id l)) (queued l)
+has_packet_in_globals l id = owns_some l (globals_of_task id l) 1001
 
--- It is a dead guest (codes 2, 14, 11); there is such a module (17); the task may have one more (28); its globals fit (18); and no
--- packet lies in the task's globals (7).
+-- it is dead (code 11), there is such a module (17), it may have one more (28), and the module's globals fit (18)
+abbrev pub check_tests : List ℕ → Lists → ℕ → ℕ → List (Bool × ℕ)
+check_tests s l id m = (is_dead l id, 11) ∷ (has_module l m, 17) ∷ (has_module_room l id, 28) ∷ (globals_fit s m, 18) ∷ []
+
+-- how many modules the task has, or the code of the first of these tests that fails
+abbrev pub IsCounted : List ℕ → Lists → ℕ → ℕ → Task → Result ℕ ℕ → Type 0
+IsCounted s l id m t (Ok count) = (first_refusal (check_tests s l id m) ≡ None) × (count ≡ length t.modules)
+IsCounted s l id m t (Err code) = first_refusal (check_tests s l id m) ≡ Some code
+
+-- It is a guest (codes 2, 14), passes these, and no packet lies in its globals (7).
 abbrev pub addition_tests : List ℕ → Lists → ℕ → ℕ → List (Bool × ℕ)
-addition_tests s l id m =
-    guest_tests l id
-    ++ (is_dead l id, 11) ∷ (has_module l m, 17) ∷ (has_module_room l id, 28) ∷ (globals_fit s m, 18) ∷ (not (has_packet_in_globals l id), 7) ∷ []
+addition_tests s l id m = guest_tests l id ++ (check_tests s l id m ++ (not (has_packet_in_globals l id), 7) ∷ [])
 
 -- the task's modules with this one behind them
 abbrev pub with_further : ℕ → Task → Task
@@ -60,7 +69,8 @@ with_further m t = record t { modules = t.modules ++ m ∷ [] }
 
 -- the words of globals that are set from g on: of two with one number the later one stays, so it comes first
 abbrev pub global_words : ℕ → List Global → Pairs
-global_words g xs = reverse (map (λ x. (g + x.number, x.value)) xs)
+global_words g [] = []
+global_words g (x ∷ xs) = global_words g xs ++ (g + x.number, x.value) ∷ []
 
 -- the answer is how many modules the task has then
 abbrev pub add_module : List ℕ → Lists → ℕ → ℕ → Made

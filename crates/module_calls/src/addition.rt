@@ -1,11 +1,16 @@
 // A task gets one more module.
-ghost use Rattle.std.specs.Prelude.{◌≡◌};
+ghost use Rattle.std.specs.Prelude.{◌≡◌, ◌≤◌, ◌+◌, ◌-◌, ◌%◌, ◌==◌, ℕ, length};
+ghost use Rattle.task_block.specs.Versions.{head_words};
+ghost use Rattle.task_block.specs.declared.fields.TcbField.TheVariants.{State};
 ghost use Rattle.kernel_model.specs.ChangedStore.{HasKeeper};
 ghost use Rattle.kernel_model.specs.HoldsLists.{HoldsLists};
 ghost use Rattle.kernel_model.specs.Lists.{Lists};
+ghost use Rattle.kernel_model.specs.Recovered.{field_in};
+ghost use Rattle.kernel_model.specs.ValidTasks.{dead};
 ghost use Rattle.call_answers.specs.Guests.{GuestAt};
 ghost use Rattle.call_answers.specs.Made.{IsMade};
-ghost use Rattle.module_calls.specs.AddModule.{add_module};
+ghost use Rattle.module_calls.specs.AddModule.{IsCounted, add_module};
+ghost use Rattle.module_calls.specs.ModuleFields.{further_count};
 
 use crate::modules_of::is_module;
 use block_calls::are_unowned;
@@ -19,17 +24,15 @@ use word_store::Store;
 /// The words of a task's globals.
 const GLOBAL_WORDS: u32 = 1001;
 
+/// The state of a dead task, without the bits that say that packets wait and that it is held.
+const DEAD: u32 = 12;
+
 /// Gives the dead task with the number the module at m as its last one, and sets the module's globals in those of the task.
 /// The answer is the number of its modules. Refused where there is no such task (2), where it is a resident (14), where it
 /// is not dead (11), where there is no such module (17), where the task has as many modules as it may have (28), where a
 /// hunk of the module has a number of a global above 1,000 (18), and where a word of a queued packet lies in the task's
 /// globals (7).
-pub fn add_module<Q: KindKeeper>(
-    store: &mut Store,
-    kinds: &Q,
-    id: u32,
-    m: u32,
-) -> Result<u32, u32>
+pub fn add_module<Q: KindKeeper>(store: &mut Store, kinds: &Q, id: u32, m: u32) -> Result<u32, u32>
     requires { (l : Lists) × HasKeeper store.old (Q.tells kinds.now) (Q.room kinds.now) l }
     ensures made { (l : Lists)
         → HasKeeper store.old (Q.tells kinds.now) (Q.room kinds.now) l
@@ -49,6 +52,9 @@ pub fn add_module<Q: KindKeeper>(
 // How many modules the task has. Refused where it is not dead, where there is no such module, where it has as many as it
 // may have, and where the module's globals do not fit.
 fn check_addition(store: &Store, task: u32, m: u32) -> Result<u32, u32>
+    requires { (l : Lists) × (id : ℕ) × HoldsLists store.now l × GuestAt l id task }
+    ensures { (l : Lists) (id : ℕ) (g : GuestAt l id task) → HoldsLists store.now l
+        → IsCounted store.now l id m g.task result }
 {
     if !is_dead(store, task) {
         return Err(NOT_DEAD);
@@ -67,18 +73,23 @@ fn check_addition(store: &Store, task: u32, m: u32) -> Result<u32, u32>
 }
 
 fn is_dead(store: &Store, task: u32) -> bool
+    ensures { result ≡ (field_in store.now task State - field_in store.now task State % 4 == dead) }
 {
-    field(store, task, TcbField::State) / 4 == DEAD / 4
+    let state = field(store, task, TcbField::State);
+    state - state % 4 == DEAD
 }
 
-// The number of the task's modules.
+// The number of a guest's modules, of which it has one at least.
 fn count_modules(store: &Store, task: u32) -> u32
+    requires { task + head_words store.now ≤ length store.now }
+    ensures { result ≡ 1 + further_count store.now task }
 {
-    let most = most_modules(store);
-    for i in 1..most + 1 {
+    let mut count = 1;
+    for i in 2..most_modules(store) + 1 {
         if module_at(store, task, i) == 0 {
-            return i - 1;
+            continue;
         }
+        count += 1;
     }
-    most
+    count
 }

@@ -26,10 +26,10 @@ pub fn load_module<Q: KindKeeper, X: TextBytes>(
     text: &X,
 ) -> Result<u32, u32>
     requires { (l : Lists) × HasKeeper store.old (Q.tells kinds.old) (Q.room kinds.old) l }
-    ensures made { (l : Lists) (module : Module)
+    ensures made { (l : Lists) (m : Module)
         → HasKeeper store.old (Q.tells kinds.old) (Q.room kinds.old) l
-        → IsModule (X.text text.now) module
-        → IsMade store.old store.new (Q.tells kinds.new) result (load_module l module.hunks) }
+        → IsModule (X.text text.now) m
+        → IsMade store.old store.new (Q.tells kinds.new) result (load_module l m.hunks) }
     ensures no_module { (l : Lists) (code : ℕ)
         → HasKeeper store.old (Q.tells kinds.old) (Q.room kinds.old) l
         → check_of (X.text text.now) ≡ Err code

@@ -1,19 +1,24 @@
-// The modules that tasks have.
-ghost use Rattle.std.specs.Prelude.{◌≡◌, ◌<◌, List, length};
-ghost use Rattle.kernel_model.specs.HoldsLists.{HoldsLists};
-ghost use Rattle.kernel_model.specs.Lists.{Lists};
-ghost use Rattle.module_calls.specs.UnloadModule.{has_module, is_in_use};
+// Which modules there are, and which of them tasks have.
+ghost use Rattle.std.specs.Prelude.{◌≡◌, ◌≤◌, ◌+◌, length, slice_range};
+ghost use Rattle.std.specs.List.{AllByRecursion, list_any};
+ghost use Rattle.linked_list.specs.Places.{has};
+ghost use Rattle.linked_list.specs.Walk.{CanWalk};
+ghost use Rattle.task_block.specs.Lists.{module_link, modules_in};
+ghost use Rattle.task_block.specs.RootWords.{first_module, first_task};
+ghost use Rattle.task_block.specs.TaskChain.{task_link, tasks_in};
+ghost use Rattle.task_block.specs.Versions.{head_words};
+ghost use Rattle.module_calls.specs.ModuleFields.{IsTaskIn, module_fields};
 
 use task_block::{TcbField, field, module_at, modules, most_modules, tasks};
 use word_store::Store;
 
-/// The lowest number of a guest; residents have no modules.
+/// The lowest number of a guest; residents have no words for further modules.
 const FIRST_GUEST: u32 = 5;
 
 /// Whether a module stands at address m.
 pub(crate) fn is_module(store: &Store, m: u32) -> bool
-    requires { (l : Lists) × HoldsLists store.now l }
-    ensures { (l : Lists) → HoldsLists store.now l → result ≡ has_module l m }
+    requires { CanWalk store.now module_link first_module }
+    ensures { result ≡ has m (modules_in store.now) }
 {
     for n in modules(store) {
         if n == m {
@@ -23,11 +28,11 @@ pub(crate) fn is_module(store: &Store, m: u32) -> bool
     false
 }
 
-/// Whether a task has the module at m among its modules.
+/// Whether a task has the module at m.
 pub(crate) fn is_in_use(store: &Store, m: u32) -> bool
-    requires { (l : Lists) × HoldsLists store.now l }
-    ensures { (l : Lists) → HoldsLists store.now l → has_module l m ≡ true
-        → result ≡ is_in_use l m }
+    requires chain { CanWalk store.now task_link first_task }
+    requires tasks { AllByRecursion (IsTaskIn store.now) (tasks_in store.now) }
+    ensures { result ≡ list_any (λ t. has m (module_fields store.now t)) (tasks_in store.now) }
 {
     for t in tasks(store) {
         if has_module(store, t, m) {
@@ -37,13 +42,26 @@ pub(crate) fn is_in_use(store: &Store, m: u32) -> bool
     false
 }
 
-// Whether the task at t has the module.
 fn has_module(store: &Store, t: u32, m: u32) -> bool
+    requires { IsTaskIn store.now t }
+    ensures { result ≡ has m (module_fields store.now t) }
 {
+    if field(store, t, TcbField::Module) == m {
+        return true;
+    }
     if field(store, t, TcbField::Id) < FIRST_GUEST {
         return false;
     }
-    for i in 1..most_modules(store) + 1 {
+    has_further_module(store, t, m)
+}
+
+// Whether the module is one of those of a guest after the first.
+fn has_further_module(store: &Store, t: u32, m: u32) -> bool
+    requires { t + head_words store.now ≤ length store.now }
+    ensures { result
+        ≡ has m (slice_range store.now (t + 23) (t + head_words store.now)) }
+{
+    for i in 2..most_modules(store) + 1 {
         if module_at(store, t, i) == m {
             return true;
         }

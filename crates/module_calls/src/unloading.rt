@@ -1,9 +1,11 @@
 // A module is taken out.
 ghost use Rattle.std.specs.Prelude.{◌≡◌};
 ghost use Rattle.kernel_model.specs.ChangedStore.{HasKeeper};
+ghost use Rattle.kernel_model.specs.HoldsLists.{HoldsLists};
 ghost use Rattle.kernel_model.specs.Lists.{Lists};
 ghost use Rattle.call_answers.specs.Made.{IsMade, plain_answer};
-ghost use Rattle.module_calls.specs.UnloadModule.{unload_module};
+ghost use Rattle.call_answers.specs.Refusals.{answer_of, first_refusal};
+ghost use Rattle.module_calls.specs.UnloadModule.{unload_module, use_tests};
 
 use crate::modules_of::{is_in_use, is_module};
 use block_calls::are_unowned;

@@ -1,0 +1,87 @@
+-- What the call makes that gives a guest one more module.
+use Rattle.std.proofs.Common.{◌≡◌, ℕ, ◌+◌, ◌<◌, List, [], ◌∷◌, ◌++◌, length, get_or, set, cond, not, Bool, true, false, Some, None, Ok, Err, refl, sym, ap, ◌∙◌, subst}
+use Rattle.owned_words.specs.Owned.{owners}
+use Rattle.hunk_loader.specs.Globals.{globals_in, with_globals}
+use Rattle.task_block.specs.Versions.{module_index}
+use Rattle.kernel_model.specs.ChangedStore.{HasKeeper, IsChanged}
+use Rattle.kernel_model.specs.Changes.{AreUnowned, with_task}
+use Rattle.kernel_model.specs.Lists.{Lists}
+use Rattle.kernel_model.specs.Owned.{owned}
+use Rattle.kernel_model.specs.Versions.{most_modules_of}
+use Rattle.kernel_model.proofs.ChangedLists.{changed-then, knows-same}
+use Rattle.call_answers.specs.Guests.{GuestAt, guest_tests}
+use Rattle.call_answers.specs.Made.{IsMade, Made}
+use Rattle.call_answers.specs.Refusals.{first_refusal}
+use Rattle.call_answers.proofs.MadeCalls.{made-accepted, made-refused}
+use Rattle.call_answers.proofs.Refusals.{first_refusal-failed, first_refusal-passed}
+use Rattle.module_calls.specs.AddModule.{add_module, addition_tests, check_tests, global_words, globals_of_task, has_packet_in_globals, modules_so_far, owns_some, task_of, with_further}
+use Rattle.module_calls.proofs.AddedModule.{added-changed, added-same, globals-changed}
+use Rattle.module_calls.proofs.AdditionTests.{IsChecked, checks-passed, room-is}
+use Rattle.module_calls.proofs.TaskGlobals.{globals-are, globals-told, none-owns, owns-none, task-is}
+
+module _ (s : List ℕ) (tells : List ℕ → Type 0) (room : ℕ) (l : Lists) (id m : ℕ) (k : HasKeeper s tells room l) where
+  abbrev made : Made
+  made =
+      record {
+        answer = Ok (modules_so_far (task_of id l) + 1);
+        lists = with_task id (with_further m) l;
+        plain = global_words (globals_of_task id l) (globals_in s m);
+        events = [];
+      }
+
+  abbrev last : List (Bool × ℕ)
+  last = (not (has_packet_in_globals l id), 7) ∷ []
+
+  refused-by : (code : ℕ) → first_refusal (addition_tests s l id m) ≡ Some code → IsMade s s tells (Err code) (add_module s l id m)
+  refused-by code e = made-refused s l (addition_tests s l id m) made tells code k.lists k.knows e
+
+  pub add-no_guest : (code : ℕ) → first_refusal (guest_tests l id) ≡ Some code → IsMade s s tells (Err code) (add_module s l id m)
+  add-no_guest code e = refused-by code (first_refusal-failed (guest_tests l id) (check_tests s l id m ++ last) code e)
+
+  module _ (address : ℕ) (g : GuestAt l id address) where
+    pub add-unchecked : (code : ℕ) → first_refusal (check_tests s l id m) ≡ Some code → IsMade s s tells (Err code) (add_module s l id m)
+    add-unchecked code e =
+        refused-by code (first_refusal-passed (guest_tests l id) (check_tests s l id m ++ last) g.accepted ∙ first_refusal-failed (check_tests s l id m) last code e)
+
+    module _ (passed : first_refusal (check_tests s l id m) ≡ None) (start : ℕ) (starts : start ≡ get_or s (address + 8) 0) where
+      start-is : globals_of_task id l ≡ start
+      start-is = globals-are s l id address k.lists g ∙ sym (globals-told s l id address k.lists g) ∙ sym starts
+
+      tests-are : (b : Bool) → owns_some l start 1001 ≡ b → first_refusal (addition_tests s l id m) ≡ cond (not b) None (Some 7)
+      tests-are b e =
+          first_refusal-passed (guest_tests l id) (check_tests s l id m ++ last) g.accepted
+          ∙ first_refusal-passed (check_tests s l id m) last passed
+          ∙ ap (λ a. cond (not (owns_some l a 1001)) None (Some 7)) start-is
+          ∙ ap (λ x. cond (not x) None (Some 7)) e
+
+      pub add-packet : (AreUnowned l start (start + 1001) → ⊥) → IsMade s s tells (Err 7) (add_module s l id m)
+      add-packet owned = on (owns_some l start 1001) refl
+        where
+          on : (b : Bool) → owns_some l start 1001 ≡ b → IsMade s s tells (Err 7) (add_module s l id m)
+          on true e = refused-by 7 (tests-are true e)
+          on false e = absurd (owned (owns-none l start 1001 e))
+
+      pub add-made : (t : List ℕ) (count : ℕ) → AreUnowned l start (start + 1001) → count ≡ length g.task.modules
+          → t ≡ set (with_globals s start (globals_in s m)) (address + module_index (count + 1)) m → IsMade s t tells (Ok (count + 1)) (add_module s l id m)
+      add-made t count unowned is words =
+          made-accepted s l (addition_tests s l id m) made t tells (Ok (count + 1)) (tests-are false (none-owns l start 1001 unowned))
+          (subst (λ z. IsMade s z tells (Ok (count + 1)) made) (sym words)
+          (record { leaves = record { lists = changed; answered = ap Ok (ap (λ n. n + 1) (is ∙ ap modules_so_far (sym (task-is s l id address k.lists g)))) }; knows = knows-same tells l (with_task id (with_further m) l) same k.knows }))
+        where
+          c : IsChecked l id m
+          c = checks-passed s l id m passed
+
+          few : count < most_modules_of l.version
+          few = subst (λ n. n < most_modules_of l.version) (sym is) (room-is s l id address k.lists g c.room)
+
+          first : IsChanged s (with_globals s start (globals_in s m)) l (global_words start (globals_in s m))
+          first = globals-changed s l m start k.lists unowned
+
+          same : (a : ℕ) → owners a (owned (with_task id (with_further m) l)) ≡ owners a (owned l)
+          same a = added-same (with_globals s start (globals_in s m)) l id address m count first.lists g c.there is few a
+
+          changed : IsChanged s (set (with_globals s start (globals_in s m)) (address + module_index (count + 1)) m) (with_task id (with_further m) l) (global_words (globals_of_task id l) (globals_in s m))
+          changed =
+              subst (λ a. IsChanged s (set (with_globals s start (globals_in s m)) (address + module_index (count + 1)) m) (with_task id (with_further m) l) (global_words a (globals_in s m))) (sym start-is)
+              (changed-then s (with_globals s start (globals_in s m)) _ l (with_task id (with_further m) l) (global_words start (globals_in s m)) first
+              (added-changed (with_globals s start (globals_in s m)) l id address m count first.lists g c.there is few) (λ a none. sym (same a) ∙ none))

@@ -1,0 +1,12 @@
+pub mod CheckedTexts
+pub mod ModuleParts
+pub mod LoadedWords
+pub mod LoadedModule
+pub mod ModuleUses
+pub mod FurtherModules
+pub mod GoneModule
+pub mod AdditionTests
+pub mod AddedModule
+pub mod AddedWords
+pub mod TaskGlobals
+pub mod AdditionCall

@@ -1,0 +1,122 @@
+-- Where the globals of a guest lie: behind its task block, in a block of its own.
+use Rattle.std.proofs.Common.{◌≡◌, ◌≢◌, ℕ, zero, suc, ◌+◌, ◌<◌, ◌≤◌, ◌⊎◌, ◌||◌, List, [], ◌∷◌, ◌++◌, map, get_or, cond, eqb, ltb, true, false, Some, inl, inr, refl, sym, ap, ◌∙◌, subst, arith}
+use Rattle.std.specs.Prelude.{find}
+use Rattle.std.specs.List.{list_any, range_with_len}
+use Rattle.std.proofs.lemmas.Bool.{cases_eq, eq-eqb, le-ltb, ne_eqb, or_parts}
+use Rattle.std.proofs.lemmas.Bool.Decides.{nat_tests}
+use Rattle.linked_list.specs.Count.{IsApart, times}
+use Rattle.linked_list.proofs.AllMembers.{all-has}
+use Rattle.linked_list.proofs.Counts.{hit-same}
+use Rattle.owned_words.specs.LinkedWords.{linked_words}
+use Rattle.owned_words.specs.Owned.{owners}
+use Rattle.getvec_chain.specs.Block.{used_block}
+use Rattle.getvec_chain.specs.Run.{need}
+use Rattle.getvec_chain.specs.Tiling.{blocks_in, used_at}
+use Rattle.getvec_chain.proofs.UsedBlocks.{AreDisjoint, used_at-apart}
+use Rattle.hunk_loader.specs.GlobalWords.{AreClear}
+use Rattle.hunk_loader.specs.HeldModules.{module_address, module_words}
+use Rattle.hunk_loader.specs.ModuleHunks.{module_end}
+use Rattle.hunk_loader.specs.Modules.{IsModuleAt}
+use Rattle.hunk_loader.proofs.HeldModuleLists.{held-modules}
+use Rattle.hunk_loader.proofs.ModuleBlocks.{InBlock, in_block}
+use Rattle.task_block.specs.Lists.{modules_in}
+use Rattle.kernel_model.specs.Changes.{AreUnowned}
+use Rattle.kernel_model.specs.HoldsLists.{HoldsLists}
+use Rattle.kernel_model.specs.Lists.{Lists}
+use Rattle.kernel_model.specs.Owned.{owned}
+use Rattle.kernel_model.specs.Task.{Task, globals_of, task_address, task_id, task_words}
+use Rattle.kernel_model.specs.ValidBlocks.{HasBlock}
+use Rattle.kernel_model.specs.Versions.{head_words_of}
+use Rattle.kernel_model.proofs.OwnerCounts.{owners-linked_here}
+use Rattle.kernel_model.proofs.RootCounts.{owners-nodes}
+use Rattle.call_answers.specs.Guests.{GuestAt}
+use Rattle.call_answers.proofs.FoundTask.{reads}
+use Rattle.module_calls.specs.AddModule.{globals_at, globals_of_task, owns_some, task_of}
+use Rattle.module_calls.specs.UnloadModule.{has_module}
+use Rattle.module_calls.proofs.AdditionTests.{facts, is-guest, state-held}
+use Rattle.module_calls.proofs.GoneModule.{ModuleAt, module-at}
+use Rattle.module_calls.proofs.ModuleUses.{module-told}
+
+-- ---- owned words in a row
+
+pub owns-none : (l : Lists) (a n : ℕ) → owns_some l a n ≡ false → AreUnowned l a (a + n)
+unfolding owns_some
+owns-none l a zero e c low high = absurd (omega (arith, low, high))
+owns-none l a (suc n) e c low high =
+    let parts = or_parts (ltb 0 (owners a (owned l))) (list_any (λ d. ltb 0 (owners d (owned l))) (range_with_len (a + 1) n)) e in
+    elim (cases_eq c a) [
+      | inl same ↦ ap (λ z. owners z (owned l)) same ∙ none (owners a (owned l)) parts.0
+      | inr other ↦ owns-none l (a + 1) n parts.1 c (omega (arith, low, other)) (omega (arith, high))
+    ]
+  where
+    none : (k : ℕ) → ltb 0 k ≡ false → k ≡ 0
+    none k test = grind (arith, nat_tests)
+
+pub none-owns : (l : Lists) (a n : ℕ) → AreUnowned l a (a + n) → owns_some l a n ≡ false
+unfolding owns_some
+none-owns l a zero unowned = refl
+none-owns l a (suc n) unowned =
+    ap (λ b. b || list_any (λ d. ltb 0 (owners d (owned l))) (range_with_len (a + 1) n)) (le-ltb 0 (owners a (owned l)) (omega (arith, unowned a (omega arith) (omega arith))))
+    ∙ none-owns l (a + 1) n (λ c low high. unowned c (omega (arith, low)) (omega (arith, high)))
+
+module _ (s : List ℕ) (l : Lists) (id address : ℕ) (h : HoldsLists s l) (g : GuestAt l id address) where
+  -- the task with the number
+  pub task-is : task_of id l ≡ Some g.task
+  task-is = ap (find (λ t. eqb t.id id)) g.is ∙ among g.front (subst (λ ts. IsApart (map task_id ts)) g.is h.valid.tasks.distinct)
+    where
+      among : (front : List Task) → IsApart (map task_id (front ++ g.task ∷ g.back)) → find (λ t. eqb t.id id) (front ++ g.task ∷ g.back) ≡ Some g.task
+      among [] apart = ap (λ b. cond b (Some g.task) (find (λ t. eqb t.id id) g.back)) (eq-eqb g.task.id id g.number)
+      among (z ∷ zs) apart =
+          ap (λ b. cond b (Some z) (find (λ t. eqb t.id id) (zs ++ g.task ∷ g.back))) (ne_eqb z.id id (λ e. absurd (omega (arith, apart id, hit-same id z.id (sym e), here zs))))
+          ∙ among zs (λ a. omega (arith, apart a))
+        where
+          here : (ws : List Task) → 1 ≤ times id (map task_id (ws ++ g.task ∷ g.back))
+          here [] = omega (arith, hit-same id g.task.id (sym g.number))
+          here (w ∷ ws) = omega (arith, here ws)
+
+  pub globals-are : globals_of_task id l ≡ globals_of l.version g.task
+  globals-are = ap (λ o. globals_at l.version o) task-is
+
+  pub globals-told : get_or s (address + 8) 0 ≡ globals_of l.version g.task
+  globals-told = ap (λ a. get_or s (a + 8) 0) (sym g.at) ∙ (state-held s l id address h g).1.1.1.1.0
+
+  globals-behind : globals_of l.version g.task ≡ g.task.address + head_words_of l.version
+  globals-behind = ap (λ b. cond b (g.task.address + head_words_of l.version) 0) (facts s l id address h g).guest
+
+  module _ (m : ℕ) (there : has_module l m ≡ true) where
+    place : ModuleAt l.modules m
+    place = module-at m l.modules there
+
+    -- a task and a module each own their first word
+    elsewhere : g.task.address ≢ m
+    elsewhere e =
+        clash _ _ _ _ _ _ _ _ _ _ (owners-nodes m l) (h.valid.owns.apart m)
+        (tasks (owners-linked_here m task_address (task_words l.version) (λ x n k. refl) g.front g.task g.back 0))
+        (modules (owners-linked_here m module_address module_words (λ x n k. refl) place.front place.it place.back 0))
+      where
+        clash : (w r e b t k c d o s : ℕ) → w ≡ r + (e + (b + (t + (k + (c + (d + (o + s))))))) → w ≤ 1 → 1 ≤ t → 1 ≤ k → ⊥
+        clash w r e b t k c d o s is once one two = omega (arith, is, once, one, two)
+
+        tasks : owners m (task_words l.version g.task 0) ≤ owners m (linked_words task_address (task_words l.version) (g.front ++ g.task ∷ g.back) 0) → 1 ≤ owners m (linked_words task_address (task_words l.version) l.tasks 0)
+        tasks le = subst (λ ts. 1 ≤ owners m (linked_words task_address (task_words l.version) ts 0)) (sym g.is) (omega (arith, le, hit-same m g.task.address (sym e)))
+
+        modules : owners m (module_words place.it 0) ≤ owners m (linked_words module_address module_words (place.front ++ place.it ∷ place.back) 0) → 1 ≤ owners m (linked_words module_address module_words l.modules 0)
+        modules le = subst (λ ms. 1 ≤ owners m (linked_words module_address module_words ms 0)) (sym place.is) (omega (arith, le, hit-same m place.it.address (sym place.at)))
+
+    -- so the globals lie apart from the module's words
+    pub globals-clear : AreClear (globals_of l.version g.task) m (module_end s m)
+    globals-clear k low =
+        let modules = (held-modules s l.modules (reads s l h).modules).modules in
+        let at : IsModuleAt s m = all-has (IsModuleAt s) m (modules_in s) modules.modules (module-told s l m h ∙ there) in
+        let b : InBlock s m at.block = in_block s m (reads s l h).tiled at in
+        let own : HasBlock l.blocks g.task.address (head_words_of l.version + 1001 + g.task.highest) = (is-guest s l id address h g).block in
+        by at b own
+        (used_at-apart s 200 (blocks_in s) g.task.address m (used_block own.start (need (head_words_of l.version + 1001 + g.task.highest))) at.block (reads s l h).tiled
+        (ap (used_at g.task.address) (reads s l h).blocks ∙ own.block) at.used)
+      where
+        by : (at : IsModuleAt s m) → InBlock s m at.block → (own : HasBlock l.blocks g.task.address (head_words_of l.version + 1001 + g.task.highest))
+            → (g.task.address ≡ m) ⊎ AreDisjoint (used_block own.start (need (head_words_of l.version + 1001 + g.task.highest))) at.block
+            → (globals_of l.version g.task + k < m) ⊎ (module_end s m ≤ globals_of l.version g.task + k)
+        by at b own (inl e) = absurd (elsewhere e)
+        by at b own (inr (inl before)) = inl (omega (arith, before, b.start, own.here, globals-behind, low))
+        by at b own (inr (inr behind)) = inr (omega (arith, behind, b.words, own.here, globals-behind, low))
