@@ -1,1 +1,5 @@
 pub mod Typed
+pub mod Returned
+pub mod ReturnWords
+pub mod Keys
+pub mod Printed

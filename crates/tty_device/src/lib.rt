@@ -1,6 +1,9 @@
-// The bytes that are typed ahead.
+// The keyboard with the bytes that are typed ahead, and the output device.
 #![tactic(auto)]
 
+pub mod output;
+pub mod returns;
 pub mod typed;
 
+pub use output::finish_output;
 pub use typed::Tty;

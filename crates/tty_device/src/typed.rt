@@ -1,11 +1,20 @@
 // The bytes that were typed, and that no packet has taken yet.
 ghost use Rattle.std.specs.Prelude.{◌≡◌, ◌<◌, ◌↔◌, [], IfOk, IsTrue, drop, length, slice_get};
+ghost use Rattle.kernel_model.specs.HoldsLists.{HoldsLists};
+ghost use Rattle.kernel_model.specs.Lists.{Lists};
+ghost use Rattle.kernel_model.specs.NotedEvents.{NotesAll};
+ghost use Rattle.tty_device.specs.Keys.{left_typed, met};
+ghost use Rattle.tty_device.specs.Returned.{IsServed};
 ghost use Rattle.tty_device.specs.Typed.{with_typed};
 
+use crate::returns::{Device, return_first};
 use circular_buffer::HeapCircularBuffer;
+use packet_queue::EventLog;
 use std::alloc::Global;
 use std::marker::Model;
+use task_block::{RootField, root};
 use tp_io::WantMemory;
+use word_store::Store;
 
 /// How many bytes are held at most.
 const ROOM: usize = 128;
@@ -51,6 +60,27 @@ impl Tty {
         ensures { result ≡ slice_get self.now k }
     {
         self.bytes.get(k as usize).copied()
+    }
+
+    /// Lets the first byte meet the first packet that waits at the keyboard, where there are both: the packet is returned from -2
+    /// with the byte as its first result, and 0 as its second.
+    pub fn meet<L: EventLog>(&mut self, store: &mut Store, log: &mut L)
+        requires { (l : Lists) × HoldsLists store.old l }
+        ensures lists { (l : Lists) → HoldsLists store.old l
+            → IsServed store.old store.new l (met self.old l) }
+        ensures left { (l : Lists) → HoldsLists store.old l
+            → self.new ≡ left_typed self.old l.keyboard }
+        ensures notes { (l : Lists) → HoldsLists store.old l
+            → NotesAll (L.noted log.old) (L.noted log.new)
+            (L.has_failed log.old) (L.has_failed log.new) (met self.old l).events }
+    {
+        if root(store, RootField::KeyQueue) == 0 {
+            return;
+        }
+        let Some(byte) = self.bytes.pop_front() else {
+            return;
+        };
+        return_first(store, Device::OfKeys, u32::from(byte), log);
     }
 
     /// Drops all bytes.
