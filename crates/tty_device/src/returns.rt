@@ -1,5 +1,6 @@
 // A device returns a packet to the task that sent it.
 ghost use Rattle.std.specs.Prelude.{◌≡◌, ◌≢◌, ◌+◌, slice_index};
+ghost use Rattle.word_store.specs.Arithmetic.{signed};
 ghost use Rattle.kernel_model.specs.Changes.{queue_of};
 ghost use Rattle.kernel_model.specs.HoldsLists.{HoldsLists};
 ghost use Rattle.kernel_model.specs.Lists.{Lists};
@@ -53,16 +54,30 @@ pub fn return_first<L: EventLog>(store: &mut Store, device: Device, res1: u32, l
     let next = word(store, p);
     store.set(head, next);
     give_back(store, task, p, from, res1);
-    log.note(KernelEvent::Taken {
-        queue: signed(from),
-        packet: p,
+    log.note(taken(from, p, sender));
+    log.note(accepted(sender, p, from));
+}
+
+// A packet was taken from a queue.
+fn taken(queue: u32, packet: u32, sender: u32) -> KernelEvent
+    ensures { result ≡ KernelEvent.Taken (signed queue) packet (signed sender) }
+{
+    KernelEvent::Taken {
+        queue: signed(queue),
+        packet,
         sender: signed(sender),
-    });
-    log.note(KernelEvent::Accepted {
-        queue: signed(sender),
-        packet: p,
-        sender: signed(from),
-    });
+    }
+}
+
+// A packet came into a queue.
+fn accepted(queue: u32, packet: u32, sender: u32) -> KernelEvent
+    ensures { result ≡ KernelEvent.Accepted (signed queue) packet (signed sender) }
+{
+    KernelEvent::Accepted {
+        queue: signed(queue),
+        packet,
+        sender: signed(sender),
+    }
 }
 
 // The word that leads to the first packet of the device.
