@@ -2,8 +2,8 @@
 use Rattle.std.specs.Prelude.{ℕ, List, [], ◌∷◌, drop}
 use Rattle.packet_queue.specs.QueueWords.{QueuedPacket}
 use Rattle.kernel_model.specs.Lists.{Lists}
-use Rattle.tty_device.specs.Returned.{Served, first_returned, unserved}
-use Rattle.tty_device.specs.declared.returns.Device.TheVariants.{OfKeys}
+use Rattle.device_returns.specs.Returned.{Served, first_returned, unserved}
+use Rattle.device_returns.specs.declared.returns.Device.TheVariants.{OfKeys}
 
 -- the first packet is returned with the first byte, where there are both
 abbrev pub met : List ℕ → Lists → Served

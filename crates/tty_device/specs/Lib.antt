@@ -1,5 +1,3 @@
 pub mod Typed
-pub mod Returned
-pub mod ReturnWords
 pub mod Keys
 pub mod Printed

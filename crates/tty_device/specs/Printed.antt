@@ -2,8 +2,8 @@
 use Rattle.std.specs.Prelude.{ℕ, ◌+◌, ◌%◌, List, [], ◌∷◌, slice_index}
 use Rattle.packet_queue.specs.QueueWords.{QueuedPacket}
 use Rattle.kernel_model.specs.Lists.{Lists}
-use Rattle.tty_device.specs.Returned.{Served, first_returned}
-use Rattle.tty_device.specs.declared.returns.Device.TheVariants.{OfOutput}
+use Rattle.device_returns.specs.Returned.{Served, first_returned}
+use Rattle.device_returns.specs.declared.returns.Device.TheVariants.{OfOutput}
 
 -- the byte that is printed, where these packets waited: what word 5 of the first one ends with; beyond the store it is 0
 abbrev pub printed : List ℕ → List QueuedPacket → List ℕ

@@ -2,7 +2,6 @@
 #![tactic(auto)]
 
 pub mod output;
-pub mod returns;
 pub mod typed;
 
 pub use output::finish_output;

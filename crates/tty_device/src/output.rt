@@ -4,9 +4,9 @@ ghost use Rattle.kernel_model.specs.HoldsLists.{HoldsLists};
 ghost use Rattle.kernel_model.specs.Lists.{Lists};
 ghost use Rattle.kernel_model.specs.NotedEvents.{NotesAll};
 ghost use Rattle.tty_device.specs.Printed.{finished, printed};
-ghost use Rattle.tty_device.specs.Returned.{IsServed};
+ghost use Rattle.device_returns.specs.Returned.{IsServed};
 
-use crate::returns::{Device, return_first};
+use device_returns::{Device, return_first};
 use packet_queue::EventLog;
 use task_block::{RootField, root};
 use tp_io::Output;

@@ -4,10 +4,10 @@ ghost use Rattle.kernel_model.specs.HoldsLists.{HoldsLists};
 ghost use Rattle.kernel_model.specs.Lists.{Lists};
 ghost use Rattle.kernel_model.specs.NotedEvents.{NotesAll};
 ghost use Rattle.tty_device.specs.Keys.{left_typed, met};
-ghost use Rattle.tty_device.specs.Returned.{IsServed};
+ghost use Rattle.device_returns.specs.Returned.{IsServed};
 ghost use Rattle.tty_device.specs.Typed.{with_typed};
 
-use crate::returns::{Device, return_first};
+use device_returns::{Device, return_first};
 use circular_buffer::HeapCircularBuffer;
 use packet_queue::EventLog;
 use std::alloc::Global;

@@ -2,9 +2,9 @@ use Rattle.std.proofs.Common.{◌∙◌, ◌+◌, ◌%◌, ◌++◌, [], ◌∷�
 use Rattle.kernel_model.specs.NotedEvents.{NotesAll}
 use Rattle.kernel_model.proofs.NotedInTurn.{notes-none}
 use Rattle.tty_device.specs.Printed.{printed}
-use Rattle.tty_device.specs.Returned.{IsServed}
-use Rattle.tty_device.specs.declared.returns.Device.TheVariants.{OfOutput}
-use Rattle.tty_device.proofs.DeviceQueues.{HasFirst, none-waits, one-waits, returned-none, served-none}
+use Rattle.device_returns.specs.Returned.{IsServed}
+use Rattle.device_returns.specs.declared.returns.Device.TheVariants.{OfOutput}
+use Rattle.device_returns.proofs.DeviceQueues.{HasFirst, none-waits, one-waits, returned-none, served-none}
 use Rattle.tty_device.proofs.output.finish_output.Goals as goal
 
 pub returns-then-p-eq0-clause-lists : goal.returns-then-p-eq0-clause-lists

@@ -15,9 +15,9 @@ use Rattle.kernel_model.specs.ValidQueues.Place.{Clock, Keyboard, Output, Work}
 use Rattle.kernel_model.proofs.PacketMoves.{queued-valid, unqueued-unowned, unqueued-valid}
 use Rattle.kernel_model.proofs.QueuePlaces.{is_queued-here}
 use Rattle.kernel_model.proofs.ResidentPackets.{key_queued-valid, key_unqueued-valid}
-use Rattle.tty_device.specs.Returned.{place_of, returned_by, with_work_for}
-use Rattle.tty_device.specs.declared.returns.Device.{Device}
-use Rattle.tty_device.specs.declared.returns.Device.TheVariants.{OfClock, OfKeys, OfOutput}
+use Rattle.device_returns.specs.Returned.{place_of, returned_by, with_work_for}
+use Rattle.device_returns.specs.declared.returns.Device.{Device}
+use Rattle.device_returns.specs.declared.returns.Device.TheVariants.{OfClock, OfKeys, OfOutput}
 
 -- a packet that is on no queue, and none of the residents' two, comes to a guest
 to_guest : (m : Lists) (d : Device) (res1 : ℕ) (p : QueuedPacket) → AreValid m → AreUnowned m p.address (p.address + 5) → has_task p.sender m.tasks ≡ true → is_guest_id p.sender ≡ true

@@ -34,12 +34,12 @@ use Rattle.kernel_model.proofs.ChangedLists.{one_task-owned}
 use Rattle.kernel_model.proofs.OwnerCounts.{owns-fewer}
 use Rattle.kernel_model.proofs.QueueCounts.{owners-packet}
 use Rattle.call_answers.proofs.FoundTask.{TaskAt, reads}
-use Rattle.tty_device.specs.Returned.{IsServed, head_of, number_of, place_of, returned_by, with_work_for}
-use Rattle.tty_device.specs.ReturnWords.{moved_words, state_with_one}
-use Rattle.tty_device.specs.declared.returns.Device.{Device}
-use Rattle.tty_device.specs.declared.returns.Device.TheVariants.{OfClock, OfKeys, OfOutput}
-use Rattle.tty_device.proofs.DeviceQueues.{device-held}
-use Rattle.tty_device.proofs.ReturnedLists.{returned-valid}
+use Rattle.device_returns.specs.Returned.{IsServed, head_of, number_of, place_of, returned_by, with_work_for}
+use Rattle.device_returns.specs.ReturnWords.{moved_words, state_with_one}
+use Rattle.device_returns.specs.declared.returns.Device.{Device}
+use Rattle.device_returns.specs.declared.returns.Device.TheVariants.{OfClock, OfKeys, OfOutput}
+use Rattle.device_returns.proofs.DeviceQueues.{device-held}
+use Rattle.device_returns.proofs.ReturnedLists.{returned-valid}
 
 -- ---- exchanges
 

@@ -12,8 +12,8 @@ use Rattle.kernel_model.specs.Owned.{clock_head, keyboard_head, output_head, own
 use Rattle.kernel_model.specs.Residents.{device}
 use Rattle.kernel_model.specs.ValidQueues.{Place}
 use Rattle.kernel_model.specs.ValidQueues.Place.{Clock, Keyboard, Output, Work}
-use Rattle.tty_device.specs.declared.returns.Device.{Device}
-use Rattle.tty_device.specs.declared.returns.Device.TheVariants.{OfClock, OfKeys, OfOutput}
+use Rattle.device_returns.specs.declared.returns.Device.{Device}
+use Rattle.device_returns.specs.declared.returns.Device.TheVariants.{OfClock, OfKeys, OfOutput}
 
 -- the clock is -1, the keyboard -2, the output -3
 abbrev pub number_of : Device → ℕ

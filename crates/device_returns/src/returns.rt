@@ -6,8 +6,8 @@ ghost use Rattle.kernel_model.specs.HoldsLists.{HoldsLists};
 ghost use Rattle.kernel_model.specs.Lists.{Lists};
 ghost use Rattle.kernel_model.specs.NotedEvents.{NotesAll};
 ghost use Rattle.packet_queue.specs.Queue.{CanQueue, HasQueue};
-ghost use Rattle.tty_device.specs.Returned.{IsServed, first_returned, head_of, number_of, place_of};
-ghost use Rattle.tty_device.specs.ReturnWords.{moved_words, set_words_of, state_with_one};
+ghost use Rattle.device_returns.specs.Returned.{IsServed, first_returned, head_of, number_of, place_of};
+ghost use Rattle.device_returns.specs.ReturnWords.{moved_words, set_words_of, state_with_one};
 
 use packet_queue::{EventLog, KernelEvent, append};
 use task_block::{RootField, TcbField, field, find, set_field};

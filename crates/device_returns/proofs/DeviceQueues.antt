@@ -6,9 +6,9 @@ use Rattle.kernel_model.specs.HoldsLists.{HoldsLists}
 use Rattle.kernel_model.specs.Lists.{Lists}
 use Rattle.kernel_model.proofs.ChangedLists.{changed-none}
 use Rattle.call_answers.proofs.FoundTask.{reads}
-use Rattle.tty_device.specs.Returned.{IsServed, first_returned, head_of, place_of, unserved}
-use Rattle.tty_device.specs.declared.returns.Device.{Device}
-use Rattle.tty_device.specs.declared.returns.Device.TheVariants.{OfClock, OfKeys, OfOutput}
+use Rattle.device_returns.specs.Returned.{IsServed, first_returned, head_of, place_of, unserved}
+use Rattle.device_returns.specs.declared.returns.Device.{Device}
+use Rattle.device_returns.specs.declared.returns.Device.TheVariants.{OfClock, OfKeys, OfOutput}
 
 -- the first of these packets, which stands at the address
 pub record HasFirst (p : ℕ) (ps : List QueuedPacket) : Type 0 where

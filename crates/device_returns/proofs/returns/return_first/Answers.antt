@@ -13,13 +13,13 @@ use Rattle.kernel_model.specs.Lists.{Lists}
 use Rattle.kernel_model.specs.NotedEvents.{NotesAll}
 use Rattle.kernel_model.proofs.NotedInTurn.{notes-none, notes-one, notes-then}
 use Rattle.call_answers.proofs.FoundTask.{Finds, TaskAt, find-task, reads}
-use Rattle.tty_device.specs.Returned.{IsServed, first_returned, head_of, number_of, place_of}
-use Rattle.tty_device.specs.ReturnWords.{moved_words, set_words_of}
-use Rattle.tty_device.specs.declared.returns.Device.{Device}
-use Rattle.tty_device.proofs.DeviceQueues.{HasFirst, first-next, first-sender, one-waits, returned-none, served-none}
-use Rattle.tty_device.proofs.ReturnedLists.{sender-there}
-use Rattle.tty_device.proofs.ReturnedWords.{can-append, can-queue, returned-served, state-room}
-use Rattle.tty_device.proofs.returns.return_first.Goals as goal
+use Rattle.device_returns.specs.Returned.{IsServed, first_returned, head_of, number_of, place_of}
+use Rattle.device_returns.specs.ReturnWords.{moved_words, set_words_of}
+use Rattle.device_returns.specs.declared.returns.Device.{Device}
+use Rattle.device_returns.proofs.DeviceQueues.{HasFirst, first-next, first-sender, one-waits, returned-none, served-none}
+use Rattle.device_returns.proofs.ReturnedLists.{sender-there}
+use Rattle.device_returns.proofs.ReturnedWords.{can-append, can-queue, returned-served, state-room}
+use Rattle.device_returns.proofs.returns.return_first.Goals as goal
 
 -- the first packet, by what the function read
 first-of : (s : List ℕ) (l : Lists) (d : Device) (h : HoldsLists s l) (head p : ℕ) → head ≡ head_of d → p ≡ get_or s head 0 → p ≢ 0 → HasFirst p (queue_of (place_of d) l)
