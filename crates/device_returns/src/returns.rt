@@ -1,11 +1,14 @@
 // A device returns a packet to the task that sent it.
-ghost use Rattle.std.specs.Prelude.{◌≡◌, ◌≢◌, ◌+◌, slice_index};
+ghost use Rattle.std.specs.Prelude.{◌≡◌, ◌≢◌, ◌+◌, ◌-◌, ◌^◌, slice_index};
 ghost use Rattle.word_store.specs.Arithmetic.{signed};
 ghost use Rattle.kernel_model.specs.Changes.{queue_of};
 ghost use Rattle.kernel_model.specs.HoldsLists.{HoldsLists};
 ghost use Rattle.kernel_model.specs.Lists.{Lists};
 ghost use Rattle.kernel_model.specs.NotedEvents.{NotesAll};
+ghost use Rattle.kernel_model.specs.Task.{queue_head};
 ghost use Rattle.packet_queue.specs.Queue.{CanQueue, HasQueue};
+ghost use Rattle.task_block.specs.TaskWords.{word_index};
+ghost use Rattle.task_block.specs.declared.fields.TcbField.TheVariants.{State};
 ghost use Rattle.device_returns.specs.Returned.{IsServed, first_returned, head_of, number_of, place_of};
 ghost use Rattle.device_returns.specs.ReturnWords.{moved_words, set_words_of, state_with_one};
 
@@ -104,9 +107,10 @@ fn number(device: Device) -> u32
 
 // The packet at p, which is on no queue, comes to the end of the work queue of the task with this sender and these results.
 fn give_back(store: &mut Store, task: u32, p: u32, from: u32, res1: u32)
-    requires queue { HasQueue (set_words_of store.old p from res1) (task + 3) }
-    requires packet { CanQueue (set_words_of store.old p from res1) (task + 3) p }
-    requires state { slice_index (set_words_of store.old p from res1) (task + 4) ≢ 4294967295 }
+    requires queue { HasQueue (set_words_of store.old p from res1) (queue_head task) }
+    requires packet { CanQueue (set_words_of store.old p from res1) (queue_head task) p }
+    requires state { slice_index (set_words_of store.old p from res1) (task + word_index State)
+        ≢ 2 ^ 32 - 1 }
     ensures { store.new ≡ moved_words store.old task p from res1 }
 {
     set_word_at(store, p, SENDER, from);
@@ -120,7 +124,7 @@ fn give_back(store: &mut Store, task: u32, p: u32, from: u32, res1: u32)
 
 // The state of a task to which a packet came, where its queue had this first one, or 0.
 fn state_with_one(first: u32, state: u32) -> u32
-    requires { state ≢ 4294967295 }
+    requires { state ≢ 2 ^ 32 - 1 }
     ensures { result ≡ state_with_one first state }
 {
     if first == 0 { state + 1 } else { state }
