@@ -22,7 +22,7 @@ use Rattle.kernel_model.proofs.AllThings.{all-here}
 use Rattle.word_kinds.specs.Keeper.{AreTogether}
 use Rattle.word_kinds.proofs.KnownWords.{knows-released}
 use Rattle.call_answers.specs.Guests.{GuestAt}
-use Rattle.call_answers.specs.Made.{IsMade, Made, done, minus_one}
+use Rattle.call_answers.specs.Made.{IsMade, Made, done, minus_one, plain_answer}
 use Rattle.call_answers.specs.Refusals.{first_refusal}
 use Rattle.call_answers.proofs.FoundTask.{reads}
 use Rattle.call_answers.proofs.MadeCalls.{made-accepted, made-refused}
@@ -74,11 +74,13 @@ module _ (s : List ℕ) (tells : List ℕ → Type 0) (room : ℕ) (l : Lists) (
   tests-found o e = ap (λ z. first_refusal (idle_tests c z)) (callers-found s l t k.lists g) ∙ e
 
   -- it is none of the caller's, or has a parent
-  pub deleteco-not_idle : (code : ℕ) → ◌≡◌ {A = Result (Unit {0}) ℕ} (Err code) (coded (idle_answer s t c)) → IsMade s s tells (Err code) (deleteco l c)
-  deleteco-not_idle code e =
-      made-refused s l (delete_tests l c) made tells code k.lists k.knows
+  pub deleteco-not_idle : (result : Result (Unit {0}) ℕ) (code other : ℕ) (answer : Result (Unit {0}) CoEnd) → result ≡ Err other → other ≡ code → answer ≡ idle_answer s t c
+      → ◌≡◌ {A = Result (Unit {0}) ℕ} (Err code) (coded answer) → IsMade s s tells (plain_answer result) (deleteco l c)
+  deleteco-not_idle result code other answer is same by e =
+      subst (λ r. IsMade s s tells (plain_answer r) (deleteco l c)) (sym (is ∙ ap Err same))
+      (made-refused s l (delete_tests l c) made tells code k.lists k.knows
       (first_refusal-failed (idle_tests c (coroutines_of_caller l)) packet_test code
-      (tests-found (Some code) (answer_of-err (first_refusal (idle_tests c own)) code (e ∙ idle-coded s t own held c))))
+      (tests-found (Some code) (answer_of-err (first_refusal (idle_tests c own)) code (e ∙ ap coded by ∙ idle-coded s t own held c)))))
 
   module _ (answer : idle_answer s t c ≡ Ok tt) where
     none : first_refusal (idle_tests c own) ≡ None

@@ -112,7 +112,7 @@ fn make<Q: KindKeeper, L: EventLog>(
             go_on(regs, switch)
         }
         KernelCall::Wrch { character } => {
-            out.push((character % 256) as u8);
+            out.append(&[(character % 256) as u8]);
             answer(regs, Ok(character))
         }
         KernelCall::MulDiv { a, b, c } => {
@@ -164,11 +164,11 @@ fn answer(regs: &mut Regs, answer: Result<u32, u32>) -> CallOutcome
 }
 
 // They answer for a call without an answer of its own, by -1.
-fn accept(regs: &mut Regs, result: Result<(), u32>) -> CallOutcome
-    ensures regs { regs.new ≡ answered regs.old (plain_answer result) }
+fn accept(regs: &mut Regs, outcome: Result<(), u32>) -> CallOutcome
+    ensures regs { regs.new ≡ answered regs.old (plain_answer outcome) }
     ensures done { result ≡ CallOutcome.Done }
 {
-    answer(regs, result.map(|()| u32::MAX))
+    answer(regs, outcome.map(|()| u32::MAX))
 }
 
 // A coroutine goes on, with the registers that it has, or its call was refused.

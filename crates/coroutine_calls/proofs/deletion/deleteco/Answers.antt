@@ -1,10 +1,7 @@
-use Rattle.std.proofs.Common.{◌≡◌, ◌∙◌, Ok, Err, sym, subst, ap}
+use Rattle.std.proofs.Common.{◌≡◌, ◌∙◌, Ok, sym}
 use Rattle.std.proofs.lemmas.Bool.{false≢true}
 use Rattle.std.proofs.lemmas.Result.{err_from_is_err_and}
 use Rattle.coroutines.specs.Refusals.{idle_answer}
-use Rattle.call_answers.specs.Made.{IsMade, plain_answer}
-use Rattle.coroutine_calls.specs.DeleteCo.{deleteco}
-use Rattle.coroutine_calls.specs.Refusals.{coded}
 use Rattle.coroutine_calls.proofs.CallersTask.{callers-stood}
 use Rattle.coroutine_calls.proofs.DeletedCoroutine.{block-there, coded-ok, deleteco-made, deleteco-not_idle, deleteco-packet, ended-ok}
 use Rattle.coroutine_calls.proofs.deletion.deleteco.Goals as goal
@@ -15,9 +12,8 @@ check_idle-requires g c = callers-stood c.args.store.now c.requires.0 c.caller-t
 pub returns-in_err-coded-clause-made : goal.returns-in_err-coded-clause-made
 returns-in_err-coded-clause-made g c = λ l k is.
     let p = err_from_is_err_and c.from_residual.result c.from_residual.ensures.1 in
-    subst (λ r. IsMade c.args.store.now c.args.store.now (g.Q.KindKeeper.tells c.args.kinds.now) (plain_answer r) (deleteco l c.args.c)) (sym (p.1 ∙ ap Err p.2))
-    (deleteco-not_idle c.args.store.now (g.Q.KindKeeper.tells c.args.kinds.now) (g.Q.KindKeeper.room c.args.kinds.now) l k c.caller-task.result (c.caller-task.ensures l k.lists is) c.args.c _
-    (sym c.in_err-coded.was ∙ c.coded.ensures ∙ ap coded c.check_idle.ensures))
+    deleteco-not_idle c.args.store.now (g.Q.KindKeeper.tells c.args.kinds.now) (g.Q.KindKeeper.room c.args.kinds.now) l k c.caller-task.result (c.caller-task.ensures l k.lists is) c.args.c
+    c.from_residual.result _ p.0 c.check_idle.result p.1 p.2 c.check_idle.ensures (sym c.in_err-coded.was ∙ c.coded.ensures)
 
 pub is_clear_behind-requires : goal.is_clear_behind-requires
 is_clear_behind-requires g c =

@@ -1,0 +1,3 @@
+pub mod DeviceQueues
+pub mod ReturnedLists
+pub mod ReturnedWords

@@ -1,0 +1,92 @@
+// The bytes that were typed, and that no packet has taken yet.
+ghost use Rattle.std.specs.Prelude.{◌≡◌, ◌<◌, ◌↔◌, [], IfOk, IsTrue, drop, length, slice_get};
+ghost use Rattle.kernel_model.specs.HoldsLists.{HoldsLists};
+ghost use Rattle.kernel_model.specs.Lists.{Lists};
+ghost use Rattle.kernel_model.specs.NotedEvents.{NotesAll};
+ghost use Rattle.tty_device.specs.Keys.{left_typed, met};
+ghost use Rattle.device_returns.specs.Returned.{IsServed};
+ghost use Rattle.tty_device.specs.Typed.{with_typed};
+
+use device_returns::{Device, return_first};
+use circular_buffer::HeapCircularBuffer;
+use packet_queue::EventLog;
+use std::alloc::Global;
+use std::marker::Model;
+use task_block::{RootField, root};
+use tp_io::WantMemory;
+use word_store::Store;
+
+/// How many bytes are held at most.
+const ROOM: usize = 128;
+
+/// At most 128 bytes, seen as their list, the first that was typed first.
+#[derive(Drop)]
+pub struct Tty {
+    bytes: HeapCircularBuffer<u8>,
+}
+
+impl Model for Tty {
+    ghost use Rattle.std.specs.Prelude.{ℕ, List};
+    ghost use Rattle.tty_device.specs.Typed.{IsTypeAhead};
+
+    ghost Value = { List ℕ };
+
+    ghost view = { λ t. t.bytes.items };
+
+    ghost invariant = { λ t. IsTypeAhead t.bytes };
+}
+
+impl Tty {
+    /// No bytes. `WantMemory` comes only where memory could not be had.
+    pub fn new(alloc: Global) -> Result<Tty, WantMemory>
+        ensures { IfOk result (λ t. t ≡ []) }
+    {
+        match HeapCircularBuffer::with_capacity(alloc, ROOM) {
+            Ok(bytes) => Ok(Tty { bytes }),
+            Err(_) => Err(WantMemory),
+        }
+    }
+
+    /// Enters a byte as the last one. The answer is false exactly where 128 bytes are held; then it is dropped.
+    pub fn enter(&mut self, byte: u8) -> bool
+        ensures room { IsTrue result ↔ (length self.old < 128) }
+        ensures bytes { self.new ≡ with_typed byte self.old }
+    {
+        self.bytes.try_push_back(byte).is_ok()
+    }
+
+    /// The byte in place k, from 0, or `None` exactly where no more than k bytes are held.
+    pub fn at(&self, k: u32) -> Option<u8>
+        ensures { result ≡ slice_get self.now k }
+    {
+        self.bytes.get(k as usize).copied()
+    }
+
+    /// Lets the first byte meet the first packet that waits at the keyboard, where there are both: the packet is returned from -2
+    /// with the byte as its first result, and 0 as its second.
+    pub fn meet<L: EventLog>(&mut self, store: &mut Store, log: &mut L)
+        requires { (l : Lists) × HoldsLists store.old l }
+        ensures lists { (l : Lists) → HoldsLists store.old l
+            → IsServed store.old store.new l (met self.old l) }
+        ensures left { (l : Lists) → HoldsLists store.old l
+            → self.new ≡ left_typed self.old l.keyboard }
+        ensures notes { (l : Lists) → HoldsLists store.old l
+            → NotesAll (L.noted log.old) (L.noted log.new)
+            (L.has_failed log.old) (L.has_failed log.new) (met self.old l).events }
+    {
+        if root(store, RootField::KeyQueue) == 0 {
+            return;
+        }
+        let Some(byte) = self.bytes.pop_front() else {
+            return;
+        };
+        return_first(store, Device::OfKeys, u32::from(byte), log);
+    }
+
+    /// Drops all bytes.
+    pub fn clear(&mut self)
+        ensures { self.new ≡ [] }
+    {
+        self.bytes.clear();
+    }
+}
