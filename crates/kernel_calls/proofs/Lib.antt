@@ -1,0 +1,3 @@
+pub mod SilentCalls
+pub mod CalledAnswers
+pub mod CreatedByCaller

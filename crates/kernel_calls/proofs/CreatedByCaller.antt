@@ -1,0 +1,20 @@
+-- A task may be created by the one that calls.
+use Rattle.std.proofs.Common.{◌≡◌, ◌≤◌, ℕ, ◌+◌, List, [], ◌∷◌, cond, eqb, true, false, inl, refl, sym, ap, subst, arith}
+use Rattle.std.specs.List.{AllByRecursion}
+use Rattle.kernel_model.specs.HoldsLists.{HoldsLists}
+use Rattle.kernel_model.specs.Lists.{Lists}
+use Rattle.kernel_model.specs.ValidTasks.{IsGuest}
+use Rattle.kernel_model.specs.Versions.{highest_id_of, most_modules_of}
+use Rattle.call_answers.specs.Callers.{HasCaller}
+use Rattle.call_answers.specs.Guests.{GuestAt}
+use Rattle.call_answers.proofs.GuestTask.{guest-facts}
+use Rattle.task_calls.specs.CreateTask.{MayCreate}
+
+some-module : (version : ℕ) → 1 ≤ most_modules_of version
+some-module version = elim (eqb version 2) as (λ b. 1 ≤ cond b 8 1) [ true ↦ omega arith | false ↦ omega arith ]
+
+pub caller-creates : (s : List ℕ) (l : Lists) (t m : ℕ) → HoldsLists s l → GuestAt l l.running t → MayCreate l 0 (m ∷ []) l.running
+caller-creates s l t m h g =
+    let facts = guest-facts s l l.running t h g in
+    let guest : IsGuest l g.task = facts.task.guest facts.guest in
+    record { number = inl refl; made_by = subst (λ i. i ≤ highest_id_of l.version) g.number guest.high; some_module = omega arith; most = some-module l.version }
