@@ -9,4 +9,5 @@ pub mod AdditionTests
 pub mod AddedModule
 pub mod AddedWords
 pub mod TaskGlobals
+pub mod GlobalOwners
 pub mod AdditionCall
