@@ -10,4 +10,5 @@ pub mod AddedModule
 pub mod AddedWords
 pub mod TaskGlobals
 pub mod GlobalOwners
+pub mod GlobalPackets
 pub mod AdditionCall
