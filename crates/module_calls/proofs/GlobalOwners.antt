@@ -1,12 +1,11 @@
 -- Of a guest's globals the kernel owns nothing but words of queued packets.
-use Rattle.std.proofs.Common.{◌≡◌, ◌≢◌, ℕ, suc, ◌+◌, ◌-◌, ◌<◌, ◌≤◌, ◌⊎◌, ◌&&◌, ◌||◌, List, [], ◌∷◌, ◌++◌, length, map, cond, eqb, not, Bool, true, false, Option, Some, None, inl, inr, refl, sym, ap, ◌∙◌, subst, arith}
+use Rattle.std.proofs.Common.{◌≡◌, ◌≢◌, ℕ, suc, ◌+◌, ◌-◌, ◌<◌, ◌≤◌, ◌⊎◌, List, [], ◌∷◌, ◌++◌, length, map, cond, eqb, not, Bool, true, false, Option, Some, None, inl, inr, refl, sym, ap, ◌∙◌, subst, arith}
 use Rattle.std.specs.Prelude.{unwrap_or}
 use Rattle.std.specs.List.{AllByRecursion, flat_map, range_with_len}
 use Rattle.std.proofs.lemmas.Bool.{and_parts, cases_lt, eqb-true, leb-true}
-use Rattle.std.proofs.lemmas.Grind.{flat_map-append}
-use Rattle.linked_list.specs.Count.{hit, times, words_of}
+use Rattle.linked_list.specs.Count.{times, words_of}
 use Rattle.linked_list.proofs.AllMembers.{all-back, all-front}
-use Rattle.linked_list.proofs.Counts.{hit-other, hit-same, range-high, range-low, times-above, times-below, times-within, times-words_more}
+use Rattle.linked_list.proofs.Counts.{hit-other, hit-same, range-high, range-low, times-above, times-within, times-words_more}
 use Rattle.owned_words.specs.LinkedWords.{first_of, linked_words}
 use Rattle.owned_words.specs.Owned.{Pairs, owners}
 use Rattle.owned_words.proofs.OwnedWords.{owners-append}
