@@ -15,6 +15,7 @@ use Rattle.call_answers.specs.Refusals.{first_refusal}
 use Rattle.call_answers.specs.Made.{Made, unless_refused}
 use Rattle.module_calls.specs.UnloadModule.{has_module}
 
+-- the task with the number is dead
 abbrev pub is_dead : Lists → ℕ → Bool
 is_dead l id = list_any (λ t. (t.id == id) && (t.field == dead)) l.tasks
 
