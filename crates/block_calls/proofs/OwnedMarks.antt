@@ -1,12 +1,10 @@
 -- What a keeper that knows the words of lists marks: the words that they own.
-use Rattle.std.proofs.Common.{◌≡◌, ℕ, ◌+◌, ◌^◌, ◌%◌, ◌<◌, ◌&&◌, List, [], ◌∷◌, map, cond, eqb, leb, Bool, true, false, inl, inr, refl, sym, ap, subst, arith}
+use Rattle.std.proofs.Common.{◌≡◌, ℕ, ◌^◌, ◌%◌, ◌<◌, ◌&&◌, cond, eqb, leb, Bool, true, false, inl, inr, sym, subst, arith}
 use Rattle.std.specs.Prelude.{◌↔◌}
 use Rattle.std.proofs.lemmas.Bool.{and_parts, cases_lt, false_from_ne_true, leb-true}
-use Rattle.linked_list.specs.Count.{hit, times}
-use Rattle.owned_words.specs.Owned.{Pairs, owners}
-use Rattle.kernel_model.specs.ChangedStore.{Knows}
+use Rattle.linked_list.specs.Count.{times}
+use Rattle.owned_words.specs.Owned.{owners}
 use Rattle.kernel_model.specs.Changes.{AreUnowned}
-use Rattle.kernel_model.specs.HoldsLists.{HoldsLists}
 use Rattle.kernel_model.specs.KernelRanges.{AreClear}
 use Rattle.kernel_model.specs.Lists.{Lists}
 use Rattle.kernel_model.specs.Owned.{owned}

@@ -50,7 +50,8 @@ fn release_joined<Q: KindKeeper>(store: &Store, kinds: &mut Q, run: Run)
 
 // Releases the size word of a block, where it lies in the run and is not its first word.
 fn release_start<Q: KindKeeper>(kinds: &mut Q, run: Run, block: Block)
-    ensures released { WasReleased (Q.tells kinds.old) (Q.tells kinds.new) (joined_start run block) }
+    ensures released { WasReleased (Q.tells kinds.old) (Q.tells kinds.new)
+        (joined_start run block) }
     ensures room { Q.room kinds.new ≡ Q.room kinds.old }
 {
     if !is_joined(run, block) {

@@ -1,12 +1,14 @@
 -- What the call makes that gives a guest one more module.
 use Rattle.std.proofs.Common.{◌≡◌, ℕ, ◌+◌, ◌<◌, List, [], ◌∷◌, ◌++◌, length, get_or, set, cond, not, Bool, true, false, Some, None, Ok, Err, refl, sym, ap, ◌∙◌, subst}
+use Rattle.std.specs.List.{list_any}
 use Rattle.owned_words.specs.Owned.{owners}
 use Rattle.hunk_loader.specs.Globals.{globals_in, with_globals}
 use Rattle.task_block.specs.Versions.{module_index}
 use Rattle.kernel_model.specs.ChangedStore.{HasKeeper, IsChanged}
 use Rattle.kernel_model.specs.Changes.{AreUnowned, with_task}
-use Rattle.kernel_model.specs.Lists.{Lists}
+use Rattle.kernel_model.specs.Lists.{Lists, queued}
 use Rattle.kernel_model.specs.Owned.{owned}
+use Rattle.kernel_model.specs.Task.{globals_of}
 use Rattle.kernel_model.specs.Versions.{most_modules_of}
 use Rattle.kernel_model.proofs.ChangedLists.{changed-then, knows-same}
 use Rattle.call_answers.specs.Guests.{GuestAt, guest_tests}
@@ -14,10 +16,11 @@ use Rattle.call_answers.specs.Made.{IsMade, Made}
 use Rattle.call_answers.specs.Refusals.{first_refusal}
 use Rattle.call_answers.proofs.MadeCalls.{made-accepted, made-refused}
 use Rattle.call_answers.proofs.Refusals.{first_refusal-failed, first_refusal-passed}
-use Rattle.module_calls.specs.AddModule.{add_module, addition_tests, check_tests, global_words, globals_of_task, has_packet_in_globals, modules_so_far, owns_some, task_of, with_further}
+use Rattle.module_calls.specs.AddModule.{add_module, addition_tests, check_tests, global_words, globals_of_task, has_packet_in_globals, lies_in_globals, modules_so_far, task_of, with_further}
 use Rattle.module_calls.proofs.AddedModule.{added-changed, added-same, globals-changed}
+use Rattle.module_calls.proofs.GlobalPackets.{empty-unowned, unowned-empty}
 use Rattle.module_calls.proofs.AdditionTests.{IsChecked, checks-passed, room-is}
-use Rattle.module_calls.proofs.TaskGlobals.{globals-are, globals-told, none-owns, owns-none, task-is}
+use Rattle.module_calls.proofs.TaskGlobals.{globals-are, globals-told, task-is}
 
 module _ (s : List ℕ) (tells : List ℕ → Type 0) (room : ℕ) (l : Lists) (id m : ℕ) (k : HasKeeper s tells room l) where
   abbrev made : Made
@@ -44,27 +47,30 @@ module _ (s : List ℕ) (tells : List ℕ → Type 0) (room : ℕ) (l : Lists) (
         refused-by code (first_refusal-passed (guest_tests l id) (check_tests s l id m ++ last) g.accepted ∙ first_refusal-failed (check_tests s l id m) last code e)
 
     module _ (passed : first_refusal (check_tests s l id m) ≡ None) (start : ℕ) (starts : start ≡ get_or s (address + 8) 0) where
-      start-is : globals_of_task id l ≡ start
-      start-is = globals-are s l id address k.lists g ∙ sym (globals-told s l id address k.lists g) ∙ sym starts
+      here : globals_of l.version g.task ≡ start
+      here = sym (globals-told s l id address k.lists g) ∙ sym starts
 
-      tests-are : (b : Bool) → owns_some l start 1001 ≡ b → first_refusal (addition_tests s l id m) ≡ cond (not b) None (Some 7)
+      start-is : globals_of_task id l ≡ start
+      start-is = globals-are s l id address k.lists g ∙ here
+
+      tests-are : (b : Bool) → list_any (lies_in_globals start) (queued l) ≡ b → first_refusal (addition_tests s l id m) ≡ cond (not b) None (Some 7)
       tests-are b e =
           first_refusal-passed (guest_tests l id) (check_tests s l id m ++ last) g.accepted
           ∙ first_refusal-passed (check_tests s l id m) last passed
-          ∙ ap (λ a. cond (not (owns_some l a 1001)) None (Some 7)) start-is
+          ∙ ap (λ a. cond (not (list_any (lies_in_globals a) (queued l))) None (Some 7)) start-is
           ∙ ap (λ x. cond (not x) None (Some 7)) e
 
       pub add-packet : (AreUnowned l start (start + 1001) → ⊥) → IsMade s s tells (Err 7) (add_module s l id m)
-      add-packet owned = on (owns_some l start 1001) refl
+      add-packet owned = on (list_any (lies_in_globals start) (queued l)) refl
         where
-          on : (b : Bool) → owns_some l start 1001 ≡ b → IsMade s s tells (Err 7) (add_module s l id m)
+          on : (b : Bool) → list_any (lies_in_globals start) (queued l) ≡ b → IsMade s s tells (Err 7) (add_module s l id m)
           on true e = refused-by 7 (tests-are true e)
-          on false e = absurd (owned (owns-none l start 1001 e))
+          on false e = absurd (owned (subst (λ a. AreUnowned l a (a + 1001)) here (empty-unowned s l id address k.lists g (subst (λ a. list_any (lies_in_globals a) (queued l) ≡ false) (sym here) e))))
 
       pub add-made : (t : List ℕ) (count : ℕ) → AreUnowned l start (start + 1001) → count ≡ length g.task.modules
           → t ≡ set (with_globals s start (globals_in s m)) (address + module_index (count + 1)) m → IsMade s t tells (Ok (count + 1)) (add_module s l id m)
       add-made t count unowned is words =
-          made-accepted s l (addition_tests s l id m) made t tells (Ok (count + 1)) (tests-are false (none-owns l start 1001 unowned))
+          made-accepted s l (addition_tests s l id m) made t tells (Ok (count + 1)) (tests-are false (subst (λ a. list_any (lies_in_globals a) (queued l) ≡ false) here (unowned-empty s l id address k.lists g (subst (λ a. AreUnowned l a (a + 1001)) (sym here) unowned))))
           (subst (λ z. IsMade s z tells (Ok (count + 1)) made) (sym words)
           (record { leaves = record { lists = changed; answered = ap Ok (ap (λ n. n + 1) (is ∙ ap modules_so_far (sym (task-is s l id address k.lists g)))) }; knows = knows-same tells l (with_task id (with_further m) l) same k.knows }))
         where

@@ -9,4 +9,6 @@ pub mod AdditionTests
 pub mod AddedModule
 pub mod AddedWords
 pub mod TaskGlobals
+pub mod GlobalOwners
+pub mod GlobalPackets
 pub mod AdditionCall

@@ -1,9 +1,7 @@
 -- Where the globals of a guest lie: behind its task block, in a block of its own.
-use Rattle.std.proofs.Common.{◌≡◌, ◌≢◌, ℕ, zero, suc, ◌+◌, ◌<◌, ◌≤◌, ◌⊎◌, ◌||◌, List, [], ◌∷◌, ◌++◌, map, get_or, cond, eqb, ltb, true, false, Some, inl, inr, refl, sym, ap, ◌∙◌, subst, arith}
+use Rattle.std.proofs.Common.{◌≡◌, ◌≢◌, ℕ, ◌+◌, ◌<◌, ◌≤◌, ◌⊎◌, List, [], ◌∷◌, ◌++◌, map, get_or, cond, eqb, true, Some, inl, inr, refl, sym, ap, ◌∙◌, subst, arith}
 use Rattle.std.specs.Prelude.{find}
-use Rattle.std.specs.List.{list_any, range_with_len}
-use Rattle.std.proofs.lemmas.Bool.{cases_eq, eq-eqb, le-ltb, ne_eqb, or_parts}
-use Rattle.std.proofs.lemmas.Bool.Decides.{nat_tests}
+use Rattle.std.proofs.lemmas.Bool.{eq-eqb, ne_eqb}
 use Rattle.linked_list.specs.Count.{IsApart, times}
 use Rattle.linked_list.proofs.AllMembers.{all-has}
 use Rattle.linked_list.proofs.Counts.{hit-same}
@@ -20,10 +18,8 @@ use Rattle.hunk_loader.specs.Modules.{IsModuleAt}
 use Rattle.hunk_loader.proofs.HeldModuleLists.{held-modules}
 use Rattle.hunk_loader.proofs.ModuleBlocks.{InBlock, in_block}
 use Rattle.task_block.specs.Lists.{modules_in}
-use Rattle.kernel_model.specs.Changes.{AreUnowned}
 use Rattle.kernel_model.specs.HoldsLists.{HoldsLists}
 use Rattle.kernel_model.specs.Lists.{Lists}
-use Rattle.kernel_model.specs.Owned.{owned}
 use Rattle.kernel_model.specs.Task.{Task, globals_of, task_address, task_id, task_words}
 use Rattle.kernel_model.specs.ValidBlocks.{HasBlock}
 use Rattle.kernel_model.specs.Versions.{head_words_of}
@@ -31,33 +27,11 @@ use Rattle.kernel_model.proofs.OwnerCounts.{owners-linked_here}
 use Rattle.kernel_model.proofs.RootCounts.{owners-nodes}
 use Rattle.call_answers.specs.Guests.{GuestAt}
 use Rattle.call_answers.proofs.FoundTask.{reads}
-use Rattle.module_calls.specs.AddModule.{globals_at, globals_of_task, owns_some, task_of}
+use Rattle.module_calls.specs.AddModule.{globals_at, globals_of_task, task_of}
 use Rattle.module_calls.specs.UnloadModule.{has_module}
 use Rattle.module_calls.proofs.AdditionTests.{facts, is-guest, state-held}
 use Rattle.module_calls.proofs.GoneModule.{ModuleAt, module-at}
 use Rattle.module_calls.proofs.ModuleUses.{module-told}
-
--- ---- owned words in a row
-
-pub owns-none : (l : Lists) (a n : ℕ) → owns_some l a n ≡ false → AreUnowned l a (a + n)
-unfolding owns_some
-owns-none l a zero e c low high = absurd (omega (arith, low, high))
-owns-none l a (suc n) e c low high =
-    let parts = or_parts (ltb 0 (owners a (owned l))) (list_any (λ d. ltb 0 (owners d (owned l))) (range_with_len (a + 1) n)) e in
-    elim (cases_eq c a) [
-      | inl same ↦ ap (λ z. owners z (owned l)) same ∙ none (owners a (owned l)) parts.0
-      | inr other ↦ owns-none l (a + 1) n parts.1 c (omega (arith, low, other)) (omega (arith, high))
-    ]
-  where
-    none : (k : ℕ) → ltb 0 k ≡ false → k ≡ 0
-    none k test = grind (arith, nat_tests)
-
-pub none-owns : (l : Lists) (a n : ℕ) → AreUnowned l a (a + n) → owns_some l a n ≡ false
-unfolding owns_some
-none-owns l a zero unowned = refl
-none-owns l a (suc n) unowned =
-    ap (λ b. b || list_any (λ d. ltb 0 (owners d (owned l))) (range_with_len (a + 1) n)) (le-ltb 0 (owners a (owned l)) (omega (arith, unowned a (omega arith) (omega arith))))
-    ∙ none-owns l (a + 1) n (λ c low high. unowned c (omega (arith, low)) (omega (arith, high)))
 
 module _ (s : List ℕ) (l : Lists) (id address : ℕ) (h : HoldsLists s l) (g : GuestAt l id address) where
   -- the task with the number
@@ -80,7 +54,7 @@ module _ (s : List ℕ) (l : Lists) (id address : ℕ) (h : HoldsLists s l) (g :
   pub globals-told : get_or s (address + 8) 0 ≡ globals_of l.version g.task
   globals-told = ap (λ a. get_or s (a + 8) 0) (sym g.at) ∙ (state-held s l id address h g).1.1.1.1.0
 
-  globals-behind : globals_of l.version g.task ≡ g.task.address + head_words_of l.version
+  pub globals-behind : globals_of l.version g.task ≡ g.task.address + head_words_of l.version
   globals-behind = ap (λ b. cond b (g.task.address + head_words_of l.version) 0) (facts s l id address h g).guest
 
   module _ (m : ℕ) (there : has_module l m ≡ true) where

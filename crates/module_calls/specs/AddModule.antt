@@ -1,12 +1,12 @@
 -- The call that gives a task one more module.
 use Rattle.std.specs.Prelude.{◌≡◌, ℕ, ◌+◌, ◌==◌, ◌&&◌, Bool, not, Result, Ok, Err, Option, Some, None, find, length, List, [], ◌∷◌, ◌++◌, nat_le, nat_lt}
 use Rattle.std.specs.List.{list_all, list_any, range_with_len}
-use Rattle.owned_words.specs.Owned.{Pairs, owners}
+use Rattle.owned_words.specs.Owned.{Pairs}
+use Rattle.packet_queue.specs.QueueWords.{QueuedPacket}
 use Rattle.hunk_loader.specs.Globals.{Global, globals_in, highest, most_globals}
 use Rattle.hunk_loader.specs.ModuleHunks.{hunks_in}
 use Rattle.kernel_model.specs.Changes.{with_task}
-use Rattle.kernel_model.specs.Lists.{Lists}
-use Rattle.kernel_model.specs.Owned.{owned}
+use Rattle.kernel_model.specs.Lists.{Lists, queued}
 use Rattle.kernel_model.specs.Task.{Task, globals_of}
 use Rattle.kernel_model.specs.ValidTasks.{dead}
 use Rattle.kernel_model.specs.Versions.{most_modules_of}
@@ -15,6 +15,7 @@ use Rattle.call_answers.specs.Refusals.{first_refusal}
 use Rattle.call_answers.specs.Made.{Made, unless_refused}
 use Rattle.module_calls.specs.UnloadModule.{has_module}
 
+-- the task with the number is dead
 abbrev pub is_dead : Lists → ℕ → Bool
 is_dead l id = list_any (λ t. (t.id == id) && (t.field == dead)) l.tasks
 
@@ -41,14 +42,13 @@ task_of id l = find (λ t. t.id == id) l.tasks
 abbrev pub globals_of_task : ℕ → Lists → ℕ
 globals_of_task id l = globals_at l.version (task_of id l)
 
--- whether the kernel owns one of so many words from an address on
-unfoldable pub owns_some : Lists → ℕ → ℕ → Bool
-owns_some l a n = list_any (λ c. nat_lt 0 (owners c (owned l))) (range_with_len a n)
+-- one of the words 0 to 4 of a packet is one of the 1,001 words of globals at g
+abbrev pub lies_in_globals : ℕ → QueuedPacket → Bool
+lies_in_globals g p = list_any (λ a. nat_le g a && nat_lt a (g + 1001)) (range_with_len p.address 5)
 
--- Of the words of the task's block the kernel owns those before its globals, and those of queued packets; so where it owns one of the
--- 1,001 words of globals, a packet lies there.
+-- a word of a queued packet lies in the task's globals
 abbrev pub has_packet_in_globals : Lists → ℕ → Bool
-has_packet_in_globals l id = owns_some l (globals_of_task id l) 1001
+has_packet_in_globals l id = list_any (lies_in_globals (globals_of_task id l)) (queued l)
 
 -- it is dead (code 11), there is such a module (17), it may have one more (28), and the module's globals fit (18)
 abbrev pub check_tests : List ℕ → Lists → ℕ → ℕ → List (Bool × ℕ)

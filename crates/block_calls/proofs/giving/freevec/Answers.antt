@@ -1,10 +1,10 @@
-use Rattle.std.proofs.Common.{◌≡◌, ◌∙◌, ◌-◌, ◌≤◌, ℕ, List, Bool, true, false, Option, Some, None, Result, Ok, Err, refl, ap, subst, arith}
-use Rattle.std.specs.Prelude.{IsOk, OnErr, OnOk}
+use Rattle.std.proofs.Common.{◌≡◌, ◌∙◌, ◌-◌, ◌≤◌, ℕ, List, Bool, true, false, Some, ap, arith}
 use Rattle.std.proofs.lemmas.Result.{err_from_is_err_and}
 use Rattle.getvec_chain.specs.declared.pieces.Block.{Block}
 use Rattle.getvec_chain.specs.Block.{is_used_at}
 use Rattle.getvec_chain.specs.Give.{given_store}
 use Rattle.getvec_chain.specs.Tiling.{blocks_in, used_at}
+use Rattle.getvec_chain.proofs.GiveAnswer.{give-ok, give-on}
 use Rattle.kernel_model.specs.HoldsLists.{HoldsLists}
 use Rattle.kernel_model.specs.Lists.{Lists}
 use Rattle.kernel_model.proofs.FollowedBlocks.{found-within}
@@ -15,11 +15,6 @@ use Rattle.block_calls.proofs.giving.freevec.Goals as goal
 
 some-word : (l : Lists) (s : List ℕ) (v : ℕ) (b : Block) → HoldsLists s l → used_at v l.blocks ≡ Some b → 1 ≤ b.size
 some-word l s v b h used = omega (arith, (found-within (is_used_at v) 200 l.blocks (l.size - 2) b h.valid.blocks used).some)
-
--- the block is given back
-gives : {A E : Type 0} (r : Result A E) (o : Option Block) (b : Block) → OnErr r (o ≡ None) → o ≡ Some b → IsOk r
-gives (Ok a) o b none some = refl
-gives (Err e) o b none some = cc
 
 clash : (x : Bool) → x ≡ false → x ≡ true → ⊥
 clash x e f = cc
@@ -48,7 +43,7 @@ give-requires g c = (reads c.args.store.now c.requires.0 c.requires.1.lists).til
 
 pub unwrap-requires : goal.unwrap-requires
 unwrap-requires g c =
-    gives c.give.result (used_at c.args.v (blocks_in c.args.store.now)) c.in_ok-block.block c.give.ensures.not_a_block
+    give-ok c.give.result (used_at c.args.v (blocks_in c.args.store.now)) c.in_ok-block.block c.give.ensures.not_a_block
     (ap (used_at c.args.v) (reads c.args.store.now c.requires.0 c.requires.1.lists).blocks ∙ (c.in_ok-block.ensures c.requires.0 c.requires.1.lists).0)
 
 pub returns : goal.returns
@@ -56,5 +51,5 @@ returns g c = record {
   made = λ l k.
       given-made c.args.store.now (g.Q.KindKeeper.tells c.args.kinds.now) (g.Q.KindKeeper.room c.args.kinds.now) l c.args.v k c.in_ok-block.block (c.in_ok-block.ensures l k.lists)
       c.give.new.store c.if-v-eq0.false ((c.are_unowned.ensures l k).0 c.if-not-are_unowned.false)
-      (subst (λ r. OnOk r (c.give.new.store ≡ given_store c.args.store.now c.args.v)) c.unwrap.ensures c.give.ensures.words);
+      (give-on c.give.result c.unwrap.result (c.give.new.store ≡ given_store c.args.store.now c.args.v) c.unwrap.ensures c.give.ensures.words);
 }
