@@ -1,9 +1,10 @@
 -- A task whose words stand in the store, and are nobody's, comes into the chain.
-use Rattle.std.proofs.Common.{◌≡◌, ℕ, ◌+◌, ◌<◌, ◌≤◌, List, [], ◌∷◌, ◌++◌, length, get_or, set, map, cond, eqb, Bool, true, false, Option, Some, None, inl, inr, refl, sym, ap, ◌∙◌, subst, arith}
+use Rattle.std.proofs.Common.{◌≡◌, ◌≢◌, ℕ, ◌+◌, ◌<◌, ◌≤◌, List, [], ◌∷◌, ◌++◌, length, get_or, set, map, cond, eqb, Bool, true, false, Option, Some, None, inl, inr, refl, sym, ap, ◌∙◌, subst, arith}
 use Rattle.std.specs.List.{range_with_len}
-use Rattle.std.proofs.lemmas.Bool.{cases_lt, false≢true}
+use Rattle.std.proofs.lemmas.Bool.{cases_lt, eq-eqb, false≢true, ne_eqb}
 use Rattle.linked_list.specs.Count.{node_words, times, words_of}
 use Rattle.linked_list.proofs.Counts.{range-apart, range-high, range-low, times-append, times-within}
+use Rattle.linked_list.proofs.MappedLists.{map-append}
 use Rattle.owned_words.specs.Exchange.{Exchange}
 use Rattle.owned_words.specs.LinkedWords.{first_of, linked_words}
 use Rattle.owned_words.specs.Owned.{Holds, Pairs, owners, written}
@@ -25,6 +26,7 @@ use Rattle.kernel_model.specs.ReadsLists.{ReadsLists}
 use Rattle.kernel_model.specs.Task.{Task, is_guest_id, other_words, task_address, task_id, task_priority, task_words}
 use Rattle.kernel_model.specs.ValidLists.{AreValid}
 use Rattle.kernel_model.specs.Versions.{head_words_of, highest_id_of}
+use Rattle.kernel_model.proofs.AllThings.{any-here}
 use Rattle.kernel_model.proofs.ChainRules.{none-times_id}
 use Rattle.kernel_model.proofs.OwnedParts.{holds-parts}
 use Rattle.kernel_model.proofs.OwnerCounts.{owners-task_between}
@@ -75,7 +77,8 @@ module _ (s : List ℕ) (l : Lists) (x : Task) (c : ComesNew s l x) where
       on (Some a) f = absurd (there f.front f.task f.back f.is f.number)
         where
           there : (front : List Task) (t : Task) (back : List Task) → l.tasks ≡ front ++ t ∷ back → t.id ≡ x.id → ⊥
-          there front t back is e = ?
+          there front t back is e =
+              false≢true (sym c.absent ∙ subst (λ ts. has_task x.id ts ≡ true) (sym is) (any-here (λ u. eqb u.id x.id) front t back (eq-eqb t.id x.id e)))
 
   apart : (a : ℕ) → times a (node_words task_size x.address) + times a (table_words ++ words_of task_size (tasks_in s)) ≤ 1
   apart a =
@@ -133,11 +136,32 @@ module _ (s : List ℕ) (l : Lists) (x : Task) (c : ComesNew s l x) where
       (owners-task_between a l.version (highest_id_of l.version) inserted.front x inserted.back
       ∙ (λ i. owners a (listed l (sym inserted.is i)) + owners-new_task a l.version x c.guest c.queue c.list i))
 
-  same-address : (i : ℕ) → has_task i l.tasks ≡ true → address_with task_address task_id chain i ≡ address_with task_address task_id l.tasks i
-  same-address i some = ?
+  -- the task that runs is another
+  same-address : address_with task_address task_id chain l.running ≡ address_of_task l l.running
+  same-address =
+      address_with-out inserted.front x inserted.back l.running none_before
+      ∙ ap (λ b. cond b x.address (address_with task_address task_id (inserted.front ++ inserted.back) l.running)) (ne_eqb x.id l.running other)
+      ∙ ap (λ ts. address_with task_address task_id ts l.running) (sym inserted.is)
+    where
+      none_before : times x.id (map task_id inserted.front) ≡ 0
+      none_before =
+          omega (
+            arith,
+            none-times_id x.id l.tasks c.absent,
+            ap (λ ts. times x.id (map task_id ts)) inserted.is,
+            ap (times x.id) (map-append task_id inserted.front inserted.back),
+            times-append x.id (map task_id inserted.front) (map task_id inserted.back),
+          )
+
+      other : x.id ≢ l.running
+      other e =
+          elim c.lists.valid.queues.running [
+            | inl none ↦ absurd (omega (arith, none, e, c.low))
+            | inr some ↦ false≢true (sym c.absent ∙ ap (λ i. has_task i l.tasks) e ∙ some)
+          ]
 
   owned-after : owned (with_new_task x l) ≡ around l (listed l chain)
-  owned-after = ap (λ ts. owned (with_tasks ts l)) inserted.becomes ∙ owned-chain l chain ?
+  owned-after = ap (λ ts. owned (with_tasks ts l)) inserted.becomes ∙ owned-chain l chain same-address
 
   pub new-count : (a : ℕ) → owners a (owned (with_new_task x l)) ≡ owners a (owned l) + times a (range_with_len x.address head)
   new-count a = ap (owners a) owned-after ∙ count a ∙ ap (λ z. owners a z + times a (range_with_len x.address head)) (sym (owned-around l))

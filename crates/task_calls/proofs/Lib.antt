@@ -6,3 +6,7 @@ pub mod MovedWords
 pub mod Priorities
 pub mod ChangedPriority
 pub mod SameWords
+pub mod RowsInRows
+pub mod NewTaskWords
+pub mod InsertedTask
+pub mod ModuleGlobals

@@ -1,5 +1,6 @@
 -- The words of a new task stand in its block before it is in the chain.
 use Rattle.std.proofs.Common.{◌≡◌, ℕ, suc, ◌+◌, ◌-◌, ◌<◌, List, [], ◌∷◌, ◌++◌, drop, get_or, length, cond, true, refl, sym, ap, ◌∙◌, subst, arith, add-zero}
+use Rattle.std.proofs.lemmas.List.{length-append}
 use Rattle.owned_words.specs.Owned.{Holds, Pairs, row_from}
 use Rattle.owned_words.proofs.OwnedWords.{Holds-append, Holds-left, Holds-right}
 use Rattle.owned_words.proofs.RowWords.{Holds-row}
@@ -44,7 +45,9 @@ module _ (s : List ℕ) (l : Lists) (number : ℕ) (modules : List ℕ) (u pri m
     (word 3 (omega arith), (word 18 (omega arith), (word 19 (omega arith), (word 20 (omega arith), (word 17 (omega arith), tt))))))))))))))))))))))
     where
       word : (j : ℕ) → j < 23 → get_or s (t.address + j) 0 ≡ get_or (fixed ++ (further ++ rest)) j 0
-      word j few = Holds-row s t.address 0 (fixed ++ (further ++ rest)) j h (omega (arith, few))
+      word j few =
+          let none : j ≡ 0 + j = omega arith in
+          ap (λ z. get_or s (t.address + z) 0) none ∙ Holds-row s t.address 0 (fixed ++ (further ++ rest)) j h (omega (arith, few, length-append fixed (further ++ rest)))
 
       modules_held : Holds s (row_from t.address 23 further)
       modules_held =

@@ -10,8 +10,10 @@ use Rattle.kernel_model.specs.Task.{filled}
 
 -- a word of the second of two lists
 pub set-behind : (xs ys : List ℕ) (i w : ℕ) → set (xs ++ ys) (length xs + i) w ≡ xs ++ set ys i w
-set-behind [] ys i w = refl
-set-behind (x ∷ xs) ys i w = ap (λ z. x ∷ z) (set-behind xs ys i w)
+set-behind [] ys i w = (let none : 0 + i ≡ i = omega arith in ap (λ z. set ys z w) none)
+set-behind (x ∷ xs) ys i w =
+    let next : suc (length xs) + i ≡ suc (length xs + i) = omega arith in
+    ap (λ z. set (x ∷ (xs ++ ys)) z w) next ∙ ap (λ z. x ∷ z) (set-behind xs ys i w)
 
 -- a word of the first of them
 pub set-before : (xs ys : List ℕ) (i w : ℕ) → i < length xs → set (xs ++ ys) i w ≡ set xs i w ++ ys
@@ -32,8 +34,10 @@ pub globals-row_behind : (s : List ℕ) (a : ℕ) (xs ys : List ℕ) (gs : List 
     → with_globals (with_words s a (xs ++ ys)) (a + length xs) gs ≡ with_words s a (xs ++ with_globals ys 0 gs)
 globals-row_behind s a xs ys [] all = refl
 globals-row_behind s a xs ys (g ∷ gs) all =
+    let same : g.number ≡ 0 + g.number = omega arith in
     ap (λ z. with_globals z (a + length xs) gs) (set-row_behind s a xs ys g.number g.value all.0)
     ∙ globals-row_behind s a xs (set ys g.number g.value) gs (still gs all.1)
+    ∙ ap (λ z. with_words s a (xs ++ with_globals (set ys z g.value) 0 gs)) same
   where
     still : (hs : List Global) → AllByRecursion (λ h. h.number < length ys) hs → AllByRecursion (λ h. h.number < length (set ys g.number g.value)) hs
     still [] all = tt
@@ -43,7 +47,9 @@ globals-row_behind s a xs ys (g ∷ gs) all =
 pub globals-before : (ys zs : List ℕ) (gs : List Global) → AllByRecursion (λ g. g.number < length ys) gs → with_globals (ys ++ zs) 0 gs ≡ with_globals ys 0 gs ++ zs
 globals-before ys zs [] all = refl
 globals-before ys zs (g ∷ gs) all =
-    ap (λ z. with_globals z 0 gs) (set-before ys zs g.number g.value all.0) ∙ globals-before (set ys g.number g.value) zs gs (still gs all.1)
+    let none : 0 + g.number ≡ g.number = omega arith in
+    ap (λ z. with_globals (set (ys ++ zs) z g.value) 0 gs) none ∙ ap (λ z. with_globals z 0 gs) (set-before ys zs g.number g.value all.0)
+    ∙ globals-before (set ys g.number g.value) zs gs (still gs all.1) ∙ ap (λ z. with_globals (set ys z g.value) 0 gs ++ zs) (sym none)
   where
     still : (hs : List Global) → AllByRecursion (λ h. h.number < length ys) hs → AllByRecursion (λ h. h.number < length (set ys g.number g.value)) hs
     still [] all = tt

@@ -26,12 +26,12 @@ pub fn create_task<Q: KindKeeper>(
 ) -> Result<u32, u32>
     requires { (l : Lists)
         × HasKeeper store.old (Q.tells kinds.old) (Q.room kinds.old) l
-        × MayCreate l id (module ∷ []) maker }
+        × MayCreate l id («module» ∷ []) maker }
     ensures made { (l : Lists)
         → HasKeeper store.old (Q.tells kinds.old) (Q.room kinds.old) l
-        → MayCreate l id (module ∷ []) maker
+        → MayCreate l id («module» ∷ []) maker
         → IsMade store.old store.new (Q.tells kinds.new) result
-        (create_task store.old l id (module ∷ []) u pri maker) }
+        (create_task store.old l id («module» ∷ []) u pri maker) }
     ensures room { Q.room kinds.new ≡ Q.room kinds.old }
 {
     create_task_of(store, kinds, id, &[module], u, pri, maker)

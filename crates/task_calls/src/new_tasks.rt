@@ -117,7 +117,8 @@ fn write_modules(store: &mut Store, t: u32, modules: &[u32])
 
 // Sets the globals of the modules in the words from g on, one module after the other.
 fn set_globals(store: &mut Store, modules: &[u32], g: u32)
-    requires { (l : Lists) × HoldsLists store.old l × MaySetGlobals l modules.now g }
+    requires { (l : Lists) × HoldsLists store.old l
+        × MaySetGlobals store.old l modules.now g }
     ensures { store.new ≡ with_globals store.old g
         (flat_map (globals_in store.old) modules.now) }
 {

@@ -8,5 +8,5 @@ use Rattle.task_calls.proofs.new_tasks.set_globals.Given as goal
 
 abbrev pub invariant-loop-m : goal.invariant-loop-m
 invariant-loop-m l =
-    (k : Lists) × HoldsLists l.store k × MaySetGlobals k (drop l.m-index l.modules) l.g
+    (k : Lists) × HoldsLists l.store k × MaySetGlobals l.store k (drop l.m-index l.modules) l.g
     × (with_globals l.store l.g (flat_map (globals_in l.store) (drop l.m-index l.modules)) ≡ with_globals l.fn.store l.g (flat_map (globals_in l.fn.store) l.modules))
