@@ -10,3 +10,5 @@ pub mod RowsInRows
 pub mod NewTaskWords
 pub mod InsertedTask
 pub mod ModuleGlobals
+pub mod FreeNumbers
+pub mod NewTaskRow

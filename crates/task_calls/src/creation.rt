@@ -1,5 +1,6 @@
 // A task is created.
-ghost use Rattle.std.specs.Prelude.{◌≡◌, [], ◌∷◌, OnErr, Err, IfOk, None, Some};
+ghost use Rattle.std.specs.Prelude.{◌≡◌, [], ◌∷◌};
+ghost use Rattle.std.specs.Option.{ok_or};
 ghost use Rattle.kernel_model.specs.ChangedStore.{HasKeeper};
 ghost use Rattle.kernel_model.specs.HoldsLists.{HoldsLists};
 ghost use Rattle.kernel_model.specs.Lists.{Lists};
@@ -72,10 +73,7 @@ pub fn create_task_of<Q: KindKeeper>(
 // The number that is meant: for 0 the lowest one of a guest's that no task has.
 fn number(store: &Store, id: u32) -> Result<u32, u32>
     requires { (l : Lists) × HoldsLists store.now l }
-    ensures found { (l : Lists) → HoldsLists store.now l
-        → IfOk result (λ i. number_of l id ≡ Some i) }
-    ensures none { (l : Lists) → HoldsLists store.now l → OnErr result (number_of l id ≡ None) }
-    ensures code { OnErr result (result ≡ Err 10) }
+    ensures { (l : Lists) → HoldsLists store.now l → result ≡ ok_or (number_of l id) 10 }
 {
     if id != 0 {
         return Ok(id);

@@ -104,9 +104,8 @@ fn write_head(
 
 // Writes the modules of a task.
 fn write_modules(store: &mut Store, t: u32, modules: &[u32])
-    requires inside { t + head_words store.old ≤ length store.old }
     requires some { 1 ≤ length modules.now }
-    requires most { length modules.now ≤ most_modules store.old }
+    requires inside { t + 22 + length modules.now ≤ length store.old }
     ensures { store.new ≡ with_words (slice_set store.old (t + 10) (first_of (λ m. m) modules.now 0))
         (t + 23) (drop 1 modules.now) }
 {
