@@ -12,3 +12,4 @@ pub mod InsertedTask
 pub mod ModuleGlobals
 pub mod FreeNumbers
 pub mod NewTaskRow
+pub mod NewBlock

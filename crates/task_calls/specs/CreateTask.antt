@@ -14,8 +14,8 @@ use Rattle.kernel_model.specs.ValidTasks.{dead, no_regs}
 use Rattle.kernel_model.specs.Versions.{head_words_of, highest_id_of, most_modules_of}
 use Rattle.call_answers.specs.Made.{Made, unless_refused}
 use Rattle.task_calls.specs.ChangePri.{priority_tests}
-use Rattle.task_calls.specs.FreeStore.{data_taken, with_taken}
-use Rattle.task_calls.specs.Getvec.{getvec_tests}
+use Rattle.block_calls.specs.FreeStore.{data_taken, with_taken}
+use Rattle.block_calls.specs.Getvec.{getvec_tests}
 
 -- ---- its number
 

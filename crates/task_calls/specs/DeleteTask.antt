@@ -12,7 +12,7 @@ use Rattle.kernel_model.specs.ValidTasks.{dead, runs}
 use Rattle.call_answers.specs.Guests.{GuestAt, guest_tests}
 use Rattle.call_answers.specs.Made.{Made, done, unless_refused}
 use Rattle.call_answers.specs.Refusals.{first_refusal}
-use Rattle.task_calls.specs.PacketsInBlocks.{has_packet_in}
+use Rattle.block_calls.specs.Freevec.{has_packet_in}
 
 -- the task with the number is dead
 abbrev pub is_dead : Lists → ℕ → Bool

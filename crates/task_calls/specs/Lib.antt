@@ -4,9 +4,6 @@ pub mod ReleaseTask
 pub mod SetFlags
 pub mod TestFlags
 pub mod ChangePri
-pub mod FreeStore
-pub mod Getvec
-pub mod PacketsInBlocks
 pub mod PacketsOut
 pub mod DeleteTask
 pub mod CreateTask

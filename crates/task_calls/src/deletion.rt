@@ -6,11 +6,11 @@ ghost use Rattle.call_answers.specs.Guests.{GuestAt};
 ghost use Rattle.call_answers.specs.Made.{IsMade, done, minus_one, plain_answer};
 ghost use Rattle.call_answers.specs.Refusals.{answer_of, first_refusal};
 ghost use Rattle.task_calls.specs.DeleteTask.{HasEnded, RunsAlive, delete_task, deletion_tests, without_task};
-ghost use Rattle.task_calls.specs.PacketsInBlocks.{has_packet_in};
+ghost use Rattle.block_calls.specs.Freevec.{has_packet_in};
 
 use crate::packets_out::has_packet_out;
-use crate::stand_in::are_unowned;
 use crate::states::DEAD;
+use block_calls::are_unowned;
 use call_answers::codes::{HAS_COROUTINES, NOT_DEAD, PACKET_INSIDE, PACKET_OUT, QUEUE_NOT_EMPTY};
 use call_answers::guest;
 use getvec_chain::{block_of, give};

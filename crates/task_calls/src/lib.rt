@@ -11,7 +11,6 @@ mod new_tasks;
 mod packets_out;
 mod priority;
 mod release;
-mod stand_in;
 mod states;
 
 pub use creation::{create_task, create_task_of};

@@ -10,10 +10,11 @@ ghost use Rattle.task_block.specs.Versions.{head_words, most_modules};
 ghost use Rattle.word_store.specs.Row.{with_words};
 ghost use Rattle.call_answers.specs.Made.{IsMade};
 ghost use Rattle.task_calls.specs.CreateTask.{MayPlace, new_task, place_task};
-ghost use Rattle.task_calls.specs.NewTasks.{MaySetGlobals, head_row};
+ghost use Rattle.task_calls.specs.NewTasks.{IsLastWord, MaySetGlobals, head_row};
 
-use crate::stand_in::getvec;
+
 use crate::states::DEAD;
+use block_calls::getvec;
 use call_answers::codes::NO_ROOM;
 use hunk_loader::init_globals;
 use task_block::{TcbField, head_words, insert, set_field};
@@ -50,8 +51,8 @@ pub(crate) fn place_task<Q: KindKeeper>(
         (place_task store.old l (new_task l number modules.now u pri maker)) }
     ensures room { Q.room kinds.new ≡ Q.room kinds.old }
 {
+    let last = last_word(store, u)?;
     let head = head_words(store);
-    let last = u.checked_add(head + GLOBAL_WORDS).ok_or(NO_ROOM)?;
     let t = getvec(store, kinds, last)?;
     clear_words(store, t, last);
     write_head(store, t, number, modules, u, pri, maker);
@@ -59,6 +60,17 @@ pub(crate) fn place_task<Q: KindKeeper>(
     insert(store, t);
     kinds.claim(t, head);
     Ok(number)
+}
+
+// The highest index of the words of a task with a stack up to the index u. Refused where no store has as many (1).
+fn last_word(store: &Store, u: u32) -> Result<u32, u32>
+    requires { (l : Lists) × HoldsLists store.now l }
+    ensures { (l : Lists) → HoldsLists store.now l → IsLastWord l u result }
+{
+    match u.checked_add(head_words(store) + GLOBAL_WORDS) {
+        Some(last) => Ok(last),
+        None => Err(NO_ROOM),
+    }
 }
 
 // Clears the words 0 to `last` of what stands at address a.
