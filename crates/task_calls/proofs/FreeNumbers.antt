@@ -1,14 +1,14 @@
--- The numbers that no task has.
-use Rattle.std.proofs.Common.{◌≡◌, ℕ, ◌-◌, Bool, true, false, not, Option, Some, None, cond, eqb, List, ◌++◌, ◌∷◌, refl, sym, ap, ◌∙◌, subst}
+-- What a store that holds lists says of the numbers that no task has, and of the version.
+use Rattle.std.proofs.Common.{◌≡◌, ℕ, ◌-◌, Bool, true, false, not, Option, Some, None, cond, eqb, get_or, List, ◌++◌, ◌∷◌, refl, sym, ap, ◌∙◌, subst}
 use Rattle.std.specs.Prelude.{find, is_none}
 use Rattle.std.specs.List.{range_with_len}
 use Rattle.std.proofs.lemmas.Bool.{eq-eqb}
 use Rattle.task_block.specs.TaskChain.{lowest_free_id, task_with, tasks_in}
-use Rattle.task_block.specs.Versions.{highest_id}
+use Rattle.task_block.specs.Versions.{head_words, highest_id, most_modules}
 use Rattle.kernel_model.specs.HoldsLists.{HoldsLists}
 use Rattle.kernel_model.specs.Lists.{Lists, address_of_task, has_task}
 use Rattle.kernel_model.specs.Task.{Task}
-use Rattle.kernel_model.specs.Versions.{highest_id_of}
+use Rattle.kernel_model.specs.Versions.{head_words_of, highest_id_of, most_modules_of}
 use Rattle.kernel_model.proofs.AllThings.{any-here}
 use Rattle.kernel_model.proofs.OwnedParts.{holds-parts}
 use Rattle.kernel_model.proofs.RootCounts.{root-held}
@@ -32,3 +32,14 @@ module _ (s : List ℕ) (l : Lists) (h : HoldsLists s l) where
 
   pub number-free : (id : ℕ) → id ≡ 0 → number_of l id ≡ lowest_free_id s
   number-free id e = ap (number_of l) e ∙ sym free-read
+
+  -- ---- the version
+
+  version-read : get_or s 111 0 ≡ l.version
+  version-read = (root-held s l (address_of_task l l.running) (holds-parts s l h.holds).root).numbers.1.1.1.0
+
+  pub head-read : head_words s ≡ head_words_of l.version
+  head-read = ap (λ w. cond (eqb w 2) 30 23) version-read
+
+  pub most-read : most_modules s ≡ most_modules_of l.version
+  most-read = ap (λ w. cond (eqb w 2) 8 1) version-read

@@ -13,3 +13,4 @@ pub mod ModuleGlobals
 pub mod FreeNumbers
 pub mod NewTaskRow
 pub mod NewBlock
+pub mod PlacedTask

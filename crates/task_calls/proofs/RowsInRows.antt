@@ -8,6 +8,11 @@ use Rattle.hunk_loader.specs.Globals.{Global, with_globals}
 use Rattle.hunk_loader.proofs.GlobalLists.{AreGlobals}
 use Rattle.kernel_model.specs.Task.{filled}
 
+-- so many zeros
+pub length-zeros : (n : ℕ) → length {A = ℕ} (replicate n 0) ≡ n
+length-zeros zero = refl
+length-zeros (suc n) = ap suc (length-zeros n)
+
 -- a word of the second of two lists
 pub set-behind : (xs ys : List ℕ) (i w : ℕ) → set (xs ++ ys) (length xs + i) w ≡ xs ++ set ys i w
 set-behind [] ys i w = (let none : 0 + i ≡ i = omega arith in ap (λ z. set ys z w) none)

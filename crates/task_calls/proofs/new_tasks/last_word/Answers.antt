@@ -1,21 +1,23 @@
-use Rattle.std.proofs.Common.{rules, ◌≡◌, ◌+◌, ◌≤◌, ◌∷◌, ◌++◌, ℕ, List, drop, length, replicate, slice_set, ◌-◌, ◌*◌, ◌<◌, ◌/◌, ◌%◌, Bool, true, false, nat_eq, nat_lt, [], slice_index_or, bit_and, bit_or, Fits, w8, w32, w64, Bor, MutBor}
-use Rattle.std.specs.List.{flat_map}
-use Rattle.owned_words.specs.LinkedWords.{first_of}
-use Rattle.hunk_loader.specs.Globals.{globals_in, with_globals}
-use Rattle.kernel_model.specs.ChangedStore.{HasKeeper}
-use Rattle.kernel_model.specs.HoldsLists.{HoldsLists}
-use Rattle.kernel_model.specs.Lists.{Lists}
-use Rattle.task_block.specs.Versions.{head_words, most_modules}
-use Rattle.word_store.specs.Row.{with_words}
-use Rattle.call_answers.specs.Made.{IsMade}
-use Rattle.task_calls.specs.CreateTask.{MayPlace, new_task, place_task}
-use Rattle.task_calls.specs.NewTasks.{IsLastWord, MaySetGlobals, head_row}
+use Rattle.std.proofs.Common.{◌≡◌, ℕ, ◌+◌, ◌<◌, ◌^◌, refl, sym, ap, ◌∙◌, arith, inl, inr}
+use Rattle.std.proofs.lemmas.Bool.{cases_lt}
+use Rattle.kernel_model.specs.Versions.{head_words_of}
+use Rattle.task_calls.specs.CreateTask.{last_word_of}
+use Rattle.task_calls.proofs.FreeNumbers.{head-read}
+use Rattle.task_calls.proofs.NewBlock.{no_room}
 use Rattle.task_calls.proofs.new_tasks.last_word.Goals as goal
 
--- src/new_tasks.rt:66:1
-pub returns-in-Some : goal.returns-in-Some
-returns-in-Some c = ?
+last : (u w h : ℕ) → w ≡ h → u + (w + 1001) ≡ h + 1001 + u
+last u w h is = omega (arith, is)
 
--- src/new_tasks.rt:66:1
+pub returns-in-Some : goal.returns-in-Some
+returns-in-Some c = λ l h. c.in-Some.ensures.1 ∙ last c.args.u c.head_words.result (head_words_of l.version) (c.head_words.ensures ∙ head-read c.args.store.now l h)
+
 pub returns-in-None : goal.returns-in-None
-returns-in-None c = ?
+returns-in-None c = λ l h. (
+  no_room l c.args.u (last_word_of l.version c.args.u) h.valid refl
+      (elim (cases_lt (c.args.u + (c.head_words.result + 1001)) (2 ^ 32)) [
+        | inl few ↦ absurd (c.in-None.ensures few)
+        | inr many ↦ omega (arith, many, last c.args.u c.head_words.result (head_words_of l.version) (c.head_words.ensures ∙ head-read c.args.store.now l h))
+      ]),
+  refl,
+)
