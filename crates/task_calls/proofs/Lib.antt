@@ -14,3 +14,4 @@ pub mod FreeNumbers
 pub mod NewTaskRow
 pub mod NewBlock
 pub mod PlacedTask
+pub mod CreationTests
