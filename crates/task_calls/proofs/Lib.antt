@@ -15,3 +15,6 @@ pub mod NewTaskRow
 pub mod NewBlock
 pub mod PlacedTask
 pub mod CreationTests
+pub mod EndedTask
+pub mod SentPackets
+pub mod EndTests

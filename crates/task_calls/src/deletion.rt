@@ -87,7 +87,8 @@ fn remove_task<Q: KindKeeper>(store: &mut Store, kinds: &mut Q, task: u32)
         (done (without_task l id)) }
     ensures room { Q.room kinds.new ≡ Q.room kinds.old }
 {
+    let head = head_words(store);
     unlink(store, task);
-    kinds.release(task, head_words(store));
+    kinds.release(task, head);
     give(store, task).unwrap();
 }
