@@ -2,7 +2,11 @@
 use Rattle.std.proofs.Common.{◌≡◌, ◌≢◌, ℕ, ◌+◌, ◌<◌, ◌≤◌, List, [], ◌∷◌, ◌++◌, cond, eqb, get_or, length, map, not, ◌&&◌, Bool, true, false, Option, Some, None, inl, inr, refl, sym, ap, ◌∙◌, subst, arith}
 use Rattle.std.specs.List.{AllByRecursion, list_any}
 use Rattle.std.proofs.lemmas.Bool.{eq-eqb, ne_eqb}
-use Rattle.linked_list.specs.Count.{IsApart}
+use Rattle.linked_list.specs.Count.{IsApart, times}
+use Rattle.linked_list.proofs.Counts.{hit-same, times-append}
+use Rattle.linked_list.proofs.MappedLists.{map-append}
+use Rattle.task_block.specs.HeldTasks.{address_with}
+use Rattle.task_block.proofs.HeldTaskBlocks.{address_with-here}
 use Rattle.packet_queue.specs.QueueWords.{HeldQueue, QueuedPacket}
 use Rattle.coroutines.specs.HeldCoroutines.{Coroutine, address_of}
 use Rattle.owned_words.specs.LinkedWords.{first_of}
@@ -14,6 +18,7 @@ use Rattle.kernel_model.specs.ValidTasks.{IsCoroutine, IsField}
 use Rattle.kernel_model.proofs.AllThings.{all-here}
 use Rattle.kernel_model.proofs.EachMember.{all-each, holds-each}
 use Rattle.kernel_model.proofs.ReadCoroutines.{HoldsTask, holds-task}
+use Rattle.kernel_model.proofs.TaskKind.{are_tasks}
 use Rattle.call_answers.specs.Guests.{GuestAt}
 use Rattle.call_answers.specs.Refusals.{first_refusal}
 use Rattle.call_answers.proofs.FoundTask.{any-one, reads}
@@ -106,6 +111,19 @@ module _ (s : List ℕ) (l : Lists) (id address : ℕ) (h : HoldsLists s l) (g :
       ∙ no_coroutine t.coroutines.list (get_or s (address + 17) 0)
       (all-each (IsCoroutine l) (λ c. 0 < c.address) (λ c is. omega (arith, is.block.here)) t.coroutines.list facts.coroutines.each) newest none
 
+  pub at-address : address_of_task l id ≡ address
+  at-address = ap (λ ts. address_with task_address task_id ts id) g.is ∙ address_with-here task_address task_id (task_words l.version) (are_tasks l.version) id g.front t g.back g.number none_before ∙ g.at
+    where
+      none_before : times id (map task_id g.front) ≡ 0
+      none_before =
+          omega (
+            arith,
+            subst (λ ts. IsApart (map task_id ts)) g.is h.valid.tasks.distinct id,
+            ap (times id) (map-append task_id g.front (t ∷ g.back)),
+            times-append id (map task_id g.front) (map task_id (t ∷ g.back)),
+            hit-same id t.id (sym g.number),
+          )
+
 -- the tests with these outcomes
 pub tests-are : (l : Lists) (id p : ℕ) (a b c d e : Bool) → is_dead l id ≡ a → has_no_work l id ≡ b → has_packet_out l id ≡ c → has_no_coroutines l id ≡ d → has_packet_in l p ≡ e → address_of_task l id ≡ p
     → first_refusal (deletion_tests l id) ≡ first_refusal ((a, 11) ∷ (b, 12) ∷ (not c, 13) ∷ (d, 25) ∷ (not e, 7) ∷ [])
@@ -114,3 +132,25 @@ tests-are l id p a b c d e i j k m n at =
 
 pub ended : (l : Lists) (id : ℕ) → is_dead l id ≡ true → has_no_work l id ≡ true → has_packet_out l id ≡ false → has_no_coroutines l id ≡ true → first_refusal (end_tests l id) ≡ None
 ended l id i j k m = λ x. first_refusal ((i x, 11) ∷ (j x, 12) ∷ (not (k x), 13) ∷ (m x, 25) ∷ [])
+
+-- tests in two parts
+all-passed : (xs ys : List (Bool × ℕ)) → first_refusal (xs ++ ys) ≡ None → (first_refusal xs ≡ None) × (first_refusal ys ≡ None)
+all-passed [] ys e = (refl, e)
+all-passed (x ∷ xs) ys e = on x.0 e (all-passed xs ys)
+  where
+    on : (b : Bool) → cond b (first_refusal (xs ++ ys)) (Some x.1) ≡ None → (first_refusal (xs ++ ys) ≡ None → (first_refusal xs ≡ None) × (first_refusal ys ≡ None))
+        → (cond b (first_refusal xs) (Some x.1) ≡ None) × (first_refusal ys ≡ None)
+    on true e more = more e
+    on false e more = cc
+
+-- where all hold, the task has ended, and no packet lies in its block
+pub may-go : (s : List ℕ) (l : Lists) (id address : ℕ) → HoldsLists s l → RunsAlive l → (g : GuestAt l id address) → first_refusal (deletion_tests l id) ≡ None → HasEnded l id address × (has_packet_in l address ≡ false)
+may-go s l id address h runs g e =
+    let parts = all-passed (end_tests l id) ((not (has_packet_in l (address_of_task l id)), 7) ∷ []) e in (
+      record { guest = g; accepted = parts.0; runs_alive = runs },
+      ap (has_packet_in l) (sym (at-address s l id address h g)) ∙ none (has_packet_in l (address_of_task l id)) parts.1,
+    )
+  where
+    none : (b : Bool) → ◌≡◌ {A = Option ℕ} (cond (not b) None (Some 7)) None → b ≡ false
+    none false e = refl
+    none true e = cc

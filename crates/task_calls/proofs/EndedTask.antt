@@ -1,7 +1,7 @@
 -- A task that has ended: the lists without it, and its block.
-use Rattle.std.proofs.Common.{◌≡◌, ◌≢◌, ◌↔◌, ℕ, ◌+◌, ◌-◌, ◌<◌, ◌≤◌, List, [], ◌∷◌, ◌++◌, cond, eqb, length, map, not, ◌&&◌, ◌||◌, Bool, true, false, Option, Some, None, Ok, inl, inr, refl, sym, ap, ◌∙◌, subst, arith}
+use Rattle.std.proofs.Common.{◌≡◌, ◌≢◌, ◌↔◌, ℕ, ◌+◌, ◌-◌, ◌<◌, ◌≤◌, ◌^◌, List, [], ◌∷◌, ◌++◌, cond, eqb, length, map, not, ◌&&◌, ◌||◌, Bool, true, false, Option, Some, None, Ok, inl, inr, refl, sym, ap, ◌∙◌, subst, arith}
 use Rattle.std.specs.List.{AllByRecursion, flat_map, list_any, range_with_len}
-use Rattle.std.specs.Prelude.{IsTrue}
+use Rattle.std.specs.Prelude.{IsSome, IsTrue}
 use Rattle.std.proofs.lemmas.Bool.{cases_lt, eq-eqb, eqb-true, false≢true, ne_eqb, or_parts}
 use Rattle.std.proofs.lemmas.List.Folds.{list_any-append}
 use Rattle.linked_list.specs.Count.{IsApart, times}
@@ -14,10 +14,10 @@ use Rattle.owned_words.specs.Exchange.{Exchange}
 use Rattle.owned_words.specs.LinkedWords.{first_of}
 use Rattle.owned_words.specs.Owned.{Pairs, owners}
 use Rattle.getvec_chain.specs.declared.pieces.Block.{Block}
-use Rattle.getvec_chain.specs.Block.{block_end, used_block}
+use Rattle.getvec_chain.specs.Block.{block_end, is_used_at, used_block}
 use Rattle.getvec_chain.specs.Give.{given, given_store}
 use Rattle.getvec_chain.specs.Run.{need}
-use Rattle.getvec_chain.specs.Tiling.{IsTiled, blocks_in, used_at}
+use Rattle.getvec_chain.specs.Tiling.{IsTiled, blocks_in, holding, used_at}
 use Rattle.packet_queue.specs.QueueWords.{QueuedPacket}
 use Rattle.task_block.specs.ChainWords.{UnlinkExchange, absent_words, listed_words, present_words}
 use Rattle.task_block.specs.HeldTasks.{HeldTasks, address_with}
@@ -42,6 +42,7 @@ use Rattle.kernel_model.proofs.AllThings.{all-fail, all-here}
 use Rattle.kernel_model.proofs.ChainMoves.{gone_task-valid}
 use Rattle.kernel_model.proofs.ChainRules.{times-id}
 use Rattle.kernel_model.proofs.ChangedLists.{changed-then, exchange-owned, knows-same}
+use Rattle.kernel_model.proofs.FollowedBlocks.{found-holding, found-within}
 use Rattle.kernel_model.proofs.OwnedParts.{holds-parts}
 use Rattle.kernel_model.proofs.OwnerCounts.{owners-task_between}
 use Rattle.kernel_model.proofs.RootCounts.{RootWords, head-low, root-held}
@@ -58,6 +59,7 @@ use Rattle.call_answers.proofs.FoundTask.{any-one, reads}
 use Rattle.call_answers.proofs.GuestTask.{GuestFacts, guest-facts}
 use Rattle.block_calls.specs.Freevec.{has_packet_in, holds_packet, lies_in, with_given}
 use Rattle.block_calls.proofs.IdleBlocks.{idle-unowned, none-idle, unowned-empty}
+use Rattle.block_calls.proofs.OwnedMarks.{size-low}
 use Rattle.block_calls.proofs.TakenStore.{given-changed, given-owners}
 use Rattle.task_calls.specs.DeleteTask.{HasEnded, RunsAlive, end_tests, has_no_coroutines, has_no_work, has_packet_out, is_dead, packets_out, resident_packets, without_task}
 use Rattle.task_calls.proofs.AroundChain.{address_with-out, around, around-count, around-exchange, listed, owned-around, owned-chain}
@@ -336,3 +338,45 @@ module _ (s : List ℕ) (l : Lists) (id address : ℕ) (h : HoldsLists s l) (e :
               (knows-released tells told l m address head h.valid.owns gone-count knows
               (subst (λ z. (known after : List ℕ) → tells known → IsApart known → AreTogether known after (range_with_len address z) → told after) (is_head ∙ head-read s l h) release)));
         }
+
+  -- ---- its block, as it is found
+
+  found : holding address (blocks_in s) ≡ Some b
+  found =
+      ap (holding address) (reads s l h).blocks
+      ∙ found-holding (is_used_at address) 200 l.blocks (l.size - 2) b address h.valid.blocks block.block (omega (arith, wide.0)) (omega (arith, wide.0, wide.1))
+
+  pub some-found : (o : Option Block) → o ≡ holding address (blocks_in s) → IsSome o
+  some-found o is = subst IsSome (sym (is ∙ found)) refl
+
+  module _ (o : Option Block) (x : Block) (hw : ℕ) (is_held : o ≡ holding address (blocks_in s)) (is_some : o ≡ Some x) (is_head : hw ≡ head_words s) where
+    same : x ≡ b
+    same = some-same (sym is_some ∙ is_held ∙ found)
+      where
+        some-same : ◌≡◌ {A = Option Block} (Some x) (Some b) → x ≡ b
+        some-same e = cc
+
+    head-is : hw ≡ head
+    head-is = is_head ∙ head-read s l h
+
+    size-is : x.size ≡ b.size
+    size-is = ap (λ z. z.size) same
+
+    -- it ends in the store
+    within : block_end b < l.size
+    within = omega (arith, (found-within (is_used_at address) 200 l.blocks (l.size - 2) b h.valid.blocks block.block).high, (found-within (is_used_at address) 200 l.blocks (l.size - 2) b h.valid.blocks block.block).low, wide.1)
+
+    pub head-fits : address + hw < 2 ^ 32
+    head-fits = omega (arith, head-is, wide.0, wide.1, within, size-low l h.valid)
+
+    pub some-words : 1 ≤ x.size
+    some-words = omega (arith, size-is, wide.1)
+
+    pub head-inside : hw ≤ x.size - 1
+    head-inside = omega (arith, size-is, wide.1, head-is)
+
+    pub found-inside : (r : Bool) → (IsTrue r ↔ AreUnowned l (address + hw) (address + hw + (x.size - 1 - hw))) → not r ≡ has_packet_in l address
+    found-inside r both =
+        inside-told r
+        (subst (λ n. IsTrue r ↔ AreUnowned l (address + head) (address + head + (n - 1 - head))) size-is
+        (subst (λ k. IsTrue r ↔ AreUnowned l (address + k) (address + k + (x.size - 1 - k))) head-is both))
