@@ -1,5 +1,5 @@
 -- The tests of a new task: which of them refuses, and what holds where all do.
-use Rattle.std.proofs.Common.{◌≡◌, ◌≢◌, ℕ, suc, ◌+◌, ◌-◌, ◌<◌, ◌≤◌, ◌⊎◌, List, [], ◌∷◌, ◌++◌, cond, eqb, length, map, not, ◌&&◌, Bool, true, false, Option, Some, None, Result, Ok, Err, inl, inr, refl, sym, ap, ◌∙◌, subst, arith, zero}
+use Rattle.std.proofs.Common.{◌≡◌, ◌≢◌, ℕ, suc, ◌+◌, ◌-◌, ◌<◌, ◌≤◌, List, [], ◌∷◌, ◌++◌, cond, eqb, map, not, ◌&&◌, Bool, true, false, Option, Some, None, Result, Ok, Err, inl, inr, refl, sym, ap, ◌∙◌, subst, arith, zero}
 use Rattle.std.specs.Prelude.{find, is_some, unwrap_or}
 use Rattle.std.specs.List.{AllByRecursion, list_any, range_with_len}
 use Rattle.std.specs.Option.{ok_or}
@@ -12,7 +12,6 @@ use Rattle.kernel_model.specs.ChangedStore.{Knows}
 use Rattle.kernel_model.specs.HoldsLists.{HoldsLists}
 use Rattle.kernel_model.specs.Lists.{Lists, has_task}
 use Rattle.kernel_model.specs.Task.{Task}
-use Rattle.kernel_model.specs.ValidLists.{AreValid}
 use Rattle.kernel_model.specs.Versions.{highest_id_of}
 use Rattle.kernel_model.proofs.AllThings.{all-fail, all-from_both}
 use Rattle.kernel_model.proofs.EachMember.{all-each, find-passes}
@@ -24,7 +23,7 @@ use Rattle.call_answers.proofs.FoundTask.{reads}
 use Rattle.call_answers.proofs.MadeCalls.{made-refused}
 use Rattle.call_answers.proofs.Refusals.{first_refusal-failed, first_refusal-passed}
 use Rattle.block_calls.specs.Getvec.{getvec_tests}
-use Rattle.task_calls.specs.ChangePri.{is_priority, is_taken, priority_tests}
+use Rattle.task_calls.specs.ChangePri.{priority_tests}
 use Rattle.task_calls.specs.CreateTask.{MayCreate, MayPlace, create_task, creation_tests, free_id, has_high_globals, last_word_of, new_task, number_of, place_task, with_created}
 use Rattle.task_calls.proofs.ChangedPriority.{accepted-parts}
 

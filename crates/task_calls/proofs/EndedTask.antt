@@ -1,5 +1,5 @@
 -- A task that has ended: the lists without it, and its block.
-use Rattle.std.proofs.Common.{◌≡◌, ◌≢◌, ◌↔◌, ℕ, ◌+◌, ◌-◌, ◌<◌, ◌≤◌, ◌^◌, List, [], ◌∷◌, ◌++◌, cond, eqb, length, map, not, ◌&&◌, ◌||◌, Bool, true, false, Option, Some, None, Ok, inl, inr, refl, sym, ap, ◌∙◌, subst, arith}
+use Rattle.std.proofs.Common.{◌≡◌, ◌≢◌, ◌↔◌, ℕ, ◌+◌, ◌-◌, ◌<◌, ◌≤◌, ◌^◌, List, [], ◌∷◌, ◌++◌, cond, eqb, length, map, not, ◌&&◌, Bool, true, false, Option, Some, None, Ok, inl, inr, refl, sym, ap, ◌∙◌, subst, arith}
 use Rattle.std.specs.List.{AllByRecursion, flat_map, list_any, range_with_len}
 use Rattle.std.specs.Prelude.{IsSome, IsTrue}
 use Rattle.std.proofs.lemmas.Bool.{cases_lt, eq-eqb, eqb-true, false≢true, ne_eqb, or_parts}
@@ -7,7 +7,7 @@ use Rattle.std.proofs.lemmas.List.Folds.{list_any-append}
 use Rattle.linked_list.specs.Count.{IsApart, times}
 use Rattle.linked_list.specs.Places.{has, without_first}
 use Rattle.linked_list.proofs.AllMembers.{all-front}
-use Rattle.linked_list.proofs.Counts.{hit-same, times-above, times-append, times-below, times-within}
+use Rattle.linked_list.proofs.Counts.{hit-same, times-above, times-append, times-within}
 use Rattle.linked_list.proofs.MappedLists.{map-append}
 use Rattle.linked_list.proofs.Members.{has-here, has-there}
 use Rattle.owned_words.specs.Exchange.{Exchange}
@@ -33,14 +33,13 @@ use Rattle.kernel_model.specs.Changes.{AreUnowned, HasNoPacketsOut, IsIdleBlock,
 use Rattle.kernel_model.specs.HoldsLists.{HoldsLists}
 use Rattle.kernel_model.specs.Lists.{Lists, address_of_task, queued}
 use Rattle.kernel_model.specs.Owned.{owned}
-use Rattle.kernel_model.specs.Task.{Task, is_guest_id, task_address, task_id, task_words}
+use Rattle.kernel_model.specs.Task.{Task, task_address, task_id, task_words}
 use Rattle.kernel_model.specs.ValidBlocks.{HasBlock}
 use Rattle.kernel_model.specs.ValidLists.{AreValid}
-use Rattle.kernel_model.specs.ValidTasks.{IsGuest, IsTask, dead, runs}
+use Rattle.kernel_model.specs.ValidTasks.{runs}
 use Rattle.kernel_model.specs.Versions.{head_words_of, highest_id_of}
 use Rattle.kernel_model.proofs.AllThings.{all-fail, all-here}
 use Rattle.kernel_model.proofs.ChainMoves.{gone_task-valid}
-use Rattle.kernel_model.proofs.ChainRules.{times-id}
 use Rattle.kernel_model.proofs.ChangedLists.{changed-then, exchange-owned, knows-same}
 use Rattle.kernel_model.proofs.FollowedBlocks.{found-holding, found-within}
 use Rattle.kernel_model.proofs.OwnedParts.{holds-parts}
@@ -51,7 +50,6 @@ use Rattle.kernel_model.proofs.TaskKind.{are_tasks}
 use Rattle.kernel_model.proofs.UnownedBlocks.{unowned-user}
 use Rattle.word_kinds.specs.Keeper.{AreTogether}
 use Rattle.word_kinds.proofs.KnownWords.{knows-released}
-use Rattle.call_answers.specs.Guests.{GuestAt}
 use Rattle.call_answers.specs.Made.{IsMade, done, minus_one}
 use Rattle.call_answers.specs.Refusals.{first_refusal}
 use Rattle.call_answers.proofs.Refusals.{low-resident}
@@ -61,7 +59,7 @@ use Rattle.block_calls.specs.Freevec.{has_packet_in, holds_packet, lies_in, with
 use Rattle.block_calls.proofs.IdleBlocks.{idle-unowned, none-idle, unowned-empty}
 use Rattle.block_calls.proofs.OwnedMarks.{size-low}
 use Rattle.block_calls.proofs.TakenStore.{given-changed, given-owners}
-use Rattle.task_calls.specs.DeleteTask.{HasEnded, RunsAlive, end_tests, has_no_coroutines, has_no_work, has_packet_out, is_dead, packets_out, resident_packets, without_task}
+use Rattle.task_calls.specs.DeleteTask.{HasEnded, end_tests, has_no_coroutines, has_no_work, has_packet_out, is_dead, resident_packets, without_task}
 use Rattle.task_calls.proofs.AroundChain.{address_with-out, around, around-count, around-exchange, listed, owned-around, owned-chain}
 use Rattle.task_calls.proofs.FreeNumbers.{head-read}
 use Rattle.task_calls.proofs.Priorities.{others-differ, without-here}

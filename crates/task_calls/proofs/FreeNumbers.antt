@@ -1,5 +1,5 @@
 -- What a store that holds lists says of the numbers that no task has, and of the version.
-use Rattle.std.proofs.Common.{◌≡◌, ℕ, ◌-◌, Bool, true, false, not, Option, Some, None, cond, eqb, get_or, List, ◌++◌, ◌∷◌, refl, sym, ap, ◌∙◌, subst}
+use Rattle.std.proofs.Common.{◌≡◌, ℕ, ◌-◌, true, not, Option, Some, None, cond, eqb, get_or, List, sym, ap, ◌∙◌, subst}
 use Rattle.std.specs.Prelude.{find, is_none}
 use Rattle.std.specs.List.{range_with_len}
 use Rattle.std.proofs.lemmas.Bool.{eq-eqb}
@@ -7,7 +7,6 @@ use Rattle.task_block.specs.TaskChain.{lowest_free_id, task_with, tasks_in}
 use Rattle.task_block.specs.Versions.{head_words, highest_id, most_modules}
 use Rattle.kernel_model.specs.HoldsLists.{HoldsLists}
 use Rattle.kernel_model.specs.Lists.{Lists, address_of_task, has_task}
-use Rattle.kernel_model.specs.Task.{Task}
 use Rattle.kernel_model.specs.Versions.{head_words_of, highest_id_of, most_modules_of}
 use Rattle.kernel_model.proofs.AllThings.{any-here}
 use Rattle.kernel_model.proofs.OwnedParts.{holds-parts}

@@ -1,19 +1,19 @@
 -- A task whose words stand in the store, and are nobody's, comes into the chain.
-use Rattle.std.proofs.Common.{◌≡◌, ◌≢◌, ℕ, ◌+◌, ◌<◌, ◌≤◌, List, [], ◌∷◌, ◌++◌, length, get_or, set, map, cond, eqb, Bool, true, false, Option, Some, None, inl, inr, refl, sym, ap, ◌∙◌, subst, arith}
+use Rattle.std.proofs.Common.{◌≡◌, ◌≢◌, ℕ, ◌+◌, ◌<◌, ◌≤◌, List, [], ◌∷◌, ◌++◌, length, map, cond, eqb, true, false, Option, Some, None, inl, inr, refl, sym, ap, ◌∙◌, subst, arith}
 use Rattle.std.specs.List.{range_with_len}
 use Rattle.std.proofs.lemmas.Bool.{cases_lt, eq-eqb, false≢true, ne_eqb}
 use Rattle.linked_list.specs.Count.{node_words, times, words_of}
-use Rattle.linked_list.proofs.Counts.{range-apart, range-high, range-low, times-append, times-within}
+use Rattle.linked_list.proofs.Counts.{range-apart, range-high, range-low, times-append}
 use Rattle.linked_list.proofs.MappedLists.{map-append}
 use Rattle.owned_words.specs.Exchange.{Exchange}
 use Rattle.owned_words.specs.LinkedWords.{first_of, linked_words}
-use Rattle.owned_words.specs.Owned.{Holds, Pairs, owners, written}
+use Rattle.owned_words.specs.Owned.{Holds, Pairs, owners}
 use Rattle.owned_words.specs.Written.{IsWritten}
 use Rattle.owned_words.proofs.HeldLists.{held-count}
 use Rattle.owned_words.proofs.OwnedWords.{length-written}
 use Rattle.owned_words.proofs.WrittenWords.{writes-hold}
 use Rattle.task_block.specs.ChainWords.{InsertExchange, absent_words, listed_words, present_words}
-use Rattle.task_block.specs.HeldTasks.{HeldTasks, address_with}
+use Rattle.task_block.specs.HeldTasks.{address_with}
 use Rattle.task_block.specs.Moves.{with_task as task_in}
 use Rattle.task_block.specs.TaskChain.{HasTasks, IsNewTask, id_in, root_words as table_words, task_link, task_size, task_with, tasks_in}
 use Rattle.task_block.proofs.ChainExchanges.{insert-exchange}
@@ -30,7 +30,7 @@ use Rattle.kernel_model.proofs.AllThings.{any-here}
 use Rattle.kernel_model.proofs.ChainRules.{none-times_id}
 use Rattle.kernel_model.proofs.OwnedParts.{holds-parts}
 use Rattle.kernel_model.proofs.OwnerCounts.{owners-task_between}
-use Rattle.kernel_model.proofs.RootCounts.{RootWords, head-low, highest-high, owners-nodes, root-held}
+use Rattle.kernel_model.proofs.RootCounts.{RootWords, head-low, owners-nodes, root-held}
 use Rattle.kernel_model.proofs.TaskCounts.{owners-new_task}
 use Rattle.kernel_model.proofs.TaskKind.{are_tasks}
 use Rattle.call_answers.proofs.FoundTask.{Finds, find-task, reads}

@@ -1,5 +1,5 @@
 -- The block that a new task takes, and the words that stay where it is.
-use Rattle.std.proofs.Common.{◌≡◌, ◌≢◌, ℕ, ◌+◌, ◌-◌, ◌<◌, ◌≤◌, ◌^◌, List, [], ◌∷◌, ◌++◌, ◌&&◌, cond, eqb, get_or, map, length, set, Bool, true, false, Option, Some, None, Result, Ok, Err, inl, inr, refl, sym, ap, ◌∙◌, subst, arith}
+use Rattle.std.proofs.Common.{◌≡◌, ◌≢◌, ℕ, ◌+◌, ◌<◌, ◌≤◌, ◌^◌, List, [], ◌∷◌, ◌++◌, ◌&&◌, cond, eqb, get_or, map, Bool, true, false, Option, Some, None, Result, Ok, inl, inr, refl, sym, ap, ◌∙◌, subst, arith}
 use Rattle.std.specs.Prelude.{find, is_some}
 use Rattle.std.specs.List.{flat_map}
 use Rattle.std.proofs.lemmas.Bool.{cases_lt}
@@ -16,7 +16,7 @@ use Rattle.getvec_chain.specs.Take.{taken}
 use Rattle.getvec_chain.specs.Tiling.{Follow}
 use Rattle.hunk_loader.specs.ModuleExchanges.{modules_words}
 use Rattle.hunk_loader.specs.HeldModules.{module_address}
-use Rattle.kernel_model.specs.BlockUse.{Use, coroutine_addresses, use_of_data}
+use Rattle.kernel_model.specs.BlockUse.{coroutine_addresses, use_of_data}
 use Rattle.kernel_model.specs.BlockUse.Use.{OfCoroutine, OfModule, OfResidents, OfTask, User}
 use Rattle.kernel_model.specs.ChangedStore.{IsChanged, Knows}
 use Rattle.kernel_model.specs.Changes.{with_blocks}

@@ -1,7 +1,7 @@
 -- The words of a new task stand in its block before it is in the chain.
-use Rattle.std.proofs.Common.{◌≡◌, ℕ, suc, ◌+◌, ◌-◌, ◌<◌, List, [], ◌∷◌, ◌++◌, drop, get_or, length, cond, true, refl, sym, ap, ◌∙◌, subst, arith, add-zero}
+use Rattle.std.proofs.Common.{◌≡◌, ℕ, suc, ◌+◌, ◌-◌, ◌<◌, List, [], ◌∷◌, ◌++◌, drop, get_or, length, cond, true, sym, ap, ◌∙◌, subst, arith, add-zero}
 use Rattle.std.proofs.lemmas.List.{length-append}
-use Rattle.owned_words.specs.Owned.{Holds, Pairs, row_from}
+use Rattle.owned_words.specs.Owned.{Holds, row_from}
 use Rattle.owned_words.proofs.OwnedWords.{Holds-append, Holds-left, Holds-right}
 use Rattle.owned_words.proofs.RowWords.{Holds-row}
 use Rattle.packet_queue.specs.QueueWords.{queue_words}

@@ -1,10 +1,10 @@
 -- A new task is put into the block that was taken for it: its words are written, and it comes into the chain.
-use Rattle.std.proofs.Common.{◌≡◌, ◌≢◌, ℕ, suc, ◌+◌, ◌-◌, ◌<◌, ◌≤◌, ◌^◌, ◌⊎◌, List, [], ◌∷◌, ◌++◌, cond, eqb, get_or, length, map, replicate, set, Bool, true, false, Option, Some, None, Result, Ok, Err, inl, inr, refl, sym, ap, ◌∙◌, subst, arith}
+use Rattle.std.proofs.Common.{◌≡◌, ℕ, suc, ◌+◌, ◌-◌, ◌<◌, ◌≤◌, ◌^◌, ◌⊎◌, List, [], ◌∷◌, ◌++◌, cond, eqb, get_or, length, map, replicate, set, Bool, true, false, Option, Some, None, Result, Ok, Err, inl, inr, refl, sym, ap, ◌∙◌, subst, arith}
 use Rattle.std.specs.Prelude.{is_some}
 use Rattle.std.specs.List.{AllByRecursion, flat_map, range_with_len}
-use Rattle.std.proofs.lemmas.Bool.{cases_lt, false≢true, le-leb}
+use Rattle.std.proofs.lemmas.Bool.{false≢true, le-leb}
 use Rattle.std.proofs.lemmas.List.{append-nil, length-append, replicate-append-replicate}
-use Rattle.linked_list.specs.Count.{IsApart, times}
+use Rattle.linked_list.specs.Count.{times}
 use Rattle.linked_list.specs.Places.{has}
 use Rattle.linked_list.proofs.AllMembers.{all-has}
 use Rattle.linked_list.proofs.Counts.{range-apart, range-high}
@@ -25,7 +25,7 @@ use Rattle.hunk_loader.specs.Globals.{Global, globals_in, with_globals}
 use Rattle.hunk_loader.specs.GlobalWords.{AreClear}
 use Rattle.hunk_loader.specs.HeldModules.{module_address}
 use Rattle.hunk_loader.specs.ModuleHunks.{module_end}
-use Rattle.hunk_loader.specs.Modules.{HasModules, IsModuleAt}
+use Rattle.hunk_loader.specs.Modules.{IsModuleAt}
 use Rattle.hunk_loader.proofs.GlobalLists.{AreGlobals, length-with_globals}
 use Rattle.hunk_loader.proofs.HeldModuleLists.{held-modules}
 use Rattle.hunk_loader.proofs.HunkWalk.{module_inside}
@@ -35,7 +35,7 @@ use Rattle.kernel_model.specs.BlockUse.Use.{User}
 use Rattle.kernel_model.specs.ChangedStore.{IsChanged, Knows}
 use Rattle.kernel_model.specs.Changes.{AreUnowned, with_new_task}
 use Rattle.kernel_model.specs.HoldsLists.{HoldsLists}
-use Rattle.kernel_model.specs.Lists.{Lists, has_task}
+use Rattle.kernel_model.specs.Lists.{Lists}
 use Rattle.kernel_model.specs.Owned.{owned}
 use Rattle.kernel_model.specs.Task.{Task, is_guest_id}
 use Rattle.kernel_model.specs.ValidBlocks.{HasBlock}
@@ -64,7 +64,7 @@ use Rattle.task_calls.proofs.FreeNumbers.{head-read, most-read}
 use Rattle.task_calls.proofs.InsertedTask.{ComesNew, has-tasks, inserted-changed, may-come, new-count}
 use Rattle.task_calls.proofs.ModuleGlobals.{all_globals-are, globals-same, has-modules, plain-set}
 use Rattle.task_calls.proofs.NewBlock.{data-no_start, data-stays, no-module, took-block}
-use Rattle.task_calls.proofs.NewTaskRow.{length-row, modules-room}
+use Rattle.task_calls.proofs.NewTaskRow.{length-row}
 use Rattle.task_calls.proofs.NewTaskWords.{new_words-held, row_from-append}
 use Rattle.task_calls.proofs.RowsInRows.{globals-before, globals-row_behind, length-zeros}
 

@@ -3,9 +3,8 @@ use Rattle.std.proofs.Common.{◌≡◌, ◌∙◌, ℕ, zero, suc, ◌+◌, ◌
 use Rattle.std.specs.List.{AllByRecursion}
 use Rattle.std.proofs.lemmas.List.{length-append, length-set}
 use Rattle.word_store.specs.Row.{with_words}
-use Rattle.word_store.proofs.Rows.{set-with_words, with_words-append}
+use Rattle.word_store.proofs.Rows.{set-with_words}
 use Rattle.hunk_loader.specs.Globals.{Global, with_globals}
-use Rattle.hunk_loader.proofs.GlobalLists.{AreGlobals}
 use Rattle.kernel_model.specs.Task.{filled}
 
 -- so many zeros

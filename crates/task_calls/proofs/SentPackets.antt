@@ -1,12 +1,11 @@
 -- Whose packets residents and devices have, as a store says and as its lists say.
-use Rattle.std.proofs.Common.{◌≡◌, ℕ, ◌+◌, ◌||◌, List, [], ◌∷◌, ◌++◌, cond, eqb, get_or, map, Bool, true, false, refl, sym, ap, ◌∙◌, subst}
+use Rattle.std.proofs.Common.{◌≡◌, ℕ, ◌+◌, ◌||◌, List, [], ◌∷◌, ◌++◌, cond, eqb, get_or, map, Bool, true, false, refl, sym, ap, ◌∙◌}
 use Rattle.std.specs.List.{AllByRecursion, flat_map, list_any}
 use Rattle.std.proofs.lemmas.List.Folds.{list_any-append}
 use Rattle.packet_queue.specs.QueueWords.{HeldQueue, QueuedPacket, address_of, packet_words}
 use Rattle.packet_queue.proofs.HeldQueues.{held-queue}
 use Rattle.task_block.specs.TaskChain.{id_in}
 use Rattle.kernel_model.specs.HoldsLists.{HoldsLists}
-use Rattle.kernel_model.specs.KernelRanges.{has_residents}
 use Rattle.kernel_model.specs.Lists.{Lists}
 use Rattle.kernel_model.specs.Owned.{clock_head, keyboard_head, output_head}
 use Rattle.kernel_model.specs.Residents.{pending_head}

@@ -1,5 +1,5 @@
 -- The call that creates a task.
-use Rattle.std.specs.Prelude.{◌≡◌, ◌≢◌, ℕ, ◌+◌, ◌-◌, ◌<◌, ◌≤◌, ◌⊎◌, ◌==◌, Bool, true, false, not, if◌then◌else◌, Option, Some, None, is_some, unwrap_or, Ok, List, [], ◌∷◌, ◌++◌, find, length, map, nat_lt, replicate}
+use Rattle.std.specs.Prelude.{◌≡◌, ◌≢◌, ℕ, ◌+◌, ◌-◌, ◌≤◌, ◌⊎◌, ◌==◌, Bool, true, false, not, if◌then◌else◌, Option, Some, is_some, unwrap_or, Ok, List, [], ◌∷◌, ◌++◌, find, length, map, nat_lt, replicate}
 use Rattle.std.specs.List.{AllByRecursion, flat_map, list_any, range_with_len}
 use Rattle.linked_list.specs.Places.{has}
 use Rattle.owned_words.specs.Owned.{row_from}

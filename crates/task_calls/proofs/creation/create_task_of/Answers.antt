@@ -1,6 +1,5 @@
-use Rattle.std.proofs.Common.{◌≡◌, ℕ, List, refl, sym, ap, ◌∙◌, subst}
+use Rattle.std.proofs.Common.{ℕ, List}
 use Rattle.std.proofs.lemmas.Result.{err_from_is_err_and}
-use Rattle.call_answers.proofs.FoundTask.{reads}
 use Rattle.call_answers.proofs.Refusals.{answer_of-ok}
 use Rattle.block_calls.proofs.TakenBlock.{handed-on}
 use Rattle.kernel_model.specs.Lists.{Lists}

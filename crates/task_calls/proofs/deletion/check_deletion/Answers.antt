@@ -1,11 +1,10 @@
-use Rattle.std.proofs.Common.{◌≡◌, ◌+◌, ◌≤◌, ℕ, List, true, false, get_or, refl, sym, ap, ◌∙◌, subst, arith}
+use Rattle.std.proofs.Common.{◌≡◌, ◌+◌, ◌≤◌, ℕ, List, true, false, get_or, refl, sym, ap, ◌∙◌, arith}
 use Rattle.call_answers.specs.Guests.{GuestAt}
 use Rattle.call_answers.specs.Refusals.{answer_of}
-use Rattle.block_calls.specs.Freevec.{has_packet_in}
 use Rattle.kernel_model.specs.HoldsLists.{HoldsLists}
 use Rattle.kernel_model.specs.Lists.{Lists}
 use Rattle.kernel_model.proofs.WalkedLists.{can-walk}
-use Rattle.task_calls.specs.DeleteTask.{HasEnded, RunsAlive, has_no_coroutines, has_no_work, has_packet_out}
+use Rattle.task_calls.specs.DeleteTask.{HasEnded, RunsAlive, has_packet_out}
 use Rattle.task_calls.proofs.EndTests.{alive, at-address, dead, ended, served, several, single, tests-are, waiting}
 use Rattle.task_calls.proofs.SentPackets.{out-told}
 use Rattle.task_calls.proofs.deletion.check_deletion.Goals as goal

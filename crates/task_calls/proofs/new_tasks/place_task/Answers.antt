@@ -1,7 +1,6 @@
-use Rattle.std.proofs.Common.{◌≡◌, ◌+◌, ℕ, List, Ok, Err, refl, sym, ap, ◌∙◌, subst, arith}
+use Rattle.std.proofs.Common.{ℕ, List, Err, refl, subst, arith}
 use Rattle.std.proofs.lemmas.Result.{err_from_is_err_and}
 use Rattle.call_answers.specs.Made.{IsMade}
-use Rattle.call_answers.proofs.MadeCalls.{made-refused}
 use Rattle.block_calls.specs.FreeStore.{data_taken, with_taken}
 use Rattle.block_calls.specs.Getvec.{getvec, getvec_tests}
 use Rattle.block_calls.proofs.TakenBlock.{handed-on}
