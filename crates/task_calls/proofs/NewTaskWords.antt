@@ -34,15 +34,59 @@ module _ (s : List ℕ) (l : Lists) (number : ℕ) (modules : List ℕ) (u pri m
 
   pub new_words-held : (rest : List ℕ) → Holds s (row_from t.address 0 (head_row head t.address number modules u pri maker ++ rest)) → Holds s (other_words l.version t)
   new_words-held rest h = (
-    word 1 (omega arith), (word 2 (omega arith),
-    (word 4 (omega arith), (word 5 (omega arith),
-    (word 6 (omega arith) ∙ sym (ap (λ b. cond b (t.address + head + 1001) 0) guest), (word 7 (omega arith),
-    (word 8 (omega arith) ∙ sym (ap (λ b. cond b (t.address + head) 0) guest), (word 9 (omega arith), (word 10 (omega arith),
-    (word 11 (omega arith), (word 12 (omega arith), (word 13 (omega arith), (word 14 (omega arith), (word 15 (omega arith), (word 16 (omega arith),
-    (word 21 (omega arith), (word 22 (omega arith),
-    Holds-append s (row_from t.address 23 (cond (is_guest_id number) further [])) (queue_words (queue_head t.address) [] ++ words_of_coroutines t.address no_coroutines)
-    (subst (λ b. Holds s (row_from t.address 23 (cond b further []))) (sym guest) modules_held)
-    (word 3 (omega arith), (word 18 (omega arith), (word 19 (omega arith), (word 20 (omega arith), (word 17 (omega arith), tt))))))))))))))))))))))
+    word 1 (omega arith),
+    (
+      word 2 (omega arith),
+      (
+        word 4 (omega arith),
+        (
+          word 5 (omega arith),
+          (
+            word 6 (omega arith) ∙ sym (ap (λ b. cond b (t.address + head + 1001) 0) guest),
+            (
+              word 7 (omega arith),
+              (
+                word 8 (omega arith) ∙ sym (ap (λ b. cond b (t.address + head) 0) guest),
+                (
+                  word 9 (omega arith),
+                  (
+                    word 10 (omega arith),
+                    (
+                      word 11 (omega arith),
+                      (
+                        word 12 (omega arith),
+                        (
+                          word 13 (omega arith),
+                          (
+                            word 14 (omega arith),
+                            (
+                              word 15 (omega arith),
+                              (
+                                word 16 (omega arith),
+                                (
+                                  word 21 (omega arith),
+                                  (
+                                    word 22 (omega arith),
+                                    Holds-append s (row_from t.address 23 (cond (is_guest_id number) further [])) (queue_words (queue_head t.address) [] ++ words_of_coroutines t.address no_coroutines)
+                                        (subst (λ b. Holds s (row_from t.address 23 (cond b further []))) (sym guest) modules_held)
+                                        (word 3 (omega arith), (word 18 (omega arith), (word 19 (omega arith), (word 20 (omega arith), (word 17 (omega arith), tt))))),
+                                  ),
+                                ),
+                              ),
+                            ),
+                          ),
+                        ),
+                      ),
+                    ),
+                  ),
+                ),
+              ),
+            ),
+          ),
+        ),
+      ),
+    ),
+  )
     where
       word : (j : ℕ) → j < 23 → get_or s (t.address + j) 0 ≡ get_or (fixed ++ (further ++ rest)) j 0
       word j few =

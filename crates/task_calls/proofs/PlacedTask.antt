@@ -309,7 +309,7 @@ module _ (l : Lists) (number : ℕ) (modules : List ℕ) (u pri maker : ℕ) (s 
       record {
         lists = after-changed.lists;
         own = new_words-held after l number modules u pri maker guest (row_behind s modules u)
-              (subst (λ z. Holds after (row_from z 0 (head_row head z number modules u pri maker ++ row_behind s modules u))) (sym at) held-after);
+            (subst (λ z. Holds after (row_from z 0 (head_row head z number modules u pri maker ++ row_behind s modules u))) (sym at) held-after);
         unowned = free-head;
         inside = omega (arith, at, inside, after-changed.size);
         some = omega (arith, at, k.front);

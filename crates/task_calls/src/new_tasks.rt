@@ -12,7 +12,6 @@ ghost use Rattle.call_answers.specs.Made.{IsMade};
 ghost use Rattle.task_calls.specs.CreateTask.{MayPlace, new_task, place_task};
 ghost use Rattle.task_calls.specs.NewTasks.{IsLastWord, MaySetGlobals, head_row};
 
-
 use crate::states::DEAD;
 use block_calls::getvec;
 use call_answers::codes::NO_ROOM;
@@ -84,15 +83,7 @@ fn clear_words(store: &mut Store, a: u32, last: u32)
 }
 
 // Writes the words of a task block, and global 0 behind them, where all words are 0.
-fn write_head(
-    store: &mut Store,
-    t: u32,
-    number: u32,
-    modules: &[u32],
-    u: u32,
-    pri: u32,
-    maker: u32,
-)
+fn write_head(store: &mut Store, t: u32, number: u32, modules: &[u32], u: u32, pri: u32, maker: u32)
     requires inside { t + head_words store.old + 1001 ≤ length store.old }
     requires some { 1 ≤ length modules.now }
     requires most { length modules.now ≤ most_modules store.old }

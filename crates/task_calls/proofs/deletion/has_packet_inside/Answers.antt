@@ -11,8 +11,11 @@ unwrap-block-requires g c = some-found c.args.store.now c.requires.0 c.requires.
 
 pub overflow_add-task : goal.overflow_add-task
 overflow_add-task g c =
-    omega (arith, head-fits c.args.store.now c.requires.0 c.requires.1 c.args.task c.requires.2.lists c.requires.3 c.block_of.result c.unwrap-block.result c.head_words-head.result c.block_of.ensures c.unwrap-block.ensures
-    c.head_words-head.ensures)
+    omega (
+      arith,
+      head-fits c.args.store.now c.requires.0 c.requires.1 c.args.task c.requires.2.lists c.requires.3 c.block_of.result c.unwrap-block.result c.head_words-head.result c.block_of.ensures c.unwrap-block.ensures
+          c.head_words-head.ensures,
+    )
 
 pub overflow_sub-block : goal.overflow_sub-block
 overflow_sub-block g c =

@@ -40,8 +40,11 @@ pub overflow_add-t : goal.overflow_add-t
 overflow_add-t g c =
     let l : Lists = c.requires.0 in
     let k = c.requires.1 in
-    omega (arith, head-fits l c.args.number c.args.modules.now c.args.u c.args.pri c.args.maker c.args.store.now c.getvec.new.store c.in_ok-t.t c.in_ok-last.last c.head_words-head.result
-    (g.Q.KindKeeper.tells c.getvec.new.kinds) k.lists c.requires.2 (c.in_ok-last.ensures l k.lists) c.head_words-head.ensures (c.in_ok-t.ensures.made l k))
+    omega (
+      arith,
+      head-fits l c.args.number c.args.modules.now c.args.u c.args.pri c.args.maker c.args.store.now c.getvec.new.store c.in_ok-t.t c.in_ok-last.last c.head_words-head.result
+          (g.Q.KindKeeper.tells c.getvec.new.kinds) k.lists c.requires.2 (c.in_ok-last.ensures l k.lists) c.head_words-head.ensures (c.in_ok-t.ensures.made l k),
+    )
 
 pub set_globals-requires : goal.set_globals-requires
 set_globals-requires g c =

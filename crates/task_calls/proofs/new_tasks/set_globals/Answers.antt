@@ -31,5 +31,5 @@ loop-m-preserved c =
       next-holds s t inv.0 m (drop (i + 1) ms) g inv.1 may c.init_globals.ensures,
       next-may s t inv.0 m (drop (i + 1) ms) g inv.1 may c.init_globals.ensures,
       next-globals s t inv.0 m (drop (i + 1) ms) g inv.1 may c.init_globals.ensures
-      ∙ ap (λ z. with_globals s g (flat_map (globals_in s) z)) (sym (rest ms i c.loop-m-test.true)) ∙ inv.3,
+          ∙ ap (λ z. with_globals s g (flat_map (globals_in s) z)) (sym (rest ms i c.loop-m-test.true)) ∙ inv.3,
     )
