@@ -18,7 +18,7 @@ use Rattle.kernel_model.proofs.EachMember.{all-each, find-passes}
 use Rattle.kernel_model.proofs.RootCounts.{highest-low}
 use Rattle.kernel_model.proofs.TaskPlaces.{TaskPlace, task-places}
 use Rattle.call_answers.specs.Made.{IsMade, Made, by_refusal, unless_refused}
-use Rattle.call_answers.specs.Refusals.{answer_of, first_refusal}
+use Rattle.call_answers.specs.Refusals.{first_refusal}
 use Rattle.call_answers.proofs.FoundTask.{reads}
 use Rattle.call_answers.proofs.MadeCalls.{made-refused}
 use Rattle.call_answers.proofs.Refusals.{first_refusal-failed, first_refusal-passed}
@@ -26,15 +26,6 @@ use Rattle.block_calls.specs.Getvec.{getvec_tests}
 use Rattle.task_calls.specs.ChangePri.{priority_tests}
 use Rattle.task_calls.specs.CreateTask.{MayCreate, MayPlace, create_task, creation_tests, free_id, has_high_globals, last_word_of, new_task, number_of, place_task, with_created}
 use Rattle.task_calls.proofs.ChangedPriority.{accepted-parts}
-
--- ---- answers of the parts
-
-pub answer_of-err : (o : Option ℕ) (code : ℕ) → ◌≡◌ {A = Result (Unit {0}) ℕ} (Err code) (answer_of o) → o ≡ Some code
-answer_of-err None code e = cc
-answer_of-err (Some n) code e = ap Some (same n code e)
-  where
-    same : (n code : ℕ) → ◌≡◌ {A = Result (Unit {0}) ℕ} (Err code) (Err n) → n ≡ code
-    same n code e = cc
 
 -- a number that is found in a range lies in it
 found-range : (f : ℕ → Bool) (a n x : ℕ) → find f (range_with_len a n) ≡ Some x → (a ≤ x) × (x < a + n)

@@ -1,5 +1,5 @@
 -- The tests of a task that is deleted, as the words of its task block say.
-use Rattle.std.proofs.Common.{◌≡◌, ◌≢◌, ℕ, ◌+◌, ◌<◌, ◌≤◌, List, [], ◌∷◌, ◌++◌, cond, eqb, get_or, length, map, not, ◌&&◌, Bool, true, false, Option, Some, None, inl, inr, refl, sym, ap, ◌∙◌, subst, arith}
+use Rattle.std.proofs.Common.{◌≡◌, ◌≢◌, ℕ, ◌+◌, ◌<◌, ◌≤◌, List, [], ◌∷◌, cond, eqb, get_or, length, map, not, ◌&&◌, Bool, true, false, Option, Some, None, inl, inr, refl, sym, ap, ◌∙◌, subst, arith}
 use Rattle.std.specs.List.{AllByRecursion, list_any}
 use Rattle.std.proofs.lemmas.Bool.{eq-eqb, ne_eqb}
 use Rattle.linked_list.specs.Count.{IsApart, times}
@@ -25,6 +25,7 @@ use Rattle.call_answers.proofs.FoundTask.{any-one, reads}
 use Rattle.call_answers.proofs.GuestTask.{GuestFacts, guest-facts}
 use Rattle.block_calls.specs.Freevec.{has_packet_in}
 use Rattle.task_calls.specs.DeleteTask.{HasEnded, RunsAlive, deletion_tests, end_tests, has_no_coroutines, has_no_work, has_packet_out, is_dead}
+use Rattle.task_calls.proofs.TestsInTurn.{all-passed}
 
 -- the state is the field and 3 more at most
 state-near : (t : Task) → (t.field ≤ state_word t) × (state_word t ≤ t.field + 3)
@@ -132,16 +133,6 @@ tests-are l id p a b c d e i j k m n at =
 
 pub ended : (l : Lists) (id : ℕ) → is_dead l id ≡ true → has_no_work l id ≡ true → has_packet_out l id ≡ false → has_no_coroutines l id ≡ true → first_refusal (end_tests l id) ≡ None
 ended l id i j k m = λ x. first_refusal ((i x, 11) ∷ (j x, 12) ∷ (not (k x), 13) ∷ (m x, 25) ∷ [])
-
--- tests in two parts
-all-passed : (xs ys : List (Bool × ℕ)) → first_refusal (xs ++ ys) ≡ None → (first_refusal xs ≡ None) × (first_refusal ys ≡ None)
-all-passed [] ys e = (refl, e)
-all-passed (x ∷ xs) ys e = on x.0 e (all-passed xs ys)
-  where
-    on : (b : Bool) → cond b (first_refusal (xs ++ ys)) (Some x.1) ≡ None → (first_refusal (xs ++ ys) ≡ None → (first_refusal xs ≡ None) × (first_refusal ys ≡ None))
-        → (cond b (first_refusal xs) (Some x.1) ≡ None) × (first_refusal ys ≡ None)
-    on true e more = more e
-    on false e more = cc
 
 -- where all hold, the task has ended, and no packet lies in its block
 pub may-go : (s : List ℕ) (l : Lists) (id address : ℕ) → HoldsLists s l → RunsAlive l → (g : GuestAt l id address) → first_refusal (deletion_tests l id) ≡ None → HasEnded l id address × (has_packet_in l address ≡ false)

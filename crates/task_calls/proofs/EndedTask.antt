@@ -61,7 +61,7 @@ use Rattle.block_calls.proofs.OwnedMarks.{size-low}
 use Rattle.block_calls.proofs.TakenStore.{given-changed, given-owners}
 use Rattle.task_calls.specs.DeleteTask.{HasEnded, end_tests, has_no_coroutines, has_no_work, has_packet_out, is_dead, resident_packets, without_task}
 use Rattle.task_calls.proofs.AroundChain.{address_with-out, around, around-count, around-exchange, listed, owned-around, owned-chain}
-use Rattle.task_calls.proofs.FreeNumbers.{head-read}
+use Rattle.task_calls.proofs.ReadNumbers.{head-read}
 use Rattle.task_calls.proofs.Priorities.{others-differ, without-here}
 
 -- all of its tests hold

@@ -7,10 +7,13 @@ pub mod Priorities
 pub mod ChangedPriority
 pub mod SameWords
 pub mod RowsInRows
+pub mod PlainRows
+pub mod StayingData
+pub mod TestsInTurn
 pub mod NewTaskWords
 pub mod InsertedTask
 pub mod ModuleGlobals
-pub mod FreeNumbers
+pub mod ReadNumbers
 pub mod NewTaskRow
 pub mod NewBlock
 pub mod PlacedTask

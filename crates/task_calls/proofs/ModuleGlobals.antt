@@ -1,13 +1,11 @@
 -- The globals that modules set, in a store of which other words have changed.
-use Rattle.std.proofs.Common.{◌≡◌, ℕ, ◌+◌, ◌<◌, ◌≤◌, List, [], ◌∷◌, ◌++◌, length, get_or, set, true, refl, sym, ap, ◌∙◌, subst, arith, get_or-set_other, length-set}
+use Rattle.std.proofs.Common.{◌≡◌, ℕ, ◌+◌, ◌<◌, ◌≤◌, List, [], ◌∷◌, ◌++◌, length, get_or, set, true, refl, sym, ap, ◌∙◌, subst, arith}
 use Rattle.std.specs.Prelude.{slice_range, sum}
 use Rattle.std.specs.List.{AllByRecursion, flat_map}
 use Rattle.std.proofs.lemmas.List.Sums.{sum_by-cons}
 use Rattle.linked_list.specs.Places.{has}
 use Rattle.linked_list.proofs.AllMembers.{all-append}
 use Rattle.word_store.proofs.Rows.{range_same}
-use Rattle.owned_words.specs.Owned.{owners}
-use Rattle.owned_words.proofs.OwnedWords.{Holds-same}
 use Rattle.task_block.specs.Lists.{modules_in}
 use Rattle.hunk_loader.specs.Globals.{Global, globals_in, globals_of_hunk, with_globals}
 use Rattle.hunk_loader.specs.GlobalWords.{AreClear}
@@ -19,9 +17,9 @@ use Rattle.hunk_loader.proofs.HunkWalk.{module_inside}
 use Rattle.kernel_model.specs.Changes.{AreUnowned}
 use Rattle.kernel_model.specs.HoldsLists.{HoldsLists}
 use Rattle.kernel_model.specs.Lists.{Lists}
-use Rattle.kernel_model.specs.Owned.{owned}
 use Rattle.call_answers.proofs.FoundTask.{reads}
 use Rattle.task_calls.specs.NewTasks.{MaySetGlobals}
+use Rattle.task_calls.proofs.PlainRows.{plain-set}
 
 -- ---- a module whose words are as they were
 
@@ -64,16 +62,6 @@ globals-are s m = globals-at s (m + 2 + hunk_count s m) (lengths_in s m)
 pub all_globals-are : (s : List ℕ) (ms : List ℕ) → AreGlobals (flat_map (globals_in s) ms)
 all_globals-are s [] = tt
 all_globals-are s (m ∷ ms) = all-append (λ g. g.number ≤ 1000) (globals_in s m) (flat_map (globals_in s) ms) (globals-are s m) (all_globals-are s ms)
-
--- ---- a store that holds lists, and in which plain words are set
-
-pub plain-set : (s : List ℕ) (l : Lists) (a w : ℕ) → HoldsLists s l → owners a (owned l) ≡ 0 → HoldsLists (set s a w) l
-plain-set s l a w h none =
-    record {
-      valid = h.valid;
-      size = length-set s a w ∙ h.size;
-      holds = Holds-same s (set s a w) (owned l) h.holds (λ b some. get_or-set_other s a b w 0 (λ e. absurd (omega (arith, some, none, ap (λ z. owners z (owned l)) e))));
-    }
 
 pub globals-hold : (s : List ℕ) (l : Lists) (g : ℕ) (gs : List Global) → HoldsLists s l → AreUnowned l g (g + 1001) → AreGlobals gs → HoldsLists (with_globals s g gs) l
 globals-hold s l g [] h free all = h

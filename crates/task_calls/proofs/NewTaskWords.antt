@@ -1,5 +1,5 @@
 -- The words of a new task stand in its block before it is in the chain.
-use Rattle.std.proofs.Common.{◌≡◌, ℕ, suc, ◌+◌, ◌-◌, ◌<◌, List, [], ◌∷◌, ◌++◌, drop, get_or, length, cond, true, sym, ap, ◌∙◌, subst, arith, add-zero}
+use Rattle.std.proofs.Common.{◌≡◌, ℕ, ◌+◌, ◌-◌, ◌<◌, List, [], ◌++◌, drop, get_or, length, cond, true, sym, ap, ◌∙◌, subst, arith}
 use Rattle.std.proofs.lemmas.List.{length-append}
 use Rattle.owned_words.specs.Owned.{Holds, row_from}
 use Rattle.owned_words.proofs.OwnedWords.{Holds-append, Holds-left, Holds-right}
@@ -11,13 +11,7 @@ use Rattle.kernel_model.specs.Task.{Task, filled, is_guest_id, other_words, queu
 use Rattle.kernel_model.specs.Versions.{head_words_of}
 use Rattle.task_calls.specs.CreateTask.{new_task, no_coroutines}
 use Rattle.task_calls.specs.NewTasks.{first_words, head_row}
-
--- a row in two parts
-pub row_from-append : (a i : ℕ) (xs ys : List ℕ) → row_from a i (xs ++ ys) ≡ row_from a i xs ++ row_from a (i + length xs) ys
-row_from-append a i [] ys = ap (λ z. row_from a z ys) (sym (add-zero i))
-row_from-append a i (x ∷ xs) ys =
-    let next : suc i + length xs ≡ i + suc (length xs) = omega arith in
-    ap (λ z. (a + i, x) ∷ z) (row_from-append a (suc i) xs ys ∙ ap (λ z. row_from a (suc i) xs ++ row_from a z ys) next)
+use Rattle.task_calls.proofs.PlainRows.{row_from-append}
 
 module _ (s : List ℕ) (l : Lists) (number : ℕ) (modules : List ℕ) (u pri maker : ℕ) (guest : is_guest_id number ≡ true) where
   abbrev t : Task

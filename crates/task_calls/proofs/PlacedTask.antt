@@ -1,5 +1,5 @@
 -- A new task is put into the block that was taken for it: its words are written, and it comes into the chain.
-use Rattle.std.proofs.Common.{◌≡◌, ℕ, suc, ◌+◌, ◌-◌, ◌<◌, ◌≤◌, ◌^◌, ◌⊎◌, List, [], ◌∷◌, ◌++◌, cond, eqb, get_or, length, map, replicate, set, Bool, true, false, Option, Some, None, Result, Ok, Err, inl, inr, refl, sym, ap, ◌∙◌, subst, arith}
+use Rattle.std.proofs.Common.{◌≡◌, ℕ, suc, ◌+◌, ◌-◌, ◌<◌, ◌≤◌, ◌^◌, ◌⊎◌, List, [], ◌∷◌, ◌++◌, cond, eqb, get_or, length, map, replicate, true, false, Some, None, Ok, inl, inr, refl, sym, ap, ◌∙◌, subst, arith}
 use Rattle.std.specs.Prelude.{is_some}
 use Rattle.std.specs.List.{AllByRecursion, flat_map, range_with_len}
 use Rattle.std.proofs.lemmas.Bool.{false≢true, le-leb}
@@ -49,8 +49,7 @@ use Rattle.kernel_model.proofs.RootCounts.{head-low}
 use Rattle.kernel_model.proofs.UnownedBlocks.{unowned-user}
 use Rattle.word_kinds.specs.Keeper.{AreTogether}
 use Rattle.word_kinds.proofs.KnownWords.{knows-claimed}
-use Rattle.call_answers.specs.Made.{IsMade, Made, by_refusal, unless_refused}
-use Rattle.call_answers.specs.Refusals.{first_refusal}
+use Rattle.call_answers.specs.Made.{IsMade}
 use Rattle.call_answers.proofs.ChangedTwice.{changed-twice}
 use Rattle.call_answers.proofs.FoundTask.{reads}
 use Rattle.call_answers.proofs.MadeCalls.{made-accepted}
@@ -60,29 +59,15 @@ use Rattle.block_calls.proofs.OwnedMarks.{size-low}
 use Rattle.block_calls.proofs.TakenStore.{HasTakenBlock}
 use Rattle.task_calls.specs.CreateTask.{MayPlace, globals_row, last_word_of, new_task, place_task, row_behind, with_created}
 use Rattle.task_calls.specs.NewTasks.{MaySetGlobals, head_row}
-use Rattle.task_calls.proofs.FreeNumbers.{head-read, most-read}
+use Rattle.task_calls.proofs.ReadNumbers.{head-read, most-read}
 use Rattle.task_calls.proofs.InsertedTask.{ComesNew, has-tasks, inserted-changed, may-come, new-count}
-use Rattle.task_calls.proofs.ModuleGlobals.{all_globals-are, globals-same, has-modules, plain-set}
-use Rattle.task_calls.proofs.NewBlock.{data-no_start, data-stays, no-module, took-block}
+use Rattle.task_calls.proofs.ModuleGlobals.{all_globals-are, globals-same, has-modules}
+use Rattle.task_calls.proofs.NewBlock.{no-module, took-block}
 use Rattle.task_calls.proofs.NewTaskRow.{length-row}
-use Rattle.task_calls.proofs.NewTaskWords.{new_words-held, row_from-append}
+use Rattle.task_calls.proofs.NewTaskWords.{new_words-held}
 use Rattle.task_calls.proofs.RowsInRows.{globals-before, globals-row_behind, length-zeros}
-
--- ---- rows of plain words
-
-pub row-holds : (s : List ℕ) (l : Lists) (a : ℕ) (ws : List ℕ) → HoldsLists s l → AreUnowned l a (a + length ws) → HoldsLists (with_words s a ws) l
-row-holds s l a [] h free = h
-row-holds s l a (w ∷ ws) h free =
-    row-holds (set s a w) l (a + 1) ws (plain-set s l a w h (free a (omega arith) (omega arith))) (λ c low high. free c (omega (arith, low)) (omega (arith, high)))
-
-pub row-changed : (s : List ℕ) (l : Lists) (a : ℕ) (ws : List ℕ) → HoldsLists s l → AreUnowned l a (a + length ws) → IsChanged s (with_words s a ws) l (row_from a 0 ws)
-row-changed s l a ws h free =
-    let k : HoldsLists (with_words s a ws) l = row-holds s l a ws h free in
-    record {
-      lists = k;
-      size = length-with_words s a ws;
-      written = record { holds = k.holds; others = λ c none. ap (λ z. get_or z c 0) (with_words-written s a ws) };
-    }
+use Rattle.task_calls.proofs.PlainRows.{row-changed, row-holds, row_from-append}
+use Rattle.task_calls.proofs.StayingData.{data-no_start, data-stays}
 
 -- the block has its data
 module _ (l : Lists) (number : ℕ) (modules : List ℕ) (u pri maker : ℕ) (s v : List ℕ) (t : ℕ) (h : HoldsLists s l) (may : MayPlace l number modules pri maker)
@@ -374,15 +359,6 @@ module _ (l : Lists) (number : ℕ) (modules : List ℕ) (u pri maker : ℕ) (s 
           }
 
 -- ---- the same, step by step
-
--- where there is no room for the block, there is none for the task
-pub refused-alike : (s v : List ℕ) (tells : List ℕ → Type 0) (l : Lists) (tests : List (Bool × ℕ)) (code a : ℕ) (made other : Made) → made.answer ≡ Ok a
-    → IsMade s v tells (Err code) (unless_refused tests l made) → IsMade s v tells (Err code) (unless_refused tests l other)
-refused-alike s v tells l tests code a made other is = on (first_refusal tests)
-  where
-    on : (o : Option ℕ) → IsMade s v tells (Err code) (by_refusal o l made) → IsMade s v tells (Err code) (by_refusal o l other)
-    on None k = (let wrong : ◌≡◌ {A = Result ℕ ℕ} (Err code) (Ok a) = k.leaves.answered ∙ is in cc)
-    on (Some n) k = k
 
 module _ (l : Lists) (number : ℕ) (modules : List ℕ) (u pri maker : ℕ) (s v : List ℕ) (t last hw : ℕ) (tells : List ℕ → Type 0) (h : HoldsLists s l) (may : MayPlace l number modules pri maker)
     (is_last : last ≡ last_word_of l.version u) (is_head : hw ≡ head_words s) (made : IsMade s v tells (Ok t) (getvec l last)) where

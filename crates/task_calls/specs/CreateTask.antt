@@ -95,8 +95,8 @@ abbrev pub create_task : List ℕ → Lists → ℕ → List ℕ → ℕ → ℕ
 create_task s l id modules u pri maker =
     unless_refused (creation_tests s l id modules u pri) l (with_created s l (new_task l (unwrap_or (number_of l id) 0) modules u pri maker))
 
--- The number is 0, or one of a guest's that no task has; the maker's is none of a task's, or at most the highest; and there are
--- from one to the most modules.
+-- The number is 0, or one of a guest's that no task has; the maker's number is at most the highest; and there are from one to the
+-- most modules.
 pub record MayCreate (l : Lists) (id : ℕ) (modules : List ℕ) (maker : ℕ) : Type 0 where
   pub number : (id ≡ 0) ⊎ ((5 ≤ id) × (id ≤ highest_id_of l.version) × (has_task id l.tasks ≡ false))
   pub made_by : maker ≤ highest_id_of l.version

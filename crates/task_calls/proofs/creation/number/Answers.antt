@@ -1,7 +1,7 @@
 use Rattle.std.proofs.Common.{sym, ap, ◌∙◌}
 use Rattle.std.specs.Option.{ok_or}
 use Rattle.call_answers.proofs.FoundTask.{reads}
-use Rattle.task_calls.proofs.FreeNumbers.{number-free}
+use Rattle.task_calls.proofs.ReadNumbers.{number-free}
 use Rattle.task_calls.proofs.creation.number.Goals as goal
 
 pub free_id-requires : goal.free_id-requires

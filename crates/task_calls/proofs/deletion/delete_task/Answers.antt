@@ -8,7 +8,7 @@ use Rattle.call_answers.proofs.Refusals.{answer_of-ok, first_refusal-failed, fir
 use Rattle.block_calls.proofs.GivenBlock.{handed-plain}
 use Rattle.kernel_model.specs.Lists.{Lists}
 use Rattle.task_calls.specs.DeleteTask.{delete_task, deletion_tests, without_task}
-use Rattle.task_calls.proofs.CreationTests.{answer_of-err}
+use Rattle.task_calls.proofs.TestsInTurn.{answer_of-err}
 use Rattle.task_calls.proofs.EndTests.{may-go}
 use Rattle.task_calls.proofs.deletion.delete_task.Goals as goal
 

@@ -2,7 +2,7 @@ use Rattle.std.proofs.Common.{◌≡◌, ℕ, ◌+◌, ◌^◌, refl, ◌∙◌,
 use Rattle.std.proofs.lemmas.Bool.{cases_lt}
 use Rattle.kernel_model.specs.Versions.{head_words_of}
 use Rattle.task_calls.specs.CreateTask.{last_word_of}
-use Rattle.task_calls.proofs.FreeNumbers.{head-read}
+use Rattle.task_calls.proofs.ReadNumbers.{head-read}
 use Rattle.task_calls.proofs.NewBlock.{no_room}
 use Rattle.task_calls.proofs.new_tasks.last_word.Goals as goal
 
