@@ -93,7 +93,8 @@ with_created s l t =
 
 abbrev pub create_task : List ℕ → Lists → ℕ → List ℕ → ℕ → ℕ → ℕ → Made
 create_task s l id modules u pri maker =
-    unless_refused (creation_tests s l id modules u pri) l (with_created s l (new_task l (unwrap_or (number_of l id) 0) modules u pri maker))
+    unless_refused (creation_tests s l id modules u pri) l
+    (with_created s l (new_task l (unwrap_or (number_of l id) 0) modules u pri maker))
 
 -- The number is 0, or one of a guest's that no task has; the maker's number is at most the highest; and there are from one to the
 -- most modules.

@@ -109,7 +109,8 @@ fn write_head(store: &mut Store, t: u32, number: u32, modules: &[u32], u: u32, p
 fn write_modules(store: &mut Store, t: u32, modules: &[u32])
     requires some { 1 ≤ length modules.now }
     requires inside { t + 22 + length modules.now ≤ length store.old }
-    ensures { store.new ≡ with_words (slice_set store.old (t + 10) (first_of (λ m. m) modules.now 0))
+    ensures { store.new ≡ with_words
+        (slice_set store.old (t + 10) (first_of (λ m. m) modules.now 0))
         (t + 23) (drop 1 modules.now) }
 {
     set_field(store, t, TcbField::Module, modules[0]);
