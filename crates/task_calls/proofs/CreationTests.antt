@@ -24,7 +24,8 @@ use Rattle.call_answers.proofs.MadeCalls.{made-refused}
 use Rattle.call_answers.proofs.Refusals.{first_refusal-failed, first_refusal-passed}
 use Rattle.block_calls.specs.Getvec.{getvec_tests}
 use Rattle.task_calls.specs.ChangePri.{priority_tests}
-use Rattle.task_calls.specs.CreateTask.{MayCreate, MayPlace, create_task, creation_tests, free_id, has_high_globals, last_word_of, new_task, number_of, place_task, with_created}
+use Rattle.task_calls.specs.CreateTask.{MayCreate, create_task, creation_tests, free_id, has_high_globals, last_word_of, new_task, number_of, with_created}
+use Rattle.task_calls.specs.NewTasks.{MayPlace, place_task}
 use Rattle.task_calls.proofs.ChangedPriority.{accepted-parts}
 
 -- a number that is found in a range lies in it

@@ -57,8 +57,8 @@ use Rattle.block_calls.specs.FreeStore.{data_of_front, with_taken}
 use Rattle.block_calls.specs.Getvec.{getvec, getvec_tests}
 use Rattle.block_calls.proofs.OwnedMarks.{size-low}
 use Rattle.block_calls.proofs.TakenStore.{HasTakenBlock}
-use Rattle.task_calls.specs.CreateTask.{MayPlace, globals_row, last_word_of, new_task, place_task, row_behind, with_created}
-use Rattle.task_calls.specs.NewTasks.{MaySetGlobals, head_row}
+use Rattle.task_calls.specs.CreateTask.{globals_row, last_word_of, new_task, row_behind, with_created}
+use Rattle.task_calls.specs.NewTasks.{MayPlace, MaySetGlobals, head_row, place_task}
 use Rattle.task_calls.proofs.ReadNumbers.{head-read, most-read}
 use Rattle.task_calls.proofs.InsertedTask.{ComesNew, has-tasks, inserted-changed, may-come, new-count}
 use Rattle.task_calls.proofs.ModuleGlobals.{all_globals-are, globals-same, has-modules}

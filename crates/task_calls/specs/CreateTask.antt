@@ -1,6 +1,6 @@
 -- The call that creates a task.
-use Rattle.std.specs.Prelude.{◌≡◌, ◌≢◌, ℕ, ◌+◌, ◌-◌, ◌≤◌, ◌⊎◌, ◌==◌, Bool, true, false, not, if◌then◌else◌, Option, Some, is_some, unwrap_or, Ok, List, [], ◌∷◌, ◌++◌, find, length, map, nat_lt, replicate}
-use Rattle.std.specs.List.{AllByRecursion, flat_map, list_any, range_with_len}
+use Rattle.std.specs.Prelude.{◌≡◌, ℕ, ◌+◌, ◌-◌, ◌≤◌, ◌⊎◌, ◌==◌, Bool, false, not, if◌then◌else◌, Option, Some, is_some, unwrap_or, Ok, List, [], ◌∷◌, ◌++◌, find, length, map, nat_lt, replicate}
+use Rattle.std.specs.List.{flat_map, list_any, range_with_len}
 use Rattle.linked_list.specs.Places.{has}
 use Rattle.owned_words.specs.Owned.{row_from}
 use Rattle.hunk_loader.specs.Globals.{globals_in, highest, most_globals, with_globals}
@@ -103,21 +103,3 @@ pub record MayCreate (l : Lists) (id : ℕ) (modules : List ℕ) (maker : ℕ) :
   pub made_by : maker ≤ highest_id_of l.version
   pub some_module : 1 ≤ length modules
   pub most : length modules ≤ most_modules_of l.version
-
--- The number is a guest's that no task has, the priority is one that no task has, the modules are of the list and from one to the
--- most, and the maker's number is at most the highest.
-pub record MayPlace (l : Lists) (number : ℕ) (modules : List ℕ) (pri maker : ℕ) : Type 0 where
-  pub low : 5 ≤ number
-  pub high : number ≤ highest_id_of l.version
-  pub unused : has_task number l.tasks ≡ false
-  pub lowest : 1 ≤ pri
-  pub most_pri : pri ≤ 10000
-  pub untaken : AllByRecursion (λ t. t.priority ≢ pri) l.tasks
-  pub listed : AllByRecursion (λ m. has m (map module_address l.modules) ≡ true) modules
-  pub made_by : maker ≤ highest_id_of l.version
-  pub some_module : 1 ≤ length modules
-  pub most : length modules ≤ most_modules_of l.version
-
--- what is made of such a task, where there is room
-abbrev pub place_task : List ℕ → Lists → Task → Made
-place_task s l t = unless_refused (getvec_tests l (last_word_of l.version t.highest)) l (with_created s l t)

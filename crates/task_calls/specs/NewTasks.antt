@@ -1,17 +1,21 @@
 -- The words that a new task gets, and what its parts ask.
-use Rattle.std.specs.Prelude.{◌≡◌, ℕ, ◌+◌, ◌-◌, true, false, Result, Ok, Err, List, [], ◌∷◌, ◌++◌, drop}
+use Rattle.std.specs.Prelude.{◌≡◌, ◌≢◌, ◌≤◌, ℕ, ◌+◌, ◌-◌, true, false, Result, Ok, Err, List, [], ◌∷◌, ◌++◌, drop, length, map}
 use Rattle.std.specs.List.{AllByRecursion}
 use Rattle.linked_list.specs.Places.{has}
 use Rattle.owned_words.specs.LinkedWords.{first_of}
 use Rattle.task_block.specs.Lists.{modules_in}
 use Rattle.hunk_loader.specs.GlobalWords.{AreClear}
+use Rattle.hunk_loader.specs.HeldModules.{module_address}
 use Rattle.hunk_loader.specs.ModuleHunks.{module_end}
 use Rattle.kernel_model.specs.Changes.{AreUnowned}
-use Rattle.kernel_model.specs.Lists.{Lists}
-use Rattle.kernel_model.specs.Task.{filled}
+use Rattle.kernel_model.specs.Lists.{Lists, has_task}
+use Rattle.kernel_model.specs.Task.{Task, filled}
 use Rattle.kernel_model.specs.ValidTasks.{dead}
+use Rattle.kernel_model.specs.Versions.{highest_id_of, most_modules_of}
+use Rattle.call_answers.specs.Made.{Made, unless_refused}
 use Rattle.block_calls.specs.FreeStore.{has_room}
-use Rattle.task_calls.specs.CreateTask.{last_word_of}
+use Rattle.block_calls.specs.Getvec.{getvec_tests}
+use Rattle.task_calls.specs.CreateTask.{last_word_of, with_created}
 
 -- The first 23 words of a task block at t of so many words, before the task is in the chain: its number, its priority, its state,
 -- its stack with the highest index, its globals, its maker and its first module; all else is 0.
@@ -35,3 +39,23 @@ pub record MaySetGlobals (s : List ℕ) (l : Lists) (modules : List ℕ) (g : �
 abbrev pub IsLastWord : Lists → ℕ → Result ℕ ℕ → Type 0
 IsLastWord l u (Ok k) = k ≡ last_word_of l.version u
 IsLastWord l u (Err code) = (has_room (last_word_of l.version u) l ≡ false) × (code ≡ 1)
+
+-- ---- a task that is put into a block of its own
+
+-- The number is a guest's that no task has, the priority is one that no task has, the modules are of the list and from one to the
+-- most, and the maker's number is at most the highest.
+pub record MayPlace (l : Lists) (number : ℕ) (modules : List ℕ) (pri maker : ℕ) : Type 0 where
+  pub low : 5 ≤ number
+  pub high : number ≤ highest_id_of l.version
+  pub unused : has_task number l.tasks ≡ false
+  pub lowest : 1 ≤ pri
+  pub most_pri : pri ≤ 10000
+  pub untaken : AllByRecursion (λ t. t.priority ≢ pri) l.tasks
+  pub listed : AllByRecursion (λ m. has m (map module_address l.modules) ≡ true) modules
+  pub made_by : maker ≤ highest_id_of l.version
+  pub some_module : 1 ≤ length modules
+  pub most : length modules ≤ most_modules_of l.version
+
+-- what is made of such a task, where there is room
+abbrev pub place_task : List ℕ → Lists → Task → Made
+place_task s l t = unless_refused (getvec_tests l (last_word_of l.version t.highest)) l (with_created s l t)

@@ -9,8 +9,8 @@ ghost use Rattle.kernel_model.specs.Lists.{Lists};
 ghost use Rattle.task_block.specs.Versions.{head_words, most_modules};
 ghost use Rattle.word_store.specs.Row.{with_words};
 ghost use Rattle.call_answers.specs.Made.{IsMade};
-ghost use Rattle.task_calls.specs.CreateTask.{MayPlace, new_task, place_task};
-ghost use Rattle.task_calls.specs.NewTasks.{IsLastWord, MaySetGlobals, head_row};
+ghost use Rattle.task_calls.specs.CreateTask.{new_task};
+ghost use Rattle.task_calls.specs.NewTasks.{IsLastWord, MayPlace, MaySetGlobals, head_row, place_task};
 
 use crate::states::DEAD;
 use block_calls::getvec;

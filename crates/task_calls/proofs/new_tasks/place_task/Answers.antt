@@ -5,7 +5,8 @@ use Rattle.block_calls.specs.FreeStore.{data_taken, with_taken}
 use Rattle.block_calls.specs.Getvec.{getvec, getvec_tests}
 use Rattle.block_calls.proofs.TakenBlock.{handed-on}
 use Rattle.kernel_model.specs.Lists.{Lists}
-use Rattle.task_calls.specs.CreateTask.{last_word_of, new_task, place_task, with_created}
+use Rattle.task_calls.specs.CreateTask.{last_word_of, new_task, with_created}
+use Rattle.task_calls.specs.NewTasks.{place_task}
 use Rattle.task_calls.proofs.PlacedTask.{head-fits, head-room, insert-task, insert-tasks, placed, set-holds, set-may, write-inside, write-most}
 use Rattle.task_calls.proofs.new_tasks.place_task.Goals as goal
 use Rattle.task_calls.proofs.TestsInTurn.{refused-alike}
