@@ -28,7 +28,7 @@ no_priority l id pri e = ap (λ b. cond b (cond (not (is_taken l id pri)) None (
 pub priority_taken : (l : Lists) (id pri : ℕ) (taken : Bool) → is_priority pri ≡ true → is_taken l id pri ≡ taken → first_refusal (priority_tests l id pri) ≡ cond (not taken) None (Some 8)
 priority_taken l id pri taken e f = ap (λ b. cond b (cond (not (is_taken l id pri)) None (Some 8)) (Some 9)) e ∙ ap (λ b. cond (not b) None (Some 8)) f
 
-accepted-parts : (l : Lists) (id pri : ℕ) → first_refusal (priority_tests l id pri) ≡ None → (is_priority pri ≡ true) × (is_taken l id pri ≡ false)
+pub accepted-parts : (l : Lists) (id pri : ℕ) → first_refusal (priority_tests l id pri) ≡ None → (is_priority pri ≡ true) × (is_taken l id pri ≡ false)
 accepted-parts l id pri e = on (is_priority pri) (is_taken l id pri) e
   where
     on : (b c : Bool) → ◌≡◌ {A = Option ℕ} (cond b (cond (not c) None (Some 8)) (Some 9)) None → (b ≡ true) × (c ≡ false)

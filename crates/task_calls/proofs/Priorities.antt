@@ -46,7 +46,7 @@ module _ (id : ℕ) where
   find-here [] t back e all = ap (λ b. cond b (Some t) (find (λ u. eqb u.id id) back)) (eq-eqb t.id id e)
   find-here (z ∷ zs) t back e all = ap (λ b. cond b (Some z) (find (λ u. eqb u.id id) (zs ++ t ∷ back))) all.0 ∙ find-here zs t back e all.1
 
-  without-here : (front : List Task) (t : Task) (back : List Task) → t.id ≡ id → AllByRecursion (λ u. eqb u.id id ≡ false) front → without_first (λ u. eqb u.id id) (front ++ t ∷ back) ≡ front ++ back
+  pub without-here : (front : List Task) (t : Task) (back : List Task) → t.id ≡ id → AllByRecursion (λ u. eqb u.id id ≡ false) front → without_first (λ u. eqb u.id id) (front ++ t ∷ back) ≡ front ++ back
   without-here [] t back e all = ap (λ b. cond b back (t ∷ without_first (λ u. eqb u.id id) back)) (eq-eqb t.id id e)
   without-here (z ∷ zs) t back e all = ap (λ b. cond b (zs ++ t ∷ back) (z ∷ without_first (λ u. eqb u.id id) (zs ++ t ∷ back))) all.0 ∙ ap (λ w. z ∷ w) (without-here zs t back e all.1)
 

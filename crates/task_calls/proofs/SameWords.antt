@@ -18,9 +18,9 @@ use Rattle.call_answers.specs.Refusals.{first_refusal}
 use Rattle.call_answers.proofs.Refusals.{first_refusal-front, first_refusal-passed, guest-at, guest-parts}
 use Rattle.call_answers.proofs.RunningTask.{caller-at, there-at}
 use Rattle.task_calls.specs.ChangePri.{change_pri, priority_tests, with_new_priority}
-use Rattle.task_calls.specs.HoldTask.{held, hold, hold_tests}
+use Rattle.task_calls.specs.HoldTask.{held, hold}
 use Rattle.task_calls.specs.OneTask.{is_held}
-use Rattle.task_calls.specs.ReleaseTask.{release, release_tests, released}
+use Rattle.task_calls.specs.ReleaseTask.{release, released}
 use Rattle.task_calls.specs.SetFlags.{flagged, set_flags}
 use Rattle.task_calls.specs.TestFlags.{cleared, test_flags}
 use Rattle.task_calls.proofs.ChangedPriority.{priority-owners}

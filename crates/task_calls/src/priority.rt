@@ -31,8 +31,8 @@ pub fn change_pri(store: &mut Store, id: u32, pri: u32) -> Result<(), u32>
     Ok(())
 }
 
-// Refused where it is no priority, or a task with another number has it.
-fn check_priority(store: &Store, id: u32, pri: u32) -> Result<(), u32>
+/// Refused where it is no priority, or a task with another number has it. No task has the number 0.
+pub(crate) fn check_priority(store: &Store, id: u32, pri: u32) -> Result<(), u32>
     requires { (l : Lists) × HoldsLists store.now l }
     ensures { (l : Lists) → HoldsLists store.now l
         → result ≡ answer_of (first_refusal (priority_tests l id pri)) }

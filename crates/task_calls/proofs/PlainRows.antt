@@ -1,0 +1,43 @@
+-- Plain words that are written into a store one after another: it holds the same lists.
+use Rattle.std.proofs.Common.{◌≡◌, ℕ, suc, ◌+◌, List, [], ◌∷◌, ◌++◌, get_or, length, set, sym, ap, ◌∙◌, arith, add-zero, get_or-set_other, length-set}
+use Rattle.word_store.specs.Row.{with_words}
+use Rattle.word_store.proofs.Rows.{length-with_words}
+use Rattle.owned_words.specs.Owned.{owners, row_from}
+use Rattle.owned_words.proofs.OwnedWords.{Holds-same}
+use Rattle.owned_words.proofs.RowWords.{with_words-written}
+use Rattle.kernel_model.specs.ChangedStore.{IsChanged}
+use Rattle.kernel_model.specs.Changes.{AreUnowned}
+use Rattle.kernel_model.specs.HoldsLists.{HoldsLists}
+use Rattle.kernel_model.specs.Lists.{Lists}
+use Rattle.kernel_model.specs.Owned.{owned}
+
+-- a row in two parts
+pub row_from-append : (a i : ℕ) (xs ys : List ℕ) → row_from a i (xs ++ ys) ≡ row_from a i xs ++ row_from a (i + length xs) ys
+row_from-append a i [] ys = ap (λ z. row_from a z ys) (sym (add-zero i))
+row_from-append a i (x ∷ xs) ys =
+    let next : suc i + length xs ≡ i + suc (length xs) = omega arith in
+    ap (λ z. (a + i, x) ∷ z) (row_from-append a (suc i) xs ys ∙ ap (λ z. row_from a (suc i) xs ++ row_from a z ys) next)
+
+-- a word that nobody owns is set
+pub plain-set : (s : List ℕ) (l : Lists) (a w : ℕ) → HoldsLists s l → owners a (owned l) ≡ 0 → HoldsLists (set s a w) l
+plain-set s l a w h none =
+    record {
+      valid = h.valid;
+      size = length-set s a w ∙ h.size;
+      holds = Holds-same s (set s a w) (owned l) h.holds (λ b some. get_or-set_other s a b w 0 (λ e. absurd (omega (arith, some, none, ap (λ z. owners z (owned l)) e))));
+    }
+
+-- and so are the words of a row
+pub row-holds : (s : List ℕ) (l : Lists) (a : ℕ) (ws : List ℕ) → HoldsLists s l → AreUnowned l a (a + length ws) → HoldsLists (with_words s a ws) l
+row-holds s l a [] h free = h
+row-holds s l a (w ∷ ws) h free =
+    row-holds (set s a w) l (a + 1) ws (plain-set s l a w h (free a (omega arith) (omega arith))) (λ c low high. free c (omega (arith, low)) (omega (arith, high)))
+
+pub row-changed : (s : List ℕ) (l : Lists) (a : ℕ) (ws : List ℕ) → HoldsLists s l → AreUnowned l a (a + length ws) → IsChanged s (with_words s a ws) l (row_from a 0 ws)
+row-changed s l a ws h free =
+    let k : HoldsLists (with_words s a ws) l = row-holds s l a ws h free in
+    record {
+      lists = k;
+      size = length-with_words s a ws;
+      written = record { holds = k.holds; others = λ c none. ap (λ z. get_or z c 0) (with_words-written s a ws) };
+    }

@@ -1,0 +1,63 @@
+-- The call that deletes a task.
+use Rattle.std.specs.Prelude.{◌≡◌, ℕ, ◌==◌, ◌&&◌, Bool, not, None, if◌then◌else◌, List, [], ◌∷◌, ◌++◌, length}
+use Rattle.std.specs.List.{AllByRecursion, flat_map, list_any}
+use Rattle.linked_list.specs.Places.{without_first}
+use Rattle.getvec_chain.specs.Give.{given}
+use Rattle.packet_queue.specs.QueueWords.{QueuedPacket}
+use Rattle.kernel_model.specs.Between.{is_empty_queue}
+use Rattle.kernel_model.specs.Changes.{with_blocks, with_tasks}
+use Rattle.kernel_model.specs.Lists.{Lists, address_of_task}
+use Rattle.kernel_model.specs.Task.{Task, is_guest_id}
+use Rattle.kernel_model.specs.ValidTasks.{dead, runs}
+use Rattle.call_answers.specs.Guests.{GuestAt, guest_tests}
+use Rattle.call_answers.specs.Made.{Made, done, unless_refused}
+use Rattle.call_answers.specs.Refusals.{first_refusal}
+use Rattle.block_calls.specs.Freevec.{has_packet_in}
+
+-- the task with the number is dead
+abbrev pub is_dead : Lists → ℕ → Bool
+is_dead l id = list_any (λ t. (t.id == id) && (t.field == dead)) l.tasks
+
+-- its work queue is empty
+abbrev pub has_no_work : Lists → ℕ → Bool
+has_no_work l id = list_any (λ t. (t.id == id) && is_empty_queue t.queue) l.tasks
+
+-- it has no coroutines
+abbrev pub has_no_coroutines : Lists → ℕ → Bool
+has_no_coroutines l id = list_any (λ t. (t.id == id) && (length t.coroutines.list == 0)) l.tasks
+
+-- the packets that residents and devices have, and those that wait for a line
+abbrev pub resident_packets : Task → List QueuedPacket
+resident_packets t = if is_guest_id t.id then [] else t.queue
+
+abbrev pub packets_out : Lists → List QueuedPacket
+packets_out l = flat_map resident_packets l.tasks ++ (l.clock ++ (l.keyboard ++ (l.output ++ l.pending)))
+
+-- one of them is from the task with the number
+abbrev pub has_packet_out : Lists → ℕ → Bool
+has_packet_out l id = list_any (λ p. p.sender == id) (packets_out l)
+
+-- the task is dead (code 11), its queue is empty (12), no packet of its own is out (13), and it has no coroutines (25)
+abbrev pub end_tests : Lists → ℕ → List (Bool × ℕ)
+end_tests l id = (is_dead l id, 11) ∷ (has_no_work l id, 12) ∷ (not (has_packet_out l id), 13) ∷ (has_no_coroutines l id, 25) ∷ []
+
+-- and no packet lies in its block (7)
+abbrev pub deletion_tests : Lists → ℕ → List (Bool × ℕ)
+deletion_tests l id = end_tests l id ++ (not (has_packet_in l (address_of_task l id)), 7) ∷ []
+
+-- it is out of the chain, and its block is free
+abbrev pub without_task : Lists → ℕ → Lists
+without_task l id = with_blocks (given (address_of_task l id) l.blocks) (with_tasks (without_first (λ t. t.id == id) l.tasks) l)
+
+abbrev pub delete_task : Lists → ℕ → Made
+delete_task l id = unless_refused (guest_tests l id ++ deletion_tests l id) l (done (without_task l id))
+
+-- the task that runs, if there is one, has the state of one that runs
+abbrev pub RunsAlive : Lists → Type 0
+RunsAlive l = AllByRecursion (λ t. t.id ≡ l.running → t.field ≡ runs) l.tasks
+
+-- the guest at the address has ended, and nothing of its own is left but its block
+pub record HasEnded (l : Lists) (id address : ℕ) : Type 0 where
+  pub guest : GuestAt l id address
+  pub accepted : first_refusal (end_tests l id) ≡ None
+  pub runs_alive : RunsAlive l

@@ -1,0 +1,61 @@
+-- The words that a new task gets, and what its parts ask.
+use Rattle.std.specs.Prelude.{◌≡◌, ◌≢◌, ◌≤◌, ℕ, ◌+◌, ◌-◌, true, false, Result, Ok, Err, List, [], ◌∷◌, ◌++◌, drop, length, map}
+use Rattle.std.specs.List.{AllByRecursion}
+use Rattle.linked_list.specs.Places.{has}
+use Rattle.owned_words.specs.LinkedWords.{first_of}
+use Rattle.task_block.specs.Lists.{modules_in}
+use Rattle.hunk_loader.specs.GlobalWords.{AreClear}
+use Rattle.hunk_loader.specs.HeldModules.{module_address}
+use Rattle.hunk_loader.specs.ModuleHunks.{module_end}
+use Rattle.kernel_model.specs.Changes.{AreUnowned}
+use Rattle.kernel_model.specs.Lists.{Lists, has_task}
+use Rattle.kernel_model.specs.Task.{Task, filled}
+use Rattle.kernel_model.specs.ValidTasks.{dead}
+use Rattle.kernel_model.specs.Versions.{highest_id_of, most_modules_of}
+use Rattle.call_answers.specs.Made.{Made, unless_refused}
+use Rattle.block_calls.specs.FreeStore.{has_room}
+use Rattle.block_calls.specs.Getvec.{getvec_tests}
+use Rattle.task_calls.specs.CreateTask.{last_word_of, with_created}
+
+-- The first 23 words of a task block at t of so many words, before the task is in the chain: its number, its priority, its state,
+-- its stack with the highest index, its globals, its maker and its first module; all else is 0.
+abbrev pub first_words : ℕ → ℕ → ℕ → List ℕ → ℕ → ℕ → ℕ → List ℕ
+first_words head t number modules u pri maker =
+    0 ∷ number ∷ pri ∷ 0 ∷ dead ∷ 0 ∷ (t + head + 1001) ∷ u ∷ (t + head) ∷ maker ∷ first_of (λ m. m) modules 0
+    ∷ 0 ∷ 0 ∷ 0 ∷ 0 ∷ 0 ∷ 0 ∷ 0 ∷ 0 ∷ 0 ∷ 0 ∷ 0 ∷ 0 ∷ []
+
+-- all of them: its other modules are the last
+abbrev pub head_row : ℕ → ℕ → ℕ → List ℕ → ℕ → ℕ → ℕ → List ℕ
+head_row head t number modules u pri maker = first_words head t number modules u pri maker ++ filled (head - 23) (drop 1 modules)
+
+-- These are modules of the store, and the words of globals from g on are nobody's, and none of theirs.
+pub record MaySetGlobals (s : List ℕ) (l : Lists) (modules : List ℕ) (g : ℕ) : Type 0 where
+  pub unowned : AreUnowned l g (g + 1001)
+  pub listed : AllByRecursion (λ m. has m (modules_in s) ≡ true) modules
+  pub clear : AllByRecursion (λ m. AreClear g m (module_end s m)) modules
+
+-- the highest index of the words of a task with a stack up to the index u, where it is the number of a word; else no run is large
+-- enough
+abbrev pub IsLastWord : Lists → ℕ → Result ℕ ℕ → Type 0
+IsLastWord l u (Ok k) = k ≡ last_word_of l.version u
+IsLastWord l u (Err code) = (has_room (last_word_of l.version u) l ≡ false) × (code ≡ 1)
+
+-- ---- a task that is put into a block of its own
+
+-- The number is a guest's that no task has, the priority is one that no task has, the modules are of the list and from one to the
+-- most, and the maker's number is at most the highest.
+pub record MayPlace (l : Lists) (number : ℕ) (modules : List ℕ) (pri maker : ℕ) : Type 0 where
+  pub low : 5 ≤ number
+  pub high : number ≤ highest_id_of l.version
+  pub unused : has_task number l.tasks ≡ false
+  pub lowest : 1 ≤ pri
+  pub most_pri : pri ≤ 10000
+  pub untaken : AllByRecursion (λ t. t.priority ≢ pri) l.tasks
+  pub listed : AllByRecursion (λ m. has m (map module_address l.modules) ≡ true) modules
+  pub made_by : maker ≤ highest_id_of l.version
+  pub some_module : 1 ≤ length modules
+  pub most : length modules ≤ most_modules_of l.version
+
+-- what is made of such a task, where there is room
+abbrev pub place_task : List ℕ → Lists → Task → Made
+place_task s l t = unless_refused (getvec_tests l (last_word_of l.version t.highest)) l (with_created s l t)
