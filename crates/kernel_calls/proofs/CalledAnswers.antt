@@ -1,10 +1,10 @@
 -- What a call leaves, by what it makes of the lists and how the registers answer.
-use Rattle.std.proofs.Common.{◌≡◌, ℕ, List, [], ◌∷◌, ◌++◌, Option, Some, None, Result, Ok, refl, sym, ap, ◌∙◌, subst}
+use Rattle.std.proofs.Common.{◌≡◌, ℕ, List, [], ◌∷◌, ◌++◌, Some, None, Result, Ok, refl, sym, ap, ◌∙◌, subst}
 use Rattle.std.proofs.lemmas.List.{append-nil}
 use Rattle.word_store.specs.declared.registers.Regs.{Regs}
 use Rattle.owned_words.specs.Owned.{owners}
 use Rattle.packet_queue.specs.QueueWords.{QueuedPacket}
-use Rattle.kernel_model.specs.ChangedStore.{HasKeeper, Knows}
+use Rattle.kernel_model.specs.ChangedStore.{Knows}
 use Rattle.kernel_model.specs.HoldsLists.{HoldsLists}
 use Rattle.kernel_model.specs.Lists.{Lists}
 use Rattle.kernel_model.specs.NotedEvents.{NotesAll}
@@ -14,7 +14,7 @@ use Rattle.kernel_model.proofs.NotedInTurn.{notes-none}
 use Rattle.call_answers.specs.Made.{IsMade, Leaves, Made}
 use Rattle.coroutine_calls.specs.Switched.{IsSwitched, Switched}
 use Rattle.packet_calls.specs.TaskWait.{answer_of_wait, first_of_queue}
-use Rattle.kernel_calls.specs.Calls.{Called, IsCalled, Outside, answered, ended_with, of_byte, of_made, of_switched, of_wait, regs_of_switch}
+use Rattle.kernel_calls.specs.Calls.{IsCalled, Outside, answered, ended_with, of_byte, of_made, of_switched, of_wait, regs_of_switch}
 use Rattle.kernel_calls.specs.declared.requests.CallOutcome.{CallOutcome}
 use Rattle.kernel_calls.specs.declared.requests.CallOutcome.TheVariants.{Done, Waits}
 

@@ -1,11 +1,9 @@
 -- A task may be created by the one that calls.
-use Rattle.std.proofs.Common.{◌≡◌, ◌≤◌, ℕ, ◌+◌, List, [], ◌∷◌, cond, eqb, true, false, inl, refl, sym, ap, subst, arith}
-use Rattle.std.specs.List.{AllByRecursion}
+use Rattle.std.proofs.Common.{◌≤◌, ℕ, List, [], ◌∷◌, cond, eqb, true, false, inl, refl, subst, arith}
 use Rattle.kernel_model.specs.HoldsLists.{HoldsLists}
 use Rattle.kernel_model.specs.Lists.{Lists}
 use Rattle.kernel_model.specs.ValidTasks.{IsGuest}
 use Rattle.kernel_model.specs.Versions.{highest_id_of, most_modules_of}
-use Rattle.call_answers.specs.Callers.{HasCaller}
 use Rattle.call_answers.specs.Guests.{GuestAt}
 use Rattle.call_answers.proofs.GuestTask.{guest-facts}
 use Rattle.task_calls.specs.CreateTask.{MayCreate}

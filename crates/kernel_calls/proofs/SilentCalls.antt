@@ -1,5 +1,5 @@
 -- Calls that note no event.
-use Rattle.std.proofs.Common.{◌≡◌, ℕ, ◌+◌, ◌++◌, List, [], ◌∷◌, Bool, true, false, not, cond, eqb, Option, Some, None, Ok, refl}
+use Rattle.std.proofs.Common.{◌≡◌, ℕ, ◌+◌, ◌++◌, List, [], ◌∷◌, Bool, true, false, cond, eqb, Option, Some, None, Ok, refl}
 use Rattle.std.specs.Prelude.{unwrap_or}
 use Rattle.hunk_loader.specs.Globals.{globals_in}
 use Rattle.kernel_model.specs.Changes.{with_task}

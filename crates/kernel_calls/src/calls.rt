@@ -15,7 +15,9 @@ use module_calls::{add_module, unload_module};
 use packet_calls::{dqpkt, qpkt, taskwait};
 use packet_queue::EventLog;
 use task_block::{TcbField, field};
-use task_calls::{change_pri, create_task, delete_task, hold_task, release_task, set_flags, test_flags};
+use task_calls::{
+    change_pri, create_task, delete_task, hold_task, release_task, set_flags, test_flags,
+};
 use tp_io::Output;
 use word_kinds::KindKeeper;
 use word_store::{Regs, Store, add, mul_div};

@@ -9,11 +9,17 @@ use word_store::{Regs, Store, add};
 #[derive(Clone, Copy, Debug, PartialEq, Eq)]
 pub enum KernelCall {
     /// Call 0: the machine stops with the result.
-    Quit { result: u32 },
+    Quit {
+        result: u32,
+    },
     /// Call 1: a block with the data words 0 to `highest`.
-    Getvec { highest: u32 },
+    Getvec {
+        highest: u32,
+    },
     /// Call 2: the block is given back.
-    Freevec { block: u32 },
+    Freevec {
+        block: u32,
+    },
     /// Call 3: a task of the module, with a stack up to the index `highest`.
     CreateTask {
         module: u32,
@@ -21,41 +27,84 @@ pub enum KernelCall {
         priority: u32,
     },
     /// Call 4: the task with the number goes.
-    DeleteTask { id: u32 },
+    DeleteTask {
+        id: u32,
+    },
     /// Call 5: it gets the priority.
-    ChangePri { id: u32, priority: u32 },
+    ChangePri {
+        id: u32,
+        priority: u32,
+    },
     /// Call 6: it gets these flags, beside those that it has.
-    SetFlags { id: u32, flags: u32 },
+    SetFlags {
+        id: u32,
+        flags: u32,
+    },
     /// Call 7: the caller's flags among these are answered and cleared.
-    TestFlags { mask: u32 },
+    TestFlags {
+        mask: u32,
+    },
     /// Call 8: the task is held.
-    Hold { id: u32 },
+    Hold {
+        id: u32,
+    },
     /// Call 9: it is released.
-    Release { id: u32 },
+    Release {
+        id: u32,
+    },
     /// Call 10: the caller's next packet.
     TaskWait,
     /// Call 11: the packet is sent to whom its word 1 names.
-    Qpkt { packet: u32 },
+    Qpkt {
+        packet: u32,
+    },
     /// Call 12: it is taken off the queue of the task or device, or the caller's.
-    Dqpkt { id: u32, packet: u32 },
+    Dqpkt {
+        id: u32,
+        packet: u32,
+    },
     /// Call 13: the module goes.
-    Unload { module: u32 },
+    Unload {
+        module: u32,
+    },
     /// Call 14: a coroutine of the caller.
-    CreateCo { function: u32, highest: u32 },
+    CreateCo {
+        function: u32,
+        highest: u32,
+    },
     /// Call 15: the coroutine goes.
-    DeleteCo { coroutine: u32 },
+    DeleteCo {
+        coroutine: u32,
+    },
     /// Call 16: it is called.
-    CallCo { coroutine: u32, value: u32 },
+    CallCo {
+        coroutine: u32,
+        value: u32,
+    },
     /// Call 17: it is resumed in the place of the current one.
-    ResumeCo { coroutine: u32, value: u32 },
+    ResumeCo {
+        coroutine: u32,
+        value: u32,
+    },
     /// Call 18: the current one waits.
-    CoWait { value: u32 },
+    CoWait {
+        value: u32,
+    },
     /// Call 19: a byte goes to the console.
-    Wrch { character: u32 },
+    Wrch {
+        character: u32,
+    },
     /// Call 20: the product of two numbers, divided by the third.
-    MulDiv { a: u32, b: u32, c: u32 },
+    MulDiv {
+        a: u32,
+        b: u32,
+        c: u32,
+    },
     /// Call 21, in version 2 alone: the task gets one more module.
-    AddModule { id: u32, module: u32 },
+    AddModule {
+        id: u32,
+        module: u32,
+    },
 }
 
 /// How a call ends.

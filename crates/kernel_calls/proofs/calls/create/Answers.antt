@@ -1,4 +1,4 @@
-use Rattle.std.proofs.Common.{◌≡◌, [], ◌∷◌, sym, ap, ◌∙◌, subst}
+use Rattle.std.proofs.Common.{◌≡◌, [], ◌∷◌, sym, ◌∙◌, subst}
 use Rattle.call_answers.specs.Guests.{GuestAt}
 use Rattle.call_answers.specs.Made.{IsMade}
 use Rattle.packet_calls.proofs.CallerTask.{caller-number}
