@@ -34,12 +34,8 @@ use Rattle.packet_calls.specs.declared.dequeue.Found.{Found}
 use Rattle.packet_calls.proofs.Departure.{departed-changed, owners-departed, packet-inside}
 use Rattle.packet_calls.proofs.HeldPlaces.{StandsBetween, has-at, stands-at, stands-between}
 use Rattle.packet_calls.proofs.KeptWords.{changed-plain}
-use Rattle.packet_calls.proofs.PacketTests.{found-passes}
+use Rattle.packet_calls.proofs.PacketTests.{found-passes, neither}
 use Rattle.packet_calls.proofs.Searches.{IsFound}
-
-no-part : (x y : Bool) → (x || y) ≡ false → (x ≡ false) × (y ≡ false)
-no-part true y e = cc
-no-part false y e = (refl, e)
 
 module _ (s : List ℕ) (tells : List ℕ → Type 0) (room : ℕ) (l : Lists) (id p : ℕ) (k : HasKeeper s tells room l) where
   tests-are : (destination found own : Bool) → is_destination l id ≡ destination → is_some (found_in l id p) ≡ found → is_residents_packet l p ≡ own
@@ -93,7 +89,7 @@ module _ (s : List ℕ) (tells : List ℕ → Type 0) (room : ℕ) (l : Lists) (
       accepted = tests-are true true false names some-found plain
 
       none : (l.residents && eqb p key_packet ≡ false) × (has_task 2 l.tasks && eqb p fault_packet ≡ false)
-      none = no-part (l.residents && eqb p key_packet) (has_task 2 l.tasks && eqb p fault_packet) plain
+      none = neither (l.residents && eqb p key_packet) (has_task 2 l.tasks && eqb p fault_packet) plain
 
       no_key : is_key_packet l q ≡ false
       no_key = ap (λ a. l.residents && eqb a key_packet) between.address ∙ none.0

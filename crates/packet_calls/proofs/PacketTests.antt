@@ -46,7 +46,7 @@ lodged-data l p e = on (holding p l.blocks) refl e
 
 -- ---- plain words
 
-neither : (x y : Bool) → (x || y) ≡ false → (x ≡ false) × (y ≡ false)
+pub neither : (x y : Bool) → (x || y) ≡ false → (x ≡ false) × (y ≡ false)
 neither true y e = cc
 neither false y e = (refl, e)
 
@@ -64,14 +64,10 @@ none-each f (suc n) a none c low high =
       | inr ne ↦ none-each f n (a + 1) both.1 c (omega (arith, low, ne)) (omega (arith, high))
     ]
 
-not-false : (b : Bool) → not b ≡ true → b ≡ false
-not-false true e = cc
-not-false false e = refl
-
 pub plain-unowned : (l : Lists) (p : ℕ) → is_plain l p ≡ true → AreUnowned l p (p + 5)
 plain-unowned l p e c low high =
     elim (cases_lt 0 (owners c (owned l))) [
-      | inl some ↦ absurd (clash (ltb 0 (owners c (owned l))) (lt-ltb 0 (owners c (owned l)) some) (none-each (λ a. ltb 0 (owners a (owned l))) 5 p (not-false _ e) c low high))
+      | inl some ↦ absurd (clash (ltb 0 (owners c (owned l))) (lt-ltb 0 (owners c (owned l)) some) (none-each (λ a. ltb 0 (owners a (owned l))) 5 p (not-true _ e) c low high))
       | inr none ↦ omega (arith, none)
     ]
   where

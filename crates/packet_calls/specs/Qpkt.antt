@@ -1,5 +1,5 @@
 -- The call that sends a packet.
-use Rattle.std.specs.Prelude.{ℕ, ◌+◌, ◌==◌, ◌&&◌, Bool, false, not, Ok, List, [], ◌∷◌, nat_lt, slice_index}
+use Rattle.std.specs.Prelude.{ℕ, ◌+◌, ◌==◌, ◌&&◌, Bool, false, not, Ok, List, [], ◌∷◌, ◌++◌, nat_lt, slice_index}
 use Rattle.std.specs.List.{list_any, range_with_len}
 use Rattle.std.specs.Option.{option_map_or}
 use Rattle.word_store.specs.Arithmetic.{signed}
@@ -28,8 +28,7 @@ packet_tests s l p = (is_lodged l p, 5) ∷ (slice_index s p == no_queue, 3) ∷
 
 -- and word 1 names a task or a device (code 4).
 abbrev pub qpkt_tests : List ℕ → Lists → ℕ → List (Bool × ℕ)
-qpkt_tests s l p =
-    (is_lodged l p, 5) ∷ (slice_index s p == no_queue, 3) ∷ (is_plain l p, 5) ∷ (is_destination l (slice_index s (p + 1)), 4) ∷ []
+qpkt_tests s l p = packet_tests s l p ++ (is_destination l (slice_index s (p + 1)), 4) ∷ []
 
 -- The packet comes into the queue that its word 1 names, from the task that calls.
 abbrev pub sent_to : ℕ → List ℕ → Lists → ℕ → Made
