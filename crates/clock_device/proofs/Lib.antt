@@ -1,0 +1,4 @@
+pub mod TickLists
+pub mod ReturnedPacket
+pub mod ReturnedPackets
+pub mod WholeTick
