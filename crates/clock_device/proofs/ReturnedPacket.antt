@@ -1,5 +1,5 @@
 -- What the clock leaves where it returns its first packet.
-use Rattle.std.proofs.Common.{◌≡◌, ◌≢◌, ℕ, ◌+◌, ◌<◌, ◌≤◌, Bool, true, false, Option, Some, None, Ok, List, [], ◌∷◌, ◌++◌, cond, eqb, get_or, leb, set, inl, inr, refl, sym, ap, ◌∙◌, subst, arith, append-nil}
+use Rattle.std.proofs.Common.{◌≡◌, ◌≢◌, ℕ, ◌+◌, ◌<◌, ◌≤◌, Bool, true, false, Option, Some, None, Ok, List, [], ◌∷◌, ◌++◌, cond, eqb, get_or, leb, refl, sym, ap, ◌∙◌, subst, arith, append-nil}
 use Rattle.std.specs.Bool.{OnTrue}
 use Rattle.std.specs.List.{AllByRecursion, range_with_len}
 use Rattle.std.proofs.lemmas.Bool.{eq-eqb, false_from_ne_true, false≢true, or_left}
@@ -9,7 +9,7 @@ use Rattle.word_store.specs.Arithmetic.{signed}
 use Rattle.linked_list.specs.Count.{times}
 use Rattle.linked_list.specs.Places.{has}
 use Rattle.linked_list.proofs.Counts.{times-within}
-use Rattle.owned_words.specs.Owned.{Holds, Pairs, owners}
+use Rattle.owned_words.specs.Owned.{Holds, owners}
 use Rattle.packet_queue.specs.Log.{Notes}
 use Rattle.packet_queue.specs.Queue.{HasQueue, no_queue, queue_at, unlinked}
 use Rattle.packet_queue.specs.QueueWords.{HeldQueue, QueuedPacket, first_packet, queue_words}
@@ -25,7 +25,7 @@ use Rattle.kernel_model.specs.Residents.{device}
 use Rattle.kernel_model.specs.Task.{is_guest_id}
 use Rattle.kernel_model.specs.ValidBlocks.{AreData}
 use Rattle.kernel_model.specs.ValidLists.{AreValid}
-use Rattle.kernel_model.specs.ValidQueues.{IsFaultPacket, IsKeyPacket, MayStand, Place, is_fault_packet, is_key_packet}
+use Rattle.kernel_model.specs.ValidQueues.{IsFaultPacket, IsKeyPacket, MayStand, is_fault_packet, is_key_packet}
 use Rattle.kernel_model.specs.ValidQueues.Place.{Clock, Work}
 use Rattle.kernel_model.proofs.NotedInTurn.{notes-one, notes-then}
 use Rattle.kernel_model.proofs.OwnerCounts.{owners-packet_between, packets_count}

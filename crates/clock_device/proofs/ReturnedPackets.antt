@@ -1,9 +1,8 @@
 -- What the clock leaves where it returns one packet after the other.
-use Rattle.std.proofs.Common.{◌≡◌, ℕ, ◌+◌, ◌<◌, ◌≤◌, Bool, true, false, not, Option, Some, None, List, [], ◌∷◌, ◌++◌, map, cond, filter, leb, length, refl, sym, ap, ◌∙◌, subst, arith, flat_map}
+use Rattle.std.proofs.Common.{◌≡◌, ℕ, ◌<◌, ◌≤◌, Bool, true, false, not, Option, Some, None, List, [], ◌∷◌, ◌++◌, map, cond, leb, length, refl, sym, ap, ◌∙◌, subst, arith, flat_map}
 use Rattle.std.specs.List.{AllByRecursion}
 use Rattle.std.proofs.lemmas.Bool.Decides.{nat_tests}
 use Rattle.std.proofs.lemmas.List.{append-nil, append_assoc}
-use Rattle.owned_words.specs.Owned.{owners}
 use Rattle.packet_queue.specs.Queue.{queue_at}
 use Rattle.packet_queue.specs.QueueWords.{QueuedPacket, address_of}
 use Rattle.packet_queue.specs.declared.events.KernelEvent.{KernelEvent}
@@ -12,7 +11,7 @@ use Rattle.kernel_model.specs.Changes.{with_queue}
 use Rattle.kernel_model.specs.HoldsLists.{HoldsLists}
 use Rattle.kernel_model.specs.Lists.{Lists}
 use Rattle.kernel_model.specs.NotedEvents.{NotesAll}
-use Rattle.kernel_model.specs.Owned.{clock_head, owned}
+use Rattle.kernel_model.specs.Owned.{clock_head}
 use Rattle.kernel_model.specs.ValidQueues.{NeverFall}
 use Rattle.kernel_model.specs.ValidQueues.Place.{Clock}
 use Rattle.kernel_model.proofs.ChangedLists.{changed-none, changed-then}

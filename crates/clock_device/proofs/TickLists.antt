@@ -1,8 +1,8 @@
 -- The ticks are another number.
-use Rattle.std.proofs.Common.{◌≡◌, ℕ, ◌-◌, List, [], ◌∷◌, ◌++◌, length, get_or, set, refl, sym, ap, ◌∙◌, arith}
+use Rattle.std.proofs.Common.{◌≡◌, ℕ, ◌-◌, List, [], ◌∷◌, ◌++◌, set, refl, sym, arith}
 use Rattle.std.specs.List.{AllByRecursion}
 use Rattle.owned_words.specs.Exchange.{Exchange}
-use Rattle.owned_words.specs.Owned.{Pairs, owners, row_from}
+use Rattle.owned_words.specs.Owned.{Pairs, row_from}
 use Rattle.owned_words.proofs.Exchanges.{exchange-left}
 use Rattle.getvec_chain.specs.BlockWords.{blocks_words}
 use Rattle.hunk_loader.specs.ModuleExchanges.{modules_words}

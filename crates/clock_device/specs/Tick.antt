@@ -1,5 +1,5 @@
 -- A tick of the clock.
-use Rattle.std.specs.Prelude.{◌≡◌, ℕ, ◌+◌, Bool, if◌then◌else◌, not, Option, Some, None, List, [], ◌∷◌, ◌++◌, filter, nat_le}
+use Rattle.std.specs.Prelude.{◌≡◌, ℕ, ◌+◌, if◌then◌else◌, not, Option, Some, None, List, [], ◌∷◌, filter, nat_le}
 use Rattle.std.specs.List.{flat_map}
 use Rattle.word_store.specs.Arithmetic.{signed}
 use Rattle.owned_words.specs.Owned.{owners}

@@ -37,12 +37,12 @@ searches l id =
 abbrev pub found_in : Lists → ℕ → ℕ → Option Search
 found_in l id p = find (λ w. stands_in p (queue_of w.place l)) (searches l id)
 
--- the last of them alone
+-- the last search alone
 abbrev pub found_in_own : Lists → ℕ → Option Search
 found_in_own l p =
     if stands_in p (queue_of (Work l.running) l) then Some (record { place = Work l.running; number = l.running; answer = l.running }) else None
 
--- the same, as the code has it
+-- a search, as the code has it
 abbrev pub located : Lists → Search → Found
 located l w = record { queue = queue_for l w.place; number = w.number; answer = w.answer }
 
@@ -55,7 +55,7 @@ is_residents_packet l p = (l.residents && (p == key_packet)) || (has_task 2 l.ta
 abbrev pub dqpkt_tests : Lists → ℕ → ℕ → List (Bool × ℕ)
 dqpkt_tests l id p = (is_destination l id, 4) ∷ (is_some (found_in l id p), 19) ∷ (not (is_residents_packet l p), 14) ∷ []
 
--- the packet is on no queue then, and its word 1 is the answer
+-- Where a queue has it: the packet is on no queue then, and its word 1 is the answer. Where none has it, the call is refused.
 abbrev pub dequeued : ℕ → Option Search → Lists → Made
 dequeued p None l = done l
 dequeued p (Some w) l = record {

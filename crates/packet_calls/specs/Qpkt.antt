@@ -22,11 +22,12 @@ is_lodged l p = option_map_or (λ b. not b.free && has_data b (p + 4)) (holding 
 abbrev pub is_plain : Lists → ℕ → Bool
 is_plain l p = not (list_any (λ a. nat_lt 0 (owners a (owned l))) (range_with_len p 5))
 
--- They are data of one used block (code 5), the link says that the packet is on no queue (code 3), the words are plain (code 5)
+-- The packet may come into a queue: its words are data of one used block (code 5), its link says that it is on none (code 3), and
+-- its words are plain (code 5).
 abbrev pub packet_tests : List ℕ → Lists → ℕ → List (Bool × ℕ)
 packet_tests s l p = (is_lodged l p, 5) ∷ (slice_index s p == no_queue, 3) ∷ (is_plain l p, 5) ∷ []
 
--- and word 1 names a task or a device (code 4).
+-- And its word 1 names a task that is there, or a device (code 4).
 abbrev pub qpkt_tests : List ℕ → Lists → ℕ → List (Bool × ℕ)
 qpkt_tests s l p = packet_tests s l p ++ (is_destination l (slice_index s (p + 1)), 4) ∷ []
 

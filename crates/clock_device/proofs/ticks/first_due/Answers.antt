@@ -1,4 +1,3 @@
-use Rattle.std.proofs.Common.{◌≡◌, ◌∙◌, sym}
 use Rattle.clock_device.proofs.ReturnedPacket.{due-none, due-some, later-none}
 use Rattle.clock_device.proofs.ticks.first_due.Goals as goal
 

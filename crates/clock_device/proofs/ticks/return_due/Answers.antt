@@ -1,6 +1,5 @@
-use Rattle.std.proofs.Common.{◌≡◌, ◌∙◌, Some, None, refl, sym}
-use Rattle.kernel_model.specs.Lists.{Lists}
-use Rattle.clock_device.proofs.ReturnedPackets.{HasReturned, IsDue, all-noted, all-owned, all-returned, is-due, returned-more, returned-none, shorter}
+use Rattle.std.proofs.Common.{◌∙◌, refl, sym}
+use Rattle.clock_device.proofs.ReturnedPackets.{IsDue, all-noted, all-owned, all-returned, is-due, returned-more, returned-none, shorter}
 use Rattle.clock_device.proofs.ticks.return_due.Goals as goal
 
 pub loop-p-init : goal.loop-p-init

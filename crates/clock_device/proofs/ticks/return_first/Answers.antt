@@ -21,8 +21,7 @@ reply-requires g c =
     let f : IsFirst l c.args.p = c.requires.2 in
     let is : c.remove.new.store ≡ unlinked c.args.store.now clock_head c.args.p =
     removed c.args.store.now c.remove.new.store l c.args.p c.address.result c.remove.result c.requires.1 f c.address.ensures c.remove.ensures.found c.remove.ensures.words
-    in
-    (
+    in (
       with_queue Clock f.others l,
       left-held c.args.store.now l c.args.p c.requires.1 f c.remove.new.store is,
       can-reply c.args.store.now l c.args.p c.requires.1 f c.remove.new.store is (device 1),
