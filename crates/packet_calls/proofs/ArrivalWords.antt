@@ -10,7 +10,7 @@ use Rattle.kernel_model.specs.ValidQueues.{Place}
 use Rattle.kernel_model.specs.ValidQueues.Place.{Clock, Keyboard, Output, Pending, Work}
 use Rattle.kernel_model.specs.ValidTasks.{IsField}
 use Rattle.packet_calls.specs.Destinations.{queue_for}
-use Rattle.packet_calls.specs.QueueWords.{head_of, joined, state_with_packets}
+use Rattle.packet_calls.specs.QueueWords.{head_of, enqueued, state_with_packets}
 use Rattle.packet_calls.proofs.PlaceWords.{state_pairs, work-comes}
 
 -- every queue but the clock's
@@ -21,15 +21,15 @@ TakesAtEnd Keyboard = Unit {0}
 TakesAtEnd Output = Unit {0}
 TakesAtEnd Pending = Unit {0}
 
-pub joined-end : (s : List ℕ) (l : Lists) (at : Place) (ps : List QueuedPacket) (p : QueuedPacket) (due : ℕ) → TakesAtEnd at → HasPlace l at → AllByRecursion (λ t. IsField t.field) l.tasks
+pub enqueued-end : (s : List ℕ) (l : Lists) (at : Place) (ps : List QueuedPacket) (p : QueuedPacket) (due : ℕ) → TakesAtEnd at → HasPlace l at → AllByRecursion (λ t. IsField t.field) l.tasks
     → HeldQueue s (head_of (queue_for l at)) ps → Holds s (state_pairs l at ps)
-    → joined s (queue_for l at) p.address due
+    → enqueued s (queue_for l at) p.address due
     ≡ written (state_pairs l at (ps ++ p ∷ []) ++ ((link_behind (head_of (queue_for l at)) ps, p.address) ∷ (p.address, 0) ∷ [])) s
-joined-end s l (Work id) ps p due end has fields held state =
+enqueued-end s l (Work id) ps p due end has fields held state =
     let words = (append-exchange s (head_of (queue_for l (Work id))) ps p held).words in
     let bit = ap state_with_packets state.0 ∙ work-comes id l.tasks ps p has fields in
     λ i. set (words i) (address_of_task l id + 4) (bit i)
-joined-end s l Clock ps p due end has fields held state = absurd end
-joined-end s l Keyboard ps p due end has fields held state = (append-exchange s (head_of (queue_for l Keyboard)) ps p held).words
-joined-end s l Output ps p due end has fields held state = (append-exchange s (head_of (queue_for l Output)) ps p held).words
-joined-end s l Pending ps p due end has fields held state = (append-exchange s (head_of (queue_for l Pending)) ps p held).words
+enqueued-end s l Clock ps p due end has fields held state = absurd end
+enqueued-end s l Keyboard ps p due end has fields held state = (append-exchange s (head_of (queue_for l Keyboard)) ps p held).words
+enqueued-end s l Output ps p due end has fields held state = (append-exchange s (head_of (queue_for l Output)) ps p held).words
+enqueued-end s l Pending ps p due end has fields held state = (append-exchange s (head_of (queue_for l Pending)) ps p held).words

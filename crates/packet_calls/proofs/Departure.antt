@@ -31,7 +31,7 @@ use Rattle.kernel_model.proofs.QueueCounts.{owned-queue, owners-packet}
 use Rattle.kernel_model.proofs.QueuePlaces.{place-stands, place-there, with_queue-size}
 use Rattle.kernel_model.proofs.ReadQueues.{packets-some}
 use Rattle.packet_calls.specs.Destinations.{queue_for}
-use Rattle.packet_calls.specs.QueueWords.{head_of, left_queue, state_left}
+use Rattle.packet_calls.specs.QueueWords.{head_of, unqueued, state_left}
 use Rattle.packet_calls.proofs.PlaceWords.{place-exchange, state_pairs, work-goes}
 
 -- the head leads to the next packet then
@@ -134,11 +134,11 @@ module _ (s : List ℕ) (l : Lists) (at : Place) (p : QueuedPacket) (front back 
   abbrev links : Pairs
   links = (p.address, no_queue) ∷ (link, first_packet back) ∷ []
 
-  left-words : left_queue s (queue_for l at) p.address ≡ written (st (front ++ back) ++ links) s
+  left-words : unqueued s (queue_for l at) p.address ≡ written (st (front ++ back) ++ links) s
   left-words = on at has held-before state-holds
     where
       on : (x : Place) → HasPlace l x → HeldQueue s (head_of (queue_for l x)) (front ++ p ∷ back) → Holds s (state_pairs l x (front ++ p ∷ back))
-          → left_queue s (queue_for l x) p.address ≡ written (state_pairs l x (front ++ back) ++ (p.address, no_queue) ∷ (link_behind (head_of (queue_for l x)) front, first_packet back) ∷ []) s
+          → unqueued s (queue_for l x) p.address ≡ written (state_pairs l x (front ++ back) ++ (p.address, no_queue) ∷ (link_behind (head_of (queue_for l x)) front, first_packet back) ∷ []) s
       on (Work id) has held state =
           let head : ℕ = head_of (queue_for l (Work id)) in
           let words = (remove-exchange s head front p back held).words in
@@ -150,7 +150,7 @@ module _ (s : List ℕ) (l : Lists) (at : Place) (p : QueuedPacket) (front back 
       on Output has held state = (remove-exchange s (head_of (queue_for l Output)) front p back held).words
       on Pending has held state = (remove-exchange s (head_of (queue_for l Pending)) front p back held).words
 
-  pub departed-changed : (t : List ℕ) → AreValid m → t ≡ left_queue s (queue_for l at) p.address → IsChanged s t m ((p.address, no_queue) ∷ [])
+  pub departed-changed : (t : List ℕ) → AreValid m → t ≡ unqueued s (queue_for l at) p.address → IsChanged s t m ((p.address, no_queue) ∷ [])
   departed-changed t v is_t =
       exchange-changed s t l m _ _ ((p.address, no_queue) ∷ []) (st (front ++ back) ++ links) h v (with_queue-size at (front ++ back) l) moved
       (record {
@@ -175,7 +175,7 @@ module _ (s : List ℕ) (l : Lists) (at : Place) (p : QueuedPacket) (front back 
           ]
 
   -- its words but the link are as they were
-  pub others-kept : (a : ℕ) → p.address < a → a < p.address + 5 → get_or (left_queue s (queue_for l at) p.address) a 0 ≡ get_or s a 0
+  pub others-kept : (a : ℕ) → p.address < a → a < p.address + 5 → get_or (unqueued s (queue_for l at) p.address) a 0 ≡ get_or s a 0
   others-kept a low high =
       ap (λ z. get_or z a 0) left-words
       ∙ written-other a (st (front ++ back) ++ links) s

@@ -1,5 +1,5 @@
 -- What a task that takes a packet back leaves.
-use Rattle.std.proofs.Common.{◌≡◌, ℕ, ◌+◌, ◌<◌, ◌&&◌, ◌||◌, Bool, true, false, not, Option, Some, None, Ok, Err, List, [], ◌∷◌, ◌++◌, cond, eqb, is_some, length, set, refl, sym, ap, ◌∙◌, subst, arith}
+use Rattle.std.proofs.Common.{◌≡◌, ℕ, ◌+◌, ◌<◌, ◌&&◌, Bool, true, false, not, Option, Some, None, Ok, Err, List, [], ◌∷◌, ◌++◌, cond, eqb, is_some, length, set, refl, sym, ap, ◌∙◌, subst, arith}
 use Rattle.std.specs.List.{range_with_len}
 use Rattle.word_store.specs.Arithmetic.{signed}
 use Rattle.linked_list.specs.Count.{IsApart}
@@ -29,7 +29,7 @@ use Rattle.call_answers.proofs.MadeCalls.{made-accepted, made-refused}
 use Rattle.packet_calls.specs.Destinations.{is_destination, queue_for}
 use Rattle.packet_calls.specs.Dqpkt.{Search, dequeued, dqpkt, dqpkt_tests, found_in, is_residents_packet, searches}
 use Rattle.packet_calls.specs.PacketMoves.{departed, stands_in}
-use Rattle.packet_calls.specs.QueueWords.{head_of, left_queue}
+use Rattle.packet_calls.specs.QueueWords.{head_of, unqueued}
 use Rattle.packet_calls.specs.declared.dequeue.Found.{Found}
 use Rattle.packet_calls.proofs.Departure.{departed-changed, owners-departed, packet-inside}
 use Rattle.packet_calls.proofs.HeldPlaces.{StandsBetween, has-at, stands-at, stands-between}
@@ -106,9 +106,9 @@ module _ (s : List ℕ) (tells : List ℕ → Type 0) (room : ℕ) (l : Lists) (
       becomes : with_queue w.place (departed p (queue_of w.place l)) l ≡ m
       becomes = ap (λ ps. with_queue w.place ps l) between.others
 
-      module _ (v : List ℕ) (is : v ≡ left_queue s f.queue p) where
-        left-is : v ≡ left_queue s (queue_for l w.place) q.address
-        left-is = is ∙ (λ i. left_queue s (ap (λ (z : Found). z.queue) x.located i) (sym between.address i))
+      module _ (v : List ℕ) (is : v ≡ unqueued s f.queue p) where
+        left-is : v ≡ unqueued s (queue_for l w.place) q.address
+        left-is = is ∙ (λ i. unqueued s (ap (λ (z : Found). z.queue) x.located i) (sym between.address i))
 
         changed : IsChanged s v m ((q.address, no_queue) ∷ [])
         changed = departed-changed s l w.place q between.front between.back k.lists between.is v valid left-is

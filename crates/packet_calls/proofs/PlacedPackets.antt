@@ -21,9 +21,9 @@ use Rattle.kernel_model.specs.ValidQueues.Place.{Clock}
 use Rattle.kernel_model.specs.ValidTasks.{IsField}
 use Rattle.packet_calls.specs.Destinations.{queue_for}
 use Rattle.packet_calls.specs.PacketMoves.{arrived}
-use Rattle.packet_calls.specs.QueueWords.{head_of, joined}
+use Rattle.packet_calls.specs.QueueWords.{head_of, enqueued}
 use Rattle.packet_calls.proofs.Arrival.{AreOfPacket, arrived-changed, can-queue, held, owners-arrived, state-held}
-use Rattle.packet_calls.proofs.ArrivalWords.{TakesAtEnd, joined-end}
+use Rattle.packet_calls.proofs.ArrivalWords.{TakesAtEnd, enqueued-end}
 use Rattle.packet_calls.proofs.PlaceWords.{state_pairs}
 
 -- the words that are set, with the two links, are all of the packet's but those that are kept
@@ -55,12 +55,12 @@ module _ (s : List ℕ) (l base : Lists) (gone : Pairs) (at : Place) (q : Queued
   pub end-owners : (a : ℕ) → owners a (owned (with_queue at (ps ++ q ∷ []) base)) ≡ owners a (owned base) + times a (range_with_len q.address 5)
   end-owners = owners-arrived s l base gone at q ps [] h e distinct has whole v size some
 
-  pub end-changed : (t : List ℕ) (due : ℕ) → t ≡ joined (written ws s) (queue_for base at) q.address due → IsChanged s t (with_queue at (ps ++ q ∷ []) base) []
+  pub end-changed : (t : List ℕ) (due : ℕ) → t ≡ enqueued (written ws s) (queue_for base at) q.address due → IsChanged s t (with_queue at (ps ++ q ∷ []) base) []
   end-changed t due is =
       arrived-changed s l base gone at q ps [] h e distinct has whole v size some t
       ((link_behind (head_of (queue_for base at)) ps, q.address) ∷ (q.address, 0) ∷ []) ws kept (are_set (link_behind (head_of (queue_for base at)) ps)) stands
       (is
-      ∙ joined-end (written ws s) base at ps q due end has fields queue-held
+      ∙ enqueued-end (written ws s) base at ps q due end has fields queue-held
       (subst (λ z. Holds (written ws s) (state_pairs base at z)) (append-nil ps) (state-held s l base gone at q ps [] h e distinct has whole v size some ws own)))
 
 -- ---- at the clock
@@ -92,7 +92,7 @@ module _ (s : List ℕ) (l : Lists) (q : QueuedPacket) (ws kept : Pairs) (h : Ho
       ap (λ z. owners a (owned (with_queue Clock z l))) d.becomes
       ∙ owners-arrived s l l [] Clock q d.front d.back h none h.valid.tasks.distinct tt d.is (v d.front d.back d.is d.becomes) refl (some d.front d.back d.is) a
 
-  pub clock-changed : (t : List ℕ) → t ≡ joined (written ws s) (queue_for l Clock) q.address q.last → IsChanged s t (with_queue Clock (arrived Clock q l.clock) l) []
+  pub clock-changed : (t : List ℕ) → t ≡ enqueued (written ws s) (queue_for l Clock) q.address q.last → IsChanged s t (with_queue Clock (arrived Clock q l.clock) l) []
   clock-changed t is =
       let x : DueExchange (written ws s) (with_due (written ws s) clock_head q.address q.last) clock_head l.clock q = due-exchange (written ws s) clock_head l.clock q clock-held in
       subst (λ z. IsChanged s t (with_queue Clock z l) []) (sym x.becomes)

@@ -27,7 +27,7 @@ use Rattle.kernel_model.proofs.QueueCounts.{owners-packet}
 use Rattle.call_answers.specs.Made.{Leaves, minus_one}
 use Rattle.call_answers.proofs.FoundTask.{Finds, find-task}
 use Rattle.packet_calls.specs.Destinations.{queue_for}
-use Rattle.packet_calls.specs.QueueWords.{head_of, joined, with_results}
+use Rattle.packet_calls.specs.QueueWords.{head_of, enqueued, with_results}
 use Rattle.packet_calls.specs.Reply.{CanReply, reply, returned}
 use Rattle.packet_calls.specs.declared.queues.Queue.TheVariants.{OfTask}
 use Rattle.packet_calls.proofs.Arrival.{AreOfPacket}
@@ -104,12 +104,12 @@ module _ (s : List ℕ) (l : Lists) (p from res1 res2 : ℕ) (h : HoldsLists s l
       pub reply-packet : CanQueue (with_results s p from res1 res2) (queue_head task) p
       reply-packet = subst (λ z. CanQueue (with_results s p from res1 res2) (head_of z) p) queue-is packet
 
-      pub is-returned : (v : List ℕ) → v ≡ joined (with_results s p from res1 res2) (OfTask task) p 0 → Leaves s v (Ok minus_one) (reply s l p from res1 res2)
+      pub is-returned : (v : List ℕ) → v ≡ enqueued (with_results s p from res1 res2) (OfTask task) p 0 → Leaves s v (Ok minus_one) (reply s l p from res1 res2)
       is-returned v is =
           record {
             lists =
                 end-changed s l l [] at q ws kept h none h.valid.tasks.distinct r.there valid refl some tt fields own are_set (refl, tt) v 0
-                (is ∙ ap (λ z. joined (with_results s p from res1 res2) z p 0) (sym queue-is));
+                (is ∙ ap (λ z. enqueued (with_results s p from res1 res2) z p 0) (sym queue-is));
             answered = refl;
           }
 

@@ -27,7 +27,7 @@ use Rattle.kernel_model.proofs.QueuePlaces.{place-stands, with_queue-size}
 use Rattle.kernel_model.proofs.ReadQueues.{packets-some}
 use Rattle.packet_calls.specs.Destinations.{queue_for}
 use Rattle.packet_calls.specs.PacketMoves.{arrived, packet_at, sent_packet, with_arrived}
-use Rattle.packet_calls.specs.QueueWords.{due_in, due_tick, head_of, joined, sent_words}
+use Rattle.packet_calls.specs.QueueWords.{due_in, due_tick, head_of, enqueued, sent_words}
 use Rattle.packet_calls.proofs.Arrival.{AreOfPacket}
 use Rattle.packet_calls.proofs.ArrivalWords.{TakesAtEnd}
 use Rattle.packet_calls.proofs.DueOrder.{falls-inserted}
@@ -159,7 +159,7 @@ module _ (s : List ℕ) (l : Lists) (p sender : ℕ) (h : HoldsLists s l) (lodge
         packet = clock-packet s l q ws kept h none v some own (refl, (refl, tt)) set_words clock;
         changed = λ t is.
             clock-changed s l q ws kept h none v some own (refl, (refl, tt)) set_words clock t
-            (is ∙ ap (λ n. joined (set s (p + 1) sender) (queue_for l Clock) p (due_tick n (get_or s (p + 5) 0))) tick);
+            (is ∙ ap (λ n. enqueued (set s (p + 1) sender) (queue_for l Clock) p (due_tick n (get_or s (p + 5) 0))) tick);
         more = clock-owners s l q ws kept h none v some own (refl, (refl, tt)) set_words clock;
       }
 

@@ -33,21 +33,21 @@ abbrev pub state_left : ℕ → ℕ → ℕ
 state_left w next = if next == 0 then w - w % 2 else w
 
 -- the store in which the packet came into the queue: at the clock by its due tick, and else at the end
-abbrev pub joined : List ℕ → Queue → ℕ → ℕ → List ℕ
-joined s (OfTask t) p due = slice_set (appended s (queue_head t) p) (t + word_index State) (state_with_packets (state_of s t))
-joined s OfClock p due = with_due s clock_head p due
-joined s OfKeyboard p due = appended s keyboard_head p
-joined s OfOutput p due = appended s output_head p
-joined s OfReads p due = appended s pending_head p
+abbrev pub enqueued : List ℕ → Queue → ℕ → ℕ → List ℕ
+enqueued s (OfTask t) p due = slice_set (appended s (queue_head t) p) (t + word_index State) (state_with_packets (state_of s t))
+enqueued s OfClock p due = with_due s clock_head p due
+enqueued s OfKeyboard p due = appended s keyboard_head p
+enqueued s OfOutput p due = appended s output_head p
+enqueued s OfReads p due = appended s pending_head p
 
 -- the store in which the packet went out of the queue
-abbrev pub left_queue : List ℕ → Queue → ℕ → List ℕ
-left_queue s (OfTask t) p =
+abbrev pub unqueued : List ℕ → Queue → ℕ → List ℕ
+unqueued s (OfTask t) p =
     slice_set (unlinked s (queue_head t) p) (t + word_index State) (state_left (state_of s t) (slice_index (unlinked s (queue_head t) p) (queue_head t)))
-left_queue s OfClock p = unlinked s clock_head p
-left_queue s OfKeyboard p = unlinked s keyboard_head p
-left_queue s OfOutput p = unlinked s output_head p
-left_queue s OfReads p = unlinked s pending_head p
+unqueued s OfClock p = unlinked s clock_head p
+unqueued s OfKeyboard p = unlinked s keyboard_head p
+unqueued s OfOutput p = unlinked s output_head p
+unqueued s OfReads p = unlinked s pending_head p
 
 -- so many ticks from now on, or at the last tick that there is
 abbrev pub due_tick : ℕ → ℕ → ℕ
@@ -59,7 +59,7 @@ due_in s p = due_tick (slice_index s (root_address Tick)) (slice_index s (p + 5)
 
 -- the store in which the packet at p was sent by a task or a device to the queue
 abbrev pub sent_words : List ℕ → Queue → ℕ → ℕ → List ℕ
-sent_words s q p sender = joined (slice_set s (p + 1) sender) q p (due_in s p)
+sent_words s q p sender = enqueued (slice_set s (p + 1) sender) q p (due_in s p)
 
 -- the packet at p with another sender, and with other results
 abbrev pub with_results : List ℕ → ℕ → ℕ → ℕ → ℕ → List ℕ

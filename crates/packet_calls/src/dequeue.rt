@@ -13,7 +13,7 @@ ghost use Rattle.packet_calls.specs.Dqpkt.{dqpkt, found_in, found_in_own, is_res
 use crate::destinations::destination;
 use crate::events::dequeued;
 use crate::packets::{PACKET_WORDS, SENDER};
-use crate::queues::{Queue, has_packet, leave};
+use crate::queues::{Queue, has_packet, unqueue};
 use call_answers::caller;
 use call_answers::codes::{NO_DESTINATION, NOT_QUEUED, RESIDENT};
 use packet_queue::EventLog;
@@ -68,7 +68,7 @@ pub fn dqpkt<Q: KindKeeper, L: EventLog>(
     if is_residents_packet(store, p) {
         return Err(RESIDENT);
     }
-    leave(store, found.queue, p);
+    unqueue(store, found.queue, p);
     set_word_at(store, p, SENDER, found.answer);
     kinds.release(p, PACKET_WORDS);
     log.note(dequeued(found.number, p));

@@ -1,9 +1,9 @@
 // A packet's words, and the queues to which it is sent.
 ghost use Rattle.std.specs.Prelude.{◌≡◌, slice_set, ◌+◌};
 ghost use Rattle.packet_queue.specs.Queue.{CanQueue, HasQueue};
-ghost use Rattle.packet_calls.specs.QueueWords.{due_in, head_of, joined, sent_words, with_results};
+ghost use Rattle.packet_calls.specs.QueueWords.{due_in, head_of, enqueued, sent_words, with_results};
 
-use crate::queues::{Queue, join};
+use crate::queues::{Queue, enqueue};
 use task_block::{RootField, root};
 use word_store::{Store, set_word_at, word_at};
 
@@ -29,19 +29,19 @@ pub(crate) fn send(store: &mut Store, queue: Queue, p: u32, sender: u32)
 {
     let due = due_tick(store, p);
     set_word_at(store, p, SENDER, sender);
-    join(store, queue, p, due);
+    enqueue(store, queue, p, due);
 }
 
 /// Returns the packet with these results to the queue.
 pub(crate) fn give_back(store: &mut Store, queue: Queue, p: u32, sender: u32, res1: u32, res2: u32)
     requires queue { HasQueue (with_results store.old p sender res1 res2) (head_of queue) }
     requires packet { CanQueue (with_results store.old p sender res1 res2) (head_of queue) p }
-    ensures { store.new ≡ joined (with_results store.old p sender res1 res2) queue p 0 }
+    ensures { store.new ≡ enqueued (with_results store.old p sender res1 res2) queue p 0 }
 {
     set_word_at(store, p, SENDER, sender);
     set_word_at(store, p, RES1, res1);
     set_word_at(store, p, RES2, res2);
-    join(store, queue, p, 0);
+    enqueue(store, queue, p, 0);
 }
 
 // The tick at which the packet is due at the clock, or the last tick that there is.

@@ -2,7 +2,7 @@
 ghost use Rattle.std.specs.Prelude.{◌≡◌, true};
 ghost use Rattle.linked_list.specs.Places.{has};
 ghost use Rattle.packet_queue.specs.Queue.{CanQueue, HasQueue, queue_at};
-ghost use Rattle.packet_calls.specs.QueueWords.{head_of, joined, left_queue, state_left, state_with_packets};
+ghost use Rattle.packet_calls.specs.QueueWords.{head_of, enqueued, unqueued, state_left, state_with_packets};
 
 use packet_queue::{append, append_due, packets, remove};
 use task_block::{RootField, TcbField, field, set_field};
@@ -62,25 +62,25 @@ fn is_linked(store: &Store, head: u32, p: u32) -> bool
 }
 
 /// Puts the packet into the queue: at the clock by its due tick, and else at the end.
-pub(crate) fn join(store: &mut Store, queue: Queue, p: u32, due: u32)
+pub(crate) fn enqueue(store: &mut Store, queue: Queue, p: u32, due: u32)
     requires queue { HasQueue store.old (head_of queue) }
     requires packet { CanQueue store.old (head_of queue) p }
-    ensures { store.new ≡ joined store.old queue p due }
+    ensures { store.new ≡ enqueued store.old queue p due }
 {
     let head = head(store, queue);
     match queue {
-        Queue::OfTask(t) => join_work(store, t, head, p),
+        Queue::OfTask(t) => enqueue_work(store, t, head, p),
         Queue::OfClock => append_due(store, head, p, due),
         Queue::OfKeyboard | Queue::OfOutput | Queue::OfReads => append(store, head, p),
     }
 }
 
 // The packet comes to the end of the work queue at the head, and the state of its task says that packets wait.
-fn join_work(store: &mut Store, t: u32, head: u32, p: u32)
+fn enqueue_work(store: &mut Store, t: u32, head: u32, p: u32)
     requires queue { HasQueue store.old head }
     requires packet { CanQueue store.old head p }
     requires head { head ≡ head_of (Queue.OfTask t) }
-    ensures { store.new ≡ joined store.old (Queue.OfTask t) p 0 }
+    ensures { store.new ≡ enqueued store.old (Queue.OfTask t) p 0 }
 {
     let state = state_with_packets(field(store, t, TcbField::State));
     append(store, head, p);
@@ -95,14 +95,14 @@ fn state_with_packets(state: u32) -> u32
 }
 
 /// Takes the packet out of the queue.
-pub(crate) fn leave(store: &mut Store, queue: Queue, p: u32)
+pub(crate) fn unqueue(store: &mut Store, queue: Queue, p: u32)
     requires queue { HasQueue store.old (head_of queue) }
     requires packet { has p (queue_at store.old (head_of queue)) ≡ true }
-    ensures { store.new ≡ left_queue store.old queue p }
+    ensures { store.new ≡ unqueued store.old queue p }
 {
     let head = head(store, queue);
     match queue {
-        Queue::OfTask(t) => leave_work(store, t, head, p),
+        Queue::OfTask(t) => unqueue_work(store, t, head, p),
         Queue::OfClock | Queue::OfKeyboard | Queue::OfOutput | Queue::OfReads => {
             remove(store, head, p);
         }
@@ -110,11 +110,11 @@ pub(crate) fn leave(store: &mut Store, queue: Queue, p: u32)
 }
 
 // The packet goes out of the work queue at the head, and the state of its task says whether more of them wait.
-fn leave_work(store: &mut Store, t: u32, head: u32, p: u32)
+fn unqueue_work(store: &mut Store, t: u32, head: u32, p: u32)
     requires queue { HasQueue store.old head }
     requires packet { has p (queue_at store.old head) ≡ true }
     requires head { head ≡ head_of (Queue.OfTask t) }
-    ensures { store.new ≡ left_queue store.old (Queue.OfTask t) p }
+    ensures { store.new ≡ unqueued store.old (Queue.OfTask t) p }
 {
     let state = field(store, t, TcbField::State);
     remove(store, head, p);

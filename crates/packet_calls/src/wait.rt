@@ -11,7 +11,7 @@ ghost use Rattle.packet_calls.specs.TaskWait.{answer_of_wait, first_of_queue, ta
 
 use crate::events::taken;
 use crate::packets::{PACKET_WORDS, SENDER};
-use crate::queues::{Queue, leave};
+use crate::queues::{Queue, unqueue};
 use call_answers::caller;
 use packet_queue::EventLog;
 use task_block::{TcbField, field, set_field};
@@ -48,7 +48,7 @@ pub fn taskwait<Q: KindKeeper, L: EventLog>(
         return None;
     }
     let id = field(store, task, TcbField::Id);
-    leave(store, Queue::OfTask(task), p);
+    unqueue(store, Queue::OfTask(task), p);
     kinds.release(p, PACKET_WORDS);
     log.note(taken(id, p, word_at(store, p, SENDER)));
     Some(p)

@@ -85,8 +85,8 @@ returns-then-is_residents_packet-clause-notes g c = λ l k r.
     (some-found s (g.Q.KindKeeper.tells c.args.kinds.now) (g.Q.KindKeeper.room c.args.kinds.now) l c.args.id c.args.p k c.in_ok-found.found x)
     (sym (c.is_residents_packet.ensures l k.lists) ∙ c.if-is_residents_packet.true))
 
-pub leave-requires-clause-queue : goal.leave-requires-clause-queue
-leave-requires-clause-queue g c =
+pub unqueue-requires-clause-queue : goal.unqueue-requires-clause-queue
+unqueue-requires-clause-queue g c =
     let l = c.requires.0 in
     let k = c.requires.1 in
     let n : Names l c.args.id c.in_ok-named.named =
@@ -97,8 +97,8 @@ leave-requires-clause-queue g c =
     in
     found-queue c.args.store.now (g.Q.KindKeeper.tells c.args.kinds.now) (g.Q.KindKeeper.room c.args.kinds.now) l c.args.id c.args.p k c.in_ok-found.found x
 
-pub leave-requires-clause-packet : goal.leave-requires-clause-packet
-leave-requires-clause-packet g c =
+pub unqueue-requires-clause-packet : goal.unqueue-requires-clause-packet
+unqueue-requires-clause-packet g c =
     let l = c.requires.0 in
     let k = c.requires.1 in
     let n : Names l c.args.id c.in_ok-named.named =
@@ -118,7 +118,7 @@ returns-clause-made g c = λ l k r.
     is-found l c.args.id c.args.p c.in_ok-found.found (sym (found-some c.find_packet.result c.in_ok-found.found 19 c.in_ok-found.ensures.value) ∙ c.find_packet.ensures l k.lists r n.is n.queue)
     in
     is-dequeued c.args.store.now (g.Q.KindKeeper.tells c.args.kinds.now) (g.Q.KindKeeper.room c.args.kinds.now) l c.args.id c.args.p k c.in_ok-found.found x n.is
-    (sym (c.is_residents_packet.ensures l k.lists) ∙ c.if-is_residents_packet.false) c.leave.new.store c.leave.ensures c.set_word_at.new.store (g.Q.KindKeeper.tells c.release.new.self)
+    (sym (c.is_residents_packet.ensures l k.lists) ∙ c.if-is_residents_packet.false) c.unqueue.new.store c.unqueue.ensures c.set_word_at.new.store (g.Q.KindKeeper.tells c.release.new.self)
     c.set_word_at.ensures c.release.ensures.tells
 
 pub returns-clause-notes : goal.returns-clause-notes

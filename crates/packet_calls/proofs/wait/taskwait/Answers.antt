@@ -28,20 +28,20 @@ returns-then-p-eq0-clause-notes g c = λ l k r.
     none-noted c.args.store.now (g.Q.KindKeeper.tells c.args.kinds.now) (g.Q.KindKeeper.room c.args.kinds.now) l c.caller-task.result k r (c.caller-task.ensures l k.lists r)
     (g.L.EventLog.noted c.args.log.now) (g.L.EventLog.has_failed c.args.log.now) (sym c.field-p.ensures ∙ c.if-p-eq0.true)
 
-pub leave-requires-clause-queue : goal.leave-requires-clause-queue
-leave-requires-clause-queue g c =
+pub unqueue-requires-clause-queue : goal.unqueue-requires-clause-queue
+unqueue-requires-clause-queue g c =
     wait-queue c.args.store.now (g.Q.KindKeeper.tells c.args.kinds.now) (g.Q.KindKeeper.room c.args.kinds.now) c.requires.0 c.caller-task.result c.requires.1 c.requires.2
     (c.caller-task.ensures c.requires.0 c.requires.1.lists c.requires.2) c.field-p.result c.field-p.ensures c.if-p-eq0.false
 
-pub leave-requires-clause-packet : goal.leave-requires-clause-packet
-leave-requires-clause-packet g c =
+pub unqueue-requires-clause-packet : goal.unqueue-requires-clause-packet
+unqueue-requires-clause-packet g c =
     wait-packet c.args.store.now (g.Q.KindKeeper.tells c.args.kinds.now) (g.Q.KindKeeper.room c.args.kinds.now) c.requires.0 c.caller-task.result c.requires.1 c.requires.2
     (c.caller-task.ensures c.requires.0 c.requires.1.lists c.requires.2) c.field-p.result c.field-p.ensures c.if-p-eq0.false
 
 pub returns-clause-made : goal.returns-clause-made
 returns-clause-made g c = λ l k r.
     some-taken c.args.store.now (g.Q.KindKeeper.tells c.args.kinds.now) (g.Q.KindKeeper.room c.args.kinds.now) l c.caller-task.result k r (c.caller-task.ensures l k.lists r)
-    c.field-p.result c.field-p.ensures c.if-p-eq0.false c.leave.new.store (g.Q.KindKeeper.tells c.release.new.self) c.leave.ensures c.release.ensures.tells
+    c.field-p.result c.field-p.ensures c.if-p-eq0.false c.unqueue.new.store (g.Q.KindKeeper.tells c.release.new.self) c.unqueue.ensures c.release.ensures.tells
 
 pub returns-clause-packet : goal.returns-clause-packet
 returns-clause-packet g c = λ l k r.
@@ -51,7 +51,7 @@ returns-clause-packet g c = λ l k r.
 pub returns-clause-notes : goal.returns-clause-notes
 returns-clause-notes g c = λ l k r.
     some-noted c.args.store.now (g.Q.KindKeeper.tells c.args.kinds.now) (g.Q.KindKeeper.room c.args.kinds.now) l c.caller-task.result k r (c.caller-task.ensures l k.lists r)
-    c.field-p.result c.field-p.ensures c.if-p-eq0.false c.leave.new.store (g.L.EventLog.noted c.args.log.now) (g.L.EventLog.noted c.note.new.self) (g.L.EventLog.has_failed c.args.log.now)
-    (g.L.EventLog.has_failed c.note.new.self) c.leave.ensures
+    c.field-p.result c.field-p.ensures c.if-p-eq0.false c.unqueue.new.store (g.L.EventLog.noted c.args.log.now) (g.L.EventLog.noted c.note.new.self) (g.L.EventLog.has_failed c.args.log.now)
+    (g.L.EventLog.has_failed c.note.new.self) c.unqueue.ensures
     (subst (λ e. Notes (g.L.EventLog.noted c.args.log.now) (g.L.EventLog.noted c.note.new.self) (g.L.EventLog.has_failed c.args.log.now) (g.L.EventLog.has_failed c.note.new.self) e)
     (c.taken.ensures ∙ (λ i. Taken (signed (c.field-id.ensures i)) c.field-p.result (signed (c.word_at.ensures i)))) c.note.ensures)
