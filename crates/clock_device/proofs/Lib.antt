@@ -1,4 +1,4 @@
 pub mod TickLists
-pub mod ReturnedPacket
+pub mod FirstDue
 pub mod ReturnedPackets
 pub mod WholeTick

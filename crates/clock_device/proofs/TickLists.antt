@@ -1,8 +1,8 @@
 -- The ticks are another number.
-use Rattle.std.proofs.Common.{◌≡◌, ℕ, ◌-◌, List, [], ◌∷◌, ◌++◌, set, refl, sym, arith}
+use Rattle.std.proofs.Common.{get_or, ◌≡◌, ℕ, ◌-◌, List, [], ◌∷◌, ◌++◌, set, refl, sym, arith}
 use Rattle.std.specs.List.{AllByRecursion}
 use Rattle.owned_words.specs.Exchange.{Exchange}
-use Rattle.owned_words.specs.Owned.{Pairs, row_from}
+use Rattle.owned_words.specs.Owned.{Pairs, owners, row_from}
 use Rattle.owned_words.proofs.Exchanges.{exchange-left}
 use Rattle.getvec_chain.specs.BlockWords.{blocks_words}
 use Rattle.hunk_loader.specs.ModuleExchanges.{modules_words}
@@ -23,7 +23,7 @@ use Rattle.kernel_model.proofs.ChangedLists.{exchange-owned, owners-exchanged}
 use Rattle.kernel_model.proofs.EachMember.{all-each}
 use Rattle.kernel_model.proofs.OwnerCounts.{owns-without}
 use Rattle.kernel_model.proofs.RulesKept.{CoroutinesStand-same, IsTask-kept, MayStand-more, TasksStand-same}
-use Rattle.clock_device.specs.Tick.{OwnSame, with_tick}
+use Rattle.clock_device.specs.Tick.{with_tick}
 
 -- the words of the root behind that of the ticks
 abbrev behind : Lists → Pairs
@@ -42,7 +42,7 @@ tick-exchange l now =
       then' = record { count = λ a. omega arith; opens = λ s h. ((h.0, (h.1.0, (h.1.1.0, h.1.1.1.1))), (h.1.1.1.0, tt)); closes = λ s h k. (h.0, (h.1.0, (h.1.1.0, (k.0, h.1.1.1)))) };
     })
 
-pub tick-owned : (l : Lists) (now : ℕ) → OwnSame l (with_tick now l)
+pub tick-owned : (l : Lists) (now a : ℕ) → owners a (owned (with_tick now l)) ≡ owners a (owned l)
 tick-owned l now a = sym (owners-exchanged (owned l) (owned (with_tick now l)) _ _ a (tick-exchange l now) refl)
 
 tick-valid : (l : Lists) (now : ℕ) → AreValid l → AreValid (with_tick now l)
@@ -79,3 +79,8 @@ tick-valid l now v =
 
 pub tick-changed : (s t : List ℕ) (l : Lists) (now : ℕ) → HoldsLists s l → t ≡ set s 108 now → IsChanged s t (with_tick now l) []
 tick-changed s t l now h is = exchange-owned s t l (with_tick now l) _ _ h (tick-valid l now h.valid) refl (tick-exchange l now) is
+
+-- the ticks, as the store has them
+pub tick-told : (s : List ℕ) (l : Lists) → HoldsLists s l → get_or s 108 0 ≡ l.tick
+unfolding owned
+tick-told s l h = h.holds.1.1.1.0

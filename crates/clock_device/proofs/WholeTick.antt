@@ -6,17 +6,11 @@ use Rattle.kernel_model.specs.HoldsLists.{HoldsLists}
 use Rattle.kernel_model.specs.Lists.{Lists}
 use Rattle.kernel_model.specs.NotedEvents.{NotesAll}
 use Rattle.kernel_model.proofs.ChangedLists.{changed-then}
-use Rattle.packet_calls.proofs.SentPackets.{tick-told}
-use Rattle.clock_device.specs.Tick.{OwnSame, due_events, tick_events, ticked, with_due_returned, with_tick}
-use Rattle.clock_device.proofs.TickLists.{tick-changed, tick-owned}
+use Rattle.device_returns.specs.Returned.{IsServed, Served}
+use Rattle.clock_device.specs.Tick.{due_returned, ticked, with_tick}
+use Rattle.clock_device.proofs.TickLists.{tick-changed, tick-owned, tick-told}
 
 module _ (s v : List ℕ) (l : Lists) (was : ℕ) (h : HoldsLists s l) (is_was : was ≡ get_or s 108 0) (is : v ≡ set s 108 (was + 1)) where
-  now-is : was + 1 ≡ l.tick + 1
-  now-is = ap (λ n. n + 1) (is_was ∙ tick-told s l h)
-
-  pub was-tick : was ≡ l.tick
-  was-tick = is_was ∙ tick-told s l h
-
   abbrev after : Lists
   after = with_tick (was + 1) l
 
@@ -26,15 +20,16 @@ module _ (s v : List ℕ) (l : Lists) (was : ℕ) (h : HoldsLists s l) (is_was :
   pub tick-held : HoldsLists v after
   tick-held = changed.lists
 
-  whole : with_due_returned (was + 1) after ≡ ticked l
-  whole = λ i. with_due_returned (now-is i) (with_tick (now-is i) l)
+  whole : due_returned (was + 1) after ≡ ticked l
+  whole = (let now : was + 1 ≡ l.tick + 1 = ap (λ n. n + 1) (is_was ∙ tick-told s l h) in λ i. due_returned (now i) (with_tick (now i) l))
 
-  pub tick-owns : OwnSame after (with_due_returned (was + 1) after) → OwnSame l (ticked l)
-  tick-owns own = subst (OwnSame l) whole (λ a. own a ∙ tick-owned l (was + 1) a)
+  pub tick-served : (u : List ℕ) → IsServed v u after (due_returned (was + 1) after) → IsServed s u l (ticked l)
+  tick-served u served =
+      subst (IsServed s u l) whole
+      (record {
+        lists = changed-then s v u after (due_returned (was + 1) after).lists [] changed served.lists (λ a none. sym (served.same a) ∙ none);
+        same = λ a. served.same a ∙ tick-owned l (was + 1) a;
+      })
 
-  pub tick-leaves : (u : List ℕ) → OwnSame after (with_due_returned (was + 1) after) → IsChanged v u (with_due_returned (was + 1) after) [] → IsChanged s u (ticked l) []
-  tick-leaves u own returned =
-      subst (λ m. IsChanged s u m []) whole (changed-then s v u after (with_due_returned (was + 1) after) [] changed returned (λ a none. sym (own a) ∙ none))
-
-  pub tick-noted : (before now : Option (List KernelEvent)) (b d : Bool) → NotesAll before now b d (due_events (was + 1) after) → NotesAll before now b d (tick_events l)
-  tick-noted before now b d notes = subst (λ n. NotesAll before now b d (due_events n l)) now-is notes
+  pub tick-noted : (before now : Option (List KernelEvent)) (b d : Bool) → NotesAll before now b d (due_returned (was + 1) after).events → NotesAll before now b d (ticked l).events
+  tick-noted before now b d notes = subst (λ (z : Served). NotesAll before now b d z.events) whole notes

@@ -6,10 +6,10 @@ use Rattle.kernel_model.specs.Owned.{clock_head}
 use Rattle.clock_device.proofs.ReturnedPackets.{HasReturned}
 use Rattle.clock_device.proofs.ticks.return_due.Given as goal
 
-abbrev pub invariant-loop-p : goal.invariant-loop-p
-invariant-loop-p g l =
+abbrev pub invariant-loop-store : goal.invariant-loop-store
+invariant-loop-store g l =
     (m : Lists) → HoldsLists l.fn.store m
     → HasReturned l.fn.store l.store l.now m (g.L.EventLog.noted l.fn.log) (g.L.EventLog.noted l.log) (g.L.EventLog.has_failed l.fn.log) (g.L.EventLog.has_failed l.log)
 
-abbrev pub decreases-loop-p : goal.decreases-loop-p
-decreases-loop-p g l = length (queue_at l.store clock_head)
+abbrev pub decreases-loop-store : goal.decreases-loop-store
+decreases-loop-store g l = length (queue_at l.store clock_head)

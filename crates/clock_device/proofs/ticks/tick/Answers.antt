@@ -1,8 +1,8 @@
 use Rattle.std.proofs.Common.{arith, ◌+◌}
 use Rattle.kernel_model.specs.Lists.{Lists}
 use Rattle.clock_device.specs.Tick.{with_tick}
-use Rattle.packet_calls.proofs.SentPackets.{tick-told}
-use Rattle.clock_device.proofs.WholeTick.{tick-held, tick-leaves, tick-noted, tick-owns}
+use Rattle.clock_device.proofs.TickLists.{tick-told}
+use Rattle.clock_device.proofs.WholeTick.{tick-held, tick-noted, tick-served}
 use Rattle.clock_device.proofs.ticks.tick.Goals as goal
 
 pub overflow_add-now : goal.overflow_add-now
@@ -15,19 +15,11 @@ return_due-requires g c =
 
 pub returns-clause-lists : goal.returns-clause-lists
 returns-clause-lists g c = λ l h low.
-    let m : Lists = with_tick (c.root-now.result + 1) l in
-    let held = tick-held c.args.store.now c.set_root.new.store l c.root-now.result h c.root-now.ensures c.set_root.ensures in
-    tick-leaves c.args.store.now c.set_root.new.store l c.root-now.result h c.root-now.ensures c.set_root.ensures c.return_due.new.store (c.return_due.ensures.owned m held) (c.return_due.ensures.lists m held)
-
-pub returns-clause-owned : goal.returns-clause-owned
-returns-clause-owned g c = λ l h low.
-    let m : Lists = with_tick (c.root-now.result + 1) l in
-    let held = tick-held c.args.store.now c.set_root.new.store l c.root-now.result h c.root-now.ensures c.set_root.ensures in
-    tick-owns c.args.store.now c.set_root.new.store l c.root-now.result h c.root-now.ensures c.set_root.ensures (c.return_due.ensures.owned m held)
+    tick-served c.args.store.now c.set_root.new.store l c.root-now.result h c.root-now.ensures c.set_root.ensures c.return_due.new.store
+    (c.return_due.ensures.lists (with_tick (c.root-now.result + 1) l) (tick-held c.args.store.now c.set_root.new.store l c.root-now.result h c.root-now.ensures c.set_root.ensures))
 
 pub returns-clause-notes : goal.returns-clause-notes
 returns-clause-notes g c = λ l h low.
-    let m : Lists = with_tick (c.root-now.result + 1) l in
-    let held = tick-held c.args.store.now c.set_root.new.store l c.root-now.result h c.root-now.ensures c.set_root.ensures in
     tick-noted c.args.store.now c.set_root.new.store l c.root-now.result h c.root-now.ensures c.set_root.ensures (g.L.EventLog.noted c.args.log.now) (g.L.EventLog.noted c.return_due.new.log)
-    (g.L.EventLog.has_failed c.args.log.now) (g.L.EventLog.has_failed c.return_due.new.log) (c.return_due.ensures.notes m held)
+    (g.L.EventLog.has_failed c.args.log.now) (g.L.EventLog.has_failed c.return_due.new.log)
+    (c.return_due.ensures.notes (with_tick (c.root-now.result + 1) l) (tick-held c.args.store.now c.set_root.new.store l c.root-now.result h c.root-now.ensures c.set_root.ensures))
