@@ -9,7 +9,6 @@ pub mod CallerTask
 pub mod WaitCall
 pub mod PlacedPackets
 pub mod SentPackets
-pub mod OwnedMarks
 pub mod PacketTests
 pub mod NamedQueues
 pub mod SendCall

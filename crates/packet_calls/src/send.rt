@@ -13,12 +13,13 @@ ghost use Rattle.packet_calls.specs.Qpkt.{is_lodged, packet_tests, qpkt};
 use crate::destinations::destination;
 use crate::events::accepted;
 use crate::packets::{PACKET_WORDS, SENDER, send};
+use block_calls::are_unowned;
 use call_answers::caller;
 use call_answers::codes::{LINK_IN_USE, MISPLACED, NO_DESTINATION};
 use getvec_chain::{Block, block_of};
 use packet_queue::{EventLog, NO_QUEUE};
 use task_block::{TcbField, field};
-use word_kinds::{KindKeeper, clear};
+use word_kinds::KindKeeper;
 use word_store::{Store, word, word_at};
 
 /// Sends the packet at p to the task or the device that its word 1 names; this word has then the number of the task that
@@ -66,7 +67,7 @@ fn check_packet<Q: KindKeeper>(store: &Store, kinds: &Q, p: u32) -> Result<(), u
     if word(store, p) != NO_QUEUE {
         return Err(LINK_IN_USE);
     }
-    if !clear(kinds, store, p, PACKET_WORDS) {
+    if !are_unowned(store, kinds, p, PACKET_WORDS) {
         return Err(MISPLACED);
     }
     Ok(())
