@@ -1,5 +1,5 @@
 -- What the end of the running guest's function leaves.
-use Rattle.std.proofs.Common.{◌≡◌, ℕ, ◌+◌, ◌%◌, Bool, true, false, List, [], ◌∷◌, get_or, set, inl, inr, refl, sym, ap, ◌∙◌, subst}
+use Rattle.std.proofs.Common.{◌≡◌, ℕ, ◌+◌, ◌%◌, Bool, true, false, List, [], ◌∷◌, get_or, set, inr, refl, sym, ap, ◌∙◌, subst}
 use Rattle.owned_words.specs.Exchange.{Exchange}
 use Rattle.owned_words.specs.LinkedWords.{first_of}
 use Rattle.owned_words.proofs.Exchanges.{exchange-left, exchange-right, exchange-row}

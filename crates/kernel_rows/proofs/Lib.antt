@@ -1,5 +1,5 @@
 pub mod DeadTask
-pub mod MayBegin
+pub mod NewGuest
 pub mod PlainWrites
-pub mod ReadTexts
+pub mod TextOutcomes
 pub mod RunningStates

@@ -1,5 +1,5 @@
 -- A plain word is written.
-use Rattle.std.proofs.Common.{◌≡◌, ℕ, zero, suc, ◌<◌, false, true, List, [], ◌∷◌, set, refl, sym, ap, ◌∙◌, arith, get_or-set_other}
+use Rattle.std.proofs.Common.{◌≡◌, ℕ, zero, suc, false, true, List, [], ◌∷◌, set, refl, sym, ap, ◌∙◌, arith, get_or-set_other}
 use Rattle.std.proofs.lemmas.List.{length-set}
 use Rattle.owned_words.specs.Owned.{Holds, owners}
 use Rattle.owned_words.proofs.OwnedWords.{Holds-same}

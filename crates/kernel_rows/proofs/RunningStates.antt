@@ -1,18 +1,15 @@
 -- What the states of tasks tell of the one that runs: whether it may call, and whether a dispatch may be made.
-use Rattle.std.specs.Prelude.{◌↔◌, nat_le, nat_lt}
-use Rattle.std.proofs.Common.{◌≡◌, ℕ, ◌≤◌, ◌<◌, ◌+◌, Bool, true, false, not, ◌||◌, ◌&&◌, cond, eqb, leb, List, [], ◌∷◌, get_or, map, ◌⊎◌, inl, inr, refl, ap, ◌∙◌, sym, subst, arith}
+use Rattle.std.specs.Prelude.{nat_le, nat_lt}
+use Rattle.std.proofs.Common.{◌≡◌, ℕ, Bool, true, false, not, ◌||◌, ◌&&◌, cond, eqb, List, [], ◌∷◌, get_or, map, ◌⊎◌, inl, inr, refl, ap, ◌∙◌, sym}
 use Rattle.std.specs.List.{AllByRecursion, list_all}
 use Rattle.std.proofs.lemmas.Bool.{eq-eqb, eqb-true, ne_eqb}
-use Rattle.std.proofs.lemmas.Bool.Decides.{nat_tests}
-use Rattle.std.proofs.lemmas.List.Folds.{list_all-map}
 use Rattle.word_store.specs.declared.registers.Regs.{Regs}
 use Rattle.packet_queue.specs.QueueWords.{QueuedPacket}
 use Rattle.task_block.specs.TaskChain.{id_in, tasks_in}
 use Rattle.kernel_model.specs.HoldsLists.{HoldsLists}
 use Rattle.kernel_model.specs.Lists.{Lists, has_task}
-use Rattle.kernel_model.specs.ReadsLists.{ReadsLists}
 use Rattle.kernel_model.specs.Recovered.{lists_in, number_of}
-use Rattle.kernel_model.specs.Task.{Task, is_guest_id, state_word, task_address, task_id}
+use Rattle.kernel_model.specs.Task.{Task, is_guest_id, state_word, task_address}
 use Rattle.kernel_model.specs.ValidTasks.{IsField, IsTask}
 use Rattle.kernel_model.proofs.AllThings.{all-from_both}
 use Rattle.kernel_model.proofs.EachMember.{all-both, all-each}

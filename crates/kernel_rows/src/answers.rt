@@ -1,14 +1,16 @@
 // Calls that answer at once: the console, arithmetic, quit, and a number of no call.
 use crate::two_guests::two_guests;
 use crate::{Row, wrong_row};
-use std::test::Fail;
-
 use Row::{Call, Turn};
+use std::test::Fail;
 
 /// The words of -1, -2, -6 and -10.
 const MINUS_ONE: u32 = u32::MAX;
+
 const MINUS_TWO: u32 = u32::MAX - 1;
+
 const MINUS_SIX: u32 = u32::MAX - 5;
+
 const MINUS_TEN: u32 = u32::MAX - 9;
 
 const ANSWERS: &[Row] = &[

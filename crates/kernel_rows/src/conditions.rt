@@ -64,8 +64,8 @@ pub(crate) fn is_within(store: &Store) -> bool
     field(store, caller(store), TcbField::CurrentCo) != 0
 }
 
-// The number of the running task, or 0 where nobody runs.
-fn running_id(store: &Store) -> u32
+/// The number of the running task, or 0 where nobody runs.
+pub(crate) fn running_id(store: &Store) -> u32
     requires { (l : Lists) × HoldsLists store.now l }
     ensures { (l : Lists) → HoldsLists store.now l → result ≡ l.running }
 {

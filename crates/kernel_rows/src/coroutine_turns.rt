@@ -1,9 +1,8 @@
 // Coroutines: two of one task.
 use crate::two_guests::two_guests;
 use crate::{Row, wrong_row};
-use std::test::Fail;
-
 use Row::{Call, End, Put, Turn, Word};
+use std::test::Fail;
 
 /// The answer -1, and the link of a packet on no queue.
 const MINUS_ONE: u32 = u32::MAX;

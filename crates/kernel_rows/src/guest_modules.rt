@@ -1,9 +1,8 @@
 // Modules: taken out, and added to a task.
 use crate::two_guests::{MODULE, two_guests};
 use crate::{Row, wrong_row};
-use std::test::Fail;
-
 use Row::{Call, Put, Turn, Word};
+use std::test::Fail;
 
 /// The answer -1, and the link of a packet on no queue.
 const MINUS_ONE: u32 = u32::MAX;

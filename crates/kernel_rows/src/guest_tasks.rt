@@ -1,9 +1,8 @@
 // Tasks: made, changed, held, and deleted once they are dead.
 use crate::two_guests::{MODULE, two_guests};
 use crate::{Guests, Row, wrong_row};
-use std::test::Fail;
-
 use Row::{Call, End, Put, Turn, Word};
+use std::test::Fail;
 
 /// The answer -1, the link of a packet on no queue, and the clock.
 const MINUS_ONE: u32 = u32::MAX;

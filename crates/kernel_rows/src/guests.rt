@@ -1,8 +1,11 @@
 // A kernel with guests.
-ghost use Rattle.std.specs.Prelude.{◌≡◌, ◌^◌, ◌<◌, IsTrue, length, slice_index};
+ghost use Rattle.std.specs.Prelude.{◌≡◌, ◌^◌, ◌<◌, IfOk, IsFalse, IsTrue, length, slice_index, slice_set};
 ghost use Rattle.session_text.specs.Ranges.{IsVersion, is_period, is_store_size};
+ghost use Rattle.kernel_model.specs.HoldsLists.{HoldsLists};
+ghost use Rattle.kernel_model.specs.Lists.{Lists};
+ghost use Rattle.kernel_boot.specs.EmptyKernel.{empty_lists};
 
-use crate::conditions::{NO_REGS, can_dispatch, has_caller, is_within};
+use crate::conditions::{NO_REGS, can_dispatch, has_caller, is_within, running_id};
 use crate::endings::end_caller;
 use crate::plain_words::set_plain;
 use call_answers::guest;
@@ -15,7 +18,6 @@ use module_calls::load_module;
 use packet_queue::{KernelEvent, ListLog};
 use std::alloc::Global;
 use std::marker::Model;
-use task_block::{RootField, TcbField, field, root};
 use task_calls::create_task;
 use tp_io::{Output, WantMemory};
 use word_kinds::Walk;
@@ -49,15 +51,11 @@ impl Model for Guests {
 impl Guests {
     /// A kernel of the version with no guests and modules, in a store of so many words, whose clock ticks each `period` steps.
     /// `WantMemory` comes only where memory could not be had.
-    pub fn new(
-        alloc: Global,
-        words: u32,
-        version: u32,
-        period: u32,
-    ) -> Result<Guests, WantMemory>
+    pub fn new(alloc: Global, words: u32, version: u32, period: u32) -> Result<Guests, WantMemory>
         requires version { IsVersion version }
         requires size { IsTrue (is_store_size version words) }
         requires period { IsTrue (is_period period) }
+        ensures { IfOk result (λ g. HoldsLists g (empty_lists version period words)) }
     {
         let Ok(mut store) = Store::new(alloc, words) else {
             return Err(WantMemory);
@@ -94,7 +92,9 @@ impl Guests {
     }
 
     /// Lets the guest begin at its function once it is its turn. The answer is false where there is no such guest.
-    pub fn begin(&mut self, id: u32) -> bool {
+    pub fn begin(&mut self, id: u32) -> bool
+        ensures { IsFalse result → self.new ≡ self.old }
+    {
         if guest(&self.store, id).is_err() {
             return false;
         }
@@ -103,7 +103,9 @@ impl Guests {
     }
 
     /// Lets the first ready task run. The answer is false where a dispatch may not be made.
-    pub fn dispatch(&mut self) -> bool {
+    pub fn dispatch(&mut self) -> bool
+        ensures { IsFalse result → self.new ≡ self.old }
+    {
         if !can_dispatch(&self.store, self.regs) {
             return false;
         }
@@ -118,7 +120,9 @@ impl Guests {
 
     /// Lets the running guest's function return: that of its coroutine, whose parent goes on with what A holds, or else its first
     /// one, and then it is dead. The answer is false where no guest runs.
-    pub fn end(&mut self) -> bool {
+    pub fn end(&mut self) -> bool
+        ensures { IsFalse result → self.new ≡ self.old }
+    {
         if !has_caller(&self.store) {
             return false;
         }
@@ -131,7 +135,10 @@ impl Guests {
     }
 
     /// Writes a plain word. The answer is false where there is no plain word at the address.
-    pub fn set(&mut self, a: u32, w: u32) -> bool {
+    pub fn set(&mut self, a: u32, w: u32) -> bool
+        ensures writes { IsTrue result → self.new ≡ slice_set self.old a w }
+        ensures keeps { IsFalse result → self.new ≡ self.old }
+    {
         set_plain(&mut self.store, &self.kinds, a, w)
     }
 
@@ -163,11 +170,10 @@ impl Guests {
     }
 
     /// The number of the running task, or 0 where nobody runs.
-    pub fn running(&self) -> u32 {
-        match root(&self.store, RootField::Running) {
-            0 => 0,
-            task => field(&self.store, task, TcbField::Id),
-        }
+    pub fn running(&self) -> u32
+        ensures { (l : Lists) → HoldsLists self.now l → result ≡ l.running }
+    {
+        running_id(&self.store)
     }
 
     /// The registers.

@@ -1,14 +1,15 @@
 // Packets: where they may lie, how they are queued, taken and taken back.
 use crate::two_guests::two_guests;
 use crate::{Row, wrong_row};
+use Row::{Call, Put, Turn, Word};
 use packet_queue::KernelEvent;
 use std::test::Fail;
 
-use Row::{Call, Put, Turn, Word};
-
 /// The answer -1, the link of a packet on no queue, and the clock; then the keyboard and the output.
 const MINUS_ONE: u32 = u32::MAX;
+
 const KEYBOARD: u32 = u32::MAX - 1;
+
 const OUTPUT: u32 = u32::MAX - 2;
 
 // A packet of a block of one's own, one that overlaps it, a packet of the stack, and one of a free block.

@@ -1,4 +1,4 @@
-use Rattle.std.proofs.Common.{◌≡◌, sym, ap, ◌∙◌, subst, arith}
+use Rattle.std.proofs.Common.{sym, ◌∙◌, subst, arith}
 use Rattle.kernel_model.specs.HoldsLists.{HoldsLists}
 use Rattle.kernel_model.proofs.RangesOwned.{ranges-owned}
 use Rattle.kernel_model.proofs.WalkedLists.{can-walk}

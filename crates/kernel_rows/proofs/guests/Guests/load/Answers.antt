@@ -3,7 +3,7 @@ use Rattle.kernel_model.specs.HoldsLists.{HoldsLists}
 use Rattle.kernel_model.specs.Lists.{Lists}
 use Rattle.call_answers.specs.Made.{refused}
 use Rattle.module_calls.specs.LoadModule.{load_module}
-use Rattle.kernel_rows.proofs.ReadTexts.{by-text}
+use Rattle.kernel_rows.proofs.TextOutcomes.{by-text}
 use Rattle.kernel_rows.proofs.guests.Guests.load.Goals as goal
 
 pub invariant_of-self : goal.invariant_of-self

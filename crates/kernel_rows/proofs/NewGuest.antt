@@ -1,7 +1,6 @@
 -- A guest of one module may be made.
 use Rattle.std.proofs.Common.{ℕ, ◌≤◌, [], ◌∷◌, cond, eqb, true, false, inl, refl, arith}
 use Rattle.kernel_model.specs.Lists.{Lists}
-use Rattle.kernel_model.specs.Versions.{most_modules_of}
 use Rattle.task_calls.specs.CreateTask.{MayCreate}
 
 pub may-create : (l : Lists) (m : ℕ) → MayCreate l 0 (m ∷ []) 0
