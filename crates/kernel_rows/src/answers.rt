@@ -1,10 +1,11 @@
 // Calls that answer at once: the console, arithmetic, quit, and a number of no call.
+use crate::call_numbers::{MULDIV, NO_CALL, QUIT, WRCH};
 use crate::two_guests::two_guests;
 use crate::{Row, wrong_row};
 use Row::{Call, Turn};
 use std::test::Fail;
 
-/// The words of -1, -2, -6 and -10.
+/// Negative numbers, as words.
 const MINUS_ONE: u32 = u32::MAX;
 
 const MINUS_TWO: u32 = u32::MAX - 1;
@@ -15,11 +16,11 @@ const MINUS_TEN: u32 = u32::MAX - 9;
 
 const ANSWERS: &[Row] = &[
     Turn(5, 0),
-    Call(20, [MINUS_SIX, 7, 4], MINUS_TEN, MINUS_TWO),
-    Call(20, [5, 5, 0], 0, 0),
-    Call(0, [7, 0, 0], MINUS_ONE, 0),
-    Call(22, [0, 0, 0], MINUS_ONE, 0),
-    Call(19, [321, 0, 0], 321, 0),
+    Call(MULDIV, [MINUS_SIX, 7, 4], MINUS_TEN, MINUS_TWO),
+    Call(MULDIV, [5, 5, 0], 0, 0),
+    Call(QUIT, [7, 0, 0], MINUS_ONE, 0),
+    Call(NO_CALL, [0, 0, 0], MINUS_ONE, 0),
+    Call(WRCH, [321, 0, 0], 321, 0),
 ];
 
 #[test]

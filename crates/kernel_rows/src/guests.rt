@@ -78,7 +78,8 @@ impl Guests {
         load_module(&mut self.store, &mut self.kinds, &SliceText::new(text))
     }
 
-    /// Makes a dead task of the module, with the lowest free number, which is the answer, and a stack up to the index `highest`.
+    /// Makes a dead task of the module, with the lowest free number, which is the answer, and a stack up to the index
+    /// `highest`.
     pub fn create(&mut self, module: u32, highest: u32, priority: u32) -> Result<u32, u32> {
         create_task(
             &mut self.store,
@@ -118,8 +119,8 @@ impl Guests {
         true
     }
 
-    /// Lets the running guest's function return: that of its coroutine, whose parent goes on with what A holds, or else its first
-    /// one, and then it is dead. The answer is false where no guest runs.
+    /// Lets the running guest's function return: that of its coroutine, whose parent goes on with what A holds, or else its
+    /// first one, and then it is dead. The answer is false where no guest runs.
     pub fn end(&mut self) -> bool
         ensures { IsFalse result → self.new ≡ self.old }
     {
@@ -149,8 +150,8 @@ impl Guests {
         word_at(&self.store, a, 0)
     }
 
-    /// Lets the running guest make a call: its number and its arguments are the words P!3 to P!6. A and B afterwards are the answer;
-    /// there is none where no guest runs, or these words can't be written.
+    /// Lets the running guest make a call: its number and its arguments are the words P!3 to P!6. A and B afterwards are the
+    /// answer; there is none where no guest runs, or these words can't be written.
     pub fn ask(&mut self, number: u32, arguments: [u32; 3]) -> Option<(u32, u32)> {
         if !self.request(number, arguments) {
             return None;

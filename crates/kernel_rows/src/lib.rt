@@ -3,6 +3,8 @@
 
 #[cfg(test)]
 mod answers;
+#[cfg(test)]
+mod call_numbers;
 mod conditions;
 #[cfg(test)]
 mod coroutine_turns;
