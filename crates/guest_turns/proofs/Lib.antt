@@ -1,0 +1,5 @@
+pub mod EndedFunction
+pub mod TurnParts
+pub mod RunningField
+pub mod CallFields
+pub mod TurnFields

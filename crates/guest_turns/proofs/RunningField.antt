@@ -1,0 +1,74 @@
+-- No task but the running one has the field of one that runs: how each kind of change keeps this.
+use Rattle.std.proofs.Common.{◌≡◌, ℕ, List, [], ◌∷◌, Bool, true, false, Option, Some, None, map, cond, eqb, nat_lt}
+use Rattle.std.specs.Prelude.{IfSome, find}
+use Rattle.std.specs.List.{AllByRecursion}
+use Rattle.linked_list.specs.Places.{insert_after, without_first}
+use Rattle.packet_queue.specs.QueueWords.{QueuedPacket}
+use Rattle.kernel_model.specs.Changes.{change_of, with_queue, with_task, with_work}
+use Rattle.kernel_model.specs.Lists.{Lists}
+use Rattle.kernel_model.specs.MovedTask.{with_priority}
+use Rattle.kernel_model.specs.Task.{Task}
+use Rattle.kernel_model.specs.ValidQueues.{Place}
+use Rattle.kernel_model.specs.ValidQueues.Place.{Clock, Keyboard, Output, Pending, Work}
+use Rattle.kernel_model.specs.ValidTasks.{runs}
+use Rattle.kernel_model.proofs.AllThings.{all-inserted}
+use Rattle.task_calls.specs.ChangePri.{moved}
+
+-- where it has that field, it is the task with the number
+abbrev pub RunsAs : ℕ → Task → Type 0
+RunsAs id t = t.field ≡ runs → t.id ≡ id
+
+-- ---- the chain
+
+-- one task changes
+pub runs-changed : (id n : ℕ) (f : Task → Task) → ((t : Task) → RunsAs id t → RunsAs id (f t)) → (ts : List Task) → AllByRecursion (RunsAs id) ts → AllByRecursion (RunsAs id) (map (change_of n f) ts)
+runs-changed id n f each [] all = tt
+runs-changed id n f each (t ∷ ts) all = (on (eqb t.id n), runs-changed id n f each ts all.1)
+  where
+    on : (b : Bool) → RunsAs id (cond b (f t) t)
+    on true = each t all.0
+    on false = all.0
+
+-- one comes in, at its place by priority
+pub runs-inserted : (id : ℕ) (t : Task) (ts : List Task) → RunsAs id t → AllByRecursion (RunsAs id) ts → AllByRecursion (RunsAs id) (insert_after (λ u. nat_lt t.priority u.priority) t ts)
+runs-inserted id t ts one all = all-inserted (RunsAs id) (λ u. nat_lt t.priority u.priority) t ts one all
+
+-- one goes out
+pub runs-without : (id : ℕ) (f : Task → Bool) (ts : List Task) → AllByRecursion (RunsAs id) ts → AllByRecursion (RunsAs id) (without_first f ts)
+runs-without id f [] all = tt
+runs-without id f (t ∷ ts) all = on (f t)
+  where
+    on : (b : Bool) → AllByRecursion (RunsAs id) (cond b ts (t ∷ without_first f ts))
+    on true = all.1
+    on false = (all.0, runs-without id f ts all.1)
+
+-- one is found
+pub runs-found : (id : ℕ) (f : Task → Bool) (ts : List Task) → AllByRecursion (RunsAs id) ts → IfSome (find f ts) (RunsAs id)
+runs-found id f [] all = tt
+runs-found id f (t ∷ ts) all = on (f t)
+  where
+    on : (b : Bool) → IfSome (cond b (Some t) (find f ts)) (RunsAs id)
+    on true = all.0
+    on false = runs-found id f ts all.1
+
+-- ---- the lists
+
+-- the task with the number runs, and no other has that field
+pub record RunsIn (id : ℕ) (l : Lists) : Type 0 where
+  pub running : l.running ≡ id
+  pub alone : AllByRecursion (RunsAs id) l.tasks
+
+pub one-runs : (id : ℕ) (l : Lists) (n : ℕ) (f : Task → Task) → ((t : Task) → RunsAs id t → RunsAs id (f t)) → RunsIn id l → RunsIn id (with_task n f l)
+one-runs id l n f each h = record { running = h.running; alone = runs-changed id n f each l.tasks h.alone }
+
+pub queue-runs : (id : ℕ) (l : Lists) (at : Place) (ps : List QueuedPacket) → RunsIn id l → RunsIn id (with_queue at ps l)
+queue-runs id l (Work n) ps h = record { running = h.running; alone = runs-changed id n (λ t. record t { queue = ps }) (λ t one. one) l.tasks h.alone }
+queue-runs id l Clock ps h = record { running = h.running; alone = h.alone }
+queue-runs id l Keyboard ps h = record { running = h.running; alone = h.alone }
+queue-runs id l Output ps h = record { running = h.running; alone = h.alone }
+queue-runs id l Pending ps h = record { running = h.running; alone = h.alone }
+
+-- the task that was found moves
+pub moved-runs : (id : ℕ) (l : Lists) (pri : ℕ) (o : Option Task) (others : List Task) → IfSome o (RunsAs id) → AllByRecursion (RunsAs id) others → RunsIn id l → RunsIn id (moved pri o others l)
+moved-runs id l pri None others one rest h = h
+moved-runs id l pri (Some t) others one rest h = record { running = h.running; alone = runs-inserted id (with_priority pri t) others one rest }

@@ -1,0 +1,85 @@
+-- What a turn keeps: who runs, that no other task has the field of one that runs, and that C is a byte.
+use Rattle.std.proofs.Common.{◌≡◌, ◌<◌, ℕ, List, Bool, true, false, Result, Ok, Err, cond, eqb, refl, sym, ap, ◌∙◌, subst}
+use Rattle.std.specs.List.{AllByRecursion}
+use Rattle.word_store.specs.Bytes.{byte_at}
+use Rattle.word_store.specs.declared.registers.Regs.{Regs}
+use Rattle.cint_decode.specs.Decoded.{decoded}
+use Rattle.cint_decode.specs.declared.instructions.DecodeEnd.{DecodeEnd}
+use Rattle.cint_decode.specs.declared.instructions.Instr.{Instr}
+use Rattle.cint_exec.specs.Instruction.{After, after, decided, instruction}
+use Rattle.cint_exec.specs.declared.Outcome.{Outcome}
+use Rattle.cint_exec.specs.declared.Outcome.TheVariants.{Next, Sys, Returned, Fault as Faulted}
+use Rattle.cint_exec.proofs.ByteRegister.{effected-byte}
+use Rattle.coroutines.specs.CoroutineExchanges.{current_of}
+use Rattle.kernel_model.specs.Lists.{Lists}
+use Rattle.kernel_model.specs.Task.{is_guest_id}
+use Rattle.kernel_dispatch.specs.Dispatch.{CanDispatch}
+use Rattle.call_answers.specs.Callers.{HasCaller}
+use Rattle.coroutine_calls.specs.CallersCoroutines.{coroutines_of_caller}
+use Rattle.coroutine_calls.specs.CoWait.{ended, with_ended}
+use Rattle.kernel_calls.specs.Calls.{kernel_call}
+use Rattle.kernel_calls.specs.Requests.{call_of}
+use Rattle.guest_instructions.specs.Guarded.{is_owned}
+use Rattle.guest_turns.specs.GuestTurn.{RunsAlone, Turned, after_instruction, died, dies, turn_without_reporter}
+use Rattle.guest_turns.proofs.CallFields.{Keeps, KeepsSwitched, request-keeps, switched-keeps}
+use Rattle.guest_turns.proofs.RunningField.{RunsAs, RunsIn, one-runs}
+
+-- ---- the instruction
+
+module _ (marks : ℕ → Bool) (s : List ℕ) (r : Regs) (byte : r.c < 256) where
+  either-byte : (b : Bool) (x y : After) → x.regs.c < 256 → y.regs.c < 256 → (cond b x y).regs.c < 256
+  either-byte true x y p q = p
+  either-byte false x y p q = q
+
+  decided-byte : (d : Result Instr DecodeEnd) → (decided marks s r d).regs.c < 256
+  decided-byte (Err e) = byte
+  decided-byte (Ok i) = effected-byte marks s r byte i
+
+  instruction-byte : (instruction marks s r).regs.c < 256
+  instruction-byte = either-byte (eqb r.pc 0) (after Returned s r) (decided marks s r (decoded (byte_at s) r.pc)) byte (decided-byte (decoded (byte_at s) r.pc))
+
+-- ---- the turn
+
+-- the lists that a turn leaves, and its registers
+pub record Fits (id : ℕ) (m : Turned) : Type 0 where
+  pub lists : RunsIn id m.lists
+  pub byte : m.regs.c < 256
+
+module _ (id : ℕ) (l : Lists) (h : RunsIn id l) where
+  called-keeps : (s : List ℕ) (r : Regs) → Keeps id r.c (kernel_call s l r)
+  unfolding kernel_call
+  called-keeps s r = request-keeps id l h s r (call_of s r)
+
+  returned-keeps : (r : Regs) (b : Bool) → KeepsSwitched id r.c (cond b (dies l r) (ended l r))
+  returned-keeps r true = record { lists = one-runs id l l.running died (λ t one e. cc) h; same = refl }
+  returned-keeps r false = switched-keeps id l h with_ended r.a r
+
+  instruction-fits : (s : List ℕ) (r : Regs) (outcome : Outcome) → r.c < 256 → Fits id (after_instruction l s r outcome)
+  instruction-fits s r Next byte = record { lists = h; byte = byte }
+  instruction-fits s r Sys byte =
+      let k : Keeps id r.c (kernel_call s l r) = called-keeps s r in
+      record { lists = k.lists; byte = subst (λ c. c < 256) (sym k.same) byte }
+  instruction-fits s r Returned byte =
+      let k = returned-keeps r (eqb (current_of (coroutines_of_caller l)) 0) in
+      record { lists = k.lists; byte = subst (λ c. c < 256) (sym k.same) byte }
+  instruction-fits s r (Faulted f) byte = record { lists = h; byte = byte }
+
+  turn-fits : (s : List ℕ) (r : Regs) → r.c < 256 → Fits id (turn_without_reporter s l r)
+  unfolding turn_without_reporter
+  turn-fits s r byte =
+      let x : After = instruction (is_owned l) s r in
+      instruction-fits x.words x.regs x.outcome (instruction-byte (is_owned l) s r byte)
+
+module _ (s : List ℕ) (l : Lists) (r : Regs) (alone : RunsAlone l) (byte : r.c < 256) where
+  fits : Fits l.running (turn_without_reporter s l r)
+  fits = turn-fits l.running l (record { running = refl; alone = alone }) s r byte
+
+  pub turn-running : (turn_without_reporter s l r).lists.running ≡ l.running
+  turn-running = fits.lists.running
+
+  pub turn-dispatches : HasCaller l → CanDispatch (turn_without_reporter s l r).lists (turn_without_reporter s l r).regs
+  turn-dispatches c = record {
+    field = subst (λ i. AllByRecursion (RunsAs i) (turn_without_reporter s l r).lists.tasks) (sym turn-running) fits.lists.alone;
+    byte = fits.byte;
+    idle = λ none. (let guest : is_guest_id (turn_without_reporter s l r).lists.running ≡ true = ap is_guest_id turn-running ∙ c.guest in cc);
+  }

@@ -1,0 +1,17 @@
+// What a turn keeps, so that a dispatch may follow.
+ghost use Rattle.std.specs.Prelude.{◌≡◌, ◌<◌, List, ℕ};
+ghost use Rattle.word_store.specs.declared.registers.Regs.{Regs};
+ghost use Rattle.kernel_model.specs.Lists.{Lists};
+ghost use Rattle.call_answers.specs.Callers.{HasCaller};
+ghost use Rattle.kernel_dispatch.specs.Dispatch.{CanDispatch};
+ghost use Rattle.guest_turns.specs.GuestTurn.{RunsAlone, turn_without_reporter};
+
+/// However a turn ends: the same task is the running one, no other has the field of one that runs, and C is a byte. So a
+/// dispatch may follow.
+pub fn dispatch_law()
+    ensures dispatch { (s : List ℕ) (l : Lists) (r : Regs) → HasCaller l → RunsAlone l
+        → r.c < 256
+        → CanDispatch (turn_without_reporter s l r).lists (turn_without_reporter s l r).regs }
+    ensures running { (s : List ℕ) (l : Lists) (r : Regs) → RunsAlone l → r.c < 256
+        → (turn_without_reporter s l r).lists.running ≡ l.running }
+{}
