@@ -43,9 +43,18 @@ use Rattle.coroutine_calls.specs.Switched as switches
 use Rattle.coroutine_calls.specs.Switched.{Switched, switched}
 use Rattle.kernel_calls.specs.Calls.{Called, answered, made, of_made, of_switched, of_wait, past_call, requested}
 use Rattle.kernel_calls.specs.declared.requests.CallOutcome.{CallOutcome}
+use Rattle.kernel_calls.specs.declared.requests.CallOutcome.TheVariants.{Done, Outside as OutsideStore, Quit as Quits, Unknown, Waits}
 use Rattle.kernel_calls.specs.declared.requests.KernelCall.{KernelCall}
 use Rattle.kernel_calls.specs.declared.requests.KernelCall.TheVariants.{AddModule, CallCo, ChangePri, CoWait, CreateCo, CreateTask, DeleteCo, DeleteTask, Dqpkt, Freevec, Getvec, Hold, MulDiv, Qpkt, Quit, Release, ResumeCo, SetFlags, TaskWait, TestFlags, Unload, Wrch}
 use Rattle.guest_turns.proofs.RunningField.{RunsIn, moved-runs, one-runs, queue-runs, runs-changed, runs-found, runs-inserted, runs-without}
+
+-- a call that is made or refused is neither unknown nor outside the store
+abbrev pub IsMadeEnd : CallOutcome → Type 0
+IsMadeEnd Done = Unit {0}
+IsMadeEnd Waits = Unit {0}
+IsMadeEnd (Quits result) = Unit {0}
+IsMadeEnd Unknown = ⊥
+IsMadeEnd (OutsideStore a) = ⊥
 
 -- the lists and the C that a call leaves
 pub record Keeps (id byte : ℕ) (c : Called) : Type 0 where
@@ -215,3 +224,13 @@ module _ (id : ℕ) (l : Lists) (h : RunsIn id l) where
   pub request-keeps : (s : List ℕ) (r : Regs) (q : Result KernelCall CallOutcome) → Keeps id r.c (requested s l r q)
   request-keeps s r (Ok call) = call-keeps s (past_call r) call
   request-keeps s r (Err outcome) = record { lists = h; same = refl }
+
+-- ---- how calls end
+
+wait-ends : (r : Regs) (ps : List QueuedPacket) (m : Made) → IsMadeEnd (of_wait r ps m).outcome
+wait-ends r [] m = tt
+wait-ends r (p ∷ ps) m = tt
+
+pub call-ends : (s : List ℕ) (l : Lists) (r : Regs) (call : KernelCall) → IsMadeEnd (made s l r call).outcome
+call-ends s l r TaskWait = wait-ends r (queue_of (Work l.running) l) (taskwait l)
+call-ends s l r _ = tt

@@ -3,3 +3,4 @@ pub mod TurnParts
 pub mod RunningField
 pub mod CallFields
 pub mod TurnFields
+pub mod FaultedTurn

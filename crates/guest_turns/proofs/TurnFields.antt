@@ -40,10 +40,10 @@ module _ (marks : ℕ → Bool) (s : List ℕ) (r : Regs) (byte : r.c < 256) whe
 
 -- ---- the turn
 
--- the lists that a turn leaves, and its registers
-pub record Fits (id : ℕ) (m : Turned) : Type 0 where
+-- the lists that a turn leaves, and its registers where C was a byte
+pub record Fits (id : ℕ) (r : Regs) (m : Turned) : Type 0 where
   pub lists : RunsIn id m.lists
-  pub byte : m.regs.c < 256
+  pub byte : r.c < 256 → m.regs.c < 256
 
 module _ (id : ℕ) (l : Lists) (h : RunsIn id l) where
   called-keeps : (s : List ℕ) (r : Regs) → Keeps id r.c (kernel_call s l r)
@@ -54,32 +54,33 @@ module _ (id : ℕ) (l : Lists) (h : RunsIn id l) where
   returned-keeps r true = record { lists = one-runs id l l.running died (λ t one e. cc) h; same = refl }
   returned-keeps r false = switched-keeps id l h with_ended r.a r
 
-  instruction-fits : (s : List ℕ) (r : Regs) (outcome : Outcome) → r.c < 256 → Fits id (after_instruction l s r outcome)
-  instruction-fits s r Next byte = record { lists = h; byte = byte }
-  instruction-fits s r Sys byte =
+  instruction-fits : (s : List ℕ) (r : Regs) (outcome : Outcome) → Fits id r (after_instruction l s r outcome)
+  instruction-fits s r Next = record { lists = h; byte = λ small. small }
+  instruction-fits s r Sys =
       let k : Keeps id r.c (kernel_call s l r) = called-keeps s r in
-      record { lists = k.lists; byte = subst (λ c. c < 256) (sym k.same) byte }
-  instruction-fits s r Returned byte =
+      record { lists = k.lists; byte = λ small. subst (λ c. c < 256) (sym k.same) small }
+  instruction-fits s r Returned =
       let k = returned-keeps r (eqb (current_of (coroutines_of_caller l)) 0) in
-      record { lists = k.lists; byte = subst (λ c. c < 256) (sym k.same) byte }
-  instruction-fits s r (Faulted f) byte = record { lists = h; byte = byte }
+      record { lists = k.lists; byte = λ small. subst (λ c. c < 256) (sym k.same) small }
+  instruction-fits s r (Faulted f) = record { lists = h; byte = λ small. small }
 
-  turn-fits : (s : List ℕ) (r : Regs) → r.c < 256 → Fits id (turn_without_reporter s l r)
+  turn-fits : (s : List ℕ) (r : Regs) → Fits id r (turn_without_reporter s l r)
   unfolding turn_without_reporter
-  turn-fits s r byte =
+  turn-fits s r =
       let x : After = instruction (is_owned l) s r in
-      instruction-fits x.words x.regs x.outcome (instruction-byte (is_owned l) s r byte)
+      let fits : Fits id x.regs (after_instruction l x.words x.regs x.outcome) = instruction-fits x.words x.regs x.outcome in
+      record { lists = fits.lists; byte = λ small. fits.byte (instruction-byte (is_owned l) s r small) }
 
-module _ (s : List ℕ) (l : Lists) (r : Regs) (alone : RunsAlone l) (byte : r.c < 256) where
-  fits : Fits l.running (turn_without_reporter s l r)
-  fits = turn-fits l.running l (record { running = refl; alone = alone }) s r byte
+module _ (s : List ℕ) (l : Lists) (r : Regs) (alone : RunsAlone l) where
+  fits : Fits l.running r (turn_without_reporter s l r)
+  fits = turn-fits l.running l (record { running = refl; alone = alone }) s r
 
   pub turn-running : (turn_without_reporter s l r).lists.running ≡ l.running
   turn-running = fits.lists.running
 
-  pub turn-dispatches : HasCaller l → CanDispatch (turn_without_reporter s l r).lists (turn_without_reporter s l r).regs
-  turn-dispatches c = record {
+  pub turn-dispatches : HasCaller l → r.c < 256 → CanDispatch (turn_without_reporter s l r).lists (turn_without_reporter s l r).regs
+  turn-dispatches c small = record {
     field = subst (λ i. AllByRecursion (RunsAs i) (turn_without_reporter s l r).lists.tasks) (sym turn-running) fits.lists.alone;
-    byte = fits.byte;
+    byte = fits.byte small;
     idle = λ none. (let guest : is_guest_id (turn_without_reporter s l r).lists.running ≡ true = ap is_guest_id turn-running ∙ c.guest in cc);
   }

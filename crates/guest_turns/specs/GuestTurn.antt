@@ -108,3 +108,12 @@ pub record IsTurned (t : List ℕ) (after : Regs) (tells : List ℕ → Type 0) 
 -- no task but the running one has the field of one that runs
 abbrev pub RunsAlone : Lists → Type 0
 RunsAlone l = AllByRecursion (λ t. t.field ≡ runs → t.id ≡ l.running) l.tasks
+
+-- nothing has changed, shown or noted
+pub record IsUntouched (s : List ℕ) (l : Lists) (r : Regs) (m : Turned) : Type 0 where
+  pub words : m.words ≡ s
+  pub lists : m.lists ≡ l
+  pub plain : m.plain ≡ []
+  pub regs : m.regs ≡ r
+  pub bytes : m.bytes ≡ []
+  pub events : m.events ≡ []

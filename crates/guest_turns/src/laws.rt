@@ -1,10 +1,12 @@
 // What a turn keeps, so that a dispatch may follow.
 ghost use Rattle.std.specs.Prelude.{◌≡◌, ◌<◌, List, ℕ};
 ghost use Rattle.word_store.specs.declared.registers.Regs.{Regs};
+ghost use Rattle.cint_exec.specs.declared.Fault.{Fault};
 ghost use Rattle.kernel_model.specs.Lists.{Lists};
 ghost use Rattle.call_answers.specs.Callers.{HasCaller};
 ghost use Rattle.kernel_dispatch.specs.Dispatch.{CanDispatch};
-ghost use Rattle.guest_turns.specs.GuestTurn.{RunsAlone, turn_without_reporter};
+ghost use Rattle.guest_turns.specs.GuestTurn.{IsUntouched, RunsAlone, turn_without_reporter};
+ghost use Rattle.guest_turns.specs.declared.turns.TurnEnd.TheVariants.{Faults};
 
 /// However a turn ends: the same task is the running one, no other has the field of one that runs, and C is a byte. So a
 /// dispatch may follow.
@@ -12,6 +14,13 @@ pub fn dispatch_law()
     ensures dispatch { (s : List ℕ) (l : Lists) (r : Regs) → HasCaller l → RunsAlone l
         → r.c < 256
         → CanDispatch (turn_without_reporter s l r).lists (turn_without_reporter s l r).regs }
-    ensures running { (s : List ℕ) (l : Lists) (r : Regs) → RunsAlone l → r.c < 256
+    ensures running { (s : List ℕ) (l : Lists) (r : Regs) → RunsAlone l
         → (turn_without_reporter s l r).lists.running ≡ l.running }
+{}
+
+/// A turn that ends with a fault changes nothing, shows nothing and notes nothing.
+pub fn fault_law()
+    ensures { (s : List ℕ) (l : Lists) (r : Regs) (f : Fault)
+        → (turn_without_reporter s l r).ends ≡ Faults f
+        → IsUntouched s l r (turn_without_reporter s l r) }
 {}

@@ -1,0 +1,95 @@
+-- A turn that ends with a fault changes nothing.
+use Rattle.std.proofs.Common.{◌≡◌, ℕ, List, [], Bool, true, false, Option, Some, None, Result, Ok, Err, cond, eqb, refl, sym, ap, subst}
+use Rattle.word_store.specs.Arithmetic.{add}
+use Rattle.word_store.specs.Bytes.{byte_at}
+use Rattle.word_store.specs.declared.registers.Regs.{Regs}
+use Rattle.cint_decode.specs.Decoded.{decoded}
+use Rattle.cint_decode.specs.declared.instructions.DecodeEnd.{DecodeEnd}
+use Rattle.cint_decode.specs.declared.instructions.Instr.{Instr}
+use Rattle.cint_exec.specs.Change.{Change}
+use Rattle.cint_exec.specs.Effect.{change_of}
+use Rattle.cint_exec.specs.Instruction.{After, after, decided, effected, instruction, is_call, made, settled, write_fault}
+use Rattle.cint_exec.specs.declared.Fault.{Fault}
+use Rattle.cint_exec.specs.declared.Outcome.{Outcome}
+use Rattle.cint_exec.specs.declared.Outcome.TheVariants.{Next, Sys, Returned, Fault as Faulted}
+use Rattle.kernel_model.specs.Lists.{Lists}
+use Rattle.kernel_calls.specs.Calls.{Called, kernel_call, requested}
+use Rattle.kernel_calls.specs.Requests.{call_of}
+use Rattle.kernel_calls.specs.declared.requests.CallOutcome.{CallOutcome}
+use Rattle.kernel_calls.specs.declared.requests.CallOutcome.TheVariants.{Done, Outside as OutsideStore, Quit, Unknown, Waits}
+use Rattle.kernel_calls.specs.declared.requests.KernelCall.{KernelCall}
+use Rattle.guest_instructions.specs.Guarded.{is_owned}
+use Rattle.guest_turns.specs.GuestTurn.{IsUntouched, Turned, after_instruction, called, end_of_call, turn_without_reporter}
+use Rattle.guest_turns.specs.declared.turns.TurnEnd.{TurnEnd}
+use Rattle.guest_turns.specs.declared.turns.TurnEnd.TheVariants.{Faults, Goes, Quits}
+use Rattle.guest_turns.proofs.CallFields.{IsMadeEnd, call-ends}
+
+-- ---- an instruction that was not executed
+
+-- words and registers are as they were, unless it was executed
+pub record StaysOrRuns (s : List ℕ) (r : Regs) (x : After) : Type 0 where
+  pub stays : (x.outcome ≡ Next → ⊥) → (x.words ≡ s) × (x.regs ≡ r)
+
+module _ (marks : ℕ → Bool) (s : List ℕ) (r : Regs) where
+  stays-as : (o : Outcome) → StaysOrRuns s r (after o s r)
+  stays-as o = record { stays = λ other. (refl, refl) }
+
+  stays-either : (b : Bool) (x y : After) → StaysOrRuns s r x → StaysOrRuns s r y → StaysOrRuns s r (cond b x y)
+  stays-either true x y h k = h
+  stays-either false x y h k = k
+
+  stays-made : (f : Option Fault) (c : Change) → StaysOrRuns s r (made f s r c)
+  stays-made None c = record { stays = λ other. absurd (other refl) }
+  stays-made (Some f) c = stays-as (Faulted f)
+
+  stays-settled : (c : Result Change Fault) → StaysOrRuns s r (settled marks s r c)
+  stays-settled (Err f) = stays-as (Faulted f)
+  stays-settled (Ok c) = stays-made (write_fault marks s c.writes) c
+
+  stays-effected : (i : Instr) → StaysOrRuns s r (effected marks s r i)
+  unfolding effected
+  stays-effected i =
+      let c : Result Change Fault = change_of i.effect s (record r { pc = add r.pc i.length }) i.operand i.target r.pc in
+      stays-either (is_call i.effect) (after Sys s r) (settled marks s r c) (stays-as Sys) (stays-settled c)
+
+  stays-decided : (d : Result Instr DecodeEnd) → StaysOrRuns s r (decided marks s r d)
+  stays-decided (Err e) = stays-as _
+  stays-decided (Ok i) = stays-effected i
+
+  stays-instruction : StaysOrRuns s r (instruction marks s r)
+  stays-instruction = stays-either (eqb r.pc 0) (after Returned s r) (decided marks s r (decoded (byte_at s) r.pc)) (stays-as Returned) (stays-decided (decoded (byte_at s) r.pc))
+
+-- ---- the turn
+
+made-goes : (place : ℕ) (f : Fault) (o : CallOutcome) → IsMadeEnd o → end_of_call place o ≡ Faults f → ⊥
+made-goes place f Done is e = cc
+made-goes place f Waits is e = cc
+made-goes place f (Quit result) is e = cc
+made-goes place f Unknown is e = is
+made-goes place f (OutsideStore a) is e = is
+
+module _ (l : Lists) (f : Fault) where
+  request-untouched : (s : List ℕ) (r : Regs) (place : ℕ) (q : Result KernelCall CallOutcome) → end_of_call place (requested s l r q).outcome ≡ Faults f
+      → IsUntouched s l r (called s place (requested s l r q))
+  request-untouched s r place (Ok call) e = absurd (made-goes place f _ (call-ends s l _ call) e)
+  request-untouched s r place (Err outcome) e = record { words = refl; lists = refl; plain = refl; regs = refl; bytes = refl; events = refl }
+
+  call-untouched : (s : List ℕ) (r : Regs) (place : ℕ) → end_of_call place (kernel_call s l r).outcome ≡ Faults f → IsUntouched s l r (called s place (kernel_call s l r))
+  unfolding kernel_call
+  call-untouched s r place e = request-untouched s r place (call_of s r) e
+
+  -- where it left these words and registers
+  from-untouched : (s : List ℕ) (r : Regs) (outcome : Outcome) → (after_instruction l s r outcome).ends ≡ Faults f → IsUntouched s l r (after_instruction l s r outcome) × (outcome ≡ Next → ⊥)
+  from-untouched s r Next e = cc
+  from-untouched s r Sys e = (call-untouched s r r.pc e, λ n. cc)
+  from-untouched s r Returned e = cc
+  from-untouched s r (Faulted g) e = (record { words = refl; lists = refl; plain = refl; regs = refl; bytes = refl; events = refl }, λ n. cc)
+
+  pub fault-untouched : (s : List ℕ) (r : Regs) → (turn_without_reporter s l r).ends ≡ Faults f → IsUntouched s l r (turn_without_reporter s l r)
+  unfolding turn_without_reporter
+  fault-untouched s r e =
+      let x : After = instruction (is_owned l) s r in
+      let u = from-untouched x.words x.regs x.outcome e in
+      let same = (stays-instruction (is_owned l) s r).stays u.1 in
+      subst (λ z. IsUntouched z l r (after_instruction l x.words x.regs x.outcome)) same.0
+      (subst (λ z. IsUntouched x.words l z (after_instruction l x.words x.regs x.outcome)) same.1 u.0)
