@@ -36,20 +36,20 @@ runs-inserted id t ts one all = all-inserted (RunsAs id) (λ u. nat_lt t.priorit
 -- one goes out
 pub runs-without : (id : ℕ) (f : Task → Bool) (ts : List Task) → AllByRecursion (RunsAs id) ts → AllByRecursion (RunsAs id) (without_first f ts)
 runs-without id f [] all = tt
-runs-without id f (t ∷ ts) all = on (f t)
+runs-without id f (t ∷ ts) all = on (f t) (runs-without id f ts all.1)
   where
-    on : (b : Bool) → AllByRecursion (RunsAs id) (cond b ts (t ∷ without_first f ts))
-    on true = all.1
-    on false = (all.0, runs-without id f ts all.1)
+    on : (b : Bool) → AllByRecursion (RunsAs id) (without_first f ts) → AllByRecursion (RunsAs id) (cond b ts (t ∷ without_first f ts))
+    on true more = all.1
+    on false more = (all.0, more)
 
 -- one is found
 pub runs-found : (id : ℕ) (f : Task → Bool) (ts : List Task) → AllByRecursion (RunsAs id) ts → IfSome (find f ts) (RunsAs id)
 runs-found id f [] all = tt
-runs-found id f (t ∷ ts) all = on (f t)
+runs-found id f (t ∷ ts) all = on (f t) (runs-found id f ts all.1)
   where
-    on : (b : Bool) → IfSome (cond b (Some t) (find f ts)) (RunsAs id)
-    on true = all.0
-    on false = runs-found id f ts all.1
+    on : (b : Bool) → IfSome (find f ts) (RunsAs id) → IfSome (cond b (Some t) (find f ts)) (RunsAs id)
+    on true more = all.0
+    on false more = more
 
 -- ---- the lists
 

@@ -1,4 +1,4 @@
-use Rattle.std.proofs.Common.{◌+◌, set, sym, ap, ◌∙◌, arith}
+use Rattle.std.proofs.Common.{◌≢◌, ◌+◌, get_or, set, sym, ap, ◌∙◌, arith}
 use Rattle.kernel_model.specs.Lists.{Lists}
 use Rattle.packet_calls.proofs.CallerTask.{caller-low, caller-runs, caller-state}
 use Rattle.guest_turns.proofs.EndedFunction.{is-within, returns-in_root, returns-inside}
@@ -8,12 +8,12 @@ pub ended-requires : goal.ended-requires
 ended-requires c =
     let l : Lists = c.requires.0 in
     (l, c.requires.1, c.requires.2,
-    is-within c.args.store.now l c.caller-task.result c.requires.1 c.requires.2 (c.caller-task.ensures l c.requires.1 c.requires.2) (λ e. c.if-field.true (c.field.ensures ∙ e)))
+    is-within c.args.store.now l c.caller-task.result c.requires.1 c.requires.2 (c.caller-task.ensures l c.requires.1 c.requires.2) (λ e. c.if-field-ne0.true (c.field.ensures ∙ e)))
 
-pub returns-then-field : goal.returns-then-field
-returns-then-field c = λ l h calls.
+pub returns-then-field-ne0 : goal.returns-then-field-ne0
+returns-then-field-ne0 c = λ l h calls.
     let g = c.caller-task.ensures l h calls in
-    let some = λ e. c.if-field.true (c.field.ensures ∙ e) in
+    let some : get_or c.args.store.now (c.caller-task.result + 18) 0 ≢ 0 = λ e. c.if-field-ne0.true (c.field.ensures ∙ e) in
     returns-inside c.args.store.now l c.caller-task.result h calls g c.ended.new.store c.args.regs.now c.ended.new.regs some
     (c.ended.ensures l h calls (is-within c.args.store.now l c.caller-task.result h calls g some))
 
@@ -26,5 +26,5 @@ overflow_add-state c =
 pub returns : goal.returns
 returns c = λ l h calls.
     returns-in_root c.args.store.now l c.caller-task.result h calls (c.caller-task.ensures l h calls) c.set_field.new.store c.args.regs.now
-    (sym c.field.ensures ∙ c.if-field.false)
+    (sym c.field.ensures ∙ c.if-field-ne0.false)
     (c.set_field.ensures ∙ ap (λ w. set c.args.store.now (c.caller-task.result + 4) (w + 12)) c.field-state.ensures)
