@@ -1,7 +1,6 @@
 -- What each call keeps: who runs, that no other task has the field of one that runs, and C.
-use Rattle.std.proofs.Common.{◌≡◌, ℕ, ◌+◌, ◌%◌, ◌++◌, List, [], ◌∷◌, Bool, true, false, Option, Some, None, Result, Ok, Err, cond, eqb, get_or, refl}
+use Rattle.std.proofs.Common.{◌≡◌, ℕ, ◌+◌, ◌++◌, List, [], ◌∷◌, Bool, true, false, Option, Some, None, Result, Ok, Err, cond, eqb, get_or, refl}
 use Rattle.std.specs.Prelude.{find, unwrap_or}
-use Rattle.word_store.specs.Arithmetic.{mul_div}
 use Rattle.word_store.specs.declared.registers.Regs.{Regs}
 use Rattle.linked_list.specs.Places.{without_first}
 use Rattle.packet_queue.specs.QueueWords.{QueuedPacket}
@@ -14,7 +13,7 @@ use Rattle.kernel_model.specs.Task.{Task}
 use Rattle.kernel_model.specs.ValidQueues.{Place}
 use Rattle.kernel_model.specs.ValidQueues.Place.{Work}
 use Rattle.call_answers.specs.Guests.{guest_tests}
-use Rattle.call_answers.specs.Made.{Made, by_refusal, done, minus_one, unless_refused}
+use Rattle.call_answers.specs.Made.{Made, by_refusal, done, unless_refused}
 use Rattle.call_answers.specs.Refusals.{first_refusal}
 use Rattle.block_calls.specs.FreeStore.{data_taken, with_taken}
 use Rattle.block_calls.specs.Freevec.{freevec, freevec_tests, with_given}
@@ -34,7 +33,7 @@ use Rattle.packet_calls.specs.PacketMoves.{arrived, departed, sent_packet}
 use Rattle.packet_calls.specs.Qpkt.{qpkt, qpkt_tests, sent_to}
 use Rattle.packet_calls.specs.TaskWait.{taskwait, waited, waiting}
 use Rattle.coroutine_calls.specs.CallCo.{idle_tests}
-use Rattle.coroutine_calls.specs.CallersCoroutines.{coroutines_of_caller, with_callers, with_changed}
+use Rattle.coroutine_calls.specs.CallersCoroutines.{coroutines_of_caller, with_changed}
 use Rattle.coroutine_calls.specs.CoWait.{wait_tests}
 use Rattle.coroutine_calls.specs.CreateCo.{create_tests, created, createco, with_created as with_new_coroutine}
 use Rattle.coroutine_calls.specs.DeleteCo.{delete_tests, deleteco, with_deleted, with_deleted_at}

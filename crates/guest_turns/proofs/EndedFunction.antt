@@ -1,5 +1,5 @@
 -- What is left where the function of the running task has returned: in its root the task is dead.
-use Rattle.std.proofs.Common.{◌≡◌, ◌≢◌, ℕ, ◌+◌, ◌++◌, List, [], ◌∷◌, Bool, true, false, Ok, map, cond, eqb, get_or, set, not, inr, refl, sym, ap, ◌∙◌, subst, arith}
+use Rattle.std.proofs.Common.{◌≡◌, ◌≢◌, ℕ, ◌+◌, ◌++◌, List, [], ◌∷◌, true, false, Ok, map, cond, eqb, get_or, set, not, inr, refl, sym, ap, ◌∙◌, subst, arith}
 use Rattle.std.proofs.lemmas.Bool.{ne_eqb}
 use Rattle.word_store.specs.declared.registers.Regs.{Regs}
 use Rattle.linked_list.specs.Count.{IsApart}

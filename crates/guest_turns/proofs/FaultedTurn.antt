@@ -1,5 +1,5 @@
 -- A turn that ends with a fault changes nothing.
-use Rattle.std.proofs.Common.{◌≡◌, ℕ, List, [], Bool, true, false, Option, Some, None, Result, Ok, Err, cond, eqb, refl, sym, ap, subst}
+use Rattle.std.proofs.Common.{◌≡◌, ℕ, List, Bool, true, false, Option, Some, None, Result, Ok, Err, cond, eqb, refl, subst}
 use Rattle.word_store.specs.Arithmetic.{add}
 use Rattle.word_store.specs.Bytes.{byte_at}
 use Rattle.word_store.specs.declared.registers.Regs.{Regs}
@@ -13,15 +13,14 @@ use Rattle.cint_exec.specs.declared.Fault.{Fault}
 use Rattle.cint_exec.specs.declared.Outcome.{Outcome}
 use Rattle.cint_exec.specs.declared.Outcome.TheVariants.{Next, Sys, Returned, Fault as Faulted}
 use Rattle.kernel_model.specs.Lists.{Lists}
-use Rattle.kernel_calls.specs.Calls.{Called, kernel_call, requested}
+use Rattle.kernel_calls.specs.Calls.{kernel_call, requested}
 use Rattle.kernel_calls.specs.Requests.{call_of}
 use Rattle.kernel_calls.specs.declared.requests.CallOutcome.{CallOutcome}
 use Rattle.kernel_calls.specs.declared.requests.CallOutcome.TheVariants.{Done, Outside as OutsideStore, Quit, Unknown, Waits}
 use Rattle.kernel_calls.specs.declared.requests.KernelCall.{KernelCall}
 use Rattle.guest_instructions.specs.Guarded.{is_owned}
-use Rattle.guest_turns.specs.GuestTurn.{IsUntouched, Turned, after_instruction, called, end_of_call, turn_without_reporter}
-use Rattle.guest_turns.specs.declared.turns.TurnEnd.{TurnEnd}
-use Rattle.guest_turns.specs.declared.turns.TurnEnd.TheVariants.{Faults, Goes, Quits}
+use Rattle.guest_turns.specs.GuestTurn.{IsUntouched, after_instruction, called, end_of_call, turn_without_reporter}
+use Rattle.guest_turns.specs.declared.turns.TurnEnd.TheVariants.{Faults}
 use Rattle.guest_turns.proofs.CallFields.{IsMadeEnd, call-ends}
 
 -- ---- an instruction that was not executed

@@ -4,7 +4,7 @@ use Rattle.std.specs.Prelude.{IfSome, find}
 use Rattle.std.specs.List.{AllByRecursion}
 use Rattle.linked_list.specs.Places.{insert_after, without_first}
 use Rattle.packet_queue.specs.QueueWords.{QueuedPacket}
-use Rattle.kernel_model.specs.Changes.{change_of, with_queue, with_task, with_work}
+use Rattle.kernel_model.specs.Changes.{change_of, with_queue, with_task}
 use Rattle.kernel_model.specs.Lists.{Lists}
 use Rattle.kernel_model.specs.MovedTask.{with_priority}
 use Rattle.kernel_model.specs.Task.{Task}

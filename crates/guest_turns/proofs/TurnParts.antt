@@ -1,9 +1,10 @@
 -- What a turn leaves, by how its instruction ended.
-use Rattle.std.proofs.Common.{◌≡◌, ◌≤◌, ℕ, List, [], ◌++◌, length, Result, Ok, refl, sym, ap, ◌∙◌, subst, arith}
+use Rattle.std.proofs.Common.{◌≡◌, ℕ, List, length, Ok, refl, sym, ap, ◌∙◌, subst, arith}
 use Rattle.std.proofs.lemmas.List.{append-nil}
 use Rattle.word_store.specs.declared.registers.Regs.{Regs}
-use Rattle.cint_exec.specs.Instruction.{instruction}
+use Rattle.cint_exec.specs.Instruction.{After, instruction}
 use Rattle.cint_exec.specs.declared.Outcome.{Outcome}
+use Rattle.cint_exec.specs.declared.Outcome.TheVariants.{Next, Sys, Returned, Fault as Faulted}
 use Rattle.kernel_model.specs.ChangedStore.{HasKeeper, Knows}
 use Rattle.kernel_model.specs.HoldsLists.{HoldsLists}
 use Rattle.kernel_model.specs.Lists.{Lists}
@@ -13,9 +14,23 @@ use Rattle.coroutine_calls.specs.Switched.{IsSwitched, Switched}
 use Rattle.kernel_calls.specs.Calls.{Called, IsCalled, Outside}
 use Rattle.kernel_calls.specs.declared.requests.CallOutcome.{CallOutcome}
 use Rattle.guest_instructions.specs.Guarded.{is_owned}
+use Rattle.guest_instructions.proofs.MarkedWords.{keeps-marked}
 use Rattle.guest_turns.specs.GuestTurn.{IsTurned, after_instruction, called, end_of_call, ended_with, goes_on, turn_without_reporter}
 use Rattle.guest_turns.specs.declared.turns.TurnEnd.{TurnEnd}
 use Rattle.guest_turns.specs.declared.turns.TurnEnd.TheVariants.{Goes}
+
+-- as many words as before
+after-size : (l : Lists) (s : List ℕ) (r : Regs) (outcome : Outcome) → (after_instruction l s r outcome).words ≡ s
+after-size l s r Next = refl
+after-size l s r Sys = refl
+after-size l s r Returned = refl
+after-size l s r (Faulted f) = refl
+
+pub turn-size : (l : Lists) (s : List ℕ) (r : Regs) → length (turn_without_reporter s l r).words ≡ length s
+unfolding turn_without_reporter
+turn-size l s r =
+    let x : After = instruction (is_owned l) s r in
+    ap length (after-size l x.words x.regs x.outcome) ∙ (keeps-marked (is_owned l) s r).size
 
 -- the keeper knows the words after an instruction, which leaves the lists
 pub keeper-after : (s t : List ℕ) (tells : List ℕ → Type 0) (room : ℕ) (l : Lists) → HasKeeper s tells room l → HoldsLists t l → HasKeeper t tells room l
@@ -63,3 +78,9 @@ module _ (t : List ℕ) (after : Regs) (tells : List ℕ → Type 0) (old : Outs
   unfolding turn_without_reporter
   turned-by new result s s' l r r' outcome words regs ends is =
       subst (IsTurned t after tells old new result) (λ i. after_instruction l (words i) (regs i) (ends i)) is
+
+-- the keeper knows the words of the lists that a turn leaves
+pub turned-keeper : (s t : List ℕ) (before tells : List ℕ → Type 0) (room : ℕ) (l : Lists) (r after : Regs) (old new : Outside) (result : TurnEnd) → HasKeeper s before room l
+    → IsTurned t after tells old new result (turn_without_reporter s l r) → HasKeeper t tells room (turn_without_reporter s l r).lists
+turned-keeper s t before tells room l r after old new result k is =
+    record { lists = is.lists.lists; knows = is.knows; enough = omega (arith, k.enough, is.lists.size, turn-size l s r) }

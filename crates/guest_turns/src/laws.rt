@@ -1,5 +1,5 @@
 // What a turn keeps, so that a dispatch may follow.
-ghost use Rattle.std.specs.Prelude.{◌≡◌, ◌<◌, List, ℕ};
+ghost use Rattle.std.specs.Prelude.{◌≡◌, ◌<◌, List, length, ℕ};
 ghost use Rattle.word_store.specs.declared.registers.Regs.{Regs};
 ghost use Rattle.cint_exec.specs.declared.Fault.{Fault};
 ghost use Rattle.kernel_model.specs.Lists.{Lists};
@@ -23,4 +23,10 @@ pub fn fault_law()
     ensures { (s : List ℕ) (l : Lists) (r : Regs) (f : Fault)
         → (turn_without_reporter s l r).ends ≡ Faults f
         → IsUntouched s l r (turn_without_reporter s l r) }
+{}
+
+/// A turn leaves as many words as there were.
+pub fn size_law()
+    ensures { (s : List ℕ) (l : Lists) (r : Regs)
+        → length (turn_without_reporter s l r).words ≡ length s }
 {}

@@ -6,9 +6,12 @@ use Rattle.guest_turns.proofs.turns.end_function.Goals as goal
 
 pub ended-requires : goal.ended-requires
 ended-requires c =
-    let l : Lists = c.requires.0 in
-    (l, c.requires.1, c.requires.2,
-    is-within c.args.store.now l c.caller-task.result c.requires.1 c.requires.2 (c.caller-task.ensures l c.requires.1 c.requires.2) (λ e. c.if-field-ne0.true (c.field.ensures ∙ e)))
+    let l : Lists = c.requires.0 in (
+      l,
+      c.requires.1,
+      c.requires.2,
+      is-within c.args.store.now l c.caller-task.result c.requires.1 c.requires.2 (c.caller-task.ensures l c.requires.1 c.requires.2) (λ e. c.if-field-ne0.true (c.field.ensures ∙ e)),
+    )
 
 pub returns-then-field-ne0 : goal.returns-then-field-ne0
 returns-then-field-ne0 c = λ l h calls.

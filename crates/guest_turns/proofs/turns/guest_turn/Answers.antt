@@ -1,8 +1,6 @@
 use Rattle.std.proofs.Common.{sym, ◌∙◌}
 use Rattle.cint_exec.specs.declared.Outcome.TheVariants.{Next, Sys, Returned, Fault as Faulted}
-use Rattle.kernel_model.specs.ChangedStore.{HasKeeper}
 use Rattle.kernel_model.specs.Lists.{Lists}
-use Rattle.coroutine_calls.specs.Switched.{Switched}
 use Rattle.kernel_calls.specs.Calls.{Outside, outside}
 use Rattle.guest_turns.specs.GuestTurn.{returned}
 use Rattle.guest_turns.specs.declared.turns.TurnEnd.TheVariants.{Faults, Goes}
@@ -13,10 +11,11 @@ use Rattle.guest_turns.proofs.turns.guest_turn.Goals as goal
 pub make_call-requires-clause-caller : goal.make_call-requires-clause-caller
 make_call-requires-clause-caller g c =
     let l : Lists = c.requires.caller.0 in
-    let k = c.requires.caller.1 in
-    (l,
-    keeper-after c.args.store.now c.execute_guest.new.store (g.Q.KindKeeper.tells c.args.kinds.now) (g.Q.KindKeeper.room c.args.kinds.now) l k (c.execute_guest.ensures.lists l k),
-    c.requires.caller.2)
+    let k = c.requires.caller.1 in (
+      l,
+      keeper-after c.args.store.now c.execute_guest.new.store (g.Q.KindKeeper.tells c.args.kinds.now) (g.Q.KindKeeper.room c.args.kinds.now) l k (c.execute_guest.ensures.lists l k),
+      c.requires.caller.2,
+    )
 
 pub end_function-requires : goal.end_function-requires
 end_function-requires g c =
