@@ -105,6 +105,8 @@ pub record IsTurned (t : List ℕ) (after : Regs) (tells : List ℕ → Type 0) 
   pub bytes : new.shown ≡ old.shown ++ m.bytes
   pub notes : NotesAll old.noted new.noted old.failed new.failed m.events
 
+-- ---- what a turn keeps
+
 -- no task but the running one has the field of one that runs
 abbrev pub RunsAlone : Lists → Type 0
 RunsAlone l = AllByRecursion (λ t. t.field ≡ runs → t.id ≡ l.running) l.tasks
