@@ -5,3 +5,4 @@ pub mod FoundWords
 pub mod ResidentLists
 pub mod ResidentRules
 pub mod ResidentWords
+pub mod StoreSizes

@@ -1,15 +1,15 @@
 -- A kernel with residents is a valid one: each of its words is owned once.
-use Rattle.std.proofs.Common.{◌≡◌, ℕ, ◌+◌, ◌-◌, ◌%◌, ◌<◌, ◌≤◌, Bool, true, false, List, [], ◌∷◌, ◌++◌, replicate, eqb, ◌&&◌, inl, inr, refl, ◌∙◌, arith}
-use Rattle.std.proofs.lemmas.Bool.{and_parts, cases_eq, cases_lt, eqb-true, leb-true}
+use Rattle.std.proofs.Common.{◌≡◌, ℕ, ◌+◌, ◌-◌, ◌%◌, ◌<◌, ◌≤◌, Bool, true, false, List, [], ◌∷◌, ◌++◌, replicate, inl, inr, refl, ◌∙◌, arith}
+use Rattle.std.proofs.lemmas.Bool.{cases_eq, cases_lt}
 use Rattle.std.proofs.lemmas.List.{length-replicate}
-use Rattle.std.specs.Prelude.{IsTrue, nat_le}
+use Rattle.std.specs.Prelude.{IsTrue}
 use Rattle.std.specs.List.{range_with_len}
 use Rattle.linked_list.specs.Count.{hit, times}
 use Rattle.linked_list.proofs.Counts.{hit-le, hit-other, range-apart, times-above, times-below}
 use Rattle.owned_words.specs.LinkedWords.{linked_words}
 use Rattle.owned_words.specs.Owned.{Pairs, owners, written}
 use Rattle.owned_words.proofs.OwnedWords.{length-written, owners-append}
-use Rattle.session_text.specs.Ranges.{IsVersion, is_period, is_store_size, most_words}
+use Rattle.session_text.specs.Ranges.{IsVersion, is_period, is_store_size}
 use Rattle.kernel_model.specs.HoldsLists.{HoldsLists}
 use Rattle.kernel_model.specs.Lists.{Lists}
 use Rattle.kernel_model.specs.Owned.{owned}
@@ -22,6 +22,7 @@ use Rattle.kernel_boot.specs.BootWords.{resident_pairs}
 use Rattle.kernel_boot.specs.ResidentKernel.{console, fault_reporter, files, resident_block_size, resident_lists, shell}
 use Rattle.kernel_boot.proofs.ResidentRules.{residents-coroutines, residents-numbers, residents-queues, residents-tasks, residents-tile}
 use Rattle.kernel_boot.proofs.ResidentWords.{holds-residents}
+use Rattle.kernel_boot.proofs.StoreSizes.{size-even, size-low}
 
 -- how often an address is among a number of words from one on
 abbrev from : ℕ → ℕ → ℕ → ℕ
@@ -48,14 +49,11 @@ reporter_count true a = from a 287 28
 reporter_count false a = 0
 
 module _ (n v p : ℕ) (version : IsVersion v) (size : IsTrue (is_store_size v n)) (period : IsTrue (is_period p)) where
-  parts : ((nat_le 1024 n && nat_le n (most_words v)) ≡ true) × (eqb (n % 2) 0 ≡ true)
-  parts = and_parts (nat_le 1024 n && nat_le n (most_words v)) (eqb (n % 2) 0) size
-
   low : 1024 ≤ n
-  low = leb-true 1024 n (and_parts (nat_le 1024 n) (nat_le n (most_words v)) parts.0).0
+  low = size-low v n size
 
   even : n % 2 ≡ 0
-  even = eqb-true (n % 2) 0 parts.1
+  even = size-even v n size
 
   abbrev task_pairs : Task → List Task → Pairs
   task_pairs t ts = linked_words task_address (task_words v) (t ∷ ts) 0

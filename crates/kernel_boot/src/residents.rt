@@ -3,7 +3,8 @@ ghost use Rattle.std.specs.Prelude.{◌≡◌, ◌≤◌, ◌+◌, IsTrue, if◌
 ghost use Rattle.owned_words.specs.Owned.{written};
 ghost use Rattle.session_text.specs.Ranges.{IsVersion, is_period, is_store_size};
 ghost use Rattle.kernel_model.specs.HoldsLists.{HoldsLists};
-ghost use Rattle.kernel_boot.specs.BootWords.{block_pairs, chain_pairs, fault_pairs, key_pairs, reporter_pairs, root_pairs, shell_pairs, waiting_pairs};
+ghost use Rattle.kernel_boot.specs.BootWords.{block_pairs, chain_pairs, fault_pairs, key_pairs};
+ghost use Rattle.kernel_boot.specs.BootWords.{reporter_pairs, shell_pairs, waiting_pairs};
 ghost use Rattle.kernel_boot.specs.ResidentKernel.{resident_block_size, resident_lists};
 
 use crate::start::{TABLE, write_root};
@@ -43,14 +44,14 @@ const FILES: Resident = Resident {
     priority: 5000,
 };
 
-/// Where the packets of the residents are: the console's for the keyboard, the shell's own, and that of faults.
+/// Where the packets of the residents are: the console's key packet, the shell's own packet, and the fault packet.
 const KEY_PACKET: u32 = 271;
 
 const SHELL_PACKET: u32 = 279;
 
 const FAULT_PACKET: u32 = 310;
 
-/// The word of a packet that has its sender.
+/// Which word of a packet has its sender.
 const SENDER: u32 = 1;
 
 /// The link of a packet that is on no queue.
@@ -130,7 +131,8 @@ fn write_reporter(store: &mut Store, reporter: bool)
 // Writes the task block of a resident that waits, with its entry in the table.
 fn wait(store: &mut Store, task: Resident, next: u32)
     requires { task.id ≤ 4 }
-    ensures { store.new ≡ written (waiting_pairs task.id task.address task.priority next) store.old }
+    ensures { store.new
+        ≡ written (waiting_pairs task.id task.address task.priority next) store.old }
 {
     set_field(store, task.address, TcbField::Link, next);
     set_field(store, task.address, TcbField::Id, task.id);
