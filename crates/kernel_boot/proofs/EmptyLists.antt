@@ -1,30 +1,28 @@
 -- A kernel without tasks, modules and packets is a valid one.
-use Rattle.std.proofs.Common.{◌≡◌, ℕ, ◌+◌, ◌-◌, ◌%◌, ◌<◌, ◌≤◌, true, replicate, eqb, ◌&&◌, inl, inr, refl, ◌∙◌, subst, arith}
-use Rattle.std.proofs.lemmas.Bool.{and_parts, cases_eq, cases_lt, eqb-true, leb-true}
+use Rattle.std.proofs.Common.{◌≡◌, ℕ, ◌+◌, ◌-◌, ◌%◌, ◌<◌, ◌≤◌, replicate, inl, inr, refl, ◌∙◌, subst, arith}
+use Rattle.std.proofs.lemmas.Bool.{cases_eq, cases_lt}
 use Rattle.std.proofs.lemmas.List.{length-replicate}
-use Rattle.std.specs.Prelude.{IsTrue, nat_le}
+use Rattle.std.specs.Prelude.{IsTrue}
 use Rattle.std.specs.List.{range_with_len}
 use Rattle.linked_list.specs.Count.{hit, times}
 use Rattle.linked_list.proofs.Counts.{hit-le, hit-other, range-apart, times-above}
 use Rattle.owned_words.specs.Owned.{owners, written}
 use Rattle.owned_words.proofs.OwnedWords.{length-written}
-use Rattle.session_text.specs.Ranges.{IsVersion, is_period, is_store_size, most_words}
+use Rattle.session_text.specs.Ranges.{IsVersion, is_period, is_store_size}
 use Rattle.kernel_model.specs.HoldsLists.{HoldsLists}
 use Rattle.kernel_model.specs.Owned.{OwnsApart, owned}
 use Rattle.kernel_model.specs.ValidLists.{AreValid}
 use Rattle.kernel_model.proofs.RootCounts.{owners-nodes}
 use Rattle.kernel_boot.specs.EmptyKernel.{empty_lists}
 use Rattle.kernel_boot.proofs.EmptyWords.{holds-empty, pairs}
+use Rattle.kernel_boot.proofs.StoreSizes.{size-even, size-low}
 
 module _ (n v p : ℕ) (version : IsVersion v) (size : IsTrue (is_store_size v n)) (period : IsTrue (is_period p)) where
-  parts : ((nat_le 1024 n && nat_le n (most_words v)) ≡ true) × (eqb (n % 2) 0 ≡ true)
-  parts = and_parts (nat_le 1024 n && nat_le n (most_words v)) (eqb (n % 2) 0) size
-
   low : 1024 ≤ n
-  low = leb-true 1024 n (and_parts (nat_le 1024 n) (nat_le n (most_words v)) parts.0).0
+  low = size-low v n size
 
   even : n % 2 ≡ 0
-  even = eqb-true (n % 2) 0 parts.1
+  even = size-even v n size
 
   -- the words 100 to 183, the size word and the end word
   count : (a : ℕ) → owners a (owned (empty_lists v p n)) ≡ times a (range_with_len 100 84) + (hit a (n - 2) + hit a 200)

@@ -11,6 +11,7 @@ use Rattle.kernel_model.specs.Owned.{owned}
 use Rattle.kernel_model.specs.Root.{root_words}
 use Rattle.kernel_model.specs.Task.{filled}
 use Rattle.kernel_model.specs.Versions.{highest_id_of}
+use Rattle.kernel_boot.specs.BootWords.{root_pairs}
 use Rattle.kernel_boot.specs.EmptyKernel.{empty_lists}
 use Rattle.kernel_model.proofs.RootCounts.{highest-high}
 
@@ -22,13 +23,9 @@ written-here (e ∷ es) b w back s none inside =
     get_or-set_other (written (es ++ (b, w) ∷ back) s) e.0 b e.1 0 other ∙ written-here es b w back s (omega (arith, none)) inside
 
 module _ (n v p : ℕ) where
-  -- the words of the root that are not 0, the last one that is written first
-  abbrev pub root_pairs : Pairs
-  root_pairs = (120, highest_id_of v) ∷ (111, v) ∷ (110, p) ∷ (109, n) ∷ (103, 200) ∷ (100, 120) ∷ []
-
-  -- and the size word and the end word
+  -- the words of the root, the size word and the end word
   abbrev pub pairs : Pairs
-  pairs = (n - 2, 0) ∷ (200, n - 202 + 1) ∷ root_pairs
+  pairs = (n - 2, 0) ∷ (200, n - 202 + 1) ∷ root_pairs n v p
 
 module _ (n v p : ℕ) (low : 1024 ≤ n) where
   abbrev top : ℕ

@@ -1,2 +1,4 @@
 pub mod EmptyKernel
 pub mod BegunTask
+pub mod BootWords
+pub mod ResidentKernel

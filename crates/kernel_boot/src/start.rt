@@ -1,8 +1,10 @@
 // A kernel without tasks, modules and packets.
 ghost use Rattle.std.specs.Prelude.{◌≡◌, IsTrue, length, replicate};
+ghost use Rattle.owned_words.specs.Owned.{written};
 ghost use Rattle.session_text.specs.Ranges.{IsVersion, is_period, is_store_size};
 ghost use Rattle.kernel_model.specs.HoldsLists.{HoldsLists};
 ghost use Rattle.kernel_model.specs.Versions.{highest_id_of};
+ghost use Rattle.kernel_boot.specs.BootWords.{root_pairs};
 ghost use Rattle.kernel_boot.specs.EmptyKernel.{empty_lists};
 
 use getvec_chain::{FIRST_BLOCK, make};
@@ -10,7 +12,7 @@ use task_block::{RootField, set_root};
 use word_store::Store;
 
 /// Where the task table begins; its first word has the highest number of a task.
-const TABLE: u32 = 120;
+pub(crate) const TABLE: u32 = 120;
 
 /// Makes a kernel in a store of zeros: the root node, the task table, and one free block of all words from 200 up to the end
 /// word. Its clock ticks each `period` steps.
@@ -21,6 +23,14 @@ pub fn make_kernel(store: &mut Store, version: u32, period: u32)
     requires period { IsTrue (is_period period) }
     ensures { HoldsLists store.new (empty_lists version period (length store.old)) }
 {
+    write_root(store, version, period);
+    make(store);
+}
+
+/// Writes the words of the root that each kernel has.
+pub(crate) fn write_root(store: &mut Store, version: u32, period: u32)
+    ensures { store.new ≡ written (root_pairs (length store.old) version period) store.old }
+{
     let words = store.size();
     set_root(store, RootField::Table, TABLE);
     set_root(store, RootField::FirstBlock, FIRST_BLOCK);
@@ -28,7 +38,6 @@ pub fn make_kernel(store: &mut Store, version: u32, period: u32)
     set_root(store, RootField::Period, period);
     set_root(store, RootField::Version, version);
     store.set(TABLE, highest_id(version));
-    make(store);
 }
 
 // The highest number of a task.

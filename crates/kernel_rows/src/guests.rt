@@ -4,6 +4,7 @@ ghost use Rattle.session_text.specs.Ranges.{IsVersion, is_period, is_store_size}
 ghost use Rattle.kernel_model.specs.HoldsLists.{HoldsLists};
 ghost use Rattle.kernel_model.specs.Lists.{Lists};
 ghost use Rattle.kernel_boot.specs.EmptyKernel.{empty_lists};
+ghost use Rattle.kernel_boot.specs.ResidentKernel.{resident_lists};
 
 use crate::conditions::{NO_REGS, can_dispatch, has_caller, is_within, running_id};
 use crate::endings::end_caller;
@@ -11,7 +12,7 @@ use crate::plain_words::set_plain;
 use call_answers::guest;
 use coroutine_calls::ended;
 use hunk_text::SliceText;
-use kernel_boot::{begin_task, make_kernel};
+use kernel_boot::{begin_task, make_kernel, make_resident_kernel};
 use kernel_calls::call;
 use kernel_dispatch::switch;
 use module_calls::load_module;
@@ -62,13 +63,43 @@ impl Guests {
         };
         let log = ListLog::make(alloc, EVENTS)?;
         make_kernel(&mut store, version, period);
-        Ok(Guests {
+        Ok(Guests::of(store, log))
+    }
+
+    /// A kernel as `new` makes it, but with residents, among them the one that reports faults if it is asked for.
+    /// `WantMemory` comes only where memory could not be had.
+    pub fn with_residents(
+        alloc: Global,
+        words: u32,
+        version: u32,
+        period: u32,
+        reporter: bool,
+    ) -> Result<Guests, WantMemory>
+        requires version { IsVersion version }
+        requires size { IsTrue (is_store_size version words) }
+        requires period { IsTrue (is_period period) }
+        ensures { IfOk result (λ g. HoldsLists g (resident_lists version period words reporter)) }
+    {
+        let Ok(mut store) = Store::new(alloc, words) else {
+            return Err(WantMemory);
+        };
+        let log = ListLog::make(alloc, EVENTS)?;
+        make_resident_kernel(&mut store, version, period, reporter);
+        Ok(Guests::of(store, log))
+    }
+
+    // The kernel of this store, in which nobody runs.
+    fn of(store: Store, log: ListLog) -> Guests
+        requires { (l : Lists) × HoldsLists store l }
+        ensures { result ≡ store }
+    {
+        Guests {
             store,
             regs: NO_REGS,
             kinds: Walk::new(),
             output: Output::new(),
             log,
-        })
+        }
     }
 
     /// Loads the module of the text; its address is the answer.

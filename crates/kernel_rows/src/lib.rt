@@ -17,6 +17,8 @@ pub mod guests;
 #[cfg(test)]
 mod packets;
 mod plain_words;
+#[cfg(test)]
+mod residents;
 pub mod rows;
 #[cfg(test)]
 mod two_guests;
