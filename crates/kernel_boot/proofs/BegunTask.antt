@@ -5,7 +5,7 @@ use Rattle.linked_list.specs.Count.{IsApart}
 use Rattle.word_store.specs.declared.registers.Regs.{Regs}
 use Rattle.owned_words.specs.Exchange.{Exchange}
 use Rattle.owned_words.specs.LinkedWords.{first_of}
-use Rattle.owned_words.specs.Owned.{Holds, Pairs, written}
+use Rattle.owned_words.specs.Owned.{Holds, Pairs, owners, written}
 use Rattle.owned_words.proofs.Exchanges.{exchange-none}
 use Rattle.packet_queue.specs.QueueWords.{QueuedPacket, queue_words}
 use Rattle.kernel_model.specs.ChangedStore.{IsChanged}
@@ -17,7 +17,7 @@ use Rattle.kernel_model.specs.Task.{Task, is_guest_id, queue_head, state_word, s
 use Rattle.kernel_model.specs.ValidLists.{AreValid}
 use Rattle.kernel_model.specs.ValidTasks.{IsField, IsTask}
 use Rattle.kernel_model.proofs.ChainSplits.{change-between}
-use Rattle.kernel_model.proofs.ChangedLists.{exchange-owned, one_task-owned}
+use Rattle.kernel_model.proofs.ChangedLists.{exchange-owned, one_task-owned, owners-exchanged}
 use Rattle.kernel_model.proofs.OneTask.{same_task-valid}
 use Rattle.kernel_dispatch.specs.DispatchWords.{saved_words}
 use Rattle.kernel_dispatch.proofs.StateExchanges.{exchange-suspended, exchange-task}
@@ -105,3 +105,7 @@ module _ (s : List ℕ) (l : Lists) (id address : ℕ) (h : HoldsLists s l) (g :
       let state : get_or s (address + 4) 0 % 4 + 8 ≡ state_word (begun l.version s g.task) = ap (λ w. w % 4 + 8) facts.state ∙ begun-state g.task facts.task.field in
       subst (λ ts. IsChanged s t (with_tasks ts l) []) (sym split)
       (exchange-owned s t l after old new h valid refl exchange (is ∙ (λ i. written (saved_words (sym g.at i) (state i) (same i)) s)))
+
+  -- the same words are owned
+  pub begun-owners : (a : ℕ) → owners a (owned (with_begun s id l)) ≡ owners a (owned l)
+  begun-owners a = ap (λ ts. owners a (owned (with_tasks ts l))) split ∙ sym (owners-exchanged (owned l) (owned after) old new a exchange refl)

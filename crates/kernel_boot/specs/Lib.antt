@@ -1,2 +1,3 @@
-pub mod EmptyKernel
 pub mod BegunTask
+pub mod BootFiles
+pub mod EmptyKernel
