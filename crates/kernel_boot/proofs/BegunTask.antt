@@ -4,6 +4,7 @@ use Rattle.std.proofs.lemmas.List.{append-nil}
 use Rattle.linked_list.specs.Count.{IsApart}
 use Rattle.word_store.specs.declared.registers.Regs.{Regs}
 use Rattle.owned_words.specs.Exchange.{Exchange}
+use Rattle.task_block.specs.HeldTasks.{address_with}
 use Rattle.owned_words.specs.LinkedWords.{first_of}
 use Rattle.owned_words.specs.Owned.{Holds, Pairs, owners, written}
 use Rattle.owned_words.proofs.Exchanges.{exchange-none}
@@ -23,6 +24,9 @@ use Rattle.kernel_dispatch.specs.DispatchWords.{saved_words}
 use Rattle.kernel_dispatch.proofs.StateExchanges.{exchange-suspended, exchange-task}
 use Rattle.kernel_dispatch.proofs.TaskStates.{by-field}
 use Rattle.call_answers.specs.Guests.{GuestAt}
+use Rattle.call_answers.proofs.Refusals.{guest-at}
+use Rattle.call_answers.proofs.RunningTask.{there-at}
+use Rattle.kernel_model.specs.ValidQueues.{HasGuest}
 use Rattle.call_answers.proofs.GuestTask.{GuestFacts, guest-facts, guest-words}
 use Rattle.kernel_boot.specs.BegunTask.{begin_regs, begun, with_begun}
 
@@ -109,3 +113,9 @@ module _ (s : List ℕ) (l : Lists) (id address : ℕ) (h : HoldsLists s l) (g :
   -- the same words are owned
   pub begun-owners : (a : ℕ) → owners a (owned (with_begun s id l)) ≡ owners a (owned l)
   begun-owners a = ap (λ ts. owners a (owned (with_tasks ts l))) split ∙ sym (owners-exchanged (owned l) (owned after) old new a exchange refl)
+
+-- of a guest with the number
+pub begun-same : (s : List ℕ) (l : Lists) (id : ℕ) → HoldsLists s l → HasGuest l id → (a : ℕ) → owners a (owned (with_begun s id l)) ≡ owners a (owned l)
+begun-same s l id h g a =
+    let there = there-at id l.tasks g.1 in
+    begun-owners s l id (address_with task_address task_id l.tasks id) h (guest-at l id (address_with task_address task_id l.tasks id) there g.0) a

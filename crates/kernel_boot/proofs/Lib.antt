@@ -2,4 +2,6 @@ pub mod BegunTask
 pub mod EmptyLists
 pub mod EmptyWords
 pub mod NewFiles
+pub mod StandingKernels
+pub mod StartedTasks
 pub mod WrittenFiles

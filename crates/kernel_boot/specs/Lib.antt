@@ -1,3 +1,4 @@
 pub mod BegunTask
 pub mod BootFiles
+pub mod BootTasks
 pub mod EmptyKernel
