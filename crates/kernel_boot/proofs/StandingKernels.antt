@@ -1,5 +1,5 @@
 -- A store and its lists, call after call.
-use Rattle.std.proofs.Common.{◌≡◌, cond, true, false, ℕ, ◌+◌, ◌<◌, ◌≤◌, List, [], ◌∷◌, ◌++◌, length, get_or, drop, Option, Some, Result, Ok, Err, inl, inr, refl, sym, ap, ◌∙◌, arith, add-one, drop-cons}
+use Rattle.std.proofs.Common.{◌≡◌, cond, false, ℕ, ◌+◌, ◌<◌, ◌≤◌, List, [], ◌∷◌, ◌++◌, length, get_or, drop, Option, Some, Result, Ok, Err, inl, inr, refl, sym, ap, ◌∙◌, arith, add-one, drop-cons}
 use Rattle.std.proofs.lemmas.Bool.{cases_eq}
 use Rattle.std.proofs.lemmas.List.{ext_get_or}
 use Rattle.owned_words.specs.Owned.{Holds, Pairs, owners, written}
@@ -17,7 +17,7 @@ use Rattle.ram_disc.specs.Disc.{Disc}
 use Rattle.session_text.specs.declared.sessions.SessionLine.{SessionLine}
 use Rattle.task_calls.specs.CreateTask.{create_task}
 use Rattle.kernel_boot.specs.BegunTask.{with_begun}
-use Rattle.kernel_boot.specs.BootFiles.{at_line, boot_refusal}
+use Rattle.kernel_boot.specs.BootFiles.{at_line}
 use Rattle.kernel_boot.proofs.BegunTask.{begun-same}
 use Rattle.kernel_boot.proofs.StartedTasks.{form-keeps}
 use Rattle.kernel_model.specs.Owned.{owned}
@@ -87,9 +87,6 @@ module _ (d : Disc) (lines : List SessionLine) (i : ℕ) (line : SessionLine) (l
   lines-next k r e =
       ap (λ ls. start_tasks d ls k) (drop-first lines i line lt is) ∙ ap (λ x. at_line line.line x (λ j. start_tasks d (drop (i + 1) lines) j)) e
 
-  pub line-refused : (k : Standing) (code : ℕ) → start_form d line.form k ≡ Err code → start_tasks d (drop i lines) k ≡ Err (boot_refusal line.line code)
-  line-refused k code e = lines-next k (Err code) e
-
   pub line-started : (s t : List ℕ) (l : Lists) (tells : List ℕ → Type 0) (room : ℕ) (r : Result (Unit {0}) ℕ) → ((code : ℕ) → r ≡ Err code → ⊥)
       → IsLeft t tells room r (start_form d line.form (standing s l))
       → (j : Lists) × HasKeeper t tells room j × (j.version ≡ l.version) × (start_tasks d (drop i lines) (standing s l) ≡ start_tasks d (drop (i + 1) lines) (standing t j))
@@ -99,33 +96,26 @@ module _ (d : Disc) (lines : List SessionLine) (i : ℕ) (line : SessionLine) (l
 
 -- ---- a task
 
-module _ (d : Disc) (id pri stack : ℕ) (names : List (List ℕ)) (s : List ℕ) (l : Lists) where
-  pub task-there : has_task id l.tasks ≡ true → start_task d id pri stack names (standing s l) ≡ Err 27
-  task-there e = ap (λ b. cond b (Err 27) (create_it id pri stack (load_names d names [] (standing s l)))) e
+module _ (d : Disc) (id pri stack : ℕ) (names : List (List ℕ)) (s : List ℕ) (l : Lists) (away : has_task id l.tasks ≡ false) where
+  start-is : start_task d id pri stack names (standing s l) ≡ create_it id pri stack (load_names d names [] (standing s l))
+  start-is = ap (λ b. cond b (Err 27) (create_it id pri stack (load_names d names [] (standing s l)))) away
 
-  module _ (away : has_task id l.tasks ≡ false) where
-    start-is : start_task d id pri stack names (standing s l) ≡ create_it id pri stack (load_names d names [] (standing s l))
-    start-is = ap (λ b. cond b (Err 27) (create_it id pri stack (load_names d names [] (standing s l)))) away
+  module _ (u v : List ℕ) (m : Lists) (modules : List ℕ) (tells : List ℕ → Type 0) (r : Result ℕ ℕ) (loaded : load_names d names [] (standing s l) ≡ Ok (modules, standing u m))
+      (made : IsMade u v tells r (create_task u m id modules stack pri 0)) where
+    abbrev left : Lists
+    left = (create_task u m id modules stack pri 0).lists
 
-    pub names-refused : (code : ℕ) → load_names d names [] (standing s l) ≡ Err code → start_task d id pri stack names (standing s l) ≡ Err code
-    names-refused code e = start-is ∙ ap (create_it id pri stack) e
+    pub created-is : start_task d id pri stack names (standing s l) ≡ on_answer r (standing v left) begin_it
+    created-is = start-is ∙ ap (create_it id pri stack) loaded ∙ call-then u v tells r (create_task u m id modules stack pri 0) made begin_it
 
-    module _ (u v : List ℕ) (m : Lists) (modules : List ℕ) (tells : List ℕ → Type 0) (r : Result ℕ ℕ) (loaded : load_names d names [] (standing s l) ≡ Ok (modules, standing u m))
-        (made : IsMade u v tells r (create_task u m id modules stack pri 0)) where
-      abbrev left : Lists
-      left = (create_task u m id modules stack pri 0).lists
-
-      pub created-is : start_task d id pri stack names (standing s l) ≡ on_answer r (standing v left) begin_it
-      created-is = start-is ∙ ap (create_it id pri stack) loaded ∙ call-then u v tells r (create_task u m id modules stack pri 0) made begin_it
-
-      pub begun-is : (w : List ℕ) (room n : ℕ) → r ≡ Ok n → length u ≤ room → HasGuest left n → IsChanged v w (with_begun v n left) []
-          → IsLeft w tells room (Ok tt) (start_task d id pri stack names (standing s l))
-      begun-is w room n ok enough guest ch = (
-        with_begun v n left,
-        created-is ∙ ap (λ x. on_answer x (standing v left) begin_it) ok ∙ ap (λ x. Ok (standing x (with_begun v n left))) (sym (left-is v w (with_begun v n left) [] ch)),
-        record {
-          lists = ch.lists;
-          knows = knows-same tells left (with_begun v n left) (begun-same v left n made.leaves.lists.lists guest) made.knows;
-          enough = omega (arith, ch.size, made.leaves.lists.size, enough);
-        },
-      )
+    pub begun-is : (w : List ℕ) (room n : ℕ) → r ≡ Ok n → length u ≤ room → HasGuest left n → IsChanged v w (with_begun v n left) []
+        → IsLeft w tells room (Ok tt) (start_task d id pri stack names (standing s l))
+    begun-is w room n ok enough guest ch = (
+      with_begun v n left,
+      created-is ∙ ap (λ x. on_answer x (standing v left) begin_it) ok ∙ ap (λ x. Ok (standing x (with_begun v n left))) (sym (left-is v w (with_begun v n left) [] ch)),
+      record {
+        lists = ch.lists;
+        knows = knows-same tells left (with_begun v n left) (begun-same v left n made.leaves.lists.lists guest) made.knows;
+        enough = omega (arith, ch.size, made.leaves.lists.size, enough);
+      },
+    )

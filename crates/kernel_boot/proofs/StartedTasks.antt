@@ -1,5 +1,5 @@
 -- What the start of a task keeps and brings.
-use Rattle.std.proofs.Common.{◌≡◌, ℕ, ◌+◌, ◌<◌, ◌≤◌, get_or, List, [], ◌∷◌, ◌++◌, length, cond, eqb, ◌||◌, Bool, true, false, Option, Some, None, Result, Ok, Err, inr, refl, sym, ap, ◌∙◌, subst, arith}
+use Rattle.std.proofs.Common.{◌≡◌, ℕ, ◌+◌, ◌<◌, ◌≤◌, get_or, List, [], ◌∷◌, ◌++◌, length, cond, ◌||◌, Bool, true, false, Option, Some, None, Result, Ok, Err, inr, refl, sym, ap, ◌∙◌, subst, arith}
 use Rattle.std.specs.List.{list_any}
 use Rattle.std.specs.Option.{option_map}
 use Rattle.std.specs.Prelude.{is_ok, unwrap_or}
@@ -20,7 +20,7 @@ use Rattle.kernel_model.specs.Versions.{highest_id_of, most_modules_of}
 use Rattle.call_answers.specs.Made.{Made, by_refusal}
 use Rattle.call_answers.specs.Guests.{IsGuestOf}
 use Rattle.call_answers.specs.Refusals.{first_refusal}
-use Rattle.call_answers.proofs.Refusals.{guest-parts, high-guest}
+use Rattle.call_answers.proofs.Refusals.{high-guest}
 use Rattle.module_calls.specs.LoadModule.{load_tests}
 use Rattle.task_calls.specs.CreateTask.{MayCreate, create_task, creation_tests, free_id, new_task, number_of, with_created}
 use Rattle.kernel_boot.specs.BootTasks.{AreBootLines, IsBootForm, MayStart, Standing, begin_it, create_it, left_with, load_bytes, load_named, load_names, load_text, on_answer, standing, start_form}
@@ -157,10 +157,6 @@ form-keeps d (Task id pri stack names) k j is = on (has_task id k.lists.tasks) i
 
 -- ---- whose number it is
 
-pub guest-there : (l : Lists) (id : ℕ) (r : Result ℕ ℕ) → IsGuestOf l id r → is_ok r ≡ true → has_task id l.tasks ≡ true
-guest-there l id (Ok address) g e = (guest-parts l id g.accepted).0
-guest-there l id (Err code) g e = cc
-
 pub guest-away : (l : Lists) (id : ℕ) (r : Result ℕ ℕ) → IsGuestOf l id r → 5 ≤ id → is_ok r ≡ false → has_task id l.tasks ≡ false
 guest-away l id (Ok address) g low e = cc
 guest-away l id (Err code) g low e = on (has_task id l.tasks) refl
@@ -173,13 +169,6 @@ guest-away l id (Err code) g low e = on (has_task id l.tasks) refl
         let none : ◌≡◌ {A = Option ℕ} None (Some code) = sym (ap (λ t. tests t (is_guest_id id)) f ∙ ap (tests true) (high-guest id low)) ∙ g in
         cc
     on false f = f
-
-pub most-modules : (version : ℕ) → most_modules_of version ≤ 8
-most-modules version = on (eqb version 2)
-  where
-    on : (b : Bool) → cond b 8 1 ≤ 8
-    on true = omega arith
-    on false = omega arith
 
 pub guest-created : (s : List ℕ) (l : Lists) (id : ℕ) (modules : List ℕ) (u pri maker n : ℕ) → 5 ≤ id → (create_task s l id modules u pri maker).answer ≡ Ok n
     → HasGuest (create_task s l id modules u pri maker).lists n
