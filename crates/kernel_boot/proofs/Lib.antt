@@ -1,6 +1,7 @@
 pub mod BegunTask
 pub mod EmptyLists
 pub mod EmptyWords
+pub mod LawfulLines
 pub mod NewFiles
 pub mod StandingKernels
 pub mod StartedTasks

@@ -3,12 +3,14 @@
 
 mod begin;
 mod files;
+pub mod laws;
 mod refusals;
 mod start;
 mod tasks;
 
 pub use begin::begin_task;
 pub use files::load_files;
+pub use laws::boot_lines_law;
 pub use refusals::BootRefusal;
 pub use start::make_kernel;
 pub use tasks::start_tasks;
