@@ -4,8 +4,9 @@ use Rattle.std.proofs.lemmas.List.{append-nil}
 use Rattle.linked_list.specs.Count.{IsApart}
 use Rattle.word_store.specs.declared.registers.Regs.{Regs}
 use Rattle.owned_words.specs.Exchange.{Exchange}
+use Rattle.task_block.specs.HeldTasks.{address_with}
 use Rattle.owned_words.specs.LinkedWords.{first_of}
-use Rattle.owned_words.specs.Owned.{Holds, Pairs, written}
+use Rattle.owned_words.specs.Owned.{Holds, Pairs, owners, written}
 use Rattle.owned_words.proofs.Exchanges.{exchange-none}
 use Rattle.packet_queue.specs.QueueWords.{QueuedPacket, queue_words}
 use Rattle.kernel_model.specs.ChangedStore.{IsChanged}
@@ -17,12 +18,15 @@ use Rattle.kernel_model.specs.Task.{Task, is_guest_id, queue_head, state_word, s
 use Rattle.kernel_model.specs.ValidLists.{AreValid}
 use Rattle.kernel_model.specs.ValidTasks.{IsField, IsTask}
 use Rattle.kernel_model.proofs.ChainSplits.{change-between}
-use Rattle.kernel_model.proofs.ChangedLists.{exchange-owned, one_task-owned}
+use Rattle.kernel_model.proofs.ChangedLists.{exchange-owned, one_task-owned, owners-exchanged}
 use Rattle.kernel_model.proofs.OneTask.{same_task-valid}
 use Rattle.kernel_dispatch.specs.DispatchWords.{saved_words}
 use Rattle.kernel_dispatch.proofs.StateExchanges.{exchange-suspended, exchange-task}
 use Rattle.kernel_dispatch.proofs.TaskStates.{by-field}
 use Rattle.call_answers.specs.Guests.{GuestAt}
+use Rattle.call_answers.proofs.Refusals.{guest-at}
+use Rattle.call_answers.proofs.RunningTask.{there-at}
+use Rattle.kernel_model.specs.ValidQueues.{HasGuest}
 use Rattle.call_answers.proofs.GuestTask.{GuestFacts, guest-facts, guest-words}
 use Rattle.kernel_boot.specs.BegunTask.{begin_regs, begun, with_begun}
 
@@ -105,3 +109,13 @@ module _ (s : List ℕ) (l : Lists) (id address : ℕ) (h : HoldsLists s l) (g :
       let state : get_or s (address + 4) 0 % 4 + 8 ≡ state_word (begun l.version s g.task) = ap (λ w. w % 4 + 8) facts.state ∙ begun-state g.task facts.task.field in
       subst (λ ts. IsChanged s t (with_tasks ts l) []) (sym split)
       (exchange-owned s t l after old new h valid refl exchange (is ∙ (λ i. written (saved_words (sym g.at i) (state i) (same i)) s)))
+
+  -- the same words are owned
+  pub begun-owners : (a : ℕ) → owners a (owned (with_begun s id l)) ≡ owners a (owned l)
+  begun-owners a = ap (λ ts. owners a (owned (with_tasks ts l))) split ∙ sym (owners-exchanged (owned l) (owned after) old new a exchange refl)
+
+-- of a guest with the number
+pub begun-same : (s : List ℕ) (l : Lists) (id : ℕ) → HoldsLists s l → HasGuest l id → (a : ℕ) → owners a (owned (with_begun s id l)) ≡ owners a (owned l)
+begun-same s l id h g a =
+    let there = there-at id l.tasks g.1 in
+    begun-owners s l id (address_with task_address task_id l.tasks id) h (guest-at l id (address_with task_address task_id l.tasks id) there g.0) a

@@ -6,3 +6,8 @@ pub mod ResidentLists
 pub mod ResidentRules
 pub mod ResidentWords
 pub mod StoreSizes
+pub mod LawfulLines
+pub mod NewFiles
+pub mod StandingKernels
+pub mod StartedTasks
+pub mod WrittenFiles

@@ -1,0 +1,14 @@
+use Rattle.std.proofs.Common.{◌≡◌, ◌≤◌, [], drop, length}
+use Rattle.kernel_model.specs.ChangedStore.{HasKeeper}
+use Rattle.kernel_model.specs.Lists.{Lists}
+use Rattle.kernel_boot.specs.BootTasks.{load_names, standing}
+use Rattle.kernel_boot.proofs.tasks.load_names.Given as goal
+
+abbrev pub invariant-loop-name : goal.invariant-loop-name
+invariant-loop-name g l = record {
+  count : length l.modules.items ≤ l.name-index;
+  room : g.Q.KindKeeper.room l.kinds ≡ g.Q.KindKeeper.room l.fn.kinds;
+  so_far : (h : Lists) → HasKeeper l.fn.store (g.Q.KindKeeper.tells l.fn.kinds) (g.Q.KindKeeper.room l.fn.kinds) h
+      → (k : Lists) × HasKeeper l.store (g.Q.KindKeeper.tells l.kinds) (g.Q.KindKeeper.room l.kinds) k
+      × (load_names l.disc (drop l.name-index l.names) l.modules.items (standing l.store k) ≡ load_names l.disc l.names [] (standing l.fn.store h));
+}

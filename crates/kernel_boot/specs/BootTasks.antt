@@ -1,0 +1,122 @@
+-- The tasks that a session's lines start in a kernel.
+use Rattle.std.specs.Prelude.{ℕ, ◌≡◌, ◌+◌, ◌≤◌, if◌then◌else◌, Option, Some, None, Result, Ok, Err, List, [], ◌∷◌, ◌++◌, length}
+use Rattle.std.specs.List.{AllByRecursion}
+use Rattle.std.specs.Option.{option_map}
+use Rattle.arrayvec.specs.ArrayVec.{ArrayVec}
+use Rattle.hunk_text.specs.ModuleOfText.{Refusal, module_of}
+use Rattle.hunk_text.specs.declared.modules.Module.{Module}
+use Rattle.owned_words.specs.Owned.{Pairs, written}
+use Rattle.ram_disc.specs.Disc.{Disc, file_named}
+use Rattle.session_text.specs.declared.sessions.LineForm.{LineForm}
+use Rattle.session_text.specs.declared.sessions.LineForm.TheVariants.{Code, File, Task}
+use Rattle.session_text.specs.declared.sessions.SessionLine.{SessionLine}
+use Rattle.kernel_model.specs.ChangedStore.{HasKeeper}
+use Rattle.kernel_model.specs.Lists.{Lists, has_task}
+use Rattle.kernel_model.specs.Owned.{owned}
+use Rattle.kernel_model.specs.Versions.{highest_id_of, most_modules_of}
+use Rattle.call_answers.specs.Made.{Made, refused}
+use Rattle.module_calls.specs.LoadModule.{load_module}
+use Rattle.task_calls.specs.CreateTask.{create_task}
+use Rattle.kernel_boot.specs.BegunTask.{with_begun}
+use Rattle.kernel_boot.specs.BootFiles.{at_line}
+use Rattle.kernel_boot.specs.declared.refusals.BootRefusal.{BootRefusal}
+
+-- ---- the store and the lists, call after call
+
+-- the words of a store, and the lists that it holds
+pub record Standing : Type 0 where
+  pub words : List ℕ
+  pub lists : Lists
+
+abbrev pub standing : List ℕ → Lists → Standing
+standing words l = record { words = words; lists = l }
+
+-- once the store holds these lists, and these plain words were written, no others have changed besides
+abbrev pub left_with : List ℕ → Lists → Pairs → Standing
+left_with words l plain = standing (written (owned l) (written plain words)) l
+
+-- with its answer a call is followed by more
+abbrev pub on_answer : {A : Type 0} → Result ℕ ℕ → Standing → (ℕ → Standing → Result A ℕ) → Result A ℕ
+on_answer (Ok n) k next = next n k
+on_answer (Err code) k next = Err code
+
+abbrev pub after_call : {A : Type 0} → List ℕ → Made → (ℕ → Standing → Result A ℕ) → Result A ℕ
+after_call words made next = on_answer made.answer (left_with words made.lists made.plain) next
+
+-- ---- the modules of a task
+
+-- the module of a text is loaded; where the text is none, the code is 60 more than that of the text
+abbrev pub load_text : Lists → Result Module Refusal → Made
+load_text l (Ok m) = load_module l m.hunks
+load_text l (Err refusal) = refused l (60 + refusal.code)
+
+-- there is such a file (code 41)
+abbrev pub load_bytes : Lists → Option (List ℕ) → Made
+load_bytes l None = refused l 41
+load_bytes l (Some bytes) = load_text l (module_of bytes)
+
+abbrev pub load_named : Disc → List ℕ → Lists → Made
+load_named d name l = load_bytes l (option_map (λ f. f.bytes) (file_named d name))
+
+-- each name in turn loads a module of its own, also one that was loaded before: the modules so far and those of the names
+abbrev pub load_names : Disc → List (List ℕ) → List ℕ → Standing → Result (List ℕ × Standing) ℕ
+load_names d [] modules k = Ok (modules, k)
+load_names d (name ∷ names) modules k =
+    after_call k.words (load_named d name k.lists) (λ m j. load_names d names (modules ++ m ∷ []) j)
+
+-- ---- a task
+
+-- it begins at its function
+abbrev pub begin_it : ℕ → Standing → Result Standing ℕ
+begin_it id k = Ok (left_with k.words (with_begun k.words id k.lists) [])
+
+abbrev pub create_it : ℕ → ℕ → ℕ → Result (List ℕ × Standing) ℕ → Result Standing ℕ
+create_it id pri stack (Err code) = Err code
+create_it id pri stack (Ok x) = after_call x.1.words (create_task x.1.words x.1.lists id x.0 stack pri 0) begin_it
+
+-- no task has the number (code 27); then come its modules, and then it is created, by no task
+abbrev pub start_task : Disc → ℕ → ℕ → ℕ → List (List ℕ) → Standing → Result Standing ℕ
+start_task d id pri stack names k =
+    if has_task id k.lists.tasks then Err 27 else create_it id pri stack (load_names d names [] k)
+
+-- ---- the tasks of all lines
+
+-- what the line starts: lines that are no tasks start nothing
+abbrev pub start_form : Disc → LineForm → Standing → Result Standing ℕ
+start_form d (Task id pri stack names) k = start_task d id pri stack names k
+start_form d (File name bytes) k = Ok k
+start_form d (Code bytes) k = Ok k
+
+-- line after line; the first that is refused ends it
+abbrev pub start_tasks : Disc → List SessionLine → Standing → Result Standing BootRefusal
+start_tasks d [] k = Ok k
+start_tasks d (line ∷ lines) k = at_line line.line (start_form d line.form k) (λ j. start_tasks d lines j)
+
+-- ---- what a session may ask
+
+-- a task's number is a guest's, and it has from one to the most modules
+pub record MayStart (version id : ℕ) (names : List (List ℕ)) : Type 0 where
+  pub low : 5 ≤ id
+  pub high : id ≤ highest_id_of version
+  pub some_module : 1 ≤ length names
+  pub most : length names ≤ most_modules_of version
+
+abbrev pub IsBootForm : ℕ → LineForm → Type 0
+IsBootForm version (Task id pri stack names) = MayStart version id names
+IsBootForm version (File name bytes) = Unit {0}
+IsBootForm version (Code bytes) = Unit {0}
+
+abbrev pub AreBootLines : ℕ → List SessionLine → Type 0
+AreBootLines version lines = AllByRecursion (λ line. IsBootForm version line.form) lines
+
+-- ---- what a function leaves
+
+-- the store holds the lists that are made, and the keeper knows their words; or the answer is its refusal
+abbrev pub IsLeft : {E : Type 0} → List ℕ → (List ℕ → Type 0) → ℕ → Result (Unit {0}) E → Result Standing E → Type 0
+IsLeft s tells room (Ok u) made = (l : Lists) × (made ≡ Ok (standing s l)) × HasKeeper s tells room l
+IsLeft s tells room (Err refusal) made = made ≡ Err refusal
+
+-- the same, where modules are answered
+abbrev pub AreLoaded : List ℕ → (List ℕ → Type 0) → ℕ → Result (ArrayVec ℕ) ℕ → Result (List ℕ × Standing) ℕ → Type 0
+AreLoaded s tells room (Ok modules) made = (l : Lists) × (made ≡ Ok (modules.items, standing s l)) × HasKeeper s tells room l
+AreLoaded s tells room (Err code) made = made ≡ Err code
