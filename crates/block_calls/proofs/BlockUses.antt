@@ -36,9 +36,6 @@ module _ (s : List ℕ) (l : Lists) (v : ℕ) (h : HoldsLists s l) where
   pub tasks-told : has v (tasks_in s) ≡ has v (map task_address l.tasks)
   tasks-told = ap (has v) (reads s l h).tasks.chain
 
-  pub modules-told : has v (modules_in s) ≡ has v (map module_address l.modules)
-  modules-told = ap (has v) (held-modules s l.modules (reads s l h).modules).list
-
   pub coroutines-told : list_any (λ t. has v (coroutines_in s t)) (tasks_in s) ≡ has v (flat_map coroutine_addresses l.tasks)
   coroutines-told = ap (list_any (λ t. has v (coroutines_in s t))) (reads s l h).tasks.chain ∙ among l.tasks (tasks-read s l h)
     where

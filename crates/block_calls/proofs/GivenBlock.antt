@@ -22,10 +22,6 @@ use Rattle.block_calls.specs.Freevec.{IsUsersBlock, freevec, freevec_tests, has_
 use Rattle.block_calls.proofs.IdleBlocks.{idle-unowned, none-idle, unowned-empty}
 use Rattle.block_calls.proofs.TakenStore.{given-changed, given-owners}
 
--- a code that `?` hands on from a part of a call that has no answer of its own
-pub handed-plain : (s t : List ℕ) (tells : List ℕ → Type 0) (r : Result (Unit {0}) ℕ) (code : ℕ) (m : Made) → r ≡ Err code → IsMade s t tells (Err code) m → IsMade s t tells (plain_answer r) m
-handed-plain s t tells r code m is h = subst (λ z. IsMade s t tells z m) (ap plain_answer (sym is)) h
-
 module _ (s : List ℕ) (tells : List ℕ → Type 0) (room : ℕ) (l : Lists) (v : ℕ) (k : HasKeeper s tells room l) where
   -- nothing is at 0
   pub given-nothing : v ≡ 0 → IsMade s s tells (Ok minus_one) (freevec l v)

@@ -14,10 +14,6 @@ use Rattle.block_calls.specs.FreeStore.{data_of_front, data_taken, with_taken}
 use Rattle.block_calls.specs.Getvec.{getvec, getvec_tests}
 use Rattle.block_calls.proofs.TakenStore.{HasTakenBlock, taken-changed}
 
--- a code that `?` hands on
-pub handed-on : (s t : List ℕ) (tells : List ℕ → Type 0) (r : Result ℕ ℕ) (e code : ℕ) (m : Made) → r ≡ Err e → e ≡ code → IsMade s t tells (Err code) m → IsMade s t tells r m
-handed-on s t tells r e code m is same h = subst (λ z. IsMade s t tells z m) (sym (is ∙ ap Err same)) h
-
 module _ (s : List ℕ) (l : Lists) (u : ℕ) (h : HoldsLists s l) where
   abbrev made : Made
   made = record { answer = Ok (data_taken u l); lists = with_taken u l; plain = []; events = [] }

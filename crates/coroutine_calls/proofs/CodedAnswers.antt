@@ -30,10 +30,6 @@ first-coded (test ∷ tests) = on test.0 (first-coded tests)
     on true more = more
     on false more = refl
 
-pub answer_of-err : (o : Option ℕ) (code : ℕ) → ◌≡◌ {A = Result (Unit {0}) ℕ} (Err code) (answer_of o) → o ≡ Some code
-answer_of-err None code e = cc
-answer_of-err (Some other) code e = cc
-
 module _ (s : List ℕ) (t : ℕ) (k : TaskCoroutines) (h : HoldsCoroutines s t k) where
   built : Built s t (map address_of k.list) k.active
   built = held-coroutines s t k.active k.list h.coroutines

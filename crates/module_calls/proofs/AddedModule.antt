@@ -24,8 +24,9 @@ use Rattle.kernel_model.proofs.ChangedLists.{exchange-owned, one_task-owned}
 use Rattle.kernel_model.proofs.OneTask.{owned-one_task, same_task-valid}
 use Rattle.kernel_model.proofs.TaskCounts.{owners-same_task}
 use Rattle.call_answers.specs.Guests.{GuestAt}
+use Rattle.call_answers.specs.Modules.{has_module}
+use Rattle.call_answers.proofs.GuestTask.{guest-changed}
 use Rattle.module_calls.specs.AddModule.{global_words, with_further}
-use Rattle.module_calls.specs.UnloadModule.{has_module}
 use Rattle.module_calls.proofs.AddedWords.{further-exchange, globals-within, globals-written, module-globals}
 use Rattle.module_calls.proofs.AdditionTests.{facts, is-guest}
 
@@ -124,11 +125,7 @@ module _ (s : List ℕ) (l : Lists) (id address m count : ℕ) (h : HoldsLists s
           refl)
 
   after-is : with_task id (with_further m) l ≡ after
-  after-is =
-      ap (λ ts. with_tasks (map (change_of id (with_further m)) ts) l) g.is
-      ∙ ap (λ ts. with_tasks ts l)
-      (subst (λ i. map (change_of i (with_further m)) (g.front ++ g.task ∷ g.back) ≡ g.front ++ with_further m g.task ∷ g.back) g.number
-      (change-between (with_further m) g.front g.task g.back (subst (λ ts. IsApart (map task_id ts)) g.is h.valid.tasks.distinct)))
+  after-is = ap (λ ts. with_tasks ts l) (guest-changed l id address (with_further m) h.valid g)
 
   pub added-changed : IsChanged s (set s (address + module_index (count + 1)) m) (with_task id (with_further m) l) []
   added-changed = subst (λ k. IsChanged s (set s (address + module_index (count + 1)) m) k []) (sym after-is) module-changed

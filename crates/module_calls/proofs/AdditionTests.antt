@@ -27,9 +27,10 @@ use Rattle.call_answers.specs.Guests.{GuestAt}
 use Rattle.call_answers.specs.Refusals.{first_refusal}
 use Rattle.call_answers.proofs.FoundTask.{any-one, reads}
 use Rattle.call_answers.proofs.GuestTask.{GuestFacts, guest-facts}
-use Rattle.module_calls.specs.AddModule.{check_tests, globals_fit, has_module_room, is_dead}
+use Rattle.call_answers.specs.Tasks.{is_dead}
+use Rattle.call_answers.specs.Modules.{has_module}
+use Rattle.module_calls.specs.AddModule.{check_tests, globals_fit, has_module_room}
 use Rattle.module_calls.specs.ModuleFields.{IsTaskIn, further_count}
-use Rattle.module_calls.specs.UnloadModule.{has_module}
 use Rattle.module_calls.proofs.ModuleUses.{each-inside, each-told, module-some}
 
 -- ---- the module's globals

@@ -9,21 +9,10 @@ use Rattle.kernel_model.specs.Residents.{device}
 use Rattle.kernel_model.specs.Task.{task_address, task_id}
 use Rattle.kernel_model.specs.ValidQueues.Place.{Clock, Keyboard, Output, Work}
 use Rattle.kernel_model.proofs.ChainSplits.{address-between, has_task-between}
-use Rattle.call_answers.proofs.FoundTask.{Finds, TaskAt}
+use Rattle.call_answers.proofs.FoundTask.{Finds, TaskAt, found-address, found-there}
 use Rattle.packet_calls.specs.Destinations.{destination_of, is_destination, place_of, queue_for}
 use Rattle.packet_calls.specs.declared.queues.Queue.{Queue}
 use Rattle.packet_calls.specs.declared.queues.Queue.TheVariants.{OfTask}
-
--- the task that was found stands where the table leads to
-pub found-address : (l : Lists) (id a : ℕ) → IsApart (map task_id l.tasks) → TaskAt l.tasks id a → address_of_task l id ≡ a
-found-address l id a apart t =
-    ap (λ ts. address_with task_address task_id ts id) t.is
-    ∙ ap (address_with task_address task_id (t.front ++ t.task ∷ t.back)) (sym t.number)
-    ∙ address-between t.front t.task t.back (subst (λ ts. IsApart (map task_id ts)) t.is apart)
-    ∙ t.at
-
-pub found-there : (l : Lists) (id a : ℕ) → TaskAt l.tasks id a → has_task id l.tasks ≡ true
-found-there l id a t = ap (has_task id) t.is ∙ ap (λ i. has_task i (t.front ++ t.task ∷ t.back)) (sym t.number) ∙ has_task-between t.front t.task t.back
 
 module _ (l : Lists) (n : ℕ) (no_clock : n ≢ device 1) (no_keyboard : n ≢ device 2) (no_output : n ≢ device 3) where
   pub no-device : destination_of l n ≡ cond (has_task n l.tasks) (Some (OfTask (address_of_task l n))) None

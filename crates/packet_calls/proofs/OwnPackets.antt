@@ -34,6 +34,7 @@ use Rattle.word_kinds.specs.Keeper.{AreTogether}
 use Rattle.word_kinds.proofs.KnownWords.{knows-claimed}
 use Rattle.call_answers.specs.Made.{IsMade, minus_one}
 use Rattle.call_answers.proofs.FoundTask.{reads}
+use Rattle.call_answers.proofs.RootTold.{tick-told}
 use Rattle.packet_calls.specs.Destinations.{destination_of, queue_for}
 use Rattle.packet_calls.specs.PacketMoves.{packet_at, sent_packet, with_arrived}
 use Rattle.packet_calls.specs.QueueWords.{due_in, head_of, sent_words}
@@ -44,7 +45,7 @@ use Rattle.packet_calls.proofs.NamedQueues.{no-device}
 use Rattle.packet_calls.proofs.PlacedPackets.{end-changed, end-owners, end-packet, end-queue}
 use Rattle.packet_calls.proofs.PlaceWords.{keys-exchange}
 use Rattle.kernel_model.proofs.DataInside.{AreData-inside}
-use Rattle.packet_calls.proofs.SentPackets.{Sent, fields-stand, sender-set, sent-packet, tick-told, word-within}
+use Rattle.packet_calls.proofs.SentPackets.{Sent, fields-stand, sender-set, sent-packet, word-within}
 
 -- the number of a task is no device's
 low-number : (s : List ℕ) (l : Lists) (id : ℕ) → HoldsLists s l → has_task id l.tasks ≡ true → id ≤ 63

@@ -25,13 +25,12 @@ use Rattle.kernel_model.specs.ValidTasks.{IsField}
 use Rattle.kernel_model.proofs.NotedInTurn.{notes-one}
 use Rattle.kernel_model.proofs.QueueCounts.{owners-packet}
 use Rattle.call_answers.specs.Made.{Leaves, minus_one}
-use Rattle.call_answers.proofs.FoundTask.{Finds, find-task}
+use Rattle.call_answers.proofs.FoundTask.{Finds, find-task, found-address}
 use Rattle.packet_calls.specs.Destinations.{queue_for}
 use Rattle.packet_calls.specs.QueueWords.{head_of, enqueued, with_results}
 use Rattle.packet_calls.specs.Reply.{CanReply, reply, returned}
 use Rattle.packet_calls.specs.declared.queues.Queue.TheVariants.{OfTask}
 use Rattle.packet_calls.proofs.Arrival.{AreOfPacket}
-use Rattle.packet_calls.proofs.NamedQueues.{found-address}
 use Rattle.packet_calls.proofs.PlacedPackets.{AreSet, end-changed, end-packet, end-queue}
 use Rattle.packet_calls.proofs.SentPackets.{comes-some, comes-valid, fields-stand}
 

@@ -169,8 +169,3 @@ module _ (s : List ℕ) (l : Lists) (p sender : ℕ) (h : HoldsLists s l) (lodge
   sent-packet tick Keyboard has from = sent-at_end Keyboard has from tt
   sent-packet tick Output has from = sent-at_end Output has from tt
   sent-packet tick Pending has from = sent-at_end Pending has from tt
-
--- the tick, as the store has it
-pub tick-told : (s : List ℕ) (l : Lists) → HoldsLists s l → get_or s 108 0 ≡ l.tick
-unfolding owned
-tick-told s l h = h.holds.1.1.1.0

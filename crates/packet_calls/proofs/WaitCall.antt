@@ -35,7 +35,7 @@ use Rattle.word_kinds.proofs.KnownWords.{knows-released}
 use Rattle.call_answers.specs.Callers.{HasCaller}
 use Rattle.call_answers.specs.Guests.{GuestAt}
 use Rattle.call_answers.specs.Made.{IsMade}
-use Rattle.call_answers.proofs.GuestTask.{GuestFacts, guest-facts}
+use Rattle.call_answers.proofs.GuestTask.{GuestFacts, guest-changed, guest-facts}
 use Rattle.packet_calls.specs.Destinations.{queue_for}
 use Rattle.packet_calls.specs.PacketMoves.{stands_in}
 use Rattle.packet_calls.specs.QueueWords.{head_of, unqueued}
@@ -104,10 +104,7 @@ module _ (s : List ℕ) (tells : List ℕ → Type 0) (room : ℕ) (l : Lists) (
   after = with_tasks (g.front ++ waiting g.task ∷ g.back) l
 
   after-is : with_task l.running waiting l ≡ after
-  after-is =
-      ap (λ ts. with_tasks (map (change_of l.running waiting) ts) l) g.is
-      ∙ ap (λ i. with_tasks (map (change_of i waiting) (g.front ++ g.task ∷ g.back)) l) (sym g.number)
-      ∙ ap (λ ts. with_tasks ts l) (change-between waiting g.front g.task g.back (subst (λ ts. IsApart (map task_id ts)) g.is k.lists.valid.tasks.distinct))
+  after-is = ap (λ ts. with_tasks ts l) (guest-changed l l.running t waiting k.lists.valid g)
 
   exchange : Exchange (owned l) (owned after) ((g.task.address + 4, state_word g.task) ∷ []) ((g.task.address + 4, state_word (waiting g.task)) ∷ [])
   exchange = one_task-owned l g.front g.task (waiting g.task) g.back _ _ g.is refl refl (waiting-exchange l.version g.task (first_of task_address g.back 0))

@@ -12,10 +12,11 @@ ghost use Rattle.packet_calls.specs.Dqpkt.{dqpkt, found_in, found_in_own, is_res
 
 use crate::destinations::destination;
 use crate::events::dequeued;
-use crate::packets::{PACKET_WORDS, SENDER};
+use crate::packets::PACKET_WORDS;
 use crate::queues::{Queue, has_packet, unqueue};
 use call_answers::caller;
 use call_answers::codes::{NO_DESTINATION, NOT_QUEUED, RESIDENT};
+use call_answers::numbers::SENDER;
 use packet_queue::EventLog;
 use task_block::{RootField, TcbField, field, find, root};
 use word_kinds::KindKeeper;

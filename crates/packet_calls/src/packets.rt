@@ -4,14 +4,12 @@ ghost use Rattle.packet_queue.specs.Queue.{CanQueue, HasQueue};
 ghost use Rattle.packet_calls.specs.QueueWords.{due_in, head_of, enqueued, sent_words, with_results};
 
 use crate::queues::{Queue, enqueue};
+use call_answers::numbers::SENDER;
 use task_block::{RootField, root};
 use word_store::{Store, set_word_at, word_at};
 
 /// How many words of a packet are the kernel's while it is queued.
 pub(crate) const PACKET_WORDS: u32 = 5;
-
-/// The word of a packet that has its destination, and once it was sent its sender.
-pub(crate) const SENDER: u32 = 1;
 
 /// The words that have its results.
 const RES1: u32 = 3;

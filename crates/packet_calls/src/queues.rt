@@ -4,12 +4,10 @@ ghost use Rattle.linked_list.specs.Places.{has};
 ghost use Rattle.packet_queue.specs.Queue.{CanQueue, HasQueue, queue_at};
 ghost use Rattle.packet_calls.specs.QueueWords.{head_of, enqueued, unqueued, state_left, state_with_packets};
 
+use call_answers::numbers::READS_HEAD;
 use packet_queue::{append, append_due, packets, remove};
 use task_block::{RootField, TcbField, field, set_field};
 use word_store::Store;
-
-/// The head of the console's reads that wait for a line.
-const READS_HEAD: u32 = 270;
 
 /// A queue of packets.
 #[derive(Clone, Copy, Debug, PartialEq, Eq)]

@@ -9,8 +9,9 @@ ghost use Rattle.packet_calls.specs.Reply.{CanReply, reply};
 
 use crate::destinations::number_word;
 use crate::events::accepted;
-use crate::packets::{SENDER, give_back};
+use crate::packets::give_back;
 use crate::queues::Queue;
+use call_answers::numbers::SENDER;
 use packet_queue::EventLog;
 use task_block::find;
 use word_store::{Store, word_at};

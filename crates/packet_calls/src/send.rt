@@ -12,10 +12,11 @@ ghost use Rattle.packet_calls.specs.Qpkt.{is_lodged, packet_tests, qpkt};
 
 use crate::destinations::destination;
 use crate::events::accepted;
-use crate::packets::{PACKET_WORDS, SENDER, send};
+use crate::packets::{PACKET_WORDS, send};
 use block_calls::are_unowned;
 use call_answers::caller;
 use call_answers::codes::{LINK_IN_USE, MISPLACED, NO_DESTINATION};
+use call_answers::numbers::SENDER;
 use getvec_chain::{Block, block_of};
 use packet_queue::{EventLog, NO_QUEUE};
 use task_block::{TcbField, field};

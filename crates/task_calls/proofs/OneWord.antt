@@ -17,6 +17,7 @@ use Rattle.kernel_model.specs.ValidTasks.{CoroutinesStand, IsTask}
 use Rattle.kernel_model.proofs.OneTask.{same_task-valid}
 use Rattle.kernel_model.proofs.OneTaskExchange.{one_task-exchange}
 use Rattle.call_answers.specs.Guests.{GuestAt}
+use Rattle.call_answers.proofs.GuestTask.{guest-changed}
 use Rattle.kernel_model.proofs.ChainSplits.{change-between}
 
 pub one-word : (s : List ℕ) (l : Lists) (front : List Task) (t u : Task) (back : List Task) (a w x : ℕ) → HoldsLists s l → l.tasks ≡ front ++ t ∷ back
@@ -51,7 +52,5 @@ pub word-changed : (s : List ℕ) (l : Lists) (id address : ℕ) (change : Task 
     → IsChanged s (set s a x) (with_task id change l) []
 word-changed s l id address change a w x h g same task coroutines inner =
     subst (λ ts. IsChanged s (set s a x) (with_tasks ts l) [])
-    (sym (ap (map (change_of id change)) g.is
-    ∙ subst (λ i. map (change_of i change) (g.front ++ g.task ∷ g.back) ≡ g.front ++ change g.task ∷ g.back) g.number
-    (change-between change g.front g.task g.back (subst (λ ts. IsApart (map task_id ts)) g.is h.valid.tasks.distinct))))
+    (sym (guest-changed l id address change h.valid g))
     (one-word s l g.front g.task (change g.task) g.back a w x h g.is same task coroutines inner)

@@ -11,13 +11,6 @@ use Rattle.kernel_model.specs.HoldsLists.{HoldsLists}
 use Rattle.kernel_model.specs.Lists.{Lists}
 use Rattle.kernel_model.specs.Owned.{owned}
 
--- a row in two parts
-pub row_from-append : (a i : ℕ) (xs ys : List ℕ) → row_from a i (xs ++ ys) ≡ row_from a i xs ++ row_from a (i + length xs) ys
-row_from-append a i [] ys = ap (λ z. row_from a z ys) (sym (add-zero i))
-row_from-append a i (x ∷ xs) ys =
-    let next : suc i + length xs ≡ i + suc (length xs) = omega arith in
-    ap (λ z. (a + i, x) ∷ z) (row_from-append a (suc i) xs ys ∙ ap (λ z. row_from a (suc i) xs ++ row_from a z ys) next)
-
 -- a word that nobody owns is set
 pub plain-set : (s : List ℕ) (l : Lists) (a w : ℕ) → HoldsLists s l → owners a (owned l) ≡ 0 → HoldsLists (set s a w) l
 plain-set s l a w h none =

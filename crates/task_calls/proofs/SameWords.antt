@@ -17,6 +17,7 @@ use Rattle.call_answers.specs.Made.{Made, by_refusal, done}
 use Rattle.call_answers.specs.Refusals.{first_refusal}
 use Rattle.call_answers.proofs.Refusals.{first_refusal-front, first_refusal-passed, guest-at, guest-parts}
 use Rattle.call_answers.proofs.RunningTask.{caller-at, there-at}
+use Rattle.call_answers.proofs.GuestTask.{guest-changed}
 use Rattle.task_calls.specs.ChangePri.{change_pri, priority_tests, with_new_priority}
 use Rattle.task_calls.specs.HoldTask.{held, hold}
 use Rattle.task_calls.specs.OneTask.{is_held}
@@ -40,12 +41,7 @@ module _ (s : List ℕ) (l : Lists) (h : HoldsLists s l) (a : ℕ) where
       → ((n : ℕ) → Exchange (task_words l.version g.task n) (task_words l.version (change g.task) n) ((b, w) ∷ []) ((b, x) ∷ []))
       → owners a (owned (with_task id change l)) ≡ owners a (owned l)
   word-owners id address change b w x g number place inner =
-      let split : map (change_of id change) l.tasks ≡ g.front ++ change g.task ∷ g.back =
-      ap (map (change_of id change)) g.is
-      ∙ subst (λ i. map (change_of i change) (g.front ++ g.task ∷ g.back) ≡ g.front ++ change g.task ∷ g.back) g.number
-      (change-between change g.front g.task g.back (subst (λ ts. IsApart (map task_id ts)) g.is h.valid.tasks.distinct))
-      in
-      ap (λ ts. owners a (owned (with_tasks ts l))) split
+      ap (λ ts. owners a (owned (with_tasks ts l))) (guest-changed l id address change h.valid g)
       ∙ sym (owners-exchanged (owned l) (owned (with_tasks (g.front ++ change g.task ∷ g.back) l)) ((b, w) ∷ []) ((b, x) ∷ []) a
       (one_task-owned l g.front g.task (change g.task) g.back ((b, w) ∷ []) ((b, x) ∷ []) g.is (sym number) (sym place) (inner (first_of task_address g.back 0)))
       refl)
