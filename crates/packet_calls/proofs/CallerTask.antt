@@ -19,9 +19,9 @@ use Rattle.call_answers.specs.Guests.{GuestAt}
 use Rattle.call_answers.proofs.FoundTask.{found-address, found-there, reads}
 use Rattle.call_answers.proofs.GuestTask.{guest-facts}
 use Rattle.call_answers.proofs.Refusals.{task-at}
-use Rattle.packet_calls.specs.Destinations.{queue_for}
-use Rattle.packet_calls.specs.declared.queues.Queue.TheVariants.{OfTask}
-use Rattle.packet_calls.proofs.HeldPlaces.{held-at}
+use Rattle.packet_moves.specs.Destinations.{queue_for}
+use Rattle.packet_moves.specs.declared.queues.Queue.TheVariants.{OfTask}
+use Rattle.packet_moves.proofs.HeldPlaces.{held-at}
 
 module _ (s : List ℕ) (l : Lists) (id t : ℕ) (h : HoldsLists s l) (g : GuestAt l id t) where
   distinct : IsApart (map task_id (g.front ++ g.task ∷ g.back))

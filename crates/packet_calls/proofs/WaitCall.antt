@@ -36,14 +36,14 @@ use Rattle.call_answers.specs.Callers.{HasCaller}
 use Rattle.call_answers.specs.Guests.{GuestAt}
 use Rattle.call_answers.specs.Made.{IsMade}
 use Rattle.call_answers.proofs.GuestTask.{GuestFacts, guest-changed, guest-facts}
-use Rattle.packet_calls.specs.Destinations.{queue_for}
-use Rattle.packet_calls.specs.PacketMoves.{stands_in}
-use Rattle.packet_calls.specs.QueueWords.{head_of, unqueued}
+use Rattle.packet_moves.specs.Destinations.{queue_for}
+use Rattle.packet_moves.specs.PacketMoves.{stands_in}
+use Rattle.packet_moves.specs.QueueWords.{head_of, unqueued}
 use Rattle.packet_calls.specs.TaskWait.{first_of_queue, taskwait, waited, waiting}
-use Rattle.packet_calls.specs.declared.queues.Queue.TheVariants.{OfTask}
+use Rattle.packet_moves.specs.declared.queues.Queue.TheVariants.{OfTask}
 use Rattle.packet_calls.proofs.CallerTask.{caller-first, caller-number, caller-queue, caller-runs, caller-state, caller-there}
-use Rattle.packet_calls.proofs.HeldPlaces.{has-at, held-at, stands-at}
-use Rattle.packet_calls.proofs.Departure.{departed-changed, held-before, others-kept, owners-departed}
+use Rattle.packet_moves.proofs.HeldPlaces.{HasFirst, first-there, has-at, held-at, no-packets, stands-at}
+use Rattle.packet_moves.proofs.Departure.{departed-changed, held-before, others-kept, owners-departed}
 
 -- a place by the number of its task
 abbrev number_in : Place → ℕ
@@ -54,10 +54,6 @@ number_in Output = 0
 number_in Pending = 0
 
 -- ---- a task with no packets
-
-no-packets : (ps : List QueuedPacket) → AllByRecursion (λ p. 0 < p.address) ps → first_packet ps ≡ 0 → ps ≡ []
-no-packets [] some e = refl
-no-packets (p ∷ ps) some e = absurd (omega (arith, some.0, e))
 
 waits-more : (f b h : ℕ) → f ≡ 0 → f + b + h + 4 ≡ 4 + b + h
 waits-more f b h e = omega arith
@@ -84,17 +80,6 @@ IsTask-waiting l t guest h =
           record { high = g.high; block = g.block; some_module = g.some_module; most = g.most; modules = g.modules; fault = g.fault; unreported = g.unreported };
       resident = λ is. cc;
     }
-
--- the first packet of a queue, where it has one
-pub record HasFirst (p : ℕ) (ps : List QueuedPacket) : Type 0 where
-  pub packet : QueuedPacket
-  pub back : List QueuedPacket
-  pub is : ps ≡ packet ∷ back
-  pub address : packet.address ≡ p
-
-first-there : (p : ℕ) (ps : List QueuedPacket) → p ≡ first_packet ps → p ≢ 0 → HasFirst p ps
-first-there p [] e some = absurd (some e)
-first-there p (q ∷ qs) e some = record { packet = q; back = qs; is = refl; address = sym e }
 
 module _ (s : List ℕ) (tells : List ℕ → Type 0) (room : ℕ) (l : Lists) (t : ℕ) (k : HasKeeper s tells room l) (c : HasCaller l) (g : GuestAt l l.running t) where
   facts : GuestFacts s l l.running t g.task

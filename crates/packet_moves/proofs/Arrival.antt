@@ -13,7 +13,6 @@ use Rattle.packet_queue.specs.QueueWords.{HeldQueue, QueuedPacket, address_of, f
 use Rattle.packet_queue.proofs.HeldQueues.{appendable}
 use Rattle.kernel_model.specs.ChangedStore.{IsChanged}
 use Rattle.kernel_model.specs.Changes.{HasPlace, queue_of, with_queue}
-use Rattle.kernel_model.specs.HoldsLists.{HoldsLists}
 use Rattle.kernel_model.specs.Lists.{Lists}
 use Rattle.kernel_model.specs.Owned.{owned}
 use Rattle.kernel_model.specs.Task.{task_id}
@@ -23,22 +22,22 @@ use Rattle.linked_list.proofs.AllMembers.{all-append}
 use Rattle.kernel_model.proofs.AllThings.{all-beside, all-here}
 use Rattle.kernel_model.proofs.OwnerCounts.{owners-packet_between, packets_count}
 use Rattle.kernel_model.proofs.QueueCounts.{owned-queue, owners-packet}
-use Rattle.packet_calls.specs.Destinations.{queue_for}
-use Rattle.packet_calls.specs.PacketMoves.{packet_at}
-use Rattle.packet_calls.specs.QueueWords.{head_of}
-use Rattle.packet_calls.proofs.KeptWords.{exchange-gone, exchange-kept}
-use Rattle.packet_calls.proofs.PlaceWords.{place-exchange, state_pairs}
+use Rattle.kernel_model.proofs.QueuePlaces.{with_queue-size}
+use Rattle.packet_moves.specs.Destinations.{queue_for}
+use Rattle.packet_moves.specs.PacketMoves.{packet_at}
+use Rattle.packet_moves.specs.QueueWords.{head_of}
+use Rattle.packet_moves.proofs.KeptWords.{exchange-kept}
+use Rattle.packet_moves.proofs.PlaceWords.{place-exchange, state_pairs}
 
 -- these words are among those of the packet at p
 abbrev pub AreOfPacket : ℕ → Pairs → Type 0
 AreOfPacket p ws = (a : ℕ) → 0 < owners a ws → 0 < times a (range_with_len p 5)
 
--- From the lists l the packet's own words may cease to be owned (`gone`), as those of the key packet that was on no queue; that
--- leaves the lists `base`. Then p comes between `front` and `back`.
-module _ (s : List ℕ) (l base : Lists) (gone : Pairs) (at : Place) (p : QueuedPacket) (front back : List QueuedPacket)
-    (h : HoldsLists s l) (e : Exchange (owned l) (owned base) gone []) (distinct : IsApart (map task_id base.tasks)) (has : HasPlace base at) (is : queue_of at base ≡ front ++ back)
-    (v : AreValid (with_queue at (front ++ p ∷ back) base)) (size : (with_queue at (front ++ p ∷ back) base).size ≡ l.size)
-    (some : AllByRecursion (λ q. 0 < q.address) (front ++ p ∷ back)) where
+-- The store holds the words of the lists `base`, to which p comes between `front` and `back`. They need not be valid: the key
+-- packet may be on no queue in them, and not be off all of them either.
+module _ (s : List ℕ) (base : Lists) (at : Place) (p : QueuedPacket) (front back : List QueuedPacket)
+    (holds : Holds s (owned base)) (long : length s ≡ base.size) (distinct : IsApart (map task_id base.tasks)) (has : HasPlace base at) (is : queue_of at base ≡ front ++ back)
+    (v : AreValid (with_queue at (front ++ p ∷ back) base)) (some : AllByRecursion (λ q. 0 < q.address) (front ++ p ∷ back)) where
   abbrev m : Lists
   m = with_queue at (front ++ p ∷ back) base
 
@@ -51,8 +50,8 @@ module _ (s : List ℕ) (l base : Lists) (gone : Pairs) (at : Place) (p : Queued
   abbrev link : ℕ
   link = link_behind hd front
 
-  holds-base : Holds s (owned base)
-  holds-base = e.then'.closes s (e.first.opens s h.holds).0 tt
+  size : length s ≡ m.size
+  size = long ∙ sym (with_queue-size at (front ++ p ∷ back) base)
 
   whole : Exchange (owned base) (owned m) (st (front ++ back) ++ queue_words hd (front ++ back)) (st (front ++ p ∷ back) ++ queue_words hd (front ++ p ∷ back))
   whole =
@@ -62,12 +61,11 @@ module _ (s : List ℕ) (l base : Lists) (gone : Pairs) (at : Place) (p : Queued
   packet-in : Exchange (queue_words hd (front ++ back)) (queue_words hd (front ++ p ∷ back)) ((link, first_packet back) ∷ []) ((link, p.address) ∷ packet_words p (first_packet back))
   packet-in = exchange-insert address_of address_of packet_words (links-first address_of other_words) hd front p back 0
 
-  moved : Exchange (owned l) (owned m) (gone ++ (st (front ++ back) ++ (link, first_packet back) ∷ [])) (st (front ++ p ∷ back) ++ ((link, p.address) ∷ packet_words p (first_packet back)))
+  moved : Exchange (owned base) (owned m) (st (front ++ back) ++ (link, first_packet back) ∷ []) (st (front ++ p ∷ back) ++ ((link, p.address) ∷ packet_words p (first_packet back)))
   moved =
-      exchange-gone (owned l) (owned base) (owned m) gone _ _ e
-      (subst (λ z. Exchange (owned base) (owned m) (st z ++ (link, first_packet back) ∷ []) (st (front ++ p ∷ back) ++ ((link, p.address) ∷ packet_words p (first_packet back)))) is
+      subst (λ z. Exchange (owned base) (owned m) (st z ++ (link, first_packet back) ∷ []) (st (front ++ p ∷ back) ++ ((link, p.address) ∷ packet_words p (first_packet back)))) is
       (place-exchange base at (front ++ p ∷ back) _ _ distinct has
-      (subst (λ z. Exchange (queue_words hd z) (queue_words hd (front ++ p ∷ back)) ((link, first_packet back) ∷ []) ((link, p.address) ∷ packet_words p (first_packet back))) (sym is) packet-in)))
+      (subst (λ z. Exchange (queue_words hd z) (queue_words hd (front ++ p ∷ back)) ((link, first_packet back) ∷ []) ((link, p.address) ∷ packet_words p (first_packet back))) (sym is) packet-in))
 
   -- the five words of the packet come to be owned
   pub owners-arrived : (a : ℕ) → owners a (owned m) ≡ owners a (owned base) + times a (range_with_len p.address 5)
@@ -86,10 +84,10 @@ module _ (s : List ℕ) (l base : Lists) (gone : Pairs) (at : Place) (p : Queued
   queue-count a = omega (arith, whole.first.count a, owners-append a (st (front ++ back)) (queue_words hd (front ++ back)))
 
   queue-holds : Holds s (queue_words hd (front ++ back))
-  queue-holds = Holds-right s (st (front ++ back)) (queue_words hd (front ++ back)) (whole.first.opens s holds-base).1
+  queue-holds = Holds-right s (st (front ++ back)) (queue_words hd (front ++ back)) (whole.first.opens s holds).1
 
   state-holds : Holds s (st (front ++ back))
-  state-holds = Holds-left s (st (front ++ back)) (queue_words hd (front ++ back)) (whole.first.opens s holds-base).1
+  state-holds = Holds-left s (st (front ++ back)) (queue_words hd (front ++ back)) (whole.first.opens s holds).1
 
   unset : (ws : Pairs) → AreOfPacket p.address ws → (a : ℕ) → 0 < owners a (st (front ++ back)) + owners a (queue_words hd (front ++ back)) → owners a ws ≡ 0
   unset ws own a some =
@@ -99,7 +97,7 @@ module _ (s : List ℕ) (l base : Lists) (gone : Pairs) (at : Place) (p : Queued
       ]
 
   inside : (a : ℕ) → 0 < owners a (owned m) → a < length s
-  inside a some = omega (arith, v.owns.inside a some, size, h.size)
+  inside a some = omega (arith, v.owns.inside a some, size)
 
   -- while words of the packet are set, the queue and the state of its task stand as they were
   pub held : (ws : Pairs) → AreOfPacket p.address ws → HeldQueue (written ws s) hd (front ++ back)
@@ -143,6 +141,6 @@ module _ (s : List ℕ) (l base : Lists) (gone : Pairs) (at : Place) (p : Queued
   pub arrived-changed : (t : List ℕ) (links ws kept : Pairs) → Splits ((link, p.address) ∷ packet_words p (first_packet back)) kept (links ++ ws) → Holds s kept
       → t ≡ written (st (front ++ p ∷ back) ++ links) (written ws s) → IsChanged s t m []
   arrived-changed t links ws kept split stands is_t =
-      exchange-kept s t l m _ _ kept (st (front ++ p ∷ back) ++ (links ++ ws)) h v size moved
+      exchange-kept s t base m _ _ kept (st (front ++ p ∷ back) ++ (links ++ ws)) holds v size moved
       (splits-both (st (front ++ p ∷ back)) [] (st (front ++ p ∷ back)) _ kept (links ++ ws) (splits-all (st (front ++ p ∷ back))) split) stands
       (is_t ∙ sym (written-append (st (front ++ p ∷ back) ++ links) ws s) ∙ ap (λ z. written z s) (append_assoc (st (front ++ p ∷ back)) links ws))

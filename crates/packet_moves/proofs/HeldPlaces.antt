@@ -1,5 +1,6 @@
 -- The queue at a place, as the store has it.
-use Rattle.std.proofs.Common.{◌≡◌, ℕ, ◌+◌, ◌||◌, Bool, true, false, List, [], ◌∷◌, ◌++◌, map, cond, eqb, refl, sym, ap, ◌∙◌, arith}
+use Rattle.std.proofs.Common.{◌≡◌, ◌≢◌, ℕ, ◌+◌, ◌<◌, ◌||◌, Bool, true, false, List, [], ◌∷◌, ◌++◌, map, cond, eqb, refl, sym, ap, ◌∙◌, arith}
+use Rattle.std.specs.List.{AllByRecursion}
 use Rattle.std.proofs.lemmas.Bool.{eqb-true}
 use Rattle.linked_list.specs.Places.{has}
 use Rattle.owned_words.specs.Exchange.{Exchange}
@@ -7,7 +8,7 @@ use Rattle.owned_words.specs.Owned.{Pairs, owners}
 use Rattle.owned_words.proofs.Exchanges.{exchange-all}
 use Rattle.owned_words.proofs.OwnedWords.{Holds-right, owners-append}
 use Rattle.packet_queue.specs.Queue.{HasQueue, queue_at}
-use Rattle.packet_queue.specs.QueueWords.{HeldQueue, QueuedPacket, address_of, queue_words}
+use Rattle.packet_queue.specs.QueueWords.{HeldQueue, QueuedPacket, address_of, first_packet, queue_words}
 use Rattle.packet_queue.proofs.HeldQueues.{held-queue}
 use Rattle.kernel_model.specs.Changes.{HasPlace, queue_of, with_queue}
 use Rattle.kernel_model.specs.HoldsLists.{HoldsLists}
@@ -16,10 +17,10 @@ use Rattle.kernel_model.specs.Owned.{owned}
 use Rattle.kernel_model.specs.ValidQueues.{Place}
 use Rattle.kernel_model.proofs.QueuePlaces.{place-stands}
 use Rattle.kernel_model.proofs.ReadQueues.{packets-some}
-use Rattle.packet_calls.specs.Destinations.{queue_for}
-use Rattle.packet_calls.specs.PacketMoves.{departed, stands_in}
-use Rattle.packet_calls.specs.QueueWords.{head_of}
-use Rattle.packet_calls.proofs.PlaceWords.{place-exchange, state_pairs}
+use Rattle.packet_moves.specs.Destinations.{queue_for}
+use Rattle.packet_moves.specs.PacketMoves.{departed, stands_in}
+use Rattle.packet_moves.specs.QueueWords.{head_of}
+use Rattle.packet_moves.proofs.PlaceWords.{place-exchange, state_pairs}
 
 -- a packet among the addresses
 has-address : (p : ℕ) (ps : List QueuedPacket) → has p (map address_of ps) ≡ stands_in p ps
@@ -80,3 +81,20 @@ stands-between p (q ∷ qs) e = on (eqb p q.address) refl e (stands-between p qs
           address = r.address;
           others = ap (λ b. cond b qs (q ∷ departed p qs)) is ∙ ap (λ z. q ∷ z) r.others;
         }
+
+-- ---- the first packet
+
+pub no-packets : (ps : List QueuedPacket) → AllByRecursion (λ p. 0 < p.address) ps → first_packet ps ≡ 0 → ps ≡ []
+no-packets [] some e = refl
+no-packets (p ∷ ps) some e = absurd (omega (arith, some.0, e))
+
+-- the first packet of a queue, where it has one
+pub record HasFirst (p : ℕ) (ps : List QueuedPacket) : Type 0 where
+  pub packet : QueuedPacket
+  pub back : List QueuedPacket
+  pub is : ps ≡ packet ∷ back
+  pub address : packet.address ≡ p
+
+pub first-there : (p : ℕ) (ps : List QueuedPacket) → p ≡ first_packet ps → p ≢ 0 → HasFirst p ps
+first-there p [] e some = absurd (some e)
+first-there p (q ∷ qs) e some = record { packet = q; back = qs; is = refl; address = sym e }

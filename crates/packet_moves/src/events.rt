@@ -6,7 +6,7 @@ use packet_queue::KernelEvent;
 use word_store::signed;
 
 /// A packet came into a queue, from a task or a device.
-pub(crate) fn accepted(queue: u32, packet: u32, sender: u32) -> KernelEvent
+pub fn accepted(queue: u32, packet: u32, sender: u32) -> KernelEvent
     ensures { result ≡ KernelEvent.Accepted (signed queue) packet (signed sender) }
 {
     KernelEvent::Accepted {
@@ -17,7 +17,7 @@ pub(crate) fn accepted(queue: u32, packet: u32, sender: u32) -> KernelEvent
 }
 
 /// A task took a packet, which has a sender.
-pub(crate) fn taken(queue: u32, packet: u32, sender: u32) -> KernelEvent
+pub fn taken(queue: u32, packet: u32, sender: u32) -> KernelEvent
     ensures { result ≡ KernelEvent.Taken (signed queue) packet (signed sender) }
 {
     KernelEvent::Taken {
@@ -28,7 +28,7 @@ pub(crate) fn taken(queue: u32, packet: u32, sender: u32) -> KernelEvent
 }
 
 /// A packet was taken back out of a queue.
-pub(crate) fn dequeued(queue: u32, packet: u32) -> KernelEvent
+pub fn dequeued(queue: u32, packet: u32) -> KernelEvent
     ensures { result ≡ KernelEvent.Dequeued (signed queue) packet }
 {
     KernelEvent::Dequeued {

@@ -9,8 +9,8 @@ use Rattle.task_block.specs.declared.roots.RootField.TheVariants.{Tick}
 use Rattle.kernel_model.specs.Owned.{clock_head, keyboard_head, output_head}
 use Rattle.kernel_model.specs.Residents.{pending_head}
 use Rattle.kernel_model.specs.Task.{queue_head}
-use Rattle.packet_calls.specs.declared.queues.Queue.{Queue}
-use Rattle.packet_calls.specs.declared.queues.Queue.TheVariants.{OfClock, OfKeyboard, OfOutput, OfReads, OfTask}
+use Rattle.packet_moves.specs.declared.queues.Queue.{Queue}
+use Rattle.packet_moves.specs.declared.queues.Queue.TheVariants.{OfClock, OfKeyboard, OfOutput, OfReads, OfTask}
 
 -- the word that leads to its first packet
 abbrev pub head_of : Queue → ℕ

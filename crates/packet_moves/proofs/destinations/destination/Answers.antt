@@ -1,7 +1,7 @@
 use Rattle.std.proofs.Common.{None, Some, ◌∙◌, sym, subst}
 use Rattle.call_answers.proofs.FoundTask.{Finds, find-task, reads}
-use Rattle.packet_calls.proofs.NamedQueues.{names-task}
-use Rattle.packet_calls.proofs.destinations.destination.Goals as goal
+use Rattle.packet_moves.proofs.NamedQueues.{names-task}
+use Rattle.packet_moves.proofs.destinations.destination.Goals as goal
 
 pub find-requires : goal.find-requires
 find-requires c = (reads c.args.store.now c.requires.0 c.requires.1).tasks.tasks

@@ -9,9 +9,9 @@ use Rattle.kernel_model.specs.Lists.{Lists, address_of_task}
 use Rattle.kernel_model.specs.ValidQueues.{Place}
 use Rattle.kernel_model.specs.ValidQueues.Place.{Clock, Keyboard, Output, Pending, Work}
 use Rattle.kernel_model.specs.ValidTasks.{IsField}
-use Rattle.packet_calls.specs.Destinations.{queue_for}
-use Rattle.packet_calls.specs.QueueWords.{head_of, enqueued, state_with_packets}
-use Rattle.packet_calls.proofs.PlaceWords.{state_pairs, work-comes}
+use Rattle.packet_moves.specs.Destinations.{queue_for}
+use Rattle.packet_moves.specs.QueueWords.{head_of, enqueued, state_with_packets}
+use Rattle.packet_moves.proofs.PlaceWords.{state_pairs, work-comes}
 
 -- every queue but the clock's
 abbrev pub TakesAtEnd : Place → Type 0

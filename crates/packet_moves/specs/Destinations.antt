@@ -5,8 +5,8 @@ use Rattle.kernel_model.specs.Lists.{Lists, address_of_task, has_task}
 use Rattle.kernel_model.specs.Residents.{device}
 use Rattle.kernel_model.specs.ValidQueues.{Place}
 use Rattle.kernel_model.specs.ValidQueues.Place.{Clock, Keyboard, Output, Pending, Work}
-use Rattle.packet_calls.specs.declared.queues.Queue.{Queue}
-use Rattle.packet_calls.specs.declared.queues.Queue.TheVariants.{OfClock, OfKeyboard, OfOutput, OfReads, OfTask}
+use Rattle.packet_moves.specs.declared.queues.Queue.{Queue}
+use Rattle.packet_moves.specs.declared.queues.Queue.TheVariants.{OfClock, OfKeyboard, OfOutput, OfReads, OfTask}
 
 abbrev pub place_of : ℕ → Place
 place_of n =

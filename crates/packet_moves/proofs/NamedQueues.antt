@@ -10,9 +10,9 @@ use Rattle.kernel_model.specs.Task.{task_address, task_id}
 use Rattle.kernel_model.specs.ValidQueues.Place.{Clock, Keyboard, Output, Work}
 use Rattle.kernel_model.proofs.ChainSplits.{address-between, has_task-between}
 use Rattle.call_answers.proofs.FoundTask.{Finds, TaskAt, found-address, found-there}
-use Rattle.packet_calls.specs.Destinations.{destination_of, is_destination, place_of, queue_for}
-use Rattle.packet_calls.specs.declared.queues.Queue.{Queue}
-use Rattle.packet_calls.specs.declared.queues.Queue.TheVariants.{OfTask}
+use Rattle.packet_moves.specs.Destinations.{destination_of, is_destination, place_of, queue_for}
+use Rattle.packet_moves.specs.declared.queues.Queue.{Queue}
+use Rattle.packet_moves.specs.declared.queues.Queue.TheVariants.{OfTask}
 
 module _ (l : Lists) (n : ℕ) (no_clock : n ≢ device 1) (no_keyboard : n ≢ device 2) (no_output : n ≢ device 3) where
   pub no-device : destination_of l n ≡ cond (has_task n l.tasks) (Some (OfTask (address_of_task l n))) None

@@ -26,8 +26,8 @@ use Rattle.kernel_model.specs.ValidTasks.{IsField}
 use Rattle.kernel_model.proofs.ChainSplits.{address-between}
 use Rattle.kernel_model.proofs.ChangedLists.{one_task-owned}
 use Rattle.kernel_model.proofs.WorkQueues.{WorkSplit, work-split}
-use Rattle.packet_calls.specs.Destinations.{queue_for}
-use Rattle.packet_calls.specs.QueueWords.{head_of, state_left, state_with_packets}
+use Rattle.packet_moves.specs.Destinations.{queue_for}
+use Rattle.packet_moves.specs.QueueWords.{head_of, state_left, state_with_packets}
 
 -- ---- the state of the task whose queue it is
 

@@ -1,5 +1,5 @@
 -- A packet goes out of a queue, and the store holds the lists without it.
-use Rattle.std.proofs.Common.{◌≡◌, ℕ, ◌+◌, ◌<◌, ◌≤◌, List, [], ◌∷◌, ◌++◌, get_or, set, length, inl, inr, sym, ap, ◌∙◌, subst, arith}
+use Rattle.std.proofs.Common.{◌≡◌, ℕ, ◌+◌, ◌<◌, ◌≤◌, List, [], ◌∷◌, ◌++◌, get_or, set, length, inl, inr, sym, ap, ◌∙◌, subst, arith, append-nil}
 use Rattle.std.specs.List.{AllByRecursion, range_with_len}
 use Rattle.std.proofs.lemmas.Bool.{cases_eq}
 use Rattle.linked_list.specs.Count.{times}
@@ -9,7 +9,7 @@ use Rattle.owned_words.specs.Owned.{Holds, Pairs, owners, written}
 use Rattle.owned_words.specs.Written.{IsWritten}
 use Rattle.owned_words.proofs.Exchanges.{exchange-all}
 use Rattle.owned_words.proofs.WrittenWords.{ordered-hold}
-use Rattle.owned_words.proofs.OwnedWords.{Holds-append, Holds-left, Holds-right, owners-append, written-other}
+use Rattle.owned_words.proofs.OwnedWords.{Holds-append, Holds-left, Holds-right, length-written, owners-append, written-other}
 use Rattle.packet_queue.specs.Queue.{no_queue, unlinked}
 use Rattle.packet_queue.specs.QueueWords.{HeldQueue, QueuedPacket, RemoveExchange, first_packet, link_behind, packet_words, queue_words}
 use Rattle.packet_queue.proofs.HeldQueues.{remove-exchange}
@@ -17,22 +17,21 @@ use Rattle.kernel_model.specs.ChangedStore.{IsChanged}
 use Rattle.kernel_model.specs.Changes.{HasPlace, queue_of, with_queue}
 use Rattle.kernel_model.specs.HoldsLists.{HoldsLists}
 use Rattle.kernel_model.specs.Lists.{Lists, address_of_task}
-use Rattle.kernel_model.specs.Owned.{owned}
+use Rattle.kernel_model.specs.Owned.{OwnsApart, owned}
 use Rattle.kernel_model.specs.ValidLists.{AreValid}
 use Rattle.kernel_model.specs.ValidQueues.{MayStand, Place}
 use Rattle.kernel_model.specs.ValidQueues.Place.{Clock, Keyboard, Output, Pending, Work}
 use Rattle.kernel_model.specs.ValidTasks.{IsField, IsTask}
 use Rattle.kernel_model.proofs.AllThings.{all-beside}
-use Rattle.kernel_model.proofs.ChangedLists.{exchange-changed}
 use Rattle.kernel_model.proofs.EachMember.{all-each}
-use Rattle.kernel_model.proofs.OwnerCounts.{owners-packet_between, packets_count}
+use Rattle.kernel_model.proofs.OwnerCounts.{owners-packet_between, owns-fewer, packets_count}
 use Rattle.kernel_model.proofs.PacketMoves.{unqueued-unowned}
 use Rattle.kernel_model.proofs.QueueCounts.{owned-queue, owners-packet}
 use Rattle.kernel_model.proofs.QueuePlaces.{place-stands, place-there, with_queue-size}
 use Rattle.kernel_model.proofs.ReadQueues.{packets-some}
-use Rattle.packet_calls.specs.Destinations.{queue_for}
-use Rattle.packet_calls.specs.QueueWords.{head_of, unqueued, state_left}
-use Rattle.packet_calls.proofs.PlaceWords.{place-exchange, state_pairs, work-goes}
+use Rattle.packet_moves.specs.Destinations.{queue_for}
+use Rattle.packet_moves.specs.QueueWords.{head_of, unqueued, state_left}
+use Rattle.packet_moves.proofs.PlaceWords.{place-exchange, state_pairs, work-goes}
 
 -- the head leads to the next packet then
 next-after : (s : List ℕ) (head : ℕ) (front : List QueuedPacket) (p : QueuedPacket) (back : List QueuedPacket) → HeldQueue s head (front ++ p ∷ back)
@@ -150,22 +149,43 @@ module _ (s : List ℕ) (l : Lists) (at : Place) (p : QueuedPacket) (front back 
       on Output has held state = (remove-exchange s (head_of (queue_for l Output)) front p back held).words
       on Pending has held state = (remove-exchange s (head_of (queue_for l Pending)) front p back held).words
 
-  pub departed-changed : (t : List ℕ) → AreValid m → t ≡ unqueued s (queue_for l at) p.address → IsChanged s t m ((p.address, no_queue) ∷ [])
-  departed-changed t v is_t =
-      exchange-changed s t l m _ _ ((p.address, no_queue) ∷ []) (st (front ++ back) ++ links) h v (with_queue-size at (front ++ back) l) moved
+  -- what is owned then is apart, also where the key packet goes out, which its owner has then
+  owns : OwnsApart m
+  owns = owns-fewer l m (with_queue-size at (front ++ back) l) (λ a. omega (arith, owners-departed a)) h.valid.owns
+
+  pub departed-size : (t : List ℕ) → t ≡ unqueued s (queue_for l at) p.address → length t ≡ length s
+  departed-size t is_t = ap length (is_t ∙ left-words) ∙ length-written (st (front ++ back) ++ links) s
+
+  pub departed-written : (t : List ℕ) → t ≡ unqueued s (queue_for l at) p.address → IsWritten s t (owned m) ((p.address, no_queue) ∷ [])
+  departed-written t is_t =
+      subst (λ z. IsWritten s z (owned m) ((p.address, no_queue) ∷ [])) (sym (is_t ∙ left-words))
+      (ordered-hold s (owned l) (owned m) _ (st (front ++ back) ++ (link, first_packet back) ∷ []) [] ((p.address, no_queue) ∷ []) (st (front ++ back) ++ links)
       (record {
-        count = λ a. omega (arith, owners-append a (st (front ++ back)) links, owners-append a (st (front ++ back)) ((link, first_packet back) ∷ []));
-        opens = λ r k.
-            (let state = Holds-left r (st (front ++ back)) links k in
-            let words = Holds-right r (st (front ++ back)) links k in
-            ((words.0, tt), Holds-append r (st (front ++ back)) ((link, first_packet back) ∷ []) state words.1));
-        closes = λ r j k.
-            Holds-append r (st (front ++ back)) links (Holds-left r (st (front ++ back)) ((link, first_packet back) ∷ []) k)
-            (j.0, Holds-right r (st (front ++ back)) ((link, first_packet back) ∷ []) k);
-      })
-      (λ a. omega (arith, hit-le a p.address)) (λ a one. packet-inside a (at-packet a one).0 (at-packet a one).1)
-      (λ a one. unqueued-unowned l at p front back h.valid is a (at-packet a one).0 (at-packet a one).1)
-      (is_t ∙ left-words)
+        writes =
+            record {
+              holds = h.holds;
+              exchange =
+                  subst (Exchange (owned l) (owned m) (st (front ++ p ∷ back) ++ ((link, p.address) ∷ packet_words p (first_packet back))))
+                  (sym (append-nil (st (front ++ back) ++ (link, first_packet back) ∷ []))) moved;
+              stands = tt;
+              apart = owns.apart;
+              inside = λ a some. omega (arith, owns.inside a some, with_queue-size at (front ++ back) l, h.size);
+              unowned = λ a one. unqueued-unowned l at p front back h.valid is a (at-packet a one).0 (at-packet a one).1;
+            };
+        order =
+            record {
+              count = λ a. omega (arith, owners-append a (st (front ++ back)) links, owners-append a (st (front ++ back)) ((link, first_packet back) ∷ []));
+              opens = λ r k.
+                  (let state = Holds-left r (st (front ++ back)) links k in
+                  let words = Holds-right r (st (front ++ back)) links k in
+                  ((words.0, tt), Holds-append r (st (front ++ back)) ((link, first_packet back) ∷ []) state words.1));
+              closes = λ r j k.
+                  Holds-append r (st (front ++ back)) links (Holds-left r (st (front ++ back)) ((link, first_packet back) ∷ []) k)
+                  (j.0, Holds-right r (st (front ++ back)) ((link, first_packet back) ∷ []) k);
+            };
+        once = λ a. omega (arith, hit-le a p.address);
+        plain_inside = λ a one. packet-inside a (at-packet a one).0 (at-packet a one).1;
+      }))
     where
       at-packet : (a : ℕ) → 0 < owners a ((p.address, no_queue) ∷ []) → (p.address ≤ a) × (a < p.address + 5)
       at-packet a one =
@@ -173,6 +193,12 @@ module _ (s : List ℕ) (l : Lists) (at : Place) (p : QueuedPacket) (front back 
             | inl e ↦ (omega (arith, e), omega (arith, e))
             | inr ne ↦ absurd (omega (arith, one, hit-other a p.address ne))
           ]
+
+  pub departed-changed : (t : List ℕ) → AreValid m → t ≡ unqueued s (queue_for l at) p.address → IsChanged s t m ((p.address, no_queue) ∷ [])
+  departed-changed t v is_t =
+      let w : IsWritten s t (owned m) ((p.address, no_queue) ∷ []) = departed-written t is_t in
+      let long : length t ≡ length s = departed-size t is_t in
+      record { lists = record { valid = v; size = long ∙ h.size ∙ sym (with_queue-size at (front ++ back) l); holds = w.holds }; size = long; written = w }
 
   -- its words but the link are as they were
   pub others-kept : (a : ℕ) → p.address < a → a < p.address + 5 → get_or (unqueued s (queue_for l at) p.address) a 0 ≡ get_or s a 0

@@ -7,7 +7,7 @@ use Rattle.kernel_model.specs.Changes.{queue_of, with_queue}
 use Rattle.kernel_model.specs.Lists.{Lists}
 use Rattle.kernel_model.specs.ValidQueues.{Place}
 use Rattle.kernel_model.specs.ValidQueues.Place.{Clock, Keyboard, Output, Pending, Work}
-use Rattle.packet_calls.specs.QueueWords.{due_tick}
+use Rattle.packet_moves.specs.QueueWords.{due_tick}
 
 -- the packet at p, as its words say
 abbrev pub packet_at : List ℕ → ℕ → QueuedPacket

@@ -1,7 +1,7 @@
 // A packet's words, and the queues to which it is sent.
 ghost use Rattle.std.specs.Prelude.{◌≡◌, slice_set, ◌+◌};
 ghost use Rattle.packet_queue.specs.Queue.{CanQueue, HasQueue};
-ghost use Rattle.packet_calls.specs.QueueWords.{due_in, head_of, enqueued, sent_words, with_results};
+ghost use Rattle.packet_moves.specs.QueueWords.{due_in, head_of, enqueued, sent_words, with_results};
 
 use crate::queues::{Queue, enqueue};
 use call_answers::numbers::SENDER;
@@ -9,7 +9,7 @@ use task_block::{RootField, root};
 use word_store::{Store, set_word_at, word_at};
 
 /// How many words of a packet are the kernel's while it is queued.
-pub(crate) const PACKET_WORDS: u32 = 5;
+pub const PACKET_WORDS: u32 = 5;
 
 /// The words that have its results.
 const RES1: u32 = 3;
@@ -20,7 +20,7 @@ const RES2: u32 = 4;
 const DELAY: u32 = 5;
 
 /// Sends the packet to the queue.
-pub(crate) fn send(store: &mut Store, queue: Queue, p: u32, sender: u32)
+pub fn send(store: &mut Store, queue: Queue, p: u32, sender: u32)
     requires queue { HasQueue (slice_set store.old (p + 1) sender) (head_of queue) }
     requires packet { CanQueue (slice_set store.old (p + 1) sender) (head_of queue) p }
     ensures { store.new ≡ sent_words store.old queue p sender }
@@ -31,7 +31,7 @@ pub(crate) fn send(store: &mut Store, queue: Queue, p: u32, sender: u32)
 }
 
 /// Returns the packet with these results to the queue.
-pub(crate) fn give_back(store: &mut Store, queue: Queue, p: u32, sender: u32, res1: u32, res2: u32)
+pub fn give_back(store: &mut Store, queue: Queue, p: u32, sender: u32, res1: u32, res2: u32)
     requires queue { HasQueue (with_results store.old p sender res1 res2) (head_of queue) }
     requires packet { CanQueue (with_results store.old p sender res1 res2) (head_of queue) p }
     ensures { store.new ≡ enqueued (with_results store.old p sender res1 res2) queue p 0 }

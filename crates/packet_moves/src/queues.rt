@@ -1,17 +1,17 @@
 // The queues of packets: a packet comes into one, and goes out.
-ghost use Rattle.std.specs.Prelude.{◌≡◌, true};
+ghost use Rattle.std.specs.Prelude.{◌≡◌, slice_index, true};
 ghost use Rattle.linked_list.specs.Places.{has};
 ghost use Rattle.packet_queue.specs.Queue.{CanQueue, HasQueue, queue_at};
-ghost use Rattle.packet_calls.specs.QueueWords.{head_of, enqueued, unqueued, state_left, state_with_packets};
+ghost use Rattle.packet_moves.specs.QueueWords.{head_of, enqueued, unqueued, state_left, state_with_packets};
 
 use call_answers::numbers::READS_HEAD;
 use packet_queue::{append, append_due, packets, remove};
 use task_block::{RootField, TcbField, field, set_field};
-use word_store::Store;
+use word_store::{Store, word};
 
 /// A queue of packets.
 #[derive(Clone, Copy, Debug, PartialEq, Eq)]
-pub(crate) enum Queue {
+pub enum Queue {
     /// The work queue of the task whose block is at the address.
     OfTask(u32),
     /// The clock's.
@@ -25,7 +25,7 @@ pub(crate) enum Queue {
 }
 
 /// The word that leads to the first packet of the queue.
-pub(crate) fn head(store: &Store, queue: Queue) -> u32
+pub fn head(store: &Store, queue: Queue) -> u32
     requires { HasQueue store.now (head_of queue) }
     ensures { result ≡ head_of queue }
 {
@@ -38,8 +38,16 @@ pub(crate) fn head(store: &Store, queue: Queue) -> u32
     }
 }
 
+/// The address of the first packet of the queue, or 0 where it has none.
+pub fn first(store: &Store, queue: Queue) -> u32
+    requires { HasQueue store.now (head_of queue) }
+    ensures { result ≡ slice_index store.now (head_of queue) }
+{
+    word(store, head(store, queue))
+}
+
 /// Whether the packet is on the queue.
-pub(crate) fn has_packet(store: &Store, queue: Queue, p: u32) -> bool
+pub fn has_packet(store: &Store, queue: Queue, p: u32) -> bool
     requires { HasQueue store.now (head_of queue) }
     ensures { result ≡ has p (queue_at store.now (head_of queue)) }
 {
@@ -60,7 +68,7 @@ fn is_linked(store: &Store, head: u32, p: u32) -> bool
 }
 
 /// Puts the packet into the queue: at the clock by its due tick, and else at the end.
-pub(crate) fn enqueue(store: &mut Store, queue: Queue, p: u32, due: u32)
+pub fn enqueue(store: &mut Store, queue: Queue, p: u32, due: u32)
     requires queue { HasQueue store.old (head_of queue) }
     requires packet { CanQueue store.old (head_of queue) p }
     ensures { store.new ≡ enqueued store.old queue p due }
@@ -93,7 +101,7 @@ fn state_with_packets(state: u32) -> u32
 }
 
 /// Takes the packet out of the queue.
-pub(crate) fn unqueue(store: &mut Store, queue: Queue, p: u32)
+pub fn unqueue(store: &mut Store, queue: Queue, p: u32)
     requires queue { HasQueue store.old (head_of queue) }
     requires packet { has p (queue_at store.old (head_of queue)) ≡ true }
     ensures { store.new ≡ unqueued store.old queue p }

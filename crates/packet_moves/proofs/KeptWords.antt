@@ -10,15 +10,14 @@ use Rattle.owned_words.proofs.Exchanges.{exchange-as}
 use Rattle.owned_words.proofs.OwnedWords.{Holds-append, Holds-left, Holds-right, Holds-same, length-written, owners-append}
 use Rattle.owned_words.proofs.WrittenWords.{ordered-hold}
 use Rattle.kernel_model.specs.ChangedStore.{IsChanged}
-use Rattle.kernel_model.specs.HoldsLists.{HoldsLists}
 use Rattle.kernel_model.specs.Lists.{Lists}
 use Rattle.kernel_model.specs.Owned.{owned}
 use Rattle.kernel_model.specs.ValidLists.{AreValid}
 
 -- of the new words some are kept as they stand, and the others are written
-pub exchange-kept : (s t : List ℕ) (l m : Lists) (old new kept all : Pairs) → HoldsLists s l → AreValid m → m.size ≡ l.size → Exchange (owned l) (owned m) old new
+pub exchange-kept : (s t : List ℕ) (l m : Lists) (old new kept all : Pairs) → Holds s (owned l) → AreValid m → length s ≡ m.size → Exchange (owned l) (owned m) old new
     → Splits new kept all → Holds s kept → t ≡ written all s → IsChanged s t m []
-exchange-kept s t l m old new kept all h valid size x split stands is =
+exchange-kept s t l m old new kept all holds valid size x split stands is =
     let long : length t ≡ length s = ap length is ∙ length-written all s in
     let whole : Exchange (owned l) (owned m) old (all ++ kept) =
     exchange-as (owned l) (owned m) old new (all ++ kept) x
@@ -31,11 +30,11 @@ exchange-kept s t l m old new kept all h valid size x split stands is =
     (record {
       writes =
           record {
-            holds = h.holds;
+            holds = holds;
             exchange = whole;
             stands = stands;
             apart = valid.owns.apart;
-            inside = λ a some. omega (arith, valid.owns.inside a some, size, h.size);
+            inside = λ a some. omega (arith, valid.owns.inside a some, size);
             unowned = λ a some. absurd (omega (arith, some));
           };
       order = record { count = λ a. omega arith; opens = λ v k. (tt, k); closes = λ v j k. k };
@@ -44,7 +43,7 @@ exchange-kept s t l m old new kept all h valid size x split stands is =
     })
     in
     let v : IsWritten s t (owned m) [] = subst (λ z. IsWritten s z (owned m) []) (sym is) w in
-    record { lists = record { valid = valid; size = long ∙ h.size ∙ sym size; holds = v.holds }; size = long; written = v }
+    record { lists = record { valid = valid; size = long ∙ size; holds = v.holds }; size = long; written = v }
 
 -- one more plain word is written
 pub changed-plain : (s t : List ℕ) (m : Lists) (plain : Pairs) (a w : ℕ) → IsChanged s t m plain → owners a (owned m) ≡ 0 → a < length t → IsChanged s (set t a w) m ((a, w) ∷ plain)
@@ -65,19 +64,4 @@ changed-plain s t m plain a w c none inside =
                   | inr ne ↦ get_or-set_other t a b w 0 ne ∙ c.written.others b free ∙ sym (get_or-set_other (written plain s) a b w 0 ne)
                 ];
           };
-    }
-
--- words cease to be owned, and then others are exchanged
-pub exchange-gone : (L M N gone old new : Pairs) → Exchange L M gone [] → Exchange M N old new → Exchange L N (gone ++ old) new
-exchange-gone L M N gone old new x y =
-    record {
-      rest = y.rest;
-      first =
-          record {
-            count = λ a. omega (arith, x.first.count a, x.then'.count a, y.first.count a, owners-append a gone old);
-            opens = λ s h. (let o = x.first.opens s h in let r = y.first.opens s (x.then'.closes s o.0 tt) in (r.0, Holds-append s gone old o.1 r.1));
-            closes = λ s h k.
-                x.first.closes s (x.then'.opens s (y.first.closes s h (Holds-right s gone old k))).0 (Holds-left s gone old k);
-          };
-      then' = y.then';
     }
