@@ -29,8 +29,9 @@ use Rattle.call_answers.specs.Guests.{GuestAt}
 use Rattle.call_answers.proofs.FoundTask.{find-numbered, reads}
 use Rattle.call_answers.specs.Modules.{has_module}
 use Rattle.call_answers.proofs.ListedModules.{module-told}
+use Rattle.call_answers.proofs.GuestTask.{guest-words}
 use Rattle.module_calls.specs.AddModule.{globals_at, globals_of_task, task_of}
-use Rattle.module_calls.proofs.AdditionTests.{facts, is-guest, state-held}
+use Rattle.module_calls.proofs.AdditionTests.{facts, is-guest}
 use Rattle.module_calls.proofs.GoneModule.{ModuleAt, module-at}
 
 module _ (s : List ℕ) (l : Lists) (id address : ℕ) (h : HoldsLists s l) (g : GuestAt l id address) where
@@ -44,7 +45,7 @@ module _ (s : List ℕ) (l : Lists) (id address : ℕ) (h : HoldsLists s l) (g :
   globals-are = ap (λ o. globals_at l.version o) task-is
 
   pub globals-told : get_or s (address + 8) 0 ≡ globals_of l.version g.task
-  globals-told = ap (λ a. get_or s (a + 8) 0) (sym g.at) ∙ (state-held s l id address h g).1.1.1.1.0
+  globals-told = ap (λ a. get_or s (a + 8) 0) (sym g.at) ∙ (guest-words s l id address h g).1.1.1.1.0
 
   pub globals-behind : globals_of l.version g.task ≡ g.task.address + head_words_of l.version
   globals-behind = ap (λ b. cond b (g.task.address + head_words_of l.version) 0) (facts s l id address h g).guest
