@@ -10,8 +10,7 @@ use Rattle.getvec_chain.specs.Block.{is_used_at}
 use Rattle.getvec_chain.specs.Tiling.{blocks_in, holding, used_at}
 use Rattle.getvec_chain.proofs.UsedBlocks.{is_used_at-true}
 use Rattle.hunk_loader.specs.HeldModules.{module_address}
-use Rattle.hunk_loader.proofs.HeldModuleLists.{held-modules}
-use Rattle.task_block.specs.Lists.{coroutines_in, modules_in}
+use Rattle.task_block.specs.Lists.{coroutines_in}
 use Rattle.task_block.specs.TaskChain.{tasks_in}
 use Rattle.kernel_model.specs.BlockUse.{Use, coroutine_addresses, use_of_data}
 use Rattle.kernel_model.specs.BlockUse.Use.{Free, OfCoroutine, OfModule, OfResidents, OfTask, User}

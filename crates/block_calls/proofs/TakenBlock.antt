@@ -1,5 +1,5 @@
 -- What the call that takes a block makes.
-use Rattle.std.proofs.Common.{◌≡◌, ℕ, List, [], cond, Some, None, Result, Ok, Err, sym, ap, ◌∙◌, subst}
+use Rattle.std.proofs.Common.{◌≡◌, ℕ, List, [], cond, Some, None, Ok, Err, sym, ap, ◌∙◌}
 use Rattle.std.specs.Prelude.{is_some}
 use Rattle.getvec_chain.specs.Run.{first_run, need}
 use Rattle.getvec_chain.specs.Take.{IsTaken}

@@ -45,7 +45,7 @@ use Rattle.word_kinds.specs.Keeper.{AreTogether}
 use Rattle.word_kinds.proofs.KnownWords.{knows-released}
 use Rattle.block_calls.specs.Freevec.{has_packet_in, holds_packet, lies_in, with_given}
 use Rattle.block_calls.proofs.IdleBlocks.{idle-unowned, none-idle, unowned-empty}
-use Rattle.block_calls.proofs.OwnedMarks.{size-low}
+use Rattle.word_kinds.proofs.OwnedMarks.{size-low}
 use Rattle.block_calls.proofs.TakenStore.{given-changed, given-owners}
 use Rattle.module_calls.specs.UnloadModule.{is_in_use, unload_module, unload_tests, use_tests, without_module}
 use Rattle.module_calls.proofs.ModuleParts.{modules-exchange, owners-module}

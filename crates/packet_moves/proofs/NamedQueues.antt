@@ -1,15 +1,13 @@
 -- The queue that a number names.
-use Rattle.std.proofs.Common.{◌≡◌, ◌≢◌, ℕ, ◌||◌, Bool, true, false, Option, Some, None, Result, Ok, Err, ok_or, ◌++◌, ◌∷◌, map, cond, eqb, option_map, refl, sym, ap, ◌∙◌, subst}
+use Rattle.std.proofs.Common.{◌≡◌, ◌≢◌, ℕ, ◌||◌, Bool, true, false, Option, Some, None, Result, Ok, Err, ok_or, map, cond, eqb, option_map, refl, sym, ap, ◌∙◌}
 use Rattle.std.proofs.lemmas.Bool.{ne_eqb}
 use Rattle.linked_list.specs.Count.{IsApart}
-use Rattle.task_block.specs.HeldTasks.{address_with}
 use Rattle.kernel_model.specs.Changes.{HasPlace}
 use Rattle.kernel_model.specs.Lists.{Lists, address_of_task, has_task}
 use Rattle.kernel_model.specs.Residents.{device}
-use Rattle.kernel_model.specs.Task.{task_address, task_id}
+use Rattle.kernel_model.specs.Task.{task_id}
 use Rattle.kernel_model.specs.ValidQueues.Place.{Clock, Keyboard, Output, Work}
-use Rattle.kernel_model.proofs.ChainSplits.{address-between, has_task-between}
-use Rattle.call_answers.proofs.FoundTask.{Finds, TaskAt, found-address, found-there}
+use Rattle.call_answers.proofs.FoundTask.{Finds, found-address, found-there}
 use Rattle.packet_moves.specs.Destinations.{destination_of, is_destination, place_of, queue_for}
 use Rattle.packet_moves.specs.declared.queues.Queue.{Queue}
 use Rattle.packet_moves.specs.declared.queues.Queue.TheVariants.{OfTask}

@@ -1,6 +1,6 @@
 -- A packet of which words are set comes into a queue: its link and the last one are written, the words that were set among
 -- its own with them, and its other words are kept.
-use Rattle.std.proofs.Common.{◌≡◌, ℕ, ◌+◌, ◌<◌, List, [], ◌∷◌, ◌++◌, map, refl, sym, ap, ◌∙◌, subst, append-nil, length, arith}
+use Rattle.std.proofs.Common.{◌≡◌, ℕ, ◌+◌, ◌<◌, List, [], ◌∷◌, ◌++◌, map, sym, ap, ◌∙◌, subst, append-nil, length, arith}
 use Rattle.std.specs.List.{AllByRecursion, range_with_len}
 use Rattle.linked_list.specs.Count.{IsApart, times}
 use Rattle.owned_words.specs.Exchange.{Splits}

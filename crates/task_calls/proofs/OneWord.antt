@@ -1,24 +1,22 @@
 -- One word of one task is written, and the store holds the lists with the task changed.
-use Rattle.std.proofs.Common.{◌≡◌, ℕ, List, [], ◌∷◌, ◌++◌, length, map, set, sym, ap, ◌∙◌, subst, arith}
-use Rattle.linked_list.specs.Count.{IsApart}
+use Rattle.std.proofs.Common.{◌≡◌, ℕ, List, [], ◌∷◌, ◌++◌, length, set, sym, ◌∙◌, subst, arith}
 use Rattle.owned_words.specs.Exchange.{Exchange}
 use Rattle.owned_words.specs.LinkedWords.{first_of}
 use Rattle.owned_words.specs.Written.{IsWritten}
 use Rattle.owned_words.proofs.WrittenWords.{writes-hold}
 use Rattle.owned_words.proofs.OwnedWords.{length-written}
 use Rattle.kernel_model.specs.ChangedStore.{IsChanged}
-use Rattle.kernel_model.specs.Changes.{SameTask, change_of, with_task, with_tasks}
+use Rattle.kernel_model.specs.Changes.{SameTask, with_task, with_tasks}
 use Rattle.kernel_model.specs.HoldsLists.{HoldsLists}
 use Rattle.kernel_model.specs.Lists.{Lists}
 use Rattle.kernel_model.specs.Owned.{owned}
-use Rattle.kernel_model.specs.Task.{Task, task_address, task_id, task_words}
+use Rattle.kernel_model.specs.Task.{Task, task_address, task_words}
 use Rattle.kernel_model.specs.ValidLists.{AreValid}
 use Rattle.kernel_model.specs.ValidTasks.{CoroutinesStand, IsTask}
 use Rattle.kernel_model.proofs.OneTask.{same_task-valid}
 use Rattle.kernel_model.proofs.OneTaskExchange.{one_task-exchange}
 use Rattle.call_answers.specs.Guests.{GuestAt}
 use Rattle.call_answers.proofs.GuestTask.{guest-changed}
-use Rattle.kernel_model.proofs.ChainSplits.{change-between}
 
 pub one-word : (s : List ℕ) (l : Lists) (front : List Task) (t u : Task) (back : List Task) (a w x : ℕ) → HoldsLists s l → l.tasks ≡ front ++ t ∷ back
     → SameTask t u → IsTask l u → CoroutinesStand l u

@@ -56,7 +56,7 @@ use Rattle.call_answers.proofs.MadeCalls.{made-accepted}
 use Rattle.call_answers.proofs.JoinedRows.{row_from-append}
 use Rattle.block_calls.specs.FreeStore.{data_of_front, with_taken}
 use Rattle.block_calls.specs.Getvec.{getvec, getvec_tests}
-use Rattle.block_calls.proofs.OwnedMarks.{size-low}
+use Rattle.word_kinds.proofs.OwnedMarks.{size-low}
 use Rattle.block_calls.proofs.TakenStore.{HasTakenBlock}
 use Rattle.task_calls.specs.CreateTask.{globals_row, last_word_of, new_task, row_behind, with_created}
 use Rattle.task_calls.specs.NewTasks.{MayPlace, MaySetGlobals, head_row, place_task}

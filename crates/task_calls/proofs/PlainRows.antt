@@ -1,5 +1,5 @@
 -- Plain words that are written into a store one after another: it holds the same lists.
-use Rattle.std.proofs.Common.{◌≡◌, ℕ, suc, ◌+◌, List, [], ◌∷◌, ◌++◌, get_or, length, set, sym, ap, ◌∙◌, arith, add-zero, get_or-set_other, length-set}
+use Rattle.std.proofs.Common.{◌≡◌, ℕ, ◌+◌, List, [], ◌∷◌, get_or, length, set, ap, ◌∙◌, arith, get_or-set_other, length-set}
 use Rattle.word_store.specs.Row.{with_words}
 use Rattle.word_store.proofs.Rows.{length-with_words}
 use Rattle.owned_words.specs.Owned.{owners, row_from}

@@ -1,15 +1,13 @@
 -- The calls that change one task leave the same words owned.
-use Rattle.std.proofs.Common.{◌≡◌, ℕ, ◌+◌, ◌++◌, not, true, false, List, [], ◌∷◌, map, Bool, Option, Some, None, refl, sym, ap, ◌∙◌, subst}
-use Rattle.linked_list.specs.Count.{IsApart}
+use Rattle.std.proofs.Common.{◌≡◌, ℕ, ◌+◌, ◌++◌, not, true, false, List, [], ◌∷◌, Bool, Option, Some, None, refl, sym, ap, ◌∙◌}
 use Rattle.owned_words.specs.Exchange.{Exchange}
 use Rattle.owned_words.specs.LinkedWords.{first_of}
 use Rattle.owned_words.specs.Owned.{owners}
-use Rattle.kernel_model.specs.Changes.{change_of, with_task, with_tasks}
+use Rattle.kernel_model.specs.Changes.{with_task, with_tasks}
 use Rattle.kernel_model.specs.HoldsLists.{HoldsLists}
 use Rattle.kernel_model.specs.Lists.{Lists}
 use Rattle.kernel_model.specs.Owned.{owned}
-use Rattle.kernel_model.specs.Task.{Task, state_word, task_address, task_id, task_words}
-use Rattle.kernel_model.proofs.ChainSplits.{change-between}
+use Rattle.kernel_model.specs.Task.{Task, state_word, task_address, task_words}
 use Rattle.kernel_model.proofs.ChangedLists.{one_task-owned, owners-exchanged}
 use Rattle.call_answers.specs.Callers.{HasCaller}
 use Rattle.call_answers.specs.Guests.{GuestAt, guest_tests}

@@ -1,10 +1,9 @@
 -- The call that creates a task.
-use Rattle.std.specs.Prelude.{◌≡◌, ℕ, ◌+◌, ◌-◌, ◌≤◌, ◌⊎◌, ◌==◌, Bool, false, not, if◌then◌else◌, Option, Some, is_some, unwrap_or, Ok, List, [], ◌∷◌, ◌++◌, find, length, map, nat_lt, replicate}
+use Rattle.std.specs.Prelude.{◌≡◌, ℕ, ◌+◌, ◌-◌, ◌≤◌, ◌⊎◌, ◌==◌, Bool, false, not, if◌then◌else◌, Option, Some, is_some, unwrap_or, Ok, List, [], ◌∷◌, ◌++◌, find, length, nat_lt, replicate}
 use Rattle.std.specs.List.{flat_map, list_any, range_with_len}
 use Rattle.owned_words.specs.Owned.{row_from}
 use Rattle.hunk_loader.specs.Globals.{globals_in, highest, most_globals, with_globals}
 use Rattle.hunk_loader.specs.ModuleHunks.{hunks_in}
-use Rattle.coroutines.specs.CoroutineExchanges.{TaskCoroutines}
 use Rattle.kernel_model.specs.Changes.{with_new_task}
 use Rattle.kernel_model.specs.Lists.{Lists, has_task}
 use Rattle.kernel_model.specs.Task.{Task}

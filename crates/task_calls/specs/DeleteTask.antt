@@ -8,7 +8,7 @@ use Rattle.kernel_model.specs.Between.{is_empty_queue}
 use Rattle.kernel_model.specs.Changes.{with_blocks, with_tasks}
 use Rattle.kernel_model.specs.Lists.{Lists, address_of_task}
 use Rattle.kernel_model.specs.Task.{Task, is_guest_id}
-use Rattle.kernel_model.specs.ValidTasks.{dead, runs}
+use Rattle.kernel_model.specs.ValidTasks.{runs}
 use Rattle.call_answers.specs.Guests.{GuestAt, guest_tests}
 use Rattle.call_answers.specs.Made.{Made, done, unless_refused}
 use Rattle.call_answers.specs.Refusals.{first_refusal}

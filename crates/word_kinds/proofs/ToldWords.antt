@@ -6,7 +6,7 @@ use Rattle.linked_list.specs.Count.{IsApart, hit, times}
 use Rattle.linked_list.specs.Places.{without}
 use Rattle.linked_list.proofs.Counts.{hit-same, times-append}
 use Rattle.word_kinds.specs.Keeper.{AreTogether}
-use Rattle.block_calls.specs.ToldWords.{WasClaimed, WasReleased}
+use Rattle.word_kinds.specs.ToldWords.{WasClaimed, WasReleased}
 
 -- ---- released
 
