@@ -1,11 +1,10 @@
 -- The coroutines of the running task, in its place in the chain.
-use Rattle.std.proofs.Common.{◌≡◌, ℕ, ◌≤◌, List, [], ◌∷◌, ◌++◌, cond, eqb, map, true, Some, refl, sym, ap, ◌∙◌, subst, arith}
+use Rattle.std.proofs.Common.{◌≡◌, ℕ, List, [], ◌∷◌, ◌++◌, eqb, map, true, refl, sym, ap, ◌∙◌, subst, arith}
 use Rattle.std.specs.Prelude.{find}
 use Rattle.std.specs.List.{AllByRecursion}
 use Rattle.std.specs.Option.{option_map_or}
-use Rattle.std.proofs.lemmas.Bool.{eq-eqb, false≢true, ne_eqb}
-use Rattle.linked_list.specs.Count.{IsApart, times}
-use Rattle.linked_list.proofs.Counts.{hit-same}
+use Rattle.std.proofs.lemmas.Bool.{false≢true}
+use Rattle.linked_list.specs.Count.{IsApart}
 use Rattle.owned_words.specs.Exchange.{Exchange}
 use Rattle.owned_words.specs.LinkedWords.{first_of}
 use Rattle.owned_words.specs.Owned.{Pairs, owners}
@@ -25,7 +24,6 @@ use Rattle.kernel_model.specs.Task.{Task, fault_words, is_guest_id, name_words, 
 use Rattle.kernel_model.specs.ValidLists.{AreValid}
 use Rattle.kernel_model.specs.ValidTasks.{CoroutinesStand, IsTask}
 use Rattle.kernel_model.proofs.AllThings.{all-here}
-use Rattle.kernel_model.proofs.ChainSplits.{change-between}
 use Rattle.kernel_model.proofs.ChangedLists.{exchange-owned, one_task-owned, owners-exchanged}
 use Rattle.kernel_model.proofs.OneTask.{same_task-valid}
 use Rattle.call_answers.specs.Guests.{GuestAt}

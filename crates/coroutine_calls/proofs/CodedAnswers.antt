@@ -1,5 +1,5 @@
 -- The answers of the calls of coroutines, with codes in place of their reasons.
-use Rattle.std.proofs.Common.{◌≡◌, ℕ, ◌||◌, List, [], ◌∷◌, cond, eqb, map, Bool, true, false, Some, None, Option, Err, Result, refl, ◌∙◌}
+use Rattle.std.proofs.Common.{◌≡◌, ℕ, ◌||◌, List, [], ◌∷◌, cond, eqb, map, Bool, true, false, Some, None, Err, refl, ◌∙◌}
 use Rattle.std.specs.Prelude.{not}
 use Rattle.linked_list.specs.Places.{has}
 use Rattle.coroutines.specs.CoroutineExchanges.{HoldsCoroutines, TaskCoroutines, current_of}

@@ -1,5 +1,5 @@
 -- The coroutines of the task that makes a call.
-use Rattle.std.specs.Prelude.{ℕ, ◌==◌, Bool, not, [], find, map}
+use Rattle.std.specs.Prelude.{ℕ, ◌==◌, Bool, not, find, map}
 use Rattle.std.specs.Option.{option_map_or}
 use Rattle.linked_list.specs.Places.{has}
 use Rattle.coroutines.specs.CoroutineExchanges.{TaskCoroutines, current_of}

@@ -6,7 +6,6 @@ use Rattle.std.proofs.lemmas.Bool.{cases_eq, cases_lt, eq-eqb, le-leb, le-ltb, l
 use Rattle.linked_list.specs.Count.{IsApart}
 use Rattle.linked_list.specs.Places.{has}
 use Rattle.owned_words.specs.LinkedWords.{first_of}
-use Rattle.owned_words.specs.Owned.{Holds}
 use Rattle.hunk_loader.specs.Globals.{GlobalsFit, highest, most_globals}
 use Rattle.hunk_loader.specs.HeldModules.{module_address}
 use Rattle.hunk_loader.specs.ModuleHunks.{PlacedHunk, hunks_in}
@@ -16,16 +15,14 @@ use Rattle.kernel_model.specs.HoldsLists.{HoldsLists}
 use Rattle.kernel_model.specs.KernelRanges.{task_size_in}
 use Rattle.kernel_model.specs.Lists.{Lists}
 use Rattle.kernel_model.specs.Recovered.{lists_in, modules_of, task_in}
-use Rattle.kernel_model.specs.Task.{is_guest_id, state_words, task_address, task_id, task_words}
+use Rattle.kernel_model.specs.Task.{is_guest_id, task_id}
 use Rattle.kernel_model.specs.ValidTasks.{IsGuest}
 use Rattle.kernel_model.specs.Versions.{most_modules_of}
 use Rattle.kernel_model.proofs.AllThings.{all-here}
-use Rattle.kernel_model.proofs.EachMember.{holds-each}
-use Rattle.kernel_model.proofs.ReadCoroutines.{holds-task}
 use Rattle.kernel_model.proofs.RecoveredLists.{lists-back}
 use Rattle.call_answers.specs.Guests.{GuestAt}
 use Rattle.call_answers.specs.Refusals.{first_refusal}
-use Rattle.call_answers.proofs.FoundTask.{any-one, reads}
+use Rattle.call_answers.proofs.FoundTask.{any-one}
 use Rattle.call_answers.proofs.GuestTask.{GuestFacts, guest-facts, guest-words}
 use Rattle.call_answers.specs.Tasks.{is_dead}
 use Rattle.call_answers.specs.Modules.{has_module}

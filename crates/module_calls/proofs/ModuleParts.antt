@@ -1,9 +1,9 @@
 -- The words of modules among all owned words.
-use Rattle.std.proofs.Common.{◌≡◌, ℕ, suc, ◌+◌, List, [], ◌∷◌, ◌++◌, length, ap, ◌∙◌, arith}
+use Rattle.std.proofs.Common.{◌≡◌, ℕ, suc, ◌+◌, List, ◌∷◌, length, ap}
 use Rattle.std.specs.List.{range_with_len}
 use Rattle.linked_list.specs.Count.{hit, times}
 use Rattle.owned_words.specs.Exchange.{Exchange}
-use Rattle.owned_words.specs.Owned.{Pairs, owners, row_from}
+use Rattle.owned_words.specs.Owned.{Pairs, owners}
 use Rattle.owned_words.proofs.Exchanges.{exchange-left, exchange-right}
 use Rattle.owned_words.proofs.RowWords.{owners-row}
 use Rattle.getvec_chain.specs.BlockWords.{blocks_words}

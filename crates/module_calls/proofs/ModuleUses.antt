@@ -1,12 +1,10 @@
 -- Whether a module is there, and whether a task has it, as a store tells it.
-use Rattle.std.proofs.Common.{◌≡◌, ℕ, ◌+◌, ◌<◌, List, [], ◌∷◌, length, map, drop, cond, eqb, not, ◌||◌, Bool, true, false, Some, None, Option, Result, Err, refl, sym, ap, ◌∙◌, subst, arith}
+use Rattle.std.proofs.Common.{◌≡◌, ℕ, ◌+◌, ◌<◌, List, [], ◌∷◌, length, map, drop, cond, eqb, not, ◌||◌, Bool, true, false, Some, None, Option, refl, sym, ap, ◌∙◌, subst, arith}
 use Rattle.std.specs.List.{AllByRecursion, filter, list_any}
 use Rattle.std.proofs.lemmas.Bool.{eqb-true, ne_eqb}
 use Rattle.linked_list.specs.Places.{has}
 use Rattle.linked_list.proofs.AllMembers.{all-has}
 use Rattle.hunk_loader.specs.HeldModules.{module_address}
-use Rattle.hunk_loader.proofs.HeldModuleLists.{held-modules}
-use Rattle.task_block.specs.Lists.{modules_in}
 use Rattle.task_block.specs.TaskChain.{tasks_in}
 use Rattle.kernel_model.specs.HoldsLists.{HoldsLists}
 use Rattle.kernel_model.specs.Lists.{Lists}
@@ -20,7 +18,7 @@ use Rattle.kernel_model.proofs.ListRanges.{TaskReads}
 use Rattle.kernel_model.proofs.RecoveredLists.{lists-back}
 use Rattle.kernel_model.proofs.TaskPlaces.{TaskPlace, task-places}
 use Rattle.kernel_model.proofs.WalkedLists.{tasks-read}
-use Rattle.call_answers.specs.Refusals.{answer_of, first_refusal}
+use Rattle.call_answers.specs.Refusals.{first_refusal}
 use Rattle.call_answers.proofs.FoundTask.{reads}
 use Rattle.call_answers.specs.Modules.{has_module}
 use Rattle.module_calls.specs.ModuleFields.{IsTaskIn, module_fields}

@@ -1,8 +1,7 @@
 -- Where the globals of a guest lie: behind its task block, in a block of its own.
-use Rattle.std.proofs.Common.{◌≡◌, ◌≢◌, ℕ, ◌+◌, ◌<◌, ◌≤◌, ◌⊎◌, List, [], ◌∷◌, ◌++◌, map, get_or, cond, eqb, true, Some, inl, inr, refl, sym, ap, ◌∙◌, subst, arith}
+use Rattle.std.proofs.Common.{◌≡◌, ◌≢◌, ℕ, ◌+◌, ◌<◌, ◌≤◌, ◌⊎◌, List, ◌∷◌, ◌++◌, map, get_or, cond, eqb, true, Some, inl, inr, refl, sym, ap, ◌∙◌, subst, arith}
 use Rattle.std.specs.Prelude.{find}
-use Rattle.std.proofs.lemmas.Bool.{eq-eqb, ne_eqb}
-use Rattle.linked_list.specs.Count.{IsApart, times}
+use Rattle.linked_list.specs.Count.{IsApart}
 use Rattle.linked_list.proofs.AllMembers.{all-has}
 use Rattle.linked_list.proofs.Counts.{hit-same}
 use Rattle.owned_words.specs.LinkedWords.{linked_words}
@@ -20,7 +19,7 @@ use Rattle.hunk_loader.proofs.ModuleBlocks.{InBlock, in_block}
 use Rattle.task_block.specs.Lists.{modules_in}
 use Rattle.kernel_model.specs.HoldsLists.{HoldsLists}
 use Rattle.kernel_model.specs.Lists.{Lists}
-use Rattle.kernel_model.specs.Task.{Task, globals_of, task_address, task_id, task_words}
+use Rattle.kernel_model.specs.Task.{globals_of, task_address, task_id, task_words}
 use Rattle.kernel_model.specs.ValidBlocks.{HasBlock}
 use Rattle.kernel_model.specs.Versions.{head_words_of}
 use Rattle.kernel_model.proofs.OwnerCounts.{owners-linked_here}

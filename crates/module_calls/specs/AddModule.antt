@@ -8,7 +8,6 @@ use Rattle.hunk_loader.specs.ModuleHunks.{hunks_in}
 use Rattle.kernel_model.specs.Changes.{with_task}
 use Rattle.kernel_model.specs.Lists.{Lists, queued}
 use Rattle.kernel_model.specs.Task.{Task, globals_of}
-use Rattle.kernel_model.specs.ValidTasks.{dead}
 use Rattle.kernel_model.specs.Versions.{most_modules_of}
 use Rattle.call_answers.specs.Guests.{guest_tests}
 use Rattle.call_answers.specs.Refusals.{first_refusal}

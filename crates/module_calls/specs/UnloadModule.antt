@@ -1,8 +1,7 @@
 -- The call that takes a module out.
-use Rattle.std.specs.Prelude.{ℕ, ◌==◌, Bool, not, List, [], ◌∷◌, ◌++◌, map}
+use Rattle.std.specs.Prelude.{ℕ, ◌==◌, Bool, not, List, [], ◌∷◌, ◌++◌}
 use Rattle.std.specs.List.{list_any}
 use Rattle.linked_list.specs.Places.{has, without_first}
-use Rattle.hunk_loader.specs.HeldModules.{module_address}
 use Rattle.kernel_model.specs.Changes.{with_modules}
 use Rattle.kernel_model.specs.Lists.{Lists}
 use Rattle.call_answers.specs.Made.{Made, done, unless_refused}

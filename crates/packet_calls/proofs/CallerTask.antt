@@ -3,7 +3,6 @@ use Rattle.std.proofs.Common.{◌≡◌, ℕ, ◌+◌, ◌≤◌, Bool, true, fa
 use Rattle.std.specs.List.{AllByRecursion}
 use Rattle.linked_list.specs.Count.{IsApart}
 use Rattle.packet_queue.specs.QueueWords.{QueuedPacket, first_packet}
-use Rattle.task_block.specs.HeldTasks.{address_with}
 use Rattle.kernel_model.specs.Changes.{queue_of}
 use Rattle.kernel_model.specs.HoldsLists.{HoldsLists}
 use Rattle.kernel_model.specs.Lists.{Lists, address_of_task, has_task}
@@ -11,7 +10,7 @@ use Rattle.kernel_model.specs.Task.{Task, queue_bit, state_word, task_address, t
 use Rattle.kernel_model.specs.ValidQueues.Place.{Work}
 use Rattle.kernel_model.specs.ValidTasks.{runs}
 use Rattle.kernel_model.proofs.AllThings.{all-here}
-use Rattle.kernel_model.proofs.ChainSplits.{address-between, has_task-between, work_of-between}
+use Rattle.kernel_model.proofs.ChainSplits.{work_of-between}
 use Rattle.kernel_model.proofs.EachMember.{holds-each}
 use Rattle.kernel_model.proofs.ReadCoroutines.{holds-task}
 use Rattle.call_answers.specs.Callers.{HasCaller}

@@ -17,7 +17,7 @@ use Rattle.kernel_model.specs.ValidBlocks.{AreData}
 use Rattle.kernel_model.specs.ValidLists.{AreValid}
 use Rattle.kernel_model.specs.ValidQueues.{HasSender, MayStand, NeverFall, Place}
 use Rattle.kernel_model.specs.ValidQueues.Place.{Clock, Keyboard, Output, Pending, Work}
-use Rattle.kernel_model.specs.ValidTasks.{IsField, IsTask}
+use Rattle.kernel_model.specs.ValidTasks.{IsField}
 use Rattle.kernel_model.proofs.AllThings.{all-between}
 use Rattle.kernel_model.proofs.OwnedPackets.{unowned-no_fault, unowned-no_key}
 use Rattle.kernel_model.proofs.PacketMoves.{queued-valid}

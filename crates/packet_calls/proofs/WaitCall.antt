@@ -1,5 +1,5 @@
 -- What a task that takes its first packet leaves, and one that waits for a packet.
-use Rattle.std.proofs.Common.{◌≡◌, ◌≢◌, ℕ, ◌+◌, ◌<◌, Bool, true, false, Option, Some, None, Ok, List, [], ◌∷◌, ◌++◌, map, cond, get_or, set, eqb, inl, inr, refl, sym, ap, ◌∙◌, subst, arith}
+use Rattle.std.proofs.Common.{◌≡◌, ◌≢◌, ℕ, ◌+◌, Bool, true, false, Option, Some, None, Ok, List, [], ◌∷◌, ◌++◌, cond, get_or, set, eqb, inl, inr, refl, sym, ap, ◌∙◌, subst, arith}
 use Rattle.std.specs.List.{AllByRecursion, range_with_len}
 use Rattle.std.proofs.lemmas.Bool.{eq-eqb, false_from_ne_true, leb-true, or_left}
 use Rattle.word_store.specs.Arithmetic.{signed}
@@ -10,21 +10,20 @@ use Rattle.owned_words.specs.LinkedWords.{first_of}
 use Rattle.owned_words.proofs.Exchanges.{exchange-left, exchange-right, exchange-row}
 use Rattle.packet_queue.specs.Log.{Notes}
 use Rattle.packet_queue.specs.Queue.{HasQueue, queue_at}
-use Rattle.packet_queue.specs.QueueWords.{QueuedPacket, first_packet, queue_words}
+use Rattle.packet_queue.specs.QueueWords.{QueuedPacket, queue_words}
 use Rattle.packet_queue.specs.declared.events.KernelEvent.{KernelEvent}
 use Rattle.packet_queue.specs.declared.events.KernelEvent.TheVariants.{Taken}
 use Rattle.coroutines.specs.CoroutineExchanges.{words_of_coroutines}
 use Rattle.kernel_model.specs.ChangedStore.{HasKeeper, IsChanged, Knows}
-use Rattle.kernel_model.specs.Changes.{change_of, queue_of, with_queue, with_task, with_tasks}
+use Rattle.kernel_model.specs.Changes.{queue_of, with_queue, with_task, with_tasks}
 use Rattle.kernel_model.specs.Lists.{Lists, has_task}
 use Rattle.kernel_model.specs.NotedEvents.{NotesAll}
 use Rattle.kernel_model.specs.Owned.{owned}
-use Rattle.kernel_model.specs.Task.{Task, fault_words, globals_of, is_guest_id, name_words, queue_bit, queue_head, stack_of, state_word, state_words, task_address, task_id, task_words}
+use Rattle.kernel_model.specs.Task.{Task, fault_words, globals_of, is_guest_id, name_words, queue_bit, queue_head, stack_of, state_word, state_words, task_address, task_words}
 use Rattle.kernel_model.specs.ValidLists.{AreValid}
 use Rattle.kernel_model.specs.ValidQueues.{IsFaultPacket, IsKeyPacket, MayStand, Place, is_fault_packet, is_key_packet}
 use Rattle.kernel_model.specs.ValidQueues.Place.{Clock, Keyboard, Output, Pending, Work}
 use Rattle.kernel_model.specs.ValidTasks.{IsTask}
-use Rattle.kernel_model.proofs.ChainSplits.{change-between}
 use Rattle.kernel_model.proofs.ChangedLists.{exchange-owned, knows-same, one_task-owned, owners-exchanged}
 use Rattle.kernel_model.proofs.NotedInTurn.{notes-none, notes-one}
 use Rattle.kernel_model.proofs.OneTask.{same_task-valid}

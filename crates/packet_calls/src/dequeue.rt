@@ -13,10 +13,10 @@ ghost use Rattle.packet_calls.specs.Dqpkt.{dqpkt, found_in, found_in_own, is_res
 use call_answers::caller;
 use call_answers::codes::{NO_DESTINATION, NOT_QUEUED, RESIDENT};
 use call_answers::numbers::SENDER;
+use packet_moves::Queue;
 use packet_moves::destinations::destination;
 use packet_moves::events::dequeued;
 use packet_moves::packets::PACKET_WORDS;
-use packet_moves::Queue;
 use packet_moves::queues::{has_packet, unqueue};
 use packet_queue::EventLog;
 use task_block::{RootField, TcbField, field, find, root};

@@ -11,9 +11,9 @@ ghost use Rattle.packet_calls.specs.TaskWait.{answer_of_wait, first_of_queue, ta
 
 use call_answers::caller;
 use call_answers::numbers::SENDER;
+use packet_moves::Queue;
 use packet_moves::events::taken;
 use packet_moves::packets::PACKET_WORDS;
-use packet_moves::Queue;
 use packet_moves::queues::unqueue;
 use packet_queue::EventLog;
 use task_block::{TcbField, field, set_field};
