@@ -2,7 +2,7 @@
 use Rattle.std.proofs.Common.{◌≡◌, ◌≢◌, ℕ, ◌+◌, ◌<◌, false, List, [], ◌∷◌, get_or, leb, refl, sym, ap, ◌∙◌, arith}
 use Rattle.std.specs.List.{AllByRecursion}
 use Rattle.owned_words.specs.Owned.{Holds}
-use Rattle.packet_queue.specs.QueueWords.{HeldQueue, QueuedPacket, first_packet, queue_words}
+use Rattle.packet_queue.specs.QueueWords.{QueuedPacket, first_packet, queue_words}
 use Rattle.kernel_model.specs.HoldsLists.{HoldsLists}
 use Rattle.kernel_model.specs.Lists.{Lists}
 use Rattle.kernel_model.specs.Owned.{clock_head}

@@ -1,5 +1,5 @@
 -- The ticks are another number.
-use Rattle.std.proofs.Common.{get_or, ◌≡◌, ℕ, ◌-◌, List, [], ◌∷◌, ◌++◌, set, refl, sym, arith}
+use Rattle.std.proofs.Common.{◌≡◌, ℕ, ◌-◌, List, [], ◌∷◌, ◌++◌, set, refl, sym, arith}
 use Rattle.std.specs.List.{AllByRecursion}
 use Rattle.owned_words.specs.Exchange.{Exchange}
 use Rattle.owned_words.specs.Owned.{Pairs, owners, row_from}

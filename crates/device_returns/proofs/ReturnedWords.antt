@@ -1,13 +1,12 @@
 -- What the store holds once a device has returned a packet: the packet goes out of the device's queue, and comes to its sender's.
-use Rattle.std.proofs.Common.{◌≡◌, ◌≢◌, ℕ, ◌+◌, ◌<◌, List, [], ◌∷◌, ◌++◌, true, get_or, length, map, refl, sym, ap, ◌∙◌, subst, arith, get_or-set_other}
+use Rattle.std.proofs.Common.{◌≡◌, ℕ, ◌+◌, ◌<◌, List, [], ◌∷◌, ◌++◌, true, get_or, length, map, refl, sym, ap, ◌∙◌, subst, arith, get_or-set_other}
 use Rattle.std.specs.List.{AllByRecursion, range_with_len}
 use Rattle.linked_list.specs.Count.{IsApart, times}
-use Rattle.linked_list.specs.Places.{has}
 use Rattle.linked_list.proofs.AllMembers.{all-append}
 use Rattle.linked_list.proofs.Counts.{times-within}
 use Rattle.owned_words.specs.Owned.{Pairs, owners}
 use Rattle.owned_words.specs.Written.{IsWritten}
-use Rattle.packet_queue.specs.Queue.{CanQueue, HasQueue, no_queue, queue_at}
+use Rattle.packet_queue.specs.Queue.{CanQueue, HasQueue, no_queue}
 use Rattle.packet_queue.specs.QueueWords.{QueuedPacket}
 use Rattle.task_block.specs.HeldTasks.{address_with}
 use Rattle.kernel_model.specs.ChangedStore.{IsChanged}
@@ -15,7 +14,7 @@ use Rattle.kernel_model.specs.Changes.{queue_of, with_queue, work_of}
 use Rattle.kernel_model.specs.HoldsLists.{HoldsLists}
 use Rattle.kernel_model.specs.Lists.{Lists, has_task}
 use Rattle.kernel_model.specs.Owned.{owned}
-use Rattle.kernel_model.specs.Task.{Task, task_address, task_id}
+use Rattle.kernel_model.specs.Task.{task_address, task_id}
 use Rattle.kernel_model.specs.ValidLists.{AreValid}
 use Rattle.kernel_model.specs.ValidQueues.{Place}
 use Rattle.kernel_model.specs.ValidQueues.Place.{Work}
@@ -25,7 +24,6 @@ use Rattle.kernel_model.proofs.ReadQueues.{packets-some}
 use Rattle.call_answers.proofs.FoundTask.{TaskAt, found-address}
 use Rattle.packet_moves.specs.Destinations.{queue_for}
 use Rattle.packet_moves.specs.QueueWords as moves
-use Rattle.packet_moves.specs.declared.queues.Queue.{Queue}
 use Rattle.packet_moves.specs.declared.queues.Queue.TheVariants.{OfTask}
 use Rattle.packet_moves.proofs.Departure.{departed-size, departed-written, held-before, others-kept, owners-departed}
 use Rattle.packet_moves.proofs.PlacedPackets.{end-changed, end-owners, end-packet, end-queue, fields-stand, results-own, results-set}
