@@ -10,8 +10,7 @@ use Rattle.getvec_chain.specs.Block.{is_used_at}
 use Rattle.getvec_chain.specs.Tiling.{blocks_in, holding, used_at}
 use Rattle.getvec_chain.proofs.UsedBlocks.{is_used_at-true}
 use Rattle.hunk_loader.specs.HeldModules.{module_address}
-use Rattle.hunk_loader.proofs.HeldModuleLists.{held-modules}
-use Rattle.task_block.specs.Lists.{coroutines_in, modules_in}
+use Rattle.task_block.specs.Lists.{coroutines_in}
 use Rattle.task_block.specs.TaskChain.{tasks_in}
 use Rattle.kernel_model.specs.BlockUse.{Use, coroutine_addresses, use_of_data}
 use Rattle.kernel_model.specs.BlockUse.Use.{Free, OfCoroutine, OfModule, OfResidents, OfTask, User}
@@ -35,9 +34,6 @@ module _ (s : List ℕ) (l : Lists) (v : ℕ) (h : HoldsLists s l) where
 
   pub tasks-told : has v (tasks_in s) ≡ has v (map task_address l.tasks)
   tasks-told = ap (has v) (reads s l h).tasks.chain
-
-  pub modules-told : has v (modules_in s) ≡ has v (map module_address l.modules)
-  modules-told = ap (has v) (held-modules s l.modules (reads s l h).modules).list
 
   pub coroutines-told : list_any (λ t. has v (coroutines_in s t)) (tasks_in s) ≡ has v (flat_map coroutine_addresses l.tasks)
   coroutines-told = ap (list_any (λ t. has v (coroutines_in s t))) (reads s l h).tasks.chain ∙ among l.tasks (tasks-read s l h)

@@ -1,5 +1,5 @@
 -- What the call that gives a block back makes, by its tests.
-use Rattle.std.proofs.Common.{◌≡◌, ◌≢◌, ℕ, ◌+◌, ◌-◌, List, cond, not, Bool, true, false, Some, None, Result, Ok, Err, refl, sym, ap, ◌∙◌, subst, arith}
+use Rattle.std.proofs.Common.{◌≡◌, ◌≢◌, ℕ, ◌+◌, ◌-◌, List, cond, not, Bool, true, false, Some, None, Ok, Err, refl, sym, ap, ◌∙◌, subst, arith}
 use Rattle.std.specs.Prelude.{◌&&◌, is_some}
 use Rattle.std.specs.List.{list_any}
 use Rattle.std.proofs.lemmas.Bool.{ne_eqb}
@@ -15,16 +15,12 @@ use Rattle.kernel_model.specs.Lists.{Lists, queued}
 use Rattle.kernel_model.proofs.ChangedLists.{changed-none, knows-same}
 use Rattle.kernel_model.proofs.EachMember.{find-passes}
 use Rattle.kernel_model.proofs.FollowedBlocks.{IsWithin, found-within}
-use Rattle.call_answers.specs.Made.{IsMade, Made, done, minus_one, plain_answer, unless_refused}
+use Rattle.call_answers.specs.Made.{IsMade, Made, done, minus_one, unless_refused}
 use Rattle.call_answers.specs.Refusals.{first_refusal}
 use Rattle.call_answers.proofs.MadeCalls.{made-accepted, made-refused}
 use Rattle.block_calls.specs.Freevec.{IsUsersBlock, freevec, freevec_tests, has_packet_in, holds_packet, is_user, is_users_block, lies_in, with_given}
 use Rattle.block_calls.proofs.IdleBlocks.{idle-unowned, none-idle, unowned-empty}
 use Rattle.block_calls.proofs.TakenStore.{given-changed, given-owners}
-
--- a code that `?` hands on from a part of a call that has no answer of its own
-pub handed-plain : (s t : List ℕ) (tells : List ℕ → Type 0) (r : Result (Unit {0}) ℕ) (code : ℕ) (m : Made) → r ≡ Err code → IsMade s t tells (Err code) m → IsMade s t tells (plain_answer r) m
-handed-plain s t tells r code m is h = subst (λ z. IsMade s t tells z m) (ap plain_answer (sym is)) h
 
 module _ (s : List ℕ) (tells : List ℕ → Type 0) (room : ℕ) (l : Lists) (v : ℕ) (k : HasKeeper s tells room l) where
   -- nothing is at 0

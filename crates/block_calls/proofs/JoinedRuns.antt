@@ -16,7 +16,7 @@ use Rattle.getvec_chain.specs.Take.{left_over}
 use Rattle.getvec_chain.specs.Tiling.{Follow, IsTiled, Tiles, blocks_in}
 use Rattle.kernel_model.proofs.BlockStarts.{InFree, in-free, starts-once, starts-within}
 use Rattle.kernel_model.proofs.FollowedBlocks.{member-data}
-use Rattle.block_calls.specs.ToldWords.{joined_start, joined_starts, rest_start}
+use Rattle.block_calls.specs.JoinedStarts.{joined_start, joined_starts, rest_start}
 
 module _ (run : Run) (a : ℕ) where
   -- behind the front of the run each start is one that is joined

@@ -1,9 +1,7 @@
-pub mod ToldWords
 pub mod JoinedRuns
 pub mod TakenStore
 pub mod TakenWords
 pub mod TakenBlock
-pub mod OwnedMarks
 pub mod IdleBlocks
 pub mod BlockUses
 pub mod GivenBlock

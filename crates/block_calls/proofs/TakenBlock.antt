@@ -1,5 +1,5 @@
 -- What the call that takes a block makes.
-use Rattle.std.proofs.Common.{◌≡◌, ℕ, List, [], cond, Some, None, Result, Ok, Err, sym, ap, ◌∙◌, subst}
+use Rattle.std.proofs.Common.{◌≡◌, ℕ, List, [], cond, Some, None, Ok, Err, sym, ap, ◌∙◌}
 use Rattle.std.specs.Prelude.{is_some}
 use Rattle.getvec_chain.specs.Run.{first_run, need}
 use Rattle.getvec_chain.specs.Take.{IsTaken}
@@ -13,10 +13,6 @@ use Rattle.call_answers.proofs.MadeCalls.{made-accepted, made-refused}
 use Rattle.block_calls.specs.FreeStore.{data_of_front, data_taken, with_taken}
 use Rattle.block_calls.specs.Getvec.{getvec, getvec_tests}
 use Rattle.block_calls.proofs.TakenStore.{HasTakenBlock, taken-changed}
-
--- a code that `?` hands on
-pub handed-on : (s t : List ℕ) (tells : List ℕ → Type 0) (r : Result ℕ ℕ) (e code : ℕ) (m : Made) → r ≡ Err e → e ≡ code → IsMade s t tells (Err code) m → IsMade s t tells r m
-handed-on s t tells r e code m is same h = subst (λ z. IsMade s t tells z m) (sym (is ∙ ap Err same)) h
 
 module _ (s : List ℕ) (l : Lists) (u : ℕ) (h : HoldsLists s l) where
   abbrev made : Made

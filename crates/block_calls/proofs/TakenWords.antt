@@ -20,7 +20,8 @@ use Rattle.kernel_model.specs.ReadsLists.{ReadsLists}
 use Rattle.kernel_model.proofs.OwnerCounts.{owned-blocks, owners-owned}
 use Rattle.call_answers.proofs.FoundTask.{reads}
 use Rattle.block_calls.specs.FreeStore.{with_taken}
-use Rattle.block_calls.specs.ToldWords.{WasClaimed, WasReleased, joined_starts, rest_start}
+use Rattle.word_kinds.specs.ToldWords.{WasClaimed, WasReleased}
+use Rattle.block_calls.specs.JoinedStarts.{joined_starts, rest_start}
 use Rattle.block_calls.proofs.JoinedRuns.{rest-starts, run-starts}
 
 module _ (s : List ℕ) (l : Lists) (u : ℕ) (run : Run) (h : HoldsLists s l) (first : first_run (need u) (blocks_in s) ≡ Some run) where

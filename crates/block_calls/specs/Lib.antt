@@ -1,4 +1,4 @@
 pub mod FreeStore
-pub mod ToldWords
+pub mod JoinedStarts
 pub mod Getvec
 pub mod Freevec

@@ -5,7 +5,8 @@ ghost use Rattle.getvec_chain.specs.Tiling.{IsTiled, blocks_in};
 ghost use Rattle.kernel_model.specs.ChangedStore.{HasKeeper, Knows};
 ghost use Rattle.kernel_model.specs.Lists.{Lists};
 ghost use Rattle.block_calls.specs.FreeStore.{with_taken};
-ghost use Rattle.block_calls.specs.ToldWords.{WasClaimed, WasReleased, is_joined, joined_start, joined_starts, rest_start};
+ghost use Rattle.word_kinds.specs.ToldWords.{WasClaimed, WasReleased};
+ghost use Rattle.block_calls.specs.JoinedStarts.{is_joined, joined_start, joined_starts, rest_start};
 
 use call_answers::codes::NO_ROOM;
 use getvec_chain::{Block, Run, blocks, first_run};

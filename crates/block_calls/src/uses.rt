@@ -3,8 +3,8 @@ ghost use Rattle.std.specs.Prelude.{◌≡◌, ◌&&◌, ◌==◌, not, slice_in
 ghost use Rattle.std.specs.List.{AllByRecursion, list_any};
 ghost use Rattle.linked_list.specs.Places.{has};
 ghost use Rattle.linked_list.specs.Walk.{CanWalk};
-ghost use Rattle.task_block.specs.Lists.{coroutines_in, module_link, modules_in};
-ghost use Rattle.task_block.specs.RootWords.{first_module, first_task};
+ghost use Rattle.task_block.specs.Lists.{coroutines_in};
+ghost use Rattle.task_block.specs.RootWords.{first_task};
 ghost use Rattle.task_block.specs.TaskChain.{task_link, tasks_in};
 ghost use Rattle.kernel_model.specs.BlockUse.{use_of_data};
 ghost use Rattle.kernel_model.specs.HoldsLists.{HoldsLists};
@@ -13,8 +13,9 @@ ghost use Rattle.kernel_model.specs.Lists.{Lists};
 ghost use Rattle.block_calls.specs.Freevec.{IsUsersBlock, is_user};
 
 use call_answers::codes::NO_USER_BLOCK;
+use call_answers::is_module;
 use getvec_chain::{Block, block_of};
-use task_block::{RootField, coroutine_list, modules, root, tasks};
+use task_block::{RootField, coroutine_list, root, tasks};
 use word_store::Store;
 
 /// Where the data of the residents' block begin.
@@ -64,18 +65,6 @@ fn is_task(store: &Store, v: u32) -> bool
 {
     for t in tasks(store) {
         if t == v {
-            return true;
-        }
-    }
-    false
-}
-
-fn is_module(store: &Store, v: u32) -> bool
-    requires { CanWalk store.now module_link first_module }
-    ensures { result ≡ has v (modules_in store.now) }
-{
-    for m in modules(store) {
-        if m == v {
             return true;
         }
     }

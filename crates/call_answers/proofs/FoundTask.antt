@@ -1,17 +1,19 @@
 -- The task that a store finds by a number, and the list with that task changed.
-use Rattle.std.proofs.Common.{◌≡◌, ℕ, List, [], ◌∷◌, ◌++◌, map, cond, eqb, ◌≤◌, ◌&&◌, ◌||◌, Bool, true, false, Option, Some, None, refl, sym, ap, ◌∙◌, subst, arith}
+use Rattle.std.proofs.Common.{◌≡◌, ℕ, List, [], ◌∷◌, ◌++◌, map, cond, eqb, ◌≤◌, ◌&&◌, ◌||◌, find, Bool, true, false, Option, Some, None, refl, sym, ap, ◌∙◌, subst, arith}
 use Rattle.std.proofs.lemmas.Bool.{eq-eqb, eqb-true, ne_eqb}
 use Rattle.std.specs.List.{AllByRecursion, list_any}
 use Rattle.linked_list.specs.Count.{IsApart, times}
 use Rattle.linked_list.proofs.Counts.{hit-same}
 use Rattle.task_block.specs.TaskChain.{id_in, task_with, tasks_in}
 use Rattle.task_block.proofs.HeldTaskBlocks.{numbers}
+use Rattle.task_block.specs.HeldTasks.{address_with}
 use Rattle.kernel_model.specs.HoldsLists.{HoldsLists}
-use Rattle.kernel_model.specs.Lists.{Lists, has_task}
+use Rattle.kernel_model.specs.Lists.{Lists, address_of_task, has_task}
 use Rattle.kernel_model.specs.ReadsLists.{ReadsLists}
 use Rattle.kernel_model.specs.Task.{Task, task_address, task_id, task_words}
 use Rattle.kernel_model.proofs.Reading.{read-lists}
 use Rattle.kernel_model.proofs.TaskKind.{are_tasks}
+use Rattle.kernel_model.proofs.ChainSplits.{address-between, has_task-between}
 
 -- the task with the number is the one at the address
 pub record TaskAt (ts : List Task) (id address : ℕ) : Type 0 where
@@ -76,3 +78,27 @@ module _ (id : ℕ) (test : Task → Bool) where
       here : (ws : List Task) → 1 ≤ times id (map task_id (ws ++ t ∷ back))
       here [] = omega (arith, hit-same id t.id (sym e))
       here (w ∷ ws) = omega (arith, here ws)
+
+-- ---- a task among others
+
+-- the task with a number, where numbers are distinct
+pub find-numbered : (id : ℕ) (front : List Task) (t : Task) (back : List Task) → t.id ≡ id → IsApart (map task_id (front ++ t ∷ back)) → find (λ u. eqb u.id id) (front ++ t ∷ back) ≡ Some t
+find-numbered id [] t back e apart = ap (λ b. cond b (Some t) (find (λ u. eqb u.id id) back)) (eq-eqb t.id id e)
+find-numbered id (z ∷ zs) t back e apart =
+    ap (λ b. cond b (Some z) (find (λ u. eqb u.id id) (zs ++ t ∷ back))) (ne_eqb z.id id (λ f. absurd (omega (arith, apart id, hit-same id z.id (sym f), there zs))))
+    ∙ find-numbered id zs t back e (λ a. omega (arith, apart a))
+  where
+    there : (ws : List Task) → 1 ≤ times id (map task_id (ws ++ t ∷ back))
+    there [] = omega (arith, hit-same id t.id (sym e))
+    there (w ∷ ws) = omega (arith, there ws)
+
+-- the task that was found stands where the table leads to
+pub found-address : (l : Lists) (id a : ℕ) → IsApart (map task_id l.tasks) → TaskAt l.tasks id a → address_of_task l id ≡ a
+found-address l id a apart t =
+    ap (λ ts. address_with task_address task_id ts id) t.is
+    ∙ ap (address_with task_address task_id (t.front ++ t.task ∷ t.back)) (sym t.number)
+    ∙ address-between t.front t.task t.back (subst (λ ts. IsApart (map task_id ts)) t.is apart)
+    ∙ t.at
+
+pub found-there : (l : Lists) (id a : ℕ) → TaskAt l.tasks id a → has_task id l.tasks ≡ true
+found-there l id a t = ap (has_task id) t.is ∙ ap (λ i. has_task i (t.front ++ t.task ∷ t.back)) (sym t.number) ∙ has_task-between t.front t.task t.back

@@ -1,15 +1,19 @@
 -- What a store has of a guest that was found in it.
-use Rattle.std.proofs.Common.{◌≡◌, ℕ, ◌+◌, ◌/◌, ◌%◌, List, get_or, eqb, true, sym, ap, ◌∙◌, subst}
+use Rattle.std.proofs.Common.{◌≡◌, ℕ, ◌+◌, ◌/◌, ◌%◌, List, ◌∷◌, ◌++◌, get_or, map, eqb, true, sym, ap, ◌∙◌, subst}
 use Rattle.std.specs.List.{AllByRecursion}
 use Rattle.owned_words.specs.Owned.{Holds}
 use Rattle.kernel_model.specs.HoldsLists.{HoldsLists}
 use Rattle.kernel_model.specs.Lists.{Lists}
-use Rattle.kernel_model.specs.Task.{Task, is_guest_id, state_word, state_words, task_address, task_words}
+use Rattle.kernel_model.specs.Task.{Task, is_guest_id, state_word, state_words, task_address, task_id, task_words}
 use Rattle.kernel_model.specs.ValidTasks.{CoroutinesStand, IsTask}
 use Rattle.kernel_model.proofs.AllThings.{all-here}
 use Rattle.kernel_model.proofs.EachMember.{holds-each}
 use Rattle.kernel_model.proofs.ReadCoroutines.{holds-task}
 use Rattle.kernel_model.proofs.RecoveredTasks.{state-held}
+use Rattle.kernel_model.specs.Changes.{change_of}
+use Rattle.kernel_model.specs.ValidLists.{AreValid}
+use Rattle.kernel_model.proofs.ChainSplits.{change-between}
+use Rattle.linked_list.specs.Count.{IsApart}
 use Rattle.call_answers.specs.Guests.{GuestAt}
 use Rattle.call_answers.proofs.FoundTask.{reads}
 use Rattle.call_answers.proofs.Refusals.{accepted-guest}
@@ -44,3 +48,10 @@ guest-facts s l id address h g =
       guest = ap is_guest_id g.number ∙ accepted-guest l id address g;
       bit = ap (λ w. eqb (w / 2 % 2) 1) state ∙ state-held t task.field;
     }
+
+-- the tasks, where this one alone changes
+pub guest-changed : (l : Lists) (id address : ℕ) (change : Task → Task) → AreValid l → (g : GuestAt l id address) → map (change_of id change) l.tasks ≡ g.front ++ change g.task ∷ g.back
+guest-changed l id address change v g =
+    ap (map (change_of id change)) g.is
+    ∙ subst (λ i. map (change_of i change) (g.front ++ g.task ∷ g.back) ≡ g.front ++ change g.task ∷ g.back) g.number
+    (change-between change g.front g.task g.back (subst (λ ts. IsApart (map task_id ts)) g.is v.tasks.distinct))

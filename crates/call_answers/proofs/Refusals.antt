@@ -1,13 +1,11 @@
 -- Refusals by tests in their order, and the tests of a guest.
-use Rattle.std.proofs.Common.{◌≡◌, ℕ, ◌<◌, ◌≤◌, List, [], ◌∷◌, ◌++◌, cond, eqb, Bool, true, false, Option, Some, None, Result, Ok, Err, refl, sym, ap, ◌∙◌, subst, arith}
-use Rattle.std.proofs.lemmas.Bool.{eq-eqb}
+use Rattle.std.proofs.Common.{◌≡◌, ℕ, ◌<◌, ◌≤◌, List, [], ◌∷◌, ◌++◌, cond, Bool, true, false, Option, Some, None, Result, Ok, Err, refl, ap, ◌∙◌, arith}
 use Rattle.std.proofs.lemmas.Bool.Decides.{nat_tests}
 use Rattle.kernel_model.specs.Lists.{Lists, has_task}
 use Rattle.kernel_model.specs.Task.{is_guest_id}
-use Rattle.kernel_model.proofs.AllThings.{any-here}
 use Rattle.call_answers.specs.Refusals.{answer_of, first_refusal}
 use Rattle.call_answers.specs.Guests.{GuestAt, guest_tests}
-use Rattle.call_answers.proofs.FoundTask.{TaskAt}
+use Rattle.call_answers.proofs.FoundTask.{TaskAt, found-there}
 
 -- further tests
 pub first_refusal-passed : (xs ys : List (Bool × ℕ)) → first_refusal xs ≡ None → first_refusal (xs ++ ys) ≡ first_refusal ys
@@ -46,17 +44,17 @@ high-guest id high = grind (arith, nat_tests)
 pub no_task : (l : Lists) (id : ℕ) → has_task id l.tasks ≡ false → first_refusal (guest_tests l id) ≡ Some 2
 no_task l id none = ap (λ b. cond b (cond (is_guest_id id) None (Some 14)) (Some 2)) none
 
-there : (l : Lists) (id a : ℕ) → TaskAt l.tasks id a → has_task id l.tasks ≡ true
-there l id a t = subst (λ ts. has_task id ts ≡ true) (sym t.is) (any-here (λ u. eqb u.id id) t.front t.task t.back (eq-eqb t.task.id id t.number))
-
 tests : (l : Lists) (id a : ℕ) (b : Bool) → TaskAt l.tasks id a → is_guest_id id ≡ b → first_refusal (guest_tests l id) ≡ cond b None (Some 14)
-tests l id a b t e = ap (λ c. cond c (cond (is_guest_id id) None (Some 14)) (Some 2)) (there l id a t) ∙ ap (λ c. cond c None (Some 14)) e
+tests l id a b t e = ap (λ c. cond c (cond (is_guest_id id) None (Some 14)) (Some 2)) (found-there l id a t) ∙ ap (λ c. cond c None (Some 14)) e
 
 pub resident : (l : Lists) (id a : ℕ) → TaskAt l.tasks id a → is_guest_id id ≡ false → first_refusal (guest_tests l id) ≡ Some 14
 resident l id a t e = tests l id a false t e
 
 pub guest-at : (l : Lists) (id a : ℕ) → TaskAt l.tasks id a → is_guest_id id ≡ true → GuestAt l id a
 guest-at l id a t e = record { front = t.front; task = t.task; back = t.back; is = t.is; number = t.number; at = t.at; accepted = tests l id a true t e }
+
+pub task-at : (l : Lists) (id a : ℕ) → GuestAt l id a → TaskAt l.tasks id a
+task-at l id a g = record { front = g.front; task = g.task; back = g.back; is = g.is; number = g.number; at = g.at }
 
 -- the number of a guest that was found is one of a guest's
 pub accepted-guest : (l : Lists) (id a : ℕ) → GuestAt l id a → is_guest_id id ≡ true

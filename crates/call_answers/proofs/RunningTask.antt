@@ -4,12 +4,12 @@ use Rattle.std.proofs.lemmas.Bool.{eqb-true}
 use Rattle.task_block.specs.HeldTasks.{address_with}
 use Rattle.kernel_model.specs.HoldsLists.{HoldsLists}
 use Rattle.kernel_model.specs.Lists.{Lists, address_of_task, has_task}
-use Rattle.kernel_model.specs.Owned.{owned}
 use Rattle.kernel_model.specs.Task.{Task, task_address, task_id}
 use Rattle.call_answers.specs.Callers.{HasCaller}
 use Rattle.call_answers.specs.Guests.{GuestAt}
 use Rattle.call_answers.proofs.FoundTask.{TaskAt}
 use Rattle.call_answers.proofs.Refusals.{guest-at}
+use Rattle.call_answers.proofs.RootTold.{running-word}
 
 -- a task that is there stands where the table leads to
 pub there-at : (id : ℕ) (ts : List Task) → has_task id ts ≡ true → TaskAt ts id (address_with task_address task_id ts id)
@@ -23,10 +23,6 @@ there-at id (t ∷ ts) e = on (eqb t.id id) refl e (there-at id ts)
         → TaskAt (t ∷ ts) id (cond b t.address (address_with task_address task_id ts id))
     on true f e more = record { front = []; task = t; back = ts; is = refl; number = eqb-true t.id id f; at = refl }
     on false f e more = behind (address_with task_address task_id ts id) (more e)
-
-running-word : (s : List ℕ) (l : Lists) → HoldsLists s l → get_or s 102 0 ≡ address_of_task l l.running
-unfolding owned
-running-word s l h = h.holds.1.0
 
 pub caller-at : (s : List ℕ) (l : Lists) → HoldsLists s l → HasCaller l → GuestAt l l.running (get_or s 102 0)
 caller-at s l h c = subst (GuestAt l l.running) (sym (running-word s l h)) (guest-at l l.running (address_of_task l l.running) (there-at l.running l.tasks c.there) c.guest)

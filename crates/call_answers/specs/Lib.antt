@@ -2,3 +2,5 @@ pub mod Refusals
 pub mod Guests
 pub mod Callers
 pub mod Made
+pub mod Tasks
+pub mod Modules

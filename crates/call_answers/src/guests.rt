@@ -4,11 +4,9 @@ ghost use Rattle.kernel_model.specs.Lists.{Lists};
 ghost use Rattle.call_answers.specs.Guests.{IsGuestOf};
 
 use crate::codes::{NO_TASK, RESIDENT};
+use crate::numbers::FIRST_GUEST;
 use task_block::find;
 use word_store::Store;
-
-/// The lowest number of a guest.
-const FIRST_GUEST: u32 = 5;
 
 /// The address of the guest's task block. Refused where there is no such task, or it is a resident.
 pub fn guest(store: &Store, id: u32) -> Result<u32, u32>

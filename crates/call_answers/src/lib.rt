@@ -1,10 +1,13 @@
-// What the kernel calls share: the codes of their refusals, the task that calls and the guest that is called for, and what a
-// call makes of the kernel's lists.
+// What the kernel calls share: the codes of their refusals, numbers that they know, the task that calls and the guest that is
+// called for, the modules that there are, and what a call makes of the kernel's lists.
 #![tactic(auto)]
 
 pub mod callers;
 pub mod codes;
 pub mod guests;
+pub mod modules;
+pub mod numbers;
 
 pub use callers::caller;
 pub use guests::guest;
+pub use modules::is_module;

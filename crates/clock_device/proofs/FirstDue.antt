@@ -2,29 +2,27 @@
 use Rattle.std.proofs.Common.{◌≡◌, ◌≢◌, ℕ, ◌+◌, ◌<◌, false, List, [], ◌∷◌, get_or, leb, refl, sym, ap, ◌∙◌, arith}
 use Rattle.std.specs.List.{AllByRecursion}
 use Rattle.owned_words.specs.Owned.{Holds}
-use Rattle.packet_queue.specs.QueueWords.{HeldQueue, QueuedPacket, first_packet, queue_words}
+use Rattle.packet_queue.specs.QueueWords.{QueuedPacket, first_packet, queue_words}
 use Rattle.kernel_model.specs.HoldsLists.{HoldsLists}
 use Rattle.kernel_model.specs.Lists.{Lists}
 use Rattle.kernel_model.specs.Owned.{clock_head}
-use Rattle.kernel_model.proofs.Reading.{read-lists}
+use Rattle.device_returns.specs.declared.returns.Device.TheVariants.{OfClock}
+use Rattle.device_returns.proofs.DeviceQueues.{device-held}
 use Rattle.clock_device.specs.Tick.{is_first_due}
-
-pub clock-held : (s : List ℕ) (l : Lists) → HoldsLists s l → HeldQueue s clock_head l.clock
-clock-held s l h = (read-lists s l h.valid h.size h.holds).clock
 
 module _ (s : List ℕ) (l : Lists) (now : ℕ) (h : HoldsLists s l) (p : ℕ) (is : p ≡ get_or s clock_head 0) where
   first-is : p ≡ first_packet l.clock
-  first-is = is ∙ (clock-held s l h).holds.0
+  first-is = is ∙ (device-held s l OfClock h).holds.0
 
   pub due-none : p ≡ 0 → false ≡ is_first_due now l.clock
-  due-none e = on l.clock (clock-held s l h).some (sym first-is ∙ e)
+  due-none e = on l.clock (device-held s l OfClock h).some (sym first-is ∙ e)
     where
       on : (ps : List QueuedPacket) → AllByRecursion (λ z. 0 < z.address) ps → first_packet ps ≡ 0 → false ≡ is_first_due now ps
       on [] some e = refl
       on (z ∷ zs) some e = absurd (omega (arith, some.0, e))
 
   pub due-some : p ≢ 0 → (due : ℕ) → due ≡ get_or s (p + 4) 0 → leb due now ≡ is_first_due now l.clock
-  due-some some due due_is = on l.clock (clock-held s l h).holds first-is
+  due-some some due due_is = on l.clock (device-held s l OfClock h).holds first-is
     where
       on : (ps : List QueuedPacket) → Holds s (queue_words clock_head ps) → p ≡ first_packet ps → leb due now ≡ is_first_due now ps
       on [] own at = absurd (some at)

@@ -22,7 +22,7 @@ use Rattle.kernel_model.proofs.NotedInTurn.{notes-none, notes-then}
 use Rattle.device_returns.specs.Returned.{IsServed, Served, first_returned, return_events, returned_by, with_work_for}
 use Rattle.device_returns.specs.declared.returns.Device.TheVariants.{OfClock}
 use Rattle.clock_device.specs.Tick.{due_packets, due_returned, events_of_return, is_first_due, later_packets, with_returned}
-use Rattle.clock_device.proofs.FirstDue.{clock-held}
+use Rattle.device_returns.proofs.DeviceQueues.{device-held}
 
 -- ---- the first packet
 
@@ -124,8 +124,8 @@ module _ (now : ℕ) (m : Lists) (x : IsDue now m) where
   pub shorter : (t u : List ℕ) → HoldsLists t m → IsServed t u m (first_returned OfClock 0 m.clock m) → length (queue_at u clock_head) < length (queue_at t clock_head)
   shorter t u held step =
       let served : IsServed t u m (record { lists = next; events = return_events OfClock q }) = subst (IsServed t u m) served-is step in
-      let before : queue_at t clock_head ≡ q.address ∷ map address_of qs = (held-queue t clock_head m.clock (clock-held t m held)).list ∙ ap (map address_of) x.is in
-      let now_is : queue_at u clock_head ≡ map address_of qs = (held-queue u clock_head qs (clock-held u next served.lists.lists)).list in
+      let before : queue_at t clock_head ≡ q.address ∷ map address_of qs = (held-queue t clock_head m.clock (device-held t m OfClock held)).list ∙ ap (map address_of) x.is in
+      let now_is : queue_at u clock_head ≡ map address_of qs = (held-queue u clock_head qs (device-held u next OfClock served.lists.lists)).list in
       omega (arith, ap length before, ap length now_is)
 
 -- ---- none is left

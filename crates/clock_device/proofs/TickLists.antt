@@ -1,5 +1,5 @@
 -- The ticks are another number.
-use Rattle.std.proofs.Common.{get_or, ◌≡◌, ℕ, ◌-◌, List, [], ◌∷◌, ◌++◌, set, refl, sym, arith}
+use Rattle.std.proofs.Common.{◌≡◌, ℕ, ◌-◌, List, [], ◌∷◌, ◌++◌, set, refl, sym, arith}
 use Rattle.std.specs.List.{AllByRecursion}
 use Rattle.owned_words.specs.Exchange.{Exchange}
 use Rattle.owned_words.specs.Owned.{Pairs, owners, row_from}
@@ -79,8 +79,3 @@ tick-valid l now v =
 
 pub tick-changed : (s t : List ℕ) (l : Lists) (now : ℕ) → HoldsLists s l → t ≡ set s 108 now → IsChanged s t (with_tick now l) []
 tick-changed s t l now h is = exchange-owned s t l (with_tick now l) _ _ h (tick-valid l now h.valid) refl (tick-exchange l now) is
-
--- the ticks, as the store has them
-pub tick-told : (s : List ℕ) (l : Lists) → HoldsLists s l → get_or s 108 0 ≡ l.tick
-unfolding owned
-tick-told s l h = h.holds.1.1.1.0

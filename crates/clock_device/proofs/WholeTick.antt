@@ -7,8 +7,9 @@ use Rattle.kernel_model.specs.Lists.{Lists}
 use Rattle.kernel_model.specs.NotedEvents.{NotesAll}
 use Rattle.kernel_model.proofs.ChangedLists.{changed-then}
 use Rattle.device_returns.specs.Returned.{IsServed, Served}
+use Rattle.call_answers.proofs.RootTold.{tick-told}
 use Rattle.clock_device.specs.Tick.{due_returned, ticked, with_tick}
-use Rattle.clock_device.proofs.TickLists.{tick-changed, tick-owned, tick-told}
+use Rattle.clock_device.proofs.TickLists.{tick-changed, tick-owned}
 
 module _ (s v : List ℕ) (l : Lists) (was : ℕ) (h : HoldsLists s l) (is_was : was ≡ get_or s 108 0) (is : v ≡ set s 108 (was + 1)) where
   abbrev after : Lists

@@ -1,11 +1,10 @@
 -- The coroutines of the running task, in its place in the chain.
-use Rattle.std.proofs.Common.{◌≡◌, ℕ, ◌≤◌, List, [], ◌∷◌, ◌++◌, cond, eqb, map, true, Some, refl, sym, ap, ◌∙◌, subst, arith}
+use Rattle.std.proofs.Common.{◌≡◌, ℕ, List, [], ◌∷◌, ◌++◌, eqb, map, true, refl, sym, ap, ◌∙◌, subst, arith}
 use Rattle.std.specs.Prelude.{find}
 use Rattle.std.specs.List.{AllByRecursion}
 use Rattle.std.specs.Option.{option_map_or}
-use Rattle.std.proofs.lemmas.Bool.{eq-eqb, false≢true, ne_eqb}
-use Rattle.linked_list.specs.Count.{IsApart, times}
-use Rattle.linked_list.proofs.Counts.{hit-same}
+use Rattle.std.proofs.lemmas.Bool.{false≢true}
+use Rattle.linked_list.specs.Count.{IsApart}
 use Rattle.owned_words.specs.Exchange.{Exchange}
 use Rattle.owned_words.specs.LinkedWords.{first_of}
 use Rattle.owned_words.specs.Owned.{Pairs, owners}
@@ -25,24 +24,14 @@ use Rattle.kernel_model.specs.Task.{Task, fault_words, is_guest_id, name_words, 
 use Rattle.kernel_model.specs.ValidLists.{AreValid}
 use Rattle.kernel_model.specs.ValidTasks.{CoroutinesStand, IsTask}
 use Rattle.kernel_model.proofs.AllThings.{all-here}
-use Rattle.kernel_model.proofs.ChainSplits.{change-between}
 use Rattle.kernel_model.proofs.ChangedLists.{exchange-owned, one_task-owned, owners-exchanged}
 use Rattle.kernel_model.proofs.OneTask.{same_task-valid}
 use Rattle.call_answers.specs.Guests.{GuestAt}
-use Rattle.call_answers.proofs.FoundTask.{reads}
+use Rattle.call_answers.proofs.FoundTask.{find-numbered, reads}
 use Rattle.call_answers.proofs.Refusals.{accepted-guest}
-use Rattle.coroutine_calls.specs.CallersCoroutines.{coroutines_of_caller, no_coroutines, with_callers, with_changed}
-
--- the task with a number, where numbers are distinct
-pub find-numbered : (id : ℕ) (front : List Task) (t : Task) (back : List Task) → t.id ≡ id → IsApart (map task_id (front ++ t ∷ back)) → find (λ u. eqb u.id id) (front ++ t ∷ back) ≡ Some t
-find-numbered id [] t back e apart = ap (λ b. cond b (Some t) (find (λ u. eqb u.id id) back)) (eq-eqb t.id id e)
-find-numbered id (z ∷ zs) t back e apart =
-    ap (λ b. cond b (Some z) (find (λ u. eqb u.id id) (zs ++ t ∷ back))) (ne_eqb z.id id (λ f. absurd (omega (arith, apart id, hit-same id z.id (sym f), there zs))))
-    ∙ find-numbered id zs t back e (λ a. omega (arith, apart a))
-  where
-    there : (ws : List Task) → 1 ≤ times id (map task_id (ws ++ t ∷ back))
-    there [] = omega (arith, hit-same id t.id (sym e))
-    there (w ∷ ws) = omega (arith, there ws)
+use Rattle.call_answers.specs.Tasks.{no_coroutines}
+use Rattle.call_answers.proofs.GuestTask.{guest-changed}
+use Rattle.coroutine_calls.specs.CallersCoroutines.{coroutines_of_caller, with_callers, with_changed}
 
 -- what stands at these addresses has the same owners
 owners-standing : (s : List ℕ) (new : Pairs) (a : ℕ) → owners a (standing s new) ≡ owners a new
@@ -72,10 +61,7 @@ module _ (s : List ℕ) (l : Lists) (address : ℕ) (h : HoldsLists s l) (g : Gu
       ∙ ap (λ o. option_map_or (λ (t : Task). t.coroutines) o no_coroutines) (find-numbered l.running g.front g.task g.back g.number distinct)
 
   pub callers-between : (change : TaskCoroutines → TaskCoroutines) → map (change_of l.running (with_changed change)) l.tasks ≡ g.front ++ with_changed change g.task ∷ g.back
-  callers-between change =
-      ap (map (change_of l.running (with_changed change))) g.is
-      ∙ subst (λ id. map (change_of id (with_changed change)) (g.front ++ g.task ∷ g.back) ≡ g.front ++ with_changed change g.task ∷ g.back) g.number
-      (change-between (with_changed change) g.front g.task g.back distinct)
+  callers-between change = guest-changed l l.running address (with_changed change) h.valid g
 
   pub callers-held : HoldsCoroutines s address g.task.coroutines
   callers-held =

@@ -1,5 +1,5 @@
 -- The answers of the calls of coroutines, with codes in place of their reasons.
-use Rattle.std.proofs.Common.{◌≡◌, ℕ, ◌||◌, List, [], ◌∷◌, cond, eqb, map, Bool, true, false, Some, None, Option, Err, Result, refl, ◌∙◌}
+use Rattle.std.proofs.Common.{◌≡◌, ℕ, ◌||◌, List, [], ◌∷◌, cond, eqb, map, Bool, true, false, Some, None, Err, refl, ◌∙◌}
 use Rattle.std.specs.Prelude.{not}
 use Rattle.linked_list.specs.Places.{has}
 use Rattle.coroutines.specs.CoroutineExchanges.{HoldsCoroutines, TaskCoroutines, current_of}
@@ -29,10 +29,6 @@ first-coded (test ∷ tests) = on test.0 (first-coded tests)
         → coded (cond b (reasons.first_refusal tests) (Err test.1)) ≡ answer_of (cond b (first_refusal (with_codes tests)) (Some (code_of test.1)))
     on true more = more
     on false more = refl
-
-pub answer_of-err : (o : Option ℕ) (code : ℕ) → ◌≡◌ {A = Result (Unit {0}) ℕ} (Err code) (answer_of o) → o ≡ Some code
-answer_of-err None code e = cc
-answer_of-err (Some other) code e = cc
 
 module _ (s : List ℕ) (t : ℕ) (k : TaskCoroutines) (h : HoldsCoroutines s t k) where
   built : Built s t (map address_of k.list) k.active

@@ -26,14 +26,14 @@ use Rattle.call_answers.specs.Made.{IsMade, Made, done, minus_one, plain_answer}
 use Rattle.call_answers.specs.Refusals.{first_refusal}
 use Rattle.call_answers.proofs.FoundTask.{reads}
 use Rattle.call_answers.proofs.MadeCalls.{made-accepted, made-refused}
-use Rattle.call_answers.proofs.Refusals.{answer_of-ok, first_refusal-failed, first_refusal-passed}
+use Rattle.call_answers.proofs.Refusals.{answer_of-err, answer_of-ok, first_refusal-failed, first_refusal-passed}
 use Rattle.block_calls.specs.Freevec.{has_packet_in}
 use Rattle.coroutine_calls.specs.CallCo.{idle_tests}
 use Rattle.coroutine_calls.specs.CallersCoroutines.{coroutines_of_caller}
 use Rattle.coroutine_calls.specs.DeleteCo.{IsRoomy, delete_tests, deleteco, with_deleted_at}
 use Rattle.coroutine_calls.specs.Refusals.{coded}
 use Rattle.coroutine_calls.proofs.CallersTask.{callers-found, callers-held, callers-stand}
-use Rattle.coroutine_calls.proofs.CodedAnswers.{IsIdle, answer_of-err, idle-coded, idle-passed}
+use Rattle.coroutine_calls.proofs.CodedAnswers.{IsIdle, idle-coded, idle-passed}
 use Rattle.coroutine_calls.proofs.GoneCoroutine.{OneOf, deleted-changed, deleted-less, one-of, packet-none, packet-some}
 
 -- a block with room for a coroutine's words, as a store has it

@@ -29,7 +29,7 @@ use Rattle.kernel_model.specs.ValidTasks.{CoroutinesStand, IsCoroutine}
 use Rattle.kernel_model.proofs.ChangedLists.{changed-none}
 use Rattle.call_answers.specs.Guests.{GuestAt}
 use Rattle.call_answers.specs.Refusals.{first_refusal}
-use Rattle.call_answers.proofs.Refusals.{answer_of-ok}
+use Rattle.call_answers.proofs.Refusals.{answer_of-err, answer_of-ok}
 use Rattle.coroutine_calls.specs.CallCo.{callco, idle_tests}
 use Rattle.coroutine_calls.specs.CallersCoroutines.{coroutines_of_caller, is_one_of, is_within, with_callers, with_changed}
 use Rattle.coroutine_calls.specs.CoWait.{IsWithin, cowait, ended, wait_tests, with_ended}
@@ -37,7 +37,7 @@ use Rattle.coroutine_calls.specs.Refusals.{code_of, coded}
 use Rattle.coroutine_calls.specs.ResumeCo.{resume_tests, resumeco, resumed_itself}
 use Rattle.coroutine_calls.specs.Switched.{IsSwitched, Switched, by_refusal, refused, entered, handed, switched, unless_refused}
 use Rattle.coroutine_calls.proofs.CallersTask.{AreRewritten, callers-found, callers-held, callers-rewritten, callers-stand}
-use Rattle.coroutine_calls.proofs.CodedAnswers.{answer_of-err, idle-coded, resume-coded, wait-coded, wait-passed}
+use Rattle.coroutine_calls.proofs.CodedAnswers.{idle-coded, resume-coded, wait-coded, wait-passed}
 use Rattle.coroutine_calls.proofs.SavedFrames.{first-one, regs-read}
 
 -- ---- coroutines with a frame saved stand as before

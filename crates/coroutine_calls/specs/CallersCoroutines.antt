@@ -1,5 +1,5 @@
 -- The coroutines of the task that makes a call.
-use Rattle.std.specs.Prelude.{ℕ, ◌==◌, Bool, not, [], find, map}
+use Rattle.std.specs.Prelude.{ℕ, ◌==◌, Bool, not, find, map}
 use Rattle.std.specs.Option.{option_map_or}
 use Rattle.linked_list.specs.Places.{has}
 use Rattle.coroutines.specs.CoroutineExchanges.{TaskCoroutines, current_of}
@@ -7,10 +7,7 @@ use Rattle.coroutines.specs.HeldCoroutines.{address_of}
 use Rattle.kernel_model.specs.Changes.{with_task}
 use Rattle.kernel_model.specs.Lists.{Lists}
 use Rattle.kernel_model.specs.Task.{Task}
-
--- those of no task
-abbrev pub no_coroutines : TaskCoroutines
-no_coroutines = record { list = []; active = []; root_p = 0; root_pc = 0 }
+use Rattle.call_answers.specs.Tasks.{no_coroutines}
 
 -- those of the running task
 abbrev pub coroutines_of_caller : Lists → TaskCoroutines

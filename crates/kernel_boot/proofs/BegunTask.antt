@@ -27,7 +27,7 @@ use Rattle.call_answers.specs.Guests.{GuestAt}
 use Rattle.call_answers.proofs.Refusals.{guest-at}
 use Rattle.call_answers.proofs.RunningTask.{there-at}
 use Rattle.kernel_model.specs.ValidQueues.{HasGuest}
-use Rattle.call_answers.proofs.GuestTask.{GuestFacts, guest-facts, guest-words}
+use Rattle.call_answers.proofs.GuestTask.{GuestFacts, guest-changed, guest-facts, guest-words}
 use Rattle.kernel_boot.specs.BegunTask.{begin_regs, begun, with_begun}
 
 -- the two bits of a state stay
@@ -88,10 +88,7 @@ module _ (s : List ℕ) (l : Lists) (id address : ℕ) (h : HoldsLists s l) (g :
       (exchange-task l.version g.task 8 regs g.task.queue n old new [] [] (exchange-suspended l.version g.task 8 regs) (exchange-none (queue_words (queue_head g.task.address) g.task.queue)))))
 
   split : map (change_of id (begun l.version s)) l.tasks ≡ g.front ++ begun l.version s g.task ∷ g.back
-  split =
-      ap (map (change_of id (begun l.version s))) g.is
-      ∙ subst (λ i. map (change_of i (begun l.version s)) (g.front ++ g.task ∷ g.back) ≡ g.front ++ begun l.version s g.task ∷ g.back) g.number
-      (change-between (begun l.version s) g.front g.task g.back (subst (λ ts. IsApart (map task_id ts)) g.is h.valid.tasks.distinct))
+  split = guest-changed l id address (begun l.version s) h.valid g
 
   words : Holds s (state_words l.version g.task)
   words = guest-words s l id address h g

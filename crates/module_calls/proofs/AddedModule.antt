@@ -1,7 +1,6 @@
 -- A store of the kernel's after a guest got one more module.
 use Rattle.std.proofs.Common.{◌≡◌, ℕ, suc, ◌+◌, ◌-◌, ◌<◌, List, [], ◌∷◌, ◌++◌, length, map, set, cond, eqb, true, false, inl, inr, refl, sym, ap, ◌∙◌, subst, arith, length-append}
 use Rattle.std.proofs.lemmas.Bool.{cases_lt, ne_eqb}
-use Rattle.linked_list.specs.Count.{IsApart}
 use Rattle.linked_list.specs.Places.{has}
 use Rattle.linked_list.proofs.AllMembers.{all-append}
 use Rattle.owned_words.specs.LinkedWords.{first_of}
@@ -11,21 +10,21 @@ use Rattle.hunk_loader.specs.Globals.{globals_in, with_globals}
 use Rattle.hunk_loader.specs.HeldModules.{module_address}
 use Rattle.task_block.specs.Versions.{module_index}
 use Rattle.kernel_model.specs.ChangedStore.{IsChanged}
-use Rattle.kernel_model.specs.Changes.{AreUnowned, SameTask, change_of, with_task, with_tasks}
+use Rattle.kernel_model.specs.Changes.{AreUnowned, SameTask, with_task, with_tasks}
 use Rattle.kernel_model.specs.HoldsLists.{HoldsLists}
 use Rattle.kernel_model.specs.Lists.{Lists}
 use Rattle.kernel_model.specs.Owned.{owned}
-use Rattle.kernel_model.specs.Task.{Task, is_guest_id, task_address, task_id}
+use Rattle.kernel_model.specs.Task.{Task, is_guest_id, task_address}
 use Rattle.kernel_model.specs.ValidLists.{AreValid}
 use Rattle.kernel_model.specs.ValidTasks.{CoroutinesStand, IsGuest, IsTask}
 use Rattle.kernel_model.specs.Versions.{head_words_of, most_modules_of}
-use Rattle.kernel_model.proofs.ChainSplits.{change-between}
 use Rattle.kernel_model.proofs.ChangedLists.{exchange-owned, one_task-owned}
 use Rattle.kernel_model.proofs.OneTask.{owned-one_task, same_task-valid}
 use Rattle.kernel_model.proofs.TaskCounts.{owners-same_task}
 use Rattle.call_answers.specs.Guests.{GuestAt}
+use Rattle.call_answers.specs.Modules.{has_module}
+use Rattle.call_answers.proofs.GuestTask.{guest-changed}
 use Rattle.module_calls.specs.AddModule.{global_words, with_further}
-use Rattle.module_calls.specs.UnloadModule.{has_module}
 use Rattle.module_calls.proofs.AddedWords.{further-exchange, globals-within, globals-written, module-globals}
 use Rattle.module_calls.proofs.AdditionTests.{facts, is-guest}
 
@@ -124,11 +123,7 @@ module _ (s : List ℕ) (l : Lists) (id address m count : ℕ) (h : HoldsLists s
           refl)
 
   after-is : with_task id (with_further m) l ≡ after
-  after-is =
-      ap (λ ts. with_tasks (map (change_of id (with_further m)) ts) l) g.is
-      ∙ ap (λ ts. with_tasks ts l)
-      (subst (λ i. map (change_of i (with_further m)) (g.front ++ g.task ∷ g.back) ≡ g.front ++ with_further m g.task ∷ g.back) g.number
-      (change-between (with_further m) g.front g.task g.back (subst (λ ts. IsApart (map task_id ts)) g.is h.valid.tasks.distinct)))
+  after-is = ap (λ ts. with_tasks ts l) (guest-changed l id address (with_further m) h.valid g)
 
   pub added-changed : IsChanged s (set s (address + module_index (count + 1)) m) (with_task id (with_further m) l) []
   added-changed = subst (λ k. IsChanged s (set s (address + module_index (count + 1)) m) k []) (sym after-is) module-changed

@@ -6,7 +6,6 @@ use Rattle.std.proofs.lemmas.Bool.{cases_eq, cases_lt, eq-eqb, le-leb, le-ltb, l
 use Rattle.linked_list.specs.Count.{IsApart}
 use Rattle.linked_list.specs.Places.{has}
 use Rattle.owned_words.specs.LinkedWords.{first_of}
-use Rattle.owned_words.specs.Owned.{Holds}
 use Rattle.hunk_loader.specs.Globals.{GlobalsFit, highest, most_globals}
 use Rattle.hunk_loader.specs.HeldModules.{module_address}
 use Rattle.hunk_loader.specs.ModuleHunks.{PlacedHunk, hunks_in}
@@ -16,20 +15,19 @@ use Rattle.kernel_model.specs.HoldsLists.{HoldsLists}
 use Rattle.kernel_model.specs.KernelRanges.{task_size_in}
 use Rattle.kernel_model.specs.Lists.{Lists}
 use Rattle.kernel_model.specs.Recovered.{lists_in, modules_of, task_in}
-use Rattle.kernel_model.specs.Task.{is_guest_id, state_words, task_address, task_id, task_words}
+use Rattle.kernel_model.specs.Task.{is_guest_id, task_id}
 use Rattle.kernel_model.specs.ValidTasks.{IsGuest}
 use Rattle.kernel_model.specs.Versions.{most_modules_of}
 use Rattle.kernel_model.proofs.AllThings.{all-here}
-use Rattle.kernel_model.proofs.EachMember.{holds-each}
-use Rattle.kernel_model.proofs.ReadCoroutines.{holds-task}
 use Rattle.kernel_model.proofs.RecoveredLists.{lists-back}
 use Rattle.call_answers.specs.Guests.{GuestAt}
 use Rattle.call_answers.specs.Refusals.{first_refusal}
-use Rattle.call_answers.proofs.FoundTask.{any-one, reads}
-use Rattle.call_answers.proofs.GuestTask.{GuestFacts, guest-facts}
-use Rattle.module_calls.specs.AddModule.{check_tests, globals_fit, has_module_room, is_dead}
+use Rattle.call_answers.proofs.FoundTask.{any-one}
+use Rattle.call_answers.proofs.GuestTask.{GuestFacts, guest-facts, guest-words}
+use Rattle.call_answers.specs.Tasks.{is_dead}
+use Rattle.call_answers.specs.Modules.{has_module}
+use Rattle.module_calls.specs.AddModule.{check_tests, globals_fit, has_module_room}
 use Rattle.module_calls.specs.ModuleFields.{IsTaskIn, further_count}
-use Rattle.module_calls.specs.UnloadModule.{has_module}
 use Rattle.module_calls.proofs.ModuleUses.{each-inside, each-told, module-some}
 
 -- ---- the module's globals
@@ -99,13 +97,6 @@ module _ (s : List ℕ) (l : Lists) (id address : ℕ) (h : HoldsLists s l) (g :
   first-some [] all some e = absurd (omega (arith, some))
   first-some (x ∷ xs) all some e = absurd (omega (arith, e, module-some l x h.valid all.0))
 
-  -- the words from the state to the saved registers
-  pub state-held : Holds s (state_words l.version g.task)
-  state-held =
-      all-here (λ u. Holds s (state_words l.version u)) g.front g.task g.back
-      (subst (AllByRecursion (λ u. Holds s (state_words l.version u))) g.is
-      (holds-each task_address (task_words l.version) s (λ u. Holds s (state_words l.version u)) (λ u n own. (holds-task s l.version u n own).state) l.tasks 0 (reads s l h).held_tasks.holds.1))
-
   abbrev some : ℕ → Bool
   some w = not (eqb w 0)
 
@@ -115,7 +106,7 @@ module _ (s : List ℕ) (l : Lists) (id address : ℕ) (h : HoldsLists s l) (g :
   pub count-told : 1 + further_count s address ≡ length g.task.modules
   count-told =
       let modules : modules_of s address ≡ g.task.modules = ap (λ z. z.modules) told in
-      let field : get_or s (address + 10) 0 ≢ 0 = λ e. first-some g.task.modules is-guest.modules is-guest.some_module (sym state-held.1.1.1.1.1.1.0 ∙ ap (λ a. get_or s (a + 10) 0) g.at ∙ e) in
+      let field : get_or s (address + 10) 0 ≢ 0 = λ e. first-some g.task.modules is-guest.modules is-guest.some_module (sym (guest-words s l id address h g).1.1.1.1.1.1.0 ∙ ap (λ a. get_or s (a + 10) 0) g.at ∙ e) in
       let guest : is_guest_id (id_in s address) ≡ true = ap is_guest_id id-told ∙ facts.guest in
       let behind : length (modules_of s address) ≡ length (filter some (get_or s (address + 10) 0 ∷ rest)) = ap (λ b. length (filter some (get_or s (address + 10) 0 ∷ cond b rest []))) guest in
       let front : length (filter some (get_or s (address + 10) 0 ∷ rest)) ≡ suc (length (filter some rest)) =

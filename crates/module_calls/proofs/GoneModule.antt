@@ -40,13 +40,14 @@ use Rattle.call_answers.specs.Refusals.{first_refusal}
 use Rattle.call_answers.proofs.FoundTask.{reads}
 use Rattle.call_answers.proofs.MadeCalls.{made-accepted, made-refused}
 use Rattle.call_answers.proofs.Refusals.{first_refusal-failed, first_refusal-passed}
+use Rattle.call_answers.specs.Modules.{has_module}
 use Rattle.word_kinds.specs.Keeper.{AreTogether}
 use Rattle.word_kinds.proofs.KnownWords.{knows-released}
 use Rattle.block_calls.specs.Freevec.{has_packet_in, holds_packet, lies_in, with_given}
 use Rattle.block_calls.proofs.IdleBlocks.{idle-unowned, none-idle, unowned-empty}
-use Rattle.block_calls.proofs.OwnedMarks.{size-low}
+use Rattle.word_kinds.proofs.OwnedMarks.{size-low}
 use Rattle.block_calls.proofs.TakenStore.{given-changed, given-owners}
-use Rattle.module_calls.specs.UnloadModule.{has_module, is_in_use, unload_module, unload_tests, use_tests, without_module}
+use Rattle.module_calls.specs.UnloadModule.{is_in_use, unload_module, unload_tests, use_tests, without_module}
 use Rattle.module_calls.proofs.ModuleParts.{modules-exchange, owners-module}
 use Rattle.module_calls.proofs.ModuleUses.{tests-use}
 

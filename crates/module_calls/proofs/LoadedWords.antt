@@ -14,7 +14,7 @@ use Rattle.hunk_loader.specs.ModuleExchanges.{first_of_modules, hunk_words, load
 use Rattle.hunk_loader.specs.ModuleRow.{hunks_image, last_word, lengths_of, module_row}
 use Rattle.hunk_loader.proofs.LoadedModules.{length-lengths, length-row}
 use Rattle.kernel_model.specs.ValidBlocks.{last_module_word}
-use Rattle.module_calls.proofs.ModuleParts.{row-append}
+use Rattle.call_answers.proofs.JoinedRows.{row_from-append}
 
 -- its last word, counted from its lengths
 pub last-word : (m : ℕ) (hunks : List Hunk) → last_module_word (loaded_module m hunks) ≡ last_word hunks
@@ -25,7 +25,7 @@ row-split : (m link : ℕ) (hunks : List Hunk) → row_from m 0 (module_row link
 row-split m link hunks =
     let image : List ℕ = hunks_image (m + 2 + length hunks) hunks in
     ap (λ z. (z, link) ∷ (m + 1, length hunks) ∷ row_from m 2 (lengths_of hunks ++ image)) (add-zero m)
-    ∙ ap (λ z. (m, link) ∷ (m + 1, length hunks) ∷ z) (row-append m 2 (lengths_of hunks) image)
+    ∙ ap (λ z. (m, link) ∷ (m + 1, length hunks) ∷ z) (row_from-append m 2 (lengths_of hunks) image)
     ∙ ap (λ n. (m, link) ∷ (m + 1, length hunks) ∷ (row_from m 2 (lengths_of hunks) ++ row_from m (2 + n) image)) (length-lengths hunks)
     ∙ ap (λ n. (m, link) ∷ (m + 1, n) ∷ (row_from m 2 (lengths_of hunks) ++ row_from m (2 + length hunks) image)) (sym (length-lengths hunks))
 

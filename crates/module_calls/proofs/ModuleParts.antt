@@ -1,9 +1,9 @@
 -- The words of modules among all owned words.
-use Rattle.std.proofs.Common.{◌≡◌, ℕ, suc, ◌+◌, List, [], ◌∷◌, ◌++◌, length, ap, ◌∙◌, arith}
+use Rattle.std.proofs.Common.{◌≡◌, ℕ, suc, ◌+◌, List, ◌∷◌, length, ap}
 use Rattle.std.specs.List.{range_with_len}
 use Rattle.linked_list.specs.Count.{hit, times}
 use Rattle.owned_words.specs.Exchange.{Exchange}
-use Rattle.owned_words.specs.Owned.{Pairs, owners, row_from}
+use Rattle.owned_words.specs.Owned.{Pairs, owners}
 use Rattle.owned_words.proofs.Exchanges.{exchange-left, exchange-right}
 use Rattle.owned_words.proofs.RowWords.{owners-row}
 use Rattle.getvec_chain.specs.BlockWords.{blocks_words}
@@ -24,10 +24,3 @@ modules-exchange l ms old new x =
 -- a module owns its words before those of its hunks
 pub owners-module : (a : ℕ) (m : LoadedModule) (n : ℕ) → owners a (module_words m n) ≡ times a (range_with_len m.address (suc (suc (length m.lengths))))
 owners-module a m n = ap (λ z. hit a m.address + z) (owners-row a m.address 1 (length m.lengths ∷ m.lengths))
-
--- a row of joined words
-pub row-append : (a i : ℕ) (xs ys : List ℕ) → row_from a i (xs ++ ys) ≡ row_from a i xs ++ row_from a (i + length xs) ys
-row-append a i [] ys = ap (λ j. row_from a j ys) (let e : i ≡ i + 0 = omega arith in e)
-row-append a i (x ∷ xs) ys =
-    let next : suc i + length xs ≡ i + suc (length xs) = omega arith in
-    ap (λ z. (a + i, x) ∷ z) (row-append a (suc i) xs ys) ∙ ap (λ j. (a + i, x) ∷ (row_from a (suc i) xs ++ row_from a j ys)) next

@@ -1,12 +1,10 @@
 -- Whether a module is there, and whether a task has it, as a store tells it.
-use Rattle.std.proofs.Common.{◌≡◌, ℕ, ◌+◌, ◌<◌, List, [], ◌∷◌, length, map, drop, cond, eqb, not, ◌||◌, Bool, true, false, Some, None, Option, Result, Err, refl, sym, ap, ◌∙◌, subst, arith}
+use Rattle.std.proofs.Common.{◌≡◌, ℕ, ◌+◌, ◌<◌, List, [], ◌∷◌, length, map, drop, cond, eqb, not, ◌||◌, Bool, true, false, Some, None, Option, refl, sym, ap, ◌∙◌, subst, arith}
 use Rattle.std.specs.List.{AllByRecursion, filter, list_any}
 use Rattle.std.proofs.lemmas.Bool.{eqb-true, ne_eqb}
 use Rattle.linked_list.specs.Places.{has}
 use Rattle.linked_list.proofs.AllMembers.{all-has}
 use Rattle.hunk_loader.specs.HeldModules.{module_address}
-use Rattle.hunk_loader.proofs.HeldModuleLists.{held-modules}
-use Rattle.task_block.specs.Lists.{modules_in}
 use Rattle.task_block.specs.TaskChain.{tasks_in}
 use Rattle.kernel_model.specs.HoldsLists.{HoldsLists}
 use Rattle.kernel_model.specs.Lists.{Lists}
@@ -20,15 +18,13 @@ use Rattle.kernel_model.proofs.ListRanges.{TaskReads}
 use Rattle.kernel_model.proofs.RecoveredLists.{lists-back}
 use Rattle.kernel_model.proofs.TaskPlaces.{TaskPlace, task-places}
 use Rattle.kernel_model.proofs.WalkedLists.{tasks-read}
-use Rattle.call_answers.specs.Refusals.{answer_of, first_refusal}
+use Rattle.call_answers.specs.Refusals.{first_refusal}
 use Rattle.call_answers.proofs.FoundTask.{reads}
+use Rattle.call_answers.specs.Modules.{has_module}
 use Rattle.module_calls.specs.ModuleFields.{IsTaskIn, module_fields}
-use Rattle.module_calls.specs.UnloadModule.{has_module, is_in_use, use_tests}
+use Rattle.module_calls.specs.UnloadModule.{is_in_use, use_tests}
 
 -- ---- modules
-
-pub module-told : (s : List ℕ) (l : Lists) (m : ℕ) → HoldsLists s l → has m (modules_in s) ≡ has_module l m
-module-told s l m h = ap (has m) (held-modules s l.modules (reads s l h).modules).list
 
 -- no module is at 0
 pub module-some : (l : Lists) (m : ℕ) → AreValid l → has_module l m ≡ true → 0 < m
@@ -103,8 +99,3 @@ tests-passed l m e = on (has_module l m) refl (is_in_use l m) refl e
     on true p false q e = record { there = p; unused = q }
     on true p true q e = cc
     on false p c q e = cc
-
--- the code of a part without an answer of its own
-pub answer_of-err : (o : Option ℕ) (code : ℕ) → ◌≡◌ {A = Result (Unit {0}) ℕ} (Err code) (answer_of o) → o ≡ Some code
-answer_of-err None code e = cc
-answer_of-err (Some c) code e = cc

@@ -1,8 +1,7 @@
 -- Where the globals of a guest lie: behind its task block, in a block of its own.
-use Rattle.std.proofs.Common.{◌≡◌, ◌≢◌, ℕ, ◌+◌, ◌<◌, ◌≤◌, ◌⊎◌, List, [], ◌∷◌, ◌++◌, map, get_or, cond, eqb, true, Some, inl, inr, refl, sym, ap, ◌∙◌, subst, arith}
+use Rattle.std.proofs.Common.{◌≡◌, ◌≢◌, ℕ, ◌+◌, ◌<◌, ◌≤◌, ◌⊎◌, List, ◌∷◌, ◌++◌, map, get_or, cond, eqb, true, Some, inl, inr, refl, sym, ap, ◌∙◌, subst, arith}
 use Rattle.std.specs.Prelude.{find}
-use Rattle.std.proofs.lemmas.Bool.{eq-eqb, ne_eqb}
-use Rattle.linked_list.specs.Count.{IsApart, times}
+use Rattle.linked_list.specs.Count.{IsApart}
 use Rattle.linked_list.proofs.AllMembers.{all-has}
 use Rattle.linked_list.proofs.Counts.{hit-same}
 use Rattle.owned_words.specs.LinkedWords.{linked_words}
@@ -20,39 +19,32 @@ use Rattle.hunk_loader.proofs.ModuleBlocks.{InBlock, in_block}
 use Rattle.task_block.specs.Lists.{modules_in}
 use Rattle.kernel_model.specs.HoldsLists.{HoldsLists}
 use Rattle.kernel_model.specs.Lists.{Lists}
-use Rattle.kernel_model.specs.Task.{Task, globals_of, task_address, task_id, task_words}
+use Rattle.kernel_model.specs.Task.{globals_of, task_address, task_id, task_words}
 use Rattle.kernel_model.specs.ValidBlocks.{HasBlock}
 use Rattle.kernel_model.specs.Versions.{head_words_of}
 use Rattle.kernel_model.proofs.OwnerCounts.{owners-linked_here}
 use Rattle.kernel_model.proofs.RootCounts.{owners-nodes}
 use Rattle.call_answers.specs.Guests.{GuestAt}
-use Rattle.call_answers.proofs.FoundTask.{reads}
+use Rattle.call_answers.proofs.FoundTask.{find-numbered, reads}
+use Rattle.call_answers.specs.Modules.{has_module}
+use Rattle.call_answers.proofs.ListedModules.{module-told}
+use Rattle.call_answers.proofs.GuestTask.{guest-words}
 use Rattle.module_calls.specs.AddModule.{globals_at, globals_of_task, task_of}
-use Rattle.module_calls.specs.UnloadModule.{has_module}
-use Rattle.module_calls.proofs.AdditionTests.{facts, is-guest, state-held}
+use Rattle.module_calls.proofs.AdditionTests.{facts, is-guest}
 use Rattle.module_calls.proofs.GoneModule.{ModuleAt, module-at}
-use Rattle.module_calls.proofs.ModuleUses.{module-told}
 
 module _ (s : List ℕ) (l : Lists) (id address : ℕ) (h : HoldsLists s l) (g : GuestAt l id address) where
   -- the task with the number
   pub task-is : task_of id l ≡ Some g.task
-  task-is = ap (find (λ t. eqb t.id id)) g.is ∙ among g.front (subst (λ ts. IsApart (map task_id ts)) g.is h.valid.tasks.distinct)
-    where
-      among : (front : List Task) → IsApart (map task_id (front ++ g.task ∷ g.back)) → find (λ t. eqb t.id id) (front ++ g.task ∷ g.back) ≡ Some g.task
-      among [] apart = ap (λ b. cond b (Some g.task) (find (λ t. eqb t.id id) g.back)) (eq-eqb g.task.id id g.number)
-      among (z ∷ zs) apart =
-          ap (λ b. cond b (Some z) (find (λ t. eqb t.id id) (zs ++ g.task ∷ g.back))) (ne_eqb z.id id (λ e. absurd (omega (arith, apart id, hit-same id z.id (sym e), here zs))))
-          ∙ among zs (λ a. omega (arith, apart a))
-        where
-          here : (ws : List Task) → 1 ≤ times id (map task_id (ws ++ g.task ∷ g.back))
-          here [] = omega (arith, hit-same id g.task.id (sym g.number))
-          here (w ∷ ws) = omega (arith, here ws)
+  task-is =
+      ap (find (λ t. eqb t.id id)) g.is
+      ∙ find-numbered id g.front g.task g.back g.number (subst (λ ts. IsApart (map task_id ts)) g.is h.valid.tasks.distinct)
 
   pub globals-are : globals_of_task id l ≡ globals_of l.version g.task
   globals-are = ap (λ o. globals_at l.version o) task-is
 
   pub globals-told : get_or s (address + 8) 0 ≡ globals_of l.version g.task
-  globals-told = ap (λ a. get_or s (a + 8) 0) (sym g.at) ∙ (state-held s l id address h g).1.1.1.1.0
+  globals-told = ap (λ a. get_or s (a + 8) 0) (sym g.at) ∙ (guest-words s l id address h g).1.1.1.1.0
 
   pub globals-behind : globals_of l.version g.task ≡ g.task.address + head_words_of l.version
   globals-behind = ap (λ b. cond b (g.task.address + head_words_of l.version) 0) (facts s l id address h g).guest

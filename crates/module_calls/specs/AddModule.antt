@@ -8,16 +8,12 @@ use Rattle.hunk_loader.specs.ModuleHunks.{hunks_in}
 use Rattle.kernel_model.specs.Changes.{with_task}
 use Rattle.kernel_model.specs.Lists.{Lists, queued}
 use Rattle.kernel_model.specs.Task.{Task, globals_of}
-use Rattle.kernel_model.specs.ValidTasks.{dead}
 use Rattle.kernel_model.specs.Versions.{most_modules_of}
 use Rattle.call_answers.specs.Guests.{guest_tests}
 use Rattle.call_answers.specs.Refusals.{first_refusal}
 use Rattle.call_answers.specs.Made.{Made, unless_refused}
-use Rattle.module_calls.specs.UnloadModule.{has_module}
-
--- the task with the number is dead
-abbrev pub is_dead : Lists → ℕ → Bool
-is_dead l id = list_any (λ t. (t.id == id) && (t.field == dead)) l.tasks
+use Rattle.call_answers.specs.Tasks.{is_dead}
+use Rattle.call_answers.specs.Modules.{has_module}
 
 -- the task has fewer modules than it may have
 abbrev pub has_module_room : Lists → ℕ → Bool

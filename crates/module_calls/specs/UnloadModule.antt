@@ -1,16 +1,12 @@
 -- The call that takes a module out.
-use Rattle.std.specs.Prelude.{ℕ, ◌==◌, Bool, not, List, [], ◌∷◌, ◌++◌, map}
+use Rattle.std.specs.Prelude.{ℕ, ◌==◌, Bool, not, List, [], ◌∷◌, ◌++◌}
 use Rattle.std.specs.List.{list_any}
 use Rattle.linked_list.specs.Places.{has, without_first}
-use Rattle.hunk_loader.specs.HeldModules.{module_address}
 use Rattle.kernel_model.specs.Changes.{with_modules}
 use Rattle.kernel_model.specs.Lists.{Lists}
 use Rattle.call_answers.specs.Made.{Made, done, unless_refused}
+use Rattle.call_answers.specs.Modules.{has_module}
 use Rattle.block_calls.specs.Freevec.{has_packet_in, with_given}
-
--- a module stands there
-abbrev pub has_module : Lists → ℕ → Bool
-has_module l m = has m (map module_address l.modules)
 
 -- a task has it among its modules
 abbrev pub is_in_use : Lists → ℕ → Bool

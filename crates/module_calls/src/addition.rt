@@ -12,20 +12,14 @@ ghost use Rattle.call_answers.specs.Made.{IsMade};
 ghost use Rattle.module_calls.specs.AddModule.{IsCounted, add_module};
 ghost use Rattle.module_calls.specs.ModuleFields.{further_count};
 
-use crate::modules_of::is_module;
 use block_calls::are_unowned;
 use call_answers::codes::{GLOBALS_TOO_HIGH, MODULES_FULL, NO_MODULE, NOT_DEAD, PACKET_INSIDE};
-use call_answers::guest;
+use call_answers::numbers::{DEAD, GLOBAL_WORDS};
+use call_answers::{guest, is_module};
 use hunk_loader::{globals_fit, init_globals};
 use task_block::{TcbField, field, module_at, most_modules, set_module_at};
 use word_kinds::KindKeeper;
 use word_store::Store;
-
-/// The words of a task's globals.
-const GLOBAL_WORDS: u32 = 1001;
-
-/// The state of a dead task, without the bits that say that packets wait and that it is held.
-const DEAD: u32 = 12;
 
 /// Gives the dead task with the number the module at m as its last one, and sets the module's globals in those of the task.
 /// The answer is the number of its modules. Refused where there is no such task (2), where it is a resident (14), where it
@@ -72,6 +66,7 @@ fn check_addition(store: &Store, task: u32, m: u32) -> Result<u32, u32>
     Ok(count)
 }
 
+// Whether the task is dead: its state without the bits that say that packets wait and that it is held.
 fn is_dead(store: &Store, task: u32) -> bool
     ensures { result ≡ (field_in store.now task State - field_in store.now task State % 4 == dead) }
 {

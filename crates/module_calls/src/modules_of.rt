@@ -1,32 +1,16 @@
-// Which modules there are, and which of them tasks have.
+// Which modules tasks have.
 ghost use Rattle.std.specs.Prelude.{◌≡◌, ◌≤◌, ◌+◌, length, slice_range};
 ghost use Rattle.std.specs.List.{AllByRecursion, list_any};
 ghost use Rattle.linked_list.specs.Places.{has};
 ghost use Rattle.linked_list.specs.Walk.{CanWalk};
-ghost use Rattle.task_block.specs.Lists.{module_link, modules_in};
-ghost use Rattle.task_block.specs.RootWords.{first_module, first_task};
+ghost use Rattle.task_block.specs.RootWords.{first_task};
 ghost use Rattle.task_block.specs.TaskChain.{task_link, tasks_in};
 ghost use Rattle.task_block.specs.Versions.{head_words};
 ghost use Rattle.module_calls.specs.ModuleFields.{IsTaskIn, module_fields};
 
-use task_block::{TcbField, field, module_at, modules, most_modules, tasks};
+use call_answers::numbers::FIRST_GUEST;
+use task_block::{TcbField, field, module_at, most_modules, tasks};
 use word_store::Store;
-
-/// The lowest number of a guest; residents have no words for further modules.
-const FIRST_GUEST: u32 = 5;
-
-/// Whether a module stands at address m.
-pub(crate) fn is_module(store: &Store, m: u32) -> bool
-    requires { CanWalk store.now module_link first_module }
-    ensures { result ≡ has m (modules_in store.now) }
-{
-    for n in modules(store) {
-        if n == m {
-            return true;
-        }
-    }
-    false
-}
 
 /// Whether a task has the module at m.
 pub(crate) fn is_in_use(store: &Store, m: u32) -> bool

@@ -7,9 +7,10 @@ ghost use Rattle.call_answers.specs.Made.{IsMade, plain_answer};
 ghost use Rattle.call_answers.specs.Refusals.{answer_of, first_refusal};
 ghost use Rattle.module_calls.specs.UnloadModule.{unload_module, use_tests};
 
-use crate::modules_of::{is_in_use, is_module};
+use crate::modules_of::is_in_use;
 use block_calls::are_unowned;
 use call_answers::codes::{MODULE_IN_USE, NO_MODULE, PACKET_INSIDE};
+use call_answers::is_module;
 use hunk_loader::unload;
 use word_kinds::KindKeeper;
 use word_store::{Store, word, word_at};

@@ -3,7 +3,6 @@ use Rattle.std.proofs.Common.{◌≡◌, ℕ, ◌+◌, ◌≤◌, Bool, true, fa
 use Rattle.std.specs.List.{AllByRecursion}
 use Rattle.linked_list.specs.Count.{IsApart}
 use Rattle.packet_queue.specs.QueueWords.{QueuedPacket, first_packet}
-use Rattle.task_block.specs.HeldTasks.{address_with}
 use Rattle.kernel_model.specs.Changes.{queue_of}
 use Rattle.kernel_model.specs.HoldsLists.{HoldsLists}
 use Rattle.kernel_model.specs.Lists.{Lists, address_of_task, has_task}
@@ -11,30 +10,27 @@ use Rattle.kernel_model.specs.Task.{Task, queue_bit, state_word, task_address, t
 use Rattle.kernel_model.specs.ValidQueues.Place.{Work}
 use Rattle.kernel_model.specs.ValidTasks.{runs}
 use Rattle.kernel_model.proofs.AllThings.{all-here}
-use Rattle.kernel_model.proofs.ChainSplits.{address-between, has_task-between, work_of-between}
+use Rattle.kernel_model.proofs.ChainSplits.{work_of-between}
 use Rattle.kernel_model.proofs.EachMember.{holds-each}
 use Rattle.kernel_model.proofs.ReadCoroutines.{holds-task}
 use Rattle.call_answers.specs.Callers.{HasCaller}
 use Rattle.call_answers.specs.Guests.{GuestAt}
-use Rattle.call_answers.proofs.FoundTask.{reads}
+use Rattle.call_answers.proofs.FoundTask.{found-address, found-there, reads}
 use Rattle.call_answers.proofs.GuestTask.{guest-facts}
-use Rattle.packet_calls.specs.Destinations.{queue_for}
-use Rattle.packet_calls.specs.declared.queues.Queue.TheVariants.{OfTask}
-use Rattle.packet_calls.proofs.HeldPlaces.{held-at}
+use Rattle.call_answers.proofs.Refusals.{task-at}
+use Rattle.packet_moves.specs.Destinations.{queue_for}
+use Rattle.packet_moves.specs.declared.queues.Queue.TheVariants.{OfTask}
+use Rattle.packet_moves.proofs.HeldPlaces.{held-at}
 
 module _ (s : List ℕ) (l : Lists) (id t : ℕ) (h : HoldsLists s l) (g : GuestAt l id t) where
   distinct : IsApart (map task_id (g.front ++ g.task ∷ g.back))
   distinct = subst (λ ts. IsApart (map task_id ts)) g.is h.valid.tasks.distinct
 
   pub caller-there : has_task id l.tasks ≡ true
-  caller-there = ap (has_task id) g.is ∙ ap (λ i. has_task i (g.front ++ g.task ∷ g.back)) (sym g.number) ∙ has_task-between g.front g.task g.back
+  caller-there = found-there l id t (task-at l id t g)
 
   pub caller-address : address_of_task l id ≡ t
-  caller-address =
-      ap (λ ts. address_with task_address task_id ts id) g.is
-      ∙ ap (address_with task_address task_id (g.front ++ g.task ∷ g.back)) (sym g.number)
-      ∙ address-between g.front g.task g.back distinct
-      ∙ g.at
+  caller-address = found-address l id t h.valid.tasks.distinct (task-at l id t g)
 
   pub caller-queue : queue_for l (Work id) ≡ OfTask t
   caller-queue = ap OfTask caller-address

@@ -26,14 +26,14 @@ use Rattle.word_kinds.proofs.KnownWords.{knows-released}
 use Rattle.call_answers.specs.Made.{IsMade, by_refusal}
 use Rattle.call_answers.specs.Refusals.{first_refusal}
 use Rattle.call_answers.proofs.MadeCalls.{made-accepted, made-refused}
-use Rattle.packet_calls.specs.Destinations.{is_destination, queue_for}
+use Rattle.packet_moves.specs.Destinations.{is_destination, queue_for}
 use Rattle.packet_calls.specs.Dqpkt.{Search, dequeued, dqpkt, dqpkt_tests, found_in, is_residents_packet, searches}
-use Rattle.packet_calls.specs.PacketMoves.{departed, stands_in}
-use Rattle.packet_calls.specs.QueueWords.{head_of, unqueued}
+use Rattle.packet_moves.specs.PacketMoves.{departed, stands_in}
+use Rattle.packet_moves.specs.QueueWords.{head_of, unqueued}
 use Rattle.packet_calls.specs.declared.dequeue.Found.{Found}
-use Rattle.packet_calls.proofs.Departure.{departed-changed, owners-departed, packet-inside}
-use Rattle.packet_calls.proofs.HeldPlaces.{StandsBetween, has-at, stands-at, stands-between}
-use Rattle.packet_calls.proofs.KeptWords.{changed-plain}
+use Rattle.packet_moves.proofs.Departure.{departed-changed, owners-departed, packet-inside}
+use Rattle.packet_moves.proofs.HeldPlaces.{StandsBetween, has-at, stands-at, stands-between}
+use Rattle.packet_moves.proofs.KeptWords.{changed-plain}
 use Rattle.packet_calls.proofs.PacketTests.{found-passes, neither}
 use Rattle.packet_calls.proofs.Searches.{IsFound}
 

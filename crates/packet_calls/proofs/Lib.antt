@@ -1,16 +1,8 @@
-pub mod KeptWords
-pub mod PlaceWords
-pub mod Arrival
-pub mod ArrivalWords
-pub mod Departure
 pub mod DueOrder
-pub mod HeldPlaces
 pub mod CallerTask
 pub mod WaitCall
-pub mod PlacedPackets
 pub mod SentPackets
 pub mod PacketTests
-pub mod NamedQueues
 pub mod SendCall
 pub mod Searches
 pub mod DequeueCall

@@ -34,17 +34,18 @@ use Rattle.word_kinds.specs.Keeper.{AreTogether}
 use Rattle.word_kinds.proofs.KnownWords.{knows-claimed}
 use Rattle.call_answers.specs.Made.{IsMade, minus_one}
 use Rattle.call_answers.proofs.FoundTask.{reads}
-use Rattle.packet_calls.specs.Destinations.{destination_of, queue_for}
-use Rattle.packet_calls.specs.PacketMoves.{packet_at, sent_packet, with_arrived}
-use Rattle.packet_calls.specs.QueueWords.{due_in, head_of, sent_words}
+use Rattle.call_answers.proofs.RootTold.{tick-told}
+use Rattle.packet_moves.specs.Destinations.{destination_of, queue_for}
+use Rattle.packet_moves.specs.PacketMoves.{packet_at, sent_packet, with_arrived}
+use Rattle.packet_moves.specs.QueueWords.{due_in, head_of, sent_words}
 use Rattle.packet_calls.specs.SendOwn.{CanSendKeys, CanSendOwn, CanSendToTask, send_own, with_sent}
-use Rattle.packet_calls.specs.declared.queues.Queue.{Queue}
-use Rattle.packet_calls.specs.declared.queues.Queue.TheVariants.{OfKeyboard}
-use Rattle.packet_calls.proofs.NamedQueues.{no-device}
-use Rattle.packet_calls.proofs.PlacedPackets.{end-changed, end-owners, end-packet, end-queue}
-use Rattle.packet_calls.proofs.PlaceWords.{keys-exchange}
+use Rattle.packet_moves.specs.declared.queues.Queue.{Queue}
+use Rattle.packet_moves.specs.declared.queues.Queue.TheVariants.{OfKeyboard}
+use Rattle.packet_moves.proofs.NamedQueues.{no-device}
+use Rattle.packet_moves.proofs.PlacedPackets.{end-changed, end-owners, end-packet, end-queue, fields-stand}
+use Rattle.packet_moves.proofs.PlaceWords.{keys-exchange}
 use Rattle.kernel_model.proofs.DataInside.{AreData-inside}
-use Rattle.packet_calls.proofs.SentPackets.{Sent, fields-stand, sender-set, sent-packet, tick-told, word-within}
+use Rattle.packet_calls.proofs.SentPackets.{Sent, sender-set, sent-packet, word-within}
 
 -- the number of a task is no device's
 low-number : (s : List ℕ) (l : Lists) (id : ℕ) → HoldsLists s l → has_task id l.tasks ≡ true → id ≤ 63
@@ -109,6 +110,7 @@ to-keyboard s l p from to h r =
     let ws : Pairs = (p + 1, from) ∷ [] in
     let kept : Pairs = (p + 2, get_or s (p + 2) 0) ∷ (p + 3, get_or s (p + 3) 0) ∷ (p + 4, get_or s (p + 4) 0) ∷ [] in
     let e : Exchange (owned l) (owned base) (key_words l.key) [] = keys-exchange l residents in
+    let holds : Holds s (owned base) = e.then'.closes s (e.first.opens s h.holds).0 tt in
     let words : (get_or s 273 0 ≡ 0) × (get_or s 275 0 ≡ 0) = key-kind s l.key r.off (e.first.opens s h.holds).1 in
     let keys : IsKeyPacket Keyboard q =
     record { place = r.sender; kind = ap (λ a. get_or s (a + 2) 0) r.packet ∙ words.0; last = ap (λ a. get_or s (a + 4) 0) r.packet ∙ words.1 }
@@ -124,16 +126,16 @@ to-keyboard s l p from to h r =
     record {
       goes_to = OfKeyboard;
       named = ap (destination_of l) r.to_keyboard;
-      queue = end-queue s l base (key_words l.key) Keyboard q ws kept h e h.valid.tasks.distinct tt v refl some tt fields (word-within p 1 from (omega arith)) (sender-set s p from) (refl, (refl, (refl, tt)));
-      packet = end-packet s l base (key_words l.key) Keyboard q ws kept h e h.valid.tasks.distinct tt v refl some tt fields (word-within p 1 from (omega arith)) (sender-set s p from) (refl, (refl, (refl, tt)));
+      queue = end-queue s base Keyboard q ws kept holds h.size h.valid.tasks.distinct tt v some tt fields (word-within p 1 from (omega arith)) (sender-set s p from) (refl, (refl, (refl, tt)));
+      packet = end-packet s base Keyboard q ws kept holds h.size h.valid.tasks.distinct tt v some tt fields (word-within p 1 from (omega arith)) (sender-set s p from) (refl, (refl, (refl, tt)));
       changed = λ t is.
           subst (λ m. IsChanged s t m []) (sym same)
-          (end-changed s l base (key_words l.key) Keyboard q ws kept h e h.valid.tasks.distinct tt v refl some tt fields (word-within p 1 from (omega arith)) (sender-set s p from) (refl, (refl, (refl, tt))) t (due_in s p) is);
+          (end-changed s base Keyboard q ws kept holds h.size h.valid.tasks.distinct tt v some tt fields (word-within p 1 from (omega arith)) (sender-set s p from) (refl, (refl, (refl, tt))) t (due_in s p) is);
       kept = λ _ a.
           ap (λ m. owners a (owned m)) same
           ∙ omega (
             arith,
-            end-owners s l base (key_words l.key) Keyboard q ws kept h e h.valid.tasks.distinct tt v refl some tt fields (word-within p 1 from (omega arith)) (sender-set s p from) (refl, (refl, (refl, tt))) a,
+            end-owners s base Keyboard q ws kept holds h.size h.valid.tasks.distinct tt v some tt fields (word-within p 1 from (omega arith)) (sender-set s p from) (refl, (refl, (refl, tt))) a,
             e.first.count a,
             e.then'.count a,
             key-count a l.key r.off,

@@ -1,11 +1,9 @@
 -- What a packet that is returned leaves.
-use Rattle.std.proofs.Common.{◌≡◌, ℕ, ◌+◌, ◌<◌, Bool, Option, Some, None, Ok, List, [], ◌∷◌, ◌++◌, get_or, refl, sym, ap, ◌∙◌, subst, arith, append-nil}
+use Rattle.std.proofs.Common.{◌≡◌, ℕ, ◌+◌, ◌<◌, Bool, Option, Some, None, Ok, List, [], ◌∷◌, ◌++◌, get_or, refl, sym, ap, ◌∙◌, subst, append-nil}
 use Rattle.std.specs.List.{AllByRecursion}
 use Rattle.std.proofs.lemmas.Bool.{false≢true}
 use Rattle.word_store.specs.Arithmetic.{signed}
-use Rattle.owned_words.specs.Exchange.{Exchange}
 use Rattle.owned_words.specs.Owned.{Pairs}
-use Rattle.owned_words.proofs.Exchanges.{exchange-none}
 use Rattle.packet_queue.specs.Log.{Notes}
 use Rattle.packet_queue.specs.Queue.{CanQueue, HasQueue}
 use Rattle.packet_queue.specs.QueueWords.{QueuedPacket}
@@ -16,24 +14,20 @@ use Rattle.kernel_model.specs.Changes.{queue_of, with_queue}
 use Rattle.kernel_model.specs.HoldsLists.{HoldsLists}
 use Rattle.kernel_model.specs.Lists.{Lists, has_task}
 use Rattle.kernel_model.specs.NotedEvents.{NotesAll}
-use Rattle.kernel_model.specs.Owned.{owned}
 use Rattle.kernel_model.specs.Task.{queue_head}
 use Rattle.kernel_model.specs.ValidLists.{AreValid}
 use Rattle.kernel_model.specs.ValidQueues.{Place}
 use Rattle.kernel_model.specs.ValidQueues.Place.{Work}
 use Rattle.kernel_model.specs.ValidTasks.{IsField}
 use Rattle.kernel_model.proofs.NotedInTurn.{notes-one}
-use Rattle.kernel_model.proofs.QueueCounts.{owners-packet}
 use Rattle.call_answers.specs.Made.{Leaves, minus_one}
-use Rattle.call_answers.proofs.FoundTask.{Finds, find-task}
-use Rattle.packet_calls.specs.Destinations.{queue_for}
-use Rattle.packet_calls.specs.QueueWords.{head_of, enqueued, with_results}
+use Rattle.call_answers.proofs.FoundTask.{Finds, find-task, found-address}
+use Rattle.packet_moves.specs.Destinations.{queue_for}
+use Rattle.packet_moves.specs.QueueWords.{head_of, enqueued, with_results}
 use Rattle.packet_calls.specs.Reply.{CanReply, reply, returned}
-use Rattle.packet_calls.specs.declared.queues.Queue.TheVariants.{OfTask}
-use Rattle.packet_calls.proofs.Arrival.{AreOfPacket}
-use Rattle.packet_calls.proofs.NamedQueues.{found-address}
-use Rattle.packet_calls.proofs.PlacedPackets.{AreSet, end-changed, end-packet, end-queue}
-use Rattle.packet_calls.proofs.SentPackets.{comes-some, comes-valid, fields-stand}
+use Rattle.packet_moves.specs.declared.queues.Queue.TheVariants.{OfTask}
+use Rattle.packet_moves.proofs.PlacedPackets.{end-changed, end-packet, end-queue, fields-stand, results-own, results-set}
+use Rattle.packet_calls.proofs.SentPackets.{comes-some, comes-valid}
 
 module _ (s : List ℕ) (l : Lists) (p from res1 res2 : ℕ) (h : HoldsLists s l) (r : CanReply s l p from) where
   abbrev to : ℕ
@@ -55,20 +49,6 @@ module _ (s : List ℕ) (l : Lists) (p from res1 res2 : ℕ) (h : HoldsLists s l
   abbrev kept : Pairs
   kept = (p + 2, get_or s (p + 2) 0) ∷ []
 
-  own : AreOfPacket p ws
-  own a some = omega (arith, some, owners-packet a q 0)
-
-  are_set : AreSet q ws kept
-  are_set link =
-      record {
-        count = λ a. omega arith;
-        opens = λ t k. ((k.1.1.1.0, tt), (k.0, (k.1.0, (k.1.1.1.1.1.0, (k.1.1.1.1.0, (k.1.1.0, tt))))));
-        closes = λ t j k. (k.0, (k.1.0, (k.1.1.1.1.0, (j.0, (k.1.1.1.0, (k.1.1.0, tt))))));
-      }
-
-  none : Exchange (owned l) (owned l) [] []
-  none = exchange-none (owned l)
-
   whole : ps ≡ ps ++ []
   whole = sym (append-nil ps)
 
@@ -82,10 +62,10 @@ module _ (s : List ℕ) (l : Lists) (p from res1 res2 : ℕ) (h : HoldsLists s l
   fields = fields-stand l h.valid
 
   queue : HasQueue (with_results s p from res1 res2) (head_of (queue_for l at))
-  queue = end-queue s l l [] at q ws kept h none h.valid.tasks.distinct r.there valid refl some tt fields own are_set (refl, tt)
+  queue = end-queue s l at q ws kept h.holds h.size h.valid.tasks.distinct r.there valid some tt fields (results-own q) (results-set q) (refl, tt)
 
   packet : CanQueue (with_results s p from res1 res2) (head_of (queue_for l at)) p
-  packet = end-packet s l l [] at q ws kept h none h.valid.tasks.distinct r.there valid refl some tt fields own are_set (refl, tt)
+  packet = end-packet s l at q ws kept h.holds h.size h.valid.tasks.distinct r.there valid some tt fields (results-own q) (results-set q) (refl, tt)
 
   -- the task is there
   module _ (sender : ℕ) (is_sender : sender ≡ to) where
@@ -108,7 +88,7 @@ module _ (s : List ℕ) (l : Lists) (p from res1 res2 : ℕ) (h : HoldsLists s l
       is-returned v is =
           record {
             lists =
-                end-changed s l l [] at q ws kept h none h.valid.tasks.distinct r.there valid refl some tt fields own are_set (refl, tt) v 0
+                end-changed s l at q ws kept h.holds h.size h.valid.tasks.distinct r.there valid some tt fields (results-own q) (results-set q) (refl, tt) v 0
                 (is ∙ ap (λ z. enqueued (with_results s p from res1 res2) z p 0) (sym queue-is));
             answered = refl;
           }

@@ -8,13 +8,12 @@ use Rattle.kernel_model.specs.Lists.{Lists, has_task}
 use Rattle.kernel_model.specs.Residents.{fault_packet, key_packet}
 use Rattle.kernel_model.specs.ValidQueues.Place.{Pending, Work}
 use Rattle.kernel_model.proofs.WalkedLists.{residents-read}
-use Rattle.call_answers.proofs.FoundTask.{Finds, find-task}
+use Rattle.call_answers.proofs.FoundTask.{Finds, find-task, found-there}
 use Rattle.kernel_model.specs.ValidLists.{AreValid}
-use Rattle.packet_calls.specs.Destinations.{is_destination, place_of}
+use Rattle.packet_moves.specs.Destinations.{is_destination, place_of}
 use Rattle.packet_calls.specs.Dqpkt.{Search, found_in, found_in_own, further_searches, is_residents_packet, located, reads_number}
-use Rattle.packet_calls.specs.PacketMoves.{stands_in}
+use Rattle.packet_moves.specs.PacketMoves.{stands_in}
 use Rattle.packet_calls.specs.declared.dequeue.Found.{Found}
-use Rattle.packet_calls.proofs.NamedQueues.{found-there}
 
 -- ---- the searches in their order
 

@@ -22,15 +22,16 @@ use Rattle.call_answers.specs.Made.{IsMade, by_refusal, minus_one}
 use Rattle.call_answers.specs.Refusals.{first_refusal}
 use Rattle.call_answers.proofs.MadeCalls.{made-accepted, made-refused}
 use Rattle.call_answers.proofs.Refusals.{first_refusal-failed, first_refusal-passed}
-use Rattle.packet_calls.specs.Destinations.{is_destination, place_of, queue_for}
-use Rattle.packet_calls.specs.PacketMoves.{sent_packet, with_arrived}
+use Rattle.call_answers.proofs.RootTold.{tick-told}
+use Rattle.packet_moves.specs.Destinations.{is_destination, place_of, queue_for}
+use Rattle.packet_moves.specs.PacketMoves.{sent_packet, with_arrived}
 use Rattle.packet_calls.specs.Qpkt.{packet_tests, qpkt, qpkt_tests, sent_to}
-use Rattle.packet_calls.specs.QueueWords.{head_of, sent_words}
-use Rattle.packet_calls.specs.declared.queues.Queue.{Queue}
+use Rattle.packet_moves.specs.QueueWords.{head_of, sent_words}
+use Rattle.packet_moves.specs.declared.queues.Queue.{Queue}
 use Rattle.packet_calls.proofs.CallerTask.{caller-number}
-use Rattle.packet_calls.proofs.NamedQueues.{Names}
+use Rattle.packet_moves.proofs.NamedQueues.{Names}
 use Rattle.packet_calls.proofs.PacketTests.{PassesTests, passes-tests}
-use Rattle.packet_calls.proofs.SentPackets.{Sent, sent-packet, tick-told}
+use Rattle.packet_calls.proofs.SentPackets.{Sent, sent-packet}
 
 -- the task that calls may send to every place
 caller-sends : (l : Lists) (at : Place) → HasCaller l → HasSender l at l.running

@@ -4,9 +4,8 @@ use Rattle.std.specs.List.{AllByRecursion, range_with_len}
 use Rattle.std.proofs.lemmas.Bool.{cases_eq, false≢true}
 use Rattle.linked_list.specs.Count.{times}
 use Rattle.linked_list.proofs.Counts.{hit-other, times-within}
-use Rattle.owned_words.specs.Exchange.{Exchange, Splits}
+use Rattle.owned_words.specs.Exchange.{Splits}
 use Rattle.owned_words.specs.Owned.{Pairs, owners}
-use Rattle.owned_words.proofs.Exchanges.{exchange-none}
 use Rattle.packet_queue.specs.Queue.{CanQueue, HasQueue}
 use Rattle.packet_queue.specs.QueueWords.{HeldQueue, QueuedPacket, packet_words}
 use Rattle.kernel_model.specs.ChangedStore.{IsChanged}
@@ -18,21 +17,20 @@ use Rattle.kernel_model.specs.ValidBlocks.{AreData}
 use Rattle.kernel_model.specs.ValidLists.{AreValid}
 use Rattle.kernel_model.specs.ValidQueues.{HasSender, MayStand, NeverFall, Place}
 use Rattle.kernel_model.specs.ValidQueues.Place.{Clock, Keyboard, Output, Pending, Work}
-use Rattle.kernel_model.specs.ValidTasks.{IsField, IsTask}
+use Rattle.kernel_model.specs.ValidTasks.{IsField}
 use Rattle.kernel_model.proofs.AllThings.{all-between}
-use Rattle.kernel_model.proofs.EachMember.{all-each}
 use Rattle.kernel_model.proofs.OwnedPackets.{unowned-no_fault, unowned-no_key}
 use Rattle.kernel_model.proofs.PacketMoves.{queued-valid}
-use Rattle.kernel_model.proofs.QueuePlaces.{place-stands, with_queue-size}
+use Rattle.kernel_model.proofs.QueuePlaces.{place-stands}
 use Rattle.kernel_model.proofs.ReadQueues.{packets-some}
-use Rattle.packet_calls.specs.Destinations.{queue_for}
-use Rattle.packet_calls.specs.PacketMoves.{arrived, packet_at, sent_packet, with_arrived}
-use Rattle.packet_calls.specs.QueueWords.{due_in, due_tick, head_of, enqueued, sent_words}
-use Rattle.packet_calls.proofs.Arrival.{AreOfPacket}
-use Rattle.packet_calls.proofs.ArrivalWords.{TakesAtEnd}
+use Rattle.packet_moves.specs.Destinations.{queue_for}
+use Rattle.packet_moves.specs.PacketMoves.{arrived, packet_at, sent_packet, with_arrived}
+use Rattle.packet_moves.specs.QueueWords.{due_in, due_tick, head_of, enqueued, sent_words}
+use Rattle.packet_moves.proofs.Arrival.{AreOfPacket}
+use Rattle.packet_moves.proofs.ArrivalWords.{TakesAtEnd}
 use Rattle.packet_calls.proofs.DueOrder.{falls-inserted}
-use Rattle.packet_calls.proofs.HeldPlaces.{held-at}
-use Rattle.packet_calls.proofs.PlacedPackets.{AreSet, clock-changed, clock-owners, clock-packet, clock-queue, end-changed, end-owners, end-packet, end-queue}
+use Rattle.packet_moves.proofs.HeldPlaces.{held-at}
+use Rattle.packet_moves.proofs.PlacedPackets.{AreSet, clock-changed, clock-owners, clock-packet, clock-queue, end-changed, end-owners, end-packet, end-queue, fields-stand}
 
 -- one of the five words
 pub word-within : (p i w : ℕ) → i < 5 → (a : ℕ) → 0 < owners a ((p + i, w) ∷ []) → 0 < times a (range_with_len p 5)
@@ -62,9 +60,6 @@ sent-end s l Clock p sender end = absurd end
 sent-end s l Keyboard p sender end = refl
 sent-end s l Output p sender end = refl
 sent-end s l Pending p sender end = refl
-
-pub fields-stand : (l : Lists) → AreValid l → AllByRecursion (λ t. IsField t.field) l.tasks
-fields-stand l v = all-each (IsTask l) (λ t. IsField t.field) (λ t i. i.field) l.tasks v.tasks.each
 
 -- a packet at the end, of which its sender was set
 pub sender-set : (s : List ℕ) (p sender : ℕ)
@@ -113,9 +108,7 @@ module _ (s : List ℕ) (l : Lists) (p sender : ℕ) (h : HoldsLists s l) (lodge
       let is : ps ≡ ps ++ [] = sym (append-nil ps) in
       let ws : Pairs = (p + 1, sender) ∷ [] in
       let kept : Pairs = (p + 2, get_or s (p + 2) 0) ∷ (p + 3, get_or s (p + 3) 0) ∷ (p + 4, get_or s (p + 4) 0) ∷ [] in
-      let none : Exchange (owned l) (owned l) [] [] = exchange-none (owned l) in
       let v : AreValid (with_queue at (ps ++ q ∷ []) l) = comes-valid s l at q h has lodged plain from ps [] is (end-keeps at (ps ++ q ∷ []) end) in
-      let size : (with_queue at (ps ++ q ∷ []) l).size ≡ l.size = with_queue-size at (ps ++ q ∷ []) l in
       let some : AllByRecursion (λ z. 0 < z.address) (ps ++ q ∷ []) = comes-some s l at q h has lodged plain from ps [] is in
       let fields : AllByRecursion (λ t. IsField t.field) l.tasks = fields-stand l h.valid in
       let own : AreOfPacket p ws = word-within p 1 sender (omega arith) in
@@ -123,14 +116,14 @@ module _ (s : List ℕ) (l : Lists) (p sender : ℕ) (h : HoldsLists s l) (lodge
       ap (λ z. with_arrived at z l) (sent-end s l at p sender end) ∙ ap (λ z. with_queue at z l) (arrived-end at q ps end)
       in
       record {
-        queue = end-queue s l l [] at q ws kept h none h.valid.tasks.distinct has v size some end fields own (sender-set s p sender) (refl, (refl, (refl, tt)));
-        packet = end-packet s l l [] at q ws kept h none h.valid.tasks.distinct has v size some end fields own (sender-set s p sender) (refl, (refl, (refl, tt)));
+        queue = end-queue s l at q ws kept h.holds h.size h.valid.tasks.distinct has v some end fields own (sender-set s p sender) (refl, (refl, (refl, tt)));
+        packet = end-packet s l at q ws kept h.holds h.size h.valid.tasks.distinct has v some end fields own (sender-set s p sender) (refl, (refl, (refl, tt)));
         changed = λ t is_t.
             subst (λ m. IsChanged s t m []) (sym becomes)
-            (end-changed s l l [] at q ws kept h none h.valid.tasks.distinct has v size some end fields own (sender-set s p sender) (refl, (refl, (refl, tt))) t (due_in s p) is_t);
+            (end-changed s l at q ws kept h.holds h.size h.valid.tasks.distinct has v some end fields own (sender-set s p sender) (refl, (refl, (refl, tt))) t (due_in s p) is_t);
         more = λ a.
             ap (λ m. owners a (owned m)) becomes
-            ∙ end-owners s l l [] at q ws kept h none h.valid.tasks.distinct has v size some end fields own (sender-set s p sender) (refl, (refl, (refl, tt))) a;
+            ∙ end-owners s l at q ws kept h.holds h.size h.valid.tasks.distinct has v some end fields own (sender-set s p sender) (refl, (refl, (refl, tt))) a;
       }
 
   -- the tick that the store has is that of the lists
@@ -139,7 +132,6 @@ module _ (s : List ℕ) (l : Lists) (p sender : ℕ) (h : HoldsLists s l) (lodge
       let q : QueuedPacket = sent_packet s l Clock p sender in
       let ws : Pairs = (p + 1, sender) ∷ [] in
       let kept : Pairs = (p + 2, get_or s (p + 2) 0) ∷ (p + 3, get_or s (p + 3) 0) ∷ [] in
-      let none : Exchange (owned l) (owned l) [] [] = exchange-none (owned l) in
       let v : (front back : List QueuedPacket) → l.clock ≡ front ++ back → arrived Clock q l.clock ≡ front ++ q ∷ back → AreValid (with_queue Clock (front ++ q ∷ back) l) =
       λ front back is becomes. comes-valid s l Clock q h tt lodged plain from front back is (subst NeverFall becomes (falls-inserted q l.clock h.valid.queues.due))
       in
@@ -155,12 +147,12 @@ module _ (s : List ℕ) (l : Lists) (p sender : ℕ) (h : HoldsLists s l) (lodge
       in
       let clock : HeldQueue s clock_head l.clock = held-at s l Clock h tt in
       record {
-        queue = clock-queue s l q ws kept h none v some own (refl, (refl, tt)) set_words clock;
-        packet = clock-packet s l q ws kept h none v some own (refl, (refl, tt)) set_words clock;
+        queue = clock-queue s l q ws kept h v some own (refl, (refl, tt)) set_words clock;
+        packet = clock-packet s l q ws kept h v some own (refl, (refl, tt)) set_words clock;
         changed = λ t is.
-            clock-changed s l q ws kept h none v some own (refl, (refl, tt)) set_words clock t
+            clock-changed s l q ws kept h v some own (refl, (refl, tt)) set_words clock t
             (is ∙ ap (λ n. enqueued (set s (p + 1) sender) (queue_for l Clock) p (due_tick n (get_or s (p + 5) 0))) tick);
-        more = clock-owners s l q ws kept h none v some own (refl, (refl, tt)) set_words clock;
+        more = clock-owners s l q ws kept h v some own (refl, (refl, tt)) set_words clock;
       }
 
   pub sent-packet : get_or s 108 0 ≡ l.tick → (at : Place) → HasPlace l at → HasSender l at sender → Sent s l at p sender
@@ -169,8 +161,3 @@ module _ (s : List ℕ) (l : Lists) (p sender : ℕ) (h : HoldsLists s l) (lodge
   sent-packet tick Keyboard has from = sent-at_end Keyboard has from tt
   sent-packet tick Output has from = sent-at_end Output has from tt
   sent-packet tick Pending has from = sent-at_end Pending has from tt
-
--- the tick, as the store has it
-pub tick-told : (s : List ℕ) (l : Lists) → HoldsLists s l → get_or s 108 0 ≡ l.tick
-unfolding owned
-tick-told s l h = h.holds.1.1.1.0

@@ -1,5 +1,5 @@
 -- What a task that takes its first packet leaves, and one that waits for a packet.
-use Rattle.std.proofs.Common.{◌≡◌, ◌≢◌, ℕ, ◌+◌, ◌<◌, Bool, true, false, Option, Some, None, Ok, List, [], ◌∷◌, ◌++◌, map, cond, get_or, set, eqb, inl, inr, refl, sym, ap, ◌∙◌, subst, arith}
+use Rattle.std.proofs.Common.{◌≡◌, ◌≢◌, ℕ, ◌+◌, Bool, true, false, Option, Some, None, Ok, List, [], ◌∷◌, ◌++◌, cond, get_or, set, eqb, inl, inr, refl, sym, ap, ◌∙◌, subst, arith}
 use Rattle.std.specs.List.{AllByRecursion, range_with_len}
 use Rattle.std.proofs.lemmas.Bool.{eq-eqb, false_from_ne_true, leb-true, or_left}
 use Rattle.word_store.specs.Arithmetic.{signed}
@@ -10,21 +10,20 @@ use Rattle.owned_words.specs.LinkedWords.{first_of}
 use Rattle.owned_words.proofs.Exchanges.{exchange-left, exchange-right, exchange-row}
 use Rattle.packet_queue.specs.Log.{Notes}
 use Rattle.packet_queue.specs.Queue.{HasQueue, queue_at}
-use Rattle.packet_queue.specs.QueueWords.{QueuedPacket, first_packet, queue_words}
+use Rattle.packet_queue.specs.QueueWords.{QueuedPacket, queue_words}
 use Rattle.packet_queue.specs.declared.events.KernelEvent.{KernelEvent}
 use Rattle.packet_queue.specs.declared.events.KernelEvent.TheVariants.{Taken}
 use Rattle.coroutines.specs.CoroutineExchanges.{words_of_coroutines}
 use Rattle.kernel_model.specs.ChangedStore.{HasKeeper, IsChanged, Knows}
-use Rattle.kernel_model.specs.Changes.{change_of, queue_of, with_queue, with_task, with_tasks}
+use Rattle.kernel_model.specs.Changes.{queue_of, with_queue, with_task, with_tasks}
 use Rattle.kernel_model.specs.Lists.{Lists, has_task}
 use Rattle.kernel_model.specs.NotedEvents.{NotesAll}
 use Rattle.kernel_model.specs.Owned.{owned}
-use Rattle.kernel_model.specs.Task.{Task, fault_words, globals_of, is_guest_id, name_words, queue_bit, queue_head, stack_of, state_word, state_words, task_address, task_id, task_words}
+use Rattle.kernel_model.specs.Task.{Task, fault_words, globals_of, is_guest_id, name_words, queue_bit, queue_head, stack_of, state_word, state_words, task_address, task_words}
 use Rattle.kernel_model.specs.ValidLists.{AreValid}
 use Rattle.kernel_model.specs.ValidQueues.{IsFaultPacket, IsKeyPacket, MayStand, Place, is_fault_packet, is_key_packet}
 use Rattle.kernel_model.specs.ValidQueues.Place.{Clock, Keyboard, Output, Pending, Work}
 use Rattle.kernel_model.specs.ValidTasks.{IsTask}
-use Rattle.kernel_model.proofs.ChainSplits.{change-between}
 use Rattle.kernel_model.proofs.ChangedLists.{exchange-owned, knows-same, one_task-owned, owners-exchanged}
 use Rattle.kernel_model.proofs.NotedInTurn.{notes-none, notes-one}
 use Rattle.kernel_model.proofs.OneTask.{same_task-valid}
@@ -35,15 +34,15 @@ use Rattle.word_kinds.proofs.KnownWords.{knows-released}
 use Rattle.call_answers.specs.Callers.{HasCaller}
 use Rattle.call_answers.specs.Guests.{GuestAt}
 use Rattle.call_answers.specs.Made.{IsMade}
-use Rattle.call_answers.proofs.GuestTask.{GuestFacts, guest-facts}
-use Rattle.packet_calls.specs.Destinations.{queue_for}
-use Rattle.packet_calls.specs.PacketMoves.{stands_in}
-use Rattle.packet_calls.specs.QueueWords.{head_of, unqueued}
+use Rattle.call_answers.proofs.GuestTask.{GuestFacts, guest-changed, guest-facts}
+use Rattle.packet_moves.specs.Destinations.{queue_for}
+use Rattle.packet_moves.specs.PacketMoves.{stands_in}
+use Rattle.packet_moves.specs.QueueWords.{head_of, unqueued}
 use Rattle.packet_calls.specs.TaskWait.{first_of_queue, taskwait, waited, waiting}
-use Rattle.packet_calls.specs.declared.queues.Queue.TheVariants.{OfTask}
+use Rattle.packet_moves.specs.declared.queues.Queue.TheVariants.{OfTask}
 use Rattle.packet_calls.proofs.CallerTask.{caller-first, caller-number, caller-queue, caller-runs, caller-state, caller-there}
-use Rattle.packet_calls.proofs.HeldPlaces.{has-at, held-at, stands-at}
-use Rattle.packet_calls.proofs.Departure.{departed-changed, held-before, others-kept, owners-departed}
+use Rattle.packet_moves.proofs.HeldPlaces.{HasFirst, first-there, has-at, held-at, no-packets, stands-at}
+use Rattle.packet_moves.proofs.Departure.{departed-changed, held-before, others-kept, owners-departed}
 
 -- a place by the number of its task
 abbrev number_in : Place → ℕ
@@ -54,10 +53,6 @@ number_in Output = 0
 number_in Pending = 0
 
 -- ---- a task with no packets
-
-no-packets : (ps : List QueuedPacket) → AllByRecursion (λ p. 0 < p.address) ps → first_packet ps ≡ 0 → ps ≡ []
-no-packets [] some e = refl
-no-packets (p ∷ ps) some e = absurd (omega (arith, some.0, e))
 
 waits-more : (f b h : ℕ) → f ≡ 0 → f + b + h + 4 ≡ 4 + b + h
 waits-more f b h e = omega arith
@@ -85,17 +80,6 @@ IsTask-waiting l t guest h =
       resident = λ is. cc;
     }
 
--- the first packet of a queue, where it has one
-pub record HasFirst (p : ℕ) (ps : List QueuedPacket) : Type 0 where
-  pub packet : QueuedPacket
-  pub back : List QueuedPacket
-  pub is : ps ≡ packet ∷ back
-  pub address : packet.address ≡ p
-
-first-there : (p : ℕ) (ps : List QueuedPacket) → p ≡ first_packet ps → p ≢ 0 → HasFirst p ps
-first-there p [] e some = absurd (some e)
-first-there p (q ∷ qs) e some = record { packet = q; back = qs; is = refl; address = sym e }
-
 module _ (s : List ℕ) (tells : List ℕ → Type 0) (room : ℕ) (l : Lists) (t : ℕ) (k : HasKeeper s tells room l) (c : HasCaller l) (g : GuestAt l l.running t) where
   facts : GuestFacts s l l.running t g.task
   facts = guest-facts s l l.running t k.lists g
@@ -104,10 +88,7 @@ module _ (s : List ℕ) (tells : List ℕ → Type 0) (room : ℕ) (l : Lists) (
   after = with_tasks (g.front ++ waiting g.task ∷ g.back) l
 
   after-is : with_task l.running waiting l ≡ after
-  after-is =
-      ap (λ ts. with_tasks (map (change_of l.running waiting) ts) l) g.is
-      ∙ ap (λ i. with_tasks (map (change_of i waiting) (g.front ++ g.task ∷ g.back)) l) (sym g.number)
-      ∙ ap (λ ts. with_tasks ts l) (change-between waiting g.front g.task g.back (subst (λ ts. IsApart (map task_id ts)) g.is k.lists.valid.tasks.distinct))
+  after-is = ap (λ ts. with_tasks ts l) (guest-changed l l.running t waiting k.lists.valid g)
 
   exchange : Exchange (owned l) (owned after) ((g.task.address + 4, state_word g.task) ∷ []) ((g.task.address + 4, state_word (waiting g.task)) ∷ [])
   exchange = one_task-owned l g.front g.task (waiting g.task) g.back _ _ g.is refl refl (waiting-exchange l.version g.task (first_of task_address g.back 0))

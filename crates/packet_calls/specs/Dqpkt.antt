@@ -9,8 +9,8 @@ use Rattle.kernel_model.specs.Residents.{fault_packet, key_packet}
 use Rattle.kernel_model.specs.ValidQueues.{Place}
 use Rattle.kernel_model.specs.ValidQueues.Place.{Pending, Work}
 use Rattle.call_answers.specs.Made.{Made, done, unless_refused}
-use Rattle.packet_calls.specs.Destinations.{is_destination, place_of, queue_for}
-use Rattle.packet_calls.specs.PacketMoves.{stands_in, with_departed}
+use Rattle.packet_moves.specs.Destinations.{is_destination, place_of, queue_for}
+use Rattle.packet_moves.specs.PacketMoves.{stands_in, with_departed}
 use Rattle.packet_calls.specs.declared.dequeue.Found.{Found}
 
 -- A queue that is searched: where it stands, its number as events name it, and the answer where the packet is found in it.

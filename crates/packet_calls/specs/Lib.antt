@@ -1,6 +1,3 @@
-pub mod Destinations
-pub mod QueueWords
-pub mod PacketMoves
 pub mod Qpkt
 pub mod TaskWait
 pub mod Dqpkt

@@ -11,8 +11,8 @@ use Rattle.packet_queue.specs.declared.events.KernelEvent.TheVariants.{Accepted}
 use Rattle.kernel_model.specs.Lists.{Lists}
 use Rattle.kernel_model.specs.Owned.{owned}
 use Rattle.call_answers.specs.Made.{Made, minus_one, unless_refused}
-use Rattle.packet_calls.specs.Destinations.{is_destination, place_of}
-use Rattle.packet_calls.specs.PacketMoves.{sent_packet, with_arrived}
+use Rattle.packet_moves.specs.Destinations.{is_destination, place_of}
+use Rattle.packet_moves.specs.PacketMoves.{sent_packet, with_arrived}
 
 -- the words p to p + 4 are all data of one used block
 abbrev pub is_lodged : Lists → ℕ → Bool

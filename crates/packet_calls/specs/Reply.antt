@@ -9,7 +9,7 @@ use Rattle.kernel_model.specs.ValidBlocks.{AreData}
 use Rattle.kernel_model.specs.ValidQueues.{HasSender}
 use Rattle.kernel_model.specs.ValidQueues.Place.{Work}
 use Rattle.call_answers.specs.Made.{Made, minus_one}
-use Rattle.packet_calls.specs.PacketMoves.{packet_at, with_arrived}
+use Rattle.packet_moves.specs.PacketMoves.{packet_at, with_arrived}
 
 -- the packet's sender is there, its words are data of one used block, nobody owns them, and who returns it may send to its sender
 pub record CanReply (s : List ℕ) (l : Lists) (p from : ℕ) : Type 0 where

@@ -8,7 +8,7 @@ use Rattle.kernel_model.specs.Residents.{key_packet, keyboard}
 use Rattle.kernel_model.specs.ValidBlocks.{AreData}
 use Rattle.kernel_model.specs.ValidQueues.Place.{Keyboard, Work}
 use Rattle.call_answers.specs.Made.{Made, minus_one}
-use Rattle.packet_calls.specs.PacketMoves.{sent_packet, with_arrived}
+use Rattle.packet_moves.specs.PacketMoves.{sent_packet, with_arrived}
 
 -- A packet that is plain goes from one task to another, or the same one.
 pub record CanSendToTask (l : Lists) (p from to : ℕ) : Type 0 where

@@ -2,11 +2,7 @@
 #![tactic(auto)]
 
 mod dequeue;
-mod destinations;
-mod events;
 mod own_packets;
-mod packets;
-mod queues;
 mod replies;
 mod send;
 mod wait;

@@ -7,9 +7,9 @@ ghost use Rattle.kernel_model.specs.NotedEvents.{NotesAll};
 ghost use Rattle.call_answers.specs.Made.{IsMade, minus_one};
 ghost use Rattle.packet_calls.specs.SendOwn.{CanSendOwn, send_own};
 
-use crate::destinations::{KEYBOARD, destination, number_word};
-use crate::events::accepted;
-use crate::packets::{PACKET_WORDS, send};
+use packet_moves::destinations::{KEYBOARD, destination, number_word};
+use packet_moves::events::accepted;
+use packet_moves::packets::{PACKET_WORDS, send};
 use packet_queue::EventLog;
 use word_kinds::KindKeeper;
 use word_store::Store;

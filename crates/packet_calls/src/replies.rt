@@ -7,10 +7,11 @@ ghost use Rattle.kernel_model.specs.NotedEvents.{NotesAll};
 ghost use Rattle.call_answers.specs.Made.{Leaves, minus_one};
 ghost use Rattle.packet_calls.specs.Reply.{CanReply, reply};
 
-use crate::destinations::number_word;
-use crate::events::accepted;
-use crate::packets::{SENDER, give_back};
-use crate::queues::Queue;
+use call_answers::numbers::SENDER;
+use packet_moves::Queue;
+use packet_moves::destinations::number_word;
+use packet_moves::events::accepted;
+use packet_moves::packets::give_back;
 use packet_queue::EventLog;
 use task_block::find;
 use word_store::{Store, word_at};

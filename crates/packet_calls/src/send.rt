@@ -10,13 +10,14 @@ ghost use Rattle.call_answers.specs.Made.{IsMade, plain_answer};
 ghost use Rattle.call_answers.specs.Refusals.{answer_of, first_refusal};
 ghost use Rattle.packet_calls.specs.Qpkt.{is_lodged, packet_tests, qpkt};
 
-use crate::destinations::destination;
-use crate::events::accepted;
-use crate::packets::{PACKET_WORDS, SENDER, send};
 use block_calls::are_unowned;
 use call_answers::caller;
 use call_answers::codes::{LINK_IN_USE, MISPLACED, NO_DESTINATION};
+use call_answers::numbers::SENDER;
 use getvec_chain::{Block, block_of};
+use packet_moves::destinations::destination;
+use packet_moves::events::accepted;
+use packet_moves::packets::{PACKET_WORDS, send};
 use packet_queue::{EventLog, NO_QUEUE};
 use task_block::{TcbField, field};
 use word_kinds::KindKeeper;

@@ -9,10 +9,12 @@ ghost use Rattle.call_answers.specs.Callers.{HasCaller};
 ghost use Rattle.call_answers.specs.Made.{IsMade};
 ghost use Rattle.packet_calls.specs.TaskWait.{answer_of_wait, first_of_queue, taskwait};
 
-use crate::events::taken;
-use crate::packets::{PACKET_WORDS, SENDER};
-use crate::queues::{Queue, unqueue};
 use call_answers::caller;
+use call_answers::numbers::SENDER;
+use packet_moves::Queue;
+use packet_moves::events::taken;
+use packet_moves::packets::PACKET_WORDS;
+use packet_moves::queues::unqueue;
 use packet_queue::EventLog;
 use task_block::{TcbField, field, set_field};
 use word_kinds::KindKeeper;

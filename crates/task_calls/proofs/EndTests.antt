@@ -23,8 +23,9 @@ use Rattle.call_answers.specs.Guests.{GuestAt}
 use Rattle.call_answers.specs.Refusals.{first_refusal}
 use Rattle.call_answers.proofs.FoundTask.{any-one, reads}
 use Rattle.call_answers.proofs.GuestTask.{GuestFacts, guest-facts}
+use Rattle.call_answers.specs.Tasks.{is_dead}
 use Rattle.block_calls.specs.Freevec.{has_packet_in}
-use Rattle.task_calls.specs.DeleteTask.{HasEnded, RunsAlive, deletion_tests, end_tests, has_no_coroutines, has_no_work, has_packet_out, is_dead}
+use Rattle.task_calls.specs.DeleteTask.{HasEnded, RunsAlive, deletion_tests, end_tests, has_no_coroutines, has_no_work, has_packet_out}
 use Rattle.task_calls.proofs.TestsInTurn.{all-passed}
 
 -- the state is the field and 3 more at most

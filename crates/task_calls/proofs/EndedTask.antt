@@ -55,11 +55,12 @@ use Rattle.call_answers.specs.Refusals.{first_refusal}
 use Rattle.call_answers.proofs.Refusals.{low-resident}
 use Rattle.call_answers.proofs.FoundTask.{any-one, reads}
 use Rattle.call_answers.proofs.GuestTask.{GuestFacts, guest-facts}
+use Rattle.call_answers.specs.Tasks.{is_dead}
 use Rattle.block_calls.specs.Freevec.{has_packet_in, holds_packet, lies_in, with_given}
 use Rattle.block_calls.proofs.IdleBlocks.{idle-unowned, none-idle, unowned-empty}
-use Rattle.block_calls.proofs.OwnedMarks.{size-low}
+use Rattle.word_kinds.proofs.OwnedMarks.{size-low}
 use Rattle.block_calls.proofs.TakenStore.{given-changed, given-owners}
-use Rattle.task_calls.specs.DeleteTask.{HasEnded, end_tests, has_no_coroutines, has_no_work, has_packet_out, is_dead, resident_packets, without_task}
+use Rattle.task_calls.specs.DeleteTask.{HasEnded, end_tests, has_no_coroutines, has_no_work, has_packet_out, resident_packets, without_task}
 use Rattle.task_calls.proofs.AroundChain.{address_with-out, around, around-count, around-exchange, listed, owned-around, owned-chain}
 use Rattle.task_calls.proofs.ReadNumbers.{head-read}
 use Rattle.task_calls.proofs.Priorities.{others-differ, without-here}

@@ -14,10 +14,10 @@ use Rattle.kernel_model.specs.Task.{Task, globals_of, name_words, stack_of, stat
 use Rattle.call_answers.specs.Guests.{GuestAt}
 use Rattle.kernel_model.proofs.AlteredTask.{IsTask-altered}
 use Rattle.call_answers.proofs.GuestTask.{GuestFacts, guest-facts}
+use Rattle.call_answers.proofs.FoundTask.{find-numbered}
 use Rattle.task_calls.proofs.Held.{behind_state}
 use Rattle.task_calls.specs.TestFlags.{test_flags}
 use Rattle.task_calls.proofs.OneWord.{word-changed}
-use Rattle.task_calls.proofs.Priorities.{found-here}
 
 -- its words 6 to 16
 abbrev behind_flags : ℕ → Task → List ℕ
@@ -51,4 +51,4 @@ pub flags-tested : (s : List ℕ) (l : Lists) (address mask : ℕ) → HoldsList
 flags-tested s l address mask h g =
     ap (λ w. Ok (bit_and w mask)) (guest-facts s l l.running address h g).flags
     ∙ ap (λ o. Ok (option_map_or (λ t. bit_and t.flags mask) o 0))
-    (sym (ap (find (λ u. eqb u.id l.running)) g.is ∙ found-here l.running g.front g.task g.back g.number (subst (λ ts. IsApart (map task_id ts)) g.is h.valid.tasks.distinct)))
+    (sym (ap (find (λ u. eqb u.id l.running)) g.is ∙ find-numbered l.running g.front g.task g.back g.number (subst (λ ts. IsApart (map task_id ts)) g.is h.valid.tasks.distinct)))

@@ -42,6 +42,10 @@ state-exchange version t b n =
     (exchange-left (state_words version t) (state_words version (record t { held = b })) (behind_state version t) _ _
     (exchange-row t.address 4 (state_word t) (state_word (record t { held = b })) [] (behind_word version t)))
 
+-- whether a task is held, as code reads it
+pub held-bit : (w v : ℕ) (b d : Bool) → w ≡ v → b ≡ eqb (w / 2 % 2) 1 → b ≡ d → eqb (v / 2 % 2) 1 ≡ d
+held-bit w v b d same is e = ap (λ z. eqb (z / 2 % 2) 1) (sym same) ∙ sym is ∙ e
+
 module _ (s : List ℕ) (l : Lists) (id address : ℕ) (h : HoldsLists s l) (g : GuestAt l id address) where
   abbrev word : ℕ
   word = get_or s (address + 4) 0

@@ -19,7 +19,7 @@ use Rattle.kernel_model.proofs.TakenBlocks.{take-valid, taken-block, taken-unown
 use Rattle.call_answers.specs.Made.{IsMade, Made, by_refusal}
 use Rattle.block_calls.specs.FreeStore.{data_of_front, data_taken, has_room, with_taken}
 use Rattle.block_calls.specs.Getvec.{getvec}
-use Rattle.block_calls.proofs.OwnedMarks.{size-low}
+use Rattle.word_kinds.proofs.OwnedMarks.{size-low}
 use Rattle.block_calls.proofs.TakenStore.{HasTakenBlock}
 use Rattle.task_calls.specs.CreateTask.{last_word_of}
 

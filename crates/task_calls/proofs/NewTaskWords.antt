@@ -9,9 +9,10 @@ use Rattle.coroutines.specs.CoroutineExchanges.{words_of_coroutines}
 use Rattle.kernel_model.specs.Lists.{Lists}
 use Rattle.kernel_model.specs.Task.{Task, filled, is_guest_id, other_words, queue_head}
 use Rattle.kernel_model.specs.Versions.{head_words_of}
-use Rattle.task_calls.specs.CreateTask.{new_task, no_coroutines}
+use Rattle.call_answers.specs.Tasks.{no_coroutines}
+use Rattle.call_answers.proofs.JoinedRows.{row_from-append}
+use Rattle.task_calls.specs.CreateTask.{new_task}
 use Rattle.task_calls.specs.NewTasks.{first_words, head_row}
-use Rattle.task_calls.proofs.PlainRows.{row_from-append}
 
 module _ (s : List ℕ) (l : Lists) (number : ℕ) (modules : List ℕ) (u pri maker : ℕ) (guest : is_guest_id number ≡ true) where
   abbrev t : Task

@@ -1,23 +1,22 @@
 -- One word of one task is written, and the store holds the lists with the task changed.
-use Rattle.std.proofs.Common.{◌≡◌, ℕ, List, [], ◌∷◌, ◌++◌, length, map, set, sym, ap, ◌∙◌, subst, arith}
-use Rattle.linked_list.specs.Count.{IsApart}
+use Rattle.std.proofs.Common.{◌≡◌, ℕ, List, [], ◌∷◌, ◌++◌, length, set, sym, ◌∙◌, subst, arith}
 use Rattle.owned_words.specs.Exchange.{Exchange}
 use Rattle.owned_words.specs.LinkedWords.{first_of}
 use Rattle.owned_words.specs.Written.{IsWritten}
 use Rattle.owned_words.proofs.WrittenWords.{writes-hold}
 use Rattle.owned_words.proofs.OwnedWords.{length-written}
 use Rattle.kernel_model.specs.ChangedStore.{IsChanged}
-use Rattle.kernel_model.specs.Changes.{SameTask, change_of, with_task, with_tasks}
+use Rattle.kernel_model.specs.Changes.{SameTask, with_task, with_tasks}
 use Rattle.kernel_model.specs.HoldsLists.{HoldsLists}
 use Rattle.kernel_model.specs.Lists.{Lists}
 use Rattle.kernel_model.specs.Owned.{owned}
-use Rattle.kernel_model.specs.Task.{Task, task_address, task_id, task_words}
+use Rattle.kernel_model.specs.Task.{Task, task_address, task_words}
 use Rattle.kernel_model.specs.ValidLists.{AreValid}
 use Rattle.kernel_model.specs.ValidTasks.{CoroutinesStand, IsTask}
 use Rattle.kernel_model.proofs.OneTask.{same_task-valid}
 use Rattle.kernel_model.proofs.OneTaskExchange.{one_task-exchange}
 use Rattle.call_answers.specs.Guests.{GuestAt}
-use Rattle.kernel_model.proofs.ChainSplits.{change-between}
+use Rattle.call_answers.proofs.GuestTask.{guest-changed}
 
 pub one-word : (s : List ℕ) (l : Lists) (front : List Task) (t u : Task) (back : List Task) (a w x : ℕ) → HoldsLists s l → l.tasks ≡ front ++ t ∷ back
     → SameTask t u → IsTask l u → CoroutinesStand l u
@@ -51,7 +50,5 @@ pub word-changed : (s : List ℕ) (l : Lists) (id address : ℕ) (change : Task 
     → IsChanged s (set s a x) (with_task id change l) []
 word-changed s l id address change a w x h g same task coroutines inner =
     subst (λ ts. IsChanged s (set s a x) (with_tasks ts l) [])
-    (sym (ap (map (change_of id change)) g.is
-    ∙ subst (λ i. map (change_of i change) (g.front ++ g.task ∷ g.back) ≡ g.front ++ change g.task ∷ g.back) g.number
-    (change-between change g.front g.task g.back (subst (λ ts. IsApart (map task_id ts)) g.is h.valid.tasks.distinct))))
+    (sym (guest-changed l id address change h.valid g))
     (one-word s l g.front g.task (change g.task) g.back a w x h g.is same task coroutines inner)

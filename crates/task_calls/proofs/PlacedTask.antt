@@ -53,9 +53,10 @@ use Rattle.call_answers.specs.Made.{IsMade}
 use Rattle.call_answers.proofs.ChangedTwice.{changed-twice}
 use Rattle.call_answers.proofs.FoundTask.{reads}
 use Rattle.call_answers.proofs.MadeCalls.{made-accepted}
+use Rattle.call_answers.proofs.JoinedRows.{row_from-append}
 use Rattle.block_calls.specs.FreeStore.{data_of_front, with_taken}
 use Rattle.block_calls.specs.Getvec.{getvec, getvec_tests}
-use Rattle.block_calls.proofs.OwnedMarks.{size-low}
+use Rattle.word_kinds.proofs.OwnedMarks.{size-low}
 use Rattle.block_calls.proofs.TakenStore.{HasTakenBlock}
 use Rattle.task_calls.specs.CreateTask.{globals_row, last_word_of, new_task, row_behind, with_created}
 use Rattle.task_calls.specs.NewTasks.{MayPlace, MaySetGlobals, head_row, place_task}
@@ -66,7 +67,7 @@ use Rattle.task_calls.proofs.NewBlock.{no-module, took-block}
 use Rattle.task_calls.proofs.NewTaskRow.{length-row}
 use Rattle.task_calls.proofs.NewTaskWords.{new_words-held}
 use Rattle.task_calls.proofs.RowsInRows.{globals-before, globals-row_behind, length-zeros}
-use Rattle.task_calls.proofs.PlainRows.{row-changed, row-holds, row_from-append}
+use Rattle.task_calls.proofs.PlainRows.{row-changed, row-holds}
 use Rattle.task_calls.proofs.StayingData.{data-no_start, data-stays}
 
 -- the block has its data

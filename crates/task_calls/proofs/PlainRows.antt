@@ -1,5 +1,5 @@
 -- Plain words that are written into a store one after another: it holds the same lists.
-use Rattle.std.proofs.Common.{◌≡◌, ℕ, suc, ◌+◌, List, [], ◌∷◌, ◌++◌, get_or, length, set, sym, ap, ◌∙◌, arith, add-zero, get_or-set_other, length-set}
+use Rattle.std.proofs.Common.{◌≡◌, ℕ, ◌+◌, List, [], ◌∷◌, get_or, length, set, ap, ◌∙◌, arith, get_or-set_other, length-set}
 use Rattle.word_store.specs.Row.{with_words}
 use Rattle.word_store.proofs.Rows.{length-with_words}
 use Rattle.owned_words.specs.Owned.{owners, row_from}
@@ -10,13 +10,6 @@ use Rattle.kernel_model.specs.Changes.{AreUnowned}
 use Rattle.kernel_model.specs.HoldsLists.{HoldsLists}
 use Rattle.kernel_model.specs.Lists.{Lists}
 use Rattle.kernel_model.specs.Owned.{owned}
-
--- a row in two parts
-pub row_from-append : (a i : ℕ) (xs ys : List ℕ) → row_from a i (xs ++ ys) ≡ row_from a i xs ++ row_from a (i + length xs) ys
-row_from-append a i [] ys = ap (λ z. row_from a z ys) (sym (add-zero i))
-row_from-append a i (x ∷ xs) ys =
-    let next : suc i + length xs ≡ i + suc (length xs) = omega arith in
-    ap (λ z. (a + i, x) ∷ z) (row_from-append a (suc i) xs ys ∙ ap (λ z. row_from a (suc i) xs ++ row_from a z ys) next)
 
 -- a word that nobody owns is set
 pub plain-set : (s : List ℕ) (l : Lists) (a w : ℕ) → HoldsLists s l → owners a (owned l) ≡ 0 → HoldsLists (set s a w) l

@@ -53,10 +53,6 @@ module _ (id : ℕ) where
   pub others-differ : (front : List Task) (t : Task) (back : List Task) → t.id ≡ id → IsApart (map task_id (front ++ t ∷ back)) → AllByRecursion (λ u. eqb u.id id ≡ false) (front ++ back)
   others-differ front t back e apart = others (front ++ back) (omega (arith, apart id, times-id id front t back, hit-same id t.id (sym e)))
 
--- a task is found by its number
-pub found-here : (id : ℕ) (front : List Task) (t : Task) (back : List Task) → t.id ≡ id → IsApart (map task_id (front ++ t ∷ back)) → find (λ u. eqb u.id id) (front ++ t ∷ back) ≡ Some t
-found-here id front t back e apart = find-here id front t back e (all-front (λ u. eqb u.id id ≡ false) front back (others-differ id front t back e apart))
-
 -- no other task has a priority that is not taken
 pub untaken : (id pri : ℕ) (front : List Task) (t : Task) (back : List Task) → AllByRecursion (λ u. eqb u.id id ≡ false) (front ++ back)
     → list_any (λ u. eqb u.priority pri && not (eqb u.id id)) (front ++ t ∷ back) ≡ false → AllByRecursion (λ u. u.priority ≢ pri) (front ++ back)

@@ -1,15 +1,13 @@
 -- The calls that change one task leave the same words owned.
-use Rattle.std.proofs.Common.{◌≡◌, ℕ, ◌+◌, ◌++◌, not, true, false, List, [], ◌∷◌, map, Bool, Option, Some, None, refl, sym, ap, ◌∙◌, subst}
-use Rattle.linked_list.specs.Count.{IsApart}
+use Rattle.std.proofs.Common.{◌≡◌, ℕ, ◌+◌, ◌++◌, not, true, false, List, [], ◌∷◌, Bool, Option, Some, None, refl, sym, ap, ◌∙◌}
 use Rattle.owned_words.specs.Exchange.{Exchange}
 use Rattle.owned_words.specs.LinkedWords.{first_of}
 use Rattle.owned_words.specs.Owned.{owners}
-use Rattle.kernel_model.specs.Changes.{change_of, with_task, with_tasks}
+use Rattle.kernel_model.specs.Changes.{with_task, with_tasks}
 use Rattle.kernel_model.specs.HoldsLists.{HoldsLists}
 use Rattle.kernel_model.specs.Lists.{Lists}
 use Rattle.kernel_model.specs.Owned.{owned}
-use Rattle.kernel_model.specs.Task.{Task, state_word, task_address, task_id, task_words}
-use Rattle.kernel_model.proofs.ChainSplits.{change-between}
+use Rattle.kernel_model.specs.Task.{Task, state_word, task_address, task_words}
 use Rattle.kernel_model.proofs.ChangedLists.{one_task-owned, owners-exchanged}
 use Rattle.call_answers.specs.Callers.{HasCaller}
 use Rattle.call_answers.specs.Guests.{GuestAt, guest_tests}
@@ -17,6 +15,7 @@ use Rattle.call_answers.specs.Made.{Made, by_refusal, done}
 use Rattle.call_answers.specs.Refusals.{first_refusal}
 use Rattle.call_answers.proofs.Refusals.{first_refusal-front, first_refusal-passed, guest-at, guest-parts}
 use Rattle.call_answers.proofs.RunningTask.{caller-at, there-at}
+use Rattle.call_answers.proofs.GuestTask.{guest-changed}
 use Rattle.task_calls.specs.ChangePri.{change_pri, priority_tests, with_new_priority}
 use Rattle.task_calls.specs.HoldTask.{held, hold}
 use Rattle.task_calls.specs.OneTask.{is_held}
@@ -40,12 +39,7 @@ module _ (s : List ℕ) (l : Lists) (h : HoldsLists s l) (a : ℕ) where
       → ((n : ℕ) → Exchange (task_words l.version g.task n) (task_words l.version (change g.task) n) ((b, w) ∷ []) ((b, x) ∷ []))
       → owners a (owned (with_task id change l)) ≡ owners a (owned l)
   word-owners id address change b w x g number place inner =
-      let split : map (change_of id change) l.tasks ≡ g.front ++ change g.task ∷ g.back =
-      ap (map (change_of id change)) g.is
-      ∙ subst (λ i. map (change_of i change) (g.front ++ g.task ∷ g.back) ≡ g.front ++ change g.task ∷ g.back) g.number
-      (change-between change g.front g.task g.back (subst (λ ts. IsApart (map task_id ts)) g.is h.valid.tasks.distinct))
-      in
-      ap (λ ts. owners a (owned (with_tasks ts l))) split
+      ap (λ ts. owners a (owned (with_tasks ts l))) (guest-changed l id address change h.valid g)
       ∙ sym (owners-exchanged (owned l) (owned (with_tasks (g.front ++ change g.task ∷ g.back) l)) ((b, w) ∷ []) ((b, x) ∷ []) a
       (one_task-owned l g.front g.task (change g.task) g.back ((b, w) ∷ []) ((b, x) ∷ []) g.is (sym number) (sym place) (inner (first_of task_address g.back 0)))
       refl)

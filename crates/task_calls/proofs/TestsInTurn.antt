@@ -1,16 +1,8 @@
--- Tests one after the other: their answers, and calls that are refused by the same ones.
-use Rattle.std.proofs.Common.{◌≡◌, ℕ, List, [], ◌∷◌, ◌++◌, cond, Bool, true, false, Option, Some, None, Result, Ok, Err, refl, ap, ◌∙◌}
+-- Tests one after the other, and calls that are refused by the same ones.
+use Rattle.std.proofs.Common.{◌≡◌, ℕ, List, [], ◌∷◌, ◌++◌, cond, Bool, true, false, Option, Some, None, Result, Ok, Err, refl, ◌∙◌}
 use Rattle.kernel_model.specs.Lists.{Lists}
 use Rattle.call_answers.specs.Made.{IsMade, Made, by_refusal, unless_refused}
-use Rattle.call_answers.specs.Refusals.{answer_of, first_refusal}
-
--- a code that was answered is that of the refusal
-pub answer_of-err : (o : Option ℕ) (code : ℕ) → ◌≡◌ {A = Result (Unit {0}) ℕ} (Err code) (answer_of o) → o ≡ Some code
-answer_of-err None code e = cc
-answer_of-err (Some n) code e = ap Some (same n code e)
-  where
-    same : (n code : ℕ) → ◌≡◌ {A = Result (Unit {0}) ℕ} (Err code) (Err n) → n ≡ code
-    same n code e = cc
+use Rattle.call_answers.specs.Refusals.{first_refusal}
 
 -- tests in two parts
 pub all-passed : (xs ys : List (Bool × ℕ)) → first_refusal (xs ++ ys) ≡ None → (first_refusal xs ≡ None) × (first_refusal ys ≡ None)

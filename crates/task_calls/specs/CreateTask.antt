@@ -1,18 +1,17 @@
 -- The call that creates a task.
-use Rattle.std.specs.Prelude.{◌≡◌, ℕ, ◌+◌, ◌-◌, ◌≤◌, ◌⊎◌, ◌==◌, Bool, false, not, if◌then◌else◌, Option, Some, is_some, unwrap_or, Ok, List, [], ◌∷◌, ◌++◌, find, length, map, nat_lt, replicate}
+use Rattle.std.specs.Prelude.{◌≡◌, ℕ, ◌+◌, ◌-◌, ◌≤◌, ◌⊎◌, ◌==◌, Bool, false, not, if◌then◌else◌, Option, Some, is_some, unwrap_or, Ok, List, [], ◌∷◌, ◌++◌, find, length, nat_lt, replicate}
 use Rattle.std.specs.List.{flat_map, list_any, range_with_len}
-use Rattle.linked_list.specs.Places.{has}
 use Rattle.owned_words.specs.Owned.{row_from}
 use Rattle.hunk_loader.specs.Globals.{globals_in, highest, most_globals, with_globals}
-use Rattle.hunk_loader.specs.HeldModules.{module_address}
 use Rattle.hunk_loader.specs.ModuleHunks.{hunks_in}
-use Rattle.coroutines.specs.CoroutineExchanges.{TaskCoroutines}
 use Rattle.kernel_model.specs.Changes.{with_new_task}
 use Rattle.kernel_model.specs.Lists.{Lists, has_task}
 use Rattle.kernel_model.specs.Task.{Task}
 use Rattle.kernel_model.specs.ValidTasks.{dead, no_regs}
 use Rattle.kernel_model.specs.Versions.{head_words_of, highest_id_of, most_modules_of}
 use Rattle.call_answers.specs.Made.{Made, unless_refused}
+use Rattle.call_answers.specs.Tasks.{no_coroutines}
+use Rattle.call_answers.specs.Modules.{has_module}
 use Rattle.task_calls.specs.ChangePri.{priority_tests}
 use Rattle.block_calls.specs.FreeStore.{data_taken, with_taken}
 use Rattle.block_calls.specs.Getvec.{getvec_tests}
@@ -53,13 +52,9 @@ row_behind s modules u = globals_row s modules ++ replicate (u + 1) 0
 -- of all modules fit (18), and some run is large enough (1)
 abbrev pub creation_tests : List ℕ → Lists → ℕ → List ℕ → ℕ → ℕ → List (Bool × ℕ)
 creation_tests s l id modules u pri =
-    (not (list_any (λ m. not (has m (map module_address l.modules))) modules), 17) ∷ priority_tests l 0 pri
+    (not (list_any (λ m. not (has_module l m)) modules), 17) ∷ priority_tests l 0 pri
     ++ (is_some (number_of l id), 10) ∷ (not (list_any (has_high_globals s) modules), 18)
     ∷ getvec_tests l (last_word_of l.version u)
-
--- a task has no coroutines at first
-abbrev pub no_coroutines : TaskCoroutines
-no_coroutines = record { list = []; active = []; root_p = 0; root_pc = 0 }
 
 -- it is dead
 abbrev pub new_task : Lists → ℕ → List ℕ → ℕ → ℕ → ℕ → Task

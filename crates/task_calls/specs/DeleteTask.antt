@@ -8,15 +8,12 @@ use Rattle.kernel_model.specs.Between.{is_empty_queue}
 use Rattle.kernel_model.specs.Changes.{with_blocks, with_tasks}
 use Rattle.kernel_model.specs.Lists.{Lists, address_of_task}
 use Rattle.kernel_model.specs.Task.{Task, is_guest_id}
-use Rattle.kernel_model.specs.ValidTasks.{dead, runs}
+use Rattle.kernel_model.specs.ValidTasks.{runs}
 use Rattle.call_answers.specs.Guests.{GuestAt, guest_tests}
 use Rattle.call_answers.specs.Made.{Made, done, unless_refused}
 use Rattle.call_answers.specs.Refusals.{first_refusal}
+use Rattle.call_answers.specs.Tasks.{is_dead}
 use Rattle.block_calls.specs.Freevec.{has_packet_in}
-
--- the task with the number is dead
-abbrev pub is_dead : Lists → ℕ → Bool
-is_dead l id = list_any (λ t. (t.id == id) && (t.field == dead)) l.tasks
 
 -- its work queue is empty
 abbrev pub has_no_work : Lists → ℕ → Bool

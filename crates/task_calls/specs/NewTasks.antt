@@ -1,11 +1,10 @@
 -- The words that a new task gets, and what its parts ask.
-use Rattle.std.specs.Prelude.{◌≡◌, ◌≢◌, ◌≤◌, ℕ, ◌+◌, ◌-◌, true, false, Result, Ok, Err, List, [], ◌∷◌, ◌++◌, drop, length, map}
+use Rattle.std.specs.Prelude.{◌≡◌, ◌≢◌, ◌≤◌, ℕ, ◌+◌, ◌-◌, true, false, Result, Ok, Err, List, [], ◌∷◌, ◌++◌, drop, length}
 use Rattle.std.specs.List.{AllByRecursion}
 use Rattle.linked_list.specs.Places.{has}
 use Rattle.owned_words.specs.LinkedWords.{first_of}
 use Rattle.task_block.specs.Lists.{modules_in}
 use Rattle.hunk_loader.specs.GlobalWords.{AreClear}
-use Rattle.hunk_loader.specs.HeldModules.{module_address}
 use Rattle.hunk_loader.specs.ModuleHunks.{module_end}
 use Rattle.kernel_model.specs.Changes.{AreUnowned}
 use Rattle.kernel_model.specs.Lists.{Lists, has_task}
@@ -13,6 +12,7 @@ use Rattle.kernel_model.specs.Task.{Task, filled}
 use Rattle.kernel_model.specs.ValidTasks.{dead}
 use Rattle.kernel_model.specs.Versions.{highest_id_of, most_modules_of}
 use Rattle.call_answers.specs.Made.{Made, unless_refused}
+use Rattle.call_answers.specs.Modules.{has_module}
 use Rattle.block_calls.specs.FreeStore.{has_room}
 use Rattle.block_calls.specs.Getvec.{getvec_tests}
 use Rattle.task_calls.specs.CreateTask.{last_word_of, with_created}
@@ -51,7 +51,7 @@ pub record MayPlace (l : Lists) (number : ℕ) (modules : List ℕ) (pri maker :
   pub lowest : 1 ≤ pri
   pub most_pri : pri ≤ 10000
   pub untaken : AllByRecursion (λ t. t.priority ≢ pri) l.tasks
-  pub listed : AllByRecursion (λ m. has m (map module_address l.modules) ≡ true) modules
+  pub listed : AllByRecursion (λ m. has_module l m ≡ true) modules
   pub made_by : maker ≤ highest_id_of l.version
   pub some_module : 1 ≤ length modules
   pub most : length modules ≤ most_modules_of l.version

@@ -9,10 +9,10 @@ ghost use Rattle.task_calls.specs.DeleteTask.{HasEnded, RunsAlive, delete_task, 
 ghost use Rattle.block_calls.specs.Freevec.{has_packet_in};
 
 use crate::packets_out::has_packet_out;
-use crate::states::DEAD;
 use block_calls::are_unowned;
 use call_answers::codes::{HAS_COROUTINES, NOT_DEAD, PACKET_INSIDE, PACKET_OUT, QUEUE_NOT_EMPTY};
 use call_answers::guest;
+use call_answers::numbers::DEAD;
 use getvec_chain::{block_of, give};
 use task_block::{TcbField, field, head_words, unlink};
 use word_kinds::KindKeeper;

@@ -10,8 +10,8 @@ ghost use Rattle.call_answers.specs.Refusals.{answer_of, first_refusal};
 ghost use Rattle.task_calls.specs.CreateTask.{has_high_globals};
 
 use call_answers::codes::{GLOBALS_TOO_HIGH, NO_MODULE};
+use call_answers::is_module;
 use hunk_loader::globals_fit;
-use task_block::modules as modules_of_store;
 use word_store::Store;
 
 /// Refused where one of these is no module.
@@ -26,19 +26,6 @@ pub(crate) fn check_modules(store: &Store, modules: &[u32]) -> Result<(), u32>
         }
     }
     Ok(())
-}
-
-// Whether a module stands at m.
-fn is_module(store: &Store, m: u32) -> bool
-    requires { CanWalk store.now module_link first_module }
-    ensures { result ≡ has m (modules_in store.now) }
-{
-    for x in modules_of_store(store) {
-        if x == m {
-            return true;
-        }
-    }
-    false
 }
 
 /// Refused where a hunk of one of these modules has a higher number of a global than there are.

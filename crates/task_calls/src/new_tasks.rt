@@ -12,9 +12,9 @@ ghost use Rattle.call_answers.specs.Made.{IsMade};
 ghost use Rattle.task_calls.specs.CreateTask.{new_task};
 ghost use Rattle.task_calls.specs.NewTasks.{IsLastWord, MayPlace, MaySetGlobals, head_row, place_task};
 
-use crate::states::DEAD;
 use block_calls::getvec;
 use call_answers::codes::NO_ROOM;
+use call_answers::numbers::{DEAD, GLOBAL_WORDS};
 use hunk_loader::init_globals;
 use task_block::{TcbField, head_words, insert, set_field};
 use word_kinds::KindKeeper;
@@ -22,9 +22,6 @@ use word_store::{Store, set_word_at, set_words};
 
 /// The highest number of a global, which global 0 holds.
 const MOST_GLOBALS: u32 = 1000;
-
-/// The number of the words of globals.
-const GLOBAL_WORDS: u32 = 1001;
 
 /// Which word of a task block has the second module; the others follow.
 const FURTHER_MODULES: u32 = 23;

@@ -10,18 +10,10 @@ ghost use Rattle.kernel_model.specs.Owned.{clock_head, keyboard_head, output_hea
 ghost use Rattle.kernel_model.specs.Residents.{pending_head};
 ghost use Rattle.task_calls.specs.PacketsOut.{is_sender_at, is_sender_at_device, is_sender_of_read, is_sender_out, is_sender_to, is_sender_to_residents};
 
+use call_answers::numbers::{FIRST_GUEST, READS_HEAD, SENDER};
 use packet_queue::packets;
 use task_block::{RootField, TcbField, field, root, tasks};
 use word_store::{Store, word_at};
-
-/// The lowest number of a guest.
-const FIRST_GUEST: u32 = 5;
-
-/// Which word of a queued packet has its sender.
-const SENDER: u32 = 1;
-
-/// The head of the console's reads that wait for a line.
-const PENDING_HEAD: u32 = 270;
 
 /// Whether a resident or a device has a packet from the task with the number, or one of its reads waits for a line.
 pub(crate) fn has_packet_out(store: &Store, id: u32) -> bool
@@ -86,7 +78,7 @@ fn is_sender_of_read(store: &Store, id: u32) -> bool
     if root(store, RootField::Residents) == 0 {
         return false;
     }
-    is_sender_at(store, PENDING_HEAD, id)
+    is_sender_at(store, READS_HEAD, id)
 }
 
 // Whether a packet that is queued at the head is.

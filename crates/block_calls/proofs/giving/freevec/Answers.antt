@@ -9,8 +9,9 @@ use Rattle.kernel_model.specs.HoldsLists.{HoldsLists}
 use Rattle.kernel_model.specs.Lists.{Lists}
 use Rattle.kernel_model.proofs.FollowedBlocks.{found-within}
 use Rattle.call_answers.proofs.FoundTask.{reads}
+use Rattle.call_answers.proofs.MadeCalls.{handed-plain}
 use Rattle.block_calls.specs.Freevec.{freevec}
-use Rattle.block_calls.proofs.GivenBlock.{given-made, given-no_users, given-packet, handed-plain}
+use Rattle.block_calls.proofs.GivenBlock.{given-made, given-no_users, given-packet}
 use Rattle.block_calls.proofs.giving.freevec.Goals as goal
 
 some-word : (l : Lists) (s : List ℕ) (v : ℕ) (b : Block) → HoldsLists s l → used_at v l.blocks ≡ Some b → 1 ≤ b.size

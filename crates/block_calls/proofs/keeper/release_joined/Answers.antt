@@ -1,7 +1,8 @@
 use Rattle.std.proofs.Common.{◌++◌, append-nil, append_assoc, ap, sym, ◌∙◌, subst}
-use Rattle.block_calls.specs.ToldWords.{WasReleased, joined_starts}
+use Rattle.word_kinds.specs.ToldWords.{WasReleased}
+use Rattle.block_calls.specs.JoinedStarts.{joined_starts}
 use Rattle.block_calls.proofs.JoinedRuns.{joined-more, joined-so_far}
-use Rattle.block_calls.proofs.ToldWords.{released-both}
+use Rattle.word_kinds.proofs.ToldWords.{released-both}
 use Rattle.block_calls.proofs.keeper.release_joined.Goals as goal
 
 pub returns-then-block-run-clause-released : goal.returns-then-block-run-clause-released

@@ -1,6 +1,7 @@
 use Rattle.std.proofs.Common.{◌≡◌, ◌++◌}
 use Rattle.getvec_chain.specs.Tiling.{blocks_in}
-use Rattle.block_calls.specs.ToldWords.{WasReleased, joined_starts}
+use Rattle.word_kinds.specs.ToldWords.{WasReleased}
+use Rattle.block_calls.specs.JoinedStarts.{joined_starts}
 use Rattle.block_calls.proofs.keeper.release_joined.Given as goal
 
 abbrev pub invariant-loop-block : goal.invariant-loop-block

@@ -1,6 +1,6 @@
 use Rattle.std.proofs.Common.{[], ◌∷◌, cond, sym, ◌∙◌, subst}
-use Rattle.block_calls.specs.ToldWords.{WasReleased}
-use Rattle.block_calls.proofs.ToldWords.{released-none, released-one}
+use Rattle.word_kinds.specs.ToldWords.{WasReleased}
+use Rattle.word_kinds.proofs.ToldWords.{released-none, released-one}
 use Rattle.block_calls.proofs.keeper.release_start.Goals as goal
 
 pub returns-then-not-is_joined-clause-released : goal.returns-then-not-is_joined-clause-released

@@ -7,7 +7,7 @@ use Rattle.getvec_chain.proofs.Runs.{FoundRun}
 use Rattle.kernel_model.specs.HoldsLists.{HoldsLists}
 use Rattle.kernel_model.specs.Lists.{Lists}
 use Rattle.call_answers.proofs.FoundTask.{reads}
-use Rattle.block_calls.proofs.OwnedMarks.{size-low}
+use Rattle.word_kinds.proofs.OwnedMarks.{size-low}
 use Rattle.block_calls.proofs.TakenWords.{found, knows-take}
 use Rattle.block_calls.proofs.keeper.tell_take.Goals as goal
 

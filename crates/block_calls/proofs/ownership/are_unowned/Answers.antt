@@ -1,7 +1,7 @@
 use Rattle.std.proofs.Common.{◌+◌}
 use Rattle.kernel_model.specs.Owned.{owned}
 use Rattle.word_kinds.proofs.KnownWords.{addresses, store-of, tells-owned}
-use Rattle.block_calls.proofs.OwnedMarks.{clear-unowned}
+use Rattle.word_kinds.proofs.OwnedMarks.{clear-unowned}
 use Rattle.block_calls.proofs.ownership.are_unowned.Goals as goal
 
 pub clear-requires : goal.clear-requires

@@ -4,8 +4,9 @@ use Rattle.std.proofs.lemmas.Result.{err_from_is_err_and}
 use Rattle.getvec_chain.specs.Take.{IsTaken}
 use Rattle.call_answers.proofs.FoundTask.{reads}
 use Rattle.call_answers.specs.Made.{IsMade}
+use Rattle.call_answers.proofs.MadeCalls.{handed-on}
 use Rattle.block_calls.specs.Getvec.{getvec}
-use Rattle.block_calls.proofs.TakenBlock.{getvec-made, getvec-refused, handed-on}
+use Rattle.block_calls.proofs.TakenBlock.{getvec-made, getvec-refused}
 use Rattle.block_calls.proofs.taking.getvec.Goals as goal
 
 pub returns-in_err-tell_take-clause-made : goal.returns-in_err-tell_take-clause-made

@@ -1,6 +1,7 @@
 use Rattle.std.proofs.Common.{sym, ◌∙◌}
 use Rattle.kernel_model.proofs.WalkedLists.{can-walk}
-use Rattle.block_calls.proofs.BlockUses.{coroutines-told, modules-told, residents-told, tasks-told, use-coroutine, use-module, use-residents, use-task}
+use Rattle.call_answers.proofs.ListedModules.{module-told}
+use Rattle.block_calls.proofs.BlockUses.{coroutines-told, residents-told, tasks-told, use-coroutine, use-module, use-residents, use-task}
 use Rattle.block_calls.proofs.uses.is_of_lists.Goals as goal
 
 pub returns-then-is_of_residents : goal.returns-then-is_of_residents
@@ -22,7 +23,7 @@ pub returns-then-is_module : goal.returns-then-is_module
 returns-then-is_module c = λ l h.
     use-module l c.args.v (sym (residents-told c.args.store.now l c.args.v h) ∙ sym c.is_of_residents.ensures ∙ c.if-is_of_residents.false)
     (sym (tasks-told c.args.store.now l c.args.v h) ∙ sym c.is_task.ensures ∙ c.if-is_task.false)
-    (sym (modules-told c.args.store.now l c.args.v h) ∙ sym c.is_module.ensures ∙ c.if-is_module.true)
+    (sym (module-told c.args.store.now l c.args.v h) ∙ sym c.is_module.ensures ∙ c.if-is_module.true)
 
 pub is_coroutine-requires-clause-chain : goal.is_coroutine-requires-clause-chain
 is_coroutine-requires-clause-chain c = (can-walk c.args.store.now c.requires.0 c.requires.1).chain
@@ -35,4 +36,4 @@ returns c = λ l h.
     c.is_coroutine.ensures ∙ coroutines-told c.args.store.now l c.args.v h
     ∙ use-coroutine l c.args.v (sym (residents-told c.args.store.now l c.args.v h) ∙ sym c.is_of_residents.ensures ∙ c.if-is_of_residents.false)
     (sym (tasks-told c.args.store.now l c.args.v h) ∙ sym c.is_task.ensures ∙ c.if-is_task.false)
-    (sym (modules-told c.args.store.now l c.args.v h) ∙ sym c.is_module.ensures ∙ c.if-is_module.false)
+    (sym (module-told c.args.store.now l c.args.v h) ∙ sym c.is_module.ensures ∙ c.if-is_module.false)

@@ -1,7 +1,7 @@
 use Rattle.std.proofs.Common.{arith, ◌+◌}
 use Rattle.kernel_model.specs.Lists.{Lists}
+use Rattle.call_answers.proofs.RootTold.{tick-told}
 use Rattle.clock_device.specs.Tick.{with_tick}
-use Rattle.clock_device.proofs.TickLists.{tick-told}
 use Rattle.clock_device.proofs.WholeTick.{tick-held, tick-noted, tick-served}
 use Rattle.clock_device.proofs.ticks.tick.Goals as goal
 

@@ -1,11 +1,12 @@
-use Rattle.std.proofs.Common.{◌≡◌, ◌≢◌, ◌∙◌, ◌+◌, ℕ, List, [], ◌∷◌, Option, Some, None, Bool, get_or, set, sym, subst, ap}
-use Rattle.std.proofs.lemmas.Bool.{false≢true}
+use Rattle.std.proofs.Common.{◌≡◌, ◌≢◌, ◌∙◌, ◌+◌, ℕ, List, [], ◌∷◌, Option, Some, None, Bool, true, eqb, get_or, refl, sym, subst, ap}
+use Rattle.std.proofs.lemmas.Bool.{eq-eqb, false≢true, or_left}
 use Rattle.word_store.specs.Arithmetic.{signed}
+use Rattle.linked_list.specs.Places.{has}
 use Rattle.packet_queue.specs.Log.{Notes}
 use Rattle.packet_queue.specs.declared.events.KernelEvent.{KernelEvent}
 use Rattle.packet_queue.specs.declared.events.KernelEvent.TheVariants.{Accepted, Taken}
-use Rattle.packet_queue.specs.Queue.{CanQueue, HasQueue}
-use Rattle.packet_queue.specs.QueueWords.{first_packet}
+use Rattle.packet_queue.specs.Queue.{CanQueue, HasQueue, queue_at}
+use Rattle.packet_queue.specs.QueueWords.{HeldQueue}
 use Rattle.task_block.specs.TaskChain.{task_with, tasks_in}
 use Rattle.kernel_model.specs.Changes.{queue_of}
 use Rattle.kernel_model.specs.HoldsLists.{HoldsLists}
@@ -13,132 +14,81 @@ use Rattle.kernel_model.specs.Lists.{Lists}
 use Rattle.kernel_model.specs.NotedEvents.{NotesAll}
 use Rattle.kernel_model.proofs.NotedInTurn.{notes-none, notes-one, notes-then}
 use Rattle.call_answers.proofs.FoundTask.{Finds, TaskAt, find-task, reads}
+use Rattle.packet_moves.specs.Destinations.{queue_for}
+use Rattle.packet_moves.specs.PacketMoves.{stands_in}
+use Rattle.packet_moves.specs.QueueWords as moves
+use Rattle.packet_moves.specs.declared.queues.Queue.{Queue}
+use Rattle.packet_moves.specs.declared.queues.Queue.TheVariants.{OfTask}
+use Rattle.packet_moves.proofs.HeldPlaces.{HasFirst, has-at, stands-at}
 use Rattle.device_returns.specs.Returned.{IsServed, first_returned, head_of, number_of, place_of}
-use Rattle.device_returns.specs.ReturnWords.{moved_words, set_words_of}
 use Rattle.device_returns.specs.declared.returns.Device.{Device}
-use Rattle.device_returns.proofs.DeviceQueues.{HasFirst, first-next, first-sender, one-waits, returned-none, served-none}
+use Rattle.device_returns.specs.declared.returns.Device.TheVariants.{OfClock, OfKeys, OfOutput}
+use Rattle.device_returns.proofs.DeviceQueues.{device-held, device-place, one-waits, returned-none, served-none}
 use Rattle.device_returns.proofs.ReturnedLists.{sender-there}
-use Rattle.device_returns.proofs.ReturnedWords.{can-append, can-queue, returned-served, state-room}
+use Rattle.device_returns.proofs.ReturnedWords.{returned-packet, returned-queue, returned-served}
 use Rattle.device_returns.proofs.returns.return_first.Goals as goal
 
--- the first packet, by what the function read
-first-of : (s : List ℕ) (l : Lists) (d : Device) (h : HoldsLists s l) (head p : ℕ) → head ≡ head_of d → p ≡ get_or s head 0 → p ≢ 0 → HasFirst p (queue_of (place_of d) l)
-first-of s l d h head p at is some = one-waits s l d h p (is ∙ ap (λ a. get_or s a 0) at) some
+head-same : (l : Lists) (d : Device) → moves.head_of (queue_for l (place_of d)) ≡ head_of d
+head-same l OfClock = refl
+head-same l OfKeys = refl
+head-same l OfOutput = refl
 
-none-first : (s : List ℕ) (d : Device) (head p : ℕ) → head ≡ head_of d → p ≡ get_or s head 0 → p ≡ 0 → get_or s (head_of d) 0 ≡ 0
-none-first s d head p at is none = ap (λ a. get_or s a 0) (sym at) ∙ sym is ∙ none
+-- the queue of the device, and its first packet
+module _ (s : List ℕ) (l : Lists) (d : Device) (h : HoldsLists s l) (queue : Queue) (at : queue ≡ queue_for l (place_of d)) where
+  has-queue : HasQueue s (moves.head_of queue)
+  has-queue = subst (λ q. HasQueue s (moves.head_of q)) (sym at) (stands-at s l (place_of d) h (device-place l d))
 
--- the task that sent it
-sender-of : (s : List ℕ) (l : Lists) (d : Device) (h : HoldsLists s l) (p sender : ℕ) (f : HasFirst p (queue_of (place_of d) l)) → sender ≡ get_or s (p + 1) 0
-    → (o : Option ℕ) → o ≡ task_with s sender (tasks_in s) → Finds f.packet.sender l.tasks o
-sender-of s l d h p sender f read o is =
-    subst (Finds f.packet.sender l.tasks) (sym (is ∙ ap (λ z. task_with s z (tasks_in s)) (read ∙ first-sender s l d h p f))) (find-task s l f.packet.sender h)
+  module _ (p : ℕ) (is : p ≡ get_or s (moves.head_of queue) 0) where
+    first-read : p ≡ get_or s (head_of d) 0
+    first-read = is ∙ (λ i. get_or s (moves.head_of (at i)) 0) ∙ ap (λ a. get_or s a 0) (head-same l d)
 
--- the store once the packet went out of the device's queue
-out-of : (s v : List ℕ) (l : Lists) (d : Device) (h : HoldsLists s l) (head p next : ℕ) (f : HasFirst p (queue_of (place_of d) l)) → head ≡ head_of d → next ≡ get_or s p 0 → v ≡ set s head next
-    → v ≡ set s (head_of d) (first_packet f.back)
-out-of s v l d h head p next f at read is = is ∙ (λ i. set s (at i) ((read ∙ first-next s l d h p f) i))
+    nothing-read : p ≡ 0 → get_or s (head_of d) 0 ≡ 0
+    nothing-read none = sym first-read ∙ none
 
-pub returns-then-p-eq0-clause-lists : goal.returns-then-p-eq0-clause-lists
-returns-then-p-eq0-clause-lists g c = λ l h.
-    subst (IsServed c.args.store.now c.args.store.now l)
-    (sym (returned-none c.args.store.now l c.args.device h c.args.res1 (none-first c.args.store.now c.args.device c.head-head.result c.word-p.result c.head-head.ensures c.word-p.ensures c.if-p-eq0.true)))
-    (served-none c.args.store.now l c.args.device h)
+    module _ (some : p ≢ 0) where
+      one : HasFirst p (queue_of (place_of d) l)
+      one = one-waits s l d h p first-read some
 
-pub returns-then-p-eq0-clause-notes : goal.returns-then-p-eq0-clause-notes
-returns-then-p-eq0-clause-notes g c = λ l h.
-    subst (λ m. NotesAll (g.L.EventLog.noted c.args.log.now) (g.L.EventLog.noted c.args.log.now) (g.L.EventLog.has_failed c.args.log.now) (g.L.EventLog.has_failed c.args.log.now) m.events)
-    (sym (returned-none c.args.store.now l c.args.device h c.args.res1 (none-first c.args.store.now c.args.device c.head-head.result c.word-p.result c.head-head.ensures c.word-p.ensures c.if-p-eq0.true)))
-    (notes-none (g.L.EventLog.noted c.args.log.now) (g.L.EventLog.has_failed c.args.log.now))
+      first-sender : get_or s (p + 1) 0 ≡ one.packet.sender
+      first-sender = subst (λ z. get_or s (z + 1) 0 ≡ one.packet.sender) one.address (subst (HeldQueue s (head_of d)) one.is (device-held s l d h)).holds.1.1.0
 
-pub find-requires : goal.find-requires
-find-requires g c = (reads c.args.store.now c.requires.0 c.requires.1).tasks.tasks
+      sender-of : (sender : ℕ) → sender ≡ get_or s (p + 1) 0 → (o : Option ℕ) → o ≡ task_with s sender (tasks_in s) → Finds one.packet.sender l.tasks o
+      sender-of sender read o found = subst (Finds one.packet.sender l.tasks) (sym (found ∙ ap (λ z. task_with s z (tasks_in s)) (read ∙ first-sender))) (find-task s l one.packet.sender h)
 
--- its sender is found
-is-found : (s : List ℕ) (l : Lists) (d : Device) (h : HoldsLists s l) (head p sender : ℕ) → head ≡ head_of d → p ≡ get_or s head 0 → p ≢ 0 → sender ≡ get_or s (p + 1) 0
-    → (o : Option ℕ) → o ≡ task_with s sender (tasks_in s) → o ≡ None → ⊥
-is-found s l d h head p sender at is some read o found none =
-    let f = first-of s l d h head p at is some in
-    false≢true (sym (subst (Finds f.packet.sender l.tasks) none (sender-of s l d h p sender f read o found)) ∙ sender-there l f.packet f.back h.valid d f.is)
+      sends : (sender task : ℕ) → sender ≡ get_or s (p + 1) 0 → (o : Option ℕ) → o ≡ task_with s sender (tasks_in s) → o ≡ Some task → TaskAt l.tasks one.packet.sender task
+      sends sender task read o found there = subst (Finds one.packet.sender l.tasks) there (sender-of sender read o found)
 
-pub returns-in_default-clause-lists : goal.returns-in_default-clause-lists
-returns-in_default-clause-lists g c = λ l h.
-    absurd (is-found c.args.store.now l c.args.device h c.head-head.result c.word-p.result c.word_at-sender.result c.head-head.ensures c.word-p.ensures c.if-p-eq0.false c.word_at-sender.ensures
-    c.find.result c.find.ensures c.in_default.is)
+      is-found : (sender : ℕ) → sender ≡ get_or s (p + 1) 0 → (o : Option ℕ) → o ≡ task_with s sender (tasks_in s) → o ≡ None → ⊥
+      is-found sender read o found none =
+          false≢true (sym (subst (Finds one.packet.sender l.tasks) none (sender-of sender read o found)) ∙ sender-there l one.packet one.back h.valid d one.is)
 
-pub returns-in_default-clause-notes : goal.returns-in_default-clause-notes
-returns-in_default-clause-notes g c = λ l h.
-    absurd (is-found c.args.store.now l c.args.device h c.head-head.result c.word-p.result c.word_at-sender.result c.head-head.ensures c.word-p.ensures c.if-p-eq0.false c.word_at-sender.ensures
-    c.find.result c.find.ensures c.in_default.is)
+      has-packet : has p (queue_at s (moves.head_of queue)) ≡ true
+      has-packet =
+          subst (λ q. has p (queue_at s (moves.head_of q)) ≡ true) (sym at)
+          (has-at s l (place_of d) h (device-place l d) p
+          ∙ ap (stands_in p) one.is
+          ∙ or_left (eqb p one.packet.address) (stands_in p one.back) (eq-eqb p one.packet.address (sym one.address)))
 
--- the packet's words are set, where it went out
-set-of : (s v : List ℕ) (l : Lists) (d : Device) (h : HoldsLists s l) (p from res1 : ℕ) (f : HasFirst p (queue_of (place_of d) l)) → v ≡ set s (head_of d) (first_packet f.back) → from ≡ number_of d
-    → set_words_of v p from res1 ≡ set_words_of (set s (head_of d) (first_packet f.back)) f.packet.address (number_of d) res1
-set-of s v l d h p from res1 f out number = λ i. set_words_of (out i) (sym f.address i) (number i) res1
+      -- once it went out
+      module _ (v : List ℕ) (from task res1 : ℕ) (out : v ≡ moves.unqueued s queue p) (number : from ≡ number_of d) (to : TaskAt l.tasks one.packet.sender task) where
+        words : moves.with_results v p from res1 0
+            ≡ moves.with_results (moves.unqueued s (queue_for l (place_of d)) one.packet.address) one.packet.address (number_of d) res1 0
+        words =
+            ap (λ z. moves.with_results z p from res1 0) out
+            ∙ (λ i. moves.with_results (moves.unqueued s (at i) (sym one.address i)) (sym one.address i) (number i) res1 0)
 
--- what the function has found out before it gives the packet back
-record IsReady (s v : List ℕ) (l : Lists) (d : Device) (h : HoldsLists s l) (p from task : ℕ) : Type 0 where
-  pub one : HasFirst p (queue_of (place_of d) l)
-  pub to : TaskAt l.tasks one.packet.sender task
-  pub out : v ≡ set s (head_of d) (first_packet one.back)
-  pub number : from ≡ number_of d
+        back-queue : HasQueue (moves.with_results v p from res1 0) (moves.head_of (OfTask task))
+        back-queue = subst (λ z. HasQueue z (moves.head_of (OfTask task))) (sym words) (returned-queue s l d one.packet one.back res1 h one.is task to)
 
-ready : (s v : List ℕ) (l : Lists) (d : Device) (h : HoldsLists s l) (head p sender task from next : ℕ) (o : Option ℕ) → head ≡ head_of d → p ≡ get_or s head 0 → p ≢ 0 → sender ≡ get_or s (p + 1) 0
-    → o ≡ task_with s sender (tasks_in s) → o ≡ Some task → from ≡ number_of d → next ≡ get_or s p 0 → v ≡ set s head next → IsReady s v l d h p from task
-ready s v l d h head p sender task from next o at is some read found there number read' set' =
-    let f : HasFirst p (queue_of (place_of d) l) = first-of s l d h head p at is some in
-    record { one = f; to = subst (Finds f.packet.sender l.tasks) there (sender-of s l d h p sender f read o found); out = out-of s v l d h head p next f at read' set'; number = number }
+        back-packet : CanQueue (moves.with_results v p from res1 0) (moves.head_of (OfTask task)) p
+        back-packet =
+            subst (CanQueue (moves.with_results v p from res1 0) (moves.head_of (OfTask task))) one.address
+            (subst (λ z. CanQueue z (moves.head_of (OfTask task)) one.packet.address) (sym words) (returned-packet s l d one.packet one.back res1 h one.is task to))
 
-module _ (s v : List ℕ) (l : Lists) (d : Device) (h : HoldsLists s l) (p from task res1 : ℕ) (r : IsReady s v l d h p from task) where
-  words : set_words_of v p from res1 ≡ set_words_of (set s (head_of d) (first_packet r.one.back)) r.one.packet.address (number_of d) res1
-  words = set-of s v l d h p from res1 r.one r.out r.number
-
-  ready-queue : HasQueue (set_words_of v p from res1) (task + 3)
-  ready-queue =
-      subst (λ z. HasQueue z (task + 3)) (sym words) (subst (λ t. HasQueue (set_words_of (set s (head_of d) (first_packet r.one.back)) r.one.packet.address (number_of d) res1) (t + 3)) r.to.at
-      (can-append s l d r.one.packet r.one.back task res1 h r.one.is r.to))
-
-  ready-packet : CanQueue (set_words_of v p from res1) (task + 3) p
-  ready-packet =
-      subst (λ z. CanQueue z (task + 3) p) (sym words)
-      (subst (CanQueue (set_words_of (set s (head_of d) (first_packet r.one.back)) r.one.packet.address (number_of d) res1) (task + 3)) r.one.address
-      (subst (λ t. CanQueue (set_words_of (set s (head_of d) (first_packet r.one.back)) r.one.packet.address (number_of d) res1) (t + 3) r.one.packet.address) r.to.at
-      (can-queue s l d r.one.packet r.one.back task res1 h r.one.is r.to)))
-
-  ready-state : get_or (set_words_of v p from res1) (task + 4) 0 ≢ 4294967295
-  ready-state e =
-      state-room s l d r.one.packet r.one.back task res1 h r.one.is r.to
-      (ap (λ t. get_or (set_words_of (set s (head_of d) (first_packet r.one.back)) r.one.packet.address (number_of d) res1) (t + 4) 0) r.to.at ∙ ap (λ z. get_or z (task + 4) 0) (sym words) ∙ e)
-
-  ready-served : (w : List ℕ) → w ≡ moved_words v task p from res1 → IsServed s w l (first_returned d res1 (queue_of (place_of d) l) l)
-  ready-served w is =
-      let served = returned-served s l d r.one.packet r.one.back task res1 h r.one.is r.to w (is ∙ (λ i. moved_words (r.out i) task (sym r.one.address i) (r.number i) res1)) in
-      subst (λ ps. IsServed s w l (first_returned d res1 ps l)) (sym r.one.is) (record { lists = served.lists; same = served.same })
-
-pub give_back-requires-clause-queue : goal.give_back-requires-clause-queue
-give_back-requires-clause-queue g c =
-    ready-queue c.args.store.now c.set.new.self c.requires.0 c.args.device c.requires.1 c.word-p.result c.number-from.result c.in-Some.task c.args.res1
-    (ready c.args.store.now c.set.new.self c.requires.0 c.args.device c.requires.1 c.head-head.result c.word-p.result c.word_at-sender.result c.in-Some.task c.number-from.result c.word-next.result c.find.result
-    c.head-head.ensures c.word-p.ensures c.if-p-eq0.false c.word_at-sender.ensures c.find.ensures c.in-Some.is c.number-from.ensures c.word-next.ensures c.set.ensures.after)
-
-pub give_back-requires-clause-packet : goal.give_back-requires-clause-packet
-give_back-requires-clause-packet g c =
-    ready-packet c.args.store.now c.set.new.self c.requires.0 c.args.device c.requires.1 c.word-p.result c.number-from.result c.in-Some.task c.args.res1
-    (ready c.args.store.now c.set.new.self c.requires.0 c.args.device c.requires.1 c.head-head.result c.word-p.result c.word_at-sender.result c.in-Some.task c.number-from.result c.word-next.result c.find.result
-    c.head-head.ensures c.word-p.ensures c.if-p-eq0.false c.word_at-sender.ensures c.find.ensures c.in-Some.is c.number-from.ensures c.word-next.ensures c.set.ensures.after)
-
-pub give_back-requires-clause-state : goal.give_back-requires-clause-state
-give_back-requires-clause-state g c =
-    ready-state c.args.store.now c.set.new.self c.requires.0 c.args.device c.requires.1 c.word-p.result c.number-from.result c.in-Some.task c.args.res1
-    (ready c.args.store.now c.set.new.self c.requires.0 c.args.device c.requires.1 c.head-head.result c.word-p.result c.word_at-sender.result c.in-Some.task c.number-from.result c.word-next.result c.find.result
-    c.head-head.ensures c.word-p.ensures c.if-p-eq0.false c.word_at-sender.ensures c.find.ensures c.in-Some.is c.number-from.ensures c.word-next.ensures c.set.ensures.after)
-
-pub returns-clause-lists : goal.returns-clause-lists
-returns-clause-lists g c = λ l h.
-    ready-served c.args.store.now c.set.new.self l c.args.device h c.word-p.result c.number-from.result c.in-Some.task c.args.res1
-    (ready c.args.store.now c.set.new.self l c.args.device h c.head-head.result c.word-p.result c.word_at-sender.result c.in-Some.task c.number-from.result c.word-next.result c.find.result
-    c.head-head.ensures c.word-p.ensures c.if-p-eq0.false c.word_at-sender.ensures c.find.ensures c.in-Some.is c.number-from.ensures c.word-next.ensures c.set.ensures.after)
-    c.give_back.new.store c.give_back.ensures
+        served : (w : List ℕ) → w ≡ moves.enqueued (moves.with_results v p from res1 0) (OfTask task) p 0 → IsServed s w l (first_returned d res1 (queue_of (place_of d) l) l)
+        served w is_w =
+            let r = returned-served s l d one.packet one.back res1 h one.is task to w (is_w ∙ (λ i. moves.enqueued (words i) (OfTask task) (sym one.address i) 0)) in
+            subst (λ ps. IsServed s w l (first_returned d res1 ps l)) (sym one.is) (record { lists = r.lists; same = r.same })
 
 -- the two events
 both-noted : (b m n : Option (List KernelEvent)) (x y z : Bool) (d : Device) (res1 : ℕ) (l : Lists) (p from sender : ℕ) (f : HasFirst p (queue_of (place_of d) l)) (e e' : KernelEvent)
@@ -155,9 +105,75 @@ both-noted b m n x y z d res1 l p from sender f e e' is is' number read one two 
     e2 : KernelEvent
     e2 = Accepted (signed f.packet.sender) f.packet.address (signed (number_of d))
 
+pub first-p-requires : goal.first-p-requires
+first-p-requires g c = has-queue c.args.store.now c.requires.0 c.args.device c.requires.1 c.queue-queue.result (c.queue-queue.ensures c.requires.0)
+
+pub returns-then-p-eq0-clause-lists : goal.returns-then-p-eq0-clause-lists
+returns-then-p-eq0-clause-lists g c = λ l h.
+    subst (IsServed c.args.store.now c.args.store.now l)
+    (sym (returned-none c.args.store.now l c.args.device h c.args.res1
+    (nothing-read c.args.store.now l c.args.device h c.queue-queue.result (c.queue-queue.ensures l) c.first-p.result c.first-p.ensures c.if-p-eq0.true)))
+    (served-none c.args.store.now l c.args.device h)
+
+pub returns-then-p-eq0-clause-notes : goal.returns-then-p-eq0-clause-notes
+returns-then-p-eq0-clause-notes g c = λ l h.
+    subst (λ m. NotesAll (g.L.EventLog.noted c.args.log.now) (g.L.EventLog.noted c.args.log.now) (g.L.EventLog.has_failed c.args.log.now) (g.L.EventLog.has_failed c.args.log.now) m.events)
+    (sym (returned-none c.args.store.now l c.args.device h c.args.res1
+    (nothing-read c.args.store.now l c.args.device h c.queue-queue.result (c.queue-queue.ensures l) c.first-p.result c.first-p.ensures c.if-p-eq0.true)))
+    (notes-none (g.L.EventLog.noted c.args.log.now) (g.L.EventLog.has_failed c.args.log.now))
+
+pub find-requires : goal.find-requires
+find-requires g c = (reads c.args.store.now c.requires.0 c.requires.1).tasks.tasks
+
+pub returns-in_default-clause-lists : goal.returns-in_default-clause-lists
+returns-in_default-clause-lists g c = λ l h.
+    absurd (is-found c.args.store.now l c.args.device h c.queue-queue.result (c.queue-queue.ensures l) c.first-p.result c.first-p.ensures c.if-p-eq0.false c.word_at-sender.result
+    c.word_at-sender.ensures c.find.result c.find.ensures c.in_default.is)
+
+pub returns-in_default-clause-notes : goal.returns-in_default-clause-notes
+returns-in_default-clause-notes g c = λ l h.
+    absurd (is-found c.args.store.now l c.args.device h c.queue-queue.result (c.queue-queue.ensures l) c.first-p.result c.first-p.ensures c.if-p-eq0.false c.word_at-sender.result
+    c.word_at-sender.ensures c.find.result c.find.ensures c.in_default.is)
+
+pub unqueue-requires-clause-queue : goal.unqueue-requires-clause-queue
+unqueue-requires-clause-queue g c = has-queue c.args.store.now c.requires.0 c.args.device c.requires.1 c.queue-queue.result (c.queue-queue.ensures c.requires.0)
+
+pub unqueue-requires-clause-packet : goal.unqueue-requires-clause-packet
+unqueue-requires-clause-packet g c =
+    has-packet c.args.store.now c.requires.0 c.args.device c.requires.1 c.queue-queue.result (c.queue-queue.ensures c.requires.0) c.first-p.result c.first-p.ensures c.if-p-eq0.false
+
+pub give_back-requires-clause-queue : goal.give_back-requires-clause-queue
+give_back-requires-clause-queue g c =
+    let l = c.requires.0 in
+    let s = c.args.store.now in
+    back-queue s l c.args.device c.requires.1 c.queue-queue.result (c.queue-queue.ensures l) c.first-p.result c.first-p.ensures c.if-p-eq0.false c.unqueue.new.store c.number-from.result c.in-Some.task
+    c.args.res1 c.unqueue.ensures c.number-from.ensures
+    (sends s l c.args.device c.requires.1 c.queue-queue.result (c.queue-queue.ensures l) c.first-p.result c.first-p.ensures c.if-p-eq0.false c.word_at-sender.result c.in-Some.task c.word_at-sender.ensures
+    c.find.result c.find.ensures c.in-Some.is)
+
+pub give_back-requires-clause-packet : goal.give_back-requires-clause-packet
+give_back-requires-clause-packet g c =
+    let l = c.requires.0 in
+    let s = c.args.store.now in
+    back-packet s l c.args.device c.requires.1 c.queue-queue.result (c.queue-queue.ensures l) c.first-p.result c.first-p.ensures c.if-p-eq0.false c.unqueue.new.store c.number-from.result c.in-Some.task
+    c.args.res1 c.unqueue.ensures c.number-from.ensures
+    (sends s l c.args.device c.requires.1 c.queue-queue.result (c.queue-queue.ensures l) c.first-p.result c.first-p.ensures c.if-p-eq0.false c.word_at-sender.result c.in-Some.task c.word_at-sender.ensures
+    c.find.result c.find.ensures c.in-Some.is)
+
+pub returns-clause-lists : goal.returns-clause-lists
+returns-clause-lists g c = λ l h.
+    let s = c.args.store.now in
+    served s l c.args.device h c.queue-queue.result (c.queue-queue.ensures l) c.first-p.result c.first-p.ensures c.if-p-eq0.false c.unqueue.new.store c.number-from.result c.in-Some.task c.args.res1
+    c.unqueue.ensures c.number-from.ensures
+    (sends s l c.args.device h c.queue-queue.result (c.queue-queue.ensures l) c.first-p.result c.first-p.ensures c.if-p-eq0.false c.word_at-sender.result c.in-Some.task c.word_at-sender.ensures
+    c.find.result c.find.ensures c.in-Some.is)
+    c.give_back.new.store c.give_back.ensures
+
 pub returns-clause-notes : goal.returns-clause-notes
 returns-clause-notes g c = λ l h.
-    let f = first-of c.args.store.now l c.args.device h c.head-head.result c.word-p.result c.head-head.ensures c.word-p.ensures c.if-p-eq0.false in
+    let s = c.args.store.now in
+    let f = one s l c.args.device h c.queue-queue.result (c.queue-queue.ensures l) c.first-p.result c.first-p.ensures c.if-p-eq0.false in
     both-noted (g.L.EventLog.noted c.args.log.now) (g.L.EventLog.noted c.note.new.self) (g.L.EventLog.noted c.note-2.new.self) (g.L.EventLog.has_failed c.args.log.now) (g.L.EventLog.has_failed c.note.new.self)
-    (g.L.EventLog.has_failed c.note-2.new.self) c.args.device c.args.res1 l c.word-p.result c.number-from.result c.word_at-sender.result f c.taken.result c.accepted.result c.taken.ensures c.accepted.ensures
-    c.number-from.ensures (c.word_at-sender.ensures ∙ first-sender c.args.store.now l c.args.device h c.word-p.result f) c.note.ensures c.note-2.ensures
+    (g.L.EventLog.has_failed c.note-2.new.self) c.args.device c.args.res1 l c.first-p.result c.number-from.result c.word_at-sender.result f c.taken.result c.accepted.result c.taken.ensures c.accepted.ensures
+    c.number-from.ensures
+    (c.word_at-sender.ensures ∙ first-sender s l c.args.device h c.queue-queue.result (c.queue-queue.ensures l) c.first-p.result c.first-p.ensures c.if-p-eq0.false) c.note.ensures c.note-2.ensures

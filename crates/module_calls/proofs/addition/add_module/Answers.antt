@@ -6,12 +6,12 @@ use Rattle.hunk_loader.proofs.HeldModuleLists.{held-modules}
 use Rattle.task_block.specs.Versions.{module_index, most_modules}
 use Rattle.kernel_model.specs.Versions.{most_modules_of}
 use Rattle.call_answers.proofs.FoundTask.{reads}
-use Rattle.block_calls.proofs.TakenBlock.{handed-on}
+use Rattle.call_answers.proofs.MadeCalls.{handed-on}
+use Rattle.call_answers.proofs.ListedModules.{module-told}
 use Rattle.module_calls.specs.AddModule.{add_module}
 use Rattle.module_calls.proofs.AddedModule.{globals-changed}
 use Rattle.module_calls.proofs.AdditionCall.{add-made, add-no_guest, add-packet, add-unchecked}
 use Rattle.module_calls.proofs.AdditionTests.{checks-passed, most-told, room-is}
-use Rattle.module_calls.proofs.ModuleUses.{module-told}
 use Rattle.module_calls.proofs.TaskGlobals.{globals-clear, globals-told}
 use Rattle.module_calls.proofs.addition.add_module.Goals as goal
 

@@ -13,9 +13,9 @@ use Rattle.hunk_loader.proofs.HeldModuleLists.{held-modules}
 use Rattle.kernel_model.specs.ChangedStore.{Knows}
 use Rattle.call_answers.specs.Made.{IsMade}
 use Rattle.call_answers.proofs.FoundTask.{reads}
+use Rattle.call_answers.proofs.MadeCalls.{handed-on}
 use Rattle.block_calls.specs.FreeStore.{with_taken}
-use Rattle.block_calls.proofs.OwnedMarks.{size-low}
-use Rattle.block_calls.proofs.TakenBlock.{handed-on}
+use Rattle.word_kinds.proofs.OwnedMarks.{size-low}
 use Rattle.module_calls.specs.LoadModule.{load_module}
 use Rattle.module_calls.proofs.CheckedTexts.{code-low, no-module, one-module, text-shape}
 use Rattle.module_calls.proofs.LoadedModule.{load-inside, load-made, load-refused}

@@ -1,7 +1,8 @@
 use Rattle.std.proofs.Common.{◌∙◌, true, false, sym, ap}
 use Rattle.kernel_model.proofs.WalkedLists.{can-walk}
 use Rattle.call_answers.specs.Refusals.{answer_of}
-use Rattle.module_calls.proofs.ModuleUses.{module-some, module-told, tasks-inside, tests-no_module, tests-use, use-told}
+use Rattle.call_answers.proofs.ListedModules.{module-told}
+use Rattle.module_calls.proofs.ModuleUses.{module-some, tasks-inside, tests-no_module, tests-use, use-told}
 use Rattle.module_calls.proofs.unloading.check_unused.Goals as goal
 
 pub is_module-requires : goal.is_module-requires

@@ -10,11 +10,12 @@ use Rattle.kernel_model.specs.HoldsLists.{HoldsLists}
 use Rattle.kernel_model.specs.Lists.{Lists}
 use Rattle.call_answers.specs.Refusals.{answer_of, first_refusal}
 use Rattle.call_answers.proofs.FoundTask.{reads}
-use Rattle.call_answers.proofs.Refusals.{answer_of-ok}
-use Rattle.block_calls.proofs.GivenBlock.{handed-plain}
+use Rattle.call_answers.proofs.Refusals.{answer_of-err, answer_of-ok}
+use Rattle.call_answers.proofs.MadeCalls.{handed-plain}
+use Rattle.call_answers.proofs.ListedModules.{module-told}
 use Rattle.module_calls.specs.UnloadModule.{unload_module, use_tests}
 use Rattle.module_calls.proofs.GoneModule.{numbers, own_block, place, unload-made, unload-packet, unload-refused}
-use Rattle.module_calls.proofs.ModuleUses.{IsUnused, answer_of-err, module-told, tests-passed}
+use Rattle.module_calls.proofs.ModuleUses.{IsUnused, tests-passed}
 use Rattle.module_calls.proofs.unloading.unload_module.Goals as goal
 
 -- the tests were passed

@@ -4,7 +4,7 @@ use Rattle.packet_queue.specs.Log.{Notes}
 use Rattle.call_answers.specs.Made.{IsMade}
 use Rattle.packet_calls.specs.Dqpkt.{dqpkt}
 use Rattle.packet_calls.proofs.DequeueCall.{found-packet, found-queue, is-dequeued, is-noted, not-dequeued, not-noted, not-queued, nowhere, residents-own, some-found}
-use Rattle.packet_calls.proofs.NamedQueues.{Names, names-none, names-some, queue-none, queue-some}
+use Rattle.packet_moves.proofs.NamedQueues.{Names, names-none, names-some, queue-none, queue-some}
 use Rattle.packet_calls.proofs.Searches.{IsFound, found-none, found-some, is-found, not-found}
 use Rattle.packet_calls.proofs.dequeue.dqpkt.Goals as goal
 

@@ -4,10 +4,10 @@ use Rattle.packet_queue.specs.Queue.{HasQueue, queue_at}
 use Rattle.kernel_model.specs.Changes.{queue_of}
 use Rattle.kernel_model.specs.ValidQueues.Place.{Work}
 use Rattle.packet_calls.specs.Dqpkt.{Search, located}
-use Rattle.packet_calls.specs.PacketMoves.{stands_in}
-use Rattle.packet_calls.specs.QueueWords.{head_of}
+use Rattle.packet_moves.specs.PacketMoves.{stands_in}
+use Rattle.packet_moves.specs.QueueWords.{head_of}
 use Rattle.packet_calls.proofs.CallerTask.{caller-number, caller-queue, caller-there}
-use Rattle.packet_calls.proofs.HeldPlaces.{has-at, stands-at}
+use Rattle.packet_moves.proofs.HeldPlaces.{has-at, stands-at}
 use Rattle.packet_calls.proofs.dequeue.find_own.Goals as goal
 
 pub has_packet-requires : goal.has_packet-requires

@@ -6,8 +6,8 @@ use Rattle.packet_queue.specs.Queue.{CanQueue, HasQueue}
 use Rattle.packet_queue.specs.declared.events.KernelEvent.TheVariants.{Accepted}
 use Rattle.kernel_model.specs.Task.{queue_head}
 use Rattle.call_answers.proofs.FoundTask.{reads}
-use Rattle.packet_calls.specs.QueueWords.{enqueued, with_results}
-use Rattle.packet_calls.specs.declared.queues.Queue.TheVariants.{OfTask}
+use Rattle.packet_moves.specs.QueueWords.{enqueued, with_results}
+use Rattle.packet_moves.specs.declared.queues.Queue.TheVariants.{OfTask}
 use Rattle.packet_calls.proofs.ReplyCall.{is-noted, is-returned, reply-nobody, reply-packet, reply-queue}
 use Rattle.packet_calls.proofs.replies.reply.Goals as goal
 

@@ -6,9 +6,9 @@ use Rattle.packet_queue.specs.declared.events.KernelEvent.TheVariants.{Accepted}
 use Rattle.call_answers.specs.Made.{IsMade, plain_answer}
 use Rattle.call_answers.specs.Refusals.{first_refusal}
 use Rattle.call_answers.proofs.Refusals.{answer_of-ok}
-use Rattle.packet_calls.specs.Destinations.{destination_of}
+use Rattle.packet_moves.specs.Destinations.{destination_of}
 use Rattle.packet_calls.specs.Qpkt.{packet_tests, qpkt}
-use Rattle.packet_calls.proofs.NamedQueues.{names-none, names-some, queue-none, queue-some}
+use Rattle.packet_moves.proofs.NamedQueues.{names-none, names-some, queue-none, queue-some}
 use Rattle.packet_calls.proofs.PacketTests.{refused-with}
 use Rattle.packet_calls.proofs.SendCall.{is-noted, is-sent, misplaced, not-noted, not-sent, nowhere, send-packet, send-queue, send-room}
 use Rattle.packet_calls.proofs.send.qpkt.Goals as goal

@@ -1,14 +1,13 @@
 use Rattle.std.proofs.Common.{ℕ, List}
 use Rattle.std.proofs.lemmas.Result.{err_from_is_err_and}
-use Rattle.call_answers.proofs.Refusals.{answer_of-ok}
-use Rattle.block_calls.proofs.TakenBlock.{handed-on}
+use Rattle.call_answers.proofs.Refusals.{answer_of-err, answer_of-ok}
+use Rattle.call_answers.proofs.MadeCalls.{handed-on}
 use Rattle.kernel_model.specs.Lists.{Lists}
 use Rattle.kernel_model.proofs.WalkedLists.{can-walk}
 use Rattle.task_calls.specs.CreateTask.{create_task}
 use Rattle.task_calls.proofs.CreationTests.{by-globals, by-modules, by-number, by-priority, by-room, listed-in, may-place, refused-made}
 use Rattle.task_calls.proofs.ModuleGlobals.{has-modules}
 use Rattle.task_calls.proofs.creation.create_task_of.Goals as goal
-use Rattle.task_calls.proofs.TestsInTurn.{answer_of-err}
 
 pub check_modules-requires : goal.check_modules-requires
 check_modules-requires g c = (can-walk c.args.store.now c.requires.0 c.requires.1.lists).modules

@@ -1,9 +1,9 @@
 use Rattle.std.proofs.Common.{ℕ, List, Err, refl, subst, arith}
 use Rattle.std.proofs.lemmas.Result.{err_from_is_err_and}
 use Rattle.call_answers.specs.Made.{IsMade}
+use Rattle.call_answers.proofs.MadeCalls.{handed-on}
 use Rattle.block_calls.specs.FreeStore.{data_taken, with_taken}
 use Rattle.block_calls.specs.Getvec.{getvec, getvec_tests}
-use Rattle.block_calls.proofs.TakenBlock.{handed-on}
 use Rattle.kernel_model.specs.Lists.{Lists}
 use Rattle.task_calls.specs.CreateTask.{last_word_of, new_task, with_created}
 use Rattle.task_calls.specs.NewTasks.{place_task}

@@ -1,4 +1,4 @@
-use Rattle.std.proofs.Common.{◌≡◌, ℕ, ◌+◌, ◌-◌, ◌/◌, ◌%◌, [], ◌∷◌, eqb, set, Bool, true, false, Ok, refl, sym, ap, ◌∙◌, subst}
+use Rattle.std.proofs.Common.{◌+◌, ◌-◌, [], ◌∷◌, set, true, false, Ok, refl, sym, ap, ◌∙◌, subst}
 use Rattle.std.proofs.lemmas.Result.{err_from_is_err_and}
 use Rattle.kernel_model.specs.ChangedStore.{IsChanged}
 use Rattle.kernel_model.specs.Changes.{with_task}
@@ -8,11 +8,8 @@ use Rattle.call_answers.proofs.Refusals.{first_refusal-failed}
 use Rattle.call_answers.proofs.MadeCalls.{leaves-accepted, leaves-refused}
 use Rattle.task_calls.specs.OneTask.{is_held}
 use Rattle.task_calls.specs.ReleaseTask.{release_tests, released}
-use Rattle.task_calls.proofs.Held.{release-accepted, release-changed, release-refused}
+use Rattle.task_calls.proofs.Held.{held-bit, release-accepted, release-changed, release-refused}
 use Rattle.task_calls.proofs.release.release_task.Goals as goal
-
-bit : (w v : ℕ) (b d : Bool) → w ≡ v → b ≡ eqb (w / 2 % 2) 1 → b ≡ d → eqb (v / 2 % 2) 1 ≡ d
-bit w v b d same is e = ap (λ z. eqb (z / 2 % 2) 1) (sym same) ∙ sym is ∙ e
 
 pub returns-in_err-task : goal.returns-in_err-task
 returns-in_err-task c = λ l h.
@@ -24,11 +21,11 @@ returns-in_err-task c = λ l h.
 pub returns-then-not-has_held_bit : goal.returns-then-not-has_held_bit
 returns-then-not-has_held_bit c = λ l h.
     leaves-refused c.args.store.now l (release_tests l c.args.id) (done (with_task c.args.id released l)) 15 h
-    (release-refused c.args.store.now l c.args.id c.in_ok-task.task h (c.in_ok-task.ensures l h) (bit _ _ _ false c.field-state.ensures c.has_held_bit.ensures c.if-not-has_held_bit.true))
+    (release-refused c.args.store.now l c.args.id c.in_ok-task.task h (c.in_ok-task.ensures l h) (held-bit _ _ _ false c.field-state.ensures c.has_held_bit.ensures c.if-not-has_held_bit.true))
 
 pub returns : goal.returns
 returns c = λ l h.
-    let held = bit _ _ _ true c.field-state.ensures c.has_held_bit.ensures c.if-not-has_held_bit.false in
+    let held = held-bit _ _ _ true c.field-state.ensures c.has_held_bit.ensures c.if-not-has_held_bit.false in
     leaves-accepted c.args.store.now l (release_tests l c.args.id) (done (with_task c.args.id released l)) c.set_field.new.store (Ok minus_one)
     (release-accepted c.args.store.now l c.args.id c.in_ok-task.task h (c.in_ok-task.ensures l h) held)
     (record {

@@ -4,10 +4,11 @@ use Rattle.kernel_model.specs.NotedEvents.{NotesAll}
 use Rattle.kernel_model.specs.Lists.{Lists}
 use Rattle.kernel_model.proofs.NotedInTurn.{notes-none}
 use Rattle.packet_queue.specs.QueueWords.{QueuedPacket}
+use Rattle.packet_moves.proofs.HeldPlaces.{HasFirst}
 use Rattle.tty_device.specs.Keys.{left_typed, met}
 use Rattle.device_returns.specs.Returned.{IsServed, Served, first_returned, unserved}
 use Rattle.device_returns.specs.declared.returns.Device.TheVariants.{OfKeys}
-use Rattle.device_returns.proofs.DeviceQueues.{HasFirst, none-waits, one-waits, served-none}
+use Rattle.device_returns.proofs.DeviceQueues.{none-waits, one-waits, served-none}
 use Rattle.tty_device.proofs.typed.Tty.meet.Goals as goal
 
 -- with no packet, or no byte, nothing is done

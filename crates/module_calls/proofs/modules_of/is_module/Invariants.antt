@@ -1,7 +1,0 @@
-use Rattle.std.proofs.Common.{◌≡◌}
-use Rattle.linked_list.specs.Places.{has}
-use Rattle.task_block.specs.Lists.{modules_in}
-use Rattle.module_calls.proofs.modules_of.is_module.Given as goal
-
-abbrev pub invariant-loop-n : goal.invariant-loop-n
-invariant-loop-n l = has l.m (modules_in l.store) ≡ has l.m l.n-iterator
