@@ -7,8 +7,8 @@ ghost use Rattle.tty_device.specs.Keys.{left_typed, met};
 ghost use Rattle.device_returns.specs.Returned.{IsServed};
 ghost use Rattle.tty_device.specs.Typed.{with_typed};
 
-use device_returns::{Device, return_first};
 use circular_buffer::HeapCircularBuffer;
+use device_returns::{Device, return_first};
 use packet_queue::EventLog;
 use std::alloc::Global;
 use std::marker::Model;
