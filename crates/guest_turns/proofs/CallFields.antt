@@ -27,9 +27,9 @@ use Rattle.task_calls.specs.SetFlags.{flagged, set_flags}
 use Rattle.task_calls.specs.TestFlags.{cleared}
 use Rattle.module_calls.specs.AddModule.{add_module, addition_tests, global_words, globals_of_task, modules_so_far, task_of, with_further}
 use Rattle.module_calls.specs.UnloadModule.{unload_module, unload_tests, without_module}
-use Rattle.packet_calls.specs.Destinations.{place_of}
+use Rattle.packet_moves.specs.Destinations.{place_of}
 use Rattle.packet_calls.specs.Dqpkt.{Search, dequeued, dqpkt, dqpkt_tests, found_in}
-use Rattle.packet_calls.specs.PacketMoves.{arrived, departed, sent_packet}
+use Rattle.packet_moves.specs.PacketMoves.{arrived, departed, sent_packet}
 use Rattle.packet_calls.specs.Qpkt.{qpkt, qpkt_tests, sent_to}
 use Rattle.packet_calls.specs.TaskWait.{taskwait, waited, waiting}
 use Rattle.coroutine_calls.specs.CallCo.{idle_tests}
