@@ -10,6 +10,7 @@ use crate::conditions::{NO_REGS, can_dispatch, has_caller, is_within, running_id
 use crate::endings::end_caller;
 use crate::plain_words::set_plain;
 use call_answers::guest;
+use clock_device::tick;
 use coroutine_calls::ended;
 use hunk_text::SliceText;
 use kernel_boot::{begin_task, make_kernel, make_resident_kernel};
@@ -19,6 +20,7 @@ use module_calls::load_module;
 use packet_queue::{KernelEvent, ListLog};
 use std::alloc::Global;
 use std::marker::Model;
+use task_block::{RootField, root};
 use task_calls::create_task;
 use tp_io::{Output, WantMemory};
 use word_kinds::Walk;
@@ -147,6 +149,17 @@ impl Guests {
             &mut self.kinds,
             &mut self.log,
         );
+        true
+    }
+
+    /// Lets a tick of the clock pass. The answer is false where the ticks have come to their highest number.
+    pub fn tick(&mut self) -> bool
+        ensures { IsFalse result → self.new ≡ self.old }
+    {
+        if root(&self.store, RootField::Tick) == u32::MAX {
+            return false;
+        }
+        tick(&mut self.store, &mut self.log);
         true
     }
 
