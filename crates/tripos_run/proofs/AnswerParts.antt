@@ -9,12 +9,12 @@ use Rattle.tp_io.specs.Pending.{IsCut, IsGathered}
 use Rattle.tp_io.proofs.AppendedTexts.{AppendsPrefix-more}
 use Rattle.tp_io.proofs.GatheredTexts.{IsCut-first, Prints-after}
 use Rattle.word_store.specs.declared.registers.Regs.{Regs}
-use Rattle.tripos_machine.specs.declared.bare.Stop.{Stop}
-use Rattle.tripos_machine.specs.declared.bare.Stop.TheVariants.{Steps, Quit, Fault}
+use Rattle.bare_machine.specs.declared.stops.Stop.{Stop}
+use Rattle.bare_machine.specs.declared.stops.Stop.TheVariants.{Steps, Quit, Finish, Fault}
 use Rattle.tripos_run.specs.declared.commands.Command.{Command}
 use Rattle.tripos_run.specs.declared.status.Status.{Status}
 use Rattle.tripos_run.specs.declared.status.Status.TheVariants.{Usage, WriteFault, TooLong}
-use Rattle.tripos_machine.specs.Run.{IsRunEnd, Run}
+use Rattle.bare_machine.specs.Run.{IsRunEnd, Run}
 use Rattle.tripos_run.specs.Texts.{closing_text, too_long_text, usage_text}
 use Rattle.tripos_run.specs.Answer.{Answer, Answers, command_answer, input_answer, limit, run_answer, status_of, text_answer, words_text}
 use Rattle.tripos_run.specs.Input.{IsInput}
@@ -26,6 +26,7 @@ status_after written s = if is_ok written then s else WriteFault
 Answers-stop : (a : Answer) (h k : Option (List ℕ)) (stop : Stop) → a.status ≡ status_of stop → Appends h k a.bytes → Answers a h k (status_of stop)
 Answers-stop a h k Steps e p = (e, p)
 Answers-stop a h k (Quit code) e p = (e, p)
+Answers-stop a h k Finish e p = (e, p)
 Answers-stop a h k (Fault code address task) e p = (e, p)
 
 Answers-run_text : {T E : Type 0} (a : Answer) (h k : Option (List ℕ)) (stop : Stop) (written : Result T E) → a.status ≡ status_of stop → Prints h k a.bytes written → Answers a h k (status_after written (status_of stop))

@@ -10,14 +10,14 @@ use Rattle.cint_asm.specs.Assembly.{assembled}
 use Rattle.cint_disasm.specs.HunkListing.{listing_of_module}
 use Rattle.session_text.specs.SessionOfText.{session_of}
 use Rattle.session_text.specs.declared.sessions.Session.{Session}
-use Rattle.tripos_machine.specs.declared.bare.Stop.{Stop}
-use Rattle.tripos_machine.specs.declared.bare.Stop.TheVariants.{Steps, Quit, Fault}
+use Rattle.bare_machine.specs.declared.stops.Stop.{Stop}
+use Rattle.bare_machine.specs.declared.stops.Stop.TheVariants.{Steps, Quit, Finish, Fault}
 use Rattle.tripos_run.specs.declared.commands.Command.{Command}
 use Rattle.tripos_run.specs.declared.commands.Command.TheVariants.{Run as RunCommand, Dump as DumpCommand, Asm as AsmCommand, Disasm as DisasmCommand}
 use Rattle.tripos_run.specs.declared.status.Status.{Status}
 use Rattle.tripos_run.specs.declared.status.Status.TheVariants.{Done, GuestFault, Usage, Refused, NoBoot, ReadFault, WriteFault, TooLong, WantMemory}
-use Rattle.tripos_machine.specs.Boot.{boot, first_regs}
-use Rattle.tripos_machine.specs.Run.{Run, run}
+use Rattle.bare_machine.specs.Boot.{boot, first_regs}
+use Rattle.bare_machine.specs.Run.{Run, run}
 use Rattle.tripos_run.specs.Texts.{closing_text, dump_text, no_boot_text, refused_text, too_long_text, usage_text}
 
 pub record Answer : Type 0 where
@@ -44,6 +44,7 @@ limit = 67108864
 abbrev pub status_of : Stop → Status
 status_of Steps = Done
 status_of (Quit code) = Done
+status_of Finish = Done
 status_of (Fault code address task) = GuestFault
 
 -- what a command writes after the closing line: `dump` the words that are not 0

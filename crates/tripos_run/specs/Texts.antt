@@ -2,8 +2,8 @@
 use Rattle.std.specs.Prelude.{ℕ, ◌+◌, List, [], ◌∷◌, ◌++◌, codes, decimal, ◌==◌, if◌then◌else◌}
 use Rattle.tp_io.specs.Pieces.{joined, hex_digits_of}
 use Rattle.text_reader.specs.Refusal.{Refusal}
-use Rattle.tripos_machine.specs.declared.bare.Stop.{Stop}
-use Rattle.tripos_machine.specs.declared.bare.Stop.TheVariants.{Steps, Quit, Fault}
+use Rattle.bare_machine.specs.declared.stops.Stop.{Stop}
+use Rattle.bare_machine.specs.declared.stops.Stop.TheVariants.{Steps, Quit, Finish, Fault}
 
 abbrev pub usage_text : List ℕ
 usage_text =
@@ -29,6 +29,8 @@ closing_text steps Steps =
 closing_text steps (Quit code) =
     joined (codes "\n* stopped after " ∷ decimal steps ∷ codes " steps: quit " ∷ decimal code
     ∷ codes "\n" ∷ [])
+closing_text steps Finish =
+    joined (codes "\n* stopped after " ∷ decimal steps ∷ codes " steps: finish\n" ∷ [])
 closing_text steps (Fault code address task) =
     joined (codes "\n* stopped after " ∷ decimal steps ∷ codes " steps: fault " ∷ decimal code
     ∷ codes " at " ∷ decimal address ∷ codes " in task " ∷ decimal task ∷ codes "\n" ∷ [])

@@ -5,7 +5,7 @@ ghost use Rattle.tripos_run.specs.Texts.{closing_text, no_boot_text, refused_tex
 
 use tp_io::Piece::{Decimal, Text};
 use tp_io::{Output, Sink, SinkFault, gather_pieces, write_pieces, write_text};
-use tripos_machine::Stop;
+use bare_machine::Stop;
 
 const STOPPED: &[u8] = b"\n* stopped after ";
 
@@ -78,6 +78,7 @@ pub fn gather_closing<K: Sink>(
     match stop {
         Stop::Steps => gather_steps(steps, out, pending),
         Stop::Quit(code) => gather_quit(steps, code, out, pending),
+        Stop::Finish => gather_finish(steps, out, pending),
         Stop::Fault {
             code,
             address,
@@ -95,6 +96,18 @@ fn gather_steps<K: Sink>(steps: u64, out: &mut K, pending: &mut Output) -> Resul
         out,
         pending,
         &[Text(STOPPED), Decimal(steps), Text(b" steps: steps\n")],
+    )
+}
+
+fn gather_finish<K: Sink>(steps: u64, out: &mut K, pending: &mut Output) -> Result<(), SinkFault>
+    ensures text { Gathers (K.holds out.old) (K.holds out.new) pending.old pending.new
+        (closing_text steps Stop.Finish) result }
+    ensures cause { HasCause (K.faults out.old) (K.faults out.new) result }
+{
+    gather_pieces(
+        out,
+        pending,
+        &[Text(STOPPED), Decimal(steps), Text(b" steps: finish\n")],
     )
 }
 

@@ -3,8 +3,8 @@ ghost use Rattle.std.specs.Prelude.{◌≡◌, ◌≤◌, ◌++◌, ◌<◌, ◌
 ghost use Rattle.tp_io.specs.Pending.{Gathers};
 ghost use Rattle.tp_io.specs.Write.{Prints, HasCause};
 ghost use Rattle.session_text.specs.SessionOfText.{session_of};
-ghost use Rattle.tripos_machine.specs.Boot.{boot};
-ghost use Rattle.tripos_machine.specs.Run.{run};
+ghost use Rattle.bare_machine.specs.Boot.{boot};
+ghost use Rattle.bare_machine.specs.Run.{run};
 ghost use Rattle.tripos_run.specs.Answer.{Answers, booted_answer, run_answer, served, session_answer, status_of, words_text};
 ghost use Rattle.tripos_run.specs.Cause.{HasFaultCause};
 ghost use Rattle.tripos_run.specs.Input.{IsMachineEnd, IsTextEnd};
@@ -18,9 +18,9 @@ use crate::status::Status;
 use session_text::{Session, SessionEnd, read_session};
 use std::alloc::Global;
 use tp_io::{Output, Sink, SinkFault, pass_on};
-use tripos_machine::boot::{BootEnd, boot};
-use tripos_machine::run::run;
-use tripos_machine::{Bare, Stop};
+use bare_machine::boot::{BootEnd, boot};
+use bare_machine::run::run;
+use bare_machine::{Bare, Stop};
 use word_store::Store;
 
 /// Runs a session.
@@ -131,7 +131,7 @@ fn status_of(stop: Stop) -> Status
     ensures { result ≡ status_of stop }
 {
     match stop {
-        Stop::Steps | Stop::Quit(_) => Status::Done,
+        Stop::Steps | Stop::Quit(_) | Stop::Finish => Status::Done,
         Stop::Fault { .. } => Status::GuestFault,
     }
 }

@@ -1,4 +1,4 @@
-use Rattle.tripos_machine.specs.Run.{run}
+use Rattle.bare_machine.specs.Run.{run}
 use Rattle.tripos_run.proofs.AnswerParts.{Answers-run, AppendsPrefix-run}
 use Rattle.tripos_run.proofs.session.answer_machine.Goals as goal
 

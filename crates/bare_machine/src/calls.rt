@@ -1,9 +1,9 @@
 // The calls that a bare machine knows.
 ghost use Rattle.std.specs.Prelude.{◌≡◌, ◌<◌};
-ghost use Rattle.tripos_machine.specs.Calls.{argument, call_answer, regs_after};
-ghost use Rattle.tripos_machine.specs.Calls.{multiply_divide, quit, write_character};
+ghost use Rattle.bare_machine.specs.Calls.{argument, call_answer, regs_after};
+ghost use Rattle.bare_machine.specs.Calls.{multiply_divide, quit, write_character};
 
-use crate::bare::Stop;
+use crate::stops::Stop;
 use cint_exec::Fault;
 use word_store::{Regs, Store, add, mul_div};
 

@@ -1,6 +1,6 @@
 use Rattle.std.proofs.Common.{◌≡◌, ◌∙◌, ◌+◌, ◌≤◌, ◌*◌, length, sym, ap, arith}
-use Rattle.tripos_machine.proofs.CodeLines.{with_lines-next, with_bytes-length}
-use Rattle.tripos_machine.proofs.boot.load_lines.Goals as goal
+use Rattle.bare_machine.proofs.CodeLines.{with_lines-next, with_bytes-length}
+use Rattle.bare_machine.proofs.boot.load_lines.Goals as goal
 
 pub loop-line-preserved : goal.loop-line-preserved
 loop-line-preserved c =

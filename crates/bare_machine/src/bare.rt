@@ -1,23 +1,13 @@
 // A machine without a kernel.
 ghost use Rattle.std.specs.Prelude.{◌≡◌, ◌<◌};
-ghost use Rattle.tripos_machine.specs.Calls.{call_answer};
-ghost use Rattle.tripos_machine.specs.Bare.{after_call, after_instruction, step};
-ghost use Rattle.tripos_machine.specs.Step.{IsStep};
+ghost use Rattle.bare_machine.specs.Calls.{call_answer};
+ghost use Rattle.bare_machine.specs.Bare.{after_call, after_instruction, step};
+ghost use Rattle.bare_machine.specs.Step.{IsStep};
 
 use crate::calls::call;
+use crate::stops::Stop;
 use cint_exec::{Fault, NoKernel, Outcome, execute};
 use word_store::{Regs, Store};
-
-/// Why a machine has stopped.
-#[derive(Clone, Copy, Debug, PartialEq, Eq)]
-pub enum Stop {
-    /// It has taken all the steps that it was asked for.
-    Steps,
-    /// It quit with this code.
-    Quit(u32),
-    /// An instruction faulted, of this task.
-    Fault { code: u32, address: u32, task: u32 },
-}
 
 /// What one step wrote to the console, and why the machine has stopped, if it has.
 #[derive(Clone, Copy, Debug)]

@@ -1,7 +1,7 @@
 // Laws of runs.
 ghost use Rattle.std.specs.Prelude.{ℕ, ◌≤◌, List};
 ghost use Rattle.word_store.specs.declared.registers.Regs.{Regs};
-ghost use Rattle.tripos_machine.specs.Run.{run};
+ghost use Rattle.bare_machine.specs.Run.{run};
 
 /// A run ends after at most its steps.
 pub fn steps_law()

@@ -4,7 +4,7 @@ use Rattle.std.proofs.Math.ListN.{length-set}
 use Rattle.std.proofs.lemmas.Bool.Decides.{nat_tests}
 use Rattle.word_store.specs.Bytes.{set_byte_at}
 use Rattle.session_text.specs.declared.sessions.SessionLine.{SessionLine}
-use Rattle.tripos_machine.specs.Boot.{code_of, with_bytes, with_lines}
+use Rattle.bare_machine.specs.Boot.{code_of, with_bytes, with_lines}
 
 pub with_bytes-length : (words : List ℕ) (a : ℕ) (bytes : List ℕ) → length (with_bytes words a bytes) ≡ length words
 with_bytes-length words a [] = refl

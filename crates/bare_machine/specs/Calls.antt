@@ -5,8 +5,8 @@ use Rattle.word_store.specs.declared.registers.Regs.{Regs}
 use Rattle.cint_decode.specs.Steps.{◌>>=◌}
 use Rattle.cint_exec.specs.declared.Fault.{Fault}
 use Rattle.cint_exec.specs.Change.{fault, read}
-use Rattle.tripos_machine.specs.declared.bare.Stop.TheVariants.{Quit}
-use Rattle.tripos_machine.specs.declared.calls.CallAnswer.{CallAnswer}
+use Rattle.bare_machine.specs.declared.stops.Stop.TheVariants.{Quit}
+use Rattle.bare_machine.specs.declared.calls.CallAnswer.{CallAnswer}
 
 -- argument i of a call is the word P!(3 + i); argument 0 is the call's number
 abbrev pub argument : List ℕ → Regs → ℕ → Result ℕ Fault

@@ -1,8 +1,8 @@
 use Rattle.std.proofs.Common.{◌≤◌, ◌<◌, ℕ, List}
 use Rattle.tp_io.specs.Pending.{IsGathered}
-use Rattle.tripos_machine.specs.Run.{run}
-use Rattle.tripos_machine.proofs.RunSteps.{IsUnderWay}
-use Rattle.tripos_machine.proofs.run.run.Given as goal
+use Rattle.bare_machine.specs.Run.{run}
+use Rattle.bare_machine.proofs.RunSteps.{IsUnderWay}
+use Rattle.bare_machine.proofs.run.run.Given as goal
 
 abbrev pub invariant-loop-i : goal.invariant-loop-i
 invariant-loop-i g l =

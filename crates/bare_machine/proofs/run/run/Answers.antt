@@ -2,8 +2,8 @@ use Rattle.std.proofs.Common.{[], ◌++◌, refl, arith}
 use Rattle.std.specs.Option.{option_to_list}
 use Rattle.std.proofs.lemmas.Result.{err_from_is_err_and}
 use Rattle.tp_io.proofs.GatheredTexts.{IsCut-more, IsCut-then, IsGathered-nothing, IsGathered-then}
-use Rattle.tripos_machine.proofs.RunSteps.{IsUnderWay-first, run-all, run-bytes, run-ends, run-more, run-next, run-prefix, run-stops}
-use Rattle.tripos_machine.proofs.run.run.Goals as goal
+use Rattle.bare_machine.proofs.RunSteps.{IsUnderWay-first, run-all, run-bytes, run-ends, run-more, run-next, run-prefix, run-stops}
+use Rattle.bare_machine.proofs.run.run.Goals as goal
 
 pub loop-i-init : goal.loop-i-init
 loop-i-init g c = ([], record { under_way = IsUnderWay-first _ _ _; gathered = IsGathered-nothing _ _; later = omega arith; byte = c.requires })

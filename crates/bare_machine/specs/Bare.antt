@@ -5,10 +5,10 @@ use Rattle.cint_exec.specs.declared.Fault.{Fault}
 use Rattle.cint_exec.specs.declared.Outcome.{Outcome}
 use Rattle.cint_exec.specs.declared.Outcome.TheVariants.{Next, Sys, Returned, Fault as Faulted}
 use Rattle.cint_exec.specs.Instruction.{instruction}
-use Rattle.tripos_machine.specs.declared.bare.Stop.{Stop}
-use Rattle.tripos_machine.specs.declared.bare.Stop.TheVariants.{Quit, Fault as Stopped}
-use Rattle.tripos_machine.specs.declared.calls.CallAnswer.{CallAnswer}
-use Rattle.tripos_machine.specs.Calls.{call_answer}
+use Rattle.bare_machine.specs.declared.stops.Stop.{Stop}
+use Rattle.bare_machine.specs.declared.stops.Stop.TheVariants.{Quit, Fault as Stopped}
+use Rattle.bare_machine.specs.declared.calls.CallAnswer.{CallAnswer}
+use Rattle.bare_machine.specs.Calls.{call_answer}
 
 -- what is there after a step, the byte that it wrote, and why the machine has stopped
 pub record AfterStep : Type 0 where

@@ -6,5 +6,7 @@ pub mod boot;
 pub mod calls;
 pub mod laws;
 pub mod run;
+pub mod stops;
 
-pub use bare::{Bare, Step, Stop};
+pub use bare::{Bare, Step};
+pub use stops::Stop;

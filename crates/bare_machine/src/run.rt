@@ -3,9 +3,10 @@ ghost use Rattle.std.specs.Prelude.{◌<◌, IfOk};
 ghost use Rattle.std.specs.Option.{option_to_list};
 ghost use Rattle.tp_io.specs.Pending.{Gathers};
 ghost use Rattle.tp_io.specs.Write.{HasCause};
-ghost use Rattle.tripos_machine.specs.Run.{IsRunEnd, run};
+ghost use Rattle.bare_machine.specs.Run.{IsRunEnd, run};
 
-use crate::bare::{Bare, Stop};
+use crate::bare::Bare;
+use crate::stops::Stop;
 use cint_exec::Outcome;
 use tp_io::{Output, Sink, SinkFault, gather};
 

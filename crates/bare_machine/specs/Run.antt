@@ -2,9 +2,9 @@
 use Rattle.std.specs.Prelude.{ℕ, zero, suc, ◌≡◌, ◌+◌, List, [], ◌++◌, Option, Some, None}
 use Rattle.std.specs.Option.{option_to_list}
 use Rattle.word_store.specs.declared.registers.Regs.{Regs}
-use Rattle.tripos_machine.specs.declared.bare.Stop.{Stop}
-use Rattle.tripos_machine.specs.declared.bare.Stop.TheVariants.{Steps}
-use Rattle.tripos_machine.specs.Bare.{AfterStep, step}
+use Rattle.bare_machine.specs.declared.stops.Stop.{Stop}
+use Rattle.bare_machine.specs.declared.stops.Stop.TheVariants.{Steps}
+use Rattle.bare_machine.specs.Bare.{AfterStep, step}
 
 -- what is there at the end, the steps taken, the console bytes, and why it run_end
 pub record Run : Type 0 where

@@ -2,12 +2,12 @@
 use Rattle.std.proofs.Common.{◌≡◌, ◌∙◌, ℕ, zero, suc, ◌<◌, ◌≤◌, ◌+◌, ◌-◌, Option, Some, None, List, [], ◌++◌, refl, sym, ap, arith, append_assoc, append-nil, add_assoc, add-zero, zero-add}
 use Rattle.std.specs.Option.{option_to_list}
 use Rattle.word_store.specs.declared.registers.Regs.{Regs}
-use Rattle.tripos_machine.specs.declared.bare.Stop.{Stop}
-use Rattle.tripos_machine.specs.declared.bare.Stop.TheVariants.{Steps}
-use Rattle.tripos_machine.specs.declared.bare.Step.{Step}
-use Rattle.tripos_machine.specs.Bare.{AfterStep, step}
-use Rattle.tripos_machine.specs.Step.{IsStep}
-use Rattle.tripos_machine.specs.Run.{IsRunEnd, Run, after_step, after_steps, run, run_end, unless_stopped}
+use Rattle.bare_machine.specs.declared.stops.Stop.{Stop}
+use Rattle.bare_machine.specs.declared.stops.Stop.TheVariants.{Steps}
+use Rattle.bare_machine.specs.declared.bare.Step.{Step}
+use Rattle.bare_machine.specs.Bare.{AfterStep, step}
+use Rattle.bare_machine.specs.Step.{IsStep}
+use Rattle.bare_machine.specs.Run.{IsRunEnd, Run, after_step, after_steps, run, run_end, unless_stopped}
 
 run-zero : (words : List ℕ) (r : Regs) → run 0 words r ≡ run_end words r Steps
 unfolding run

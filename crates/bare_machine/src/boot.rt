@@ -1,6 +1,6 @@
 // What a bare session puts into its machine.
 ghost use Rattle.std.specs.Prelude.{◌≡◌, ◌+◌, ◌^◌, ◌<◌, ◌≤◌, length, IfOk};
-ghost use Rattle.tripos_machine.specs.Boot.{Boots, boot, code_of, first_regs, with_bytes, with_lines};
+ghost use Rattle.bare_machine.specs.Boot.{Boots, boot, code_of, first_regs, with_bytes, with_lines};
 
 use crate::bare::Bare;
 use session_text::{LineForm, Session, SessionLine};
@@ -20,7 +20,7 @@ pub enum BootEnd {
 
 impl From<NoStoreMemory> for BootEnd {
     ghost use Rattle.std.specs.Prelude.{◌≡◌};
-    ghost use Rattle.tripos_machine.specs.declared.boot.BootEnd.TheVariants.{WantMemory};
+    ghost use Rattle.bare_machine.specs.declared.boot.BootEnd.TheVariants.{WantMemory};
 
     ghost from_gives = { λ _ e. e ≡ WantMemory };
 

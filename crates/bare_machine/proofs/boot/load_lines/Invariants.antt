@@ -1,6 +1,6 @@
 use Rattle.std.proofs.Common.{◌≡◌, ◌≤◌, drop, length}
-use Rattle.tripos_machine.specs.Boot.{with_lines}
-use Rattle.tripos_machine.proofs.boot.load_lines.Given as goal
+use Rattle.bare_machine.specs.Boot.{with_lines}
+use Rattle.bare_machine.proofs.boot.load_lines.Given as goal
 
 abbrev pub invariant-loop-line : goal.invariant-loop-line
 invariant-loop-line l = record {
