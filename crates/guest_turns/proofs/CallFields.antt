@@ -45,6 +45,7 @@ use Rattle.kernel_calls.specs.declared.requests.CallOutcome.{CallOutcome}
 use Rattle.kernel_calls.specs.declared.requests.CallOutcome.TheVariants.{Done, Outside as OutsideStore, Quit as Quits, Unknown, Waits}
 use Rattle.kernel_calls.specs.declared.requests.KernelCall.{KernelCall}
 use Rattle.kernel_calls.specs.declared.requests.KernelCall.TheVariants.{AddModule, CallCo, ChangePri, CoWait, CreateCo, CreateTask, DeleteCo, DeleteTask, Dqpkt, Freevec, Getvec, Hold, MulDiv, Qpkt, Quit, Release, ResumeCo, SetFlags, TaskWait, TestFlags, Unload, Wrch}
+use Rattle.guest_turns.specs.GuestTurn.{Numbers}
 use Rattle.guest_turns.proofs.RunningField.{RunsIn, moved-runs, one-runs, queue-runs, runs-changed, runs-found, runs-inserted, runs-without}
 
 -- a call that is made or refused is neither unknown nor outside the store
@@ -56,8 +57,8 @@ IsMadeEnd Unknown = ⊥
 IsMadeEnd (OutsideStore a) = ⊥
 
 -- the lists and the C that a call leaves
-pub record Keeps (id byte : ℕ) (c : Called) : Type 0 where
-  pub lists : RunsIn id c.lists
+pub record Keeps (nums : Numbers) (byte : ℕ) (c : Called) : Type 0 where
+  pub lists : RunsIn nums c.lists
   pub same : c.regs.c ≡ byte
 
 answered-byte : (r : Regs) (a : Result ℕ ℕ) → (answered r a).c ≡ r.c
@@ -65,78 +66,78 @@ answered-byte r (Ok w) = refl
 answered-byte r (Err code) = refl
 
 -- what another coroutine goes on with
-pub record KeepsSwitched (id byte : ℕ) (m : Switched) : Type 0 where
-  pub lists : RunsIn id m.lists
+pub record KeepsSwitched (nums : Numbers) (byte : ℕ) (m : Switched) : Type 0 where
+  pub lists : RunsIn nums m.lists
   pub same : m.regs.c ≡ byte
 
-module _ (id : ℕ) (l : Lists) (h : RunsIn id l) where
+module _ (nums : Numbers) (l : Lists) (h : RunsIn nums l) where
   -- refused or not
-  refused-runs : (o : Option ℕ) (m : Made) → RunsIn id m.lists → RunsIn id (by_refusal o l m).lists
+  refused-runs : (o : Option ℕ) (m : Made) → RunsIn nums m.lists → RunsIn nums (by_refusal o l m).lists
   refused-runs None m is = is
   refused-runs (Some code) m is = h
 
-  getvec-runs : (u : ℕ) → RunsIn id (getvec l u).lists
+  getvec-runs : (u : ℕ) → RunsIn nums (getvec l u).lists
   getvec-runs u =
       refused-runs (first_refusal (getvec_tests l u)) (record { answer = Ok (data_taken u l); lists = with_taken u l; plain = []; events = [] })
-      (record { running = h.running; alone = h.alone })
+      (record { numbers = h.numbers; alone = h.alone })
 
-  freevec-runs : (v : ℕ) → RunsIn id (freevec l v).lists
+  freevec-runs : (v : ℕ) → RunsIn nums (freevec l v).lists
   freevec-runs v = on (eqb v 0)
     where
-      on : (b : Bool) → RunsIn id (cond b (done l) (unless_refused (freevec_tests l v) l (done (with_given v l)))).lists
+      on : (b : Bool) → RunsIn nums (cond b (done l) (unless_refused (freevec_tests l v) l (done (with_given v l)))).lists
       on true = h
-      on false = refused-runs (first_refusal (freevec_tests l v)) (done (with_given v l)) (record { running = h.running; alone = h.alone })
+      on false = refused-runs (first_refusal (freevec_tests l v)) (done (with_given v l)) (record { numbers = h.numbers; alone = h.alone })
 
-  create_task-runs : (s : List ℕ) (m u pri maker : ℕ) → RunsIn id (create_task s l 0 (m ∷ []) u pri maker).lists
+  create_task-runs : (s : List ℕ) (m u pri maker : ℕ) → RunsIn nums (create_task s l 0 (m ∷ []) u pri maker).lists
   create_task-runs s m u pri maker =
       let t : Task = new_task l (unwrap_or (number_of l 0) 0) (m ∷ []) u pri maker in
       refused-runs (first_refusal (creation_tests s l 0 (m ∷ []) u pri)) (with_created s l t)
-      (record { running = h.running; alone = runs-inserted id t l.tasks (λ e. cc) h.alone })
+      (record { numbers = h.numbers; alone = runs-inserted nums.running t l.tasks (λ e. cc) h.alone })
 
-  delete_task-runs : (n : ℕ) → RunsIn id (delete_task l n).lists
+  delete_task-runs : (n : ℕ) → RunsIn nums (delete_task l n).lists
   delete_task-runs n =
       refused-runs (first_refusal (guest_tests l n ++ deletion_tests l n)) (done (without_task l n))
-      (record { running = h.running; alone = runs-without id (λ t. eqb t.id n) l.tasks h.alone })
+      (record { numbers = h.numbers; alone = runs-without nums.running (λ t. eqb t.id n) l.tasks h.alone })
 
-  change_pri-runs : (n pri : ℕ) → RunsIn id (change_pri l n pri).lists
+  change_pri-runs : (n pri : ℕ) → RunsIn nums (change_pri l n pri).lists
   change_pri-runs n pri =
       refused-runs (first_refusal (guest_tests l n ++ priority_tests l n pri)) (done (with_new_priority n pri l))
-      (moved-runs id l pri (find (λ t. eqb t.id n) l.tasks) (without_first (λ t. eqb t.id n) l.tasks) (runs-found id (λ t. eqb t.id n) l.tasks h.alone)
-      (runs-without id (λ t. eqb t.id n) l.tasks h.alone) h)
+      (moved-runs nums l pri (find (λ t. eqb t.id n) l.tasks) (without_first (λ t. eqb t.id n) l.tasks) (runs-found nums.running (λ t. eqb t.id n) l.tasks h.alone)
+      (runs-without nums.running (λ t. eqb t.id n) l.tasks h.alone) h)
 
-  set_flags-runs : (n flags : ℕ) → RunsIn id (set_flags l n flags).lists
-  set_flags-runs n flags = refused-runs (first_refusal (guest_tests l n)) (done (with_task n (flagged flags) l)) (one-runs id l n (flagged flags) (λ t one. one) h)
+  set_flags-runs : (n flags : ℕ) → RunsIn nums (set_flags l n flags).lists
+  set_flags-runs n flags = refused-runs (first_refusal (guest_tests l n)) (done (with_task n (flagged flags) l)) (one-runs nums l n (flagged flags) (λ t one. one) h)
 
-  hold-runs : (n : ℕ) → RunsIn id (hold l n).lists
-  hold-runs n = refused-runs (first_refusal (hold_tests l n)) (done (with_task n held l)) (one-runs id l n held (λ t one. one) h)
+  hold-runs : (n : ℕ) → RunsIn nums (hold l n).lists
+  hold-runs n = refused-runs (first_refusal (hold_tests l n)) (done (with_task n held l)) (one-runs nums l n held (λ t one. one) h)
 
-  release-runs : (n : ℕ) → RunsIn id (release l n).lists
-  release-runs n = refused-runs (first_refusal (release_tests l n)) (done (with_task n released l)) (one-runs id l n released (λ t one. one) h)
+  release-runs : (n : ℕ) → RunsIn nums (release l n).lists
+  release-runs n = refused-runs (first_refusal (release_tests l n)) (done (with_task n released l)) (one-runs nums l n released (λ t one. one) h)
 
-  taskwait-runs : RunsIn id (taskwait l).lists
+  taskwait-runs : RunsIn nums (taskwait l).lists
   taskwait-runs = on (queue_of (Work l.running) l)
     where
-      on : (ps : List QueuedPacket) → RunsIn id (waited ps l).lists
-      on [] = one-runs id l l.running waiting (λ t one e. cc) h
-      on (p ∷ ps) = queue-runs id l (Work l.running) ps h
+      on : (ps : List QueuedPacket) → RunsIn nums (waited ps l).lists
+      on [] = one-runs nums l l.running waiting (λ t one e. cc) h
+      on (p ∷ ps) = queue-runs nums l (Work l.running) ps h
 
-  qpkt-runs : (s : List ℕ) (p : ℕ) → RunsIn id (qpkt s l p).lists
+  qpkt-runs : (s : List ℕ) (p : ℕ) → RunsIn nums (qpkt s l p).lists
   qpkt-runs s p =
       let at : Place = place_of (get_or s (p + 1) 0) in
       refused-runs (first_refusal (qpkt_tests s l p)) (sent_to (get_or s (p + 1) 0) s l p)
-      (queue-runs id l at (arrived at (sent_packet s l at p l.running) (queue_of at l)) h)
+      (queue-runs nums l at (arrived at (sent_packet s l at p l.running) (queue_of at l)) h)
 
-  dqpkt-runs : (n p : ℕ) → RunsIn id (dqpkt l n p).lists
+  dqpkt-runs : (n p : ℕ) → RunsIn nums (dqpkt l n p).lists
   dqpkt-runs n p = refused-runs (first_refusal (dqpkt_tests l n p)) (dequeued p (found_in l n p) l) (on (found_in l n p))
     where
-      on : (o : Option Search) → RunsIn id (dequeued p o l).lists
+      on : (o : Option Search) → RunsIn nums (dequeued p o l).lists
       on None = h
-      on (Some w) = queue-runs id l w.place (departed p (queue_of w.place l)) h
+      on (Some w) = queue-runs nums l w.place (departed p (queue_of w.place l)) h
 
-  unload-runs : (m : ℕ) → RunsIn id (unload_module l m).lists
-  unload-runs m = refused-runs (first_refusal (unload_tests l m)) (done (with_given m (without_module m l))) (record { running = h.running; alone = h.alone })
+  unload-runs : (m : ℕ) → RunsIn nums (unload_module l m).lists
+  unload-runs m = refused-runs (first_refusal (unload_tests l m)) (done (with_given m (without_module m l))) (record { numbers = h.numbers; alone = h.alone })
 
-  add_module-runs : (s : List ℕ) (n m : ℕ) → RunsIn id (add_module s l n m).lists
+  add_module-runs : (s : List ℕ) (n m : ℕ) → RunsIn nums (add_module s l n m).lists
   add_module-runs s n m =
       refused-runs (first_refusal (addition_tests s l n m))
       (record {
@@ -145,49 +146,49 @@ module _ (id : ℕ) (l : Lists) (h : RunsIn id l) where
         plain = global_words (globals_of_task n l) (globals_in s m);
         events = [];
       })
-      (one-runs id l n (with_further m) (λ t one. one) h)
+      (one-runs nums l n (with_further m) (λ t one. one) h)
 
   -- ---- coroutines of the caller
 
-  createco-runs : (entry u : ℕ) → RunsIn id (createco l entry u).lists
+  createco-runs : (entry u : ℕ) → RunsIn nums (createco l entry u).lists
   createco-runs entry u =
       refused-runs (first_refusal (create_tests l u)) (created (data_taken (highest u) l) entry u l)
-      (record { running = h.running; alone = runs-changed id l.running (with_changed (with_new_coroutine (data_taken (highest u) l) entry u)) (λ t one. one) l.tasks h.alone })
+      (record { numbers = h.numbers; alone = runs-changed nums.running l.running (with_changed (with_new_coroutine (data_taken (highest u) l) entry u)) (λ t one. one) l.tasks h.alone })
 
-  deleteco-runs : (c : ℕ) → RunsIn id (deleteco l c).lists
+  deleteco-runs : (c : ℕ) → RunsIn nums (deleteco l c).lists
   deleteco-runs c =
       refused-runs (first_refusal (delete_tests l c)) (done (with_deleted_at c l))
-      (record { running = h.running; alone = runs-changed id l.running (with_changed (with_deleted c)) (λ t one. one) l.tasks h.alone })
+      (record { numbers = h.numbers; alone = runs-changed nums.running l.running (with_changed (with_deleted c)) (λ t one. one) l.tasks h.alone })
 
-  refused-switch : (o : Option ℕ) (r : Regs) (m : Switched) → KeepsSwitched id r.c m → KeepsSwitched id r.c (switches.by_refusal o l r m)
+  refused-switch : (o : Option ℕ) (r : Regs) (m : Switched) → KeepsSwitched nums r.c m → KeepsSwitched nums r.c (switches.by_refusal o l r m)
   refused-switch None r m is = is
   refused-switch (Some code) r m is = record { lists = h; same = refl }
 
-  pub switched-keeps : (change : TaskCoroutines → TaskCoroutines) (v : ℕ) (r : Regs) → KeepsSwitched id r.c (switched change v l r)
-  switched-keeps change v r = record { lists = one-runs id l l.running (with_changed change) (λ t one. one) h; same = refl }
+  pub switched-keeps : (change : TaskCoroutines → TaskCoroutines) (v : ℕ) (r : Regs) → KeepsSwitched nums r.c (switched change v l r)
+  switched-keeps change v r = record { lists = one-runs nums l l.running (with_changed change) (λ t one. one) h; same = refl }
 
   -- ---- the calls
 
   -- the registers answer
-  made-keeps : (r : Regs) (m : Made) → RunsIn id m.lists → Keeps id r.c (of_made r m)
+  made-keeps : (r : Regs) (m : Made) → RunsIn nums m.lists → Keeps nums r.c (of_made r m)
   made-keeps r m is = record { lists = is; same = answered-byte r m.answer }
 
-  wait-keeps : (r : Regs) (ps : List QueuedPacket) (m : Made) → RunsIn id m.lists → Keeps id r.c (of_wait r ps m)
+  wait-keeps : (r : Regs) (ps : List QueuedPacket) (m : Made) → RunsIn nums m.lists → Keeps nums r.c (of_wait r ps m)
   wait-keeps r [] m is = record { lists = is; same = refl }
   wait-keeps r (p ∷ ps) m is = made-keeps r m is
 
-  go_on-keeps : (r : Regs) (m : Switched) → KeepsSwitched id r.c m → Keeps id r.c (of_switched m)
+  go_on-keeps : (r : Regs) (m : Switched) → KeepsSwitched nums r.c m → Keeps nums r.c (of_switched m)
   go_on-keeps r m is = record { lists = is.lists; same = on m.answer }
     where
       on : (a : Result (Unit {0}) ℕ) → (of_switched (record m { answer = a })).regs.c ≡ r.c
       on (Ok u) = is.same
       on (Err code) = is.same
 
-  resume-keeps : (r : Regs) (c v : ℕ) (b : Bool) → KeepsSwitched id r.c (cond b (resumed_itself v l r) (switched (with_resumed c r.p r.pc) v l r))
+  resume-keeps : (r : Regs) (c v : ℕ) (b : Bool) → KeepsSwitched nums r.c (cond b (resumed_itself v l r) (switched (with_resumed c r.p r.pc) v l r))
   resume-keeps r c v true = record { lists = h; same = refl }
   resume-keeps r c v false = switched-keeps (with_resumed c r.p r.pc) v r
 
-  call-keeps : (s : List ℕ) (r : Regs) (call : KernelCall) → Keeps id r.c (made s l r call)
+  call-keeps : (s : List ℕ) (r : Regs) (call : KernelCall) → Keeps nums r.c (made s l r call)
   call-keeps s r (Quit result) = record { lists = h; same = refl }
   call-keeps s r (Getvec u) = made-keeps r (getvec l u) (getvec-runs u)
   call-keeps s r (Freevec v) = made-keeps r (freevec l v) (freevec-runs v)
@@ -195,7 +196,7 @@ module _ (id : ℕ) (l : Lists) (h : RunsIn id l) where
   call-keeps s r (DeleteTask n) = made-keeps r (delete_task l n) (delete_task-runs n)
   call-keeps s r (ChangePri n pri) = made-keeps r (change_pri l n pri) (change_pri-runs n pri)
   call-keeps s r (SetFlags n flags) = made-keeps r (set_flags l n flags) (set_flags-runs n flags)
-  call-keeps s r (TestFlags mask) = record { lists = one-runs id l l.running (cleared mask) (λ t one. one) h; same = refl }
+  call-keeps s r (TestFlags mask) = record { lists = one-runs nums l l.running (cleared mask) (λ t one. one) h; same = refl }
   call-keeps s r (Hold n) = made-keeps r (hold l n) (hold-runs n)
   call-keeps s r (Release n) = made-keeps r (release l n) (release-runs n)
   call-keeps s r TaskWait = wait-keeps r (queue_of (Work l.running) l) (taskwait l) taskwait-runs
@@ -220,7 +221,7 @@ module _ (id : ℕ) (l : Lists) (h : RunsIn id l) where
   call-keeps s r (MulDiv a b c) = record { lists = h; same = refl }
   call-keeps s r (AddModule n m) = made-keeps r (add_module s l n m) (add_module-runs s n m)
 
-  pub request-keeps : (s : List ℕ) (r : Regs) (q : Result KernelCall CallOutcome) → Keeps id r.c (requested s l r q)
+  pub request-keeps : (s : List ℕ) (r : Regs) (q : Result KernelCall CallOutcome) → Keeps nums r.c (requested s l r q)
   request-keeps s r (Ok call) = call-keeps s (past_call r) call
   request-keeps s r (Err outcome) = record { lists = h; same = refl }
 

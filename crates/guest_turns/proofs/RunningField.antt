@@ -13,6 +13,7 @@ use Rattle.kernel_model.specs.ValidQueues.Place.{Clock, Keyboard, Output, Pendin
 use Rattle.kernel_model.specs.ValidTasks.{runs}
 use Rattle.kernel_model.proofs.AllThings.{all-inserted}
 use Rattle.task_calls.specs.ChangePri.{moved}
+use Rattle.guest_turns.specs.GuestTurn.{Numbers, numbers_of}
 
 -- where it has that field, it is the task with the number
 abbrev pub RunsAs : ℕ → Task → Type 0
@@ -53,22 +54,22 @@ runs-found id f (t ∷ ts) all = on (f t) (runs-found id f ts all.1)
 
 -- ---- the lists
 
--- the task with the number runs, and no other has that field
-pub record RunsIn (id : ℕ) (l : Lists) : Type 0 where
-  pub running : l.running ≡ id
-  pub alone : AllByRecursion (RunsAs id) l.tasks
+-- the lists have these numbers, and no task but the running one has its field
+pub record RunsIn (nums : Numbers) (l : Lists) : Type 0 where
+  pub numbers : numbers_of l ≡ nums
+  pub alone : AllByRecursion (RunsAs nums.running) l.tasks
 
-pub one-runs : (id : ℕ) (l : Lists) (n : ℕ) (f : Task → Task) → ((t : Task) → RunsAs id t → RunsAs id (f t)) → RunsIn id l → RunsIn id (with_task n f l)
-one-runs id l n f each h = record { running = h.running; alone = runs-changed id n f each l.tasks h.alone }
+pub one-runs : (nums : Numbers) (l : Lists) (n : ℕ) (f : Task → Task) → ((t : Task) → RunsAs nums.running t → RunsAs nums.running (f t)) → RunsIn nums l → RunsIn nums (with_task n f l)
+one-runs nums l n f each h = record { numbers = h.numbers; alone = runs-changed nums.running n f each l.tasks h.alone }
 
-pub queue-runs : (id : ℕ) (l : Lists) (at : Place) (ps : List QueuedPacket) → RunsIn id l → RunsIn id (with_queue at ps l)
-queue-runs id l (Work n) ps h = record { running = h.running; alone = runs-changed id n (λ t. record t { queue = ps }) (λ t one. one) l.tasks h.alone }
-queue-runs id l Clock ps h = record { running = h.running; alone = h.alone }
-queue-runs id l Keyboard ps h = record { running = h.running; alone = h.alone }
-queue-runs id l Output ps h = record { running = h.running; alone = h.alone }
-queue-runs id l Pending ps h = record { running = h.running; alone = h.alone }
+pub queue-runs : (nums : Numbers) (l : Lists) (at : Place) (ps : List QueuedPacket) → RunsIn nums l → RunsIn nums (with_queue at ps l)
+queue-runs nums l (Work n) ps h = record { numbers = h.numbers; alone = runs-changed nums.running n (λ t. record t { queue = ps }) (λ t one. one) l.tasks h.alone }
+queue-runs nums l Clock ps h = record { numbers = h.numbers; alone = h.alone }
+queue-runs nums l Keyboard ps h = record { numbers = h.numbers; alone = h.alone }
+queue-runs nums l Output ps h = record { numbers = h.numbers; alone = h.alone }
+queue-runs nums l Pending ps h = record { numbers = h.numbers; alone = h.alone }
 
 -- the task that was found moves
-pub moved-runs : (id : ℕ) (l : Lists) (pri : ℕ) (o : Option Task) (others : List Task) → IfSome o (RunsAs id) → AllByRecursion (RunsAs id) others → RunsIn id l → RunsIn id (moved pri o others l)
-moved-runs id l pri None others one rest h = h
-moved-runs id l pri (Some t) others one rest h = record { running = h.running; alone = runs-inserted id (with_priority pri t) others one rest }
+pub moved-runs : (nums : Numbers) (l : Lists) (pri : ℕ) (o : Option Task) (others : List Task) → IfSome o (RunsAs nums.running) → AllByRecursion (RunsAs nums.running) others → RunsIn nums l → RunsIn nums (moved pri o others l)
+moved-runs nums l pri None others one rest h = h
+moved-runs nums l pri (Some t) others one rest h = record { numbers = h.numbers; alone = runs-inserted nums.running (with_priority pri t) others one rest }

@@ -20,7 +20,7 @@ use Rattle.coroutine_calls.specs.CoWait.{ended, with_ended}
 use Rattle.kernel_calls.specs.Calls.{kernel_call}
 use Rattle.kernel_calls.specs.Requests.{call_of}
 use Rattle.guest_instructions.specs.Guarded.{is_owned}
-use Rattle.guest_turns.specs.GuestTurn.{RunsAlone, Turned, after_instruction, died, dies, turn_without_reporter}
+use Rattle.guest_turns.specs.GuestTurn.{Numbers, RunsAlone, Turned, after_instruction, died, dies, numbers_of, turn_without_reporter}
 use Rattle.guest_turns.proofs.CallFields.{Keeps, KeepsSwitched, request-keeps, switched-keeps}
 use Rattle.guest_turns.proofs.RunningField.{RunsAs, RunsIn, one-runs}
 
@@ -41,42 +41,45 @@ module _ (marks : ℕ → Bool) (s : List ℕ) (r : Regs) (byte : r.c < 256) whe
 -- ---- the turn
 
 -- the lists that a turn leaves, and its registers where C was a byte
-pub record Fits (id : ℕ) (r : Regs) (m : Turned) : Type 0 where
-  pub lists : RunsIn id m.lists
+pub record Fits (nums : Numbers) (r : Regs) (m : Turned) : Type 0 where
+  pub lists : RunsIn nums m.lists
   pub byte : r.c < 256 → m.regs.c < 256
 
-module _ (id : ℕ) (l : Lists) (h : RunsIn id l) where
-  called-keeps : (s : List ℕ) (r : Regs) → Keeps id r.c (kernel_call s l r)
+module _ (nums : Numbers) (l : Lists) (h : RunsIn nums l) where
+  called-keeps : (s : List ℕ) (r : Regs) → Keeps nums r.c (kernel_call s l r)
   unfolding kernel_call
-  called-keeps s r = request-keeps id l h s r (call_of s r)
+  called-keeps s r = request-keeps nums l h s r (call_of s r)
 
-  returned-keeps : (r : Regs) (b : Bool) → KeepsSwitched id r.c (cond b (dies l r) (ended l r))
-  returned-keeps r true = record { lists = one-runs id l l.running died (λ t one e. cc) h; same = refl }
-  returned-keeps r false = switched-keeps id l h with_ended r.a r
+  returned-keeps : (r : Regs) (b : Bool) → KeepsSwitched nums r.c (cond b (dies l r) (ended l r))
+  returned-keeps r true = record { lists = one-runs nums l l.running died (λ t one e. cc) h; same = refl }
+  returned-keeps r false = switched-keeps nums l h with_ended r.a r
 
-  instruction-fits : (s : List ℕ) (r : Regs) (outcome : Outcome) → Fits id r (after_instruction l s r outcome)
+  instruction-fits : (s : List ℕ) (r : Regs) (outcome : Outcome) → Fits nums r (after_instruction l s r outcome)
   instruction-fits s r Next = record { lists = h; byte = λ small. small }
   instruction-fits s r Sys =
-      let k : Keeps id r.c (kernel_call s l r) = called-keeps s r in
+      let k : Keeps nums r.c (kernel_call s l r) = called-keeps s r in
       record { lists = k.lists; byte = λ small. subst (λ c. c < 256) (sym k.same) small }
   instruction-fits s r Returned =
       let k = returned-keeps r (eqb (current_of (coroutines_of_caller l)) 0) in
       record { lists = k.lists; byte = λ small. subst (λ c. c < 256) (sym k.same) small }
   instruction-fits s r (Faulted f) = record { lists = h; byte = λ small. small }
 
-  turn-fits : (s : List ℕ) (r : Regs) → Fits id r (turn_without_reporter s l r)
+  turn-fits : (s : List ℕ) (r : Regs) → Fits nums r (turn_without_reporter s l r)
   unfolding turn_without_reporter
   turn-fits s r =
       let x : After = instruction (is_owned l) s r in
-      let fits : Fits id x.regs (after_instruction l x.words x.regs x.outcome) = instruction-fits x.words x.regs x.outcome in
+      let fits : Fits nums x.regs (after_instruction l x.words x.regs x.outcome) = instruction-fits x.words x.regs x.outcome in
       record { lists = fits.lists; byte = λ small. fits.byte (instruction-byte (is_owned l) s r small) }
 
 module _ (s : List ℕ) (l : Lists) (r : Regs) (alone : RunsAlone l) where
-  fits : Fits l.running r (turn_without_reporter s l r)
-  fits = turn-fits l.running l (record { running = refl; alone = alone }) s r
+  fits : Fits (numbers_of l) r (turn_without_reporter s l r)
+  fits = turn-fits (numbers_of l) l (record { numbers = refl; alone = alone }) s r
 
-  pub turn-running : (turn_without_reporter s l r).lists.running ≡ l.running
-  turn-running = fits.lists.running
+  pub turn-numbers : numbers_of (turn_without_reporter s l r).lists ≡ numbers_of l
+  turn-numbers = fits.lists.numbers
+
+  turn-running : (turn_without_reporter s l r).lists.running ≡ l.running
+  turn-running = ap (λ n. n.running) turn-numbers
 
   pub turn-dispatches : HasCaller l → r.c < 256 → CanDispatch (turn_without_reporter s l r).lists (turn_without_reporter s l r).regs
   turn-dispatches c small = record {

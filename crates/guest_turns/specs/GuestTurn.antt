@@ -1,6 +1,6 @@
 -- What the running guest does in a step, before the clock, the devices and dispatch: its instruction, its call, or the end of its
 -- function.
-use Rattle.std.specs.Prelude.{◌≡◌, ℕ, ◌==◌, if◌then◌else◌, List, [], ◌++◌, Ok}
+use Rattle.std.specs.Prelude.{◌≡◌, ℕ, ◌==◌, Bool, if◌then◌else◌, List, [], ◌++◌, Ok}
 use Rattle.std.specs.List.{AllByRecursion}
 use Rattle.word_store.specs.declared.registers.Regs.{Regs}
 use Rattle.cint_exec.specs.Change.{fault}
@@ -106,6 +106,18 @@ pub record IsTurned (t : List ℕ) (after : Regs) (tells : List ℕ → Type 0) 
   pub notes : NotesAll old.noted new.noted old.failed new.failed m.events
 
 -- ---- what a turn keeps
+
+-- the task that runs, and the numbers that no turn changes: the steps from one tick to the next, the ticks so far, the version,
+-- and whether there are residents
+pub record Numbers : Type 0 where
+  pub running : ℕ
+  pub period : ℕ
+  pub tick : ℕ
+  pub version : ℕ
+  pub residents : Bool
+
+abbrev pub numbers_of : Lists → Numbers
+numbers_of l = record { running = l.running; period = l.period; tick = l.tick; version = l.version; residents = l.residents }
 
 -- no task but the running one has the field of one that runs
 abbrev pub RunsAlone : Lists → Type 0

@@ -5,17 +5,17 @@ ghost use Rattle.cint_exec.specs.declared.Fault.{Fault};
 ghost use Rattle.kernel_model.specs.Lists.{Lists};
 ghost use Rattle.call_answers.specs.Callers.{HasCaller};
 ghost use Rattle.kernel_dispatch.specs.Dispatch.{CanDispatch};
-ghost use Rattle.guest_turns.specs.GuestTurn.{IsUntouched, RunsAlone, turn_without_reporter};
+ghost use Rattle.guest_turns.specs.GuestTurn.{IsUntouched, RunsAlone, numbers_of, turn_without_reporter};
 ghost use Rattle.guest_turns.specs.declared.turns.TurnEnd.TheVariants.{Faults};
 
 /// However a turn ends: the same task is the running one, no other has the field of one that runs, and C is a byte. So a
-/// dispatch may follow.
+/// dispatch may follow. The ticks, the period, the version and whether there are residents stay as they were.
 pub fn dispatch_law()
     ensures dispatch { (s : List ℕ) (l : Lists) (r : Regs) → HasCaller l → RunsAlone l
         → r.c < 256
         → CanDispatch (turn_without_reporter s l r).lists (turn_without_reporter s l r).regs }
-    ensures running { (s : List ℕ) (l : Lists) (r : Regs) → RunsAlone l
-        → (turn_without_reporter s l r).lists.running ≡ l.running }
+    ensures numbers { (s : List ℕ) (l : Lists) (r : Regs) → RunsAlone l
+        → numbers_of (turn_without_reporter s l r).lists ≡ numbers_of l }
 {}
 
 /// A turn that ends with a fault changes nothing, shows nothing and notes nothing.

@@ -1,0 +1,2 @@
+// What a step of a machine with a kernel does, and a run. The functions do nothing: their contracts are the laws.
+#![tactic(auto)]
