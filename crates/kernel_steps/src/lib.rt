@@ -3,4 +3,5 @@
 
 pub mod device_laws;
 pub mod dispatch_laws;
+pub mod step_laws;
 pub mod turn_laws;
