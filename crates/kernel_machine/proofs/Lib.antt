@@ -1,3 +1,7 @@
 pub mod StoreKernels
 pub mod OneMachine
 pub mod LeftParts
+pub mod ServedParts
+pub mod TurnedParts
+pub mod RunningTask
+pub mod StepParts
