@@ -9,3 +9,4 @@ pub mod StepKept
 pub mod StoredWords
 pub mod QuietDispatch
 pub mod QuietDevices
+pub mod QuietSteps
