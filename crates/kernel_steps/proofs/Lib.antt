@@ -10,3 +10,5 @@ pub mod StoredWords
 pub mod QuietDispatch
 pub mod QuietDevices
 pub mod QuietSteps
+pub mod QuietSpans
+pub mod Runs

@@ -1,12 +1,11 @@
 -- A step in which no device acts.
-use Rattle.std.proofs.Common.{◌≡◌, ℕ, ◌+◌, ◌*◌, ◌/◌, ◌<◌, ◌≤◌, ◌⊎◌, false, true, Option, Some, None, List, [], ◌∷◌, cond, set, inl, inr, refl, sym, ap, ◌∙◌, subst, arith}
+use Rattle.std.proofs.Common.{◌≡◌, ℕ, ◌+◌, ◌/◌, ◌⊎◌, false, true, None, List, [], cond, set, refl, sym, ap, ◌∙◌, subst}
 use Rattle.std.specs.Prelude.{is_some}
 use Rattle.cint_exec.specs.declared.Outcome.TheVariants.{Next}
 use Rattle.kernel_model.specs.HoldsLists.{HoldsLists}
 use Rattle.kernel_model.specs.Image.{image, word_of}
-use Rattle.kernel_model.specs.Kernel.{Kernel, Stop}
+use Rattle.kernel_model.specs.Kernel.{Kernel}
 use Rattle.kernel_model.specs.Task.{is_guest_id}
-use Rattle.kernel_model.specs.ValidLists.{AreValid}
 use Rattle.kernel_dispatch.specs.Dispatch.{CanDispatch}
 use Rattle.guest_instructions.specs.Guarded.{is_owned}
 use Rattle.guest_instructions.proofs.GuardedLists.{holds-kept}
@@ -15,7 +14,7 @@ use Rattle.guest_turns.specs.GuestTurn.{after_instruction, ended_with, turn_with
 use Rattle.guest_turns.specs.declared.turns.TurnEnd.TheVariants.{Goes}
 use Rattle.kernel_steps.specs.Parts.{RunsFirst}
 use Rattle.kernel_steps.specs.Quiet.{AwaitsTick, ComeAfter, IsQuietFor, after_instruction_of, instruction_of, passed, with_ticks}
-use Rattle.kernel_steps.specs.Step.{Stepped, after_the_turn, after_turn, and_then, dispatch, key, output, quietly, step, tick, turn, unless_stopped, with_step}
+use Rattle.kernel_steps.specs.Step.{after_the_turn, after_turn, and_then, dispatch, key, output, quietly, step, tick, turn, unless_stopped, with_step}
 use Rattle.kernel_steps.proofs.NextTick.{some-period, tick-periods}
 use Rattle.kernel_steps.proofs.QuietDevices.{key-stays, output-stays, tick-stays, ticked-store, ticks_to}
 use Rattle.kernel_steps.proofs.QuietDispatch.{dispatch-stays}
