@@ -9,3 +9,6 @@ pub mod StepKept
 pub mod StoredWords
 pub mod QuietDispatch
 pub mod QuietDevices
+pub mod QuietSteps
+pub mod QuietSpans
+pub mod Runs

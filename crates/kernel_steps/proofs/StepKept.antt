@@ -1,27 +1,26 @@
 -- What a step leaves: a valid kernel, if its lists are.
-use Rattle.std.proofs.Common.{◌≡◌, ℕ, ◌+◌, ◌/◌, ◌<◌, ◌≤◌, Bool, true, false, Option, Some, None, List, [], ◌∷◌, ◌||◌, ◌≢◌, cond, eqb, length, refl, sym, ap, ◌∙◌, subst, arith}
+use Rattle.std.proofs.Common.{◌≡◌, ℕ, ◌/◌, ◌<◌, ◌≤◌, Bool, true, false, Option, Some, None, List, [], ◌∷◌, ◌||◌, ◌≢◌, cond, eqb, length, refl, sym, ap, ◌∙◌, subst, arith}
 use Rattle.std.specs.Prelude.{is_some}
-use Rattle.std.specs.List.{AllByRecursion, list_any}
-use Rattle.std.proofs.lemmas.Bool.{leb-true}
+use Rattle.std.specs.List.{AllByRecursion}
 use Rattle.session_text.specs.Ranges.{most_steps}
 use Rattle.ram_disc.specs.Disc.{IsDisc, shell_stream, stream_at}
-use Rattle.kernel_model.specs.Between.{AreShut, FaultsStand, IsAwaited, is_typing, NoResidents, RegistersStand, ResidentsStand, RunsFirstReady, has_unreported, is_unreported}
+use Rattle.kernel_model.specs.Between.{AreShut, FaultsStand, IsAwaited, is_typing, NoResidents, ResidentsStand, RunsFirstReady, has_unreported}
 use Rattle.kernel_model.specs.Changes.{work_of}
 use Rattle.kernel_model.specs.Image.{HasPlainWords, image, settled}
 use Rattle.kernel_model.specs.Kernel.{Kernel, Stop}
 use Rattle.kernel_model.specs.Lists.{Lists, has_task}
 use Rattle.kernel_model.specs.Pipes.{PipesStand, pipe_at}
 use Rattle.kernel_model.specs.Residents.{fault_packet}
-use Rattle.kernel_model.specs.Task.{Task, is_guest_id}
-use Rattle.kernel_model.specs.ValidKernel.{HasSteps, IsFullMachine, no_command, no_line}
+use Rattle.kernel_model.specs.Task.{Task}
+use Rattle.kernel_model.specs.ValidKernel.{IsFullMachine}
 use Rattle.kernel_model.specs.ValidLists.{AreValid}
 use Rattle.kernel_model.specs.Versions.{highest_id_of}
-use Rattle.kernel_dispatch.specs.Dispatch.{CanDispatch, dispatched}
+use Rattle.kernel_dispatch.specs.Dispatch.{CanDispatch}
 use Rattle.guest_turns.specs.GuestTurn.{Numbers, numbers_of}
 use Rattle.machine_parts.specs.Stands.{KeepsNothing}
 use Rattle.kernel_steps.specs.Parts.{HasSameKeys, IsSameMachine, RunsFirst, numbers_after_tick}
-use Rattle.kernel_steps.specs.Step.{Stepped, after_the_turn, and_then, dispatch, key, output, quietly, step, tick, turn, unless_stopped, with_step}
-use Rattle.kernel_steps.proofs.DevicesKept.{key-ahead, key-dispatch, key-keys, key-numbers, key-same, key-stop, output-dispatch, output-keys, output-numbers, output-same, output-stop, tick-dispatch, tick-keys, tick-numbers, tick-same, tick-stop}
+use Rattle.kernel_steps.specs.Step.{after_the_turn, and_then, dispatch, key, output, quietly, step, tick, turn, unless_stopped, with_step}
+use Rattle.kernel_steps.proofs.DevicesKept.{key-ahead, key-dispatch, key-keys, key-numbers, key-same, output-dispatch, output-keys, output-numbers, output-same, tick-dispatch, tick-keys, tick-numbers, tick-same}
 use Rattle.kernel_steps.proofs.DispatchKept.{dispatch-numbers, runs-first}
 use Rattle.kernel_steps.proofs.NextTick.{some-period, tick-periods}
 use Rattle.kernel_steps.proofs.RunningCaller.{full-runs, runs-dispatches}
@@ -180,7 +179,7 @@ module _ (k j : Kernel) (a : IsAmid k j) where
   amid-output = amid-beside k j (output j).kernel a (output-same j) (numbers-kept j (output j).kernel (numbers_of j.lists) (output-numbers j a.can) refl refl refl) (output-keys j) (output-dispatch j a.can)
 
 module _ (k : Kernel) where
-  dispatch-same : IsSameMachine k (dispatch k).kernel
+  pub dispatch-same : IsSameMachine k (dispatch k).kernel
   unfolding dispatch settled
   dispatch-same = record { bare = refl; steps = refl; console = refl; shell = refl; disc = refl; pipes = refl }
 
