@@ -5,3 +5,4 @@ pub mod ServedParts
 pub mod TurnedParts
 pub mod RunningTask
 pub mod StepParts
+pub mod TurnBytes

@@ -1,5 +1,6 @@
 -- What the devices and dispatch leave of a machine.
 use Rattle.std.proofs.Common.{◌≡◌, ℕ, ◌+◌, ◌%◌, ◌<◌, ◌≤◌, ◌++◌, List, [], ◌∷◌, length, Bool, true, false, cond, eqb, leb, Option, append-nil, refl, sym, ap, ◌∙◌, subst, arith}
+use Rattle.std.proofs.lemmas.Bool.{eq-eqb, ne_eqb}
 use Rattle.word_store.specs.declared.registers.Regs.{Regs}
 use Rattle.owned_words.specs.Owned.{Pairs, written}
 use Rattle.packet_queue.specs.declared.events.KernelEvent.{KernelEvent}
@@ -41,6 +42,7 @@ stands-settled p k st t marks regs l plain r c knows room e same =
 
 module _ (p : Parts) (k : Kernel) (st : Stands p k) where
   pub stands-served : (t : List ℕ) (m : Served) → IsServed p.store t k.lists m → SameMachine k.lists m.lists → Stands (record p { store = t }) (served k m).kernel
+  unfolding settled
   stands-served t m is same =
       let found = stands-settled p k st t p.kinds p.regs m.lists [] k.regs is.lists (knows-same (MarksAll p.kinds) k.lists m.lists is.same st.keeper.knows) refl st.regs same in
       record {
@@ -96,14 +98,14 @@ module _ (p : Parts) (k : Kernel) (st : Stands p k) where
   same-time : p.step % p.period ≡ k.steps % k.lists.period
   same-time = λ i. st.steps i % st.period i
 
-  pub leaves-tick : (t : List ℕ) (o n : Outside) → CanServe k → eqb (p.step % p.period) 0 ≡ true → IsServed p.store t k.lists (ticked k.lists) → n.shown ≡ o.shown → NotesAll o.noted n.noted o.failed n.failed (ticked k.lists).events
+  pub leaves-tick : (t : List ℕ) (o n : Outside) → CanServe k → p.step % p.period ≡ 0 → IsServed p.store t k.lists (ticked k.lists) → n.shown ≡ o.shown → NotesAll o.noted n.noted o.failed n.failed (ticked k.lists).events
       → Leaves (record p { store = t }) o n (tick k)
   leaves-tick t o n can due is shown notes =
-      let now : eqb (k.steps % k.lists.period) 0 ≡ true = ap (λ z. eqb z 0) (sym same-time) ∙ due in
+      let now : eqb (k.steps % k.lists.period) 0 ≡ true = eq-eqb (k.steps % k.lists.period) 0 (sym same-time ∙ due) in
       subst (Leaves (record p { store = t }) o n) (sym (tick-due now)) (record { stands = stands-served t (ticked k.lists) is (ticked-same can now); bytes = shown ∙ sym (append-nil o.shown); notes = notes })
 
-  pub leaves-no_tick : (o : Outside) → eqb (p.step % p.period) 0 ≡ false → Leaves p o o (tick k)
-  leaves-no_tick o none = subst (Leaves p o o) (sym (tick-not (ap (λ z. eqb z 0) (sym same-time) ∙ none))) (leaves-none p o k st)
+  pub leaves-no_tick : (o : Outside) → (p.step % p.period ≡ 0 → ⊥) → Leaves p o o (tick k)
+  leaves-no_tick o none = subst (Leaves p o o) (sym (tick-not (ne_eqb (k.steps % k.lists.period) 0 (λ z. none (same-time ∙ z))))) (leaves-none p o k st)
 
   -- ---- the output
 

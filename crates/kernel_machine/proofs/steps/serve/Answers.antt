@@ -1,4 +1,4 @@
-use Rattle.kernel_steps.specs.Step.{key, output, tick}
+use Rattle.kernel_steps.specs.Step.{and_then, dispatch, key, output, tick}
 use Rattle.kernel_machine.proofs.LeftParts.{leaves-then}
 use Rattle.kernel_machine.proofs.StepParts.{Serving, serving}
 use Rattle.kernel_machine.proofs.steps.serve.Goals as goal
@@ -33,4 +33,4 @@ returns g c = λ k st serves.
     let i = (key j).kernel in
     let three = c.output.ensures i two.stands can.typed in
     let four = c.dispatch.ensures (output i).kernel three.stands can.printed in
-    leaves-then _ _ _ _ _ _ _ (leaves-then _ _ _ _ _ _ _ (leaves-then _ _ _ _ _ _ _ one two) three) four
+    leaves-then _ _ _ _ _ (and_then (and_then (tick k) key) output) dispatch (leaves-then _ _ _ _ _ (and_then (tick k) key) output (leaves-then _ _ _ _ _ (tick k) key one two) three) four
