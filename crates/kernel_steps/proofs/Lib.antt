@@ -12,3 +12,4 @@ pub mod QuietDevices
 pub mod QuietSteps
 pub mod QuietSpans
 pub mod Runs
+pub mod QuietMachines

@@ -70,10 +70,10 @@ module _ (k : Kernel) (some : 0 < k.lists.period) (ticks : k.lists.tick ≡ k.st
 
 -- ---- where no guest runs
 
-passed-more : (m : ℕ) (k : Kernel) → passed m (passed 1 k) ≡ passed (suc m) k
+pub passed-more : (m : ℕ) (k : Kernel) → passed m (passed 1 k) ≡ passed (suc m) k
 passed-more m k = (let whole : k.steps + 1 + m ≡ k.steps + suc m = omega arith in ap (λ n. with_ticks (record k { steps = n })) whole)
 
-passed-none : (k : Kernel) → k.lists.tick ≡ k.steps / k.lists.period → passed 0 k ≡ k
+pub passed-none : (k : Kernel) → k.lists.tick ≡ k.steps / k.lists.period → passed 0 k ≡ k
 passed-none k ticks =
     let none : k.steps + 0 ≡ k.steps = omega arith in
     ap (λ n. with_ticks (record k { steps = n })) none ∙ ap (λ t. record k { lists = record k.lists { tick = t } }) (sym ticks)
@@ -109,3 +109,9 @@ module _ (k : Kernel) (h : IsReady (image k) k) where
 
   pub passed-amid : (k.steps + 1) % k.lists.period ≢ 0 → passed 1 (after_instruction_of k) ≡ with_step (after_instruction_of k)
   passed-amid amid = no-tick (after_instruction_of k) some-steps h.ticks amid
+
+  -- whatever the kernel is called that the step leaves
+  pub guest-left : (m : ℕ) (j : Kernel) → is_guest_id k.lists.running ≡ true → (instruction_of k).outcome ≡ Next → IsQuietFor (suc m) k → step k ≡ quietly j → IsQuietFor m j
+  guest-left m j guest next q is =
+      let same : passed 1 (after_instruction_of k) ≡ j = ap (λ x. x.kernel) (sym (guest-passed guest next (quiet-first k some-steps h.ticks m q)) ∙ is) in
+      subst (IsQuietFor m) same (guest-behind m q)

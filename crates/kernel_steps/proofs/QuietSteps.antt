@@ -66,7 +66,7 @@ pub record IsReady (s : List ℕ) (k : Kernel) : Type 0 where
   pub goes : k.stop ≡ None
 
 -- the number of steps is no part of the store
-other-steps : (s : List ℕ) (k : Kernel) (n : ℕ) → HasStore s k → HasStore s (record k { steps = n })
+pub other-steps : (s : List ℕ) (k : Kernel) (n : ℕ) → HasStore s k → HasStore s (record k { steps = n })
 other-steps s k n h = record {
   full = h.full;
   valid = h.valid;
@@ -117,7 +117,7 @@ module _ (s : List ℕ) (k : Kernel) (h : IsReady s k) (guest : is_guest_id k.li
   words-hold : HoldsLists (instruction_of k).words k.lists
   words-hold = holds-kept (image k) (instruction_of k).words k.lists (subst (λ z. HoldsLists z k.lists) (store-image s k h.store) (store-holds s k h.store)) (keeps-marked (is_owned k.lists) (image k) k.regs)
 
-  left-store : HasStore (instruction_of k).words left
+  pub left-store : HasStore (instruction_of k).words left
   left-store = stored (instruction_of k).words k.lists (record (with_step k) { regs = (instruction_of k).regs }) h.store.full words-hold
 
   left-runs : RunsFirst left.lists left.regs
@@ -129,3 +129,7 @@ module _ (s : List ℕ) (k : Kernel) (h : IsReady s k) (guest : is_guest_id k.li
   guest-step q =
       quiet-step k left (instruction_of k).words h.goes guest-turn h.goes
       (record { store = left-store; runs = left-runs; steps = refl; ticks = h.ticks; output = q.output; keyboard = q.keyboard; keys = q.keys; clock = q.clock })
+
+  -- its store, with the ticks
+  pub guest-store : HasStore (set (instruction_of k).words 108 ((k.steps + 1) / k.lists.period)) (with_ticks left)
+  guest-store = ticked-store (instruction_of k).words left left-store ((k.steps + 1) / k.lists.period)

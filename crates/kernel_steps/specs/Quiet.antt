@@ -9,7 +9,7 @@ use Rattle.clock_device.specs.Tick.{with_tick}
 use Rattle.guest_instructions.specs.Guarded.{is_owned}
 use Rattle.kernel_steps.specs.Step.{with_store}
 
--- the first key, and so each key, comes after this step
+-- the first key, which comes before any other, comes after this step
 abbrev pub ComeAfter : ℕ → List (ℕ × ℕ) → Type 0
 ComeAfter n [] = Unit {0}
 ComeAfter n (key ∷ keys) = n < key.0
