@@ -1,0 +1,4 @@
+pub mod TracedNotes
+pub mod KnownTexts
+pub mod MarkedLists
+pub mod NotedLists
