@@ -1,6 +1,6 @@
 use Rattle.std.proofs.Common.{◌∙◌, ap, rules}
 use Rattle.trace_log.specs.Traced.{GivesPending, lines_of}
-use Rattle.trace_log.proofs.TracedNotes.{GivesPending-all}
+use Rattle.trace_log.proofs.GivenLines.{GivesPending-all}
 use Rattle.trace_log.proofs.event_lines.gather_events.Goals as goal
 
 pub returns-clause-text : goal.returns-clause-text

@@ -1,4 +1,4 @@
-use Rattle.trace_log.proofs.TracedNotes.{GivesPending-unless, HasCause-unless, OnOk-unless}
+use Rattle.trace_log.proofs.GivenLines.{GivesPending-unless, HasCause-unless, OnOk-unless}
 use Rattle.trace_log.proofs.logs.TraceLog.into_pending.Goals as goal
 
 pub returns-clause-text : goal.returns-clause-text
