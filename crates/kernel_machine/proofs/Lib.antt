@@ -6,3 +6,4 @@ pub mod TurnedParts
 pub mod RunningTask
 pub mod StepParts
 pub mod TurnBytes
+pub mod MachineStep

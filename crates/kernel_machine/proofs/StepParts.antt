@@ -1,6 +1,6 @@
 -- What each part of a step asks, inside a step.
 use Rattle.std.proofs.Common.{◌≡◌, ℕ, ◌+◌, ◌-◌, ◌*◌, ◌/◌, ◌^◌, ◌<◌, ◌≤◌, Bool, true, false, cond, Option, Some, None, refl, sym, ap, ◌∙◌, subst, arith}
-use Rattle.std.specs.Prelude.{is_none, is_some}
+use Rattle.std.specs.Prelude.{is_none, is_some, not}
 use Rattle.std.specs.Option.{option_map}
 use Rattle.std.proofs.Math.Nat.{div-le_self}
 use Rattle.session_text.specs.Ranges.{most_steps}
@@ -125,3 +125,8 @@ was-none o r e none = none-stopped o r e (ap is_none none)
 
 pub was-some : (o : Option KernelStop) (r : Option Stop) (t : Stop) → r ≡ option_map stop_of o → r ≡ Some t → (s : KernelStop) × (o ≡ Some s)
 was-some o r t e some = some-stopped o r e (ap is_none some)
+
+-- what is no `None` is some, and the reverse
+pub told : (r : Option Stop) (b c : Bool) → is_some r ≡ not b → b ≡ c → is_none r ≡ c
+told r true c e f = ap not e ∙ f
+told r false c e f = ap not e ∙ f

@@ -5,7 +5,7 @@ use Rattle.machine_parts.specs.Stops.{stop_of}
 use Rattle.kernel_steps.specs.Step.{after_the_turn, turn, unless_stopped, with_step}
 use Rattle.kernel_machine.specs.Leaves.{Leaves}
 use Rattle.kernel_machine.proofs.LeftParts.{leaves-none, leaves-then}
-use Rattle.kernel_machine.proofs.StepParts.{can-serve, can-turn, none-stopped, rest-goes, rest-stops, some-stopped, stands-step, step-goes, stop-in-turn}
+use Rattle.kernel_machine.proofs.StepParts.{can-serve, can-turn, none-stopped, rest-goes, rest-stops, some-stopped, stands-step, step-goes, stop-in-turn, told}
 use Rattle.kernel_machine.proofs.TurnBytes.{turn-bytes}
 use Rattle.kernel_machine.proofs.steps.step.Goals as goal
 
@@ -29,7 +29,7 @@ pub returns-then-is_none-clause-stepped : goal.returns-then-is_none-clause-stepp
 returns-then-is_none-clause-stepped g c = λ k st h goes few.
     let here = stands-step c.args.parts.now k _ st refl in
     let left = c.turn-stop.ensures.turned (with_step k) here (can-turn k h goes) in
-    let none = none-stopped _ _ (c.turn-stop.ensures.stop (with_step k) here (can-turn k h goes)) (sym c.is_none.ensures ∙ c.if-is_none.true) in
+    let none = none-stopped _ _ (c.turn-stop.ensures.stop (with_step k) here (can-turn k h goes)) (told _ _ _ c.is_none.ensures c.if-is_none.true) in
     let rest = c.serve.ensures (turn (with_step k)).kernel left.stands (can-serve k h goes few) in
     subst (Leaves _ _ _) (sym (step-goes k goes)) (leaves-then _ _ _ _ _ _ (unless_stopped after_the_turn) left (subst (Leaves _ _ _) (sym (rest-goes (turn (with_step k)).kernel none)) rest))
 
@@ -41,7 +41,7 @@ pub returns-else-is_none-clause-stepped : goal.returns-else-is_none-clause-stepp
 returns-else-is_none-clause-stepped g c = λ k st h goes few.
     let here = stands-step c.args.parts.now k _ st refl in
     let left = c.turn-stop.ensures.turned (with_step k) here (can-turn k h goes) in
-    let some = some-stopped _ _ (c.turn-stop.ensures.stop (with_step k) here (can-turn k h goes)) (sym c.is_none.ensures ∙ c.if-is_none.false) in
+    let some = some-stopped _ _ (c.turn-stop.ensures.stop (with_step k) here (can-turn k h goes)) (told _ _ _ c.is_none.ensures c.if-is_none.false) in
     let j = (turn (with_step k)).kernel in
     subst (Leaves _ _ _) (sym (step-goes k goes)) (leaves-then _ _ _ _ _ _ (unless_stopped after_the_turn) left (subst (Leaves _ _ _) (sym (rest-stops j some.0 some.1)) (leaves-none _ _ j left.stands)))
 
