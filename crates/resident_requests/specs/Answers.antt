@@ -1,6 +1,8 @@
 -- A resident returns a request, and ends its turn.
-use Rattle.std.specs.Prelude.{◌≡◌, ℕ, Result, Ok, Err, List, [], ◌∷◌}
+use Rattle.std.specs.Prelude.{◌≡◌, ℕ, ◌+◌, Result, Ok, Err, List, [], ◌∷◌}
+use Rattle.std.specs.List.{range_with_len}
 use Rattle.word_store.specs.Arithmetic.{signed}
+use Rattle.linked_list.specs.Count.{times}
 use Rattle.owned_words.specs.Owned.{owners}
 use Rattle.packet_queue.specs.QueueWords.{QueuedPacket}
 use Rattle.packet_queue.specs.declared.events.KernelEvent.TheVariants.{Accepted}
@@ -36,6 +38,10 @@ returned l r answer = record {
   plain = [];
   events = Accepted (signed r.sender) r.packet (signed l.running) ∷ [];
 }
+
+-- the five words of the request are owned besides
+abbrev pub OwnsRequest : Lists → Lists → Request → Type 0
+OwnsRequest l m r = (a : ℕ) → owners a (owned m) ≡ owners a (owned l) + times a (range_with_len r.packet 5)
 
 -- After its turn a resident waits where it has no packets, and still runs where it has some.
 abbrev pub finished_by : List QueuedPacket → Lists → Lists

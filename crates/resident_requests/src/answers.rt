@@ -6,7 +6,7 @@ ghost use Rattle.kernel_model.specs.HoldsLists.{HoldsLists};
 ghost use Rattle.kernel_model.specs.Lists.{Lists};
 ghost use Rattle.kernel_model.specs.NotedEvents.{NotesAll};
 ghost use Rattle.call_answers.specs.Made.{IsMade, minus_one};
-ghost use Rattle.resident_requests.specs.Answers.{IsFinished, answered, res1_of, res2_of, returned};
+ghost use Rattle.resident_requests.specs.Answers.{IsFinished, OwnsRequest, answered, res1_of, res2_of, returned};
 ghost use Rattle.resident_requests.specs.Requests.{HasRequest, RunsResident};
 
 use crate::requests::Request;
@@ -43,6 +43,9 @@ pub fn return_request<Q: KindKeeper, L: EventLog>(
         → RunsResident l → HasRequest store.old l request → word_of from ≡ l.running
         → NotesAll (L.noted log.old) (L.noted log.new) (L.has_failed log.old) (L.has_failed log.new)
         (returned l request answer).events }
+    ensures owns { (l : Lists) → HasKeeper store.old (Q.tells kinds.old) (Q.room kinds.old) l
+        → RunsResident l → HasRequest store.old l request → word_of from ≡ l.running
+        → OwnsRequest l (returned l request answer).lists request }
     ensures runs { (l : Lists) → RunsResident l → RunsResident (returned l request answer).lists }
     ensures room { Q.room kinds.new ≡ Q.room kinds.old }
 {
@@ -93,6 +96,9 @@ pub fn answer_request<Q: KindKeeper, L: EventLog>(
         → RunsResident l → HasRequest store.old l request → word_of from ≡ l.running
         → NotesAll (L.noted log.old) (L.noted log.new) (L.has_failed log.old) (L.has_failed log.new)
         (answered l request answer).events }
+    ensures owns { (l : Lists) → HasKeeper store.old (Q.tells kinds.old) (Q.room kinds.old) l
+        → RunsResident l → HasRequest store.old l request → word_of from ≡ l.running
+        → OwnsRequest l (answered l request answer).lists request }
     ensures room { Q.room kinds.new ≡ Q.room kinds.old }
 {
     return_request(store, kinds, request, from, answer, log);

@@ -18,3 +18,9 @@ returns-clause-made g c = λ l k runs h from.
 
 pub returns-clause-notes : goal.returns-clause-notes
 returns-clause-notes g c = λ l k runs h from. c.return_request.ensures.notes l k runs h (ap word_of (to_z-of_z c.ranges.from) ∙ from)
+
+pub returns-clause-owns : goal.returns-clause-owns
+returns-clause-owns g c = λ l k runs h from.
+    let made = c.return_request.ensures.made l k runs h (ap word_of (to_z-of_z c.ranges.from) ∙ from) in
+    let owns = c.return_request.ensures.owns l k runs h (ap word_of (to_z-of_z c.ranges.from) ∙ from) in
+    λ a. (c.finish_turn.ensures _ made.leaves.lists.lists (c.return_request.ensures.runs l runs)).same a ∙ owns a

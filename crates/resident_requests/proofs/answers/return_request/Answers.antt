@@ -4,7 +4,7 @@ use mir.Val.{of_z, to_z}
 use Rattle.word_store.specs.Arithmetic.{word_of}
 use Rattle.call_answers.specs.Made.{Leaves, minus_one}
 use Rattle.packet_calls.specs.Reply.{reply}
-use Rattle.resident_requests.proofs.ReturnedRequest.{can-return, is-noted, is-returned, return-room}
+use Rattle.resident_requests.proofs.ReturnedRequest.{can-return, is-noted, is-returned, owners-returned, return-room}
 use Rattle.resident_requests.proofs.RunningResident.{runs-work}
 use Rattle.resident_requests.proofs.answers.return_request.Goals as goal
 
@@ -33,3 +33,7 @@ returns-clause-notes g c = λ l k runs h from.
 
 pub returns-clause-runs : goal.returns-clause-runs
 returns-clause-runs g c = λ l runs. runs-work l c.args.request.sender _ runs
+
+pub returns-clause-owns : goal.returns-clause-owns
+returns-clause-owns g c = λ l k runs h from.
+    owners-returned c.args.store.now (g.Q.KindKeeper.tells c.args.kinds.now) (g.Q.KindKeeper.room c.args.kinds.now) l c.args.request _ k runs h (ap word_of (to_z-of_z c.ranges.from) ∙ from) c.args.answer
