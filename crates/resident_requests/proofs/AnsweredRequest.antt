@@ -1,5 +1,5 @@
 -- What a resident that answers a request leaves.
-use Rattle.std.proofs.Common.{◌≡◌, ℕ, Result, Ok, List, refl, sym, ◌∙◌}
+use Rattle.std.proofs.Common.{ℕ, Result, Ok, List, refl, sym, ◌∙◌}
 use Rattle.kernel_model.proofs.ChangedLists.{changed-then, knows-same}
 use Rattle.kernel_model.specs.Lists.{Lists}
 use Rattle.call_answers.specs.Made.{IsMade, minus_one}

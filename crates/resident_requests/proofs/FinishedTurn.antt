@@ -1,5 +1,5 @@
 -- What a resident that ends its turn leaves.
-use Rattle.std.proofs.Common.{◌≡◌, ◌≢◌, ℕ, ◌+◌, ◌≤◌, Bool, true, false, Ok, List, [], ◌∷◌, ◌++◌, map, cond, get_or, set, inl, inr, refl, sym, ap, ◌∙◌, subst, arith}
+use Rattle.std.proofs.Common.{◌≡◌, ◌≢◌, ℕ, ◌+◌, ◌≤◌, false, List, [], ◌∷◌, ◌++◌, map, cond, get_or, set, inl, inr, refl, sym, ap, ◌∙◌, subst, arith}
 use Rattle.std.proofs.lemmas.Bool.{false≢true}
 use Rattle.std.specs.List.{AllByRecursion}
 use Rattle.linked_list.specs.Count.{IsApart}
@@ -20,7 +20,7 @@ use Rattle.kernel_model.specs.ValidQueues.Place.{Work}
 use Rattle.kernel_model.specs.ValidTasks.{CoroutinesStand, IsResident, IsTask}
 use Rattle.kernel_model.proofs.AllThings.{all-here}
 use Rattle.kernel_model.proofs.ChainSplits.{change-between}
-use Rattle.kernel_model.proofs.ChangedLists.{changed-none, exchange-owned, knows-same, one_task-owned, owners-exchanged}
+use Rattle.kernel_model.proofs.ChangedLists.{changed-none, exchange-owned, one_task-owned, owners-exchanged}
 use Rattle.kernel_model.proofs.OneTask.{same_task-valid}
 use Rattle.packet_calls.specs.TaskWait.{waiting}
 use Rattle.packet_calls.proofs.CallerTask.{caller-low}

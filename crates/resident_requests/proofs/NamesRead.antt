@@ -1,13 +1,12 @@
 -- Names, as they are read from a store.
-use Rattle.std.proofs.Common.{◌≡◌, ℕ, ◌+◌, ◌<◌, ◌&&◌, Bool, true, false, Option, Some, None, Result, Ok, Err, List, cond, length, refl, sym, ap, ◌∙◌, subst, arith}
+use Rattle.std.proofs.Common.{◌≡◌, ℕ, ◌+◌, ◌<◌, ◌&&◌, Bool, true, false, Option, Some, None, Result, Ok, Err, List, cond, length, refl, sym, ap, ◌∙◌, arith}
 use Rattle.std.specs.Option.{SomeIff, ok_or}
-use Rattle.std.specs.List.{list_all}
 use Rattle.std.proofs.lemmas.Bool.{and_parts, le-leb, leb-true}
 use Rattle.std.proofs.lemmas.List.FromFn.{length-map-range_with_len}
 use Rattle.std.proofs.lemmas.List.Sums.{AllPass-from_list_all, list_all-from_AllPass}
 use Rattle.ram_disc.specs.Name.{IsName, is_name_byte}
 use Rattle.resident_requests.specs.Buffers.{byte_in, bytes_in, lies_inside}
-use Rattle.resident_requests.specs.Names.{is_name, is_name_at, name_at, string_in}
+use Rattle.resident_requests.specs.Names.{is_name, name_at, string_in}
 
 pub is_name-lawful : (bytes : List ℕ) → is_name bytes ≡ true → IsName bytes
 is_name-lawful bytes e =

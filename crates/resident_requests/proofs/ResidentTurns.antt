@@ -1,5 +1,5 @@
 -- The parts of a resident's turn, one after the other.
-use Rattle.std.proofs.Common.{◌≡◌, ◌≢◌, ℕ, ◌+◌, ◌<◌, ◌≤◌, Bool, true, false, Option, Some, None, Ok, List, [], ◌∷◌, ◌++◌, append-nil, get_or, set, length, inl, inr, refl, sym, ap, ◌∙◌, subst, arith, get_or-set_other, get_or-set_same}
+use Rattle.std.proofs.Common.{◌≡◌, ◌≢◌, ℕ, ◌+◌, ◌≤◌, Bool, Option, Some, None, Ok, List, [], ◌∷◌, ◌++◌, append-nil, get_or, set, length, inl, inr, sym, ap, ◌∙◌, subst, arith, get_or-set_other, get_or-set_same}
 use Rattle.std.specs.List.{AllByRecursion, range_with_len}
 use Rattle.std.proofs.lemmas.Bool.{cases_eq, cases_lt, false_from_ne_true}
 use Rattle.std.proofs.Math.Seq.{set_out}
@@ -25,7 +25,7 @@ use Rattle.packet_queue.specs.declared.events.KernelEvent.{KernelEvent}
 use Rattle.resident_requests.specs.Answers.{IsFinished, OwnsRequest, answered, finished}
 use Rattle.resident_requests.specs.Buffers.{with_bytes, written_buffer}
 use Rattle.resident_requests.specs.Requests.{HasRequest, IsForeign, IsTaken, RunsResident, TakesRequest, first_request, request_at, taken, taken_from, words_taken, words_taken_from, work}
-use Rattle.resident_requests.specs.Turns.{CanServe, HasWritten, IsResidentTurn, IsServed, ResidentTurn, Served, idle_turn, request_turn, served_turn, turn_of}
+use Rattle.resident_requests.specs.Turns.{CanServe, HasWritten, IsResidentTurn, IsServed, ResidentTurn, Served, request_turn, turn_of}
 use Rattle.resident_requests.specs.declared.requests.Request.{Request}
 use Rattle.resident_requests.proofs.WrittenBuffer.{has-written, writable-free}
 
@@ -44,11 +44,10 @@ takes-request l v r not_reporter not_console = record { runs = r; foreign = on (
   where
     on : (ps : List QueuedPacket) → AllByRecursion (MayStand l (Work l.running)) ps → IsForeign l ps
     on [] stand = tt
-    on (p ∷ ps) stand =
-        (
-          false_from_ne_true (is_key_packet l p) (λ e. (let i : IsKeyPacket (Work l.running) p = stand.0.key e in not_console i.place.0)),
-          false_from_ne_true (is_fault_packet l p) (λ e. (let i : IsFaultPacket l (Work l.running) p = stand.0.fault e in not_reporter (ap number_in i.place))),
-        )
+    on (p ∷ ps) stand = (
+      false_from_ne_true (is_key_packet l p) (λ e. (let i : IsKeyPacket (Work l.running) p = stand.0.key e in not_console i.place.0)),
+      false_from_ne_true (is_fault_packet l p) (λ e. (let i : IsFaultPacket l (Work l.running) p = stand.0.fault e in not_reporter (ap number_in i.place))),
+    )
 
 -- ---- the keeper
 
@@ -64,15 +63,15 @@ written-same [] s t a long same = same
 written-same (e ∷ es) s t a long same =
     elim (cases_eq a e.0) [
       | inl is ↦
-        elim (cases_lt e.0 (length s)) [
-          | inl inside ↦
-            ap (λ z. get_or (set (written es t) e.0 e.1) z 0) is
-            ∙ (get_or-set_same (written es t) e.0 e.1 0 (omega (arith, inside, long, length-written es t))
-            ∙ (sym (get_or-set_same (written es s) e.0 e.1 0 (omega (arith, inside, length-written es s))) ∙ ap (λ z. get_or (set (written es s) e.0 e.1) z 0) (sym is)))
-          | inr outside ↦
-            ap (λ z. get_or z a 0) (set_out (written es t) e.0 e.1 (omega (arith, outside, long, length-written es t)))
-            ∙ (written-same es s t a long same ∙ sym (ap (λ z. get_or z a 0) (set_out (written es s) e.0 e.1 (omega (arith, outside, length-written es s)))))
-        ]
+          elim (cases_lt e.0 (length s)) [
+            | inl inside ↦
+                ap (λ z. get_or (set (written es t) e.0 e.1) z 0) is
+                ∙ (get_or-set_same (written es t) e.0 e.1 0 (omega (arith, inside, long, length-written es t))
+                ∙ (sym (get_or-set_same (written es s) e.0 e.1 0 (omega (arith, inside, length-written es s))) ∙ ap (λ z. get_or (set (written es s) e.0 e.1) z 0) (sym is)))
+            | inr outside ↦
+                ap (λ z. get_or z a 0) (set_out (written es t) e.0 e.1 (omega (arith, outside, long, length-written es t)))
+                ∙ (written-same es s t a long same ∙ sym (ap (λ z. get_or z a 0) (set_out (written es s) e.0 e.1 (omega (arith, outside, length-written es s)))))
+          ]
       | inr ne ↦ get_or-set_other (written es t) e.0 a e.1 0 ne ∙ (written-same es s t a long same ∙ sym (get_or-set_other (written es s) e.0 a e.1 0 ne))
     ]
 

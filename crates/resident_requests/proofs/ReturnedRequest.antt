@@ -1,5 +1,5 @@
 -- What a resident that returns a request leaves.
-use Rattle.std.proofs.Common.{◌≡◌, ℕ, ◌+◌, ◌<◌, ◌≤◌, Bool, Option, Result, Ok, List, [], ◌∷◌, ◌++◌, get_or, refl, sym, ap, ◌∙◌, subst, append-nil}
+use Rattle.std.proofs.Common.{◌≡◌, ℕ, ◌+◌, ◌<◌, ◌≤◌, Bool, Option, Result, Ok, List, [], ◌∷◌, ◌++◌, sym, ap, ◌∙◌, subst, append-nil}
 use Rattle.std.specs.List.{AllByRecursion, range_with_len}
 use Rattle.word_store.specs.Arithmetic.{signed}
 use Rattle.linked_list.specs.Count.{times}

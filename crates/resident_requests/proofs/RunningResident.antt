@@ -1,9 +1,9 @@
 -- The resident that runs: its block, its number, its queue and its state, as the store has them.
-use Rattle.std.proofs.Common.{◌≡◌, ℕ, ◌+◌, ◌||◌, Bool, true, false, List, [], ◌∷◌, ◌++◌, map, cond, eqb, get_or, refl, sym, ap, ◌∙◌, subst}
+use Rattle.std.proofs.Common.{◌≡◌, ℕ, ◌+◌, ◌||◌, true, false, List, [], ◌∷◌, map, cond, eqb, get_or, refl, sym, ap, ◌∙◌, subst}
 use Rattle.std.specs.List.{AllByRecursion}
 use Rattle.owned_words.specs.Owned.{Holds}
 use Rattle.packet_queue.specs.QueueWords.{QueuedPacket, first_packet}
-use Rattle.kernel_model.specs.Changes.{queue_of, with_queue, with_work}
+use Rattle.kernel_model.specs.Changes.{with_queue, with_work}
 use Rattle.kernel_model.specs.HoldsLists.{HoldsLists}
 use Rattle.kernel_model.specs.Lists.{Lists, address_of_task, has_task}
 use Rattle.kernel_model.specs.Task.{Task, state_word, state_words, task_address, task_words}
@@ -50,10 +50,10 @@ module _ (s : List ℕ) (l : Lists) (h : HoldsLists s l) (r : RunsResident l) wh
 -- ---- where a work queue changes
 
 with_work-id : (id : ℕ) (ps : List QueuedPacket) (t : Task) → (with_work id ps t).id ≡ t.id
-with_work-id id ps t = elim (eqb t.id id) as (λ b. (cond b (record t { queue = ps }) t).id ≡ t.id) [ | true ↦ refl | false ↦ refl ]
+with_work-id id ps t = elim (eqb t.id id) as (λ b. (cond b (record t { queue = ps }) t).id ≡ t.id) [ true ↦ refl | false ↦ refl ]
 
 with_work-field : (id : ℕ) (ps : List QueuedPacket) (t : Task) → (with_work id ps t).field ≡ t.field
-with_work-field id ps t = elim (eqb t.id id) as (λ b. (cond b (record t { queue = ps }) t).field ≡ t.field) [ | true ↦ refl | false ↦ refl ]
+with_work-field id ps t = elim (eqb t.id id) as (λ b. (cond b (record t { queue = ps }) t).field ≡ t.field) [ true ↦ refl | false ↦ refl ]
 
 pub has_task-work : (i id : ℕ) (ps : List QueuedPacket) (ts : List Task) → has_task i (map (with_work id ps) ts) ≡ has_task i ts
 has_task-work i id ps [] = refl

@@ -1,5 +1,5 @@
 -- Bytes that are written change the words that hold them, and no others.
-use Rattle.std.proofs.Common.{◌≡◌, ◌≢◌, ℕ, zero, suc, ◌+◌, ◌/◌, ◌<◌, ◌≤◌, ◌⊎◌, ◌||◌, Bool, true, false, List, [], ◌∷◌, map, get_or, set, length, leb, inl, inr, refl, sym, ap, ◌∙◌, subst, arith, get_or-set_other, get_or-set_same, length-set}
+use Rattle.std.proofs.Common.{◌≡◌, ℕ, zero, suc, ◌+◌, ◌/◌, ◌<◌, ◌≤◌, ◌⊎◌, ◌||◌, Bool, true, false, List, [], ◌∷◌, map, get_or, set, length, leb, inl, inr, refl, sym, ap, ◌∙◌, subst, arith, get_or-set_other, get_or-set_same, length-set}
 use Rattle.std.specs.List.{range_with_len}
 use Rattle.std.proofs.lemmas.Bool.{and_parts, cases_eq, cases_lt, leb-true}
 use Rattle.owned_words.specs.Owned.{owners, written}
@@ -39,12 +39,12 @@ module _ (f : ℕ → ℕ) (s : List ℕ) (c : ℕ) where
   written-map (suc n) a low high inside =
       elim (cases_eq c a) [
         | inl e ↦
-          ap (λ z. get_or (set (written (map (λ b. (b, f b)) (range_with_len (a + 1) n)) s) a (f a)) z 0) e
-          ∙ (get_or-set_same (written (map (λ b. (b, f b)) (range_with_len (a + 1) n)) s) a (f a) 0 (omega (arith, inside, e, length-written (map (λ b. (b, f b)) (range_with_len (a + 1) n)) s))
-          ∙ ap f (sym e))
+            ap (λ z. get_or (set (written (map (λ b. (b, f b)) (range_with_len (a + 1) n)) s) a (f a)) z 0) e
+            ∙ (get_or-set_same (written (map (λ b. (b, f b)) (range_with_len (a + 1) n)) s) a (f a) 0 (omega (arith, inside, e, length-written (map (λ b. (b, f b)) (range_with_len (a + 1) n)) s))
+            ∙ ap f (sym e))
         | inr ne ↦
-          get_or-set_other (written (map (λ b. (b, f b)) (range_with_len (a + 1) n)) s) a c (f a) 0 ne
-          ∙ written-map n (a + 1) (omega (arith, low, ne)) (omega (arith, high)) inside
+            get_or-set_other (written (map (λ b. (b, f b)) (range_with_len (a + 1) n)) s) a c (f a) 0 ne
+            ∙ written-map n (a + 1) (omega (arith, low, ne)) (omega (arith, high)) inside
       ]
 
   written-map_other : (n a : ℕ) → (a ≤ c → c < a + n → ⊥) → get_or (written (map (λ b. (b, f b)) (range_with_len a n)) s) c 0 ≡ get_or s c 0
@@ -97,10 +97,10 @@ module _ (s : List ℕ) (l : Lists) (r : Request) (a n : ℕ) (bytes : List ℕ)
   beside i low =
       other (r.packet + i)
       (λ from to.
-          elim free.beside [
-            | inl before ↦ absurd (omega (arith, before, to, few))
-            | inr behind ↦ absurd (omega (arith, behind, from, low))
-          ])
+      elim free.beside [
+        | inl before ↦ absurd (omega (arith, before, to, few))
+        | inr behind ↦ absurd (omega (arith, behind, from, low))
+      ])
 
   owned-stay : (c : ℕ) → 0 < owners c (owned l) → get_or t c 0 ≡ get_or s c 0
   owned-stay c some = other c (λ from to. absurd (omega (arith, some, free.unowned c from (omega (arith, to, few)))))
@@ -110,10 +110,10 @@ module _ (s : List ℕ) (l : Lists) (r : Request) (a n : ℕ) (bytes : List ℕ)
       elim (cases_lt c a) [
         | inl below ↦ outside (λ from to. absurd (omega (arith, below, from)))
         | inr from ↦
-          elim (cases_lt c (a + covered (length bytes))) [
-            | inl to ↦ sym (written-map (λ b. get_or t b 0) s c (covered (length bytes)) a from to (omega (arith, to, few, free.inside)))
-            | inr behind ↦ outside (λ low high. absurd (omega (arith, behind, high)))
-          ]
+            elim (cases_lt c (a + covered (length bytes))) [
+              | inl to ↦ sym (written-map (λ b. get_or t b 0) s c (covered (length bytes)) a from to (omega (arith, to, few, free.inside)))
+              | inr behind ↦ outside (λ low high. absurd (omega (arith, behind, high)))
+            ]
       ]
     where
       outside : (a ≤ c → c < a + covered (length bytes) → ⊥) → get_or t c 0 ≡ get_or (written (written_buffer s a bytes) s) c 0

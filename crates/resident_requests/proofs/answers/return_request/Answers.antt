@@ -1,4 +1,4 @@
-use Rattle.std.proofs.Common.{◌≡◌, ◌∙◌, Ok, sym, ap, subst, w32}
+use Rattle.std.proofs.Common.{◌∙◌, Ok, ap, subst, w32}
 use Rattle.std.proofs.Math.Facts.{to_z-of_z}
 use mir.Val.{of_z, to_z}
 use Rattle.word_store.specs.Arithmetic.{word_of}

@@ -1,5 +1,3 @@
-use Rattle.std.proofs.Common.{◌+◌, subst}
-use Rattle.kernel_model.specs.Changes.{AreUnowned}
 use Rattle.resident_requests.proofs.BufferTests.{unowned-is}
 use Rattle.resident_requests.proofs.buffers.has_no_kernel_word.Goals as goal
 

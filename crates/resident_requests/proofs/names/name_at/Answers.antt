@@ -1,7 +1,4 @@
-use Rattle.std.proofs.Common.{◌∙◌, ap, sym, subst}
-use Rattle.std.specs.Option.{SomeIff}
-use Rattle.ram_disc.specs.Name.{IsName}
-use Rattle.resident_requests.specs.Buffers.{lies_inside}
+use Rattle.std.proofs.Common.{◌∙◌, sym}
 use Rattle.resident_requests.proofs.NamesRead.{long-name, name-read}
 use Rattle.resident_requests.proofs.names.name_at.Goals as goal
 

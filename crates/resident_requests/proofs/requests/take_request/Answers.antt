@@ -1,4 +1,4 @@
-use Rattle.std.proofs.Common.{◌≡◌, ◌∙◌, sym, subst, Some}
+use Rattle.std.proofs.Common.{◌∙◌, sym, subst, Some}
 use Rattle.word_store.specs.Arithmetic.{signed}
 use Rattle.packet_queue.specs.Log.{Notes}
 use Rattle.packet_queue.specs.declared.events.KernelEvent.TheVariants.{Taken}

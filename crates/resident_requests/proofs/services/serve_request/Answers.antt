@@ -1,4 +1,4 @@
-use Rattle.std.proofs.Common.{◌∙◌, ap, sym, subst, length}
+use Rattle.std.proofs.Common.{◌∙◌, ap}
 use Rattle.std.proofs.Math.Facts.{to_z-of_z}
 use Rattle.word_store.specs.Arithmetic.{word_of}
 use Rattle.resident_requests.specs.Turns.{service}
@@ -8,8 +8,7 @@ use Rattle.resident_requests.proofs.services.serve_request.Goals as goal
 pub answer_request-requires : goal.answer_request-requires
 answer_request-requires g c =
     let l = c.requires.request.0 in
-    let x = written-then c.args.store.now c.write_buffer.new.store l c.args.request (service c.args.answer c.args.at c.args.bytes.now) c.requires.request.1.lists c.requires.request.3 c.requires.request.5 c.write_buffer.ensures.words in
-    (
+    let x = written-then c.args.store.now c.write_buffer.new.store l c.args.request (service c.args.answer c.args.at c.args.bytes.now) c.requires.request.1.lists c.requires.request.3 c.requires.request.5 c.write_buffer.ensures.words in (
       l,
       keeper-written c.args.store.now c.write_buffer.new.store (g.Q.KindKeeper.tells c.args.kinds.now) (g.Q.KindKeeper.room c.args.kinds.now) l c.args.request (service c.args.answer c.args.at c.args.bytes.now) c.requires.request.1 x,
       c.requires.request.2,
