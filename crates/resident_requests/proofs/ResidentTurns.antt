@@ -17,6 +17,7 @@ use Rattle.kernel_model.specs.ValidQueues.{IsFaultPacket, IsKeyPacket, MayStand,
 use Rattle.kernel_model.specs.ValidQueues.Place.{Clock, Keyboard, Output, Pending, Work}
 use Rattle.kernel_model.proofs.QueuePlaces.{place-stands}
 use Rattle.call_answers.specs.Made.{IsMade, minus_one}
+use Rattle.kernel_calls.specs.Calls.{outside}
 use Rattle.kernel_model.proofs.ChangedLists.{changed-none, changed-then, knows-same}
 use Rattle.kernel_model.specs.HoldsLists.{HoldsLists}
 use Rattle.kernel_model.specs.NotedEvents.{NotesAll}
@@ -128,12 +129,12 @@ taken-plain t l r (p ∷ ps) e = let same : r ≡ request_at t p.address = cc in
 
 module _ (s t v : List ℕ) (l : Lists) (tells told : List ℕ → Type 0) (serve : List ℕ → Lists → Request → Served) (shown : List ℕ) (before mid now : Option (List KernelEvent)) (f h g : Bool) where
   -- there was no request, and the resident waits
-  pub turn-idle : IsTaken s t told l None → IsFinished t v (taken l).lists → NotesAll before now f g (taken l).events → IsResidentTurn v told shown shown before now f g (request_turn serve s l)
+  pub turn-idle : IsTaken s t told l None → IsFinished t v (taken l).lists → NotesAll before now f g (taken l).events → IsResidentTurn v told (outside shown before f) (outside shown now g) (request_turn serve s l)
   turn-idle x y notes = on (work l) x.knows x.words x.request y notes
     where
       on : (ps : List QueuedPacket) → Knows told (taken_from ps l).lists → t ≡ words_taken_from ps s l → None ≡ first_request t ps → IsFinished t v (taken_from ps l).lists
           → NotesAll before now f g (taken_from ps l).events
-          → IsResidentTurn v told shown shown before now f g (turn_of (first_request (words_taken_from ps s l) ps) (serve (words_taken_from ps s l) (taken_from ps l).lists) s l)
+          → IsResidentTurn v told (outside shown before f) (outside shown now g) (turn_of (first_request (words_taken_from ps s l) ps) (serve (words_taken_from ps s l) (taken_from ps l).lists) s l)
       on [] knows words e y notes =
           record {
             lists = subst (λ z. IsChanged z v (finished l) []) words y.lists;
@@ -166,9 +167,9 @@ module _ (s t v : List ℕ) (l : Lists) (tells told : List ℕ → Type 0) (serv
     turn-is = ap turn-in x.words ∙ sym (ap (λ o. turn_of o (serve (words_taken s l) m) s l) first-is)
 
     pub turn-served : IsServed t v tells m r (serve t m r) → NotesAll before mid f h (taken l).events → NotesAll mid now h g (answered m r (serve t m r).answer).events
-        → IsResidentTurn v tells shown shown before now f g (request_turn serve s l)
+        → IsResidentTurn v tells (outside shown before f) (outside shown now g) (request_turn serve s l)
     turn-served y one two =
-        subst (IsResidentTurn v tells shown shown before now f g) turn-is
+        subst (IsResidentTurn v tells (outside shown before f) (outside shown now g)) turn-is
         (record {
           lists =
               turn-changed s t v m (answered m r (serve t m r).answer).lists r.packet (written_buffer t (serve t m r).at (serve t m r).bytes)

@@ -1,10 +1,11 @@
 -- What a resident's turn leaves.
-use Rattle.std.specs.Prelude.{◌≡◌, ◌⊎◌, ℕ, ◌≤◌, Bool, true, Option, Some, None, Result, List, [], ◌++◌, length}
+use Rattle.std.specs.Prelude.{◌≡◌, ◌⊎◌, ℕ, ◌≤◌, true, Option, Some, None, Result, List, [], ◌++◌, length}
 use Rattle.owned_words.specs.Owned.{Pairs}
 use Rattle.packet_queue.specs.declared.events.KernelEvent.{KernelEvent}
 use Rattle.kernel_model.specs.ChangedStore.{IsChanged, Knows}
 use Rattle.kernel_model.specs.Lists.{Lists}
 use Rattle.kernel_model.specs.NotedEvents.{NotesAll}
+use Rattle.kernel_calls.specs.Calls.{Outside}
 use Rattle.resident_requests.specs.Answers.{OwnsRequest, answered, finished}
 use Rattle.resident_requests.specs.Buffers.{is_writable, written_buffer}
 use Rattle.resident_requests.specs.Requests.{HasRequest, first_request, taken, words_taken, work}
@@ -21,12 +22,11 @@ pub record ResidentTurn : Type 0 where
 
 -- The store is t: it holds the lists that the turn leaves, and of the other words its plain ones have changed; the keeper knows the
 -- words of those lists; its bytes went to the console, and its events to the log.
-pub record IsResidentTurn (t : List ℕ) (tells : List ℕ → Type 0) (shown_before shown : List ℕ) (before now : Option (List KernelEvent)) (had_failed has_failed : Bool) (m : ResidentTurn)
-    : Type 0 where
+pub record IsResidentTurn (t : List ℕ) (tells : List ℕ → Type 0) (old new : Outside) (m : ResidentTurn) : Type 0 where
   pub lists : IsChanged m.words t m.lists m.plain
   pub knows : Knows tells m.lists
-  pub bytes : shown ≡ shown_before ++ m.bytes
-  pub notes : NotesAll before now had_failed has_failed m.events
+  pub bytes : new.shown ≡ old.shown ++ m.bytes
+  pub notes : NotesAll old.noted new.noted old.failed new.failed m.events
 
 -- These bytes were written into a buffer from word a on: the store holds the same lists, of the other words only those of the
 -- buffer have changed, and the request stands as it did.
