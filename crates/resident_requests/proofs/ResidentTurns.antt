@@ -56,6 +56,12 @@ takes-request l v r not_reporter not_console = record { runs = r; foreign = on (
 pub keeper-after : (s t : List ℕ) (tells told : List ℕ → Type 0) (room : ℕ) (l m : Lists) (plain : Pairs) → HasKeeper s tells room l → IsChanged s t m plain → Knows told m → HasKeeper t told room m
 keeper-after s t tells told room l m plain k x knows = record { lists = x.lists; knows = knows; enough = subst (λ n. n ≤ room) (sym x.size) k.enough }
 
+-- it does once a request was taken
+pub keeper-taken : (s t : List ℕ) (tells told : List ℕ → Type 0) (room after : ℕ) (l : Lists) (result : Option Request) → HasKeeper s tells room l → IsTaken s t told l result → after ≡ room
+    → HasKeeper t told after (taken l).lists
+keeper-taken s t tells told room after l result k x same =
+    subst (λ n. HasKeeper t told n (taken l).lists) (sym same) (keeper-after s t tells told room l (taken l).lists (taken l).plain k x.lists x.knows)
+
 -- ---- the whole turn
 
 -- the same words are written over two stores that have the same word at an address

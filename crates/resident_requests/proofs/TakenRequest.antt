@@ -156,3 +156,11 @@ first-of s l h r t p at is_p =
     on : (ps : List QueuedPacket) → AllByRecursion (λ q. 0 < q.address) ps → p ≡ first_packet ps → packet_or_none p ≡ first_of_queue ps
     on [] some e = ap packet_or_none e
     on (q ∷ qs) some e = ap packet_or_none e ∙ ap (λ b. cond b None (Some q.address)) (ne_eqb q.address 0 (λ z. absurd (omega (arith, z, some.0))))
+
+-- the same resident runs once it has taken a request
+pub taken-running : (l : Lists) → (taken l).lists.running ≡ l.running
+taken-running l = on (work l)
+  where
+    on : (ps : List QueuedPacket) → (taken_from ps l).lists.running ≡ l.running
+    on [] = refl
+    on (p ∷ ps) = refl

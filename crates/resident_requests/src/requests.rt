@@ -26,6 +26,9 @@ const SECOND: u32 = 6;
 
 const THIRD: u32 = 7;
 
+/// The code with which a handler refuses a request of a type that it does not know.
+pub const UNKNOWN_TYPE: u32 = 31;
+
 /// A request that was taken: the address of its packet, the task that sent it, its type, and its arguments, the words 5, 6 and 7
 /// of the packet. An argument outside the store is 0.
 #[derive(Clone, Copy, Debug, PartialEq, Eq)]
