@@ -1,0 +1,100 @@
+-- A resident takes a request: its first packet, which is then on no queue.
+use Rattle.std.specs.Prelude.{◌≡◌, ℕ, ◌+◌, Option, Some, None, true, false, IfSome, List, [], ◌∷◌, slice_index}
+use Rattle.std.specs.List.{AllByRecursion}
+use Rattle.word_store.specs.Arithmetic.{signed}
+use Rattle.owned_words.specs.Owned.{Pairs}
+use Rattle.packet_queue.specs.Queue.{no_queue}
+use Rattle.packet_queue.specs.QueueWords.{QueuedPacket}
+use Rattle.packet_queue.specs.declared.events.KernelEvent.{KernelEvent}
+use Rattle.packet_queue.specs.declared.events.KernelEvent.TheVariants.{Taken}
+use Rattle.kernel_model.specs.ChangedStore.{IsChanged, Knows}
+use Rattle.kernel_model.specs.Changes.{AreUnowned, queue_of, with_queue}
+use Rattle.kernel_model.specs.Lists.{Lists, has_task}
+use Rattle.kernel_model.specs.Task.{is_guest_id}
+use Rattle.kernel_model.specs.ValidBlocks.{AreData}
+use Rattle.kernel_model.specs.ValidQueues.{is_fault_packet, is_key_packet}
+use Rattle.kernel_model.specs.ValidQueues.Place.{Work}
+use Rattle.kernel_model.specs.ValidTasks.{runs}
+use Rattle.packet_moves.specs.Destinations.{queue_for}
+use Rattle.packet_moves.specs.QueueWords.{unqueued}
+use Rattle.resident_requests.specs.declared.requests.Request.{Request}
+
+-- a resident runs, and its state says so
+pub record RunsResident (l : Lists) : Type 0 where
+  pub resident : is_guest_id l.running ≡ false
+  pub there : has_task l.running l.tasks ≡ true
+  pub field : AllByRecursion (λ t. t.id ≡ l.running → t.field ≡ runs) l.tasks
+
+-- its packets
+abbrev pub work : Lists → List QueuedPacket
+work l = queue_of (Work l.running) l
+
+-- the first one is none of the residents' own
+abbrev pub IsForeign : Lists → List QueuedPacket → Type 0
+IsForeign l [] = Unit {0}
+IsForeign l (p ∷ ps) = (is_key_packet l p ≡ false) × (is_fault_packet l p ≡ false)
+
+-- a resident runs that may take a request
+pub record TakesRequest (l : Lists) : Type 0 where
+  pub runs : RunsResident l
+  pub foreign : IsForeign l (work l)
+
+-- ---- what taking leaves
+
+-- the lists, the plain words that were written, and the events
+pub record Taking : Type 0 where
+  pub lists : Lists
+  pub plain : Pairs
+  pub events : List KernelEvent
+
+abbrev pub taken_from : List QueuedPacket → Lists → Taking
+taken_from [] l = record { lists = l; plain = []; events = [] }
+taken_from (p ∷ ps) l = record {
+  lists = with_queue (Work l.running) ps l;
+  plain = (p.address, no_queue) ∷ [];
+  events = Taken (signed l.running) p.address (signed p.sender) ∷ [];
+}
+
+abbrev pub taken : Lists → Taking
+taken l = taken_from (work l) l
+
+-- the store then: what a handler reads, it reads of this one
+abbrev pub words_taken_from : List QueuedPacket → List ℕ → Lists → List ℕ
+words_taken_from [] s l = s
+words_taken_from (p ∷ ps) s l = unqueued s (queue_for l (Work l.running)) p.address
+
+abbrev pub words_taken : List ℕ → Lists → List ℕ
+words_taken s l = words_taken_from (work l) s l
+
+-- the request of the packet at p, whose words 5, 6 and 7 are the arguments; outside the store these are 0
+abbrev pub request_at : List ℕ → ℕ → Request
+request_at s p = record {
+  packet = p;
+  sender = slice_index s (p + 1);
+  kind = slice_index s (p + 2);
+  first = slice_index s (p + 5);
+  second = slice_index s (p + 6);
+  third = slice_index s (p + 7);
+}
+
+abbrev pub first_request : List ℕ → List QueuedPacket → Option Request
+first_request s [] = None
+first_request s (p ∷ ps) = Some (request_at s p.address)
+
+-- The request was taken: its packet stands in the data of one used block, nobody owns its words, and its sender is there.
+pub record HasRequest (s : List ℕ) (l : Lists) (r : Request) : Type 0 where
+  pub sender : slice_index s (r.packet + 1) ≡ r.sender
+  pub kind : slice_index s (r.packet + 2) ≡ r.kind
+  pub there : has_task r.sender l.tasks ≡ true
+  pub lodged : AreData l.blocks r.packet 5
+  pub plain : AreUnowned l r.packet (r.packet + 5)
+
+-- From the store s the store t has become one in which the request was taken: its lists, the words that the keeper knows, and all
+-- its words.
+pub record IsTaken (s t : List ℕ) (tells : List ℕ → Type 0) (l : Lists) (result : Option Request) : Type 0 where
+  pub lists : IsChanged s t (taken l).lists (taken l).plain
+  pub knows : Knows tells (taken l).lists
+  pub words : t ≡ words_taken s l
+  pub runs : RunsResident (taken l).lists
+  pub request : result ≡ first_request t (work l)
+  pub stands : IfSome result (λ r. HasRequest t (taken l).lists r)

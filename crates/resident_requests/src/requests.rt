@@ -1,0 +1,98 @@
+// A resident takes a request.
+ghost use Rattle.std.specs.Prelude.{◌≡◌};
+ghost use Rattle.kernel_model.specs.ChangedStore.{HasKeeper};
+ghost use Rattle.kernel_model.specs.HoldsLists.{HoldsLists};
+ghost use Rattle.kernel_model.specs.Lists.{Lists};
+ghost use Rattle.kernel_model.specs.NotedEvents.{NotesAll};
+ghost use Rattle.packet_calls.specs.TaskWait.{first_of_queue};
+ghost use Rattle.resident_requests.specs.Requests.{IsTaken, RunsResident, TakesRequest, request_at, taken, work};
+
+use call_answers::numbers::SENDER;
+use packet_moves::Queue;
+use packet_moves::events::taken;
+use packet_moves::packets::PACKET_WORDS;
+use packet_moves::queues::unqueue;
+use packet_queue::EventLog;
+use task_block::{RootField, TcbField, field, root};
+use word_kinds::KindKeeper;
+use word_store::{Store, word_at};
+
+/// The word of a packet that has its type, and those that have the arguments of a request.
+const KIND: u32 = 2;
+
+const FIRST: u32 = 5;
+
+const SECOND: u32 = 6;
+
+const THIRD: u32 = 7;
+
+/// The code with which a handler refuses a request of a type that it does not know.
+pub const UNKNOWN_TYPE: u32 = 31;
+
+/// A request that was taken: the address of its packet, the task that sent it, its type, and its arguments, the words 5, 6 and 7
+/// of the packet. An argument outside the store is 0.
+#[derive(Clone, Copy, Debug, PartialEq, Eq)]
+pub struct Request {
+    pub packet: u32,
+    pub sender: u32,
+    pub kind: u32,
+    pub first: u32,
+    pub second: u32,
+    pub third: u32,
+}
+
+/// The resident that runs takes its first packet, which is then on no queue, with the link -1; its words are plain, and the
+/// keeper is told. `None` exactly where it has no packets; then nothing changes. The packet must be none of the residents' own.
+pub fn take_request<Q: KindKeeper, L: EventLog>(
+    store: &mut Store,
+    kinds: &mut Q,
+    log: &mut L,
+) -> Option<Request>
+    requires { (l : Lists) × HasKeeper store.old (Q.tells kinds.old) (Q.room kinds.old) l
+        × TakesRequest l }
+    ensures taken { (l : Lists) → HasKeeper store.old (Q.tells kinds.old) (Q.room kinds.old) l
+        → TakesRequest l → IsTaken store.old store.new (Q.tells kinds.new) l result }
+    ensures notes { (l : Lists) → HasKeeper store.old (Q.tells kinds.old) (Q.room kinds.old) l
+        → TakesRequest l → NotesAll (L.noted log.old) (L.noted log.new)
+        (L.has_failed log.old) (L.has_failed log.new) (taken l).events }
+    ensures room { Q.room kinds.new ≡ Q.room kinds.old }
+{
+    let task = root(store, RootField::Running);
+    let p = field(store, task, TcbField::Queue);
+    if p == 0 {
+        return None;
+    }
+    let id = field(store, task, TcbField::Id);
+    unqueue(store, Queue::OfTask(task), p);
+    kinds.release(p, PACKET_WORDS);
+    log.note(taken(id, p, word_at(store, p, SENDER)));
+    Some(request_at(store, p))
+}
+
+/// The address of the first packet of the resident that runs, or `None` exactly where it has none.
+pub fn first_packet(store: &Store) -> Option<u32>
+    requires { (l : Lists) × HoldsLists store.now l × RunsResident l }
+    ensures { (l : Lists) → HoldsLists store.now l → RunsResident l
+        → result ≡ first_of_queue (work l) }
+{
+    let task = root(store, RootField::Running);
+    let p = field(store, task, TcbField::Queue);
+    if p == 0 {
+        return None;
+    }
+    Some(p)
+}
+
+// The request of the packet at p.
+fn request_at(store: &Store, p: u32) -> Request
+    ensures { result ≡ request_at store.now p }
+{
+    Request {
+        packet: p,
+        sender: word_at(store, p, SENDER),
+        kind: word_at(store, p, KIND),
+        first: word_at(store, p, FIRST),
+        second: word_at(store, p, SECOND),
+        third: word_at(store, p, THIRD),
+    }
+}
