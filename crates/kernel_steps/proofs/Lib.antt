@@ -1,0 +1,10 @@
+pub mod FoundTask
+pub mod DispatchedTasks
+pub mod DispatchKept
+pub mod RunningCaller
+pub mod TurnKept
+pub mod NextTick
+pub mod DevicesKept
+pub mod StoredWords
+pub mod QuietDispatch
+pub mod QuietDevices

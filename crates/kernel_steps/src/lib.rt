@@ -1,2 +1,6 @@
 // What a step of a machine with a kernel does, and a run. The functions do nothing: their contracts are the laws.
 #![tactic(auto)]
+
+pub mod device_laws;
+pub mod dispatch_laws;
+pub mod turn_laws;

@@ -1,0 +1,54 @@
+-- What one part of a step leaves after another.
+use Rattle.std.proofs.Common.{◌≡◌, ℕ, ◌<◌, ◌++◌, List, [], length, Bool, false, Option, refl, sym, ap, ◌∙◌, subst, arith, append_assoc, append-nil}
+use Rattle.word_store.specs.declared.registers.Regs.{Regs}
+use Rattle.owned_words.specs.Owned.{Pairs, written}
+use Rattle.kernel_model.specs.ChangedStore.{IsChanged, Knows}
+use Rattle.kernel_model.specs.HoldsLists.{HoldsLists}
+use Rattle.kernel_model.specs.Kernel.{Kernel, Stop}
+use Rattle.kernel_model.specs.Lists.{Lists}
+use Rattle.kernel_model.proofs.NotedInTurn.{notes-none, notes-then}
+use Rattle.word_kinds.specs.ByteMap.{MarksAll}
+use Rattle.kernel_calls.specs.Calls.{Outside}
+use Rattle.machine_parts.specs.declared.parts.Parts.{Parts}
+use Rattle.machine_parts.specs.Stands.{Stands}
+use Rattle.kernel_steps.specs.Step.{Stepped, and_then, quietly, with_store}
+use Rattle.kernel_machine.specs.Leaves.{Leaves}
+use Rattle.kernel_machine.proofs.StoreKernels.{store-image, store-plain}
+
+-- nothing was done
+pub leaves-none : (p : Parts) (o : Outside) (k : Kernel) → Stands p k → Leaves p o o (quietly k)
+leaves-none p o k st = record { stands = st; bytes = sym (append-nil o.shown); notes = notes-none o.noted o.failed }
+
+-- one after the other
+pub leaves-then : (p q : Parts) (a b c : Outside) (x : Stepped) (next : Kernel → Stepped) → Leaves p a b x → Leaves q b c (next x.kernel) → Leaves q a c (and_then x next)
+leaves-then p q a b c x next one two = record {
+  stands = two.stands;
+  bytes = two.bytes ∙ ap (λ z. z ++ (next x.kernel).bytes) one.bytes ∙ append_assoc a.shown x.bytes (next x.kernel).bytes;
+  notes = notes-then a.noted b.noted c.noted a.failed b.failed c.failed x.events (next x.kernel).events one.notes two.notes;
+}
+
+-- lists, plain words and registers have changed, and with them the keeper and whether the machine stops
+pub record SameMachine (l m : Lists) : Type 0 where
+  pub period : m.period ≡ l.period
+  pub residents : m.residents ≡ l.residents
+
+module _ (p : Parts) (k : Kernel) (st : Stands p k) where
+  pub stands-changed : (s t : List ℕ) (marks : List Bool) (regs : Regs) (l : Lists) (plain : Pairs) (r : Regs) (stop : Option Stop) → length s ≡ length p.store → IsChanged s t l plain → Knows (MarksAll marks) l → length marks ≡ length p.kinds
+      → regs ≡ r → SameMachine k.lists l → Stands (record p { store = t; regs = regs; kinds = marks }) (record (with_store (written plain s) l k) { regs = r; stop = stop })
+  stands-changed s t marks regs l plain r stop size c knows room e same =
+      let own = c.lists.valid.owns in
+      let image = store-image l k st.full own s t plain c.lists.size c.written in
+      let words = store-plain l k st.full own (written plain s) in
+      record {
+        full = st.full;
+        keeper = record { lists = c.lists; knows = knows; enough = omega (arith, c.size, size, room, st.keeper.enough) };
+        image = record { size = image.size; holds = image.holds; plain = image.plain };
+        plain = record { size = words.size; plain = words.plain; owned = words.owned };
+        regs = e;
+        type_ahead = st.type_ahead;
+        disc = st.disc;
+        keys = st.keys;
+        steps = st.steps;
+        period = st.period ∙ sym same.period;
+        rest = record { residents = same.residents ∙ st.rest.residents; console = st.rest.console; shell = st.rest.shell; pipes = st.rest.pipes };
+      }

@@ -1,0 +1,3 @@
+pub mod StoreKernels
+pub mod OneMachine
+pub mod LeftParts

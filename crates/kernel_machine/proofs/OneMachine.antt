@@ -1,0 +1,65 @@
+-- The parts of a machine stand for one kernel alone.
+use Rattle.std.proofs.Common.{◌≡◌, ℕ, ◌<◌, List, [], length, cond, Bool, true, false, Option, None, refl, sym, ap, ◌∙◌, subst, arith, inl, inr}
+use Rattle.std.proofs.lemmas.Bool.{cases_lt}
+use Rattle.std.proofs.lemmas.List.{ext_get_or}
+use Rattle.owned_words.specs.Owned.{owners}
+use Rattle.kernel_model.specs.HoldsLists.{HoldsLists}
+use Rattle.kernel_model.specs.Image.{HasPlainWords, IsImage, plain_at, plain_words}
+use Rattle.kernel_model.specs.Kernel.{Kernel, owned_by}
+use Rattle.kernel_model.specs.Lists.{Lists}
+use Rattle.kernel_model.specs.Owned.{owned}
+use Rattle.kernel_model.specs.Recovered.{lists_in}
+use Rattle.kernel_model.proofs.RecoveredLists.{lists-back}
+use Rattle.bare_machine.specs.declared.stops.Stop.{Stop}
+use Rattle.machine_parts.specs.declared.parts.Parts.{Parts}
+use Rattle.machine_parts.specs.Stands.{Stands}
+use Rattle.kernel_steps.specs.Step.{with_store}
+use Rattle.kernel_machine.specs.Machine.{kernel_of, stop_in}
+use Rattle.kernel_machine.proofs.StoreKernels.{store-image, store-plain}
+
+-- the plain words are those of the store that nobody owns
+module _ (s : List ℕ) (k j : Kernel) (p : HasPlainWords k) (q : HasPlainWords j) (is : IsImage s k) (js : IsImage s j) (words : owned_by k ≡ owned_by j) where
+  same-at : (a : ℕ) → a < length k.plain → plain_at k a ≡ plain_at j a
+  same-at a low = elim (cases_lt 0 (owners a (owned_by k))) [
+    | inl some ↦ p.owned a some ∙ sym (q.owned a (omega (arith, some, ap (owners a) words)))
+    | inr few ↦
+        let none : owners a (owned_by k) ≡ 0 = omega (arith, few) in
+        let inside : a < length s = omega (arith, low, p.size, is.size) in
+        is.plain a inside none ∙ sym (js.plain a inside (sym (ap (owners a) words) ∙ none))
+  ]
+
+  pub same-plain : k.plain ≡ j.plain
+  same-plain = ext_get_or None k.plain j.plain (p.size ∙ sym is.size ∙ js.size ∙ sym q.size) same-at
+
+module _ (p : Parts) (k : Kernel) (st : Stands p k) where
+  lists-one : lists_in p.store ≡ k.lists
+  lists-one = let h = st.keeper.lists in lists-back p.store k.lists h.valid h.size h.holds
+
+  -- nothing is written
+  pub plain-one : k.plain ≡ plain_words p.store k.lists
+  plain-one =
+      let h = st.keeper.lists in
+      let words : Kernel = with_store p.store k.lists k in
+      same-plain p.store k words st.plain (store-plain k.lists k st.full h.valid.owns p.store) st.image
+      (store-image k.lists k st.full h.valid.owns p.store p.store [] h.size (record { holds = h.holds; others = λ a none. refl })) refl
+
+  pub one-machine : (stop : Option Stop) → k.stop ≡ stop_in stop → kernel_of p stop ≡ k
+  unfolding kernel_of
+  one-machine stop e =
+      let lists : lists_in p.store ≡ k.lists = lists-one in
+      let plain : plain_words p.store (lists_in p.store) ≡ k.plain = ap (plain_words p.store) lists ∙ sym plain-one in
+      let whole : ◌≡◌ {A = Kernel} (kernel_of p stop) k = λ i. record {
+        bare = sym st.full i;
+        lists = lists i;
+        plain = plain i;
+        regs = st.regs i;
+        steps = st.steps i;
+        console = sym st.rest.console i;
+        shell = sym st.rest.shell i;
+        disc = st.disc i;
+        type_ahead = st.type_ahead i;
+        keys = st.keys i;
+        pipes = sym st.rest.pipes i;
+        stop = sym e i;
+      } in
+      whole

@@ -1,0 +1,64 @@
+-- The kernel of a store in which lists and plain words have changed.
+use Rattle.std.proofs.Common.{◌≡◌, ℕ, ◌+◌, ◌<◌, List, [], ◌∷◌, length, get_or, eqb, cond, Bool, true, false, Option, Some, None, refl, sym, ap, ◌∙◌, subst, arith}
+use Rattle.std.specs.Prelude.{is_some}
+use Rattle.std.proofs.lemmas.List.FromFn.{get_or-map-range_with_len, length-map-range_with_len}
+use Rattle.owned_words.specs.Owned.{Holds, Pairs, owners, word_in, written}
+use Rattle.owned_words.specs.Written.{IsWritten}
+use Rattle.owned_words.proofs.OwnedWords.{word_in-none}
+use Rattle.kernel_model.specs.Image.{HasPlainWords, IsImage, plain_words}
+use Rattle.kernel_model.specs.Kernel.{Kernel, owned_by}
+use Rattle.kernel_model.specs.Lists.{Lists}
+use Rattle.kernel_model.specs.Owned.{OwnsApart, owned}
+use Rattle.kernel_steps.specs.Step.{with_store}
+
+-- an address that is owned has a word
+word_in-some : (a : ℕ) (es : Pairs) → 0 < owners a es → is_some (word_in a es) ≡ true
+word_in-some a [] some = absurd (omega (arith, some))
+word_in-some a (e ∷ es) some = on (eqb a e.0) refl some (word_in-some a es)
+  where
+    on : (b : Bool) → eqb a e.0 ≡ b → 0 < cond b 1 0 + owners a es → (0 < owners a es → is_some (word_in a es) ≡ true) → is_some (cond b (Some e.1) (word_in a es)) ≡ true
+    on true e some more = refl
+    on false e some more = more (omega (arith, some))
+
+abbrev plain_word : List ℕ → Lists → ℕ → Option ℕ
+plain_word s l a = cond (is_some (word_in a (owned l))) None (Some (get_or s a 0))
+
+plain-word : (s : List ℕ) (l : Lists) (a : ℕ) → a < l.size → get_or (plain_words s l) a None ≡ plain_word s l a
+unfolding plain_words
+plain-word s l a low = get_or-map-range_with_len (plain_word s l) 0 l.size a a None low (omega arith)
+
+length-plain : (s : List ℕ) (l : Lists) → length (plain_words s l) ≡ l.size
+unfolding plain_words
+length-plain s l = length-map-range_with_len (plain_word s l) 0 l.size
+
+-- a word that nobody owns is the store's
+plain-unowned : (s : List ℕ) (l : Lists) (a : ℕ) → a < l.size → owners a (owned l) ≡ 0 → get_or (plain_words s l) a None ≡ Some (get_or s a 0)
+plain-unowned s l a low none = plain-word s l a low ∙ ap (λ o. cond (is_some o) None (Some (get_or s a 0))) (word_in-none a (owned l) none)
+
+-- a word that is owned is no plain one
+plain-owned : (s : List ℕ) (l : Lists) (a : ℕ) → a < l.size → 0 < owners a (owned l) → get_or (plain_words s l) a None ≡ None
+plain-owned s l a low some = plain-word s l a low ∙ ap (λ b. cond b None (Some (get_or s a 0))) (word_in-some a (owned l) some)
+
+module _ (l : Lists) (k : Kernel) (full : k.bare ≡ false) (own : OwnsApart l) where
+  owned-store : (s : List ℕ) → owned_by (with_store s l k) ≡ owned l
+  owned-store s = ap (λ b. cond b [] (owned l)) full
+
+  pub store-plain : (s : List ℕ) → HasPlainWords (with_store s l k)
+  store-plain s =
+      let all : (a : ℕ) → owners a (owned_by (with_store s l k)) ≡ owners a (owned l) = λ a. ap (owners a) (owned-store s) in
+      record {
+        size = length-plain s l;
+        plain = λ a low none. (get_or s a 0, plain-unowned s l a low (sym (all a) ∙ none));
+        owned = λ a some. (let here : 0 < owners a (owned l) = omega (arith, some, all a) in plain-owned s l a (own.inside a here) here);
+      }
+
+  pub store-image : (s t : List ℕ) (plain : Pairs) → length t ≡ l.size → IsWritten s t (owned l) plain → IsImage t (with_store (written plain s) l k)
+  store-image s t plain size w =
+      let all : owned_by (with_store (written plain s) l k) ≡ owned l = owned-store (written plain s) in
+      record {
+        size = size;
+        holds = subst (Holds t) (sym all) w.holds;
+        plain = λ a low none.
+            let free : owners a (owned l) ≡ 0 = sym (ap (owners a) all) ∙ none in
+            plain-unowned (written plain s) l a (omega (arith, low, size)) free ∙ ap (λ z. Some z) (sym (w.others a free));
+      }

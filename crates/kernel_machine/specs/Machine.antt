@@ -1,0 +1,59 @@
+-- A machine with a kernel, as contracts see it.
+use Rattle.std.specs.Prelude.{◌≡◌, ◌==◌, ℕ, Option, Some, None, List, [], ◌∷◌, false, if◌then◌else◌}
+use Rattle.std.specs.Option.{option_map}
+use Rattle.packet_queue.specs.declared.events.KernelEvent.{KernelEvent}
+use Rattle.packet_queue.specs.declared.events.KernelEvent.TheVariants.{Runs}
+use Rattle.kernel_model.specs.Image.{plain_words}
+use Rattle.kernel_model.specs.Kernel.{Kernel, Stop as KernelStop}
+use Rattle.kernel_model.specs.Kernel.Stop.{Quit as KernelQuit, Finish as KernelFinish, Fault as KernelFault}
+use Rattle.kernel_model.specs.Pipes.{no_pipes}
+use Rattle.kernel_model.specs.Recovered.{lists_in}
+use Rattle.kernel_model.specs.ValidKernel.{IsFullMachine, no_command, no_line}
+use Rattle.bare_machine.specs.declared.stops.Stop.{Stop}
+use Rattle.bare_machine.specs.declared.stops.Stop.TheVariants.{Steps, Quit, Finish, Fault}
+use Rattle.machine_parts.specs.declared.parts.Parts.{Parts}
+use Rattle.machine_parts.specs.Stands.{Stands}
+use Rattle.machine_parts.specs.Stops.{stop_of}
+
+-- its kernel, and the bytes of its last step
+pub record MachineView : Type 0 where
+  pub kernel : Kernel
+  pub output : List ℕ
+
+-- the stop of a run, in the words of a kernel
+abbrev pub kernel_stop : Stop → Option KernelStop
+kernel_stop Steps = None
+kernel_stop (Quit result) = Some (KernelQuit result)
+kernel_stop Finish = Some KernelFinish
+kernel_stop (Fault code address task) = Some (KernelFault code address task)
+
+abbrev pub stop_in : Option Stop → Option KernelStop
+stop_in None = None
+stop_in (Some stop) = kernel_stop stop
+
+-- the kernel, read off the parts
+unfoldable pub kernel_of : Parts → Option Stop → Kernel
+kernel_of p stop = record {
+  bare = false;
+  lists = lists_in p.store;
+  plain = plain_words p.store (lists_in p.store);
+  regs = p.regs;
+  steps = p.step;
+  console = no_line;
+  shell = no_command;
+  disc = p.disc;
+  type_ahead = p.tty;
+  keys = p.keys;
+  pipes = no_pipes;
+  stop = stop_in stop;
+}
+
+-- the parts stand for this kernel, which is valid, and so for no other one
+pub record IsWhole (p : Parts) (stop : Option Stop) : Type 0 where
+  pub stands : Stands p (kernel_of p stop)
+  pub valid : IsFullMachine (kernel_of p stop)
+  pub stopped : stop ≡ option_map stop_of (stop_in stop)
+
+-- the events of a boot: a dispatch lets the running task run, where there is one
+abbrev pub boot_events : Kernel → List KernelEvent
+boot_events k = if k.lists.running == 0 then [] else Runs k.lists.running ∷ []

@@ -1,0 +1,75 @@
+// The devices and dispatch.
+ghost use Rattle.std.specs.Prelude.{◌≡◌, ◌<◌, ◌-◌, ◌^◌, length};
+ghost use Rattle.kernel_model.specs.Kernel.{Kernel};
+ghost use Rattle.kernel_dispatch.specs.Dispatch.{CanDispatch};
+ghost use Rattle.kernel_calls.specs.Calls.{outside};
+ghost use Rattle.machine_parts.specs.Stands.{Stands};
+ghost use Rattle.kernel_steps.specs.Step.{dispatch, key, output, tick, with_key_typed};
+ghost use Rattle.kernel_machine.specs.Leaves.{Leaves};
+
+use clock_device::tick as clock_tick;
+use kernel_dispatch::switch;
+use machine_parts::Parts;
+use packet_queue::EventLog;
+use tp_io::Output;
+use tty_device::finish_output;
+
+/// In a step that is a multiple of the period the clock ticks.
+pub(crate) fn tick<L: EventLog>(parts: &mut Parts, out: &Output, log: &mut L)
+    requires { (k : Kernel) × Stands parts.old k × (k.lists.tick < 2 ^ 32 - 1) }
+    ensures { (k : Kernel) → Stands parts.old k → k.lists.tick < 2 ^ 32 - 1
+        → Leaves parts.new
+        (outside out.now (L.noted log.old) (L.has_failed log.old))
+        (outside out.now (L.noted log.new) (L.has_failed log.new)) (tick k) }
+{
+    if parts.step % u64::from(parts.period) == 0 {
+        clock_tick(&mut parts.store, log);
+    }
+}
+
+/// The key that is due is typed, and the first byte that is typed ahead meets the first packet that waits for one.
+pub(crate) fn key<L: EventLog>(parts: &mut Parts, out: &Output, log: &mut L)
+    requires { (k : Kernel) × Stands parts.old k }
+    ensures { (k : Kernel) → Stands parts.old k
+        → Leaves parts.new
+        (outside out.now (L.noted log.old) (L.has_failed log.old))
+        (outside out.now (L.noted log.new) (L.has_failed log.new)) (key k) }
+{
+    enter_key(parts);
+    parts.tty.meet(&mut parts.store, log);
+}
+
+// Where the first key still to come is due by now, it is typed.
+fn enter_key(parts: &mut Parts)
+    ensures { (k : Kernel) → Stands parts.old k → Stands parts.new (with_key_typed k) }
+{
+    if let Some((due, byte)) = parts.keys.first() {
+        if due <= parts.step {
+            parts.keys.advance();
+            parts.tty.enter(byte);
+        }
+    }
+}
+
+/// The first packet that waits for the output device is served.
+pub(crate) fn output<L: EventLog>(parts: &mut Parts, out: &mut Output, log: &mut L)
+    requires stands { (k : Kernel) × Stands parts.old k }
+    requires room_for_byte { length out.old < 8192 }
+    ensures { (k : Kernel) → Stands parts.old k
+        → Leaves parts.new
+        (outside out.old (L.noted log.old) (L.has_failed log.old))
+        (outside out.new (L.noted log.new) (L.has_failed log.new)) (output k) }
+{
+    finish_output(&mut parts.store, out, log);
+}
+
+/// The first ready task runs.
+pub(crate) fn dispatch<L: EventLog>(parts: &mut Parts, out: &Output, log: &mut L)
+    requires { (k : Kernel) × Stands parts.old k × CanDispatch k.lists k.regs }
+    ensures { (k : Kernel) → Stands parts.old k → CanDispatch k.lists k.regs
+        → Leaves parts.new
+        (outside out.now (L.noted log.old) (L.has_failed log.old))
+        (outside out.now (L.noted log.new) (L.has_failed log.new)) (dispatch k) }
+{
+    switch(&mut parts.store, &mut parts.regs, &mut parts.kinds, log);
+}

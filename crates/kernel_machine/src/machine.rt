@@ -1,0 +1,109 @@
+// A machine with a kernel.
+ghost use Rattle.std.specs.Prelude.{◌≡◌, ◌<◌, ◌+◌, ◌≤◌, [], Some, None, false};
+ghost use Rattle.std.specs.Option.{option_map};
+ghost use Rattle.session_text.specs.Ranges.{most_steps};
+ghost use Rattle.kernel_model.specs.Kernel.{Kernel};
+ghost use Rattle.kernel_model.specs.NotedEvents.{NotesAll};
+ghost use Rattle.kernel_model.specs.ValidKernel.{IsFullMachine};
+ghost use Rattle.machine_parts.specs.Stands.{Stands};
+ghost use Rattle.machine_parts.specs.Stops.{stop_of};
+ghost use Rattle.kernel_steps.specs.Step.{step};
+ghost use Rattle.kernel_machine.specs.Machine.{boot_events, kernel_of};
+
+use crate::steps::step;
+use crate::turns::running;
+use bare_machine::Stop;
+use machine_parts::Parts;
+use packet_queue::{EventLog, KernelEvent};
+use std::marker::Model;
+use tp_io::Output;
+
+/// A machine with a kernel. Contracts see it as the one valid kernel for which its parts stand, and the bytes of its last step.
+#[derive(Drop)]
+pub struct Machine {
+    pub(crate) parts: Parts,
+    pub(crate) stop: Option<Stop>,
+    pub(crate) output: Output,
+}
+
+impl Model for Machine {
+    ghost use Rattle.kernel_machine.specs.Machine.{IsWhole, MachineView, kernel_of};
+
+    ghost Value = { MachineView };
+
+    ghost view = { λ m. record { kernel = kernel_of m.parts m.stop; output = m.output } };
+
+    ghost invariant = { λ m. IsWhole m.parts m.stop };
+}
+
+impl Machine {
+    /// The machine with these parts, which has not stopped, and has no output.
+    pub fn from_parts(parts: Parts) -> Machine
+        requires { (k : Kernel) × Stands parts k × IsFullMachine k × (k.stop ≡ None) }
+        ensures kernel { (k : Kernel) → Stands parts k → IsFullMachine k → k.stop ≡ None
+            → result.kernel ≡ k }
+        ensures output { result.output ≡ [] }
+    {
+        Machine {
+            parts,
+            stop: None,
+            output: Output::new(),
+        }
+    }
+
+    /// Its parts.
+    pub fn into_parts(self) -> Parts
+        ensures { Stands result self.kernel }
+    {
+        self.parts
+    }
+
+    /// Its parts, lent.
+    pub fn parts(&self) -> &Parts
+        ensures { Stands result.now self.now.kernel }
+    {
+        &self.parts
+    }
+
+    /// Why it has stopped, if it has.
+    pub fn stop(&self) -> Option<Stop>
+        ensures { result ≡ option_map stop_of self.now.kernel.stop }
+    {
+        self.stop
+    }
+
+    /// The console bytes of the last step, lent; none before the first step.
+    pub fn output(&self) -> &[u8]
+        ensures { result.now ≡ self.now.output }
+    {
+        self.output.bytes()
+    }
+
+    /// Notes the events of the boot of a machine that has taken no step: that its running task runs, where there is one.
+    pub fn note_boot<L: EventLog>(&self, log: &mut L)
+        ensures { NotesAll (L.noted log.old) (L.noted log.new) (L.has_failed log.old)
+            (L.has_failed log.new) (boot_events self.now.kernel) }
+    {
+        let task = running(&self.parts.store);
+        if task != 0 {
+            log.note(KernelEvent::Runs { task });
+        }
+    }
+
+    /// Takes one step, and answers why the machine has stopped, if it has. A machine that has stopped before stays as it is,
+    /// but for its output, which is empty then.
+    pub fn step<L: EventLog>(&mut self, log: &mut L) -> Option<Stop>
+        requires { self.old.kernel.steps < most_steps }
+        ensures kernel { self.new.kernel ≡ (step self.old.kernel).kernel }
+        ensures output { self.new.output ≡ (step self.old.kernel).bytes }
+        ensures events { NotesAll (L.noted log.old) (L.noted log.new) (L.has_failed log.old)
+            (L.has_failed log.new) (step self.old.kernel).events }
+        ensures stop { result ≡ option_map stop_of self.new.kernel.stop }
+    {
+        self.output.clear();
+        if self.stop.is_none() {
+            self.stop = step(&mut self.parts, &mut self.output, log);
+        }
+        self.stop
+    }
+}

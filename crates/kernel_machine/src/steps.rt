@@ -1,0 +1,56 @@
+// A step: the running task's turn, the devices, and dispatch.
+ghost use Rattle.std.specs.Prelude.{◌≡◌, ◌<◌, ◌-◌, ◌^◌, ◌+◌, ◌≤◌, None, length};
+ghost use Rattle.std.specs.Option.{option_map};
+ghost use Rattle.session_text.specs.Ranges.{most_steps};
+ghost use Rattle.kernel_model.specs.Kernel.{Kernel};
+ghost use Rattle.kernel_model.specs.ValidKernel.{IsFullMachine};
+ghost use Rattle.kernel_calls.specs.Calls.{outside};
+ghost use Rattle.machine_parts.specs.Stands.{Stands};
+ghost use Rattle.machine_parts.specs.Stops.{stop_of};
+ghost use Rattle.kernel_steps.specs.Step.{after_the_turn, step};
+ghost use Rattle.kernel_machine.specs.Leaves.{CanServe, Leaves};
+
+use crate::devices::{dispatch, key, output, tick};
+use crate::turns::turn;
+use bare_machine::Stop;
+use machine_parts::Parts;
+use packet_queue::EventLog;
+use tp_io::Output;
+
+/// One step of a machine that has not stopped. The answer is why it stops in this step, if it does.
+pub(crate) fn step<L: EventLog>(
+    parts: &mut Parts,
+    out: &mut Output,
+    log: &mut L,
+) -> Option<Stop>
+    requires stands { (k : Kernel) × Stands parts.old k × IsFullMachine k × (k.stop ≡ None)
+        × (k.steps < most_steps) }
+    requires room { length out.old + 2 ≤ 8192 }
+    ensures stepped { (k : Kernel) → Stands parts.old k → IsFullMachine k → k.stop ≡ None
+        → k.steps < most_steps → Leaves parts.new
+        (outside out.old (L.noted log.old) (L.has_failed log.old))
+        (outside out.new (L.noted log.new) (L.has_failed log.new)) (step k) }
+    ensures stop { (k : Kernel) → Stands parts.old k → IsFullMachine k → k.stop ≡ None
+        → k.steps < most_steps → result ≡ option_map stop_of (step k).kernel.stop }
+{
+    parts.step += 1;
+    let stop = turn(parts, out, log);
+    if stop.is_none() {
+        serve(parts, out, log);
+    }
+    stop
+}
+
+// The devices, and then dispatch.
+fn serve<L: EventLog>(parts: &mut Parts, out: &mut Output, log: &mut L)
+    requires stands { (k : Kernel) × Stands parts.old k × CanServe k }
+    requires room_for_byte { length out.old < 8192 }
+    ensures { (k : Kernel) → Stands parts.old k → CanServe k → Leaves parts.new
+        (outside out.old (L.noted log.old) (L.has_failed log.old))
+        (outside out.new (L.noted log.new) (L.has_failed log.new)) (after_the_turn k) }
+{
+    tick(parts, out, log);
+    key(parts, out, log);
+    output(parts, out, log);
+    dispatch(parts, out, log);
+}

@@ -1,0 +1,141 @@
+-- What a dispatch leaves: the first ready task runs, and the same tasks are ready.
+use Rattle.std.proofs.Common.{◌≡◌, ◌↔◌, ℕ, ◌<◌, ◌≤◌, ◌&&◌, Bool, true, false, Option, Some, None, List, map, cond, eqb, refl, sym, ap, ◌∙◌, subst, arith}
+use Rattle.std.specs.List.{AllByRecursion, list_any}
+use Rattle.std.specs.Option.{option_map_or}
+use Rattle.std.proofs.lemmas.Bool.{eqb-true}
+use Rattle.linked_list.specs.Count.{IsApart}
+use Rattle.word_store.specs.declared.registers.Regs.{Regs}
+use Rattle.owned_words.specs.Owned.{written}
+use Rattle.kernel_model.specs.Between.{is_ready}
+use Rattle.kernel_model.specs.Changes.{change_of}
+use Rattle.kernel_model.specs.Lists.{Lists}
+use Rattle.kernel_model.specs.Task.{Task, task_id}
+use Rattle.kernel_model.specs.ValidLists.{AreValid}
+use Rattle.kernel_model.specs.ValidTasks.{IsTask, runs}
+use Rattle.kernel_model.proofs.AllThings.{all-always}
+use Rattle.kernel_model.proofs.EachMember.{all-both, all-each}
+use Rattle.kernel_model.proofs.TaskPlaces.{TaskPlace, task-places}
+use Rattle.kernel_dispatch.specs.Dispatch.{CanDispatch, Dispatched, dispatched, first_ready_task, goes_on, packets_taken, resumed, suspended, unchanged, unlinked_words, with_next, with_nobody, with_resumed, with_suspended}
+use Rattle.kernel_dispatch.specs.ReadyTasks.{HasReady, is_ready_id}
+use Rattle.guest_turns.specs.GuestTurn.{numbers_of}
+use Rattle.kernel_steps.specs.Parts.{RunsFirst}
+use Rattle.kernel_steps.proofs.DispatchedTasks.{any-kept, bytes-resumed, fields-resumed, first-resumed, id-changed, ids-changed, none-run, resumed-byte, resumed-idle, resumed-kept, suspended-kept}
+use Rattle.kernel_steps.proofs.FoundTask.{found-holds, only-found}
+
+-- ---- the three ways of a dispatch
+
+-- the first ready task goes on without a change
+pub record GoesOn (l : Lists) (t : Task) : Type 0 where
+  pub first : first_ready_task l ≡ Some t
+  pub running : t.id ≡ l.running
+  pub field : t.field ≡ runs
+
+module _ (words : List ℕ) (l : Lists) (r : Regs) (P : Dispatched → Type 0) where
+  abbrev m : Lists
+  m = with_suspended r l
+
+  module _ (goes : (t : Task) → GoesOn l t → P (unchanged l r)) (nobody : first_ready_task m ≡ None → P (with_nobody m))
+      (next : (t : Task) → first_ready_task m ≡ Some t → P (with_resumed words t m)) where
+    otherwise : (o : Option Task) → first_ready_task m ≡ o → P (with_next words m o)
+    otherwise None is = nobody is
+    otherwise (Some t) is = next t is
+
+    unless-same : (o : Option Task) → first_ready_task l ≡ o → P (cond (goes_on l o) (unchanged l r) (with_next words m (first_ready_task m)))
+    unless-same None is = otherwise (first_ready_task m) refl
+    unless-same (Some t) is = on (eqb t.id l.running) refl (eqb t.field 0) refl
+      where
+        on : (b : Bool) → eqb t.id l.running ≡ b → (c : Bool) → eqb t.field 0 ≡ c → P (cond (b && c) (unchanged l r) (with_next words m (first_ready_task m)))
+        on true e true f = goes t (record { first = is; running = eqb-true t.id l.running e; field = eqb-true t.field 0 f })
+        on true e false f = otherwise (first_ready_task m) refl
+        on false e c f = otherwise (first_ready_task m) refl
+
+    pub three-ways : P (dispatched words l r)
+    unfolding dispatched
+    three-ways = unless-same (first_ready_task l) refl
+
+-- ---- the first ready task runs
+
+module _ (words : List ℕ) (l : Lists) (r : Regs) (can : CanDispatch l r) where
+  abbrev Runs : Dispatched → Type 0
+  Runs d = AreValid d.lists → RunsFirst d.lists d.regs
+
+  goes : (t : Task) → GoesOn l t → Runs (unchanged l r)
+  goes t g v =
+      record {
+        running = sym g.running ∙ sym (ap (λ o. option_map_or task_id o 0) g.first);
+        field =
+            all-each (λ u. (u.field ≡ runs → u.id ≡ l.running) × (u.id ≡ t.id → u.field ≡ runs)) (λ u. (u.field ≡ runs) ↔ (u.id ≡ l.running))
+            (λ u h. (h.0, λ is. h.1 (is ∙ sym g.running))) l.tasks
+            (all-both (λ u. u.field ≡ runs → u.id ≡ l.running) (λ u. u.id ≡ t.id → u.field ≡ runs) l.tasks can.field
+            (only-found (λ u. u.field ≡ runs) is_ready l.tasks t g.first v.tasks.distinct g.field));
+        byte = can.byte;
+        idle = can.idle;
+      }
+
+  abbrev suspended_lists : Lists
+  suspended_lists = with_suspended r l
+
+  stopped : AllByRecursion (λ t. t.field ≡ runs → ⊥) suspended_lists.tasks
+  stopped = none-run l.running r l.tasks can.field
+
+  nobody : first_ready_task suspended_lists ≡ None → Runs (with_nobody suspended_lists)
+  nobody none v =
+      let idle : Lists = (with_nobody suspended_lists).lists in
+      record {
+        running = sym (ap (λ o. option_map_or task_id o 0) none);
+        field =
+            all-each (λ t. (t.field ≡ runs → ⊥) × (1 ≤ t.id)) (λ t. (t.field ≡ runs) ↔ (t.id ≡ 0))
+            (λ t h. (λ is. absurd (h.0 is), λ is. absurd (omega (arith, is, h.1)))) idle.tasks
+            (all-both (λ t. t.field ≡ runs → ⊥) (λ t. 1 ≤ t.id) idle.tasks stopped
+            (all-each (TaskPlace idle) (λ t. 1 ≤ t.id) (λ t p. p.low_id) idle.tasks (task-places idle v)));
+        byte = omega arith;
+        idle = λ _. refl;
+      }
+
+  next : (t : Task) → first_ready_task suspended_lists ≡ Some t → Runs (with_resumed words t suspended_lists)
+  next t is v =
+      let left : List ℕ = written (unlinked_words (packets_taken t)) words in
+      let after : Lists = (with_resumed words t suspended_lists).lists in
+      let apart : IsApart (map task_id suspended_lists.tasks) = subst IsApart (ids-changed t.id resumed (λ u. refl) suspended_lists.tasks) v.tasks.distinct in
+      let bytes : AllByRecursion (λ u. u.saved.c < 256) suspended_lists.tasks =
+      bytes-resumed t.id suspended_lists.tasks (all-each (IsTask after) (λ u. u.saved.c < 256) (λ u h. h.byte) after.tasks v.tasks.each)
+      in
+      record {
+        running = sym (first-resumed suspended_lists.tasks t is apart);
+        field = fields-resumed t.id suspended_lists.tasks stopped;
+        byte = resumed-byte l.version left t (found-holds (λ u. u.saved.c < 256) is_ready suspended_lists.tasks t is bytes);
+        idle = resumed-idle l.version left t;
+      }
+
+  pub runs-first : AreValid (dispatched words l r).lists → RunsFirst (dispatched words l r).lists (dispatched words l r).regs
+  runs-first v = three-ways words l r Runs goes nobody next v
+
+-- ---- the same tasks are ready
+
+pub ready-same : (words : List ℕ) (l : Lists) (r : Regs) → AreValid l → (id : ℕ) → is_ready_id (dispatched words l r).lists id ≡ is_ready_id l id
+ready-same words l r v id =
+    three-ways words l r (λ d. is_ready_id d.lists id ≡ is_ready_id l id) (λ t g. refl) (λ none. before) (λ t is. after t is ∙ before)
+  where
+    each : (n : ℕ) (f : Task → Task) → ((t : Task) → (f t).id ≡ t.id) → (ts : List Task) → AllByRecursion (λ u. is_ready (change_of n f u) ≡ is_ready u) ts
+        → list_any (λ t. eqb t.id id && is_ready t) (map (change_of n f) ts) ≡ list_any (λ t. eqb t.id id && is_ready t) ts
+    each n f same ts kept =
+        any-kept (λ t. eqb t.id id && is_ready t) (change_of n f) ts
+        (all-each (λ u. is_ready (change_of n f u) ≡ is_ready u) (λ u. (eqb (change_of n f u).id id && is_ready (change_of n f u)) ≡ (eqb u.id id && is_ready u))
+        (λ u h. λ i. eqb (id-changed n f same u i) id && h i) ts kept)
+
+    apart : IsApart (map task_id (with_suspended r l).tasks)
+    apart = subst IsApart (sym (ids-changed l.running (suspended r) (λ t. refl) l.tasks)) v.tasks.distinct
+
+    before : is_ready_id (with_suspended r l) id ≡ is_ready_id l id
+    before = each l.running (suspended r) (λ t. refl) l.tasks (all-always (λ u. is_ready (change_of l.running (suspended r) u) ≡ is_ready u) (suspended-kept l.running r) l.tasks)
+
+    after : (t : Task) → first_ready_task (with_suspended r l) ≡ Some t → is_ready_id (with_resumed words t (with_suspended r l)).lists id ≡ is_ready_id (with_suspended r l) id
+    after t is = each t.id resumed (λ u. refl) (with_suspended r l).tasks (resumed-kept (with_suspended r l).tasks t is apart)
+
+pub ready-kept : (ready : List Bool) (words : List ℕ) (l : Lists) (r : Regs) → AreValid l → HasReady ready l → HasReady ready (dispatched words l r).lists
+ready-kept ready words l r v has id low = has id low ∙ sym (ready-same words l r v id)
+
+-- ---- the numbers stay, but for that of the running task
+
+pub dispatch-numbers : (words : List ℕ) (l : Lists) (r : Regs) → numbers_of (dispatched words l r).lists ≡ record (numbers_of l) { running = (dispatched words l r).lists.running }
+dispatch-numbers words l r = three-ways words l r (λ d. numbers_of d.lists ≡ record (numbers_of l) { running = d.lists.running }) (λ t g. refl) (λ none. refl) (λ t is. refl)

@@ -1,0 +1,60 @@
+-- A dispatch that changes nothing: the first ready task runs already.
+use Rattle.std.proofs.Common.{◌≡◌, ◌↔◌, ℕ, Option, Some, None, List, [], ◌∷◌, cond, eqb, map, refl, sym, ap, ◌∙◌}
+use Rattle.std.specs.Option.{option_map_or}
+use Rattle.std.proofs.lemmas.Bool.{and_from, eq-eqb}
+use Rattle.word_store.specs.declared.registers.Regs.{Regs}
+use Rattle.packet_queue.specs.declared.events.KernelEvent.TheVariants.{Runs}
+use Rattle.kernel_model.specs.Between.{is_ready}
+use Rattle.kernel_model.specs.Changes.{change_of, with_tasks}
+use Rattle.kernel_model.specs.Image.{image}
+use Rattle.kernel_model.specs.Kernel.{Kernel}
+use Rattle.kernel_model.specs.Lists.{Lists}
+use Rattle.kernel_model.specs.Task.{Task, is_guest_id, task_id}
+use Rattle.kernel_model.specs.ValidLists.{AreValid}
+use Rattle.kernel_model.specs.ValidTasks.{no_regs, runs}
+use Rattle.kernel_model.proofs.ChainSplits.{change-none}
+use Rattle.kernel_model.proofs.TaskPlaces.{task-places}
+use Rattle.kernel_dispatch.specs.Dispatch.{dispatched, first_ready_task, goes_on, suspended, unchanged, with_next, with_suspended}
+use Rattle.kernel_dispatch.proofs.SuspendedLists.{none-runs}
+use Rattle.kernel_steps.specs.Parts.{RunsFirst}
+use Rattle.kernel_steps.specs.Step.{dispatch, quietly, switched}
+use Rattle.kernel_steps.proofs.FoundTask.{found-holds}
+use Rattle.kernel_steps.proofs.StoredWords.{HasStore, settled-same}
+
+module _ (words : List ℕ) (l : Lists) (r : Regs) (h : RunsFirst l r) (v : AreValid l) where
+  -- a task is ready, so it runs
+  somebody-stays : (t : Task) → first_ready_task l ≡ Some t → dispatched words l r ≡ unchanged l r
+  unfolding dispatched
+  somebody-stays t is =
+      let same : t.id ≡ l.running = ap (λ o. option_map_or task_id o 0) (sym is) ∙ sym h.running in
+      let field : t.field ≡ runs = (found-holds (λ u. (u.field ≡ runs) ↔ (u.id ≡ l.running)) is_ready l.tasks t is h.field).1 same in
+      ap (λ o. cond (goes_on l o) (unchanged l r) (with_next words (with_suspended r l) (first_ready_task (with_suspended r l)))) is
+      ∙ ap (λ b. cond b (unchanged l r) (with_next words (with_suspended r l) (first_ready_task (with_suspended r l))))
+      (and_from (eqb t.id l.running) (eqb t.field 0) (eq-eqb t.id l.running same) (eq-eqb t.field 0 field))
+
+  -- none is, and nobody runs
+  nobody-stays : first_ready_task l ≡ None → dispatched words l r ≡ unchanged l r
+  unfolding dispatched
+  nobody-stays none =
+      let zero : l.running ≡ 0 = h.running ∙ ap (λ o. option_map_or task_id o 0) none in
+      let same : with_suspended r l ≡ l =
+      ap (λ i. with_tasks (map (change_of i (suspended r)) l.tasks) l) zero ∙ ap (λ ts. with_tasks ts l) (change-none 0 (suspended r) l.tasks (none-runs l (task-places l v)))
+      in
+      let idle : r ≡ no_regs = h.idle (ap is_guest_id zero) in
+      ap (λ o. cond (goes_on l o) (unchanged l r) (with_next words (with_suspended r l) (first_ready_task (with_suspended r l)))) none
+      ∙ ap (λ m. with_next words m (first_ready_task m)) same
+      ∙ ap (λ o. with_next words l o) none
+      ∙ (λ i. record { lists = record l { running = sym zero i }; plain = []; regs = sym idle i; events = cond (eq-eqb l.running 0 zero i) [] (Runs 0 ∷ []) })
+
+  pub dispatched-stays : dispatched words l r ≡ unchanged l r
+  dispatched-stays = on (first_ready_task l) refl
+    where
+      on : (o : Option Task) → first_ready_task l ≡ o → dispatched words l r ≡ unchanged l r
+      on (Some t) is = somebody-stays t is
+      on None is = nobody-stays is
+
+pub dispatch-stays : (s : List ℕ) (k : Kernel) → HasStore s k → RunsFirst k.lists k.regs → dispatch k ≡ quietly k
+unfolding dispatch
+dispatch-stays s k h first =
+    ap (switched k) (dispatched-stays (image k) k.lists k.regs first h.valid)
+    ∙ ap (λ j. quietly (record j { regs = k.regs })) (settled-same s k k.lists h refl (λ a. refl))

@@ -1,0 +1,39 @@
+-- What the parts of a step leave.
+use Rattle.std.specs.Prelude.{◌≡◌, ◌↔◌, ℕ, ◌+◌, ◌%◌, ◌<◌, ◌==◌, false, if◌then◌else◌}
+use Rattle.std.specs.List.{AllByRecursion}
+use Rattle.word_store.specs.declared.registers.Regs.{Regs}
+use Rattle.kernel_model.specs.Between.{first_ready}
+use Rattle.kernel_model.specs.Kernel.{Kernel}
+use Rattle.kernel_model.specs.Lists.{Lists}
+use Rattle.kernel_model.specs.Task.{is_guest_id}
+use Rattle.kernel_model.specs.ValidTasks.{no_regs, runs}
+use Rattle.guest_turns.specs.GuestTurn.{Numbers, numbers_of}
+
+-- The first ready task runs, and nobody where none is ready; its field alone says so; and C is a byte, and where no guest runs all
+-- registers are 0.
+pub record RunsFirst (l : Lists) (r : Regs) : Type 0 where
+  pub running : l.running ≡ first_ready l.tasks
+  pub field : AllByRecursion (λ t. (t.field ≡ runs) ↔ (t.id ≡ l.running)) l.tasks
+  pub byte : r.c < 256
+  pub idle : is_guest_id l.running ≡ false → r ≡ no_regs
+
+-- what no part of a step changes
+pub record IsSameMachine (k j : Kernel) : Type 0 where
+  pub bare : j.bare ≡ k.bare
+  pub steps : j.steps ≡ k.steps
+  pub console : j.console ≡ k.console
+  pub shell : j.shell ≡ k.shell
+  pub disc : j.disc ≡ k.disc
+  pub pipes : j.pipes ≡ k.pipes
+
+-- the ticks once the clock was asked
+abbrev pub tick_after : Kernel → ℕ
+tick_after k = if k.steps % k.lists.period == 0 then k.lists.tick + 1 else k.lists.tick
+
+abbrev pub numbers_after_tick : Kernel → Numbers
+numbers_after_tick k = record (numbers_of k.lists) { tick = tick_after k }
+
+-- and what none but the keyboard changes
+pub record HasSameKeys (k j : Kernel) : Type 0 where
+  pub keys : j.keys ≡ k.keys
+  pub ahead : j.type_ahead ≡ k.type_ahead

@@ -1,0 +1,43 @@
+-- Steps in which no device acts.
+use Rattle.std.specs.Prelude.{◌≡◌, ℕ, ◌+◌, ◌/◌, ◌<◌, ◌⊎◌, List, [], ◌∷◌}
+use Rattle.cint_exec.specs.Instruction.{After, instruction}
+use Rattle.packet_queue.specs.QueueWords.{QueuedPacket}
+use Rattle.kernel_model.specs.Image.{image}
+use Rattle.kernel_model.specs.Kernel.{Kernel}
+use Rattle.clock_device.specs.Tick.{with_tick}
+use Rattle.guest_instructions.specs.Guarded.{is_owned}
+use Rattle.kernel_steps.specs.Step.{with_store}
+
+-- the first key, and so each key, comes after this step
+abbrev pub ComeAfter : ℕ → List (ℕ × ℕ) → Type 0
+ComeAfter n [] = Unit {0}
+ComeAfter n (key ∷ keys) = n < key.0
+
+-- the first packet, and so each packet, is due after this tick
+abbrev pub AreDueAfter : ℕ → List QueuedPacket → Type 0
+AreDueAfter n [] = Unit {0}
+AreDueAfter n (p ∷ ps) = n < p.last
+
+-- in the next m steps nothing is printed, no byte meets a packet, no key comes, and no packet is due
+pub record IsQuietFor (m : ℕ) (k : Kernel) : Type 0 where
+  pub output : k.lists.output ≡ []
+  pub keyboard : (k.lists.keyboard ≡ []) ⊎ (k.type_ahead ≡ [])
+  pub keys : ComeAfter (k.steps + m) k.keys
+  pub clock : AreDueAfter ((k.steps + m) / k.lists.period) k.lists.clock
+
+-- the kernel with the whole periods of its steps as its ticks
+abbrev pub with_ticks : Kernel → Kernel
+with_ticks k = record k { lists = with_tick (k.steps / k.lists.period) k.lists }
+
+-- the kernel after m steps in which nothing happens
+abbrev pub passed : ℕ → Kernel → Kernel
+passed m k = with_ticks (record k { steps = k.steps + m })
+
+-- ---- a guest's instruction
+
+abbrev pub instruction_of : Kernel → After
+instruction_of k = instruction (is_owned k.lists) (image k) k.regs
+
+-- the kernel with the words and registers that it leaves
+abbrev pub after_instruction_of : Kernel → Kernel
+after_instruction_of k = record (with_store (instruction_of k).words k.lists k) { regs = (instruction_of k).regs }

@@ -1,0 +1,27 @@
+// What a dispatch leaves.
+ghost use Rattle.std.specs.Prelude.{◌≡◌, Bool, List, ℕ};
+ghost use Rattle.word_store.specs.declared.registers.Regs.{Regs};
+ghost use Rattle.kernel_model.specs.Lists.{Lists};
+ghost use Rattle.kernel_model.specs.ValidLists.{AreValid};
+ghost use Rattle.kernel_dispatch.specs.Dispatch.{CanDispatch, dispatched};
+ghost use Rattle.kernel_dispatch.specs.ReadyTasks.{HasReady};
+ghost use Rattle.guest_turns.specs.GuestTurn.{numbers_of};
+ghost use Rattle.kernel_steps.specs.Parts.{RunsFirst};
+
+/// After a dispatch that left valid lists the first ready task runs, its field alone says so, C is a byte, and where no guest runs the registers
+/// are 0. The ticks, the period, the version and whether there are residents stay as they were.
+pub fn dispatch_law()
+    ensures runs { (words : List ℕ) (l : Lists) (r : Regs) → CanDispatch l r
+        → AreValid (dispatched words l r).lists
+        → RunsFirst (dispatched words l r).lists (dispatched words l r).regs }
+    ensures numbers { (words : List ℕ) (l : Lists) (r : Regs)
+        → numbers_of (dispatched words l r).lists
+        ≡ record (numbers_of l) { running = (dispatched words l r).lists.running } }
+{}
+
+/// A dispatch changes nobody's readiness.
+pub fn ready_law()
+    ensures { (ready : List Bool) (words : List ℕ) (l : Lists) (r : Regs) → AreValid l
+        → HasReady ready l
+        → HasReady ready (dispatched words l r).lists }
+{}
