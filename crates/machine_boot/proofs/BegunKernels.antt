@@ -150,8 +150,26 @@ module _ (s : Session) where
       idle = λ nobody. b.regs;
     }
 
-    pub begun-starts : (k : Kernel) → HasBegun s k → CanStart s.lines k
-    begun-starts k b = record {
-      lines = subst (λ v. AreBootLines v s.lines) (sym (ap (λ n. n.version) b.ready.numbers)) ready-lines;
-      nobody = begun-dispatches k b;
-    }
+    -- the first kernel may be loaded
+    pub first-loads : (lines : List SessionLine) → lines ≡ s.lines → CanLoad lines (first_kernel s)
+    unfolding first_kernel
+    first-loads lines is = record { tasks = record { may_start = subst (AreBootLines s.version) (sym is) ready-lines; none = refl }; streams = refl }
+
+-- files leave the lists
+pub files-start : (lines : List SessionLine) (k j : Kernel) → CanStart lines k → with_files lines k ≡ Ok j → CanStart lines j
+unfolding with_files
+files-start lines k j can is = on (load_files k.disc lines) is
+  where
+    on : (r : Result Disc BootRefusal) → (r >>= (λ d. Ok (with_disc d k))) ≡ Ok j → CanStart lines j
+    on (Ok d) f = (let same : with_disc d k ≡ j = cc in subst (CanStart lines) same (record { may_start = can.may_start; none = can.none }))
+    on (Err refusal) f = cc
+
+-- ---- the boot
+
+pub boot-ok : (s : Session) (k : Kernel) → with_lines s.lines (first_kernel s) ≡ Ok k → boot s ≡ Ok (dispatch k)
+unfolding boot
+boot-ok s k is = ap (λ x. x >>= (λ j. Ok (dispatch j))) is
+
+pub boot-refused : (s : Session) (refusal : BootRefusal) → with_lines s.lines (first_kernel s) ≡ Err refusal → boot s ≡ Err refusal
+unfolding boot
+boot-refused s refusal is = ap (λ x. x >>= (λ j. Ok (dispatch j))) is

@@ -8,7 +8,7 @@ use Rattle.word_store.specs.declared.registers.Regs.{Regs}
 use Rattle.packet_queue.specs.declared.events.KernelEvent.{KernelEvent}
 use Rattle.packet_queue.specs.declared.events.KernelEvent.TheVariants.{Runs}
 use Rattle.packet_queue.specs.QueueWords.{QueuedPacket}
-use Rattle.ram_disc.specs.Disc.{Stream, shell_stream, stream_at}
+use Rattle.ram_disc.specs.Disc.{Stream, most_streams, shell_stream, stream_at}
 use Rattle.session_text.specs.Canonical.{IsLawfulKey, IsLawfulMachine}
 use Rattle.session_text.specs.Ranges.{most_steps}
 use Rattle.session_text.specs.declared.sessions.Session.{Session}
@@ -35,7 +35,7 @@ use Rattle.machine_parts.specs.Stands.{KeepsNothing}
 use Rattle.text_reader.specs.Steps.{◌>>=◌}
 use Rattle.machine_boot.specs.Boot.{HasGuestsAlone, boot, boot_events, first_kernel, with_lines}
 use Rattle.machine_boot.proofs.BegunKernels.{HasBegun, begun-dispatches, first-begun, first_numbers, lines-begun}
-use Rattle.machine_boot.proofs.LoadedDiscs.{no-stream, none-at}
+use Rattle.machine_boot.proofs.LoadedDiscs.{no-stream, none-at, none-shut}
 use Rattle.machine_boot.proofs.ReadyTasks.{AreFresh, IsFresh, fresh-changed, fresh-found}
 
 -- ---- without residents
@@ -51,11 +51,11 @@ no-reporter l v none = on (has_task 2 l.tasks) refl
 -- so it has no queue
 no-work : (id : ℕ) (ts : List Task) → has_task id ts ≡ false → work_of id ts ≡ []
 no-work id [] none = refl
-no-work id (t ∷ ts) none = on (eqb t.id id) none
+no-work id (t ∷ ts) none = on (λ e. no-work id ts e) (eqb t.id id) none
   where
-    on : (b : Bool) → (b || has_task id ts) ≡ false → cond b t.queue (work_of id ts) ≡ []
-    on true e = cc
-    on false e = no-work id ts e
+    on : (has_task id ts ≡ false → work_of id ts ≡ []) → (b : Bool) → (b || has_task id ts) ≡ false → cond b t.queue (work_of id ts) ≡ []
+    on more true e = cc
+    on more false e = more e
 
 faults-stand : (k : Kernel) → AreValid k.lists → k.lists.residents ≡ false → FaultsStand k
 faults-stand k v none =
@@ -74,13 +74,16 @@ module _ (s : Session) (h : HasGuestsAlone s) where
   module _ (k : Kernel) (b : HasBegun s k) where
     -- ---- what the dispatch keeps
 
+    abbrev with_number : ℕ → Numbers → Numbers
+    with_number running n = record n { running = running }
+
     numbers : numbers_of (dispatch k).kernel.lists ≡ record (first_numbers s) { running = (dispatch k).kernel.lists.running }
     unfolding dispatch settled
-    numbers = dispatch-numbers (image k) k.lists k.regs ∙ ap (λ n. record n { running = (dispatched (image k) k.lists k.regs).lists.running }) b.ready.numbers
+    numbers = dispatch-numbers (image k) k.lists k.regs ∙ ap (with_number (dispatched (image k) k.lists k.regs).lists.running) b.ready.numbers
 
-    first : AreValid k.lists → RunsFirst (dispatch k).kernel.lists (dispatch k).kernel.regs
+    first : AreValid (dispatch k).kernel.lists → RunsFirst (dispatch k).kernel.lists (dispatch k).kernel.regs
     unfolding dispatch settled
-    first v = runs-first (image k) k.lists k.regs v (begun-dispatches s h k b)
+    first v = runs-first (image k) k.lists k.regs (begun-dispatches s h k b) v
 
     pub booted-goes : (dispatch k).kernel.stop ≡ None
     unfolding dispatch settled
@@ -107,7 +110,7 @@ module _ (s : Session) (h : HasGuestsAlone s) where
           ahead = omega (arith, ap length b.ahead);
           absent = λ e.
               record {
-                streams = subst AreShut (sym b.disc.shut) (tt, (tt, tt));
+                streams = subst AreShut (sym b.disc.shut) (none-shut most_streams);
                 line = ap (λ c. c.line) b.console;
                 unfinished = ap (λ c. c.finished) b.console;
                 mode = ap (λ c. c.mode) b.shell;
@@ -133,9 +136,9 @@ module _ (s : Session) (h : HasGuestsAlone s) where
     last = record { steps = omega (arith, b.steps); keys = subst (AllByRecursion (λ key. key.0 ≤ most_steps)) (sym b.keys) lawful-keys }
 
     -- the lists and the plain words are those that a machine stands for
-    pub booted-full : AreValid k.lists → AreValid (dispatch k).kernel.lists → HasPlainWords (dispatch k).kernel → IsFullMachine (dispatch k).kernel
-    booted-full before v plain =
-        let runs = first before in
+    pub booted-full : AreValid (dispatch k).kernel.lists → HasPlainWords (dispatch k).kernel → IsFullMachine (dispatch k).kernel
+    booted-full v plain =
+        let runs = first v in
         record {
           lists = v;
           plain = plain;
@@ -186,7 +189,7 @@ module _ (s : Session) (h : HasGuestsAlone s) where
     none-taken : (t : Task) → t.queue ≡ [] → packets_taken t ≡ []
     none-taken t empty = ap (λ q. packets_taken (record t { queue = q })) empty ∙ on (takes_packet t)
       where
-        on : (c : Bool) → cond c [] [] ≡ []
+        on : (c : Bool) → ◌≡◌ {A = List QueuedPacket} (cond c [] []) []
         on true = refl
         on false = refl
 

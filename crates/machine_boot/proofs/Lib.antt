@@ -3,5 +3,5 @@ pub mod BootedKernels
 pub mod DispatchedParts
 pub mod FirstParts
 pub mod LoadedDiscs
+pub mod LoadedParts
 pub mod ReadyTasks
-pub mod StoreKernels

@@ -1,5 +1,5 @@
 -- The disc once a session's files are on it: it is valid, and no stream is open.
-use Rattle.std.proofs.Common.{◌≡◌, ℕ, ◌+◌, ◌-◌, ◌<◌, ◌≤◌, List, [], ◌∷◌, ◌++◌, length, map, get_or, cond, eqb, leb, ltb, not, Bool, true, false, Option, Some, None, Result, Ok, Err, replicate, inl, inr, refl, sym, ap, ◌∙◌, subst, arith}
+use Rattle.std.proofs.Common.{◌≡◌, ℕ, zero, suc, ◌+◌, ◌-◌, ◌<◌, ◌≤◌, List, [], ◌∷◌, ◌++◌, length, map, get_or, cond, eqb, leb, ltb, not, Bool, true, false, Option, Some, None, Result, Ok, Err, replicate, inl, inr, refl, sym, ap, ◌∙◌, subst, arith}
 use Rattle.std.specs.Prelude.{IsTrue}
 use Rattle.std.specs.List.{AllByRecursion, filter}
 use Rattle.std.proofs.lemmas.Bool.{cases_lt, leb-true, ltb-true, true≢false}
@@ -15,6 +15,7 @@ use Rattle.session_text.specs.declared.sessions.LineForm.TheVariants.{Code, File
 use Rattle.session_text.specs.declared.sessions.SessionLine.{SessionLine}
 use Rattle.session_text.proofs.NameLemmas.{IsName-from_test}
 use Rattle.call_answers.specs.Refusals.{first_refusal}
+use Rattle.kernel_model.specs.Between.{AreShut}
 use Rattle.kernel_boot.specs.BootFiles.{HasNoStreams, at_line, disc_or_code, load_files, load_form, with_new_file}
 
 -- ---- places where nothing stands
@@ -175,8 +176,13 @@ form-shut version d e (Task id pri stack ns) lawful h is = (let same : d ≡ e =
 
 pub files-shut : (version : ℕ) (lines : List SessionLine) (d e : Disc) → AllByRecursion (λ line. IsLawfulForm false version line.form) lines → IsShutDisc d → load_files d lines ≡ Ok e → IsShutDisc e
 files-shut version [] d e lawful h is = (let same : d ≡ e = cc in subst IsShutDisc same h)
-files-shut version (line ∷ lines) d e lawful h is = on (load_form d line.form) refl is
+files-shut version (line ∷ lines) d e lawful h is = on (λ c shut more. files-shut version lines c e lawful.1 shut more) (load_form d line.form) refl is
   where
-    on : (r : Result Disc ℕ) → load_form d line.form ≡ r → at_line line.line r (λ c. load_files c lines) ≡ Ok e → IsShutDisc e
-    on (Ok c) f g = files-shut version lines c e lawful.1 (form-shut version d c line.form lawful.0 h f) g
-    on (Err code) f g = cc
+    on : ((c : Disc) → IsShutDisc c → load_files c lines ≡ Ok e → IsShutDisc e) → (r : Result Disc ℕ) → load_form d line.form ≡ r → at_line line.line r (λ c. load_files c lines) ≡ Ok e → IsShutDisc e
+    on more (Ok c) f g = more c (form-shut version d c line.form lawful.0 h f) g
+    on more (Err code) f g = cc
+
+-- no stream is open
+pub none-shut : (n : ℕ) → AreShut (replicate n None)
+none-shut zero = tt
+none-shut (suc n) = (refl, none-shut n)

@@ -1,10 +1,9 @@
 -- What a function that boots leaves.
-use Rattle.std.specs.Prelude.{◌≡◌, None, List, Result, Ok, Err}
+use Rattle.std.specs.Prelude.{◌≡◌, None, List, [], Result, Ok, Err}
 use Rattle.bare_machine.specs.declared.boot.BootEnd.{BootEnd}
 use Rattle.bare_machine.specs.declared.boot.BootEnd.TheVariants.{Line, WantMemory}
 use Rattle.kernel_model.specs.Kernel.{Kernel}
 use Rattle.kernel_model.specs.ValidKernel.{IsFullMachine}
-use Rattle.kernel_dispatch.specs.Dispatch.{CanDispatch}
 use Rattle.kernel_boot.specs.BootFiles.{HasNoStreams, boot_refusal}
 use Rattle.kernel_boot.specs.BootTasks.{AreBootLines}
 use Rattle.kernel_boot.specs.declared.refusals.BootRefusal.{BootRefusal}
@@ -13,10 +12,10 @@ use Rattle.kernel_steps.specs.Step.{Stepped}
 use Rattle.machine_parts.specs.declared.parts.Parts.{Parts}
 use Rattle.machine_parts.specs.Stands.{Stands}
 
--- Tasks of the lines may be started: each line is one that a session may have, and nobody runs.
+-- tasks of the lines may be started: each line is one that a session may have, and there is no task yet
 pub record CanStart (lines : List SessionLine) (k : Kernel) : Type 0 where
-  pub lines : AreBootLines k.lists.version lines
-  pub nobody : CanDispatch k.lists k.regs
+  pub may_start : AreBootLines k.lists.version lines
+  pub none : k.lists.tasks ≡ []
 
 -- and files may be put on the disc
 pub record CanLoad (lines : List SessionLine) (k : Kernel) : Type 0 where
@@ -27,10 +26,6 @@ pub record CanLoad (lines : List SessionLine) (k : Kernel) : Type 0 where
 abbrev pub IsReached : Parts → Result (Unit {0}) BootRefusal → Result Kernel BootRefusal → Type 0
 IsReached p (Ok u) reached = (k : Kernel) × (reached ≡ Ok k) × Stands p k
 IsReached p (Err refusal) reached = reached ≡ Err refusal
-
--- the end says which line was refused, and why
-abbrev pub IsRefused : BootRefusal → BootEnd → Type 0
-IsRefused refusal e = e ≡ Line refusal.line refusal.code
 
 -- an end is the refusal that the definition gives, unless memory ran out
 abbrev pub EndsAs : BootEnd → Result Stepped BootRefusal → Type 0

@@ -6,7 +6,7 @@ ghost use Rattle.kernel_boot.specs.BootFiles.{HasNoStreams};
 ghost use Rattle.kernel_steps.specs.Step.{dispatch};
 ghost use Rattle.machine_parts.specs.Stands.{Stands};
 ghost use Rattle.machine_boot.specs.Boot.{HasGuestsAlone, boot, first_kernel, with_files, with_lines, with_tasks};
-ghost use Rattle.machine_boot.specs.Booted.{BootsAs, CanStart, CanLoad, IsReached, IsRefused};
+ghost use Rattle.machine_boot.specs.Booted.{BootsAs, CanStart, CanLoad, IsReached};
 
 use bare_machine::boot::BootEnd;
 use kernel_boot::{BootRefusal, load_files, make_kernel, start_tasks};
@@ -31,28 +31,26 @@ const NO_REGS: Regs = Regs {
     pc: 0,
 };
 
-/// The machine of a session without residents: the files of all its lines are on the disc, the tasks of all its lines have been
-/// started, and the first ready one runs. The first line that is refused is the answer, with its code: first those of all
-/// files, as `load_files` has them, and then those of the tasks, as `start_tasks` has them. `WantMemory` comes only where
-/// memory could not be had.
+/// The machine of a session without residents, before its first step: the files of all lines are on its disc, the tasks of all
+/// lines have been started, the first ready one runs, and the session's keys are to come. The first line that is refused is the
+/// answer, with its code. First come the files: a file has the name already (42), there are 64 files (44), or the disc has no
+/// room (43). Then come the tasks: a task has the number already (27); for each of its names in turn, no file has it (41), its
+/// text is no module (61 to 66), or no run of free blocks is large enough for the module (1); a task has the priority already
+/// (8), a module has a number of a global above 1,000 (18), or no run of free blocks is large enough for the task (1).
+/// `WantMemory` comes only where memory could not be had.
 pub fn boot(alloc: Global, session: &Session) -> Result<Parts, BootEnd>
     requires { HasGuestsAlone session.now }
     ensures { BootsAs result (boot session.now) }
 {
     let mut parts = empty_machine(alloc, session)?;
-    put_lines(&mut parts, session.lines.as_slice()).map_err(end_of)?;
+    if let Err(refusal) = put_lines(&mut parts, session.lines.as_slice()) {
+        return Err(BootEnd::Line {
+            line: refusal.line,
+            code: refusal.code,
+        });
+    }
     dispatch(&mut parts);
     Ok(parts)
-}
-
-// The end at a line that is refused.
-fn end_of(refusal: BootRefusal) -> BootEnd
-    ensures { IsRefused refusal result }
-{
-    BootEnd::Line {
-        line: refusal.line,
-        code: refusal.code,
-    }
 }
 
 // The end where memory could not be had.
@@ -65,7 +63,8 @@ fn want_memory(_: WantMemory) -> BootEnd
 // The machine before the lines.
 fn empty_machine(alloc: Global, session: &Session) -> Result<Parts, BootEnd>
     requires { HasGuestsAlone session.now }
-    ensures { MatchResult result (λ p. Stands p (first_kernel session.now)) (λ e. e ≡ BootEnd.WantMemory) }
+    ensures { MatchResult result (λ p. Stands p (first_kernel session.now))
+        (λ e. e ≡ BootEnd.WantMemory) }
 {
     let mut store = Store::new(alloc, session.store)?;
     make_kernel(&mut store, session.version, session.period);
