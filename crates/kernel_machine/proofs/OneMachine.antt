@@ -1,20 +1,24 @@
 -- The parts of a machine stand for one kernel alone.
-use Rattle.std.proofs.Common.{◌≡◌, ℕ, ◌<◌, List, [], length, cond, Bool, true, false, Option, None, refl, sym, ap, ◌∙◌, subst, arith, inl, inr}
+use Rattle.std.proofs.Common.{◌≡◌, ℕ, ◌<◌, List, [], length, cond, Bool, true, false, Option, Some, None, refl, sym, ap, ◌∙◌, subst, arith, inl, inr}
+use Rattle.std.specs.Option.{option_map}
 use Rattle.std.proofs.lemmas.Bool.{cases_lt}
 use Rattle.std.proofs.lemmas.List.{ext_get_or}
 use Rattle.owned_words.specs.Owned.{owners}
 use Rattle.kernel_model.specs.HoldsLists.{HoldsLists}
 use Rattle.kernel_model.specs.Image.{HasPlainWords, IsImage, plain_at, plain_words}
-use Rattle.kernel_model.specs.Kernel.{Kernel, owned_by}
+use Rattle.kernel_model.specs.Kernel.{Kernel, Stop as KernelStop, owned_by}
+use Rattle.kernel_model.specs.Kernel.Stop.{Quit as KernelQuit, Finish as KernelFinish, Fault as KernelFault}
 use Rattle.kernel_model.specs.Lists.{Lists}
 use Rattle.kernel_model.specs.Owned.{owned}
 use Rattle.kernel_model.specs.Recovered.{lists_in}
+use Rattle.kernel_model.specs.ValidKernel.{IsFullMachine}
 use Rattle.kernel_model.proofs.RecoveredLists.{lists-back}
 use Rattle.bare_machine.specs.declared.stops.Stop.{Stop}
 use Rattle.machine_parts.specs.declared.parts.Parts.{Parts}
 use Rattle.machine_parts.specs.Stands.{Stands}
+use Rattle.machine_parts.specs.Stops.{stop_of}
 use Rattle.kernel_steps.specs.Step.{with_store}
-use Rattle.kernel_machine.specs.Machine.{kernel_of, stop_in}
+use Rattle.kernel_machine.specs.Machine.{IsWhole, kernel_of, kernel_stop, stop_in}
 use Rattle.kernel_machine.proofs.StoreKernels.{store-image, store-plain}
 
 -- the plain words are those of the store that nobody owns
@@ -30,6 +34,10 @@ module _ (s : List ℕ) (k j : Kernel) (p : HasPlainWords k) (q : HasPlainWords 
 
   pub same-plain : k.plain ≡ j.plain
   same-plain = ext_get_or None k.plain j.plain (p.size ∙ sym is.size ∙ js.size ∙ sym q.size) same-at
+
+pub stop-of : (p : Parts) (stop : Option Stop) → (kernel_of p stop).stop ≡ stop_in stop
+unfolding kernel_of
+stop-of p stop = refl
 
 module _ (p : Parts) (k : Kernel) (st : Stands p k) where
   lists-one : lists_in p.store ≡ k.lists
@@ -63,3 +71,24 @@ module _ (p : Parts) (k : Kernel) (st : Stands p k) where
         stop = sym e i;
       } in
       whole
+
+  -- and is a whole machine with it
+  pub whole : IsFullMachine k → (stop : Option Stop) → k.stop ≡ stop_in stop → stop ≡ option_map stop_of (stop_in stop) → IsWhole p stop
+  whole h stop e same = record {
+    stands = subst (Stands p) (sym (one-machine stop e)) st;
+    valid = subst IsFullMachine (sym (one-machine stop e)) h;
+    stopped = same;
+  }
+
+-- a stop that a kernel has, in the words of a run and back
+pub there-and-back : (o : Option KernelStop) (stop : Option Stop) → stop ≡ option_map stop_of o → (o ≡ stop_in stop) × (stop ≡ option_map stop_of (stop_in stop))
+there-and-back o stop e = (back o ∙ ap stop_in (sym e), e ∙ ap (option_map stop_of) (back o ∙ ap stop_in (sym e)))
+  where
+    one : (s : KernelStop) → Some s ≡ kernel_stop (stop_of s)
+    one (KernelQuit result) = refl
+    one KernelFinish = refl
+    one (KernelFault code address task) = refl
+
+    back : (o : Option KernelStop) → o ≡ stop_in (option_map stop_of o)
+    back None = refl
+    back (Some s) = one s

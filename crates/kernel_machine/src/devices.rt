@@ -1,11 +1,11 @@
 // The devices and dispatch.
-ghost use Rattle.std.specs.Prelude.{◌≡◌, ◌<◌, ◌-◌, ◌^◌, length};
+ghost use Rattle.std.specs.Prelude.{◌≡◌, ◌<◌, length};
 ghost use Rattle.kernel_model.specs.Kernel.{Kernel};
 ghost use Rattle.kernel_dispatch.specs.Dispatch.{CanDispatch};
 ghost use Rattle.kernel_calls.specs.Calls.{outside};
 ghost use Rattle.machine_parts.specs.Stands.{Stands};
 ghost use Rattle.kernel_steps.specs.Step.{dispatch, key, output, tick, with_key_typed};
-ghost use Rattle.kernel_machine.specs.Leaves.{Leaves};
+ghost use Rattle.kernel_machine.specs.Leaves.{CanServe, Leaves};
 
 use clock_device::tick as clock_tick;
 use kernel_dispatch::switch;
@@ -16,8 +16,8 @@ use tty_device::finish_output;
 
 /// In a step that is a multiple of the period the clock ticks.
 pub(crate) fn tick<L: EventLog>(parts: &mut Parts, out: &Output, log: &mut L)
-    requires { (k : Kernel) × Stands parts.old k × (k.lists.tick < 2 ^ 32 - 1) }
-    ensures { (k : Kernel) → Stands parts.old k → k.lists.tick < 2 ^ 32 - 1
+    requires { (k : Kernel) × Stands parts.old k × CanServe k }
+    ensures { (k : Kernel) → Stands parts.old k → CanServe k
         → Leaves parts.new
         (outside out.now (L.noted log.old) (L.has_failed log.old))
         (outside out.now (L.noted log.new) (L.has_failed log.new)) (tick k) }
@@ -29,8 +29,8 @@ pub(crate) fn tick<L: EventLog>(parts: &mut Parts, out: &Output, log: &mut L)
 
 /// The key that is due is typed, and the first byte that is typed ahead meets the first packet that waits for one.
 pub(crate) fn key<L: EventLog>(parts: &mut Parts, out: &Output, log: &mut L)
-    requires { (k : Kernel) × Stands parts.old k }
-    ensures { (k : Kernel) → Stands parts.old k
+    requires { (k : Kernel) × Stands parts.old k × CanDispatch k.lists k.regs }
+    ensures { (k : Kernel) → Stands parts.old k → CanDispatch k.lists k.regs
         → Leaves parts.new
         (outside out.now (L.noted log.old) (L.has_failed log.old))
         (outside out.now (L.noted log.new) (L.has_failed log.new)) (key k) }
@@ -53,9 +53,9 @@ fn enter_key(parts: &mut Parts)
 
 /// The first packet that waits for the output device is served.
 pub(crate) fn output<L: EventLog>(parts: &mut Parts, out: &mut Output, log: &mut L)
-    requires stands { (k : Kernel) × Stands parts.old k }
+    requires stands { (k : Kernel) × Stands parts.old k × CanDispatch k.lists k.regs }
     requires room_for_byte { length out.old < 8192 }
-    ensures { (k : Kernel) → Stands parts.old k
+    ensures { (k : Kernel) → Stands parts.old k → CanDispatch k.lists k.regs
         → Leaves parts.new
         (outside out.old (L.noted log.old) (L.has_failed log.old))
         (outside out.new (L.noted log.new) (L.has_failed log.new)) (output k) }

@@ -3,8 +3,6 @@
 
 mod devices;
 pub mod machine;
-mod runs;
-mod spans;
 mod steps;
 mod turns;
 

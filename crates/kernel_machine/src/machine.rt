@@ -10,7 +10,7 @@ ghost use Rattle.machine_parts.specs.Stops.{stop_of};
 ghost use Rattle.kernel_steps.specs.Step.{step};
 ghost use Rattle.kernel_machine.specs.Machine.{boot_events, kernel_of};
 
-use crate::steps::step;
+use crate::steps::step_or_stay;
 use crate::turns::running;
 use bare_machine::Stop;
 use machine_parts::Parts;
@@ -101,9 +101,7 @@ impl Machine {
         ensures stop { result ≡ option_map stop_of self.new.kernel.stop }
     {
         self.output.clear();
-        if self.stop.is_none() {
-            self.stop = step(&mut self.parts, &mut self.output, log);
-        }
+        self.stop = step_or_stay(&mut self.parts, self.stop, &mut self.output, log);
         self.stop
     }
 }

@@ -17,8 +17,33 @@ use machine_parts::Parts;
 use packet_queue::EventLog;
 use tp_io::Output;
 
-/// One step of a machine that has not stopped. The answer is why it stops in this step, if it does.
-pub(crate) fn step<L: EventLog>(
+/// One step of a machine that has stopped or not. One that has stays as it is. The answer is why it has stopped, if it has.
+pub(crate) fn step_or_stay<L: EventLog>(
+    parts: &mut Parts,
+    stop: Option<Stop>,
+    out: &mut Output,
+    log: &mut L,
+) -> Option<Stop>
+    requires stands { (k : Kernel) × Stands parts.old k × IsFullMachine k
+        × (stop ≡ option_map stop_of k.stop) × (k.steps < most_steps) }
+    requires room { length out.old + 2 ≤ 8192 }
+    ensures stepped { (k : Kernel) → Stands parts.old k → IsFullMachine k
+        → stop ≡ option_map stop_of k.stop
+        → k.steps < most_steps → Leaves parts.new
+        (outside out.old (L.noted log.old) (L.has_failed log.old))
+        (outside out.new (L.noted log.new) (L.has_failed log.new)) (step k) }
+    ensures stop { (k : Kernel) → Stands parts.old k → IsFullMachine k
+        → stop ≡ option_map stop_of k.stop
+        → k.steps < most_steps → result ≡ option_map stop_of (step k).kernel.stop }
+{
+    match stop {
+        Some(_) => stop,
+        None => step(parts, out, log),
+    }
+}
+
+// One step of a machine that has not stopped. The answer is why it stops in this step, if it does.
+fn step<L: EventLog>(
     parts: &mut Parts,
     out: &mut Output,
     log: &mut L,

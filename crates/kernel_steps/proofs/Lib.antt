@@ -5,6 +5,11 @@ pub mod RunningCaller
 pub mod TurnKept
 pub mod NextTick
 pub mod DevicesKept
+pub mod StepKept
 pub mod StoredWords
 pub mod QuietDispatch
 pub mod QuietDevices
+pub mod QuietSteps
+pub mod QuietSpans
+pub mod Runs
+pub mod QuietMachines

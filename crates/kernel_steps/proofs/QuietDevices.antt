@@ -1,5 +1,5 @@
 -- Devices that have nothing to do.
-use Rattle.std.proofs.Common.{◌≡◌, ℕ, ◌+◌, ◌%◌, ◌⊎◌, Bool, true, false, List, [], ◌∷◌, cond, eqb, set, inl, inr, refl, sym, ap, ◌∙◌, subst}
+use Rattle.std.proofs.Common.{◌≡◌, ℕ, ◌+◌, ◌%◌, ◌⊎◌, Bool, true, false, List, [], ◌∷◌, cond, eqb, set, inl, inr, refl, sym, ap, ◌∙◌, subst, arith}
 use Rattle.std.proofs.lemmas.Bool.{lt-leb}
 use Rattle.packet_queue.specs.QueueWords.{QueuedPacket}
 use Rattle.kernel_model.specs.Image.{image}
@@ -15,7 +15,7 @@ use Rattle.tty_device.specs.Keys.{left_typed, met}
 use Rattle.tty_device.specs.Printed.{printed}
 use Rattle.tty_device.specs.Typed.{with_typed}
 use Rattle.kernel_steps.specs.Parts.{tick_after}
-use Rattle.kernel_steps.specs.Quiet.{AreDueAfter, ComeAfter}
+use Rattle.kernel_steps.specs.Quiet.{AreDueAfter, AwaitsTick, ComeAfter}
 use Rattle.kernel_steps.specs.Step.{Stepped, key, meet, output, quietly, served, tick, typed_by, where_due}
 use Rattle.kernel_steps.proofs.StoredWords.{HasStore, changed-store, settled-same, store-holds}
 
@@ -35,7 +35,7 @@ ticked-stays l falls after =
     let left = all-later now l.clock falls (none-due now l.clock after) in
     λ i. record { lists = with_returned (left.0 i) (record l { tick = now; clock = left.1 i }); events = events_of_return (left.0 i) }
 
-abbrev ticks_to : ℕ → Kernel → Kernel
+abbrev pub ticks_to : ℕ → Kernel → Kernel
 ticks_to now k = record k { lists = with_tick now k.lists }
 
 module _ (s : List ℕ) (k : Kernel) (h : HasStore s k) (now : ℕ) where
@@ -45,14 +45,17 @@ module _ (s : List ℕ) (k : Kernel) (h : HasStore s k) (now : ℕ) where
   ticked-settled : served k (unserved (with_tick now k.lists)) ≡ quietly (ticks_to now k)
   ticked-settled = ap quietly (settled-same s k (with_tick now k.lists) h refl (λ a. tick-owned k.lists now a))
 
-pub tick-stays : (s : List ℕ) (k : Kernel) → HasStore s k → (now : ℕ) → tick_after k ≡ now → AreDueAfter now k.lists.clock → tick k ≡ quietly (ticks_to now k)
+pub tick-stays : (s : List ℕ) (k : Kernel) → HasStore s k → (now : ℕ) → tick_after k ≡ now → AwaitsTick now k.lists → tick k ≡ quietly (ticks_to now k)
 unfolding tick
 tick-stays s k h now is after = on (eqb (k.steps % k.lists.period) 0) is
   where
+    due-later : (later : AwaitsTick now k.lists) → k.lists.tick + 1 ≡ now → AreDueAfter (k.lists.tick + 1) k.lists.clock
+    due-later (inl later) e = subst (λ n. AreDueAfter n k.lists.clock) (sym e) later
+    due-later (inr same) e = absurd (omega (arith, same, e))
+
     on : (b : Bool) → cond b (k.lists.tick + 1) k.lists.tick ≡ now → where_due b (λ j. served j (ticked j.lists)) k ≡ quietly (ticks_to now k)
     on true e =
-        let due : AreDueAfter (k.lists.tick + 1) k.lists.clock = subst (λ n. AreDueAfter n k.lists.clock) (sym e) after in
-        ap (served k) (ticked-stays k.lists h.valid.queues.due due) ∙ ticked-settled s k h (k.lists.tick + 1) ∙ ap (λ n. quietly (ticks_to n k)) e
+        ap (served k) (ticked-stays k.lists h.valid.queues.due (due-later after e)) ∙ ticked-settled s k h (k.lists.tick + 1) ∙ ap (λ n. quietly (ticks_to n k)) e
     on false e = ap (λ n. quietly (ticks_to n k)) e
 
 -- ---- the keyboard

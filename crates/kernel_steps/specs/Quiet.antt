@@ -4,11 +4,12 @@ use Rattle.cint_exec.specs.Instruction.{After, instruction}
 use Rattle.packet_queue.specs.QueueWords.{QueuedPacket}
 use Rattle.kernel_model.specs.Image.{image}
 use Rattle.kernel_model.specs.Kernel.{Kernel}
+use Rattle.kernel_model.specs.Lists.{Lists}
 use Rattle.clock_device.specs.Tick.{with_tick}
 use Rattle.guest_instructions.specs.Guarded.{is_owned}
 use Rattle.kernel_steps.specs.Step.{with_store}
 
--- the first key, and so each key, comes after this step
+-- the first key, which comes before any other, comes after this step
 abbrev pub ComeAfter : ℕ → List (ℕ × ℕ) → Type 0
 ComeAfter n [] = Unit {0}
 ComeAfter n (key ∷ keys) = n < key.0
@@ -18,12 +19,17 @@ abbrev pub AreDueAfter : ℕ → List QueuedPacket → Type 0
 AreDueAfter n [] = Unit {0}
 AreDueAfter n (p ∷ ps) = n < p.last
 
--- in the next m steps nothing is printed, no byte meets a packet, no key comes, and no packet is due
+-- Up to this tick no packet is returned: none is due by then, or the clock does not tick. A packet that is due already is
+-- returned at the next tick.
+abbrev pub AwaitsTick : ℕ → Lists → Type 0
+AwaitsTick now l = AreDueAfter now l.clock ⊎ (now ≡ l.tick)
+
+-- in the next m steps nothing is printed, no byte meets a packet, no key comes, and no packet is returned by the clock
 pub record IsQuietFor (m : ℕ) (k : Kernel) : Type 0 where
   pub output : k.lists.output ≡ []
   pub keyboard : (k.lists.keyboard ≡ []) ⊎ (k.type_ahead ≡ [])
   pub keys : ComeAfter (k.steps + m) k.keys
-  pub clock : AreDueAfter ((k.steps + m) / k.lists.period) k.lists.clock
+  pub clock : AwaitsTick ((k.steps + m) / k.lists.period) k.lists
 
 -- the kernel with the whole periods of its steps as its ticks
 abbrev pub with_ticks : Kernel → Kernel

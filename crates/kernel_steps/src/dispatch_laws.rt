@@ -8,8 +8,8 @@ ghost use Rattle.kernel_dispatch.specs.ReadyTasks.{HasReady};
 ghost use Rattle.guest_turns.specs.GuestTurn.{numbers_of};
 ghost use Rattle.kernel_steps.specs.Parts.{RunsFirst};
 
-/// After a dispatch that left valid lists the first ready task runs, its field alone says so, C is a byte, and where no guest runs the registers
-/// are 0. The ticks, the period, the version and whether there are residents stay as they were.
+/// After a dispatch that left valid lists the first ready task runs, its field alone says so, C is a byte, and where no guest
+/// runs the registers are 0. The ticks, the period, the version and whether there are residents stay as they were.
 pub fn dispatch_law()
     ensures runs { (words : List ℕ) (l : Lists) (r : Regs) → CanDispatch l r
         → AreValid (dispatched words l r).lists

@@ -3,4 +3,7 @@
 
 pub mod device_laws;
 pub mod dispatch_laws;
+pub mod quiet_laws;
+pub mod run_laws;
+pub mod step_laws;
 pub mod turn_laws;

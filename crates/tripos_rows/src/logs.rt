@@ -1,7 +1,8 @@
 // Logs of events: the lines that are printed, and the events that are kept.
 use packet_queue::{EventLog, KernelEvent, ListLog, SinkLog};
 use std::test::Fail;
-use tp_io::MemorySink;
+use tp_io::{MemorySink, SinkFault};
+use trace_log::print_events;
 
 #[test]
 fn a_line_for_each_event(rt: HostRuntime) -> Result<(), Fail> {
@@ -43,5 +44,27 @@ fn a_list_log_keeps_what_it_has_room_for(rt: HostRuntime) -> Result<(), Fail> {
     }
     let kept = [KernelEvent::Runs { task: 7 }, KernelEvent::Runs { task: 8 }];
     assert_eq!(rt; log.events(), kept.as_slice());
+    Ok(())
+}
+
+#[test]
+fn lines_go_out_when_there_are_many(rt: HostRuntime) -> Result<(), Fail> {
+    let events = [KernelEvent::Runs { task: 4294967295 }; 600];
+    let line = b"run 4294967295\n".as_slice();
+    let cut = Err(SinkFault);
+    for (fails, answer, lines) in [(0, Ok(()), 600), (1, cut, 0), (2, cut, 546)] {
+        let mut sink = MemorySink::new(rt.alloc(), 16384, &[fails]).map_err(|_| "memory")?;
+        assert_eq!(rt;
+            print_events(&mut sink, &events),
+            answer,
+            "where write {fails} fails"
+        );
+        assert_eq!(rt;
+            sink.bytes().len(),
+            lines * line.len(),
+            "where write {fails} fails"
+        );
+        assert!(rt; sink.bytes().chunks(line.len()).all(|l| l == line));
+    }
     Ok(())
 }

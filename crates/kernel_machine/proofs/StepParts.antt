@@ -1,0 +1,127 @@
+-- What each part of a step asks, inside a step.
+use Rattle.std.proofs.Common.{◌≡◌, ℕ, ◌+◌, ◌-◌, ◌*◌, ◌/◌, ◌^◌, ◌<◌, ◌≤◌, Bool, true, false, cond, Option, Some, None, refl, sym, ap, ◌∙◌, subst, arith}
+use Rattle.std.specs.Prelude.{is_none, is_some}
+use Rattle.std.specs.Option.{option_map}
+use Rattle.std.proofs.Math.Nat.{div-le_self}
+use Rattle.session_text.specs.Ranges.{most_steps}
+use Rattle.kernel_model.specs.Kernel.{Kernel}
+use Rattle.kernel_model.specs.ValidKernel.{IsFullMachine}
+use Rattle.kernel_dispatch.specs.Dispatch.{CanDispatch}
+use Rattle.kernel_model.specs.Image.{settled}
+use Rattle.kernel_model.specs.Kernel.{Stop as KernelStop}
+use Rattle.bare_machine.specs.declared.stops.Stop.{Stop}
+use Rattle.machine_parts.specs.Stops.{stop_of}
+use Rattle.guest_turns.specs.GuestTurn.{numbers_of}
+use Rattle.machine_parts.specs.declared.parts.Parts.{Parts}
+use Rattle.machine_parts.specs.Stands.{Stands}
+use Rattle.kernel_steps.specs.Parts.{RunsFirst}
+use Rattle.kernel_steps.specs.Step.{after_the_turn, and_then, dispatch, key, output, quietly, step, tick, turn, unless_stopped, with_step}
+use Rattle.kernel_steps.proofs.DevicesKept.{key-dispatch, key-stop, output-dispatch, output-stop, tick-dispatch, tick-stop}
+use Rattle.kernel_steps.proofs.RunningCaller.{full-runs, runs-alone, runs-calls}
+use Rattle.kernel_steps.proofs.TurnKept.{numbers-turn, turn-dispatch}
+use Rattle.kernel_machine.specs.Leaves.{CanServe, CanTurn}
+
+-- a dispatch may follow on each of the devices
+pub record Serving (k : Kernel) : Type 0 where
+  pub ticked : CanDispatch (tick k).kernel.lists (tick k).kernel.regs
+  pub typed : CanDispatch (key (tick k).kernel).kernel.lists (key (tick k).kernel).kernel.regs
+  pub printed : CanDispatch (output (key (tick k).kernel).kernel).kernel.lists (output (key (tick k).kernel).kernel).kernel.regs
+
+pub serving : (k : Kernel) → CanServe k → Serving k
+serving k can =
+    let one = tick-dispatch k can.dispatch in
+    let two = key-dispatch (tick k).kernel one in
+    record { ticked = one; typed = two; printed = output-dispatch (key (tick k).kernel).kernel two }
+
+-- ---- the turn of a step
+
+module _ (k : Kernel) (h : IsFullMachine k) (goes : k.stop ≡ None) where
+  runs : RunsFirst k.lists k.regs
+  runs = full-runs k h goes
+
+  pub can-turn : CanTurn (with_step k)
+  can-turn = record { goes = goes; caller = runs-calls k.lists k.regs runs h.lists; alone = runs-alone k.lists k.regs runs; byte = h.registers.byte }
+
+  few-ticks : k.steps < most_steps → k.lists.tick < 2 ^ 32 - 1
+  few-ticks few = omega (arith, (h.running goes).tick, div-le_self k.steps k.lists.period, few)
+
+  -- where the turn did not stop the machine, the devices may follow
+  pub can-serve : k.steps < most_steps → CanServe (turn (with_step k)).kernel
+  can-serve few = record {
+    dispatch = turn-dispatch (with_step k) runs h.lists;
+    tick = subst (λ n. n < 2 ^ 32 - 1) (sym (ap (λ n. n.tick) (numbers-turn (with_step k) runs))) (few-ticks few);
+  }
+
+-- one step more is counted
+pub stands-step : (p : Parts) (k : Kernel) (n : ℕ) → Stands p k → n ≡ p.step + 1 → Stands (record p { step = n }) (with_step k)
+stands-step p k n st e = record {
+  full = st.full;
+  keeper = st.keeper;
+  image = record { size = st.image.size; holds = st.image.holds; plain = st.image.plain };
+  plain = record { size = st.plain.size; plain = st.plain.plain; owned = st.plain.owned };
+  regs = st.regs;
+  type_ahead = st.type_ahead;
+  disc = st.disc;
+  keys = st.keys;
+  steps = e ∙ ap (λ n. n + 1) st.steps;
+  period = st.period;
+  rest = record { residents = st.rest.residents; console = st.rest.console; shell = st.rest.shell; pipes = st.rest.pipes };
+}
+
+-- ---- the whole step
+
+-- it begins with the turn
+pub step-goes : (k : Kernel) → k.stop ≡ None → step k ≡ and_then (turn (with_step k)) (unless_stopped after_the_turn)
+unfolding step
+step-goes k goes = ap (λ s. cond (is_some s) (quietly k) (and_then (turn (with_step k)) (unless_stopped after_the_turn))) goes
+
+-- and ends with it where that stopped the machine
+pub rest-stops : (k : Kernel) (s : KernelStop) → k.stop ≡ Some s → unless_stopped after_the_turn k ≡ quietly k
+rest-stops k s e = ap (λ o. cond (is_some o) (quietly k) (after_the_turn k)) e
+
+pub rest-goes : (k : Kernel) → k.stop ≡ None → unless_stopped after_the_turn k ≡ after_the_turn k
+rest-goes k e = ap (λ o. cond (is_some o) (quietly k) (after_the_turn k)) e
+
+dispatch-stop : (k : Kernel) → (dispatch k).kernel.stop ≡ k.stop
+unfolding dispatch settled
+dispatch-stop k = refl
+
+-- nothing behind the turn stops it
+rest-stop : (k : Kernel) → (after_the_turn k).kernel.stop ≡ k.stop
+rest-stop k = dispatch-stop (output (key (tick k).kernel).kernel).kernel ∙ output-stop (key (tick k).kernel).kernel ∙ key-stop (tick k).kernel ∙ tick-stop k
+
+either-stop : (k : Kernel) (o : Option KernelStop) → k.stop ≡ o → (unless_stopped after_the_turn k).kernel.stop ≡ k.stop
+either-stop k None e = ap (λ x. x.kernel.stop) (rest-goes k e) ∙ rest-stop k
+either-stop k (Some s) e = ap (λ x. x.kernel.stop) (rest-stops k s e)
+
+pub stop-in-turn : (k : Kernel) → k.stop ≡ None → (step k).kernel.stop ≡ (turn (with_step k)).kernel.stop
+stop-in-turn k goes = ap (λ x. x.kernel.stop) (step-goes k goes) ∙ either-stop (turn (with_step k)).kernel (turn (with_step k)).kernel.stop refl
+
+-- what was answered says so
+pub none-stopped : (o : Option KernelStop) (r : Option Stop) → r ≡ option_map stop_of o → is_none r ≡ true → o ≡ None
+none-stopped None r e none = refl
+none-stopped (Some s) r e none = absurd (no-none (ap is_none (sym e) ∙ none))
+  where
+    no-none : false ≡ true → ⊥
+    no-none x = cc
+
+pub some-stopped : (o : Option KernelStop) (r : Option Stop) → r ≡ option_map stop_of o → is_none r ≡ false → (s : KernelStop) × (o ≡ Some s)
+some-stopped None r e some = absurd (no-some (ap is_none (sym e) ∙ some))
+  where
+    no-some : true ≡ false → ⊥
+    no-some x = cc
+some-stopped (Some s) r e some = (s, refl)
+
+-- ---- a machine that has stopped, or has not
+
+-- it stays as it is
+pub step-stays : (k : Kernel) (s : KernelStop) → k.stop ≡ Some s → step k ≡ quietly k
+unfolding step
+step-stays k s e = ap (λ o. cond (is_some o) (quietly k) (and_then (turn (with_step k)) (unless_stopped after_the_turn))) e
+
+-- by what is known of it
+pub was-none : (o : Option KernelStop) (r : Option Stop) → r ≡ option_map stop_of o → r ≡ None → o ≡ None
+was-none o r e none = none-stopped o r e (ap is_none none)
+
+pub was-some : (o : Option KernelStop) (r : Option Stop) (t : Stop) → r ≡ option_map stop_of o → r ≡ Some t → (s : KernelStop) × (o ≡ Some s)
+was-some o r t e some = some-stopped o r e (ap is_none some)

@@ -1,0 +1,8 @@
+use Rattle.std.proofs.Common.{refl, subst, sym}
+use Rattle.kernel_dispatch.specs.Dispatch.{CanDispatch}
+use Rattle.kernel_machine.proofs.ServedParts.{leaves-dispatch}
+use Rattle.kernel_machine.proofs.devices.dispatch.Goals as goal
+
+pub returns : goal.returns
+returns g c = λ k st can.
+    leaves-dispatch c.args.parts.now k st c.switch.new.store c.switch.new.kinds c.switch.new.regs _ _ (c.switch.ensures.dispatched k.lists st.keeper (subst (CanDispatch k.lists) (sym st.regs) can)) c.switch.ensures.room refl

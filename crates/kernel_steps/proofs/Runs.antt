@@ -1,0 +1,66 @@
+-- Runs: one after another, of a machine that has stopped, and how many steps they take.
+use Rattle.std.proofs.Common.{◌≡◌, ◌≢◌, ℕ, zero, suc, ◌+◌, ◌≤◌, Bool, true, false, Option, Some, None, cond, refl, sym, ap, ◌∙◌, arith}
+use Rattle.std.specs.Prelude.{is_some}
+use Rattle.std.proofs.lemmas.List.{append_assoc}
+use Rattle.kernel_model.specs.Kernel.{Kernel, Stop}
+use Rattle.kernel_steps.specs.Step.{Stepped, after_the_turn, and_then, behind, key, output, quietly, run, step, tick, turn, unless_stopped, with_step}
+use Rattle.kernel_steps.proofs.DevicesKept.{key-same, output-same, tick-same}
+use Rattle.kernel_steps.proofs.StepKept.{dispatch-same}
+use Rattle.kernel_steps.proofs.TurnKept.{turn-same}
+
+then-assoc : (x : Stepped) (f g : Kernel → Stepped) → and_then (and_then x f) g ≡ and_then x (λ j. and_then (f j) g)
+then-assoc x f g =
+    let y : Stepped = f x.kernel in
+    let z : Stepped = g y.kernel in
+    λ i. record { kernel = z.kernel; bytes = append_assoc x.bytes y.bytes z.bytes i; events = append_assoc x.events y.events z.events i }
+
+pub run-more : (m n : ℕ) (k : Kernel) → run (m + n) k ≡ and_then (run m k) (run n)
+unfolding run
+run-more zero n k = (let none : zero + n ≡ n = omega arith in ap (λ i. run i k) none)
+run-more (suc m) n k =
+    let next : suc m + n ≡ suc (m + n) = omega arith in
+    ap (λ i. run i k) next ∙ ap (behind (step k).bytes (step k).events) (run-more m n (step k).kernel) ∙ sym (then-assoc (step k) (run m) (run n))
+
+-- ---- a machine that has stopped
+
+has-stopped : (o : Option Stop) → o ≢ None → is_some o ≡ true
+has-stopped None some = absurd (some refl)
+has-stopped (Some stop) some = refl
+
+pub step-stopped : (k : Kernel) → k.stop ≢ None → step k ≡ quietly k
+unfolding step
+step-stopped k stopped = ap (λ b. cond b (quietly k) (and_then (turn (with_step k)) (unless_stopped after_the_turn))) (has-stopped k.stop stopped)
+
+pub run-stopped : (n : ℕ) (k : Kernel) → k.stop ≢ None → run n k ≡ quietly k
+unfolding run
+run-stopped zero k stopped = refl
+run-stopped (suc n) k stopped = ap (λ x. and_then x (run n)) (step-stopped k stopped) ∙ run-stopped n k stopped
+
+-- ---- the steps that are taken
+
+rest-steps : (k : Kernel) → (after_the_turn k).kernel.steps ≡ k.steps
+rest-steps k =
+    let ticked : Kernel = (tick k).kernel in
+    let typed : Kernel = (key ticked).kernel in
+    (dispatch-same (output typed).kernel).steps ∙ (output-same typed).steps ∙ (key-same ticked).steps ∙ (tick-same k).steps
+
+unless-steps : (n : ℕ) (part : Kernel → Stepped) (k : Kernel) → k.steps ≤ n → (part k).kernel.steps ≤ n → (unless_stopped part k).kernel.steps ≤ n
+unless-steps n part k stays goes = on (is_some k.stop)
+  where
+    on : (b : Bool) → (cond b (quietly k) (part k)).kernel.steps ≤ n
+    on true = stays
+    on false = goes
+
+pub step-steps : (k : Kernel) → (step k).kernel.steps ≤ k.steps + 1
+unfolding step
+step-steps k =
+    let first : Kernel = with_step k in
+    let turned : Kernel = (turn first).kernel in
+    let same : turned.steps ≡ k.steps + 1 = (turn-same first).steps in
+    unless-steps (k.steps + 1) (λ j. and_then (turn (with_step j)) (unless_stopped after_the_turn)) k (omega arith)
+    (unless-steps (k.steps + 1) after_the_turn turned (omega (arith, same)) (omega (arith, same, rest-steps turned)))
+
+pub run-steps : (n : ℕ) (k : Kernel) → (run n k).kernel.steps ≤ k.steps + n
+unfolding run
+run-steps zero k = omega arith
+run-steps (suc n) k = omega (arith, run-steps n (step k).kernel, step-steps k)

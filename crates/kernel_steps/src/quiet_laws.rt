@@ -1,0 +1,73 @@
+// Steps in which no device acts.
+ghost use Rattle.std.specs.Prelude.{◌≡◌, ◌≢◌, ◌%◌, ◌+◌, ◌/◌, ◌<◌, ◌≤◌, List, None, false, slice_set, suc, true, ℕ};
+ghost use Rattle.cint_exec.specs.declared.Outcome.TheVariants.{Next};
+ghost use Rattle.session_text.specs.Ranges.{most_steps};
+ghost use Rattle.task_block.specs.RootWords.{root_address};
+ghost use Rattle.task_block.specs.declared.roots.RootField.TheVariants.{Tick};
+ghost use Rattle.kernel_model.specs.Image.{IsImage};
+ghost use Rattle.kernel_model.specs.Kernel.{Kernel};
+ghost use Rattle.kernel_model.specs.Task.{is_guest_id};
+ghost use Rattle.kernel_model.specs.ValidKernel.{IsFullMachine};
+ghost use Rattle.device_returns.specs.Returned.{unserved};
+ghost use Rattle.machine_parts.specs.Stands.{KeepsNothing};
+ghost use Rattle.kernel_steps.specs.Quiet.{IsQuietFor, after_instruction_of, instruction_of, passed};
+ghost use Rattle.kernel_steps.specs.Step.{dispatch, quietly, run, served, step, with_step};
+
+/// A dispatch between steps changes nothing, and neither does a device that serves nobody.
+pub fn settled_law()
+    ensures dispatch { (k : Kernel) → IsFullMachine k → k.bare ≡ false → k.stop ≡ None
+        → dispatch k ≡ quietly k }
+    ensures unserved { (k : Kernel) → IsFullMachine k → k.bare ≡ false
+        → served k (unserved k.lists) ≡ quietly k }
+{}
+
+/// Where no guest runs, a quiet span changes the number of steps and the ticks, and nothing else. It leaves a valid kernel,
+/// and of the store the word of the ticks is the only one that changes.
+pub fn idle_law()
+    ensures run { (m : ℕ) (k : Kernel) → IsFullMachine k → k.bare ≡ false → k.stop ≡ None
+        → is_guest_id k.lists.running ≡ false
+        → IsQuietFor m k
+        → run m k ≡ quietly (passed m k) }
+    ensures full { (m : ℕ) (k : Kernel) → IsFullMachine k → k.bare ≡ false → k.stop ≡ None
+        → KeepsNothing k
+        → is_guest_id k.lists.running ≡ false
+        → k.steps + m ≤ most_steps
+        → IsQuietFor m k
+        → IsFullMachine (passed m k) }
+    ensures image { (s : List ℕ) (m : ℕ) (k : Kernel) → IsFullMachine k → k.bare ≡ false
+        → IsImage s k
+        → IsImage (slice_set s (root_address Tick) ((k.steps + m) / k.lists.period)) (passed m k) }
+{}
+
+/// Where a guest runs, a quiet step is its instruction and no more. It leaves a valid kernel, and the quiet span goes on
+/// behind it. Where the step is no tick, the ticks stay, and the store is the one that the instruction left.
+pub fn guest_law()
+    ensures step { (k : Kernel) → IsFullMachine k → k.bare ≡ false → k.stop ≡ None
+        → is_guest_id k.lists.running ≡ true
+        → (instruction_of k).outcome ≡ Next
+        → IsQuietFor 1 k
+        → step k ≡ quietly (passed 1 (after_instruction_of k)) }
+    ensures full { (k : Kernel) → IsFullMachine k → k.bare ≡ false → k.stop ≡ None
+        → KeepsNothing k
+        → is_guest_id k.lists.running ≡ true
+        → (instruction_of k).outcome ≡ Next
+        → k.steps < most_steps
+        → IsQuietFor 1 k
+        → IsFullMachine (passed 1 (after_instruction_of k)) }
+    ensures behind { (m : ℕ) (k : Kernel) → IsFullMachine k → k.bare ≡ false → k.stop ≡ None
+        → IsQuietFor (suc m) k
+        → IsQuietFor m (passed 1 (after_instruction_of k)) }
+    ensures left { (m : ℕ) (k j : Kernel) → IsFullMachine k → k.bare ≡ false → k.stop ≡ None
+        → is_guest_id k.lists.running ≡ true
+        → (instruction_of k).outcome ≡ Next
+        → IsQuietFor (suc m) k
+        → step k ≡ quietly j
+        → IsQuietFor m j }
+    ensures no_tick { (k : Kernel) → IsFullMachine k → k.bare ≡ false → k.stop ≡ None
+        → (k.steps + 1) % k.lists.period ≢ 0
+        → passed 1 (after_instruction_of k) ≡ with_step (after_instruction_of k) }
+    ensures image { (k : Kernel) → IsFullMachine k → k.bare ≡ false → k.stop ≡ None
+        → is_guest_id k.lists.running ≡ true
+        → (instruction_of k).outcome ≡ Next
+        → IsImage (instruction_of k).words (with_step (after_instruction_of k)) }
+{}

@@ -1,0 +1,17 @@
+use Rattle.trace_log.specs.Trails.{events_of}
+use Rattle.trace_log.proofs.MarkedLists.{NotesAll-rest, marked}
+use Rattle.trace_log.proofs.event_lines.note_lines.Goals as goal
+
+pub returns : goal.returns
+returns g c =
+    let old = c.args.log.now in
+    let new = c.note_all.new.log in
+    let holds = g.K.Sink.holds in
+    let faults = g.K.Sink.faults in
+    let is = marked old.out.ghost_name new.out.ghost_name (faults old.first.value) (faults new.first.value) (holds old.first.value) (holds new.first.value) (events_of old.trail) (events_of new.trail) _ _ _ c.note_all.ensures in
+    record {
+      same_reference = is.name;
+      same_first = is.first;
+      same_faults = is.faults;
+      events = NotesAll-rest old.out.ghost_name new.out.ghost_name (faults old.first.value) (faults new.first.value) (holds old.first.value) (holds new.first.value) (events_of old.trail) (events_of new.trail) _ _ _ c.note_all.ensures;
+    }

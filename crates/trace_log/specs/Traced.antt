@@ -1,0 +1,31 @@
+-- What a log of lines has gathered for its sink.
+use Rattle.std.specs.Prelude.{◌≡◌, ℕ, ◌≤◌, Bool, true, false, List, [], Option, Result, Ok, Err}
+use Rattle.std.specs.Bool.{OnFalse, OnTrue}
+use Rattle.std.specs.List.{flat_map}
+use Rattle.tp_io.specs.Faults.{Rose}
+use Rattle.tp_io.specs.Pending.{IsGathered}
+use Rattle.tp_io.specs.Write.{AppendsPrefix}
+use Rattle.packet_queue.specs.EventLine.{line_of}
+use Rattle.packet_queue.specs.declared.events.KernelEvent.{KernelEvent}
+
+-- the lines of events
+abbrev pub lines_of : List KernelEvent → List ℕ
+lines_of events = flat_map line_of events
+
+-- These lines have gone to the sink, but for what is pending. Where a write has failed, a prefix of them has.
+abbrev pub Reaches : Option (List ℕ) → Option (List ℕ) → List ℕ → List ℕ → (cut : Bool) → Type 0
+Reaches first now pending lines false = IsGathered first now [] pending lines
+Reaches first now pending lines true = AppendsPrefix first now lines
+
+-- The sink held `first`, and has counted `first_faults`, when the log began. The lines of these events are gathered; the count has
+-- not fallen, and has risen where a write has failed; and no note has failed before a write.
+pub record Traced (first now : Option (List ℕ)) (first_faults faults : ℕ) (pending : List ℕ) (events : List KernelEvent) (cut failed : Bool) : Type 0 where
+  pub lines : Reaches first now pending (lines_of events) cut
+  pub later : first_faults ≤ faults
+  pub rose : OnTrue cut (Rose first_faults faults)
+  pub works : OnFalse cut (failed ≡ false)
+
+-- These lines have gone to the sink, but for what is given back; or a write has failed, and a prefix of them has.
+abbrev pub GivesPending : {E : Type 0} → Option (List ℕ) → Option (List ℕ) → List ℕ → Result (List ℕ) E → Type 0
+GivesPending first now lines (Ok pending) = IsGathered first now [] pending lines
+GivesPending first now lines (Err e) = AppendsPrefix first now lines

@@ -1,0 +1,11 @@
+// A log that gathers a line for each event, from which its maker knows what the sink holds.
+#![tactic(auto)]
+
+pub mod event_lines;
+mod lines;
+pub mod logs;
+pub mod trails;
+
+pub use event_lines::{note_all, print_events};
+pub use logs::TraceLog;
+pub use trails::Trail;
