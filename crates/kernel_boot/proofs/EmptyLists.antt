@@ -1,14 +1,15 @@
 -- A kernel without tasks, modules and packets is a valid one.
-use Rattle.std.proofs.Common.{◌≡◌, ℕ, ◌+◌, ◌-◌, ◌%◌, ◌<◌, ◌≤◌, replicate, inl, inr, refl, ◌∙◌, subst, arith}
+use Rattle.std.proofs.Common.{◌≡◌, ℕ, ◌+◌, ◌-◌, ◌%◌, ◌<◌, ◌≤◌, [], replicate, inl, inr, refl, ◌∙◌, subst, arith}
 use Rattle.std.proofs.lemmas.Bool.{cases_eq, cases_lt}
 use Rattle.std.proofs.lemmas.List.{length-replicate}
 use Rattle.std.specs.Prelude.{IsTrue}
 use Rattle.std.specs.List.{range_with_len}
 use Rattle.linked_list.specs.Count.{hit, times}
-use Rattle.linked_list.proofs.Counts.{hit-le, hit-other, range-apart, times-above}
+use Rattle.linked_list.proofs.Counts.{hit-le, hit-other, range-apart, times-above, times-within}
 use Rattle.owned_words.specs.Owned.{owners, written}
-use Rattle.owned_words.proofs.OwnedWords.{length-written}
+use Rattle.owned_words.proofs.OwnedWords.{length-written, written-other}
 use Rattle.session_text.specs.Ranges.{IsVersion, is_period, is_store_size}
+use Rattle.kernel_model.specs.ChangedStore.{IsChanged}
 use Rattle.kernel_model.specs.HoldsLists.{HoldsLists}
 use Rattle.kernel_model.specs.Owned.{OwnsApart, owned}
 use Rattle.kernel_model.specs.ValidLists.{AreValid}
@@ -82,5 +83,29 @@ module _ (n v p : ℕ) (version : IsVersion v) (size : IsTrue (is_store_size v n
     owns = apart;
   }
 
-  pub empty-holds : HoldsLists (written (pairs n v p) (replicate n 0)) (empty_lists v p n)
+  empty-holds : HoldsLists (written (pairs n v p) (replicate n 0)) (empty_lists v p n)
   empty-holds = record { valid = valid; size = length-written (pairs n v p) (replicate n 0) ∙ length-replicate n 0; holds = holds-empty n v p low }
+
+  -- what nobody owns is not written
+  free : (a : ℕ) → owners a (owned (empty_lists v p n)) ≡ 0 → owners a (pairs n v p) ≡ 0
+  free a none =
+      let away : (b : ℕ) → 100 ≤ b → b < 184 → hit a b ≡ 0 = λ b from to. hit-other a b (λ e. absurd (omega (arith, count a, none, times-within a 100 84 (omega (arith, e, from)) (omega (arith, e, to)))))
+      in
+      omega (
+        arith,
+        count a,
+        none,
+        away 120 (omega arith) (omega arith),
+        away 111 (omega arith) (omega arith),
+        away 110 (omega arith) (omega arith),
+        away 109 (omega arith) (omega arith),
+        away 103 (omega arith) (omega arith),
+        away 100 (omega arith) (omega arith),
+      )
+
+  pub empty-changed : IsChanged (replicate n 0) (written (pairs n v p) (replicate n 0)) (empty_lists v p n) []
+  empty-changed = record {
+    lists = empty-holds;
+    size = length-written (pairs n v p) (replicate n 0);
+    written = record { holds = holds-empty n v p low; others = λ a none. written-other a (pairs n v p) (replicate n 0) (free a none) };
+  }

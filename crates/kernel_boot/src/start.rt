@@ -1,8 +1,8 @@
 // A kernel without tasks, modules and packets.
-ghost use Rattle.std.specs.Prelude.{◌≡◌, IsTrue, length, replicate};
+ghost use Rattle.std.specs.Prelude.{◌≡◌, IsTrue, [], length, replicate};
 ghost use Rattle.owned_words.specs.Owned.{written};
 ghost use Rattle.session_text.specs.Ranges.{IsVersion, is_period, is_store_size};
-ghost use Rattle.kernel_model.specs.HoldsLists.{HoldsLists};
+ghost use Rattle.kernel_model.specs.ChangedStore.{IsChanged};
 ghost use Rattle.kernel_model.specs.Versions.{highest_id_of};
 ghost use Rattle.kernel_boot.specs.BootWords.{root_pairs};
 ghost use Rattle.kernel_boot.specs.EmptyKernel.{empty_lists};
@@ -15,13 +15,13 @@ use word_store::Store;
 pub(crate) const TABLE: u32 = 120;
 
 /// Makes a kernel in a store of zeros: the root node, the task table, and one free block of all words from 200 up to the end
-/// word. Its clock ticks each `period` steps.
+/// word. Its clock ticks each `period` steps. All other words stay 0.
 pub fn make_kernel(store: &mut Store, version: u32, period: u32)
     requires zeros { store.old ≡ replicate (length store.old) 0 }
     requires version { IsVersion version }
     requires size { IsTrue (is_store_size version (length store.old)) }
     requires period { IsTrue (is_period period) }
-    ensures { HoldsLists store.new (empty_lists version period (length store.old)) }
+    ensures { IsChanged store.old store.new (empty_lists version period (length store.old)) [] }
 {
     write_root(store, version, period);
     make(store);

@@ -1,0 +1,104 @@
+-- The parts of a machine before the lines of its session.
+use Rattle.std.proofs.Common.{◌≡◌, ℕ, ◌<◌, ◌≤◌, List, [], length, map, get_or, replicate, cond, Bool, true, Option, Some, None, Result, Ok, Err, inl, inr, refl, sym, ap, ◌∙◌, subst, arith}
+use Rattle.std.specs.Prelude.{IfOk, MatchResult, is_ok, is_some}
+use Rattle.std.specs.List.{range_with_len}
+use Rattle.std.proofs.lemmas.Bool.{cases_lt}
+use Rattle.std.proofs.lemmas.List.{length-replicate}
+use Rattle.owned_words.specs.Owned.{owners, word_in}
+use Rattle.owned_words.proofs.OwnedWords.{word_in-holds}
+use Rattle.tp_io.specs.declared.WantMemory.{WantMemory}
+use Rattle.bare_machine.specs.declared.boot.BootEnd.{BootEnd}
+use Rattle.ram_disc.specs.Disc.{empty_disc}
+use Rattle.session_text.specs.declared.sessions.Session.{Session}
+use Rattle.kernel_model.specs.ChangedStore.{IsChanged}
+use Rattle.kernel_model.specs.HoldsLists.{HoldsLists}
+use Rattle.kernel_model.specs.Image.{HasPlainWords, IsImage, plain_words}
+use Rattle.kernel_model.specs.Lists.{Lists}
+use Rattle.kernel_model.specs.Owned.{owned}
+use Rattle.kernel_model.specs.ValidTasks.{no_regs}
+use Rattle.word_kinds.specs.ByteMap.{MarksAll}
+use Rattle.word_kinds.specs.Keeper.{IsStoreOf}
+use Rattle.kernel_boot.specs.EmptyKernel.{empty_lists}
+use Rattle.kernel_steps.proofs.StoredWords.{HasStore, stored}
+use Rattle.machine_parts.specs.declared.parts.Parts.{Parts}
+use Rattle.machine_parts.specs.Stands.{Stands}
+use Rattle.machine_boot.specs.Boot.{first_kernel}
+
+-- ---- plain words
+
+-- those of two stores are the same, where the words are that nobody owns
+pub plain-same : (s t : List ℕ) (l : Lists) → HoldsLists t l → ((a : ℕ) → owners a (owned l) ≡ 0 → get_or t a 0 ≡ get_or s a 0) → plain_words t l ≡ plain_words s l
+unfolding plain_words
+plain-same s t l h same = λ i. map (λ a. each a i) (range_with_len 0 l.size)
+  where
+    word : List ℕ → ℕ → Bool → Option ℕ
+    word words a b = cond b None (Some (get_or words a 0))
+
+    each : (a : ℕ) → word t a (is_some (word_in a (owned l))) ≡ word s a (is_some (word_in a (owned l)))
+    each a =
+        elim (cases_lt 0 (owners a (owned l))) [
+          | inl some ↦
+              let here : is_some (word_in a (owned l)) ≡ true = ap is_some (word_in-holds t a (owned l) h.holds some) in
+              ap (word t a) here ∙ sym (ap (word s a) here)
+          | inr few ↦ ap (λ w. cond (is_some (word_in a (owned l))) None (Some w)) (same a (omega (arith, few)))
+        ]
+
+-- ---- the parts
+
+-- what was made is what its maker says, whatever became of the error
+pub made-ok : {X : Type 0} (P : X → Type 0) (Q : WantMemory → Type 0) (r : Result X WantMemory) (y : X) → MatchResult r (λ x. ◌≡◌ {A = Result X BootEnd} (Ok y) (Ok x)) Q → true ≡ is_ok r → IfOk r P → P y
+made-ok P Q (Ok x) y is ok h = (let same : x ≡ y = cc in subst P same h)
+made-ok P Q (Err e) y is ok h = cc
+
+-- a kernel was made in a store of zeros
+pub made-changed : (n version period : ℕ) (s t u : List ℕ) → s ≡ replicate n 0 → u ≡ t → IsChanged s t (empty_lists version period (length s)) [] → IsChanged (replicate n 0) u (empty_lists version period n) []
+made-changed n version period s t u zeros is ch =
+    let long : length s ≡ n = ap length zeros ∙ length-replicate n 0 in
+    subst (λ w. IsChanged (replicate n 0) w (empty_lists version period n) []) (sym is)
+    (subst (λ z. IsChanged z t (empty_lists version period n) []) zeros (subst (λ k. IsChanged s t (empty_lists version period k) []) long ch))
+
+-- they were made for the session
+pub record AreMade (s : Session) (p : Parts) : Type 0 where
+  pub store : IsChanged (replicate s.store 0) p.store (empty_lists s.version s.period s.store) []
+  pub marks : (known : List ℕ) (l : Lists) → IsStoreOf p.store known l → length p.store ≡ length p.kinds → MarksAll p.kinds known
+  pub kinds : length p.kinds ≡ s.store
+  pub regs : p.regs ≡ no_regs
+  pub type_ahead : p.tty ≡ []
+  pub disc : p.disc ≡ empty_disc
+  pub keys : p.keys ≡ s.keys
+  pub step : p.step ≡ 0
+  pub period : p.period ≡ s.period
+
+module _ (s : Session) (p : Parts) (m : AreMade s p) where
+  abbrev lists : Lists
+  lists = empty_lists s.version s.period s.store
+
+  size : length p.store ≡ length p.kinds
+  size = omega (arith, m.store.lists.size, m.kinds)
+
+  first-store : HasStore p.store (first_kernel s)
+  unfolding first_kernel
+  first-store =
+      let words : plain_words p.store lists ≡ plain_words (replicate s.store 0) lists = plain-same (replicate s.store 0) p.store lists m.store.lists m.store.written.others in
+      subst (λ ws. HasStore p.store (record (first_kernel s) { plain = ws })) words (stored p.store lists (first_kernel s) refl m.store.lists)
+
+  pub made-stands : Stands p (first_kernel s)
+  unfolding first_kernel
+  made-stands = record {
+    full = refl;
+    keeper =
+        record {
+          lists = m.store.lists;
+          knows = λ known same. m.marks known lists (record { lists = m.store.lists; addresses = same }) size;
+          enough = omega (arith, size);
+        };
+    image = first-store.image;
+    plain = first-store.plain;
+    regs = m.regs;
+    type_ahead = m.type_ahead;
+    disc = m.disc;
+    keys = m.keys;
+    steps = m.step;
+    period = m.period;
+    rest = record { residents = refl; console = refl; shell = refl; pipes = refl };
+  }

@@ -1,0 +1,100 @@
+-- The parts of a machine once files or tasks of the lines are in it.
+use Rattle.std.proofs.Common.{◌≡◌, ℕ, ◌≤◌, List, length, Bool, Result, Ok, Err, refl, sym, ap, ◌∙◌, subst}
+use Rattle.ram_disc.specs.Disc.{Disc}
+use Rattle.session_text.specs.declared.sessions.SessionLine.{SessionLine}
+use Rattle.kernel_model.specs.ChangedStore.{HasKeeper}
+use Rattle.kernel_model.specs.Image.{image}
+use Rattle.kernel_model.specs.Kernel.{Kernel}
+use Rattle.kernel_model.specs.Lists.{Lists}
+use Rattle.kernel_model.proofs.ImageWords.{image-list}
+use Rattle.kernel_dispatch.specs.Dispatch.{CanDispatch}
+use Rattle.word_kinds.specs.ByteMap.{MarksAll}
+use Rattle.guest_turns.specs.GuestTurn.{numbers_of}
+use Rattle.kernel_boot.specs.BootFiles.{IsNewDisc, load_files}
+use Rattle.kernel_boot.specs.BootTasks.{AreBootLines, IsLeft, Standing, standing, start_tasks}
+use Rattle.kernel_boot.specs.declared.refusals.BootRefusal.{BootRefusal}
+use Rattle.text_reader.specs.Steps.{◌>>=◌}
+use Rattle.kernel_steps.specs.Step.{with_store}
+use Rattle.kernel_steps.proofs.StoredWords.{HasStore, stored}
+use Rattle.machine_parts.specs.declared.parts.Parts.{Parts}
+use Rattle.machine_parts.specs.Stands.{Stands}
+use Rattle.machine_boot.specs.Boot.{with_disc, with_files, with_lines, with_standing, with_tasks}
+use Rattle.machine_boot.specs.Booted.{CanStart, IsReached}
+use Rattle.machine_boot.proofs.ReadyTasks.{AreFresh, IsReady, tasks-ready}
+
+module _ (p : Parts) (k : Kernel) (h : Stands p k) (lines : List SessionLine) where
+  -- ---- the files
+
+  pub files-reached : (d : Disc) (r : Result (Unit {0}) BootRefusal) → IsNewDisc d r (load_files p.disc lines) → IsReached (record p { disc = d }) r (with_files lines k)
+  unfolding with_files
+  files-reached d (Ok u) is =
+      (with_disc d k, ap (λ e. load_files e lines >>= (λ d. Ok (with_disc d k))) (sym h.disc) ∙ ap (λ x. x >>= (λ d. Ok (with_disc d k))) is, stands)
+    where
+      stands : Stands (record p { disc = d }) (with_disc d k)
+      stands = record {
+        full = h.full;
+        keeper = h.keeper;
+        image = record { size = h.image.size; holds = h.image.holds; plain = h.image.plain };
+        plain = record { size = h.plain.size; plain = h.plain.plain; owned = h.plain.owned };
+        regs = h.regs;
+        type_ahead = h.type_ahead;
+        disc = refl;
+        keys = h.keys;
+        steps = h.steps;
+        period = h.period;
+        rest = record { residents = h.rest.residents; console = h.rest.console; shell = h.rest.shell; pipes = h.rest.pipes };
+      }
+  files-reached d (Err refusal) is =
+      ap (λ e. load_files e lines >>= (λ d. Ok (with_disc d k))) (sym h.disc) ∙ ap (λ x. x >>= (λ d. Ok (with_disc d k))) is
+
+  -- ---- the tasks
+
+  -- the numbers of the lists stay
+  numbers-kept : CanStart lines k → (x : Standing) → start_tasks k.disc lines (standing (image k) k.lists) ≡ Ok x → numbers_of x.lists ≡ numbers_of k.lists
+  numbers-kept can x is =
+      let before : IsReady (numbers_of k.lists) k.lists = record { numbers = refl; fresh = subst AreFresh (sym can.none) tt } in
+      (tasks-ready (numbers_of k.lists) k.lists.version k.disc lines (standing (image k) k.lists) x can.may_start is before).numbers
+
+  module _ (t : List ℕ) (kinds : List Bool) where
+    left-stands : (l : Lists) → numbers_of l ≡ numbers_of k.lists → HasKeeper t (MarksAll kinds) (length kinds) l → Stands (record p { store = t; kinds = kinds }) (with_store t l k)
+    left-stands l same keeper =
+        let store : HasStore t (with_store t l k) = stored t l k h.full keeper.lists in
+        record {
+          full = h.full;
+          keeper = keeper;
+          image = store.image;
+          plain = store.plain;
+          regs = h.regs;
+          type_ahead = h.type_ahead;
+          disc = h.disc;
+          keys = h.keys;
+          steps = h.steps;
+          period = h.period ∙ sym (ap (λ n. n.period) same);
+          rest = record { residents = ap (λ n. n.residents) same ∙ h.rest.residents; console = h.rest.console; shell = h.rest.shell; pipes = h.rest.pipes };
+        }
+
+    pub tasks-reached : (r : Result (Unit {0}) BootRefusal) → CanStart lines k → IsLeft t (MarksAll kinds) (length kinds) r (start_tasks p.disc lines (standing p.store k.lists)) → IsReached (record p { store = t; kinds = kinds }) r (with_tasks lines k)
+    unfolding with_tasks
+    tasks-reached (Ok u) can left =
+        let is : start_tasks k.disc lines (standing (image k) k.lists) ≡ Ok (standing t left.0) =
+        (λ i. start_tasks (sym h.disc i) lines (standing (sym (image-list p.store k h.image) i) k.lists)) ∙ left.1 in
+        (with_store t left.0 k, ap (λ x. x >>= (λ y. Ok (with_standing y k))) is, left-stands left.0 (numbers-kept can (standing t left.0) is) left.2)
+    tasks-reached (Err refusal) can left =
+        ap (λ x. x >>= (λ y. Ok (with_standing y k))) ((λ i. start_tasks (sym h.disc i) lines (standing (sym (image-list p.store k h.image) i) k.lists)) ∙ left)
+
+-- ---- the lines
+
+-- the tasks come behind the files
+pub lines-then : (lines : List SessionLine) (k j : Kernel) → with_files lines k ≡ Ok j → with_lines lines k ≡ with_tasks lines j
+unfolding with_lines
+lines-then lines k j is = ap (λ x. x >>= with_tasks lines) is
+
+pub lines-refused : (lines : List SessionLine) (k : Kernel) (refusal : BootRefusal) → with_files lines k ≡ Err refusal → with_lines lines k ≡ Err refusal
+unfolding with_lines
+lines-refused lines k refusal is = ap (λ x. x >>= with_tasks lines) is
+
+-- what was not refused was reached
+pub reached-kernel : (p : Parts) (r : Result (Unit {0}) BootRefusal) (reached : Result Kernel BootRefusal) → ((refusal : BootRefusal) → r ≡ Err refusal → ⊥) → IsReached p r reached
+    → (k : Kernel) × (reached ≡ Ok k) × Stands p k
+reached-kernel p (Ok u) reached never h = h
+reached-kernel p (Err refusal) reached never h = absurd (never refusal refl)

@@ -1,0 +1,140 @@
+-- The tasks that a session starts: they are guests, none of them runs, and none has packets.
+use Rattle.std.proofs.Common.{◌≡◌, ℕ, ◌≤◌, List, [], ◌∷◌, ◌++◌, cond, eqb, map, Bool, true, false, Option, Some, None, Result, Ok, Err, refl, sym, ap, subst, arith}
+use Rattle.std.specs.Prelude.{IfSome, find, unwrap_or}
+use Rattle.std.specs.List.{AllByRecursion}
+use Rattle.std.specs.Option.{option_map}
+use Rattle.hunk_text.specs.ModuleOfText.{Refusal, module_of}
+use Rattle.hunk_text.specs.declared.modules.Module.{Module}
+use Rattle.linked_list.specs.Places.{insert_after}
+use Rattle.ram_disc.specs.Disc.{Disc, file_named}
+use Rattle.session_text.specs.declared.sessions.SessionLine.{SessionLine}
+use Rattle.session_text.specs.declared.sessions.LineForm.{LineForm}
+use Rattle.session_text.specs.declared.sessions.LineForm.TheVariants.{Code, File, Task}
+use Rattle.kernel_model.specs.Changes.{change_of}
+use Rattle.kernel_model.specs.Lists.{Lists, has_task}
+use Rattle.kernel_model.specs.Task.{Task as TaskRecord}
+use Rattle.kernel_model.specs.ValidTasks.{runs}
+use Rattle.kernel_model.proofs.AllThings.{all-inserted}
+use Rattle.call_answers.specs.Made.{Made, by_refusal}
+use Rattle.call_answers.specs.Refusals.{first_refusal}
+use Rattle.module_calls.specs.LoadModule.{load_tests}
+use Rattle.task_calls.specs.CreateTask.{create_task, creation_tests, new_task, number_of, with_created}
+use Rattle.guest_turns.specs.GuestTurn.{Numbers, numbers_of}
+use Rattle.kernel_boot.specs.BegunTask.{begun, with_begun}
+use Rattle.kernel_boot.specs.BootFiles.{at_line}
+use Rattle.kernel_boot.specs.BootTasks.{AreBootLines, IsBootForm, Standing, begin_it, create_it, left_with, load_bytes, load_named, load_names, load_text, on_answer, start_form, start_tasks}
+use Rattle.kernel_boot.proofs.StartedTasks.{number-is}
+
+-- a guest that neither runs nor has packets
+pub record IsFresh (t : TaskRecord) : Type 0 where
+  pub low : 5 ≤ t.id
+  pub stands : t.field ≡ runs → ⊥
+  pub empty : t.queue ≡ []
+
+abbrev pub AreFresh : List TaskRecord → Type 0
+AreFresh ts = AllByRecursion IsFresh ts
+
+-- one task changes
+pub fresh-changed : (n : ℕ) (f : TaskRecord → TaskRecord) → ((t : TaskRecord) → IsFresh t → IsFresh (f t)) → (ts : List TaskRecord) → AreFresh ts → AreFresh (map (change_of n f) ts)
+fresh-changed n f each [] all = tt
+fresh-changed n f each (t ∷ ts) all = (on (eqb t.id n), fresh-changed n f each ts all.1)
+  where
+    on : (b : Bool) → IsFresh (cond b (f t) t)
+    on true = each t all.0
+    on false = all.0
+
+-- one is found
+pub fresh-found : (f : TaskRecord → Bool) (ts : List TaskRecord) → AreFresh ts → IfSome (find f ts) IsFresh
+fresh-found f [] all = tt
+fresh-found f (t ∷ ts) all = on (f t) (fresh-found f ts all.1)
+  where
+    on : (b : Bool) → IfSome (find f ts) IsFresh → IfSome (cond b (Some t) (find f ts)) IsFresh
+    on true more = all.0
+    on false more = more
+
+-- the lists have these numbers, and all their tasks are fresh
+pub record IsReady (nums : Numbers) (l : Lists) : Type 0 where
+  pub numbers : numbers_of l ≡ nums
+  pub fresh : AreFresh l.tasks
+
+module _ (nums : Numbers) where
+  -- ---- modules
+
+  refused-ready : (o : Option ℕ) (l : Lists) (m : Made) → IsReady nums l → IsReady nums m.lists → IsReady nums (by_refusal o l m).lists
+  refused-ready None l m before after = after
+  refused-ready (Some code) l m before after = before
+
+  text-ready : (l : Lists) (r : Result Module Refusal) → IsReady nums l → IsReady nums (load_text l r).lists
+  text-ready l (Ok m) h = refused-ready (first_refusal (load_tests l m.hunks)) l _ h (record { numbers = h.numbers; fresh = h.fresh })
+  text-ready l (Err refusal) h = h
+
+  bytes-ready : (l : Lists) (o : Option (List ℕ)) → IsReady nums l → IsReady nums (load_bytes l o).lists
+  bytes-ready l None h = h
+  bytes-ready l (Some bytes) h = text-ready l (module_of bytes) h
+
+  named-ready : (d : Disc) (name : List ℕ) (l : Lists) → IsReady nums l → IsReady nums (load_named d name l).lists
+  named-ready d name l h = bytes-ready l (option_map (λ f. f.bytes) (file_named d name)) h
+
+  names-ready : (d : Disc) (names : List (List ℕ)) (modules : List ℕ) (k : Standing) (x : List ℕ × Standing) → load_names d names modules k ≡ Ok x → IsReady nums k.lists → IsReady nums x.1.lists
+  names-ready d [] modules k x is h = (let same : (modules, k) ≡ x = cc in subst (λ (y : List ℕ × Standing). IsReady nums y.1.lists) same h)
+  names-ready d (name ∷ names) modules k x is h =
+      on
+      (λ m e. names-ready d names (modules ++ m ∷ []) (left_with k.words (load_named d name k.lists).lists (load_named d name k.lists).plain) x e (named-ready d name k.lists h))
+      (load_named d name k.lists).answer is
+    where
+      on : ((m : ℕ) → load_names d names (modules ++ m ∷ []) (left_with k.words (load_named d name k.lists).lists (load_named d name k.lists).plain) ≡ Ok x → IsReady nums x.1.lists)
+          → (r : Result ℕ ℕ)
+          → on_answer r (left_with k.words (load_named d name k.lists).lists (load_named d name k.lists).plain) (λ m j. load_names d names (modules ++ m ∷ []) j) ≡ Ok x
+          → IsReady nums x.1.lists
+      on more (Ok m) e = more m e
+      on more (Err code) e = cc
+
+  -- ---- a task
+
+  -- it is dead at first
+  created-ready : (s : List ℕ) (l : Lists) (id : ℕ) (modules : List ℕ) (u pri maker : ℕ) → 5 ≤ id → IsReady nums l → IsReady nums (create_task s l id modules u pri maker).lists
+  created-ready s l id modules u pri maker low h =
+      let n : ℕ = unwrap_or (number_of l id) 0 in
+      let t : TaskRecord = new_task l n modules u pri maker in
+      let fresh : IsFresh t = record { low = omega (arith, low, number-is l id n low refl); stands = λ dead. absurd (omega (arith, dead)); empty = refl } in
+      refused-ready (first_refusal (creation_tests s l id modules u pri)) l (with_created s l t) h
+      (record { numbers = h.numbers; fresh = all-inserted IsFresh _ t l.tasks fresh h.fresh })
+
+  -- and then interrupted
+  begun-ready : (words : List ℕ) (id : ℕ) (l : Lists) → IsReady nums l → IsReady nums (with_begun words id l)
+  begun-ready words id l h = record {
+    numbers = h.numbers;
+    fresh = fresh-changed id (begun l.version words) (λ t one. record { low = one.low; stands = λ interrupted. absurd (omega (arith, interrupted)); empty = one.empty }) l.tasks h.fresh;
+  }
+
+  begin-ready : (r : Result ℕ ℕ) (k j : Standing) → on_answer r k begin_it ≡ Ok j → IsReady nums k.lists → IsReady nums j.lists
+  begin-ready (Ok n) k j is h =
+      let same : left_with k.words (with_begun k.words n k.lists) [] ≡ j = cc in
+      subst (λ (y : Standing). IsReady nums y.lists) same (begun-ready k.words n k.lists h)
+  begin-ready (Err code) k j is h = cc
+
+  create-ready : (id pri stack : ℕ) → 5 ≤ id → (r : Result (List ℕ × Standing) ℕ) (j : Standing) → create_it id pri stack r ≡ Ok j → ((x : List ℕ × Standing) → r ≡ Ok x → IsReady nums x.1.lists) → IsReady nums j.lists
+  create-ready id pri stack low (Ok x) j is h =
+      let made : Made = create_task x.1.words x.1.lists id x.0 stack pri 0 in
+      begin-ready made.answer (left_with x.1.words made.lists made.plain) j is (created-ready x.1.words x.1.lists id x.0 stack pri 0 low (h x refl))
+  create-ready id pri stack low (Err code) j is h = cc
+
+  -- ---- the lines
+
+  form-ready : (version : ℕ) (d : Disc) (form : LineForm) (k j : Standing) → IsBootForm version form → start_form d form k ≡ Ok j → IsReady nums k.lists → IsReady nums j.lists
+  form-ready version d (File name bytes) k j may is h = (let same : k ≡ j = cc in subst (λ (y : Standing). IsReady nums y.lists) same h)
+  form-ready version d (Code bytes) k j may is h = (let same : k ≡ j = cc in subst (λ (y : Standing). IsReady nums y.lists) same h)
+  form-ready version d (Task id pri stack names) k j may is h = on (has_task id k.lists.tasks) is
+    where
+      on : (b : Bool) → cond b (Err 27) (create_it id pri stack (load_names d names [] k)) ≡ Ok j → IsReady nums j.lists
+      on true e = cc
+      on false e = create-ready id pri stack may.low (load_names d names [] k) j e (λ x loaded. names-ready d names [] k x loaded h)
+
+  pub tasks-ready : (version : ℕ) (d : Disc) (lines : List SessionLine) (k j : Standing) → AreBootLines version lines → start_tasks d lines k ≡ Ok j → IsReady nums k.lists → IsReady nums j.lists
+  tasks-ready version d [] k j may is h = (let same : k ≡ j = cc in subst (λ (y : Standing). IsReady nums y.lists) same h)
+  tasks-ready version d (line ∷ lines) k j may is h = on (λ i e more. tasks-ready version d lines i j may.1 e more) (start_form d line.form k) refl is
+    where
+      on : ((i : Standing) → start_tasks d lines i ≡ Ok j → IsReady nums i.lists → IsReady nums j.lists) → (r : Result Standing ℕ) → start_form d line.form k ≡ r
+          → at_line line.line r (λ i. start_tasks d lines i) ≡ Ok j → IsReady nums j.lists
+      on more (Ok i) e f = more i f (form-ready version d line.form k i may.0 e h)
+      on more (Err code) e f = cc

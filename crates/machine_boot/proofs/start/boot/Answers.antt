@@ -1,0 +1,50 @@
+use Rattle.std.proofs.Common.{◌≡◌, ◌∙◌, List, Ok, Err, Result, sym, ap, subst}
+use Rattle.session_text.specs.declared.sessions.Session.{Session}
+use Rattle.session_text.specs.declared.sessions.SessionLine.{SessionLine}
+use Rattle.kernel_model.specs.Kernel.{Kernel}
+use Rattle.kernel_boot.specs.declared.refusals.BootRefusal.{BootRefusal}
+use Rattle.kernel_steps.specs.Step.{dispatch}
+use Rattle.machine_boot.specs.Boot.{first_kernel, with_lines}
+use Rattle.machine_boot.specs.Booted.{CanLoad, IsReached}
+use Rattle.machine_boot.proofs.BegunKernels.{begun-dispatches, boot-ok, boot-refused, first-begun, first-loads, lines-begun}
+use Rattle.machine_boot.proofs.BootedKernels.{booted-full, booted-goes}
+use Rattle.machine_boot.proofs.LoadedParts.{reached-kernel}
+use Rattle.machine_boot.proofs.start.boot.Goals as goal
+
+pub put_lines-requires : goal.put_lines-requires
+put_lines-requires c =
+    let s : Session = c.args.session.now in
+    (first_kernel s, c.in_ok-parts.ensures, first-loads s c.requires c.as_slice.result.now c.as_slice.ensures)
+
+pub returns-in-Err : goal.returns-in-Err
+returns-in-Err c =
+    let s : Session = c.args.session.now in
+    let loads = first-loads s c.requires c.as_slice.result.now c.as_slice.ensures in
+    boot-refused s c.in-Err.refusal (ap (λ ls. with_lines ls (first_kernel s)) (sym c.as_slice.ensures) ∙ c.in-Err.ensures (first_kernel s) c.in_ok-parts.ensures loads)
+
+pub dispatch-requires : goal.dispatch-requires
+dispatch-requires c =
+    let s : Session = c.args.session.now in
+    let k : Kernel = first_kernel s in
+    let loads = first-loads s c.requires c.as_slice.result.now c.as_slice.ensures in
+    let loaded = reached-kernel c.put_lines.new.parts c.put_lines.result (with_lines c.as_slice.result.now k) c.in_default.not-Err (c.put_lines.ensures k c.in_ok-parts.ensures loads) in
+    let is : with_lines s.lines k ≡ Ok loaded.0 = ap (λ ls. with_lines ls k) (sym c.as_slice.ensures) ∙ loaded.1 in
+    (loaded.0, loaded.2, begun-dispatches s c.requires loaded.0 (lines-begun s c.requires k loaded.0 (first-begun s) is))
+
+pub returns : goal.returns
+returns c =
+    let s : Session = c.args.session.now in
+    let k : Kernel = first_kernel s in
+    let loads = first-loads s c.requires c.as_slice.result.now c.as_slice.ensures in
+    let loaded = reached-kernel c.put_lines.new.parts c.put_lines.result (with_lines c.as_slice.result.now k) c.in_default.not-Err (c.put_lines.ensures k c.in_ok-parts.ensures loads) in
+    let is : with_lines s.lines k ≡ Ok loaded.0 = ap (λ ls. with_lines ls k) (sym c.as_slice.ensures) ∙ loaded.1 in
+    let begun = lines-begun s c.requires k loaded.0 (first-begun s) is in
+    let stands = c.dispatch.ensures loaded.0 loaded.2 (begun-dispatches s c.requires loaded.0 begun) in (
+      dispatch loaded.0,
+      boot-ok s loaded.0 is,
+      record {
+        stands = stands;
+        valid = booted-full s c.requires loaded.0 begun stands.keeper.lists.valid stands.plain;
+        goes = booted-goes s c.requires loaded.0 begun;
+      },
+    )

@@ -1,0 +1,77 @@
+-- What a session without residents puts into a machine with a kernel before its first step.
+use Rattle.std.specs.Prelude.{◌≡◌, ◌==◌, false, if◌then◌else◌, None, List, [], ◌∷◌, Result, Ok, replicate}
+use Rattle.ram_disc.specs.Disc.{Disc, empty_disc}
+use Rattle.text_reader.specs.Steps.{◌>>=◌}
+use Rattle.packet_queue.specs.declared.events.KernelEvent.{KernelEvent}
+use Rattle.packet_queue.specs.declared.events.KernelEvent.TheVariants.{Runs}
+use Rattle.session_text.specs.Canonical.{IsLawful}
+use Rattle.session_text.specs.declared.sessions.Session.{Session}
+use Rattle.session_text.specs.declared.sessions.SessionLine.{SessionLine}
+use Rattle.kernel_model.specs.Image.{image, plain_words}
+use Rattle.kernel_model.specs.Kernel.{Kernel}
+use Rattle.kernel_model.specs.Pipes.{no_pipes}
+use Rattle.kernel_model.specs.ValidKernel.{no_command, no_line}
+use Rattle.kernel_model.specs.ValidTasks.{no_regs}
+use Rattle.kernel_boot.specs.BootFiles.{load_files}
+use Rattle.kernel_boot.specs.BootTasks.{Standing, standing, start_tasks}
+use Rattle.kernel_boot.specs.EmptyKernel.{empty_lists}
+use Rattle.kernel_boot.specs.declared.refusals.BootRefusal.{BootRefusal}
+use Rattle.kernel_steps.specs.Step.{Stepped, dispatch, with_store}
+
+-- a session of guests alone: it has a kernel, and no residents
+pub record HasGuestsAlone (s : Session) : Type 0 where
+  pub lawful : IsLawful s
+  pub full : s.bare ≡ false
+  pub guests : s.resident ≡ false
+
+-- The kernel before the lines: its lists are empty, and all words that they do not own are 0; no key has come, and the disc is
+-- empty.
+unfoldable pub first_kernel : Session → Kernel
+first_kernel s = record {
+  bare = false;
+  lists = empty_lists s.version s.period s.store;
+  plain = plain_words (replicate s.store 0) (empty_lists s.version s.period s.store);
+  regs = no_regs;
+  steps = 0;
+  console = no_line;
+  shell = no_command;
+  disc = empty_disc;
+  type_ahead = [];
+  keys = s.keys;
+  pipes = no_pipes;
+  stop = None;
+}
+
+-- the lines' files are on the disc
+abbrev pub with_disc : Disc → Kernel → Kernel
+with_disc d k = record k { disc = d }
+
+unfoldable pub with_files : List SessionLine → Kernel → Result Kernel BootRefusal
+with_files lines k = do
+  d ← load_files k.disc lines
+  Ok (with_disc d k)
+
+-- the lines' tasks are ready
+abbrev pub with_standing : Standing → Kernel → Kernel
+with_standing x k = with_store x.words x.lists k
+
+unfoldable pub with_tasks : List SessionLine → Kernel → Result Kernel BootRefusal
+with_tasks lines k = do
+  x ← start_tasks k.disc lines (standing (image k) k.lists)
+  Ok (with_standing x k)
+
+-- the files of all lines come first, and then the tasks of all lines
+unfoldable pub with_lines : List SessionLine → Kernel → Result Kernel BootRefusal
+with_lines lines k = do
+  j ← with_files lines k
+  with_tasks lines j
+
+-- the kernel before its first step, in which the first ready task runs; or the first line that is refused, with its code
+unfoldable pub boot : Session → Result Stepped BootRefusal
+boot s = do
+  k ← with_lines s.lines (first_kernel s)
+  Ok (dispatch k)
+
+-- the events of a boot: the first ready task runs, where there is one
+abbrev pub boot_events : Kernel → List KernelEvent
+boot_events k = if k.lists.running == 0 then [] else Runs k.lists.running ∷ []

@@ -1,0 +1,120 @@
+// The machine of a session without residents.
+ghost use Rattle.std.specs.Prelude.{◌≡◌, MatchResult};
+ghost use Rattle.kernel_model.specs.Kernel.{Kernel};
+ghost use Rattle.kernel_dispatch.specs.Dispatch.{CanDispatch};
+ghost use Rattle.kernel_boot.specs.BootFiles.{HasNoStreams};
+ghost use Rattle.kernel_steps.specs.Step.{dispatch};
+ghost use Rattle.machine_parts.specs.Stands.{Stands};
+ghost use Rattle.machine_boot.specs.Boot.{HasGuestsAlone, boot, first_kernel, with_files, with_lines, with_tasks};
+ghost use Rattle.machine_boot.specs.Booted.{BootsAs, CanStart, CanLoad, IsReached};
+
+use bare_machine::boot::BootEnd;
+use kernel_boot::{BootRefusal, load_files, make_kernel, start_tasks};
+use kernel_dispatch::switch;
+use machine_parts::{Parts, Script};
+use packet_queue::NoLog;
+use ram_disc::Disc;
+use session_text::{Session, SessionLine};
+use std::alloc::Global;
+use tp_io::WantMemory;
+use tty_device::Tty;
+use word_kinds::ByteKinds;
+use word_store::{Regs, Store};
+
+/// The registers where nobody runs.
+const NO_REGS: Regs = Regs {
+    a: 0,
+    b: 0,
+    c: 0,
+    p: 0,
+    g: 0,
+    pc: 0,
+};
+
+/// The machine of a session without residents, before its first step: the files of all lines are on its disc, the tasks of all
+/// lines have been started, the first ready one runs, and the session's keys are to come. The first line that is refused is the
+/// answer, with its code. First come the files: a file has the name already (42), there are 64 files (44), or the disc has no
+/// room (43). Then come the tasks: a task has the number already (27); for each of its names in turn, no file has it (41), its
+/// text is no module (61 to 66), or no run of free blocks is large enough for the module (1); a task has the priority already
+/// (8), a module has a number of a global above 1,000 (18), or no run of free blocks is large enough for the task (1).
+/// `WantMemory` comes only where memory could not be had.
+pub fn boot(alloc: Global, session: &Session) -> Result<Parts, BootEnd>
+    requires { HasGuestsAlone session.now }
+    ensures { BootsAs result (boot session.now) }
+{
+    let mut parts = empty_machine(alloc, session)?;
+    if let Err(refusal) = put_lines(&mut parts, session.lines.as_slice()) {
+        return Err(BootEnd::Line {
+            line: refusal.line,
+            code: refusal.code,
+        });
+    }
+    dispatch(&mut parts);
+    Ok(parts)
+}
+
+// The end where memory could not be had.
+fn want_memory(_: WantMemory) -> BootEnd
+    ensures { result ≡ BootEnd.WantMemory }
+{
+    BootEnd::WantMemory
+}
+
+// The machine before the lines.
+fn empty_machine(alloc: Global, session: &Session) -> Result<Parts, BootEnd>
+    requires { HasGuestsAlone session.now }
+    ensures { MatchResult result (λ p. Stands p (first_kernel session.now))
+        (λ e. e ≡ BootEnd.WantMemory) }
+{
+    let mut store = Store::new(alloc, session.store)?;
+    make_kernel(&mut store, session.version, session.period);
+    let mut kinds = ByteKinds::new(alloc, session.store).map_err(want_memory)?;
+    kinds.rebuild(&store);
+    Ok(Parts {
+        store,
+        regs: NO_REGS,
+        kinds,
+        tty: Tty::new(alloc).map_err(want_memory)?,
+        disc: Disc::new(alloc).map_err(want_memory)?,
+        keys: Script::new(alloc, session.keys.as_slice()).map_err(want_memory)?,
+        step: 0,
+        period: session.period,
+    })
+}
+
+// Puts the files of all lines on the disc, and then starts the tasks of all lines.
+fn put_lines(parts: &mut Parts, lines: &[SessionLine]) -> Result<(), BootRefusal>
+    requires { (k : Kernel) × Stands parts.old k × CanLoad lines.now k }
+    ensures { (k : Kernel) → Stands parts.old k → CanLoad lines.now k
+        → IsReached parts.new result (with_lines lines.now k) }
+{
+    put_files(parts, lines)?;
+    put_tasks(parts, lines)
+}
+
+// Puts the files of the lines on the disc.
+fn put_files(parts: &mut Parts, lines: &[SessionLine]) -> Result<(), BootRefusal>
+    requires { HasNoStreams parts.old.disc }
+    ensures { (k : Kernel) → Stands parts.old k
+        → IsReached parts.new result (with_files lines.now k) }
+{
+    load_files(&mut parts.disc, lines)
+}
+
+// Starts the tasks of the lines.
+fn put_tasks(parts: &mut Parts, lines: &[SessionLine]) -> Result<(), BootRefusal>
+    requires { (k : Kernel) × Stands parts.old k × CanStart lines.now k }
+    ensures { (k : Kernel) → Stands parts.old k → CanStart lines.now k
+        → IsReached parts.new result (with_tasks lines.now k) }
+{
+    start_tasks(&mut parts.store, &mut parts.kinds, &parts.disc, lines)
+}
+
+// Lets the first ready task run.
+fn dispatch(parts: &mut Parts)
+    requires { (k : Kernel) × Stands parts.old k × CanDispatch k.lists k.regs }
+    ensures { (k : Kernel) → Stands parts.old k → CanDispatch k.lists k.regs
+        → Stands parts.new (dispatch k).kernel }
+{
+    switch(&mut parts.store, &mut parts.regs, &mut parts.kinds, &mut NoLog);
+}
