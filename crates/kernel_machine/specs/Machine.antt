@@ -1,8 +1,6 @@
 -- A machine with a kernel, as contracts see it.
-use Rattle.std.specs.Prelude.{◌≡◌, ◌==◌, ℕ, Option, Some, None, List, [], ◌∷◌, false, if◌then◌else◌}
+use Rattle.std.specs.Prelude.{◌≡◌, ℕ, Option, Some, None, List, false}
 use Rattle.std.specs.Option.{option_map}
-use Rattle.packet_queue.specs.declared.events.KernelEvent.{KernelEvent}
-use Rattle.packet_queue.specs.declared.events.KernelEvent.TheVariants.{Runs}
 use Rattle.kernel_model.specs.Image.{plain_words}
 use Rattle.kernel_model.specs.Kernel.{Kernel, Stop as KernelStop}
 use Rattle.kernel_model.specs.Kernel.Stop.{Quit as KernelQuit, Finish as KernelFinish, Fault as KernelFault}
@@ -53,7 +51,3 @@ pub record IsWhole (p : Parts) (stop : Option Stop) : Type 0 where
   pub stands : Stands p (kernel_of p stop)
   pub valid : IsFullMachine (kernel_of p stop)
   pub stopped : stop ≡ option_map stop_of (stop_in stop)
-
--- the events of a boot: a dispatch lets the running task run, where there is one
-abbrev pub boot_events : Kernel → List KernelEvent
-boot_events k = if k.lists.running == 0 then [] else Runs k.lists.running ∷ []

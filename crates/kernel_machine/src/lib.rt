@@ -3,6 +3,8 @@
 
 mod devices;
 pub mod machine;
+mod runs;
+mod spans;
 mod steps;
 mod turns;
 

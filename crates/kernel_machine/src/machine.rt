@@ -7,8 +7,8 @@ ghost use Rattle.kernel_model.specs.NotedEvents.{NotesAll};
 ghost use Rattle.kernel_model.specs.ValidKernel.{IsFullMachine};
 ghost use Rattle.machine_parts.specs.Stands.{Stands};
 ghost use Rattle.machine_parts.specs.Stops.{stop_of};
-ghost use Rattle.kernel_steps.specs.Step.{step};
-ghost use Rattle.kernel_machine.specs.Machine.{boot_events, kernel_of};
+ghost use Rattle.kernel_steps.specs.Step.{boot_events, step};
+ghost use Rattle.kernel_machine.specs.Machine.{kernel_of};
 
 use crate::steps::step_or_stay;
 use crate::turns::running;

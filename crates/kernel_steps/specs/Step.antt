@@ -2,6 +2,7 @@
 use Rattle.std.specs.Prelude.{ℕ, zero, suc, ◌+◌, ◌%◌, ◌==◌, Bool, if◌then◌else◌, is_some, Option, Some, None, List, [], ◌∷◌, ◌++◌, nat_le}
 use Rattle.owned_words.specs.Owned.{written}
 use Rattle.packet_queue.specs.declared.events.KernelEvent.{KernelEvent}
+use Rattle.packet_queue.specs.declared.events.KernelEvent.TheVariants.{Runs}
 use Rattle.kernel_model.specs.Image.{image, plain_words, settled}
 use Rattle.kernel_model.specs.Kernel.{Kernel, Stop}
 use Rattle.kernel_model.specs.Kernel.Stop.{Fault, Quit}
@@ -122,3 +123,9 @@ step k = unless_stopped (λ j. and_then (turn (with_step j)) (unless_stopped aft
 unfoldable pub run : ℕ → Kernel → Stepped
 run zero k = quietly k
 run (suc n) k = and_then (step k) (run n)
+
+-- ---- before the first step
+
+-- the events of a boot: the first ready task runs, where there is one
+abbrev pub boot_events : Kernel → List KernelEvent
+boot_events k = if k.lists.running == 0 then [] else Runs k.lists.running ∷ []

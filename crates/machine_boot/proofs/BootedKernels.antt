@@ -28,12 +28,12 @@ use Rattle.kernel_model.proofs.EachMember.{all-each}
 use Rattle.kernel_dispatch.specs.Dispatch.{Dispatched, dispatched, first_ready_task, packets_taken, suspended, taken_event, takes_packet, unchanged, with_nobody, with_resumed, with_suspended}
 use Rattle.guest_turns.specs.GuestTurn.{Numbers, numbers_of}
 use Rattle.kernel_steps.specs.Parts.{RunsFirst}
-use Rattle.kernel_steps.specs.Step.{Stepped, dispatch}
+use Rattle.kernel_steps.specs.Step.{boot_events, dispatch, Stepped}
 use Rattle.kernel_steps.proofs.DispatchKept.{GoesOn, dispatch-numbers, runs-first, three-ways}
 use Rattle.kernel_boot.specs.declared.refusals.BootRefusal.{BootRefusal}
 use Rattle.machine_parts.specs.Stands.{KeepsNothing}
 use Rattle.text_reader.specs.Steps.{◌>>=◌}
-use Rattle.machine_boot.specs.Boot.{HasGuestsAlone, boot, boot_events, first_kernel, with_lines}
+use Rattle.machine_boot.specs.Boot.{HasGuestsAlone, boot, first_kernel, with_lines}
 use Rattle.machine_boot.proofs.BegunKernels.{HasBegun, begun-dispatches, first-begun, first_numbers, lines-begun}
 use Rattle.machine_boot.proofs.LoadedDiscs.{no-stream, none-at, none-shut}
 use Rattle.machine_boot.proofs.ReadyTasks.{AreFresh, IsFresh, fresh-changed, fresh-found}

@@ -1,9 +1,7 @@
 -- What a session without residents puts into a machine with a kernel before its first step.
-use Rattle.std.specs.Prelude.{◌≡◌, ◌==◌, false, if◌then◌else◌, None, List, [], ◌∷◌, Result, Ok, replicate}
+use Rattle.std.specs.Prelude.{◌≡◌, false, None, List, [], Result, Ok, replicate}
 use Rattle.ram_disc.specs.Disc.{Disc, empty_disc}
 use Rattle.text_reader.specs.Steps.{◌>>=◌}
-use Rattle.packet_queue.specs.declared.events.KernelEvent.{KernelEvent}
-use Rattle.packet_queue.specs.declared.events.KernelEvent.TheVariants.{Runs}
 use Rattle.session_text.specs.Canonical.{IsLawful}
 use Rattle.session_text.specs.declared.sessions.Session.{Session}
 use Rattle.session_text.specs.declared.sessions.SessionLine.{SessionLine}
@@ -71,7 +69,3 @@ unfoldable pub boot : Session → Result Stepped BootRefusal
 boot s = do
   k ← with_lines s.lines (first_kernel s)
   Ok (dispatch k)
-
--- the events of a boot: the first ready task runs, where there is one
-abbrev pub boot_events : Kernel → List KernelEvent
-boot_events k = if k.lists.running == 0 then [] else Runs k.lists.running ∷ []

@@ -35,7 +35,9 @@ pub fn answer_text<K: Sink>(alloc: Global, command: Command, text: &[u8], out: &
     ensures cause { HasFaultCause Status.WriteFault (K.faults out.old) (K.faults out.new) result }
 {
     match command {
-        Command::Run | Command::Dump => answer_session_text(alloc, command, text, out),
+        Command::Run | Command::Dump | Command::Trace => {
+            answer_session_text(alloc, command, text, out)
+        }
         Command::Asm => answer_assembly(alloc, text, out),
         Command::Disasm => answer_module(alloc, text, out),
     }

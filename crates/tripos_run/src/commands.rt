@@ -9,6 +9,8 @@ pub enum Command {
     Run,
     /// Run the session, and write the words of its store that are not 0.
     Dump,
+    /// Run the session, and write a line for each event of its kernel in place of the console bytes.
+    Trace,
     /// Write the module of the assembly text.
     Asm,
     /// List the module.
@@ -31,6 +33,7 @@ fn command_named(word: &str) -> Option<Command>
     match word {
         "run" => Some(Command::Run),
         "dump" => Some(Command::Dump),
+        "trace" => Some(Command::Trace),
         "asm" => Some(Command::Asm),
         "disasm" => Some(Command::Disasm),
         _ => None,

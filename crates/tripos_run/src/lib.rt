@@ -2,8 +2,11 @@
 #![tactic(auto)]
 
 mod answer;
+mod bare;
 mod commands;
 mod dump;
+mod ends;
+mod guests;
 mod messages;
 pub mod program;
 mod session;

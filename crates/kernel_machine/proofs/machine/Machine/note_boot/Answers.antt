@@ -4,7 +4,8 @@ use Rattle.packet_queue.specs.declared.events.KernelEvent.{KernelEvent}
 use Rattle.packet_queue.specs.declared.events.KernelEvent.TheVariants.{Runs}
 use Rattle.kernel_model.specs.NotedEvents.{NotesAll}
 use Rattle.kernel_model.proofs.NotedInTurn.{notes-one}
-use Rattle.kernel_machine.specs.Machine.{MachineView, boot_events, kernel_of}
+use Rattle.kernel_steps.specs.Step.{boot_events}
+use Rattle.kernel_machine.specs.Machine.{MachineView, kernel_of}
 use Rattle.kernel_machine.proofs.machine.Machine.note_boot.Goals as goal
 
 pub returns-then-task-ne0 : goal.returns-then-task-ne0

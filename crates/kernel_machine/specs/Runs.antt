@@ -1,0 +1,35 @@
+-- How far a run has come.
+use Rattle.std.specs.Prelude.{◌≡◌, ◌≤◌, ◌⊎◌, ℕ, Bool, true, false, None, Option, List, Result, Ok, Err}
+use Rattle.tp_io.specs.Faults.{Rose}
+use Rattle.bare_machine.specs.declared.stops.Stop.{Stop}
+use Rattle.packet_queue.specs.declared.events.KernelEvent.{KernelEvent}
+use Rattle.kernel_model.specs.Kernel.{Kernel}
+use Rattle.kernel_model.specs.NotedEvents.{NotesAll}
+use Rattle.kernel_model.specs.ValidKernel.{IsFullMachine}
+use Rattle.machine_parts.specs.declared.parts.Parts.{Parts}
+use Rattle.machine_parts.specs.Stands.{Stands}
+use Rattle.machine_parts.specs.Stops.{end_of_run}
+use Rattle.kernel_steps.specs.Step.{quietly, run}
+
+-- n steps of the kernel k, which left the parts p; none of them showed or noted anything, or stopped the machine
+pub record HasPassed (n : ℕ) (k : Kernel) (p : Parts) : Type 0 where
+  pub quiet : run n k ≡ quietly (run n k).kernel
+  pub stands : Stands p (run n k).kernel
+  pub valid : IsFullMachine (run n k).kernel
+  pub goes : (run n k).kernel.stop ≡ None
+
+-- n steps of the kernel k, which left j, and of which the events went to the log, or the first of them where it failed
+pub record HasRun (n : ℕ) (k j : Kernel) (old new : Option (List KernelEvent)) (had_failed has_failed : Bool) : Type 0 where
+  pub kernel : j ≡ (run n k).kernel
+  pub events : NotesAll old new had_failed has_failed (run n k).events
+
+-- a log has failed, or the sink's count of faults rose
+abbrev pub HasCause : ℕ → ℕ → Bool → Type 0
+HasCause before now has_failed = Rose before now ⊎ (has_failed ≡ true)
+
+-- A run of n steps has taken them all, or was cut off behind some, where the sink or the log failed.
+abbrev pub EndsRun : {E : Type 0} → ℕ → Kernel → Kernel → Option (List KernelEvent) → Option (List KernelEvent) → Bool → Bool → ℕ → ℕ → Result Stop E → Type 0
+EndsRun n k j old new had_failed has_failed before now (Ok stop) =
+    HasRun n k j old new had_failed has_failed × (stop ≡ end_of_run j.stop) × (has_failed ≡ false)
+EndsRun n k j old new had_failed has_failed before now (Err e) =
+    ((i : ℕ) × (i ≤ n) × HasRun i k j old new had_failed has_failed) × HasCause before now has_failed

@@ -1,0 +1,55 @@
+// How a run ends, on a machine of either kind.
+
+use crate::commands::Command;
+use crate::dump::gather_dump;
+use crate::messages::gather_closing;
+use crate::status::Status;
+use bare_machine::Stop;
+use tp_io::{Output, Sink, SinkFault, pass_on};
+use word_store::Store;
+
+// What is pending, the closing line, and what the command adds to it.
+pub(crate) fn write_end<K: Sink>(
+    command: Command,
+    steps: u64,
+    stop: Stop,
+    store: &Store,
+    out: &mut K,
+    pending: &mut Output,
+) -> Result<(), SinkFault>
+    ensures text { Prints (K.holds out.old) (K.holds out.new)
+        (pending.old ++ (closing_text steps stop ++ words_text command store.now)) result }
+    ensures cause { HasCause (K.faults out.old) (K.faults out.new) result }
+{
+    gather_closing(steps, stop, out, pending)?;
+    gather_words(command, store, out, pending)?;
+    pass_on(out, pending)
+}
+
+fn gather_words<K: Sink>(
+    command: Command,
+    store: &Store,
+    out: &mut K,
+    pending: &mut Output,
+) -> Result<(), SinkFault>
+    ensures text { Gathers (K.holds out.old) (K.holds out.new) pending.old pending.new
+        (words_text command store.now) result }
+    ensures cause { HasCause (K.faults out.old) (K.faults out.new) result }
+{
+    match command {
+        Command::Run | Command::Trace | Command::Asm | Command::Disasm => Ok(()),
+        Command::Dump => match store.words(0, store.size()) {
+            Some(words) => gather_dump(words, out, pending),
+            None => unreachable!(),
+        },
+    }
+}
+
+pub(crate) fn status_of(stop: Stop) -> Status
+    ensures { result ≡ status_of stop }
+{
+    match stop {
+        Stop::Steps | Stop::Quit(_) | Stop::Finish => Status::Done,
+        Stop::Fault { .. } => Status::GuestFault,
+    }
+}
