@@ -45,7 +45,7 @@ no-work id (t ∷ ts) none = on (eqb t.id id) none (no-work id ts)
     on true e more = cc
     on false e more = more e
 
-faults-stand : (k : Kernel) → AreValid k.lists → k.lists.residents ≡ false → FaultsStand k
+pub faults-stand : (k : Kernel) → AreValid k.lists → k.lists.residents ≡ false → FaultsStand k
 faults-stand k v none =
     let absent : has_task 2 k.lists.tasks ≡ false = no-reporter k.lists v none in
     record {

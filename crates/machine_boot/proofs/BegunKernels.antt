@@ -1,18 +1,14 @@
 -- The kernel from the first one up to its dispatch.
-use Rattle.std.proofs.Common.{◌≡◌, ℕ, ◌<◌, ◌≤◌, List, [], length, cond, Bool, true, false, Option, None, Result, Ok, Err, refl, sym, ap, ◌∙◌, subst, arith}
+use Rattle.std.proofs.Common.{◌≡◌, List, [], false, None, Result, Ok, Err, refl, sym, ap, subst, arith}
 use Rattle.std.specs.List.{AllByRecursion}
-use Rattle.std.proofs.lemmas.Bool.{leb-true}
 use Rattle.word_store.specs.declared.registers.Regs.{Regs}
-use Rattle.ram_disc.specs.Disc.{Disc, Stream, empty_disc, most_streams}
-use Rattle.session_text.specs.Canonical.{IsLawful, IsLawfulForm, IsLawfulKey, IsLawfulMachine}
-use Rattle.session_text.specs.Ranges.{most_steps}
+use Rattle.ram_disc.specs.Disc.{Disc, empty_disc}
+use Rattle.session_text.specs.Canonical.{IsLawfulForm}
 use Rattle.session_text.specs.declared.sessions.Session.{Session}
 use Rattle.session_text.specs.declared.sessions.SessionLine.{SessionLine}
 use Rattle.kernel_model.specs.Image.{image}
 use Rattle.kernel_model.specs.Kernel.{Kernel}
-use Rattle.kernel_model.specs.Lists.{Lists}
 use Rattle.kernel_model.specs.Pipes.{no_pipes}
-use Rattle.kernel_model.specs.Task.{Task}
 use Rattle.kernel_model.specs.ValidKernel.{no_command, no_line}
 use Rattle.kernel_model.specs.ValidTasks.{no_regs, runs}
 use Rattle.kernel_model.proofs.EachMember.{all-each}
@@ -22,7 +18,7 @@ use Rattle.kernel_boot.specs.BootFiles.{load_files}
 use Rattle.kernel_boot.specs.BootTasks.{AreBootLines, Standing, standing, start_tasks}
 use Rattle.kernel_boot.specs.declared.refusals.BootRefusal.{BootRefusal}
 use Rattle.kernel_boot.proofs.LawfulLines.{boot-lines}
-use Rattle.kernel_steps.specs.Step.{Stepped, dispatch}
+use Rattle.kernel_steps.specs.Step.{dispatch}
 use Rattle.text_reader.specs.Steps.{◌>>=◌}
 use Rattle.machine_boot.specs.Boot.{HasGuestsAlone, boot, first_kernel, with_disc, with_files, with_lines, with_standing, with_tasks}
 use Rattle.machine_boot.specs.Booted.{CanStart, CanLoad}

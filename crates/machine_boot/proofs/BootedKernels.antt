@@ -1,26 +1,22 @@
 -- The kernel that is booted is valid, and the only event of its boot is that its running task runs.
-use Rattle.std.proofs.Common.{◌≡◌, ◌≢◌, ℕ, ◌+◌, ◌/◌, ◌<◌, ◌≤◌, ◌++◌, ◌||◌, List, [], ◌∷◌, length, map, cond, eqb, Bool, true, false, Option, Some, None, Result, Ok, Err, refl, sym, ap, ◌∙◌, subst, arith}
-use Rattle.std.specs.Prelude.{IfSome, find, is_some}
+use Rattle.std.proofs.Common.{◌≡◌, ◌≢◌, ℕ, ◌/◌, ◌≤◌, ◌++◌, List, [], ◌∷◌, length, map, cond, eqb, Bool, true, false, Some, None, Result, Ok, Err, refl, sym, ap, ◌∙◌, subst, arith}
+use Rattle.std.specs.Prelude.{IfSome, is_some}
 use Rattle.std.specs.List.{AllByRecursion}
 use Rattle.std.proofs.Math.Nat.{zero-div}
 use Rattle.std.proofs.lemmas.Bool.{leb-true, ne_eqb}
-use Rattle.word_store.specs.declared.registers.Regs.{Regs}
-use Rattle.packet_queue.specs.declared.events.KernelEvent.{KernelEvent}
 use Rattle.packet_queue.specs.declared.events.KernelEvent.TheVariants.{Runs}
 use Rattle.packet_queue.specs.QueueWords.{QueuedPacket}
-use Rattle.ram_disc.specs.Disc.{Stream, most_streams, shell_stream, stream_at}
+use Rattle.ram_disc.specs.Disc.{most_streams, shell_stream}
 use Rattle.session_text.specs.Canonical.{IsLawfulKey, IsLawfulMachine}
 use Rattle.session_text.specs.Ranges.{most_steps}
 use Rattle.session_text.specs.declared.sessions.Session.{Session}
-use Rattle.kernel_model.specs.Between.{AreShut, FaultsStand, IsAwaited, NoResidents, RegistersStand, ResidentsStand, RunsFirstReady, has_unreported, is_ready, is_typing}
-use Rattle.kernel_model.specs.Changes.{change_of, work_of}
+use Rattle.kernel_model.specs.Between.{AreShut, IsAwaited, ResidentsStand, is_ready, is_typing}
 use Rattle.kernel_model.specs.Image.{HasPlainWords, image, settled}
 use Rattle.kernel_model.specs.Kernel.{Kernel, Pipe}
-use Rattle.kernel_model.specs.Lists.{Lists, has_task}
-use Rattle.kernel_model.specs.Pipes.{PipesStand, most_pipes, no_pipes, pipe_at}
-use Rattle.kernel_model.specs.Residents.{fault_packet}
-use Rattle.kernel_model.specs.Task.{Task, is_guest_id}
-use Rattle.kernel_model.specs.ValidKernel.{HasSteps, IsFullMachine, no_command, no_line}
+use Rattle.kernel_model.specs.Lists.{Lists}
+use Rattle.kernel_model.specs.Pipes.{PipesStand, most_pipes, pipe_at}
+use Rattle.kernel_model.specs.Task.{Task}
+use Rattle.kernel_model.specs.ValidKernel.{HasSteps, IsFullMachine}
 use Rattle.kernel_model.specs.ValidLists.{AreValid}
 use Rattle.kernel_model.specs.ValidTasks.{runs}
 use Rattle.kernel_model.specs.Versions.{highest_id_of}
@@ -30,40 +26,13 @@ use Rattle.guest_turns.specs.GuestTurn.{Numbers, numbers_of}
 use Rattle.kernel_steps.specs.Parts.{RunsFirst}
 use Rattle.kernel_steps.specs.Step.{boot_events, dispatch, Stepped}
 use Rattle.kernel_steps.proofs.DispatchKept.{GoesOn, dispatch-numbers, runs-first, three-ways}
+use Rattle.kernel_steps.proofs.StepKept.{faults-stand}
 use Rattle.kernel_boot.specs.declared.refusals.BootRefusal.{BootRefusal}
-use Rattle.machine_parts.specs.Stands.{KeepsNothing}
 use Rattle.text_reader.specs.Steps.{◌>>=◌}
 use Rattle.machine_boot.specs.Boot.{HasGuestsAlone, boot, first_kernel, with_lines}
 use Rattle.machine_boot.proofs.BegunKernels.{HasBegun, begun-dispatches, first-begun, first_numbers, lines-begun}
 use Rattle.machine_boot.proofs.LoadedDiscs.{no-stream, none-at, none-shut}
 use Rattle.machine_boot.proofs.ReadyTasks.{AreFresh, IsFresh, fresh-changed, fresh-found}
-
--- ---- without residents
-
--- no task reports faults
-no-reporter : (l : Lists) → AreValid l → l.residents ≡ false → has_task 2 l.tasks ≡ false
-no-reporter l v none = on (has_task 2 l.tasks) refl
-  where
-    on : (b : Bool) → has_task 2 l.tasks ≡ b → b ≡ false
-    on true e = sym (v.tasks.reporter e) ∙ none
-    on false e = refl
-
--- so it has no queue
-no-work : (id : ℕ) (ts : List Task) → has_task id ts ≡ false → work_of id ts ≡ []
-no-work id [] none = refl
-no-work id (t ∷ ts) none = on (λ e. no-work id ts e) (eqb t.id id) none
-  where
-    on : (has_task id ts ≡ false → work_of id ts ≡ []) → (b : Bool) → (b || has_task id ts) ≡ false → cond b t.queue (work_of id ts) ≡ []
-    on more true e = cc
-    on more false e = more e
-
-faults-stand : (k : Kernel) → AreValid k.lists → k.lists.residents ≡ false → FaultsStand k
-faults-stand k v none =
-    let absent : has_task 2 k.lists.tasks ≡ false = no-reporter k.lists v none in
-    record {
-      waits = λ there. cc;
-      sender = subst (AllByRecursion (λ p. eqb p.address fault_packet ≡ true → has_unreported p.sender k.lists.tasks ≡ true)) (sym (no-work 2 k.lists.tasks absent)) tt;
-    }
 
 module _ (s : Session) (h : HasGuestsAlone s) where
   lawful-keys : AllByRecursion (λ key. key.0 ≤ most_steps) s.keys

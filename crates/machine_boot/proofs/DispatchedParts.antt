@@ -1,5 +1,5 @@
 -- The parts of a machine once the first ready task runs.
-use Rattle.std.proofs.Common.{◌≡◌, ℕ, ◌≤◌, Bool, List, length, Option, sym, ap, ◌∙◌, subst, arith}
+use Rattle.std.proofs.Common.{◌≡◌, ℕ, Bool, List, length, Option, sym, ap, ◌∙◌, subst, arith}
 use Rattle.word_store.specs.declared.registers.Regs.{Regs}
 use Rattle.packet_queue.specs.declared.events.KernelEvent.{KernelEvent}
 use Rattle.kernel_model.specs.Image.{HasPlainWords, IsImage, image, settled}

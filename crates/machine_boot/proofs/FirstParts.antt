@@ -1,5 +1,5 @@
 -- The parts of a machine before the lines of its session.
-use Rattle.std.proofs.Common.{◌≡◌, ℕ, ◌<◌, ◌≤◌, List, [], length, map, get_or, replicate, cond, Bool, true, Option, Some, None, Result, Ok, Err, inl, inr, refl, sym, ap, ◌∙◌, subst, arith}
+use Rattle.std.proofs.Common.{◌≡◌, ℕ, List, [], length, map, get_or, replicate, cond, Bool, true, Option, Some, None, Result, Ok, Err, inl, inr, refl, sym, ap, ◌∙◌, subst, arith}
 use Rattle.std.specs.Prelude.{IfOk, MatchResult, is_ok, is_some}
 use Rattle.std.specs.List.{range_with_len}
 use Rattle.std.proofs.lemmas.Bool.{cases_lt}
@@ -12,7 +12,7 @@ use Rattle.ram_disc.specs.Disc.{empty_disc}
 use Rattle.session_text.specs.declared.sessions.Session.{Session}
 use Rattle.kernel_model.specs.ChangedStore.{IsChanged}
 use Rattle.kernel_model.specs.HoldsLists.{HoldsLists}
-use Rattle.kernel_model.specs.Image.{HasPlainWords, IsImage, plain_words}
+use Rattle.kernel_model.specs.Image.{plain_words}
 use Rattle.kernel_model.specs.Lists.{Lists}
 use Rattle.kernel_model.specs.Owned.{owned}
 use Rattle.kernel_model.specs.ValidTasks.{no_regs}

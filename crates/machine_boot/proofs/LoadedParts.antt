@@ -1,5 +1,5 @@
 -- The parts of a machine once files or tasks of the lines are in it.
-use Rattle.std.proofs.Common.{◌≡◌, ℕ, ◌≤◌, List, length, Bool, Result, Ok, Err, refl, sym, ap, ◌∙◌, subst}
+use Rattle.std.proofs.Common.{◌≡◌, ℕ, List, length, Bool, Result, Ok, Err, refl, sym, ap, ◌∙◌, subst}
 use Rattle.ram_disc.specs.Disc.{Disc}
 use Rattle.session_text.specs.declared.sessions.SessionLine.{SessionLine}
 use Rattle.kernel_model.specs.ChangedStore.{HasKeeper}
@@ -7,11 +7,10 @@ use Rattle.kernel_model.specs.Image.{image}
 use Rattle.kernel_model.specs.Kernel.{Kernel}
 use Rattle.kernel_model.specs.Lists.{Lists}
 use Rattle.kernel_model.proofs.ImageWords.{image-list}
-use Rattle.kernel_dispatch.specs.Dispatch.{CanDispatch}
 use Rattle.word_kinds.specs.ByteMap.{MarksAll}
 use Rattle.guest_turns.specs.GuestTurn.{numbers_of}
 use Rattle.kernel_boot.specs.BootFiles.{IsNewDisc, load_files}
-use Rattle.kernel_boot.specs.BootTasks.{AreBootLines, IsLeft, Standing, standing, start_tasks}
+use Rattle.kernel_boot.specs.BootTasks.{IsLeft, Standing, standing, start_tasks}
 use Rattle.kernel_boot.specs.declared.refusals.BootRefusal.{BootRefusal}
 use Rattle.text_reader.specs.Steps.{◌>>=◌}
 use Rattle.kernel_steps.specs.Step.{with_store}

@@ -116,5 +116,10 @@ fn dispatch(parts: &mut Parts)
     ensures { (k : Kernel) → Stands parts.old k → CanDispatch k.lists k.regs
         → Stands parts.new (dispatch k).kernel }
 {
-    switch(&mut parts.store, &mut parts.regs, &mut parts.kinds, &mut NoLog);
+    switch(
+        &mut parts.store,
+        &mut parts.regs,
+        &mut parts.kinds,
+        &mut NoLog,
+    );
 }

@@ -1,11 +1,8 @@
-use Rattle.std.proofs.Common.{◌≡◌, ◌∙◌, List, Ok, Err, Result, sym, ap, subst}
+use Rattle.std.proofs.Common.{◌≡◌, ◌∙◌, Ok, sym, ap}
 use Rattle.session_text.specs.declared.sessions.Session.{Session}
-use Rattle.session_text.specs.declared.sessions.SessionLine.{SessionLine}
 use Rattle.kernel_model.specs.Kernel.{Kernel}
-use Rattle.kernel_boot.specs.declared.refusals.BootRefusal.{BootRefusal}
 use Rattle.kernel_steps.specs.Step.{dispatch}
 use Rattle.machine_boot.specs.Boot.{first_kernel, with_lines}
-use Rattle.machine_boot.specs.Booted.{CanLoad, IsReached}
 use Rattle.machine_boot.proofs.BegunKernels.{begun-dispatches, boot-ok, boot-refused, first-begun, first-loads, lines-begun}
 use Rattle.machine_boot.proofs.BootedKernels.{booted-full, booted-goes}
 use Rattle.machine_boot.proofs.LoadedParts.{reached-kernel}
