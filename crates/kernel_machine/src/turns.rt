@@ -20,7 +20,7 @@ use tp_io::Output;
 use word_store::Store;
 
 /// The lowest number of a guest.
-const FIRST_GUEST: u32 = 5;
+pub(crate) const FIRST_GUEST: u32 = 5;
 
 /// The running guest's instruction, call, or end of its function; nothing where no guest runs. The answer is why the machine
 /// stops, if it does.
