@@ -1,7 +1,6 @@
 -- Steps of which nobody but the running task knows.
-use Rattle.std.proofs.Common.{◌≡◌, ◌≢◌, ℕ, zero, suc, ◌+◌, ◌-◌, ◌*◌, ◌/◌, ◌%◌, ◌<◌, ◌≤◌, ◌⊎◌, Bool, true, false, cond, eqb, Option, Some, None, List, [], ◌∷◌, ◌++◌, length, set, inl, inr, refl, sym, ap, ◌∙◌, subst, arith}
+use Rattle.std.proofs.Common.{◌≡◌, ◌≢◌, ℕ, suc, ◌+◌, ◌/◌, ◌%◌, ◌<◌, ◌≤◌, ◌⊎◌, true, false, cond, None, List, [], length, set, inl, inr, refl, sym, ap, ◌∙◌, subst, arith}
 use Rattle.std.proofs.lemmas.Bool.{eq-eqb}
-use Rattle.std.proofs.lemmas.List.{append-nil}
 use Rattle.std.proofs.Math.Nat.{div-mul-le_self}
 use Rattle.std.proofs.lemmas.Nat.{le-div}
 use Rattle.session_text.specs.Ranges.{most_steps}
@@ -10,12 +9,9 @@ use Rattle.cint_exec.specs.Instruction.{instruction}
 use Rattle.cint_exec.specs.declared.Fault.{Fault}
 use Rattle.cint_exec.specs.declared.Outcome.{Outcome}
 use Rattle.cint_exec.specs.declared.Outcome.TheVariants.{Next, Sys, Returned, Fault as Faulted}
-use Rattle.owned_words.specs.Owned.{owners}
-use Rattle.kernel_model.specs.ChangedStore.{Knows}
 use Rattle.kernel_model.specs.HoldsLists.{HoldsLists}
 use Rattle.kernel_model.specs.Image.{image}
 use Rattle.kernel_model.specs.Kernel.{Kernel}
-use Rattle.kernel_model.specs.Owned.{owned}
 use Rattle.kernel_model.specs.Task.{is_guest_id}
 use Rattle.kernel_model.specs.ValidKernel.{IsFullMachine}
 use Rattle.kernel_model.proofs.ChangedLists.{changed-none, knows-same}
@@ -30,7 +26,7 @@ use Rattle.machine_parts.specs.Stands.{Stands}
 use Rattle.kernel_steps.specs.Quiet.{IsQuietFor, after_instruction_of, instruction_of, passed}
 use Rattle.kernel_steps.specs.Step.{Stepped, and_then, quietly, run, step, with_step, with_store}
 use Rattle.kernel_steps.proofs.NextTick.{next-tick, some-period}
-use Rattle.kernel_steps.proofs.QuietMachines.{guest-full, idle-full, idle-image}
+use Rattle.kernel_steps.proofs.QuietMachines.{guest-full, idle-full}
 use Rattle.kernel_steps.proofs.QuietSpans.{full-ready, guest-left, guest-passed, idle-run, passed-amid, quiet-first}
 use Rattle.kernel_steps.proofs.Runs.{run-more}
 use Rattle.kernel_steps.proofs.StoredWords.{HasStore, store-holds}
@@ -76,23 +72,23 @@ module _ (p : Parts) (w : IsWhole p None) where
       let there : HasStore s (ticks_to n now) = ticked-store p.store now here n in
       let holds : HoldsLists s (with_tick n now.lists) = store-holds s (ticks_to n now) there in
       let stands : Stands (record p { store = s; step = p.step + m }) (passed m now) =
-          record {
-            full = st.full;
-            keeper = record {
-              lists = holds;
-              knows = knows-same (MarksAll p.kinds) now.lists (with_tick n now.lists) (λ a. tick-owned now.lists n a) st.keeper.knows;
-              enough = omega (arith, holds.size, st.keeper.lists.size, st.keeper.enough);
-            };
-            image = record { size = there.image.size; holds = there.image.holds; plain = there.image.plain };
-            plain = record { size = there.plain.size; plain = there.plain.plain; owned = there.plain.owned };
-            regs = st.regs;
-            type_ahead = st.type_ahead;
-            disc = st.disc;
-            keys = st.keys;
-            steps = ap (λ i. i + m) st.steps;
-            period = st.period;
-            rest = record { residents = st.rest.residents; console = st.rest.console; shell = st.rest.shell; pipes = st.rest.pipes };
-          } in
+      record {
+        full = st.full;
+        keeper = record {
+          lists = holds;
+          knows = knows-same (MarksAll p.kinds) now.lists (with_tick n now.lists) (λ a. tick-owned now.lists n a) st.keeper.knows;
+          enough = omega (arith, holds.size, st.keeper.lists.size, st.keeper.enough);
+        };
+        image = record { size = there.image.size; holds = there.image.holds; plain = there.image.plain };
+        plain = record { size = there.plain.size; plain = there.plain.plain; owned = there.plain.owned };
+        regs = st.regs;
+        type_ahead = st.type_ahead;
+        disc = st.disc;
+        keys = st.keys;
+        steps = ap (λ i. i + m) st.steps;
+        period = st.period;
+        rest = record { residents = st.rest.residents; console = st.rest.console; shell = st.rest.shell; pipes = st.rest.pipes };
+      } in
       subst (λ z. Stands (record p { store = z; step = p.step + m }) (passed m now)) (sym e) stands
 
   pub passed-idle : (m : ℕ) (t : List ℕ) → is_guest_id now.lists.running ≡ false → IsQuietFor m now → p.step + m ≤ most_steps → t ≡ set p.store 108 ((p.step + m) / p.period) → HasPassed m now (record p { store = t; step = p.step + m })
@@ -134,7 +130,7 @@ stands-instruction p j t r n st holds words regs step =
     let q : Parts = record p { store = t; regs = r } in
     let size : length t ≡ length p.store = holds.size ∙ sym st.keeper.lists.size in
     let one : Stands q (record (with_store t j.lists j) { regs = left }) =
-        stands-changed p j st t t p.kinds r j.lists [] left j.stop size (changed-none t j.lists holds) st.keeper.knows refl regs (record { period = refl; residents = refl }) in
+    stands-changed p j st t t p.kinds r j.lists [] left j.stop size (changed-none t j.lists holds) st.keeper.knows refl regs (record { period = refl; residents = refl }) in
     stands-step q (after_instruction_of j) n (subst (λ z. Stands q (record (with_store z j.lists j) { regs = left })) words one) step
 
 module _ (k : Kernel) (n m : ℕ) (p : Parts) (way : IsOnWay k n (suc m) p) (stays : StaysAt (n + suc m) k) (few : k.steps + (n + suc m) ≤ most_steps) where
@@ -179,7 +175,7 @@ module _ (k : Kernel) (n m : ℕ) (p : Parts) (way : IsOnWay k n (suc m) p) (sta
         let first : IsQuietFor 1 here = quiet-first here (some-period here.lists way.passed.valid.lists) (way.passed.valid.running way.passed.goes).tick m quiet in
         let few' : here.steps < most_steps = omega (arith, few, way.steps) in
         let full : IsFullMachine there =
-            subst IsFullMachine (passed-amid here ready no-tick) (guest-full here way.passed.valid way.passed.stands.full way.passed.goes way.guest next way.passed.stands.rest few' first) in
+        subst IsFullMachine (passed-amid here ready no-tick) (guest-full here way.passed.valid way.passed.stands.full way.passed.goes way.guest next way.passed.stands.rest few' first) in
         let same : (run (n + 1) k).kernel ≡ there = ap (λ (x : Stepped). x.kernel) more-steps in
         record {
           passed = passed-by (n + 1) k there q more-steps (stands-instruction p here t r step' way.passed.stands holds words regs one) full way.passed.goes;

@@ -1,5 +1,5 @@
 -- A run, part by part.
-use Rattle.std.proofs.Common.{◌≡◌, ◌≢◌, ℕ, ◌+◌, ◌-◌, ◌<◌, ◌≤◌, ◌⊎◌, ◌++◌, Bool, true, false, Option, Some, None, List, [], inl, inr, refl, sym, ap, ◌∙◌, subst, arith}
+use Rattle.std.proofs.Common.{◌≡◌, ◌≢◌, ℕ, ◌+◌, ◌-◌, ◌≤◌, ◌++◌, Bool, Option, Some, None, List, inl, inr, refl, sym, ap, ◌∙◌, subst, arith}
 use Rattle.std.specs.Prelude.{unwrap_or}
 use Rattle.std.specs.Option.{option_map}
 use Rattle.std.proofs.lemmas.List.{append-nil}
@@ -16,8 +16,8 @@ use Rattle.bare_machine.specs.declared.stops.Stop.{Stop}
 use Rattle.bare_machine.specs.declared.stops.Stop.TheVariants.{Steps}
 use Rattle.machine_parts.specs.Stops.{end_of_run, stop_of}
 use Rattle.kernel_steps.specs.Step.{Stepped, and_then, quietly, run, step}
-use Rattle.kernel_steps.proofs.Runs.{run-more, run-steps, run-stopped}
-use Rattle.kernel_machine.specs.Runs.{Advances, EndsRun, HasCause, HasRun}
+use Rattle.kernel_steps.proofs.Runs.{run-more, run-stopped}
+use Rattle.kernel_machine.specs.Runs.{HasCause, HasRun}
 
 run-zero : (k : Kernel) → run 0 k ≡ quietly k
 unfolding run

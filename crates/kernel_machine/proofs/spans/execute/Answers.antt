@@ -1,4 +1,4 @@
-use Rattle.std.proofs.Common.{◌≡◌, ◌∙◌, ◌+◌, ◌-◌, ◌<◌, ◌≤◌, ℕ, suc, None, ap, arith, refl, subst, sym}
+use Rattle.std.proofs.Common.{◌≡◌, ◌∙◌, ◌+◌, ◌-◌, ◌<◌, ◌≤◌, suc, None, ap, arith, refl, subst, sym}
 use Rattle.session_text.specs.Ranges.{most_steps}
 use Rattle.kernel_steps.specs.Step.{run}
 use Rattle.kernel_machine.specs.Machine.{kernel_of}

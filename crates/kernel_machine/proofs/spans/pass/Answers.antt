@@ -1,4 +1,4 @@
-use Rattle.std.proofs.Common.{◌≡◌, ◌∙◌, ◌<◌, ap, arith, refl, sym}
+use Rattle.std.proofs.Common.{arith, refl}
 use Rattle.kernel_machine.proofs.QuietParts.{quiet-all, quiet-amid}
 use Rattle.kernel_machine.proofs.QuietSpan.{passed-none}
 use Rattle.kernel_machine.proofs.spans.pass.Goals as goal

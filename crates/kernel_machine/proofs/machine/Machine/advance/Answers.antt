@@ -1,8 +1,6 @@
-use Rattle.std.proofs.Common.{◌≡◌, ◌∙◌, ◌+◌, ◌<◌, ◌≤◌, ap, arith, refl, subst, sym, inl, inr, true, false}
+use Rattle.std.proofs.Common.{◌∙◌, ◌+◌, ap, arith, sym, inl, inr}
 use Rattle.std.proofs.lemmas.Result.{err_from_is_err_and}
-use Rattle.tp_io.specs.Pending.{IsCut, IsGathered}
-use Rattle.kernel_model.specs.Kernel.{Kernel}
-use Rattle.kernel_steps.specs.Step.{Stepped, run, step}
+use Rattle.kernel_steps.specs.Step.{Stepped}
 use Rattle.kernel_steps.proofs.Runs.{run-steps}
 use Rattle.kernel_machine.proofs.RunParts.{advanced, advanced-cut, advanced-gathered, cut-gathered, gathered-quiet, ran-quiet}
 use Rattle.kernel_machine.proofs.machine.Machine.advance.Goals as goal

@@ -1,7 +1,6 @@
-use Rattle.std.proofs.Common.{◌≡◌, ◌∙◌, ◌+◌, ◌≤◌, None, ap, arith, refl, subst, sym}
-use Rattle.session_text.specs.Ranges.{most_steps}
-use Rattle.kernel_steps.specs.Step.{quietly, run}
-use Rattle.kernel_machine.specs.Machine.{IsWhole, MachineView, kernel_of}
+use Rattle.std.proofs.Common.{◌∙◌, ap, arith, subst, sym}
+use Rattle.kernel_steps.specs.Step.{run}
+use Rattle.kernel_machine.specs.Machine.{IsWhole, MachineView}
 use Rattle.kernel_machine.proofs.MachineStep.{goes-passed, not-stopped, run-passed, whole-passed}
 use Rattle.kernel_machine.proofs.machine.Machine.pass.Goals as goal
 

@@ -1,4 +1,4 @@
-use Rattle.std.proofs.Common.{◌≡◌, ◌∙◌, ◌+◌, ◌-◌, ◌<◌, ◌≤◌, ap, arith, refl, subst, sym}
+use Rattle.std.proofs.Common.{◌≡◌, ◌∙◌, ◌+◌, ap, arith, sym}
 use Rattle.std.proofs.lemmas.Result.{err_from_is_err_and}
 use Rattle.kernel_model.specs.Kernel.{Kernel}
 use Rattle.kernel_steps.proofs.Runs.{run-steps}
@@ -16,8 +16,7 @@ advance-requires-clause-steps g c =
 pub returns-in-Some-clause-end : goal.returns-in-Some-clause-end
 returns-in-Some-clause-end g c =
     let kept = c.loop-taken.invariant in
-    let stop = sym c.in-Some.is ∙ c.stop.ensures in
-    (
+    let stop = sym c.in-Some.is ∙ c.stop.ensures in (
       ran-ended c.args.self.now.kernel _ c.loop-taken.taken c.args.n kept.few _ _ _ _ kept.ran (no-stop _ _ stop),
       ends-stopped _ _ stop,
       kept.works,
