@@ -18,7 +18,7 @@ use Rattle.machine_parts.specs.declared.parts.Parts.{Parts}
 use Rattle.kernel_steps.specs.Quiet.{AreDueAfter, AwaitsTick, ComeAfter, IsQuietFor}
 use Rattle.kernel_steps.proofs.NextTick.{some-period}
 use Rattle.kernel_machine.specs.Machine.{IsWhole, kernel_of}
-use Rattle.kernel_machine.specs.Runs.{ServesNone, StaysAt}
+use Rattle.kernel_machine.specs.Runs.{ServesNone}
 use Rattle.kernel_machine.proofs.OneMachine.{stop-of}
 
 no-byte : (bytes : List ℕ) → is_some (slice_get bytes 0) ≡ false → bytes ≡ []
@@ -49,7 +49,7 @@ module _ (p : Parts) (w : IsWhole p None) where
   pub period-now : 0 < now.lists.period
   period-now = some-period now.lists w.valid.lists
 
-  period-here : 0 < p.period
+  pub period-here : 0 < p.period
   period-here = omega (arith, period-now, w.stands.period)
 
   pub tick-word : get_or p.store 108 0 ≡ now.lists.tick
@@ -83,9 +83,6 @@ module _ (p : Parts) (w : IsWhole p None) where
       let least : now.lists.tick * p.period ≤ p.step = omega (arith, ap (λ t. t * p.period) ticks-here, div-mul-le_self p.step p.period) in
       le-div now.lists.tick (p.step + m) p.period period-here (omega (arith, least))
 
-  pub stays-before : (m next : ℕ) → next ≡ now.lists.tick + 1 → (p.step + m) / p.period < next → StaysAt m now
-  stays-before m next is low = (λ i. (sym w.stands.steps i + m) / sym w.stands.period i) ∙ omega (arith, is, low, ticks-grow m)
-
   -- ---- before the clock returns a packet
 
   pub awaits-none : (m : ℕ) → get_or p.store 105 0 ≡ 0 → AwaitsTick m now.lists
@@ -115,13 +112,4 @@ module _ (p : Parts) (w : IsWhole p None) where
     keyboard = none.keyboard;
     keys = subst (ComeAfter (now.steps + m)) w.stands.keys (subst (λ n. ComeAfter (n + m) p.keys) w.stands.steps keys);
     clock = subst (λ n. AwaitsTick n now.lists) (λ i. (w.stands.steps i + m) / w.stands.period i) clock;
-  }
-
-  -- where the clock does not tick
-  pub quiet-amid : (m : ℕ) → ServesNone now → ComeAfter (p.step + m) p.keys → StaysAt m now → IsQuietFor m now
-  quiet-amid m none keys stays = record {
-    output = none.output;
-    keyboard = none.keyboard;
-    keys = subst (ComeAfter (now.steps + m)) w.stands.keys (subst (λ n. ComeAfter (n + m) p.keys) w.stands.steps keys);
-    clock = inr stays;
   }

@@ -1,7 +1,9 @@
 -- How far a run has come.
-use Rattle.std.specs.Prelude.{◌≡◌, ◌≤◌, ◌<◌, ◌+◌, ◌/◌, ◌⊎◌, ℕ, Bool, true, false, None, Option, List, [], Result, Ok, Err}
+use Rattle.std.specs.Prelude.{◌≡◌, ◌≤◌, ◌<◌, ◌+◌, ◌/◌, ◌⊎◌, ℕ, Bool, true, false, None, Option, List, [], Result, Ok, Err, slice_set}
 use Rattle.tp_io.specs.Faults.{Rose}
 use Rattle.tp_io.specs.Pending.{IsCut, IsGathered}
+use Rattle.task_block.specs.RootWords.{root_address}
+use Rattle.task_block.specs.declared.roots.RootField.TheVariants.{Tick}
 use Rattle.bare_machine.specs.declared.stops.Stop.{Stop}
 use Rattle.packet_queue.specs.declared.events.KernelEvent.{KernelEvent}
 use Rattle.kernel_model.specs.Kernel.{Kernel}
@@ -19,9 +21,9 @@ pub record HasPassed (n : ℕ) (k : Kernel) (p : Parts) : Type 0 where
   pub valid : IsFullMachine (run n k).kernel
   pub goes : (run n k).kernel.stop ≡ None
 
--- the clock does not tick in the next n steps
-abbrev pub StaysAt : ℕ → Kernel → Type 0
-StaysAt n k = (k.steps + n) / k.lists.period ≡ k.lists.tick
+-- the parts once n steps more are counted, and with them the ticks, in the word of the root
+abbrev pub counted : ℕ → Parts → Parts
+counted n p = record p { step = p.step + n; store = slice_set p.store (root_address Tick) ((p.step + n) / p.period) }
 
 -- the output device has no packet, and no byte meets one that waits for it
 pub record ServesNone (k : Kernel) : Type 0 where

@@ -4,7 +4,7 @@ ghost use Rattle.session_text.specs.Ranges.{most_steps};
 ghost use Rattle.kernel_model.specs.Task.{is_guest_id};
 ghost use Rattle.kernel_steps.specs.Quiet.{AwaitsTick, ComeAfter, IsQuietFor};
 ghost use Rattle.kernel_machine.specs.Machine.{IsWhole, kernel_of};
-ghost use Rattle.kernel_machine.specs.Runs.{HasPassed, ServesNone, StaysAt};
+ghost use Rattle.kernel_machine.specs.Runs.{HasPassed, ServesNone, counted};
 
 use crate::turns::{FIRST_GUEST, running};
 use cint_exec::Outcome;
@@ -28,13 +28,11 @@ pub(crate) fn pass(parts: &mut Parts, most: u64) -> u64
     if serves_now(parts) {
         return 0;
     }
-    let before_key = most.min(before_key(parts));
+    let quiet = most.min(before_key(parts)).min(before_return(parts));
     if running(&parts.store) < FIRST_GUEST {
-        let quiet = before_key.min(before_return(parts));
         wait(parts, quiet);
         return quiet;
     }
-    let quiet = before_key.min(before_tick(parts));
     execute(parts, quiet)
 }
 
@@ -77,14 +75,6 @@ fn before_return(parts: &Parts) -> u64
     before(parts, due.max(next_tick(parts)))
 }
 
-// How many steps there are before the clock ticks.
-fn before_tick(parts: &Parts) -> u64
-    requires { IsWhole parts.now None }
-    ensures { (m : ℕ) → m ≤ result → StaysAt m (kernel_of parts.now None) }
-{
-    before(parts, next_tick(parts))
-}
-
 // The ticks are so many once the clock has ticked again.
 fn next_tick(parts: &Parts) -> u32
     requires { IsWhole parts.now None }
@@ -110,12 +100,9 @@ fn wait(parts: &mut Parts, steps: u64)
     requires most { parts.old.step + steps ≤ most_steps }
     ensures { HasPassed steps (kernel_of parts.old None) parts.new }
 {
-    if steps == 0 {
-        return;
+    if steps > 0 {
+        count(parts, steps);
     }
-    parts.step += steps;
-    let tick = parts.step / u64::from(parts.period);
-    set_root(&mut parts.store, RootField::Tick, tick as u32);
 }
 
 // Executes at most so many instructions of the running guest, and stops before what is none. The answer is how many it executed.
@@ -123,16 +110,26 @@ fn execute(parts: &mut Parts, most: u64) -> u64
     requires whole { IsWhole parts.old None }
     requires guest { is_guest_id (kernel_of parts.old None).lists.running ≡ true }
     requires quiet { 0 < most → IsQuietFor most (kernel_of parts.old None) }
-    requires stays { StaysAt most (kernel_of parts.old None) }
     requires most { parts.old.step + most ≤ most_steps }
     ensures most { result ≤ most }
     ensures passed { HasPassed result (kernel_of parts.old None) parts.new }
 {
     for taken in 0..most {
         match execute_guest(&mut parts.store, &mut parts.regs, &parts.kinds) {
-            Outcome::Next => parts.step += 1,
+            Outcome::Next => count(parts, 1),
             Outcome::Sys | Outcome::Returned | Outcome::Fault(_) => return taken,
         }
     }
     most
+}
+
+// Counts these steps, and with them the ticks.
+fn count(parts: &mut Parts, steps: u64)
+    requires period { 0 < parts.old.period }
+    requires most { parts.old.step + steps ≤ most_steps }
+    ensures { parts.new ≡ counted steps parts.old }
+{
+    parts.step += steps;
+    let tick = parts.step / u64::from(parts.period);
+    set_root(&mut parts.store, RootField::Tick, tick as u32);
 }

@@ -1,8 +1,9 @@
 use Rattle.std.proofs.Common.{◌≡◌, ◌∙◌, ◌+◌, ◌-◌, ◌<◌, ◌≤◌, suc, None, ap, arith, refl, subst, sym}
 use Rattle.session_text.specs.Ranges.{most_steps}
 use Rattle.kernel_steps.specs.Step.{run}
+use Rattle.kernel_steps.proofs.NextTick.{some-period}
 use Rattle.kernel_machine.specs.Machine.{kernel_of}
-use Rattle.kernel_machine.specs.Runs.{HasPassed, StaysAt}
+use Rattle.kernel_machine.specs.Runs.{HasPassed}
 use Rattle.kernel_machine.proofs.QuietSpan.{IsOnWay, instruction-here, not-next, on-way-first, on-way-next, on-way-stays}
 use Rattle.kernel_machine.proofs.spans.execute.Goals as goal
 
@@ -27,6 +28,12 @@ returns-in-Sys c =
       passed = on-way-stays k c.loop-taken.taken _ c.loop-taken.parts way c.execute_guest.new.store c.execute_guest.new.regs c.execute_guest.result (x.outcome l keeper) (x.words l keeper) (x.regs l keeper) (not-next c.execute_guest.result c.in-Sys.is);
     }
 
+pub count-requires-clause-period : goal.count-requires-clause-period
+count-requires-clause-period c = let way = c.loop-taken.invariant in omega (arith, way.passed.stands.period, some-period _ way.passed.valid.lists)
+
+pub count-requires-clause-most : goal.count-requires-clause-most
+count-requires-clause-most c = let way = c.loop-taken.invariant in omega (arith, way.passed.stands.steps, way.steps, c.requires.most, c.requires.whole.stands.steps, c.loop-taken-test.true)
+
 pub loop-taken-preserved : goal.loop-taken-preserved
 loop-taken-preserved c =
     let n = c.loop-taken.taken in
@@ -35,14 +42,14 @@ loop-taken-preserved c =
     let some : c.args.most - n ≡ suc m = omega (arith, c.loop-taken-test.true) in
     let whole : n + suc m ≡ c.args.most = omega (arith, c.loop-taken-test.true) in
     let way = subst (λ z. IsOnWay k n z c.loop-taken.parts) some c.loop-taken.invariant in
-    let stays = subst (λ z. StaysAt z k) (sym whole) c.requires.stays in
     let few : k.steps + (n + suc m) ≤ most_steps = omega (arith, whole, c.requires.most, c.requires.whole.stands.steps) in
     let l = (run n k).kernel.lists in
     let keeper = way.passed.stands.keeper in
     let x = c.execute_guest.ensures in
-    let here = instruction-here k n m c.loop-taken.parts way stays few in
-    on-way-next k n m c.loop-taken.parts way stays few (ap (λ z. z.outcome) (sym here) ∙ sym (x.outcome l keeper) ∙ c.in-Next.is) c.execute_guest.new.store c.execute_guest.new.regs _ (x.lists l keeper) (x.words l keeper ∙ ap (λ z. z.words) here)
-    (x.regs l keeper ∙ ap (λ z. z.regs) here) refl
+    let here = instruction-here k n m c.loop-taken.parts way few in
+    subst (IsOnWay k (n + 1) m) (sym c.count.ensures)
+    (on-way-next k n m c.loop-taken.parts way few (ap (λ z. z.outcome) (sym here) ∙ sym (x.outcome l keeper) ∙ c.in-Next.is) c.execute_guest.new.store c.execute_guest.new.regs (x.lists l keeper) (x.words l keeper ∙ ap (λ z. z.words) here)
+    (x.regs l keeper ∙ ap (λ z. z.regs) here))
 
 pub returns-clause-passed : goal.returns-clause-passed
 returns-clause-passed c =

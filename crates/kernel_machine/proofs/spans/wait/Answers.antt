@@ -1,11 +1,17 @@
-use Rattle.std.proofs.Common.{◌+◌, ◌/◌, ◌∙◌, ap, arith, set}
+use Rattle.std.proofs.Common.{None, arith, subst, sym}
+use Rattle.kernel_machine.specs.Machine.{kernel_of}
+use Rattle.kernel_machine.specs.Runs.{HasPassed}
+use Rattle.kernel_machine.proofs.QuietParts.{period-here}
 use Rattle.kernel_machine.proofs.QuietSpan.{passed-idle, passed-none}
 use Rattle.kernel_machine.proofs.spans.wait.Goals as goal
 
-pub returns-then-steps-eq0 : goal.returns-then-steps-eq0
-returns-then-steps-eq0 c = passed-none c.args.parts.now c.requires.whole c.args.steps c.if-steps-eq0.true
+pub count-requires-clause-period : goal.count-requires-clause-period
+count-requires-clause-period c = period-here c.args.parts.now c.requires.whole
 
-pub returns : goal.returns
-returns c =
-    passed-idle c.args.parts.now c.requires.whole c.args.steps c.set_root.new.store c.requires.idle (c.requires.quiet (omega (arith, c.if-steps-eq0.false))) c.requires.most
-    (c.set_root.ensures ∙ ap (λ n. set c.args.parts.now.store 108 ((c.args.parts.now.step + c.args.steps) / n)) c.from.ensures)
+pub returns-then-steps-gt0 : goal.returns-then-steps-gt0
+returns-then-steps-gt0 c =
+    subst (HasPassed c.args.steps (kernel_of c.args.parts.now None)) (sym c.count.ensures)
+    (passed-idle c.args.parts.now c.requires.whole c.args.steps c.requires.idle (c.requires.quiet c.if-steps-gt0.true) c.requires.most)
+
+pub returns-else-steps-gt0 : goal.returns-else-steps-gt0
+returns-else-steps-gt0 c = passed-none c.args.parts.now c.requires.whole c.args.steps (omega (arith, c.if-steps-gt0.false))
