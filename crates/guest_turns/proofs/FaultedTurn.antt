@@ -55,7 +55,7 @@ module _ (marks : ℕ → Bool) (s : List ℕ) (r : Regs) where
   stays-decided (Err e) = stays-as _
   stays-decided (Ok i) = stays-effected i
 
-  stays-instruction : StaysOrRuns s r (instruction marks s r)
+  pub stays-instruction : StaysOrRuns s r (instruction marks s r)
   stays-instruction = stays-either (eqb r.pc 0) (after Returned s r) (decided marks s r (decoded (byte_at s) r.pc)) (stays-as Returned) (stays-decided (decoded (byte_at s) r.pc))
 
 -- ---- the turn

@@ -1,9 +1,8 @@
 -- What one part of a step leaves after another.
-use Rattle.std.proofs.Common.{◌≡◌, ℕ, ◌<◌, ◌++◌, List, [], length, Bool, false, Option, refl, sym, ap, ◌∙◌, subst, arith, append_assoc, append-nil}
+use Rattle.std.proofs.Common.{◌≡◌, ℕ, ◌++◌, List, length, Bool, Option, sym, ap, ◌∙◌, arith, append_assoc, append-nil}
 use Rattle.word_store.specs.declared.registers.Regs.{Regs}
 use Rattle.owned_words.specs.Owned.{Pairs, written}
 use Rattle.kernel_model.specs.ChangedStore.{IsChanged, Knows}
-use Rattle.kernel_model.specs.HoldsLists.{HoldsLists}
 use Rattle.kernel_model.specs.Kernel.{Kernel, Stop}
 use Rattle.kernel_model.specs.Lists.{Lists}
 use Rattle.kernel_model.proofs.NotedInTurn.{notes-none, notes-then}

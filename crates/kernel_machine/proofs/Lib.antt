@@ -7,3 +7,6 @@ pub mod RunningTask
 pub mod StepParts
 pub mod TurnBytes
 pub mod MachineStep
+pub mod QuietParts
+pub mod QuietSpan
+pub mod RunParts

@@ -1,5 +1,5 @@
 -- A step of a whole machine.
-use Rattle.std.proofs.Common.{◌≡◌, ◌<◌, Option, Some, None, refl, sym, ap, ◌∙◌, subst}
+use Rattle.std.proofs.Common.{◌≡◌, ℕ, ◌<◌, Option, Some, None, refl, sym, ap, ◌∙◌, subst}
 use Rattle.std.specs.Option.{option_map}
 use Rattle.session_text.specs.Ranges.{most_steps}
 use Rattle.kernel_model.specs.Kernel.{Kernel, Stop as KernelStop}
@@ -8,10 +8,11 @@ use Rattle.kernel_calls.specs.Calls.{Outside}
 use Rattle.bare_machine.specs.declared.stops.Stop.{Stop}
 use Rattle.machine_parts.specs.declared.parts.Parts.{Parts}
 use Rattle.machine_parts.specs.Stops.{stop_of}
-use Rattle.kernel_steps.specs.Step.{Stepped, step}
+use Rattle.kernel_steps.specs.Step.{Stepped, quietly, run, step}
 use Rattle.kernel_steps.proofs.StepKept.{step-left}
 use Rattle.kernel_machine.specs.Leaves.{Leaves}
 use Rattle.kernel_machine.specs.Machine.{IsWhole, kernel_of, stop_in}
+use Rattle.kernel_machine.specs.Runs.{HasPassed}
 use Rattle.kernel_machine.proofs.OneMachine.{one-machine, stop-of, there-and-back, whole}
 use Rattle.kernel_machine.proofs.StepParts.{step-stays}
 
@@ -40,3 +41,30 @@ module _ (p : Parts) (stop : Option Stop) (w : IsWhole p stop) where
 
     pub stop-after : r ≡ option_map stop_of (kernel_of q r).stop
     stop-after = ends ∙ ap (λ (k : Kernel). option_map stop_of k.stop) (sym kernel-after)
+
+-- ---- quiet steps
+
+module _ (p : Parts) (stop : Option Stop) (w : IsWhole p stop) (goes : (kernel_of p stop).stop ≡ None) where
+  -- it has not stopped
+  pub not-stopped : stop ≡ None
+  not-stopped = stopped-now p stop w ∙ ap (option_map stop_of) goes
+
+  module _ (n : ℕ) (q : Parts) (h : HasPassed n (kernel_of p None) q) where
+    -- the same kernel
+    here : kernel_of p None ≡ kernel_of p stop
+    here = ap (kernel_of p) (sym not-stopped)
+
+    ends-none : (run n (kernel_of p None)).kernel.stop ≡ stop_in stop
+    ends-none = h.goes ∙ ap stop_in (sym not-stopped)
+
+    kernel-passed : kernel_of q stop ≡ (run n (kernel_of p None)).kernel
+    kernel-passed = one-machine q (run n (kernel_of p None)).kernel h.stands stop ends-none
+
+    pub whole-passed : IsWhole q stop
+    whole-passed = whole q (run n (kernel_of p None)).kernel h.stands h.valid stop ends-none w.stopped
+
+    pub run-passed : run n (kernel_of p stop) ≡ quietly (kernel_of q stop)
+    run-passed = ap (run n) (sym here) ∙ h.quiet ∙ ap quietly (sym kernel-passed)
+
+    pub goes-passed : (kernel_of q stop).stop ≡ None
+    goes-passed = stop-of q stop ∙ ap stop_in not-stopped

@@ -1,15 +1,12 @@
 -- The parts of a machine stand for one kernel alone.
-use Rattle.std.proofs.Common.{◌≡◌, ℕ, ◌<◌, List, [], length, cond, Bool, true, false, Option, Some, None, refl, sym, ap, ◌∙◌, subst, arith, inl, inr}
+use Rattle.std.proofs.Common.{◌≡◌, ℕ, ◌<◌, List, [], length, Option, Some, None, refl, sym, ap, ◌∙◌, subst, arith, inl, inr}
 use Rattle.std.specs.Option.{option_map}
 use Rattle.std.proofs.lemmas.Bool.{cases_lt}
 use Rattle.std.proofs.lemmas.List.{ext_get_or}
 use Rattle.owned_words.specs.Owned.{owners}
-use Rattle.kernel_model.specs.HoldsLists.{HoldsLists}
 use Rattle.kernel_model.specs.Image.{HasPlainWords, IsImage, plain_at, plain_words}
 use Rattle.kernel_model.specs.Kernel.{Kernel, Stop as KernelStop, owned_by}
 use Rattle.kernel_model.specs.Kernel.Stop.{Quit as KernelQuit, Finish as KernelFinish, Fault as KernelFault}
-use Rattle.kernel_model.specs.Lists.{Lists}
-use Rattle.kernel_model.specs.Owned.{owned}
 use Rattle.kernel_model.specs.Recovered.{lists_in}
 use Rattle.kernel_model.specs.ValidKernel.{IsFullMachine}
 use Rattle.kernel_model.proofs.RecoveredLists.{lists-back}

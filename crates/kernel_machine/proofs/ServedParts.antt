@@ -1,18 +1,17 @@
 -- What the devices and dispatch leave of a machine.
-use Rattle.std.proofs.Common.{◌≡◌, ℕ, ◌+◌, ◌%◌, ◌<◌, ◌≤◌, ◌++◌, List, [], ◌∷◌, length, Bool, true, false, cond, eqb, leb, Option, append-nil, refl, sym, ap, ◌∙◌, subst, arith}
+use Rattle.std.proofs.Common.{◌≡◌, ℕ, ◌%◌, ◌++◌, List, [], ◌∷◌, length, Bool, true, false, cond, eqb, leb, append-nil, refl, sym, ap, ◌∙◌, subst}
 use Rattle.std.proofs.lemmas.Bool.{eq-eqb, ne_eqb}
 use Rattle.word_store.specs.declared.registers.Regs.{Regs}
 use Rattle.owned_words.specs.Owned.{Pairs, written}
-use Rattle.packet_queue.specs.declared.events.KernelEvent.{KernelEvent}
 use Rattle.kernel_model.specs.ChangedStore.{IsChanged, Knows}
-use Rattle.kernel_model.specs.Image.{image, settled}
+use Rattle.kernel_model.specs.Image.{settled}
 use Rattle.kernel_model.specs.Kernel.{Kernel}
 use Rattle.kernel_model.specs.Lists.{Lists}
 use Rattle.kernel_model.specs.NotedEvents.{NotesAll}
 use Rattle.kernel_model.proofs.ChangedLists.{knows-same}
 use Rattle.kernel_model.proofs.ImageWords.{image-list}
 use Rattle.word_kinds.specs.ByteMap.{MarksAll}
-use Rattle.kernel_dispatch.specs.Dispatch.{CanDispatch, Dispatched, dispatched}
+use Rattle.kernel_dispatch.specs.Dispatch.{CanDispatch, dispatched}
 use Rattle.kernel_dispatch.specs.Turn.{IsDispatched}
 use Rattle.device_returns.specs.Returned.{IsServed, Served}
 use Rattle.clock_device.specs.Tick.{ticked}
@@ -24,7 +23,7 @@ use Rattle.guest_turns.specs.GuestTurn.{numbers_of}
 use Rattle.machine_parts.specs.declared.parts.Parts.{Parts}
 use Rattle.machine_parts.specs.Stands.{Stands}
 use Rattle.kernel_steps.specs.Parts.{numbers_after_tick}
-use Rattle.kernel_steps.specs.Step.{Stepped, dispatch, key, meet, output, quietly, served, switched, tick, typed_by, with_key_typed, with_store}
+use Rattle.kernel_steps.specs.Step.{dispatch, key, output, quietly, served, switched, tick, typed_by, with_key_typed, with_store}
 use Rattle.kernel_steps.proofs.DevicesKept.{key-numbers, output-numbers, tick-numbers}
 use Rattle.kernel_steps.proofs.DispatchKept.{dispatch-numbers}
 use Rattle.kernel_machine.specs.Leaves.{CanServe, Leaves}
@@ -92,7 +91,7 @@ module _ (p : Parts) (k : Kernel) (st : Stands p k) where
   ticked-same : CanServe k → eqb (k.steps % k.lists.period) 0 ≡ true → SameMachine k.lists (ticked k.lists).lists
   ticked-same can due =
       let nums : numbers_of (ticked k.lists).lists ≡ numbers_after_tick k =
-          ap numbers_of (sym (served-lists (ticked k.lists))) ∙ ap (λ x. numbers_of x.kernel.lists) (sym (tick-due due)) ∙ tick-numbers k can.dispatch in
+      ap numbers_of (sym (served-lists (ticked k.lists))) ∙ ap (λ x. numbers_of x.kernel.lists) (sym (tick-due due)) ∙ tick-numbers k can.dispatch in
       record { period = ap (λ n. n.period) nums; residents = ap (λ n. n.residents) nums }
 
   same-time : p.step % p.period ≡ k.steps % k.lists.period

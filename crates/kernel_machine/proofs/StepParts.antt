@@ -1,5 +1,5 @@
 -- What each part of a step asks, inside a step.
-use Rattle.std.proofs.Common.{◌≡◌, ℕ, ◌+◌, ◌-◌, ◌*◌, ◌/◌, ◌^◌, ◌<◌, ◌≤◌, Bool, true, false, cond, Option, Some, None, refl, sym, ap, ◌∙◌, subst, arith}
+use Rattle.std.proofs.Common.{◌≡◌, ℕ, ◌+◌, ◌-◌, ◌^◌, ◌<◌, Bool, true, false, cond, Option, Some, None, refl, sym, ap, ◌∙◌, subst, arith}
 use Rattle.std.specs.Prelude.{is_none, is_some, not}
 use Rattle.std.specs.Option.{option_map}
 use Rattle.std.proofs.Math.Nat.{div-le_self}
@@ -11,7 +11,6 @@ use Rattle.kernel_model.specs.Image.{settled}
 use Rattle.kernel_model.specs.Kernel.{Stop as KernelStop}
 use Rattle.bare_machine.specs.declared.stops.Stop.{Stop}
 use Rattle.machine_parts.specs.Stops.{stop_of}
-use Rattle.guest_turns.specs.GuestTurn.{numbers_of}
 use Rattle.machine_parts.specs.declared.parts.Parts.{Parts}
 use Rattle.machine_parts.specs.Stands.{Stands}
 use Rattle.kernel_steps.specs.Parts.{RunsFirst}

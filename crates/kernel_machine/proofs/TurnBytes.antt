@@ -1,5 +1,5 @@
 -- A turn shows one byte at most.
-use Rattle.std.proofs.Common.{◌≡◌, ℕ, ◌<◌, ◌≤◌, ◌+◌, ◌++◌, List, [], ◌∷◌, length, Bool, true, false, Option, Result, Ok, Err, refl, sym, ap, ◌∙◌, subst, arith, eqb, cond}
+use Rattle.std.proofs.Common.{◌≡◌, ℕ, ◌≤◌, List, [], ◌∷◌, length, Bool, true, false, Result, Ok, Err, refl, sym, subst, arith}
 use Rattle.word_store.specs.declared.registers.Regs.{Regs}
 use Rattle.cint_exec.specs.Instruction.{After, instruction}
 use Rattle.cint_exec.specs.declared.Outcome.{Outcome}
@@ -20,7 +20,7 @@ use Rattle.kernel_calls.specs.declared.requests.KernelCall.{KernelCall}
 use Rattle.kernel_calls.specs.declared.requests.KernelCall.TheVariants.{TaskWait}
 use Rattle.guest_instructions.specs.Guarded.{is_owned}
 use Rattle.guest_turns.specs.GuestTurn.{after_instruction, turn_without_reporter}
-use Rattle.kernel_steps.specs.Step.{quietly, turn, after_turn}
+use Rattle.kernel_steps.specs.Step.{turn}
 use Rattle.kernel_steps.proofs.TurnKept.{turn-guest, turn-nobody}
 
 wait-bytes : (r : Regs) (ps : List QueuedPacket) (m : Made) → length (of_wait r ps m).bytes ≤ 1

@@ -1,5 +1,5 @@
 -- What a guest's turn leaves of a machine.
-use Rattle.std.proofs.Common.{◌≡◌, ℕ, ◌<◌, ◌++◌, List, [], length, Bool, true, false, Option, Some, None, refl, sym, ap, ◌∙◌, subst, arith}
+use Rattle.std.proofs.Common.{◌≡◌, ℕ, List, length, Bool, true, false, Option, None, sym, ap, ◌∙◌, subst}
 use Rattle.std.specs.Option.{option_map}
 use Rattle.word_store.specs.declared.registers.Regs.{Regs}
 use Rattle.kernel_model.specs.Image.{image}
@@ -16,7 +16,7 @@ use Rattle.bare_machine.specs.declared.stops.Stop.{Stop}
 use Rattle.machine_parts.specs.declared.parts.Parts.{Parts}
 use Rattle.machine_parts.specs.Stands.{Stands}
 use Rattle.machine_parts.specs.Stops.{stop_of}
-use Rattle.kernel_steps.specs.Step.{after_turn, quietly, stop_by, turn}
+use Rattle.kernel_steps.specs.Step.{stop_by, turn}
 use Rattle.kernel_steps.proofs.TurnKept.{turn-guest, turn-nobody}
 use Rattle.kernel_machine.specs.Leaves.{CanTurn, Leaves}
 use Rattle.kernel_machine.proofs.LeftParts.{SameMachine, leaves-none, stands-changed}

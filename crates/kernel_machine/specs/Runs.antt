@@ -1,6 +1,7 @@
 -- How far a run has come.
-use Rattle.std.specs.Prelude.{◌≡◌, ◌≤◌, ◌⊎◌, ℕ, Bool, true, false, None, Option, List, Result, Ok, Err}
+use Rattle.std.specs.Prelude.{◌≡◌, ◌≤◌, ◌<◌, ◌+◌, ◌/◌, ◌⊎◌, ℕ, Bool, true, false, None, Option, List, [], Result, Ok, Err}
 use Rattle.tp_io.specs.Faults.{Rose}
+use Rattle.tp_io.specs.Pending.{IsCut, IsGathered}
 use Rattle.bare_machine.specs.declared.stops.Stop.{Stop}
 use Rattle.packet_queue.specs.declared.events.KernelEvent.{KernelEvent}
 use Rattle.kernel_model.specs.Kernel.{Kernel}
@@ -18,6 +19,15 @@ pub record HasPassed (n : ℕ) (k : Kernel) (p : Parts) : Type 0 where
   pub valid : IsFullMachine (run n k).kernel
   pub goes : (run n k).kernel.stop ≡ None
 
+-- the clock does not tick in the next n steps
+abbrev pub StaysAt : ℕ → Kernel → Type 0
+StaysAt n k = (k.steps + n) / k.lists.period ≡ k.lists.tick
+
+-- the output device has no packet, and no byte meets one that waits for it
+pub record ServesNone (k : Kernel) : Type 0 where
+  pub output : k.lists.output ≡ []
+  pub keyboard : (k.lists.keyboard ≡ []) ⊎ (k.type_ahead ≡ [])
+
 -- n steps of the kernel k, which left j, and of which the events went to the log, or the first of them where it failed
 pub record HasRun (n : ℕ) (k j : Kernel) (old new : Option (List KernelEvent)) (had_failed has_failed : Bool) : Type 0 where
   pub kernel : j ≡ (run n k).kernel
@@ -33,3 +43,11 @@ EndsRun n k j old new had_failed has_failed before now (Ok stop) =
     HasRun n k j old new had_failed has_failed × (stop ≡ end_of_run j.stop) × (has_failed ≡ false)
 EndsRun n k j old new had_failed has_failed before now (Err e) =
     ((i : ℕ) × (i ≤ n) × HasRun i k j old new had_failed has_failed) × HasCause before now has_failed
+
+-- Some of at most `most` steps were taken: their bytes are gathered and their events noted, and the machine goes on; or the sink
+-- or the log failed behind some.
+abbrev pub Advances : {E : Type 0} → ℕ → Kernel → Kernel → Option (List KernelEvent) → Option (List KernelEvent) → Bool → Bool → ℕ → ℕ → Option (List ℕ) → Option (List ℕ) → List ℕ → List ℕ → Result ℕ E → Type 0
+Advances most k j old new had_failed has_failed before now holds held pending left (Ok n) =
+    (0 < n) × (n ≤ most) × HasRun n k j old new had_failed has_failed × (has_failed ≡ false) × IsGathered holds held pending left (run n k).bytes
+Advances most k j old new had_failed has_failed before now holds held pending left (Err e) =
+    ((n : ℕ) × (n ≤ most) × HasRun n k j old new had_failed has_failed × IsCut holds held pending (run n k).bytes) × HasCause before now has_failed

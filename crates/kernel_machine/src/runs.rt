@@ -1,5 +1,5 @@
 // Runs of a machine with a kernel.
-ghost use Rattle.std.specs.Prelude.{◌≡◌, ◌<◌, ◌+◌, ◌≤◌, [], false, IfOk, IfErr};
+ghost use Rattle.std.specs.Prelude.{◌≡◌, ◌<◌, ◌+◌, ◌≤◌, [], None, false};
 ghost use Rattle.session_text.specs.Ranges.{most_steps};
 ghost use Rattle.tp_io.specs.Pending.{Gathers};
 ghost use Rattle.kernel_steps.specs.Step.{quietly, run};
@@ -32,10 +32,13 @@ impl Machine {
         ensures later { K.faults out.old ≤ K.faults out.new }
     {
         let mut taken = 0;
-        while taken < n && self.stop.is_none() {
+        while taken < n {
+            if let Some(stop) = self.stop() {
+                return Ok(stop);
+            }
             taken += self.advance(n - taken, out, pending, log)?;
         }
-        Ok(self.stop.unwrap_or(Stop::Steps))
+        Ok(self.stop().unwrap_or(Stop::Steps))
     }
 
     // Takes the quiet steps that come first, and then one step, but no more than `most`. The answer is how many these are.
@@ -45,7 +48,17 @@ impl Machine {
         out: &mut K,
         pending: &mut Output,
         log: &mut L,
-    ) -> Result<u64, SinkFault> {
+    ) -> Result<u64, SinkFault>
+        requires goes { self.old.kernel.stop ≡ None }
+        requires some { 0 < most }
+        requires steps { self.old.kernel.steps + most ≤ most_steps }
+        requires works { L.has_failed log.old ≡ false }
+        ensures advances { Advances most self.old.kernel self.new.kernel
+            (L.noted log.old) (L.noted log.new) (L.has_failed log.old) (L.has_failed log.new)
+            (K.faults out.old) (K.faults out.new) (K.holds out.old) (K.holds out.new)
+            pending.old pending.new result }
+        ensures later { K.faults out.old ≤ K.faults out.new }
+    {
         let quiet = self.pass(most);
         if quiet == most {
             return Ok(quiet);
@@ -59,7 +72,14 @@ impl Machine {
     }
 
     // Takes at most `most` steps, of which none shows or notes anything, or stops the machine.
-    fn pass(&mut self, most: u64) -> u64 {
+    fn pass(&mut self, most: u64) -> u64
+        requires goes { self.old.kernel.stop ≡ None }
+        requires steps { self.old.kernel.steps + most ≤ most_steps }
+        ensures most { result ≤ most }
+        ensures quiet { run result self.old.kernel ≡ quietly self.new.kernel }
+        ensures goes { self.new.kernel.stop ≡ None }
+        ensures output { self.new.output ≡ [] }
+    {
         self.output.clear();
         pass(&mut self.parts, most)
     }

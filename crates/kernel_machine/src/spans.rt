@@ -1,14 +1,12 @@
 // Steps in which no device acts.
-ghost use Rattle.std.specs.Prelude.{◌≡◌, ◌<◌, ◌≤◌, ◌+◌, ◌/◌, ◌%◌, None, false, true, IsTrue};
+ghost use Rattle.std.specs.Prelude.{◌≡◌, ◌<◌, ◌≤◌, ◌+◌, ◌/◌, None, false, true, ℕ};
 ghost use Rattle.session_text.specs.Ranges.{most_steps};
-ghost use Rattle.kernel_model.specs.Kernel.{Kernel};
 ghost use Rattle.kernel_model.specs.Task.{is_guest_id};
-ghost use Rattle.kernel_model.specs.ValidKernel.{IsFullMachine};
-ghost use Rattle.machine_parts.specs.Stands.{Stands};
-ghost use Rattle.kernel_steps.specs.Step.{quietly, run};
-ghost use Rattle.kernel_steps.specs.Quiet.{IsQuietFor};
+ghost use Rattle.kernel_steps.specs.Quiet.{AwaitsTick, ComeAfter, IsQuietFor};
+ghost use Rattle.kernel_machine.specs.Machine.{IsWhole, kernel_of};
+ghost use Rattle.kernel_machine.specs.Runs.{HasPassed, ServesNone, StaysAt};
 
-use crate::turns::running;
+use crate::turns::{FIRST_GUEST, running};
 use cint_exec::Outcome;
 use guest_instructions::execute_guest;
 use machine_parts::Parts;
@@ -18,67 +16,118 @@ use word_store::word_at;
 /// The word of a packet at the clock that has the tick at which it is due.
 const DUE: u32 = 4;
 
-/// Takes at most `most` steps in which nothing but the running task does anything, and it no more than execute instructions: as
-/// many as there are before a device may act, or before the task does something else. The answer is how many these are.
-pub(crate) fn pass(parts: &mut Parts, most: u64) -> u64 {
-    let task = running(&parts.store);
-    let quiet = most.min(quiet_steps(parts, task == 0));
-    if task == 0 {
+/// Takes at most `most` steps of a machine that has not stopped, in which nothing happens but that the running task executes
+/// instructions: as many as there are before a device may act, or before the task does something else. The answer is how many
+/// these are.
+pub(crate) fn pass(parts: &mut Parts, most: u64) -> u64
+    requires whole { IsWhole parts.old None }
+    requires steps { parts.old.step + most ≤ most_steps }
+    ensures most { result ≤ most }
+    ensures passed { HasPassed result (kernel_of parts.old None) parts.new }
+{
+    if serves_now(parts) {
+        return 0;
+    }
+    let before_key = most.min(before_key(parts));
+    if running(&parts.store) < FIRST_GUEST {
+        let quiet = before_key.min(before_return(parts));
         wait(parts, quiet);
         return quiet;
     }
+    let quiet = before_key.min(before_tick(parts));
     execute(parts, quiet)
 }
 
-// How many steps there are before a device may act.
-fn quiet_steps(parts: &Parts, idle: bool) -> u64 {
-    if root(&parts.store, RootField::OutputQueue) != 0 || can_meet(parts) {
-        return 0;
+// Whether the output device or the keyboard has a packet to serve.
+fn serves_now(parts: &Parts) -> bool
+    requires { IsWhole parts.now None }
+    ensures { result ≡ false → ServesNone (kernel_of parts.now None) }
+{
+    if root(&parts.store, RootField::OutputQueue) != 0 {
+        return true;
     }
-    before_key(parts).min(before_clock(parts, idle))
+    if root(&parts.store, RootField::KeyQueue) == 0 {
+        return false;
+    }
+    parts.tty.at(0).is_some()
 }
 
-// Whether a packet waits for a byte that is typed ahead.
-fn can_meet(parts: &Parts) -> bool {
-    root(&parts.store, RootField::KeyQueue) != 0 && parts.tty.at(0).is_some()
-}
-
-// How many steps there are before the next key is due.
-fn before_key(parts: &Parts) -> u64 {
+// How many steps there are before the next key comes.
+fn before_key(parts: &Parts) -> u64
+    requires { parts.now.step ≤ most_steps }
+    ensures { (m : ℕ) → 0 < m → m ≤ result → ComeAfter (parts.now.step + m) parts.now.keys }
+{
     match parts.keys.first() {
         Some((due, _)) => due.saturating_sub(parts.step + 1),
         None => u64::MAX,
     }
 }
 
-// How many steps there are before the clock ticks, or, where nobody runs, before the tick that returns a packet.
-fn before_clock(parts: &Parts, idle: bool) -> u64 {
-    let tick = root(&parts.store, RootField::Tick) + 1;
-    let next = if idle { returning_tick(parts, tick) } else { Some(tick) };
-    match next {
-        Some(next) => u64::from(next) * u64::from(parts.period) - 1 - parts.step,
-        None => u64::MAX,
-    }
-}
-
-// The tick that returns the first packet at the clock, where there is one; the next tick is this.
-fn returning_tick(parts: &Parts, next: u32) -> Option<u32> {
+// How many steps there are before the clock returns a packet.
+fn before_return(parts: &Parts) -> u64
+    requires { IsWhole parts.now None }
+    ensures { (m : ℕ) → m ≤ result
+        → AwaitsTick ((parts.now.step + m) / parts.now.period) (kernel_of parts.now None).lists }
+{
     let packet = root(&parts.store, RootField::ClockQueue);
     if packet == 0 {
-        return None;
+        return u64::MAX;
     }
-    Some(next.max(word_at(&parts.store, packet, DUE)))
+    let due = word_at(&parts.store, packet, DUE);
+    before(parts, due.max(next_tick(parts)))
 }
 
-// Nobody runs in these steps, and only the ticks are counted.
-fn wait(parts: &mut Parts, steps: u64) {
+// How many steps there are before the clock ticks.
+fn before_tick(parts: &Parts) -> u64
+    requires { IsWhole parts.now None }
+    ensures { (m : ℕ) → m ≤ result → StaysAt m (kernel_of parts.now None) }
+{
+    before(parts, next_tick(parts))
+}
+
+// The ticks are so many once the clock has ticked again.
+fn next_tick(parts: &Parts) -> u32
+    requires { IsWhole parts.now None }
+    ensures { result ≡ (kernel_of parts.now None).lists.tick + 1 }
+{
+    root(&parts.store, RootField::Tick) + 1
+}
+
+// How many steps there are before the ticks are so many as `tick`, which they are not yet.
+fn before(parts: &Parts, tick: u32) -> u64
+    requires whole { IsWhole parts.now None }
+    requires later { (kernel_of parts.now None).lists.tick < tick }
+    ensures { (m : ℕ) → m ≤ result → (parts.now.step + m) / parts.now.period < tick }
+{
+    u64::from(tick) * u64::from(parts.period) - 1 - parts.step
+}
+
+// No guest runs in these steps, and only the steps and the ticks are counted.
+fn wait(parts: &mut Parts, steps: u64)
+    requires whole { IsWhole parts.old None }
+    requires idle { is_guest_id (kernel_of parts.old None).lists.running ≡ false }
+    requires quiet { 0 < steps → IsQuietFor steps (kernel_of parts.old None) }
+    requires most { parts.old.step + steps ≤ most_steps }
+    ensures { HasPassed steps (kernel_of parts.old None) parts.new }
+{
+    if steps == 0 {
+        return;
+    }
     parts.step += steps;
     let tick = parts.step / u64::from(parts.period);
     set_root(&mut parts.store, RootField::Tick, tick as u32);
 }
 
-// Executes at most so many instructions, and stops before what is none.
-fn execute(parts: &mut Parts, most: u64) -> u64 {
+// Executes at most so many instructions of the running guest, and stops before what is none. The answer is how many it executed.
+fn execute(parts: &mut Parts, most: u64) -> u64
+    requires whole { IsWhole parts.old None }
+    requires guest { is_guest_id (kernel_of parts.old None).lists.running ≡ true }
+    requires quiet { 0 < most → IsQuietFor most (kernel_of parts.old None) }
+    requires stays { StaysAt most (kernel_of parts.old None) }
+    requires most { parts.old.step + most ≤ most_steps }
+    ensures most { result ≤ most }
+    ensures passed { HasPassed result (kernel_of parts.old None) parts.new }
+{
     for taken in 0..most {
         match execute_guest(&mut parts.store, &mut parts.regs, &parts.kinds) {
             Outcome::Next => parts.step += 1,

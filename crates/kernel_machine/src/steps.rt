@@ -43,11 +43,7 @@ pub(crate) fn step_or_stay<L: EventLog>(
 }
 
 // One step of a machine that has not stopped. The answer is why it stops in this step, if it does.
-fn step<L: EventLog>(
-    parts: &mut Parts,
-    out: &mut Output,
-    log: &mut L,
-) -> Option<Stop>
+fn step<L: EventLog>(parts: &mut Parts, out: &mut Output, log: &mut L) -> Option<Stop>
     requires stands { (k : Kernel) × Stands parts.old k × IsFullMachine k × (k.stop ≡ None)
         × (k.steps < most_steps) }
     requires room { length out.old + 2 ≤ 8192 }

@@ -20,15 +20,11 @@ use tp_io::Output;
 use word_store::Store;
 
 /// The lowest number of a guest.
-const FIRST_GUEST: u32 = 5;
+pub(crate) const FIRST_GUEST: u32 = 5;
 
 /// The running guest's instruction, call, or end of its function; nothing where no guest runs. The answer is why the machine
 /// stops, if it does.
-pub(crate) fn turn<L: EventLog>(
-    parts: &mut Parts,
-    out: &mut Output,
-    log: &mut L,
-) -> Option<Stop>
+pub(crate) fn turn<L: EventLog>(parts: &mut Parts, out: &mut Output, log: &mut L) -> Option<Stop>
     requires stands { (k : Kernel) × Stands parts.old k × CanTurn k }
     requires room_for_byte { length out.old < 8192 }
     ensures turned { (k : Kernel) → Stands parts.old k → CanTurn k

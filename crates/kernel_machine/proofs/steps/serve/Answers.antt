@@ -1,6 +1,6 @@
 use Rattle.kernel_steps.specs.Step.{and_then, dispatch, key, output, tick}
 use Rattle.kernel_machine.proofs.LeftParts.{leaves-then}
-use Rattle.kernel_machine.proofs.StepParts.{Serving, serving}
+use Rattle.kernel_machine.proofs.StepParts.{serving}
 use Rattle.kernel_machine.proofs.steps.serve.Goals as goal
 
 pub key-requires : goal.key-requires

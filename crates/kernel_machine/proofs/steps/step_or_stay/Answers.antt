@@ -1,4 +1,4 @@
-use Rattle.std.proofs.Common.{◌≡◌, ◌∙◌, ap, refl, subst, sym}
+use Rattle.std.proofs.Common.{◌∙◌, ap, subst, sym}
 use Rattle.std.specs.Option.{option_map}
 use Rattle.machine_parts.specs.Stops.{stop_of}
 use Rattle.kernel_machine.specs.Leaves.{Leaves}

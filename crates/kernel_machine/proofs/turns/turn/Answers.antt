@@ -1,4 +1,4 @@
-use Rattle.std.proofs.Common.{arith, subst, sym, ◌<◌}
+use Rattle.std.proofs.Common.{arith}
 use Rattle.kernel_machine.proofs.RunningTask.{guest-number, other-number}
 use Rattle.kernel_machine.proofs.TurnedParts.{leaves-no_turn, leaves-turn, stop-no_turn, stop-turn}
 use Rattle.kernel_machine.proofs.turns.turn.Goals as goal

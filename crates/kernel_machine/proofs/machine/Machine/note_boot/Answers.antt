@@ -1,6 +1,5 @@
-use Rattle.std.proofs.Common.{◌≡◌, ◌∙◌, ap, refl, subst, sym, cond, eqb, List, [], ◌∷◌}
+use Rattle.std.proofs.Common.{◌∙◌, ap, subst, sym, cond, eqb, [], ◌∷◌}
 use Rattle.std.proofs.lemmas.Bool.{ne_eqb}
-use Rattle.packet_queue.specs.declared.events.KernelEvent.{KernelEvent}
 use Rattle.packet_queue.specs.declared.events.KernelEvent.TheVariants.{Runs}
 use Rattle.kernel_model.specs.NotedEvents.{NotesAll}
 use Rattle.kernel_model.proofs.NotedInTurn.{notes-one}

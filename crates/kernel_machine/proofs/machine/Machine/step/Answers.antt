@@ -1,4 +1,4 @@
-use Rattle.std.proofs.Common.{◌≡◌, ◌∙◌, ◌++◌, ◌<◌, ap, arith, length, refl, subst, sym}
+use Rattle.std.proofs.Common.{◌∙◌, ◌++◌, ◌<◌, ap, subst, sym}
 use Rattle.session_text.specs.Ranges.{most_steps}
 use Rattle.kernel_model.specs.NotedEvents.{NotesAll}
 use Rattle.kernel_steps.specs.Step.{step}
@@ -45,8 +45,8 @@ returns-clause-events g c =
     let k = kernel_of c.self.inside.parts c.self.inside.stop in
     subst
     (λ (v : MachineView).
-        NotesAll (g.L.EventLog.noted c.args.log.now) (g.L.EventLog.noted c.step_or_stay-self-inside.new.log) (g.L.EventLog.has_failed c.args.log.now) (g.L.EventLog.has_failed c.step_or_stay-self-inside.new.log)
-        (step v.kernel).events)
+    NotesAll (g.L.EventLog.noted c.args.log.now) (g.L.EventLog.noted c.step_or_stay-self-inside.new.log) (g.L.EventLog.has_failed c.args.log.now) (g.L.EventLog.has_failed c.step_or_stay-self-inside.new.log)
+    (step v.kernel).events)
     c.self.view_is (c.step_or_stay-self-inside.ensures.stepped k w.stands w.valid same few).notes
 
 pub returns-clause-stop : goal.returns-clause-stop

@@ -1,0 +1,127 @@
+-- How many steps there are before a device acts.
+use Rattle.std.proofs.Common.{◌≡◌, ℕ, ◌+◌, ◌-◌, ◌*◌, ◌/◌, ◌<◌, ◌≤◌, false, None, List, [], ◌∷◌, get_or, max, leb-false, ◌⊎◌, inl, inr, refl, sym, ap, ◌∙◌, subst, arith}
+use Rattle.std.specs.Prelude.{is_some, slice_get}
+use Rattle.std.proofs.Math.Nat.{div-le_self, div-lt_iff_lt-mul, div-mul-le_self}
+use Rattle.std.proofs.lemmas.Bool.{cases_lt, lt-leb}
+use Rattle.std.proofs.lemmas.Nat.{le-div}
+use Rattle.session_text.specs.Ranges.{most_steps}
+use Rattle.packet_queue.specs.QueueWords.{QueuedPacket}
+use Rattle.kernel_model.specs.HoldsLists.{HoldsLists}
+use Rattle.kernel_model.specs.Kernel.{Kernel}
+use Rattle.kernel_model.specs.Recovered.{lists_in}
+use Rattle.kernel_model.proofs.RecoveredLists.{lists-back}
+use Rattle.device_returns.specs.declared.returns.Device.TheVariants.{OfClock, OfKeys, OfOutput}
+use Rattle.device_returns.proofs.DeviceQueues.{none-waits}
+use Rattle.clock_device.specs.Tick.{is_first_due}
+use Rattle.clock_device.proofs.FirstDue.{due-some}
+use Rattle.machine_parts.specs.declared.parts.Parts.{Parts}
+use Rattle.kernel_steps.specs.Quiet.{AreDueAfter, AwaitsTick, ComeAfter, IsQuietFor}
+use Rattle.kernel_steps.proofs.NextTick.{some-period}
+use Rattle.kernel_machine.specs.Machine.{IsWhole, kernel_of}
+use Rattle.kernel_machine.specs.Runs.{ServesNone, StaysAt}
+use Rattle.kernel_machine.proofs.OneMachine.{stop-of}
+
+no-byte : (bytes : List ℕ) → is_some (slice_get bytes 0) ≡ false → bytes ≡ []
+no-byte [] e = refl
+no-byte (byte ∷ bytes) e = cc
+
+not-due : (now : ℕ) (ps : List QueuedPacket) → is_first_due now ps ≡ false → AreDueAfter now ps
+not-due now [] e = tt
+not-due now (p ∷ ps) e = leb-false p.last now e
+
+-- the latest of two is one of them
+pub either-latest : (a b latest : ℕ) → latest ≡ max a b → (latest ≤ a) ⊎ (latest ≤ b)
+either-latest a b latest e = elim (cases_lt a b) [ inl low ↦ inr (omega (arith, e, low)) | inr high ↦ inl (omega (arith, e, high)) ]
+
+module _ (p : Parts) (w : IsWhole p None) where
+  abbrev now : Kernel
+  now = kernel_of p None
+
+  pub goes-on : now.stop ≡ None
+  goes-on = stop-of p None
+
+  held : HoldsLists p.store now.lists
+  held = w.stands.keeper.lists
+
+  pub ticks-now : now.lists.tick ≡ now.steps / now.lists.period
+  ticks-now = (w.valid.running goes-on).tick
+
+  pub period-now : 0 < now.lists.period
+  period-now = some-period now.lists w.valid.lists
+
+  period-here : 0 < p.period
+  period-here = omega (arith, period-now, w.stands.period)
+
+  pub tick-word : get_or p.store 108 0 ≡ now.lists.tick
+  unfolding lists_in
+  tick-word = ap (λ l. l.tick) (lists-back p.store now.lists held.valid held.size held.holds)
+
+  ticks-here : p.step / p.period ≡ now.lists.tick
+  ticks-here = (λ i. w.stands.steps i / w.stands.period i) ∙ sym ticks-now
+
+  pub few-ticks-now : now.lists.tick ≤ most_steps
+  few-ticks-now = omega (arith, ticks-now, div-le_self now.steps now.lists.period, w.valid.steps.steps)
+
+  -- ---- before a tick that is to come
+
+  module _ (tick a b : ℕ) (later : now.lists.tick < tick) (left : a ≡ tick) (right : b ≡ p.period) where
+    product : a * b ≡ tick * p.period
+    product = λ i. left i * right i
+
+    step-before : p.step < tick * p.period
+    step-before = (div-lt_iff_lt-mul {k = p.period} {x = p.step} {y = tick} period-here).0 (omega (arith, ticks-here, later))
+
+    pub before-ends : p.step ≤ a * b - 1
+    before-ends = omega (arith, product, step-before)
+
+    pub before-ticks : (m : ℕ) → m ≤ a * b - 1 - p.step → (p.step + m) / p.period < tick
+    before-ticks m few = (div-lt_iff_lt-mul {k = p.period} {x = p.step + m} {y = tick} period-here).1 (omega (arith, product, step-before, few))
+
+  -- the ticks do not fall
+  pub ticks-grow : (m : ℕ) → now.lists.tick ≤ (p.step + m) / p.period
+  ticks-grow m =
+      let least : now.lists.tick * p.period ≤ p.step = omega (arith, ap (λ t. t * p.period) ticks-here, div-mul-le_self p.step p.period) in
+      le-div now.lists.tick (p.step + m) p.period period-here (omega (arith, least))
+
+  pub stays-before : (m next : ℕ) → next ≡ now.lists.tick + 1 → (p.step + m) / p.period < next → StaysAt m now
+  stays-before m next is low = (λ i. (sym w.stands.steps i + m) / sym w.stands.period i) ∙ omega (arith, is, low, ticks-grow m)
+
+  -- ---- before the clock returns a packet
+
+  pub awaits-none : (m : ℕ) → get_or p.store 105 0 ≡ 0 → AwaitsTick m now.lists
+  awaits-none m none = inl (subst (AreDueAfter m) (sym (none-waits p.store now.lists OfClock held none)) tt)
+
+  pub awaits-first : (m packet due next latest : ℕ) → packet ≡ get_or p.store 105 0 → (packet ≡ 0 → ⊥) → due ≡ get_or p.store (packet + 4) 0 → next ≡ now.lists.tick + 1 → (latest ≤ due) ⊎ (latest ≤ next)
+      → (p.step + m) / p.period < latest → AwaitsTick ((p.step + m) / p.period) now.lists
+  awaits-first m packet due next latest is some due_is next_is (inl most) low =
+      let x : ℕ = (p.step + m) / p.period in
+      inl (not-due x now.lists.clock (sym (due-some p.store now.lists x held packet is some due due_is) ∙ lt-leb due x (omega (arith, low, most))))
+  awaits-first m packet due next latest is some due_is next_is (inr most) low = inr (omega (arith, low, most, next_is, ticks-grow m))
+
+  -- ---- the other two
+
+  pub serves-none : get_or p.store 107 0 ≡ 0 → get_or p.store 106 0 ≡ 0 → ServesNone now
+  serves-none out keys = record { output = none-waits p.store now.lists OfOutput held out; keyboard = inl (none-waits p.store now.lists OfKeys held keys) }
+
+  pub serves-nobody : get_or p.store 107 0 ≡ 0 → is_some (slice_get p.tty 0) ≡ false → ServesNone now
+  serves-nobody out none = record { output = none-waits p.store now.lists OfOutput held out; keyboard = inr (sym w.stands.type_ahead ∙ no-byte p.tty none) }
+
+  -- ---- all of them
+
+  -- so that many steps are quiet, but for none
+  pub quiet-all : (m : ℕ) → ServesNone now → ComeAfter (p.step + m) p.keys → AwaitsTick ((p.step + m) / p.period) now.lists → IsQuietFor m now
+  quiet-all m none keys clock = record {
+    output = none.output;
+    keyboard = none.keyboard;
+    keys = subst (ComeAfter (now.steps + m)) w.stands.keys (subst (λ n. ComeAfter (n + m) p.keys) w.stands.steps keys);
+    clock = subst (λ n. AwaitsTick n now.lists) (λ i. (w.stands.steps i + m) / w.stands.period i) clock;
+  }
+
+  -- where the clock does not tick
+  pub quiet-amid : (m : ℕ) → ServesNone now → ComeAfter (p.step + m) p.keys → StaysAt m now → IsQuietFor m now
+  quiet-amid m none keys stays = record {
+    output = none.output;
+    keyboard = none.keyboard;
+    keys = subst (ComeAfter (now.steps + m)) w.stands.keys (subst (λ n. ComeAfter (n + m) p.keys) w.stands.steps keys);
+    clock = inr stays;
+  }

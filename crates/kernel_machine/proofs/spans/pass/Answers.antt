@@ -1,0 +1,15 @@
+use Rattle.std.proofs.Common.{arith, refl}
+use Rattle.kernel_machine.proofs.QuietParts.{quiet-all, quiet-amid}
+use Rattle.kernel_machine.proofs.QuietSpan.{passed-none}
+use Rattle.kernel_machine.proofs.spans.pass.Goals as goal
+
+pub returns-then-serves_now-clause-passed : goal.returns-then-serves_now-clause-passed
+returns-then-serves_now-clause-passed c = passed-none c.args.parts.now c.requires.whole 0 refl
+
+pub wait-requires-clause-quiet : goal.wait-requires-clause-quiet
+wait-requires-clause-quiet c = λ some.
+    quiet-all c.args.parts.now c.requires.whole c.min-quiet.result (c.serves_now.ensures c.if-serves_now.false) (c.before_key.ensures c.min-quiet.result some (omega (arith, c.min-quiet.ensures, c.min-before_key.ensures))) (c.before_return.ensures c.min-quiet.result (omega (arith, c.min-quiet.ensures)))
+
+pub execute-requires-clause-quiet : goal.execute-requires-clause-quiet
+execute-requires-clause-quiet c = λ some.
+    quiet-amid c.args.parts.now c.requires.whole c.min-quiet-2.result (c.serves_now.ensures c.if-serves_now.false) (c.before_key.ensures c.min-quiet-2.result some (omega (arith, c.min-quiet-2.ensures, c.min-before_key.ensures))) (c.before_tick.ensures c.min-quiet-2.result (omega (arith, c.min-quiet-2.ensures)))
