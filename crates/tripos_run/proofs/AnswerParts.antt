@@ -5,9 +5,9 @@ use Rattle.std.proofs.lemmas.Bool.Decides.{nat_tests}
 use Rattle.std.specs.Io.KnownBytes.{Appends, Consumes, IsAtEnd, Keeps}
 use Rattle.std.proofs.KnownBytes.{Keeps-refl}
 use Rattle.tp_io.specs.Write.{AppendsPrefix, Prints}
-use Rattle.tp_io.specs.Pending.{IsCut, IsGathered}
+use Rattle.tp_io.specs.Pending.{IsGathered}
 use Rattle.tp_io.proofs.AppendedTexts.{AppendsPrefix-more}
-use Rattle.tp_io.proofs.GatheredTexts.{IsCut-first, Prints-after}
+use Rattle.tp_io.proofs.GatheredTexts.{Prints-after}
 use Rattle.text_reader.specs.Refusal.{Refusal}
 use Rattle.bare_machine.specs.declared.stops.Stop.{Stop}
 use Rattle.bare_machine.specs.declared.stops.Stop.TheVariants.{Steps, Quit, Finish, Fault}
@@ -68,12 +68,16 @@ module _ (command : Command) (x : RunEnd) (before : List ℕ) where
     where
       tail : List ℕ
       tail = closing_text x.steps x.stop ++ words_text command x.words
+
       whole : {T E : Type 0} (r : Result T E) → Prints m k (q ++ tail) r → Prints h k (before ++ tail) r
       whole r last = Prints-first k tail r none gathered last
+
       ok : Result (Unit {0}) (Unit {0})
       ok = Ok tt
+
       err : Result (Unit {0}) (Unit {0})
       err = Err tt
+
       on : (s : Status) → IsMachineEnd s → Answers (closed_answer command q x) m k s → Answers (closed_answer command before x) h k s
       on Done e b = (b.0, whole ok b.1)
       on GuestFault e b = (b.0, whole ok b.1)

@@ -1,11 +1,11 @@
 -- The events of a run, from those that a log was given.
-use Rattle.std.proofs.Common.{◌≡◌, ◌∙◌, ℕ, ◌+◌, ◌-◌, ◌≤◌, Bool, true, false, Option, Result, Ok, Err, List, [], ◌++◌, inl, inr, sym, ap, subst, append_assoc, arith}
+use Rattle.std.proofs.Common.{◌≡◌, ◌∙◌, ℕ, ◌+◌, ◌-◌, ◌≤◌, Bool, true, Option, Result, Ok, Err, List, [], ◌++◌, inl, inr, sym, ap, subst, append_assoc, arith}
 use Rattle.std.specs.Bool.{OnFalse}
 use Rattle.bare_machine.specs.declared.stops.Stop.{Stop}
 use Rattle.packet_queue.specs.declared.events.KernelEvent.{KernelEvent}
 use Rattle.kernel_model.specs.Kernel.{Kernel}
 use Rattle.kernel_model.specs.NotedEvents.{NotesAll}
-use Rattle.kernel_steps.specs.Step.{Stepped, and_then, run}
+use Rattle.kernel_steps.specs.Step.{Stepped, run}
 use Rattle.kernel_steps.proofs.Runs.{run-more}
 use Rattle.kernel_machine.specs.Runs.{EndsRun, HasCause}
 

@@ -21,7 +21,6 @@ use Rattle.bare_machine.specs.Run.{Run, run as bare_run}
 use Rattle.packet_queue.specs.declared.events.KernelEvent.{KernelEvent}
 use Rattle.trace_log.specs.Traced.{lines_of}
 use Rattle.kernel_model.specs.Image.{image}
-use Rattle.kernel_model.specs.Kernel.{Kernel}
 use Rattle.machine_parts.specs.Stops.{end_of_run}
 use Rattle.kernel_steps.specs.Step.{Stepped, run}
 use Rattle.kernel_boot.specs.declared.refusals.BootRefusal.{BootRefusal}

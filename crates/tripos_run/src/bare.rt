@@ -60,7 +60,7 @@ fn run_machine<K: Sink>(command: Command, machine: &mut Bare, go: u64, out: &mut
     requires { machine.old.regs.c < 256 }
     ensures answer { Answers
         (closed_answer command (run go machine.old.store machine.old.regs).bytes
-            (end_without_kernel (run go machine.old.store machine.old.regs)))
+        (end_without_kernel (run go machine.old.store machine.old.regs)))
         (K.holds out.old) (K.holds out.new) result }
     ensures ends { IsMachineEnd result }
     ensures cause { HasFaultCause Status.WriteFault (K.faults out.old) (K.faults out.new) result }
@@ -80,14 +80,21 @@ fn trace_machine<K: Sink>(machine: &mut Bare, go: u64, out: &mut K) -> Status
     requires { machine.old.regs.c < 256 }
     ensures answer { Answers
         (closed_answer Command.Trace []
-            (end_without_kernel (run go machine.old.store machine.old.regs)))
+        (end_without_kernel (run go machine.old.store machine.old.regs)))
         (K.holds out.old) (K.holds out.new) result }
     ensures ends { IsMachineEnd result }
     ensures cause { HasFaultCause Status.WriteFault (K.faults out.old) (K.faults out.new) result }
 {
     match run(machine, go, &mut NoSink, &mut Output::new()) {
         Ok((steps, stop)) => {
-            let end = write_end(Command::Trace, steps, stop, &machine.store, out, &mut Output::new());
+            let end = write_end(
+                Command::Trace,
+                steps,
+                stop,
+                &machine.store,
+                out,
+                &mut Output::new(),
+            );
             status_after(end, status_of(stop))
         }
         Err(SinkFault) => Status::WriteFault,

@@ -51,15 +51,10 @@ pub(crate) fn answer_guests<K: Sink>(
 }
 
 // Runs a machine that was booted just now.
-fn answer_machine<K: Sink>(
-    command: Command,
-    machine: &mut Machine,
-    go: u64,
-    out: &mut K,
-) -> Status
+fn answer_machine<K: Sink>(command: Command, machine: &mut Machine, go: u64, out: &mut K) -> Status
     requires { machine.old.kernel.steps + go ≤ most_steps }
     ensures answer { Answers (run_answer command
-            (end_with_kernel (boot_events machine.old.kernel) (run go machine.old.kernel)))
+        (end_with_kernel (boot_events machine.old.kernel) (run go machine.old.kernel)))
         (K.holds out.old) (K.holds out.new) result }
     ensures ends { IsMachineEnd result }
     ensures cause { HasFaultCause Status.WriteFault (K.faults out.old) (K.faults out.new) result }
@@ -76,7 +71,7 @@ fn answer_machine<K: Sink>(
 fn run_machine<K: Sink>(command: Command, machine: &mut Machine, go: u64, out: &mut K) -> Status
     requires { machine.old.kernel.steps + go ≤ most_steps }
     ensures answer { Answers (closed_answer command (run go machine.old.kernel).bytes
-            (end_with_kernel (boot_events machine.old.kernel) (run go machine.old.kernel)))
+        (end_with_kernel (boot_events machine.old.kernel) (run go machine.old.kernel)))
         (K.holds out.old) (K.holds out.new) result }
     ensures ends { IsMachineEnd result }
     ensures cause { HasFaultCause Status.WriteFault (K.faults out.old) (K.faults out.new) result }
@@ -92,7 +87,7 @@ fn run_machine<K: Sink>(command: Command, machine: &mut Machine, go: u64, out: &
 fn trace_machine<K: Sink>(machine: &mut Machine, go: u64, out: &mut K) -> Status
     requires { machine.old.kernel.steps + go ≤ most_steps }
     ensures answer { Answers (run_answer Command.Trace
-            (end_with_kernel (boot_events machine.old.kernel) (run go machine.old.kernel)))
+        (end_with_kernel (boot_events machine.old.kernel) (run go machine.old.kernel)))
         (K.holds out.old) (K.holds out.new) result }
     ensures ends { IsMachineEnd result }
     ensures cause { HasFaultCause Status.WriteFault (K.faults out.old) (K.faults out.new) result }
