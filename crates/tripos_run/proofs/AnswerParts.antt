@@ -5,19 +5,18 @@ use Rattle.std.proofs.lemmas.Bool.Decides.{nat_tests}
 use Rattle.std.specs.Io.KnownBytes.{Appends, Consumes, IsAtEnd, Keeps}
 use Rattle.std.proofs.KnownBytes.{Keeps-refl}
 use Rattle.tp_io.specs.Write.{AppendsPrefix, Prints}
-use Rattle.tp_io.specs.Pending.{IsCut, IsGathered}
+use Rattle.tp_io.specs.Pending.{IsGathered}
 use Rattle.tp_io.proofs.AppendedTexts.{AppendsPrefix-more}
-use Rattle.tp_io.proofs.GatheredTexts.{IsCut-first, Prints-after}
-use Rattle.word_store.specs.declared.registers.Regs.{Regs}
+use Rattle.tp_io.proofs.GatheredTexts.{Prints-after}
+use Rattle.text_reader.specs.Refusal.{Refusal}
 use Rattle.bare_machine.specs.declared.stops.Stop.{Stop}
 use Rattle.bare_machine.specs.declared.stops.Stop.TheVariants.{Steps, Quit, Finish, Fault}
 use Rattle.tripos_run.specs.declared.commands.Command.{Command}
 use Rattle.tripos_run.specs.declared.status.Status.{Status}
-use Rattle.tripos_run.specs.declared.status.Status.TheVariants.{Usage, WriteFault, TooLong}
-use Rattle.bare_machine.specs.Run.{IsRunEnd, Run}
-use Rattle.tripos_run.specs.Texts.{closing_text, too_long_text, usage_text}
-use Rattle.tripos_run.specs.Answer.{Answer, Answers, command_answer, input_answer, limit, run_answer, status_of, text_answer, words_text}
-use Rattle.tripos_run.specs.Input.{IsInput}
+use Rattle.tripos_run.specs.declared.status.Status.TheVariants.{Done, GuestFault, Usage, Refused, NoBoot, ReadFault, WriteFault, TooLong, WantMemory}
+use Rattle.tripos_run.specs.Texts.{closing_text, no_boot_text, too_long_text, usage_text}
+use Rattle.tripos_run.specs.Answer.{Answer, Answers, RunEnd, closed_answer, command_answer, input_answer, limit, no_boot_answer, status_of, text_answer, words_text}
+use Rattle.tripos_run.specs.Input.{IsInput, IsMachineEnd}
 
 -- the status of a call that has printed its text
 abbrev pub status_after : {T E : Type 0} → Result T E → Status → Status
@@ -33,19 +32,62 @@ Answers-run_text : {T E : Type 0} (a : Answer) (h k : Option (List ℕ)) (stop :
 Answers-run_text a h k stop (Ok t) e p = Answers-stop a h k stop e p
 Answers-run_text a h k stop (Err d) e p = p
 
--- the bytes of a run are gathered, where nothing was pending, and printed with its end
-pub Answers-run : {T E : Type 0} (command : Command) (x : Run) {h m : Option (List ℕ)} {p q : List ℕ} (k : Option (List ℕ)) {words : List ℕ} {regs : Regs} (steps : ℕ) (stop : Stop) (written : Result T E) → p ≡ []
-    → IsRunEnd x words regs steps stop → IsGathered h m p q x.bytes → Prints m k (q ++ (closing_text steps stop ++ words_text command words)) written
-    → Answers (run_answer command x) h k (status_after written (status_of stop))
-Answers-run command x {h} {m} {p} {q} k {words} steps stop written none end gathered last =
-    let text : closing_text steps stop ++ words_text command words ≡ closing_text x.steps x.stop ++ words_text command x.words = rw (end.steps_are, end.stop_is, end.words_are) refl in
-    let whole = Prints-after gathered k (closing_text steps stop ++ words_text command words) written last in
-    Answers-run_text (run_answer command x) h k stop written (ap status_of (sym end.stop_is))
-    (subst (λ (v : List ℕ). Prints h k (x.bytes ++ v) written) text (subst (λ (v : List ℕ). Prints h k (v ++ (x.bytes ++ (closing_text steps stop ++ words_text command words))) written) none whole))
+-- the refusal to boot is printed
+pub Answers-no_boot : {T E : Type 0} (r : Refusal) (h k : Option (List ℕ)) (written : Result T E) → Prints h k (no_boot_text r) written → Answers (no_boot_answer r) h k (status_after written NoBoot)
+Answers-no_boot r h k (Ok t) p = (refl, p)
+Answers-no_boot r h k (Err d) p = p
 
--- the sink failed while the bytes of a run were gathered
-pub AppendsPrefix-run : (command : Command) (x : Run) {h k : Option (List ℕ)} {p : List ℕ} → p ≡ [] → IsCut h k p x.bytes → AppendsPrefix h k (run_answer command x).bytes
-AppendsPrefix-run command x {h} {k} none cut = AppendsPrefix-more h k x.bytes (closing_text x.steps x.stop ++ words_text command x.words) (IsCut-first none cut)
+-- a text was gathered where nothing was pending, and another was printed after it
+pub Prints-first : {T E : Type 0} {h m : Option (List ℕ)} {p q a : List ℕ} (k : Option (List ℕ)) (b : List ℕ) (written : Result T E) → p ≡ [] → IsGathered h m p q a → Prints m k (q ++ b) written
+    → Prints h k (a ++ b) written
+Prints-first {h = h} {a = a} k b written none gathered last =
+    subst (λ (v : List ℕ). Prints h k (v ++ (a ++ b)) written) none (Prints-after gathered k b written last)
+
+-- what a closed answer needs to know of the end of a run
+pub record AreEnd (x : RunEnd) (steps : ℕ) (stop : Stop) (words : List ℕ) : Type 0 where
+  pub steps_are : steps ≡ x.steps
+  pub stop_is : stop ≡ x.stop
+  pub words_are : words ≡ x.words
+
+module _ (command : Command) (x : RunEnd) (before : List ℕ) where
+  -- the text before was printed with the end of the run
+  pub Answers-closed : {T E : Type 0} (h k : Option (List ℕ)) {steps : ℕ} {stop : Stop} {words : List ℕ} (written : Result T E) → AreEnd x steps stop words
+      → Prints h k (before ++ (closing_text steps stop ++ words_text command words)) written → Answers (closed_answer command before x) h k (status_after written (status_of stop))
+  Answers-closed h k {steps} {stop} {words} written end p =
+      let text : closing_text steps stop ++ words_text command words ≡ closing_text x.steps x.stop ++ words_text command x.words = rw (end.steps_are, end.stop_is, end.words_are) refl in
+      Answers-run_text (closed_answer command before x) h k stop written (ap status_of (sym end.stop_is)) (subst (λ (v : List ℕ). Prints h k (before ++ v) written) text p)
+
+  -- the sink failed at the text before
+  pub AppendsPrefix-closed : (h k : Option (List ℕ)) → AppendsPrefix h k before → AppendsPrefix h k (closed_answer command before x).bytes
+  AppendsPrefix-closed h k p = AppendsPrefix-more h k before (closing_text x.steps x.stop ++ words_text command x.words) p
+
+  -- the text before was gathered, and what was pending of it was printed with the end of the run
+  pub Answers-behind : {h m : Option (List ℕ)} {p q : List ℕ} (k : Option (List ℕ)) (s : Status) → p ≡ [] → IsGathered h m p q before → IsMachineEnd s → Answers (closed_answer command q x) m k s
+      → Answers (closed_answer command before x) h k s
+  Answers-behind {h} {m} {p} {q} k s none gathered ends a = on s ends a
+    where
+      tail : List ℕ
+      tail = closing_text x.steps x.stop ++ words_text command x.words
+
+      whole : {T E : Type 0} (r : Result T E) → Prints m k (q ++ tail) r → Prints h k (before ++ tail) r
+      whole r last = Prints-first k tail r none gathered last
+
+      ok : Result (Unit {0}) (Unit {0})
+      ok = Ok tt
+
+      err : Result (Unit {0}) (Unit {0})
+      err = Err tt
+
+      on : (s : Status) → IsMachineEnd s → Answers (closed_answer command q x) m k s → Answers (closed_answer command before x) h k s
+      on Done e b = (b.0, whole ok b.1)
+      on GuestFault e b = (b.0, whole ok b.1)
+      on WriteFault e b = whole err b
+      on Usage e b = absurd e
+      on Refused e b = absurd e
+      on NoBoot e b = absurd e
+      on ReadFault e b = absurd e
+      on TooLong e b = absurd e
+      on WantMemory e b = absurd e
 
 input_answer-short : (command : Command) (input : List ℕ) → length input ≤ limit → input_answer command input ≡ text_answer command input
 unfolding input_answer

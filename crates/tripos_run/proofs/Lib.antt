@@ -1,2 +1,4 @@
 pub mod DumpLines
 pub mod AnswerParts
+pub mod NotedRuns
+pub mod BootedSteps

@@ -13,11 +13,18 @@ use Rattle.session_text.specs.declared.sessions.Session.{Session}
 use Rattle.bare_machine.specs.declared.stops.Stop.{Stop}
 use Rattle.bare_machine.specs.declared.stops.Stop.TheVariants.{Steps, Quit, Finish, Fault}
 use Rattle.tripos_run.specs.declared.commands.Command.{Command}
-use Rattle.tripos_run.specs.declared.commands.Command.TheVariants.{Run as RunCommand, Dump as DumpCommand, Asm as AsmCommand, Disasm as DisasmCommand}
+use Rattle.tripos_run.specs.declared.commands.Command.TheVariants.{Run as RunCommand, Dump as DumpCommand, Trace as TraceCommand, Asm as AsmCommand, Disasm as DisasmCommand}
 use Rattle.tripos_run.specs.declared.status.Status.{Status}
 use Rattle.tripos_run.specs.declared.status.Status.TheVariants.{Done, GuestFault, Usage, Refused, NoBoot, ReadFault, WriteFault, TooLong, WantMemory}
-use Rattle.bare_machine.specs.Boot.{boot, first_regs}
-use Rattle.bare_machine.specs.Run.{Run, run}
+use Rattle.bare_machine.specs.Boot.{boot as bare_boot, first_regs}
+use Rattle.bare_machine.specs.Run.{Run, run as bare_run}
+use Rattle.packet_queue.specs.declared.events.KernelEvent.{KernelEvent}
+use Rattle.trace_log.specs.Traced.{lines_of}
+use Rattle.kernel_model.specs.Image.{image}
+use Rattle.machine_parts.specs.Stops.{end_of_run}
+use Rattle.kernel_steps.specs.Step.{Stepped, run}
+use Rattle.kernel_boot.specs.declared.refusals.BootRefusal.{BootRefusal}
+use Rattle.machine_boot.specs.Boot.{boot}
 use Rattle.tripos_run.specs.Texts.{closing_text, dump_text, no_boot_text, refused_text, too_long_text, usage_text}
 
 pub record Answer : Type 0 where
@@ -29,6 +36,7 @@ abbrev pub command_named : List ℕ → Option Command
 command_named word =
     if bytes_eq word (codes "run") then Some RunCommand else
     if bytes_eq word (codes "dump") then Some DumpCommand else
+    if bytes_eq word (codes "trace") then Some TraceCommand else
     if bytes_eq word (codes "asm") then Some AsmCommand else
     if bytes_eq word (codes "disasm") then Some DisasmCommand else
     None
@@ -47,30 +55,69 @@ status_of (Quit code) = Done
 status_of Finish = Done
 status_of (Fault code address task) = GuestFault
 
+-- a run of a machine of either kind: its console bytes, its events, the steps taken, why it ended, and the words at the end
+pub record RunEnd : Type 0 where
+  pub bytes : List ℕ
+  pub events : List KernelEvent
+  pub steps : ℕ
+  pub stop : Stop
+  pub words : List ℕ
+
+-- a machine without a kernel has no events
+abbrev pub end_without_kernel : Run → RunEnd
+end_without_kernel x = record { bytes = x.bytes; events = []; steps = x.steps; stop = x.stop; words = x.words }
+
+-- the events that were there before the run come first
+abbrev pub end_with_kernel : List KernelEvent → Stepped → RunEnd
+end_with_kernel before x = record {
+  bytes = x.bytes;
+  events = before ++ x.events;
+  steps = x.kernel.steps;
+  stop = end_of_run x.kernel.stop;
+  words = image x.kernel;
+}
+
+-- what a command writes before the closing line: `trace` a line for each event, and the others the console bytes
+abbrev pub text_before : Command → RunEnd → List ℕ
+text_before TraceCommand x = lines_of x.events
+text_before _ x = x.bytes
+
 -- what a command writes after the closing line: `dump` the words that are not 0
 abbrev pub words_text : Command → List ℕ → List ℕ
 words_text DumpCommand words = dump_text 0 words
 words_text _ words = []
 
--- the console bytes, the closing line, and the words where they are asked for
-abbrev pub run_answer : Command → Run → Answer
-run_answer command x = record {
+-- a text, and behind it the closing line, and the words where they are asked for
+abbrev pub closed_answer : Command → List ℕ → RunEnd → Answer
+closed_answer command before x = record {
   status = status_of x.stop;
-  bytes = x.bytes ++ (closing_text x.steps x.stop ++ words_text command x.words);
+  bytes = before ++ (closing_text x.steps x.stop ++ words_text command x.words);
 }
 
--- the run of a session that boots
-abbrev pub booted_answer : Command → ℕ → Result (List ℕ) Refusal → Answer
-booted_answer command go (Ok words) = run_answer command (run go words first_regs)
-booted_answer command go (Err r) = record { status = NoBoot; bytes = no_boot_text r }
+abbrev pub run_answer : Command → RunEnd → Answer
+run_answer command x = closed_answer command (text_before command x) x
 
+abbrev pub no_boot_answer : Refusal → Answer
+no_boot_answer r = record { status = NoBoot; bytes = no_boot_text r }
+
+-- the run of a bare machine, where the session boots
+abbrev pub bare_answer : Command → ℕ → Result (List ℕ) Refusal → Answer
+bare_answer command go (Ok words) = run_answer command (end_without_kernel (bare_run go words first_regs))
+bare_answer command go (Err r) = no_boot_answer r
+
+-- the run of a machine with a kernel, where the session boots
+abbrev pub guests_answer : Command → ℕ → Result Stepped BootRefusal → Answer
+guests_answer command go (Ok x) = run_answer command (end_with_kernel x.events (run go x.kernel))
+guests_answer command go (Err r) = no_boot_answer (refusal r.line r.code)
+
+-- the run of a session that boots, on a machine of its kind
 abbrev pub session_answer : Command → Result Session Refusal → Answer
-session_answer command (Ok s) = booted_answer command s.go (boot s)
+session_answer command (Ok s) = if s.bare then bare_answer command s.go (bare_boot s) else guests_answer command s.go (boot s)
 session_answer command (Err r) = record { status = Refused; bytes = refused_text r }
 
--- A machine with a clock is not served yet: its session is refused at the line of the clock, with a code of its own.
+-- Residents are not served yet: a session with them is refused at the line that names them, with a code of its own.
 abbrev pub served : Result Session Refusal → Result Session Refusal
-served (Ok s) = if s.bare then Ok s else Err (refusal 3 0)
+served (Ok s) = if s.resident then Err (refusal 4 0) else Ok s
 served (Err r) = Err r
 
 -- a text that is made of the input, or the refusal of the input
@@ -89,6 +136,7 @@ text_answer AsmCommand text = made_answer (assembled text)
 text_answer DisasmCommand text = made_answer (listed (module_of text))
 text_answer RunCommand text = session_answer RunCommand (served (session_of text))
 text_answer DumpCommand text = session_answer DumpCommand (served (session_of text))
+text_answer TraceCommand text = session_answer TraceCommand (served (session_of text))
 
 unfoldable pub input_answer : Command → List ℕ → Answer
 input_answer command input =

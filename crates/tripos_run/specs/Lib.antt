@@ -3,3 +3,4 @@ pub mod Answer
 pub mod Input
 pub mod Cause
 pub mod Exit
+pub mod TracedRun

@@ -1,4 +1,10 @@
 // The answer to a session of a bare machine.
+ghost use Rattle.std.specs.Prelude.{◌≡◌, ◌≤◌, ◌<◌, []};
+ghost use Rattle.bare_machine.specs.Boot.{boot};
+ghost use Rattle.bare_machine.specs.Run.{run};
+ghost use Rattle.tripos_run.specs.Answer.{Answers, bare_answer, closed_answer, end_without_kernel, run_answer};
+ghost use Rattle.tripos_run.specs.Cause.{HasFaultCause};
+ghost use Rattle.tripos_run.specs.Input.{IsMachineEnd, IsTextEnd};
 
 use crate::answer::status_after;
 use crate::commands::Command;
@@ -19,7 +25,7 @@ pub(crate) fn answer_bare<K: Sink>(
     out: &mut K,
 ) -> Status
     requires { session.now.store ≤ 4194304 }
-    ensures answer { Answers (booted_answer command session.now.go (boot session.now))
+    ensures answer { Answers (bare_answer command session.now.go (boot session.now))
         (K.holds out.old) (K.holds out.new) result }
     ensures ends { IsTextEnd result }
     ensures cause { HasFaultCause Status.WriteFault (K.faults out.old) (K.faults out.new) result }
@@ -33,7 +39,14 @@ pub(crate) fn answer_bare<K: Sink>(
     }
 }
 
-fn answer_machine<K: Sink>(command: Command, machine: &mut Bare, go: u64, out: &mut K) -> Status {
+fn answer_machine<K: Sink>(command: Command, machine: &mut Bare, go: u64, out: &mut K) -> Status
+    requires { machine.old.regs.c < 256 }
+    ensures answer { Answers
+        (run_answer command (end_without_kernel (run go machine.old.store machine.old.regs)))
+        (K.holds out.old) (K.holds out.new) result }
+    ensures ends { IsMachineEnd result }
+    ensures cause { HasFaultCause Status.WriteFault (K.faults out.old) (K.faults out.new) result }
+{
     match command {
         Command::Trace => trace_machine(machine, go, out),
         Command::Run | Command::Dump | Command::Asm | Command::Disasm => {
@@ -42,8 +55,16 @@ fn answer_machine<K: Sink>(command: Command, machine: &mut Bare, go: u64, out: &
     }
 }
 
-// Runs a machine for so many steps.
-fn run_machine<K: Sink>(command: Command, machine: &mut Bare, go: u64, out: &mut K) -> Status {
+// Runs a machine for so many steps, and writes its console bytes.
+fn run_machine<K: Sink>(command: Command, machine: &mut Bare, go: u64, out: &mut K) -> Status
+    requires { machine.old.regs.c < 256 }
+    ensures answer { Answers
+        (closed_answer command (run go machine.old.store machine.old.regs).bytes
+        (end_without_kernel (run go machine.old.store machine.old.regs)))
+        (K.holds out.old) (K.holds out.new) result }
+    ensures ends { IsMachineEnd result }
+    ensures cause { HasFaultCause Status.WriteFault (K.faults out.old) (K.faults out.new) result }
+{
     let mut pending = Output::new();
     match run(machine, go, out, &mut pending) {
         Ok((steps, stop)) => {
@@ -54,11 +75,26 @@ fn run_machine<K: Sink>(command: Command, machine: &mut Bare, go: u64, out: &mut
     }
 }
 
-// A machine without a kernel has no events, and its console bytes are kept nowhere.
-fn trace_machine<K: Sink>(machine: &mut Bare, go: u64, out: &mut K) -> Status {
+// Runs a machine for so many steps. Without a kernel it has no events, and its console bytes are kept nowhere.
+fn trace_machine<K: Sink>(machine: &mut Bare, go: u64, out: &mut K) -> Status
+    requires { machine.old.regs.c < 256 }
+    ensures answer { Answers
+        (closed_answer Command.Trace []
+        (end_without_kernel (run go machine.old.store machine.old.regs)))
+        (K.holds out.old) (K.holds out.new) result }
+    ensures ends { IsMachineEnd result }
+    ensures cause { HasFaultCause Status.WriteFault (K.faults out.old) (K.faults out.new) result }
+{
     match run(machine, go, &mut NoSink, &mut Output::new()) {
         Ok((steps, stop)) => {
-            let end = write_end(Command::Trace, steps, stop, &machine.store, out, &mut Output::new());
+            let end = write_end(
+                Command::Trace,
+                steps,
+                stop,
+                &machine.store,
+                out,
+                &mut Output::new(),
+            );
             status_after(end, status_of(stop))
         }
         Err(SinkFault) => Status::WriteFault,

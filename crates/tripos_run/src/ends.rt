@@ -1,4 +1,9 @@
 // How a run ends, on a machine of either kind.
+ghost use Rattle.std.specs.Prelude.{◌≡◌, ◌++◌};
+ghost use Rattle.tp_io.specs.Pending.{Gathers};
+ghost use Rattle.tp_io.specs.Write.{Prints, HasCause};
+ghost use Rattle.tripos_run.specs.Answer.{status_of, words_text};
+ghost use Rattle.tripos_run.specs.Texts.{closing_text};
 
 use crate::commands::Command;
 use crate::dump::gather_dump;
@@ -8,7 +13,7 @@ use bare_machine::Stop;
 use tp_io::{Output, Sink, SinkFault, pass_on};
 use word_store::Store;
 
-// What is pending, the closing line, and what the command adds to it.
+/// Writes what is pending, the closing line, and what the command adds to it.
 pub(crate) fn write_end<K: Sink>(
     command: Command,
     steps: u64,
@@ -45,6 +50,7 @@ fn gather_words<K: Sink>(
     }
 }
 
+/// The status of a call whose machine was run to this end.
 pub(crate) fn status_of(stop: Stop) -> Status
     ensures { result ≡ status_of stop }
 {

@@ -1,9 +1,22 @@
 // The answer to a session of guests: a machine with a kernel, and without residents.
+ghost use Rattle.std.specs.Prelude.{◌≡◌, ◌≤◌, ◌+◌, ◌++◌, [], Some, true, IfOk, MatchResult};
+ghost use Rattle.tp_io.specs.Write.{HasCause};
+ghost use Rattle.session_text.specs.Ranges.{most_steps};
+ghost use Rattle.kernel_model.specs.NotedEvents.{NotesAll};
+ghost use Rattle.machine_parts.specs.Stops.{end_of_run};
+ghost use Rattle.kernel_steps.specs.Step.{boot_events, quietly, run};
+ghost use Rattle.machine_boot.specs.Boot.{HasGuestsAlone, boot};
+ghost use Rattle.trace_log.specs.Trails.{events_of};
+ghost use Rattle.trace_log.specs.Traced.{lines_of};
+ghost use Rattle.tripos_run.specs.Answer.{Answers, closed_answer, end_with_kernel, guests_answer, run_answer};
+ghost use Rattle.tripos_run.specs.Cause.{HasFaultCause};
+ghost use Rattle.tripos_run.specs.Input.{IsMachineEnd, IsTextEnd};
+ghost use Rattle.tripos_run.specs.TracedRun.{GivesLines, StopsAt};
 
 use crate::answer::status_after;
 use crate::commands::Command;
 use crate::ends::{status_of, write_end};
-use crate::messages::{gather_closing, write_no_boot};
+use crate::messages::write_no_boot;
 use crate::status::Status;
 use bare_machine::Stop;
 use bare_machine::boot::BootEnd;
@@ -12,7 +25,7 @@ use machine_boot::boot;
 use packet_queue::{EventLog, NoLog};
 use session_text::Session;
 use std::alloc::Global;
-use tp_io::{NoSink, Output, Sink, SinkFault, pass_on};
+use tp_io::{NoSink, Output, Sink, SinkFault};
 use trace_log::TraceLog;
 
 /// Boots a session of guests, and runs it.
@@ -21,7 +34,13 @@ pub(crate) fn answer_guests<K: Sink>(
     command: Command,
     session: &Session,
     out: &mut K,
-) -> Status {
+) -> Status
+    requires { HasGuestsAlone session.now }
+    ensures answer { Answers (guests_answer command session.now.go (boot session.now))
+        (K.holds out.old) (K.holds out.new) result }
+    ensures ends { IsTextEnd result }
+    ensures cause { HasFaultCause Status.WriteFault (K.faults out.old) (K.faults out.new) result }
+{
     match boot(alloc, session) {
         Ok(parts) => answer_machine(command, &mut Machine::from_parts(parts), session.go, out),
         Err(BootEnd::Line { line, code }) => {
@@ -31,12 +50,15 @@ pub(crate) fn answer_guests<K: Sink>(
     }
 }
 
-fn answer_machine<K: Sink>(
-    command: Command,
-    machine: &mut Machine,
-    go: u64,
-    out: &mut K,
-) -> Status {
+// Runs a machine that was booted just now.
+fn answer_machine<K: Sink>(command: Command, machine: &mut Machine, go: u64, out: &mut K) -> Status
+    requires { machine.old.kernel.steps + go ≤ most_steps }
+    ensures answer { Answers (run_answer command
+        (end_with_kernel (boot_events machine.old.kernel) (run go machine.old.kernel)))
+        (K.holds out.old) (K.holds out.new) result }
+    ensures ends { IsMachineEnd result }
+    ensures cause { HasFaultCause Status.WriteFault (K.faults out.old) (K.faults out.new) result }
+{
     match command {
         Command::Trace => trace_machine(machine, go, out),
         Command::Run | Command::Dump | Command::Asm | Command::Disasm => {
@@ -45,56 +67,110 @@ fn answer_machine<K: Sink>(
     }
 }
 
-// Runs the machine for so many steps; its events are kept nowhere.
-fn run_machine<K: Sink>(command: Command, machine: &mut Machine, go: u64, out: &mut K) -> Status {
+// Runs the machine for so many steps, and writes its console bytes; its events are kept nowhere.
+fn run_machine<K: Sink>(command: Command, machine: &mut Machine, go: u64, out: &mut K) -> Status
+    requires { machine.old.kernel.steps + go ≤ most_steps }
+    ensures answer { Answers (closed_answer command (run go machine.old.kernel).bytes
+        (end_with_kernel (boot_events machine.old.kernel) (run go machine.old.kernel)))
+        (K.holds out.old) (K.holds out.new) result }
+    ensures ends { IsMachineEnd result }
+    ensures cause { HasFaultCause Status.WriteFault (K.faults out.old) (K.faults out.new) result }
+{
     let mut pending = Output::new();
     match machine.run(go, out, &mut pending, &mut NoLog) {
-        Ok(stop) => {
-            let parts = machine.parts();
-            let end = write_end(command, parts.step, stop, &parts.store, out, &mut pending);
-            status_after(end, status_of(stop))
-        }
+        Ok(stop) => write_run_end(command, machine, stop, out, &mut pending),
         Err(SinkFault) => Status::WriteFault,
     }
 }
 
 // Runs the machine for so many steps, and writes its events; its console bytes are kept nowhere.
-fn trace_machine<K: Sink>(machine: &mut Machine, go: u64, out: &mut K) -> Status {
-    let mut log = TraceLog::new(out);
-    let stop = note_run(machine, go, &mut log);
-    match log.into_pending() {
-        Ok(mut pending) => write_closing(machine.parts().step, stop, out, &mut pending),
-        Err(SinkFault) => Status::WriteFault,
-    }
-}
-
-fn write_closing<K: Sink>(
-    steps: u64,
-    stop: Result<Stop, SinkFault>,
-    out: &mut K,
-    pending: &mut Output,
-) -> Status {
-    match stop {
-        Ok(stop) => {
-            let end = gather_and_pass(steps, stop, out, pending);
-            status_after(end, status_of(stop))
+fn trace_machine<K: Sink>(machine: &mut Machine, go: u64, out: &mut K) -> Status
+    requires { machine.old.kernel.steps + go ≤ most_steps }
+    ensures answer { Answers (run_answer Command.Trace
+        (end_with_kernel (boot_events machine.old.kernel) (run go machine.old.kernel)))
+        (K.holds out.old) (K.holds out.new) result }
+    ensures ends { IsMachineEnd result }
+    ensures cause { HasFaultCause Status.WriteFault (K.faults out.old) (K.faults out.new) result }
+{
+    match gather_events(machine, go, out) {
+        Ok((mut pending, stop)) => {
+            write_run_end(Command::Trace, machine, stop, out, &mut pending)
         }
         Err(SinkFault) => Status::WriteFault,
     }
 }
 
-fn gather_and_pass<K: Sink>(
-    steps: u64,
+// Runs the machine for so many steps, and gathers a line for each event. The last of them are given back, and why the machine
+// has stopped.
+fn gather_events<K: Sink>(
+    machine: &mut Machine,
+    go: u64,
+    out: &mut K,
+) -> Result<(Output, Stop), SinkFault>
+    requires { machine.old.kernel.steps + go ≤ most_steps }
+    ensures lines { GivesLines (K.holds out.old) (K.holds out.new)
+        (lines_of (boot_events machine.old.kernel ++ (run go machine.old.kernel).events)) result }
+    ensures end { IfOk result (λ given. StopsAt machine.new.kernel given.1
+        (run go machine.old.kernel).kernel) }
+    ensures cause { HasCause (K.faults out.old) (K.faults out.new) result }
+{
+    let mut log = TraceLog::new(out);
+    let stop = trace_run(machine, go, &mut log);
+    let pending = log.into_pending()?;
+    Ok((pending, stop?))
+}
+
+// Notes the events of the boot and of the run, and says besides that the log writes where it did: its marks are still there.
+fn trace_run<K: Sink>(
+    machine: &mut Machine,
+    go: u64,
+    log: &mut TraceLog<K>,
+) -> Result<Stop, SinkFault>
+    requires { machine.old.kernel.steps + go ≤ most_steps }
+    ensures same_reference { log.new.out.ghost_name ≡ log.old.out.ghost_name }
+    ensures same_first { K.holds log.new.first.value ≡ K.holds log.old.first.value }
+    ensures same_faults { K.faults log.new.first.value ≡ K.faults log.old.first.value }
+    ensures events { NotesAll (Some (events_of log.old.trail)) (Some (events_of log.new.trail))
+        log.old.failed log.new.failed
+        (boot_events machine.old.kernel ++ (run go machine.old.kernel).events) }
+    ensures end { MatchResult result (λ stop. StopsAt machine.new.kernel stop
+        (run go machine.old.kernel).kernel) (λ _. log.new.failed ≡ true) }
+{
+    note_run(machine, go, log)
+}
+
+// Notes the events of the boot, and then those of the run. `SinkFault` comes only where the log has failed.
+fn note_run<L: EventLog>(machine: &mut Machine, go: u64, log: &mut L) -> Result<Stop, SinkFault>
+    requires { machine.old.kernel.steps + go ≤ most_steps }
+    ensures events { NotesAll (L.noted log.old) (L.noted log.new) (L.has_failed log.old)
+        (L.has_failed log.new)
+        (boot_events machine.old.kernel ++ (run go machine.old.kernel).events) }
+    ensures end { MatchResult result (λ stop. StopsAt machine.new.kernel stop
+        (run go machine.old.kernel).kernel) (λ _. L.has_failed log.new ≡ true) }
+{
+    machine.note_boot(log);
+    if log.failed() {
+        return Err(SinkFault);
+    }
+    machine.run(go, &mut NoSink, &mut Output::new(), log)
+}
+
+// What is pending, and how the run ended.
+fn write_run_end<K: Sink>(
+    command: Command,
+    machine: &Machine,
     stop: Stop,
     out: &mut K,
     pending: &mut Output,
-) -> Result<(), SinkFault> {
-    gather_closing(steps, stop, out, pending)?;
-    pass_on(out, pending)
-}
-
-// Notes the events of the boot, and then those of the run.
-fn note_run<L: EventLog>(machine: &mut Machine, go: u64, log: &mut L) -> Result<Stop, SinkFault> {
-    machine.note_boot(log);
-    machine.run(go, &mut NoSink, &mut Output::new(), log)
+) -> Status
+    requires { stop ≡ end_of_run machine.now.kernel.stop }
+    ensures answer { Answers
+        (closed_answer command pending.old (end_with_kernel [] (quietly machine.now.kernel)))
+        (K.holds out.old) (K.holds out.new) result }
+    ensures ends { IsMachineEnd result }
+    ensures cause { HasFaultCause Status.WriteFault (K.faults out.old) (K.faults out.new) result }
+{
+    let parts = machine.parts();
+    let end = write_end(command, parts.step, stop, &parts.store, out, pending);
+    status_after(end, status_of(stop))
 }

@@ -37,7 +37,10 @@ pub fn answer_session_text<K: Sink>(
     match read_session(alloc, text) {
         Ok(session) => {
             if session.resident {
-                return status_after(write_refused(out, RESIDENT_LINE, NOT_SERVED), Status::Refused);
+                return status_after(
+                    write_refused(out, RESIDENT_LINE, NOT_SERVED),
+                    Status::Refused,
+                );
             }
             if session.bare {
                 answer_bare(alloc, command, &session, out)
