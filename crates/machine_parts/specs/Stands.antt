@@ -1,6 +1,5 @@
 -- The kernel for which the parts of a machine stand.
-use Rattle.std.specs.Prelude.{◌≡◌, ℕ, Bool, false, length, List, []}
-use Rattle.owned_words.specs.Owned.{owners}
+use Rattle.std.specs.Prelude.{◌≡◌, false, length}
 use Rattle.kernel_model.specs.ChangedStore.{HasKeeper}
 use Rattle.kernel_model.specs.Image.{HasPlainWords, IsImage}
 use Rattle.kernel_model.specs.Kernel.{Kernel}
