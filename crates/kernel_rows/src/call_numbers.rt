@@ -1,6 +1,4 @@
 // The numbers of the calls.
-pub(crate) const QUIT: u32 = 0;
-
 pub(crate) const GETVEC: u32 = 1;
 
 pub(crate) const FREEVEC: u32 = 2;
@@ -36,10 +34,6 @@ pub(crate) const CALLCO: u32 = 16;
 pub(crate) const RESUMECO: u32 = 17;
 
 pub(crate) const COWAIT: u32 = 18;
-
-pub(crate) const WRCH: u32 = 19;
-
-pub(crate) const MULDIV: u32 = 20;
 
 pub(crate) const ADDMODULE: u32 = 21;
 

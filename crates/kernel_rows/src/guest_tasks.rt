@@ -3,8 +3,8 @@ use crate::call_numbers::{
     CHANGEPRI, CREATECO, CREATETASK, DELETECO, DELETETASK, DQPKT, HOLD, QPKT, RELEASE, SETFLAGS,
     TASKWAIT, TESTFLAGS,
 };
-use crate::two_guests::{MODULE, two_guests};
-use crate::{Guests, Row, wrong_row};
+use crate::two_guests::two_guests;
+use crate::{Row, wrong_row};
 use Row::{Call, End, Put, Turn, Word};
 use std::test::Fail;
 
@@ -110,18 +110,5 @@ const DEATHS: &[Row] = &[
 fn a_dead_task_runs_with_its_next_packet(rt: HostRuntime) -> Result<(), Fail> {
     let mut guests = two_guests(rt.alloc(), 1).ok_or("guests")?;
     assert_eq!(rt; wrong_row(&mut guests, DEATHS), None);
-    Ok(())
-}
-
-#[test]
-fn there_are_sixteen_guests(rt: HostRuntime) -> Result<(), Fail> {
-    let mut guests = Guests::new(rt.alloc(), 32768, 1, 10).ok().ok_or("kernel")?;
-    let module = guests.load(MODULE).ok().ok_or("module")?;
-    for priority in 1..17 {
-        guests.create(module, 20, priority).ok().ok_or("guest")?;
-    }
-    guests.begin(5);
-    let rows = [Turn(5, 0), Call(CREATETASK, [module, 20, 300], 0, 10)];
-    assert_eq!(rt; wrong_row(&mut guests, &rows), None);
     Ok(())
 }

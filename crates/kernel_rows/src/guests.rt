@@ -10,7 +10,6 @@ use crate::conditions::{NO_REGS, can_dispatch, has_caller, is_within, running_id
 use crate::endings::end_caller;
 use crate::plain_words::set_plain;
 use call_answers::guest;
-use clock_device::tick;
 use coroutine_calls::ended;
 use hunk_text::SliceText;
 use kernel_boot::{begin_task, make_kernel, make_resident_kernel};
@@ -20,7 +19,6 @@ use module_calls::load_module;
 use packet_queue::{KernelEvent, ListLog};
 use std::alloc::Global;
 use std::marker::Model;
-use task_block::{RootField, root};
 use task_calls::create_task;
 use tp_io::{Output, WantMemory};
 use word_kinds::Walk;
@@ -152,17 +150,6 @@ impl Guests {
         true
     }
 
-    /// Lets a tick of the clock pass. The answer is false where the ticks have come to their highest number.
-    pub fn tick(&mut self) -> bool
-        ensures { IsFalse result → self.new ≡ self.old }
-    {
-        if root(&self.store, RootField::Tick) == u32::MAX {
-            return false;
-        }
-        tick(&mut self.store, &mut self.log);
-        true
-    }
-
     /// Lets the running guest's function return: that of its coroutine, whose parent goes on with what A holds, or else its
     /// first one, and then it is dead. The answer is false where no guest runs.
     pub fn end(&mut self) -> bool
@@ -224,11 +211,6 @@ impl Guests {
     /// The registers.
     pub fn regs(&self) -> Regs {
         self.regs
-    }
-
-    /// The bytes that the last call wrote to the console.
-    pub fn output(&self) -> &[u8] {
-        self.output.bytes()
     }
 
     /// The events so far.

@@ -2,10 +2,6 @@
 #![tactic(auto)]
 
 #[cfg(test)]
-mod answers;
-#[cfg(test)]
-mod boots;
-#[cfg(test)]
 mod call_numbers;
 mod conditions;
 #[cfg(test)]
@@ -24,8 +20,6 @@ mod residents;
 pub mod rows;
 #[cfg(test)]
 mod two_guests;
-#[cfg(test)]
-mod typed;
 
 pub use guests::Guests;
 pub use rows::{Row, wrong_row};

@@ -2,7 +2,7 @@
 use crate::call_numbers::{DQPKT, FREEVEC, GETVEC, QPKT, TASKWAIT};
 use crate::two_guests::two_guests;
 use crate::{Row, wrong_row};
-use Row::{Call, Put, Tick, Turn, Word};
+use Row::{Call, Put, Turn, Word};
 use packet_queue::KernelEvent;
 use std::test::Fail;
 
@@ -57,41 +57,6 @@ const PLACES: &[Row] = &[
 fn packets_lie_in_one_used_block(rt: HostRuntime) -> Result<(), Fail> {
     let mut guests = two_guests(rt.alloc(), 1).ok_or("guests")?;
     assert_eq!(rt; wrong_row(&mut guests, PLACES), None);
-    Ok(())
-}
-
-// Task 6 waits, and runs as soon as task 5 has sent it a packet.
-const TURNS: &[Row] = &[
-    Turn(6, 0),
-    Call(TASKWAIT, [0, 0, 0], 0, 0),
-    Turn(5, 0),
-    Put(1259, MINUS_ONE),
-    Put(1260, 6),
-    Call(QPKT, [1259, 0, 0], MINUS_ONE, 0),
-    Turn(6, 1259),
-];
-
-#[test]
-fn a_packet_wakes_a_task_of_higher_priority(rt: HostRuntime) -> Result<(), Fail> {
-    let mut guests = two_guests(rt.alloc(), 1).ok_or("guests")?;
-    guests.begin(6);
-    assert_eq!(rt; wrong_row(&mut guests, TURNS), None);
-    let events = [
-        KernelEvent::Runs { task: 6 },
-        KernelEvent::Runs { task: 5 },
-        KernelEvent::Accepted {
-            queue: 6,
-            packet: 1259,
-            sender: 5,
-        },
-        KernelEvent::Taken {
-            queue: 6,
-            packet: 1259,
-            sender: 5,
-        },
-        KernelEvent::Runs { task: 6 },
-    ];
-    assert!(rt; guests.events() == events.as_slice());
     Ok(())
 }
 
@@ -161,45 +126,5 @@ fn a_packet_is_taken_back_from_each_queue(rt: HostRuntime) -> Result<(), Fail> {
         packet: 1265,
     };
     assert!(rt; guests.events().last() == Some(&last));
-    Ok(())
-}
-
-// At tick 3 two packets are sent to the clock with a delay of 2, and then one with a delay of 1. Task 5 is at 225.
-const TICKS: &[Row] = &[
-    Turn(5, 0),
-    Tick,
-    Tick,
-    Tick,
-    Word(108, 3),
-    Put(1259, MINUS_ONE),
-    Put(1260, MINUS_ONE),
-    Put(1264, 2),
-    Call(QPKT, [1259, 0, 0], MINUS_ONE, 0),
-    Put(1265, MINUS_ONE),
-    Put(1266, MINUS_ONE),
-    Put(1270, 2),
-    Call(QPKT, [1265, 0, 0], MINUS_ONE, 0),
-    Put(1271, MINUS_ONE),
-    Put(1272, MINUS_ONE),
-    Put(1276, 1),
-    Call(QPKT, [1271, 0, 0], MINUS_ONE, 0),
-    Tick,
-    Word(105, 1259),
-    Word(228, 1271),
-    Word(1272, MINUS_ONE),
-    Tick,
-    Word(105, 0),
-    Word(1271, 1259),
-    Word(1259, 1265),
-    Word(1265, 0),
-    Call(DQPKT, [MINUS_ONE, 1259, 0], 5, 0),
-    Call(TASKWAIT, [0, 0, 0], 1271, 0),
-    Call(TASKWAIT, [0, 0, 0], 1265, 0),
-];
-
-#[test]
-fn packets_come_back_from_the_clock_when_they_are_due(rt: HostRuntime) -> Result<(), Fail> {
-    let mut guests = two_guests(rt.alloc(), 1).ok_or("guests")?;
-    assert_eq!(rt; wrong_row(&mut guests, TICKS), None);
     Ok(())
 }

@@ -12,8 +12,6 @@ pub enum Row {
     Word(u32, u32),
     /// The running guest's function returns.
     End,
-    /// A tick of the clock passes.
-    Tick,
     /// After a dispatch the task with the number runs, or nobody for 0, and A is this.
     Turn(u32, u32),
 }
@@ -34,7 +32,6 @@ fn comes_out(guests: &mut Guests, row: Row) -> bool {
         Row::Put(a, w) => guests.set(a, w),
         Row::Word(a, w) => guests.word(a) == w,
         Row::End => guests.end(),
-        Row::Tick => guests.tick(),
         Row::Turn(id, a) => guests.dispatch() && guests.running() == id && guests.regs().a == a,
     }
 }
