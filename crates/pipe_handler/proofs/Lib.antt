@@ -1,0 +1,5 @@
+pub mod KeptPipes
+pub mod SlotPipes
+pub mod Calls
+pub mod AfterRequests
+pub mod Histories

@@ -1,0 +1,4 @@
+pub mod Ends
+pub mod PipeCalls
+pub mod Histories
+pub mod Slots
