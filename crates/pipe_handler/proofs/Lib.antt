@@ -3,3 +3,4 @@ pub mod SlotPipes
 pub mod Calls
 pub mod AfterRequests
 pub mod Histories
+pub mod PipeTurns
