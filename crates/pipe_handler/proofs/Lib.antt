@@ -4,3 +4,4 @@ pub mod Calls
 pub mod AfterRequests
 pub mod Histories
 pub mod PipeTurns
+pub mod KeptTurns
