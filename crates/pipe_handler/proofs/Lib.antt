@@ -1,6 +1,6 @@
 pub mod KeptPipes
 pub mod SlotPipes
-pub mod Calls
+pub mod SlotCalls
 pub mod AfterRequests
 pub mod Histories
 pub mod PipeTurns

@@ -1,5 +1,5 @@
 use Rattle.std.proofs.Common.{◌∙◌, false, true, sym}
-use Rattle.pipe_handler.proofs.Calls.{restore-taken, restore-tests, restore-there}
+use Rattle.pipe_handler.proofs.SlotCalls.{restore-taken, restore-tests, restore-there}
 use Rattle.pipe_handler.proofs.places.can_restore.Goals as goal
 
 pub returns-then-not-is_free : goal.returns-then-not-is_free

@@ -2,7 +2,7 @@ use Rattle.std.proofs.Common.{◌≡◌, set, sym, ap, subst, refl}
 use Rattle.pipe_handler.specs.Ends.{names_writer}
 use Rattle.pipe_handler.specs.PipeCalls.{Outcome, after_close}
 use Rattle.pipe_handler.specs.Slots.{IsPlaceOf, pipes_in}
-use Rattle.pipe_handler.proofs.Calls.{close-done, close-slots}
+use Rattle.pipe_handler.proofs.SlotCalls.{close-done, close-slots}
 use Rattle.pipe_handler.proofs.pipes.Pipes.close.Goals as goal
 
 pub invariant_of-self : goal.invariant_of-self

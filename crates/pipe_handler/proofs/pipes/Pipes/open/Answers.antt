@@ -1,7 +1,7 @@
 use Rattle.std.proofs.Common.{◌≡◌, ◌≤◌, ◌∙◌, Ok, Err, Result, ℕ, eqb, set, sym, ap, subst, arith}
 use Rattle.pipe_handler.specs.PipeCalls.{Outcome, after_open}
 use Rattle.pipe_handler.specs.Slots.{pipes_in}
-use Rattle.pipe_handler.proofs.Calls.{found-inside, open-done, open-found, open-pipes, open-slots, open-there, open-used}
+use Rattle.pipe_handler.proofs.SlotCalls.{found-inside, open-done, open-found, open-pipes, open-slots, open-there, open-used}
 use Rattle.pipe_handler.proofs.SlotPipes.{ring-at}
 use Rattle.pipe_handler.proofs.pipes.Pipes.open.Goals as goal
 

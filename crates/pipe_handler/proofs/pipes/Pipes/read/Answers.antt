@@ -1,7 +1,7 @@
 use Rattle.std.proofs.Common.{◌≡◌, false, length, set, sym, ap, subst, ◌∙◌}
 use Rattle.pipe_handler.specs.PipeCalls.{Outcome, after_read}
 use Rattle.pipe_handler.specs.Slots.{IsPlaceOf, pipes_in}
-use Rattle.pipe_handler.proofs.Calls.{read-done, read-kept}
+use Rattle.pipe_handler.proofs.SlotCalls.{read-done, read-kept}
 use Rattle.pipe_handler.proofs.pipes.Pipes.read.Goals as goal
 
 pub invariant_of-self : goal.invariant_of-self

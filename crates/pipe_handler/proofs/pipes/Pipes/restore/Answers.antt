@@ -1,7 +1,7 @@
 use Rattle.std.proofs.Common.{◌≡◌, ◌-◌, ◌∙◌, set, sym, ap, subst}
 use Rattle.pipe_handler.specs.PipeCalls.{after_restore, can_restore}
 use Rattle.pipe_handler.specs.Slots.{pipes_in}
-use Rattle.pipe_handler.proofs.Calls.{restore-done, restore-slots}
+use Rattle.pipe_handler.proofs.SlotCalls.{restore-done, restore-slots}
 use Rattle.pipe_handler.proofs.pipes.Pipes.restore.Goals as goal
 
 pub invariant_of-self : goal.invariant_of-self

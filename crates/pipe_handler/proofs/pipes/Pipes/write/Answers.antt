@@ -1,7 +1,7 @@
 use Rattle.std.proofs.Common.{◌≡◌, true, set, sym, ap, subst, ◌∙◌}
 use Rattle.pipe_handler.specs.PipeCalls.{Outcome, after_write}
 use Rattle.pipe_handler.specs.Slots.{IsPlaceOf, pipes_in}
-use Rattle.pipe_handler.proofs.Calls.{write-done, write-kept}
+use Rattle.pipe_handler.proofs.SlotCalls.{write-done, write-kept}
 use Rattle.pipe_handler.proofs.pipes.Pipes.write.Goals as goal
 
 pub invariant_of-self : goal.invariant_of-self
