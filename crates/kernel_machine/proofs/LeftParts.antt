@@ -11,8 +11,8 @@ use Rattle.kernel_calls.specs.Calls.{Outside}
 use Rattle.machine_parts.specs.declared.parts.Parts.{Parts}
 use Rattle.machine_parts.specs.Stands.{Stands}
 use Rattle.kernel_steps.specs.Step.{Stepped, and_then, quietly, with_store}
+use Rattle.kernel_steps.proofs.StoredWords.{image-stored, plain-stored}
 use Rattle.kernel_machine.specs.Leaves.{Leaves}
-use Rattle.kernel_machine.proofs.StoreKernels.{store-image, store-plain}
 
 -- nothing was done
 pub leaves-none : (p : Parts) (o : Outside) (k : Kernel) → Stands p k → Leaves p o o (quietly k)
@@ -36,8 +36,8 @@ module _ (p : Parts) (k : Kernel) (st : Stands p k) where
       → regs ≡ r → SameMachine k.lists l → Stands (record p { store = t; regs = regs; kinds = marks }) (record (with_store (written plain s) l k) { regs = r; stop = stop })
   stands-changed s t marks regs l plain r stop size c knows room e same =
       let own = c.lists.valid.owns in
-      let image = store-image l k st.full own s t plain c.lists.size c.written in
-      let words = store-plain l k st.full own (written plain s) in
+      let image = image-stored s t l k plain st.full c.lists.size c.written in
+      let words = plain-stored (written plain s) l k st.full own in
       record {
         full = st.full;
         keeper = record { lists = c.lists; knows = knows; enough = omega (arith, c.size, size, room, st.keeper.enough) };

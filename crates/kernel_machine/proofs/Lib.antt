@@ -1,4 +1,3 @@
-pub mod StoreKernels
 pub mod OneMachine
 pub mod LeftParts
 pub mod ServedParts

@@ -15,8 +15,8 @@ use Rattle.machine_parts.specs.declared.parts.Parts.{Parts}
 use Rattle.machine_parts.specs.Stands.{Stands}
 use Rattle.machine_parts.specs.Stops.{stop_of}
 use Rattle.kernel_steps.specs.Step.{with_store}
+use Rattle.kernel_steps.proofs.StoredWords.{image-stored, plain-stored}
 use Rattle.kernel_machine.specs.Machine.{IsWhole, kernel_of, kernel_stop, stop_in}
-use Rattle.kernel_machine.proofs.StoreKernels.{store-image, store-plain}
 
 -- the plain words are those of the store that nobody owns
 module _ (s : List ℕ) (k j : Kernel) (p : HasPlainWords k) (q : HasPlainWords j) (is : IsImage s k) (js : IsImage s j) (words : owned_by k ≡ owned_by j) where
@@ -45,8 +45,8 @@ module _ (p : Parts) (k : Kernel) (st : Stands p k) where
   plain-one =
       let h = st.keeper.lists in
       let words : Kernel = with_store p.store k.lists k in
-      same-plain p.store k words st.plain (store-plain k.lists k st.full h.valid.owns p.store) st.image
-      (store-image k.lists k st.full h.valid.owns p.store p.store [] h.size (record { holds = h.holds; others = λ a none. refl })) refl
+      same-plain p.store k words st.plain (plain-stored p.store k.lists k st.full h.valid.owns) st.image
+      (image-stored p.store p.store k.lists k [] st.full h.size (record { holds = h.holds; others = λ a none. refl })) refl
 
   pub one-machine : (stop : Option Stop) → k.stop ≡ stop_in stop → kernel_of p stop ≡ k
   unfolding kernel_of

@@ -4,14 +4,15 @@ use Rattle.std.specs.Prelude.{is_some}
 use Rattle.std.proofs.lemmas.Bool.{cases_lt}
 use Rattle.std.proofs.lemmas.List.{ext_get_or}
 use Rattle.std.proofs.lemmas.List.FromFn.{get_or-map-range_with_len, length-map-range_with_len}
-use Rattle.owned_words.specs.Owned.{Holds, Pairs, owners, word_in}
+use Rattle.owned_words.specs.Owned.{Holds, Pairs, owners, word_in, written}
+use Rattle.owned_words.specs.Written.{IsWritten}
 use Rattle.owned_words.proofs.OwnedWords.{word_in-none}
 use Rattle.kernel_model.specs.ChangedStore.{IsChanged}
 use Rattle.kernel_model.specs.HoldsLists.{HoldsLists}
 use Rattle.kernel_model.specs.Image.{HasPlainWords, IsImage, image, plain_at, plain_words, settled}
 use Rattle.kernel_model.specs.Kernel.{Kernel, owned_by}
 use Rattle.kernel_model.specs.Lists.{Lists}
-use Rattle.kernel_model.specs.Owned.{owned}
+use Rattle.kernel_model.specs.Owned.{OwnsApart, owned}
 use Rattle.kernel_model.specs.ValidKernel.{IsFullMachine, IsMachine}
 use Rattle.kernel_model.specs.ValidLists.{AreValid}
 use Rattle.kernel_model.proofs.ImageWords.{image-list, valid-image}
@@ -71,26 +72,34 @@ module _ (s : List ℕ) (l : Lists) where
   word-owned a low some = word-there a low ∙ ap (λ b. cond b None (Some (get_or s a 0))) (word_in-some a (owned l) some)
 
   -- the kernel that takes all its plain words from a store
-  pub stored : (k : Kernel) → k.bare ≡ false → HoldsLists s l → HasStore s (with_store s l k)
-  stored k full h =
-      let own : owned_by (with_store s l k) ≡ owned l = owned-full (with_store s l k) full in
-      let all : (a : ℕ) → owners a (owned_by (with_store s l k)) ≡ owners a (owned l) = λ a. ap (owners a) own in
+  pub plain-stored : (k : Kernel) → k.bare ≡ false → OwnsApart l → HasPlainWords (with_store s l k)
+  plain-stored k full own =
+      let all : (a : ℕ) → owners a (owned_by (with_store s l k)) ≡ owners a (owned l) = λ a. ap (owners a) (owned-full (with_store s l k) full) in
       record {
-        full = full;
-        valid = h.valid;
-        image =
-            record {
-              size = h.size;
-              holds = subst (Holds s) (sym own) h.holds;
-              plain = λ a low none. word-unowned a (omega (arith, low, h.size)) (sym (all a) ∙ none);
-            };
-        plain =
-            record {
-              size = words-length;
-              plain = λ a low none. (get_or s a 0, word-unowned a low (sym (all a) ∙ none));
-              owned = λ a some. (let here : 0 < owners a (owned l) = omega (arith, some, all a) in word-owned a (h.valid.owns.inside a here) here);
-            };
+        size = words-length;
+        plain = λ a low none. (get_or s a 0, word-unowned a low (sym (all a) ∙ none));
+        owned = λ a some. (let here : 0 < owners a (owned l) = omega (arith, some, all a) in word-owned a (own.inside a here) here);
       }
+
+-- the store t stands for it, where of the words that nobody owns these plain ones were written
+pub image-stored : (s t : List ℕ) (l : Lists) (k : Kernel) (plain : Pairs) → k.bare ≡ false → length t ≡ l.size → IsWritten s t (owned l) plain → IsImage t (with_store (written plain s) l k)
+image-stored s t l k plain full size w =
+    let own : owned_by (with_store (written plain s) l k) ≡ owned l = owned-full (with_store (written plain s) l k) full in
+    record {
+      size = size;
+      holds = subst (Holds t) (sym own) w.holds;
+      plain = λ a low none.
+          let free : owners a (owned l) ≡ 0 = sym (ap (owners a) own) ∙ none in
+          word-unowned (written plain s) l a (omega (arith, low, size)) free ∙ ap (λ z. Some z) (sym (w.others a free));
+    }
+
+pub stored : (s : List ℕ) (l : Lists) (k : Kernel) → k.bare ≡ false → HoldsLists s l → HasStore s (with_store s l k)
+stored s l k full h = record {
+  full = full;
+  valid = h.valid;
+  image = image-stored s s l k [] full h.size (record { holds = h.holds; others = λ a none. refl });
+  plain = plain-stored s l k full h.valid.owns;
+}
 
 -- lists that own the same words leave the same plain ones
 pub same-plain : (s : List ℕ) (k : Kernel) (l : Lists) → HasStore s k → l.size ≡ k.lists.size → ((a : ℕ) → owners a (owned l) ≡ owners a (owned k.lists)) → plain_words s l ≡ k.plain
