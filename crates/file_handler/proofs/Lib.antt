@@ -1,0 +1,3 @@
+mod NamedFiles
+mod HandledCalls
+mod FileTurns

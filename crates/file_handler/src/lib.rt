@@ -1,0 +1,11 @@
+// The file handler: requests for files on a disc.
+#![tactic(auto)]
+
+pub mod calls;
+mod files;
+mod pieces;
+mod streams;
+pub mod turns;
+
+pub use calls::FileCall;
+pub use turns::file_turn;
