@@ -3,8 +3,8 @@ ghost use Rattle.std.specs.Prelude.{◌≡◌};
 ghost use Rattle.file_handler.specs.FileCalls.{file_call};
 
 /// What a request asks of the file handler.
-#[derive(Clone, Copy, Debug, PartialEq, Eq)]
-pub enum FileCall {
+#[derive(Clone, Copy)]
+pub(crate) enum FileCall {
     /// Type 10: the file is opened to read.
     OpenToRead,
     /// Type 11: the file is opened to write, and emptied.

@@ -1,11 +1,10 @@
 // The file handler: requests for files on a disc.
 #![tactic(auto)]
 
-pub mod calls;
+mod calls;
 mod files;
 mod pieces;
 mod streams;
 pub mod turns;
 
-pub use calls::FileCall;
 pub use turns::file_turn;

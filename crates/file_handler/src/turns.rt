@@ -4,7 +4,7 @@ ghost use Rattle.kernel_model.specs.ChangedStore.{HasKeeper};
 ghost use Rattle.kernel_model.specs.Lists.{Lists};
 ghost use Rattle.kernel_calls.specs.Calls.{outside};
 ghost use Rattle.resident_requests.specs.Turns.{IsResidentTurn};
-ghost use Rattle.file_handler.specs.FileRequests.{call_handled, file_request, handled};
+ghost use Rattle.file_handler.specs.FileRequests.{file_request, handled};
 ghost use Rattle.file_handler.specs.FileTurn.{RunsFileHandler, disc_after_turn, file_turn};
 
 use crate::calls::{FileCall, file_call};
