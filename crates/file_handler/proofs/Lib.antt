@@ -1,3 +1,4 @@
 mod NamedFiles
 mod HandledCalls
 mod FileTurns
+mod EndedRequests

@@ -3,6 +3,7 @@
 
 mod calls;
 mod files;
+pub mod laws;
 mod pieces;
 mod streams;
 pub mod turns;
