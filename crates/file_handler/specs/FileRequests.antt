@@ -34,7 +34,7 @@ unless_refused d (test ∷ tests) m = if test.0 then unless_refused d tests m el
 abbrev pub by_call : Outcome ℕ → Handled
 by_call o = handled o.disc o.answer []
 
--- the answer where a call that has none is accepted
+-- and what a call makes of it that answers nothing: where it is accepted, this is the answer
 abbrev pub answer_with : ℕ → Result (Unit {0}) ℕ → Result ℕ ℕ
 answer_with n (Ok u) = Ok n
 answer_with n (Err code) = Err code

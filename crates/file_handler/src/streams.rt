@@ -5,7 +5,7 @@ ghost use Rattle.kernel_model.specs.ChangedStore.{HasKeeper};
 ghost use Rattle.kernel_model.specs.Lists.{Lists};
 ghost use Rattle.ram_disc.specs.Disc.{stream_at};
 ghost use Rattle.ram_disc.specs.DiscCalls.{after_read_on, bytes_read, is_reader, is_writer};
-ghost use Rattle.file_handler.specs.FileRequests.{append, by_call, close, handled, handler_stream, read_on};
+ghost use Rattle.file_handler.specs.FileRequests.{append, close, handled, handler_stream, read_on};
 
 use crate::pieces::put_zeros;
 use arrayvec::ArrayVec;
