@@ -1,13 +1,15 @@
 -- Runs, a step at a time.
-use Rattle.std.proofs.Common.{◌≡◌, ◌∙◌, ℕ, zero, suc, ◌<◌, ◌≤◌, ◌+◌, ◌-◌, Option, Some, None, List, [], ◌++◌, refl, sym, ap, arith, append_assoc, append-nil, add_assoc, add-zero, zero-add}
+use Rattle.std.proofs.Common.{◌≡◌, ◌∙◌, ℕ, zero, suc, ◌<◌, ◌≤◌, ◌+◌, ◌-◌, Option, Some, None, List, [], ◌++◌, refl, sym, ap, subst, arith, append_assoc, append-nil, add_assoc, add-zero, zero-add}
 use Rattle.std.specs.Option.{option_to_list}
 use Rattle.word_store.specs.declared.registers.Regs.{Regs}
+use Rattle.cint_exec.specs.declared.Outcome.{Outcome}
+use Rattle.cint_exec.specs.declared.Outcome.TheVariants.{Next, Sys, Returned, Fault as Faulted}
 use Rattle.bare_machine.specs.declared.stops.Stop.{Stop}
 use Rattle.bare_machine.specs.declared.stops.Stop.TheVariants.{Steps}
 use Rattle.bare_machine.specs.declared.bare.Step.{Step}
-use Rattle.bare_machine.specs.Bare.{AfterStep, step}
+use Rattle.bare_machine.specs.Bare.{AfterStep, after_instruction, step}
 use Rattle.bare_machine.specs.Step.{IsStep}
-use Rattle.bare_machine.specs.Run.{IsRunEnd, Run, after_step, after_steps, run, run_end, unless_stopped}
+use Rattle.bare_machine.specs.Run.{HasPassed, IsRunEnd, Run, after_step, after_steps, run, run_end, unless_stopped}
 
 run-zero : (words : List ℕ) (r : Regs) → run 0 words r ≡ run_end words r Steps
 unfolding run
@@ -36,6 +38,10 @@ run-bytes x k bytes words r t e = ap (λ (y : Run). y.bytes) e ∙ append-nil by
 pub record IsUnderWay (x : Run) (n i : ℕ) (bytes words : List ℕ) (r : Regs) : Type 0 where
   pub so_far : x ≡ after_steps i bytes (run (n - i) words r)
 
+-- i steps are taken, and the next one has begun, which comes to this
+pub record IsBegun (x : Run) (n i : ℕ) (bytes : List ℕ) (s : AfterStep) : Type 0 where
+  pub so_far : x ≡ after_steps i bytes (after_step (run (n - (i + 1))) s)
+
 -- no steps are taken yet
 pub IsUnderWay-first : (n : ℕ) (words : List ℕ) (r : Regs) → IsUnderWay (run n words r) n 0 [] words r
 IsUnderWay-first n words r = let all : n - 0 ≡ n = omega arith in record { so_far = rw (all, zero-add (run n words r).steps) refl }
@@ -48,31 +54,81 @@ module _ {x : Run} {n i : ℕ} {bytes words : List ℕ} {r : Regs} (u : IsUnderW
       let all : i ≡ n = omega arith in
       u.so_far ∙ ap (λ k. after_steps i bytes (run k words r)) none ∙ ap (after_steps i bytes) (run-zero words r) ∙ ap (λ (k : ℕ). after_steps k bytes (run_end words r Steps)) all
 
-  -- one more step, which is this one
-  module _ (lt : i < n) {s : AfterStep} (e : step words r ≡ s) where
-    run-one_more : x ≡ after_steps (i + 1) (bytes ++ option_to_list s.byte) (unless_stopped (run (n - (i + 1))) s s.stop)
-    run-one_more =
-        u.so_far ∙ ap (after_steps i bytes) (run-suc n i words r lt ∙ ap (after_step (run (n - (i + 1)))) e)
-        ∙ after_steps-after_steps i 1 bytes (option_to_list s.byte) (unless_stopped (run (n - (i + 1))) s s.stop)
+  -- the next one begins, and comes to this
+  pub run-begins : i < n → {s : AfterStep} → step words r ≡ s → IsBegun x n i bytes s
+  run-begins lt {s} e = record { so_far = u.so_far ∙ ap (after_steps i bytes) (run-suc n i words r lt ∙ ap (after_step (run (n - (i + 1)))) e) }
 
-    -- an instruction alone
-    pub run-next : (words' : List ℕ) (r' : Regs) → s ≡ record { words = words'; regs = r'; byte = None; stop = None } → IsUnderWay x n (i + 1) bytes words' r'
-    run-next words' r' next = record { so_far = run-one_more ∙ rw (next, append-nil bytes) refl }
+-- one more step, which is this one
+module _ {x : Run} {n i : ℕ} {bytes : List ℕ} {s : AfterStep} (begun : IsBegun x n i bytes s) where
+  run-one_more : x ≡ after_steps (i + 1) (bytes ++ option_to_list s.byte) (unless_stopped (run (n - (i + 1))) s s.stop)
+  run-one_more = begun.so_far ∙ after_steps-after_steps i 1 bytes (option_to_list s.byte) (unless_stopped (run (n - (i + 1))) s s.stop)
 
-    module _ {words' : List ℕ} {r' : Regs} {t : Step} (is : IsStep s words' r' t) where
-      -- after which the machine goes on
-      pub run-more : t.stop ≡ None → IsUnderWay x n (i + 1) (bytes ++ option_to_list t.byte) words' r'
-      run-more none = record { so_far = run-one_more ∙ rw (← is.byte_is, ← is.words_are, ← is.regs_are, ← is.stop_is, none) refl }
+  -- an instruction alone
+  pub run-next : (words' : List ℕ) (r' : Regs) → s ≡ record { words = words'; regs = r'; byte = None; stop = None } → IsUnderWay x n (i + 1) bytes words' r'
+  run-next words' r' next = record { so_far = run-one_more ∙ rw (next, append-nil bytes) refl }
 
-      -- after which it has stopped
-      pub run-stops : (stop : Stop) → t.stop ≡ Some stop → x ≡ after_steps (i + 1) (bytes ++ option_to_list t.byte) (run_end words' r' stop)
-      run-stops stop some = run-one_more ∙ rw (← is.byte_is, ← is.words_are, ← is.regs_are, ← is.stop_is, some) refl
+  module _ {words' : List ℕ} {r' : Regs} {t : Step} (is : IsStep s words' r' t) where
+    -- after which the machine goes on
+    pub run-more : t.stop ≡ None → IsUnderWay x n (i + 1) (bytes ++ option_to_list t.byte) words' r'
+    run-more none = record { so_far = run-one_more ∙ rw (← is.byte_is, ← is.words_are, ← is.regs_are, ← is.stop_is, none) refl }
 
-      -- its byte is one of the run's
-      pub run-prefix : (rest : List ℕ) × (x.bytes ≡ bytes ++ (option_to_list t.byte ++ rest))
-      run-prefix =
-          let others = (unless_stopped (run (n - (i + 1))) s s.stop).bytes in
-          (others, ap (λ (y : Run). y.bytes) run-one_more ∙ append_assoc bytes (option_to_list s.byte) others ∙ ap (λ b. bytes ++ (option_to_list b ++ others)) (sym is.byte_is))
+    -- after which it has stopped
+    pub run-stops : (stop : Stop) → t.stop ≡ Some stop → x ≡ after_steps (i + 1) (bytes ++ option_to_list t.byte) (run_end words' r' stop)
+    run-stops stop some = run-one_more ∙ rw (← is.byte_is, ← is.words_are, ← is.regs_are, ← is.stop_is, some) refl
+
+    -- its byte is one of the run's
+    pub run-prefix : (rest : List ℕ) × (x.bytes ≡ bytes ++ (option_to_list t.byte ++ rest))
+    run-prefix =
+        let others = (unless_stopped (run (n - (i + 1))) s s.stop).bytes in
+        (others, ap (λ (y : Run). y.bytes) run-one_more ∙ append_assoc bytes (option_to_list s.byte) others ∙ ap (λ b. bytes ++ (option_to_list b ++ others)) (sym is.byte_is))
+
+-- ---- steps that are an instruction alone
+
+-- what is known of them, by the outcome behind them
+pub passed-as : (o : Outcome) (n : ℕ) (words : List ℕ) (r : Regs) (words' : List ℕ) (r' : Regs) (taken : ℕ) → (o ≡ Next → ⊥) → taken < n
+    → IsBegun (run n words r) n taken [] (after_instruction words' r' o) → HasPassed n words r words' r' taken o
+passed-as Next n words r words' r' taken other few e = absurd (other refl)
+passed-as Sys n words r words' r' taken other few e = (few, e.so_far)
+passed-as Returned n words r words' r' taken other few e = (few, e.so_far)
+passed-as (Faulted f) n words r words' r' taken other few e = (few, e.so_far)
+
+passed-of : (o : Outcome) (n : ℕ) (words : List ℕ) (r : Regs) (words' : List ℕ) (r' : Regs) (taken : ℕ) → (o ≡ Next → ⊥) → HasPassed n words r words' r' taken o
+    → (taken < n) × (run n words r ≡ after_steps taken [] (after_step (run (n - (taken + 1))) (after_instruction words' r' o)))
+passed-of Next n words r words' r' taken other h = absurd (other refl)
+passed-of Sys n words r words' r' taken other h = h
+passed-of Returned n words r words' r' taken other h = h
+passed-of (Faulted f) n words r words' r' taken other h = h
+
+module _ {x : Run} {n i : ℕ} {bytes words : List ℕ} {r : Regs} (u : IsUnderWay x n i bytes words r) (few : i ≤ n) (words' : List ℕ) (r' : Regs) (taken : ℕ) where
+  -- all were taken
+  pub run-passed : (o : Outcome) → o ≡ Next → HasPassed (n - i) words r words' r' taken o → (i + taken ≡ n) × IsUnderWay x n (i + taken) bytes words' r'
+  run-passed o next is =
+      let h : HasPassed (n - i) words r words' r' taken Next = subst (HasPassed (n - i) words r words' r' taken) next is in
+      let all : i + taken ≡ n = omega (arith, h.0, few) in
+      let none : n - (i + taken) ≡ 0 = omega (arith, all) in
+      let same : n - i ≡ taken = sym h.0 in (
+        all,
+        record {
+          so_far =
+              u.so_far ∙ ap (after_steps i bytes) (h.1 ∙ ap (λ k. after_steps k [] (run_end words' r' Steps)) same) ∙ after_steps-after_steps i taken bytes [] (run_end words' r' Steps)
+              ∙ ap (λ b. after_steps (i + taken) b (run_end words' r' Steps)) (append-nil bytes)
+              ∙ ap (after_steps (i + taken) bytes) (sym (run-zero words' r') ∙ ap (λ k. run k words' r') (sym none));
+        },
+      )
+
+  -- and another one has begun
+  pub run-begun : (o : Outcome) → (o ≡ Next → ⊥) → HasPassed (n - i) words r words' r' taken o
+      → (i + taken < n) × IsBegun x n (i + taken) bytes (after_instruction words' r' o)
+  run-begun o other h =
+      let p = passed-of o (n - i) words r words' r' taken other h in
+      let rest : n - i - (taken + 1) ≡ n - (i + taken + 1) = omega arith in (
+        omega (arith, p.0),
+        record {
+          so_far =
+              u.so_far ∙ ap (after_steps i bytes) p.1 ∙ after_steps-after_steps i taken bytes [] (after_step (run (n - i - (taken + 1))) (after_instruction words' r' o))
+              ∙ (λ j. after_steps (i + taken) (append-nil bytes j) (after_step (run (rest j)) (after_instruction words' r' o)));
+        },
+      )
 
 unless_stopped-steps_le : (n : ℕ) (go_on : List ℕ → Regs → Run) (s : AfterStep) (o : Option Stop) → ((words : List ℕ) (r : Regs) → (go_on words r).steps ≤ n) → 1 + (unless_stopped go_on s o).steps ≤ suc n
 unless_stopped-steps_le n go_on s None h = omega (arith, h s.words s.regs)
