@@ -1,0 +1,2 @@
+pub mod HeldGuest
+pub mod FaultPacket

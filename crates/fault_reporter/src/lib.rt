@@ -1,0 +1,7 @@
+// The task that reports faults: a fault is recorded, and a turn of the task reports those that were not reported yet.
+#![tactic(auto)]
+
+mod packet;
+pub mod records;
+
+pub use records::record_fault;
