@@ -53,7 +53,7 @@ use Rattle.fault_reporter.specs.Recorded.{OwnsSame, events_where, packet_from, s
 
 -- ---- its words, while it is on no queue
 
-fault-count : (a : ℕ) → owners a (fault_packet_words true) ≡ times a (range_with_len fault_packet 5)
+pub fault-count : (a : ℕ) → owners a (fault_packet_words true) ≡ times a (range_with_len fault_packet 5)
 fault-count a = owners-row a fault_packet 0 (no_queue ∷ 0 ∷ 0 ∷ 0 ∷ 0 ∷ [])
 
 -- all owned words, with these at the end of the residents'

@@ -1,2 +1,6 @@
 pub mod HeldGuest
 pub mod FaultPacket
+pub mod Reported
+pub mod ReportLines
+pub mod TakenFaults
+pub mod ReportedTurn

@@ -3,5 +3,8 @@
 
 mod packet;
 pub mod records;
+mod reports;
+pub mod turns;
 
 pub use records::record_fault;
+pub use turns::fault_turn;

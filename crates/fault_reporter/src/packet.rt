@@ -1,5 +1,9 @@
 // The fault packet goes to the task that reports faults, and comes off its queue.
-ghost use Rattle.std.specs.Prelude.{◌≡◌, true};
+ghost use Rattle.std.specs.Prelude.{◌≡◌, [], ◌∷◌, true};
+ghost use Rattle.word_store.specs.Arithmetic.{signed};
+ghost use Rattle.packet_queue.specs.declared.events.KernelEvent.TheVariants.{Taken};
+ghost use Rattle.resident_requests.specs.Requests.{RunsResident, work};
+ghost use Rattle.fault_reporter.specs.FaultTurns.{IsFaultFirst, sender_of, taken_from};
 ghost use Rattle.kernel_model.specs.HoldsLists.{HoldsLists};
 ghost use Rattle.kernel_model.specs.Lists.{Lists, has_task};
 ghost use Rattle.kernel_model.specs.NotedEvents.{NotesAll};
@@ -7,13 +11,14 @@ ghost use Rattle.call_answers.specs.Callers.{HasCaller};
 ghost use Rattle.fault_reporter.specs.Recorded.{OwnsSame, sent, sent_events};
 
 use call_answers::caller;
+use call_answers::numbers::SENDER;
 use packet_moves::Queue;
-use packet_moves::events::accepted;
+use packet_moves::events::{accepted, taken};
 use packet_moves::packets::send;
-use packet_moves::queues::has_packet;
+use packet_moves::queues::{has_packet, unqueue};
 use packet_queue::EventLog;
-use task_block::{TcbField, field, find};
-use word_store::{Store, set_word_at};
+use task_block::{RootField, TcbField, field, find, root};
+use word_store::{Store, set_word_at, word_at};
 
 /// The id of the task that reports faults.
 pub(crate) const REPORTER: u32 = 2;
@@ -46,4 +51,23 @@ pub(crate) fn send_packet<L: EventLog>(store: &mut Store, log: &mut L)
     set_word_at(store, FAULT_PACKET, KIND, FAULT_KIND);
     send(store, queue, FAULT_PACKET, sender);
     log.note(accepted(REPORTER, FAULT_PACKET, sender));
+}
+
+// The fault packet, the first of the task that reports faults, goes off its queue.
+pub(crate) fn take_packet<L: EventLog>(store: &mut Store, log: &mut L)
+    requires { (l : Lists) × HoldsLists store.old l × RunsResident l × (l.running ≡ 2)
+        × IsFaultFirst (work l) }
+    ensures taken { (l : Lists) → HoldsLists store.old l → RunsResident l → l.running ≡ 2
+        → IsFaultFirst (work l) → OwnsSame store.old store.new l (taken_from (work l) l) }
+    ensures notes { (l : Lists) → HoldsLists store.old l → RunsResident l → l.running ≡ 2
+        → IsFaultFirst (work l) → NotesAll (L.noted log.old) (L.noted log.new)
+        (L.has_failed log.old) (L.has_failed log.new)
+        (Taken (signed 2) 310 (signed (sender_of (work l))) ∷ []) }
+{
+    let task = root(store, RootField::Running);
+    let sender = word_at(store, FAULT_PACKET, SENDER);
+    unqueue(store, Queue::OfTask(task), FAULT_PACKET);
+    set_word_at(store, FAULT_PACKET, SENDER, 0);
+    set_word_at(store, FAULT_PACKET, KIND, 0);
+    log.note(taken(REPORTER, FAULT_PACKET, sender));
 }
