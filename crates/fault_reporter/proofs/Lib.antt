@@ -4,3 +4,4 @@ pub mod Reported
 pub mod ReportLines
 pub mod TakenFaults
 pub mod ReportedTurn
+pub mod FaultsKept

@@ -1,7 +1,6 @@
 -- The turn in which faults are reported, one part after another.
 use Rattle.std.proofs.Common.{◌≡◌, ℕ, ◌+◌, ◌||◌, Bool, true, false, Option, List, [], ◌∷◌, ◌++◌, map, cond, eqb, refl, sym, ap, ◌∙◌, subst, arith}
 use Rattle.std.specs.List.{AllByRecursion}
-use Rattle.std.specs.Option.{option_map_or}
 use Rattle.word_store.specs.Arithmetic.{signed}
 use Rattle.packet_queue.specs.QueueWords.{QueuedPacket}
 use Rattle.packet_queue.specs.declared.events.KernelEvent.{KernelEvent}
@@ -21,7 +20,6 @@ use Rattle.kernel_model.proofs.ChangedLists.{changed-then, knows-same}
 use Rattle.kernel_model.proofs.QueuePlaces.{place-stands}
 use Rattle.std.proofs.lemmas.Bool.{and_parts, false≢true, false_from_ne_true}
 use Rattle.kernel_calls.specs.Calls.{outside}
-use Rattle.packet_calls.specs.TaskWait.{first_of_queue}
 use Rattle.resident_requests.specs.Answers.{IsFinished, finished}
 use Rattle.resident_requests.specs.Requests.{IsForeign, RunsResident, TakesRequest, first_request, taken, words_taken, work}
 use Rattle.resident_requests.specs.Turns.{IsResidentTurn, request_turn, turn_of}
