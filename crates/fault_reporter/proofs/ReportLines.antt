@@ -1,7 +1,14 @@
 -- The lines of a report, as the words of a store say them.
-use Rattle.std.proofs.Common.{◌≡◌, ℕ, ◌+◌, ◌≤◌, true, false, List, [], ◌∷◌, ◌++◌, map, cond, eqb, get_or, length, refl, sym, ap, ◌∙◌, arith}
+use Rattle.std.proofs.Common.{◌≡◌, ℕ, ◌+◌, ◌*◌, ◌^◌, ◌<◌, ◌≤◌, true, false, List, [], ◌∷◌, ◌++◌, map, cond, eqb, get_or, length, refl, ap, ◌∙◌, subst, arith}
 use Rattle.std.specs.List.{AllByRecursion, flat_map}
-use Rattle.std.proofs.lemmas.List.{length-append}
+use Rattle.std.proofs.lemmas.Fmt.{length-decimal-le}
+use Rattle.std.proofs.lemmas.List.{length-map}
+use Rattle.std.specs.Fmt.{decimal}
+use Rattle.linked_list.proofs.Chains.{length-apart}
+use Rattle.task_block.specs.TaskChain.{tasks_in}
+use Rattle.kernel_model.specs.Task.{task_id}
+use Rattle.kernel_model.proofs.EachMember.{all-each}
+use Rattle.fault_reporter.specs.Texts.{most_in_line, most_reported}
 use Rattle.packet_queue.specs.QueueWords.{QueuedPacket}
 use Rattle.kernel_model.specs.Changes.{with_work}
 use Rattle.kernel_model.specs.HoldsLists.{HoldsLists}
@@ -13,18 +20,25 @@ use Rattle.call_answers.proofs.FoundTask.{reads}
 use Rattle.fault_reporter.specs.FaultTurns.{packet_taken}
 use Rattle.fault_reporter.specs.Texts.{is_unreported_word, report, report_at, report_of, reports, reports_in}
 
--- there is room for the next line
-pub line-room : (f : ℕ → List ℕ) (out before : List ℕ) (left rest all : List ℕ) (t : ℕ) → left ≡ t ∷ rest → out ++ flat_map f left ≡ before ++ flat_map f all
-    → length before + length (flat_map f all) ≤ 8192 → length out + length (f t) ≤ 8192
-line-room f out before left rest all t is whole room =
-    omega (
-      arith,
-      room,
-      ap length (sym (ap (λ z. out ++ flat_map f z) is) ∙ whole),
-      length-append out (f t ++ flat_map f rest),
-      length-append (f t) (flat_map f rest),
-      length-append before (flat_map f all),
-    )
+-- a number of 32 bits has at most 10 digits
+pub few_digits : (n : ℕ) → n < 2 ^ 32 → length (decimal n) ≤ 10
+few_digits n low = length-decimal-le 10 n (omega arith) (omega (arith, low)) (omega (arith, low))
+
+-- no more tasks than numbers
+few-tasks : (s : List ℕ) (l : Lists) → HoldsLists s l → length l.tasks ≤ 64
+few-tasks s l h =
+    subst (λ n. n ≤ 64) (length-map l.tasks task_id)
+    (length-apart 64 (map task_id l.tasks) h.valid.tasks.distinct
+    (low l.tasks (all-each (λ t. (1 ≤ t.id) × (t.id ≤ get_or s 120 0)) (λ t. t.id < 64) (λ t own. omega (arith, own.1, (reads s l h).held_tasks.highest)) l.tasks (reads s l h).held_tasks.numbers)))
+  where
+    low : (ts : List Task) → AllByRecursion (λ t. t.id < 64) ts → AllByRecursion (λ n. n < 64) (map task_id ts)
+    low [] all = tt
+    low (t ∷ ts) all = (all.0, low ts all.1)
+
+-- so there is room for their lines
+pub lines-room : (s : List ℕ) (l : Lists) (n : ℕ) → HoldsLists s l → n + most_reported ≤ 8192 → n + most_in_line * length (tasks_in s) ≤ 8192
+lines-room s l n h room =
+    omega (arith, room, few-tasks s l h, ap length (reads s l h).tasks.chain, length-map l.tasks task_address)
 
 -- the words of a task that its line says
 abbrev Says : List ℕ → Task → Type 0

@@ -24,17 +24,17 @@ use Rattle.resident_requests.specs.Answers.{IsFinished, finished}
 use Rattle.resident_requests.specs.Requests.{IsForeign, RunsResident, TakesRequest, first_request, taken, words_taken, work}
 use Rattle.resident_requests.specs.Turns.{IsResidentTurn, request_turn, turn_of}
 use Rattle.resident_requests.proofs.RunningResident.{runs-work}
-use Rattle.fault_reporter.specs.FaultTurns.{IsFaultFirst, all_reported, fault_turn, fault_turn_from, is_fault_first, packet_taken, reported, reported_turn, sender_of, taken_from, unknown}
+use Rattle.fault_reporter.specs.FaultTurns.{IsFaultFirst, all_reported, fault_turn, fault_turn_from, is_fault_first, packet_taken, reported, reported_turn, sender_of, fault_taken_from, unknown}
 use Rattle.fault_reporter.specs.Recorded.{OwnsSame}
 use Rattle.fault_reporter.specs.Texts.{reports}
 use Rattle.fault_reporter.proofs.ReportLines.{reports-taken}
 
 -- ---- the resident still runs
 
-pub taken-runs : (l : Lists) → RunsResident l → RunsResident (taken_from (work l) l)
+pub taken-runs : (l : Lists) → RunsResident l → RunsResident (fault_taken_from (work l) l)
 taken-runs l r = on (work l)
   where
-    on : (ps : List QueuedPacket) → RunsResident (taken_from ps l)
+    on : (ps : List QueuedPacket) → RunsResident (fault_taken_from ps l)
     on [] = r
     on (p ∷ ps) = (let x : RunsResident (with_queue (Work 2) ps l) = runs-work l 2 ps r in record { resident = x.resident; there = x.there; field = x.field })
 
@@ -57,10 +57,10 @@ reported-runs l r = record { resident = r.resident; there = has_task-reported l.
 
 -- ---- the parts
 
-pub reports-same : (l : Lists) → reports (taken_from (work l) l) ≡ reports l
+pub reports-same : (l : Lists) → reports (fault_taken_from (work l) l) ≡ reports l
 reports-same l = on (work l)
   where
-    on : (ps : List QueuedPacket) → reports (taken_from ps l) ≡ reports l
+    on : (ps : List QueuedPacket) → reports (fault_taken_from ps l) ≡ reports l
     on [] = refl
     on (p ∷ ps) = reports-taken l ps
 
@@ -92,11 +92,11 @@ module _ (l : Lists) (v : AreValid l) (r : RunsResident l) (two : l.running ≡ 
 -- ---- the whole turn
 
 pub turn-reported : (s v : List ℕ) (tells : List ℕ → Type 0) (room : ℕ) (l : Lists) (before shown : List ℕ) (old new : Option (List KernelEvent)) (f g : Bool) → HasKeeper s tells room l → IsFaultFirst (work l)
-    → OwnsSame s v l (finished (all_reported (taken_from (work l) l))) → shown ≡ before ++ reports l → NotesAll old new f g (Taken (signed 2) fault_packet (signed (sender_of (work l))) ∷ [])
+    → OwnsSame s v l (finished (all_reported (fault_taken_from (work l) l))) → shown ≡ before ++ reports l → NotesAll old new f g (Taken (signed 2) fault_packet (signed (sender_of (work l))) ∷ [])
     → IsResidentTurn v tells (outside before old f) (outside shown new g) (fault_turn s l)
 turn-reported s v tells room l before shown old new f g k is x bytes notes = on (work l) is x notes
   where
-    on : (ps : List QueuedPacket) → IsFaultFirst ps → OwnsSame s v l (finished (all_reported (taken_from ps l))) → NotesAll old new f g (Taken (signed 2) fault_packet (signed (sender_of ps)) ∷ [])
+    on : (ps : List QueuedPacket) → IsFaultFirst ps → OwnsSame s v l (finished (all_reported (fault_taken_from ps l))) → NotesAll old new f g (Taken (signed 2) fault_packet (signed (sender_of ps)) ∷ [])
         → IsResidentTurn v tells (outside before old f) (outside shown new g) (fault_turn_from ps s l)
     on [] is x notes = cc
     on (p ∷ ps) is x notes =

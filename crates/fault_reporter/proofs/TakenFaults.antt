@@ -29,7 +29,7 @@ use Rattle.packet_moves.specs.declared.queues.Queue.TheVariants.{OfTask}
 use Rattle.packet_moves.proofs.Departure.{departed-size, departed-written, held-before, others-kept, owners-departed, packet-inside}
 use Rattle.packet_moves.proofs.HeldPlaces.{has-at, stands-at}
 use Rattle.resident_requests.specs.Requests.{RunsResident, work}
-use Rattle.fault_reporter.specs.FaultTurns.{IsFaultFirst, packet_taken, sender_of, taken_from}
+use Rattle.fault_reporter.specs.FaultTurns.{IsFaultFirst, packet_taken, sender_of, fault_taken_from}
 use Rattle.fault_reporter.specs.Recorded.{OwnsSame}
 use Rattle.fault_reporter.proofs.FaultPacket.{fault-count, free-is, packet-exchange}
 
@@ -193,7 +193,7 @@ module _ (s : List ℕ) (l : Lists) (h : HoldsLists s l) (r : RunsResident l) (t
                 };
           }
 
-      pub is-taken : OwnsSame s v l (taken_from (work l) l)
+      pub is-taken : OwnsSame s v l (fault_taken_from (work l) l)
       is-taken =
-          let e : taken_from (work l) l ≡ after = ap (λ qs. taken_from qs l) first.is in
+          let e : fault_taken_from (work l) l ≡ after = ap (λ qs. fault_taken_from qs l) first.is in
           record { lists = subst (λ z. IsChanged s v z []) (sym e) changed; same = λ a. ap (λ z. owners a (owned z)) e ∙ same a }

@@ -13,13 +13,13 @@ use Rattle.resident_requests.specs.Answers.{finished}
 use Rattle.resident_requests.specs.Requests.{RunsResident, work}
 use Rattle.resident_requests.specs.Turns.{ResidentTurn, Served, idle_turn, request_turn, service}
 use Rattle.resident_requests.specs.declared.requests.Request.{Request}
-use Rattle.fault_reporter.specs.Texts.{reports}
+use Rattle.fault_reporter.specs.Texts.{most_reported, reports}
 
--- Task 2 runs, and there is room for its reports among the bytes that go to the console.
+-- Task 2 runs, and there is room for its lines among the bytes that go to the console.
 pub record CanReport (shown : List ℕ) (l : Lists) : Type 0 where
   pub runs : RunsResident l
   pub reporter : l.running ≡ 2
-  pub room : length shown + length (reports l) ≤ 8192
+  pub room : length shown + most_reported ≤ 8192
 
 -- a fault that is reported has 256 more in its word
 abbrev pub reported : Task → Task
@@ -64,9 +64,9 @@ fault_turn s l = fault_turn_from (work l) s l
 -- ---- its parts
 
 -- the lists once the first packet, the fault packet, was taken; and its sender
-abbrev pub taken_from : List QueuedPacket → Lists → Lists
-taken_from [] l = l
-taken_from (p ∷ ps) l = packet_taken ps l
+abbrev pub fault_taken_from : List QueuedPacket → Lists → Lists
+fault_taken_from [] l = l
+fault_taken_from (p ∷ ps) l = packet_taken ps l
 
 abbrev pub sender_of : List QueuedPacket → ℕ
 sender_of [] = 0

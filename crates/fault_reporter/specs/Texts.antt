@@ -17,6 +17,13 @@ report_of t = if is_unreported t then report t.id t.fault t.fault_address else [
 unfoldable pub reports : Lists → List ℕ
 reports l = flat_map report_of l.tasks
 
+-- A line has at most so many bytes: its words, three of them numbers of at most 10 digits. All lines have at most so many.
+abbrev pub most_in_line : ℕ
+most_in_line = 47
+
+abbrev pub most_reported : ℕ
+most_reported = 3008
+
 -- ---- the same, as the words of a store say
 
 -- a fault word says of a fault that it was not reported

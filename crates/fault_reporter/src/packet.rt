@@ -3,7 +3,7 @@ ghost use Rattle.std.specs.Prelude.{◌≡◌, [], ◌∷◌, true};
 ghost use Rattle.word_store.specs.Arithmetic.{signed};
 ghost use Rattle.packet_queue.specs.declared.events.KernelEvent.TheVariants.{Taken};
 ghost use Rattle.resident_requests.specs.Requests.{RunsResident, work};
-ghost use Rattle.fault_reporter.specs.FaultTurns.{IsFaultFirst, sender_of, taken_from};
+ghost use Rattle.fault_reporter.specs.FaultTurns.{IsFaultFirst, sender_of, fault_taken_from};
 ghost use Rattle.kernel_model.specs.HoldsLists.{HoldsLists};
 ghost use Rattle.kernel_model.specs.Lists.{Lists, has_task};
 ghost use Rattle.kernel_model.specs.NotedEvents.{NotesAll};
@@ -58,7 +58,7 @@ pub(crate) fn take_packet<L: EventLog>(store: &mut Store, log: &mut L)
     requires { (l : Lists) × HoldsLists store.old l × RunsResident l × (l.running ≡ 2)
         × IsFaultFirst (work l) }
     ensures taken { (l : Lists) → HoldsLists store.old l → RunsResident l → l.running ≡ 2
-        → IsFaultFirst (work l) → OwnsSame store.old store.new l (taken_from (work l) l) }
+        → IsFaultFirst (work l) → OwnsSame store.old store.new l (fault_taken_from (work l) l) }
     ensures notes { (l : Lists) → HoldsLists store.old l → RunsResident l → l.running ≡ 2
         → IsFaultFirst (work l) → NotesAll (L.noted log.old) (L.noted log.new)
         (L.has_failed log.old) (L.has_failed log.new)

@@ -1,14 +1,14 @@
 // The reports of faults: their lines, and the mark of a fault that was reported.
-ghost use Rattle.std.specs.Prelude.{◌≡◌, ◌+◌, ◌≤◌, ◌++◌, decimal, length};
+ghost use Rattle.std.specs.Prelude.{◌≡◌, ◌+◌, ◌*◌, ◌≤◌, ◌++◌, decimal, length};
 ghost use Rattle.linked_list.specs.Walk.{CanWalk};
-ghost use Rattle.task_block.specs.TaskChain.{task_link};
+ghost use Rattle.task_block.specs.TaskChain.{task_link, tasks_in};
 ghost use Rattle.task_block.specs.RootWords.{first_task};
 ghost use Rattle.kernel_model.specs.HoldsLists.{HoldsLists};
 ghost use Rattle.kernel_model.specs.Lists.{Lists};
 ghost use Rattle.kernel_model.specs.Changes.{with_task};
 ghost use Rattle.fault_reporter.specs.FaultTurns.{all_reported, reported};
 ghost use Rattle.fault_reporter.specs.Recorded.{OwnsSame};
-ghost use Rattle.fault_reporter.specs.Texts.{is_unreported_word, report, report_at, reports_in};
+ghost use Rattle.fault_reporter.specs.Texts.{is_unreported_word, most_in_line, report, report_at, reports_in};
 
 use call_answers::numbers::FIRST_GUEST;
 use itoa::Buffer;
@@ -22,11 +22,11 @@ const REPORTED: u32 = 256;
 /// One more than the highest number that a task may have.
 const END_OF_IDS: u32 = 64;
 
-/// Adds a line for each fault that was not reported yet, in the order of the chain.
+/// Adds a line for each fault that was not reported yet, in the order of the chain. There is room for a line of each task.
 #[tactic(auto, unfolding(crate::specs::Texts::reports_in))]
 pub(crate) fn print_reports(store: &Store, out: &mut Output)
     requires chain { CanWalk store.now task_link first_task }
-    requires room { length out.old + length (reports_in store.now) ≤ 8192 }
+    requires room { length out.old + most_in_line * length (tasks_in store.now) ≤ 8192 }
     ensures { out.new ≡ out.old ++ reports_in store.now }
 {
     for t in tasks(store) {
@@ -36,8 +36,9 @@ pub(crate) fn print_reports(store: &Store, out: &mut Output)
 
 // Adds the line of the task at t, where it has a fault that was not reported yet.
 fn print_report(store: &Store, t: u32, out: &mut Output)
-    requires { length out.old + length (report_at store.now t) ≤ 8192 }
-    ensures { out.new ≡ out.old ++ report_at store.now t }
+    requires { length out.old + most_in_line ≤ 8192 }
+    ensures text { out.new ≡ out.old ++ report_at store.now t }
+    ensures short { length out.new ≤ length out.old + most_in_line }
 {
     let fault = field(store, t, TcbField::Extra1);
     if !is_unreported(fault) {
@@ -49,8 +50,9 @@ fn print_report(store: &Store, t: u32, out: &mut Output)
 }
 
 fn append_report(out: &mut Output, id: u32, fault: u32, address: u32)
-    requires { length out.old + length (report id fault address) ≤ 8192 }
-    ensures { out.new ≡ out.old ++ report id fault address }
+    requires { length out.old + most_in_line ≤ 8192 }
+    ensures text { out.new ≡ out.old ++ report id fault address }
+    ensures short { length out.new ≤ length out.old + most_in_line }
 {
     out.append(b"Task ");
     append_number(out, id);
@@ -61,10 +63,12 @@ fn append_report(out: &mut Output, id: u32, fault: u32, address: u32)
     out.append(b"\n");
 }
 
-// Adds a number in decimal.
+// Adds a number in decimal, which has at most 10 digits.
+#[tactic(auto, using(crate::proofs::ReportLines::few_digits))]
 fn append_number(out: &mut Output, n: u32)
-    requires { length out.old + length (decimal n) ≤ 8192 }
-    ensures { out.new ≡ out.old ++ decimal n }
+    requires { length out.old + 10 ≤ 8192 }
+    ensures text { out.new ≡ out.old ++ decimal n }
+    ensures short { length out.new ≤ length out.old + 10 }
 {
     let mut buffer = Buffer::new();
     out.append(buffer.format(n).as_bytes());

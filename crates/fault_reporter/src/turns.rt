@@ -10,7 +10,7 @@ ghost use Rattle.kernel_calls.specs.Calls.{outside};
 ghost use Rattle.resident_requests.specs.Answers.{finished};
 ghost use Rattle.resident_requests.specs.Requests.{RunsResident, work};
 ghost use Rattle.resident_requests.specs.Turns.{IsResidentTurn};
-ghost use Rattle.fault_reporter.specs.FaultTurns.{CanReport, IsFaultFirst, all_reported, fault_turn, is_fault_first, sender_of, taken_from};
+ghost use Rattle.fault_reporter.specs.FaultTurns.{CanReport, IsFaultFirst, all_reported, fault_turn, is_fault_first, sender_of, fault_taken_from};
 ghost use Rattle.fault_reporter.specs.Recorded.{OwnsSame};
 ghost use Rattle.fault_reporter.specs.Texts.{reports};
 
@@ -28,7 +28,7 @@ const REPORTER: i32 = 2;
 
 /// The task that reports faults, which runs, takes its first packet, or waits where it has none. Where that is the fault packet,
 /// which is then on no queue, each fault that was not reported yet adds a line to the console's bytes, in the order of the chain,
-/// and is marked. Any other packet is refused (31). The bytes must have room for the lines.
+/// and is marked. Any other packet is refused (31). The bytes must have room for 3,008 more.
 pub fn fault_turn<Q: KindKeeper, L: EventLog>(
     store: &mut Store,
     kinds: &mut Q,
@@ -81,7 +81,7 @@ fn report_faults<L: EventLog>(store: &mut Store, out: &mut Output, log: &mut L)
     requires { (l : Lists) × HoldsLists store.old l × CanReport out.old l × IsFaultFirst (work l) }
     ensures lists { (l : Lists) → HoldsLists store.old l → CanReport out.old l
         → IsFaultFirst (work l)
-        → OwnsSame store.old store.new l (finished (all_reported (taken_from (work l) l))) }
+        → OwnsSame store.old store.new l (finished (all_reported (fault_taken_from (work l) l))) }
     ensures bytes { (l : Lists) → HoldsLists store.old l → CanReport out.old l
         → IsFaultFirst (work l) → out.new ≡ out.old ++ reports l }
     ensures notes { (l : Lists) → HoldsLists store.old l → CanReport out.old l

@@ -1,4 +1,4 @@
-use Rattle.std.proofs.Common.{◌∙◌, Some, inl, refl, sym, subst}
+use Rattle.std.proofs.Common.{◌∙◌, Some, inl, refl, sym, subst, []}
 use Rattle.resident_requests.specs.Requests.{taken}
 use Rattle.resident_requests.specs.Turns.{IsResidentTurn}
 use Rattle.kernel_calls.specs.Calls.{outside}
