@@ -5,3 +5,4 @@ pub mod ReportLines
 pub mod TakenFaults
 pub mod ReportedTurn
 pub mod FaultsKept
+pub mod RunsKept
