@@ -1,0 +1,12 @@
+use Rattle.std.proofs.Common.{◌≤◌}
+use Rattle.kernel_model.specs.HoldsLists.{HoldsLists}
+use Rattle.kernel_model.specs.Lists.{Lists}
+use Rattle.fault_reporter.specs.Recorded.{OwnsSame}
+use Rattle.fault_reporter.proofs.Reported.{reported_below}
+use Rattle.fault_reporter.proofs.reports.mark_reports.Given as goal
+
+abbrev pub invariant-loop-id : goal.invariant-loop-id
+invariant-loop-id l = record {
+  low : 5 ≤ l.id;
+  lists : (m : Lists) → HoldsLists l.fn.store m → OwnsSame l.fn.store l.store m (reported_below l.id m);
+}

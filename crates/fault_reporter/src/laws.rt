@@ -1,0 +1,30 @@
+// What is kept where faults are recorded and reported.
+ghost use Rattle.std.specs.Prelude.{◌≡◌, ℕ, List};
+ghost use Rattle.word_store.specs.declared.registers.Regs.{Regs};
+ghost use Rattle.cint_exec.specs.declared.Fault.{Fault};
+ghost use Rattle.kernel_model.specs.Between.{FaultsStand};
+ghost use Rattle.kernel_model.specs.Kernel.{Kernel};
+ghost use Rattle.kernel_model.specs.Lists.{Lists};
+ghost use Rattle.kernel_model.specs.ValidLists.{AreValid};
+ghost use Rattle.kernel_dispatch.specs.Dispatch.{CanDispatch};
+ghost use Rattle.resident_requests.specs.Requests.{RunsResident};
+ghost use Rattle.fault_reporter.specs.FaultTurns.{fault_turn};
+ghost use Rattle.fault_reporter.specs.Recorded.{CanRecord, recorded};
+
+/// The fault packet waits exactly where some fault was not reported yet, from a guest with such a fault: also after a fault was
+/// recorded, and after a turn of the task that reports faults.
+pub fn faults_law()
+    ensures recorded { (k : Kernel) (f : Fault) → CanRecord k.lists f → FaultsStand k
+        → FaultsStand (record k { lists = recorded f k.lists }) }
+    ensures reported { (k : Kernel) (s : List ℕ) → AreValid k.lists → RunsResident k.lists
+        → k.lists.running ≡ 2 → FaultsStand k
+        → FaultsStand (record k { lists = (fault_turn s k.lists).lists }) }
+{}
+
+/// Where a dispatch may follow, it may follow a fault that was recorded, and a turn of the task that reports faults.
+pub fn dispatch_law()
+    ensures recorded { (l : Lists) (f : Fault) (r : Regs) → CanDispatch l r
+        → CanDispatch (recorded f l) r }
+    ensures reported { (s : List ℕ) (l : Lists) (r : Regs) → CanDispatch l r
+        → CanDispatch (fault_turn s l).lists r }
+{}

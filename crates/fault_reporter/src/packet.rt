@@ -1,0 +1,73 @@
+// The fault packet goes to the task that reports faults, and comes off its queue.
+ghost use Rattle.std.specs.Prelude.{◌≡◌, [], ◌∷◌, true};
+ghost use Rattle.word_store.specs.Arithmetic.{signed};
+ghost use Rattle.packet_queue.specs.declared.events.KernelEvent.TheVariants.{Taken};
+ghost use Rattle.resident_requests.specs.Requests.{RunsResident, work};
+ghost use Rattle.fault_reporter.specs.FaultTurns.{IsFaultFirst, sender_of, fault_taken_from};
+ghost use Rattle.kernel_model.specs.HoldsLists.{HoldsLists};
+ghost use Rattle.kernel_model.specs.Lists.{Lists, has_task};
+ghost use Rattle.kernel_model.specs.NotedEvents.{NotesAll};
+ghost use Rattle.call_answers.specs.Callers.{HasCaller};
+ghost use Rattle.fault_reporter.specs.Recorded.{OwnsSame, sent, sent_events};
+
+use call_answers::caller;
+use call_answers::numbers::SENDER;
+use packet_moves::Queue;
+use packet_moves::events::{accepted, taken};
+use packet_moves::packets::send;
+use packet_moves::queues::{has_packet, unqueue};
+use packet_queue::EventLog;
+use task_block::{RootField, TcbField, field, find, root};
+use word_store::{Store, set_word_at, word_at};
+
+/// The id of the task that reports faults.
+pub(crate) const REPORTER: u32 = 2;
+
+/// The address of the fault packet.
+pub(crate) const FAULT_PACKET: u32 = 310;
+
+/// The word of a packet that has its type, and the type of the fault packet.
+const KIND: u32 = 2;
+
+const FAULT_KIND: u32 = 40;
+
+// Where the fault packet is on no queue, it comes to the task that reports faults from the guest that runs.
+pub(crate) fn send_packet<L: EventLog>(store: &mut Store, log: &mut L)
+    requires { (l : Lists) × HoldsLists store.old l × HasCaller l × (has_task 2 l.tasks ≡ true) }
+    ensures sent { (l : Lists) → HoldsLists store.old l → HasCaller l → has_task 2 l.tasks ≡ true
+        → OwnsSame store.old store.new l (sent l) }
+    ensures notes { (l : Lists) → HoldsLists store.old l → HasCaller l → has_task 2 l.tasks ≡ true
+        → NotesAll (L.noted log.old) (L.noted log.new) (L.has_failed log.old) (L.has_failed log.new)
+        (sent_events l) }
+{
+    let Some(reporter) = find(store, REPORTER) else {
+        return;
+    };
+    let queue = Queue::OfTask(reporter);
+    if has_packet(store, queue, FAULT_PACKET) {
+        return;
+    }
+    let sender = field(store, caller(store), TcbField::Id);
+    set_word_at(store, FAULT_PACKET, KIND, FAULT_KIND);
+    send(store, queue, FAULT_PACKET, sender);
+    log.note(accepted(REPORTER, FAULT_PACKET, sender));
+}
+
+// The fault packet, the first of the task that reports faults, goes off its queue.
+pub(crate) fn take_packet<L: EventLog>(store: &mut Store, log: &mut L)
+    requires { (l : Lists) × HoldsLists store.old l × RunsResident l × (l.running ≡ 2)
+        × IsFaultFirst (work l) }
+    ensures taken { (l : Lists) → HoldsLists store.old l → RunsResident l → l.running ≡ 2
+        → IsFaultFirst (work l) → OwnsSame store.old store.new l (fault_taken_from (work l) l) }
+    ensures notes { (l : Lists) → HoldsLists store.old l → RunsResident l → l.running ≡ 2
+        → IsFaultFirst (work l) → NotesAll (L.noted log.old) (L.noted log.new)
+        (L.has_failed log.old) (L.has_failed log.new)
+        (Taken (signed 2) 310 (signed (sender_of (work l))) ∷ []) }
+{
+    let task = root(store, RootField::Running);
+    let sender = word_at(store, FAULT_PACKET, SENDER);
+    unqueue(store, Queue::OfTask(task), FAULT_PACKET);
+    set_word_at(store, FAULT_PACKET, SENDER, 0);
+    set_word_at(store, FAULT_PACKET, KIND, 0);
+    log.note(taken(REPORTER, FAULT_PACKET, sender));
+}

@@ -1,0 +1,44 @@
+// A fault of a guest is recorded.
+ghost use Rattle.std.specs.Prelude.{◌≡◌};
+ghost use Rattle.kernel_model.specs.HoldsLists.{HoldsLists};
+ghost use Rattle.kernel_model.specs.Lists.{Lists};
+ghost use Rattle.kernel_model.specs.NotedEvents.{NotesAll};
+ghost use Rattle.fault_reporter.specs.Recorded.{CanRecord, OwnsSame, held_with, recorded, recorded_events};
+
+use crate::packet::send_packet;
+use call_answers::caller;
+use cint_exec::Fault;
+use packet_queue::EventLog;
+use task_block::{TcbField, field, set_field};
+use word_store::Store;
+
+/// What the bit of a state is worth that says that the task is held.
+const HELD: u32 = 2;
+
+/// Records a fault of the guest that runs, in a machine with a task that reports faults (2): the guest is held, its fault words are
+/// the code, from 1 to 8 and not 6, and the address, and where the fault packet is on no queue it comes to task 2 from the guest.
+/// The guest still runs, and no registers change. The same words are the kernel's as before.
+pub fn record_fault<L: EventLog>(store: &mut Store, fault: Fault, log: &mut L)
+    requires { (l : Lists) × HoldsLists store.old l × CanRecord l fault }
+    ensures recorded { (l : Lists) → HoldsLists store.old l → CanRecord l fault
+        → OwnsSame store.old store.new l (recorded fault l) }
+    ensures notes { (l : Lists) → HoldsLists store.old l → CanRecord l fault
+        → NotesAll (L.noted log.old) (L.noted log.new) (L.has_failed log.old) (L.has_failed log.new)
+        (recorded_events fault l) }
+{
+    hold_with(store, fault);
+    send_packet(store, log);
+}
+
+// The guest that runs is held, with this fault.
+fn hold_with(store: &mut Store, fault: Fault)
+    requires { (l : Lists) × HoldsLists store.old l × CanRecord l fault }
+    ensures { (l : Lists) → HoldsLists store.old l → CanRecord l fault
+        → OwnsSame store.old store.new l (held_with fault l) }
+{
+    let task = caller(store);
+    let state = field(store, task, TcbField::State);
+    set_field(store, task, TcbField::Extra2, fault.address);
+    set_field(store, task, TcbField::Extra1, fault.code);
+    set_field(store, task, TcbField::State, state % 2 + HELD);
+}
