@@ -16,6 +16,8 @@ mod logs;
 #[cfg(test)]
 mod modules;
 #[cfg(test)]
+mod pipes;
+#[cfg(test)]
 mod programs;
 #[cfg(test)]
 mod readers;

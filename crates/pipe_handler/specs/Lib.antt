@@ -1,0 +1,5 @@
+pub mod Ends
+pub mod PipeCalls
+pub mod Histories
+pub mod PipeTurns
+pub mod Slots
