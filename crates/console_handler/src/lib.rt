@@ -1,0 +1,6 @@
+// The console: a line is edited, reads wait for it, and bytes are written.
+#![tactic(auto)]
+
+pub mod lines;
+
+pub use lines::ConsoleState;
