@@ -1,6 +1,7 @@
 // The console: a line is edited, reads wait for it, and bytes are written.
 #![tactic(auto)]
 
+pub mod keys;
 pub mod lines;
 
 pub use lines::ConsoleState;

@@ -1,0 +1,45 @@
+// The console's key packet.
+ghost use Rattle.std.specs.Prelude.{◌≡◌, Ok, ℕ};
+ghost use Rattle.owned_words.specs.Owned.{owners};
+ghost use Rattle.kernel_model.specs.HoldsLists.{HoldsLists};
+ghost use Rattle.kernel_model.specs.Lists.{Lists};
+ghost use Rattle.kernel_model.specs.NotedEvents.{NotesAll};
+ghost use Rattle.kernel_model.specs.Owned.{owned};
+ghost use Rattle.call_answers.specs.Made.{Leaves};
+ghost use Rattle.console_handler.specs.KeyPacket.{FindsKeys, keys_taken};
+ghost use Rattle.resident_requests.specs.Requests.{RunsResident};
+
+use call_answers::numbers::SENDER;
+use packet_moves::Queue;
+use packet_moves::events::taken;
+use packet_moves::queues::unqueue;
+use packet_queue::EventLog;
+use task_block::{RootField, TcbField, field, root};
+use word_store::{Store, word_at};
+
+/// The address of the key packet.
+pub const KEY_PACKET: u32 = 271;
+
+/// The word of a packet that has its first result.
+const RES1: u32 = 3;
+
+/// The resident that runs takes the key packet, which is its first, and answers the key, its first result. The packet is on no
+/// queue then, with the link -1. Its words are the kernel's as before, so no keeper has to be told.
+pub fn take_keys<L: EventLog>(store: &mut Store, log: &mut L) -> u32
+    requires { (l : Lists) × HoldsLists store.old l × FindsKeys l }
+    ensures taken { (l : Lists) → HoldsLists store.old l → FindsKeys l
+        → Leaves store.old store.new (Ok result) (keys_taken l) }
+    ensures notes { (l : Lists) → HoldsLists store.old l → FindsKeys l
+        → NotesAll (L.noted log.old) (L.noted log.new)
+        (L.has_failed log.old) (L.has_failed log.new) (keys_taken l).events }
+    ensures same { (l : Lists) (a : ℕ) → HoldsLists store.old l → FindsKeys l
+        → owners a (owned (keys_taken l).lists) ≡ owners a (owned l) }
+    ensures runs { (l : Lists) → HoldsLists store.old l → FindsKeys l
+        → RunsResident (keys_taken l).lists }
+{
+    let task = root(store, RootField::Running);
+    let id = field(store, task, TcbField::Id);
+    unqueue(store, Queue::OfTask(task), KEY_PACKET);
+    log.note(taken(id, KEY_PACKET, word_at(store, KEY_PACKET, SENDER)));
+    word_at(store, KEY_PACKET, RES1)
+}
