@@ -1,1 +1,2 @@
 pub mod TakenKeys
+pub mod WaitingReads

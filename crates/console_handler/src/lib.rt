@@ -3,5 +3,6 @@
 
 pub mod keys;
 pub mod lines;
+pub mod reads;
 
 pub use lines::ConsoleState;
