@@ -1,2 +1,4 @@
 pub mod TakenKeys
 pub mod WaitingReads
+pub mod DoneParts
+pub mod SentKeys

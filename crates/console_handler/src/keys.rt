@@ -1,20 +1,26 @@
 // The console's key packet.
-ghost use Rattle.std.specs.Prelude.{◌≡◌, Ok, ℕ};
+ghost use Rattle.std.specs.Prelude.{◌≡◌, List, Ok, is_some, true, ℕ};
 ghost use Rattle.owned_words.specs.Owned.{owners};
 ghost use Rattle.kernel_model.specs.HoldsLists.{HoldsLists};
 ghost use Rattle.kernel_model.specs.Lists.{Lists};
 ghost use Rattle.kernel_model.specs.NotedEvents.{NotesAll};
 ghost use Rattle.kernel_model.specs.Owned.{owned};
 ghost use Rattle.call_answers.specs.Made.{Leaves};
+ghost use Rattle.kernel_calls.specs.Calls.{outside};
+ghost use Rattle.kernel_model.specs.Kernel.{Console};
+ghost use Rattle.console_handler.specs.ConsoleTurn.{keys_sent};
 ghost use Rattle.console_handler.specs.KeyPacket.{FindsKeys, keys_taken};
+ghost use Rattle.console_handler.specs.Progress.{IsDone, Progress, Start};
 ghost use Rattle.resident_requests.specs.Requests.{RunsResident};
 
 use call_answers::numbers::SENDER;
+use packet_calls::send_own;
 use packet_moves::Queue;
 use packet_moves::events::taken;
 use packet_moves::queues::unqueue;
 use packet_queue::EventLog;
 use task_block::{RootField, TcbField, field, root};
+use word_kinds::KindKeeper;
 use word_store::{Store, word_at};
 
 /// The address of the key packet.
@@ -42,4 +48,24 @@ pub fn take_keys<L: EventLog>(store: &mut Store, log: &mut L) -> u32
     unqueue(store, Queue::OfTask(task), KEY_PACKET);
     log.note(taken(id, KEY_PACKET, word_at(store, KEY_PACKET, SENDER)));
     word_at(store, KEY_PACKET, RES1)
+}
+
+/// The number of the console.
+pub const CONSOLE: u32 = 3;
+
+/// The number of the keyboard.
+const KEYBOARD: i32 = -2;
+
+/// Sends the key packet, which is on no queue, to the keyboard.
+pub(crate) fn send_keys<Q: KindKeeper, L: EventLog>(store: &mut Store, kinds: &mut Q, log: &mut L)
+    requires { (b : Start) × (shown : List ℕ) × (c : Console) × (k : List ℕ) × (g : Progress)
+        × IsDone b store.old (Q.tells kinds.old) (Q.room kinds.old)
+        (outside shown (L.noted log.old) (L.has_failed log.old)) c k g × (is_some g.lists.key ≡ true) }
+    ensures { (b : Start) (shown : List ℕ) (c : Console) (k : List ℕ) (g : Progress)
+        → IsDone b store.old (Q.tells kinds.old) (Q.room kinds.old)
+        (outside shown (L.noted log.old) (L.has_failed log.old)) c k g → is_some g.lists.key ≡ true
+        → IsDone b store.new (Q.tells kinds.new) (Q.room kinds.new)
+        (outside shown (L.noted log.new) (L.has_failed log.new)) c k (keys_sent g) }
+{
+    send_own(store, kinds, KEY_PACKET, CONSOLE, KEYBOARD, log);
 }

@@ -65,7 +65,7 @@ keeper-taken s t tells told room after l result k x same =
 -- ---- the whole turn
 
 -- the same words are written over two stores that have the same word at an address
-written-same : (ws : Pairs) (s t : List ℕ) (a : ℕ) → length t ≡ length s → get_or t a 0 ≡ get_or s a 0 → get_or (written ws t) a 0 ≡ get_or (written ws s) a 0
+pub written-same : (ws : Pairs) (s t : List ℕ) (a : ℕ) → length t ≡ length s → get_or t a 0 ≡ get_or s a 0 → get_or (written ws t) a 0 ≡ get_or (written ws s) a 0
 written-same [] s t a long same = same
 written-same (e ∷ es) s t a long same =
     elim (cases_eq a e.0) [
