@@ -2,3 +2,4 @@ pub mod TakenKeys
 pub mod WaitingReads
 pub mod DoneParts
 pub mod SentKeys
+pub mod PressedKeys

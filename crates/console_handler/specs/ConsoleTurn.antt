@@ -13,7 +13,7 @@ use Rattle.resident_requests.specs.Requests.{RunsResident, first_request, taken,
 use Rattle.resident_requests.specs.Turns.{ResidentTurn}
 use Rattle.resident_requests.specs.declared.requests.Request.{Request}
 use Rattle.console_handler.specs.Deliveries.{delivered}
-use Rattle.console_handler.specs.KeyPacket.{keys_taken_from}
+use Rattle.console_handler.specs.KeyPacket.{keys_taken}
 use Rattle.console_handler.specs.Line.{Keyed, key}
 use Rattle.console_handler.specs.Progress.{Progress, and_then, begun, console_number}
 use Rattle.console_handler.specs.Reads.{put_off}
@@ -35,9 +35,16 @@ with_flags id flags g = and_then g (set_flags g.lists id flags).lists [] []
 abbrev pub with_keyed : ℕ → Keyed → Progress → Progress
 with_keyed id k g = with_flags id k.flags (record g { console = k.console; bytes = g.bytes ++ k.echo })
 
-abbrev pub with_key_taken : ℕ → QueuedPacket → List QueuedPacket → Progress → Progress
-with_key_taken id p ps g =
-    with_keyed id (key g.console p.res1) (and_then g (keys_taken_from (p ∷ ps) g.lists).lists [] (keys_taken_from (p ∷ ps) g.lists).events)
+abbrev pub with_keys_taken : Progress → Progress
+with_keys_taken g = and_then g (keys_taken g.lists).lists [] (keys_taken g.lists).events
+
+-- the key packet was taken, and has the key
+abbrev pub key_of : Result ℕ ℕ → ℕ
+key_of (Ok b) = b
+key_of (Err code) = 0
+
+abbrev pub with_key : ℕ → Progress → Progress
+with_key id g = with_keyed id (key g.console (key_of (keys_taken g.lists).answer)) (with_keys_taken g)
 
 -- ---- a request
 
@@ -71,7 +78,7 @@ abbrev pub treated : ℕ → List QueuedPacket → Progress → Progress
 treated id [] g = g
 treated id (p ∷ ps) g =
     if is_key_packet g.lists p
-    then with_key_taken id p ps g
+    then with_key id g
     else with_first_request (first_request (words_taken g.words g.lists) (p ∷ ps)) (words_taken g.words g.lists) (taken g.lists).lists g
 
 -- the key packet is sent to the keyboard

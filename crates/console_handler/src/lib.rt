@@ -3,6 +3,7 @@
 
 pub mod keys;
 pub mod lines;
+mod presses;
 pub mod reads;
 
 pub use lines::ConsoleState;

@@ -129,7 +129,7 @@ is-served s u t tells l r w x made owns =
 -- ---- turns
 
 -- what was taken is on no queue
-taken-plain : (t : List ℕ) (l : Lists) (r : Request) (ps : List QueuedPacket) → Some r ≡ first_request t ps → (taken_from ps l).plain ≡ (r.packet, no_queue) ∷ []
+pub taken-plain : (t : List ℕ) (l : Lists) (r : Request) (ps : List QueuedPacket) → Some r ≡ first_request t ps → (taken_from ps l).plain ≡ (r.packet, no_queue) ∷ []
 taken-plain t l r [] e = cc
 taken-plain t l r (p ∷ ps) e = let same : r ≡ request_at t p.address = cc in ap (λ q. (q.packet, no_queue) ∷ []) (sym same)
 
