@@ -1,5 +1,5 @@
 -- A turn of the console, part after part.
-use Rattle.std.proofs.Common.{◌≡◌, ℕ, ◌≤◌, ◌<◌, true, Option, List, [], ◌∷◌, ◌++◌, append-nil, length, get_or, refl, sym, ap, ◌∙◌, subst, arith, inl, inr, set}
+use Rattle.std.proofs.Common.{◌≡◌, ℕ, ◌≤◌, ◌<◌, true, Option, List, [], ◌∷◌, ◌++◌, append-nil, append_assoc, length, get_or, refl, sym, ap, ◌∙◌, subst, arith, inl, inr, set}
 use Rattle.std.specs.Prelude.{unwrap_or, Bool}
 use Rattle.std.proofs.lemmas.Bool.{cases_lt}
 use Rattle.std.proofs.lemmas.List.{ext_get_or}
@@ -67,6 +67,23 @@ module _ (b : Start) (t : List ℕ) (tells : List ℕ → Type 0) (room : ℕ) (
 
   pub done-residents : g.lists.residents ≡ true
   done-residents = sym x.lists.lists.valid.tasks.console ∙ (ap (λ i. has_task i g.lists.tasks) (sym x.is) ∙ x.runs.there)
+
+  -- bytes go to the output
+  pub bytes-done : (bytes shown : List ℕ) → shown ≡ now.shown ++ bytes → IsDone b t tells room (outside shown now.noted now.failed) c k (record g { bytes = g.bytes ++ bytes })
+  bytes-done bytes shown is_shown =
+      record {
+        words = x.words;
+        lists = x.lists;
+        knows = x.knows;
+        enough = x.enough;
+        same = x.same;
+        bytes = is_shown ∙ (ap (λ z. z ++ bytes) x.bytes ∙ append_assoc b.outside.shown g.bytes bytes);
+        notes = x.notes;
+        line = x.line;
+        shell = x.shell;
+        runs = x.runs;
+        is = x.is;
+      }
 
   module _ (u : List ℕ) (told : List ℕ → Type 0) (after : ℕ) (noted : Option (List KernelEvent)) (failed : Bool) (m : Lists) (plain : Pairs) (events : List KernelEvent)
       (room_is : after ≡ room) (y : IsChanged t u m plain) (knows : Knows told m) (same : (a : ℕ) → owners a (owned m) ≡ owners a (owned g.lists)) (notes : NotesAll now.noted noted now.failed failed events) where

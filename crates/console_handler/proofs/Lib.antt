@@ -3,3 +3,4 @@ pub mod WaitingReads
 pub mod DoneParts
 pub mod SentKeys
 pub mod PressedKeys
+pub mod TreatedRequests

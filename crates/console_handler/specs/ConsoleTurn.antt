@@ -68,9 +68,12 @@ with_request s l r g =
     then and_then g (put_off s l r).lists [] ((taken g.lists).events ++ (put_off s l r).events)
     else record (and_then g (returned l r (answer_of s r)).lists [] ((taken g.lists).events ++ (returned l r (answer_of s r)).events)) { bytes = g.bytes ++ bytes_of s r }
 
-abbrev pub with_first_request : Option Request → List ℕ → Lists → Progress → Progress
-with_first_request None s l g = g
-with_first_request (Some r) s l g = with_request s l r g
+abbrev pub with_taken : Option Request → List ℕ → Lists → Progress → Progress
+with_taken None s l g = g
+with_taken (Some r) s l g = with_request s l r g
+
+abbrev pub with_first : Progress → Progress
+with_first g = with_taken (first_request (words_taken g.words g.lists) (work g.lists)) (words_taken g.words g.lists) (taken g.lists).lists g
 
 -- ---- the turn
 
@@ -79,7 +82,7 @@ treated id [] g = g
 treated id (p ∷ ps) g =
     if is_key_packet g.lists p
     then with_key id g
-    else with_first_request (first_request (words_taken g.words g.lists) (p ∷ ps)) (words_taken g.words g.lists) (taken g.lists).lists g
+    else with_first g
 
 -- the key packet is sent to the keyboard
 abbrev pub keys_sent : Progress → Progress

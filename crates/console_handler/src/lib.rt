@@ -5,5 +5,6 @@ pub mod keys;
 pub mod lines;
 mod presses;
 pub mod reads;
+mod requests;
 
 pub use lines::ConsoleState;
