@@ -4,3 +4,4 @@ pub mod DoneParts
 pub mod SentKeys
 pub mod PressedKeys
 pub mod TreatedRequests
+pub mod HandedLines

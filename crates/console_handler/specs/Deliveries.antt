@@ -57,3 +57,14 @@ handed g =
 abbrev pub delivered : List QueuedPacket → Progress → Progress
 delivered [] g = g
 delivered (p ∷ ps) g = if g.console.finished then delivered ps (handed g) else g
+
+abbrev pub handed_if_finished : Progress → Progress
+handed_if_finished g = if g.console.finished then handed g else g
+
+-- whether a line is finished and a read waits
+abbrev pub has_reads : List QueuedPacket → Bool
+has_reads [] = false
+has_reads (p ∷ ps) = true
+
+abbrev pub is_handed : Progress → Bool
+is_handed g = g.console.finished && has_reads g.lists.pending

@@ -1,6 +1,7 @@
 // The console: a line is edited, reads wait for it, and bytes are written.
 #![tactic(auto)]
 
+mod deliveries;
 pub mod keys;
 pub mod lines;
 mod presses;
