@@ -5,3 +5,4 @@ pub mod SentKeys
 pub mod PressedKeys
 pub mod TreatedRequests
 pub mod HandedLines
+pub mod WholeDelivery

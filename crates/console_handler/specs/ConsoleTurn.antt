@@ -12,7 +12,7 @@ use Rattle.resident_requests.specs.Buffers.{bytes_in, is_readable}
 use Rattle.resident_requests.specs.Requests.{RunsResident, first_request, taken, words_taken, work}
 use Rattle.resident_requests.specs.Turns.{ResidentTurn}
 use Rattle.resident_requests.specs.declared.requests.Request.{Request}
-use Rattle.console_handler.specs.Deliveries.{delivered}
+use Rattle.console_handler.specs.Deliveries.{delivery}
 use Rattle.console_handler.specs.KeyPacket.{keys_taken}
 use Rattle.console_handler.specs.Line.{Keyed, key}
 use Rattle.console_handler.specs.Progress.{Progress, and_then, begun, console_number}
@@ -100,9 +100,6 @@ ended g = record g { lists = finished g.lists }
 
 -- Its first packet is treated, a finished line is delivered, and the key packet is sent. The shell waits for the task with this
 -- number, or for none.
-abbrev pub delivery : Progress → Progress
-delivery g = delivered g.lists.pending g
-
 abbrev pub all_parts : ℕ → Progress → Progress
 all_parts id g = ended (with_keys_sent (delivery (treated id (work g.lists) g)))
 

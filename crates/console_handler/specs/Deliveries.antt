@@ -68,3 +68,6 @@ has_reads (p ∷ ps) = true
 
 abbrev pub is_handed : Progress → Bool
 is_handed g = g.console.finished && has_reads g.lists.pending
+
+abbrev pub delivery : Progress → Progress
+delivery g = delivered g.lists.pending g

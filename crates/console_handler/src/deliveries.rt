@@ -3,7 +3,7 @@ ghost use Rattle.std.specs.Prelude.{◌≡◌, ◌≤◌, List, length, ℕ};
 ghost use Rattle.kernel_calls.specs.Calls.{outside};
 ghost use Rattle.kernel_model.specs.ChangedStore.{HasKeeper};
 ghost use Rattle.kernel_model.specs.Lists.{Lists};
-ghost use Rattle.console_handler.specs.Deliveries.{command_after, handed_if_finished, is_handed, line_after, line_service};
+ghost use Rattle.console_handler.specs.Deliveries.{command_after, delivery, handed_if_finished, is_handed, line_after, line_service};
 ghost use Rattle.console_handler.specs.Progress.{IsDone, Progress, Start};
 ghost use Rattle.resident_requests.specs.Turns.{service};
 
@@ -20,9 +20,30 @@ use word_store::Store;
 /// The number of the shell.
 const SHELL: u32 = 1;
 
-/// Hands the line to the first read that waits, where it is finished and one waits, and answers whether that was so. Delivered, it
-/// is empty.
-pub(crate) fn deliver_first<Q: KindKeeper, L: EventLog>(
+/// Hands the finished line to the reads that wait, one after the other, until it is delivered.
+pub(crate) fn deliver<Q: KindKeeper, L: EventLog>(
+    state: &mut ConsoleState,
+    shell_line: &mut ArrayVec<u8, 120>,
+    store: &mut Store,
+    kinds: &mut Q,
+    log: &mut L,
+)
+    requires { (b : Start) × (shown : List ℕ) × (g : Progress)
+        × IsDone b store.old (Q.tells kinds.old) (Q.room kinds.old)
+        (outside shown (L.noted log.old) (L.has_failed log.old)) state.old shell_line.old.items g }
+    ensures { (b : Start) (shown : List ℕ) (g : Progress)
+        → IsDone b store.old (Q.tells kinds.old) (Q.room kinds.old)
+        (outside shown (L.noted log.old) (L.has_failed log.old)) state.old shell_line.old.items g
+        → IsDone b store.new (Q.tells kinds.new) (Q.room kinds.new)
+        (outside shown (L.noted log.new) (L.has_failed log.new)) state.new shell_line.new.items
+        (delivery g) }
+{
+    'reads: while deliver_first(state, shell_line, store, kinds, log) {}
+}
+
+// Hands the line to the first read that waits, where it is finished and one waits, and answers whether that was so. Delivered, it
+// is empty.
+fn deliver_first<Q: KindKeeper, L: EventLog>(
     state: &mut ConsoleState,
     shell_line: &mut ArrayVec<u8, 120>,
     store: &mut Store,
