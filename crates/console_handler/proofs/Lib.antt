@@ -6,3 +6,5 @@ pub mod PressedKeys
 pub mod TreatedRequests
 pub mod HandedLines
 pub mod WholeDelivery
+pub mod FreeKeys
+pub mod WholeTurn

@@ -18,12 +18,10 @@ use Rattle.console_handler.specs.Line.{Keyed, key}
 use Rattle.console_handler.specs.Progress.{Progress, and_then, begun, console_number}
 use Rattle.console_handler.specs.Reads.{put_off}
 
--- The console runs. Its line is finished exactly where its key packet is on no queue, and then no read waits.
-pub record RunsConsole (l : Lists) (c : Console) : Type 0 where
+-- it runs
+pub record RunsConsole (l : Lists) : Type 0 where
   pub runs : RunsResident l
   pub is : l.running ≡ console_number
-  pub finished : c.finished ≡ is_some l.key
-  pub delivered : c.finished ≡ true → l.pending ≡ []
 
 -- ---- a key
 

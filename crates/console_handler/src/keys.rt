@@ -8,17 +8,18 @@ ghost use Rattle.kernel_model.specs.Owned.{owned};
 ghost use Rattle.call_answers.specs.Made.{Leaves};
 ghost use Rattle.kernel_calls.specs.Calls.{outside};
 ghost use Rattle.kernel_model.specs.Kernel.{Console};
-ghost use Rattle.console_handler.specs.ConsoleTurn.{keys_sent};
+ghost use Rattle.console_handler.specs.ConsoleTurn.{keys_sent, with_keys_sent};
 ghost use Rattle.console_handler.specs.KeyPacket.{FindsKeys, keys_taken};
 ghost use Rattle.console_handler.specs.Progress.{IsDone, Progress, Start};
 ghost use Rattle.resident_requests.specs.Requests.{RunsResident};
 
+use crate::lines::ConsoleState;
 use call_answers::numbers::SENDER;
 use packet_calls::send_own;
 use packet_moves::Queue;
 use packet_moves::events::taken;
 use packet_moves::queues::unqueue;
-use packet_queue::EventLog;
+use packet_queue::{EventLog, NO_QUEUE};
 use task_block::{RootField, TcbField, field, root};
 use word_kinds::KindKeeper;
 use word_store::{Store, word_at};
@@ -26,7 +27,9 @@ use word_store::{Store, word_at};
 /// The address of the key packet.
 pub const KEY_PACKET: u32 = 271;
 
-/// The word of a packet that has its first result.
+/// The words of a packet that have its link and its first result.
+const LINK: u32 = 0;
+
 const RES1: u32 = 3;
 
 /// The resident that runs takes the key packet, which is its first, and answers the key, its first result. The packet is on no
@@ -68,4 +71,36 @@ pub(crate) fn send_keys<Q: KindKeeper, L: EventLog>(store: &mut Store, kinds: &m
         (outside shown (L.noted log.new) (L.has_failed log.new)) c k (keys_sent g) }
 {
     send_own(store, kinds, KEY_PACKET, CONSOLE, KEYBOARD, log);
+}
+
+/// Sends the key packet to the keyboard, unless it is on a queue, or a finished line waits.
+pub(crate) fn send_free_keys<Q: KindKeeper, L: EventLog>(
+    state: &ConsoleState,
+    store: &mut Store,
+    kinds: &mut Q,
+    log: &mut L,
+)
+    requires { (b : Start) × (shown : List ℕ) × (k : List ℕ) × (g : Progress)
+        × IsDone b store.old (Q.tells kinds.old) (Q.room kinds.old)
+        (outside shown (L.noted log.old) (L.has_failed log.old)) state.now k g }
+    ensures { (b : Start) (shown : List ℕ) (k : List ℕ) (g : Progress)
+        → IsDone b store.old (Q.tells kinds.old) (Q.room kinds.old)
+        (outside shown (L.noted log.old) (L.has_failed log.old)) state.now k g
+        → IsDone b store.new (Q.tells kinds.new) (Q.room kinds.new)
+        (outside shown (L.noted log.new) (L.has_failed log.new)) state.now k (with_keys_sent g) }
+{
+    if state.is_finished() {
+        return;
+    }
+    if !are_keys_free(store) {
+        return;
+    }
+    send_keys(store, kinds, log);
+}
+
+// Whether the key packet is on no queue.
+fn are_keys_free(store: &Store) -> bool
+    ensures { (l : Lists) → HoldsLists store.now l → l.residents ≡ true → result ≡ is_some l.key }
+{
+    word_at(store, KEY_PACKET, LINK) == NO_QUEUE
 }

@@ -7,5 +7,7 @@ pub mod lines;
 mod presses;
 pub mod reads;
 mod requests;
+pub mod turns;
 
 pub use lines::ConsoleState;
+pub use turns::console_turn;
