@@ -31,12 +31,13 @@ pub(crate) fn deliver<Q: KindKeeper, L: EventLog>(
     requires { (b : Start) × (shown : List ℕ) × (g : Progress)
         × IsDone b store.old (Q.tells kinds.old) (Q.room kinds.old)
         (outside shown (L.noted log.old) (L.has_failed log.old)) state.old shell_line.old.items g }
-    ensures { (b : Start) (shown : List ℕ) (g : Progress)
+    ensures done { (b : Start) (shown : List ℕ) (g : Progress)
         → IsDone b store.old (Q.tells kinds.old) (Q.room kinds.old)
         (outside shown (L.noted log.old) (L.has_failed log.old)) state.old shell_line.old.items g
         → IsDone b store.new (Q.tells kinds.new) (Q.room kinds.new)
         (outside shown (L.noted log.new) (L.has_failed log.new)) state.new shell_line.new.items
         (delivery g) }
+    ensures room { Q.room kinds.new ≡ Q.room kinds.old }
 {
     'reads: while deliver_first(state, shell_line, store, kinds, log) {}
 }
@@ -63,6 +64,7 @@ fn deliver_first<Q: KindKeeper, L: EventLog>(
         → IsDone b store.old (Q.tells kinds.old) (Q.room kinds.old)
         (outside shown (L.noted log.old) (L.has_failed log.old)) state.old shell_line.old.items g
         → result ≡ is_handed g }
+    ensures room { Q.room kinds.new ≡ Q.room kinds.old }
 {
     if !state.is_finished() {
         return false;

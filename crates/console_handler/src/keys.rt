@@ -64,11 +64,12 @@ pub(crate) fn send_keys<Q: KindKeeper, L: EventLog>(store: &mut Store, kinds: &m
     requires { (b : Start) × (shown : List ℕ) × (c : Console) × (k : List ℕ) × (g : Progress)
         × IsDone b store.old (Q.tells kinds.old) (Q.room kinds.old)
         (outside shown (L.noted log.old) (L.has_failed log.old)) c k g × (is_some g.lists.key ≡ true) }
-    ensures { (b : Start) (shown : List ℕ) (c : Console) (k : List ℕ) (g : Progress)
+    ensures done { (b : Start) (shown : List ℕ) (c : Console) (k : List ℕ) (g : Progress)
         → IsDone b store.old (Q.tells kinds.old) (Q.room kinds.old)
         (outside shown (L.noted log.old) (L.has_failed log.old)) c k g → is_some g.lists.key ≡ true
         → IsDone b store.new (Q.tells kinds.new) (Q.room kinds.new)
         (outside shown (L.noted log.new) (L.has_failed log.new)) c k (keys_sent g) }
+    ensures room { Q.room kinds.new ≡ Q.room kinds.old }
 {
     send_own(store, kinds, KEY_PACKET, CONSOLE, KEYBOARD, log);
 }
@@ -83,11 +84,12 @@ pub(crate) fn send_free_keys<Q: KindKeeper, L: EventLog>(
     requires { (b : Start) × (shown : List ℕ) × (k : List ℕ) × (g : Progress)
         × IsDone b store.old (Q.tells kinds.old) (Q.room kinds.old)
         (outside shown (L.noted log.old) (L.has_failed log.old)) state.now k g }
-    ensures { (b : Start) (shown : List ℕ) (k : List ℕ) (g : Progress)
+    ensures done { (b : Start) (shown : List ℕ) (k : List ℕ) (g : Progress)
         → IsDone b store.old (Q.tells kinds.old) (Q.room kinds.old)
         (outside shown (L.noted log.old) (L.has_failed log.old)) state.now k g
         → IsDone b store.new (Q.tells kinds.new) (Q.room kinds.new)
         (outside shown (L.noted log.new) (L.has_failed log.new)) state.now k (with_keys_sent g) }
+    ensures room { Q.room kinds.new ≡ Q.room kinds.old }
 {
     if state.is_finished() {
         return;

@@ -36,11 +36,12 @@ pub(crate) fn take_first<Q: KindKeeper, L: EventLog>(
     requires first { (b : Start) × (c : Console) × (k : List ℕ) × (g : Progress)
         × IsDone b store.old (Q.tells kinds.old) (Q.room kinds.old)
         (outside out.old (L.noted log.old) (L.has_failed log.old)) c k g × TakesRequest g.lists }
-    ensures { (b : Start) (c : Console) (k : List ℕ) (g : Progress)
+    ensures done { (b : Start) (c : Console) (k : List ℕ) (g : Progress)
         → IsDone b store.old (Q.tells kinds.old) (Q.room kinds.old)
         (outside out.old (L.noted log.old) (L.has_failed log.old)) c k g → TakesRequest g.lists
         → IsDone b store.new (Q.tells kinds.new) (Q.room kinds.new)
         (outside out.new (L.noted log.new) (L.has_failed log.new)) c k (with_first g) }
+    ensures room { Q.room kinds.new ≡ Q.room kinds.old }
 {
     let Some(request) = take_request(store, kinds, log) else {
         return;

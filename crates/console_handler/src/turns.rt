@@ -49,6 +49,7 @@ pub fn console_turn<Q: KindKeeper, L: EventLog>(
     ensures shell { (l : Lists) → HasKeeper store.old (Q.tells kinds.old) (Q.room kinds.old) l
         → RunsConsole l → shell_line.new.items
         ≡ (all_parts awaited (begun store.old l state.old shell_line.old.items)).command }
+    ensures room { Q.room kinds.new ≡ Q.room kinds.old }
 {
     treat_first(state, awaited, store, kinds, out, log);
     deliver(state, shell_line, store, kinds, log);
@@ -69,12 +70,13 @@ fn treat_first<Q: KindKeeper, L: EventLog>(
     requires console { (b : Start) × (k : List ℕ) × (g : Progress)
         × IsDone b store.old (Q.tells kinds.old) (Q.room kinds.old)
         (outside out.old (L.noted log.old) (L.has_failed log.old)) state.old k g }
-    ensures { (b : Start) (k : List ℕ) (g : Progress)
+    ensures treated { (b : Start) (k : List ℕ) (g : Progress)
         → IsDone b store.old (Q.tells kinds.old) (Q.room kinds.old)
         (outside out.old (L.noted log.old) (L.has_failed log.old)) state.old k g
         → IsDone b store.new (Q.tells kinds.new) (Q.room kinds.new)
         (outside out.new (L.noted log.new) (L.has_failed log.new)) state.new k
         (treated awaited (work g.lists) g) }
+    ensures room { Q.room kinds.new ≡ Q.room kinds.old }
 {
     let Some(p) = first_packet(store) else {
         return;

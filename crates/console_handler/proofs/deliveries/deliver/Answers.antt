@@ -5,11 +5,11 @@ use Rattle.console_handler.proofs.WholeDelivery.{fewer-wait, next-left, none-lef
 use Rattle.console_handler.proofs.deliveries.deliver.Goals as goal
 
 pub deliver_first-requires : goal.deliver_first-requires
-deliver_first-requires g c = (let so = c.reads.invariant c.requires.0 c.requires.1 c.requires.2 c.requires.3 in (c.requires.0, c.requires.1, so.so, so.done))
+deliver_first-requires g c = (let so = c.reads.invariant.done c.requires.0 c.requires.1 c.requires.2 c.requires.3 in (c.requires.0, c.requires.1, so.so, so.done))
 
 pub reads-smaller : goal.reads-smaller
 reads-smaller g c =
-    let so = c.reads.invariant c.requires.0 c.requires.1 c.requires.2 c.requires.3 in
+    let so = c.reads.invariant.done c.requires.0 c.requires.1 c.requires.2 c.requires.3 in
     let more = c.deliver_first.ensures.done c.requires.0 c.requires.1 so.so so.done in
     let before = outside c.requires.1 (g.L.EventLog.noted c.reads.log) (g.L.EventLog.has_failed c.reads.log) in
     let after = outside c.requires.1 (g.L.EventLog.noted c.deliver_first.new.log) (g.L.EventLog.has_failed c.deliver_first.new.log) in
@@ -18,17 +18,21 @@ reads-smaller g c =
     (waiting-is c.requires.0 c.deliver_first.new.store (g.Q.KindKeeper.tells c.deliver_first.new.kinds) (g.Q.KindKeeper.room c.deliver_first.new.kinds) after c.deliver_first.new.state c.deliver_first.new.shell_line.items _ more)
 
 pub reads-preserved : goal.reads-preserved
-reads-preserved g c = λ b shown p x.
-    let so = c.reads.invariant b shown p x in
+reads-preserved g c =
     record {
-      so = _;
-      done = c.deliver_first.ensures.done b shown so.so so.done;
-      left = next-left so.so (sym (c.deliver_first.ensures.handed b shown so.so so.done) ∙ c.reads-test.true) ∙ so.left;
+      done = λ b shown p x.
+          let so = c.reads.invariant.done b shown p x in
+          record {
+            so = _;
+            done = c.deliver_first.ensures.done b shown so.so so.done;
+            left = next-left so.so (sym (c.deliver_first.ensures.handed b shown so.so so.done) ∙ c.reads-test.true) ∙ so.left;
+          };
+      room = c.deliver_first.ensures.room ∙ c.reads.invariant.room;
     }
 
-pub returns : goal.returns
-returns g c = λ b shown p x.
-    let so = c.reads.invariant b shown p x in
+pub returns-clause-done : goal.returns-clause-done
+returns-clause-done g c = λ b shown p x.
+    let so = c.reads.invariant.done b shown p x in
     let after = outside shown (g.L.EventLog.noted c.deliver_first.new.log) (g.L.EventLog.has_failed c.deliver_first.new.log) in
     subst (IsDone b c.deliver_first.new.store (g.Q.KindKeeper.tells c.deliver_first.new.kinds) (g.Q.KindKeeper.room c.deliver_first.new.kinds) after c.deliver_first.new.state c.deliver_first.new.shell_line.items)
     (none-left so.so (sym (c.deliver_first.ensures.handed b shown so.so so.done) ∙ c.reads-test.false) ∙ so.left) (c.deliver_first.ensures.done b shown so.so so.done)

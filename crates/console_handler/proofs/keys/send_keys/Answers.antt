@@ -13,8 +13,8 @@ send_own-requires g c =
       can-send p.lists c.requires.6,
     )
 
-pub returns : goal.returns
-returns g c = λ b shown console k p x off.
+pub returns-clause-done : goal.returns-clause-done
+returns-clause-done g c = λ b shown console k p x off.
     let now = outside shown (g.L.EventLog.noted c.args.log.now) (g.L.EventLog.has_failed c.args.log.now) in
     let keeper = done-keeper b c.args.store.now (g.Q.KindKeeper.tells c.args.kinds.now) (g.Q.KindKeeper.room c.args.kinds.now) now console k p x in
     send-done b c.args.store.now (g.Q.KindKeeper.tells c.args.kinds.now) (g.Q.KindKeeper.room c.args.kinds.now) now console k p x off c.send_own.new.store (g.Q.KindKeeper.tells c.send_own.new.kinds)

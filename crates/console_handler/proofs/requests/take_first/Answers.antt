@@ -6,8 +6,8 @@ use Rattle.console_handler.proofs.DoneParts.{done-keeper}
 use Rattle.console_handler.proofs.TreatedRequests.{answer-done, none-done, read-done, request-keeper, request-number, request-residents}
 use Rattle.console_handler.proofs.requests.take_first.Goals as goal
 
-pub returns-in_default : goal.returns-in_default
-returns-in_default g c = λ b console k p x takes.
+pub returns-in_default-clause-done : goal.returns-in_default-clause-done
+returns-in_default-clause-done g c = λ b console k p x takes.
     let keeper = done-keeper b c.args.store.now (g.Q.KindKeeper.tells c.args.kinds.now) (g.Q.KindKeeper.room c.args.kinds.now) (outside c.args.out.now (g.L.EventLog.noted c.args.log.now) (g.L.EventLog.has_failed c.args.log.now)) console k p x in
     none-done b c.args.store.now (g.Q.KindKeeper.tells c.args.kinds.now) (g.Q.KindKeeper.room c.args.kinds.now) (outside c.args.out.now (g.L.EventLog.noted c.args.log.now) (g.L.EventLog.has_failed c.args.log.now)) console k p x
     c.take_request.new.store (g.Q.KindKeeper.tells c.take_request.new.kinds) (g.Q.KindKeeper.room c.take_request.new.kinds) (g.L.EventLog.noted c.take_request.new.log) (g.L.EventLog.has_failed c.take_request.new.log)
@@ -34,8 +34,8 @@ put_off-requires g c =
           (g.Q.KindKeeper.room c.take_request.new.kinds) (g.L.EventLog.noted c.take_request.new.log) (g.L.EventLog.has_failed c.take_request.new.log) c.in-Some.request y c.take_request.ensures.room notes,
     )
 
-pub returns-then-request-eq-READ : goal.returns-then-request-eq-READ
-returns-then-request-eq-READ g c = λ b console k p x takes.
+pub returns-then-request-eq-READ-clause-done : goal.returns-then-request-eq-READ-clause-done
+returns-then-request-eq-READ-clause-done g c = λ b console k p x takes.
     let keeper = done-keeper b c.args.store.now (g.Q.KindKeeper.tells c.args.kinds.now) (g.Q.KindKeeper.room c.args.kinds.now) (outside c.args.out.now (g.L.EventLog.noted c.args.log.now) (g.L.EventLog.has_failed c.args.log.now)) console k p x in
     let now = outside c.args.out.now (g.L.EventLog.noted c.args.log.now) (g.L.EventLog.has_failed c.args.log.now) in
     let y = subst (IsTaken c.args.store.now c.take_request.new.store (g.Q.KindKeeper.tells c.take_request.new.kinds) p.lists) c.in-Some.is (c.take_request.ensures.taken p.lists keeper takes) in
@@ -70,8 +70,8 @@ return_request-requires g c =
           (g.Q.KindKeeper.room c.take_request.new.kinds) (g.L.EventLog.noted c.take_request.new.log) (g.L.EventLog.has_failed c.take_request.new.log) c.in-Some.request y c.take_request.ensures.room notes,
     )
 
-pub returns : goal.returns
-returns g c = λ b console k p x takes.
+pub returns-clause-done : goal.returns-clause-done
+returns-clause-done g c = λ b console k p x takes.
     let keeper = done-keeper b c.args.store.now (g.Q.KindKeeper.tells c.args.kinds.now) (g.Q.KindKeeper.room c.args.kinds.now) (outside c.args.out.now (g.L.EventLog.noted c.args.log.now) (g.L.EventLog.has_failed c.args.log.now)) console k p x in
     let now = outside c.args.out.now (g.L.EventLog.noted c.args.log.now) (g.L.EventLog.has_failed c.args.log.now) in
     let y = subst (IsTaken c.args.store.now c.take_request.new.store (g.Q.KindKeeper.tells c.take_request.new.kinds) p.lists) c.in-Some.is (c.take_request.ensures.taken p.lists keeper takes) in
