@@ -1,5 +1,5 @@
 -- A turn of the console, part after part.
-use Rattle.std.proofs.Common.{◌≡◌, ℕ, ◌≤◌, ◌<◌, true, Option, List, [], ◌∷◌, ◌++◌, append-nil, append_assoc, length, get_or, refl, sym, ap, ◌∙◌, subst, arith, inl, inr, set}
+use Rattle.std.proofs.Common.{◌≡◌, ℕ, true, Option, List, ◌++◌, append-nil, append_assoc, length, get_or, refl, sym, ap, ◌∙◌, arith, inl, inr}
 use Rattle.std.specs.Prelude.{unwrap_or, Bool}
 use Rattle.std.proofs.lemmas.Bool.{cases_lt}
 use Rattle.std.proofs.lemmas.List.{ext_get_or}

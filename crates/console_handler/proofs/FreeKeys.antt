@@ -1,20 +1,18 @@
 -- Whether the key packet is on no queue, as its link says.
-use Rattle.std.proofs.Common.{◌≡◌, ℕ, ◌<◌, ◌≤◌, leb, ◌&&◌, Bool, true, false, not, cond, eqb, get_or, is_some, Option, Some, None, List, refl, sym, ap, ◌∙◌, subst, arith}
+use Rattle.std.proofs.Common.{◌≡◌, ℕ, ◌<◌, ◌≤◌, leb, ◌&&◌, Bool, true, false, not, cond, eqb, get_or, is_some, Option, Some, None, List, refl, ap, ◌∙◌, arith}
 use Rattle.std.proofs.lemmas.Bool.{and_parts, eq-eqb, leb-true, ne_eqb}
 use Rattle.owned_words.specs.Owned.{Holds}
 use Rattle.packet_queue.specs.Queue.{no_queue}
 use Rattle.kernel_model.specs.HoldsLists.{HoldsLists}
-use Rattle.kernel_model.specs.Kernel.{Console}
 use Rattle.kernel_model.specs.Lists.{Lists, is_queued}
 use Rattle.kernel_model.specs.Residents.{key_packet, key_words}
 use Rattle.session_text.specs.Ranges.{most_words}
 use Rattle.kernel_model.specs.ValidLists.{AreValid}
 use Rattle.kernel_model.proofs.QueuedLinks.{queued-link}
 use Rattle.call_answers.proofs.FoundTask.{reads}
-use Rattle.kernel_calls.specs.Calls.{Outside}
 use Rattle.packet_moves.proofs.PlaceWords.{keys-exchange}
 use Rattle.console_handler.specs.ConsoleTurn.{keys_sent, with_keys_sent}
-use Rattle.console_handler.specs.Progress.{IsDone, Progress, Start}
+use Rattle.console_handler.specs.Progress.{Progress}
 
 -- a store has no word at the address that marks a packet on no queue
 size-low : (l : Lists) → AreValid l → l.size < no_queue

@@ -1,7 +1,6 @@
 -- What handing a line to a read leaves.
-use Rattle.std.proofs.Common.{◌≡◌, ℕ, zero, suc, ◌+◌, ◌≤◌, Bool, true, false, cond, eqb, Option, Some, None, Result, Ok, Err, List, [], ◌∷◌, ◌++◌, append-nil, inl, inr, length, refl, sym, ap, ◌∙◌, subst, arith}
-use Rattle.std.specs.Prelude.{min, take}
-use Rattle.std.specs.List.{range_with_len}
+use Rattle.std.proofs.Common.{◌≡◌, ℕ, zero, suc, ◌≤◌, Bool, true, false, cond, eqb, Option, Some, None, Result, Ok, Err, List, [], ◌∷◌, ◌++◌, append-nil, inl, inr, length, refl, sym, ap, ◌∙◌, subst, arith}
+use Rattle.std.specs.Prelude.{take}
 use Rattle.linked_list.specs.Count.{times}
 use Rattle.owned_words.specs.Owned.{Pairs, owners}
 use Rattle.packet_queue.specs.Queue.{no_queue}
@@ -19,11 +18,11 @@ use Rattle.kernel_calls.specs.Calls.{Outside, outside}
 use Rattle.resident_requests.specs.Answers.{OwnsRequest, returned}
 use Rattle.resident_requests.specs.Buffers.{is_writable, with_bytes, written_buffer}
 use Rattle.resident_requests.specs.Requests.{HasRequest, RunsResident, first_request, request_at}
-use Rattle.resident_requests.specs.Turns.{CanServe, HasWritten, Served, service}
+use Rattle.resident_requests.specs.Turns.{CanServe, HasWritten, service}
 use Rattle.resident_requests.specs.declared.requests.Request.{Request}
 use Rattle.resident_requests.proofs.ResidentTurns.{keeper-written, turn-changed, written-then}
 use Rattle.console_handler.specs.Deliveries.{command_after, given, handed, handed_if_finished, line_after, line_service, shell_number, with_read, with_served}
-use Rattle.console_handler.specs.Progress.{IsDone, Progress, Start, and_then}
+use Rattle.console_handler.specs.Progress.{IsDone, Progress, Start}
 use Rattle.console_handler.specs.Reads.{IsReadTaken, read_taken, read_taken_from, words_read_from}
 use Rattle.console_handler.proofs.DoneParts.{done-then}
 

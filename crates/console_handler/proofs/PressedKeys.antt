@@ -21,8 +21,8 @@ use Rattle.task_calls.specs.SetFlags.{flagged, set_flags}
 use Rattle.task_calls.proofs.SameWords.{set_flags-owners}
 use Rattle.kernel_calls.specs.Calls.{Outside, outside}
 use Rattle.resident_requests.specs.Requests.{RunsResident, work}
-use Rattle.console_handler.specs.ConsoleTurn.{key_of, with_flags, with_key, with_keyed, with_keys_taken}
-use Rattle.console_handler.specs.KeyPacket.{FindsKeys, keys_taken, keys_taken_from}
+use Rattle.console_handler.specs.ConsoleTurn.{key_of, with_flags, with_key, with_keys_taken}
+use Rattle.console_handler.specs.KeyPacket.{keys_taken, keys_taken_from}
 use Rattle.console_handler.specs.Line.{Keyed, key}
 use Rattle.console_handler.specs.Progress.{IsDone, Progress, Start}
 use Rattle.console_handler.proofs.DoneParts.{done-then}

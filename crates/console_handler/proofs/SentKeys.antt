@@ -1,11 +1,9 @@
 -- What sending the key packet leaves.
-use Rattle.std.proofs.Common.{◌≡◌, ℕ, Bool, true, is_some, Option, Ok, List, [], ◌++◌, inr, refl, sym, ap, ◌∙◌, subst}
-use Rattle.owned_words.specs.Owned.{owners}
+use Rattle.std.proofs.Common.{◌≡◌, ℕ, Bool, true, is_some, Option, Ok, List, [], ◌++◌, inr, refl, subst}
 use Rattle.packet_queue.specs.declared.events.KernelEvent.{KernelEvent}
 use Rattle.kernel_model.specs.Kernel.{Console}
 use Rattle.kernel_model.specs.Lists.{Lists}
 use Rattle.kernel_model.specs.NotedEvents.{NotesAll}
-use Rattle.kernel_model.specs.Owned.{owned}
 use Rattle.kernel_model.specs.Residents.{key_packet, keyboard}
 use Rattle.call_answers.specs.Made.{IsMade, minus_one}
 use Rattle.kernel_calls.specs.Calls.{Outside, outside}

@@ -1,11 +1,9 @@
 -- What a request leaves.
-use Rattle.std.proofs.Common.{◌≡◌, ℕ, ◌+◌, ◌≤◌, ◌&&◌, Bool, true, false, cond, eqb, Option, Some, None, Result, Ok, Err, List, [], ◌∷◌, ◌++◌, append-nil, append_assoc, length, refl, sym, ap, ◌∙◌, subst, arith}
+use Rattle.std.proofs.Common.{◌≡◌, ℕ, ◌+◌, ◌≤◌, Bool, true, cond, Option, Some, None, Result, Ok, List, [], ◌∷◌, ◌++◌, append-nil, length, refl, sym, ap, ◌∙◌, subst, arith}
 use Rattle.std.specs.List.{range_with_len}
 use Rattle.std.proofs.lemmas.Bool.{and_parts, eq-eqb, leb-true, ne_eqb}
-use Rattle.std.proofs.lemmas.List.FromFn.{length-map-range_with_len}
 use Rattle.linked_list.specs.Count.{times}
 use Rattle.owned_words.specs.Owned.{owners}
-use Rattle.packet_queue.specs.Queue.{no_queue}
 use Rattle.packet_queue.specs.QueueWords.{QueuedPacket}
 use Rattle.packet_queue.specs.declared.events.KernelEvent.{KernelEvent}
 use Rattle.kernel_model.specs.ChangedStore.{HasKeeper, IsChanged}
@@ -16,18 +14,17 @@ use Rattle.kernel_model.specs.NotedEvents.{NotesAll}
 use Rattle.kernel_model.specs.Owned.{owned}
 use Rattle.kernel_model.specs.ValidQueues.Place.{Work}
 use Rattle.kernel_model.proofs.NotedInTurn.{notes-then}
-use Rattle.call_answers.specs.Made.{IsMade, Made, minus_one}
+use Rattle.call_answers.specs.Made.{IsMade, minus_one}
 use Rattle.kernel_calls.specs.Calls.{Outside, outside}
 use Rattle.packet_moves.proofs.Departure.{owners-departed}
 use Rattle.resident_requests.specs.Answers.{OwnsRequest, returned}
-use Rattle.resident_requests.specs.Buffers.{bytes_in, is_count, is_readable, lies_inside}
-use Rattle.resident_requests.specs.Requests.{HasRequest, IsTaken, RunsResident, first_request, request_at, taken, taken_from, words_taken, words_taken_from, work}
+use Rattle.resident_requests.specs.Buffers.{is_count, is_readable, lies_inside}
+use Rattle.resident_requests.specs.Requests.{IsTaken, RunsResident, first_request, request_at, taken, taken_from, words_taken, words_taken_from, work}
 use Rattle.resident_requests.specs.declared.requests.Request.{Request}
 use Rattle.resident_requests.proofs.ResidentTurns.{keeper-taken, taken-plain, turn-changed}
-use Rattle.resident_requests.proofs.RunningResident.{runs-work}
 use Rattle.resident_requests.proofs.TakenRequest.{taken-running}
 use Rattle.console_handler.specs.ConsoleTurn.{answer_of, bytes_of, with_first, with_request, with_taken}
-use Rattle.console_handler.specs.Progress.{IsDone, Progress, Start, and_then, console_number}
+use Rattle.console_handler.specs.Progress.{IsDone, Progress, Start, and_then}
 use Rattle.console_handler.specs.Reads.{put_off}
 use Rattle.console_handler.proofs.DoneParts.{bytes-done, done-residents, done-then}
 

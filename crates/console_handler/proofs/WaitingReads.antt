@@ -1,11 +1,10 @@
 -- What a read that comes to the others leaves, and what taking the first leaves.
-use Rattle.std.proofs.Common.{◌≡◌, ◌≢◌, ℕ, ◌+◌, ◌<◌, ◌≤◌, Bool, true, false, Option, Some, None, Ok, List, [], ◌∷◌, get_or, set, refl, sym, ap, ◌∙◌, subst, arith}
+use Rattle.std.proofs.Common.{◌≡◌, ◌≢◌, ℕ, ◌+◌, ◌≤◌, Bool, true, false, Option, Some, None, Ok, List, [], ◌∷◌, get_or, set, refl, sym, ap, ◌∙◌, subst, arith}
 use Rattle.std.specs.List.{AllByRecursion, range_with_len}
 use Rattle.std.proofs.lemmas.Bool.{eq-eqb, false_from_ne_true, or_left}
 use Rattle.word_store.specs.Arithmetic.{signed}
 use Rattle.linked_list.specs.Count.{IsApart}
 use Rattle.linked_list.specs.Places.{has}
-use Rattle.owned_words.specs.Owned.{owners}
 use Rattle.packet_queue.specs.Log.{Notes}
 use Rattle.packet_queue.specs.Queue.{CanQueue, HasQueue, queue_at}
 use Rattle.packet_queue.specs.QueueWords.{QueuedPacket, first_packet}
@@ -15,7 +14,6 @@ use Rattle.kernel_model.specs.ChangedStore.{HasKeeper, IsChanged, Knows}
 use Rattle.kernel_model.specs.Changes.{AreUnowned, with_queue}
 use Rattle.kernel_model.specs.Lists.{Lists, has_task}
 use Rattle.kernel_model.specs.NotedEvents.{NotesAll}
-use Rattle.kernel_model.specs.Owned.{owned}
 use Rattle.kernel_model.specs.Residents.{pending_head}
 use Rattle.kernel_model.specs.ValidBlocks.{AreData}
 use Rattle.kernel_model.specs.ValidLists.{AreValid}

@@ -1,10 +1,9 @@
 -- The first packet of a turn, and which part treats it.
-use Rattle.std.proofs.Common.{◌≡◌, ◌≢◌, ℕ, ◌&&◌, Bool, true, false, cond, eqb, Option, Some, None, List, [], ◌∷◌, refl, sym, ap, ◌∙◌, subst, arith}
+use Rattle.std.proofs.Common.{◌≡◌, ◌≢◌, ℕ, ◌&&◌, true, false, cond, Some, None, List, [], ◌∷◌, refl, sym, ap, ◌∙◌, arith}
 use Rattle.std.specs.List.{AllByRecursion}
 use Rattle.std.proofs.lemmas.Bool.{eq-eqb, false_from_ne_true, ne_eqb}
 use Rattle.packet_queue.specs.QueueWords.{QueuedPacket}
 use Rattle.kernel_model.specs.Kernel.{Console}
-use Rattle.kernel_model.specs.Lists.{Lists}
 use Rattle.kernel_model.specs.Residents.{key_packet}
 use Rattle.kernel_model.specs.ValidQueues.{IsFaultPacket, MayStand, Place, is_fault_packet, is_key_packet}
 use Rattle.kernel_model.specs.ValidQueues.Place.{Clock, Keyboard, Output, Pending, Work}

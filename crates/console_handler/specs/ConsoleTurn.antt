@@ -1,5 +1,5 @@
 -- The turn of the console.
-use Rattle.std.specs.Prelude.{◌≡◌, ℕ, ◌==◌, ◌&&◌, Bool, true, false, not, if◌then◌else◌, Option, Some, None, Result, Ok, Err, List, [], ◌∷◌, ◌++◌, is_some}
+use Rattle.std.specs.Prelude.{◌≡◌, ℕ, ◌==◌, ◌&&◌, not, if◌then◌else◌, Option, Some, None, Result, Ok, Err, List, [], ◌∷◌, ◌++◌, is_some}
 use Rattle.packet_queue.specs.QueueWords.{QueuedPacket}
 use Rattle.kernel_model.specs.Kernel.{Console}
 use Rattle.kernel_model.specs.Lists.{Lists}

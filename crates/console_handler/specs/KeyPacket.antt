@@ -1,5 +1,5 @@
 -- The console's key packet, which comes back from the keyboard with a key as its first result.
-use Rattle.std.specs.Prelude.{◌≡◌, ℕ, true, Some, Ok, List, [], ◌∷◌}
+use Rattle.std.specs.Prelude.{◌≡◌, true, Some, Ok, List, [], ◌∷◌}
 use Rattle.word_store.specs.Arithmetic.{signed}
 use Rattle.packet_queue.specs.QueueWords.{QueuedPacket}
 use Rattle.packet_queue.specs.declared.events.KernelEvent.TheVariants.{Taken}

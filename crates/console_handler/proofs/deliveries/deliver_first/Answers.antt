@@ -1,4 +1,4 @@
-use Rattle.std.proofs.Common.{◌∙◌, Some, sym, ap, subst}
+use Rattle.std.proofs.Common.{◌∙◌, sym, ap, subst}
 use Rattle.console_handler.specs.Deliveries.{line_service}
 use Rattle.kernel_calls.specs.Calls.{outside}
 use Rattle.console_handler.specs.Reads.{IsReadTaken, read_taken}

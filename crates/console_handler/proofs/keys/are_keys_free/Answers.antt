@@ -1,4 +1,3 @@
-use Rattle.std.proofs.Common.{◌∙◌, ap}
 use Rattle.console_handler.proofs.FreeKeys.{free-is}
 use Rattle.console_handler.proofs.keys.are_keys_free.Goals as goal
 

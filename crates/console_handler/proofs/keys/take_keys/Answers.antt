@@ -1,7 +1,5 @@
-use Rattle.std.proofs.Common.{◌∙◌, sym, subst}
-use Rattle.word_store.specs.Arithmetic.{signed}
+use Rattle.std.proofs.Common.{◌∙◌, subst}
 use Rattle.packet_queue.specs.Log.{Notes}
-use Rattle.packet_queue.specs.declared.events.KernelEvent.TheVariants.{Taken}
 use Rattle.call_answers.proofs.RootTold.{running-word}
 use Rattle.console_handler.proofs.TakenKeys.{keys-noted, keys-owners, keys-packet, keys-queue, keys-runs, keys-taken}
 use Rattle.console_handler.proofs.keys.take_keys.Goals as goal

@@ -1,4 +1,4 @@
-use Rattle.std.proofs.Common.{◌∙◌, sym, arith}
+use Rattle.std.proofs.Common.{◌∙◌, sym}
 use Rattle.console_handler.proofs.TreatedRequests.{readable-few}
 use Rattle.console_handler.proofs.requests.answer.Goals as goal
 

@@ -1,7 +1,6 @@
-use Rattle.std.proofs.Common.{◌∙◌, Some, sym, subst}
+use Rattle.std.proofs.Common.{subst}
 use Rattle.kernel_calls.specs.Calls.{outside}
 use Rattle.resident_requests.specs.Requests.{IsTaken, taken}
-use Rattle.kernel_model.specs.NotedEvents.{NotesAll}
 use Rattle.console_handler.proofs.DoneParts.{done-keeper}
 use Rattle.console_handler.proofs.TreatedRequests.{answer-done, none-done, read-done, request-keeper, request-number, request-residents}
 use Rattle.console_handler.proofs.requests.take_first.Goals as goal

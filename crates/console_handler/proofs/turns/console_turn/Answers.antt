@@ -1,6 +1,4 @@
-use Rattle.std.proofs.Common.{[]}
 use Rattle.kernel_calls.specs.Calls.{outside}
-use Rattle.console_handler.specs.Progress.{Start, begun}
 use Rattle.console_handler.proofs.DoneParts.{done-ended, done-none}
 use Rattle.console_handler.proofs.turns.console_turn.Goals as goal
 

@@ -1,4 +1,4 @@
-use Rattle.std.proofs.Common.{◌∙◌, ap, sym, subst, length, arith}
+use Rattle.std.proofs.Common.{◌∙◌, sym, subst}
 use Rattle.kernel_calls.specs.Calls.{outside}
 use Rattle.console_handler.specs.Progress.{IsDone}
 use Rattle.console_handler.proofs.WholeTurn.{finds-keys, key-treated, none-treated, request-treated, takes-request}
