@@ -8,3 +8,4 @@ pub mod HandedLines
 pub mod WholeDelivery
 pub mod FreeKeys
 pub mod WholeTurn
+pub mod KeptKeys

@@ -30,7 +30,7 @@ reads-there : (ps : List QueuedPacket) → has_reads ps ≡ true → HasReads ps
 reads-there [] e = cc
 reads-there (p ∷ ps) e = record { packet = p; back = ps; is = refl }
 
-handed-pending : (g : Progress) (p : QueuedPacket) (ps : List QueuedPacket) → g.lists.pending ≡ p ∷ ps → (handed g).lists.pending ≡ ps
+pub handed-pending : (g : Progress) (p : QueuedPacket) (ps : List QueuedPacket) → g.lists.pending ≡ p ∷ ps → (handed g).lists.pending ≡ ps
 handed-pending g p ps is =
     subst (λ z. (with_read (first_request (words_read_from z g.words) z) (words_read_from z g.words) (read_taken_from z g.lists).lists g).lists.pending ≡ ps) (sym is) refl
 

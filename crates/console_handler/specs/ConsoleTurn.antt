@@ -1,5 +1,5 @@
 -- The turn of the console.
-use Rattle.std.specs.Prelude.{◌≡◌, ℕ, ◌==◌, ◌&&◌, not, if◌then◌else◌, Option, Some, None, Result, Ok, Err, List, [], ◌∷◌, ◌++◌, is_some}
+use Rattle.std.specs.Prelude.{◌≡◌, ℕ, ◌==◌, ◌&&◌, true, not, if◌then◌else◌, Option, Some, None, Result, Ok, Err, List, [], ◌∷◌, ◌++◌, is_some}
 use Rattle.packet_queue.specs.QueueWords.{QueuedPacket}
 use Rattle.kernel_model.specs.Kernel.{Console}
 use Rattle.kernel_model.specs.Lists.{Lists}
@@ -107,3 +107,10 @@ turn_done s g = record { words = s; lists = g.lists; plain = g.plain; bytes = g.
 
 abbrev pub console_turn : ℕ → Console → List ℕ → List ℕ → Lists → ResidentTurn
 console_turn id c k s l = turn_done s (all_parts id (begun s l c k))
+
+-- ---- what holds between turns
+
+-- the line is finished exactly where the key packet is on no queue, and then no read waits
+pub record KeysStand (l : Lists) (c : Console) : Type 0 where
+  pub finished : c.finished ≡ is_some l.key
+  pub delivered : c.finished ≡ true → l.pending ≡ []

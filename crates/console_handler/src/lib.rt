@@ -3,6 +3,7 @@
 
 mod deliveries;
 pub mod keys;
+pub mod laws;
 pub mod lines;
 mod presses;
 pub mod reads;
