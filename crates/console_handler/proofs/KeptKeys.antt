@@ -17,7 +17,7 @@ use Rattle.console_handler.specs.ConsoleTurn.{KeysStand, all_parts, ended, key_o
 use Rattle.console_handler.specs.Deliveries.{delivered, delivery, handed, line_after, line_service, with_read}
 use Rattle.console_handler.specs.KeyPacket.{keys_taken, keys_taken_from}
 use Rattle.console_handler.specs.Line.{Keyed, key}
-use Rattle.console_handler.specs.Progress.{Progress, and_then, begun}
+use Rattle.console_handler.specs.Progress.{Progress, begun}
 use Rattle.console_handler.specs.Reads.{read_taken_from, words_read_from}
 use Rattle.console_handler.proofs.WholeDelivery.{handed-pending}
 
