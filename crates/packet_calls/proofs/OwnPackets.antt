@@ -152,6 +152,10 @@ module _ (s : List ℕ) (tells : List ℕ → Type 0) (room : ℕ) (l : Lists) (
   pub own-room : to ≢ keyboard → p + 5 ≤ room
   own-room other = omega (arith, sent.low other, k.lists.size, k.enough)
 
+  -- the words of the key packet are owned before and after
+  pub own-kept : to ≡ keyboard → (a : ℕ) → owners a (owned (with_sent s p from to l)) ≡ owners a (owned l)
+  own-kept = sent.kept
+
   pub own-nowhere : (o : Option Queue) → o ≡ destination_of l to → o ≡ None → ⊥
   own-nowhere o is none = (let e : None ≡ Some sent.goes_to = sym none ∙ is ∙ sent.named in cc)
 

@@ -65,7 +65,7 @@ keeper-taken s t tells told room after l result k x same =
 -- ---- the whole turn
 
 -- the same words are written over two stores that have the same word at an address
-written-same : (ws : Pairs) (s t : List ℕ) (a : ℕ) → length t ≡ length s → get_or t a 0 ≡ get_or s a 0 → get_or (written ws t) a 0 ≡ get_or (written ws s) a 0
+pub written-same : (ws : Pairs) (s t : List ℕ) (a : ℕ) → length t ≡ length s → get_or t a 0 ≡ get_or s a 0 → get_or (written ws t) a 0 ≡ get_or (written ws s) a 0
 written-same [] s t a long same = same
 written-same (e ∷ es) s t a long same =
     elim (cases_eq a e.0) [
@@ -129,7 +129,7 @@ is-served s u t tells l r w x made owns =
 -- ---- turns
 
 -- what was taken is on no queue
-taken-plain : (t : List ℕ) (l : Lists) (r : Request) (ps : List QueuedPacket) → Some r ≡ first_request t ps → (taken_from ps l).plain ≡ (r.packet, no_queue) ∷ []
+pub taken-plain : (t : List ℕ) (l : Lists) (r : Request) (ps : List QueuedPacket) → Some r ≡ first_request t ps → (taken_from ps l).plain ≡ (r.packet, no_queue) ∷ []
 taken-plain t l r [] e = cc
 taken-plain t l r (p ∷ ps) e = let same : r ≡ request_at t p.address = cc in ap (λ q. (q.packet, no_queue) ∷ []) (sym same)
 

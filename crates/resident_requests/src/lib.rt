@@ -10,5 +10,5 @@ pub mod services;
 pub use answers::{answer_request, finish_turn, return_request};
 pub use buffers::{can_read, can_write, read_buffer, write_buffer};
 pub use names::name_at;
-pub use requests::{Request, first_packet, take_request};
+pub use requests::{Request, first_packet, request_at, take_request};
 pub use services::serve_request;

@@ -83,8 +83,8 @@ pub fn first_packet(store: &Store) -> Option<u32>
     Some(p)
 }
 
-// The request of the packet at p.
-fn request_at(store: &Store, p: u32) -> Request
+/// The request of the packet at p.
+pub fn request_at(store: &Store, p: u32) -> Request
     ensures { result ≡ request_at store.now p }
 {
     Request {

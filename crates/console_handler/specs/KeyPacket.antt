@@ -1,0 +1,33 @@
+-- The console's key packet, which comes back from the keyboard with a key as its first result.
+use Rattle.std.specs.Prelude.{◌≡◌, true, Some, Ok, List, [], ◌∷◌}
+use Rattle.word_store.specs.Arithmetic.{signed}
+use Rattle.packet_queue.specs.QueueWords.{QueuedPacket}
+use Rattle.packet_queue.specs.declared.events.KernelEvent.TheVariants.{Taken}
+use Rattle.kernel_model.specs.Changes.{with_key, with_queue}
+use Rattle.kernel_model.specs.Lists.{Lists}
+use Rattle.kernel_model.specs.ValidQueues.{is_key_packet}
+use Rattle.kernel_model.specs.ValidQueues.Place.{Work}
+use Rattle.call_answers.specs.Made.{Made, done}
+use Rattle.resident_requests.specs.Requests.{RunsResident, work}
+
+abbrev pub StartsWithKeys : Lists → List QueuedPacket → Type 0
+StartsWithKeys l [] = ⊥
+StartsWithKeys l (p ∷ ps) = is_key_packet l p ≡ true
+
+-- the resident that runs has the key packet as its first
+pub record FindsKeys (l : Lists) : Type 0 where
+  pub runs : RunsResident l
+  pub first : StartsWithKeys l (work l)
+
+-- It is taken, and then on no queue. Its answer is the key.
+abbrev pub keys_taken_from : List QueuedPacket → Lists → Made
+keys_taken_from [] l = done l
+keys_taken_from (p ∷ ps) l = record {
+  answer = Ok p.res1;
+  lists = with_key (Some p.res1) (with_queue (Work l.running) ps l);
+  plain = [];
+  events = Taken (signed l.running) p.address (signed p.sender) ∷ [];
+}
+
+abbrev pub keys_taken : Lists → Made
+keys_taken l = keys_taken_from (work l) l

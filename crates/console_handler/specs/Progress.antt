@@ -1,0 +1,65 @@
+-- A turn of the console, of which some parts are done.
+use Rattle.std.specs.Prelude.{◌≡◌, ℕ, ◌≤◌, List, [], ◌++◌, length, map, slice_index, unwrap_or}
+use Rattle.std.specs.List.{range_with_len}
+use Rattle.owned_words.specs.Owned.{Pairs, owners, word_in, written}
+use Rattle.packet_queue.specs.declared.events.KernelEvent.{KernelEvent}
+use Rattle.kernel_model.specs.ChangedStore.{IsChanged, Knows}
+use Rattle.kernel_model.specs.Kernel.{Console}
+use Rattle.kernel_model.specs.Lists.{Lists}
+use Rattle.kernel_model.specs.NotedEvents.{NotesAll}
+use Rattle.kernel_model.specs.Owned.{owned}
+use Rattle.kernel_calls.specs.Calls.{Outside}
+use Rattle.resident_requests.specs.Requests.{RunsResident}
+
+-- The words of the store and its lists; the plain words that were written, the last ones first, the bytes that went to the output,
+-- and the events; the console's line, and the line that the shell has.
+pub record Progress : Type 0 where
+  pub words : List ℕ
+  pub lists : Lists
+  pub plain : Pairs
+  pub bytes : List ℕ
+  pub events : List KernelEvent
+  pub console : Console
+  pub command : List ℕ
+
+-- nothing is done yet
+abbrev pub begun : List ℕ → Lists → Console → List ℕ → Progress
+begun s l c k = record { words = s; lists = l; plain = []; bytes = []; events = []; console = c; command = k }
+
+-- the words of a store once it holds these lists, and these plain words were written
+unfoldable pub settled_words : List ℕ → Lists → Pairs → List ℕ
+settled_words s l plain = map (λ a. unwrap_or (word_in a (owned l)) (slice_index (written plain s) a)) (range_with_len 0 (length s))
+
+-- a part more is done, which leaves these lists, has written these plain words, and has these events
+abbrev pub and_then : Progress → Lists → Pairs → List KernelEvent → Progress
+and_then g l plain events = record g {
+  words = settled_words g.words l plain;
+  lists = l;
+  plain = plain ++ g.plain;
+  events = g.events ++ events;
+}
+
+-- the number of the console
+abbrev pub console_number : ℕ
+console_number = 3
+
+-- how a turn begins: the words of the store, its lists, and what is outside
+pub record Start : Type 0 where
+  pub words : List ℕ
+  pub lists : Lists
+  pub outside : Outside
+
+-- So much is done since then: the store is t, the keeper knows the words of its lists, and the rest is as the code has it. The same
+-- words are owned.
+pub record IsDone (b : Start) (t : List ℕ) (tells : List ℕ → Type 0) (room : ℕ) (now : Outside) (console : Console) (command : List ℕ) (g : Progress) : Type 0 where
+  pub words : t ≡ g.words
+  pub lists : IsChanged b.words t g.lists g.plain
+  pub knows : Knows tells g.lists
+  pub enough : length t ≤ room
+  pub same : (a : ℕ) → owners a (owned g.lists) ≡ owners a (owned b.lists)
+  pub bytes : now.shown ≡ b.outside.shown ++ g.bytes
+  pub notes : NotesAll b.outside.noted now.noted b.outside.failed now.failed g.events
+  pub line : console ≡ g.console
+  pub shell : command ≡ g.command
+  pub runs : RunsResident g.lists
+  pub is : g.lists.running ≡ console_number

@@ -1,0 +1,59 @@
+-- The reads that wait for a line, in the order in which they came.
+use Rattle.std.specs.Prelude.{◌≡◌, ℕ, Option, IfSome, Ok, List, [], ◌∷◌}
+use Rattle.word_store.specs.Arithmetic.{signed}
+use Rattle.packet_queue.specs.Queue.{no_queue}
+use Rattle.packet_queue.specs.QueueWords.{QueuedPacket}
+use Rattle.packet_queue.specs.declared.events.KernelEvent.TheVariants.{Accepted, Taken}
+use Rattle.kernel_model.specs.ChangedStore.{IsChanged, Knows}
+use Rattle.kernel_model.specs.Changes.{with_queue}
+use Rattle.kernel_model.specs.Lists.{Lists}
+use Rattle.kernel_model.specs.ValidQueues.Place.{Pending}
+use Rattle.call_answers.specs.Made.{Made, minus_one}
+use Rattle.packet_moves.specs.PacketMoves.{sent_packet, with_arrived}
+use Rattle.packet_moves.specs.QueueWords.{unqueued}
+use Rattle.packet_moves.specs.declared.queues.Queue.TheVariants.{OfReads}
+use Rattle.resident_requests.specs.Answers.{OwnsRequest}
+use Rattle.resident_requests.specs.Requests.{HasRequest, Taking, first_request}
+use Rattle.resident_requests.specs.declared.requests.Request.{Request}
+
+-- the number of their queue in events
+abbrev pub reads : ℕ
+reads = 103
+
+-- ---- a read comes
+
+-- it was taken, and stands at their end, from its sender
+abbrev pub put_off : List ℕ → Lists → Request → Made
+put_off s l r = record {
+  answer = Ok minus_one;
+  lists = with_arrived Pending (sent_packet s l Pending r.packet r.sender) l;
+  plain = [];
+  events = Accepted (signed reads) r.packet (signed r.sender) ∷ [];
+}
+
+-- ---- the first read goes
+
+abbrev pub read_taken_from : List QueuedPacket → Lists → Taking
+read_taken_from [] l = record { lists = l; plain = []; events = [] }
+read_taken_from (p ∷ ps) l = record {
+  lists = with_queue Pending ps l;
+  plain = (p.address, no_queue) ∷ [];
+  events = Taken (signed reads) p.address (signed p.sender) ∷ [];
+}
+
+abbrev pub read_taken : Lists → Taking
+read_taken l = read_taken_from l.pending l
+
+-- the store then
+abbrev pub words_read_from : List QueuedPacket → List ℕ → List ℕ
+words_read_from [] s = s
+words_read_from (p ∷ ps) s = unqueued s OfReads p.address
+
+-- From the store s the store t has become one in which the first read was taken.
+pub record IsReadTaken (s t : List ℕ) (tells : List ℕ → Type 0) (l : Lists) (result : Option Request) : Type 0 where
+  pub lists : IsChanged s t (read_taken l).lists (read_taken l).plain
+  pub knows : Knows tells (read_taken l).lists
+  pub words : t ≡ words_read_from l.pending s
+  pub request : result ≡ first_request t l.pending
+  pub stands : IfSome result (λ r. HasRequest t (read_taken l).lists r)
+  pub owns : IfSome result (λ r. OwnsRequest (read_taken l).lists l r)

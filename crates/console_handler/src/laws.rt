@@ -1,0 +1,12 @@
+// Laws over the definitions alone.
+ghost use Rattle.std.specs.Prelude.{List, ℕ};
+ghost use Rattle.kernel_model.specs.Kernel.{Console};
+ghost use Rattle.kernel_model.specs.Lists.{Lists};
+ghost use Rattle.console_handler.specs.ConsoleTurn.{KeysStand, all_parts};
+ghost use Rattle.console_handler.specs.Progress.{begun};
+
+/// After a turn too the line is finished exactly where the key packet is on no queue, and then no read waits.
+pub fn keys_law()
+    ensures { (id : ℕ) (s : List ℕ) (l : Lists) (c : Console) (k : List ℕ) → KeysStand l c
+        → KeysStand (all_parts id (begun s l c k)).lists (all_parts id (begun s l c k)).console }
+{}

@@ -1,0 +1,14 @@
+// The console: a line is edited, reads wait for it, and bytes are written.
+#![tactic(auto)]
+
+mod deliveries;
+pub mod keys;
+pub mod laws;
+pub mod lines;
+mod presses;
+pub mod reads;
+mod requests;
+pub mod turns;
+
+pub use lines::ConsoleState;
+pub use turns::console_turn;
