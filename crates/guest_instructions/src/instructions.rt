@@ -12,7 +12,6 @@ use word_store::{Regs, Store};
 
 /// Executes the instruction at PC. The words that the kernel's lists own stay as they are: an instruction that would write one
 /// of them is fault 6, and writes nothing.
-#[inline(always)]
 pub fn execute_guest<Q: KindKeeper>(store: &mut Store, regs: &mut Regs, kinds: &Q) -> Outcome
     requires byte { regs.old.c < 256 }
     requires keeper { (l : Lists) × HasKeeper store.old (Q.tells kinds.now) (Q.room kinds.now) l }
