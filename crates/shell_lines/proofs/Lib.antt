@@ -1,0 +1,2 @@
+mod NameCodes
+mod ValuesInside

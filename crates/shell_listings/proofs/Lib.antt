@@ -1,0 +1,5 @@
+pub mod BlockSums
+pub mod LargestRun
+pub mod LineLengths
+pub mod ListedFiles
+pub mod ListedTasks
