@@ -30,17 +30,17 @@ abbrev HasNew : ℕ → Task → Bool
 HasNew id t = eqb t.id id && is_guest_id id && is_unreported t
 
 -- the fault packet is from such a guest
-abbrev Tells : List Task → QueuedPacket → Type 0
+abbrev pub Tells : List Task → QueuedPacket → Type 0
 Tells ts p = eqb p.address fault_packet ≡ true → has_unreported p.sender ts ≡ true
 
 -- what holds of the lists
-record FaultsHold (l : Lists) : Type 0 where
+pub record FaultsHold (l : Lists) : Type 0 where
   pub waits : has_task 2 l.tasks ≡ true → l.fault_packet_free ≡ not (list_any is_unreported l.tasks)
   pub sender : AllByRecursion (Tells l.tasks) (work_of 2 l.tasks)
 
 -- ---- tasks that stay as they are in number and fault
 
-abbrev KeepsFault : (Task → Task) → Type 0
+abbrev pub KeepsFault : (Task → Task) → Type 0
 KeepsFault f = (t : Task) → ((f t).id ≡ t.id) × ((f t).fault ≡ t.fault)
 
 any-same : (g : Task → Bool) (f : Task → Task) → ((t : Task) → g (f t) ≡ g t) → (ts : List Task) → list_any g (map f ts) ≡ list_any g ts
@@ -51,16 +51,16 @@ module _ (f : Task → Task) (keeps : KeepsFault f) where
   new-same : (t : Task) → is_unreported (f t) ≡ is_unreported t
   new-same t = ap (λ n. leb 1 n && ltb n 256) (keeps t).1
 
-  any-new : (ts : List Task) → list_any is_unreported (map f ts) ≡ list_any is_unreported ts
+  pub any-new : (ts : List Task) → list_any is_unreported (map f ts) ≡ list_any is_unreported ts
   any-new ts = any-same is_unreported f new-same ts
 
-  there-same : (id : ℕ) (ts : List Task) → has_task id (map f ts) ≡ has_task id ts
+  pub there-same : (id : ℕ) (ts : List Task) → has_task id (map f ts) ≡ has_task id ts
   there-same id ts = any-same (λ t. eqb t.id id) f (λ t. ap (λ n. eqb n id) (keeps t).0) ts
 
   has-new : (id : ℕ) (ts : List Task) → has_unreported id (map f ts) ≡ has_unreported id ts
   has-new id ts = any-same (HasNew id) f (λ t i. eqb ((keeps t).0 i) id && is_guest_id id && new-same t i) ts
 
-  tells-same : (ts : List Task) (ps : List QueuedPacket) → AllByRecursion (Tells ts) ps → AllByRecursion (Tells (map f ts)) ps
+  pub tells-same : (ts : List Task) (ps : List QueuedPacket) → AllByRecursion (Tells ts) ps → AllByRecursion (Tells (map f ts)) ps
   tells-same ts [] all = tt
   tells-same ts (p ∷ ps) all = ((λ e. has-new p.sender ts ∙ all.0 e), tells-same ts ps all.1)
 
@@ -69,7 +69,7 @@ work-same f keeps id [] = refl
 work-same f keeps id (t ∷ ts) = λ i. cond (eqb ((keeps t).0 i) id) ((keeps t).1 i) (work-same f keeps id ts i)
 
 -- where queues stay too, all holds as before
-map-faults : (l : Lists) (f : Task → Task) → KeepsFault f → ((t : Task) → ((f t).id ≡ t.id) × ((f t).queue ≡ t.queue)) → FaultsHold l → FaultsHold (with_tasks (map f l.tasks) l)
+pub map-faults : (l : Lists) (f : Task → Task) → KeepsFault f → ((t : Task) → ((f t).id ≡ t.id) × ((f t).queue ≡ t.queue)) → FaultsHold l → FaultsHold (with_tasks (map f l.tasks) l)
 map-faults l f keeps queues h =
     record {
       waits = λ there. h.waits (sym (there-same f keeps 2 l.tasks) ∙ there) ∙ ap not (sym (any-new f keeps l.tasks));
@@ -78,7 +78,7 @@ map-faults l f keeps queues h =
 
 -- ---- queues
 
-work-keeps : (i : ℕ) (qs : List QueuedPacket) → KeepsFault (with_work i qs)
+pub work-keeps : (i : ℕ) (qs : List QueuedPacket) → KeepsFault (with_work i qs)
 work-keeps i qs t =
     elim (eqb t.id i) as (λ b. ((cond b (record t { queue = qs }) t).id ≡ t.id) × ((cond b (record t { queue = qs }) t).fault ≡ t.fault)) [ true ↦ (refl, refl) | false ↦ (refl, refl) ]
 
@@ -98,7 +98,7 @@ queue-sender : (l : Lists) (i : ℕ) (qs : List QueuedPacket) → (i ≡ 2 → A
 queue-sender l i qs new all =
     tells-same (with_work i qs) (work-keeps i qs) l.tasks (work_of 2 (map (with_work i qs) l.tasks)) (work-all (Tells l.tasks) i qs l.tasks new all)
 
-queue-faults : (l : Lists) (i : ℕ) (qs : List QueuedPacket) → (i ≡ 2 → AllByRecursion (Tells l.tasks) qs) → FaultsHold l → FaultsHold (with_queue (Work i) qs l)
+pub queue-faults : (l : Lists) (i : ℕ) (qs : List QueuedPacket) → (i ≡ 2 → AllByRecursion (Tells l.tasks) qs) → FaultsHold l → FaultsHold (with_queue (Work i) qs l)
 queue-faults l i qs new h =
     record {
       waits = λ there. h.waits (sym (there-same (with_work i qs) (work-keeps i qs) 2 l.tasks) ∙ there) ∙ ap not (sym (any-new (with_work i qs) (work-keeps i qs) l.tasks));
@@ -107,7 +107,7 @@ queue-faults l i qs new h =
 
 -- ---- a turn ends
 
-finished-faults : (l : Lists) → FaultsHold l → FaultsHold (finished l)
+pub finished-faults : (l : Lists) → FaultsHold l → FaultsHold (finished l)
 finished-faults l h = on (work l)
   where
     keeps : (t : Task) → ((change_of l.running waiting t).id ≡ t.id) × ((change_of l.running waiting t).fault ≡ t.fault)
@@ -165,7 +165,7 @@ module _ (f : Fault) (is : IsRecordedFault f.code) where
 held-queues : (id : ℕ) (f : Fault) (t : Task) → ((change_of id (with_fault f) t).id ≡ t.id) × ((change_of id (with_fault f) t).queue ≡ t.queue)
 held-queues id f t = elim (eqb t.id id) as (λ b. ((cond b (with_fault f t) t).id ≡ t.id) × ((cond b (with_fault f t) t).queue ≡ t.queue)) [ true ↦ (refl, refl) | false ↦ (refl, refl) ]
 
-recorded-hold : (l : Lists) (f : Fault) → CanRecord l f → FaultsHold l → FaultsHold (recorded f l)
+pub recorded-hold : (l : Lists) (f : Fault) → CanRecord l f → FaultsHold l → FaultsHold (recorded f l)
 recorded-hold l f r h = on l.fault_packet_free refl
   where
     m : Lists
@@ -251,7 +251,7 @@ reported-hold l p ps v there is address =
     gone true e = cc
     gone false e = refl
 
-turn-hold : (s : List ℕ) (l : Lists) → AreValid l → RunsResident l → l.running ≡ 2 → FaultsHold l → FaultsHold (fault_turn s l).lists
+pub turn-hold : (s : List ℕ) (l : Lists) → AreValid l → RunsResident l → l.running ≡ 2 → FaultsHold l → FaultsHold (fault_turn s l).lists
 turn-hold s l v r two h = on (work l) refl
   where
     there : has_task 2 l.tasks ≡ true

@@ -1,4 +1,4 @@
 mod NamedFiles
 mod HandledCalls
 mod FileTurns
-mod EndedRequests
+pub mod EndedRequests

@@ -1,15 +1,16 @@
 -- A kernel with residents is a valid one: each of its words is owned once.
-use Rattle.std.proofs.Common.{◌≡◌, ℕ, ◌+◌, ◌-◌, ◌%◌, ◌<◌, ◌≤◌, Bool, true, false, List, [], ◌∷◌, ◌++◌, replicate, inl, inr, refl, ◌∙◌, arith}
-use Rattle.std.proofs.lemmas.Bool.{cases_eq, cases_lt}
+use Rattle.std.proofs.Common.{◌≡◌, ◌≢◌, ℕ, ◌+◌, ◌-◌, ◌%◌, ◌<◌, ◌≤◌, Bool, true, false, List, [], ◌∷◌, ◌++◌, replicate, inl, inr, refl, ap, ◌∙◌, arith}
+use Rattle.std.proofs.lemmas.Bool.{and_parts, cases_eq, cases_lt, eqb-true, leb-true, ltb-true, or_cases}
 use Rattle.std.proofs.lemmas.List.{length-replicate}
-use Rattle.std.specs.Prelude.{IsTrue}
+use Rattle.std.specs.Prelude.{IsTrue, ◌==◌, ◌&&◌, ◌||◌, nat_le, nat_lt}
 use Rattle.std.specs.List.{range_with_len}
 use Rattle.linked_list.specs.Count.{hit, times}
-use Rattle.linked_list.proofs.Counts.{hit-le, hit-other, range-apart, times-above, times-below}
+use Rattle.linked_list.proofs.Counts.{hit-le, hit-other, hit-same, range-apart, times-above, times-below, times-within}
 use Rattle.owned_words.specs.LinkedWords.{linked_words}
 use Rattle.owned_words.specs.Owned.{Pairs, owners, written}
-use Rattle.owned_words.proofs.OwnedWords.{length-written, owners-append}
+use Rattle.owned_words.proofs.OwnedWords.{length-written, owners-append, written-other}
 use Rattle.session_text.specs.Ranges.{IsVersion, is_period, is_store_size}
+use Rattle.kernel_model.specs.ChangedStore.{IsChanged}
 use Rattle.kernel_model.specs.HoldsLists.{HoldsLists}
 use Rattle.kernel_model.specs.Lists.{Lists}
 use Rattle.kernel_model.specs.Owned.{owned}
@@ -47,6 +48,15 @@ cut-block a =
 abbrev reporter_count : Bool → ℕ → ℕ
 reporter_count true a = from a 287 28
 reporter_count false a = 0
+
+-- the address is one of the root, the task table and the residents' block, or of the size word behind it
+abbrev is_covered : Bool → ℕ → Bool
+is_covered r x =
+    (nat_le 100 x && nat_lt x 184) || ((nat_le 200 x && nat_lt x 284) || ((r && (nat_le 287 x && nat_lt x 315)) || (x == 200 + resident_block_size r)))
+
+abbrev are_covered : Bool → Pairs → Bool
+are_covered r [] = true
+are_covered r (e ∷ es) = is_covered r e.0 && are_covered r es
 
 module _ (n v p : ℕ) (version : IsVersion v) (size : IsTrue (is_store_size v n)) (period : IsTrue (is_period p)) where
   low : 1024 ≤ n
@@ -154,9 +164,53 @@ module _ (n v p : ℕ) (version : IsVersion v) (size : IsTrue (is_store_size v n
     owns = record { apart = once r; inside = within r };
   }
 
-  pub residents-hold : (r : Bool) → HoldsLists (written (resident_pairs n v p r) (replicate n 0)) (lists r)
+  residents-hold : (r : Bool) → HoldsLists (written (resident_pairs n v p r) (replicate n 0)) (lists r)
   residents-hold r = record {
     valid = valid r;
     size = length-written (resident_pairs n v p r) (replicate n 0) ∙ length-replicate n 0;
     holds = holds-residents n p low v r version;
   }
+
+  -- ---- what nobody owns is not written
+
+  some-word : (r : Bool) (x : ℕ) → is_covered r x ≡ true → 0 < all_words r x
+  some-word r x c =
+      elim (or_cases (nat_le 100 x && nat_lt x 184) _ c) [
+        | inl root ↦ (let b = between 100 184 x root in omega (arith, times-within x 100 84 b.0 b.1))
+        | inr other ↦
+            elim (or_cases (nat_le 200 x && nat_lt x 284) _ other) [
+              | inl block ↦ (let b = between 200 284 x block in omega (arith, times-within x 200 84 b.0 b.1))
+              | inr further ↦
+                  elim (or_cases (r && (nat_le 287 x && nat_lt x 315)) _ further) [
+                    | inl reporter ↦ on r reporter
+                    | inr next ↦ omega (arith, hit-same x (200 + resident_block_size r) (eqb-true x (200 + resident_block_size r) next))
+                  ]
+            ]
+      ]
+    where
+      between : (low high y : ℕ) → (nat_le low y && nat_lt y high) ≡ true → (low ≤ y) × (y < high)
+      between low high y e = (let parts = and_parts (nat_le low y) (nat_lt y high) e in (leb-true low y parts.0, ltb-true y high parts.1))
+
+      on : (b : Bool) → (b && (nat_le 287 x && nat_lt x 315)) ≡ true → 0 < all_words b x
+      on true e = (let b = between 287 315 x e in omega (arith, times-within x 287 28 b.0 b.1))
+      on false e = cc
+
+  free : (r : Bool) (es : Pairs) → are_covered r es ≡ true → (a : ℕ) → owners a (owned (lists r)) ≡ 0 → owners a es ≡ 0
+  free r [] c a none = refl
+  free r (e ∷ es) c a none =
+      let parts = and_parts (is_covered r e.0) (are_covered r es) c in
+      let away : a ≢ e.0 = λ same. absurd (omega (arith, none, count r a, ap (all_words r) same, some-word r e.0 parts.0)) in
+      omega (arith, hit-other a e.0 away, free r es parts.1 a none)
+
+  covered : (r : Bool) → are_covered r (resident_pairs n v p r) ≡ true
+  covered true = refl
+  covered false = refl
+
+  pub residents-changed : (r : Bool) → IsChanged (replicate n 0) (written (resident_pairs n v p r) (replicate n 0)) (lists r) []
+  residents-changed r =
+      let holds : HoldsLists (written (resident_pairs n v p r) (replicate n 0)) (lists r) = residents-hold r in
+      record {
+        lists = holds;
+        size = length-written (resident_pairs n v p r) (replicate n 0);
+        written = record { holds = holds.holds; others = λ a none. written-other a (resident_pairs n v p r) (replicate n 0) (free r (resident_pairs n v p r) (covered r) a none) };
+      }

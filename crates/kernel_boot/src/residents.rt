@@ -1,8 +1,8 @@
 // A kernel with residents.
-ghost use Rattle.std.specs.Prelude.{◌≡◌, ◌≤◌, ◌+◌, IsTrue, if◌then◌else◌, length, replicate};
+ghost use Rattle.std.specs.Prelude.{◌≡◌, ◌≤◌, ◌+◌, [], IsTrue, if◌then◌else◌, length, replicate};
 ghost use Rattle.owned_words.specs.Owned.{written};
 ghost use Rattle.session_text.specs.Ranges.{IsVersion, is_period, is_store_size};
-ghost use Rattle.kernel_model.specs.HoldsLists.{HoldsLists};
+ghost use Rattle.kernel_model.specs.ChangedStore.{IsChanged};
 ghost use Rattle.kernel_boot.specs.BootWords.{block_pairs, chain_pairs, fault_pairs, key_pairs};
 ghost use Rattle.kernel_boot.specs.BootWords.{reporter_pairs, shell_pairs, waiting_pairs};
 ghost use Rattle.kernel_boot.specs.ResidentKernel.{resident_block_size, resident_lists};
@@ -65,13 +65,14 @@ const WAITS_WITH_PACKETS: u32 = 5;
 /// Makes a kernel with residents in a store of zeros. The console, the file handler, the reporter of faults, if it is asked
 /// for, and the shell wait in this order. Their block is the first one, of 88 words, or of 116 with that reporter, and the rest
 /// is one free block. The console's key packet is at the keyboard, and the shell's own packet on its queue; the fault packet is
-/// on none. The clock ticks each `period` steps.
+/// on none. The clock ticks each `period` steps. No other words change.
 pub fn make_resident_kernel(store: &mut Store, version: u32, period: u32, reporter: bool)
     requires zeros { store.old ≡ replicate (length store.old) 0 }
     requires version { IsVersion version }
     requires size { IsTrue (is_store_size version (length store.old)) }
     requires period { IsTrue (is_period period) }
-    ensures { HoldsLists store.new (resident_lists version period (length store.old) reporter) }
+    ensures { IsChanged store.old store.new
+        (resident_lists version period (length store.old) reporter) [] }
 {
     write_root(store, version, period);
     write_blocks(store, block_size(reporter));

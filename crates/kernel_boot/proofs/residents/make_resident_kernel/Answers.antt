@@ -1,10 +1,10 @@
-use Rattle.std.proofs.Common.{◌≡◌, ℕ, Bool, List, ◌++◌, length, sym, ap, ◌∙◌, subst}
+use Rattle.std.proofs.Common.{◌≡◌, ℕ, Bool, List, [], ◌++◌, length, replicate, sym, ap, ◌∙◌, subst}
 use Rattle.owned_words.specs.Owned.{Pairs, written}
 use Rattle.owned_words.proofs.OwnedWords.{length-written, written-append}
-use Rattle.kernel_model.specs.HoldsLists.{HoldsLists}
+use Rattle.kernel_model.specs.ChangedStore.{IsChanged}
 use Rattle.kernel_boot.specs.BootWords.{block_pairs, chain_pairs, fault_pairs, key_pairs, resident_pairs, root_pairs, shell_pairs}
 use Rattle.kernel_boot.specs.ResidentKernel.{resident_block_size, resident_lists}
-use Rattle.kernel_boot.proofs.ResidentLists.{residents-hold}
+use Rattle.kernel_boot.proofs.ResidentLists.{residents-changed}
 use Rattle.kernel_boot.proofs.residents.make_resident_kernel.Goals as goal
 
 pub returns : goal.returns
@@ -29,5 +29,6 @@ returns c =
     let all : c.free_fault_packet.new.store ≡ written (resident_pairs n v p r) s =
     c.free_fault_packet.ensures ∙ ap (written (fault_pairs r)) queued ∙ sym (written-append (fault_pairs r) (shell_pairs ++ (key_pairs ++ tasks)) s)
     in
-    subst (λ t. HoldsLists t (resident_lists v p n r)) (sym (all ∙ ap (written (resident_pairs n v p r)) c.requires.zeros))
-    (residents-hold n v p c.requires.version c.requires.size c.requires.period r)
+    subst (λ t. IsChanged s t (resident_lists v p n r) []) (sym (all ∙ ap (written (resident_pairs n v p r)) c.requires.zeros))
+    (subst (λ z. IsChanged z (written (resident_pairs n v p r) (replicate n 0)) (resident_lists v p n r) []) (sym c.requires.zeros)
+    (residents-changed n v p c.requires.version c.requires.size c.requires.period r))

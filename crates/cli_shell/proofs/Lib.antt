@@ -1,0 +1,9 @@
+pub mod RunningShell
+pub mod DoneParts
+pub mod TypedFiles
+pub mod StartedPrograms
+pub mod TakenPackets
+pub mod WholeTurn
+pub mod KeptTurns
+pub mod KeptRules
+pub mod KeptShell

@@ -1,0 +1,8 @@
+pub mod Modes
+pub mod TurnParts
+pub mod Prompts
+pub mod TypedFiles
+pub mod Commands
+pub mod ShellTurn
+pub mod DoneParts
+pub mod KeptLists

@@ -1,0 +1,18 @@
+// The shell: it reads lines, does the commands that they are, and starts programs.
+#![tactic(auto)]
+
+mod commands;
+mod files;
+pub mod laws;
+mod listings;
+pub mod modes;
+mod programs;
+mod prompts;
+pub mod state;
+mod tasks;
+pub mod turns;
+mod typing;
+
+pub use modes::Mode;
+pub use state::ShellState;
+pub use turns::shell_turn;

@@ -1,0 +1,101 @@
+// The shell prompts, also after it has told the code of a refusal.
+ghost use Rattle.std.specs.Prelude.{◌≡◌, ◌+◌, ◌≤◌, false, length};
+ghost use Rattle.kernel_calls.specs.Calls.{outside};
+ghost use Rattle.ram_disc.specs.Disc.{Disc};
+ghost use Rattle.cli_shell.specs.DoneParts.{IsDone, IsReady, Start};
+ghost use Rattle.cli_shell.specs.TurnParts.{ShellTurn};
+ghost use Rattle.cli_shell.specs.Prompts.{answered, prompted, refused};
+
+use crate::modes::Mode;
+use crate::state::ShellState;
+use packet_queue::EventLog;
+use shell_listings::write_error;
+use shell_programs::send_shell_packet;
+use tp_io::Output;
+use word_kinds::KindKeeper;
+use word_store::Store;
+
+/// The number of the console.
+pub(crate) const CONSOLE: u32 = 3;
+
+/// The type of a request for a line.
+const LINE_REQUEST: u32 = 1;
+
+const PROMPT: &[u8] = b"> ";
+
+/// Writes the prompt, and asks the console for a line.
+pub(crate) fn prompt<Q: KindKeeper, L: EventLog>(
+    state: &mut ShellState,
+    store: &mut Store,
+    kinds: &mut Q,
+    out: &mut Output,
+    log: &mut L,
+)
+    requires room { length out.old + 2 ≤ 8192 }
+    requires ready { (b : Start) × (d : Disc) × (x : ShellTurn)
+        × IsReady b store.old (Q.tells kinds.old) (Q.room kinds.old)
+        (outside out.old (L.noted log.old) (L.has_failed log.old)) state.old d x }
+    ensures done { (b : Start) (d : Disc) (x : ShellTurn)
+        → IsReady b store.old (Q.tells kinds.old) (Q.room kinds.old)
+        (outside out.old (L.noted log.old) (L.has_failed log.old)) state.old d x
+        → IsDone b store.new (Q.tells kinds.new) (Q.room kinds.new)
+        (outside out.new (L.noted log.new) (L.has_failed log.new)) state.new d false
+        (prompted x) }
+    ensures short { length out.new ≤ length out.old + 2 }
+{
+    out.append(PROMPT);
+    send_shell_packet(store, kinds, CONSOLE, LINE_REQUEST, log);
+    state.set_mode(Mode::Reading);
+}
+
+/// Writes the code of a refusal, and prompts.
+pub(crate) fn refuse<Q: KindKeeper, L: EventLog>(
+    code: u32,
+    state: &mut ShellState,
+    store: &mut Store,
+    kinds: &mut Q,
+    out: &mut Output,
+    log: &mut L,
+)
+    requires room { length out.old + 32 ≤ 8192 }
+    requires ready { (b : Start) × (d : Disc) × (x : ShellTurn)
+        × IsReady b store.old (Q.tells kinds.old) (Q.room kinds.old)
+        (outside out.old (L.noted log.old) (L.has_failed log.old)) state.old d x }
+    ensures done { (b : Start) (d : Disc) (x : ShellTurn)
+        → IsReady b store.old (Q.tells kinds.old) (Q.room kinds.old)
+        (outside out.old (L.noted log.old) (L.has_failed log.old)) state.old d x
+        → IsDone b store.new (Q.tells kinds.new) (Q.room kinds.new)
+        (outside out.new (L.noted log.new) (L.has_failed log.new)) state.new d false
+        (refused code x) }
+    ensures short { length out.new ≤ length out.old + 32 }
+{
+    write_error(code, out);
+    prompt(state, store, kinds, out, log);
+}
+
+/// Prompts after a command that was done; after one that was refused it writes the code before.
+pub(crate) fn answer<Q: KindKeeper, L: EventLog>(
+    outcome: Result<(), u32>,
+    state: &mut ShellState,
+    store: &mut Store,
+    kinds: &mut Q,
+    out: &mut Output,
+    log: &mut L,
+)
+    requires room { length out.old + 32 ≤ 8192 }
+    requires ready { (b : Start) × (d : Disc) × (x : ShellTurn)
+        × IsReady b store.old (Q.tells kinds.old) (Q.room kinds.old)
+        (outside out.old (L.noted log.old) (L.has_failed log.old)) state.old d x }
+    ensures done { (b : Start) (d : Disc) (x : ShellTurn)
+        → IsReady b store.old (Q.tells kinds.old) (Q.room kinds.old)
+        (outside out.old (L.noted log.old) (L.has_failed log.old)) state.old d x
+        → IsDone b store.new (Q.tells kinds.new) (Q.room kinds.new)
+        (outside out.new (L.noted log.new) (L.has_failed log.new)) state.new d false
+        (answered outcome x) }
+    ensures short { length out.new ≤ length out.old + 32 }
+{
+    match outcome {
+        Ok(()) => prompt(state, store, kinds, out, log),
+        Err(code) => refuse(code, state, store, kinds, out, log),
+    }
+}

@@ -1,0 +1,25 @@
+-- What stays where the shell clears up or starts a program.
+use Rattle.std.specs.Prelude.{◌≡◌, ℕ, ◌≤◌, true, false}
+use Rattle.std.specs.List.{AllByRecursion}
+use Rattle.kernel_model.specs.Changes.{work_of}
+use Rattle.kernel_model.specs.Lists.{Lists, has_task}
+use Rattle.kernel_model.specs.Task.{is_guest_id}
+use Rattle.kernel_model.specs.ValidTasks.{runs}
+use Rattle.kernel_model.specs.Versions.{highest_id_of}
+
+-- All but the blocks, the modules and the tasks; and of the tasks the residents with their queues.
+pub record KeepsResidents (l m : Lists) : Type 0 where
+  pub rest : m ≡ record l { blocks = m.blocks; modules = m.modules; tasks = m.tasks }
+  pub there : (id : ℕ) → is_guest_id id ≡ false → has_task id m.tasks ≡ has_task id l.tasks
+  pub work : (id : ℕ) → is_guest_id id ≡ false → work_of id m.tasks ≡ work_of id l.tasks
+
+-- A resident runs, and no other task has the field of one that runs.
+pub record RunsAlone (l : Lists) : Type 0 where
+  pub resident : is_guest_id l.running ≡ false
+  pub field : AllByRecursion (λ t. t.field ≡ runs → t.id ≡ l.running) l.tasks
+
+-- There is a guest with the number.
+pub record HasProgram (version id : ℕ) (l : Lists) : Type 0 where
+  pub low : 5 ≤ id
+  pub high : id ≤ highest_id_of version
+  pub there : has_task id l.tasks ≡ true

@@ -1,0 +1,40 @@
+-- The shell's packet, which lies in the resident block.
+use Rattle.std.specs.Prelude.{◌≡◌, ℕ, ◌+◌, true, List, [], ◌∷◌}
+use Rattle.word_store.specs.Arithmetic.{signed}
+use Rattle.owned_words.specs.Owned.{Pairs, row_from, written}
+use Rattle.packet_queue.specs.declared.events.KernelEvent.{KernelEvent}
+use Rattle.packet_queue.specs.declared.events.KernelEvent.TheVariants.{Accepted}
+use Rattle.kernel_model.specs.Changes.{AreUnowned}
+use Rattle.kernel_model.specs.Lists.{Lists, has_task}
+use Rattle.packet_calls.specs.SendOwn.{send_own}
+use Rattle.kernel_boot.specs.BootTasks.{Standing, standing}
+use Rattle.shell_programs.specs.ClearedTasks.{shell_number}
+use Rattle.shell_programs.specs.Standings.{left_by}
+
+abbrev pub shell_packet : ℕ
+shell_packet = 279
+
+-- it is on no queue: nobody owns its first five words
+pub record HasPacket (l : Lists) : Type 0 where
+  pub shell : has_task shell_number l.tasks ≡ true
+  pub words : AreUnowned l shell_packet (shell_packet + 5)
+
+-- the shell has it, and there is a task with the number
+pub record CanPost (l : Lists) (to : ℕ) : Type 0 where
+  pub packet : HasPacket l
+  pub there : has_task to l.tasks ≡ true
+
+-- the shell sends it to a task as it is
+abbrev pub posted : ℕ → Standing → Standing
+posted to k = left_by k.words (send_own k.words k.lists shell_packet shell_number to)
+
+abbrev pub post_events : ℕ → List KernelEvent
+post_events to = Accepted (signed to) shell_packet (signed shell_number) ∷ []
+
+-- its type, its results and its arguments, as those of a request of this type
+abbrev pub request_words : ℕ → Pairs
+request_words kind = row_from shell_packet 2 (kind ∷ 0 ∷ 0 ∷ 0 ∷ 0 ∷ 0 ∷ [])
+
+-- the shell sends it to a task as a request of this type
+abbrev pub requested : ℕ → ℕ → Standing → Standing
+requested to kind k = posted to (standing (written (request_words kind) k.words) k.lists)

@@ -1,0 +1,58 @@
+// The shell clears up.
+ghost use Rattle.std.specs.Prelude.{◌≡◌, ◌≤◌};
+ghost use Rattle.kernel_model.specs.ChangedStore.{HasKeeper};
+ghost use Rattle.kernel_model.specs.Lists.{Lists};
+ghost use Rattle.kernel_boot.specs.BootTasks.{standing};
+ghost use Rattle.shell_programs.specs.ClearedTasks.{cleared, cleared_at};
+ghost use Rattle.shell_programs.specs.Standings.{HasStanding};
+ghost use Rattle.task_calls.specs.DeleteTask.{RunsAlive};
+
+use call_answers::guest;
+use call_answers::numbers::FIRST_GUEST;
+use module_calls::unload_module;
+use task_block::{TcbField, field, highest_id};
+use task_calls::delete_task;
+use word_kinds::KindKeeper;
+use word_store::Store;
+
+/// The id of the shell.
+pub(crate) const SHELL: u32 = 1;
+
+/// Deletes the dead tasks that the shell has made, in rising id, and unloads of each the first module. What the calls refuse stays,
+/// as a task of which a packet still waits for the shell.
+pub fn clear_up<Q: KindKeeper>(store: &mut Store, kinds: &mut Q)
+    requires { (l : Lists)
+        × HasKeeper store.old (Q.tells kinds.old) (Q.room kinds.old) l × RunsAlive l }
+    ensures cleared { (l : Lists)
+        → HasKeeper store.old (Q.tells kinds.old) (Q.room kinds.old) l → RunsAlive l
+        → HasStanding store.new (Q.tells kinds.new) (Q.room kinds.new)
+        (cleared (standing store.old l)) }
+    ensures room { Q.room kinds.new ≡ Q.room kinds.old }
+{
+    for id in FIRST_GUEST..highest_id(store) + 1 {
+        clear_task(store, kinds, id);
+    }
+}
+
+// Deletes the task with the number, where there is one that the shell has made, and unloads its first module.
+fn clear_task<Q: KindKeeper>(store: &mut Store, kinds: &mut Q, id: u32)
+    requires guest { 5 ≤ id }
+    requires holds { (l : Lists)
+        × HasKeeper store.old (Q.tells kinds.old) (Q.room kinds.old) l × RunsAlive l }
+    ensures cleared { (l : Lists)
+        → HasKeeper store.old (Q.tells kinds.old) (Q.room kinds.old) l → RunsAlive l
+        → HasStanding store.new (Q.tells kinds.new) (Q.room kinds.new)
+        (cleared_at id (standing store.old l)) }
+    ensures room { Q.room kinds.new ≡ Q.room kinds.old }
+{
+    let Ok(task) = guest(store, id) else {
+        return;
+    };
+    if field(store, task, TcbField::Maker) != SHELL {
+        return;
+    }
+    let module = field(store, task, TcbField::Module);
+    if delete_task(store, kinds, id).is_ok() {
+        let _refusal = unload_module(store, kinds, module);
+    }
+}

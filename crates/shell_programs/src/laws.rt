@@ -1,0 +1,87 @@
+// What clearing up, starting a program and sending the packet keep.
+ghost use Rattle.std.specs.Prelude.{◌≡◌, ◌≤◌, ◌+◌, ℕ, List, Ok, Result, true};
+ghost use Rattle.packet_queue.specs.QueueWords.{QueuedPacket};
+ghost use Rattle.ram_disc.specs.Disc.{Disc};
+ghost use Rattle.kernel_model.specs.Between.{FaultsStand};
+ghost use Rattle.kernel_model.specs.Changes.{AreUnowned, with_queue};
+ghost use Rattle.kernel_model.specs.Kernel.{Kernel};
+ghost use Rattle.kernel_model.specs.Lists.{Lists, queued};
+ghost use Rattle.kernel_model.specs.ValidBlocks.{AreData};
+ghost use Rattle.kernel_model.specs.Task.{is_guest_id};
+ghost use Rattle.kernel_model.specs.ValidLists.{AreValid};
+ghost use Rattle.kernel_model.specs.ValidQueues.Place.{Work};
+ghost use Rattle.kernel_boot.specs.BootTasks.{Standing};
+ghost use Rattle.resident_requests.specs.Requests.{RunsResident};
+ghost use Rattle.shell_programs.specs.ClearedTasks.{cleared};
+ghost use Rattle.shell_programs.specs.KeptLists.{HasProgram, KeepsResidents, RunsAlone};
+ghost use Rattle.shell_programs.specs.ShellPacket.{HasPacket, posted, shell_packet};
+ghost use Rattle.shell_programs.specs.StartedProgram.{begun, start_program};
+ghost use Rattle.shell_programs.specs.declared.programs.Priority.{Priority};
+
+/// What clearing up keeps: the residents with their queues, and all numbers and other queues. The resident that runs goes on running,
+/// and alone has the field of a task that runs; and the fault packet waits exactly where some fault was not reported yet.
+pub fn clearing_law()
+    ensures kept { (k : Standing) → KeepsResidents k.lists (cleared k).lists }
+    ensures runs { (k : Standing) → RunsResident k.lists → RunsResident (cleared k).lists }
+    ensures alone { (k : Standing) → RunsAlone k.lists → RunsAlone (cleared k).lists }
+    ensures faults { (m : Kernel) (k : Standing) → AreValid k.lists
+        → FaultsStand (record m { lists = k.lists })
+        → FaultsStand (record m { lists = (cleared k).lists }) }
+{}
+
+/// What starting a program keeps, also where it is refused: the same, and all queued packets. One that was started is a guest that
+/// is there.
+pub fn starting_law()
+    ensures kept { (d : Disc) (name : List ℕ) (rest : Result (Unit {0}) ℕ) (pri : Priority)
+        (k : Standing) → KeepsResidents k.lists (start_program d name rest pri k).left.lists }
+    ensures packets { (d : Disc) (name : List ℕ) (rest : Result (Unit {0}) ℕ) (pri : Priority)
+        (k : Standing) → queued (start_program d name rest pri k).left.lists ≡ queued k.lists }
+    ensures runs { (d : Disc) (name : List ℕ) (rest : Result (Unit {0}) ℕ) (pri : Priority)
+        (k : Standing) → RunsResident k.lists
+        → RunsResident (start_program d name rest pri k).left.lists }
+    ensures alone { (d : Disc) (name : List ℕ) (rest : Result (Unit {0}) ℕ) (pri : Priority)
+        (k : Standing) → RunsAlone k.lists
+        → RunsAlone (start_program d name rest pri k).left.lists }
+    ensures faults { (m : Kernel) (d : Disc) (name : List ℕ) (rest : Result (Unit {0}) ℕ)
+        (pri : Priority) (k : Standing) → FaultsStand (record m { lists = k.lists })
+        → FaultsStand (record m { lists = (start_program d name rest pri k).left.lists }) }
+    ensures there { (d : Disc) (name : List ℕ) (rest : Result (Unit {0}) ℕ) (pri : Priority)
+        (k : Standing) (id : ℕ) → (start_program d name rest pri k).answer ≡ Ok id
+        → HasProgram k.lists.version id (start_program d name rest pri k).left.lists }
+{}
+
+/// What the beginning of a program keeps.
+pub fn beginning_law()
+    ensures kept { (id : ℕ) (k : Standing) → KeepsResidents k.lists (begun id k).lists }
+    ensures packets { (id : ℕ) (k : Standing) → queued (begun id k).lists ≡ queued k.lists }
+    ensures runs { (id : ℕ) (k : Standing) → is_guest_id id ≡ true → RunsResident k.lists
+        → RunsResident (begun id k).lists }
+    ensures alone { (id : ℕ) (k : Standing) → RunsAlone k.lists → RunsAlone (begun id k).lists }
+    ensures faults { (m : Kernel) (id : ℕ) (k : Standing)
+        → FaultsStand (record m { lists = k.lists })
+        → FaultsStand (record m { lists = (begun id k).lists }) }
+{}
+
+/// What sending the packet keeps. Only the queue of the task that gets it is another.
+pub fn packet_law()
+    ensures queue { (to : ℕ) (k : Standing) → to ≤ 63
+        → (ps : List QueuedPacket) × ((posted to k).lists ≡ with_queue (Work to) ps k.lists) }
+    ensures runs { (to : ℕ) (k : Standing) → to ≤ 63 → RunsResident k.lists
+        → RunsResident (posted to k).lists }
+    ensures alone { (to : ℕ) (k : Standing) → to ≤ 63 → RunsAlone k.lists
+        → RunsAlone (posted to k).lists }
+    ensures faults { (m : Kernel) (to : ℕ) (k : Standing) → to ≤ 63
+        → FaultsStand (record m { lists = k.lists })
+        → FaultsStand (record m { lists = (posted to k).lists }) }
+{}
+
+/// The shell's packet lies in the resident block, and while no queue has it nobody owns its words and arguments. It stays on no queue
+/// where the same packets are queued.
+pub fn place_law()
+    ensures lodged { (l : Lists) → AreValid l → l.residents ≡ true
+        → AreData l.blocks shell_packet 8 }
+    ensures arguments { (l : Lists) → AreValid l → HasPacket l
+        → AreUnowned l shell_packet (shell_packet + 8) }
+    ensures kept { (l m : Lists) → AreValid l → AreValid m → KeepsResidents l m
+        → queued m ≡ queued l → HasPacket l → HasPacket m }
+{}
