@@ -1,0 +1,2 @@
+pub mod DrawnTexts
+mod DrawnLengths
