@@ -27,13 +27,9 @@ leaves-then p q a b c x next one two = record {
 }
 
 -- lists, plain words and registers have changed, and with them the keeper and whether the machine stops
-pub record SameMachine (l m : Lists) : Type 0 where
-  pub period : m.period ≡ l.period
-  pub residents : m.residents ≡ l.residents
-
 module _ (p : Parts) (k : Kernel) (st : Stands p k) where
   pub stands-changed : (s t : List ℕ) (marks : List Bool) (regs : Regs) (l : Lists) (plain : Pairs) (r : Regs) (stop : Option Stop) → length s ≡ length p.store → IsChanged s t l plain → Knows (MarksAll marks) l → length marks ≡ length p.kinds
-      → regs ≡ r → SameMachine k.lists l → Stands (record p { store = t; regs = regs; kinds = marks }) (record (with_store (written plain s) l k) { regs = r; stop = stop })
+      → regs ≡ r → l.period ≡ k.lists.period → Stands (record p { store = t; regs = regs; kinds = marks }) (record (with_store (written plain s) l k) { regs = r; stop = stop })
   stands-changed s t marks regs l plain r stop size c knows room e same =
       let own = c.lists.valid.owns in
       let image = image-stored s t l k plain st.full c.lists.size c.written in
@@ -48,6 +44,8 @@ module _ (p : Parts) (k : Kernel) (st : Stands p k) where
         disc = st.disc;
         keys = st.keys;
         steps = st.steps;
-        period = st.period ∙ sym same.period;
-        rest = record { residents = same.residents ∙ st.rest.residents; console = st.rest.console; shell = st.rest.shell; pipes = st.rest.pipes };
+        period = st.period ∙ sym same;
+        console = st.console;
+        shell = st.shell;
+        pipes = st.pipes;
       }

@@ -4,8 +4,12 @@ pub mod ServedParts
 pub mod TurnedParts
 pub mod RunningTask
 pub mod StepParts
+pub mod ResidentParts
+pub mod TurnTests
 pub mod TurnBytes
+pub mod ConsoleBytes
 pub mod MachineStep
 pub mod QuietParts
 pub mod QuietSpan
+pub mod UncountedSteps
 pub mod RunParts

@@ -8,6 +8,7 @@ use Rattle.kernel_calls.specs.Calls.{Outside}
 use Rattle.bare_machine.specs.declared.stops.Stop.{Stop}
 use Rattle.machine_parts.specs.declared.parts.Parts.{Parts}
 use Rattle.machine_parts.specs.Stops.{stop_of}
+use Rattle.kernel_steps.specs.Parts.{IsTaken}
 use Rattle.kernel_steps.specs.Step.{Stepped, quietly, run, step}
 use Rattle.kernel_steps.proofs.StepKept.{step-left}
 use Rattle.kernel_machine.specs.Leaves.{Leaves}
@@ -23,12 +24,12 @@ module _ (p : Parts) (stop : Option Stop) (w : IsWhole p stop) where
   pub stopped-now : stop ≡ option_map stop_of now.stop
   stopped-now = w.stopped ∙ ap (option_map stop_of) (sym (stop-of p stop))
 
-  module _ (few : now.steps < most_steps) (q : Parts) (r : Option Stop) (o n : Outside) (left : Leaves q o n (step now)) (ends : r ≡ option_map stop_of (step now).kernel.stop) where
+  module _ (few : now.steps < most_steps) (q : Parts) (r : Option Stop) (o n : Outside) (left : Leaves q o n (step now)) (ends : r ≡ option_map stop_of (step now).kernel.stop) (taken : now.stop ≡ None → IsTaken now) where
     full-after : IsFullMachine (step now).kernel
     full-after = on now.stop refl
       where
         on : (s : Option KernelStop) → now.stop ≡ s → IsFullMachine (step now).kernel
-        on None goes = (step-left now w.valid goes w.stands.rest few left.stands.keeper.lists.valid left.stands.plain).0
+        on None goes = (step-left now w.valid goes few (taken goes)).0
         on (Some s) e = subst (λ (x : Stepped). IsFullMachine x.kernel) (sym (step-stays now s e)) w.valid
 
     pub kernel-after : kernel_of q r ≡ (step now).kernel

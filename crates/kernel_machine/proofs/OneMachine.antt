@@ -59,12 +59,12 @@ module _ (p : Parts) (k : Kernel) (st : Stands p k) where
         plain = plain i;
         regs = st.regs i;
         steps = st.steps i;
-        console = sym st.rest.console i;
-        shell = sym st.rest.shell i;
+        console = st.console i;
+        shell = st.shell i;
         disc = st.disc i;
         type_ahead = st.type_ahead i;
         keys = st.keys i;
-        pipes = sym st.rest.pipes i;
+        pipes = st.pipes i;
         stop = sym e i;
       } in
       whole

@@ -8,6 +8,7 @@ use Rattle.session_text.specs.Ranges.{most_steps}
 use Rattle.packet_queue.specs.QueueWords.{QueuedPacket}
 use Rattle.kernel_model.specs.HoldsLists.{HoldsLists}
 use Rattle.kernel_model.specs.Kernel.{Kernel}
+use Rattle.kernel_model.specs.Lists.{Lists}
 use Rattle.kernel_model.specs.Recovered.{lists_in}
 use Rattle.kernel_model.proofs.RecoveredLists.{lists-back}
 use Rattle.device_returns.specs.declared.returns.Device.TheVariants.{OfClock, OfKeys, OfOutput}
@@ -33,6 +34,11 @@ not-due now (p ∷ ps) e = leb-false p.last now e
 pub either-latest : (a b latest : ℕ) → latest ≡ max a b → (latest ≤ a) ⊎ (latest ≤ b)
 either-latest a b latest e = elim (cases_lt a b) [ inl low ↦ inr (omega (arith, e, low)) | inr high ↦ inl (omega (arith, e, high)) ]
 
+-- the word of the root has the ticks
+pub held-tick : (s : List ℕ) (l : Lists) → HoldsLists s l → get_or s 108 0 ≡ l.tick
+unfolding lists_in
+held-tick s l held = ap (λ m. m.tick) (lists-back s l held.valid held.size held.holds)
+
 module _ (p : Parts) (w : IsWhole p None) where
   abbrev now : Kernel
   now = kernel_of p None
@@ -53,8 +59,7 @@ module _ (p : Parts) (w : IsWhole p None) where
   period-here = omega (arith, period-now, w.stands.period)
 
   pub tick-word : get_or p.store 108 0 ≡ now.lists.tick
-  unfolding lists_in
-  tick-word = ap (λ l. l.tick) (lists-back p.store now.lists held.valid held.size held.holds)
+  tick-word = held-tick p.store now.lists held
 
   ticks-here : p.step / p.period ≡ now.lists.tick
   ticks-here = (λ i. w.stands.steps i / w.stands.period i) ∙ sym ticks-now

@@ -1,8 +1,5 @@
 -- Steps of which nobody but the running task knows.
-use Rattle.std.proofs.Common.{◌≡◌, ◌≢◌, ℕ, suc, ◌+◌, ◌/◌, ◌%◌, ◌<◌, ◌≤◌, ◌⊎◌, true, false, cond, None, List, [], length, set, inl, inr, refl, sym, ap, ◌∙◌, subst, arith}
-use Rattle.std.proofs.lemmas.Bool.{eq-eqb}
-use Rattle.std.proofs.Math.Nat.{div-mul-le_self}
-use Rattle.std.proofs.lemmas.Nat.{le-div}
+use Rattle.std.proofs.Common.{◌≡◌, ℕ, suc, ◌+◌, ◌/◌, ◌<◌, ◌≤◌, ◌⊎◌, true, None, List, [], length, set, inl, inr, refl, sym, ap, ◌∙◌, subst, arith}
 use Rattle.session_text.specs.Ranges.{most_steps}
 use Rattle.word_store.specs.declared.registers.Regs.{Regs}
 use Rattle.cint_exec.specs.Instruction.{instruction}
@@ -20,12 +17,11 @@ use Rattle.word_kinds.specs.ByteMap.{MarksAll}
 use Rattle.clock_device.specs.Tick.{with_tick}
 use Rattle.clock_device.proofs.TickLists.{tick-owned}
 use Rattle.guest_instructions.specs.Guarded.{is_owned}
-use Rattle.guest_turns.proofs.FaultedTurn.{stays-instruction}
 use Rattle.machine_parts.specs.declared.parts.Parts.{Parts}
 use Rattle.machine_parts.specs.Stands.{Stands}
 use Rattle.kernel_steps.specs.Quiet.{IsQuietFor, after_instruction_of, instruction_of, passed}
-use Rattle.kernel_steps.specs.Step.{Stepped, and_then, quietly, run, step, with_step, with_store}
-use Rattle.kernel_steps.proofs.NextTick.{next-tick, some-period}
+use Rattle.kernel_steps.specs.Step.{Stepped, and_then, quietly, run, step, with_store}
+use Rattle.kernel_steps.proofs.NextTick.{some-period}
 use Rattle.kernel_steps.proofs.QuietMachines.{guest-full, idle-full}
 use Rattle.kernel_steps.proofs.QuietSteps.{IsReady}
 use Rattle.kernel_steps.proofs.QuietSpans.{full-ready, guest-left, guest-passed, idle-run, quiet-first}
@@ -33,10 +29,9 @@ use Rattle.kernel_steps.proofs.Runs.{run-more}
 use Rattle.kernel_steps.proofs.StoredWords.{HasStore, store-holds}
 use Rattle.kernel_steps.proofs.QuietDevices.{ticked-store, ticks_to}
 use Rattle.kernel_machine.specs.Machine.{IsWhole, kernel_of}
-use Rattle.kernel_machine.specs.Runs.{HasPassed, counted}
+use Rattle.kernel_machine.specs.Runs.{HasPassed, IsOnWay, counted}
 use Rattle.kernel_machine.proofs.LeftParts.{stands-changed}
 use Rattle.kernel_machine.proofs.OneMachine.{stop-of}
-use Rattle.kernel_machine.proofs.StepParts.{stands-step}
 
 run-zero : (k : Kernel) → run 0 k ≡ quietly k
 unfolding run
@@ -82,29 +77,24 @@ stands-counted p k st m =
       keys = st.keys;
       steps = ap (λ i. i + m) st.steps;
       period = st.period;
-      rest = record { residents = st.rest.residents; console = st.rest.console; shell = st.rest.shell; pipes = st.rest.pipes };
+      console = st.console;
+      shell = st.shell;
+      pipes = st.pipes;
     } in
     subst (λ z. Stands (record p { store = set p.store 108 z; step = p.step + m }) (passed m k)) (λ i. (sym st.steps i + m) / sym st.period i) stands
 
--- ---- no guest runs
+-- ---- nobody runs
 
 module _ (p : Parts) (w : IsWhole p None) where
   abbrev now : Kernel
   now = kernel_of p None
 
-  pub passed-idle : (m : ℕ) → is_guest_id now.lists.running ≡ false → IsQuietFor m now → p.step + m ≤ most_steps → HasPassed m now (counted m p)
+  pub passed-idle : (m : ℕ) → now.lists.running ≡ 0 → IsQuietFor m now → p.step + m ≤ most_steps → HasPassed m now (counted m p)
   passed-idle m none q few =
       passed-by m now (passed m now) (counted m p) (idle-run m (image now) now (full-ready now w.valid w.stands.full (stop-of p None)) none q) (stands-counted p now w.stands m)
-      (idle-full m now w.valid w.stands.full (stop-of p None) w.stands.rest none (omega (arith, few, w.stands.steps)) q) (stop-of p None)
+      (idle-full m now w.valid w.stands.full (stop-of p None) none (omega (arith, few, w.stands.steps)) q) (stop-of p None)
 
 -- ---- a guest runs
-
--- n steps were taken, and m more may be: the guest still runs, and no device acts in them
-pub record IsOnWay (k : Kernel) (n m : ℕ) (p : Parts) : Type 0 where
-  pub passed : HasPassed n k p
-  pub guest : is_guest_id (run n k).kernel.lists.running ≡ true
-  pub quiet : 0 < m → IsQuietFor m (run n k).kernel
-  pub steps : (run n k).kernel.steps ≡ k.steps + n
 
 -- so they are before the first one
 pub on-way-first : (p : Parts) (w : IsWhole p None) (m : ℕ) → is_guest_id (kernel_of p None).lists.running ≡ true → (0 < m → IsQuietFor m (kernel_of p None)) → IsOnWay (kernel_of p None) 0 m p
@@ -125,7 +115,7 @@ stands-instruction p j t r st holds words regs =
     let q : Parts = record p { store = t; regs = r } in
     let size : length t ≡ length p.store = holds.size ∙ sym st.keeper.lists.size in
     let one : Stands q (record (with_store t j.lists j) { regs = left }) =
-    stands-changed p j st t t p.kinds r j.lists [] left j.stop size (changed-none t j.lists holds) st.keeper.knows refl regs (record { period = refl; residents = refl }) in
+    stands-changed p j st t t p.kinds r j.lists [] left j.stop size (changed-none t j.lists holds) st.keeper.knows refl regs (refl) in
     subst (λ z. Stands q (record (with_store z j.lists j) { regs = left })) words one
 
 module _ (k : Kernel) (n m : ℕ) (p : Parts) (way : IsOnWay k n (suc m) p) (few : k.steps + (n + suc m) ≤ most_steps) where
@@ -163,7 +153,7 @@ module _ (k : Kernel) (n m : ℕ) (p : Parts) (way : IsOnWay k n (suc m) p) (few
     on-way-next t r holds words regs =
         let q : Parts = record p { store = t; regs = r } in
         let full : IsFullMachine there =
-        guest-full here way.passed.valid way.passed.stands.full way.passed.goes way.guest next way.passed.stands.rest (omega (arith, few, way.steps)) first in
+        guest-full here way.passed.valid way.passed.stands.full way.passed.goes way.guest next (omega (arith, few, way.steps)) first in
         record {
           passed = passed-by (n + 1) k there (counted 1 q) more-steps (stands-counted q (after_instruction_of here) (stands-instruction p here t r way.passed.stands holds words regs) 1) full way.passed.goes;
           guest = ap (λ (x : Kernel). is_guest_id x.lists.running) same ∙ way.guest;
@@ -171,14 +161,7 @@ module _ (k : Kernel) (n m : ℕ) (p : Parts) (way : IsOnWay k n (suc m) p) (few
           steps = ap (λ (x : Kernel). x.steps) same ∙ omega (arith, way.steps);
         }
 
--- an instruction that was not executed leaves the parts
-pub on-way-stays : (k : Kernel) (n m : ℕ) (p : Parts) → IsOnWay k n m p → (t : List ℕ) (r : Regs) (outcome : Outcome) → outcome ≡ (instruction (is_owned (run n k).kernel.lists) p.store p.regs).outcome
-    → t ≡ (instruction (is_owned (run n k).kernel.lists) p.store p.regs).words → r ≡ (instruction (is_owned (run n k).kernel.lists) p.store p.regs).regs → (outcome ≡ Next → ⊥) → HasPassed n k (record p { store = t; regs = r })
-on-way-stays k n m p way t r outcome is words regs other =
-    let left = (stays-instruction (is_owned (run n k).kernel.lists) p.store p.regs).stays (λ next. other (is ∙ next)) in
-    subst (HasPassed n k) (λ i. record p { store = (sym left.0 ∙ sym words) i; regs = (sym left.1 ∙ sym regs) i }) way.passed
-
--- and none that ended otherwise was executed
+-- none that ended otherwise was executed
 pub not-next : (o : Outcome) → (o ≡ Sys) ⊎ (o ≡ Returned) ⊎ ((f : Fault) × (o ≡ Faulted f)) → o ≡ Next → ⊥
 not-next o (inl e) next = cc
 not-next o (inr (inl e)) next = cc

@@ -27,11 +27,11 @@ use Rattle.kernel_steps.specs.Step.{dispatch, key, output, quietly, served, swit
 use Rattle.kernel_steps.proofs.DevicesKept.{key-numbers, output-numbers, tick-numbers}
 use Rattle.kernel_steps.proofs.DispatchKept.{dispatch-numbers}
 use Rattle.kernel_machine.specs.Leaves.{CanServe, Leaves}
-use Rattle.kernel_machine.proofs.LeftParts.{SameMachine, leaves-none, stands-changed}
+use Rattle.kernel_machine.proofs.LeftParts.{leaves-none, stands-changed}
 
 -- the parts stand for the kernel with these lists, whose plain words were written over those of the image
 pub stands-settled : (p : Parts) (k : Kernel) → Stands p k → (t : List ℕ) (marks : List Bool) (regs : Regs) (l : Lists) (plain : Pairs) (r : Regs) → IsChanged p.store t l plain → Knows (MarksAll marks) l → length marks ≡ length p.kinds
-    → regs ≡ r → SameMachine k.lists l → Stands (record p { store = t; regs = regs; kinds = marks }) (record (settled plain k l) { regs = r })
+    → regs ≡ r → l.period ≡ k.lists.period → Stands (record p { store = t; regs = regs; kinds = marks }) (record (settled plain k l) { regs = r })
 unfolding settled
 stands-settled p k st t marks regs l plain r c knows room e same =
     subst (λ z. Stands (record p { store = t; regs = regs; kinds = marks }) (record (with_store (written plain z) l k) { regs = r })) (image-list p.store k st.image)
@@ -40,7 +40,7 @@ stands-settled p k st t marks regs l plain r c knows room e same =
 -- ---- a device
 
 module _ (p : Parts) (k : Kernel) (st : Stands p k) where
-  pub stands-served : (t : List ℕ) (m : Served) → IsServed p.store t k.lists m → SameMachine k.lists m.lists → Stands (record p { store = t }) (served k m).kernel
+  pub stands-served : (t : List ℕ) (m : Served) → IsServed p.store t k.lists m → m.lists.period ≡ k.lists.period → Stands (record p { store = t }) (served k m).kernel
   unfolding settled
   stands-served t m is same =
       let found = stands-settled p k st t p.kinds p.regs m.lists [] k.regs is.lists (knows-same (MarksAll p.kinds) k.lists m.lists is.same st.keeper.knows) refl st.regs same in
@@ -55,7 +55,9 @@ module _ (p : Parts) (k : Kernel) (st : Stands p k) where
         keys = found.keys;
         steps = found.steps;
         period = found.period;
-        rest = record { residents = found.rest.residents; console = found.rest.console; shell = found.rest.shell; pipes = found.rest.pipes };
+        console = found.console;
+        shell = found.shell;
+        pipes = found.pipes;
       }
 
   -- other bytes are typed ahead
@@ -71,7 +73,9 @@ module _ (p : Parts) (k : Kernel) (st : Stands p k) where
     keys = st.keys;
     steps = st.steps;
     period = st.period;
-    rest = record { residents = st.rest.residents; console = st.rest.console; shell = st.rest.shell; pipes = st.rest.pipes };
+    console = st.console;
+    shell = st.shell;
+    pipes = st.pipes;
   }
 
   -- ---- the clock
@@ -88,11 +92,11 @@ module _ (p : Parts) (k : Kernel) (st : Stands p k) where
   unfolding settled
   served-lists m = refl
 
-  ticked-same : CanServe k → eqb (k.steps % k.lists.period) 0 ≡ true → SameMachine k.lists (ticked k.lists).lists
+  ticked-same : CanServe k → eqb (k.steps % k.lists.period) 0 ≡ true → (ticked k.lists).lists.period ≡ k.lists.period
   ticked-same can due =
       let nums : numbers_of (ticked k.lists).lists ≡ numbers_after_tick k =
       ap numbers_of (sym (served-lists (ticked k.lists))) ∙ ap (λ x. numbers_of x.kernel.lists) (sym (tick-due due)) ∙ tick-numbers k can.dispatch in
-      record { period = ap (λ n. n.period) nums; residents = ap (λ n. n.residents) nums }
+      ap (λ n. n.period) nums
 
   same-time : p.step % p.period ≡ k.steps % k.lists.period
   same-time = λ i. st.steps i % st.period i
@@ -112,10 +116,10 @@ module _ (p : Parts) (k : Kernel) (st : Stands p k) where
   unfolding output
   output-served = refl
 
-  finished-same : CanDispatch k.lists k.regs → SameMachine k.lists (finished k.lists).lists
+  finished-same : CanDispatch k.lists k.regs → (finished k.lists).lists.period ≡ k.lists.period
   finished-same can =
       let nums : numbers_of (finished k.lists).lists ≡ numbers_of k.lists = ap numbers_of (sym (served-lists (finished k.lists))) ∙ ap (λ x. numbers_of x.lists) (sym output-served) ∙ output-numbers k can in
-      record { period = ap (λ n. n.period) nums; residents = ap (λ n. n.residents) nums }
+      ap (λ n. n.period) nums
 
   pub leaves-output : (t : List ℕ) (o n : Outside) → CanDispatch k.lists k.regs → IsServed p.store t k.lists (finished k.lists) → n.shown ≡ o.shown ++ printed p.store k.lists.output
       → NotesAll o.noted n.noted o.failed n.failed (finished k.lists).events → Leaves (record p { store = t }) o n (output k)
@@ -133,10 +137,10 @@ module _ (p : Parts) (k : Kernel) where
   unfolding key settled
   key-met = refl
 
-  met-same : CanDispatch k.lists k.regs → numbers_of (with_key_typed k).lists ≡ numbers_of k.lists → SameMachine (with_key_typed k).lists (met (with_key_typed k).type_ahead (with_key_typed k).lists).lists
+  met-same : CanDispatch k.lists k.regs → numbers_of (with_key_typed k).lists ≡ numbers_of k.lists → (met (with_key_typed k).type_ahead (with_key_typed k).lists).lists.period ≡ (with_key_typed k).lists.period
   met-same can typed =
       let nums : numbers_of (met (with_key_typed k).type_ahead (with_key_typed k).lists).lists ≡ numbers_of (with_key_typed k).lists = ap numbers_of (sym key-met) ∙ key-numbers k can ∙ sym typed in
-      record { period = ap (λ n. n.period) nums; residents = ap (λ n. n.residents) nums }
+      ap (λ n. n.period) nums
 
   pub leaves-key : (t typed : List ℕ) (o n : Outside) → Stands p (with_key_typed k) → CanDispatch k.lists k.regs → numbers_of (with_key_typed k).lists ≡ numbers_of k.lists → IsServed p.store t (with_key_typed k).lists (met p.tty (with_key_typed k).lists)
       → typed ≡ left_typed p.tty (with_key_typed k).lists.keyboard → n.shown ≡ o.shown → NotesAll o.noted n.noted o.failed n.failed (met p.tty (with_key_typed k).lists).events → Leaves (record p { store = t; tty = typed }) o n (key k)
@@ -167,8 +171,8 @@ typed-numbers k = ap numbers_of (typed-lists k.keys k)
 -- ---- dispatch
 
 module _ (p : Parts) (k : Kernel) (st : Stands p k) where
-  switched-same : SameMachine k.lists (dispatched p.store k.lists k.regs).lists
-  switched-same = let nums = dispatch-numbers p.store k.lists k.regs in record { period = ap (λ n. n.period) nums; residents = ap (λ n. n.residents) nums }
+  switched-same : (dispatched p.store k.lists k.regs).lists.period ≡ k.lists.period
+  switched-same = let nums = dispatch-numbers p.store k.lists k.regs in ap (λ n. n.period) nums
 
   pub leaves-dispatch : (t : List ℕ) (marks : List Bool) (regs : Regs) (o n : Outside) → IsDispatched p.store t k.lists p.regs regs (MarksAll marks) o.noted n.noted o.failed n.failed → length marks ≡ length p.kinds → n.shown ≡ o.shown
       → Leaves (record p { store = t; regs = regs; kinds = marks }) o n (dispatch k)

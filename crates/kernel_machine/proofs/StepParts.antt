@@ -4,6 +4,7 @@ use Rattle.std.specs.Prelude.{is_none, is_some, not}
 use Rattle.std.specs.Option.{option_map}
 use Rattle.std.proofs.Math.Nat.{div-le_self}
 use Rattle.session_text.specs.Ranges.{most_steps}
+use Rattle.ram_disc.specs.Disc.{IsDisc}
 use Rattle.kernel_model.specs.Kernel.{Kernel}
 use Rattle.kernel_model.specs.ValidKernel.{IsFullMachine}
 use Rattle.kernel_dispatch.specs.Dispatch.{CanDispatch}
@@ -13,12 +14,12 @@ use Rattle.bare_machine.specs.declared.stops.Stop.{Stop}
 use Rattle.machine_parts.specs.Stops.{stop_of}
 use Rattle.machine_parts.specs.declared.parts.Parts.{Parts}
 use Rattle.machine_parts.specs.Stands.{Stands}
-use Rattle.kernel_steps.specs.Parts.{RunsFirst}
+use Rattle.kernel_steps.specs.Parts.{CanTurn, IsTaken}
 use Rattle.kernel_steps.specs.Step.{after_the_turn, and_then, dispatch, key, output, quietly, step, tick, turn, unless_stopped, with_step}
 use Rattle.kernel_steps.proofs.DevicesKept.{key-dispatch, key-stop, output-dispatch, output-stop, tick-dispatch, tick-stop}
-use Rattle.kernel_steps.proofs.RunningCaller.{full-runs, runs-alone, runs-calls}
+use Rattle.kernel_steps.proofs.StepKept.{step-turns}
 use Rattle.kernel_steps.proofs.TurnKept.{numbers-turn, turn-dispatch}
-use Rattle.kernel_machine.specs.Leaves.{CanServe, CanTurn}
+use Rattle.kernel_machine.specs.Leaves.{CanServe}
 
 -- a dispatch may follow on each of the devices
 pub record Serving (k : Kernel) : Type 0 where
@@ -35,11 +36,8 @@ serving k can =
 -- ---- the turn of a step
 
 module _ (k : Kernel) (h : IsFullMachine k) (goes : k.stop ≡ None) where
-  runs : RunsFirst k.lists k.regs
-  runs = full-runs k h goes
-
   pub can-turn : CanTurn (with_step k)
-  can-turn = record { goes = goes; caller = runs-calls k.lists k.regs runs h.lists; alone = runs-alone k.lists k.regs runs; byte = h.registers.byte }
+  can-turn = step-turns k h goes
 
   few-ticks : k.steps < most_steps → k.lists.tick < 2 ^ 32 - 1
   few-ticks few = omega (arith, (h.running goes).tick, div-le_self k.steps k.lists.period, few)
@@ -47,8 +45,8 @@ module _ (k : Kernel) (h : IsFullMachine k) (goes : k.stop ≡ None) where
   -- where the turn did not stop the machine, the devices may follow
   pub can-serve : k.steps < most_steps → CanServe (turn (with_step k)).kernel
   can-serve few = record {
-    dispatch = turn-dispatch (with_step k) runs h.lists;
-    tick = subst (λ n. n < 2 ^ 32 - 1) (sym (ap (λ n. n.tick) (numbers-turn (with_step k) runs))) (few-ticks few);
+    dispatch = turn-dispatch (with_step k) can-turn;
+    tick = subst (λ n. n < 2 ^ 32 - 1) (sym (ap (λ n. n.tick) (numbers-turn (with_step k) can-turn))) (few-ticks few);
   }
 
 -- one step more is counted
@@ -64,7 +62,9 @@ stands-step p k n st e = record {
   keys = st.keys;
   steps = e ∙ ap (λ n. n + 1) st.steps;
   period = st.period;
-  rest = record { residents = st.rest.residents; console = st.rest.console; shell = st.rest.shell; pipes = st.rest.pipes };
+  console = st.console;
+  shell = st.shell;
+  pipes = st.pipes;
 }
 
 -- ---- the whole step
@@ -111,7 +111,19 @@ some-stopped None r e some = absurd (no-some (ap is_none (sym e) ∙ some))
     no-some x = cc
 some-stopped (Some s) r e some = (s, refl)
 
+-- what the code knows of a step, from the parts after its turn and at its end
+pub taken : (k : Kernel) (p q : Parts) → Stands p (turn (with_step k)).kernel → IsDisc p.disc → Stands q (step k).kernel → IsTaken k
+taken k p q turned disc whole = record {
+  turned = turned.keeper.lists.valid;
+  disc = subst IsDisc turned.disc disc;
+  lists = whole.keeper.lists.valid;
+  plain = whole.plain;
+}
+
 -- ---- a machine that has stopped, or has not
+
+pub not-both : (o : Option KernelStop) (s : KernelStop) → o ≡ None → o ≡ Some s → ⊥
+not-both o s none some = cc
 
 -- it stays as it is
 pub step-stays : (k : Kernel) (s : KernelStop) → k.stop ≡ Some s → step k ≡ quietly k

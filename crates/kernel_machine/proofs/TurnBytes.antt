@@ -1,5 +1,5 @@
--- A turn shows one byte at most.
-use Rattle.std.proofs.Common.{◌≡◌, ℕ, ◌≤◌, List, [], ◌∷◌, length, Bool, true, false, Result, Ok, Err, refl, sym, subst, arith}
+-- A guest's turn shows one byte at most.
+use Rattle.std.proofs.Common.{◌≡◌, ℕ, ◌+◌, ◌*◌, ◌^◌, ◌<◌, ◌≤◌, List, [], ◌∷◌, length, Bool, true, false, Option, Some, None, Result, Ok, Err, cond, eqb, get_or, ap, arith}
 use Rattle.word_store.specs.declared.registers.Regs.{Regs}
 use Rattle.cint_exec.specs.Instruction.{After, instruction}
 use Rattle.cint_exec.specs.declared.Outcome.{Outcome}
@@ -9,7 +9,6 @@ use Rattle.kernel_model.specs.Changes.{queue_of}
 use Rattle.kernel_model.specs.Image.{image}
 use Rattle.kernel_model.specs.Kernel.{Kernel}
 use Rattle.kernel_model.specs.Lists.{Lists}
-use Rattle.kernel_model.specs.Task.{is_guest_id}
 use Rattle.kernel_model.specs.ValidQueues.Place.{Work}
 use Rattle.call_answers.specs.Made.{Made}
 use Rattle.packet_calls.specs.TaskWait.{taskwait}
@@ -20,8 +19,21 @@ use Rattle.kernel_calls.specs.declared.requests.KernelCall.{KernelCall}
 use Rattle.kernel_calls.specs.declared.requests.KernelCall.TheVariants.{TaskWait}
 use Rattle.guest_instructions.specs.Guarded.{is_owned}
 use Rattle.guest_turns.specs.GuestTurn.{after_instruction, turn_without_reporter}
-use Rattle.kernel_steps.specs.Step.{turn}
-use Rattle.kernel_steps.proofs.TurnKept.{turn-guest, turn-nobody}
+use Rattle.kernel_steps.specs.GuestSteps.{guest_step}
+use Rattle.kernel_steps.proofs.TurnWays.{guest-ways}
+use Rattle.std.specs.List.{flat_map}
+use Rattle.std.specs.Prelude.{codes, decimal}
+use Rattle.std.proofs.lemmas.List.{length-append}
+use Rattle.tp_io.specs.Pieces.{joined}
+use Rattle.task_block.specs.TaskChain.{tasks_in}
+use Rattle.kernel_model.specs.HoldsLists.{HoldsLists}
+use Rattle.kernel_model.specs.Residents.{fault_packet}
+use Rattle.resident_requests.specs.Requests.{first_request, taken, words_taken, work}
+use Rattle.resident_requests.specs.Turns.{Served, request_turn, turn_of}
+use Rattle.resident_requests.specs.declared.requests.Request.{Request}
+use Rattle.fault_reporter.specs.FaultTurns.{fault_turn, fault_turn_from, reported_turn, unknown}
+use Rattle.fault_reporter.specs.Texts.{is_unreported_word, most_in_line, report, report_at, reports, reports_in}
+use Rattle.fault_reporter.proofs.ReportLines.{few_digits, lines-room, reports-read}
 
 wait-bytes : (r : Regs) (ps : List QueuedPacket) (m : Made) → length (of_wait r ps m).bytes ≤ 1
 wait-bytes r [] m = omega arith
@@ -49,9 +61,54 @@ guest-bytes : (s : List ℕ) (l : Lists) (r : Regs) → length (turn_without_rep
 unfolding turn_without_reporter
 guest-bytes s l r = let x : After = instruction (is_owned l) s r in after-bytes l x.words x.regs x.outcome
 
-pub turn-bytes : (k : Kernel) → length (turn k).bytes ≤ 1
-turn-bytes k = on (is_guest_id k.lists.running) refl
+pub turn-bytes : (k : Kernel) → length (guest_step k).bytes ≤ 1
+turn-bytes k =
+    guest-ways (λ x. length x.bytes ≤ 1) (image k) k.lists k.regs (guest-bytes (image k) k.lists k.regs) (λ f is. guest-bytes (image k) k.lists k.regs)
+
+-- ---- the task that reports faults
+
+-- a line has at most 47 bytes, and there are at most 64
+seven : (a b c d e f g : List ℕ) → length (joined (a ∷ b ∷ c ∷ d ∷ e ∷ f ∷ g ∷ [])) ≡ length a + (length b + (length c + (length d + (length e + (length f + length g)))))
+seven a b c d e f g =
+    simp (length-append {A = ℕ}) (omega arith)
+
+module _ (s : List ℕ) (words : (a : ℕ) → get_or s a 0 < 2 ^ 32) where
+  line-short : (t : ℕ) → length (report_at s t) ≤ most_in_line
+  line-short t = on (is_unreported_word (get_or s (t + 21) 0))
+    where
+      on : (b : Bool) → length (cond b (report (get_or s (t + 1) 0) (get_or s (t + 21) 0) (get_or s (t + 22) 0)) []) ≤ most_in_line
+      on true =
+          omega (
+            arith,
+            seven (codes "Task ") (decimal (get_or s (t + 1) 0)) (codes " fault ") (decimal (get_or s (t + 21) 0)) (codes " at ") (decimal (get_or s (t + 22) 0)) (codes "\n"),
+            few_digits (get_or s (t + 1) 0) (words (t + 1)),
+            few_digits (get_or s (t + 21) 0) (words (t + 21)),
+            few_digits (get_or s (t + 22) 0) (words (t + 22)),
+          )
+      on false = omega arith
+
+  lines-short : (ts : List ℕ) → length (flat_map (report_at s) ts) ≤ most_in_line * length ts
+  lines-short [] = omega arith
+  lines-short (t ∷ ts) = omega (arith, length-append (report_at s t) (flat_map (report_at s) ts), line-short t, lines-short ts)
+
+  reports-short : (l : Lists) → HoldsLists s l → length (reports l) ≤ 3008
+  unfolding reports_in
+  reports-short l h = omega (arith, ap length (reports-read s l h), lines-short (tasks_in s), lines-room s l 5184 h (omega arith))
+
+no-bytes : (serve : List ℕ → Lists → Request → Served) (s : List ℕ) (l : Lists) → length (request_turn serve s l).bytes ≤ 0
+no-bytes serve s l = on (first_request (words_taken s l) (work l))
   where
-    on : (b : Bool) → is_guest_id k.lists.running ≡ b → length (turn k).bytes ≤ 1
-    on true e = subst (λ x. length x.bytes ≤ 1) (sym (turn-guest k e)) (guest-bytes (image k) k.lists k.regs)
-    on false e = subst (λ x. length x.bytes ≤ 1) (sym (turn-nobody k e)) (omega arith)
+    on : (o : Option Request) → length (turn_of o (serve (words_taken s l) (taken l).lists) s l).bytes ≤ 0
+    on None = omega arith
+    on (Some r) = omega arith
+
+pub report-bytes : (s : List ℕ) (l : Lists) → HoldsLists s l → ((a : ℕ) → get_or s a 0 < 2 ^ 32) → length (fault_turn s l).bytes ≤ 3008
+report-bytes s l h words = on (work l)
+  where
+    on : (ps : List QueuedPacket) → length (fault_turn_from ps s l).bytes ≤ 3008
+    on [] = omega arith
+    on (p ∷ ps) = by (eqb p.address fault_packet)
+      where
+        by : (b : Bool) → length (cond b (reported_turn p ps s l) (request_turn unknown s l)).bytes ≤ 3008
+        by true = reports-short s words l h
+        by false = omega (arith, no-bytes unknown s l)

@@ -4,9 +4,8 @@ use Rattle.std.specs.Option.{option_map}
 use Rattle.kernel_model.specs.Image.{plain_words}
 use Rattle.kernel_model.specs.Kernel.{Kernel, Stop as KernelStop}
 use Rattle.kernel_model.specs.Kernel.Stop.{Quit as KernelQuit, Finish as KernelFinish, Fault as KernelFault}
-use Rattle.kernel_model.specs.Pipes.{no_pipes}
 use Rattle.kernel_model.specs.Recovered.{lists_in}
-use Rattle.kernel_model.specs.ValidKernel.{IsFullMachine, no_command, no_line}
+use Rattle.kernel_model.specs.ValidKernel.{IsFullMachine}
 use Rattle.bare_machine.specs.declared.stops.Stop.{Stop}
 use Rattle.bare_machine.specs.declared.stops.Stop.TheVariants.{Steps, Quit, Finish, Fault}
 use Rattle.machine_parts.specs.declared.parts.Parts.{Parts}
@@ -37,12 +36,12 @@ kernel_of p stop = record {
   plain = plain_words p.store (lists_in p.store);
   regs = p.regs;
   steps = p.step;
-  console = no_line;
-  shell = no_command;
+  console = p.console;
+  shell = p.shell;
   disc = p.disc;
   type_ahead = p.tty;
   keys = p.keys;
-  pipes = no_pipes;
+  pipes = p.pipes;
   stop = stop_in stop;
 }
 

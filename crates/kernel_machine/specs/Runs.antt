@@ -8,10 +8,12 @@ use Rattle.bare_machine.specs.declared.stops.Stop.{Stop}
 use Rattle.packet_queue.specs.declared.events.KernelEvent.{KernelEvent}
 use Rattle.kernel_model.specs.Kernel.{Kernel}
 use Rattle.kernel_model.specs.NotedEvents.{NotesAll}
+use Rattle.kernel_model.specs.Task.{is_guest_id}
 use Rattle.kernel_model.specs.ValidKernel.{IsFullMachine}
 use Rattle.machine_parts.specs.declared.parts.Parts.{Parts}
 use Rattle.machine_parts.specs.Stands.{Stands}
 use Rattle.machine_parts.specs.Stops.{end_of_run}
+use Rattle.kernel_steps.specs.Quiet.{IsQuietFor}
 use Rattle.kernel_steps.specs.Step.{quietly, run}
 
 -- n steps of the kernel k, which left the parts p; none of them showed or noted anything, or stopped the machine
@@ -24,6 +26,17 @@ pub record HasPassed (n : ℕ) (k : Kernel) (p : Parts) : Type 0 where
 -- the parts once n steps more are counted, and with them the ticks, in the word of the root
 abbrev pub counted : ℕ → Parts → Parts
 counted n p = record p { step = p.step + n; store = slice_set p.store (root_address Tick) ((p.step + n) / p.period) }
+
+-- the clock does not tick before the last of so many steps
+abbrev pub HasNoTick : ℕ → Parts → Type 0
+HasNoTick n p = (i : ℕ) → i < n → (p.step + i) / p.period ≡ p.step / p.period
+
+-- n steps were taken, and m more may be: the guest still runs, and no device acts in them
+pub record IsOnWay (k : Kernel) (n m : ℕ) (p : Parts) : Type 0 where
+  pub passed : HasPassed n k p
+  pub guest : is_guest_id (run n k).kernel.lists.running ≡ true
+  pub quiet : 0 < m → IsQuietFor m (run n k).kernel
+  pub steps : (run n k).kernel.steps ≡ k.steps + n
 
 -- the output device has no packet, and no byte meets one that waits for it
 pub record ServesNone (k : Kernel) : Type 0 where

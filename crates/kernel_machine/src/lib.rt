@@ -3,6 +3,7 @@
 
 mod devices;
 pub mod machine;
+mod residents;
 mod runs;
 mod spans;
 mod steps;

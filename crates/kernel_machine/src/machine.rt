@@ -2,12 +2,14 @@
 ghost use Rattle.std.specs.Prelude.{◌≡◌, ◌<◌, ◌+◌, ◌≤◌, [], Some, None, false};
 ghost use Rattle.std.specs.Option.{option_map};
 ghost use Rattle.session_text.specs.Ranges.{most_steps};
+ghost use Rattle.kernel_model.specs.HoldsLists.{HoldsLists};
 ghost use Rattle.kernel_model.specs.Kernel.{Kernel};
+ghost use Rattle.kernel_model.specs.Lists.{Lists};
 ghost use Rattle.kernel_model.specs.NotedEvents.{NotesAll};
 ghost use Rattle.kernel_model.specs.ValidKernel.{IsFullMachine};
 ghost use Rattle.machine_parts.specs.Stands.{Stands};
 ghost use Rattle.machine_parts.specs.Stops.{stop_of};
-ghost use Rattle.kernel_steps.specs.Step.{boot_events, step};
+ghost use Rattle.kernel_steps.specs.Step.{boot_events, first_events, run_events, step};
 ghost use Rattle.kernel_machine.specs.Machine.{kernel_of};
 
 use crate::steps::step_or_stay;
@@ -16,7 +18,9 @@ use bare_machine::Stop;
 use machine_parts::Parts;
 use packet_queue::{EventLog, KernelEvent};
 use std::marker::Model;
+use task_block::{RootField, root};
 use tp_io::Output;
+use word_store::Store;
 
 /// A machine with a kernel. Contracts see it as the one valid kernel for which its parts stand, and the bytes of its last step.
 #[derive(Drop)]
@@ -79,15 +83,14 @@ impl Machine {
         self.output.bytes()
     }
 
-    /// Notes the events of the boot of a machine that has taken no step: that its running task runs, where there is one.
+    /// Notes the events of the boot of a machine that has taken no step: where there are residents, that the console has sent its key
+    /// packet and that the shell's packet has come to it; and then that its running task runs, where there is one.
     pub fn note_boot<L: EventLog>(&self, log: &mut L)
         ensures { NotesAll (L.noted log.old) (L.noted log.new) (L.has_failed log.old)
             (L.has_failed log.new) (boot_events self.now.kernel) }
     {
-        let task = running(&self.parts.store);
-        if task != 0 {
-            log.note(KernelEvent::Runs { task });
-        }
+        note_residents(&self.parts.store, log);
+        note_running(&self.parts.store, log);
     }
 
     /// Takes one step, and answers why the machine has stopped, if it has. A machine that has stopped before stays as it is,
@@ -103,5 +106,51 @@ impl Machine {
         self.output.clear();
         self.stop = step_or_stay(&mut self.parts, self.stop, &mut self.output, log);
         self.stop
+    }
+}
+
+/// The number of the keyboard, that of the console and its key packet, and that of the shell and its packet.
+const KEYBOARD: i32 = -2;
+
+const CONSOLE: i32 = 3;
+
+const KEY_PACKET: u32 = 271;
+
+const SHELL: i32 = 1;
+
+const SHELL_PACKET: u32 = 279;
+
+// Where there are residents, the console has sent its key packet, and the shell's packet has come to it.
+fn note_residents<L: EventLog>(store: &Store, log: &mut L)
+    requires { (l : Lists) × HoldsLists store.now l }
+    ensures { (l : Lists) → HoldsLists store.now l
+        → NotesAll (L.noted log.old) (L.noted log.new) (L.has_failed log.old)
+        (L.has_failed log.new) (first_events l.residents) }
+{
+    if root(store, RootField::Residents) == 0 {
+        return;
+    }
+    log.note(KernelEvent::Accepted {
+        queue: KEYBOARD,
+        packet: KEY_PACKET,
+        sender: CONSOLE,
+    });
+    log.note(KernelEvent::Accepted {
+        queue: SHELL,
+        packet: SHELL_PACKET,
+        sender: SHELL,
+    });
+}
+
+// The running task runs, where there is one.
+fn note_running<L: EventLog>(store: &Store, log: &mut L)
+    requires { (l : Lists) × HoldsLists store.now l }
+    ensures { (l : Lists) → HoldsLists store.now l
+        → NotesAll (L.noted log.old) (L.noted log.new) (L.has_failed log.old)
+        (L.has_failed log.new) (run_events l.running) }
+{
+    let task = running(store);
+    if task != 0 {
+        log.note(KernelEvent::Runs { task });
     }
 }

@@ -1,10 +1,11 @@
 // Steps in which no device acts.
-ghost use Rattle.std.specs.Prelude.{◌≡◌, ◌<◌, ◌≤◌, ◌+◌, ◌/◌, None, false, true, ℕ};
+ghost use Rattle.std.specs.Prelude.{◌≡◌, ◌<◌, ◌≤◌, ◌+◌, ◌-◌, ◌/◌, None, false, true, ℕ};
 ghost use Rattle.session_text.specs.Ranges.{most_steps};
+ghost use Rattle.kernel_model.specs.Kernel.{Kernel};
 ghost use Rattle.kernel_model.specs.Task.{is_guest_id};
 ghost use Rattle.kernel_steps.specs.Quiet.{AwaitsTick, ComeAfter, IsQuietFor};
 ghost use Rattle.kernel_machine.specs.Machine.{IsWhole, kernel_of};
-ghost use Rattle.kernel_machine.specs.Runs.{HasPassed, ServesNone, counted};
+ghost use Rattle.kernel_machine.specs.Runs.{HasNoTick, HasPassed, IsOnWay, ServesNone, counted};
 
 use crate::turns::{FIRST_GUEST, running};
 use cint_exec::Outcome;
@@ -29,9 +30,13 @@ pub(crate) fn pass(parts: &mut Parts, most: u64) -> u64
         return 0;
     }
     let quiet = most.min(before_key(parts)).min(before_return(parts));
-    if running(&parts.store) < FIRST_GUEST {
+    let task = running(&parts.store);
+    if task == 0 {
         wait(parts, quiet);
         return quiet;
+    }
+    if task < FIRST_GUEST {
+        return 0;
     }
     execute(parts, quiet)
 }
@@ -92,10 +97,10 @@ fn before(parts: &Parts, tick: u32) -> u64
     u64::from(tick) * u64::from(parts.period) - 1 - parts.step
 }
 
-// No guest runs in these steps, and only the steps and the ticks are counted.
+// Nobody runs in these steps, and only the steps and the ticks are counted.
 fn wait(parts: &mut Parts, steps: u64)
     requires whole { IsWhole parts.old None }
-    requires idle { is_guest_id (kernel_of parts.old None).lists.running ≡ false }
+    requires idle { (kernel_of parts.old None).lists.running ≡ 0 }
     requires quiet { 0 < steps → IsQuietFor steps (kernel_of parts.old None) }
     requires most { parts.old.step + steps ≤ most_steps }
     ensures { HasPassed steps (kernel_of parts.old None) parts.new }
@@ -114,9 +119,43 @@ fn execute(parts: &mut Parts, most: u64) -> u64
     ensures most { result ≤ most }
     ensures passed { HasPassed result (kernel_of parts.old None) parts.new }
 {
+    let mut taken = 0;
+    while taken < most {
+        let steps = up_to_tick(parts).min(most - taken);
+        let executed = execute_uncounted(parts, steps);
+        count(parts, executed);
+        taken += executed;
+        if executed < steps {
+            break;
+        }
+    }
+    taken
+}
+
+// How many steps there are up to the next tick, with the one in which it comes.
+fn up_to_tick(parts: &Parts) -> u64
+    requires period { 0 < parts.now.period }
+    ensures some { 0 < result }
+    ensures before { HasNoTick result parts.now }
+{
+    let period = u64::from(parts.period);
+    period - parts.step % period
+}
+
+// Executes at most so many instructions of the running guest, of which the clock ticks in the last one at most, and stops before
+// what is none. The answer is how many it executed, and they are still to be counted.
+fn execute_uncounted(parts: &mut Parts, most: u64) -> u64
+    requires way { (k : Kernel) × (n : ℕ) × (m : ℕ) × IsOnWay k n m parts.old × (most ≤ m)
+        × (k.steps + (n + m) ≤ most_steps) }
+    requires before { HasNoTick most parts.old }
+    ensures most { result ≤ most }
+    ensures way { (k : Kernel) (n m : ℕ) → IsOnWay k n m parts.old → most ≤ m
+        → k.steps + (n + m) ≤ most_steps
+        → IsOnWay k (n + result) (m - result) (counted result parts.new) }
+{
     for taken in 0..most {
         match execute_guest(&mut parts.store, &mut parts.regs, &parts.kinds) {
-            Outcome::Next => count(parts, 1),
+            Outcome::Next => {}
             Outcome::Sys | Outcome::Returned | Outcome::Fault(_) => return taken,
         }
     }

@@ -1,5 +1,5 @@
 // A step: the running task's turn, the devices, and dispatch.
-ghost use Rattle.std.specs.Prelude.{◌≡◌, ◌<◌, ◌-◌, ◌^◌, ◌+◌, ◌≤◌, None, length};
+ghost use Rattle.std.specs.Prelude.{◌≡◌, ◌<◌, [], None, length};
 ghost use Rattle.std.specs.Option.{option_map};
 ghost use Rattle.session_text.specs.Ranges.{most_steps};
 ghost use Rattle.kernel_model.specs.Kernel.{Kernel};
@@ -7,6 +7,7 @@ ghost use Rattle.kernel_model.specs.ValidKernel.{IsFullMachine};
 ghost use Rattle.kernel_calls.specs.Calls.{outside};
 ghost use Rattle.machine_parts.specs.Stands.{Stands};
 ghost use Rattle.machine_parts.specs.Stops.{stop_of};
+ghost use Rattle.kernel_steps.specs.Parts.{IsTaken};
 ghost use Rattle.kernel_steps.specs.Step.{after_the_turn, step};
 ghost use Rattle.kernel_machine.specs.Leaves.{CanServe, Leaves};
 
@@ -26,7 +27,7 @@ pub(crate) fn step_or_stay<L: EventLog>(
 ) -> Option<Stop>
     requires stands { (k : Kernel) × Stands parts.old k × IsFullMachine k
         × (stop ≡ option_map stop_of k.stop) × (k.steps < most_steps) }
-    requires room { length out.old + 2 ≤ 8192 }
+    requires empty { out.old ≡ [] }
     ensures stepped { (k : Kernel) → Stands parts.old k → IsFullMachine k
         → stop ≡ option_map stop_of k.stop
         → k.steps < most_steps → Leaves parts.new
@@ -35,6 +36,9 @@ pub(crate) fn step_or_stay<L: EventLog>(
     ensures stop { (k : Kernel) → Stands parts.old k → IsFullMachine k
         → stop ≡ option_map stop_of k.stop
         → k.steps < most_steps → result ≡ option_map stop_of (step k).kernel.stop }
+    ensures taken { (k : Kernel) → Stands parts.old k → IsFullMachine k → k.stop ≡ None
+        → stop ≡ option_map stop_of k.stop
+        → k.steps < most_steps → IsTaken k }
 {
     match stop {
         Some(_) => stop,
@@ -46,13 +50,15 @@ pub(crate) fn step_or_stay<L: EventLog>(
 fn step<L: EventLog>(parts: &mut Parts, out: &mut Output, log: &mut L) -> Option<Stop>
     requires stands { (k : Kernel) × Stands parts.old k × IsFullMachine k × (k.stop ≡ None)
         × (k.steps < most_steps) }
-    requires room { length out.old + 2 ≤ 8192 }
+    requires empty { out.old ≡ [] }
     ensures stepped { (k : Kernel) → Stands parts.old k → IsFullMachine k → k.stop ≡ None
         → k.steps < most_steps → Leaves parts.new
         (outside out.old (L.noted log.old) (L.has_failed log.old))
         (outside out.new (L.noted log.new) (L.has_failed log.new)) (step k) }
     ensures stop { (k : Kernel) → Stands parts.old k → IsFullMachine k → k.stop ≡ None
         → k.steps < most_steps → result ≡ option_map stop_of (step k).kernel.stop }
+    ensures taken { (k : Kernel) → Stands parts.old k → IsFullMachine k → k.stop ≡ None
+        → k.steps < most_steps → IsTaken k }
 {
     parts.step += 1;
     let stop = turn(parts, out, log);

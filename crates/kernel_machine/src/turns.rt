@@ -1,43 +1,70 @@
 // What the running task does in a step.
-ghost use Rattle.std.specs.Prelude.{◌≡◌, ◌<◌, None, length};
+ghost use Rattle.std.specs.Prelude.{◌≡◌, ◌<◌, [], length};
 ghost use Rattle.std.specs.Option.{option_map};
+ghost use Rattle.ram_disc.specs.Disc.{IsDisc};
 ghost use Rattle.kernel_model.specs.Kernel.{Kernel};
 ghost use Rattle.kernel_model.specs.HoldsLists.{HoldsLists};
 ghost use Rattle.kernel_model.specs.Lists.{Lists};
-ghost use Rattle.kernel_model.specs.Task.{is_guest_id};
 ghost use Rattle.kernel_calls.specs.Calls.{outside};
 ghost use Rattle.machine_parts.specs.Stands.{Stands};
 ghost use Rattle.machine_parts.specs.Stops.{stop_of};
-ghost use Rattle.kernel_steps.specs.Step.{stop_by, turn};
-ghost use Rattle.kernel_machine.specs.Leaves.{CanTurn, Leaves};
+ghost use Rattle.kernel_steps.specs.GuestSteps.{guest_step, is_recorded, stop_by};
+ghost use Rattle.kernel_steps.specs.Parts.{CanTurn};
+ghost use Rattle.kernel_steps.specs.Step.{turn};
+ghost use Rattle.kernel_machine.specs.Leaves.{Leaves, RunsGuest};
 
+use crate::residents::resident;
 use bare_machine::Stop;
+use cint_exec::Fault;
+use fault_reporter::record_fault;
 use guest_turns::{TurnEnd, guest_turn};
 use machine_parts::Parts;
 use packet_queue::EventLog;
-use task_block::{RootField, TcbField, field, root};
+use task_block::{RootField, TcbField, field, find, root};
 use tp_io::Output;
 use word_store::Store;
 
 /// The lowest number of a guest.
 pub(crate) const FIRST_GUEST: u32 = 5;
 
-/// The running guest's instruction, call, or end of its function; nothing where no guest runs. The answer is why the machine
-/// stops, if it does.
+/// The number of the task that reports faults.
+const REPORTER: u32 = 2;
+
+/// The fault of a write into a word of the kernel's.
+const KERNEL_WORD: u32 = 6;
+
+/// The running guest's instruction, call, or end of its function, or the running resident's turn; nothing where nobody runs. The
+/// answer is why the machine stops, if it does.
 pub(crate) fn turn<L: EventLog>(parts: &mut Parts, out: &mut Output, log: &mut L) -> Option<Stop>
     requires stands { (k : Kernel) × Stands parts.old k × CanTurn k }
-    requires room_for_byte { length out.old < 8192 }
+    requires empty { out.old ≡ [] }
     ensures turned { (k : Kernel) → Stands parts.old k → CanTurn k
         → Leaves parts.new
         (outside out.old (L.noted log.old) (L.has_failed log.old))
         (outside out.new (L.noted log.new) (L.has_failed log.new)) (turn k) }
     ensures stop { (k : Kernel) → Stands parts.old k → CanTurn k
         → result ≡ option_map stop_of (turn k).kernel.stop }
+    ensures disc { IsDisc parts.new.disc }
+    ensures room { length out.new < 8192 }
 {
     let task = running(&parts.store);
     if task < FIRST_GUEST {
-        return None;
+        return resident(parts, task, out, log);
     }
+    guest(parts, task, out, log)
+}
+
+// The running guest's turn. Where a task reports faults, a fault is recorded, unless it is a write into a word of the kernel's.
+fn guest<L: EventLog>(parts: &mut Parts, task: u32, out: &mut Output, log: &mut L) -> Option<Stop>
+    requires stands { (k : Kernel) × Stands parts.old k × RunsGuest task k }
+    requires empty { out.old ≡ [] }
+    ensures turned { (k : Kernel) → Stands parts.old k → RunsGuest task k
+        → Leaves parts.new
+        (outside out.old (L.noted log.old) (L.has_failed log.old))
+        (outside out.new (L.noted log.new) (L.has_failed log.new)) (guest_step k) }
+    ensures stop { (k : Kernel) → Stands parts.old k → RunsGuest task k
+        → result ≡ option_map stop_of (guest_step k).kernel.stop }
+{
     let end = guest_turn(
         &mut parts.store,
         &mut parts.regs,
@@ -45,7 +72,25 @@ pub(crate) fn turn<L: EventLog>(parts: &mut Parts, out: &mut Output, log: &mut L
         out,
         log,
     );
-    stop_by(task, end)
+    let TurnEnd::Faults(fault) = end else {
+        return stop_by(task, end);
+    };
+    if !is_recorded(&parts.store, fault) {
+        return stop_by(task, end);
+    }
+    record_fault(&mut parts.store, fault, log);
+    None
+}
+
+// Whether the fault is recorded, and stops nothing.
+fn is_recorded(store: &Store, fault: Fault) -> bool
+    requires { (l : Lists) × HoldsLists store.now l }
+    ensures { (l : Lists) → HoldsLists store.now l → result ≡ is_recorded l fault }
+{
+    if find(store, REPORTER).is_none() {
+        return false;
+    }
+    fault.code != KERNEL_WORD
 }
 
 /// The number of the task that runs, or 0.

@@ -9,7 +9,6 @@ use Rattle.kernel_model.specs.Changes.{queue_of, with_queue}
 use Rattle.kernel_model.specs.Image.{settled}
 use Rattle.kernel_model.specs.Kernel.{Kernel}
 use Rattle.kernel_model.specs.Lists.{Lists}
-use Rattle.kernel_model.specs.Task.{is_guest_id}
 use Rattle.kernel_model.specs.ValidQueues.Place.{Clock, Work}
 use Rattle.kernel_dispatch.specs.Dispatch.{CanDispatch}
 use Rattle.device_returns.specs.Returned.{Served, first_returned, place_of, returned_by, with_work_for}
@@ -20,10 +19,11 @@ use Rattle.tty_device.specs.Keys.{left_typed, met}
 use Rattle.tty_device.specs.Printed.{finished}
 use Rattle.tty_device.specs.Typed.{with_typed}
 use Rattle.guest_turns.specs.GuestTurn.{Numbers, numbers_of}
-use Rattle.guest_turns.proofs.RunningField.{RunsAs, RunsIn, queue-runs}
-use Rattle.kernel_steps.specs.Parts.{HasSameKeys, IsSameMachine, numbers_after_tick}
+use Rattle.guest_turns.proofs.RunningField.{RunsIn, queue-runs}
+use Rattle.kernel_steps.specs.Parts.{HasSameKeys, HasSameResidents, IsSameMachine, numbers_after_tick}
 use Rattle.kernel_steps.specs.Step.{Stepped, key, output, quietly, served, tick, typed_by, with_key_typed}
-use Rattle.kernel_steps.proofs.TurnKept.{due-or-not}
+use Rattle.kernel_steps.proofs.RunningCaller.{dispatch-after}
+use Rattle.kernel_steps.proofs.TurnWays.{due-or-not}
 
 -- ---- the lists: packets only move
 
@@ -60,22 +60,16 @@ runs-now l r can = record { numbers = refl; alone = can.field }
 runs-ticked : (l : Lists) (r : Regs) → CanDispatch l r → RunsIn (ticked_numbers l) (with_tick (l.tick + 1) l)
 runs-ticked l r can = record { numbers = refl; alone = can.field }
 
--- the same task runs
-dispatch-after : (nums : Numbers) (l m : Lists) (r : Regs) → CanDispatch l r → nums.running ≡ l.running → RunsIn nums m → CanDispatch m r
-dispatch-after nums l m r can same h =
-    let runs : m.running ≡ nums.running = ap (λ n. n.running) h.numbers in
-    record {
-      field = subst (λ i. AllByRecursion (RunsAs i) m.tasks) (sym runs) h.alone;
-      byte = can.byte;
-      idle = λ none. can.idle (ap is_guest_id (sym (runs ∙ same)) ∙ none);
-    }
-
 -- ---- what a device leaves
 
 module _ (k : Kernel) (m : Served) where
   served-same : IsSameMachine k (served k m).kernel
   unfolding settled
-  served-same = record { bare = refl; steps = refl; console = refl; shell = refl; disc = refl; pipes = refl }
+  served-same = record { bare = refl; steps = refl }
+
+  served-residents : HasSameResidents k (served k m).kernel
+  unfolding settled
+  served-residents = record { console = refl; shell = refl; disc = refl; pipes = refl }
 
   served-stop : (served k m).kernel.stop ≡ k.stop
   unfolding settled
@@ -101,7 +95,10 @@ module _ (k : Kernel) where
   tick-ways P due other = due-or-not P (eqb (k.steps % k.lists.period) 0) (λ j. served j (ticked j.lists)) k due other
 
   pub tick-same : IsSameMachine k (tick k).kernel
-  tick-same = tick-ways (λ x. IsSameMachine k x.kernel) (λ due. served-same k (ticked k.lists)) (λ none. record { bare = refl; steps = refl; console = refl; shell = refl; disc = refl; pipes = refl })
+  tick-same = tick-ways (λ x. IsSameMachine k x.kernel) (λ due. served-same k (ticked k.lists)) (λ none. record { bare = refl; steps = refl })
+
+  pub tick-residents : HasSameResidents k (tick k).kernel
+  tick-residents = tick-ways (λ x. HasSameResidents k x.kernel) (λ due. served-residents k (ticked k.lists)) (λ none. record { console = refl; shell = refl; disc = refl; pipes = refl })
 
   pub tick-stop : (tick k).kernel.stop ≡ k.stop
   tick-stop = tick-ways (λ x. x.kernel.stop ≡ k.stop) (λ due. served-stop k (ticked k.lists)) (λ none. refl)
@@ -159,15 +156,24 @@ module _ (k : Kernel) where
 
   typed-same : IsSameMachine k typed
   typed-same =
-      typed-ways (λ j. IsSameMachine k j) k.keys k (record { bare = refl; steps = refl; console = refl; shell = refl; disc = refl; pipes = refl })
-      (λ key rest is. record { bare = refl; steps = refl; console = refl; shell = refl; disc = refl; pipes = refl })
+      typed-ways (λ j. IsSameMachine k j) k.keys k (record { bare = refl; steps = refl })
+      (λ key rest is. record { bare = refl; steps = refl })
 
-  typed-lists : typed.lists ≡ k.lists
+  typed-residents : HasSameResidents k typed
+  typed-residents =
+      typed-ways (λ j. HasSameResidents k j) k.keys k (record { console = refl; shell = refl; disc = refl; pipes = refl })
+      (λ key rest is. record { console = refl; shell = refl; disc = refl; pipes = refl })
+
+  pub typed-lists : typed.lists ≡ k.lists
   typed-lists = typed-ways (λ j. j.lists ≡ k.lists) k.keys k refl (λ key rest is. refl)
 
   pub key-same : IsSameMachine k (key k).kernel
   unfolding key settled
-  key-same = record { bare = typed-same.bare; steps = typed-same.steps; console = typed-same.console; shell = typed-same.shell; disc = typed-same.disc; pipes = typed-same.pipes }
+  key-same = record { bare = typed-same.bare; steps = typed-same.steps }
+
+  pub key-residents : HasSameResidents k (key k).kernel
+  unfolding key settled
+  key-residents = record { console = typed-residents.console; shell = typed-residents.shell; disc = typed-residents.disc; pipes = typed-residents.pipes }
 
   pub key-stop : (key k).kernel.stop ≡ k.stop
   unfolding key settled
@@ -203,6 +209,10 @@ module _ (k : Kernel) where
   pub output-same : IsSameMachine k (output k).kernel
   unfolding output
   output-same = served-same k (finished k.lists)
+
+  pub output-residents : HasSameResidents k (output k).kernel
+  unfolding output
+  output-residents = served-residents k (finished k.lists)
 
   pub output-stop : (output k).kernel.stop ≡ k.stop
   unfolding output

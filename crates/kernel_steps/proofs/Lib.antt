@@ -2,7 +2,16 @@ pub mod FoundTask
 pub mod DispatchedTasks
 pub mod DispatchKept
 pub mod RunningCaller
+pub mod FaultRule
+pub mod CallRules
+pub mod HandledRules
+pub mod ConsoleRules
+pub mod ReportedRuns
+pub mod DeviceRules
+pub mod FaultCodes
+pub mod TurnWays
 pub mod TurnKept
+pub mod TurnRules
 pub mod NextTick
 pub mod DevicesKept
 pub mod StepKept

@@ -1,5 +1,5 @@
 -- Quiet spans lead from a valid kernel to a valid one.
-use Rattle.std.proofs.Common.{◌≡◌, ℕ, zero, suc, ◌+◌, ◌/◌, ◌<◌, ◌≤◌, false, true, None, List, set, sym, subst, arith}
+use Rattle.std.proofs.Common.{◌≡◌, ℕ, zero, suc, ◌+◌, ◌/◌, ◌<◌, ◌≤◌, false, true, None, List, refl, set, sym, subst, arith}
 use Rattle.cint_exec.specs.declared.Outcome.TheVariants.{Next}
 use Rattle.session_text.specs.Ranges.{most_steps}
 use Rattle.kernel_model.specs.Image.{HasPlainWords, IsImage, image}
@@ -7,40 +7,48 @@ use Rattle.kernel_model.specs.Kernel.{Kernel}
 use Rattle.kernel_model.specs.Task.{is_guest_id}
 use Rattle.kernel_model.specs.ValidKernel.{IsFullMachine}
 use Rattle.kernel_model.specs.ValidLists.{AreValid}
-use Rattle.machine_parts.specs.Stands.{KeepsNothing}
+use Rattle.ram_disc.specs.Disc.{IsDisc}
+use Rattle.kernel_steps.specs.Parts.{IsTaken}
 use Rattle.kernel_steps.specs.Quiet.{IsQuietFor, after_instruction_of, instruction_of, passed}
-use Rattle.kernel_steps.specs.Step.{Stepped, quietly, step, with_step}
+use Rattle.kernel_steps.specs.Step.{Stepped, quietly, step, turn, with_step}
 use Rattle.kernel_steps.proofs.NextTick.{some-period}
 use Rattle.kernel_steps.proofs.QuietDevices.{ticked-store}
 use Rattle.kernel_steps.proofs.QuietSpans.{full-ready, guest-passed, passed-more, passed-none, quiet-behind, quiet-first}
-use Rattle.kernel_steps.proofs.QuietSteps.{guest-store, idle-ready, idle-step, left-store, other-steps}
+use Rattle.kernel_steps.proofs.QuietSteps.{guest-store, guest-turn, idle-ready, idle-step, left-store, other-steps}
 use Rattle.kernel_steps.proofs.StepKept.{step-left}
 use Rattle.kernel_steps.proofs.StoredWords.{HasStore}
+use Rattle.kernel_steps.proofs.TurnWays.{turn-nobody}
 
 -- a store of a valid kernel
 any-store : (s : List ℕ) (k : Kernel) → IsFullMachine k → k.bare ≡ false → IsImage s k → HasStore s k
 any-store s k h full is = record { full = full; valid = h.lists; image = is; plain = h.plain }
 
--- where a step leaves just this kernel, and that has a store, it is valid
-quiet-full : (k j : Kernel) (t : List ℕ) → IsFullMachine k → k.stop ≡ None → KeepsNothing k → k.steps < most_steps → step k ≡ quietly j → HasStore t j → IsFullMachine j × KeepsNothing j
-quiet-full k j t h goes keeps few is store =
-    let all = subst (λ (x : Stepped). AreValid x.kernel.lists → HasPlainWords x.kernel → IsFullMachine x.kernel × KeepsNothing x.kernel × (x.kernel.bare ≡ k.bare)) is (step-left k h goes keeps few) store.valid store.plain in (
-      all.0,
-      all.1,
-    )
+-- where the turn leaves lists that are valid, and the disc, and the step just a kernel that has a store, that one is valid
+quiet-full : (k i j : Kernel) (t : List ℕ) → IsFullMachine k → k.stop ≡ None → k.steps < most_steps → turn (with_step k) ≡ quietly i → AreValid i.lists → i.disc ≡ k.disc → step k ≡ quietly j → HasStore t j → IsFullMachine j
+quiet-full k i j t h goes few turned v disc is store =
+    let taken : IsTaken k =
+    record {
+      turned = subst (λ (x : Stepped). AreValid x.kernel.lists) (sym turned) v;
+      disc = subst (λ (x : Stepped). IsDisc x.kernel.disc) (sym turned) (subst IsDisc (sym disc) h.residents.disc);
+      lists = subst (λ (x : Stepped). AreValid x.kernel.lists) (sym is) store.valid;
+      plain = subst (λ (x : Stepped). HasPlainWords x.kernel) (sym is) store.plain;
+    } in
+    subst (λ (x : Stepped). IsFullMachine x.kernel) is (step-left k h goes few taken).0
 
--- ---- where no guest runs
+-- ---- where nobody runs
 
-pub idle-full : (m : ℕ) (k : Kernel) → IsFullMachine k → k.bare ≡ false → k.stop ≡ None → KeepsNothing k → is_guest_id k.lists.running ≡ false → k.steps + m ≤ most_steps → IsQuietFor m k
+pub idle-full : (m : ℕ) (k : Kernel) → IsFullMachine k → k.bare ≡ false → k.stop ≡ None → k.lists.running ≡ 0 → k.steps + m ≤ most_steps → IsQuietFor m k
     → IsFullMachine (passed m k)
-idle-full zero k h full goes keeps none few q = subst IsFullMachine (sym (passed-none k (h.running goes).tick)) h
-idle-full (suc m) k h full goes keeps none few q =
+idle-full zero k h full goes none few q = subst IsFullMachine (sym (passed-none k (h.running goes).tick)) h
+idle-full (suc m) k h full goes none few q =
     let ready = full-ready k h full goes in
     let some : 0 < k.lists.period = some-period k.lists h.lists in
     let first : IsQuietFor 1 k = quiet-first k some ready.ticks m q in
-    let next = quiet-full k (passed 1 k) _ h goes keeps (omega (arith, few)) (idle-step (image k) k ready none first) (idle-ready (image k) k ready none first).store in
+    let next : IsFullMachine (passed 1 k) =
+    quiet-full k (with_step k) (passed 1 k) _ h goes (omega (arith, few)) (turn-nobody (with_step k) none) h.lists refl (idle-step (image k) k ready none first) (idle-ready (image k) k ready none first).store
+    in
     subst IsFullMachine (passed-more m k)
-    (idle-full m (passed 1 k) next.0 full goes next.1 none (omega (arith, few)) (quiet-behind k some ready.ticks m q))
+    (idle-full m (passed 1 k) next full goes none (omega (arith, few)) (quiet-behind k some ready.ticks m q))
 
 -- the word of the ticks is the only one that changes
 pub idle-image : (s : List ℕ) (m : ℕ) (k : Kernel) → IsFullMachine k → k.bare ≡ false → IsImage s k → IsImage (set s 108 ((k.steps + m) / k.lists.period)) (passed m k)
@@ -50,10 +58,11 @@ idle-image s m k h full is =
 -- ---- where a guest executes an instruction
 
 module _ (k : Kernel) (h : IsFullMachine k) (full : k.bare ≡ false) (goes : k.stop ≡ None) (guest : is_guest_id k.lists.running ≡ true) (next : (instruction_of k).outcome ≡ Next) where
-  pub guest-full : KeepsNothing k → k.steps < most_steps → IsQuietFor 1 k → IsFullMachine (passed 1 (after_instruction_of k))
-  guest-full keeps few q =
+  pub guest-full : k.steps < most_steps → IsQuietFor 1 k → IsFullMachine (passed 1 (after_instruction_of k))
+  guest-full few q =
       let ready = full-ready k h full goes in
-      (quiet-full k (passed 1 (after_instruction_of k)) _ h goes keeps few (guest-passed k ready guest next q) (guest-store (image k) k ready guest next)).0
+      quiet-full k (with_step (after_instruction_of k)) (passed 1 (after_instruction_of k)) _ h goes few (guest-turn (image k) k ready guest next) h.lists refl (guest-passed k ready guest next q)
+      (guest-store (image k) k ready guest next)
 
   pub guest-image : IsImage (instruction_of k).words (with_step (after_instruction_of k))
   guest-image = (left-store (image k) k (full-ready k h full goes) guest next).image

@@ -68,7 +68,7 @@ module _ (k : Kernel) (some : 0 < k.lists.period) (ticks : k.lists.tick ≡ k.st
             (omega (arith, ap (λ n. n / k.lists.period) whole)) past-less (div-less (k.steps + 1) (k.steps + 1 + m) k.lists.period some (omega arith)) q.clock;
       }
 
--- ---- where no guest runs
+-- ---- where nobody runs
 
 pub passed-more : (m : ℕ) (k : Kernel) → passed m (passed 1 k) ≡ passed (suc m) k
 passed-more m k = (let whole : k.steps + 1 + m ≡ k.steps + suc m = omega arith in ap (λ n. with_ticks (record k { steps = n })) whole)
@@ -78,7 +78,7 @@ passed-none k ticks =
     let none : k.steps + 0 ≡ k.steps = omega arith in
     ap (λ n. with_ticks (record k { steps = n })) none ∙ ap (λ t. record k { lists = record k.lists { tick = t } }) (sym ticks)
 
-pub idle-run : (m : ℕ) (s : List ℕ) (k : Kernel) → IsReady s k → is_guest_id k.lists.running ≡ false → IsQuietFor m k → run m k ≡ quietly (passed m k)
+pub idle-run : (m : ℕ) (s : List ℕ) (k : Kernel) → IsReady s k → k.lists.running ≡ 0 → IsQuietFor m k → run m k ≡ quietly (passed m k)
 unfolding run
 idle-run zero s k h none q = ap quietly (sym (passed-none k h.ticks))
 idle-run (suc m) s k h none q =

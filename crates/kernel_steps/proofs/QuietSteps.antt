@@ -1,5 +1,5 @@
 -- A step in which no device acts.
-use Rattle.std.proofs.Common.{◌≡◌, ℕ, ◌+◌, ◌/◌, ◌⊎◌, false, true, None, List, [], cond, set, refl, sym, ap, ◌∙◌, subst}
+use Rattle.std.proofs.Common.{◌≡◌, ℕ, ◌+◌, ◌/◌, ◌⊎◌, true, None, List, [], cond, set, refl, sym, ap, ◌∙◌, subst}
 use Rattle.std.specs.Prelude.{is_some}
 use Rattle.cint_exec.specs.declared.Outcome.TheVariants.{Next}
 use Rattle.kernel_model.specs.HoldsLists.{HoldsLists}
@@ -12,14 +12,17 @@ use Rattle.guest_instructions.proofs.GuardedLists.{holds-kept}
 use Rattle.guest_instructions.proofs.MarkedWords.{keeps-marked}
 use Rattle.guest_turns.specs.GuestTurn.{after_instruction, ended_with, turn_without_reporter}
 use Rattle.guest_turns.specs.declared.turns.TurnEnd.TheVariants.{Goes}
+use Rattle.guest_turns.proofs.TurnFields.{turn-dispatches}
+use Rattle.kernel_steps.specs.GuestSteps.{after_turn}
 use Rattle.kernel_steps.specs.Parts.{RunsFirst}
 use Rattle.kernel_steps.specs.Quiet.{AwaitsTick, ComeAfter, IsQuietFor, after_instruction_of, instruction_of, passed, with_ticks}
-use Rattle.kernel_steps.specs.Step.{after_the_turn, after_turn, and_then, dispatch, key, output, quietly, step, tick, turn, unless_stopped, with_step}
+use Rattle.kernel_steps.specs.Step.{after_the_turn, and_then, dispatch, key, output, quietly, step, tick, turn, unless_stopped, with_step}
 use Rattle.kernel_steps.proofs.NextTick.{some-period, tick-periods}
 use Rattle.kernel_steps.proofs.QuietDevices.{key-stays, output-stays, tick-stays, ticked-store, ticks_to}
 use Rattle.kernel_steps.proofs.QuietDispatch.{dispatch-stays}
 use Rattle.kernel_steps.proofs.StoredWords.{HasStore, store-holds, store-image, stored}
-use Rattle.kernel_steps.proofs.TurnKept.{turn-dispatch, turn-guest, turn-nobody}
+use Rattle.kernel_steps.proofs.RunningCaller.{runs-alone, runs-calls}
+use Rattle.kernel_steps.proofs.TurnWays.{guest-goes, turn-guest, turn-nobody}
 
 -- ---- behind the turn
 
@@ -74,9 +77,9 @@ other-steps s k n h = record {
   plain = record { size = h.plain.size; plain = h.plain.plain; owned = h.plain.owned };
 }
 
--- ---- where no guest runs
+-- ---- where nobody runs
 
-module _ (s : List ℕ) (k : Kernel) (h : IsReady s k) (none : is_guest_id k.lists.running ≡ false) (q : IsQuietFor 1 k) where
+module _ (s : List ℕ) (k : Kernel) (h : IsReady s k) (none : k.lists.running ≡ 0) (q : IsQuietFor 1 k) where
   idle-quiet : IsQuiet s (with_step k) k.steps
   idle-quiet = record {
     store = other-steps s k (k.steps + 1) h.store;
@@ -110,9 +113,9 @@ module _ (s : List ℕ) (k : Kernel) (h : IsReady s k) (guest : is_guest_id k.li
   unfolding turn_without_reporter
   turn-next = ap (after_instruction k.lists (instruction_of k).words (instruction_of k).regs) next
 
-  guest-turn : turn (with_step k) ≡ quietly left
+  pub guest-turn : turn (with_step k) ≡ quietly left
   unfolding image word_of
-  guest-turn = turn-guest (with_step k) guest ∙ ap (after_turn (with_step k)) turn-next ∙ ap (λ s. quietly (record left { stop = s })) (sym h.goes)
+  guest-turn = turn-guest (with_step k) guest ∙ ap (after_turn (with_step k)) (guest-goes (image k) k.lists k.regs (ap (λ m. m.ends) turn-next) ∙ turn-next) ∙ ap (λ s. quietly (record left { stop = s })) (sym h.goes)
 
   words-hold : HoldsLists (instruction_of k).words k.lists
   words-hold = holds-kept (image k) (instruction_of k).words k.lists (subst (λ z. HoldsLists z k.lists) (store-image s k h.store) (store-holds s k h.store)) (keeps-marked (is_owned k.lists) (image k) k.regs)
@@ -122,7 +125,8 @@ module _ (s : List ℕ) (k : Kernel) (h : IsReady s k) (guest : is_guest_id k.li
 
   left-runs : RunsFirst left.lists left.regs
   left-runs =
-      let can : CanDispatch left.lists left.regs = subst (λ x. CanDispatch x.kernel.lists x.kernel.regs) guest-turn (turn-dispatch (with_step k) h.runs h.store.valid) in
+      let can : CanDispatch left.lists left.regs =
+      subst (λ m. CanDispatch m.lists m.regs) turn-next (turn-dispatches (image k) k.lists k.regs (runs-alone k.lists k.regs h.runs) (runs-calls k.lists k.regs h.runs h.store.valid guest) h.runs.byte) in
       record { running = h.runs.running; field = h.runs.field; byte = can.byte; idle = can.idle }
 
   pub guest-step : IsQuietFor 1 k → step k ≡ quietly (with_ticks left)

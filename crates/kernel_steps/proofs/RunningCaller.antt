@@ -1,9 +1,10 @@
 -- Where the first ready task runs, and it is a guest, it may make a call.
-use Rattle.std.proofs.Common.{◌≡◌, ◌↔◌, true, None, arith, inl, inr}
+use Rattle.std.proofs.Common.{◌≡◌, ◌≢◌, ◌↔◌, ℕ, true, false, None, sym, ap, ◌∙◌, subst, arith, inl, inr}
+use Rattle.std.specs.List.{AllByRecursion}
 use Rattle.std.proofs.lemmas.Bool.{leb-true}
 use Rattle.word_store.specs.declared.registers.Regs.{Regs}
 use Rattle.kernel_model.specs.Kernel.{Kernel}
-use Rattle.kernel_model.specs.Lists.{Lists}
+use Rattle.kernel_model.specs.Lists.{Lists, has_task}
 use Rattle.kernel_model.specs.Task.{is_guest_id}
 use Rattle.kernel_model.specs.ValidKernel.{IsFullMachine}
 use Rattle.kernel_model.specs.ValidLists.{AreValid}
@@ -11,7 +12,9 @@ use Rattle.kernel_model.specs.ValidTasks.{runs}
 use Rattle.kernel_model.proofs.EachMember.{all-each}
 use Rattle.kernel_dispatch.specs.Dispatch.{CanDispatch}
 use Rattle.call_answers.specs.Callers.{HasCaller}
-use Rattle.guest_turns.specs.GuestTurn.{RunsAlone}
+use Rattle.resident_requests.specs.Requests.{RunsResident}
+use Rattle.guest_turns.specs.GuestTurn.{Numbers, RunsAlone}
+use Rattle.guest_turns.proofs.RunningField.{RunsAs, RunsIn}
 use Rattle.kernel_steps.specs.Parts.{RunsFirst}
 
 -- between steps it does
@@ -34,3 +37,25 @@ module _ (l : Lists) (r : Regs) (h : RunsFirst l r) where
         there = elim v.queues.running [ inl none ↦ absurd (omega (arith, none, leb-true 5 l.running guest)) | inr some ↦ some ];
         field = all-each (λ t. (t.field ≡ runs) ↔ (t.id ≡ l.running)) (λ t. t.id ≡ l.running → t.field ≡ runs) (λ t h. h.1) l.tasks h.field;
       }
+
+  -- where a task runs it is there
+  pub residents-there : AreValid l → (id : ℕ) → id ≢ 0 → l.running ≡ id → has_task id l.tasks ≡ true
+  residents-there v id some is = elim v.queues.running [ inl none ↦ absurd (some (sym is ∙ none)) | inr there ↦ ap (λ i. has_task i l.tasks) (sym is) ∙ there ]
+
+  pub runs-resident : AreValid l → is_guest_id l.running ≡ false → l.running ≢ 0 → RunsResident l
+  runs-resident v resident some =
+      record {
+        resident = resident;
+        there = elim v.queues.running [ inl none ↦ absurd (some none) | inr there ↦ there ];
+        field = all-each (λ t. (t.field ≡ runs) ↔ (t.id ≡ l.running)) (λ t. t.id ≡ l.running → t.field ≡ runs) (λ t h. h.1) l.tasks h.field;
+      }
+
+-- the same task runs
+pub dispatch-after : (nums : Numbers) (l m : Lists) (r : Regs) → CanDispatch l r → nums.running ≡ l.running → RunsIn nums m → CanDispatch m r
+dispatch-after nums l m r can same h =
+    let here : m.running ≡ nums.running = ap (λ n. n.running) h.numbers in
+    record {
+      field = subst (λ i. AllByRecursion (RunsAs i) m.tasks) (sym here) h.alone;
+      byte = can.byte;
+      idle = λ none. can.idle (ap is_guest_id (sym (here ∙ same)) ∙ none);
+    }

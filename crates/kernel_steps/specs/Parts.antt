@@ -1,13 +1,18 @@
 -- What the parts of a step leave.
-use Rattle.std.specs.Prelude.{◌≡◌, ◌↔◌, ℕ, ◌+◌, ◌%◌, ◌<◌, ◌==◌, false, if◌then◌else◌}
+use Rattle.std.specs.Prelude.{◌≡◌, ◌↔◌, ℕ, ◌+◌, ◌%◌, ◌<◌, ◌==◌, None, false, if◌then◌else◌}
 use Rattle.std.specs.List.{AllByRecursion}
 use Rattle.word_store.specs.declared.registers.Regs.{Regs}
-use Rattle.kernel_model.specs.Between.{first_ready}
+use Rattle.ram_disc.specs.Disc.{IsDisc}
+use Rattle.kernel_model.specs.Between.{FaultsStand, ResidentsStand, first_ready}
+use Rattle.kernel_model.specs.Image.{HasPlainWords}
 use Rattle.kernel_model.specs.Kernel.{Kernel}
 use Rattle.kernel_model.specs.Lists.{Lists}
+use Rattle.kernel_model.specs.Pipes.{PipesStand}
 use Rattle.kernel_model.specs.Task.{is_guest_id}
+use Rattle.kernel_model.specs.ValidLists.{AreValid}
 use Rattle.kernel_model.specs.ValidTasks.{no_regs, runs}
 use Rattle.guest_turns.specs.GuestTurn.{Numbers, numbers_of}
+use Rattle.kernel_steps.specs.Step.{step, turn, with_step}
 
 -- The first ready task runs, and nobody where none is ready; its field alone says so; and C is a byte, and where no guest runs all
 -- registers are 0.
@@ -17,10 +22,26 @@ pub record RunsFirst (l : Lists) (r : Regs) : Type 0 where
   pub byte : r.c < 256
   pub idle : is_guest_id l.running ≡ false → r ≡ no_regs
 
+-- the rules of what residents keep
+pub record RulesStand (k : Kernel) : Type 0 where
+  pub faults : FaultsStand k
+  pub residents : ResidentsStand k
+  pub pipes : PipesStand k
+
+-- what a turn asks: it has not stopped, its lists are valid, the first ready task runs, and the rules hold
+pub record CanTurn (k : Kernel) : Type 0 where
+  pub goes : k.stop ≡ None
+  pub lists : AreValid k.lists
+  pub first : RunsFirst k.lists k.regs
+  pub rules : RulesStand k
+
 -- what no part of a step changes
 pub record IsSameMachine (k j : Kernel) : Type 0 where
   pub bare : j.bare ≡ k.bare
   pub steps : j.steps ≡ k.steps
+
+-- what none but residents change
+pub record HasSameResidents (k j : Kernel) : Type 0 where
   pub console : j.console ≡ k.console
   pub shell : j.shell ≡ k.shell
   pub disc : j.disc ≡ k.disc
@@ -37,3 +58,11 @@ numbers_after_tick k = record (numbers_of k.lists) { tick = tick_after k }
 pub record HasSameKeys (k j : Kernel) : Type 0 where
   pub keys : j.keys ≡ k.keys
   pub ahead : j.type_ahead ≡ k.type_ahead
+
+-- What the code knows of a step that it has taken: after the turn, and at its end, the lists are valid; the disc is a disc; and
+-- the plain words are those of the lists.
+pub record IsTaken (k : Kernel) : Type 0 where
+  pub turned : AreValid (turn (with_step k)).kernel.lists
+  pub disc : IsDisc (turn (with_step k)).kernel.disc
+  pub lists : AreValid (step k).kernel.lists
+  pub plain : HasPlainWords (step k).kernel

@@ -1,12 +1,11 @@
 -- A step of a machine with a kernel, and a run.
-use Rattle.std.specs.Prelude.{ℕ, zero, suc, ◌+◌, ◌%◌, ◌==◌, Bool, if◌then◌else◌, is_some, Option, Some, None, List, [], ◌∷◌, ◌++◌, nat_le}
-use Rattle.owned_words.specs.Owned.{written}
+use Rattle.std.specs.Prelude.{ℕ, zero, suc, pos, ◌+◌, ◌%◌, ◌==◌, Bool, if◌then◌else◌, is_some, List, [], ◌∷◌, ◌++◌, nat_le}
+use Rattle.word_store.specs.Arithmetic.{signed}
 use Rattle.packet_queue.specs.declared.events.KernelEvent.{KernelEvent}
-use Rattle.packet_queue.specs.declared.events.KernelEvent.TheVariants.{Runs}
-use Rattle.kernel_model.specs.Image.{image, plain_words, settled}
-use Rattle.kernel_model.specs.Kernel.{Kernel, Stop}
-use Rattle.kernel_model.specs.Kernel.Stop.{Fault, Quit}
-use Rattle.kernel_model.specs.Lists.{Lists}
+use Rattle.packet_queue.specs.declared.events.KernelEvent.TheVariants.{Accepted, Runs}
+use Rattle.kernel_model.specs.Image.{image, settled}
+use Rattle.kernel_model.specs.Kernel.{Kernel}
+use Rattle.kernel_model.specs.Residents.{key_packet, keyboard}
 use Rattle.kernel_model.specs.Task.{is_guest_id}
 use Rattle.kernel_dispatch.specs.Dispatch.{Dispatched, dispatched}
 use Rattle.device_returns.specs.Returned.{Served}
@@ -14,54 +13,15 @@ use Rattle.clock_device.specs.Tick.{ticked}
 use Rattle.tty_device.specs.Keys.{left_typed, met}
 use Rattle.tty_device.specs.Printed.{finished, printed}
 use Rattle.tty_device.specs.Typed.{with_typed}
-use Rattle.guest_turns.specs.GuestTurn.{Turned, turn_without_reporter}
-use Rattle.guest_turns.specs.declared.turns.TurnEnd.{TurnEnd}
-use Rattle.guest_turns.specs.declared.turns.TurnEnd.TheVariants.{Faults, Goes, Quits}
+use Rattle.kernel_steps.specs.GuestSteps.{guest_step}
+use Rattle.kernel_steps.specs.ResidentSteps.{resident_step}
+pub use Rattle.kernel_steps.specs.Stepped.{Stepped, and_then, behind, quietly, where_due, with_store}
 
--- the kernel after a part of a step, the bytes that went to the console, and the events
-pub record Stepped : Type 0 where
-  pub kernel : Kernel
-  pub bytes : List ℕ
-  pub events : List KernelEvent
+-- ---- the running task's turn
 
--- nothing is shown or noted
-abbrev pub quietly : Kernel → Stepped
-quietly k = record { kernel = k; bytes = []; events = [] }
-
--- these bytes and events come before those of the rest
-abbrev pub behind : List ℕ → List KernelEvent → Stepped → Stepped
-behind bytes events x = record x { bytes = bytes ++ x.bytes; events = events ++ x.events }
-
--- first the one, and then what follows on it
-abbrev pub and_then : Stepped → (Kernel → Stepped) → Stepped
-and_then x next = behind x.bytes x.events (next x.kernel)
-
--- something that is due now or never
-abbrev pub where_due : Bool → (Kernel → Stepped) → Kernel → Stepped
-where_due due part k = if due then part k else quietly k
-
--- ---- the running guest's turn
-
--- the kernel with these lists, of which the other words are those of a store
-abbrev pub with_store : List ℕ → Lists → Kernel → Kernel
-with_store words l k = record k { lists = l; plain = plain_words words l }
-
--- a fault is one of the running task
-abbrev pub stop_by : ℕ → TurnEnd → Option Stop
-stop_by running Goes = None
-stop_by running (Quits result) = Some (Quit result)
-stop_by running (Faults f) = Some (Fault f.code f.address running)
-
-abbrev pub after_turn : Kernel → Turned → Stepped
-after_turn k m = record {
-  kernel = record (with_store (written m.plain m.words) m.lists k) { regs = m.regs; stop = stop_by k.lists.running m.ends };
-  bytes = m.bytes;
-  events = m.events;
-}
-
--- nothing where no guest runs
+-- nothing where nobody runs
 unfoldable pub turn : Kernel → Stepped
-turn k = where_due (is_guest_id k.lists.running) (λ j. after_turn j (turn_without_reporter (image j) j.lists j.regs)) k
+turn k = if is_guest_id k.lists.running then guest_step k else resident_step k.lists.running k
 
 -- ---- the devices
 
@@ -126,6 +86,15 @@ run (suc n) k = and_then (step k) (run n)
 
 -- ---- before the first step
 
--- the events of a boot: the first ready task runs, where there is one
+-- where there are residents, the console has sent its key packet, and the shell's packet has come to it
+abbrev pub first_events : Bool → List KernelEvent
+first_events residents =
+    if residents then Accepted (signed keyboard) key_packet (pos 3) ∷ Accepted (pos 1) 279 (pos 1) ∷ [] else []
+
+-- and then the first ready task runs, where there is one
+abbrev pub run_events : ℕ → List KernelEvent
+run_events running = if running == 0 then [] else Runs running ∷ []
+
+-- the events of a boot
 abbrev pub boot_events : Kernel → List KernelEvent
-boot_events k = if k.lists.running == 0 then [] else Runs k.lists.running ∷ []
+boot_events k = first_events k.lists.residents ++ run_events k.lists.running

@@ -5,7 +5,7 @@ ghost use Rattle.session_text.specs.Ranges.{most_steps};
 ghost use Rattle.kernel_model.specs.Kernel.{Kernel};
 ghost use Rattle.kernel_dispatch.specs.Dispatch.{CanDispatch};
 ghost use Rattle.guest_turns.specs.GuestTurn.{numbers_of};
-ghost use Rattle.kernel_steps.specs.Parts.{HasSameKeys, IsSameMachine, numbers_after_tick, tick_after};
+ghost use Rattle.kernel_steps.specs.Parts.{HasSameKeys, HasSameResidents, IsSameMachine, numbers_after_tick, tick_after};
 ghost use Rattle.kernel_steps.specs.Step.{key, output, tick};
 
 /// After the clock was asked a dispatch may follow where it could before. The ticks are one more where it ticked, and the
@@ -20,6 +20,7 @@ pub fn tick_law()
         → k.lists.tick ≡ n / k.lists.period
         → tick_after k ≡ k.steps / k.lists.period }
     ensures same { (k : Kernel) → IsSameMachine k (tick k).kernel }
+    ensures residents { (k : Kernel) → HasSameResidents k (tick k).kernel }
     ensures keys { (k : Kernel) → HasSameKeys k (tick k).kernel }
     ensures stop { (k : Kernel) → (tick k).kernel.stop ≡ k.stop }
 {}
@@ -32,6 +33,7 @@ pub fn key_law()
     ensures numbers { (k : Kernel) → CanDispatch k.lists k.regs
         → numbers_of (key k).kernel.lists ≡ numbers_of k.lists }
     ensures same { (k : Kernel) → IsSameMachine k (key k).kernel }
+    ensures residents { (k : Kernel) → HasSameResidents k (key k).kernel }
     ensures keys { (k : Kernel) → AllByRecursion (λ key. key.0 ≤ most_steps) k.keys
         → AllByRecursion (λ key. key.0 ≤ most_steps) (key k).kernel.keys }
     ensures ahead { (k : Kernel) → length k.type_ahead ≤ 128
@@ -46,6 +48,7 @@ pub fn output_law()
     ensures numbers { (k : Kernel) → CanDispatch k.lists k.regs
         → numbers_of (output k).kernel.lists ≡ numbers_of k.lists }
     ensures same { (k : Kernel) → IsSameMachine k (output k).kernel }
+    ensures residents { (k : Kernel) → HasSameResidents k (output k).kernel }
     ensures keys { (k : Kernel) → HasSameKeys k (output k).kernel }
     ensures stop { (k : Kernel) → (output k).kernel.stop ≡ k.stop }
 {}

@@ -9,7 +9,6 @@ ghost use Rattle.kernel_model.specs.Kernel.{Kernel};
 ghost use Rattle.kernel_model.specs.Task.{is_guest_id};
 ghost use Rattle.kernel_model.specs.ValidKernel.{IsFullMachine};
 ghost use Rattle.device_returns.specs.Returned.{unserved};
-ghost use Rattle.machine_parts.specs.Stands.{KeepsNothing};
 ghost use Rattle.kernel_steps.specs.Quiet.{IsQuietFor, after_instruction_of, instruction_of, passed};
 ghost use Rattle.kernel_steps.specs.Step.{dispatch, quietly, run, served, step, with_step};
 
@@ -21,16 +20,15 @@ pub fn settled_law()
         → served k (unserved k.lists) ≡ quietly k }
 {}
 
-/// Where no guest runs, a quiet span changes the number of steps and the ticks, and nothing else. It leaves a valid kernel,
+/// Where nobody runs, a quiet span changes the number of steps and the ticks, and nothing else. It leaves a valid kernel,
 /// and of the store the word of the ticks is the only one that changes.
 pub fn idle_law()
     ensures run { (m : ℕ) (k : Kernel) → IsFullMachine k → k.bare ≡ false → k.stop ≡ None
-        → is_guest_id k.lists.running ≡ false
+        → k.lists.running ≡ 0
         → IsQuietFor m k
         → run m k ≡ quietly (passed m k) }
     ensures full { (m : ℕ) (k : Kernel) → IsFullMachine k → k.bare ≡ false → k.stop ≡ None
-        → KeepsNothing k
-        → is_guest_id k.lists.running ≡ false
+        → k.lists.running ≡ 0
         → k.steps + m ≤ most_steps
         → IsQuietFor m k
         → IsFullMachine (passed m k) }
@@ -48,7 +46,6 @@ pub fn guest_law()
         → IsQuietFor 1 k
         → step k ≡ quietly (passed 1 (after_instruction_of k)) }
     ensures full { (k : Kernel) → IsFullMachine k → k.bare ≡ false → k.stop ≡ None
-        → KeepsNothing k
         → is_guest_id k.lists.running ≡ true
         → (instruction_of k).outcome ≡ Next
         → k.steps < most_steps

@@ -1,7 +1,8 @@
 -- The kernel from the first one up to its dispatch.
-use Rattle.std.proofs.Common.{◌≡◌, List, [], false, None, Result, Ok, Err, refl, sym, ap, subst, arith}
+use Rattle.std.proofs.Common.{◌≡◌, ℕ, ◌≤◌, ◌⊎◌, List, [], ◌∷◌, Bool, true, false, cond, None, Result, Ok, Err, inl, inr, refl, sym, ap, subst, arith}
 use Rattle.std.specs.List.{AllByRecursion}
 use Rattle.word_store.specs.declared.registers.Regs.{Regs}
+use Rattle.packet_queue.specs.QueueWords.{QueuedPacket}
 use Rattle.ram_disc.specs.Disc.{Disc, empty_disc}
 use Rattle.session_text.specs.Canonical.{IsLawfulForm}
 use Rattle.session_text.specs.declared.sessions.Session.{Session}
@@ -9,6 +10,7 @@ use Rattle.session_text.specs.declared.sessions.SessionLine.{SessionLine}
 use Rattle.kernel_model.specs.Image.{image}
 use Rattle.kernel_model.specs.Kernel.{Kernel}
 use Rattle.kernel_model.specs.Pipes.{no_pipes}
+use Rattle.kernel_model.specs.Task.{is_guest_id}
 use Rattle.kernel_model.specs.ValidKernel.{no_command, no_line}
 use Rattle.kernel_model.specs.ValidTasks.{no_regs, runs}
 use Rattle.kernel_model.proofs.EachMember.{all-each}
@@ -17,17 +19,18 @@ use Rattle.guest_turns.specs.GuestTurn.{Numbers}
 use Rattle.kernel_boot.specs.BootFiles.{load_files}
 use Rattle.kernel_boot.specs.BootTasks.{AreBootLines, Standing, standing, start_tasks}
 use Rattle.kernel_boot.specs.declared.refusals.BootRefusal.{BootRefusal}
+use Rattle.kernel_boot.specs.EmptyKernel.{empty_lists}
+use Rattle.kernel_boot.specs.ResidentKernel.{packet_from, resident_lists, resident_tasks, waiting_resident}
 use Rattle.kernel_boot.proofs.LawfulLines.{boot-lines}
-use Rattle.kernel_steps.specs.Step.{dispatch}
 use Rattle.text_reader.specs.Steps.{◌>>=◌}
-use Rattle.machine_boot.specs.Boot.{HasGuestsAlone, boot, first_kernel, with_disc, with_files, with_lines, with_standing, with_tasks}
-use Rattle.machine_boot.specs.Booted.{CanStart, CanLoad}
+use Rattle.machine_boot.specs.Boot.{HasKernel, boot, first_kernel, first_lists, started, with_disc, with_files, with_lines, with_standing, with_tasks}
+use Rattle.machine_boot.specs.Booted.{CanLoad, CanStart, IsFresh}
 use Rattle.machine_boot.proofs.LoadedDiscs.{IsShutDisc, files-shut, no-stream}
-use Rattle.machine_boot.proofs.ReadyTasks.{IsFresh, IsReady, tasks-ready}
+use Rattle.machine_boot.proofs.ReadyTasks.{IsReady, tasks-ready}
 
 -- nobody runs, and no tick has passed
 abbrev pub first_numbers : Session → Numbers
-first_numbers s = record { running = 0; period = s.period; tick = 0; version = s.version; residents = false }
+first_numbers s = record { running = 0; period = s.period; tick = 0; version = s.version; residents = s.resident }
 
 -- nothing was done but what the lines say
 pub record HasBegun (s : Session) (k : Kernel) : Type 0 where
@@ -56,11 +59,42 @@ empty-shut = record {
   shut = refl;
 }
 
+-- the residents have done nothing
+residents-fresh : (reporter : Bool) → AllByRecursion (IsFresh reporter) (resident_tasks reporter)
+residents-fresh reporter = on reporter
+  where
+    waiting : (free : Bool) (id address priority : ℕ) (ps : List QueuedPacket) → 1 ≤ id → (ps ≡ []) ⊎ (is_guest_id id ≡ false) → (id ≡ 2 → (ps ≡ []) × (free ≡ true)) → IsFresh free (waiting_resident id address priority ps)
+    waiting free id address priority ps some takes reports = record { number = some; stands = λ e. cc; takes = takes; fault = refl; reporter = reports }
+
+    -- one that is not the reporter
+    other : (free : Bool) (id address priority : ℕ) (ps : List QueuedPacket) → 1 ≤ id → (ps ≡ []) ⊎ (is_guest_id id ≡ false) → (id ≡ 2 → ⊥) → IsFresh free (waiting_resident id address priority ps)
+    other free id address priority ps some takes never = waiting free id address priority ps some takes (λ e. absurd (never e))
+
+    on : (b : Bool) → AllByRecursion (IsFresh b) (resident_tasks b)
+    on true = (
+      other true 3 224 6000 [] (omega arith) (inl refl) (λ e. cc),
+      (
+        other true 4 247 5000 [] (omega arith) (inl refl) (λ e. cc),
+        (waiting true 2 287 3000 [] (omega arith) (inl refl) (λ e. (refl, refl)), (other true 1 201 1000 (packet_from 1 279 ∷ []) (omega arith) (inr refl) (λ e. cc), tt)),
+      ),
+    )
+    on false = (
+      other false 3 224 6000 [] (omega arith) (inl refl) (λ e. cc),
+      (other false 4 247 5000 [] (omega arith) (inl refl) (λ e. cc), (other false 1 201 1000 (packet_from 1 279 ∷ []) (omega arith) (inr refl) (λ e. cc), tt)),
+    )
+
+lists-ready : (s : Session) → IsReady (first_numbers s) (first_lists s)
+lists-ready s = on s.resident
+  where
+    on : (b : Bool) → IsReady (record (first_numbers s) { residents = b }) (cond b (resident_lists s.version s.period s.store s.debug) (empty_lists s.version s.period s.store))
+    on true = record { numbers = refl; fresh = record { tasks = residents-fresh s.debug; key = refl } }
+    on false = record { numbers = refl; fresh = record { tasks = tt; key = refl } }
+
 module _ (s : Session) where
   pub first-begun : HasBegun s (first_kernel s)
   unfolding first_kernel
   first-begun = record {
-    ready = record { numbers = refl; fresh = tt };
+    ready = lists-ready s;
     regs = refl;
     steps = refl;
     console = refl;
@@ -72,7 +106,7 @@ module _ (s : Session) where
     stop = refl;
   }
 
-  module _ (h : HasGuestsAlone s) where
+  module _ (h : HasKernel s) where
     lawful-lines : AllByRecursion (λ line. IsLawfulForm false s.version line.form) s.lines
     lawful-lines = subst (λ b. AllByRecursion (λ line. IsLawfulForm b s.version line.form) s.lines) h.full h.lawful.lines
 
@@ -141,7 +175,7 @@ module _ (s : Session) where
 
     pub begun-dispatches : (k : Kernel) → HasBegun s k → CanDispatch k.lists k.regs
     begun-dispatches k b = record {
-      field = all-each IsFresh (λ t. t.field ≡ runs → t.id ≡ k.lists.running) (λ t fresh e. absurd (fresh.stands e)) k.lists.tasks b.ready.fresh;
+      field = all-each (IsFresh k.lists.fault_packet_free) (λ t. t.field ≡ runs → t.id ≡ k.lists.running) (λ t fresh e. absurd (fresh.stands e)) k.lists.tasks b.ready.fresh.tasks;
       byte = omega (arith, ap (λ (r : Regs). r.c) b.regs);
       idle = λ nobody. b.regs;
     }
@@ -149,7 +183,13 @@ module _ (s : Session) where
     -- the first kernel may be loaded
     pub first-loads : (lines : List SessionLine) → lines ≡ s.lines → CanLoad lines (first_kernel s)
     unfolding first_kernel
-    first-loads lines is = record { tasks = record { may_start = subst (AreBootLines s.version) (sym is) ready-lines; none = refl }; streams = refl }
+    first-loads lines is =
+        let begun : HasBegun s (first_kernel s) = first-begun in
+        let version : (first_kernel s).lists.version ≡ s.version = ap (λ n. n.version) begun.ready.numbers in
+        record {
+          tasks = record { may_start = subst (λ v. AreBootLines v lines) (sym version) (subst (AreBootLines s.version) (sym is) ready-lines); fresh = begun.ready.fresh };
+          streams = refl;
+        }
 
 -- files leave the lists
 pub files-start : (lines : List SessionLine) (k j : Kernel) → CanStart lines k → with_files lines k ≡ Ok j → CanStart lines j
@@ -157,15 +197,15 @@ unfolding with_files
 files-start lines k j can is = on (load_files k.disc lines) is
   where
     on : (r : Result Disc BootRefusal) → (r >>= (λ d. Ok (with_disc d k))) ≡ Ok j → CanStart lines j
-    on (Ok d) f = (let same : with_disc d k ≡ j = cc in subst (CanStart lines) same (record { may_start = can.may_start; none = can.none }))
+    on (Ok d) f = (let same : with_disc d k ≡ j = cc in subst (CanStart lines) same (record { may_start = can.may_start; fresh = record { tasks = can.fresh.tasks; key = can.fresh.key } }))
     on (Err refusal) f = cc
 
 -- ---- the boot
 
-pub boot-ok : (s : Session) (k : Kernel) → with_lines s.lines (first_kernel s) ≡ Ok k → boot s ≡ Ok (dispatch k)
+pub boot-ok : (s : Session) (k : Kernel) → with_lines s.lines (first_kernel s) ≡ Ok k → boot s ≡ Ok (started k)
 unfolding boot
-boot-ok s k is = ap (λ x. x >>= (λ j. Ok (dispatch j))) is
+boot-ok s k is = ap (λ x. x >>= (λ j. Ok (started j))) is
 
 pub boot-refused : (s : Session) (refusal : BootRefusal) → with_lines s.lines (first_kernel s) ≡ Err refusal → boot s ≡ Err refusal
 unfolding boot
-boot-refused s refusal is = ap (λ x. x >>= (λ j. Ok (dispatch j))) is
+boot-refused s refusal is = ap (λ x. x >>= (λ j. Ok (started j))) is

@@ -1,5 +1,5 @@
--- The kernel that is booted is valid, and the only event of its boot is that its running task runs.
-use Rattle.std.proofs.Common.{◌≡◌, ◌≢◌, ℕ, ◌/◌, ◌≤◌, ◌++◌, List, [], ◌∷◌, length, map, cond, eqb, Bool, true, false, Some, None, Result, Ok, Err, refl, sym, ap, ◌∙◌, subst, arith}
+-- The kernel that is booted is valid; and the events of its boot.
+use Rattle.std.proofs.Common.{◌≡◌, ◌≢◌, ℕ, ◌/◌, ◌≤◌, ◌⊎◌, ◌&&◌, ◌||◌, ◌++◌, List, [], ◌∷◌, length, map, take, cond, eqb, Bool, true, false, not, Some, None, Result, Ok, Err, inl, inr, refl, sym, ap, ◌∙◌, subst, arith}
 use Rattle.std.specs.Prelude.{IfSome, is_some}
 use Rattle.std.specs.List.{AllByRecursion}
 use Rattle.std.proofs.Math.Nat.{zero-div}
@@ -10,31 +10,36 @@ use Rattle.ram_disc.specs.Disc.{most_streams, shell_stream}
 use Rattle.session_text.specs.Canonical.{IsLawfulKey, IsLawfulMachine}
 use Rattle.session_text.specs.Ranges.{most_steps}
 use Rattle.session_text.specs.declared.sessions.Session.{Session}
-use Rattle.kernel_model.specs.Between.{AreShut, IsAwaited, ResidentsStand, is_ready, is_typing}
+use Rattle.kernel_model.specs.Between.{AreShut, FaultsStand, IsAwaited, ResidentsStand, is_ready, is_typing}
 use Rattle.kernel_model.specs.Image.{HasPlainWords, image, settled}
 use Rattle.kernel_model.specs.Kernel.{Kernel, Pipe}
 use Rattle.kernel_model.specs.Lists.{Lists}
 use Rattle.kernel_model.specs.Pipes.{PipesStand, most_pipes, pipe_at}
-use Rattle.kernel_model.specs.Task.{Task}
+use Rattle.kernel_model.specs.Task.{Task, is_guest_id}
 use Rattle.kernel_model.specs.ValidKernel.{HasSteps, IsFullMachine}
 use Rattle.kernel_model.specs.ValidLists.{AreValid}
-use Rattle.kernel_model.specs.ValidTasks.{runs}
+use Rattle.kernel_model.specs.ValidTasks.{dead, runs, waits}
 use Rattle.kernel_model.specs.Versions.{highest_id_of}
 use Rattle.kernel_model.proofs.EachMember.{all-each}
 use Rattle.kernel_dispatch.specs.Dispatch.{Dispatched, dispatched, first_ready_task, packets_taken, suspended, taken_event, takes_packet, unchanged, with_nobody, with_resumed, with_suspended}
 use Rattle.guest_turns.specs.GuestTurn.{Numbers, numbers_of}
-use Rattle.kernel_steps.specs.Parts.{RunsFirst}
-use Rattle.kernel_steps.specs.Step.{boot_events, dispatch, Stepped}
+use Rattle.kernel_steps.specs.Parts.{RulesStand, RunsFirst}
+use Rattle.kernel_steps.specs.Step.{boot_events, dispatch, first_events, run_events}
+use Rattle.kernel_steps.specs.Stepped.{Stepped}
 use Rattle.kernel_steps.proofs.DispatchKept.{GoesOn, dispatch-numbers, runs-first, three-ways}
-use Rattle.kernel_steps.proofs.StepKept.{faults-stand}
+use Rattle.kernel_steps.proofs.FaultRule.{rule-stands}
+use Rattle.kernel_steps.proofs.StepKept.{dispatch-residents, dispatch-rules}
+use Rattle.kernel_steps.proofs.TurnRules.{rules-kept}
+use Rattle.fault_reporter.proofs.FaultsKept.{Tells}
 use Rattle.kernel_boot.specs.declared.refusals.BootRefusal.{BootRefusal}
 use Rattle.text_reader.specs.Steps.{◌>>=◌}
-use Rattle.machine_boot.specs.Boot.{HasGuestsAlone, boot, first_kernel, with_lines}
+use Rattle.machine_boot.specs.Boot.{HasKernel, boot, first_kernel, started, with_lines}
 use Rattle.machine_boot.proofs.BegunKernels.{HasBegun, begun-dispatches, first-begun, first_numbers, lines-begun}
 use Rattle.machine_boot.proofs.LoadedDiscs.{no-stream, none-at, none-shut}
-use Rattle.machine_boot.proofs.ReadyTasks.{AreFresh, IsFresh, fresh-changed, fresh-found}
+use Rattle.machine_boot.specs.Booted.{IsFresh}
+use Rattle.machine_boot.proofs.ReadyTasks.{FreshTasks, free-there, fresh-changed, fresh-found, no-reports, none-unreported}
 
-module _ (s : Session) (h : HasGuestsAlone s) where
+module _ (s : Session) (h : HasKernel s) where
   lawful-keys : AllByRecursion (λ key. key.0 ≤ most_steps) s.keys
   lawful-keys =
       let machine = subst (λ b. IsLawfulMachine b s) h.full h.lawful.machine in
@@ -64,34 +69,30 @@ module _ (s : Session) (h : HasGuestsAlone s) where
 
     -- ---- the rules of the kernel
 
-    residents : ResidentsStand (dispatch k).kernel
-    unfolding dispatch settled
-    residents =
-        let none : (dispatch k).kernel.lists.residents ≡ false = ap (λ n. n.residents) numbers in
-        record {
-          finished = λ some. cc;
-          delivered = λ some. (let unfinished : k.console.finished ≡ false = ap (λ c. c.finished) b.console in cc);
-          typing = ap is_some (no-stream k.disc shell_stream b.disc.shut) ∙ ap (λ c. is_typing c.mode) (sym b.shell);
-          awaited = subst (λ c. IsAwaited (highest_id_of (dispatch k).kernel.lists.version) c.mode) (sym b.shell) tt;
-          disc = b.disc.valid;
-          line = omega (arith, ap (λ c. length c.line) b.console);
-          command = omega (arith, ap (λ c. length c.line) b.shell);
-          ahead = omega (arith, ap length b.ahead);
-          absent = λ e.
-              record {
-                streams = subst AreShut (sym b.disc.shut) (none-shut most_streams);
-                line = ap (λ c. c.line) b.console;
-                unfinished = ap (λ c. c.finished) b.console;
-                mode = ap (λ c. c.mode) b.shell;
-                command = ap (λ c. c.line) b.shell;
-              };
-        }
+    residents : ResidentsStand k
+    residents = record {
+      finished = λ some. ap (λ c. c.finished) b.console ∙ sym (ap is_some b.ready.fresh.key);
+      delivered = λ some. (let unfinished : k.console.finished ≡ false = ap (λ c. c.finished) b.console in cc);
+      typing = ap is_some (no-stream k.disc shell_stream b.disc.shut) ∙ ap (λ c. is_typing c.mode) (sym b.shell);
+      awaited = subst (λ c. IsAwaited (highest_id_of k.lists.version) c.mode) (sym b.shell) tt;
+      disc = b.disc.valid;
+      line = omega (arith, ap (λ c. length c.line) b.console);
+      command = omega (arith, ap (λ c. length c.line) b.shell);
+      ahead = omega (arith, ap length b.ahead);
+      absent = λ e.
+          record {
+            streams = subst AreShut (sym b.disc.shut) (none-shut most_streams);
+            line = ap (λ c. c.line) b.console;
+            unfinished = ap (λ c. c.finished) b.console;
+            mode = ap (λ c. c.mode) b.shell;
+            command = ap (λ c. c.line) b.shell;
+          };
+    }
 
     no-pipe : (i : ℕ) → pipe_at k.pipes i ≡ None
     no-pipe i = ap (λ ps. pipe_at ps i) b.pipes ∙ none-at {X = Pipe} most_pipes i
 
-    pipes : PipesStand (dispatch k).kernel
-    unfolding dispatch settled
+    pipes : PipesStand k
     pipes = record {
       places = ap length b.pipes;
       each = λ i p e. (let none = no-pipe i in cc);
@@ -99,6 +100,34 @@ module _ (s : Session) (h : HasGuestsAlone s) where
       no_residents = λ e. b.pipes;
       first_version = λ e. b.pipes;
     }
+
+    faults : FaultsStand k
+    faults =
+        let free : Bool = k.lists.fault_packet_free in
+        let ts : List Task = k.lists.tasks in
+        let fresh : FreshTasks free ts = b.ready.fresh.tasks in
+        rule-stands k
+        (λ there. record {
+          waits = λ reports. free-there free ts fresh reports ∙ sym (ap not (none-unreported free ts fresh));
+          sender = subst (AllByRecursion (Tells ts)) (sym (no-reports free ts fresh)) tt;
+        })
+
+    same-numbers : (f : Numbers → ℕ) → ((n : Numbers) (running : ℕ) → f (with_number running n) ≡ f n) → f (numbers_of (dispatch k).kernel.lists) ≡ f (numbers_of k.lists)
+    unfolding dispatch settled
+    same-numbers f beside = ap f (dispatch-numbers (image k) k.lists k.regs) ∙ beside (numbers_of k.lists) _
+
+    same-residents : (dispatch k).kernel.lists.residents ≡ k.lists.residents
+    unfolding dispatch settled
+    same-residents = ap (λ n. n.residents) (dispatch-numbers (image k) k.lists k.regs)
+
+    few-ahead : length (dispatch k).kernel.type_ahead ≤ 128
+    unfolding dispatch settled
+    few-ahead = omega (arith, ap length b.ahead)
+
+    rules : RulesStand (dispatch k).kernel
+    rules =
+        rules-kept k (dispatch k).kernel (dispatch-residents k) (same-numbers (λ n. n.version) (λ n running. refl)) same-residents (dispatch-rules k) few-ahead
+        (record { faults = faults; residents = residents; pipes = pipes })
 
     last : HasSteps (dispatch k).kernel
     unfolding dispatch settled
@@ -118,9 +147,9 @@ module _ (s : Session) (h : HasGuestsAlone s) where
                 field = runs.field;
               };
           registers = record { byte = runs.byte; idle = runs.idle };
-          faults = faults-stand (dispatch k).kernel v (ap (λ n. n.residents) numbers);
-          residents = residents;
-          pipes = pipes;
+          faults = rules.faults;
+          residents = rules.residents;
+          pipes = rules.pipes;
           steps = last;
         }
 
@@ -133,51 +162,57 @@ module _ (s : Session) (h : HasGuestsAlone s) where
     nobody-runs = ap (λ n. n.running) b.ready.numbers
 
     -- the one that ran, if there were one
-    still-fresh : AreFresh m.tasks
-    still-fresh = fresh-changed k.lists.running (suspended k.regs) each k.lists.tasks b.ready.fresh
+    still-fresh : FreshTasks k.lists.fault_packet_free m.tasks
+    still-fresh = fresh-changed k.lists.fault_packet_free k.lists.running (suspended k.regs) each k.lists.tasks b.ready.fresh.tasks
       where
-        each : (t : Task) → IsFresh t → IsFresh (suspended k.regs t)
+        each : (t : Task) → IsFresh k.lists.fault_packet_free t → IsFresh k.lists.fault_packet_free (suspended k.regs t)
         each t fresh = record {
-          low = fresh.low;
+          number = fresh.number;
           stands = subst (λ c. cond c 8 t.field ≡ runs → ⊥) (sym (ne_eqb t.field 0 fresh.stands)) fresh.stands;
-          empty = fresh.empty;
+          takes = fresh.takes;
+          fault = fresh.fault;
+          reporter = fresh.reporter;
         }
 
     abbrev Shows : Dispatched → Type 0
     Shows d = d.events ≡ cond (eqb d.lists.running 0) [] (Runs d.lists.running ∷ [])
 
-    fresh-at : (l : Lists) (t : Task) → AreFresh l.tasks → first_ready_task l ≡ Some t → IsFresh t
-    fresh-at l t all is = subst (λ o. IfSome o IsFresh) is (fresh-found is_ready l.tasks all)
+    fresh-at : (l : Lists) (t : Task) → FreshTasks k.lists.fault_packet_free l.tasks → first_ready_task l ≡ Some t → IsFresh k.lists.fault_packet_free t
+    fresh-at l t all is = subst (λ o. IfSome o (IsFresh k.lists.fault_packet_free)) is (fresh-found k.lists.fault_packet_free is_ready l.tasks all)
 
     same-task : (t : Task) → GoesOn k.lists t → Shows (unchanged k.lists k.regs)
-    same-task t g = absurd ((fresh-at k.lists t b.ready.fresh g.first).stands g.field)
+    same-task t g = absurd ((fresh-at k.lists t b.ready.fresh.tasks g.first).stands g.field)
 
     nobody : first_ready_task m ≡ None → Shows (with_nobody m)
     nobody none = ap (λ n. cond (eqb n 0) [] (Runs 0 ∷ [])) nobody-runs
 
-    none-taken : (t : Task) → t.queue ≡ [] → packets_taken t ≡ []
-    none-taken t empty = ap (λ q. packets_taken (record t { queue = q })) empty ∙ on (takes_packet t)
+    none-taken : (t : Task) → (t.queue ≡ []) ⊎ (is_guest_id t.id ≡ false) → packets_taken t ≡ []
+    none-taken t (inl empty) = ap (λ q. packets_taken (record t { queue = q })) empty ∙ on (takes_packet t)
       where
         on : (c : Bool) → ◌≡◌ {A = List QueuedPacket} (cond c [] []) []
         on true = refl
         on false = refl
+    none-taken t (inr resident) = ap (λ g. cond (g && (eqb t.field waits || eqb t.field dead)) (take 1 t.queue) []) resident
 
     next : (t : Task) → first_ready_task m ≡ Some t → Shows (with_resumed (image k) t m)
     next t is =
         let fresh = fresh-at m t still-fresh is in
-        let away : t.id ≢ 0 = λ e. absurd (omega (arith, e, fresh.low)) in
-        ap (λ ps. map (taken_event t) ps ++ Runs t.id ∷ []) (none-taken t fresh.empty) ∙ sym (ap (λ c. cond c [] (Runs t.id ∷ [])) (ne_eqb t.id 0 away))
+        let away : t.id ≢ 0 = λ e. absurd (omega (arith, e, fresh.number)) in
+        ap (λ ps. map (taken_event t) ps ++ Runs t.id ∷ []) (none-taken t fresh.takes) ∙ sym (ap (λ c. cond c [] (Runs t.id ∷ [])) (ne_eqb t.id 0 away))
 
-    pub dispatch-events : (dispatch k).events ≡ boot_events (dispatch k).kernel
+    run-event : (dispatch k).events ≡ run_events (dispatch k).kernel.lists.running
     unfolding dispatch settled
-    dispatch-events = three-ways (image k) k.lists k.regs Shows same-task nobody next
+    run-event = three-ways (image k) k.lists k.regs Shows same-task nobody next
+
+    pub started-events : (started k).events ≡ boot_events (started k).kernel
+    started-events = ap (λ es. first_events k.lists.residents ++ es) run-event ∙ ap (λ r. first_events r ++ run_events (dispatch k).kernel.lists.running) (sym same-residents)
 
   pub booted-events : (x : Stepped) → boot s ≡ Ok x → x.events ≡ boot_events x.kernel
   unfolding boot
   booted-events x is = on (with_lines s.lines (first_kernel s)) refl is
     where
-      on : (r : Result Kernel BootRefusal) → with_lines s.lines (first_kernel s) ≡ r → (r >>= (λ k. Ok (dispatch k))) ≡ Ok x → x.events ≡ boot_events x.kernel
+      on : (r : Result Kernel BootRefusal) → with_lines s.lines (first_kernel s) ≡ r → (r >>= (λ k. Ok (started k))) ≡ Ok x → x.events ≡ boot_events x.kernel
       on (Ok k) e f =
-          let same : dispatch k ≡ x = cc in
-          subst (λ (y : Stepped). y.events ≡ boot_events y.kernel) same (dispatch-events k (lines-begun s h (first_kernel s) k (first-begun s) e))
+          let same : started k ≡ x = cc in
+          subst (λ (y : Stepped). y.events ≡ boot_events y.kernel) same (started-events k (lines-begun s h (first_kernel s) k (first-begun s) e))
       on (Err refusal) e f = cc

@@ -45,14 +45,10 @@ module _ (p : Parts) (k : Kernel) (h : Stands p k) (t : List ℕ) (regs : Regs) 
     regs = is.regs;
     type_ahead = h.type_ahead;
     disc = h.disc;
+    console = h.console;
+    shell = h.shell;
+    pipes = h.pipes;
     keys = h.keys;
     steps = h.steps;
     period = h.period ∙ sym (ap (λ n. n.period) (dispatch-numbers (image k) k.lists k.regs));
-    rest =
-        record {
-          residents = ap (λ n. n.residents) (dispatch-numbers (image k) k.lists k.regs) ∙ h.rest.residents;
-          console = h.rest.console;
-          shell = h.rest.shell;
-          pipes = h.rest.pipes;
-        };
   }

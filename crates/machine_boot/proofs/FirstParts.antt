@@ -1,9 +1,8 @@
 -- The parts of a machine before the lines of its session.
-use Rattle.std.proofs.Common.{◌≡◌, ℕ, List, [], length, map, get_or, replicate, cond, Bool, true, Option, Some, None, Result, Ok, Err, inl, inr, refl, sym, ap, ◌∙◌, subst, arith}
+use Rattle.std.proofs.Common.{◌≡◌, ℕ, List, [], length, map, get_or, replicate, cond, Bool, true, false, Option, Some, None, Result, Ok, Err, inl, inr, refl, sym, ap, ◌∙◌, subst, arith}
 use Rattle.std.specs.Prelude.{IfOk, MatchResult, is_ok, is_some}
 use Rattle.std.specs.List.{range_with_len}
 use Rattle.std.proofs.lemmas.Bool.{cases_lt}
-use Rattle.std.proofs.lemmas.List.{length-replicate}
 use Rattle.owned_words.specs.Owned.{owners, word_in}
 use Rattle.owned_words.proofs.OwnedWords.{word_in-holds}
 use Rattle.tp_io.specs.declared.WantMemory.{WantMemory}
@@ -15,14 +14,17 @@ use Rattle.kernel_model.specs.HoldsLists.{HoldsLists}
 use Rattle.kernel_model.specs.Image.{plain_words}
 use Rattle.kernel_model.specs.Lists.{Lists}
 use Rattle.kernel_model.specs.Owned.{owned}
+use Rattle.kernel_model.specs.Pipes.{no_pipes}
+use Rattle.kernel_model.specs.ValidKernel.{no_command, no_line}
 use Rattle.kernel_model.specs.ValidTasks.{no_regs}
 use Rattle.word_kinds.specs.ByteMap.{MarksAll}
 use Rattle.word_kinds.specs.Keeper.{IsStoreOf}
 use Rattle.kernel_boot.specs.EmptyKernel.{empty_lists}
+use Rattle.kernel_boot.specs.ResidentKernel.{resident_lists}
 use Rattle.kernel_steps.proofs.StoredWords.{HasStore, stored}
 use Rattle.machine_parts.specs.declared.parts.Parts.{Parts}
 use Rattle.machine_parts.specs.Stands.{Stands}
-use Rattle.machine_boot.specs.Boot.{first_kernel}
+use Rattle.machine_boot.specs.Boot.{first_kernel, first_lists}
 
 -- ---- plain words
 
@@ -50,31 +52,42 @@ pub made-ok : {X : Type 0} (P : X → Type 0) (Q : WantMemory → Type 0) (r : R
 made-ok P Q (Ok x) y is ok h = (let same : x ≡ y = cc in subst P same h)
 made-ok P Q (Err e) y is ok h = cc
 
--- a kernel was made in a store of zeros
-pub made-changed : (n version period : ℕ) (s t u : List ℕ) → s ≡ replicate n 0 → u ≡ t → IsChanged s t (empty_lists version period (length s)) [] → IsChanged (replicate n 0) u (empty_lists version period n) []
-made-changed n version period s t u zeros is ch =
-    let long : length s ≡ n = ap length zeros ∙ length-replicate n 0 in
-    subst (λ w. IsChanged (replicate n 0) w (empty_lists version period n) []) (sym is)
-    (subst (λ z. IsChanged z t (empty_lists version period n) []) zeros (subst (λ k. IsChanged s t (empty_lists version period k) []) long ch))
+-- lists were made in a store of zeros
+pub made-changed : (n : ℕ) (l : Lists) (s t u : List ℕ) → s ≡ replicate n 0 → u ≡ t → IsChanged s t l [] → IsChanged (replicate n 0) u l []
+made-changed n l s t u zeros is ch = subst (λ w. IsChanged (replicate n 0) w l []) (sym is) (subst (λ z. IsChanged z t l []) zeros ch)
 
 -- they were made for the session
 pub record AreMade (s : Session) (p : Parts) : Type 0 where
-  pub store : IsChanged (replicate s.store 0) p.store (empty_lists s.version s.period s.store) []
+  pub store : IsChanged (replicate s.store 0) p.store (first_lists s) []
   pub marks : (known : List ℕ) (l : Lists) → IsStoreOf p.store known l → length p.store ≡ length p.kinds → MarksAll p.kinds known
   pub kinds : length p.kinds ≡ s.store
   pub regs : p.regs ≡ no_regs
   pub type_ahead : p.tty ≡ []
   pub disc : p.disc ≡ empty_disc
+  pub console : p.console ≡ no_line
+  pub shell : p.shell ≡ no_command
+  pub pipes : p.pipes ≡ no_pipes
   pub keys : p.keys ≡ s.keys
   pub step : p.step ≡ 0
   pub period : p.period ≡ s.period
 
+-- the lists, with residents or without
+abbrev lists_with : Bool → Session → Lists
+lists_with b s = cond b (resident_lists s.version s.period s.store s.debug) (empty_lists s.version s.period s.store)
+
+first-numbers : (s : Session) → ((first_lists s).period ≡ s.period) × ((first_lists s).size ≡ s.store)
+first-numbers s = on s.resident
+  where
+    on : (b : Bool) → ((lists_with b s).period ≡ s.period) × ((lists_with b s).size ≡ s.store)
+    on true = (refl, refl)
+    on false = (refl, refl)
+
 module _ (s : Session) (p : Parts) (m : AreMade s p) where
   abbrev lists : Lists
-  lists = empty_lists s.version s.period s.store
+  lists = first_lists s
 
   size : length p.store ≡ length p.kinds
-  size = omega (arith, m.store.lists.size, m.kinds)
+  size = omega (arith, m.store.lists.size, m.kinds, (first-numbers s).1)
 
   first-store : HasStore p.store (first_kernel s)
   unfolding first_kernel
@@ -97,8 +110,10 @@ module _ (s : Session) (p : Parts) (m : AreMade s p) where
     regs = m.regs;
     type_ahead = m.type_ahead;
     disc = m.disc;
+    console = m.console;
+    shell = m.shell;
+    pipes = m.pipes;
     keys = m.keys;
     steps = m.step;
-    period = m.period;
-    rest = record { residents = refl; console = refl; shell = refl; pipes = refl };
+    period = m.period ∙ sym (first-numbers s).0;
   }

@@ -1,5 +1,5 @@
 -- The parts of a machine once files or tasks of the lines are in it.
-use Rattle.std.proofs.Common.{◌≡◌, ℕ, List, length, Bool, Result, Ok, Err, refl, sym, ap, ◌∙◌, subst}
+use Rattle.std.proofs.Common.{◌≡◌, ℕ, List, length, Bool, Result, Ok, Err, refl, sym, ap, ◌∙◌}
 use Rattle.ram_disc.specs.Disc.{Disc}
 use Rattle.session_text.specs.declared.sessions.SessionLine.{SessionLine}
 use Rattle.kernel_model.specs.ChangedStore.{HasKeeper}
@@ -13,13 +13,13 @@ use Rattle.kernel_boot.specs.BootFiles.{IsNewDisc, load_files}
 use Rattle.kernel_boot.specs.BootTasks.{IsLeft, Standing, standing, start_tasks}
 use Rattle.kernel_boot.specs.declared.refusals.BootRefusal.{BootRefusal}
 use Rattle.text_reader.specs.Steps.{◌>>=◌}
-use Rattle.kernel_steps.specs.Step.{with_store}
+use Rattle.kernel_steps.specs.Stepped.{with_store}
 use Rattle.kernel_steps.proofs.StoredWords.{HasStore, stored}
 use Rattle.machine_parts.specs.declared.parts.Parts.{Parts}
 use Rattle.machine_parts.specs.Stands.{Stands}
 use Rattle.machine_boot.specs.Boot.{with_disc, with_files, with_lines, with_standing, with_tasks}
 use Rattle.machine_boot.specs.Booted.{CanStart, IsReached}
-use Rattle.machine_boot.proofs.ReadyTasks.{AreFresh, IsReady, tasks-ready}
+use Rattle.machine_boot.proofs.ReadyTasks.{IsReady, tasks-ready}
 
 module _ (p : Parts) (k : Kernel) (h : Stands p k) (lines : List SessionLine) where
   -- ---- the files
@@ -38,10 +38,12 @@ module _ (p : Parts) (k : Kernel) (h : Stands p k) (lines : List SessionLine) wh
         regs = h.regs;
         type_ahead = h.type_ahead;
         disc = refl;
+        console = h.console;
+        shell = h.shell;
+        pipes = h.pipes;
         keys = h.keys;
         steps = h.steps;
         period = h.period;
-        rest = record { residents = h.rest.residents; console = h.rest.console; shell = h.rest.shell; pipes = h.rest.pipes };
       }
   files-reached d (Err refusal) is =
       ap (λ e. load_files e lines >>= (λ d. Ok (with_disc d k))) (sym h.disc) ∙ ap (λ x. x >>= (λ d. Ok (with_disc d k))) is
@@ -51,7 +53,7 @@ module _ (p : Parts) (k : Kernel) (h : Stands p k) (lines : List SessionLine) wh
   -- the numbers of the lists stay
   numbers-kept : CanStart lines k → (x : Standing) → start_tasks k.disc lines (standing (image k) k.lists) ≡ Ok x → numbers_of x.lists ≡ numbers_of k.lists
   numbers-kept can x is =
-      let before : IsReady (numbers_of k.lists) k.lists = record { numbers = refl; fresh = subst AreFresh (sym can.none) tt } in
+      let before : IsReady (numbers_of k.lists) k.lists = record { numbers = refl; fresh = can.fresh } in
       (tasks-ready (numbers_of k.lists) k.lists.version k.disc lines (standing (image k) k.lists) x can.may_start is before).numbers
 
   module _ (t : List ℕ) (kinds : List Bool) where
@@ -66,10 +68,12 @@ module _ (p : Parts) (k : Kernel) (h : Stands p k) (lines : List SessionLine) wh
           regs = h.regs;
           type_ahead = h.type_ahead;
           disc = h.disc;
+          console = h.console;
+          shell = h.shell;
+          pipes = h.pipes;
           keys = h.keys;
           steps = h.steps;
           period = h.period ∙ sym (ap (λ n. n.period) same);
-          rest = record { residents = ap (λ n. n.residents) same ∙ h.rest.residents; console = h.rest.console; shell = h.rest.shell; pipes = h.rest.pipes };
         }
 
     pub tasks-reached : (r : Result (Unit {0}) BootRefusal) → CanStart lines k → IsLeft t (MarksAll kinds) (length kinds) r (start_tasks p.disc lines (standing p.store k.lists)) → IsReached (record p { store = t; kinds = kinds }) r (with_tasks lines k)

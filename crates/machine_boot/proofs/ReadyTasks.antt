@@ -1,7 +1,8 @@
--- The tasks that a session starts: they are guests, none of them runs, and none has packets.
-use Rattle.std.proofs.Common.{◌≡◌, ℕ, ◌≤◌, List, [], ◌∷◌, ◌++◌, cond, eqb, map, Bool, true, false, Option, Some, None, Result, Ok, Err, refl, subst, arith}
+-- The tasks of a machine that begins: none of them runs, and a dispatch takes no packet for one.
+use Rattle.std.proofs.Common.{◌≡◌, ℕ, ◌≤◌, ◌&&◌, ◌||◌, List, [], ◌∷◌, ◌++◌, cond, eqb, leb, ltb, map, Bool, true, false, Option, Some, None, Result, Ok, Err, inl, refl, ap, ◌∙◌, subst, arith}
 use Rattle.std.specs.Prelude.{IfSome, find, unwrap_or}
-use Rattle.std.specs.List.{AllByRecursion}
+use Rattle.std.specs.List.{AllByRecursion, list_any}
+use Rattle.std.proofs.lemmas.Bool.{eqb-true}
 use Rattle.std.specs.Option.{option_map}
 use Rattle.hunk_text.specs.ModuleOfText.{Refusal, module_of}
 use Rattle.hunk_text.specs.declared.modules.Module.{Module}
@@ -9,10 +10,10 @@ use Rattle.ram_disc.specs.Disc.{Disc, file_named}
 use Rattle.session_text.specs.declared.sessions.SessionLine.{SessionLine}
 use Rattle.session_text.specs.declared.sessions.LineForm.{LineForm}
 use Rattle.session_text.specs.declared.sessions.LineForm.TheVariants.{Code, File, Task}
-use Rattle.kernel_model.specs.Changes.{change_of}
+use Rattle.kernel_model.specs.Between.{is_unreported}
+use Rattle.kernel_model.specs.Changes.{change_of, work_of}
 use Rattle.kernel_model.specs.Lists.{Lists, has_task}
 use Rattle.kernel_model.specs.Task.{Task as TaskRecord}
-use Rattle.kernel_model.specs.ValidTasks.{runs}
 use Rattle.kernel_model.proofs.AllThings.{all-inserted}
 use Rattle.call_answers.specs.Made.{Made, by_refusal}
 use Rattle.call_answers.specs.Refusals.{first_refusal}
@@ -23,38 +24,61 @@ use Rattle.kernel_boot.specs.BegunTask.{begun, with_begun}
 use Rattle.kernel_boot.specs.BootFiles.{at_line}
 use Rattle.kernel_boot.specs.BootTasks.{AreBootLines, IsBootForm, Standing, begin_it, create_it, left_with, load_bytes, load_named, load_names, load_text, on_answer, start_form, start_tasks}
 use Rattle.kernel_boot.proofs.StartedTasks.{number-is}
+use Rattle.machine_boot.specs.Booted.{AreFresh, IsFresh}
 
--- a guest that neither runs nor has packets
-pub record IsFresh (t : TaskRecord) : Type 0 where
-  pub low : 5 ≤ t.id
-  pub stands : t.field ≡ runs → ⊥
-  pub empty : t.queue ≡ []
+abbrev pub FreshTasks : Bool → List TaskRecord → Type 0
+FreshTasks free ts = AllByRecursion (IsFresh free) ts
 
-abbrev pub AreFresh : List TaskRecord → Type 0
-AreFresh ts = AllByRecursion IsFresh ts
+module _ (free : Bool) where
+  -- one task changes
+  pub fresh-changed : (n : ℕ) (f : TaskRecord → TaskRecord) → ((t : TaskRecord) → IsFresh free t → IsFresh free (f t)) → (ts : List TaskRecord) → FreshTasks free ts → FreshTasks free (map (change_of n f) ts)
+  fresh-changed n f each [] all = tt
+  fresh-changed n f each (t ∷ ts) all = (on (eqb t.id n), fresh-changed n f each ts all.1)
+    where
+      on : (b : Bool) → IsFresh free (cond b (f t) t)
+      on true = each t all.0
+      on false = all.0
 
--- one task changes
-pub fresh-changed : (n : ℕ) (f : TaskRecord → TaskRecord) → ((t : TaskRecord) → IsFresh t → IsFresh (f t)) → (ts : List TaskRecord) → AreFresh ts → AreFresh (map (change_of n f) ts)
-fresh-changed n f each [] all = tt
-fresh-changed n f each (t ∷ ts) all = (on (eqb t.id n), fresh-changed n f each ts all.1)
-  where
-    on : (b : Bool) → IsFresh (cond b (f t) t)
-    on true = each t all.0
-    on false = all.0
+  -- one is found
+  pub fresh-found : (f : TaskRecord → Bool) (ts : List TaskRecord) → FreshTasks free ts → IfSome (find f ts) (IsFresh free)
+  fresh-found f [] all = tt
+  fresh-found f (t ∷ ts) all = on (f t) (fresh-found f ts all.1)
+    where
+      on : (b : Bool) → IfSome (find f ts) (IsFresh free) → IfSome (cond b (Some t) (find f ts)) (IsFresh free)
+      on true more = all.0
+      on false more = more
 
--- one is found
-pub fresh-found : (f : TaskRecord → Bool) (ts : List TaskRecord) → AreFresh ts → IfSome (find f ts) IsFresh
-fresh-found f [] all = tt
-fresh-found f (t ∷ ts) all = on (f t) (fresh-found f ts all.1)
-  where
-    on : (b : Bool) → IfSome (find f ts) IsFresh → IfSome (cond b (Some t) (find f ts)) IsFresh
-    on true more = all.0
-    on false more = more
+  -- ---- faults
+
+  -- none has met one
+  pub none-unreported : (ts : List TaskRecord) → FreshTasks free ts → list_any is_unreported ts ≡ false
+  none-unreported [] all = refl
+  none-unreported (t ∷ ts) all =
+      let fine : is_unreported t ≡ false = ap (λ f. leb 1 f && ltb f 256) all.0.fault in
+      ap (λ b. b || list_any is_unreported ts) fine ∙ none-unreported ts all.1
+
+  -- the reporter has no packets
+  pub no-reports : (ts : List TaskRecord) → FreshTasks free ts → work_of 2 ts ≡ []
+  no-reports [] all = refl
+  no-reports (t ∷ ts) all = on (eqb t.id 2) refl (no-reports ts all.1)
+    where
+      on : (b : Bool) → eqb t.id 2 ≡ b → work_of 2 ts ≡ [] → cond b t.queue (work_of 2 ts) ≡ []
+      on true e more = (all.0.reporter (eqb-true t.id 2 e)).0
+      on false e more = more
+
+  -- and where it is there the fault packet is on no queue
+  pub free-there : (ts : List TaskRecord) → FreshTasks free ts → has_task 2 ts ≡ true → free ≡ true
+  free-there [] all there = cc
+  free-there (t ∷ ts) all there = on (eqb t.id 2) refl (free-there ts all.1) there
+    where
+      on : (b : Bool) → eqb t.id 2 ≡ b → (has_task 2 ts ≡ true → free ≡ true) → (b || has_task 2 ts) ≡ true → free ≡ true
+      on true e more some = (all.0.reporter (eqb-true t.id 2 e)).1
+      on false e more some = more some
 
 -- the lists have these numbers, and all their tasks are fresh
 pub record IsReady (nums : Numbers) (l : Lists) : Type 0 where
   pub numbers : numbers_of l ≡ nums
-  pub fresh : AreFresh l.tasks
+  pub fresh : AreFresh l
 
 module _ (nums : Numbers) where
   -- ---- modules
@@ -64,7 +88,7 @@ module _ (nums : Numbers) where
   refused-ready (Some code) l m before after = before
 
   text-ready : (l : Lists) (r : Result Module Refusal) → IsReady nums l → IsReady nums (load_text l r).lists
-  text-ready l (Ok m) h = refused-ready (first_refusal (load_tests l m.hunks)) l _ h (record { numbers = h.numbers; fresh = h.fresh })
+  text-ready l (Ok m) h = refused-ready (first_refusal (load_tests l m.hunks)) l _ h (record { numbers = h.numbers; fresh = record { tasks = h.fresh.tasks; key = h.fresh.key } })
   text-ready l (Err refusal) h = h
 
   bytes-ready : (l : Lists) (o : Option (List ℕ)) → IsReady nums l → IsReady nums (load_bytes l o).lists
@@ -95,15 +119,21 @@ module _ (nums : Numbers) where
   created-ready s l id modules u pri maker low h =
       let n : ℕ = unwrap_or (number_of l id) 0 in
       let t : TaskRecord = new_task l n modules u pri maker in
-      let fresh : IsFresh t = record { low = omega (arith, low, number-is l id n low refl); stands = λ dead. absurd (omega (arith, dead)); empty = refl } in
+      let number : n ≡ id = number-is l id n low refl in
+      let fresh : IsFresh l.fault_packet_free t = record { number = omega (arith, low, number); stands = λ dead. absurd (omega (arith, dead)); takes = inl refl; fault = refl; reporter = λ e. absurd (omega (arith, low, number, e)) } in
       refused-ready (first_refusal (creation_tests s l id modules u pri)) l (with_created s l t) h
-      (record { numbers = h.numbers; fresh = all-inserted IsFresh _ t l.tasks fresh h.fresh })
+      (record { numbers = h.numbers; fresh = record { tasks = all-inserted (IsFresh l.fault_packet_free) _ t l.tasks fresh h.fresh.tasks; key = h.fresh.key } })
 
   -- and then interrupted
   begun-ready : (words : List ℕ) (id : ℕ) (l : Lists) → IsReady nums l → IsReady nums (with_begun words id l)
   begun-ready words id l h = record {
     numbers = h.numbers;
-    fresh = fresh-changed id (begun l.version words) (λ t one. record { low = one.low; stands = λ interrupted. absurd (omega (arith, interrupted)); empty = one.empty }) l.tasks h.fresh;
+    fresh = record {
+      tasks =
+          fresh-changed l.fault_packet_free id (begun l.version words)
+          (λ t one. record { number = one.number; stands = λ interrupted. absurd (omega (arith, interrupted)); takes = one.takes; fault = one.fault; reporter = one.reporter }) l.tasks h.fresh.tasks;
+      key = h.fresh.key;
+    };
   }
 
   begin-ready : (r : Result ℕ ℕ) (k j : Standing) → on_answer r k begin_it ≡ Ok j → IsReady nums k.lists → IsReady nums j.lists

@@ -1,5 +1,5 @@
--- What a session without residents puts into a machine with a kernel before its first step.
-use Rattle.std.specs.Prelude.{◌≡◌, false, None, List, [], Result, Ok, replicate}
+-- What a session puts into a machine with a kernel before its first step.
+use Rattle.std.specs.Prelude.{◌≡◌, false, if◌then◌else◌, None, List, [], Result, Ok, replicate}
 use Rattle.ram_disc.specs.Disc.{Disc, empty_disc}
 use Rattle.text_reader.specs.Steps.{◌>>=◌}
 use Rattle.session_text.specs.Canonical.{IsLawful}
@@ -7,28 +7,33 @@ use Rattle.session_text.specs.declared.sessions.Session.{Session}
 use Rattle.session_text.specs.declared.sessions.SessionLine.{SessionLine}
 use Rattle.kernel_model.specs.Image.{image, plain_words}
 use Rattle.kernel_model.specs.Kernel.{Kernel}
+use Rattle.kernel_model.specs.Lists.{Lists}
 use Rattle.kernel_model.specs.Pipes.{no_pipes}
 use Rattle.kernel_model.specs.ValidKernel.{no_command, no_line}
 use Rattle.kernel_model.specs.ValidTasks.{no_regs}
 use Rattle.kernel_boot.specs.BootFiles.{load_files}
 use Rattle.kernel_boot.specs.BootTasks.{Standing, standing, start_tasks}
 use Rattle.kernel_boot.specs.EmptyKernel.{empty_lists}
+use Rattle.kernel_boot.specs.ResidentKernel.{resident_lists}
 use Rattle.kernel_boot.specs.declared.refusals.BootRefusal.{BootRefusal}
-use Rattle.kernel_steps.specs.Step.{Stepped, dispatch, with_store}
+use Rattle.kernel_steps.specs.Step.{dispatch, first_events}
+use Rattle.kernel_steps.specs.Stepped.{Stepped, behind, with_store}
 
--- a session of guests alone: it has a kernel, and no residents
-pub record HasGuestsAlone (s : Session) : Type 0 where
+-- a session of a machine with a kernel
+pub record HasKernel (s : Session) : Type 0 where
   pub lawful : IsLawful s
   pub full : s.bare ≡ false
-  pub guests : s.resident ≡ false
 
--- The kernel before the lines: its lists are empty, and all words that they do not own are 0; no key has come, and the disc is
--- empty.
+-- the lists before the lines: those of the residents, where the session has them, or none
+abbrev pub first_lists : Session → Lists
+first_lists s = if s.resident then resident_lists s.version s.period s.store s.debug else empty_lists s.version s.period s.store
+
+-- The kernel before the lines: all words that its lists do not own are 0; no key has come, and the disc is empty.
 unfoldable pub first_kernel : Session → Kernel
 first_kernel s = record {
   bare = false;
-  lists = empty_lists s.version s.period s.store;
-  plain = plain_words (replicate s.store 0) (empty_lists s.version s.period s.store);
+  lists = first_lists s;
+  plain = plain_words (replicate s.store 0) (first_lists s);
   regs = no_regs;
   steps = 0;
   console = no_line;
@@ -64,8 +69,12 @@ with_lines lines k = do
   j ← with_files lines k
   with_tasks lines j
 
--- the kernel before its first step, in which the first ready task runs; or the first line that is refused, with its code
+-- the first ready task runs; the residents' packets were sent before
+abbrev pub started : Kernel → Stepped
+started k = behind [] (first_events k.lists.residents) (dispatch k)
+
+-- the kernel before its first step; or the first line that is refused, with its code
 unfoldable pub boot : Session → Result Stepped BootRefusal
 boot s = do
   k ← with_lines s.lines (first_kernel s)
-  Ok (dispatch k)
+  Ok (started k)

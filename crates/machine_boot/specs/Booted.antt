@@ -1,21 +1,39 @@
 -- What a function that boots leaves.
-use Rattle.std.specs.Prelude.{◌≡◌, None, List, [], Result, Ok, Err}
+use Rattle.std.specs.Prelude.{◌≡◌, ◌≤◌, ◌⊎◌, Bool, true, false, None, List, [], Result, Ok, Err}
+use Rattle.std.specs.List.{AllByRecursion}
 use Rattle.bare_machine.specs.declared.boot.BootEnd.{BootEnd}
 use Rattle.bare_machine.specs.declared.boot.BootEnd.TheVariants.{Line, WantMemory}
 use Rattle.kernel_model.specs.Kernel.{Kernel}
+use Rattle.kernel_model.specs.Lists.{Lists}
+use Rattle.kernel_model.specs.Task.{Task, is_guest_id}
 use Rattle.kernel_model.specs.ValidKernel.{IsFullMachine}
+use Rattle.kernel_model.specs.ValidTasks.{runs}
 use Rattle.kernel_boot.specs.BootFiles.{HasNoStreams, boot_refusal}
 use Rattle.kernel_boot.specs.BootTasks.{AreBootLines}
 use Rattle.kernel_boot.specs.declared.refusals.BootRefusal.{BootRefusal}
 use Rattle.session_text.specs.declared.sessions.SessionLine.{SessionLine}
-use Rattle.kernel_steps.specs.Step.{Stepped}
+use Rattle.kernel_steps.specs.Stepped.{Stepped}
 use Rattle.machine_parts.specs.declared.parts.Parts.{Parts}
 use Rattle.machine_parts.specs.Stands.{Stands}
 
--- tasks of the lines may be started: each line is one that a session may have, and there is no task yet
+-- A task that neither runs, nor takes a packet once it is dispatched, and that has met no fault. The one that reports faults has no
+-- packets, and the fault packet is on no queue.
+pub record IsFresh (free : Bool) (t : Task) : Type 0 where
+  pub number : 1 ≤ t.id
+  pub stands : t.field ≡ runs → ⊥
+  pub takes : (t.queue ≡ []) ⊎ (is_guest_id t.id ≡ false)
+  pub fault : t.fault ≡ 0
+  pub reporter : t.id ≡ 2 → (t.queue ≡ []) × (free ≡ true)
+
+-- all tasks are such, and the key packet is on a queue or not there
+pub record AreFresh (l : Lists) : Type 0 where
+  pub tasks : AllByRecursion (IsFresh l.fault_packet_free) l.tasks
+  pub key : l.key ≡ None
+
+-- tasks of the lines may be started: each line is one that a session may have, and no task has done anything yet
 pub record CanStart (lines : List SessionLine) (k : Kernel) : Type 0 where
   pub may_start : AreBootLines k.lists.version lines
-  pub none : k.lists.tasks ≡ []
+  pub fresh : AreFresh k.lists
 
 -- and files may be put on the disc
 pub record CanLoad (lines : List SessionLine) (k : Kernel) : Type 0 where

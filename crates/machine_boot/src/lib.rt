@@ -1,4 +1,4 @@
-// How a machine with a kernel and without residents begins.
+// How a machine with a kernel begins.
 #![tactic(auto)]
 
 pub mod laws;

@@ -1,18 +1,23 @@
-// The machine of a session without residents.
-ghost use Rattle.std.specs.Prelude.{◌≡◌, MatchResult};
+// The machine of a session.
+ghost use Rattle.std.specs.Prelude.{◌≡◌, [], MatchResult, replicate};
+ghost use Rattle.kernel_model.specs.ChangedStore.{IsChanged};
 ghost use Rattle.kernel_model.specs.Kernel.{Kernel};
 ghost use Rattle.kernel_dispatch.specs.Dispatch.{CanDispatch};
 ghost use Rattle.kernel_boot.specs.BootFiles.{HasNoStreams};
 ghost use Rattle.kernel_steps.specs.Step.{dispatch};
 ghost use Rattle.machine_parts.specs.Stands.{Stands};
-ghost use Rattle.machine_boot.specs.Boot.{HasGuestsAlone, boot, first_kernel, with_files, with_lines, with_tasks};
+ghost use Rattle.machine_boot.specs.Boot.{HasKernel, boot, first_kernel, first_lists, with_files, with_lines, with_tasks};
 ghost use Rattle.machine_boot.specs.Booted.{BootsAs, CanStart, CanLoad, IsReached};
 
+use arrayvec::ArrayVec;
 use bare_machine::boot::BootEnd;
-use kernel_boot::{BootRefusal, load_files, make_kernel, start_tasks};
+use cli_shell::ShellState;
+use console_handler::ConsoleState;
+use kernel_boot::{BootRefusal, load_files, make_kernel, make_resident_kernel, start_tasks};
 use kernel_dispatch::switch;
 use machine_parts::{Parts, Script};
 use packet_queue::NoLog;
+use pipe_handler::Pipes;
 use ram_disc::Disc;
 use session_text::{Session, SessionLine};
 use std::alloc::Global;
@@ -31,15 +36,15 @@ const NO_REGS: Regs = Regs {
     pc: 0,
 };
 
-/// The machine of a session without residents, before its first step: the files of all lines are on its disc, the tasks of all
-/// lines have been started, the first ready one runs, and the session's keys are to come. The first line that is refused is the
+/// The machine of a session before its first step: the files of all lines are on its disc, the tasks of all lines have been
+/// started, the first ready task runs, and the session's keys are to come. The residents are there if the session has them. The first line that is refused is the
 /// answer, with its code. First come the files: a file has the name already (42), there are 64 files (44), or the disc has no
 /// room (43). Then come the tasks: a task has the number already (27); for each of its names in turn, no file has it (41), its
 /// text is no module (61 to 66), or no run of free blocks is large enough for the module (1); a task has the priority already
 /// (8), a module has a number of a global above 1,000 (18), or no run of free blocks is large enough for the task (1).
 /// `WantMemory` comes only where memory could not be had.
 pub fn boot(alloc: Global, session: &Session) -> Result<Parts, BootEnd>
-    requires { HasGuestsAlone session.now }
+    requires { HasKernel session.now }
     ensures { BootsAs result (boot session.now) }
 {
     let mut parts = empty_machine(alloc, session)?;
@@ -62,12 +67,12 @@ fn want_memory(_: WantMemory) -> BootEnd
 
 // The machine before the lines.
 fn empty_machine(alloc: Global, session: &Session) -> Result<Parts, BootEnd>
-    requires { HasGuestsAlone session.now }
+    requires { HasKernel session.now }
     ensures { MatchResult result (λ p. Stands p (first_kernel session.now))
         (λ e. e ≡ BootEnd.WantMemory) }
 {
     let mut store = Store::new(alloc, session.store)?;
-    make_kernel(&mut store, session.version, session.period);
+    make_lists(&mut store, session);
     let mut kinds = ByteKinds::new(alloc, session.store).map_err(want_memory)?;
     kinds.rebuild(&store);
     Ok(Parts {
@@ -76,10 +81,26 @@ fn empty_machine(alloc: Global, session: &Session) -> Result<Parts, BootEnd>
         kinds,
         tty: Tty::new(alloc).map_err(want_memory)?,
         disc: Disc::new(alloc).map_err(want_memory)?,
+        console: ConsoleState::new(ArrayVec::new(), false),
+        shell: ShellState::begin(),
+        pipes: Pipes::new(alloc).map_err(want_memory)?,
         keys: Script::new(alloc, session.keys.as_slice()).map_err(want_memory)?,
         step: 0,
         period: session.period,
     })
+}
+
+// Makes the lists before the lines, in a store of zeros.
+fn make_lists(store: &mut Store, session: &Session)
+    requires session { HasKernel session.now }
+    requires zeros { store.old ≡ replicate session.now.store 0 }
+    ensures { IsChanged store.old store.new (first_lists session.now) [] }
+{
+    if session.resident {
+        make_resident_kernel(store, session.version, session.period, session.debug);
+    } else {
+        make_kernel(store, session.version, session.period);
+    }
 }
 
 // Puts the files of all lines on the disc, and then starts the tasks of all lines.

@@ -3,17 +3,8 @@ use Rattle.std.specs.Prelude.{◌≡◌, false, length}
 use Rattle.kernel_model.specs.ChangedStore.{HasKeeper}
 use Rattle.kernel_model.specs.Image.{HasPlainWords, IsImage}
 use Rattle.kernel_model.specs.Kernel.{Kernel}
-use Rattle.kernel_model.specs.Pipes.{no_pipes}
-use Rattle.kernel_model.specs.ValidKernel.{no_command, no_line}
 use Rattle.word_kinds.specs.ByteMap.{MarksAll}
 use Rattle.machine_parts.specs.declared.parts.Parts.{Parts}
-
--- without residents there is no line, no command and no pipe
-pub record KeepsNothing (k : Kernel) : Type 0 where
-  pub residents : k.lists.residents ≡ false
-  pub console : k.console ≡ no_line
-  pub shell : k.shell ≡ no_command
-  pub pipes : k.pipes ≡ no_pipes
 
 -- The store is the kernel's image, the marks are those of its words, and all else is the kernel's. Whether the machine has
 -- stopped is no part of it.
@@ -25,7 +16,9 @@ pub record Stands (p : Parts) (k : Kernel) : Type 0 where
   pub regs : p.regs ≡ k.regs
   pub type_ahead : p.tty ≡ k.type_ahead
   pub disc : p.disc ≡ k.disc
+  pub console : p.console ≡ k.console
+  pub shell : p.shell ≡ k.shell
+  pub pipes : p.pipes ≡ k.pipes
   pub keys : p.keys ≡ k.keys
   pub steps : p.step ≡ k.steps
   pub period : p.period ≡ k.lists.period
-  pub rest : KeepsNothing k

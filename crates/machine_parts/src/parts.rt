@@ -1,6 +1,9 @@
 // What a machine with a kernel consists of.
 
 use crate::script::Script;
+use cli_shell::ShellState;
+use console_handler::ConsoleState;
+use pipe_handler::Pipes;
 use ram_disc::Disc;
 use tty_device::Tty;
 use word_kinds::ByteKinds;
@@ -18,6 +21,11 @@ pub struct Parts {
     /// The bytes that are typed ahead.
     pub tty: Tty,
     pub disc: Disc,
+    /// The console's line.
+    pub console: ConsoleState,
+    /// What the shell does next, and its line.
+    pub shell: ShellState,
+    pub pipes: Pipes,
     /// The keys that are still to come.
     pub keys: Script,
     /// The steps taken so far.

@@ -1,7 +1,16 @@
-use Rattle.std.proofs.Common.{◌-◌, None}
+use Rattle.std.proofs.Common.{◌-◌, ◌≤◌, ℕ, None}
+use Rattle.machine_parts.specs.declared.parts.Parts.{Parts}
 use Rattle.kernel_machine.specs.Machine.{kernel_of}
-use Rattle.kernel_machine.proofs.QuietSpan.{IsOnWay}
+use Rattle.kernel_machine.specs.Runs.{IsOnWay}
 use Rattle.kernel_machine.proofs.spans.execute.Given as goal
 
+-- the parts p have become q by so many steps of at most `most`
+pub record HasTaken (p q : Parts) (most taken : ℕ) : Type 0 where
+  pub few : taken ≤ most
+  pub way : IsOnWay (kernel_of p None) taken (most - taken) q
+
 abbrev pub invariant-loop-taken : goal.invariant-loop-taken
-invariant-loop-taken l = IsOnWay (kernel_of l.fn.parts None) l.taken (l.most - l.taken) l.parts
+invariant-loop-taken l = HasTaken l.fn.parts l.parts l.most l.taken
+
+abbrev pub decreases-loop-taken : goal.decreases-loop-taken
+decreases-loop-taken l = l.most - l.taken

@@ -1,12 +1,10 @@
-use Rattle.std.proofs.Common.{◌∙◌, ap, arith, length, refl, subst, sym}
-use Rattle.std.proofs.lemmas.List.{length-append}
+use Rattle.std.proofs.Common.{◌∙◌, ap, refl, subst, sym}
 use Rattle.std.specs.Option.{option_map}
 use Rattle.machine_parts.specs.Stops.{stop_of}
 use Rattle.kernel_steps.specs.Step.{after_the_turn, turn, unless_stopped, with_step}
 use Rattle.kernel_machine.specs.Leaves.{Leaves}
 use Rattle.kernel_machine.proofs.LeftParts.{leaves-none, leaves-then}
-use Rattle.kernel_machine.proofs.StepParts.{can-serve, can-turn, none-stopped, rest-goes, rest-stops, some-stopped, stands-step, step-goes, stop-in-turn, told}
-use Rattle.kernel_machine.proofs.TurnBytes.{turn-bytes}
+use Rattle.kernel_machine.proofs.StepParts.{can-serve, can-turn, none-stopped, rest-goes, rest-stops, some-stopped, stands-step, step-goes, stop-in-turn, taken, told}
 use Rattle.kernel_machine.proofs.steps.step.Goals as goal
 
 pub turn-stop-requires-clause-stands : goal.turn-stop-requires-clause-stands
@@ -18,12 +16,6 @@ pub serve-requires-clause-stands : goal.serve-requires-clause-stands
 serve-requires-clause-stands g c =
     let (k, st, h, goes, few) = c.requires.stands in
     ((turn (with_step k)).kernel, (c.turn-stop.ensures.turned (with_step k) (stands-step c.args.parts.now k _ st refl) (can-turn k h goes)).stands, can-serve k h goes few)
-
-pub serve-requires-clause-room_for_byte : goal.serve-requires-clause-room_for_byte
-serve-requires-clause-room_for_byte g c =
-    let (k, st, h, goes, few) = c.requires.stands in
-    let left = c.turn-stop.ensures.turned (with_step k) (stands-step c.args.parts.now k _ st refl) (can-turn k h goes) in
-    omega (arith, ap length left.bytes, length-append c.args.out.now (turn (with_step k)).bytes, turn-bytes (with_step k), c.requires.room)
 
 pub returns-then-is_none-clause-stepped : goal.returns-then-is_none-clause-stepped
 returns-then-is_none-clause-stepped g c = λ k st h goes few.
@@ -48,3 +40,21 @@ returns-else-is_none-clause-stepped g c = λ k st h goes few.
 pub returns-else-is_none-clause-stop : goal.returns-else-is_none-clause-stop
 returns-else-is_none-clause-stop g c = λ k st h goes few.
     c.turn-stop.ensures.stop (with_step k) (stands-step c.args.parts.now k _ st refl) (can-turn k h goes) ∙ ap (option_map stop_of) (sym (stop-in-turn k goes))
+
+pub returns-then-is_none-clause-taken : goal.returns-then-is_none-clause-taken
+returns-then-is_none-clause-taken g c = λ k st h goes few.
+    let here = stands-step c.args.parts.now k _ st refl in
+    let left = c.turn-stop.ensures.turned (with_step k) here (can-turn k h goes) in
+    let none = none-stopped _ _ (c.turn-stop.ensures.stop (with_step k) here (can-turn k h goes)) (told _ _ _ c.is_none.ensures c.if-is_none.true) in
+    let rest = c.serve.ensures (turn (with_step k)).kernel left.stands (can-serve k h goes few) in
+    let whole = subst (Leaves _ _ _) (sym (step-goes k goes)) (leaves-then _ _ _ _ _ _ (unless_stopped after_the_turn) left (subst (Leaves _ _ _) (sym (rest-goes (turn (with_step k)).kernel none)) rest)) in
+    taken k _ _ left.stands c.turn-stop.ensures.disc whole.stands
+
+pub returns-else-is_none-clause-taken : goal.returns-else-is_none-clause-taken
+returns-else-is_none-clause-taken g c = λ k st h goes few.
+    let here = stands-step c.args.parts.now k _ st refl in
+    let left = c.turn-stop.ensures.turned (with_step k) here (can-turn k h goes) in
+    let some = some-stopped _ _ (c.turn-stop.ensures.stop (with_step k) here (can-turn k h goes)) (told _ _ _ c.is_none.ensures c.if-is_none.false) in
+    let j = (turn (with_step k)).kernel in
+    let whole = subst (Leaves _ _ _) (sym (step-goes k goes)) (leaves-then _ _ _ _ _ _ (unless_stopped after_the_turn) left (subst (Leaves _ _ _) (sym (rest-stops j some.0 some.1)) (leaves-none _ _ j left.stands))) in
+    taken k _ _ left.stands c.turn-stop.ensures.disc whole.stands

@@ -1,23 +1,53 @@
-use Rattle.std.proofs.Common.{arith}
+use Rattle.std.proofs.Common.{◌∙◌, ap, arith, length, subst, sym}
+use Rattle.std.proofs.lemmas.List.{length-append}
+use Rattle.std.specs.Option.{option_map}
+use Rattle.ram_disc.specs.Disc.{IsDisc}
+use Rattle.machine_parts.specs.Stops.{stop_of}
+use Rattle.kernel_steps.specs.GuestSteps.{guest_step}
+use Rattle.kernel_steps.specs.ResidentSteps.{resident_step}
+use Rattle.kernel_steps.specs.Step.{Stepped}
+use Rattle.kernel_steps.proofs.TurnWays.{turn-guest, turn-resident}
+use Rattle.kernel_machine.specs.Leaves.{Leaves}
 use Rattle.kernel_machine.proofs.RunningTask.{guest-number, other-number}
-use Rattle.kernel_machine.proofs.TurnedParts.{leaves-no_turn, leaves-turn, stop-no_turn, stop-turn}
+use Rattle.kernel_machine.proofs.TurnBytes.{turn-bytes}
 use Rattle.kernel_machine.proofs.turns.turn.Goals as goal
 
 pub returns-then-task-lt-FIRST_GUEST-clause-turned : goal.returns-then-task-lt-FIRST_GUEST-clause-turned
 returns-then-task-lt-FIRST_GUEST-clause-turned g c = λ k st can.
-    leaves-no_turn c.args.parts.now k st can _ (other-number _ _ (c.running-task.ensures k.lists st.keeper.lists) c.if-task-lt-FIRST_GUEST.true)
+    let is = c.running-task.ensures k.lists st.keeper.lists in
+    let none = other-number _ _ is c.if-task-lt-FIRST_GUEST.true in
+    subst (Leaves _ _ _) (ap (λ i. resident_step i k) is ∙ sym (turn-resident k none)) (c.resident.ensures.turned k st (record { can = can; is = is; none = none }))
 
 pub returns-then-task-lt-FIRST_GUEST-clause-stop : goal.returns-then-task-lt-FIRST_GUEST-clause-stop
 returns-then-task-lt-FIRST_GUEST-clause-stop g c = λ k st can.
-    stop-no_turn c.args.parts.now k st can (other-number _ _ (c.running-task.ensures k.lists st.keeper.lists) c.if-task-lt-FIRST_GUEST.true)
+    let is = c.running-task.ensures k.lists st.keeper.lists in
+    let none = other-number _ _ is c.if-task-lt-FIRST_GUEST.true in
+    c.resident.ensures.stop k st (record { can = can; is = is; none = none })
+    ∙ ap (λ (x : Stepped). option_map stop_of x.kernel.stop) (ap (λ i. resident_step i k) is ∙ sym (turn-resident k none))
 
 pub returns-clause-turned : goal.returns-clause-turned
 returns-clause-turned g c = λ k st can.
-    let guest = guest-number c.running-task.result k.lists.running (c.running-task.ensures k.lists st.keeper.lists) (omega (arith, c.if-task-lt-FIRST_GUEST.false)) in
-    leaves-turn c.args.parts.now k st can guest _ _ _ _ _ _ (c.guest_turn-end.ensures.turned k.lists st.keeper (can.caller guest)) c.guest_turn-end.ensures.room
+    let is = c.running-task.ensures k.lists st.keeper.lists in
+    let guest = guest-number c.running-task.result k.lists.running is (omega (arith, c.if-task-lt-FIRST_GUEST.false)) in
+    subst (Leaves _ _ _) (sym (turn-guest k guest)) (c.guest.ensures.turned k st (record { can = can; is = is; guest = guest }))
 
 pub returns-clause-stop : goal.returns-clause-stop
 returns-clause-stop g c = λ k st can.
-    let same = c.running-task.ensures k.lists st.keeper.lists in
-    let guest = guest-number c.running-task.result k.lists.running same (omega (arith, c.if-task-lt-FIRST_GUEST.false)) in
-    stop-turn c.args.parts.now k st can guest _ _ _ _ _ _ _ _ (c.guest_turn-end.ensures.turned k.lists st.keeper (can.caller guest)) same c.stop_by.ensures
+    let is = c.running-task.ensures k.lists st.keeper.lists in
+    let guest = guest-number c.running-task.result k.lists.running is (omega (arith, c.if-task-lt-FIRST_GUEST.false)) in
+    c.guest.ensures.stop k st (record { can = can; is = is; guest = guest }) ∙ ap (λ (x : Stepped). option_map stop_of x.kernel.stop) (sym (turn-guest k guest))
+
+pub returns-clause-disc : goal.returns-clause-disc
+returns-clause-disc g c =
+    let (k, st, can) = c.requires.stands in
+    let is = c.running-task.ensures k.lists st.keeper.lists in
+    let guest = guest-number c.running-task.result k.lists.running is (omega (arith, c.if-task-lt-FIRST_GUEST.false)) in
+    subst IsDisc (sym (c.guest.ensures.turned k st (record { can = can; is = is; guest = guest })).stands.disc) can.rules.residents.disc
+
+pub returns-clause-room : goal.returns-clause-room
+returns-clause-room g c =
+    let (k, st, can) = c.requires.stands in
+    let is = c.running-task.ensures k.lists st.keeper.lists in
+    let guest = guest-number c.running-task.result k.lists.running is (omega (arith, c.if-task-lt-FIRST_GUEST.false)) in
+    let left = c.guest.ensures.turned k st (record { can = can; is = is; guest = guest }) in
+    omega (arith, ap length left.bytes, length-append c.args.out.now (guest_step k).bytes, turn-bytes k, ap length c.requires.empty)

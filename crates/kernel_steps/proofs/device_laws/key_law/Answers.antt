@@ -1,6 +1,6 @@
 use Rattle.std.specs.Prelude.{◌≤◌}
 use Rattle.session_text.specs.Ranges.{most_steps}
-use Rattle.kernel_steps.proofs.DevicesKept.{key-ahead, key-dispatch, key-keys, key-numbers, key-same, key-stop}
+use Rattle.kernel_steps.proofs.DevicesKept.{key-ahead, key-dispatch, key-keys, key-numbers, key-residents, key-same, key-stop}
 use Rattle.kernel_steps.proofs.device_laws.key_law.Goals as goal
 
 pub returns-clause-dispatch : goal.returns-clause-dispatch
@@ -11,6 +11,9 @@ returns-clause-numbers c = λ k can. key-numbers k can
 
 pub returns-clause-same : goal.returns-clause-same
 returns-clause-same c = λ k. key-same k
+
+pub returns-clause-residents : goal.returns-clause-residents
+returns-clause-residents c = λ k. key-residents k
 
 pub returns-clause-keys : goal.returns-clause-keys
 returns-clause-keys c = λ k all. key-keys k (λ key. key.0 ≤ most_steps) all

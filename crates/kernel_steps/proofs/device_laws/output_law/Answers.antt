@@ -1,4 +1,4 @@
-use Rattle.kernel_steps.proofs.DevicesKept.{output-dispatch, output-keys, output-numbers, output-same, output-stop}
+use Rattle.kernel_steps.proofs.DevicesKept.{output-dispatch, output-keys, output-numbers, output-residents, output-same, output-stop}
 use Rattle.kernel_steps.proofs.device_laws.output_law.Goals as goal
 
 pub returns-clause-dispatch : goal.returns-clause-dispatch
@@ -9,6 +9,9 @@ returns-clause-numbers c = λ k can. output-numbers k can
 
 pub returns-clause-same : goal.returns-clause-same
 returns-clause-same c = λ k. output-same k
+
+pub returns-clause-residents : goal.returns-clause-residents
+returns-clause-residents c = λ k. output-residents k
 
 pub returns-clause-keys : goal.returns-clause-keys
 returns-clause-keys c = λ k. output-keys k

@@ -1,4 +1,4 @@
-use Rattle.kernel_steps.proofs.DevicesKept.{tick-dispatch, tick-keys, tick-numbers, tick-same, tick-stop}
+use Rattle.kernel_steps.proofs.DevicesKept.{tick-dispatch, tick-keys, tick-numbers, tick-residents, tick-same, tick-stop}
 use Rattle.kernel_steps.proofs.NextTick.{tick-periods}
 use Rattle.kernel_steps.proofs.device_laws.tick_law.Goals as goal
 
@@ -13,6 +13,9 @@ returns-clause-periods c = λ k n some steps ticks. tick-periods k n some steps 
 
 pub returns-clause-same : goal.returns-clause-same
 returns-clause-same c = λ k. tick-same k
+
+pub returns-clause-residents : goal.returns-clause-residents
+returns-clause-residents c = λ k. tick-residents k
 
 pub returns-clause-keys : goal.returns-clause-keys
 returns-clause-keys c = λ k. tick-keys k

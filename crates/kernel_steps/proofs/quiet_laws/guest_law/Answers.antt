@@ -12,7 +12,7 @@ pub returns-clause-no_tick : goal.returns-clause-no_tick
 returns-clause-no_tick c = λ k h full goes amid. passed-amid k (full-ready k h full goes) amid
 
 pub returns-clause-full : goal.returns-clause-full
-returns-clause-full c = λ k h full goes keeps guest next few q. guest-full k h full goes guest next keeps few q
+returns-clause-full c = λ k h full goes guest next few q. guest-full k h full goes guest next few q
 
 pub returns-clause-image : goal.returns-clause-image
 returns-clause-image c = λ k h full goes guest next. guest-image k h full goes guest next

@@ -7,7 +7,7 @@ pub returns-clause-run : goal.returns-clause-run
 returns-clause-run c = λ m k h full goes none q. idle-run m (image k) k (full-ready k h full goes) none q
 
 pub returns-clause-full : goal.returns-clause-full
-returns-clause-full c = λ m k h full goes keeps none few q. idle-full m k h full goes keeps none few q
+returns-clause-full c = λ m k h full goes none few q. idle-full m k h full goes none few q
 
 pub returns-clause-image : goal.returns-clause-image
 returns-clause-image c = λ s m k h full is. idle-image s m k h full is

@@ -2,10 +2,7 @@ use Rattle.kernel_steps.proofs.StepKept.{step-left}
 use Rattle.kernel_steps.proofs.step_laws.step_law.Goals as goal
 
 pub returns-clause-full : goal.returns-clause-full
-returns-clause-full c = λ k h goes keeps few v plain. (step-left k h goes keeps few v plain).0
-
-pub returns-clause-nothing : goal.returns-clause-nothing
-returns-clause-nothing c = λ k h goes keeps few v plain. (step-left k h goes keeps few v plain).1
+returns-clause-full c = λ k h goes few is. (step-left k h goes few is).0
 
 pub returns-clause-bare : goal.returns-clause-bare
-returns-clause-bare c = λ k h goes keeps few v plain. (step-left k h goes keeps few v plain).2
+returns-clause-bare c = λ k h goes few is. (step-left k h goes few is).1

@@ -1,11 +1,16 @@
-use Rattle.kernel_steps.proofs.TurnKept.{numbers-turn, turn-dispatch, turn-keys, turn-nobody, turn-same}
+use Rattle.kernel_steps.proofs.TurnKept.{numbers-turn, turn-dispatch, turn-keys, turn-same}
+use Rattle.kernel_steps.proofs.TurnRules.{turn-rules}
+use Rattle.kernel_steps.proofs.TurnWays.{turn-nobody}
 use Rattle.kernel_steps.proofs.turn_laws.turn_law.Goals as goal
 
 pub returns-clause-dispatch : goal.returns-clause-dispatch
-returns-clause-dispatch c = λ k v h. turn-dispatch k h v
+returns-clause-dispatch c = λ k can. turn-dispatch k can
 
 pub returns-clause-numbers : goal.returns-clause-numbers
-returns-clause-numbers c = λ k h. numbers-turn k h
+returns-clause-numbers c = λ k can. numbers-turn k can
+
+pub returns-clause-rules : goal.returns-clause-rules
+returns-clause-rules c = λ k can disc. turn-rules k can disc
 
 pub returns-clause-same : goal.returns-clause-same
 returns-clause-same c = λ k. turn-same k
@@ -14,4 +19,4 @@ pub returns-clause-keys : goal.returns-clause-keys
 returns-clause-keys c = λ k. turn-keys k
 
 pub returns-clause-nobody : goal.returns-clause-nobody
-returns-clause-nobody c = λ k none. turn-nobody k none
+returns-clause-nobody c = λ k nobody. turn-nobody k nobody

@@ -1,8 +1,7 @@
 use Rattle.std.proofs.Common.{◌≡◌, ◌∙◌, Ok, sym, ap}
 use Rattle.session_text.specs.declared.sessions.Session.{Session}
 use Rattle.kernel_model.specs.Kernel.{Kernel}
-use Rattle.kernel_steps.specs.Step.{dispatch}
-use Rattle.machine_boot.specs.Boot.{first_kernel, with_lines}
+use Rattle.machine_boot.specs.Boot.{first_kernel, started, with_lines}
 use Rattle.machine_boot.proofs.BegunKernels.{begun-dispatches, boot-ok, boot-refused, first-begun, first-loads, lines-begun}
 use Rattle.machine_boot.proofs.BootedKernels.{booted-full, booted-goes}
 use Rattle.machine_boot.proofs.LoadedParts.{reached-kernel}
@@ -37,7 +36,7 @@ returns c =
     let is : with_lines s.lines k ≡ Ok loaded.0 = ap (λ ls. with_lines ls k) (sym c.as_slice.ensures) ∙ loaded.1 in
     let begun = lines-begun s c.requires k loaded.0 (first-begun s) is in
     let stands = c.dispatch.ensures loaded.0 loaded.2 (begun-dispatches s c.requires loaded.0 begun) in (
-      dispatch loaded.0,
+      started loaded.0,
       boot-ok s loaded.0 is,
       record {
         stands = stands;

@@ -1,14 +1,17 @@
-use Rattle.std.proofs.Common.{◌≡◌, ℕ, Bool, false, List, [], length, replicate, refl, sym, ap, ◌∙◌, subst}
+use Rattle.std.proofs.Common.{◌≡◌, ℕ, Bool, false, List, [], Option, length, replicate, refl, sym, ap, ◌∙◌, subst}
 use Rattle.std.proofs.lemmas.List.{length-replicate}
 use Rattle.ram_disc.specs.Disc.{Disc, empty_disc}
 use Rattle.session_text.specs.declared.sessions.Session.{Session}
+use Rattle.kernel_model.specs.Kernel.{Pipe}
+use Rattle.kernel_model.specs.Pipes.{no_pipes}
 use Rattle.kernel_model.proofs.WalkedLists.{can-walk}
 use Rattle.word_kinds.specs.Keeper.{IsStoreOf}
+use Rattle.machine_boot.specs.Boot.{first_lists}
 use Rattle.machine_boot.proofs.FirstParts.{made-changed, made-ok, made-stands}
 use Rattle.machine_boot.proofs.start.empty_machine.Goals as goal
 
 pub rebuild-requires : goal.rebuild-requires
-rebuild-requires c = can-walk _ _ c.make_kernel.ensures.lists
+rebuild-requires c = can-walk _ _ c.make_lists.ensures.lists
 
 pub returns : goal.returns
 returns c =
@@ -17,15 +20,19 @@ returns c =
     made-ok (λ (k : List Bool). k ≡ replicate s.store false) _ c.new-2.result c.in_ok-kinds.kinds c.in_ok-kinds.ensures.cases c.in_ok-kinds.ensures.variant c.new-2.ensures in
     made-stands s _
     (record {
-      store = made-changed s.store s.version s.period c.in_ok-store.store c.make_kernel.new.store c.store.inside.words.items c.in_ok-store.ensures c.store.view_is c.make_kernel.ensures;
+      store = made-changed s.store (first_lists s) c.in_ok-store.store c.make_lists.new.store c.store.inside.words.items c.in_ok-store.ensures c.store.view_is c.make_lists.ensures;
       marks = λ known l is same.
           c.rebuild.ensures.marks known l (subst (λ t. IsStoreOf t known l) c.store.view_is is) (sym (ap length c.store.view_is) ∙ same ∙ c.rebuild.ensures.size);
       kinds = c.rebuild.ensures.size ∙ ap length none ∙ length-replicate s.store false;
       regs = refl;
       type_ahead = made-ok (λ (t : List ℕ). t ≡ []) _ c.new-3.result c.in_ok-map_err.field-0 c.in_ok-map_err.ensures.cases c.in_ok-map_err.ensures.variant c.new-3.ensures;
       disc = made-ok (λ (d : Disc). d ≡ empty_disc) _ c.new-4.result c.in_ok-map_err-2.field-0 c.in_ok-map_err-2.ensures.cases c.in_ok-map_err-2.ensures.variant c.new-4.ensures;
+      console = c.new-6.ensures ∙ ap (λ l. record { line = l; finished = false }) c.new-5.ensures;
+      shell = c.begin.ensures;
+      pipes =
+          made-ok (λ (ps : List (Option Pipe)). ps ≡ no_pipes) _ c.new-7.result c.in_ok-map_err-3.field-0 c.in_ok-map_err-3.ensures.cases c.in_ok-map_err-3.ensures.variant c.new-7.ensures;
       keys =
-          made-ok (λ (k : List (ℕ × ℕ)). k ≡ c.as_slice.result.now) _ c.new-5.result c.in_ok-map_err-3.field-0 c.in_ok-map_err-3.ensures.cases c.in_ok-map_err-3.ensures.variant c.new-5.ensures
+          made-ok (λ (k : List (ℕ × ℕ)). k ≡ c.as_slice.result.now) _ c.new-8.result c.in_ok-map_err-4.field-0 c.in_ok-map_err-4.ensures.cases c.in_ok-map_err-4.ensures.variant c.new-8.ensures
           ∙ c.as_slice.ensures;
       step = refl;
       period = refl;

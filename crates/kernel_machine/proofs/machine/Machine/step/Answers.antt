@@ -18,7 +18,7 @@ invariant_of-self g c =
     let w = c.self.invariant in
     let same = stopped-now c.self.inside.parts c.self.inside.stop w in
     let k = kernel_of c.self.inside.parts c.self.inside.stop in
-    whole-after _ _ w few _ _ _ _ (c.step_or_stay-self-inside.ensures.stepped k w.stands w.valid same few) (c.step_or_stay-self-inside.ensures.stop k w.stands w.valid same few)
+    whole-after _ _ w few _ _ _ _ (c.step_or_stay-self-inside.ensures.stepped k w.stands w.valid same few) (c.step_or_stay-self-inside.ensures.stop k w.stands w.valid same few) (λ goes. c.step_or_stay-self-inside.ensures.taken k w.stands w.valid goes same few)
 
 pub returns-clause-kernel : goal.returns-clause-kernel
 returns-clause-kernel g c =
@@ -26,7 +26,7 @@ returns-clause-kernel g c =
     let w = c.self.invariant in
     let same = stopped-now c.self.inside.parts c.self.inside.stop w in
     let k = kernel_of c.self.inside.parts c.self.inside.stop in
-    kernel-after _ _ w few _ _ _ _ (c.step_or_stay-self-inside.ensures.stepped k w.stands w.valid same few) (c.step_or_stay-self-inside.ensures.stop k w.stands w.valid same few)
+    kernel-after _ _ w few _ _ _ _ (c.step_or_stay-self-inside.ensures.stepped k w.stands w.valid same few) (c.step_or_stay-self-inside.ensures.stop k w.stands w.valid same few) (λ goes. c.step_or_stay-self-inside.ensures.taken k w.stands w.valid goes same few)
     ∙ ap (λ (v : MachineView). (step v.kernel).kernel) c.self.view_is
 
 pub returns-clause-output : goal.returns-clause-output
@@ -55,4 +55,4 @@ returns-clause-stop g c =
     let w = c.self.invariant in
     let same = stopped-now c.self.inside.parts c.self.inside.stop w in
     let k = kernel_of c.self.inside.parts c.self.inside.stop in
-    stop-after _ _ w few _ _ _ _ (c.step_or_stay-self-inside.ensures.stepped k w.stands w.valid same few) (c.step_or_stay-self-inside.ensures.stop k w.stands w.valid same few)
+    stop-after _ _ w few _ _ _ _ (c.step_or_stay-self-inside.ensures.stepped k w.stands w.valid same few) (c.step_or_stay-self-inside.ensures.stop k w.stands w.valid same few) (λ goes. c.step_or_stay-self-inside.ensures.taken k w.stands w.valid goes same few)

@@ -1,0 +1,16 @@
+use Rattle.std.proofs.Common.{◌≡◌, ◌+◌, ◌-◌, ◌/◌, ◌≤◌, ℕ, get_or}
+use Rattle.session_text.specs.Ranges.{most_steps}
+use Rattle.kernel_model.specs.Kernel.{Kernel}
+use Rattle.machine_parts.specs.declared.parts.Parts.{Parts}
+use Rattle.kernel_machine.specs.Runs.{IsOnWay, counted}
+use Rattle.kernel_machine.proofs.spans.execute_uncounted.Given as goal
+
+-- the parts p have become q by so many instructions, which are still to be counted, of at most `most`
+pub record IsCounting (p q : Parts) (most taken : ℕ) : Type 0 where
+  pub way : (k : Kernel) (n m : ℕ) → IsOnWay k n m p → most ≤ m → k.steps + (n + m) ≤ most_steps → IsOnWay k (n + taken) (m - taken) (counted taken q)
+  pub tick : get_or q.store 108 0 ≡ p.step / p.period
+  pub step : q.step ≡ p.step
+  pub period : q.period ≡ p.period
+
+abbrev pub invariant-loop-taken : goal.invariant-loop-taken
+invariant-loop-taken l = IsCounting l.fn.parts l.parts l.most l.taken
