@@ -4,8 +4,6 @@
 #[cfg(test)]
 mod blocks;
 #[cfg(test)]
-mod command_lines;
-#[cfg(test)]
 mod discs;
 #[cfg(test)]
 mod kinds;

@@ -8,6 +8,13 @@ const LETTER: &[u8] = b"TRIPOS 1\nSTORE 1024\nBARE\n:6013a0036041a004916000a003a
 
 const LETTER_RUN: &[u8] = b"A\n* stopped after 9 steps: quit 0\n";
 
+// Lines are typed to the shell of a machine with residents, which starts a program and finishes the machine.
+const TYPED: &[u8] =
+    b"TRIPOS 1\nSTORE 8192\nTICK 50\nRESIDENT\nFILE HELLO\n:3e8 b b a31360a6 91a44860 91a46960 8691a41a 60de11a4 7b91a30b 0 1 4 1 3ea\nFILE NOTE\n:one\nKEY 1 45\nKEY 1 59\nKEY 1 08\nKEY 1 58\nKEY 1 0d\nAT 200 :HELLO\nAT 1000 :STATUS\nAT 2000 :FINISH\nGO 10000\n";
+
+const TYPED_RUN: &[u8] =
+    b"> EY\x08 \x08X\nHELLO              74\nNOTE                4\n> HELLO\nHi\n> STATUS\n  3  6000 wait\n  4  5000 wait\n  1  1000 run\n> FINISH\n\n* stopped after 2008 steps: finish\n";
+
 // Writes a letter at every second step from the fifth on.
 const LETTERS: &[u8] = b"TRIPOS 1\nSTORE 1024\nBARE\n:6013a0036041a00491bafe\nGO 20004\n";
 
@@ -29,10 +36,10 @@ fn tells_faults_of_source_and_sink(rt: HostRuntime) -> Result<(), Fail> {
     let other = ["run", "x"].as_slice();
     // The words and the input, the read and the write that fail, the status and the bytes written.
     let rows: [(&[&str], &[u8], u32, u32, Status, &[u8]); 8] = [
-        (command, LETTER, 0, 2, Status::Done, LETTER_RUN),
-        (command, LETTER, 1, 0, Status::ReadFault, b""),
-        (command, LETTER, 2, 0, Status::ReadFault, b""),
-        (command, LETTER, 0, 1, Status::WriteFault, b""),
+        (command, TYPED, 0, 2, Status::Done, TYPED_RUN),
+        (command, TYPED, 1, 0, Status::ReadFault, b""),
+        (command, TYPED, 2, 0, Status::ReadFault, b""),
+        (command, TYPED, 0, 1, Status::WriteFault, b""),
         (command, LETTERS, 0, 2, Status::WriteFault, &front),
         (command, b"", 0, 1, Status::WriteFault, b""),
         (other, LETTER, 1, 0, Status::Usage, USAGE),

@@ -9,13 +9,19 @@ use Rattle.tp_io.specs.Pending.{IsGathered}
 use Rattle.tp_io.proofs.AppendedTexts.{AppendsPrefix-more}
 use Rattle.tp_io.proofs.GatheredTexts.{Prints-after}
 use Rattle.text_reader.specs.Refusal.{Refusal}
+use Rattle.session_text.specs.SessionOfText.{session_of}
+use Rattle.session_text.specs.declared.sessions.Session.{Session}
+use Rattle.session_generator.specs.Generated.{generated}
 use Rattle.bare_machine.specs.declared.stops.Stop.{Stop}
 use Rattle.bare_machine.specs.declared.stops.Stop.TheVariants.{Steps, Quit, Finish, Fault}
 use Rattle.tripos_run.specs.declared.commands.Command.{Command}
+use Rattle.tripos_run.specs.declared.commands.Job.{Job}
+use Rattle.tripos_run.specs.declared.reports.Report.{Report}
+use Rattle.tripos_run.specs.declared.reports.Report.TheVariants.{Sums}
 use Rattle.tripos_run.specs.declared.status.Status.{Status}
 use Rattle.tripos_run.specs.declared.status.Status.TheVariants.{Done, GuestFault, Usage, Refused, NoBoot, ReadFault, WriteFault, TooLong, WantMemory}
-use Rattle.tripos_run.specs.Texts.{closing_text, no_boot_text, too_long_text, usage_text}
-use Rattle.tripos_run.specs.Answer.{Answer, Answers, RunEnd, closed_answer, command_answer, input_answer, limit, no_boot_answer, status_of, text_answer, words_text}
+use Rattle.tripos_run.specs.Texts.{closing_text, no_boot_text, refused_text, too_long_text, usage_text}
+use Rattle.tripos_run.specs.Answer.{Answer, Answers, AreEnd, RunEnd, closed_answer, generated_answer, input_answer, job_answer, limit, no_boot_answer, session_answer, status_of, text_answer, words_text}
 use Rattle.tripos_run.specs.Input.{IsInput, IsMachineEnd}
 
 -- the status of a call that has printed its text
@@ -37,37 +43,42 @@ pub Answers-no_boot : {T E : Type 0} (r : Refusal) (h k : Option (List ℕ)) (wr
 Answers-no_boot r h k (Ok t) p = (refl, p)
 Answers-no_boot r h k (Err d) p = p
 
+-- the refusal of a text is printed
+pub Answers-refused : {T E : Type 0} (report : Report) (r : Refusal) (h k : Option (List ℕ)) (written : Result T E) {read : Result Session Refusal} → read ≡ Err r → Prints h k (refused_text r) written
+    → Answers (session_answer report read) h k (status_after written Refused)
+Answers-refused report r h k (Ok t) is p = rw is (refl, p)
+Answers-refused report r h k (Err d) is p = rw is p
+
+-- the answer of the session that a number makes is that of its text
+pub generated-is : (n size : ℕ) (text : List ℕ) → text ≡ generated n → size ≡ length text → session_answer (Sums size) (session_of text) ≡ generated_answer n
+unfolding generated_answer
+generated-is n size text is whole = ap (λ s. session_answer (Sums s) (session_of text)) whole ∙ ap (λ t. session_answer (Sums (length t)) (session_of t)) is
+
 -- a text was gathered where nothing was pending, and another was printed after it
 pub Prints-first : {T E : Type 0} {h m : Option (List ℕ)} {p q a : List ℕ} (k : Option (List ℕ)) (b : List ℕ) (written : Result T E) → p ≡ [] → IsGathered h m p q a → Prints m k (q ++ b) written
     → Prints h k (a ++ b) written
 Prints-first {h = h} {a = a} k b written none gathered last =
     subst (λ (v : List ℕ). Prints h k (v ++ (a ++ b)) written) none (Prints-after gathered k b written last)
 
--- what a closed answer needs to know of the end of a run
-pub record AreEnd (x : RunEnd) (steps : ℕ) (stop : Stop) (words : List ℕ) : Type 0 where
-  pub steps_are : steps ≡ x.steps
-  pub stop_is : stop ≡ x.stop
-  pub words_are : words ≡ x.words
-
-module _ (command : Command) (x : RunEnd) (before : List ℕ) where
+module _ (report : Report) (x : RunEnd) (before : List ℕ) where
   -- the text before was printed with the end of the run
   pub Answers-closed : {T E : Type 0} (h k : Option (List ℕ)) {steps : ℕ} {stop : Stop} {words : List ℕ} (written : Result T E) → AreEnd x steps stop words
-      → Prints h k (before ++ (closing_text steps stop ++ words_text command words)) written → Answers (closed_answer command before x) h k (status_after written (status_of stop))
+      → Prints h k (before ++ (closing_text steps stop ++ words_text report words)) written → Answers (closed_answer report before x) h k (status_after written (status_of stop))
   Answers-closed h k {steps} {stop} {words} written end p =
-      let text : closing_text steps stop ++ words_text command words ≡ closing_text x.steps x.stop ++ words_text command x.words = rw (end.steps_are, end.stop_is, end.words_are) refl in
-      Answers-run_text (closed_answer command before x) h k stop written (ap status_of (sym end.stop_is)) (subst (λ (v : List ℕ). Prints h k (before ++ v) written) text p)
+      let text : closing_text steps stop ++ words_text report words ≡ closing_text x.steps x.stop ++ words_text report x.words = rw (end.steps_are, end.stop_is, end.words_are) refl in
+      Answers-run_text (closed_answer report before x) h k stop written (ap status_of (sym end.stop_is)) (subst (λ (v : List ℕ). Prints h k (before ++ v) written) text p)
 
   -- the sink failed at the text before
-  pub AppendsPrefix-closed : (h k : Option (List ℕ)) → AppendsPrefix h k before → AppendsPrefix h k (closed_answer command before x).bytes
-  AppendsPrefix-closed h k p = AppendsPrefix-more h k before (closing_text x.steps x.stop ++ words_text command x.words) p
+  pub AppendsPrefix-closed : (h k : Option (List ℕ)) → AppendsPrefix h k before → AppendsPrefix h k (closed_answer report before x).bytes
+  AppendsPrefix-closed h k p = AppendsPrefix-more h k before (closing_text x.steps x.stop ++ words_text report x.words) p
 
   -- the text before was gathered, and what was pending of it was printed with the end of the run
-  pub Answers-behind : {h m : Option (List ℕ)} {p q : List ℕ} (k : Option (List ℕ)) (s : Status) → p ≡ [] → IsGathered h m p q before → IsMachineEnd s → Answers (closed_answer command q x) m k s
-      → Answers (closed_answer command before x) h k s
+  pub Answers-behind : {h m : Option (List ℕ)} {p q : List ℕ} (k : Option (List ℕ)) (s : Status) → p ≡ [] → IsGathered h m p q before → IsMachineEnd s → Answers (closed_answer report q x) m k s
+      → Answers (closed_answer report before x) h k s
   Answers-behind {h} {m} {p} {q} k s none gathered ends a = on s ends a
     where
       tail : List ℕ
-      tail = closing_text x.steps x.stop ++ words_text command x.words
+      tail = closing_text x.steps x.stop ++ words_text report x.words
 
       whole : {T E : Type 0} (r : Result T E) → Prints m k (q ++ tail) r → Prints h k (before ++ tail) r
       whole r last = Prints-first k tail r none gathered last
@@ -78,7 +89,7 @@ module _ (command : Command) (x : RunEnd) (before : List ℕ) where
       err : Result (Unit {0}) (Unit {0})
       err = Err tt
 
-      on : (s : Status) → IsMachineEnd s → Answers (closed_answer command q x) m k s → Answers (closed_answer command before x) h k s
+      on : (s : Status) → IsMachineEnd s → Answers (closed_answer report q x) m k s → Answers (closed_answer report before x) h k s
       on Done e b = (b.0, whole ok b.1)
       on GuestFault e b = (b.0, whole ok b.1)
       on WriteFault e b = whole err b
@@ -110,8 +121,8 @@ Answers-usage_text : {T E : Type 0} (a : Answer) (h k : Option (List ℕ)) (writ
 Answers-usage_text a h k (Ok t) e p = (e, p)
 Answers-usage_text a h k (Err d) e p = p
 
-pub Answers-usage : {T E : Type 0} (command : Option Command) (left h k : Option (List ℕ)) (written : Result T E) → command ≡ None → Prints h k usage_text written → (input : List ℕ) × IsInput left input × Answers (command_answer command input) h k (status_after written Usage)
-Answers-usage command left h k written is p =
+pub Answers-usage : {T E : Type 0} (job : Option Job) (left h k : Option (List ℕ)) (written : Result T E) → job ≡ None → Prints h k usage_text written → (input : List ℕ) × IsInput left input × Answers (job_answer job input) h k (status_after written Usage)
+Answers-usage job left h k written is p =
     let some = IsInput-some left in
     (some.0, some.1, rw is (Answers-usage_text (record { status = Usage; bytes = usage_text }) h k written refl p))
 
@@ -124,11 +135,11 @@ IsInput-long None left' items c l = (items, tt, omega arith)
 IsInput-long (Some xs) None items c l = absurd c
 IsInput-long (Some xs) (Some ys) items c l = (xs, refl, omega (arith, ap length c, length-append items ys))
 
-pub Answers-too_long : {T E : Type 0} (command : Option Command) (named : Command) (left left' : Option (List ℕ)) (items : List ℕ) (h k : Option (List ℕ)) (written : Result T E) → command ≡ Some named → Consumes left left' items → length items ≡ limit + 1
-    → Prints h k too_long_text written → (input : List ℕ) × IsInput left input × Answers (command_answer command input) h k (status_after written TooLong)
-Answers-too_long command named left left' items h k written is c l p =
+pub Answers-too_long : {T E : Type 0} (command : Command) (left left' : Option (List ℕ)) (items : List ℕ) (h k : Option (List ℕ)) (written : Result T E) → Consumes left left' items → length items ≡ limit + 1
+    → Prints h k too_long_text written → (input : List ℕ) × IsInput left input × Answers (input_answer command input) h k (status_after written TooLong)
+Answers-too_long command left left' items h k written c l p =
     let long = IsInput-long left left' items c l in
-    (long.0, long.1, rw (is, input_answer-long named long.0 long.2) (Answers-too_long_text h k written p))
+    (long.0, long.1, rw (input_answer-long command long.0 long.2) (Answers-too_long_text h k written p))
 
 -- all that was taken is all that was left
 IsInput-whole : (left left' : Option (List ℕ)) (items : List ℕ) → Consumes left left' items → IsAtEnd left' → IsInput left items
@@ -136,7 +147,16 @@ IsInput-whole None left' items c e = tt
 IsInput-whole (Some xs) None items c e = absurd c
 IsInput-whole (Some xs) (Some ys) items c e = sym (c ∙ ap (λ v. items ++ v) e ∙ append-nil items)
 
-pub Answers-text : (command : Option Command) (named : Command) (left left' : Option (List ℕ)) (items text : List ℕ) (h k : Option (List ℕ)) (s : Status) → command ≡ Some named → Consumes left left' items → IsAtEnd left' → length items ≤ limit → text ≡ items
-    → Answers (text_answer named text) h k s → (input : List ℕ) × IsInput left input × Answers (command_answer command input) h k s
-Answers-text command named left left' items text h k s is c e short same a =
-    (items, IsInput-whole left left' items c e, rw (is, input_answer-short named items short, ← same) a)
+pub Answers-text : (command : Command) (left left' : Option (List ℕ)) (items text : List ℕ) (h k : Option (List ℕ)) (s : Status) → Consumes left left' items → IsAtEnd left' → length items ≤ limit → text ≡ items
+    → Answers (text_answer command text) h k s → (input : List ℕ) × IsInput left input × Answers (input_answer command input) h k s
+Answers-text command left left' items text h k s c e short same a =
+    (items, IsInput-whole left left' items c e, rw (input_answer-short command items short, ← same) a)
+
+-- a job's answer to an input, where the job is known
+pub Answers-job : {job other : Option Job} (left h k : Option (List ℕ)) (s : Status) → job ≡ other → (input : List ℕ) × IsInput left input × Answers (job_answer other input) h k s
+    → (input : List ℕ) × IsInput left input × Answers (job_answer job input) h k s
+Answers-job left h k s is x = (x.0, x.1, rw is x.2)
+
+-- an answer that no input changes
+pub Answers-any : (a : Answer) (left h k : Option (List ℕ)) (s : Status) → Answers a h k s → (input : List ℕ) × IsInput left input × Answers a h k s
+Answers-any a left h k s x = let some = IsInput-some left in (some.0, some.1, x)

@@ -4,17 +4,17 @@ use Rattle.session_text.specs.declared.sessions.Session.{Session}
 use Rattle.text_reader.specs.Steps.{◌>>=◌}
 use Rattle.kernel_model.specs.Kernel.{Kernel}
 use Rattle.kernel_boot.specs.declared.refusals.BootRefusal.{BootRefusal}
-use Rattle.kernel_steps.specs.Step.{Stepped, dispatch}
+use Rattle.kernel_steps.specs.Stepped.{Stepped}
 use Rattle.kernel_steps.proofs.StepKept.{dispatch-same}
-use Rattle.machine_boot.specs.Boot.{HasGuestsAlone, boot, first_kernel, with_lines}
+use Rattle.machine_boot.specs.Boot.{HasKernel, boot, first_kernel, started, with_lines}
 use Rattle.machine_boot.proofs.BegunKernels.{first-begun, lines-begun}
 
-pub booted-steps : (s : Session) → HasGuestsAlone s → (x : Stepped) → boot s ≡ Ok x → x.kernel.steps ≡ 0
+pub booted-steps : (s : Session) → HasKernel s → (x : Stepped) → boot s ≡ Ok x → x.kernel.steps ≡ 0
 unfolding boot
 booted-steps s h x is = on (with_lines s.lines (first_kernel s)) refl is
   where
-    on : (r : Result Kernel BootRefusal) → with_lines s.lines (first_kernel s) ≡ r → (r >>= (λ k. Ok (dispatch k))) ≡ Ok x → x.kernel.steps ≡ 0
+    on : (r : Result Kernel BootRefusal) → with_lines s.lines (first_kernel s) ≡ r → (r >>= (λ k. Ok (started k))) ≡ Ok x → x.kernel.steps ≡ 0
     on (Ok k) e f =
-        let same : dispatch k ≡ x = cc in
+        let same : started k ≡ x = cc in
         subst (λ (y : Stepped). y.kernel.steps ≡ 0) same ((dispatch-same k).steps ∙ (lines-begun s h (first_kernel s) k (first-begun s) e).steps)
     on (Err refusal) e f = cc

@@ -5,7 +5,8 @@ use Rattle.bare_machine.specs.declared.stops.Stop.{Stop}
 use Rattle.packet_queue.specs.declared.events.KernelEvent.{KernelEvent}
 use Rattle.kernel_model.specs.Kernel.{Kernel}
 use Rattle.kernel_model.specs.NotedEvents.{NotesAll}
-use Rattle.kernel_steps.specs.Step.{Stepped, run}
+use Rattle.kernel_steps.specs.Step.{run}
+use Rattle.kernel_steps.specs.Stepped.{Stepped}
 use Rattle.kernel_steps.proofs.Runs.{run-more}
 use Rattle.kernel_machine.specs.Runs.{EndsRun, HasCause}
 

@@ -1,8 +1,10 @@
 -- The program's answer to its words and its input: a status, and the bytes that it writes.
-use Rattle.std.specs.Prelude.{ℕ, ◌≡◌, List, [], ◌∷◌, ◌++◌, length, codes, Option, Some, None, Result, Ok, Err, nat_le, if◌then◌else◌}
+use Rattle.std.specs.Prelude.{ℕ, ◌≡◌, ◌^◌, List, [], ◌∷◌, ◌++◌, length, codes, Option, Some, None, Result, Ok, Err, nat_le, nat_lt, if◌then◌else◌}
+use Rattle.std.specs.Option.{option_and_then, option_map}
 use Rattle.std.specs.Str.{bytes_eq}
 use Rattle.std.specs.Io.KnownBytes.{Appends, Keeps}
 use Rattle.tp_io.specs.Write.{AppendsPrefix}
+use Rattle.text_reader.specs.Numbers.{number_of}
 use Rattle.text_reader.specs.Refusal.{Refusal, refusal}
 use Rattle.hunk_text.specs.ModuleOfText.{module_of}
 use Rattle.hunk_text.specs.declared.modules.Module.{Module}
@@ -10,10 +12,16 @@ use Rattle.cint_asm.specs.Assembly.{assembled}
 use Rattle.cint_disasm.specs.HunkListing.{listing_of_module}
 use Rattle.session_text.specs.SessionOfText.{session_of}
 use Rattle.session_text.specs.declared.sessions.Session.{Session}
+use Rattle.session_generator.specs.Generated.{generated}
+use Rattle.session_generator.specs.Summary.{summary}
 use Rattle.bare_machine.specs.declared.stops.Stop.{Stop}
 use Rattle.bare_machine.specs.declared.stops.Stop.TheVariants.{Steps, Quit, Finish, Fault}
 use Rattle.tripos_run.specs.declared.commands.Command.{Command}
 use Rattle.tripos_run.specs.declared.commands.Command.TheVariants.{Run as RunCommand, Dump as DumpCommand, Trace as TraceCommand, Asm as AsmCommand, Disasm as DisasmCommand}
+use Rattle.tripos_run.specs.declared.commands.Job.{Job}
+use Rattle.tripos_run.specs.declared.commands.Job.TheVariants.{Answer as AnswerJob, Generate as GenerateJob}
+use Rattle.tripos_run.specs.declared.reports.Report.{Report}
+use Rattle.tripos_run.specs.declared.reports.Report.TheVariants.{Console, Events, Sums, Words}
 use Rattle.tripos_run.specs.declared.status.Status.{Status}
 use Rattle.tripos_run.specs.declared.status.Status.TheVariants.{Done, GuestFault, Usage, Refused, NoBoot, ReadFault, WriteFault, TooLong, WantMemory}
 use Rattle.bare_machine.specs.Boot.{boot as bare_boot, first_regs}
@@ -22,7 +30,8 @@ use Rattle.packet_queue.specs.declared.events.KernelEvent.{KernelEvent}
 use Rattle.trace_log.specs.Traced.{lines_of}
 use Rattle.kernel_model.specs.Image.{image}
 use Rattle.machine_parts.specs.Stops.{end_of_run}
-use Rattle.kernel_steps.specs.Step.{Stepped, run}
+use Rattle.kernel_steps.specs.Step.{run}
+use Rattle.kernel_steps.specs.Stepped.{Stepped}
 use Rattle.kernel_boot.specs.declared.refusals.BootRefusal.{BootRefusal}
 use Rattle.machine_boot.specs.Boot.{boot}
 use Rattle.tripos_run.specs.Texts.{closing_text, dump_text, no_boot_text, refused_text, too_long_text, usage_text}
@@ -31,7 +40,9 @@ pub record Answer : Type 0 where
   pub status : Status
   pub bytes : List ℕ
 
--- the command that the words are, if they are one
+-- ---- the words
+
+-- the command that a word is, if it is one
 abbrev pub command_named : List ℕ → Option Command
 command_named word =
     if bytes_eq word (codes "run") then Some RunCommand else
@@ -41,9 +52,20 @@ command_named word =
     if bytes_eq word (codes "disasm") then Some DisasmCommand else
     None
 
-abbrev pub command_of : List (List ℕ) → Option Command
-command_of (word ∷ []) = command_named word
-command_of _ = None
+-- a number of 1 to 10 digits that a machine word can hold
+abbrev pub seed : ℕ → Option ℕ
+seed n = if nat_lt n (2 ^ 32) then Some n else None
+
+abbrev pub generation : List ℕ → List ℕ → Option Job
+generation word number = if bytes_eq word (codes "gen") then option_map GenerateJob (option_and_then seed (number_of number)) else None
+
+-- what the words ask for, if they ask for something: a command's word, or `gen` and a number
+abbrev pub job_of : List (List ℕ) → Option Job
+job_of (word ∷ []) = option_map AnswerJob (command_named word)
+job_of (word ∷ number ∷ []) = generation word number
+job_of _ = None
+
+-- ---- runs
 
 -- the most bytes of an input
 abbrev pub limit : ℕ
@@ -63,6 +85,12 @@ pub record RunEnd : Type 0 where
   pub stop : Stop
   pub words : List ℕ
 
+-- it ended after so many steps, for this reason, and with these words
+pub record AreEnd (x : RunEnd) (steps : ℕ) (stop : Stop) (words : List ℕ) : Type 0 where
+  pub steps_are : steps ≡ x.steps
+  pub stop_is : stop ≡ x.stop
+  pub words_are : words ≡ x.words
+
 -- a machine without a kernel has no events
 abbrev pub end_without_kernel : Run → RunEnd
 end_without_kernel x = record { bytes = x.bytes; events = []; steps = x.steps; stop = x.stop; words = x.words }
@@ -77,48 +105,45 @@ end_with_kernel before x = record {
   words = image x.kernel;
 }
 
--- what a command writes before the closing line: `trace` a line for each event, and the others the console bytes
-abbrev pub text_before : Command → RunEnd → List ℕ
-text_before TraceCommand x = lines_of x.events
-text_before _ x = x.bytes
+-- what is written of a run before the closing line: its console bytes, a line for each event, or the sums of the console bytes
+abbrev pub text_before : Report → RunEnd → List ℕ
+text_before Console x = x.bytes
+text_before Words x = x.bytes
+text_before Events x = lines_of x.events
+text_before (Sums session_bytes) x = summary session_bytes x.bytes
 
--- what a command writes after the closing line: `dump` the words that are not 0
-abbrev pub words_text : Command → List ℕ → List ℕ
-words_text DumpCommand words = dump_text 0 words
+-- and after the closing line: the words that are not 0, where they are asked for
+abbrev pub words_text : Report → List ℕ → List ℕ
+words_text Words words = dump_text 0 words
 words_text _ words = []
 
 -- a text, and behind it the closing line, and the words where they are asked for
-abbrev pub closed_answer : Command → List ℕ → RunEnd → Answer
-closed_answer command before x = record {
+abbrev pub closed_answer : Report → List ℕ → RunEnd → Answer
+closed_answer report before x = record {
   status = status_of x.stop;
-  bytes = before ++ (closing_text x.steps x.stop ++ words_text command x.words);
+  bytes = before ++ (closing_text x.steps x.stop ++ words_text report x.words);
 }
 
-abbrev pub run_answer : Command → RunEnd → Answer
-run_answer command x = closed_answer command (text_before command x) x
+abbrev pub run_answer : Report → RunEnd → Answer
+run_answer report x = closed_answer report (text_before report x) x
 
 abbrev pub no_boot_answer : Refusal → Answer
 no_boot_answer r = record { status = NoBoot; bytes = no_boot_text r }
 
 -- the run of a bare machine, where the session boots
-abbrev pub bare_answer : Command → ℕ → Result (List ℕ) Refusal → Answer
-bare_answer command go (Ok words) = run_answer command (end_without_kernel (bare_run go words first_regs))
-bare_answer command go (Err r) = no_boot_answer r
+abbrev pub bare_answer : Report → ℕ → Result (List ℕ) Refusal → Answer
+bare_answer report go (Ok words) = run_answer report (end_without_kernel (bare_run go words first_regs))
+bare_answer report go (Err r) = no_boot_answer r
 
 -- the run of a machine with a kernel, where the session boots
-abbrev pub guests_answer : Command → ℕ → Result Stepped BootRefusal → Answer
-guests_answer command go (Ok x) = run_answer command (end_with_kernel x.events (run go x.kernel))
-guests_answer command go (Err r) = no_boot_answer (refusal r.line r.code)
+abbrev pub kernel_answer : Report → ℕ → Result Stepped BootRefusal → Answer
+kernel_answer report go (Ok x) = run_answer report (end_with_kernel x.events (run go x.kernel))
+kernel_answer report go (Err r) = no_boot_answer (refusal r.line r.code)
 
 -- the run of a session that boots, on a machine of its kind
-abbrev pub session_answer : Command → Result Session Refusal → Answer
-session_answer command (Ok s) = if s.bare then bare_answer command s.go (bare_boot s) else guests_answer command s.go (boot s)
-session_answer command (Err r) = record { status = Refused; bytes = refused_text r }
-
--- Residents are not served yet: a session with them is refused at the line that names them, with a code of its own.
-abbrev pub served : Result Session Refusal → Result Session Refusal
-served (Ok s) = if s.resident then Err (refusal 4 0) else Ok s
-served (Err r) = Err r
+abbrev pub session_answer : Report → Result Session Refusal → Answer
+session_answer report (Ok s) = if s.bare then bare_answer report s.go (bare_boot s) else kernel_answer report s.go (boot s)
+session_answer report (Err r) = record { status = Refused; bytes = refused_text r }
 
 -- a text that is made of the input, or the refusal of the input
 abbrev pub made_answer : Result (List ℕ) Refusal → Answer
@@ -134,22 +159,27 @@ listed (Err r) = Err r
 abbrev pub text_answer : Command → List ℕ → Answer
 text_answer AsmCommand text = made_answer (assembled text)
 text_answer DisasmCommand text = made_answer (listed (module_of text))
-text_answer RunCommand text = session_answer RunCommand (served (session_of text))
-text_answer DumpCommand text = session_answer DumpCommand (served (session_of text))
-text_answer TraceCommand text = session_answer TraceCommand (served (session_of text))
+text_answer RunCommand text = session_answer Console (session_of text)
+text_answer DumpCommand text = session_answer Words (session_of text)
+text_answer TraceCommand text = session_answer Events (session_of text)
 
 unfoldable pub input_answer : Command → List ℕ → Answer
 input_answer command input =
     if nat_le (length input) limit then text_answer command input else
     record { status = TooLong; bytes = too_long_text }
 
--- words that are no command get the usage
-abbrev pub command_answer : Option Command → List ℕ → Answer
-command_answer None input = record { status = Usage; bytes = usage_text }
-command_answer (Some command) input = input_answer command input
+-- the session that a number makes is run, and summed up
+unfoldable pub generated_answer : ℕ → Answer
+generated_answer n = session_answer (Sums (length (generated n))) (session_of (generated n))
+
+-- words that ask for nothing get the usage
+abbrev pub job_answer : Option Job → List ℕ → Answer
+job_answer None input = record { status = Usage; bytes = usage_text }
+job_answer (Some (AnswerJob command)) input = input_answer command input
+job_answer (Some (GenerateJob n)) input = generated_answer n
 
 abbrev pub answer : List (List ℕ) → List ℕ → Answer
-answer words input = command_answer (command_of words) input
+answer words input = job_answer (job_of words) input
 
 -- What a call has written where it ends with a status. A fault of the source and want of memory come before anything is
 -- written, a fault of the sink leaves a prefix, and every other status is the answer's.

@@ -2,7 +2,8 @@
 use Rattle.std.specs.Prelude.{ℕ, ◌≡◌, ◌+◌, ◌⊎◌, List, length, Option, Some, None}
 use Rattle.std.specs.Io.KnownBytes.{Consumes, IsAtEnd, Keeps}
 use Rattle.tp_io.specs.Read.{TakesAtMost}
-use Rattle.tripos_run.specs.declared.commands.Command.{Command}
+use Rattle.tripos_run.specs.declared.commands.Job.{Job}
+use Rattle.tripos_run.specs.declared.commands.Job.TheVariants.{Answer, Generate}
 use Rattle.tripos_run.specs.declared.status.Status.{Status}
 use Rattle.tripos_run.specs.declared.status.Status.TheVariants.{Done, GuestFault, Usage, Refused, NoBoot, ReadFault, WriteFault, TooLong, WantMemory}
 use Rattle.tripos_run.specs.Answer.{limit}
@@ -35,11 +36,6 @@ IsUsageEnd Usage = Unit {0}
 IsUsageEnd WriteFault = Unit {0}
 IsUsageEnd _ = ⊥
 
--- words that are no command read nothing, and get the usage
-abbrev pub Leaves : Option Command → Option (List ℕ) → Option (List ℕ) → Status → Type 0
-Leaves None old new status = Keeps old new × IsUsageEnd status
-Leaves (Some command) old new status = CommandLeaves old new status
-
 -- a text that was read is answered, unless the sink fails or memory runs out
 abbrev pub IsTextEnd : Status → Type 0
 IsTextEnd Done = Unit {0}
@@ -49,6 +45,12 @@ IsTextEnd NoBoot = Unit {0}
 IsTextEnd WriteFault = Unit {0}
 IsTextEnd WantMemory = Unit {0}
 IsTextEnd _ = ⊥
+
+-- words that ask for nothing read nothing, and get the usage; nor does a session that is generated read an input
+abbrev pub Leaves : Option Job → Option (List ℕ) → Option (List ℕ) → Status → Type 0
+Leaves None old new status = Keeps old new × IsUsageEnd status
+Leaves (Some (Answer command)) old new status = CommandLeaves old new status
+Leaves (Some (Generate n)) old new status = Keeps old new × IsTextEnd status
 
 -- a machine that has booted is run, unless the sink fails: it wants no memory
 abbrev pub IsMachineEnd : Status → Type 0

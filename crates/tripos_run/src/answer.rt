@@ -8,6 +8,7 @@ ghost use Rattle.tripos_run.specs.Input.{IsTextEnd};
 
 use crate::commands::Command;
 use crate::messages::write_refused;
+use crate::reports::Report;
 use crate::session::answer_session_text;
 use crate::status::Status;
 use cint_asm::{AsmEnd, assemble};
@@ -35,9 +36,9 @@ pub fn answer_text<K: Sink>(alloc: Global, command: Command, text: &[u8], out: &
     ensures cause { HasFaultCause Status.WriteFault (K.faults out.old) (K.faults out.new) result }
 {
     match command {
-        Command::Run | Command::Dump | Command::Trace => {
-            answer_session_text(alloc, command, text, out)
-        }
+        Command::Run => answer_session_text(alloc, Report::Console, text, out),
+        Command::Dump => answer_session_text(alloc, Report::Words, text, out),
+        Command::Trace => answer_session_text(alloc, Report::Events, text, out),
         Command::Asm => answer_assembly(alloc, text, out),
         Command::Disasm => answer_module(alloc, text, out),
     }

@@ -1,6 +1,17 @@
-// The commands, by the words of the command line.
+// What the words of the command line ask for.
 ghost use Rattle.std.specs.Prelude.{◌≡◌, map, string_bytes};
-ghost use Rattle.tripos_run.specs.Answer.{command_named, command_of};
+ghost use Rattle.tripos_run.specs.Answer.{command_named, generation, job_of, seed};
+
+use text_reader::number;
+
+/// What the program is asked to do.
+#[derive(Clone, Copy, Debug)]
+pub enum Job {
+    /// Answer an input.
+    Answer(Command),
+    /// Make a session of the number, run it, and sum up what it writes.
+    Generate(u32),
+}
 
 /// What the program is asked to do with its input.
 #[derive(Clone, Copy, Debug)]
@@ -17,12 +28,13 @@ pub enum Command {
     Disasm,
 }
 
-/// The command that the words are, or `None` exactly where they are none.
-pub fn command_of(words: &[String]) -> Option<Command>
-    ensures { result ≡ command_of (map string_bytes words.now) }
+/// What the words ask for, or `None` exactly where they ask for nothing.
+pub fn job_of(words: &[String]) -> Option<Job>
+    ensures { result ≡ job_of (map string_bytes words.now) }
 {
     match words {
-        [word] => command_named(word.as_str()),
+        [word] => command_named(word.as_str()).map(Job::Answer),
+        [word, number] => generation(word.as_str(), number.as_str()),
         _ => None,
     }
 }
@@ -38,4 +50,21 @@ fn command_named(word: &str) -> Option<Command>
         "disasm" => Some(Command::Disasm),
         _ => None,
     }
+}
+
+fn generation(word: &str, digits: &str) -> Option<Job>
+    ensures { result ≡ generation word.now digits.now }
+{
+    if word != "gen" {
+        return None;
+    }
+    let n = number(digits.as_bytes())?;
+    seed(n).map(Job::Generate)
+}
+
+// The number, where it is below 2 ^ 32.
+fn seed(n: u64) -> Option<u32>
+    ensures { result ≡ seed n }
+{
+    u32::try_from(n).ok()
 }

@@ -5,17 +5,17 @@ ghost use Rattle.tp_io.specs.Write.{Prints, HasCause};
 ghost use Rattle.tripos_run.specs.Answer.{status_of, words_text};
 ghost use Rattle.tripos_run.specs.Texts.{closing_text};
 
-use crate::commands::Command;
 use crate::dump::gather_dump;
 use crate::messages::gather_closing;
+use crate::reports::Report;
 use crate::status::Status;
 use bare_machine::Stop;
 use tp_io::{Output, Sink, SinkFault, pass_on};
 use word_store::Store;
 
-/// Writes what is pending, the closing line, and what the command adds to it.
+/// Writes what is pending, the closing line, and what is asked for besides.
 pub(crate) fn write_end<K: Sink>(
-    command: Command,
+    report: Report,
     steps: u64,
     stop: Stop,
     store: &Store,
@@ -23,27 +23,27 @@ pub(crate) fn write_end<K: Sink>(
     pending: &mut Output,
 ) -> Result<(), SinkFault>
     ensures text { Prints (K.holds out.old) (K.holds out.new)
-        (pending.old ++ (closing_text steps stop ++ words_text command store.now)) result }
+        (pending.old ++ (closing_text steps stop ++ words_text report store.now)) result }
     ensures cause { HasCause (K.faults out.old) (K.faults out.new) result }
 {
     gather_closing(steps, stop, out, pending)?;
-    gather_words(command, store, out, pending)?;
+    gather_words(report, store, out, pending)?;
     pass_on(out, pending)
 }
 
 fn gather_words<K: Sink>(
-    command: Command,
+    report: Report,
     store: &Store,
     out: &mut K,
     pending: &mut Output,
 ) -> Result<(), SinkFault>
     ensures text { Gathers (K.holds out.old) (K.holds out.new) pending.old pending.new
-        (words_text command store.now) result }
+        (words_text report store.now) result }
     ensures cause { HasCause (K.faults out.old) (K.faults out.new) result }
 {
-    match command {
-        Command::Run | Command::Trace | Command::Asm | Command::Disasm => Ok(()),
-        Command::Dump => match store.words(0, store.size()) {
+    match report {
+        Report::Console | Report::Events | Report::Sums(_) => Ok(()),
+        Report::Words => match store.words(0, store.size()) {
             Some(words) => gather_dump(words, out, pending),
             None => unreachable!(),
         },

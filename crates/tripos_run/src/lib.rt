@@ -6,9 +6,10 @@ mod bare;
 mod commands;
 mod dump;
 mod ends;
-mod guests;
+mod kernel;
 mod messages;
 pub mod program;
+mod reports;
 mod session;
 pub mod status;
 

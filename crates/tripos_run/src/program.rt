@@ -1,13 +1,14 @@
 // The program: the words of the command line and an input, to an exit status and the bytes written.
 ghost use Rattle.std.specs.Prelude.{◌≡◌, List, ℕ, map, string_bytes};
-ghost use Rattle.tripos_run.specs.Answer.{Answers, answer, command_of};
+ghost use Rattle.tripos_run.specs.Answer.{Answers, answer, input_answer, job_of};
 ghost use Rattle.tripos_run.specs.Cause.{HasFaultCause};
 ghost use Rattle.tripos_run.specs.Exit.{exit_code};
-ghost use Rattle.tripos_run.specs.Input.{IsInput, Leaves};
+ghost use Rattle.tripos_run.specs.Input.{CommandLeaves, IsInput, Leaves};
 
 use crate::answer::{answer_text, status_after};
-use crate::commands::command_of;
+use crate::commands::{Command, Job, job_of};
 use crate::messages::{write_too_long, write_usage};
+use crate::session::answer_generated;
 use crate::status::{Status, exit_code};
 use std::alloc::Global;
 use std::io::{Read, Write};
@@ -46,9 +47,9 @@ pub fn tripos<S: Source, K: Sink>(
         × Answers (answer (map string_bytes words.now) input)
         (K.holds out.old) (K.holds out.new) result }
 
-    // The input is read to its end, or to one byte past the limit. Words that are no command read
-    // nothing.
-    ensures source { Leaves (command_of (map string_bytes words.now))
+    // The input is read to its end, or to one byte past the limit. Nothing is read where the words
+    // ask for nothing, or for a session that is generated.
+    ensures source { Leaves (job_of (map string_bytes words.now))
         (S.left src.old) (S.left src.new) result }
 
     // The source and the sink are blamed only where their counts of faults rose in this call.
@@ -57,9 +58,28 @@ pub fn tripos<S: Source, K: Sink>(
     ensures write_fault { HasFaultCause Status.WriteFault
         (K.faults out.old) (K.faults out.new) result }
 {
-    let Some(command) = command_of(words) else {
-        return status_after(write_usage(out), Status::Usage);
-    };
+    match job_of(words) {
+        Some(Job::Answer(command)) => answer_input(alloc, command, src, out),
+        Some(Job::Generate(n)) => answer_generated(alloc, n, out),
+        None => status_after(write_usage(out), Status::Usage),
+    }
+}
+
+// Reads all that the source has left, and answers it.
+fn answer_input<S: Source, K: Sink>(
+    alloc: Global,
+    command: Command,
+    src: &mut S,
+    out: &mut K,
+) -> Status
+    ensures answer { (input : List ℕ) × IsInput (S.left src.old) input
+        × Answers (input_answer command input) (K.holds out.old) (K.holds out.new) result }
+    ensures source { CommandLeaves (S.left src.old) (S.left src.new) result }
+    ensures read_fault { HasFaultCause Status.ReadFault
+        (S.faults src.old) (S.faults src.new) result }
+    ensures write_fault { HasFaultCause Status.WriteFault
+        (K.faults out.old) (K.faults out.new) result }
+{
     match read_all(alloc, src, LIMIT) {
         Ok(text) => answer_text(alloc, command, &text, out),
         Err(ReadEnd::TooLong) => status_after(write_too_long(out), Status::TooLong),

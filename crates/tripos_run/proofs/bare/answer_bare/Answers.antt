@@ -14,8 +14,8 @@ pub returns-in-Ok-clause-answer : goal.returns-in-Ok-clause-answer
 returns-in-Ok-clause-answer g c =
     let holds = g.K.Sink.holds in
     let go = c.args.session.now.go in
-    let ran = subst (λ (r : Regs). Answers (run_answer c.args.command (end_without_kernel (run go c.in-Ok.machine.store r))) (holds c.args.out.now) (holds c.answer_machine.new.out) c.answer_machine.result) c.in-Ok.ensures.regs c.answer_machine.ensures.answer in
-    subst (λ (r : Result (List ℕ) Refusal). Answers (bare_answer c.args.command go r) (holds c.args.out.now) (holds c.answer_machine.new.out) c.answer_machine.result) (sym c.in-Ok.ensures.store) ran
+    let ran = subst (λ (r : Regs). Answers (run_answer c.args.report (end_without_kernel (run go c.in-Ok.machine.store r))) (holds c.args.out.now) (holds c.answer_machine.new.out) c.answer_machine.result) c.in-Ok.ensures.regs c.answer_machine.ensures.answer in
+    subst (λ (r : Result (List ℕ) Refusal). Answers (bare_answer c.args.report go r) (holds c.args.out.now) (holds c.answer_machine.new.out) c.answer_machine.result) (sym c.in-Ok.ensures.store) ran
 
 pub returns-in-Err-Line-clause-answer : goal.returns-in-Err-Line-clause-answer
 returns-in-Err-Line-clause-answer g c =

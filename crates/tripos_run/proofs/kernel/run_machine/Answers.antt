@@ -1,10 +1,11 @@
 use Rattle.std.proofs.Common.{[], subst}
 use Rattle.tp_io.proofs.GatheredTexts.{IsCut-first}
 use Rattle.kernel_model.specs.Kernel.{Kernel}
-use Rattle.kernel_steps.specs.Step.{boot_events, quietly, run}
+use Rattle.kernel_steps.specs.Step.{boot_events, run}
+use Rattle.kernel_steps.specs.Stepped.{quietly}
 use Rattle.tripos_run.specs.Answer.{Answers, closed_answer, end_with_kernel}
 use Rattle.tripos_run.proofs.AnswerParts.{Answers-behind, AppendsPrefix-closed}
-use Rattle.tripos_run.proofs.guests.run_machine.Goals as goal
+use Rattle.tripos_run.proofs.kernel.run_machine.Goals as goal
 
 pub returns-in-Ok-clause-answer : goal.returns-in-Ok-clause-answer
 returns-in-Ok-clause-answer g c =
@@ -12,11 +13,11 @@ returns-in-Ok-clause-answer g c =
     let k = c.args.machine.now.kernel in
     let x = run c.args.go k in
     let end = c.write_run_end in
-    let closed = subst (λ (j : Kernel). Answers (closed_answer c.args.command c.run.new.pending (end_with_kernel [] (quietly j))) (holds c.run.new.out) (holds end.new.out) end.result) c.in-Ok.ensures.end.0.kernel end.ensures.answer in
-    Answers-behind c.args.command (end_with_kernel (boot_events k) x) x.bytes _ end.result c.new-pending.ensures c.in-Ok.ensures.bytes end.ensures.ends closed
+    let closed = subst (λ (j : Kernel). Answers (closed_answer c.args.report c.run.new.pending (end_with_kernel [] (quietly j))) (holds c.run.new.out) (holds end.new.out) end.result) c.in-Ok.ensures.end.0.kernel end.ensures.answer in
+    Answers-behind c.args.report (end_with_kernel (boot_events k) x) x.bytes _ end.result c.new-pending.ensures c.in-Ok.ensures.bytes end.ensures.ends closed
 
 pub returns-in-Err-clause-answer : goal.returns-in-Err-clause-answer
 returns-in-Err-clause-answer g c =
     let k = c.args.machine.now.kernel in
     let x = run c.args.go k in
-    AppendsPrefix-closed c.args.command (end_with_kernel (boot_events k) x) x.bytes _ _ (IsCut-first c.new-pending.ensures c.in-Err.ensures.bytes)
+    AppendsPrefix-closed c.args.report (end_with_kernel (boot_events k) x) x.bytes _ _ (IsCut-first c.new-pending.ensures c.in-Err.ensures.bytes)

@@ -1,7 +1,7 @@
 use Rattle.kernel_model.proofs.NotedInTurn.{notes-then}
 use Rattle.kernel_steps.specs.Step.{boot_events, run}
 use Rattle.tripos_run.proofs.NotedRuns.{notes-run}
-use Rattle.tripos_run.proofs.guests.note_run.Goals as goal
+use Rattle.tripos_run.proofs.kernel.note_run.Goals as goal
 
 pub returns-clause-events : goal.returns-clause-events
 returns-clause-events g c =

@@ -4,7 +4,7 @@ use Rattle.tp_io.specs.Write.{AppendsPrefix}
 use Rattle.kernel_steps.specs.Step.{boot_events, run}
 use Rattle.trace_log.specs.Traced.{lines_of}
 use Rattle.trace_log.proofs.GivenLines.{GivesPending-all}
-use Rattle.tripos_run.proofs.guests.gather_events.Goals as goal
+use Rattle.tripos_run.proofs.kernel.gather_events.Goals as goal
 
 pub returns-in_err-pending-clause-lines : goal.returns-in_err-pending-clause-lines
 returns-in_err-pending-clause-lines g c =

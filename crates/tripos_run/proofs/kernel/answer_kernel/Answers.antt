@@ -7,16 +7,17 @@ use Rattle.kernel_model.specs.Kernel.{Kernel}
 use Rattle.bare_machine.specs.declared.boot.BootEnd.{BootEnd}
 use Rattle.kernel_boot.specs.BootFiles.{boot_refusal}
 use Rattle.kernel_boot.specs.declared.refusals.BootRefusal.{BootRefusal}
-use Rattle.kernel_steps.specs.Step.{Stepped, boot_events, run}
+use Rattle.kernel_steps.specs.Step.{boot_events, run}
+use Rattle.kernel_steps.specs.Stepped.{Stepped}
 use Rattle.machine_boot.specs.Boot.{boot}
 use Rattle.machine_boot.specs.Booted.{EndsAs}
 use Rattle.machine_boot.proofs.BootedKernels.{booted-events}
 use Rattle.tp_io.specs.Write.{Prints}
 use Rattle.tripos_run.specs.Texts.{no_boot_text}
-use Rattle.tripos_run.specs.Answer.{Answers, end_with_kernel, guests_answer, run_answer}
+use Rattle.tripos_run.specs.Answer.{Answers, end_with_kernel, kernel_answer, run_answer}
 use Rattle.tripos_run.proofs.AnswerParts.{Answers-no_boot}
 use Rattle.tripos_run.proofs.BootedSteps.{booted-steps}
-use Rattle.tripos_run.proofs.guests.answer_guests.Goals as goal
+use Rattle.tripos_run.proofs.kernel.answer_kernel.Goals as goal
 
 pub answer_machine-requires : goal.answer_machine-requires
 answer_machine-requires g c =
@@ -32,10 +33,10 @@ returns-in-Ok-clause-answer g c =
     let booted = c.in-Ok.ensures in
     let x = booted.0 in
     let same = c.from_parts.ensures.kernel x.kernel booted.2.stands booted.2.valid booted.2.goes in
-    let ran = subst (λ (k : Kernel). Answers (run_answer c.args.command (end_with_kernel (boot_events k) (run s.go k))) (holds c.args.out.now) (holds c.answer_machine.new.out) c.answer_machine.result) same c.answer_machine.ensures.answer in
+    let ran = subst (λ (k : Kernel). Answers (run_answer c.args.report (end_with_kernel (boot_events k) (run s.go k))) (holds c.args.out.now) (holds c.answer_machine.new.out) c.answer_machine.result) same c.answer_machine.ensures.answer in
     let events = booted-events s c.requires x booted.1 in
-    let traced = subst (λ (es : List KernelEvent). Answers (run_answer c.args.command (end_with_kernel es (run s.go x.kernel))) (holds c.args.out.now) (holds c.answer_machine.new.out) c.answer_machine.result) (sym events) ran in
-    subst (λ (r : Result Stepped BootRefusal). Answers (guests_answer c.args.command s.go r) (holds c.args.out.now) (holds c.answer_machine.new.out) c.answer_machine.result) (sym booted.1) traced
+    let traced = subst (λ (es : List KernelEvent). Answers (run_answer c.args.report (end_with_kernel es (run s.go x.kernel))) (holds c.args.out.now) (holds c.answer_machine.new.out) c.answer_machine.result) (sym events) ran in
+    subst (λ (r : Result Stepped BootRefusal). Answers (kernel_answer c.args.report s.go r) (holds c.args.out.now) (holds c.answer_machine.new.out) c.answer_machine.result) (sym booted.1) traced
 
 pub returns-in-Err-Line-clause-answer : goal.returns-in-Err-Line-clause-answer
 returns-in-Err-Line-clause-answer g c =

@@ -1,6 +1,6 @@
 use Rattle.trace_log.specs.Trails.{events_of}
 use Rattle.trace_log.proofs.MarkedLists.{NotesAll-rest, marked}
-use Rattle.tripos_run.proofs.guests.trace_run.Goals as goal
+use Rattle.tripos_run.proofs.kernel.trace_run.Goals as goal
 
 pub returns-clause-same_first : goal.returns-clause-same_first
 returns-clause-same_first g c =

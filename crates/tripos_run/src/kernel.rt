@@ -1,48 +1,50 @@
-// The answer to a session of guests: a machine with a kernel, and without residents.
+// The answer to a session of a machine with a kernel.
 ghost use Rattle.std.specs.Prelude.{◌≡◌, ◌≤◌, ◌+◌, ◌++◌, [], Some, true, IfOk, MatchResult};
 ghost use Rattle.tp_io.specs.Write.{HasCause};
 ghost use Rattle.session_text.specs.Ranges.{most_steps};
 ghost use Rattle.kernel_model.specs.NotedEvents.{NotesAll};
 ghost use Rattle.machine_parts.specs.Stops.{end_of_run};
-ghost use Rattle.kernel_steps.specs.Step.{boot_events, quietly, run};
-ghost use Rattle.machine_boot.specs.Boot.{HasGuestsAlone, boot};
+ghost use Rattle.kernel_steps.specs.Step.{boot_events, run};
+ghost use Rattle.kernel_steps.specs.Stepped.{quietly};
+ghost use Rattle.machine_boot.specs.Boot.{HasKernel, boot};
 ghost use Rattle.trace_log.specs.Trails.{events_of};
 ghost use Rattle.trace_log.specs.Traced.{lines_of};
-ghost use Rattle.tripos_run.specs.Answer.{Answers, closed_answer, end_with_kernel, guests_answer, run_answer};
+ghost use Rattle.tripos_run.specs.Answer.{Answers, closed_answer, end_with_kernel, kernel_answer, run_answer};
 ghost use Rattle.tripos_run.specs.Cause.{HasFaultCause};
 ghost use Rattle.tripos_run.specs.Input.{IsMachineEnd, IsTextEnd};
 ghost use Rattle.tripos_run.specs.TracedRun.{GivesLines, StopsAt};
 
 use crate::answer::status_after;
-use crate::commands::Command;
 use crate::ends::{status_of, write_end};
 use crate::messages::write_no_boot;
+use crate::reports::Report;
 use crate::status::Status;
 use bare_machine::Stop;
 use bare_machine::boot::BootEnd;
 use kernel_machine::Machine;
 use machine_boot::boot;
 use packet_queue::{EventLog, NoLog};
+use session_generator::{Tally, gather_summary};
 use session_text::Session;
 use std::alloc::Global;
-use tp_io::{NoSink, Output, Sink, SinkFault};
+use tp_io::{NoSink, Output, Sink, SinkFault, pass_on};
 use trace_log::TraceLog;
 
-/// Boots a session of guests, and runs it.
-pub(crate) fn answer_guests<K: Sink>(
+/// Boots a session of a machine with a kernel, and runs it.
+pub(crate) fn answer_kernel<K: Sink>(
     alloc: Global,
-    command: Command,
+    report: Report,
     session: &Session,
     out: &mut K,
 ) -> Status
-    requires { HasGuestsAlone session.now }
-    ensures answer { Answers (guests_answer command session.now.go (boot session.now))
+    requires { HasKernel session.now }
+    ensures answer { Answers (kernel_answer report session.now.go (boot session.now))
         (K.holds out.old) (K.holds out.new) result }
     ensures ends { IsTextEnd result }
     ensures cause { HasFaultCause Status.WriteFault (K.faults out.old) (K.faults out.new) result }
 {
     match boot(alloc, session) {
-        Ok(parts) => answer_machine(command, &mut Machine::from_parts(parts), session.go, out),
+        Ok(parts) => answer_machine(report, &mut Machine::from_parts(parts), session.go, out),
         Err(BootEnd::Line { line, code }) => {
             status_after(write_no_boot(out, line, code), Status::NoBoot)
         }
@@ -51,26 +53,25 @@ pub(crate) fn answer_guests<K: Sink>(
 }
 
 // Runs a machine that was booted just now.
-fn answer_machine<K: Sink>(command: Command, machine: &mut Machine, go: u64, out: &mut K) -> Status
+fn answer_machine<K: Sink>(report: Report, machine: &mut Machine, go: u64, out: &mut K) -> Status
     requires { machine.old.kernel.steps + go ≤ most_steps }
-    ensures answer { Answers (run_answer command
+    ensures answer { Answers (run_answer report
         (end_with_kernel (boot_events machine.old.kernel) (run go machine.old.kernel)))
         (K.holds out.old) (K.holds out.new) result }
     ensures ends { IsMachineEnd result }
     ensures cause { HasFaultCause Status.WriteFault (K.faults out.old) (K.faults out.new) result }
 {
-    match command {
-        Command::Trace => trace_machine(machine, go, out),
-        Command::Run | Command::Dump | Command::Asm | Command::Disasm => {
-            run_machine(command, machine, go, out)
-        }
+    match report {
+        Report::Events => trace_machine(machine, go, out),
+        Report::Sums(session_bytes) => sum_machine(session_bytes, machine, go, out),
+        Report::Console | Report::Words => run_machine(report, machine, go, out),
     }
 }
 
 // Runs the machine for so many steps, and writes its console bytes; its events are kept nowhere.
-fn run_machine<K: Sink>(command: Command, machine: &mut Machine, go: u64, out: &mut K) -> Status
+fn run_machine<K: Sink>(report: Report, machine: &mut Machine, go: u64, out: &mut K) -> Status
     requires { machine.old.kernel.steps + go ≤ most_steps }
-    ensures answer { Answers (closed_answer command (run go machine.old.kernel).bytes
+    ensures answer { Answers (closed_answer report (run go machine.old.kernel).bytes
         (end_with_kernel (boot_events machine.old.kernel) (run go machine.old.kernel)))
         (K.holds out.old) (K.holds out.new) result }
     ensures ends { IsMachineEnd result }
@@ -78,7 +79,7 @@ fn run_machine<K: Sink>(command: Command, machine: &mut Machine, go: u64, out: &
 {
     let mut pending = Output::new();
     match machine.run(go, out, &mut pending, &mut NoLog) {
-        Ok(stop) => write_run_end(command, machine, stop, out, &mut pending),
+        Ok(stop) => write_run_end(report, machine, stop, out, &mut pending),
         Err(SinkFault) => Status::WriteFault,
     }
 }
@@ -86,7 +87,7 @@ fn run_machine<K: Sink>(command: Command, machine: &mut Machine, go: u64, out: &
 // Runs the machine for so many steps, and writes its events; its console bytes are kept nowhere.
 fn trace_machine<K: Sink>(machine: &mut Machine, go: u64, out: &mut K) -> Status
     requires { machine.old.kernel.steps + go ≤ most_steps }
-    ensures answer { Answers (run_answer Command.Trace
+    ensures answer { Answers (run_answer Report.Events
         (end_with_kernel (boot_events machine.old.kernel) (run go machine.old.kernel)))
         (K.holds out.old) (K.holds out.new) result }
     ensures ends { IsMachineEnd result }
@@ -94,7 +95,7 @@ fn trace_machine<K: Sink>(machine: &mut Machine, go: u64, out: &mut K) -> Status
 {
     match gather_events(machine, go, out) {
         Ok((mut pending, stop)) => {
-            write_run_end(Command::Trace, machine, stop, out, &mut pending)
+            write_run_end(Report::Events, machine, stop, out, &mut pending)
         }
         Err(SinkFault) => Status::WriteFault,
     }
@@ -155,9 +156,44 @@ fn note_run<L: EventLog>(machine: &mut Machine, go: u64, log: &mut L) -> Result<
     machine.run(go, &mut NoSink, &mut Output::new(), log)
 }
 
+// Runs the machine for so many steps, and sums up its console bytes; its events are kept nowhere.
+fn sum_machine<K: Sink>(session_bytes: u64, machine: &mut Machine, go: u64, out: &mut K) -> Status
+    requires { machine.old.kernel.steps + go ≤ most_steps }
+    ensures answer { Answers (run_answer (Report.Sums session_bytes)
+        (end_with_kernel (boot_events machine.old.kernel) (run go machine.old.kernel)))
+        (K.holds out.old) (K.holds out.new) result }
+    ensures ends { IsMachineEnd result }
+    ensures cause { HasFaultCause Status.WriteFault (K.faults out.old) (K.faults out.new) result }
+{
+    let (tally, stop) = sum_run(machine, go);
+    let mut pending = Output::new();
+    let report = Report::Sums(session_bytes);
+    match gather_summary(session_bytes, &tally, out, &mut pending) {
+        Ok(()) => write_run_end(report, machine, stop, out, &mut pending),
+        Err(SinkFault) => Status::WriteFault,
+    }
+}
+
+// Runs the machine for so many steps. The answer is the sums of its console bytes, and why it has stopped.
+fn sum_run(machine: &mut Machine, go: u64) -> (Tally, Stop)
+    requires { machine.old.kernel.steps + go ≤ most_steps }
+    ensures bytes { result.0 ≡ (run go machine.old.kernel).bytes }
+    ensures end { StopsAt machine.new.kernel result.1 (run go machine.old.kernel).kernel }
+{
+    let mut tally = Tally::new();
+    let mut pending = Output::new();
+    match machine.run(go, &mut tally, &mut pending, &mut NoLog) {
+        Ok(stop) => match pass_on(&mut tally, &mut pending) {
+            Ok(()) => (tally, stop),
+            Err(SinkFault) => unreachable!(),
+        },
+        Err(SinkFault) => unreachable!(),
+    }
+}
+
 // What is pending, and how the run ended.
 fn write_run_end<K: Sink>(
-    command: Command,
+    report: Report,
     machine: &Machine,
     stop: Stop,
     out: &mut K,
@@ -165,12 +201,12 @@ fn write_run_end<K: Sink>(
 ) -> Status
     requires { stop ≡ end_of_run machine.now.kernel.stop }
     ensures answer { Answers
-        (closed_answer command pending.old (end_with_kernel [] (quietly machine.now.kernel)))
+        (closed_answer report pending.old (end_with_kernel [] (quietly machine.now.kernel)))
         (K.holds out.old) (K.holds out.new) result }
     ensures ends { IsMachineEnd result }
     ensures cause { HasFaultCause Status.WriteFault (K.faults out.old) (K.faults out.new) result }
 {
     let parts = machine.parts();
-    let end = write_end(command, parts.step, stop, &parts.store, out, pending);
+    let end = write_end(report, parts.step, stop, &parts.store, out, pending);
     status_after(end, status_of(stop))
 }
