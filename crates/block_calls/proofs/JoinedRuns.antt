@@ -1,5 +1,5 @@
 -- The size words of a run of free blocks: that of its front, and those of the blocks that are joined to it.
-use Rattle.std.proofs.Common.{◌≡◌, ℕ, zero, suc, ◌+◌, ◌-◌, ◌<◌, ◌≤◌, ◌⊎◌, ◌&&◌, List, [], ◌∷◌, ◌++◌, cond, ltb, Bool, true, false, inl, inr, refl, sym, ap, ◌∙◌, subst, arith, append-nil, append_assoc}
+use Rattle.std.proofs.Common.{◌≡◌, ℕ, zero, suc, ◌+◌, ◌-◌, ◌<◌, ◌≤◌, ◌⊎◌, ◌&&◌, List, [], ◌∷◌, ◌++◌, cond, ltb, Bool, true, false, inl, inr, Option, Some, refl, sym, ap, ◌∙◌, subst, arith, append-nil, append_assoc}
 use Rattle.std.proofs.lemmas.Bool.{and_parts, cases_eq, cases_lt, le-ltb, lt-ltb}
 use Rattle.std.proofs.lemmas.Bool.Decides.{nat_tests}
 use Rattle.std.proofs.lemmas.Grind.{flat_map-append}
@@ -11,9 +11,11 @@ use Rattle.getvec_chain.specs.declared.pieces.Block.{Block}
 use Rattle.getvec_chain.specs.declared.pieces.Run.{Run}
 use Rattle.getvec_chain.specs.Block.{block_end}
 use Rattle.getvec_chain.specs.BlockWords.{block_words, blocks_words}
-use Rattle.getvec_chain.specs.Run.{AreFree}
+use Rattle.getvec_chain.specs.Run.{AreFree, begins_run, first_run, run_size}
 use Rattle.getvec_chain.specs.Take.{left_over}
-use Rattle.getvec_chain.specs.Tiling.{Follow, IsTiled, Tiles, blocks_in}
+use Rattle.getvec_chain.specs.Tiling.{Follow, IsTiledFrom, Tiles, blocks_from}
+use Rattle.getvec_chain.proofs.Runs.{first_run-found}
+use Rattle.getvec_chain.proofs.Tilings.{blocks_from-is}
 use Rattle.kernel_model.proofs.BlockStarts.{InFree, in-free, starts-once, starts-within}
 use Rattle.kernel_model.proofs.FollowedBlocks.{member-data}
 use Rattle.block_calls.specs.JoinedStarts.{joined_start, joined_starts, rest_start}
@@ -153,14 +155,27 @@ tiles-from s at [] b back t = (refl, t.1, t.2)
 tiles-from s at (f ∷ fs) b back t = tiles-from s (block_end f) fs b back t.2
 
 -- so what was joined up to a block behind the run is all
-pub joined-so_far : (s : List ℕ) (run : Run) (front items : List Block) (b : Block) (back : List Block) → IsTiled s → blocks_in s ≡ front ++ items → items ≡ b ∷ back → run.end ≤ b.start
-    → joined_starts run (blocks_in s) ≡ joined_starts run front
-joined-so_far s run front items b back t all is behind =
-    let whole : blocks_in s ≡ front ++ b ∷ back = all ∙ ap (λ z. front ++ z) is in
+pub joined-so_far : (s : List ℕ) (run : Run) (at : ℕ) (front items : List Block) (b : Block) (back : List Block) → IsTiledFrom s at → blocks_from s at ≡ front ++ items → items ≡ b ∷ back → run.end ≤ b.start
+    → joined_starts run (blocks_from s at) ≡ joined_starts run front
+joined-so_far s run at front items b back t all is behind =
+    let whole : blocks_from s at ≡ front ++ b ∷ back = all ∙ ap (λ z. front ++ z) is in
     ap (joined_starts run) whole
     ∙ flat_map-append (joined_start run) front (b ∷ back)
-    ∙ ap (λ z. joined_starts run front ++ z) (joined-behind s run b.start (b ∷ back) (tiles-from s 200 front b back (subst (Tiles s 200) whole t)) behind)
+    ∙ ap (λ z. joined_starts run front ++ z) (joined-behind s run b.start (b ∷ back) (tiles-from s at front b back (subst (Tiles s at) whole t)) behind)
     ∙ append-nil (joined_starts run front)
+
+-- none of the blocks before the run is joined to it
+pub joined-from : (s : List ℕ) (n at : ℕ) (bs : List Block) (run : Run) → Tiles s at bs → first_run n bs ≡ Some run → joined_starts run bs ≡ joined_starts run (blocks_from s run.start)
+joined-from s n at [] run t e = cc
+joined-from s n at (b ∷ bs) run t e = on (begins_run n (b ∷ bs)) (λ k. joined-from s n (block_end b) bs run t.2 k) e
+  where
+    on : (x : Bool) → (first_run n bs ≡ Some run → joined_starts run bs ≡ joined_starts run (blocks_from s run.start)) → ◌≡◌ {A = Option Run} (cond x (Some (record { start = b.start; end = b.start + run_size (b ∷ bs) })) (first_run n bs)) (Some run) → joined_starts run (b ∷ bs) ≡ joined_starts run (blocks_from s run.start)
+    on true more e =
+        let is : b.start ≡ run.start = cc in
+        ap (joined_starts run) (sym (blocks_from-is s run.start (b ∷ bs) (subst (λ z. Tiles s z (b ∷ bs)) (sym t.0 ∙ is) t)))
+    on false more e =
+        let low : ltb run.start b.start ≡ false = le-ltb run.start b.start (omega (arith, (first_run-found s n (block_end b) bs run t.2 e).low)) in
+        ap (λ x. cond (x && ltb b.start run.end) (b.start ∷ []) [] ++ joined_starts run bs) low ∙ more e
 
 -- one more block
 pub joined-more : (run : Run) (bs : List Block) (b : Block) → joined_starts run bs ++ joined_start run b ≡ joined_starts run (bs ++ b ∷ [])

@@ -1,7 +1,7 @@
 // A keeper of kinds is told which words will be the kernel's once a block was taken.
-ghost use Rattle.std.specs.Prelude.{◌≡◌, ◌≤◌, IfErr, IsSome, None, OnErr, OnOk};
+ghost use Rattle.std.specs.Prelude.{◌≡◌, ◌≤◌, IfErr, IfOk, None, OnErr, OnOk, Some};
 ghost use Rattle.getvec_chain.specs.Run.{first_run, need};
-ghost use Rattle.getvec_chain.specs.Tiling.{IsTiled, blocks_in};
+ghost use Rattle.getvec_chain.specs.Tiling.{IsTiledFrom, blocks_from, blocks_in};
 ghost use Rattle.kernel_model.specs.ChangedStore.{HasKeeper, Knows};
 ghost use Rattle.kernel_model.specs.Lists.{Lists};
 ghost use Rattle.block_calls.specs.FreeStore.{with_taken};
@@ -9,19 +9,19 @@ ghost use Rattle.word_kinds.specs.ToldWords.{WasClaimed, WasReleased};
 ghost use Rattle.block_calls.specs.JoinedStarts.{is_joined, joined_start, joined_starts, rest_start};
 
 use call_answers::codes::NO_ROOM;
-use getvec_chain::{Block, Run, blocks, first_run};
+use getvec_chain::{Block, Run, blocks_from, first_run};
 use word_kinds::KindKeeper;
 use word_store::Store;
 
 /// Tells the keeper what the words of a take will be: of the run from which a block with the data words 0 to u will be
 /// taken, all size words but the first are plain then, and the one of the rest, where there is any, is the kernel's. No word
-/// of the store changes. Refused where no run is large enough (1).
-pub fn tell_take<Q: KindKeeper>(store: &Store, kinds: &mut Q, u: u32) -> Result<(), u32>
+/// of the store changes. The answer is that run. Refused where no run is large enough (1).
+pub fn tell_take<Q: KindKeeper>(store: &Store, kinds: &mut Q, u: u32) -> Result<Run, u32>
     requires { (l : Lists) × HasKeeper store.now (Q.tells kinds.old) (Q.room kinds.old) l }
     ensures knows { (l : Lists)
         → HasKeeper store.now (Q.tells kinds.old) (Q.room kinds.old) l
         → OnOk result (Knows (Q.tells kinds.new) (with_taken u l)) }
-    ensures has_room { OnOk result (IsSome (first_run (need u) (blocks_in store.now))) }
+    ensures first { IfOk result (λ run. first_run (need u) (blocks_in store.now) ≡ Some run) }
     ensures no_room { OnErr result (first_run (need u) (blocks_in store.now) ≡ None) }
     ensures code { IfErr result (λ code. code ≡ 1) }
     ensures unchanged { OnErr result (kinds.new ≡ kinds.old) }
@@ -31,17 +31,17 @@ pub fn tell_take<Q: KindKeeper>(store: &Store, kinds: &mut Q, u: u32) -> Result<
     let rest = run.start + (u + 3) / 2 * 2;
     release_joined(store, kinds, run);
     claim_rest(kinds, rest, run.end);
-    Ok(())
+    Ok(run)
 }
 
-// Releases the size words in the run, but for the first. The walk ends with the run.
+// Releases the size words in the run, but for the first.
 fn release_joined<Q: KindKeeper>(store: &Store, kinds: &mut Q, run: Run)
-    requires { IsTiled store.now }
+    requires { IsTiledFrom store.now run.start }
     ensures released { WasReleased (Q.tells kinds.old) (Q.tells kinds.new)
-        (joined_starts run (blocks_in store.now)) }
+        (joined_starts run (blocks_from store.now run.start)) }
     ensures room { Q.room kinds.new ≡ Q.room kinds.old }
 {
-    for block in blocks(store) {
+    for block in blocks_from(store, run.start) {
         if block.start >= run.end {
             return;
         }

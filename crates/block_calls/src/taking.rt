@@ -6,7 +6,7 @@ ghost use Rattle.call_answers.specs.Made.{IsMade};
 ghost use Rattle.block_calls.specs.Getvec.{getvec};
 
 use crate::keeper::tell_take;
-use getvec_chain::take;
+use getvec_chain::take_from;
 use word_kinds::KindKeeper;
 use word_store::Store;
 
@@ -19,6 +19,6 @@ pub fn getvec<Q: KindKeeper>(store: &mut Store, kinds: &mut Q, u: u32) -> Result
         → IsMade store.old store.new (Q.tells kinds.new) result (getvec l u) }
     ensures room { Q.room kinds.new ≡ Q.room kinds.old }
 {
-    tell_take(store, kinds, u)?;
-    Ok(take(store, u).unwrap())
+    let run = tell_take(store, kinds, u)?;
+    Ok(take_from(store, run, u))
 }

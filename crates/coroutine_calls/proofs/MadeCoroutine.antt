@@ -40,6 +40,7 @@ use Rattle.call_answers.proofs.MadeCalls.{made-accepted, made-refused}
 use Rattle.word_kinds.specs.Keeper.{AreTogether}
 use Rattle.word_kinds.proofs.KnownWords.{knows-claimed}
 use Rattle.getvec_chain.specs.declared.calls.NoRoom.{NoRoom}
+use Rattle.getvec_chain.specs.declared.pieces.Run.{Run}
 use Rattle.getvec_chain.specs.Run.{first_run, need}
 use Rattle.getvec_chain.specs.Tiling.{blocks_in}
 use Rattle.coroutine_calls.specs.CreateCo.{create_tests, created as created_by, createco, with_created, with_created_at}
@@ -168,12 +169,12 @@ createco-refused s tells l entry u h knows none =
     (ap (λ o. cond (is_some o) None (Some 20)) (ap (first_run (need (highest u))) (sym (reads s l h).blocks) ∙ none))
 
 -- what holds of a refusal, and of what is none
-pub on-err : (r : Result (Unit {0}) ℕ) (P : Type 0) → is_err r ≡ true → OnErr r P → P
-on-err (Ok u) P e p = cc
+pub on-err : (r : Result Run ℕ) (P : Type 0) → is_err r ≡ true → OnErr r P → P
+on-err (Ok run) P e p = cc
 on-err (Err code) P e p = p
 
-pub on-ok : (r : Result (Unit {0}) ℕ) (P : Type 0) → is_err r ≡ false → OnOk r P → P
-on-ok (Ok u) P e p = p
+pub on-ok : (r : Result Run ℕ) (P : Type 0) → is_err r ≡ false → OnOk r P → P
+on-ok (Ok run) P e p = p
 on-ok (Err code) P e p = cc
 
 pub if-ok : (r : Result ℕ NoRoom) (c : ℕ) (P : ℕ → Type 0) → r ≡ Ok c → IfOk r P → P c

@@ -4,9 +4,9 @@ use Rattle.std.proofs.lemmas.Bool.Decides.{nat_tests}
 use Rattle.getvec_chain.specs.declared.pieces.Block.{Block}
 use Rattle.getvec_chain.specs.declared.pieces.Run.{Run}
 use Rattle.getvec_chain.specs.Block.{block_end}
-use Rattle.getvec_chain.specs.Tiling.{Tiles}
+use Rattle.getvec_chain.specs.Tiling.{IsTiledFrom, Tiles}
 use Rattle.getvec_chain.specs.Run.{after_run, begins_run, first_run, need, run_size}
-use Rattle.getvec_chain.proofs.Tilings.{Tiles-inside}
+use Rattle.getvec_chain.proofs.Tilings.{IsTiledFrom-by, Tiles-inside}
 
 -- a need is even, and 2 or more
 pub need-even : (u : ℕ) → (2 ≤ need u) × (need u % 2 ≡ 0)
@@ -112,3 +112,14 @@ run_here n b bs free enough = ap (λ f. cond (f && leb n (run_size (b ∷ bs))) 
 
     test : (r : ℕ) → n ≤ r → leb n r ≡ true
     test r le = grind (arith, nat_tests)
+
+-- the blocks from the run on stand there
+pub run-tiled : (s : List ℕ) (n at : ℕ) (bs : List Block) (run : Run) → Tiles s at bs → first_run n bs ≡ Some run → IsTiledFrom s run.start
+run-tiled s n at [] run t e = cc
+run-tiled s n at (b ∷ bs) run t e = on (begins_run n (b ∷ bs)) (λ k. run-tiled s n (block_end b) bs run t.2 k) e
+  where
+    on : (x : Bool) → (first_run n bs ≡ Some run → IsTiledFrom s run.start) → ◌≡◌ {A = Option Run} (cond x (Some (record { start = b.start; end = b.start + run_size (b ∷ bs) })) (first_run n bs)) (Some run) → IsTiledFrom s run.start
+    on true more e =
+        let is : b.start ≡ run.start = cc in
+        IsTiledFrom-by s run.start (b ∷ bs) (subst (λ z. Tiles s z (b ∷ bs)) (sym t.0 ∙ is) t)
+    on false more e = more e

@@ -1,5 +1,5 @@
 // Blocks are made, taken and given back.
-ghost use Rattle.std.specs.Prelude.{◌≡◌, ◌+◌, ◌%◌, ◌<◌, ◌≤◌, [], ◌∷◌, IfOk, IsSome, None, OnErr, OnOk, length};
+ghost use Rattle.std.specs.Prelude.{◌≡◌, ◌+◌, ◌%◌, ◌<◌, ◌≤◌, [], ◌∷◌, IfOk, IsSome, None, OnErr, OnOk, Some, length};
 ghost use Rattle.getvec_chain.specs.Give.{given, given_store};
 ghost use Rattle.getvec_chain.specs.Make.{made_store, whole_block};
 ghost use Rattle.getvec_chain.specs.Run.{first_run, need};
@@ -42,8 +42,20 @@ pub fn take(store: &mut Store, u: u32) -> Result<u32, NoRoom>
     ensures unchanged { OnErr result (store.new ≡ store.old) }
 {
     let run = first_run(store, u).ok_or(NoRoom)?;
+    Ok(take_from(store, run, u))
+}
+
+/// Takes a block with the data words 0 to u from the front of the run, which is the first that is large enough. The answer
+/// is the address of its data.
+pub fn take_from(store: &mut Store, run: Run, u: u32) -> u32
+    requires tiled { IsTiled store.old }
+    requires first { first_run (need u) (blocks_in store.old) ≡ Some run }
+    ensures taken { IsTaken store.old store.new u result }
+    ensures blocks { blocks_in store.new ≡ taken (need u) (blocks_in store.old) }
+    ensures tiled { IsTiled store.new }
+{
     split(store, run, words_needed(u) as u32);
-    Ok(run.start + 1)
+    run.start + 1
 }
 
 // A used block of that size stands at the front of the run, and one free block of the rest, where there is any.

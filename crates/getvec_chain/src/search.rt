@@ -1,7 +1,7 @@
 // What stands where among the blocks of a store.
 ghost use Rattle.std.specs.Prelude.{◌≡◌, ◌^◌, ◌<◌, length};
 ghost use Rattle.getvec_chain.specs.Run.{first_run, need};
-ghost use Rattle.getvec_chain.specs.Tiling.{IsTiled, blocks_in, holding, used_at};
+ghost use Rattle.getvec_chain.specs.Tiling.{IsTiled, IsTiledFrom, blocks_from, blocks_in, holding, used_at};
 
 use crate::block_walk::Blocks;
 use crate::pieces::{Block, FIRST_BLOCK, Run};
@@ -13,9 +13,18 @@ pub fn blocks(store: &Store) -> Blocks<'_>
     ensures blocks { result ≡ blocks_in store.now }
     ensures addresses { length store.now < 2 ^ 32 }
 {
+    blocks_from(store, FIRST_BLOCK)
+}
+
+/// The blocks of the store from the address of one of them on, in rising order.
+pub fn blocks_from(store: &Store, at: u32) -> Blocks<'_>
+    requires { IsTiledFrom store.now at }
+    ensures blocks { result ≡ blocks_from store.now at }
+    ensures addresses { length store.now < 2 ^ 32 }
+{
     Blocks {
         store,
-        at: FIRST_BLOCK,
+        at,
         end: store.size() - 2,
     }
 }

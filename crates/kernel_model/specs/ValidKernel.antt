@@ -74,8 +74,3 @@ IsMachine false k = IsFullMachine k
 
 abbrev pub IsValid : Kernel → Type 0
 IsValid k = IsMachine k.bare k
-
--- What the code cannot reach yet: residents, and with them task 2 and pipes.
-pub record IsBuilt (k : Kernel) : Type 0 where
-  pub residents : k.lists.residents ≡ false
-  pub pipes : k.pipes ≡ no_pipes

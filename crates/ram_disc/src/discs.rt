@@ -116,6 +116,8 @@ impl Disc {
     }
 
     /// Opens a file to read, from its start: for the shell by its own stream, which is not open, else by the lowest free one.
+    /// The answer is the stream. Refused where there is no such file (41), where a stream writes it (47), and where no stream
+    /// is free (45).
     pub fn open_read(&mut self, name: &Name, shell: bool) -> Result<u32, u32>
         requires { IsTrue shell → stream_at self.old shell_stream ≡ None }
         ensures answer { result ≡ (after_open_read self.old name.now shell).answer }
@@ -141,7 +143,8 @@ impl Disc {
         Ok(k as u32 + 1)
     }
 
-    /// Opens a file to write, by the lowest free stream. The file is emptied, or made.
+    /// Opens a file to write, by the lowest free stream. The file is emptied, or made. The answer is the stream. Refused where
+    /// a stream is open on the file (47), where no stream is free (45), and where it has to be made and there are 64 files (44).
     pub fn open_write(&mut self, name: &Name) -> Result<u32, u32>
         ensures answer { result ≡ (after_open_write self.old name.now).answer }
         ensures disc { self.new ≡ (after_open_write self.old name.now).disc }
@@ -173,7 +176,7 @@ impl Disc {
     }
 
     /// Gives the next bytes of a stream that reads, as many as there is room for, and how many they are. At the end of
-    /// the file there are none.
+    /// the file there are none. Refused where no such stream is open to read (46).
     pub fn read_on(&mut self, stream: u32, into: &mut [u8]) -> Result<u32, u32>
         ensures answer { result ≡ (after_read_on self.old stream (length into.old)).answer }
         ensures disc { self.new ≡ (after_read_on self.old stream (length into.old)).disc }
@@ -197,7 +200,8 @@ impl Disc {
         Ok(count as u32)
     }
 
-    /// Writes bytes behind those of the file of a stream that writes.
+    /// Writes bytes behind those of the file of a stream that writes. Refused where no such stream is open to write (46), and
+    /// where the files would take more than 4,096 sectors (43).
     pub fn append(&mut self, stream: u32, bytes: &[u8]) -> Result<(), u32>
         requires { length bytes.now ≤ 4096 }
         ensures answer { result ≡ (after_append self.old stream bytes.now).answer }
@@ -218,7 +222,7 @@ impl Disc {
         Ok(())
     }
 
-    /// Deletes a file on which no stream is open.
+    /// Deletes a file on which no stream is open. Refused where there is no such file (41), and where one is open (47).
     pub fn delete(&mut self, name: &Name) -> Result<(), u32>
         ensures answer { result ≡ (after_delete self.old name.now).answer }
         ensures disc { self.new ≡ (after_delete self.old name.now).disc }
@@ -234,7 +238,8 @@ impl Disc {
         Ok(())
     }
 
-    /// Gives a file, on which no stream is open, a name that no file has.
+    /// Gives a file, on which no stream is open, a name that no file has. Refused where there is no such file (41), where a file
+    /// has that name (42), and where a stream is open (47).
     pub fn rename(&mut self, from: &Name, to: &Name) -> Result<(), u32>
         ensures answer { result ≡ (after_rename self.old from.now to.now).answer }
         ensures disc { self.new ≡ (after_rename self.old from.now to.now).disc }
@@ -252,7 +257,7 @@ impl Disc {
         Ok(())
     }
 
-    /// Closes a stream.
+    /// Closes a stream. Refused where it is not open (46).
     pub fn close(&mut self, stream: u32) -> Result<(), u32>
         ensures answer { result ≡ (after_close self.old stream).answer }
         ensures disc { self.new ≡ (after_close self.old stream).disc }

@@ -8,7 +8,7 @@ use Rattle.block_calls.proofs.keeper.release_joined.Goals as goal
 pub returns-then-block-run-clause-released : goal.returns-then-block-run-clause-released
 returns-then-block-run-clause-released g c =
     subst (WasReleased (g.Q.KindKeeper.tells c.args.kinds.now) (g.Q.KindKeeper.tells c.loop-block.kinds))
-    (sym (joined-so_far c.args.store.now c.args.run c.loop-block.yielded _ c.in-Some.block _ c.requires c.loop-block.invariant.2 c.in-Some.ensures.steps c.if-block-run.true))
+    (sym (joined-so_far c.args.store.now c.args.run c.args.run.start c.loop-block.yielded _ c.in-Some.block _ c.requires c.loop-block.invariant.2 c.in-Some.ensures.steps c.if-block-run.true))
     c.loop-block.invariant.0
 
 pub loop-block-preserved : goal.loop-block-preserved

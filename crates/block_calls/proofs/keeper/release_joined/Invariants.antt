@@ -1,5 +1,5 @@
 use Rattle.std.proofs.Common.{◌≡◌, ◌++◌}
-use Rattle.getvec_chain.specs.Tiling.{blocks_in}
+use Rattle.getvec_chain.specs.Tiling.{blocks_from}
 use Rattle.word_kinds.specs.ToldWords.{WasReleased}
 use Rattle.block_calls.specs.JoinedStarts.{joined_starts}
 use Rattle.block_calls.proofs.keeper.release_joined.Given as goal
@@ -8,4 +8,4 @@ abbrev pub invariant-loop-block : goal.invariant-loop-block
 invariant-loop-block g l =
     WasReleased (g.Q.KindKeeper.tells l.fn.kinds) (g.Q.KindKeeper.tells l.kinds) (joined_starts l.run l.yielded)
     × (g.Q.KindKeeper.room l.kinds ≡ g.Q.KindKeeper.room l.fn.kinds)
-    × (blocks_in l.store ≡ l.yielded ++ l.block-iterator)
+    × (blocks_from l.store l.run.start ≡ l.yielded ++ l.block-iterator)

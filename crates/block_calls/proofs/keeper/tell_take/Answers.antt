@@ -1,13 +1,15 @@
-use Rattle.std.proofs.Common.{◌≡◌, ℕ, List, Option, Some, None, Ok, arith}
+use Rattle.std.proofs.Common.{◌≡◌, ℕ, List, Option, Some, None, Ok, sym, subst, arith}
 use Rattle.std.specs.Option.{ok_or}
 use Rattle.getvec_chain.specs.declared.pieces.Run.{Run}
 use Rattle.getvec_chain.specs.Run.{first_run, need}
 use Rattle.getvec_chain.specs.Tiling.{blocks_in}
-use Rattle.getvec_chain.proofs.Runs.{FoundRun}
+use Rattle.getvec_chain.proofs.Runs.{FoundRun, run-tiled}
 use Rattle.kernel_model.specs.HoldsLists.{HoldsLists}
 use Rattle.kernel_model.specs.Lists.{Lists}
 use Rattle.call_answers.proofs.FoundTask.{reads}
+use Rattle.word_kinds.specs.ToldWords.{WasReleased}
 use Rattle.word_kinds.proofs.OwnedMarks.{size-low}
+use Rattle.block_calls.proofs.JoinedRuns.{joined-from}
 use Rattle.block_calls.proofs.TakenWords.{found, knows-take}
 use Rattle.block_calls.proofs.keeper.tell_take.Goals as goal
 
@@ -39,7 +41,9 @@ overflow_add-rest-2 g c =
     omega (arith, f.enough, f.low, f.inside, size-low c.requires.0 c.requires.1.lists.valid, c.requires.1.lists.size)
 
 pub release_joined-requires : goal.release_joined-requires
-release_joined-requires g c = (reads c.args.store.now c.requires.0 c.requires.1.lists).tiled
+release_joined-requires g c =
+    run-tiled _ (need c.args.u) 200 (blocks_in c.args.store.now) c.in_ok-run.run' (reads c.args.store.now c.requires.0 c.requires.1.lists).tiled
+    (first _ (first_run (need c.args.u) (blocks_in c.args.store.now)) c.in_ok-run.run' _ c.in_ok-run.ensures.value c.first_run.ensures)
 
 pub claim_rest-requires : goal.claim_rest-requires
 claim_rest-requires g c =
@@ -48,6 +52,13 @@ claim_rest-requires g c =
 
 pub returns-clause-knows : goal.returns-clause-knows
 returns-clause-knows g c = λ l k.
-    knows-take c.args.store.now l c.args.u c.in_ok-run.run' k.lists (first _ (first_run (need c.args.u) (blocks_in c.args.store.now)) c.in_ok-run.run' _ c.in_ok-run.ensures.value c.first_run.ensures)
+    let s = c.args.store.now in
+    let is = first _ (first_run (need c.args.u) (blocks_in s)) c.in_ok-run.run' _ c.in_ok-run.ensures.value c.first_run.ensures in
+    let joined = joined-from s (need c.args.u) 200 (blocks_in s) c.in_ok-run.run' (reads s l k.lists).tiled is in
+    knows-take s l c.args.u c.in_ok-run.run' k.lists is
     (g.Q.KindKeeper.tells c.args.kinds.now) (g.Q.KindKeeper.tells c.release_joined.new.kinds) (g.Q.KindKeeper.tells c.claim_rest.new.kinds) k.knows
-    c.release_joined.ensures.released c.claim_rest.ensures.claimed
+    (subst (WasReleased (g.Q.KindKeeper.tells c.args.kinds.now) (g.Q.KindKeeper.tells c.release_joined.new.kinds)) (sym joined) c.release_joined.ensures.released)
+    c.claim_rest.ensures.claimed
+
+pub returns-clause-first : goal.returns-clause-first
+returns-clause-first g c = first _ (first_run (need c.args.u) (blocks_in c.args.store.now)) c.in_ok-run.run' _ c.in_ok-run.ensures.value c.first_run.ensures

@@ -1,6 +1,7 @@
 use Rattle.std.proofs.Common.{◌≡◌, ◌∙◌, ℕ, ◌+◌, List, Option, Some, None, Result, Ok, Err, refl, sym, ap, subst, arith}
-use Rattle.std.specs.Prelude.{IfErr, IfOk, IsOk, IsSome}
+use Rattle.std.specs.Prelude.{IfErr, IfOk, IsOk}
 use Rattle.std.proofs.lemmas.Result.{err_from_is_err_and}
+use Rattle.getvec_chain.specs.declared.pieces.Run.{Run}
 use Rattle.getvec_chain.specs.Run.{first_run, need}
 use Rattle.getvec_chain.specs.Tiling.{blocks_in}
 use Rattle.hunk_text.specs.Shapes.{check_of}
@@ -25,15 +26,14 @@ two : (text : List ℕ) (shape : Shape) (code : ℕ) → check_of text ≡ Ok sh
 two text shape code e f = (let k : ◌≡◌ {A = Result Shape ℕ} (Ok shape) (Err code) = sym e ∙ f in cc)
 
 -- a load of a text that was checked, where there is room, is not refused
-loads : (s text : List ℕ) (r : Result ℕ LoadEnd) (shape : Shape) (n : ℕ) → IfErr r (IsRefused s text) → check_of text ≡ Ok shape → n ≡ 1 + shape.hunks + shape.words → IsSome (first_run (need n) (blocks_in s)) → IsOk r
-loads s text (Ok m) shape n refused is size room = refl
-loads s text (Err (BadText code)) shape n refused is size room = absurd (two text shape code is refused)
-loads s text (Err NoRoom) shape n (m, also, none) is size room =
-    absurd (some (first_run (need n) (blocks_in s)) room (ap (λ k. first_run (need k) (blocks_in s)) (size ∙ (text-shape text shape m is also).words) ∙ none))
+loads : (s text : List ℕ) (r : Result ℕ LoadEnd) (shape : Shape) (n : ℕ) (run : Run) → IfErr r (IsRefused s text) → check_of text ≡ Ok shape → n ≡ 1 + shape.hunks + shape.words → first_run (need n) (blocks_in s) ≡ Some run → IsOk r
+loads s text (Ok m) shape n run refused is size room = refl
+loads s text (Err (BadText code)) shape n run refused is size room = absurd (two text shape code is refused)
+loads s text (Err NoRoom) shape n run (m, also, none) is size room =
+    absurd (some (sym room ∙ ap (λ k. first_run (need k) (blocks_in s)) (size ∙ (text-shape text shape m is also).words) ∙ none))
   where
-    some : {A : Type 0} (o : Option A) → IsSome o → o ≡ None → ⊥
-    some None e f = cc
-    some (Some a) e f = cc
+    some : ◌≡◌ {A = Option Run} (Some run) None → ⊥
+    some e = cc
 
 found : (s t text : List ℕ) (r : Result ℕ LoadEnd) (m : ℕ) → IfOk r (IsLoaded s t text) → r ≡ Ok m → IsLoaded s t text m
 found s t text r m h is = subst (λ z. IfOk z (IsLoaded s t text)) is h
@@ -58,7 +58,7 @@ load-requires g c = (held-modules c.args.store.now c.requires.0.modules (reads c
 
 pub unwrap-m-requires : goal.unwrap-m-requires
 unwrap-m-requires g c =
-    loads c.args.store.now (g.X.TextBytes.text c.args.text.now) c.load.result c.in-Ok.shape c.last_word.result c.load.ensures.refused (sym c.in-Ok.ensures) c.last_word.ensures c.in_ok-tell_take.ensures.has_room
+    loads c.args.store.now (g.X.TextBytes.text c.args.text.now) c.load.result c.in-Ok.shape c.last_word.result _ c.load.ensures.refused (sym c.in-Ok.ensures) c.last_word.ensures c.in_ok-tell_take.ensures.first
 
 pub overflow_add-shape : goal.overflow_add-shape
 overflow_add-shape g c =

@@ -1,9 +1,0 @@
-use Rattle.std.proofs.Common.{arith}
-use Rattle.getvec_chain.proofs.Tilings.{IsTiled-inside}
-use Rattle.getvec_chain.proofs.search.blocks.Goals as goal
-
-pub overflow_sub-result : goal.overflow_sub-result
-overflow_sub-result c = omega (arith, c.size.ensures, IsTiled-inside _ c.requires)
-
-pub invariant_of-result : goal.invariant_of-result
-invariant_of-result c = (c.requires, omega (arith, c.size.ensures, IsTiled-inside _ c.requires))

@@ -1,0 +1,9 @@
+use Rattle.std.proofs.Common.{arith}
+use Rattle.getvec_chain.proofs.Tilings.{Tiles-inside}
+use Rattle.getvec_chain.proofs.search.blocks_from.Goals as goal
+
+pub overflow_sub-result : goal.overflow_sub-result
+overflow_sub-result c = omega (arith, c.size.ensures, Tiles-inside _ _ _ c.requires)
+
+pub invariant_of-result : goal.invariant_of-result
+invariant_of-result c = (c.requires, omega (arith, c.size.ensures, Tiles-inside _ _ _ c.requires))
