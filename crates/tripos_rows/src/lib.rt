@@ -2,13 +2,7 @@
 #![tactic(auto)]
 
 #[cfg(test)]
-mod blocks;
-#[cfg(test)]
 mod discs;
-#[cfg(test)]
-mod kinds;
-#[cfg(test)]
-mod listings;
 #[cfg(test)]
 mod logs;
 #[cfg(test)]
