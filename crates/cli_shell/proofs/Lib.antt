@@ -1,5 +1,6 @@
 pub mod RunningShell
 pub mod DoneParts
+pub mod TaskCalls
 pub mod TypedFiles
 pub mod StartedPrograms
 pub mod TakenPackets

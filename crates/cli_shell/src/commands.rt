@@ -6,16 +6,15 @@ ghost use Rattle.cli_shell.specs.DoneParts.{IsDone, IsReady, Start};
 ghost use Rattle.cli_shell.specs.TurnParts.{ShellTurn, most_shown};
 ghost use Rattle.cli_shell.specs.Commands.{executed, line_executed};
 
-use crate::files::{delete_file, rename_file};
 use crate::listings::{count_blocks, list_files, list_tasks};
 use crate::programs::{run, start};
-use crate::prompts::{prompt, refuse};
+use crate::prompts::{answer, prompt, refuse};
 use crate::state::ShellState;
-use crate::tasks::{change_priority, hold, release, set_task_flags};
 use crate::typing::type_file;
 use packet_queue::EventLog;
 use ram_disc::Disc;
 use shell_lines::{Command, read_command};
+use task_calls::{change_pri, hold_task, release_task, set_flags};
 use tp_io::Output;
 use word_kinds::KindKeeper;
 use word_store::Store;
@@ -81,19 +80,20 @@ fn execute<Q: KindKeeper, L: EventLog>(
         Command::Nothing => prompt(state, store, kinds, out, log),
         Command::Type(name) => type_file(&name, state, disc, store, kinds, out, log),
         Command::Examine => list_files(state, disc, store, kinds, out, log),
-        Command::Delete(name) => delete_file(&name, state, disc, store, kinds, out, log),
+        Command::Delete(name) => answer(disc.delete(&name), state, store, kinds, out, log),
         Command::Rename { from, to } => {
-            rename_file(&from, &to, state, disc, store, kinds, out, log);
+            answer(disc.rename(&from, &to), state, store, kinds, out, log);
         }
         Command::Status => list_tasks(state, store, kinds, out, log),
         Command::Map => count_blocks(state, store, kinds, out, log),
-        Command::Hold(task) => hold(task, state, store, kinds, out, log),
-        Command::Release(task) => release(task, state, store, kinds, out, log),
+        Command::Hold(task) => answer(hold_task(store, task), state, store, kinds, out, log),
+        Command::Release(task) => answer(release_task(store, task), state, store, kinds, out, log),
         Command::ChangePriority { task, priority } => {
-            change_priority(task, priority, state, store, kinds, out, log);
+            let outcome = change_pri(store, task, priority);
+            answer(outcome, state, store, kinds, out, log);
         }
         Command::Break { task, flags } => {
-            set_task_flags(task, flags, state, store, kinds, out, log);
+            answer(set_flags(store, task, flags), state, store, kinds, out, log);
         }
         Command::Run { program, priority } => {
             run(&program, priority, state, disc, store, kinds, out, log);

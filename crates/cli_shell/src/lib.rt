@@ -2,14 +2,12 @@
 #![tactic(auto)]
 
 mod commands;
-mod files;
 pub mod laws;
 mod listings;
 pub mod modes;
 mod programs;
 mod prompts;
 pub mod state;
-mod tasks;
 pub mod turns;
 mod typing;
 
