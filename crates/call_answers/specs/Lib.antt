@@ -4,3 +4,4 @@ pub mod Callers
 pub mod Made
 pub mod Tasks
 pub mod Modules
+pub mod Outside

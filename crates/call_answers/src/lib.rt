@@ -1,5 +1,5 @@
 // What the kernel calls share: the codes of their refusals, numbers that they know, the task that calls and the guest that is
-// called for, the modules that there are, and what a call makes of the kernel's lists.
+// called for, the modules that there are, what a call makes of the kernel's lists, and what it sees besides them.
 #![tactic(auto)]
 
 pub mod callers;

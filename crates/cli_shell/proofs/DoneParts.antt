@@ -11,7 +11,7 @@ use Rattle.kernel_model.proofs.ChangedLists.{knows-same}
 use Rattle.kernel_model.proofs.NotedInTurn.{notes-none, notes-then}
 use Rattle.ram_disc.specs.Disc.{Disc}
 use Rattle.call_answers.specs.Made.{Leaves, Made, plain_answer}
-use Rattle.kernel_calls.specs.Calls.{Outside, outside}
+use Rattle.call_answers.specs.Outside.{Outside, outside}
 use Rattle.kernel_boot.specs.BootTasks.{Standing, left_with, standing}
 use Rattle.kernel_boot.proofs.StandingKernels.{left-is}
 use Rattle.resident_requests.specs.Requests.{RunsResident}

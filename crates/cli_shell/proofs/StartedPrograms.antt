@@ -7,7 +7,7 @@ use Rattle.kernel_model.specs.Kernel.{Shell}
 use Rattle.kernel_model.specs.Lists.{Lists}
 use Rattle.kernel_model.specs.ValidQueues.{HasGuest}
 use Rattle.kernel_model.proofs.RootCounts.{highest-high}
-use Rattle.kernel_calls.specs.Calls.{Outside}
+use Rattle.call_answers.specs.Outside.{Outside}
 use Rattle.kernel_boot.specs.BegunTask.{with_begun}
 use Rattle.kernel_boot.specs.BootTasks.{standing}
 use Rattle.shell_programs.specs.StartedProgram.{IsStarted, Started, begun, start_program}

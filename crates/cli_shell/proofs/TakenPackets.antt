@@ -7,7 +7,7 @@ use Rattle.kernel_model.specs.Lists.{has_task}
 use Rattle.kernel_model.specs.NotedEvents.{NotesAll}
 use Rattle.ram_disc.specs.Disc.{Disc}
 use Rattle.call_answers.specs.Made.{IsMade, minus_one}
-use Rattle.kernel_calls.specs.Calls.{Outside, outside}
+use Rattle.call_answers.specs.Outside.{Outside, outside}
 use Rattle.resident_requests.specs.Answers.{returned}
 use Rattle.resident_requests.specs.Requests.{HasRequest, IsTaken, RunsResident, TakesRequest, first_request, taken, work}
 use Rattle.resident_requests.specs.declared.requests.Request.{Request}

@@ -7,7 +7,7 @@ use Rattle.kernel_model.specs.Lists.{Lists}
 use Rattle.kernel_model.specs.Owned.{owned}
 use Rattle.ram_disc.specs.Disc.{Disc}
 use Rattle.call_answers.specs.Made.{Leaves, Made, plain_answer}
-use Rattle.kernel_calls.specs.Calls.{Outside}
+use Rattle.call_answers.specs.Outside.{Outside}
 use Rattle.task_calls.specs.ChangePri.{change_pri}
 use Rattle.task_calls.specs.HoldTask.{hold}
 use Rattle.task_calls.specs.ReleaseTask.{release}

@@ -1,7 +1,7 @@
 -- A file is typed: what follows a piece.
 use Rattle.std.proofs.Common.{◌≡◌, ℕ, Bool, true, false, Result, Ok, Err, List, ◌++◌, cond, sym, ap, ◌∙◌}
 use Rattle.ram_disc.specs.Disc.{Disc}
-use Rattle.kernel_calls.specs.Calls.{Outside, outside}
+use Rattle.call_answers.specs.Outside.{Outside, outside}
 use Rattle.kernel_model.specs.Kernel.{Shell}
 use Rattle.cli_shell.specs.DoneParts.{IsReady, Start}
 use Rattle.cli_shell.specs.Prompts.{prompted, refused}

@@ -7,7 +7,7 @@ use Rattle.kernel_model.specs.Lists.{Lists}
 use Rattle.kernel_model.proofs.ChangedLists.{knows-same}
 use Rattle.kernel_model.proofs.NotedInTurn.{notes-none, notes-then}
 use Rattle.ram_disc.specs.Disc.{Disc}
-use Rattle.kernel_calls.specs.Calls.{Outside}
+use Rattle.call_answers.specs.Outside.{Outside}
 use Rattle.packet_calls.specs.TaskWait.{first_of_queue}
 use Rattle.kernel_boot.specs.BootTasks.{left_with}
 use Rattle.resident_requests.specs.Answers.{IsFinished, finished}

@@ -3,7 +3,7 @@ use Rattle.std.specs.Prelude.{◌≡◌, ℕ, Bool, false, List, ◌++◌}
 use Rattle.kernel_model.specs.Kernel.{Shell}
 use Rattle.kernel_model.specs.NotedEvents.{NotesAll}
 use Rattle.ram_disc.specs.Disc.{Disc}
-use Rattle.kernel_calls.specs.Calls.{Outside}
+use Rattle.call_answers.specs.Outside.{Outside}
 use Rattle.resident_requests.specs.Requests.{RunsResident}
 use Rattle.shell_programs.specs.ClearedTasks.{shell_number}
 use Rattle.shell_programs.specs.ShellPacket.{HasPacket}

@@ -1,6 +1,6 @@
 // The shell executes a line.
 ghost use Rattle.std.specs.Prelude.{◌≡◌, ◌+◌, ◌≤◌, length, None};
-ghost use Rattle.kernel_calls.specs.Calls.{outside};
+ghost use Rattle.call_answers.specs.Outside.{outside};
 ghost use Rattle.ram_disc.specs.Disc.{IsDisc, shell_stream, stream_at};
 ghost use Rattle.cli_shell.specs.DoneParts.{IsDone, IsReady, Start};
 ghost use Rattle.cli_shell.specs.TurnParts.{ShellTurn, most_shown};

@@ -1,6 +1,6 @@
 // The shell starts programs.
 ghost use Rattle.std.specs.Prelude.{◌≡◌, ◌+◌, ◌≤◌, false, length};
-ghost use Rattle.kernel_calls.specs.Calls.{outside};
+ghost use Rattle.call_answers.specs.Outside.{outside};
 ghost use Rattle.ram_disc.specs.Disc.{Disc};
 ghost use Rattle.cli_shell.specs.DoneParts.{IsDone, IsReady, Start};
 ghost use Rattle.cli_shell.specs.TurnParts.{ShellTurn};

@@ -14,7 +14,7 @@ use Rattle.kernel_model.specs.NotedEvents.{NotesAll}
 use Rattle.kernel_model.specs.Owned.{owned}
 use Rattle.kernel_model.proofs.ChangedLists.{changed-none, changed-then, knows-same}
 use Rattle.kernel_model.proofs.NotedInTurn.{notes-none, notes-then}
-use Rattle.kernel_calls.specs.Calls.{Outside, outside}
+use Rattle.call_answers.specs.Outside.{Outside, outside}
 use Rattle.console_handler.specs.ConsoleTurn.{ended, turn_done}
 use Rattle.resident_requests.specs.Answers.{IsFinished, finished}
 use Rattle.resident_requests.specs.Turns.{IsResidentTurn}

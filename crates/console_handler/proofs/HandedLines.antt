@@ -14,7 +14,7 @@ use Rattle.kernel_model.specs.Owned.{owned}
 use Rattle.kernel_model.proofs.ChangedLists.{changed-then}
 use Rattle.kernel_model.proofs.NotedInTurn.{notes-then}
 use Rattle.call_answers.specs.Made.{IsMade, minus_one}
-use Rattle.kernel_calls.specs.Calls.{Outside, outside}
+use Rattle.call_answers.specs.Outside.{Outside, outside}
 use Rattle.resident_requests.specs.Answers.{OwnsRequest, returned}
 use Rattle.resident_requests.specs.Buffers.{is_writable, with_bytes, written_buffer}
 use Rattle.resident_requests.specs.Requests.{HasRequest, RunsResident, first_request, request_at}

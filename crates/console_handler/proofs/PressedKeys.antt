@@ -19,7 +19,7 @@ use Rattle.call_answers.specs.Made.{Leaves, Made, by_refusal, done}
 use Rattle.call_answers.specs.Refusals.{first_refusal}
 use Rattle.task_calls.specs.SetFlags.{flagged, set_flags}
 use Rattle.task_calls.proofs.SameWords.{set_flags-owners}
-use Rattle.kernel_calls.specs.Calls.{Outside, outside}
+use Rattle.call_answers.specs.Outside.{Outside, outside}
 use Rattle.resident_requests.specs.Requests.{RunsResident, work}
 use Rattle.console_handler.specs.ConsoleTurn.{key_of, with_flags, with_key, with_keys_taken}
 use Rattle.console_handler.specs.KeyPacket.{keys_taken, keys_taken_from}

@@ -6,7 +6,7 @@ use Rattle.kernel_model.specs.Lists.{Lists}
 use Rattle.kernel_model.specs.NotedEvents.{NotesAll}
 use Rattle.kernel_model.specs.Residents.{key_packet, keyboard}
 use Rattle.call_answers.specs.Made.{IsMade, minus_one}
-use Rattle.kernel_calls.specs.Calls.{Outside, outside}
+use Rattle.call_answers.specs.Outside.{Outside, outside}
 use Rattle.packet_calls.specs.SendOwn.{CanSendOwn, send_own, with_sent}
 use Rattle.packet_calls.proofs.OwnPackets.{own-kept}
 use Rattle.resident_requests.specs.Requests.{RunsResident}

@@ -15,7 +15,7 @@ use Rattle.kernel_model.specs.Owned.{owned}
 use Rattle.kernel_model.specs.ValidQueues.Place.{Work}
 use Rattle.kernel_model.proofs.NotedInTurn.{notes-then}
 use Rattle.call_answers.specs.Made.{IsMade, minus_one}
-use Rattle.kernel_calls.specs.Calls.{Outside, outside}
+use Rattle.call_answers.specs.Outside.{Outside, outside}
 use Rattle.packet_moves.proofs.Departure.{owners-departed}
 use Rattle.resident_requests.specs.Answers.{OwnsRequest, returned}
 use Rattle.resident_requests.specs.Buffers.{is_count, is_readable, lies_inside}

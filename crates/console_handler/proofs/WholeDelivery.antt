@@ -6,7 +6,7 @@ use Rattle.packet_queue.specs.QueueWords.{QueuedPacket, address_of}
 use Rattle.kernel_model.specs.Kernel.{Console}
 use Rattle.kernel_model.specs.Residents.{pending_head}
 use Rattle.kernel_model.specs.ValidQueues.Place.{Pending}
-use Rattle.kernel_calls.specs.Calls.{Outside}
+use Rattle.call_answers.specs.Outside.{Outside}
 use Rattle.packet_moves.proofs.HeldPlaces.{queue-at}
 use Rattle.resident_requests.specs.Requests.{first_request}
 use Rattle.console_handler.specs.Deliveries.{delivered, delivery, handed, handed_if_finished, has_reads, is_handed, with_read}

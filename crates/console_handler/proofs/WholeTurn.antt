@@ -8,7 +8,7 @@ use Rattle.kernel_model.specs.Residents.{key_packet}
 use Rattle.kernel_model.specs.ValidQueues.{IsFaultPacket, MayStand, Place, is_fault_packet, is_key_packet}
 use Rattle.kernel_model.specs.ValidQueues.Place.{Clock, Keyboard, Output, Pending, Work}
 use Rattle.kernel_model.proofs.QueuePlaces.{place-stands}
-use Rattle.kernel_calls.specs.Calls.{Outside}
+use Rattle.call_answers.specs.Outside.{Outside}
 use Rattle.packet_calls.specs.TaskWait.{first_of_queue}
 use Rattle.resident_requests.specs.Requests.{IsForeign, TakesRequest, work}
 use Rattle.console_handler.specs.ConsoleTurn.{treated, with_first, with_key}

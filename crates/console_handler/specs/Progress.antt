@@ -8,7 +8,7 @@ use Rattle.kernel_model.specs.Kernel.{Console}
 use Rattle.kernel_model.specs.Lists.{Lists}
 use Rattle.kernel_model.specs.NotedEvents.{NotesAll}
 use Rattle.kernel_model.specs.Owned.{owned}
-use Rattle.kernel_calls.specs.Calls.{Outside}
+use Rattle.call_answers.specs.Outside.{Outside}
 use Rattle.resident_requests.specs.Requests.{RunsResident}
 
 -- The words of the store and its lists; the plain words that were written, the last ones first, the bytes that went to the output,

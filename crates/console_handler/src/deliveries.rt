@@ -1,6 +1,6 @@
 // A finished line is handed to the reads that wait.
 ghost use Rattle.std.specs.Prelude.{◌≡◌, ◌≤◌, List, length, ℕ};
-ghost use Rattle.kernel_calls.specs.Calls.{outside};
+ghost use Rattle.call_answers.specs.Outside.{outside};
 ghost use Rattle.kernel_model.specs.ChangedStore.{HasKeeper};
 ghost use Rattle.kernel_model.specs.Lists.{Lists};
 ghost use Rattle.console_handler.specs.Deliveries.{command_after, delivery, handed_if_finished, is_handed, line_after, line_service};

@@ -6,7 +6,7 @@ ghost use Rattle.kernel_model.specs.Lists.{Lists};
 ghost use Rattle.kernel_model.specs.NotedEvents.{NotesAll};
 ghost use Rattle.kernel_model.specs.Owned.{owned};
 ghost use Rattle.call_answers.specs.Made.{Leaves};
-ghost use Rattle.kernel_calls.specs.Calls.{outside};
+ghost use Rattle.call_answers.specs.Outside.{outside};
 ghost use Rattle.kernel_model.specs.Kernel.{Console};
 ghost use Rattle.console_handler.specs.ConsoleTurn.{keys_sent, with_keys_sent};
 ghost use Rattle.console_handler.specs.KeyPacket.{FindsKeys, keys_taken};

@@ -1,6 +1,6 @@
 // A key comes.
 ghost use Rattle.std.specs.Prelude.{◌≡◌, ◌+◌, ◌≤◌, List, length, ℕ};
-ghost use Rattle.kernel_calls.specs.Calls.{outside};
+ghost use Rattle.call_answers.specs.Outside.{outside};
 ghost use Rattle.console_handler.specs.ConsoleTurn.{with_key};
 ghost use Rattle.console_handler.specs.KeyPacket.{FindsKeys};
 ghost use Rattle.console_handler.specs.Progress.{IsDone, Progress, Start};

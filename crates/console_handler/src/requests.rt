@@ -1,6 +1,6 @@
 // Requests come to the console.
 ghost use Rattle.std.specs.Prelude.{◌≡◌, ◌+◌, ◌++◌, ◌≤◌, List, Some, length, ℕ};
-ghost use Rattle.kernel_calls.specs.Calls.{outside};
+ghost use Rattle.call_answers.specs.Outside.{outside};
 ghost use Rattle.kernel_model.specs.Kernel.{Console};
 ghost use Rattle.console_handler.specs.ConsoleTurn.{answer_of, bytes_of, with_first};
 ghost use Rattle.console_handler.specs.Progress.{IsDone, Progress, Start};

@@ -1,6 +1,6 @@
 // The turn of the console.
 ghost use Rattle.std.specs.Prelude.{◌≡◌, [], List, ℕ};
-ghost use Rattle.kernel_calls.specs.Calls.{outside};
+ghost use Rattle.call_answers.specs.Outside.{outside};
 ghost use Rattle.kernel_model.specs.ChangedStore.{HasKeeper};
 ghost use Rattle.kernel_model.specs.Lists.{Lists};
 ghost use Rattle.console_handler.specs.ConsoleTurn.{RunsConsole, all_parts, console_turn, treated};

@@ -19,7 +19,7 @@ use Rattle.kernel_model.specs.ValidTasks.{runs}
 use Rattle.kernel_model.proofs.ChangedLists.{changed-then, knows-same}
 use Rattle.kernel_model.proofs.QueuePlaces.{place-stands}
 use Rattle.std.proofs.lemmas.Bool.{and_parts, false≢true, false_from_ne_true}
-use Rattle.kernel_calls.specs.Calls.{outside}
+use Rattle.call_answers.specs.Outside.{outside}
 use Rattle.resident_requests.specs.Answers.{IsFinished, finished}
 use Rattle.resident_requests.specs.Requests.{IsForeign, RunsResident, TakesRequest, first_request, taken, words_taken, work}
 use Rattle.resident_requests.specs.Turns.{IsResidentTurn, request_turn, turn_of}

@@ -6,7 +6,7 @@ ghost use Rattle.kernel_model.specs.ChangedStore.{HasKeeper};
 ghost use Rattle.kernel_model.specs.HoldsLists.{HoldsLists};
 ghost use Rattle.kernel_model.specs.Lists.{Lists};
 ghost use Rattle.kernel_model.specs.NotedEvents.{NotesAll};
-ghost use Rattle.kernel_calls.specs.Calls.{outside};
+ghost use Rattle.call_answers.specs.Outside.{outside};
 ghost use Rattle.resident_requests.specs.Answers.{finished};
 ghost use Rattle.resident_requests.specs.Requests.{RunsResident, work};
 ghost use Rattle.resident_requests.specs.Turns.{IsResidentTurn};

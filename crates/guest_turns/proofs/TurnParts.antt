@@ -11,7 +11,8 @@ use Rattle.kernel_model.specs.Lists.{Lists}
 use Rattle.kernel_model.proofs.ChangedLists.{changed-none, knows-same}
 use Rattle.kernel_model.proofs.NotedInTurn.{notes-none}
 use Rattle.coroutine_calls.specs.Switched.{IsSwitched, Switched}
-use Rattle.kernel_calls.specs.Calls.{Called, IsCalled, Outside}
+use Rattle.call_answers.specs.Outside.{Outside}
+use Rattle.kernel_calls.specs.Calls.{Called, IsCalled}
 use Rattle.kernel_calls.specs.declared.requests.CallOutcome.{CallOutcome}
 use Rattle.guest_instructions.specs.Guarded.{is_owned}
 use Rattle.guest_instructions.proofs.MarkedWords.{keeps-marked}

@@ -19,7 +19,8 @@ use Rattle.kernel_model.specs.ValidTasks.{dead, runs}
 use Rattle.coroutine_calls.specs.CallersCoroutines.{coroutines_of_caller}
 use Rattle.coroutine_calls.specs.CoWait.{ended}
 use Rattle.coroutine_calls.specs.Switched.{Switched}
-use Rattle.kernel_calls.specs.Calls.{Called, Outside, kernel_call}
+use Rattle.call_answers.specs.Outside.{Outside}
+use Rattle.kernel_calls.specs.Calls.{Called, kernel_call}
 use Rattle.kernel_calls.specs.declared.requests.CallOutcome.{CallOutcome}
 use Rattle.kernel_calls.specs.declared.requests.CallOutcome.TheVariants.{Done, Outside as OutsideStore, Quit, Unknown, Waits}
 use Rattle.guest_instructions.specs.Guarded.{is_owned}

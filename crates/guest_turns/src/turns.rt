@@ -5,7 +5,8 @@ ghost use Rattle.kernel_model.specs.HoldsLists.{HoldsLists};
 ghost use Rattle.kernel_model.specs.Lists.{Lists};
 ghost use Rattle.call_answers.specs.Callers.{HasCaller};
 ghost use Rattle.coroutine_calls.specs.Switched.{IsSwitched};
-ghost use Rattle.kernel_calls.specs.Calls.{kernel_call, outside};
+ghost use Rattle.call_answers.specs.Outside.{outside};
+ghost use Rattle.kernel_calls.specs.Calls.{kernel_call};
 ghost use Rattle.guest_turns.specs.GuestTurn.{IsTurned, called, end_of_call, returned, turn_without_reporter};
 
 use call_answers::caller;

@@ -14,7 +14,8 @@ use Rattle.kernel_model.proofs.NotedInTurn.{notes-none}
 use Rattle.call_answers.specs.Made.{IsMade, Leaves, Made}
 use Rattle.coroutine_calls.specs.Switched.{IsSwitched, Switched}
 use Rattle.packet_calls.specs.TaskWait.{answer_of_wait, first_of_queue}
-use Rattle.kernel_calls.specs.Calls.{IsCalled, Outside, answered, ended_with, of_byte, of_made, of_switched, of_wait, regs_of_switch}
+use Rattle.call_answers.specs.Outside.{Outside}
+use Rattle.kernel_calls.specs.Calls.{IsCalled, answered, ended_with, of_byte, of_made, of_switched, of_wait, regs_of_switch}
 use Rattle.kernel_calls.specs.declared.requests.CallOutcome.{CallOutcome}
 use Rattle.kernel_calls.specs.declared.requests.CallOutcome.TheVariants.{Done, Waits}
 

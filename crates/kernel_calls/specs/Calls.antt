@@ -11,6 +11,7 @@ use Rattle.kernel_model.specs.Lists.{Lists}
 use Rattle.kernel_model.specs.NotedEvents.{NotesAll}
 use Rattle.kernel_model.specs.ValidQueues.Place.{Work}
 use Rattle.call_answers.specs.Made.{Made, minus_one}
+use Rattle.call_answers.specs.Outside.{Outside}
 use Rattle.block_calls.specs.Freevec.{freevec}
 use Rattle.block_calls.specs.Getvec.{getvec}
 use Rattle.module_calls.specs.AddModule.{add_module}
@@ -124,15 +125,6 @@ unfoldable pub kernel_call : List ℕ → Lists → Regs → Called
 kernel_call s l r = requested s l r (call_of s r)
 
 -- ---- what the code leaves
-
--- what a call sees besides the kernel: the bytes of the console, the events that were noted, and whether the log has failed
-pub record Outside : Type 0 where
-  pub shown : List ℕ
-  pub noted : Option (List KernelEvent)
-  pub failed : Bool
-
-abbrev pub outside : List ℕ → Option (List KernelEvent) → Bool → Outside
-outside shown noted failed = record { shown = shown; noted = noted; failed = failed }
 
 -- The store that was s is t: it holds the lists that the call leaves, its plain words and no others have changed besides; these are
 -- its registers and its end; the keeper knows the words of those lists; its bytes went to the console, and its events to the log.

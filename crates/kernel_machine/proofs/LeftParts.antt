@@ -7,7 +7,7 @@ use Rattle.kernel_model.specs.Kernel.{Kernel, Stop}
 use Rattle.kernel_model.specs.Lists.{Lists}
 use Rattle.kernel_model.proofs.NotedInTurn.{notes-none, notes-then}
 use Rattle.word_kinds.specs.ByteMap.{MarksAll}
-use Rattle.kernel_calls.specs.Calls.{Outside}
+use Rattle.call_answers.specs.Outside.{Outside}
 use Rattle.machine_parts.specs.declared.parts.Parts.{Parts}
 use Rattle.machine_parts.specs.Stands.{Stands}
 use Rattle.kernel_steps.specs.Step.{Stepped, and_then, quietly, with_store}

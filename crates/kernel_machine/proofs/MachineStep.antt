@@ -4,7 +4,7 @@ use Rattle.std.specs.Option.{option_map}
 use Rattle.session_text.specs.Ranges.{most_steps}
 use Rattle.kernel_model.specs.Kernel.{Kernel, Stop as KernelStop}
 use Rattle.kernel_model.specs.ValidKernel.{IsFullMachine}
-use Rattle.kernel_calls.specs.Calls.{Outside}
+use Rattle.call_answers.specs.Outside.{Outside}
 use Rattle.bare_machine.specs.declared.stops.Stop.{Stop}
 use Rattle.machine_parts.specs.declared.parts.Parts.{Parts}
 use Rattle.machine_parts.specs.Stops.{stop_of}

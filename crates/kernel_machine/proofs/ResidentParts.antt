@@ -16,7 +16,7 @@ use Rattle.kernel_model.specs.Task.{is_guest_id}
 use Rattle.kernel_model.proofs.ChangedLists.{changed-none}
 use Rattle.kernel_model.proofs.ImageWords.{image-list}
 use Rattle.word_kinds.specs.ByteMap.{MarksAll}
-use Rattle.kernel_calls.specs.Calls.{Outside}
+use Rattle.call_answers.specs.Outside.{Outside}
 use Rattle.resident_requests.specs.Requests.{RunsResident, TakesRequest, first_request, taken, words_taken, work}
 use Rattle.resident_requests.specs.Turns.{IsResidentTurn, ResidentTurn, Served, request_turn, turn_of}
 use Rattle.resident_requests.specs.declared.requests.Request.{Request}

@@ -18,7 +18,7 @@ use Rattle.clock_device.specs.Tick.{ticked}
 use Rattle.tty_device.specs.Keys.{left_typed, met}
 use Rattle.tty_device.specs.Printed.{finished, printed}
 use Rattle.tty_device.specs.Typed.{with_typed}
-use Rattle.kernel_calls.specs.Calls.{Outside}
+use Rattle.call_answers.specs.Outside.{Outside}
 use Rattle.guest_turns.specs.GuestTurn.{numbers_of}
 use Rattle.machine_parts.specs.declared.parts.Parts.{Parts}
 use Rattle.machine_parts.specs.Stands.{Stands}

@@ -13,7 +13,7 @@ use Rattle.kernel_model.proofs.ChangedLists.{changed-then, knows-same}
 use Rattle.kernel_model.proofs.ImageWords.{image-list}
 use Rattle.kernel_model.proofs.NotedInTurn.{notes-then}
 use Rattle.word_kinds.specs.ByteMap.{MarksAll}
-use Rattle.kernel_calls.specs.Calls.{Outside}
+use Rattle.call_answers.specs.Outside.{Outside}
 use Rattle.guest_turns.specs.GuestTurn.{IsTurned, Turned, numbers_of, turn_without_reporter}
 use Rattle.guest_turns.specs.declared.turns.TurnEnd.{TurnEnd}
 use Rattle.guest_turns.specs.declared.turns.TurnEnd.TheVariants.{Faults, Goes, Quits}

@@ -2,7 +2,7 @@
 ghost use Rattle.std.specs.Prelude.{◌≡◌, ◌<◌, length};
 ghost use Rattle.kernel_model.specs.Kernel.{Kernel};
 ghost use Rattle.kernel_dispatch.specs.Dispatch.{CanDispatch};
-ghost use Rattle.kernel_calls.specs.Calls.{outside};
+ghost use Rattle.call_answers.specs.Outside.{outside};
 ghost use Rattle.machine_parts.specs.Stands.{Stands};
 ghost use Rattle.kernel_steps.specs.Step.{dispatch, key, output, tick, with_key_typed};
 ghost use Rattle.kernel_machine.specs.Leaves.{CanServe, Leaves};

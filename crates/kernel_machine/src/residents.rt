@@ -5,7 +5,7 @@ ghost use Rattle.ram_disc.specs.Disc.{IsDisc};
 ghost use Rattle.kernel_model.specs.HoldsLists.{HoldsLists};
 ghost use Rattle.kernel_model.specs.Kernel.{Kernel};
 ghost use Rattle.kernel_model.specs.Lists.{Lists};
-ghost use Rattle.kernel_calls.specs.Calls.{outside};
+ghost use Rattle.call_answers.specs.Outside.{outside};
 ghost use Rattle.resident_requests.specs.Requests.{RunsResident};
 ghost use Rattle.machine_parts.specs.Stands.{Stands};
 ghost use Rattle.machine_parts.specs.Stops.{stop_of};

@@ -4,7 +4,7 @@ ghost use Rattle.std.specs.Option.{option_map};
 ghost use Rattle.session_text.specs.Ranges.{most_steps};
 ghost use Rattle.kernel_model.specs.Kernel.{Kernel};
 ghost use Rattle.kernel_model.specs.ValidKernel.{IsFullMachine};
-ghost use Rattle.kernel_calls.specs.Calls.{outside};
+ghost use Rattle.call_answers.specs.Outside.{outside};
 ghost use Rattle.machine_parts.specs.Stands.{Stands};
 ghost use Rattle.machine_parts.specs.Stops.{stop_of};
 ghost use Rattle.kernel_steps.specs.Parts.{IsTaken};

@@ -2,7 +2,7 @@
 ghost use Rattle.std.specs.Prelude.{◌≡◌, ℕ, List};
 ghost use Rattle.kernel_model.specs.ChangedStore.{HasKeeper};
 ghost use Rattle.kernel_model.specs.Lists.{Lists};
-ghost use Rattle.kernel_calls.specs.Calls.{outside};
+ghost use Rattle.call_answers.specs.Outside.{outside};
 ghost use Rattle.resident_requests.specs.Requests.{TakesRequest};
 ghost use Rattle.resident_requests.specs.Turns.{IsResidentTurn};
 ghost use Rattle.pipe_handler.specs.PipeTurns.{pipe_turn, pipes_after_turn};

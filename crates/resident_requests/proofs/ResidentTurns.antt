@@ -17,7 +17,7 @@ use Rattle.kernel_model.specs.ValidQueues.{IsFaultPacket, IsKeyPacket, MayStand,
 use Rattle.kernel_model.specs.ValidQueues.Place.{Clock, Keyboard, Output, Pending, Work}
 use Rattle.kernel_model.proofs.QueuePlaces.{place-stands}
 use Rattle.call_answers.specs.Made.{IsMade, minus_one}
-use Rattle.kernel_calls.specs.Calls.{outside}
+use Rattle.call_answers.specs.Outside.{outside}
 use Rattle.kernel_model.proofs.ChangedLists.{changed-none, changed-then, knows-same}
 use Rattle.kernel_model.specs.HoldsLists.{HoldsLists}
 use Rattle.kernel_model.specs.NotedEvents.{NotesAll}

@@ -1,5 +1,6 @@
 use Rattle.std.proofs.Common.{refl, sym, ◌∙◌, subst}
-use Rattle.kernel_calls.specs.Calls.{IsCalled, kernel_call, made, outside, requested}
+use Rattle.call_answers.specs.Outside.{outside}
+use Rattle.kernel_calls.specs.Calls.{IsCalled, kernel_call, made, requested}
 use Rattle.kernel_calls.proofs.CalledAnswers.{called-ended}
 use Rattle.kernel_calls.proofs.calls.call.Goals as goal
 

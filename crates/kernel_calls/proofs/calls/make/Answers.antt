@@ -21,7 +21,8 @@ use Rattle.task_calls.specs.ReleaseTask.{release}
 use Rattle.task_calls.specs.SetFlags.{set_flags}
 use Rattle.task_calls.specs.TestFlags.{test_flags}
 use Rattle.task_calls.proofs.SameWords.{change_pri-owners, hold-owners, release-owners, set_flags-owners, test_flags-owners}
-use Rattle.kernel_calls.specs.Calls.{answered, divided, outside}
+use Rattle.call_answers.specs.Outside.{outside}
+use Rattle.kernel_calls.specs.Calls.{answered, divided}
 use Rattle.kernel_calls.proofs.CalledAnswers.{called-byte, called-ended, called-noting, called-silent, called-switched, called-taking, called-waiting, made-same}
 use Rattle.kernel_calls.proofs.SilentCalls.{add_module-silent, change_pri-silent, create_task-silent, createco-silent, delete_task-silent, deleteco-silent, freevec-silent, getvec-silent, hold-silent, release-silent, set_flags-silent, unload_module-silent}
 use Rattle.kernel_calls.proofs.calls.make.Goals as goal
