@@ -36,6 +36,7 @@ use Rattle.guest_turns.proofs.RunningField.{RunsIn}
 use Rattle.machine_parts.specs.declared.parts.Parts.{Parts}
 use Rattle.machine_parts.specs.Stands.{Stands}
 use Rattle.machine_parts.specs.Stops.{stop_of}
+use Rattle.machine_parts.proofs.PartsBeside.{stands-beside}
 use Rattle.kernel_steps.specs.ResidentSteps.{after_resident, console_parts, console_step, file_step, handler_step, pipe_step, reporter_step, resident_step, serves_pipes, shell_step, with_console_lines, with_disc, with_pipes}
 use Rattle.kernel_steps.specs.Step.{quietly, with_store}
 use Rattle.kernel_steps.proofs.HandledRules.{request-runs}
@@ -83,75 +84,6 @@ report-words s l = on (work l)
         by false = request-words unknown s l
 
 module _ (p : Parts) (k : Kernel) (st : Stands p k) where
-  -- the parts outside the store
-  stands-console : (console new : Console) (shell put : Shell) → console ≡ new → shell ≡ put → Stands (record p { console = console; shell = shell }) (record k { console = new; shell = put })
-  stands-console console new shell put e f = record {
-    full = st.full;
-    keeper = st.keeper;
-    image = record { size = st.image.size; holds = st.image.holds; plain = st.image.plain };
-    plain = record { size = st.plain.size; plain = st.plain.plain; owned = st.plain.owned };
-    regs = st.regs;
-    type_ahead = st.type_ahead;
-    disc = st.disc;
-    console = e;
-    shell = f;
-    pipes = st.pipes;
-    keys = st.keys;
-    steps = st.steps;
-    period = st.period;
-  }
-
-  stands-shell : (shell put : Shell) (disc new : Disc) → shell ≡ put → disc ≡ new → Stands (record p { shell = shell; disc = disc }) (record k { shell = put; disc = new })
-  stands-shell shell put disc new e f = record {
-    full = st.full;
-    keeper = st.keeper;
-    image = record { size = st.image.size; holds = st.image.holds; plain = st.image.plain };
-    plain = record { size = st.plain.size; plain = st.plain.plain; owned = st.plain.owned };
-    regs = st.regs;
-    type_ahead = st.type_ahead;
-    disc = f;
-    console = st.console;
-    shell = e;
-    pipes = st.pipes;
-    keys = st.keys;
-    steps = st.steps;
-    period = st.period;
-  }
-
-  stands-disc : (disc new : Disc) → disc ≡ new → Stands (record p { disc = disc }) (with_disc new k)
-  stands-disc disc new e = record {
-    full = st.full;
-    keeper = st.keeper;
-    image = record { size = st.image.size; holds = st.image.holds; plain = st.image.plain };
-    plain = record { size = st.plain.size; plain = st.plain.plain; owned = st.plain.owned };
-    regs = st.regs;
-    type_ahead = st.type_ahead;
-    disc = e;
-    console = st.console;
-    shell = st.shell;
-    pipes = st.pipes;
-    keys = st.keys;
-    steps = st.steps;
-    period = st.period;
-  }
-
-  stands-pipes : (pipes new : List (Option Pipe)) → pipes ≡ new → Stands (record p { pipes = pipes }) (with_pipes new k)
-  stands-pipes pipes new e = record {
-    full = st.full;
-    keeper = st.keeper;
-    image = record { size = st.image.size; holds = st.image.holds; plain = st.image.plain };
-    plain = record { size = st.plain.size; plain = st.plain.plain; owned = st.plain.owned };
-    regs = st.regs;
-    type_ahead = st.type_ahead;
-    disc = st.disc;
-    console = st.console;
-    shell = st.shell;
-    pipes = e;
-    keys = st.keys;
-    steps = st.steps;
-    period = st.period;
-  }
-
   -- the store is the image
   store-is : p.store ≡ image k
   store-is = image-list p.store k st.image
@@ -192,7 +124,7 @@ module _ (p : Parts) (k : Kernel) (st : Stands p k) where
           let l : Lists = x.standing.lists in
           let rest = turn-rest (image k) k.lists k.shell k.disc in
           let size : length t ≡ length p.store = omega (arith, now-shell.stands.keeper.lists.size, ap (λ (m : Lists). m.size) rest, st.keeper.lists.size) in
-          let same : Stands (record p { shell = shell; disc = disc }) (record k { shell = x.shell; disc = x.disc }) = stands-shell shell x.shell disc x.disc now-shell.shell now-shell.disc in
+          let same : Stands (record p { shell = shell; disc = disc }) (record k { shell = x.shell; disc = x.disc }) = stands-beside p k st st.console now-shell.shell now-shell.disc st.pipes in
           let left =
           stands-changed (record p { shell = shell; disc = disc }) (record k { shell = x.shell; disc = x.disc }) same t t marks p.regs l [] k.regs (cond x.finished (Some Finish) k.stop) size (changed-none t l now-shell.stands.keeper.lists)
           now-shell.stands.keeper.knows room st.regs (ap (λ (m : Lists). m.period) rest)
@@ -245,8 +177,7 @@ module _ (p : Parts) (k : Kernel) (st : Stands p k) where
           (subst (λ s. IsResidentTurn t (MarksAll marks) o n (turn_done s (all_parts id (begun p.store k.lists p.console line)))) store-is is)
           in
           let lines : Stands (record p { console = console; shell = shell }) (with_console_lines (console_parts k) k) =
-          stands-console console (console_parts k).console shell (record k.shell { line = (console_parts k).command }) (now ∙ ap (λ (g : Progress). g.console) parts-here)
-          (put ∙ (λ i. record (st.shell i) { line = (parts-here i).command }))
+          stands-beside p k st (now ∙ ap (λ (g : Progress). g.console) parts-here) (put ∙ (λ i. record (st.shell i) { line = (parts-here i).command })) st.disc st.pipes
           in
           leaves-resident (record p { console = console; shell = shell }) (with_console_lines (console_parts k) k) lines t marks o n (turn_done (image k) (console_parts k)) here store-size room
           (ap (λ x. x.period) (console-stands k r.can r.is).runs.numbers)
@@ -267,7 +198,7 @@ module _ (p : Parts) (k : Kernel) (st : Stands p k) where
         let here : IsResidentTurn t (MarksAll marks) o n m = subst (IsResidentTurn t (MarksAll marks) o n) (λ i. file_turn (st.disc i) (store-is i) k.lists) is in
         let new : Disc = disc_after_turn k.disc (image k) k.lists in
         subst (λ b. Leaves (record p { store = t; kinds = marks; disc = disc }) o n (cond b (pipe_step k) (file_step k))) (sym none)
-        (leaves-resident (record p { disc = disc }) (with_disc new k) (stands-disc disc new (after ∙ (λ i. disc_after_turn (st.disc i) (store-is i) k.lists))) t marks o n m here
+        (leaves-resident (record p { disc = disc }) (with_disc new k) (stands-beside p k st st.console st.shell (after ∙ (λ i. disc_after_turn (st.disc i) (store-is i) k.lists)) st.pipes) t marks o n m here
         (ap length (request-words (file_service k.disc) (image k) k.lists) ∙ store-size) room
         (ap (λ x. x.period) (request-runs (numbers_of k.lists) k.lists (now-runs 4 (λ e. cc) refl r) (file_service k.disc) (image k)).numbers))
 
@@ -278,6 +209,6 @@ module _ (p : Parts) (k : Kernel) (st : Stands p k) where
         let here : IsResidentTurn t (MarksAll marks) o n m = subst (IsResidentTurn t (MarksAll marks) o n) (λ i. pipe_turn (st.pipes i) (store-is i) k.lists) is in
         let new : List (Option Pipe) = pipes_after_turn k.pipes (image k) k.lists in
         subst (λ b. Leaves (record p { store = t; kinds = marks; pipes = pipes }) o n (cond b (pipe_step k) (file_step k))) (sym some)
-        (leaves-resident (record p { pipes = pipes }) (with_pipes new k) (stands-pipes pipes new (after ∙ (λ i. pipes_after_turn (st.pipes i) (store-is i) k.lists))) t marks o n m here
+        (leaves-resident (record p { pipes = pipes }) (with_pipes new k) (stands-beside p k st st.console st.shell st.disc (after ∙ (λ i. pipes_after_turn (st.pipes i) (store-is i) k.lists))) t marks o n m here
         (ap length (request-words (pipe_service k.pipes) (image k) k.lists) ∙ store-size) room
         (ap (λ x. x.period) (request-runs (numbers_of k.lists) k.lists (now-runs 4 (λ e. cc) refl r) (pipe_service k.pipes) (image k)).numbers))

@@ -23,7 +23,8 @@ use Rattle.kernel_boot.specs.EmptyKernel.{empty_lists}
 use Rattle.kernel_boot.specs.ResidentKernel.{packet_from, resident_lists, resident_tasks, waiting_resident}
 use Rattle.kernel_boot.proofs.LawfulLines.{boot-lines}
 use Rattle.text_reader.specs.Steps.{◌>>=◌}
-use Rattle.machine_boot.specs.Boot.{HasKernel, boot, first_kernel, first_lists, started, with_disc, with_files, with_lines, with_standing, with_tasks}
+use Rattle.kernel_steps.specs.ResidentSteps.{with_disc}
+use Rattle.machine_boot.specs.Boot.{HasKernel, boot, first_kernel, first_lists, started, with_files, with_lines, with_standing, with_tasks}
 use Rattle.machine_boot.specs.Booted.{CanLoad, CanStart, IsFresh}
 use Rattle.machine_boot.proofs.LoadedDiscs.{IsShutDisc, files-shut, no-stream}
 use Rattle.machine_boot.proofs.ReadyTasks.{IsReady, tasks-ready}

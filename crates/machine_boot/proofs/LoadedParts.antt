@@ -13,11 +13,13 @@ use Rattle.kernel_boot.specs.BootFiles.{IsNewDisc, load_files}
 use Rattle.kernel_boot.specs.BootTasks.{IsLeft, Standing, standing, start_tasks}
 use Rattle.kernel_boot.specs.declared.refusals.BootRefusal.{BootRefusal}
 use Rattle.text_reader.specs.Steps.{◌>>=◌}
+use Rattle.kernel_steps.specs.ResidentSteps.{with_disc}
 use Rattle.kernel_steps.specs.Stepped.{with_store}
 use Rattle.kernel_steps.proofs.StoredWords.{HasStore, stored}
 use Rattle.machine_parts.specs.declared.parts.Parts.{Parts}
 use Rattle.machine_parts.specs.Stands.{Stands}
-use Rattle.machine_boot.specs.Boot.{with_disc, with_files, with_lines, with_standing, with_tasks}
+use Rattle.machine_parts.proofs.PartsBeside.{stands-beside}
+use Rattle.machine_boot.specs.Boot.{with_files, with_lines, with_standing, with_tasks}
 use Rattle.machine_boot.specs.Booted.{CanStart, IsReached}
 use Rattle.machine_boot.proofs.ReadyTasks.{IsReady, tasks-ready}
 
@@ -27,24 +29,7 @@ module _ (p : Parts) (k : Kernel) (h : Stands p k) (lines : List SessionLine) wh
   pub files-reached : (d : Disc) (r : Result (Unit {0}) BootRefusal) → IsNewDisc d r (load_files p.disc lines) → IsReached (record p { disc = d }) r (with_files lines k)
   unfolding with_files
   files-reached d (Ok u) is =
-      (with_disc d k, ap (λ e. load_files e lines >>= (λ d. Ok (with_disc d k))) (sym h.disc) ∙ ap (λ x. x >>= (λ d. Ok (with_disc d k))) is, stands)
-    where
-      stands : Stands (record p { disc = d }) (with_disc d k)
-      stands = record {
-        full = h.full;
-        keeper = h.keeper;
-        image = record { size = h.image.size; holds = h.image.holds; plain = h.image.plain };
-        plain = record { size = h.plain.size; plain = h.plain.plain; owned = h.plain.owned };
-        regs = h.regs;
-        type_ahead = h.type_ahead;
-        disc = refl;
-        console = h.console;
-        shell = h.shell;
-        pipes = h.pipes;
-        keys = h.keys;
-        steps = h.steps;
-        period = h.period;
-      }
+      (with_disc d k, ap (λ e. load_files e lines >>= (λ d. Ok (with_disc d k))) (sym h.disc) ∙ ap (λ x. x >>= (λ d. Ok (with_disc d k))) is, stands-beside p k h h.console h.shell refl h.pipes)
   files-reached d (Err refusal) is =
       ap (λ e. load_files e lines >>= (λ d. Ok (with_disc d k))) (sym h.disc) ∙ ap (λ x. x >>= (λ d. Ok (with_disc d k))) is
 

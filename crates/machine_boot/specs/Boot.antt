@@ -1,6 +1,6 @@
 -- What a session puts into a machine with a kernel before its first step.
 use Rattle.std.specs.Prelude.{◌≡◌, false, if◌then◌else◌, None, List, [], Result, Ok, replicate}
-use Rattle.ram_disc.specs.Disc.{Disc, empty_disc}
+use Rattle.ram_disc.specs.Disc.{empty_disc}
 use Rattle.text_reader.specs.Steps.{◌>>=◌}
 use Rattle.session_text.specs.Canonical.{IsLawful}
 use Rattle.session_text.specs.declared.sessions.Session.{Session}
@@ -16,6 +16,7 @@ use Rattle.kernel_boot.specs.BootTasks.{Standing, standing, start_tasks}
 use Rattle.kernel_boot.specs.EmptyKernel.{empty_lists}
 use Rattle.kernel_boot.specs.ResidentKernel.{resident_lists}
 use Rattle.kernel_boot.specs.declared.refusals.BootRefusal.{BootRefusal}
+use Rattle.kernel_steps.specs.ResidentSteps.{with_disc}
 use Rattle.kernel_steps.specs.Step.{dispatch, first_events}
 use Rattle.kernel_steps.specs.Stepped.{Stepped, behind, with_store}
 
@@ -46,9 +47,6 @@ first_kernel s = record {
 }
 
 -- the lines' files are on the disc
-abbrev pub with_disc : Disc → Kernel → Kernel
-with_disc d k = record k { disc = d }
-
 unfoldable pub with_files : List SessionLine → Kernel → Result Kernel BootRefusal
 with_files lines k = do
   d ← load_files k.disc lines
