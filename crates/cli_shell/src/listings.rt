@@ -1,5 +1,5 @@
 // The shell lists the files, the tasks and the blocks.
-ghost use Rattle.std.specs.Prelude.{◌≡◌, ◌+◌, ◌≤◌, false, length};
+ghost use Rattle.std.specs.Prelude.{◌+◌, ◌≤◌, false, length};
 ghost use Rattle.call_answers.specs.Outside.{outside};
 ghost use Rattle.ram_disc.specs.Disc.{Disc, IsDisc};
 ghost use Rattle.cli_shell.specs.DoneParts.{IsDone, IsReady, Start};

@@ -1,5 +1,5 @@
 // The shell prompts, also after it has told the code of a refusal.
-ghost use Rattle.std.specs.Prelude.{◌≡◌, ◌+◌, ◌≤◌, false, length};
+ghost use Rattle.std.specs.Prelude.{◌+◌, ◌≤◌, false, length};
 ghost use Rattle.call_answers.specs.Outside.{outside};
 ghost use Rattle.ram_disc.specs.Disc.{Disc};
 ghost use Rattle.cli_shell.specs.DoneParts.{IsDone, IsReady, Start};

@@ -1,7 +1,7 @@
 // The shell types a file, piece after piece.
 ghost use Rattle.std.specs.Prelude.{◌≡◌, ◌+◌, ◌++◌, ◌≤◌, false, length, None};
 ghost use Rattle.call_answers.specs.Outside.{outside};
-ghost use Rattle.ram_disc.specs.Disc.{Disc, IsDisc, shell_stream, stream_at};
+ghost use Rattle.ram_disc.specs.Disc.{Disc, shell_stream, stream_at};
 ghost use Rattle.cli_shell.specs.DoneParts.{IsDone, IsReady, Start};
 ghost use Rattle.cli_shell.specs.TurnParts.{ShellTurn};
 ghost use Rattle.cli_shell.specs.TypedFiles.{after_piece, goes_on, is_typed, next_piece, typed, with_file_typed, with_stream_closed};

@@ -1,5 +1,5 @@
 // A key comes.
-ghost use Rattle.std.specs.Prelude.{◌≡◌, ◌+◌, ◌≤◌, List, length, ℕ};
+ghost use Rattle.std.specs.Prelude.{◌+◌, ◌≤◌, List, length, ℕ};
 ghost use Rattle.call_answers.specs.Outside.{outside};
 ghost use Rattle.console_handler.specs.ConsoleTurn.{with_key};
 ghost use Rattle.console_handler.specs.KeyPacket.{FindsKeys};

@@ -1,5 +1,5 @@
 // A turn of the task that reports faults.
-ghost use Rattle.std.specs.Prelude.{◌≡◌, ◌+◌, ◌≤◌, ◌++◌, ℕ, List, [], ◌∷◌, length};
+ghost use Rattle.std.specs.Prelude.{◌≡◌, ◌+◌, ◌++◌, [], ◌∷◌};
 ghost use Rattle.word_store.specs.Arithmetic.{signed};
 ghost use Rattle.packet_queue.specs.declared.events.KernelEvent.TheVariants.{Taken};
 ghost use Rattle.kernel_model.specs.ChangedStore.{HasKeeper};

@@ -6,7 +6,7 @@ ghost use Rattle.call_answers.specs.Callers.{HasCaller};
 ghost use Rattle.call_answers.specs.Made.{IsMade, plain_answer};
 ghost use Rattle.task_calls.specs.CreateTask.{create_task};
 ghost use Rattle.call_answers.specs.Outside.{outside};
-ghost use Rattle.kernel_calls.specs.Calls.{IsCalled, answered, kernel_call, made, past_call, regs_of_switch};
+ghost use Rattle.kernel_calls.specs.Calls.{IsCalled, answered, kernel_call, made, regs_of_switch};
 
 use crate::requests::{CallOutcome, KernelCall, read_call};
 use block_calls::{freevec, getvec};

@@ -1,5 +1,5 @@
 // The devices and dispatch.
-ghost use Rattle.std.specs.Prelude.{◌≡◌, ◌<◌, length};
+ghost use Rattle.std.specs.Prelude.{◌<◌, length};
 ghost use Rattle.kernel_model.specs.Kernel.{Kernel};
 ghost use Rattle.kernel_dispatch.specs.Dispatch.{CanDispatch};
 ghost use Rattle.call_answers.specs.Outside.{outside};

@@ -1,5 +1,5 @@
 // The turns of the residents.
-ghost use Rattle.std.specs.Prelude.{◌≡◌, ◌<◌, ◌^◌, ◌≤◌, ℕ, [], length, slice_index};
+ghost use Rattle.std.specs.Prelude.{◌≡◌, ◌<◌, ◌^◌, ℕ, [], length, slice_index};
 ghost use Rattle.std.specs.Option.{option_map};
 ghost use Rattle.ram_disc.specs.Disc.{IsDisc};
 ghost use Rattle.kernel_model.specs.HoldsLists.{HoldsLists};
@@ -9,7 +9,7 @@ ghost use Rattle.call_answers.specs.Outside.{outside};
 ghost use Rattle.resident_requests.specs.Requests.{RunsResident};
 ghost use Rattle.machine_parts.specs.Stands.{Stands};
 ghost use Rattle.machine_parts.specs.Stops.{stop_of};
-ghost use Rattle.kernel_steps.specs.ResidentSteps.{console_step, file_step, handler_step, pipe_step, reporter_step, resident_step, serves_pipes, shell_step};
+ghost use Rattle.kernel_steps.specs.ResidentSteps.{console_step, handler_step, reporter_step, resident_step, serves_pipes, shell_step};
 ghost use Rattle.kernel_machine.specs.Leaves.{Leaves, RunsNumber, RunsNoGuest};
 
 use bare_machine::Stop;
