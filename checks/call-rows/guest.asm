@@ -2,7 +2,7 @@
 ; " = " and A, or " code " and B. Where another task goes on than the one that wrote last, it writes that task's number first.
 ; A row is four words: the number, and three arguments. Behind the numbers of the kernel's calls stand those of the guest itself:
 ; 24 writes a word, 25 looks at one, 26 returns, and from 30 on the file handler is asked, with the type 20 less.
-start:      SL$ pa             ; what came back
+start:      SL$ pa              ; what came back
             XCH
             SL$ pb
             L 102               ; the number of the task that runs
@@ -51,7 +51,7 @@ newline:    L 10
             L 19
             SP3
             SYS
-            LL$ prow           ; the next row
+            LL$ prow            ; the next row
             RV
             SL$ pop
             LL$ pop
@@ -67,7 +67,7 @@ newline:    L 10
             LF$ pnamed
             SL$ pback
             J$ pputs
-named:      LL$ pentry         ; its arguments, as many as the call has
+named:      LL$ pentry          ; its arguments, as many as the call has
             RV1
             SL$ pleft
             LL$ prow
