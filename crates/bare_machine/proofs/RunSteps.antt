@@ -4,8 +4,8 @@ use Rattle.std.specs.Option.{option_to_list}
 use Rattle.word_store.specs.declared.registers.Regs.{Regs}
 use Rattle.cint_exec.specs.declared.Outcome.{Outcome}
 use Rattle.cint_exec.specs.declared.Outcome.TheVariants.{Next, Sys, Returned, Fault as Faulted}
-use Rattle.bare_machine.specs.declared.stops.Stop.{Stop}
-use Rattle.bare_machine.specs.declared.stops.Stop.TheVariants.{Steps}
+use Rattle.session_text.specs.KernelDispatch.KernelModel.declared.stops.Stop.{Stop}
+use Rattle.session_text.specs.KernelDispatch.KernelModel.declared.stops.Stop.TheVariants.{Steps}
 use Rattle.bare_machine.specs.declared.bare.Step.{Step}
 use Rattle.bare_machine.specs.Bare.{AfterStep, after_instruction, step}
 use Rattle.bare_machine.specs.Step.{IsStep}

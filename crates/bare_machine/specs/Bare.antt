@@ -5,8 +5,8 @@ use Rattle.cint_exec.specs.declared.Fault.{Fault}
 use Rattle.cint_exec.specs.declared.Outcome.{Outcome}
 use Rattle.cint_exec.specs.declared.Outcome.TheVariants.{Next, Sys, Returned, Fault as Faulted}
 use Rattle.cint_exec.specs.Instruction.{instruction}
-use Rattle.bare_machine.specs.declared.stops.Stop.{Stop}
-use Rattle.bare_machine.specs.declared.stops.Stop.TheVariants.{Quit, Fault as Stopped}
+use Rattle.session_text.specs.KernelDispatch.KernelModel.declared.stops.Stop.{Stop}
+use Rattle.session_text.specs.KernelDispatch.KernelModel.declared.stops.Stop.TheVariants.{Quit, Fault as Stopped}
 use Rattle.bare_machine.specs.declared.calls.CallAnswer.{CallAnswer}
 use Rattle.bare_machine.specs.Calls.{call_answer}
 

@@ -2,7 +2,7 @@
 use Rattle.std.specs.Prelude.{ℕ, ◌≡◌, ◌+◌, ◌*◌, List, [], ◌∷◌, length, Result, Ok, Err, nat_le, replicate, if◌then◌else◌}
 use Rattle.word_store.specs.Bytes.{set_byte_at}
 use Rattle.word_store.specs.declared.registers.Regs.{Regs}
-use Rattle.text_reader.specs.Refusal.{Refusal, refusal}
+use Rattle.hunk_text.specs.TextReader.Refusal.{Refusal, refusal}
 use Rattle.session_text.specs.declared.sessions.Session.{Session}
 use Rattle.session_text.specs.declared.sessions.SessionLine.{SessionLine}
 use Rattle.session_text.specs.declared.sessions.LineForm.{LineForm}

@@ -5,8 +5,8 @@ ghost use Rattle.bare_machine.specs.Bare.{after_call, after_instruction, step};
 ghost use Rattle.bare_machine.specs.Step.{IsStep};
 
 use crate::calls::call;
-use crate::stops::Stop;
 use cint_exec::{Fault, NoKernel, Outcome, execute};
+use session_text::Stop;
 use word_store::{Regs, Store};
 
 /// What one step wrote to the console, and why the machine has stopped, if it has.

@@ -3,8 +3,8 @@ ghost use Rattle.std.specs.Prelude.{◌≡◌, ◌<◌};
 ghost use Rattle.bare_machine.specs.Calls.{argument, call_answer, regs_after};
 ghost use Rattle.bare_machine.specs.Calls.{multiply_divide, quit, write_character};
 
-use crate::stops::Stop;
 use cint_exec::Fault;
+use session_text::Stop;
 use word_store::{Regs, Store, add, mul_div};
 
 /// What a call leaves: new registers, the byte for the console, and why the machine has stopped.

@@ -6,7 +6,5 @@ pub mod boot;
 pub mod calls;
 pub mod laws;
 pub mod run;
-pub mod stops;
 
 pub use bare::{Bare, Step};
-pub use stops::Stop;

@@ -6,8 +6,8 @@ ghost use Rattle.tp_io.specs.Write.{HasCause};
 ghost use Rattle.bare_machine.specs.Run.{HasPassed, IsRunEnd, run};
 
 use crate::bare::Bare;
-use crate::stops::Stop;
 use cint_exec::Outcome;
+use session_text::Stop;
 use tp_io::{Output, Sink, SinkFault, gather};
 
 /// At most n steps, whose console bytes are gathered. The answer is the number of steps taken, and why the machine has

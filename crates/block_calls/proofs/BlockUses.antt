@@ -4,25 +4,25 @@ use Rattle.std.specs.Prelude.{is_some}
 use Rattle.std.specs.List.{AllByRecursion, flat_map, list_any}
 use Rattle.std.proofs.lemmas.Bool.{false≢true}
 use Rattle.std.proofs.lemmas.List.Folds.{list_any-append}
-use Rattle.linked_list.specs.Places.{has}
-use Rattle.getvec_chain.specs.declared.pieces.Block.{Block}
-use Rattle.getvec_chain.specs.Block.{is_used_at}
-use Rattle.getvec_chain.specs.Tiling.{blocks_in, holding, used_at}
-use Rattle.getvec_chain.proofs.UsedBlocks.{is_used_at-true}
-use Rattle.hunk_loader.specs.HeldModules.{module_address}
-use Rattle.task_block.specs.Lists.{coroutines_in}
-use Rattle.task_block.specs.TaskChain.{tasks_in}
-use Rattle.kernel_model.specs.BlockUse.{Use, coroutine_addresses, use_of_data}
-use Rattle.kernel_model.specs.BlockUse.Use.{Free, OfCoroutine, OfModule, OfResidents, OfTask, User}
-use Rattle.kernel_model.specs.HoldsLists.{HoldsLists}
-use Rattle.kernel_model.specs.KernelRanges.{has_residents}
-use Rattle.kernel_model.specs.Lists.{Lists}
-use Rattle.kernel_model.specs.Task.{Task, task_address}
-use Rattle.kernel_model.proofs.BlockStarts.{holding-used_at}
-use Rattle.kernel_model.proofs.EachMember.{find-passes}
-use Rattle.kernel_model.proofs.FollowedBlocks.{IsWithin, found-holding, found-within}
-use Rattle.kernel_model.proofs.ListRanges.{TaskReads}
-use Rattle.kernel_model.proofs.WalkedLists.{residents-read, tasks-read}
+use Rattle.call_answers.specs.KernelDispatch.LinkedList.Places.{has}
+use Rattle.call_answers.specs.KernelDispatch.GetvecChain.declared.pieces.Block.{Block}
+use Rattle.call_answers.specs.KernelDispatch.GetvecChain.Block.{is_used_at}
+use Rattle.call_answers.specs.KernelDispatch.GetvecChain.Tiling.{blocks_in, holding, used_at}
+use Rattle.call_answers.proofs.Shown.KernelDispatch.GetvecChain.UsedBlocks.{is_used_at-true}
+use Rattle.call_answers.specs.KernelDispatch.HunkLoader.HeldModules.{module_address}
+use Rattle.call_answers.specs.KernelDispatch.TaskBlock.Lists.{coroutines_in}
+use Rattle.call_answers.specs.KernelDispatch.TaskBlock.TaskChain.{tasks_in}
+use Rattle.call_answers.specs.KernelDispatch.KernelModel.BlockUse.{Use, coroutine_addresses, use_of_data}
+use Rattle.call_answers.specs.KernelDispatch.KernelModel.BlockUse.Use.{Free, OfCoroutine, OfModule, OfResidents, OfTask, User}
+use Rattle.call_answers.specs.KernelDispatch.KernelModel.HoldsLists.{HoldsLists}
+use Rattle.call_answers.specs.KernelDispatch.KernelModel.KernelRanges.{has_residents}
+use Rattle.call_answers.specs.KernelDispatch.KernelModel.Lists.{Lists}
+use Rattle.call_answers.specs.KernelDispatch.KernelModel.Task.{Task, task_address}
+use Rattle.call_answers.proofs.Shown.KernelDispatch.KernelModel.BlockStarts.{holding-used_at}
+use Rattle.call_answers.proofs.Shown.KernelDispatch.KernelModel.EachMember.{find-passes}
+use Rattle.call_answers.proofs.Shown.KernelDispatch.KernelModel.FollowedBlocks.{IsWithin, found-holding, found-within}
+use Rattle.call_answers.proofs.Shown.KernelDispatch.KernelModel.ListRanges.{TaskReads}
+use Rattle.call_answers.proofs.Shown.KernelDispatch.KernelModel.WalkedLists.{residents-read, tasks-read}
 use Rattle.call_answers.proofs.FoundTask.{reads}
 use Rattle.block_calls.specs.Freevec.{IsUsersBlock, is_user, is_users_block}
 

@@ -3,18 +3,18 @@ use Rattle.std.proofs.Common.{◌≡◌, ◌≢◌, ℕ, ◌+◌, ◌-◌, List,
 use Rattle.std.specs.Prelude.{◌&&◌, is_some}
 use Rattle.std.specs.List.{list_any}
 use Rattle.std.proofs.lemmas.Bool.{ne_eqb}
-use Rattle.getvec_chain.specs.declared.pieces.Block.{Block}
-use Rattle.getvec_chain.specs.Block.{block_end, is_used_at}
-use Rattle.getvec_chain.specs.Give.{given_store}
-use Rattle.getvec_chain.proofs.UsedBlocks.{is_used_at-true}
-use Rattle.kernel_model.specs.BlockUse.{use_of_data}
-use Rattle.kernel_model.specs.BlockUse.Use.{User}
-use Rattle.kernel_model.specs.ChangedStore.{HasKeeper}
-use Rattle.kernel_model.specs.Changes.{AreUnowned, IsIdleBlock}
-use Rattle.kernel_model.specs.Lists.{Lists, queued}
-use Rattle.kernel_model.proofs.ChangedLists.{changed-none, knows-same}
-use Rattle.kernel_model.proofs.EachMember.{find-passes}
-use Rattle.kernel_model.proofs.FollowedBlocks.{IsWithin, found-within}
+use Rattle.call_answers.specs.KernelDispatch.GetvecChain.declared.pieces.Block.{Block}
+use Rattle.call_answers.specs.KernelDispatch.GetvecChain.Block.{block_end, is_used_at}
+use Rattle.call_answers.specs.KernelDispatch.GetvecChain.Give.{given_store}
+use Rattle.call_answers.proofs.Shown.KernelDispatch.GetvecChain.UsedBlocks.{is_used_at-true}
+use Rattle.call_answers.specs.KernelDispatch.KernelModel.BlockUse.{use_of_data}
+use Rattle.call_answers.specs.KernelDispatch.KernelModel.BlockUse.Use.{User}
+use Rattle.call_answers.specs.KernelDispatch.KernelModel.ChangedStore.{HasKeeper}
+use Rattle.call_answers.specs.KernelDispatch.KernelModel.Changes.{AreUnowned, IsIdleBlock}
+use Rattle.call_answers.specs.KernelDispatch.KernelModel.Lists.{Lists, queued}
+use Rattle.call_answers.proofs.Shown.KernelDispatch.KernelModel.ChangedLists.{changed-none, knows-same}
+use Rattle.call_answers.proofs.Shown.KernelDispatch.KernelModel.EachMember.{find-passes}
+use Rattle.call_answers.proofs.Shown.KernelDispatch.KernelModel.FollowedBlocks.{IsWithin, found-within}
 use Rattle.call_answers.specs.Made.{IsMade, Made, done, minus_one, unless_refused}
 use Rattle.call_answers.specs.Refusals.{first_refusal}
 use Rattle.call_answers.proofs.MadeCalls.{made-accepted, made-refused}

@@ -2,34 +2,34 @@
 use Rattle.std.proofs.Common.{◌≡◌, ℕ, ◌+◌, ◌-◌, ◌<◌, ◌||◌, List, [], ◌∷◌, ◌++◌, eqb, Bool, true, false, Option, Some, refl, sym, ap, ◌∙◌, arith}
 use Rattle.std.specs.List.{AllByRecursion, flat_map, list_any, range_with_len}
 use Rattle.std.proofs.lemmas.Bool.{eq-eqb}
-use Rattle.linked_list.specs.Count.{hit}
-use Rattle.owned_words.specs.Owned.{owners}
-use Rattle.getvec_chain.specs.declared.pieces.Block.{Block}
-use Rattle.getvec_chain.specs.Block.{block_end, free_block, has_data, is_used_at}
-use Rattle.getvec_chain.specs.BlockWords.{blocks_words}
-use Rattle.getvec_chain.specs.Give.{given}
-use Rattle.getvec_chain.specs.Tiling.{Follow, holding, used_at}
-use Rattle.getvec_chain.proofs.Splits.{GiveSplit, give_split}
-use Rattle.getvec_chain.proofs.UsedBlocks.{has_data-true, is_used_at-true}
-use Rattle.packet_queue.specs.QueueWords.{QueuedPacket}
-use Rattle.linked_list.proofs.AllMembers.{all-append}
-use Rattle.kernel_model.specs.BlockUse.{use_of_data}
-use Rattle.kernel_model.specs.BlockUse.Use.{User}
-use Rattle.kernel_model.specs.Changes.{AreUnowned, IsIdleBlock, with_blocks}
-use Rattle.kernel_model.specs.Lists.{Lists, queued}
-use Rattle.kernel_model.specs.Owned.{owned}
-use Rattle.kernel_model.specs.ValidBlocks.{AreData}
-use Rattle.kernel_model.specs.ValidLists.{AreValid}
-use Rattle.kernel_model.specs.ValidQueues.Place.{Clock, Keyboard, Output, Pending, Work}
-use Rattle.kernel_model.proofs.AllThings.{all-fail, any-found}
-use Rattle.kernel_model.proofs.BlockStarts.{store-Tiles, store_of}
-use Rattle.kernel_model.proofs.DataLaw.{free-data}
-use Rattle.kernel_model.proofs.EachMember.{all-each, find-passes}
-use Rattle.kernel_model.proofs.FollowedBlocks.{found-holding}
-use Rattle.kernel_model.proofs.GivenBlocks.{given-valid}
-use Rattle.kernel_model.proofs.OwnedPackets.{queued-owned}
-use Rattle.kernel_model.proofs.OwnerCounts.{owned-blocks}
-use Rattle.kernel_model.proofs.UsedData.{lodged}
+use Rattle.word_store.specs.Count.{hit}
+use Rattle.call_answers.specs.KernelDispatch.OwnedWords.Owned.{owners}
+use Rattle.call_answers.specs.KernelDispatch.GetvecChain.declared.pieces.Block.{Block}
+use Rattle.call_answers.specs.KernelDispatch.GetvecChain.Block.{block_end, free_block, has_data, is_used_at}
+use Rattle.call_answers.specs.KernelDispatch.GetvecChain.BlockWords.{blocks_words}
+use Rattle.call_answers.specs.KernelDispatch.GetvecChain.Give.{given}
+use Rattle.call_answers.specs.KernelDispatch.GetvecChain.Tiling.{Follow, holding, used_at}
+use Rattle.call_answers.proofs.Shown.KernelDispatch.GetvecChain.Splits.{GiveSplit, give_split}
+use Rattle.call_answers.proofs.Shown.KernelDispatch.GetvecChain.UsedBlocks.{has_data-true, is_used_at-true}
+use Rattle.call_answers.specs.KernelDispatch.PacketQueue.QueueWords.{QueuedPacket}
+use Rattle.call_answers.proofs.Shown.KernelDispatch.LinkedList.AllMembers.{all-append}
+use Rattle.call_answers.specs.KernelDispatch.KernelModel.BlockUse.{use_of_data}
+use Rattle.call_answers.specs.KernelDispatch.KernelModel.BlockUse.Use.{User}
+use Rattle.call_answers.specs.KernelDispatch.KernelModel.Changes.{AreUnowned, IsIdleBlock, with_blocks}
+use Rattle.call_answers.specs.KernelDispatch.KernelModel.Lists.{Lists, queued}
+use Rattle.call_answers.specs.KernelDispatch.KernelModel.Owned.{owned}
+use Rattle.call_answers.specs.KernelDispatch.KernelModel.ValidBlocks.{AreData}
+use Rattle.call_answers.specs.KernelDispatch.KernelModel.ValidLists.{AreValid}
+use Rattle.call_answers.specs.KernelDispatch.KernelModel.ValidQueues.Place.{Clock, Keyboard, Output, Pending, Work}
+use Rattle.call_answers.proofs.Shown.KernelDispatch.KernelModel.AllThings.{all-fail, any-found}
+use Rattle.call_answers.proofs.Shown.KernelDispatch.KernelModel.BlockStarts.{store-Tiles, store_of}
+use Rattle.call_answers.proofs.Shown.KernelDispatch.KernelModel.DataLaw.{free-data}
+use Rattle.call_answers.proofs.Shown.KernelDispatch.KernelModel.EachMember.{all-each, find-passes}
+use Rattle.call_answers.proofs.Shown.KernelDispatch.KernelModel.FollowedBlocks.{found-holding}
+use Rattle.call_answers.proofs.Shown.KernelDispatch.KernelModel.GivenBlocks.{given-valid}
+use Rattle.call_answers.proofs.Shown.KernelDispatch.KernelModel.OwnedPackets.{queued-owned}
+use Rattle.call_answers.proofs.Shown.KernelDispatch.KernelModel.OwnerCounts.{owned-blocks}
+use Rattle.call_answers.proofs.Shown.KernelDispatch.KernelModel.UsedData.{lodged}
 use Rattle.block_calls.specs.Freevec.{lies_in}
 
 -- ---- an idle block

@@ -3,21 +3,21 @@ use Rattle.std.proofs.Common.{◌≡◌, ℕ, zero, suc, ◌+◌, ◌-◌, ◌<�
 use Rattle.std.proofs.lemmas.Bool.{and_parts, cases_eq, cases_lt, le-ltb, lt-ltb}
 use Rattle.std.proofs.lemmas.Bool.Decides.{nat_tests}
 use Rattle.std.proofs.lemmas.Grind.{flat_map-append}
-use Rattle.linked_list.specs.Count.{hit, times}
-use Rattle.linked_list.proofs.Counts.{hit-other, hit-same}
-use Rattle.owned_words.specs.Owned.{owners}
-use Rattle.owned_words.proofs.OwnedWords.{owners-append}
-use Rattle.getvec_chain.specs.declared.pieces.Block.{Block}
-use Rattle.getvec_chain.specs.declared.pieces.Run.{Run}
-use Rattle.getvec_chain.specs.Block.{block_end}
-use Rattle.getvec_chain.specs.BlockWords.{block_words, blocks_words}
-use Rattle.getvec_chain.specs.Run.{AreFree, begins_run, first_run, run_size}
-use Rattle.getvec_chain.specs.Take.{left_over}
-use Rattle.getvec_chain.specs.Tiling.{Follow, IsTiledFrom, Tiles, blocks_from}
-use Rattle.getvec_chain.proofs.Runs.{first_run-found}
-use Rattle.getvec_chain.proofs.Tilings.{blocks_from-is}
-use Rattle.kernel_model.proofs.BlockStarts.{InFree, in-free, starts-once, starts-within}
-use Rattle.kernel_model.proofs.FollowedBlocks.{member-data}
+use Rattle.word_store.specs.Count.{hit, times}
+use Rattle.word_store.proofs.Counts.{hit-other, hit-same}
+use Rattle.call_answers.specs.KernelDispatch.OwnedWords.Owned.{owners}
+use Rattle.call_answers.proofs.Shown.KernelDispatch.OwnedWords.OwnedWords.{owners-append}
+use Rattle.call_answers.specs.KernelDispatch.GetvecChain.declared.pieces.Block.{Block}
+use Rattle.call_answers.specs.KernelDispatch.GetvecChain.declared.pieces.Run.{Run}
+use Rattle.call_answers.specs.KernelDispatch.GetvecChain.Block.{block_end}
+use Rattle.call_answers.specs.KernelDispatch.GetvecChain.BlockWords.{block_words, blocks_words}
+use Rattle.call_answers.specs.KernelDispatch.GetvecChain.Run.{AreFree, begins_run, first_run, run_size}
+use Rattle.call_answers.specs.KernelDispatch.GetvecChain.Take.{left_over}
+use Rattle.call_answers.specs.KernelDispatch.GetvecChain.Tiling.{Follow, IsTiledFrom, Tiles, blocks_from}
+use Rattle.call_answers.proofs.Shown.KernelDispatch.GetvecChain.Runs.{first_run-found}
+use Rattle.call_answers.proofs.Shown.KernelDispatch.GetvecChain.Tilings.{blocks_from-is}
+use Rattle.call_answers.proofs.Shown.KernelDispatch.KernelModel.BlockStarts.{InFree, in-free, starts-once, starts-within}
+use Rattle.call_answers.proofs.Shown.KernelDispatch.KernelModel.FollowedBlocks.{member-data}
 use Rattle.block_calls.specs.JoinedStarts.{joined_start, joined_starts, rest_start}
 
 module _ (run : Run) (a : ℕ) where

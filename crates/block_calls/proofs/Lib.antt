@@ -5,3 +5,4 @@ pub mod TakenBlock
 pub mod IdleBlocks
 pub mod BlockUses
 pub mod GivenBlock
+pub mod Shown

@@ -1,12 +1,12 @@
 -- What the call that takes a block makes.
 use Rattle.std.proofs.Common.{◌≡◌, ℕ, List, [], cond, Some, None, Ok, Err, sym, ap, ◌∙◌}
 use Rattle.std.specs.Prelude.{is_some}
-use Rattle.getvec_chain.specs.Run.{first_run, need}
-use Rattle.getvec_chain.specs.Take.{IsTaken}
-use Rattle.getvec_chain.specs.Tiling.{blocks_in}
-use Rattle.kernel_model.specs.ChangedStore.{Knows}
-use Rattle.kernel_model.specs.HoldsLists.{HoldsLists}
-use Rattle.kernel_model.specs.Lists.{Lists}
+use Rattle.call_answers.specs.KernelDispatch.GetvecChain.Run.{first_run, need}
+use Rattle.call_answers.specs.KernelDispatch.GetvecChain.Take.{IsTaken}
+use Rattle.call_answers.specs.KernelDispatch.GetvecChain.Tiling.{blocks_in}
+use Rattle.call_answers.specs.KernelDispatch.KernelModel.ChangedStore.{Knows}
+use Rattle.call_answers.specs.KernelDispatch.KernelModel.HoldsLists.{HoldsLists}
+use Rattle.call_answers.specs.KernelDispatch.KernelModel.Lists.{Lists}
 use Rattle.call_answers.specs.Made.{IsMade, Made}
 use Rattle.call_answers.proofs.FoundTask.{reads}
 use Rattle.call_answers.proofs.MadeCalls.{made-accepted, made-refused}

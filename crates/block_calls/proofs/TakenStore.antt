@@ -1,29 +1,29 @@
 -- A store of the kernel's in which a block is taken, and one in which a block is given back.
 use Rattle.std.proofs.Common.{◌≡◌, ℕ, ◌+◌, List, [], ◌∷◌, Some, refl, sym, ap, ◌∙◌, subst, arith}
-use Rattle.owned_words.specs.Exchange.{Exchange}
-use Rattle.owned_words.specs.Owned.{Pairs, owners}
-use Rattle.owned_words.proofs.Exchanges.{exchange-left, exchange-right}
-use Rattle.getvec_chain.specs.declared.pieces.Block.{Block}
-use Rattle.getvec_chain.specs.declared.pieces.Run.{Run}
-use Rattle.getvec_chain.specs.BlockWords.{GiveExchange, TakeExchange, blocks_words, taken_words}
-use Rattle.getvec_chain.specs.Give.{given, given_store}
-use Rattle.getvec_chain.specs.Run.{first_run, need}
-use Rattle.getvec_chain.specs.Take.{IsTaken, taken}
-use Rattle.getvec_chain.specs.Tiling.{blocks_in, used_at}
-use Rattle.getvec_chain.proofs.AfterGive.{after_give}
-use Rattle.getvec_chain.proofs.AfterTake.{after_take}
-use Rattle.getvec_chain.proofs.BlockExchanges.{give-exchange, take-exchange}
-use Rattle.kernel_model.specs.ChangedStore.{IsChanged}
-use Rattle.kernel_model.specs.Changes.{AreUnowned, IsIdleBlock, with_blocks}
-use Rattle.kernel_model.specs.HoldsLists.{HoldsLists}
-use Rattle.kernel_model.specs.Lists.{Lists, address_of_task}
-use Rattle.kernel_model.specs.Owned.{owned}
-use Rattle.kernel_model.specs.ReadsLists.{ReadsLists}
-use Rattle.kernel_model.specs.Root.{root_words}
-use Rattle.kernel_model.specs.ValidBlocks.{HasBlock}
-use Rattle.kernel_model.proofs.ChangedLists.{exchange-owned, owners-exchanged}
-use Rattle.kernel_model.proofs.GivenBlocks.{given-valid}
-use Rattle.kernel_model.proofs.TakenBlocks.{take-valid, taken-block, taken-unowned}
+use Rattle.call_answers.specs.KernelDispatch.OwnedWords.Exchange.{Exchange}
+use Rattle.call_answers.specs.KernelDispatch.OwnedWords.Owned.{Pairs, owners}
+use Rattle.call_answers.proofs.Shown.KernelDispatch.OwnedWords.Exchanges.{exchange-left, exchange-right}
+use Rattle.call_answers.specs.KernelDispatch.GetvecChain.declared.pieces.Block.{Block}
+use Rattle.call_answers.specs.KernelDispatch.GetvecChain.declared.pieces.Run.{Run}
+use Rattle.call_answers.specs.KernelDispatch.GetvecChain.BlockWords.{GiveExchange, TakeExchange, blocks_words, taken_words}
+use Rattle.call_answers.specs.KernelDispatch.GetvecChain.Give.{given, given_store}
+use Rattle.call_answers.specs.KernelDispatch.GetvecChain.Run.{first_run, need}
+use Rattle.call_answers.specs.KernelDispatch.GetvecChain.Take.{IsTaken, taken}
+use Rattle.call_answers.specs.KernelDispatch.GetvecChain.Tiling.{blocks_in, used_at}
+use Rattle.call_answers.proofs.Shown.KernelDispatch.GetvecChain.AfterGive.{after_give}
+use Rattle.call_answers.proofs.Shown.KernelDispatch.GetvecChain.AfterTake.{after_take}
+use Rattle.call_answers.proofs.Shown.KernelDispatch.GetvecChain.BlockExchanges.{give-exchange, take-exchange}
+use Rattle.call_answers.specs.KernelDispatch.KernelModel.ChangedStore.{IsChanged}
+use Rattle.call_answers.specs.KernelDispatch.KernelModel.Changes.{AreUnowned, IsIdleBlock, with_blocks}
+use Rattle.call_answers.specs.KernelDispatch.KernelModel.HoldsLists.{HoldsLists}
+use Rattle.call_answers.specs.KernelDispatch.KernelModel.Lists.{Lists, address_of_task}
+use Rattle.call_answers.specs.KernelDispatch.KernelModel.Owned.{owned}
+use Rattle.call_answers.specs.KernelDispatch.KernelModel.ReadsLists.{ReadsLists}
+use Rattle.call_answers.specs.KernelDispatch.KernelModel.Root.{root_words}
+use Rattle.call_answers.specs.KernelDispatch.KernelModel.ValidBlocks.{HasBlock}
+use Rattle.call_answers.proofs.Shown.KernelDispatch.KernelModel.ChangedLists.{exchange-owned, owners-exchanged}
+use Rattle.call_answers.proofs.Shown.KernelDispatch.KernelModel.GivenBlocks.{given-valid}
+use Rattle.call_answers.proofs.Shown.KernelDispatch.KernelModel.TakenBlocks.{take-valid, taken-block, taken-unowned}
 use Rattle.call_answers.proofs.FoundTask.{reads}
 use Rattle.block_calls.specs.FreeStore.{with_taken}
 use Rattle.block_calls.specs.Freevec.{with_given}

@@ -1,26 +1,26 @@
 -- A keeper that was told of a take knows the words of the lists once the block was taken.
 use Rattle.std.proofs.Common.{◌≡◌, ℕ, ◌+◌, ◌-◌, ◌≤◌, List, ◌++◌, Some, sym, ap, ◌∙◌, subst, arith}
 use Rattle.std.proofs.lemmas.Grind.{flat_map-append}
-use Rattle.linked_list.specs.Count.{hit, times}
-use Rattle.owned_words.specs.Owned.{owners}
-use Rattle.owned_words.proofs.OwnedWords.{owners-append}
-use Rattle.getvec_chain.specs.declared.pieces.Block.{Block}
-use Rattle.getvec_chain.specs.declared.pieces.Run.{Run}
-use Rattle.getvec_chain.specs.BlockWords.{block_words, blocks_words}
-use Rattle.getvec_chain.specs.Run.{first_run, need}
-use Rattle.getvec_chain.specs.Take.{split_run, taken}
-use Rattle.getvec_chain.specs.Tiling.{Follow, blocks_in}
-use Rattle.getvec_chain.proofs.Runs.{FoundRun, first_run-found, need-even}
-use Rattle.getvec_chain.proofs.Splits.{TakeSplit, take_split}
-use Rattle.kernel_model.specs.ChangedStore.{Knows}
-use Rattle.kernel_model.specs.HoldsLists.{HoldsLists}
-use Rattle.kernel_model.specs.Lists.{Lists}
-use Rattle.kernel_model.specs.Owned.{owned}
-use Rattle.kernel_model.specs.ReadsLists.{ReadsLists}
-use Rattle.kernel_model.proofs.OwnerCounts.{owned-blocks, owners-owned}
+use Rattle.word_store.specs.Count.{hit, times}
+use Rattle.call_answers.specs.KernelDispatch.OwnedWords.Owned.{owners}
+use Rattle.call_answers.proofs.Shown.KernelDispatch.OwnedWords.OwnedWords.{owners-append}
+use Rattle.call_answers.specs.KernelDispatch.GetvecChain.declared.pieces.Block.{Block}
+use Rattle.call_answers.specs.KernelDispatch.GetvecChain.declared.pieces.Run.{Run}
+use Rattle.call_answers.specs.KernelDispatch.GetvecChain.BlockWords.{block_words, blocks_words}
+use Rattle.call_answers.specs.KernelDispatch.GetvecChain.Run.{first_run, need}
+use Rattle.call_answers.specs.KernelDispatch.GetvecChain.Take.{split_run, taken}
+use Rattle.call_answers.specs.KernelDispatch.GetvecChain.Tiling.{Follow, blocks_in}
+use Rattle.call_answers.proofs.Shown.KernelDispatch.GetvecChain.Runs.{FoundRun, first_run-found, need-even}
+use Rattle.call_answers.proofs.Shown.KernelDispatch.GetvecChain.Splits.{TakeSplit, take_split}
+use Rattle.call_answers.specs.KernelDispatch.KernelModel.ChangedStore.{Knows}
+use Rattle.call_answers.specs.KernelDispatch.KernelModel.HoldsLists.{HoldsLists}
+use Rattle.call_answers.specs.KernelDispatch.KernelModel.Lists.{Lists}
+use Rattle.call_answers.specs.KernelDispatch.KernelModel.Owned.{owned}
+use Rattle.call_answers.specs.KernelDispatch.KernelModel.ReadsLists.{ReadsLists}
+use Rattle.call_answers.proofs.Shown.KernelDispatch.KernelModel.OwnerCounts.{owned-blocks, owners-owned}
 use Rattle.call_answers.proofs.FoundTask.{reads}
 use Rattle.block_calls.specs.FreeStore.{with_taken}
-use Rattle.word_kinds.specs.ToldWords.{WasClaimed, WasReleased}
+use Rattle.call_answers.specs.KernelDispatch.WordKinds.ToldWords.{WasClaimed, WasReleased}
 use Rattle.block_calls.specs.JoinedStarts.{joined_starts, rest_start}
 use Rattle.block_calls.proofs.JoinedRuns.{rest-starts, run-starts}
 

@@ -1,10 +1,10 @@
 -- A block that is taken from the kernel's free store.
 use Rattle.std.specs.Prelude.{ℕ, ◌+◌, Bool, Option, Some, None, is_some}
-use Rattle.getvec_chain.specs.declared.pieces.Run.{Run}
-use Rattle.getvec_chain.specs.Run.{first_run, need}
-use Rattle.getvec_chain.specs.Take.{taken}
-use Rattle.kernel_model.specs.Changes.{with_blocks}
-use Rattle.kernel_model.specs.Lists.{Lists}
+use Rattle.call_answers.specs.KernelDispatch.GetvecChain.declared.pieces.Run.{Run}
+use Rattle.call_answers.specs.KernelDispatch.GetvecChain.Run.{first_run, need}
+use Rattle.call_answers.specs.KernelDispatch.GetvecChain.Take.{taken}
+use Rattle.call_answers.specs.KernelDispatch.KernelModel.Changes.{with_blocks}
+use Rattle.call_answers.specs.KernelDispatch.KernelModel.Lists.{Lists}
 
 -- whether some run is large enough for a block with the data words 0 to u
 abbrev pub has_room : ℕ → Lists → Bool

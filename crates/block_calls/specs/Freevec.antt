@@ -1,15 +1,15 @@
 -- The call that gives a block back.
 use Rattle.std.specs.Prelude.{◌≡◌, ℕ, ◌==◌, ◌&&◌, if◌then◌else◌, Bool, true, false, not, Option, Some, None, Result, Ok, Err, List, [], ◌∷◌, is_some}
 use Rattle.std.specs.List.{list_any, range_with_len}
-use Rattle.packet_queue.specs.QueueWords.{QueuedPacket}
-use Rattle.getvec_chain.specs.declared.pieces.Block.{Block}
-use Rattle.getvec_chain.specs.Block.{has_data}
-use Rattle.getvec_chain.specs.Give.{given}
-use Rattle.getvec_chain.specs.Tiling.{used_at}
-use Rattle.kernel_model.specs.BlockUse.{Use, use_of_data}
-use Rattle.kernel_model.specs.BlockUse.Use.{Free, OfCoroutine, OfModule, OfResidents, OfTask, User}
-use Rattle.kernel_model.specs.Changes.{with_blocks}
-use Rattle.kernel_model.specs.Lists.{Lists, queued}
+use Rattle.call_answers.specs.KernelDispatch.PacketQueue.QueueWords.{QueuedPacket}
+use Rattle.call_answers.specs.KernelDispatch.GetvecChain.declared.pieces.Block.{Block}
+use Rattle.call_answers.specs.KernelDispatch.GetvecChain.Block.{has_data}
+use Rattle.call_answers.specs.KernelDispatch.GetvecChain.Give.{given}
+use Rattle.call_answers.specs.KernelDispatch.GetvecChain.Tiling.{used_at}
+use Rattle.call_answers.specs.KernelDispatch.KernelModel.BlockUse.{Use, use_of_data}
+use Rattle.call_answers.specs.KernelDispatch.KernelModel.BlockUse.Use.{Free, OfCoroutine, OfModule, OfResidents, OfTask, User}
+use Rattle.call_answers.specs.KernelDispatch.KernelModel.Changes.{with_blocks}
+use Rattle.call_answers.specs.KernelDispatch.KernelModel.Lists.{Lists, queued}
 use Rattle.call_answers.specs.Made.{Made, done, unless_refused}
 
 -- a block of a user, and of nothing that the lists have

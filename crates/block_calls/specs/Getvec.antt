@@ -1,6 +1,6 @@
 -- The call that takes a block.
 use Rattle.std.specs.Prelude.{ℕ, Bool, Ok, List, [], ◌∷◌}
-use Rattle.kernel_model.specs.Lists.{Lists}
+use Rattle.call_answers.specs.KernelDispatch.KernelModel.Lists.{Lists}
 use Rattle.call_answers.specs.Made.{Made, unless_refused}
 use Rattle.block_calls.specs.FreeStore.{data_taken, has_room, with_taken}
 

@@ -1,14 +1,12 @@
 // A block is given back.
-ghost use Rattle.kernel_model.specs.ChangedStore.{HasKeeper};
-ghost use Rattle.kernel_model.specs.Lists.{Lists};
+ghost use Rattle.call_answers.specs.KernelDispatch.KernelModel.ChangedStore.{HasKeeper};
+ghost use Rattle.call_answers.specs.KernelDispatch.KernelModel.Lists.{Lists};
 ghost use Rattle.call_answers.specs.Made.{IsMade, plain_answer};
 ghost use Rattle.block_calls.specs.Freevec.{freevec};
 
-use crate::ownership::are_unowned;
 use crate::uses::users_block;
 use call_answers::codes::PACKET_INSIDE;
-use getvec_chain::give;
-use word_kinds::KindKeeper;
+use call_answers::kernel_dispatch::{KindKeeper, are_unowned, give};
 use word_store::Store;
 
 /// Gives the block back whose data begin at address v; at 0 there is nothing to do. Refused where no used block of a user

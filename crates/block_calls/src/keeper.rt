@@ -1,16 +1,15 @@
 // A keeper of kinds is told which words will be the kernel's once a block was taken.
 ghost use Rattle.std.specs.Prelude.{◌≡◌, ◌≤◌, IfErr, IfOk, None, OnErr, OnOk, Some};
-ghost use Rattle.getvec_chain.specs.Run.{first_run, need};
-ghost use Rattle.getvec_chain.specs.Tiling.{IsTiledFrom, blocks_from, blocks_in};
-ghost use Rattle.kernel_model.specs.ChangedStore.{HasKeeper, Knows};
-ghost use Rattle.kernel_model.specs.Lists.{Lists};
+ghost use Rattle.call_answers.specs.KernelDispatch.GetvecChain.Run.{first_run, need};
+ghost use Rattle.call_answers.specs.KernelDispatch.GetvecChain.Tiling.{IsTiledFrom, blocks_from, blocks_in};
+ghost use Rattle.call_answers.specs.KernelDispatch.KernelModel.ChangedStore.{HasKeeper, Knows};
+ghost use Rattle.call_answers.specs.KernelDispatch.KernelModel.Lists.{Lists};
 ghost use Rattle.block_calls.specs.FreeStore.{with_taken};
-ghost use Rattle.word_kinds.specs.ToldWords.{WasClaimed, WasReleased};
+ghost use Rattle.call_answers.specs.KernelDispatch.WordKinds.ToldWords.{WasClaimed, WasReleased};
 ghost use Rattle.block_calls.specs.JoinedStarts.{is_joined, joined_start, joined_starts, rest_start};
 
 use call_answers::codes::NO_ROOM;
-use getvec_chain::{Block, Run, blocks_from, first_run};
-use word_kinds::KindKeeper;
+use call_answers::kernel_dispatch::{Block, KindKeeper, Run, blocks_from, first_run};
 use word_store::Store;
 
 /// Tells the keeper what the words of a take will be: of the run from which a block with the data words 0 to u will be

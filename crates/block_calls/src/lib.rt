@@ -1,13 +1,14 @@
-// The kernel calls on blocks, and what a keeper of kinds is asked and told about blocks.
+// The kernel calls on blocks, and what a keeper of kinds is told about them.
 #![tactic(auto)]
 
 mod giving;
 mod keeper;
-mod ownership;
 mod taking;
 mod uses;
 
 pub use giving::freevec;
 pub use keeper::tell_take;
-pub use ownership::are_unowned;
 pub use taking::getvec;
+
+// Shown to the crates above.
+pub use call_answers::{caller, codes, guest, is_module, kernel_dispatch, numbers};

@@ -1,13 +1,12 @@
 // A block is taken.
 ghost use Rattle.std.specs.Prelude.{◌≡◌};
-ghost use Rattle.kernel_model.specs.ChangedStore.{HasKeeper};
-ghost use Rattle.kernel_model.specs.Lists.{Lists};
+ghost use Rattle.call_answers.specs.KernelDispatch.KernelModel.ChangedStore.{HasKeeper};
+ghost use Rattle.call_answers.specs.KernelDispatch.KernelModel.Lists.{Lists};
 ghost use Rattle.call_answers.specs.Made.{IsMade};
 ghost use Rattle.block_calls.specs.Getvec.{getvec};
 
 use crate::keeper::tell_take;
-use getvec_chain::take_from;
-use word_kinds::KindKeeper;
+use call_answers::kernel_dispatch::{KindKeeper, take_from};
 use word_store::Store;
 
 /// Takes a block with the data words 0 to u from the first run of free blocks that is large enough. The answer is the

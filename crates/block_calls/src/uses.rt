@@ -1,21 +1,20 @@
 // What a block is used for.
 ghost use Rattle.std.specs.Prelude.{◌≡◌, ◌&&◌, ◌==◌, not, slice_index, true};
 ghost use Rattle.std.specs.List.{AllByRecursion, list_any};
-ghost use Rattle.linked_list.specs.Places.{has};
-ghost use Rattle.linked_list.specs.Walk.{CanWalk};
-ghost use Rattle.task_block.specs.Lists.{coroutines_in};
-ghost use Rattle.task_block.specs.RootWords.{first_task};
-ghost use Rattle.task_block.specs.TaskChain.{task_link, tasks_in};
-ghost use Rattle.kernel_model.specs.BlockUse.{use_of_data};
-ghost use Rattle.kernel_model.specs.HoldsLists.{HoldsLists};
-ghost use Rattle.kernel_model.specs.KernelRanges.{CanWalkTask, has_residents};
-ghost use Rattle.kernel_model.specs.Lists.{Lists};
+ghost use Rattle.call_answers.specs.KernelDispatch.LinkedList.Places.{has};
+ghost use Rattle.call_answers.specs.KernelDispatch.LinkedList.Walk.{CanWalk};
+ghost use Rattle.call_answers.specs.KernelDispatch.TaskBlock.Lists.{coroutines_in};
+ghost use Rattle.call_answers.specs.KernelDispatch.TaskBlock.RootWords.{first_task};
+ghost use Rattle.call_answers.specs.KernelDispatch.TaskBlock.TaskChain.{task_link, tasks_in};
+ghost use Rattle.call_answers.specs.KernelDispatch.KernelModel.BlockUse.{use_of_data};
+ghost use Rattle.call_answers.specs.KernelDispatch.KernelModel.HoldsLists.{HoldsLists};
+ghost use Rattle.call_answers.specs.KernelDispatch.KernelModel.KernelRanges.{CanWalkTask, has_residents};
+ghost use Rattle.call_answers.specs.KernelDispatch.KernelModel.Lists.{Lists};
 ghost use Rattle.block_calls.specs.Freevec.{IsUsersBlock, is_user};
 
 use call_answers::codes::NO_USER_BLOCK;
 use call_answers::is_module;
-use getvec_chain::{Block, block_of};
-use task_block::{RootField, coroutine_list, root, tasks};
+use call_answers::kernel_dispatch::{Block, RootField, block_of, coroutine_list, root, tasks};
 use word_store::Store;
 
 /// Where the data of the residents' block begin.

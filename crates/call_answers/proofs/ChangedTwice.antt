@@ -3,11 +3,11 @@ use Rattle.std.proofs.Common.{◌≡◌, ◌≤◌, ◌<◌, ℕ, List, [], ◌�
 use Rattle.std.proofs.lemmas.List.{get_or_past}
 use Rattle.std.proofs.lemmas.Bool.Decides.{nat_tests}
 use Rattle.std.specs.Prelude.{nat_lt}
-use Rattle.owned_words.specs.Owned.{Pairs, owners, written}
-use Rattle.owned_words.proofs.OwnedWords.{length-written, written-append}
-use Rattle.kernel_model.specs.ChangedStore.{IsChanged}
-use Rattle.kernel_model.specs.Lists.{Lists}
-use Rattle.kernel_model.specs.Owned.{owned}
+use Rattle.kernel_dispatch.specs.OwnedWords.Owned.{Pairs, owners, written}
+use Rattle.kernel_dispatch.proofs.Shown.OwnedWords.OwnedWords.{length-written, written-append}
+use Rattle.kernel_dispatch.specs.KernelModel.ChangedStore.{IsChanged}
+use Rattle.kernel_dispatch.specs.KernelModel.Lists.{Lists}
+use Rattle.kernel_dispatch.specs.KernelModel.Owned.{owned}
 
 -- what stands at an address after a write depends on what stood there
 set-at : (s t : List ℕ) (b w a : ℕ) → length s ≡ length t → get_or s a 0 ≡ get_or t a 0 → get_or (set s b w) a 0 ≡ get_or (set t b w) a 0

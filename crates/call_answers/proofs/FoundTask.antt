@@ -2,18 +2,18 @@
 use Rattle.std.proofs.Common.{◌≡◌, ℕ, List, [], ◌∷◌, ◌++◌, map, cond, eqb, ◌≤◌, ◌&&◌, ◌||◌, find, Bool, true, false, Option, Some, None, refl, sym, ap, ◌∙◌, subst, arith}
 use Rattle.std.proofs.lemmas.Bool.{eq-eqb, eqb-true, ne_eqb}
 use Rattle.std.specs.List.{AllByRecursion, list_any}
-use Rattle.linked_list.specs.Count.{IsApart, times}
-use Rattle.linked_list.proofs.Counts.{hit-same}
-use Rattle.task_block.specs.TaskChain.{id_in, task_with, tasks_in}
-use Rattle.task_block.proofs.HeldTaskBlocks.{numbers}
-use Rattle.task_block.specs.HeldTasks.{address_with}
-use Rattle.kernel_model.specs.HoldsLists.{HoldsLists}
-use Rattle.kernel_model.specs.Lists.{Lists, address_of_task, has_task}
-use Rattle.kernel_model.specs.ReadsLists.{ReadsLists}
-use Rattle.kernel_model.specs.Task.{Task, task_address, task_id, task_words}
-use Rattle.kernel_model.proofs.Reading.{read-lists}
-use Rattle.kernel_model.proofs.TaskKind.{are_tasks}
-use Rattle.kernel_model.proofs.ChainSplits.{address-between, has_task-between}
+use Rattle.word_store.specs.Count.{IsApart, times}
+use Rattle.word_store.proofs.Counts.{hit-same}
+use Rattle.kernel_dispatch.specs.TaskBlock.TaskChain.{id_in, task_with, tasks_in}
+use Rattle.kernel_dispatch.proofs.Shown.TaskBlock.HeldTaskBlocks.{numbers}
+use Rattle.kernel_dispatch.specs.TaskBlock.HeldTasks.{address_with}
+use Rattle.kernel_dispatch.specs.KernelModel.HoldsLists.{HoldsLists}
+use Rattle.kernel_dispatch.specs.KernelModel.Lists.{Lists, address_of_task, has_task}
+use Rattle.kernel_dispatch.specs.KernelModel.ReadsLists.{ReadsLists}
+use Rattle.kernel_dispatch.specs.KernelModel.Task.{Task, task_address, task_id, task_words}
+use Rattle.kernel_dispatch.proofs.Shown.KernelModel.Reading.{read-lists}
+use Rattle.kernel_dispatch.proofs.Shown.KernelModel.TaskKind.{are_tasks}
+use Rattle.kernel_dispatch.proofs.Shown.KernelModel.ChainSplits.{address-between, has_task-between}
 
 -- the task with the number is the one at the address
 pub record TaskAt (ts : List Task) (id address : ℕ) : Type 0 where

@@ -1,19 +1,19 @@
 -- What a store has of a guest that was found in it.
 use Rattle.std.proofs.Common.{◌≡◌, ℕ, ◌+◌, ◌/◌, ◌%◌, List, ◌∷◌, ◌++◌, get_or, map, eqb, true, sym, ap, ◌∙◌, subst}
 use Rattle.std.specs.List.{AllByRecursion}
-use Rattle.owned_words.specs.Owned.{Holds}
-use Rattle.kernel_model.specs.HoldsLists.{HoldsLists}
-use Rattle.kernel_model.specs.Lists.{Lists}
-use Rattle.kernel_model.specs.Task.{Task, is_guest_id, state_word, state_words, task_address, task_id, task_words}
-use Rattle.kernel_model.specs.ValidTasks.{CoroutinesStand, IsTask}
-use Rattle.kernel_model.proofs.AllThings.{all-here}
-use Rattle.kernel_model.proofs.EachMember.{holds-each}
-use Rattle.kernel_model.proofs.ReadCoroutines.{holds-task}
-use Rattle.kernel_model.proofs.RecoveredTasks.{state-held}
-use Rattle.kernel_model.specs.Changes.{change_of}
-use Rattle.kernel_model.specs.ValidLists.{AreValid}
-use Rattle.kernel_model.proofs.ChainSplits.{change-between}
-use Rattle.linked_list.specs.Count.{IsApart}
+use Rattle.kernel_dispatch.specs.OwnedWords.Owned.{Holds}
+use Rattle.kernel_dispatch.specs.KernelModel.HoldsLists.{HoldsLists}
+use Rattle.kernel_dispatch.specs.KernelModel.Lists.{Lists}
+use Rattle.kernel_dispatch.specs.KernelModel.Task.{Task, is_guest_id, state_word, state_words, task_address, task_id, task_words}
+use Rattle.kernel_dispatch.specs.KernelModel.ValidTasks.{CoroutinesStand, IsTask}
+use Rattle.kernel_dispatch.proofs.Shown.KernelModel.AllThings.{all-here}
+use Rattle.kernel_dispatch.proofs.Shown.KernelModel.EachMember.{holds-each}
+use Rattle.kernel_dispatch.proofs.Shown.KernelModel.ReadCoroutines.{holds-task}
+use Rattle.kernel_dispatch.proofs.Shown.KernelModel.RecoveredTasks.{state-held}
+use Rattle.kernel_dispatch.specs.KernelModel.Changes.{change_of}
+use Rattle.kernel_dispatch.specs.KernelModel.ValidLists.{AreValid}
+use Rattle.kernel_dispatch.proofs.Shown.KernelModel.ChainSplits.{change-between}
+use Rattle.word_store.specs.Count.{IsApart}
 use Rattle.call_answers.specs.Guests.{GuestAt}
 use Rattle.call_answers.proofs.FoundTask.{reads}
 use Rattle.call_answers.proofs.Refusals.{accepted-guest}

@@ -1,6 +1,6 @@
 -- A row of words in two parts.
 use Rattle.std.proofs.Common.{◌≡◌, ℕ, suc, ◌+◌, List, [], ◌∷◌, ◌++◌, length, sym, ap, ◌∙◌, arith, add-zero}
-use Rattle.owned_words.specs.Owned.{row_from}
+use Rattle.kernel_dispatch.specs.OwnedWords.Owned.{row_from}
 
 pub row_from-append : (a i : ℕ) (xs ys : List ℕ) → row_from a i (xs ++ ys) ≡ row_from a i xs ++ row_from a (i + length xs) ys
 row_from-append a i [] ys = ap (λ z. row_from a z ys) (sym (add-zero i))

@@ -7,3 +7,4 @@ pub mod RunningTask
 pub mod MadeCalls
 pub mod ChangedTwice
 pub mod JoinedRows
+pub mod Shown

@@ -1,10 +1,10 @@
 -- The modules, as a store lists them.
 use Rattle.std.proofs.Common.{◌≡◌, ℕ, List, ap}
-use Rattle.linked_list.specs.Places.{has}
-use Rattle.hunk_loader.proofs.HeldModuleLists.{held-modules}
-use Rattle.task_block.specs.Lists.{modules_in}
-use Rattle.kernel_model.specs.HoldsLists.{HoldsLists}
-use Rattle.kernel_model.specs.Lists.{Lists}
+use Rattle.kernel_dispatch.specs.LinkedList.Places.{has}
+use Rattle.kernel_dispatch.proofs.Shown.HunkLoader.HeldModuleLists.{held-modules}
+use Rattle.kernel_dispatch.specs.TaskBlock.Lists.{modules_in}
+use Rattle.kernel_dispatch.specs.KernelModel.HoldsLists.{HoldsLists}
+use Rattle.kernel_dispatch.specs.KernelModel.Lists.{Lists}
 use Rattle.call_answers.specs.Modules.{has_module}
 use Rattle.call_answers.proofs.FoundTask.{reads}
 

@@ -1,9 +1,9 @@
 -- What a call leaves, whether it is refused or not.
 use Rattle.std.proofs.Common.{◌≡◌, ℕ, List, Bool, Some, None, Result, Err, refl, sym, ap, ◌∙◌, subst}
-use Rattle.kernel_model.specs.ChangedStore.{Knows}
-use Rattle.kernel_model.specs.HoldsLists.{HoldsLists}
-use Rattle.kernel_model.specs.Lists.{Lists}
-use Rattle.kernel_model.proofs.ChangedLists.{changed-none}
+use Rattle.kernel_dispatch.specs.KernelModel.ChangedStore.{Knows}
+use Rattle.kernel_dispatch.specs.KernelModel.HoldsLists.{HoldsLists}
+use Rattle.kernel_dispatch.specs.KernelModel.Lists.{Lists}
+use Rattle.kernel_dispatch.proofs.Shown.KernelModel.ChangedLists.{changed-none}
 use Rattle.call_answers.specs.Refusals.{first_refusal}
 use Rattle.call_answers.specs.Made.{IsMade, Leaves, Made, by_refusal, plain_answer, unless_refused}
 

@@ -1,8 +1,8 @@
 -- Refusals by tests in their order, and the tests of a guest.
 use Rattle.std.proofs.Common.{◌≡◌, ℕ, ◌<◌, ◌≤◌, List, [], ◌∷◌, ◌++◌, cond, Bool, true, false, Option, Some, None, Result, Ok, Err, refl, ap, ◌∙◌, arith}
 use Rattle.std.proofs.lemmas.Bool.Decides.{nat_tests}
-use Rattle.kernel_model.specs.Lists.{Lists, has_task}
-use Rattle.kernel_model.specs.Task.{is_guest_id}
+use Rattle.kernel_dispatch.specs.KernelModel.Lists.{Lists, has_task}
+use Rattle.kernel_dispatch.specs.KernelModel.Task.{is_guest_id}
 use Rattle.call_answers.specs.Refusals.{answer_of, first_refusal}
 use Rattle.call_answers.specs.Guests.{GuestAt, guest_tests}
 use Rattle.call_answers.proofs.FoundTask.{TaskAt, found-there}

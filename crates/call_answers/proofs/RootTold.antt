@@ -1,8 +1,8 @@
 -- Words of the root, as a store tells them.
 use Rattle.std.proofs.Common.{◌≡◌, ℕ, List, get_or}
-use Rattle.kernel_model.specs.HoldsLists.{HoldsLists}
-use Rattle.kernel_model.specs.Lists.{Lists, address_of_task}
-use Rattle.kernel_model.specs.Owned.{owned}
+use Rattle.kernel_dispatch.specs.KernelModel.HoldsLists.{HoldsLists}
+use Rattle.kernel_dispatch.specs.KernelModel.Lists.{Lists, address_of_task}
+use Rattle.kernel_dispatch.specs.KernelModel.Owned.{owned}
 
 -- where the running task stands
 pub running-word : (s : List ℕ) (l : Lists) → HoldsLists s l → get_or s 102 0 ≡ address_of_task l l.running

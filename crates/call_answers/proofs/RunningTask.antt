@@ -1,10 +1,10 @@
 -- The running task, by the root's word that leads to it.
 use Rattle.std.proofs.Common.{◌≡◌, ℕ, List, [], ◌∷◌, get_or, cond, eqb, ◌||◌, Bool, true, false, refl, sym, ap, subst}
 use Rattle.std.proofs.lemmas.Bool.{eqb-true}
-use Rattle.task_block.specs.HeldTasks.{address_with}
-use Rattle.kernel_model.specs.HoldsLists.{HoldsLists}
-use Rattle.kernel_model.specs.Lists.{Lists, address_of_task, has_task}
-use Rattle.kernel_model.specs.Task.{Task, task_address, task_id}
+use Rattle.kernel_dispatch.specs.TaskBlock.HeldTasks.{address_with}
+use Rattle.kernel_dispatch.specs.KernelModel.HoldsLists.{HoldsLists}
+use Rattle.kernel_dispatch.specs.KernelModel.Lists.{Lists, address_of_task, has_task}
+use Rattle.kernel_dispatch.specs.KernelModel.Task.{Task, task_address, task_id}
 use Rattle.call_answers.specs.Callers.{HasCaller}
 use Rattle.call_answers.specs.Guests.{GuestAt}
 use Rattle.call_answers.proofs.FoundTask.{TaskAt}

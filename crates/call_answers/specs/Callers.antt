@@ -1,9 +1,9 @@
 -- The task that makes a call: the running one.
 use Rattle.std.specs.Prelude.{◌≡◌, true}
 use Rattle.std.specs.List.{AllByRecursion}
-use Rattle.kernel_model.specs.Lists.{Lists, has_task}
-use Rattle.kernel_model.specs.Task.{is_guest_id}
-use Rattle.kernel_model.specs.ValidTasks.{runs}
+use Rattle.kernel_dispatch.specs.KernelModel.Lists.{Lists, has_task}
+use Rattle.kernel_dispatch.specs.KernelModel.Task.{is_guest_id}
+use Rattle.kernel_dispatch.specs.KernelModel.ValidTasks.{runs}
 
 -- a guest runs, and its state says so
 pub record HasCaller (l : Lists) : Type 0 where

@@ -1,7 +1,7 @@
 -- The guest that a call is about, by its number.
 use Rattle.std.specs.Prelude.{◌≡◌, ℕ, Bool, Some, None, Result, Ok, Err, List, [], ◌∷◌, ◌++◌}
-use Rattle.kernel_model.specs.Lists.{Lists, has_task}
-use Rattle.kernel_model.specs.Task.{Task, is_guest_id}
+use Rattle.kernel_dispatch.specs.KernelModel.Lists.{Lists, has_task}
+use Rattle.kernel_dispatch.specs.KernelModel.Task.{Task, is_guest_id}
 use Rattle.call_answers.specs.Refusals.{first_refusal}
 
 -- there is a task with the number (code 2), and it is no resident (code 14)

@@ -1,9 +1,9 @@
 -- What a kernel call makes of the kernel's lists, and how it answers.
 use Rattle.std.specs.Prelude.{◌≡◌, ℕ, ◌-◌, ◌^◌, Bool, Option, Some, None, Result, Ok, Err, List, []}
-use Rattle.owned_words.specs.Owned.{Pairs}
-use Rattle.packet_queue.specs.declared.events.KernelEvent.{KernelEvent}
-use Rattle.kernel_model.specs.ChangedStore.{IsChanged, Knows}
-use Rattle.kernel_model.specs.Lists.{Lists}
+use Rattle.kernel_dispatch.specs.OwnedWords.Owned.{Pairs}
+use Rattle.kernel_dispatch.specs.PacketQueue.declared.events.KernelEvent.{KernelEvent}
+use Rattle.kernel_dispatch.specs.KernelModel.ChangedStore.{IsChanged, Knows}
+use Rattle.kernel_dispatch.specs.KernelModel.Lists.{Lists}
 use Rattle.call_answers.specs.Refusals.{first_refusal}
 
 -- Its answer, or the code with which it is refused; the lists that it leaves, the plain words that it writes, and its events.

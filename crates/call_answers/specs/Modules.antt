@@ -1,8 +1,8 @@
 -- Which modules there are.
 use Rattle.std.specs.Prelude.{ℕ, Bool, map}
-use Rattle.linked_list.specs.Places.{has}
-use Rattle.hunk_loader.specs.HeldModules.{module_address}
-use Rattle.kernel_model.specs.Lists.{Lists}
+use Rattle.kernel_dispatch.specs.LinkedList.Places.{has}
+use Rattle.kernel_dispatch.specs.HunkLoader.HeldModules.{module_address}
+use Rattle.kernel_dispatch.specs.KernelModel.Lists.{Lists}
 
 -- a module stands there
 abbrev pub has_module : Lists → ℕ → Bool

@@ -1,6 +1,6 @@
 -- What a call or a turn sees besides the kernel.
 use Rattle.std.specs.Prelude.{ℕ, Bool, List, Option}
-use Rattle.packet_queue.specs.declared.events.KernelEvent.{KernelEvent}
+use Rattle.kernel_dispatch.specs.PacketQueue.declared.events.KernelEvent.{KernelEvent}
 
 -- the bytes of the console, the events that were noted, and whether the log has failed
 pub record Outside : Type 0 where

@@ -1,9 +1,9 @@
 -- What several calls say of tasks.
 use Rattle.std.specs.Prelude.{ℕ, ◌==◌, ◌&&◌, Bool, []}
 use Rattle.std.specs.List.{list_any}
-use Rattle.coroutines.specs.CoroutineExchanges.{TaskCoroutines}
-use Rattle.kernel_model.specs.Lists.{Lists}
-use Rattle.kernel_model.specs.ValidTasks.{dead}
+use Rattle.kernel_dispatch.specs.Coroutines.CoroutineExchanges.{TaskCoroutines}
+use Rattle.kernel_dispatch.specs.KernelModel.Lists.{Lists}
+use Rattle.kernel_dispatch.specs.KernelModel.ValidTasks.{dead}
 
 -- the task with the number is dead
 abbrev pub is_dead : Lists → ℕ → Bool

@@ -1,10 +1,10 @@
 // The task that makes a call.
-ghost use Rattle.kernel_model.specs.HoldsLists.{HoldsLists};
-ghost use Rattle.kernel_model.specs.Lists.{Lists};
+ghost use Rattle.kernel_dispatch.specs.KernelModel.HoldsLists.{HoldsLists};
+ghost use Rattle.kernel_dispatch.specs.KernelModel.Lists.{Lists};
 ghost use Rattle.call_answers.specs.Callers.{HasCaller};
 ghost use Rattle.call_answers.specs.Guests.{GuestAt};
 
-use task_block::{RootField, root};
+use kernel_dispatch::{RootField, root};
 use word_store::Store;
 
 /// The address of the running task's block, where a guest runs.

@@ -1,11 +1,11 @@
 // The guest with a number.
-ghost use Rattle.kernel_model.specs.HoldsLists.{HoldsLists};
-ghost use Rattle.kernel_model.specs.Lists.{Lists};
+ghost use Rattle.kernel_dispatch.specs.KernelModel.HoldsLists.{HoldsLists};
+ghost use Rattle.kernel_dispatch.specs.KernelModel.Lists.{Lists};
 ghost use Rattle.call_answers.specs.Guests.{IsGuestOf};
 
 use crate::codes::{NO_TASK, RESIDENT};
 use crate::numbers::FIRST_GUEST;
-use task_block::find;
+use kernel_dispatch::find;
 use word_store::Store;
 
 /// The address of the guest's task block. Refused where there is no such task, or it is a resident.

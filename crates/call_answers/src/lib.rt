@@ -11,3 +11,6 @@ pub mod numbers;
 pub use callers::caller;
 pub use guests::guest;
 pub use modules::is_module;
+
+// Shown to the crates above.
+pub use kernel_dispatch;

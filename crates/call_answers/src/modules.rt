@@ -1,11 +1,11 @@
 // Which modules there are.
 ghost use Rattle.std.specs.Prelude.{◌≡◌};
-ghost use Rattle.linked_list.specs.Places.{has};
-ghost use Rattle.linked_list.specs.Walk.{CanWalk};
-ghost use Rattle.task_block.specs.Lists.{module_link, modules_in};
-ghost use Rattle.task_block.specs.RootWords.{first_module};
+ghost use Rattle.kernel_dispatch.specs.LinkedList.Places.{has};
+ghost use Rattle.kernel_dispatch.specs.LinkedList.Walk.{CanWalk};
+ghost use Rattle.kernel_dispatch.specs.TaskBlock.Lists.{module_link, modules_in};
+ghost use Rattle.kernel_dispatch.specs.TaskBlock.RootWords.{first_module};
 
-use task_block::modules;
+use kernel_dispatch::modules;
 use word_store::Store;
 
 /// Whether a module stands at address m.

@@ -3,7 +3,7 @@ use Rattle.std.proofs.Common.{◌≡◌, ◌∙◌, ℕ, ◌+◌, ◌≤◌, Opt
 use Rattle.std.specs.Prelude.{option_to_list}
 use Rattle.std.specs.List.{cons_option, filter_map, flat_map}
 use Rattle.hunk_text.specs.declared.modules.Module.{Module}
-use Rattle.text_reader.specs.Lines.{lines_of}
+use Rattle.hunk_text.specs.TextReader.Lines.{lines_of}
 use Rattle.cint_asm.specs.Assembly.{assembly_of, module_of}
 use Rattle.cint_asm.specs.AssemblyForm.{AreGiven, Assembles, code_of_pieces}
 use Rattle.cint_asm.specs.Encoding.{Code, code_of, encode, encode_line, joined}
@@ -12,7 +12,7 @@ use Rattle.cint_asm.specs.Pieces.{piece_of}
 use Rattle.cint_asm.specs.Places.{end_of, first_offset, hunk_size, most_words}
 use Rattle.cint_asm.specs.Program.{AreRead, IsProgram, IsTable, placed, program_size}
 use Rattle.cint_asm.specs.LineText.{line_of}
-use Rattle.text_reader.specs.Steps.{◌>>=◌}
+use Rattle.hunk_text.specs.TextReader.Steps.{◌>>=◌}
 use Rattle.cint_asm.specs.Survey.{Layout, no_lines, survey}
 use Rattle.cint_asm.specs.declared.pieces.Piece.{Piece}
 use Rattle.cint_asm.specs.declared.statements.Line.{Line}
@@ -20,7 +20,7 @@ use Rattle.cint_asm.proofs.EncodeLemmas.{encode_line_ok, survey_fits}
 use Rattle.cint_asm.proofs.PieceFits.{piece_fits}
 use Rattle.cint_asm.proofs.Printable.{assembly_ok}
 use Rattle.cint_asm.proofs.ProgramLemmas.{ComeNext, layout_after, size_after, survey_again, survey_program}
-use Rattle.text_reader.proofs.StepLemmas.{bind-ok}
+use Rattle.hunk_text.proofs.Shown.TextReader.StepLemmas.{bind-ok}
 use Rattle.cint_asm.proofs.TableLemmas.{all_free, come_next, distinct_labels, table_of_program}
 
 cons_is : {A : Type 0} (o : Option A) (xs : List A) → option_to_list o ++ xs ≡ cons_option o xs

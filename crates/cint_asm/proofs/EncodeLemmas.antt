@@ -8,12 +8,12 @@ use Rattle.cint_asm.specs.Pieces.{piece_of}
 use Rattle.cint_asm.specs.Places.{end_of, hunk_size, most_words, pairs_of}
 use Rattle.cint_asm.specs.LineText.{line_of}
 use Rattle.cint_asm.specs.Refusal.{Refusal, at_line}
-use Rattle.text_reader.specs.Steps.{◌>>=◌}
+use Rattle.hunk_text.specs.TextReader.Steps.{◌>>=◌}
 use Rattle.cint_asm.specs.Survey.{Layout, survey}
 use Rattle.cint_asm.specs.declared.pieces.Piece.{Piece}
 use Rattle.cint_asm.specs.declared.statements.Line.{Line}
 use Rattle.cint_asm.proofs.PieceFits.{PieceFits, piece_fits}
-use Rattle.text_reader.proofs.StepLemmas.{bind-ok}
+use Rattle.hunk_text.proofs.Shown.TextReader.StepLemmas.{bind-ok}
 use Rattle.cint_asm.proofs.LineSteps.{at_line_ok}
 use Rattle.cint_asm.proofs.SurveyLemmas.{Surveys, survey_ok}
 

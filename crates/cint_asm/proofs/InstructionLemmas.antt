@@ -3,16 +3,16 @@ use Rattle.std.proofs.Common.{◌≡◌, ◌∙◌, ap, ℕ, pos, negsuc, ◌<�
 use Rattle.std.specs.Option.{is_none, option_map, option_map_or}
 use Rattle.std.proofs.lemmas.Bool.{and_parts, cases_lt}
 use Rattle.std.proofs.lemmas.Bool.Decides.{nat_tests}
-use Rattle.cint_table.specs.Names.{byte_named}
-use Rattle.cint_table.specs.Operand.{HasRoom, operand_bytes}
-use Rattle.cint_table.specs.Table.{Entry, entry, column0, column1, column2, column3, column4, column5, column6, column7}
-use Rattle.cint_table.specs.declared.forms.Form.{Form}
-use Rattle.cint_table.specs.declared.forms.Form.TheVariants.{Plain, Byte, BytePlus, Half, Word, Relative, Indirect, Switch}
-use Rattle.cint_table.proofs.Entries.{entry_past, passes_at, passes_below}
-use Rattle.cint_table.proofs.NameLemmas.{byte_named_at}
-use Rattle.cint_decode.specs.Decoded.{decoded}
-use Rattle.cint_decode.specs.BytesAt.{StandsAt, with_number}
-use Rattle.cint_decode.proofs.Encoding.{number_decoded}
+use Rattle.cint_exec.specs.CintTable.Names.{byte_named}
+use Rattle.cint_exec.specs.CintTable.Operand.{HasRoom, operand_bytes}
+use Rattle.cint_exec.specs.CintTable.Table.{Entry, entry, column0, column1, column2, column3, column4, column5, column6, column7}
+use Rattle.cint_exec.specs.CintTable.declared.forms.Form.{Form}
+use Rattle.cint_exec.specs.CintTable.declared.forms.Form.TheVariants.{Plain, Byte, BytePlus, Half, Word, Relative, Indirect, Switch}
+use Rattle.cint_exec.proofs.Shown.CintTable.Entries.{entry_past, passes_at, passes_below}
+use Rattle.cint_exec.proofs.Shown.CintTable.NameLemmas.{byte_named_at}
+use Rattle.cint_exec.specs.CintDecode.Decoded.{decoded}
+use Rattle.cint_exec.specs.CintDecode.BytesAt.{StandsAt, with_number}
+use Rattle.cint_exec.proofs.Shown.CintDecode.Encoding.{number_decoded}
 use Rattle.cint_asm.specs.Directives.{directive_named}
 use Rattle.cint_asm.specs.InstructionOperands.{operands_with}
 use Rattle.cint_asm.specs.Names.{is_name}

@@ -2,8 +2,8 @@
 use Rattle.std.proofs.Common.{◌≡◌, ◌≢◌, ℕ, ◌+◌, ◌-◌, ◌*◌, ◌/◌, ◌%◌, ◌≤◌, ◌⊎◌, inl, inr, Bool, true, false, not, ◌&&◌, ◌==◌, cond, nat_le, nat_lt, Option, Some, None, Result, Ok, Err, List, [], ◌∷◌, refl, subst, arith, lit≤}
 use Rattle.std.specs.Prelude.{ℤ, pos, negsuc}
 use Rattle.std.specs.Option.{ok_or, option_map_or}
-use Rattle.cint_table.specs.declared.forms.Form.{Form}
-use Rattle.cint_table.specs.declared.forms.Form.TheVariants.{Plain, Byte, BytePlus, Half, Word, Relative, Indirect, Switch}
+use Rattle.cint_exec.specs.CintTable.declared.forms.Form.{Form}
+use Rattle.cint_exec.specs.CintTable.declared.forms.Form.TheVariants.{Plain, Byte, BytePlus, Half, Word, Relative, Indirect, Switch}
 use Rattle.cint_asm.specs.AssemblyForm.{IsBadLine, IsBadOperand, IsWrong}
 use Rattle.cint_asm.specs.Directives.{directive_named}
 use Rattle.cint_asm.specs.Labels.{Table}
@@ -15,7 +15,7 @@ use Rattle.cint_asm.specs.Parts.{parts_of, without_comment}
 use Rattle.cint_asm.specs.Pieces.{found, piece_of}
 use Rattle.cint_asm.specs.Places.{rounded_up}
 use Rattle.cint_asm.specs.LineText.{align, before_colon, directed, global, instruction, instruction_named, labelled, line_of, line_of_parts, statement_of, unlabelled, with_number}
-use Rattle.text_reader.specs.Steps.{◌>>=◌}
+use Rattle.hunk_text.specs.TextReader.Steps.{◌>>=◌}
 use Rattle.cint_asm.specs.declared.directives.Directive.{Directive}
 use Rattle.cint_asm.specs.declared.directives.Directive.TheVariants as directive
 use Rattle.cint_asm.specs.declared.errors.LineError.{LineError}

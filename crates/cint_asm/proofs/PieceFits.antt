@@ -7,7 +7,7 @@ use Rattle.std.specs.Int.{w16, w32, to_le_bytes}
 use Rattle.cint_asm.specs.Labels.{Table}
 use Rattle.cint_asm.specs.Pieces.{address, distance, found, global_pair, half_distance, indirect, piece_of, plain, relative, reserved, word_address, zeros}
 use Rattle.cint_asm.specs.Places.{end_of, pairs_of, rounded_up}
-use Rattle.text_reader.specs.Steps.{◌>>=◌}
+use Rattle.hunk_text.specs.TextReader.Steps.{◌>>=◌}
 use Rattle.cint_asm.specs.declared.errors.LineError.{LineError}
 use Rattle.cint_asm.specs.declared.pieces.Piece.{Piece}
 use Rattle.cint_asm.specs.declared.places.Place.{Place}
@@ -15,7 +15,7 @@ use Rattle.cint_asm.specs.declared.statements.Boundary.{Boundary}
 use Rattle.cint_asm.specs.declared.statements.Boundary.TheVariants.{Half, Word}
 use Rattle.cint_asm.specs.declared.statements.Statement.{Statement}
 use Rattle.cint_asm.specs.declared.statements.Statement.TheVariants.{Fixed, Relative, Indirect, Reserve, Address, Align, Global}
-use Rattle.text_reader.proofs.StepLemmas.{bind-ok}
+use Rattle.hunk_text.proofs.Shown.TextReader.StepLemmas.{bind-ok}
 
 -- an offset, and then the next on a boundary
 pub later : (boundary : Boundary) (offset : ℕ) → offset ≤ rounded_up boundary offset

@@ -3,17 +3,17 @@ use Rattle.std.proofs.Common.{◌≡◌, ◌∙◌, ℕ, ◌+◌, ◌*◌, ◌<�
 use Rattle.std.specs.List.{AllByRecursion}
 use Rattle.hunk_text.specs.Canonical.{IsPrintable}
 use Rattle.hunk_text.specs.declared.modules.Module.{Module}
-use Rattle.text_reader.specs.Lines.{lines_of}
+use Rattle.hunk_text.specs.TextReader.Lines.{lines_of}
 use Rattle.cint_asm.specs.Assembly.{assembly_of, module_of}
 use Rattle.cint_asm.specs.Encoding.{Code, encode}
 use Rattle.cint_asm.specs.HunkWords.{body, hunk_words}
 use Rattle.cint_asm.specs.Labels.{Table}
 use Rattle.cint_asm.specs.Places.{hunk_size, most_words}
-use Rattle.text_reader.specs.Steps.{◌>>=◌}
+use Rattle.hunk_text.specs.TextReader.Steps.{◌>>=◌}
 use Rattle.cint_asm.specs.Survey.{Layout, no_lines, survey}
 use Rattle.cint_asm.proofs.EncodeLemmas.{encode_fits, low_end, survey_fits}
 use Rattle.cint_asm.proofs.HunkSizes.{body_size}
-use Rattle.text_reader.proofs.StepLemmas.{bind-ok}
+use Rattle.hunk_text.proofs.Shown.TextReader.StepLemmas.{bind-ok}
 
 -- the whole hunk is as long as the survey says
 pub code_size : (table : Table) (last : Layout) (lines : List (List ℕ)) (code : Code) → survey 1 no_lines lines ≡ Ok last → encode 1 table 4 lines ≡ Ok code

@@ -12,7 +12,7 @@ use Rattle.cint_asm.specs.Places.{end_of, first_offset, hunk_size, most_words, p
 use Rattle.cint_asm.specs.Program.{AreRead, defined, labels_of, placed, program_size}
 use Rattle.cint_asm.specs.LineText.{line_of}
 use Rattle.cint_asm.specs.Refusal.{Refusal, at_line, refusal}
-use Rattle.text_reader.specs.Steps.{◌>>=◌}
+use Rattle.hunk_text.specs.TextReader.Steps.{◌>>=◌}
 use Rattle.cint_asm.specs.Survey.{Layout, admitted, no_lines, survey, survey_line, with_line}
 use Rattle.cint_asm.specs.declared.errors.LineError.{LineError}
 use Rattle.cint_asm.specs.declared.errors.LineError.TheVariants.{RepeatedLabel, HunkTooLong}
@@ -20,7 +20,7 @@ use Rattle.cint_asm.specs.declared.places.Place.{Place}
 use Rattle.cint_asm.specs.declared.statements.Line.{Line}
 use Rattle.cint_asm.specs.declared.statements.Statement.{Statement}
 use Rattle.cint_asm.proofs.ProgramLemmas.{ComeNext, layout_after, size_after, survey_line_next}
-use Rattle.text_reader.proofs.StepLemmas.{bind-err, cond-cases}
+use Rattle.hunk_text.proofs.Shown.TextReader.StepLemmas.{bind-err, cond-cases}
 use Rattle.cint_asm.proofs.LineSteps.{at_line_err, at_line_ok}
 use Rattle.cint_asm.proofs.SurveyLemmas.{survey_line_ok}
 use Rattle.cint_asm.proofs.TableLemmas.{table_of_program}

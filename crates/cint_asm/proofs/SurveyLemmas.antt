@@ -5,11 +5,11 @@ use Rattle.cint_asm.specs.Labels.{repeats}
 use Rattle.cint_asm.specs.Places.{end_of, hunk_size, most_words, pairs_of}
 use Rattle.cint_asm.specs.LineText.{line_of}
 use Rattle.cint_asm.specs.Refusal.{at_line}
-use Rattle.text_reader.specs.Steps.{◌>>=◌}
+use Rattle.hunk_text.specs.TextReader.Steps.{◌>>=◌}
 use Rattle.cint_asm.specs.Survey.{Layout, admitted, survey, survey_line, with_line}
 use Rattle.cint_asm.specs.declared.errors.LineError.TheVariants.{RepeatedLabel, HunkTooLong}
 use Rattle.cint_asm.specs.declared.statements.Line.{Line}
-use Rattle.text_reader.proofs.StepLemmas.{bind-ok, cond-cases}
+use Rattle.hunk_text.proofs.Shown.TextReader.StepLemmas.{bind-ok, cond-cases}
 use Rattle.cint_asm.proofs.LineSteps.{at_line_ok}
 
 -- a line that may come next

@@ -1,6 +1,6 @@
 -- A text is refused exactly where it is refused by the rules.
 use Rattle.std.proofs.Common.{◌≡◌, ◌∙◌, ℕ, ◌+◌, ◌<◌, ◌≤◌, ◌⊎◌, inl, inr, Bool, true, false, Ok, Err, List, [], ◌∷◌, ◌++◌, length, refl, sym, ap, subst, arith, add-zero, lit≤}
-use Rattle.text_reader.specs.Lines.{lines_of}
+use Rattle.hunk_text.specs.TextReader.Lines.{lines_of}
 use Rattle.cint_asm.specs.Assembly.{assembly_of, module_of}
 use Rattle.cint_asm.specs.AssemblyForm.{AreGiven, IsBadLine, IsBadOperand, IsRefused, IsTooMuch, IsWrong}
 use Rattle.cint_asm.specs.Encoding.{code_of as code_of_piece, encode, encode_line, joined}
@@ -11,7 +11,7 @@ use Rattle.cint_asm.specs.Places.{end_of, first_offset, most_words}
 use Rattle.cint_asm.specs.Program.{AreRead, IsProgram, placed}
 use Rattle.cint_asm.specs.LineText.{line_of}
 use Rattle.cint_asm.specs.Refusal.{Refusal, at_line, refusal}
-use Rattle.text_reader.specs.Steps.{◌>>=◌}
+use Rattle.hunk_text.specs.TextReader.Steps.{◌>>=◌}
 use Rattle.cint_asm.specs.Survey.{Layout, admitted, no_lines, survey, survey_line}
 use Rattle.cint_asm.specs.declared.errors.LineError.{LineError}
 use Rattle.cint_asm.specs.declared.errors.LineError.TheVariants.{NoForm, UnknownName, OutOfRange, UndefinedLabel, RepeatedLabel, OutOfReach, HunkTooLong}
@@ -22,7 +22,7 @@ use Rattle.cint_asm.proofs.EncodeLemmas.{survey_fits}
 use Rattle.cint_asm.proofs.PieceFits.{piece_fits}
 use Rattle.cint_asm.proofs.ProgramLemmas.{ComeNext, layout_after, size_after, survey_again}
 use Rattle.cint_asm.proofs.RefusalLemmas.{StopsSurvey, admitted_err, repeated_again, repeats_again, repeats_label, size_with, survey_err, survey_front, survey_line_err, too_long_again}
-use Rattle.text_reader.proofs.StepLemmas.{bind-err}
+use Rattle.hunk_text.proofs.Shown.TextReader.StepLemmas.{bind-err}
 use Rattle.cint_asm.proofs.LineSteps.{at_line_err, at_line_ok}
 use Rattle.cint_asm.proofs.TableLemmas.{distinct_labels}
 

@@ -2,12 +2,12 @@
 use Rattle.std.specs.Prelude.{ℕ, List, [], ◌∷◌, Result, Ok}
 use Rattle.hunk_text.specs.Canonical.{printed}
 use Rattle.hunk_text.specs.declared.modules.Module.{Module}
-use Rattle.text_reader.specs.Lines.{lines_of}
+use Rattle.hunk_text.specs.TextReader.Lines.{lines_of}
 use Rattle.cint_asm.specs.Encoding.{Code, encode}
 use Rattle.cint_asm.specs.HunkWords.{hunk_words}
 use Rattle.cint_asm.specs.Places.{first_offset}
 use Rattle.cint_asm.specs.Refusal.{Refusal}
-use Rattle.text_reader.specs.Steps.{◌>>=◌}
+use Rattle.hunk_text.specs.TextReader.Steps.{◌>>=◌}
 use Rattle.cint_asm.specs.Survey.{no_lines, survey}
 
 -- the module that has the code in one hunk

@@ -4,7 +4,7 @@ use Rattle.std.specs.List.Sorted.{IsStrictlyIncreasing}
 use Rattle.std.specs.List.{AllByRecursion, AllZip, filter_map, flat_map, list_any}
 use Rattle.std.specs.Str.{bytes_eq}
 use Rattle.hunk_text.specs.declared.modules.Module.{Module}
-use Rattle.text_reader.specs.Lines.{lines_of}
+use Rattle.hunk_text.specs.TextReader.Lines.{lines_of}
 use Rattle.cint_asm.specs.Assembly.{module_of}
 use Rattle.cint_asm.specs.Encoding.{Code}
 use Rattle.cint_asm.specs.Labels.{Table}

@@ -4,7 +4,7 @@ use Rattle.cint_asm.specs.Labels.{Table}
 use Rattle.cint_asm.specs.Pieces.{piece_of}
 use Rattle.cint_asm.specs.LineText.{line_of}
 use Rattle.cint_asm.specs.Refusal.{Refusal, at_line}
-use Rattle.text_reader.specs.Steps.{◌>>=◌}
+use Rattle.hunk_text.specs.TextReader.Steps.{◌>>=◌}
 use Rattle.cint_asm.specs.declared.pieces.Piece.{Piece}
 
 -- the bytes from the first offset on, the offsets of the words to be relocated, and the pairs of the global table

@@ -1,7 +1,7 @@
 -- The operands of an instruction whose operand is a number.
 use Rattle.std.specs.Prelude.{ℕ, pos}
-use Rattle.cint_table.specs.declared.forms.Form.{Form}
-use Rattle.cint_table.specs.declared.forms.Form.TheVariants.{Plain, Switch}
+use Rattle.cint_exec.specs.CintTable.declared.forms.Form.{Form}
+use Rattle.cint_exec.specs.CintTable.declared.forms.Form.TheVariants.{Plain, Switch}
 use Rattle.cint_asm.specs.declared.operands.Operands.{Operands}
 use Rattle.cint_asm.specs.declared.operands.Operands.TheVariants.{Nothing, Number}
 

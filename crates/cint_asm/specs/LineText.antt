@@ -2,17 +2,17 @@
 use Rattle.std.specs.Prelude.{ℕ, ℤ, pos, negsuc, ◌-◌, not, if◌then◌else◌, List, [], ◌∷◌, ◌++◌, length, take, codes, nat_eq, Option, Some, None, Result, Ok, Err, option_and_then}
 use Rattle.std.specs.List.{ends_with}
 use Rattle.std.specs.Option.{ok_or, option_map, option_map_or}
-use Rattle.cint_table.specs.Names.{byte_named}
-use Rattle.cint_table.specs.Operand.{low_bytes, operand_size}
-use Rattle.cint_table.specs.Table.{entry}
-use Rattle.cint_table.specs.declared.forms.Form.{Form}
-use Rattle.cint_table.specs.declared.forms.Form.TheVariants.{Plain, Byte, BytePlus, Half, Word, Relative, Indirect, Switch}
+use Rattle.cint_exec.specs.CintTable.Names.{byte_named}
+use Rattle.cint_exec.specs.CintTable.Operand.{low_bytes, operand_size}
+use Rattle.cint_exec.specs.CintTable.Table.{entry}
+use Rattle.cint_exec.specs.CintTable.declared.forms.Form.{Form}
+use Rattle.cint_exec.specs.CintTable.declared.forms.Form.TheVariants.{Plain, Byte, BytePlus, Half, Word, Relative, Indirect, Switch}
 use Rattle.cint_asm.specs.Directives.{directive_named}
 use Rattle.cint_asm.specs.Names.{is_name, label_of}
 use Rattle.cint_asm.specs.Numbers.{is_from_to, word_of}
 use Rattle.cint_asm.specs.Operands.{label_operand, no_operand, number_operand, numbered_label, operands_of, unknown_name}
 use Rattle.cint_asm.specs.Parts.{parts_of, without_comment}
-use Rattle.text_reader.specs.Steps.{◌>>=◌}
+use Rattle.hunk_text.specs.TextReader.Steps.{◌>>=◌}
 use Rattle.cint_asm.specs.declared.directives.Directive.{Directive}
 use Rattle.cint_asm.specs.declared.directives.Directive.TheVariants as directive
 use Rattle.cint_asm.specs.declared.errors.LineError.{LineError}

@@ -3,7 +3,7 @@ use Rattle.std.specs.Prelude.{ℕ, ℤ, pos, neg_ℤ, ◌%◌, ◌^◌, ◌&&◌
 use Rattle.std.specs.Int.{w64, cast_unsigned}
 use Rattle.std.specs.List.{starts_with}
 use Rattle.std.specs.Option.{option_map}
-use Rattle.text_reader.specs.Numbers.{number_of as digits_number_of}
+use Rattle.hunk_text.specs.TextReader.Numbers.{number_of as digits_number_of}
 
 -- the number that a part of a line is, if it is one: digits, which may follow a `-`
 abbrev pub number_of : List ℕ → Option ℤ

@@ -4,7 +4,7 @@ use Rattle.std.specs.Int.{w16, w32, to_le_bytes}
 use Rattle.std.specs.Option.{ok_or}
 use Rattle.cint_asm.specs.Labels.{Table}
 use Rattle.cint_asm.specs.Places.{rounded_up}
-use Rattle.text_reader.specs.Steps.{◌>>=◌}
+use Rattle.hunk_text.specs.TextReader.Steps.{◌>>=◌}
 use Rattle.cint_asm.specs.declared.errors.LineError.{LineError}
 use Rattle.cint_asm.specs.declared.errors.LineError.TheVariants.{UndefinedLabel, OutOfReach}
 use Rattle.cint_asm.specs.declared.pieces.Piece.{Piece}

@@ -1,6 +1,6 @@
 -- Where and why a text is refused.
 use Rattle.std.specs.Prelude.{ℕ, Result, Ok, Err}
-pub use Rattle.text_reader.specs.Refusal.{Refusal, refusal}
+pub use Rattle.hunk_text.specs.TextReader.Refusal.{Refusal, refusal}
 use Rattle.cint_asm.specs.LineErrors.{code_of}
 use Rattle.cint_asm.specs.declared.errors.LineError.{LineError}
 

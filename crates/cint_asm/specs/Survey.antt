@@ -4,7 +4,7 @@ use Rattle.cint_asm.specs.Labels.{Table, no_labels, repeats, with_label}
 use Rattle.cint_asm.specs.Places.{end_of, first_offset, hunk_size, most_words, pairs_of}
 use Rattle.cint_asm.specs.LineText.{line_of}
 use Rattle.cint_asm.specs.Refusal.{Refusal, at_line}
-use Rattle.text_reader.specs.Steps.{◌>>=◌}
+use Rattle.hunk_text.specs.TextReader.Steps.{◌>>=◌}
 use Rattle.cint_asm.specs.declared.errors.LineError.{LineError}
 use Rattle.cint_asm.specs.declared.errors.LineError.TheVariants.{RepeatedLabel, HunkTooLong}
 use Rattle.cint_asm.specs.declared.statements.Line.{Line}

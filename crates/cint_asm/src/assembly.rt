@@ -1,7 +1,7 @@
 // Assembling a text.
 ghost use Rattle.std.specs.Prelude.{◌≡◌, ◌<◌, ◌^◌, length, Ok};
 ghost use Rattle.hunk_text.specs.Canonical.{IsPrintable, printed};
-ghost use Rattle.text_reader.specs.Answers.{Gives};
+ghost use Rattle.hunk_text.specs.TextReader.Answers.{Gives};
 ghost use Rattle.cint_asm.specs.Assembly.{assembled, assembly_of};
 
 use crate::AsmEnd;

@@ -1,7 +1,7 @@
 // What the lines give to the hunk.
 ghost use Rattle.std.specs.Prelude.{◌≡◌, ◌<◌, ◌^◌, length, IsOk, OnOk};
-ghost use Rattle.text_reader.specs.Lines.{lines_of};
-ghost use Rattle.text_reader.specs.Answers.{Gives};
+ghost use Rattle.hunk_text.specs.TextReader.Lines.{lines_of};
+ghost use Rattle.hunk_text.specs.TextReader.Answers.{Gives};
 ghost use Rattle.cint_asm.specs.Encoding.{code_of, encode, encode_line, joined};
 ghost use Rattle.cint_asm.specs.KeptCode.{kept_code};
 ghost use Rattle.cint_asm.specs.KeptLabels.{table_of};
@@ -12,9 +12,9 @@ use crate::pieces::{Piece, piece_of};
 use crate::places::{FIRST_OFFSET, Place};
 use crate::read::read_line;
 use crate::survey::refused;
+use hunk_text::split_line;
 use std::alloc::{AllocError, Global};
 use std::collections::BTreeMap;
-use text_reader::split_line;
 
 /// What lines give to the hunk.
 #[derive(Drop)]

@@ -1,9 +1,9 @@
 // Assembly and decoding agree. The function does nothing: its contract is the law.
 ghost use Rattle.std.specs.Prelude.{◌≡◌, ℕ, ◌∷◌, List, Option, Some, Ok};
-ghost use Rattle.cint_table.specs.Operand.{HasRoom, operand_bytes};
-ghost use Rattle.cint_table.specs.Table.{Entry, entry};
-ghost use Rattle.cint_decode.specs.Decoded.{decoded};
-ghost use Rattle.cint_decode.specs.BytesAt.{StandsAt, with_number};
+ghost use Rattle.cint_exec.specs.CintTable.Operand.{HasRoom, operand_bytes};
+ghost use Rattle.cint_exec.specs.CintTable.Table.{Entry, entry};
+ghost use Rattle.cint_exec.specs.CintDecode.Decoded.{decoded};
+ghost use Rattle.cint_exec.specs.CintDecode.BytesAt.{StandsAt, with_number};
 ghost use Rattle.cint_asm.specs.InstructionOperands.{operands_with};
 ghost use Rattle.cint_asm.specs.LineText.{statement_named};
 ghost use Rattle.cint_asm.specs.declared.statements.Statement.TheVariants.{Fixed};

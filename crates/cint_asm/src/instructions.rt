@@ -8,7 +8,7 @@ use crate::labels::Label;
 use crate::numbers::{is_from_to, word_of};
 use crate::operands::Operands;
 use crate::statements::{Boundary, LineBytes, Statement};
-use cint_table::Form;
+use cint_exec::Form;
 
 /// The instruction of this byte, whose operand has this form.
 pub fn instruction<'a>(

@@ -23,4 +23,4 @@ mod tables;
 
 pub use assembly::assemble;
 use errors::LineError;
-pub use text_reader::TextEnd as AsmEnd;
+pub use hunk_text::TextEnd as AsmEnd;

@@ -7,8 +7,8 @@ pub fn number(part: &[u8]) -> Option<i64>
     ensures { result ≡ number_of part.now }
 {
     match part.strip_prefix(b"-") {
-        Some(digits) => text_reader::number(digits).map(|n| -(n as i64)),
-        None => text_reader::number(part).map(|n| n as i64),
+        Some(digits) => hunk_text::number(digits).map(|n| -(n as i64)),
+        None => hunk_text::number(part).map(|n| n as i64),
     }
 }
 

@@ -12,7 +12,7 @@ use crate::labels::{Label, is_name};
 use crate::operands::{Operands, read_operands};
 use crate::parts::{split_part, without_comment};
 use crate::statements::{Line, LineBytes, Statement};
-use cint_table::{Form, byte_of, row};
+use cint_exec::{Form, byte_of, row};
 
 /// A line of a text, without its end. Its error is the lowest of `NoForm`, `UnknownName` and `OutOfRange` that it has.
 #[tactic(auto, unfolding(crate::specs::LineText::line_of))]

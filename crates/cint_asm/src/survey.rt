@@ -1,22 +1,22 @@
 // The lines of a text, surveyed: where each stands and what its label names.
 ghost use Rattle.std.specs.Prelude.{◌≡◌, ◌≤◌, ◌+◌, ◌<◌, ◌^◌, length, IfOk, OnOk};
-ghost use Rattle.text_reader.specs.Lines.{lines_of};
-ghost use Rattle.text_reader.specs.Answers.{Gives};
+ghost use Rattle.hunk_text.specs.TextReader.Lines.{lines_of};
+ghost use Rattle.hunk_text.specs.TextReader.Answers.{Gives};
 ghost use Rattle.cint_asm.specs.KeptLabels.{layout_of};
 ghost use Rattle.cint_asm.specs.LineErrors.{code_of};
 ghost use Rattle.cint_asm.specs.Labels.{named_place, repeats};
 ghost use Rattle.cint_asm.specs.Places.{end_of, pairs_of};
 ghost use Rattle.cint_asm.specs.Survey.{admitted, no_lines, survey, survey_line, with_line};
-ghost use Rattle.text_reader.specs.declared.ends.TextEnd.TheVariants.{Bad};
+ghost use Rattle.hunk_text.specs.TextReader.declared.ends.TextEnd.TheVariants.{Bad};
 
 use crate::places::{FIRST_OFFSET, MOST_WORDS, Place, end_of, hunk_size, pairs_of, place_of};
 use crate::read::read_line;
 use crate::statements::{Line, Statement};
 use crate::tables::{define, look_up};
 use crate::{AsmEnd, LineError};
+use hunk_text::split_line;
 use std::alloc::{AllocError, Global};
 use std::collections::BTreeMap;
-use text_reader::split_line;
 
 /// What is known after some lines.
 #[derive(Drop)]

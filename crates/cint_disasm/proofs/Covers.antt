@@ -6,11 +6,11 @@ use Rattle.std.specs.Option.{option_map}
 use Rattle.std.proofs.lemmas.Bool.{cases_lt}
 use Rattle.std.proofs.lemmas.Bool.Decides.{nat_tests}
 use Rattle.word_store.specs.Bytes.{byte_at, byte_of}
-use Rattle.cint_table.specs.Table.{Entry}
-use Rattle.cint_decode.specs.Decoded.{decoded}
-use Rattle.cint_decode.proofs.Inside.{decoded_inside}
-use Rattle.cint_decode.specs.declared.instructions.DecodeEnd.{DecodeEnd}
-use Rattle.cint_decode.specs.declared.instructions.Instr.{Instr}
+use Rattle.cint_exec.specs.CintTable.Table.{Entry}
+use Rattle.cint_exec.specs.CintDecode.Decoded.{decoded}
+use Rattle.cint_exec.proofs.Shown.CintDecode.Inside.{decoded_inside}
+use Rattle.cint_exec.specs.CintDecode.declared.instructions.DecodeEnd.{DecodeEnd}
+use Rattle.cint_exec.specs.CintDecode.declared.instructions.Instr.{Instr}
 use Rattle.cint_disasm.specs.Cover.{Follow, ListedLine, hunk_lines, line_at, lines_between, stands_for}
 use Rattle.cint_disasm.specs.HunkListing.{lines_from, lines_of_words}
 use Rattle.cint_disasm.specs.Listing.{listed, listed_as}

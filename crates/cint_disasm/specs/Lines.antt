@@ -3,9 +3,9 @@ use Rattle.std.specs.Prelude.{ℕ, List, [], ◌∷◌, codes, decimal}
 use Rattle.std.specs.Fmt.{signed_decimal}
 use Rattle.tp_io.specs.Pieces.{joined}
 use Rattle.word_store.specs.Arithmetic.{signed}
-use Rattle.cint_table.specs.declared.forms.Form.{Form}
-use Rattle.cint_table.specs.declared.forms.Form.TheVariants.{Plain, Byte, BytePlus, Half, Word, Relative, Indirect, Switch}
-use Rattle.cint_decode.specs.declared.instructions.Instr.{Instr}
+use Rattle.cint_exec.specs.CintTable.declared.forms.Form.{Form}
+use Rattle.cint_exec.specs.CintTable.declared.forms.Form.TheVariants.{Plain, Byte, BytePlus, Half, Word, Relative, Indirect, Switch}
+use Rattle.cint_exec.specs.CintDecode.declared.instructions.Instr.{Instr}
 
 -- a name alone
 abbrev pub plain_line : ℕ → List ℕ → List ℕ

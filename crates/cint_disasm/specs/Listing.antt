@@ -1,9 +1,9 @@
 -- What is listed at a byte address.
 use Rattle.std.specs.Prelude.{ℕ, List, Option, Some, Result, Ok, unwrap_or}
-use Rattle.cint_table.specs.Table.{Entry, entry}
-use Rattle.cint_decode.specs.Decoded.{decoded}
-use Rattle.cint_decode.specs.declared.instructions.DecodeEnd.{DecodeEnd}
-use Rattle.cint_decode.specs.declared.instructions.Instr.{Instr}
+use Rattle.cint_exec.specs.CintTable.Table.{Entry, entry}
+use Rattle.cint_exec.specs.CintDecode.Decoded.{decoded}
+use Rattle.cint_exec.specs.CintDecode.declared.instructions.DecodeEnd.{DecodeEnd}
+use Rattle.cint_exec.specs.CintDecode.declared.instructions.Instr.{Instr}
 use Rattle.cint_disasm.specs.Lines.{byte_line, instruction_line}
 
 -- a line, and the number of bytes that it stands for

@@ -2,7 +2,7 @@
 ghost use Rattle.std.specs.Prelude.{◌≡◌, ◌*◌, ◌<◌, ◌^◌, length};
 ghost use Rattle.word_store.specs.Bytes.{byte_at};
 
-use cint_decode::Code;
+use cint_exec::Code;
 use hunk_text::Hunk;
 use std::marker::Model;
 

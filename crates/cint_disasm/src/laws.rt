@@ -1,9 +1,9 @@
 // What holds of listings. The functions do nothing: their contracts are the laws.
 ghost use Rattle.std.specs.List.{flat_map};
 ghost use Rattle.std.specs.Prelude.{◌≡◌, ℕ, ◌*◌, ◌^◌, ◌<◌, List, Option, Some, Ok, filter, length};
-ghost use Rattle.cint_table.specs.Table.{Entry, entry};
-ghost use Rattle.cint_decode.specs.Decoded.{decoded};
-ghost use Rattle.cint_decode.specs.declared.instructions.Instr.{Instr};
+ghost use Rattle.cint_exec.specs.CintTable.Table.{Entry, entry};
+ghost use Rattle.cint_exec.specs.CintDecode.Decoded.{decoded};
+ghost use Rattle.cint_exec.specs.CintDecode.declared.instructions.Instr.{Instr};
 ghost use Rattle.cint_disasm.specs.Cover.{Follow, hunk_lines, stands_for};
 ghost use Rattle.cint_disasm.specs.HunkListing.{lines_of_words};
 ghost use Rattle.cint_disasm.specs.Lines.{instruction_line};

@@ -5,8 +5,7 @@ ghost use Rattle.tp_io.specs.Write.{Prints, HasCause};
 ghost use Rattle.cint_disasm.specs.Lines.{byte_line, instruction_line, number_line, plain_line, target_line};
 ghost use Rattle.cint_disasm.specs.Listing.{listed};
 
-use cint_decode::{Code, Instr, decode};
-use cint_table::{Form, Row, row};
+use cint_exec::{Code, Form, Instr, Row, decode, row};
 use tp_io::{Output, Piece, Sink, SinkFault, gather_pieces, pass_on};
 use word_store::signed;
 

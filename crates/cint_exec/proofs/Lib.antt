@@ -1,3 +1,4 @@
 pub mod ByteRegister
 pub mod SearchLaw
 pub mod KeySearch
+pub mod Shown

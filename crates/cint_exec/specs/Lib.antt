@@ -4,3 +4,6 @@ pub mod Instruction
 pub mod SearchOrder
 pub mod Switch
 pub mod Writes
+-- shown to the crates above
+pub use Rattle.cint_table.specs as CintTable
+pub use Rattle.cint_decode.specs as CintDecode

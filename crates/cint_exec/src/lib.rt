@@ -18,6 +18,10 @@ mod writes;
 pub use unguarded::NoKernel;
 use word_store::{Guard, Regs, Store};
 
+// Shown to the crates above.
+pub use cint_decode::{Code, Instr, decode};
+pub use cint_table::{Form, Row, byte_of, row};
+
 /// Why an instruction was not executed, and where: a word address for codes 3, 4 and 6, else a byte address.
 ///
 /// 1 a byte without a row, 2 BRK, 3 a read outside the store, 4 a write outside it, 5 a division by zero, 6 a write into a

@@ -1,20 +1,20 @@
 -- A turn of the shell, part after part.
 use Rattle.std.proofs.Common.{◌≡◌, ℕ, ◌≤◌, Bool, true, false, List, [], ◌++◌, append_assoc, Option, Result, Ok, Err, refl, sym, ap, ◌∙◌, subst, arith}
-use Rattle.owned_words.specs.Owned.{Pairs, owners, written}
-use Rattle.packet_queue.specs.declared.events.KernelEvent.{KernelEvent}
-use Rattle.kernel_model.specs.ChangedStore.{IsChanged, Knows}
-use Rattle.kernel_model.specs.Kernel.{Mode, Shell}
-use Rattle.kernel_model.specs.Lists.{Lists, has_task}
-use Rattle.kernel_model.specs.NotedEvents.{NotesAll}
-use Rattle.kernel_model.specs.Owned.{owned}
-use Rattle.kernel_model.proofs.ChangedLists.{knows-same}
-use Rattle.kernel_model.proofs.NotedInTurn.{notes-none, notes-then}
+use Rattle.shell_programs.specs.KernelCalls.OwnedWords.Owned.{Pairs, owners, written}
+use Rattle.shell_programs.specs.KernelCalls.PacketQueue.declared.events.KernelEvent.{KernelEvent}
+use Rattle.shell_programs.specs.KernelCalls.KernelModel.ChangedStore.{IsChanged, Knows}
+use Rattle.shell_programs.specs.KernelCalls.KernelModel.Kernel.{Mode, Shell}
+use Rattle.shell_programs.specs.KernelCalls.KernelModel.Lists.{Lists, has_task}
+use Rattle.shell_programs.specs.KernelCalls.KernelModel.NotedEvents.{NotesAll}
+use Rattle.shell_programs.specs.KernelCalls.KernelModel.Owned.{owned}
+use Rattle.shell_programs.proofs.Shown.KernelCalls.KernelModel.ChangedLists.{knows-same}
+use Rattle.shell_programs.proofs.Shown.KernelCalls.KernelModel.NotedInTurn.{notes-none, notes-then}
 use Rattle.ram_disc.specs.Disc.{Disc}
-use Rattle.call_answers.specs.Made.{Leaves, Made, plain_answer}
-use Rattle.call_answers.specs.Outside.{Outside, outside}
-use Rattle.kernel_boot.specs.BootTasks.{Standing, left_with, standing}
-use Rattle.kernel_boot.proofs.StandingKernels.{left-is}
-use Rattle.resident_requests.specs.Requests.{RunsResident}
+use Rattle.shell_programs.specs.KernelCalls.CallAnswers.Made.{Leaves, Made, plain_answer}
+use Rattle.shell_programs.specs.KernelCalls.CallAnswers.Outside.{Outside, outside}
+use Rattle.shell_programs.specs.KernelCalls.KernelModel.Standing.{Standing, left_with, standing}
+use Rattle.shell_programs.proofs.Shown.KernelBoot.StandingKernels.{left-is}
+use Rattle.shell_programs.specs.KernelResidents.ResidentRequests.Requests.{RunsResident}
 use Rattle.shell_programs.specs.ShellPacket.{CanPost, post_events, posted, request_words, requested}
 use Rattle.shell_programs.specs.Standings.{HasStanding}
 use Rattle.shell_programs.proofs.SentRules.{posted-runs}

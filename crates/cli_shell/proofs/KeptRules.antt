@@ -4,38 +4,38 @@ use Rattle.std.proofs.Common.{◌≡◌, ℕ, ◌&&◌, ◌||◌, Bool, true, fa
 use Rattle.std.specs.Prelude.{find}
 use Rattle.std.specs.List.{AllByRecursion, list_any}
 use Rattle.std.proofs.lemmas.Bool.{eqb-true, false≢true}
-use Rattle.linked_list.specs.Places.{insert_after, without_first}
-use Rattle.linked_list.proofs.AllMembers.{all-append}
+use Rattle.shell_programs.specs.KernelCalls.LinkedList.Places.{insert_after, without_first}
+use Rattle.shell_programs.proofs.Shown.KernelCalls.LinkedList.AllMembers.{all-append}
 use Rattle.word_store.specs.declared.registers.Regs.{Regs}
-use Rattle.packet_queue.specs.QueueWords.{QueuedPacket}
-use Rattle.kernel_model.specs.Between.{FaultsStand, is_unreported}
-use Rattle.kernel_model.specs.Changes.{with_queue, with_task, with_tasks, work_of}
-use Rattle.kernel_model.specs.Kernel.{Kernel, Shell}
-use Rattle.kernel_model.specs.Lists.{Lists, has_task}
-use Rattle.kernel_model.specs.MovedTask.{with_moved_task, with_priority}
-use Rattle.kernel_model.specs.Residents.{fault_packet}
-use Rattle.kernel_model.specs.Task.{Task, is_guest_id}
-use Rattle.kernel_model.specs.ValidLists.{AreValid}
-use Rattle.kernel_model.specs.ValidQueues.{MayStand}
-use Rattle.kernel_model.specs.ValidQueues.Place.{Work}
-use Rattle.kernel_model.specs.ValidTasks.{runs}
-use Rattle.kernel_model.proofs.AllThings.{all-inserted}
-use Rattle.kernel_model.proofs.EachMember.{all-each, find-passes}
-use Rattle.kernel_model.proofs.QueuePlaces.{place-stands}
+use Rattle.shell_programs.specs.KernelCalls.PacketQueue.QueueWords.{QueuedPacket}
+use Rattle.shell_programs.specs.KernelCalls.KernelModel.Between.{FaultsStand, is_unreported}
+use Rattle.shell_programs.specs.KernelCalls.KernelModel.Changes.{with_queue, with_task, with_tasks, work_of}
+use Rattle.shell_programs.specs.KernelCalls.KernelModel.Kernel.{Kernel, Shell}
+use Rattle.shell_programs.specs.KernelCalls.KernelModel.Lists.{Lists, has_task}
+use Rattle.shell_programs.specs.KernelCalls.KernelModel.MovedTask.{with_moved_task, with_priority}
+use Rattle.shell_programs.specs.KernelCalls.KernelModel.Residents.{fault_packet}
+use Rattle.shell_programs.specs.KernelCalls.KernelModel.Task.{Task, is_guest_id}
+use Rattle.shell_programs.specs.KernelCalls.KernelModel.ValidLists.{AreValid}
+use Rattle.shell_programs.specs.KernelCalls.KernelModel.ValidQueues.{MayStand}
+use Rattle.shell_programs.specs.KernelCalls.KernelModel.ValidQueues.Place.{Work}
+use Rattle.shell_programs.specs.KernelCalls.KernelModel.ValidTasks.{runs}
+use Rattle.shell_programs.proofs.Shown.KernelCalls.KernelModel.AllThings.{all-inserted}
+use Rattle.shell_programs.proofs.Shown.KernelCalls.KernelModel.EachMember.{all-each, find-passes}
+use Rattle.shell_programs.proofs.Shown.KernelCalls.KernelModel.QueuePlaces.{place-stands}
 use Rattle.ram_disc.specs.Disc.{Disc}
-use Rattle.kernel_dispatch.specs.Dispatch.{CanDispatch}
-use Rattle.call_answers.specs.Guests.{guest_tests}
-use Rattle.call_answers.specs.Made.{by_refusal, done}
-use Rattle.call_answers.specs.Refusals.{first_refusal}
-use Rattle.packet_calls.specs.TaskWait.{waiting}
-use Rattle.task_calls.specs.ChangePri.{change_pri, moved, priority_tests, with_new_priority}
-use Rattle.task_calls.specs.HoldTask.{held, hold, hold_tests}
-use Rattle.task_calls.specs.ReleaseTask.{release, release_tests, released}
-use Rattle.task_calls.specs.SetFlags.{flagged, set_flags}
-use Rattle.kernel_boot.specs.BootTasks.{Standing, standing}
-use Rattle.resident_requests.specs.Answers.{answered_packet, finished, finished_by, returned}
-use Rattle.resident_requests.specs.Requests.{RunsResident, taken, taken_from, work}
-use Rattle.resident_requests.specs.declared.requests.Request.{Request}
+use Rattle.shell_programs.specs.KernelCalls.KernelDispatch.Dispatch.{CanDispatch}
+use Rattle.shell_programs.specs.KernelCalls.CallAnswers.Guests.{guest_tests}
+use Rattle.shell_programs.specs.KernelCalls.CallAnswers.Made.{by_refusal, done}
+use Rattle.shell_programs.specs.KernelCalls.CallAnswers.Refusals.{first_refusal}
+use Rattle.shell_programs.specs.KernelCalls.PacketCalls.TaskWait.{waiting}
+use Rattle.shell_programs.specs.KernelCalls.TaskCalls.ChangePri.{change_pri, moved, priority_tests, with_new_priority}
+use Rattle.shell_programs.specs.KernelCalls.TaskCalls.HoldTask.{held, hold, hold_tests}
+use Rattle.shell_programs.specs.KernelCalls.TaskCalls.ReleaseTask.{release, release_tests, released}
+use Rattle.shell_programs.specs.KernelCalls.TaskCalls.SetFlags.{flagged, set_flags}
+use Rattle.shell_programs.specs.KernelCalls.KernelModel.Standing.{Standing, standing}
+use Rattle.shell_programs.specs.KernelResidents.ResidentRequests.Answers.{answered_packet, finished, finished_by, returned}
+use Rattle.shell_programs.specs.KernelResidents.ResidentRequests.Requests.{RunsResident, taken, taken_from, work}
+use Rattle.shell_programs.specs.KernelResidents.ResidentRequests.declared.requests.Request.{Request}
 use Rattle.shell_programs.specs.ClearedTasks.{cleared, shell_number}
 use Rattle.shell_programs.specs.KeptLists.{KeepsResidents, RunsAlone}
 use Rattle.shell_programs.proofs.KeptFaults.{FaultsWait, Tells, all-work, begun-faults, cleared-faults, faults-same, posted-faults, started-faults, tells-more}

@@ -1,22 +1,22 @@
 -- What a turn of the shell leaves of the shell and of its stream.
 use Rattle.std.proofs.Common.{◌≡◌, ℕ, ◌-◌, ◌≤◌, Bool, true, false, not, cond, eqb, Option, Some, None, Result, Ok, Err, List, [], ◌∷◌, get_or, length, get_or-set_same, ◌⊎◌, refl, sym, ap, ◌∙◌, subst, arith, inl, inr, length-set}
 use Rattle.std.specs.Prelude.{is_some}
-use Rattle.packet_queue.specs.QueueWords.{QueuedPacket}
-use Rattle.kernel_model.specs.Between.{IsAwaited, is_typing}
-use Rattle.kernel_model.specs.Kernel.{Mode, Shell}
-use Rattle.kernel_model.specs.Kernel.Mode.{Prompt, Reading, Typing, Waiting}
-use Rattle.kernel_model.specs.Lists.{Lists}
-use Rattle.kernel_model.specs.Versions.{highest_id_of}
+use Rattle.shell_programs.specs.KernelCalls.PacketQueue.QueueWords.{QueuedPacket}
+use Rattle.shell_programs.specs.KernelCalls.KernelModel.Between.{IsAwaited, is_typing}
+use Rattle.shell_programs.specs.KernelCalls.KernelModel.Kernel.{Mode, Shell}
+use Rattle.shell_programs.specs.KernelCalls.KernelModel.Kernel.Mode.{Prompt, Reading, Typing, Waiting}
+use Rattle.shell_programs.specs.KernelCalls.KernelModel.Lists.{Lists}
+use Rattle.shell_programs.specs.KernelCalls.KernelModel.Versions.{highest_id_of}
 use Rattle.ram_disc.specs.Disc.{Disc, Stream, has_file, is_used, is_written, most_streams, shell_stream, stream_at}
 use Rattle.ram_disc.specs.DiscCalls.{Outcome, after_delete, after_rename, bytes_read, is_reader, moved_on, reader, renamed, unless_refused, with_stream, without_file}
-use Rattle.task_calls.specs.ChangePri.{change_pri}
-use Rattle.task_calls.specs.HoldTask.{hold}
-use Rattle.task_calls.specs.ReleaseTask.{release}
-use Rattle.task_calls.specs.SetFlags.{set_flags}
-use Rattle.kernel_boot.specs.BootTasks.{left_with, standing}
-use Rattle.resident_requests.specs.Answers.{finished}
-use Rattle.resident_requests.specs.Requests.{first_request, request_at, taken_from, work}
-use Rattle.resident_requests.specs.declared.requests.Request.{Request}
+use Rattle.shell_programs.specs.KernelCalls.TaskCalls.ChangePri.{change_pri}
+use Rattle.shell_programs.specs.KernelCalls.TaskCalls.HoldTask.{hold}
+use Rattle.shell_programs.specs.KernelCalls.TaskCalls.ReleaseTask.{release}
+use Rattle.shell_programs.specs.KernelCalls.TaskCalls.SetFlags.{set_flags}
+use Rattle.shell_programs.specs.KernelCalls.KernelModel.Standing.{left_with, standing}
+use Rattle.shell_programs.specs.KernelResidents.ResidentRequests.Answers.{finished}
+use Rattle.shell_programs.specs.KernelResidents.ResidentRequests.Requests.{first_request, request_at, taken_from, work}
+use Rattle.shell_programs.specs.KernelResidents.ResidentRequests.declared.requests.Request.{Request}
 use Rattle.shell_lines.specs.Command.{command_of}
 use Rattle.shell_lines.specs.declared.commands.Command.{Command}
 use Rattle.shell_lines.specs.declared.commands.Command.TheVariants.{Break, ChangePriority, Delete, Examine, Finish, Hold, Map, Nothing, Release, Rename, Run, Start, Status, «Type»}

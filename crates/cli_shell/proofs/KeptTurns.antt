@@ -1,23 +1,23 @@
 -- What each part of the shell's turn keeps of the lists the whole turn keeps.
 use Rattle.std.proofs.Common.{◌≡◌, ℕ, ◌≤◌, Bool, true, false, cond, eqb, Option, Result, Ok, Err, List, [], ◌∷◌, refl, arith}
 use Rattle.std.proofs.lemmas.Bool.{le-leb}
-use Rattle.owned_words.specs.Owned.{written}
-use Rattle.packet_queue.specs.QueueWords.{QueuedPacket}
-use Rattle.kernel_model.specs.Kernel.{Mode, Shell}
-use Rattle.kernel_model.specs.Kernel.Mode.{Prompt, Reading, Typing, Waiting}
-use Rattle.kernel_model.specs.Lists.{Lists}
-use Rattle.kernel_model.specs.Task.{is_guest_id}
-use Rattle.kernel_model.proofs.RootCounts.{highest-high}
+use Rattle.shell_programs.specs.KernelCalls.OwnedWords.Owned.{written}
+use Rattle.shell_programs.specs.KernelCalls.PacketQueue.QueueWords.{QueuedPacket}
+use Rattle.shell_programs.specs.KernelCalls.KernelModel.Kernel.{Mode, Shell}
+use Rattle.shell_programs.specs.KernelCalls.KernelModel.Kernel.Mode.{Prompt, Reading, Typing, Waiting}
+use Rattle.shell_programs.specs.KernelCalls.KernelModel.Lists.{Lists}
+use Rattle.shell_programs.specs.KernelCalls.KernelModel.Task.{is_guest_id}
+use Rattle.shell_programs.proofs.Shown.KernelCalls.KernelModel.RootCounts.{highest-high}
 use Rattle.ram_disc.specs.Disc.{Disc}
 use Rattle.ram_disc.specs.DiscCalls.{after_delete, after_open_read, after_rename}
-use Rattle.task_calls.specs.ChangePri.{change_pri}
-use Rattle.task_calls.specs.HoldTask.{hold}
-use Rattle.task_calls.specs.ReleaseTask.{release}
-use Rattle.task_calls.specs.SetFlags.{set_flags}
-use Rattle.kernel_boot.specs.BootTasks.{Standing, left_with, standing}
-use Rattle.resident_requests.specs.Answers.{finished, returned}
-use Rattle.resident_requests.specs.Requests.{first_request, request_at, taken, work}
-use Rattle.resident_requests.specs.declared.requests.Request.{Request}
+use Rattle.shell_programs.specs.KernelCalls.TaskCalls.ChangePri.{change_pri}
+use Rattle.shell_programs.specs.KernelCalls.TaskCalls.HoldTask.{hold}
+use Rattle.shell_programs.specs.KernelCalls.TaskCalls.ReleaseTask.{release}
+use Rattle.shell_programs.specs.KernelCalls.TaskCalls.SetFlags.{set_flags}
+use Rattle.shell_programs.specs.KernelCalls.KernelModel.Standing.{Standing, left_with, standing}
+use Rattle.shell_programs.specs.KernelResidents.ResidentRequests.Answers.{finished, returned}
+use Rattle.shell_programs.specs.KernelResidents.ResidentRequests.Requests.{first_request, request_at, taken, work}
+use Rattle.shell_programs.specs.KernelResidents.ResidentRequests.declared.requests.Request.{Request}
 use Rattle.shell_lines.specs.Command.{command_of}
 use Rattle.shell_lines.specs.declared.commands.Command.{Command}
 use Rattle.shell_lines.specs.declared.commands.Command.TheVariants.{Break, ChangePriority, Delete, Examine, Finish, Hold, Map, Nothing, Release, Rename, Run, Start, Status, «Type»}

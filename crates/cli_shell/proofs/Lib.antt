@@ -8,3 +8,4 @@ pub mod WholeTurn
 pub mod KeptTurns
 pub mod KeptRules
 pub mod KeptShell
+pub mod Shown

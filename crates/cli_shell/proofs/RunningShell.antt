@@ -2,24 +2,24 @@
 use Rattle.std.proofs.Common.{◌≡◌, ℕ, ◌≤◌, Bool, true, false, Option, Some, None, List, [], ◌∷◌, ◌++◌, cond, eqb, nat_lt, refl, sym, ap, ◌∙◌, subst}
 use Rattle.std.specs.Prelude.{IfSome, find}
 use Rattle.std.specs.List.{AllByRecursion}
-use Rattle.linked_list.specs.Places.{without_first}
-use Rattle.kernel_model.specs.Changes.{with_task}
-use Rattle.kernel_model.specs.HoldsLists.{HoldsLists}
-use Rattle.kernel_model.specs.Lists.{Lists, has_task}
-use Rattle.kernel_model.specs.MovedTask.{with_priority}
-use Rattle.kernel_model.specs.Task.{Task, is_guest_id}
-use Rattle.kernel_model.specs.ValidLists.{AreValid}
-use Rattle.kernel_model.specs.ValidTasks.{runs}
-use Rattle.kernel_model.proofs.AllThings.{all-inserted}
-use Rattle.call_answers.specs.Guests.{guest_tests}
-use Rattle.call_answers.specs.Made.{Made, by_refusal, done}
-use Rattle.call_answers.specs.Refusals.{first_refusal}
-use Rattle.task_calls.specs.ChangePri.{change_pri, moved, priority_tests, with_new_priority}
-use Rattle.task_calls.specs.HoldTask.{held, hold, hold_tests}
-use Rattle.task_calls.specs.ReleaseTask.{release, release_tests, released}
-use Rattle.task_calls.specs.SetFlags.{flagged, set_flags}
-use Rattle.kernel_boot.specs.BootTasks.{Standing}
-use Rattle.resident_requests.specs.Requests.{RunsResident}
+use Rattle.shell_programs.specs.KernelCalls.LinkedList.Places.{without_first}
+use Rattle.shell_programs.specs.KernelCalls.KernelModel.Changes.{with_task}
+use Rattle.shell_programs.specs.KernelCalls.KernelModel.HoldsLists.{HoldsLists}
+use Rattle.shell_programs.specs.KernelCalls.KernelModel.Lists.{Lists, has_task}
+use Rattle.shell_programs.specs.KernelCalls.KernelModel.MovedTask.{with_priority}
+use Rattle.shell_programs.specs.KernelCalls.KernelModel.Task.{Task, is_guest_id}
+use Rattle.shell_programs.specs.KernelCalls.KernelModel.ValidLists.{AreValid}
+use Rattle.shell_programs.specs.KernelCalls.KernelModel.ValidTasks.{runs}
+use Rattle.shell_programs.proofs.Shown.KernelCalls.KernelModel.AllThings.{all-inserted}
+use Rattle.shell_programs.specs.KernelCalls.CallAnswers.Guests.{guest_tests}
+use Rattle.shell_programs.specs.KernelCalls.CallAnswers.Made.{Made, by_refusal, done}
+use Rattle.shell_programs.specs.KernelCalls.CallAnswers.Refusals.{first_refusal}
+use Rattle.shell_programs.specs.KernelCalls.TaskCalls.ChangePri.{change_pri, moved, priority_tests, with_new_priority}
+use Rattle.shell_programs.specs.KernelCalls.TaskCalls.HoldTask.{held, hold, hold_tests}
+use Rattle.shell_programs.specs.KernelCalls.TaskCalls.ReleaseTask.{release, release_tests, released}
+use Rattle.shell_programs.specs.KernelCalls.TaskCalls.SetFlags.{flagged, set_flags}
+use Rattle.shell_programs.specs.KernelCalls.KernelModel.Standing.{Standing}
+use Rattle.shell_programs.specs.KernelResidents.ResidentRequests.Requests.{RunsResident}
 use Rattle.shell_programs.specs.ClearedTasks.{shell_number}
 use Rattle.shell_programs.specs.ShellPacket.{posted}
 use Rattle.shell_programs.proofs.KeptTasks.{all-changed, all-without, any-changed}

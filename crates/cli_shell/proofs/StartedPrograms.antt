@@ -2,14 +2,14 @@
 use Rattle.std.proofs.Common.{◌≡◌, ℕ, ◌≤◌, Result, Ok, List, [], refl, sym, ap, ◌∙◌, subst, arith}
 use Rattle.std.proofs.lemmas.Bool.{le-leb}
 use Rattle.ram_disc.specs.Disc.{Disc}
-use Rattle.kernel_model.specs.ChangedStore.{IsChanged}
-use Rattle.kernel_model.specs.Kernel.{Shell}
-use Rattle.kernel_model.specs.Lists.{Lists}
-use Rattle.kernel_model.specs.ValidQueues.{HasGuest}
-use Rattle.kernel_model.proofs.RootCounts.{highest-high}
-use Rattle.call_answers.specs.Outside.{Outside}
-use Rattle.kernel_boot.specs.BegunTask.{with_begun}
-use Rattle.kernel_boot.specs.BootTasks.{standing}
+use Rattle.shell_programs.specs.KernelCalls.KernelModel.ChangedStore.{IsChanged}
+use Rattle.shell_programs.specs.KernelCalls.KernelModel.Kernel.{Shell}
+use Rattle.shell_programs.specs.KernelCalls.KernelModel.Lists.{Lists}
+use Rattle.shell_programs.specs.KernelCalls.KernelModel.ValidQueues.{HasGuest}
+use Rattle.shell_programs.proofs.Shown.KernelCalls.KernelModel.RootCounts.{highest-high}
+use Rattle.shell_programs.specs.KernelCalls.CallAnswers.Outside.{Outside}
+use Rattle.shell_programs.specs.KernelBoot.BegunTask.{with_begun}
+use Rattle.shell_programs.specs.KernelCalls.KernelModel.Standing.{standing}
 use Rattle.shell_programs.specs.StartedProgram.{IsStarted, Started, begun, start_program}
 use Rattle.shell_programs.specs.Standings.{HasStanding}
 use Rattle.shell_programs.specs.declared.programs.Priority.{Priority}

@@ -1,18 +1,18 @@
 -- The first packet is taken, and treated.
 use Rattle.std.proofs.Common.{◌≡◌, ◌≢◌, ℕ, Bool, false, cond, Option, Some, Ok, Err, List, refl, sym, ap, ◌∙◌, arith, eq-eqb}
 use Rattle.std.proofs.lemmas.Bool.{ne_eqb}
-use Rattle.packet_queue.specs.declared.events.KernelEvent.{KernelEvent}
-use Rattle.kernel_model.specs.Kernel.{Shell}
-use Rattle.kernel_model.specs.Lists.{has_task}
-use Rattle.kernel_model.specs.NotedEvents.{NotesAll}
+use Rattle.shell_programs.specs.KernelCalls.PacketQueue.declared.events.KernelEvent.{KernelEvent}
+use Rattle.shell_programs.specs.KernelCalls.KernelModel.Kernel.{Shell}
+use Rattle.shell_programs.specs.KernelCalls.KernelModel.Lists.{has_task}
+use Rattle.shell_programs.specs.KernelCalls.KernelModel.NotedEvents.{NotesAll}
 use Rattle.ram_disc.specs.Disc.{Disc}
-use Rattle.call_answers.specs.Made.{IsMade, minus_one}
-use Rattle.call_answers.specs.Outside.{Outside, outside}
-use Rattle.resident_requests.specs.Answers.{returned}
-use Rattle.resident_requests.specs.Requests.{HasRequest, IsTaken, RunsResident, TakesRequest, first_request, taken, work}
-use Rattle.resident_requests.specs.declared.requests.Request.{Request}
-use Rattle.resident_requests.proofs.ResidentTurns.{takes-request}
-use Rattle.resident_requests.proofs.TakenRequest.{taken-running}
+use Rattle.shell_programs.specs.KernelCalls.CallAnswers.Made.{IsMade, minus_one}
+use Rattle.shell_programs.specs.KernelCalls.CallAnswers.Outside.{Outside, outside}
+use Rattle.shell_programs.specs.KernelResidents.ResidentRequests.Answers.{returned}
+use Rattle.shell_programs.specs.KernelResidents.ResidentRequests.Requests.{HasRequest, IsTaken, RunsResident, TakesRequest, first_request, taken, work}
+use Rattle.shell_programs.specs.KernelResidents.ResidentRequests.declared.requests.Request.{Request}
+use Rattle.shell_programs.proofs.Shown.KernelResidents.ResidentRequests.ResidentTurns.{takes-request}
+use Rattle.shell_programs.proofs.Shown.KernelResidents.ResidentRequests.TakenRequest.{taken-running}
 use Rattle.shell_programs.specs.ShellPacket.{shell_packet}
 use Rattle.cli_shell.specs.DoneParts.{IsDone, IsReady, Start}
 use Rattle.cli_shell.specs.ShellTurn.{first_treated, packet_taken, returned_unknown, treated, treated_in}

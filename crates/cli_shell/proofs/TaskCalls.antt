@@ -1,19 +1,19 @@
 -- A call about a task, and its answer.
 use Rattle.std.proofs.Common.{◌≡◌, ℕ, List, Bool, Result}
-use Rattle.owned_words.specs.Owned.{owners}
-use Rattle.kernel_model.specs.HoldsLists.{HoldsLists}
-use Rattle.kernel_model.specs.Kernel.{Shell}
-use Rattle.kernel_model.specs.Lists.{Lists}
-use Rattle.kernel_model.specs.Owned.{owned}
+use Rattle.shell_programs.specs.KernelCalls.OwnedWords.Owned.{owners}
+use Rattle.shell_programs.specs.KernelCalls.KernelModel.HoldsLists.{HoldsLists}
+use Rattle.shell_programs.specs.KernelCalls.KernelModel.Kernel.{Shell}
+use Rattle.shell_programs.specs.KernelCalls.KernelModel.Lists.{Lists}
+use Rattle.shell_programs.specs.KernelCalls.KernelModel.Owned.{owned}
 use Rattle.ram_disc.specs.Disc.{Disc}
-use Rattle.call_answers.specs.Made.{Leaves, Made, plain_answer}
-use Rattle.call_answers.specs.Outside.{Outside}
-use Rattle.task_calls.specs.ChangePri.{change_pri}
-use Rattle.task_calls.specs.HoldTask.{hold}
-use Rattle.task_calls.specs.ReleaseTask.{release}
-use Rattle.task_calls.specs.SetFlags.{set_flags}
-use Rattle.task_calls.proofs.SameWords.{change_pri-owners, hold-owners, release-owners, set_flags-owners}
-use Rattle.resident_requests.specs.Requests.{RunsResident}
+use Rattle.shell_programs.specs.KernelCalls.CallAnswers.Made.{Leaves, Made, plain_answer}
+use Rattle.shell_programs.specs.KernelCalls.CallAnswers.Outside.{Outside}
+use Rattle.shell_programs.specs.KernelCalls.TaskCalls.ChangePri.{change_pri}
+use Rattle.shell_programs.specs.KernelCalls.TaskCalls.HoldTask.{hold}
+use Rattle.shell_programs.specs.KernelCalls.TaskCalls.ReleaseTask.{release}
+use Rattle.shell_programs.specs.KernelCalls.TaskCalls.SetFlags.{set_flags}
+use Rattle.shell_programs.proofs.Shown.KernelCalls.TaskCalls.SameWords.{change_pri-owners, hold-owners, release-owners, set_flags-owners}
+use Rattle.shell_programs.specs.KernelResidents.ResidentRequests.Requests.{RunsResident}
 use Rattle.shell_programs.specs.ClearedTasks.{shell_number}
 use Rattle.cli_shell.specs.Commands.{by_call}
 use Rattle.cli_shell.specs.DoneParts.{IsDone, IsReady, Start}

@@ -1,8 +1,8 @@
 -- A file is typed: what follows a piece.
 use Rattle.std.proofs.Common.{◌≡◌, ℕ, Bool, true, false, Result, Ok, Err, List, ◌++◌, cond, sym, ap, ◌∙◌}
 use Rattle.ram_disc.specs.Disc.{Disc}
-use Rattle.call_answers.specs.Outside.{Outside, outside}
-use Rattle.kernel_model.specs.Kernel.{Shell}
+use Rattle.shell_programs.specs.KernelCalls.CallAnswers.Outside.{Outside, outside}
+use Rattle.shell_programs.specs.KernelCalls.KernelModel.Kernel.{Shell}
 use Rattle.cli_shell.specs.DoneParts.{IsReady, Start}
 use Rattle.cli_shell.specs.Prompts.{prompted, refused}
 use Rattle.cli_shell.specs.TurnParts.{ShellTurn, with_disc}

@@ -1,17 +1,17 @@
 -- The whole turn: its beginning and its end.
 use Rattle.std.proofs.Common.{◌≡◌, ℕ, Bool, true, false, cond, Some, None, List, [], ◌∷◌, append-nil, refl, sym, ap, subst}
-use Rattle.packet_queue.specs.QueueWords.{QueuedPacket}
-use Rattle.kernel_model.specs.ChangedStore.{HasKeeper}
-use Rattle.kernel_model.specs.Kernel.{Shell}
-use Rattle.kernel_model.specs.Lists.{Lists}
-use Rattle.kernel_model.proofs.ChangedLists.{knows-same}
-use Rattle.kernel_model.proofs.NotedInTurn.{notes-none, notes-then}
+use Rattle.shell_programs.specs.KernelCalls.PacketQueue.QueueWords.{QueuedPacket}
+use Rattle.shell_programs.specs.KernelCalls.KernelModel.ChangedStore.{HasKeeper}
+use Rattle.shell_programs.specs.KernelCalls.KernelModel.Kernel.{Shell}
+use Rattle.shell_programs.specs.KernelCalls.KernelModel.Lists.{Lists}
+use Rattle.shell_programs.proofs.Shown.KernelCalls.KernelModel.ChangedLists.{knows-same}
+use Rattle.shell_programs.proofs.Shown.KernelCalls.KernelModel.NotedInTurn.{notes-none, notes-then}
 use Rattle.ram_disc.specs.Disc.{Disc}
-use Rattle.call_answers.specs.Outside.{Outside}
-use Rattle.packet_calls.specs.TaskWait.{first_of_queue}
-use Rattle.kernel_boot.specs.BootTasks.{left_with}
-use Rattle.resident_requests.specs.Answers.{IsFinished, finished}
-use Rattle.resident_requests.specs.Requests.{work}
+use Rattle.shell_programs.specs.KernelCalls.CallAnswers.Outside.{Outside}
+use Rattle.shell_programs.specs.KernelCalls.PacketCalls.TaskWait.{first_of_queue}
+use Rattle.shell_programs.specs.KernelCalls.KernelModel.Standing.{left_with}
+use Rattle.shell_programs.specs.KernelResidents.ResidentRequests.Answers.{IsFinished, finished}
+use Rattle.shell_programs.specs.KernelResidents.ResidentRequests.Requests.{work}
 use Rattle.shell_programs.specs.ClearedTasks.{cleared}
 use Rattle.shell_programs.specs.Standings.{HasStanding}
 use Rattle.shell_programs.proofs.KeptRules.{cleared-residents, cleared-runs}

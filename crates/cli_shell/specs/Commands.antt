@@ -1,12 +1,12 @@
 -- What the shell does at each command.
 use Rattle.std.specs.Prelude.{ℕ, true, Option, Some, None, Result, Ok, Err, List, []}
-use Rattle.kernel_model.specs.Kernel.Mode.{Waiting}
+use Rattle.shell_programs.specs.KernelCalls.KernelModel.Kernel.Mode.{Waiting}
 use Rattle.ram_disc.specs.DiscCalls.{Outcome, after_delete, after_rename}
-use Rattle.call_answers.specs.Made.{Made}
-use Rattle.task_calls.specs.ChangePri.{change_pri}
-use Rattle.task_calls.specs.HoldTask.{hold}
-use Rattle.task_calls.specs.ReleaseTask.{release}
-use Rattle.task_calls.specs.SetFlags.{set_flags}
+use Rattle.shell_programs.specs.KernelCalls.CallAnswers.Made.{Made}
+use Rattle.shell_programs.specs.KernelCalls.TaskCalls.ChangePri.{change_pri}
+use Rattle.shell_programs.specs.KernelCalls.TaskCalls.HoldTask.{hold}
+use Rattle.shell_programs.specs.KernelCalls.TaskCalls.ReleaseTask.{release}
+use Rattle.shell_programs.specs.KernelCalls.TaskCalls.SetFlags.{set_flags}
 use Rattle.shell_lines.specs.Command.{command_of}
 use Rattle.shell_lines.specs.declared.commands.Command.{Command}
 use Rattle.shell_lines.specs.declared.commands.Command.TheVariants.{Break, ChangePriority, Delete, Examine, Finish, Hold, Map, Nothing, Release, Rename, Run, Start, Status, «Type»}

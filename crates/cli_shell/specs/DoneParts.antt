@@ -1,10 +1,10 @@
 -- What is done in the code of the parts of a turn.
 use Rattle.std.specs.Prelude.{◌≡◌, ℕ, Bool, false, List, ◌++◌}
-use Rattle.kernel_model.specs.Kernel.{Shell}
-use Rattle.kernel_model.specs.NotedEvents.{NotesAll}
+use Rattle.shell_programs.specs.KernelCalls.KernelModel.Kernel.{Shell}
+use Rattle.shell_programs.specs.KernelCalls.KernelModel.NotedEvents.{NotesAll}
 use Rattle.ram_disc.specs.Disc.{Disc}
-use Rattle.call_answers.specs.Outside.{Outside}
-use Rattle.resident_requests.specs.Requests.{RunsResident}
+use Rattle.shell_programs.specs.KernelCalls.CallAnswers.Outside.{Outside}
+use Rattle.shell_programs.specs.KernelResidents.ResidentRequests.Requests.{RunsResident}
 use Rattle.shell_programs.specs.ClearedTasks.{shell_number}
 use Rattle.shell_programs.specs.ShellPacket.{HasPacket}
 use Rattle.shell_programs.specs.Standings.{HasStanding}

@@ -1,6 +1,6 @@
 -- What a turn of the shell leaves of the lists.
 use Rattle.std.specs.Prelude.{◌≡◌}
-use Rattle.kernel_model.specs.Lists.{Lists}
+use Rattle.shell_programs.specs.KernelCalls.KernelModel.Lists.{Lists}
 
 -- all but the blocks, the modules and the tasks
 pub record KeepsRest (l m : Lists) : Type 0 where

@@ -6,3 +6,6 @@ pub mod Commands
 pub mod ShellTurn
 pub mod DoneParts
 pub mod KeptLists
+-- shown to the crates above
+pub use Rattle.shell_programs.specs.KernelResidents
+pub use Rattle.shell_programs.specs.KernelBoot

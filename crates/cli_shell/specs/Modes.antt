@@ -1,7 +1,7 @@
 -- The shell's modes, as the code has them.
 use Rattle.std.specs.Prelude.{ℕ}
-use Rattle.kernel_model.specs.Kernel.{Mode as KernelMode}
-use Rattle.kernel_model.specs.Kernel.Mode.{Prompt as KernelPrompt, Reading as KernelReading, Typing as KernelTyping, Waiting as KernelWaiting}
+use Rattle.shell_programs.specs.KernelCalls.KernelModel.Kernel.{Mode as KernelMode}
+use Rattle.shell_programs.specs.KernelCalls.KernelModel.Kernel.Mode.{Prompt as KernelPrompt, Reading as KernelReading, Typing as KernelTyping, Waiting as KernelWaiting}
 use Rattle.cli_shell.specs.declared.modes.Mode.{Mode}
 use Rattle.cli_shell.specs.declared.modes.Mode.TheVariants.{Prompt, Reading, Typing, Waiting}
 

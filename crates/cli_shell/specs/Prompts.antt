@@ -1,6 +1,6 @@
 -- The shell prompts, also after it has told the code of a refusal.
 use Rattle.std.specs.Prelude.{ℕ, Result, Ok, Err, List, codes}
-use Rattle.kernel_model.specs.Kernel.Mode.{Reading}
+use Rattle.shell_programs.specs.KernelCalls.KernelModel.Kernel.Mode.{Reading}
 use Rattle.shell_listings.specs.NumberLines.{error_line}
 use Rattle.shell_programs.specs.ShellPacket.{post_events, requested}
 use Rattle.cli_shell.specs.TurnParts.{ShellTurn, and_then, in_mode, shown}

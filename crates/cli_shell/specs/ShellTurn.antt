@@ -1,15 +1,15 @@
 -- The turn of the shell.
 use Rattle.std.specs.Prelude.{◌≡◌, ℕ, ◌+◌, ◌==◌, if◌then◌else◌, is_some, Option, Some, None, Err, List, [], ◌∷◌, slice_index}
-use Rattle.packet_queue.specs.QueueWords.{QueuedPacket}
-use Rattle.kernel_model.specs.Between.{is_typing}
-use Rattle.kernel_model.specs.Kernel.{Mode, Shell}
-use Rattle.kernel_model.specs.Kernel.Mode.{Prompt, Reading, Typing, Waiting}
-use Rattle.kernel_model.specs.Lists.{Lists}
+use Rattle.shell_programs.specs.KernelCalls.PacketQueue.QueueWords.{QueuedPacket}
+use Rattle.shell_programs.specs.KernelCalls.KernelModel.Between.{is_typing}
+use Rattle.shell_programs.specs.KernelCalls.KernelModel.Kernel.{Mode, Shell}
+use Rattle.shell_programs.specs.KernelCalls.KernelModel.Kernel.Mode.{Prompt, Reading, Typing, Waiting}
+use Rattle.shell_programs.specs.KernelCalls.KernelModel.Lists.{Lists}
 use Rattle.ram_disc.specs.Disc.{Disc, IsDisc, shell_stream, stream_at}
-use Rattle.resident_requests.specs.Answers.{finished, returned}
-use Rattle.resident_requests.specs.Requests.{RunsResident, first_request, taken, work}
-use Rattle.resident_requests.specs.declared.requests.Request.{Request}
-use Rattle.kernel_boot.specs.BootTasks.{left_with}
+use Rattle.shell_programs.specs.KernelResidents.ResidentRequests.Answers.{finished, returned}
+use Rattle.shell_programs.specs.KernelResidents.ResidentRequests.Requests.{RunsResident, first_request, taken, work}
+use Rattle.shell_programs.specs.KernelResidents.ResidentRequests.declared.requests.Request.{Request}
+use Rattle.shell_programs.specs.KernelCalls.KernelModel.Standing.{left_with}
 use Rattle.shell_listings.specs.NumberLines.{return_code_line}
 use Rattle.shell_programs.specs.ClearedTasks.{cleared, shell_number}
 use Rattle.shell_programs.specs.ShellPacket.{shell_packet}

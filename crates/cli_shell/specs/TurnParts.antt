@@ -1,11 +1,11 @@
 -- A turn of the shell, of which some parts are done.
 use Rattle.std.specs.Prelude.{ℕ, Bool, false, List, [], ◌++◌}
-use Rattle.packet_queue.specs.declared.events.KernelEvent.{KernelEvent}
-use Rattle.kernel_model.specs.Kernel.{Mode, Shell}
-use Rattle.kernel_model.specs.Lists.{Lists}
+use Rattle.shell_programs.specs.KernelCalls.PacketQueue.declared.events.KernelEvent.{KernelEvent}
+use Rattle.shell_programs.specs.KernelCalls.KernelModel.Kernel.{Mode, Shell}
+use Rattle.shell_programs.specs.KernelCalls.KernelModel.Lists.{Lists}
 use Rattle.ram_disc.specs.Disc.{Disc}
-use Rattle.call_answers.specs.Made.{Made}
-use Rattle.kernel_boot.specs.BootTasks.{Standing, left_with, standing}
+use Rattle.shell_programs.specs.KernelCalls.CallAnswers.Made.{Made}
+use Rattle.shell_programs.specs.KernelCalls.KernelModel.Standing.{Standing, left_with, standing}
 
 -- The words of the store and its lists, the shell and the disc; the bytes that went to the console, and the events; and whether the
 -- shell has finished the machine.

@@ -1,6 +1,6 @@
 -- A file is typed, piece after piece, by the shell's own stream.
 use Rattle.std.specs.Prelude.{ℕ, ◌==◌, Bool, true, if◌then◌else◌, Option, Some, None, Result, Ok, Err, List, length}
-use Rattle.kernel_model.specs.Kernel.Mode.{Typing}
+use Rattle.shell_programs.specs.KernelCalls.KernelModel.Kernel.Mode.{Typing}
 use Rattle.ram_disc.specs.Disc.{Disc, Stream, bytes_of, shell_stream, stream_at}
 use Rattle.ram_disc.specs.DiscCalls.{Outcome, after_close, after_open_read, after_read_on, bytes_read}
 use Rattle.shell_programs.specs.ClearedTasks.{shell_number}

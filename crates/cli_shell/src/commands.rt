@@ -1,6 +1,6 @@
 // The shell executes a line.
 ghost use Rattle.std.specs.Prelude.{◌≡◌, ◌+◌, ◌≤◌, length, None};
-ghost use Rattle.call_answers.specs.Outside.{outside};
+ghost use Rattle.shell_programs.specs.KernelCalls.CallAnswers.Outside.{outside};
 ghost use Rattle.ram_disc.specs.Disc.{IsDisc, shell_stream, stream_at};
 ghost use Rattle.cli_shell.specs.DoneParts.{IsDone, IsReady, Start};
 ghost use Rattle.cli_shell.specs.TurnParts.{ShellTurn, most_shown};
@@ -11,12 +11,10 @@ use crate::programs::{run, start};
 use crate::prompts::{answer, prompt, refuse};
 use crate::state::ShellState;
 use crate::typing::type_file;
-use packet_queue::EventLog;
 use ram_disc::Disc;
 use shell_lines::{Command, read_command};
-use task_calls::{change_pri, hold_task, release_task, set_flags};
+use shell_programs::{EventLog, KindKeeper, change_pri, hold_task, release_task, set_flags};
 use tp_io::Output;
-use word_kinds::KindKeeper;
 use word_store::Store;
 
 /// Executes the line that the console has handed over; a line that is no command is refused. The answer is whether the machine is

@@ -1,14 +1,14 @@
 // What the shell's turn keeps.
 ghost use Rattle.std.specs.Prelude.{◌≡◌, ℕ, List, is_some};
 ghost use Rattle.word_store.specs.declared.registers.Regs.{Regs};
-ghost use Rattle.kernel_model.specs.Between.{FaultsStand, IsAwaited, is_typing};
-ghost use Rattle.kernel_model.specs.Kernel.{Kernel, Shell};
-ghost use Rattle.kernel_model.specs.Lists.{Lists};
-ghost use Rattle.kernel_model.specs.ValidLists.{AreValid};
-ghost use Rattle.kernel_model.specs.Versions.{highest_id_of};
+ghost use Rattle.shell_programs.specs.KernelCalls.KernelModel.Between.{FaultsStand, IsAwaited, is_typing};
+ghost use Rattle.shell_programs.specs.KernelCalls.KernelModel.Kernel.{Kernel, Shell};
+ghost use Rattle.shell_programs.specs.KernelCalls.KernelModel.Lists.{Lists};
+ghost use Rattle.shell_programs.specs.KernelCalls.KernelModel.ValidLists.{AreValid};
+ghost use Rattle.shell_programs.specs.KernelCalls.KernelModel.Versions.{highest_id_of};
 ghost use Rattle.ram_disc.specs.Disc.{Disc, shell_stream, stream_at};
-ghost use Rattle.kernel_dispatch.specs.Dispatch.{CanDispatch};
-ghost use Rattle.resident_requests.specs.Requests.{RunsResident};
+ghost use Rattle.shell_programs.specs.KernelCalls.KernelDispatch.Dispatch.{CanDispatch};
+ghost use Rattle.shell_programs.specs.KernelResidents.ResidentRequests.Requests.{RunsResident};
 ghost use Rattle.shell_programs.specs.ClearedTasks.{shell_number};
 ghost use Rattle.cli_shell.specs.KeptLists.{KeepsRest};
 ghost use Rattle.cli_shell.specs.ShellTurn.{RunsShell, shell_turn};

@@ -1,6 +1,6 @@
 // The shell lists the files, the tasks and the blocks.
 ghost use Rattle.std.specs.Prelude.{◌+◌, ◌≤◌, false, length};
-ghost use Rattle.call_answers.specs.Outside.{outside};
+ghost use Rattle.shell_programs.specs.KernelCalls.CallAnswers.Outside.{outside};
 ghost use Rattle.ram_disc.specs.Disc.{Disc, IsDisc};
 ghost use Rattle.cli_shell.specs.DoneParts.{IsDone, IsReady, Start};
 ghost use Rattle.cli_shell.specs.TurnParts.{ShellTurn, most_shown};
@@ -9,11 +9,10 @@ ghost use Rattle.cli_shell.specs.Commands.{executed};
 
 use crate::prompts::prompt;
 use crate::state::ShellState;
-use packet_queue::EventLog;
 use ram_disc::Disc;
 use shell_listings::{write_blocks, write_files, write_tasks};
+use shell_programs::{EventLog, KindKeeper};
 use tp_io::Output;
-use word_kinds::KindKeeper;
 use word_store::Store;
 
 /// Lists the files of the disc.

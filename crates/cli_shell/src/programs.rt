@@ -1,6 +1,6 @@
 // The shell starts programs.
 ghost use Rattle.std.specs.Prelude.{◌≡◌, ◌+◌, ◌≤◌, false, length};
-ghost use Rattle.call_answers.specs.Outside.{outside};
+ghost use Rattle.shell_programs.specs.KernelCalls.CallAnswers.Outside.{outside};
 ghost use Rattle.ram_disc.specs.Disc.{Disc};
 ghost use Rattle.cli_shell.specs.DoneParts.{IsDone, IsReady, Start};
 ghost use Rattle.cli_shell.specs.TurnParts.{ShellTurn};
@@ -9,13 +9,12 @@ ghost use Rattle.cli_shell.specs.Commands.{run, run_priority, start};
 use crate::modes::Mode;
 use crate::prompts::{prompt, refuse};
 use crate::state::ShellState;
-use kernel_boot::begin_task;
-use packet_queue::EventLog;
 use ram_disc::{Disc, Name};
 use shell_listings::write_task_number;
-use shell_programs::{Priority, send_shell_packet, start_program};
+use shell_programs::{
+    EventLog, KindKeeper, Priority, begin_task, send_shell_packet, start_program,
+};
 use tp_io::Output;
-use word_kinds::KindKeeper;
 use word_store::Store;
 
 /// The type of the request that a program gets.

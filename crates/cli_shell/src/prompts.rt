@@ -1,6 +1,6 @@
 // The shell prompts, also after it has told the code of a refusal.
 ghost use Rattle.std.specs.Prelude.{◌+◌, ◌≤◌, false, length};
-ghost use Rattle.call_answers.specs.Outside.{outside};
+ghost use Rattle.shell_programs.specs.KernelCalls.CallAnswers.Outside.{outside};
 ghost use Rattle.ram_disc.specs.Disc.{Disc};
 ghost use Rattle.cli_shell.specs.DoneParts.{IsDone, IsReady, Start};
 ghost use Rattle.cli_shell.specs.TurnParts.{ShellTurn};
@@ -8,11 +8,9 @@ ghost use Rattle.cli_shell.specs.Prompts.{answered, prompted, refused};
 
 use crate::modes::Mode;
 use crate::state::ShellState;
-use packet_queue::EventLog;
 use shell_listings::write_error;
-use shell_programs::send_shell_packet;
+use shell_programs::{EventLog, KindKeeper, send_shell_packet};
 use tp_io::Output;
-use word_kinds::KindKeeper;
 use word_store::Store;
 
 /// The number of the console.

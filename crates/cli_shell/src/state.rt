@@ -1,6 +1,6 @@
 // What the shell keeps outside the store: its mode, and the line that the console has handed to it.
 ghost use Rattle.std.specs.Prelude.{◌≡◌, ◌≤◌, [], length};
-ghost use Rattle.kernel_model.specs.Kernel.Mode.{Prompt};
+ghost use Rattle.shell_programs.specs.KernelCalls.KernelModel.Kernel.Mode.{Prompt};
 ghost use Rattle.cli_shell.specs.Modes.{awaited, mode_of};
 
 use crate::modes::Mode;
@@ -15,7 +15,7 @@ pub struct ShellState {
 }
 
 impl Model for ShellState {
-    ghost use Rattle.kernel_model.specs.Kernel.{Shell};
+    ghost use Rattle.shell_programs.specs.KernelCalls.KernelModel.Kernel.{Shell};
     ghost use Rattle.cli_shell.specs.Modes.{mode_of};
 
     ghost Value = { Shell };

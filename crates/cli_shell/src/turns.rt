@@ -1,28 +1,27 @@
 // The turn of the shell.
 ghost use Rattle.std.specs.Prelude.{◌≡◌, ◌+◌, ◌++◌, ◌≤◌, [], false, is_some, length};
-ghost use Rattle.call_answers.specs.Outside.{outside};
-ghost use Rattle.kernel_model.specs.Between.{is_typing};
-ghost use Rattle.kernel_model.specs.ChangedStore.{HasKeeper};
-ghost use Rattle.kernel_model.specs.Lists.{Lists};
+ghost use Rattle.shell_programs.specs.KernelCalls.CallAnswers.Outside.{outside};
+ghost use Rattle.shell_programs.specs.KernelCalls.KernelModel.Between.{is_typing};
+ghost use Rattle.shell_programs.specs.KernelCalls.KernelModel.ChangedStore.{HasKeeper};
+ghost use Rattle.shell_programs.specs.KernelCalls.KernelModel.Lists.{Lists};
 ghost use Rattle.ram_disc.specs.Disc.{Disc, IsDisc, shell_stream, stream_at};
 ghost use Rattle.cli_shell.specs.DoneParts.{IsDone, IsReady, IsShellTurn, Start};
 ghost use Rattle.cli_shell.specs.ShellTurn.{RunsShell, first_treated, program_ended, return_code, shell_turn, treated_in};
 ghost use Rattle.cli_shell.specs.TurnParts.{ShellTurn, most_shown};
-ghost use Rattle.resident_requests.specs.declared.requests.Request.{Request};
+ghost use Rattle.shell_programs.specs.KernelResidents.ResidentRequests.declared.requests.Request.{Request};
 
 use crate::commands::execute_line;
 use crate::modes::Mode;
 use crate::prompts::{CONSOLE, prompt};
 use crate::state::ShellState;
 use crate::typing::type_on;
-use packet_queue::EventLog;
 use ram_disc::Disc;
-use resident_requests::requests::UNKNOWN_TYPE;
-use resident_requests::{Request, finish_turn, first_packet, return_request, take_request};
 use shell_listings::write_return_code;
-use shell_programs::clear_up;
+use shell_programs::{
+    EventLog, KindKeeper, Request, UNKNOWN_TYPE, clear_up, finish_turn, first_packet,
+    return_request, take_request,
+};
 use tp_io::Output;
-use word_kinds::KindKeeper;
 use word_store::{Store, word_at};
 
 /// The number of the shell, as a sender.

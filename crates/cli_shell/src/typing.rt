@@ -1,6 +1,6 @@
 // The shell types a file, piece after piece.
 ghost use Rattle.std.specs.Prelude.{◌≡◌, ◌+◌, ◌++◌, ◌≤◌, false, length, None};
-ghost use Rattle.call_answers.specs.Outside.{outside};
+ghost use Rattle.shell_programs.specs.KernelCalls.CallAnswers.Outside.{outside};
 ghost use Rattle.ram_disc.specs.Disc.{Disc, shell_stream, stream_at};
 ghost use Rattle.cli_shell.specs.DoneParts.{IsDone, IsReady, Start};
 ghost use Rattle.cli_shell.specs.TurnParts.{ShellTurn};
@@ -9,11 +9,9 @@ ghost use Rattle.cli_shell.specs.TypedFiles.{after_piece, goes_on, is_typed, nex
 use crate::modes::Mode;
 use crate::prompts::{prompt, refuse};
 use crate::state::ShellState;
-use packet_queue::EventLog;
 use ram_disc::{Disc, Name};
-use shell_programs::post_shell_packet;
+use shell_programs::{EventLog, KindKeeper, post_shell_packet};
 use tp_io::Output;
-use word_kinds::KindKeeper;
 use word_store::Store;
 
 /// The number of the shell.

@@ -3,26 +3,26 @@ use Rattle.std.proofs.Common.{◌≡◌, ℕ, ◌<◌, ◌≤◌, Bool, true, fa
 use Rattle.std.specs.List.{AllByRecursion}
 use Rattle.std.proofs.lemmas.Bool.Decides.{nat_tests}
 use Rattle.std.proofs.lemmas.List.{append-nil, append_assoc}
-use Rattle.owned_words.specs.Owned.{owners}
-use Rattle.packet_queue.specs.Queue.{queue_at}
-use Rattle.packet_queue.specs.QueueWords.{QueuedPacket, address_of}
-use Rattle.packet_queue.specs.declared.events.KernelEvent.{KernelEvent}
-use Rattle.packet_queue.proofs.HeldQueues.{held-queue}
-use Rattle.kernel_model.specs.ChangedStore.{IsChanged}
-use Rattle.kernel_model.specs.Changes.{with_queue}
-use Rattle.kernel_model.specs.HoldsLists.{HoldsLists}
-use Rattle.kernel_model.specs.Lists.{Lists}
-use Rattle.kernel_model.specs.NotedEvents.{NotesAll}
-use Rattle.kernel_model.specs.Owned.{clock_head, owned}
-use Rattle.kernel_model.specs.ValidQueues.{NeverFall}
-use Rattle.kernel_model.specs.ValidQueues.Place.{Clock}
-use Rattle.kernel_model.proofs.ChangedLists.{changed-none, changed-then}
-use Rattle.kernel_model.proofs.EachMember.{all-each}
-use Rattle.kernel_model.proofs.NotedInTurn.{notes-none, notes-then}
-use Rattle.device_returns.specs.Returned.{IsServed, Served, first_returned, return_events, returned_by, with_work_for}
-use Rattle.device_returns.specs.declared.returns.Device.TheVariants.{OfClock}
+use Rattle.kernel_calls.specs.OwnedWords.Owned.{owners}
+use Rattle.kernel_calls.specs.PacketQueue.Queue.{queue_at}
+use Rattle.kernel_calls.specs.PacketQueue.QueueWords.{QueuedPacket, address_of}
+use Rattle.kernel_calls.specs.PacketQueue.declared.events.KernelEvent.{KernelEvent}
+use Rattle.kernel_calls.proofs.Shown.PacketQueue.HeldQueues.{held-queue}
+use Rattle.kernel_calls.specs.KernelModel.ChangedStore.{IsChanged}
+use Rattle.kernel_calls.specs.KernelModel.Changes.{with_queue}
+use Rattle.kernel_calls.specs.KernelModel.HoldsLists.{HoldsLists}
+use Rattle.kernel_calls.specs.KernelModel.Lists.{Lists}
+use Rattle.kernel_calls.specs.KernelModel.NotedEvents.{NotesAll}
+use Rattle.kernel_calls.specs.KernelModel.Owned.{clock_head, owned}
+use Rattle.kernel_calls.specs.KernelModel.ValidQueues.{NeverFall}
+use Rattle.kernel_calls.specs.KernelModel.ValidQueues.Place.{Clock}
+use Rattle.kernel_calls.proofs.Shown.KernelModel.ChangedLists.{changed-none, changed-then}
+use Rattle.kernel_calls.proofs.Shown.KernelModel.EachMember.{all-each}
+use Rattle.kernel_calls.proofs.Shown.KernelModel.NotedInTurn.{notes-none, notes-then}
+use Rattle.kernel_calls.specs.PacketCalls.Returned.{IsServed, Served, first_returned, return_events, returned_by, with_work_for}
+use Rattle.kernel_calls.specs.PacketCalls.declared.returns.Device.TheVariants.{OfClock}
 use Rattle.clock_device.specs.Tick.{due_packets, due_returned, events_of_return, is_first_due, later_packets, with_returned}
-use Rattle.device_returns.proofs.DeviceQueues.{device-held}
+use Rattle.kernel_calls.proofs.Shown.PacketCalls.DeviceQueues.{device-held}
 
 -- ---- the first packet
 

@@ -1,28 +1,28 @@
 -- The ticks are another number.
 use Rattle.std.proofs.Common.{◌≡◌, ℕ, ◌-◌, List, [], ◌∷◌, ◌++◌, set, refl, sym, arith}
 use Rattle.std.specs.List.{AllByRecursion}
-use Rattle.owned_words.specs.Exchange.{Exchange}
-use Rattle.owned_words.specs.Owned.{Pairs, owners, row_from}
-use Rattle.owned_words.proofs.Exchanges.{exchange-left}
-use Rattle.getvec_chain.specs.BlockWords.{blocks_words}
-use Rattle.hunk_loader.specs.ModuleExchanges.{modules_words}
-use Rattle.packet_queue.specs.QueueWords.{QueuedPacket}
-use Rattle.kernel_model.specs.ChangedStore.{IsChanged}
-use Rattle.kernel_model.specs.HoldsLists.{HoldsLists}
-use Rattle.kernel_model.specs.Lists.{Lists, address_of_task}
-use Rattle.kernel_model.specs.Owned.{device_words, owned, tasks_words}
-use Rattle.kernel_model.specs.Residents.{resident_words}
-use Rattle.kernel_model.specs.Root.{resident_data, root_words, unused_entries}
-use Rattle.kernel_model.specs.Task.{filled}
-use Rattle.kernel_model.specs.ValidLists.{AreValid}
-use Rattle.kernel_model.specs.ValidQueues.{MayStand, Place}
-use Rattle.kernel_model.specs.ValidQueues.Place.{Clock, Keyboard, Output, Pending, Work}
-use Rattle.kernel_model.specs.ValidTasks.{CoroutinesStand, IsTask}
-use Rattle.kernel_model.specs.Versions.{highest_id_of}
-use Rattle.kernel_model.proofs.ChangedLists.{exchange-owned, owners-exchanged}
-use Rattle.kernel_model.proofs.EachMember.{all-each}
-use Rattle.kernel_model.proofs.OwnerCounts.{owns-without}
-use Rattle.kernel_model.proofs.RulesKept.{CoroutinesStand-same, IsTask-kept, MayStand-more, TasksStand-same}
+use Rattle.kernel_calls.specs.OwnedWords.Exchange.{Exchange}
+use Rattle.kernel_calls.specs.OwnedWords.Owned.{Pairs, owners, row_from}
+use Rattle.kernel_calls.proofs.Shown.OwnedWords.Exchanges.{exchange-left}
+use Rattle.kernel_calls.specs.GetvecChain.BlockWords.{blocks_words}
+use Rattle.kernel_calls.specs.HunkLoader.ModuleExchanges.{modules_words}
+use Rattle.kernel_calls.specs.PacketQueue.QueueWords.{QueuedPacket}
+use Rattle.kernel_calls.specs.KernelModel.ChangedStore.{IsChanged}
+use Rattle.kernel_calls.specs.KernelModel.HoldsLists.{HoldsLists}
+use Rattle.kernel_calls.specs.KernelModel.Lists.{Lists, address_of_task}
+use Rattle.kernel_calls.specs.KernelModel.Owned.{device_words, owned, tasks_words}
+use Rattle.kernel_calls.specs.KernelModel.Residents.{resident_words}
+use Rattle.kernel_calls.specs.KernelModel.Root.{resident_data, root_words, unused_entries}
+use Rattle.kernel_calls.specs.KernelModel.Task.{filled}
+use Rattle.kernel_calls.specs.KernelModel.ValidLists.{AreValid}
+use Rattle.kernel_calls.specs.KernelModel.ValidQueues.{MayStand, Place}
+use Rattle.kernel_calls.specs.KernelModel.ValidQueues.Place.{Clock, Keyboard, Output, Pending, Work}
+use Rattle.kernel_calls.specs.KernelModel.ValidTasks.{CoroutinesStand, IsTask}
+use Rattle.kernel_calls.specs.KernelModel.Versions.{highest_id_of}
+use Rattle.kernel_calls.proofs.Shown.KernelModel.ChangedLists.{exchange-owned, owners-exchanged}
+use Rattle.kernel_calls.proofs.Shown.KernelModel.EachMember.{all-each}
+use Rattle.kernel_calls.proofs.Shown.KernelModel.OwnerCounts.{owns-without}
+use Rattle.kernel_calls.proofs.Shown.KernelModel.RulesKept.{CoroutinesStand-same, IsTask-kept, MayStand-more, TasksStand-same}
 use Rattle.clock_device.specs.Tick.{with_tick}
 
 -- the words of the root behind that of the ticks

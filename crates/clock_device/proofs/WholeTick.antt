@@ -1,13 +1,13 @@
 -- What a tick leaves.
 use Rattle.std.proofs.Common.{◌≡◌, ℕ, ◌+◌, Bool, Option, List, [], get_or, set, sym, ap, ◌∙◌, subst}
-use Rattle.packet_queue.specs.declared.events.KernelEvent.{KernelEvent}
-use Rattle.kernel_model.specs.ChangedStore.{IsChanged}
-use Rattle.kernel_model.specs.HoldsLists.{HoldsLists}
-use Rattle.kernel_model.specs.Lists.{Lists}
-use Rattle.kernel_model.specs.NotedEvents.{NotesAll}
-use Rattle.kernel_model.proofs.ChangedLists.{changed-then}
-use Rattle.device_returns.specs.Returned.{IsServed, Served}
-use Rattle.call_answers.proofs.RootTold.{tick-told}
+use Rattle.kernel_calls.specs.PacketQueue.declared.events.KernelEvent.{KernelEvent}
+use Rattle.kernel_calls.specs.KernelModel.ChangedStore.{IsChanged}
+use Rattle.kernel_calls.specs.KernelModel.HoldsLists.{HoldsLists}
+use Rattle.kernel_calls.specs.KernelModel.Lists.{Lists}
+use Rattle.kernel_calls.specs.KernelModel.NotedEvents.{NotesAll}
+use Rattle.kernel_calls.proofs.Shown.KernelModel.ChangedLists.{changed-then}
+use Rattle.kernel_calls.specs.PacketCalls.Returned.{IsServed, Served}
+use Rattle.kernel_calls.proofs.Shown.CallAnswers.RootTold.{tick-told}
 use Rattle.clock_device.specs.Tick.{due_returned, ticked, with_tick}
 use Rattle.clock_device.proofs.TickLists.{tick-changed, tick-owned}
 

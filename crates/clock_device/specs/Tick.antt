@@ -1,13 +1,13 @@
 -- A tick of the clock.
 use Rattle.std.specs.Prelude.{ℕ, ◌+◌, Bool, false, not, List, [], ◌∷◌, filter, nat_le}
 use Rattle.std.specs.List.{flat_map}
-use Rattle.packet_queue.specs.QueueWords.{QueuedPacket}
-use Rattle.packet_queue.specs.declared.events.KernelEvent.{KernelEvent}
-use Rattle.kernel_model.specs.Changes.{with_queue}
-use Rattle.kernel_model.specs.Lists.{Lists}
-use Rattle.kernel_model.specs.ValidQueues.Place.{Clock}
-use Rattle.device_returns.specs.Returned.{Served, return_events, returned_by, with_work_for}
-use Rattle.device_returns.specs.declared.returns.Device.TheVariants.{OfClock}
+use Rattle.kernel_calls.specs.PacketQueue.QueueWords.{QueuedPacket}
+use Rattle.kernel_calls.specs.PacketQueue.declared.events.KernelEvent.{KernelEvent}
+use Rattle.kernel_calls.specs.KernelModel.Changes.{with_queue}
+use Rattle.kernel_calls.specs.KernelModel.Lists.{Lists}
+use Rattle.kernel_calls.specs.KernelModel.ValidQueues.Place.{Clock}
+use Rattle.kernel_calls.specs.PacketCalls.Returned.{Served, return_events, returned_by, with_work_for}
+use Rattle.kernel_calls.specs.PacketCalls.declared.returns.Device.TheVariants.{OfClock}
 
 -- a packet is due at this tick or before, and it is not
 abbrev pub due_packets : ℕ → List QueuedPacket → List QueuedPacket

@@ -1,14 +1,12 @@
 // A tick of the clock.
 ghost use Rattle.std.specs.Prelude.{◌≡◌, ◌<◌, ◌-◌, ◌^◌};
-ghost use Rattle.kernel_model.specs.HoldsLists.{HoldsLists};
-ghost use Rattle.kernel_model.specs.Lists.{Lists};
-ghost use Rattle.kernel_model.specs.NotedEvents.{NotesAll};
-ghost use Rattle.device_returns.specs.Returned.{IsServed};
+ghost use Rattle.kernel_calls.specs.KernelModel.HoldsLists.{HoldsLists};
+ghost use Rattle.kernel_calls.specs.KernelModel.Lists.{Lists};
+ghost use Rattle.kernel_calls.specs.KernelModel.NotedEvents.{NotesAll};
+ghost use Rattle.kernel_calls.specs.PacketCalls.Returned.{IsServed};
 ghost use Rattle.clock_device.specs.Tick.{due_returned, is_first_due, ticked};
 
-use device_returns::{Device, return_first};
-use packet_queue::EventLog;
-use task_block::{RootField, root, set_root};
+use kernel_calls::{Device, EventLog, RootField, return_first, root, set_root};
 use word_store::{Store, word_at};
 
 /// The word of a packet that has the tick at which it is due.

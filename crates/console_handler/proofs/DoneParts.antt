@@ -4,17 +4,17 @@ use Rattle.std.specs.Prelude.{unwrap_or, Bool}
 use Rattle.std.proofs.lemmas.Bool.{cases_lt}
 use Rattle.std.proofs.lemmas.List.{ext_get_or}
 use Rattle.std.proofs.lemmas.List.FromFn.{get_or-map-range_with_len, length-map-range_with_len}
-use Rattle.owned_words.specs.Owned.{Pairs, owners, word_in, written}
-use Rattle.owned_words.proofs.OwnedWords.{length-written, written-append, word_in-holds, word_in-none}
-use Rattle.packet_queue.specs.declared.events.KernelEvent.{KernelEvent}
-use Rattle.kernel_model.specs.ChangedStore.{HasKeeper, IsChanged, Knows}
-use Rattle.kernel_model.specs.Kernel.{Console}
-use Rattle.kernel_model.specs.Lists.{Lists, has_task}
-use Rattle.kernel_model.specs.NotedEvents.{NotesAll}
-use Rattle.kernel_model.specs.Owned.{owned}
-use Rattle.kernel_model.proofs.ChangedLists.{changed-none, changed-then, knows-same}
-use Rattle.kernel_model.proofs.NotedInTurn.{notes-none, notes-then}
-use Rattle.call_answers.specs.Outside.{Outside, outside}
+use Rattle.resident_requests.specs.KernelCalls.OwnedWords.Owned.{Pairs, owners, word_in, written}
+use Rattle.resident_requests.proofs.Shown.KernelCalls.OwnedWords.OwnedWords.{length-written, written-append, word_in-holds, word_in-none}
+use Rattle.resident_requests.specs.KernelCalls.PacketQueue.declared.events.KernelEvent.{KernelEvent}
+use Rattle.resident_requests.specs.KernelCalls.KernelModel.ChangedStore.{HasKeeper, IsChanged, Knows}
+use Rattle.resident_requests.specs.KernelCalls.KernelModel.Kernel.{Console}
+use Rattle.resident_requests.specs.KernelCalls.KernelModel.Lists.{Lists, has_task}
+use Rattle.resident_requests.specs.KernelCalls.KernelModel.NotedEvents.{NotesAll}
+use Rattle.resident_requests.specs.KernelCalls.KernelModel.Owned.{owned}
+use Rattle.resident_requests.proofs.Shown.KernelCalls.KernelModel.ChangedLists.{changed-none, changed-then, knows-same}
+use Rattle.resident_requests.proofs.Shown.KernelCalls.KernelModel.NotedInTurn.{notes-none, notes-then}
+use Rattle.resident_requests.specs.KernelCalls.CallAnswers.Outside.{Outside, outside}
 use Rattle.console_handler.specs.ConsoleTurn.{ended, turn_done}
 use Rattle.resident_requests.specs.Answers.{IsFinished, finished}
 use Rattle.resident_requests.specs.Turns.{IsResidentTurn}

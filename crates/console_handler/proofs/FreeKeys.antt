@@ -1,16 +1,16 @@
 -- Whether the key packet is on no queue, as its link says.
 use Rattle.std.proofs.Common.{◌≡◌, ℕ, ◌<◌, ◌≤◌, leb, ◌&&◌, Bool, true, false, not, cond, eqb, get_or, is_some, Option, Some, None, List, refl, ap, ◌∙◌, arith}
 use Rattle.std.proofs.lemmas.Bool.{and_parts, eq-eqb, leb-true, ne_eqb}
-use Rattle.owned_words.specs.Owned.{Holds}
-use Rattle.packet_queue.specs.Queue.{no_queue}
-use Rattle.kernel_model.specs.HoldsLists.{HoldsLists}
-use Rattle.kernel_model.specs.Lists.{Lists, is_queued}
-use Rattle.kernel_model.specs.Residents.{key_packet, key_words}
-use Rattle.session_text.specs.Ranges.{most_words}
-use Rattle.kernel_model.specs.ValidLists.{AreValid}
-use Rattle.kernel_model.proofs.QueuedLinks.{queued-link}
-use Rattle.call_answers.proofs.FoundTask.{reads}
-use Rattle.packet_moves.proofs.PlaceWords.{keys-exchange}
+use Rattle.resident_requests.specs.KernelCalls.OwnedWords.Owned.{Holds}
+use Rattle.resident_requests.specs.KernelCalls.PacketQueue.Queue.{no_queue}
+use Rattle.resident_requests.specs.KernelCalls.KernelModel.HoldsLists.{HoldsLists}
+use Rattle.resident_requests.specs.KernelCalls.KernelModel.Lists.{Lists, is_queued}
+use Rattle.resident_requests.specs.KernelCalls.KernelModel.Residents.{key_packet, key_words}
+use Rattle.resident_requests.specs.KernelCalls.KernelModel.Ranges.{most_words}
+use Rattle.resident_requests.specs.KernelCalls.KernelModel.ValidLists.{AreValid}
+use Rattle.resident_requests.proofs.Shown.KernelCalls.KernelModel.QueuedLinks.{queued-link}
+use Rattle.resident_requests.proofs.Shown.KernelCalls.CallAnswers.FoundTask.{reads}
+use Rattle.resident_requests.proofs.Shown.KernelCalls.PacketCalls.PlaceWords.{keys-exchange}
 use Rattle.console_handler.specs.ConsoleTurn.{keys_sent, with_keys_sent}
 use Rattle.console_handler.specs.Progress.{Progress}
 

@@ -1,20 +1,20 @@
 -- What handing a line to a read leaves.
 use Rattle.std.proofs.Common.{◌≡◌, ℕ, zero, suc, ◌≤◌, Bool, true, false, cond, eqb, Option, Some, None, Result, Ok, Err, List, [], ◌∷◌, ◌++◌, append-nil, inl, inr, length, refl, sym, ap, ◌∙◌, subst, arith}
 use Rattle.std.specs.Prelude.{take}
-use Rattle.linked_list.specs.Count.{times}
-use Rattle.owned_words.specs.Owned.{Pairs, owners}
-use Rattle.packet_queue.specs.Queue.{no_queue}
-use Rattle.packet_queue.specs.QueueWords.{QueuedPacket}
-use Rattle.packet_queue.specs.declared.events.KernelEvent.{KernelEvent}
-use Rattle.kernel_model.specs.ChangedStore.{HasKeeper, IsChanged}
-use Rattle.kernel_model.specs.Kernel.{Console}
-use Rattle.kernel_model.specs.Lists.{Lists}
-use Rattle.kernel_model.specs.NotedEvents.{NotesAll}
-use Rattle.kernel_model.specs.Owned.{owned}
-use Rattle.kernel_model.proofs.ChangedLists.{changed-then}
-use Rattle.kernel_model.proofs.NotedInTurn.{notes-then}
-use Rattle.call_answers.specs.Made.{IsMade, minus_one}
-use Rattle.call_answers.specs.Outside.{Outside, outside}
+use Rattle.word_store.specs.Count.{times}
+use Rattle.resident_requests.specs.KernelCalls.OwnedWords.Owned.{Pairs, owners}
+use Rattle.resident_requests.specs.KernelCalls.PacketQueue.Queue.{no_queue}
+use Rattle.resident_requests.specs.KernelCalls.PacketQueue.QueueWords.{QueuedPacket}
+use Rattle.resident_requests.specs.KernelCalls.PacketQueue.declared.events.KernelEvent.{KernelEvent}
+use Rattle.resident_requests.specs.KernelCalls.KernelModel.ChangedStore.{HasKeeper, IsChanged}
+use Rattle.resident_requests.specs.KernelCalls.KernelModel.Kernel.{Console}
+use Rattle.resident_requests.specs.KernelCalls.KernelModel.Lists.{Lists}
+use Rattle.resident_requests.specs.KernelCalls.KernelModel.NotedEvents.{NotesAll}
+use Rattle.resident_requests.specs.KernelCalls.KernelModel.Owned.{owned}
+use Rattle.resident_requests.proofs.Shown.KernelCalls.KernelModel.ChangedLists.{changed-then}
+use Rattle.resident_requests.proofs.Shown.KernelCalls.KernelModel.NotedInTurn.{notes-then}
+use Rattle.resident_requests.specs.KernelCalls.CallAnswers.Made.{IsMade, minus_one}
+use Rattle.resident_requests.specs.KernelCalls.CallAnswers.Outside.{Outside, outside}
 use Rattle.resident_requests.specs.Answers.{OwnsRequest, returned}
 use Rattle.resident_requests.specs.Buffers.{is_writable, with_bytes, written_buffer}
 use Rattle.resident_requests.specs.Requests.{HasRequest, RunsResident, first_request, request_at}

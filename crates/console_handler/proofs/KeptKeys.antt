@@ -1,15 +1,15 @@
 -- Between turns the line is finished exactly where the key packet is on no queue.
 use Rattle.std.proofs.Common.{◌≡◌, ℕ, ◌&&◌, Bool, true, false, not, cond, eqb, is_some, Option, Some, None, Result, Ok, Err, List, [], ◌∷◌, refl, sym, ap, ◌∙◌, subst}
 use Rattle.std.proofs.lemmas.Bool.{false≢true}
-use Rattle.packet_queue.specs.QueueWords.{QueuedPacket}
-use Rattle.kernel_model.specs.Changes.{with_task}
-use Rattle.kernel_model.specs.Kernel.{Console}
-use Rattle.kernel_model.specs.Lists.{Lists}
-use Rattle.kernel_model.specs.ValidQueues.{is_key_packet}
-use Rattle.call_answers.specs.Guests.{guest_tests}
-use Rattle.call_answers.specs.Made.{by_refusal, done}
-use Rattle.call_answers.specs.Refusals.{first_refusal}
-use Rattle.task_calls.specs.SetFlags.{flagged}
+use Rattle.resident_requests.specs.KernelCalls.PacketQueue.QueueWords.{QueuedPacket}
+use Rattle.resident_requests.specs.KernelCalls.KernelModel.Changes.{with_task}
+use Rattle.resident_requests.specs.KernelCalls.KernelModel.Kernel.{Console}
+use Rattle.resident_requests.specs.KernelCalls.KernelModel.Lists.{Lists}
+use Rattle.resident_requests.specs.KernelCalls.KernelModel.ValidQueues.{is_key_packet}
+use Rattle.resident_requests.specs.KernelCalls.CallAnswers.Guests.{guest_tests}
+use Rattle.resident_requests.specs.KernelCalls.CallAnswers.Made.{by_refusal, done}
+use Rattle.resident_requests.specs.KernelCalls.CallAnswers.Refusals.{first_refusal}
+use Rattle.resident_requests.specs.KernelCalls.TaskCalls.SetFlags.{flagged}
 use Rattle.resident_requests.specs.Answers.{finished_by}
 use Rattle.resident_requests.specs.Requests.{first_request, taken_from, words_taken_from, work}
 use Rattle.resident_requests.specs.declared.requests.Request.{Request}

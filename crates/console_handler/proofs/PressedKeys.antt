@@ -1,25 +1,25 @@
 -- What a key leaves.
 use Rattle.std.proofs.Common.{◌≡◌, ℕ, ◌||◌, Bool, true, false, cond, eqb, Option, Some, None, Result, Ok, List, [], ◌∷◌, ◌++◌, append_assoc, map, refl, sym, ap, ◌∙◌, subst}
 use Rattle.std.specs.List.{AllByRecursion}
-use Rattle.packet_queue.specs.QueueWords.{QueuedPacket}
-use Rattle.packet_queue.specs.declared.events.KernelEvent.{KernelEvent}
-use Rattle.kernel_model.specs.ChangedStore.{IsChanged}
-use Rattle.kernel_model.specs.Changes.{change_of, with_task}
-use Rattle.kernel_model.specs.Kernel.{Console}
-use Rattle.kernel_model.specs.Lists.{Lists, has_task}
-use Rattle.kernel_model.specs.NotedEvents.{NotesAll}
-use Rattle.kernel_model.specs.Owned.{owned}
-use Rattle.kernel_model.specs.Task.{Task}
-use Rattle.kernel_model.specs.ValidTasks.{runs}
-use Rattle.kernel_model.proofs.ChangedLists.{knows-same}
-use Rattle.kernel_model.proofs.NotedInTurn.{notes-none}
-use Rattle.owned_words.specs.Owned.{owners}
-use Rattle.call_answers.specs.Guests.{guest_tests}
-use Rattle.call_answers.specs.Made.{Leaves, Made, by_refusal, done}
-use Rattle.call_answers.specs.Refusals.{first_refusal}
-use Rattle.task_calls.specs.SetFlags.{flagged, set_flags}
-use Rattle.task_calls.proofs.SameWords.{set_flags-owners}
-use Rattle.call_answers.specs.Outside.{Outside, outside}
+use Rattle.resident_requests.specs.KernelCalls.PacketQueue.QueueWords.{QueuedPacket}
+use Rattle.resident_requests.specs.KernelCalls.PacketQueue.declared.events.KernelEvent.{KernelEvent}
+use Rattle.resident_requests.specs.KernelCalls.KernelModel.ChangedStore.{IsChanged}
+use Rattle.resident_requests.specs.KernelCalls.KernelModel.Changes.{change_of, with_task}
+use Rattle.resident_requests.specs.KernelCalls.KernelModel.Kernel.{Console}
+use Rattle.resident_requests.specs.KernelCalls.KernelModel.Lists.{Lists, has_task}
+use Rattle.resident_requests.specs.KernelCalls.KernelModel.NotedEvents.{NotesAll}
+use Rattle.resident_requests.specs.KernelCalls.KernelModel.Owned.{owned}
+use Rattle.resident_requests.specs.KernelCalls.KernelModel.Task.{Task}
+use Rattle.resident_requests.specs.KernelCalls.KernelModel.ValidTasks.{runs}
+use Rattle.resident_requests.proofs.Shown.KernelCalls.KernelModel.ChangedLists.{knows-same}
+use Rattle.resident_requests.proofs.Shown.KernelCalls.KernelModel.NotedInTurn.{notes-none}
+use Rattle.resident_requests.specs.KernelCalls.OwnedWords.Owned.{owners}
+use Rattle.resident_requests.specs.KernelCalls.CallAnswers.Guests.{guest_tests}
+use Rattle.resident_requests.specs.KernelCalls.CallAnswers.Made.{Leaves, Made, by_refusal, done}
+use Rattle.resident_requests.specs.KernelCalls.CallAnswers.Refusals.{first_refusal}
+use Rattle.resident_requests.specs.KernelCalls.TaskCalls.SetFlags.{flagged, set_flags}
+use Rattle.resident_requests.proofs.Shown.KernelCalls.TaskCalls.SameWords.{set_flags-owners}
+use Rattle.resident_requests.specs.KernelCalls.CallAnswers.Outside.{Outside, outside}
 use Rattle.resident_requests.specs.Requests.{RunsResident, work}
 use Rattle.console_handler.specs.ConsoleTurn.{key_of, with_flags, with_key, with_keys_taken}
 use Rattle.console_handler.specs.KeyPacket.{keys_taken, keys_taken_from}

@@ -1,14 +1,14 @@
 -- What sending the key packet leaves.
 use Rattle.std.proofs.Common.{◌≡◌, ℕ, Bool, true, is_some, Option, Ok, List, [], ◌++◌, inr, refl, subst}
-use Rattle.packet_queue.specs.declared.events.KernelEvent.{KernelEvent}
-use Rattle.kernel_model.specs.Kernel.{Console}
-use Rattle.kernel_model.specs.Lists.{Lists}
-use Rattle.kernel_model.specs.NotedEvents.{NotesAll}
-use Rattle.kernel_model.specs.Residents.{key_packet, keyboard}
-use Rattle.call_answers.specs.Made.{IsMade, minus_one}
-use Rattle.call_answers.specs.Outside.{Outside, outside}
-use Rattle.packet_calls.specs.SendOwn.{CanSendOwn, send_own, with_sent}
-use Rattle.packet_calls.proofs.OwnPackets.{own-kept}
+use Rattle.resident_requests.specs.KernelCalls.PacketQueue.declared.events.KernelEvent.{KernelEvent}
+use Rattle.resident_requests.specs.KernelCalls.KernelModel.Kernel.{Console}
+use Rattle.resident_requests.specs.KernelCalls.KernelModel.Lists.{Lists}
+use Rattle.resident_requests.specs.KernelCalls.KernelModel.NotedEvents.{NotesAll}
+use Rattle.resident_requests.specs.KernelCalls.KernelModel.Residents.{key_packet, keyboard}
+use Rattle.resident_requests.specs.KernelCalls.CallAnswers.Made.{IsMade, minus_one}
+use Rattle.resident_requests.specs.KernelCalls.CallAnswers.Outside.{Outside, outside}
+use Rattle.resident_requests.specs.KernelCalls.PacketCalls.SendOwn.{CanSendOwn, send_own, with_sent}
+use Rattle.resident_requests.proofs.Shown.KernelCalls.PacketCalls.OwnPackets.{own-kept}
 use Rattle.resident_requests.specs.Requests.{RunsResident}
 use Rattle.console_handler.specs.ConsoleTurn.{keys_sent}
 use Rattle.console_handler.specs.Progress.{IsDone, Progress, Start, console_number, settled_words}

@@ -3,41 +3,41 @@ use Rattle.std.proofs.Common.{◌≡◌, ◌≢◌, ℕ, ◌+◌, ◌<◌, Bool,
 use Rattle.std.specs.List.{AllByRecursion, range_with_len}
 use Rattle.std.proofs.lemmas.Bool.{and_parts, eq-eqb, eqb-true, or_left}
 use Rattle.word_store.specs.Arithmetic.{signed}
-use Rattle.linked_list.specs.Count.{times}
-use Rattle.linked_list.specs.Places.{has}
-use Rattle.linked_list.proofs.Counts.{times-within}
-use Rattle.owned_words.specs.Exchange.{Exchange}
-use Rattle.owned_words.specs.Owned.{Holds, owners}
-use Rattle.owned_words.specs.Written.{IsWritten}
-use Rattle.owned_words.proofs.RowWords.{owners-row}
-use Rattle.packet_queue.specs.Log.{Notes}
-use Rattle.packet_queue.specs.Queue.{HasQueue, no_queue, queue_at}
-use Rattle.packet_queue.specs.QueueWords.{QueuedPacket}
-use Rattle.packet_queue.specs.declared.events.KernelEvent.{KernelEvent}
-use Rattle.packet_queue.specs.declared.events.KernelEvent.TheVariants.{Taken}
-use Rattle.kernel_model.specs.ChangedStore.{IsChanged}
-use Rattle.kernel_model.specs.Changes.{with_key, with_queue}
-use Rattle.kernel_model.specs.HoldsLists.{HoldsLists}
-use Rattle.kernel_model.specs.Lists.{Lists, address_of_task, has_task}
-use Rattle.kernel_model.specs.NotedEvents.{NotesAll}
-use Rattle.kernel_model.specs.Owned.{owned}
-use Rattle.kernel_model.specs.Residents.{key_packet, key_words, keyboard}
-use Rattle.kernel_model.specs.Task.{queue_head}
-use Rattle.kernel_model.specs.ValidLists.{AreValid}
-use Rattle.kernel_model.specs.ValidQueues.{IsKeyPacket, MayStand, is_key_packet}
-use Rattle.kernel_model.specs.ValidQueues.Place.{Work}
-use Rattle.kernel_model.proofs.NotedInTurn.{notes-one}
-use Rattle.kernel_model.proofs.PacketMoves.{unqueued-unowned}
-use Rattle.kernel_model.proofs.QueuePlaces.{place-stands}
-use Rattle.kernel_model.proofs.ResidentPackets.{key_unqueued-valid}
-use Rattle.call_answers.specs.Made.{Leaves}
-use Rattle.packet_moves.specs.Destinations.{queue_for}
-use Rattle.packet_moves.specs.PacketMoves.{stands_in}
-use Rattle.packet_moves.specs.QueueWords.{head_of, unqueued}
-use Rattle.packet_moves.specs.declared.queues.Queue.TheVariants.{OfTask}
-use Rattle.packet_moves.proofs.Departure.{departed-size, departed-written, held-before, others-kept, owners-departed, packet-inside}
-use Rattle.packet_moves.proofs.HeldPlaces.{has-at, stands-at}
-use Rattle.packet_moves.proofs.PlaceWords.{keys-exchange}
+use Rattle.word_store.specs.Count.{times}
+use Rattle.resident_requests.specs.KernelCalls.LinkedList.Places.{has}
+use Rattle.word_store.proofs.Counts.{times-within}
+use Rattle.resident_requests.specs.KernelCalls.OwnedWords.Exchange.{Exchange}
+use Rattle.resident_requests.specs.KernelCalls.OwnedWords.Owned.{Holds, owners}
+use Rattle.resident_requests.specs.KernelCalls.OwnedWords.Written.{IsWritten}
+use Rattle.resident_requests.proofs.Shown.KernelCalls.OwnedWords.RowWords.{owners-row}
+use Rattle.resident_requests.specs.KernelCalls.PacketQueue.Log.{Notes}
+use Rattle.resident_requests.specs.KernelCalls.PacketQueue.Queue.{HasQueue, no_queue, queue_at}
+use Rattle.resident_requests.specs.KernelCalls.PacketQueue.QueueWords.{QueuedPacket}
+use Rattle.resident_requests.specs.KernelCalls.PacketQueue.declared.events.KernelEvent.{KernelEvent}
+use Rattle.resident_requests.specs.KernelCalls.PacketQueue.declared.events.KernelEvent.TheVariants.{Taken}
+use Rattle.resident_requests.specs.KernelCalls.KernelModel.ChangedStore.{IsChanged}
+use Rattle.resident_requests.specs.KernelCalls.KernelModel.Changes.{with_key, with_queue}
+use Rattle.resident_requests.specs.KernelCalls.KernelModel.HoldsLists.{HoldsLists}
+use Rattle.resident_requests.specs.KernelCalls.KernelModel.Lists.{Lists, address_of_task, has_task}
+use Rattle.resident_requests.specs.KernelCalls.KernelModel.NotedEvents.{NotesAll}
+use Rattle.resident_requests.specs.KernelCalls.KernelModel.Owned.{owned}
+use Rattle.resident_requests.specs.KernelCalls.KernelModel.Residents.{key_packet, key_words, keyboard}
+use Rattle.resident_requests.specs.KernelCalls.KernelModel.Task.{queue_head}
+use Rattle.resident_requests.specs.KernelCalls.KernelModel.ValidLists.{AreValid}
+use Rattle.resident_requests.specs.KernelCalls.KernelModel.ValidQueues.{IsKeyPacket, MayStand, is_key_packet}
+use Rattle.resident_requests.specs.KernelCalls.KernelModel.ValidQueues.Place.{Work}
+use Rattle.resident_requests.proofs.Shown.KernelCalls.KernelModel.NotedInTurn.{notes-one}
+use Rattle.resident_requests.proofs.Shown.KernelCalls.KernelModel.PacketMoves.{unqueued-unowned}
+use Rattle.resident_requests.proofs.Shown.KernelCalls.KernelModel.QueuePlaces.{place-stands}
+use Rattle.resident_requests.proofs.Shown.KernelCalls.KernelModel.ResidentPackets.{key_unqueued-valid}
+use Rattle.resident_requests.specs.KernelCalls.CallAnswers.Made.{Leaves}
+use Rattle.resident_requests.specs.KernelCalls.PacketCalls.Destinations.{queue_for}
+use Rattle.resident_requests.specs.KernelCalls.PacketCalls.PacketMoves.{stands_in}
+use Rattle.resident_requests.specs.KernelCalls.PacketCalls.QueueWords.{head_of, unqueued}
+use Rattle.resident_requests.specs.KernelCalls.PacketCalls.declared.queues.Queue.TheVariants.{OfTask}
+use Rattle.resident_requests.proofs.Shown.KernelCalls.PacketCalls.Departure.{departed-size, departed-written, held-before, others-kept, owners-departed, packet-inside}
+use Rattle.resident_requests.proofs.Shown.KernelCalls.PacketCalls.HeldPlaces.{has-at, stands-at}
+use Rattle.resident_requests.proofs.Shown.KernelCalls.PacketCalls.PlaceWords.{keys-exchange}
 use Rattle.console_handler.specs.KeyPacket.{FindsKeys, StartsWithKeys, keys_taken, keys_taken_from}
 use Rattle.resident_requests.specs.Requests.{RunsResident, work}
 use Rattle.resident_requests.proofs.RunningResident.{resident-number, runs-work}

@@ -2,21 +2,21 @@
 use Rattle.std.proofs.Common.{◌≡◌, ℕ, ◌+◌, ◌≤◌, Bool, true, cond, Option, Some, None, Result, Ok, List, [], ◌∷◌, ◌++◌, append-nil, length, refl, sym, ap, ◌∙◌, subst, arith}
 use Rattle.std.specs.List.{range_with_len}
 use Rattle.std.proofs.lemmas.Bool.{and_parts, eq-eqb, leb-true, ne_eqb}
-use Rattle.linked_list.specs.Count.{times}
-use Rattle.owned_words.specs.Owned.{owners}
-use Rattle.packet_queue.specs.QueueWords.{QueuedPacket}
-use Rattle.packet_queue.specs.declared.events.KernelEvent.{KernelEvent}
-use Rattle.kernel_model.specs.ChangedStore.{HasKeeper, IsChanged}
-use Rattle.kernel_model.specs.HoldsLists.{HoldsLists}
-use Rattle.kernel_model.specs.Kernel.{Console}
-use Rattle.kernel_model.specs.Lists.{Lists}
-use Rattle.kernel_model.specs.NotedEvents.{NotesAll}
-use Rattle.kernel_model.specs.Owned.{owned}
-use Rattle.kernel_model.specs.ValidQueues.Place.{Work}
-use Rattle.kernel_model.proofs.NotedInTurn.{notes-then}
-use Rattle.call_answers.specs.Made.{IsMade, minus_one}
-use Rattle.call_answers.specs.Outside.{Outside, outside}
-use Rattle.packet_moves.proofs.Departure.{owners-departed}
+use Rattle.word_store.specs.Count.{times}
+use Rattle.resident_requests.specs.KernelCalls.OwnedWords.Owned.{owners}
+use Rattle.resident_requests.specs.KernelCalls.PacketQueue.QueueWords.{QueuedPacket}
+use Rattle.resident_requests.specs.KernelCalls.PacketQueue.declared.events.KernelEvent.{KernelEvent}
+use Rattle.resident_requests.specs.KernelCalls.KernelModel.ChangedStore.{HasKeeper, IsChanged}
+use Rattle.resident_requests.specs.KernelCalls.KernelModel.HoldsLists.{HoldsLists}
+use Rattle.resident_requests.specs.KernelCalls.KernelModel.Kernel.{Console}
+use Rattle.resident_requests.specs.KernelCalls.KernelModel.Lists.{Lists}
+use Rattle.resident_requests.specs.KernelCalls.KernelModel.NotedEvents.{NotesAll}
+use Rattle.resident_requests.specs.KernelCalls.KernelModel.Owned.{owned}
+use Rattle.resident_requests.specs.KernelCalls.KernelModel.ValidQueues.Place.{Work}
+use Rattle.resident_requests.proofs.Shown.KernelCalls.KernelModel.NotedInTurn.{notes-then}
+use Rattle.resident_requests.specs.KernelCalls.CallAnswers.Made.{IsMade, minus_one}
+use Rattle.resident_requests.specs.KernelCalls.CallAnswers.Outside.{Outside, outside}
+use Rattle.resident_requests.proofs.Shown.KernelCalls.PacketCalls.Departure.{owners-departed}
 use Rattle.resident_requests.specs.Answers.{OwnsRequest, returned}
 use Rattle.resident_requests.specs.Buffers.{is_count, is_readable, lies_inside}
 use Rattle.resident_requests.specs.Requests.{IsTaken, RunsResident, first_request, request_at, taken, taken_from, words_taken, words_taken_from, work}

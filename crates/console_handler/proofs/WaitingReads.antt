@@ -3,36 +3,36 @@ use Rattle.std.proofs.Common.{◌≡◌, ◌≢◌, ℕ, ◌+◌, ◌≤◌, Boo
 use Rattle.std.specs.List.{AllByRecursion, range_with_len}
 use Rattle.std.proofs.lemmas.Bool.{eq-eqb, false_from_ne_true, or_left}
 use Rattle.word_store.specs.Arithmetic.{signed}
-use Rattle.linked_list.specs.Count.{IsApart}
-use Rattle.linked_list.specs.Places.{has}
-use Rattle.packet_queue.specs.Log.{Notes}
-use Rattle.packet_queue.specs.Queue.{CanQueue, HasQueue, queue_at}
-use Rattle.packet_queue.specs.QueueWords.{QueuedPacket, first_packet}
-use Rattle.packet_queue.specs.declared.events.KernelEvent.{KernelEvent}
-use Rattle.packet_queue.specs.declared.events.KernelEvent.TheVariants.{Taken}
-use Rattle.kernel_model.specs.ChangedStore.{HasKeeper, IsChanged, Knows}
-use Rattle.kernel_model.specs.Changes.{AreUnowned, with_queue}
-use Rattle.kernel_model.specs.Lists.{Lists, has_task}
-use Rattle.kernel_model.specs.NotedEvents.{NotesAll}
-use Rattle.kernel_model.specs.Residents.{pending_head}
-use Rattle.kernel_model.specs.ValidBlocks.{AreData}
-use Rattle.kernel_model.specs.ValidLists.{AreValid}
-use Rattle.kernel_model.specs.ValidQueues.{IsFaultPacket, IsKeyPacket, MayStand, is_fault_packet, is_key_packet}
-use Rattle.kernel_model.specs.ValidQueues.Place.{Pending}
-use Rattle.kernel_model.proofs.ChangedLists.{changed-none}
-use Rattle.kernel_model.proofs.NotedInTurn.{notes-none, notes-one}
-use Rattle.kernel_model.proofs.PacketMoves.{unqueued-unowned, unqueued-valid}
-use Rattle.word_kinds.specs.Keeper.{AreTogether}
-use Rattle.word_kinds.proofs.KnownWords.{knows-claimed, knows-released}
-use Rattle.call_answers.specs.Made.{IsMade, minus_one}
-use Rattle.call_answers.proofs.RootTold.{tick-told}
-use Rattle.packet_moves.specs.PacketMoves.{stands_in}
-use Rattle.packet_moves.specs.QueueWords.{sent_words, unqueued}
-use Rattle.packet_moves.specs.declared.queues.Queue.TheVariants.{OfReads}
-use Rattle.packet_moves.proofs.Departure.{departed-changed, held-before, others-kept, owners-departed}
-use Rattle.packet_moves.proofs.HeldPlaces.{HasFirst, first-there, has-at, held-at, no-packets, stands-at}
-use Rattle.packet_calls.proofs.SendCall.{lodged-room}
-use Rattle.packet_calls.proofs.SentPackets.{Sent, sent-packet}
+use Rattle.word_store.specs.Count.{IsApart}
+use Rattle.resident_requests.specs.KernelCalls.LinkedList.Places.{has}
+use Rattle.resident_requests.specs.KernelCalls.PacketQueue.Log.{Notes}
+use Rattle.resident_requests.specs.KernelCalls.PacketQueue.Queue.{CanQueue, HasQueue, queue_at}
+use Rattle.resident_requests.specs.KernelCalls.PacketQueue.QueueWords.{QueuedPacket, first_packet}
+use Rattle.resident_requests.specs.KernelCalls.PacketQueue.declared.events.KernelEvent.{KernelEvent}
+use Rattle.resident_requests.specs.KernelCalls.PacketQueue.declared.events.KernelEvent.TheVariants.{Taken}
+use Rattle.resident_requests.specs.KernelCalls.KernelModel.ChangedStore.{HasKeeper, IsChanged, Knows}
+use Rattle.resident_requests.specs.KernelCalls.KernelModel.Changes.{AreUnowned, with_queue}
+use Rattle.resident_requests.specs.KernelCalls.KernelModel.Lists.{Lists, has_task}
+use Rattle.resident_requests.specs.KernelCalls.KernelModel.NotedEvents.{NotesAll}
+use Rattle.resident_requests.specs.KernelCalls.KernelModel.Residents.{pending_head}
+use Rattle.resident_requests.specs.KernelCalls.KernelModel.ValidBlocks.{AreData}
+use Rattle.resident_requests.specs.KernelCalls.KernelModel.ValidLists.{AreValid}
+use Rattle.resident_requests.specs.KernelCalls.KernelModel.ValidQueues.{IsFaultPacket, IsKeyPacket, MayStand, is_fault_packet, is_key_packet}
+use Rattle.resident_requests.specs.KernelCalls.KernelModel.ValidQueues.Place.{Pending}
+use Rattle.resident_requests.proofs.Shown.KernelCalls.KernelModel.ChangedLists.{changed-none}
+use Rattle.resident_requests.proofs.Shown.KernelCalls.KernelModel.NotedInTurn.{notes-none, notes-one}
+use Rattle.resident_requests.proofs.Shown.KernelCalls.KernelModel.PacketMoves.{unqueued-unowned, unqueued-valid}
+use Rattle.resident_requests.specs.KernelCalls.WordKinds.Keeper.{AreTogether}
+use Rattle.resident_requests.proofs.Shown.KernelCalls.WordKinds.KnownWords.{knows-claimed, knows-released}
+use Rattle.resident_requests.specs.KernelCalls.CallAnswers.Made.{IsMade, minus_one}
+use Rattle.resident_requests.proofs.Shown.KernelCalls.CallAnswers.RootTold.{tick-told}
+use Rattle.resident_requests.specs.KernelCalls.PacketCalls.PacketMoves.{stands_in}
+use Rattle.resident_requests.specs.KernelCalls.PacketCalls.QueueWords.{sent_words, unqueued}
+use Rattle.resident_requests.specs.KernelCalls.PacketCalls.declared.queues.Queue.TheVariants.{OfReads}
+use Rattle.resident_requests.proofs.Shown.KernelCalls.PacketCalls.Departure.{departed-changed, held-before, others-kept, owners-departed}
+use Rattle.resident_requests.proofs.Shown.KernelCalls.PacketCalls.HeldPlaces.{HasFirst, first-there, has-at, held-at, no-packets, stands-at}
+use Rattle.resident_requests.proofs.Shown.KernelCalls.PacketCalls.SendCall.{lodged-room}
+use Rattle.resident_requests.proofs.Shown.KernelCalls.PacketCalls.SentPackets.{Sent, sent-packet}
 use Rattle.console_handler.specs.Reads.{IsReadTaken, put_off, read_taken, read_taken_from, reads, words_read_from}
 use Rattle.resident_requests.specs.Answers.{OwnsRequest}
 use Rattle.resident_requests.specs.Requests.{HasRequest, first_request, request_at}

@@ -1,13 +1,13 @@
 -- What handing a line to one read after the other leaves.
 use Rattle.std.proofs.Common.{◌≡◌, ℕ, ◌<◌, ◌&&◌, Bool, true, false, cond, List, [], ◌∷◌, map, length, refl, sym, ap, ◌∙◌, subst, arith}
 use Rattle.std.proofs.lemmas.Bool.{and_parts}
-use Rattle.packet_queue.specs.Queue.{queue_at}
-use Rattle.packet_queue.specs.QueueWords.{QueuedPacket, address_of}
-use Rattle.kernel_model.specs.Kernel.{Console}
-use Rattle.kernel_model.specs.Residents.{pending_head}
-use Rattle.kernel_model.specs.ValidQueues.Place.{Pending}
-use Rattle.call_answers.specs.Outside.{Outside}
-use Rattle.packet_moves.proofs.HeldPlaces.{queue-at}
+use Rattle.resident_requests.specs.KernelCalls.PacketQueue.Queue.{queue_at}
+use Rattle.resident_requests.specs.KernelCalls.PacketQueue.QueueWords.{QueuedPacket, address_of}
+use Rattle.resident_requests.specs.KernelCalls.KernelModel.Kernel.{Console}
+use Rattle.resident_requests.specs.KernelCalls.KernelModel.Residents.{pending_head}
+use Rattle.resident_requests.specs.KernelCalls.KernelModel.ValidQueues.Place.{Pending}
+use Rattle.resident_requests.specs.KernelCalls.CallAnswers.Outside.{Outside}
+use Rattle.resident_requests.proofs.Shown.KernelCalls.PacketCalls.HeldPlaces.{queue-at}
 use Rattle.resident_requests.specs.Requests.{first_request}
 use Rattle.console_handler.specs.Deliveries.{delivered, delivery, handed, handed_if_finished, has_reads, is_handed, with_read}
 use Rattle.console_handler.specs.Progress.{IsDone, Progress, Start}

@@ -2,14 +2,14 @@
 use Rattle.std.proofs.Common.{◌≡◌, ◌≢◌, ℕ, ◌&&◌, true, false, cond, Some, None, List, [], ◌∷◌, refl, sym, ap, ◌∙◌, arith}
 use Rattle.std.specs.List.{AllByRecursion}
 use Rattle.std.proofs.lemmas.Bool.{eq-eqb, false_from_ne_true, ne_eqb}
-use Rattle.packet_queue.specs.QueueWords.{QueuedPacket}
-use Rattle.kernel_model.specs.Kernel.{Console}
-use Rattle.kernel_model.specs.Residents.{key_packet}
-use Rattle.kernel_model.specs.ValidQueues.{IsFaultPacket, MayStand, Place, is_fault_packet, is_key_packet}
-use Rattle.kernel_model.specs.ValidQueues.Place.{Clock, Keyboard, Output, Pending, Work}
-use Rattle.kernel_model.proofs.QueuePlaces.{place-stands}
-use Rattle.call_answers.specs.Outside.{Outside}
-use Rattle.packet_calls.specs.TaskWait.{first_of_queue}
+use Rattle.resident_requests.specs.KernelCalls.PacketQueue.QueueWords.{QueuedPacket}
+use Rattle.resident_requests.specs.KernelCalls.KernelModel.Kernel.{Console}
+use Rattle.resident_requests.specs.KernelCalls.KernelModel.Residents.{key_packet}
+use Rattle.resident_requests.specs.KernelCalls.KernelModel.ValidQueues.{IsFaultPacket, MayStand, Place, is_fault_packet, is_key_packet}
+use Rattle.resident_requests.specs.KernelCalls.KernelModel.ValidQueues.Place.{Clock, Keyboard, Output, Pending, Work}
+use Rattle.resident_requests.proofs.Shown.KernelCalls.KernelModel.QueuePlaces.{place-stands}
+use Rattle.resident_requests.specs.KernelCalls.CallAnswers.Outside.{Outside}
+use Rattle.resident_requests.specs.KernelCalls.PacketCalls.TaskWait.{first_of_queue}
 use Rattle.resident_requests.specs.Requests.{IsForeign, TakesRequest, work}
 use Rattle.console_handler.specs.ConsoleTurn.{treated, with_first, with_key}
 use Rattle.console_handler.specs.KeyPacket.{FindsKeys, StartsWithKeys}

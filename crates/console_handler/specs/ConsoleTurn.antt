@@ -1,12 +1,12 @@
 -- The turn of the console.
 use Rattle.std.specs.Prelude.{◌≡◌, ℕ, ◌==◌, ◌&&◌, true, not, if◌then◌else◌, Option, Some, None, Result, Ok, Err, List, [], ◌∷◌, ◌++◌, is_some}
-use Rattle.packet_queue.specs.QueueWords.{QueuedPacket}
-use Rattle.kernel_model.specs.Kernel.{Console}
-use Rattle.kernel_model.specs.Lists.{Lists}
-use Rattle.kernel_model.specs.Residents.{key_packet, keyboard}
-use Rattle.kernel_model.specs.ValidQueues.{is_key_packet}
-use Rattle.packet_calls.specs.SendOwn.{send_own}
-use Rattle.task_calls.specs.SetFlags.{set_flags}
+use Rattle.resident_requests.specs.KernelCalls.PacketQueue.QueueWords.{QueuedPacket}
+use Rattle.resident_requests.specs.KernelCalls.KernelModel.Kernel.{Console}
+use Rattle.resident_requests.specs.KernelCalls.KernelModel.Lists.{Lists}
+use Rattle.resident_requests.specs.KernelCalls.KernelModel.Residents.{key_packet, keyboard}
+use Rattle.resident_requests.specs.KernelCalls.KernelModel.ValidQueues.{is_key_packet}
+use Rattle.resident_requests.specs.KernelCalls.PacketCalls.SendOwn.{send_own}
+use Rattle.resident_requests.specs.KernelCalls.TaskCalls.SetFlags.{set_flags}
 use Rattle.resident_requests.specs.Answers.{finished, returned}
 use Rattle.resident_requests.specs.Buffers.{bytes_in, is_readable}
 use Rattle.resident_requests.specs.Requests.{RunsResident, first_request, taken, words_taken, work}

@@ -1,9 +1,9 @@
 -- A finished line is handed to the reads that wait.
 use Rattle.std.specs.Prelude.{ℕ, ◌==◌, ◌&&◌, Bool, true, false, if◌then◌else◌, Option, Some, None, Result, Ok, Err, List, [], ◌∷◌, ◌++◌, length, min, take}
-use Rattle.packet_queue.specs.QueueWords.{QueuedPacket}
-use Rattle.kernel_model.specs.Kernel.{Console}
-use Rattle.kernel_model.specs.Lists.{Lists}
-use Rattle.kernel_model.specs.ValidKernel.{no_line}
+use Rattle.resident_requests.specs.KernelCalls.PacketQueue.QueueWords.{QueuedPacket}
+use Rattle.resident_requests.specs.KernelCalls.KernelModel.Kernel.{Console}
+use Rattle.resident_requests.specs.KernelCalls.KernelModel.Lists.{Lists}
+use Rattle.resident_requests.specs.KernelCalls.KernelModel.ValidKernel.{no_line}
 use Rattle.resident_requests.specs.Answers.{returned}
 use Rattle.resident_requests.specs.Buffers.{is_writable, written_buffer}
 use Rattle.resident_requests.specs.Requests.{first_request}

@@ -1,13 +1,13 @@
 -- The console's key packet, which comes back from the keyboard with a key as its first result.
 use Rattle.std.specs.Prelude.{◌≡◌, true, Some, Ok, List, [], ◌∷◌}
 use Rattle.word_store.specs.Arithmetic.{signed}
-use Rattle.packet_queue.specs.QueueWords.{QueuedPacket}
-use Rattle.packet_queue.specs.declared.events.KernelEvent.TheVariants.{Taken}
-use Rattle.kernel_model.specs.Changes.{with_key, with_queue}
-use Rattle.kernel_model.specs.Lists.{Lists}
-use Rattle.kernel_model.specs.ValidQueues.{is_key_packet}
-use Rattle.kernel_model.specs.ValidQueues.Place.{Work}
-use Rattle.call_answers.specs.Made.{Made, done}
+use Rattle.resident_requests.specs.KernelCalls.PacketQueue.QueueWords.{QueuedPacket}
+use Rattle.resident_requests.specs.KernelCalls.PacketQueue.declared.events.KernelEvent.TheVariants.{Taken}
+use Rattle.resident_requests.specs.KernelCalls.KernelModel.Changes.{with_key, with_queue}
+use Rattle.resident_requests.specs.KernelCalls.KernelModel.Lists.{Lists}
+use Rattle.resident_requests.specs.KernelCalls.KernelModel.ValidQueues.{is_key_packet}
+use Rattle.resident_requests.specs.KernelCalls.KernelModel.ValidQueues.Place.{Work}
+use Rattle.resident_requests.specs.KernelCalls.CallAnswers.Made.{Made, done}
 use Rattle.resident_requests.specs.Requests.{RunsResident, work}
 
 abbrev pub StartsWithKeys : Lists → List QueuedPacket → Type 0

@@ -1,6 +1,6 @@
 -- The console's line, and what a key makes of it.
 use Rattle.std.specs.Prelude.{ℕ, ◌-◌, ◌==◌, ◌&&◌, ◌||◌, Bool, true, if◌then◌else◌, List, [], ◌∷◌, ◌++◌, length, nat_le, nat_lt, take}
-use Rattle.kernel_model.specs.Kernel.{Console}
+use Rattle.resident_requests.specs.KernelCalls.KernelModel.Kernel.{Console}
 
 -- What a key does: the line afterwards, the bytes that are echoed, and the flags that are set of the task for which the shell waits.
 pub record Keyed : Type 0 where

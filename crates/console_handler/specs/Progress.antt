@@ -1,14 +1,14 @@
 -- A turn of the console, of which some parts are done.
 use Rattle.std.specs.Prelude.{◌≡◌, ℕ, ◌≤◌, List, [], ◌++◌, length, map, slice_index, unwrap_or}
 use Rattle.std.specs.List.{range_with_len}
-use Rattle.owned_words.specs.Owned.{Pairs, owners, word_in, written}
-use Rattle.packet_queue.specs.declared.events.KernelEvent.{KernelEvent}
-use Rattle.kernel_model.specs.ChangedStore.{IsChanged, Knows}
-use Rattle.kernel_model.specs.Kernel.{Console}
-use Rattle.kernel_model.specs.Lists.{Lists}
-use Rattle.kernel_model.specs.NotedEvents.{NotesAll}
-use Rattle.kernel_model.specs.Owned.{owned}
-use Rattle.call_answers.specs.Outside.{Outside}
+use Rattle.resident_requests.specs.KernelCalls.OwnedWords.Owned.{Pairs, owners, word_in, written}
+use Rattle.resident_requests.specs.KernelCalls.PacketQueue.declared.events.KernelEvent.{KernelEvent}
+use Rattle.resident_requests.specs.KernelCalls.KernelModel.ChangedStore.{IsChanged, Knows}
+use Rattle.resident_requests.specs.KernelCalls.KernelModel.Kernel.{Console}
+use Rattle.resident_requests.specs.KernelCalls.KernelModel.Lists.{Lists}
+use Rattle.resident_requests.specs.KernelCalls.KernelModel.NotedEvents.{NotesAll}
+use Rattle.resident_requests.specs.KernelCalls.KernelModel.Owned.{owned}
+use Rattle.resident_requests.specs.KernelCalls.CallAnswers.Outside.{Outside}
 use Rattle.resident_requests.specs.Requests.{RunsResident}
 
 -- The words of the store and its lists; the plain words that were written, the last ones first, the bytes that went to the output,

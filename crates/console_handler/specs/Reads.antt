@@ -1,17 +1,17 @@
 -- The reads that wait for a line, in the order in which they came.
 use Rattle.std.specs.Prelude.{◌≡◌, ℕ, Option, IfSome, Ok, List, [], ◌∷◌}
 use Rattle.word_store.specs.Arithmetic.{signed}
-use Rattle.packet_queue.specs.Queue.{no_queue}
-use Rattle.packet_queue.specs.QueueWords.{QueuedPacket}
-use Rattle.packet_queue.specs.declared.events.KernelEvent.TheVariants.{Accepted, Taken}
-use Rattle.kernel_model.specs.ChangedStore.{IsChanged, Knows}
-use Rattle.kernel_model.specs.Changes.{with_queue}
-use Rattle.kernel_model.specs.Lists.{Lists}
-use Rattle.kernel_model.specs.ValidQueues.Place.{Pending}
-use Rattle.call_answers.specs.Made.{Made, minus_one}
-use Rattle.packet_moves.specs.PacketMoves.{sent_packet, with_arrived}
-use Rattle.packet_moves.specs.QueueWords.{unqueued}
-use Rattle.packet_moves.specs.declared.queues.Queue.TheVariants.{OfReads}
+use Rattle.resident_requests.specs.KernelCalls.PacketQueue.Queue.{no_queue}
+use Rattle.resident_requests.specs.KernelCalls.PacketQueue.QueueWords.{QueuedPacket}
+use Rattle.resident_requests.specs.KernelCalls.PacketQueue.declared.events.KernelEvent.TheVariants.{Accepted, Taken}
+use Rattle.resident_requests.specs.KernelCalls.KernelModel.ChangedStore.{IsChanged, Knows}
+use Rattle.resident_requests.specs.KernelCalls.KernelModel.Changes.{with_queue}
+use Rattle.resident_requests.specs.KernelCalls.KernelModel.Lists.{Lists}
+use Rattle.resident_requests.specs.KernelCalls.KernelModel.ValidQueues.Place.{Pending}
+use Rattle.resident_requests.specs.KernelCalls.CallAnswers.Made.{Made, minus_one}
+use Rattle.resident_requests.specs.KernelCalls.PacketCalls.PacketMoves.{sent_packet, with_arrived}
+use Rattle.resident_requests.specs.KernelCalls.PacketCalls.QueueWords.{unqueued}
+use Rattle.resident_requests.specs.KernelCalls.PacketCalls.declared.queues.Queue.TheVariants.{OfReads}
 use Rattle.resident_requests.specs.Answers.{OwnsRequest}
 use Rattle.resident_requests.specs.Requests.{HasRequest, Taking, first_request}
 use Rattle.resident_requests.specs.declared.requests.Request.{Request}

@@ -1,8 +1,8 @@
 // A finished line is handed to the reads that wait.
 ghost use Rattle.std.specs.Prelude.{◌≡◌, ◌≤◌, List, length, ℕ};
-ghost use Rattle.call_answers.specs.Outside.{outside};
-ghost use Rattle.kernel_model.specs.ChangedStore.{HasKeeper};
-ghost use Rattle.kernel_model.specs.Lists.{Lists};
+ghost use Rattle.resident_requests.specs.KernelCalls.CallAnswers.Outside.{outside};
+ghost use Rattle.resident_requests.specs.KernelCalls.KernelModel.ChangedStore.{HasKeeper};
+ghost use Rattle.resident_requests.specs.KernelCalls.KernelModel.Lists.{Lists};
 ghost use Rattle.console_handler.specs.Deliveries.{command_after, delivery, handed_if_finished, is_handed, line_after, line_service};
 ghost use Rattle.console_handler.specs.Progress.{IsDone, Progress, Start};
 ghost use Rattle.resident_requests.specs.Turns.{service};
@@ -11,10 +11,8 @@ use crate::lines::ConsoleState;
 use crate::reads::take_read;
 use crate::requests::{BAD_BUFFER, CONSOLE};
 use arrayvec::ArrayVec;
-use packet_queue::EventLog;
-use resident_requests::{Request, can_write, return_request, write_buffer};
+use resident_requests::{EventLog, KindKeeper, Request, can_write, return_request, write_buffer};
 use std::cmp::min;
-use word_kinds::KindKeeper;
 use word_store::Store;
 
 /// The number of the shell.

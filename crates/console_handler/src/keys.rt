@@ -1,27 +1,24 @@
 // The console's key packet.
 ghost use Rattle.std.specs.Prelude.{◌≡◌, List, Ok, is_some, true, ℕ};
-ghost use Rattle.owned_words.specs.Owned.{owners};
-ghost use Rattle.kernel_model.specs.HoldsLists.{HoldsLists};
-ghost use Rattle.kernel_model.specs.Lists.{Lists};
-ghost use Rattle.kernel_model.specs.NotedEvents.{NotesAll};
-ghost use Rattle.kernel_model.specs.Owned.{owned};
-ghost use Rattle.call_answers.specs.Made.{Leaves};
-ghost use Rattle.call_answers.specs.Outside.{outside};
-ghost use Rattle.kernel_model.specs.Kernel.{Console};
+ghost use Rattle.resident_requests.specs.KernelCalls.OwnedWords.Owned.{owners};
+ghost use Rattle.resident_requests.specs.KernelCalls.KernelModel.HoldsLists.{HoldsLists};
+ghost use Rattle.resident_requests.specs.KernelCalls.KernelModel.Lists.{Lists};
+ghost use Rattle.resident_requests.specs.KernelCalls.KernelModel.NotedEvents.{NotesAll};
+ghost use Rattle.resident_requests.specs.KernelCalls.KernelModel.Owned.{owned};
+ghost use Rattle.resident_requests.specs.KernelCalls.CallAnswers.Made.{Leaves};
+ghost use Rattle.resident_requests.specs.KernelCalls.CallAnswers.Outside.{outside};
+ghost use Rattle.resident_requests.specs.KernelCalls.KernelModel.Kernel.{Console};
 ghost use Rattle.console_handler.specs.ConsoleTurn.{keys_sent, with_keys_sent};
 ghost use Rattle.console_handler.specs.KeyPacket.{FindsKeys, keys_taken};
 ghost use Rattle.console_handler.specs.Progress.{IsDone, Progress, Start};
 ghost use Rattle.resident_requests.specs.Requests.{RunsResident};
 
 use crate::lines::ConsoleState;
-use call_answers::numbers::SENDER;
-use packet_calls::send_own;
-use packet_moves::Queue;
-use packet_moves::events::taken;
-use packet_moves::queues::unqueue;
-use packet_queue::{EventLog, NO_QUEUE};
-use task_block::{RootField, TcbField, field, root};
-use word_kinds::KindKeeper;
+use resident_requests::numbers::SENDER;
+use resident_requests::{
+    EventLog, KindKeeper, NO_QUEUE, Queue, RootField, TcbField, field, root, send_own, taken,
+    unqueue,
+};
 use word_store::{Store, word_at};
 
 /// The address of the key packet.

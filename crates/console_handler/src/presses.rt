@@ -1,16 +1,14 @@
 // A key comes.
 ghost use Rattle.std.specs.Prelude.{◌+◌, ◌≤◌, List, length, ℕ};
-ghost use Rattle.call_answers.specs.Outside.{outside};
+ghost use Rattle.resident_requests.specs.KernelCalls.CallAnswers.Outside.{outside};
 ghost use Rattle.console_handler.specs.ConsoleTurn.{with_key};
 ghost use Rattle.console_handler.specs.KeyPacket.{FindsKeys};
 ghost use Rattle.console_handler.specs.Progress.{IsDone, Progress, Start};
 
 use crate::keys::take_keys;
 use crate::lines::ConsoleState;
-use packet_queue::EventLog;
-use task_calls::set_flags;
+use resident_requests::{EventLog, KindKeeper, set_flags};
 use tp_io::Output;
-use word_kinds::KindKeeper;
 use word_store::Store;
 
 /// Takes the key packet, does what its key says, and sets the flags of the task with the number, where it is there.

@@ -1,21 +1,18 @@
 // The reads that wait for a line.
 ghost use Rattle.std.specs.Prelude.{◌≡◌, Ok, true};
-ghost use Rattle.kernel_model.specs.ChangedStore.{HasKeeper};
-ghost use Rattle.kernel_model.specs.Lists.{Lists};
-ghost use Rattle.kernel_model.specs.NotedEvents.{NotesAll};
-ghost use Rattle.call_answers.specs.Made.{IsMade, minus_one};
+ghost use Rattle.resident_requests.specs.KernelCalls.KernelModel.ChangedStore.{HasKeeper};
+ghost use Rattle.resident_requests.specs.KernelCalls.KernelModel.Lists.{Lists};
+ghost use Rattle.resident_requests.specs.KernelCalls.KernelModel.NotedEvents.{NotesAll};
+ghost use Rattle.resident_requests.specs.KernelCalls.CallAnswers.Made.{IsMade, minus_one};
 ghost use Rattle.console_handler.specs.Reads.{IsReadTaken, put_off, read_taken};
 ghost use Rattle.resident_requests.specs.Answers.{OwnsRequest};
 ghost use Rattle.resident_requests.specs.Requests.{HasRequest};
 
-use call_answers::numbers::SENDER;
-use packet_moves::Queue;
-use packet_moves::events::{accepted, taken};
-use packet_moves::packets::{PACKET_WORDS, send};
-use packet_moves::queues::{first, unqueue};
-use packet_queue::EventLog;
-use resident_requests::{Request, request_at};
-use word_kinds::KindKeeper;
+use resident_requests::numbers::SENDER;
+use resident_requests::{
+    EventLog, KindKeeper, PACKET_WORDS, Queue, Request, accepted, first, request_at, send, taken,
+    unqueue,
+};
 use word_store::{Store, word_at};
 
 /// The number of the reads' queue in events.

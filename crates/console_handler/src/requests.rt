@@ -1,17 +1,17 @@
 // Requests come to the console.
 ghost use Rattle.std.specs.Prelude.{◌≡◌, ◌+◌, ◌++◌, ◌≤◌, List, Some, length, ℕ};
-ghost use Rattle.call_answers.specs.Outside.{outside};
-ghost use Rattle.kernel_model.specs.Kernel.{Console};
+ghost use Rattle.resident_requests.specs.KernelCalls.CallAnswers.Outside.{outside};
+ghost use Rattle.resident_requests.specs.KernelCalls.KernelModel.Kernel.{Console};
 ghost use Rattle.console_handler.specs.ConsoleTurn.{answer_of, bytes_of, with_first};
 ghost use Rattle.console_handler.specs.Progress.{IsDone, Progress, Start};
 ghost use Rattle.resident_requests.specs.Requests.{TakesRequest};
 
 use crate::reads::put_off;
-use packet_queue::EventLog;
 use resident_requests::requests::UNKNOWN_TYPE;
-use resident_requests::{Request, can_read, read_buffer, return_request, take_request};
+use resident_requests::{
+    EventLog, KindKeeper, Request, can_read, read_buffer, return_request, take_request,
+};
 use tp_io::Output;
-use word_kinds::KindKeeper;
 use word_store::Store;
 
 /// The types of requests.

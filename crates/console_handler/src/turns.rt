@@ -1,8 +1,8 @@
 // The turn of the console.
 ghost use Rattle.std.specs.Prelude.{◌≡◌, [], List, ℕ};
-ghost use Rattle.call_answers.specs.Outside.{outside};
-ghost use Rattle.kernel_model.specs.ChangedStore.{HasKeeper};
-ghost use Rattle.kernel_model.specs.Lists.{Lists};
+ghost use Rattle.resident_requests.specs.KernelCalls.CallAnswers.Outside.{outside};
+ghost use Rattle.resident_requests.specs.KernelCalls.KernelModel.ChangedStore.{HasKeeper};
+ghost use Rattle.resident_requests.specs.KernelCalls.KernelModel.Lists.{Lists};
 ghost use Rattle.console_handler.specs.ConsoleTurn.{RunsConsole, all_parts, console_turn, treated};
 ghost use Rattle.console_handler.specs.Progress.{IsDone, Progress, Start, begun};
 ghost use Rattle.resident_requests.specs.Requests.{work};
@@ -14,10 +14,8 @@ use crate::lines::ConsoleState;
 use crate::presses::take_key;
 use crate::requests::take_first;
 use arrayvec::ArrayVec;
-use packet_queue::EventLog;
-use resident_requests::{finish_turn, first_packet};
+use resident_requests::{EventLog, KindKeeper, finish_turn, first_packet};
 use tp_io::Output;
-use word_kinds::KindKeeper;
 use word_store::Store;
 
 /// The turn of the console, which runs. It takes its first packet: the key packet with a key, which edits the line, or a request. A

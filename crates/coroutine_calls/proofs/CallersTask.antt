@@ -4,33 +4,33 @@ use Rattle.std.specs.Prelude.{find}
 use Rattle.std.specs.List.{AllByRecursion}
 use Rattle.std.specs.Option.{option_map_or}
 use Rattle.std.proofs.lemmas.Bool.{false≢true}
-use Rattle.linked_list.specs.Count.{IsApart}
-use Rattle.owned_words.specs.Exchange.{Exchange}
-use Rattle.owned_words.specs.LinkedWords.{first_of}
-use Rattle.owned_words.specs.Owned.{Pairs, owners}
-use Rattle.owned_words.proofs.Exchanges.{exchange-right}
-use Rattle.packet_queue.specs.QueueWords.{queue_words}
-use Rattle.coroutines.specs.CoroutineExchanges.{HoldsCoroutines, Rewrites, TaskCoroutines, standing, words_of_coroutines}
-use Rattle.coroutines.specs.Coroutines.{HasCoroutines}
-use Rattle.coroutines.specs.HeldCoroutines.{address_of}
-use Rattle.coroutines.proofs.HeldCoroutineLists.{held-coroutines}
-use Rattle.kernel_model.specs.BlockUse.{coroutine_addresses}
-use Rattle.kernel_model.specs.ChangedStore.{IsChanged}
-use Rattle.kernel_model.specs.Changes.{change_of, with_tasks}
-use Rattle.kernel_model.specs.HoldsLists.{HoldsLists}
-use Rattle.kernel_model.specs.Lists.{Lists}
-use Rattle.kernel_model.specs.Owned.{owned}
-use Rattle.kernel_model.specs.Task.{Task, fault_words, is_guest_id, name_words, queue_head, state_words, task_address, task_id, task_words}
-use Rattle.kernel_model.specs.ValidLists.{AreValid}
-use Rattle.kernel_model.specs.ValidTasks.{CoroutinesStand, IsTask}
-use Rattle.kernel_model.proofs.AllThings.{all-here}
-use Rattle.kernel_model.proofs.ChangedLists.{exchange-owned, one_task-owned, owners-exchanged}
-use Rattle.kernel_model.proofs.OneTask.{same_task-valid}
-use Rattle.call_answers.specs.Guests.{GuestAt}
-use Rattle.call_answers.proofs.FoundTask.{find-numbered, reads}
-use Rattle.call_answers.proofs.Refusals.{accepted-guest}
-use Rattle.call_answers.specs.Tasks.{no_coroutines}
-use Rattle.call_answers.proofs.GuestTask.{guest-changed}
+use Rattle.word_store.specs.Count.{IsApart}
+use Rattle.block_calls.specs.KernelDispatch.OwnedWords.Exchange.{Exchange}
+use Rattle.block_calls.specs.KernelDispatch.OwnedWords.LinkedWords.{first_of}
+use Rattle.block_calls.specs.KernelDispatch.OwnedWords.Owned.{Pairs, owners}
+use Rattle.block_calls.proofs.Shown.KernelDispatch.OwnedWords.Exchanges.{exchange-right}
+use Rattle.block_calls.specs.KernelDispatch.PacketQueue.QueueWords.{queue_words}
+use Rattle.block_calls.specs.KernelDispatch.Coroutines.CoroutineExchanges.{HoldsCoroutines, Rewrites, TaskCoroutines, standing, words_of_coroutines}
+use Rattle.block_calls.specs.KernelDispatch.Coroutines.Coroutines.{HasCoroutines}
+use Rattle.block_calls.specs.KernelDispatch.Coroutines.HeldCoroutines.{address_of}
+use Rattle.block_calls.proofs.Shown.KernelDispatch.Coroutines.HeldCoroutineLists.{held-coroutines}
+use Rattle.block_calls.specs.KernelDispatch.KernelModel.BlockUse.{coroutine_addresses}
+use Rattle.block_calls.specs.KernelDispatch.KernelModel.ChangedStore.{IsChanged}
+use Rattle.block_calls.specs.KernelDispatch.KernelModel.Changes.{change_of, with_tasks}
+use Rattle.block_calls.specs.KernelDispatch.KernelModel.HoldsLists.{HoldsLists}
+use Rattle.block_calls.specs.KernelDispatch.KernelModel.Lists.{Lists}
+use Rattle.block_calls.specs.KernelDispatch.KernelModel.Owned.{owned}
+use Rattle.block_calls.specs.KernelDispatch.KernelModel.Task.{Task, fault_words, is_guest_id, name_words, queue_head, state_words, task_address, task_id, task_words}
+use Rattle.block_calls.specs.KernelDispatch.KernelModel.ValidLists.{AreValid}
+use Rattle.block_calls.specs.KernelDispatch.KernelModel.ValidTasks.{CoroutinesStand, IsTask}
+use Rattle.block_calls.proofs.Shown.KernelDispatch.KernelModel.AllThings.{all-here}
+use Rattle.block_calls.proofs.Shown.KernelDispatch.KernelModel.ChangedLists.{exchange-owned, one_task-owned, owners-exchanged}
+use Rattle.block_calls.proofs.Shown.KernelDispatch.KernelModel.OneTask.{same_task-valid}
+use Rattle.block_calls.specs.CallAnswers.Guests.{GuestAt}
+use Rattle.block_calls.proofs.Shown.CallAnswers.FoundTask.{find-numbered, reads}
+use Rattle.block_calls.proofs.Shown.CallAnswers.Refusals.{accepted-guest}
+use Rattle.block_calls.specs.CallAnswers.Tasks.{no_coroutines}
+use Rattle.block_calls.proofs.Shown.CallAnswers.GuestTask.{guest-changed}
 use Rattle.coroutine_calls.specs.CallersCoroutines.{coroutines_of_caller, with_callers, with_changed}
 
 -- what stands at these addresses has the same owners

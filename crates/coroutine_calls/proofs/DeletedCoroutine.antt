@@ -2,31 +2,31 @@
 use Rattle.std.specs.Prelude.{OnOk, not}
 use Rattle.std.proofs.Common.{◌≡◌, ℕ, ◌+◌, ◌-◌, ◌≤◌, List, [], ◌∷◌, cond, get_or, length, Bool, true, false, Some, None, Option, Ok, Err, Result, refl, sym, ap, ◌∙◌, subst, arith}
 use Rattle.std.specs.List.{AllByRecursion, range_with_len}
-use Rattle.linked_list.specs.Count.{IsApart}
-use Rattle.getvec_chain.specs.declared.pieces.Block.{Block}
-use Rattle.getvec_chain.specs.Block.{block_end, used_block}
-use Rattle.getvec_chain.specs.Run.{need}
-use Rattle.getvec_chain.specs.Tiling.{blocks_in, used_at}
-use Rattle.getvec_chain.proofs.UsedBlocks.{UsedBlock, used_at-is}
-use Rattle.coroutines.specs.CoroutineExchanges.{HoldsCoroutines, TaskCoroutines}
-use Rattle.coroutines.specs.Creation.{deleted}
-use Rattle.coroutines.specs.Refusals.{idle_answer}
-use Rattle.coroutines.specs.declared.ends.CoEnd.{CoEnd}
-use Rattle.kernel_model.specs.ChangedStore.{HasKeeper}
-use Rattle.kernel_model.specs.Changes.{AreUnowned}
-use Rattle.kernel_model.specs.HoldsLists.{HoldsLists}
-use Rattle.kernel_model.specs.Lists.{Lists}
-use Rattle.kernel_model.specs.ReadsLists.{ReadsLists}
-use Rattle.kernel_model.specs.ValidTasks.{IsCoroutine}
-use Rattle.kernel_model.proofs.AllThings.{all-here}
-use Rattle.word_kinds.specs.Keeper.{AreTogether}
-use Rattle.word_kinds.proofs.KnownWords.{knows-released}
-use Rattle.call_answers.specs.Guests.{GuestAt}
-use Rattle.call_answers.specs.Made.{IsMade, Made, done, minus_one, plain_answer}
-use Rattle.call_answers.specs.Refusals.{first_refusal}
-use Rattle.call_answers.proofs.FoundTask.{reads}
-use Rattle.call_answers.proofs.MadeCalls.{made-accepted, made-refused}
-use Rattle.call_answers.proofs.Refusals.{answer_of-err, answer_of-ok, first_refusal-failed, first_refusal-passed}
+use Rattle.word_store.specs.Count.{IsApart}
+use Rattle.block_calls.specs.KernelDispatch.GetvecChain.declared.pieces.Block.{Block}
+use Rattle.block_calls.specs.KernelDispatch.GetvecChain.Block.{block_end, used_block}
+use Rattle.block_calls.specs.KernelDispatch.GetvecChain.Run.{need}
+use Rattle.block_calls.specs.KernelDispatch.GetvecChain.Tiling.{blocks_in, used_at}
+use Rattle.block_calls.proofs.Shown.KernelDispatch.GetvecChain.UsedBlocks.{UsedBlock, used_at-is}
+use Rattle.block_calls.specs.KernelDispatch.Coroutines.CoroutineExchanges.{HoldsCoroutines, TaskCoroutines}
+use Rattle.block_calls.specs.KernelDispatch.Coroutines.Creation.{deleted}
+use Rattle.block_calls.specs.KernelDispatch.Coroutines.Refusals.{idle_answer}
+use Rattle.block_calls.specs.KernelDispatch.Coroutines.declared.ends.CoEnd.{CoEnd}
+use Rattle.block_calls.specs.KernelDispatch.KernelModel.ChangedStore.{HasKeeper}
+use Rattle.block_calls.specs.KernelDispatch.KernelModel.Changes.{AreUnowned}
+use Rattle.block_calls.specs.KernelDispatch.KernelModel.HoldsLists.{HoldsLists}
+use Rattle.block_calls.specs.KernelDispatch.KernelModel.Lists.{Lists}
+use Rattle.block_calls.specs.KernelDispatch.KernelModel.ReadsLists.{ReadsLists}
+use Rattle.block_calls.specs.KernelDispatch.KernelModel.ValidTasks.{IsCoroutine}
+use Rattle.block_calls.proofs.Shown.KernelDispatch.KernelModel.AllThings.{all-here}
+use Rattle.block_calls.specs.KernelDispatch.WordKinds.Keeper.{AreTogether}
+use Rattle.block_calls.proofs.Shown.KernelDispatch.WordKinds.KnownWords.{knows-released}
+use Rattle.block_calls.specs.CallAnswers.Guests.{GuestAt}
+use Rattle.block_calls.specs.CallAnswers.Made.{IsMade, Made, done, minus_one, plain_answer}
+use Rattle.block_calls.specs.CallAnswers.Refusals.{first_refusal}
+use Rattle.block_calls.proofs.Shown.CallAnswers.FoundTask.{reads}
+use Rattle.block_calls.proofs.Shown.CallAnswers.MadeCalls.{made-accepted, made-refused}
+use Rattle.block_calls.proofs.Shown.CallAnswers.Refusals.{answer_of-err, answer_of-ok, first_refusal-failed, first_refusal-passed}
 use Rattle.block_calls.specs.Freevec.{has_packet_in}
 use Rattle.coroutine_calls.specs.CallCo.{idle_tests}
 use Rattle.coroutine_calls.specs.CallersCoroutines.{coroutines_of_caller}

@@ -3,52 +3,52 @@ use Rattle.std.proofs.Common.{◌≡◌, ℕ, ◌+◌, ◌≤◌, List, [], ◌�
 use Rattle.std.specs.Prelude.{filter, not}
 use Rattle.std.specs.List.{AllByRecursion, flat_map, list_any, range_with_len}
 use Rattle.std.proofs.lemmas.Bool.{cases_lt, eq-eqb, eqb-true, ne_eqb}
-use Rattle.linked_list.specs.Chain.{list_at}
-use Rattle.linked_list.specs.Count.{IsApart, times}
-use Rattle.linked_list.specs.Linked.{IsListAt}
-use Rattle.linked_list.specs.Places.{has}
-use Rattle.linked_list.proofs.Chains.{nodes-apart}
-use Rattle.linked_list.proofs.Counts.{hit-same, times-above}
-use Rattle.owned_words.specs.Exchange.{Exchange}
-use Rattle.owned_words.specs.LinkedWords.{first_of}
-use Rattle.owned_words.specs.Owned.{Pairs, owners}
-use Rattle.owned_words.proofs.HeldLists.{held-list}
-use Rattle.getvec_chain.specs.declared.pieces.Block.{Block}
-use Rattle.getvec_chain.specs.Block.{block_end, is_used_at, used_block}
-use Rattle.getvec_chain.specs.Run.{need}
-use Rattle.getvec_chain.specs.Give.{given_store}
-use Rattle.getvec_chain.specs.Tiling.{blocks_in, used_at}
-use Rattle.getvec_chain.proofs.AfterGive.{given_store-is}
-use Rattle.getvec_chain.proofs.UsedBlocks.{is_used_at-true}
-use Rattle.task_block.specs.Lists.{coroutine_link}
-use Rattle.coroutines.specs.CoroutineExchanges.{DeleteExchange, HoldsCoroutines, TaskCoroutines, link_behind, with_list, words_of_coroutines}
-use Rattle.coroutines.specs.CoroutineWords.{coroutine_size}
-use Rattle.coroutines.specs.Creation.{deleted}
-use Rattle.coroutines.specs.HeldCoroutines.{Coroutine, address_of, coroutine_words}
-use Rattle.coroutines.specs.Refusals.{idle_answer}
-use Rattle.coroutines.proofs.CreationExchanges.{delete-exchange}
-use Rattle.coroutines.proofs.HeldCoroutineLists.{are_coroutines}
-use Rattle.kernel_model.specs.BlockUse.{use_of_data}
-use Rattle.kernel_model.specs.BlockUse.Use.{User}
-use Rattle.kernel_model.specs.ChangedStore.{IsChanged}
-use Rattle.kernel_model.specs.Changes.{AreUnowned, IsIdleBlock, with_coroutines, with_tasks}
-use Rattle.kernel_model.specs.HoldsLists.{HoldsLists}
-use Rattle.kernel_model.specs.Lists.{Lists, queued}
-use Rattle.kernel_model.specs.Owned.{owned}
-use Rattle.kernel_model.specs.Task.{Task, task_address}
-use Rattle.kernel_model.specs.ValidLists.{AreValid}
-use Rattle.kernel_model.specs.ValidTasks.{IsCoroutine}
-use Rattle.kernel_model.proofs.AllThings.{all-here}
-use Rattle.kernel_model.proofs.ChangedLists.{changed-then, exchange-owned, one_task-owned}
-use Rattle.kernel_model.proofs.CoroutineMoves.{gone_coroutine-unowned, gone_coroutine-valid}
-use Rattle.kernel_model.proofs.EachMember.{find-passes}
-use Rattle.kernel_model.proofs.TaskCounts.{owners-coroutine}
-use Rattle.kernel_model.proofs.UnownedBlocks.{unowned-user}
+use Rattle.block_calls.specs.KernelDispatch.LinkedList.Chain.{list_at}
+use Rattle.word_store.specs.Count.{IsApart, times}
+use Rattle.block_calls.specs.KernelDispatch.LinkedList.Linked.{IsListAt}
+use Rattle.block_calls.specs.KernelDispatch.LinkedList.Places.{has}
+use Rattle.block_calls.proofs.Shown.KernelDispatch.LinkedList.Chains.{nodes-apart}
+use Rattle.word_store.proofs.Counts.{hit-same, times-above}
+use Rattle.block_calls.specs.KernelDispatch.OwnedWords.Exchange.{Exchange}
+use Rattle.block_calls.specs.KernelDispatch.OwnedWords.LinkedWords.{first_of}
+use Rattle.block_calls.specs.KernelDispatch.OwnedWords.Owned.{Pairs, owners}
+use Rattle.block_calls.proofs.Shown.KernelDispatch.OwnedWords.HeldLists.{held-list}
+use Rattle.block_calls.specs.KernelDispatch.GetvecChain.declared.pieces.Block.{Block}
+use Rattle.block_calls.specs.KernelDispatch.GetvecChain.Block.{block_end, is_used_at, used_block}
+use Rattle.block_calls.specs.KernelDispatch.GetvecChain.Run.{need}
+use Rattle.block_calls.specs.KernelDispatch.GetvecChain.Give.{given_store}
+use Rattle.block_calls.specs.KernelDispatch.GetvecChain.Tiling.{blocks_in, used_at}
+use Rattle.block_calls.proofs.Shown.KernelDispatch.GetvecChain.AfterGive.{given_store-is}
+use Rattle.block_calls.proofs.Shown.KernelDispatch.GetvecChain.UsedBlocks.{is_used_at-true}
+use Rattle.block_calls.specs.KernelDispatch.TaskBlock.Lists.{coroutine_link}
+use Rattle.block_calls.specs.KernelDispatch.Coroutines.CoroutineExchanges.{DeleteExchange, HoldsCoroutines, TaskCoroutines, link_behind, with_list, words_of_coroutines}
+use Rattle.block_calls.specs.KernelDispatch.Coroutines.CoroutineWords.{coroutine_size}
+use Rattle.block_calls.specs.KernelDispatch.Coroutines.Creation.{deleted}
+use Rattle.block_calls.specs.KernelDispatch.Coroutines.HeldCoroutines.{Coroutine, address_of, coroutine_words}
+use Rattle.block_calls.specs.KernelDispatch.Coroutines.Refusals.{idle_answer}
+use Rattle.block_calls.proofs.Shown.KernelDispatch.Coroutines.CreationExchanges.{delete-exchange}
+use Rattle.block_calls.proofs.Shown.KernelDispatch.Coroutines.HeldCoroutineLists.{are_coroutines}
+use Rattle.block_calls.specs.KernelDispatch.KernelModel.BlockUse.{use_of_data}
+use Rattle.block_calls.specs.KernelDispatch.KernelModel.BlockUse.Use.{User}
+use Rattle.block_calls.specs.KernelDispatch.KernelModel.ChangedStore.{IsChanged}
+use Rattle.block_calls.specs.KernelDispatch.KernelModel.Changes.{AreUnowned, IsIdleBlock, with_coroutines, with_tasks}
+use Rattle.block_calls.specs.KernelDispatch.KernelModel.HoldsLists.{HoldsLists}
+use Rattle.block_calls.specs.KernelDispatch.KernelModel.Lists.{Lists, queued}
+use Rattle.block_calls.specs.KernelDispatch.KernelModel.Owned.{owned}
+use Rattle.block_calls.specs.KernelDispatch.KernelModel.Task.{Task, task_address}
+use Rattle.block_calls.specs.KernelDispatch.KernelModel.ValidLists.{AreValid}
+use Rattle.block_calls.specs.KernelDispatch.KernelModel.ValidTasks.{IsCoroutine}
+use Rattle.block_calls.proofs.Shown.KernelDispatch.KernelModel.AllThings.{all-here}
+use Rattle.block_calls.proofs.Shown.KernelDispatch.KernelModel.ChangedLists.{changed-then, exchange-owned, one_task-owned}
+use Rattle.block_calls.proofs.Shown.KernelDispatch.KernelModel.CoroutineMoves.{gone_coroutine-unowned, gone_coroutine-valid}
+use Rattle.block_calls.proofs.Shown.KernelDispatch.KernelModel.EachMember.{find-passes}
+use Rattle.block_calls.proofs.Shown.KernelDispatch.KernelModel.TaskCounts.{owners-coroutine}
+use Rattle.block_calls.proofs.Shown.KernelDispatch.KernelModel.UnownedBlocks.{unowned-user}
 use Rattle.block_calls.specs.Freevec.{has_packet_in, holds_packet, lies_in, with_given}
 use Rattle.block_calls.proofs.IdleBlocks.{idle-unowned, none-idle, unowned-empty}
 use Rattle.block_calls.proofs.TakenStore.{given-changed, given-owners}
-use Rattle.call_answers.specs.Guests.{GuestAt}
-use Rattle.call_answers.proofs.FoundTask.{reads}
+use Rattle.block_calls.specs.CallAnswers.Guests.{GuestAt}
+use Rattle.block_calls.proofs.Shown.CallAnswers.FoundTask.{reads}
 use Rattle.coroutine_calls.specs.CallersCoroutines.{has_parent, is_one_of, with_callers}
 use Rattle.coroutine_calls.specs.DeleteCo.{IsRoomy, with_deleted, with_deleted_at}
 use Rattle.coroutine_calls.proofs.CallersTask.{callers-between, callers-held, callers-stand, task-exchange}

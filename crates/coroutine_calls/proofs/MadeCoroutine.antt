@@ -2,47 +2,47 @@
 use Rattle.std.proofs.Common.{◌≡◌, ℕ, ◌+◌, ◌≤◌, List, [], ◌∷◌, ◌++◌, get_or, length, map, set, cond, Bool, true, false, Some, None, Ok, Err, Result, refl, sym, ap, ◌∙◌, subst, arith}
 use Rattle.std.specs.Prelude.{IfOk, OnErr, OnOk, is_err, is_some}
 use Rattle.std.specs.List.{range_with_len}
-use Rattle.linked_list.specs.Count.{times}
-use Rattle.linked_list.specs.Places.{has}
-use Rattle.linked_list.proofs.AllMembers.{all-has}
-use Rattle.owned_words.specs.Exchange.{Exchange}
-use Rattle.owned_words.specs.LinkedWords.{first_of}
-use Rattle.owned_words.specs.Owned.{Pairs, owners, row_from, written}
-use Rattle.owned_words.proofs.RowWords.{with_words-written}
-use Rattle.getvec_chain.specs.declared.pieces.Block.{Block}
-use Rattle.getvec_chain.proofs.AfterTake.{after_take}
-use Rattle.task_block.specs.Lists.{first_coroutine}
-use Rattle.coroutines.specs.CoroutineExchanges.{CreateExchange, HoldsCoroutines, TaskCoroutines, created_words, new_coroutine, words_of_coroutines}
-use Rattle.coroutines.specs.Creation.{IsCreated, highest, new_words}
-use Rattle.coroutines.specs.HeldCoroutines.{Coroutine, address_of}
-use Rattle.coroutines.proofs.CoroutineLists.{Built}
-use Rattle.coroutines.proofs.CreationExchanges.{create-exchange}
-use Rattle.coroutines.proofs.HeldCoroutineLists.{held-coroutines, parent_of-none}
-use Rattle.coroutines.proofs.KnownCoroutines.{known-block}
-use Rattle.kernel_model.specs.ChangedStore.{IsChanged, Knows}
-use Rattle.kernel_model.specs.Changes.{AreUnowned, with_coroutines, with_tasks}
-use Rattle.kernel_model.specs.HoldsLists.{HoldsLists}
-use Rattle.kernel_model.specs.Lists.{Lists}
-use Rattle.kernel_model.specs.Owned.{owned}
-use Rattle.kernel_model.specs.Task.{task_address}
-use Rattle.kernel_model.specs.ValidLists.{AreValid}
-use Rattle.kernel_model.specs.ValidTasks.{IsCoroutine}
-use Rattle.kernel_model.proofs.ChangedLists.{changed-then, exchange-owned, one_task-owned}
-use Rattle.kernel_model.proofs.CoroutineMoves.{new_coroutine-valid}
-use Rattle.kernel_model.proofs.DataInside.{HasBlock-inside}
-use Rattle.kernel_model.proofs.TaskCounts.{owners-coroutine}
+use Rattle.word_store.specs.Count.{times}
+use Rattle.block_calls.specs.KernelDispatch.LinkedList.Places.{has}
+use Rattle.block_calls.proofs.Shown.KernelDispatch.LinkedList.AllMembers.{all-has}
+use Rattle.block_calls.specs.KernelDispatch.OwnedWords.Exchange.{Exchange}
+use Rattle.block_calls.specs.KernelDispatch.OwnedWords.LinkedWords.{first_of}
+use Rattle.block_calls.specs.KernelDispatch.OwnedWords.Owned.{Pairs, owners, row_from, written}
+use Rattle.block_calls.proofs.Shown.KernelDispatch.OwnedWords.RowWords.{with_words-written}
+use Rattle.block_calls.specs.KernelDispatch.GetvecChain.declared.pieces.Block.{Block}
+use Rattle.block_calls.proofs.Shown.KernelDispatch.GetvecChain.AfterTake.{after_take}
+use Rattle.block_calls.specs.KernelDispatch.TaskBlock.Lists.{first_coroutine}
+use Rattle.block_calls.specs.KernelDispatch.Coroutines.CoroutineExchanges.{CreateExchange, HoldsCoroutines, TaskCoroutines, created_words, new_coroutine, words_of_coroutines}
+use Rattle.block_calls.specs.KernelDispatch.Coroutines.Creation.{IsCreated, highest, new_words}
+use Rattle.block_calls.specs.KernelDispatch.Coroutines.HeldCoroutines.{Coroutine, address_of}
+use Rattle.block_calls.proofs.Shown.KernelDispatch.Coroutines.CoroutineLists.{Built}
+use Rattle.block_calls.proofs.Shown.KernelDispatch.Coroutines.CreationExchanges.{create-exchange}
+use Rattle.block_calls.proofs.Shown.KernelDispatch.Coroutines.HeldCoroutineLists.{held-coroutines, parent_of-none}
+use Rattle.block_calls.proofs.Shown.KernelDispatch.Coroutines.KnownCoroutines.{known-block}
+use Rattle.block_calls.specs.KernelDispatch.KernelModel.ChangedStore.{IsChanged, Knows}
+use Rattle.block_calls.specs.KernelDispatch.KernelModel.Changes.{AreUnowned, with_coroutines, with_tasks}
+use Rattle.block_calls.specs.KernelDispatch.KernelModel.HoldsLists.{HoldsLists}
+use Rattle.block_calls.specs.KernelDispatch.KernelModel.Lists.{Lists}
+use Rattle.block_calls.specs.KernelDispatch.KernelModel.Owned.{owned}
+use Rattle.block_calls.specs.KernelDispatch.KernelModel.Task.{task_address}
+use Rattle.block_calls.specs.KernelDispatch.KernelModel.ValidLists.{AreValid}
+use Rattle.block_calls.specs.KernelDispatch.KernelModel.ValidTasks.{IsCoroutine}
+use Rattle.block_calls.proofs.Shown.KernelDispatch.KernelModel.ChangedLists.{changed-then, exchange-owned, one_task-owned}
+use Rattle.block_calls.proofs.Shown.KernelDispatch.KernelModel.CoroutineMoves.{new_coroutine-valid}
+use Rattle.block_calls.proofs.Shown.KernelDispatch.KernelModel.DataInside.{HasBlock-inside}
+use Rattle.block_calls.proofs.Shown.KernelDispatch.KernelModel.TaskCounts.{owners-coroutine}
 use Rattle.block_calls.specs.FreeStore.{data_of_front, data_taken, has_room, with_taken}
 use Rattle.block_calls.proofs.TakenStore.{HasTakenBlock, taken-changed}
-use Rattle.call_answers.specs.Guests.{GuestAt}
-use Rattle.call_answers.specs.Made.{IsMade}
-use Rattle.call_answers.proofs.FoundTask.{reads}
-use Rattle.call_answers.proofs.MadeCalls.{made-accepted, made-refused}
-use Rattle.word_kinds.specs.Keeper.{AreTogether}
-use Rattle.word_kinds.proofs.KnownWords.{knows-claimed}
-use Rattle.getvec_chain.specs.declared.calls.NoRoom.{NoRoom}
-use Rattle.getvec_chain.specs.declared.pieces.Run.{Run}
-use Rattle.getvec_chain.specs.Run.{first_run, need}
-use Rattle.getvec_chain.specs.Tiling.{blocks_in}
+use Rattle.block_calls.specs.CallAnswers.Guests.{GuestAt}
+use Rattle.block_calls.specs.CallAnswers.Made.{IsMade}
+use Rattle.block_calls.proofs.Shown.CallAnswers.FoundTask.{reads}
+use Rattle.block_calls.proofs.Shown.CallAnswers.MadeCalls.{made-accepted, made-refused}
+use Rattle.block_calls.specs.KernelDispatch.WordKinds.Keeper.{AreTogether}
+use Rattle.block_calls.proofs.Shown.KernelDispatch.WordKinds.KnownWords.{knows-claimed}
+use Rattle.block_calls.specs.KernelDispatch.GetvecChain.declared.calls.NoRoom.{NoRoom}
+use Rattle.block_calls.specs.KernelDispatch.GetvecChain.declared.pieces.Run.{Run}
+use Rattle.block_calls.specs.KernelDispatch.GetvecChain.Run.{first_run, need}
+use Rattle.block_calls.specs.KernelDispatch.GetvecChain.Tiling.{blocks_in}
 use Rattle.coroutine_calls.specs.CreateCo.{create_tests, created as created_by, createco, with_created, with_created_at}
 use Rattle.coroutine_calls.proofs.CallersTask.{callers-between, callers-guest, callers-held, task-exchange}
 

@@ -4,32 +4,32 @@ use Rattle.std.specs.Prelude.{OnErr, OnOk, not}
 use Rattle.std.specs.List.{AllByRecursion}
 use Rattle.std.proofs.lemmas.Bool.{false≢true}
 use Rattle.word_store.specs.declared.registers.Regs.{Regs}
-use Rattle.linked_list.specs.Count.{IsApart}
-use Rattle.linked_list.specs.Places.{has}
-use Rattle.coroutines.specs.Active.{LeadsOut, active_in}
-use Rattle.owned_words.specs.Owned.{Pairs}
-use Rattle.task_block.specs.Lists.{coroutines_in}
-use Rattle.coroutines.specs.Coroutines.{HasCoroutines}
-use Rattle.coroutines.specs.CoroutineExchanges.{CallExchange, EndExchange, HoldsCoroutines, ResumeExchange, Rewrites, TaskCoroutines, WaitExchange, current_of, function_of, with_called, with_frame, with_resumed, with_saved, with_waiting, words_of_coroutines}
-use Rattle.coroutines.specs.CoroutineWords.{bottom, current_in, current_parent, function_in}
-use Rattle.coroutines.specs.HeldCoroutines.{Coroutine, address_of, first_active}
-use Rattle.coroutines.specs.Refusals as reasons
-use Rattle.coroutines.specs.Switch as store
-use Rattle.coroutines.specs.declared.ends.CoEnd.{CoEnd}
-use Rattle.coroutines.proofs.CoroutineLists.{Built}
-use Rattle.coroutines.proofs.HeldCoroutineLists.{held-coroutines}
-use Rattle.coroutines.proofs.KnownCoroutines.{current}
-use Rattle.coroutines.proofs.SwitchExchanges.{call-answered, end-answered, resume-answered, wait-answered}
-use Rattle.coroutines.proofs.Switches.{still-current, switched-current}
-use Rattle.kernel_model.specs.BlockUse.{coroutine_addresses}
-use Rattle.kernel_model.specs.HoldsLists.{HoldsLists}
-use Rattle.kernel_model.specs.Lists.{Lists}
-use Rattle.kernel_model.specs.Task.{Task}
-use Rattle.kernel_model.specs.ValidTasks.{CoroutinesStand, IsCoroutine}
-use Rattle.kernel_model.proofs.ChangedLists.{changed-none}
-use Rattle.call_answers.specs.Guests.{GuestAt}
-use Rattle.call_answers.specs.Refusals.{first_refusal}
-use Rattle.call_answers.proofs.Refusals.{answer_of-err, answer_of-ok}
+use Rattle.word_store.specs.Count.{IsApart}
+use Rattle.block_calls.specs.KernelDispatch.LinkedList.Places.{has}
+use Rattle.block_calls.specs.KernelDispatch.Coroutines.Active.{LeadsOut, active_in}
+use Rattle.block_calls.specs.KernelDispatch.OwnedWords.Owned.{Pairs}
+use Rattle.block_calls.specs.KernelDispatch.TaskBlock.Lists.{coroutines_in}
+use Rattle.block_calls.specs.KernelDispatch.Coroutines.Coroutines.{HasCoroutines}
+use Rattle.block_calls.specs.KernelDispatch.Coroutines.CoroutineExchanges.{CallExchange, EndExchange, HoldsCoroutines, ResumeExchange, Rewrites, TaskCoroutines, WaitExchange, current_of, function_of, with_called, with_frame, with_resumed, with_saved, with_waiting, words_of_coroutines}
+use Rattle.block_calls.specs.KernelDispatch.Coroutines.CoroutineWords.{bottom, current_in, current_parent, function_in}
+use Rattle.block_calls.specs.KernelDispatch.Coroutines.HeldCoroutines.{Coroutine, address_of, first_active}
+use Rattle.block_calls.specs.KernelDispatch.Coroutines.Refusals as reasons
+use Rattle.block_calls.specs.KernelDispatch.Coroutines.Switch as store
+use Rattle.block_calls.specs.KernelDispatch.Coroutines.declared.ends.CoEnd.{CoEnd}
+use Rattle.block_calls.proofs.Shown.KernelDispatch.Coroutines.CoroutineLists.{Built}
+use Rattle.block_calls.proofs.Shown.KernelDispatch.Coroutines.HeldCoroutineLists.{held-coroutines}
+use Rattle.block_calls.proofs.Shown.KernelDispatch.Coroutines.KnownCoroutines.{current}
+use Rattle.block_calls.proofs.Shown.KernelDispatch.Coroutines.SwitchExchanges.{call-answered, end-answered, resume-answered, wait-answered}
+use Rattle.block_calls.proofs.Shown.KernelDispatch.Coroutines.Switches.{still-current, switched-current}
+use Rattle.block_calls.specs.KernelDispatch.KernelModel.BlockUse.{coroutine_addresses}
+use Rattle.block_calls.specs.KernelDispatch.KernelModel.HoldsLists.{HoldsLists}
+use Rattle.block_calls.specs.KernelDispatch.KernelModel.Lists.{Lists}
+use Rattle.block_calls.specs.KernelDispatch.KernelModel.Task.{Task}
+use Rattle.block_calls.specs.KernelDispatch.KernelModel.ValidTasks.{CoroutinesStand, IsCoroutine}
+use Rattle.block_calls.proofs.Shown.KernelDispatch.KernelModel.ChangedLists.{changed-none}
+use Rattle.block_calls.specs.CallAnswers.Guests.{GuestAt}
+use Rattle.block_calls.specs.CallAnswers.Refusals.{first_refusal}
+use Rattle.block_calls.proofs.Shown.CallAnswers.Refusals.{answer_of-err, answer_of-ok}
 use Rattle.coroutine_calls.specs.CallCo.{callco, idle_tests}
 use Rattle.coroutine_calls.specs.CallersCoroutines.{coroutines_of_caller, is_one_of, is_within, with_callers, with_changed}
 use Rattle.coroutine_calls.specs.CoWait.{IsWithin, cowait, ended, wait_tests, with_ended}

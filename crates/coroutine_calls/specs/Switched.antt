@@ -2,13 +2,13 @@
 use Rattle.std.specs.Prelude.{◌≡◌, ℕ, ◌==◌, if◌then◌else◌, Bool, Option, Some, None, Result, Ok, Err, List, [], find}
 use Rattle.std.specs.Option.{option_map_or}
 use Rattle.word_store.specs.declared.registers.Regs.{Regs}
-use Rattle.owned_words.specs.Owned.{owners}
-use Rattle.coroutines.specs.CoroutineExchanges.{TaskCoroutines, current_of}
-use Rattle.coroutines.specs.HeldCoroutines.{Coroutine}
-use Rattle.kernel_model.specs.ChangedStore.{IsChanged}
-use Rattle.kernel_model.specs.Lists.{Lists}
-use Rattle.kernel_model.specs.Owned.{owned}
-use Rattle.call_answers.specs.Refusals.{first_refusal}
+use Rattle.block_calls.specs.KernelDispatch.OwnedWords.Owned.{owners}
+use Rattle.block_calls.specs.KernelDispatch.Coroutines.CoroutineExchanges.{TaskCoroutines, current_of}
+use Rattle.block_calls.specs.KernelDispatch.Coroutines.HeldCoroutines.{Coroutine}
+use Rattle.block_calls.specs.KernelDispatch.KernelModel.ChangedStore.{IsChanged}
+use Rattle.block_calls.specs.KernelDispatch.KernelModel.Lists.{Lists}
+use Rattle.block_calls.specs.KernelDispatch.KernelModel.Owned.{owned}
+use Rattle.block_calls.specs.CallAnswers.Refusals.{first_refusal}
 use Rattle.coroutine_calls.specs.CallersCoroutines.{coroutines_of_caller, with_callers}
 
 -- Whether it is accepted, or the code with which it is refused; the lists that it leaves, and the registers. It writes no plain

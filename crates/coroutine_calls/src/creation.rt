@@ -1,16 +1,14 @@
 // A coroutine of the running task is made.
 ghost use Rattle.std.specs.Prelude.{◌≡◌};
-ghost use Rattle.kernel_model.specs.ChangedStore.{HasKeeper};
-ghost use Rattle.kernel_model.specs.Lists.{Lists};
-ghost use Rattle.call_answers.specs.Callers.{HasCaller};
-ghost use Rattle.call_answers.specs.Made.{IsMade};
+ghost use Rattle.block_calls.specs.KernelDispatch.KernelModel.ChangedStore.{HasKeeper};
+ghost use Rattle.block_calls.specs.KernelDispatch.KernelModel.Lists.{Lists};
+ghost use Rattle.block_calls.specs.CallAnswers.Callers.{HasCaller};
+ghost use Rattle.block_calls.specs.CallAnswers.Made.{IsMade};
 ghost use Rattle.coroutine_calls.specs.CreateCo.{createco};
 
-use block_calls::tell_take;
-use call_answers::caller;
-use call_answers::codes::NO_COROUTINE_ROOM;
-use coroutines::create;
-use word_kinds::KindKeeper;
+use block_calls::codes::NO_COROUTINE_ROOM;
+use block_calls::kernel_dispatch::{KindKeeper, create_coroutine};
+use block_calls::{caller, tell_take};
 use word_store::Store;
 
 /// The least highest index of a coroutine.
@@ -39,7 +37,7 @@ pub fn createco<Q: KindKeeper>(
         return Err(NO_COROUTINE_ROOM);
     }
     let task = caller(store);
-    let c = create(store, task, function, u).unwrap();
+    let c = create_coroutine(store, task, function, u).unwrap();
     kinds.claim(c, COROUTINE_WORDS);
     Ok(c)
 }

@@ -1,21 +1,19 @@
 // A coroutine of the running task is deleted.
 ghost use Rattle.std.specs.Prelude.{◌≡◌, ◌+◌, ◌↔◌, IsTrue};
-ghost use Rattle.getvec_chain.specs.declared.pieces.Block.{Block};
-ghost use Rattle.getvec_chain.specs.Block.{block_end};
-ghost use Rattle.kernel_model.specs.ChangedStore.{HasKeeper};
-ghost use Rattle.kernel_model.specs.Changes.{AreUnowned};
-ghost use Rattle.kernel_model.specs.Lists.{Lists};
-ghost use Rattle.call_answers.specs.Callers.{HasCaller};
-ghost use Rattle.call_answers.specs.Made.{IsMade, plain_answer};
+ghost use Rattle.block_calls.specs.KernelDispatch.GetvecChain.declared.pieces.Block.{Block};
+ghost use Rattle.block_calls.specs.KernelDispatch.GetvecChain.Block.{block_end};
+ghost use Rattle.block_calls.specs.KernelDispatch.KernelModel.ChangedStore.{HasKeeper};
+ghost use Rattle.block_calls.specs.KernelDispatch.KernelModel.Changes.{AreUnowned};
+ghost use Rattle.block_calls.specs.KernelDispatch.KernelModel.Lists.{Lists};
+ghost use Rattle.block_calls.specs.CallAnswers.Callers.{HasCaller};
+ghost use Rattle.block_calls.specs.CallAnswers.Made.{IsMade, plain_answer};
 ghost use Rattle.coroutine_calls.specs.DeleteCo.{IsRoomy, deleteco};
 
 use crate::creation::COROUTINE_WORDS;
 use crate::refusals::coded;
-use block_calls::are_unowned;
-use call_answers::caller;
-use call_answers::codes::PACKET_IN_COROUTINE;
-use coroutines::{check_idle, delete};
-use word_kinds::KindKeeper;
+use block_calls::caller;
+use block_calls::codes::PACKET_IN_COROUTINE;
+use block_calls::kernel_dispatch::{KindKeeper, are_unowned, check_idle, delete_coroutine};
 use word_store::{Store, word};
 
 /// Deletes the coroutine c of the running task and gives its block back. Refused where the task has no such coroutine (21),
@@ -33,7 +31,7 @@ pub fn deleteco<Q: KindKeeper>(store: &mut Store, kinds: &mut Q, c: u32) -> Resu
     if !is_clear_behind(store, kinds, c) {
         return Err(PACKET_IN_COROUTINE);
     }
-    delete(store, task, c).unwrap();
+    delete_coroutine(store, task, c).unwrap();
     kinds.release(c, COROUTINE_WORDS);
     Ok(())
 }

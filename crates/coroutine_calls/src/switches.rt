@@ -1,15 +1,18 @@
 // The task that runs goes on in another of its coroutines.
 ghost use Rattle.std.specs.Prelude.{Ok};
-ghost use Rattle.kernel_model.specs.HoldsLists.{HoldsLists};
-ghost use Rattle.kernel_model.specs.Lists.{Lists};
-ghost use Rattle.call_answers.specs.Callers.{HasCaller};
+ghost use Rattle.block_calls.specs.KernelDispatch.KernelModel.HoldsLists.{HoldsLists};
+ghost use Rattle.block_calls.specs.KernelDispatch.KernelModel.Lists.{Lists};
+ghost use Rattle.block_calls.specs.CallAnswers.Callers.{HasCaller};
 ghost use Rattle.coroutine_calls.specs.CallCo.{callco};
 ghost use Rattle.coroutine_calls.specs.CoWait.{IsWithin, cowait, ended};
 ghost use Rattle.coroutine_calls.specs.ResumeCo.{resumeco};
 ghost use Rattle.coroutine_calls.specs.Switched.{IsSwitched};
 
 use crate::refusals::coded;
-use call_answers::caller;
+use block_calls::caller;
+use block_calls::kernel_dispatch::{
+    call_coroutine, coroutine_ended, resume_coroutine, wait_in_coroutine,
+};
 use word_store::{Regs, Store};
 
 /// Calls the coroutine c of the running task with v: the current one, or the root, becomes its parent, and its P and PC are
@@ -21,7 +24,7 @@ pub fn callco(store: &mut Store, regs: &mut Regs, c: u32, v: u32) -> Result<(), 
         → IsSwitched store.old store.new l regs.new result (callco l regs.old c v) }
 {
     let task = caller(store);
-    coded(coroutines::call(store, task, regs, c, v))
+    coded(call_coroutine(store, task, regs, c, v))
 }
 
 /// Resumes the coroutine c of the running task with v, in place of the current one, whose parent becomes its own and whose P
@@ -34,7 +37,7 @@ pub fn resumeco(store: &mut Store, regs: &mut Regs, c: u32, v: u32) -> Result<()
         → IsSwitched store.old store.new l regs.new result (resumeco l regs.old c v) }
 {
     let task = caller(store);
-    coded(coroutines::resume(store, task, regs, c, v))
+    coded(resume_coroutine(store, task, regs, c, v))
 }
 
 /// Makes the current coroutine of the running task wait: its P and PC are saved, it has no parent any more, and its parent goes
@@ -45,7 +48,7 @@ pub fn cowait(store: &mut Store, regs: &mut Regs, v: u32) -> Result<(), u32>
         → IsSwitched store.old store.new l regs.new result (cowait l regs.old v) }
 {
     let task = caller(store);
-    coded(coroutines::wait(store, task, regs, v))
+    coded(wait_in_coroutine(store, task, regs, v))
 }
 
 /// Does what is due where the function of the running task's current coroutine, which is not its root, has returned: the parent
@@ -57,5 +60,5 @@ pub fn ended(store: &mut Store, regs: &mut Regs)
         → IsSwitched store.old store.new l regs.new (Ok tt) (ended l regs.old) }
 {
     let task = caller(store);
-    coroutines::ended(store, task, regs);
+    coroutine_ended(store, task, regs);
 }

@@ -3,11 +3,11 @@ use Rattle.std.proofs.Common.{◌≡◌, ◌≢◌, inl, inr, ℕ, ◌+◌, List
 use Rattle.std.specs.List.{AllByRecursion}
 use Rattle.std.proofs.lemmas.Bool.{cases_eq}
 use Rattle.std.proofs.lemmas.Bool.Decides.{nat_tests}
-use Rattle.word_store.specs.declared.registers.Regs.{Regs}
-use Rattle.linked_list.specs.Count.{IsApart}
-use Rattle.linked_list.specs.Places.{has}
-use Rattle.linked_list.proofs.Counts.{IsApart-cons, hit-same}
-use Rattle.linked_list.proofs.Members.{has-none, has-not, none-times, not-has}
+use Rattle.getvec_chain.specs.WordStore.declared.registers.Regs.{Regs}
+use Rattle.getvec_chain.specs.WordStore.Count.{IsApart}
+use Rattle.getvec_chain.specs.LinkedList.Places.{has}
+use Rattle.getvec_chain.proofs.Shown.WordStore.Counts.{IsApart-cons, hit-same}
+use Rattle.getvec_chain.proofs.Shown.LinkedList.Members.{has-none, has-not, none-times, not-has}
 use Rattle.task_block.specs.Lists.{coroutines_in}
 use Rattle.coroutines.specs.Active.{LeadsOut, active_in}
 use Rattle.coroutines.specs.Coroutines.{HasCoroutines}

@@ -2,12 +2,12 @@
 use Rattle.std.proofs.Common.{◌≡◌, ◌≢◌, ◌⊎◌, inl, inr, ℕ, ◌+◌, ◌<◌, ◌≤◌, List, length, get_or, true, false, Some, sym, ap, ◌∙◌, subst, arith}
 use Rattle.std.specs.List.{AllByRecursion}
 use Rattle.getvec_chain.specs.Block.{used_block}
-use Rattle.linked_list.specs.Count.{IsApart}
-use Rattle.linked_list.specs.Places.{has}
+use Rattle.getvec_chain.specs.WordStore.Count.{IsApart}
+use Rattle.getvec_chain.specs.LinkedList.Places.{has}
 use Rattle.getvec_chain.specs.Run.{need}
 use Rattle.getvec_chain.specs.Tiling.{blocks_in, holding, used_at}
-use Rattle.linked_list.proofs.Frames.{list-same}
-use Rattle.linked_list.specs.Linked.{IsListAt}
+use Rattle.getvec_chain.proofs.Shown.LinkedList.Frames.{list-same}
+use Rattle.getvec_chain.specs.LinkedList.Linked.{IsListAt}
 use Rattle.getvec_chain.proofs.Writes.{SameBlocks, SameBlocks-kept}
 use Rattle.task_block.specs.Lists.{coroutine_link, coroutines_in}
 use Rattle.coroutines.specs.Active.{LeadsOut}
@@ -15,8 +15,8 @@ use Rattle.coroutines.specs.Coroutines.{HasBlock, HasCoroutines}
 use Rattle.coroutines.specs.CoroutineWords.{coroutine_size, highest_in, parent_in}
 use Rattle.coroutines.specs.Refusals.{is_known}
 use Rattle.coroutines.proofs.CoroutineLists.{Built, built}
-use Rattle.linked_list.proofs.AllMembers.{all-members}
-use Rattle.linked_list.proofs.Members.{cell-cases}
+use Rattle.getvec_chain.proofs.Shown.LinkedList.AllMembers.{all-members}
+use Rattle.getvec_chain.proofs.Shown.LinkedList.Members.{cell-cases}
 use Rattle.coroutines.proofs.KnownCoroutines.{known-block, known-held, known-same, task-apart, task-held}
 
 -- only the words 18 to 20 of the task block, and the words 0, 1 and 6 of its coroutines, have changed

@@ -1,14 +1,14 @@
 -- The coroutines of a task stand, by a list of them and a list of the active ones.
 use Rattle.std.proofs.Common.{◌≡◌, ◌≢◌, inl, ℕ, ◌+◌, ◌<◌, List, [], ◌∷◌, ◌++◌, length, true, false, refl, sym, ap, ◌∙◌, subst, arith}
 use Rattle.std.specs.List.{AllByRecursion, range_with_len}
-use Rattle.linked_list.specs.Count.{IsApart, words_of}
-use Rattle.linked_list.specs.Linked.{IsNode, IsListAt}
-use Rattle.linked_list.specs.Places.{has}
+use Rattle.getvec_chain.specs.WordStore.Count.{IsApart, words_of}
+use Rattle.getvec_chain.specs.LinkedList.Linked.{IsNode, IsListAt}
+use Rattle.getvec_chain.specs.LinkedList.Places.{has}
 use Rattle.getvec_chain.specs.Tiling.{IsTiled}
-use Rattle.linked_list.proofs.Chains.{length-apart}
-use Rattle.linked_list.proofs.Counts.{times-append, times-within}
-use Rattle.linked_list.proofs.Members.{one-member}
-use Rattle.linked_list.proofs.AllMembers.{all-has}
+use Rattle.getvec_chain.proofs.Shown.LinkedList.Chains.{length-apart}
+use Rattle.getvec_chain.proofs.Shown.WordStore.Counts.{times-append, times-within}
+use Rattle.getvec_chain.proofs.Shown.LinkedList.Members.{one-member}
+use Rattle.getvec_chain.proofs.Shown.LinkedList.AllMembers.{all-has}
 use Rattle.task_block.specs.Lists.{coroutine_link, coroutines_in}
 use Rattle.coroutines.specs.Active.{LeadsOut, active_in}
 use Rattle.coroutines.specs.Coroutines.{HasBlock, HasCoroutines, HasTaskBlock}

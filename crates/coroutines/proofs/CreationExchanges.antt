@@ -1,17 +1,17 @@
 -- What a create and a delete exchange of the words that coroutines and blocks own.
 use Rattle.std.proofs.Common.{◌≡◌, ℕ, ◌+◌, List, [], ◌∷◌, ◌++◌, get_or, map, set, Bool, true, false, Some, None, Ok, refl, sym, ap, ◌∙◌}
-use Rattle.linked_list.specs.Places.{has}
-use Rattle.linked_list.proofs.AllMembers.{all-back, all-has}
+use Rattle.getvec_chain.specs.LinkedList.Places.{has}
+use Rattle.getvec_chain.proofs.Shown.LinkedList.AllMembers.{all-back, all-has}
 use Rattle.getvec_chain.specs.declared.pieces.Block.{Block}
 use Rattle.getvec_chain.specs.Tiling.{used_at}
 use Rattle.getvec_chain.proofs.AfterTake.{AfterTake, after_take}
 use Rattle.getvec_chain.proofs.BlockExchanges.{give-exchange, take-exchange}
 use Rattle.getvec_chain.proofs.Writes.{SameBlocks}
-use Rattle.owned_words.specs.LinkedWords.{first_of}
-use Rattle.owned_words.specs.Owned.{Pairs, row_from, written}
-use Rattle.owned_words.proofs.Exchanges.{exchange-insert, exchange-remove, exchange-right}
-use Rattle.owned_words.proofs.HeldLists.{held-without_node}
-use Rattle.owned_words.proofs.RowWords.{with_words-written}
+use Rattle.getvec_chain.specs.OwnedWords.LinkedWords.{first_of}
+use Rattle.getvec_chain.specs.OwnedWords.Owned.{Pairs, row_from, written}
+use Rattle.getvec_chain.proofs.Shown.OwnedWords.Exchanges.{exchange-insert, exchange-remove, exchange-right}
+use Rattle.getvec_chain.proofs.Shown.OwnedWords.HeldLists.{held-without_node}
+use Rattle.getvec_chain.proofs.Shown.OwnedWords.RowWords.{with_words-written}
 use Rattle.task_block.specs.Lists.{coroutine_link}
 use Rattle.coroutines.specs.CoroutineExchanges.{CreateExchange, DeleteExchange, HoldsCoroutines, TaskCoroutines, created_words, new_coroutine, with_list}
 use Rattle.coroutines.specs.CoroutineWords.{coroutine_size}

@@ -3,21 +3,21 @@ use Rattle.std.proofs.Common.{◌≡◌, ◌≢◌, ◌⊎◌, inl, inr, ℕ, �
 use Rattle.std.specs.List.{AllByRecursion, range_with_len}
 use Rattle.std.proofs.lemmas.Bool.{false≢true}
 use Rattle.getvec_chain.specs.Block.{block_end, used_block}
-use Rattle.linked_list.specs.Chain.{cells, last_cell, list_at}
-use Rattle.linked_list.specs.Count.{times, words_of}
+use Rattle.getvec_chain.specs.LinkedList.Chain.{cells, last_cell, list_at}
+use Rattle.getvec_chain.specs.WordStore.Count.{times, words_of}
 use Rattle.getvec_chain.specs.Give.{given}
-use Rattle.linked_list.specs.Places.{cell_before, has, linked_out, without}
+use Rattle.getvec_chain.specs.LinkedList.Places.{cell_before, has, linked_out, without}
 use Rattle.getvec_chain.specs.Run.{need}
 use Rattle.getvec_chain.specs.Tiling.{blocks_in, holding, used_at}
 use Rattle.getvec_chain.proofs.AfterGive.{AfterGive, after_give}
-use Rattle.linked_list.proofs.Chains.{nodes-apart}
-use Rattle.linked_list.proofs.Counts.{hit-same, times-append, times-words_more, times-words_of}
-use Rattle.linked_list.proofs.Frames.{list-same}
-use Rattle.linked_list.proofs.Insertion.{times-front_cell}
-use Rattle.linked_list.proofs.Lists.{list-remove, list-removed}
-use Rattle.linked_list.specs.Linked.{IsListAt}
-use Rattle.linked_list.proofs.Members.{has-times, without-has, without-keeps, has-not, cell-cases}
-use Rattle.linked_list.proofs.Places.{Stands, stands}
+use Rattle.getvec_chain.proofs.Shown.LinkedList.Chains.{nodes-apart}
+use Rattle.getvec_chain.proofs.Shown.WordStore.Counts.{hit-same, times-append, times-words_more, times-words_of}
+use Rattle.getvec_chain.proofs.Shown.LinkedList.Frames.{list-same}
+use Rattle.getvec_chain.proofs.Shown.LinkedList.Insertion.{times-front_cell}
+use Rattle.getvec_chain.proofs.Shown.LinkedList.Lists.{list-remove, list-removed}
+use Rattle.getvec_chain.specs.LinkedList.Linked.{IsListAt}
+use Rattle.getvec_chain.proofs.Shown.LinkedList.Members.{has-times, without-has, without-keeps, has-not, cell-cases}
+use Rattle.getvec_chain.proofs.Shown.LinkedList.Places.{Stands, stands}
 use Rattle.getvec_chain.proofs.UsedBlocks.{UsedBlock, used_at-apart, used_at-is}
 use Rattle.getvec_chain.proofs.Writes.{SameBlocks, SameBlocks-kept}
 use Rattle.task_block.specs.Lists.{coroutine_link, coroutines_in}
@@ -27,7 +27,7 @@ use Rattle.coroutines.specs.CoroutineWords.{coroutine_size, highest_in, parent_i
 use Rattle.coroutines.specs.Creation.{deleted}
 use Rattle.coroutines.specs.Refusals.{has_parent, is_known}
 use Rattle.coroutines.proofs.CoroutineLists.{Built, built}
-use Rattle.linked_list.proofs.AllMembers.{all-members}
+use Rattle.getvec_chain.proofs.Shown.LinkedList.AllMembers.{all-members}
 use Rattle.coroutines.proofs.KnownCoroutines.{known-block, known-held, known-same, no_parent-word, task-apart, task-held}
 use Rattle.coroutines.proofs.KeptWords.{same-block, same-out}
 

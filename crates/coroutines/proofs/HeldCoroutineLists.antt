@@ -5,17 +5,17 @@ use Rattle.std.proofs.lemmas.Bool.{false≢true}
 use Rattle.std.proofs.lemmas.Bool.Decides.{nat_tests}
 use Rattle.getvec_chain.specs.Block.{used_block}
 use Rattle.getvec_chain.specs.Run.{need}
-use Rattle.linked_list.specs.Count.{IsApart, times, words_of}
-use Rattle.linked_list.specs.Linked.{IsListAt}
-use Rattle.linked_list.specs.Places.{has}
-use Rattle.linked_list.proofs.AllMembers.{all-has}
-use Rattle.linked_list.proofs.Counts.{hit-same, times-append}
-use Rattle.owned_words.specs.LinkedWords.{AreNodes, first_of, linked_words}
-use Rattle.owned_words.specs.Owned.{Holds}
-use Rattle.owned_words.proofs.Exchanges.{exchange-row}
-use Rattle.owned_words.proofs.HeldLists.{held-count, held-list}
-use Rattle.owned_words.proofs.OwnedWords.{Holds-left, Holds-right}
-use Rattle.owned_words.proofs.RowWords.{owners-row}
+use Rattle.getvec_chain.specs.WordStore.Count.{IsApart, times, words_of}
+use Rattle.getvec_chain.specs.LinkedList.Linked.{IsListAt}
+use Rattle.getvec_chain.specs.LinkedList.Places.{has}
+use Rattle.getvec_chain.proofs.Shown.LinkedList.AllMembers.{all-has}
+use Rattle.getvec_chain.proofs.Shown.WordStore.Counts.{hit-same, times-append}
+use Rattle.getvec_chain.specs.OwnedWords.LinkedWords.{AreNodes, first_of, linked_words}
+use Rattle.getvec_chain.specs.OwnedWords.Owned.{Holds}
+use Rattle.getvec_chain.proofs.Shown.OwnedWords.Exchanges.{exchange-row}
+use Rattle.getvec_chain.proofs.Shown.OwnedWords.HeldLists.{held-count, held-list}
+use Rattle.getvec_chain.proofs.Shown.OwnedWords.OwnedWords.{Holds-left, Holds-right}
+use Rattle.getvec_chain.proofs.Shown.OwnedWords.RowWords.{owners-row}
 use Rattle.task_block.specs.Lists.{coroutine_link}
 use Rattle.coroutines.specs.Active.{LeadsOut}
 use Rattle.coroutines.specs.Coroutines.{HasBlock}

@@ -3,16 +3,16 @@ use Rattle.std.proofs.Common.{◌≡◌, ◌≢◌, inl, inr, ℕ, ◌+◌, ◌-
 use Rattle.std.specs.List.{AllByRecursion, range_with_len}
 use Rattle.std.proofs.lemmas.Bool.{cases_lt}
 use Rattle.getvec_chain.specs.Block.{used_block}
-use Rattle.linked_list.specs.Count.{node_words, times, words_of}
-use Rattle.linked_list.specs.Places.{has}
+use Rattle.getvec_chain.specs.WordStore.Count.{node_words, times, words_of}
+use Rattle.getvec_chain.specs.LinkedList.Places.{has}
 use Rattle.getvec_chain.specs.Run.{need}
 use Rattle.getvec_chain.specs.Tiling.{blocks_in, used_at}
-use Rattle.linked_list.proofs.Counts.{times-above, times-below, times-words_more}
+use Rattle.getvec_chain.proofs.Shown.WordStore.Counts.{times-above, times-below, times-words_more}
 use Rattle.task_block.specs.Lists.{coroutines_in}
 use Rattle.coroutines.specs.Active.{LeadsOut, active_in}
 use Rattle.coroutines.specs.Coroutines.{HasBlock, HasCoroutines}
 use Rattle.coroutines.specs.Refusals.{is_known}
-use Rattle.linked_list.proofs.Members.{has-there, has-here}
+use Rattle.getvec_chain.proofs.Shown.LinkedList.Members.{has-there, has-here}
 use Rattle.coroutines.proofs.KnownCoroutines.{known-block}
 use Rattle.coroutines.proofs.OutwardLists.{LeadsOut-same}
 

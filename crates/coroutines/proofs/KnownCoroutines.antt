@@ -5,14 +5,14 @@ use Rattle.std.proofs.lemmas.Bool.{cases_eq}
 use Rattle.std.proofs.lemmas.Bool.Decides.{nat_tests}
 use Rattle.getvec_chain.specs.declared.pieces.Block.{Block}
 use Rattle.getvec_chain.specs.Block.{used_block}
-use Rattle.linked_list.specs.Count.{words_of}
-use Rattle.linked_list.specs.Linked.{IsNode}
-use Rattle.linked_list.specs.Places.{has}
+use Rattle.getvec_chain.specs.WordStore.Count.{words_of}
+use Rattle.getvec_chain.specs.LinkedList.Linked.{IsNode}
+use Rattle.getvec_chain.specs.LinkedList.Places.{has}
 use Rattle.getvec_chain.specs.Run.{need}
 use Rattle.getvec_chain.specs.Tiling.{blocks_in, holding}
-use Rattle.linked_list.proofs.Counts.{times-append, times-within}
-use Rattle.linked_list.proofs.Members.{one-member, two-members}
-use Rattle.linked_list.proofs.AllMembers.{all-has}
+use Rattle.getvec_chain.proofs.Shown.WordStore.Counts.{times-append, times-within}
+use Rattle.getvec_chain.proofs.Shown.LinkedList.Members.{one-member, two-members}
+use Rattle.getvec_chain.proofs.Shown.LinkedList.AllMembers.{all-has}
 use Rattle.getvec_chain.proofs.UsedBlocks.{UsedBlock, used_at-holding, used_at-is}
 use Rattle.task_block.specs.Lists.{coroutine_link, coroutines_in}
 use Rattle.coroutines.specs.Active.{LeadsOut, active_in}

@@ -5,19 +5,19 @@ use Rattle.std.proofs.lemmas.Bool.{cases_eq, cases_lt}
 use Rattle.std.proofs.lemmas.Bool.Decides.{nat_tests}
 use Rattle.getvec_chain.specs.declared.pieces.Block.{Block}
 use Rattle.getvec_chain.specs.Block.{block_end, used_block}
-use Rattle.linked_list.specs.Chain.{list_at}
-use Rattle.linked_list.specs.Count.{hit, node_words, times, words_of}
-use Rattle.linked_list.specs.Linked.{IsFresh, IsNode, IsListAt}
-use Rattle.linked_list.specs.Places.{has}
-use Rattle.word_store.specs.Row.{with_words}
+use Rattle.getvec_chain.specs.LinkedList.Chain.{list_at}
+use Rattle.getvec_chain.specs.WordStore.Count.{hit, node_words, times, words_of}
+use Rattle.getvec_chain.specs.LinkedList.Linked.{IsFresh, IsNode, IsListAt}
+use Rattle.getvec_chain.specs.LinkedList.Places.{has}
+use Rattle.getvec_chain.specs.WordStore.Row.{with_words}
 use Rattle.getvec_chain.specs.Run.{need}
 use Rattle.getvec_chain.specs.Take.{IsTaken, taken}
 use Rattle.getvec_chain.specs.Tiling.{IsTiled, blocks_in, used_at}
 use Rattle.getvec_chain.proofs.AfterTake.{AfterTake, after_take}
-use Rattle.linked_list.proofs.Counts.{hit-other, hit-same, range-apart, range-high, range-low, times-append, times-within, times-words_more}
-use Rattle.linked_list.proofs.Frames.{list-same}
-use Rattle.linked_list.proofs.Lists.{list-push}
-use Rattle.word_store.proofs.Rows.{get_or-with_words, get_or-with_words_outside, length-with_words}
+use Rattle.getvec_chain.proofs.Shown.WordStore.Counts.{hit-other, hit-same, range-apart, range-high, range-low, times-append, times-within, times-words_more}
+use Rattle.getvec_chain.proofs.Shown.LinkedList.Frames.{list-same}
+use Rattle.getvec_chain.proofs.Shown.LinkedList.Lists.{list-push}
+use Rattle.getvec_chain.proofs.Shown.WordStore.Rows.{get_or-with_words, get_or-with_words_outside, length-with_words}
 use Rattle.getvec_chain.proofs.UsedBlocks.{UsedBlock, used_at-is}
 use Rattle.getvec_chain.proofs.Writes.{SameBlocks, SameBlocks-set_used, SameBlocks-then, SameBlocks-used}
 use Rattle.task_block.specs.Lists.{coroutine_link, coroutines_in}
@@ -27,8 +27,8 @@ use Rattle.coroutines.specs.CoroutineWords.{coroutine_size, highest_in, parent_i
 use Rattle.coroutines.specs.Creation.{highest, new_words}
 use Rattle.coroutines.specs.Refusals.{is_known}
 use Rattle.coroutines.proofs.CoroutineLists.{Built, built}
-use Rattle.linked_list.proofs.AllMembers.{all-members}
-use Rattle.linked_list.proofs.Members.{has-there, cell-cases}
+use Rattle.getvec_chain.proofs.Shown.LinkedList.AllMembers.{all-members}
+use Rattle.getvec_chain.proofs.Shown.LinkedList.Members.{has-there, cell-cases}
 use Rattle.coroutines.proofs.KnownCoroutines.{known-block, no_parent-word, task-apart, task-inside}
 use Rattle.coroutines.proofs.KeptWords.{range-none, same-block, same-out, words-none}
 

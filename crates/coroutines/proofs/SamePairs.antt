@@ -1,11 +1,11 @@
 -- Pairs that are the same but for their order.
 use Rattle.std.proofs.Common.{◌≡◌, ℕ, List, [], ◌∷◌, ◌++◌, refl, sym, ap, ◌∙◌, subst, arith}
 use Rattle.std.specs.List.{flat_map}
-use Rattle.owned_words.specs.Exchange.{Exchange}
-use Rattle.owned_words.specs.Owned.{Holds, Pairs, owners, written}
-use Rattle.owned_words.proofs.Exchanges.{exchange-as, exchange-back}
-use Rattle.owned_words.proofs.MemberExchanges.{Holds-two, owners-two, two-Holds}
-use Rattle.owned_words.proofs.OwnedWords.{Holds-append, Holds-left, Holds-right, owners-append}
+use Rattle.getvec_chain.specs.OwnedWords.Exchange.{Exchange}
+use Rattle.getvec_chain.specs.OwnedWords.Owned.{Holds, Pairs, owners, written}
+use Rattle.getvec_chain.proofs.Shown.OwnedWords.Exchanges.{exchange-as, exchange-back}
+use Rattle.getvec_chain.proofs.Shown.OwnedWords.MemberExchanges.{Holds-two, owners-two, two-Holds}
+use Rattle.getvec_chain.proofs.Shown.OwnedWords.OwnedWords.{Holds-append, Holds-left, Holds-right, owners-append}
 use Rattle.coroutines.specs.CoroutineExchanges.{Rewrites, standing}
 
 pub record AreSame (A B : Pairs) : Type 0 where

@@ -4,23 +4,23 @@ use Rattle.std.specs.Prelude.{not}
 use Rattle.std.specs.List.{AllByRecursion, flat_map}
 use Rattle.std.proofs.lemmas.Bool.{cases_eq, false≢true}
 use Rattle.std.proofs.lemmas.Bool.Decides.{nat_tests}
-use Rattle.linked_list.specs.Chain.{list_at}
-use Rattle.linked_list.specs.Count.{IsApart}
-use Rattle.linked_list.specs.Linked.{IsListAt}
-use Rattle.linked_list.specs.Places.{has}
-use Rattle.linked_list.proofs.AllMembers.{all-has}
-use Rattle.linked_list.proofs.Chains.{nodes-apart}
-use Rattle.linked_list.proofs.Counts.{hit-same}
-use Rattle.linked_list.proofs.Members.{has-none, has-times}
-use Rattle.owned_words.specs.Exchange.{Exchange, Splits}
-use Rattle.owned_words.specs.LinkedWords.{first_of, headed_words, linked_words}
-use Rattle.owned_words.specs.Owned.{Holds, Pairs, row_from, written}
-use Rattle.owned_words.proofs.Exchanges.{exchange-all, exchange-both, exchange-none, exchange-right}
-use Rattle.owned_words.proofs.HeldLists.{held-list}
-use Rattle.owned_words.proofs.MemberExchanges.{IsMember, exchange-map, first_of-map, one-chosen}
-use Rattle.owned_words.proofs.OwnedWords.{Holds-left, Holds-right}
-use Rattle.owned_words.proofs.Parts.{exchange-within}
-use Rattle.word_store.specs.declared.registers.Regs.{Regs}
+use Rattle.getvec_chain.specs.LinkedList.Chain.{list_at}
+use Rattle.getvec_chain.specs.WordStore.Count.{IsApart}
+use Rattle.getvec_chain.specs.LinkedList.Linked.{IsListAt}
+use Rattle.getvec_chain.specs.LinkedList.Places.{has}
+use Rattle.getvec_chain.proofs.Shown.LinkedList.AllMembers.{all-has}
+use Rattle.getvec_chain.proofs.Shown.LinkedList.Chains.{nodes-apart}
+use Rattle.getvec_chain.proofs.Shown.WordStore.Counts.{hit-same}
+use Rattle.getvec_chain.proofs.Shown.LinkedList.Members.{has-none, has-times}
+use Rattle.getvec_chain.specs.OwnedWords.Exchange.{Exchange, Splits}
+use Rattle.getvec_chain.specs.OwnedWords.LinkedWords.{first_of, headed_words, linked_words}
+use Rattle.getvec_chain.specs.OwnedWords.Owned.{Holds, Pairs, row_from, written}
+use Rattle.getvec_chain.proofs.Shown.OwnedWords.Exchanges.{exchange-all, exchange-both, exchange-none, exchange-right}
+use Rattle.getvec_chain.proofs.Shown.OwnedWords.HeldLists.{held-list}
+use Rattle.getvec_chain.proofs.Shown.OwnedWords.MemberExchanges.{IsMember, exchange-map, first_of-map, one-chosen}
+use Rattle.getvec_chain.proofs.Shown.OwnedWords.OwnedWords.{Holds-left, Holds-right}
+use Rattle.getvec_chain.proofs.Shown.OwnedWords.Parts.{exchange-within}
+use Rattle.getvec_chain.specs.WordStore.declared.registers.Regs.{Regs}
 use Rattle.task_block.specs.Lists.{coroutine_link}
 use Rattle.coroutines.specs.CoroutineExchanges.{CallExchange, EndExchange, HoldsCoroutines, ResumeExchange, Rewrites, TaskCoroutines, WaitExchange, current_of, function_of, words_of_coroutines, standing, switch_words, with_frame, with_saved}
 use Rattle.coroutines.specs.CoroutineWords.{as_current, as_parent, bottom, coroutine_size, current_in, function_in, parent_in, saved_p, saved_pc}

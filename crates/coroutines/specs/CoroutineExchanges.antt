@@ -4,10 +4,10 @@ use Rattle.getvec_chain.specs.Block.{used_block}
 use Rattle.getvec_chain.specs.BlockWords.{GiveExchange, TakeExchange}
 use Rattle.getvec_chain.specs.Run.{need}
 use Rattle.getvec_chain.specs.Tiling.{blocks_in}
-use Rattle.linked_list.specs.Chain.{last_cell}
-use Rattle.owned_words.specs.Exchange.{Exchange}
-use Rattle.owned_words.specs.LinkedWords.{first_of, headed_words}
-use Rattle.owned_words.specs.Owned.{Pairs, written}
+use Rattle.getvec_chain.specs.LinkedList.Chain.{last_cell}
+use Rattle.getvec_chain.specs.OwnedWords.Exchange.{Exchange}
+use Rattle.getvec_chain.specs.OwnedWords.LinkedWords.{first_of, headed_words}
+use Rattle.getvec_chain.specs.OwnedWords.Owned.{Pairs, written}
 use Rattle.task_block.specs.Lists.{coroutine_link, first_coroutine}
 use Rattle.coroutines.specs.CoroutineWords.{as_parent, bottom, current_cell, parent_cell, saved_p, saved_pc}
 use Rattle.coroutines.specs.Creation.{highest}

@@ -3,9 +3,9 @@ use Rattle.std.specs.Prelude.{◌≡◌, ℕ, ◌+◌, ◌≤◌, true, false, S
 use Rattle.std.specs.List.{AllByRecursion}
 use Rattle.getvec_chain.specs.declared.pieces.Block.{Block}
 use Rattle.getvec_chain.specs.Block.{block_end, used_block}
-use Rattle.linked_list.specs.Count.{IsApart, node_words, words_of}
-use Rattle.linked_list.specs.Linked.{HasList}
-use Rattle.linked_list.specs.Places.{has}
+use Rattle.getvec_chain.specs.WordStore.Count.{IsApart, node_words, words_of}
+use Rattle.getvec_chain.specs.LinkedList.Linked.{HasList}
+use Rattle.getvec_chain.specs.LinkedList.Places.{has}
 use Rattle.getvec_chain.specs.Run.{need}
 use Rattle.getvec_chain.specs.Tiling.{IsTiled, blocks_in, used_at}
 use Rattle.task_block.specs.Lists.{coroutine_link, coroutines_in, first_coroutine}

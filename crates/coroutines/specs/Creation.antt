@@ -1,8 +1,8 @@
 -- A coroutine is made, and goes.
 use Rattle.std.specs.Prelude.{◌≡◌, ℕ, max, List, [], ◌∷◌, slice_index, slice_set}
 use Rattle.getvec_chain.specs.Give.{given_store}
-use Rattle.linked_list.specs.Places.{without_node}
-use Rattle.word_store.specs.Row.{with_words}
+use Rattle.getvec_chain.specs.LinkedList.Places.{without_node}
+use Rattle.getvec_chain.specs.WordStore.Row.{with_words}
 use Rattle.getvec_chain.specs.Take.{IsTaken}
 use Rattle.task_block.specs.Lists.{coroutine_link, first_coroutine}
 use Rattle.coroutines.specs.CoroutineWords.{bottom}

@@ -4,10 +4,10 @@ use Rattle.std.specs.List.{AllByRecursion}
 use Rattle.getvec_chain.specs.Block.{used_block}
 use Rattle.getvec_chain.specs.Run.{need}
 use Rattle.getvec_chain.specs.Tiling.{IsTiled, blocks_in, used_at}
-use Rattle.linked_list.specs.Count.{IsApart, node_words, times}
-use Rattle.linked_list.specs.Places.{has}
-use Rattle.owned_words.specs.LinkedWords.{AreHeld, first_of, linked_words}
-use Rattle.owned_words.specs.Owned.{Pairs, owners, row_from}
+use Rattle.getvec_chain.specs.WordStore.Count.{IsApart, node_words, times}
+use Rattle.getvec_chain.specs.LinkedList.Places.{has}
+use Rattle.getvec_chain.specs.OwnedWords.LinkedWords.{AreHeld, first_of, linked_words}
+use Rattle.getvec_chain.specs.OwnedWords.Owned.{Pairs, owners, row_from}
 use Rattle.task_block.specs.Lists.{first_coroutine}
 use Rattle.task_block.specs.TaskChain.{task_size}
 use Rattle.coroutines.specs.Coroutines.{HasTaskBlock}

@@ -1,6 +1,6 @@
 -- When a call on coroutines is refused, and with what.
 use Rattle.std.specs.Prelude.{ℕ, Bool, not, ◌==◌, ◌||◌, Result, Ok, Err, List, [], ◌∷◌, if◌then◌else◌}
-use Rattle.linked_list.specs.Places.{has}
+use Rattle.getvec_chain.specs.LinkedList.Places.{has}
 use Rattle.task_block.specs.Lists.{coroutines_in}
 use Rattle.coroutines.specs.Active.{active_in}
 use Rattle.coroutines.specs.CoroutineWords.{current_in}

@@ -1,6 +1,6 @@
 -- What the calls on coroutines do to the words of the store and to the registers.
 use Rattle.std.specs.Prelude.{ℕ, ◌==◌, if◌then◌else◌, List, slice_index, slice_set}
-use Rattle.word_store.specs.declared.registers.Regs.{Regs}
+use Rattle.getvec_chain.specs.WordStore.declared.registers.Regs.{Regs}
 use Rattle.coroutines.specs.CoroutineWords.{as_parent, bottom, current_cell, current_in, current_parent, function_in, parent_cell, parent_in, saved_p, saved_pc}
 
 -- the store in which P and PC of the current coroutine are saved, and c is the current one

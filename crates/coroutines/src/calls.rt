@@ -10,8 +10,8 @@ ghost use Rattle.task_block.specs.Lists.{coroutines_in};
 use crate::ends::CoEnd;
 use crate::members::{check_idle, has_parent, is_known};
 use crate::switch::{enter, leave, replace};
+use getvec_chain::{Regs, Store, word_at};
 use task_block::{TcbField, field};
-use word_store::{Regs, Store, word_at};
 
 /// Which word of a coroutine has the address of its function.
 const FUNCTION: u32 = 3;

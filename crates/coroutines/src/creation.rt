@@ -1,7 +1,7 @@
 // A coroutine is made, and deleted.
 ghost use Rattle.std.specs.Prelude.{◌≡◌, ◌∷◌, IfOk, None, OnErr, OnOk};
 ghost use Rattle.getvec_chain.specs.Give.{given};
-ghost use Rattle.linked_list.specs.Places.{without};
+ghost use Rattle.getvec_chain.specs.LinkedList.Places.{without};
 ghost use Rattle.getvec_chain.specs.Run.{first_run, need};
 ghost use Rattle.getvec_chain.specs.Take.{taken};
 ghost use Rattle.getvec_chain.specs.Tiling.{blocks_in};
@@ -14,10 +14,8 @@ ghost use Rattle.task_block.specs.Lists.{coroutines_in};
 use crate::calls::BOTTOM;
 use crate::ends::CoEnd;
 use crate::members::check_idle;
-use getvec_chain::{NoRoom, give, take};
-use linked_list::unlink;
+use getvec_chain::{NoRoom, Store, give, set_words, take, unlink};
 use task_block::{TcbField, field, set_field};
-use word_store::{Store, set_words};
 
 /// Which word of a coroutine links to the next one.
 const LINK: u32 = 2;

@@ -1,6 +1,6 @@
 // Laws of coroutines.
 ghost use Rattle.std.specs.Prelude.{◌≡◌, ◌≢◌, ◌++◌, ◌∷◌, List, Ok, map, ℕ};
-ghost use Rattle.word_store.specs.declared.registers.Regs.{Regs};
+ghost use Rattle.getvec_chain.specs.WordStore.declared.registers.Regs.{Regs};
 ghost use Rattle.coroutines.specs.Active.{active_in};
 ghost use Rattle.coroutines.specs.Coroutines.{HasCoroutines};
 ghost use Rattle.coroutines.specs.CoroutineExchanges.{CallExchange, CreateExchange, DeleteExchange, EndExchange, HoldsCoroutines, ResumeExchange, TaskCoroutines, WaitExchange, with_list};

@@ -5,8 +5,8 @@ ghost use Rattle.coroutines.specs.Refusals.{has_parent, idle_answer, is_known};
 
 use crate::ends::CoEnd;
 use crate::switch::PARENT;
+use getvec_chain::{Store, word_at};
 use task_block::coroutine_list;
-use word_store::{Store, word_at};
 
 /// Whether c is a coroutine of the task at t that has no parent, as one has to be that is called or deleted.
 pub fn check_idle(store: &Store, t: u32, c: u32) -> Result<(), CoEnd>

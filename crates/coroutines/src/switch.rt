@@ -3,8 +3,8 @@ ghost use Rattle.std.specs.Prelude.{◌≡◌, slice_index, slice_set};
 ghost use Rattle.coroutines.specs.CoroutineWords.{as_current, as_parent, current_parent, saved_p, saved_pc};
 ghost use Rattle.coroutines.specs.Switch.{called, entered, replaced, switched, waited};
 
+use getvec_chain::{Regs, Store, set_word_at, word, word_at};
 use task_block::{TcbField, field, set_field};
-use word_store::{Regs, Store, set_word_at, word, word_at};
 
 /// Which word of a coroutine names its parent.
 pub(crate) const PARENT: u32 = 1;

@@ -3,52 +3,50 @@ use Rattle.std.proofs.Common.{◌≡◌, ℕ, ◌<◌, ◌&&◌, ◌||◌, Bool,
 use Rattle.std.specs.List.{AllByRecursion, list_any, range_with_len}
 use Rattle.std.proofs.lemmas.Bool.{and_from, cases_eq, eq-eqb, false≢true, false_from_ne_true, ne_eqb}
 use Rattle.std.proofs.lemmas.List.Folds.{list_any-append}
-use Rattle.linked_list.specs.Count.{IsApart, times}
-use Rattle.linked_list.proofs.AllMembers.{all-append}
-use Rattle.linked_list.proofs.Counts.{hit-other, hit-same, times-within}
-use Rattle.owned_words.specs.Exchange.{Exchange}
-use Rattle.owned_words.specs.Owned.{Holds, Pairs, owners, written}
-use Rattle.owned_words.proofs.Exchanges.{exchange-all, exchange-right}
-use Rattle.owned_words.proofs.RowWords.{owners-row}
-use Rattle.packet_queue.specs.Queue.{CanQueue, HasQueue, no_queue}
-use Rattle.packet_queue.specs.QueueWords.{QueuedPacket, queue_words}
-use Rattle.getvec_chain.specs.BlockWords.{blocks_words}
-use Rattle.hunk_loader.specs.ModuleExchanges.{modules_words}
-use Rattle.kernel_model.specs.ChangedStore.{IsChanged}
-use Rattle.kernel_model.specs.Changes.{queue_of, with_fault_packet, with_queue, work_of}
-use Rattle.kernel_model.specs.HoldsLists.{HoldsLists}
-use Rattle.kernel_model.specs.Lists.{Lists, address_of_task, has_task, is_queued}
-use Rattle.kernel_model.specs.Owned.{device_words, owned, tasks_words}
-use Rattle.kernel_model.specs.Residents.{fault_packet, fault_packet_words, key_arguments, key_words, pending_head}
-use Rattle.kernel_model.specs.Root.{root_words}
-use Rattle.kernel_model.specs.Task.{Task, task_id}
-use Rattle.kernel_model.specs.ValidLists.{AreValid}
-use Rattle.kernel_model.specs.ValidQueues.{IsFaultPacket, MayStand, Place}
-use Rattle.kernel_model.specs.ValidQueues.Place.{Clock, Keyboard, Output, Pending, Work}
-use Rattle.kernel_model.proofs.ChangedLists.{changed-none}
-use Rattle.kernel_model.proofs.QueuePlaces.{is_queued-here, is_queued-place}
-use Rattle.kernel_model.proofs.QueuedPackets.{is_queued-parts, stands_in, work_packets}
-use Rattle.kernel_model.proofs.ReadQueues.{packets-some}
-use Rattle.kernel_model.proofs.QueuePlaces.{place-stands}
-use Rattle.kernel_model.proofs.ResidentPackets.{fault_queued-valid}
-use Rattle.call_answers.specs.Callers.{HasCaller}
-use Rattle.call_answers.proofs.FoundTask.{Finds, find-task, found-address}
-use Rattle.linked_list.specs.Places.{has}
-use Rattle.packet_queue.specs.Queue.{queue_at}
-use Rattle.task_block.specs.TaskChain.{task_with, tasks_in}
-use Rattle.packet_moves.specs.declared.queues.Queue.{Queue}
-use Rattle.packet_moves.specs.declared.queues.Queue.TheVariants.{OfTask}
-use Rattle.packet_moves.proofs.HeldPlaces.{has-at}
-use Rattle.packet_moves.specs.Destinations.{queue_for}
-use Rattle.packet_moves.specs.QueueWords.{due_in, enqueued, head_of, sent_words}
-use Rattle.packet_moves.proofs.Arrival.{AreOfPacket}
-use Rattle.packet_moves.proofs.PlacedPackets.{AreSet, end-changed, end-owners, end-packet, end-queue, fields-stand}
+use Rattle.word_store.specs.Count.{IsApart, times}
+use Rattle.resident_requests.proofs.Shown.KernelCalls.LinkedList.AllMembers.{all-append}
+use Rattle.word_store.proofs.Counts.{hit-other, hit-same, times-within}
+use Rattle.resident_requests.specs.KernelCalls.OwnedWords.Exchange.{Exchange}
+use Rattle.resident_requests.specs.KernelCalls.OwnedWords.Owned.{Holds, Pairs, owners, written}
+use Rattle.resident_requests.proofs.Shown.KernelCalls.OwnedWords.Exchanges.{exchange-all, exchange-right}
+use Rattle.resident_requests.proofs.Shown.KernelCalls.OwnedWords.RowWords.{owners-row}
+use Rattle.resident_requests.specs.KernelCalls.PacketQueue.Queue.{CanQueue, HasQueue, no_queue, queue_at}
+use Rattle.resident_requests.specs.KernelCalls.PacketQueue.QueueWords.{QueuedPacket, queue_words}
+use Rattle.resident_requests.specs.KernelCalls.GetvecChain.BlockWords.{blocks_words}
+use Rattle.resident_requests.specs.KernelCalls.HunkLoader.ModuleExchanges.{modules_words}
+use Rattle.resident_requests.specs.KernelCalls.KernelModel.ChangedStore.{IsChanged}
+use Rattle.resident_requests.specs.KernelCalls.KernelModel.Changes.{queue_of, with_fault_packet, with_queue, work_of}
+use Rattle.resident_requests.specs.KernelCalls.KernelModel.HoldsLists.{HoldsLists}
+use Rattle.resident_requests.specs.KernelCalls.KernelModel.Lists.{Lists, address_of_task, has_task, is_queued}
+use Rattle.resident_requests.specs.KernelCalls.KernelModel.Owned.{device_words, owned, tasks_words}
+use Rattle.resident_requests.specs.KernelCalls.KernelModel.Residents.{fault_packet, fault_packet_words, key_arguments, key_words, pending_head}
+use Rattle.resident_requests.specs.KernelCalls.KernelModel.Root.{root_words}
+use Rattle.resident_requests.specs.KernelCalls.KernelModel.Task.{Task, task_id}
+use Rattle.resident_requests.specs.KernelCalls.KernelModel.ValidLists.{AreValid}
+use Rattle.resident_requests.specs.KernelCalls.KernelModel.ValidQueues.{IsFaultPacket, MayStand, Place}
+use Rattle.resident_requests.specs.KernelCalls.KernelModel.ValidQueues.Place.{Clock, Keyboard, Output, Pending, Work}
+use Rattle.resident_requests.proofs.Shown.KernelCalls.KernelModel.ChangedLists.{changed-none}
+use Rattle.resident_requests.proofs.Shown.KernelCalls.KernelModel.QueuePlaces.{is_queued-here, is_queued-place, place-stands}
+use Rattle.resident_requests.proofs.Shown.KernelCalls.KernelModel.QueuedPackets.{is_queued-parts, stands_in, work_packets}
+use Rattle.resident_requests.proofs.Shown.KernelCalls.KernelModel.ReadQueues.{packets-some}
+use Rattle.resident_requests.proofs.Shown.KernelCalls.KernelModel.ResidentPackets.{fault_queued-valid}
+use Rattle.resident_requests.specs.KernelCalls.CallAnswers.Callers.{HasCaller}
+use Rattle.resident_requests.proofs.Shown.KernelCalls.CallAnswers.FoundTask.{Finds, find-task, found-address}
+use Rattle.resident_requests.specs.KernelCalls.LinkedList.Places.{has}
+use Rattle.resident_requests.specs.KernelCalls.TaskBlock.TaskChain.{task_with, tasks_in}
+use Rattle.resident_requests.specs.KernelCalls.PacketCalls.declared.queues.Queue.{Queue}
+use Rattle.resident_requests.specs.KernelCalls.PacketCalls.declared.queues.Queue.TheVariants.{OfTask}
+use Rattle.resident_requests.proofs.Shown.KernelCalls.PacketCalls.HeldPlaces.{has-at}
+use Rattle.resident_requests.specs.KernelCalls.PacketCalls.Destinations.{queue_for}
+use Rattle.resident_requests.specs.KernelCalls.PacketCalls.QueueWords.{due_in, enqueued, head_of, sent_words}
+use Rattle.resident_requests.proofs.Shown.KernelCalls.PacketCalls.Arrival.{AreOfPacket}
+use Rattle.resident_requests.proofs.Shown.KernelCalls.PacketCalls.PlacedPackets.{AreSet, end-changed, end-owners, end-packet, end-queue, fields-stand}
 use Rattle.word_store.specs.Arithmetic.{signed}
-use Rattle.packet_queue.specs.Log.{Notes}
-use Rattle.packet_queue.specs.declared.events.KernelEvent.{KernelEvent}
-use Rattle.packet_queue.specs.declared.events.KernelEvent.TheVariants.{Accepted}
-use Rattle.kernel_model.specs.NotedEvents.{NotesAll}
-use Rattle.kernel_model.proofs.NotedInTurn.{notes-one}
+use Rattle.resident_requests.specs.KernelCalls.PacketQueue.Log.{Notes}
+use Rattle.resident_requests.specs.KernelCalls.PacketQueue.declared.events.KernelEvent.{KernelEvent}
+use Rattle.resident_requests.specs.KernelCalls.PacketQueue.declared.events.KernelEvent.TheVariants.{Accepted}
+use Rattle.resident_requests.specs.KernelCalls.KernelModel.NotedEvents.{NotesAll}
+use Rattle.resident_requests.proofs.Shown.KernelCalls.KernelModel.NotedInTurn.{notes-one}
 use Rattle.fault_reporter.specs.Recorded.{OwnsSame, events_where, packet_from, sent, sent_events, sent_where}
 
 -- ---- its words, while it is on no queue

@@ -3,20 +3,20 @@ use Rattle.std.proofs.Common.{◌≡◌, ℕ, ◌+◌, ◌&&◌, ◌||◌, Bool,
 use Rattle.std.specs.List.{AllByRecursion, list_any}
 use Rattle.std.proofs.lemmas.Bool.{and_from, and_parts, eq-eqb, eqb-true, false≢true, le-leb, lt-ltb, ltb-true, or_left, or_right}
 use Rattle.cint_exec.specs.declared.Fault.{Fault}
-use Rattle.linked_list.proofs.AllMembers.{all-append}
-use Rattle.packet_queue.specs.QueueWords.{QueuedPacket}
-use Rattle.kernel_model.specs.Between.{FaultsStand, has_unreported, is_unreported}
-use Rattle.kernel_model.specs.Changes.{change_of, queue_of, with_queue, with_tasks, with_work, work_of}
-use Rattle.kernel_model.specs.Kernel.{Kernel}
-use Rattle.kernel_model.specs.Lists.{Lists, has_task}
-use Rattle.kernel_model.specs.Residents.{fault_packet}
-use Rattle.kernel_model.specs.Task.{Task, is_guest_id}
-use Rattle.kernel_model.specs.ValidLists.{AreValid}
-use Rattle.kernel_model.specs.ValidQueues.Place.{Work}
-use Rattle.kernel_model.specs.ValidTasks.{IsRecordedFault}
-use Rattle.kernel_model.proofs.ResidentPackets.{fault_unqueued-valid}
-use Rattle.packet_calls.specs.TaskWait.{waiting}
-use Rattle.packet_moves.specs.PacketMoves.{stands_in, with_arrived}
+use Rattle.resident_requests.proofs.Shown.KernelCalls.LinkedList.AllMembers.{all-append}
+use Rattle.resident_requests.specs.KernelCalls.PacketQueue.QueueWords.{QueuedPacket}
+use Rattle.resident_requests.specs.KernelCalls.KernelModel.Between.{FaultsStand, has_unreported, is_unreported}
+use Rattle.resident_requests.specs.KernelCalls.KernelModel.Changes.{change_of, queue_of, with_queue, with_tasks, with_work, work_of}
+use Rattle.resident_requests.specs.KernelCalls.KernelModel.Kernel.{Kernel}
+use Rattle.resident_requests.specs.KernelCalls.KernelModel.Lists.{Lists, has_task}
+use Rattle.resident_requests.specs.KernelCalls.KernelModel.Residents.{fault_packet}
+use Rattle.resident_requests.specs.KernelCalls.KernelModel.Task.{Task, is_guest_id}
+use Rattle.resident_requests.specs.KernelCalls.KernelModel.ValidLists.{AreValid}
+use Rattle.resident_requests.specs.KernelCalls.KernelModel.ValidQueues.Place.{Work}
+use Rattle.resident_requests.specs.KernelCalls.KernelModel.ValidTasks.{IsRecordedFault}
+use Rattle.resident_requests.proofs.Shown.KernelCalls.KernelModel.ResidentPackets.{fault_unqueued-valid}
+use Rattle.resident_requests.specs.KernelCalls.PacketCalls.TaskWait.{waiting}
+use Rattle.resident_requests.specs.KernelCalls.PacketCalls.PacketMoves.{stands_in, with_arrived}
 use Rattle.resident_requests.specs.Answers.{answered_packet, finished, finished_by}
 use Rattle.resident_requests.specs.Requests.{RunsResident, first_request, request_at, taken_from, words_taken_from, work}
 use Rattle.resident_requests.specs.Turns.{request_turn, turn_of}

@@ -4,21 +4,18 @@ use Rattle.std.specs.List.{AllByRecursion, flat_map}
 use Rattle.std.proofs.lemmas.Fmt.{length-decimal-le}
 use Rattle.std.proofs.lemmas.List.{length-map}
 use Rattle.std.specs.Fmt.{decimal}
-use Rattle.linked_list.proofs.Chains.{length-apart}
-use Rattle.task_block.specs.TaskChain.{tasks_in}
-use Rattle.kernel_model.specs.Task.{task_id}
-use Rattle.kernel_model.proofs.EachMember.{all-each}
-use Rattle.fault_reporter.specs.Texts.{most_in_line, most_reported}
-use Rattle.packet_queue.specs.QueueWords.{QueuedPacket}
-use Rattle.kernel_model.specs.Changes.{with_work}
-use Rattle.kernel_model.specs.HoldsLists.{HoldsLists}
-use Rattle.kernel_model.specs.Lists.{Lists}
-use Rattle.kernel_model.specs.Task.{Task, task_address, task_words}
-use Rattle.kernel_model.proofs.EachMember.{holds-each}
-use Rattle.kernel_model.proofs.ReadCoroutines.{HoldsTask, holds-task}
-use Rattle.call_answers.proofs.FoundTask.{reads}
+use Rattle.resident_requests.proofs.Shown.KernelCalls.LinkedList.Chains.{length-apart}
+use Rattle.resident_requests.specs.KernelCalls.TaskBlock.TaskChain.{tasks_in}
+use Rattle.resident_requests.specs.KernelCalls.KernelModel.Task.{Task, task_address, task_id, task_words}
+use Rattle.resident_requests.proofs.Shown.KernelCalls.KernelModel.EachMember.{all-each, holds-each}
+use Rattle.fault_reporter.specs.Texts.{is_unreported_word, most_in_line, most_reported, report, report_at, report_of, reports, reports_in}
+use Rattle.resident_requests.specs.KernelCalls.PacketQueue.QueueWords.{QueuedPacket}
+use Rattle.resident_requests.specs.KernelCalls.KernelModel.Changes.{with_work}
+use Rattle.resident_requests.specs.KernelCalls.KernelModel.HoldsLists.{HoldsLists}
+use Rattle.resident_requests.specs.KernelCalls.KernelModel.Lists.{Lists}
+use Rattle.resident_requests.proofs.Shown.KernelCalls.KernelModel.ReadCoroutines.{HoldsTask, holds-task}
+use Rattle.resident_requests.proofs.Shown.KernelCalls.CallAnswers.FoundTask.{reads}
 use Rattle.fault_reporter.specs.FaultTurns.{packet_taken}
-use Rattle.fault_reporter.specs.Texts.{is_unreported_word, report, report_at, report_of, reports, reports_in}
 
 -- a number of 32 bits has at most 10 digits
 pub few_digits : (n : ℕ) → n < 2 ^ 32 → length (decimal n) ≤ 10

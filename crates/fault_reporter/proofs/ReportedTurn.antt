@@ -2,24 +2,24 @@
 use Rattle.std.proofs.Common.{◌≡◌, ℕ, ◌+◌, ◌||◌, Bool, true, false, Option, List, [], ◌∷◌, ◌++◌, map, cond, eqb, refl, sym, ap, ◌∙◌, subst, arith}
 use Rattle.std.specs.List.{AllByRecursion}
 use Rattle.word_store.specs.Arithmetic.{signed}
-use Rattle.packet_queue.specs.QueueWords.{QueuedPacket}
-use Rattle.packet_queue.specs.declared.events.KernelEvent.{KernelEvent}
-use Rattle.packet_queue.specs.declared.events.KernelEvent.TheVariants.{Taken}
-use Rattle.kernel_model.specs.Between.{is_unreported}
-use Rattle.kernel_model.specs.ChangedStore.{HasKeeper}
-use Rattle.kernel_model.specs.Changes.{with_queue}
-use Rattle.kernel_model.specs.Lists.{Lists, has_task}
-use Rattle.kernel_model.specs.NotedEvents.{NotesAll}
-use Rattle.kernel_model.specs.Residents.{fault_packet}
-use Rattle.kernel_model.specs.Task.{Task}
-use Rattle.kernel_model.specs.ValidLists.{AreValid}
-use Rattle.kernel_model.specs.ValidQueues.{IsKeyPacket, MayStand, is_fault_packet, is_key_packet}
-use Rattle.kernel_model.specs.ValidQueues.Place.{Work}
-use Rattle.kernel_model.specs.ValidTasks.{runs}
-use Rattle.kernel_model.proofs.ChangedLists.{changed-then, knows-same}
-use Rattle.kernel_model.proofs.QueuePlaces.{place-stands}
+use Rattle.resident_requests.specs.KernelCalls.PacketQueue.QueueWords.{QueuedPacket}
+use Rattle.resident_requests.specs.KernelCalls.PacketQueue.declared.events.KernelEvent.{KernelEvent}
+use Rattle.resident_requests.specs.KernelCalls.PacketQueue.declared.events.KernelEvent.TheVariants.{Taken}
+use Rattle.resident_requests.specs.KernelCalls.KernelModel.Between.{is_unreported}
+use Rattle.resident_requests.specs.KernelCalls.KernelModel.ChangedStore.{HasKeeper}
+use Rattle.resident_requests.specs.KernelCalls.KernelModel.Changes.{with_queue}
+use Rattle.resident_requests.specs.KernelCalls.KernelModel.Lists.{Lists, has_task}
+use Rattle.resident_requests.specs.KernelCalls.KernelModel.NotedEvents.{NotesAll}
+use Rattle.resident_requests.specs.KernelCalls.KernelModel.Residents.{fault_packet}
+use Rattle.resident_requests.specs.KernelCalls.KernelModel.Task.{Task}
+use Rattle.resident_requests.specs.KernelCalls.KernelModel.ValidLists.{AreValid}
+use Rattle.resident_requests.specs.KernelCalls.KernelModel.ValidQueues.{IsKeyPacket, MayStand, is_fault_packet, is_key_packet}
+use Rattle.resident_requests.specs.KernelCalls.KernelModel.ValidQueues.Place.{Work}
+use Rattle.resident_requests.specs.KernelCalls.KernelModel.ValidTasks.{runs}
+use Rattle.resident_requests.proofs.Shown.KernelCalls.KernelModel.ChangedLists.{changed-then, knows-same}
+use Rattle.resident_requests.proofs.Shown.KernelCalls.KernelModel.QueuePlaces.{place-stands}
 use Rattle.std.proofs.lemmas.Bool.{and_parts, false≢true, false_from_ne_true}
-use Rattle.call_answers.specs.Outside.{outside}
+use Rattle.resident_requests.specs.KernelCalls.CallAnswers.Outside.{outside}
 use Rattle.resident_requests.specs.Answers.{IsFinished, finished}
 use Rattle.resident_requests.specs.Requests.{IsForeign, RunsResident, TakesRequest, first_request, taken, words_taken, work}
 use Rattle.resident_requests.specs.Turns.{IsResidentTurn, request_turn, turn_of}

@@ -3,17 +3,17 @@ use Rattle.std.proofs.Common.{◌≡◌, ℕ, ◌+◌, Bool, true, false, Err, L
 use Rattle.std.specs.List.{AllByRecursion}
 use Rattle.word_store.specs.declared.registers.Regs.{Regs}
 use Rattle.cint_exec.specs.declared.Fault.{Fault}
-use Rattle.packet_queue.specs.QueueWords.{QueuedPacket}
-use Rattle.kernel_model.specs.Between.{is_unreported}
-use Rattle.kernel_model.specs.Changes.{change_of, queue_of, with_queue, with_tasks, with_work}
-use Rattle.kernel_model.specs.Lists.{Lists}
-use Rattle.kernel_model.specs.Residents.{fault_packet}
-use Rattle.kernel_model.specs.Task.{Task, is_guest_id}
-use Rattle.kernel_model.specs.ValidQueues.Place.{Work}
-use Rattle.kernel_model.specs.ValidTasks.{runs}
-use Rattle.kernel_dispatch.specs.Dispatch.{CanDispatch}
-use Rattle.packet_calls.specs.TaskWait.{waiting}
-use Rattle.packet_moves.specs.PacketMoves.{with_arrived}
+use Rattle.resident_requests.specs.KernelCalls.PacketQueue.QueueWords.{QueuedPacket}
+use Rattle.resident_requests.specs.KernelCalls.KernelModel.Between.{is_unreported}
+use Rattle.resident_requests.specs.KernelCalls.KernelModel.Changes.{change_of, queue_of, with_queue, with_tasks, with_work}
+use Rattle.resident_requests.specs.KernelCalls.KernelModel.Lists.{Lists}
+use Rattle.resident_requests.specs.KernelCalls.KernelModel.Residents.{fault_packet}
+use Rattle.resident_requests.specs.KernelCalls.KernelModel.Task.{Task, is_guest_id}
+use Rattle.resident_requests.specs.KernelCalls.KernelModel.ValidQueues.Place.{Work}
+use Rattle.resident_requests.specs.KernelCalls.KernelModel.ValidTasks.{runs}
+use Rattle.resident_requests.specs.KernelCalls.KernelDispatch.Dispatch.{CanDispatch}
+use Rattle.resident_requests.specs.KernelCalls.PacketCalls.TaskWait.{waiting}
+use Rattle.resident_requests.specs.KernelCalls.PacketCalls.PacketMoves.{with_arrived}
 use Rattle.resident_requests.specs.Answers.{answered_packet, finished, finished_by}
 use Rattle.resident_requests.specs.Requests.{first_request, request_at, taken_from, words_taken_from, work}
 use Rattle.resident_requests.specs.Turns.{request_turn, turn_of}

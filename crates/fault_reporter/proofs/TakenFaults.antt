@@ -2,32 +2,32 @@
 use Rattle.std.proofs.Common.{◌≡◌, ◌≢◌, ℕ, ◌+◌, ◌<◌, ◌≤◌, true, false, List, [], ◌∷◌, ◌++◌, eqb, get_or, set, refl, sym, ap, ◌∙◌, subst, arith, length, get_or-set_other, get_or-set_same}
 use Rattle.std.specs.List.{AllByRecursion, range_with_len}
 use Rattle.std.proofs.lemmas.Bool.{and_from, eq-eqb, eqb-true, or_left}
-use Rattle.linked_list.specs.Count.{times}
-use Rattle.linked_list.specs.Places.{has}
-use Rattle.linked_list.proofs.Counts.{hit-other, times-within}
-use Rattle.owned_words.specs.Exchange.{Exchange}
-use Rattle.owned_words.specs.Owned.{Holds, owners}
-use Rattle.owned_words.specs.Written.{IsWritten}
-use Rattle.owned_words.proofs.OwnedWords.{Holds-same, length-written, written-other}
-use Rattle.packet_queue.specs.Queue.{HasQueue, no_queue, queue_at}
-use Rattle.packet_queue.specs.QueueWords.{QueuedPacket}
-use Rattle.kernel_model.specs.ChangedStore.{IsChanged}
-use Rattle.kernel_model.specs.Changes.{queue_of, with_queue}
-use Rattle.kernel_model.specs.HoldsLists.{HoldsLists}
-use Rattle.kernel_model.specs.Lists.{Lists, address_of_task, has_task}
-use Rattle.kernel_model.specs.Owned.{owned}
-use Rattle.kernel_model.specs.Residents.{fault_packet, fault_packet_words}
-use Rattle.kernel_model.specs.ValidLists.{AreValid}
-use Rattle.kernel_model.specs.ValidQueues.{IsFaultPacket, MayStand}
-use Rattle.kernel_model.specs.ValidQueues.Place.{Work}
-use Rattle.kernel_model.proofs.QueuePlaces.{place-stands}
-use Rattle.kernel_model.proofs.ResidentPackets.{fault_unqueued-valid}
-use Rattle.packet_moves.specs.Destinations.{queue_for}
-use Rattle.packet_moves.specs.PacketMoves.{stands_in}
-use Rattle.packet_moves.specs.QueueWords.{head_of, unqueued}
-use Rattle.packet_moves.specs.declared.queues.Queue.TheVariants.{OfTask}
-use Rattle.packet_moves.proofs.Departure.{departed-size, departed-written, held-before, others-kept, owners-departed, packet-inside}
-use Rattle.packet_moves.proofs.HeldPlaces.{has-at, stands-at}
+use Rattle.word_store.specs.Count.{times}
+use Rattle.resident_requests.specs.KernelCalls.LinkedList.Places.{has}
+use Rattle.word_store.proofs.Counts.{hit-other, times-within}
+use Rattle.resident_requests.specs.KernelCalls.OwnedWords.Exchange.{Exchange}
+use Rattle.resident_requests.specs.KernelCalls.OwnedWords.Owned.{Holds, owners}
+use Rattle.resident_requests.specs.KernelCalls.OwnedWords.Written.{IsWritten}
+use Rattle.resident_requests.proofs.Shown.KernelCalls.OwnedWords.OwnedWords.{Holds-same, length-written, written-other}
+use Rattle.resident_requests.specs.KernelCalls.PacketQueue.Queue.{HasQueue, no_queue, queue_at}
+use Rattle.resident_requests.specs.KernelCalls.PacketQueue.QueueWords.{QueuedPacket}
+use Rattle.resident_requests.specs.KernelCalls.KernelModel.ChangedStore.{IsChanged}
+use Rattle.resident_requests.specs.KernelCalls.KernelModel.Changes.{queue_of, with_queue}
+use Rattle.resident_requests.specs.KernelCalls.KernelModel.HoldsLists.{HoldsLists}
+use Rattle.resident_requests.specs.KernelCalls.KernelModel.Lists.{Lists, address_of_task, has_task}
+use Rattle.resident_requests.specs.KernelCalls.KernelModel.Owned.{owned}
+use Rattle.resident_requests.specs.KernelCalls.KernelModel.Residents.{fault_packet, fault_packet_words}
+use Rattle.resident_requests.specs.KernelCalls.KernelModel.ValidLists.{AreValid}
+use Rattle.resident_requests.specs.KernelCalls.KernelModel.ValidQueues.{IsFaultPacket, MayStand}
+use Rattle.resident_requests.specs.KernelCalls.KernelModel.ValidQueues.Place.{Work}
+use Rattle.resident_requests.proofs.Shown.KernelCalls.KernelModel.QueuePlaces.{place-stands}
+use Rattle.resident_requests.proofs.Shown.KernelCalls.KernelModel.ResidentPackets.{fault_unqueued-valid}
+use Rattle.resident_requests.specs.KernelCalls.PacketCalls.Destinations.{queue_for}
+use Rattle.resident_requests.specs.KernelCalls.PacketCalls.PacketMoves.{stands_in}
+use Rattle.resident_requests.specs.KernelCalls.PacketCalls.QueueWords.{head_of, unqueued}
+use Rattle.resident_requests.specs.KernelCalls.PacketCalls.declared.queues.Queue.TheVariants.{OfTask}
+use Rattle.resident_requests.proofs.Shown.KernelCalls.PacketCalls.Departure.{departed-size, departed-written, held-before, others-kept, owners-departed, packet-inside}
+use Rattle.resident_requests.proofs.Shown.KernelCalls.PacketCalls.HeldPlaces.{has-at, stands-at}
 use Rattle.resident_requests.specs.Requests.{RunsResident, work}
 use Rattle.fault_reporter.specs.FaultTurns.{IsFaultFirst, packet_taken, sender_of, fault_taken_from}
 use Rattle.fault_reporter.specs.Recorded.{OwnsSame}

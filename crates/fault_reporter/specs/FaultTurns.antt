@@ -1,14 +1,14 @@
 -- A turn of the task that reports faults.
 use Rattle.std.specs.Prelude.{◌≡◌, ℕ, ◌+◌, ◌≤◌, ◌==◌, Bool, true, false, if◌then◌else◌, Err, List, [], ◌∷◌, length, map}
 use Rattle.word_store.specs.Arithmetic.{signed}
-use Rattle.packet_queue.specs.QueueWords.{QueuedPacket}
-use Rattle.packet_queue.specs.declared.events.KernelEvent.TheVariants.{Taken}
-use Rattle.kernel_model.specs.Between.{is_unreported}
-use Rattle.kernel_model.specs.Changes.{with_fault_packet, with_queue, with_tasks}
-use Rattle.kernel_model.specs.Lists.{Lists}
-use Rattle.kernel_model.specs.Residents.{fault_packet}
-use Rattle.kernel_model.specs.Task.{Task}
-use Rattle.kernel_model.specs.ValidQueues.Place.{Work}
+use Rattle.resident_requests.specs.KernelCalls.PacketQueue.QueueWords.{QueuedPacket}
+use Rattle.resident_requests.specs.KernelCalls.PacketQueue.declared.events.KernelEvent.TheVariants.{Taken}
+use Rattle.resident_requests.specs.KernelCalls.KernelModel.Between.{is_unreported}
+use Rattle.resident_requests.specs.KernelCalls.KernelModel.Changes.{with_fault_packet, with_queue, with_tasks}
+use Rattle.resident_requests.specs.KernelCalls.KernelModel.Lists.{Lists}
+use Rattle.resident_requests.specs.KernelCalls.KernelModel.Residents.{fault_packet}
+use Rattle.resident_requests.specs.KernelCalls.KernelModel.Task.{Task}
+use Rattle.resident_requests.specs.KernelCalls.KernelModel.ValidQueues.Place.{Work}
 use Rattle.resident_requests.specs.Answers.{finished}
 use Rattle.resident_requests.specs.Requests.{RunsResident, work}
 use Rattle.resident_requests.specs.Turns.{ResidentTurn, Served, idle_turn, request_turn, service}

@@ -2,20 +2,20 @@
 use Rattle.std.specs.Prelude.{◌≡◌, ℕ, Bool, true, false, List, [], ◌∷◌}
 use Rattle.word_store.specs.Arithmetic.{signed}
 use Rattle.cint_exec.specs.declared.Fault.{Fault}
-use Rattle.owned_words.specs.Owned.{owners}
-use Rattle.packet_queue.specs.QueueWords.{QueuedPacket}
-use Rattle.packet_queue.specs.declared.events.KernelEvent.{KernelEvent}
-use Rattle.packet_queue.specs.declared.events.KernelEvent.TheVariants.{Accepted}
-use Rattle.kernel_model.specs.ChangedStore.{IsChanged}
-use Rattle.kernel_model.specs.Changes.{with_fault_packet, with_task}
-use Rattle.kernel_model.specs.Lists.{Lists, has_task}
-use Rattle.kernel_model.specs.Owned.{owned}
-use Rattle.kernel_model.specs.Residents.{fault_packet}
-use Rattle.kernel_model.specs.Task.{Task}
-use Rattle.kernel_model.specs.ValidQueues.Place.{Work}
-use Rattle.kernel_model.specs.ValidTasks.{IsRecordedFault}
-use Rattle.call_answers.specs.Callers.{HasCaller}
-use Rattle.packet_moves.specs.PacketMoves.{with_arrived}
+use Rattle.resident_requests.specs.KernelCalls.OwnedWords.Owned.{owners}
+use Rattle.resident_requests.specs.KernelCalls.PacketQueue.QueueWords.{QueuedPacket}
+use Rattle.resident_requests.specs.KernelCalls.PacketQueue.declared.events.KernelEvent.{KernelEvent}
+use Rattle.resident_requests.specs.KernelCalls.PacketQueue.declared.events.KernelEvent.TheVariants.{Accepted}
+use Rattle.resident_requests.specs.KernelCalls.KernelModel.ChangedStore.{IsChanged}
+use Rattle.resident_requests.specs.KernelCalls.KernelModel.Changes.{with_fault_packet, with_task}
+use Rattle.resident_requests.specs.KernelCalls.KernelModel.Lists.{Lists, has_task}
+use Rattle.resident_requests.specs.KernelCalls.KernelModel.Owned.{owned}
+use Rattle.resident_requests.specs.KernelCalls.KernelModel.Residents.{fault_packet}
+use Rattle.resident_requests.specs.KernelCalls.KernelModel.Task.{Task}
+use Rattle.resident_requests.specs.KernelCalls.KernelModel.ValidQueues.Place.{Work}
+use Rattle.resident_requests.specs.KernelCalls.KernelModel.ValidTasks.{IsRecordedFault}
+use Rattle.resident_requests.specs.KernelCalls.CallAnswers.Callers.{HasCaller}
+use Rattle.resident_requests.specs.KernelCalls.PacketCalls.PacketMoves.{with_arrived}
 
 -- A guest runs, there is a task that reports faults, and the fault is one that it reports.
 pub record CanRecord (l : Lists) (f : Fault) : Type 0 where

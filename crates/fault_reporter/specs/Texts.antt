@@ -1,11 +1,11 @@
 -- What is reported of the faults of tasks: a line for each fault that was not reported yet, in the order of the chain.
 use Rattle.std.specs.Prelude.{ℕ, ◌+◌, ◌&&◌, Bool, if◌then◌else◌, List, [], ◌∷◌, codes, decimal, nat_le, nat_lt, slice_index}
 use Rattle.std.specs.List.{flat_map}
-use Rattle.task_block.specs.TaskChain.{tasks_in}
+use Rattle.resident_requests.specs.KernelCalls.TaskBlock.TaskChain.{tasks_in}
 use Rattle.tp_io.specs.Pieces.{joined}
-use Rattle.kernel_model.specs.Between.{is_unreported}
-use Rattle.kernel_model.specs.Lists.{Lists}
-use Rattle.kernel_model.specs.Task.{Task}
+use Rattle.resident_requests.specs.KernelCalls.KernelModel.Between.{is_unreported}
+use Rattle.resident_requests.specs.KernelCalls.KernelModel.Lists.{Lists}
+use Rattle.resident_requests.specs.KernelCalls.KernelModel.Task.{Task}
 
 -- the line of a task with a fault at an address
 abbrev pub report : ℕ → ℕ → ℕ → List ℕ

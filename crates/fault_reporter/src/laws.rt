@@ -2,11 +2,11 @@
 ghost use Rattle.std.specs.Prelude.{◌≡◌, ℕ, List};
 ghost use Rattle.word_store.specs.declared.registers.Regs.{Regs};
 ghost use Rattle.cint_exec.specs.declared.Fault.{Fault};
-ghost use Rattle.kernel_model.specs.Between.{FaultsStand};
-ghost use Rattle.kernel_model.specs.Kernel.{Kernel};
-ghost use Rattle.kernel_model.specs.Lists.{Lists};
-ghost use Rattle.kernel_model.specs.ValidLists.{AreValid};
-ghost use Rattle.kernel_dispatch.specs.Dispatch.{CanDispatch};
+ghost use Rattle.resident_requests.specs.KernelCalls.KernelModel.Between.{FaultsStand};
+ghost use Rattle.resident_requests.specs.KernelCalls.KernelModel.Kernel.{Kernel};
+ghost use Rattle.resident_requests.specs.KernelCalls.KernelModel.Lists.{Lists};
+ghost use Rattle.resident_requests.specs.KernelCalls.KernelModel.ValidLists.{AreValid};
+ghost use Rattle.resident_requests.specs.KernelCalls.KernelDispatch.Dispatch.{CanDispatch};
 ghost use Rattle.resident_requests.specs.Requests.{RunsResident};
 ghost use Rattle.fault_reporter.specs.FaultTurns.{fault_turn};
 ghost use Rattle.fault_reporter.specs.Recorded.{CanRecord, recorded};

@@ -1,23 +1,20 @@
 // The fault packet goes to the task that reports faults, and comes off its queue.
 ghost use Rattle.std.specs.Prelude.{◌≡◌, [], ◌∷◌, true};
 ghost use Rattle.word_store.specs.Arithmetic.{signed};
-ghost use Rattle.packet_queue.specs.declared.events.KernelEvent.TheVariants.{Taken};
+ghost use Rattle.resident_requests.specs.KernelCalls.PacketQueue.declared.events.KernelEvent.TheVariants.{Taken};
 ghost use Rattle.resident_requests.specs.Requests.{RunsResident, work};
 ghost use Rattle.fault_reporter.specs.FaultTurns.{IsFaultFirst, sender_of, fault_taken_from};
-ghost use Rattle.kernel_model.specs.HoldsLists.{HoldsLists};
-ghost use Rattle.kernel_model.specs.Lists.{Lists, has_task};
-ghost use Rattle.kernel_model.specs.NotedEvents.{NotesAll};
-ghost use Rattle.call_answers.specs.Callers.{HasCaller};
+ghost use Rattle.resident_requests.specs.KernelCalls.KernelModel.HoldsLists.{HoldsLists};
+ghost use Rattle.resident_requests.specs.KernelCalls.KernelModel.Lists.{Lists, has_task};
+ghost use Rattle.resident_requests.specs.KernelCalls.KernelModel.NotedEvents.{NotesAll};
+ghost use Rattle.resident_requests.specs.KernelCalls.CallAnswers.Callers.{HasCaller};
 ghost use Rattle.fault_reporter.specs.Recorded.{OwnsSame, sent, sent_events};
 
-use call_answers::caller;
-use call_answers::numbers::SENDER;
-use packet_moves::Queue;
-use packet_moves::events::{accepted, taken};
-use packet_moves::packets::send;
-use packet_moves::queues::{has_packet, unqueue};
-use packet_queue::EventLog;
-use task_block::{RootField, TcbField, field, find, root};
+use resident_requests::numbers::SENDER;
+use resident_requests::{
+    EventLog, Queue, RootField, TcbField, accepted, caller, field, find, has_packet, root, send,
+    taken, unqueue,
+};
 use word_store::{Store, set_word_at, word_at};
 
 /// The id of the task that reports faults.

@@ -1,15 +1,13 @@
 // A fault of a guest is recorded.
 ghost use Rattle.std.specs.Prelude.{◌≡◌};
-ghost use Rattle.kernel_model.specs.HoldsLists.{HoldsLists};
-ghost use Rattle.kernel_model.specs.Lists.{Lists};
-ghost use Rattle.kernel_model.specs.NotedEvents.{NotesAll};
+ghost use Rattle.resident_requests.specs.KernelCalls.KernelModel.HoldsLists.{HoldsLists};
+ghost use Rattle.resident_requests.specs.KernelCalls.KernelModel.Lists.{Lists};
+ghost use Rattle.resident_requests.specs.KernelCalls.KernelModel.NotedEvents.{NotesAll};
 ghost use Rattle.fault_reporter.specs.Recorded.{CanRecord, OwnsSame, held_with, recorded, recorded_events};
 
 use crate::packet::send_packet;
-use call_answers::caller;
 use cint_exec::Fault;
-use packet_queue::EventLog;
-use task_block::{TcbField, field, set_field};
+use resident_requests::{EventLog, TcbField, caller, field, set_field};
 use word_store::Store;
 
 /// What the bit of a state is worth that says that the task is held.

@@ -1,12 +1,12 @@
 // A turn of the task that reports faults.
 ghost use Rattle.std.specs.Prelude.{◌≡◌, ◌+◌, ◌++◌, [], ◌∷◌};
 ghost use Rattle.word_store.specs.Arithmetic.{signed};
-ghost use Rattle.packet_queue.specs.declared.events.KernelEvent.TheVariants.{Taken};
-ghost use Rattle.kernel_model.specs.ChangedStore.{HasKeeper};
-ghost use Rattle.kernel_model.specs.HoldsLists.{HoldsLists};
-ghost use Rattle.kernel_model.specs.Lists.{Lists};
-ghost use Rattle.kernel_model.specs.NotedEvents.{NotesAll};
-ghost use Rattle.call_answers.specs.Outside.{outside};
+ghost use Rattle.resident_requests.specs.KernelCalls.PacketQueue.declared.events.KernelEvent.TheVariants.{Taken};
+ghost use Rattle.resident_requests.specs.KernelCalls.KernelModel.ChangedStore.{HasKeeper};
+ghost use Rattle.resident_requests.specs.KernelCalls.KernelModel.HoldsLists.{HoldsLists};
+ghost use Rattle.resident_requests.specs.KernelCalls.KernelModel.Lists.{Lists};
+ghost use Rattle.resident_requests.specs.KernelCalls.KernelModel.NotedEvents.{NotesAll};
+ghost use Rattle.resident_requests.specs.KernelCalls.CallAnswers.Outside.{outside};
 ghost use Rattle.resident_requests.specs.Answers.{finished};
 ghost use Rattle.resident_requests.specs.Requests.{RunsResident, work};
 ghost use Rattle.resident_requests.specs.Turns.{IsResidentTurn};
@@ -16,11 +16,11 @@ ghost use Rattle.fault_reporter.specs.Texts.{reports};
 
 use crate::packet::{FAULT_PACKET, take_packet};
 use crate::reports::{mark_reports, print_reports};
-use packet_queue::EventLog;
 use resident_requests::requests::UNKNOWN_TYPE;
-use resident_requests::{finish_turn, first_packet, serve_request, take_request};
+use resident_requests::{
+    EventLog, KindKeeper, finish_turn, first_packet, serve_request, take_request,
+};
 use tp_io::Output;
-use word_kinds::KindKeeper;
 use word_store::Store;
 
 /// The id of the task that reports faults.

@@ -4,10 +4,9 @@ use Rattle.std.specs.List.{position}
 use Rattle.std.specs.Option.{is_none, is_some}
 use Rattle.std.proofs.lemmas.Bool.{eq-eqb}
 use Rattle.std.proofs.lemmas.List.{length-take}
-use Rattle.kernel_model.specs.Lists.{Lists}
+use Rattle.resident_requests.specs.KernelCalls.KernelModel.Lists.{Lists}
 use Rattle.ram_disc.specs.Disc.{Disc, Stream, has_file, is_used, is_written, shell_stream, stream_at}
-use Rattle.ram_disc.specs.DiscCalls.{Outcome, after_append, after_close, after_delete, after_open_read, after_open_write, after_read_on, after_rename, bytes_left, bytes_read, free_stream, handler_streams, has_free_stream, has_place, has_room, is_reader, is_writer, moved_on, nth_of, reader, renamed, with_bytes, with_more, with_stream, without_file, writer}
-use Rattle.ram_disc.specs.DiscCalls.{unless_refused as unless_call_refused}
+use Rattle.ram_disc.specs.DiscCalls.{Outcome, after_append, after_close, after_delete, after_open_read, after_open_write, after_read_on, after_rename, bytes_left, bytes_read, free_stream, handler_streams, has_free_stream, has_place, has_room, is_reader, is_writer, moved_on, nth_of, reader, renamed, unless_refused as unless_call_refused, with_bytes, with_more, with_stream, without_file, writer}
 use Rattle.ram_disc.proofs.Calls.{position-below}
 use Rattle.resident_requests.specs.Buffers.{bytes_in, is_readable, is_writable}
 use Rattle.resident_requests.specs.Names.{is_name_at}

@@ -1,7 +1,7 @@
 -- The turn of the file handler, and the disc after it.
 use Rattle.std.proofs.Common.{◌≡◌, ℕ, Some, None, Result, List, ap, ◌∙◌, arith}
-use Rattle.kernel_model.specs.HoldsLists.{HoldsLists}
-use Rattle.kernel_model.specs.Lists.{Lists}
+use Rattle.resident_requests.specs.KernelCalls.KernelModel.HoldsLists.{HoldsLists}
+use Rattle.resident_requests.specs.KernelCalls.KernelModel.Lists.{Lists}
 use Rattle.ram_disc.specs.Disc.{Disc}
 use Rattle.resident_requests.specs.Requests.{IsTaken, TakesRequest, first_request, taken, words_taken, work}
 use Rattle.resident_requests.specs.Turns.{service}

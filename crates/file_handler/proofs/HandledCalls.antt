@@ -2,7 +2,7 @@
 use Rattle.std.proofs.Common.{◌≡◌, ◌≤◌, ℕ, ◌++◌, ◌&&◌, Bool, true, false, if◌then◌else◌, Option, Some, None, Ok, List, [], ◌∷◌, length, replicate, take, inl, inr, refl, sym, ap, ◌∙◌, arith}
 use Rattle.std.specs.Option.{is_some}
 use Rattle.std.proofs.lemmas.List.{length-take}
-use Rattle.kernel_model.specs.Lists.{Lists}
+use Rattle.resident_requests.specs.KernelCalls.KernelModel.Lists.{Lists}
 use Rattle.ram_disc.specs.Disc.{Disc, stream_at}
 use Rattle.ram_disc.specs.DiscCalls.{after_append, after_close, after_delete, after_open_read, after_open_write, after_read_on, after_rename, bytes_left, bytes_read, is_reader, is_writer, nth_of}
 use Rattle.resident_requests.specs.Buffers.{bytes_in, is_readable, is_writable}

@@ -2,3 +2,4 @@ mod NamedFiles
 mod HandledCalls
 mod FileTurns
 pub mod EndedRequests
+pub mod Shown

@@ -1,7 +1,7 @@
 -- What the file handler makes of each request: its tests in their order with their codes, the disc afterwards, and the answer.
 use Rattle.std.specs.Prelude.{ℕ, ◌==◌, ◌&&◌, Bool, false, if◌then◌else◌, Option, Some, None, Result, Ok, Err, List, [], ◌∷◌, ◌++◌, length, replicate, take}
 use Rattle.std.specs.Option.{is_some}
-use Rattle.kernel_model.specs.Lists.{Lists}
+use Rattle.resident_requests.specs.KernelCalls.KernelModel.Lists.{Lists}
 use Rattle.ram_disc.specs.Disc.{Disc, Stream, shell_stream, stream_at}
 use Rattle.ram_disc.specs.DiscCalls.{Outcome, after_append, after_close, after_delete, after_open_read, after_open_write, after_read_on, after_rename, bytes_read, is_reader, is_writer, nth_of}
 use Rattle.resident_requests.specs.Buffers.{bytes_in, is_readable, is_writable}

@@ -1,6 +1,6 @@
 -- The turn of the file handler, and the disc after it.
 use Rattle.std.specs.Prelude.{◌≡◌, ℕ, Option, Some, None, List}
-use Rattle.kernel_model.specs.Lists.{Lists}
+use Rattle.resident_requests.specs.KernelCalls.KernelModel.Lists.{Lists}
 use Rattle.ram_disc.specs.Disc.{Disc}
 use Rattle.resident_requests.specs.Requests.{RunsResident, first_request, taken, words_taken, work}
 use Rattle.resident_requests.specs.Turns.{ResidentTurn, Served, request_turn, service}

@@ -1,15 +1,14 @@
 // Requests for files: they are opened, deleted, renamed and examined.
 ghost use Rattle.std.specs.Prelude.{◌≡◌, []};
-ghost use Rattle.kernel_model.specs.ChangedStore.{HasKeeper};
-ghost use Rattle.kernel_model.specs.Lists.{Lists};
+ghost use Rattle.resident_requests.specs.KernelCalls.KernelModel.ChangedStore.{HasKeeper};
+ghost use Rattle.resident_requests.specs.KernelCalls.KernelModel.Lists.{Lists};
 ghost use Rattle.file_handler.specs.FileRequests.{delete, examine, handled, name_buffer, open_to_read, open_to_write, rename};
 
 use crate::pieces::{put_all, put_zeros};
 use crate::streams::BAD_BUFFER;
 use arrayvec::ArrayVec;
 use ram_disc::{Disc, Name};
-use resident_requests::{Request, can_write, name_at};
-use word_kinds::KindKeeper;
+use resident_requests::{KindKeeper, Request, can_write, name_at};
 use word_store::Store;
 
 const NOT_FOUND: u32 = 41;

@@ -1,6 +1,6 @@
 // What holds of all requests for files.
 ghost use Rattle.std.specs.Prelude.{◌≡◌, ℕ, Err, List};
-ghost use Rattle.kernel_model.specs.Lists.{Lists};
+ghost use Rattle.resident_requests.specs.KernelCalls.KernelModel.Lists.{Lists};
 ghost use Rattle.ram_disc.specs.Disc.{Disc, shell_stream, stream_at};
 ghost use Rattle.resident_requests.specs.declared.requests.Request.{Request};
 ghost use Rattle.file_handler.specs.FileRequests.{file_request, refused};

@@ -1,8 +1,8 @@
 // Requests for streams: they are read, written and closed.
 ghost use Rattle.std.specs.Prelude.{◌≡◌, ◌≤◌, [], true};
 ghost use Rattle.std.specs.Option.{is_some};
-ghost use Rattle.kernel_model.specs.ChangedStore.{HasKeeper};
-ghost use Rattle.kernel_model.specs.Lists.{Lists};
+ghost use Rattle.resident_requests.specs.KernelCalls.KernelModel.ChangedStore.{HasKeeper};
+ghost use Rattle.resident_requests.specs.KernelCalls.KernelModel.Lists.{Lists};
 ghost use Rattle.ram_disc.specs.Disc.{stream_at};
 ghost use Rattle.ram_disc.specs.DiscCalls.{after_read_on, bytes_read, is_reader, is_writer};
 ghost use Rattle.file_handler.specs.FileRequests.{append, close, handled, handler_stream, read_on};
@@ -10,8 +10,7 @@ ghost use Rattle.file_handler.specs.FileRequests.{append, close, handled, handle
 use crate::pieces::put_zeros;
 use arrayvec::ArrayVec;
 use ram_disc::Disc;
-use resident_requests::{Request, can_read, can_write, read_buffer};
-use word_kinds::KindKeeper;
+use resident_requests::{KindKeeper, Request, can_read, can_write, read_buffer};
 use word_store::Store;
 
 const NOT_OPEN: u32 = 46;

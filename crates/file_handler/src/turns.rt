@@ -1,8 +1,8 @@
 // The turn of the file handler.
 ghost use Rattle.std.specs.Prelude.{◌≡◌, ℕ, List, []};
-ghost use Rattle.kernel_model.specs.ChangedStore.{HasKeeper};
-ghost use Rattle.kernel_model.specs.Lists.{Lists};
-ghost use Rattle.call_answers.specs.Outside.{outside};
+ghost use Rattle.resident_requests.specs.KernelCalls.KernelModel.ChangedStore.{HasKeeper};
+ghost use Rattle.resident_requests.specs.KernelCalls.KernelModel.Lists.{Lists};
+ghost use Rattle.resident_requests.specs.KernelCalls.CallAnswers.Outside.{outside};
 ghost use Rattle.resident_requests.specs.Turns.{IsResidentTurn};
 ghost use Rattle.file_handler.specs.FileRequests.{file_request, handled};
 ghost use Rattle.file_handler.specs.FileTurn.{RunsFileHandler, disc_after_turn, file_turn};
@@ -11,11 +11,9 @@ use crate::calls::{FileCall, file_call};
 use crate::files::{delete, examine, open_to_read, open_to_write, rename};
 use crate::streams::{append, close, read_on};
 use arrayvec::ArrayVec;
-use packet_queue::EventLog;
 use ram_disc::Disc;
 use resident_requests::requests::UNKNOWN_TYPE;
-use resident_requests::{Request, finish_turn, serve_request, take_request};
-use word_kinds::KindKeeper;
+use resident_requests::{EventLog, KindKeeper, Request, finish_turn, serve_request, take_request};
 use word_store::Store;
 
 /// The number of the file handler.

@@ -2,7 +2,7 @@
 use Rattle.std.proofs.Common.{◌≡◌, ℕ, zero, suc, ◌+◌, ◌-◌, ◌<◌, ◌≤◌, List, [], ◌∷◌, ◌++◌, length, get_or, cond, refl, sym, ap, ◌∙◌, subst, arith, Some, inl, inr}
 use Rattle.std.proofs.lemmas.Bool.{cases_eq}
 use Rattle.std.proofs.lemmas.Grind.{flat_map-append}
-use Rattle.linked_list.proofs.Counts.{hit-le, hit-other}
+use Rattle.owned_words.proofs.Shown.WordStore.Counts.{hit-le, hit-other}
 use Rattle.owned_words.specs.Exchange.{Exchange}
 use Rattle.owned_words.specs.Owned.{Holds, Pairs, owners, written}
 use Rattle.owned_words.proofs.Exchanges.{exchange-all, exchange-left, exchange-right}

@@ -12,3 +12,4 @@ pub mod Takes
 pub mod Tilings
 pub mod UsedBlocks
 pub mod Writes
+pub mod Shown

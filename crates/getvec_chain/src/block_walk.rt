@@ -2,8 +2,8 @@
 ghost use Rattle.std.specs.Iterator.{YieldsFirst, item_count};
 
 use crate::pieces::Block;
+use owned_words::Store;
 use std::marker::Model;
-use word_store::Store;
 
 /// The blocks that are left.
 #[derive(Drop)]

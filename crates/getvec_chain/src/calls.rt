@@ -8,7 +8,7 @@ ghost use Rattle.getvec_chain.specs.Tiling.{IsTiled, blocks_in, used_at};
 
 use crate::pieces::{FIRST_BLOCK, Run};
 use crate::search::{first_run, used_at, words_needed};
-use word_store::Store;
+use owned_words::Store;
 
 /// No run of free blocks is large enough.
 #[derive(Clone, Copy, Debug, PartialEq, Eq)]

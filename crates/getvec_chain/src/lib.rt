@@ -11,3 +11,6 @@ pub use block_walk::Blocks;
 pub use calls::{NoRoom, NotABlock, give, make, take, take_from};
 pub use pieces::{Block, FIRST_BLOCK, Run};
 pub use search::{block_of, blocks, blocks_from, first_run};
+
+// Shown to the crates above.
+pub use owned_words::{Regs, Store, add, mul, set_word_at, set_words, unlink, word, word_at};

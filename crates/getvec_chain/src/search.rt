@@ -5,7 +5,7 @@ ghost use Rattle.getvec_chain.specs.Tiling.{IsTiled, IsTiledFrom, blocks_from, b
 
 use crate::block_walk::Blocks;
 use crate::pieces::{Block, FIRST_BLOCK, Run};
-use word_store::Store;
+use owned_words::Store;
 
 /// The blocks of the store, in rising order.
 pub fn blocks(store: &Store) -> Blocks<'_>

@@ -2,44 +2,44 @@
 use Rattle.std.proofs.Common.{◌≡◌, ℕ, ◌+◌, ◌++◌, List, [], ◌∷◌, Bool, true, false, Option, Some, None, Result, Ok, Err, cond, eqb, get_or, refl}
 use Rattle.std.specs.Prelude.{find, unwrap_or}
 use Rattle.word_store.specs.declared.registers.Regs.{Regs}
-use Rattle.linked_list.specs.Places.{without_first}
-use Rattle.packet_queue.specs.QueueWords.{QueuedPacket}
-use Rattle.hunk_loader.specs.Globals.{globals_in}
-use Rattle.coroutines.specs.CoroutineExchanges.{TaskCoroutines, current_of, with_called, with_resumed, with_waiting}
-use Rattle.coroutines.specs.Creation.{highest}
-use Rattle.kernel_model.specs.Changes.{queue_of, with_task}
-use Rattle.kernel_model.specs.Lists.{Lists}
-use Rattle.kernel_model.specs.Task.{Task}
-use Rattle.kernel_model.specs.ValidQueues.{Place}
-use Rattle.kernel_model.specs.ValidQueues.Place.{Work}
-use Rattle.call_answers.specs.Guests.{guest_tests}
-use Rattle.call_answers.specs.Made.{Made, by_refusal, done, unless_refused}
-use Rattle.call_answers.specs.Refusals.{first_refusal}
-use Rattle.block_calls.specs.FreeStore.{data_taken, with_taken}
-use Rattle.block_calls.specs.Freevec.{freevec, freevec_tests, with_given}
-use Rattle.block_calls.specs.Getvec.{getvec, getvec_tests}
-use Rattle.task_calls.specs.ChangePri.{change_pri, priority_tests, with_new_priority}
-use Rattle.task_calls.specs.CreateTask.{create_task, creation_tests, new_task, number_of, with_created}
-use Rattle.task_calls.specs.DeleteTask.{delete_task, deletion_tests, without_task}
-use Rattle.task_calls.specs.HoldTask.{held, hold, hold_tests}
-use Rattle.task_calls.specs.ReleaseTask.{release, release_tests, released}
-use Rattle.task_calls.specs.SetFlags.{flagged, set_flags}
-use Rattle.task_calls.specs.TestFlags.{cleared}
-use Rattle.module_calls.specs.AddModule.{add_module, addition_tests, global_words, globals_of_task, modules_so_far, task_of, with_further}
-use Rattle.module_calls.specs.UnloadModule.{unload_module, unload_tests, without_module}
-use Rattle.packet_moves.specs.Destinations.{place_of}
-use Rattle.packet_calls.specs.Dqpkt.{Search, dequeued, dqpkt, dqpkt_tests, found_in}
-use Rattle.packet_moves.specs.PacketMoves.{arrived, departed, sent_packet}
-use Rattle.packet_calls.specs.Qpkt.{qpkt, qpkt_tests, sent_to}
-use Rattle.packet_calls.specs.TaskWait.{taskwait, waited, waiting}
-use Rattle.coroutine_calls.specs.CallCo.{idle_tests}
-use Rattle.coroutine_calls.specs.CallersCoroutines.{coroutines_of_caller, with_changed}
-use Rattle.coroutine_calls.specs.CoWait.{wait_tests}
-use Rattle.coroutine_calls.specs.CreateCo.{create_tests, created, createco, with_created as with_new_coroutine}
-use Rattle.coroutine_calls.specs.DeleteCo.{delete_tests, deleteco, with_deleted, with_deleted_at}
-use Rattle.coroutine_calls.specs.ResumeCo.{resume_tests, resumed_itself}
-use Rattle.coroutine_calls.specs.Switched as switches
-use Rattle.coroutine_calls.specs.Switched.{Switched, switched}
+use Rattle.kernel_calls.specs.LinkedList.Places.{without_first}
+use Rattle.kernel_calls.specs.PacketQueue.QueueWords.{QueuedPacket}
+use Rattle.kernel_calls.specs.HunkLoader.Globals.{globals_in}
+use Rattle.kernel_calls.specs.Coroutines.CoroutineExchanges.{TaskCoroutines, current_of, with_called, with_resumed, with_waiting}
+use Rattle.kernel_calls.specs.Coroutines.Creation.{highest}
+use Rattle.kernel_calls.specs.KernelModel.Changes.{queue_of, with_task}
+use Rattle.kernel_calls.specs.KernelModel.Lists.{Lists}
+use Rattle.kernel_calls.specs.KernelModel.Task.{Task}
+use Rattle.kernel_calls.specs.KernelModel.ValidQueues.{Place}
+use Rattle.kernel_calls.specs.KernelModel.ValidQueues.Place.{Work}
+use Rattle.kernel_calls.specs.CallAnswers.Guests.{guest_tests}
+use Rattle.kernel_calls.specs.CallAnswers.Made.{Made, by_refusal, done, unless_refused}
+use Rattle.kernel_calls.specs.CallAnswers.Refusals.{first_refusal}
+use Rattle.kernel_calls.specs.BlockCalls.FreeStore.{data_taken, with_taken}
+use Rattle.kernel_calls.specs.BlockCalls.Freevec.{freevec, freevec_tests, with_given}
+use Rattle.kernel_calls.specs.BlockCalls.Getvec.{getvec, getvec_tests}
+use Rattle.kernel_calls.specs.TaskCalls.ChangePri.{change_pri, priority_tests, with_new_priority}
+use Rattle.kernel_calls.specs.TaskCalls.CreateTask.{create_task, creation_tests, new_task, number_of, with_created}
+use Rattle.kernel_calls.specs.TaskCalls.DeleteTask.{delete_task, deletion_tests, without_task}
+use Rattle.kernel_calls.specs.TaskCalls.HoldTask.{held, hold, hold_tests}
+use Rattle.kernel_calls.specs.TaskCalls.ReleaseTask.{release, release_tests, released}
+use Rattle.kernel_calls.specs.TaskCalls.SetFlags.{flagged, set_flags}
+use Rattle.kernel_calls.specs.TaskCalls.TestFlags.{cleared}
+use Rattle.kernel_calls.specs.ModuleCalls.AddModule.{add_module, addition_tests, global_words, globals_of_task, modules_so_far, task_of, with_further}
+use Rattle.kernel_calls.specs.ModuleCalls.UnloadModule.{unload_module, unload_tests, without_module}
+use Rattle.kernel_calls.specs.PacketCalls.Destinations.{place_of}
+use Rattle.kernel_calls.specs.PacketCalls.Dqpkt.{Search, dequeued, dqpkt, dqpkt_tests, found_in}
+use Rattle.kernel_calls.specs.PacketCalls.PacketMoves.{arrived, departed, sent_packet}
+use Rattle.kernel_calls.specs.PacketCalls.Qpkt.{qpkt, qpkt_tests, sent_to}
+use Rattle.kernel_calls.specs.PacketCalls.TaskWait.{taskwait, waited, waiting}
+use Rattle.kernel_calls.specs.CoroutineCalls.CallCo.{idle_tests}
+use Rattle.kernel_calls.specs.CoroutineCalls.CallersCoroutines.{coroutines_of_caller, with_changed}
+use Rattle.kernel_calls.specs.CoroutineCalls.CoWait.{wait_tests}
+use Rattle.kernel_calls.specs.CoroutineCalls.CreateCo.{create_tests, created, createco, with_created as with_new_coroutine}
+use Rattle.kernel_calls.specs.CoroutineCalls.DeleteCo.{delete_tests, deleteco, with_deleted, with_deleted_at}
+use Rattle.kernel_calls.specs.CoroutineCalls.ResumeCo.{resume_tests, resumed_itself}
+use Rattle.kernel_calls.specs.CoroutineCalls.Switched as switches
+use Rattle.kernel_calls.specs.CoroutineCalls.Switched.{Switched, switched}
 use Rattle.kernel_calls.specs.Calls.{Called, answered, made, of_made, of_switched, of_wait, past_call, requested}
 use Rattle.kernel_calls.specs.declared.requests.CallOutcome.{CallOutcome}
 use Rattle.kernel_calls.specs.declared.requests.CallOutcome.TheVariants.{Done, Outside as OutsideStore, Quit as Quits, Unknown, Waits}

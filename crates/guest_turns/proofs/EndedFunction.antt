@@ -2,32 +2,32 @@
 use Rattle.std.proofs.Common.{◌≡◌, ◌≢◌, ℕ, ◌+◌, ◌++◌, List, [], ◌∷◌, true, false, Ok, map, cond, eqb, get_or, set, not, inr, refl, sym, ap, ◌∙◌, subst, arith}
 use Rattle.std.proofs.lemmas.Bool.{ne_eqb}
 use Rattle.word_store.specs.declared.registers.Regs.{Regs}
-use Rattle.linked_list.specs.Count.{IsApart}
-use Rattle.owned_words.specs.Exchange.{Exchange}
-use Rattle.owned_words.specs.LinkedWords.{first_of}
-use Rattle.owned_words.proofs.Exchanges.{exchange-none}
-use Rattle.packet_queue.specs.QueueWords.{queue_words}
-use Rattle.coroutines.specs.CoroutineExchanges.{current_of}
-use Rattle.kernel_model.specs.ChangedStore.{IsChanged}
-use Rattle.kernel_model.specs.Changes.{change_of, with_task, with_tasks}
-use Rattle.kernel_model.specs.HoldsLists.{HoldsLists}
-use Rattle.kernel_model.specs.Lists.{Lists}
-use Rattle.kernel_model.specs.Owned.{owned}
-use Rattle.kernel_model.specs.Task.{Task, is_guest_id, queue_bit, queue_head, state_word, task_address, task_id, task_words}
-use Rattle.kernel_model.specs.ValidLists.{AreValid}
-use Rattle.kernel_model.specs.ValidTasks.{IsTask}
-use Rattle.kernel_model.proofs.ChainSplits.{change-between}
-use Rattle.kernel_model.proofs.ChangedLists.{exchange-owned, one_task-owned, owners-exchanged}
-use Rattle.kernel_model.proofs.OneTask.{same_task-valid}
-use Rattle.kernel_dispatch.proofs.StateExchanges.{exchange-state, exchange-task}
-use Rattle.call_answers.specs.Callers.{HasCaller}
-use Rattle.call_answers.specs.Guests.{GuestAt}
-use Rattle.call_answers.proofs.GuestTask.{GuestFacts, guest-facts}
-use Rattle.packet_calls.proofs.CallerTask.{caller-runs, caller-state}
-use Rattle.coroutine_calls.specs.CallersCoroutines.{coroutines_of_caller}
-use Rattle.coroutine_calls.specs.CoWait.{IsWithin, ended}
-use Rattle.coroutine_calls.specs.Switched.{IsSwitched}
-use Rattle.coroutine_calls.proofs.CallersTask.{callers-found, callers-held}
+use Rattle.word_store.specs.Count.{IsApart}
+use Rattle.kernel_calls.specs.OwnedWords.Exchange.{Exchange}
+use Rattle.kernel_calls.specs.OwnedWords.LinkedWords.{first_of}
+use Rattle.kernel_calls.proofs.Shown.OwnedWords.Exchanges.{exchange-none}
+use Rattle.kernel_calls.specs.PacketQueue.QueueWords.{queue_words}
+use Rattle.kernel_calls.specs.Coroutines.CoroutineExchanges.{current_of}
+use Rattle.kernel_calls.specs.KernelModel.ChangedStore.{IsChanged}
+use Rattle.kernel_calls.specs.KernelModel.Changes.{change_of, with_task, with_tasks}
+use Rattle.kernel_calls.specs.KernelModel.HoldsLists.{HoldsLists}
+use Rattle.kernel_calls.specs.KernelModel.Lists.{Lists}
+use Rattle.kernel_calls.specs.KernelModel.Owned.{owned}
+use Rattle.kernel_calls.specs.KernelModel.Task.{Task, is_guest_id, queue_bit, queue_head, state_word, task_address, task_id, task_words}
+use Rattle.kernel_calls.specs.KernelModel.ValidLists.{AreValid}
+use Rattle.kernel_calls.specs.KernelModel.ValidTasks.{IsTask}
+use Rattle.kernel_calls.proofs.Shown.KernelModel.ChainSplits.{change-between}
+use Rattle.kernel_calls.proofs.Shown.KernelModel.ChangedLists.{exchange-owned, one_task-owned, owners-exchanged}
+use Rattle.kernel_calls.proofs.Shown.KernelModel.OneTask.{same_task-valid}
+use Rattle.kernel_calls.proofs.Shown.KernelDispatch.StateExchanges.{exchange-state, exchange-task}
+use Rattle.kernel_calls.specs.CallAnswers.Callers.{HasCaller}
+use Rattle.kernel_calls.specs.CallAnswers.Guests.{GuestAt}
+use Rattle.kernel_calls.proofs.Shown.CallAnswers.GuestTask.{GuestFacts, guest-facts}
+use Rattle.kernel_calls.proofs.Shown.PacketCalls.CallerTask.{caller-runs, caller-state}
+use Rattle.kernel_calls.specs.CoroutineCalls.CallersCoroutines.{coroutines_of_caller}
+use Rattle.kernel_calls.specs.CoroutineCalls.CoWait.{IsWithin, ended}
+use Rattle.kernel_calls.specs.CoroutineCalls.Switched.{IsSwitched}
+use Rattle.kernel_calls.proofs.Shown.CoroutineCalls.CallersTask.{callers-found, callers-held}
 use Rattle.guest_turns.specs.GuestTurn.{died, dies, returned}
 
 -- the state of a task that ran and is dead

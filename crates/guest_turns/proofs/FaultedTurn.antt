@@ -3,22 +3,22 @@ use Rattle.std.proofs.Common.{◌≡◌, ℕ, List, Bool, true, false, Option, S
 use Rattle.word_store.specs.Arithmetic.{add}
 use Rattle.word_store.specs.Bytes.{byte_at}
 use Rattle.word_store.specs.declared.registers.Regs.{Regs}
-use Rattle.cint_decode.specs.Decoded.{decoded}
-use Rattle.cint_decode.specs.declared.instructions.DecodeEnd.{DecodeEnd}
-use Rattle.cint_decode.specs.declared.instructions.Instr.{Instr}
+use Rattle.cint_exec.specs.CintDecode.Decoded.{decoded}
+use Rattle.cint_exec.specs.CintDecode.declared.instructions.DecodeEnd.{DecodeEnd}
+use Rattle.cint_exec.specs.CintDecode.declared.instructions.Instr.{Instr}
 use Rattle.cint_exec.specs.Change.{Change}
 use Rattle.cint_exec.specs.Effect.{change_of}
 use Rattle.cint_exec.specs.Instruction.{After, after, decided, effected, instruction, is_call, made, settled, write_fault}
 use Rattle.cint_exec.specs.declared.Fault.{Fault}
 use Rattle.cint_exec.specs.declared.Outcome.{Outcome}
 use Rattle.cint_exec.specs.declared.Outcome.TheVariants.{Next, Sys, Returned, Fault as Faulted}
-use Rattle.kernel_model.specs.Lists.{Lists}
+use Rattle.kernel_calls.specs.KernelModel.Lists.{Lists}
 use Rattle.kernel_calls.specs.Calls.{kernel_call, requested}
 use Rattle.kernel_calls.specs.Requests.{call_of}
 use Rattle.kernel_calls.specs.declared.requests.CallOutcome.{CallOutcome}
 use Rattle.kernel_calls.specs.declared.requests.CallOutcome.TheVariants.{Done, Outside as OutsideStore, Quit, Unknown, Waits}
 use Rattle.kernel_calls.specs.declared.requests.KernelCall.{KernelCall}
-use Rattle.guest_instructions.specs.Guarded.{is_owned}
+use Rattle.guest_turns.specs.Guarded.{is_owned}
 use Rattle.guest_turns.specs.GuestTurn.{IsUntouched, after_instruction, called, end_of_call, turn_without_reporter}
 use Rattle.guest_turns.specs.declared.turns.TurnEnd.TheVariants.{Faults}
 use Rattle.guest_turns.proofs.CallFields.{IsMadeEnd, call-ends}

@@ -2,17 +2,17 @@
 use Rattle.std.proofs.Common.{◌≡◌, ℕ, List, [], ◌∷◌, Bool, true, false, Option, Some, None, map, cond, eqb, nat_lt}
 use Rattle.std.specs.Prelude.{IfSome, find}
 use Rattle.std.specs.List.{AllByRecursion}
-use Rattle.linked_list.specs.Places.{insert_after, without_first}
-use Rattle.packet_queue.specs.QueueWords.{QueuedPacket}
-use Rattle.kernel_model.specs.Changes.{change_of, with_queue, with_task}
-use Rattle.kernel_model.specs.Lists.{Lists}
-use Rattle.kernel_model.specs.MovedTask.{with_priority}
-use Rattle.kernel_model.specs.Task.{Task}
-use Rattle.kernel_model.specs.ValidQueues.{Place}
-use Rattle.kernel_model.specs.ValidQueues.Place.{Clock, Keyboard, Output, Pending, Work}
-use Rattle.kernel_model.specs.ValidTasks.{runs}
-use Rattle.kernel_model.proofs.AllThings.{all-inserted}
-use Rattle.task_calls.specs.ChangePri.{moved}
+use Rattle.kernel_calls.specs.LinkedList.Places.{insert_after, without_first}
+use Rattle.kernel_calls.specs.PacketQueue.QueueWords.{QueuedPacket}
+use Rattle.kernel_calls.specs.KernelModel.Changes.{change_of, with_queue, with_task}
+use Rattle.kernel_calls.specs.KernelModel.Lists.{Lists}
+use Rattle.kernel_calls.specs.KernelModel.MovedTask.{with_priority}
+use Rattle.kernel_calls.specs.KernelModel.Task.{Task}
+use Rattle.kernel_calls.specs.KernelModel.ValidQueues.{Place}
+use Rattle.kernel_calls.specs.KernelModel.ValidQueues.Place.{Clock, Keyboard, Output, Pending, Work}
+use Rattle.kernel_calls.specs.KernelModel.ValidTasks.{runs}
+use Rattle.kernel_calls.proofs.Shown.KernelModel.AllThings.{all-inserted}
+use Rattle.kernel_calls.specs.TaskCalls.ChangePri.{moved}
 use Rattle.guest_turns.specs.GuestTurn.{Numbers, numbers_of}
 
 -- where it has that field, it is the task with the number

@@ -3,23 +3,23 @@ use Rattle.std.proofs.Common.{◌≡◌, ◌<◌, ℕ, List, Bool, true, false, 
 use Rattle.std.specs.List.{AllByRecursion}
 use Rattle.word_store.specs.Bytes.{byte_at}
 use Rattle.word_store.specs.declared.registers.Regs.{Regs}
-use Rattle.cint_decode.specs.Decoded.{decoded}
-use Rattle.cint_decode.specs.declared.instructions.DecodeEnd.{DecodeEnd}
-use Rattle.cint_decode.specs.declared.instructions.Instr.{Instr}
+use Rattle.cint_exec.specs.CintDecode.Decoded.{decoded}
+use Rattle.cint_exec.specs.CintDecode.declared.instructions.DecodeEnd.{DecodeEnd}
+use Rattle.cint_exec.specs.CintDecode.declared.instructions.Instr.{Instr}
 use Rattle.cint_exec.specs.Instruction.{After, after, decided, instruction}
 use Rattle.cint_exec.specs.declared.Outcome.{Outcome}
 use Rattle.cint_exec.specs.declared.Outcome.TheVariants.{Next, Sys, Returned, Fault as Faulted}
 use Rattle.cint_exec.proofs.ByteRegister.{effected-byte}
-use Rattle.coroutines.specs.CoroutineExchanges.{current_of}
-use Rattle.kernel_model.specs.Lists.{Lists}
-use Rattle.kernel_model.specs.Task.{is_guest_id}
-use Rattle.kernel_dispatch.specs.Dispatch.{CanDispatch}
-use Rattle.call_answers.specs.Callers.{HasCaller}
-use Rattle.coroutine_calls.specs.CallersCoroutines.{coroutines_of_caller}
-use Rattle.coroutine_calls.specs.CoWait.{ended, with_ended}
+use Rattle.kernel_calls.specs.Coroutines.CoroutineExchanges.{current_of}
+use Rattle.kernel_calls.specs.KernelModel.Lists.{Lists}
+use Rattle.kernel_calls.specs.KernelModel.Task.{is_guest_id}
+use Rattle.kernel_calls.specs.KernelDispatch.Dispatch.{CanDispatch}
+use Rattle.kernel_calls.specs.CallAnswers.Callers.{HasCaller}
+use Rattle.kernel_calls.specs.CoroutineCalls.CallersCoroutines.{coroutines_of_caller}
+use Rattle.kernel_calls.specs.CoroutineCalls.CoWait.{ended, with_ended}
 use Rattle.kernel_calls.specs.Calls.{kernel_call}
 use Rattle.kernel_calls.specs.Requests.{call_of}
-use Rattle.guest_instructions.specs.Guarded.{is_owned}
+use Rattle.guest_turns.specs.Guarded.{is_owned}
 use Rattle.guest_turns.specs.GuestTurn.{Numbers, RunsAlone, Turned, after_instruction, died, dies, numbers_of, turn_without_reporter}
 use Rattle.guest_turns.proofs.CallFields.{Keeps, KeepsSwitched, request-keeps, switched-keeps}
 use Rattle.guest_turns.proofs.RunningField.{RunsAs, RunsIn, one-runs}

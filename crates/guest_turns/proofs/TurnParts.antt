@@ -5,17 +5,17 @@ use Rattle.word_store.specs.declared.registers.Regs.{Regs}
 use Rattle.cint_exec.specs.Instruction.{After, instruction}
 use Rattle.cint_exec.specs.declared.Outcome.{Outcome}
 use Rattle.cint_exec.specs.declared.Outcome.TheVariants.{Next, Sys, Returned, Fault as Faulted}
-use Rattle.kernel_model.specs.ChangedStore.{HasKeeper, Knows}
-use Rattle.kernel_model.specs.HoldsLists.{HoldsLists}
-use Rattle.kernel_model.specs.Lists.{Lists}
-use Rattle.kernel_model.proofs.ChangedLists.{changed-none, knows-same}
-use Rattle.kernel_model.proofs.NotedInTurn.{notes-none}
-use Rattle.coroutine_calls.specs.Switched.{IsSwitched, Switched}
-use Rattle.call_answers.specs.Outside.{Outside}
+use Rattle.kernel_calls.specs.KernelModel.ChangedStore.{HasKeeper, Knows}
+use Rattle.kernel_calls.specs.KernelModel.HoldsLists.{HoldsLists}
+use Rattle.kernel_calls.specs.KernelModel.Lists.{Lists}
+use Rattle.kernel_calls.proofs.Shown.KernelModel.ChangedLists.{changed-none, knows-same}
+use Rattle.kernel_calls.proofs.Shown.KernelModel.NotedInTurn.{notes-none}
+use Rattle.kernel_calls.specs.CoroutineCalls.Switched.{IsSwitched, Switched}
+use Rattle.kernel_calls.specs.CallAnswers.Outside.{Outside}
 use Rattle.kernel_calls.specs.Calls.{Called, IsCalled}
 use Rattle.kernel_calls.specs.declared.requests.CallOutcome.{CallOutcome}
-use Rattle.guest_instructions.specs.Guarded.{is_owned}
-use Rattle.guest_instructions.proofs.MarkedWords.{keeps-marked}
+use Rattle.guest_turns.specs.Guarded.{is_owned}
+use Rattle.guest_turns.proofs.MarkedWords.{keeps-marked}
 use Rattle.guest_turns.specs.GuestTurn.{IsTurned, after_instruction, called, end_of_call, ended_with, goes_on, turn_without_reporter}
 use Rattle.guest_turns.specs.declared.turns.TurnEnd.{TurnEnd}
 use Rattle.guest_turns.specs.declared.turns.TurnEnd.TheVariants.{Goes}

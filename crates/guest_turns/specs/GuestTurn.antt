@@ -7,23 +7,23 @@ use Rattle.cint_exec.specs.Change.{fault}
 use Rattle.cint_exec.specs.Instruction.{instruction}
 use Rattle.cint_exec.specs.declared.Outcome.{Outcome}
 use Rattle.cint_exec.specs.declared.Outcome.TheVariants.{Next, Sys, Returned, Fault as Faulted}
-use Rattle.owned_words.specs.Owned.{Pairs}
-use Rattle.packet_queue.specs.declared.events.KernelEvent.{KernelEvent}
-use Rattle.coroutines.specs.CoroutineExchanges.{current_of}
-use Rattle.kernel_model.specs.ChangedStore.{IsChanged, Knows}
-use Rattle.kernel_model.specs.Changes.{with_task}
-use Rattle.kernel_model.specs.Lists.{Lists}
-use Rattle.kernel_model.specs.NotedEvents.{NotesAll}
-use Rattle.kernel_model.specs.Task.{Task}
-use Rattle.kernel_model.specs.ValidTasks.{dead, runs}
-use Rattle.coroutine_calls.specs.CallersCoroutines.{coroutines_of_caller}
-use Rattle.coroutine_calls.specs.CoWait.{ended}
-use Rattle.coroutine_calls.specs.Switched.{Switched}
-use Rattle.call_answers.specs.Outside.{Outside}
+use Rattle.kernel_calls.specs.OwnedWords.Owned.{Pairs}
+use Rattle.kernel_calls.specs.PacketQueue.declared.events.KernelEvent.{KernelEvent}
+use Rattle.kernel_calls.specs.Coroutines.CoroutineExchanges.{current_of}
+use Rattle.kernel_calls.specs.KernelModel.ChangedStore.{IsChanged, Knows}
+use Rattle.kernel_calls.specs.KernelModel.Changes.{with_task}
+use Rattle.kernel_calls.specs.KernelModel.Lists.{Lists}
+use Rattle.kernel_calls.specs.KernelModel.NotedEvents.{NotesAll}
+use Rattle.kernel_calls.specs.KernelModel.Task.{Task}
+use Rattle.kernel_calls.specs.KernelModel.ValidTasks.{dead, runs}
+use Rattle.kernel_calls.specs.CoroutineCalls.CallersCoroutines.{coroutines_of_caller}
+use Rattle.kernel_calls.specs.CoroutineCalls.CoWait.{ended}
+use Rattle.kernel_calls.specs.CoroutineCalls.Switched.{Switched}
+use Rattle.kernel_calls.specs.CallAnswers.Outside.{Outside}
 use Rattle.kernel_calls.specs.Calls.{Called, kernel_call}
 use Rattle.kernel_calls.specs.declared.requests.CallOutcome.{CallOutcome}
 use Rattle.kernel_calls.specs.declared.requests.CallOutcome.TheVariants.{Done, Outside as OutsideStore, Quit, Unknown, Waits}
-use Rattle.guest_instructions.specs.Guarded.{is_owned}
+use Rattle.guest_turns.specs.Guarded.{is_owned}
 use Rattle.guest_turns.specs.declared.turns.TurnEnd.{TurnEnd}
 use Rattle.guest_turns.specs.declared.turns.TurnEnd.TheVariants.{Faults, Goes, Quits}
 

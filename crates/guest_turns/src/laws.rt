@@ -2,9 +2,9 @@
 ghost use Rattle.std.specs.Prelude.{◌≡◌, ◌<◌, List, length, ℕ};
 ghost use Rattle.word_store.specs.declared.registers.Regs.{Regs};
 ghost use Rattle.cint_exec.specs.declared.Fault.{Fault};
-ghost use Rattle.kernel_model.specs.Lists.{Lists};
-ghost use Rattle.call_answers.specs.Callers.{HasCaller};
-ghost use Rattle.kernel_dispatch.specs.Dispatch.{CanDispatch};
+ghost use Rattle.kernel_calls.specs.KernelModel.Lists.{Lists};
+ghost use Rattle.kernel_calls.specs.CallAnswers.Callers.{HasCaller};
+ghost use Rattle.kernel_calls.specs.KernelDispatch.Dispatch.{CanDispatch};
 ghost use Rattle.guest_turns.specs.GuestTurn.{IsUntouched, RunsAlone, numbers_of, turn_without_reporter};
 ghost use Rattle.guest_turns.specs.declared.turns.TurnEnd.TheVariants.{Faults};
 

@@ -1,7 +1,15 @@
 // What the running guest does in a step.
 #![tactic(auto)]
 
+mod instructions;
 pub mod laws;
 pub mod turns;
 
+pub use instructions::execute_guest;
 pub use turns::{TurnEnd, guest_turn};
+
+// Shown to the crates above.
+pub use kernel_calls::{
+    ByteKinds, EventLog, KernelEvent, ListLog, NoLog, RootField, SinkLog, Stop, TcbField, field,
+    find, root, set_root, switch,
+};

@@ -1,23 +1,20 @@
 // A guest's turn: it executes an instruction, makes a call, or its function has returned.
 ghost use Rattle.std.specs.Prelude.{◌≡◌, ◌<◌, Ok, length};
-ghost use Rattle.kernel_model.specs.ChangedStore.{HasKeeper};
-ghost use Rattle.kernel_model.specs.HoldsLists.{HoldsLists};
-ghost use Rattle.kernel_model.specs.Lists.{Lists};
-ghost use Rattle.call_answers.specs.Callers.{HasCaller};
-ghost use Rattle.coroutine_calls.specs.Switched.{IsSwitched};
-ghost use Rattle.call_answers.specs.Outside.{outside};
+ghost use Rattle.kernel_calls.specs.KernelModel.ChangedStore.{HasKeeper};
+ghost use Rattle.kernel_calls.specs.KernelModel.HoldsLists.{HoldsLists};
+ghost use Rattle.kernel_calls.specs.KernelModel.Lists.{Lists};
+ghost use Rattle.kernel_calls.specs.CallAnswers.Callers.{HasCaller};
+ghost use Rattle.kernel_calls.specs.CoroutineCalls.Switched.{IsSwitched};
+ghost use Rattle.kernel_calls.specs.CallAnswers.Outside.{outside};
 ghost use Rattle.kernel_calls.specs.Calls.{kernel_call};
 ghost use Rattle.guest_turns.specs.GuestTurn.{IsTurned, called, end_of_call, returned, turn_without_reporter};
 
-use call_answers::caller;
+use crate::execute_guest;
 use cint_exec::{Fault, Outcome};
-use coroutine_calls::ended;
-use guest_instructions::execute_guest;
-use kernel_calls::{CallOutcome, call};
-use packet_queue::EventLog;
-use task_block::{TcbField, field, set_field};
+use kernel_calls::{
+    CallOutcome, EventLog, KindKeeper, TcbField, call, caller, ended, field, set_field,
+};
 use tp_io::Output;
-use word_kinds::KindKeeper;
 use word_store::{Regs, Store};
 
 /// By so much the state of a dead task is larger than that of one that runs.

@@ -8,7 +8,7 @@ use Rattle.hunk_text.proofs.Spans.{start_inside}
 use Rattle.hunk_text.specs.ReadingOn.{Reads, read}
 use Rattle.hunk_text.specs.declared.tokens.NextWord.{NextWord}
 use Rattle.hunk_text.proofs.ReadingOn.{reads_on}
-use Rattle.word_store.specs.Row.{with_words}
+use Rattle.getvec_chain.specs.WordStore.Row.{with_words}
 use Rattle.hunk_loader.specs.Follow.{WordsFollow}
 
 -- ---- a word is read

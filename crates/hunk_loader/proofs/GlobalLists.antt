@@ -4,8 +4,8 @@ use Rattle.std.specs.Prelude.{slice_range}
 use Rattle.std.specs.List.{AllByRecursion}
 use Rattle.std.proofs.lemmas.Bool.Decides.{nat_tests}
 use Rattle.std.proofs.lemmas.List.{get_or-drop, length-drop, reverse-append, take_more}
-use Rattle.word_store.specs.Arithmetic.{add, mul}
-use Rattle.word_store.proofs.Rows.{range_first, range_none}
+use Rattle.getvec_chain.specs.WordStore.Arithmetic.{add, mul}
+use Rattle.getvec_chain.proofs.Shown.WordStore.Rows.{range_first, range_none}
 use Rattle.hunk_loader.specs.Globals.{Global, global, global_of_number, globals_back, globals_of_hunk, globals_of_pairs, highest, with_globals}
 use Rattle.hunk_loader.specs.GlobalWords.{AreClear}
 use Rattle.hunk_loader.specs.ModuleHunks.{placed}

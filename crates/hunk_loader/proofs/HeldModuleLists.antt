@@ -3,15 +3,15 @@ use Rattle.std.proofs.Common.{◌≡◌, ℕ, suc, ◌+◌, ◌<◌, List, [], �
 use Rattle.std.specs.Prelude.{slice_range, sum}
 use Rattle.std.specs.List.{AllByRecursion}
 use Rattle.getvec_chain.specs.Run.{need}
-use Rattle.linked_list.specs.Linked.{IsListAt}
-use Rattle.linked_list.proofs.Chains.{nodes-apart}
-use Rattle.linked_list.proofs.Counts.{times-within}
-use Rattle.owned_words.specs.LinkedWords.{AreNodes, first_of, linked_words}
-use Rattle.owned_words.specs.Owned.{AreInside, Holds, owners, row_from}
-use Rattle.owned_words.proofs.Exchanges.{links-first}
-use Rattle.owned_words.proofs.HeldLists.{held-list}
-use Rattle.owned_words.proofs.OwnedWords.{Holds-left, Holds-right, owners-append}
-use Rattle.owned_words.proofs.RowWords.{Holds-range, owners-row}
+use Rattle.getvec_chain.specs.LinkedList.Linked.{IsListAt}
+use Rattle.getvec_chain.proofs.Shown.LinkedList.Chains.{nodes-apart}
+use Rattle.getvec_chain.proofs.Shown.WordStore.Counts.{times-within}
+use Rattle.getvec_chain.specs.OwnedWords.LinkedWords.{AreNodes, first_of, linked_words}
+use Rattle.getvec_chain.specs.OwnedWords.Owned.{AreInside, Holds, owners, row_from}
+use Rattle.getvec_chain.proofs.Shown.OwnedWords.Exchanges.{links-first}
+use Rattle.getvec_chain.proofs.Shown.OwnedWords.HeldLists.{held-list}
+use Rattle.getvec_chain.proofs.Shown.OwnedWords.OwnedWords.{Holds-left, Holds-right, owners-append}
+use Rattle.getvec_chain.proofs.Shown.OwnedWords.RowWords.{Holds-range, owners-row}
 use Rattle.task_block.specs.Lists.{module_link, modules_in}
 use Rattle.hunk_loader.specs.HeldModules.{HasModuleBlock, HeldModules, LoadedModule, module_address, module_words}
 use Rattle.hunk_loader.specs.ModuleHunks.{hunk_count, lengths_in}

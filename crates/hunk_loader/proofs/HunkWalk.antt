@@ -3,9 +3,9 @@ use Rattle.std.proofs.Common.{◌≡◌, ◌⊎◌, inl, inr, ◌∙◌, ℕ, �
 use Rattle.std.specs.Prelude.{slice_range, sum}
 use Rattle.std.specs.List.{AllByRecursion, flat_map}
 use Rattle.std.proofs.lemmas.List.Sums.{sum_by-cons}
-use Rattle.linked_list.specs.Places.{has}
-use Rattle.linked_list.proofs.AllMembers.{all-has}
-use Rattle.word_store.proofs.Rows.{range_first, range_none, range_same}
+use Rattle.getvec_chain.specs.LinkedList.Places.{has}
+use Rattle.getvec_chain.proofs.Shown.LinkedList.AllMembers.{all-has}
+use Rattle.getvec_chain.proofs.Shown.WordStore.Rows.{range_first, range_none, range_same}
 use Rattle.task_block.specs.Lists.{modules_in}
 use Rattle.hunk_loader.specs.Globals.{GlobalsFit, globals_in, globals_of_hunk, highest, most_globals, with_globals}
 use Rattle.hunk_loader.specs.GlobalWords.{AreClear}

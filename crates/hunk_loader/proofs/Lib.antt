@@ -10,3 +10,4 @@ pub mod LoadCall
 pub mod HunkWalk
 pub mod HeldModuleLists
 pub mod ModuleExchanges
+pub mod Shown

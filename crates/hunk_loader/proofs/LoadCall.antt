@@ -2,7 +2,7 @@
 use Rattle.std.proofs.Common.{◌≡◌, ◌∙◌, ℕ, ◌+◌, ◌∷◌, List, get_or, set, Ok, sym, ap, subst, arith}
 use Rattle.hunk_text.specs.Shapes.{check_of}
 use Rattle.hunk_text.specs.declared.check.Shape.{Shape}
-use Rattle.word_store.specs.Row.{with_words}
+use Rattle.getvec_chain.specs.WordStore.Row.{with_words}
 use Rattle.getvec_chain.specs.Take.{IsTaken}
 use Rattle.getvec_chain.specs.Tiling.{IsTiled}
 use Rattle.getvec_chain.proofs.AfterTake.{after_take}

@@ -9,22 +9,22 @@ use Rattle.hunk_text.specs.Shapes.{words_in}
 use Rattle.hunk_text.specs.declared.modules.Hunk.{Hunk}
 use Rattle.getvec_chain.specs.declared.pieces.Block.{Block}
 use Rattle.getvec_chain.specs.Block.{block_end, used_block}
-use Rattle.linked_list.specs.Chain.{list_at}
-use Rattle.linked_list.specs.Changed.{InsertedAt}
-use Rattle.linked_list.specs.Count.{IsApart, node_words, times, words_of}
-use Rattle.linked_list.specs.Linked.{IsFresh, IsListAt}
-use Rattle.linked_list.specs.Places.{linked_in}
-use Rattle.word_store.specs.Row.{with_words}
+use Rattle.getvec_chain.specs.LinkedList.Chain.{list_at}
+use Rattle.getvec_chain.specs.LinkedList.Changed.{InsertedAt}
+use Rattle.getvec_chain.specs.WordStore.Count.{IsApart, node_words, times, words_of}
+use Rattle.getvec_chain.specs.LinkedList.Linked.{IsFresh, IsListAt}
+use Rattle.getvec_chain.specs.LinkedList.Places.{linked_in}
+use Rattle.getvec_chain.specs.WordStore.Row.{with_words}
 use Rattle.getvec_chain.specs.Run.{need}
 use Rattle.getvec_chain.specs.Take.{IsTaken, taken}
 use Rattle.getvec_chain.specs.Tiling.{IsTiled, blocks_in, used_at}
 use Rattle.getvec_chain.proofs.AfterTake.{AfterTake, after_take}
-use Rattle.linked_list.proofs.Counts.{IsApart-cons, hit-le, hit-other}
-use Rattle.linked_list.proofs.Frames.{list-same}
-use Rattle.linked_list.proofs.Lists.{list-push, list-pushed}
-use Rattle.linked_list.proofs.Members.{times-has}
-use Rattle.linked_list.proofs.AllMembers.{all-has, all-map}
-use Rattle.word_store.proofs.Rows.{IsOutside, get_or-with_words, get_or-with_words_outside, length-with_words, range-with_words, range_same, with_words-append}
+use Rattle.getvec_chain.proofs.Shown.WordStore.Counts.{IsApart-cons, hit-le, hit-other}
+use Rattle.getvec_chain.proofs.Shown.LinkedList.Frames.{list-same}
+use Rattle.getvec_chain.proofs.Shown.LinkedList.Lists.{list-push, list-pushed}
+use Rattle.getvec_chain.proofs.Shown.LinkedList.Members.{times-has}
+use Rattle.getvec_chain.proofs.Shown.LinkedList.AllMembers.{all-has, all-map}
+use Rattle.getvec_chain.proofs.Shown.WordStore.Rows.{IsOutside, get_or-with_words, get_or-with_words_outside, length-with_words, range-with_words, range_same, with_words-append}
 use Rattle.getvec_chain.proofs.UsedBlocks.{AreDisjoint}
 use Rattle.getvec_chain.proofs.Writes.{SameBlocks, SameBlocks-set_below, SameBlocks-used}
 use Rattle.task_block.specs.Lists.{module_link, modules_in}

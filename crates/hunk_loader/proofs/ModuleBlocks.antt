@@ -5,16 +5,16 @@ use Rattle.std.specs.List.{AllByRecursion}
 use Rattle.std.proofs.lemmas.Bool.{cases_eq}
 use Rattle.getvec_chain.specs.declared.pieces.Block.{Block}
 use Rattle.getvec_chain.specs.Block.{block_end}
-use Rattle.linked_list.specs.Chain.{IsChain, cells}
-use Rattle.linked_list.specs.Count.{IsApart, times, words_of}
-use Rattle.linked_list.specs.Linked.{HasList, IsNode}
+use Rattle.getvec_chain.specs.LinkedList.Chain.{IsChain, cells}
+use Rattle.getvec_chain.specs.WordStore.Count.{IsApart, times, words_of}
+use Rattle.getvec_chain.specs.LinkedList.Linked.{HasList, IsNode}
 use Rattle.getvec_chain.specs.Run.{need}
 use Rattle.getvec_chain.specs.Tiling.{IsTiled, blocks_in, used_at}
-use Rattle.linked_list.proofs.Chains.{times-cells}
+use Rattle.getvec_chain.proofs.Shown.LinkedList.Chains.{times-cells}
 use Rattle.getvec_chain.proofs.Tilings.{IsTiled-inside}
-use Rattle.linked_list.proofs.Walks.{walk-ends}
-use Rattle.linked_list.proofs.Counts.{IsApart-cons, hit-other, times-words_more}
-use Rattle.word_store.proofs.Rows.{range_same}
+use Rattle.getvec_chain.proofs.Shown.LinkedList.Walks.{walk-ends}
+use Rattle.getvec_chain.proofs.Shown.WordStore.Counts.{IsApart-cons, hit-other, times-words_more}
+use Rattle.getvec_chain.proofs.Shown.WordStore.Rows.{range_same}
 use Rattle.getvec_chain.proofs.UsedBlocks.{AreDisjoint, used_at-apart, used_at-is}
 use Rattle.task_block.specs.Lists.{module_link, modules_in}
 use Rattle.hunk_loader.specs.Modules.{HasModules, IsModuleAt}

@@ -5,13 +5,13 @@ use Rattle.getvec_chain.specs.Tiling.{blocks_in, used_at}
 use Rattle.getvec_chain.proofs.BlockExchanges.{give-exchange, take-exchange}
 use Rattle.getvec_chain.proofs.UsedBlocks.{UsedBlock, used_at-is}
 use Rattle.hunk_text.specs.declared.modules.Hunk.{Hunk}
-use Rattle.linked_list.specs.Places.{has, without_node}
-use Rattle.linked_list.proofs.AllMembers.{all-back}
-use Rattle.linked_list.proofs.Members.{has-here, has-there}
-use Rattle.owned_words.specs.Owned.{row_from, written}
-use Rattle.owned_words.proofs.Exchanges.{exchange-insert, exchange-remove}
-use Rattle.owned_words.proofs.HeldLists.{held-without_node}
-use Rattle.owned_words.proofs.RowWords.{with_words-written}
+use Rattle.getvec_chain.specs.LinkedList.Places.{has, without_node}
+use Rattle.getvec_chain.proofs.Shown.LinkedList.AllMembers.{all-back}
+use Rattle.getvec_chain.proofs.Shown.LinkedList.Members.{has-here, has-there}
+use Rattle.getvec_chain.specs.OwnedWords.Owned.{row_from, written}
+use Rattle.getvec_chain.proofs.Shown.OwnedWords.Exchanges.{exchange-insert, exchange-remove}
+use Rattle.getvec_chain.proofs.Shown.OwnedWords.HeldLists.{held-without_node}
+use Rattle.getvec_chain.proofs.Shown.OwnedWords.RowWords.{with_words-written}
 use Rattle.task_block.specs.Lists.{module_link}
 use Rattle.hunk_loader.specs.HeldModules.{HasModuleBlock, HeldModules, LoadedModule, module_address, module_words}
 use Rattle.hunk_loader.specs.LoadOutcome.{IsLoaded}

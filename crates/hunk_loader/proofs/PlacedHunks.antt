@@ -12,8 +12,8 @@ use Rattle.hunk_text.specs.declared.modules.Hunk.{Hunk}
 use Rattle.hunk_text.specs.declared.modules.Module.{Module}
 use Rattle.hunk_text.specs.declared.tokens.NextWord.{NextWord}
 use Rattle.hunk_text.proofs.ReadingOn.{reads_all}
-use Rattle.word_store.specs.Row.{with_words}
-use Rattle.word_store.proofs.Rows.{length-with_words, with_words-apart, with_words-append, with_words-set_outside}
+use Rattle.getvec_chain.specs.WordStore.Row.{with_words}
+use Rattle.getvec_chain.proofs.Shown.WordStore.Rows.{length-with_words, with_words-apart, with_words-append, with_words-set_outside}
 use Rattle.hunk_loader.specs.Follow.{AreInside, BeginsOther, FitsAt, HunkFollows, ListsFollow, WordsFollow, places}
 use Rattle.hunk_loader.specs.ModuleRow.{hunks_image, lengths_of}
 use Rattle.hunk_loader.specs.RelocatedWords.{relocated}

@@ -3,14 +3,14 @@ use Rattle.std.proofs.Common.{◌≡◌, ◌≢◌, ◌∙◌, ℕ, suc, ◌<◌
 use Rattle.std.specs.Prelude.{IsSome}
 use Rattle.std.specs.List.{AllByRecursion, concat}
 use Rattle.std.proofs.lemmas.List.{map-append}
-use Rattle.word_store.specs.Arithmetic.{add}
+use Rattle.getvec_chain.specs.WordStore.Arithmetic.{add}
 use Rattle.hunk_text.specs.Places.{next_word}
 use Rattle.hunk_text.specs.ReadingOn.{Reads}
 use Rattle.hunk_text.specs.ModuleForm.{relocation_items, relocation_type}
 use Rattle.hunk_text.specs.declared.tokens.NextWord.{NextWord}
 use Rattle.hunk_text.proofs.Complete.{all_back, all_front}
-use Rattle.word_store.specs.Row.{with_words}
-use Rattle.word_store.proofs.Rows.{get_or-with_words, set-with_words}
+use Rattle.getvec_chain.specs.WordStore.Row.{with_words}
+use Rattle.getvec_chain.proofs.Shown.WordStore.Rows.{get_or-with_words, set-with_words}
 use Rattle.hunk_loader.specs.Follow.{AreInside, BeginsOther, ListsFollow, OffsetsFollow, places}
 use Rattle.hunk_loader.specs.RelocatedWords.{relocated}
 use Rattle.hunk_loader.proofs.CopiedWords.{some_word, was_read}

@@ -3,19 +3,19 @@ use Rattle.std.proofs.Common.{◌≡◌, ◌≢◌, ◌⊎◌, inl, inr, ◌∙�
 use Rattle.std.specs.List.{AllByRecursion}
 use Rattle.std.proofs.lemmas.Bool.{cases_eq}
 use Rattle.getvec_chain.specs.Block.{block_end}
-use Rattle.linked_list.specs.Chain.{cells, list_at}
-use Rattle.linked_list.specs.Count.{times}
+use Rattle.getvec_chain.specs.LinkedList.Chain.{cells, list_at}
+use Rattle.getvec_chain.specs.WordStore.Count.{times}
 use Rattle.getvec_chain.specs.Give.{given_store}
-use Rattle.linked_list.specs.Places.{cell_before, has, linked_out, without}
+use Rattle.getvec_chain.specs.LinkedList.Places.{cell_before, has, linked_out, without}
 use Rattle.getvec_chain.specs.Tiling.{blocks_in, used_at}
 use Rattle.getvec_chain.proofs.AfterGive.{AfterGive, after_give}
-use Rattle.linked_list.proofs.Chains.{times-cells}
-use Rattle.linked_list.proofs.Counts.{hit-other}
-use Rattle.linked_list.proofs.Frames.{list-set}
-use Rattle.linked_list.proofs.Lists.{list-remove, list-removed}
-use Rattle.linked_list.specs.Linked.{IsListAt}
-use Rattle.linked_list.proofs.Members.{cell_before-cases, times-without, without-times}
-use Rattle.linked_list.proofs.AllMembers.{all-has, all-map, all-without}
+use Rattle.getvec_chain.proofs.Shown.LinkedList.Chains.{times-cells}
+use Rattle.getvec_chain.proofs.Shown.WordStore.Counts.{hit-other}
+use Rattle.getvec_chain.proofs.Shown.LinkedList.Frames.{list-set}
+use Rattle.getvec_chain.proofs.Shown.LinkedList.Lists.{list-remove, list-removed}
+use Rattle.getvec_chain.specs.LinkedList.Linked.{IsListAt}
+use Rattle.getvec_chain.proofs.Shown.LinkedList.Members.{cell_before-cases, times-without, without-times}
+use Rattle.getvec_chain.proofs.Shown.LinkedList.AllMembers.{all-has, all-map, all-without}
 use Rattle.getvec_chain.proofs.UsedBlocks.{AreDisjoint}
 use Rattle.getvec_chain.proofs.Writes.{SameBlocks, SameBlocks-set_below, SameBlocks-set_used}
 use Rattle.task_block.specs.Lists.{module_link, modules_in}

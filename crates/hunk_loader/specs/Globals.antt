@@ -1,7 +1,7 @@
 -- The globals that a module sets.
 use Rattle.std.specs.Prelude.{ℕ, ◌+◌, ◌-◌, ◌≤◌, ◌==◌, ◌&&◌, if◌then◌else◌, List, [], ◌∷◌, ◌++◌, length, nat_le, reverse, slice_index, slice_set}
 use Rattle.std.specs.List.{AllByRecursion, flat_map}
-use Rattle.word_store.specs.Arithmetic.{add, mul}
+use Rattle.getvec_chain.specs.WordStore.Arithmetic.{add, mul}
 use Rattle.hunk_loader.specs.ModuleHunks.{PlacedHunk, hunks_in}
 
 -- the highest number of a global

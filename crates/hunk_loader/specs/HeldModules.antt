@@ -4,8 +4,8 @@ use Rattle.std.specs.List.{AllByRecursion}
 use Rattle.getvec_chain.specs.declared.pieces.Block.{Block}
 use Rattle.getvec_chain.specs.Run.{need}
 use Rattle.getvec_chain.specs.Tiling.{IsTiled, blocks_in, used_at}
-use Rattle.owned_words.specs.LinkedWords.{AreHeld}
-use Rattle.owned_words.specs.Owned.{Pairs, row_from}
+use Rattle.getvec_chain.specs.OwnedWords.LinkedWords.{AreHeld}
+use Rattle.getvec_chain.specs.OwnedWords.Owned.{Pairs, row_from}
 use Rattle.task_block.specs.RootWords.{first_module}
 
 -- a module: its address, and how many words each of its hunks has

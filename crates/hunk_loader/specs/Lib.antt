@@ -8,3 +8,6 @@ pub mod Globals
 pub mod GlobalWords
 pub mod HeldModules
 pub mod ModuleExchanges
+-- shown to the crates above
+pub use Rattle.getvec_chain.specs as GetvecChain
+pub use Rattle.task_block.specs as TaskBlock

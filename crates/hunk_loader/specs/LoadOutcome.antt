@@ -1,6 +1,6 @@
 -- A module is loaded, or not.
 use Rattle.std.specs.Prelude.{◌≡◌, ℕ, None, Err, List, slice_index, slice_set}
-use Rattle.word_store.specs.Row.{with_words}
+use Rattle.getvec_chain.specs.WordStore.Row.{with_words}
 use Rattle.getvec_chain.specs.Run.{first_run, need}
 use Rattle.getvec_chain.specs.Take.{IsTaken, taken}
 use Rattle.getvec_chain.specs.Tiling.{blocks_in}

@@ -7,10 +7,10 @@ use Rattle.getvec_chain.specs.Tiling.{blocks_in}
 use Rattle.hunk_text.specs.ModuleForm.{IsModule}
 use Rattle.hunk_text.specs.declared.modules.Hunk.{Hunk}
 use Rattle.hunk_text.specs.declared.modules.Module.{Module}
-use Rattle.linked_list.specs.Chain.{last_cell}
-use Rattle.owned_words.specs.Exchange.{Exchange}
-use Rattle.owned_words.specs.LinkedWords.{first_of, headed_words}
-use Rattle.owned_words.specs.Owned.{Pairs, row_from, written}
+use Rattle.getvec_chain.specs.LinkedList.Chain.{last_cell}
+use Rattle.getvec_chain.specs.OwnedWords.Exchange.{Exchange}
+use Rattle.getvec_chain.specs.OwnedWords.LinkedWords.{first_of, headed_words}
+use Rattle.getvec_chain.specs.OwnedWords.Owned.{Pairs, row_from, written}
 use Rattle.task_block.specs.RootWords.{first_module}
 use Rattle.hunk_loader.specs.HeldModules.{LoadedModule, module_address, module_words}
 use Rattle.hunk_loader.specs.ModuleRow.{hunks_image, last_word, lengths_of}

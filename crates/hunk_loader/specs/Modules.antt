@@ -2,8 +2,8 @@
 use Rattle.std.specs.Prelude.{◌≡◌, ℕ, ◌+◌, Some, List, sum}
 use Rattle.std.specs.List.{AllByRecursion}
 use Rattle.getvec_chain.specs.declared.pieces.Block.{Block}
-use Rattle.linked_list.specs.Chain.{IsChain}
-use Rattle.linked_list.specs.Count.{IsApart}
+use Rattle.getvec_chain.specs.LinkedList.Chain.{IsChain}
+use Rattle.getvec_chain.specs.WordStore.Count.{IsApart}
 use Rattle.getvec_chain.specs.Run.{need}
 use Rattle.getvec_chain.specs.Tiling.{IsTiled, blocks_in, used_at}
 use Rattle.task_block.specs.Lists.{module_link, modules_in}

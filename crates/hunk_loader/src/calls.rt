@@ -3,18 +3,16 @@ ghost use Rattle.std.specs.Prelude.{◌≡◌, ◌+◌, ◌∷◌, IfErr, IfOk, 
 ghost use Rattle.getvec_chain.specs.Give.{given, given_store};
 ghost use Rattle.getvec_chain.specs.Tiling.{blocks_in};
 ghost use Rattle.hunk_text.specs.Shapes.{check_of};
-ghost use Rattle.linked_list.specs.Places.{has, without, without_node};
+ghost use Rattle.getvec_chain.specs.LinkedList.Places.{has, without, without_node};
 ghost use Rattle.task_block.specs.Lists.{module_link, modules_in};
 ghost use Rattle.task_block.specs.RootWords.{first_module};
 ghost use Rattle.hunk_loader.specs.LoadOutcome.{IsLoaded, IsRefused};
 ghost use Rattle.hunk_loader.specs.Modules.{HasModules};
 
 use crate::placement::place_module;
-use getvec_chain::{give, take};
+use getvec_chain::{Store, give, take, unlink};
 use hunk_text::{Shape, TextBytes, check_module};
-use linked_list::unlink;
 use task_block::{RootField, root, set_root};
-use word_store::Store;
 
 /// Why no module was loaded.
 #[derive(Clone, Copy, Debug, PartialEq, Eq)]

@@ -1,12 +1,12 @@
 // Words of a text are copied to a store.
 ghost use Rattle.std.specs.Prelude.{◌≡◌, ℕ, List, IsSome, Some};
-ghost use Rattle.word_store.specs.Row.{with_words};
+ghost use Rattle.getvec_chain.specs.WordStore.Row.{with_words};
 ghost use Rattle.hunk_text.specs.Places.{next_word};
 ghost use Rattle.hunk_text.specs.ReadingOn.{Reads};
 ghost use Rattle.hunk_loader.specs.Follow.{WordsFollow};
 
+use getvec_chain::Store;
 use hunk_text::{NextWord, TextBytes, next_word};
-use word_store::Store;
 
 // The next word of a text that has one.
 pub(crate) fn read_word<X: TextBytes>(text: &X, place: u32) -> NextWord

@@ -1,13 +1,13 @@
 // The globals that a module sets.
 ghost use Rattle.std.specs.Prelude.{◌≡◌, ◌≤◌, ◌<◌, ◌+◌, ◌↔◌, IsTrue, length, slice_range, true};
-ghost use Rattle.linked_list.specs.Places.{has};
+ghost use Rattle.getvec_chain.specs.LinkedList.Places.{has};
 ghost use Rattle.task_block.specs.Lists.{modules_in};
 ghost use Rattle.hunk_loader.specs.Globals.{GlobalsFit, global_of_number, globals_in, globals_of_hunk, highest, with_globals};
 ghost use Rattle.hunk_loader.specs.GlobalWords.{AreClear};
 ghost use Rattle.hunk_loader.specs.Modules.{HasModules};
 ghost use Rattle.hunk_loader.specs.ModuleHunks.{module_end, placed};
 
-use word_store::{Store, add, mul, set_word_at, word_at};
+use getvec_chain::{Store, add, mul, set_word_at, word_at};
 
 /// The highest number of a global.
 const MOST_GLOBALS: u32 = 1000;

@@ -5,7 +5,7 @@ ghost use Rattle.hunk_loader.specs.LoadOutcome.{IsLoaded};
 ghost use Rattle.hunk_loader.specs.ModuleExchanges.{LoadExchange, UnloadExchange};
 ghost use Rattle.hunk_loader.specs.Modules.{HasModules};
 ghost use Rattle.getvec_chain.specs.Give.{given_store};
-ghost use Rattle.linked_list.specs.Places.{without_node};
+ghost use Rattle.getvec_chain.specs.LinkedList.Places.{without_node};
 ghost use Rattle.task_block.specs.Lists.{module_link, modules_in};
 ghost use Rattle.task_block.specs.RootWords.{first_module};
 

@@ -1,6 +1,6 @@
 // The words of a module are put into a store.
 ghost use Rattle.std.specs.Prelude.{◌≡◌, ◌≤◌, ◌+◌, ◌++◌, ℕ, List, length};
-ghost use Rattle.word_store.specs.Row.{with_words};
+ghost use Rattle.getvec_chain.specs.WordStore.Row.{with_words};
 ghost use Rattle.hunk_text.specs.ReadingOn.{Reads};
 ghost use Rattle.hunk_text.specs.declared.modules.Hunk.{Hunk};
 ghost use Rattle.hunk_text.specs.declared.modules.Module.{Module};
@@ -10,8 +10,8 @@ ghost use Rattle.hunk_loader.specs.RelocatedWords.{relocated};
 
 use crate::copies::{copy_words, read_word};
 use crate::relocation::relocate;
+use getvec_chain::{Store, set_word_at};
 use hunk_text::TextBytes;
-use word_store::{Store, set_word_at};
 
 // Puts the module of the text, which has so many hunks, at address m, with this link.
 pub(crate) fn place_module<X: TextBytes>(text: &X, store: &mut Store, m: u32, link: u32, count: u32)

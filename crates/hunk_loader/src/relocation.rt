@@ -1,14 +1,14 @@
 // Words of a store are relocated by the lists of a text.
 ghost use Rattle.std.specs.Prelude.{◌≡◌, ◌+◌, ◌<◌, ℕ, List, slice_index, slice_set};
 ghost use Rattle.std.specs.List.{concat};
-ghost use Rattle.word_store.specs.Arithmetic.{add};
+ghost use Rattle.getvec_chain.specs.WordStore.Arithmetic.{add};
 ghost use Rattle.hunk_text.specs.ReadingOn.{Reads};
 ghost use Rattle.hunk_loader.specs.Follow.{AreInside, ListsFollow, OffsetsFollow, places};
 ghost use Rattle.hunk_loader.specs.RelocatedWords.{relocated};
 
 use crate::copies::read_word;
+use getvec_chain::{Store, add, set_word_at, word_at};
 use hunk_text::{RELOCATIONS, TextBytes};
-use word_store::{Store, add, set_word_at, word_at};
 
 // Relocates the words of the hunk at the base by all relocation lists that follow. The answer is the place after them.
 pub(crate) fn relocate<X: TextBytes>(text: &X, from: u32, store: &mut Store, base: u32) -> u32

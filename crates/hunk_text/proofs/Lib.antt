@@ -12,3 +12,4 @@ pub mod Sizes
 pub mod Sound
 pub mod Spans
 pub mod TextRefusals
+pub mod Shown

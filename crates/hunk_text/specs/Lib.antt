@@ -9,3 +9,5 @@ pub mod Answers
 pub mod Canonical
 pub mod FirstError
 pub mod ReadingOn
+-- shown to the crates above
+pub use Rattle.text_reader.specs as TextReader

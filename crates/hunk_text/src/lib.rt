@@ -21,3 +21,6 @@ pub use read::read_module;
 pub use text_reader::TextEnd as HunkEnd;
 pub use texts::{SliceText, TextBytes};
 pub use tokens::{NextWord, next_word};
+
+// Shown to the crates above.
+pub use text_reader::{TextEnd, after_word, any_number, number, number_after, split_line};

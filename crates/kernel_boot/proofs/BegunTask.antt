@@ -1,33 +1,33 @@
 -- What letting a task begin leaves.
 use Rattle.std.proofs.Common.{◌≡◌, ℕ, ◌+◌, ◌%◌, Bool, true, false, List, [], ◌∷◌, ◌++◌, get_or, map, inl, inr, refl, sym, ap, ◌∙◌, subst, arith}
 use Rattle.std.proofs.lemmas.List.{append-nil}
-use Rattle.linked_list.specs.Count.{IsApart}
+use Rattle.word_store.specs.Count.{IsApart}
 use Rattle.word_store.specs.declared.registers.Regs.{Regs}
-use Rattle.owned_words.specs.Exchange.{Exchange}
-use Rattle.task_block.specs.HeldTasks.{address_with}
-use Rattle.owned_words.specs.LinkedWords.{first_of}
-use Rattle.owned_words.specs.Owned.{Holds, Pairs, owners, written}
-use Rattle.owned_words.proofs.Exchanges.{exchange-none}
-use Rattle.packet_queue.specs.QueueWords.{QueuedPacket, queue_words}
-use Rattle.kernel_model.specs.ChangedStore.{IsChanged}
-use Rattle.kernel_model.specs.Changes.{change_of, with_tasks}
-use Rattle.kernel_model.specs.HoldsLists.{HoldsLists}
-use Rattle.kernel_model.specs.Lists.{Lists}
-use Rattle.kernel_model.specs.Owned.{owned}
-use Rattle.kernel_model.specs.Task.{Task, is_guest_id, queue_head, state_word, state_words, task_address, task_id, task_words}
-use Rattle.kernel_model.specs.ValidLists.{AreValid}
-use Rattle.kernel_model.specs.ValidTasks.{IsField, IsTask}
-use Rattle.kernel_model.proofs.ChainSplits.{change-between}
-use Rattle.kernel_model.proofs.ChangedLists.{exchange-owned, one_task-owned, owners-exchanged}
-use Rattle.kernel_model.proofs.OneTask.{same_task-valid}
-use Rattle.kernel_dispatch.specs.DispatchWords.{saved_words}
-use Rattle.kernel_dispatch.proofs.StateExchanges.{exchange-suspended, exchange-task}
-use Rattle.kernel_dispatch.proofs.TaskStates.{by-field}
-use Rattle.call_answers.specs.Guests.{GuestAt}
-use Rattle.call_answers.proofs.Refusals.{guest-at}
-use Rattle.call_answers.proofs.RunningTask.{there-at}
-use Rattle.kernel_model.specs.ValidQueues.{HasGuest}
-use Rattle.call_answers.proofs.GuestTask.{GuestFacts, guest-changed, guest-facts, guest-words}
+use Rattle.kernel_calls.specs.OwnedWords.Exchange.{Exchange}
+use Rattle.kernel_calls.specs.TaskBlock.HeldTasks.{address_with}
+use Rattle.kernel_calls.specs.OwnedWords.LinkedWords.{first_of}
+use Rattle.kernel_calls.specs.OwnedWords.Owned.{Holds, Pairs, owners, written}
+use Rattle.kernel_calls.proofs.Shown.OwnedWords.Exchanges.{exchange-none}
+use Rattle.kernel_calls.specs.PacketQueue.QueueWords.{QueuedPacket, queue_words}
+use Rattle.kernel_calls.specs.KernelModel.ChangedStore.{IsChanged}
+use Rattle.kernel_calls.specs.KernelModel.Changes.{change_of, with_tasks}
+use Rattle.kernel_calls.specs.KernelModel.HoldsLists.{HoldsLists}
+use Rattle.kernel_calls.specs.KernelModel.Lists.{Lists}
+use Rattle.kernel_calls.specs.KernelModel.Owned.{owned}
+use Rattle.kernel_calls.specs.KernelModel.Task.{Task, is_guest_id, queue_head, state_word, state_words, task_address, task_id, task_words}
+use Rattle.kernel_calls.specs.KernelModel.ValidLists.{AreValid}
+use Rattle.kernel_calls.specs.KernelModel.ValidTasks.{IsField, IsTask}
+use Rattle.kernel_calls.proofs.Shown.KernelModel.ChainSplits.{change-between}
+use Rattle.kernel_calls.proofs.Shown.KernelModel.ChangedLists.{exchange-owned, one_task-owned, owners-exchanged}
+use Rattle.kernel_calls.proofs.Shown.KernelModel.OneTask.{same_task-valid}
+use Rattle.kernel_calls.specs.KernelDispatch.DispatchWords.{saved_words}
+use Rattle.kernel_calls.proofs.Shown.KernelDispatch.StateExchanges.{exchange-suspended, exchange-task}
+use Rattle.kernel_calls.proofs.Shown.KernelDispatch.TaskStates.{by-field}
+use Rattle.kernel_calls.specs.CallAnswers.Guests.{GuestAt}
+use Rattle.kernel_calls.proofs.Shown.CallAnswers.Refusals.{guest-at}
+use Rattle.kernel_calls.proofs.Shown.CallAnswers.RunningTask.{there-at}
+use Rattle.kernel_calls.specs.KernelModel.ValidQueues.{HasGuest}
+use Rattle.kernel_calls.proofs.Shown.CallAnswers.GuestTask.{GuestFacts, guest-changed, guest-facts, guest-words}
 use Rattle.kernel_boot.specs.BegunTask.{begin_regs, begun, with_begun}
 
 -- the two bits of a state stay

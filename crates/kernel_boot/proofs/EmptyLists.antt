@@ -4,16 +4,16 @@ use Rattle.std.proofs.lemmas.Bool.{cases_eq, cases_lt}
 use Rattle.std.proofs.lemmas.List.{length-replicate}
 use Rattle.std.specs.Prelude.{IsTrue}
 use Rattle.std.specs.List.{range_with_len}
-use Rattle.linked_list.specs.Count.{hit, times}
-use Rattle.linked_list.proofs.Counts.{hit-le, hit-other, range-apart, times-above, times-within}
-use Rattle.owned_words.specs.Owned.{owners, written}
-use Rattle.owned_words.proofs.OwnedWords.{length-written, written-other}
-use Rattle.session_text.specs.Ranges.{IsVersion, is_period, is_store_size}
-use Rattle.kernel_model.specs.ChangedStore.{IsChanged}
-use Rattle.kernel_model.specs.HoldsLists.{HoldsLists}
-use Rattle.kernel_model.specs.Owned.{OwnsApart, owned}
-use Rattle.kernel_model.specs.ValidLists.{AreValid}
-use Rattle.kernel_model.proofs.RootCounts.{owners-nodes}
+use Rattle.word_store.specs.Count.{hit, times}
+use Rattle.word_store.proofs.Counts.{hit-le, hit-other, range-apart, times-above, times-within}
+use Rattle.kernel_calls.specs.OwnedWords.Owned.{owners, written}
+use Rattle.kernel_calls.proofs.Shown.OwnedWords.OwnedWords.{length-written, written-other}
+use Rattle.kernel_calls.specs.KernelModel.Ranges.{IsVersion, is_period, is_store_size}
+use Rattle.kernel_calls.specs.KernelModel.ChangedStore.{IsChanged}
+use Rattle.kernel_calls.specs.KernelModel.HoldsLists.{HoldsLists}
+use Rattle.kernel_calls.specs.KernelModel.Owned.{OwnsApart, owned}
+use Rattle.kernel_calls.specs.KernelModel.ValidLists.{AreValid}
+use Rattle.kernel_calls.proofs.Shown.KernelModel.RootCounts.{owners-nodes}
 use Rattle.kernel_boot.specs.EmptyKernel.{empty_lists}
 use Rattle.kernel_boot.proofs.EmptyWords.{holds-empty, pairs}
 use Rattle.kernel_boot.proofs.StoreSizes.{size-even, size-low}

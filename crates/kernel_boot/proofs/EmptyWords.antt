@@ -1,19 +1,19 @@
 -- The words of a kernel without tasks, modules and packets.
 use Rattle.std.proofs.Common.{◌≡◌, ◌≢◌, ℕ, zero, suc, ◌+◌, ◌-◌, ◌<◌, ◌≤◌, List, [], ◌∷◌, ◌++◌, length, get_or, replicate, set, refl, ap, ◌∙◌, arith, get_or-set_other, get_or-set_same}
 use Rattle.std.proofs.lemmas.List.{get_or-replicate, length-replicate}
-use Rattle.linked_list.specs.Count.{hit}
-use Rattle.linked_list.proofs.Counts.{hit-other, hit-same}
-use Rattle.owned_words.specs.Owned.{Holds, Pairs, owners, row_from, written}
-use Rattle.owned_words.proofs.OwnedWords.{Holds-append, length-written, written-other}
-use Rattle.getvec_chain.specs.Make.{made_store}
-use Rattle.task_block.specs.ChainWords.{entries}
-use Rattle.kernel_model.specs.Owned.{owned}
-use Rattle.kernel_model.specs.Root.{root_words}
-use Rattle.kernel_model.specs.Task.{filled}
-use Rattle.kernel_model.specs.Versions.{highest_id_of}
+use Rattle.word_store.specs.Count.{hit}
+use Rattle.word_store.proofs.Counts.{hit-other, hit-same}
+use Rattle.kernel_calls.specs.OwnedWords.Owned.{Holds, Pairs, owners, row_from, written}
+use Rattle.kernel_calls.proofs.Shown.OwnedWords.OwnedWords.{Holds-append, length-written, written-other}
+use Rattle.kernel_calls.specs.GetvecChain.Make.{made_store}
+use Rattle.kernel_calls.specs.TaskBlock.ChainWords.{entries}
+use Rattle.kernel_calls.specs.KernelModel.Owned.{owned}
+use Rattle.kernel_calls.specs.KernelModel.Root.{root_words}
+use Rattle.kernel_calls.specs.KernelModel.Task.{filled}
+use Rattle.kernel_calls.specs.KernelModel.Versions.{highest_id_of}
 use Rattle.kernel_boot.specs.BootWords.{root_pairs}
 use Rattle.kernel_boot.specs.EmptyKernel.{empty_lists}
-use Rattle.kernel_model.proofs.RootCounts.{highest-high}
+use Rattle.kernel_calls.proofs.Shown.KernelModel.RootCounts.{highest-high}
 
 -- what was written stands, where it was not written over
 written-here : (front : Pairs) (b w : ℕ) (back : Pairs) (s : List ℕ) → owners b front ≡ 0 → b < length s → get_or (written (front ++ (b, w) ∷ back) s) b 0 ≡ w

@@ -4,7 +4,7 @@ use Rattle.std.specs.List.{find, list_any}
 use Rattle.std.specs.Option.{is_some, option_map}
 use Rattle.ram_disc.specs.Disc.{Disc, File, has_file, has_name, most_files}
 use Rattle.ram_disc.specs.DiscCalls.{Outcome, after_close, after_open_write, has_room, size_of, unless_refused, with_bytes}
-use Rattle.call_answers.specs.Refusals.{first_refusal}
+use Rattle.kernel_calls.specs.CallAnswers.Refusals.{first_refusal}
 use Rattle.kernel_boot.specs.BootFiles.{HasNoStreams, IsNewDisc, disc_or_code, with_new_file, writing}
 
 -- a file that is looked up is there, or not

@@ -4,21 +4,21 @@ use Rattle.std.proofs.lemmas.Bool.{and_parts, cases_eq, cases_lt, eqb-true, leb-
 use Rattle.std.proofs.lemmas.List.{length-replicate}
 use Rattle.std.specs.Prelude.{IsTrue, ◌==◌, ◌&&◌, ◌||◌, nat_le, nat_lt}
 use Rattle.std.specs.List.{range_with_len}
-use Rattle.linked_list.specs.Count.{hit, times}
-use Rattle.linked_list.proofs.Counts.{hit-le, hit-other, hit-same, range-apart, times-above, times-below, times-within}
-use Rattle.owned_words.specs.LinkedWords.{linked_words}
-use Rattle.owned_words.specs.Owned.{Pairs, owners, written}
-use Rattle.owned_words.proofs.OwnedWords.{length-written, owners-append, written-other}
-use Rattle.session_text.specs.Ranges.{IsVersion, is_period, is_store_size}
-use Rattle.kernel_model.specs.ChangedStore.{IsChanged}
-use Rattle.kernel_model.specs.HoldsLists.{HoldsLists}
-use Rattle.kernel_model.specs.Lists.{Lists}
-use Rattle.kernel_model.specs.Owned.{owned}
-use Rattle.kernel_model.specs.Task.{Task, task_address, task_words}
-use Rattle.kernel_model.specs.ValidLists.{AreValid}
-use Rattle.kernel_model.proofs.CutRanges.{times-cut}
-use Rattle.kernel_model.proofs.RootCounts.{owners-nodes}
-use Rattle.kernel_model.proofs.TaskCounts.{owners-task_by}
+use Rattle.word_store.specs.Count.{hit, times}
+use Rattle.word_store.proofs.Counts.{hit-le, hit-other, hit-same, range-apart, times-above, times-below, times-within}
+use Rattle.kernel_calls.specs.OwnedWords.LinkedWords.{linked_words}
+use Rattle.kernel_calls.specs.OwnedWords.Owned.{Pairs, owners, written}
+use Rattle.kernel_calls.proofs.Shown.OwnedWords.OwnedWords.{length-written, owners-append, written-other}
+use Rattle.kernel_calls.specs.KernelModel.Ranges.{IsVersion, is_period, is_store_size}
+use Rattle.kernel_calls.specs.KernelModel.ChangedStore.{IsChanged}
+use Rattle.kernel_calls.specs.KernelModel.HoldsLists.{HoldsLists}
+use Rattle.kernel_calls.specs.KernelModel.Lists.{Lists}
+use Rattle.kernel_calls.specs.KernelModel.Owned.{owned}
+use Rattle.kernel_calls.specs.KernelModel.Task.{Task, task_address, task_words}
+use Rattle.kernel_calls.specs.KernelModel.ValidLists.{AreValid}
+use Rattle.kernel_calls.proofs.Shown.KernelModel.CutRanges.{times-cut}
+use Rattle.kernel_calls.proofs.Shown.KernelModel.RootCounts.{owners-nodes}
+use Rattle.kernel_calls.proofs.Shown.KernelModel.TaskCounts.{owners-task_by}
 use Rattle.kernel_boot.specs.BootWords.{resident_pairs}
 use Rattle.kernel_boot.specs.ResidentKernel.{console, fault_reporter, files, resident_block_size, resident_lists, shell}
 use Rattle.kernel_boot.proofs.ResidentRules.{residents-coroutines, residents-numbers, residents-queues, residents-tasks, residents-tile}

@@ -7,23 +7,24 @@ use Rattle.std.proofs.lemmas.Bool.{eq-eqb, ne_eqb}
 use Rattle.std.proofs.lemmas.List.{length-append}
 use Rattle.hunk_text.specs.ModuleOfText.{Refusal, module_of}
 use Rattle.hunk_text.specs.declared.modules.Module.{Module}
-use Rattle.linked_list.specs.Places.{insert_after}
+use Rattle.kernel_calls.specs.LinkedList.Places.{insert_after}
 use Rattle.ram_disc.specs.Disc.{Disc, file_named}
 use Rattle.ram_disc.proofs.NameOrder.{all-get_or}
 use Rattle.session_text.specs.declared.sessions.SessionLine.{SessionLine}
-use Rattle.kernel_model.specs.ValidQueues.{HasGuest}
+use Rattle.kernel_calls.specs.KernelModel.ValidQueues.{HasGuest}
 use Rattle.session_text.specs.declared.sessions.LineForm.{LineForm}
 use Rattle.session_text.specs.declared.sessions.LineForm.TheVariants.{Code, File, Task}
-use Rattle.kernel_model.specs.Lists.{Lists, has_task}
-use Rattle.kernel_model.specs.Task.{Task as TaskRecord, is_guest_id}
-use Rattle.kernel_model.specs.Versions.{highest_id_of, most_modules_of}
-use Rattle.call_answers.specs.Made.{Made, by_refusal}
-use Rattle.call_answers.specs.Guests.{IsGuestOf}
-use Rattle.call_answers.specs.Refusals.{first_refusal}
-use Rattle.call_answers.proofs.Refusals.{high-guest}
-use Rattle.module_calls.specs.LoadModule.{load_tests}
-use Rattle.task_calls.specs.CreateTask.{MayCreate, create_task, creation_tests, free_id, new_task, number_of, with_created}
-use Rattle.kernel_boot.specs.BootTasks.{AreBootLines, IsBootForm, MayStart, Standing, begin_it, create_it, left_with, load_bytes, load_named, load_names, load_text, on_answer, standing, start_form}
+use Rattle.kernel_calls.specs.KernelModel.Lists.{Lists, has_task}
+use Rattle.kernel_calls.specs.KernelModel.Task.{Task as TaskRecord, is_guest_id}
+use Rattle.kernel_calls.specs.KernelModel.Versions.{highest_id_of, most_modules_of}
+use Rattle.kernel_calls.specs.CallAnswers.Made.{Made, by_refusal}
+use Rattle.kernel_calls.specs.CallAnswers.Guests.{IsGuestOf}
+use Rattle.kernel_calls.specs.CallAnswers.Refusals.{first_refusal}
+use Rattle.kernel_calls.proofs.Shown.CallAnswers.Refusals.{high-guest}
+use Rattle.kernel_calls.specs.ModuleCalls.LoadModule.{load_tests}
+use Rattle.kernel_calls.specs.TaskCalls.CreateTask.{MayCreate, create_task, creation_tests, free_id, new_task, number_of, with_created}
+use Rattle.kernel_boot.specs.BootTasks.{AreBootLines, IsBootForm, MayStart, begin_it, create_it, load_bytes, load_named, load_names, load_text, on_answer, start_form}
+use Rattle.kernel_calls.specs.KernelModel.Standing.{Standing, left_with, standing}
 
 -- ---- loading
 

@@ -5,7 +5,7 @@ use Rattle.ram_disc.specs.DiscCalls.{file, has_room, with_bytes, with_file, writ
 use Rattle.session_text.specs.declared.sessions.LineForm.{LineForm}
 use Rattle.session_text.specs.declared.sessions.LineForm.TheVariants.{Code, File as FileForm, Task}
 use Rattle.session_text.specs.declared.sessions.SessionLine.{SessionLine}
-use Rattle.call_answers.specs.Refusals.{first_refusal}
+use Rattle.kernel_calls.specs.CallAnswers.Refusals.{first_refusal}
 use Rattle.kernel_boot.specs.declared.refusals.BootRefusal.{BootRefusal}
 
 -- ---- lines

@@ -5,35 +5,22 @@ use Rattle.std.specs.Option.{option_map}
 use Rattle.arrayvec.specs.ArrayVec.{ArrayVec}
 use Rattle.hunk_text.specs.ModuleOfText.{Refusal, module_of}
 use Rattle.hunk_text.specs.declared.modules.Module.{Module}
-use Rattle.owned_words.specs.Owned.{Pairs, written}
 use Rattle.ram_disc.specs.Disc.{Disc, file_named}
 use Rattle.session_text.specs.declared.sessions.LineForm.{LineForm}
 use Rattle.session_text.specs.declared.sessions.LineForm.TheVariants.{Code, File, Task}
 use Rattle.session_text.specs.declared.sessions.SessionLine.{SessionLine}
-use Rattle.kernel_model.specs.ChangedStore.{HasKeeper}
-use Rattle.kernel_model.specs.Lists.{Lists, has_task}
-use Rattle.kernel_model.specs.Owned.{owned}
-use Rattle.kernel_model.specs.Versions.{highest_id_of, most_modules_of}
-use Rattle.call_answers.specs.Made.{Made, refused}
-use Rattle.module_calls.specs.LoadModule.{load_module}
-use Rattle.task_calls.specs.CreateTask.{create_task}
+use Rattle.kernel_calls.specs.KernelModel.ChangedStore.{HasKeeper}
+use Rattle.kernel_calls.specs.KernelModel.Lists.{Lists, has_task}
+use Rattle.kernel_calls.specs.KernelModel.Standing.{Standing, left_with, standing}
+use Rattle.kernel_calls.specs.KernelModel.Versions.{highest_id_of, most_modules_of}
+use Rattle.kernel_calls.specs.CallAnswers.Made.{Made, refused}
+use Rattle.kernel_calls.specs.ModuleCalls.LoadModule.{load_module}
+use Rattle.kernel_calls.specs.TaskCalls.CreateTask.{create_task}
 use Rattle.kernel_boot.specs.BegunTask.{with_begun}
 use Rattle.kernel_boot.specs.BootFiles.{at_line}
 use Rattle.kernel_boot.specs.declared.refusals.BootRefusal.{BootRefusal}
 
--- ---- the store and the lists, call after call
-
--- the words of a store, and the lists that it holds
-pub record Standing : Type 0 where
-  pub words : List ℕ
-  pub lists : Lists
-
-abbrev pub standing : List ℕ → Lists → Standing
-standing words l = record { words = words; lists = l }
-
--- once the store holds these lists, and these plain words were written, no others have changed besides
-abbrev pub left_with : List ℕ → Lists → Pairs → Standing
-left_with words l plain = standing (written (owned l) (written plain words)) l
+-- ---- call after call
 
 -- with its answer a call is followed by more
 abbrev pub on_answer : {A : Type 0} → Result ℕ ℕ → Standing → (ℕ → Standing → Result A ℕ) → Result A ℕ

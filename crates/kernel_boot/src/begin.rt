@@ -1,15 +1,14 @@
 // A task that is to begin.
 ghost use Rattle.std.specs.Prelude.{◌≡◌, ◌%◌, ◌+◌, []};
-ghost use Rattle.owned_words.specs.Owned.{written};
-ghost use Rattle.kernel_model.specs.ChangedStore.{IsChanged};
-ghost use Rattle.kernel_model.specs.HoldsLists.{HoldsLists};
-ghost use Rattle.kernel_model.specs.Lists.{Lists};
-ghost use Rattle.kernel_model.specs.ValidQueues.{HasGuest};
-ghost use Rattle.kernel_dispatch.specs.DispatchWords.{saved_words};
+ghost use Rattle.kernel_calls.specs.OwnedWords.Owned.{written};
+ghost use Rattle.kernel_calls.specs.KernelModel.ChangedStore.{IsChanged};
+ghost use Rattle.kernel_calls.specs.KernelModel.HoldsLists.{HoldsLists};
+ghost use Rattle.kernel_calls.specs.KernelModel.Lists.{Lists};
+ghost use Rattle.kernel_calls.specs.KernelModel.ValidQueues.{HasGuest};
+ghost use Rattle.kernel_calls.specs.KernelDispatch.DispatchWords.{saved_words};
 ghost use Rattle.kernel_boot.specs.BegunTask.{with_begun};
 
-use call_answers::guest;
-use task_block::{TcbField, field, set_field};
+use kernel_calls::{TcbField, field, guest, set_field};
 use word_store::{Regs, Store, word_at};
 
 /// The state of a task that was interrupted, which neither is held nor has packets.

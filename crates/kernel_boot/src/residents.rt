@@ -1,15 +1,13 @@
 // A kernel with residents.
 ghost use Rattle.std.specs.Prelude.{◌≡◌, ◌≤◌, ◌+◌, [], IsTrue, if◌then◌else◌, length, replicate};
-ghost use Rattle.owned_words.specs.Owned.{written};
-ghost use Rattle.session_text.specs.Ranges.{IsVersion, is_period, is_store_size};
-ghost use Rattle.kernel_model.specs.ChangedStore.{IsChanged};
-ghost use Rattle.kernel_boot.specs.BootWords.{block_pairs, chain_pairs, fault_pairs, key_pairs};
-ghost use Rattle.kernel_boot.specs.BootWords.{reporter_pairs, shell_pairs, waiting_pairs};
+ghost use Rattle.kernel_calls.specs.OwnedWords.Owned.{written};
+ghost use Rattle.kernel_calls.specs.KernelModel.Ranges.{IsVersion, is_period, is_store_size};
+ghost use Rattle.kernel_calls.specs.KernelModel.ChangedStore.{IsChanged};
+ghost use Rattle.kernel_boot.specs.BootWords.{block_pairs, chain_pairs, fault_pairs, key_pairs, reporter_pairs, shell_pairs, waiting_pairs};
 ghost use Rattle.kernel_boot.specs.ResidentKernel.{resident_block_size, resident_lists};
 
 use crate::start::{TABLE, write_root};
-use getvec_chain::FIRST_BLOCK;
-use task_block::{RootField, TcbField, set_field, set_root};
+use kernel_calls::{FIRST_BLOCK, RootField, TcbField, set_field, set_root};
 use word_store::Store;
 
 /// A resident: its number, the address of its task block, and its priority.

@@ -1,14 +1,13 @@
 // A kernel without tasks, modules and packets.
 ghost use Rattle.std.specs.Prelude.{◌≡◌, IsTrue, [], length, replicate};
-ghost use Rattle.owned_words.specs.Owned.{written};
-ghost use Rattle.session_text.specs.Ranges.{IsVersion, is_period, is_store_size};
-ghost use Rattle.kernel_model.specs.ChangedStore.{IsChanged};
-ghost use Rattle.kernel_model.specs.Versions.{highest_id_of};
+ghost use Rattle.kernel_calls.specs.OwnedWords.Owned.{written};
+ghost use Rattle.kernel_calls.specs.KernelModel.Ranges.{IsVersion, is_period, is_store_size};
+ghost use Rattle.kernel_calls.specs.KernelModel.ChangedStore.{IsChanged};
+ghost use Rattle.kernel_calls.specs.KernelModel.Versions.{highest_id_of};
 ghost use Rattle.kernel_boot.specs.BootWords.{root_pairs};
 ghost use Rattle.kernel_boot.specs.EmptyKernel.{empty_lists};
 
-use getvec_chain::{FIRST_BLOCK, make};
-use task_block::{RootField, set_root};
+use kernel_calls::{FIRST_BLOCK, RootField, make, set_root};
 use word_store::Store;
 
 /// Where the task table begins; its first word has the highest number of a task.

@@ -1,18 +1,16 @@
 // The tasks of a session.
 ghost use Rattle.std.specs.Prelude.{◌≡◌, ◌≤◌, length, []};
-ghost use Rattle.kernel_model.specs.ChangedStore.{HasKeeper};
-ghost use Rattle.kernel_model.specs.Lists.{Lists};
-ghost use Rattle.call_answers.specs.Made.{IsMade};
-ghost use Rattle.kernel_boot.specs.BootTasks.{AreBootLines, AreLoaded, IsBootForm, IsLeft, MayStart, load_named, load_names, start_form, start_task, start_tasks, standing};
+ghost use Rattle.kernel_calls.specs.KernelModel.ChangedStore.{HasKeeper};
+ghost use Rattle.kernel_calls.specs.KernelModel.Lists.{Lists};
+ghost use Rattle.kernel_calls.specs.CallAnswers.Made.{IsMade};
+ghost use Rattle.kernel_boot.specs.BootTasks.{AreBootLines, AreLoaded, IsBootForm, IsLeft, MayStart, load_named, load_names, start_form, start_task, start_tasks};
+ghost use Rattle.kernel_calls.specs.KernelModel.Standing.{standing};
 
 use crate::{BootRefusal, begin_task};
 use arrayvec::ArrayVec;
-use call_answers::guest;
-use module_calls::load_module;
+use kernel_calls::{KindKeeper, create_task_of, guest, load_module};
 use ram_disc::{Disc, Name};
 use session_text::{LineForm, SessionLine};
-use task_calls::create_task_of;
-use word_kinds::KindKeeper;
 use word_store::Store;
 
 /// A task has the number already.

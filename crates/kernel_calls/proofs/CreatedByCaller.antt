@@ -1,11 +1,11 @@
 -- A task may be created by the one that calls.
 use Rattle.std.proofs.Common.{◌≤◌, ℕ, List, [], ◌∷◌, cond, eqb, true, false, inl, refl, subst, arith}
-use Rattle.kernel_model.specs.HoldsLists.{HoldsLists}
-use Rattle.kernel_model.specs.Lists.{Lists}
-use Rattle.kernel_model.specs.ValidTasks.{IsGuest}
-use Rattle.kernel_model.specs.Versions.{highest_id_of, most_modules_of}
-use Rattle.call_answers.specs.Guests.{GuestAt}
-use Rattle.call_answers.proofs.GuestTask.{guest-facts}
+use Rattle.task_calls.specs.KernelDispatch.KernelModel.HoldsLists.{HoldsLists}
+use Rattle.task_calls.specs.KernelDispatch.KernelModel.Lists.{Lists}
+use Rattle.task_calls.specs.KernelDispatch.KernelModel.ValidTasks.{IsGuest}
+use Rattle.task_calls.specs.KernelDispatch.KernelModel.Versions.{highest_id_of, most_modules_of}
+use Rattle.task_calls.specs.CallAnswers.Guests.{GuestAt}
+use Rattle.task_calls.proofs.Shown.CallAnswers.GuestTask.{guest-facts}
 use Rattle.task_calls.specs.CreateTask.{MayCreate}
 
 some-module : (version : ℕ) → 1 ≤ most_modules_of version

@@ -1,3 +1,4 @@
 pub mod SilentCalls
 pub mod CalledAnswers
 pub mod CreatedByCaller
+pub mod Shown

@@ -1,18 +1,18 @@
 -- Calls that note no event.
 use Rattle.std.proofs.Common.{◌≡◌, ℕ, ◌+◌, ◌++◌, List, [], ◌∷◌, Bool, true, false, cond, eqb, Option, Some, None, Ok, refl}
 use Rattle.std.specs.Prelude.{unwrap_or}
-use Rattle.hunk_loader.specs.Globals.{globals_in}
-use Rattle.kernel_model.specs.Changes.{with_task}
-use Rattle.kernel_model.specs.Lists.{Lists}
-use Rattle.call_answers.specs.Guests.{guest_tests}
-use Rattle.call_answers.specs.Made.{Made, by_refusal, done, unless_refused}
-use Rattle.call_answers.specs.Refusals.{first_refusal}
-use Rattle.block_calls.specs.FreeStore.{data_taken, with_taken}
-use Rattle.block_calls.specs.Freevec.{freevec, freevec_tests, with_given}
-use Rattle.block_calls.specs.Getvec.{getvec, getvec_tests}
+use Rattle.task_calls.specs.KernelDispatch.HunkLoader.Globals.{globals_in}
+use Rattle.task_calls.specs.KernelDispatch.KernelModel.Changes.{with_task}
+use Rattle.task_calls.specs.KernelDispatch.KernelModel.Lists.{Lists}
+use Rattle.task_calls.specs.CallAnswers.Guests.{guest_tests}
+use Rattle.task_calls.specs.CallAnswers.Made.{Made, by_refusal, done, unless_refused}
+use Rattle.task_calls.specs.CallAnswers.Refusals.{first_refusal}
+use Rattle.task_calls.specs.BlockCalls.FreeStore.{data_taken, with_taken}
+use Rattle.task_calls.specs.BlockCalls.Freevec.{freevec, freevec_tests, with_given}
+use Rattle.task_calls.specs.BlockCalls.Getvec.{getvec, getvec_tests}
 use Rattle.coroutine_calls.specs.CreateCo.{create_tests, created, createco}
 use Rattle.coroutine_calls.specs.DeleteCo.{delete_tests, deleteco, with_deleted_at}
-use Rattle.coroutines.specs.Creation.{highest}
+use Rattle.task_calls.specs.KernelDispatch.Coroutines.Creation.{highest}
 use Rattle.module_calls.specs.AddModule.{add_module, addition_tests, global_words, globals_of_task, modules_so_far, task_of, with_further}
 use Rattle.module_calls.specs.UnloadModule.{unload_module, unload_tests, without_module}
 use Rattle.task_calls.specs.ChangePri.{change_pri, priority_tests, with_new_priority}

@@ -2,18 +2,18 @@
 use Rattle.std.specs.Prelude.{◌≡◌, ℕ, ◌%◌, List, [], ◌∷◌, ◌++◌, Result, Ok, Err}
 use Rattle.word_store.specs.Arithmetic.{add, mul_div}
 use Rattle.word_store.specs.declared.registers.Regs.{Regs}
-use Rattle.owned_words.specs.Owned.{Pairs}
-use Rattle.packet_queue.specs.QueueWords.{QueuedPacket}
-use Rattle.packet_queue.specs.declared.events.KernelEvent.{KernelEvent}
-use Rattle.kernel_model.specs.ChangedStore.{IsChanged, Knows}
-use Rattle.kernel_model.specs.Changes.{queue_of}
-use Rattle.kernel_model.specs.Lists.{Lists}
-use Rattle.kernel_model.specs.NotedEvents.{NotesAll}
-use Rattle.kernel_model.specs.ValidQueues.Place.{Work}
-use Rattle.call_answers.specs.Made.{Made, minus_one}
-use Rattle.call_answers.specs.Outside.{Outside}
-use Rattle.block_calls.specs.Freevec.{freevec}
-use Rattle.block_calls.specs.Getvec.{getvec}
+use Rattle.task_calls.specs.KernelDispatch.OwnedWords.Owned.{Pairs}
+use Rattle.task_calls.specs.KernelDispatch.PacketQueue.QueueWords.{QueuedPacket}
+use Rattle.task_calls.specs.KernelDispatch.PacketQueue.declared.events.KernelEvent.{KernelEvent}
+use Rattle.task_calls.specs.KernelDispatch.KernelModel.ChangedStore.{IsChanged, Knows}
+use Rattle.task_calls.specs.KernelDispatch.KernelModel.Changes.{queue_of}
+use Rattle.task_calls.specs.KernelDispatch.KernelModel.Lists.{Lists}
+use Rattle.task_calls.specs.KernelDispatch.KernelModel.NotedEvents.{NotesAll}
+use Rattle.task_calls.specs.KernelDispatch.KernelModel.ValidQueues.Place.{Work}
+use Rattle.task_calls.specs.CallAnswers.Made.{Made, minus_one}
+use Rattle.task_calls.specs.CallAnswers.Outside.{Outside}
+use Rattle.task_calls.specs.BlockCalls.Freevec.{freevec}
+use Rattle.task_calls.specs.BlockCalls.Getvec.{getvec}
 use Rattle.module_calls.specs.AddModule.{add_module}
 use Rattle.module_calls.specs.UnloadModule.{unload_module}
 use Rattle.packet_calls.specs.Dqpkt.{dqpkt}

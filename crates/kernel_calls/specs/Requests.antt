@@ -2,9 +2,9 @@
 use Rattle.std.specs.Prelude.{ℕ, ◌+◌, ◌==◌, ◌&&◌, if◌then◌else◌, List, Option, Some, None, Result, Ok, Err, slice_get, slice_index}
 use Rattle.word_store.specs.Arithmetic.{add}
 use Rattle.word_store.specs.declared.registers.Regs.{Regs}
-use Rattle.cint_decode.specs.Steps.{◌>>=◌}
-use Rattle.task_block.specs.RootWords.{root_address}
-use Rattle.task_block.specs.declared.roots.RootField.TheVariants.{Version}
+use Rattle.hunk_text.specs.TextReader.Steps.{◌>>=◌}
+use Rattle.task_calls.specs.KernelDispatch.TaskBlock.RootWords.{root_address}
+use Rattle.task_calls.specs.KernelDispatch.TaskBlock.declared.roots.RootField.TheVariants.{Version}
 use Rattle.kernel_calls.specs.declared.requests.CallOutcome.{CallOutcome}
 use Rattle.kernel_calls.specs.declared.requests.CallOutcome.TheVariants.{Outside, Unknown}
 use Rattle.kernel_calls.specs.declared.requests.KernelCall.{KernelCall}

@@ -1,26 +1,23 @@
 // The kernel call that the running guest makes.
 ghost use Rattle.std.specs.Prelude.{◌≡◌, ◌<◌, ◌∷◌, Ok, [], length};
-ghost use Rattle.kernel_model.specs.ChangedStore.{HasKeeper};
-ghost use Rattle.kernel_model.specs.Lists.{Lists};
-ghost use Rattle.call_answers.specs.Callers.{HasCaller};
-ghost use Rattle.call_answers.specs.Made.{IsMade, plain_answer};
+ghost use Rattle.task_calls.specs.KernelDispatch.KernelModel.ChangedStore.{HasKeeper};
+ghost use Rattle.task_calls.specs.KernelDispatch.KernelModel.Lists.{Lists};
+ghost use Rattle.task_calls.specs.CallAnswers.Callers.{HasCaller};
+ghost use Rattle.task_calls.specs.CallAnswers.Made.{IsMade, plain_answer};
 ghost use Rattle.task_calls.specs.CreateTask.{create_task};
-ghost use Rattle.call_answers.specs.Outside.{outside};
+ghost use Rattle.task_calls.specs.CallAnswers.Outside.{outside};
 ghost use Rattle.kernel_calls.specs.Calls.{IsCalled, answered, kernel_call, made, regs_of_switch};
 
 use crate::requests::{CallOutcome, KernelCall, read_call};
-use block_calls::{freevec, getvec};
-use call_answers::caller;
 use coroutine_calls::{callco, cowait, createco, deleteco, resumeco};
 use module_calls::{add_module, unload_module};
 use packet_calls::{dqpkt, qpkt, taskwait};
-use packet_queue::EventLog;
-use task_block::{TcbField, field};
+use task_calls::kernel_dispatch::{EventLog, KindKeeper, TcbField, field};
 use task_calls::{
-    change_pri, create_task, delete_task, hold_task, release_task, set_flags, test_flags,
+    caller, change_pri, create_task, delete_task, freevec, getvec, hold_task, release_task,
+    set_flags, test_flags,
 };
 use tp_io::Output;
-use word_kinds::KindKeeper;
 use word_store::{Regs, Store, add, mul_div};
 
 /// Makes the call that the running guest asks for: its number is the word P!3, and its arguments follow. An accepted call sets A

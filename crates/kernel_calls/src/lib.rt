@@ -6,3 +6,20 @@ pub mod requests;
 
 pub use calls::call;
 pub use requests::{CallOutcome, KernelCall};
+
+// Shown to the crates above.
+pub use coroutine_calls::ended;
+pub use module_calls::{load_module, unload_module};
+pub use packet_calls::events::{accepted, taken};
+pub use packet_calls::packets::{PACKET_WORDS, send};
+pub use packet_calls::queues::{first, has_packet, unqueue};
+pub use packet_calls::{Device, Queue, reply, return_first, send_own};
+pub use task_calls::kernel_dispatch::{
+    ByteKinds, EventLog, FIRST_BLOCK, KernelEvent, KindKeeper, ListLog, NO_QUEUE, NoLog, RootField,
+    SinkLog, Stop, TcbField, are_unowned, field, find, free_id, highest_id, make, root, set_field,
+    set_root, switch, tasks,
+};
+pub use task_calls::{
+    caller, change_pri, create_task, create_task_of, delete_task, guest, hold_task, numbers,
+    release_task, set_flags,
+};

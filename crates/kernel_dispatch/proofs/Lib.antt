@@ -10,3 +10,4 @@ pub mod ResumedTask
 pub mod NextRegisters
 pub mod WholeDispatch
 pub mod NobodyRuns
+pub mod Shown

@@ -4,28 +4,28 @@ use Rattle.std.specs.List.{AllByRecursion}
 use Rattle.std.specs.Prelude.{not}
 use Rattle.std.proofs.lemmas.Bool.{and_parts, eq-eqb, eqb-true, ne_eqb}
 use Rattle.word_store.specs.declared.registers.Regs.{Regs}
-use Rattle.owned_words.specs.LinkedWords.{first_of}
-use Rattle.owned_words.specs.Owned.{written}
-use Rattle.packet_queue.specs.QueueWords.{QueuedPacket, address_of}
-use Rattle.packet_queue.specs.declared.events.KernelEvent.{KernelEvent}
-use Rattle.task_block.specs.TaskChain.{id_in}
-use Rattle.task_block.specs.HeldTasks.{address_with}
-use Rattle.linked_list.specs.Count.{IsApart}
-use Rattle.kernel_model.specs.Between.{is_ready}
-use Rattle.kernel_model.specs.ChangedStore.{HasKeeper}
-use Rattle.kernel_model.specs.Versions.{head_words_of}
-use Rattle.kernel_model.proofs.RootCounts.{head-low}
-use Rattle.kernel_model.specs.Changes.{change_of, with_task}
-use Rattle.kernel_model.specs.HoldsLists.{HoldsLists}
-use Rattle.kernel_model.specs.Lists.{Lists, address_of_task}
-use Rattle.kernel_model.specs.Task.{Task, globals_of, is_guest_id, queue_bit, stack_of, task_address, task_id, task_words}
-use Rattle.kernel_model.specs.ValidTasks.{IsField, no_regs}
-use Rattle.kernel_model.proofs.AllThings.{all-here}
-use Rattle.kernel_model.proofs.ChainSplits.{HasNumbered, IsBetween, address-between, address-none, found-between, numbered}
-use Rattle.kernel_model.proofs.EachMember.{all-each, holds-each}
-use Rattle.kernel_model.proofs.ReadCoroutines.{HoldsTask, holds-task}
-use Rattle.kernel_model.proofs.Reading.{read-lists}
-use Rattle.kernel_model.proofs.TaskPlaces.{TaskPlace, task-places, task-some}
+use Rattle.word_kinds.specs.KernelLists.OwnedWords.LinkedWords.{first_of}
+use Rattle.word_kinds.specs.KernelLists.OwnedWords.Owned.{written}
+use Rattle.word_kinds.specs.KernelLists.PacketQueue.QueueWords.{QueuedPacket, address_of}
+use Rattle.word_kinds.specs.KernelLists.PacketQueue.declared.events.KernelEvent.{KernelEvent}
+use Rattle.word_kinds.specs.KernelLists.TaskBlock.TaskChain.{id_in}
+use Rattle.word_kinds.specs.KernelLists.TaskBlock.HeldTasks.{address_with}
+use Rattle.word_store.specs.Count.{IsApart}
+use Rattle.word_kinds.specs.KernelModel.Between.{is_ready}
+use Rattle.word_kinds.specs.KernelModel.ChangedStore.{HasKeeper}
+use Rattle.word_kinds.specs.KernelModel.Versions.{head_words_of}
+use Rattle.word_kinds.proofs.Shown.KernelModel.RootCounts.{head-low}
+use Rattle.word_kinds.specs.KernelModel.Changes.{change_of, with_task}
+use Rattle.word_kinds.specs.KernelModel.HoldsLists.{HoldsLists}
+use Rattle.word_kinds.specs.KernelModel.Lists.{Lists, address_of_task}
+use Rattle.word_kinds.specs.KernelModel.Task.{Task, globals_of, is_guest_id, queue_bit, stack_of, task_address, task_id, task_words}
+use Rattle.word_kinds.specs.KernelModel.ValidTasks.{IsField, no_regs}
+use Rattle.word_kinds.proofs.Shown.KernelModel.AllThings.{all-here}
+use Rattle.word_kinds.proofs.Shown.KernelModel.ChainSplits.{HasNumbered, IsBetween, address-between, address-none, found-between, numbered}
+use Rattle.word_kinds.proofs.Shown.KernelModel.EachMember.{all-each, holds-each}
+use Rattle.word_kinds.proofs.Shown.KernelModel.ReadCoroutines.{HoldsTask, holds-task}
+use Rattle.word_kinds.proofs.Shown.KernelModel.Reading.{read-lists}
+use Rattle.word_kinds.proofs.Shown.KernelModel.TaskPlaces.{TaskPlace, task-places, task-some}
 use Rattle.kernel_dispatch.specs.Dispatch.{entry_regs, guest_regs, packets_left, packets_taken, resumed_regs, suspended, unlinked_words, with_packet_taken}
 use Rattle.kernel_dispatch.specs.DispatchWords.{entry_in, guest_regs_in, next_regs_in, running_in, saved_in}
 use Rattle.kernel_dispatch.specs.Turn.{HasTaken, IsNext}

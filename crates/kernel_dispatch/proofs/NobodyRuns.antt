@@ -3,25 +3,25 @@ use Rattle.std.proofs.Common.{◌≡◌, ℕ, ◌&&◌, Bool, true, false, Optio
 use Rattle.std.specs.List.{AllByRecursion}
 use Rattle.std.specs.Option.{option_map}
 use Rattle.std.proofs.lemmas.Bool.{eq-eqb, ne_eqb}
-use Rattle.linked_list.specs.Count.{IsApart}
+use Rattle.word_store.specs.Count.{IsApart}
 use Rattle.word_store.specs.declared.registers.Regs.{Regs}
-use Rattle.task_block.specs.HeldTasks.{address_with}
-use Rattle.packet_queue.specs.QueueWords.{QueuedPacket}
-use Rattle.packet_queue.specs.declared.events.KernelEvent.{KernelEvent}
-use Rattle.packet_queue.specs.declared.events.KernelEvent.TheVariants.{Runs}
-use Rattle.kernel_model.specs.ChangedStore.{HasKeeper, IsChanged, Knows}
-use Rattle.kernel_model.specs.Changes.{change_of}
-use Rattle.kernel_model.specs.HoldsLists.{HoldsLists}
-use Rattle.kernel_model.specs.Lists.{Lists, address_of_task}
-use Rattle.kernel_model.specs.NotedEvents.{NotesAll}
-use Rattle.kernel_model.specs.Task.{Task, state_word, task_address, task_id}
-use Rattle.kernel_model.specs.ValidTasks.{IsField, no_regs}
-use Rattle.kernel_model.proofs.AllThings.{all-here}
-use Rattle.kernel_model.proofs.ChainSplits.{HasNumbered, address-between, address-none, numbered}
-use Rattle.kernel_model.proofs.ChangedLists.{changed-none, changed-then, knows-same, running-changed}
-use Rattle.kernel_model.proofs.NotedInTurn.{notes-none}
-use Rattle.kernel_model.proofs.RunningTask.{owners-running, running-valid, with_running}
-use Rattle.kernel_model.proofs.TaskPlaces.{TaskPlace, task-places, task-some}
+use Rattle.word_kinds.specs.KernelLists.TaskBlock.HeldTasks.{address_with}
+use Rattle.word_kinds.specs.KernelLists.PacketQueue.QueueWords.{QueuedPacket}
+use Rattle.word_kinds.specs.KernelLists.PacketQueue.declared.events.KernelEvent.{KernelEvent}
+use Rattle.word_kinds.specs.KernelLists.PacketQueue.declared.events.KernelEvent.TheVariants.{Runs}
+use Rattle.word_kinds.specs.KernelModel.ChangedStore.{HasKeeper, IsChanged, Knows}
+use Rattle.word_kinds.specs.KernelModel.Changes.{change_of}
+use Rattle.word_kinds.specs.KernelModel.HoldsLists.{HoldsLists}
+use Rattle.word_kinds.specs.KernelModel.Lists.{Lists, address_of_task}
+use Rattle.word_kinds.specs.KernelModel.NotedEvents.{NotesAll}
+use Rattle.word_kinds.specs.KernelModel.Task.{Task, state_word, task_address, task_id}
+use Rattle.word_kinds.specs.KernelModel.ValidTasks.{IsField, no_regs}
+use Rattle.word_kinds.proofs.Shown.KernelModel.AllThings.{all-here}
+use Rattle.word_kinds.proofs.Shown.KernelModel.ChainSplits.{HasNumbered, address-between, address-none, numbered}
+use Rattle.word_kinds.proofs.Shown.KernelModel.ChangedLists.{changed-none, changed-then, knows-same, running-changed}
+use Rattle.word_kinds.proofs.Shown.KernelModel.NotedInTurn.{notes-none}
+use Rattle.word_kinds.proofs.Shown.KernelModel.RunningTask.{owners-running, running-valid, with_running}
+use Rattle.word_kinds.proofs.Shown.KernelModel.TaskPlaces.{TaskPlace, task-places, task-some}
 use Rattle.kernel_dispatch.specs.Dispatch.{CanDispatch, dispatched, first_ready_block, first_ready_task, goes_on, suspended, unchanged, with_next, with_nobody, with_suspended}
 use Rattle.kernel_dispatch.specs.DispatchWords.{goes_on_in, running_in, state_of, with_running_saved}
 use Rattle.kernel_dispatch.specs.Turn.{IsDispatched, IsNext}

@@ -5,17 +5,17 @@ use Rattle.std.specs.List.{AllByRecursion, list_any}
 use Rattle.std.specs.Option.{option_map, option_map_or}
 use Rattle.std.proofs.lemmas.Bool.{eq-eqb, eqb-true, ne_eqb}
 use Rattle.std.proofs.lemmas.List.{get_or-replicate}
-use Rattle.linked_list.specs.Count.{IsApart, times}
-use Rattle.linked_list.proofs.Counts.{hit-same}
-use Rattle.task_block.specs.TaskChain.{id_in, task_with, tasks_in}
-use Rattle.kernel_model.specs.Between.{is_ready}
-use Rattle.kernel_model.specs.HoldsLists.{HoldsLists}
-use Rattle.kernel_model.specs.Lists.{Lists}
-use Rattle.kernel_model.specs.ReadsLists.{ReadsLists}
-use Rattle.kernel_model.specs.Task.{Task, task_address, task_id}
-use Rattle.kernel_model.proofs.AllThings.{all-from_both}
-use Rattle.kernel_model.proofs.EachMember.{all-each}
-use Rattle.kernel_model.proofs.Reading.{read-lists}
+use Rattle.word_store.specs.Count.{IsApart, times}
+use Rattle.word_store.proofs.Counts.{hit-same}
+use Rattle.word_kinds.specs.KernelLists.TaskBlock.TaskChain.{id_in, task_with, tasks_in}
+use Rattle.word_kinds.specs.KernelModel.Between.{is_ready}
+use Rattle.word_kinds.specs.KernelModel.HoldsLists.{HoldsLists}
+use Rattle.word_kinds.specs.KernelModel.Lists.{Lists}
+use Rattle.word_kinds.specs.KernelModel.ReadsLists.{ReadsLists}
+use Rattle.word_kinds.specs.KernelModel.Task.{Task, task_address, task_id}
+use Rattle.word_kinds.proofs.Shown.KernelModel.AllThings.{all-from_both}
+use Rattle.word_kinds.proofs.Shown.KernelModel.EachMember.{all-each}
+use Rattle.word_kinds.proofs.Shown.KernelModel.Reading.{read-lists}
 use Rattle.kernel_dispatch.specs.Dispatch.{first_ready_block}
 use Rattle.kernel_dispatch.specs.ReadyTasks.{HasReady, is_in, is_ready_id, is_ready_in}
 use Rattle.kernel_dispatch.proofs.TaskStates.{TellsTask, tells-tasks}

@@ -3,10 +3,10 @@ use Rattle.std.proofs.Common.{◌≡◌, ℕ, ◌&&◌, ◌||◌, Bool, true, fa
 use Rattle.std.specs.Prelude.{find}
 use Rattle.std.specs.Option.{option_map}
 use Rattle.std.proofs.lemmas.Bool.{eqb-true}
-use Rattle.kernel_model.specs.Between.{is_ready}
-use Rattle.kernel_model.specs.Changes.{change_of}
+use Rattle.word_kinds.specs.KernelModel.Between.{is_ready}
+use Rattle.word_kinds.specs.KernelModel.Changes.{change_of}
 use Rattle.word_store.specs.declared.registers.Regs.{Regs}
-use Rattle.kernel_model.specs.Task.{Task, is_guest_id}
+use Rattle.word_kinds.specs.KernelModel.Task.{Task, is_guest_id}
 use Rattle.kernel_dispatch.specs.Dispatch.{resumed, started, suspended, takes_packet, with_packet_taken}
 
 -- ---- one task: suspended, where it ran, and resumed, where it is next

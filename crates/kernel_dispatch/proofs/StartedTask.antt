@@ -1,24 +1,24 @@
 -- A task runs.
 use Rattle.std.proofs.Common.{◌≡◌, ℕ, ◌+◌, ◌%◌, Bool, true, false, List, [], ◌∷◌, ◌++◌, set, inl, inr, refl, sym, ap, ◌∙◌, subst}
 use Rattle.std.specs.List.{AllByRecursion}
-use Rattle.owned_words.specs.Exchange.{Exchange}
-use Rattle.owned_words.specs.LinkedWords.{first_of}
-use Rattle.owned_words.specs.Owned.{Pairs, owners}
-use Rattle.owned_words.proofs.Exchanges.{exchange-none}
-use Rattle.packet_queue.specs.QueueWords.{QueuedPacket, queue_words}
-use Rattle.kernel_model.specs.ChangedStore.{IsChanged}
-use Rattle.kernel_model.specs.Changes.{with_tasks}
-use Rattle.kernel_model.specs.HoldsLists.{HoldsLists}
-use Rattle.kernel_model.specs.Lists.{Lists}
-use Rattle.kernel_model.specs.Owned.{owned}
-use Rattle.kernel_model.specs.Task.{Task, queue_head, state_word, task_address}
-use Rattle.kernel_model.specs.ValidLists.{AreValid}
-use Rattle.kernel_model.specs.ValidTasks.{CoroutinesStand, IsField, IsTask}
-use Rattle.kernel_model.proofs.AllThings.{all-here}
-use Rattle.kernel_model.proofs.ChainSplits.{address-between, has_task-between}
-use Rattle.kernel_model.proofs.ChangedLists.{changed-then, exchange-owned, one_task-owned, owners-exchanged, running-changed}
-use Rattle.kernel_model.proofs.OneTask.{same_task-valid}
-use Rattle.kernel_model.proofs.RunningTask.{owners-running, running-valid, with_running}
+use Rattle.word_kinds.specs.KernelLists.OwnedWords.Exchange.{Exchange}
+use Rattle.word_kinds.specs.KernelLists.OwnedWords.LinkedWords.{first_of}
+use Rattle.word_kinds.specs.KernelLists.OwnedWords.Owned.{Pairs, owners}
+use Rattle.word_kinds.proofs.Shown.KernelLists.OwnedWords.Exchanges.{exchange-none}
+use Rattle.word_kinds.specs.KernelLists.PacketQueue.QueueWords.{QueuedPacket, queue_words}
+use Rattle.word_kinds.specs.KernelModel.ChangedStore.{IsChanged}
+use Rattle.word_kinds.specs.KernelModel.Changes.{with_tasks}
+use Rattle.word_kinds.specs.KernelModel.HoldsLists.{HoldsLists}
+use Rattle.word_kinds.specs.KernelModel.Lists.{Lists}
+use Rattle.word_kinds.specs.KernelModel.Owned.{owned}
+use Rattle.word_kinds.specs.KernelModel.Task.{Task, queue_head, state_word, task_address}
+use Rattle.word_kinds.specs.KernelModel.ValidLists.{AreValid}
+use Rattle.word_kinds.specs.KernelModel.ValidTasks.{CoroutinesStand, IsField, IsTask}
+use Rattle.word_kinds.proofs.Shown.KernelModel.AllThings.{all-here}
+use Rattle.word_kinds.proofs.Shown.KernelModel.ChainSplits.{address-between, has_task-between}
+use Rattle.word_kinds.proofs.Shown.KernelModel.ChangedLists.{changed-then, exchange-owned, one_task-owned, owners-exchanged, running-changed}
+use Rattle.word_kinds.proofs.Shown.KernelModel.OneTask.{same_task-valid}
+use Rattle.word_kinds.proofs.Shown.KernelModel.RunningTask.{owners-running, running-valid, with_running}
 use Rattle.kernel_dispatch.specs.Dispatch.{started}
 use Rattle.kernel_dispatch.specs.DispatchWords.{state_of, with_started}
 use Rattle.kernel_dispatch.proofs.StateExchanges.{exchange-state, exchange-task}

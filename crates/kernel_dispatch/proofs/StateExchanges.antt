@@ -1,13 +1,13 @@
 -- Exchanges among the words of a task: its state, its saved registers, and its work queue.
 use Rattle.std.proofs.Common.{ℕ, ◌+◌, List, [], ◌∷◌, ◌++◌, arith}
 use Rattle.word_store.specs.declared.registers.Regs.{Regs}
-use Rattle.owned_words.specs.Exchange.{Exchange, Splits}
-use Rattle.owned_words.specs.LinkedWords.{first_of}
-use Rattle.owned_words.specs.Owned.{Pairs, row_from}
-use Rattle.owned_words.proofs.Exchanges.{exchange-both, exchange-left, exchange-right, exchange-row}
-use Rattle.packet_queue.specs.QueueWords.{QueuedPacket, queue_words}
-use Rattle.coroutines.specs.CoroutineExchanges.{words_of_coroutines}
-use Rattle.kernel_model.specs.Task.{Task, fault_words, globals_of, name_words, queue_head, stack_of, state_word, state_words, task_words}
+use Rattle.word_kinds.specs.KernelLists.OwnedWords.Exchange.{Exchange, Splits}
+use Rattle.word_kinds.specs.KernelLists.OwnedWords.LinkedWords.{first_of}
+use Rattle.word_kinds.specs.KernelLists.OwnedWords.Owned.{Pairs, row_from}
+use Rattle.word_kinds.proofs.Shown.KernelLists.OwnedWords.Exchanges.{exchange-both, exchange-left, exchange-right, exchange-row}
+use Rattle.word_kinds.specs.KernelLists.PacketQueue.QueueWords.{QueuedPacket, queue_words}
+use Rattle.word_kinds.specs.KernelLists.Coroutines.CoroutineExchanges.{words_of_coroutines}
+use Rattle.word_kinds.specs.KernelModel.Task.{Task, fault_words, globals_of, name_words, queue_head, stack_of, state_word, state_words, task_words}
 use Rattle.kernel_dispatch.specs.DispatchWords.{saved_words}
 
 -- the state and the saved registers of the words 4 to 16 of a task block

@@ -2,24 +2,24 @@
 use Rattle.std.proofs.Common.{◌≡◌, ℕ, ◌<◌, ◌≤◌, false, List, [], ◌∷◌, ◌++◌, cond, map, inl, inr, refl, sym, ap, ◌∙◌, subst, arith}
 use Rattle.std.specs.List.{AllByRecursion}
 use Rattle.std.proofs.lemmas.Bool.{eq-eqb, ne_eqb}
-use Rattle.linked_list.specs.Count.{IsApart, times}
-use Rattle.linked_list.proofs.Counts.{hit-other}
+use Rattle.word_store.specs.Count.{IsApart, times}
+use Rattle.word_store.proofs.Counts.{hit-other}
 use Rattle.word_store.specs.declared.registers.Regs.{Regs}
-use Rattle.owned_words.specs.Owned.{owners}
-use Rattle.task_block.specs.HeldTasks.{address_with}
-use Rattle.kernel_model.specs.ChangedStore.{IsChanged}
-use Rattle.kernel_model.specs.Changes.{change_of, with_tasks}
-use Rattle.kernel_model.specs.HoldsLists.{HoldsLists}
-use Rattle.kernel_model.specs.Lists.{Lists, address_of_task}
-use Rattle.kernel_model.specs.Owned.{owned}
-use Rattle.kernel_model.specs.Task.{Task, is_guest_id, task_address, task_id}
-use Rattle.kernel_model.specs.ValidTasks.{no_regs}
-use Rattle.kernel_model.proofs.AllThings.{all-here}
-use Rattle.kernel_model.proofs.ChainSplits.{HasNumbered, address-between, address-none, change-between, change-none, numbered}
-use Rattle.kernel_model.proofs.ChangedLists.{changed-none}
-use Rattle.kernel_model.proofs.EachMember.{all-each}
-use Rattle.kernel_model.proofs.OwnedParts.{holds-parts}
-use Rattle.kernel_model.proofs.TaskPlaces.{TaskPlace, task-places, task-some}
+use Rattle.word_kinds.specs.KernelLists.OwnedWords.Owned.{owners}
+use Rattle.word_kinds.specs.KernelLists.TaskBlock.HeldTasks.{address_with}
+use Rattle.word_kinds.specs.KernelModel.ChangedStore.{IsChanged}
+use Rattle.word_kinds.specs.KernelModel.Changes.{change_of, with_tasks}
+use Rattle.word_kinds.specs.KernelModel.HoldsLists.{HoldsLists}
+use Rattle.word_kinds.specs.KernelModel.Lists.{Lists, address_of_task}
+use Rattle.word_kinds.specs.KernelModel.Owned.{owned}
+use Rattle.word_kinds.specs.KernelModel.Task.{Task, is_guest_id, task_address, task_id}
+use Rattle.word_kinds.specs.KernelModel.ValidTasks.{no_regs}
+use Rattle.word_kinds.proofs.Shown.KernelModel.AllThings.{all-here}
+use Rattle.word_kinds.proofs.Shown.KernelModel.ChainSplits.{HasNumbered, address-between, address-none, change-between, change-none, numbered}
+use Rattle.word_kinds.proofs.Shown.KernelModel.ChangedLists.{changed-none}
+use Rattle.word_kinds.proofs.Shown.KernelModel.EachMember.{all-each}
+use Rattle.word_kinds.proofs.Shown.KernelModel.OwnedParts.{holds-parts}
+use Rattle.word_kinds.proofs.Shown.KernelModel.TaskPlaces.{TaskPlace, task-places, task-some}
 use Rattle.kernel_dispatch.specs.Dispatch.{suspended, with_suspended}
 use Rattle.kernel_dispatch.specs.DispatchWords.{running_in, with_running_saved, with_saved}
 use Rattle.kernel_dispatch.proofs.SuspendedTask.{changed-suspended, owners-suspended}

@@ -3,22 +3,22 @@ use Rattle.std.proofs.Common.{◌≡◌, ℕ, ◌<◌, Bool, true, false, List, 
 use Rattle.std.specs.List.{AllByRecursion}
 use Rattle.std.proofs.lemmas.List.{append-nil}
 use Rattle.word_store.specs.declared.registers.Regs.{Regs}
-use Rattle.owned_words.specs.Exchange.{Exchange}
-use Rattle.owned_words.specs.LinkedWords.{first_of}
-use Rattle.owned_words.specs.Owned.{Pairs, owners, written}
-use Rattle.owned_words.proofs.Exchanges.{exchange-none}
-use Rattle.packet_queue.specs.QueueWords.{QueuedPacket, queue_words}
-use Rattle.kernel_model.specs.ChangedStore.{IsChanged}
-use Rattle.kernel_model.specs.Changes.{with_tasks}
-use Rattle.kernel_model.specs.HoldsLists.{HoldsLists}
-use Rattle.kernel_model.specs.Lists.{Lists}
-use Rattle.kernel_model.specs.Owned.{owned}
-use Rattle.kernel_model.specs.Task.{Task, is_guest_id, queue_head, state_word, task_address, task_words}
-use Rattle.kernel_model.specs.ValidLists.{AreValid}
-use Rattle.kernel_model.specs.ValidTasks.{CoroutinesStand, IsField, IsTask, dead, no_regs}
-use Rattle.kernel_model.proofs.AllThings.{all-here}
-use Rattle.kernel_model.proofs.ChangedLists.{exchange-owned, one_task-owned, owners-exchanged}
-use Rattle.kernel_model.proofs.OneTask.{same_task-valid}
+use Rattle.word_kinds.specs.KernelLists.OwnedWords.Exchange.{Exchange}
+use Rattle.word_kinds.specs.KernelLists.OwnedWords.LinkedWords.{first_of}
+use Rattle.word_kinds.specs.KernelLists.OwnedWords.Owned.{Pairs, owners, written}
+use Rattle.word_kinds.proofs.Shown.KernelLists.OwnedWords.Exchanges.{exchange-none}
+use Rattle.word_kinds.specs.KernelLists.PacketQueue.QueueWords.{QueuedPacket, queue_words}
+use Rattle.word_kinds.specs.KernelModel.ChangedStore.{IsChanged}
+use Rattle.word_kinds.specs.KernelModel.Changes.{with_tasks}
+use Rattle.word_kinds.specs.KernelModel.HoldsLists.{HoldsLists}
+use Rattle.word_kinds.specs.KernelModel.Lists.{Lists}
+use Rattle.word_kinds.specs.KernelModel.Owned.{owned}
+use Rattle.word_kinds.specs.KernelModel.Task.{Task, is_guest_id, queue_head, state_word, task_address, task_words}
+use Rattle.word_kinds.specs.KernelModel.ValidLists.{AreValid}
+use Rattle.word_kinds.specs.KernelModel.ValidTasks.{CoroutinesStand, IsField, IsTask, dead, no_regs}
+use Rattle.word_kinds.proofs.Shown.KernelModel.AllThings.{all-here}
+use Rattle.word_kinds.proofs.Shown.KernelModel.ChangedLists.{exchange-owned, one_task-owned, owners-exchanged}
+use Rattle.word_kinds.proofs.Shown.KernelModel.OneTask.{same_task-valid}
 use Rattle.kernel_dispatch.specs.Dispatch.{suspended}
 use Rattle.kernel_dispatch.specs.DispatchWords.{saved_words, state_of, suspended_state, with_saved}
 use Rattle.kernel_dispatch.proofs.StateExchanges.{exchange-suspended, exchange-task}

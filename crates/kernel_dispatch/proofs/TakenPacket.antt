@@ -3,31 +3,31 @@ use Rattle.std.proofs.Common.{◌≡◌, ◌≢◌, ℕ, ◌+◌, ◌-◌, ◌%�
 use Rattle.std.specs.List.{AllByRecursion, range_with_len}
 use Rattle.std.proofs.lemmas.Bool.{cases_eq, false_from_ne_true, leb-true, ne_eqb}
 use Rattle.std.proofs.lemmas.List.{get_or-set_other, get_or-set_same, length-set}
-use Rattle.linked_list.specs.Count.{IsApart, times}
-use Rattle.linked_list.proofs.Counts.{hit-other, hit-same}
-use Rattle.owned_words.specs.Exchange.{Exchange}
-use Rattle.owned_words.specs.LinkedWords.{first_of}
-use Rattle.owned_words.specs.Owned.{Pairs, owners, written}
-use Rattle.owned_words.proofs.OwnedWords.{Holds-written, written-other}
-use Rattle.packet_queue.specs.Queue.{no_queue, unlinked}
-use Rattle.packet_queue.specs.QueueWords.{HeldQueue, QueuedPacket, RemoveExchange, first_packet, packet_words, queue_words}
-use Rattle.packet_queue.proofs.HeldQueues.{remove-exchange}
-use Rattle.kernel_model.specs.ChangedStore.{IsChanged}
-use Rattle.kernel_model.specs.Changes.{queue_of, with_queue, with_tasks, with_work, work_of}
-use Rattle.kernel_model.specs.HoldsLists.{HoldsLists}
-use Rattle.kernel_model.specs.Lists.{Lists}
-use Rattle.kernel_model.specs.Owned.{owned}
-use Rattle.kernel_model.specs.Task.{Task, is_guest_id, queue_head, state_word, task_address, task_id}
-use Rattle.kernel_model.specs.ValidLists.{AreValid}
-use Rattle.kernel_model.specs.ValidQueues.{IsFaultPacket, IsKeyPacket, MayStand, Place, is_fault_packet, is_key_packet}
-use Rattle.kernel_model.specs.ValidQueues.Place.{Clock, Keyboard, Output, Pending, Work}
-use Rattle.kernel_model.specs.ValidTasks.{IsField, IsTask}
-use Rattle.kernel_model.proofs.AllThings.{all-here}
-use Rattle.kernel_model.proofs.ChainSplits.{change-between, work_of-between}
-use Rattle.kernel_model.proofs.ChangedLists.{exchange-changed, one_task-owned}
-use Rattle.kernel_model.proofs.PacketMoves.{unqueued-unowned, unqueued-valid}
-use Rattle.kernel_model.proofs.QueueCounts.{owners-packet}
-use Rattle.kernel_model.proofs.Reading.{read-lists}
+use Rattle.word_store.specs.Count.{IsApart, times}
+use Rattle.word_store.proofs.Counts.{hit-other, hit-same}
+use Rattle.word_kinds.specs.KernelLists.OwnedWords.Exchange.{Exchange}
+use Rattle.word_kinds.specs.KernelLists.OwnedWords.LinkedWords.{first_of}
+use Rattle.word_kinds.specs.KernelLists.OwnedWords.Owned.{Pairs, owners, written}
+use Rattle.word_kinds.proofs.Shown.KernelLists.OwnedWords.OwnedWords.{Holds-written, written-other}
+use Rattle.word_kinds.specs.KernelLists.PacketQueue.Queue.{no_queue, unlinked}
+use Rattle.word_kinds.specs.KernelLists.PacketQueue.QueueWords.{HeldQueue, QueuedPacket, RemoveExchange, first_packet, packet_words, queue_words}
+use Rattle.word_kinds.proofs.Shown.KernelLists.PacketQueue.HeldQueues.{remove-exchange}
+use Rattle.word_kinds.specs.KernelModel.ChangedStore.{IsChanged}
+use Rattle.word_kinds.specs.KernelModel.Changes.{queue_of, with_queue, with_tasks, with_work, work_of}
+use Rattle.word_kinds.specs.KernelModel.HoldsLists.{HoldsLists}
+use Rattle.word_kinds.specs.KernelModel.Lists.{Lists}
+use Rattle.word_kinds.specs.KernelModel.Owned.{owned}
+use Rattle.word_kinds.specs.KernelModel.Task.{Task, is_guest_id, queue_head, state_word, task_address, task_id}
+use Rattle.word_kinds.specs.KernelModel.ValidLists.{AreValid}
+use Rattle.word_kinds.specs.KernelModel.ValidQueues.{IsFaultPacket, IsKeyPacket, MayStand, Place, is_fault_packet, is_key_packet}
+use Rattle.word_kinds.specs.KernelModel.ValidQueues.Place.{Clock, Keyboard, Output, Pending, Work}
+use Rattle.word_kinds.specs.KernelModel.ValidTasks.{IsField, IsTask}
+use Rattle.word_kinds.proofs.Shown.KernelModel.AllThings.{all-here}
+use Rattle.word_kinds.proofs.Shown.KernelModel.ChainSplits.{change-between, work_of-between}
+use Rattle.word_kinds.proofs.Shown.KernelModel.ChangedLists.{exchange-changed, one_task-owned}
+use Rattle.word_kinds.proofs.Shown.KernelModel.PacketMoves.{unqueued-unowned, unqueued-valid}
+use Rattle.word_kinds.proofs.Shown.KernelModel.QueueCounts.{owners-packet}
+use Rattle.word_kinds.proofs.Shown.KernelModel.Reading.{read-lists}
 use Rattle.kernel_dispatch.specs.DispatchWords.{state_of, taken_state, with_taken}
 use Rattle.kernel_dispatch.proofs.StateExchanges.{exchange-state, exchange-task}
 use Rattle.kernel_dispatch.proofs.TaskStates.{by-field, tells-states}

@@ -3,28 +3,28 @@ use Rattle.std.proofs.Common.{◌≡◌, ℕ, pos, ◌+◌, ◌≤◌, ◌^◌, 
 use Rattle.std.specs.Prelude.{not, slice_get}
 use Rattle.std.specs.List.{AllByRecursion, range_with_len}
 use Rattle.std.proofs.lemmas.Bool.{and_parts, lt-ltb}
-use Rattle.linked_list.specs.Count.{IsApart}
+use Rattle.word_store.specs.Count.{IsApart}
 use Rattle.word_store.specs.Arithmetic.{signed}
-use Rattle.owned_words.specs.LinkedWords.{first_of}
-use Rattle.owned_words.specs.Owned.{written}
-use Rattle.packet_queue.specs.Log.{Notes}
-use Rattle.packet_queue.specs.Queue.{HasQueue, queue_at}
-use Rattle.packet_queue.specs.QueueWords.{HeldQueue, QueuedPacket, address_of}
-use Rattle.packet_queue.specs.declared.events.KernelEvent.{KernelEvent}
-use Rattle.packet_queue.specs.declared.events.KernelEvent.TheVariants.{Taken}
-use Rattle.packet_queue.proofs.HeldQueues.{held-queue}
-use Rattle.kernel_model.specs.Between.{is_empty_queue, is_ready}
-use Rattle.kernel_model.specs.ChangedStore.{HasKeeper, IsChanged, Knows}
-use Rattle.kernel_model.specs.Changes.{change_of, with_task, with_tasks}
-use Rattle.kernel_model.specs.Lists.{Lists}
-use Rattle.kernel_model.specs.NotedEvents.{NotesAll}
-use Rattle.kernel_model.specs.Task.{Task, is_guest_id, queue_head, state_word, task_id}
-use Rattle.kernel_model.specs.ValidTasks.{IsField, IsTask}
-use Rattle.kernel_model.proofs.AllThings.{all-here}
-use Rattle.kernel_model.proofs.ChainSplits.{IsBetween, change-between, found-between}
-use Rattle.kernel_model.proofs.ChangedLists.{changed-none}
-use Rattle.kernel_model.proofs.NotedInTurn.{notes-none, notes-one}
-use Rattle.kernel_model.proofs.Reading.{read-lists}
+use Rattle.word_kinds.specs.KernelLists.OwnedWords.LinkedWords.{first_of}
+use Rattle.word_kinds.specs.KernelLists.OwnedWords.Owned.{written}
+use Rattle.word_kinds.specs.KernelLists.PacketQueue.Log.{Notes}
+use Rattle.word_kinds.specs.KernelLists.PacketQueue.Queue.{HasQueue, queue_at}
+use Rattle.word_kinds.specs.KernelLists.PacketQueue.QueueWords.{HeldQueue, QueuedPacket, address_of}
+use Rattle.word_kinds.specs.KernelLists.PacketQueue.declared.events.KernelEvent.{KernelEvent}
+use Rattle.word_kinds.specs.KernelLists.PacketQueue.declared.events.KernelEvent.TheVariants.{Taken}
+use Rattle.word_kinds.proofs.Shown.KernelLists.PacketQueue.HeldQueues.{held-queue}
+use Rattle.word_kinds.specs.KernelModel.Between.{is_empty_queue, is_ready}
+use Rattle.word_kinds.specs.KernelModel.ChangedStore.{HasKeeper, IsChanged, Knows}
+use Rattle.word_kinds.specs.KernelModel.Changes.{change_of, with_task, with_tasks}
+use Rattle.word_kinds.specs.KernelModel.Lists.{Lists}
+use Rattle.word_kinds.specs.KernelModel.NotedEvents.{NotesAll}
+use Rattle.word_kinds.specs.KernelModel.Task.{Task, is_guest_id, queue_head, state_word, task_id}
+use Rattle.word_kinds.specs.KernelModel.ValidTasks.{IsField, IsTask}
+use Rattle.word_kinds.proofs.Shown.KernelModel.AllThings.{all-here}
+use Rattle.word_kinds.proofs.Shown.KernelModel.ChainSplits.{IsBetween, change-between, found-between}
+use Rattle.word_kinds.proofs.Shown.KernelModel.ChangedLists.{changed-none}
+use Rattle.word_kinds.proofs.Shown.KernelModel.NotedInTurn.{notes-none, notes-one}
+use Rattle.word_kinds.proofs.Shown.KernelModel.Reading.{read-lists}
 use Rattle.word_kinds.specs.Keeper.{AreTogether}
 use Rattle.word_kinds.proofs.KnownWords.{knows-released}
 use Rattle.kernel_dispatch.specs.Dispatch.{packets_left, packets_taken, taken_event, takes_packet, unlinked_words, with_packet_taken}

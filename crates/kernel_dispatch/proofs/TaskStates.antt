@@ -1,18 +1,18 @@
 -- What the words of a task tell: its number, and whether it is ready.
 use Rattle.std.proofs.Common.{◌≡◌, ℕ, ◌≤◌, Bool, true, false, List, [], ◌∷◌, get_or, inl, inr, refl, ap, ◌∙◌, sym, subst, arith}
 use Rattle.std.specs.List.{AllByRecursion}
-use Rattle.packet_queue.specs.QueueWords.{QueuedPacket}
-use Rattle.task_block.specs.TaskChain.{id_in}
-use Rattle.kernel_model.specs.Between.{is_ready}
-use Rattle.kernel_model.specs.HoldsLists.{HoldsLists}
-use Rattle.kernel_model.specs.Lists.{Lists}
-use Rattle.kernel_model.specs.ReadsLists.{ReadsLists}
-use Rattle.kernel_model.specs.Task.{Task, state_word, task_address, task_words}
-use Rattle.kernel_model.specs.ValidTasks.{IsField, IsTask}
-use Rattle.kernel_model.proofs.AllThings.{all-from_both}
-use Rattle.kernel_model.proofs.EachMember.{all-both, holds-each}
-use Rattle.kernel_model.proofs.ReadCoroutines.{HoldsTask, holds-task}
-use Rattle.kernel_model.proofs.Reading.{read-lists}
+use Rattle.word_kinds.specs.KernelLists.PacketQueue.QueueWords.{QueuedPacket}
+use Rattle.word_kinds.specs.KernelLists.TaskBlock.TaskChain.{id_in}
+use Rattle.word_kinds.specs.KernelModel.Between.{is_ready}
+use Rattle.word_kinds.specs.KernelModel.HoldsLists.{HoldsLists}
+use Rattle.word_kinds.specs.KernelModel.Lists.{Lists}
+use Rattle.word_kinds.specs.KernelModel.ReadsLists.{ReadsLists}
+use Rattle.word_kinds.specs.KernelModel.Task.{Task, state_word, task_address, task_words}
+use Rattle.word_kinds.specs.KernelModel.ValidTasks.{IsField, IsTask}
+use Rattle.word_kinds.proofs.Shown.KernelModel.AllThings.{all-from_both}
+use Rattle.word_kinds.proofs.Shown.KernelModel.EachMember.{all-both, holds-each}
+use Rattle.word_kinds.proofs.Shown.KernelModel.ReadCoroutines.{HoldsTask, holds-task}
+use Rattle.word_kinds.proofs.Shown.KernelModel.Reading.{read-lists}
 use Rattle.kernel_dispatch.specs.DispatchWords.{state_of}
 use Rattle.kernel_dispatch.specs.ReadyTasks.{is_ready_in, is_ready_state}
 

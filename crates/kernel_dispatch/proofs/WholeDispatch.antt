@@ -4,26 +4,26 @@ use Rattle.std.specs.Option.{option_map}
 use Rattle.std.proofs.lemmas.Bool.{eq-eqb}
 use Rattle.std.proofs.lemmas.List.{map-append}
 use Rattle.std.specs.List.{AllByRecursion}
-use Rattle.linked_list.specs.Count.{IsApart}
+use Rattle.word_store.specs.Count.{IsApart}
 use Rattle.word_store.specs.Arithmetic.{signed}
 use Rattle.word_store.specs.declared.registers.Regs.{Regs}
-use Rattle.owned_words.specs.Owned.{owners}
-use Rattle.packet_queue.specs.Log.{Notes}
-use Rattle.packet_queue.specs.declared.events.KernelEvent.{KernelEvent}
-use Rattle.packet_queue.specs.declared.events.KernelEvent.TheVariants.{Runs, Taken}
-use Rattle.kernel_model.specs.Between.{is_ready}
-use Rattle.kernel_model.specs.ChangedStore.{HasKeeper, IsChanged, Knows}
-use Rattle.kernel_model.specs.Changes.{change_of, with_task, with_tasks}
-use Rattle.kernel_model.specs.Lists.{Lists}
-use Rattle.kernel_model.specs.NotedEvents.{NotesAll}
-use Rattle.kernel_model.specs.Owned.{owned}
-use Rattle.kernel_model.specs.Task.{Task, task_id}
-use Rattle.kernel_model.specs.ValidTasks.{runs}
-use Rattle.kernel_model.proofs.AllThings.{all-here}
-use Rattle.kernel_model.proofs.ChainSplits.{IsBetween, change-between, found-between}
-use Rattle.kernel_model.proofs.ChangedLists.{changed-then, knows-same}
-use Rattle.kernel_model.proofs.NotedInTurn.{notes-one, notes-then}
-use Rattle.kernel_model.proofs.RunningTask.{with_running}
+use Rattle.word_kinds.specs.KernelLists.OwnedWords.Owned.{owners}
+use Rattle.word_kinds.specs.KernelLists.PacketQueue.Log.{Notes}
+use Rattle.word_kinds.specs.KernelLists.PacketQueue.declared.events.KernelEvent.{KernelEvent}
+use Rattle.word_kinds.specs.KernelLists.PacketQueue.declared.events.KernelEvent.TheVariants.{Runs, Taken}
+use Rattle.word_kinds.specs.KernelModel.Between.{is_ready}
+use Rattle.word_kinds.specs.KernelModel.ChangedStore.{HasKeeper, IsChanged, Knows}
+use Rattle.word_kinds.specs.KernelModel.Changes.{change_of, with_task, with_tasks}
+use Rattle.word_kinds.specs.KernelModel.Lists.{Lists}
+use Rattle.word_kinds.specs.KernelModel.NotedEvents.{NotesAll}
+use Rattle.word_kinds.specs.KernelModel.Owned.{owned}
+use Rattle.word_kinds.specs.KernelModel.Task.{Task, task_id}
+use Rattle.word_kinds.specs.KernelModel.ValidTasks.{runs}
+use Rattle.word_kinds.proofs.Shown.KernelModel.AllThings.{all-here}
+use Rattle.word_kinds.proofs.Shown.KernelModel.ChainSplits.{IsBetween, change-between, found-between}
+use Rattle.word_kinds.proofs.Shown.KernelModel.ChangedLists.{changed-then, knows-same}
+use Rattle.word_kinds.proofs.Shown.KernelModel.NotedInTurn.{notes-one, notes-then}
+use Rattle.word_kinds.proofs.Shown.KernelModel.RunningTask.{with_running}
 use Rattle.kernel_dispatch.specs.Dispatch.{CanDispatch, Dispatched, dispatched, first_ready_task, goes_on, packets_taken, resumed, started, suspended, taken_event, unchanged, unlinked_words, with_next, with_packet_taken, with_resumed, with_suspended}
 use Rattle.kernel_dispatch.specs.DispatchWords.{next_regs_in, with_running_saved, with_started}
 use Rattle.kernel_dispatch.specs.Turn.{HasTaken, IsDispatched, IsNext}

@@ -4,17 +4,17 @@ use Rattle.std.specs.List.{AllByRecursion}
 use Rattle.std.specs.Option.{option_map}
 use Rattle.word_store.specs.Arithmetic.{signed}
 use Rattle.word_store.specs.declared.registers.Regs.{Regs}
-use Rattle.owned_words.specs.LinkedWords.{first_of}
-use Rattle.owned_words.specs.Owned.{Pairs, written}
-use Rattle.packet_queue.specs.Queue.{no_queue}
-use Rattle.packet_queue.specs.QueueWords.{QueuedPacket, address_of}
-use Rattle.packet_queue.specs.declared.events.KernelEvent.{KernelEvent}
-use Rattle.packet_queue.specs.declared.events.KernelEvent.TheVariants.{Runs, Taken}
-use Rattle.kernel_model.specs.Between.{is_ready}
-use Rattle.kernel_model.specs.Changes.{with_task}
-use Rattle.kernel_model.specs.Lists.{Lists}
-use Rattle.kernel_model.specs.Task.{Task, globals_of, is_guest_id, stack_of, task_address}
-use Rattle.kernel_model.specs.ValidTasks.{dead, interrupted, no_regs, runs, waits}
+use Rattle.word_kinds.specs.KernelLists.OwnedWords.LinkedWords.{first_of}
+use Rattle.word_kinds.specs.KernelLists.OwnedWords.Owned.{Pairs, written}
+use Rattle.word_kinds.specs.KernelLists.PacketQueue.Queue.{no_queue}
+use Rattle.word_kinds.specs.KernelLists.PacketQueue.QueueWords.{QueuedPacket, address_of}
+use Rattle.word_kinds.specs.KernelLists.PacketQueue.declared.events.KernelEvent.{KernelEvent}
+use Rattle.word_kinds.specs.KernelLists.PacketQueue.declared.events.KernelEvent.TheVariants.{Runs, Taken}
+use Rattle.word_kinds.specs.KernelModel.Between.{is_ready}
+use Rattle.word_kinds.specs.KernelModel.Changes.{with_task}
+use Rattle.word_kinds.specs.KernelModel.Lists.{Lists}
+use Rattle.word_kinds.specs.KernelModel.Task.{Task, globals_of, is_guest_id, stack_of, task_address}
+use Rattle.word_kinds.specs.KernelModel.ValidTasks.{dead, interrupted, no_regs, runs, waits}
 
 -- what a dispatch leaves: the lists, the plain words that it wrote, the registers, and its events
 pub record Dispatched : Type 0 where

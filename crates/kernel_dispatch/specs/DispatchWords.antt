@@ -1,16 +1,16 @@
 -- The words that a dispatch writes, and the registers that it gives, as the store has them.
 use Rattle.std.specs.Prelude.{ℕ, ◌+◌, ◌-◌, ◌%◌, ◌==◌, ◌&&◌, Bool, if◌then◌else◌, List, [], ◌∷◌, nat_le, nat_lt, slice_index, slice_set, Option, Some, None, false}
 use Rattle.word_store.specs.declared.registers.Regs.{Regs}
-use Rattle.owned_words.specs.Owned.{Pairs, written}
-use Rattle.packet_queue.specs.Queue.{unlinked}
-use Rattle.packet_queue.specs.declared.events.KernelEvent.{KernelEvent}
-use Rattle.packet_queue.specs.declared.events.KernelEvent.TheVariants.{Runs}
-use Rattle.task_block.specs.RootWords.{root_address}
-use Rattle.task_block.specs.TaskWords.{word_index}
-use Rattle.task_block.specs.declared.fields.TcbField.TheVariants.{Globals, Id, Queue, SavedA, SavedB, SavedC, SavedG, SavedP, SavedPc, Stack, State}
-use Rattle.task_block.specs.declared.roots.RootField.TheVariants.{Running}
-use Rattle.kernel_model.specs.Task.{is_guest_id}
-use Rattle.kernel_model.specs.ValidTasks.{no_regs}
+use Rattle.word_kinds.specs.KernelLists.OwnedWords.Owned.{Pairs, written}
+use Rattle.word_kinds.specs.KernelLists.PacketQueue.Queue.{unlinked}
+use Rattle.word_kinds.specs.KernelLists.PacketQueue.declared.events.KernelEvent.{KernelEvent}
+use Rattle.word_kinds.specs.KernelLists.PacketQueue.declared.events.KernelEvent.TheVariants.{Runs}
+use Rattle.word_kinds.specs.KernelLists.TaskBlock.RootWords.{root_address}
+use Rattle.word_kinds.specs.KernelLists.TaskBlock.TaskWords.{word_index}
+use Rattle.word_kinds.specs.KernelLists.TaskBlock.declared.fields.TcbField.TheVariants.{Globals, Id, Queue, SavedA, SavedB, SavedC, SavedG, SavedP, SavedPc, Stack, State}
+use Rattle.word_kinds.specs.KernelLists.TaskBlock.declared.roots.RootField.TheVariants.{Running}
+use Rattle.word_kinds.specs.KernelModel.Task.{is_guest_id}
+use Rattle.word_kinds.specs.KernelModel.ValidTasks.{no_regs}
 
 -- a word of the task block at t
 abbrev pub state_of : List ℕ → ℕ → ℕ

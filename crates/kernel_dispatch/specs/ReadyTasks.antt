@@ -1,10 +1,10 @@
 -- Which tasks are ready, as the store has it: by the state of a task alone.
 use Rattle.std.specs.Prelude.{◌≡◌, ◌%◌, ◌+◌, ◌==◌, ◌&&◌, ◌||◌, ◌<◌, ℕ, Bool, false, List, nat_lt, slice_index, slice_index_or}
 use Rattle.std.specs.List.{list_any}
-use Rattle.task_block.specs.TaskWords.{word_index}
-use Rattle.task_block.specs.declared.fields.TcbField.TheVariants.{State}
-use Rattle.kernel_model.specs.Between.{is_ready}
-use Rattle.kernel_model.specs.Lists.{Lists}
+use Rattle.word_kinds.specs.KernelLists.TaskBlock.TaskWords.{word_index}
+use Rattle.word_kinds.specs.KernelLists.TaskBlock.declared.fields.TcbField.TheVariants.{State}
+use Rattle.word_kinds.specs.KernelModel.Between.{is_ready}
+use Rattle.word_kinds.specs.KernelModel.Lists.{Lists}
 
 -- a state of 2 modulo 4, or 3, is that of a held task; a field of 0 or 8 is below 4 modulo 8; the state is odd where packets wait
 abbrev pub is_ready_state : ℕ → Bool

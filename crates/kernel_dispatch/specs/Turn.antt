@@ -1,17 +1,17 @@
 -- What a dispatch did to the store, the registers, the keeper of kinds and the log.
 use Rattle.std.specs.Prelude.{◌≡◌, ◌≢◌, ℕ, ◌+◌, Bool, Option, Some, List, map, slice_index}
 use Rattle.word_store.specs.declared.registers.Regs.{Regs}
-use Rattle.owned_words.specs.LinkedWords.{first_of}
-use Rattle.owned_words.specs.Owned.{written}
-use Rattle.packet_queue.specs.QueueWords.{address_of}
-use Rattle.packet_queue.specs.declared.events.KernelEvent.{KernelEvent}
-use Rattle.task_block.specs.TaskWords.{word_index}
-use Rattle.task_block.specs.declared.fields.TcbField.TheVariants.{State}
-use Rattle.kernel_model.specs.ChangedStore.{IsChanged, Knows}
-use Rattle.kernel_model.specs.Changes.{with_task}
-use Rattle.kernel_model.specs.Lists.{Lists}
-use Rattle.kernel_model.specs.NotedEvents.{NotesAll}
-use Rattle.kernel_model.specs.Task.{Task, queue_head}
+use Rattle.word_kinds.specs.KernelLists.OwnedWords.LinkedWords.{first_of}
+use Rattle.word_kinds.specs.KernelLists.OwnedWords.Owned.{written}
+use Rattle.word_kinds.specs.KernelLists.PacketQueue.QueueWords.{address_of}
+use Rattle.word_kinds.specs.KernelLists.PacketQueue.declared.events.KernelEvent.{KernelEvent}
+use Rattle.word_kinds.specs.KernelLists.TaskBlock.TaskWords.{word_index}
+use Rattle.word_kinds.specs.KernelLists.TaskBlock.declared.fields.TcbField.TheVariants.{State}
+use Rattle.word_kinds.specs.KernelModel.ChangedStore.{IsChanged, Knows}
+use Rattle.word_kinds.specs.KernelModel.Changes.{with_task}
+use Rattle.word_kinds.specs.KernelModel.Lists.{Lists}
+use Rattle.word_kinds.specs.KernelModel.NotedEvents.{NotesAll}
+use Rattle.word_kinds.specs.KernelModel.Task.{Task, queue_head}
 use Rattle.kernel_dispatch.specs.Dispatch.{dispatched, first_ready_task, packets_taken, taken_event, unlinked_words, with_packet_taken}
 
 -- The store holds the lists that the dispatch leaves, its plain words and no others have changed, the registers are the ones that

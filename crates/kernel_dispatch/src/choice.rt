@@ -1,15 +1,15 @@
 // The choice: the first ready task of the chain.
 ghost use Rattle.std.specs.Prelude.{◌≡◌, find};
-ghost use Rattle.task_block.specs.RootWords.{first_task};
-ghost use Rattle.task_block.specs.TaskChain.{id_in, task_link, tasks_in};
-ghost use Rattle.linked_list.specs.Walk.{CanWalk};
-ghost use Rattle.kernel_model.specs.HoldsLists.{HoldsLists};
-ghost use Rattle.kernel_model.specs.Lists.{Lists};
+ghost use Rattle.word_kinds.specs.KernelLists.TaskBlock.RootWords.{first_task};
+ghost use Rattle.word_kinds.specs.KernelLists.TaskBlock.TaskChain.{id_in, task_link, tasks_in};
+ghost use Rattle.word_kinds.specs.KernelLists.LinkedList.Walk.{CanWalk};
+ghost use Rattle.word_kinds.specs.KernelModel.HoldsLists.{HoldsLists};
+ghost use Rattle.word_kinds.specs.KernelModel.Lists.{Lists};
 ghost use Rattle.kernel_dispatch.specs.Dispatch.{first_ready_block};
 ghost use Rattle.kernel_dispatch.specs.ReadyTasks.{HasReady, is_in, is_ready_in, is_ready_state};
 
 use crate::ready_tasks::Ready;
-use task_block::{TcbField, field, tasks};
+use word_kinds::kernel_lists::{TcbField, field, tasks};
 use word_store::Store;
 
 /// The task block of the first ready task; `None` exactly where none is ready.

@@ -1,13 +1,12 @@
 // Nobody runs.
 ghost use Rattle.std.specs.Prelude.{◌≡◌};
-ghost use Rattle.kernel_model.specs.NotedEvents.{NotesAll};
-ghost use Rattle.kernel_model.specs.ValidTasks.{no_regs};
+ghost use Rattle.word_kinds.specs.KernelModel.NotedEvents.{NotesAll};
+ghost use Rattle.word_kinds.specs.KernelModel.ValidTasks.{no_regs};
 ghost use Rattle.kernel_dispatch.specs.DispatchWords.{idle_events, with_nobody_running};
 
 use crate::registers::no_regs;
 use crate::saving::suspend;
-use packet_queue::{EventLog, KernelEvent};
-use task_block::{RootField, root, set_root};
+use word_kinds::kernel_lists::{EventLog, KernelEvent, RootField, root, set_root};
 use word_store::{Regs, Store};
 
 /// The task that ran is suspended, and nobody runs.

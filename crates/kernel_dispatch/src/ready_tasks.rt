@@ -1,16 +1,16 @@
 // The set of the ready tasks.
 ghost use Rattle.std.specs.Prelude.{◌≡◌, ◌||◌, ◌==◌, ◌&&◌, ◌<◌, ℕ, replicate, false};
 ghost use Rattle.std.specs.List.{list_any};
-ghost use Rattle.linked_list.specs.Walk.{CanWalk};
-ghost use Rattle.task_block.specs.RootWords.{first_task};
-ghost use Rattle.task_block.specs.TaskChain.{HasTasks, id_in, task_link, tasks_in};
-ghost use Rattle.kernel_model.specs.HoldsLists.{HoldsLists};
-ghost use Rattle.kernel_model.specs.Lists.{Lists};
+ghost use Rattle.word_kinds.specs.KernelLists.LinkedList.Walk.{CanWalk};
+ghost use Rattle.word_kinds.specs.KernelLists.TaskBlock.RootWords.{first_task};
+ghost use Rattle.word_kinds.specs.KernelLists.TaskBlock.TaskChain.{HasTasks, id_in, task_link, tasks_in};
+ghost use Rattle.word_kinds.specs.KernelModel.HoldsLists.{HoldsLists};
+ghost use Rattle.word_kinds.specs.KernelModel.Lists.{Lists};
 ghost use Rattle.kernel_dispatch.specs.ReadyTasks.{HasMarked, HasReady, is_in, is_ready_in};
 
 use crate::choice::is_ready;
 use std::marker::Model;
-use task_block::{TcbField, field, find, tasks};
+use word_kinds::kernel_lists::{TcbField, field, find, tasks};
 use word_store::Store;
 
 /// More than the highest number of a task.

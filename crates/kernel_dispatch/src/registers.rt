@@ -1,9 +1,9 @@
 // The registers that a task goes on with.
 ghost use Rattle.std.specs.Prelude.{◌≡◌};
-ghost use Rattle.kernel_model.specs.ValidTasks.{no_regs};
+ghost use Rattle.word_kinds.specs.KernelModel.ValidTasks.{no_regs};
 ghost use Rattle.kernel_dispatch.specs.DispatchWords.{entry_in, guest_regs_in, next_regs_in, saved_in};
 
-use task_block::{RootField, TcbField, field, root};
+use word_kinds::kernel_lists::{RootField, TcbField, field, root};
 use word_store::{Regs, Store, word_at};
 
 /// The lowest number of a guest.

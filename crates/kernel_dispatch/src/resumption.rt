@@ -1,18 +1,17 @@
 // A task goes on.
 ghost use Rattle.std.specs.Prelude.{◌≡◌, Some, false};
 ghost use Rattle.word_store.specs.Arithmetic.{signed};
-ghost use Rattle.kernel_model.specs.ChangedStore.{HasKeeper};
-ghost use Rattle.kernel_model.specs.Lists.{Lists};
-ghost use Rattle.kernel_model.specs.Task.{Task};
+ghost use Rattle.word_kinds.specs.KernelModel.ChangedStore.{HasKeeper};
+ghost use Rattle.word_kinds.specs.KernelModel.Lists.{Lists};
+ghost use Rattle.word_kinds.specs.KernelModel.Task.{Task};
 ghost use Rattle.kernel_dispatch.specs.Dispatch.{CanDispatch, goes_on};
 ghost use Rattle.kernel_dispatch.specs.DispatchWords.{takes_packet_by};
 ghost use Rattle.kernel_dispatch.specs.Turn.{HasTaken, IsDispatched, IsNext};
 
 use crate::registers::{FIRST_GUEST, next_regs};
 use crate::saving::{start, suspend, take_work};
-use packet_queue::{EventLog, KernelEvent};
-use task_block::{TcbField, field};
 use word_kinds::KindKeeper;
+use word_kinds::kernel_lists::{EventLog, KernelEvent, TcbField, field};
 use word_store::{Regs, Store, signed, word_at};
 
 const PACKET_WORDS: u32 = 5;

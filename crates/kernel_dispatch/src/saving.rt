@@ -1,11 +1,10 @@
 // What is written into the block of a task that stops running, and of one that goes on.
 ghost use Rattle.std.specs.Prelude.{◌≡◌, ◌+◌, ◌<◌, IfSome, length, slice_get};
-ghost use Rattle.packet_queue.specs.Queue.{HasQueue, queue_at};
-ghost use Rattle.kernel_model.specs.Task.{queue_head};
+ghost use Rattle.word_kinds.specs.KernelLists.PacketQueue.Queue.{HasQueue, queue_at};
+ghost use Rattle.word_kinds.specs.KernelModel.Task.{queue_head};
 ghost use Rattle.kernel_dispatch.specs.DispatchWords.{suspended_state, taken_state, with_running_saved, with_saved, with_started, with_taken};
 
-use packet_queue::take;
-use task_block::{RootField, TcbField, field, root, set_field, set_root};
+use word_kinds::kernel_lists::{RootField, TcbField, field, root, set_field, set_root, take};
 use word_store::{Regs, Store};
 
 /// Saves the registers of the running task, if one runs, which then runs no more.

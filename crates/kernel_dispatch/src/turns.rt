@@ -1,7 +1,7 @@
 // Dispatch: the task that ran is suspended, and the first ready one goes on.
 ghost use Rattle.std.specs.Prelude.{◌≡◌};
-ghost use Rattle.kernel_model.specs.ChangedStore.{HasKeeper};
-ghost use Rattle.kernel_model.specs.Lists.{Lists};
+ghost use Rattle.word_kinds.specs.KernelModel.ChangedStore.{HasKeeper};
+ghost use Rattle.word_kinds.specs.KernelModel.Lists.{Lists};
 ghost use Rattle.kernel_dispatch.specs.Dispatch.{CanDispatch, first_ready_block};
 ghost use Rattle.kernel_dispatch.specs.DispatchWords.{goes_on_in};
 ghost use Rattle.kernel_dispatch.specs.ReadyTasks.{HasReady};
@@ -11,9 +11,8 @@ use crate::choice::{choose, choose_ready};
 use crate::idleness::idle;
 use crate::ready_tasks::Ready;
 use crate::resumption::resume;
-use packet_queue::EventLog;
-use task_block::{RootField, TcbField, field, root};
 use word_kinds::KindKeeper;
+use word_kinds::kernel_lists::{EventLog, RootField, TcbField, field, root};
 use word_store::{Regs, Store};
 
 /// The first ready task runs, and nobody where none is ready. Where it is the one that runs already, nothing changes.

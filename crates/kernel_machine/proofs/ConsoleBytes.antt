@@ -3,22 +3,22 @@ use Rattle.std.proofs.Common.{◌≡◌, ℕ, ◌+◌, ◌-◌, ◌≤◌, ◌&&
 use Rattle.std.proofs.lemmas.Bool.{and_parts, leb-true}
 use Rattle.std.proofs.lemmas.List.{length-append}
 use Rattle.std.proofs.lemmas.List.FromFn.{length-map-range_with_len}
-use Rattle.packet_queue.specs.QueueWords.{QueuedPacket}
-use Rattle.kernel_model.specs.Image.{image}
-use Rattle.kernel_model.specs.Kernel.{Console, Kernel}
-use Rattle.kernel_model.specs.Lists.{Lists}
-use Rattle.kernel_model.specs.ValidQueues.{is_key_packet}
-use Rattle.resident_requests.specs.Buffers.{byte_in, bytes_in, is_count, is_readable, lies_inside}
-use Rattle.resident_requests.specs.Answers.{returned}
-use Rattle.resident_requests.specs.Requests.{first_request, taken, words_taken, work}
-use Rattle.resident_requests.specs.declared.requests.Request.{Request}
-use Rattle.console_handler.specs.ConsoleTurn.{answer_of, bytes_of, key_of, keys_sent, treated, with_first, with_key, with_keys_sent, with_request, with_taken}
-use Rattle.console_handler.specs.Deliveries.{delivered, delivery, handed, with_read}
-use Rattle.console_handler.specs.KeyPacket.{keys_taken}
-use Rattle.console_handler.specs.Line.{flags_of, is_printed, key, keyed, with_end, with_finish, without_end}
-use Rattle.console_handler.specs.Progress.{Progress, and_then, begun}
-use Rattle.console_handler.specs.Reads.{put_off, read_taken, words_read_from}
-use Rattle.cli_shell.specs.Modes.{awaited}
+use Rattle.kernel_steps.specs.KernelCalls.PacketQueue.QueueWords.{QueuedPacket}
+use Rattle.kernel_steps.specs.KernelCalls.KernelModel.Image.{image}
+use Rattle.kernel_steps.specs.KernelCalls.KernelModel.Kernel.{Console, Kernel}
+use Rattle.kernel_steps.specs.KernelCalls.KernelModel.Lists.{Lists}
+use Rattle.kernel_steps.specs.KernelCalls.KernelModel.ValidQueues.{is_key_packet}
+use Rattle.kernel_steps.specs.KernelResidents.ResidentRequests.Buffers.{byte_in, bytes_in, is_count, is_readable, lies_inside}
+use Rattle.kernel_steps.specs.KernelResidents.ResidentRequests.Answers.{returned}
+use Rattle.kernel_steps.specs.KernelResidents.ResidentRequests.Requests.{first_request, taken, words_taken, work}
+use Rattle.kernel_steps.specs.KernelResidents.ResidentRequests.declared.requests.Request.{Request}
+use Rattle.kernel_steps.specs.KernelResidents.ConsoleHandler.ConsoleTurn.{answer_of, bytes_of, key_of, keys_sent, treated, with_first, with_key, with_keys_sent, with_request, with_taken}
+use Rattle.kernel_steps.specs.KernelResidents.ConsoleHandler.Deliveries.{delivered, delivery, handed, with_read}
+use Rattle.kernel_steps.specs.KernelResidents.ConsoleHandler.KeyPacket.{keys_taken}
+use Rattle.kernel_steps.specs.KernelResidents.ConsoleHandler.Line.{flags_of, is_printed, key, keyed, with_end, with_finish, without_end}
+use Rattle.kernel_steps.specs.KernelResidents.ConsoleHandler.Progress.{Progress, and_then, begun}
+use Rattle.kernel_steps.specs.KernelResidents.ConsoleHandler.Reads.{put_off, read_taken, words_read_from}
+use Rattle.kernel_steps.specs.CliShell.Modes.{awaited}
 use Rattle.kernel_steps.specs.ResidentSteps.{console_step}
 
 few-echoed : (c : Console) (b : ℕ) → length (key c b).echo ≤ 3

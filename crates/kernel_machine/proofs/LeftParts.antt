@@ -1,15 +1,15 @@
 -- What one part of a step leaves after another.
 use Rattle.std.proofs.Common.{◌≡◌, ℕ, ◌++◌, List, length, Bool, Option, sym, ap, ◌∙◌, arith, append_assoc, append-nil}
 use Rattle.word_store.specs.declared.registers.Regs.{Regs}
-use Rattle.owned_words.specs.Owned.{Pairs, written}
-use Rattle.kernel_model.specs.ChangedStore.{IsChanged, Knows}
-use Rattle.kernel_model.specs.Kernel.{Kernel, Stop}
-use Rattle.kernel_model.specs.Lists.{Lists}
-use Rattle.kernel_model.proofs.NotedInTurn.{notes-none, notes-then}
-use Rattle.word_kinds.specs.ByteMap.{MarksAll}
-use Rattle.call_answers.specs.Outside.{Outside}
-use Rattle.machine_parts.specs.declared.parts.Parts.{Parts}
-use Rattle.machine_parts.specs.Stands.{Stands}
+use Rattle.kernel_steps.specs.KernelCalls.OwnedWords.Owned.{Pairs, written}
+use Rattle.kernel_steps.specs.KernelCalls.KernelModel.ChangedStore.{IsChanged, Knows}
+use Rattle.kernel_steps.specs.KernelCalls.KernelModel.Kernel.{Kernel, Stop}
+use Rattle.kernel_steps.specs.KernelCalls.KernelModel.Lists.{Lists}
+use Rattle.kernel_steps.proofs.Shown.KernelCalls.KernelModel.NotedInTurn.{notes-none, notes-then}
+use Rattle.kernel_steps.specs.KernelCalls.WordKinds.ByteMap.{MarksAll}
+use Rattle.kernel_steps.specs.KernelCalls.CallAnswers.Outside.{Outside}
+use Rattle.kernel_machine.specs.declared.parts.Parts.{Parts}
+use Rattle.kernel_machine.specs.Stands.{Stands}
 use Rattle.kernel_steps.specs.Step.{Stepped, and_then, quietly, with_store}
 use Rattle.kernel_steps.proofs.StoredWords.{image-stored, plain-stored}
 use Rattle.kernel_machine.specs.Leaves.{Leaves}

@@ -1,3 +1,4 @@
+pub mod PartsBeside
 pub mod OneMachine
 pub mod LeftParts
 pub mod ServedParts
@@ -13,3 +14,4 @@ pub mod QuietParts
 pub mod QuietSpan
 pub mod UncountedSteps
 pub mod RunParts
+pub mod Shown

@@ -1,13 +1,13 @@
 -- A step of a whole machine.
 use Rattle.std.proofs.Common.{◌≡◌, ℕ, ◌<◌, Option, Some, None, refl, sym, ap, ◌∙◌, subst}
 use Rattle.std.specs.Option.{option_map}
-use Rattle.session_text.specs.Ranges.{most_steps}
-use Rattle.kernel_model.specs.Kernel.{Kernel, Stop as KernelStop}
-use Rattle.kernel_model.specs.ValidKernel.{IsFullMachine}
-use Rattle.call_answers.specs.Outside.{Outside}
-use Rattle.bare_machine.specs.declared.stops.Stop.{Stop}
-use Rattle.machine_parts.specs.declared.parts.Parts.{Parts}
-use Rattle.machine_parts.specs.Stops.{stop_of}
+use Rattle.kernel_steps.specs.KernelCalls.KernelModel.Ranges.{most_steps}
+use Rattle.kernel_steps.specs.KernelCalls.KernelModel.Kernel.{Kernel, Stop as KernelStop}
+use Rattle.kernel_steps.specs.KernelCalls.KernelModel.ValidKernel.{IsFullMachine}
+use Rattle.kernel_steps.specs.KernelCalls.CallAnswers.Outside.{Outside}
+use Rattle.kernel_steps.specs.KernelCalls.KernelModel.declared.stops.Stop.{Stop}
+use Rattle.kernel_machine.specs.declared.parts.Parts.{Parts}
+use Rattle.kernel_machine.specs.Stops.{stop_of}
 use Rattle.kernel_steps.specs.Parts.{IsTaken}
 use Rattle.kernel_steps.specs.Step.{Stepped, quietly, run, step}
 use Rattle.kernel_steps.proofs.StepKept.{step-left}

@@ -3,17 +3,17 @@ use Rattle.std.proofs.Common.{◌≡◌, ℕ, ◌<◌, List, [], length, Option,
 use Rattle.std.specs.Option.{option_map}
 use Rattle.std.proofs.lemmas.Bool.{cases_lt}
 use Rattle.std.proofs.lemmas.List.{ext_get_or}
-use Rattle.owned_words.specs.Owned.{owners}
-use Rattle.kernel_model.specs.Image.{HasPlainWords, IsImage, plain_at, plain_words}
-use Rattle.kernel_model.specs.Kernel.{Kernel, Stop as KernelStop, owned_by}
-use Rattle.kernel_model.specs.Kernel.Stop.{Quit as KernelQuit, Finish as KernelFinish, Fault as KernelFault}
-use Rattle.kernel_model.specs.Recovered.{lists_in}
-use Rattle.kernel_model.specs.ValidKernel.{IsFullMachine}
-use Rattle.kernel_model.proofs.RecoveredLists.{lists-back}
-use Rattle.bare_machine.specs.declared.stops.Stop.{Stop}
-use Rattle.machine_parts.specs.declared.parts.Parts.{Parts}
-use Rattle.machine_parts.specs.Stands.{Stands}
-use Rattle.machine_parts.specs.Stops.{stop_of}
+use Rattle.kernel_steps.specs.KernelCalls.OwnedWords.Owned.{owners}
+use Rattle.kernel_steps.specs.KernelCalls.KernelModel.Image.{HasPlainWords, IsImage, plain_at, plain_words}
+use Rattle.kernel_steps.specs.KernelCalls.KernelModel.Kernel.{Kernel, Stop as KernelStop, owned_by}
+use Rattle.kernel_steps.specs.KernelCalls.KernelModel.Kernel.Stop.{Quit as KernelQuit, Finish as KernelFinish, Fault as KernelFault}
+use Rattle.kernel_steps.specs.KernelCalls.KernelModel.Recovered.{lists_in}
+use Rattle.kernel_steps.specs.KernelCalls.KernelModel.ValidKernel.{IsFullMachine}
+use Rattle.kernel_steps.proofs.Shown.KernelCalls.KernelModel.RecoveredLists.{lists-back}
+use Rattle.kernel_steps.specs.KernelCalls.KernelModel.declared.stops.Stop.{Stop}
+use Rattle.kernel_machine.specs.declared.parts.Parts.{Parts}
+use Rattle.kernel_machine.specs.Stands.{Stands}
+use Rattle.kernel_machine.specs.Stops.{stop_of}
 use Rattle.kernel_steps.specs.Step.{with_store}
 use Rattle.kernel_steps.proofs.StoredWords.{image-stored, plain-stored}
 use Rattle.kernel_machine.specs.Machine.{IsWhole, kernel_of, kernel_stop, stop_in}

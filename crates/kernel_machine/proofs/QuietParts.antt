@@ -4,18 +4,18 @@ use Rattle.std.specs.Prelude.{is_some, slice_get}
 use Rattle.std.proofs.Math.Nat.{div-le_self, div-lt_iff_lt-mul, div-mul-le_self}
 use Rattle.std.proofs.lemmas.Bool.{cases_lt, lt-leb}
 use Rattle.std.proofs.lemmas.Nat.{le-div}
-use Rattle.session_text.specs.Ranges.{most_steps}
-use Rattle.packet_queue.specs.QueueWords.{QueuedPacket}
-use Rattle.kernel_model.specs.HoldsLists.{HoldsLists}
-use Rattle.kernel_model.specs.Kernel.{Kernel}
-use Rattle.kernel_model.specs.Lists.{Lists}
-use Rattle.kernel_model.specs.Recovered.{lists_in}
-use Rattle.kernel_model.proofs.RecoveredLists.{lists-back}
-use Rattle.device_returns.specs.declared.returns.Device.TheVariants.{OfClock, OfKeys, OfOutput}
-use Rattle.device_returns.proofs.DeviceQueues.{none-waits}
-use Rattle.clock_device.specs.Tick.{is_first_due}
-use Rattle.clock_device.proofs.FirstDue.{due-some}
-use Rattle.machine_parts.specs.declared.parts.Parts.{Parts}
+use Rattle.kernel_steps.specs.KernelCalls.KernelModel.Ranges.{most_steps}
+use Rattle.kernel_steps.specs.KernelCalls.PacketQueue.QueueWords.{QueuedPacket}
+use Rattle.kernel_steps.specs.KernelCalls.KernelModel.HoldsLists.{HoldsLists}
+use Rattle.kernel_steps.specs.KernelCalls.KernelModel.Kernel.{Kernel}
+use Rattle.kernel_steps.specs.KernelCalls.KernelModel.Lists.{Lists}
+use Rattle.kernel_steps.specs.KernelCalls.KernelModel.Recovered.{lists_in}
+use Rattle.kernel_steps.proofs.Shown.KernelCalls.KernelModel.RecoveredLists.{lists-back}
+use Rattle.kernel_steps.specs.KernelCalls.PacketCalls.declared.returns.Device.TheVariants.{OfClock, OfKeys, OfOutput}
+use Rattle.kernel_steps.proofs.Shown.KernelCalls.PacketCalls.DeviceQueues.{none-waits}
+use Rattle.kernel_steps.specs.KernelDevices.ClockDevice.Tick.{is_first_due}
+use Rattle.kernel_steps.proofs.Shown.KernelDevices.ClockDevice.FirstDue.{due-some}
+use Rattle.kernel_machine.specs.declared.parts.Parts.{Parts}
 use Rattle.kernel_steps.specs.Quiet.{AreDueAfter, AwaitsTick, ComeAfter, IsQuietFor}
 use Rattle.kernel_steps.proofs.NextTick.{some-period}
 use Rattle.kernel_machine.specs.Machine.{IsWhole, kernel_of}

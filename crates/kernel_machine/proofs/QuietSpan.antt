@@ -1,24 +1,24 @@
 -- Steps of which nobody but the running task knows.
 use Rattle.std.proofs.Common.{◌≡◌, ℕ, suc, ◌+◌, ◌/◌, ◌<◌, ◌≤◌, ◌⊎◌, true, None, List, [], length, set, inl, inr, refl, sym, ap, ◌∙◌, subst, arith}
-use Rattle.session_text.specs.Ranges.{most_steps}
+use Rattle.kernel_steps.specs.KernelCalls.KernelModel.Ranges.{most_steps}
 use Rattle.word_store.specs.declared.registers.Regs.{Regs}
 use Rattle.cint_exec.specs.Instruction.{instruction}
 use Rattle.cint_exec.specs.declared.Fault.{Fault}
 use Rattle.cint_exec.specs.declared.Outcome.{Outcome}
 use Rattle.cint_exec.specs.declared.Outcome.TheVariants.{Next, Sys, Returned, Fault as Faulted}
-use Rattle.kernel_model.specs.HoldsLists.{HoldsLists}
-use Rattle.kernel_model.specs.Image.{image}
-use Rattle.kernel_model.specs.Kernel.{Kernel}
-use Rattle.kernel_model.specs.Task.{is_guest_id}
-use Rattle.kernel_model.specs.ValidKernel.{IsFullMachine}
-use Rattle.kernel_model.proofs.ChangedLists.{changed-none, knows-same}
-use Rattle.kernel_model.proofs.ImageWords.{image-list}
-use Rattle.word_kinds.specs.ByteMap.{MarksAll}
-use Rattle.clock_device.specs.Tick.{with_tick}
-use Rattle.clock_device.proofs.TickLists.{tick-owned}
-use Rattle.guest_instructions.specs.Guarded.{is_owned}
-use Rattle.machine_parts.specs.declared.parts.Parts.{Parts}
-use Rattle.machine_parts.specs.Stands.{Stands}
+use Rattle.kernel_steps.specs.KernelCalls.KernelModel.HoldsLists.{HoldsLists}
+use Rattle.kernel_steps.specs.KernelCalls.KernelModel.Image.{image}
+use Rattle.kernel_steps.specs.KernelCalls.KernelModel.Kernel.{Kernel}
+use Rattle.kernel_steps.specs.KernelCalls.KernelModel.Task.{is_guest_id}
+use Rattle.kernel_steps.specs.KernelCalls.KernelModel.ValidKernel.{IsFullMachine}
+use Rattle.kernel_steps.proofs.Shown.KernelCalls.KernelModel.ChangedLists.{changed-none, knows-same}
+use Rattle.kernel_steps.proofs.Shown.KernelCalls.KernelModel.ImageWords.{image-list}
+use Rattle.kernel_steps.specs.KernelCalls.WordKinds.ByteMap.{MarksAll}
+use Rattle.kernel_steps.specs.KernelDevices.ClockDevice.Tick.{with_tick}
+use Rattle.kernel_steps.proofs.Shown.KernelDevices.ClockDevice.TickLists.{tick-owned}
+use Rattle.kernel_steps.specs.GuestTurns.Guarded.{is_owned}
+use Rattle.kernel_machine.specs.declared.parts.Parts.{Parts}
+use Rattle.kernel_machine.specs.Stands.{Stands}
 use Rattle.kernel_steps.specs.Quiet.{IsQuietFor, after_instruction_of, instruction_of, passed}
 use Rattle.kernel_steps.specs.Step.{Stepped, and_then, quietly, run, step, with_store}
 use Rattle.kernel_steps.proofs.NextTick.{some-period}

@@ -3,40 +3,40 @@ use Rattle.std.proofs.Common.{◌≡◌, ◌≢◌, ℕ, List, [], ◌∷◌, le
 use Rattle.std.proofs.lemmas.Bool.{ne_eqb}
 use Rattle.std.specs.Prelude.{is_some}
 use Rattle.std.specs.Option.{option_map}
-use Rattle.bare_machine.specs.declared.stops.Stop.TheVariants.{Finish as MachineFinish}
-use Rattle.packet_queue.specs.QueueWords.{QueuedPacket}
+use Rattle.kernel_steps.specs.KernelCalls.KernelModel.declared.stops.Stop.TheVariants.{Finish as MachineFinish}
+use Rattle.kernel_steps.specs.KernelCalls.PacketQueue.QueueWords.{QueuedPacket}
 use Rattle.ram_disc.specs.Disc.{Disc, IsDisc, shell_stream, stream_at}
-use Rattle.kernel_model.specs.Between.{is_typing}
-use Rattle.kernel_model.specs.Image.{image}
-use Rattle.kernel_model.specs.Kernel.{Console, Kernel, Pipe, Shell}
-use Rattle.kernel_model.specs.Kernel.Stop.{Finish}
-use Rattle.kernel_model.specs.Lists.{Lists}
-use Rattle.kernel_model.specs.Residents.{fault_packet}
-use Rattle.kernel_model.specs.Task.{is_guest_id}
-use Rattle.kernel_model.proofs.ChangedLists.{changed-none}
-use Rattle.kernel_model.proofs.ImageWords.{image-list}
-use Rattle.word_kinds.specs.ByteMap.{MarksAll}
-use Rattle.call_answers.specs.Outside.{Outside}
-use Rattle.resident_requests.specs.Requests.{RunsResident, TakesRequest, first_request, taken, words_taken, work}
-use Rattle.resident_requests.specs.Turns.{IsResidentTurn, ResidentTurn, Served, request_turn, turn_of}
-use Rattle.resident_requests.specs.declared.requests.Request.{Request}
-use Rattle.resident_requests.proofs.ResidentTurns.{takes-request}
-use Rattle.fault_reporter.specs.FaultTurns.{CanReport, fault_turn, fault_turn_from, reported_turn, unknown}
-use Rattle.console_handler.specs.ConsoleTurn.{RunsConsole, all_parts, console_turn, turn_done}
-use Rattle.console_handler.specs.Progress.{Progress, begun}
-use Rattle.file_handler.specs.FileTurn.{RunsFileHandler, disc_after_turn, file_service, file_turn}
-use Rattle.pipe_handler.specs.PipeTurns.{pipe_service, pipe_turn, pipes_after_turn}
-use Rattle.cli_shell.specs.DoneParts.{IsShellTurn}
-use Rattle.cli_shell.specs.Modes.{awaited}
-use Rattle.cli_shell.specs.ShellTurn.{RunsShell, shell_turn}
-use Rattle.cli_shell.specs.TurnParts.{ShellTurn}
-use Rattle.cli_shell.proofs.KeptRules.{turn-rest}
-use Rattle.guest_turns.specs.GuestTurn.{numbers_of}
-use Rattle.guest_turns.proofs.RunningField.{RunsIn}
-use Rattle.machine_parts.specs.declared.parts.Parts.{Parts}
-use Rattle.machine_parts.specs.Stands.{Stands}
-use Rattle.machine_parts.specs.Stops.{stop_of}
-use Rattle.machine_parts.proofs.PartsBeside.{stands-beside}
+use Rattle.kernel_steps.specs.KernelCalls.KernelModel.Between.{is_typing}
+use Rattle.kernel_steps.specs.KernelCalls.KernelModel.Image.{image}
+use Rattle.kernel_steps.specs.KernelCalls.KernelModel.Kernel.{Console, Kernel, Pipe, Shell}
+use Rattle.kernel_steps.specs.KernelCalls.KernelModel.Kernel.Stop.{Finish}
+use Rattle.kernel_steps.specs.KernelCalls.KernelModel.Lists.{Lists}
+use Rattle.kernel_steps.specs.KernelCalls.KernelModel.Residents.{fault_packet}
+use Rattle.kernel_steps.specs.KernelCalls.KernelModel.Task.{is_guest_id}
+use Rattle.kernel_steps.proofs.Shown.KernelCalls.KernelModel.ChangedLists.{changed-none}
+use Rattle.kernel_steps.proofs.Shown.KernelCalls.KernelModel.ImageWords.{image-list}
+use Rattle.kernel_steps.specs.KernelCalls.WordKinds.ByteMap.{MarksAll}
+use Rattle.kernel_steps.specs.KernelCalls.CallAnswers.Outside.{Outside}
+use Rattle.kernel_steps.specs.KernelResidents.ResidentRequests.Requests.{RunsResident, TakesRequest, first_request, taken, words_taken, work}
+use Rattle.kernel_steps.specs.KernelResidents.ResidentRequests.Turns.{IsResidentTurn, ResidentTurn, Served, request_turn, turn_of}
+use Rattle.kernel_steps.specs.KernelResidents.ResidentRequests.declared.requests.Request.{Request}
+use Rattle.kernel_steps.proofs.Shown.KernelResidents.ResidentRequests.ResidentTurns.{takes-request}
+use Rattle.kernel_steps.specs.KernelResidents.FaultReporter.FaultTurns.{CanReport, fault_turn, fault_turn_from, reported_turn, unknown}
+use Rattle.kernel_steps.specs.KernelResidents.ConsoleHandler.ConsoleTurn.{RunsConsole, all_parts, console_turn, turn_done}
+use Rattle.kernel_steps.specs.KernelResidents.ConsoleHandler.Progress.{Progress, begun}
+use Rattle.kernel_steps.specs.KernelResidents.FileHandler.FileTurn.{RunsFileHandler, disc_after_turn, file_service, file_turn}
+use Rattle.kernel_steps.specs.KernelResidents.PipeHandler.PipeTurns.{pipe_service, pipe_turn, pipes_after_turn}
+use Rattle.kernel_steps.specs.CliShell.DoneParts.{IsShellTurn}
+use Rattle.kernel_steps.specs.CliShell.Modes.{awaited}
+use Rattle.kernel_steps.specs.CliShell.ShellTurn.{RunsShell, shell_turn}
+use Rattle.kernel_steps.specs.CliShell.TurnParts.{ShellTurn}
+use Rattle.kernel_steps.proofs.Shown.CliShell.KeptRules.{turn-rest}
+use Rattle.kernel_steps.specs.GuestTurns.GuestTurn.{numbers_of}
+use Rattle.kernel_steps.proofs.Shown.GuestTurns.RunningField.{RunsIn}
+use Rattle.kernel_machine.specs.declared.parts.Parts.{Parts}
+use Rattle.kernel_machine.specs.Stands.{Stands}
+use Rattle.kernel_machine.specs.Stops.{stop_of}
+use Rattle.kernel_machine.proofs.PartsBeside.{stands-beside}
 use Rattle.kernel_steps.specs.ResidentSteps.{after_resident, console_parts, console_step, file_step, handler_step, pipe_step, reporter_step, resident_step, serves_pipes, shell_step, with_console_lines, with_disc, with_pipes}
 use Rattle.kernel_steps.specs.Step.{quietly, with_store}
 use Rattle.kernel_steps.proofs.HandledRules.{request-runs}

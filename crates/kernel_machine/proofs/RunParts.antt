@@ -8,13 +8,13 @@ use Rattle.tp_io.specs.Pending.{IsCut, IsGathered}
 use Rattle.tp_io.proofs.AppendedTexts.{AppendsPrefix-whole}
 use Rattle.tp_io.proofs.GatheredTexts.{IsCut-more, IsCut-then, IsGathered-nothing, IsGathered-then}
 use Rattle.tp_io.specs.Write.{AppendsPrefix}
-use Rattle.packet_queue.specs.declared.events.KernelEvent.{KernelEvent}
-use Rattle.kernel_model.specs.Kernel.{Kernel, Stop as KernelStop}
-use Rattle.kernel_model.specs.NotedEvents.{NotesAll}
-use Rattle.kernel_model.proofs.NotedInTurn.{notes-none, notes-then}
-use Rattle.bare_machine.specs.declared.stops.Stop.{Stop}
-use Rattle.bare_machine.specs.declared.stops.Stop.TheVariants.{Steps}
-use Rattle.machine_parts.specs.Stops.{end_of_run, stop_of}
+use Rattle.kernel_steps.specs.KernelCalls.PacketQueue.declared.events.KernelEvent.{KernelEvent}
+use Rattle.kernel_steps.specs.KernelCalls.KernelModel.Kernel.{Kernel, Stop as KernelStop}
+use Rattle.kernel_steps.specs.KernelCalls.KernelModel.NotedEvents.{NotesAll}
+use Rattle.kernel_steps.proofs.Shown.KernelCalls.KernelModel.NotedInTurn.{notes-none, notes-then}
+use Rattle.kernel_steps.specs.KernelCalls.KernelModel.declared.stops.Stop.{Stop}
+use Rattle.kernel_steps.specs.KernelCalls.KernelModel.declared.stops.Stop.TheVariants.{Steps}
+use Rattle.kernel_machine.specs.Stops.{end_of_run, stop_of}
 use Rattle.kernel_steps.specs.Step.{Stepped, and_then, quietly, run, step}
 use Rattle.kernel_steps.proofs.Runs.{run-more, run-stopped}
 use Rattle.kernel_machine.specs.Runs.{HasCause, HasRun}

@@ -2,12 +2,12 @@
 use Rattle.std.proofs.Common.{◌≡◌, ◌≢◌, ℕ, ◌<◌, ◌≤◌, List, true, false, cond, eqb, get_or, sym, ap, ◌∙◌, arith}
 use Rattle.std.proofs.lemmas.Bool.{ne_eqb}
 use Rattle.std.proofs.lemmas.Bool.Decides.{nat_tests}
-use Rattle.kernel_model.specs.HoldsLists.{HoldsLists}
-use Rattle.kernel_model.specs.Lists.{Lists}
-use Rattle.kernel_model.specs.Recovered.{lists_in, number_of}
-use Rattle.kernel_model.proofs.RecoveredLists.{lists-back}
-use Rattle.kernel_model.specs.Task.{is_guest_id}
-use Rattle.task_block.specs.TaskChain.{id_in}
+use Rattle.kernel_steps.specs.KernelCalls.KernelModel.HoldsLists.{HoldsLists}
+use Rattle.kernel_steps.specs.KernelCalls.KernelModel.Lists.{Lists}
+use Rattle.kernel_steps.specs.KernelCalls.KernelModel.Recovered.{lists_in, number_of}
+use Rattle.kernel_steps.proofs.Shown.KernelCalls.KernelModel.RecoveredLists.{lists-back}
+use Rattle.kernel_steps.specs.KernelCalls.KernelModel.Task.{is_guest_id}
+use Rattle.kernel_steps.specs.KernelCalls.TaskBlock.TaskChain.{id_in}
 
 module _ (s : List ℕ) (l : Lists) (h : HoldsLists s l) where
   running-back : number_of s (get_or s 102 0) ≡ l.running

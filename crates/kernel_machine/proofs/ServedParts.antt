@@ -2,26 +2,26 @@
 use Rattle.std.proofs.Common.{◌≡◌, ℕ, ◌%◌, ◌++◌, List, [], ◌∷◌, length, Bool, true, false, cond, eqb, leb, append-nil, refl, sym, ap, ◌∙◌, subst}
 use Rattle.std.proofs.lemmas.Bool.{eq-eqb, ne_eqb}
 use Rattle.word_store.specs.declared.registers.Regs.{Regs}
-use Rattle.owned_words.specs.Owned.{Pairs, written}
-use Rattle.kernel_model.specs.ChangedStore.{IsChanged, Knows}
-use Rattle.kernel_model.specs.Image.{settled}
-use Rattle.kernel_model.specs.Kernel.{Kernel}
-use Rattle.kernel_model.specs.Lists.{Lists}
-use Rattle.kernel_model.specs.NotedEvents.{NotesAll}
-use Rattle.kernel_model.proofs.ChangedLists.{knows-same}
-use Rattle.kernel_model.proofs.ImageWords.{image-list}
-use Rattle.word_kinds.specs.ByteMap.{MarksAll}
-use Rattle.kernel_dispatch.specs.Dispatch.{CanDispatch, dispatched}
-use Rattle.kernel_dispatch.specs.Turn.{IsDispatched}
-use Rattle.device_returns.specs.Returned.{IsServed, Served}
-use Rattle.clock_device.specs.Tick.{ticked}
-use Rattle.tty_device.specs.Keys.{left_typed, met}
-use Rattle.tty_device.specs.Printed.{finished, printed}
-use Rattle.tty_device.specs.Typed.{with_typed}
-use Rattle.call_answers.specs.Outside.{Outside}
-use Rattle.guest_turns.specs.GuestTurn.{numbers_of}
-use Rattle.machine_parts.specs.declared.parts.Parts.{Parts}
-use Rattle.machine_parts.specs.Stands.{Stands}
+use Rattle.kernel_steps.specs.KernelCalls.OwnedWords.Owned.{Pairs, written}
+use Rattle.kernel_steps.specs.KernelCalls.KernelModel.ChangedStore.{IsChanged, Knows}
+use Rattle.kernel_steps.specs.KernelCalls.KernelModel.Image.{settled}
+use Rattle.kernel_steps.specs.KernelCalls.KernelModel.Kernel.{Kernel}
+use Rattle.kernel_steps.specs.KernelCalls.KernelModel.Lists.{Lists}
+use Rattle.kernel_steps.specs.KernelCalls.KernelModel.NotedEvents.{NotesAll}
+use Rattle.kernel_steps.proofs.Shown.KernelCalls.KernelModel.ChangedLists.{knows-same}
+use Rattle.kernel_steps.proofs.Shown.KernelCalls.KernelModel.ImageWords.{image-list}
+use Rattle.kernel_steps.specs.KernelCalls.WordKinds.ByteMap.{MarksAll}
+use Rattle.kernel_steps.specs.KernelCalls.KernelDispatch.Dispatch.{CanDispatch, dispatched}
+use Rattle.kernel_steps.specs.KernelCalls.KernelDispatch.Turn.{IsDispatched}
+use Rattle.kernel_steps.specs.KernelCalls.PacketCalls.Returned.{IsServed, Served}
+use Rattle.kernel_steps.specs.KernelDevices.ClockDevice.Tick.{ticked}
+use Rattle.kernel_steps.specs.KernelDevices.TtyDevice.Keys.{left_typed, met}
+use Rattle.kernel_steps.specs.KernelDevices.TtyDevice.Printed.{finished, printed}
+use Rattle.kernel_steps.specs.KernelDevices.TtyDevice.Typed.{with_typed}
+use Rattle.kernel_steps.specs.KernelCalls.CallAnswers.Outside.{Outside}
+use Rattle.kernel_steps.specs.GuestTurns.GuestTurn.{numbers_of}
+use Rattle.kernel_machine.specs.declared.parts.Parts.{Parts}
+use Rattle.kernel_machine.specs.Stands.{Stands}
 use Rattle.kernel_steps.specs.Parts.{numbers_after_tick}
 use Rattle.kernel_steps.specs.Step.{dispatch, key, output, quietly, served, switched, tick, typed_by, with_key_typed, with_store}
 use Rattle.kernel_steps.proofs.DevicesKept.{key-numbers, output-numbers, tick-numbers}

@@ -3,17 +3,16 @@ use Rattle.std.proofs.Common.{◌≡◌, ℕ, ◌+◌, ◌-◌, ◌^◌, ◌<◌
 use Rattle.std.specs.Prelude.{is_none, is_some, not}
 use Rattle.std.specs.Option.{option_map}
 use Rattle.std.proofs.Math.Nat.{div-le_self}
-use Rattle.session_text.specs.Ranges.{most_steps}
+use Rattle.kernel_steps.specs.KernelCalls.KernelModel.Ranges.{most_steps}
 use Rattle.ram_disc.specs.Disc.{IsDisc}
-use Rattle.kernel_model.specs.Kernel.{Kernel}
-use Rattle.kernel_model.specs.ValidKernel.{IsFullMachine}
-use Rattle.kernel_dispatch.specs.Dispatch.{CanDispatch}
-use Rattle.kernel_model.specs.Image.{settled}
-use Rattle.kernel_model.specs.Kernel.{Stop as KernelStop}
-use Rattle.bare_machine.specs.declared.stops.Stop.{Stop}
-use Rattle.machine_parts.specs.Stops.{stop_of}
-use Rattle.machine_parts.specs.declared.parts.Parts.{Parts}
-use Rattle.machine_parts.specs.Stands.{Stands}
+use Rattle.kernel_steps.specs.KernelCalls.KernelModel.Kernel.{Kernel, Stop as KernelStop}
+use Rattle.kernel_steps.specs.KernelCalls.KernelModel.ValidKernel.{IsFullMachine}
+use Rattle.kernel_steps.specs.KernelCalls.KernelDispatch.Dispatch.{CanDispatch}
+use Rattle.kernel_steps.specs.KernelCalls.KernelModel.Image.{settled}
+use Rattle.kernel_steps.specs.KernelCalls.KernelModel.declared.stops.Stop.{Stop}
+use Rattle.kernel_machine.specs.Stops.{stop_of}
+use Rattle.kernel_machine.specs.declared.parts.Parts.{Parts}
+use Rattle.kernel_machine.specs.Stands.{Stands}
 use Rattle.kernel_steps.specs.Parts.{CanTurn, IsTaken}
 use Rattle.kernel_steps.specs.Step.{after_the_turn, and_then, dispatch, key, output, quietly, step, tick, turn, unless_stopped, with_step}
 use Rattle.kernel_steps.proofs.DevicesKept.{key-dispatch, key-stop, output-dispatch, output-stop, tick-dispatch, tick-stop}

@@ -4,36 +4,36 @@ use Rattle.word_store.specs.declared.registers.Regs.{Regs}
 use Rattle.cint_exec.specs.Instruction.{After, instruction}
 use Rattle.cint_exec.specs.declared.Outcome.{Outcome}
 use Rattle.cint_exec.specs.declared.Outcome.TheVariants.{Next, Sys, Returned, Fault as Faulted}
-use Rattle.packet_queue.specs.QueueWords.{QueuedPacket}
-use Rattle.kernel_model.specs.Changes.{queue_of}
-use Rattle.kernel_model.specs.Image.{image}
-use Rattle.kernel_model.specs.Kernel.{Kernel}
-use Rattle.kernel_model.specs.Lists.{Lists}
-use Rattle.kernel_model.specs.ValidQueues.Place.{Work}
-use Rattle.call_answers.specs.Made.{Made}
-use Rattle.packet_calls.specs.TaskWait.{taskwait}
-use Rattle.kernel_calls.specs.Calls.{kernel_call, made, of_wait, requested}
-use Rattle.kernel_calls.specs.Requests.{call_of}
-use Rattle.kernel_calls.specs.declared.requests.CallOutcome.{CallOutcome}
-use Rattle.kernel_calls.specs.declared.requests.KernelCall.{KernelCall}
-use Rattle.kernel_calls.specs.declared.requests.KernelCall.TheVariants.{TaskWait}
-use Rattle.guest_instructions.specs.Guarded.{is_owned}
-use Rattle.guest_turns.specs.GuestTurn.{after_instruction, turn_without_reporter}
+use Rattle.kernel_steps.specs.KernelCalls.PacketQueue.QueueWords.{QueuedPacket}
+use Rattle.kernel_steps.specs.KernelCalls.KernelModel.Changes.{queue_of}
+use Rattle.kernel_steps.specs.KernelCalls.KernelModel.Image.{image}
+use Rattle.kernel_steps.specs.KernelCalls.KernelModel.Kernel.{Kernel}
+use Rattle.kernel_steps.specs.KernelCalls.KernelModel.Lists.{Lists}
+use Rattle.kernel_steps.specs.KernelCalls.KernelModel.ValidQueues.Place.{Work}
+use Rattle.kernel_steps.specs.KernelCalls.CallAnswers.Made.{Made}
+use Rattle.kernel_steps.specs.KernelCalls.PacketCalls.TaskWait.{taskwait}
+use Rattle.kernel_steps.specs.KernelCalls.Calls.{kernel_call, made, of_wait, requested}
+use Rattle.kernel_steps.specs.KernelCalls.Requests.{call_of}
+use Rattle.kernel_steps.specs.KernelCalls.declared.requests.CallOutcome.{CallOutcome}
+use Rattle.kernel_steps.specs.KernelCalls.declared.requests.KernelCall.{KernelCall}
+use Rattle.kernel_steps.specs.KernelCalls.declared.requests.KernelCall.TheVariants.{TaskWait}
+use Rattle.kernel_steps.specs.GuestTurns.Guarded.{is_owned}
+use Rattle.kernel_steps.specs.GuestTurns.GuestTurn.{after_instruction, turn_without_reporter}
 use Rattle.kernel_steps.specs.GuestSteps.{guest_step}
 use Rattle.kernel_steps.proofs.TurnWays.{guest-ways}
 use Rattle.std.specs.List.{flat_map}
 use Rattle.std.specs.Prelude.{codes, decimal}
 use Rattle.std.proofs.lemmas.List.{length-append}
 use Rattle.tp_io.specs.Pieces.{joined}
-use Rattle.task_block.specs.TaskChain.{tasks_in}
-use Rattle.kernel_model.specs.HoldsLists.{HoldsLists}
-use Rattle.kernel_model.specs.Residents.{fault_packet}
-use Rattle.resident_requests.specs.Requests.{first_request, taken, words_taken, work}
-use Rattle.resident_requests.specs.Turns.{Served, request_turn, turn_of}
-use Rattle.resident_requests.specs.declared.requests.Request.{Request}
-use Rattle.fault_reporter.specs.FaultTurns.{fault_turn, fault_turn_from, reported_turn, unknown}
-use Rattle.fault_reporter.specs.Texts.{is_unreported_word, most_in_line, report, report_at, reports, reports_in}
-use Rattle.fault_reporter.proofs.ReportLines.{few_digits, lines-room, reports-read}
+use Rattle.kernel_steps.specs.KernelCalls.TaskBlock.TaskChain.{tasks_in}
+use Rattle.kernel_steps.specs.KernelCalls.KernelModel.HoldsLists.{HoldsLists}
+use Rattle.kernel_steps.specs.KernelCalls.KernelModel.Residents.{fault_packet}
+use Rattle.kernel_steps.specs.KernelResidents.ResidentRequests.Requests.{first_request, taken, words_taken, work}
+use Rattle.kernel_steps.specs.KernelResidents.ResidentRequests.Turns.{Served, request_turn, turn_of}
+use Rattle.kernel_steps.specs.KernelResidents.ResidentRequests.declared.requests.Request.{Request}
+use Rattle.kernel_steps.specs.KernelResidents.FaultReporter.FaultTurns.{fault_turn, fault_turn_from, reported_turn, unknown}
+use Rattle.kernel_steps.specs.KernelResidents.FaultReporter.Texts.{is_unreported_word, most_in_line, report, report_at, reports, reports_in}
+use Rattle.kernel_steps.proofs.Shown.KernelResidents.FaultReporter.ReportLines.{few_digits, lines-room, reports-read}
 
 wait-bytes : (r : Regs) (ps : List QueuedPacket) (m : Made) → length (of_wait r ps m).bytes ≤ 1
 wait-bytes r [] m = omega arith

@@ -3,19 +3,19 @@ use Rattle.std.proofs.Common.{◌≡◌, ◌≢◌, ℕ, ◌+◌, ◌&&◌, List
 use Rattle.std.specs.Prelude.{is_some}
 use Rattle.std.specs.List.{AllByRecursion}
 use Rattle.std.proofs.lemmas.Bool.{eq-eqb, ne_eqb}
-use Rattle.task_block.specs.TaskChain.{task_with, tasks_in}
-use Rattle.packet_queue.specs.QueueWords.{QueuedPacket, address_of, packet_words}
-use Rattle.kernel_model.specs.HoldsLists.{HoldsLists}
-use Rattle.kernel_model.specs.Lists.{Lists, has_task}
-use Rattle.kernel_model.specs.Recovered.{lists_in}
-use Rattle.kernel_model.specs.ValidQueues.Place.{Work}
-use Rattle.kernel_model.proofs.EachMember.{holds-each}
-use Rattle.kernel_model.proofs.RecoveredLists.{lists-back}
-use Rattle.kernel_model.proofs.WalkedLists.{residents-read}
-use Rattle.call_answers.proofs.FoundTask.{Finds, find-task, found-there}
-use Rattle.packet_calls.specs.TaskWait.{first_of_queue}
-use Rattle.packet_moves.proofs.HeldPlaces.{held-at}
-use Rattle.resident_requests.specs.Requests.{RunsResident, work}
+use Rattle.kernel_steps.specs.KernelCalls.TaskBlock.TaskChain.{task_with, tasks_in}
+use Rattle.kernel_steps.specs.KernelCalls.PacketQueue.QueueWords.{QueuedPacket, address_of, packet_words}
+use Rattle.kernel_steps.specs.KernelCalls.KernelModel.HoldsLists.{HoldsLists}
+use Rattle.kernel_steps.specs.KernelCalls.KernelModel.Lists.{Lists, has_task}
+use Rattle.kernel_steps.specs.KernelCalls.KernelModel.Recovered.{lists_in}
+use Rattle.kernel_steps.specs.KernelCalls.KernelModel.ValidQueues.Place.{Work}
+use Rattle.kernel_steps.proofs.Shown.KernelCalls.KernelModel.EachMember.{holds-each}
+use Rattle.kernel_steps.proofs.Shown.KernelCalls.KernelModel.RecoveredLists.{lists-back}
+use Rattle.kernel_steps.proofs.Shown.KernelCalls.KernelModel.WalkedLists.{residents-read}
+use Rattle.kernel_steps.proofs.Shown.KernelCalls.CallAnswers.FoundTask.{Finds, find-task, found-there}
+use Rattle.kernel_steps.specs.KernelCalls.PacketCalls.TaskWait.{first_of_queue}
+use Rattle.kernel_steps.proofs.Shown.KernelCalls.PacketCalls.HeldPlaces.{held-at}
+use Rattle.kernel_steps.specs.KernelResidents.ResidentRequests.Requests.{RunsResident, work}
 use Rattle.kernel_steps.specs.ResidentSteps.{is_for_pipes, serves_pipes}
 
 module _ (s : List ℕ) (l : Lists) (h : HoldsLists s l) where

@@ -4,26 +4,26 @@ use Rattle.std.specs.Option.{option_map}
 use Rattle.std.proofs.lemmas.Bool.{and_parts}
 use Rattle.word_store.specs.declared.registers.Regs.{Regs}
 use Rattle.cint_exec.specs.declared.Fault.{Fault}
-use Rattle.kernel_model.specs.ChangedStore.{IsChanged}
-use Rattle.kernel_model.specs.Image.{image}
-use Rattle.kernel_model.specs.Kernel.{Kernel}
-use Rattle.kernel_model.specs.Lists.{Lists}
-use Rattle.kernel_model.specs.NotedEvents.{NotesAll}
-use Rattle.kernel_model.proofs.ChangedLists.{changed-then, knows-same}
-use Rattle.kernel_model.proofs.ImageWords.{image-list}
-use Rattle.kernel_model.proofs.NotedInTurn.{notes-then}
-use Rattle.word_kinds.specs.ByteMap.{MarksAll}
-use Rattle.call_answers.specs.Outside.{Outside}
-use Rattle.guest_turns.specs.GuestTurn.{IsTurned, Turned, numbers_of, turn_without_reporter}
-use Rattle.guest_turns.specs.declared.turns.TurnEnd.{TurnEnd}
-use Rattle.guest_turns.specs.declared.turns.TurnEnd.TheVariants.{Faults, Goes, Quits}
-use Rattle.guest_turns.proofs.TurnFields.{turn-numbers}
-use Rattle.guest_turns.proofs.TurnParts.{turn-size}
-use Rattle.fault_reporter.specs.Recorded.{CanRecord, OwnsSame, recorded, recorded_events}
-use Rattle.bare_machine.specs.declared.stops.Stop.{Stop}
-use Rattle.machine_parts.specs.declared.parts.Parts.{Parts}
-use Rattle.machine_parts.specs.Stands.{Stands}
-use Rattle.machine_parts.specs.Stops.{stop_of}
+use Rattle.kernel_steps.specs.KernelCalls.KernelModel.ChangedStore.{IsChanged}
+use Rattle.kernel_steps.specs.KernelCalls.KernelModel.Image.{image}
+use Rattle.kernel_steps.specs.KernelCalls.KernelModel.Kernel.{Kernel}
+use Rattle.kernel_steps.specs.KernelCalls.KernelModel.Lists.{Lists}
+use Rattle.kernel_steps.specs.KernelCalls.KernelModel.NotedEvents.{NotesAll}
+use Rattle.kernel_steps.proofs.Shown.KernelCalls.KernelModel.ChangedLists.{changed-then, knows-same}
+use Rattle.kernel_steps.proofs.Shown.KernelCalls.KernelModel.ImageWords.{image-list}
+use Rattle.kernel_steps.proofs.Shown.KernelCalls.KernelModel.NotedInTurn.{notes-then}
+use Rattle.kernel_steps.specs.KernelCalls.WordKinds.ByteMap.{MarksAll}
+use Rattle.kernel_steps.specs.KernelCalls.CallAnswers.Outside.{Outside}
+use Rattle.kernel_steps.specs.GuestTurns.GuestTurn.{IsTurned, Turned, numbers_of, turn_without_reporter}
+use Rattle.kernel_steps.specs.GuestTurns.declared.turns.TurnEnd.{TurnEnd}
+use Rattle.kernel_steps.specs.GuestTurns.declared.turns.TurnEnd.TheVariants.{Faults, Goes, Quits}
+use Rattle.kernel_steps.proofs.Shown.GuestTurns.TurnFields.{turn-numbers}
+use Rattle.kernel_steps.proofs.Shown.GuestTurns.TurnParts.{turn-size}
+use Rattle.kernel_steps.specs.KernelResidents.FaultReporter.Recorded.{CanRecord, OwnsSame, recorded, recorded_events}
+use Rattle.kernel_steps.specs.KernelCalls.KernelModel.declared.stops.Stop.{Stop}
+use Rattle.kernel_machine.specs.declared.parts.Parts.{Parts}
+use Rattle.kernel_machine.specs.Stands.{Stands}
+use Rattle.kernel_machine.specs.Stops.{stop_of}
 use Rattle.kernel_steps.specs.GuestSteps.{after_turn, guest_step, is_recorded, reported_by, stop_by, turn_of_guest, with_recorded}
 use Rattle.kernel_steps.proofs.RunningCaller.{runs-alone, runs-calls}
 use Rattle.kernel_steps.proofs.TurnKept.{recorded-numbers}

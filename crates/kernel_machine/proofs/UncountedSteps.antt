@@ -3,18 +3,18 @@ use Rattle.std.proofs.Common.{◌≡◌, ℕ, suc, ◌+◌, ◌*◌, ◌-◌, �
 use Rattle.std.proofs.Math.Nat.{div-add-mod, div-lt_iff_lt-mul, mod-lt}
 use Rattle.std.proofs.lemmas.List.{set-get_or}
 use Rattle.std.proofs.lemmas.Nat.{le-div}
-use Rattle.session_text.specs.Ranges.{most_steps}
+use Rattle.kernel_steps.specs.KernelCalls.KernelModel.Ranges.{most_steps}
 use Rattle.word_store.specs.declared.registers.Regs.{Regs}
 use Rattle.cint_exec.specs.Instruction.{instruction}
 use Rattle.cint_exec.specs.declared.Outcome.{Outcome}
 use Rattle.cint_exec.specs.declared.Outcome.TheVariants.{Next}
-use Rattle.kernel_model.specs.ChangedStore.{HasKeeper}
-use Rattle.kernel_model.specs.HoldsLists.{HoldsLists}
-use Rattle.kernel_model.specs.Kernel.{Kernel}
-use Rattle.word_kinds.specs.ByteMap.{MarksAll}
-use Rattle.guest_instructions.specs.Guarded.{is_owned}
-use Rattle.guest_turns.proofs.FaultedTurn.{stays-instruction}
-use Rattle.machine_parts.specs.declared.parts.Parts.{Parts}
+use Rattle.kernel_steps.specs.KernelCalls.KernelModel.ChangedStore.{HasKeeper}
+use Rattle.kernel_steps.specs.KernelCalls.KernelModel.HoldsLists.{HoldsLists}
+use Rattle.kernel_steps.specs.KernelCalls.KernelModel.Kernel.{Kernel}
+use Rattle.kernel_steps.specs.KernelCalls.WordKinds.ByteMap.{MarksAll}
+use Rattle.kernel_steps.specs.GuestTurns.Guarded.{is_owned}
+use Rattle.kernel_steps.proofs.Shown.GuestTurns.FaultedTurn.{stays-instruction}
+use Rattle.kernel_machine.specs.declared.parts.Parts.{Parts}
 use Rattle.kernel_steps.specs.Step.{run}
 use Rattle.kernel_machine.specs.Runs.{HasNoTick, IsOnWay, counted}
 use Rattle.kernel_machine.proofs.QuietParts.{held-tick}

@@ -1,12 +1,12 @@
 -- What a part of a step leaves.
 use Rattle.std.specs.Prelude.{◌≡◌, ℕ, ◌<◌, ◌-◌, ◌^◌, ◌++◌, true, false}
-use Rattle.kernel_model.specs.Kernel.{Kernel}
-use Rattle.kernel_model.specs.NotedEvents.{NotesAll}
-use Rattle.kernel_model.specs.Task.{is_guest_id}
-use Rattle.kernel_dispatch.specs.Dispatch.{CanDispatch}
-use Rattle.call_answers.specs.Outside.{Outside}
-use Rattle.machine_parts.specs.declared.parts.Parts.{Parts}
-use Rattle.machine_parts.specs.Stands.{Stands}
+use Rattle.kernel_steps.specs.KernelCalls.KernelModel.Kernel.{Kernel}
+use Rattle.kernel_steps.specs.KernelCalls.KernelModel.NotedEvents.{NotesAll}
+use Rattle.kernel_steps.specs.KernelCalls.KernelModel.Task.{is_guest_id}
+use Rattle.kernel_steps.specs.KernelCalls.KernelDispatch.Dispatch.{CanDispatch}
+use Rattle.kernel_steps.specs.KernelCalls.CallAnswers.Outside.{Outside}
+use Rattle.kernel_machine.specs.declared.parts.Parts.{Parts}
+use Rattle.kernel_machine.specs.Stands.{Stands}
 use Rattle.kernel_steps.specs.Parts.{CanTurn}
 use Rattle.kernel_steps.specs.Step.{Stepped}
 

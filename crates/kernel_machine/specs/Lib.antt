@@ -1,3 +1,10 @@
+pub mod Stands
+pub mod Stops
 pub mod Leaves
 pub mod Machine
 pub mod Runs
+-- shown to the crates above
+pub use Rattle.kernel_steps.specs.KernelCalls
+pub use Rattle.kernel_steps.specs.GuestTurns
+pub use Rattle.kernel_steps.specs.KernelBoot
+pub use Rattle.kernel_steps.specs as KernelSteps

@@ -1,16 +1,16 @@
 -- A machine with a kernel, as contracts see it.
 use Rattle.std.specs.Prelude.{◌≡◌, ℕ, Option, Some, None, List, false}
 use Rattle.std.specs.Option.{option_map}
-use Rattle.kernel_model.specs.Image.{plain_words}
-use Rattle.kernel_model.specs.Kernel.{Kernel, Stop as KernelStop}
-use Rattle.kernel_model.specs.Kernel.Stop.{Quit as KernelQuit, Finish as KernelFinish, Fault as KernelFault}
-use Rattle.kernel_model.specs.Recovered.{lists_in}
-use Rattle.kernel_model.specs.ValidKernel.{IsFullMachine}
-use Rattle.bare_machine.specs.declared.stops.Stop.{Stop}
-use Rattle.bare_machine.specs.declared.stops.Stop.TheVariants.{Steps, Quit, Finish, Fault}
-use Rattle.machine_parts.specs.declared.parts.Parts.{Parts}
-use Rattle.machine_parts.specs.Stands.{Stands}
-use Rattle.machine_parts.specs.Stops.{stop_of}
+use Rattle.kernel_steps.specs.KernelCalls.KernelModel.Image.{plain_words}
+use Rattle.kernel_steps.specs.KernelCalls.KernelModel.Kernel.{Kernel, Stop as KernelStop}
+use Rattle.kernel_steps.specs.KernelCalls.KernelModel.Kernel.Stop.{Quit as KernelQuit, Finish as KernelFinish, Fault as KernelFault}
+use Rattle.kernel_steps.specs.KernelCalls.KernelModel.Recovered.{lists_in}
+use Rattle.kernel_steps.specs.KernelCalls.KernelModel.ValidKernel.{IsFullMachine}
+use Rattle.kernel_steps.specs.KernelCalls.KernelModel.declared.stops.Stop.{Stop}
+use Rattle.kernel_steps.specs.KernelCalls.KernelModel.declared.stops.Stop.TheVariants.{Steps, Quit, Finish, Fault}
+use Rattle.kernel_machine.specs.declared.parts.Parts.{Parts}
+use Rattle.kernel_machine.specs.Stands.{Stands}
+use Rattle.kernel_machine.specs.Stops.{stop_of}
 
 -- its kernel, and the bytes of its last step
 pub record MachineView : Type 0 where

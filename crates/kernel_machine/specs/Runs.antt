@@ -2,17 +2,17 @@
 use Rattle.std.specs.Prelude.{◌≡◌, ◌≤◌, ◌<◌, ◌+◌, ◌/◌, ◌⊎◌, ℕ, Bool, true, false, None, Option, List, [], Result, Ok, Err, slice_set}
 use Rattle.tp_io.specs.Faults.{Rose}
 use Rattle.tp_io.specs.Pending.{IsCut, IsGathered}
-use Rattle.task_block.specs.RootWords.{root_address}
-use Rattle.task_block.specs.declared.roots.RootField.TheVariants.{Tick}
-use Rattle.bare_machine.specs.declared.stops.Stop.{Stop}
-use Rattle.packet_queue.specs.declared.events.KernelEvent.{KernelEvent}
-use Rattle.kernel_model.specs.Kernel.{Kernel}
-use Rattle.kernel_model.specs.NotedEvents.{NotesAll}
-use Rattle.kernel_model.specs.Task.{is_guest_id}
-use Rattle.kernel_model.specs.ValidKernel.{IsFullMachine}
-use Rattle.machine_parts.specs.declared.parts.Parts.{Parts}
-use Rattle.machine_parts.specs.Stands.{Stands}
-use Rattle.machine_parts.specs.Stops.{end_of_run}
+use Rattle.kernel_steps.specs.KernelCalls.TaskBlock.RootWords.{root_address}
+use Rattle.kernel_steps.specs.KernelCalls.TaskBlock.declared.roots.RootField.TheVariants.{Tick}
+use Rattle.kernel_steps.specs.KernelCalls.KernelModel.declared.stops.Stop.{Stop}
+use Rattle.kernel_steps.specs.KernelCalls.PacketQueue.declared.events.KernelEvent.{KernelEvent}
+use Rattle.kernel_steps.specs.KernelCalls.KernelModel.Kernel.{Kernel}
+use Rattle.kernel_steps.specs.KernelCalls.KernelModel.NotedEvents.{NotesAll}
+use Rattle.kernel_steps.specs.KernelCalls.KernelModel.Task.{is_guest_id}
+use Rattle.kernel_steps.specs.KernelCalls.KernelModel.ValidKernel.{IsFullMachine}
+use Rattle.kernel_machine.specs.declared.parts.Parts.{Parts}
+use Rattle.kernel_machine.specs.Stands.{Stands}
+use Rattle.kernel_machine.specs.Stops.{end_of_run}
 use Rattle.kernel_steps.specs.Quiet.{IsQuietFor}
 use Rattle.kernel_steps.specs.Step.{quietly, run}
 

@@ -1,18 +1,15 @@
 // The devices and dispatch.
 ghost use Rattle.std.specs.Prelude.{◌<◌, length};
-ghost use Rattle.kernel_model.specs.Kernel.{Kernel};
-ghost use Rattle.kernel_dispatch.specs.Dispatch.{CanDispatch};
-ghost use Rattle.call_answers.specs.Outside.{outside};
-ghost use Rattle.machine_parts.specs.Stands.{Stands};
+ghost use Rattle.kernel_steps.specs.KernelCalls.KernelModel.Kernel.{Kernel};
+ghost use Rattle.kernel_steps.specs.KernelCalls.KernelDispatch.Dispatch.{CanDispatch};
+ghost use Rattle.kernel_steps.specs.KernelCalls.CallAnswers.Outside.{outside};
+ghost use Rattle.kernel_machine.specs.Stands.{Stands};
 ghost use Rattle.kernel_steps.specs.Step.{dispatch, key, output, tick, with_key_typed};
 ghost use Rattle.kernel_machine.specs.Leaves.{CanServe, Leaves};
 
-use clock_device::tick as clock_tick;
-use kernel_dispatch::switch;
-use machine_parts::Parts;
-use packet_queue::EventLog;
+use crate::Parts;
+use kernel_steps::{EventLog, finish_output, switch, tick as clock_tick};
 use tp_io::Output;
-use tty_device::finish_output;
 
 /// In a step that is a multiple of the period the clock ticks.
 pub(crate) fn tick<L: EventLog>(parts: &mut Parts, out: &Output, log: &mut L)

@@ -1,12 +1,22 @@
-// A machine with a kernel: its steps and its runs.
+// A machine with a kernel: what it consists of, its steps and its runs.
 #![tactic(auto)]
 
 mod devices;
 pub mod machine;
+pub mod parts;
 mod residents;
 mod runs;
+pub mod script;
 mod spans;
 mod steps;
 mod turns;
 
 pub use machine::Machine;
+pub use parts::Parts;
+pub use script::Script;
+
+// Shown to the crates above.
+pub use kernel_steps::{
+    BootRefusal, ByteKinds, ConsoleState, EventLog, KernelEvent, ListLog, NoLog, Pipes, ShellState,
+    SinkLog, Stop, Tty, load_files, make_kernel, make_resident_kernel, start_tasks, switch,
+};

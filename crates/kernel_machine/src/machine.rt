@@ -1,24 +1,22 @@
 // A machine with a kernel.
 ghost use Rattle.std.specs.Prelude.{◌≡◌, ◌<◌, ◌+◌, ◌≤◌, [], Some, None, false};
 ghost use Rattle.std.specs.Option.{option_map};
-ghost use Rattle.session_text.specs.Ranges.{most_steps};
-ghost use Rattle.kernel_model.specs.HoldsLists.{HoldsLists};
-ghost use Rattle.kernel_model.specs.Kernel.{Kernel};
-ghost use Rattle.kernel_model.specs.Lists.{Lists};
-ghost use Rattle.kernel_model.specs.NotedEvents.{NotesAll};
-ghost use Rattle.kernel_model.specs.ValidKernel.{IsFullMachine};
-ghost use Rattle.machine_parts.specs.Stands.{Stands};
-ghost use Rattle.machine_parts.specs.Stops.{stop_of};
+ghost use Rattle.kernel_steps.specs.KernelCalls.KernelModel.Ranges.{most_steps};
+ghost use Rattle.kernel_steps.specs.KernelCalls.KernelModel.HoldsLists.{HoldsLists};
+ghost use Rattle.kernel_steps.specs.KernelCalls.KernelModel.Kernel.{Kernel};
+ghost use Rattle.kernel_steps.specs.KernelCalls.KernelModel.Lists.{Lists};
+ghost use Rattle.kernel_steps.specs.KernelCalls.KernelModel.NotedEvents.{NotesAll};
+ghost use Rattle.kernel_steps.specs.KernelCalls.KernelModel.ValidKernel.{IsFullMachine};
+ghost use Rattle.kernel_machine.specs.Stands.{Stands};
+ghost use Rattle.kernel_machine.specs.Stops.{stop_of};
 ghost use Rattle.kernel_steps.specs.Step.{boot_events, first_events, run_events, step};
 ghost use Rattle.kernel_machine.specs.Machine.{kernel_of};
 
+use crate::Parts;
 use crate::steps::step_or_stay;
 use crate::turns::running;
-use bare_machine::Stop;
-use machine_parts::Parts;
-use packet_queue::{EventLog, KernelEvent};
+use kernel_steps::{EventLog, KernelEvent, RootField, Stop, root};
 use std::marker::Model;
-use task_block::{RootField, root};
 use tp_io::Output;
 use word_store::Store;
 

@@ -2,27 +2,22 @@
 ghost use Rattle.std.specs.Prelude.{◌≡◌, ◌<◌, ◌^◌, ℕ, [], length, slice_index};
 ghost use Rattle.std.specs.Option.{option_map};
 ghost use Rattle.ram_disc.specs.Disc.{IsDisc};
-ghost use Rattle.kernel_model.specs.HoldsLists.{HoldsLists};
-ghost use Rattle.kernel_model.specs.Kernel.{Kernel};
-ghost use Rattle.kernel_model.specs.Lists.{Lists};
-ghost use Rattle.call_answers.specs.Outside.{outside};
-ghost use Rattle.resident_requests.specs.Requests.{RunsResident};
-ghost use Rattle.machine_parts.specs.Stands.{Stands};
-ghost use Rattle.machine_parts.specs.Stops.{stop_of};
+ghost use Rattle.kernel_steps.specs.KernelCalls.KernelModel.HoldsLists.{HoldsLists};
+ghost use Rattle.kernel_steps.specs.KernelCalls.KernelModel.Kernel.{Kernel};
+ghost use Rattle.kernel_steps.specs.KernelCalls.KernelModel.Lists.{Lists};
+ghost use Rattle.kernel_steps.specs.KernelCalls.CallAnswers.Outside.{outside};
+ghost use Rattle.kernel_steps.specs.KernelResidents.ResidentRequests.Requests.{RunsResident};
+ghost use Rattle.kernel_machine.specs.Stands.{Stands};
+ghost use Rattle.kernel_machine.specs.Stops.{stop_of};
 ghost use Rattle.kernel_steps.specs.ResidentSteps.{console_step, handler_step, reporter_step, resident_step, serves_pipes, shell_step};
 ghost use Rattle.kernel_machine.specs.Leaves.{Leaves, RunsNumber, RunsNoGuest};
 
-use bare_machine::Stop;
-use cli_shell::shell_turn;
-use console_handler::console_turn;
-use fault_reporter::fault_turn;
-use file_handler::file_turn;
-use machine_parts::Parts;
-use packet_queue::EventLog;
-use pipe_handler::pipe_turn;
+use crate::Parts;
+use kernel_steps::{
+    EventLog, RootField, Stop, console_turn, fault_turn, file_turn, first_packet, pipe_turn, root,
+    shell_turn,
+};
 use ram_disc::Disc;
-use resident_requests::first_packet;
-use task_block::{RootField, root};
 use tp_io::Output;
 use word_store::{Store, word_at};
 

@@ -1,14 +1,13 @@
 // Runs of a machine with a kernel.
 ghost use Rattle.std.specs.Prelude.{◌≡◌, ◌<◌, ◌+◌, ◌≤◌, [], None, false};
-ghost use Rattle.session_text.specs.Ranges.{most_steps};
+ghost use Rattle.kernel_steps.specs.KernelCalls.KernelModel.Ranges.{most_steps};
 ghost use Rattle.tp_io.specs.Pending.{Gathers};
 ghost use Rattle.kernel_steps.specs.Step.{quietly, run};
 ghost use Rattle.kernel_machine.specs.Runs.{Advances, EndsRun};
 
 use crate::machine::Machine;
 use crate::spans::pass;
-use bare_machine::Stop;
-use packet_queue::EventLog;
+use kernel_steps::{EventLog, Stop};
 use tp_io::{Output, Sink, SinkFault, gather};
 
 impl Machine {

@@ -1,17 +1,16 @@
 // Steps in which no device acts.
 ghost use Rattle.std.specs.Prelude.{◌≡◌, ◌<◌, ◌≤◌, ◌+◌, ◌-◌, ◌/◌, None, false, true, ℕ};
-ghost use Rattle.session_text.specs.Ranges.{most_steps};
-ghost use Rattle.kernel_model.specs.Kernel.{Kernel};
-ghost use Rattle.kernel_model.specs.Task.{is_guest_id};
+ghost use Rattle.kernel_steps.specs.KernelCalls.KernelModel.Ranges.{most_steps};
+ghost use Rattle.kernel_steps.specs.KernelCalls.KernelModel.Kernel.{Kernel};
+ghost use Rattle.kernel_steps.specs.KernelCalls.KernelModel.Task.{is_guest_id};
 ghost use Rattle.kernel_steps.specs.Quiet.{AwaitsTick, ComeAfter, IsQuietFor};
 ghost use Rattle.kernel_machine.specs.Machine.{IsWhole, kernel_of};
 ghost use Rattle.kernel_machine.specs.Runs.{HasNoTick, HasPassed, IsOnWay, ServesNone, counted};
 
+use crate::Parts;
 use crate::turns::{FIRST_GUEST, running};
 use cint_exec::Outcome;
-use guest_instructions::execute_guest;
-use machine_parts::Parts;
-use task_block::{RootField, root, set_root};
+use kernel_steps::{RootField, execute_guest, root, set_root};
 use word_store::word_at;
 
 /// The word of a packet at the clock that has the tick at which it is due.

@@ -1,21 +1,20 @@
 // A step: the running task's turn, the devices, and dispatch.
 ghost use Rattle.std.specs.Prelude.{◌≡◌, ◌<◌, [], None, length};
 ghost use Rattle.std.specs.Option.{option_map};
-ghost use Rattle.session_text.specs.Ranges.{most_steps};
-ghost use Rattle.kernel_model.specs.Kernel.{Kernel};
-ghost use Rattle.kernel_model.specs.ValidKernel.{IsFullMachine};
-ghost use Rattle.call_answers.specs.Outside.{outside};
-ghost use Rattle.machine_parts.specs.Stands.{Stands};
-ghost use Rattle.machine_parts.specs.Stops.{stop_of};
+ghost use Rattle.kernel_steps.specs.KernelCalls.KernelModel.Ranges.{most_steps};
+ghost use Rattle.kernel_steps.specs.KernelCalls.KernelModel.Kernel.{Kernel};
+ghost use Rattle.kernel_steps.specs.KernelCalls.KernelModel.ValidKernel.{IsFullMachine};
+ghost use Rattle.kernel_steps.specs.KernelCalls.CallAnswers.Outside.{outside};
+ghost use Rattle.kernel_machine.specs.Stands.{Stands};
+ghost use Rattle.kernel_machine.specs.Stops.{stop_of};
 ghost use Rattle.kernel_steps.specs.Parts.{IsTaken};
 ghost use Rattle.kernel_steps.specs.Step.{after_the_turn, step};
 ghost use Rattle.kernel_machine.specs.Leaves.{CanServe, Leaves};
 
+use crate::Parts;
 use crate::devices::{dispatch, key, output, tick};
 use crate::turns::turn;
-use bare_machine::Stop;
-use machine_parts::Parts;
-use packet_queue::EventLog;
+use kernel_steps::{EventLog, Stop};
 use tp_io::Output;
 
 /// One step of a machine that has stopped or not. One that has stays as it is. The answer is why it has stopped, if it has.

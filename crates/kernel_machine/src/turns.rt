@@ -2,25 +2,23 @@
 ghost use Rattle.std.specs.Prelude.{◌≡◌, ◌<◌, [], length};
 ghost use Rattle.std.specs.Option.{option_map};
 ghost use Rattle.ram_disc.specs.Disc.{IsDisc};
-ghost use Rattle.kernel_model.specs.Kernel.{Kernel};
-ghost use Rattle.kernel_model.specs.HoldsLists.{HoldsLists};
-ghost use Rattle.kernel_model.specs.Lists.{Lists};
-ghost use Rattle.call_answers.specs.Outside.{outside};
-ghost use Rattle.machine_parts.specs.Stands.{Stands};
-ghost use Rattle.machine_parts.specs.Stops.{stop_of};
+ghost use Rattle.kernel_steps.specs.KernelCalls.KernelModel.Kernel.{Kernel};
+ghost use Rattle.kernel_steps.specs.KernelCalls.KernelModel.HoldsLists.{HoldsLists};
+ghost use Rattle.kernel_steps.specs.KernelCalls.KernelModel.Lists.{Lists};
+ghost use Rattle.kernel_steps.specs.KernelCalls.CallAnswers.Outside.{outside};
+ghost use Rattle.kernel_machine.specs.Stands.{Stands};
+ghost use Rattle.kernel_machine.specs.Stops.{stop_of};
 ghost use Rattle.kernel_steps.specs.GuestSteps.{guest_step, is_recorded, stop_by};
 ghost use Rattle.kernel_steps.specs.Parts.{CanTurn};
 ghost use Rattle.kernel_steps.specs.Step.{turn};
 ghost use Rattle.kernel_machine.specs.Leaves.{Leaves, RunsGuest};
 
+use crate::Parts;
 use crate::residents::resident;
-use bare_machine::Stop;
 use cint_exec::Fault;
-use fault_reporter::record_fault;
-use guest_turns::{TurnEnd, guest_turn};
-use machine_parts::Parts;
-use packet_queue::EventLog;
-use task_block::{RootField, TcbField, field, find, root};
+use kernel_steps::{
+    EventLog, RootField, Stop, TcbField, TurnEnd, field, find, guest_turn, record_fault, root,
+};
 use tp_io::Output;
 use word_store::Store;
 

@@ -1,9 +1,9 @@
 -- What holds of all things of a list, and of some.
 use Rattle.std.proofs.Common.{◌≡◌, List, [], ◌∷◌, ◌++◌, map, ◌&&◌, ◌||◌, Bool, true, false, refl, sym, ap, subst}
 use Rattle.std.specs.List.{AllByRecursion, flat_map, list_any}
-use Rattle.linked_list.specs.Places.{insert_after}
-use Rattle.linked_list.proofs.AllMembers.{all-append, all-back, all-front}
-use Rattle.linked_list.proofs.Places.{IsPlace, place}
+use Rattle.kernel_lists.specs.LinkedList.Places.{insert_after}
+use Rattle.kernel_lists.proofs.Shown.LinkedList.AllMembers.{all-append, all-back, all-front}
+use Rattle.kernel_lists.proofs.Shown.LinkedList.Places.{IsPlace, place}
 
 pub all-always : {X : Type 0} (P : X → Type 0) → ((x : X) → P x) → (xs : List X) → AllByRecursion P xs
 all-always P each [] = tt

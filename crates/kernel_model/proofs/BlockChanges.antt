@@ -1,10 +1,10 @@
 -- The blocks change, and the lists stay valid.
 use Rattle.std.proofs.Common.{◌≡◌, ℕ, ◌-◌, List, ◌++◌, true, refl}
 use Rattle.std.specs.List.{AllByRecursion}
-use Rattle.linked_list.proofs.AllMembers.{all-back, all-front}
-use Rattle.getvec_chain.specs.declared.pieces.Block.{Block}
-use Rattle.getvec_chain.specs.Tiling.{Follow}
-use Rattle.packet_queue.specs.QueueWords.{QueuedPacket}
+use Rattle.kernel_lists.proofs.Shown.LinkedList.AllMembers.{all-back, all-front}
+use Rattle.kernel_lists.specs.GetvecChain.declared.pieces.Block.{Block}
+use Rattle.kernel_lists.specs.GetvecChain.Tiling.{Follow}
+use Rattle.kernel_lists.specs.PacketQueue.QueueWords.{QueuedPacket}
 use Rattle.kernel_model.specs.Changes.{with_blocks}
 use Rattle.kernel_model.specs.Lists.{Lists, queued}
 use Rattle.kernel_model.specs.Owned.{OwnsApart}

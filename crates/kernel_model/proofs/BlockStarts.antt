@@ -2,16 +2,16 @@
 use Rattle.std.proofs.Common.{◌≡◌, ◌⊎◌, ℕ, ◌+◌, ◌<◌, ◌≤◌, List, [], ◌∷◌, ◌++◌, length, replicate, eqb, not, ◌&&◌, cond, Bool, true, false, Some, inl, inr, refl, sym, ap, ◌∙◌, subst, arith, append-nil}
 use Rattle.std.proofs.lemmas.Bool.{cases_eq, cases_lt, eq-eqb, ne_eqb}
 use Rattle.std.proofs.lemmas.List.{get_or-replicate, length-replicate}
-use Rattle.linked_list.proofs.Counts.{hit-other, hit-same}
-use Rattle.owned_words.specs.Owned.{owners}
-use Rattle.getvec_chain.specs.declared.pieces.Block.{Block}
-use Rattle.getvec_chain.specs.Block.{block_end, has_data, is_used_at}
-use Rattle.getvec_chain.specs.BlockWords.{blocks_words}
-use Rattle.getvec_chain.specs.Run.{AreFree}
-use Rattle.getvec_chain.specs.Take.{with_size_words}
-use Rattle.getvec_chain.specs.Tiling.{Follow, Tiles, holding, used_at}
-use Rattle.getvec_chain.proofs.SizeWords.{Follow-order, length-with_size_words, with_size_words-Tiles}
-use Rattle.getvec_chain.proofs.UsedBlocks.{has_data-true}
+use Rattle.word_store.proofs.Counts.{hit-other, hit-same}
+use Rattle.kernel_lists.specs.OwnedWords.Owned.{owners}
+use Rattle.kernel_lists.specs.GetvecChain.declared.pieces.Block.{Block}
+use Rattle.kernel_lists.specs.GetvecChain.Block.{block_end, has_data, is_used_at}
+use Rattle.kernel_lists.specs.GetvecChain.BlockWords.{blocks_words}
+use Rattle.kernel_lists.specs.GetvecChain.Run.{AreFree}
+use Rattle.kernel_lists.specs.GetvecChain.Take.{with_size_words}
+use Rattle.kernel_lists.specs.GetvecChain.Tiling.{Follow, Tiles, holding, used_at}
+use Rattle.kernel_lists.proofs.Shown.GetvecChain.SizeWords.{Follow-order, length-with_size_words, with_size_words-Tiles}
+use Rattle.kernel_lists.proofs.Shown.GetvecChain.UsedBlocks.{has_data-true}
 use Rattle.kernel_model.specs.ValidBlocks.{AreData}
 use Rattle.kernel_model.proofs.EachMember.{find-passes}
 use Rattle.kernel_model.proofs.FollowedBlocks.{IsWithin, found-holding, found-within}

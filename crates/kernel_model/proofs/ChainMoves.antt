@@ -2,12 +2,12 @@
 use Rattle.std.proofs.Common.{◌≡◌, ◌≢◌, ℕ, ◌+◌, ◌<◌, ◌≤◌, List, [], ◌∷◌, ◌++◌, map, eqb, nat_lt, Bool, true, false, inl, inr, refl, sym, ap, ◌∙◌, subst, arith}
 use Rattle.std.proofs.lemmas.Bool.{and_from, eqb-false, leb-false, false≢true}
 use Rattle.std.specs.List.{AllByRecursion, range_with_len}
-use Rattle.linked_list.specs.Count.{IsApart, times}
-use Rattle.linked_list.proofs.Counts.{IsApart-cons, range-apart, range-high, range-low}
-use Rattle.linked_list.proofs.Places.{IsPlace, place}
-use Rattle.owned_words.specs.Owned.{owners}
-use Rattle.packet_queue.specs.QueueWords.{QueuedPacket}
-use Rattle.task_block.specs.ChainWords.{listed_words}
+use Rattle.word_store.specs.Count.{IsApart, times}
+use Rattle.word_store.proofs.Counts.{IsApart-cons, range-apart, range-high, range-low}
+use Rattle.kernel_lists.proofs.Shown.LinkedList.Places.{IsPlace, place}
+use Rattle.kernel_lists.specs.OwnedWords.Owned.{owners}
+use Rattle.kernel_lists.specs.PacketQueue.QueueWords.{QueuedPacket}
+use Rattle.kernel_lists.specs.TaskBlock.ChainWords.{listed_words}
 use Rattle.kernel_model.specs.Changes.{AreUnowned, HasNoPacketsOut, with_new_task, with_tasks}
 use Rattle.kernel_model.specs.Lists.{Lists, has_task, is_queued}
 use Rattle.kernel_model.specs.Owned.{owned, tasks_words}

@@ -2,10 +2,10 @@
 use Rattle.std.proofs.Common.{◌≡◌, ◌≢◌, ℕ, ◌<◌, List, [], ◌∷◌, ◌++◌, map, cond, eqb, ltb, ◌||◌, Bool, true, false, refl, sym, ap, subst, arith}
 use Rattle.std.proofs.lemmas.Bool.{eqb-false, ltb-false, ltb-true, ne_eqb}
 use Rattle.std.specs.List.{AllByRecursion, list_any}
-use Rattle.linked_list.specs.Count.{times}
-use Rattle.linked_list.specs.Places.{insert_after}
-use Rattle.linked_list.proofs.Counts.{hit-other, times-append}
-use Rattle.linked_list.proofs.MappedLists.{map-append}
+use Rattle.word_store.specs.Count.{times}
+use Rattle.kernel_lists.specs.LinkedList.Places.{insert_after}
+use Rattle.word_store.proofs.Counts.{hit-other, times-append}
+use Rattle.kernel_lists.proofs.Shown.LinkedList.MappedLists.{map-append}
 use Rattle.kernel_model.specs.Lists.{has_task}
 use Rattle.kernel_model.specs.Task.{Task, is_guest_id, task_id}
 use Rattle.kernel_model.specs.ValidTasks.{PrioritiesFall}

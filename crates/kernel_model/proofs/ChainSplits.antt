@@ -2,9 +2,9 @@
 use Rattle.std.proofs.Common.{◌≡◌, ◌≢◌, ℕ, ◌<◌, ◌||◌, Bool, true, false, Some, List, [], ◌∷◌, ◌++◌, map, cond, eqb, refl, sym, ap, ◌∙◌, arith}
 use Rattle.std.specs.Prelude.{find}
 use Rattle.std.proofs.lemmas.Bool.{eq-eqb, eqb-true, ne_eqb}
-use Rattle.linked_list.specs.Count.{IsApart, times}
-use Rattle.linked_list.proofs.Counts.{hit-same}
-use Rattle.task_block.specs.HeldTasks.{address_with}
+use Rattle.word_store.specs.Count.{IsApart, times}
+use Rattle.word_store.proofs.Counts.{hit-same}
+use Rattle.kernel_lists.specs.TaskBlock.HeldTasks.{address_with}
 use Rattle.kernel_model.specs.Changes.{change_of, work_of}
 use Rattle.kernel_model.specs.Lists.{has_task}
 use Rattle.kernel_model.specs.Task.{Task, task_address, task_id}

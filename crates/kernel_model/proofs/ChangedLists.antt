@@ -1,12 +1,12 @@
 -- A store whose lists change: the words of one task, who runs, and two changes one after the other.
 use Rattle.std.proofs.Common.{◌≡◌, ℕ, ◌<◌, List, [], ◌∷◌, ◌++◌, length, set, refl, sym, ap, ◌∙◌, subst, arith}
 use Rattle.std.proofs.lemmas.List.{append-nil}
-use Rattle.owned_words.specs.Exchange.{Exchange, Splits}
-use Rattle.owned_words.specs.LinkedWords.{first_of}
-use Rattle.owned_words.specs.Owned.{AreApart, AreInside, Pairs, owners, written}
-use Rattle.owned_words.specs.Written.{IsWritten}
-use Rattle.owned_words.proofs.OwnedWords.{length-written}
-use Rattle.owned_words.proofs.WrittenWords.{ordered-hold}
+use Rattle.kernel_lists.specs.OwnedWords.Exchange.{Exchange, Splits}
+use Rattle.kernel_lists.specs.OwnedWords.LinkedWords.{first_of}
+use Rattle.kernel_lists.specs.OwnedWords.Owned.{AreApart, AreInside, Pairs, owners, written}
+use Rattle.kernel_lists.specs.OwnedWords.Written.{IsWritten}
+use Rattle.kernel_lists.proofs.Shown.OwnedWords.OwnedWords.{length-written}
+use Rattle.kernel_lists.proofs.Shown.OwnedWords.WrittenWords.{ordered-hold}
 use Rattle.kernel_model.specs.ChangedStore.{IsChanged, Knows}
 use Rattle.kernel_model.specs.Changes.{with_tasks}
 use Rattle.kernel_model.specs.HoldsLists.{HoldsLists}

@@ -2,14 +2,14 @@
 use Rattle.std.proofs.Common.{◌≡◌, ℕ, ◌+◌, ◌<◌, ◌≤◌, List, [], ◌∷◌, ◌++◌, map, eqb, true, false, refl, sym, ap, ◌∙◌, subst, arith}
 use Rattle.std.specs.List.{AllByRecursion, range_with_len}
 use Rattle.std.proofs.lemmas.Bool.{false≢true, ne_eqb}
-use Rattle.linked_list.specs.Count.{times, words_of}
-use Rattle.linked_list.specs.Places.{has}
-use Rattle.linked_list.proofs.AllMembers.{all-members}
-use Rattle.linked_list.proofs.Counts.{range-apart, range-high, range-low, times-within, times-words_more, times-words_of}
-use Rattle.linked_list.proofs.MappedLists.{map-append}
-use Rattle.owned_words.specs.Owned.{owners}
-use Rattle.coroutines.specs.CoroutineWords.{coroutine_size}
-use Rattle.coroutines.specs.HeldCoroutines.{Coroutine, address_of, coroutine_words}
+use Rattle.word_store.specs.Count.{times, words_of}
+use Rattle.kernel_lists.specs.LinkedList.Places.{has}
+use Rattle.kernel_lists.proofs.Shown.LinkedList.AllMembers.{all-members}
+use Rattle.word_store.proofs.Counts.{range-apart, range-high, range-low, times-within, times-words_more, times-words_of}
+use Rattle.kernel_lists.proofs.Shown.LinkedList.MappedLists.{map-append}
+use Rattle.kernel_lists.specs.OwnedWords.Owned.{owners}
+use Rattle.kernel_lists.specs.Coroutines.CoroutineWords.{coroutine_size}
+use Rattle.kernel_lists.specs.Coroutines.HeldCoroutines.{Coroutine, address_of, coroutine_words}
 use Rattle.kernel_model.specs.BlockUse.{coroutine_addresses}
 use Rattle.kernel_model.specs.Changes.{AreUnowned, with_coroutines, with_tasks}
 use Rattle.kernel_model.specs.Lists.{Lists}

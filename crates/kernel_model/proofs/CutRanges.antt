@@ -1,7 +1,7 @@
 -- Ranges of addresses, cut in two.
 use Rattle.std.proofs.Common.{◌≡◌, ℕ, zero, suc, ◌+◌, ◌-◌, ◌≤◌, refl, ap, arith}
 use Rattle.std.specs.List.{range_with_len}
-use Rattle.linked_list.specs.Count.{hit, times}
+use Rattle.word_store.specs.Count.{hit, times}
 
 pub times-cut : (a p n m q k : ℕ) → p + n ≡ q → n + m ≡ k → times a (range_with_len p k) ≡ times a (range_with_len p n) + times a (range_with_len q m)
 times-cut a p zero m q k e f =

@@ -1,7 +1,7 @@
 -- Data of blocks are words of the store.
 use Rattle.std.proofs.Common.{◌≡◌, ℕ, ◌+◌, ◌-◌, ◌<◌, ◌≤◌, refl, arith}
-use Rattle.getvec_chain.specs.Block.{has_data, is_used_at, used_block}
-use Rattle.getvec_chain.specs.Run.{need}
+use Rattle.kernel_lists.specs.GetvecChain.Block.{has_data, is_used_at, used_block}
+use Rattle.kernel_lists.specs.GetvecChain.Run.{need}
 use Rattle.kernel_model.specs.Lists.{Lists}
 use Rattle.kernel_model.specs.ValidBlocks.{AreData, BlocksTile, HasBlock}
 use Rattle.kernel_model.proofs.FollowedBlocks.{found-holding, found-within}

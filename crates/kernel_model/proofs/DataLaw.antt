@@ -2,17 +2,17 @@
 use Rattle.std.proofs.Common.{◌≡◌, ℕ, ◌+◌, ◌-◌, ◌<◌, List, ◌∷◌, ◌++◌, true, Some, Option, sym, ap, ◌∙◌, subst, arith, inl, inr}
 use Rattle.std.specs.List.{range_with_len}
 use Rattle.std.proofs.lemmas.Bool.{cases_eq, cases_lt, false≢true}
-use Rattle.linked_list.specs.Count.{times}
-use Rattle.linked_list.proofs.Counts.{hit-other, range-high}
-use Rattle.owned_words.specs.LinkedWords.{linked_words}
-use Rattle.owned_words.specs.Owned.{owners}
-use Rattle.getvec_chain.specs.declared.pieces.Block.{Block}
-use Rattle.getvec_chain.specs.Block.{block_end}
-use Rattle.getvec_chain.specs.BlockWords.{blocks_words}
-use Rattle.getvec_chain.specs.Tiling.{Follow, holding}
-use Rattle.getvec_chain.proofs.SizeWords.{Follow-order}
-use Rattle.hunk_loader.specs.HeldModules.{module_address, module_words}
-use Rattle.packet_queue.specs.QueueWords.{QueuedPacket, address_of, packet_words}
+use Rattle.word_store.specs.Count.{times}
+use Rattle.word_store.proofs.Counts.{hit-other, range-high}
+use Rattle.kernel_lists.specs.OwnedWords.LinkedWords.{linked_words}
+use Rattle.kernel_lists.specs.OwnedWords.Owned.{owners}
+use Rattle.kernel_lists.specs.GetvecChain.declared.pieces.Block.{Block}
+use Rattle.kernel_lists.specs.GetvecChain.Block.{block_end}
+use Rattle.kernel_lists.specs.GetvecChain.BlockWords.{blocks_words}
+use Rattle.kernel_lists.specs.GetvecChain.Tiling.{Follow, holding}
+use Rattle.kernel_lists.proofs.Shown.GetvecChain.SizeWords.{Follow-order}
+use Rattle.kernel_lists.specs.HunkLoader.HeldModules.{module_address, module_words}
+use Rattle.kernel_lists.specs.PacketQueue.QueueWords.{QueuedPacket, address_of, packet_words}
 use Rattle.kernel_model.specs.Lists.{Lists}
 use Rattle.kernel_model.specs.Owned.{owned}
 use Rattle.kernel_model.specs.Residents.{resident_words}

@@ -2,13 +2,13 @@
 use Rattle.std.proofs.Common.{◌≡◌, ℕ, ◌%◌, ◌<◌, ◌≤◌, List, [], ◌∷◌, ◌++◌, ltb, cond, Bool, true, false, Some, refl, sym, ap, ◌∙◌, arith}
 use Rattle.std.specs.Prelude.{find}
 use Rattle.std.proofs.lemmas.Bool.{and_from, and_right, le-ltb, lt-ltb}
-use Rattle.linked_list.proofs.Counts.{hit-other}
-use Rattle.owned_words.specs.Owned.{owners}
-use Rattle.getvec_chain.specs.declared.pieces.Block.{Block}
-use Rattle.getvec_chain.specs.Block.{block_end, has_data}
-use Rattle.getvec_chain.specs.BlockWords.{blocks_words}
-use Rattle.getvec_chain.specs.Tiling.{Follow, holding}
-use Rattle.getvec_chain.proofs.SizeWords.{Follow-order}
+use Rattle.word_store.proofs.Counts.{hit-other}
+use Rattle.kernel_lists.specs.OwnedWords.Owned.{owners}
+use Rattle.kernel_lists.specs.GetvecChain.declared.pieces.Block.{Block}
+use Rattle.kernel_lists.specs.GetvecChain.Block.{block_end, has_data}
+use Rattle.kernel_lists.specs.GetvecChain.BlockWords.{blocks_words}
+use Rattle.kernel_lists.specs.GetvecChain.Tiling.{Follow, holding}
+use Rattle.kernel_lists.proofs.Shown.GetvecChain.SizeWords.{Follow-order}
 
 has_data-from : (b : Block) (a : ℕ) → b.start < a → a < block_end b → has_data b a ≡ true
 has_data-from b a above below = and_from (ltb b.start a) (ltb a (block_end b)) (lt-ltb b.start a above) (lt-ltb a (block_end b) below)

@@ -3,19 +3,19 @@ use Rattle.std.proofs.Common.{◌≡◌, ◌≢◌, ℕ, ◌+◌, ◌-◌, List,
 use Rattle.std.specs.List.{AllByRecursion, flat_map}
 use Rattle.std.proofs.lemmas.Bool.{eqb-false, false≢true, or_parts}
 use Rattle.std.proofs.lemmas.List.Folds.{list_any-append}
-use Rattle.linked_list.specs.Count.{hit}
-use Rattle.linked_list.specs.Places.{has}
-use Rattle.linked_list.proofs.Members.{has-not}
-use Rattle.owned_words.specs.Owned.{owners}
-use Rattle.getvec_chain.specs.declared.pieces.Block.{Block}
-use Rattle.getvec_chain.specs.Block.{block_end, free_block, has_data, is_used_at}
-use Rattle.getvec_chain.specs.BlockWords.{blocks_words}
-use Rattle.getvec_chain.specs.Give.{given}
-use Rattle.getvec_chain.specs.Tiling.{Follow, used_at}
-use Rattle.getvec_chain.proofs.AfterGive.{used_at-given-other}
-use Rattle.hunk_loader.specs.HeldModules.{module_address}
-use Rattle.coroutines.specs.HeldCoroutines.{address_of}
-use Rattle.packet_queue.specs.QueueWords.{QueuedPacket}
+use Rattle.word_store.specs.Count.{hit}
+use Rattle.kernel_lists.specs.LinkedList.Places.{has}
+use Rattle.kernel_lists.proofs.Shown.LinkedList.Members.{has-not}
+use Rattle.kernel_lists.specs.OwnedWords.Owned.{owners}
+use Rattle.kernel_lists.specs.GetvecChain.declared.pieces.Block.{Block}
+use Rattle.kernel_lists.specs.GetvecChain.Block.{block_end, free_block, has_data, is_used_at}
+use Rattle.kernel_lists.specs.GetvecChain.BlockWords.{blocks_words}
+use Rattle.kernel_lists.specs.GetvecChain.Give.{given}
+use Rattle.kernel_lists.specs.GetvecChain.Tiling.{Follow, used_at}
+use Rattle.kernel_lists.proofs.Shown.GetvecChain.AfterGive.{used_at-given-other}
+use Rattle.kernel_lists.specs.HunkLoader.HeldModules.{module_address}
+use Rattle.kernel_lists.specs.Coroutines.HeldCoroutines.{address_of}
+use Rattle.kernel_lists.specs.PacketQueue.QueueWords.{QueuedPacket}
 use Rattle.kernel_model.specs.BlockUse.{coroutine_addresses, use_of_data}
 use Rattle.kernel_model.specs.BlockUse.Use.{OfCoroutine, OfModule, OfResidents, OfTask, User}
 use Rattle.kernel_model.specs.Changes.{IsIdleBlock, with_blocks}

@@ -4,9 +4,9 @@ use Rattle.std.specs.Prelude.{unwrap_or}
 use Rattle.std.proofs.lemmas.Bool.{cases_lt, eq-eqb, ne_eqb}
 use Rattle.std.proofs.lemmas.List.{ext_get_or}
 use Rattle.std.proofs.lemmas.List.FromFn.{get_or-map-range_with_len, length-map-range_with_len}
-use Rattle.linked_list.proofs.Counts.{hit-same}
-use Rattle.owned_words.specs.Owned.{AreApart, Holds, Pairs, owners, word_in}
-use Rattle.owned_words.proofs.OwnedWords.{word_in-holds, word_in-none}
+use Rattle.word_store.proofs.Counts.{hit-same}
+use Rattle.kernel_lists.specs.OwnedWords.Owned.{AreApart, Holds, Pairs, owners, word_in}
+use Rattle.kernel_lists.proofs.Shown.OwnedWords.OwnedWords.{word_in-holds, word_in-none}
 use Rattle.kernel_model.specs.Image.{HasPlainWords, IsImage, image, plain_at, word_of}
 use Rattle.kernel_model.specs.Kernel.{Kernel, owned_by}
 use Rattle.kernel_model.specs.Owned.{owned}

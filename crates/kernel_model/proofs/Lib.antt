@@ -54,3 +54,4 @@ pub mod ChainSplits
 pub mod RunningTask
 pub mod ChangedLists
 pub mod NotedInTurn
+pub mod Shown

@@ -1,19 +1,19 @@
 -- The ranges of each list have the addresses that its things own.
 use Rattle.std.proofs.Common.{◌≡◌, ℕ, ◌+◌, List, [], ◌∷◌, length, map, refl, ap, arith}
 use Rattle.std.specs.List.{AllByRecursion, flat_map, range_with_len}
-use Rattle.linked_list.specs.Count.{times}
-use Rattle.owned_words.specs.LinkedWords.{first_of, linked_words}
-use Rattle.owned_words.specs.Owned.{owners}
-use Rattle.owned_words.proofs.OwnedWords.{owners-append}
-use Rattle.owned_words.proofs.RowWords.{owners-row}
-use Rattle.getvec_chain.specs.declared.pieces.Block.{Block}
-use Rattle.getvec_chain.specs.BlockWords.{blocks_words}
-use Rattle.hunk_loader.specs.HeldModules.{LoadedModule, module_address, module_words}
-use Rattle.hunk_loader.specs.ModuleHunks.{hunk_count}
-use Rattle.packet_queue.specs.Queue.{queue_at}
-use Rattle.packet_queue.specs.QueueWords.{QueuedPacket, address_of as packet_address, packet_words}
-use Rattle.task_block.specs.Lists.{coroutines_in}
-use Rattle.coroutines.specs.HeldCoroutines.{Coroutine, address_of as coroutine_address, coroutine_words}
+use Rattle.word_store.specs.Count.{times}
+use Rattle.kernel_lists.specs.OwnedWords.LinkedWords.{first_of, linked_words}
+use Rattle.kernel_lists.specs.OwnedWords.Owned.{owners}
+use Rattle.kernel_lists.proofs.Shown.OwnedWords.OwnedWords.{owners-append}
+use Rattle.kernel_lists.proofs.Shown.OwnedWords.RowWords.{owners-row}
+use Rattle.kernel_lists.specs.GetvecChain.declared.pieces.Block.{Block}
+use Rattle.kernel_lists.specs.GetvecChain.BlockWords.{blocks_words}
+use Rattle.kernel_lists.specs.HunkLoader.HeldModules.{LoadedModule, module_address, module_words}
+use Rattle.kernel_lists.specs.HunkLoader.ModuleHunks.{hunk_count}
+use Rattle.kernel_lists.specs.PacketQueue.Queue.{queue_at}
+use Rattle.kernel_lists.specs.PacketQueue.QueueWords.{QueuedPacket, address_of as packet_address, packet_words}
+use Rattle.kernel_lists.specs.TaskBlock.Lists.{coroutines_in}
+use Rattle.kernel_lists.specs.Coroutines.HeldCoroutines.{Coroutine, address_of as coroutine_address, coroutine_words}
 use Rattle.kernel_model.specs.Task.{Task, further_modules, queue_head, task_address, task_words}
 use Rattle.kernel_model.proofs.CutRanges.{times-cut}
 use Rattle.kernel_model.proofs.QueueCounts.{owners-packet}

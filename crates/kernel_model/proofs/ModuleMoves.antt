@@ -2,16 +2,16 @@
 use Rattle.std.proofs.Common.{◌≡◌, ℕ, suc, ◌+◌, ◌<◌, ◌≤◌, List, ◌∷◌, ◌++◌, map, eqb, length, false, refl, sym, ap, ◌∙◌, subst, arith}
 use Rattle.std.specs.List.{AllByRecursion, range_with_len}
 use Rattle.std.proofs.lemmas.Bool.{false≢true, ne_eqb}
-use Rattle.linked_list.specs.Count.{hit, times}
-use Rattle.linked_list.specs.Places.{has}
-use Rattle.linked_list.proofs.AllMembers.{all-members}
-use Rattle.linked_list.proofs.Counts.{range-apart, range-high, range-low, times-within}
-use Rattle.linked_list.proofs.MappedLists.{map-append}
-use Rattle.owned_words.specs.Owned.{owners}
-use Rattle.owned_words.proofs.RowWords.{owners-row}
-use Rattle.hunk_loader.specs.HeldModules.{LoadedModule, module_address, module_words}
-use Rattle.hunk_loader.specs.ModuleExchanges.{modules_words}
-use Rattle.packet_queue.specs.QueueWords.{QueuedPacket}
+use Rattle.word_store.specs.Count.{hit, times}
+use Rattle.kernel_lists.specs.LinkedList.Places.{has}
+use Rattle.kernel_lists.proofs.Shown.LinkedList.AllMembers.{all-members}
+use Rattle.word_store.proofs.Counts.{range-apart, range-high, range-low, times-within}
+use Rattle.kernel_lists.proofs.Shown.LinkedList.MappedLists.{map-append}
+use Rattle.kernel_lists.specs.OwnedWords.Owned.{owners}
+use Rattle.kernel_lists.proofs.Shown.OwnedWords.RowWords.{owners-row}
+use Rattle.kernel_lists.specs.HunkLoader.HeldModules.{LoadedModule, module_address, module_words}
+use Rattle.kernel_lists.specs.HunkLoader.ModuleExchanges.{modules_words}
+use Rattle.kernel_lists.specs.PacketQueue.QueueWords.{QueuedPacket}
 use Rattle.kernel_model.specs.Changes.{AreUnowned, with_modules}
 use Rattle.kernel_model.specs.Lists.{Lists}
 use Rattle.kernel_model.specs.Owned.{OwnsApart, owned}

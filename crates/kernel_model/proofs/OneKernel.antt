@@ -2,7 +2,7 @@
 use Rattle.std.proofs.Common.{◌≡◌, ℕ, ◌<◌, List, [], length, cond, Bool, true, false, None, refl, sym, ap, ◌∙◌, subst, arith, inl, inr}
 use Rattle.std.proofs.lemmas.Bool.{cases_lt}
 use Rattle.std.proofs.lemmas.List.{ext_get_or}
-use Rattle.owned_words.specs.Owned.{Holds, owners}
+use Rattle.kernel_lists.specs.OwnedWords.Owned.{Holds, owners}
 use Rattle.kernel_model.specs.Image.{HasPlainWords, IsImage, plain_at}
 use Rattle.kernel_model.specs.Kernel.{Kernel, owned_by}
 use Rattle.kernel_model.specs.OneKernel.{HaveSameParts}

@@ -1,10 +1,10 @@
 -- One task of the chain changes, with its number and its priority.
 use Rattle.std.proofs.Common.{◌≡◌, ℕ, ◌+◌, List, ◌∷◌, ◌++◌, map, is_some, not, ◌&&◌, Bool, Option, inl, inr, refl, sym, ap, ◌∙◌, subst, arith}
 use Rattle.std.specs.List.{AllByRecursion}
-use Rattle.linked_list.specs.Count.{IsApart}
-use Rattle.owned_words.specs.Owned.{owners}
-use Rattle.packet_queue.specs.QueueWords.{QueuedPacket}
-use Rattle.task_block.specs.ChainWords.{listed_words}
+use Rattle.word_store.specs.Count.{IsApart}
+use Rattle.kernel_lists.specs.OwnedWords.Owned.{owners}
+use Rattle.kernel_lists.specs.PacketQueue.QueueWords.{QueuedPacket}
+use Rattle.kernel_lists.specs.TaskBlock.ChainWords.{listed_words}
 use Rattle.kernel_model.specs.Changes.{SameTask, with_tasks}
 use Rattle.kernel_model.specs.Lists.{Lists, has_task, is_queued}
 use Rattle.kernel_model.specs.Owned.{OwnsApart, owned, tasks_words}

@@ -1,13 +1,13 @@
 -- An exchange among the words of one task is one of all owned words, and so is one of the word that names the running task.
 use Rattle.std.proofs.Common.{◌≡◌, ℕ, ◌-◌, List, [], ◌∷◌, ◌++◌, cond, eqb, refl, ap, subst, arith}
-use Rattle.owned_words.specs.Exchange.{Exchange}
-use Rattle.owned_words.specs.LinkedWords.{first_of, headed_words, linked_words}
-use Rattle.owned_words.specs.Owned.{Pairs, row_from}
-use Rattle.owned_words.proofs.Exchanges.{exchange-left, exchange-linked, exchange-right}
-use Rattle.getvec_chain.specs.BlockWords.{blocks_words}
-use Rattle.hunk_loader.specs.ModuleExchanges.{modules_words}
-use Rattle.task_block.specs.ChainWords.{entries}
-use Rattle.task_block.specs.HeldTasks.{address_with}
+use Rattle.kernel_lists.specs.OwnedWords.Exchange.{Exchange}
+use Rattle.kernel_lists.specs.OwnedWords.LinkedWords.{first_of, headed_words, linked_words}
+use Rattle.kernel_lists.specs.OwnedWords.Owned.{Pairs, row_from}
+use Rattle.kernel_lists.proofs.Shown.OwnedWords.Exchanges.{exchange-left, exchange-linked, exchange-right}
+use Rattle.kernel_lists.specs.GetvecChain.BlockWords.{blocks_words}
+use Rattle.kernel_lists.specs.HunkLoader.ModuleExchanges.{modules_words}
+use Rattle.kernel_lists.specs.TaskBlock.ChainWords.{entries}
+use Rattle.kernel_lists.specs.TaskBlock.HeldTasks.{address_with}
 use Rattle.kernel_model.specs.Changes.{with_tasks}
 use Rattle.kernel_model.specs.Lists.{Lists, address_of_task}
 use Rattle.kernel_model.specs.Owned.{device_words, owned, tasks_words}

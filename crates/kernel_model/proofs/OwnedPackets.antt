@@ -4,18 +4,18 @@ use Rattle.std.specs.Prelude.{is_some}
 use Rattle.std.specs.List.{range_with_len}
 use Rattle.std.proofs.lemmas.Bool.{and_parts, eqb-true, false≢true, or_cases}
 use Rattle.std.proofs.lemmas.List.Folds.{list_any-append}
-use Rattle.linked_list.specs.Count.{hit, times, words_of}
-use Rattle.coroutines.specs.CoroutineWords.{coroutine_size}
-use Rattle.linked_list.proofs.Counts.{hit-same}
-use Rattle.owned_words.specs.LinkedWords.{first_of, headed_words, linked_words}
-use Rattle.owned_words.specs.Owned.{owners}
-use Rattle.owned_words.proofs.OwnedWords.{owners-append}
-use Rattle.getvec_chain.specs.BlockWords.{blocks_words}
-use Rattle.hunk_loader.specs.ModuleExchanges.{modules_words}
-use Rattle.packet_queue.specs.QueueWords.{QueuedPacket, address_of, packet_words}
-use Rattle.task_block.specs.ChainWords.{entries}
-use Rattle.task_block.specs.HeldTasks.{address_with}
-use Rattle.task_block.specs.RootWords.{first_task}
+use Rattle.word_store.specs.Count.{hit, times, words_of}
+use Rattle.kernel_lists.specs.Coroutines.CoroutineWords.{coroutine_size}
+use Rattle.word_store.proofs.Counts.{hit-same}
+use Rattle.kernel_lists.specs.OwnedWords.LinkedWords.{first_of, headed_words, linked_words}
+use Rattle.kernel_lists.specs.OwnedWords.Owned.{owners}
+use Rattle.kernel_lists.proofs.Shown.OwnedWords.OwnedWords.{owners-append}
+use Rattle.kernel_lists.specs.GetvecChain.BlockWords.{blocks_words}
+use Rattle.kernel_lists.specs.HunkLoader.ModuleExchanges.{modules_words}
+use Rattle.kernel_lists.specs.PacketQueue.QueueWords.{QueuedPacket, address_of, packet_words}
+use Rattle.kernel_lists.specs.TaskBlock.ChainWords.{entries}
+use Rattle.kernel_lists.specs.TaskBlock.HeldTasks.{address_with}
+use Rattle.kernel_lists.specs.TaskBlock.RootWords.{first_task}
 use Rattle.kernel_model.specs.BlockUse.{coroutine_addresses}
 use Rattle.kernel_model.specs.Lists.{Lists, has_task, is_queued}
 use Rattle.kernel_model.specs.Owned.{clock_head, device_words, keyboard_head, output_head, owned, tasks_words}

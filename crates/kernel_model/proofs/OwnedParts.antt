@@ -1,14 +1,14 @@
 -- The parts of the kernel's owned words.
 use Rattle.std.proofs.Common.{◌≡◌, ℕ, ◌+◌, List, ◌++◌, arith}
-use Rattle.owned_words.specs.LinkedWords.{headed_words}
-use Rattle.owned_words.specs.Owned.{Holds, Pairs, owners}
-use Rattle.owned_words.proofs.OwnedWords.{Holds-left, Holds-right, owners-append}
-use Rattle.getvec_chain.specs.BlockWords.{blocks_words}
-use Rattle.hunk_loader.specs.ModuleExchanges.{modules_words}
-use Rattle.packet_queue.specs.QueueWords.{queue_words}
-use Rattle.task_block.specs.ChainWords.{entries}
-use Rattle.task_block.specs.HeldTasks.{address_with}
-use Rattle.task_block.specs.RootWords.{first_task}
+use Rattle.kernel_lists.specs.OwnedWords.LinkedWords.{headed_words}
+use Rattle.kernel_lists.specs.OwnedWords.Owned.{Holds, Pairs, owners}
+use Rattle.kernel_lists.proofs.Shown.OwnedWords.OwnedWords.{Holds-left, Holds-right, owners-append}
+use Rattle.kernel_lists.specs.GetvecChain.BlockWords.{blocks_words}
+use Rattle.kernel_lists.specs.HunkLoader.ModuleExchanges.{modules_words}
+use Rattle.kernel_lists.specs.PacketQueue.QueueWords.{queue_words}
+use Rattle.kernel_lists.specs.TaskBlock.ChainWords.{entries}
+use Rattle.kernel_lists.specs.TaskBlock.HeldTasks.{address_with}
+use Rattle.kernel_lists.specs.TaskBlock.RootWords.{first_task}
 use Rattle.kernel_model.specs.Lists.{Lists, address_of_task}
 use Rattle.kernel_model.specs.Owned.{clock_head, device_words, keyboard_head, output_head, owned, tasks_words}
 use Rattle.kernel_model.specs.Residents.{resident_words}

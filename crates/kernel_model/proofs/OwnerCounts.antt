@@ -1,17 +1,17 @@
 -- How often an address is owned: by each part of the owned words, and by linked things, whatever their links hold.
 use Rattle.std.proofs.Common.{◌≡◌, ℕ, ◌+◌, ◌<◌, ◌≤◌, List, [], ◌∷◌, ◌++◌, cond, Bool, true, Option, refl, ap, ◌∙◌, arith, inl, inr}
 use Rattle.std.proofs.lemmas.Bool.{cases_lt}
-use Rattle.owned_words.specs.LinkedWords.{first_of, headed_words, linked_words}
-use Rattle.owned_words.specs.Owned.{Pairs, owners}
-use Rattle.owned_words.proofs.OwnedWords.{owners-append}
-use Rattle.getvec_chain.specs.declared.pieces.Block.{Block}
-use Rattle.getvec_chain.specs.BlockWords.{blocks_words}
-use Rattle.hunk_loader.specs.HeldModules.{LoadedModule, module_address, module_words}
-use Rattle.hunk_loader.specs.ModuleExchanges.{modules_words}
-use Rattle.packet_queue.specs.QueueWords.{QueuedPacket, address_of, packet_words, queue_words}
-use Rattle.task_block.specs.ChainWords.{entries, listed_words}
-use Rattle.task_block.specs.HeldTasks.{address_with}
-use Rattle.task_block.specs.RootWords.{first_module, first_task}
+use Rattle.kernel_lists.specs.OwnedWords.LinkedWords.{first_of, headed_words, linked_words}
+use Rattle.kernel_lists.specs.OwnedWords.Owned.{Pairs, owners}
+use Rattle.kernel_lists.proofs.Shown.OwnedWords.OwnedWords.{owners-append}
+use Rattle.kernel_lists.specs.GetvecChain.declared.pieces.Block.{Block}
+use Rattle.kernel_lists.specs.GetvecChain.BlockWords.{blocks_words}
+use Rattle.kernel_lists.specs.HunkLoader.HeldModules.{LoadedModule, module_address, module_words}
+use Rattle.kernel_lists.specs.HunkLoader.ModuleExchanges.{modules_words}
+use Rattle.kernel_lists.specs.PacketQueue.QueueWords.{QueuedPacket, address_of, packet_words, queue_words}
+use Rattle.kernel_lists.specs.TaskBlock.ChainWords.{entries, listed_words}
+use Rattle.kernel_lists.specs.TaskBlock.HeldTasks.{address_with}
+use Rattle.kernel_lists.specs.TaskBlock.RootWords.{first_module, first_task}
 use Rattle.kernel_model.specs.Changes.{with_blocks, with_modules, with_tasks}
 use Rattle.kernel_model.specs.Lists.{Lists, address_of_task}
 use Rattle.kernel_model.specs.Owned.{OwnsApart, clock_head, device_words, keyboard_head, output_head, owned, tasks_words}

@@ -1,9 +1,9 @@
 -- A packet comes into a queue, or goes out of one, and the lists stay valid.
 use Rattle.std.proofs.Common.{◌≡◌, ℕ, ◌+◌, ◌≤◌, List, ◌∷◌, ◌++◌, eqb, false, sym, ap, ◌∙◌, subst, arith}
 use Rattle.std.specs.List.{AllByRecursion}
-use Rattle.linked_list.proofs.Counts.{times-within}
-use Rattle.owned_words.specs.Owned.{owners}
-use Rattle.packet_queue.specs.QueueWords.{QueuedPacket, packet_words}
+use Rattle.word_store.proofs.Counts.{times-within}
+use Rattle.kernel_lists.specs.OwnedWords.Owned.{owners}
+use Rattle.kernel_lists.specs.PacketQueue.QueueWords.{QueuedPacket, packet_words}
 use Rattle.kernel_model.specs.Changes.{AreUnowned, HasPlace, KeepsOrder, queue_of, with_queue}
 use Rattle.kernel_model.specs.Lists.{Lists, has_task}
 use Rattle.kernel_model.specs.Owned.{owned}

@@ -1,8 +1,8 @@
 -- The packets that a walk shows are those that are queued.
 use Rattle.std.proofs.Common.{◌≡◌, ℕ, Bool, true, false, List, [], ◌∷◌, ◌++◌, cond, map, refl, sym, ap, ◌∙◌}
 use Rattle.std.specs.List.{AllByRecursion, flat_map}
-use Rattle.packet_queue.specs.QueueWords.{HeldQueue, QueuedPacket, address_of as packet_address}
-use Rattle.packet_queue.proofs.HeldQueues.{held-queue}
+use Rattle.kernel_lists.specs.PacketQueue.QueueWords.{HeldQueue, QueuedPacket, address_of as packet_address}
+use Rattle.kernel_lists.proofs.Shown.PacketQueue.HeldQueues.{held-queue}
 use Rattle.kernel_model.specs.HoldsLists.{HoldsLists}
 use Rattle.kernel_model.specs.KernelRanges.{packet_ranges, packet_words_of, packets_at, pending_packets, words}
 use Rattle.kernel_model.specs.Lists.{Lists, queued}

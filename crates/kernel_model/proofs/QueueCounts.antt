@@ -1,11 +1,11 @@
 -- How often an address is owned, where a queue is another.
 use Rattle.std.proofs.Common.{◌≡◌, ℕ, ◌+◌, ◌<◌, ◌≤◌, List, [], ◌∷◌, map, sym, ap, subst, arith}
-use Rattle.linked_list.specs.Count.{IsApart, hit, times}
-use Rattle.linked_list.proofs.Counts.{range-apart, range-high, range-low}
+use Rattle.word_store.specs.Count.{IsApart, hit, times}
+use Rattle.word_store.proofs.Counts.{range-apart, range-high, range-low}
 use Rattle.std.specs.List.{range_with_len}
-use Rattle.owned_words.specs.Owned.{owners}
-use Rattle.owned_words.proofs.RowWords.{owners-row}
-use Rattle.packet_queue.specs.QueueWords.{QueuedPacket, packet_words, queue_words}
+use Rattle.kernel_lists.specs.OwnedWords.Owned.{owners}
+use Rattle.kernel_lists.proofs.Shown.OwnedWords.RowWords.{owners-row}
+use Rattle.kernel_lists.specs.PacketQueue.QueueWords.{QueuedPacket, packet_words, queue_words}
 use Rattle.kernel_model.specs.Changes.{HasPlace, queue_of, with_queue, with_tasks}
 use Rattle.kernel_model.specs.Lists.{Lists}
 use Rattle.kernel_model.specs.Owned.{clock_head, device_words, keyboard_head, output_head, owned}

@@ -3,8 +3,8 @@ use Rattle.std.proofs.Common.{◌≡◌, ℕ, ◌≤◌, List, [], ◌∷◌, �
 use Rattle.std.specs.Prelude.{is_some}
 use Rattle.std.specs.List.{AllByRecursion}
 use Rattle.std.proofs.lemmas.Bool.{false≢true, or_left, or_right}
-use Rattle.linked_list.specs.Count.{IsApart}
-use Rattle.packet_queue.specs.QueueWords.{QueuedPacket}
+use Rattle.word_store.specs.Count.{IsApart}
+use Rattle.kernel_lists.specs.PacketQueue.QueueWords.{QueuedPacket}
 use Rattle.kernel_model.specs.Changes.{HasPlace, KeepsOrder, queue_of, with_key, with_queue, with_tasks, work_of}
 use Rattle.kernel_model.specs.Lists.{Lists, has_task, is_queued}
 use Rattle.kernel_model.specs.Owned.{OwnsApart}

@@ -3,13 +3,13 @@ use Rattle.std.proofs.Common.{◌≡◌, ◌⊎◌, inl, inr, ℕ, ◌<◌, List
 use Rattle.std.specs.List.{AllByRecursion, flat_map, list_any}
 use Rattle.std.proofs.lemmas.Bool.{eqb-true, or_cases}
 use Rattle.std.proofs.lemmas.List.Folds.{list_any-append}
-use Rattle.linked_list.specs.Linked.{IsNode}
-use Rattle.owned_words.specs.LinkedWords.{first_of, linked_words}
-use Rattle.owned_words.specs.Owned.{Holds}
-use Rattle.owned_words.proofs.OwnedWords.{Holds-left, Holds-right}
-use Rattle.packet_queue.specs.Queue.{link_of, packet_size}
-use Rattle.packet_queue.specs.QueueWords.{HeldQueue, QueuedPacket, address_of, packet_words}
-use Rattle.packet_queue.proofs.HeldQueues.{held-queue}
+use Rattle.kernel_lists.specs.LinkedList.Linked.{IsNode}
+use Rattle.kernel_lists.specs.OwnedWords.LinkedWords.{first_of, linked_words}
+use Rattle.kernel_lists.specs.OwnedWords.Owned.{Holds}
+use Rattle.kernel_lists.proofs.Shown.OwnedWords.OwnedWords.{Holds-left, Holds-right}
+use Rattle.kernel_lists.specs.PacketQueue.Queue.{link_of, packet_size}
+use Rattle.kernel_lists.specs.PacketQueue.QueueWords.{HeldQueue, QueuedPacket, address_of, packet_words}
+use Rattle.kernel_lists.proofs.Shown.PacketQueue.HeldQueues.{held-queue}
 use Rattle.kernel_model.specs.Lists.{Lists, is_queued}
 use Rattle.kernel_model.specs.Owned.{clock_head, keyboard_head, output_head}
 use Rattle.kernel_model.specs.ReadsLists.{ReadsLists}

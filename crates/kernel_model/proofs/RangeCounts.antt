@@ -3,8 +3,8 @@ use Rattle.std.proofs.Common.{◌≡◌, ℕ, ◌+◌, ◌<◌, ◌≤◌, ◌||
 use Rattle.std.proofs.lemmas.Bool.{cases_lt, false≢true}
 use Rattle.std.proofs.lemmas.Bool.Decides.{nat_tests}
 use Rattle.std.specs.List.{list_any, range_with_len}
-use Rattle.linked_list.specs.Count.{times}
-use Rattle.linked_list.proofs.Counts.{range-high, range-low, times-within}
+use Rattle.word_store.specs.Count.{times}
+use Rattle.word_store.proofs.Counts.{range-high, range-low, times-within}
 use Rattle.kernel_model.specs.KernelRanges.{Words, meets}
 
 -- how many of the ranges have the address

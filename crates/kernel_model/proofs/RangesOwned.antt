@@ -2,17 +2,17 @@
 use Rattle.std.proofs.Common.{◌≡◌, ◌↔◌, ℕ, ◌+◌, ◌-◌, ◌*◌, ◌<◌, ◌≤◌, ◌&&◌, Bool, true, false, not, Option, Some, None, List, [], ◌∷◌, ◌++◌, map, cond, is_some, refl, sym, ap, ◌∙◌, arith}
 use Rattle.std.proofs.lemmas.Bool.{false≢true}
 use Rattle.std.specs.List.{flat_map, range_with_len}
-use Rattle.linked_list.specs.Count.{hit, times}
-use Rattle.owned_words.specs.Owned.{Pairs, owners}
-use Rattle.owned_words.proofs.OwnedWords.{owners-append}
-use Rattle.owned_words.proofs.RowWords.{owners-row}
-use Rattle.getvec_chain.specs.Tiling.{blocks_in}
-use Rattle.hunk_loader.proofs.HeldModuleLists.{held-modules}
-use Rattle.packet_queue.specs.Queue.{no_queue}
-use Rattle.packet_queue.specs.QueueWords.{HeldQueue, QueuedPacket, queue_words}
-use Rattle.packet_queue.proofs.HeldQueues.{held-queue}
-use Rattle.task_block.specs.Lists.{modules_in}
-use Rattle.task_block.specs.TaskChain.{tasks_in}
+use Rattle.word_store.specs.Count.{hit, times}
+use Rattle.kernel_lists.specs.OwnedWords.Owned.{Pairs, owners}
+use Rattle.kernel_lists.proofs.Shown.OwnedWords.OwnedWords.{owners-append}
+use Rattle.kernel_lists.proofs.Shown.OwnedWords.RowWords.{owners-row}
+use Rattle.kernel_lists.specs.GetvecChain.Tiling.{blocks_in}
+use Rattle.kernel_lists.proofs.Shown.HunkLoader.HeldModuleLists.{held-modules}
+use Rattle.kernel_lists.specs.PacketQueue.Queue.{no_queue}
+use Rattle.kernel_lists.specs.PacketQueue.QueueWords.{HeldQueue, QueuedPacket, queue_words}
+use Rattle.kernel_lists.proofs.Shown.PacketQueue.HeldQueues.{held-queue}
+use Rattle.kernel_lists.specs.TaskBlock.Lists.{modules_in}
+use Rattle.kernel_lists.specs.TaskBlock.TaskChain.{tasks_in}
 use Rattle.kernel_model.specs.Lists.{Lists, has_task, is_queued}
 use Rattle.kernel_model.specs.Owned.{clock_head, keyboard_head, output_head, owned}
 use Rattle.kernel_model.specs.Residents.{fault_packet_words, key_arguments, key_words, keyboard, resident_words}

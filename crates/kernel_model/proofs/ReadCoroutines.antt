@@ -2,22 +2,22 @@
 use Rattle.std.proofs.Common.{◌≡◌, ◌⊎◌, inl, inr, ℕ, ◌+◌, ◌<◌, ◌≤◌, List, [], ◌++◌, map, false, ap, ◌∙◌, arith}
 use Rattle.std.specs.List.{range_with_len}
 use Rattle.std.proofs.lemmas.Bool.{false_from_ne_true}
-use Rattle.linked_list.specs.Count.{times}
-use Rattle.linked_list.specs.Places.{has}
-use Rattle.linked_list.proofs.Counts.{times-within}
-use Rattle.linked_list.proofs.Members.{one-member}
-use Rattle.owned_words.specs.Owned.{AreApart, AreInside, Holds, Pairs, owners}
-use Rattle.owned_words.proofs.HeldLists.{held-count}
-use Rattle.owned_words.proofs.OwnedWords.{Holds-left, Holds-right}
-use Rattle.getvec_chain.specs.Block.{used_block}
-use Rattle.getvec_chain.specs.Run.{need}
-use Rattle.getvec_chain.specs.Tiling.{IsTiled, blocks_in, used_at}
-use Rattle.packet_queue.specs.QueueWords.{queue_words}
-use Rattle.task_block.specs.Lists.{coroutine_link}
-use Rattle.coroutines.specs.CoroutineExchanges.{HoldsCoroutines, words_of_coroutines}
-use Rattle.coroutines.specs.CoroutineWords.{coroutine_size}
-use Rattle.coroutines.specs.HeldCoroutines.{Coroutine, HasCoroutineBlock, address_of, coroutine_words}
-use Rattle.coroutines.proofs.HeldCoroutineLists.{are_coroutines}
+use Rattle.word_store.specs.Count.{times}
+use Rattle.kernel_lists.specs.LinkedList.Places.{has}
+use Rattle.word_store.proofs.Counts.{times-within}
+use Rattle.kernel_lists.proofs.Shown.LinkedList.Members.{one-member}
+use Rattle.kernel_lists.specs.OwnedWords.Owned.{AreApart, AreInside, Holds, Pairs, owners}
+use Rattle.kernel_lists.proofs.Shown.OwnedWords.HeldLists.{held-count}
+use Rattle.kernel_lists.proofs.Shown.OwnedWords.OwnedWords.{Holds-left, Holds-right}
+use Rattle.kernel_lists.specs.GetvecChain.Block.{used_block}
+use Rattle.kernel_lists.specs.GetvecChain.Run.{need}
+use Rattle.kernel_lists.specs.GetvecChain.Tiling.{IsTiled, blocks_in, used_at}
+use Rattle.kernel_lists.specs.PacketQueue.QueueWords.{queue_words}
+use Rattle.kernel_lists.specs.TaskBlock.Lists.{coroutine_link}
+use Rattle.kernel_lists.specs.Coroutines.CoroutineExchanges.{HoldsCoroutines, words_of_coroutines}
+use Rattle.kernel_lists.specs.Coroutines.CoroutineWords.{coroutine_size}
+use Rattle.kernel_lists.specs.Coroutines.HeldCoroutines.{Coroutine, HasCoroutineBlock, address_of, coroutine_words}
+use Rattle.kernel_lists.proofs.Shown.Coroutines.HeldCoroutineLists.{are_coroutines}
 use Rattle.kernel_model.specs.Lists.{Lists}
 use Rattle.kernel_model.specs.Task.{Task, fault_words, name_words, queue_head, state_words, task_words}
 use Rattle.kernel_model.specs.ValidTasks.{CoroutinesStand, IsCoroutine}

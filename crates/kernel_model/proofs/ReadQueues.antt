@@ -1,11 +1,11 @@
 -- The queues of valid lists stand in a store that holds their words.
 use Rattle.std.proofs.Common.{ℕ, ◌<◌, ◌≤◌, List, arith}
 use Rattle.std.specs.List.{AllByRecursion}
-use Rattle.owned_words.specs.Owned.{AreInside, Holds, Pairs, owners}
-use Rattle.getvec_chain.specs.declared.pieces.Block.{Block}
-use Rattle.getvec_chain.specs.Block.{has_data}
-use Rattle.getvec_chain.proofs.UsedBlocks.{has_data-true}
-use Rattle.packet_queue.specs.QueueWords.{HeldQueue, QueuedPacket, queue_words}
+use Rattle.kernel_lists.specs.OwnedWords.Owned.{AreInside, Holds, Pairs, owners}
+use Rattle.kernel_lists.specs.GetvecChain.declared.pieces.Block.{Block}
+use Rattle.kernel_lists.specs.GetvecChain.Block.{has_data}
+use Rattle.kernel_lists.proofs.Shown.GetvecChain.UsedBlocks.{has_data-true}
+use Rattle.kernel_lists.specs.PacketQueue.QueueWords.{HeldQueue, QueuedPacket, queue_words}
 use Rattle.kernel_model.specs.Lists.{Lists}
 use Rattle.kernel_model.specs.ValidBlocks.{AreData}
 use Rattle.kernel_model.specs.ValidQueues.{MayStand, Place}

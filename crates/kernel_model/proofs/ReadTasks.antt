@@ -1,13 +1,13 @@
 -- The blocks, the tasks and the modules of valid lists stand in a store that holds their words.
 use Rattle.std.proofs.Common.{◌≡◌, ℕ, ◌+◌, ◌-◌, ◌<◌, ◌≤◌, List, length, get_or, refl, ap, ◌∙◌, arith}
 use Rattle.std.specs.List.{AllByRecursion}
-use Rattle.owned_words.specs.Owned.{Holds}
-use Rattle.getvec_chain.specs.Tiling.{IsTiled, blocks_in, used_at}
-use Rattle.getvec_chain.proofs.BlockExchanges.{held-IsTiled, held-blocks_in}
-use Rattle.getvec_chain.proofs.SizeWords.{Follow-order}
-use Rattle.hunk_loader.specs.HeldModules.{HasModuleBlock, HeldModules, LoadedModule}
-use Rattle.task_block.specs.HeldTasks.{HeldTasks, address_with}
-use Rattle.kernel_model.specs.Lists.{Lists}
+use Rattle.kernel_lists.specs.OwnedWords.Owned.{Holds}
+use Rattle.kernel_lists.specs.GetvecChain.Tiling.{IsTiled, blocks_in, used_at}
+use Rattle.kernel_lists.proofs.Shown.GetvecChain.BlockExchanges.{held-IsTiled, held-blocks_in}
+use Rattle.kernel_lists.proofs.Shown.GetvecChain.SizeWords.{Follow-order}
+use Rattle.kernel_lists.specs.HunkLoader.HeldModules.{HasModuleBlock, HeldModules, LoadedModule}
+use Rattle.kernel_lists.specs.TaskBlock.HeldTasks.{HeldTasks, address_with}
+use Rattle.kernel_model.specs.Lists.{Lists, address_of_task}
 use Rattle.kernel_model.specs.Owned.{owned}
 use Rattle.kernel_model.specs.Task.{task_address, task_id, task_words}
 use Rattle.kernel_model.specs.ValidBlocks.{HasBlock, last_module_word}
@@ -17,7 +17,6 @@ use Rattle.kernel_model.proofs.EachMember.{all-each}
 use Rattle.kernel_model.proofs.OwnedParts.{HoldsParts, holds-parts, owners-parts}
 use Rattle.kernel_model.proofs.RootCounts.{Holds-entry, RootWords, highest-high, owners-nodes, root-held}
 use Rattle.kernel_model.proofs.TaskPlaces.{TaskPlace, task-places, task-some}
-use Rattle.kernel_model.specs.Lists.{address_of_task}
 
 -- the blocks stand
 pub record ReadsBlocks (s : List ℕ) (l : Lists) : Type 0 where

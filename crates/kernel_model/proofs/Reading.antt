@@ -1,12 +1,12 @@
 -- Valid lists, read off a store that holds the words which they own.
 use Rattle.std.proofs.Common.{◌≡◌, ℕ, List, [], ◌++◌, length, cond, ap, subst, arith}
 use Rattle.std.specs.List.{AllByRecursion}
-use Rattle.owned_words.specs.LinkedWords.{linked_words}
-use Rattle.owned_words.specs.Owned.{AreApart, AreInside, Holds, Pairs, owners}
-use Rattle.owned_words.proofs.OwnedWords.{Holds-left, owners-append}
-use Rattle.packet_queue.specs.QueueWords.{HeldQueue, queue_words}
-use Rattle.task_block.proofs.HeldTaskBlocks.{held-tasks}
-use Rattle.coroutines.specs.CoroutineExchanges.{HoldsCoroutines}
+use Rattle.kernel_lists.specs.OwnedWords.LinkedWords.{linked_words}
+use Rattle.kernel_lists.specs.OwnedWords.Owned.{AreApart, AreInside, Holds, Pairs, owners}
+use Rattle.kernel_lists.proofs.Shown.OwnedWords.OwnedWords.{Holds-left, owners-append}
+use Rattle.kernel_lists.specs.PacketQueue.QueueWords.{HeldQueue, queue_words}
+use Rattle.kernel_lists.proofs.Shown.TaskBlock.HeldTaskBlocks.{held-tasks}
+use Rattle.kernel_lists.specs.Coroutines.CoroutineExchanges.{HoldsCoroutines}
 use Rattle.kernel_model.specs.Lists.{Lists}
 use Rattle.kernel_model.specs.Owned.{clock_head, keyboard_head, output_head, owned}
 use Rattle.kernel_model.specs.ReadsLists.{ReadsLists}

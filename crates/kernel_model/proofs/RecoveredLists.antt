@@ -3,15 +3,15 @@ use Rattle.std.proofs.Common.{◌≡◌, ◌⊎◌, inl, inr, ℕ, ◌+◌, ◌<
 use Rattle.std.specs.Prelude.{is_some}
 use Rattle.std.specs.List.{AllByRecursion, list_any}
 use Rattle.std.proofs.lemmas.Bool.{and_parts, eq-eqb, eqb-true, false≢true, leb-true, ne_eqb, not-false}
-use Rattle.owned_words.specs.Owned.{Holds, Pairs}
-use Rattle.owned_words.proofs.OwnedWords.{Holds-left, Holds-right}
-use Rattle.packet_queue.specs.Queue.{no_queue}
-use Rattle.packet_queue.specs.QueueWords.{HeldQueue, queue_words}
-use Rattle.session_text.specs.Ranges.{most_words}
-use Rattle.task_block.specs.HeldTasks.{address_with}
-use Rattle.task_block.specs.TaskChain.{id_in, tasks_in}
-use Rattle.task_block.proofs.HeldTaskBlocks.{numbers}
-use Rattle.coroutines.specs.CoroutineExchanges.{HoldsCoroutines}
+use Rattle.kernel_lists.specs.OwnedWords.Owned.{Holds, Pairs}
+use Rattle.kernel_lists.proofs.Shown.OwnedWords.OwnedWords.{Holds-left, Holds-right}
+use Rattle.kernel_lists.specs.PacketQueue.Queue.{no_queue}
+use Rattle.kernel_lists.specs.PacketQueue.QueueWords.{HeldQueue, queue_words}
+use Rattle.kernel_model.specs.Ranges.{most_words}
+use Rattle.kernel_lists.specs.TaskBlock.HeldTasks.{address_with}
+use Rattle.kernel_lists.specs.TaskBlock.TaskChain.{id_in, tasks_in}
+use Rattle.kernel_lists.proofs.Shown.TaskBlock.HeldTaskBlocks.{numbers}
+use Rattle.kernel_lists.specs.Coroutines.CoroutineExchanges.{HoldsCoroutines}
 use Rattle.kernel_model.specs.Lists.{Lists, address_of_task, has_task, is_queued}
 use Rattle.kernel_model.specs.Owned.{clock_head, keyboard_head, output_head, owned}
 use Rattle.kernel_model.specs.ReadsLists.{ReadsLists}

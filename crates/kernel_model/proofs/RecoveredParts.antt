@@ -2,19 +2,19 @@
 use Rattle.std.proofs.Common.{◌≡◌, ℕ, suc, ◌+◌, ◌<◌, List, [], ◌∷◌, length, map, get_or, sym, ap, ◌∙◌, arith, add-zero}
 use Rattle.std.specs.Prelude.{slice_range}
 use Rattle.std.specs.List.{AllByRecursion}
-use Rattle.linked_list.proofs.Counts.{times-within}
-use Rattle.owned_words.specs.Owned.{AreInside, Holds}
-use Rattle.owned_words.proofs.RowWords.{Holds-range, owners-row}
-use Rattle.hunk_loader.specs.HeldModules.{HeldModules, LoadedModule, module_address, module_words}
-use Rattle.hunk_loader.specs.ModuleHunks.{lengths_in}
-use Rattle.hunk_loader.proofs.HeldModuleLists.{held-modules}
-use Rattle.packet_queue.specs.QueueWords.{HeldQueue, QueuedPacket, address_of as packet_address, packet_words}
-use Rattle.packet_queue.proofs.HeldQueues.{held-queue}
-use Rattle.task_block.specs.Lists.{modules_in}
-use Rattle.coroutines.specs.CoroutineExchanges.{HoldsCoroutines, TaskCoroutines}
-use Rattle.coroutines.specs.HeldCoroutines.{Coroutine, address_of as coroutine_address, coroutine_words}
-use Rattle.coroutines.proofs.CoroutineLists.{Built}
-use Rattle.coroutines.proofs.HeldCoroutineLists.{held-coroutines}
+use Rattle.word_store.proofs.Counts.{times-within}
+use Rattle.kernel_lists.specs.OwnedWords.Owned.{AreInside, Holds}
+use Rattle.kernel_lists.proofs.Shown.OwnedWords.RowWords.{Holds-range, owners-row}
+use Rattle.kernel_lists.specs.HunkLoader.HeldModules.{HeldModules, LoadedModule, module_address, module_words}
+use Rattle.kernel_lists.specs.HunkLoader.ModuleHunks.{lengths_in}
+use Rattle.kernel_lists.proofs.Shown.HunkLoader.HeldModuleLists.{held-modules}
+use Rattle.kernel_lists.specs.PacketQueue.QueueWords.{HeldQueue, QueuedPacket, address_of as packet_address, packet_words}
+use Rattle.kernel_lists.proofs.Shown.PacketQueue.HeldQueues.{held-queue}
+use Rattle.kernel_lists.specs.TaskBlock.Lists.{modules_in}
+use Rattle.kernel_lists.specs.Coroutines.CoroutineExchanges.{HoldsCoroutines, TaskCoroutines}
+use Rattle.kernel_lists.specs.Coroutines.HeldCoroutines.{Coroutine, address_of as coroutine_address, coroutine_words}
+use Rattle.kernel_lists.proofs.Shown.Coroutines.CoroutineLists.{Built}
+use Rattle.kernel_lists.proofs.Shown.Coroutines.HeldCoroutineLists.{held-coroutines}
 use Rattle.kernel_model.specs.Recovered.{coroutine_in, coroutines_of, module_in, packet_in, packets_at}
 use Rattle.kernel_model.proofs.EachMember.{held-each, holds-each, map-back}
 

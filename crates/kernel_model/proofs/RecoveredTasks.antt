@@ -3,18 +3,18 @@ use Rattle.std.proofs.Common.{◌≡◌, inl, inr, ℕ, zero, suc, ◌+◌, ◌-
 use Rattle.std.specs.Prelude.{slice_range}
 use Rattle.std.specs.List.{AllByRecursion, filter, range_with_len}
 use Rattle.std.proofs.lemmas.Bool.{eq-eqb, ne_eqb}
-use Rattle.linked_list.specs.Count.{times}
-use Rattle.linked_list.specs.Places.{has}
-use Rattle.linked_list.proofs.AllMembers.{all-has}
-use Rattle.linked_list.proofs.Counts.{times-within}
-use Rattle.owned_words.specs.LinkedWords.{first_of}
-use Rattle.owned_words.specs.Owned.{AreInside, Holds, row_from}
-use Rattle.owned_words.proofs.RowWords.{Holds-range}
-use Rattle.hunk_loader.specs.HeldModules.{module_address}
-use Rattle.packet_queue.specs.QueueWords.{HeldQueue, QueuedPacket}
-use Rattle.task_block.specs.TaskChain.{id_in}
-use Rattle.task_block.specs.Versions.{head_words}
-use Rattle.coroutines.specs.CoroutineExchanges.{HoldsCoroutines}
+use Rattle.word_store.specs.Count.{times}
+use Rattle.kernel_lists.specs.LinkedList.Places.{has}
+use Rattle.kernel_lists.proofs.Shown.LinkedList.AllMembers.{all-has}
+use Rattle.word_store.proofs.Counts.{times-within}
+use Rattle.kernel_lists.specs.OwnedWords.LinkedWords.{first_of}
+use Rattle.kernel_lists.specs.OwnedWords.Owned.{AreInside, Holds, row_from}
+use Rattle.kernel_lists.proofs.Shown.OwnedWords.RowWords.{Holds-range}
+use Rattle.kernel_lists.specs.HunkLoader.HeldModules.{module_address}
+use Rattle.kernel_lists.specs.PacketQueue.QueueWords.{HeldQueue, QueuedPacket}
+use Rattle.kernel_lists.specs.TaskBlock.TaskChain.{id_in}
+use Rattle.kernel_lists.specs.TaskBlock.Versions.{head_words}
+use Rattle.kernel_lists.specs.Coroutines.CoroutineExchanges.{HoldsCoroutines}
 use Rattle.kernel_model.specs.Lists.{Lists}
 use Rattle.kernel_model.specs.Recovered.{further_words, modules_of, task_in}
 use Rattle.kernel_model.specs.Task.{Task, filled, further_modules, is_guest_id, queue_bit, queue_head, state_word, task_words}

@@ -2,11 +2,11 @@
 use Rattle.std.proofs.Common.{◌≡◌, ℕ, ◌+◌, ◌<◌, ◌≤◌, List, [], ◌∷◌, ◌++◌, cond, eqb, is_some, not, ◌&&◌, Bool, true, false, Option, Some, None, refl, sym, ap, ◌∙◌, subst, arith}
 use Rattle.std.specs.List.{AllByRecursion, range_with_len}
 use Rattle.std.proofs.lemmas.Bool.{and_from, and_parts, eq-eqb, eqb-true, false≢true}
-use Rattle.linked_list.specs.Count.{times}
-use Rattle.owned_words.specs.Owned.{owners}
-use Rattle.owned_words.proofs.RowWords.{owners-row}
-use Rattle.packet_queue.specs.Queue.{no_queue}
-use Rattle.packet_queue.specs.QueueWords.{QueuedPacket, packet_words, queue_words}
+use Rattle.word_store.specs.Count.{times}
+use Rattle.kernel_lists.specs.OwnedWords.Owned.{owners}
+use Rattle.kernel_lists.proofs.Shown.OwnedWords.RowWords.{owners-row}
+use Rattle.kernel_lists.specs.PacketQueue.Queue.{no_queue}
+use Rattle.kernel_lists.specs.PacketQueue.QueueWords.{QueuedPacket, packet_words, queue_words}
 use Rattle.kernel_model.specs.Changes.{HasPlace, KeepsOrder, queue_of, with_fault_packet, with_key, with_queue}
 use Rattle.kernel_model.specs.Lists.{Lists, has_task, is_queued}
 use Rattle.kernel_model.specs.Owned.{device_words, owned}

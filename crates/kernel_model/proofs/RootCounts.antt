@@ -2,16 +2,16 @@
 use Rattle.std.proofs.Common.{◌≡◌, ℕ, zero, suc, ◌+◌, ◌-◌, ◌<◌, ◌≤◌, List, [], ◌∷◌, ◌++◌, length, get_or, eqb, cond, true, false, refl, sym, ap, ◌∙◌, arith, inl, inr}
 use Rattle.std.proofs.lemmas.Bool.{cases_eq}
 use Rattle.std.specs.List.{range_with_len}
-use Rattle.linked_list.specs.Count.{hit, times}
-use Rattle.owned_words.specs.LinkedWords.{linked_words}
-use Rattle.owned_words.specs.Owned.{Holds, Pairs, owners, row_from}
-use Rattle.owned_words.proofs.OwnedWords.{Holds-left, Holds-right, owners-append}
-use Rattle.owned_words.proofs.RowWords.{owners-row}
-use Rattle.getvec_chain.specs.BlockWords.{blocks_words}
-use Rattle.hunk_loader.specs.HeldModules.{module_address, module_words}
-use Rattle.packet_queue.specs.QueueWords.{address_of, packet_words}
-use Rattle.task_block.specs.ChainWords.{entries}
-use Rattle.task_block.specs.HeldTasks.{address_with}
+use Rattle.word_store.specs.Count.{hit, times}
+use Rattle.kernel_lists.specs.OwnedWords.LinkedWords.{linked_words}
+use Rattle.kernel_lists.specs.OwnedWords.Owned.{Holds, Pairs, owners, row_from}
+use Rattle.kernel_lists.proofs.Shown.OwnedWords.OwnedWords.{Holds-left, Holds-right, owners-append}
+use Rattle.kernel_lists.proofs.Shown.OwnedWords.RowWords.{owners-row}
+use Rattle.kernel_lists.specs.GetvecChain.BlockWords.{blocks_words}
+use Rattle.kernel_lists.specs.HunkLoader.HeldModules.{module_address, module_words}
+use Rattle.kernel_lists.specs.PacketQueue.QueueWords.{address_of, packet_words}
+use Rattle.kernel_lists.specs.TaskBlock.ChainWords.{entries}
+use Rattle.kernel_lists.specs.TaskBlock.HeldTasks.{address_with}
 use Rattle.kernel_model.specs.Lists.{Lists}
 use Rattle.kernel_model.specs.Owned.{owned}
 use Rattle.kernel_model.specs.Residents.{resident_words}

@@ -1,12 +1,12 @@
 -- The rules of one task, of its coroutines and of one packet, from some lists to others that have what they ask.
 use Rattle.std.proofs.Common.{◌≡◌, ℕ, ◌+◌, ◌≤◌, List, [], map, length, true, false, sym, ap, ◌∙◌, subst}
 use Rattle.std.specs.List.{AllByRecursion}
-use Rattle.linked_list.specs.Count.{IsApart}
-use Rattle.linked_list.specs.Places.{has}
-use Rattle.hunk_loader.specs.HeldModules.{module_address}
-use Rattle.packet_queue.specs.QueueWords.{QueuedPacket}
-use Rattle.coroutines.specs.CoroutineExchanges.{TaskCoroutines, with_list}
-use Rattle.coroutines.specs.HeldCoroutines.{Coroutine}
+use Rattle.word_store.specs.Count.{IsApart}
+use Rattle.kernel_lists.specs.LinkedList.Places.{has}
+use Rattle.kernel_lists.specs.HunkLoader.HeldModules.{module_address}
+use Rattle.kernel_lists.specs.PacketQueue.QueueWords.{QueuedPacket}
+use Rattle.kernel_lists.specs.Coroutines.CoroutineExchanges.{TaskCoroutines, with_list}
+use Rattle.kernel_lists.specs.Coroutines.HeldCoroutines.{Coroutine}
 use Rattle.kernel_model.specs.Changes.{with_coroutines}
 use Rattle.kernel_model.specs.Lists.{Lists, has_task}
 use Rattle.kernel_model.specs.Task.{Task, is_guest_id, task_id}

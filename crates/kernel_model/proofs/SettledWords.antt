@@ -2,9 +2,9 @@
 use Rattle.std.proofs.Common.{◌≡◌, ℕ, ◌+◌, ◌<◌, List, [], ◌∷◌, length, get_or, eqb, cond, Bool, true, false, Option, Some, None, refl, sym, ap, ◌∙◌, subst, arith}
 use Rattle.std.specs.Prelude.{is_some}
 use Rattle.std.proofs.lemmas.List.FromFn.{get_or-map-range_with_len, length-map-range_with_len}
-use Rattle.owned_words.specs.Owned.{Holds, Pairs, owners, word_in, written}
-use Rattle.owned_words.specs.Written.{IsWritten}
-use Rattle.owned_words.proofs.OwnedWords.{word_in-none}
+use Rattle.kernel_lists.specs.OwnedWords.Owned.{Holds, Pairs, owners, word_in, written}
+use Rattle.kernel_lists.specs.OwnedWords.Written.{IsWritten}
+use Rattle.kernel_lists.proofs.Shown.OwnedWords.OwnedWords.{word_in-none}
 use Rattle.kernel_model.specs.Image.{HasPlainWords, IsImage, image, plain_words, settled}
 use Rattle.kernel_model.specs.Kernel.{Kernel, owned_by}
 use Rattle.kernel_model.specs.Lists.{Lists}

@@ -3,20 +3,20 @@ use Rattle.std.proofs.Common.{◌≡◌, ℕ, ◌+◌, ◌-◌, ◌<◌, ◌≤�
 use Rattle.std.proofs.lemmas.Bool.{cases_lt}
 use Rattle.std.proofs.lemmas.Grind.{flat_map-append}
 use Rattle.std.specs.List.{AllByRecursion}
-use Rattle.owned_words.specs.Owned.{owners}
-use Rattle.owned_words.proofs.OwnedWords.{owners-append}
-use Rattle.getvec_chain.specs.declared.pieces.Block.{Block}
-use Rattle.getvec_chain.specs.declared.pieces.Run.{Run}
-use Rattle.getvec_chain.specs.Block.{used_block}
-use Rattle.getvec_chain.specs.BlockWords.{block_words, blocks_words}
-use Rattle.getvec_chain.specs.Run.{after_run, begins_run, first_run, need, run_size}
-use Rattle.getvec_chain.specs.Take.{left_over, split_run, taken, taken_store}
-use Rattle.getvec_chain.specs.Tiling.{Follow, Tiles, used_at}
-use Rattle.getvec_chain.proofs.Runs.{FoundRun, first_run-found, need-even}
-use Rattle.getvec_chain.proofs.SizeWords.{length-with_size_words, split_run-Follow}
-use Rattle.getvec_chain.proofs.Splits.{TakeSplit, take_split}
-use Rattle.getvec_chain.proofs.Takes.{taken-Tiles, used_at-taken, used_at-taken-other}
-use Rattle.packet_queue.specs.QueueWords.{QueuedPacket}
+use Rattle.kernel_lists.specs.OwnedWords.Owned.{owners}
+use Rattle.kernel_lists.proofs.Shown.OwnedWords.OwnedWords.{owners-append}
+use Rattle.kernel_lists.specs.GetvecChain.declared.pieces.Block.{Block}
+use Rattle.kernel_lists.specs.GetvecChain.declared.pieces.Run.{Run}
+use Rattle.kernel_lists.specs.GetvecChain.Block.{used_block}
+use Rattle.kernel_lists.specs.GetvecChain.BlockWords.{block_words, blocks_words}
+use Rattle.kernel_lists.specs.GetvecChain.Run.{after_run, begins_run, first_run, need, run_size}
+use Rattle.kernel_lists.specs.GetvecChain.Take.{left_over, split_run, taken, taken_store}
+use Rattle.kernel_lists.specs.GetvecChain.Tiling.{Follow, Tiles, used_at}
+use Rattle.kernel_lists.proofs.Shown.GetvecChain.Runs.{FoundRun, first_run-found, need-even}
+use Rattle.kernel_lists.proofs.Shown.GetvecChain.SizeWords.{length-with_size_words, split_run-Follow}
+use Rattle.kernel_lists.proofs.Shown.GetvecChain.Splits.{TakeSplit, take_split}
+use Rattle.kernel_lists.proofs.Shown.GetvecChain.Takes.{taken-Tiles, used_at-taken, used_at-taken-other}
+use Rattle.kernel_lists.specs.PacketQueue.QueueWords.{QueuedPacket}
 use Rattle.kernel_model.specs.Changes.{AreUnowned, with_blocks}
 use Rattle.kernel_model.specs.Lists.{Lists, queued}
 use Rattle.kernel_model.specs.Owned.{OwnsApart, owned}

@@ -1,15 +1,15 @@
 -- How often an address is among the words of a task: it depends on the task's place, its queue, and where its coroutines are.
 use Rattle.std.proofs.Common.{◌≡◌, ◌≤◌, ℕ, ◌+◌, ◌-◌, List, [], ◌∷◌, ◌++◌, map, drop, length, Bool, true, false, cond, refl, sym, ap, ◌∙◌, arith, add-zero}
 use Rattle.std.specs.List.{range_with_len}
-use Rattle.linked_list.specs.Count.{times, words_of}
-use Rattle.linked_list.proofs.Counts.{times-words_more}
-use Rattle.owned_words.specs.LinkedWords.{first_of, linked_words}
-use Rattle.owned_words.specs.Owned.{Pairs, owners}
-use Rattle.owned_words.proofs.OwnedWords.{owners-append}
-use Rattle.owned_words.proofs.RowWords.{owners-row}
-use Rattle.packet_queue.specs.QueueWords.{QueuedPacket}
-use Rattle.coroutines.specs.CoroutineWords.{coroutine_size}
-use Rattle.coroutines.specs.HeldCoroutines.{Coroutine, address_of, coroutine_words, parent_of}
+use Rattle.word_store.specs.Count.{times, words_of}
+use Rattle.word_store.proofs.Counts.{times-words_more}
+use Rattle.kernel_lists.specs.OwnedWords.LinkedWords.{first_of, linked_words}
+use Rattle.kernel_lists.specs.OwnedWords.Owned.{Pairs, owners}
+use Rattle.kernel_lists.proofs.Shown.OwnedWords.OwnedWords.{owners-append}
+use Rattle.kernel_lists.proofs.Shown.OwnedWords.RowWords.{owners-row}
+use Rattle.kernel_lists.specs.PacketQueue.QueueWords.{QueuedPacket}
+use Rattle.kernel_lists.specs.Coroutines.CoroutineWords.{coroutine_size}
+use Rattle.kernel_lists.specs.Coroutines.HeldCoroutines.{Coroutine, address_of, coroutine_words, parent_of}
 use Rattle.kernel_model.specs.BlockUse.{coroutine_addresses}
 use Rattle.kernel_model.specs.Changes.{SameTask}
 use Rattle.kernel_model.specs.Task.{Task, filled, further_modules, is_guest_id, task_words}

@@ -1,16 +1,16 @@
 -- A task is a node of the chain: its words, counted.
 use Rattle.std.proofs.Common.{◌≡◌, ℕ, suc, ◌+◌, List, [], ◌∷◌, ◌++◌, length, arith}
 use Rattle.std.specs.List.{range_with_len}
-use Rattle.linked_list.specs.Count.{hit, times}
-use Rattle.owned_words.specs.LinkedWords.{first_of, linked_words}
-use Rattle.owned_words.specs.Owned.{Pairs, owners}
-use Rattle.owned_words.proofs.Exchanges.{links-first}
-use Rattle.owned_words.proofs.OwnedWords.{owners-append}
-use Rattle.owned_words.proofs.RowWords.{owners-row}
-use Rattle.packet_queue.specs.QueueWords.{address_of as packet_address, packet_words, queue_words}
-use Rattle.task_block.specs.HeldTasks.{AreTasks}
-use Rattle.coroutines.specs.CoroutineExchanges.{words_of_coroutines}
-use Rattle.coroutines.specs.HeldCoroutines.{address_of as coroutine_address, coroutine_words}
+use Rattle.word_store.specs.Count.{hit, times}
+use Rattle.kernel_lists.specs.OwnedWords.LinkedWords.{first_of, linked_words}
+use Rattle.kernel_lists.specs.OwnedWords.Owned.{Pairs, owners}
+use Rattle.kernel_lists.proofs.Shown.OwnedWords.Exchanges.{links-first}
+use Rattle.kernel_lists.proofs.Shown.OwnedWords.OwnedWords.{owners-append}
+use Rattle.kernel_lists.proofs.Shown.OwnedWords.RowWords.{owners-row}
+use Rattle.kernel_lists.specs.PacketQueue.QueueWords.{address_of as packet_address, packet_words, queue_words}
+use Rattle.kernel_lists.specs.TaskBlock.HeldTasks.{AreTasks}
+use Rattle.kernel_lists.specs.Coroutines.CoroutineExchanges.{words_of_coroutines}
+use Rattle.kernel_lists.specs.Coroutines.HeldCoroutines.{address_of as coroutine_address, coroutine_words}
 use Rattle.kernel_model.specs.Task.{Task, fault_words, further_modules, globals_of, name_words, other_words, queue_head, stack_of, state_word, state_words, task_address, task_id, task_words}
 use Rattle.kernel_model.proofs.CutRanges.{times-cut, times-head}
 

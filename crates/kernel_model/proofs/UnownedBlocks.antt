@@ -5,15 +5,15 @@ use Rattle.std.specs.Prelude.{unwrap_or}
 use Rattle.std.specs.List.{AllByRecursion, flat_map, range_with_len}
 use Rattle.std.proofs.lemmas.Bool.{and_parts, eqb-true, or_cases}
 use Rattle.std.proofs.lemmas.List.Folds.{list_any-append}
-use Rattle.linked_list.specs.Count.{times}
-use Rattle.linked_list.specs.Places.{has}
-use Rattle.linked_list.proofs.Counts.{hit-same, times-within}
-use Rattle.linked_list.proofs.Members.{has-here, has-there}
-use Rattle.owned_words.specs.LinkedWords.{first_of, linked_words}
-use Rattle.owned_words.specs.Owned.{Pairs, owners, row_from}
-use Rattle.owned_words.proofs.OwnedWords.{owners-append}
-use Rattle.hunk_loader.specs.HeldModules.{module_address, module_words}
-use Rattle.coroutines.specs.HeldCoroutines.{Coroutine, address_of, coroutine_words}
+use Rattle.word_store.specs.Count.{times}
+use Rattle.kernel_lists.specs.LinkedList.Places.{has}
+use Rattle.word_store.proofs.Counts.{hit-same, times-within}
+use Rattle.kernel_lists.proofs.Shown.LinkedList.Members.{has-here, has-there}
+use Rattle.kernel_lists.specs.OwnedWords.LinkedWords.{first_of, linked_words}
+use Rattle.kernel_lists.specs.OwnedWords.Owned.{Pairs, owners, row_from}
+use Rattle.kernel_lists.proofs.Shown.OwnedWords.OwnedWords.{owners-append}
+use Rattle.kernel_lists.specs.HunkLoader.HeldModules.{module_address, module_words}
+use Rattle.kernel_lists.specs.Coroutines.HeldCoroutines.{Coroutine, address_of, coroutine_words}
 use Rattle.kernel_model.specs.BlockUse.{coroutine_addresses, use_of_data}
 use Rattle.kernel_model.specs.BlockUse.Use.{OfCoroutine, OfModule, OfResidents, OfTask, User}
 use Rattle.kernel_model.specs.Lists.{Lists, has_task}

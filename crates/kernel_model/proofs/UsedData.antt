@@ -2,21 +2,21 @@
 use Rattle.std.proofs.Common.{◌≡◌, ℕ, suc, ◌+◌, ◌-◌, ◌<◌, ◌≤◌, ◌⊎◌, List, [], ◌∷◌, ◌++◌, length, not, cond, Bool, true, false, Some, None, Option, refl, sym, ap, ◌∙◌, arith, inl, inr, add-zero}
 use Rattle.std.specs.List.{AllByRecursion, range_with_len}
 use Rattle.std.proofs.lemmas.Bool.{and_parts, cases_eq, cases_lt}
-use Rattle.linked_list.specs.Count.{times}
-use Rattle.linked_list.proofs.Counts.{hit-other, range-high, range-low}
-use Rattle.owned_words.specs.LinkedWords.{linked_words}
-use Rattle.owned_words.specs.Owned.{Pairs, owners}
-use Rattle.owned_words.proofs.OwnedWords.{owners-append}
-use Rattle.owned_words.proofs.RowWords.{owners-row}
-use Rattle.getvec_chain.specs.declared.pieces.Block.{Block}
-use Rattle.getvec_chain.specs.Block.{has_data, is_used_at, used_block}
-use Rattle.getvec_chain.specs.Run.{need}
-use Rattle.getvec_chain.specs.Tiling.{Follow}
-use Rattle.getvec_chain.proofs.UsedBlocks.{has_data-true}
-use Rattle.hunk_loader.specs.HeldModules.{LoadedModule, module_address, module_words}
-use Rattle.packet_queue.specs.Queue.{no_queue}
-use Rattle.packet_queue.specs.QueueWords.{QueuedPacket, address_of as packet_address, packet_words, queue_words}
-use Rattle.coroutines.specs.HeldCoroutines.{Coroutine, address_of as coroutine_address, coroutine_words, parent_of}
+use Rattle.word_store.specs.Count.{times}
+use Rattle.word_store.proofs.Counts.{hit-other, range-high, range-low}
+use Rattle.kernel_lists.specs.OwnedWords.LinkedWords.{linked_words}
+use Rattle.kernel_lists.specs.OwnedWords.Owned.{Pairs, owners}
+use Rattle.kernel_lists.proofs.Shown.OwnedWords.OwnedWords.{owners-append}
+use Rattle.kernel_lists.proofs.Shown.OwnedWords.RowWords.{owners-row}
+use Rattle.kernel_lists.specs.GetvecChain.declared.pieces.Block.{Block}
+use Rattle.kernel_lists.specs.GetvecChain.Block.{has_data, is_used_at, used_block}
+use Rattle.kernel_lists.specs.GetvecChain.Run.{need}
+use Rattle.kernel_lists.specs.GetvecChain.Tiling.{Follow}
+use Rattle.kernel_lists.proofs.Shown.GetvecChain.UsedBlocks.{has_data-true}
+use Rattle.kernel_lists.specs.HunkLoader.HeldModules.{LoadedModule, module_address, module_words}
+use Rattle.kernel_lists.specs.PacketQueue.Queue.{no_queue}
+use Rattle.kernel_lists.specs.PacketQueue.QueueWords.{QueuedPacket, address_of as packet_address, packet_words, queue_words}
+use Rattle.kernel_lists.specs.Coroutines.HeldCoroutines.{Coroutine, address_of as coroutine_address, coroutine_words, parent_of}
 use Rattle.kernel_model.specs.Lists.{Lists, has_task, is_queued}
 use Rattle.kernel_model.specs.Residents.{fault_packet, fault_packet_words, key_arguments, key_words, keyboard, pending_head, resident_words}
 use Rattle.kernel_model.specs.Task.{Task, further_modules, task_address, task_words}

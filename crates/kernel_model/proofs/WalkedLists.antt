@@ -1,25 +1,25 @@
 -- In a store that stands for a kernel the lists can be walked, and tasks and modules have the kernel's sizes.
 use Rattle.std.proofs.Common.{◌≡◌, ℕ, ◌+◌, ◌-◌, ◌||◌, Bool, true, false, List, [], ◌∷◌, length, map, cond, drop, eqb, get_or, leb, not, refl, sym, ap, ◌∙◌, subst, arith}
 use Rattle.std.specs.List.{AllByRecursion, list_any, range_with_len}
-use Rattle.linked_list.specs.Count.{times}
-use Rattle.linked_list.proofs.Counts.{times-within}
-use Rattle.linked_list.proofs.Walks.{can_walk}
-use Rattle.owned_words.specs.LinkedWords.{first_of, linked_words}
-use Rattle.owned_words.specs.Owned.{AreInside, Holds, Pairs}
-use Rattle.owned_words.proofs.HeldLists.{held-list}
-use Rattle.owned_words.proofs.OwnedWords.{Holds-left, Holds-right, owners-append}
-use Rattle.owned_words.proofs.RowWords.{owners-row}
-use Rattle.hunk_loader.specs.HeldModules.{LoadedModule, module_address, module_words}
-use Rattle.hunk_loader.proofs.HeldModuleLists.{are_modules, module_size}
-use Rattle.packet_queue.specs.Queue.{HasQueue}
-use Rattle.packet_queue.specs.QueueWords.{HeldQueue, QueuedPacket}
-use Rattle.packet_queue.proofs.HeldQueues.{held-queue}
-use Rattle.task_block.specs.Lists.{coroutine_link, first_coroutine, module_link}
-use Rattle.task_block.specs.RootWords.{first_task}
-use Rattle.task_block.specs.TaskChain.{id_in, task_link, task_size}
-use Rattle.coroutines.specs.CoroutineExchanges.{HoldsCoroutines}
-use Rattle.coroutines.specs.CoroutineWords.{coroutine_size}
-use Rattle.coroutines.proofs.HeldCoroutineLists.{held-coroutines}
+use Rattle.word_store.specs.Count.{times}
+use Rattle.word_store.proofs.Counts.{times-within}
+use Rattle.kernel_lists.proofs.Shown.LinkedList.Walks.{can_walk}
+use Rattle.kernel_lists.specs.OwnedWords.LinkedWords.{first_of, linked_words}
+use Rattle.kernel_lists.specs.OwnedWords.Owned.{AreInside, Holds, Pairs}
+use Rattle.kernel_lists.proofs.Shown.OwnedWords.HeldLists.{held-list}
+use Rattle.kernel_lists.proofs.Shown.OwnedWords.OwnedWords.{Holds-left, Holds-right, owners-append}
+use Rattle.kernel_lists.proofs.Shown.OwnedWords.RowWords.{owners-row}
+use Rattle.kernel_lists.specs.HunkLoader.HeldModules.{LoadedModule, module_address, module_words}
+use Rattle.kernel_lists.proofs.Shown.HunkLoader.HeldModuleLists.{are_modules, module_size}
+use Rattle.kernel_lists.specs.PacketQueue.Queue.{HasQueue}
+use Rattle.kernel_lists.specs.PacketQueue.QueueWords.{HeldQueue, QueuedPacket}
+use Rattle.kernel_lists.proofs.Shown.PacketQueue.HeldQueues.{held-queue}
+use Rattle.kernel_lists.specs.TaskBlock.Lists.{coroutine_link, first_coroutine, module_link}
+use Rattle.kernel_lists.specs.TaskBlock.RootWords.{first_task}
+use Rattle.kernel_lists.specs.TaskBlock.TaskChain.{id_in, task_link, task_size}
+use Rattle.kernel_lists.specs.Coroutines.CoroutineExchanges.{HoldsCoroutines}
+use Rattle.kernel_lists.specs.Coroutines.CoroutineWords.{coroutine_size}
+use Rattle.kernel_lists.proofs.Shown.Coroutines.HeldCoroutineLists.{held-coroutines}
 use Rattle.kernel_model.specs.Lists.{Lists, has_task}
 use Rattle.kernel_model.specs.Owned.{clock_head, keyboard_head, output_head}
 use Rattle.kernel_model.specs.Residents.{pending_head}

@@ -1,9 +1,9 @@
 -- The work queue of the task with a number, as a place in the chain.
 use Rattle.std.proofs.Common.{◌≡◌, ◌≢◌, ℕ, List, [], ◌∷◌, ◌++◌, map, cond, eqb, ◌||◌, Bool, true, false, refl, sym, ap, ◌∙◌, arith}
 use Rattle.std.proofs.lemmas.Bool.{eqb-true, ne_eqb}
-use Rattle.linked_list.specs.Count.{IsApart, times}
-use Rattle.linked_list.proofs.Counts.{hit-same}
-use Rattle.packet_queue.specs.QueueWords.{QueuedPacket}
+use Rattle.word_store.specs.Count.{IsApart, times}
+use Rattle.word_store.proofs.Counts.{hit-same}
+use Rattle.kernel_lists.specs.PacketQueue.QueueWords.{QueuedPacket}
 use Rattle.kernel_model.specs.Changes.{with_work, work_of}
 use Rattle.kernel_model.specs.Lists.{has_task}
 use Rattle.kernel_model.specs.Task.{Task, task_id}

@@ -2,7 +2,7 @@
 use Rattle.std.specs.Prelude.{◌≡◌, ◌↔◌, ℕ, ◌/◌, ◌<◌, ◌≤◌, ◌==◌, ◌&&◌, ◌||◌, Bool, true, false, not, find, is_some, is_none, Option, List, [], ◌∷◌, length, nat_le, nat_lt}
 use Rattle.std.specs.List.{AllByRecursion, list_any}
 use Rattle.std.specs.Option.{option_map_or}
-use Rattle.packet_queue.specs.QueueWords.{QueuedPacket}
+use Rattle.kernel_lists.specs.PacketQueue.QueueWords.{QueuedPacket}
 use Rattle.ram_disc.specs.Disc.{IsDisc, Stream, shell_stream, stream_at}
 use Rattle.kernel_model.specs.Changes.{work_of}
 use Rattle.kernel_model.specs.Kernel.{Kernel, Mode}

@@ -1,10 +1,10 @@
 -- What a block is used for. The lists tell it: a used block that is none of theirs is a user's.
 use Rattle.std.specs.Prelude.{ℕ, ◌+◌, ◌==◌, ◌&&◌, if◌then◌else◌, List, map}
 use Rattle.std.specs.List.{flat_map}
-use Rattle.linked_list.specs.Places.{has}
-use Rattle.getvec_chain.specs.declared.pieces.Block.{Block}
-use Rattle.hunk_loader.specs.HeldModules.{module_address}
-use Rattle.coroutines.specs.HeldCoroutines.{address_of}
+use Rattle.kernel_lists.specs.LinkedList.Places.{has}
+use Rattle.kernel_lists.specs.GetvecChain.declared.pieces.Block.{Block}
+use Rattle.kernel_lists.specs.HunkLoader.HeldModules.{module_address}
+use Rattle.kernel_lists.specs.Coroutines.HeldCoroutines.{address_of}
 use Rattle.kernel_model.specs.Lists.{Lists}
 use Rattle.kernel_model.specs.Task.{Task, task_address}
 

@@ -1,8 +1,8 @@
 -- A store and a keeper of kinds, before and after a part of a step.
 use Rattle.std.specs.Prelude.{◌≡◌, ℕ, ◌≤◌, List, length}
-use Rattle.linked_list.specs.Count.{times}
-use Rattle.owned_words.specs.Owned.{Pairs, owners}
-use Rattle.owned_words.specs.Written.{IsWritten}
+use Rattle.word_store.specs.Count.{times}
+use Rattle.kernel_lists.specs.OwnedWords.Owned.{Pairs, owners}
+use Rattle.kernel_lists.specs.OwnedWords.Written.{IsWritten}
 use Rattle.kernel_model.specs.HoldsLists.{HoldsLists}
 use Rattle.kernel_model.specs.Lists.{Lists}
 use Rattle.kernel_model.specs.Owned.{owned}

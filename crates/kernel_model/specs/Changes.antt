@@ -1,15 +1,15 @@
 -- The changes of which calls are made: in the blocks, in one queue, in one task, in the chain of tasks.
 use Rattle.std.specs.Prelude.{◌≡◌, ℕ, ◌<◌, ◌≤◌, ◌==◌, Bool, true, false, if◌then◌else◌, Option, Some, List, [], ◌∷◌, map, nat_lt}
 use Rattle.std.specs.List.{AllByRecursion}
-use Rattle.linked_list.specs.Places.{insert_after}
-use Rattle.owned_words.specs.Owned.{owners}
-use Rattle.getvec_chain.specs.declared.pieces.Block.{Block}
-use Rattle.getvec_chain.specs.Block.{has_data}
-use Rattle.getvec_chain.specs.Tiling.{used_at}
-use Rattle.packet_queue.specs.QueueWords.{QueuedPacket}
-use Rattle.hunk_loader.specs.HeldModules.{LoadedModule}
-use Rattle.coroutines.specs.CoroutineExchanges.{with_list}
-use Rattle.coroutines.specs.HeldCoroutines.{Coroutine}
+use Rattle.kernel_lists.specs.LinkedList.Places.{insert_after}
+use Rattle.kernel_lists.specs.OwnedWords.Owned.{owners}
+use Rattle.kernel_lists.specs.GetvecChain.declared.pieces.Block.{Block}
+use Rattle.kernel_lists.specs.GetvecChain.Block.{has_data}
+use Rattle.kernel_lists.specs.GetvecChain.Tiling.{used_at}
+use Rattle.kernel_lists.specs.PacketQueue.QueueWords.{QueuedPacket}
+use Rattle.kernel_lists.specs.HunkLoader.HeldModules.{LoadedModule}
+use Rattle.kernel_lists.specs.Coroutines.CoroutineExchanges.{with_list}
+use Rattle.kernel_lists.specs.Coroutines.HeldCoroutines.{Coroutine}
 use Rattle.kernel_model.specs.BlockUse.{coroutine_addresses, use_of_data}
 use Rattle.kernel_model.specs.BlockUse.Use.{User}
 use Rattle.kernel_model.specs.Lists.{Lists, has_task, queued}

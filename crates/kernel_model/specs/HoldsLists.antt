@@ -1,6 +1,6 @@
 -- A store that holds the words of valid lists.
 use Rattle.std.specs.Prelude.{◌≡◌, ℕ, List, length}
-use Rattle.owned_words.specs.Owned.{Holds}
+use Rattle.kernel_lists.specs.OwnedWords.Owned.{Holds}
 use Rattle.kernel_model.specs.Lists.{Lists}
 use Rattle.kernel_model.specs.Owned.{owned}
 use Rattle.kernel_model.specs.ValidLists.{AreValid}

@@ -1,7 +1,7 @@
 -- The store that a kernel stands for: each word is the one that the lists assign, else the plain word.
 use Rattle.std.specs.Prelude.{◌≡◌, ℕ, ◌<◌, Option, Some, None, List, is_some, length, map, slice_index, slice_index_or, unwrap_or, if◌then◌else◌}
 use Rattle.std.specs.List.{range_with_len}
-use Rattle.owned_words.specs.Owned.{Holds, Pairs, owners, word_in, written}
+use Rattle.kernel_lists.specs.OwnedWords.Owned.{Holds, Pairs, owners, word_in, written}
 use Rattle.kernel_model.specs.Kernel.{Kernel, owned_by}
 use Rattle.kernel_model.specs.Lists.{Lists}
 use Rattle.kernel_model.specs.Owned.{owned}

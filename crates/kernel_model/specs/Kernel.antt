@@ -1,7 +1,7 @@
 -- A kernel: its lists, the words that nobody owns, the registers, and what its residents keep outside the store.
 use Rattle.std.specs.Prelude.{ℕ, Bool, Option, List, [], if◌then◌else◌}
 use Rattle.word_store.specs.declared.registers.Regs.{Regs}
-use Rattle.owned_words.specs.Owned.{Pairs}
+use Rattle.kernel_lists.specs.OwnedWords.Owned.{Pairs}
 use Rattle.ram_disc.specs.Disc.{Disc}
 use Rattle.kernel_model.specs.Lists.{Lists}
 use Rattle.kernel_model.specs.Owned.{owned}

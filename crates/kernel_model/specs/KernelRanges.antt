@@ -1,17 +1,17 @@
 -- The kernel's words in a store, as ranges: those of its lists, and those of the packets that are queued.
 use Rattle.std.specs.Prelude.{◌≡◌, ℕ, ◌+◌, ◌-◌, ◌^◌, ◌<◌, ◌≤◌, ◌==◌, ◌&&◌, Bool, true, false, not, if◌then◌else◌, nat_lt, List, [], ◌∷◌, ◌++◌, length, map, slice_index}
 use Rattle.std.specs.List.{AllByRecursion, flat_map, list_any}
-use Rattle.linked_list.specs.Walk.{CanWalk}
-use Rattle.getvec_chain.specs.declared.pieces.Block.{Block}
-use Rattle.getvec_chain.specs.Tiling.{IsTiled, blocks_in}
-use Rattle.hunk_loader.specs.ModuleHunks.{hunk_count}
-use Rattle.packet_queue.specs.Queue.{HasQueue, queue_at}
-use Rattle.packet_queue.specs.QueueWords.{QueuedPacket}
-use Rattle.task_block.specs.Lists.{coroutine_link, coroutines_in, first_coroutine, module_link, modules_in}
-use Rattle.task_block.specs.RootWords.{first_module, first_task, root_address}
-use Rattle.task_block.specs.TaskChain.{id_in, task_link, tasks_in}
-use Rattle.task_block.specs.Versions.{head_words}
-use Rattle.task_block.specs.declared.roots.RootField.TheVariants.{Residents}
+use Rattle.kernel_lists.specs.LinkedList.Walk.{CanWalk}
+use Rattle.kernel_lists.specs.GetvecChain.declared.pieces.Block.{Block}
+use Rattle.kernel_lists.specs.GetvecChain.Tiling.{IsTiled, blocks_in}
+use Rattle.kernel_lists.specs.HunkLoader.ModuleHunks.{hunk_count}
+use Rattle.kernel_lists.specs.PacketQueue.Queue.{HasQueue, queue_at}
+use Rattle.kernel_lists.specs.PacketQueue.QueueWords.{QueuedPacket}
+use Rattle.kernel_lists.specs.TaskBlock.Lists.{coroutine_link, coroutines_in, first_coroutine, module_link, modules_in}
+use Rattle.kernel_lists.specs.TaskBlock.RootWords.{first_module, first_task, root_address}
+use Rattle.kernel_lists.specs.TaskBlock.TaskChain.{id_in, task_link, tasks_in}
+use Rattle.kernel_lists.specs.TaskBlock.Versions.{head_words}
+use Rattle.kernel_lists.specs.TaskBlock.declared.roots.RootField.TheVariants.{Residents}
 use Rattle.kernel_model.specs.Owned.{clock_head, keyboard_head, output_head}
 use Rattle.kernel_model.specs.Residents.{fault_packet, pending_head}
 use Rattle.kernel_model.specs.Task.{is_guest_id, queue_head}

@@ -12,10 +12,12 @@ pub mod NotedEvents
 pub mod OneKernel
 pub mod Owned
 pub mod Pipes
+pub mod Ranges
 pub mod ReadsLists
 pub mod Recovered
 pub mod Residents
 pub mod Root
+pub mod Standing
 pub mod Task
 pub mod UsedData
 pub mod ValidBlocks
@@ -24,3 +26,5 @@ pub mod ValidLists
 pub mod ValidQueues
 pub mod ValidTasks
 pub mod Versions
+-- shown to the crates above
+pub use Rattle.kernel_lists.specs as KernelLists

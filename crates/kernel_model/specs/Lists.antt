@@ -1,10 +1,10 @@
 -- The kernel's lists: all that the words which it owns depend on.
 use Rattle.std.specs.Prelude.{ℕ, ◌==◌, Bool, Option, List, ◌++◌}
 use Rattle.std.specs.List.{flat_map, list_any}
-use Rattle.getvec_chain.specs.declared.pieces.Block.{Block}
-use Rattle.hunk_loader.specs.HeldModules.{LoadedModule}
-use Rattle.packet_queue.specs.QueueWords.{QueuedPacket}
-use Rattle.task_block.specs.HeldTasks.{address_with}
+use Rattle.kernel_lists.specs.GetvecChain.declared.pieces.Block.{Block}
+use Rattle.kernel_lists.specs.HunkLoader.HeldModules.{LoadedModule}
+use Rattle.kernel_lists.specs.PacketQueue.QueueWords.{QueuedPacket}
+use Rattle.kernel_lists.specs.TaskBlock.HeldTasks.{address_with}
 use Rattle.kernel_model.specs.Task.{Task, task_address, task_id}
 
 -- The words of the store, the steps from one tick to the next, the ticks so far, the version, whether there are residents, and

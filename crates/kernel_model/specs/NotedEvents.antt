@@ -2,7 +2,7 @@
 use Rattle.std.specs.Prelude.{◌≡◌, Bool, List, [], ◌++◌, Option, IsTrue}
 use Rattle.std.specs.Bool.{OnFalse, OnTrue}
 use Rattle.std.specs.Option.{option_map}
-use Rattle.packet_queue.specs.declared.events.KernelEvent.{KernelEvent}
+use Rattle.kernel_lists.specs.PacketQueue.declared.events.KernelEvent.{KernelEvent}
 
 -- The log has gained these events, or the first of them where it has failed; and none where it had failed before.
 pub record NotesAll (before now : Option (List KernelEvent)) (had_failed has_failed : Bool) (events : List KernelEvent) : Type 0 where

@@ -1,12 +1,12 @@
 -- The words that the kernel owns, each with what stands there.
 use Rattle.std.specs.Prelude.{ℕ, ◌<◌, ◌++◌}
-use Rattle.owned_words.specs.Owned.{AreApart, Pairs, owners}
-use Rattle.getvec_chain.specs.BlockWords.{blocks_words}
-use Rattle.hunk_loader.specs.ModuleExchanges.{modules_words}
-use Rattle.packet_queue.specs.QueueWords.{queue_words}
-use Rattle.task_block.specs.ChainWords.{listed_words}
-use Rattle.task_block.specs.RootWords.{root_address}
-use Rattle.task_block.specs.declared.roots.RootField.TheVariants.{ClockQueue, KeyQueue, OutputQueue}
+use Rattle.kernel_lists.specs.OwnedWords.Owned.{AreApart, Pairs, owners}
+use Rattle.kernel_lists.specs.GetvecChain.BlockWords.{blocks_words}
+use Rattle.kernel_lists.specs.HunkLoader.ModuleExchanges.{modules_words}
+use Rattle.kernel_lists.specs.PacketQueue.QueueWords.{queue_words}
+use Rattle.kernel_lists.specs.TaskBlock.ChainWords.{listed_words}
+use Rattle.kernel_lists.specs.TaskBlock.RootWords.{root_address}
+use Rattle.kernel_lists.specs.TaskBlock.declared.roots.RootField.TheVariants.{ClockQueue, KeyQueue, OutputQueue}
 use Rattle.kernel_model.specs.Lists.{Lists, address_of_task}
 use Rattle.kernel_model.specs.Residents.{resident_words}
 use Rattle.kernel_model.specs.Root.{root_words}

@@ -1,11 +1,11 @@
 -- The lists as the list crates see them in a store that holds the kernel's words.
 use Rattle.std.specs.Prelude.{◌≡◌, ℕ, true, List, map}
 use Rattle.std.specs.List.{AllByRecursion}
-use Rattle.getvec_chain.specs.Tiling.{IsTiled, blocks_in}
-use Rattle.hunk_loader.specs.HeldModules.{HeldModules}
-use Rattle.packet_queue.specs.QueueWords.{HeldQueue}
-use Rattle.task_block.specs.HeldTasks.{HasTheseTasks, HeldTasks}
-use Rattle.coroutines.specs.CoroutineExchanges.{HoldsCoroutines}
+use Rattle.kernel_lists.specs.GetvecChain.Tiling.{IsTiled, blocks_in}
+use Rattle.kernel_lists.specs.HunkLoader.HeldModules.{HeldModules}
+use Rattle.kernel_lists.specs.PacketQueue.QueueWords.{HeldQueue}
+use Rattle.kernel_lists.specs.TaskBlock.HeldTasks.{HasTheseTasks, HeldTasks}
+use Rattle.kernel_lists.specs.Coroutines.CoroutineExchanges.{HoldsCoroutines}
 use Rattle.kernel_model.specs.Lists.{Lists}
 use Rattle.kernel_model.specs.Owned.{clock_head, keyboard_head, output_head}
 use Rattle.kernel_model.specs.Residents.{pending_head}

@@ -1,22 +1,22 @@
 -- The lists, read off a store.
 use Rattle.std.specs.Prelude.{ℕ, ◌+◌, ◌-◌, ◌/◌, ◌%◌, ◌==◌, ◌&&◌, Bool, not, if◌then◌else◌, Option, Some, None, List, [], ◌∷◌, filter, map, slice_index, slice_range}
 use Rattle.std.specs.List.{list_any}
-use Rattle.getvec_chain.specs.Tiling.{blocks_in}
-use Rattle.hunk_loader.specs.HeldModules.{LoadedModule}
-use Rattle.hunk_loader.specs.ModuleHunks.{lengths_in}
-use Rattle.packet_queue.specs.Queue.{no_queue, queue_at}
-use Rattle.packet_queue.specs.QueueWords.{QueuedPacket}
-use Rattle.task_block.specs.Lists.{coroutines_in, modules_in}
-use Rattle.task_block.specs.RootWords.{root_address}
-use Rattle.task_block.specs.TaskChain.{id_in, tasks_in}
-use Rattle.task_block.specs.TaskWords.{word_index}
-use Rattle.task_block.specs.Versions.{head_words}
-use Rattle.task_block.specs.declared.fields.TcbField.{TcbField}
-use Rattle.task_block.specs.declared.fields.TcbField.TheVariants.{Extra1, Extra2, Flags, Maker, Module, Pri, RootP, RootPc, SavedA, SavedB, SavedC, SavedG, SavedP, SavedPc, StackTop, State}
-use Rattle.task_block.specs.declared.roots.RootField.TheVariants.{Period, Residents, Running, Size, Tick, Version}
-use Rattle.coroutines.specs.Active.{active_in}
-use Rattle.coroutines.specs.CoroutineExchanges.{TaskCoroutines}
-use Rattle.coroutines.specs.HeldCoroutines.{Coroutine}
+use Rattle.kernel_lists.specs.GetvecChain.Tiling.{blocks_in}
+use Rattle.kernel_lists.specs.HunkLoader.HeldModules.{LoadedModule}
+use Rattle.kernel_lists.specs.HunkLoader.ModuleHunks.{lengths_in}
+use Rattle.kernel_lists.specs.PacketQueue.Queue.{no_queue, queue_at}
+use Rattle.kernel_lists.specs.PacketQueue.QueueWords.{QueuedPacket}
+use Rattle.kernel_lists.specs.TaskBlock.Lists.{coroutines_in, modules_in}
+use Rattle.kernel_lists.specs.TaskBlock.RootWords.{root_address}
+use Rattle.kernel_lists.specs.TaskBlock.TaskChain.{id_in, tasks_in}
+use Rattle.kernel_lists.specs.TaskBlock.TaskWords.{word_index}
+use Rattle.kernel_lists.specs.TaskBlock.Versions.{head_words}
+use Rattle.kernel_lists.specs.TaskBlock.declared.fields.TcbField.{TcbField}
+use Rattle.kernel_lists.specs.TaskBlock.declared.fields.TcbField.TheVariants.{Extra1, Extra2, Flags, Maker, Module, Pri, RootP, RootPc, SavedA, SavedB, SavedC, SavedG, SavedP, SavedPc, StackTop, State}
+use Rattle.kernel_lists.specs.TaskBlock.declared.roots.RootField.TheVariants.{Period, Residents, Running, Size, Tick, Version}
+use Rattle.kernel_lists.specs.Coroutines.Active.{active_in}
+use Rattle.kernel_lists.specs.Coroutines.CoroutineExchanges.{TaskCoroutines}
+use Rattle.kernel_lists.specs.Coroutines.HeldCoroutines.{Coroutine}
 use Rattle.kernel_model.specs.Lists.{Lists}
 use Rattle.kernel_model.specs.Owned.{clock_head, keyboard_head, output_head}
 use Rattle.kernel_model.specs.Residents.{fault_packet, key_packet, pending_head}

@@ -1,8 +1,8 @@
 -- The words of the resident block that are no task's: the console's pending reads, its key packet, and the fault packet.
 use Rattle.std.specs.Prelude.{ℕ, ◌-◌, ◌^◌, Bool, if◌then◌else◌, Option, Some, None, [], ◌∷◌, ◌++◌}
-use Rattle.owned_words.specs.Owned.{Pairs, row_from}
-use Rattle.packet_queue.specs.Queue.{no_queue}
-use Rattle.packet_queue.specs.QueueWords.{queue_words}
+use Rattle.kernel_lists.specs.OwnedWords.Owned.{Pairs, row_from}
+use Rattle.kernel_lists.specs.PacketQueue.Queue.{no_queue}
+use Rattle.kernel_lists.specs.PacketQueue.QueueWords.{queue_words}
 use Rattle.kernel_model.specs.Lists.{Lists}
 
 -- the head of the queue of reads that wait for a line

@@ -1,9 +1,9 @@
 -- The words of the root node, but for the heads of lists, and the end word. Of all tasks they depend on one word alone, the
 -- address of the one that runs.
 use Rattle.std.specs.Prelude.{ℕ, ◌+◌, ◌-◌, Bool, if◌then◌else◌, List, [], ◌∷◌, ◌++◌}
-use Rattle.owned_words.specs.Owned.{Pairs, row_from}
-use Rattle.task_block.specs.RootWords.{root_address, table_entry}
-use Rattle.task_block.specs.declared.roots.RootField.TheVariants.{FirstBlock, Running, Table, Tick}
+use Rattle.kernel_lists.specs.OwnedWords.Owned.{Pairs, row_from}
+use Rattle.kernel_lists.specs.TaskBlock.RootWords.{root_address, table_entry}
+use Rattle.kernel_lists.specs.TaskBlock.declared.roots.RootField.TheVariants.{FirstBlock, Running, Table, Tick}
 use Rattle.kernel_model.specs.Lists.{Lists}
 use Rattle.kernel_model.specs.Task.{filled}
 use Rattle.kernel_model.specs.Versions.{highest_id_of}

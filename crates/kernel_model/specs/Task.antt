@@ -1,12 +1,12 @@
 -- A task: what the kernel knows of it, and the words that it owns.
 use Rattle.std.specs.Prelude.{ℕ, zero, suc, ◌+◌, ◌-◌, Bool, if◌then◌else◌, List, [], ◌∷◌, ◌++◌, drop, nat_le}
 use Rattle.word_store.specs.declared.registers.Regs.{Regs}
-use Rattle.owned_words.specs.LinkedWords.{first_of}
-use Rattle.owned_words.specs.Owned.{Pairs, row_from}
-use Rattle.task_block.specs.TaskWords.{word_index}
-use Rattle.task_block.specs.declared.fields.TcbField.TheVariants.{Extra1, Id, Queue, State}
-use Rattle.packet_queue.specs.QueueWords.{QueuedPacket, queue_words}
-use Rattle.coroutines.specs.CoroutineExchanges.{TaskCoroutines, words_of_coroutines}
+use Rattle.kernel_lists.specs.OwnedWords.LinkedWords.{first_of}
+use Rattle.kernel_lists.specs.OwnedWords.Owned.{Pairs, row_from}
+use Rattle.kernel_lists.specs.TaskBlock.TaskWords.{word_index}
+use Rattle.kernel_lists.specs.TaskBlock.declared.fields.TcbField.TheVariants.{Extra1, Id, Queue, State}
+use Rattle.kernel_lists.specs.PacketQueue.QueueWords.{QueuedPacket, queue_words}
+use Rattle.kernel_lists.specs.Coroutines.CoroutineExchanges.{TaskCoroutines, words_of_coroutines}
 use Rattle.kernel_model.specs.Versions.{head_words_of}
 
 -- Its number, the address of its task block, its priority, its flags and its maker; the addresses of its modules and the highest

@@ -1,11 +1,11 @@
 -- Where owned words lie: in the root, in a size word, or in the data of a used block.
 use Rattle.std.specs.Prelude.{◌≡◌, ℕ, ◌+◌, ◌⊎◌, ◌<◌, false, Some, List}
-use Rattle.owned_words.specs.Owned.{owners}
-use Rattle.getvec_chain.specs.declared.pieces.Block.{Block}
-use Rattle.getvec_chain.specs.BlockWords.{blocks_words}
-use Rattle.getvec_chain.specs.Tiling.{holding}
-use Rattle.task_block.specs.TaskChain.{root_words}
-use Rattle.linked_list.specs.Count.{times}
+use Rattle.kernel_lists.specs.OwnedWords.Owned.{owners}
+use Rattle.kernel_lists.specs.GetvecChain.declared.pieces.Block.{Block}
+use Rattle.kernel_lists.specs.GetvecChain.BlockWords.{blocks_words}
+use Rattle.kernel_lists.specs.GetvecChain.Tiling.{holding}
+use Rattle.kernel_lists.specs.TaskBlock.TaskChain.{root_words}
+use Rattle.word_store.specs.Count.{times}
 use Rattle.kernel_model.specs.Lists.{Lists}
 
 -- the word at the address is one of the data of a used block

@@ -1,12 +1,12 @@
 -- The rules of blocks, of the machine's numbers, and of modules.
 use Rattle.std.specs.Prelude.{◌≡◌, ℕ, ◌+◌, ◌-◌, ◌≤◌, true, false, IsTrue, if◌then◌else◌, Some, List, length, sum}
 use Rattle.std.specs.List.{AllByRecursion}
-use Rattle.getvec_chain.specs.declared.pieces.Block.{Block}
-use Rattle.getvec_chain.specs.Block.{block_end, used_block}
-use Rattle.getvec_chain.specs.Run.{need}
-use Rattle.getvec_chain.specs.Tiling.{Follow, holding, used_at}
-use Rattle.hunk_loader.specs.HeldModules.{LoadedModule}
-use Rattle.session_text.specs.Ranges.{IsVersion, is_period, is_store_size}
+use Rattle.kernel_lists.specs.GetvecChain.declared.pieces.Block.{Block}
+use Rattle.kernel_lists.specs.GetvecChain.Block.{block_end, used_block}
+use Rattle.kernel_lists.specs.GetvecChain.Run.{need}
+use Rattle.kernel_lists.specs.GetvecChain.Tiling.{Follow, holding, used_at}
+use Rattle.kernel_lists.specs.HunkLoader.HeldModules.{LoadedModule}
+use Rattle.kernel_model.specs.Ranges.{IsVersion, is_period, is_store_size}
 use Rattle.kernel_model.specs.Lists.{Lists, has_task}
 
 -- the blocks follow one another from 200 up to the end word, with even sizes of 2 or more

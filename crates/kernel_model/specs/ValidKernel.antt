@@ -2,7 +2,7 @@
 use Rattle.std.specs.Prelude.{◌≡◌, ℕ, ◌<◌, ◌≤◌, Bool, true, false, IsTrue, None, []}
 use Rattle.std.specs.List.{AllByRecursion}
 use Rattle.ram_disc.specs.Disc.{empty_disc}
-use Rattle.session_text.specs.Ranges.{IsVersion, is_store_size, most_steps}
+use Rattle.kernel_model.specs.Ranges.{IsVersion, is_store_size, most_steps}
 use Rattle.kernel_model.specs.Between.{FaultsStand, RegistersStand, ResidentsStand, RunsFirstReady}
 use Rattle.kernel_model.specs.Image.{HasPlainWords}
 use Rattle.kernel_model.specs.Kernel.{Console, Kernel, Shell}

@@ -1,7 +1,7 @@
 -- The rules of queued packets: where each may stand, and from whom.
 use Rattle.std.specs.Prelude.{◌≡◌, ℕ, ◌≤◌, ◌⊎◌, ◌==◌, ◌&&◌, Bool, true, false, not, List, [], ◌∷◌, is_some}
 use Rattle.std.specs.List.{AllByRecursion}
-use Rattle.packet_queue.specs.QueueWords.{QueuedPacket}
+use Rattle.kernel_lists.specs.PacketQueue.QueueWords.{QueuedPacket}
 use Rattle.kernel_model.specs.Lists.{Lists, has_task, is_queued}
 use Rattle.kernel_model.specs.Residents.{fault_packet, key_packet, keyboard}
 use Rattle.kernel_model.specs.Task.{is_guest_id}

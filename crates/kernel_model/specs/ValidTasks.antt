@@ -1,11 +1,11 @@
 -- The rules of tasks and of their coroutines.
 use Rattle.std.specs.Prelude.{◌≡◌, ◌≢◌, ℕ, ◌+◌, ◌<◌, ◌≤◌, ◌⊎◌, true, false, Option, Some, None, List, [], ◌∷◌, length, map, ◌==◌, if◌then◌else◌}
 use Rattle.std.specs.List.{AllByRecursion}
-use Rattle.linked_list.specs.Count.{IsApart}
-use Rattle.linked_list.specs.Places.{has}
+use Rattle.word_store.specs.Count.{IsApart}
+use Rattle.kernel_lists.specs.LinkedList.Places.{has}
 use Rattle.word_store.specs.declared.registers.Regs.{Regs}
-use Rattle.hunk_loader.specs.HeldModules.{module_address}
-use Rattle.coroutines.specs.HeldCoroutines.{Coroutine}
+use Rattle.kernel_lists.specs.HunkLoader.HeldModules.{module_address}
+use Rattle.kernel_lists.specs.Coroutines.HeldCoroutines.{Coroutine}
 use Rattle.kernel_model.specs.BlockUse.{coroutine_addresses}
 use Rattle.kernel_model.specs.Lists.{Lists, has_task}
 use Rattle.kernel_model.specs.Task.{Task, is_guest_id, task_id}

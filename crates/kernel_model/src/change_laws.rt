@@ -1,15 +1,15 @@
 // Laws of changes: what keeps lists valid.
 ghost use Rattle.std.specs.Prelude.{◌≡◌, ◌≢◌, ◌+◌, ◌<◌, ◌≤◌, ◌++◌, ◌∷◌, ℕ, None, Some, List, [], is_some, length, true, false};
 ghost use Rattle.std.specs.List.{AllByRecursion};
-ghost use Rattle.getvec_chain.specs.declared.pieces.Run.{Run};
-ghost use Rattle.getvec_chain.specs.Give.{given};
-ghost use Rattle.getvec_chain.specs.Run.{first_run, need};
-ghost use Rattle.getvec_chain.specs.Take.{taken};
-ghost use Rattle.hunk_loader.specs.HeldModules.{LoadedModule};
-ghost use Rattle.linked_list.specs.Places.{has};
-ghost use Rattle.owned_words.specs.Owned.{owners};
-ghost use Rattle.packet_queue.specs.QueueWords.{QueuedPacket};
-ghost use Rattle.coroutines.specs.HeldCoroutines.{Coroutine};
+ghost use Rattle.kernel_lists.specs.GetvecChain.declared.pieces.Run.{Run};
+ghost use Rattle.kernel_lists.specs.GetvecChain.Give.{given};
+ghost use Rattle.kernel_lists.specs.GetvecChain.Run.{first_run, need};
+ghost use Rattle.kernel_lists.specs.GetvecChain.Take.{taken};
+ghost use Rattle.kernel_lists.specs.HunkLoader.HeldModules.{LoadedModule};
+ghost use Rattle.kernel_lists.specs.LinkedList.Places.{has};
+ghost use Rattle.kernel_lists.specs.OwnedWords.Owned.{owners};
+ghost use Rattle.kernel_lists.specs.PacketQueue.QueueWords.{QueuedPacket};
+ghost use Rattle.kernel_lists.specs.Coroutines.HeldCoroutines.{Coroutine};
 ghost use Rattle.kernel_model.specs.BlockUse.{use_of_data};
 ghost use Rattle.kernel_model.specs.BlockUse.Use.{User};
 ghost use Rattle.kernel_model.specs.Changes.{AreUnowned, HasNoPacketsOut, HasPlace, IsIdleBlock, KeepsOrder, SameTask, queue_of, with_blocks, with_coroutines, with_fault_packet, with_key, with_modules, with_new_task, with_queue, with_tasks};

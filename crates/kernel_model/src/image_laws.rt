@@ -1,7 +1,7 @@
 // Laws of the store that a kernel stands for.
 ghost use Rattle.std.specs.Prelude.{◌≡◌, ℕ, false, List, length};
-ghost use Rattle.owned_words.specs.Owned.{Pairs};
-ghost use Rattle.owned_words.specs.Written.{IsWritten};
+ghost use Rattle.kernel_lists.specs.OwnedWords.Owned.{Pairs};
+ghost use Rattle.kernel_lists.specs.OwnedWords.Written.{IsWritten};
 ghost use Rattle.kernel_model.specs.Image.{HasPlainWords, IsImage, image, settled};
 ghost use Rattle.kernel_model.specs.Kernel.{Kernel};
 ghost use Rattle.kernel_model.specs.Lists.{Lists};

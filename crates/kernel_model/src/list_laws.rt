@@ -1,8 +1,8 @@
 // Laws of valid lists: how they stand in a store that holds their words, and where these words lie.
 ghost use Rattle.std.specs.Prelude.{◌≡◌, ◌<◌, ◌↔◌, ◌++◌, ◌∷◌, ℕ, List, length, true};
-ghost use Rattle.owned_words.specs.Owned.{Holds, owners};
-ghost use Rattle.getvec_chain.specs.declared.pieces.Block.{Block};
-ghost use Rattle.getvec_chain.specs.Block.{block_end};
+ghost use Rattle.kernel_lists.specs.OwnedWords.Owned.{Holds, owners};
+ghost use Rattle.kernel_lists.specs.GetvecChain.declared.pieces.Block.{Block};
+ghost use Rattle.kernel_lists.specs.GetvecChain.Block.{block_end};
 ghost use Rattle.kernel_model.specs.HoldsLists.{HoldsLists};
 ghost use Rattle.kernel_model.specs.KernelRanges.{CanWalkLists, is_kernel_word, packet_ranges, packet_words_of};
 ghost use Rattle.kernel_model.specs.Lists.{Lists, queued};

@@ -4,62 +4,62 @@ use Rattle.std.specs.Prelude.{find, unwrap_or}
 use Rattle.std.specs.List.{AllByRecursion, list_any, range_with_len}
 use Rattle.std.proofs.lemmas.Bool.{ltb-false, ne_eqb}
 use Rattle.word_store.specs.declared.registers.Regs.{Regs}
-use Rattle.linked_list.specs.Places.{without_first}
-use Rattle.hunk_loader.specs.Globals.{globals_in}
-use Rattle.owned_words.specs.Owned.{owners}
-use Rattle.packet_queue.specs.QueueWords.{QueuedPacket}
-use Rattle.coroutines.specs.CoroutineExchanges.{TaskCoroutines, current_of, with_called, with_resumed, with_waiting}
-use Rattle.coroutines.specs.Creation.{highest}
-use Rattle.kernel_model.specs.Between.{is_unreported}
-use Rattle.kernel_model.specs.Changes.{queue_of, with_queue, with_task, work_of}
-use Rattle.kernel_model.specs.Lists.{Lists, has_task}
-use Rattle.kernel_model.specs.Owned.{owned}
-use Rattle.kernel_model.specs.Residents.{device, fault_packet}
-use Rattle.kernel_model.specs.Task.{Task, is_guest_id}
-use Rattle.kernel_model.specs.ValidLists.{AreValid}
-use Rattle.kernel_model.specs.ValidQueues.{Place}
-use Rattle.kernel_model.specs.ValidQueues.Place.{Clock, Keyboard, Output, Pending, Work}
-use Rattle.kernel_model.specs.Versions.{highest_id_of}
-use Rattle.kernel_model.proofs.OwnedPackets.{unowned-no_fault}
-use Rattle.call_answers.specs.Guests.{guest_tests}
-use Rattle.call_answers.specs.Made.{Made, by_refusal, done, unless_refused}
-use Rattle.call_answers.specs.Refusals.{first_refusal}
-use Rattle.block_calls.specs.FreeStore.{data_taken, with_taken}
-use Rattle.block_calls.specs.Freevec.{freevec, freevec_tests, with_given}
-use Rattle.block_calls.specs.Getvec.{getvec, getvec_tests}
-use Rattle.task_calls.specs.ChangePri.{change_pri, moved, priority_tests, with_new_priority}
-use Rattle.task_calls.specs.CreateTask.{create_task, creation_tests, free_id, last_word_of, new_task, number_of, with_created}
-use Rattle.task_calls.specs.DeleteTask.{delete_task, deletion_tests, has_packet_out, without_task}
-use Rattle.task_calls.specs.HoldTask.{held, hold, hold_tests}
-use Rattle.task_calls.specs.ReleaseTask.{release, release_tests, released}
-use Rattle.task_calls.specs.SetFlags.{flagged, set_flags}
-use Rattle.task_calls.specs.TestFlags.{cleared}
-use Rattle.module_calls.specs.AddModule.{add_module, addition_tests, global_words, globals_of_task, modules_so_far, task_of, with_further}
-use Rattle.module_calls.specs.UnloadModule.{unload_module, unload_tests, without_module}
-use Rattle.packet_moves.specs.Destinations.{place_of}
-use Rattle.packet_moves.specs.PacketMoves.{arrived, departed, sent_packet}
-use Rattle.packet_calls.specs.Dqpkt.{Search, dequeued, dqpkt, dqpkt_tests, found_in}
-use Rattle.packet_calls.specs.Qpkt.{qpkt, qpkt_tests, sent_to}
-use Rattle.packet_calls.specs.TaskWait.{taskwait, waited, waiting}
-use Rattle.coroutine_calls.specs.CallCo.{idle_tests}
-use Rattle.coroutine_calls.specs.CallersCoroutines.{coroutines_of_caller, with_changed}
-use Rattle.coroutine_calls.specs.CoWait.{ended, wait_tests, with_ended}
-use Rattle.coroutine_calls.specs.CreateCo.{create_tests, created, createco, with_created as with_new_coroutine}
-use Rattle.coroutine_calls.specs.DeleteCo.{delete_tests, deleteco, with_deleted, with_deleted_at}
-use Rattle.coroutine_calls.specs.ResumeCo.{resume_tests, resumed_itself}
-use Rattle.coroutine_calls.specs.Switched as switches
-use Rattle.coroutine_calls.specs.Switched.{Switched, switched}
+use Rattle.guest_turns.specs.KernelCalls.LinkedList.Places.{without_first}
+use Rattle.guest_turns.specs.KernelCalls.HunkLoader.Globals.{globals_in}
+use Rattle.guest_turns.specs.KernelCalls.OwnedWords.Owned.{owners}
+use Rattle.guest_turns.specs.KernelCalls.PacketQueue.QueueWords.{QueuedPacket}
+use Rattle.guest_turns.specs.KernelCalls.Coroutines.CoroutineExchanges.{TaskCoroutines, current_of, with_called, with_resumed, with_waiting}
+use Rattle.guest_turns.specs.KernelCalls.Coroutines.Creation.{highest}
+use Rattle.guest_turns.specs.KernelCalls.KernelModel.Between.{is_unreported}
+use Rattle.guest_turns.specs.KernelCalls.KernelModel.Changes.{queue_of, with_queue, with_task, work_of}
+use Rattle.guest_turns.specs.KernelCalls.KernelModel.Lists.{Lists, has_task}
+use Rattle.guest_turns.specs.KernelCalls.KernelModel.Owned.{owned}
+use Rattle.guest_turns.specs.KernelCalls.KernelModel.Residents.{device, fault_packet}
+use Rattle.guest_turns.specs.KernelCalls.KernelModel.Task.{Task, is_guest_id}
+use Rattle.guest_turns.specs.KernelCalls.KernelModel.ValidLists.{AreValid}
+use Rattle.guest_turns.specs.KernelCalls.KernelModel.ValidQueues.{Place}
+use Rattle.guest_turns.specs.KernelCalls.KernelModel.ValidQueues.Place.{Clock, Keyboard, Output, Pending, Work}
+use Rattle.guest_turns.specs.KernelCalls.KernelModel.Versions.{highest_id_of}
+use Rattle.guest_turns.proofs.Shown.KernelCalls.KernelModel.OwnedPackets.{unowned-no_fault}
+use Rattle.guest_turns.specs.KernelCalls.CallAnswers.Guests.{guest_tests}
+use Rattle.guest_turns.specs.KernelCalls.CallAnswers.Made.{Made, by_refusal, done, unless_refused}
+use Rattle.guest_turns.specs.KernelCalls.CallAnswers.Refusals.{first_refusal}
+use Rattle.guest_turns.specs.KernelCalls.BlockCalls.FreeStore.{data_taken, with_taken}
+use Rattle.guest_turns.specs.KernelCalls.BlockCalls.Freevec.{freevec, freevec_tests, with_given}
+use Rattle.guest_turns.specs.KernelCalls.BlockCalls.Getvec.{getvec, getvec_tests}
+use Rattle.guest_turns.specs.KernelCalls.TaskCalls.ChangePri.{change_pri, moved, priority_tests, with_new_priority}
+use Rattle.guest_turns.specs.KernelCalls.TaskCalls.CreateTask.{create_task, creation_tests, free_id, last_word_of, new_task, number_of, with_created}
+use Rattle.guest_turns.specs.KernelCalls.TaskCalls.DeleteTask.{delete_task, deletion_tests, has_packet_out, without_task}
+use Rattle.guest_turns.specs.KernelCalls.TaskCalls.HoldTask.{held, hold, hold_tests}
+use Rattle.guest_turns.specs.KernelCalls.TaskCalls.ReleaseTask.{release, release_tests, released}
+use Rattle.guest_turns.specs.KernelCalls.TaskCalls.SetFlags.{flagged, set_flags}
+use Rattle.guest_turns.specs.KernelCalls.TaskCalls.TestFlags.{cleared}
+use Rattle.guest_turns.specs.KernelCalls.ModuleCalls.AddModule.{add_module, addition_tests, global_words, globals_of_task, modules_so_far, task_of, with_further}
+use Rattle.guest_turns.specs.KernelCalls.ModuleCalls.UnloadModule.{unload_module, unload_tests, without_module}
+use Rattle.guest_turns.specs.KernelCalls.PacketCalls.Destinations.{place_of}
+use Rattle.guest_turns.specs.KernelCalls.PacketCalls.PacketMoves.{arrived, departed, sent_packet}
+use Rattle.guest_turns.specs.KernelCalls.PacketCalls.Dqpkt.{Search, dequeued, dqpkt, dqpkt_tests, found_in}
+use Rattle.guest_turns.specs.KernelCalls.PacketCalls.Qpkt.{qpkt, qpkt_tests, sent_to}
+use Rattle.guest_turns.specs.KernelCalls.PacketCalls.TaskWait.{taskwait, waited, waiting}
+use Rattle.guest_turns.specs.KernelCalls.CoroutineCalls.CallCo.{idle_tests}
+use Rattle.guest_turns.specs.KernelCalls.CoroutineCalls.CallersCoroutines.{coroutines_of_caller, with_changed}
+use Rattle.guest_turns.specs.KernelCalls.CoroutineCalls.CoWait.{ended, wait_tests, with_ended}
+use Rattle.guest_turns.specs.KernelCalls.CoroutineCalls.CreateCo.{create_tests, created, createco, with_created as with_new_coroutine}
+use Rattle.guest_turns.specs.KernelCalls.CoroutineCalls.DeleteCo.{delete_tests, deleteco, with_deleted, with_deleted_at}
+use Rattle.guest_turns.specs.KernelCalls.CoroutineCalls.ResumeCo.{resume_tests, resumed_itself}
+use Rattle.guest_turns.specs.KernelCalls.CoroutineCalls.Switched as switches
+use Rattle.guest_turns.specs.KernelCalls.CoroutineCalls.Switched.{Switched, switched}
 use Rattle.cint_exec.specs.Instruction.{After, instruction}
 use Rattle.cint_exec.specs.declared.Outcome.{Outcome}
 use Rattle.cint_exec.specs.declared.Outcome.TheVariants.{Next, Sys, Returned, Fault as Faulted}
-use Rattle.kernel_calls.specs.Calls.{kernel_call, made, of_switched, of_wait, past_call, requested}
-use Rattle.kernel_calls.specs.Requests.{call_of}
-use Rattle.kernel_calls.specs.declared.requests.CallOutcome.{CallOutcome}
-use Rattle.kernel_calls.specs.declared.requests.KernelCall.{KernelCall}
-use Rattle.kernel_calls.specs.declared.requests.KernelCall.TheVariants.{AddModule, CallCo, ChangePri, CoWait, CreateCo, CreateTask, DeleteCo, DeleteTask, Dqpkt, Freevec, Getvec, Hold, MulDiv, Qpkt, Quit, Release, ResumeCo, SetFlags, TaskWait, TestFlags, Unload, Wrch}
-use Rattle.guest_instructions.specs.Guarded.{is_owned}
+use Rattle.guest_turns.specs.KernelCalls.Calls.{kernel_call, made, of_switched, of_wait, past_call, requested}
+use Rattle.guest_turns.specs.KernelCalls.Requests.{call_of}
+use Rattle.guest_turns.specs.KernelCalls.declared.requests.CallOutcome.{CallOutcome}
+use Rattle.guest_turns.specs.KernelCalls.declared.requests.KernelCall.{KernelCall}
+use Rattle.guest_turns.specs.KernelCalls.declared.requests.KernelCall.TheVariants.{AddModule, CallCo, ChangePri, CoWait, CreateCo, CreateTask, DeleteCo, DeleteTask, Dqpkt, Freevec, Getvec, Hold, MulDiv, Qpkt, Quit, Release, ResumeCo, SetFlags, TaskWait, TestFlags, Unload, Wrch}
+use Rattle.guest_turns.specs.Guarded.{is_owned}
 use Rattle.guest_turns.specs.GuestTurn.{after_instruction, died, dies, turn_without_reporter}
-use Rattle.fault_reporter.proofs.FaultsKept.{FaultsHold, Tells}
+use Rattle.cli_shell.proofs.Shown.KernelResidents.FaultReporter.FaultsKept.{FaultsHold, Tells}
 use Rattle.kernel_steps.proofs.FaultRule.{HasRule, LeavesFault, arrived-rule, departed-fewer, gone-rule, left-rule, moved-rule, new-rule, one-rule}
 
 -- The rule of the fault packet holds where it held before; the key packet is where it was; and no read waits where none waited.

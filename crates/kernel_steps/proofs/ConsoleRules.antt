@@ -3,37 +3,37 @@ use Rattle.std.proofs.Common.{◌≡◌, ℕ, ◌-◌, ◌≤◌, ◌&&◌, ◌|
 use Rattle.std.specs.List.{AllByRecursion}
 use Rattle.std.proofs.lemmas.Bool.{ltb-true}
 use Rattle.std.proofs.lemmas.List.{length-append, length-take}
-use Rattle.linked_list.proofs.AllMembers.{all-append}
-use Rattle.packet_queue.specs.QueueWords.{QueuedPacket}
-use Rattle.kernel_model.specs.Changes.{HasPlace, change_of, queue_of, with_queue, with_task, with_work}
-use Rattle.kernel_model.specs.Kernel.{Console}
-use Rattle.kernel_model.specs.Lists.{Lists, has_task}
-use Rattle.kernel_model.specs.Residents.{fault_packet, key_packet}
-use Rattle.kernel_model.specs.Task.{Task}
-use Rattle.kernel_model.specs.ValidLists.{AreValid}
-use Rattle.kernel_model.specs.ValidQueues.{MayStand, Place, is_key_packet}
-use Rattle.kernel_model.specs.ValidQueues.Place.{Keyboard, Pending, Work}
-use Rattle.kernel_model.specs.ValidTasks.{runs}
-use Rattle.kernel_model.proofs.EachMember.{all-each}
-use Rattle.kernel_model.proofs.QueuePlaces.{place-stands}
-use Rattle.call_answers.specs.Guests.{guest_tests}
-use Rattle.call_answers.specs.Made.{by_refusal, done}
-use Rattle.call_answers.specs.Refusals.{first_refusal}
-use Rattle.packet_moves.specs.PacketMoves.{arrived, sent_packet, with_arrived}
-use Rattle.task_calls.specs.SetFlags.{flagged, set_flags}
-use Rattle.packet_calls.specs.TaskWait.{waiting}
-use Rattle.resident_requests.specs.Answers.{answered_packet, finished, finished_by, returned}
-use Rattle.resident_requests.specs.Requests.{first_request, request_at, taken, taken_from, words_taken_from, work}
-use Rattle.resident_requests.specs.declared.requests.Request.{Request}
-use Rattle.console_handler.specs.ConsoleTurn.{all_parts, answer_of, bytes_of, ended, key_of, keys_sent, treated, with_first, with_key, with_keyed, with_keys_sent, with_keys_taken, with_request, with_taken}
-use Rattle.console_handler.specs.Deliveries.{command_after, delivered, delivery, handed, line_after, line_service, with_read}
-use Rattle.console_handler.specs.KeyPacket.{keys_taken, keys_taken_from}
-use Rattle.console_handler.specs.Line.{Keyed, flags_of, is_printed, key, keyed, with_end, with_finish, without_end}
-use Rattle.console_handler.specs.Progress.{Progress, and_then, begun, console_number}
-use Rattle.console_handler.specs.Reads.{put_off, read_taken_from, words_read_from}
+use Rattle.guest_turns.proofs.Shown.KernelCalls.LinkedList.AllMembers.{all-append}
+use Rattle.guest_turns.specs.KernelCalls.PacketQueue.QueueWords.{QueuedPacket}
+use Rattle.guest_turns.specs.KernelCalls.KernelModel.Changes.{HasPlace, change_of, queue_of, with_queue, with_task, with_work}
+use Rattle.guest_turns.specs.KernelCalls.KernelModel.Kernel.{Console}
+use Rattle.guest_turns.specs.KernelCalls.KernelModel.Lists.{Lists, has_task}
+use Rattle.guest_turns.specs.KernelCalls.KernelModel.Residents.{fault_packet, key_packet}
+use Rattle.guest_turns.specs.KernelCalls.KernelModel.Task.{Task}
+use Rattle.guest_turns.specs.KernelCalls.KernelModel.ValidLists.{AreValid}
+use Rattle.guest_turns.specs.KernelCalls.KernelModel.ValidQueues.{MayStand, Place, is_key_packet}
+use Rattle.guest_turns.specs.KernelCalls.KernelModel.ValidQueues.Place.{Keyboard, Pending, Work}
+use Rattle.guest_turns.specs.KernelCalls.KernelModel.ValidTasks.{runs}
+use Rattle.guest_turns.proofs.Shown.KernelCalls.KernelModel.EachMember.{all-each}
+use Rattle.guest_turns.proofs.Shown.KernelCalls.KernelModel.QueuePlaces.{place-stands}
+use Rattle.guest_turns.specs.KernelCalls.CallAnswers.Guests.{guest_tests}
+use Rattle.guest_turns.specs.KernelCalls.CallAnswers.Made.{by_refusal, done}
+use Rattle.guest_turns.specs.KernelCalls.CallAnswers.Refusals.{first_refusal}
+use Rattle.guest_turns.specs.KernelCalls.PacketCalls.PacketMoves.{arrived, sent_packet, with_arrived}
+use Rattle.guest_turns.specs.KernelCalls.TaskCalls.SetFlags.{flagged, set_flags}
+use Rattle.guest_turns.specs.KernelCalls.PacketCalls.TaskWait.{waiting}
+use Rattle.cli_shell.specs.KernelResidents.ResidentRequests.Answers.{answered_packet, finished, finished_by, returned}
+use Rattle.cli_shell.specs.KernelResidents.ResidentRequests.Requests.{first_request, request_at, taken, taken_from, words_taken_from, work}
+use Rattle.cli_shell.specs.KernelResidents.ResidentRequests.declared.requests.Request.{Request}
+use Rattle.cli_shell.specs.KernelResidents.ConsoleHandler.ConsoleTurn.{all_parts, answer_of, bytes_of, ended, key_of, keys_sent, treated, with_first, with_key, with_keyed, with_keys_sent, with_keys_taken, with_request, with_taken}
+use Rattle.cli_shell.specs.KernelResidents.ConsoleHandler.Deliveries.{command_after, delivered, delivery, handed, line_after, line_service, with_read}
+use Rattle.cli_shell.specs.KernelResidents.ConsoleHandler.KeyPacket.{keys_taken, keys_taken_from}
+use Rattle.cli_shell.specs.KernelResidents.ConsoleHandler.Line.{Keyed, flags_of, is_printed, key, keyed, with_end, with_finish, without_end}
+use Rattle.cli_shell.specs.KernelResidents.ConsoleHandler.Progress.{Progress, and_then, begun, console_number}
+use Rattle.cli_shell.specs.KernelResidents.ConsoleHandler.Reads.{put_off, read_taken_from, words_read_from}
 use Rattle.guest_turns.specs.GuestTurn.{Numbers, numbers_of}
 use Rattle.guest_turns.proofs.RunningField.{RunsIn, one-runs, queue-runs}
-use Rattle.fault_reporter.proofs.FaultsKept.{KeepsFault, there-same, work-keeps}
+use Rattle.cli_shell.proofs.Shown.KernelResidents.FaultReporter.FaultsKept.{KeepsFault, there-same, work-keeps}
 use Rattle.kernel_steps.proofs.CallRules.{set_flags-keeps}
 use Rattle.kernel_steps.proofs.FaultRule.{HasRule, arrived-rule}
 use Rattle.kernel_steps.proofs.HandledRules.{finished-keeps, finished-runs, rest-keeps, returned-keeps}

@@ -3,21 +3,21 @@ use Rattle.std.proofs.Common.{◌≡◌, ℕ, ◌+◌, ◌++◌, Bool, true, fal
 use Rattle.std.specs.Prelude.{filter}
 use Rattle.std.specs.List.{AllByRecursion}
 use Rattle.word_store.specs.declared.registers.Regs.{Regs}
-use Rattle.packet_queue.specs.QueueWords.{QueuedPacket}
-use Rattle.kernel_model.specs.Changes.{queue_of, with_queue, with_task}
-use Rattle.kernel_model.specs.Lists.{Lists, has_task}
-use Rattle.kernel_model.specs.Residents.{fault_packet}
-use Rattle.kernel_model.specs.Task.{Task}
-use Rattle.kernel_model.specs.ValidLists.{AreValid}
-use Rattle.kernel_model.specs.ValidQueues.Place.{Clock, Keyboard, Output, Work}
-use Rattle.kernel_dispatch.specs.Dispatch.{dispatched, packets_left, resumed, suspended, takes_packet, with_nobody, with_resumed, with_suspended}
-use Rattle.device_returns.specs.Returned.{first_returned, place_of, returned_by, with_work_for}
-use Rattle.device_returns.specs.declared.returns.Device.{Device}
-use Rattle.device_returns.specs.declared.returns.Device.TheVariants.{OfClock, OfKeys, OfOutput}
-use Rattle.clock_device.specs.Tick.{due_packets, later_packets, ticked, with_returned, with_tick}
-use Rattle.tty_device.specs.Keys.{met}
-use Rattle.tty_device.specs.Printed.{finished}
-use Rattle.fault_reporter.proofs.FaultsKept.{there-same, work-keeps}
+use Rattle.guest_turns.specs.KernelCalls.PacketQueue.QueueWords.{QueuedPacket}
+use Rattle.guest_turns.specs.KernelCalls.KernelModel.Changes.{queue_of, with_queue, with_task}
+use Rattle.guest_turns.specs.KernelCalls.KernelModel.Lists.{Lists, has_task}
+use Rattle.guest_turns.specs.KernelCalls.KernelModel.Residents.{fault_packet}
+use Rattle.guest_turns.specs.KernelCalls.KernelModel.Task.{Task}
+use Rattle.guest_turns.specs.KernelCalls.KernelModel.ValidLists.{AreValid}
+use Rattle.guest_turns.specs.KernelCalls.KernelModel.ValidQueues.Place.{Clock, Keyboard, Output, Work}
+use Rattle.guest_turns.specs.KernelCalls.KernelDispatch.Dispatch.{dispatched, packets_left, resumed, suspended, takes_packet, with_nobody, with_resumed, with_suspended}
+use Rattle.guest_turns.specs.KernelCalls.PacketCalls.Returned.{first_returned, place_of, returned_by, with_work_for}
+use Rattle.guest_turns.specs.KernelCalls.PacketCalls.declared.returns.Device.{Device}
+use Rattle.guest_turns.specs.KernelCalls.PacketCalls.declared.returns.Device.TheVariants.{OfClock, OfKeys, OfOutput}
+use Rattle.kernel_devices.specs.ClockDevice.Tick.{due_packets, later_packets, ticked, with_returned, with_tick}
+use Rattle.kernel_devices.specs.TtyDevice.Keys.{met}
+use Rattle.kernel_devices.specs.TtyDevice.Printed.{finished}
+use Rattle.cli_shell.proofs.Shown.KernelResidents.FaultReporter.FaultsKept.{there-same, work-keeps}
 use Rattle.kernel_steps.proofs.CallRules.{KeepsRules, beside-keeps, keeps-none, one-keeps, queue-keeps}
 use Rattle.kernel_steps.proofs.ConsoleRules.{NoneIsFault, none-fault}
 use Rattle.kernel_steps.proofs.DispatchKept.{three-ways}

@@ -4,20 +4,20 @@ use Rattle.std.specs.List.{AllByRecursion}
 use Rattle.std.proofs.lemmas.Bool.{ltb-true}
 use Rattle.std.proofs.lemmas.List.{length-append}
 use Rattle.word_store.specs.declared.registers.Regs.{Regs}
-use Rattle.packet_queue.specs.QueueWords.{QueuedPacket}
-use Rattle.kernel_model.specs.Changes.{queue_of, with_queue}
-use Rattle.kernel_model.specs.Image.{settled}
-use Rattle.kernel_model.specs.Kernel.{Kernel}
-use Rattle.kernel_model.specs.Lists.{Lists}
-use Rattle.kernel_model.specs.ValidQueues.Place.{Clock, Work}
-use Rattle.kernel_dispatch.specs.Dispatch.{CanDispatch}
-use Rattle.device_returns.specs.Returned.{Served, first_returned, place_of, returned_by, with_work_for}
-use Rattle.device_returns.specs.declared.returns.Device.{Device}
-use Rattle.device_returns.specs.declared.returns.Device.TheVariants.{OfClock, OfKeys, OfOutput}
-use Rattle.clock_device.specs.Tick.{due_packets, due_returned, later_packets, ticked, with_returned, with_tick}
-use Rattle.tty_device.specs.Keys.{left_typed, met}
-use Rattle.tty_device.specs.Printed.{finished}
-use Rattle.tty_device.specs.Typed.{with_typed}
+use Rattle.guest_turns.specs.KernelCalls.PacketQueue.QueueWords.{QueuedPacket}
+use Rattle.guest_turns.specs.KernelCalls.KernelModel.Changes.{queue_of, with_queue}
+use Rattle.guest_turns.specs.KernelCalls.KernelModel.Image.{settled}
+use Rattle.guest_turns.specs.KernelCalls.KernelModel.Kernel.{Kernel}
+use Rattle.guest_turns.specs.KernelCalls.KernelModel.Lists.{Lists}
+use Rattle.guest_turns.specs.KernelCalls.KernelModel.ValidQueues.Place.{Clock, Work}
+use Rattle.guest_turns.specs.KernelCalls.KernelDispatch.Dispatch.{CanDispatch}
+use Rattle.guest_turns.specs.KernelCalls.PacketCalls.Returned.{Served, first_returned, place_of, returned_by, with_work_for}
+use Rattle.guest_turns.specs.KernelCalls.PacketCalls.declared.returns.Device.{Device}
+use Rattle.guest_turns.specs.KernelCalls.PacketCalls.declared.returns.Device.TheVariants.{OfClock, OfKeys, OfOutput}
+use Rattle.kernel_devices.specs.ClockDevice.Tick.{due_packets, due_returned, later_packets, ticked, with_returned, with_tick}
+use Rattle.kernel_devices.specs.TtyDevice.Keys.{left_typed, met}
+use Rattle.kernel_devices.specs.TtyDevice.Printed.{finished}
+use Rattle.kernel_devices.specs.TtyDevice.Typed.{with_typed}
 use Rattle.guest_turns.specs.GuestTurn.{Numbers, numbers_of}
 use Rattle.guest_turns.proofs.RunningField.{RunsIn, queue-runs}
 use Rattle.kernel_steps.specs.Parts.{HasSameKeys, HasSameResidents, IsSameMachine, numbers_after_tick}

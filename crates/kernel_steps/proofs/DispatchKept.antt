@@ -3,20 +3,20 @@ use Rattle.std.proofs.Common.{◌≡◌, ◌↔◌, ℕ, ◌<◌, ◌≤◌, ◌
 use Rattle.std.specs.List.{AllByRecursion, list_any}
 use Rattle.std.specs.Option.{option_map_or}
 use Rattle.std.proofs.lemmas.Bool.{eqb-true}
-use Rattle.linked_list.specs.Count.{IsApart}
+use Rattle.word_store.specs.Count.{IsApart}
 use Rattle.word_store.specs.declared.registers.Regs.{Regs}
-use Rattle.owned_words.specs.Owned.{written}
-use Rattle.kernel_model.specs.Between.{is_ready}
-use Rattle.kernel_model.specs.Changes.{change_of}
-use Rattle.kernel_model.specs.Lists.{Lists}
-use Rattle.kernel_model.specs.Task.{Task, task_id}
-use Rattle.kernel_model.specs.ValidLists.{AreValid}
-use Rattle.kernel_model.specs.ValidTasks.{IsTask, runs}
-use Rattle.kernel_model.proofs.AllThings.{all-always}
-use Rattle.kernel_model.proofs.EachMember.{all-both, all-each}
-use Rattle.kernel_model.proofs.TaskPlaces.{TaskPlace, task-places}
-use Rattle.kernel_dispatch.specs.Dispatch.{CanDispatch, Dispatched, dispatched, first_ready_task, goes_on, packets_taken, resumed, suspended, unchanged, unlinked_words, with_next, with_nobody, with_resumed, with_suspended}
-use Rattle.kernel_dispatch.specs.ReadyTasks.{HasReady, is_ready_id}
+use Rattle.guest_turns.specs.KernelCalls.OwnedWords.Owned.{written}
+use Rattle.guest_turns.specs.KernelCalls.KernelModel.Between.{is_ready}
+use Rattle.guest_turns.specs.KernelCalls.KernelModel.Changes.{change_of}
+use Rattle.guest_turns.specs.KernelCalls.KernelModel.Lists.{Lists}
+use Rattle.guest_turns.specs.KernelCalls.KernelModel.Task.{Task, task_id}
+use Rattle.guest_turns.specs.KernelCalls.KernelModel.ValidLists.{AreValid}
+use Rattle.guest_turns.specs.KernelCalls.KernelModel.ValidTasks.{IsTask, runs}
+use Rattle.guest_turns.proofs.Shown.KernelCalls.KernelModel.AllThings.{all-always}
+use Rattle.guest_turns.proofs.Shown.KernelCalls.KernelModel.EachMember.{all-both, all-each}
+use Rattle.guest_turns.proofs.Shown.KernelCalls.KernelModel.TaskPlaces.{TaskPlace, task-places}
+use Rattle.guest_turns.specs.KernelCalls.KernelDispatch.Dispatch.{CanDispatch, Dispatched, dispatched, first_ready_task, goes_on, packets_taken, resumed, suspended, unchanged, unlinked_words, with_next, with_nobody, with_resumed, with_suspended}
+use Rattle.guest_turns.specs.KernelCalls.KernelDispatch.ReadyTasks.{HasReady, is_ready_id}
 use Rattle.guest_turns.specs.GuestTurn.{numbers_of}
 use Rattle.kernel_steps.specs.Parts.{RunsFirst}
 use Rattle.kernel_steps.proofs.DispatchedTasks.{any-kept, bytes-resumed, fields-resumed, first-resumed, id-changed, ids-changed, none-run, resumed-byte, resumed-idle, resumed-kept, suspended-kept}

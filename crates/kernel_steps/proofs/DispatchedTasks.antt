@@ -4,16 +4,16 @@ use Rattle.std.specs.Prelude.{find}
 use Rattle.std.specs.List.{AllByRecursion, list_any}
 use Rattle.std.specs.Option.{option_map, option_map_or}
 use Rattle.std.proofs.lemmas.Bool.{eq-eqb, eqb-true}
-use Rattle.linked_list.specs.Count.{IsApart}
+use Rattle.word_store.specs.Count.{IsApart}
 use Rattle.word_store.specs.declared.registers.Regs.{Regs}
-use Rattle.owned_words.specs.LinkedWords.{first_of}
-use Rattle.packet_queue.specs.QueueWords.{address_of}
-use Rattle.kernel_model.specs.Between.{first_ready, is_ready}
-use Rattle.kernel_model.specs.Changes.{change_of}
-use Rattle.kernel_model.specs.Task.{Task, is_guest_id, task_id}
-use Rattle.kernel_model.specs.ValidTasks.{no_regs, runs}
-use Rattle.kernel_model.proofs.EachMember.{all-each, find-passes}
-use Rattle.kernel_dispatch.specs.Dispatch.{entry_regs, guest_regs, resumed, resumed_regs, suspended}
+use Rattle.guest_turns.specs.KernelCalls.OwnedWords.LinkedWords.{first_of}
+use Rattle.guest_turns.specs.KernelCalls.PacketQueue.QueueWords.{address_of}
+use Rattle.guest_turns.specs.KernelCalls.KernelModel.Between.{first_ready, is_ready}
+use Rattle.guest_turns.specs.KernelCalls.KernelModel.Changes.{change_of}
+use Rattle.guest_turns.specs.KernelCalls.KernelModel.Task.{Task, is_guest_id, task_id}
+use Rattle.guest_turns.specs.KernelCalls.KernelModel.ValidTasks.{no_regs, runs}
+use Rattle.guest_turns.proofs.Shown.KernelCalls.KernelModel.EachMember.{all-each, find-passes}
+use Rattle.guest_turns.specs.KernelCalls.KernelDispatch.Dispatch.{entry_regs, guest_regs, resumed, resumed_regs, suspended}
 use Rattle.kernel_steps.proofs.FoundTask.{only-found}
 
 -- ---- a change that keeps what a test says of each

@@ -5,14 +5,14 @@ use Rattle.std.specs.Option.{ok_or}
 use Rattle.word_store.specs.Arithmetic.{add, div, rem}
 use Rattle.word_store.specs.Bytes.{byte_at, byte_of, with_byte}
 use Rattle.word_store.specs.declared.registers.Regs.{Regs}
-use Rattle.cint_table.specs.declared.effects.Effect.{Effect}
-use Rattle.cint_table.specs.declared.effects.Effect.TheVariants.{LoadP, LoadG, LoadGk, LoadPk, LoadAtTarget, StoreG0, StorePk, AddP, AddG, Rv, RvP, StP, Gbyt, Pbyt, Xpbyt, Div, Rem, JumpIf, JumpIfZero, CallG, Rtn, Swl, Swb, Brk}
-use Rattle.cint_decode.specs.Decoded.{decoded}
-use Rattle.cint_decode.specs.declared.instructions.DecodeEnd.{DecodeEnd}
-use Rattle.cint_decode.specs.declared.instructions.DecodeEnd.TheVariants.{Halfword, Outside, Undefined}
-use Rattle.cint_decode.specs.declared.instructions.Instr.{Instr}
-use Rattle.cint_decode.specs.Offset.{half_offset}
-use Rattle.cint_decode.specs.Steps.{◌>>=◌}
+use Rattle.cint_exec.specs.CintTable.declared.effects.Effect.{Effect}
+use Rattle.cint_exec.specs.CintTable.declared.effects.Effect.TheVariants.{LoadP, LoadG, LoadGk, LoadPk, LoadAtTarget, StoreG0, StorePk, AddP, AddG, Rv, RvP, StP, Gbyt, Pbyt, Xpbyt, Div, Rem, JumpIf, JumpIfZero, CallG, Rtn, Swl, Swb, Brk}
+use Rattle.cint_exec.specs.CintDecode.Decoded.{decoded}
+use Rattle.cint_exec.specs.CintDecode.declared.instructions.DecodeEnd.{DecodeEnd}
+use Rattle.cint_exec.specs.CintDecode.declared.instructions.DecodeEnd.TheVariants.{Halfword, Outside, Undefined}
+use Rattle.cint_exec.specs.CintDecode.declared.instructions.Instr.{Instr}
+use Rattle.cint_exec.specs.CintDecode.Offset.{half_offset}
+use Rattle.hunk_text.specs.TextReader.Steps.{◌>>=◌}
 use Rattle.cint_exec.specs.declared.Fault.{Fault}
 use Rattle.cint_exec.specs.declared.Outcome.{Outcome}
 use Rattle.cint_exec.specs.declared.Outcome.TheVariants.{Next, Sys as Call, Returned, Fault as Faulted}
@@ -20,11 +20,11 @@ use Rattle.cint_exec.specs.Change.{Change, fault, read, keep, load, set_a, jump,
 use Rattle.cint_exec.specs.Effect.{change_of}
 use Rattle.cint_exec.specs.Instruction.{After, after, decided, decode_fault, effected, instruction, is_call, made, settled, write_fault}
 use Rattle.cint_exec.specs.Switch.{compared, halfword, jump_by, search_from, switch_by_key, switch_by_label, table_byte}
-use Rattle.kernel_model.specs.Lists.{Lists}
-use Rattle.kernel_calls.specs.Calls.{kernel_call}
-use Rattle.kernel_calls.specs.declared.requests.CallOutcome.{CallOutcome}
-use Rattle.kernel_calls.specs.declared.requests.CallOutcome.TheVariants.{Done, Outside as OutsideStore, Quit, Unknown, Waits}
-use Rattle.guest_instructions.specs.Guarded.{is_owned}
+use Rattle.guest_turns.specs.KernelCalls.KernelModel.Lists.{Lists}
+use Rattle.guest_turns.specs.KernelCalls.Calls.{kernel_call}
+use Rattle.guest_turns.specs.KernelCalls.declared.requests.CallOutcome.{CallOutcome}
+use Rattle.guest_turns.specs.KernelCalls.declared.requests.CallOutcome.TheVariants.{Done, Outside as OutsideStore, Quit, Unknown, Waits}
+use Rattle.guest_turns.specs.Guarded.{is_owned}
 use Rattle.guest_turns.specs.GuestTurn.{after_instruction, end_of_call, turn_without_reporter}
 use Rattle.guest_turns.specs.declared.turns.TurnEnd.{TurnEnd}
 use Rattle.guest_turns.specs.declared.turns.TurnEnd.TheVariants.{Faults, Goes, Quits}

@@ -4,25 +4,25 @@ use Rattle.std.specs.Prelude.{find}
 use Rattle.std.specs.List.{AllByRecursion, flat_map, list_any}
 use Rattle.std.proofs.lemmas.Bool.{and_parts, eq-eqb, eqb-true, false≢true, leb-true, ne_eqb, or_left, or_right}
 use Rattle.std.proofs.lemmas.List.Folds.{list_any-append}
-use Rattle.linked_list.specs.Places.{insert_after, without_first}
-use Rattle.linked_list.proofs.AllMembers.{all-append}
-use Rattle.packet_queue.specs.QueueWords.{QueuedPacket}
-use Rattle.kernel_model.specs.Between.{FaultsStand, has_unreported, is_unreported}
-use Rattle.kernel_model.specs.Changes.{change_of, queue_of, with_new_task, with_queue, with_task, with_work, work_of}
-use Rattle.kernel_model.specs.Kernel.{Kernel}
-use Rattle.kernel_model.specs.Lists.{Lists, has_task}
-use Rattle.kernel_model.specs.MovedTask.{with_priority}
-use Rattle.kernel_model.specs.Residents.{fault_packet}
-use Rattle.kernel_model.specs.Task.{Task, is_guest_id}
-use Rattle.kernel_model.specs.ValidLists.{AreValid}
-use Rattle.kernel_model.specs.ValidQueues.{Place}
-use Rattle.kernel_model.specs.ValidQueues.Place.{Clock, Keyboard, Output, Pending, Work}
-use Rattle.kernel_model.proofs.EachMember.{find-passes}
-use Rattle.packet_moves.specs.PacketMoves.{arrived, with_arrived}
-use Rattle.task_calls.specs.ChangePri.{moved}
-use Rattle.task_calls.specs.DeleteTask.{has_packet_out, resident_packets, without_task}
-use Rattle.fault_reporter.proofs.FaultPacket.{free-is}
-use Rattle.fault_reporter.proofs.FaultsKept.{FaultsHold, KeepsFault, Tells, any-new, map-faults, queue-faults, tells-same, there-same, work-keeps}
+use Rattle.guest_turns.specs.KernelCalls.LinkedList.Places.{insert_after, without_first}
+use Rattle.guest_turns.proofs.Shown.KernelCalls.LinkedList.AllMembers.{all-append}
+use Rattle.guest_turns.specs.KernelCalls.PacketQueue.QueueWords.{QueuedPacket}
+use Rattle.guest_turns.specs.KernelCalls.KernelModel.Between.{FaultsStand, has_unreported, is_unreported}
+use Rattle.guest_turns.specs.KernelCalls.KernelModel.Changes.{change_of, queue_of, with_new_task, with_queue, with_task, with_work, work_of}
+use Rattle.guest_turns.specs.KernelCalls.KernelModel.Kernel.{Kernel}
+use Rattle.guest_turns.specs.KernelCalls.KernelModel.Lists.{Lists, has_task}
+use Rattle.guest_turns.specs.KernelCalls.KernelModel.MovedTask.{with_priority}
+use Rattle.guest_turns.specs.KernelCalls.KernelModel.Residents.{fault_packet}
+use Rattle.guest_turns.specs.KernelCalls.KernelModel.Task.{Task, is_guest_id}
+use Rattle.guest_turns.specs.KernelCalls.KernelModel.ValidLists.{AreValid}
+use Rattle.guest_turns.specs.KernelCalls.KernelModel.ValidQueues.{Place}
+use Rattle.guest_turns.specs.KernelCalls.KernelModel.ValidQueues.Place.{Clock, Keyboard, Output, Pending, Work}
+use Rattle.guest_turns.proofs.Shown.KernelCalls.KernelModel.EachMember.{find-passes}
+use Rattle.guest_turns.specs.KernelCalls.PacketCalls.PacketMoves.{arrived, with_arrived}
+use Rattle.guest_turns.specs.KernelCalls.TaskCalls.ChangePri.{moved}
+use Rattle.guest_turns.specs.KernelCalls.TaskCalls.DeleteTask.{has_packet_out, resident_packets, without_task}
+use Rattle.cli_shell.proofs.Shown.KernelResidents.FaultReporter.FaultPacket.{free-is}
+use Rattle.cli_shell.proofs.Shown.KernelResidents.FaultReporter.FaultsKept.{FaultsHold, KeepsFault, Tells, any-new, map-faults, queue-faults, tells-same, there-same, work-keeps}
 
 -- it is asked where a task reports faults
 abbrev pub HasRule : Lists → Type 0

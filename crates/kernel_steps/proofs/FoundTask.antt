@@ -2,10 +2,10 @@
 use Rattle.std.proofs.Common.{◌≡◌, ℕ, ◌<◌, Bool, true, false, Some, List, [], ◌∷◌, map, cond, sym, ap, subst, arith}
 use Rattle.std.specs.Prelude.{find}
 use Rattle.std.specs.List.{AllByRecursion}
-use Rattle.linked_list.specs.Count.{IsApart, times}
-use Rattle.linked_list.proofs.Counts.{hit-same}
-use Rattle.kernel_model.specs.Task.{Task, task_id}
-use Rattle.kernel_model.proofs.EachMember.{all-each}
+use Rattle.word_store.specs.Count.{IsApart, times}
+use Rattle.word_store.proofs.Counts.{hit-same}
+use Rattle.guest_turns.specs.KernelCalls.KernelModel.Task.{Task, task_id}
+use Rattle.guest_turns.proofs.Shown.KernelCalls.KernelModel.EachMember.{all-each}
 
 times-found : (f : Task → Bool) (ts : List Task) (t : Task) → find f ts ≡ Some t → 0 < times t.id (map task_id ts)
 times-found f [] t e = cc

@@ -1,20 +1,20 @@
 -- What a resident's turn keeps that answers a request: who runs, and the rules of residents.
 use Rattle.std.proofs.Common.{◌≡◌, ℕ, ◌&&◌, ◌++◌, true, false, Result, List, [], ◌∷◌, eqb, refl, sym, ap, ◌∙◌, subst}
 use Rattle.std.specs.List.{AllByRecursion}
-use Rattle.packet_queue.specs.QueueWords.{QueuedPacket}
-use Rattle.kernel_model.specs.Changes.{queue_of, with_queue}
-use Rattle.kernel_model.specs.Lists.{Lists, has_task}
-use Rattle.kernel_model.specs.Residents.{fault_packet}
-use Rattle.kernel_model.specs.ValidQueues.{is_fault_packet}
-use Rattle.kernel_model.specs.ValidQueues.Place.{Work}
-use Rattle.packet_calls.specs.TaskWait.{waiting}
-use Rattle.resident_requests.specs.Answers.{answered, answered_packet, finished, finished_by, returned}
-use Rattle.resident_requests.specs.Requests.{IsForeign, TakesRequest, first_request, request_at, taken, taken_from, words_taken, words_taken_from, work}
-use Rattle.resident_requests.specs.Turns.{Served, request_turn, turn_of}
-use Rattle.resident_requests.specs.declared.requests.Request.{Request}
+use Rattle.guest_turns.specs.KernelCalls.PacketQueue.QueueWords.{QueuedPacket}
+use Rattle.guest_turns.specs.KernelCalls.KernelModel.Changes.{queue_of, with_queue}
+use Rattle.guest_turns.specs.KernelCalls.KernelModel.Lists.{Lists, has_task}
+use Rattle.guest_turns.specs.KernelCalls.KernelModel.Residents.{fault_packet}
+use Rattle.guest_turns.specs.KernelCalls.KernelModel.ValidQueues.{is_fault_packet}
+use Rattle.guest_turns.specs.KernelCalls.KernelModel.ValidQueues.Place.{Work}
+use Rattle.guest_turns.specs.KernelCalls.PacketCalls.TaskWait.{waiting}
+use Rattle.cli_shell.specs.KernelResidents.ResidentRequests.Answers.{answered, answered_packet, finished, finished_by, returned}
+use Rattle.cli_shell.specs.KernelResidents.ResidentRequests.Requests.{IsForeign, TakesRequest, first_request, request_at, taken, taken_from, words_taken, words_taken_from, work}
+use Rattle.cli_shell.specs.KernelResidents.ResidentRequests.Turns.{Served, request_turn, turn_of}
+use Rattle.cli_shell.specs.KernelResidents.ResidentRequests.declared.requests.Request.{Request}
 use Rattle.guest_turns.specs.GuestTurn.{Numbers}
 use Rattle.guest_turns.proofs.RunningField.{RunsIn, one-runs, queue-runs}
-use Rattle.fault_reporter.proofs.FaultsKept.{there-same, work-keeps}
+use Rattle.cli_shell.proofs.Shown.KernelResidents.FaultReporter.FaultsKept.{there-same, work-keeps}
 use Rattle.kernel_steps.proofs.CallRules.{KeepsRules, keeps-none, one-keeps, queue-keeps}
 use Rattle.kernel_steps.proofs.FaultRule.{arrived-rule, left-rule}
 

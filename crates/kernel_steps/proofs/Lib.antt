@@ -22,3 +22,4 @@ pub mod QuietSteps
 pub mod QuietSpans
 pub mod Runs
 pub mod QuietMachines
+pub mod Shown

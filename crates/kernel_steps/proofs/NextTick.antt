@@ -2,9 +2,9 @@
 use Rattle.std.proofs.Common.{◌≡◌, ℕ, ◌+◌, ◌*◌, ◌/◌, ◌%◌, ◌<◌, cond, eqb, leb, sym, ap, ◌∙◌, arith, inl, inr}
 use Rattle.std.proofs.lemmas.Bool.{and_parts, cases_lt, eq-eqb, leb-true, ne_eqb}
 use Rattle.std.proofs.lemmas.Nat.{div-add-mod', div-mul-add, mod-mul-add, mod_below}
-use Rattle.kernel_model.specs.Kernel.{Kernel}
-use Rattle.kernel_model.specs.Lists.{Lists}
-use Rattle.kernel_model.specs.ValidLists.{AreValid}
+use Rattle.guest_turns.specs.KernelCalls.KernelModel.Kernel.{Kernel}
+use Rattle.guest_turns.specs.KernelCalls.KernelModel.Lists.{Lists}
+use Rattle.guest_turns.specs.KernelCalls.KernelModel.ValidLists.{AreValid}
 use Rattle.kernel_steps.specs.Parts.{tick_after}
 
 pub next-tick : (n p : ℕ) → 0 < p → cond (eqb ((n + 1) % p) 0) (n / p + 1) (n / p) ≡ (n + 1) / p

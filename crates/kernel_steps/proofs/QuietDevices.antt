@@ -1,19 +1,19 @@
 -- Devices that have nothing to do.
 use Rattle.std.proofs.Common.{◌≡◌, ℕ, ◌+◌, ◌%◌, ◌⊎◌, Bool, true, false, List, [], ◌∷◌, cond, eqb, set, inl, inr, refl, sym, ap, ◌∙◌, subst, arith}
 use Rattle.std.proofs.lemmas.Bool.{lt-leb}
-use Rattle.packet_queue.specs.QueueWords.{QueuedPacket}
-use Rattle.kernel_model.specs.Image.{image}
-use Rattle.kernel_model.specs.Kernel.{Kernel}
-use Rattle.kernel_model.specs.Lists.{Lists}
-use Rattle.kernel_model.specs.ValidQueues.{NeverFall}
-use Rattle.device_returns.specs.Returned.{first_returned, unserved}
-use Rattle.device_returns.specs.declared.returns.Device.TheVariants.{OfKeys, OfOutput}
-use Rattle.clock_device.specs.Tick.{events_of_return, is_first_due, ticked, with_returned, with_tick}
-use Rattle.clock_device.proofs.ReturnedPackets.{all-later}
-use Rattle.clock_device.proofs.TickLists.{tick-changed, tick-owned}
-use Rattle.tty_device.specs.Keys.{left_typed, met}
-use Rattle.tty_device.specs.Printed.{printed}
-use Rattle.tty_device.specs.Typed.{with_typed}
+use Rattle.guest_turns.specs.KernelCalls.PacketQueue.QueueWords.{QueuedPacket}
+use Rattle.guest_turns.specs.KernelCalls.KernelModel.Image.{image}
+use Rattle.guest_turns.specs.KernelCalls.KernelModel.Kernel.{Kernel}
+use Rattle.guest_turns.specs.KernelCalls.KernelModel.Lists.{Lists}
+use Rattle.guest_turns.specs.KernelCalls.KernelModel.ValidQueues.{NeverFall}
+use Rattle.guest_turns.specs.KernelCalls.PacketCalls.Returned.{first_returned, unserved}
+use Rattle.guest_turns.specs.KernelCalls.PacketCalls.declared.returns.Device.TheVariants.{OfKeys, OfOutput}
+use Rattle.kernel_devices.specs.ClockDevice.Tick.{events_of_return, is_first_due, ticked, with_returned, with_tick}
+use Rattle.kernel_devices.proofs.Shown.ClockDevice.ReturnedPackets.{all-later}
+use Rattle.kernel_devices.proofs.Shown.ClockDevice.TickLists.{tick-changed, tick-owned}
+use Rattle.kernel_devices.specs.TtyDevice.Keys.{left_typed, met}
+use Rattle.kernel_devices.specs.TtyDevice.Printed.{printed}
+use Rattle.kernel_devices.specs.TtyDevice.Typed.{with_typed}
 use Rattle.kernel_steps.specs.Parts.{tick_after}
 use Rattle.kernel_steps.specs.Quiet.{AreDueAfter, AwaitsTick, ComeAfter}
 use Rattle.kernel_steps.specs.Step.{Stepped, key, meet, output, quietly, served, tick, typed_by, where_due}

@@ -3,19 +3,19 @@ use Rattle.std.proofs.Common.{◌≡◌, ◌↔◌, ℕ, Option, Some, None, Lis
 use Rattle.std.specs.Option.{option_map_or}
 use Rattle.std.proofs.lemmas.Bool.{and_from, eq-eqb}
 use Rattle.word_store.specs.declared.registers.Regs.{Regs}
-use Rattle.packet_queue.specs.declared.events.KernelEvent.TheVariants.{Runs}
-use Rattle.kernel_model.specs.Between.{is_ready}
-use Rattle.kernel_model.specs.Changes.{change_of, with_tasks}
-use Rattle.kernel_model.specs.Image.{image}
-use Rattle.kernel_model.specs.Kernel.{Kernel}
-use Rattle.kernel_model.specs.Lists.{Lists}
-use Rattle.kernel_model.specs.Task.{Task, is_guest_id, task_id}
-use Rattle.kernel_model.specs.ValidLists.{AreValid}
-use Rattle.kernel_model.specs.ValidTasks.{no_regs, runs}
-use Rattle.kernel_model.proofs.ChainSplits.{change-none}
-use Rattle.kernel_model.proofs.TaskPlaces.{task-places}
-use Rattle.kernel_dispatch.specs.Dispatch.{dispatched, first_ready_task, goes_on, suspended, unchanged, with_next, with_suspended}
-use Rattle.kernel_dispatch.proofs.SuspendedLists.{none-runs}
+use Rattle.guest_turns.specs.KernelCalls.PacketQueue.declared.events.KernelEvent.TheVariants.{Runs}
+use Rattle.guest_turns.specs.KernelCalls.KernelModel.Between.{is_ready}
+use Rattle.guest_turns.specs.KernelCalls.KernelModel.Changes.{change_of, with_tasks}
+use Rattle.guest_turns.specs.KernelCalls.KernelModel.Image.{image}
+use Rattle.guest_turns.specs.KernelCalls.KernelModel.Kernel.{Kernel}
+use Rattle.guest_turns.specs.KernelCalls.KernelModel.Lists.{Lists}
+use Rattle.guest_turns.specs.KernelCalls.KernelModel.Task.{Task, is_guest_id, task_id}
+use Rattle.guest_turns.specs.KernelCalls.KernelModel.ValidLists.{AreValid}
+use Rattle.guest_turns.specs.KernelCalls.KernelModel.ValidTasks.{no_regs, runs}
+use Rattle.guest_turns.proofs.Shown.KernelCalls.KernelModel.ChainSplits.{change-none}
+use Rattle.guest_turns.proofs.Shown.KernelCalls.KernelModel.TaskPlaces.{task-places}
+use Rattle.guest_turns.specs.KernelCalls.KernelDispatch.Dispatch.{dispatched, first_ready_task, goes_on, suspended, unchanged, with_next, with_suspended}
+use Rattle.guest_turns.proofs.Shown.KernelCalls.KernelDispatch.SuspendedLists.{none-runs}
 use Rattle.kernel_steps.specs.Parts.{RunsFirst}
 use Rattle.kernel_steps.specs.Step.{dispatch, quietly, switched}
 use Rattle.kernel_steps.proofs.FoundTask.{found-holds}

@@ -1,12 +1,12 @@
 -- Quiet spans lead from a valid kernel to a valid one.
 use Rattle.std.proofs.Common.{◌≡◌, ℕ, zero, suc, ◌+◌, ◌/◌, ◌<◌, ◌≤◌, false, true, None, List, refl, set, sym, subst, arith}
 use Rattle.cint_exec.specs.declared.Outcome.TheVariants.{Next}
-use Rattle.session_text.specs.Ranges.{most_steps}
-use Rattle.kernel_model.specs.Image.{HasPlainWords, IsImage, image}
-use Rattle.kernel_model.specs.Kernel.{Kernel}
-use Rattle.kernel_model.specs.Task.{is_guest_id}
-use Rattle.kernel_model.specs.ValidKernel.{IsFullMachine}
-use Rattle.kernel_model.specs.ValidLists.{AreValid}
+use Rattle.guest_turns.specs.KernelCalls.KernelModel.Ranges.{most_steps}
+use Rattle.guest_turns.specs.KernelCalls.KernelModel.Image.{HasPlainWords, IsImage, image}
+use Rattle.guest_turns.specs.KernelCalls.KernelModel.Kernel.{Kernel}
+use Rattle.guest_turns.specs.KernelCalls.KernelModel.Task.{is_guest_id}
+use Rattle.guest_turns.specs.KernelCalls.KernelModel.ValidKernel.{IsFullMachine}
+use Rattle.guest_turns.specs.KernelCalls.KernelModel.ValidLists.{AreValid}
 use Rattle.ram_disc.specs.Disc.{IsDisc}
 use Rattle.kernel_steps.specs.Parts.{IsTaken}
 use Rattle.kernel_steps.specs.Quiet.{IsQuietFor, after_instruction_of, instruction_of, passed}

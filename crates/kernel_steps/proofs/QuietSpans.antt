@@ -4,12 +4,12 @@ use Rattle.std.proofs.Math.Nat.{div-mul-le_self}
 use Rattle.std.proofs.lemmas.Bool.{ne_eqb}
 use Rattle.std.proofs.lemmas.Nat.{le-div}
 use Rattle.cint_exec.specs.declared.Outcome.TheVariants.{Next}
-use Rattle.packet_queue.specs.QueueWords.{QueuedPacket}
-use Rattle.kernel_model.specs.Image.{image}
-use Rattle.kernel_model.specs.Kernel.{Kernel}
-use Rattle.kernel_model.specs.Lists.{Lists}
-use Rattle.kernel_model.specs.Task.{is_guest_id}
-use Rattle.kernel_model.specs.ValidKernel.{IsFullMachine}
+use Rattle.guest_turns.specs.KernelCalls.PacketQueue.QueueWords.{QueuedPacket}
+use Rattle.guest_turns.specs.KernelCalls.KernelModel.Image.{image}
+use Rattle.guest_turns.specs.KernelCalls.KernelModel.Kernel.{Kernel}
+use Rattle.guest_turns.specs.KernelCalls.KernelModel.Lists.{Lists}
+use Rattle.guest_turns.specs.KernelCalls.KernelModel.Task.{is_guest_id}
+use Rattle.guest_turns.specs.KernelCalls.KernelModel.ValidKernel.{IsFullMachine}
 use Rattle.kernel_steps.specs.Quiet.{AreDueAfter, AwaitsTick, ComeAfter, IsQuietFor, after_instruction_of, instruction_of, passed, with_ticks}
 use Rattle.kernel_steps.specs.Step.{and_then, quietly, run, step, with_step}
 use Rattle.kernel_steps.proofs.NextTick.{next-tick, some-period}

@@ -2,14 +2,14 @@
 use Rattle.std.proofs.Common.{◌≡◌, ℕ, ◌+◌, ◌/◌, ◌⊎◌, true, None, List, [], cond, set, refl, sym, ap, ◌∙◌, subst}
 use Rattle.std.specs.Prelude.{is_some}
 use Rattle.cint_exec.specs.declared.Outcome.TheVariants.{Next}
-use Rattle.kernel_model.specs.HoldsLists.{HoldsLists}
-use Rattle.kernel_model.specs.Image.{image, word_of}
-use Rattle.kernel_model.specs.Kernel.{Kernel}
-use Rattle.kernel_model.specs.Task.{is_guest_id}
-use Rattle.kernel_dispatch.specs.Dispatch.{CanDispatch}
-use Rattle.guest_instructions.specs.Guarded.{is_owned}
-use Rattle.guest_instructions.proofs.GuardedLists.{holds-kept}
-use Rattle.guest_instructions.proofs.MarkedWords.{keeps-marked}
+use Rattle.guest_turns.specs.KernelCalls.KernelModel.HoldsLists.{HoldsLists}
+use Rattle.guest_turns.specs.KernelCalls.KernelModel.Image.{image, word_of}
+use Rattle.guest_turns.specs.KernelCalls.KernelModel.Kernel.{Kernel}
+use Rattle.guest_turns.specs.KernelCalls.KernelModel.Task.{is_guest_id}
+use Rattle.guest_turns.specs.KernelCalls.KernelDispatch.Dispatch.{CanDispatch}
+use Rattle.guest_turns.specs.Guarded.{is_owned}
+use Rattle.guest_turns.proofs.GuardedLists.{holds-kept}
+use Rattle.guest_turns.proofs.MarkedWords.{keeps-marked}
 use Rattle.guest_turns.specs.GuestTurn.{after_instruction, ended_with, turn_without_reporter}
 use Rattle.guest_turns.specs.declared.turns.TurnEnd.TheVariants.{Goes}
 use Rattle.guest_turns.proofs.TurnFields.{turn-dispatches}

@@ -1,19 +1,19 @@
 -- What a turn of the task that reports faults keeps.
 use Rattle.std.proofs.Common.{◌≡◌, ℕ, ◌+◌, Bool, true, false, cond, eqb, List, [], ◌∷◌, map, refl}
 use Rattle.std.specs.List.{AllByRecursion}
-use Rattle.packet_queue.specs.QueueWords.{QueuedPacket}
-use Rattle.kernel_model.specs.Between.{is_unreported}
-use Rattle.kernel_model.specs.Changes.{with_queue}
-use Rattle.kernel_model.specs.Lists.{Lists}
-use Rattle.kernel_model.specs.Residents.{fault_packet}
-use Rattle.kernel_model.specs.Task.{Task}
-use Rattle.kernel_model.specs.ValidQueues.Place.{Work}
-use Rattle.resident_requests.specs.Answers.{finished, finished_by, returned}
-use Rattle.resident_requests.specs.Requests.{work}
-use Rattle.resident_requests.specs.Turns.{request_turn}
+use Rattle.guest_turns.specs.KernelCalls.PacketQueue.QueueWords.{QueuedPacket}
+use Rattle.guest_turns.specs.KernelCalls.KernelModel.Between.{is_unreported}
+use Rattle.guest_turns.specs.KernelCalls.KernelModel.Changes.{with_queue}
+use Rattle.guest_turns.specs.KernelCalls.KernelModel.Lists.{Lists}
+use Rattle.guest_turns.specs.KernelCalls.KernelModel.Residents.{fault_packet}
+use Rattle.guest_turns.specs.KernelCalls.KernelModel.Task.{Task}
+use Rattle.guest_turns.specs.KernelCalls.KernelModel.ValidQueues.Place.{Work}
+use Rattle.cli_shell.specs.KernelResidents.ResidentRequests.Answers.{finished, finished_by, returned}
+use Rattle.cli_shell.specs.KernelResidents.ResidentRequests.Requests.{work}
+use Rattle.cli_shell.specs.KernelResidents.ResidentRequests.Turns.{request_turn}
 use Rattle.guest_turns.specs.GuestTurn.{Numbers}
 use Rattle.guest_turns.proofs.RunningField.{RunsAs, RunsIn, queue-runs}
-use Rattle.fault_reporter.specs.FaultTurns.{all_reported, fault_turn, fault_turn_from, packet_taken, reported, reported_turn, unknown}
+use Rattle.cli_shell.specs.KernelResidents.FaultReporter.FaultTurns.{all_reported, fault_turn, fault_turn_from, packet_taken, reported, reported_turn, unknown}
 use Rattle.kernel_steps.proofs.HandledRules.{finished-runs, request-lists, request-runs}
 
 -- ---- who runs

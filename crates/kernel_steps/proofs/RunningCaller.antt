@@ -3,16 +3,16 @@ use Rattle.std.proofs.Common.{◌≡◌, ◌≢◌, ◌↔◌, ℕ, true, false,
 use Rattle.std.specs.List.{AllByRecursion}
 use Rattle.std.proofs.lemmas.Bool.{leb-true}
 use Rattle.word_store.specs.declared.registers.Regs.{Regs}
-use Rattle.kernel_model.specs.Kernel.{Kernel}
-use Rattle.kernel_model.specs.Lists.{Lists, has_task}
-use Rattle.kernel_model.specs.Task.{is_guest_id}
-use Rattle.kernel_model.specs.ValidKernel.{IsFullMachine}
-use Rattle.kernel_model.specs.ValidLists.{AreValid}
-use Rattle.kernel_model.specs.ValidTasks.{runs}
-use Rattle.kernel_model.proofs.EachMember.{all-each}
-use Rattle.kernel_dispatch.specs.Dispatch.{CanDispatch}
-use Rattle.call_answers.specs.Callers.{HasCaller}
-use Rattle.resident_requests.specs.Requests.{RunsResident}
+use Rattle.guest_turns.specs.KernelCalls.KernelModel.Kernel.{Kernel}
+use Rattle.guest_turns.specs.KernelCalls.KernelModel.Lists.{Lists, has_task}
+use Rattle.guest_turns.specs.KernelCalls.KernelModel.Task.{is_guest_id}
+use Rattle.guest_turns.specs.KernelCalls.KernelModel.ValidKernel.{IsFullMachine}
+use Rattle.guest_turns.specs.KernelCalls.KernelModel.ValidLists.{AreValid}
+use Rattle.guest_turns.specs.KernelCalls.KernelModel.ValidTasks.{runs}
+use Rattle.guest_turns.proofs.Shown.KernelCalls.KernelModel.EachMember.{all-each}
+use Rattle.guest_turns.specs.KernelCalls.KernelDispatch.Dispatch.{CanDispatch}
+use Rattle.guest_turns.specs.KernelCalls.CallAnswers.Callers.{HasCaller}
+use Rattle.cli_shell.specs.KernelResidents.ResidentRequests.Requests.{RunsResident}
 use Rattle.guest_turns.specs.GuestTurn.{Numbers, RunsAlone}
 use Rattle.guest_turns.proofs.RunningField.{RunsAs, RunsIn}
 use Rattle.kernel_steps.specs.Parts.{RunsFirst}

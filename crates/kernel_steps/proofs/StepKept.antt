@@ -2,16 +2,16 @@
 use Rattle.std.proofs.Common.{◌≡◌, ◌/◌, ◌%◌, ◌<◌, ◌≤◌, Bool, true, false, Option, Some, None, ◌≢◌, cond, eqb, length, refl, sym, ap, ◌∙◌, subst, arith}
 use Rattle.std.specs.Prelude.{is_some}
 use Rattle.std.specs.List.{AllByRecursion}
-use Rattle.session_text.specs.Ranges.{most_steps}
+use Rattle.guest_turns.specs.KernelCalls.KernelModel.Ranges.{most_steps}
 use Rattle.ram_disc.specs.Disc.{IsDisc}
-use Rattle.kernel_model.specs.Between.{RunsFirstReady}
-use Rattle.kernel_model.specs.Image.{HasPlainWords, image, settled}
-use Rattle.kernel_model.specs.Kernel.{Kernel, Stop}
-use Rattle.kernel_model.specs.ValidKernel.{IsFullMachine}
-use Rattle.kernel_model.specs.ValidLists.{AreValid}
-use Rattle.kernel_dispatch.specs.Dispatch.{CanDispatch}
-use Rattle.clock_device.specs.Tick.{ticked}
-use Rattle.tty_device.specs.Keys.{met}
+use Rattle.guest_turns.specs.KernelCalls.KernelModel.Between.{RunsFirstReady}
+use Rattle.guest_turns.specs.KernelCalls.KernelModel.Image.{HasPlainWords, image, settled}
+use Rattle.guest_turns.specs.KernelCalls.KernelModel.Kernel.{Kernel, Stop}
+use Rattle.guest_turns.specs.KernelCalls.KernelModel.ValidKernel.{IsFullMachine}
+use Rattle.guest_turns.specs.KernelCalls.KernelModel.ValidLists.{AreValid}
+use Rattle.guest_turns.specs.KernelCalls.KernelDispatch.Dispatch.{CanDispatch}
+use Rattle.kernel_devices.specs.ClockDevice.Tick.{ticked}
+use Rattle.kernel_devices.specs.TtyDevice.Keys.{met}
 use Rattle.guest_turns.specs.GuestTurn.{Numbers, numbers_of}
 use Rattle.kernel_steps.specs.Parts.{CanTurn, HasSameKeys, HasSameResidents, IsSameMachine, IsTaken, RulesStand, RunsFirst, numbers_after_tick}
 use Rattle.kernel_steps.specs.Step.{after_the_turn, and_then, dispatch, key, output, quietly, served, step, tick, turn, unless_stopped, where_due, with_key_typed, with_step}

@@ -4,18 +4,18 @@ use Rattle.std.specs.Prelude.{is_some}
 use Rattle.std.proofs.lemmas.Bool.{cases_lt}
 use Rattle.std.proofs.lemmas.List.{ext_get_or}
 use Rattle.std.proofs.lemmas.List.FromFn.{get_or-map-range_with_len, length-map-range_with_len}
-use Rattle.owned_words.specs.Owned.{Holds, Pairs, owners, word_in, written}
-use Rattle.owned_words.specs.Written.{IsWritten}
-use Rattle.owned_words.proofs.OwnedWords.{word_in-none}
-use Rattle.kernel_model.specs.ChangedStore.{IsChanged}
-use Rattle.kernel_model.specs.HoldsLists.{HoldsLists}
-use Rattle.kernel_model.specs.Image.{HasPlainWords, IsImage, image, plain_at, plain_words, settled}
-use Rattle.kernel_model.specs.Kernel.{Kernel, owned_by}
-use Rattle.kernel_model.specs.Lists.{Lists}
-use Rattle.kernel_model.specs.Owned.{OwnsApart, owned}
-use Rattle.kernel_model.specs.ValidKernel.{IsFullMachine, IsMachine}
-use Rattle.kernel_model.specs.ValidLists.{AreValid}
-use Rattle.kernel_model.proofs.ImageWords.{image-list, valid-image}
+use Rattle.guest_turns.specs.KernelCalls.OwnedWords.Owned.{Holds, Pairs, owners, word_in, written}
+use Rattle.guest_turns.specs.KernelCalls.OwnedWords.Written.{IsWritten}
+use Rattle.guest_turns.proofs.Shown.KernelCalls.OwnedWords.OwnedWords.{word_in-none}
+use Rattle.guest_turns.specs.KernelCalls.KernelModel.ChangedStore.{IsChanged}
+use Rattle.guest_turns.specs.KernelCalls.KernelModel.HoldsLists.{HoldsLists}
+use Rattle.guest_turns.specs.KernelCalls.KernelModel.Image.{HasPlainWords, IsImage, image, plain_at, plain_words, settled}
+use Rattle.guest_turns.specs.KernelCalls.KernelModel.Kernel.{Kernel, owned_by}
+use Rattle.guest_turns.specs.KernelCalls.KernelModel.Lists.{Lists}
+use Rattle.guest_turns.specs.KernelCalls.KernelModel.Owned.{OwnsApart, owned}
+use Rattle.guest_turns.specs.KernelCalls.KernelModel.ValidKernel.{IsFullMachine, IsMachine}
+use Rattle.guest_turns.specs.KernelCalls.KernelModel.ValidLists.{AreValid}
+use Rattle.guest_turns.proofs.Shown.KernelCalls.KernelModel.ImageWords.{image-list, valid-image}
 use Rattle.kernel_steps.specs.Step.{with_store}
 
 -- the store of a full kernel with valid lists

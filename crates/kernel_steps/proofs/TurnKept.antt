@@ -1,19 +1,19 @@
 -- What a turn leaves of a kernel: who runs, the numbers, and what is no matter of turns.
 use Rattle.std.proofs.Common.{◌≡◌, ℕ, Bool, true, false, List, refl, sym, ap, ◌∙◌, subst, arith}
 use Rattle.cint_exec.specs.declared.Fault.{Fault}
-use Rattle.kernel_model.specs.Image.{image}
-use Rattle.kernel_model.specs.Kernel.{Kernel}
-use Rattle.kernel_model.specs.Lists.{Lists, has_task}
-use Rattle.kernel_model.specs.Task.{is_guest_id}
-use Rattle.kernel_dispatch.specs.Dispatch.{CanDispatch}
-use Rattle.resident_requests.specs.Requests.{RunsResident}
+use Rattle.guest_turns.specs.KernelCalls.KernelModel.Image.{image}
+use Rattle.guest_turns.specs.KernelCalls.KernelModel.Kernel.{Kernel}
+use Rattle.guest_turns.specs.KernelCalls.KernelModel.Lists.{Lists, has_task}
+use Rattle.guest_turns.specs.KernelCalls.KernelModel.Task.{is_guest_id}
+use Rattle.guest_turns.specs.KernelCalls.KernelDispatch.Dispatch.{CanDispatch}
+use Rattle.cli_shell.specs.KernelResidents.ResidentRequests.Requests.{RunsResident}
 use Rattle.guest_turns.specs.GuestTurn.{Turned, numbers_of, turn_without_reporter}
 use Rattle.guest_turns.proofs.RunningField.{RunsIn}
 use Rattle.guest_turns.proofs.TurnFields.{turn-dispatches, turn-numbers}
-use Rattle.fault_reporter.specs.Recorded.{held_with, recorded, sent_where}
-use Rattle.fault_reporter.proofs.RunsKept.{recorded-dispatch}
-use Rattle.file_handler.specs.FileTurn.{file_service}
-use Rattle.pipe_handler.specs.PipeTurns.{pipe_service}
+use Rattle.cli_shell.specs.KernelResidents.FaultReporter.Recorded.{held_with, recorded, sent_where}
+use Rattle.cli_shell.proofs.Shown.KernelResidents.FaultReporter.RunsKept.{recorded-dispatch}
+use Rattle.cli_shell.specs.KernelResidents.FileHandler.FileTurn.{file_service}
+use Rattle.cli_shell.specs.KernelResidents.PipeHandler.PipeTurns.{pipe_service}
 use Rattle.cli_shell.specs.Modes.{awaited}
 use Rattle.cli_shell.proofs.KeptRules.{turn-dispatches as shell-dispatches, turn-rest}
 use Rattle.kernel_steps.specs.GuestSteps.{after_turn, turn_of_guest}

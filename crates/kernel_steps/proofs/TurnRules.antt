@@ -4,26 +4,26 @@ use Rattle.std.proofs.lemmas.Bool.{and_parts, eqb-true, false≢true}
 use Rattle.word_store.specs.declared.registers.Regs.{Regs}
 use Rattle.cint_exec.specs.declared.Fault.{Fault}
 use Rattle.ram_disc.specs.Disc.{IsDisc, shell_stream, stream_at}
-use Rattle.kernel_model.specs.Between.{AreShut, IsAwaited, NoResidents, ResidentsStand, is_typing}
-use Rattle.kernel_model.specs.Image.{image}
-use Rattle.kernel_model.specs.Kernel.{Kernel}
-use Rattle.kernel_model.specs.Lists.{Lists}
-use Rattle.kernel_model.specs.Pipes.{PipesStand, pipe_at}
-use Rattle.kernel_model.specs.Task.{is_guest_id}
-use Rattle.kernel_model.specs.ValidLists.{AreValid}
-use Rattle.kernel_model.specs.Versions.{highest_id_of}
-use Rattle.call_answers.specs.Callers.{HasCaller}
-use Rattle.resident_requests.specs.Requests.{RunsResident, TakesRequest}
-use Rattle.resident_requests.proofs.ResidentTurns.{takes-request}
-use Rattle.console_handler.specs.ConsoleTurn.{KeysStand}
-use Rattle.console_handler.proofs.KeptKeys.{keys-stand}
-use Rattle.fault_reporter.specs.Recorded.{CanRecord, held_with, recorded, sent_where}
-use Rattle.fault_reporter.proofs.FaultsKept.{recorded-hold, turn-hold}
-use Rattle.file_handler.specs.FileTurn.{file_service}
-use Rattle.file_handler.proofs.EndedRequests.{turn-keeps as stream-stays}
-use Rattle.pipe_handler.specs.PipeCalls.{ArePipes}
-use Rattle.pipe_handler.specs.PipeTurns.{pipe_service}
-use Rattle.pipe_handler.proofs.KeptTurns.{turn-kept}
+use Rattle.guest_turns.specs.KernelCalls.KernelModel.Between.{AreShut, IsAwaited, NoResidents, ResidentsStand, is_typing}
+use Rattle.guest_turns.specs.KernelCalls.KernelModel.Image.{image}
+use Rattle.guest_turns.specs.KernelCalls.KernelModel.Kernel.{Kernel}
+use Rattle.guest_turns.specs.KernelCalls.KernelModel.Lists.{Lists}
+use Rattle.guest_turns.specs.KernelCalls.KernelModel.Pipes.{PipesStand, pipe_at}
+use Rattle.guest_turns.specs.KernelCalls.KernelModel.Task.{is_guest_id}
+use Rattle.guest_turns.specs.KernelCalls.KernelModel.ValidLists.{AreValid}
+use Rattle.guest_turns.specs.KernelCalls.KernelModel.Versions.{highest_id_of}
+use Rattle.guest_turns.specs.KernelCalls.CallAnswers.Callers.{HasCaller}
+use Rattle.cli_shell.specs.KernelResidents.ResidentRequests.Requests.{RunsResident, TakesRequest}
+use Rattle.cli_shell.proofs.Shown.KernelResidents.ResidentRequests.ResidentTurns.{takes-request}
+use Rattle.cli_shell.specs.KernelResidents.ConsoleHandler.ConsoleTurn.{KeysStand}
+use Rattle.cli_shell.proofs.Shown.KernelResidents.ConsoleHandler.KeptKeys.{keys-stand}
+use Rattle.cli_shell.specs.KernelResidents.FaultReporter.Recorded.{CanRecord, held_with, recorded, sent_where}
+use Rattle.cli_shell.proofs.Shown.KernelResidents.FaultReporter.FaultsKept.{recorded-hold, turn-hold}
+use Rattle.cli_shell.specs.KernelResidents.FileHandler.FileTurn.{file_service}
+use Rattle.cli_shell.proofs.Shown.KernelResidents.FileHandler.EndedRequests.{turn-keeps as stream-stays}
+use Rattle.cli_shell.specs.KernelResidents.PipeHandler.PipeCalls.{ArePipes}
+use Rattle.cli_shell.specs.KernelResidents.PipeHandler.PipeTurns.{pipe_service}
+use Rattle.cli_shell.proofs.Shown.KernelResidents.PipeHandler.KeptTurns.{turn-kept}
 use Rattle.guest_turns.specs.GuestTurn.{Turned, numbers_of, turn_without_reporter}
 use Rattle.guest_turns.proofs.FaultedTurn.{fault-untouched}
 use Rattle.cli_shell.specs.Modes.{awaited}

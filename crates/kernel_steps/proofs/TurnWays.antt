@@ -3,9 +3,9 @@ use Rattle.std.proofs.Common.{◌≡◌, ℕ, Bool, true, false, not, cond, eqb,
 use Rattle.std.proofs.lemmas.Bool.{and_parts, eqb-true}
 use Rattle.word_store.specs.declared.registers.Regs.{Regs}
 use Rattle.cint_exec.specs.declared.Fault.{Fault}
-use Rattle.kernel_model.specs.Kernel.{Kernel}
-use Rattle.kernel_model.specs.Lists.{Lists, has_task}
-use Rattle.kernel_model.specs.Task.{is_guest_id}
+use Rattle.guest_turns.specs.KernelCalls.KernelModel.Kernel.{Kernel}
+use Rattle.guest_turns.specs.KernelCalls.KernelModel.Lists.{Lists, has_task}
+use Rattle.guest_turns.specs.KernelCalls.KernelModel.Task.{is_guest_id}
 use Rattle.guest_turns.specs.GuestTurn.{Turned, turn_without_reporter}
 use Rattle.guest_turns.specs.declared.turns.TurnEnd.{TurnEnd}
 use Rattle.guest_turns.specs.declared.turns.TurnEnd.TheVariants.{Faults, Goes, Quits}

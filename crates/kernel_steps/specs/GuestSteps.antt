@@ -2,15 +2,15 @@
 use Rattle.std.specs.Prelude.{ℕ, ◌==◌, ◌&&◌, Bool, not, if◌then◌else◌, Option, Some, None, List, ◌++◌}
 use Rattle.word_store.specs.declared.registers.Regs.{Regs}
 use Rattle.cint_exec.specs.declared.Fault.{Fault}
-use Rattle.owned_words.specs.Owned.{written}
-use Rattle.kernel_model.specs.Image.{image}
-use Rattle.kernel_model.specs.Kernel.{Kernel, Stop}
-use Rattle.kernel_model.specs.Kernel.Stop.{Fault as StopByFault, Quit}
-use Rattle.kernel_model.specs.Lists.{Lists, has_task}
+use Rattle.guest_turns.specs.KernelCalls.OwnedWords.Owned.{written}
+use Rattle.guest_turns.specs.KernelCalls.KernelModel.Image.{image}
+use Rattle.guest_turns.specs.KernelCalls.KernelModel.Kernel.{Kernel, Stop}
+use Rattle.guest_turns.specs.KernelCalls.KernelModel.Kernel.Stop.{Fault as StopByFault, Quit}
+use Rattle.guest_turns.specs.KernelCalls.KernelModel.Lists.{Lists, has_task}
 use Rattle.guest_turns.specs.GuestTurn.{Turned, turn_without_reporter}
 use Rattle.guest_turns.specs.declared.turns.TurnEnd.{TurnEnd}
 use Rattle.guest_turns.specs.declared.turns.TurnEnd.TheVariants.{Faults, Goes, Quits}
-use Rattle.fault_reporter.specs.Recorded.{recorded, recorded_events}
+use Rattle.cli_shell.specs.KernelResidents.FaultReporter.Recorded.{recorded, recorded_events}
 use Rattle.kernel_steps.specs.Stepped.{Stepped, with_store}
 
 -- ---- faults

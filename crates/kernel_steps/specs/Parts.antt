@@ -3,14 +3,14 @@ use Rattle.std.specs.Prelude.{◌≡◌, ◌↔◌, ℕ, ◌+◌, ◌%◌, ◌<�
 use Rattle.std.specs.List.{AllByRecursion}
 use Rattle.word_store.specs.declared.registers.Regs.{Regs}
 use Rattle.ram_disc.specs.Disc.{IsDisc}
-use Rattle.kernel_model.specs.Between.{FaultsStand, ResidentsStand, first_ready}
-use Rattle.kernel_model.specs.Image.{HasPlainWords}
-use Rattle.kernel_model.specs.Kernel.{Kernel}
-use Rattle.kernel_model.specs.Lists.{Lists}
-use Rattle.kernel_model.specs.Pipes.{PipesStand}
-use Rattle.kernel_model.specs.Task.{is_guest_id}
-use Rattle.kernel_model.specs.ValidLists.{AreValid}
-use Rattle.kernel_model.specs.ValidTasks.{no_regs, runs}
+use Rattle.guest_turns.specs.KernelCalls.KernelModel.Between.{FaultsStand, ResidentsStand, first_ready}
+use Rattle.guest_turns.specs.KernelCalls.KernelModel.Image.{HasPlainWords}
+use Rattle.guest_turns.specs.KernelCalls.KernelModel.Kernel.{Kernel}
+use Rattle.guest_turns.specs.KernelCalls.KernelModel.Lists.{Lists}
+use Rattle.guest_turns.specs.KernelCalls.KernelModel.Pipes.{PipesStand}
+use Rattle.guest_turns.specs.KernelCalls.KernelModel.Task.{is_guest_id}
+use Rattle.guest_turns.specs.KernelCalls.KernelModel.ValidLists.{AreValid}
+use Rattle.guest_turns.specs.KernelCalls.KernelModel.ValidTasks.{no_regs, runs}
 use Rattle.guest_turns.specs.GuestTurn.{Numbers, numbers_of}
 use Rattle.kernel_steps.specs.Step.{step, turn, with_step}
 

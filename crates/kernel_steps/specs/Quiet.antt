@@ -1,12 +1,12 @@
 -- Steps in which no device acts.
 use Rattle.std.specs.Prelude.{◌≡◌, ℕ, ◌+◌, ◌/◌, ◌<◌, ◌⊎◌, List, [], ◌∷◌}
 use Rattle.cint_exec.specs.Instruction.{After, instruction}
-use Rattle.packet_queue.specs.QueueWords.{QueuedPacket}
-use Rattle.kernel_model.specs.Image.{image}
-use Rattle.kernel_model.specs.Kernel.{Kernel}
-use Rattle.kernel_model.specs.Lists.{Lists}
-use Rattle.clock_device.specs.Tick.{with_tick}
-use Rattle.guest_instructions.specs.Guarded.{is_owned}
+use Rattle.guest_turns.specs.KernelCalls.PacketQueue.QueueWords.{QueuedPacket}
+use Rattle.guest_turns.specs.KernelCalls.KernelModel.Image.{image}
+use Rattle.guest_turns.specs.KernelCalls.KernelModel.Kernel.{Kernel}
+use Rattle.guest_turns.specs.KernelCalls.KernelModel.Lists.{Lists}
+use Rattle.kernel_devices.specs.ClockDevice.Tick.{with_tick}
+use Rattle.guest_turns.specs.Guarded.{is_owned}
 use Rattle.kernel_steps.specs.Step.{with_store}
 
 -- the first key, which comes before any other, comes after this step

@@ -1,19 +1,19 @@
 -- The turns of the residents.
 use Rattle.std.specs.Prelude.{ℕ, ◌==◌, ◌&&◌, Bool, false, if◌then◌else◌, Option, Some, List, [], ◌∷◌, nat_le}
-use Rattle.owned_words.specs.Owned.{written}
-use Rattle.packet_queue.specs.QueueWords.{QueuedPacket}
+use Rattle.guest_turns.specs.KernelCalls.OwnedWords.Owned.{written}
+use Rattle.guest_turns.specs.KernelCalls.PacketQueue.QueueWords.{QueuedPacket}
 use Rattle.ram_disc.specs.Disc.{Disc}
-use Rattle.kernel_model.specs.Image.{image}
-use Rattle.kernel_model.specs.Kernel.{Kernel, Pipe}
-use Rattle.kernel_model.specs.Kernel.Stop.{Finish}
-use Rattle.kernel_model.specs.Lists.{Lists}
-use Rattle.resident_requests.specs.Requests.{work}
-use Rattle.resident_requests.specs.Turns.{ResidentTurn}
-use Rattle.fault_reporter.specs.FaultTurns.{fault_turn}
-use Rattle.console_handler.specs.ConsoleTurn.{all_parts, turn_done}
-use Rattle.console_handler.specs.Progress.{Progress, begun}
-use Rattle.file_handler.specs.FileTurn.{disc_after_turn, file_turn}
-use Rattle.pipe_handler.specs.PipeTurns.{pipe_turn, pipes_after_turn}
+use Rattle.guest_turns.specs.KernelCalls.KernelModel.Image.{image}
+use Rattle.guest_turns.specs.KernelCalls.KernelModel.Kernel.{Kernel, Pipe}
+use Rattle.guest_turns.specs.KernelCalls.KernelModel.Kernel.Stop.{Finish}
+use Rattle.guest_turns.specs.KernelCalls.KernelModel.Lists.{Lists}
+use Rattle.cli_shell.specs.KernelResidents.ResidentRequests.Requests.{work}
+use Rattle.cli_shell.specs.KernelResidents.ResidentRequests.Turns.{ResidentTurn}
+use Rattle.cli_shell.specs.KernelResidents.FaultReporter.FaultTurns.{fault_turn}
+use Rattle.cli_shell.specs.KernelResidents.ConsoleHandler.ConsoleTurn.{all_parts, turn_done}
+use Rattle.cli_shell.specs.KernelResidents.ConsoleHandler.Progress.{Progress, begun}
+use Rattle.cli_shell.specs.KernelResidents.FileHandler.FileTurn.{disc_after_turn, file_turn}
+use Rattle.cli_shell.specs.KernelResidents.PipeHandler.PipeTurns.{pipe_turn, pipes_after_turn}
 use Rattle.cli_shell.specs.Modes.{awaited}
 use Rattle.cli_shell.specs.ShellTurn.{shell_turn}
 use Rattle.cli_shell.specs.TurnParts.{ShellTurn}

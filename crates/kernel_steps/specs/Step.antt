@@ -1,18 +1,18 @@
 -- A step of a machine with a kernel, and a run.
 use Rattle.std.specs.Prelude.{ℕ, zero, suc, pos, ◌+◌, ◌%◌, ◌==◌, Bool, if◌then◌else◌, is_some, List, [], ◌∷◌, ◌++◌, nat_le}
 use Rattle.word_store.specs.Arithmetic.{signed}
-use Rattle.packet_queue.specs.declared.events.KernelEvent.{KernelEvent}
-use Rattle.packet_queue.specs.declared.events.KernelEvent.TheVariants.{Accepted, Runs}
-use Rattle.kernel_model.specs.Image.{image, settled}
-use Rattle.kernel_model.specs.Kernel.{Kernel}
-use Rattle.kernel_model.specs.Residents.{key_packet, keyboard}
-use Rattle.kernel_model.specs.Task.{is_guest_id}
-use Rattle.kernel_dispatch.specs.Dispatch.{Dispatched, dispatched}
-use Rattle.device_returns.specs.Returned.{Served}
-use Rattle.clock_device.specs.Tick.{ticked}
-use Rattle.tty_device.specs.Keys.{left_typed, met}
-use Rattle.tty_device.specs.Printed.{finished, printed}
-use Rattle.tty_device.specs.Typed.{with_typed}
+use Rattle.guest_turns.specs.KernelCalls.PacketQueue.declared.events.KernelEvent.{KernelEvent}
+use Rattle.guest_turns.specs.KernelCalls.PacketQueue.declared.events.KernelEvent.TheVariants.{Accepted, Runs}
+use Rattle.guest_turns.specs.KernelCalls.KernelModel.Image.{image, settled}
+use Rattle.guest_turns.specs.KernelCalls.KernelModel.Kernel.{Kernel}
+use Rattle.guest_turns.specs.KernelCalls.KernelModel.Residents.{key_packet, keyboard}
+use Rattle.guest_turns.specs.KernelCalls.KernelModel.Task.{is_guest_id}
+use Rattle.guest_turns.specs.KernelCalls.KernelDispatch.Dispatch.{Dispatched, dispatched}
+use Rattle.guest_turns.specs.KernelCalls.PacketCalls.Returned.{Served}
+use Rattle.kernel_devices.specs.ClockDevice.Tick.{ticked}
+use Rattle.kernel_devices.specs.TtyDevice.Keys.{left_typed, met}
+use Rattle.kernel_devices.specs.TtyDevice.Printed.{finished, printed}
+use Rattle.kernel_devices.specs.TtyDevice.Typed.{with_typed}
 use Rattle.kernel_steps.specs.GuestSteps.{guest_step}
 use Rattle.kernel_steps.specs.ResidentSteps.{resident_step}
 pub use Rattle.kernel_steps.specs.Stepped.{Stepped, and_then, behind, quietly, where_due, with_store}

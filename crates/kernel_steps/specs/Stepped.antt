@@ -1,9 +1,9 @@
 -- What a part of a step leaves, and parts one after the other.
 use Rattle.std.specs.Prelude.{ℕ, Bool, if◌then◌else◌, List, [], ◌++◌}
-use Rattle.packet_queue.specs.declared.events.KernelEvent.{KernelEvent}
-use Rattle.kernel_model.specs.Image.{plain_words}
-use Rattle.kernel_model.specs.Kernel.{Kernel}
-use Rattle.kernel_model.specs.Lists.{Lists}
+use Rattle.guest_turns.specs.KernelCalls.PacketQueue.declared.events.KernelEvent.{KernelEvent}
+use Rattle.guest_turns.specs.KernelCalls.KernelModel.Image.{plain_words}
+use Rattle.guest_turns.specs.KernelCalls.KernelModel.Kernel.{Kernel}
+use Rattle.guest_turns.specs.KernelCalls.KernelModel.Lists.{Lists}
 
 -- the kernel after a part of a step, the bytes that went to the console, and the events
 pub record Stepped : Type 0 where

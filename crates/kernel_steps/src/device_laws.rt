@@ -1,9 +1,9 @@
 // What the devices leave.
 ghost use Rattle.std.specs.Prelude.{◌≡◌, ◌+◌, ◌/◌, ◌<◌, ◌≤◌, length, ℕ};
 ghost use Rattle.std.specs.List.{AllByRecursion};
-ghost use Rattle.session_text.specs.Ranges.{most_steps};
-ghost use Rattle.kernel_model.specs.Kernel.{Kernel};
-ghost use Rattle.kernel_dispatch.specs.Dispatch.{CanDispatch};
+ghost use Rattle.guest_turns.specs.KernelCalls.KernelModel.Ranges.{most_steps};
+ghost use Rattle.guest_turns.specs.KernelCalls.KernelModel.Kernel.{Kernel};
+ghost use Rattle.guest_turns.specs.KernelCalls.KernelDispatch.Dispatch.{CanDispatch};
 ghost use Rattle.guest_turns.specs.GuestTurn.{numbers_of};
 ghost use Rattle.kernel_steps.specs.Parts.{HasSameKeys, HasSameResidents, IsSameMachine, numbers_after_tick, tick_after};
 ghost use Rattle.kernel_steps.specs.Step.{key, output, tick};

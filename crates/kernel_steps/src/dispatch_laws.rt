@@ -1,10 +1,10 @@
 // What a dispatch leaves.
 ghost use Rattle.std.specs.Prelude.{◌≡◌, Bool, List, ℕ};
 ghost use Rattle.word_store.specs.declared.registers.Regs.{Regs};
-ghost use Rattle.kernel_model.specs.Lists.{Lists};
-ghost use Rattle.kernel_model.specs.ValidLists.{AreValid};
-ghost use Rattle.kernel_dispatch.specs.Dispatch.{CanDispatch, dispatched};
-ghost use Rattle.kernel_dispatch.specs.ReadyTasks.{HasReady};
+ghost use Rattle.guest_turns.specs.KernelCalls.KernelModel.Lists.{Lists};
+ghost use Rattle.guest_turns.specs.KernelCalls.KernelModel.ValidLists.{AreValid};
+ghost use Rattle.guest_turns.specs.KernelCalls.KernelDispatch.Dispatch.{CanDispatch, dispatched};
+ghost use Rattle.guest_turns.specs.KernelCalls.KernelDispatch.ReadyTasks.{HasReady};
 ghost use Rattle.guest_turns.specs.GuestTurn.{numbers_of};
 ghost use Rattle.kernel_steps.specs.Parts.{RunsFirst};
 

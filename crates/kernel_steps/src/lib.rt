@@ -7,3 +7,15 @@ pub mod quiet_laws;
 pub mod run_laws;
 pub mod step_laws;
 pub mod turn_laws;
+
+// Shown to the crates above.
+pub use cli_shell::{
+    BootRefusal, ConsoleState, Pipes, ShellState, console_turn, fault_turn, file_turn,
+    first_packet, load_files, make_kernel, make_resident_kernel, pipe_turn, record_fault,
+    shell_turn, start_tasks,
+};
+pub use guest_turns::{
+    ByteKinds, EventLog, KernelEvent, ListLog, NoLog, RootField, SinkLog, Stop, TcbField, TurnEnd,
+    execute_guest, field, find, guest_turn, root, set_root, switch,
+};
+pub use kernel_devices::{Tty, finish_output, tick};

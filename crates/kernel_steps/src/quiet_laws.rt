@@ -1,14 +1,14 @@
 // Steps in which no device acts.
 ghost use Rattle.std.specs.Prelude.{◌≡◌, ◌≢◌, ◌%◌, ◌+◌, ◌/◌, ◌<◌, ◌≤◌, List, None, false, slice_set, suc, true, ℕ};
 ghost use Rattle.cint_exec.specs.declared.Outcome.TheVariants.{Next};
-ghost use Rattle.session_text.specs.Ranges.{most_steps};
-ghost use Rattle.task_block.specs.RootWords.{root_address};
-ghost use Rattle.task_block.specs.declared.roots.RootField.TheVariants.{Tick};
-ghost use Rattle.kernel_model.specs.Image.{IsImage};
-ghost use Rattle.kernel_model.specs.Kernel.{Kernel};
-ghost use Rattle.kernel_model.specs.Task.{is_guest_id};
-ghost use Rattle.kernel_model.specs.ValidKernel.{IsFullMachine};
-ghost use Rattle.device_returns.specs.Returned.{unserved};
+ghost use Rattle.guest_turns.specs.KernelCalls.KernelModel.Ranges.{most_steps};
+ghost use Rattle.guest_turns.specs.KernelCalls.TaskBlock.RootWords.{root_address};
+ghost use Rattle.guest_turns.specs.KernelCalls.TaskBlock.declared.roots.RootField.TheVariants.{Tick};
+ghost use Rattle.guest_turns.specs.KernelCalls.KernelModel.Image.{IsImage};
+ghost use Rattle.guest_turns.specs.KernelCalls.KernelModel.Kernel.{Kernel};
+ghost use Rattle.guest_turns.specs.KernelCalls.KernelModel.Task.{is_guest_id};
+ghost use Rattle.guest_turns.specs.KernelCalls.KernelModel.ValidKernel.{IsFullMachine};
+ghost use Rattle.guest_turns.specs.KernelCalls.PacketCalls.Returned.{unserved};
 ghost use Rattle.kernel_steps.specs.Quiet.{IsQuietFor, after_instruction_of, instruction_of, passed};
 ghost use Rattle.kernel_steps.specs.Step.{dispatch, quietly, run, served, step, with_step};
 

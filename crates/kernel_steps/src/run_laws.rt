@@ -1,6 +1,6 @@
 // Runs.
 ghost use Rattle.std.specs.Prelude.{◌≡◌, ◌≢◌, ◌+◌, ◌≤◌, None, ℕ};
-ghost use Rattle.kernel_model.specs.Kernel.{Kernel};
+ghost use Rattle.guest_turns.specs.KernelCalls.KernelModel.Kernel.{Kernel};
 ghost use Rattle.kernel_steps.specs.Step.{and_then, quietly, run};
 
 /// A run may be cut in two. A machine that has stopped stays as it is, and a run takes at most its steps.

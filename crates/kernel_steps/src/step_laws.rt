@@ -1,8 +1,8 @@
 // What a step leaves.
 ghost use Rattle.std.specs.Prelude.{◌≡◌, ◌<◌, None};
-ghost use Rattle.session_text.specs.Ranges.{most_steps};
-ghost use Rattle.kernel_model.specs.Kernel.{Kernel};
-ghost use Rattle.kernel_model.specs.ValidKernel.{IsFullMachine};
+ghost use Rattle.guest_turns.specs.KernelCalls.KernelModel.Ranges.{most_steps};
+ghost use Rattle.guest_turns.specs.KernelCalls.KernelModel.Kernel.{Kernel};
+ghost use Rattle.guest_turns.specs.KernelCalls.KernelModel.ValidKernel.{IsFullMachine};
 ghost use Rattle.kernel_steps.specs.Parts.{IsTaken};
 ghost use Rattle.kernel_steps.specs.Step.{step};
 

@@ -1,12 +1,12 @@
 // What a turn leaves.
 ghost use Rattle.std.specs.Prelude.{◌≡◌, None, true};
 ghost use Rattle.ram_disc.specs.Disc.{IsDisc};
-ghost use Rattle.kernel_model.specs.Kernel.{Kernel};
-ghost use Rattle.kernel_model.specs.Task.{is_guest_id};
-ghost use Rattle.kernel_model.specs.ValidKernel.{IsFullMachine};
-ghost use Rattle.kernel_model.specs.ValidLists.{AreValid};
-ghost use Rattle.call_answers.specs.Callers.{HasCaller};
-ghost use Rattle.kernel_dispatch.specs.Dispatch.{CanDispatch};
+ghost use Rattle.guest_turns.specs.KernelCalls.KernelModel.Kernel.{Kernel};
+ghost use Rattle.guest_turns.specs.KernelCalls.KernelModel.Task.{is_guest_id};
+ghost use Rattle.guest_turns.specs.KernelCalls.KernelModel.ValidKernel.{IsFullMachine};
+ghost use Rattle.guest_turns.specs.KernelCalls.KernelModel.ValidLists.{AreValid};
+ghost use Rattle.guest_turns.specs.KernelCalls.CallAnswers.Callers.{HasCaller};
+ghost use Rattle.guest_turns.specs.KernelCalls.KernelDispatch.Dispatch.{CanDispatch};
 ghost use Rattle.guest_turns.specs.GuestTurn.{RunsAlone, numbers_of};
 ghost use Rattle.kernel_steps.specs.Parts.{CanTurn, HasSameKeys, IsSameMachine, RulesStand, RunsFirst};
 ghost use Rattle.kernel_steps.specs.Step.{quietly, turn};

@@ -2,9 +2,9 @@
 use Rattle.std.proofs.Common.{◌≡◌, ℕ, ◌<◌, List, [], ◌∷◌, ◌++◌, cond, eqb, ◌||◌, Bool, true, false, refl, sym, subst, arith}
 use Rattle.std.specs.List.{AllByRecursion, list_any}
 use Rattle.std.proofs.lemmas.Bool.Decides.{nat_tests}
-use Rattle.linked_list.specs.Count.{times}
+use Rattle.word_store.specs.Count.{times}
 use Rattle.linked_list.specs.Places.{has, insert_after, without}
-use Rattle.linked_list.proofs.Counts.{hit-same}
+use Rattle.word_store.proofs.Counts.{hit-same}
 use Rattle.linked_list.proofs.Members.{has-here, has-there}
 
 -- what holds of each member holds of one

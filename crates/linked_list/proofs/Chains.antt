@@ -4,10 +4,10 @@ use Rattle.std.specs.List.{AllByRecursion, IsDistinct, list_any}
 use Rattle.std.proofs.lemmas.Bool.{cases_eq}
 use Rattle.std.proofs.lemmas.Bool.Decides.{nat_tests}
 use Rattle.std.proofs.lemmas.Map.Steps.{length-le_from_distinct_below}
-use Rattle.linked_list.specs.Count.{IsApart, hit, node_words, times, words_of}
+use Rattle.word_store.specs.Count.{IsApart, hit, node_words, times, words_of}
 use Rattle.linked_list.specs.Chain.{IsChain, cells, last_cell, links_from, list_at}
 use Rattle.linked_list.specs.Linked.{IsLinked, IsNode}
-use Rattle.linked_list.proofs.Counts.{hit-other, hit-same, times-within, times-words_more}
+use Rattle.word_store.proofs.Counts.{hit-other, hit-same, times-within, times-words_more}
 
 -- a chain stands where its cells are as they were
 pub IsChain-same : (s t : List ℕ) (link : ℕ → ℕ) (at : ℕ) (ps : List ℕ) → IsChain s link at ps

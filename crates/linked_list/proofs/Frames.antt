@@ -1,10 +1,10 @@
 -- A list stands on where the words that hold its links are as they were.
 use Rattle.std.proofs.Common.{◌≡◌, ◌≢◌, ℕ, ◌+◌, ◌<◌, ◌≤◌, List, [], ◌∷◌, ◌++◌, length, get_or, set, subst, arith, get_or-set_other, length-set}
 use Rattle.std.specs.List.{AllByRecursion}
-use Rattle.linked_list.specs.Count.{node_words, times, words_of}
+use Rattle.word_store.specs.Count.{node_words, times, words_of}
 use Rattle.linked_list.specs.Chain.{cells, list_at}
 use Rattle.linked_list.specs.Linked.{HasList, IsLinked, IsNode, IsListAt}
-use Rattle.linked_list.proofs.Counts.{hit-other, times-words_more}
+use Rattle.word_store.proofs.Counts.{hit-other, times-words_more}
 use Rattle.linked_list.proofs.Chains.{IsChain-same, nodes-same, times-cells, times-link}
 use Rattle.linked_list.proofs.Lists.{list_at-linked}
 

@@ -1,11 +1,11 @@
 -- A node is linked in.
 use Rattle.std.proofs.Common.{◌≡◌, ◌≢◌, ℕ, ◌<◌, List, [], ◌∷◌, ◌++◌, length, get_or, set, refl, sym, ◌∙◌, subst, arith, get_or-set_other, get_or-set_same, length-set}
-use Rattle.linked_list.specs.Count.{IsApart, node_words, times}
+use Rattle.word_store.specs.Count.{IsApart, node_words, times}
 use Rattle.linked_list.specs.Chain.{IsChain, cells, last_cell}
 use Rattle.linked_list.specs.Linked.{IsFresh, IsLinked, IsNode}
 use Rattle.linked_list.specs.Places.{linked_in}
 use Rattle.linked_list.specs.Changed.{InsertedAt}
-use Rattle.linked_list.proofs.Counts.{hit-same, times-words_more, times-words_of}
+use Rattle.word_store.proofs.Counts.{hit-same, times-words_more, times-words_of}
 use Rattle.linked_list.proofs.Chains.{IsChain-same, cells-apart, last_cell-inside, nodes-same, times-cells, times-link}
 use Rattle.linked_list.proofs.AllMembers.{all-append, all-front, all-back}
 

@@ -1,5 +1,4 @@
 pub mod Chains
-pub mod Counts
 pub mod Frames
 pub mod Insertion
 pub mod Lists
@@ -10,3 +9,4 @@ pub mod Places
 pub mod Removal
 pub mod UnlinkAnswer
 pub mod Walks
+pub mod Shown

@@ -1,6 +1,6 @@
 -- The list of a head, as the store alone gives it, after a node was linked in or out.
 use Rattle.std.proofs.Common.{◌≡◌, ℕ, List, [], ◌∷◌, ◌++◌, Bool, true, sym, subst, append-nil}
-use Rattle.linked_list.specs.Count.{node_words, times}
+use Rattle.word_store.specs.Count.{node_words, times}
 use Rattle.linked_list.specs.Chain.{last_cell, list_at}
 use Rattle.linked_list.specs.Linked.{IsListAt, HasList, IsFresh, IsLinked, IsNode}
 use Rattle.linked_list.specs.Places.{cell_after, cell_before, has, insert_after, linked_in, linked_out, without}

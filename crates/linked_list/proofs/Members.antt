@@ -3,9 +3,9 @@ use Rattle.std.proofs.Common.{◌≡◌, ◌≢◌, ℕ, ◌+◌, ◌<◌, ◌�
 use Rattle.std.proofs.lemmas.Bool.{cases_eq, false≢true}
 use Rattle.std.proofs.lemmas.Bool.Decides.{nat_tests}
 use Rattle.linked_list.specs.Chain.{cells}
-use Rattle.linked_list.specs.Count.{IsApart, hit, node_words, times, words_of}
+use Rattle.word_store.specs.Count.{IsApart, hit, node_words, times, words_of}
 use Rattle.linked_list.specs.Places.{cell_before, has, without}
-use Rattle.linked_list.proofs.Counts.{hit-other, hit-same, times-words_more}
+use Rattle.word_store.proofs.Counts.{hit-other, hit-same, times-words_more}
 
 -- a member at the front, and behind it
 pub has-here : (k : ℕ) (ks : List ℕ) → has k (k ∷ ks) ≡ true

@@ -1,12 +1,12 @@
 -- A node is linked out.
 use Rattle.std.proofs.Common.{◌≡◌, ◌≢◌, ℕ, ◌+◌, ◌<◌, ◌≤◌, List, [], ◌∷◌, ◌++◌, get_or, set, refl, ◌∙◌, subst, arith, get_or-set_other, get_or-set_same, length-set}
 use Rattle.std.specs.List.{AllByRecursion}
-use Rattle.linked_list.specs.Count.{IsApart, node_words, times, words_of}
+use Rattle.word_store.specs.Count.{IsApart, node_words, times, words_of}
 use Rattle.linked_list.specs.Chain.{IsChain, cells, last_cell}
 use Rattle.linked_list.specs.Linked.{IsLinked, IsNode}
 use Rattle.linked_list.specs.Places.{linked_out}
 use Rattle.linked_list.specs.Changed.{RemovedAt}
-use Rattle.linked_list.proofs.Counts.{hit-same, times-words_more, times-words_of}
+use Rattle.word_store.proofs.Counts.{hit-same, times-words_more, times-words_of}
 use Rattle.linked_list.proofs.Chains.{IsChain-same, cells-apart, last_cell-inside, nodes-same, times-cells}
 use Rattle.linked_list.proofs.Insertion.{front_cell-differs, times-front_cell}
 use Rattle.linked_list.proofs.AllMembers.{all-back, all-front, all-append}

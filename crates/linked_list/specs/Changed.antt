@@ -1,6 +1,6 @@
 -- What a store has become where one node was linked in, or out: only its own words and the cell before it have changed.
 use Rattle.std.specs.Prelude.{◌≡◌, ◌≢◌, ℕ, List, length, slice_index}
-use Rattle.linked_list.specs.Count.{node_words, times}
+use Rattle.word_store.specs.Count.{node_words, times}
 
 -- p stands behind the cell, and leads where the cell led
 pub record InsertedAt (s t : List ℕ) (link size : ℕ → ℕ) (cell p : ℕ) : Type 0 where

@@ -1,7 +1,7 @@
 -- A linked list in a store: nodes of some words each, which lie in the store and apart from one another and from the head.
 use Rattle.std.specs.Prelude.{◌≡◌, ℕ, ◌+◌, ◌<◌, ◌≤◌, List, ◌∷◌, length}
 use Rattle.std.specs.List.{AllByRecursion}
-use Rattle.linked_list.specs.Count.{IsApart, node_words, times, words_of}
+use Rattle.word_store.specs.Count.{IsApart, node_words, times, words_of}
 use Rattle.linked_list.specs.Chain.{IsChain, list_at}
 
 -- a node's words lie in the store, its link among them, and it is not at 0

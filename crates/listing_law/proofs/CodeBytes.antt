@@ -7,7 +7,7 @@ use Rattle.std.proofs.lemmas.Nat.{from_le_bytes-to_le_bytes_4}
 use Rattle.word_store.specs.Arithmetic.{add}
 use Rattle.word_store.specs.Bytes.{byte_at, byte_of}
 use Rattle.word_store.proofs.ByteOf.{byte_of_by_shift}
-use Rattle.cint_decode.specs.BytesAt.{StandsAt}
+use Rattle.cint_exec.specs.CintDecode.BytesAt.{StandsAt}
 use Rattle.cint_asm.specs.HunkWords.{words_of}
 
 -- so many bytes of the code from an offset on

@@ -3,7 +3,7 @@ use Rattle.std.proofs.Common.{◌≡◌, ◌≢◌, ◌∙◌, ℕ, suc, ◌+◌
 use Rattle.std.specs.Prelude.{filter}
 use Rattle.std.specs.List.{AllByRecursion, join_with_byte, position_or_len, slice_split}
 use Rattle.std.proofs.lemmas.Bool.Decides.{nat_tests}
-use Rattle.text_reader.proofs.PlainLines.{IsPlain}
+use Rattle.hunk_text.proofs.Shown.TextReader.PlainLines.{IsPlain}
 use Rattle.cint_asm.specs.Parts.{parts_of, without_comment}
 
 -- a byte that ends neither a part nor a line, and begins no comment

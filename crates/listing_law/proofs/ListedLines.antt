@@ -6,12 +6,12 @@ use Rattle.std.proofs.lemmas.Bool.Decides.{nat_tests}
 use Rattle.tp_io.specs.Pieces.{joined}
 use Rattle.word_store.specs.Bytes.{byte_at}
 use Rattle.hunk_text.specs.declared.modules.Hunk.{Hunk}
-use Rattle.cint_table.specs.Table.{Entry, entry}
-use Rattle.cint_table.specs.declared.forms.Form.{Form}
-use Rattle.cint_table.specs.declared.forms.Form.TheVariants.{Plain, Byte, BytePlus, Half, Word, Relative, Indirect, Switch}
-use Rattle.cint_decode.specs.Decoded.{decoded}
-use Rattle.cint_decode.specs.declared.instructions.DecodeEnd.{DecodeEnd}
-use Rattle.cint_decode.specs.declared.instructions.Instr.{Instr}
+use Rattle.cint_exec.specs.CintTable.Table.{Entry, entry}
+use Rattle.cint_exec.specs.CintTable.declared.forms.Form.{Form}
+use Rattle.cint_exec.specs.CintTable.declared.forms.Form.TheVariants.{Plain, Byte, BytePlus, Half, Word, Relative, Indirect, Switch}
+use Rattle.cint_exec.specs.CintDecode.Decoded.{decoded}
+use Rattle.cint_exec.specs.CintDecode.declared.instructions.DecodeEnd.{DecodeEnd}
+use Rattle.cint_exec.specs.CintDecode.declared.instructions.Instr.{Instr}
 use Rattle.cint_asm.specs.Places.{first_offset}
 use Rattle.cint_disasm.specs.Cover.{Follow, ListedLine, hunk_lines, line_at, lines_between}
 use Rattle.cint_disasm.specs.Lines.{instruction_line}

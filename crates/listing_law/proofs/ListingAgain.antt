@@ -4,8 +4,8 @@ use Rattle.std.specs.List.{AllByRecursion}
 use Rattle.word_store.specs.Bytes.{byte_at}
 use Rattle.hunk_text.specs.Canonical.{printed}
 use Rattle.hunk_text.specs.declared.modules.Hunk.{Hunk}
-use Rattle.text_reader.specs.Lines.{lines_of}
-use Rattle.text_reader.proofs.PlainLines.{lines_of_text_of_lines}
+use Rattle.hunk_text.specs.TextReader.Lines.{lines_of}
+use Rattle.hunk_text.proofs.Shown.TextReader.PlainLines.{lines_of_text_of_lines}
 use Rattle.cint_asm.specs.Assembly.{assembled, module_of}
 use Rattle.cint_asm.specs.AssemblyForm.{Assembles, code_of_pieces}
 use Rattle.cint_asm.specs.Encoding.{Code}

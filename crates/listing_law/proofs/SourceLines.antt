@@ -5,15 +5,15 @@ use Rattle.std.specs.List.{AllByRecursion, join_with_byte}
 use Rattle.std.proofs.lemmas.Bool.{cases_lt}
 use Rattle.std.proofs.lemmas.Bool.Decides.{nat_tests}
 use Rattle.word_store.specs.Arithmetic.{add}
-use Rattle.cint_table.specs.Operand.{HasRoom, low_bytes, operand_bytes, operand_size}
-use Rattle.cint_table.specs.Table.{Entry, entry}
-use Rattle.cint_table.specs.declared.forms.Form.{Form}
-use Rattle.cint_table.specs.declared.forms.Form.TheVariants.{Plain, Byte, BytePlus, Half, Word, Relative, Indirect, Switch}
-use Rattle.cint_decode.specs.Decoded.{decoded}
-use Rattle.cint_decode.specs.Offset.{byte_offset}
-use Rattle.cint_decode.specs.declared.instructions.DecodeEnd.{DecodeEnd}
-use Rattle.cint_decode.specs.declared.instructions.Instr.{Instr}
-use Rattle.cint_decode.proofs.Inversion.{number_back, parts_of, relative_back}
+use Rattle.cint_exec.specs.CintTable.Operand.{HasRoom, low_bytes, operand_bytes, operand_size}
+use Rattle.cint_exec.specs.CintTable.Table.{Entry, entry}
+use Rattle.cint_exec.specs.CintTable.declared.forms.Form.{Form}
+use Rattle.cint_exec.specs.CintTable.declared.forms.Form.TheVariants.{Plain, Byte, BytePlus, Half, Word, Relative, Indirect, Switch}
+use Rattle.cint_exec.specs.CintDecode.Decoded.{decoded}
+use Rattle.cint_exec.specs.CintDecode.Offset.{byte_offset}
+use Rattle.cint_exec.specs.CintDecode.declared.instructions.DecodeEnd.{DecodeEnd}
+use Rattle.cint_exec.specs.CintDecode.declared.instructions.Instr.{Instr}
+use Rattle.cint_exec.proofs.Shown.CintDecode.Inversion.{number_back, parts_of, relative_back}
 use Rattle.cint_asm.specs.InstructionOperands.{operands_with}
 use Rattle.cint_asm.specs.Labels.{Table}
 use Rattle.cint_asm.specs.LineText.{before_colon, line_of, instruction, line_of_parts, statement_named, statement_of}

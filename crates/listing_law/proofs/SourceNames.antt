@@ -10,10 +10,10 @@ use Rattle.std.proofs.lemmas.Bool.{and_parts}
 use Rattle.std.proofs.lemmas.Bool.Decides.{nat_tests}
 use Rattle.std.proofs.lemmas.Fmt.{decimal_is_IsNumeral, length-decimal-le}
 use Rattle.std.proofs.lemmas.Str.Parse.{digit_from_value}
-use Rattle.text_reader.specs.Numbers.{number_of as digits_number_of}
-use Rattle.text_reader.proofs.NumberLemmas.{decimal_number, number_in-again}
-use Rattle.cint_table.specs.Table.{Entry, entry, column0, column1, column2, column3, column4, column5, column6, column7}
-use Rattle.cint_table.proofs.Entries.{passes_at, passes_below}
+use Rattle.hunk_text.specs.TextReader.Numbers.{number_of as digits_number_of}
+use Rattle.hunk_text.proofs.Shown.TextReader.NumberLemmas.{decimal_number, number_in-again}
+use Rattle.cint_exec.specs.CintTable.Table.{Entry, entry, column0, column1, column2, column3, column4, column5, column6, column7}
+use Rattle.cint_exec.proofs.Shown.CintTable.Entries.{passes_at, passes_below}
 use Rattle.cint_asm.specs.LineText.{before_colon}
 use Rattle.cint_asm.specs.Names.{label_of}
 use Rattle.cint_asm.specs.Numbers.{number_of}

@@ -7,7 +7,7 @@ use Rattle.std.specs.Str.{bytes_eq}
 use Rattle.std.proofs.lemmas.Bool.Decides.{nat_tests}
 use Rattle.std.proofs.lemmas.List.Sums.{sum_by-cons}
 use Rattle.std.proofs.lemmas.Slice.Eq.{bytes_eq-Decides}
-use Rattle.text_reader.proofs.PlainLines.{IsPlain}
+use Rattle.hunk_text.proofs.Shown.TextReader.PlainLines.{IsPlain}
 use Rattle.cint_asm.specs.AssemblyForm.{AreGiven}
 use Rattle.cint_asm.specs.Labels.{Table, named_place}
 use Rattle.cint_asm.specs.Pieces.{piece_of, plain}

@@ -1,13 +1,13 @@
 -- The listing of code as a text of assembly: labels stand in the place of the addresses.
 use Rattle.std.specs.Prelude.{ℕ, Bool, if◌then◌else◌, List, [], ◌∷◌, ◌++◌, Option, Some, Result, Ok, codes, decimal, map, unwrap_or}
 use Rattle.std.specs.List.{join_with_byte}
-use Rattle.text_reader.specs.Lines.{text_of_lines}
-use Rattle.cint_table.specs.Table.{Entry, entry}
-use Rattle.cint_table.specs.declared.forms.Form.{Form}
-use Rattle.cint_table.specs.declared.forms.Form.TheVariants.{Plain, Byte, BytePlus, Half, Word, Relative, Indirect, Switch}
-use Rattle.cint_decode.specs.Decoded.{decoded}
-use Rattle.cint_decode.specs.declared.instructions.DecodeEnd.{DecodeEnd}
-use Rattle.cint_decode.specs.declared.instructions.Instr.{Instr}
+use Rattle.hunk_text.specs.TextReader.Lines.{text_of_lines}
+use Rattle.cint_exec.specs.CintTable.Table.{Entry, entry}
+use Rattle.cint_exec.specs.CintTable.declared.forms.Form.{Form}
+use Rattle.cint_exec.specs.CintTable.declared.forms.Form.TheVariants.{Plain, Byte, BytePlus, Half, Word, Relative, Indirect, Switch}
+use Rattle.cint_exec.specs.CintDecode.Decoded.{decoded}
+use Rattle.cint_exec.specs.CintDecode.declared.instructions.DecodeEnd.{DecodeEnd}
+use Rattle.cint_exec.specs.CintDecode.declared.instructions.Instr.{Instr}
 use Rattle.cint_disasm.specs.Cover.{ListedLine}
 
 -- the label of a byte offset

@@ -37,3 +37,7 @@ pub fn listed_law()
         (listed code a).text
         ≡ joined (decimal a ∷ codes " " ∷ source_line false code a ∷ codes "\n" ∷ []) }
 {}
+
+// Shown to the crates above.
+pub use cint_asm::{AsmEnd, assemble};
+pub use cint_disasm::disassemble_module;

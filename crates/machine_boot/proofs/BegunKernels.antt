@@ -2,28 +2,29 @@
 use Rattle.std.proofs.Common.{◌≡◌, ℕ, ◌≤◌, ◌⊎◌, List, [], ◌∷◌, Bool, true, false, cond, None, Result, Ok, Err, inl, inr, refl, sym, ap, subst, arith}
 use Rattle.std.specs.List.{AllByRecursion}
 use Rattle.word_store.specs.declared.registers.Regs.{Regs}
-use Rattle.packet_queue.specs.QueueWords.{QueuedPacket}
+use Rattle.kernel_machine.specs.KernelCalls.PacketQueue.QueueWords.{QueuedPacket}
 use Rattle.ram_disc.specs.Disc.{Disc, empty_disc}
 use Rattle.session_text.specs.Canonical.{IsLawfulForm}
 use Rattle.session_text.specs.declared.sessions.Session.{Session}
 use Rattle.session_text.specs.declared.sessions.SessionLine.{SessionLine}
-use Rattle.kernel_model.specs.Image.{image}
-use Rattle.kernel_model.specs.Kernel.{Kernel}
-use Rattle.kernel_model.specs.Pipes.{no_pipes}
-use Rattle.kernel_model.specs.Task.{is_guest_id}
-use Rattle.kernel_model.specs.ValidKernel.{no_command, no_line}
-use Rattle.kernel_model.specs.ValidTasks.{no_regs, runs}
-use Rattle.kernel_model.proofs.EachMember.{all-each}
-use Rattle.kernel_dispatch.specs.Dispatch.{CanDispatch}
-use Rattle.guest_turns.specs.GuestTurn.{Numbers}
-use Rattle.kernel_boot.specs.BootFiles.{load_files}
-use Rattle.kernel_boot.specs.BootTasks.{AreBootLines, Standing, standing, start_tasks}
-use Rattle.kernel_boot.specs.declared.refusals.BootRefusal.{BootRefusal}
-use Rattle.kernel_boot.specs.EmptyKernel.{empty_lists}
-use Rattle.kernel_boot.specs.ResidentKernel.{packet_from, resident_lists, resident_tasks, waiting_resident}
-use Rattle.kernel_boot.proofs.LawfulLines.{boot-lines}
-use Rattle.text_reader.specs.Steps.{◌>>=◌}
-use Rattle.kernel_steps.specs.ResidentSteps.{with_disc}
+use Rattle.kernel_machine.specs.KernelCalls.KernelModel.Image.{image}
+use Rattle.kernel_machine.specs.KernelCalls.KernelModel.Kernel.{Kernel}
+use Rattle.kernel_machine.specs.KernelCalls.KernelModel.Pipes.{no_pipes}
+use Rattle.kernel_machine.specs.KernelCalls.KernelModel.Task.{is_guest_id}
+use Rattle.kernel_machine.specs.KernelCalls.KernelModel.ValidKernel.{no_command, no_line}
+use Rattle.kernel_machine.specs.KernelCalls.KernelModel.ValidTasks.{no_regs, runs}
+use Rattle.kernel_machine.proofs.Shown.KernelCalls.KernelModel.EachMember.{all-each}
+use Rattle.kernel_machine.specs.KernelCalls.KernelDispatch.Dispatch.{CanDispatch}
+use Rattle.kernel_machine.specs.GuestTurns.GuestTurn.{Numbers}
+use Rattle.kernel_machine.specs.KernelBoot.BootFiles.{load_files}
+use Rattle.kernel_machine.specs.KernelBoot.BootTasks.{AreBootLines, start_tasks}
+use Rattle.kernel_machine.specs.KernelCalls.KernelModel.Standing.{Standing, standing}
+use Rattle.kernel_machine.specs.KernelBoot.declared.refusals.BootRefusal.{BootRefusal}
+use Rattle.kernel_machine.specs.KernelBoot.EmptyKernel.{empty_lists}
+use Rattle.kernel_machine.specs.KernelBoot.ResidentKernel.{packet_from, resident_lists, resident_tasks, waiting_resident}
+use Rattle.kernel_machine.proofs.Shown.KernelBoot.LawfulLines.{boot-lines}
+use Rattle.hunk_text.specs.TextReader.Steps.{◌>>=◌}
+use Rattle.kernel_machine.specs.KernelSteps.ResidentSteps.{with_disc}
 use Rattle.machine_boot.specs.Boot.{HasKernel, boot, first_kernel, first_lists, started, with_files, with_lines, with_standing, with_tasks}
 use Rattle.machine_boot.specs.Booted.{CanLoad, CanStart, IsFresh}
 use Rattle.machine_boot.proofs.LoadedDiscs.{IsShutDisc, files-shut, no-stream}

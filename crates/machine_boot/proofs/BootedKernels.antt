@@ -4,35 +4,35 @@ use Rattle.std.specs.Prelude.{IfSome, is_some}
 use Rattle.std.specs.List.{AllByRecursion}
 use Rattle.std.proofs.Math.Nat.{zero-div}
 use Rattle.std.proofs.lemmas.Bool.{leb-true, ne_eqb}
-use Rattle.packet_queue.specs.declared.events.KernelEvent.TheVariants.{Runs}
-use Rattle.packet_queue.specs.QueueWords.{QueuedPacket}
+use Rattle.kernel_machine.specs.KernelCalls.PacketQueue.declared.events.KernelEvent.TheVariants.{Runs}
+use Rattle.kernel_machine.specs.KernelCalls.PacketQueue.QueueWords.{QueuedPacket}
 use Rattle.ram_disc.specs.Disc.{most_streams, shell_stream}
 use Rattle.session_text.specs.Canonical.{IsLawfulKey, IsLawfulMachine}
-use Rattle.session_text.specs.Ranges.{most_steps}
+use Rattle.kernel_machine.specs.KernelCalls.KernelModel.Ranges.{most_steps}
 use Rattle.session_text.specs.declared.sessions.Session.{Session}
-use Rattle.kernel_model.specs.Between.{AreShut, FaultsStand, IsAwaited, ResidentsStand, is_ready, is_typing}
-use Rattle.kernel_model.specs.Image.{HasPlainWords, image, settled}
-use Rattle.kernel_model.specs.Kernel.{Kernel, Pipe}
-use Rattle.kernel_model.specs.Lists.{Lists}
-use Rattle.kernel_model.specs.Pipes.{PipesStand, most_pipes, pipe_at}
-use Rattle.kernel_model.specs.Task.{Task, is_guest_id}
-use Rattle.kernel_model.specs.ValidKernel.{HasSteps, IsFullMachine}
-use Rattle.kernel_model.specs.ValidLists.{AreValid}
-use Rattle.kernel_model.specs.ValidTasks.{dead, runs, waits}
-use Rattle.kernel_model.specs.Versions.{highest_id_of}
-use Rattle.kernel_model.proofs.EachMember.{all-each}
-use Rattle.kernel_dispatch.specs.Dispatch.{Dispatched, dispatched, first_ready_task, packets_taken, suspended, taken_event, takes_packet, unchanged, with_nobody, with_resumed, with_suspended}
-use Rattle.guest_turns.specs.GuestTurn.{Numbers, numbers_of}
-use Rattle.kernel_steps.specs.Parts.{RulesStand, RunsFirst}
-use Rattle.kernel_steps.specs.Step.{boot_events, dispatch, first_events, run_events}
-use Rattle.kernel_steps.specs.Stepped.{Stepped}
-use Rattle.kernel_steps.proofs.DispatchKept.{GoesOn, dispatch-numbers, runs-first, three-ways}
-use Rattle.kernel_steps.proofs.FaultRule.{rule-stands}
-use Rattle.kernel_steps.proofs.StepKept.{dispatch-residents, dispatch-rules}
-use Rattle.kernel_steps.proofs.TurnRules.{rules-kept}
-use Rattle.fault_reporter.proofs.FaultsKept.{Tells}
-use Rattle.kernel_boot.specs.declared.refusals.BootRefusal.{BootRefusal}
-use Rattle.text_reader.specs.Steps.{◌>>=◌}
+use Rattle.kernel_machine.specs.KernelCalls.KernelModel.Between.{AreShut, FaultsStand, IsAwaited, ResidentsStand, is_ready, is_typing}
+use Rattle.kernel_machine.specs.KernelCalls.KernelModel.Image.{HasPlainWords, image, settled}
+use Rattle.kernel_machine.specs.KernelCalls.KernelModel.Kernel.{Kernel, Pipe}
+use Rattle.kernel_machine.specs.KernelCalls.KernelModel.Lists.{Lists}
+use Rattle.kernel_machine.specs.KernelCalls.KernelModel.Pipes.{PipesStand, most_pipes, pipe_at}
+use Rattle.kernel_machine.specs.KernelCalls.KernelModel.Task.{Task, is_guest_id}
+use Rattle.kernel_machine.specs.KernelCalls.KernelModel.ValidKernel.{HasSteps, IsFullMachine}
+use Rattle.kernel_machine.specs.KernelCalls.KernelModel.ValidLists.{AreValid}
+use Rattle.kernel_machine.specs.KernelCalls.KernelModel.ValidTasks.{dead, runs, waits}
+use Rattle.kernel_machine.specs.KernelCalls.KernelModel.Versions.{highest_id_of}
+use Rattle.kernel_machine.proofs.Shown.KernelCalls.KernelModel.EachMember.{all-each}
+use Rattle.kernel_machine.specs.KernelCalls.KernelDispatch.Dispatch.{Dispatched, dispatched, first_ready_task, packets_taken, suspended, taken_event, takes_packet, unchanged, with_nobody, with_resumed, with_suspended}
+use Rattle.kernel_machine.specs.GuestTurns.GuestTurn.{Numbers, numbers_of}
+use Rattle.kernel_machine.specs.KernelSteps.Parts.{RulesStand, RunsFirst}
+use Rattle.kernel_machine.specs.KernelSteps.Step.{boot_events, dispatch, first_events, run_events}
+use Rattle.kernel_machine.specs.KernelSteps.Stepped.{Stepped}
+use Rattle.kernel_machine.proofs.Shown.KernelSteps.DispatchKept.{GoesOn, dispatch-numbers, runs-first, three-ways}
+use Rattle.kernel_machine.proofs.Shown.KernelSteps.FaultRule.{rule-stands}
+use Rattle.kernel_machine.proofs.Shown.KernelSteps.StepKept.{dispatch-residents, dispatch-rules}
+use Rattle.kernel_machine.proofs.Shown.KernelSteps.TurnRules.{rules-kept}
+use Rattle.kernel_machine.proofs.Shown.KernelResidents.FaultReporter.FaultsKept.{Tells}
+use Rattle.kernel_machine.specs.KernelBoot.declared.refusals.BootRefusal.{BootRefusal}
+use Rattle.hunk_text.specs.TextReader.Steps.{◌>>=◌}
 use Rattle.machine_boot.specs.Boot.{HasKernel, boot, first_kernel, started, with_lines}
 use Rattle.machine_boot.proofs.BegunKernels.{HasBegun, begun-dispatches, first-begun, first_numbers, lines-begun}
 use Rattle.machine_boot.proofs.LoadedDiscs.{no-stream, none-at, none-shut}

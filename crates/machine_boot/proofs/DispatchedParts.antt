@@ -1,18 +1,18 @@
 -- The parts of a machine once the first ready task runs.
 use Rattle.std.proofs.Common.{◌≡◌, ℕ, Bool, List, length, Option, sym, ap, ◌∙◌, subst, arith}
 use Rattle.word_store.specs.declared.registers.Regs.{Regs}
-use Rattle.packet_queue.specs.declared.events.KernelEvent.{KernelEvent}
-use Rattle.kernel_model.specs.Image.{HasPlainWords, IsImage, image, settled}
-use Rattle.kernel_model.specs.Kernel.{Kernel}
-use Rattle.kernel_model.proofs.ImageWords.{image-list}
-use Rattle.kernel_model.proofs.SettledWords.{settled-image, settled-plain}
-use Rattle.kernel_dispatch.specs.Dispatch.{Dispatched, dispatched}
-use Rattle.kernel_dispatch.specs.Turn.{IsDispatched}
-use Rattle.word_kinds.specs.ByteMap.{MarksAll}
-use Rattle.kernel_steps.specs.Step.{dispatch}
-use Rattle.kernel_steps.proofs.DispatchKept.{dispatch-numbers}
-use Rattle.machine_parts.specs.declared.parts.Parts.{Parts}
-use Rattle.machine_parts.specs.Stands.{Stands}
+use Rattle.kernel_machine.specs.KernelCalls.PacketQueue.declared.events.KernelEvent.{KernelEvent}
+use Rattle.kernel_machine.specs.KernelCalls.KernelModel.Image.{HasPlainWords, IsImage, image, settled}
+use Rattle.kernel_machine.specs.KernelCalls.KernelModel.Kernel.{Kernel}
+use Rattle.kernel_machine.proofs.Shown.KernelCalls.KernelModel.ImageWords.{image-list}
+use Rattle.kernel_machine.proofs.Shown.KernelCalls.KernelModel.SettledWords.{settled-image, settled-plain}
+use Rattle.kernel_machine.specs.KernelCalls.KernelDispatch.Dispatch.{Dispatched, dispatched}
+use Rattle.kernel_machine.specs.KernelCalls.KernelDispatch.Turn.{IsDispatched}
+use Rattle.kernel_machine.specs.KernelCalls.WordKinds.ByteMap.{MarksAll}
+use Rattle.kernel_machine.specs.KernelSteps.Step.{dispatch}
+use Rattle.kernel_machine.proofs.Shown.KernelSteps.DispatchKept.{dispatch-numbers}
+use Rattle.kernel_machine.specs.declared.parts.Parts.{Parts}
+use Rattle.kernel_machine.specs.Stands.{Stands}
 
 module _ (p : Parts) (k : Kernel) (h : Stands p k) (t : List ℕ) (regs : Regs) (kinds : List Bool) (before now : Option (List KernelEvent)) (f g : Bool)
     (room : length kinds ≡ length p.kinds) (left : IsDispatched p.store t k.lists p.regs regs (MarksAll kinds) before now f g) where

@@ -3,27 +3,27 @@ use Rattle.std.proofs.Common.{◌≡◌, ℕ, List, [], length, map, get_or, rep
 use Rattle.std.specs.Prelude.{IfOk, MatchResult, is_ok, is_some}
 use Rattle.std.specs.List.{range_with_len}
 use Rattle.std.proofs.lemmas.Bool.{cases_lt}
-use Rattle.owned_words.specs.Owned.{owners, word_in}
-use Rattle.owned_words.proofs.OwnedWords.{word_in-holds}
+use Rattle.kernel_machine.specs.KernelCalls.OwnedWords.Owned.{owners, word_in}
+use Rattle.kernel_machine.proofs.Shown.KernelCalls.OwnedWords.OwnedWords.{word_in-holds}
 use Rattle.tp_io.specs.declared.WantMemory.{WantMemory}
 use Rattle.bare_machine.specs.declared.boot.BootEnd.{BootEnd}
 use Rattle.ram_disc.specs.Disc.{empty_disc}
 use Rattle.session_text.specs.declared.sessions.Session.{Session}
-use Rattle.kernel_model.specs.ChangedStore.{IsChanged}
-use Rattle.kernel_model.specs.HoldsLists.{HoldsLists}
-use Rattle.kernel_model.specs.Image.{plain_words}
-use Rattle.kernel_model.specs.Lists.{Lists}
-use Rattle.kernel_model.specs.Owned.{owned}
-use Rattle.kernel_model.specs.Pipes.{no_pipes}
-use Rattle.kernel_model.specs.ValidKernel.{no_command, no_line}
-use Rattle.kernel_model.specs.ValidTasks.{no_regs}
-use Rattle.word_kinds.specs.ByteMap.{MarksAll}
-use Rattle.word_kinds.specs.Keeper.{IsStoreOf}
-use Rattle.kernel_boot.specs.EmptyKernel.{empty_lists}
-use Rattle.kernel_boot.specs.ResidentKernel.{resident_lists}
-use Rattle.kernel_steps.proofs.StoredWords.{HasStore, stored}
-use Rattle.machine_parts.specs.declared.parts.Parts.{Parts}
-use Rattle.machine_parts.specs.Stands.{Stands}
+use Rattle.kernel_machine.specs.KernelCalls.KernelModel.ChangedStore.{IsChanged}
+use Rattle.kernel_machine.specs.KernelCalls.KernelModel.HoldsLists.{HoldsLists}
+use Rattle.kernel_machine.specs.KernelCalls.KernelModel.Image.{plain_words}
+use Rattle.kernel_machine.specs.KernelCalls.KernelModel.Lists.{Lists}
+use Rattle.kernel_machine.specs.KernelCalls.KernelModel.Owned.{owned}
+use Rattle.kernel_machine.specs.KernelCalls.KernelModel.Pipes.{no_pipes}
+use Rattle.kernel_machine.specs.KernelCalls.KernelModel.ValidKernel.{no_command, no_line}
+use Rattle.kernel_machine.specs.KernelCalls.KernelModel.ValidTasks.{no_regs}
+use Rattle.kernel_machine.specs.KernelCalls.WordKinds.ByteMap.{MarksAll}
+use Rattle.kernel_machine.specs.KernelCalls.WordKinds.Keeper.{IsStoreOf}
+use Rattle.kernel_machine.specs.KernelBoot.EmptyKernel.{empty_lists}
+use Rattle.kernel_machine.specs.KernelBoot.ResidentKernel.{resident_lists}
+use Rattle.kernel_machine.proofs.Shown.KernelSteps.StoredWords.{HasStore, stored}
+use Rattle.kernel_machine.specs.declared.parts.Parts.{Parts}
+use Rattle.kernel_machine.specs.Stands.{Stands}
 use Rattle.machine_boot.specs.Boot.{first_kernel, first_lists}
 
 -- ---- plain words

@@ -5,3 +5,4 @@ pub mod FirstParts
 pub mod LoadedDiscs
 pub mod LoadedParts
 pub mod ReadyTasks
+pub mod Shown

@@ -3,7 +3,7 @@ use Rattle.std.proofs.Common.{◌≡◌, ℕ, zero, suc, ◌+◌, ◌-◌, ◌<�
 use Rattle.std.specs.List.{AllByRecursion, filter}
 use Rattle.std.proofs.lemmas.Bool.{cases_lt, leb-true, ltb-true, true≢false}
 use Rattle.std.proofs.lemmas.List.{get_or-replicate, get_or_past, length-append, length-replicate}
-use Rattle.linked_list.proofs.AllMembers.{all-append}
+use Rattle.kernel_machine.proofs.Shown.KernelCalls.LinkedList.AllMembers.{all-append}
 use Rattle.ram_disc.specs.Disc.{AreInOrder, Disc, File, IsDisc, Stream, has_file, is_before, most_files, most_sectors, most_streams, sectors_taken, stream_at}
 use Rattle.ram_disc.specs.DiscCalls.{file, has_room, with_bytes, with_file}
 use Rattle.ram_disc.specs.Name.{IsName}
@@ -12,10 +12,10 @@ use Rattle.session_text.specs.Canonical.{IsLawfulForm}
 use Rattle.session_text.specs.declared.sessions.LineForm.{LineForm}
 use Rattle.session_text.specs.declared.sessions.LineForm.TheVariants.{Code, File as FileForm, Task}
 use Rattle.session_text.specs.declared.sessions.SessionLine.{SessionLine}
-use Rattle.session_text.proofs.NameLemmas.{IsName-from_test}
-use Rattle.call_answers.specs.Refusals.{first_refusal}
-use Rattle.kernel_model.specs.Between.{AreShut}
-use Rattle.kernel_boot.specs.BootFiles.{HasNoStreams, at_line, disc_or_code, load_files, load_form, with_new_file}
+use Rattle.ram_disc.proofs.NameLemmas.{IsName-from_test}
+use Rattle.kernel_machine.specs.KernelCalls.CallAnswers.Refusals.{first_refusal}
+use Rattle.kernel_machine.specs.KernelCalls.KernelModel.Between.{AreShut}
+use Rattle.kernel_machine.specs.KernelBoot.BootFiles.{HasNoStreams, at_line, disc_or_code, load_files, load_form, with_new_file}
 
 -- ---- places where nothing stands
 

@@ -2,23 +2,24 @@
 use Rattle.std.proofs.Common.{◌≡◌, ℕ, List, length, Bool, Result, Ok, Err, refl, sym, ap, ◌∙◌}
 use Rattle.ram_disc.specs.Disc.{Disc}
 use Rattle.session_text.specs.declared.sessions.SessionLine.{SessionLine}
-use Rattle.kernel_model.specs.ChangedStore.{HasKeeper}
-use Rattle.kernel_model.specs.Image.{image}
-use Rattle.kernel_model.specs.Kernel.{Kernel}
-use Rattle.kernel_model.specs.Lists.{Lists}
-use Rattle.kernel_model.proofs.ImageWords.{image-list}
-use Rattle.word_kinds.specs.ByteMap.{MarksAll}
-use Rattle.guest_turns.specs.GuestTurn.{numbers_of}
-use Rattle.kernel_boot.specs.BootFiles.{IsNewDisc, load_files}
-use Rattle.kernel_boot.specs.BootTasks.{IsLeft, Standing, standing, start_tasks}
-use Rattle.kernel_boot.specs.declared.refusals.BootRefusal.{BootRefusal}
-use Rattle.text_reader.specs.Steps.{◌>>=◌}
-use Rattle.kernel_steps.specs.ResidentSteps.{with_disc}
-use Rattle.kernel_steps.specs.Stepped.{with_store}
-use Rattle.kernel_steps.proofs.StoredWords.{HasStore, stored}
-use Rattle.machine_parts.specs.declared.parts.Parts.{Parts}
-use Rattle.machine_parts.specs.Stands.{Stands}
-use Rattle.machine_parts.proofs.PartsBeside.{stands-beside}
+use Rattle.kernel_machine.specs.KernelCalls.KernelModel.ChangedStore.{HasKeeper}
+use Rattle.kernel_machine.specs.KernelCalls.KernelModel.Image.{image}
+use Rattle.kernel_machine.specs.KernelCalls.KernelModel.Kernel.{Kernel}
+use Rattle.kernel_machine.specs.KernelCalls.KernelModel.Lists.{Lists}
+use Rattle.kernel_machine.proofs.Shown.KernelCalls.KernelModel.ImageWords.{image-list}
+use Rattle.kernel_machine.specs.KernelCalls.WordKinds.ByteMap.{MarksAll}
+use Rattle.kernel_machine.specs.GuestTurns.GuestTurn.{numbers_of}
+use Rattle.kernel_machine.specs.KernelBoot.BootFiles.{IsNewDisc, load_files}
+use Rattle.kernel_machine.specs.KernelBoot.BootTasks.{IsLeft, start_tasks}
+use Rattle.kernel_machine.specs.KernelCalls.KernelModel.Standing.{Standing, standing}
+use Rattle.kernel_machine.specs.KernelBoot.declared.refusals.BootRefusal.{BootRefusal}
+use Rattle.hunk_text.specs.TextReader.Steps.{◌>>=◌}
+use Rattle.kernel_machine.specs.KernelSteps.ResidentSteps.{with_disc}
+use Rattle.kernel_machine.specs.KernelSteps.Stepped.{with_store}
+use Rattle.kernel_machine.proofs.Shown.KernelSteps.StoredWords.{HasStore, stored}
+use Rattle.kernel_machine.specs.declared.parts.Parts.{Parts}
+use Rattle.kernel_machine.specs.Stands.{Stands}
+use Rattle.kernel_machine.proofs.PartsBeside.{stands-beside}
 use Rattle.machine_boot.specs.Boot.{with_files, with_lines, with_standing, with_tasks}
 use Rattle.machine_boot.specs.Booted.{CanStart, IsReached}
 use Rattle.machine_boot.proofs.ReadyTasks.{IsReady, tasks-ready}

@@ -10,20 +10,21 @@ use Rattle.ram_disc.specs.Disc.{Disc, file_named}
 use Rattle.session_text.specs.declared.sessions.SessionLine.{SessionLine}
 use Rattle.session_text.specs.declared.sessions.LineForm.{LineForm}
 use Rattle.session_text.specs.declared.sessions.LineForm.TheVariants.{Code, File, Task}
-use Rattle.kernel_model.specs.Between.{is_unreported}
-use Rattle.kernel_model.specs.Changes.{change_of, work_of}
-use Rattle.kernel_model.specs.Lists.{Lists, has_task}
-use Rattle.kernel_model.specs.Task.{Task as TaskRecord}
-use Rattle.kernel_model.proofs.AllThings.{all-inserted}
-use Rattle.call_answers.specs.Made.{Made, by_refusal}
-use Rattle.call_answers.specs.Refusals.{first_refusal}
-use Rattle.module_calls.specs.LoadModule.{load_tests}
-use Rattle.task_calls.specs.CreateTask.{create_task, creation_tests, new_task, number_of, with_created}
-use Rattle.guest_turns.specs.GuestTurn.{Numbers, numbers_of}
-use Rattle.kernel_boot.specs.BegunTask.{begun, with_begun}
-use Rattle.kernel_boot.specs.BootFiles.{at_line}
-use Rattle.kernel_boot.specs.BootTasks.{AreBootLines, IsBootForm, Standing, begin_it, create_it, left_with, load_bytes, load_named, load_names, load_text, on_answer, start_form, start_tasks}
-use Rattle.kernel_boot.proofs.StartedTasks.{number-is}
+use Rattle.kernel_machine.specs.KernelCalls.KernelModel.Between.{is_unreported}
+use Rattle.kernel_machine.specs.KernelCalls.KernelModel.Changes.{change_of, work_of}
+use Rattle.kernel_machine.specs.KernelCalls.KernelModel.Lists.{Lists, has_task}
+use Rattle.kernel_machine.specs.KernelCalls.KernelModel.Task.{Task as TaskRecord}
+use Rattle.kernel_machine.proofs.Shown.KernelCalls.KernelModel.AllThings.{all-inserted}
+use Rattle.kernel_machine.specs.KernelCalls.CallAnswers.Made.{Made, by_refusal}
+use Rattle.kernel_machine.specs.KernelCalls.CallAnswers.Refusals.{first_refusal}
+use Rattle.kernel_machine.specs.KernelCalls.ModuleCalls.LoadModule.{load_tests}
+use Rattle.kernel_machine.specs.KernelCalls.TaskCalls.CreateTask.{create_task, creation_tests, new_task, number_of, with_created}
+use Rattle.kernel_machine.specs.GuestTurns.GuestTurn.{Numbers, numbers_of}
+use Rattle.kernel_machine.specs.KernelBoot.BegunTask.{begun, with_begun}
+use Rattle.kernel_machine.specs.KernelBoot.BootFiles.{at_line}
+use Rattle.kernel_machine.specs.KernelBoot.BootTasks.{AreBootLines, IsBootForm, begin_it, create_it, load_bytes, load_named, load_names, load_text, on_answer, start_form, start_tasks}
+use Rattle.kernel_machine.specs.KernelCalls.KernelModel.Standing.{Standing, left_with}
+use Rattle.kernel_machine.proofs.Shown.KernelBoot.StartedTasks.{number-is}
 use Rattle.machine_boot.specs.Booted.{AreFresh, IsFresh}
 
 abbrev pub FreshTasks : Bool → List TaskRecord → Type 0

@@ -1,24 +1,25 @@
 -- What a session puts into a machine with a kernel before its first step.
 use Rattle.std.specs.Prelude.{◌≡◌, false, if◌then◌else◌, None, List, [], Result, Ok, replicate}
 use Rattle.ram_disc.specs.Disc.{empty_disc}
-use Rattle.text_reader.specs.Steps.{◌>>=◌}
+use Rattle.hunk_text.specs.TextReader.Steps.{◌>>=◌}
 use Rattle.session_text.specs.Canonical.{IsLawful}
 use Rattle.session_text.specs.declared.sessions.Session.{Session}
 use Rattle.session_text.specs.declared.sessions.SessionLine.{SessionLine}
-use Rattle.kernel_model.specs.Image.{image, plain_words}
-use Rattle.kernel_model.specs.Kernel.{Kernel}
-use Rattle.kernel_model.specs.Lists.{Lists}
-use Rattle.kernel_model.specs.Pipes.{no_pipes}
-use Rattle.kernel_model.specs.ValidKernel.{no_command, no_line}
-use Rattle.kernel_model.specs.ValidTasks.{no_regs}
-use Rattle.kernel_boot.specs.BootFiles.{load_files}
-use Rattle.kernel_boot.specs.BootTasks.{Standing, standing, start_tasks}
-use Rattle.kernel_boot.specs.EmptyKernel.{empty_lists}
-use Rattle.kernel_boot.specs.ResidentKernel.{resident_lists}
-use Rattle.kernel_boot.specs.declared.refusals.BootRefusal.{BootRefusal}
-use Rattle.kernel_steps.specs.ResidentSteps.{with_disc}
-use Rattle.kernel_steps.specs.Step.{dispatch, first_events}
-use Rattle.kernel_steps.specs.Stepped.{Stepped, behind, with_store}
+use Rattle.kernel_machine.specs.KernelCalls.KernelModel.Image.{image, plain_words}
+use Rattle.kernel_machine.specs.KernelCalls.KernelModel.Kernel.{Kernel}
+use Rattle.kernel_machine.specs.KernelCalls.KernelModel.Lists.{Lists}
+use Rattle.kernel_machine.specs.KernelCalls.KernelModel.Pipes.{no_pipes}
+use Rattle.kernel_machine.specs.KernelCalls.KernelModel.ValidKernel.{no_command, no_line}
+use Rattle.kernel_machine.specs.KernelCalls.KernelModel.ValidTasks.{no_regs}
+use Rattle.kernel_machine.specs.KernelBoot.BootFiles.{load_files}
+use Rattle.kernel_machine.specs.KernelCalls.KernelModel.Standing.{Standing, standing}
+use Rattle.kernel_machine.specs.KernelBoot.BootTasks.{start_tasks}
+use Rattle.kernel_machine.specs.KernelBoot.EmptyKernel.{empty_lists}
+use Rattle.kernel_machine.specs.KernelBoot.ResidentKernel.{resident_lists}
+use Rattle.kernel_machine.specs.KernelBoot.declared.refusals.BootRefusal.{BootRefusal}
+use Rattle.kernel_machine.specs.KernelSteps.ResidentSteps.{with_disc}
+use Rattle.kernel_machine.specs.KernelSteps.Step.{dispatch, first_events}
+use Rattle.kernel_machine.specs.KernelSteps.Stepped.{Stepped, behind, with_store}
 
 -- a session of a machine with a kernel
 pub record HasKernel (s : Session) : Type 0 where

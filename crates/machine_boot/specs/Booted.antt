@@ -3,18 +3,18 @@ use Rattle.std.specs.Prelude.{◌≡◌, ◌≤◌, ◌⊎◌, Bool, true, false
 use Rattle.std.specs.List.{AllByRecursion}
 use Rattle.bare_machine.specs.declared.boot.BootEnd.{BootEnd}
 use Rattle.bare_machine.specs.declared.boot.BootEnd.TheVariants.{Line, WantMemory}
-use Rattle.kernel_model.specs.Kernel.{Kernel}
-use Rattle.kernel_model.specs.Lists.{Lists}
-use Rattle.kernel_model.specs.Task.{Task, is_guest_id}
-use Rattle.kernel_model.specs.ValidKernel.{IsFullMachine}
-use Rattle.kernel_model.specs.ValidTasks.{runs}
-use Rattle.kernel_boot.specs.BootFiles.{HasNoStreams, boot_refusal}
-use Rattle.kernel_boot.specs.BootTasks.{AreBootLines}
-use Rattle.kernel_boot.specs.declared.refusals.BootRefusal.{BootRefusal}
+use Rattle.kernel_machine.specs.KernelCalls.KernelModel.Kernel.{Kernel}
+use Rattle.kernel_machine.specs.KernelCalls.KernelModel.Lists.{Lists}
+use Rattle.kernel_machine.specs.KernelCalls.KernelModel.Task.{Task, is_guest_id}
+use Rattle.kernel_machine.specs.KernelCalls.KernelModel.ValidKernel.{IsFullMachine}
+use Rattle.kernel_machine.specs.KernelCalls.KernelModel.ValidTasks.{runs}
+use Rattle.kernel_machine.specs.KernelBoot.BootFiles.{HasNoStreams, boot_refusal}
+use Rattle.kernel_machine.specs.KernelBoot.BootTasks.{AreBootLines}
+use Rattle.kernel_machine.specs.KernelBoot.declared.refusals.BootRefusal.{BootRefusal}
 use Rattle.session_text.specs.declared.sessions.SessionLine.{SessionLine}
-use Rattle.kernel_steps.specs.Stepped.{Stepped}
-use Rattle.machine_parts.specs.declared.parts.Parts.{Parts}
-use Rattle.machine_parts.specs.Stands.{Stands}
+use Rattle.kernel_machine.specs.KernelSteps.Stepped.{Stepped}
+use Rattle.kernel_machine.specs.declared.parts.Parts.{Parts}
+use Rattle.kernel_machine.specs.Stands.{Stands}
 
 -- A task that neither runs, nor takes a packet once it is dispatched, and that has met no fault. The one that reports faults has no
 -- packets, and the fault packet is on no queue.

@@ -1,29 +1,24 @@
 // The machine of a session.
 ghost use Rattle.std.specs.Prelude.{◌≡◌, [], MatchResult, replicate};
-ghost use Rattle.kernel_model.specs.ChangedStore.{IsChanged};
-ghost use Rattle.kernel_model.specs.Kernel.{Kernel};
-ghost use Rattle.kernel_dispatch.specs.Dispatch.{CanDispatch};
-ghost use Rattle.kernel_boot.specs.BootFiles.{HasNoStreams};
-ghost use Rattle.kernel_steps.specs.Step.{dispatch};
-ghost use Rattle.machine_parts.specs.Stands.{Stands};
+ghost use Rattle.kernel_machine.specs.KernelCalls.KernelModel.ChangedStore.{IsChanged};
+ghost use Rattle.kernel_machine.specs.KernelCalls.KernelModel.Kernel.{Kernel};
+ghost use Rattle.kernel_machine.specs.KernelCalls.KernelDispatch.Dispatch.{CanDispatch};
+ghost use Rattle.kernel_machine.specs.KernelBoot.BootFiles.{HasNoStreams};
+ghost use Rattle.kernel_machine.specs.KernelSteps.Step.{dispatch};
+ghost use Rattle.kernel_machine.specs.Stands.{Stands};
 ghost use Rattle.machine_boot.specs.Boot.{HasKernel, boot, first_kernel, first_lists, with_files, with_lines, with_tasks};
 ghost use Rattle.machine_boot.specs.Booted.{BootsAs, CanStart, CanLoad, IsReached};
 
 use arrayvec::ArrayVec;
 use bare_machine::boot::BootEnd;
-use cli_shell::ShellState;
-use console_handler::ConsoleState;
-use kernel_boot::{BootRefusal, load_files, make_kernel, make_resident_kernel, start_tasks};
-use kernel_dispatch::switch;
-use machine_parts::{Parts, Script};
-use packet_queue::NoLog;
-use pipe_handler::Pipes;
+use kernel_machine::{
+    BootRefusal, ByteKinds, ConsoleState, NoLog, Parts, Pipes, Script, ShellState, Tty, load_files,
+    make_kernel, make_resident_kernel, start_tasks, switch,
+};
 use ram_disc::Disc;
 use session_text::{Session, SessionLine};
 use std::alloc::Global;
 use tp_io::WantMemory;
-use tty_device::Tty;
-use word_kinds::ByteKinds;
 use word_store::{Regs, Store};
 
 /// The registers where nobody runs.

@@ -3,29 +3,29 @@ use Rattle.std.proofs.Common.{◌≡◌, ◌≢◌, ℕ, suc, ◌+◌, ◌-◌, 
 use Rattle.std.specs.Prelude.{◌↔◌, IsTrue, filter, slice_range}
 use Rattle.std.specs.List.{AllByRecursion, list_all}
 use Rattle.std.proofs.lemmas.Bool.{cases_eq, cases_lt, eq-eqb, le-leb, le-ltb, leb-true, lt-ltb, ne_eqb}
-use Rattle.linked_list.specs.Count.{IsApart}
-use Rattle.linked_list.specs.Places.{has}
-use Rattle.owned_words.specs.LinkedWords.{first_of}
-use Rattle.hunk_loader.specs.Globals.{GlobalsFit, highest, most_globals}
-use Rattle.hunk_loader.specs.HeldModules.{module_address}
-use Rattle.hunk_loader.specs.ModuleHunks.{PlacedHunk, hunks_in}
-use Rattle.task_block.specs.TaskChain.{id_in}
-use Rattle.task_block.specs.Versions.{head_words, most_modules}
-use Rattle.kernel_model.specs.HoldsLists.{HoldsLists}
-use Rattle.kernel_model.specs.KernelRanges.{task_size_in}
-use Rattle.kernel_model.specs.Lists.{Lists}
-use Rattle.kernel_model.specs.Recovered.{lists_in, modules_of, task_in}
-use Rattle.kernel_model.specs.Task.{is_guest_id, task_id}
-use Rattle.kernel_model.specs.ValidTasks.{IsGuest}
-use Rattle.kernel_model.specs.Versions.{most_modules_of}
-use Rattle.kernel_model.proofs.AllThings.{all-here}
-use Rattle.kernel_model.proofs.RecoveredLists.{lists-back}
-use Rattle.call_answers.specs.Guests.{GuestAt}
-use Rattle.call_answers.specs.Refusals.{first_refusal}
-use Rattle.call_answers.proofs.FoundTask.{any-one}
-use Rattle.call_answers.proofs.GuestTask.{GuestFacts, guest-facts, guest-words}
-use Rattle.call_answers.specs.Tasks.{is_dead}
-use Rattle.call_answers.specs.Modules.{has_module}
+use Rattle.word_store.specs.Count.{IsApart}
+use Rattle.block_calls.specs.KernelDispatch.LinkedList.Places.{has}
+use Rattle.block_calls.specs.KernelDispatch.OwnedWords.LinkedWords.{first_of}
+use Rattle.block_calls.specs.KernelDispatch.HunkLoader.Globals.{GlobalsFit, highest, most_globals}
+use Rattle.block_calls.specs.KernelDispatch.HunkLoader.HeldModules.{module_address}
+use Rattle.block_calls.specs.KernelDispatch.HunkLoader.ModuleHunks.{PlacedHunk, hunks_in}
+use Rattle.block_calls.specs.KernelDispatch.TaskBlock.TaskChain.{id_in}
+use Rattle.block_calls.specs.KernelDispatch.TaskBlock.Versions.{head_words, most_modules}
+use Rattle.block_calls.specs.KernelDispatch.KernelModel.HoldsLists.{HoldsLists}
+use Rattle.block_calls.specs.KernelDispatch.KernelModel.KernelRanges.{task_size_in}
+use Rattle.block_calls.specs.KernelDispatch.KernelModel.Lists.{Lists}
+use Rattle.block_calls.specs.KernelDispatch.KernelModel.Recovered.{lists_in, modules_of, task_in}
+use Rattle.block_calls.specs.KernelDispatch.KernelModel.Task.{is_guest_id, task_id}
+use Rattle.block_calls.specs.KernelDispatch.KernelModel.ValidTasks.{IsGuest}
+use Rattle.block_calls.specs.KernelDispatch.KernelModel.Versions.{most_modules_of}
+use Rattle.block_calls.proofs.Shown.KernelDispatch.KernelModel.AllThings.{all-here}
+use Rattle.block_calls.proofs.Shown.KernelDispatch.KernelModel.RecoveredLists.{lists-back}
+use Rattle.block_calls.specs.CallAnswers.Guests.{GuestAt}
+use Rattle.block_calls.specs.CallAnswers.Refusals.{first_refusal}
+use Rattle.block_calls.proofs.Shown.CallAnswers.FoundTask.{any-one}
+use Rattle.block_calls.proofs.Shown.CallAnswers.GuestTask.{GuestFacts, guest-facts, guest-words}
+use Rattle.block_calls.specs.CallAnswers.Tasks.{is_dead}
+use Rattle.block_calls.specs.CallAnswers.Modules.{has_module}
 use Rattle.module_calls.specs.AddModule.{check_tests, globals_fit, has_module_room}
 use Rattle.module_calls.specs.ModuleFields.{IsTaskIn, further_count}
 use Rattle.module_calls.proofs.ModuleUses.{each-inside, each-told, module-some}

@@ -3,43 +3,43 @@ use Rattle.std.proofs.Common.{◌≡◌, ◌≢◌, ℕ, suc, ◌+◌, ◌-◌, 
 use Rattle.std.specs.Prelude.{unwrap_or}
 use Rattle.std.specs.List.{AllByRecursion, flat_map, range_with_len}
 use Rattle.std.proofs.lemmas.Bool.{and_parts, cases_lt, eqb-true, leb-true}
-use Rattle.linked_list.specs.Count.{times, words_of}
-use Rattle.linked_list.proofs.AllMembers.{all-back, all-front}
-use Rattle.linked_list.proofs.Counts.{hit-other, hit-same, range-high, range-low, times-above, times-within, times-words_more}
-use Rattle.owned_words.specs.LinkedWords.{first_of, linked_words}
-use Rattle.owned_words.specs.Owned.{Pairs, owners}
-use Rattle.owned_words.proofs.OwnedWords.{owners-append}
-use Rattle.owned_words.proofs.RowWords.{owners-row}
-use Rattle.getvec_chain.specs.declared.pieces.Block.{Block}
-use Rattle.getvec_chain.specs.Block.{is_used_at, used_block}
-use Rattle.getvec_chain.specs.BlockWords.{blocks_words}
-use Rattle.getvec_chain.specs.Give.{given}
-use Rattle.getvec_chain.specs.Run.{need}
-use Rattle.getvec_chain.specs.Tiling.{Follow, holding}
-use Rattle.getvec_chain.proofs.Splits.{GiveSplit, give_split}
-use Rattle.hunk_loader.specs.HeldModules.{LoadedModule, module_address, module_words}
-use Rattle.packet_queue.specs.QueueWords.{QueuedPacket, address_of as packet_address, packet_words, queue_words}
-use Rattle.packet_queue.specs.Queue.{no_queue}
-use Rattle.coroutines.specs.CoroutineWords.{coroutine_size}
-use Rattle.coroutines.specs.HeldCoroutines.{Coroutine, address_of}
-use Rattle.kernel_model.specs.BlockUse.{coroutine_addresses}
-use Rattle.kernel_model.specs.Lists.{Lists, has_task, is_queued, queued}
-use Rattle.kernel_model.specs.Owned.{owned}
-use Rattle.kernel_model.specs.Residents.{fault_packet, keyboard, fault_packet_words, key_arguments, key_words, pending_head, resident_words}
-use Rattle.kernel_model.specs.Task.{Task, is_guest_id, task_address, task_words}
-use Rattle.kernel_model.specs.ValidBlocks.{HasBlock, last_module_word, last_resident_word}
-use Rattle.kernel_model.specs.ValidLists.{AreValid}
-use Rattle.kernel_model.specs.ValidTasks.{CoroutinesStand, IsCoroutine, IsGuest, IsTask, resident_place}
-use Rattle.kernel_model.specs.Versions.{head_words_of}
-use Rattle.kernel_model.proofs.AllThings.{all-beside, all-between, all-here, all-pieces}
-use Rattle.kernel_model.proofs.BlockStarts.{store-Tiles, store_of}
-use Rattle.kernel_model.proofs.ChainSplits.{HasNumbered, numbered}
-use Rattle.kernel_model.proofs.EachMember.{all-both, all-each, linked-each}
-use Rattle.kernel_model.proofs.FollowedBlocks.{IsDataOf, IsWithin, found-holding, found-within, member-data}
-use Rattle.kernel_model.proofs.OwnerCounts.{owners-linked_between, owners-residents, packets_count}
-use Rattle.kernel_model.proofs.RootCounts.{head-low, owners-nodes}
-use Rattle.kernel_model.proofs.TaskCounts.{further_count, owners-task_by}
-use Rattle.kernel_model.proofs.TaskPlaces.{has-each, last-resident}
+use Rattle.word_store.specs.Count.{times, words_of}
+use Rattle.block_calls.proofs.Shown.KernelDispatch.LinkedList.AllMembers.{all-back, all-front}
+use Rattle.word_store.proofs.Counts.{hit-other, hit-same, range-high, range-low, times-above, times-within, times-words_more}
+use Rattle.block_calls.specs.KernelDispatch.OwnedWords.LinkedWords.{first_of, linked_words}
+use Rattle.block_calls.specs.KernelDispatch.OwnedWords.Owned.{Pairs, owners}
+use Rattle.block_calls.proofs.Shown.KernelDispatch.OwnedWords.OwnedWords.{owners-append}
+use Rattle.block_calls.proofs.Shown.KernelDispatch.OwnedWords.RowWords.{owners-row}
+use Rattle.block_calls.specs.KernelDispatch.GetvecChain.declared.pieces.Block.{Block}
+use Rattle.block_calls.specs.KernelDispatch.GetvecChain.Block.{is_used_at, used_block}
+use Rattle.block_calls.specs.KernelDispatch.GetvecChain.BlockWords.{blocks_words}
+use Rattle.block_calls.specs.KernelDispatch.GetvecChain.Give.{given}
+use Rattle.block_calls.specs.KernelDispatch.GetvecChain.Run.{need}
+use Rattle.block_calls.specs.KernelDispatch.GetvecChain.Tiling.{Follow, holding}
+use Rattle.block_calls.proofs.Shown.KernelDispatch.GetvecChain.Splits.{GiveSplit, give_split}
+use Rattle.block_calls.specs.KernelDispatch.HunkLoader.HeldModules.{LoadedModule, module_address, module_words}
+use Rattle.block_calls.specs.KernelDispatch.PacketQueue.QueueWords.{QueuedPacket, address_of as packet_address, packet_words, queue_words}
+use Rattle.block_calls.specs.KernelDispatch.PacketQueue.Queue.{no_queue}
+use Rattle.block_calls.specs.KernelDispatch.Coroutines.CoroutineWords.{coroutine_size}
+use Rattle.block_calls.specs.KernelDispatch.Coroutines.HeldCoroutines.{Coroutine, address_of}
+use Rattle.block_calls.specs.KernelDispatch.KernelModel.BlockUse.{coroutine_addresses}
+use Rattle.block_calls.specs.KernelDispatch.KernelModel.Lists.{Lists, has_task, is_queued, queued}
+use Rattle.block_calls.specs.KernelDispatch.KernelModel.Owned.{owned}
+use Rattle.block_calls.specs.KernelDispatch.KernelModel.Residents.{fault_packet, keyboard, fault_packet_words, key_arguments, key_words, pending_head, resident_words}
+use Rattle.block_calls.specs.KernelDispatch.KernelModel.Task.{Task, is_guest_id, task_address, task_words}
+use Rattle.block_calls.specs.KernelDispatch.KernelModel.ValidBlocks.{HasBlock, last_module_word, last_resident_word}
+use Rattle.block_calls.specs.KernelDispatch.KernelModel.ValidLists.{AreValid}
+use Rattle.block_calls.specs.KernelDispatch.KernelModel.ValidTasks.{CoroutinesStand, IsCoroutine, IsGuest, IsTask, resident_place}
+use Rattle.block_calls.specs.KernelDispatch.KernelModel.Versions.{head_words_of}
+use Rattle.block_calls.proofs.Shown.KernelDispatch.KernelModel.AllThings.{all-beside, all-between, all-here, all-pieces}
+use Rattle.block_calls.proofs.Shown.KernelDispatch.KernelModel.BlockStarts.{store-Tiles, store_of}
+use Rattle.block_calls.proofs.Shown.KernelDispatch.KernelModel.ChainSplits.{HasNumbered, numbered}
+use Rattle.block_calls.proofs.Shown.KernelDispatch.KernelModel.EachMember.{all-both, all-each, linked-each}
+use Rattle.block_calls.proofs.Shown.KernelDispatch.KernelModel.FollowedBlocks.{IsDataOf, IsWithin, found-holding, found-within, member-data}
+use Rattle.block_calls.proofs.Shown.KernelDispatch.KernelModel.OwnerCounts.{owners-linked_between, owners-residents, packets_count}
+use Rattle.block_calls.proofs.Shown.KernelDispatch.KernelModel.RootCounts.{head-low, owners-nodes}
+use Rattle.block_calls.proofs.Shown.KernelDispatch.KernelModel.TaskCounts.{further_count, owners-task_by}
+use Rattle.block_calls.proofs.Shown.KernelDispatch.KernelModel.TaskPlaces.{has-each, last-resident}
 use Rattle.module_calls.proofs.ModuleParts.{owners-module}
 
 -- linked things of which none owns an address do not stand there

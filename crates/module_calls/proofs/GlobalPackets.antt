@@ -4,17 +4,17 @@ use Rattle.std.specs.List.{list_any, range_with_len}
 use Rattle.std.proofs.lemmas.Bool.{and_parts, cases_eq, false≢true, le-leb, leb-true, lt-ltb, or_right}
 use Rattle.std.proofs.lemmas.Bool.Decides.{nat_tests}
 use Rattle.std.proofs.lemmas.List.Folds.{list_any-append}
-use Rattle.packet_queue.specs.QueueWords.{QueuedPacket}
-use Rattle.kernel_model.specs.Changes.{AreUnowned}
-use Rattle.kernel_model.specs.HoldsLists.{HoldsLists}
-use Rattle.kernel_model.specs.KernelRanges.{is_kernel_word, list_ranges, meets, packet_ranges, packet_words_of}
-use Rattle.kernel_model.specs.Lists.{Lists, queued}
-use Rattle.kernel_model.specs.Task.{globals_of}
-use Rattle.kernel_model.proofs.AllThings.{all-fail}
-use Rattle.kernel_model.proofs.EachMember.{all-each}
-use Rattle.kernel_model.proofs.PacketRanges.{queued-packets}
-use Rattle.kernel_model.proofs.RangesOwned.{ranges-owned}
-use Rattle.call_answers.specs.Guests.{GuestAt}
+use Rattle.block_calls.specs.KernelDispatch.PacketQueue.QueueWords.{QueuedPacket}
+use Rattle.block_calls.specs.KernelDispatch.KernelModel.Changes.{AreUnowned}
+use Rattle.block_calls.specs.KernelDispatch.KernelModel.HoldsLists.{HoldsLists}
+use Rattle.block_calls.specs.KernelDispatch.KernelModel.KernelRanges.{is_kernel_word, list_ranges, meets, packet_ranges, packet_words_of}
+use Rattle.block_calls.specs.KernelDispatch.KernelModel.Lists.{Lists, queued}
+use Rattle.block_calls.specs.KernelDispatch.KernelModel.Task.{globals_of}
+use Rattle.block_calls.proofs.Shown.KernelDispatch.KernelModel.AllThings.{all-fail}
+use Rattle.block_calls.proofs.Shown.KernelDispatch.KernelModel.EachMember.{all-each}
+use Rattle.block_calls.proofs.Shown.KernelDispatch.KernelModel.PacketRanges.{queued-packets}
+use Rattle.block_calls.proofs.Shown.KernelDispatch.KernelModel.RangesOwned.{ranges-owned}
+use Rattle.block_calls.specs.CallAnswers.Guests.{GuestAt}
 use Rattle.module_calls.specs.AddModule.{lies_in_globals}
 use Rattle.module_calls.proofs.AdditionTests.{facts, is-guest}
 use Rattle.module_calls.proofs.GlobalOwners.{globals-unowned}

@@ -2,50 +2,50 @@
 use Rattle.std.proofs.Common.{◌≡◌, ℕ, suc, ◌+◌, ◌-◌, ◌^◌, ◌<◌, ◌≤◌, List, [], ◌∷◌, ◌++◌, length, map, get_or, cond, eqb, not, ◌||◌, Bool, true, false, Some, None, Ok, Err, inl, inr, refl, sym, ap, ◌∙◌, subst, arith}
 use Rattle.std.specs.List.{AllByRecursion, list_any, range_with_len}
 use Rattle.std.proofs.lemmas.Bool.{cases_lt, eqb-true}
-use Rattle.linked_list.specs.Count.{IsApart, hit, times}
-use Rattle.linked_list.specs.Places.{has, without_first, without_node}
-use Rattle.linked_list.proofs.Counts.{times-above}
-use Rattle.owned_words.specs.Exchange.{Exchange}
-use Rattle.owned_words.specs.LinkedWords.{AreHeld}
-use Rattle.owned_words.specs.Owned.{owners}
-use Rattle.owned_words.proofs.Exchanges.{exchange-remove}
-use Rattle.owned_words.proofs.HeldLists.{held-without_node}
-use Rattle.getvec_chain.specs.declared.pieces.Block.{Block}
-use Rattle.getvec_chain.specs.Block.{block_end, used_block}
-use Rattle.getvec_chain.specs.Give.{given_store}
-use Rattle.getvec_chain.specs.Run.{need}
-use Rattle.getvec_chain.specs.Tiling.{blocks_in, used_at}
-use Rattle.getvec_chain.proofs.UsedBlocks.{UsedBlock, used_at-is}
-use Rattle.hunk_loader.specs.HeldModules.{LoadedModule, module_address, module_words}
-use Rattle.hunk_loader.specs.ModuleExchanges.{first_of_modules, link_behind, modules_words}
-use Rattle.hunk_loader.proofs.HeldModuleLists.{are_modules, module_size}
-use Rattle.task_block.specs.Lists.{module_link}
-use Rattle.kernel_model.specs.BlockUse.{use_of_data}
-use Rattle.kernel_model.specs.BlockUse.Use.{User}
-use Rattle.kernel_model.specs.ChangedStore.{IsChanged, Knows}
-use Rattle.kernel_model.specs.Changes.{AreUnowned, IsIdleBlock, with_modules}
-use Rattle.kernel_model.specs.HoldsLists.{HoldsLists}
-use Rattle.kernel_model.specs.Lists.{Lists, queued}
-use Rattle.kernel_model.specs.Owned.{owned}
-use Rattle.kernel_model.specs.ValidBlocks.{HasBlock, last_module_word}
-use Rattle.kernel_model.specs.ValidLists.{AreValid}
-use Rattle.kernel_model.proofs.AllThings.{all-fail, all-here}
-use Rattle.kernel_model.proofs.ChangedLists.{changed-then, exchange-owned, knows-same}
-use Rattle.kernel_model.proofs.ListRanges.{HasCount}
-use Rattle.kernel_model.proofs.ModuleMoves.{gone_module-unowned, gone_module-valid}
-use Rattle.kernel_model.proofs.UnownedBlocks.{unowned-user}
-use Rattle.kernel_model.proofs.WalkedLists.{counts-read}
-use Rattle.call_answers.specs.Made.{IsMade, Made, done, minus_one}
-use Rattle.call_answers.specs.Refusals.{first_refusal}
-use Rattle.call_answers.proofs.FoundTask.{reads}
-use Rattle.call_answers.proofs.MadeCalls.{made-accepted, made-refused}
-use Rattle.call_answers.proofs.Refusals.{first_refusal-failed, first_refusal-passed}
-use Rattle.call_answers.specs.Modules.{has_module}
-use Rattle.word_kinds.specs.Keeper.{AreTogether}
-use Rattle.word_kinds.proofs.KnownWords.{knows-released}
+use Rattle.word_store.specs.Count.{IsApart, hit, times}
+use Rattle.block_calls.specs.KernelDispatch.LinkedList.Places.{has, without_first, without_node}
+use Rattle.word_store.proofs.Counts.{times-above}
+use Rattle.block_calls.specs.KernelDispatch.OwnedWords.Exchange.{Exchange}
+use Rattle.block_calls.specs.KernelDispatch.OwnedWords.LinkedWords.{AreHeld}
+use Rattle.block_calls.specs.KernelDispatch.OwnedWords.Owned.{owners}
+use Rattle.block_calls.proofs.Shown.KernelDispatch.OwnedWords.Exchanges.{exchange-remove}
+use Rattle.block_calls.proofs.Shown.KernelDispatch.OwnedWords.HeldLists.{held-without_node}
+use Rattle.block_calls.specs.KernelDispatch.GetvecChain.declared.pieces.Block.{Block}
+use Rattle.block_calls.specs.KernelDispatch.GetvecChain.Block.{block_end, used_block}
+use Rattle.block_calls.specs.KernelDispatch.GetvecChain.Give.{given_store}
+use Rattle.block_calls.specs.KernelDispatch.GetvecChain.Run.{need}
+use Rattle.block_calls.specs.KernelDispatch.GetvecChain.Tiling.{blocks_in, used_at}
+use Rattle.block_calls.proofs.Shown.KernelDispatch.GetvecChain.UsedBlocks.{UsedBlock, used_at-is}
+use Rattle.block_calls.specs.KernelDispatch.HunkLoader.HeldModules.{LoadedModule, module_address, module_words}
+use Rattle.block_calls.specs.KernelDispatch.HunkLoader.ModuleExchanges.{first_of_modules, link_behind, modules_words}
+use Rattle.block_calls.proofs.Shown.KernelDispatch.HunkLoader.HeldModuleLists.{are_modules, module_size}
+use Rattle.block_calls.specs.KernelDispatch.TaskBlock.Lists.{module_link}
+use Rattle.block_calls.specs.KernelDispatch.KernelModel.BlockUse.{use_of_data}
+use Rattle.block_calls.specs.KernelDispatch.KernelModel.BlockUse.Use.{User}
+use Rattle.block_calls.specs.KernelDispatch.KernelModel.ChangedStore.{IsChanged, Knows}
+use Rattle.block_calls.specs.KernelDispatch.KernelModel.Changes.{AreUnowned, IsIdleBlock, with_modules}
+use Rattle.block_calls.specs.KernelDispatch.KernelModel.HoldsLists.{HoldsLists}
+use Rattle.block_calls.specs.KernelDispatch.KernelModel.Lists.{Lists, queued}
+use Rattle.block_calls.specs.KernelDispatch.KernelModel.Owned.{owned}
+use Rattle.block_calls.specs.KernelDispatch.KernelModel.ValidBlocks.{HasBlock, last_module_word}
+use Rattle.block_calls.specs.KernelDispatch.KernelModel.ValidLists.{AreValid}
+use Rattle.block_calls.proofs.Shown.KernelDispatch.KernelModel.AllThings.{all-fail, all-here}
+use Rattle.block_calls.proofs.Shown.KernelDispatch.KernelModel.ChangedLists.{changed-then, exchange-owned, knows-same}
+use Rattle.block_calls.proofs.Shown.KernelDispatch.KernelModel.ListRanges.{HasCount}
+use Rattle.block_calls.proofs.Shown.KernelDispatch.KernelModel.ModuleMoves.{gone_module-unowned, gone_module-valid}
+use Rattle.block_calls.proofs.Shown.KernelDispatch.KernelModel.UnownedBlocks.{unowned-user}
+use Rattle.block_calls.proofs.Shown.KernelDispatch.KernelModel.WalkedLists.{counts-read}
+use Rattle.block_calls.specs.CallAnswers.Made.{IsMade, Made, done, minus_one}
+use Rattle.block_calls.specs.CallAnswers.Refusals.{first_refusal}
+use Rattle.block_calls.proofs.Shown.CallAnswers.FoundTask.{reads}
+use Rattle.block_calls.proofs.Shown.CallAnswers.MadeCalls.{made-accepted, made-refused}
+use Rattle.block_calls.proofs.Shown.CallAnswers.Refusals.{first_refusal-failed, first_refusal-passed}
+use Rattle.block_calls.specs.CallAnswers.Modules.{has_module}
+use Rattle.block_calls.specs.KernelDispatch.WordKinds.Keeper.{AreTogether}
+use Rattle.block_calls.proofs.Shown.KernelDispatch.WordKinds.KnownWords.{knows-released}
 use Rattle.block_calls.specs.Freevec.{has_packet_in, holds_packet, lies_in, with_given}
 use Rattle.block_calls.proofs.IdleBlocks.{idle-unowned, none-idle, unowned-empty}
-use Rattle.word_kinds.proofs.OwnedMarks.{size-low}
+use Rattle.block_calls.proofs.Shown.KernelDispatch.WordKinds.OwnedMarks.{size-low}
 use Rattle.block_calls.proofs.TakenStore.{given-changed, given-owners}
 use Rattle.module_calls.specs.UnloadModule.{is_in_use, unload_module, unload_tests, use_tests, without_module}
 use Rattle.module_calls.proofs.ModuleParts.{modules-exchange, owners-module}

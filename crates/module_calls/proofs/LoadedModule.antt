@@ -2,37 +2,37 @@
 use Rattle.std.proofs.Common.{◌≡◌, ℕ, suc, ◌+◌, ◌<◌, ◌≤◌, List, [], ◌∷◌, ◌++◌, length, cond, Some, None, Ok, Err, refl, sym, ap, ◌∙◌, subst, arith, append-nil}
 use Rattle.std.specs.Prelude.{is_some}
 use Rattle.std.specs.List.{range_with_len}
-use Rattle.linked_list.specs.Count.{hit, times}
-use Rattle.linked_list.proofs.Counts.{times-above}
-use Rattle.owned_words.specs.Exchange.{Exchange}
-use Rattle.owned_words.specs.Owned.{Pairs, owners}
-use Rattle.owned_words.proofs.Exchanges.{exchange-insert}
-use Rattle.owned_words.proofs.OwnedWords.{Holds-append, Holds-left, Holds-right, owners-append}
-use Rattle.getvec_chain.specs.Run.{first_run, need}
-use Rattle.getvec_chain.specs.Tiling.{blocks_in}
+use Rattle.word_store.specs.Count.{hit, times}
+use Rattle.word_store.proofs.Counts.{times-above}
+use Rattle.block_calls.specs.KernelDispatch.OwnedWords.Exchange.{Exchange}
+use Rattle.block_calls.specs.KernelDispatch.OwnedWords.Owned.{Pairs, owners}
+use Rattle.block_calls.proofs.Shown.KernelDispatch.OwnedWords.Exchanges.{exchange-insert}
+use Rattle.block_calls.proofs.Shown.KernelDispatch.OwnedWords.OwnedWords.{Holds-append, Holds-left, Holds-right, owners-append}
+use Rattle.block_calls.specs.KernelDispatch.GetvecChain.Run.{first_run, need}
+use Rattle.block_calls.specs.KernelDispatch.GetvecChain.Tiling.{blocks_in}
 use Rattle.hunk_text.specs.declared.modules.Hunk.{Hunk}
-use Rattle.hunk_loader.specs.HeldModules.{LoadedModule, module_address, module_words}
-use Rattle.hunk_loader.specs.LoadOutcome.{IsLoaded}
-use Rattle.hunk_loader.specs.ModuleExchanges.{first_of_modules, hunk_words, loaded_module, loaded_words}
-use Rattle.hunk_loader.specs.ModuleRow.{last_word}
-use Rattle.hunk_loader.proofs.HeldModuleLists.{are_modules}
-use Rattle.hunk_loader.proofs.LoadedModules.{length-lengths}
-use Rattle.kernel_model.specs.ChangedStore.{IsChanged, Knows}
-use Rattle.kernel_model.specs.Changes.{AreUnowned, with_modules}
-use Rattle.kernel_model.specs.HoldsLists.{HoldsLists}
-use Rattle.kernel_model.specs.Lists.{Lists}
-use Rattle.kernel_model.specs.Owned.{owned}
-use Rattle.kernel_model.specs.ValidBlocks.{HasBlock, last_module_word}
-use Rattle.kernel_model.specs.ValidLists.{AreValid}
-use Rattle.kernel_model.proofs.ChangedLists.{exchange-changed}
-use Rattle.kernel_model.proofs.DataInside.{HasBlock-inside}
-use Rattle.kernel_model.proofs.ModuleMoves.{new_module-valid}
-use Rattle.call_answers.specs.Made.{IsMade, Made}
-use Rattle.call_answers.proofs.ChangedTwice.{changed-twice}
-use Rattle.call_answers.proofs.FoundTask.{reads}
-use Rattle.call_answers.proofs.MadeCalls.{made-accepted, made-refused}
-use Rattle.word_kinds.specs.Keeper.{AreTogether}
-use Rattle.word_kinds.proofs.KnownWords.{knows-claimed}
+use Rattle.block_calls.specs.KernelDispatch.HunkLoader.HeldModules.{LoadedModule, module_address, module_words}
+use Rattle.block_calls.specs.KernelDispatch.HunkLoader.LoadOutcome.{IsLoaded}
+use Rattle.block_calls.specs.KernelDispatch.HunkLoader.ModuleExchanges.{first_of_modules, hunk_words, loaded_module, loaded_words}
+use Rattle.block_calls.specs.KernelDispatch.HunkLoader.ModuleRow.{last_word}
+use Rattle.block_calls.proofs.Shown.KernelDispatch.HunkLoader.HeldModuleLists.{are_modules}
+use Rattle.block_calls.proofs.Shown.KernelDispatch.HunkLoader.LoadedModules.{length-lengths}
+use Rattle.block_calls.specs.KernelDispatch.KernelModel.ChangedStore.{IsChanged, Knows}
+use Rattle.block_calls.specs.KernelDispatch.KernelModel.Changes.{AreUnowned, with_modules}
+use Rattle.block_calls.specs.KernelDispatch.KernelModel.HoldsLists.{HoldsLists}
+use Rattle.block_calls.specs.KernelDispatch.KernelModel.Lists.{Lists}
+use Rattle.block_calls.specs.KernelDispatch.KernelModel.Owned.{owned}
+use Rattle.block_calls.specs.KernelDispatch.KernelModel.ValidBlocks.{HasBlock, last_module_word}
+use Rattle.block_calls.specs.KernelDispatch.KernelModel.ValidLists.{AreValid}
+use Rattle.block_calls.proofs.Shown.KernelDispatch.KernelModel.ChangedLists.{exchange-changed}
+use Rattle.block_calls.proofs.Shown.KernelDispatch.KernelModel.DataInside.{HasBlock-inside}
+use Rattle.block_calls.proofs.Shown.KernelDispatch.KernelModel.ModuleMoves.{new_module-valid}
+use Rattle.block_calls.specs.CallAnswers.Made.{IsMade, Made}
+use Rattle.block_calls.proofs.Shown.CallAnswers.ChangedTwice.{changed-twice}
+use Rattle.block_calls.proofs.Shown.CallAnswers.FoundTask.{reads}
+use Rattle.block_calls.proofs.Shown.CallAnswers.MadeCalls.{made-accepted, made-refused}
+use Rattle.block_calls.specs.KernelDispatch.WordKinds.Keeper.{AreTogether}
+use Rattle.block_calls.proofs.Shown.KernelDispatch.WordKinds.KnownWords.{knows-claimed}
 use Rattle.block_calls.specs.FreeStore.{data_of_front, with_taken}
 use Rattle.block_calls.proofs.TakenStore.{HasTakenBlock, taken-changed}
 use Rattle.module_calls.specs.LoadModule.{load_module, load_tests, loaded_at, with_loaded}

@@ -2,25 +2,25 @@
 use Rattle.std.proofs.Common.{◌≡◌, ℕ, ◌+◌, ◌<◌, List, [], ◌∷◌, length, map, drop, cond, eqb, not, ◌||◌, Bool, true, false, Some, None, Option, refl, sym, ap, ◌∙◌, subst, arith}
 use Rattle.std.specs.List.{AllByRecursion, filter, list_any}
 use Rattle.std.proofs.lemmas.Bool.{eqb-true, ne_eqb}
-use Rattle.linked_list.specs.Places.{has}
-use Rattle.linked_list.proofs.AllMembers.{all-has}
-use Rattle.hunk_loader.specs.HeldModules.{module_address}
-use Rattle.task_block.specs.TaskChain.{tasks_in}
-use Rattle.kernel_model.specs.HoldsLists.{HoldsLists}
-use Rattle.kernel_model.specs.Lists.{Lists}
-use Rattle.kernel_model.specs.Recovered.{lists_in, task_in}
-use Rattle.kernel_model.specs.Task.{Task, further_modules, task_address}
-use Rattle.kernel_model.specs.ValidBlocks.{HasBlock, last_module_word}
-use Rattle.kernel_model.specs.ValidLists.{AreValid}
-use Rattle.kernel_model.proofs.DataInside.{HasBlock-inside}
-use Rattle.kernel_model.proofs.EachMember.{all-addresses, all-both, all-each}
-use Rattle.kernel_model.proofs.ListRanges.{TaskReads}
-use Rattle.kernel_model.proofs.RecoveredLists.{lists-back}
-use Rattle.kernel_model.proofs.TaskPlaces.{TaskPlace, task-places}
-use Rattle.kernel_model.proofs.WalkedLists.{tasks-read}
-use Rattle.call_answers.specs.Refusals.{first_refusal}
-use Rattle.call_answers.proofs.FoundTask.{reads}
-use Rattle.call_answers.specs.Modules.{has_module}
+use Rattle.block_calls.specs.KernelDispatch.LinkedList.Places.{has}
+use Rattle.block_calls.proofs.Shown.KernelDispatch.LinkedList.AllMembers.{all-has}
+use Rattle.block_calls.specs.KernelDispatch.HunkLoader.HeldModules.{module_address}
+use Rattle.block_calls.specs.KernelDispatch.TaskBlock.TaskChain.{tasks_in}
+use Rattle.block_calls.specs.KernelDispatch.KernelModel.HoldsLists.{HoldsLists}
+use Rattle.block_calls.specs.KernelDispatch.KernelModel.Lists.{Lists}
+use Rattle.block_calls.specs.KernelDispatch.KernelModel.Recovered.{lists_in, task_in}
+use Rattle.block_calls.specs.KernelDispatch.KernelModel.Task.{Task, further_modules, task_address}
+use Rattle.block_calls.specs.KernelDispatch.KernelModel.ValidBlocks.{HasBlock, last_module_word}
+use Rattle.block_calls.specs.KernelDispatch.KernelModel.ValidLists.{AreValid}
+use Rattle.block_calls.proofs.Shown.KernelDispatch.KernelModel.DataInside.{HasBlock-inside}
+use Rattle.block_calls.proofs.Shown.KernelDispatch.KernelModel.EachMember.{all-addresses, all-both, all-each}
+use Rattle.block_calls.proofs.Shown.KernelDispatch.KernelModel.ListRanges.{TaskReads}
+use Rattle.block_calls.proofs.Shown.KernelDispatch.KernelModel.RecoveredLists.{lists-back}
+use Rattle.block_calls.proofs.Shown.KernelDispatch.KernelModel.TaskPlaces.{TaskPlace, task-places}
+use Rattle.block_calls.proofs.Shown.KernelDispatch.KernelModel.WalkedLists.{tasks-read}
+use Rattle.block_calls.specs.CallAnswers.Refusals.{first_refusal}
+use Rattle.block_calls.proofs.Shown.CallAnswers.FoundTask.{reads}
+use Rattle.block_calls.specs.CallAnswers.Modules.{has_module}
 use Rattle.module_calls.specs.ModuleFields.{IsTaskIn, module_fields}
 use Rattle.module_calls.specs.UnloadModule.{is_in_use, use_tests}
 

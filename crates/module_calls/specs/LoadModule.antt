@@ -1,11 +1,11 @@
 -- The call that loads a module.
 use Rattle.std.specs.Prelude.{ℕ, Bool, Ok, List, [], ◌∷◌}
 use Rattle.hunk_text.specs.declared.modules.Hunk.{Hunk}
-use Rattle.hunk_loader.specs.ModuleExchanges.{hunk_words, loaded_module}
-use Rattle.hunk_loader.specs.ModuleRow.{last_word}
-use Rattle.kernel_model.specs.Changes.{with_modules}
-use Rattle.kernel_model.specs.Lists.{Lists}
-use Rattle.call_answers.specs.Made.{Made, unless_refused}
+use Rattle.block_calls.specs.KernelDispatch.HunkLoader.ModuleExchanges.{hunk_words, loaded_module}
+use Rattle.block_calls.specs.KernelDispatch.HunkLoader.ModuleRow.{last_word}
+use Rattle.block_calls.specs.KernelDispatch.KernelModel.Changes.{with_modules}
+use Rattle.block_calls.specs.KernelDispatch.KernelModel.Lists.{Lists}
+use Rattle.block_calls.specs.CallAnswers.Made.{Made, unless_refused}
 use Rattle.block_calls.specs.FreeStore.{data_taken, has_room, with_taken}
 
 -- where the module of these hunks will stand

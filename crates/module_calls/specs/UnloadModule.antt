@@ -1,11 +1,11 @@
 -- The call that takes a module out.
 use Rattle.std.specs.Prelude.{ℕ, ◌==◌, Bool, not, List, [], ◌∷◌, ◌++◌}
 use Rattle.std.specs.List.{list_any}
-use Rattle.linked_list.specs.Places.{has, without_first}
-use Rattle.kernel_model.specs.Changes.{with_modules}
-use Rattle.kernel_model.specs.Lists.{Lists}
-use Rattle.call_answers.specs.Made.{Made, done, unless_refused}
-use Rattle.call_answers.specs.Modules.{has_module}
+use Rattle.block_calls.specs.KernelDispatch.LinkedList.Places.{has, without_first}
+use Rattle.block_calls.specs.KernelDispatch.KernelModel.Changes.{with_modules}
+use Rattle.block_calls.specs.KernelDispatch.KernelModel.Lists.{Lists}
+use Rattle.block_calls.specs.CallAnswers.Made.{Made, done, unless_refused}
+use Rattle.block_calls.specs.CallAnswers.Modules.{has_module}
 use Rattle.block_calls.specs.Freevec.{has_packet_in, with_given}
 
 -- a task has it among its modules

@@ -1,12 +1,12 @@
 -- Linked things whose words a store holds stand there as a linked list, and what it is to link one in or out.
 use Rattle.std.proofs.Common.{◌≡◌, ℕ, zero, suc, ◌+◌, ◌<◌, ◌≤◌, List, [], ◌∷◌, ◌++◌, length, map, get_or, set, false, refl, ap, ◌∙◌, subst, arith}
 use Rattle.std.specs.List.{AllByRecursion}
-use Rattle.linked_list.specs.Count.{IsApart, times, words_of}
+use Rattle.linked_list.specs.WordStore.Count.{IsApart, times, words_of}
 use Rattle.linked_list.specs.Chain.{IsChain, last_cell, list_at}
 use Rattle.linked_list.specs.Linked.{IsLinked, IsListAt, IsNode}
 use Rattle.linked_list.specs.Places.{cell_before, has, linked_in, without_node}
 use Rattle.linked_list.proofs.Chains.{nodes-apart}
-use Rattle.linked_list.proofs.Counts.{hit-same, times-append, times-within, times-words_more}
+use Rattle.linked_list.proofs.Shown.WordStore.Counts.{hit-same, times-append, times-within, times-words_more}
 use Rattle.linked_list.proofs.Lists.{list_at-linked}
 use Rattle.linked_list.proofs.MappedLists.{last_cell-map, map-append}
 use Rattle.linked_list.proofs.Members.{has-none}

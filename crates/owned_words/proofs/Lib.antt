@@ -5,3 +5,4 @@ pub mod OwnedWords
 pub mod Parts
 pub mod RowWords
 pub mod WrittenWords
+pub mod Shown

@@ -2,11 +2,11 @@
 use Rattle.std.proofs.Common.{◌≡◌, ◌≢◌, ℕ, ◌+◌, ◌<◌, List, [], ◌∷◌, ◌++◌, map, cond, eqb, Bool, true, false, refl, sym, ap, ◌∙◌, subst, arith}
 use Rattle.std.proofs.lemmas.Bool.Decides.{nat_tests}
 use Rattle.std.specs.List.{flat_map}
-use Rattle.linked_list.specs.Count.{times}
+use Rattle.linked_list.specs.WordStore.Count.{times}
 use Rattle.owned_words.specs.Owned.{Holds, Pairs, owners}
 use Rattle.owned_words.specs.Exchange.{Exchange}
 use Rattle.owned_words.specs.LinkedWords.{first_of, linked_words}
-use Rattle.linked_list.proofs.Counts.{hit-same, hit-other}
+use Rattle.linked_list.proofs.Shown.WordStore.Counts.{hit-same, hit-other}
 use Rattle.owned_words.proofs.Exchanges.{exchange-all, exchange-both, exchange-none}
 use Rattle.owned_words.proofs.OwnedWords.{Holds-append, Holds-left, Holds-right, owners-append}
 

@@ -2,7 +2,7 @@
 use Rattle.std.proofs.Common.{◌≡◌, ◌≢◌, ℕ, ◌+◌, ◌<◌, List, [], ◌∷◌, ◌++◌, length, get_or, set, eqb, cond, true, false, refl, sym, ap, ◌∙◌, arith, get_or-set_other, get_or-set_same, length-set, Some, None}
 use Rattle.std.proofs.lemmas.Bool.Decides.{nat_tests}
 use Rattle.owned_words.specs.Owned.{AreApart, AreInside, Holds, Pairs, owners, word_in, written}
-use Rattle.linked_list.proofs.Counts.{hit-other, hit-same}
+use Rattle.linked_list.proofs.Shown.WordStore.Counts.{hit-other, hit-same}
 
 pub owners-append : (a : ℕ) (xs ys : Pairs) → owners a (xs ++ ys) ≡ owners a xs + owners a ys
 owners-append a [] ys = omega arith

@@ -2,9 +2,9 @@
 use Rattle.std.proofs.Common.{◌≡◌, ℕ, zero, suc, ◌+◌, ◌<◌, ◌≤◌, List, [], ◌∷◌, length, get_or, set, refl, sym, ap, ◌∙◌, arith, inl, add-zero}
 use Rattle.std.specs.Prelude.{slice_range}
 use Rattle.std.specs.List.{range_with_len}
-use Rattle.linked_list.specs.Count.{times}
-use Rattle.word_store.specs.Row.{with_words}
-use Rattle.word_store.proofs.Rows.{range_first, range_none, with_words-set_outside}
+use Rattle.linked_list.specs.WordStore.Count.{times}
+use Rattle.linked_list.specs.WordStore.Row.{with_words}
+use Rattle.linked_list.proofs.Shown.WordStore.Rows.{range_first, range_none, with_words-set_outside}
 use Rattle.owned_words.specs.Owned.{Holds, owners, row_from, written}
 
 pub owners-row : (a p i : ℕ) (ws : List ℕ) → owners a (row_from p i ws) ≡ times a (range_with_len (p + i) (length ws))

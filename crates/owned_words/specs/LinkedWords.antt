@@ -1,7 +1,7 @@
 -- The words of linked things. A kind of thing has an address, a word that links to the next one, and words, its link among them.
 use Rattle.std.specs.Prelude.{◌<◌, ◌≤◌, ℕ, ◌+◌, List, [], ◌∷◌, ◌++◌}
 use Rattle.std.specs.List.{AllByRecursion}
-use Rattle.linked_list.specs.Count.{node_words, times}
+use Rattle.linked_list.specs.WordStore.Count.{node_words, times}
 use Rattle.owned_words.specs.Owned.{AreApart, AreInside, Holds, Pairs, owners}
 use Rattle.owned_words.specs.Exchange.{Exchange}
 

@@ -1,6 +1,6 @@
 -- Owned words: pairs of an address and the word that stands there.
 use Rattle.std.specs.Prelude.{◌≡◌, ℕ, suc, ◌+◌, ◌<◌, ◌≤◌, ◌==◌, if◌then◌else◌, Option, Some, None, List, [], ◌∷◌, length, slice_index, slice_set}
-use Rattle.linked_list.specs.Count.{hit}
+use Rattle.linked_list.specs.WordStore.Count.{hit}
 
 abbrev pub Pairs : Type 0
 Pairs = List (ℕ × ℕ)

@@ -1,6 +1,6 @@
 // Laws of owned words.
 ghost use Rattle.std.specs.Prelude.{◌≡◌, ◌++◌, ℕ, List};
-ghost use Rattle.word_store.specs.Row.{with_words};
+ghost use Rattle.linked_list.specs.WordStore.Row.{with_words};
 ghost use Rattle.owned_words.specs.Owned.{Pairs, row_from, written};
 ghost use Rattle.owned_words.specs.Written.{IsWritten, OrderedWrites, StandsWritten, Writes};
 

@@ -1,26 +1,26 @@
 -- The task that calls: its number, its queue and its state, as the store has them.
 use Rattle.std.proofs.Common.{◌≡◌, ℕ, ◌+◌, ◌≤◌, Bool, true, false, List, [], ◌∷◌, ◌++◌, map, cond, get_or, sym, ap, ◌∙◌, subst, arith}
 use Rattle.std.specs.List.{AllByRecursion}
-use Rattle.linked_list.specs.Count.{IsApart}
-use Rattle.packet_queue.specs.QueueWords.{QueuedPacket, first_packet}
-use Rattle.kernel_model.specs.Changes.{queue_of}
-use Rattle.kernel_model.specs.HoldsLists.{HoldsLists}
-use Rattle.kernel_model.specs.Lists.{Lists, address_of_task, has_task}
-use Rattle.kernel_model.specs.Task.{Task, queue_bit, state_word, task_address, task_id, task_words}
-use Rattle.kernel_model.specs.ValidQueues.Place.{Work}
-use Rattle.kernel_model.specs.ValidTasks.{runs}
-use Rattle.kernel_model.proofs.AllThings.{all-here}
-use Rattle.kernel_model.proofs.ChainSplits.{work_of-between}
-use Rattle.kernel_model.proofs.EachMember.{holds-each}
-use Rattle.kernel_model.proofs.ReadCoroutines.{holds-task}
-use Rattle.call_answers.specs.Callers.{HasCaller}
-use Rattle.call_answers.specs.Guests.{GuestAt}
-use Rattle.call_answers.proofs.FoundTask.{found-address, found-there, reads}
-use Rattle.call_answers.proofs.GuestTask.{guest-facts}
-use Rattle.call_answers.proofs.Refusals.{task-at}
-use Rattle.packet_moves.specs.Destinations.{queue_for}
-use Rattle.packet_moves.specs.declared.queues.Queue.TheVariants.{OfTask}
-use Rattle.packet_moves.proofs.HeldPlaces.{held-at}
+use Rattle.word_store.specs.Count.{IsApart}
+use Rattle.block_calls.specs.KernelDispatch.PacketQueue.QueueWords.{QueuedPacket, first_packet}
+use Rattle.block_calls.specs.KernelDispatch.KernelModel.Changes.{queue_of}
+use Rattle.block_calls.specs.KernelDispatch.KernelModel.HoldsLists.{HoldsLists}
+use Rattle.block_calls.specs.KernelDispatch.KernelModel.Lists.{Lists, address_of_task, has_task}
+use Rattle.block_calls.specs.KernelDispatch.KernelModel.Task.{Task, queue_bit, state_word, task_address, task_id, task_words}
+use Rattle.block_calls.specs.KernelDispatch.KernelModel.ValidQueues.Place.{Work}
+use Rattle.block_calls.specs.KernelDispatch.KernelModel.ValidTasks.{runs}
+use Rattle.block_calls.proofs.Shown.KernelDispatch.KernelModel.AllThings.{all-here}
+use Rattle.block_calls.proofs.Shown.KernelDispatch.KernelModel.ChainSplits.{work_of-between}
+use Rattle.block_calls.proofs.Shown.KernelDispatch.KernelModel.EachMember.{holds-each}
+use Rattle.block_calls.proofs.Shown.KernelDispatch.KernelModel.ReadCoroutines.{holds-task}
+use Rattle.block_calls.specs.CallAnswers.Callers.{HasCaller}
+use Rattle.block_calls.specs.CallAnswers.Guests.{GuestAt}
+use Rattle.block_calls.proofs.Shown.CallAnswers.FoundTask.{found-address, found-there, reads}
+use Rattle.block_calls.proofs.Shown.CallAnswers.GuestTask.{guest-facts}
+use Rattle.block_calls.proofs.Shown.CallAnswers.Refusals.{task-at}
+use Rattle.packet_calls.specs.Destinations.{queue_for}
+use Rattle.packet_calls.specs.declared.queues.Queue.TheVariants.{OfTask}
+use Rattle.packet_calls.proofs.HeldPlaces.{held-at}
 
 module _ (s : List ℕ) (l : Lists) (id t : ℕ) (h : HoldsLists s l) (g : GuestAt l id t) where
   distinct : IsApart (map task_id (g.front ++ g.task ∷ g.back))

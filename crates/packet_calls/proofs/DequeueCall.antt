@@ -2,38 +2,38 @@
 use Rattle.std.proofs.Common.{◌≡◌, ℕ, ◌+◌, ◌<◌, ◌&&◌, Bool, true, false, not, Option, Some, None, Ok, Err, List, [], ◌∷◌, ◌++◌, cond, eqb, is_some, length, set, refl, sym, ap, ◌∙◌, subst, arith}
 use Rattle.std.specs.List.{range_with_len}
 use Rattle.word_store.specs.Arithmetic.{signed}
-use Rattle.linked_list.specs.Count.{IsApart}
-use Rattle.linked_list.specs.Places.{has}
-use Rattle.owned_words.specs.Owned.{owners}
-use Rattle.packet_queue.specs.Log.{Notes}
-use Rattle.packet_queue.specs.Queue.{HasQueue, no_queue, queue_at}
-use Rattle.packet_queue.specs.QueueWords.{QueuedPacket}
-use Rattle.packet_queue.specs.declared.events.KernelEvent.{KernelEvent}
-use Rattle.packet_queue.specs.declared.events.KernelEvent.TheVariants.{Dequeued}
-use Rattle.kernel_model.specs.ChangedStore.{HasKeeper, IsChanged}
-use Rattle.kernel_model.specs.Changes.{HasPlace, queue_of, with_queue}
-use Rattle.kernel_model.specs.Lists.{Lists, has_task}
-use Rattle.kernel_model.specs.NotedEvents.{NotesAll}
-use Rattle.kernel_model.specs.Owned.{owned}
-use Rattle.kernel_model.specs.Residents.{fault_packet, key_packet}
-use Rattle.kernel_model.specs.ValidLists.{AreValid}
-use Rattle.kernel_model.specs.ValidQueues.{is_fault_packet, is_key_packet}
-use Rattle.kernel_model.proofs.NotedInTurn.{notes-none, notes-one}
-use Rattle.kernel_model.proofs.PacketMoves.{unqueued-unowned, unqueued-valid}
-use Rattle.kernel_model.proofs.QueuePlaces.{place-there}
-use Rattle.word_kinds.specs.Keeper.{AreTogether}
-use Rattle.word_kinds.proofs.KnownWords.{knows-released}
-use Rattle.call_answers.specs.Made.{IsMade, by_refusal}
-use Rattle.call_answers.specs.Refusals.{first_refusal}
-use Rattle.call_answers.proofs.MadeCalls.{made-accepted, made-refused}
-use Rattle.packet_moves.specs.Destinations.{is_destination, queue_for}
+use Rattle.word_store.specs.Count.{IsApart}
+use Rattle.block_calls.specs.KernelDispatch.LinkedList.Places.{has}
+use Rattle.block_calls.specs.KernelDispatch.OwnedWords.Owned.{owners}
+use Rattle.block_calls.specs.KernelDispatch.PacketQueue.Log.{Notes}
+use Rattle.block_calls.specs.KernelDispatch.PacketQueue.Queue.{HasQueue, no_queue, queue_at}
+use Rattle.block_calls.specs.KernelDispatch.PacketQueue.QueueWords.{QueuedPacket}
+use Rattle.block_calls.specs.KernelDispatch.PacketQueue.declared.events.KernelEvent.{KernelEvent}
+use Rattle.block_calls.specs.KernelDispatch.PacketQueue.declared.events.KernelEvent.TheVariants.{Dequeued}
+use Rattle.block_calls.specs.KernelDispatch.KernelModel.ChangedStore.{HasKeeper, IsChanged}
+use Rattle.block_calls.specs.KernelDispatch.KernelModel.Changes.{HasPlace, queue_of, with_queue}
+use Rattle.block_calls.specs.KernelDispatch.KernelModel.Lists.{Lists, has_task}
+use Rattle.block_calls.specs.KernelDispatch.KernelModel.NotedEvents.{NotesAll}
+use Rattle.block_calls.specs.KernelDispatch.KernelModel.Owned.{owned}
+use Rattle.block_calls.specs.KernelDispatch.KernelModel.Residents.{fault_packet, key_packet}
+use Rattle.block_calls.specs.KernelDispatch.KernelModel.ValidLists.{AreValid}
+use Rattle.block_calls.specs.KernelDispatch.KernelModel.ValidQueues.{is_fault_packet, is_key_packet}
+use Rattle.block_calls.proofs.Shown.KernelDispatch.KernelModel.NotedInTurn.{notes-none, notes-one}
+use Rattle.block_calls.proofs.Shown.KernelDispatch.KernelModel.PacketMoves.{unqueued-unowned, unqueued-valid}
+use Rattle.block_calls.proofs.Shown.KernelDispatch.KernelModel.QueuePlaces.{place-there}
+use Rattle.block_calls.specs.KernelDispatch.WordKinds.Keeper.{AreTogether}
+use Rattle.block_calls.proofs.Shown.KernelDispatch.WordKinds.KnownWords.{knows-released}
+use Rattle.block_calls.specs.CallAnswers.Made.{IsMade, by_refusal}
+use Rattle.block_calls.specs.CallAnswers.Refusals.{first_refusal}
+use Rattle.block_calls.proofs.Shown.CallAnswers.MadeCalls.{made-accepted, made-refused}
+use Rattle.packet_calls.specs.Destinations.{is_destination, queue_for}
 use Rattle.packet_calls.specs.Dqpkt.{Search, dequeued, dqpkt, dqpkt_tests, found_in, is_residents_packet, searches}
-use Rattle.packet_moves.specs.PacketMoves.{departed, stands_in}
-use Rattle.packet_moves.specs.QueueWords.{head_of, unqueued}
+use Rattle.packet_calls.specs.PacketMoves.{departed, stands_in}
+use Rattle.packet_calls.specs.QueueWords.{head_of, unqueued}
 use Rattle.packet_calls.specs.declared.dequeue.Found.{Found}
-use Rattle.packet_moves.proofs.Departure.{departed-changed, owners-departed, packet-inside}
-use Rattle.packet_moves.proofs.HeldPlaces.{StandsBetween, has-at, stands-at, stands-between}
-use Rattle.packet_moves.proofs.KeptWords.{changed-plain}
+use Rattle.packet_calls.proofs.Departure.{departed-changed, owners-departed, packet-inside}
+use Rattle.packet_calls.proofs.HeldPlaces.{StandsBetween, has-at, stands-at, stands-between}
+use Rattle.packet_calls.proofs.KeptWords.{changed-plain}
 use Rattle.packet_calls.proofs.PacketTests.{found-passes, neither}
 use Rattle.packet_calls.proofs.Searches.{IsFound}
 

@@ -1,3 +1,11 @@
+pub mod KeptWords
+pub mod PlaceWords
+pub mod Arrival
+pub mod ArrivalWords
+pub mod PlacedPackets
+pub mod Departure
+pub mod HeldPlaces
+pub mod NamedQueues
 pub mod DueOrder
 pub mod CallerTask
 pub mod WaitCall
@@ -8,3 +16,6 @@ pub mod Searches
 pub mod DequeueCall
 pub mod ReplyCall
 pub mod OwnPackets
+pub mod DeviceQueues
+pub mod ReturnedLists
+pub mod ReturnedWords

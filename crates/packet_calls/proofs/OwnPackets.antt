@@ -3,48 +3,48 @@ use Rattle.std.proofs.Common.{◌≡◌, ◌≢◌, ℕ, ◌+◌, ◌<◌, ◌�
 use Rattle.std.specs.List.{AllByRecursion, range_with_len}
 use Rattle.std.proofs.lemmas.Bool.{and_parts, eq-eqb, ne_eqb}
 use Rattle.word_store.specs.Arithmetic.{signed}
-use Rattle.linked_list.specs.Count.{times}
-use Rattle.linked_list.proofs.AllMembers.{all-append}
-use Rattle.owned_words.specs.Exchange.{Exchange}
-use Rattle.owned_words.specs.Owned.{Holds, Pairs, owners}
-use Rattle.owned_words.proofs.RowWords.{owners-row}
-use Rattle.packet_queue.specs.Log.{Notes}
-use Rattle.packet_queue.specs.Queue.{CanQueue, HasQueue, no_queue}
-use Rattle.packet_queue.specs.QueueWords.{QueuedPacket}
-use Rattle.packet_queue.specs.declared.events.KernelEvent.{KernelEvent}
-use Rattle.packet_queue.specs.declared.events.KernelEvent.TheVariants.{Accepted}
-use Rattle.kernel_model.specs.ChangedStore.{HasKeeper, IsChanged}
-use Rattle.kernel_model.specs.Changes.{with_key, with_queue}
-use Rattle.kernel_model.specs.HoldsLists.{HoldsLists}
-use Rattle.kernel_model.specs.Lists.{Lists, has_task, is_queued}
-use Rattle.kernel_model.specs.NotedEvents.{NotesAll}
-use Rattle.kernel_model.specs.Owned.{owned}
-use Rattle.kernel_model.specs.Residents.{key_packet, key_words, keyboard}
-use Rattle.kernel_model.specs.ValidLists.{AreValid}
-use Rattle.kernel_model.specs.ValidQueues.{IsKeyPacket}
-use Rattle.kernel_model.specs.ValidQueues.Place.{Keyboard, Work}
-use Rattle.kernel_model.specs.ValidTasks.{IsField}
-use Rattle.kernel_model.proofs.AllThings.{all-here}
-use Rattle.kernel_model.proofs.ChainSplits.{HasNumbered, numbered}
-use Rattle.kernel_model.proofs.ChangedLists.{knows-same}
-use Rattle.kernel_model.proofs.NotedInTurn.{notes-one}
-use Rattle.kernel_model.proofs.ReadQueues.{packets-some}
-use Rattle.kernel_model.proofs.ResidentPackets.{key_queued-valid}
-use Rattle.word_kinds.specs.Keeper.{AreTogether}
-use Rattle.word_kinds.proofs.KnownWords.{knows-claimed}
-use Rattle.call_answers.specs.Made.{IsMade, minus_one}
-use Rattle.call_answers.proofs.FoundTask.{reads}
-use Rattle.call_answers.proofs.RootTold.{tick-told}
-use Rattle.packet_moves.specs.Destinations.{destination_of, queue_for}
-use Rattle.packet_moves.specs.PacketMoves.{packet_at, sent_packet, with_arrived}
-use Rattle.packet_moves.specs.QueueWords.{due_in, head_of, sent_words}
+use Rattle.word_store.specs.Count.{times}
+use Rattle.block_calls.proofs.Shown.KernelDispatch.LinkedList.AllMembers.{all-append}
+use Rattle.block_calls.specs.KernelDispatch.OwnedWords.Exchange.{Exchange}
+use Rattle.block_calls.specs.KernelDispatch.OwnedWords.Owned.{Holds, Pairs, owners}
+use Rattle.block_calls.proofs.Shown.KernelDispatch.OwnedWords.RowWords.{owners-row}
+use Rattle.block_calls.specs.KernelDispatch.PacketQueue.Log.{Notes}
+use Rattle.block_calls.specs.KernelDispatch.PacketQueue.Queue.{CanQueue, HasQueue, no_queue}
+use Rattle.block_calls.specs.KernelDispatch.PacketQueue.QueueWords.{QueuedPacket}
+use Rattle.block_calls.specs.KernelDispatch.PacketQueue.declared.events.KernelEvent.{KernelEvent}
+use Rattle.block_calls.specs.KernelDispatch.PacketQueue.declared.events.KernelEvent.TheVariants.{Accepted}
+use Rattle.block_calls.specs.KernelDispatch.KernelModel.ChangedStore.{HasKeeper, IsChanged}
+use Rattle.block_calls.specs.KernelDispatch.KernelModel.Changes.{with_key, with_queue}
+use Rattle.block_calls.specs.KernelDispatch.KernelModel.HoldsLists.{HoldsLists}
+use Rattle.block_calls.specs.KernelDispatch.KernelModel.Lists.{Lists, has_task, is_queued}
+use Rattle.block_calls.specs.KernelDispatch.KernelModel.NotedEvents.{NotesAll}
+use Rattle.block_calls.specs.KernelDispatch.KernelModel.Owned.{owned}
+use Rattle.block_calls.specs.KernelDispatch.KernelModel.Residents.{key_packet, key_words, keyboard}
+use Rattle.block_calls.specs.KernelDispatch.KernelModel.ValidLists.{AreValid}
+use Rattle.block_calls.specs.KernelDispatch.KernelModel.ValidQueues.{IsKeyPacket}
+use Rattle.block_calls.specs.KernelDispatch.KernelModel.ValidQueues.Place.{Keyboard, Work}
+use Rattle.block_calls.specs.KernelDispatch.KernelModel.ValidTasks.{IsField}
+use Rattle.block_calls.proofs.Shown.KernelDispatch.KernelModel.AllThings.{all-here}
+use Rattle.block_calls.proofs.Shown.KernelDispatch.KernelModel.ChainSplits.{HasNumbered, numbered}
+use Rattle.block_calls.proofs.Shown.KernelDispatch.KernelModel.ChangedLists.{knows-same}
+use Rattle.block_calls.proofs.Shown.KernelDispatch.KernelModel.NotedInTurn.{notes-one}
+use Rattle.block_calls.proofs.Shown.KernelDispatch.KernelModel.ReadQueues.{packets-some}
+use Rattle.block_calls.proofs.Shown.KernelDispatch.KernelModel.ResidentPackets.{key_queued-valid}
+use Rattle.block_calls.specs.KernelDispatch.WordKinds.Keeper.{AreTogether}
+use Rattle.block_calls.proofs.Shown.KernelDispatch.WordKinds.KnownWords.{knows-claimed}
+use Rattle.block_calls.specs.CallAnswers.Made.{IsMade, minus_one}
+use Rattle.block_calls.proofs.Shown.CallAnswers.FoundTask.{reads}
+use Rattle.block_calls.proofs.Shown.CallAnswers.RootTold.{tick-told}
+use Rattle.packet_calls.specs.Destinations.{destination_of, queue_for}
+use Rattle.packet_calls.specs.PacketMoves.{packet_at, sent_packet, with_arrived}
+use Rattle.packet_calls.specs.QueueWords.{due_in, head_of, sent_words}
 use Rattle.packet_calls.specs.SendOwn.{CanSendKeys, CanSendOwn, CanSendToTask, send_own, with_sent}
-use Rattle.packet_moves.specs.declared.queues.Queue.{Queue}
-use Rattle.packet_moves.specs.declared.queues.Queue.TheVariants.{OfKeyboard}
-use Rattle.packet_moves.proofs.NamedQueues.{no-device}
-use Rattle.packet_moves.proofs.PlacedPackets.{end-changed, end-owners, end-packet, end-queue, fields-stand}
-use Rattle.packet_moves.proofs.PlaceWords.{keys-exchange}
-use Rattle.kernel_model.proofs.DataInside.{AreData-inside}
+use Rattle.packet_calls.specs.declared.queues.Queue.{Queue}
+use Rattle.packet_calls.specs.declared.queues.Queue.TheVariants.{OfKeyboard}
+use Rattle.packet_calls.proofs.NamedQueues.{no-device}
+use Rattle.packet_calls.proofs.PlacedPackets.{end-changed, end-owners, end-packet, end-queue, fields-stand}
+use Rattle.packet_calls.proofs.PlaceWords.{keys-exchange}
+use Rattle.block_calls.proofs.Shown.KernelDispatch.KernelModel.DataInside.{AreData-inside}
 use Rattle.packet_calls.proofs.SentPackets.{Sent, sender-set, sent-packet, word-within}
 
 -- the number of a task is no device's

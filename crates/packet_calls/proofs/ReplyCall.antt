@@ -3,30 +3,30 @@ use Rattle.std.proofs.Common.{◌≡◌, ℕ, ◌+◌, ◌<◌, Bool, Option, So
 use Rattle.std.specs.List.{AllByRecursion}
 use Rattle.std.proofs.lemmas.Bool.{false≢true}
 use Rattle.word_store.specs.Arithmetic.{signed}
-use Rattle.owned_words.specs.Owned.{Pairs}
-use Rattle.packet_queue.specs.Log.{Notes}
-use Rattle.packet_queue.specs.Queue.{CanQueue, HasQueue}
-use Rattle.packet_queue.specs.QueueWords.{QueuedPacket}
-use Rattle.packet_queue.specs.declared.events.KernelEvent.{KernelEvent}
-use Rattle.packet_queue.specs.declared.events.KernelEvent.TheVariants.{Accepted}
-use Rattle.task_block.specs.TaskChain.{task_with, tasks_in}
-use Rattle.kernel_model.specs.Changes.{queue_of, with_queue}
-use Rattle.kernel_model.specs.HoldsLists.{HoldsLists}
-use Rattle.kernel_model.specs.Lists.{Lists, has_task}
-use Rattle.kernel_model.specs.NotedEvents.{NotesAll}
-use Rattle.kernel_model.specs.Task.{queue_head}
-use Rattle.kernel_model.specs.ValidLists.{AreValid}
-use Rattle.kernel_model.specs.ValidQueues.{Place}
-use Rattle.kernel_model.specs.ValidQueues.Place.{Work}
-use Rattle.kernel_model.specs.ValidTasks.{IsField}
-use Rattle.kernel_model.proofs.NotedInTurn.{notes-one}
-use Rattle.call_answers.specs.Made.{Leaves, minus_one}
-use Rattle.call_answers.proofs.FoundTask.{Finds, find-task, found-address}
-use Rattle.packet_moves.specs.Destinations.{queue_for}
-use Rattle.packet_moves.specs.QueueWords.{head_of, enqueued, with_results}
+use Rattle.block_calls.specs.KernelDispatch.OwnedWords.Owned.{Pairs}
+use Rattle.block_calls.specs.KernelDispatch.PacketQueue.Log.{Notes}
+use Rattle.block_calls.specs.KernelDispatch.PacketQueue.Queue.{CanQueue, HasQueue}
+use Rattle.block_calls.specs.KernelDispatch.PacketQueue.QueueWords.{QueuedPacket}
+use Rattle.block_calls.specs.KernelDispatch.PacketQueue.declared.events.KernelEvent.{KernelEvent}
+use Rattle.block_calls.specs.KernelDispatch.PacketQueue.declared.events.KernelEvent.TheVariants.{Accepted}
+use Rattle.block_calls.specs.KernelDispatch.TaskBlock.TaskChain.{task_with, tasks_in}
+use Rattle.block_calls.specs.KernelDispatch.KernelModel.Changes.{queue_of, with_queue}
+use Rattle.block_calls.specs.KernelDispatch.KernelModel.HoldsLists.{HoldsLists}
+use Rattle.block_calls.specs.KernelDispatch.KernelModel.Lists.{Lists, has_task}
+use Rattle.block_calls.specs.KernelDispatch.KernelModel.NotedEvents.{NotesAll}
+use Rattle.block_calls.specs.KernelDispatch.KernelModel.Task.{queue_head}
+use Rattle.block_calls.specs.KernelDispatch.KernelModel.ValidLists.{AreValid}
+use Rattle.block_calls.specs.KernelDispatch.KernelModel.ValidQueues.{Place}
+use Rattle.block_calls.specs.KernelDispatch.KernelModel.ValidQueues.Place.{Work}
+use Rattle.block_calls.specs.KernelDispatch.KernelModel.ValidTasks.{IsField}
+use Rattle.block_calls.proofs.Shown.KernelDispatch.KernelModel.NotedInTurn.{notes-one}
+use Rattle.block_calls.specs.CallAnswers.Made.{Leaves, minus_one}
+use Rattle.block_calls.proofs.Shown.CallAnswers.FoundTask.{Finds, find-task, found-address}
+use Rattle.packet_calls.specs.Destinations.{queue_for}
+use Rattle.packet_calls.specs.QueueWords.{head_of, enqueued, with_results}
 use Rattle.packet_calls.specs.Reply.{CanReply, reply, returned}
-use Rattle.packet_moves.specs.declared.queues.Queue.TheVariants.{OfTask}
-use Rattle.packet_moves.proofs.PlacedPackets.{end-changed, end-packet, end-queue, fields-stand, results-own, results-set}
+use Rattle.packet_calls.specs.declared.queues.Queue.TheVariants.{OfTask}
+use Rattle.packet_calls.proofs.PlacedPackets.{end-changed, end-packet, end-queue, fields-stand, results-own, results-set}
 use Rattle.packet_calls.proofs.SentPackets.{comes-some, comes-valid}
 
 module _ (s : List ℕ) (l : Lists) (p from res1 res2 : ℕ) (h : HoldsLists s l) (r : CanReply s l p from) where

@@ -2,34 +2,34 @@
 use Rattle.std.proofs.Common.{◌≡◌, ℕ, ◌+◌, ◌≤◌, Bool, false, Option, Some, None, Ok, Err, List, [], ◌∷◌, cond, get_or, set, refl, sym, ap, ◌∙◌, subst, arith}
 use Rattle.std.specs.List.{range_with_len}
 use Rattle.word_store.specs.Arithmetic.{signed}
-use Rattle.packet_queue.specs.Log.{Notes}
-use Rattle.packet_queue.specs.Queue.{CanQueue, HasQueue}
-use Rattle.packet_queue.specs.declared.events.KernelEvent.{KernelEvent}
-use Rattle.packet_queue.specs.declared.events.KernelEvent.TheVariants.{Accepted}
-use Rattle.kernel_model.specs.ChangedStore.{HasKeeper}
-use Rattle.kernel_model.specs.Lists.{Lists}
-use Rattle.kernel_model.specs.NotedEvents.{NotesAll}
-use Rattle.kernel_model.specs.ValidBlocks.{AreData}
-use Rattle.kernel_model.specs.ValidQueues.{HasSender, Place}
-use Rattle.kernel_model.specs.ValidQueues.Place.{Clock, Keyboard, Output, Pending, Work}
-use Rattle.kernel_model.proofs.DataInside.{AreData-inside}
-use Rattle.kernel_model.proofs.NotedInTurn.{notes-none, notes-one}
-use Rattle.word_kinds.specs.Keeper.{AreTogether}
-use Rattle.word_kinds.proofs.KnownWords.{knows-claimed}
-use Rattle.call_answers.specs.Callers.{HasCaller}
-use Rattle.call_answers.specs.Guests.{GuestAt}
-use Rattle.call_answers.specs.Made.{IsMade, by_refusal, minus_one}
-use Rattle.call_answers.specs.Refusals.{first_refusal}
-use Rattle.call_answers.proofs.MadeCalls.{made-accepted, made-refused}
-use Rattle.call_answers.proofs.Refusals.{first_refusal-failed, first_refusal-passed}
-use Rattle.call_answers.proofs.RootTold.{tick-told}
-use Rattle.packet_moves.specs.Destinations.{is_destination, place_of, queue_for}
-use Rattle.packet_moves.specs.PacketMoves.{sent_packet, with_arrived}
+use Rattle.block_calls.specs.KernelDispatch.PacketQueue.Log.{Notes}
+use Rattle.block_calls.specs.KernelDispatch.PacketQueue.Queue.{CanQueue, HasQueue}
+use Rattle.block_calls.specs.KernelDispatch.PacketQueue.declared.events.KernelEvent.{KernelEvent}
+use Rattle.block_calls.specs.KernelDispatch.PacketQueue.declared.events.KernelEvent.TheVariants.{Accepted}
+use Rattle.block_calls.specs.KernelDispatch.KernelModel.ChangedStore.{HasKeeper}
+use Rattle.block_calls.specs.KernelDispatch.KernelModel.Lists.{Lists}
+use Rattle.block_calls.specs.KernelDispatch.KernelModel.NotedEvents.{NotesAll}
+use Rattle.block_calls.specs.KernelDispatch.KernelModel.ValidBlocks.{AreData}
+use Rattle.block_calls.specs.KernelDispatch.KernelModel.ValidQueues.{HasSender, Place}
+use Rattle.block_calls.specs.KernelDispatch.KernelModel.ValidQueues.Place.{Clock, Keyboard, Output, Pending, Work}
+use Rattle.block_calls.proofs.Shown.KernelDispatch.KernelModel.DataInside.{AreData-inside}
+use Rattle.block_calls.proofs.Shown.KernelDispatch.KernelModel.NotedInTurn.{notes-none, notes-one}
+use Rattle.block_calls.specs.KernelDispatch.WordKinds.Keeper.{AreTogether}
+use Rattle.block_calls.proofs.Shown.KernelDispatch.WordKinds.KnownWords.{knows-claimed}
+use Rattle.block_calls.specs.CallAnswers.Callers.{HasCaller}
+use Rattle.block_calls.specs.CallAnswers.Guests.{GuestAt}
+use Rattle.block_calls.specs.CallAnswers.Made.{IsMade, by_refusal, minus_one}
+use Rattle.block_calls.specs.CallAnswers.Refusals.{first_refusal}
+use Rattle.block_calls.proofs.Shown.CallAnswers.MadeCalls.{made-accepted, made-refused}
+use Rattle.block_calls.proofs.Shown.CallAnswers.Refusals.{first_refusal-failed, first_refusal-passed}
+use Rattle.block_calls.proofs.Shown.CallAnswers.RootTold.{tick-told}
+use Rattle.packet_calls.specs.Destinations.{is_destination, place_of, queue_for}
+use Rattle.packet_calls.specs.PacketMoves.{sent_packet, with_arrived}
 use Rattle.packet_calls.specs.Qpkt.{packet_tests, qpkt, qpkt_tests, sent_to}
-use Rattle.packet_moves.specs.QueueWords.{head_of, sent_words}
-use Rattle.packet_moves.specs.declared.queues.Queue.{Queue}
+use Rattle.packet_calls.specs.QueueWords.{head_of, sent_words}
+use Rattle.packet_calls.specs.declared.queues.Queue.{Queue}
 use Rattle.packet_calls.proofs.CallerTask.{caller-number}
-use Rattle.packet_moves.proofs.NamedQueues.{Names}
+use Rattle.packet_calls.proofs.NamedQueues.{Names}
 use Rattle.packet_calls.proofs.PacketTests.{PassesTests, passes-tests}
 use Rattle.packet_calls.proofs.SentPackets.{Sent, sent-packet}
 

@@ -2,35 +2,35 @@
 use Rattle.std.proofs.Common.{◌≡◌, ℕ, ◌+◌, ◌<◌, List, [], ◌∷◌, ◌++◌, get_or, set, inl, inr, refl, sym, ap, ◌∙◌, subst, arith, append-nil}
 use Rattle.std.specs.List.{AllByRecursion, range_with_len}
 use Rattle.std.proofs.lemmas.Bool.{cases_eq, false≢true}
-use Rattle.linked_list.specs.Count.{times}
-use Rattle.linked_list.proofs.Counts.{hit-other, times-within}
-use Rattle.owned_words.specs.Exchange.{Splits}
-use Rattle.owned_words.specs.Owned.{Pairs, owners}
-use Rattle.packet_queue.specs.Queue.{CanQueue, HasQueue}
-use Rattle.packet_queue.specs.QueueWords.{HeldQueue, QueuedPacket, packet_words}
-use Rattle.kernel_model.specs.ChangedStore.{IsChanged}
-use Rattle.kernel_model.specs.Changes.{AreUnowned, HasPlace, KeepsOrder, queue_of, with_queue}
-use Rattle.kernel_model.specs.HoldsLists.{HoldsLists}
-use Rattle.kernel_model.specs.Lists.{Lists}
-use Rattle.kernel_model.specs.Owned.{clock_head, owned}
-use Rattle.kernel_model.specs.ValidBlocks.{AreData}
-use Rattle.kernel_model.specs.ValidLists.{AreValid}
-use Rattle.kernel_model.specs.ValidQueues.{HasSender, MayStand, NeverFall, Place}
-use Rattle.kernel_model.specs.ValidQueues.Place.{Clock, Keyboard, Output, Pending, Work}
-use Rattle.kernel_model.specs.ValidTasks.{IsField}
-use Rattle.kernel_model.proofs.AllThings.{all-between}
-use Rattle.kernel_model.proofs.OwnedPackets.{unowned-no_fault, unowned-no_key}
-use Rattle.kernel_model.proofs.PacketMoves.{queued-valid}
-use Rattle.kernel_model.proofs.QueuePlaces.{place-stands}
-use Rattle.kernel_model.proofs.ReadQueues.{packets-some}
-use Rattle.packet_moves.specs.Destinations.{queue_for}
-use Rattle.packet_moves.specs.PacketMoves.{arrived, packet_at, sent_packet, with_arrived}
-use Rattle.packet_moves.specs.QueueWords.{due_in, due_tick, head_of, enqueued, sent_words}
-use Rattle.packet_moves.proofs.Arrival.{AreOfPacket}
-use Rattle.packet_moves.proofs.ArrivalWords.{TakesAtEnd}
+use Rattle.word_store.specs.Count.{times}
+use Rattle.word_store.proofs.Counts.{hit-other, times-within}
+use Rattle.block_calls.specs.KernelDispatch.OwnedWords.Exchange.{Splits}
+use Rattle.block_calls.specs.KernelDispatch.OwnedWords.Owned.{Pairs, owners}
+use Rattle.block_calls.specs.KernelDispatch.PacketQueue.Queue.{CanQueue, HasQueue}
+use Rattle.block_calls.specs.KernelDispatch.PacketQueue.QueueWords.{HeldQueue, QueuedPacket, packet_words}
+use Rattle.block_calls.specs.KernelDispatch.KernelModel.ChangedStore.{IsChanged}
+use Rattle.block_calls.specs.KernelDispatch.KernelModel.Changes.{AreUnowned, HasPlace, KeepsOrder, queue_of, with_queue}
+use Rattle.block_calls.specs.KernelDispatch.KernelModel.HoldsLists.{HoldsLists}
+use Rattle.block_calls.specs.KernelDispatch.KernelModel.Lists.{Lists}
+use Rattle.block_calls.specs.KernelDispatch.KernelModel.Owned.{clock_head, owned}
+use Rattle.block_calls.specs.KernelDispatch.KernelModel.ValidBlocks.{AreData}
+use Rattle.block_calls.specs.KernelDispatch.KernelModel.ValidLists.{AreValid}
+use Rattle.block_calls.specs.KernelDispatch.KernelModel.ValidQueues.{HasSender, MayStand, NeverFall, Place}
+use Rattle.block_calls.specs.KernelDispatch.KernelModel.ValidQueues.Place.{Clock, Keyboard, Output, Pending, Work}
+use Rattle.block_calls.specs.KernelDispatch.KernelModel.ValidTasks.{IsField}
+use Rattle.block_calls.proofs.Shown.KernelDispatch.KernelModel.AllThings.{all-between}
+use Rattle.block_calls.proofs.Shown.KernelDispatch.KernelModel.OwnedPackets.{unowned-no_fault, unowned-no_key}
+use Rattle.block_calls.proofs.Shown.KernelDispatch.KernelModel.PacketMoves.{queued-valid}
+use Rattle.block_calls.proofs.Shown.KernelDispatch.KernelModel.QueuePlaces.{place-stands}
+use Rattle.block_calls.proofs.Shown.KernelDispatch.KernelModel.ReadQueues.{packets-some}
+use Rattle.packet_calls.specs.Destinations.{queue_for}
+use Rattle.packet_calls.specs.PacketMoves.{arrived, packet_at, sent_packet, with_arrived}
+use Rattle.packet_calls.specs.QueueWords.{due_in, due_tick, head_of, enqueued, sent_words}
+use Rattle.packet_calls.proofs.Arrival.{AreOfPacket}
+use Rattle.packet_calls.proofs.ArrivalWords.{TakesAtEnd}
 use Rattle.packet_calls.proofs.DueOrder.{falls-inserted}
-use Rattle.packet_moves.proofs.HeldPlaces.{held-at}
-use Rattle.packet_moves.proofs.PlacedPackets.{AreSet, clock-changed, clock-owners, clock-packet, clock-queue, end-changed, end-owners, end-packet, end-queue, fields-stand}
+use Rattle.packet_calls.proofs.HeldPlaces.{held-at}
+use Rattle.packet_calls.proofs.PlacedPackets.{AreSet, clock-changed, clock-owners, clock-packet, clock-queue, end-changed, end-owners, end-packet, end-queue, fields-stand}
 
 -- one of the five words
 pub word-within : (p i w : ℕ) → i < 5 → (a : ℕ) → 0 < owners a ((p + i, w) ∷ []) → 0 < times a (range_with_len p 5)

@@ -3,46 +3,46 @@ use Rattle.std.proofs.Common.{◌≡◌, ◌≢◌, ℕ, ◌+◌, Bool, true, fa
 use Rattle.std.specs.List.{AllByRecursion, range_with_len}
 use Rattle.std.proofs.lemmas.Bool.{eq-eqb, false_from_ne_true, leb-true, or_left}
 use Rattle.word_store.specs.Arithmetic.{signed}
-use Rattle.linked_list.specs.Count.{IsApart}
-use Rattle.linked_list.specs.Places.{has}
-use Rattle.owned_words.specs.Exchange.{Exchange}
-use Rattle.owned_words.specs.LinkedWords.{first_of}
-use Rattle.owned_words.proofs.Exchanges.{exchange-left, exchange-right, exchange-row}
-use Rattle.packet_queue.specs.Log.{Notes}
-use Rattle.packet_queue.specs.Queue.{HasQueue, queue_at}
-use Rattle.packet_queue.specs.QueueWords.{QueuedPacket, queue_words}
-use Rattle.packet_queue.specs.declared.events.KernelEvent.{KernelEvent}
-use Rattle.packet_queue.specs.declared.events.KernelEvent.TheVariants.{Taken}
-use Rattle.coroutines.specs.CoroutineExchanges.{words_of_coroutines}
-use Rattle.kernel_model.specs.ChangedStore.{HasKeeper, IsChanged, Knows}
-use Rattle.kernel_model.specs.Changes.{queue_of, with_queue, with_task, with_tasks}
-use Rattle.kernel_model.specs.Lists.{Lists, has_task}
-use Rattle.kernel_model.specs.NotedEvents.{NotesAll}
-use Rattle.kernel_model.specs.Owned.{owned}
-use Rattle.kernel_model.specs.Task.{Task, fault_words, globals_of, is_guest_id, name_words, queue_bit, queue_head, stack_of, state_word, state_words, task_address, task_words}
-use Rattle.kernel_model.specs.ValidLists.{AreValid}
-use Rattle.kernel_model.specs.ValidQueues.{IsFaultPacket, IsKeyPacket, MayStand, Place, is_fault_packet, is_key_packet}
-use Rattle.kernel_model.specs.ValidQueues.Place.{Clock, Keyboard, Output, Pending, Work}
-use Rattle.kernel_model.specs.ValidTasks.{IsTask}
-use Rattle.kernel_model.proofs.ChangedLists.{exchange-owned, knows-same, one_task-owned, owners-exchanged}
-use Rattle.kernel_model.proofs.NotedInTurn.{notes-none, notes-one}
-use Rattle.kernel_model.proofs.OneTask.{same_task-valid}
-use Rattle.kernel_model.proofs.PacketMoves.{unqueued-valid}
-use Rattle.kernel_model.proofs.QueuePlaces.{place-stands}
-use Rattle.word_kinds.specs.Keeper.{AreTogether}
-use Rattle.word_kinds.proofs.KnownWords.{knows-released}
-use Rattle.call_answers.specs.Callers.{HasCaller}
-use Rattle.call_answers.specs.Guests.{GuestAt}
-use Rattle.call_answers.specs.Made.{IsMade}
-use Rattle.call_answers.proofs.GuestTask.{GuestFacts, guest-changed, guest-facts}
-use Rattle.packet_moves.specs.Destinations.{queue_for}
-use Rattle.packet_moves.specs.PacketMoves.{stands_in}
-use Rattle.packet_moves.specs.QueueWords.{head_of, unqueued}
+use Rattle.word_store.specs.Count.{IsApart}
+use Rattle.block_calls.specs.KernelDispatch.LinkedList.Places.{has}
+use Rattle.block_calls.specs.KernelDispatch.OwnedWords.Exchange.{Exchange}
+use Rattle.block_calls.specs.KernelDispatch.OwnedWords.LinkedWords.{first_of}
+use Rattle.block_calls.proofs.Shown.KernelDispatch.OwnedWords.Exchanges.{exchange-left, exchange-right, exchange-row}
+use Rattle.block_calls.specs.KernelDispatch.PacketQueue.Log.{Notes}
+use Rattle.block_calls.specs.KernelDispatch.PacketQueue.Queue.{HasQueue, queue_at}
+use Rattle.block_calls.specs.KernelDispatch.PacketQueue.QueueWords.{QueuedPacket, queue_words}
+use Rattle.block_calls.specs.KernelDispatch.PacketQueue.declared.events.KernelEvent.{KernelEvent}
+use Rattle.block_calls.specs.KernelDispatch.PacketQueue.declared.events.KernelEvent.TheVariants.{Taken}
+use Rattle.block_calls.specs.KernelDispatch.Coroutines.CoroutineExchanges.{words_of_coroutines}
+use Rattle.block_calls.specs.KernelDispatch.KernelModel.ChangedStore.{HasKeeper, IsChanged, Knows}
+use Rattle.block_calls.specs.KernelDispatch.KernelModel.Changes.{queue_of, with_queue, with_task, with_tasks}
+use Rattle.block_calls.specs.KernelDispatch.KernelModel.Lists.{Lists, has_task}
+use Rattle.block_calls.specs.KernelDispatch.KernelModel.NotedEvents.{NotesAll}
+use Rattle.block_calls.specs.KernelDispatch.KernelModel.Owned.{owned}
+use Rattle.block_calls.specs.KernelDispatch.KernelModel.Task.{Task, fault_words, globals_of, is_guest_id, name_words, queue_bit, queue_head, stack_of, state_word, state_words, task_address, task_words}
+use Rattle.block_calls.specs.KernelDispatch.KernelModel.ValidLists.{AreValid}
+use Rattle.block_calls.specs.KernelDispatch.KernelModel.ValidQueues.{IsFaultPacket, IsKeyPacket, MayStand, Place, is_fault_packet, is_key_packet}
+use Rattle.block_calls.specs.KernelDispatch.KernelModel.ValidQueues.Place.{Clock, Keyboard, Output, Pending, Work}
+use Rattle.block_calls.specs.KernelDispatch.KernelModel.ValidTasks.{IsTask}
+use Rattle.block_calls.proofs.Shown.KernelDispatch.KernelModel.ChangedLists.{exchange-owned, knows-same, one_task-owned, owners-exchanged}
+use Rattle.block_calls.proofs.Shown.KernelDispatch.KernelModel.NotedInTurn.{notes-none, notes-one}
+use Rattle.block_calls.proofs.Shown.KernelDispatch.KernelModel.OneTask.{same_task-valid}
+use Rattle.block_calls.proofs.Shown.KernelDispatch.KernelModel.PacketMoves.{unqueued-valid}
+use Rattle.block_calls.proofs.Shown.KernelDispatch.KernelModel.QueuePlaces.{place-stands}
+use Rattle.block_calls.specs.KernelDispatch.WordKinds.Keeper.{AreTogether}
+use Rattle.block_calls.proofs.Shown.KernelDispatch.WordKinds.KnownWords.{knows-released}
+use Rattle.block_calls.specs.CallAnswers.Callers.{HasCaller}
+use Rattle.block_calls.specs.CallAnswers.Guests.{GuestAt}
+use Rattle.block_calls.specs.CallAnswers.Made.{IsMade}
+use Rattle.block_calls.proofs.Shown.CallAnswers.GuestTask.{GuestFacts, guest-changed, guest-facts}
+use Rattle.packet_calls.specs.Destinations.{queue_for}
+use Rattle.packet_calls.specs.PacketMoves.{stands_in}
+use Rattle.packet_calls.specs.QueueWords.{head_of, unqueued}
 use Rattle.packet_calls.specs.TaskWait.{first_of_queue, taskwait, waited, waiting}
-use Rattle.packet_moves.specs.declared.queues.Queue.TheVariants.{OfTask}
+use Rattle.packet_calls.specs.declared.queues.Queue.TheVariants.{OfTask}
 use Rattle.packet_calls.proofs.CallerTask.{caller-first, caller-number, caller-queue, caller-runs, caller-state, caller-there}
-use Rattle.packet_moves.proofs.HeldPlaces.{HasFirst, first-there, has-at, held-at, no-packets, stands-at}
-use Rattle.packet_moves.proofs.Departure.{departed-changed, held-before, others-kept, owners-departed}
+use Rattle.packet_calls.proofs.HeldPlaces.{HasFirst, first-there, has-at, held-at, no-packets, stands-at}
+use Rattle.packet_calls.proofs.Departure.{departed-changed, held-before, others-kept, owners-departed}
 
 -- a place by the number of its task
 abbrev number_in : Place → ℕ

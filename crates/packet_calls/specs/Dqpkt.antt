@@ -1,16 +1,16 @@
 -- The call that takes a packet back out of a queue.
 use Rattle.std.specs.Prelude.{ℕ, ◌+◌, ◌==◌, ◌&&◌, ◌||◌, Bool, if◌then◌else◌, not, find, is_some, Option, Some, None, Ok, List, [], ◌∷◌, ◌++◌}
 use Rattle.word_store.specs.Arithmetic.{signed}
-use Rattle.packet_queue.specs.Queue.{no_queue}
-use Rattle.packet_queue.specs.declared.events.KernelEvent.TheVariants.{Dequeued}
-use Rattle.kernel_model.specs.Changes.{queue_of}
-use Rattle.kernel_model.specs.Lists.{Lists, has_task}
-use Rattle.kernel_model.specs.Residents.{fault_packet, key_packet}
-use Rattle.kernel_model.specs.ValidQueues.{Place}
-use Rattle.kernel_model.specs.ValidQueues.Place.{Pending, Work}
-use Rattle.call_answers.specs.Made.{Made, done, unless_refused}
-use Rattle.packet_moves.specs.Destinations.{is_destination, place_of, queue_for}
-use Rattle.packet_moves.specs.PacketMoves.{stands_in, with_departed}
+use Rattle.block_calls.specs.KernelDispatch.PacketQueue.Queue.{no_queue}
+use Rattle.block_calls.specs.KernelDispatch.PacketQueue.declared.events.KernelEvent.TheVariants.{Dequeued}
+use Rattle.block_calls.specs.KernelDispatch.KernelModel.Changes.{queue_of}
+use Rattle.block_calls.specs.KernelDispatch.KernelModel.Lists.{Lists, has_task}
+use Rattle.block_calls.specs.KernelDispatch.KernelModel.Residents.{fault_packet, key_packet}
+use Rattle.block_calls.specs.KernelDispatch.KernelModel.ValidQueues.{Place}
+use Rattle.block_calls.specs.KernelDispatch.KernelModel.ValidQueues.Place.{Pending, Work}
+use Rattle.block_calls.specs.CallAnswers.Made.{Made, done, unless_refused}
+use Rattle.packet_calls.specs.Destinations.{is_destination, place_of, queue_for}
+use Rattle.packet_calls.specs.PacketMoves.{stands_in, with_departed}
 use Rattle.packet_calls.specs.declared.dequeue.Found.{Found}
 
 -- A queue that is searched: where it stands, its number as events name it, and the answer where the packet is found in it.

@@ -3,16 +3,16 @@ use Rattle.std.specs.Prelude.{ℕ, ◌+◌, ◌==◌, ◌&&◌, Bool, false, not
 use Rattle.std.specs.List.{list_any, range_with_len}
 use Rattle.std.specs.Option.{option_map_or}
 use Rattle.word_store.specs.Arithmetic.{signed}
-use Rattle.owned_words.specs.Owned.{owners}
-use Rattle.getvec_chain.specs.Block.{has_data}
-use Rattle.getvec_chain.specs.Tiling.{holding}
-use Rattle.packet_queue.specs.Queue.{no_queue}
-use Rattle.packet_queue.specs.declared.events.KernelEvent.TheVariants.{Accepted}
-use Rattle.kernel_model.specs.Lists.{Lists}
-use Rattle.kernel_model.specs.Owned.{owned}
-use Rattle.call_answers.specs.Made.{Made, minus_one, unless_refused}
-use Rattle.packet_moves.specs.Destinations.{is_destination, place_of}
-use Rattle.packet_moves.specs.PacketMoves.{sent_packet, with_arrived}
+use Rattle.block_calls.specs.KernelDispatch.OwnedWords.Owned.{owners}
+use Rattle.block_calls.specs.KernelDispatch.GetvecChain.Block.{has_data}
+use Rattle.block_calls.specs.KernelDispatch.GetvecChain.Tiling.{holding}
+use Rattle.block_calls.specs.KernelDispatch.PacketQueue.Queue.{no_queue}
+use Rattle.block_calls.specs.KernelDispatch.PacketQueue.declared.events.KernelEvent.TheVariants.{Accepted}
+use Rattle.block_calls.specs.KernelDispatch.KernelModel.Lists.{Lists}
+use Rattle.block_calls.specs.KernelDispatch.KernelModel.Owned.{owned}
+use Rattle.block_calls.specs.CallAnswers.Made.{Made, minus_one, unless_refused}
+use Rattle.packet_calls.specs.Destinations.{is_destination, place_of}
+use Rattle.packet_calls.specs.PacketMoves.{sent_packet, with_arrived}
 
 -- the words p to p + 4 are all data of one used block
 abbrev pub is_lodged : Lists → ℕ → Bool

@@ -1,15 +1,15 @@
 -- A packet is returned to the task that sent it.
 use Rattle.std.specs.Prelude.{◌≡◌, ℕ, ◌+◌, true, Ok, List, [], ◌∷◌, slice_index}
 use Rattle.word_store.specs.Arithmetic.{signed}
-use Rattle.packet_queue.specs.QueueWords.{QueuedPacket}
-use Rattle.packet_queue.specs.declared.events.KernelEvent.TheVariants.{Accepted}
-use Rattle.kernel_model.specs.Changes.{AreUnowned}
-use Rattle.kernel_model.specs.Lists.{Lists, has_task}
-use Rattle.kernel_model.specs.ValidBlocks.{AreData}
-use Rattle.kernel_model.specs.ValidQueues.{HasSender}
-use Rattle.kernel_model.specs.ValidQueues.Place.{Work}
-use Rattle.call_answers.specs.Made.{Made, minus_one}
-use Rattle.packet_moves.specs.PacketMoves.{packet_at, with_arrived}
+use Rattle.block_calls.specs.KernelDispatch.PacketQueue.QueueWords.{QueuedPacket}
+use Rattle.block_calls.specs.KernelDispatch.PacketQueue.declared.events.KernelEvent.TheVariants.{Accepted}
+use Rattle.block_calls.specs.KernelDispatch.KernelModel.Changes.{AreUnowned}
+use Rattle.block_calls.specs.KernelDispatch.KernelModel.Lists.{Lists, has_task}
+use Rattle.block_calls.specs.KernelDispatch.KernelModel.ValidBlocks.{AreData}
+use Rattle.block_calls.specs.KernelDispatch.KernelModel.ValidQueues.{HasSender}
+use Rattle.block_calls.specs.KernelDispatch.KernelModel.ValidQueues.Place.{Work}
+use Rattle.block_calls.specs.CallAnswers.Made.{Made, minus_one}
+use Rattle.packet_calls.specs.PacketMoves.{packet_at, with_arrived}
 
 -- the packet's sender is there, its words are data of one used block, nobody owns them, and who returns it may send to its sender
 pub record CanReply (s : List ℕ) (l : Lists) (p from : ℕ) : Type 0 where

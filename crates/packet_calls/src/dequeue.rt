@@ -1,26 +1,24 @@
 // A task takes a packet back out of a queue.
 ghost use Rattle.std.specs.Prelude.{◌≡◌, true};
 ghost use Rattle.std.specs.Option.{option_map};
-ghost use Rattle.kernel_model.specs.ChangedStore.{HasKeeper};
-ghost use Rattle.kernel_model.specs.HoldsLists.{HoldsLists};
-ghost use Rattle.kernel_model.specs.Lists.{Lists};
-ghost use Rattle.kernel_model.specs.NotedEvents.{NotesAll};
-ghost use Rattle.call_answers.specs.Callers.{HasCaller};
-ghost use Rattle.call_answers.specs.Made.{IsMade};
-ghost use Rattle.packet_moves.specs.Destinations.{is_destination, place_of, queue_for};
+ghost use Rattle.block_calls.specs.KernelDispatch.KernelModel.ChangedStore.{HasKeeper};
+ghost use Rattle.block_calls.specs.KernelDispatch.KernelModel.HoldsLists.{HoldsLists};
+ghost use Rattle.block_calls.specs.KernelDispatch.KernelModel.Lists.{Lists};
+ghost use Rattle.block_calls.specs.KernelDispatch.KernelModel.NotedEvents.{NotesAll};
+ghost use Rattle.block_calls.specs.CallAnswers.Callers.{HasCaller};
+ghost use Rattle.block_calls.specs.CallAnswers.Made.{IsMade};
+ghost use Rattle.packet_calls.specs.Destinations.{is_destination, place_of, queue_for};
 ghost use Rattle.packet_calls.specs.Dqpkt.{dqpkt, found_in, found_in_own, is_residents_packet, located};
 
-use call_answers::caller;
-use call_answers::codes::{NO_DESTINATION, NOT_QUEUED, RESIDENT};
-use call_answers::numbers::SENDER;
-use packet_moves::Queue;
-use packet_moves::destinations::destination;
-use packet_moves::events::dequeued;
-use packet_moves::packets::PACKET_WORDS;
-use packet_moves::queues::{has_packet, unqueue};
-use packet_queue::EventLog;
-use task_block::{RootField, TcbField, field, find, root};
-use word_kinds::KindKeeper;
+use crate::Queue;
+use crate::destinations::destination;
+use crate::events::dequeued;
+use crate::packets::PACKET_WORDS;
+use crate::queues::{has_packet, unqueue};
+use block_calls::caller;
+use block_calls::codes::{NO_DESTINATION, NOT_QUEUED, RESIDENT};
+use block_calls::kernel_dispatch::{EventLog, KindKeeper, RootField, TcbField, field, find, root};
+use block_calls::numbers::SENDER;
 use word_store::{Store, set_word_at};
 
 /// The numbers of the console, of its reads that wait for a line, and of the task that reports faults.

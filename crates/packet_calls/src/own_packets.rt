@@ -1,17 +1,16 @@
 // A resident sends a packet of its own.
 ghost use Rattle.std.specs.Prelude.{◌≡◌, Ok};
 ghost use Rattle.word_store.specs.Arithmetic.{word_of};
-ghost use Rattle.kernel_model.specs.ChangedStore.{HasKeeper};
-ghost use Rattle.kernel_model.specs.Lists.{Lists};
-ghost use Rattle.kernel_model.specs.NotedEvents.{NotesAll};
-ghost use Rattle.call_answers.specs.Made.{IsMade, minus_one};
+ghost use Rattle.block_calls.specs.KernelDispatch.KernelModel.ChangedStore.{HasKeeper};
+ghost use Rattle.block_calls.specs.KernelDispatch.KernelModel.Lists.{Lists};
+ghost use Rattle.block_calls.specs.KernelDispatch.KernelModel.NotedEvents.{NotesAll};
+ghost use Rattle.block_calls.specs.CallAnswers.Made.{IsMade, minus_one};
 ghost use Rattle.packet_calls.specs.SendOwn.{CanSendOwn, send_own};
 
-use packet_moves::destinations::{KEYBOARD, destination, number_word};
-use packet_moves::events::accepted;
-use packet_moves::packets::{PACKET_WORDS, send};
-use packet_queue::EventLog;
-use word_kinds::KindKeeper;
+use crate::destinations::{KEYBOARD, destination, number_word};
+use crate::events::accepted;
+use crate::packets::{PACKET_WORDS, send};
+use block_calls::kernel_dispatch::{EventLog, KindKeeper};
 use word_store::Store;
 
 /// Sends the packet at p, which is on no queue, from the task `from` to the end of the work queue of the task `to`. Or it sends

@@ -1,26 +1,24 @@
 // A task sends a packet.
 ghost use Rattle.std.specs.Prelude.{◌≡◌, ◌+◌, ◌&&◌, not, true};
-ghost use Rattle.getvec_chain.specs.Block.{has_data};
-ghost use Rattle.kernel_model.specs.ChangedStore.{HasKeeper};
-ghost use Rattle.kernel_model.specs.HoldsLists.{HoldsLists};
-ghost use Rattle.kernel_model.specs.Lists.{Lists};
-ghost use Rattle.kernel_model.specs.NotedEvents.{NotesAll};
-ghost use Rattle.call_answers.specs.Callers.{HasCaller};
-ghost use Rattle.call_answers.specs.Made.{IsMade, plain_answer};
-ghost use Rattle.call_answers.specs.Refusals.{answer_of, first_refusal};
+ghost use Rattle.block_calls.specs.KernelDispatch.GetvecChain.Block.{has_data};
+ghost use Rattle.block_calls.specs.KernelDispatch.KernelModel.ChangedStore.{HasKeeper};
+ghost use Rattle.block_calls.specs.KernelDispatch.KernelModel.HoldsLists.{HoldsLists};
+ghost use Rattle.block_calls.specs.KernelDispatch.KernelModel.Lists.{Lists};
+ghost use Rattle.block_calls.specs.KernelDispatch.KernelModel.NotedEvents.{NotesAll};
+ghost use Rattle.block_calls.specs.CallAnswers.Callers.{HasCaller};
+ghost use Rattle.block_calls.specs.CallAnswers.Made.{IsMade, plain_answer};
+ghost use Rattle.block_calls.specs.CallAnswers.Refusals.{answer_of, first_refusal};
 ghost use Rattle.packet_calls.specs.Qpkt.{is_lodged, packet_tests, qpkt};
 
-use block_calls::are_unowned;
-use call_answers::caller;
-use call_answers::codes::{LINK_IN_USE, MISPLACED, NO_DESTINATION};
-use call_answers::numbers::SENDER;
-use getvec_chain::{Block, block_of};
-use packet_moves::destinations::destination;
-use packet_moves::events::accepted;
-use packet_moves::packets::{PACKET_WORDS, send};
-use packet_queue::{EventLog, NO_QUEUE};
-use task_block::{TcbField, field};
-use word_kinds::KindKeeper;
+use crate::destinations::destination;
+use crate::events::accepted;
+use crate::packets::{PACKET_WORDS, send};
+use block_calls::caller;
+use block_calls::codes::{LINK_IN_USE, MISPLACED, NO_DESTINATION};
+use block_calls::kernel_dispatch::{
+    Block, EventLog, KindKeeper, NO_QUEUE, TcbField, are_unowned, block_of, field,
+};
+use block_calls::numbers::SENDER;
 use word_store::{Store, word, word_at};
 
 /// Sends the packet at p to the task or the device that its word 1 names; this word has then the number of the task that

@@ -1,23 +1,21 @@
 // A task takes its first packet, or waits for one.
 ghost use Rattle.std.specs.Prelude.{◌≡◌};
-ghost use Rattle.kernel_model.specs.ChangedStore.{HasKeeper};
-ghost use Rattle.kernel_model.specs.Lists.{Lists};
-ghost use Rattle.kernel_model.specs.NotedEvents.{NotesAll};
-ghost use Rattle.kernel_model.specs.Changes.{queue_of};
-ghost use Rattle.kernel_model.specs.ValidQueues.Place.{Work};
-ghost use Rattle.call_answers.specs.Callers.{HasCaller};
-ghost use Rattle.call_answers.specs.Made.{IsMade};
+ghost use Rattle.block_calls.specs.KernelDispatch.KernelModel.ChangedStore.{HasKeeper};
+ghost use Rattle.block_calls.specs.KernelDispatch.KernelModel.Lists.{Lists};
+ghost use Rattle.block_calls.specs.KernelDispatch.KernelModel.NotedEvents.{NotesAll};
+ghost use Rattle.block_calls.specs.KernelDispatch.KernelModel.Changes.{queue_of};
+ghost use Rattle.block_calls.specs.KernelDispatch.KernelModel.ValidQueues.Place.{Work};
+ghost use Rattle.block_calls.specs.CallAnswers.Callers.{HasCaller};
+ghost use Rattle.block_calls.specs.CallAnswers.Made.{IsMade};
 ghost use Rattle.packet_calls.specs.TaskWait.{answer_of_wait, first_of_queue, taskwait};
 
-use call_answers::caller;
-use call_answers::numbers::SENDER;
-use packet_moves::Queue;
-use packet_moves::events::taken;
-use packet_moves::packets::PACKET_WORDS;
-use packet_moves::queues::unqueue;
-use packet_queue::EventLog;
-use task_block::{TcbField, field, set_field};
-use word_kinds::KindKeeper;
+use crate::Queue;
+use crate::events::taken;
+use crate::packets::PACKET_WORDS;
+use crate::queues::unqueue;
+use block_calls::caller;
+use block_calls::kernel_dispatch::{EventLog, KindKeeper, TcbField, field, set_field};
+use block_calls::numbers::SENDER;
 use word_store::{Store, word_at};
 
 /// By so much the state of a task that waits is larger than that of one that runs.

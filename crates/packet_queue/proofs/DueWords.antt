@@ -1,10 +1,10 @@
 -- Due ticks along a queue to which a packet was appended by its due tick.
 use Rattle.std.proofs.Common.{◌≡◌, ℕ, ◌+◌, ◌<◌, List, [], ◌∷◌, ◌++◌, length, eqb, cond, refl, sym, ap, ◌∙◌, subst, arith, get_or-set_same, length-set, get_or, set}
 use Rattle.std.specs.List.{AllByRecursion}
-use Rattle.linked_list.specs.Count.{times, words_of}
-use Rattle.linked_list.specs.Places.{insert_after, linked_in}
-use Rattle.linked_list.specs.Changed.{InsertedAt}
-use Rattle.linked_list.proofs.Counts.{hit-same, times-differ, times-within}
+use Rattle.owned_words.specs.WordStore.Count.{times, words_of}
+use Rattle.owned_words.specs.LinkedList.Places.{insert_after, linked_in}
+use Rattle.owned_words.specs.LinkedList.Changed.{InsertedAt}
+use Rattle.owned_words.proofs.Shown.WordStore.Counts.{hit-same, times-differ, times-within}
 use Rattle.packet_queue.specs.Queue.{CanQueue, HasQueue, link_of, packet_size, queue_at}
 use Rattle.packet_queue.specs.Due.{due_of, is_due, last_due_link, with_due}
 use Rattle.packet_queue.specs.DueOrder.{ArrivesLast, NeverFalls}

@@ -1,14 +1,14 @@
 -- Packets whose words a store holds stand in a queue, and a call exchanges some of these words.
 use Rattle.std.proofs.Common.{◌≡◌, ℕ, ◌+◌, ◌<◌, ◌≤◌, List, [], ◌∷◌, ◌++◌, map, set, nat_le, sym, ap, ◌∙◌, subst, arith, append-nil}
 use Rattle.std.specs.List.{AllByRecursion}
-use Rattle.linked_list.specs.Chain.{last_cell}
-use Rattle.linked_list.specs.Count.{times, words_of}
-use Rattle.linked_list.specs.Linked.{IsListAt, IsNode}
-use Rattle.linked_list.specs.Places.{cell_after, linked_in}
-use Rattle.linked_list.proofs.AllMembers.{all-back, all-front}
-use Rattle.linked_list.proofs.Counts.{times-words_more, times-words_of}
-use Rattle.linked_list.proofs.MappedLists.{cell_after-map, cell_after-same, last_cell-map, map-append}
-use Rattle.linked_list.proofs.Places.{IsPlace, place}
+use Rattle.owned_words.specs.LinkedList.Chain.{last_cell}
+use Rattle.owned_words.specs.WordStore.Count.{times, words_of}
+use Rattle.owned_words.specs.LinkedList.Linked.{IsListAt, IsNode}
+use Rattle.owned_words.specs.LinkedList.Places.{cell_after, linked_in}
+use Rattle.owned_words.proofs.Shown.LinkedList.AllMembers.{all-back, all-front}
+use Rattle.owned_words.proofs.Shown.WordStore.Counts.{times-words_more, times-words_of}
+use Rattle.owned_words.proofs.Shown.LinkedList.MappedLists.{cell_after-map, cell_after-same, last_cell-map, map-append}
+use Rattle.owned_words.proofs.Shown.LinkedList.Places.{IsPlace, place}
 use Rattle.owned_words.specs.Exchange.{Exchange}
 use Rattle.owned_words.specs.Owned.{Holds, owners}
 use Rattle.owned_words.specs.LinkedWords.{AreNodes, first_of, linked_words}

@@ -3,3 +3,4 @@ pub mod NumberOrder
 pub mod QueueChanges
 pub mod DueWords
 pub mod HeldQueues
+pub mod Shown

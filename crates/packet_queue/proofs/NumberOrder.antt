@@ -3,8 +3,8 @@ use Rattle.std.proofs.Common.{◌≡◌, ℕ, zero, suc, ◌<◌, ◌≤◌, Lis
 use Rattle.std.specs.List.{AllByRecursion, filter, list_any}
 use Rattle.std.specs.List.Sorted.{IsNonDecreasingBy}
 use Rattle.std.proofs.lemmas.Bool.Decides.{nat_tests}
-use Rattle.linked_list.specs.Places.{insert_after}
-use Rattle.linked_list.proofs.AllMembers.{all-insert, all-map}
+use Rattle.owned_words.specs.LinkedList.Places.{insert_after}
+use Rattle.owned_words.proofs.Shown.LinkedList.AllMembers.{all-insert, all-map}
 
 -- the number of each element is at most that of each later one
 abbrev pub Rises : (ℕ → ℕ) → List ℕ → Type 0

@@ -1,12 +1,12 @@
 -- The words of queued packets: links, due ticks, and the others.
 use Rattle.std.proofs.Common.{◌≡◌, ℕ, ◌+◌, ◌<◌, ◌≤◌, List, [], ◌∷◌, sym, ap, subst, arith, inl, inr, Bool}
 use Rattle.std.proofs.lemmas.Bool.{cases_eq}
-use Rattle.linked_list.specs.Count.{hit, node_words, times, words_of}
-use Rattle.linked_list.specs.Chain.{cells, last_cell}
-use Rattle.linked_list.specs.Places.{cell_after}
-use Rattle.linked_list.proofs.Counts.{hit-other, hit-same, times-within, times-words_more}
-use Rattle.linked_list.proofs.Insertion.{times-front_cell}
-use Rattle.linked_list.proofs.Places.{IsPlace, place}
+use Rattle.owned_words.specs.WordStore.Count.{hit, node_words, times, words_of}
+use Rattle.owned_words.specs.LinkedList.Chain.{cells, last_cell}
+use Rattle.owned_words.specs.LinkedList.Places.{cell_after}
+use Rattle.owned_words.proofs.Shown.WordStore.Counts.{hit-other, hit-same, times-within, times-words_more}
+use Rattle.owned_words.proofs.Shown.LinkedList.Insertion.{times-front_cell}
+use Rattle.owned_words.proofs.Shown.LinkedList.Places.{IsPlace, place}
 use Rattle.packet_queue.specs.Queue.{HasQueue, link_of, packet_size, queue_at}
 
 -- a packet's link and its due tick are two of its words

@@ -1,15 +1,15 @@
 -- The queue of a head after a packet came or went.
 use Rattle.std.proofs.Common.{◌≡◌, ◌≢◌, ℕ, ◌+◌, ◌<◌, List, [], ◌∷◌, ◌++◌, get_or, set, eqb, cond, true, sym, ap, ◌∙◌, subst, arith, get_or-set_other, length-set, ◌||◌}
 use Rattle.std.proofs.lemmas.Bool.Decides.{nat_tests}
-use Rattle.linked_list.specs.Count.{node_words, times}
-use Rattle.linked_list.specs.Chain.{IsChain, last_cell}
-use Rattle.linked_list.specs.Places.{cell_before, has, insert_after, linked_in, without}
-use Rattle.linked_list.specs.Changed.{InsertedAt}
-use Rattle.linked_list.proofs.Counts.{times-differ, times-within}
-use Rattle.linked_list.proofs.Lists.{list-append, list-appended, list-cell, list-cell_before, list-insert, list-inserted, list-remove, list-removed}
-use Rattle.linked_list.specs.Linked.{IsListAt}
-use Rattle.linked_list.proofs.Removal.{removed-then}
-use Rattle.linked_list.proofs.Walks.{can_walk, walk-ends, walk-goes-on}
+use Rattle.owned_words.specs.WordStore.Count.{node_words, times}
+use Rattle.owned_words.specs.LinkedList.Chain.{IsChain, last_cell}
+use Rattle.owned_words.specs.LinkedList.Places.{cell_before, has, insert_after, linked_in, without}
+use Rattle.owned_words.specs.LinkedList.Changed.{InsertedAt}
+use Rattle.owned_words.proofs.Shown.WordStore.Counts.{times-differ, times-within}
+use Rattle.owned_words.proofs.Shown.LinkedList.Lists.{list-append, list-appended, list-cell, list-cell_before, list-insert, list-inserted, list-remove, list-removed}
+use Rattle.owned_words.specs.LinkedList.Linked.{IsListAt}
+use Rattle.owned_words.proofs.Shown.LinkedList.Removal.{removed-then}
+use Rattle.owned_words.proofs.Shown.LinkedList.Walks.{can_walk, walk-ends, walk-goes-on}
 use Rattle.packet_queue.specs.Queue.{CanQueue, HasQueue, last_link, link_of, no_queue, packet_size, queue_at, unlinked}
 use Rattle.packet_queue.specs.Due.{is_due, last_due_link, with_due}
 

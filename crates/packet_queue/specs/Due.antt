@@ -1,6 +1,6 @@
 -- Queues of packets that are due at a tick.
 use Rattle.std.specs.Prelude.{ℕ, ◌+◌, Bool, nat_le, ◌==◌, List, filter, slice_index, slice_set}
-use Rattle.linked_list.specs.Places.{cell_after, linked_in}
+use Rattle.owned_words.specs.LinkedList.Places.{cell_after, linked_in}
 use Rattle.packet_queue.specs.Queue.{link_of, queue_at}
 
 -- the word that has the due tick of a packet

@@ -6,3 +6,6 @@ pub mod Queue
 pub mod Due
 pub mod DueOrder
 pub mod QueueWords
+-- shown to the crates above
+pub use Rattle.owned_words.specs.LinkedList
+pub use Rattle.owned_words.specs as OwnedWords

@@ -1,9 +1,9 @@
 -- Queues of packets. A packet is five words: its link, its sender, its type and two results. The first packet's address is
 -- in the head, each next one's in a link.
 use Rattle.std.specs.Prelude.{ℕ, ◌-◌, ◌^◌, List, slice_set}
-use Rattle.linked_list.specs.Chain.{last_cell, list_at}
-use Rattle.linked_list.specs.Linked.{HasList, IsFresh}
-use Rattle.linked_list.specs.Places.{without_node}
+use Rattle.owned_words.specs.LinkedList.Chain.{last_cell, list_at}
+use Rattle.owned_words.specs.LinkedList.Linked.{HasList, IsFresh}
+use Rattle.owned_words.specs.LinkedList.Places.{without_node}
 
 -- a packet's link is its word 0
 abbrev pub link_of : ℕ → ℕ

@@ -1,8 +1,8 @@
 -- The words of queued packets, as pairs of an address and the word that stands there.
 use Rattle.std.specs.Prelude.{◌≡◌, ◌<◌, ℕ, List, [], ◌∷◌, ◌++◌, nat_le}
 use Rattle.std.specs.List.{AllByRecursion}
-use Rattle.linked_list.specs.Chain.{last_cell}
-use Rattle.linked_list.specs.Places.{insert_after}
+use Rattle.owned_words.specs.LinkedList.Chain.{last_cell}
+use Rattle.owned_words.specs.LinkedList.Places.{insert_after}
 use Rattle.owned_words.specs.Owned.{AreApart, AreInside, Holds, Pairs, row_from, written}
 use Rattle.owned_words.specs.Exchange.{Exchange}
 use Rattle.owned_words.specs.LinkedWords.{AreHeld, first_of, headed_words}

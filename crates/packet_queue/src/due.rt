@@ -1,14 +1,13 @@
 // Queues of packets that are due at a tick.
 ghost use Rattle.std.specs.Prelude.{◌≡◌};
-ghost use Rattle.linked_list.specs.Places.{insert_after};
+ghost use Rattle.owned_words.specs.LinkedList.Places.{insert_after};
 ghost use Rattle.packet_queue.specs.Queue.{CanQueue, HasQueue, queue_at};
 ghost use Rattle.packet_queue.specs.Due.{is_due, with_due};
 
 use crate::due_ticks::set_due;
 use crate::places::last_due_link;
 use crate::walk::PACKET_LINK;
-use linked_list::link_in;
-use word_store::Store;
+use owned_words::{Store, link_in};
 
 /// Puts the packet directly after the last one in the queue that is due no later, and at the front where there is none. So
 /// where the due ticks never fall along the queue, it stands after all that are due no later, and before the others.

@@ -2,7 +2,7 @@
 ghost use Rattle.std.specs.Prelude.{◌≡◌, slice_set};
 ghost use Rattle.packet_queue.specs.Due as due;
 
-use word_store::{Store, set_word_at, word_at};
+use owned_words::{Store, set_word_at, word_at};
 
 /// Which word of a packet has its due tick.
 const DUE: u32 = 4;

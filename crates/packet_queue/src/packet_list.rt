@@ -2,7 +2,7 @@
 ghost use Rattle.std.specs.Prelude.{◌≡◌};
 ghost use Rattle.std.specs.Iterator.{YieldsFirst, item_count};
 
-use linked_list::Nodes;
+use owned_words::Nodes;
 use std::marker::Model;
 
 /// The packets of a queue that are left, seen as the list of their addresses.

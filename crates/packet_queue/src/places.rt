@@ -6,7 +6,7 @@ ghost use Rattle.packet_queue.specs.Due as due;
 
 use crate::due_ticks::due_of;
 use crate::walk::packets;
-use word_store::Store;
+use owned_words::Store;
 
 /// The word that holds the last link.
 pub(crate) fn last_link(store: &Store, head: u32) -> u32

@@ -1,13 +1,12 @@
 // Queues: packets come to the end, and leave from the front or from between.
 ghost use Rattle.std.specs.Prelude.{◌≡◌, ◌↔◌, [], ◌∷◌, ◌++◌, IfNone, IfSome, IsNone, IsTrue};
 ghost use Rattle.std.specs.Bool.{OnFalse, OnTrue};
-ghost use Rattle.linked_list.specs.Places.{has, without};
+ghost use Rattle.owned_words.specs.LinkedList.Places.{has, without};
 ghost use Rattle.packet_queue.specs.Queue.{CanQueue, HasQueue, appended, queue_at, unlinked};
 
 use crate::places::last_link;
 use crate::walk::PACKET_LINK;
-use linked_list::unlink;
-use word_store::{Store, word};
+use owned_words::{Store, unlink, word};
 
 /// The link of a packet that stands in no queue.
 pub const NO_QUEUE: u32 = 0xffff_ffff;

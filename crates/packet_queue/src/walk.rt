@@ -3,8 +3,7 @@ ghost use Rattle.std.specs.Prelude.{◌≡◌};
 ghost use Rattle.packet_queue.specs.Queue.{HasQueue, queue_at};
 
 use crate::packet_list::Packets;
-use linked_list::follow;
-use word_store::Store;
+use owned_words::{Store, follow};
 
 /// Which word of a packet links to the next one.
 pub(crate) const PACKET_LINK: u32 = 0;

@@ -2,8 +2,8 @@
 use Rattle.std.proofs.Common.{◌≡◌, ◌+◌, ℕ, Bool, true, false, cond, eqb, Option, Some, None, Result, Ok, Err, List, refl, subst}
 use Rattle.std.proofs.lemmas.Bool.{and_parts}
 use Rattle.ram_disc.specs.Name.{IsName}
-use Rattle.kernel_model.specs.Kernel.{Pipe}
-use Rattle.kernel_model.specs.Lists.{Lists}
+use Rattle.resident_requests.specs.KernelCalls.KernelModel.Kernel.{Pipe}
+use Rattle.resident_requests.specs.KernelCalls.KernelModel.Lists.{Lists}
 use Rattle.resident_requests.specs.Buffers.{byte_in, is_readable, is_writable, lies_inside}
 use Rattle.resident_requests.specs.Names.{is_name, is_name_at, name_at, string_in}
 use Rattle.resident_requests.specs.Requests.{first_request, taken, words_taken, work}

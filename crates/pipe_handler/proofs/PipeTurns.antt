@@ -2,9 +2,9 @@
 use Rattle.std.proofs.Common.{◌≡◌, ℕ, ◌≤◌, Bool, true, false, cond, eqb, leb, ltb, not, ◌⊎◌, Option, Result, Ok, Err, List, [], ◌∷◌, ◌++◌, length, set, take, drop, refl, ap, ◌∙◌, arith, inl, inr}
 use Rattle.std.specs.Option.{is_some, unwrap_or}
 use Rattle.std.proofs.lemmas.List.{length-take}
-use Rattle.kernel_model.specs.Kernel.{Pipe}
-use Rattle.kernel_model.specs.Lists.{Lists}
-use Rattle.kernel_model.specs.Pipes.{most_held}
+use Rattle.resident_requests.specs.KernelCalls.KernelModel.Kernel.{Pipe}
+use Rattle.resident_requests.specs.KernelCalls.KernelModel.Lists.{Lists}
+use Rattle.resident_requests.specs.KernelCalls.KernelModel.Pipes.{most_held}
 use Rattle.resident_requests.specs.Buffers.{is_readable, is_writable}
 use Rattle.resident_requests.specs.Names.{name_at}
 use Rattle.resident_requests.specs.Turns.{CanServe, service}

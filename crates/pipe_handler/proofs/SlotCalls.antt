@@ -1,13 +1,12 @@
 -- What the requests come to, for pipes that are kept in slots.
-use Rattle.std.proofs.Common.{◌≡◌, ℕ, ◌-◌, ◌<◌, ◌≤◌, Bool, true, false, cond, not, eqb, leb, ltb, ◌&&◌, ◌||◌, Option, Some, None, List, [], ◌∷◌, ◌++◌, length, get_or, set, take, drop, refl, sym, ap, subst, ◌∙◌, arith}
+use Rattle.std.proofs.Common.{Bool, List, None, Option, Some, ap, arith, cond, drop, eqb, false, get_or, leb, length, length-append, ltb, not, refl, set, subst, sym, take, true, ℕ, [], ◌&&◌, ◌++◌, ◌-◌, ◌<◌, ◌||◌, ◌∙◌, ◌∷◌, ◌≡◌, ◌≤◌}
 use Rattle.std.specs.List.{list_any}
 use Rattle.std.specs.Option.{is_none, is_some, unwrap_or}
 use Rattle.std.proofs.lemmas.Bool.{and_parts, le-leb, leb-true, ne_eqb, true≢false}
 use Rattle.std.proofs.lemmas.List.{length-drop, length-take, length-map}
-use Rattle.std.proofs.Common.{length-append}
 use Rattle.circular_buffer.specs.Buffer.{buffer}
-use Rattle.kernel_model.specs.Kernel.{Pipe}
-use Rattle.kernel_model.specs.Pipes.{most_held, most_pipes, pipe_at}
+use Rattle.resident_requests.specs.KernelCalls.KernelModel.Kernel.{Pipe}
+use Rattle.resident_requests.specs.KernelCalls.KernelModel.Pipes.{most_held, most_pipes, pipe_at}
 use Rattle.ram_disc.specs.Name.{IsName}
 use Rattle.pipe_handler.specs.Ends.{is_end, is_named, is_open, names_writer, opened, pipe_of, place_for, place_of, without_end}
 use Rattle.pipe_handler.specs.PipeCalls.{Outcome, accepted, after_close, after_open, after_read, after_restore, after_write, are_ends, can_restore, has_more, held_by, holding, pipe_in_place, pipe_numbered, pipe_with, refused, unless_refused, with_end}

@@ -1,7 +1,7 @@
 -- A turn of the file handler in which its request is for a pipe.
 use Rattle.std.specs.Prelude.{ℕ, ◌==◌, if◌then◌else◌, Option, Some, None, Result, Ok, Err, List, []}
-use Rattle.kernel_model.specs.Kernel.{Pipe}
-use Rattle.kernel_model.specs.Lists.{Lists}
+use Rattle.resident_requests.specs.KernelCalls.KernelModel.Kernel.{Pipe}
+use Rattle.resident_requests.specs.KernelCalls.KernelModel.Lists.{Lists}
 use Rattle.resident_requests.specs.Buffers.{bytes_in, is_readable, is_writable}
 use Rattle.resident_requests.specs.Names.{name_at}
 use Rattle.resident_requests.specs.Requests.{first_request, taken, words_taken, work}

@@ -2,8 +2,8 @@
 use Rattle.std.specs.Prelude.{◌≡◌, ◌≢◌, ◌<◌, ◌≤◌, ℕ, Bool, true, ◌||◌, if◌then◌else◌, Option, Some, None, List, length, map}
 use Rattle.std.specs.List.{All}
 use Rattle.circular_buffer.specs.Buffer.{Buffer}
-use Rattle.kernel_model.specs.Kernel.{Pipe}
-use Rattle.kernel_model.specs.Pipes.{most_held, pipe_at}
+use Rattle.resident_requests.specs.KernelCalls.KernelModel.Kernel.{Pipe}
+use Rattle.resident_requests.specs.KernelCalls.KernelModel.Pipes.{most_held, pipe_at}
 use Rattle.pipe_handler.specs.Ends.{is_open, names_end, place_of}
 use Rattle.pipe_handler.specs.PipeCalls.{ArePipes}
 use Rattle.pipe_handler.specs.declared.slots.Slot.{Slot}

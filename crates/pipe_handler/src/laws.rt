@@ -1,8 +1,8 @@
 // Laws of pipes, whatever requests are made.
 ghost use Rattle.std.specs.Prelude.{◌≡◌, ◌≤◌, ◌++◌, ℕ, List, Option, Some, length};
-ghost use Rattle.kernel_model.specs.Kernel.{Pipe};
-ghost use Rattle.kernel_model.specs.Lists.{Lists};
-ghost use Rattle.kernel_model.specs.Pipes.{most_held, no_pipes, pipe_at};
+ghost use Rattle.resident_requests.specs.KernelCalls.KernelModel.Kernel.{Pipe};
+ghost use Rattle.resident_requests.specs.KernelCalls.KernelModel.Lists.{Lists};
+ghost use Rattle.resident_requests.specs.KernelCalls.KernelModel.Pipes.{most_held, no_pipes, pipe_at};
 ghost use Rattle.pipe_handler.specs.Histories.{IsLawful, PipeRequest, after, history, pipes_after};
 ghost use Rattle.pipe_handler.specs.PipeCalls.{ArePipes};
 ghost use Rattle.pipe_handler.specs.PipeTurns.{pipes_after_turn};

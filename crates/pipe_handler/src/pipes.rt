@@ -1,6 +1,6 @@
 // Pipes, and the requests for them.
 ghost use Rattle.std.specs.Prelude.{◌≡◌, ◌≤◌, ◌++◌, IfOk, drop, length};
-ghost use Rattle.kernel_model.specs.Pipes.{most_pipes, no_pipes};
+ghost use Rattle.resident_requests.specs.KernelCalls.KernelModel.Pipes.{most_pipes, no_pipes};
 ghost use Rattle.pipe_handler.specs.PipeCalls.{after_close, after_open, after_read, after_restore, after_write, ArePipes, can_restore, pipe_numbered};
 
 use crate::places::{can_restore, handle_at, open_place, place_for};
@@ -36,7 +36,7 @@ pub struct Pipes {
 
 impl Model for Pipes {
     ghost use Rattle.std.specs.Prelude.{List, Option};
-    ghost use Rattle.kernel_model.specs.Kernel.{Pipe};
+    ghost use Rattle.resident_requests.specs.KernelCalls.KernelModel.Kernel.{Pipe};
     ghost use Rattle.pipe_handler.specs.Slots.{AreSlots, pipes_in};
 
     ghost Value = { List (Option Pipe) };

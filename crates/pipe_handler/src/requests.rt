@@ -1,7 +1,7 @@
 // The requests for pipes, as packets name them.
 ghost use Rattle.std.specs.Prelude.{◌≡◌, ◌≤◌, Ok, length, min, take};
-ghost use Rattle.kernel_model.specs.ChangedStore.{HasKeeper};
-ghost use Rattle.kernel_model.specs.Lists.{Lists};
+ghost use Rattle.resident_requests.specs.KernelCalls.KernelModel.ChangedStore.{HasKeeper};
+ghost use Rattle.resident_requests.specs.KernelCalls.KernelModel.Lists.{Lists};
 ghost use Rattle.resident_requests.specs.Buffers.{is_readable, is_writable};
 ghost use Rattle.resident_requests.specs.Names.{name_at};
 ghost use Rattle.pipe_handler.specs.PipeCalls.{after_read, after_write};
@@ -11,8 +11,7 @@ use crate::Pipes;
 use arrayvec::ArrayVec;
 use resident_requests::buffers::MOST_BYTES;
 use resident_requests::requests::UNKNOWN_TYPE;
-use resident_requests::{Request, can_read, can_write, name_at, read_buffer};
-use word_kinds::KindKeeper;
+use resident_requests::{KindKeeper, Request, can_read, can_write, name_at, read_buffer};
 use word_store::Store;
 
 /// The types of the requests for pipes.

@@ -1,17 +1,15 @@
 // The turn of the file handler in which its request is for a pipe.
 ghost use Rattle.std.specs.Prelude.{◌≡◌, ℕ, List};
-ghost use Rattle.kernel_model.specs.ChangedStore.{HasKeeper};
-ghost use Rattle.kernel_model.specs.Lists.{Lists};
-ghost use Rattle.call_answers.specs.Outside.{outside};
+ghost use Rattle.resident_requests.specs.KernelCalls.KernelModel.ChangedStore.{HasKeeper};
+ghost use Rattle.resident_requests.specs.KernelCalls.KernelModel.Lists.{Lists};
+ghost use Rattle.resident_requests.specs.KernelCalls.CallAnswers.Outside.{outside};
 ghost use Rattle.resident_requests.specs.Requests.{TakesRequest};
 ghost use Rattle.resident_requests.specs.Turns.{IsResidentTurn};
 ghost use Rattle.pipe_handler.specs.PipeTurns.{pipe_turn, pipes_after_turn};
 
 use crate::Pipes;
 use crate::requests::serve;
-use packet_queue::EventLog;
-use resident_requests::{finish_turn, serve_request, take_request};
-use word_kinds::KindKeeper;
+use resident_requests::{EventLog, KindKeeper, finish_turn, serve_request, take_request};
 use word_store::Store;
 
 /// The id of the file handler.

@@ -13,7 +13,7 @@ pub struct PipeView<'a> {
 }
 
 impl<'a> Model for PipeView<'a> {
-    ghost use Rattle.kernel_model.specs.Kernel.{Pipe};
+    ghost use Rattle.resident_requests.specs.KernelCalls.KernelModel.Kernel.{Pipe};
     ghost use Rattle.pipe_handler.specs.Slots.{told};
 
     ghost Value = { Pipe };

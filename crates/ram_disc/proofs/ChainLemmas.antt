@@ -3,8 +3,8 @@ use Rattle.std.proofs.Common.{◌≡◌, ◌≢◌, ℕ, zero, suc, ◌+◌, ◌
 use Rattle.std.proofs.lemmas.Bool.{cases_eq}
 use Rattle.std.proofs.lemmas.List.{get_or-set_other, get_or-set_same}
 use Rattle.std.specs.List.{range_with_len}
-use Rattle.linked_list.specs.Count.{times}
-use Rattle.linked_list.proofs.Counts.{hit-other, hit-same}
+use Rattle.word_store.specs.Count.{times}
+use Rattle.word_store.proofs.Counts.{hit-other, hit-same}
 use Rattle.ram_disc.specs.Chain.{chain_from}
 
 pub length-chain : (links : List ℕ) (first n : ℕ) → length (chain_from links first n) ≡ n

@@ -6,8 +6,8 @@ use Rattle.std.proofs.lemmas.Bool.{cases_lt, le-ltb, lt-ltb}
 use Rattle.std.proofs.lemmas.List.{ext_get_or, get_or-replicate, get_or-set_other, get_or-set_same, length-append, length-map, length-replicate, length-take, map-set}
 use Rattle.std.proofs.lemmas.List.Edits.{get_or-remove_above, get_or-remove_below, length-remove}
 use Rattle.std.proofs.lemmas.List.FromFn.{length-range_with_len}
-use Rattle.linked_list.specs.Count.{times}
-use Rattle.linked_list.proofs.Counts.{hit-same, range-apart, range-high, times-append}
+use Rattle.word_store.specs.Count.{times}
+use Rattle.word_store.proofs.Counts.{hit-same, range-apart, range-high, times-append}
 use Rattle.ram_disc.specs.Contents.{Area, Empties, bytes_at}
 use Rattle.ram_disc.specs.Disc.{AreInOrder, Disc, File, Stream, bytes_of, has_file, is_before, is_on, is_used, most_files, most_sectors, most_streams, sectors_taken}
 use Rattle.ram_disc.specs.DiscCalls.{Outcome, after_delete, after_open_write, after_rename, file, free_stream, has_free_stream, has_place, unless_refused, with_file, with_stream, without_file, writer}

@@ -4,7 +4,7 @@ use Rattle.std.proofs.lemmas.Bool.{cases_eq}
 use Rattle.std.proofs.lemmas.List.{append-nil, append_assoc, ext_get_or, get_or-set_other, get_or-set_same, get_or-replicate, length-append, length-replicate, length-set, set-get_or, set-set}
 use Rattle.std.proofs.lemmas.List.FromFn.{get_or-map-range_with_len, length-map-range_with_len, map-range_with_len_more}
 use Rattle.std.proofs.lemmas.List.Sums.{get_or-le-sum_by}
-use Rattle.linked_list.specs.Count.{times}
+use Rattle.word_store.specs.Count.{times}
 use Rattle.ram_disc.specs.Chain.{AreApart, Chains, times_in}
 use Rattle.ram_disc.specs.Contents.{Adds, Area, IsArea, Reserves, all_bytes, bytes_at, bytes_in, place_in}
 use Rattle.ram_disc.specs.Disc.{most_files, most_sectors, sectors_of}

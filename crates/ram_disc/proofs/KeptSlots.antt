@@ -5,8 +5,8 @@ use Rattle.std.proofs.lemmas.Bool.{cases_eq}
 use Rattle.std.proofs.lemmas.List.{get_or-map, get_or-set_other, get_or-set_same, length-append, length-map, length-set}
 use Rattle.std.proofs.lemmas.List.Edits.{length-insert, length-remove}
 use Rattle.std.proofs.lemmas.List.Sums.{sum_by-insert, sum_by-remove}
-use Rattle.linked_list.specs.Count.{hit, times}
-use Rattle.linked_list.proofs.Counts.{hit-other, hit-same, times-append}
+use Rattle.word_store.specs.Count.{hit, times}
+use Rattle.word_store.proofs.Counts.{hit-other, hit-same, times-append}
 use Rattle.ram_disc.specs.Contents.{Area, Empties, bytes_at}
 use Rattle.ram_disc.specs.Disc.{AreInOrder, File, is_before, sectors_of}
 use Rattle.ram_disc.specs.DiscCalls.{file}

@@ -4,7 +4,7 @@ use Rattle.std.specs.List.{list_any, sum_by}
 use Rattle.std.proofs.lemmas.Bool.{cases_eq, cases_lt, eqb-false, true≢false}
 use Rattle.std.proofs.lemmas.List.{get_or-set_other, get_or-set_same, get_or_past, length-append, length-set}
 use Rattle.std.proofs.lemmas.List.Sums.{sum_by-set}
-use Rattle.linked_list.specs.Count.{times}
+use Rattle.word_store.specs.Count.{times}
 use Rattle.ram_disc.specs.Contents.{Adds, Area, Empties, bytes_at, chain_at}
 use Rattle.ram_disc.specs.Disc.{File, most_streams, sectors_of, shell_stream}
 use Rattle.ram_disc.specs.DiscCalls.{file}

@@ -5,6 +5,7 @@ pub mod ContentsLemmas
 pub mod FileLists
 pub mod KeptSlots
 pub mod KeptStreams
+pub mod NameLemmas
 pub mod NameOrder
 pub mod RestoreCalls
 pub mod SectorLemmas

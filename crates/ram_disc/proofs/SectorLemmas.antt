@@ -5,8 +5,8 @@ use Rattle.std.proofs.lemmas.Bool.{cases_eq, ne_eqb}
 use Rattle.std.proofs.lemmas.List.{get_or_default, get_or_push, get_or-map, get_or-set_other, get_or-set_same, length-append, length-map, length-replicate, length-set}
 use Rattle.std.proofs.lemmas.List.Elements.{All-replicate}
 use Rattle.std.proofs.lemmas.List.Sums.{get_or-le-sum_by, sum_by-cons, sum_by-set}
-use Rattle.linked_list.specs.Count.{hit, times}
-use Rattle.linked_list.proofs.Counts.{hit-same, range-apart, range-high, times-append}
+use Rattle.word_store.specs.Count.{hit, times}
+use Rattle.word_store.proofs.Counts.{hit-same, range-apart, range-high, times-append}
 use Rattle.ram_disc.specs.Chain.{AreApart, AreChained, EndsAtLast, chain_from, chain_of, chains_of, no_sector, sector_before, times_in, with_last}
 use Rattle.ram_disc.specs.Disc.{most_files, most_sectors}
 use Rattle.ram_disc.specs.declared.sectors.Chain.{Chain}

@@ -5,8 +5,8 @@ use Rattle.std.specs.Option.{option_map, unwrap_or}
 use Rattle.std.proofs.lemmas.Bool.{cases_eq, cases_lt}
 use Rattle.std.proofs.lemmas.List.{drop-map, ext_get_or, get_or-map, get_or-set_other, get_or-set_same, length-map, length-set, map-append, map-id, take-append-drop, take-map}
 use Rattle.std.proofs.lemmas.List.FromFn.{map-range_with_len_more}
-use Rattle.linked_list.specs.Count.{hit, times}
-use Rattle.linked_list.proofs.Counts.{times-append}
+use Rattle.word_store.specs.Count.{hit, times}
+use Rattle.word_store.proofs.Counts.{times-append}
 use Rattle.ram_disc.specs.Disc.{AreInOrder, Disc, File, bytes_of, file_named, has_file, has_name, most_files}
 use Rattle.ram_disc.specs.DiscCalls.{file}
 use Rattle.ram_disc.specs.Slots.{AreSlots, HasPlace, IsAt, file_in, files_in, name_in}

@@ -5,7 +5,7 @@ use Rattle.std.specs.Option.{is_none}
 use Rattle.std.specs.Str.{bytes_eq}
 use Rattle.std.proofs.lemmas.Bool.{cases_eq, eq-eqb, ne_eqb, true≢false}
 use Rattle.std.proofs.lemmas.List.{length-map, take-map}
-use Rattle.linked_list.specs.Count.{times}
+use Rattle.word_store.specs.Count.{times}
 use Rattle.ram_disc.specs.Contents.{Area}
 use Rattle.ram_disc.specs.Disc.{Disc, Stream, is_on, is_used, is_writer_of, is_written, stream_at}
 use Rattle.ram_disc.specs.Slots.{AreKept, AreSlots, IsAt, StandsAt, name_in, place_in, stands_on, stream_in, streams_in, writes_on}

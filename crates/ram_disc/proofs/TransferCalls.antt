@@ -4,7 +4,7 @@ use Rattle.std.specs.List.{sum_by}
 use Rattle.std.proofs.lemmas.Bool.{cases_lt, le-leb, lt-leb, true≢false}
 use Rattle.std.proofs.lemmas.List.{length-append, map-set}
 use Rattle.std.proofs.lemmas.List.Sums.{get_or-le-sum_by, sum_by-set}
-use Rattle.linked_list.specs.Count.{times}
+use Rattle.word_store.specs.Count.{times}
 use Rattle.ram_disc.specs.Contents.{Adds, Area, bytes_at, chain_at}
 use Rattle.ram_disc.specs.Disc.{Disc, File, Stream, bytes_of, most_sectors, sectors_of, sectors_taken, stream_at}
 use Rattle.ram_disc.specs.DiscCalls.{Outcome, after_append, after_read_on, bytes_left, bytes_read, file, has_room, is_reader, is_writer, moved_on, unless_refused, with_bytes, with_file, with_more, with_stream}

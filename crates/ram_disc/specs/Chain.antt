@@ -1,7 +1,7 @@
 -- Chains of sectors. Each sector's link names the next one of its chain.
 use Rattle.std.specs.Prelude.{ℕ, zero, suc, ◌≡◌, ◌+◌, ◌-◌, ◌<◌, ◌≤◌, ◌==◌, if◌then◌else◌, List, [], ◌∷◌, length, map, slice_index, sum_by}
 use Rattle.std.specs.List.{All}
-use Rattle.linked_list.specs.Count.{times}
+use Rattle.word_store.specs.Count.{times}
 use Rattle.ram_disc.specs.Disc.{most_files, most_sectors}
 use Rattle.ram_disc.specs.declared.sectors.Chain.{Chain}
 

@@ -1,7 +1,7 @@
 -- The slots of a disc. A slot that is used has the name and the bytes of a file; the used ones stand in byte order of
 -- their names. A stream stands on a slot.
 use Rattle.std.specs.Prelude.{ℕ, ◌≡◌, ◌+◌, ◌-◌, ◌/◌, ◌<◌, ◌≤◌, ◌==◌, ◌&&◌, if◌then◌else◌, Bool, true, false, Option, Some, None, List, [], length, map, slice_index, slice_index_or}
-use Rattle.linked_list.specs.Count.{times}
+use Rattle.word_store.specs.Count.{times}
 use Rattle.ram_disc.specs.Contents.{Area, bytes_at, chain_at}
 use Rattle.ram_disc.specs.Disc.{AreInOrder, Disc, File, Stream, is_before, most_files, most_sectors, most_streams, sectors_taken, shell_stream}
 use Rattle.ram_disc.specs.Name.{IsName}

@@ -1,8 +1,8 @@
 -- What a resident that answers a request leaves.
 use Rattle.std.proofs.Common.{ℕ, Result, Ok, List, refl, sym, ◌∙◌}
-use Rattle.kernel_model.proofs.ChangedLists.{changed-then, knows-same}
-use Rattle.kernel_model.specs.Lists.{Lists}
-use Rattle.call_answers.specs.Made.{IsMade, minus_one}
+use Rattle.kernel_calls.proofs.Shown.KernelModel.ChangedLists.{changed-then, knows-same}
+use Rattle.kernel_calls.specs.KernelModel.Lists.{Lists}
+use Rattle.kernel_calls.specs.CallAnswers.Made.{IsMade, minus_one}
 use Rattle.resident_requests.specs.Answers.{IsFinished, answered, finished, returned}
 use Rattle.resident_requests.specs.declared.requests.Request.{Request}
 

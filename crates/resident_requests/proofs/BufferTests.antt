@@ -2,11 +2,11 @@
 use Rattle.std.proofs.Common.{◌≡◌, ◌↔◌, ℕ, zero, suc, ◌+◌, ◌<◌, ◌≤◌, Bool, true, false, not, IsTrue, ◌||◌, ltb, inl, inr, refl, sym, ap, ◌∙◌, subst, arith}
 use Rattle.std.specs.List.{list_any, range_with_len}
 use Rattle.std.proofs.lemmas.Bool.{cases_eq, cases_lt, lt-ltb, not-true}
-use Rattle.owned_words.specs.Owned.{owners}
-use Rattle.kernel_model.specs.Changes.{AreUnowned}
-use Rattle.kernel_model.specs.Lists.{Lists}
-use Rattle.kernel_model.specs.Owned.{owned}
-use Rattle.packet_calls.proofs.PacketTests.{neither}
+use Rattle.kernel_calls.specs.OwnedWords.Owned.{owners}
+use Rattle.kernel_calls.specs.KernelModel.Changes.{AreUnowned}
+use Rattle.kernel_calls.specs.KernelModel.Lists.{Lists}
+use Rattle.kernel_calls.specs.KernelModel.Owned.{owned}
+use Rattle.kernel_calls.proofs.Shown.PacketCalls.PacketTests.{neither}
 use Rattle.resident_requests.specs.Buffers.{covered, is_unowned}
 
 any-none : (f : ℕ → Bool) (n a : ℕ) → ((c : ℕ) → a ≤ c → c < a + n → f c ≡ false) → list_any f (range_with_len a n) ≡ false

@@ -2,29 +2,29 @@
 use Rattle.std.proofs.Common.{◌≡◌, ◌≢◌, ℕ, ◌+◌, ◌≤◌, false, List, [], ◌∷◌, ◌++◌, map, cond, get_or, set, inl, inr, refl, sym, ap, ◌∙◌, subst, arith}
 use Rattle.std.proofs.lemmas.Bool.{false≢true}
 use Rattle.std.specs.List.{AllByRecursion}
-use Rattle.linked_list.specs.Count.{IsApart}
-use Rattle.owned_words.specs.Exchange.{Exchange}
-use Rattle.owned_words.specs.LinkedWords.{first_of}
-use Rattle.owned_words.specs.Owned.{owners}
-use Rattle.owned_words.proofs.Exchanges.{exchange-left, exchange-right, exchange-row}
-use Rattle.packet_queue.specs.QueueWords.{queue_words}
-use Rattle.coroutines.specs.CoroutineExchanges.{words_of_coroutines}
-use Rattle.kernel_model.specs.ChangedStore.{IsChanged}
-use Rattle.kernel_model.specs.Changes.{change_of, with_task, with_tasks}
-use Rattle.kernel_model.specs.HoldsLists.{HoldsLists}
-use Rattle.kernel_model.specs.Lists.{Lists, address_of_task}
-use Rattle.kernel_model.specs.Owned.{owned}
-use Rattle.kernel_model.specs.Task.{Task, fault_words, globals_of, is_guest_id, name_words, queue_bit, queue_head, stack_of, state_word, state_words, task_address, task_id, task_words}
-use Rattle.kernel_model.specs.ValidLists.{AreValid}
-use Rattle.kernel_model.specs.ValidQueues.Place.{Work}
-use Rattle.kernel_model.specs.ValidTasks.{CoroutinesStand, IsResident, IsTask}
-use Rattle.kernel_model.proofs.AllThings.{all-here}
-use Rattle.kernel_model.proofs.ChainSplits.{change-between}
-use Rattle.kernel_model.proofs.ChangedLists.{changed-none, exchange-owned, one_task-owned, owners-exchanged}
-use Rattle.kernel_model.proofs.OneTask.{same_task-valid}
-use Rattle.packet_calls.specs.TaskWait.{waiting}
-use Rattle.packet_calls.proofs.CallerTask.{caller-low}
-use Rattle.packet_moves.proofs.HeldPlaces.{HasFirst, first-there, held-at, no-packets}
+use Rattle.word_store.specs.Count.{IsApart}
+use Rattle.kernel_calls.specs.OwnedWords.Exchange.{Exchange}
+use Rattle.kernel_calls.specs.OwnedWords.LinkedWords.{first_of}
+use Rattle.kernel_calls.specs.OwnedWords.Owned.{owners}
+use Rattle.kernel_calls.proofs.Shown.OwnedWords.Exchanges.{exchange-left, exchange-right, exchange-row}
+use Rattle.kernel_calls.specs.PacketQueue.QueueWords.{queue_words}
+use Rattle.kernel_calls.specs.Coroutines.CoroutineExchanges.{words_of_coroutines}
+use Rattle.kernel_calls.specs.KernelModel.ChangedStore.{IsChanged}
+use Rattle.kernel_calls.specs.KernelModel.Changes.{change_of, with_task, with_tasks}
+use Rattle.kernel_calls.specs.KernelModel.HoldsLists.{HoldsLists}
+use Rattle.kernel_calls.specs.KernelModel.Lists.{Lists, address_of_task}
+use Rattle.kernel_calls.specs.KernelModel.Owned.{owned}
+use Rattle.kernel_calls.specs.KernelModel.Task.{Task, fault_words, globals_of, is_guest_id, name_words, queue_bit, queue_head, stack_of, state_word, state_words, task_address, task_id, task_words}
+use Rattle.kernel_calls.specs.KernelModel.ValidLists.{AreValid}
+use Rattle.kernel_calls.specs.KernelModel.ValidQueues.Place.{Work}
+use Rattle.kernel_calls.specs.KernelModel.ValidTasks.{CoroutinesStand, IsResident, IsTask}
+use Rattle.kernel_calls.proofs.Shown.KernelModel.AllThings.{all-here}
+use Rattle.kernel_calls.proofs.Shown.KernelModel.ChainSplits.{change-between}
+use Rattle.kernel_calls.proofs.Shown.KernelModel.ChangedLists.{changed-none, exchange-owned, one_task-owned, owners-exchanged}
+use Rattle.kernel_calls.proofs.Shown.KernelModel.OneTask.{same_task-valid}
+use Rattle.kernel_calls.specs.PacketCalls.TaskWait.{waiting}
+use Rattle.kernel_calls.proofs.Shown.PacketCalls.CallerTask.{caller-low}
+use Rattle.kernel_calls.proofs.Shown.PacketCalls.HeldPlaces.{HasFirst, first-there, held-at, no-packets}
 use Rattle.resident_requests.specs.Answers.{IsFinished, finished, finished_by}
 use Rattle.resident_requests.specs.Requests.{RunsResident, work}
 use Rattle.resident_requests.proofs.RunningResident.{resident-at, resident-first, resident-runs, resident-state}

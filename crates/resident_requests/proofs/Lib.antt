@@ -7,3 +7,4 @@ pub mod ReturnedRequest
 pub mod FinishedTurn
 pub mod AnsweredRequest
 pub mod ResidentTurns
+pub mod Shown

@@ -3,26 +3,26 @@ use Rattle.std.proofs.Common.{◌≡◌, ◌≢◌, ℕ, ◌+◌, ◌≤◌, Boo
 use Rattle.std.specs.List.{AllByRecursion, range_with_len}
 use Rattle.std.proofs.lemmas.Bool.{cases_eq, cases_lt, false_from_ne_true}
 use Rattle.std.proofs.Math.Seq.{set_out}
-use Rattle.linked_list.specs.Count.{times}
-use Rattle.linked_list.proofs.Counts.{times-within}
-use Rattle.owned_words.specs.Owned.{Pairs, owners, written}
-use Rattle.owned_words.proofs.OwnedWords.{length-written}
-use Rattle.packet_queue.specs.Queue.{no_queue}
-use Rattle.packet_queue.specs.QueueWords.{QueuedPacket}
-use Rattle.kernel_model.specs.ChangedStore.{HasKeeper, IsChanged, Knows}
-use Rattle.kernel_model.specs.Lists.{Lists}
-use Rattle.kernel_model.specs.Owned.{owned}
-use Rattle.kernel_model.specs.ValidLists.{AreValid}
-use Rattle.kernel_model.specs.ValidQueues.{IsFaultPacket, IsKeyPacket, MayStand, Place, is_fault_packet, is_key_packet}
-use Rattle.kernel_model.specs.ValidQueues.Place.{Clock, Keyboard, Output, Pending, Work}
-use Rattle.kernel_model.proofs.QueuePlaces.{place-stands}
-use Rattle.call_answers.specs.Made.{IsMade, minus_one}
-use Rattle.call_answers.specs.Outside.{outside}
-use Rattle.kernel_model.proofs.ChangedLists.{changed-none, changed-then, knows-same}
-use Rattle.kernel_model.specs.HoldsLists.{HoldsLists}
-use Rattle.kernel_model.specs.NotedEvents.{NotesAll}
-use Rattle.kernel_model.proofs.NotedInTurn.{notes-then}
-use Rattle.packet_queue.specs.declared.events.KernelEvent.{KernelEvent}
+use Rattle.word_store.specs.Count.{times}
+use Rattle.word_store.proofs.Counts.{times-within}
+use Rattle.kernel_calls.specs.OwnedWords.Owned.{Pairs, owners, written}
+use Rattle.kernel_calls.proofs.Shown.OwnedWords.OwnedWords.{length-written}
+use Rattle.kernel_calls.specs.PacketQueue.Queue.{no_queue}
+use Rattle.kernel_calls.specs.PacketQueue.QueueWords.{QueuedPacket}
+use Rattle.kernel_calls.specs.KernelModel.ChangedStore.{HasKeeper, IsChanged, Knows}
+use Rattle.kernel_calls.specs.KernelModel.Lists.{Lists}
+use Rattle.kernel_calls.specs.KernelModel.Owned.{owned}
+use Rattle.kernel_calls.specs.KernelModel.ValidLists.{AreValid}
+use Rattle.kernel_calls.specs.KernelModel.ValidQueues.{IsFaultPacket, IsKeyPacket, MayStand, Place, is_fault_packet, is_key_packet}
+use Rattle.kernel_calls.specs.KernelModel.ValidQueues.Place.{Clock, Keyboard, Output, Pending, Work}
+use Rattle.kernel_calls.proofs.Shown.KernelModel.QueuePlaces.{place-stands}
+use Rattle.kernel_calls.specs.CallAnswers.Made.{IsMade, minus_one}
+use Rattle.kernel_calls.specs.CallAnswers.Outside.{outside}
+use Rattle.kernel_calls.proofs.Shown.KernelModel.ChangedLists.{changed-none, changed-then, knows-same}
+use Rattle.kernel_calls.specs.KernelModel.HoldsLists.{HoldsLists}
+use Rattle.kernel_calls.specs.KernelModel.NotedEvents.{NotesAll}
+use Rattle.kernel_calls.proofs.Shown.KernelModel.NotedInTurn.{notes-then}
+use Rattle.kernel_calls.specs.PacketQueue.declared.events.KernelEvent.{KernelEvent}
 use Rattle.resident_requests.specs.Answers.{IsFinished, OwnsRequest, answered, finished}
 use Rattle.resident_requests.specs.Buffers.{with_bytes, written_buffer}
 use Rattle.resident_requests.specs.Requests.{HasRequest, IsForeign, IsTaken, RunsResident, TakesRequest, first_request, request_at, taken, taken_from, words_taken, words_taken_from, work}

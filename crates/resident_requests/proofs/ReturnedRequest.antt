@@ -2,26 +2,26 @@
 use Rattle.std.proofs.Common.{◌≡◌, ℕ, ◌+◌, ◌<◌, ◌≤◌, Bool, Option, Result, Ok, List, [], ◌∷◌, ◌++◌, sym, ap, ◌∙◌, subst, append-nil}
 use Rattle.std.specs.List.{AllByRecursion, range_with_len}
 use Rattle.word_store.specs.Arithmetic.{signed}
-use Rattle.linked_list.specs.Count.{times}
-use Rattle.owned_words.specs.Owned.{owners}
-use Rattle.packet_queue.specs.QueueWords.{QueuedPacket}
-use Rattle.packet_queue.specs.declared.events.KernelEvent.{KernelEvent}
-use Rattle.packet_queue.specs.declared.events.KernelEvent.TheVariants.{Accepted}
-use Rattle.kernel_model.specs.ChangedStore.{HasKeeper}
-use Rattle.kernel_model.specs.Changes.{queue_of, with_queue}
-use Rattle.kernel_model.specs.Lists.{Lists, has_task}
-use Rattle.kernel_model.specs.NotedEvents.{NotesAll}
-use Rattle.kernel_model.specs.Owned.{owned}
-use Rattle.kernel_model.specs.ValidLists.{AreValid}
-use Rattle.kernel_model.specs.ValidQueues.Place.{Work}
-use Rattle.word_kinds.specs.Keeper.{AreTogether}
-use Rattle.word_kinds.proofs.KnownWords.{knows-claimed}
-use Rattle.call_answers.specs.Made.{IsMade, Leaves, Made, minus_one}
-use Rattle.packet_moves.specs.PacketMoves.{with_arrived}
-use Rattle.packet_moves.proofs.Arrival.{owners-arrived}
-use Rattle.packet_calls.specs.Reply.{CanReply, reply}
-use Rattle.packet_calls.proofs.SendCall.{lodged-room}
-use Rattle.packet_calls.proofs.SentPackets.{comes-some, comes-valid}
+use Rattle.word_store.specs.Count.{times}
+use Rattle.kernel_calls.specs.OwnedWords.Owned.{owners}
+use Rattle.kernel_calls.specs.PacketQueue.QueueWords.{QueuedPacket}
+use Rattle.kernel_calls.specs.PacketQueue.declared.events.KernelEvent.{KernelEvent}
+use Rattle.kernel_calls.specs.PacketQueue.declared.events.KernelEvent.TheVariants.{Accepted}
+use Rattle.kernel_calls.specs.KernelModel.ChangedStore.{HasKeeper}
+use Rattle.kernel_calls.specs.KernelModel.Changes.{queue_of, with_queue}
+use Rattle.kernel_calls.specs.KernelModel.Lists.{Lists, has_task}
+use Rattle.kernel_calls.specs.KernelModel.NotedEvents.{NotesAll}
+use Rattle.kernel_calls.specs.KernelModel.Owned.{owned}
+use Rattle.kernel_calls.specs.KernelModel.ValidLists.{AreValid}
+use Rattle.kernel_calls.specs.KernelModel.ValidQueues.Place.{Work}
+use Rattle.kernel_calls.specs.WordKinds.Keeper.{AreTogether}
+use Rattle.kernel_calls.proofs.Shown.WordKinds.KnownWords.{knows-claimed}
+use Rattle.kernel_calls.specs.CallAnswers.Made.{IsMade, Leaves, Made, minus_one}
+use Rattle.kernel_calls.specs.PacketCalls.PacketMoves.{with_arrived}
+use Rattle.kernel_calls.proofs.Shown.PacketCalls.Arrival.{owners-arrived}
+use Rattle.kernel_calls.specs.PacketCalls.Reply.{CanReply, reply}
+use Rattle.kernel_calls.proofs.Shown.PacketCalls.SendCall.{lodged-room}
+use Rattle.kernel_calls.proofs.Shown.PacketCalls.SentPackets.{comes-some, comes-valid}
 use Rattle.resident_requests.specs.Answers.{answered_packet, res1_of, res2_of, returned}
 use Rattle.resident_requests.specs.Requests.{HasRequest, RunsResident}
 use Rattle.resident_requests.specs.declared.requests.Request.{Request}

@@ -1,20 +1,20 @@
 -- The resident that runs: its block, its number, its queue and its state, as the store has them.
 use Rattle.std.proofs.Common.{◌≡◌, ℕ, ◌+◌, ◌||◌, true, false, List, [], ◌∷◌, map, cond, eqb, get_or, refl, sym, ap, ◌∙◌, subst}
 use Rattle.std.specs.List.{AllByRecursion}
-use Rattle.owned_words.specs.Owned.{Holds}
-use Rattle.packet_queue.specs.QueueWords.{QueuedPacket, first_packet}
-use Rattle.kernel_model.specs.Changes.{with_queue, with_work}
-use Rattle.kernel_model.specs.HoldsLists.{HoldsLists}
-use Rattle.kernel_model.specs.Lists.{Lists, address_of_task, has_task}
-use Rattle.kernel_model.specs.Task.{Task, state_word, state_words, task_address, task_words}
-use Rattle.kernel_model.specs.ValidQueues.Place.{Work}
-use Rattle.kernel_model.specs.ValidTasks.{runs}
-use Rattle.kernel_model.proofs.AllThings.{all-here}
-use Rattle.kernel_model.proofs.EachMember.{holds-each}
-use Rattle.kernel_model.proofs.ReadCoroutines.{holds-task}
-use Rattle.call_answers.proofs.FoundTask.{TaskAt, reads}
-use Rattle.call_answers.proofs.RunningTask.{there-at}
-use Rattle.packet_moves.proofs.HeldPlaces.{held-at}
+use Rattle.kernel_calls.specs.OwnedWords.Owned.{Holds}
+use Rattle.kernel_calls.specs.PacketQueue.QueueWords.{QueuedPacket, first_packet}
+use Rattle.kernel_calls.specs.KernelModel.Changes.{with_queue, with_work}
+use Rattle.kernel_calls.specs.KernelModel.HoldsLists.{HoldsLists}
+use Rattle.kernel_calls.specs.KernelModel.Lists.{Lists, address_of_task, has_task}
+use Rattle.kernel_calls.specs.KernelModel.Task.{Task, state_word, state_words, task_address, task_words}
+use Rattle.kernel_calls.specs.KernelModel.ValidQueues.Place.{Work}
+use Rattle.kernel_calls.specs.KernelModel.ValidTasks.{runs}
+use Rattle.kernel_calls.proofs.Shown.KernelModel.AllThings.{all-here}
+use Rattle.kernel_calls.proofs.Shown.KernelModel.EachMember.{holds-each}
+use Rattle.kernel_calls.proofs.Shown.KernelModel.ReadCoroutines.{holds-task}
+use Rattle.kernel_calls.proofs.Shown.CallAnswers.FoundTask.{TaskAt, reads}
+use Rattle.kernel_calls.proofs.Shown.CallAnswers.RunningTask.{there-at}
+use Rattle.kernel_calls.proofs.Shown.PacketCalls.HeldPlaces.{held-at}
 use Rattle.resident_requests.specs.Requests.{RunsResident, work}
 
 module _ (s : List ℕ) (l : Lists) (h : HoldsLists s l) (r : RunsResident l) where

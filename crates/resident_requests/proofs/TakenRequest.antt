@@ -3,36 +3,36 @@ use Rattle.std.proofs.Common.{◌≡◌, ◌≢◌, ℕ, ◌+◌, ◌<◌, Bool,
 use Rattle.std.specs.List.{AllByRecursion, range_with_len}
 use Rattle.std.proofs.lemmas.Bool.{eq-eqb, ne_eqb, or_left}
 use Rattle.word_store.specs.Arithmetic.{signed}
-use Rattle.linked_list.specs.Count.{IsApart}
-use Rattle.linked_list.specs.Places.{has}
-use Rattle.packet_queue.specs.Log.{Notes}
-use Rattle.packet_queue.specs.Queue.{HasQueue, queue_at}
-use Rattle.packet_queue.specs.QueueWords.{QueuedPacket, first_packet}
-use Rattle.packet_queue.specs.declared.events.KernelEvent.{KernelEvent}
-use Rattle.packet_queue.specs.declared.events.KernelEvent.TheVariants.{Taken}
-use Rattle.kernel_model.specs.ChangedStore.{HasKeeper, IsChanged, Knows}
-use Rattle.kernel_model.specs.Changes.{AreUnowned, with_queue}
-use Rattle.kernel_model.specs.HoldsLists.{HoldsLists}
-use Rattle.kernel_model.specs.Lists.{Lists, address_of_task, has_task}
-use Rattle.kernel_model.specs.NotedEvents.{NotesAll}
-use Rattle.kernel_model.specs.Task.{queue_head}
-use Rattle.kernel_model.specs.ValidBlocks.{AreData}
-use Rattle.kernel_model.specs.ValidLists.{AreValid}
-use Rattle.kernel_model.specs.ValidQueues.{MayStand, is_fault_packet, is_key_packet}
-use Rattle.kernel_model.specs.ValidQueues.Place.{Work}
-use Rattle.kernel_model.proofs.ChangedLists.{changed-none}
-use Rattle.kernel_model.proofs.NotedInTurn.{notes-none, notes-one}
-use Rattle.kernel_model.proofs.PacketMoves.{unqueued-unowned, unqueued-valid}
-use Rattle.kernel_model.proofs.QueuePlaces.{place-stands}
-use Rattle.word_kinds.specs.Keeper.{AreTogether}
-use Rattle.word_kinds.proofs.KnownWords.{knows-released}
-use Rattle.packet_moves.specs.Destinations.{queue_for}
-use Rattle.packet_moves.specs.PacketMoves.{stands_in}
-use Rattle.packet_moves.specs.QueueWords.{head_of, unqueued}
-use Rattle.packet_moves.specs.declared.queues.Queue.TheVariants.{OfTask}
-use Rattle.packet_moves.proofs.HeldPlaces.{HasFirst, first-there, has-at, held-at, no-packets, stands-at}
-use Rattle.packet_moves.proofs.Departure.{departed-changed, held-before, others-kept, owners-departed}
-use Rattle.packet_calls.specs.TaskWait.{first_of_queue}
+use Rattle.word_store.specs.Count.{IsApart}
+use Rattle.kernel_calls.specs.LinkedList.Places.{has}
+use Rattle.kernel_calls.specs.PacketQueue.Log.{Notes}
+use Rattle.kernel_calls.specs.PacketQueue.Queue.{HasQueue, queue_at}
+use Rattle.kernel_calls.specs.PacketQueue.QueueWords.{QueuedPacket, first_packet}
+use Rattle.kernel_calls.specs.PacketQueue.declared.events.KernelEvent.{KernelEvent}
+use Rattle.kernel_calls.specs.PacketQueue.declared.events.KernelEvent.TheVariants.{Taken}
+use Rattle.kernel_calls.specs.KernelModel.ChangedStore.{HasKeeper, IsChanged, Knows}
+use Rattle.kernel_calls.specs.KernelModel.Changes.{AreUnowned, with_queue}
+use Rattle.kernel_calls.specs.KernelModel.HoldsLists.{HoldsLists}
+use Rattle.kernel_calls.specs.KernelModel.Lists.{Lists, address_of_task, has_task}
+use Rattle.kernel_calls.specs.KernelModel.NotedEvents.{NotesAll}
+use Rattle.kernel_calls.specs.KernelModel.Task.{queue_head}
+use Rattle.kernel_calls.specs.KernelModel.ValidBlocks.{AreData}
+use Rattle.kernel_calls.specs.KernelModel.ValidLists.{AreValid}
+use Rattle.kernel_calls.specs.KernelModel.ValidQueues.{MayStand, is_fault_packet, is_key_packet}
+use Rattle.kernel_calls.specs.KernelModel.ValidQueues.Place.{Work}
+use Rattle.kernel_calls.proofs.Shown.KernelModel.ChangedLists.{changed-none}
+use Rattle.kernel_calls.proofs.Shown.KernelModel.NotedInTurn.{notes-none, notes-one}
+use Rattle.kernel_calls.proofs.Shown.KernelModel.PacketMoves.{unqueued-unowned, unqueued-valid}
+use Rattle.kernel_calls.proofs.Shown.KernelModel.QueuePlaces.{place-stands}
+use Rattle.kernel_calls.specs.WordKinds.Keeper.{AreTogether}
+use Rattle.kernel_calls.proofs.Shown.WordKinds.KnownWords.{knows-released}
+use Rattle.kernel_calls.specs.PacketCalls.Destinations.{queue_for}
+use Rattle.kernel_calls.specs.PacketCalls.PacketMoves.{stands_in}
+use Rattle.kernel_calls.specs.PacketCalls.QueueWords.{head_of, unqueued}
+use Rattle.kernel_calls.specs.PacketCalls.declared.queues.Queue.TheVariants.{OfTask}
+use Rattle.kernel_calls.proofs.Shown.PacketCalls.HeldPlaces.{HasFirst, first-there, has-at, held-at, no-packets, stands-at}
+use Rattle.kernel_calls.proofs.Shown.PacketCalls.Departure.{departed-changed, held-before, others-kept, owners-departed}
+use Rattle.kernel_calls.specs.PacketCalls.TaskWait.{first_of_queue}
 use Rattle.resident_requests.specs.Requests.{HasRequest, IsForeign, IsTaken, RunsResident, TakesRequest, first_request, request_at, taken, taken_from, words_taken_from, work}
 use Rattle.resident_requests.proofs.RunningResident.{has_task-work, resident-first, resident-number, runs-work}
 

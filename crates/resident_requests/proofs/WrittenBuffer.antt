@@ -2,13 +2,13 @@
 use Rattle.std.proofs.Common.{◌≡◌, ℕ, zero, suc, ◌+◌, ◌/◌, ◌<◌, ◌≤◌, ◌⊎◌, ◌||◌, Bool, true, false, List, [], ◌∷◌, map, get_or, set, length, leb, inl, inr, refl, sym, ap, ◌∙◌, subst, arith, get_or-set_other, get_or-set_same, length-set}
 use Rattle.std.specs.List.{range_with_len}
 use Rattle.std.proofs.lemmas.Bool.{and_parts, cases_eq, cases_lt, leb-true}
-use Rattle.owned_words.specs.Owned.{owners, written}
-use Rattle.owned_words.specs.Written.{IsWritten}
-use Rattle.owned_words.proofs.OwnedWords.{Holds-same, length-written}
-use Rattle.kernel_model.specs.Changes.{AreUnowned}
-use Rattle.kernel_model.specs.HoldsLists.{HoldsLists}
-use Rattle.kernel_model.specs.Lists.{Lists}
-use Rattle.kernel_model.specs.Owned.{owned}
+use Rattle.kernel_calls.specs.OwnedWords.Owned.{owners, written}
+use Rattle.kernel_calls.specs.OwnedWords.Written.{IsWritten}
+use Rattle.kernel_calls.proofs.Shown.OwnedWords.OwnedWords.{Holds-same, length-written}
+use Rattle.kernel_calls.specs.KernelModel.Changes.{AreUnowned}
+use Rattle.kernel_calls.specs.KernelModel.HoldsLists.{HoldsLists}
+use Rattle.kernel_calls.specs.KernelModel.Lists.{Lists}
+use Rattle.kernel_calls.specs.KernelModel.Owned.{owned}
 use Rattle.resident_requests.specs.Buffers.{covered, is_count, is_readable, is_unowned, is_writable, lies_beside, lies_inside, with_byte_in, with_bytes, written_buffer}
 use Rattle.resident_requests.specs.Requests.{HasRequest}
 use Rattle.resident_requests.specs.Turns.{HasWritten}

@@ -2,18 +2,18 @@
 use Rattle.std.specs.Prelude.{◌≡◌, ℕ, ◌+◌, Result, Ok, Err, List, [], ◌∷◌}
 use Rattle.std.specs.List.{range_with_len}
 use Rattle.word_store.specs.Arithmetic.{signed}
-use Rattle.linked_list.specs.Count.{times}
-use Rattle.owned_words.specs.Owned.{owners}
-use Rattle.packet_queue.specs.QueueWords.{QueuedPacket}
-use Rattle.packet_queue.specs.declared.events.KernelEvent.TheVariants.{Accepted}
-use Rattle.kernel_model.specs.ChangedStore.{IsChanged}
-use Rattle.kernel_model.specs.Changes.{with_task}
-use Rattle.kernel_model.specs.Lists.{Lists}
-use Rattle.kernel_model.specs.Owned.{owned}
-use Rattle.kernel_model.specs.ValidQueues.Place.{Work}
-use Rattle.call_answers.specs.Made.{Made, minus_one}
-use Rattle.packet_moves.specs.PacketMoves.{with_arrived}
-use Rattle.packet_calls.specs.TaskWait.{waiting}
+use Rattle.word_store.specs.Count.{times}
+use Rattle.kernel_calls.specs.OwnedWords.Owned.{owners}
+use Rattle.kernel_calls.specs.PacketQueue.QueueWords.{QueuedPacket}
+use Rattle.kernel_calls.specs.PacketQueue.declared.events.KernelEvent.TheVariants.{Accepted}
+use Rattle.kernel_calls.specs.KernelModel.ChangedStore.{IsChanged}
+use Rattle.kernel_calls.specs.KernelModel.Changes.{with_task}
+use Rattle.kernel_calls.specs.KernelModel.Lists.{Lists}
+use Rattle.kernel_calls.specs.KernelModel.Owned.{owned}
+use Rattle.kernel_calls.specs.KernelModel.ValidQueues.Place.{Work}
+use Rattle.kernel_calls.specs.CallAnswers.Made.{Made, minus_one}
+use Rattle.kernel_calls.specs.PacketCalls.PacketMoves.{with_arrived}
+use Rattle.kernel_calls.specs.PacketCalls.TaskWait.{waiting}
 use Rattle.resident_requests.specs.Requests.{work}
 use Rattle.resident_requests.specs.declared.requests.Request.{Request}
 

@@ -2,9 +2,9 @@
 use Rattle.std.specs.Prelude.{ℕ, ◌+◌, ◌/◌, ◌%◌, ◌&&◌, ◌||◌, Bool, not, List, [], ◌∷◌, length, map, nat_le, nat_lt, slice_index, slice_set}
 use Rattle.std.specs.List.{list_any, range_with_len}
 use Rattle.word_store.specs.Bytes.{byte_of, with_byte}
-use Rattle.owned_words.specs.Owned.{Pairs, owners}
-use Rattle.kernel_model.specs.Lists.{Lists}
-use Rattle.kernel_model.specs.Owned.{owned}
+use Rattle.kernel_calls.specs.OwnedWords.Owned.{Pairs, owners}
+use Rattle.kernel_calls.specs.KernelModel.Lists.{Lists}
+use Rattle.kernel_calls.specs.KernelModel.Owned.{owned}
 
 -- ---- reading
 

@@ -2,21 +2,21 @@
 use Rattle.std.specs.Prelude.{◌≡◌, ℕ, ◌+◌, Option, Some, None, true, false, IfSome, List, [], ◌∷◌, slice_index}
 use Rattle.std.specs.List.{AllByRecursion}
 use Rattle.word_store.specs.Arithmetic.{signed}
-use Rattle.owned_words.specs.Owned.{Pairs}
-use Rattle.packet_queue.specs.Queue.{no_queue}
-use Rattle.packet_queue.specs.QueueWords.{QueuedPacket}
-use Rattle.packet_queue.specs.declared.events.KernelEvent.{KernelEvent}
-use Rattle.packet_queue.specs.declared.events.KernelEvent.TheVariants.{Taken}
-use Rattle.kernel_model.specs.ChangedStore.{IsChanged, Knows}
-use Rattle.kernel_model.specs.Changes.{AreUnowned, queue_of, with_queue}
-use Rattle.kernel_model.specs.Lists.{Lists, has_task}
-use Rattle.kernel_model.specs.Task.{is_guest_id}
-use Rattle.kernel_model.specs.ValidBlocks.{AreData}
-use Rattle.kernel_model.specs.ValidQueues.{is_fault_packet, is_key_packet}
-use Rattle.kernel_model.specs.ValidQueues.Place.{Work}
-use Rattle.kernel_model.specs.ValidTasks.{runs}
-use Rattle.packet_moves.specs.Destinations.{queue_for}
-use Rattle.packet_moves.specs.QueueWords.{unqueued}
+use Rattle.kernel_calls.specs.OwnedWords.Owned.{Pairs}
+use Rattle.kernel_calls.specs.PacketQueue.Queue.{no_queue}
+use Rattle.kernel_calls.specs.PacketQueue.QueueWords.{QueuedPacket}
+use Rattle.kernel_calls.specs.PacketQueue.declared.events.KernelEvent.{KernelEvent}
+use Rattle.kernel_calls.specs.PacketQueue.declared.events.KernelEvent.TheVariants.{Taken}
+use Rattle.kernel_calls.specs.KernelModel.ChangedStore.{IsChanged, Knows}
+use Rattle.kernel_calls.specs.KernelModel.Changes.{AreUnowned, queue_of, with_queue}
+use Rattle.kernel_calls.specs.KernelModel.Lists.{Lists, has_task}
+use Rattle.kernel_calls.specs.KernelModel.Task.{is_guest_id}
+use Rattle.kernel_calls.specs.KernelModel.ValidBlocks.{AreData}
+use Rattle.kernel_calls.specs.KernelModel.ValidQueues.{is_fault_packet, is_key_packet}
+use Rattle.kernel_calls.specs.KernelModel.ValidQueues.Place.{Work}
+use Rattle.kernel_calls.specs.KernelModel.ValidTasks.{runs}
+use Rattle.kernel_calls.specs.PacketCalls.Destinations.{queue_for}
+use Rattle.kernel_calls.specs.PacketCalls.QueueWords.{unqueued}
 use Rattle.resident_requests.specs.declared.requests.Request.{Request}
 
 -- a resident runs, and its state says so

@@ -1,11 +1,11 @@
 -- What a resident's turn leaves.
 use Rattle.std.specs.Prelude.{◌≡◌, ◌⊎◌, ℕ, ◌≤◌, true, Option, Some, None, Result, List, [], ◌++◌, length}
-use Rattle.owned_words.specs.Owned.{Pairs}
-use Rattle.packet_queue.specs.declared.events.KernelEvent.{KernelEvent}
-use Rattle.kernel_model.specs.ChangedStore.{IsChanged, Knows}
-use Rattle.kernel_model.specs.Lists.{Lists}
-use Rattle.kernel_model.specs.NotedEvents.{NotesAll}
-use Rattle.call_answers.specs.Outside.{Outside}
+use Rattle.kernel_calls.specs.OwnedWords.Owned.{Pairs}
+use Rattle.kernel_calls.specs.PacketQueue.declared.events.KernelEvent.{KernelEvent}
+use Rattle.kernel_calls.specs.KernelModel.ChangedStore.{IsChanged, Knows}
+use Rattle.kernel_calls.specs.KernelModel.Lists.{Lists}
+use Rattle.kernel_calls.specs.KernelModel.NotedEvents.{NotesAll}
+use Rattle.kernel_calls.specs.CallAnswers.Outside.{Outside}
 use Rattle.resident_requests.specs.Answers.{OwnsRequest, answered, finished}
 use Rattle.resident_requests.specs.Buffers.{is_writable, written_buffer}
 use Rattle.resident_requests.specs.Requests.{HasRequest, first_request, taken, words_taken, work}

@@ -1,20 +1,18 @@
 // A resident returns a request, and ends its turn.
 ghost use Rattle.std.specs.Prelude.{◌≡◌, Ok};
 ghost use Rattle.word_store.specs.Arithmetic.{word_of};
-ghost use Rattle.kernel_model.specs.ChangedStore.{HasKeeper};
-ghost use Rattle.kernel_model.specs.HoldsLists.{HoldsLists};
-ghost use Rattle.kernel_model.specs.Lists.{Lists};
-ghost use Rattle.kernel_model.specs.NotedEvents.{NotesAll};
-ghost use Rattle.call_answers.specs.Made.{IsMade, minus_one};
+ghost use Rattle.kernel_calls.specs.KernelModel.ChangedStore.{HasKeeper};
+ghost use Rattle.kernel_calls.specs.KernelModel.HoldsLists.{HoldsLists};
+ghost use Rattle.kernel_calls.specs.KernelModel.Lists.{Lists};
+ghost use Rattle.kernel_calls.specs.KernelModel.NotedEvents.{NotesAll};
+ghost use Rattle.kernel_calls.specs.CallAnswers.Made.{IsMade, minus_one};
 ghost use Rattle.resident_requests.specs.Answers.{IsFinished, OwnsRequest, answered, res1_of, res2_of, returned};
 ghost use Rattle.resident_requests.specs.Requests.{HasRequest, RunsResident};
 
 use crate::requests::Request;
-use packet_calls::reply;
-use packet_moves::packets::PACKET_WORDS;
-use packet_queue::EventLog;
-use task_block::{RootField, TcbField, field, root, set_field};
-use word_kinds::KindKeeper;
+use kernel_calls::{
+    EventLog, KindKeeper, PACKET_WORDS, RootField, TcbField, field, reply, root, set_field,
+};
 use word_store::Store;
 
 /// By so much the state of a task that waits is larger than that of one that runs.

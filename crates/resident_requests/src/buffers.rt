@@ -1,17 +1,15 @@
 // Buffers of bytes, which a request names by a word address and a count.
 ghost use Rattle.std.specs.Prelude.{◌≡◌, ◌≤◌, ℕ, length, true};
-ghost use Rattle.kernel_model.specs.ChangedStore.{HasKeeper};
-ghost use Rattle.kernel_model.specs.HoldsLists.{HoldsLists};
-ghost use Rattle.kernel_model.specs.Lists.{Lists};
+ghost use Rattle.kernel_calls.specs.KernelModel.ChangedStore.{HasKeeper};
+ghost use Rattle.kernel_calls.specs.KernelModel.HoldsLists.{HoldsLists};
+ghost use Rattle.kernel_calls.specs.KernelModel.Lists.{Lists};
 ghost use Rattle.resident_requests.specs.Buffers.{byte_in, bytes_in, covered, is_readable, is_unowned, is_writable, lies_beside, lies_inside, with_byte_in, with_bytes};
 ghost use Rattle.resident_requests.specs.Requests.{HasRequest};
 ghost use Rattle.resident_requests.specs.Turns.{HasWritten};
 ghost use Rattle.resident_requests.specs.declared.requests.Request.{Request};
 
 use arrayvec::ArrayVec;
-use block_calls::are_unowned;
-use packet_moves::packets::PACKET_WORDS;
-use word_kinds::KindKeeper;
+use kernel_calls::{KindKeeper, PACKET_WORDS, are_unowned};
 use word_store::{Store, set_word_at, word_at};
 
 /// The most bytes of a buffer.

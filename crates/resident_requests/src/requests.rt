@@ -1,20 +1,16 @@
 // A resident takes a request.
 ghost use Rattle.std.specs.Prelude.{◌≡◌};
-ghost use Rattle.kernel_model.specs.ChangedStore.{HasKeeper};
-ghost use Rattle.kernel_model.specs.HoldsLists.{HoldsLists};
-ghost use Rattle.kernel_model.specs.Lists.{Lists};
-ghost use Rattle.kernel_model.specs.NotedEvents.{NotesAll};
-ghost use Rattle.packet_calls.specs.TaskWait.{first_of_queue};
+ghost use Rattle.kernel_calls.specs.KernelModel.ChangedStore.{HasKeeper};
+ghost use Rattle.kernel_calls.specs.KernelModel.HoldsLists.{HoldsLists};
+ghost use Rattle.kernel_calls.specs.KernelModel.Lists.{Lists};
+ghost use Rattle.kernel_calls.specs.KernelModel.NotedEvents.{NotesAll};
+ghost use Rattle.kernel_calls.specs.PacketCalls.TaskWait.{first_of_queue};
 ghost use Rattle.resident_requests.specs.Requests.{IsTaken, RunsResident, TakesRequest, request_at, taken, work};
 
-use call_answers::numbers::SENDER;
-use packet_moves::Queue;
-use packet_moves::events::taken;
-use packet_moves::packets::PACKET_WORDS;
-use packet_moves::queues::unqueue;
-use packet_queue::EventLog;
-use task_block::{RootField, TcbField, field, root};
-use word_kinds::KindKeeper;
+use kernel_calls::numbers::SENDER;
+use kernel_calls::{
+    EventLog, KindKeeper, PACKET_WORDS, Queue, RootField, TcbField, field, root, taken, unqueue,
+};
 use word_store::{Store, word_at};
 
 /// The word of a packet that has its type, and those that have the arguments of a request.

@@ -1,9 +1,9 @@
 // A request is answered, and bytes are written into its buffer.
 ghost use Rattle.std.specs.Prelude.{◌≡◌, ◌≤◌, length};
 ghost use Rattle.word_store.specs.Arithmetic.{word_of};
-ghost use Rattle.kernel_model.specs.ChangedStore.{HasKeeper};
-ghost use Rattle.kernel_model.specs.Lists.{Lists};
-ghost use Rattle.kernel_model.specs.NotedEvents.{NotesAll};
+ghost use Rattle.kernel_calls.specs.KernelModel.ChangedStore.{HasKeeper};
+ghost use Rattle.kernel_calls.specs.KernelModel.Lists.{Lists};
+ghost use Rattle.kernel_calls.specs.KernelModel.NotedEvents.{NotesAll};
 ghost use Rattle.resident_requests.specs.Answers.{answered};
 ghost use Rattle.resident_requests.specs.Requests.{HasRequest, RunsResident};
 ghost use Rattle.resident_requests.specs.Turns.{CanServe, IsServed, service};
@@ -11,8 +11,7 @@ ghost use Rattle.resident_requests.specs.Turns.{CanServe, IsServed, service};
 use crate::answers::answer_request;
 use crate::buffers::write_buffer;
 use crate::requests::Request;
-use packet_queue::EventLog;
-use word_kinds::KindKeeper;
+use kernel_calls::{EventLog, KindKeeper};
 use word_store::Store;
 
 /// Writes these bytes into the words from `at` on, returns the request with the answer, and ends the turn. Where there are bytes,

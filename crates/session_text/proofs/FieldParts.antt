@@ -7,7 +7,7 @@ use Rattle.std.proofs.lemmas.List.Elements.{All-from_get_or}
 use Rattle.std.proofs.lemmas.List.Splits.{slice_split_first, slice_split_none}
 use Rattle.std.proofs.lemmas.List.Sums.{fails_before_first}
 use Rattle.std.proofs.lemmas.Option.{cond_some}
-use Rattle.session_text.specs.Ranges.{is_name}
+use Rattle.ram_disc.specs.Name.{is_name}
 use Rattle.session_text.specs.Statements.{fields, split_at_blank}
 
 abbrev blank : ℕ → Bool

@@ -4,10 +4,10 @@ use Rattle.std.specs.Prelude.{codes}
 use Rattle.std.specs.List.{onto_first, starts_with}
 use Rattle.std.proofs.lemmas.Bool.Decides.{nat_tests}
 use Rattle.std.proofs.lemmas.List.{drop_all}
-use Rattle.text_reader.specs.Lines.{lines_of}
-use Rattle.text_reader.specs.Answers.{EndsAs}
-use Rattle.text_reader.specs.Refusal.{Refusal}
-use Rattle.text_reader.specs.declared.ends.TextEnd.{TextEnd}
+use Rattle.hunk_text.specs.TextReader.Lines.{lines_of}
+use Rattle.hunk_text.specs.TextReader.Answers.{EndsAs}
+use Rattle.hunk_text.specs.TextReader.Refusal.{Refusal}
+use Rattle.hunk_text.specs.TextReader.declared.ends.TextEnd.{TextEnd}
 use Rattle.session_text.specs.SessionOfText.{session_lines, session_of}
 use Rattle.session_text.specs.declared.sessions.Session.{Session}
 use Rattle.session_text.specs.Front.{front_count, front_lines, place_after}

@@ -8,7 +8,6 @@ pub mod HexByte
 pub mod Lawful
 pub mod LineNumbers
 pub mod LineRefusals
-pub mod NameLemmas
 pub mod Parts
 pub mod PrintedTexts
 pub mod RoundTrip

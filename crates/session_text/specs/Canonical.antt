@@ -2,9 +2,11 @@
 use Rattle.std.specs.Prelude.{ℕ, ◌≡◌, ◌+◌, ◌<◌, ◌≤◌, Bool, true, false, if◌then◌else◌, IsTrue, List, [], ◌∷◌, ◌++◌, map, length, codes, decimal}
 use Rattle.std.specs.List.{AllByRecursion, flat_map}
 use Rattle.hex.specs.Hex.{IsBytes, encode_lower}
-use Rattle.text_reader.specs.Lines.{lines_of, text_of_lines}
+use Rattle.hunk_text.specs.TextReader.Lines.{lines_of, text_of_lines}
 use Rattle.session_text.specs.Entries.{colon_line, is_in_range}
-use Rattle.session_text.specs.Ranges.{IsVersion, is_name, is_period, is_step, is_store_size, most_names}
+use Rattle.kernel_dispatch.specs.KernelModel.Ranges.{IsVersion, is_period, is_store_size}
+use Rattle.ram_disc.specs.Name.{is_name}
+use Rattle.session_text.specs.Ranges.{is_step, most_names}
 use Rattle.session_text.specs.SessionForm.{IsBare}
 use Rattle.session_text.specs.Statements.{Statement, File as FileOf, Task as TaskOf, At as AtOf, Key as KeyOf, Go as GoOf, is_text, task_text}
 use Rattle.session_text.specs.declared.sessions.Session.{Session}

@@ -1,8 +1,9 @@
 -- The entries of a machine with a clock: files with their text, tasks, and keys; and what each puts into the session.
 use Rattle.std.specs.Prelude.{ℕ, ◌≡◌, ◌+◌, ◌&&◌, Bool, true, IsTrue, List, [], ◌∷◌, ◌++◌, map, length, codes, nat_le}
 use Rattle.std.specs.List.{AllByRecursion, flat_map, list_all}
-use Rattle.text_reader.specs.Lines.{text_of_lines}
-use Rattle.session_text.specs.Ranges.{is_name, is_priority, is_stack, is_step, is_task, most_names}
+use Rattle.hunk_text.specs.TextReader.Lines.{text_of_lines}
+use Rattle.ram_disc.specs.Name.{is_name}
+use Rattle.session_text.specs.Ranges.{is_priority, is_stack, is_step, is_task, most_names}
 use Rattle.session_text.specs.Statements.{Statement, File, Task, At, Key, Go, States, is_text}
 use Rattle.session_text.specs.declared.sessions.SessionLine.{SessionLine}
 use Rattle.session_text.specs.declared.sessions.LineForm.TheVariants.{File as FileForm, Task as TaskForm}

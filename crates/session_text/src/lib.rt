@@ -13,8 +13,11 @@ pub mod sessions;
 mod statements;
 
 pub use fronts::{Front, read_front};
+pub use hunk_text::TextEnd as SessionEnd;
 pub use lists::{Bytes, Keys, Lines, Names};
 pub use print::print_session;
 pub use read::read_session;
 pub use sessions::{LineForm, Session, SessionLine};
-pub use text_reader::TextEnd as SessionEnd;
+
+// Shown to the crates above.
+pub use kernel_dispatch::Stop;

@@ -2,14 +2,14 @@
 ghost use Rattle.std.specs.Prelude.{◌≡◌, [], ◌∷◌, ◌++◌, false, if◌then◌else◌, map};
 ghost use Rattle.hex.specs.Hex.{encode_lower};
 ghost use Rattle.tp_io.specs.Write.{Prints, HasCause};
-ghost use Rattle.text_reader.specs.Lines.{lines_of, text_of_lines};
+ghost use Rattle.hunk_text.specs.TextReader.Lines.{lines_of, text_of_lines};
 ghost use Rattle.session_text.specs.Canonical.{canonical, form_text, head_text, keys_text, lines_text, machine_text, statement_text};
 ghost use Rattle.session_text.specs.Entries.{colon_line};
 ghost use Rattle.session_text.specs.Statements.{File, Go, Key, Task, names_text};
 
 use crate::{LineForm, Session, SessionLine};
+use hunk_text::split_line;
 use ram_disc::Name;
-use text_reader::split_line;
 use tp_io::{Piece, Sink, SinkFault, write_pieces};
 
 /// Writes the canonical text of a session. It takes no memory. `SinkFault` comes only where the sink's count of faults

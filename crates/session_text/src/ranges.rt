@@ -1,7 +1,9 @@
 // The ranges of the numbers and names of a session.
 ghost use Rattle.std.specs.Prelude.{◌≡◌, ◌≤◌, Some, None, if◌then◌else◌, length};
 ghost use Rattle.std.specs.List.{list_all};
-ghost use Rattle.session_text.specs.Ranges.{is_name, is_period, is_priority, is_stack, is_step, is_store_size, is_task};
+ghost use Rattle.ram_disc.specs.Name.{is_name};
+ghost use Rattle.kernel_dispatch.specs.KernelModel.Ranges.{is_period, is_store_size};
+ghost use Rattle.session_text.specs.Ranges.{is_priority, is_stack, is_step, is_task};
 ghost use Rattle.session_text.specs.Statements.{fields};
 
 use crate::Names;

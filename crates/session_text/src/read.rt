@@ -1,14 +1,14 @@
 // Reading a session.
 ghost use Rattle.std.specs.Prelude.{◌≡◌, ◌^◌, ◌<◌, length, IfOk};
-ghost use Rattle.text_reader.specs.Answers.{Gives};
+ghost use Rattle.hunk_text.specs.TextReader.Answers.{Gives};
 ghost use Rattle.session_text.specs.Canonical.{IsLawful};
 ghost use Rattle.session_text.specs.Numbering.{IsNumbered};
 ghost use Rattle.session_text.specs.SessionOfText.{session_of};
 
 use crate::drafts::Draft;
 use crate::{Session, SessionEnd};
+use hunk_text::split_line;
 use std::alloc::Global;
-use text_reader::split_line;
 
 /// The session of a text. Unless memory runs out, `Bad` comes exactly where the text is none, with the first line in
 /// error, from 1, and its code: 1 where no such form may stand there, 2 where a number or a name is out of its range, and

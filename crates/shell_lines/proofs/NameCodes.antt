@@ -1,7 +1,7 @@
 -- A name, or the code of a text that is none.
 use Rattle.std.proofs.Common.{◌≡◌, ℕ, List, true, false, cond, Some, None, Ok, Err, refl}
 use Rattle.std.specs.Option.{ok_or}
-use Rattle.session_text.specs.Ranges.{is_name}
+use Rattle.ram_disc.specs.Name.{is_name}
 use Rattle.shell_lines.specs.Arguments.{name_of}
 
 pub name-or_code : (text : List ℕ) → ok_or {E = ℕ} (cond (is_name text) (Some text) None) 40 ≡ name_of text

@@ -1,8 +1,8 @@
 -- What the rest of a line gives a command: texts, names and numbers.
 use Rattle.std.specs.Prelude.{ℕ, ◌≤◌, ◌^◌, ◌&&◌, Bool, true, false, if◌then◌else◌, List, [], nat_lt, slice_index_or, slice_range, Option, Some, None, Result, Ok, Err}
 use Rattle.std.specs.Str.Parse.{digits_value}
-use Rattle.text_reader.specs.Numbers.{are_digits}
-use Rattle.session_text.specs.Ranges.{is_name}
+use Rattle.hunk_text.specs.TextReader.Numbers.{are_digits}
+use Rattle.ram_disc.specs.Name.{is_name}
 use Rattle.rdargs.specs.Answer.{answer}
 use Rattle.rdargs.specs.declared.args.Arg.{Arg}
 use Rattle.rdargs.specs.declared.args.Arg.TheVariants.{Unset, Switch, Span}

@@ -2,9 +2,9 @@
 ghost use Rattle.std.specs.Prelude.{◌≡◌, ◌<◌, ◌^◌, IfOk, length};
 ghost use Rattle.shell_lines.specs.Arguments.{AreInside, IsInside, arguments, is_set, name_of, number_of, option_number_of, text_of};
 
+use hunk_text::any_number;
 use ram_disc::Name;
 use rdargs::{Arg, read_args};
-use text_reader::any_number;
 
 /// The code of an argument that is no number.
 const NO_NUMBER: u32 = 55;

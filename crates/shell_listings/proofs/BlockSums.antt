@@ -7,17 +7,17 @@ use Rattle.std.proofs.lemmas.List.Sums.{sum_by-cons}
 use Rattle.std.specs.Fmt.{decimal}
 use Rattle.std.specs.List.{AllByRecursion}
 use Rattle.tp_io.specs.Pieces.{joined}
-use Rattle.getvec_chain.specs.declared.pieces.Block.{Block}
-use Rattle.getvec_chain.specs.Block.{block_end}
-use Rattle.getvec_chain.specs.Run.{run_size}
-use Rattle.getvec_chain.specs.Tiling.{Follow, Tiles, blocks_in}
-use Rattle.session_text.specs.Ranges.{most_words}
-use Rattle.kernel_model.specs.HoldsLists.{HoldsLists}
-use Rattle.kernel_model.specs.Lists.{Lists}
-use Rattle.kernel_model.specs.ReadsLists.{ReadsLists}
-use Rattle.kernel_model.specs.ValidLists.{AreValid}
-use Rattle.kernel_model.proofs.BlockStarts.{Tiles-Follow}
-use Rattle.kernel_model.proofs.Reading.{read-lists}
+use Rattle.kernel_dispatch.specs.GetvecChain.declared.pieces.Block.{Block}
+use Rattle.kernel_dispatch.specs.GetvecChain.Block.{block_end}
+use Rattle.kernel_dispatch.specs.GetvecChain.Run.{run_size}
+use Rattle.kernel_dispatch.specs.GetvecChain.Tiling.{Follow, Tiles, blocks_in}
+use Rattle.kernel_dispatch.specs.KernelModel.Ranges.{most_words}
+use Rattle.kernel_dispatch.specs.KernelModel.HoldsLists.{HoldsLists}
+use Rattle.kernel_dispatch.specs.KernelModel.Lists.{Lists}
+use Rattle.kernel_dispatch.specs.KernelModel.ReadsLists.{ReadsLists}
+use Rattle.kernel_dispatch.specs.KernelModel.ValidLists.{AreValid}
+use Rattle.kernel_dispatch.proofs.Shown.KernelModel.BlockStarts.{Tiles-Follow}
+use Rattle.kernel_dispatch.proofs.Shown.KernelModel.Reading.{read-lists}
 use Rattle.shell_listings.specs.declared.blocks.BlockCounts.{BlockCounts}
 use Rattle.shell_listings.specs.BlockCounts.{MayCount, counted, counts_from, counts_of, no_counts, with_free, with_used}
 use Rattle.shell_listings.specs.BlockLine.{block_line, count_text, free_blocks, largest_run, line_of_counts, most_in_block_line, used_blocks, words_of_blocks}

@@ -2,12 +2,12 @@
 use Rattle.std.proofs.Common.{◌≡◌, ℕ, ◌+◌, ◌-◌, ◌<◌, ◌≤◌, Bool, true, false, cond, Some, None, List, [], ◌∷◌, inl, inr, refl, sym, ap, ◌∙◌, arith}
 use Rattle.std.proofs.lemmas.Bool.{and_from, cases_lt, le-leb}
 use Rattle.std.specs.List.{AllByRecursion}
-use Rattle.getvec_chain.specs.declared.pieces.Block.{Block}
-use Rattle.getvec_chain.specs.declared.pieces.Run.{Run}
-use Rattle.getvec_chain.specs.Run.{IsFirstRun, IsMaximalRun, begins_run, first_run, run_size}
-use Rattle.getvec_chain.specs.Tiling.{IsTiled, blocks_in}
-use Rattle.getvec_chain.proofs.MaximalRuns.{first_run-first, first_run-none}
-use Rattle.getvec_chain.proofs.Runs.{begins_run-true, run_size-used}
+use Rattle.kernel_dispatch.specs.GetvecChain.declared.pieces.Block.{Block}
+use Rattle.kernel_dispatch.specs.GetvecChain.declared.pieces.Run.{Run}
+use Rattle.kernel_dispatch.specs.GetvecChain.Run.{IsFirstRun, IsMaximalRun, begins_run, first_run, run_size}
+use Rattle.kernel_dispatch.specs.GetvecChain.Tiling.{IsTiled, blocks_in}
+use Rattle.kernel_dispatch.proofs.Shown.GetvecChain.MaximalRuns.{first_run-first, first_run-none}
+use Rattle.kernel_dispatch.proofs.Shown.GetvecChain.Runs.{begins_run-true, run_size-used}
 use Rattle.shell_listings.specs.BlockLine.{largest_run}
 
 -- no run has more words

@@ -6,17 +6,17 @@ use Rattle.std.proofs.lemmas.List.Sums.{sum_by-cons}
 use Rattle.std.specs.Fmt.{decimal}
 use Rattle.std.specs.List.{AllByRecursion, flat_map}
 use Rattle.tp_io.specs.Pieces.{joined}
-use Rattle.linked_list.proofs.Chains.{length-apart}
+use Rattle.kernel_dispatch.proofs.Shown.LinkedList.Chains.{length-apart}
 use Rattle.ram_disc.specs.Disc.{Disc, File, IsDisc, sectors_of, sectors_taken}
 use Rattle.ram_disc.specs.Name.{IsName}
-use Rattle.kernel_model.specs.Between.{is_empty_queue}
-use Rattle.kernel_model.specs.Lists.{Lists}
-use Rattle.kernel_model.specs.Task.{Task, task_id}
-use Rattle.kernel_model.specs.ValidLists.{AreValid}
-use Rattle.kernel_model.specs.ValidTasks.{IsTask, interrupted, runs, waits}
-use Rattle.kernel_model.proofs.EachMember.{all-both, all-each}
-use Rattle.kernel_model.proofs.RootCounts.{highest-high}
-use Rattle.kernel_model.proofs.TaskPlaces.{TaskPlace, task-places}
+use Rattle.kernel_dispatch.specs.KernelModel.Between.{is_empty_queue}
+use Rattle.kernel_dispatch.specs.KernelModel.Lists.{Lists}
+use Rattle.kernel_dispatch.specs.KernelModel.Task.{Task, task_id}
+use Rattle.kernel_dispatch.specs.KernelModel.ValidLists.{AreValid}
+use Rattle.kernel_dispatch.specs.KernelModel.ValidTasks.{IsTask, interrupted, runs, waits}
+use Rattle.kernel_dispatch.proofs.Shown.KernelModel.EachMember.{all-both, all-each}
+use Rattle.kernel_dispatch.proofs.Shown.KernelModel.RootCounts.{highest-high}
+use Rattle.kernel_dispatch.proofs.Shown.KernelModel.TaskPlaces.{TaskPlace, task-places}
 use Rattle.shell_listings.specs.Columns.{left_in, right_in}
 use Rattle.shell_listings.specs.FileLines.{file_line, file_lines, most_in_file_line, most_in_files, name_and_size}
 use Rattle.shell_listings.specs.NumberLines.{most_in_number_line, number_line}

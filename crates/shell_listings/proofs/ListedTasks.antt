@@ -2,17 +2,17 @@
 use Rattle.std.proofs.Common.{◌≡◌, ℕ, ◌+◌, ◌*◌, ◌≤◌, Bool, true, false, not, cond, List, [], ◌∷◌, ◌++◌, get_or, inl, inr, length, map, refl, sym, ap, ◌∙◌, subst, arith}
 use Rattle.std.proofs.lemmas.List.{length-map}
 use Rattle.std.specs.List.{AllByRecursion, flat_map}
-use Rattle.packet_queue.specs.QueueWords.{QueuedPacket}
-use Rattle.task_block.specs.TaskChain.{tasks_in}
-use Rattle.kernel_model.specs.Between.{is_empty_queue}
-use Rattle.kernel_model.specs.HoldsLists.{HoldsLists}
-use Rattle.kernel_model.specs.Lists.{Lists}
-use Rattle.kernel_model.specs.ReadsLists.{ReadsLists}
-use Rattle.kernel_model.specs.Task.{Task, queue_bit, state_word, task_address, task_words}
-use Rattle.kernel_model.specs.ValidTasks.{IsField, IsTask}
-use Rattle.kernel_model.proofs.EachMember.{all-both, all-each, holds-each}
-use Rattle.kernel_model.proofs.ReadCoroutines.{HoldsTask, holds-task}
-use Rattle.kernel_model.proofs.Reading.{read-lists}
+use Rattle.kernel_dispatch.specs.PacketQueue.QueueWords.{QueuedPacket}
+use Rattle.kernel_dispatch.specs.TaskBlock.TaskChain.{tasks_in}
+use Rattle.kernel_dispatch.specs.KernelModel.Between.{is_empty_queue}
+use Rattle.kernel_dispatch.specs.KernelModel.HoldsLists.{HoldsLists}
+use Rattle.kernel_dispatch.specs.KernelModel.Lists.{Lists}
+use Rattle.kernel_dispatch.specs.KernelModel.ReadsLists.{ReadsLists}
+use Rattle.kernel_dispatch.specs.KernelModel.Task.{Task, queue_bit, state_word, task_address, task_words}
+use Rattle.kernel_dispatch.specs.KernelModel.ValidTasks.{IsField, IsTask}
+use Rattle.kernel_dispatch.proofs.Shown.KernelModel.EachMember.{all-both, all-each, holds-each}
+use Rattle.kernel_dispatch.proofs.Shown.KernelModel.ReadCoroutines.{HoldsTask, holds-task}
+use Rattle.kernel_dispatch.proofs.Shown.KernelModel.Reading.{read-lists}
 use Rattle.shell_listings.specs.TaskLines.{field_of, has_packets, is_held, line_with, most_in_task_line, most_in_tasks, state_text, task_line, task_line_at, task_lines, task_lines_in}
 use Rattle.shell_listings.proofs.LineLengths.{few-tasks}
 

@@ -1,6 +1,6 @@
 -- Blocks counted one after another.
 use Rattle.std.specs.Prelude.{◌+◌, ◌<◌, ◌^◌, if◌then◌else◌, List, [], ◌∷◌, max}
-use Rattle.getvec_chain.specs.declared.pieces.Block.{Block}
+use Rattle.kernel_dispatch.specs.GetvecChain.declared.pieces.Block.{Block}
 use Rattle.shell_listings.specs.declared.blocks.BlockCounts.{BlockCounts}
 
 -- before any block

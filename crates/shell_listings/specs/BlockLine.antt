@@ -1,8 +1,8 @@
 -- The blocks of a store, counted in one line.
 use Rattle.std.specs.Prelude.{ℕ, not, List, [], ◌∷◌, codes, decimal, filter, length, max, sum_by}
 use Rattle.tp_io.specs.Pieces.{joined}
-use Rattle.getvec_chain.specs.declared.pieces.Block.{Block}
-use Rattle.getvec_chain.specs.Run.{run_size}
+use Rattle.kernel_dispatch.specs.GetvecChain.declared.pieces.Block.{Block}
+use Rattle.kernel_dispatch.specs.GetvecChain.Run.{run_size}
 
 abbrev pub used_blocks : List Block → List Block
 used_blocks bs = filter (λ b. not b.free) bs

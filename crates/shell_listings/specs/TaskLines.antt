@@ -2,12 +2,12 @@
 use Rattle.std.specs.Prelude.{ℕ, ◌+◌, ◌-◌, ◌/◌, ◌%◌, ◌==◌, Bool, true, false, not, if◌then◌else◌, List, [], ◌∷◌, codes, decimal, slice_index}
 use Rattle.std.specs.List.{flat_map}
 use Rattle.tp_io.specs.Pieces.{joined}
-use Rattle.task_block.specs.TaskChain.{id_in, priority_in, tasks_in}
-use Rattle.task_block.specs.TaskWords.{word_index}
-use Rattle.task_block.specs.declared.fields.TcbField.TheVariants.{State}
-use Rattle.kernel_model.specs.Between.{is_empty_queue}
-use Rattle.kernel_model.specs.Task.{Task}
-use Rattle.kernel_model.specs.ValidTasks.{interrupted, runs, waits}
+use Rattle.kernel_dispatch.specs.TaskBlock.TaskChain.{id_in, priority_in, tasks_in}
+use Rattle.kernel_dispatch.specs.TaskBlock.TaskWords.{word_index}
+use Rattle.kernel_dispatch.specs.TaskBlock.declared.fields.TcbField.TheVariants.{State}
+use Rattle.kernel_dispatch.specs.KernelModel.Between.{is_empty_queue}
+use Rattle.kernel_dispatch.specs.KernelModel.Task.{Task}
+use Rattle.kernel_dispatch.specs.KernelModel.ValidTasks.{interrupted, runs, waits}
 use Rattle.shell_listings.specs.Columns.{right_in}
 
 -- the word of a task's state, without its marks: it runs, it waits, it was interrupted, it is dead

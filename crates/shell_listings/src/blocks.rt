@@ -1,13 +1,13 @@
 // The blocks of a store, counted.
 ghost use Rattle.std.specs.Prelude.{◌≡◌, ◌+◌, ◌<◌, ◌≤◌, ◌^◌, ◌++◌, length};
-ghost use Rattle.getvec_chain.specs.Tiling.{IsTiled, blocks_in};
-ghost use Rattle.kernel_model.specs.HoldsLists.{HoldsLists};
-ghost use Rattle.kernel_model.specs.Lists.{Lists};
+ghost use Rattle.kernel_dispatch.specs.GetvecChain.Tiling.{IsTiled, blocks_in};
+ghost use Rattle.kernel_dispatch.specs.KernelModel.HoldsLists.{HoldsLists};
+ghost use Rattle.kernel_dispatch.specs.KernelModel.Lists.{Lists};
 ghost use Rattle.shell_listings.specs.BlockLine.{block_line, count_text, line_of_counts, most_in_block_line};
 ghost use Rattle.shell_listings.specs.BlockCounts.{MayCount, counted, counts_of};
 
 use crate::columns::append_number;
-use getvec_chain::{Block, blocks};
+use kernel_dispatch::{Block, blocks};
 use tp_io::Output;
 use word_store::Store;
 

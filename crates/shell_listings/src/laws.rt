@@ -1,13 +1,13 @@
 // Laws of the texts: how long they are, and what the largest run is.
 ghost use Rattle.std.specs.Prelude.{◌≡◌, ◌<◌, ◌≤◌, ◌^◌, ◌-◌, ℕ, List, false, length};
 ghost use Rattle.std.specs.List.{AllByRecursion};
-ghost use Rattle.getvec_chain.specs.declared.pieces.Block.{Block};
-ghost use Rattle.getvec_chain.specs.declared.pieces.Run.{Run};
-ghost use Rattle.getvec_chain.specs.Run.{IsMaximalRun};
-ghost use Rattle.getvec_chain.specs.Tiling.{IsTiled, blocks_in};
+ghost use Rattle.kernel_dispatch.specs.GetvecChain.declared.pieces.Block.{Block};
+ghost use Rattle.kernel_dispatch.specs.GetvecChain.declared.pieces.Run.{Run};
+ghost use Rattle.kernel_dispatch.specs.GetvecChain.Run.{IsMaximalRun};
+ghost use Rattle.kernel_dispatch.specs.GetvecChain.Tiling.{IsTiled, blocks_in};
 ghost use Rattle.ram_disc.specs.Disc.{Disc, IsDisc};
-ghost use Rattle.kernel_model.specs.Lists.{Lists};
-ghost use Rattle.kernel_model.specs.ValidLists.{AreValid};
+ghost use Rattle.kernel_dispatch.specs.KernelModel.Lists.{Lists};
+ghost use Rattle.kernel_dispatch.specs.KernelModel.ValidLists.{AreValid};
 ghost use Rattle.shell_listings.specs.BlockLine.{block_line, largest_run, most_in_block_line};
 ghost use Rattle.shell_listings.specs.FileLines.{file_lines, most_in_files};
 ghost use Rattle.shell_listings.specs.NumberLines.{most_in_number_line, number_line};

@@ -1,14 +1,14 @@
 // The tasks of the chain.
 ghost use Rattle.std.specs.Prelude.{◌≡◌, ◌+◌, ◌*◌, ◌≤◌, ◌++◌, length};
-ghost use Rattle.linked_list.specs.Walk.{CanWalk};
-ghost use Rattle.task_block.specs.RootWords.{first_task};
-ghost use Rattle.task_block.specs.TaskChain.{task_link, tasks_in};
-ghost use Rattle.kernel_model.specs.HoldsLists.{HoldsLists};
-ghost use Rattle.kernel_model.specs.Lists.{Lists};
+ghost use Rattle.kernel_dispatch.specs.LinkedList.Walk.{CanWalk};
+ghost use Rattle.kernel_dispatch.specs.TaskBlock.RootWords.{first_task};
+ghost use Rattle.kernel_dispatch.specs.TaskBlock.TaskChain.{task_link, tasks_in};
+ghost use Rattle.kernel_dispatch.specs.KernelModel.HoldsLists.{HoldsLists};
+ghost use Rattle.kernel_dispatch.specs.KernelModel.Lists.{Lists};
 ghost use Rattle.shell_listings.specs.TaskLines.{field_name, field_of, has_packets, is_held, line_of_words, mark, most_in_task_line, most_in_tasks, state_text, task_line_at, task_lines, task_lines_in};
 
 use crate::columns::append_right;
-use task_block::{TcbField, field, tasks};
+use kernel_dispatch::{TcbField, field, tasks};
 use tp_io::Output;
 use word_store::Store;
 

@@ -1,15 +1,15 @@
 -- Number after number is cleared up.
 use Rattle.std.proofs.Common.{◌≡◌, ℕ, suc, ◌+◌, ◌-◌, ◌<◌, ◌≤◌, List, sym, ap, ◌∙◌, arith}
 use Rattle.std.specs.List.{range_with_len}
-use Rattle.task_block.specs.Versions.{highest_id}
-use Rattle.kernel_model.specs.HoldsLists.{HoldsLists}
-use Rattle.kernel_model.specs.Lists.{Lists}
-use Rattle.kernel_model.specs.ValidTasks.{runs}
-use Rattle.kernel_model.specs.Versions.{highest_id_of}
-use Rattle.kernel_model.proofs.RootCounts.{highest-low}
-use Rattle.task_calls.specs.DeleteTask.{RunsAlive}
-use Rattle.task_calls.proofs.ReadNumbers.{highest-read}
-use Rattle.kernel_boot.specs.BootTasks.{Standing, standing}
+use Rattle.kernel_residents.specs.KernelCalls.TaskBlock.Versions.{highest_id}
+use Rattle.kernel_residents.specs.KernelCalls.KernelModel.HoldsLists.{HoldsLists}
+use Rattle.kernel_residents.specs.KernelCalls.KernelModel.Lists.{Lists}
+use Rattle.kernel_residents.specs.KernelCalls.KernelModel.ValidTasks.{runs}
+use Rattle.kernel_residents.specs.KernelCalls.KernelModel.Versions.{highest_id_of}
+use Rattle.kernel_residents.proofs.Shown.KernelCalls.KernelModel.RootCounts.{highest-low}
+use Rattle.kernel_residents.specs.KernelCalls.TaskCalls.DeleteTask.{RunsAlive}
+use Rattle.kernel_residents.proofs.Shown.KernelCalls.TaskCalls.ReadNumbers.{highest-read}
+use Rattle.kernel_residents.specs.KernelCalls.KernelModel.Standing.{Standing, standing}
 use Rattle.shell_programs.specs.ClearedTasks.{cleared, cleared_all, cleared_at}
 use Rattle.shell_programs.specs.Standings.{HasStanding}
 use Rattle.shell_programs.proofs.KeptSteps.{one-cleared}

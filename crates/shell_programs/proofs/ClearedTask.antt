@@ -2,18 +2,18 @@
 use Rattle.std.proofs.Common.{◌≡◌, ◌≢◌, ℕ, ◌+◌, ◌≤◌, List, [], ◌∷◌, get_or, map, cond, eqb, ◌||◌, Bool, true, false, Some, None, Result, Ok, Err, refl, sym, ap, ◌∙◌, subst, arith}
 use Rattle.std.specs.Prelude.{find, is_ok}
 use Rattle.std.proofs.lemmas.Bool.{eq-eqb, ne_eqb}
-use Rattle.linked_list.specs.Count.{IsApart}
-use Rattle.owned_words.specs.Owned.{Holds}
-use Rattle.kernel_model.specs.ChangedStore.{HasKeeper}
-use Rattle.kernel_model.specs.Lists.{Lists, has_task}
-use Rattle.kernel_model.specs.Task.{Task, state_words, task_id}
-use Rattle.call_answers.specs.Guests.{GuestAt, IsGuestOf}
-use Rattle.call_answers.specs.Made.{IsMade, plain_answer}
-use Rattle.call_answers.proofs.FoundTask.{find-numbered}
-use Rattle.call_answers.proofs.GuestTask.{guest-words}
-use Rattle.module_calls.specs.UnloadModule.{unload_module}
-use Rattle.task_calls.specs.DeleteTask.{delete_task}
-use Rattle.kernel_boot.specs.BootTasks.{Standing, standing}
+use Rattle.word_store.specs.Count.{IsApart}
+use Rattle.kernel_residents.specs.KernelCalls.OwnedWords.Owned.{Holds}
+use Rattle.kernel_residents.specs.KernelCalls.KernelModel.ChangedStore.{HasKeeper}
+use Rattle.kernel_residents.specs.KernelCalls.KernelModel.Lists.{Lists, has_task}
+use Rattle.kernel_residents.specs.KernelCalls.KernelModel.Task.{Task, state_words, task_id}
+use Rattle.kernel_residents.specs.KernelCalls.CallAnswers.Guests.{GuestAt, IsGuestOf}
+use Rattle.kernel_residents.specs.KernelCalls.CallAnswers.Made.{IsMade, plain_answer}
+use Rattle.kernel_residents.proofs.Shown.KernelCalls.CallAnswers.FoundTask.{find-numbered}
+use Rattle.kernel_residents.proofs.Shown.KernelCalls.CallAnswers.GuestTask.{guest-words}
+use Rattle.kernel_residents.specs.KernelCalls.ModuleCalls.UnloadModule.{unload_module}
+use Rattle.kernel_residents.specs.KernelCalls.TaskCalls.DeleteTask.{delete_task}
+use Rattle.kernel_residents.specs.KernelCalls.KernelModel.Standing.{Standing, standing}
 use Rattle.kernel_boot.proofs.StartedTasks.{guest-away}
 use Rattle.shell_programs.specs.ClearedTasks.{after_deletion, cleared_at, cleared_task, deleted, first_module_of}
 use Rattle.shell_programs.specs.Standings.{HasStanding, left_by}

@@ -4,36 +4,36 @@ use Rattle.std.proofs.Common.{◌≡◌, ℕ, zero, suc, ◌+◌, ◌-◌, ◌�
 use Rattle.std.specs.Prelude.{find, is_some, unwrap_or}
 use Rattle.std.specs.List.{list_any, range_with_len}
 use Rattle.std.specs.Option.{option_map}
-use Rattle.linked_list.specs.Places.{without_first}
-use Rattle.getvec_chain.specs.declared.pieces.Block.{Block}
-use Rattle.hunk_loader.specs.HeldModules.{LoadedModule}
+use Rattle.kernel_residents.specs.KernelCalls.LinkedList.Places.{without_first}
+use Rattle.kernel_residents.specs.KernelCalls.GetvecChain.declared.pieces.Block.{Block}
+use Rattle.kernel_residents.specs.KernelCalls.HunkLoader.HeldModules.{LoadedModule}
 use Rattle.hunk_text.specs.ModuleOfText.{Refusal, module_of}
 use Rattle.hunk_text.specs.declared.modules.Module.{Module}
 use Rattle.ram_disc.specs.Disc.{Disc, file_named}
-use Rattle.kernel_model.specs.Changes.{with_new_task, with_tasks}
-use Rattle.kernel_model.specs.Lists.{Lists}
-use Rattle.kernel_model.specs.Task.{Task, is_guest_id}
-use Rattle.kernel_model.specs.ValidTasks.{dead}
-use Rattle.kernel_model.specs.Versions.{highest_id_of}
-use Rattle.call_answers.specs.Guests.{guest_tests}
-use Rattle.call_answers.specs.Made.{by_refusal, done}
-use Rattle.call_answers.specs.Refusals.{first_refusal}
-use Rattle.call_answers.proofs.Refusals.{high-guest}
-use Rattle.module_calls.specs.LoadModule.{load_tests, loaded_at, with_loaded}
-use Rattle.module_calls.specs.UnloadModule.{unload_module, unload_tests, without_module}
-use Rattle.task_calls.specs.ChangePri.{priority_tests}
-use Rattle.task_calls.specs.CreateTask.{create_task, creation_tests, free_id, has_high_globals, last_word_of, new_task, with_created}
-use Rattle.task_calls.specs.DeleteTask.{delete_task, deletion_tests, has_no_coroutines, has_no_work, has_packet_out, without_task}
-use Rattle.task_calls.proofs.TestsInTurn.{all-passed}
-use Rattle.block_calls.specs.Freevec.{has_packet_in, with_given}
-use Rattle.block_calls.specs.FreeStore.{with_taken}
-use Rattle.getvec_chain.specs.Give.{given}
-use Rattle.hunk_loader.specs.ModuleExchanges.{hunk_words}
-use Rattle.block_calls.specs.Getvec.{getvec_tests}
-use Rattle.call_answers.specs.Modules.{has_module}
-use Rattle.call_answers.specs.Tasks.{is_dead}
-use Rattle.kernel_model.specs.Lists.{address_of_task}
-use Rattle.kernel_boot.specs.BootTasks.{Standing, load_text}
+use Rattle.kernel_residents.specs.KernelCalls.KernelModel.Changes.{with_new_task, with_tasks}
+use Rattle.kernel_residents.specs.KernelCalls.KernelModel.Lists.{Lists, address_of_task}
+use Rattle.kernel_residents.specs.KernelCalls.KernelModel.Task.{Task, is_guest_id}
+use Rattle.kernel_residents.specs.KernelCalls.KernelModel.ValidTasks.{dead}
+use Rattle.kernel_residents.specs.KernelCalls.KernelModel.Versions.{highest_id_of}
+use Rattle.kernel_residents.specs.KernelCalls.CallAnswers.Guests.{guest_tests}
+use Rattle.kernel_residents.specs.KernelCalls.CallAnswers.Made.{by_refusal, done}
+use Rattle.kernel_residents.specs.KernelCalls.CallAnswers.Refusals.{first_refusal}
+use Rattle.kernel_residents.proofs.Shown.KernelCalls.CallAnswers.Refusals.{high-guest}
+use Rattle.kernel_residents.specs.KernelCalls.ModuleCalls.LoadModule.{load_tests, loaded_at, with_loaded}
+use Rattle.kernel_residents.specs.KernelCalls.ModuleCalls.UnloadModule.{unload_module, unload_tests, without_module}
+use Rattle.kernel_residents.specs.KernelCalls.TaskCalls.ChangePri.{priority_tests}
+use Rattle.kernel_residents.specs.KernelCalls.TaskCalls.CreateTask.{create_task, creation_tests, free_id, has_high_globals, last_word_of, new_task, with_created}
+use Rattle.kernel_residents.specs.KernelCalls.TaskCalls.DeleteTask.{delete_task, deletion_tests, has_no_coroutines, has_no_work, has_packet_out, without_task}
+use Rattle.kernel_residents.proofs.Shown.KernelCalls.TaskCalls.TestsInTurn.{all-passed}
+use Rattle.kernel_residents.specs.KernelCalls.BlockCalls.Freevec.{has_packet_in, with_given}
+use Rattle.kernel_residents.specs.KernelCalls.BlockCalls.FreeStore.{with_taken}
+use Rattle.kernel_residents.specs.KernelCalls.GetvecChain.Give.{given}
+use Rattle.kernel_residents.specs.KernelCalls.HunkLoader.ModuleExchanges.{hunk_words}
+use Rattle.kernel_residents.specs.KernelCalls.BlockCalls.Getvec.{getvec_tests}
+use Rattle.kernel_residents.specs.KernelCalls.CallAnswers.Modules.{has_module}
+use Rattle.kernel_residents.specs.KernelCalls.CallAnswers.Tasks.{is_dead}
+use Rattle.kernel_residents.specs.KernelCalls.KernelModel.Standing.{Standing}
+use Rattle.kernel_boot.specs.BootTasks.{load_text}
 use Rattle.shell_programs.specs.ClearedTasks.{after_deletion, cleared, cleared_all, cleared_at, cleared_task, deleted, first_module_of}
 use Rattle.shell_programs.specs.Standings.{left_by}
 use Rattle.shell_programs.specs.StartedProgram.{after_creation, after_loading, creation, load_found, load_program, priority_of, start_program}

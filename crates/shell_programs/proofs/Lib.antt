@@ -11,3 +11,4 @@ pub mod ClearedNumbers
 pub mod KeptRules
 pub mod SentRules
 pub mod KeptFaults
+pub mod Shown

@@ -1,13 +1,12 @@
 -- What a call leaves of a standing.
-use Rattle.std.proofs.Common.{◌≡◌, ℕ, ◌≤◌, List, [], Result, sym, subst, arith}
-use Rattle.std.proofs.Common.{length}
-use Rattle.kernel_model.specs.ChangedStore.{HasKeeper, IsChanged}
-use Rattle.kernel_model.specs.Lists.{Lists}
-use Rattle.kernel_model.specs.ValidQueues.{HasGuest}
-use Rattle.kernel_model.proofs.ChangedLists.{knows-same}
-use Rattle.call_answers.specs.Made.{IsMade, Made}
+use Rattle.std.proofs.Common.{List, Result, arith, length, subst, sym, ℕ, [], ◌≡◌, ◌≤◌}
+use Rattle.kernel_residents.specs.KernelCalls.KernelModel.ChangedStore.{HasKeeper, IsChanged}
+use Rattle.kernel_residents.specs.KernelCalls.KernelModel.Lists.{Lists}
+use Rattle.kernel_residents.specs.KernelCalls.KernelModel.ValidQueues.{HasGuest}
+use Rattle.kernel_residents.proofs.Shown.KernelCalls.KernelModel.ChangedLists.{knows-same}
+use Rattle.kernel_residents.specs.KernelCalls.CallAnswers.Made.{IsMade, Made}
 use Rattle.kernel_boot.specs.BegunTask.{with_begun}
-use Rattle.kernel_boot.specs.BootTasks.{Standing, standing}
+use Rattle.kernel_residents.specs.KernelCalls.KernelModel.Standing.{Standing, standing}
 use Rattle.kernel_boot.proofs.BegunTask.{begun-same}
 use Rattle.kernel_boot.proofs.StandingKernels.{keeper-made, left-is}
 use Rattle.shell_programs.specs.Standings.{HasStanding, left_by}

@@ -2,27 +2,27 @@
 use Rattle.std.proofs.Common.{◌≡◌, ◌⊎◌, ℕ, ◌+◌, ◌-◌, ◌<◌, ◌≤◌, List, [], ◌∷◌, ◌++◌, cond, Bool, true, false, Option, Some, None, inl, inr, refl, sym, ap, ◌∙◌, arith}
 use Rattle.std.specs.List.{AllByRecursion, range_with_len}
 use Rattle.std.proofs.lemmas.Bool.{cases_lt}
-use Rattle.linked_list.specs.Count.{times}
-use Rattle.linked_list.proofs.AllMembers.{all-append}
-use Rattle.linked_list.proofs.Counts.{range-high, range-low, times-within}
-use Rattle.owned_words.specs.Owned.{owners}
-use Rattle.getvec_chain.specs.declared.pieces.Block.{Block}
-use Rattle.getvec_chain.specs.Block.{block_end, used_block}
-use Rattle.getvec_chain.specs.Run.{need}
-use Rattle.packet_queue.specs.QueueWords.{QueuedPacket}
-use Rattle.kernel_model.specs.Changes.{AreUnowned}
-use Rattle.kernel_model.specs.Lists.{Lists, has_task, queued}
-use Rattle.kernel_model.specs.Owned.{owned}
-use Rattle.kernel_model.specs.Task.{Task}
-use Rattle.kernel_model.specs.ValidBlocks.{AreData, last_resident_word}
-use Rattle.kernel_model.specs.ValidLists.{AreValid}
-use Rattle.kernel_model.specs.ValidQueues.{MayStand}
-use Rattle.kernel_model.specs.ValidQueues.Place.{Clock, Keyboard, Output, Pending, Work}
-use Rattle.kernel_model.proofs.DataInside.{HasBlock-data}
-use Rattle.kernel_model.proofs.OwnerCounts.{packets_count}
-use Rattle.kernel_model.proofs.QueuedPackets.{work_packets}
-use Rattle.kernel_model.proofs.TaskPlaces.{last-resident}
-use Rattle.kernel_model.proofs.UsedData.{lodged}
+use Rattle.word_store.specs.Count.{times}
+use Rattle.kernel_residents.proofs.Shown.KernelCalls.LinkedList.AllMembers.{all-append}
+use Rattle.word_store.proofs.Counts.{range-high, range-low, times-within}
+use Rattle.kernel_residents.specs.KernelCalls.OwnedWords.Owned.{owners}
+use Rattle.kernel_residents.specs.KernelCalls.GetvecChain.declared.pieces.Block.{Block}
+use Rattle.kernel_residents.specs.KernelCalls.GetvecChain.Block.{block_end, used_block}
+use Rattle.kernel_residents.specs.KernelCalls.GetvecChain.Run.{need}
+use Rattle.kernel_residents.specs.KernelCalls.PacketQueue.QueueWords.{QueuedPacket}
+use Rattle.kernel_residents.specs.KernelCalls.KernelModel.Changes.{AreUnowned}
+use Rattle.kernel_residents.specs.KernelCalls.KernelModel.Lists.{Lists, has_task, queued}
+use Rattle.kernel_residents.specs.KernelCalls.KernelModel.Owned.{owned}
+use Rattle.kernel_residents.specs.KernelCalls.KernelModel.Task.{Task}
+use Rattle.kernel_residents.specs.KernelCalls.KernelModel.ValidBlocks.{AreData, last_resident_word}
+use Rattle.kernel_residents.specs.KernelCalls.KernelModel.ValidLists.{AreValid}
+use Rattle.kernel_residents.specs.KernelCalls.KernelModel.ValidQueues.{MayStand}
+use Rattle.kernel_residents.specs.KernelCalls.KernelModel.ValidQueues.Place.{Clock, Keyboard, Output, Pending, Work}
+use Rattle.kernel_residents.proofs.Shown.KernelCalls.KernelModel.DataInside.{HasBlock-data}
+use Rattle.kernel_residents.proofs.Shown.KernelCalls.KernelModel.OwnerCounts.{packets_count}
+use Rattle.kernel_residents.proofs.Shown.KernelCalls.KernelModel.QueuedPackets.{work_packets}
+use Rattle.kernel_residents.proofs.Shown.KernelCalls.KernelModel.TaskPlaces.{last-resident}
+use Rattle.kernel_residents.proofs.Shown.KernelCalls.KernelModel.UsedData.{lodged}
 use Rattle.shell_programs.specs.KeptLists.{KeepsResidents}
 use Rattle.shell_programs.specs.ShellPacket.{HasPacket, shell_packet}
 use Rattle.shell_programs.proofs.PacketWords.{held-by, packet-words, packets-more, row-there, rows-packets}

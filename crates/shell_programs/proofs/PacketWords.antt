@@ -3,40 +3,40 @@ use Rattle.std.proofs.Common.{◌≡◌, ◌⊎◌, ℕ, suc, ◌+◌, ◌-◌, 
 use Rattle.std.specs.Prelude.{unwrap_or}
 use Rattle.std.specs.List.{AllByRecursion, range_with_len}
 use Rattle.std.proofs.lemmas.Bool.{cases_lt, eqb-true}
-use Rattle.linked_list.specs.Count.{hit, times, words_of}
-use Rattle.linked_list.proofs.Counts.{hit-other, hit-same, range-high, range-low, times-above, times-below, times-within, times-words_more}
-use Rattle.owned_words.specs.LinkedWords.{first_of, linked_words}
-use Rattle.owned_words.specs.Owned.{owners}
-use Rattle.owned_words.proofs.OwnedWords.{owners-append}
-use Rattle.owned_words.proofs.RowWords.{owners-row}
-use Rattle.getvec_chain.specs.declared.pieces.Block.{Block}
-use Rattle.getvec_chain.specs.Block.{block_end, has_data, is_used_at, used_block}
-use Rattle.getvec_chain.specs.BlockWords.{blocks_words}
-use Rattle.getvec_chain.specs.Run.{need}
-use Rattle.getvec_chain.specs.Tiling.{Follow, holding}
-use Rattle.getvec_chain.proofs.UsedBlocks.{has_data-true}
-use Rattle.hunk_loader.specs.HeldModules.{LoadedModule, module_address, module_words}
-use Rattle.packet_queue.specs.QueueWords.{QueuedPacket, address_of, packet_words}
-use Rattle.coroutines.specs.CoroutineWords.{coroutine_size}
-use Rattle.coroutines.specs.HeldCoroutines.{Coroutine, address_of as coroutine_address}
-use Rattle.kernel_model.specs.BlockUse.{coroutine_addresses}
-use Rattle.kernel_model.specs.Lists.{Lists, has_task, queued}
-use Rattle.kernel_model.specs.Owned.{owned}
-use Rattle.kernel_model.specs.Residents.{fault_packet_words, key_words, keyboard, resident_words}
-use Rattle.packet_queue.specs.Queue.{no_queue}
-use Rattle.kernel_model.specs.Task.{Task, is_guest_id, task_address, task_words}
-use Rattle.kernel_model.specs.ValidBlocks.{HasBlock, last_module_word, last_resident_word}
-use Rattle.kernel_model.specs.ValidLists.{AreValid}
-use Rattle.kernel_model.specs.ValidTasks.{CoroutinesStand, IsCoroutine, IsTask, resident_place}
-use Rattle.kernel_model.specs.Versions.{head_words_of}
-use Rattle.kernel_model.proofs.EachMember.{find-passes}
-use Rattle.kernel_model.proofs.FollowedBlocks.{IsWithin, found-holding, found-within}
-use Rattle.kernel_model.proofs.OwnerCounts.{owners-residents, packets_count}
-use Rattle.kernel_model.proofs.QueueCounts.{owners-packet}
-use Rattle.kernel_model.proofs.QueuedPackets.{work_packets}
-use Rattle.kernel_model.proofs.RootCounts.{head-low, owners-nodes}
-use Rattle.kernel_model.proofs.TaskCounts.{further_count, owners-task_by}
-use Rattle.kernel_model.proofs.TaskPlaces.{last-resident}
+use Rattle.word_store.specs.Count.{hit, times, words_of}
+use Rattle.word_store.proofs.Counts.{hit-other, hit-same, range-high, range-low, times-above, times-below, times-within, times-words_more}
+use Rattle.kernel_residents.specs.KernelCalls.OwnedWords.LinkedWords.{first_of, linked_words}
+use Rattle.kernel_residents.specs.KernelCalls.OwnedWords.Owned.{owners}
+use Rattle.kernel_residents.proofs.Shown.KernelCalls.OwnedWords.OwnedWords.{owners-append}
+use Rattle.kernel_residents.proofs.Shown.KernelCalls.OwnedWords.RowWords.{owners-row}
+use Rattle.kernel_residents.specs.KernelCalls.GetvecChain.declared.pieces.Block.{Block}
+use Rattle.kernel_residents.specs.KernelCalls.GetvecChain.Block.{block_end, has_data, is_used_at, used_block}
+use Rattle.kernel_residents.specs.KernelCalls.GetvecChain.BlockWords.{blocks_words}
+use Rattle.kernel_residents.specs.KernelCalls.GetvecChain.Run.{need}
+use Rattle.kernel_residents.specs.KernelCalls.GetvecChain.Tiling.{Follow, holding}
+use Rattle.kernel_residents.proofs.Shown.KernelCalls.GetvecChain.UsedBlocks.{has_data-true}
+use Rattle.kernel_residents.specs.KernelCalls.HunkLoader.HeldModules.{LoadedModule, module_address, module_words}
+use Rattle.kernel_residents.specs.KernelCalls.PacketQueue.QueueWords.{QueuedPacket, address_of, packet_words}
+use Rattle.kernel_residents.specs.KernelCalls.Coroutines.CoroutineWords.{coroutine_size}
+use Rattle.kernel_residents.specs.KernelCalls.Coroutines.HeldCoroutines.{Coroutine, address_of as coroutine_address}
+use Rattle.kernel_residents.specs.KernelCalls.KernelModel.BlockUse.{coroutine_addresses}
+use Rattle.kernel_residents.specs.KernelCalls.KernelModel.Lists.{Lists, has_task, queued}
+use Rattle.kernel_residents.specs.KernelCalls.KernelModel.Owned.{owned}
+use Rattle.kernel_residents.specs.KernelCalls.KernelModel.Residents.{fault_packet_words, key_words, keyboard, resident_words}
+use Rattle.kernel_residents.specs.KernelCalls.PacketQueue.Queue.{no_queue}
+use Rattle.kernel_residents.specs.KernelCalls.KernelModel.Task.{Task, is_guest_id, task_address, task_words}
+use Rattle.kernel_residents.specs.KernelCalls.KernelModel.ValidBlocks.{HasBlock, last_module_word, last_resident_word}
+use Rattle.kernel_residents.specs.KernelCalls.KernelModel.ValidLists.{AreValid}
+use Rattle.kernel_residents.specs.KernelCalls.KernelModel.ValidTasks.{CoroutinesStand, IsCoroutine, IsTask, resident_place}
+use Rattle.kernel_residents.specs.KernelCalls.KernelModel.Versions.{head_words_of}
+use Rattle.kernel_residents.proofs.Shown.KernelCalls.KernelModel.EachMember.{find-passes}
+use Rattle.kernel_residents.proofs.Shown.KernelCalls.KernelModel.FollowedBlocks.{IsWithin, found-holding, found-within}
+use Rattle.kernel_residents.proofs.Shown.KernelCalls.KernelModel.OwnerCounts.{owners-residents, packets_count}
+use Rattle.kernel_residents.proofs.Shown.KernelCalls.KernelModel.QueueCounts.{owners-packet}
+use Rattle.kernel_residents.proofs.Shown.KernelCalls.KernelModel.QueuedPackets.{work_packets}
+use Rattle.kernel_residents.proofs.Shown.KernelCalls.KernelModel.RootCounts.{head-low, owners-nodes}
+use Rattle.kernel_residents.proofs.Shown.KernelCalls.KernelModel.TaskCounts.{further_count, owners-task_by}
+use Rattle.kernel_residents.proofs.Shown.KernelCalls.KernelModel.TaskPlaces.{last-resident}
 
 -- ---- blocks
 

@@ -3,26 +3,26 @@ use Rattle.std.proofs.Common.{◌≡◌, ℕ, ◌<◌, ◌≤◌, ◌^◌, ◌%�
 use Rattle.std.specs.List.{AllByRecursion, range_with_len}
 use Rattle.std.proofs.lemmas.Bool.{lt-ltb}
 use Rattle.word_store.specs.Arithmetic.{signed, word_of}
-use Rattle.linked_list.specs.Count.{times}
-use Rattle.linked_list.proofs.Counts.{hit-same, range-high, range-low}
-use Rattle.owned_words.specs.Owned.{Pairs, owners, written}
-use Rattle.owned_words.proofs.OwnedWords.{length-written}
-use Rattle.owned_words.proofs.RowWords.{owners-row}
-use Rattle.packet_queue.specs.declared.events.KernelEvent.{KernelEvent}
-use Rattle.kernel_model.specs.ChangedStore.{HasKeeper}
-use Rattle.kernel_model.specs.HoldsLists.{HoldsLists}
-use Rattle.kernel_model.specs.Lists.{Lists, has_task}
-use Rattle.kernel_model.specs.NotedEvents.{NotesAll}
-use Rattle.kernel_model.specs.Owned.{owned}
-use Rattle.kernel_model.specs.ValidLists.{AreValid}
-use Rattle.kernel_model.proofs.AllThings.{all-here}
-use Rattle.kernel_model.proofs.RootCounts.{highest-high}
-use Rattle.kernel_model.proofs.TaskPlaces.{TaskPlace, task-places}
-use Rattle.call_answers.specs.Made.{IsMade, minus_one}
-use Rattle.call_answers.proofs.RunningTask.{there-at}
-use Rattle.packet_calls.specs.SendOwn.{CanSendOwn, send_own}
-use Rattle.task_calls.proofs.PlainRows.{plain-set}
-use Rattle.kernel_boot.specs.BootTasks.{standing}
+use Rattle.word_store.specs.Count.{times}
+use Rattle.word_store.proofs.Counts.{hit-same, range-high, range-low}
+use Rattle.kernel_residents.specs.KernelCalls.OwnedWords.Owned.{Pairs, owners, written}
+use Rattle.kernel_residents.proofs.Shown.KernelCalls.OwnedWords.OwnedWords.{length-written}
+use Rattle.kernel_residents.proofs.Shown.KernelCalls.OwnedWords.RowWords.{owners-row}
+use Rattle.kernel_residents.specs.KernelCalls.PacketQueue.declared.events.KernelEvent.{KernelEvent}
+use Rattle.kernel_residents.specs.KernelCalls.KernelModel.ChangedStore.{HasKeeper}
+use Rattle.kernel_residents.specs.KernelCalls.KernelModel.HoldsLists.{HoldsLists}
+use Rattle.kernel_residents.specs.KernelCalls.KernelModel.Lists.{Lists, has_task}
+use Rattle.kernel_residents.specs.KernelCalls.KernelModel.NotedEvents.{NotesAll}
+use Rattle.kernel_residents.specs.KernelCalls.KernelModel.Owned.{owned}
+use Rattle.kernel_residents.specs.KernelCalls.KernelModel.ValidLists.{AreValid}
+use Rattle.kernel_residents.proofs.Shown.KernelCalls.KernelModel.AllThings.{all-here}
+use Rattle.kernel_residents.proofs.Shown.KernelCalls.KernelModel.RootCounts.{highest-high}
+use Rattle.kernel_residents.proofs.Shown.KernelCalls.KernelModel.TaskPlaces.{TaskPlace, task-places}
+use Rattle.kernel_residents.specs.KernelCalls.CallAnswers.Made.{IsMade, minus_one}
+use Rattle.kernel_residents.proofs.Shown.KernelCalls.CallAnswers.RunningTask.{there-at}
+use Rattle.kernel_residents.specs.KernelCalls.PacketCalls.SendOwn.{CanSendOwn, send_own}
+use Rattle.kernel_residents.proofs.Shown.KernelCalls.TaskCalls.PlainRows.{plain-set}
+use Rattle.kernel_residents.specs.KernelCalls.KernelModel.Standing.{standing}
 use Rattle.shell_programs.specs.ShellPacket.{CanPost, post_events, posted, request_words}
 use Rattle.shell_programs.specs.Standings.{HasStanding}
 use Rattle.shell_programs.proofs.MadeStandings.{made-standing}

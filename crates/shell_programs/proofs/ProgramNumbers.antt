@@ -2,14 +2,14 @@
 use Rattle.std.proofs.Common.{◌≡◌, ℕ, zero, suc, ◌+◌, ◌-◌, ◌<◌, ◌≤◌, List, [], ◌∷◌, cond, eqb, not, Bool, true, false, Option, Some, None, inl, refl, ◌∙◌, arith}
 use Rattle.std.specs.Prelude.{find, unwrap_or}
 use Rattle.std.specs.List.{range_with_len}
-use Rattle.task_block.specs.TaskChain.{lowest_free_id}
-use Rattle.task_block.specs.Versions.{highest_id}
-use Rattle.kernel_model.specs.HoldsLists.{HoldsLists}
-use Rattle.kernel_model.specs.Lists.{Lists, has_task}
-use Rattle.kernel_model.specs.Versions.{highest_id_of}
-use Rattle.kernel_model.proofs.RootCounts.{highest-high, highest-low}
-use Rattle.task_calls.specs.CreateTask.{MayCreate, free_id}
-use Rattle.task_calls.proofs.ReadNumbers.{free-read, highest-read}
+use Rattle.kernel_residents.specs.KernelCalls.TaskBlock.TaskChain.{lowest_free_id}
+use Rattle.kernel_residents.specs.KernelCalls.TaskBlock.Versions.{highest_id}
+use Rattle.kernel_residents.specs.KernelCalls.KernelModel.HoldsLists.{HoldsLists}
+use Rattle.kernel_residents.specs.KernelCalls.KernelModel.Lists.{Lists, has_task}
+use Rattle.kernel_residents.specs.KernelCalls.KernelModel.Versions.{highest_id_of}
+use Rattle.kernel_residents.proofs.Shown.KernelCalls.KernelModel.RootCounts.{highest-high, highest-low}
+use Rattle.kernel_residents.specs.KernelCalls.TaskCalls.CreateTask.{MayCreate, free_id}
+use Rattle.kernel_residents.proofs.Shown.KernelCalls.TaskCalls.ReadNumbers.{free-read, highest-read}
 use Rattle.shell_programs.specs.StartedProgram.{next_number}
 
 -- a number that is found in a range lies in it

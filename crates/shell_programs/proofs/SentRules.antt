@@ -1,15 +1,15 @@
 -- The rules that stay where the shell's packet is sent.
 use Rattle.std.proofs.Common.{◌≡◌, ℕ, ◌≤◌, List, cond, None, sym, ap, subst, arith}
 use Rattle.std.proofs.lemmas.Bool.{ne_eqb}
-use Rattle.packet_queue.specs.QueueWords.{QueuedPacket}
-use Rattle.kernel_model.specs.Changes.{queue_of, with_key, with_queue}
-use Rattle.kernel_model.specs.Residents.{keyboard}
-use Rattle.kernel_model.specs.ValidQueues.Place.{Keyboard, Work}
-use Rattle.kernel_model.specs.ValidTasks.{runs}
-use Rattle.packet_moves.specs.PacketMoves.{arrived, sent_packet, with_arrived}
-use Rattle.kernel_boot.specs.BootTasks.{Standing}
-use Rattle.resident_requests.specs.Requests.{RunsResident}
-use Rattle.resident_requests.proofs.RunningResident.{runs-work}
+use Rattle.kernel_residents.specs.KernelCalls.PacketQueue.QueueWords.{QueuedPacket}
+use Rattle.kernel_residents.specs.KernelCalls.KernelModel.Changes.{queue_of, with_key, with_queue}
+use Rattle.kernel_residents.specs.KernelCalls.KernelModel.Residents.{keyboard}
+use Rattle.kernel_residents.specs.KernelCalls.KernelModel.ValidQueues.Place.{Keyboard, Work}
+use Rattle.kernel_residents.specs.KernelCalls.KernelModel.ValidTasks.{runs}
+use Rattle.kernel_residents.specs.KernelCalls.PacketCalls.PacketMoves.{arrived, sent_packet, with_arrived}
+use Rattle.kernel_residents.specs.KernelCalls.KernelModel.Standing.{Standing}
+use Rattle.kernel_residents.specs.ResidentRequests.Requests.{RunsResident}
+use Rattle.kernel_residents.proofs.Shown.ResidentRequests.RunningResident.{runs-work}
 use Rattle.shell_programs.specs.KeptLists.{RunsAlone}
 use Rattle.shell_programs.specs.ShellPacket.{posted, shell_packet}
 use Rattle.shell_programs.proofs.KeptTasks.{all-changed}

@@ -1,12 +1,12 @@
 -- The shell clears up: the tasks that it has made are deleted once they are dead, and their modules go out.
 use Rattle.std.specs.Prelude.{ℕ, ◌-◌, ◌==◌, if◌then◌else◌, Option, Some, None, Result, Ok, Err, List, [], ◌∷◌, find}
 use Rattle.std.specs.List.{range_with_len}
-use Rattle.owned_words.specs.LinkedWords.{first_of}
-use Rattle.kernel_model.specs.Task.{Task}
-use Rattle.kernel_model.specs.Versions.{highest_id_of}
-use Rattle.module_calls.specs.UnloadModule.{unload_module}
-use Rattle.task_calls.specs.DeleteTask.{delete_task}
-use Rattle.kernel_boot.specs.BootTasks.{Standing}
+use Rattle.kernel_residents.specs.KernelCalls.OwnedWords.LinkedWords.{first_of}
+use Rattle.kernel_residents.specs.KernelCalls.KernelModel.Task.{Task}
+use Rattle.kernel_residents.specs.KernelCalls.KernelModel.Versions.{highest_id_of}
+use Rattle.kernel_residents.specs.KernelCalls.ModuleCalls.UnloadModule.{unload_module}
+use Rattle.kernel_residents.specs.KernelCalls.TaskCalls.DeleteTask.{delete_task}
+use Rattle.kernel_residents.specs.KernelCalls.KernelModel.Standing.{Standing}
 use Rattle.shell_programs.specs.Standings.{left_by}
 
 -- the number of the shell: it is the maker of the tasks that it starts

@@ -1,13 +1,13 @@
 -- The shell's packet, which lies in the resident block.
 use Rattle.std.specs.Prelude.{◌≡◌, ℕ, ◌+◌, true, List, [], ◌∷◌}
 use Rattle.word_store.specs.Arithmetic.{signed}
-use Rattle.owned_words.specs.Owned.{Pairs, row_from, written}
-use Rattle.packet_queue.specs.declared.events.KernelEvent.{KernelEvent}
-use Rattle.packet_queue.specs.declared.events.KernelEvent.TheVariants.{Accepted}
-use Rattle.kernel_model.specs.Changes.{AreUnowned}
-use Rattle.kernel_model.specs.Lists.{Lists, has_task}
-use Rattle.packet_calls.specs.SendOwn.{send_own}
-use Rattle.kernel_boot.specs.BootTasks.{Standing, standing}
+use Rattle.kernel_residents.specs.KernelCalls.OwnedWords.Owned.{Pairs, row_from, written}
+use Rattle.kernel_residents.specs.KernelCalls.PacketQueue.declared.events.KernelEvent.{KernelEvent}
+use Rattle.kernel_residents.specs.KernelCalls.PacketQueue.declared.events.KernelEvent.TheVariants.{Accepted}
+use Rattle.kernel_residents.specs.KernelCalls.KernelModel.Changes.{AreUnowned}
+use Rattle.kernel_residents.specs.KernelCalls.KernelModel.Lists.{Lists, has_task}
+use Rattle.kernel_residents.specs.KernelCalls.PacketCalls.SendOwn.{send_own}
+use Rattle.kernel_residents.specs.KernelCalls.KernelModel.Standing.{Standing, standing}
 use Rattle.shell_programs.specs.ClearedTasks.{shell_number}
 use Rattle.shell_programs.specs.Standings.{left_by}
 

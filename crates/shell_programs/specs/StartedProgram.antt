@@ -3,12 +3,13 @@ use Rattle.std.specs.Prelude.{◌≡◌, ℕ, ◌+◌, Option, Some, None, Resul
 use Rattle.std.specs.Option.{option_map}
 use Rattle.hunk_text.specs.ModuleOfText.{module_of}
 use Rattle.ram_disc.specs.Disc.{Disc, file_named}
-use Rattle.kernel_model.specs.Lists.{Lists}
-use Rattle.kernel_model.specs.Versions.{highest_id_of}
-use Rattle.call_answers.specs.Made.{Made, refused}
-use Rattle.task_calls.specs.CreateTask.{create_task, free_id}
+use Rattle.kernel_residents.specs.KernelCalls.KernelModel.Lists.{Lists}
+use Rattle.kernel_residents.specs.KernelCalls.KernelModel.Versions.{highest_id_of}
+use Rattle.kernel_residents.specs.KernelCalls.CallAnswers.Made.{Made, refused}
+use Rattle.kernel_residents.specs.KernelCalls.TaskCalls.CreateTask.{create_task, free_id}
 use Rattle.kernel_boot.specs.BegunTask.{with_begun}
-use Rattle.kernel_boot.specs.BootTasks.{Standing, left_with, load_text}
+use Rattle.kernel_residents.specs.KernelCalls.KernelModel.Standing.{Standing, left_with}
+use Rattle.kernel_boot.specs.BootTasks.{load_text}
 use Rattle.shell_programs.specs.ClearedTasks.{shell_number, unloaded}
 use Rattle.shell_programs.specs.Standings.{HasStanding, left_by}
 use Rattle.shell_programs.specs.declared.programs.Priority.{Priority}

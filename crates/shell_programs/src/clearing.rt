@@ -1,18 +1,16 @@
 // The shell clears up.
 ghost use Rattle.std.specs.Prelude.{◌≡◌, ◌≤◌};
-ghost use Rattle.kernel_model.specs.ChangedStore.{HasKeeper};
-ghost use Rattle.kernel_model.specs.Lists.{Lists};
-ghost use Rattle.kernel_boot.specs.BootTasks.{standing};
+ghost use Rattle.kernel_residents.specs.KernelCalls.KernelModel.ChangedStore.{HasKeeper};
+ghost use Rattle.kernel_residents.specs.KernelCalls.KernelModel.Lists.{Lists};
+ghost use Rattle.kernel_residents.specs.KernelCalls.KernelModel.Standing.{standing};
 ghost use Rattle.shell_programs.specs.ClearedTasks.{cleared, cleared_at};
 ghost use Rattle.shell_programs.specs.Standings.{HasStanding};
-ghost use Rattle.task_calls.specs.DeleteTask.{RunsAlive};
+ghost use Rattle.kernel_residents.specs.KernelCalls.TaskCalls.DeleteTask.{RunsAlive};
 
-use call_answers::guest;
-use call_answers::numbers::FIRST_GUEST;
-use module_calls::unload_module;
-use task_block::{TcbField, field, highest_id};
-use task_calls::delete_task;
-use word_kinds::KindKeeper;
+use kernel_residents::numbers::FIRST_GUEST;
+use kernel_residents::{
+    KindKeeper, TcbField, delete_task, field, guest, highest_id, unload_module,
+};
 use word_store::Store;
 
 /// The id of the shell.

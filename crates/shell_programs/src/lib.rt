@@ -9,3 +9,13 @@ pub mod programs;
 pub use clearing::clear_up;
 pub use packet::{post_shell_packet, send_shell_packet};
 pub use programs::{Priority, start_program};
+
+// Shown to the crates above.
+pub use kernel_boot::{
+    BootRefusal, begin_task, load_files, make_kernel, make_resident_kernel, start_tasks,
+};
+pub use kernel_residents::{
+    ConsoleState, EventLog, KindKeeper, Pipes, Request, UNKNOWN_TYPE, change_pri, console_turn,
+    fault_turn, file_turn, finish_turn, first_packet, hold_task, pipe_turn, record_fault,
+    release_task, return_request, set_flags, take_request,
+};

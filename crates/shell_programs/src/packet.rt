@@ -1,17 +1,15 @@
 // The shell sends its packet.
 ghost use Rattle.std.specs.Prelude.{◌≡◌};
-ghost use Rattle.kernel_model.specs.ChangedStore.{HasKeeper};
-ghost use Rattle.kernel_model.specs.Lists.{Lists};
-ghost use Rattle.kernel_model.specs.NotedEvents.{NotesAll};
-ghost use Rattle.owned_words.specs.Owned.{written};
-ghost use Rattle.kernel_boot.specs.BootTasks.{standing};
+ghost use Rattle.kernel_residents.specs.KernelCalls.KernelModel.ChangedStore.{HasKeeper};
+ghost use Rattle.kernel_residents.specs.KernelCalls.KernelModel.Lists.{Lists};
+ghost use Rattle.kernel_residents.specs.KernelCalls.KernelModel.NotedEvents.{NotesAll};
+ghost use Rattle.kernel_residents.specs.KernelCalls.OwnedWords.Owned.{written};
+ghost use Rattle.kernel_residents.specs.KernelCalls.KernelModel.Standing.{standing};
 ghost use Rattle.shell_programs.specs.ShellPacket.{CanPost, post_events, posted, request_words, requested};
 ghost use Rattle.shell_programs.specs.Standings.{HasStanding};
 
 use crate::clearing::SHELL;
-use packet_calls::send_own;
-use packet_queue::EventLog;
-use word_kinds::KindKeeper;
+use kernel_residents::{EventLog, KindKeeper, send_own};
 use word_store::{Store, set_word_at, signed};
 
 /// The address of the shell's packet, which has three arguments.

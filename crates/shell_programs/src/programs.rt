@@ -1,18 +1,15 @@
 // The shell starts a program.
 ghost use Rattle.std.specs.Prelude.{◌≡◌};
-ghost use Rattle.kernel_model.specs.ChangedStore.{HasKeeper};
-ghost use Rattle.kernel_model.specs.HoldsLists.{HoldsLists};
-ghost use Rattle.kernel_model.specs.Lists.{Lists};
-ghost use Rattle.call_answers.specs.Made.{IsMade};
-ghost use Rattle.kernel_boot.specs.BootTasks.{standing};
+ghost use Rattle.kernel_residents.specs.KernelCalls.KernelModel.ChangedStore.{HasKeeper};
+ghost use Rattle.kernel_residents.specs.KernelCalls.KernelModel.HoldsLists.{HoldsLists};
+ghost use Rattle.kernel_residents.specs.KernelCalls.KernelModel.Lists.{Lists};
+ghost use Rattle.kernel_residents.specs.KernelCalls.CallAnswers.Made.{IsMade};
+ghost use Rattle.kernel_residents.specs.KernelCalls.KernelModel.Standing.{standing};
 ghost use Rattle.shell_programs.specs.StartedProgram.{IsStarted, create_program, load_program, next_number, priority_of, start_program};
 
 use crate::clearing::SHELL;
-use module_calls::{load_module, unload_module};
+use kernel_residents::{KindKeeper, create_task, free_id, highest_id, load_module, unload_module};
 use ram_disc::{Disc, Name};
-use task_block::{free_id, highest_id};
-use task_calls::create_task;
-use word_kinds::KindKeeper;
 use word_store::Store;
 
 /// Which priority a program gets. The shell has 1,000.

@@ -4,14 +4,13 @@ use Rattle.std.specs.Prelude.{unwrap_or}
 use Rattle.std.specs.List.{AllByRecursion, range_with_len}
 use Rattle.std.proofs.lemmas.Bool.{cases_eq}
 use Rattle.std.proofs.lemmas.Bool.Decides.{nat_tests}
-use Rattle.linked_list.specs.Count.{times}
-use Rattle.linked_list.specs.Places.{linked_in}
-use Rattle.linked_list.proofs.AllMembers.{all-back}
-use Rattle.linked_list.proofs.Counts.{hit-other, hit-same, times-append}
-use Rattle.linked_list.proofs.MappedLists.{cell_after-map, cell_after-same, map-append}
-use Rattle.linked_list.proofs.Places.{IsPlace, place}
-use Rattle.linked_list.specs.Places.{cell_after}
-use Rattle.linked_list.specs.Chain.{last_cell}
+use Rattle.owned_words.specs.WordStore.Count.{times}
+use Rattle.owned_words.specs.LinkedList.Places.{cell_after, linked_in}
+use Rattle.owned_words.proofs.Shown.LinkedList.AllMembers.{all-back}
+use Rattle.owned_words.proofs.Shown.WordStore.Counts.{hit-other, hit-same, times-append}
+use Rattle.owned_words.proofs.Shown.LinkedList.MappedLists.{cell_after-map, cell_after-same, map-append}
+use Rattle.owned_words.proofs.Shown.LinkedList.Places.{IsPlace, place}
+use Rattle.owned_words.specs.LinkedList.Chain.{last_cell}
 use Rattle.owned_words.specs.Exchange.{Exchange}
 use Rattle.owned_words.specs.LinkedWords.{first_of, headed_words, linked_words}
 use Rattle.owned_words.specs.Owned.{Holds, Pairs, row_from}

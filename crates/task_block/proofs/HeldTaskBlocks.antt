@@ -4,9 +4,9 @@ use Rattle.std.specs.Prelude.{unwrap_or}
 use Rattle.std.specs.List.{AllByRecursion}
 use Rattle.std.proofs.lemmas.Bool.{cases_eq}
 use Rattle.std.proofs.lemmas.Bool.Decides.{nat_tests}
-use Rattle.linked_list.specs.Count.{IsApart, hit, times, words_of}
-use Rattle.linked_list.specs.Linked.{IsListAt}
-use Rattle.linked_list.proofs.Counts.{hit-other, hit-same, times-append}
+use Rattle.owned_words.specs.WordStore.Count.{IsApart, hit, times, words_of}
+use Rattle.owned_words.specs.LinkedList.Linked.{IsListAt}
+use Rattle.owned_words.proofs.Shown.WordStore.Counts.{hit-other, hit-same, times-append}
 use Rattle.owned_words.specs.LinkedWords.{AreHeld, first_of, headed_words, linked_words}
 use Rattle.owned_words.specs.Owned.{Holds, Pairs, owners}
 use Rattle.owned_words.proofs.HeldLists.{held-count, held-list}

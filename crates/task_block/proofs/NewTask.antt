@@ -3,14 +3,14 @@ use Rattle.std.proofs.Common.{◌≡◌, ◌≢◌, ℕ, ◌+◌, ◌<◌, ◌�
 use Rattle.std.specs.Prelude.{unwrap_or}
 use Rattle.std.specs.List.{AllByRecursion, list_any}
 use Rattle.std.proofs.lemmas.Bool.Decides.{nat_tests}
-use Rattle.linked_list.specs.Count.{IsApart, node_words, times, words_of}
-use Rattle.linked_list.specs.Chain.{cells}
-use Rattle.linked_list.specs.Linked.{IsListAt}
-use Rattle.linked_list.proofs.Chains.{times-cells}
-use Rattle.linked_list.proofs.Counts.{hit-other, times-append, times-within, times-words_more}
-use Rattle.linked_list.proofs.Frames.{list-set}
-use Rattle.linked_list.specs.Places.{has}
-use Rattle.linked_list.proofs.AllMembers.{all-members, all-without}
+use Rattle.owned_words.specs.WordStore.Count.{IsApart, node_words, times, words_of}
+use Rattle.owned_words.specs.LinkedList.Chain.{cells}
+use Rattle.owned_words.specs.LinkedList.Linked.{IsListAt}
+use Rattle.owned_words.proofs.Shown.LinkedList.Chains.{times-cells}
+use Rattle.owned_words.proofs.Shown.WordStore.Counts.{hit-other, times-append, times-within, times-words_more}
+use Rattle.owned_words.proofs.Shown.LinkedList.Frames.{list-set}
+use Rattle.owned_words.specs.LinkedList.Places.{has}
+use Rattle.owned_words.proofs.Shown.LinkedList.AllMembers.{all-members, all-without}
 use Rattle.task_block.specs.Moves.{HasNewPriority, StaysNew, with_priority, without_task}
 use Rattle.task_block.specs.Versions.{highest_id}
 use Rattle.task_block.specs.TaskChain.{Fall, HasTasks, IsInTable, IsNewTask, id_in, priority_in, root_words, task_link, task_size, task_with, tasks_in}

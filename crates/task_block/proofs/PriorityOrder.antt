@@ -2,9 +2,9 @@
 use Rattle.std.proofs.Common.{◌≡◌, ◌≢◌, ℕ, ◌<◌, ◌≤◌, List, [], ◌∷◌, cond, eqb, ◌||◌, Bool, true, false, refl, arith}
 use Rattle.std.specs.List.{AllByRecursion, list_any}
 use Rattle.std.proofs.lemmas.Bool.Decides.{nat_tests}
-use Rattle.linked_list.specs.Places.{insert_after, without}
+use Rattle.owned_words.specs.LinkedList.Places.{insert_after, without}
 use Rattle.task_block.specs.TaskChain.{Fall, is_above, priority_in}
-use Rattle.linked_list.proofs.AllMembers.{all-insert, all-without}
+use Rattle.owned_words.proofs.Shown.LinkedList.AllMembers.{all-insert, all-without}
 
 -- where one of falling priorities is above, the first is
 first-above : (s : List ℕ) (t q : ℕ) (qs : List ℕ) → AllByRecursion (λ u. priority_in s u < priority_in s q) qs → list_any (is_above s t) (q ∷ qs) ≡ true → priority_in s t < priority_in s q

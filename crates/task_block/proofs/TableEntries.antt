@@ -2,7 +2,7 @@
 use Rattle.std.proofs.Common.{◌≡◌, ◌≢◌, ℕ, zero, suc, ◌+◌, ◌-◌, ◌<◌, ◌≤◌, List, [], ◌∷◌, get_or, cond, Option, Some, None, refl, sym, ap, ◌∙◌, arith}
 use Rattle.std.specs.Prelude.{find, is_none, unwrap_or}
 use Rattle.std.specs.List.{AllByRecursion, range_with_len}
-use Rattle.linked_list.specs.Linked.{IsNode}
+use Rattle.owned_words.specs.LinkedList.Linked.{IsNode}
 use Rattle.task_block.specs.Versions.{highest_id}
 use Rattle.task_block.specs.TaskChain.{HasTasks, IsInTable, id_in, task_link, task_size, task_with, tasks_in}
 use Rattle.task_block.proofs.TaskNumbers.{none-task_with, task_with-has}

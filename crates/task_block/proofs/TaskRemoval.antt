@@ -3,17 +3,17 @@ use Rattle.std.proofs.Common.{◌≡◌, ◌≢◌, ℕ, ◌+◌, ◌<◌, ◌�
 use Rattle.std.specs.Prelude.{unwrap_or}
 use Rattle.std.specs.List.{AllByRecursion}
 use Rattle.std.proofs.lemmas.Bool.{cases_eq}
-use Rattle.linked_list.specs.Count.{IsApart, node_words, times, words_of}
-use Rattle.linked_list.specs.Chain.{cells, last_cell, list_at}
-use Rattle.linked_list.specs.Linked.{IsLinked, IsListAt, IsNode}
-use Rattle.linked_list.specs.Places.{cell_before, has, linked_out, without}
-use Rattle.linked_list.proofs.Counts.{hit-other, times-append, times-within, times-words_more, times-words_of}
-use Rattle.linked_list.proofs.Chains.{times-cells}
-use Rattle.linked_list.proofs.Frames.{list-set, word-no_cell}
-use Rattle.linked_list.proofs.Insertion.{times-front_cell}
-use Rattle.linked_list.proofs.AllMembers.{all-back, all-front, all-append}
-use Rattle.linked_list.proofs.Lists.{list-node, list-remove, list-removed}
-use Rattle.linked_list.proofs.Places.{Stands, stands}
+use Rattle.owned_words.specs.WordStore.Count.{IsApart, node_words, times, words_of}
+use Rattle.owned_words.specs.LinkedList.Chain.{cells, last_cell, list_at}
+use Rattle.owned_words.specs.LinkedList.Linked.{IsLinked, IsListAt, IsNode}
+use Rattle.owned_words.specs.LinkedList.Places.{cell_before, has, linked_out, without}
+use Rattle.owned_words.proofs.Shown.WordStore.Counts.{hit-other, times-append, times-within, times-words_more, times-words_of}
+use Rattle.owned_words.proofs.Shown.LinkedList.Chains.{times-cells}
+use Rattle.owned_words.proofs.Shown.LinkedList.Frames.{list-set, word-no_cell}
+use Rattle.owned_words.proofs.Shown.LinkedList.Insertion.{times-front_cell}
+use Rattle.owned_words.proofs.Shown.LinkedList.AllMembers.{all-back, all-front, all-append}
+use Rattle.owned_words.proofs.Shown.LinkedList.Lists.{list-node, list-remove, list-removed}
+use Rattle.owned_words.proofs.Shown.LinkedList.Places.{Stands, stands}
 use Rattle.task_block.specs.Moves.{without_task}
 use Rattle.task_block.specs.Versions.{highest_id}
 use Rattle.task_block.specs.TaskChain.{Fall, HasTasks, IsInTable, IsNewTask, id_in, root_words, task_link, task_size, task_with, tasks_in}

@@ -1,8 +1,8 @@
 -- What the calls do to the words that tasks own in the chain and in the table.
 use Rattle.std.specs.Prelude.{◌≡◌, ℕ, List, [], ◌∷◌, ◌++◌, map, nat_lt}
 use Rattle.std.specs.List.{range_with_len}
-use Rattle.linked_list.specs.Chain.{last_cell}
-use Rattle.linked_list.specs.Places.{insert_after}
+use Rattle.owned_words.specs.LinkedList.Chain.{last_cell}
+use Rattle.owned_words.specs.LinkedList.Places.{insert_after}
 use Rattle.owned_words.specs.Exchange.{Exchange}
 use Rattle.owned_words.specs.LinkedWords.{first_of, headed_words}
 use Rattle.owned_words.specs.Owned.{Holds, Pairs, row_from, written}

@@ -1,7 +1,7 @@
 -- Tasks whose words a store holds. A kind of task has an address, a number, and words, its link and its number among them.
 use Rattle.std.specs.Prelude.{◌≡◌, ℕ, ◌+◌, ◌<◌, ◌≤◌, ◌==◌, if◌then◌else◌, List, [], ◌∷◌, length, map, slice_index}
 use Rattle.std.specs.List.{AllByRecursion}
-use Rattle.linked_list.specs.Count.{IsApart, times}
+use Rattle.owned_words.specs.WordStore.Count.{IsApart, times}
 use Rattle.owned_words.specs.LinkedWords.{AreNodes, headed_words, linked_words}
 use Rattle.owned_words.specs.Owned.{AreInside, Holds, Pairs, owners}
 use Rattle.task_block.specs.RootWords.{first_task, table_entry}

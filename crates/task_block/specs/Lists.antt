@@ -1,6 +1,6 @@
 -- The lists of modules and of a task's coroutines.
 use Rattle.std.specs.Prelude.{ℕ, ◌+◌, List}
-use Rattle.linked_list.specs.Chain.{list_at}
+use Rattle.owned_words.specs.LinkedList.Chain.{list_at}
 use Rattle.task_block.specs.RootWords.{first_module}
 use Rattle.task_block.specs.TaskWords.{word_index}
 use Rattle.task_block.specs.declared.fields.TcbField.TheVariants.{FirstCo}

@@ -1,7 +1,7 @@
 -- The words of the store once a task has come into the chain and the table, or gone out.
 use Rattle.std.specs.Prelude.{◌≡◌, ℕ, ◌+◌, ◌<◌, false, List, slice_index, slice_set}
 use Rattle.std.specs.List.{AllByRecursion}
-use Rattle.linked_list.specs.Places.{cell_after, linked_in, without, without_node}
+use Rattle.owned_words.specs.LinkedList.Places.{cell_after, linked_in, without, without_node}
 use Rattle.task_block.specs.RootWords.{first_task, table_entry}
 use Rattle.task_block.specs.TaskChain.{Fall, HasTasks, IsNewPriority, IsNewTask, id_in, is_above, is_priority_used, priority_in, task_link, tasks_in}
 use Rattle.task_block.specs.TaskWords.{word_index}

@@ -1,9 +1,9 @@
 -- The chain of tasks, and the table that has each task by its number.
 use Rattle.std.specs.Prelude.{◌≡◌, ◌≢◌, ℕ, ◌+◌, ◌-◌, ◌<◌, ◌≤◌, ◌==◌, ◌&&◌, Bool, not, nat_lt, Option, None, is_none, find, unwrap_or, List, [], ◌∷◌, ◌++◌, length, slice_index}
 use Rattle.std.specs.List.{AllByRecursion, list_any, range_with_len}
-use Rattle.linked_list.specs.Count.{IsApart, node_words, times, words_of}
-use Rattle.linked_list.specs.Chain.{list_at}
-use Rattle.linked_list.specs.Linked.{HasList, IsNode}
+use Rattle.owned_words.specs.WordStore.Count.{IsApart, node_words, times, words_of}
+use Rattle.owned_words.specs.LinkedList.Chain.{list_at}
+use Rattle.owned_words.specs.LinkedList.Linked.{HasList, IsNode}
 use Rattle.task_block.specs.RootWords.{first_task, table_entry}
 use Rattle.task_block.specs.TaskWords.{word_index}
 use Rattle.task_block.specs.Versions.{highest_id}

@@ -1,7 +1,7 @@
 // The chain of tasks, in falling priority, and the task table: a task comes in, and goes out.
 ghost use Rattle.std.specs.Prelude.{◌≡◌, ◌≢◌, ◌+◌, true, slice_set};
 ghost use Rattle.std.specs.List.{AllByRecursion};
-ghost use Rattle.linked_list.specs.Places.{has, insert_after, without};
+ghost use Rattle.owned_words.specs.LinkedList.Places.{has, insert_after, without};
 ghost use Rattle.task_block.specs.Moves.{link_above, with_task, without_task};
 ghost use Rattle.task_block.specs.TaskChain.{Fall, HasTasks, IsNewPriority, IsNewTask, id_in, is_above, task_link, tasks_in};
 
@@ -9,8 +9,7 @@ use crate::fields::{TcbField, field};
 use crate::lists::{TASK_LINK, tasks};
 use crate::roots::RootField;
 use crate::search::TABLE;
-use linked_list::{link_in, unlink as unlink_node};
-use word_store::{Store, set_word_at};
+use owned_words::{Store, link_in, set_word_at, unlink as unlink_node};
 
 /// Puts the task at t into the chain, directly after the last task of a higher priority and at the front where there is
 /// none, and into the table by its number. Written are the task's link, the link or head before it, and its entry of the

@@ -2,7 +2,7 @@
 ghost use Rattle.std.specs.Prelude.{◌≡◌, ◌+◌, slice_index, slice_set};
 ghost use Rattle.task_block.specs.TaskWords.{word_index};
 
-use word_store::{Store, set_word_at, word_at};
+use owned_words::{Store, set_word_at, word_at};
 
 /// The words 0 to 22 of a task block, in order. In version 2 a guest's has 30, the others of which have modules.
 #[derive(Clone, Copy, Debug, PartialEq, Eq)]

@@ -1,6 +1,6 @@
 // Laws of a task that is out of the chain, and of the words that tasks own.
 ghost use Rattle.std.specs.Prelude.{◌≡◌, ◌<◌, ◌≤◌, ◌+◌, ◌++◌, ◌∷◌, ℕ, List, map, slice_set, true};
-ghost use Rattle.linked_list.specs.Places.{has};
+ghost use Rattle.owned_words.specs.LinkedList.Places.{has};
 ghost use Rattle.task_block.specs.ChainWords.{BlockComesIn, BlockInsert, BlockUnlink, HeldBlocks, TaskBlock, block_address};
 ghost use Rattle.task_block.specs.HeldTasks.{HasTheseTasks};
 ghost use Rattle.task_block.specs.Moves.{HasNewPriority, StaysNew, with_priority, with_task, without_task};

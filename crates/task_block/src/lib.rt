@@ -11,7 +11,6 @@ pub mod versions;
 
 pub use chain::{insert, unlink};
 pub use fields::{TcbField, field, set_field};
-pub use linked_list::{Nodes as CoList, Nodes as Modules, Nodes as Tasks};
 pub use lists::{coroutine_list, modules, tasks};
 pub use roots::{RootField, root, set_root};
 pub use search::{find, free_id, priority_used};

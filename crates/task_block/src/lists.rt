@@ -1,14 +1,13 @@
 // The lists that begin in the root and in task blocks, one member after the other.
 ghost use Rattle.std.specs.Prelude.{◌≡◌, ◌<◌, length};
-ghost use Rattle.linked_list.specs.Walk.{CanWalk};
+ghost use Rattle.owned_words.specs.LinkedList.Walk.{CanWalk};
 ghost use Rattle.task_block.specs.Lists.{coroutine_link, coroutines_in, first_coroutine, module_link, modules_in};
 ghost use Rattle.task_block.specs.RootWords.{first_module, first_task};
 ghost use Rattle.task_block.specs.TaskChain.{task_link, tasks_in};
 
 use crate::fields::TcbField;
 use crate::roots::RootField;
-use linked_list::{Nodes, follow};
-use word_store::Store;
+use owned_words::{Nodes, Store, follow};
 
 /// Which word of a task block links to the next one.
 pub(crate) const TASK_LINK: u32 = 0;

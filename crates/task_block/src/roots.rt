@@ -2,7 +2,7 @@
 ghost use Rattle.std.specs.Prelude.{◌≡◌, slice_index, slice_set};
 ghost use Rattle.task_block.specs.RootWords.{root_address};
 
-use word_store::{Store, word};
+use owned_words::{Store, word};
 
 /// The words 100 to 112 of the store, in order.
 #[derive(Clone, Copy, Debug, PartialEq, Eq)]

@@ -5,7 +5,7 @@ ghost use Rattle.task_block.specs.TaskChain.{HasTasks, is_priority_used, lowest_
 use crate::fields::{TcbField, field};
 use crate::lists::tasks;
 use crate::versions::highest_id;
-use word_store::{Store, word};
+use owned_words::{Store, word};
 
 /// Where the task table begins: the entry of task i is i words after it.
 pub(crate) const TABLE: u32 = 120;

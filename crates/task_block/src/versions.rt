@@ -3,7 +3,7 @@ ghost use Rattle.std.specs.Prelude.{◌≡◌, ◌+◌, ◌<◌, ◌≤◌, slic
 ghost use Rattle.task_block.specs.Versions.{head_words, highest_id, module_index, most_modules};
 
 use crate::roots::{RootField, root};
-use word_store::{Store, set_word_at, word, word_at};
+use owned_words::{Store, set_word_at, word, word_at};
 
 /// Where the highest number of a task stands.
 const HIGHEST_ID: u32 = 120;

@@ -1,23 +1,23 @@
 -- All owned words around those of the chain of tasks.
 use Rattle.std.proofs.Common.{◌≡◌, ℕ, ◌+◌, List, [], ◌∷◌, ◌++◌, map, cond, eqb, Bool, true, false, refl, sym, ap, ◌∙◌, arith}
 use Rattle.std.proofs.lemmas.Bool.{eqb-true}
-use Rattle.linked_list.specs.Count.{times}
-use Rattle.linked_list.proofs.Counts.{hit-same}
-use Rattle.owned_words.specs.Exchange.{Exchange}
-use Rattle.owned_words.specs.Owned.{Pairs, owners}
-use Rattle.owned_words.proofs.Exchanges.{exchange-left, exchange-right}
-use Rattle.owned_words.proofs.OwnedWords.{owners-append}
-use Rattle.getvec_chain.specs.BlockWords.{blocks_words}
-use Rattle.hunk_loader.specs.ModuleExchanges.{modules_words}
-use Rattle.task_block.specs.ChainWords.{listed_words}
-use Rattle.task_block.specs.HeldTasks.{address_with}
-use Rattle.kernel_model.specs.Changes.{with_tasks}
-use Rattle.kernel_model.specs.Lists.{Lists, address_of_task}
-use Rattle.kernel_model.specs.Owned.{device_words, owned, tasks_words}
-use Rattle.kernel_model.specs.Residents.{resident_words}
-use Rattle.kernel_model.specs.Root.{root_words}
-use Rattle.kernel_model.specs.Task.{Task, task_address, task_id, task_words}
-use Rattle.kernel_model.specs.Versions.{highest_id_of}
+use Rattle.word_store.specs.Count.{times}
+use Rattle.word_store.proofs.Counts.{hit-same}
+use Rattle.block_calls.specs.KernelDispatch.OwnedWords.Exchange.{Exchange}
+use Rattle.block_calls.specs.KernelDispatch.OwnedWords.Owned.{Pairs, owners}
+use Rattle.block_calls.proofs.Shown.KernelDispatch.OwnedWords.Exchanges.{exchange-left, exchange-right}
+use Rattle.block_calls.proofs.Shown.KernelDispatch.OwnedWords.OwnedWords.{owners-append}
+use Rattle.block_calls.specs.KernelDispatch.GetvecChain.BlockWords.{blocks_words}
+use Rattle.block_calls.specs.KernelDispatch.HunkLoader.ModuleExchanges.{modules_words}
+use Rattle.block_calls.specs.KernelDispatch.TaskBlock.ChainWords.{listed_words}
+use Rattle.block_calls.specs.KernelDispatch.TaskBlock.HeldTasks.{address_with}
+use Rattle.block_calls.specs.KernelDispatch.KernelModel.Changes.{with_tasks}
+use Rattle.block_calls.specs.KernelDispatch.KernelModel.Lists.{Lists, address_of_task}
+use Rattle.block_calls.specs.KernelDispatch.KernelModel.Owned.{device_words, owned, tasks_words}
+use Rattle.block_calls.specs.KernelDispatch.KernelModel.Residents.{resident_words}
+use Rattle.block_calls.specs.KernelDispatch.KernelModel.Root.{root_words}
+use Rattle.block_calls.specs.KernelDispatch.KernelModel.Task.{Task, task_address, task_id, task_words}
+use Rattle.block_calls.specs.KernelDispatch.KernelModel.Versions.{highest_id_of}
 
 -- the table leads to a task by its number, wherever it stands in the chain
 pub address_with-out : (front : List Task) (t : Task) (back : List Task) (i : ℕ) → times t.id (map task_id front) ≡ 0

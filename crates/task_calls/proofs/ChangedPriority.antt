@@ -3,24 +3,24 @@ use Rattle.std.proofs.Common.{◌≡◌, ◌≢◌, ℕ, ◌&&◌, List, [], ◌
 use Rattle.std.specs.Prelude.{find}
 use Rattle.std.specs.List.{AllByRecursion, list_any}
 use Rattle.std.proofs.lemmas.Bool.{and_parts, leb-true}
-use Rattle.linked_list.specs.Count.{IsApart}
-use Rattle.linked_list.specs.Places.{has, without_first}
-use Rattle.owned_words.specs.Owned.{owners}
-use Rattle.task_block.specs.Moves.{with_priority as priority_set, with_task as task_in}
-use Rattle.task_block.specs.TaskChain.{tasks_in}
-use Rattle.kernel_model.specs.ChangedStore.{IsChanged}
-use Rattle.kernel_model.specs.HoldsLists.{HoldsLists}
-use Rattle.kernel_model.specs.Lists.{Lists}
-use Rattle.kernel_model.specs.MovedTask.{with_moved_task}
-use Rattle.kernel_model.specs.Owned.{owned}
-use Rattle.kernel_model.specs.Task.{task_id}
-use Rattle.call_answers.specs.Refusals.{first_refusal}
-use Rattle.call_answers.specs.Guests.{GuestAt, guest_tests}
+use Rattle.word_store.specs.Count.{IsApart}
+use Rattle.block_calls.specs.KernelDispatch.LinkedList.Places.{has, without_first}
+use Rattle.block_calls.specs.KernelDispatch.OwnedWords.Owned.{owners}
+use Rattle.block_calls.specs.KernelDispatch.TaskBlock.Moves.{with_priority as priority_set, with_task as task_in}
+use Rattle.block_calls.specs.KernelDispatch.TaskBlock.TaskChain.{tasks_in}
+use Rattle.block_calls.specs.KernelDispatch.KernelModel.ChangedStore.{IsChanged}
+use Rattle.block_calls.specs.KernelDispatch.KernelModel.HoldsLists.{HoldsLists}
+use Rattle.block_calls.specs.KernelDispatch.KernelModel.Lists.{Lists}
+use Rattle.block_calls.specs.KernelDispatch.KernelModel.MovedTask.{with_moved_task}
+use Rattle.block_calls.specs.KernelDispatch.KernelModel.Owned.{owned}
+use Rattle.block_calls.specs.KernelDispatch.KernelModel.Task.{task_id}
+use Rattle.block_calls.specs.CallAnswers.Refusals.{first_refusal}
+use Rattle.block_calls.specs.CallAnswers.Guests.{GuestAt, guest_tests}
 use Rattle.task_calls.specs.ChangePri.{is_priority, is_taken, moved, priority_tests, with_new_priority}
-use Rattle.call_answers.proofs.GuestTask.{guest-facts}
+use Rattle.block_calls.proofs.Shown.CallAnswers.GuestTask.{guest-facts}
 use Rattle.task_calls.proofs.MovedWords.{in-chain, moved-changed, moved-owners}
 use Rattle.task_calls.proofs.Priorities.{moved-here, others-differ, untaken}
-use Rattle.call_answers.proofs.Refusals.{first_refusal-passed}
+use Rattle.block_calls.proofs.Shown.CallAnswers.Refusals.{first_refusal-passed}
 
 pub no_priority : (l : Lists) (id pri : ℕ) → is_priority pri ≡ false → first_refusal (priority_tests l id pri) ≡ Some 9
 no_priority l id pri e = ap (λ b. cond b (cond (not (is_taken l id pri)) None (Some 8)) (Some 9)) e

@@ -4,24 +4,24 @@ use Rattle.std.specs.Prelude.{find, is_some, unwrap_or}
 use Rattle.std.specs.List.{AllByRecursion, list_any, range_with_len}
 use Rattle.std.specs.Option.{ok_or}
 use Rattle.std.proofs.lemmas.Bool.{and_parts, eq-eqb, eqb-false, leb-true, ne_eqb}
-use Rattle.linked_list.specs.Places.{has}
-use Rattle.hunk_loader.specs.HeldModules.{module_address}
-use Rattle.hunk_loader.proofs.HeldModuleLists.{held-modules}
-use Rattle.task_block.specs.Lists.{modules_in}
-use Rattle.kernel_model.specs.ChangedStore.{Knows}
-use Rattle.kernel_model.specs.HoldsLists.{HoldsLists}
-use Rattle.kernel_model.specs.Lists.{Lists, has_task}
-use Rattle.kernel_model.specs.Task.{Task}
-use Rattle.kernel_model.specs.Versions.{highest_id_of}
-use Rattle.kernel_model.proofs.AllThings.{all-fail, all-from_both}
-use Rattle.kernel_model.proofs.EachMember.{all-each, find-passes}
-use Rattle.kernel_model.proofs.RootCounts.{highest-low}
-use Rattle.kernel_model.proofs.TaskPlaces.{TaskPlace, task-places}
-use Rattle.call_answers.specs.Made.{IsMade, Made, by_refusal, unless_refused}
-use Rattle.call_answers.specs.Refusals.{first_refusal}
-use Rattle.call_answers.proofs.FoundTask.{reads}
-use Rattle.call_answers.proofs.MadeCalls.{made-refused}
-use Rattle.call_answers.proofs.Refusals.{first_refusal-failed, first_refusal-passed}
+use Rattle.block_calls.specs.KernelDispatch.LinkedList.Places.{has}
+use Rattle.block_calls.specs.KernelDispatch.HunkLoader.HeldModules.{module_address}
+use Rattle.block_calls.proofs.Shown.KernelDispatch.HunkLoader.HeldModuleLists.{held-modules}
+use Rattle.block_calls.specs.KernelDispatch.TaskBlock.Lists.{modules_in}
+use Rattle.block_calls.specs.KernelDispatch.KernelModel.ChangedStore.{Knows}
+use Rattle.block_calls.specs.KernelDispatch.KernelModel.HoldsLists.{HoldsLists}
+use Rattle.block_calls.specs.KernelDispatch.KernelModel.Lists.{Lists, has_task}
+use Rattle.block_calls.specs.KernelDispatch.KernelModel.Task.{Task}
+use Rattle.block_calls.specs.KernelDispatch.KernelModel.Versions.{highest_id_of}
+use Rattle.block_calls.proofs.Shown.KernelDispatch.KernelModel.AllThings.{all-fail, all-from_both}
+use Rattle.block_calls.proofs.Shown.KernelDispatch.KernelModel.EachMember.{all-each, find-passes}
+use Rattle.block_calls.proofs.Shown.KernelDispatch.KernelModel.RootCounts.{highest-low}
+use Rattle.block_calls.proofs.Shown.KernelDispatch.KernelModel.TaskPlaces.{TaskPlace, task-places}
+use Rattle.block_calls.specs.CallAnswers.Made.{IsMade, Made, by_refusal, unless_refused}
+use Rattle.block_calls.specs.CallAnswers.Refusals.{first_refusal}
+use Rattle.block_calls.proofs.Shown.CallAnswers.FoundTask.{reads}
+use Rattle.block_calls.proofs.Shown.CallAnswers.MadeCalls.{made-refused}
+use Rattle.block_calls.proofs.Shown.CallAnswers.Refusals.{first_refusal-failed, first_refusal-passed}
 use Rattle.block_calls.specs.Getvec.{getvec_tests}
 use Rattle.task_calls.specs.ChangePri.{priority_tests}
 use Rattle.task_calls.specs.CreateTask.{MayCreate, create_task, creation_tests, free_id, has_high_globals, last_word_of, new_task, number_of, with_created}

@@ -2,28 +2,28 @@
 use Rattle.std.proofs.Common.{◌≡◌, ◌≢◌, ℕ, ◌+◌, ◌<◌, ◌≤◌, List, [], ◌∷◌, cond, eqb, get_or, length, map, not, ◌&&◌, Bool, true, false, Option, Some, None, inl, inr, refl, sym, ap, ◌∙◌, subst, arith}
 use Rattle.std.specs.List.{AllByRecursion, list_any}
 use Rattle.std.proofs.lemmas.Bool.{eq-eqb, ne_eqb}
-use Rattle.linked_list.specs.Count.{IsApart, times}
-use Rattle.linked_list.proofs.Counts.{hit-same, times-append}
-use Rattle.linked_list.proofs.MappedLists.{map-append}
-use Rattle.task_block.specs.HeldTasks.{address_with}
-use Rattle.task_block.proofs.HeldTaskBlocks.{address_with-here}
-use Rattle.packet_queue.specs.QueueWords.{HeldQueue, QueuedPacket}
-use Rattle.coroutines.specs.HeldCoroutines.{Coroutine, address_of}
-use Rattle.owned_words.specs.LinkedWords.{first_of}
-use Rattle.kernel_model.specs.Between.{is_empty_queue}
-use Rattle.kernel_model.specs.HoldsLists.{HoldsLists}
-use Rattle.kernel_model.specs.Lists.{Lists, address_of_task}
-use Rattle.kernel_model.specs.Task.{Task, queue_head, state_word, task_address, task_id, task_words}
-use Rattle.kernel_model.specs.ValidTasks.{IsCoroutine, IsField}
-use Rattle.kernel_model.proofs.AllThings.{all-here}
-use Rattle.kernel_model.proofs.EachMember.{all-each, holds-each}
-use Rattle.kernel_model.proofs.ReadCoroutines.{HoldsTask, holds-task}
-use Rattle.kernel_model.proofs.TaskKind.{are_tasks}
-use Rattle.call_answers.specs.Guests.{GuestAt}
-use Rattle.call_answers.specs.Refusals.{first_refusal}
-use Rattle.call_answers.proofs.FoundTask.{any-one, reads}
-use Rattle.call_answers.proofs.GuestTask.{GuestFacts, guest-facts}
-use Rattle.call_answers.specs.Tasks.{is_dead}
+use Rattle.word_store.specs.Count.{IsApart, times}
+use Rattle.word_store.proofs.Counts.{hit-same, times-append}
+use Rattle.block_calls.proofs.Shown.KernelDispatch.LinkedList.MappedLists.{map-append}
+use Rattle.block_calls.specs.KernelDispatch.TaskBlock.HeldTasks.{address_with}
+use Rattle.block_calls.proofs.Shown.KernelDispatch.TaskBlock.HeldTaskBlocks.{address_with-here}
+use Rattle.block_calls.specs.KernelDispatch.PacketQueue.QueueWords.{HeldQueue, QueuedPacket}
+use Rattle.block_calls.specs.KernelDispatch.Coroutines.HeldCoroutines.{Coroutine, address_of}
+use Rattle.block_calls.specs.KernelDispatch.OwnedWords.LinkedWords.{first_of}
+use Rattle.block_calls.specs.KernelDispatch.KernelModel.Between.{is_empty_queue}
+use Rattle.block_calls.specs.KernelDispatch.KernelModel.HoldsLists.{HoldsLists}
+use Rattle.block_calls.specs.KernelDispatch.KernelModel.Lists.{Lists, address_of_task}
+use Rattle.block_calls.specs.KernelDispatch.KernelModel.Task.{Task, queue_head, state_word, task_address, task_id, task_words}
+use Rattle.block_calls.specs.KernelDispatch.KernelModel.ValidTasks.{IsCoroutine, IsField}
+use Rattle.block_calls.proofs.Shown.KernelDispatch.KernelModel.AllThings.{all-here}
+use Rattle.block_calls.proofs.Shown.KernelDispatch.KernelModel.EachMember.{all-each, holds-each}
+use Rattle.block_calls.proofs.Shown.KernelDispatch.KernelModel.ReadCoroutines.{HoldsTask, holds-task}
+use Rattle.block_calls.proofs.Shown.KernelDispatch.KernelModel.TaskKind.{are_tasks}
+use Rattle.block_calls.specs.CallAnswers.Guests.{GuestAt}
+use Rattle.block_calls.specs.CallAnswers.Refusals.{first_refusal}
+use Rattle.block_calls.proofs.Shown.CallAnswers.FoundTask.{any-one, reads}
+use Rattle.block_calls.proofs.Shown.CallAnswers.GuestTask.{GuestFacts, guest-facts}
+use Rattle.block_calls.specs.CallAnswers.Tasks.{is_dead}
 use Rattle.block_calls.specs.Freevec.{has_packet_in}
 use Rattle.task_calls.specs.DeleteTask.{HasEnded, RunsAlive, deletion_tests, end_tests, has_no_coroutines, has_no_work, has_packet_out}
 use Rattle.task_calls.proofs.TestsInTurn.{all-passed}

@@ -4,61 +4,61 @@ use Rattle.std.specs.List.{AllByRecursion, flat_map, list_any, range_with_len}
 use Rattle.std.specs.Prelude.{IsSome, IsTrue}
 use Rattle.std.proofs.lemmas.Bool.{cases_lt, eq-eqb, eqb-true, false≢true, ne_eqb, or_parts}
 use Rattle.std.proofs.lemmas.List.Folds.{list_any-append}
-use Rattle.linked_list.specs.Count.{IsApart, times}
-use Rattle.linked_list.specs.Places.{has, without_first}
-use Rattle.linked_list.proofs.AllMembers.{all-front}
-use Rattle.linked_list.proofs.Counts.{hit-same, times-above, times-append, times-within}
-use Rattle.linked_list.proofs.MappedLists.{map-append}
-use Rattle.linked_list.proofs.Members.{has-here, has-there}
-use Rattle.owned_words.specs.Exchange.{Exchange}
-use Rattle.owned_words.specs.LinkedWords.{first_of}
-use Rattle.owned_words.specs.Owned.{Pairs, owners}
-use Rattle.getvec_chain.specs.declared.pieces.Block.{Block}
-use Rattle.getvec_chain.specs.Block.{block_end, is_used_at, used_block}
-use Rattle.getvec_chain.specs.Give.{given, given_store}
-use Rattle.getvec_chain.specs.Run.{need}
-use Rattle.getvec_chain.specs.Tiling.{IsTiled, blocks_in, holding, used_at}
-use Rattle.packet_queue.specs.QueueWords.{QueuedPacket}
-use Rattle.task_block.specs.ChainWords.{UnlinkExchange, absent_words, listed_words, present_words}
-use Rattle.task_block.specs.HeldTasks.{HeldTasks, address_with}
-use Rattle.task_block.specs.Moves.{without_task as task_out}
-use Rattle.task_block.specs.TaskChain.{tasks_in}
-use Rattle.task_block.specs.Versions.{head_words}
-use Rattle.task_block.proofs.ChainExchanges.{unlink-exchange}
-use Rattle.kernel_model.specs.Between.{is_empty_queue}
-use Rattle.kernel_model.specs.BlockUse.{use_of_data}
-use Rattle.kernel_model.specs.BlockUse.Use.{User}
-use Rattle.kernel_model.specs.ChangedStore.{IsChanged, Knows}
-use Rattle.kernel_model.specs.Changes.{AreUnowned, HasNoPacketsOut, IsIdleBlock, with_blocks, with_tasks}
-use Rattle.kernel_model.specs.HoldsLists.{HoldsLists}
-use Rattle.kernel_model.specs.Lists.{Lists, address_of_task, queued}
-use Rattle.kernel_model.specs.Owned.{owned}
-use Rattle.kernel_model.specs.Task.{Task, task_address, task_id, task_words}
-use Rattle.kernel_model.specs.ValidBlocks.{HasBlock}
-use Rattle.kernel_model.specs.ValidLists.{AreValid}
-use Rattle.kernel_model.specs.ValidTasks.{runs}
-use Rattle.kernel_model.specs.Versions.{head_words_of, highest_id_of}
-use Rattle.kernel_model.proofs.AllThings.{all-fail, all-here}
-use Rattle.kernel_model.proofs.ChainMoves.{gone_task-valid}
-use Rattle.kernel_model.proofs.ChangedLists.{changed-then, exchange-owned, knows-same}
-use Rattle.kernel_model.proofs.FollowedBlocks.{found-holding, found-within}
-use Rattle.kernel_model.proofs.OwnedParts.{holds-parts}
-use Rattle.kernel_model.proofs.OwnerCounts.{owners-task_between}
-use Rattle.kernel_model.proofs.RootCounts.{RootWords, head-low, root-held}
-use Rattle.kernel_model.proofs.TaskCounts.{owners-new_task}
-use Rattle.kernel_model.proofs.TaskKind.{are_tasks}
-use Rattle.kernel_model.proofs.UnownedBlocks.{unowned-user}
-use Rattle.word_kinds.specs.Keeper.{AreTogether}
-use Rattle.word_kinds.proofs.KnownWords.{knows-released}
-use Rattle.call_answers.specs.Made.{IsMade, done, minus_one}
-use Rattle.call_answers.specs.Refusals.{first_refusal}
-use Rattle.call_answers.proofs.Refusals.{low-resident}
-use Rattle.call_answers.proofs.FoundTask.{any-one, reads}
-use Rattle.call_answers.proofs.GuestTask.{GuestFacts, guest-facts}
-use Rattle.call_answers.specs.Tasks.{is_dead}
+use Rattle.word_store.specs.Count.{IsApart, times}
+use Rattle.block_calls.specs.KernelDispatch.LinkedList.Places.{has, without_first}
+use Rattle.block_calls.proofs.Shown.KernelDispatch.LinkedList.AllMembers.{all-front}
+use Rattle.word_store.proofs.Counts.{hit-same, times-above, times-append, times-within}
+use Rattle.block_calls.proofs.Shown.KernelDispatch.LinkedList.MappedLists.{map-append}
+use Rattle.block_calls.proofs.Shown.KernelDispatch.LinkedList.Members.{has-here, has-there}
+use Rattle.block_calls.specs.KernelDispatch.OwnedWords.Exchange.{Exchange}
+use Rattle.block_calls.specs.KernelDispatch.OwnedWords.LinkedWords.{first_of}
+use Rattle.block_calls.specs.KernelDispatch.OwnedWords.Owned.{Pairs, owners}
+use Rattle.block_calls.specs.KernelDispatch.GetvecChain.declared.pieces.Block.{Block}
+use Rattle.block_calls.specs.KernelDispatch.GetvecChain.Block.{block_end, is_used_at, used_block}
+use Rattle.block_calls.specs.KernelDispatch.GetvecChain.Give.{given, given_store}
+use Rattle.block_calls.specs.KernelDispatch.GetvecChain.Run.{need}
+use Rattle.block_calls.specs.KernelDispatch.GetvecChain.Tiling.{IsTiled, blocks_in, holding, used_at}
+use Rattle.block_calls.specs.KernelDispatch.PacketQueue.QueueWords.{QueuedPacket}
+use Rattle.block_calls.specs.KernelDispatch.TaskBlock.ChainWords.{UnlinkExchange, absent_words, listed_words, present_words}
+use Rattle.block_calls.specs.KernelDispatch.TaskBlock.HeldTasks.{HeldTasks, address_with}
+use Rattle.block_calls.specs.KernelDispatch.TaskBlock.Moves.{without_task as task_out}
+use Rattle.block_calls.specs.KernelDispatch.TaskBlock.TaskChain.{tasks_in}
+use Rattle.block_calls.specs.KernelDispatch.TaskBlock.Versions.{head_words}
+use Rattle.block_calls.proofs.Shown.KernelDispatch.TaskBlock.ChainExchanges.{unlink-exchange}
+use Rattle.block_calls.specs.KernelDispatch.KernelModel.Between.{is_empty_queue}
+use Rattle.block_calls.specs.KernelDispatch.KernelModel.BlockUse.{use_of_data}
+use Rattle.block_calls.specs.KernelDispatch.KernelModel.BlockUse.Use.{User}
+use Rattle.block_calls.specs.KernelDispatch.KernelModel.ChangedStore.{IsChanged, Knows}
+use Rattle.block_calls.specs.KernelDispatch.KernelModel.Changes.{AreUnowned, HasNoPacketsOut, IsIdleBlock, with_blocks, with_tasks}
+use Rattle.block_calls.specs.KernelDispatch.KernelModel.HoldsLists.{HoldsLists}
+use Rattle.block_calls.specs.KernelDispatch.KernelModel.Lists.{Lists, address_of_task, queued}
+use Rattle.block_calls.specs.KernelDispatch.KernelModel.Owned.{owned}
+use Rattle.block_calls.specs.KernelDispatch.KernelModel.Task.{Task, task_address, task_id, task_words}
+use Rattle.block_calls.specs.KernelDispatch.KernelModel.ValidBlocks.{HasBlock}
+use Rattle.block_calls.specs.KernelDispatch.KernelModel.ValidLists.{AreValid}
+use Rattle.block_calls.specs.KernelDispatch.KernelModel.ValidTasks.{runs}
+use Rattle.block_calls.specs.KernelDispatch.KernelModel.Versions.{head_words_of, highest_id_of}
+use Rattle.block_calls.proofs.Shown.KernelDispatch.KernelModel.AllThings.{all-fail, all-here}
+use Rattle.block_calls.proofs.Shown.KernelDispatch.KernelModel.ChainMoves.{gone_task-valid}
+use Rattle.block_calls.proofs.Shown.KernelDispatch.KernelModel.ChangedLists.{changed-then, exchange-owned, knows-same}
+use Rattle.block_calls.proofs.Shown.KernelDispatch.KernelModel.FollowedBlocks.{found-holding, found-within}
+use Rattle.block_calls.proofs.Shown.KernelDispatch.KernelModel.OwnedParts.{holds-parts}
+use Rattle.block_calls.proofs.Shown.KernelDispatch.KernelModel.OwnerCounts.{owners-task_between}
+use Rattle.block_calls.proofs.Shown.KernelDispatch.KernelModel.RootCounts.{RootWords, head-low, root-held}
+use Rattle.block_calls.proofs.Shown.KernelDispatch.KernelModel.TaskCounts.{owners-new_task}
+use Rattle.block_calls.proofs.Shown.KernelDispatch.KernelModel.TaskKind.{are_tasks}
+use Rattle.block_calls.proofs.Shown.KernelDispatch.KernelModel.UnownedBlocks.{unowned-user}
+use Rattle.block_calls.specs.KernelDispatch.WordKinds.Keeper.{AreTogether}
+use Rattle.block_calls.proofs.Shown.KernelDispatch.WordKinds.KnownWords.{knows-released}
+use Rattle.block_calls.specs.CallAnswers.Made.{IsMade, done, minus_one}
+use Rattle.block_calls.specs.CallAnswers.Refusals.{first_refusal}
+use Rattle.block_calls.proofs.Shown.CallAnswers.Refusals.{low-resident}
+use Rattle.block_calls.proofs.Shown.CallAnswers.FoundTask.{any-one, reads}
+use Rattle.block_calls.proofs.Shown.CallAnswers.GuestTask.{GuestFacts, guest-facts}
+use Rattle.block_calls.specs.CallAnswers.Tasks.{is_dead}
 use Rattle.block_calls.specs.Freevec.{has_packet_in, holds_packet, lies_in, with_given}
 use Rattle.block_calls.proofs.IdleBlocks.{idle-unowned, none-idle, unowned-empty}
-use Rattle.word_kinds.proofs.OwnedMarks.{size-low}
+use Rattle.block_calls.proofs.Shown.KernelDispatch.WordKinds.OwnedMarks.{size-low}
 use Rattle.block_calls.proofs.TakenStore.{given-changed, given-owners}
 use Rattle.task_calls.specs.DeleteTask.{HasEnded, end_tests, has_no_coroutines, has_no_work, has_packet_out, resident_packets, without_task}
 use Rattle.task_calls.proofs.AroundChain.{address_with-out, around, around-count, around-exchange, listed, owned-around, owned-chain}

@@ -2,19 +2,19 @@
 use Rattle.std.proofs.Common.{◌≡◌, ◌∙◌, ap, bit_and, eqb, map, Ok, ℕ, ◌+◌, List, [], ◌∷◌, get_or, set, refl, sym, subst}
 use Rattle.std.specs.Prelude.{find}
 use Rattle.std.specs.Option.{option_map_or}
-use Rattle.linked_list.specs.Count.{IsApart}
-use Rattle.owned_words.specs.Exchange.{Exchange}
-use Rattle.owned_words.specs.LinkedWords.{first_of}
-use Rattle.owned_words.proofs.Exchanges.{exchange-left, exchange-right, exchange-row}
-use Rattle.kernel_model.specs.ChangedStore.{IsChanged}
-use Rattle.kernel_model.specs.Changes.{with_task}
-use Rattle.kernel_model.specs.HoldsLists.{HoldsLists}
-use Rattle.kernel_model.specs.Lists.{Lists}
-use Rattle.kernel_model.specs.Task.{Task, globals_of, name_words, stack_of, state_word, state_words, task_id, task_words}
-use Rattle.call_answers.specs.Guests.{GuestAt}
-use Rattle.kernel_model.proofs.AlteredTask.{IsTask-altered}
-use Rattle.call_answers.proofs.GuestTask.{GuestFacts, guest-facts}
-use Rattle.call_answers.proofs.FoundTask.{find-numbered}
+use Rattle.word_store.specs.Count.{IsApart}
+use Rattle.block_calls.specs.KernelDispatch.OwnedWords.Exchange.{Exchange}
+use Rattle.block_calls.specs.KernelDispatch.OwnedWords.LinkedWords.{first_of}
+use Rattle.block_calls.proofs.Shown.KernelDispatch.OwnedWords.Exchanges.{exchange-left, exchange-right, exchange-row}
+use Rattle.block_calls.specs.KernelDispatch.KernelModel.ChangedStore.{IsChanged}
+use Rattle.block_calls.specs.KernelDispatch.KernelModel.Changes.{with_task}
+use Rattle.block_calls.specs.KernelDispatch.KernelModel.HoldsLists.{HoldsLists}
+use Rattle.block_calls.specs.KernelDispatch.KernelModel.Lists.{Lists}
+use Rattle.block_calls.specs.KernelDispatch.KernelModel.Task.{Task, globals_of, name_words, stack_of, state_word, state_words, task_id, task_words}
+use Rattle.block_calls.specs.CallAnswers.Guests.{GuestAt}
+use Rattle.block_calls.proofs.Shown.KernelDispatch.KernelModel.AlteredTask.{IsTask-altered}
+use Rattle.block_calls.proofs.Shown.CallAnswers.GuestTask.{GuestFacts, guest-facts}
+use Rattle.block_calls.proofs.Shown.CallAnswers.FoundTask.{find-numbered}
 use Rattle.task_calls.proofs.Held.{behind_state}
 use Rattle.task_calls.specs.TestFlags.{test_flags}
 use Rattle.task_calls.proofs.OneWord.{word-changed}

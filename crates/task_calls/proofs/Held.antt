@@ -1,27 +1,27 @@
 -- What holding and releasing leave.
 use Rattle.std.proofs.Common.{◌≡◌, ℕ, ◌+◌, ◌-◌, ◌/◌, ◌%◌, List, [], ◌∷◌, ◌++◌, get_or, set, cond, eqb, map, not, ◌&&◌, Bool, true, false, Some, None, refl, sym, ap, ◌∙◌, subst, arith}
 use Rattle.std.specs.List.{list_any}
-use Rattle.linked_list.specs.Count.{IsApart}
-use Rattle.owned_words.specs.Exchange.{Exchange}
-use Rattle.owned_words.specs.LinkedWords.{first_of}
-use Rattle.owned_words.specs.Owned.{Pairs}
-use Rattle.owned_words.proofs.Exchanges.{exchange-left, exchange-right, exchange-row}
-use Rattle.packet_queue.specs.QueueWords.{queue_words}
-use Rattle.coroutines.specs.CoroutineExchanges.{words_of_coroutines}
-use Rattle.kernel_model.specs.ChangedStore.{IsChanged}
-use Rattle.kernel_model.specs.Changes.{with_task}
-use Rattle.kernel_model.specs.HoldsLists.{HoldsLists}
-use Rattle.kernel_model.specs.Lists.{Lists}
-use Rattle.kernel_model.specs.Task.{Task, fault_words, globals_of, name_words, queue_bit, queue_head, stack_of, state_word, state_words, task_id, task_words}
-use Rattle.call_answers.specs.Guests.{GuestAt, guest_tests}
-use Rattle.call_answers.specs.Refusals.{first_refusal}
+use Rattle.word_store.specs.Count.{IsApart}
+use Rattle.block_calls.specs.KernelDispatch.OwnedWords.Exchange.{Exchange}
+use Rattle.block_calls.specs.KernelDispatch.OwnedWords.LinkedWords.{first_of}
+use Rattle.block_calls.specs.KernelDispatch.OwnedWords.Owned.{Pairs}
+use Rattle.block_calls.proofs.Shown.KernelDispatch.OwnedWords.Exchanges.{exchange-left, exchange-right, exchange-row}
+use Rattle.block_calls.specs.KernelDispatch.PacketQueue.QueueWords.{queue_words}
+use Rattle.block_calls.specs.KernelDispatch.Coroutines.CoroutineExchanges.{words_of_coroutines}
+use Rattle.block_calls.specs.KernelDispatch.KernelModel.ChangedStore.{IsChanged}
+use Rattle.block_calls.specs.KernelDispatch.KernelModel.Changes.{with_task}
+use Rattle.block_calls.specs.KernelDispatch.KernelModel.HoldsLists.{HoldsLists}
+use Rattle.block_calls.specs.KernelDispatch.KernelModel.Lists.{Lists}
+use Rattle.block_calls.specs.KernelDispatch.KernelModel.Task.{Task, fault_words, globals_of, name_words, queue_bit, queue_head, stack_of, state_word, state_words, task_id, task_words}
+use Rattle.block_calls.specs.CallAnswers.Guests.{GuestAt, guest_tests}
+use Rattle.block_calls.specs.CallAnswers.Refusals.{first_refusal}
 use Rattle.task_calls.specs.HoldTask.{held, hold_tests}
 use Rattle.task_calls.specs.OneTask.{is_held}
 use Rattle.task_calls.specs.ReleaseTask.{release_tests, released}
-use Rattle.kernel_model.proofs.AlteredTask.{IsTask-altered}
-use Rattle.call_answers.proofs.FoundTask.{any-one}
-use Rattle.call_answers.proofs.GuestTask.{GuestFacts, guest-facts}
-use Rattle.call_answers.proofs.Refusals.{first_refusal-passed}
+use Rattle.block_calls.proofs.Shown.KernelDispatch.KernelModel.AlteredTask.{IsTask-altered}
+use Rattle.block_calls.proofs.Shown.CallAnswers.FoundTask.{any-one}
+use Rattle.block_calls.proofs.Shown.CallAnswers.GuestTask.{GuestFacts, guest-facts}
+use Rattle.block_calls.proofs.Shown.CallAnswers.Refusals.{first_refusal-passed}
 use Rattle.task_calls.proofs.OneWord.{word-changed}
 
 -- the words of a task behind those of its state

@@ -2,38 +2,38 @@
 use Rattle.std.proofs.Common.{◌≡◌, ◌≢◌, ℕ, ◌+◌, ◌<◌, ◌≤◌, List, [], ◌∷◌, ◌++◌, length, map, cond, eqb, true, false, Option, Some, None, inl, inr, refl, sym, ap, ◌∙◌, subst, arith}
 use Rattle.std.specs.List.{range_with_len}
 use Rattle.std.proofs.lemmas.Bool.{cases_lt, eq-eqb, false≢true, ne_eqb}
-use Rattle.linked_list.specs.Count.{node_words, times, words_of}
-use Rattle.linked_list.proofs.Counts.{range-apart, range-high, range-low, times-append}
-use Rattle.linked_list.proofs.MappedLists.{map-append}
-use Rattle.owned_words.specs.Exchange.{Exchange}
-use Rattle.owned_words.specs.LinkedWords.{first_of, linked_words}
-use Rattle.owned_words.specs.Owned.{Holds, Pairs, owners}
-use Rattle.owned_words.specs.Written.{IsWritten}
-use Rattle.owned_words.proofs.HeldLists.{held-count}
-use Rattle.owned_words.proofs.OwnedWords.{length-written}
-use Rattle.owned_words.proofs.WrittenWords.{writes-hold}
-use Rattle.task_block.specs.ChainWords.{InsertExchange, absent_words, listed_words, present_words}
-use Rattle.task_block.specs.HeldTasks.{address_with}
-use Rattle.task_block.specs.Moves.{with_task as task_in}
-use Rattle.task_block.specs.TaskChain.{HasTasks, IsNewTask, id_in, root_words as table_words, task_link, task_size, task_with, tasks_in}
-use Rattle.task_block.proofs.ChainExchanges.{insert-exchange}
-use Rattle.kernel_model.specs.ChangedStore.{IsChanged}
-use Rattle.kernel_model.specs.Changes.{AreUnowned, with_new_task, with_tasks}
-use Rattle.kernel_model.specs.HoldsLists.{HoldsLists}
-use Rattle.kernel_model.specs.Lists.{Lists, address_of_task, has_task}
-use Rattle.kernel_model.specs.Owned.{owned}
-use Rattle.kernel_model.specs.ReadsLists.{ReadsLists}
-use Rattle.kernel_model.specs.Task.{Task, is_guest_id, other_words, task_address, task_id, task_priority, task_words}
-use Rattle.kernel_model.specs.ValidLists.{AreValid}
-use Rattle.kernel_model.specs.Versions.{head_words_of, highest_id_of}
-use Rattle.kernel_model.proofs.AllThings.{any-here}
-use Rattle.kernel_model.proofs.ChainRules.{none-times_id}
-use Rattle.kernel_model.proofs.OwnedParts.{holds-parts}
-use Rattle.kernel_model.proofs.OwnerCounts.{owners-task_between}
-use Rattle.kernel_model.proofs.RootCounts.{RootWords, head-low, owners-nodes, root-held}
-use Rattle.kernel_model.proofs.TaskCounts.{owners-new_task}
-use Rattle.kernel_model.proofs.TaskKind.{are_tasks}
-use Rattle.call_answers.proofs.FoundTask.{Finds, find-task, reads}
+use Rattle.word_store.specs.Count.{node_words, times, words_of}
+use Rattle.word_store.proofs.Counts.{range-apart, range-high, range-low, times-append}
+use Rattle.block_calls.proofs.Shown.KernelDispatch.LinkedList.MappedLists.{map-append}
+use Rattle.block_calls.specs.KernelDispatch.OwnedWords.Exchange.{Exchange}
+use Rattle.block_calls.specs.KernelDispatch.OwnedWords.LinkedWords.{first_of, linked_words}
+use Rattle.block_calls.specs.KernelDispatch.OwnedWords.Owned.{Holds, Pairs, owners}
+use Rattle.block_calls.specs.KernelDispatch.OwnedWords.Written.{IsWritten}
+use Rattle.block_calls.proofs.Shown.KernelDispatch.OwnedWords.HeldLists.{held-count}
+use Rattle.block_calls.proofs.Shown.KernelDispatch.OwnedWords.OwnedWords.{length-written}
+use Rattle.block_calls.proofs.Shown.KernelDispatch.OwnedWords.WrittenWords.{writes-hold}
+use Rattle.block_calls.specs.KernelDispatch.TaskBlock.ChainWords.{InsertExchange, absent_words, listed_words, present_words}
+use Rattle.block_calls.specs.KernelDispatch.TaskBlock.HeldTasks.{address_with}
+use Rattle.block_calls.specs.KernelDispatch.TaskBlock.Moves.{with_task as task_in}
+use Rattle.block_calls.specs.KernelDispatch.TaskBlock.TaskChain.{HasTasks, IsNewTask, id_in, root_words as table_words, task_link, task_size, task_with, tasks_in}
+use Rattle.block_calls.proofs.Shown.KernelDispatch.TaskBlock.ChainExchanges.{insert-exchange}
+use Rattle.block_calls.specs.KernelDispatch.KernelModel.ChangedStore.{IsChanged}
+use Rattle.block_calls.specs.KernelDispatch.KernelModel.Changes.{AreUnowned, with_new_task, with_tasks}
+use Rattle.block_calls.specs.KernelDispatch.KernelModel.HoldsLists.{HoldsLists}
+use Rattle.block_calls.specs.KernelDispatch.KernelModel.Lists.{Lists, address_of_task, has_task}
+use Rattle.block_calls.specs.KernelDispatch.KernelModel.Owned.{owned}
+use Rattle.block_calls.specs.KernelDispatch.KernelModel.ReadsLists.{ReadsLists}
+use Rattle.block_calls.specs.KernelDispatch.KernelModel.Task.{Task, is_guest_id, other_words, task_address, task_id, task_priority, task_words}
+use Rattle.block_calls.specs.KernelDispatch.KernelModel.ValidLists.{AreValid}
+use Rattle.block_calls.specs.KernelDispatch.KernelModel.Versions.{head_words_of, highest_id_of}
+use Rattle.block_calls.proofs.Shown.KernelDispatch.KernelModel.AllThings.{any-here}
+use Rattle.block_calls.proofs.Shown.KernelDispatch.KernelModel.ChainRules.{none-times_id}
+use Rattle.block_calls.proofs.Shown.KernelDispatch.KernelModel.OwnedParts.{holds-parts}
+use Rattle.block_calls.proofs.Shown.KernelDispatch.KernelModel.OwnerCounts.{owners-task_between}
+use Rattle.block_calls.proofs.Shown.KernelDispatch.KernelModel.RootCounts.{RootWords, head-low, owners-nodes, root-held}
+use Rattle.block_calls.proofs.Shown.KernelDispatch.KernelModel.TaskCounts.{owners-new_task}
+use Rattle.block_calls.proofs.Shown.KernelDispatch.KernelModel.TaskKind.{are_tasks}
+use Rattle.block_calls.proofs.Shown.CallAnswers.FoundTask.{Finds, find-task, reads}
 use Rattle.task_calls.proofs.AroundChain.{address_with-out, around, around-count, around-exchange, listed, owned-around, owned-chain}
 
 -- what is asked of the store and of the task

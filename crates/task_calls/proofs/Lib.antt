@@ -21,3 +21,4 @@ pub mod CreationTests
 pub mod EndedTask
 pub mod SentPackets
 pub mod EndTests
+pub mod Shown

@@ -3,21 +3,21 @@ use Rattle.std.proofs.Common.{◌≡◌, ℕ, ◌+◌, ◌<◌, ◌≤◌, List,
 use Rattle.std.specs.Prelude.{slice_range, sum}
 use Rattle.std.specs.List.{AllByRecursion, flat_map}
 use Rattle.std.proofs.lemmas.List.Sums.{sum_by-cons}
-use Rattle.linked_list.specs.Places.{has}
-use Rattle.linked_list.proofs.AllMembers.{all-append}
+use Rattle.block_calls.specs.KernelDispatch.LinkedList.Places.{has}
+use Rattle.block_calls.proofs.Shown.KernelDispatch.LinkedList.AllMembers.{all-append}
 use Rattle.word_store.proofs.Rows.{range_same}
-use Rattle.task_block.specs.Lists.{modules_in}
-use Rattle.hunk_loader.specs.Globals.{Global, globals_in, globals_of_hunk, with_globals}
-use Rattle.hunk_loader.specs.GlobalWords.{AreClear}
-use Rattle.hunk_loader.specs.ModuleHunks.{hunk_count, hunks_at, lengths_in, module_end, placed}
-use Rattle.hunk_loader.specs.Modules.{HasModules}
-use Rattle.hunk_loader.proofs.GlobalLists.{AreGlobals, hunk-are, length-with_globals, with_globals-append, with_globals-other}
-use Rattle.hunk_loader.proofs.HeldModuleLists.{held-modules}
-use Rattle.hunk_loader.proofs.HunkWalk.{module_inside}
-use Rattle.kernel_model.specs.Changes.{AreUnowned}
-use Rattle.kernel_model.specs.HoldsLists.{HoldsLists}
-use Rattle.kernel_model.specs.Lists.{Lists}
-use Rattle.call_answers.proofs.FoundTask.{reads}
+use Rattle.block_calls.specs.KernelDispatch.TaskBlock.Lists.{modules_in}
+use Rattle.block_calls.specs.KernelDispatch.HunkLoader.Globals.{Global, globals_in, globals_of_hunk, with_globals}
+use Rattle.block_calls.specs.KernelDispatch.HunkLoader.GlobalWords.{AreClear}
+use Rattle.block_calls.specs.KernelDispatch.HunkLoader.ModuleHunks.{hunk_count, hunks_at, lengths_in, module_end, placed}
+use Rattle.block_calls.specs.KernelDispatch.HunkLoader.Modules.{HasModules}
+use Rattle.block_calls.proofs.Shown.KernelDispatch.HunkLoader.GlobalLists.{AreGlobals, hunk-are, length-with_globals, with_globals-append, with_globals-other}
+use Rattle.block_calls.proofs.Shown.KernelDispatch.HunkLoader.HeldModuleLists.{held-modules}
+use Rattle.block_calls.proofs.Shown.KernelDispatch.HunkLoader.HunkWalk.{module_inside}
+use Rattle.block_calls.specs.KernelDispatch.KernelModel.Changes.{AreUnowned}
+use Rattle.block_calls.specs.KernelDispatch.KernelModel.HoldsLists.{HoldsLists}
+use Rattle.block_calls.specs.KernelDispatch.KernelModel.Lists.{Lists}
+use Rattle.block_calls.proofs.Shown.CallAnswers.FoundTask.{reads}
 use Rattle.task_calls.specs.NewTasks.{MaySetGlobals}
 use Rattle.task_calls.proofs.PlainRows.{plain-set}
 

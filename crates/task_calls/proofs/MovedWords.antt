@@ -2,46 +2,46 @@
 use Rattle.std.proofs.Common.{◌≡◌, ◌≢◌, ℕ, ◌+◌, ◌<◌, ◌≤◌, List, [], ◌∷◌, ◌++◌, length, get_or, set, map, cond, eqb, true, refl, sym, ap, ◌∙◌, subst, arith, inl, inr}
 use Rattle.std.specs.List.{AllByRecursion}
 use Rattle.std.proofs.lemmas.Bool.{cases_eq, eq-eqb, or_left, or_right}
-use Rattle.linked_list.specs.Count.{times}
-use Rattle.linked_list.specs.Places.{has}
-use Rattle.linked_list.proofs.Counts.{hit-other, hit-same, times-append}
-use Rattle.linked_list.proofs.MappedLists.{map-append}
-use Rattle.owned_words.specs.Exchange.{Exchange}
-use Rattle.owned_words.specs.LinkedWords.{first_of, headed_words, linked_words}
-use Rattle.owned_words.specs.Owned.{Holds, Pairs, owners, written}
-use Rattle.owned_words.specs.Written.{IsWritten}
-use Rattle.owned_words.proofs.Exchanges.{exchange-left, exchange-right, exchange-row}
-use Rattle.owned_words.proofs.OwnedWords.{Holds-left, Holds-right, Holds-same, length-written, written-other}
-use Rattle.owned_words.proofs.WrittenWords.{ordered-hold, writes-hold}
-use Rattle.getvec_chain.specs.BlockWords.{blocks_words}
-use Rattle.hunk_loader.specs.ModuleExchanges.{modules_words}
-use Rattle.task_block.specs.ChainWords.{InsertExchange, UnlinkExchange, absent_words, entries, listed_words, present_words}
-use Rattle.task_block.specs.HeldTasks.{HeldTasks, address_with}
-use Rattle.task_block.specs.Moves.{HasNewPriority, with_priority as priority_set, with_task as task_in, without_task}
-use Rattle.task_block.specs.RootWords.{first_task}
-use Rattle.task_block.specs.TaskChain.{tasks_in}
-use Rattle.task_block.proofs.ChainExchanges.{insert-exchange, unlink-exchange}
-use Rattle.task_block.proofs.NewTask.{new-priority}
-use Rattle.kernel_model.specs.ChangedStore.{IsChanged}
-use Rattle.kernel_model.specs.Changes.{with_tasks}
-use Rattle.kernel_model.specs.HoldsLists.{HoldsLists}
-use Rattle.kernel_model.specs.Lists.{Lists, address_of_task}
-use Rattle.kernel_model.specs.MovedTask.{with_moved_task, with_priority}
-use Rattle.kernel_model.specs.Owned.{device_words, owned}
-use Rattle.kernel_model.specs.Residents.{resident_words}
-use Rattle.kernel_model.specs.Root.{root_words}
-use Rattle.kernel_model.specs.Task.{Task, is_guest_id, name_words, other_words, state_words, task_address, task_id, task_priority, task_words}
-use Rattle.kernel_model.specs.ValidLists.{AreValid}
-use Rattle.kernel_model.specs.Versions.{highest_id_of}
-use Rattle.kernel_model.proofs.AllThings.{all-beside}
-use Rattle.kernel_model.proofs.ChainRules.{times-id}
-use Rattle.kernel_model.proofs.MovedTask.{moved_task-valid}
-use Rattle.kernel_model.proofs.OwnedParts.{holds-parts}
-use Rattle.kernel_model.proofs.OwnerCounts.{owners-linked_between, owners-task_between}
-use Rattle.kernel_model.proofs.RootCounts.{Holds-entry, RootWords, highest-high, root-held}
-use Rattle.kernel_model.proofs.TaskKind.{are_tasks}
+use Rattle.word_store.specs.Count.{times}
+use Rattle.block_calls.specs.KernelDispatch.LinkedList.Places.{has}
+use Rattle.word_store.proofs.Counts.{hit-other, hit-same, times-append}
+use Rattle.block_calls.proofs.Shown.KernelDispatch.LinkedList.MappedLists.{map-append}
+use Rattle.block_calls.specs.KernelDispatch.OwnedWords.Exchange.{Exchange}
+use Rattle.block_calls.specs.KernelDispatch.OwnedWords.LinkedWords.{first_of, headed_words, linked_words}
+use Rattle.block_calls.specs.KernelDispatch.OwnedWords.Owned.{Holds, Pairs, owners, written}
+use Rattle.block_calls.specs.KernelDispatch.OwnedWords.Written.{IsWritten}
+use Rattle.block_calls.proofs.Shown.KernelDispatch.OwnedWords.Exchanges.{exchange-left, exchange-right, exchange-row}
+use Rattle.block_calls.proofs.Shown.KernelDispatch.OwnedWords.OwnedWords.{Holds-left, Holds-right, Holds-same, length-written, written-other}
+use Rattle.block_calls.proofs.Shown.KernelDispatch.OwnedWords.WrittenWords.{ordered-hold, writes-hold}
+use Rattle.block_calls.specs.KernelDispatch.GetvecChain.BlockWords.{blocks_words}
+use Rattle.block_calls.specs.KernelDispatch.HunkLoader.ModuleExchanges.{modules_words}
+use Rattle.block_calls.specs.KernelDispatch.TaskBlock.ChainWords.{InsertExchange, UnlinkExchange, absent_words, entries, listed_words, present_words}
+use Rattle.block_calls.specs.KernelDispatch.TaskBlock.HeldTasks.{HeldTasks, address_with}
+use Rattle.block_calls.specs.KernelDispatch.TaskBlock.Moves.{HasNewPriority, with_priority as priority_set, with_task as task_in, without_task}
+use Rattle.block_calls.specs.KernelDispatch.TaskBlock.RootWords.{first_task}
+use Rattle.block_calls.specs.KernelDispatch.TaskBlock.TaskChain.{tasks_in}
+use Rattle.block_calls.proofs.Shown.KernelDispatch.TaskBlock.ChainExchanges.{insert-exchange, unlink-exchange}
+use Rattle.block_calls.proofs.Shown.KernelDispatch.TaskBlock.NewTask.{new-priority}
+use Rattle.block_calls.specs.KernelDispatch.KernelModel.ChangedStore.{IsChanged}
+use Rattle.block_calls.specs.KernelDispatch.KernelModel.Changes.{with_tasks}
+use Rattle.block_calls.specs.KernelDispatch.KernelModel.HoldsLists.{HoldsLists}
+use Rattle.block_calls.specs.KernelDispatch.KernelModel.Lists.{Lists, address_of_task}
+use Rattle.block_calls.specs.KernelDispatch.KernelModel.MovedTask.{with_moved_task, with_priority}
+use Rattle.block_calls.specs.KernelDispatch.KernelModel.Owned.{device_words, owned}
+use Rattle.block_calls.specs.KernelDispatch.KernelModel.Residents.{resident_words}
+use Rattle.block_calls.specs.KernelDispatch.KernelModel.Root.{root_words}
+use Rattle.block_calls.specs.KernelDispatch.KernelModel.Task.{Task, is_guest_id, name_words, other_words, state_words, task_address, task_id, task_priority, task_words}
+use Rattle.block_calls.specs.KernelDispatch.KernelModel.ValidLists.{AreValid}
+use Rattle.block_calls.specs.KernelDispatch.KernelModel.Versions.{highest_id_of}
+use Rattle.block_calls.proofs.Shown.KernelDispatch.KernelModel.AllThings.{all-beside}
+use Rattle.block_calls.proofs.Shown.KernelDispatch.KernelModel.ChainRules.{times-id}
+use Rattle.block_calls.proofs.Shown.KernelDispatch.KernelModel.MovedTask.{moved_task-valid}
+use Rattle.block_calls.proofs.Shown.KernelDispatch.KernelModel.OwnedParts.{holds-parts}
+use Rattle.block_calls.proofs.Shown.KernelDispatch.KernelModel.OwnerCounts.{owners-linked_between, owners-task_between}
+use Rattle.block_calls.proofs.Shown.KernelDispatch.KernelModel.RootCounts.{Holds-entry, RootWords, highest-high, root-held}
+use Rattle.block_calls.proofs.Shown.KernelDispatch.KernelModel.TaskKind.{are_tasks}
 use Rattle.task_calls.proofs.AroundChain.{address_with-out, around, around-count, around-exchange, listed, owned-around, owned-chain}
-use Rattle.call_answers.proofs.FoundTask.{reads}
+use Rattle.block_calls.proofs.Shown.CallAnswers.FoundTask.{reads}
 use Rattle.task_calls.proofs.Held.{behind_state}
 
 module _ (s : List ℕ) (l : Lists) (front : List Task) (x : Task) (back : List Task) (pri : ℕ) (h : HoldsLists s l) (is : l.tasks ≡ front ++ x ∷ back) where

@@ -2,24 +2,24 @@
 use Rattle.std.proofs.Common.{◌≡◌, ◌≢◌, ℕ, ◌+◌, ◌<◌, ◌≤◌, ◌^◌, List, [], ◌&&◌, cond, eqb, map, Bool, true, false, Option, Some, None, Result, Ok, refl, sym, ap, ◌∙◌, subst, arith}
 use Rattle.std.specs.Prelude.{is_some}
 use Rattle.std.specs.List.{flat_map}
-use Rattle.linked_list.specs.Places.{has}
-use Rattle.getvec_chain.specs.declared.pieces.Run.{Run}
-use Rattle.getvec_chain.specs.Run.{first_run, need}
-use Rattle.getvec_chain.specs.Take.{taken}
-use Rattle.hunk_loader.specs.HeldModules.{module_address}
-use Rattle.kernel_model.specs.BlockUse.{coroutine_addresses, use_of_data}
-use Rattle.kernel_model.specs.BlockUse.Use.{OfCoroutine, OfModule, OfResidents, OfTask, User}
-use Rattle.kernel_model.specs.ChangedStore.{Knows}
-use Rattle.kernel_model.specs.Lists.{Lists}
-use Rattle.kernel_model.specs.ValidLists.{AreValid}
-use Rattle.kernel_model.specs.Task.{task_address}
-use Rattle.kernel_model.specs.ValidBlocks.{HasBlock}
-use Rattle.kernel_model.proofs.DataInside.{HasBlock-inside}
-use Rattle.kernel_model.proofs.TakenBlocks.{take-valid, taken-block, taken-unowned}
-use Rattle.call_answers.specs.Made.{IsMade, Made, by_refusal}
+use Rattle.block_calls.specs.KernelDispatch.LinkedList.Places.{has}
+use Rattle.block_calls.specs.KernelDispatch.GetvecChain.declared.pieces.Run.{Run}
+use Rattle.block_calls.specs.KernelDispatch.GetvecChain.Run.{first_run, need}
+use Rattle.block_calls.specs.KernelDispatch.GetvecChain.Take.{taken}
+use Rattle.block_calls.specs.KernelDispatch.HunkLoader.HeldModules.{module_address}
+use Rattle.block_calls.specs.KernelDispatch.KernelModel.BlockUse.{coroutine_addresses, use_of_data}
+use Rattle.block_calls.specs.KernelDispatch.KernelModel.BlockUse.Use.{OfCoroutine, OfModule, OfResidents, OfTask, User}
+use Rattle.block_calls.specs.KernelDispatch.KernelModel.ChangedStore.{Knows}
+use Rattle.block_calls.specs.KernelDispatch.KernelModel.Lists.{Lists}
+use Rattle.block_calls.specs.KernelDispatch.KernelModel.ValidLists.{AreValid}
+use Rattle.block_calls.specs.KernelDispatch.KernelModel.Task.{task_address}
+use Rattle.block_calls.specs.KernelDispatch.KernelModel.ValidBlocks.{HasBlock}
+use Rattle.block_calls.proofs.Shown.KernelDispatch.KernelModel.DataInside.{HasBlock-inside}
+use Rattle.block_calls.proofs.Shown.KernelDispatch.KernelModel.TakenBlocks.{take-valid, taken-block, taken-unowned}
+use Rattle.block_calls.specs.CallAnswers.Made.{IsMade, Made, by_refusal}
 use Rattle.block_calls.specs.FreeStore.{data_of_front, data_taken, has_room, with_taken}
 use Rattle.block_calls.specs.Getvec.{getvec}
-use Rattle.word_kinds.proofs.OwnedMarks.{size-low}
+use Rattle.block_calls.proofs.Shown.KernelDispatch.WordKinds.OwnedMarks.{size-low}
 use Rattle.block_calls.proofs.TakenStore.{HasTakenBlock}
 use Rattle.task_calls.specs.CreateTask.{last_word_of}
 

@@ -3,10 +3,10 @@ use Rattle.std.proofs.Common.{◌≡◌, ℕ, ◌+◌, ◌-◌, ◌<◌, ◌≤�
 use Rattle.std.proofs.lemmas.List.{append_assoc, length-append, length-drop, length-set, replicate-append-replicate}
 use Rattle.word_store.specs.Row.{with_words}
 use Rattle.word_store.proofs.Rows.{set-with_words}
-use Rattle.owned_words.specs.LinkedWords.{first_of}
-use Rattle.task_block.specs.Versions.{head_words, most_modules}
-use Rattle.kernel_model.specs.Task.{filled}
-use Rattle.kernel_model.proofs.RootCounts.{length-filled}
+use Rattle.block_calls.specs.KernelDispatch.OwnedWords.LinkedWords.{first_of}
+use Rattle.block_calls.specs.KernelDispatch.TaskBlock.Versions.{head_words, most_modules}
+use Rattle.block_calls.specs.KernelDispatch.KernelModel.Task.{filled}
+use Rattle.block_calls.proofs.Shown.KernelDispatch.KernelModel.RootCounts.{length-filled}
 use Rattle.task_calls.specs.NewTasks.{first_words, head_row}
 use Rattle.task_calls.proofs.RowsInRows.{set-row_behind, words-over_zeros}
 

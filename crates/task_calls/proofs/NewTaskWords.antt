@@ -1,16 +1,16 @@
 -- The words of a new task stand in its block before it is in the chain.
 use Rattle.std.proofs.Common.{◌≡◌, ℕ, ◌+◌, ◌-◌, ◌<◌, List, [], ◌++◌, drop, get_or, length, cond, true, sym, ap, ◌∙◌, subst, arith}
 use Rattle.std.proofs.lemmas.List.{length-append}
-use Rattle.owned_words.specs.Owned.{Holds, row_from}
-use Rattle.owned_words.proofs.OwnedWords.{Holds-append, Holds-left, Holds-right}
-use Rattle.owned_words.proofs.RowWords.{Holds-row}
-use Rattle.packet_queue.specs.QueueWords.{queue_words}
-use Rattle.coroutines.specs.CoroutineExchanges.{words_of_coroutines}
-use Rattle.kernel_model.specs.Lists.{Lists}
-use Rattle.kernel_model.specs.Task.{Task, filled, is_guest_id, other_words, queue_head}
-use Rattle.kernel_model.specs.Versions.{head_words_of}
-use Rattle.call_answers.specs.Tasks.{no_coroutines}
-use Rattle.call_answers.proofs.JoinedRows.{row_from-append}
+use Rattle.block_calls.specs.KernelDispatch.OwnedWords.Owned.{Holds, row_from}
+use Rattle.block_calls.proofs.Shown.KernelDispatch.OwnedWords.OwnedWords.{Holds-append, Holds-left, Holds-right}
+use Rattle.block_calls.proofs.Shown.KernelDispatch.OwnedWords.RowWords.{Holds-row}
+use Rattle.block_calls.specs.KernelDispatch.PacketQueue.QueueWords.{queue_words}
+use Rattle.block_calls.specs.KernelDispatch.Coroutines.CoroutineExchanges.{words_of_coroutines}
+use Rattle.block_calls.specs.KernelDispatch.KernelModel.Lists.{Lists}
+use Rattle.block_calls.specs.KernelDispatch.KernelModel.Task.{Task, filled, is_guest_id, other_words, queue_head}
+use Rattle.block_calls.specs.KernelDispatch.KernelModel.Versions.{head_words_of}
+use Rattle.block_calls.specs.CallAnswers.Tasks.{no_coroutines}
+use Rattle.block_calls.proofs.Shown.CallAnswers.JoinedRows.{row_from-append}
 use Rattle.task_calls.specs.CreateTask.{new_task}
 use Rattle.task_calls.specs.NewTasks.{first_words, head_row}
 

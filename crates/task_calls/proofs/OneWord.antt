@@ -1,22 +1,22 @@
 -- One word of one task is written, and the store holds the lists with the task changed.
 use Rattle.std.proofs.Common.{◌≡◌, ℕ, List, [], ◌∷◌, ◌++◌, length, set, sym, ◌∙◌, subst, arith}
-use Rattle.owned_words.specs.Exchange.{Exchange}
-use Rattle.owned_words.specs.LinkedWords.{first_of}
-use Rattle.owned_words.specs.Written.{IsWritten}
-use Rattle.owned_words.proofs.WrittenWords.{writes-hold}
-use Rattle.owned_words.proofs.OwnedWords.{length-written}
-use Rattle.kernel_model.specs.ChangedStore.{IsChanged}
-use Rattle.kernel_model.specs.Changes.{SameTask, with_task, with_tasks}
-use Rattle.kernel_model.specs.HoldsLists.{HoldsLists}
-use Rattle.kernel_model.specs.Lists.{Lists}
-use Rattle.kernel_model.specs.Owned.{owned}
-use Rattle.kernel_model.specs.Task.{Task, task_address, task_words}
-use Rattle.kernel_model.specs.ValidLists.{AreValid}
-use Rattle.kernel_model.specs.ValidTasks.{CoroutinesStand, IsTask}
-use Rattle.kernel_model.proofs.OneTask.{same_task-valid}
-use Rattle.kernel_model.proofs.OneTaskExchange.{one_task-exchange}
-use Rattle.call_answers.specs.Guests.{GuestAt}
-use Rattle.call_answers.proofs.GuestTask.{guest-changed}
+use Rattle.block_calls.specs.KernelDispatch.OwnedWords.Exchange.{Exchange}
+use Rattle.block_calls.specs.KernelDispatch.OwnedWords.LinkedWords.{first_of}
+use Rattle.block_calls.specs.KernelDispatch.OwnedWords.Written.{IsWritten}
+use Rattle.block_calls.proofs.Shown.KernelDispatch.OwnedWords.WrittenWords.{writes-hold}
+use Rattle.block_calls.proofs.Shown.KernelDispatch.OwnedWords.OwnedWords.{length-written}
+use Rattle.block_calls.specs.KernelDispatch.KernelModel.ChangedStore.{IsChanged}
+use Rattle.block_calls.specs.KernelDispatch.KernelModel.Changes.{SameTask, with_task, with_tasks}
+use Rattle.block_calls.specs.KernelDispatch.KernelModel.HoldsLists.{HoldsLists}
+use Rattle.block_calls.specs.KernelDispatch.KernelModel.Lists.{Lists}
+use Rattle.block_calls.specs.KernelDispatch.KernelModel.Owned.{owned}
+use Rattle.block_calls.specs.KernelDispatch.KernelModel.Task.{Task, task_address, task_words}
+use Rattle.block_calls.specs.KernelDispatch.KernelModel.ValidLists.{AreValid}
+use Rattle.block_calls.specs.KernelDispatch.KernelModel.ValidTasks.{CoroutinesStand, IsTask}
+use Rattle.block_calls.proofs.Shown.KernelDispatch.KernelModel.OneTask.{same_task-valid}
+use Rattle.block_calls.proofs.Shown.KernelDispatch.KernelModel.OneTaskExchange.{one_task-exchange}
+use Rattle.block_calls.specs.CallAnswers.Guests.{GuestAt}
+use Rattle.block_calls.proofs.Shown.CallAnswers.GuestTask.{guest-changed}
 
 pub one-word : (s : List ℕ) (l : Lists) (front : List Task) (t u : Task) (back : List Task) (a w x : ℕ) → HoldsLists s l → l.tasks ≡ front ++ t ∷ back
     → SameTask t u → IsTask l u → CoroutinesStand l u

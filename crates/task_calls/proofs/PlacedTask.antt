@@ -4,59 +4,59 @@ use Rattle.std.specs.Prelude.{is_some}
 use Rattle.std.specs.List.{AllByRecursion, flat_map, range_with_len}
 use Rattle.std.proofs.lemmas.Bool.{false≢true, le-leb}
 use Rattle.std.proofs.lemmas.List.{append-nil, length-append, replicate-append-replicate}
-use Rattle.linked_list.specs.Count.{times}
-use Rattle.linked_list.specs.Places.{has}
-use Rattle.linked_list.proofs.AllMembers.{all-has}
-use Rattle.linked_list.proofs.Counts.{range-apart, range-high}
+use Rattle.word_store.specs.Count.{times}
+use Rattle.block_calls.specs.KernelDispatch.LinkedList.Places.{has}
+use Rattle.block_calls.proofs.Shown.KernelDispatch.LinkedList.AllMembers.{all-has}
+use Rattle.word_store.proofs.Counts.{range-apart, range-high}
 use Rattle.word_store.specs.Row.{with_words}
 use Rattle.word_store.proofs.Rows.{get_or-with_words_outside, length-with_words}
-use Rattle.owned_words.specs.Owned.{Holds, Pairs, owners, row_from, written}
-use Rattle.owned_words.proofs.OwnedWords.{Holds-written, written-append, written-other}
-use Rattle.owned_words.proofs.RowWords.{owners-row, with_words-written}
-use Rattle.getvec_chain.specs.Block.{is_used_at, used_block}
-use Rattle.getvec_chain.specs.Run.{need}
-use Rattle.getvec_chain.specs.Tiling.{blocks_in, used_at}
-use Rattle.getvec_chain.proofs.UsedBlocks.{AreDisjoint, used_at-apart}
-use Rattle.task_block.specs.Lists.{modules_in}
-use Rattle.task_block.specs.Moves.{with_task as task_in}
-use Rattle.task_block.specs.TaskChain.{HasTasks, IsNewTask}
-use Rattle.task_block.specs.Versions.{head_words, most_modules}
-use Rattle.hunk_loader.specs.Globals.{Global, globals_in, with_globals}
-use Rattle.hunk_loader.specs.GlobalWords.{AreClear}
-use Rattle.hunk_loader.specs.HeldModules.{module_address}
-use Rattle.hunk_loader.specs.ModuleHunks.{module_end}
-use Rattle.hunk_loader.specs.Modules.{IsModuleAt}
-use Rattle.hunk_loader.proofs.GlobalLists.{AreGlobals, length-with_globals}
-use Rattle.hunk_loader.proofs.HeldModuleLists.{held-modules}
-use Rattle.hunk_loader.proofs.HunkWalk.{module_inside}
-use Rattle.hunk_loader.proofs.ModuleBlocks.{InBlock, in_block}
-use Rattle.kernel_model.specs.BlockUse.{use_of_data}
-use Rattle.kernel_model.specs.BlockUse.Use.{User}
-use Rattle.kernel_model.specs.ChangedStore.{IsChanged, Knows}
-use Rattle.kernel_model.specs.Changes.{AreUnowned, with_new_task}
-use Rattle.kernel_model.specs.HoldsLists.{HoldsLists}
-use Rattle.kernel_model.specs.Lists.{Lists}
-use Rattle.kernel_model.specs.Owned.{owned}
-use Rattle.kernel_model.specs.Task.{Task, is_guest_id}
-use Rattle.kernel_model.specs.ValidBlocks.{HasBlock}
-use Rattle.kernel_model.specs.ValidLists.{AreValid}
-use Rattle.kernel_model.specs.ValidTasks.{IsTask}
-use Rattle.kernel_model.specs.Versions.{head_words_of, most_modules_of}
-use Rattle.kernel_model.proofs.ChainMoves.{new_task-valid}
-use Rattle.kernel_model.proofs.DataInside.{HasBlock-inside}
-use Rattle.kernel_model.proofs.EachMember.{all-each}
-use Rattle.kernel_model.proofs.RootCounts.{head-low}
-use Rattle.kernel_model.proofs.UnownedBlocks.{unowned-user}
-use Rattle.word_kinds.specs.Keeper.{AreTogether}
-use Rattle.word_kinds.proofs.KnownWords.{knows-claimed}
-use Rattle.call_answers.specs.Made.{IsMade}
-use Rattle.call_answers.proofs.ChangedTwice.{changed-twice}
-use Rattle.call_answers.proofs.FoundTask.{reads}
-use Rattle.call_answers.proofs.MadeCalls.{made-accepted}
-use Rattle.call_answers.proofs.JoinedRows.{row_from-append}
+use Rattle.block_calls.specs.KernelDispatch.OwnedWords.Owned.{Holds, Pairs, owners, row_from, written}
+use Rattle.block_calls.proofs.Shown.KernelDispatch.OwnedWords.OwnedWords.{Holds-written, written-append, written-other}
+use Rattle.block_calls.proofs.Shown.KernelDispatch.OwnedWords.RowWords.{owners-row, with_words-written}
+use Rattle.block_calls.specs.KernelDispatch.GetvecChain.Block.{is_used_at, used_block}
+use Rattle.block_calls.specs.KernelDispatch.GetvecChain.Run.{need}
+use Rattle.block_calls.specs.KernelDispatch.GetvecChain.Tiling.{blocks_in, used_at}
+use Rattle.block_calls.proofs.Shown.KernelDispatch.GetvecChain.UsedBlocks.{AreDisjoint, used_at-apart}
+use Rattle.block_calls.specs.KernelDispatch.TaskBlock.Lists.{modules_in}
+use Rattle.block_calls.specs.KernelDispatch.TaskBlock.Moves.{with_task as task_in}
+use Rattle.block_calls.specs.KernelDispatch.TaskBlock.TaskChain.{HasTasks, IsNewTask}
+use Rattle.block_calls.specs.KernelDispatch.TaskBlock.Versions.{head_words, most_modules}
+use Rattle.block_calls.specs.KernelDispatch.HunkLoader.Globals.{Global, globals_in, with_globals}
+use Rattle.block_calls.specs.KernelDispatch.HunkLoader.GlobalWords.{AreClear}
+use Rattle.block_calls.specs.KernelDispatch.HunkLoader.HeldModules.{module_address}
+use Rattle.block_calls.specs.KernelDispatch.HunkLoader.ModuleHunks.{module_end}
+use Rattle.block_calls.specs.KernelDispatch.HunkLoader.Modules.{IsModuleAt}
+use Rattle.block_calls.proofs.Shown.KernelDispatch.HunkLoader.GlobalLists.{AreGlobals, length-with_globals}
+use Rattle.block_calls.proofs.Shown.KernelDispatch.HunkLoader.HeldModuleLists.{held-modules}
+use Rattle.block_calls.proofs.Shown.KernelDispatch.HunkLoader.HunkWalk.{module_inside}
+use Rattle.block_calls.proofs.Shown.KernelDispatch.HunkLoader.ModuleBlocks.{InBlock, in_block}
+use Rattle.block_calls.specs.KernelDispatch.KernelModel.BlockUse.{use_of_data}
+use Rattle.block_calls.specs.KernelDispatch.KernelModel.BlockUse.Use.{User}
+use Rattle.block_calls.specs.KernelDispatch.KernelModel.ChangedStore.{IsChanged, Knows}
+use Rattle.block_calls.specs.KernelDispatch.KernelModel.Changes.{AreUnowned, with_new_task}
+use Rattle.block_calls.specs.KernelDispatch.KernelModel.HoldsLists.{HoldsLists}
+use Rattle.block_calls.specs.KernelDispatch.KernelModel.Lists.{Lists}
+use Rattle.block_calls.specs.KernelDispatch.KernelModel.Owned.{owned}
+use Rattle.block_calls.specs.KernelDispatch.KernelModel.Task.{Task, is_guest_id}
+use Rattle.block_calls.specs.KernelDispatch.KernelModel.ValidBlocks.{HasBlock}
+use Rattle.block_calls.specs.KernelDispatch.KernelModel.ValidLists.{AreValid}
+use Rattle.block_calls.specs.KernelDispatch.KernelModel.ValidTasks.{IsTask}
+use Rattle.block_calls.specs.KernelDispatch.KernelModel.Versions.{head_words_of, most_modules_of}
+use Rattle.block_calls.proofs.Shown.KernelDispatch.KernelModel.ChainMoves.{new_task-valid}
+use Rattle.block_calls.proofs.Shown.KernelDispatch.KernelModel.DataInside.{HasBlock-inside}
+use Rattle.block_calls.proofs.Shown.KernelDispatch.KernelModel.EachMember.{all-each}
+use Rattle.block_calls.proofs.Shown.KernelDispatch.KernelModel.RootCounts.{head-low}
+use Rattle.block_calls.proofs.Shown.KernelDispatch.KernelModel.UnownedBlocks.{unowned-user}
+use Rattle.block_calls.specs.KernelDispatch.WordKinds.Keeper.{AreTogether}
+use Rattle.block_calls.proofs.Shown.KernelDispatch.WordKinds.KnownWords.{knows-claimed}
+use Rattle.block_calls.specs.CallAnswers.Made.{IsMade}
+use Rattle.block_calls.proofs.Shown.CallAnswers.ChangedTwice.{changed-twice}
+use Rattle.block_calls.proofs.Shown.CallAnswers.FoundTask.{reads}
+use Rattle.block_calls.proofs.Shown.CallAnswers.MadeCalls.{made-accepted}
+use Rattle.block_calls.proofs.Shown.CallAnswers.JoinedRows.{row_from-append}
 use Rattle.block_calls.specs.FreeStore.{data_of_front, with_taken}
 use Rattle.block_calls.specs.Getvec.{getvec, getvec_tests}
-use Rattle.word_kinds.proofs.OwnedMarks.{size-low}
+use Rattle.block_calls.proofs.Shown.KernelDispatch.WordKinds.OwnedMarks.{size-low}
 use Rattle.block_calls.proofs.TakenStore.{HasTakenBlock}
 use Rattle.task_calls.specs.CreateTask.{globals_row, last_word_of, new_task, row_behind, with_created}
 use Rattle.task_calls.specs.NewTasks.{MayPlace, MaySetGlobals, head_row, place_task}

@@ -2,14 +2,14 @@
 use Rattle.std.proofs.Common.{◌≡◌, ℕ, ◌+◌, List, [], ◌∷◌, get_or, length, set, ap, ◌∙◌, arith, get_or-set_other, length-set}
 use Rattle.word_store.specs.Row.{with_words}
 use Rattle.word_store.proofs.Rows.{length-with_words}
-use Rattle.owned_words.specs.Owned.{owners, row_from}
-use Rattle.owned_words.proofs.OwnedWords.{Holds-same}
-use Rattle.owned_words.proofs.RowWords.{with_words-written}
-use Rattle.kernel_model.specs.ChangedStore.{IsChanged}
-use Rattle.kernel_model.specs.Changes.{AreUnowned}
-use Rattle.kernel_model.specs.HoldsLists.{HoldsLists}
-use Rattle.kernel_model.specs.Lists.{Lists}
-use Rattle.kernel_model.specs.Owned.{owned}
+use Rattle.block_calls.specs.KernelDispatch.OwnedWords.Owned.{owners, row_from}
+use Rattle.block_calls.proofs.Shown.KernelDispatch.OwnedWords.OwnedWords.{Holds-same}
+use Rattle.block_calls.proofs.Shown.KernelDispatch.OwnedWords.RowWords.{with_words-written}
+use Rattle.block_calls.specs.KernelDispatch.KernelModel.ChangedStore.{IsChanged}
+use Rattle.block_calls.specs.KernelDispatch.KernelModel.Changes.{AreUnowned}
+use Rattle.block_calls.specs.KernelDispatch.KernelModel.HoldsLists.{HoldsLists}
+use Rattle.block_calls.specs.KernelDispatch.KernelModel.Lists.{Lists}
+use Rattle.block_calls.specs.KernelDispatch.KernelModel.Owned.{owned}
 
 -- a word that nobody owns is set
 pub plain-set : (s : List ℕ) (l : Lists) (a w : ℕ) → HoldsLists s l → owners a (owned l) ≡ 0 → HoldsLists (set s a w) l

@@ -3,21 +3,21 @@ use Rattle.std.proofs.Common.{◌≡◌, ◌≢◌, ℕ, List, [], ◌∷◌, �
 use Rattle.std.specs.Prelude.{find}
 use Rattle.std.specs.List.{AllByRecursion, list_any}
 use Rattle.std.proofs.lemmas.Bool.{eq-eqb, ne_eqb}
-use Rattle.linked_list.specs.Count.{IsApart, times}
-use Rattle.linked_list.specs.Places.{without_first}
-use Rattle.linked_list.proofs.AllMembers.{all-front}
-use Rattle.linked_list.proofs.Counts.{hit-same}
-use Rattle.task_block.specs.TaskChain.{id_in, is_priority_used, priority_in}
-use Rattle.kernel_model.specs.HoldsLists.{HoldsLists}
-use Rattle.kernel_model.specs.Lists.{Lists}
-use Rattle.kernel_model.specs.ReadsLists.{ReadsLists}
-use Rattle.kernel_model.specs.Task.{Task, task_address, task_id, task_words}
-use Rattle.kernel_model.proofs.AllThings.{all-beside, all-fail, all-from_both}
-use Rattle.kernel_model.proofs.ChainRules.{times-id}
-use Rattle.kernel_model.proofs.EachMember.{holds-each}
-use Rattle.kernel_model.specs.MovedTask.{with_moved_task}
+use Rattle.word_store.specs.Count.{IsApart, times}
+use Rattle.block_calls.specs.KernelDispatch.LinkedList.Places.{without_first}
+use Rattle.block_calls.proofs.Shown.KernelDispatch.LinkedList.AllMembers.{all-front}
+use Rattle.word_store.proofs.Counts.{hit-same}
+use Rattle.block_calls.specs.KernelDispatch.TaskBlock.TaskChain.{id_in, is_priority_used, priority_in}
+use Rattle.block_calls.specs.KernelDispatch.KernelModel.HoldsLists.{HoldsLists}
+use Rattle.block_calls.specs.KernelDispatch.KernelModel.Lists.{Lists}
+use Rattle.block_calls.specs.KernelDispatch.KernelModel.ReadsLists.{ReadsLists}
+use Rattle.block_calls.specs.KernelDispatch.KernelModel.Task.{Task, task_address, task_id, task_words}
+use Rattle.block_calls.proofs.Shown.KernelDispatch.KernelModel.AllThings.{all-beside, all-fail, all-from_both}
+use Rattle.block_calls.proofs.Shown.KernelDispatch.KernelModel.ChainRules.{times-id}
+use Rattle.block_calls.proofs.Shown.KernelDispatch.KernelModel.EachMember.{holds-each}
+use Rattle.block_calls.specs.KernelDispatch.KernelModel.MovedTask.{with_moved_task}
 use Rattle.task_calls.specs.ChangePri.{is_taken, moved}
-use Rattle.call_answers.proofs.FoundTask.{reads}
+use Rattle.block_calls.proofs.Shown.CallAnswers.FoundTask.{reads}
 
 -- the number and the priority of a task are in the store
 abbrev HasNames : List ℕ → Task → Type 0

@@ -3,15 +3,15 @@ use Rattle.std.proofs.Common.{◌≡◌, ℕ, ◌-◌, true, not, Option, Some, 
 use Rattle.std.specs.Prelude.{find, is_none}
 use Rattle.std.specs.List.{range_with_len}
 use Rattle.std.proofs.lemmas.Bool.{eq-eqb}
-use Rattle.task_block.specs.TaskChain.{lowest_free_id, task_with, tasks_in}
-use Rattle.task_block.specs.Versions.{head_words, highest_id, most_modules}
-use Rattle.kernel_model.specs.HoldsLists.{HoldsLists}
-use Rattle.kernel_model.specs.Lists.{Lists, address_of_task, has_task}
-use Rattle.kernel_model.specs.Versions.{head_words_of, highest_id_of, most_modules_of}
-use Rattle.kernel_model.proofs.AllThings.{any-here}
-use Rattle.kernel_model.proofs.OwnedParts.{holds-parts}
-use Rattle.kernel_model.proofs.RootCounts.{root-held}
-use Rattle.call_answers.proofs.FoundTask.{Finds, find-task}
+use Rattle.block_calls.specs.KernelDispatch.TaskBlock.TaskChain.{lowest_free_id, task_with, tasks_in}
+use Rattle.block_calls.specs.KernelDispatch.TaskBlock.Versions.{head_words, highest_id, most_modules}
+use Rattle.block_calls.specs.KernelDispatch.KernelModel.HoldsLists.{HoldsLists}
+use Rattle.block_calls.specs.KernelDispatch.KernelModel.Lists.{Lists, address_of_task, has_task}
+use Rattle.block_calls.specs.KernelDispatch.KernelModel.Versions.{head_words_of, highest_id_of, most_modules_of}
+use Rattle.block_calls.proofs.Shown.KernelDispatch.KernelModel.AllThings.{any-here}
+use Rattle.block_calls.proofs.Shown.KernelDispatch.KernelModel.OwnedParts.{holds-parts}
+use Rattle.block_calls.proofs.Shown.KernelDispatch.KernelModel.RootCounts.{root-held}
+use Rattle.block_calls.proofs.Shown.CallAnswers.FoundTask.{Finds, find-task}
 use Rattle.task_calls.specs.CreateTask.{free_id, number_of}
 
 module _ (s : List ℕ) (l : Lists) (h : HoldsLists s l) where

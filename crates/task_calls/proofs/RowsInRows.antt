@@ -4,8 +4,8 @@ use Rattle.std.specs.List.{AllByRecursion}
 use Rattle.std.proofs.lemmas.List.{length-append, length-set}
 use Rattle.word_store.specs.Row.{with_words}
 use Rattle.word_store.proofs.Rows.{set-with_words}
-use Rattle.hunk_loader.specs.Globals.{Global, with_globals}
-use Rattle.kernel_model.specs.Task.{filled}
+use Rattle.block_calls.specs.KernelDispatch.HunkLoader.Globals.{Global, with_globals}
+use Rattle.block_calls.specs.KernelDispatch.KernelModel.Task.{filled}
 
 -- so many zeros
 pub length-zeros : (n : ℕ) → length {A = ℕ} (replicate n 0) ≡ n

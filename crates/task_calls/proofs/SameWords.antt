@@ -1,21 +1,21 @@
 -- The calls that change one task leave the same words owned.
 use Rattle.std.proofs.Common.{◌≡◌, ℕ, ◌+◌, ◌++◌, not, true, false, List, [], ◌∷◌, Bool, Option, Some, None, refl, sym, ap, ◌∙◌}
-use Rattle.owned_words.specs.Exchange.{Exchange}
-use Rattle.owned_words.specs.LinkedWords.{first_of}
-use Rattle.owned_words.specs.Owned.{owners}
-use Rattle.kernel_model.specs.Changes.{with_task, with_tasks}
-use Rattle.kernel_model.specs.HoldsLists.{HoldsLists}
-use Rattle.kernel_model.specs.Lists.{Lists}
-use Rattle.kernel_model.specs.Owned.{owned}
-use Rattle.kernel_model.specs.Task.{Task, state_word, task_address, task_words}
-use Rattle.kernel_model.proofs.ChangedLists.{one_task-owned, owners-exchanged}
-use Rattle.call_answers.specs.Callers.{HasCaller}
-use Rattle.call_answers.specs.Guests.{GuestAt, guest_tests}
-use Rattle.call_answers.specs.Made.{Made, by_refusal, done}
-use Rattle.call_answers.specs.Refusals.{first_refusal}
-use Rattle.call_answers.proofs.Refusals.{first_refusal-front, first_refusal-passed, guest-at, guest-parts}
-use Rattle.call_answers.proofs.RunningTask.{caller-at, there-at}
-use Rattle.call_answers.proofs.GuestTask.{guest-changed}
+use Rattle.block_calls.specs.KernelDispatch.OwnedWords.Exchange.{Exchange}
+use Rattle.block_calls.specs.KernelDispatch.OwnedWords.LinkedWords.{first_of}
+use Rattle.block_calls.specs.KernelDispatch.OwnedWords.Owned.{owners}
+use Rattle.block_calls.specs.KernelDispatch.KernelModel.Changes.{with_task, with_tasks}
+use Rattle.block_calls.specs.KernelDispatch.KernelModel.HoldsLists.{HoldsLists}
+use Rattle.block_calls.specs.KernelDispatch.KernelModel.Lists.{Lists}
+use Rattle.block_calls.specs.KernelDispatch.KernelModel.Owned.{owned}
+use Rattle.block_calls.specs.KernelDispatch.KernelModel.Task.{Task, state_word, task_address, task_words}
+use Rattle.block_calls.proofs.Shown.KernelDispatch.KernelModel.ChangedLists.{one_task-owned, owners-exchanged}
+use Rattle.block_calls.specs.CallAnswers.Callers.{HasCaller}
+use Rattle.block_calls.specs.CallAnswers.Guests.{GuestAt, guest_tests}
+use Rattle.block_calls.specs.CallAnswers.Made.{Made, by_refusal, done}
+use Rattle.block_calls.specs.CallAnswers.Refusals.{first_refusal}
+use Rattle.block_calls.proofs.Shown.CallAnswers.Refusals.{first_refusal-front, first_refusal-passed, guest-at, guest-parts}
+use Rattle.block_calls.proofs.Shown.CallAnswers.RunningTask.{caller-at, there-at}
+use Rattle.block_calls.proofs.Shown.CallAnswers.GuestTask.{guest-changed}
 use Rattle.task_calls.specs.ChangePri.{change_pri, priority_tests, with_new_priority}
 use Rattle.task_calls.specs.HoldTask.{held, hold}
 use Rattle.task_calls.specs.OneTask.{is_held}

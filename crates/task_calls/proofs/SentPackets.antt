@@ -2,17 +2,17 @@
 use Rattle.std.proofs.Common.{◌≡◌, ℕ, ◌+◌, ◌||◌, List, [], ◌∷◌, ◌++◌, cond, eqb, get_or, map, Bool, true, false, refl, sym, ap, ◌∙◌}
 use Rattle.std.specs.List.{AllByRecursion, flat_map, list_any}
 use Rattle.std.proofs.lemmas.List.Folds.{list_any-append}
-use Rattle.packet_queue.specs.QueueWords.{HeldQueue, QueuedPacket, address_of, packet_words}
-use Rattle.packet_queue.proofs.HeldQueues.{held-queue}
-use Rattle.task_block.specs.TaskChain.{id_in}
-use Rattle.kernel_model.specs.HoldsLists.{HoldsLists}
-use Rattle.kernel_model.specs.Lists.{Lists}
-use Rattle.kernel_model.specs.Owned.{clock_head, keyboard_head, output_head}
-use Rattle.kernel_model.specs.Residents.{pending_head}
-use Rattle.kernel_model.specs.Task.{Task, is_guest_id, queue_head, task_address, task_words}
-use Rattle.kernel_model.proofs.EachMember.{all-both, holds-each}
-use Rattle.kernel_model.proofs.WalkedLists.{residents-read}
-use Rattle.call_answers.proofs.FoundTask.{reads}
+use Rattle.block_calls.specs.KernelDispatch.PacketQueue.QueueWords.{HeldQueue, QueuedPacket, address_of, packet_words}
+use Rattle.block_calls.proofs.Shown.KernelDispatch.PacketQueue.HeldQueues.{held-queue}
+use Rattle.block_calls.specs.KernelDispatch.TaskBlock.TaskChain.{id_in}
+use Rattle.block_calls.specs.KernelDispatch.KernelModel.HoldsLists.{HoldsLists}
+use Rattle.block_calls.specs.KernelDispatch.KernelModel.Lists.{Lists}
+use Rattle.block_calls.specs.KernelDispatch.KernelModel.Owned.{clock_head, keyboard_head, output_head}
+use Rattle.block_calls.specs.KernelDispatch.KernelModel.Residents.{pending_head}
+use Rattle.block_calls.specs.KernelDispatch.KernelModel.Task.{Task, is_guest_id, queue_head, task_address, task_words}
+use Rattle.block_calls.proofs.Shown.KernelDispatch.KernelModel.EachMember.{all-both, holds-each}
+use Rattle.block_calls.proofs.Shown.KernelDispatch.KernelModel.WalkedLists.{residents-read}
+use Rattle.block_calls.proofs.Shown.CallAnswers.FoundTask.{reads}
 use Rattle.task_calls.specs.DeleteTask.{has_packet_out, resident_packets}
 use Rattle.task_calls.specs.PacketsOut.{is_sender_at, is_sender_of_read, is_sender_out, is_sender_to, is_sender_to_residents}
 

@@ -2,22 +2,22 @@
 use Rattle.std.proofs.Common.{◌≡◌, ℕ, ◌<◌, List, [], ◌∷◌, ◌++◌, cond, get_or, Bool, true, false, Option, Some, inl, inr, refl, sym, ap, ◌∙◌, subst, arith}
 use Rattle.std.specs.Prelude.{find}
 use Rattle.std.proofs.lemmas.Bool.{cases_lt}
-use Rattle.linked_list.proofs.Counts.{hit-other}
-use Rattle.owned_words.specs.Owned.{Holds, Pairs, owners}
-use Rattle.owned_words.proofs.OwnedWords.{Holds-left, Holds-right, owners-append, word_in-holds}
-use Rattle.getvec_chain.specs.declared.pieces.Block.{Block}
-use Rattle.getvec_chain.specs.Block.{block_end}
-use Rattle.getvec_chain.specs.BlockWords.{blocks_words}
-use Rattle.getvec_chain.specs.Tiling.{Follow}
-use Rattle.hunk_loader.specs.ModuleExchanges.{modules_words}
-use Rattle.kernel_model.specs.ChangedStore.{IsChanged}
-use Rattle.kernel_model.specs.Changes.{with_blocks}
-use Rattle.kernel_model.specs.HoldsLists.{HoldsLists}
-use Rattle.kernel_model.specs.Lists.{Lists, address_of_task}
-use Rattle.kernel_model.specs.Owned.{device_words, owned, tasks_words}
-use Rattle.kernel_model.specs.Residents.{resident_words}
-use Rattle.kernel_model.specs.Root.{root_words}
-use Rattle.kernel_model.proofs.FollowedBlocks.{IsWithin, found-within}
+use Rattle.word_store.proofs.Counts.{hit-other}
+use Rattle.block_calls.specs.KernelDispatch.OwnedWords.Owned.{Holds, Pairs, owners}
+use Rattle.block_calls.proofs.Shown.KernelDispatch.OwnedWords.OwnedWords.{Holds-left, Holds-right, owners-append, word_in-holds}
+use Rattle.block_calls.specs.KernelDispatch.GetvecChain.declared.pieces.Block.{Block}
+use Rattle.block_calls.specs.KernelDispatch.GetvecChain.Block.{block_end}
+use Rattle.block_calls.specs.KernelDispatch.GetvecChain.BlockWords.{blocks_words}
+use Rattle.block_calls.specs.KernelDispatch.GetvecChain.Tiling.{Follow}
+use Rattle.block_calls.specs.KernelDispatch.HunkLoader.ModuleExchanges.{modules_words}
+use Rattle.block_calls.specs.KernelDispatch.KernelModel.ChangedStore.{IsChanged}
+use Rattle.block_calls.specs.KernelDispatch.KernelModel.Changes.{with_blocks}
+use Rattle.block_calls.specs.KernelDispatch.KernelModel.HoldsLists.{HoldsLists}
+use Rattle.block_calls.specs.KernelDispatch.KernelModel.Lists.{Lists, address_of_task}
+use Rattle.block_calls.specs.KernelDispatch.KernelModel.Owned.{device_words, owned, tasks_words}
+use Rattle.block_calls.specs.KernelDispatch.KernelModel.Residents.{resident_words}
+use Rattle.block_calls.specs.KernelDispatch.KernelModel.Root.{root_words}
+use Rattle.block_calls.proofs.Shown.KernelDispatch.KernelModel.FollowedBlocks.{IsWithin, found-within}
 
 -- two stores that hold the same owned words
 holds-agree : (s t : List ℕ) (es : Pairs) (a : ℕ) → Holds s es → Holds t es → 0 < owners a es → get_or t a 0 ≡ get_or s a 0

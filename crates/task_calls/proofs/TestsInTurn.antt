@@ -1,8 +1,8 @@
 -- Tests one after the other, and calls that are refused by the same ones.
 use Rattle.std.proofs.Common.{◌≡◌, ℕ, List, [], ◌∷◌, ◌++◌, cond, Bool, true, false, Option, Some, None, Result, Ok, Err, refl, ◌∙◌}
-use Rattle.kernel_model.specs.Lists.{Lists}
-use Rattle.call_answers.specs.Made.{IsMade, Made, by_refusal, unless_refused}
-use Rattle.call_answers.specs.Refusals.{first_refusal}
+use Rattle.block_calls.specs.KernelDispatch.KernelModel.Lists.{Lists}
+use Rattle.block_calls.specs.CallAnswers.Made.{IsMade, Made, by_refusal, unless_refused}
+use Rattle.block_calls.specs.CallAnswers.Refusals.{first_refusal}
 
 -- tests in two parts
 pub all-passed : (xs ys : List (Bool × ℕ)) → first_refusal (xs ++ ys) ≡ None → (first_refusal xs ≡ None) × (first_refusal ys ≡ None)

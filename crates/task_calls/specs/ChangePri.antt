@@ -1,12 +1,12 @@
 -- The call that gives a task another priority.
 use Rattle.std.specs.Prelude.{ℕ, ◌==◌, ◌&&◌, Bool, not, Option, Some, None, find, List, [], ◌∷◌, ◌++◌, nat_le}
 use Rattle.std.specs.List.{list_any}
-use Rattle.linked_list.specs.Places.{without_first}
-use Rattle.kernel_model.specs.Lists.{Lists}
-use Rattle.kernel_model.specs.MovedTask.{with_moved_task}
-use Rattle.kernel_model.specs.Task.{Task}
-use Rattle.call_answers.specs.Guests.{guest_tests}
-use Rattle.call_answers.specs.Made.{Made, done, unless_refused}
+use Rattle.block_calls.specs.KernelDispatch.LinkedList.Places.{without_first}
+use Rattle.block_calls.specs.KernelDispatch.KernelModel.Lists.{Lists}
+use Rattle.block_calls.specs.KernelDispatch.KernelModel.MovedTask.{with_moved_task}
+use Rattle.block_calls.specs.KernelDispatch.KernelModel.Task.{Task}
+use Rattle.block_calls.specs.CallAnswers.Guests.{guest_tests}
+use Rattle.block_calls.specs.CallAnswers.Made.{Made, done, unless_refused}
 
 abbrev pub is_priority : ℕ → Bool
 is_priority pri = nat_le 1 pri && nat_le pri 10000

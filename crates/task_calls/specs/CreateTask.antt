@@ -1,17 +1,17 @@
 -- The call that creates a task.
 use Rattle.std.specs.Prelude.{◌≡◌, ℕ, ◌+◌, ◌-◌, ◌≤◌, ◌⊎◌, ◌==◌, Bool, false, not, if◌then◌else◌, Option, Some, is_some, unwrap_or, Ok, List, [], ◌∷◌, ◌++◌, find, length, nat_lt, replicate}
 use Rattle.std.specs.List.{flat_map, list_any, range_with_len}
-use Rattle.owned_words.specs.Owned.{row_from}
-use Rattle.hunk_loader.specs.Globals.{globals_in, highest, most_globals, with_globals}
-use Rattle.hunk_loader.specs.ModuleHunks.{hunks_in}
-use Rattle.kernel_model.specs.Changes.{with_new_task}
-use Rattle.kernel_model.specs.Lists.{Lists, has_task}
-use Rattle.kernel_model.specs.Task.{Task}
-use Rattle.kernel_model.specs.ValidTasks.{dead, no_regs}
-use Rattle.kernel_model.specs.Versions.{head_words_of, highest_id_of, most_modules_of}
-use Rattle.call_answers.specs.Made.{Made, unless_refused}
-use Rattle.call_answers.specs.Tasks.{no_coroutines}
-use Rattle.call_answers.specs.Modules.{has_module}
+use Rattle.block_calls.specs.KernelDispatch.OwnedWords.Owned.{row_from}
+use Rattle.block_calls.specs.KernelDispatch.HunkLoader.Globals.{globals_in, highest, most_globals, with_globals}
+use Rattle.block_calls.specs.KernelDispatch.HunkLoader.ModuleHunks.{hunks_in}
+use Rattle.block_calls.specs.KernelDispatch.KernelModel.Changes.{with_new_task}
+use Rattle.block_calls.specs.KernelDispatch.KernelModel.Lists.{Lists, has_task}
+use Rattle.block_calls.specs.KernelDispatch.KernelModel.Task.{Task}
+use Rattle.block_calls.specs.KernelDispatch.KernelModel.ValidTasks.{dead, no_regs}
+use Rattle.block_calls.specs.KernelDispatch.KernelModel.Versions.{head_words_of, highest_id_of, most_modules_of}
+use Rattle.block_calls.specs.CallAnswers.Made.{Made, unless_refused}
+use Rattle.block_calls.specs.CallAnswers.Tasks.{no_coroutines}
+use Rattle.block_calls.specs.CallAnswers.Modules.{has_module}
 use Rattle.task_calls.specs.ChangePri.{priority_tests}
 use Rattle.block_calls.specs.FreeStore.{data_taken, with_taken}
 use Rattle.block_calls.specs.Getvec.{getvec_tests}

@@ -1,18 +1,18 @@
 -- The call that deletes a task.
 use Rattle.std.specs.Prelude.{◌≡◌, ℕ, ◌==◌, ◌&&◌, Bool, not, None, if◌then◌else◌, List, [], ◌∷◌, ◌++◌, length}
 use Rattle.std.specs.List.{AllByRecursion, flat_map, list_any}
-use Rattle.linked_list.specs.Places.{without_first}
-use Rattle.getvec_chain.specs.Give.{given}
-use Rattle.packet_queue.specs.QueueWords.{QueuedPacket}
-use Rattle.kernel_model.specs.Between.{is_empty_queue}
-use Rattle.kernel_model.specs.Changes.{with_blocks, with_tasks}
-use Rattle.kernel_model.specs.Lists.{Lists, address_of_task}
-use Rattle.kernel_model.specs.Task.{Task, is_guest_id}
-use Rattle.kernel_model.specs.ValidTasks.{runs}
-use Rattle.call_answers.specs.Guests.{GuestAt, guest_tests}
-use Rattle.call_answers.specs.Made.{Made, done, unless_refused}
-use Rattle.call_answers.specs.Refusals.{first_refusal}
-use Rattle.call_answers.specs.Tasks.{is_dead}
+use Rattle.block_calls.specs.KernelDispatch.LinkedList.Places.{without_first}
+use Rattle.block_calls.specs.KernelDispatch.GetvecChain.Give.{given}
+use Rattle.block_calls.specs.KernelDispatch.PacketQueue.QueueWords.{QueuedPacket}
+use Rattle.block_calls.specs.KernelDispatch.KernelModel.Between.{is_empty_queue}
+use Rattle.block_calls.specs.KernelDispatch.KernelModel.Changes.{with_blocks, with_tasks}
+use Rattle.block_calls.specs.KernelDispatch.KernelModel.Lists.{Lists, address_of_task}
+use Rattle.block_calls.specs.KernelDispatch.KernelModel.Task.{Task, is_guest_id}
+use Rattle.block_calls.specs.KernelDispatch.KernelModel.ValidTasks.{runs}
+use Rattle.block_calls.specs.CallAnswers.Guests.{GuestAt, guest_tests}
+use Rattle.block_calls.specs.CallAnswers.Made.{Made, done, unless_refused}
+use Rattle.block_calls.specs.CallAnswers.Refusals.{first_refusal}
+use Rattle.block_calls.specs.CallAnswers.Tasks.{is_dead}
 use Rattle.block_calls.specs.Freevec.{has_packet_in}
 
 -- its work queue is empty

@@ -8,3 +8,7 @@ pub mod PacketsOut
 pub mod DeleteTask
 pub mod CreateTask
 pub mod NewTasks
+-- shown to the crates above
+pub use Rattle.block_calls.specs.KernelDispatch
+pub use Rattle.block_calls.specs.CallAnswers
+pub use Rattle.block_calls.specs as BlockCalls

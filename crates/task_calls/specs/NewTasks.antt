@@ -1,18 +1,18 @@
 -- The words that a new task gets, and what its parts ask.
 use Rattle.std.specs.Prelude.{◌≡◌, ◌≢◌, ◌≤◌, ℕ, ◌+◌, ◌-◌, true, false, Result, Ok, Err, List, [], ◌∷◌, ◌++◌, drop, length}
 use Rattle.std.specs.List.{AllByRecursion}
-use Rattle.linked_list.specs.Places.{has}
-use Rattle.owned_words.specs.LinkedWords.{first_of}
-use Rattle.task_block.specs.Lists.{modules_in}
-use Rattle.hunk_loader.specs.GlobalWords.{AreClear}
-use Rattle.hunk_loader.specs.ModuleHunks.{module_end}
-use Rattle.kernel_model.specs.Changes.{AreUnowned}
-use Rattle.kernel_model.specs.Lists.{Lists, has_task}
-use Rattle.kernel_model.specs.Task.{Task, filled}
-use Rattle.kernel_model.specs.ValidTasks.{dead}
-use Rattle.kernel_model.specs.Versions.{highest_id_of, most_modules_of}
-use Rattle.call_answers.specs.Made.{Made, unless_refused}
-use Rattle.call_answers.specs.Modules.{has_module}
+use Rattle.block_calls.specs.KernelDispatch.LinkedList.Places.{has}
+use Rattle.block_calls.specs.KernelDispatch.OwnedWords.LinkedWords.{first_of}
+use Rattle.block_calls.specs.KernelDispatch.TaskBlock.Lists.{modules_in}
+use Rattle.block_calls.specs.KernelDispatch.HunkLoader.GlobalWords.{AreClear}
+use Rattle.block_calls.specs.KernelDispatch.HunkLoader.ModuleHunks.{module_end}
+use Rattle.block_calls.specs.KernelDispatch.KernelModel.Changes.{AreUnowned}
+use Rattle.block_calls.specs.KernelDispatch.KernelModel.Lists.{Lists, has_task}
+use Rattle.block_calls.specs.KernelDispatch.KernelModel.Task.{Task, filled}
+use Rattle.block_calls.specs.KernelDispatch.KernelModel.ValidTasks.{dead}
+use Rattle.block_calls.specs.KernelDispatch.KernelModel.Versions.{highest_id_of, most_modules_of}
+use Rattle.block_calls.specs.CallAnswers.Made.{Made, unless_refused}
+use Rattle.block_calls.specs.CallAnswers.Modules.{has_module}
 use Rattle.block_calls.specs.FreeStore.{has_room}
 use Rattle.block_calls.specs.Getvec.{getvec_tests}
 use Rattle.task_calls.specs.CreateTask.{last_word_of, with_created}

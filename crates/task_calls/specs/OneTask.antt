@@ -1,7 +1,7 @@
 -- What the calls on one task share.
 use Rattle.std.specs.Prelude.{ℕ, ◌==◌, ◌&&◌, Bool}
 use Rattle.std.specs.List.{list_any}
-use Rattle.kernel_model.specs.Lists.{Lists}
+use Rattle.block_calls.specs.KernelDispatch.KernelModel.Lists.{Lists}
 
 -- whether the task with the number is held
 abbrev pub is_held : Lists → ℕ → Bool

@@ -1,12 +1,12 @@
 -- Whose packets residents and devices have, as the words of a store say.
 use Rattle.std.specs.Prelude.{ℕ, ◌+◌, ◌==◌, ◌||◌, Bool, false, if◌then◌else◌, List, slice_index}
 use Rattle.std.specs.List.{list_any}
-use Rattle.packet_queue.specs.Queue.{queue_at}
-use Rattle.task_block.specs.TaskChain.{id_in, tasks_in}
-use Rattle.kernel_model.specs.KernelRanges.{has_residents}
-use Rattle.kernel_model.specs.Owned.{clock_head, keyboard_head, output_head}
-use Rattle.kernel_model.specs.Residents.{pending_head}
-use Rattle.kernel_model.specs.Task.{is_guest_id, queue_head}
+use Rattle.block_calls.specs.KernelDispatch.PacketQueue.Queue.{queue_at}
+use Rattle.block_calls.specs.KernelDispatch.TaskBlock.TaskChain.{id_in, tasks_in}
+use Rattle.block_calls.specs.KernelDispatch.KernelModel.KernelRanges.{has_residents}
+use Rattle.block_calls.specs.KernelDispatch.KernelModel.Owned.{clock_head, keyboard_head, output_head}
+use Rattle.block_calls.specs.KernelDispatch.KernelModel.Residents.{pending_head}
+use Rattle.block_calls.specs.KernelDispatch.KernelModel.Task.{is_guest_id, queue_head}
 
 -- a packet that is queued at the head is from the task with the number
 abbrev pub is_sender_at : List ℕ → ℕ → ℕ → Bool

@@ -1,10 +1,10 @@
 -- The call that releases a task.
 use Rattle.std.specs.Prelude.{ℕ, Bool, false, List, [], ◌∷◌, ◌++◌}
-use Rattle.kernel_model.specs.Changes.{with_task}
-use Rattle.kernel_model.specs.Lists.{Lists}
-use Rattle.kernel_model.specs.Task.{Task}
-use Rattle.call_answers.specs.Guests.{guest_tests}
-use Rattle.call_answers.specs.Made.{Made, done, unless_refused}
+use Rattle.block_calls.specs.KernelDispatch.KernelModel.Changes.{with_task}
+use Rattle.block_calls.specs.KernelDispatch.KernelModel.Lists.{Lists}
+use Rattle.block_calls.specs.KernelDispatch.KernelModel.Task.{Task}
+use Rattle.block_calls.specs.CallAnswers.Guests.{guest_tests}
+use Rattle.block_calls.specs.CallAnswers.Made.{Made, done, unless_refused}
 use Rattle.task_calls.specs.OneTask.{is_held}
 
 -- it is held (code 15)

@@ -1,10 +1,10 @@
 -- The call that tests flags of the task that makes it.
 use Rattle.std.specs.Prelude.{ℕ, ◌-◌, ◌^◌, ◌==◌, Ok, [], bit_and, find}
 use Rattle.std.specs.Option.{option_map_or}
-use Rattle.kernel_model.specs.Changes.{with_task}
-use Rattle.kernel_model.specs.Lists.{Lists}
-use Rattle.kernel_model.specs.Task.{Task}
-use Rattle.call_answers.specs.Made.{Made}
+use Rattle.block_calls.specs.KernelDispatch.KernelModel.Changes.{with_task}
+use Rattle.block_calls.specs.KernelDispatch.KernelModel.Lists.{Lists}
+use Rattle.block_calls.specs.KernelDispatch.KernelModel.Task.{Task}
+use Rattle.block_calls.specs.CallAnswers.Made.{Made}
 
 -- those of the flags that are among these
 abbrev pub flags_among : Lists → ℕ → ℕ

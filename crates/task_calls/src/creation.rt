@@ -1,18 +1,17 @@
 // A task is created.
 ghost use Rattle.std.specs.Prelude.{◌≡◌, [], ◌∷◌};
 ghost use Rattle.std.specs.Option.{ok_or};
-ghost use Rattle.kernel_model.specs.ChangedStore.{HasKeeper};
-ghost use Rattle.kernel_model.specs.HoldsLists.{HoldsLists};
-ghost use Rattle.kernel_model.specs.Lists.{Lists};
-ghost use Rattle.call_answers.specs.Made.{IsMade};
+ghost use Rattle.block_calls.specs.KernelDispatch.KernelModel.ChangedStore.{HasKeeper};
+ghost use Rattle.block_calls.specs.KernelDispatch.KernelModel.HoldsLists.{HoldsLists};
+ghost use Rattle.block_calls.specs.KernelDispatch.KernelModel.Lists.{Lists};
+ghost use Rattle.block_calls.specs.CallAnswers.Made.{IsMade};
 ghost use Rattle.task_calls.specs.CreateTask.{MayCreate, create_task, number_of};
 
 use crate::module_tests::{check_globals, check_modules};
 use crate::new_tasks::place_task;
 use crate::priority::check_priority;
-use call_answers::codes::NO_FREE_ID;
-use task_block::free_id;
-use word_kinds::KindKeeper;
+use block_calls::codes::NO_FREE_ID;
+use block_calls::kernel_dispatch::{KindKeeper, free_id};
 use word_store::Store;
 
 /// Makes a dead task of one module, as `create_task_of` does.

@@ -1,21 +1,20 @@
 // A task is deleted.
 ghost use Rattle.std.specs.Prelude.{◌≡◌, ℕ, Ok, false};
-ghost use Rattle.kernel_model.specs.ChangedStore.{HasKeeper};
-ghost use Rattle.kernel_model.specs.Lists.{Lists};
-ghost use Rattle.call_answers.specs.Guests.{GuestAt};
-ghost use Rattle.call_answers.specs.Made.{IsMade, done, minus_one, plain_answer};
-ghost use Rattle.call_answers.specs.Refusals.{answer_of, first_refusal};
+ghost use Rattle.block_calls.specs.KernelDispatch.KernelModel.ChangedStore.{HasKeeper};
+ghost use Rattle.block_calls.specs.KernelDispatch.KernelModel.Lists.{Lists};
+ghost use Rattle.block_calls.specs.CallAnswers.Guests.{GuestAt};
+ghost use Rattle.block_calls.specs.CallAnswers.Made.{IsMade, done, minus_one, plain_answer};
+ghost use Rattle.block_calls.specs.CallAnswers.Refusals.{answer_of, first_refusal};
 ghost use Rattle.task_calls.specs.DeleteTask.{HasEnded, RunsAlive, delete_task, deletion_tests, without_task};
 ghost use Rattle.block_calls.specs.Freevec.{has_packet_in};
 
 use crate::packets_out::has_packet_out;
-use block_calls::are_unowned;
-use call_answers::codes::{HAS_COROUTINES, NOT_DEAD, PACKET_INSIDE, PACKET_OUT, QUEUE_NOT_EMPTY};
-use call_answers::guest;
-use call_answers::numbers::DEAD;
-use getvec_chain::{block_of, give};
-use task_block::{TcbField, field, head_words, unlink};
-use word_kinds::KindKeeper;
+use block_calls::codes::{HAS_COROUTINES, NOT_DEAD, PACKET_INSIDE, PACKET_OUT, QUEUE_NOT_EMPTY};
+use block_calls::guest;
+use block_calls::kernel_dispatch::{
+    KindKeeper, TcbField, are_unowned, block_of, field, give, head_words, unlink,
+};
+use block_calls::numbers::DEAD;
 use word_store::Store;
 
 /// Deletes the dead task with the number, and gives its block back; the words of the block stay. Refused where there is no

@@ -1,14 +1,14 @@
 // Flags of a task are set, and tested.
 ghost use Rattle.std.specs.Prelude.{Ok};
-ghost use Rattle.kernel_model.specs.HoldsLists.{HoldsLists};
-ghost use Rattle.kernel_model.specs.Lists.{Lists};
-ghost use Rattle.call_answers.specs.Callers.{HasCaller};
-ghost use Rattle.call_answers.specs.Made.{Leaves, plain_answer};
+ghost use Rattle.block_calls.specs.KernelDispatch.KernelModel.HoldsLists.{HoldsLists};
+ghost use Rattle.block_calls.specs.KernelDispatch.KernelModel.Lists.{Lists};
+ghost use Rattle.block_calls.specs.CallAnswers.Callers.{HasCaller};
+ghost use Rattle.block_calls.specs.CallAnswers.Made.{Leaves, plain_answer};
 ghost use Rattle.task_calls.specs.SetFlags.{set_flags};
 ghost use Rattle.task_calls.specs.TestFlags.{test_flags};
 
-use call_answers::{caller, guest};
-use task_block::{TcbField, field, set_field};
+use block_calls::kernel_dispatch::{TcbField, field, set_field};
+use block_calls::{caller, guest};
 use word_store::Store;
 
 /// Sets these flags of the task with the number, beside those that it has. Refused where there is no such task (2), and

@@ -1,10 +1,10 @@
 // The calls that change one task leave the same words owned, so no keeper of kinds has to be told.
 ghost use Rattle.std.specs.Prelude.{◌≡◌, List, ℕ};
-ghost use Rattle.owned_words.specs.Owned.{owners};
-ghost use Rattle.kernel_model.specs.HoldsLists.{HoldsLists};
-ghost use Rattle.kernel_model.specs.Lists.{Lists};
-ghost use Rattle.kernel_model.specs.Owned.{owned};
-ghost use Rattle.call_answers.specs.Callers.{HasCaller};
+ghost use Rattle.block_calls.specs.KernelDispatch.OwnedWords.Owned.{owners};
+ghost use Rattle.block_calls.specs.KernelDispatch.KernelModel.HoldsLists.{HoldsLists};
+ghost use Rattle.block_calls.specs.KernelDispatch.KernelModel.Lists.{Lists};
+ghost use Rattle.block_calls.specs.KernelDispatch.KernelModel.Owned.{owned};
+ghost use Rattle.block_calls.specs.CallAnswers.Callers.{HasCaller};
 ghost use Rattle.task_calls.specs.ChangePri.{change_pri};
 ghost use Rattle.task_calls.specs.HoldTask.{hold};
 ghost use Rattle.task_calls.specs.ReleaseTask.{release};

@@ -19,3 +19,6 @@ pub use flags::{set_flags, test_flags};
 pub use hold::hold_task;
 pub use priority::change_pri;
 pub use release::release_task;
+
+// Shown to the crates above.
+pub use block_calls::{caller, freevec, getvec, guest, kernel_dispatch, numbers};

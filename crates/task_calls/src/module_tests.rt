@@ -1,17 +1,17 @@
 // The tests of the modules of a new task.
 ghost use Rattle.std.specs.Prelude.{◌≡◌, ◌∷◌, [], not, true, map};
 ghost use Rattle.std.specs.List.{AllByRecursion, list_any};
-ghost use Rattle.linked_list.specs.Places.{has};
-ghost use Rattle.linked_list.specs.Walk.{CanWalk};
-ghost use Rattle.task_block.specs.Lists.{module_link, modules_in};
-ghost use Rattle.task_block.specs.RootWords.{first_module};
-ghost use Rattle.hunk_loader.specs.Modules.{HasModules};
-ghost use Rattle.call_answers.specs.Refusals.{answer_of, first_refusal};
+ghost use Rattle.block_calls.specs.KernelDispatch.LinkedList.Places.{has};
+ghost use Rattle.block_calls.specs.KernelDispatch.LinkedList.Walk.{CanWalk};
+ghost use Rattle.block_calls.specs.KernelDispatch.TaskBlock.Lists.{module_link, modules_in};
+ghost use Rattle.block_calls.specs.KernelDispatch.TaskBlock.RootWords.{first_module};
+ghost use Rattle.block_calls.specs.KernelDispatch.HunkLoader.Modules.{HasModules};
+ghost use Rattle.block_calls.specs.CallAnswers.Refusals.{answer_of, first_refusal};
 ghost use Rattle.task_calls.specs.CreateTask.{has_high_globals};
 
-use call_answers::codes::{GLOBALS_TOO_HIGH, NO_MODULE};
-use call_answers::is_module;
-use hunk_loader::globals_fit;
+use block_calls::codes::{GLOBALS_TOO_HIGH, NO_MODULE};
+use block_calls::is_module;
+use block_calls::kernel_dispatch::globals_fit;
 use word_store::Store;
 
 /// Refused where one of these is no module.

@@ -1,23 +1,23 @@
 // A new task is put into a block of its own.
 ghost use Rattle.std.specs.Prelude.{◌≡◌, ◌+◌, ◌≤◌, ◌∷◌, ◌++◌, ℕ, List, drop, length, replicate, slice_set};
 ghost use Rattle.std.specs.List.{flat_map};
-ghost use Rattle.owned_words.specs.LinkedWords.{first_of};
-ghost use Rattle.hunk_loader.specs.Globals.{globals_in, with_globals};
-ghost use Rattle.kernel_model.specs.ChangedStore.{HasKeeper};
-ghost use Rattle.kernel_model.specs.HoldsLists.{HoldsLists};
-ghost use Rattle.kernel_model.specs.Lists.{Lists};
-ghost use Rattle.task_block.specs.Versions.{head_words, most_modules};
+ghost use Rattle.block_calls.specs.KernelDispatch.OwnedWords.LinkedWords.{first_of};
+ghost use Rattle.block_calls.specs.KernelDispatch.HunkLoader.Globals.{globals_in, with_globals};
+ghost use Rattle.block_calls.specs.KernelDispatch.KernelModel.ChangedStore.{HasKeeper};
+ghost use Rattle.block_calls.specs.KernelDispatch.KernelModel.HoldsLists.{HoldsLists};
+ghost use Rattle.block_calls.specs.KernelDispatch.KernelModel.Lists.{Lists};
+ghost use Rattle.block_calls.specs.KernelDispatch.TaskBlock.Versions.{head_words, most_modules};
 ghost use Rattle.word_store.specs.Row.{with_words};
-ghost use Rattle.call_answers.specs.Made.{IsMade};
+ghost use Rattle.block_calls.specs.CallAnswers.Made.{IsMade};
 ghost use Rattle.task_calls.specs.CreateTask.{new_task};
 ghost use Rattle.task_calls.specs.NewTasks.{IsLastWord, MayPlace, MaySetGlobals, head_row, place_task};
 
+use block_calls::codes::NO_ROOM;
 use block_calls::getvec;
-use call_answers::codes::NO_ROOM;
-use call_answers::numbers::{DEAD, GLOBAL_WORDS};
-use hunk_loader::init_globals;
-use task_block::{TcbField, head_words, insert, set_field};
-use word_kinds::KindKeeper;
+use block_calls::kernel_dispatch::{
+    KindKeeper, TcbField, head_words, init_globals, insert, set_field,
+};
+use block_calls::numbers::{DEAD, GLOBAL_WORDS};
 use word_store::{Store, set_word_at, set_words};
 
 /// The highest number of a global, which global 0 holds.

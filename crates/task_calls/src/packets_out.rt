@@ -1,18 +1,17 @@
 // Whose packets residents and devices have.
 ghost use Rattle.std.specs.Prelude.{◌≡◌, true};
 ghost use Rattle.std.specs.List.{AllByRecursion};
-ghost use Rattle.linked_list.specs.Walk.{CanWalk};
-ghost use Rattle.packet_queue.specs.Queue.{HasQueue};
-ghost use Rattle.task_block.specs.RootWords.{first_task};
-ghost use Rattle.task_block.specs.TaskChain.{task_link, tasks_in};
-ghost use Rattle.kernel_model.specs.KernelRanges.{CanWalkLists, CanWalkTask, has_residents};
-ghost use Rattle.kernel_model.specs.Owned.{clock_head, keyboard_head, output_head};
-ghost use Rattle.kernel_model.specs.Residents.{pending_head};
+ghost use Rattle.block_calls.specs.KernelDispatch.LinkedList.Walk.{CanWalk};
+ghost use Rattle.block_calls.specs.KernelDispatch.PacketQueue.Queue.{HasQueue};
+ghost use Rattle.block_calls.specs.KernelDispatch.TaskBlock.RootWords.{first_task};
+ghost use Rattle.block_calls.specs.KernelDispatch.TaskBlock.TaskChain.{task_link, tasks_in};
+ghost use Rattle.block_calls.specs.KernelDispatch.KernelModel.KernelRanges.{CanWalkLists, CanWalkTask, has_residents};
+ghost use Rattle.block_calls.specs.KernelDispatch.KernelModel.Owned.{clock_head, keyboard_head, output_head};
+ghost use Rattle.block_calls.specs.KernelDispatch.KernelModel.Residents.{pending_head};
 ghost use Rattle.task_calls.specs.PacketsOut.{is_sender_at, is_sender_at_device, is_sender_of_read, is_sender_out, is_sender_to, is_sender_to_residents};
 
-use call_answers::numbers::{FIRST_GUEST, READS_HEAD, SENDER};
-use packet_queue::packets;
-use task_block::{RootField, TcbField, field, root, tasks};
+use block_calls::kernel_dispatch::{RootField, TcbField, field, packets, root, tasks};
+use block_calls::numbers::{FIRST_GUEST, READS_HEAD, SENDER};
 use word_store::{Store, word_at};
 
 /// Whether a resident or a device has a packet from the task with the number, or one of its reads waits for a line.

@@ -1,17 +1,17 @@
 // A task gets another priority.
 ghost use Rattle.std.specs.Prelude.{◌≡◌, true};
-ghost use Rattle.linked_list.specs.Places.{has};
-ghost use Rattle.task_block.specs.Moves as moves;
-ghost use Rattle.task_block.specs.TaskChain.{HasTasks, tasks_in};
-ghost use Rattle.kernel_model.specs.HoldsLists.{HoldsLists};
-ghost use Rattle.kernel_model.specs.Lists.{Lists};
-ghost use Rattle.call_answers.specs.Made.{Leaves, plain_answer};
-ghost use Rattle.call_answers.specs.Refusals.{answer_of, first_refusal};
+ghost use Rattle.block_calls.specs.KernelDispatch.LinkedList.Places.{has};
+ghost use Rattle.block_calls.specs.KernelDispatch.TaskBlock.Moves as moves;
+ghost use Rattle.block_calls.specs.KernelDispatch.TaskBlock.TaskChain.{HasTasks, tasks_in};
+ghost use Rattle.block_calls.specs.KernelDispatch.KernelModel.HoldsLists.{HoldsLists};
+ghost use Rattle.block_calls.specs.KernelDispatch.KernelModel.Lists.{Lists};
+ghost use Rattle.block_calls.specs.CallAnswers.Made.{Leaves, plain_answer};
+ghost use Rattle.block_calls.specs.CallAnswers.Refusals.{answer_of, first_refusal};
 ghost use Rattle.task_calls.specs.ChangePri.{change_pri, is_priority, priority_tests};
 
-use call_answers::codes::{NO_PRIORITY, PRIORITY_TAKEN};
-use call_answers::guest;
-use task_block::{TcbField, insert, priority_used, set_field, unlink};
+use block_calls::codes::{NO_PRIORITY, PRIORITY_TAKEN};
+use block_calls::guest;
+use block_calls::kernel_dispatch::{TcbField, insert, priority_used, set_field, unlink};
 use word_store::Store;
 
 /// The highest priority.

@@ -1,13 +1,13 @@
 // A task is released.
-ghost use Rattle.kernel_model.specs.HoldsLists.{HoldsLists};
-ghost use Rattle.kernel_model.specs.Lists.{Lists};
-ghost use Rattle.call_answers.specs.Made.{Leaves, plain_answer};
+ghost use Rattle.block_calls.specs.KernelDispatch.KernelModel.HoldsLists.{HoldsLists};
+ghost use Rattle.block_calls.specs.KernelDispatch.KernelModel.Lists.{Lists};
+ghost use Rattle.block_calls.specs.CallAnswers.Made.{Leaves, plain_answer};
 ghost use Rattle.task_calls.specs.ReleaseTask.{release};
 
 use crate::states::{HELD, has_held_bit};
-use call_answers::codes::NOT_HELD;
-use call_answers::guest;
-use task_block::{TcbField, field, set_field};
+use block_calls::codes::NOT_HELD;
+use block_calls::guest;
+use block_calls::kernel_dispatch::{TcbField, field, set_field};
 use word_store::Store;
 
 /// Releases the task with the number, which is held. Refused where there is no such task (2), where it is a resident (14),

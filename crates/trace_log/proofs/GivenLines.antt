@@ -8,10 +8,10 @@ use Rattle.std.proofs.lemmas.Grind.{flat_map-append}
 use Rattle.tp_io.specs.Faults.{Rose}
 use Rattle.tp_io.specs.Pending.{IsGathered}
 use Rattle.tp_io.specs.Write.{AppendsPrefix, HasCause}
-use Rattle.packet_queue.specs.EventLine.{line_of}
-use Rattle.packet_queue.specs.declared.events.KernelEvent.{KernelEvent}
+use Rattle.kernel_dispatch.specs.PacketQueue.EventLine.{line_of}
+use Rattle.kernel_dispatch.specs.PacketQueue.declared.events.KernelEvent.{KernelEvent}
 use Rattle.trace_log.specs.Traced.{GivesPending, Reaches, Traced, lines_of}
-use Rattle.kernel_model.specs.NotedEvents.{NotesAll}
+use Rattle.kernel_dispatch.specs.KernelModel.NotedEvents.{NotesAll}
 use Rattle.tp_io.proofs.AppendedTexts.{AppendsPrefix-more}
 use Rattle.trace_log.proofs.KnownTexts.{AppendsPrefix-known, IsGathered-known}
 use Rattle.trace_log.proofs.TracedNotes.{failed-works}

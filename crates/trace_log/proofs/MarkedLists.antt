@@ -1,7 +1,7 @@
 -- Lists that begin with marks.
 use Rattle.std.proofs.Common.{◌≡◌, ◌∙◌, ℕ, Bool, Option, None, Some, List, [], ◌∷◌, ◌++◌, refl, ap, append_assoc}
-use Rattle.kernel_model.specs.NotedEvents.{NotesAll}
-use Rattle.packet_queue.specs.declared.events.KernelEvent.{KernelEvent}
+use Rattle.kernel_dispatch.specs.KernelModel.NotedEvents.{NotesAll}
+use Rattle.kernel_dispatch.specs.PacketQueue.declared.events.KernelEvent.{KernelEvent}
 use Rattle.trace_log.specs.Marks.{byte_marks, marks, number_marks}
 
 number_marks-same : (ns ms : List ℕ) (es fs : List KernelEvent) → number_marks ns ++ es ≡ number_marks ms ++ fs → (ns ≡ ms) × (es ≡ fs)

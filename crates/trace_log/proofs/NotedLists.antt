@@ -1,10 +1,10 @@
 -- A list of events, noted one after another.
 use Rattle.std.proofs.Common.{◌≡◌, ℕ, ◌+◌, ◌<◌, Bool, Option, List, [], ◌∷◌, ◌++◌, length, get_or, take, add-one}
 use Rattle.std.proofs.Math.Seq.{take-suc}
-use Rattle.packet_queue.specs.Log.{Notes}
-use Rattle.packet_queue.specs.declared.events.KernelEvent.{KernelEvent}
-use Rattle.kernel_model.specs.NotedEvents.{NotesAll}
-use Rattle.kernel_model.proofs.NotedInTurn.{notes-one, notes-then}
+use Rattle.kernel_dispatch.specs.PacketQueue.Log.{Notes}
+use Rattle.kernel_dispatch.specs.PacketQueue.declared.events.KernelEvent.{KernelEvent}
+use Rattle.kernel_dispatch.specs.KernelModel.NotedEvents.{NotesAll}
+use Rattle.kernel_dispatch.proofs.Shown.KernelModel.NotedInTurn.{notes-one, notes-then}
 
 -- the first i events are noted, and then the next
 pub NotesAll-next : (b m n : Option (List KernelEvent)) (f g h : Bool) (es : List KernelEvent) (i : ℕ) (d : KernelEvent) → i < length es

@@ -8,9 +8,9 @@ use Rattle.std.proofs.lemmas.Grind.{flat_map-append}
 use Rattle.tp_io.specs.Pending.{Gathers}
 use Rattle.tp_io.specs.Write.{HasCause}
 use Rattle.tp_io.proofs.GatheredTexts.{IsCut-first, IsCut-then, IsGathered-then}
-use Rattle.packet_queue.specs.EventLine.{line_of}
-use Rattle.packet_queue.specs.Log.{Notes}
-use Rattle.packet_queue.specs.declared.events.KernelEvent.{KernelEvent}
+use Rattle.kernel_dispatch.specs.PacketQueue.EventLine.{line_of}
+use Rattle.kernel_dispatch.specs.PacketQueue.Log.{Notes}
+use Rattle.kernel_dispatch.specs.PacketQueue.declared.events.KernelEvent.{KernelEvent}
 use Rattle.trace_log.specs.Traced.{Traced, lines_of}
 
 -- the lines of one event more

@@ -1,8 +1,8 @@
 -- What the list of a log of lines begins with: which reference it writes to, and what stood behind it at first. The marks are
 -- events that say this in numbers, so that two lists that begin with marks and agree have the same marks.
 use Rattle.std.specs.Prelude.{ℕ, pos, List, [], ◌∷◌, Option, None, Some}
-use Rattle.packet_queue.specs.declared.events.KernelEvent.{KernelEvent}
-use Rattle.packet_queue.specs.declared.events.KernelEvent.TheVariants.{Dequeued, Runs}
+use Rattle.kernel_dispatch.specs.PacketQueue.declared.events.KernelEvent.{KernelEvent}
+use Rattle.kernel_dispatch.specs.PacketQueue.declared.events.KernelEvent.TheVariants.{Dequeued, Runs}
 
 -- numbers as events, and an event that ends them
 abbrev pub number_marks : List ℕ → List KernelEvent

@@ -5,8 +5,8 @@ use Rattle.std.specs.List.{flat_map}
 use Rattle.tp_io.specs.Faults.{Rose}
 use Rattle.tp_io.specs.Pending.{IsGathered}
 use Rattle.tp_io.specs.Write.{AppendsPrefix}
-use Rattle.packet_queue.specs.EventLine.{line_of}
-use Rattle.packet_queue.specs.declared.events.KernelEvent.{KernelEvent}
+use Rattle.kernel_dispatch.specs.PacketQueue.EventLine.{line_of}
+use Rattle.kernel_dispatch.specs.PacketQueue.declared.events.KernelEvent.{KernelEvent}
 
 -- the lines of events
 abbrev pub lines_of : List KernelEvent → List ℕ

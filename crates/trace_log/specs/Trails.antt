@@ -1,6 +1,6 @@
 -- The events of a trail.
 use Rattle.std.specs.Prelude.{List, [], ◌∷◌, ◌++◌}
-use Rattle.packet_queue.specs.declared.events.KernelEvent.{KernelEvent}
+use Rattle.kernel_dispatch.specs.PacketQueue.declared.events.KernelEvent.{KernelEvent}
 use Rattle.trace_log.specs.declared.trails.Trail.{Trail, Start, More'}
 
 -- the events, in order

@@ -1,12 +1,12 @@
 // The lines of events, by way of a log. `note_all` is generic over its log, and the others show what a caller learns from it.
 ghost use Rattle.std.specs.Prelude.{◌≡◌, Some};
 ghost use Rattle.tp_io.specs.Write.{Prints, HasCause};
-ghost use Rattle.kernel_model.specs.NotedEvents.{NotesAll};
+ghost use Rattle.kernel_dispatch.specs.KernelModel.NotedEvents.{NotesAll};
 ghost use Rattle.trace_log.specs.Trails.{events_of};
 ghost use Rattle.trace_log.specs.Traced.{GivesPending, lines_of};
 
 use crate::TraceLog;
-use packet_queue::{EventLog, KernelEvent};
+use kernel_dispatch::{EventLog, KernelEvent};
 use tp_io::{Output, Sink, SinkFault, pass_on};
 
 /// Notes the events in order.

@@ -1,9 +1,9 @@
 // The lines of events.
 ghost use Rattle.tp_io.specs.Pending.{Gathers};
 ghost use Rattle.tp_io.specs.Write.{HasCause};
-ghost use Rattle.packet_queue.specs.EventLine.{line_of, sender_line};
+ghost use Rattle.kernel_dispatch.specs.PacketQueue.EventLine.{line_of, sender_line};
 
-use packet_queue::KernelEvent;
+use kernel_dispatch::KernelEvent;
 use tp_io::{Output, Piece, Sink, SinkFault, gather_pieces};
 
 /// The line of an event.

@@ -1,6 +1,6 @@
 // A log that gathers a line for each event, and tells which sink the lines go to.
 ghost use Rattle.std.specs.Prelude.{◌≡◌, Option, Some, None, OnOk, MatchResult, [], ◌++◌, ◌∷◌, false, true};
-ghost use Rattle.packet_queue.specs.Log.{Notes};
+ghost use Rattle.kernel_dispatch.specs.PacketQueue.Log.{Notes};
 ghost use Rattle.tp_io.specs.Write.{HasCause};
 ghost use Rattle.trace_log.specs.Marks.{marks};
 ghost use Rattle.trace_log.specs.Trails.{events_of};
@@ -8,7 +8,7 @@ ghost use Rattle.trace_log.specs.Traced.{GivesPending, Traced, lines_of};
 
 use crate::Trail;
 use crate::lines::gather_line;
-use packet_queue::{EventLog, KernelEvent};
+use kernel_dispatch::{EventLog, KernelEvent};
 use std::snapshot::Snapshot;
 use tp_io::{Output, Sink, SinkFault, pass_on};
 

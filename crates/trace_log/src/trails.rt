@@ -2,7 +2,7 @@
 ghost use Rattle.std.specs.Prelude.{◌≡◌, [], ◌∷◌, ◌++◌};
 ghost use Rattle.trace_log.specs.Trails.{events_of};
 
-use packet_queue::KernelEvent;
+use kernel_dispatch::KernelEvent;
 use std::snapshot::Snapshot;
 
 /// A list of events. Clauses see all of them; in memory there is the last one alone.

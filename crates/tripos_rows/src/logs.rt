@@ -1,8 +1,7 @@
 // Logs of events: the lines that are printed, and the events that are kept.
-use packet_queue::{EventLog, KernelEvent, ListLog, SinkLog};
 use std::test::Fail;
 use tp_io::{MemorySink, SinkFault};
-use trace_log::print_events;
+use tripos_run::{EventLog, KernelEvent, ListLog, SinkLog, print_events};
 
 #[test]
 fn a_line_for_each_event(rt: HostRuntime) -> Result<(), Fail> {

@@ -1,7 +1,7 @@
 // What no run shows of pipes: one set up anew, and the byte at a place.
-use pipe_handler::Pipes;
 use ram_disc::Name;
 use std::test::Fail;
+use tripos_run::Pipes;
 
 #[test]
 fn sets_up_pipes(rt: HostRuntime) -> Result<(), Fail> {

@@ -1,5 +1,5 @@
 // Numbers of any length.
-use text_reader::any_number;
+use hunk_text::any_number;
 
 #[test]
 fn caps_long_numbers(rt: HostRuntime) {

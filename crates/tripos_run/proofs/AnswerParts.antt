@@ -8,12 +8,12 @@ use Rattle.tp_io.specs.Write.{AppendsPrefix, Prints}
 use Rattle.tp_io.specs.Pending.{IsGathered}
 use Rattle.tp_io.proofs.AppendedTexts.{AppendsPrefix-more}
 use Rattle.tp_io.proofs.GatheredTexts.{Prints-after}
-use Rattle.text_reader.specs.Refusal.{Refusal}
+use Rattle.hunk_text.specs.TextReader.Refusal.{Refusal}
 use Rattle.session_text.specs.SessionOfText.{session_of}
 use Rattle.session_text.specs.declared.sessions.Session.{Session}
 use Rattle.session_generator.specs.Generated.{generated}
-use Rattle.bare_machine.specs.declared.stops.Stop.{Stop}
-use Rattle.bare_machine.specs.declared.stops.Stop.TheVariants.{Steps, Quit, Finish, Fault}
+use Rattle.machine_boot.specs.KernelCalls.KernelModel.declared.stops.Stop.{Stop}
+use Rattle.machine_boot.specs.KernelCalls.KernelModel.declared.stops.Stop.TheVariants.{Steps, Quit, Finish, Fault}
 use Rattle.tripos_run.specs.declared.commands.Command.{Command}
 use Rattle.tripos_run.specs.declared.commands.Job.{Job}
 use Rattle.tripos_run.specs.declared.reports.Report.{Report}

@@ -1,11 +1,11 @@
 -- A machine that is booted has taken no step.
 use Rattle.std.proofs.Common.{◌≡◌, Result, Ok, Err, refl, subst, ◌∙◌}
 use Rattle.session_text.specs.declared.sessions.Session.{Session}
-use Rattle.text_reader.specs.Steps.{◌>>=◌}
-use Rattle.kernel_model.specs.Kernel.{Kernel}
-use Rattle.kernel_boot.specs.declared.refusals.BootRefusal.{BootRefusal}
-use Rattle.kernel_steps.specs.Stepped.{Stepped}
-use Rattle.kernel_steps.proofs.StepKept.{dispatch-same}
+use Rattle.hunk_text.specs.TextReader.Steps.{◌>>=◌}
+use Rattle.machine_boot.specs.KernelCalls.KernelModel.Kernel.{Kernel}
+use Rattle.machine_boot.specs.KernelBoot.declared.refusals.BootRefusal.{BootRefusal}
+use Rattle.machine_boot.specs.KernelSteps.Stepped.{Stepped}
+use Rattle.machine_boot.proofs.Shown.KernelSteps.StepKept.{dispatch-same}
 use Rattle.machine_boot.specs.Boot.{HasKernel, boot, first_kernel, started, with_lines}
 use Rattle.machine_boot.proofs.BegunKernels.{first-begun, lines-begun}
 

@@ -1,14 +1,14 @@
 -- The events of a run, from those that a log was given.
 use Rattle.std.proofs.Common.{◌≡◌, ◌∙◌, ℕ, ◌+◌, ◌-◌, ◌≤◌, Bool, true, Option, Result, Ok, Err, List, [], ◌++◌, inl, inr, sym, ap, subst, append_assoc, arith}
 use Rattle.std.specs.Bool.{OnFalse}
-use Rattle.bare_machine.specs.declared.stops.Stop.{Stop}
-use Rattle.packet_queue.specs.declared.events.KernelEvent.{KernelEvent}
-use Rattle.kernel_model.specs.Kernel.{Kernel}
-use Rattle.kernel_model.specs.NotedEvents.{NotesAll}
-use Rattle.kernel_steps.specs.Step.{run}
-use Rattle.kernel_steps.specs.Stepped.{Stepped}
-use Rattle.kernel_steps.proofs.Runs.{run-more}
-use Rattle.kernel_machine.specs.Runs.{EndsRun, HasCause}
+use Rattle.machine_boot.specs.KernelCalls.KernelModel.declared.stops.Stop.{Stop}
+use Rattle.machine_boot.specs.KernelCalls.PacketQueue.declared.events.KernelEvent.{KernelEvent}
+use Rattle.machine_boot.specs.KernelCalls.KernelModel.Kernel.{Kernel}
+use Rattle.machine_boot.specs.KernelCalls.KernelModel.NotedEvents.{NotesAll}
+use Rattle.machine_boot.specs.KernelSteps.Step.{run}
+use Rattle.machine_boot.specs.KernelSteps.Stepped.{Stepped}
+use Rattle.machine_boot.proofs.Shown.KernelSteps.Runs.{run-more}
+use Rattle.machine_boot.specs.KernelMachine.Runs.{EndsRun, HasCause}
 
 -- the first steps of a run have its first events
 first-events : (i n : ℕ) (k : Kernel) → i ≤ n → (run n k).events ≡ (run i k).events ++ (run (n - i) (run i k).kernel).events

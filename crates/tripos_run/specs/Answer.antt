@@ -4,18 +4,18 @@ use Rattle.std.specs.Option.{option_and_then, option_map}
 use Rattle.std.specs.Str.{bytes_eq}
 use Rattle.std.specs.Io.KnownBytes.{Appends, Keeps}
 use Rattle.tp_io.specs.Write.{AppendsPrefix}
-use Rattle.text_reader.specs.Numbers.{number_of}
-use Rattle.text_reader.specs.Refusal.{Refusal, refusal}
+use Rattle.hunk_text.specs.TextReader.Numbers.{number_of}
+use Rattle.hunk_text.specs.TextReader.Refusal.{Refusal, refusal}
 use Rattle.hunk_text.specs.ModuleOfText.{module_of}
 use Rattle.hunk_text.specs.declared.modules.Module.{Module}
-use Rattle.cint_asm.specs.Assembly.{assembled}
-use Rattle.cint_disasm.specs.HunkListing.{listing_of_module}
+use Rattle.listing_law.specs.CintAsm.Assembly.{assembled}
+use Rattle.listing_law.specs.CintDisasm.HunkListing.{listing_of_module}
 use Rattle.session_text.specs.SessionOfText.{session_of}
 use Rattle.session_text.specs.declared.sessions.Session.{Session}
 use Rattle.session_generator.specs.Generated.{generated}
 use Rattle.session_generator.specs.Summary.{summary}
-use Rattle.bare_machine.specs.declared.stops.Stop.{Stop}
-use Rattle.bare_machine.specs.declared.stops.Stop.TheVariants.{Steps, Quit, Finish, Fault}
+use Rattle.machine_boot.specs.KernelCalls.KernelModel.declared.stops.Stop.{Stop}
+use Rattle.machine_boot.specs.KernelCalls.KernelModel.declared.stops.Stop.TheVariants.{Steps, Quit, Finish, Fault}
 use Rattle.tripos_run.specs.declared.commands.Command.{Command}
 use Rattle.tripos_run.specs.declared.commands.Command.TheVariants.{Run as RunCommand, Dump as DumpCommand, Trace as TraceCommand, Asm as AsmCommand, Disasm as DisasmCommand}
 use Rattle.tripos_run.specs.declared.commands.Job.{Job}
@@ -24,15 +24,15 @@ use Rattle.tripos_run.specs.declared.reports.Report.{Report}
 use Rattle.tripos_run.specs.declared.reports.Report.TheVariants.{Console, Events, Sums, Words}
 use Rattle.tripos_run.specs.declared.status.Status.{Status}
 use Rattle.tripos_run.specs.declared.status.Status.TheVariants.{Done, GuestFault, Usage, Refused, NoBoot, ReadFault, WriteFault, TooLong, WantMemory}
-use Rattle.bare_machine.specs.Boot.{boot as bare_boot, first_regs}
-use Rattle.bare_machine.specs.Run.{Run, run as bare_run}
-use Rattle.packet_queue.specs.declared.events.KernelEvent.{KernelEvent}
+use Rattle.machine_boot.specs.BareMachine.Boot.{boot as bare_boot, first_regs}
+use Rattle.machine_boot.specs.BareMachine.Run.{Run, run as bare_run}
+use Rattle.machine_boot.specs.KernelCalls.PacketQueue.declared.events.KernelEvent.{KernelEvent}
 use Rattle.trace_log.specs.Traced.{lines_of}
-use Rattle.kernel_model.specs.Image.{image}
-use Rattle.machine_parts.specs.Stops.{end_of_run}
-use Rattle.kernel_steps.specs.Step.{run}
-use Rattle.kernel_steps.specs.Stepped.{Stepped}
-use Rattle.kernel_boot.specs.declared.refusals.BootRefusal.{BootRefusal}
+use Rattle.machine_boot.specs.KernelCalls.KernelModel.Image.{image}
+use Rattle.machine_boot.specs.KernelMachine.Stops.{end_of_run}
+use Rattle.machine_boot.specs.KernelSteps.Step.{run}
+use Rattle.machine_boot.specs.KernelSteps.Stepped.{Stepped}
+use Rattle.machine_boot.specs.KernelBoot.declared.refusals.BootRefusal.{BootRefusal}
 use Rattle.machine_boot.specs.Boot.{boot}
 use Rattle.tripos_run.specs.Texts.{closing_text, dump_text, no_boot_text, refused_text, too_long_text, usage_text}
 

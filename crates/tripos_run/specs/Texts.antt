@@ -1,9 +1,9 @@
 -- The texts that the program writes besides the console bytes.
 use Rattle.std.specs.Prelude.{ℕ, ◌+◌, List, [], ◌∷◌, ◌++◌, codes, decimal, ◌==◌, if◌then◌else◌}
 use Rattle.tp_io.specs.Pieces.{joined, hex_digits_of}
-use Rattle.text_reader.specs.Refusal.{Refusal}
-use Rattle.bare_machine.specs.declared.stops.Stop.{Stop}
-use Rattle.bare_machine.specs.declared.stops.Stop.TheVariants.{Steps, Quit, Finish, Fault}
+use Rattle.hunk_text.specs.TextReader.Refusal.{Refusal}
+use Rattle.machine_boot.specs.KernelCalls.KernelModel.declared.stops.Stop.{Stop}
+use Rattle.machine_boot.specs.KernelCalls.KernelModel.declared.stops.Stop.TheVariants.{Steps, Quit, Finish, Fault}
 
 abbrev pub usage_text : List ℕ
 usage_text =

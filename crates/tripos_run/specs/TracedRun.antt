@@ -2,9 +2,9 @@
 use Rattle.std.specs.Prelude.{◌≡◌, ℕ, List, [], Option, Result, Ok, Err}
 use Rattle.tp_io.specs.Pending.{IsGathered}
 use Rattle.tp_io.specs.Write.{AppendsPrefix}
-use Rattle.bare_machine.specs.declared.stops.Stop.{Stop}
-use Rattle.kernel_model.specs.Kernel.{Kernel}
-use Rattle.machine_parts.specs.Stops.{end_of_run}
+use Rattle.machine_boot.specs.KernelCalls.KernelModel.declared.stops.Stop.{Stop}
+use Rattle.machine_boot.specs.KernelCalls.KernelModel.Kernel.{Kernel}
+use Rattle.machine_boot.specs.KernelMachine.Stops.{end_of_run}
 
 -- the kernel that is left is this one, and a run that left it ends so
 abbrev pub StopsAt : Kernel → Stop → Kernel → Type 0

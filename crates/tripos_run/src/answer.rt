@@ -1,7 +1,7 @@
 // The answer to a text that was read.
 ghost use Rattle.std.specs.Prelude.{◌≡◌, ◌<◌, ◌^◌, is_ok, if◌then◌else◌, length};
 ghost use Rattle.hunk_text.specs.ModuleOfText.{module_of};
-ghost use Rattle.cint_asm.specs.Assembly.{assembled};
+ghost use Rattle.listing_law.specs.CintAsm.Assembly.{assembled};
 ghost use Rattle.tripos_run.specs.Answer.{Answers, listed, made_answer, text_answer};
 ghost use Rattle.tripos_run.specs.Cause.{HasFaultCause};
 ghost use Rattle.tripos_run.specs.Input.{IsTextEnd};
@@ -11,9 +11,8 @@ use crate::messages::write_refused;
 use crate::reports::Report;
 use crate::session::answer_session_text;
 use crate::status::Status;
-use cint_asm::{AsmEnd, assemble};
-use cint_disasm::disassemble_module;
 use hunk_text::{HunkEnd, read_module};
+use listing_law::{AsmEnd, assemble, disassemble_module};
 use std::alloc::Global;
 use tp_io::{Sink, SinkFault, write_text};
 

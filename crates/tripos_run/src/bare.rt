@@ -1,7 +1,7 @@
 // The answer to a session of a bare machine.
 ghost use Rattle.std.specs.Prelude.{◌≡◌, ◌≤◌, ◌<◌, []};
-ghost use Rattle.bare_machine.specs.Boot.{boot};
-ghost use Rattle.bare_machine.specs.Run.{run};
+ghost use Rattle.machine_boot.specs.BareMachine.Boot.{boot};
+ghost use Rattle.machine_boot.specs.BareMachine.Run.{run};
 ghost use Rattle.tripos_run.specs.Answer.{Answers, AreEnd, bare_answer, closed_answer, end_without_kernel, run_answer};
 ghost use Rattle.tripos_run.specs.Cause.{HasFaultCause};
 ghost use Rattle.tripos_run.specs.Input.{IsMachineEnd, IsTextEnd};
@@ -11,9 +11,7 @@ use crate::ends::{status_of, write_end};
 use crate::messages::write_no_boot;
 use crate::reports::Report;
 use crate::status::Status;
-use bare_machine::boot::{BootEnd, boot};
-use bare_machine::run::run;
-use bare_machine::{Bare, Stop};
+use machine_boot::{Bare, BootEnd, Stop, boot_bare, run_bare};
 use session_generator::{Tally, gather_summary};
 use session_text::Session;
 use std::alloc::Global;
@@ -31,7 +29,7 @@ pub(crate) fn answer_bare<K: Sink>(
     ensures ends { IsTextEnd result }
     ensures cause { HasFaultCause Status.WriteFault (K.faults out.old) (K.faults out.new) result }
 {
-    match boot(alloc, session) {
+    match boot_bare(alloc, session) {
         Ok(mut machine) => answer_machine(report, &mut machine, session.go, out),
         Err(BootEnd::Line { line, code }) => {
             status_after(write_no_boot(out, line, code), Status::NoBoot)
@@ -66,7 +64,7 @@ fn run_machine<K: Sink>(report: Report, machine: &mut Bare, go: u64, out: &mut K
     ensures cause { HasFaultCause Status.WriteFault (K.faults out.old) (K.faults out.new) result }
 {
     let mut pending = Output::new();
-    match run(machine, go, out, &mut pending) {
+    match run_bare(machine, go, out, &mut pending) {
         Ok((steps, stop)) => {
             let end = write_end(report, steps, stop, &machine.store, out, &mut pending);
             status_after(end, status_of(stop))
@@ -85,7 +83,7 @@ fn trace_machine<K: Sink>(machine: &mut Bare, go: u64, out: &mut K) -> Status
     ensures ends { IsMachineEnd result }
     ensures cause { HasFaultCause Status.WriteFault (K.faults out.old) (K.faults out.new) result }
 {
-    match run(machine, go, &mut NoSink, &mut Output::new()) {
+    match run_bare(machine, go, &mut NoSink, &mut Output::new()) {
         Ok((steps, stop)) => {
             let end = write_end(
                 Report::Events,
@@ -132,7 +130,7 @@ fn sum_run(machine: &mut Bare, go: u64) -> (Tally, u64, Stop)
 {
     let mut tally = Tally::new();
     let mut pending = Output::new();
-    match run(machine, go, &mut tally, &mut pending) {
+    match run_bare(machine, go, &mut tally, &mut pending) {
         Ok((steps, stop)) => match pass_on(&mut tally, &mut pending) {
             Ok(()) => (tally, steps, stop),
             Err(SinkFault) => unreachable!(),

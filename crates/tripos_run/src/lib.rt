@@ -15,3 +15,7 @@ pub mod status;
 
 pub use program::{run, tripos};
 pub use status::Status;
+
+// Shown to the crates above.
+pub use machine_boot::{EventLog, KernelEvent, ListLog, Pipes, SinkLog};
+pub use trace_log::print_events;

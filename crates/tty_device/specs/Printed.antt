@@ -1,9 +1,9 @@
 -- A packet that waits for the output device is served.
 use Rattle.std.specs.Prelude.{ℕ, ◌+◌, ◌%◌, List, [], ◌∷◌, slice_index}
-use Rattle.packet_queue.specs.QueueWords.{QueuedPacket}
-use Rattle.kernel_model.specs.Lists.{Lists}
-use Rattle.device_returns.specs.Returned.{Served, first_returned}
-use Rattle.device_returns.specs.declared.returns.Device.TheVariants.{OfOutput}
+use Rattle.kernel_calls.specs.PacketQueue.QueueWords.{QueuedPacket}
+use Rattle.kernel_calls.specs.KernelModel.Lists.{Lists}
+use Rattle.kernel_calls.specs.PacketCalls.Returned.{Served, first_returned}
+use Rattle.kernel_calls.specs.PacketCalls.declared.returns.Device.TheVariants.{OfOutput}
 
 -- the byte that is printed, where these packets waited: what word 5 of the first one ends with; beyond the store it is 0
 abbrev pub printed : List ℕ → List QueuedPacket → List ℕ

@@ -1,14 +1,12 @@
 // The output device.
 ghost use Rattle.std.specs.Prelude.{◌≡◌, ◌<◌, ◌++◌, length};
-ghost use Rattle.kernel_model.specs.HoldsLists.{HoldsLists};
-ghost use Rattle.kernel_model.specs.Lists.{Lists};
-ghost use Rattle.kernel_model.specs.NotedEvents.{NotesAll};
+ghost use Rattle.kernel_calls.specs.KernelModel.HoldsLists.{HoldsLists};
+ghost use Rattle.kernel_calls.specs.KernelModel.Lists.{Lists};
+ghost use Rattle.kernel_calls.specs.KernelModel.NotedEvents.{NotesAll};
 ghost use Rattle.tty_device.specs.Printed.{finished, printed};
-ghost use Rattle.device_returns.specs.Returned.{IsServed};
+ghost use Rattle.kernel_calls.specs.PacketCalls.Returned.{IsServed};
 
-use device_returns::{Device, return_first};
-use packet_queue::EventLog;
-use task_block::{RootField, root};
+use kernel_calls::{Device, EventLog, RootField, return_first, root};
 use tp_io::Output;
 use word_store::{Store, word_at};
 

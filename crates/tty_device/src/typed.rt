@@ -1,18 +1,16 @@
 // The bytes that were typed, and that no packet has taken yet.
 ghost use Rattle.std.specs.Prelude.{◌≡◌, ◌<◌, ◌↔◌, [], IfOk, IsTrue, drop, length, slice_get};
-ghost use Rattle.kernel_model.specs.HoldsLists.{HoldsLists};
-ghost use Rattle.kernel_model.specs.Lists.{Lists};
-ghost use Rattle.kernel_model.specs.NotedEvents.{NotesAll};
+ghost use Rattle.kernel_calls.specs.KernelModel.HoldsLists.{HoldsLists};
+ghost use Rattle.kernel_calls.specs.KernelModel.Lists.{Lists};
+ghost use Rattle.kernel_calls.specs.KernelModel.NotedEvents.{NotesAll};
 ghost use Rattle.tty_device.specs.Keys.{left_typed, met};
-ghost use Rattle.device_returns.specs.Returned.{IsServed};
+ghost use Rattle.kernel_calls.specs.PacketCalls.Returned.{IsServed};
 ghost use Rattle.tty_device.specs.Typed.{with_typed};
 
 use circular_buffer::HeapCircularBuffer;
-use device_returns::{Device, return_first};
-use packet_queue::EventLog;
+use kernel_calls::{Device, EventLog, RootField, return_first, root};
 use std::alloc::Global;
 use std::marker::Model;
-use task_block::{RootField, root};
 use tp_io::WantMemory;
 use word_store::Store;
 

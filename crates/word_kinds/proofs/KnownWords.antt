@@ -1,9 +1,9 @@
 -- A keeper that was told of words that became the kernel's, or are nobody's any more, knows the words of the lists.
 use Rattle.std.proofs.Common.{◌≡◌, ℕ, ◌+◌, List, [], ◌∷◌, ◌++◌, map, refl, arith}
 use Rattle.std.specs.List.{range_with_len}
-use Rattle.linked_list.specs.Count.{IsApart, times}
-use Rattle.linked_list.proofs.Counts.{times-append}
-use Rattle.owned_words.specs.Owned.{Pairs, owners}
+use Rattle.word_store.specs.Count.{IsApart, times}
+use Rattle.word_store.proofs.Counts.{times-append}
+use Rattle.kernel_model.specs.KernelLists.OwnedWords.Owned.{Pairs, owners}
 use Rattle.kernel_model.specs.ChangedStore.{Knows}
 use Rattle.kernel_model.specs.HoldsLists.{HoldsLists}
 use Rattle.kernel_model.specs.Lists.{Lists}

@@ -2,3 +2,4 @@ pub mod Marks
 pub mod KnownWords
 pub mod ToldWords
 pub mod OwnedMarks
+pub mod Shown

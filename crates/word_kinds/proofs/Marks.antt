@@ -4,8 +4,8 @@ use Rattle.std.specs.List.{range_with_len}
 use Rattle.std.proofs.lemmas.Bool.{cases_lt, false≢true}
 use Rattle.std.proofs.lemmas.Bool.Decides.{nat_tests}
 use Rattle.std.proofs.lemmas.List.{get_or-replicate, get_or_past, length-replicate}
-use Rattle.linked_list.specs.Count.{IsApart, times}
-use Rattle.linked_list.proofs.Counts.{times-above, times-below, times-within}
+use Rattle.word_store.specs.Count.{IsApart, times}
+use Rattle.word_store.proofs.Counts.{times-above, times-below, times-within}
 use Rattle.kernel_model.specs.Lists.{Lists}
 use Rattle.kernel_model.specs.KernelRanges.{is_kernel_word, kernel_ranges}
 use Rattle.word_kinds.specs.ByteMap.{AreShown, IsSet, MarksAll, is_marked}

@@ -2,8 +2,8 @@
 use Rattle.std.proofs.Common.{◌≡◌, ℕ, ◌^◌, ◌%◌, ◌<◌, ◌&&◌, cond, eqb, leb, Bool, true, false, inl, inr, sym, subst, arith}
 use Rattle.std.specs.Prelude.{◌↔◌}
 use Rattle.std.proofs.lemmas.Bool.{and_parts, cases_lt, false_from_ne_true, leb-true}
-use Rattle.linked_list.specs.Count.{times}
-use Rattle.owned_words.specs.Owned.{owners}
+use Rattle.word_store.specs.Count.{times}
+use Rattle.kernel_model.specs.KernelLists.OwnedWords.Owned.{owners}
 use Rattle.kernel_model.specs.Changes.{AreUnowned}
 use Rattle.kernel_model.specs.KernelRanges.{AreClear}
 use Rattle.kernel_model.specs.Lists.{Lists}

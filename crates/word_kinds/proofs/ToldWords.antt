@@ -2,9 +2,9 @@
 use Rattle.std.proofs.Common.{◌≡◌, ℕ, ◌+◌, ◌<◌, List, [], ◌∷◌, ◌++◌, cond, eqb, Bool, true, false, refl, ap, arith}
 use Rattle.std.specs.List.{range_with_len}
 use Rattle.std.proofs.lemmas.Bool.{eqb-true}
-use Rattle.linked_list.specs.Count.{IsApart, hit, times}
-use Rattle.linked_list.specs.Places.{without}
-use Rattle.linked_list.proofs.Counts.{hit-same, times-append}
+use Rattle.word_store.specs.Count.{IsApart, hit, times}
+use Rattle.kernel_model.specs.KernelLists.LinkedList.Places.{without}
+use Rattle.word_store.proofs.Counts.{hit-same, times-append}
 use Rattle.word_kinds.specs.Keeper.{AreTogether}
 use Rattle.word_kinds.specs.ToldWords.{WasClaimed, WasReleased}
 

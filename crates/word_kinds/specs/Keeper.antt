@@ -1,7 +1,7 @@
 -- What a keeper of kinds knows: the addresses of the kernel's words, in any order.
 use Rattle.std.specs.Prelude.{◌≡◌, ◌↔◌, ℕ, ◌+◌, ◌<◌, true, List}
-use Rattle.linked_list.specs.Count.{times}
-use Rattle.owned_words.specs.Owned.{owners}
+use Rattle.word_store.specs.Count.{times}
+use Rattle.kernel_model.specs.KernelLists.OwnedWords.Owned.{owners}
 use Rattle.kernel_model.specs.HoldsLists.{HoldsLists}
 use Rattle.kernel_model.specs.KernelRanges.{is_kernel_word}
 use Rattle.kernel_model.specs.Lists.{Lists}

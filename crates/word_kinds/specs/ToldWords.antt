@@ -1,6 +1,6 @@
 -- What a keeper of kinds knows before and after it is told of addresses that come or go.
 use Rattle.std.specs.Prelude.{◌≡◌, ℕ, ◌+◌, ◌≤◌, List}
-use Rattle.linked_list.specs.Count.{times}
+use Rattle.word_store.specs.Count.{times}
 
 -- a keeper, seen by what it tells, knows each address as often as it is counted
 abbrev pub KnowsCounts : (List ℕ → Type 0) → (ℕ → ℕ) → Type 0

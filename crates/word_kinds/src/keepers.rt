@@ -1,7 +1,7 @@
 // Keepers of kinds, which are told of each word that becomes the kernel's or ceases to be.
 ghost use Rattle.std.specs.Prelude.{◌≡◌, ◌<◌, ◌+◌, ◌≤◌, ◌↔◌, ℕ, List, true, length};
 ghost use Rattle.std.specs.List.{range_with_len};
-ghost use Rattle.linked_list.specs.Count.{IsApart, times};
+ghost use Rattle.word_store.specs.Count.{IsApart, times};
 ghost use Rattle.kernel_model.specs.Lists.{Lists};
 ghost use Rattle.word_kinds.specs.Keeper.{AreTogether, IsStoreOf};
 

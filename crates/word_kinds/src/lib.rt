@@ -3,6 +3,7 @@
 
 pub mod byte_kinds;
 pub mod keepers;
+mod ownership;
 pub mod questions;
 pub mod search;
 pub mod visits;
@@ -10,5 +11,9 @@ pub mod walk;
 
 pub use byte_kinds::ByteKinds;
 pub use keepers::KindKeeper;
+pub use ownership::are_unowned;
 pub use questions::{clear, packet_in};
 pub use walk::Walk;
+
+// Shown to the crates above.
+pub use kernel_model::{Stop, kernel_lists};

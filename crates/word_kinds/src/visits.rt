@@ -1,18 +1,18 @@
 // The one walk over the kernel's words, which shows them range by range.
 ghost use Rattle.std.specs.Prelude.{◌≡◌, ◌∷◌, ◌++◌, List, [], map, true};
 ghost use Rattle.std.specs.List.{AllByRecursion, flat_map};
-ghost use Rattle.linked_list.specs.Walk.{CanWalk};
-ghost use Rattle.getvec_chain.specs.Tiling.{IsTiled, blocks_in};
-ghost use Rattle.packet_queue.specs.Queue.{HasQueue};
-ghost use Rattle.task_block.specs.Lists.{module_link, modules_in};
-ghost use Rattle.task_block.specs.RootWords.{first_module, first_task};
-ghost use Rattle.task_block.specs.TaskChain.{task_link, tasks_in};
+ghost use Rattle.kernel_model.specs.KernelLists.LinkedList.Walk.{CanWalk};
+ghost use Rattle.kernel_model.specs.KernelLists.GetvecChain.Tiling.{IsTiled, blocks_in};
+ghost use Rattle.kernel_model.specs.KernelLists.PacketQueue.Queue.{HasQueue};
+ghost use Rattle.kernel_model.specs.KernelLists.TaskBlock.Lists.{module_link, modules_in};
+ghost use Rattle.kernel_model.specs.KernelLists.TaskBlock.RootWords.{first_module, first_task};
+ghost use Rattle.kernel_model.specs.KernelLists.TaskBlock.TaskChain.{task_link, tasks_in};
 ghost use Rattle.kernel_model.specs.Residents.{pending_head};
 ghost use Rattle.kernel_model.specs.KernelRanges.{CanWalkLists, CanWalkTask, IsModuleIn, Words, block_range, console_ranges, coroutine_ranges, fault_ranges, has_reporter, has_residents, kernel_ranges, list_ranges, module_ranges, packet_ranges, packets_at, pending_packets, task_ranges, task_size_in, work_packets, words};
 
-use getvec_chain::blocks;
-use packet_queue::packets;
-use task_block::{RootField, TcbField, coroutine_list, field, head_words, modules, root, tasks};
+use kernel_model::kernel_lists::{
+    RootField, TcbField, blocks, coroutine_list, field, head_words, modules, packets, root, tasks,
+};
 use word_store::{Store, word_at};
 
 /// The first word of the root node, and how many words it and the task table have.

@@ -1,13 +1,13 @@
 use Rattle.std.proofs.Common.{◌≡◌, ◌∙◌, ◌-◌, ◌≤◌, ℕ, List, Bool, true, false, Some, ap, arith}
 use Rattle.std.proofs.lemmas.Result.{err_from_is_err_and}
-use Rattle.getvec_chain.specs.declared.pieces.Block.{Block}
-use Rattle.getvec_chain.specs.Block.{is_used_at}
-use Rattle.getvec_chain.specs.Give.{given_store}
-use Rattle.getvec_chain.specs.Tiling.{blocks_in, used_at}
-use Rattle.getvec_chain.proofs.GiveAnswer.{give-ok, give-on}
-use Rattle.kernel_model.specs.HoldsLists.{HoldsLists}
-use Rattle.kernel_model.specs.Lists.{Lists}
-use Rattle.kernel_model.proofs.FollowedBlocks.{found-within}
+use Rattle.call_answers.specs.KernelDispatch.GetvecChain.declared.pieces.Block.{Block}
+use Rattle.call_answers.specs.KernelDispatch.GetvecChain.Block.{is_used_at}
+use Rattle.call_answers.specs.KernelDispatch.GetvecChain.Give.{given_store}
+use Rattle.call_answers.specs.KernelDispatch.GetvecChain.Tiling.{blocks_in, used_at}
+use Rattle.call_answers.proofs.Shown.KernelDispatch.GetvecChain.GiveAnswer.{give-ok, give-on}
+use Rattle.call_answers.specs.KernelDispatch.KernelModel.HoldsLists.{HoldsLists}
+use Rattle.call_answers.specs.KernelDispatch.KernelModel.Lists.{Lists}
+use Rattle.call_answers.proofs.Shown.KernelDispatch.KernelModel.FollowedBlocks.{found-within}
 use Rattle.call_answers.proofs.FoundTask.{reads}
 use Rattle.call_answers.proofs.MadeCalls.{handed-plain}
 use Rattle.block_calls.specs.Freevec.{freevec}

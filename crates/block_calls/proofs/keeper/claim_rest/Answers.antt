@@ -1,7 +1,7 @@
 use Rattle.std.proofs.Common.{[], ◌∷◌, cond, sym, subst, arith}
 use Rattle.std.proofs.lemmas.Bool.{le-ltb, lt-ltb}
-use Rattle.word_kinds.specs.ToldWords.{WasClaimed}
-use Rattle.word_kinds.proofs.ToldWords.{claimed-none, claimed-one}
+use Rattle.call_answers.specs.KernelDispatch.WordKinds.ToldWords.{WasClaimed}
+use Rattle.call_answers.proofs.Shown.KernelDispatch.WordKinds.ToldWords.{claimed-none, claimed-one}
 use Rattle.block_calls.proofs.keeper.claim_rest.Goals as goal
 
 pub returns-then-rest-end-clause-claimed : goal.returns-then-rest-end-clause-claimed

@@ -1,8 +1,8 @@
 use Rattle.std.proofs.Common.{◌++◌, append-nil, append_assoc, ap, sym, ◌∙◌, subst}
-use Rattle.word_kinds.specs.ToldWords.{WasReleased}
+use Rattle.call_answers.specs.KernelDispatch.WordKinds.ToldWords.{WasReleased}
 use Rattle.block_calls.specs.JoinedStarts.{joined_starts}
 use Rattle.block_calls.proofs.JoinedRuns.{joined-more, joined-so_far}
-use Rattle.word_kinds.proofs.ToldWords.{released-both}
+use Rattle.call_answers.proofs.Shown.KernelDispatch.WordKinds.ToldWords.{released-both}
 use Rattle.block_calls.proofs.keeper.release_joined.Goals as goal
 
 pub returns-then-block-run-clause-released : goal.returns-then-block-run-clause-released

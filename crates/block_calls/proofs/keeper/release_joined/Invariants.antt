@@ -1,6 +1,6 @@
 use Rattle.std.proofs.Common.{◌≡◌, ◌++◌}
-use Rattle.getvec_chain.specs.Tiling.{blocks_from}
-use Rattle.word_kinds.specs.ToldWords.{WasReleased}
+use Rattle.call_answers.specs.KernelDispatch.GetvecChain.Tiling.{blocks_from}
+use Rattle.call_answers.specs.KernelDispatch.WordKinds.ToldWords.{WasReleased}
 use Rattle.block_calls.specs.JoinedStarts.{joined_starts}
 use Rattle.block_calls.proofs.keeper.release_joined.Given as goal
 

@@ -1,6 +1,6 @@
 use Rattle.std.proofs.Common.{[], ◌∷◌, cond, sym, ◌∙◌, subst}
-use Rattle.word_kinds.specs.ToldWords.{WasReleased}
-use Rattle.word_kinds.proofs.ToldWords.{released-none, released-one}
+use Rattle.call_answers.specs.KernelDispatch.WordKinds.ToldWords.{WasReleased}
+use Rattle.call_answers.proofs.Shown.KernelDispatch.WordKinds.ToldWords.{released-none, released-one}
 use Rattle.block_calls.proofs.keeper.release_start.Goals as goal
 
 pub returns-then-not-is_joined-clause-released : goal.returns-then-not-is_joined-clause-released

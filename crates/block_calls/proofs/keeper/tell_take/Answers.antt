@@ -1,14 +1,14 @@
 use Rattle.std.proofs.Common.{◌≡◌, ℕ, List, Option, Some, None, Ok, sym, subst, arith}
 use Rattle.std.specs.Option.{ok_or}
-use Rattle.getvec_chain.specs.declared.pieces.Run.{Run}
-use Rattle.getvec_chain.specs.Run.{first_run, need}
-use Rattle.getvec_chain.specs.Tiling.{blocks_in}
-use Rattle.getvec_chain.proofs.Runs.{FoundRun, run-tiled}
-use Rattle.kernel_model.specs.HoldsLists.{HoldsLists}
-use Rattle.kernel_model.specs.Lists.{Lists}
+use Rattle.call_answers.specs.KernelDispatch.GetvecChain.declared.pieces.Run.{Run}
+use Rattle.call_answers.specs.KernelDispatch.GetvecChain.Run.{first_run, need}
+use Rattle.call_answers.specs.KernelDispatch.GetvecChain.Tiling.{blocks_in}
+use Rattle.call_answers.proofs.Shown.KernelDispatch.GetvecChain.Runs.{FoundRun, run-tiled}
+use Rattle.call_answers.specs.KernelDispatch.KernelModel.HoldsLists.{HoldsLists}
+use Rattle.call_answers.specs.KernelDispatch.KernelModel.Lists.{Lists}
 use Rattle.call_answers.proofs.FoundTask.{reads}
-use Rattle.word_kinds.specs.ToldWords.{WasReleased}
-use Rattle.word_kinds.proofs.OwnedMarks.{size-low}
+use Rattle.call_answers.specs.KernelDispatch.WordKinds.ToldWords.{WasReleased}
+use Rattle.call_answers.proofs.Shown.KernelDispatch.WordKinds.OwnedMarks.{size-low}
 use Rattle.block_calls.proofs.JoinedRuns.{joined-from}
 use Rattle.block_calls.proofs.TakenWords.{found, knows-take}
 use Rattle.block_calls.proofs.keeper.tell_take.Goals as goal

@@ -1,6 +1,6 @@
 use Rattle.std.proofs.Common.{◌≡◌}
-use Rattle.linked_list.specs.Places.{has}
-use Rattle.task_block.specs.Lists.{coroutines_in}
+use Rattle.call_answers.specs.KernelDispatch.LinkedList.Places.{has}
+use Rattle.call_answers.specs.KernelDispatch.TaskBlock.Lists.{coroutines_in}
 use Rattle.block_calls.proofs.uses.has_coroutine.Given as goal
 
 abbrev pub invariant-loop-c : goal.invariant-loop-c

@@ -1,9 +1,9 @@
 use Rattle.std.proofs.Common.{◌≡◌}
 use Rattle.std.specs.List.{AllByRecursion, list_any}
-use Rattle.linked_list.specs.Places.{has}
-use Rattle.task_block.specs.Lists.{coroutines_in}
-use Rattle.task_block.specs.TaskChain.{tasks_in}
-use Rattle.kernel_model.specs.KernelRanges.{CanWalkTask}
+use Rattle.call_answers.specs.KernelDispatch.LinkedList.Places.{has}
+use Rattle.call_answers.specs.KernelDispatch.TaskBlock.Lists.{coroutines_in}
+use Rattle.call_answers.specs.KernelDispatch.TaskBlock.TaskChain.{tasks_in}
+use Rattle.call_answers.specs.KernelDispatch.KernelModel.KernelRanges.{CanWalkTask}
 use Rattle.block_calls.proofs.uses.is_coroutine.Given as goal
 
 abbrev pub invariant-loop-t : goal.invariant-loop-t

@@ -1,5 +1,5 @@
 use Rattle.std.proofs.Common.{sym, ◌∙◌}
-use Rattle.kernel_model.proofs.WalkedLists.{can-walk}
+use Rattle.call_answers.proofs.Shown.KernelDispatch.KernelModel.WalkedLists.{can-walk}
 use Rattle.call_answers.proofs.ListedModules.{module-told}
 use Rattle.block_calls.proofs.BlockUses.{coroutines-told, residents-told, tasks-told, use-coroutine, use-module, use-residents, use-task}
 use Rattle.block_calls.proofs.uses.is_of_lists.Goals as goal

@@ -1,6 +1,6 @@
 use Rattle.std.proofs.Common.{◌≡◌}
-use Rattle.linked_list.specs.Places.{has}
-use Rattle.task_block.specs.TaskChain.{tasks_in}
+use Rattle.call_answers.specs.KernelDispatch.LinkedList.Places.{has}
+use Rattle.call_answers.specs.KernelDispatch.TaskBlock.TaskChain.{tasks_in}
 use Rattle.block_calls.proofs.uses.is_task.Given as goal
 
 abbrev pub invariant-loop-t : goal.invariant-loop-t

@@ -1,7 +1,7 @@
 use Rattle.std.proofs.Common.{◌≡◌, ℕ, Option, Some, None, Result, Ok, Err, refl, sym, ◌∙◌, subst}
 use Rattle.std.specs.Option.{ok_or}
 use Rattle.std.proofs.lemmas.Result.{err_from_is_err_and}
-use Rattle.getvec_chain.specs.declared.pieces.Block.{Block}
+use Rattle.call_answers.specs.KernelDispatch.GetvecChain.declared.pieces.Block.{Block}
 use Rattle.call_answers.proofs.FoundTask.{reads}
 use Rattle.block_calls.specs.Freevec.{IsUsersBlock}
 use Rattle.block_calls.proofs.BlockUses.{no-block, not-users, other-block, users-here}

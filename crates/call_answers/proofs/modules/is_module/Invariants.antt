@@ -1,6 +1,6 @@
 use Rattle.std.proofs.Common.{◌≡◌}
-use Rattle.linked_list.specs.Places.{has}
-use Rattle.task_block.specs.Lists.{modules_in}
+use Rattle.kernel_dispatch.specs.LinkedList.Places.{has}
+use Rattle.kernel_dispatch.specs.TaskBlock.Lists.{modules_in}
 use Rattle.call_answers.proofs.modules.is_module.Given as goal
 
 abbrev pub invariant-loop-n : goal.invariant-loop-n

@@ -1,5 +1,5 @@
 use Rattle.std.proofs.Common.{arith}
-use Rattle.text_reader.specs.Lines.{lines_of}
+use Rattle.hunk_text.specs.TextReader.Lines.{lines_of}
 use Rattle.cint_asm.specs.KeptCode.{kept_code}
 use Rattle.cint_asm.specs.KeptLabels.{table_of}
 use Rattle.cint_asm.proofs.EncodeLemmas.{encode_step, surveyed_step}

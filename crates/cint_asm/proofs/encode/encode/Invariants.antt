@@ -1,5 +1,5 @@
 use Rattle.std.proofs.Common.{◌≡◌, ◌≤◌, ◌+◌, length}
-use Rattle.text_reader.specs.Lines.{lines_of}
+use Rattle.hunk_text.specs.TextReader.Lines.{lines_of}
 use Rattle.cint_asm.specs.Encoding.{encode}
 use Rattle.cint_asm.specs.KeptCode.{kept_code}
 use Rattle.cint_asm.specs.KeptLabels.{table_of}

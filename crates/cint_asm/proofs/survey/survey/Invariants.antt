@@ -1,5 +1,5 @@
 use Rattle.std.proofs.Common.{◌≡◌, ◌≤◌, ◌+◌, length}
-use Rattle.text_reader.specs.Lines.{lines_of}
+use Rattle.hunk_text.specs.TextReader.Lines.{lines_of}
 use Rattle.cint_asm.specs.KeptLabels.{layout_of}
 use Rattle.cint_asm.specs.Survey.{no_lines, survey}
 use Rattle.cint_asm.proofs.survey.survey.Given as goal

@@ -1,5 +1,5 @@
 use Rattle.std.proofs.Common.{Ok, Err, ap}
-use Rattle.kernel_model.specs.Kernel.Mode.{Waiting}
+use Rattle.shell_programs.specs.KernelCalls.KernelModel.Kernel.Mode.{Waiting}
 use Rattle.shell_programs.specs.StartedProgram.{start_program}
 use Rattle.shell_programs.specs.declared.programs.Priority.TheVariants.{AboveShell}
 use Rattle.cli_shell.specs.Commands.{after_start, program_request, with_started}

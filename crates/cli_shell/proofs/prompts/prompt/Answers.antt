@@ -1,5 +1,5 @@
 use Rattle.std.proofs.Common.{arith}
-use Rattle.kernel_model.specs.Kernel.Mode.{Reading}
+use Rattle.shell_programs.specs.KernelCalls.KernelModel.Kernel.Mode.{Reading}
 use Rattle.cli_shell.specs.Prompts.{console_number, line_request, prompt}
 use Rattle.cli_shell.proofs.DoneParts.{can-post, console-there, done-mode, done-sent, ready-shown}
 use Rattle.cli_shell.proofs.prompts.prompt.Goals as goal

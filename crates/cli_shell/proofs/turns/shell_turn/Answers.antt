@@ -1,5 +1,5 @@
 use Rattle.std.proofs.Common.{◌∙◌, sym}
-use Rattle.call_answers.specs.Outside.{outside}
+use Rattle.shell_programs.specs.KernelCalls.CallAnswers.Outside.{outside}
 use Rattle.cli_shell.proofs.WholeTurn.{done-begun, done-cleared, done-ends, idle-turn, turn-ended, turn-finished, turn-is, whole-turn}
 use Rattle.cli_shell.proofs.turns.shell_turn.Goals as goal
 

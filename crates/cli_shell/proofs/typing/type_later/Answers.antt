@@ -1,5 +1,5 @@
 use Rattle.std.proofs.Common.{arith}
-use Rattle.kernel_model.specs.Kernel.Mode.{Typing}
+use Rattle.shell_programs.specs.KernelCalls.KernelModel.Kernel.Mode.{Typing}
 use Rattle.shell_programs.specs.ClearedTasks.{shell_number}
 use Rattle.cli_shell.proofs.DoneParts.{can-post, done-mode, done-posted}
 use Rattle.cli_shell.proofs.typing.type_later.Goals as goal

@@ -1,8 +1,8 @@
 use Rattle.std.proofs.Common.{length}
-use Rattle.packet_queue.specs.Queue.{queue_at}
-use Rattle.kernel_model.specs.HoldsLists.{HoldsLists}
-use Rattle.kernel_model.specs.Lists.{Lists}
-use Rattle.kernel_model.specs.Owned.{clock_head}
+use Rattle.kernel_calls.specs.PacketQueue.Queue.{queue_at}
+use Rattle.kernel_calls.specs.KernelModel.HoldsLists.{HoldsLists}
+use Rattle.kernel_calls.specs.KernelModel.Lists.{Lists}
+use Rattle.kernel_calls.specs.KernelModel.Owned.{clock_head}
 use Rattle.clock_device.proofs.ReturnedPackets.{HasReturned}
 use Rattle.clock_device.proofs.ticks.return_due.Given as goal
 

@@ -1,6 +1,6 @@
 use Rattle.std.proofs.Common.{arith, ◌+◌}
-use Rattle.kernel_model.specs.Lists.{Lists}
-use Rattle.call_answers.proofs.RootTold.{tick-told}
+use Rattle.kernel_calls.specs.KernelModel.Lists.{Lists}
+use Rattle.kernel_calls.proofs.Shown.CallAnswers.RootTold.{tick-told}
 use Rattle.clock_device.specs.Tick.{with_tick}
 use Rattle.clock_device.proofs.WholeTick.{tick-held, tick-noted, tick-served}
 use Rattle.clock_device.proofs.ticks.tick.Goals as goal

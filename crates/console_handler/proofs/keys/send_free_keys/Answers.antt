@@ -1,5 +1,5 @@
 use Rattle.std.proofs.Common.{◌∙◌, ◌&&◌, ap, not, sym, subst, is_some}
-use Rattle.call_answers.specs.Outside.{outside}
+use Rattle.resident_requests.specs.KernelCalls.CallAnswers.Outside.{outside}
 use Rattle.console_handler.specs.Progress.{IsDone}
 use Rattle.console_handler.proofs.DoneParts.{done-residents}
 use Rattle.console_handler.proofs.FreeKeys.{and-no, keys-go, keys-stay}

@@ -1,4 +1,4 @@
-use Rattle.call_answers.specs.Outside.{outside}
+use Rattle.resident_requests.specs.KernelCalls.CallAnswers.Outside.{outside}
 use Rattle.console_handler.proofs.PressedKeys.{key-done}
 use Rattle.console_handler.proofs.presses.take_key.Goals as goal
 

@@ -1,9 +1,9 @@
 use Rattle.std.proofs.Common.{◌∙◌, sym, subst, Some}
 use Rattle.word_store.specs.Arithmetic.{signed}
-use Rattle.packet_queue.specs.Log.{Notes}
-use Rattle.packet_queue.specs.declared.events.KernelEvent.TheVariants.{Taken}
-use Rattle.packet_moves.proofs.HeldPlaces.{stands-at}
-use Rattle.kernel_model.specs.ValidQueues.Place.{Pending}
+use Rattle.resident_requests.specs.KernelCalls.PacketQueue.Log.{Notes}
+use Rattle.resident_requests.specs.KernelCalls.PacketQueue.declared.events.KernelEvent.TheVariants.{Taken}
+use Rattle.resident_requests.proofs.Shown.KernelCalls.PacketCalls.HeldPlaces.{stands-at}
+use Rattle.resident_requests.specs.KernelCalls.KernelModel.ValidQueues.Place.{Pending}
 use Rattle.console_handler.specs.Reads.{IsReadTaken, reads}
 use Rattle.console_handler.proofs.WaitingReads.{none-noted, none-waits, read-noted, read-packet, read-queue, read-taken}
 use Rattle.console_handler.proofs.reads.take_read.Goals as goal

@@ -1,5 +1,5 @@
 use Rattle.std.proofs.Common.{subst}
-use Rattle.call_answers.specs.Outside.{outside}
+use Rattle.resident_requests.specs.KernelCalls.CallAnswers.Outside.{outside}
 use Rattle.resident_requests.specs.Requests.{IsTaken, taken}
 use Rattle.console_handler.proofs.DoneParts.{done-keeper}
 use Rattle.console_handler.proofs.TreatedRequests.{answer-done, none-done, read-done, request-keeper, request-number, request-residents}

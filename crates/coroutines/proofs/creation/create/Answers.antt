@@ -1,5 +1,5 @@
 use Rattle.std.proofs.Common.{◌≡◌, ◌∙◌, sym, subst, ap, set, arith, ◌∷◌, [], ◌+◌, ℕ, List}
-use Rattle.word_store.specs.Row.{with_words}
+use Rattle.getvec_chain.specs.WordStore.Row.{with_words}
 use Rattle.getvec_chain.specs.Take.{IsTaken}
 use Rattle.getvec_chain.specs.Tiling.{blocks_in}
 use Rattle.task_block.specs.Lists.{coroutines_in}

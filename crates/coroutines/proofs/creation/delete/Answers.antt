@@ -3,9 +3,9 @@ use Rattle.std.specs.Bool.{OnTrue}
 use Rattle.getvec_chain.proofs.GiveAnswer.{give-ok, give-on}
 use Rattle.getvec_chain.specs.Give.{given_store}
 use Rattle.getvec_chain.specs.Tiling.{IsTiled, blocks_in, used_at}
-use Rattle.linked_list.proofs.UnlinkAnswer.{unlink-words}
-use Rattle.linked_list.specs.Chain.{list_at}
-use Rattle.linked_list.specs.Places.{has, without, without_node}
+use Rattle.getvec_chain.proofs.Shown.LinkedList.UnlinkAnswer.{unlink-words}
+use Rattle.getvec_chain.specs.LinkedList.Chain.{list_at}
+use Rattle.getvec_chain.specs.LinkedList.Places.{has, without, without_node}
 use Rattle.task_block.specs.Lists.{coroutine_link, coroutines_in}
 use Rattle.coroutines.specs.Active.{active_in}
 use Rattle.coroutines.specs.Creation.{deleted}

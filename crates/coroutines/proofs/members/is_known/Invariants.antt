@@ -1,5 +1,5 @@
 use Rattle.std.proofs.Common.{◌≡◌}
-use Rattle.linked_list.specs.Places.{has}
+use Rattle.getvec_chain.specs.LinkedList.Places.{has}
 use Rattle.coroutines.specs.Refusals.{is_known}
 use Rattle.coroutines.proofs.members.is_known.Given as goal
 

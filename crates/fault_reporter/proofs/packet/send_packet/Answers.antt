@@ -1,13 +1,13 @@
 use Rattle.std.proofs.Common.{◌∙◌, sym, subst}
-use Rattle.packet_queue.specs.Log.{Notes}
-use Rattle.packet_queue.specs.Queue.{HasQueue}
-use Rattle.kernel_model.specs.NotedEvents.{NotesAll}
-use Rattle.kernel_model.proofs.NotedInTurn.{notes-none}
-use Rattle.call_answers.proofs.FoundTask.{reads}
-use Rattle.packet_calls.proofs.CallerTask.{caller-number}
-use Rattle.packet_moves.specs.QueueWords.{head_of}
-use Rattle.packet_moves.proofs.HeldPlaces.{stands-at}
-use Rattle.kernel_model.specs.ValidQueues.Place.{Work}
+use Rattle.resident_requests.specs.KernelCalls.PacketQueue.Log.{Notes}
+use Rattle.resident_requests.specs.KernelCalls.PacketQueue.Queue.{HasQueue}
+use Rattle.resident_requests.specs.KernelCalls.KernelModel.NotedEvents.{NotesAll}
+use Rattle.resident_requests.proofs.Shown.KernelCalls.KernelModel.NotedInTurn.{notes-none}
+use Rattle.resident_requests.proofs.Shown.KernelCalls.CallAnswers.FoundTask.{reads}
+use Rattle.resident_requests.proofs.Shown.KernelCalls.PacketCalls.CallerTask.{caller-number}
+use Rattle.resident_requests.specs.KernelCalls.PacketCalls.QueueWords.{head_of}
+use Rattle.resident_requests.proofs.Shown.KernelCalls.PacketCalls.HeldPlaces.{stands-at}
+use Rattle.resident_requests.specs.KernelCalls.KernelModel.ValidQueues.Place.{Work}
 use Rattle.fault_reporter.specs.Recorded.{events_where}
 use Rattle.fault_reporter.proofs.FaultPacket.{not-sent, packet-noted, packet-sent, send-packet, send-queue, reporter-found, reporter-queue, waits-is}
 use Rattle.fault_reporter.proofs.packet.send_packet.Goals as goal

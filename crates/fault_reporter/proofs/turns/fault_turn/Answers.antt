@@ -1,7 +1,7 @@
 use Rattle.std.proofs.Common.{◌∙◌, Some, inl, refl, sym, subst, []}
 use Rattle.resident_requests.specs.Requests.{taken}
 use Rattle.resident_requests.specs.Turns.{IsResidentTurn}
-use Rattle.call_answers.specs.Outside.{outside}
+use Rattle.resident_requests.specs.KernelCalls.CallAnswers.Outside.{outside}
 use Rattle.resident_requests.proofs.ResidentTurns.{keeper-taken, turn-idle, turn-served}
 use Rattle.resident_requests.proofs.TakenRequest.{taken-running}
 use Rattle.fault_reporter.specs.FaultTurns.{unknown}

@@ -1,5 +1,5 @@
 use Rattle.std.proofs.Common.{◌++◌, ◌∙◌, length, ap}
-use Rattle.kernel_model.proofs.WalkedLists.{can-walk}
+use Rattle.resident_requests.proofs.Shown.KernelCalls.KernelModel.WalkedLists.{can-walk}
 use Rattle.resident_requests.specs.Requests.{work}
 use Rattle.fault_reporter.specs.FaultTurns.{all_reported, fault_taken_from}
 use Rattle.fault_reporter.proofs.HeldGuest.{same-then}

@@ -1,5 +1,5 @@
 use Rattle.std.proofs.Common.{◌≡◌, ◌∙◌, Some, sym, subst}
-use Rattle.kernel_model.specs.NotedEvents.{NotesAll}
+use Rattle.resident_requests.specs.KernelCalls.KernelModel.NotedEvents.{NotesAll}
 use Rattle.resident_requests.specs.Answers.{answered}
 use Rattle.resident_requests.specs.Requests.{taken}
 use Rattle.resident_requests.specs.Turns.{CanServe, IsServed, service}

@@ -1,4 +1,4 @@
-use Rattle.call_answers.specs.Outside.{outside}
+use Rattle.kernel_calls.specs.CallAnswers.Outside.{outside}
 use Rattle.kernel_calls.specs.Calls.{kernel_call}
 use Rattle.guest_turns.proofs.TurnParts.{turned-called}
 use Rattle.guest_turns.proofs.turns.make_call.Goals as goal

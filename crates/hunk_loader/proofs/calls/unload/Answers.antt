@@ -2,11 +2,11 @@ use Rattle.std.proofs.Common.{◌≡◌, ◌∙◌, ◌+◌, ℕ, List, true, fa
 use Rattle.getvec_chain.specs.Give.{given, given_store}
 use Rattle.getvec_chain.specs.Tiling.{IsTiled, blocks_in, used_at}
 use Rattle.getvec_chain.proofs.GiveAnswer.{give-ok, give-on}
-use Rattle.linked_list.specs.Chain.{list_at}
-use Rattle.linked_list.specs.Places.{has, without_node}
-use Rattle.linked_list.specs.Walk.{CanWalk}
-use Rattle.linked_list.proofs.UnlinkAnswer.{unlink-found, unlink-words}
-use Rattle.linked_list.proofs.Walks.{can_walk, no_offset}
+use Rattle.getvec_chain.specs.LinkedList.Chain.{list_at}
+use Rattle.getvec_chain.specs.LinkedList.Places.{has, without_node}
+use Rattle.getvec_chain.specs.LinkedList.Walk.{CanWalk}
+use Rattle.getvec_chain.proofs.Shown.LinkedList.UnlinkAnswer.{unlink-found, unlink-words}
+use Rattle.getvec_chain.proofs.Shown.LinkedList.Walks.{can_walk, no_offset}
 use Rattle.task_block.specs.Lists.{module_link, modules_in}
 use Rattle.hunk_loader.specs.Modules.{HasModules}
 use Rattle.hunk_loader.proofs.ModuleBlocks.{linked, one_word}

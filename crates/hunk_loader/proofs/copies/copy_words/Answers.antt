@@ -1,5 +1,5 @@
 use Rattle.std.proofs.Common.{refl, sym, arith, subst, ◌+◌, List, ℕ}
-use Rattle.word_store.specs.Row.{with_words}
+use Rattle.getvec_chain.specs.WordStore.Row.{with_words}
 use Rattle.hunk_loader.proofs.CopiedWords.{CopyLeft, copy_done, copy_more, copy_some}
 use Rattle.hunk_loader.proofs.copies.copy_words.Goals as goal
 

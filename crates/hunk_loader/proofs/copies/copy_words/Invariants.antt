@@ -1,5 +1,5 @@
 use Rattle.std.proofs.Common.{ℕ, List}
-use Rattle.word_store.specs.Row.{with_words}
+use Rattle.getvec_chain.specs.WordStore.Row.{with_words}
 use Rattle.hunk_loader.specs.Follow.{WordsFollow}
 use Rattle.hunk_loader.proofs.CopiedWords.{CopyLeft}
 use Rattle.hunk_loader.proofs.copies.copy_words.Given as goal

@@ -1,6 +1,6 @@
 use Rattle.std.proofs.Common.{◌≡◌, ◌∙◌, ℕ, ◌+◌, ◌-◌, List, get_or, reverse, refl, sym, ap, arith}
 use Rattle.std.specs.Prelude.{slice_range}
-use Rattle.word_store.specs.Arithmetic.{add, mul}
+use Rattle.getvec_chain.specs.WordStore.Arithmetic.{add, mul}
 use Rattle.hunk_loader.specs.Globals.{global_of_number, globals_of_pairs, with_globals}
 use Rattle.hunk_loader.proofs.GlobalLists.{globals-none, globals-some, number-is, pairs-end, pairs-more, pairs-stop, some_words, with_globals-append, with_globals-other}
 use Rattle.hunk_loader.proofs.globals.init_hunk.Goals as goal

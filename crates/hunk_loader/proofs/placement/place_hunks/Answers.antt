@@ -1,5 +1,5 @@
 use Rattle.std.proofs.Common.{◌≡◌, ◌∙◌, ◌+◌, ◌-◌, length, refl, sym, subst, ap, arith, length-set}
-use Rattle.word_store.proofs.Rows.{length-with_words}
+use Rattle.getvec_chain.proofs.Shown.WordStore.Rows.{length-with_words}
 use Rattle.hunk_loader.specs.RelocatedWords.{relocated}
 use Rattle.hunk_loader.proofs.PlacedHunks.{HunksLeft, first_inside, hunk_first, hunks_begin, hunks_done, hunks_then, row_behind}
 use Rattle.hunk_loader.proofs.placement.place_hunks.Goals as goal

@@ -1,5 +1,5 @@
 use Rattle.std.proofs.Common.{◌≡◌, ◌∙◌, ◌-◌, ◌+◌, ℕ, List, length, get_or, refl, sym, subst, arith, length-set}
-use Rattle.word_store.specs.Arithmetic.{add}
+use Rattle.getvec_chain.specs.WordStore.Arithmetic.{add}
 use Rattle.hunk_loader.specs.Follow.{places}
 use Rattle.hunk_loader.specs.RelocatedWords.{relocated}
 use Rattle.hunk_loader.proofs.CopiedWords.{read_further}

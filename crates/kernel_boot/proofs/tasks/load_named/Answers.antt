@@ -1,5 +1,5 @@
 use Rattle.std.proofs.Common.{◌∙◌, ℕ, List, Option, sym, subst}
-use Rattle.call_answers.specs.Made.{IsMade}
+use Rattle.kernel_calls.specs.CallAnswers.Made.{IsMade}
 use Rattle.kernel_boot.specs.BootTasks.{load_bytes}
 use Rattle.kernel_boot.proofs.StandingKernels.{text-made}
 use Rattle.kernel_boot.proofs.tasks.load_named.Goals as goal

@@ -1,6 +1,6 @@
 use Rattle.std.proofs.Common.{◌≡◌, [], ◌∷◌, sym, ◌∙◌, subst}
-use Rattle.call_answers.specs.Guests.{GuestAt}
-use Rattle.call_answers.specs.Made.{IsMade}
+use Rattle.task_calls.specs.CallAnswers.Guests.{GuestAt}
+use Rattle.task_calls.specs.CallAnswers.Made.{IsMade}
 use Rattle.packet_calls.proofs.CallerTask.{caller-number}
 use Rattle.task_calls.specs.CreateTask.{MayCreate, create_task}
 use Rattle.kernel_calls.proofs.CreatedByCaller.{caller-creates}

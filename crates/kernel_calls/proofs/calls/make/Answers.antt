@@ -1,9 +1,9 @@
 use Rattle.std.proofs.Common.{◌%◌, [], ◌∷◌, Ok, refl, sym, ap, ◌∙◌, subst}
-use Rattle.kernel_model.specs.Changes.{queue_of}
-use Rattle.kernel_model.specs.ValidQueues.Place.{Work}
-use Rattle.call_answers.specs.Made.{IsMade, minus_one, plain_answer}
-use Rattle.block_calls.specs.Freevec.{freevec}
-use Rattle.block_calls.specs.Getvec.{getvec}
+use Rattle.task_calls.specs.KernelDispatch.KernelModel.Changes.{queue_of}
+use Rattle.task_calls.specs.KernelDispatch.KernelModel.ValidQueues.Place.{Work}
+use Rattle.task_calls.specs.CallAnswers.Made.{IsMade, minus_one, plain_answer}
+use Rattle.task_calls.specs.BlockCalls.Freevec.{freevec}
+use Rattle.task_calls.specs.BlockCalls.Getvec.{getvec}
 use Rattle.coroutine_calls.specs.CallCo.{callco}
 use Rattle.coroutine_calls.specs.CoWait.{cowait}
 use Rattle.coroutine_calls.specs.CreateCo.{createco}
@@ -21,7 +21,7 @@ use Rattle.task_calls.specs.ReleaseTask.{release}
 use Rattle.task_calls.specs.SetFlags.{set_flags}
 use Rattle.task_calls.specs.TestFlags.{test_flags}
 use Rattle.task_calls.proofs.SameWords.{change_pri-owners, hold-owners, release-owners, set_flags-owners, test_flags-owners}
-use Rattle.call_answers.specs.Outside.{outside}
+use Rattle.task_calls.specs.CallAnswers.Outside.{outside}
 use Rattle.kernel_calls.specs.Calls.{answered, divided}
 use Rattle.kernel_calls.proofs.CalledAnswers.{called-byte, called-ended, called-noting, called-silent, called-switched, called-taking, called-waiting, made-same}
 use Rattle.kernel_calls.proofs.SilentCalls.{add_module-silent, change_pri-silent, create_task-silent, createco-silent, delete_task-silent, deleteco-silent, freevec-silent, getvec-silent, hold-silent, release-silent, set_flags-silent, unload_module-silent}

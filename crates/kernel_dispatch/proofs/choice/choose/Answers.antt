@@ -1,5 +1,5 @@
 use Rattle.std.proofs.Common.{◌∙◌}
-use Rattle.kernel_model.proofs.WalkedLists.{can-walk}
+use Rattle.word_kinds.proofs.Shown.KernelModel.WalkedLists.{can-walk}
 use Rattle.kernel_dispatch.proofs.ReadyChoice.{first-ready}
 use Rattle.kernel_dispatch.proofs.choice.choose.Goals as goal
 

@@ -1,5 +1,5 @@
 use Rattle.std.proofs.Common.{◌≡◌, find}
-use Rattle.task_block.specs.TaskChain.{tasks_in}
+use Rattle.word_kinds.specs.KernelLists.TaskBlock.TaskChain.{tasks_in}
 use Rattle.kernel_dispatch.specs.ReadyTasks.{is_ready_in}
 use Rattle.kernel_dispatch.proofs.choice.first_by_state.Given as goal
 

@@ -1,5 +1,5 @@
 use Rattle.std.proofs.Common.{◌≡◌, find}
-use Rattle.task_block.specs.TaskChain.{id_in, tasks_in}
+use Rattle.word_kinds.specs.KernelLists.TaskBlock.TaskChain.{id_in, tasks_in}
 use Rattle.kernel_dispatch.specs.ReadyTasks.{is_in}
 use Rattle.kernel_dispatch.proofs.choice.first_in_set.Given as goal
 

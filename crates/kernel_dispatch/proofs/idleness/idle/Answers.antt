@@ -1,8 +1,8 @@
 use Rattle.std.proofs.Common.{◌∙◌, sym, subst, cond, [], ◌∷◌}
 use Rattle.std.proofs.lemmas.Bool.{ne_eqb}
-use Rattle.packet_queue.specs.declared.events.KernelEvent.TheVariants.{Runs}
-use Rattle.kernel_model.specs.NotedEvents.{NotesAll}
-use Rattle.kernel_model.proofs.NotedInTurn.{notes-one}
+use Rattle.word_kinds.specs.KernelLists.PacketQueue.declared.events.KernelEvent.TheVariants.{Runs}
+use Rattle.word_kinds.specs.KernelModel.NotedEvents.{NotesAll}
+use Rattle.word_kinds.proofs.Shown.KernelModel.NotedInTurn.{notes-one}
 use Rattle.kernel_dispatch.specs.DispatchWords.{running_in}
 use Rattle.kernel_dispatch.proofs.idleness.idle.Goals as goal
 

@@ -1,6 +1,6 @@
 use Rattle.std.proofs.Common.{ap, subst}
-use Rattle.packet_queue.specs.Log.{Notes}
-use Rattle.packet_queue.specs.declared.events.KernelEvent.TheVariants.{Runs}
+use Rattle.word_kinds.specs.KernelLists.PacketQueue.Log.{Notes}
+use Rattle.word_kinds.specs.KernelLists.PacketQueue.declared.events.KernelEvent.TheVariants.{Runs}
 use Rattle.kernel_dispatch.proofs.WholeDispatch.{resumes}
 use Rattle.kernel_dispatch.proofs.resumption.resume.Goals as goal
 

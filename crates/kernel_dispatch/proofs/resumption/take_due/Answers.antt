@@ -1,7 +1,7 @@
 use Rattle.std.proofs.Common.{◌≡◌, ◌∙◌, sym, subst, true}
 use Rattle.word_store.specs.Arithmetic.{signed}
-use Rattle.packet_queue.specs.Log.{Notes}
-use Rattle.packet_queue.specs.declared.events.KernelEvent.TheVariants.{Taken}
+use Rattle.word_kinds.specs.KernelLists.PacketQueue.Log.{Notes}
+use Rattle.word_kinds.specs.KernelLists.PacketQueue.declared.events.KernelEvent.TheVariants.{Taken}
 use Rattle.kernel_dispatch.specs.Dispatch.{takes_packet}
 use Rattle.kernel_dispatch.specs.DispatchWords.{takes_packet_by}
 use Rattle.kernel_dispatch.proofs.TakenWork.{none-taken, one-taken, queue-stands, some-taken, takes-told}

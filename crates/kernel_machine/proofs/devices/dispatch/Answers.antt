@@ -1,5 +1,5 @@
 use Rattle.std.proofs.Common.{refl, subst, sym}
-use Rattle.kernel_dispatch.specs.Dispatch.{CanDispatch}
+use Rattle.kernel_steps.specs.KernelCalls.KernelDispatch.Dispatch.{CanDispatch}
 use Rattle.kernel_machine.proofs.ServedParts.{leaves-dispatch}
 use Rattle.kernel_machine.proofs.devices.dispatch.Goals as goal
 

@@ -1,6 +1,6 @@
 use Rattle.std.proofs.Common.{◌∙◌, ap, subst, sym}
-use Rattle.kernel_model.specs.NotedEvents.{NotesAll}
-use Rattle.kernel_model.proofs.NotedInTurn.{notes-none, notes-one, notes-then}
+use Rattle.kernel_steps.specs.KernelCalls.KernelModel.NotedEvents.{NotesAll}
+use Rattle.kernel_steps.proofs.Shown.KernelCalls.KernelModel.NotedInTurn.{notes-none, notes-one, notes-then}
 use Rattle.kernel_steps.specs.Step.{first_events}
 use Rattle.kernel_machine.proofs.TurnTests.{no-residents, some-residents}
 use Rattle.kernel_machine.proofs.machine.note_residents.Goals as goal

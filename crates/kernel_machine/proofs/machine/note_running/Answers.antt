@@ -1,8 +1,8 @@
 use Rattle.std.proofs.Common.{◌∙◌, ap, cond, subst, sym, [], ◌∷◌}
 use Rattle.std.proofs.lemmas.Bool.{ne_eqb}
-use Rattle.packet_queue.specs.declared.events.KernelEvent.TheVariants.{Runs}
-use Rattle.kernel_model.specs.NotedEvents.{NotesAll}
-use Rattle.kernel_model.proofs.NotedInTurn.{notes-one}
+use Rattle.kernel_steps.specs.KernelCalls.PacketQueue.declared.events.KernelEvent.TheVariants.{Runs}
+use Rattle.kernel_steps.specs.KernelCalls.KernelModel.NotedEvents.{NotesAll}
+use Rattle.kernel_steps.proofs.Shown.KernelCalls.KernelModel.NotedInTurn.{notes-one}
 use Rattle.kernel_steps.specs.Step.{run_events}
 use Rattle.kernel_machine.proofs.machine.note_running.Goals as goal
 

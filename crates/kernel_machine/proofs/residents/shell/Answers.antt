@@ -1,5 +1,5 @@
 use Rattle.std.proofs.Common.{Some, None, cond, ◌∙◌, ap, sym}
-use Rattle.bare_machine.specs.declared.stops.Stop.TheVariants.{Finish}
+use Rattle.kernel_steps.specs.KernelCalls.KernelModel.declared.stops.Stop.TheVariants.{Finish}
 use Rattle.kernel_machine.proofs.ResidentParts.{leaves-shell, runs-shell, stop-shell}
 use Rattle.kernel_machine.proofs.residents.shell.Goals as goal
 

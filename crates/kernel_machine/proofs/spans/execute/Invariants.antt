@@ -1,5 +1,5 @@
 use Rattle.std.proofs.Common.{◌-◌, ◌≤◌, ℕ, None}
-use Rattle.machine_parts.specs.declared.parts.Parts.{Parts}
+use Rattle.kernel_machine.specs.declared.parts.Parts.{Parts}
 use Rattle.kernel_machine.specs.Machine.{kernel_of}
 use Rattle.kernel_machine.specs.Runs.{IsOnWay}
 use Rattle.kernel_machine.proofs.spans.execute.Given as goal

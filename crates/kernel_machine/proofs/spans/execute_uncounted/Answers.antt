@@ -1,7 +1,7 @@
 use Rattle.std.proofs.Common.{◌≡◌, ◌∙◌, ◌+◌, ◌-◌, ◌/◌, ◌<◌, ◌≤◌, ℕ, suc, get_or, arith, refl, subst, sym}
-use Rattle.session_text.specs.Ranges.{most_steps}
+use Rattle.kernel_steps.specs.KernelCalls.KernelModel.Ranges.{most_steps}
 use Rattle.kernel_steps.specs.Step.{run}
-use Rattle.machine_parts.specs.declared.parts.Parts.{Parts}
+use Rattle.kernel_machine.specs.declared.parts.Parts.{Parts}
 use Rattle.kernel_machine.specs.Runs.{HasNoTick, IsOnWay, counted}
 use Rattle.kernel_machine.proofs.QuietSpan.{not-next}
 use Rattle.kernel_machine.proofs.UncountedSteps.{byte-here, keeper-here, told-first, told-here, uncounted-next, uncounted-stays, way-uncounted}

@@ -1,7 +1,7 @@
 use Rattle.std.proofs.Common.{◌≡◌, ◌+◌, ◌-◌, ◌/◌, ◌≤◌, ℕ, get_or}
-use Rattle.session_text.specs.Ranges.{most_steps}
-use Rattle.kernel_model.specs.Kernel.{Kernel}
-use Rattle.machine_parts.specs.declared.parts.Parts.{Parts}
+use Rattle.kernel_steps.specs.KernelCalls.KernelModel.Ranges.{most_steps}
+use Rattle.kernel_steps.specs.KernelCalls.KernelModel.Kernel.{Kernel}
+use Rattle.kernel_machine.specs.declared.parts.Parts.{Parts}
 use Rattle.kernel_machine.specs.Runs.{IsOnWay, counted}
 use Rattle.kernel_machine.proofs.spans.execute_uncounted.Given as goal
 

@@ -1,6 +1,6 @@
 use Rattle.std.proofs.Common.{◌∙◌, ap, refl, subst, sym}
 use Rattle.std.specs.Option.{option_map}
-use Rattle.machine_parts.specs.Stops.{stop_of}
+use Rattle.kernel_machine.specs.Stops.{stop_of}
 use Rattle.kernel_steps.specs.Step.{after_the_turn, turn, unless_stopped, with_step}
 use Rattle.kernel_machine.specs.Leaves.{Leaves}
 use Rattle.kernel_machine.proofs.LeftParts.{leaves-none, leaves-then}

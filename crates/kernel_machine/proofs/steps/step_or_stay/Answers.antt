@@ -1,6 +1,6 @@
 use Rattle.std.proofs.Common.{◌∙◌, ap, subst, sym}
 use Rattle.std.specs.Option.{option_map}
-use Rattle.machine_parts.specs.Stops.{stop_of}
+use Rattle.kernel_machine.specs.Stops.{stop_of}
 use Rattle.kernel_machine.specs.Leaves.{Leaves}
 use Rattle.kernel_machine.proofs.LeftParts.{leaves-none}
 use Rattle.kernel_machine.proofs.StepParts.{not-both, step-stays, was-none, was-some}

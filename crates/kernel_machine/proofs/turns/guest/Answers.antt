@@ -1,7 +1,7 @@
 use Rattle.std.proofs.Common.{◌∙◌, ap, refl, sym}
 use Rattle.std.specs.Option.{option_map}
-use Rattle.guest_turns.specs.GuestTurn.{turn_without_reporter}
-use Rattle.machine_parts.specs.Stops.{stop_of}
+use Rattle.kernel_steps.specs.GuestTurns.GuestTurn.{turn_without_reporter}
+use Rattle.kernel_machine.specs.Stops.{stop_of}
 use Rattle.kernel_steps.specs.GuestSteps.{stop_by}
 use Rattle.kernel_steps.proofs.RunningCaller.{runs-calls}
 use Rattle.kernel_machine.proofs.TurnedParts.{can-record, leaves-recorded, leaves-turn, one-fault, stop-recorded, stop-turn}

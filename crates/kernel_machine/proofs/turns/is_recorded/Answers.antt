@@ -1,6 +1,6 @@
 use Rattle.std.proofs.Common.{◌∙◌, ◌&&◌, ap, eqb, not, sym}
 use Rattle.std.specs.Prelude.{is_some}
-use Rattle.call_answers.proofs.FoundTask.{reads}
+use Rattle.kernel_steps.proofs.Shown.KernelCalls.CallAnswers.FoundTask.{reads}
 use Rattle.kernel_machine.proofs.TurnTests.{reporter-told}
 use Rattle.kernel_machine.proofs.turns.is_recorded.Goals as goal
 

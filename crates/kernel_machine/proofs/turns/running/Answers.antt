@@ -1,5 +1,5 @@
 use Rattle.std.proofs.Common.{◌∙◌, ap, sym}
-use Rattle.task_block.specs.TaskChain.{id_in}
+use Rattle.kernel_steps.specs.KernelCalls.TaskBlock.TaskChain.{id_in}
 use Rattle.kernel_machine.proofs.RunningTask.{nobody-runs, somebody-runs}
 use Rattle.kernel_machine.proofs.turns.running.Goals as goal
 

@@ -2,7 +2,7 @@ use Rattle.std.proofs.Common.{◌∙◌, ap, arith, length, subst, sym}
 use Rattle.std.proofs.lemmas.List.{length-append}
 use Rattle.std.specs.Option.{option_map}
 use Rattle.ram_disc.specs.Disc.{IsDisc}
-use Rattle.machine_parts.specs.Stops.{stop_of}
+use Rattle.kernel_machine.specs.Stops.{stop_of}
 use Rattle.kernel_steps.specs.GuestSteps.{guest_step}
 use Rattle.kernel_steps.specs.ResidentSteps.{resident_step}
 use Rattle.kernel_steps.specs.Step.{Stepped}

@@ -1,5 +1,5 @@
 use Rattle.std.specs.Prelude.{◌≤◌}
-use Rattle.session_text.specs.Ranges.{most_steps}
+use Rattle.guest_turns.specs.KernelCalls.KernelModel.Ranges.{most_steps}
 use Rattle.kernel_steps.proofs.DevicesKept.{key-ahead, key-dispatch, key-keys, key-numbers, key-residents, key-same, key-stop}
 use Rattle.kernel_steps.proofs.device_laws.key_law.Goals as goal
 

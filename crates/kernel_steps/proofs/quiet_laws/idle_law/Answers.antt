@@ -1,4 +1,4 @@
-use Rattle.kernel_model.specs.Image.{image}
+use Rattle.guest_turns.specs.KernelCalls.KernelModel.Image.{image}
 use Rattle.kernel_steps.proofs.QuietMachines.{idle-full, idle-image}
 use Rattle.kernel_steps.proofs.QuietSpans.{full-ready, idle-run}
 use Rattle.kernel_steps.proofs.quiet_laws.idle_law.Goals as goal

@@ -1,4 +1,4 @@
-use Rattle.kernel_model.specs.Image.{image}
+use Rattle.guest_turns.specs.KernelCalls.KernelModel.Image.{image}
 use Rattle.kernel_steps.proofs.QuietDevices.{unserved-stays}
 use Rattle.kernel_steps.proofs.QuietDispatch.{dispatch-stays}
 use Rattle.kernel_steps.proofs.RunningCaller.{full-runs}

@@ -1,6 +1,6 @@
 use Rattle.std.proofs.Common.{◌≡◌, ◌∙◌, Ok, sym, ap}
 use Rattle.session_text.specs.declared.sessions.Session.{Session}
-use Rattle.kernel_model.specs.Kernel.{Kernel}
+use Rattle.kernel_machine.specs.KernelCalls.KernelModel.Kernel.{Kernel}
 use Rattle.machine_boot.specs.Boot.{first_kernel, started, with_lines}
 use Rattle.machine_boot.proofs.BegunKernels.{begun-dispatches, boot-ok, boot-refused, first-begun, first-loads, lines-begun}
 use Rattle.machine_boot.proofs.BootedKernels.{booted-full, booted-goes}

@@ -1,5 +1,5 @@
 use Rattle.std.proofs.Common.{sym, subst}
-use Rattle.kernel_dispatch.specs.Dispatch.{CanDispatch}
+use Rattle.kernel_machine.specs.KernelCalls.KernelDispatch.Dispatch.{CanDispatch}
 use Rattle.machine_boot.proofs.DispatchedParts.{dispatched-stands}
 use Rattle.machine_boot.proofs.start.dispatch.Goals as goal
 

@@ -2,10 +2,10 @@ use Rattle.std.proofs.Common.{◌≡◌, ℕ, Bool, false, List, [], Option, len
 use Rattle.std.proofs.lemmas.List.{length-replicate}
 use Rattle.ram_disc.specs.Disc.{Disc, empty_disc}
 use Rattle.session_text.specs.declared.sessions.Session.{Session}
-use Rattle.kernel_model.specs.Kernel.{Pipe}
-use Rattle.kernel_model.specs.Pipes.{no_pipes}
-use Rattle.kernel_model.proofs.WalkedLists.{can-walk}
-use Rattle.word_kinds.specs.Keeper.{IsStoreOf}
+use Rattle.kernel_machine.specs.KernelCalls.KernelModel.Kernel.{Pipe}
+use Rattle.kernel_machine.specs.KernelCalls.KernelModel.Pipes.{no_pipes}
+use Rattle.kernel_machine.proofs.Shown.KernelCalls.KernelModel.WalkedLists.{can-walk}
+use Rattle.kernel_machine.specs.KernelCalls.WordKinds.Keeper.{IsStoreOf}
 use Rattle.machine_boot.specs.Boot.{first_lists}
 use Rattle.machine_boot.proofs.FirstParts.{made-changed, made-ok, made-stands}
 use Rattle.machine_boot.proofs.start.empty_machine.Goals as goal

@@ -1,6 +1,6 @@
 use Rattle.std.proofs.Common.{Result, Err, sym, ap, ◌∙◌, subst}
 use Rattle.std.proofs.lemmas.Result.{err_from_is_err_and}
-use Rattle.kernel_boot.specs.declared.refusals.BootRefusal.{BootRefusal}
+use Rattle.kernel_machine.specs.KernelBoot.declared.refusals.BootRefusal.{BootRefusal}
 use Rattle.machine_boot.specs.Boot.{with_lines}
 use Rattle.machine_boot.specs.Booted.{IsReached}
 use Rattle.machine_boot.proofs.BegunKernels.{files-start}

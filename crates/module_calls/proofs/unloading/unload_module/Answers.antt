@@ -1,18 +1,18 @@
 use Rattle.std.proofs.Common.{◌≡◌, ◌∙◌, ℕ, ◌+◌, ◌-◌, List, Bool, true, false, Result, Ok, Err, length, get_or, refl, ap, subst, arith}
 use Rattle.std.specs.Prelude.{IsOk, OnErr, OnOk}
 use Rattle.std.proofs.lemmas.Result.{err_from_is_err_and}
-use Rattle.getvec_chain.specs.Block.{block_end}
-use Rattle.getvec_chain.specs.Give.{given_store}
-use Rattle.hunk_loader.proofs.HeldModuleLists.{held-modules}
-use Rattle.linked_list.specs.Places.{without_node}
-use Rattle.task_block.specs.Lists.{module_link}
-use Rattle.kernel_model.specs.HoldsLists.{HoldsLists}
-use Rattle.kernel_model.specs.Lists.{Lists}
-use Rattle.call_answers.specs.Refusals.{answer_of, first_refusal}
-use Rattle.call_answers.proofs.FoundTask.{reads}
-use Rattle.call_answers.proofs.Refusals.{answer_of-err, answer_of-ok}
-use Rattle.call_answers.proofs.MadeCalls.{handed-plain}
-use Rattle.call_answers.proofs.ListedModules.{module-told}
+use Rattle.block_calls.specs.KernelDispatch.GetvecChain.Block.{block_end}
+use Rattle.block_calls.specs.KernelDispatch.GetvecChain.Give.{given_store}
+use Rattle.block_calls.proofs.Shown.KernelDispatch.HunkLoader.HeldModuleLists.{held-modules}
+use Rattle.block_calls.specs.KernelDispatch.LinkedList.Places.{without_node}
+use Rattle.block_calls.specs.KernelDispatch.TaskBlock.Lists.{module_link}
+use Rattle.block_calls.specs.KernelDispatch.KernelModel.HoldsLists.{HoldsLists}
+use Rattle.block_calls.specs.KernelDispatch.KernelModel.Lists.{Lists}
+use Rattle.block_calls.specs.CallAnswers.Refusals.{answer_of, first_refusal}
+use Rattle.block_calls.proofs.Shown.CallAnswers.FoundTask.{reads}
+use Rattle.block_calls.proofs.Shown.CallAnswers.Refusals.{answer_of-err, answer_of-ok}
+use Rattle.block_calls.proofs.Shown.CallAnswers.MadeCalls.{handed-plain}
+use Rattle.block_calls.proofs.Shown.CallAnswers.ListedModules.{module-told}
 use Rattle.module_calls.specs.UnloadModule.{unload_module, use_tests}
 use Rattle.module_calls.proofs.GoneModule.{numbers, own_block, place, unload-made, unload-packet, unload-refused}
 use Rattle.module_calls.proofs.ModuleUses.{IsUnused, tests-passed}

@@ -1,13 +1,13 @@
 use Rattle.std.proofs.Common.{true, false, Some, None, cond, option_map, sym, ap, ◌∙◌, subst, ◌≡◌}
-use Rattle.linked_list.specs.Places.{has}
-use Rattle.packet_queue.specs.Queue.{HasQueue, queue_at}
-use Rattle.kernel_model.specs.Changes.{queue_of}
-use Rattle.kernel_model.specs.ValidQueues.Place.{Work}
+use Rattle.block_calls.specs.KernelDispatch.LinkedList.Places.{has}
+use Rattle.block_calls.specs.KernelDispatch.PacketQueue.Queue.{HasQueue, queue_at}
+use Rattle.block_calls.specs.KernelDispatch.KernelModel.Changes.{queue_of}
+use Rattle.block_calls.specs.KernelDispatch.KernelModel.ValidQueues.Place.{Work}
 use Rattle.packet_calls.specs.Dqpkt.{Search, located}
-use Rattle.packet_moves.specs.PacketMoves.{stands_in}
-use Rattle.packet_moves.specs.QueueWords.{head_of}
+use Rattle.packet_calls.specs.PacketMoves.{stands_in}
+use Rattle.packet_calls.specs.QueueWords.{head_of}
 use Rattle.packet_calls.proofs.CallerTask.{caller-number, caller-queue, caller-there}
-use Rattle.packet_moves.proofs.HeldPlaces.{has-at, stands-at}
+use Rattle.packet_calls.proofs.HeldPlaces.{has-at, stands-at}
 use Rattle.packet_calls.proofs.dequeue.find_own.Goals as goal
 
 pub has_packet-requires : goal.has_packet-requires

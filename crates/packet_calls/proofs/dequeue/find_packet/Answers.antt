@@ -1,14 +1,14 @@
 use Rattle.std.proofs.Common.{◌≡◌, true, false, Some, option_map, sym, ap, ◌∙◌, subst}
-use Rattle.linked_list.specs.Places.{has}
-use Rattle.packet_queue.specs.Queue.{HasQueue, queue_at}
-use Rattle.kernel_model.specs.Changes.{queue_of}
-use Rattle.kernel_model.specs.ValidQueues.Place.{Pending}
-use Rattle.packet_moves.specs.Destinations.{place_of}
+use Rattle.block_calls.specs.KernelDispatch.LinkedList.Places.{has}
+use Rattle.block_calls.specs.KernelDispatch.PacketQueue.Queue.{HasQueue, queue_at}
+use Rattle.block_calls.specs.KernelDispatch.KernelModel.Changes.{queue_of}
+use Rattle.block_calls.specs.KernelDispatch.KernelModel.ValidQueues.Place.{Pending}
+use Rattle.packet_calls.specs.Destinations.{place_of}
 use Rattle.packet_calls.specs.Dqpkt.{located}
-use Rattle.packet_moves.specs.PacketMoves.{stands_in}
-use Rattle.packet_moves.specs.QueueWords.{head_of}
-use Rattle.packet_moves.proofs.HeldPlaces.{has-at, stands-at}
-use Rattle.packet_moves.proofs.NamedQueues.{named-place}
+use Rattle.packet_calls.specs.PacketMoves.{stands_in}
+use Rattle.packet_calls.specs.QueueWords.{head_of}
+use Rattle.packet_calls.proofs.HeldPlaces.{has-at, stands-at}
+use Rattle.packet_calls.proofs.NamedQueues.{named-place}
 use Rattle.packet_calls.proofs.Searches.{console-there, found-behind, found-named, found-own, found-reads}
 use Rattle.packet_calls.proofs.dequeue.find_packet.Goals as goal
 

@@ -1,13 +1,13 @@
 use Rattle.std.proofs.Common.{◌≡◌, ◌∙◌, sym, ap, subst}
 use Rattle.std.proofs.Math.Facts.{to_z-of_z}
 use Rattle.word_store.specs.Arithmetic.{signed, word_of}
-use Rattle.packet_queue.specs.Log.{Notes}
-use Rattle.packet_queue.specs.Queue.{CanQueue, HasQueue}
-use Rattle.packet_queue.specs.declared.events.KernelEvent.TheVariants.{Accepted}
-use Rattle.kernel_model.specs.Task.{queue_head}
-use Rattle.call_answers.proofs.FoundTask.{reads}
-use Rattle.packet_moves.specs.QueueWords.{enqueued, with_results}
-use Rattle.packet_moves.specs.declared.queues.Queue.TheVariants.{OfTask}
+use Rattle.block_calls.specs.KernelDispatch.PacketQueue.Log.{Notes}
+use Rattle.block_calls.specs.KernelDispatch.PacketQueue.Queue.{CanQueue, HasQueue}
+use Rattle.block_calls.specs.KernelDispatch.PacketQueue.declared.events.KernelEvent.TheVariants.{Accepted}
+use Rattle.block_calls.specs.KernelDispatch.KernelModel.Task.{queue_head}
+use Rattle.block_calls.proofs.Shown.CallAnswers.FoundTask.{reads}
+use Rattle.packet_calls.specs.QueueWords.{enqueued, with_results}
+use Rattle.packet_calls.specs.declared.queues.Queue.TheVariants.{OfTask}
 use Rattle.packet_calls.proofs.ReplyCall.{is-noted, is-returned, reply-nobody, reply-packet, reply-queue}
 use Rattle.packet_calls.proofs.replies.reply.Goals as goal
 

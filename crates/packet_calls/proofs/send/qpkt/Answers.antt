@@ -1,14 +1,14 @@
 use Rattle.std.proofs.Common.{◌+◌, Err, get_or, sym, ap, ◌∙◌, subst}
 use Rattle.std.proofs.lemmas.Result.{err_from_is_err_and}
 use Rattle.word_store.specs.Arithmetic.{signed}
-use Rattle.packet_queue.specs.Log.{Notes}
-use Rattle.packet_queue.specs.declared.events.KernelEvent.TheVariants.{Accepted}
-use Rattle.call_answers.specs.Made.{IsMade, plain_answer}
-use Rattle.call_answers.specs.Refusals.{first_refusal}
-use Rattle.call_answers.proofs.Refusals.{answer_of-ok}
-use Rattle.packet_moves.specs.Destinations.{destination_of}
+use Rattle.block_calls.specs.KernelDispatch.PacketQueue.Log.{Notes}
+use Rattle.block_calls.specs.KernelDispatch.PacketQueue.declared.events.KernelEvent.TheVariants.{Accepted}
+use Rattle.block_calls.specs.CallAnswers.Made.{IsMade, plain_answer}
+use Rattle.block_calls.specs.CallAnswers.Refusals.{first_refusal}
+use Rattle.block_calls.proofs.Shown.CallAnswers.Refusals.{answer_of-ok}
+use Rattle.packet_calls.specs.Destinations.{destination_of}
 use Rattle.packet_calls.specs.Qpkt.{packet_tests, qpkt}
-use Rattle.packet_moves.proofs.NamedQueues.{names-none, names-some, queue-none, queue-some}
+use Rattle.packet_calls.proofs.NamedQueues.{names-none, names-some, queue-none, queue-some}
 use Rattle.packet_calls.proofs.PacketTests.{refused-with}
 use Rattle.packet_calls.proofs.SendCall.{is-noted, is-sent, misplaced, not-noted, not-sent, nowhere, send-packet, send-queue, send-room}
 use Rattle.packet_calls.proofs.send.qpkt.Goals as goal

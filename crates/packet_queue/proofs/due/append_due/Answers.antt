@@ -1,7 +1,7 @@
 use Rattle.std.proofs.Common.{◌≡◌, ◌∙◌, ◌+◌, ap, set, sym, subst}
-use Rattle.linked_list.specs.Places.{insert_after, linked_in}
-use Rattle.linked_list.specs.Linked.{IsListAt}
-use Rattle.linked_list.proofs.Walks.{no_offset}
+use Rattle.owned_words.specs.LinkedList.Places.{insert_after, linked_in}
+use Rattle.owned_words.specs.LinkedList.Linked.{IsListAt}
+use Rattle.owned_words.proofs.Shown.LinkedList.Walks.{no_offset}
 use Rattle.packet_queue.specs.Queue.{link_of, packet_size, queue_at}
 use Rattle.packet_queue.specs.Due.{is_due, with_due}
 use Rattle.packet_queue.proofs.QueueChanges.{due_appended}

@@ -1,7 +1,7 @@
 use Rattle.std.proofs.Common.{◌≡◌}
 use Rattle.std.specs.List.{AllByRecursion}
-use Rattle.linked_list.specs.Linked.{IsNode}
-use Rattle.linked_list.specs.Places.{cell_after}
+use Rattle.owned_words.specs.LinkedList.Linked.{IsNode}
+use Rattle.owned_words.specs.LinkedList.Places.{cell_after}
 use Rattle.packet_queue.specs.Queue.{link_of, packet_size}
 use Rattle.packet_queue.specs.Due as due
 use Rattle.packet_queue.proofs.places.last_due_link.Given as goal

@@ -1,5 +1,5 @@
 use Rattle.std.proofs.Common.{◌≡◌}
-use Rattle.linked_list.specs.Chain.{last_cell}
+use Rattle.owned_words.specs.LinkedList.Chain.{last_cell}
 use Rattle.packet_queue.specs.Queue as queue
 use Rattle.packet_queue.proofs.places.last_link.Given as goal
 

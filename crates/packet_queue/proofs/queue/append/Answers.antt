@@ -1,5 +1,5 @@
 use Rattle.std.proofs.Common.{◌≡◌, ◌++◌, ◌∷◌, [], set, sym, subst}
-use Rattle.linked_list.specs.Linked.{IsListAt}
+use Rattle.owned_words.specs.LinkedList.Linked.{IsListAt}
 use Rattle.packet_queue.specs.Queue.{last_link, link_of, packet_size, queue_at}
 use Rattle.packet_queue.proofs.QueueChanges.{appended}
 use Rattle.packet_queue.proofs.queue.append.Goals as goal

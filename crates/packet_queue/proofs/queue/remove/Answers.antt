@@ -1,9 +1,9 @@
 use Rattle.std.proofs.Common.{◌≡◌, ◌∙◌, ℕ, List, true, false, refl, ap, set, sym, subst}
-use Rattle.linked_list.specs.Places.{has, without}
-use Rattle.linked_list.specs.Linked.{IsListAt}
-use Rattle.linked_list.proofs.Places.{without-none}
-use Rattle.linked_list.proofs.UnlinkAnswer.{unlink-found, unlink-words}
-use Rattle.linked_list.proofs.Walks.{no_offset}
+use Rattle.owned_words.specs.LinkedList.Places.{has, without}
+use Rattle.owned_words.specs.LinkedList.Linked.{IsListAt}
+use Rattle.owned_words.proofs.Shown.LinkedList.Places.{without-none}
+use Rattle.owned_words.proofs.Shown.LinkedList.UnlinkAnswer.{unlink-found, unlink-words}
+use Rattle.owned_words.proofs.Shown.LinkedList.Walks.{no_offset}
 use Rattle.packet_queue.specs.Queue.{link_of, no_queue, packet_size, queue_at, unlinked}
 use Rattle.packet_queue.proofs.QueueChanges.{removed}
 use Rattle.packet_queue.proofs.queue.remove.Goals as goal

@@ -1,5 +1,5 @@
 use Rattle.std.proofs.Common.{◌∙◌, ◌+◌, set, sym, arith}
-use Rattle.call_answers.proofs.RootTold.{running-word}
+use Rattle.kernel_calls.proofs.Shown.CallAnswers.RootTold.{running-word}
 use Rattle.resident_requests.proofs.FinishedTurn.{goes-on, low-state, waits}
 use Rattle.resident_requests.proofs.answers.finish_turn.Goals as goal
 

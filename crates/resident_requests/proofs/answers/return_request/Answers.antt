@@ -2,8 +2,8 @@ use Rattle.std.proofs.Common.{◌∙◌, Ok, ap, subst, w32}
 use Rattle.std.proofs.Math.Facts.{to_z-of_z}
 use mir.Val.{of_z, to_z}
 use Rattle.word_store.specs.Arithmetic.{word_of}
-use Rattle.call_answers.specs.Made.{Leaves, minus_one}
-use Rattle.packet_calls.specs.Reply.{reply}
+use Rattle.kernel_calls.specs.CallAnswers.Made.{Leaves, minus_one}
+use Rattle.kernel_calls.specs.PacketCalls.Reply.{reply}
 use Rattle.resident_requests.proofs.ReturnedRequest.{can-return, is-noted, is-returned, owners-returned, return-room}
 use Rattle.resident_requests.proofs.RunningResident.{runs-work}
 use Rattle.resident_requests.proofs.answers.return_request.Goals as goal

@@ -1,6 +1,6 @@
 use Rattle.std.proofs.Common.{◌∙◌, None, Some, cond, sym, ap}
 use Rattle.std.proofs.lemmas.Bool.{ne_eqb}
-use Rattle.call_answers.proofs.RootTold.{running-word}
+use Rattle.kernel_calls.proofs.Shown.CallAnswers.RootTold.{running-word}
 use Rattle.resident_requests.proofs.TakenRequest.{first-of, packet_or_none}
 use Rattle.resident_requests.proofs.requests.first_packet.Goals as goal
 

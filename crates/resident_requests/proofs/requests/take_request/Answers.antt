@@ -1,8 +1,8 @@
 use Rattle.std.proofs.Common.{◌∙◌, sym, subst, Some}
 use Rattle.word_store.specs.Arithmetic.{signed}
-use Rattle.packet_queue.specs.Log.{Notes}
-use Rattle.packet_queue.specs.declared.events.KernelEvent.TheVariants.{Taken}
-use Rattle.call_answers.proofs.RootTold.{running-word}
+use Rattle.kernel_calls.specs.PacketQueue.Log.{Notes}
+use Rattle.kernel_calls.specs.PacketQueue.declared.events.KernelEvent.TheVariants.{Taken}
+use Rattle.kernel_calls.proofs.Shown.CallAnswers.RootTold.{running-word}
 use Rattle.resident_requests.specs.Requests.{IsTaken}
 use Rattle.resident_requests.proofs.TakenRequest.{none-noted, none-taken, some-noted, some-taken, take-packet, take-queue}
 use Rattle.resident_requests.proofs.requests.take_request.Goals as goal

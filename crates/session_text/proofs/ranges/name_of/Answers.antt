@@ -1,4 +1,4 @@
-use Rattle.session_text.proofs.NameLemmas.{name_read}
+use Rattle.ram_disc.proofs.NameLemmas.{name_read}
 use Rattle.session_text.proofs.ranges.name_of.Goals as goal
 
 pub returns : goal.returns

@@ -1,6 +1,6 @@
 use Rattle.std.proofs.Common.{ℕ, ◌∙◌, ap}
 use Rattle.std.specs.Option.{ok_or}
-use Rattle.session_text.proofs.NameLemmas.{name_read}
+use Rattle.ram_disc.proofs.NameLemmas.{name_read}
 use Rattle.shell_lines.proofs.NameCodes.{name-or_code}
 use Rattle.shell_lines.proofs.arguments.name.Goals as goal
 

@@ -1,5 +1,5 @@
 use Rattle.std.proofs.Common.{ap, sym, subst, ◌∙◌}
-use Rattle.getvec_chain.specs.Tiling.{blocks_in}
+use Rattle.kernel_dispatch.specs.GetvecChain.Tiling.{blocks_in}
 use Rattle.shell_listings.specs.BlockCounts.{counts_from, no_counts}
 use Rattle.shell_listings.proofs.BlockSums.{MayCountAll, may-count-tiles}
 use Rattle.shell_listings.proofs.blocks.count_blocks.Goals as goal

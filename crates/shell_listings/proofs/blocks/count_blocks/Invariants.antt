@@ -1,5 +1,5 @@
 use Rattle.std.proofs.Common.{◌≡◌}
-use Rattle.getvec_chain.specs.Tiling.{blocks_in}
+use Rattle.kernel_dispatch.specs.GetvecChain.Tiling.{blocks_in}
 use Rattle.shell_listings.specs.BlockCounts.{counts_from, counts_of}
 use Rattle.shell_listings.proofs.BlockSums.{MayCountAll}
 use Rattle.shell_listings.proofs.blocks.count_blocks.Given as goal

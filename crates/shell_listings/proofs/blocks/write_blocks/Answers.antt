@@ -1,5 +1,5 @@
 use Rattle.std.proofs.Common.{◌++◌, ◌∙◌, ap}
-use Rattle.kernel_model.proofs.WalkedLists.{can-walk}
+use Rattle.kernel_dispatch.proofs.Shown.KernelModel.WalkedLists.{can-walk}
 use Rattle.shell_listings.proofs.BlockSums.{blocks-counted}
 use Rattle.shell_listings.proofs.blocks.write_blocks.Goals as goal
 

@@ -1,6 +1,6 @@
 use Rattle.std.proofs.Common.{◌≡◌, ◌+◌, ◌*◌, ◌≤◌, ◌++◌, length}
 use Rattle.std.specs.List.{flat_map}
-use Rattle.task_block.specs.TaskChain.{tasks_in}
+use Rattle.kernel_dispatch.specs.TaskBlock.TaskChain.{tasks_in}
 use Rattle.shell_listings.specs.TaskLines.{most_in_task_line, task_line_at}
 use Rattle.shell_listings.proofs.tasks.write_chain.Given as goal
 

@@ -1,5 +1,5 @@
 use Rattle.std.proofs.Common.{◌++◌, ◌∙◌, ap, arith}
-use Rattle.kernel_model.proofs.WalkedLists.{can-walk}
+use Rattle.kernel_dispatch.proofs.Shown.KernelModel.WalkedLists.{can-walk}
 use Rattle.shell_listings.proofs.ListedTasks.{tasks-read, tasks-room}
 use Rattle.shell_listings.proofs.tasks.write_tasks.Goals as goal
 

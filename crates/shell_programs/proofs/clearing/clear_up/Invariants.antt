@@ -1,8 +1,8 @@
 use Rattle.std.proofs.Common.{◌≡◌}
-use Rattle.kernel_model.specs.ChangedStore.{HasKeeper}
-use Rattle.kernel_model.specs.Lists.{Lists}
-use Rattle.task_calls.specs.DeleteTask.{RunsAlive}
-use Rattle.kernel_boot.specs.BootTasks.{standing}
+use Rattle.kernel_residents.specs.KernelCalls.KernelModel.ChangedStore.{HasKeeper}
+use Rattle.kernel_residents.specs.KernelCalls.KernelModel.Lists.{Lists}
+use Rattle.kernel_residents.specs.KernelCalls.TaskCalls.DeleteTask.{RunsAlive}
+use Rattle.kernel_residents.specs.KernelCalls.KernelModel.Standing.{standing}
 use Rattle.shell_programs.specs.ClearedTasks.{cleared}
 use Rattle.shell_programs.proofs.ClearedNumbers.{rest_of}
 use Rattle.shell_programs.proofs.clearing.clear_up.Given as goal

@@ -1,6 +1,6 @@
 use Rattle.std.proofs.Common.{◌≡◌, ◌∙◌, ap, set, subst, sym, ℕ, List, ◌+◌}
-use Rattle.linked_list.specs.Places.{linked_in}
-use Rattle.linked_list.proofs.Walks.{no_offset}
+use Rattle.owned_words.specs.LinkedList.Places.{linked_in}
+use Rattle.owned_words.proofs.Shown.LinkedList.Walks.{no_offset}
 use Rattle.task_block.specs.Moves.{with_task}
 use Rattle.task_block.specs.TaskChain.{Fall, HasTasks, task_link, tasks_in}
 use Rattle.task_block.proofs.TaskInsertion.{fall-in, task-in}

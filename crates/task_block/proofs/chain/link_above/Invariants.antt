@@ -1,7 +1,7 @@
 use Rattle.std.proofs.Common.{◌≡◌}
 use Rattle.std.specs.List.{AllByRecursion}
-use Rattle.linked_list.specs.Linked.{IsNode}
-use Rattle.linked_list.specs.Places.{cell_after}
+use Rattle.owned_words.specs.LinkedList.Linked.{IsNode}
+use Rattle.owned_words.specs.LinkedList.Places.{cell_after}
 use Rattle.task_block.specs.TaskChain.{is_above, task_link, task_size, tasks_in}
 use Rattle.task_block.proofs.chain.link_above.Given as goal
 

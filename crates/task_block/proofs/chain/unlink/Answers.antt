@@ -1,7 +1,7 @@
 use Rattle.std.proofs.Common.{◌≡◌, ◌∙◌, ap, set, subst, sym, ℕ, List, ◌+◌}
-use Rattle.linked_list.specs.Places.{without_node}
-use Rattle.linked_list.proofs.UnlinkAnswer.{unlink-words}
-use Rattle.linked_list.proofs.Walks.{no_offset}
+use Rattle.owned_words.specs.LinkedList.Places.{without_node}
+use Rattle.owned_words.proofs.Shown.LinkedList.UnlinkAnswer.{unlink-words}
+use Rattle.owned_words.proofs.Shown.LinkedList.Walks.{no_offset}
 use Rattle.task_block.specs.Moves.{without_task}
 use Rattle.task_block.specs.TaskChain.{Fall, HasTasks, IsNewTask, task_link, tasks_in}
 use Rattle.task_block.proofs.TaskRemoval.{fall-out, task-out}

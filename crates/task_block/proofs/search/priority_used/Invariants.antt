@@ -1,7 +1,7 @@
 use Rattle.std.proofs.Common.{◌≡◌, ◌&&◌, eqb}
 use Rattle.std.specs.Prelude.{not}
 use Rattle.std.specs.List.{AllByRecursion, list_any}
-use Rattle.linked_list.specs.Linked.{IsNode}
+use Rattle.owned_words.specs.LinkedList.Linked.{IsNode}
 use Rattle.task_block.specs.TaskChain.{id_in, is_priority_used, priority_in, task_link, task_size}
 use Rattle.task_block.proofs.search.priority_used.Given as goal
 

@@ -1,9 +1,9 @@
 use Rattle.std.proofs.Common.{ℕ, List}
 use Rattle.std.proofs.lemmas.Result.{err_from_is_err_and}
-use Rattle.call_answers.proofs.Refusals.{answer_of-err, answer_of-ok}
-use Rattle.call_answers.proofs.MadeCalls.{handed-on}
-use Rattle.kernel_model.specs.Lists.{Lists}
-use Rattle.kernel_model.proofs.WalkedLists.{can-walk}
+use Rattle.block_calls.proofs.Shown.CallAnswers.Refusals.{answer_of-err, answer_of-ok}
+use Rattle.block_calls.proofs.Shown.CallAnswers.MadeCalls.{handed-on}
+use Rattle.block_calls.specs.KernelDispatch.KernelModel.Lists.{Lists}
+use Rattle.block_calls.proofs.Shown.KernelDispatch.KernelModel.WalkedLists.{can-walk}
 use Rattle.task_calls.specs.CreateTask.{create_task}
 use Rattle.task_calls.proofs.CreationTests.{by-globals, by-modules, by-number, by-priority, by-room, listed-in, may-place, refused-made}
 use Rattle.task_calls.proofs.ModuleGlobals.{has-modules}

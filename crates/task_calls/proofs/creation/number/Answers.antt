@@ -1,6 +1,6 @@
 use Rattle.std.proofs.Common.{sym, ap, ◌∙◌}
 use Rattle.std.specs.Option.{ok_or}
-use Rattle.call_answers.proofs.FoundTask.{reads}
+use Rattle.block_calls.proofs.Shown.CallAnswers.FoundTask.{reads}
 use Rattle.task_calls.proofs.ReadNumbers.{number-free}
 use Rattle.task_calls.proofs.creation.number.Goals as goal
 

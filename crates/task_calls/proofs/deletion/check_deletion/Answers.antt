@@ -1,9 +1,9 @@
 use Rattle.std.proofs.Common.{◌≡◌, ◌+◌, ◌≤◌, ℕ, List, true, false, get_or, refl, sym, ap, ◌∙◌, arith}
-use Rattle.call_answers.specs.Guests.{GuestAt}
-use Rattle.call_answers.specs.Refusals.{answer_of}
-use Rattle.kernel_model.specs.HoldsLists.{HoldsLists}
-use Rattle.kernel_model.specs.Lists.{Lists}
-use Rattle.kernel_model.proofs.WalkedLists.{can-walk}
+use Rattle.block_calls.specs.CallAnswers.Guests.{GuestAt}
+use Rattle.block_calls.specs.CallAnswers.Refusals.{answer_of}
+use Rattle.block_calls.specs.KernelDispatch.KernelModel.HoldsLists.{HoldsLists}
+use Rattle.block_calls.specs.KernelDispatch.KernelModel.Lists.{Lists}
+use Rattle.block_calls.proofs.Shown.KernelDispatch.KernelModel.WalkedLists.{can-walk}
 use Rattle.task_calls.specs.DeleteTask.{HasEnded, RunsAlive, has_packet_out}
 use Rattle.task_calls.proofs.EndTests.{alive, at-address, dead, ended, served, several, single, tests-are, waiting}
 use Rattle.task_calls.proofs.SentPackets.{out-told}

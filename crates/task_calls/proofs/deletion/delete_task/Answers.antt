@@ -1,11 +1,11 @@
 use Rattle.std.proofs.Common.{◌≡◌, ◌++◌, ℕ, List, Some, None, Ok, sym, ap, ◌∙◌}
 use Rattle.std.proofs.lemmas.Result.{err_from_is_err_and}
-use Rattle.call_answers.specs.Guests.{GuestAt, guest_tests}
-use Rattle.call_answers.specs.Made.{done, minus_one}
-use Rattle.call_answers.specs.Refusals.{first_refusal}
-use Rattle.call_answers.proofs.MadeCalls.{handed-plain, made-accepted, made-refused}
-use Rattle.call_answers.proofs.Refusals.{answer_of-err, answer_of-ok, first_refusal-failed, first_refusal-passed}
-use Rattle.kernel_model.specs.Lists.{Lists}
+use Rattle.block_calls.specs.CallAnswers.Guests.{GuestAt, guest_tests}
+use Rattle.block_calls.specs.CallAnswers.Made.{done, minus_one}
+use Rattle.block_calls.specs.CallAnswers.Refusals.{first_refusal}
+use Rattle.block_calls.proofs.Shown.CallAnswers.MadeCalls.{handed-plain, made-accepted, made-refused}
+use Rattle.block_calls.proofs.Shown.CallAnswers.Refusals.{answer_of-err, answer_of-ok, first_refusal-failed, first_refusal-passed}
+use Rattle.block_calls.specs.KernelDispatch.KernelModel.Lists.{Lists}
 use Rattle.task_calls.specs.DeleteTask.{delete_task, deletion_tests, without_task}
 use Rattle.task_calls.proofs.EndTests.{may-go}
 use Rattle.task_calls.proofs.deletion.delete_task.Goals as goal

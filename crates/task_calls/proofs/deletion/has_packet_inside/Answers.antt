@@ -1,5 +1,5 @@
 use Rattle.std.proofs.Common.{arith}
-use Rattle.call_answers.proofs.FoundTask.{reads}
+use Rattle.block_calls.proofs.Shown.CallAnswers.FoundTask.{reads}
 use Rattle.task_calls.proofs.EndedTask.{found-inside, head-fits, head-inside, some-found, some-words}
 use Rattle.task_calls.proofs.deletion.has_packet_inside.Goals as goal
 

@@ -1,9 +1,9 @@
 use Rattle.std.proofs.Common.{◌≡◌, Option, Some, None, Result, Ok, Err, refl, ap, ◌∙◌, subst}
 use Rattle.std.specs.Prelude.{IsOk, OnErr, OnOk}
-use Rattle.getvec_chain.specs.declared.pieces.Block.{Block}
-use Rattle.getvec_chain.specs.Give.{given_store}
-use Rattle.getvec_chain.specs.Tiling.{blocks_in, used_at}
-use Rattle.call_answers.proofs.FoundTask.{reads}
+use Rattle.block_calls.specs.KernelDispatch.GetvecChain.declared.pieces.Block.{Block}
+use Rattle.block_calls.specs.KernelDispatch.GetvecChain.Give.{given_store}
+use Rattle.block_calls.specs.KernelDispatch.GetvecChain.Tiling.{blocks_in, used_at}
+use Rattle.block_calls.proofs.Shown.CallAnswers.FoundTask.{reads}
 use Rattle.task_calls.proofs.EndedTask.{in-chain, out-tiled, out-used, removed-made}
 use Rattle.task_calls.proofs.deletion.remove_task.Goals as goal
 

@@ -1,9 +1,9 @@
 use Rattle.std.proofs.Common.{◌+◌, [], Ok, bit_or, set, refl, sym, ap, ◌∙◌, subst}
-use Rattle.kernel_model.specs.ChangedStore.{IsChanged}
-use Rattle.kernel_model.specs.Changes.{with_task}
-use Rattle.call_answers.specs.Guests.{GuestAt, guest_tests}
-use Rattle.call_answers.specs.Made.{done, minus_one}
-use Rattle.call_answers.proofs.MadeCalls.{leaves-accepted}
+use Rattle.block_calls.specs.KernelDispatch.KernelModel.ChangedStore.{IsChanged}
+use Rattle.block_calls.specs.KernelDispatch.KernelModel.Changes.{with_task}
+use Rattle.block_calls.specs.CallAnswers.Guests.{GuestAt, guest_tests}
+use Rattle.block_calls.specs.CallAnswers.Made.{done, minus_one}
+use Rattle.block_calls.proofs.Shown.CallAnswers.MadeCalls.{leaves-accepted}
 use Rattle.task_calls.specs.SetFlags.{flagged}
 use Rattle.task_calls.proofs.Flagged.{flags-changed}
 use Rattle.task_calls.proofs.flags.set_flags.Goals as goal

@@ -1,7 +1,7 @@
 use Rattle.std.proofs.Common.{◌+◌, ◌-◌, ◌^◌, [], Ok, bit_and, set, sym, ap, ◌∙◌, subst}
-use Rattle.kernel_model.specs.ChangedStore.{IsChanged}
-use Rattle.kernel_model.specs.Changes.{with_task}
-use Rattle.call_answers.specs.Guests.{GuestAt}
+use Rattle.block_calls.specs.KernelDispatch.KernelModel.ChangedStore.{IsChanged}
+use Rattle.block_calls.specs.KernelDispatch.KernelModel.Changes.{with_task}
+use Rattle.block_calls.specs.CallAnswers.Guests.{GuestAt}
 use Rattle.task_calls.specs.TestFlags.{cleared}
 use Rattle.task_calls.proofs.Flagged.{flags-changed, flags-tested}
 use Rattle.task_calls.proofs.flags.test_flags.Goals as goal

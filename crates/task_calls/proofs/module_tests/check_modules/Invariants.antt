@@ -1,7 +1,7 @@
 use Rattle.std.proofs.Common.{◌≡◌, drop, not}
 use Rattle.std.specs.List.{list_any}
-use Rattle.linked_list.specs.Places.{has}
-use Rattle.task_block.specs.Lists.{modules_in}
+use Rattle.block_calls.specs.KernelDispatch.LinkedList.Places.{has}
+use Rattle.block_calls.specs.KernelDispatch.TaskBlock.Lists.{modules_in}
 use Rattle.task_calls.proofs.module_tests.check_modules.Given as goal
 
 abbrev pub invariant-loop-m : goal.invariant-loop-m

@@ -3,10 +3,10 @@ use Rattle.std.specs.Prelude.{IsTrue}
 use Rattle.std.specs.List.{AllByRecursion, list_any}
 use Rattle.std.proofs.lemmas.Bool.{le-ltb}
 use Rattle.std.proofs.lemmas.Bool.Decides.{nat_tests}
-use Rattle.hunk_loader.specs.Globals.{highest, most_globals}
-use Rattle.hunk_loader.specs.ModuleHunks.{PlacedHunk, hunks_in}
-use Rattle.kernel_model.proofs.AllThings.{all-fail}
-use Rattle.kernel_model.proofs.EachMember.{all-each}
+use Rattle.block_calls.specs.KernelDispatch.HunkLoader.Globals.{highest, most_globals}
+use Rattle.block_calls.specs.KernelDispatch.HunkLoader.ModuleHunks.{PlacedHunk, hunks_in}
+use Rattle.block_calls.proofs.Shown.KernelDispatch.KernelModel.AllThings.{all-fail}
+use Rattle.block_calls.proofs.Shown.KernelDispatch.KernelModel.EachMember.{all-each}
 use Rattle.task_calls.proofs.module_tests.has_high_globals.Goals as goal
 
 abbrev Fit : List PlacedHunk → Type 0

@@ -1,6 +1,6 @@
 use Rattle.std.proofs.Common.{◌≡◌, ℕ, ◌+◌, ◌^◌, refl, ◌∙◌, arith, inl, inr}
 use Rattle.std.proofs.lemmas.Bool.{cases_lt}
-use Rattle.kernel_model.specs.Versions.{head_words_of}
+use Rattle.block_calls.specs.KernelDispatch.KernelModel.Versions.{head_words_of}
 use Rattle.task_calls.specs.CreateTask.{last_word_of}
 use Rattle.task_calls.proofs.ReadNumbers.{head-read}
 use Rattle.task_calls.proofs.NewBlock.{no_room}

@@ -1,10 +1,10 @@
 use Rattle.std.proofs.Common.{ℕ, List, Err, refl, subst, arith}
 use Rattle.std.proofs.lemmas.Result.{err_from_is_err_and}
-use Rattle.call_answers.specs.Made.{IsMade}
-use Rattle.call_answers.proofs.MadeCalls.{handed-on}
+use Rattle.block_calls.specs.CallAnswers.Made.{IsMade}
+use Rattle.block_calls.proofs.Shown.CallAnswers.MadeCalls.{handed-on}
 use Rattle.block_calls.specs.FreeStore.{data_taken, with_taken}
 use Rattle.block_calls.specs.Getvec.{getvec, getvec_tests}
-use Rattle.kernel_model.specs.Lists.{Lists}
+use Rattle.block_calls.specs.KernelDispatch.KernelModel.Lists.{Lists}
 use Rattle.task_calls.specs.CreateTask.{last_word_of, new_task, with_created}
 use Rattle.task_calls.specs.NewTasks.{place_task}
 use Rattle.task_calls.proofs.PlacedTask.{head-fits, head-room, insert-task, insert-tasks, placed, set-holds, set-may, write-inside, write-most}

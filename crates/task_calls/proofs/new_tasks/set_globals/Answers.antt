@@ -1,6 +1,6 @@
 use Rattle.std.proofs.Common.{◌≡◌, ℕ, suc, ◌+◌, ◌<◌, List, ◌∷◌, drop, drop-cons, get_or, length, sym, ap, ◌∙◌, subst, arith}
 use Rattle.std.specs.List.{flat_map}
-use Rattle.hunk_loader.specs.Globals.{globals_in, with_globals}
+use Rattle.block_calls.specs.KernelDispatch.HunkLoader.Globals.{globals_in, with_globals}
 use Rattle.task_calls.specs.NewTasks.{MaySetGlobals}
 use Rattle.task_calls.proofs.ModuleGlobals.{has-modules, next-globals, next-holds, next-may}
 use Rattle.task_calls.proofs.new_tasks.set_globals.Goals as goal

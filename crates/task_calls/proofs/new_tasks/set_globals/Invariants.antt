@@ -1,8 +1,8 @@
 use Rattle.std.proofs.Common.{◌≡◌, drop}
 use Rattle.std.specs.List.{flat_map}
-use Rattle.hunk_loader.specs.Globals.{globals_in, with_globals}
-use Rattle.kernel_model.specs.HoldsLists.{HoldsLists}
-use Rattle.kernel_model.specs.Lists.{Lists}
+use Rattle.block_calls.specs.KernelDispatch.HunkLoader.Globals.{globals_in, with_globals}
+use Rattle.block_calls.specs.KernelDispatch.KernelModel.HoldsLists.{HoldsLists}
+use Rattle.block_calls.specs.KernelDispatch.KernelModel.Lists.{Lists}
 use Rattle.task_calls.specs.NewTasks.{MaySetGlobals}
 use Rattle.task_calls.proofs.new_tasks.set_globals.Given as goal
 

@@ -1,7 +1,7 @@
 use Rattle.std.proofs.Common.{◌≡◌, ℕ, ◌+◌, List, drop, set, ap, ◌∙◌, arith}
 use Rattle.word_store.specs.Row.{with_words}
-use Rattle.owned_words.specs.LinkedWords.{first_of}
-use Rattle.task_block.specs.Versions.{head_words}
+use Rattle.block_calls.specs.KernelDispatch.OwnedWords.LinkedWords.{first_of}
+use Rattle.block_calls.specs.KernelDispatch.TaskBlock.Versions.{head_words}
 use Rattle.task_calls.proofs.NewTaskRow.{modules-room, row-written}
 use Rattle.task_calls.proofs.new_tasks.write_head.Goals as goal
 

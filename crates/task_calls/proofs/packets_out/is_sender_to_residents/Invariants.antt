@@ -1,6 +1,6 @@
 use Rattle.std.proofs.Common.{◌≡◌}
 use Rattle.std.specs.List.{AllByRecursion, list_any}
-use Rattle.kernel_model.specs.KernelRanges.{CanWalkTask}
+use Rattle.block_calls.specs.KernelDispatch.KernelModel.KernelRanges.{CanWalkTask}
 use Rattle.task_calls.specs.PacketsOut.{is_sender_to, is_sender_to_residents}
 use Rattle.task_calls.proofs.packets_out.is_sender_to_residents.Given as goal
 

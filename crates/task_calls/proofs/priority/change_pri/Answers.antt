@@ -1,12 +1,12 @@
 use Rattle.std.proofs.Common.{◌≡◌, ◌++◌, None, [], Ok, refl, sym, ◌∙◌, subst}
 use Rattle.std.proofs.lemmas.Result.{err_from_is_err_and}
-use Rattle.kernel_model.specs.ChangedStore.{IsChanged}
-use Rattle.call_answers.specs.Guests.{GuestAt, guest_tests}
-use Rattle.call_answers.specs.Made.{done, minus_one}
-use Rattle.call_answers.specs.Refusals.{first_refusal}
-use Rattle.call_answers.proofs.FoundTask.{reads}
-use Rattle.call_answers.proofs.MadeCalls.{leaves-accepted, leaves-refused}
-use Rattle.call_answers.proofs.Refusals.{answer_of-err, answer_of-ok, first_refusal-failed}
+use Rattle.block_calls.specs.KernelDispatch.KernelModel.ChangedStore.{IsChanged}
+use Rattle.block_calls.specs.CallAnswers.Guests.{GuestAt, guest_tests}
+use Rattle.block_calls.specs.CallAnswers.Made.{done, minus_one}
+use Rattle.block_calls.specs.CallAnswers.Refusals.{first_refusal}
+use Rattle.block_calls.proofs.Shown.CallAnswers.FoundTask.{reads}
+use Rattle.block_calls.proofs.Shown.CallAnswers.MadeCalls.{leaves-accepted, leaves-refused}
+use Rattle.block_calls.proofs.Shown.CallAnswers.Refusals.{answer_of-err, answer_of-ok, first_refusal-failed}
 use Rattle.task_calls.specs.ChangePri.{priority_tests, with_new_priority}
 use Rattle.task_calls.proofs.ChangedPriority.{guest-in_chain, priority-changed, refusal-is}
 use Rattle.task_calls.proofs.priority.change_pri.Goals as goal

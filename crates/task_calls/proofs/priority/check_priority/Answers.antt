@@ -1,7 +1,7 @@
 use Rattle.std.proofs.Common.{true, false, sym, ap, ◌∙◌}
-use Rattle.call_answers.specs.Refusals.{answer_of}
+use Rattle.block_calls.specs.CallAnswers.Refusals.{answer_of}
 use Rattle.task_calls.proofs.ChangedPriority.{no_priority, priority_taken}
-use Rattle.call_answers.proofs.FoundTask.{reads}
+use Rattle.block_calls.proofs.Shown.CallAnswers.FoundTask.{reads}
 use Rattle.task_calls.proofs.Priorities.{taken-used}
 use Rattle.task_calls.proofs.priority.check_priority.Goals as goal
 

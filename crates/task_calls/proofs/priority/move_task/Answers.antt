@@ -1,8 +1,8 @@
 use Rattle.std.proofs.Common.{◌≡◌, ℕ, ◌+◌, List, set, true, sym, ap, ◌∙◌, subst}
-use Rattle.linked_list.specs.Places.{has}
-use Rattle.task_block.specs.Moves.{HasNewPriority, without_task}
-use Rattle.task_block.specs.TaskChain.{HasTasks, tasks_in}
-use Rattle.task_block.proofs.NewTask.{new-priority}
+use Rattle.block_calls.specs.KernelDispatch.LinkedList.Places.{has}
+use Rattle.block_calls.specs.KernelDispatch.TaskBlock.Moves.{HasNewPriority, without_task}
+use Rattle.block_calls.specs.KernelDispatch.TaskBlock.TaskChain.{HasTasks, tasks_in}
+use Rattle.block_calls.proofs.Shown.KernelDispatch.TaskBlock.NewTask.{new-priority}
 use Rattle.task_calls.proofs.priority.move_task.Goals as goal
 
 after : (s u v : List ℕ) (t pri : ℕ) → HasTasks s → has t (tasks_in s) ≡ true → u ≡ without_task s t → v ≡ set u (t + 2) pri → HasNewPriority s v t pri

@@ -1,11 +1,11 @@
 use Rattle.std.proofs.Common.{◌+◌, ◌-◌, [], ◌∷◌, set, true, false, Ok, refl, sym, ap, ◌∙◌, subst}
 use Rattle.std.proofs.lemmas.Result.{err_from_is_err_and}
-use Rattle.kernel_model.specs.ChangedStore.{IsChanged}
-use Rattle.kernel_model.specs.Changes.{with_task}
-use Rattle.call_answers.specs.Made.{done, minus_one}
-use Rattle.call_answers.specs.Guests.{guest_tests}
-use Rattle.call_answers.proofs.Refusals.{first_refusal-failed}
-use Rattle.call_answers.proofs.MadeCalls.{leaves-accepted, leaves-refused}
+use Rattle.block_calls.specs.KernelDispatch.KernelModel.ChangedStore.{IsChanged}
+use Rattle.block_calls.specs.KernelDispatch.KernelModel.Changes.{with_task}
+use Rattle.block_calls.specs.CallAnswers.Made.{done, minus_one}
+use Rattle.block_calls.specs.CallAnswers.Guests.{guest_tests}
+use Rattle.block_calls.proofs.Shown.CallAnswers.Refusals.{first_refusal-failed}
+use Rattle.block_calls.proofs.Shown.CallAnswers.MadeCalls.{leaves-accepted, leaves-refused}
 use Rattle.task_calls.specs.OneTask.{is_held}
 use Rattle.task_calls.specs.ReleaseTask.{release_tests, released}
 use Rattle.task_calls.proofs.Held.{held-bit, release-accepted, release-changed, release-refused}

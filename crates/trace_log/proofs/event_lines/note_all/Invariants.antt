@@ -1,5 +1,5 @@
 use Rattle.std.proofs.Common.{take}
-use Rattle.kernel_model.specs.NotedEvents.{NotesAll}
+use Rattle.kernel_dispatch.specs.KernelModel.NotedEvents.{NotesAll}
 use Rattle.trace_log.proofs.event_lines.note_all.Given as goal
 
 -- the events so far are noted

@@ -1,9 +1,9 @@
 use Rattle.std.proofs.Common.{◌≡◌, ℕ, List, Result, Err, sym, subst}
-use Rattle.text_reader.specs.Refusal.{Refusal, refusal}
+use Rattle.hunk_text.specs.TextReader.Refusal.{Refusal, refusal}
 use Rattle.word_store.specs.declared.registers.Regs.{Regs}
-use Rattle.bare_machine.specs.Boot.{BootEndsAs, boot}
-use Rattle.bare_machine.specs.Run.{run}
-use Rattle.bare_machine.specs.declared.boot.BootEnd.{BootEnd}
+use Rattle.machine_boot.specs.BareMachine.Boot.{BootEndsAs, boot}
+use Rattle.machine_boot.specs.BareMachine.Run.{run}
+use Rattle.machine_boot.specs.BareMachine.declared.boot.BootEnd.{BootEnd}
 use Rattle.tp_io.specs.Write.{Prints}
 use Rattle.tripos_run.specs.Texts.{no_boot_text}
 use Rattle.tripos_run.specs.Answer.{Answers, bare_answer, end_without_kernel, run_answer}

@@ -1,4 +1,4 @@
-use Rattle.bare_machine.specs.Run.{run}
+use Rattle.machine_boot.specs.BareMachine.Run.{run}
 use Rattle.tp_io.proofs.GatheredTexts.{IsCut-first}
 use Rattle.tripos_run.specs.Answer.{end_without_kernel}
 use Rattle.tripos_run.proofs.AnswerParts.{Answers-closed, AppendsPrefix-closed, Prints-first}

@@ -2,7 +2,7 @@ use Rattle.std.proofs.Common.{subst}
 use Rattle.tp_io.specs.Pending.{IsCut, IsGathered}
 use Rattle.tp_io.proofs.GatheredTexts.{IsCut-first}
 use Rattle.session_generator.specs.Summary.{summary}
-use Rattle.bare_machine.specs.Run.{run}
+use Rattle.machine_boot.specs.BareMachine.Run.{run}
 use Rattle.tripos_run.specs.Answer.{end_without_kernel}
 use Rattle.tripos_run.specs.declared.reports.Report.TheVariants.{Sums}
 use Rattle.tripos_run.proofs.AnswerParts.{Answers-closed, AppendsPrefix-closed, Prints-first}

@@ -1,14 +1,14 @@
 use Rattle.std.proofs.Common.{◌≡◌, List, Result, Err, sym, ap, subst, arith}
 use Rattle.std.proofs.lemmas.Bool.{leb-true}
-use Rattle.packet_queue.specs.declared.events.KernelEvent.{KernelEvent}
-use Rattle.text_reader.specs.Refusal.{refusal}
-use Rattle.session_text.specs.Ranges.{most_steps}
-use Rattle.kernel_model.specs.Kernel.{Kernel}
-use Rattle.bare_machine.specs.declared.boot.BootEnd.{BootEnd}
-use Rattle.kernel_boot.specs.BootFiles.{boot_refusal}
-use Rattle.kernel_boot.specs.declared.refusals.BootRefusal.{BootRefusal}
-use Rattle.kernel_steps.specs.Step.{boot_events, run}
-use Rattle.kernel_steps.specs.Stepped.{Stepped}
+use Rattle.machine_boot.specs.KernelCalls.PacketQueue.declared.events.KernelEvent.{KernelEvent}
+use Rattle.hunk_text.specs.TextReader.Refusal.{refusal}
+use Rattle.machine_boot.specs.KernelCalls.KernelModel.Ranges.{most_steps}
+use Rattle.machine_boot.specs.KernelCalls.KernelModel.Kernel.{Kernel}
+use Rattle.machine_boot.specs.BareMachine.declared.boot.BootEnd.{BootEnd}
+use Rattle.machine_boot.specs.KernelBoot.BootFiles.{boot_refusal}
+use Rattle.machine_boot.specs.KernelBoot.declared.refusals.BootRefusal.{BootRefusal}
+use Rattle.machine_boot.specs.KernelSteps.Step.{boot_events, run}
+use Rattle.machine_boot.specs.KernelSteps.Stepped.{Stepped}
 use Rattle.machine_boot.specs.Boot.{boot}
 use Rattle.machine_boot.specs.Booted.{EndsAs}
 use Rattle.machine_boot.proofs.BootedKernels.{booted-events}

@@ -1,5 +1,5 @@
-use Rattle.kernel_model.proofs.NotedInTurn.{notes-then}
-use Rattle.kernel_steps.specs.Step.{boot_events, run}
+use Rattle.machine_boot.proofs.Shown.KernelCalls.KernelModel.NotedInTurn.{notes-then}
+use Rattle.machine_boot.specs.KernelSteps.Step.{boot_events, run}
 use Rattle.tripos_run.proofs.NotedRuns.{notes-run}
 use Rattle.tripos_run.proofs.kernel.note_run.Goals as goal
 

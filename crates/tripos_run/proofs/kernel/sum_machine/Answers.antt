@@ -2,9 +2,9 @@ use Rattle.std.proofs.Common.{[], subst}
 use Rattle.tp_io.specs.Pending.{IsCut, IsGathered}
 use Rattle.tp_io.proofs.GatheredTexts.{IsCut-first}
 use Rattle.session_generator.specs.Summary.{summary}
-use Rattle.kernel_model.specs.Kernel.{Kernel}
-use Rattle.kernel_steps.specs.Step.{boot_events, run}
-use Rattle.kernel_steps.specs.Stepped.{quietly}
+use Rattle.machine_boot.specs.KernelCalls.KernelModel.Kernel.{Kernel}
+use Rattle.machine_boot.specs.KernelSteps.Step.{boot_events, run}
+use Rattle.machine_boot.specs.KernelSteps.Stepped.{quietly}
 use Rattle.tripos_run.specs.Answer.{Answers, closed_answer, end_with_kernel}
 use Rattle.tripos_run.specs.declared.reports.Report.TheVariants.{Sums}
 use Rattle.tripos_run.proofs.AnswerParts.{Answers-behind, AppendsPrefix-closed}

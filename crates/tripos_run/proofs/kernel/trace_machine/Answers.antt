@@ -1,7 +1,7 @@
 use Rattle.std.proofs.Common.{[], ◌++◌, refl, subst}
-use Rattle.kernel_model.specs.Kernel.{Kernel}
-use Rattle.kernel_steps.specs.Step.{boot_events, run}
-use Rattle.kernel_steps.specs.Stepped.{quietly}
+use Rattle.machine_boot.specs.KernelCalls.KernelModel.Kernel.{Kernel}
+use Rattle.machine_boot.specs.KernelSteps.Step.{boot_events, run}
+use Rattle.machine_boot.specs.KernelSteps.Stepped.{quietly}
 use Rattle.trace_log.specs.Traced.{lines_of}
 use Rattle.tripos_run.specs.Answer.{Answers, closed_answer, end_with_kernel}
 use Rattle.tripos_run.specs.declared.reports.Report.TheVariants.{Events}

@@ -1,6 +1,6 @@
 use Rattle.std.proofs.Common.{[]}
-use Rattle.kernel_model.proofs.ImageWords.{image-list}
-use Rattle.kernel_steps.specs.Stepped.{quietly}
+use Rattle.machine_boot.proofs.Shown.KernelCalls.KernelModel.ImageWords.{image-list}
+use Rattle.machine_boot.specs.KernelSteps.Stepped.{quietly}
 use Rattle.tripos_run.specs.Answer.{end_with_kernel}
 use Rattle.tripos_run.proofs.AnswerParts.{Answers-closed}
 use Rattle.tripos_run.proofs.kernel.write_run_end.Goals as goal

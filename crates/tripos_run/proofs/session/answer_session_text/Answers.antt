@@ -1,7 +1,7 @@
 use Rattle.std.proofs.Common.{subst}
 use Rattle.session_text.specs.SessionOfText.{session_of}
-use Rattle.text_reader.specs.Answers.{EndsAs}
-use Rattle.text_reader.specs.Refusal.{refusal}
+use Rattle.hunk_text.specs.TextReader.Answers.{EndsAs}
+use Rattle.hunk_text.specs.TextReader.Refusal.{refusal}
 use Rattle.tripos_run.proofs.AnswerParts.{Answers-refused}
 use Rattle.tripos_run.proofs.session.answer_session_text.Goals as goal
 

@@ -1,11 +1,11 @@
 use Rattle.std.proofs.Common.{◌∙◌, ◌+◌, ◌%◌, ◌++◌, [], ◌∷◌, get_or, sym, subst, ap, append-nil}
-use Rattle.kernel_model.specs.NotedEvents.{NotesAll}
-use Rattle.kernel_model.proofs.NotedInTurn.{notes-none}
-use Rattle.packet_moves.proofs.HeldPlaces.{HasFirst}
+use Rattle.kernel_calls.specs.KernelModel.NotedEvents.{NotesAll}
+use Rattle.kernel_calls.proofs.Shown.KernelModel.NotedInTurn.{notes-none}
+use Rattle.kernel_calls.proofs.Shown.PacketCalls.HeldPlaces.{HasFirst}
 use Rattle.tty_device.specs.Printed.{printed}
-use Rattle.device_returns.specs.Returned.{IsServed}
-use Rattle.device_returns.specs.declared.returns.Device.TheVariants.{OfOutput}
-use Rattle.device_returns.proofs.DeviceQueues.{none-waits, one-waits, returned-none, served-none}
+use Rattle.kernel_calls.specs.PacketCalls.Returned.{IsServed}
+use Rattle.kernel_calls.specs.PacketCalls.declared.returns.Device.TheVariants.{OfOutput}
+use Rattle.kernel_calls.proofs.Shown.PacketCalls.DeviceQueues.{none-waits, one-waits, returned-none, served-none}
 use Rattle.tty_device.proofs.output.finish_output.Goals as goal
 
 pub returns-then-p-eq0-clause-lists : goal.returns-then-p-eq0-clause-lists

@@ -1,6 +1,6 @@
 use Rattle.std.proofs.Common.{◌≡◌, eqb}
 use Rattle.std.specs.List.{list_any}
-use Rattle.task_block.specs.TaskChain.{id_in}
+use Rattle.kernel_model.specs.KernelLists.TaskBlock.TaskChain.{id_in}
 use Rattle.kernel_model.specs.KernelRanges.{has_reporter}
 use Rattle.word_kinds.proofs.visits.has_reporter.Given as goal
 

@@ -1,5 +1,5 @@
 use Rattle.std.proofs.Common.{◌≡◌, ◌++◌, map}
-use Rattle.getvec_chain.specs.Tiling.{blocks_in}
+use Rattle.kernel_model.specs.KernelLists.GetvecChain.Tiling.{blocks_in}
 use Rattle.kernel_model.specs.KernelRanges.{block_range}
 use Rattle.word_kinds.proofs.visits.show_blocks.Given as goal
 

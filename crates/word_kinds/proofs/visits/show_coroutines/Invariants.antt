@@ -1,5 +1,5 @@
 use Rattle.std.proofs.Common.{◌≡◌, ◌++◌, map}
-use Rattle.task_block.specs.Lists.{coroutines_in}
+use Rattle.kernel_model.specs.KernelLists.TaskBlock.Lists.{coroutines_in}
 use Rattle.kernel_model.specs.KernelRanges.{words}
 use Rattle.word_kinds.proofs.visits.show_coroutines.Given as goal
 

@@ -1,5 +1,5 @@
 use Rattle.std.proofs.Common.{◌∷◌, [], subst}
-use Rattle.hunk_loader.specs.ModuleHunks.{hunk_count}
+use Rattle.kernel_model.specs.KernelLists.HunkLoader.ModuleHunks.{hunk_count}
 use Rattle.kernel_model.specs.KernelRanges.{words}
 use Rattle.word_kinds.proofs.visits.show_module.Goals as goal
 

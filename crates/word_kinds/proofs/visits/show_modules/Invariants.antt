@@ -1,6 +1,6 @@
 use Rattle.std.proofs.Common.{◌≡◌, ◌++◌}
 use Rattle.std.specs.List.{AllByRecursion, flat_map}
-use Rattle.task_block.specs.Lists.{modules_in}
+use Rattle.kernel_model.specs.KernelLists.TaskBlock.Lists.{modules_in}
 use Rattle.kernel_model.specs.KernelRanges.{IsModuleIn, module_ranges}
 use Rattle.word_kinds.proofs.visits.show_modules.Given as goal
 

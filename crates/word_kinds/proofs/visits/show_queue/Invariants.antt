@@ -1,5 +1,5 @@
 use Rattle.std.proofs.Common.{◌≡◌, ◌++◌, map}
-use Rattle.packet_queue.specs.Queue.{queue_at}
+use Rattle.kernel_model.specs.KernelLists.PacketQueue.Queue.{queue_at}
 use Rattle.kernel_model.specs.KernelRanges.{words}
 use Rattle.word_kinds.proofs.visits.show_queue.Given as goal
 

@@ -1,6 +1,6 @@
 use Rattle.std.proofs.Common.{◌≡◌, ◌++◌}
 use Rattle.std.specs.List.{AllByRecursion, flat_map}
-use Rattle.task_block.specs.TaskChain.{tasks_in}
+use Rattle.kernel_model.specs.KernelLists.TaskBlock.TaskChain.{tasks_in}
 use Rattle.kernel_model.specs.KernelRanges.{CanWalkTask, task_ranges}
 use Rattle.word_kinds.proofs.visits.show_tasks.Given as goal
 

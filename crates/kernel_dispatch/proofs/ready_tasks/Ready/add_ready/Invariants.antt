@@ -1,6 +1,6 @@
 use Rattle.std.proofs.Common.{◌≡◌, ◌||◌, ◌&&◌, ◌<◌, ℕ, eqb}
 use Rattle.std.specs.List.{list_any}
-use Rattle.task_block.specs.TaskChain.{id_in, tasks_in}
+use Rattle.word_kinds.specs.KernelLists.TaskBlock.TaskChain.{id_in, tasks_in}
 use Rattle.kernel_dispatch.specs.ReadyTasks.{is_in, is_ready_in}
 use Rattle.kernel_dispatch.proofs.ready_tasks.Ready.add_ready.Given as goal
 

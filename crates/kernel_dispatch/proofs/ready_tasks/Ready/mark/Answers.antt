@@ -1,9 +1,9 @@
 use Rattle.std.proofs.Common.{◌∙◌, ◌≡◌, ap, false, ℕ, List, Option, None, sym}
 use Rattle.std.specs.Option.{option_map_or}
-use Rattle.task_block.specs.TaskChain.{task_with, tasks_in}
-use Rattle.kernel_model.specs.HoldsLists.{HoldsLists}
-use Rattle.kernel_model.specs.Lists.{Lists}
-use Rattle.kernel_model.proofs.Reading.{read-lists}
+use Rattle.word_kinds.specs.KernelLists.TaskBlock.TaskChain.{task_with, tasks_in}
+use Rattle.word_kinds.specs.KernelModel.HoldsLists.{HoldsLists}
+use Rattle.word_kinds.specs.KernelModel.Lists.{Lists}
+use Rattle.word_kinds.proofs.Shown.KernelModel.Reading.{read-lists}
 use Rattle.kernel_dispatch.specs.ReadyTasks.{is_ready_id, is_ready_in}
 use Rattle.kernel_dispatch.proofs.ReadyChoice.{added-ready, found-ready, not-added}
 use Rattle.kernel_dispatch.proofs.ready_tasks.Ready.mark.Goals as goal

@@ -1,4 +1,4 @@
-use Rattle.kernel_model.proofs.WalkedLists.{can-walk}
+use Rattle.word_kinds.proofs.Shown.KernelModel.WalkedLists.{can-walk}
 use Rattle.kernel_dispatch.proofs.ReadyChoice.{rebuilt}
 use Rattle.kernel_dispatch.proofs.ready_tasks.Ready.rebuild.Goals as goal
 

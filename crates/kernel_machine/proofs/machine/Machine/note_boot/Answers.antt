@@ -1,6 +1,6 @@
 use Rattle.std.proofs.Common.{ap, subst}
-use Rattle.kernel_model.specs.NotedEvents.{NotesAll}
-use Rattle.kernel_model.proofs.NotedInTurn.{notes-then}
+use Rattle.kernel_steps.specs.KernelCalls.KernelModel.NotedEvents.{NotesAll}
+use Rattle.kernel_steps.proofs.Shown.KernelCalls.KernelModel.NotedInTurn.{notes-then}
 use Rattle.kernel_steps.specs.Step.{boot_events}
 use Rattle.kernel_machine.specs.Machine.{MachineView, kernel_of}
 use Rattle.kernel_machine.proofs.machine.Machine.note_boot.Goals as goal

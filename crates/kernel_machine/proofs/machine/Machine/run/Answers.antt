@@ -1,6 +1,6 @@
 use Rattle.std.proofs.Common.{◌≡◌, ◌∙◌, ◌+◌, ap, arith, sym}
 use Rattle.std.proofs.lemmas.Result.{err_from_is_err_and}
-use Rattle.kernel_model.specs.Kernel.{Kernel}
+use Rattle.kernel_steps.specs.KernelCalls.KernelModel.Kernel.{Kernel}
 use Rattle.kernel_steps.proofs.Runs.{run-steps}
 use Rattle.kernel_machine.proofs.RunParts.{cause-later, cut-more, cut-then, ends-all, ends-stopped, gathered-all, gathered-ended, gathered-none, gathered-then, no-stop, ran-all, ran-ended, ran-none, ran-then}
 use Rattle.kernel_machine.proofs.machine.Machine.run.Goals as goal

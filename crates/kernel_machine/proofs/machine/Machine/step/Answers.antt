@@ -1,6 +1,6 @@
 use Rattle.std.proofs.Common.{◌∙◌, ◌++◌, ◌<◌, ap, subst, sym}
-use Rattle.session_text.specs.Ranges.{most_steps}
-use Rattle.kernel_model.specs.NotedEvents.{NotesAll}
+use Rattle.kernel_steps.specs.KernelCalls.KernelModel.Ranges.{most_steps}
+use Rattle.kernel_steps.specs.KernelCalls.KernelModel.NotedEvents.{NotesAll}
 use Rattle.kernel_steps.specs.Step.{step}
 use Rattle.kernel_machine.specs.Machine.{MachineView, kernel_of}
 use Rattle.kernel_machine.proofs.MachineStep.{kernel-after, stop-after, stopped-now, whole-after}

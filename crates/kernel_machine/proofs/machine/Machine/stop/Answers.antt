@@ -1,6 +1,6 @@
 use Rattle.std.proofs.Common.{◌∙◌, ap, sym}
 use Rattle.std.specs.Option.{option_map}
-use Rattle.machine_parts.specs.Stops.{stop_of}
+use Rattle.kernel_machine.specs.Stops.{stop_of}
 use Rattle.kernel_machine.specs.Machine.{MachineView}
 use Rattle.kernel_machine.proofs.OneMachine.{stop-of}
 use Rattle.kernel_machine.proofs.machine.Machine.stop.Goals as goal

@@ -1,6 +1,6 @@
 use Rattle.std.proofs.Common.{[], ◌∷◌, refl, ap, arith}
-use Rattle.linked_list.specs.Count.{times}
-use Rattle.linked_list.proofs.Counts.{hit-same, times-append}
+use Rattle.word_store.specs.Count.{times}
+use Rattle.word_store.proofs.Counts.{hit-same, times-append}
 use Rattle.ram_disc.proofs.directory.Directory.add.Goals as goal
 
 pub index_mut-requires : goal.index_mut-requires

@@ -1,14 +1,14 @@
 use Rattle.std.proofs.Common.{◌≡◌, ◌∙◌, ℕ, List, [], ◌∷◌, Some, None, drop, refl, sym, subst, ap}
 use Rattle.std.specs.Prelude.{slice_get}
-use Rattle.kernel_model.specs.NotedEvents.{NotesAll}
-use Rattle.kernel_model.specs.Lists.{Lists}
-use Rattle.kernel_model.proofs.NotedInTurn.{notes-none}
-use Rattle.packet_queue.specs.QueueWords.{QueuedPacket}
-use Rattle.packet_moves.proofs.HeldPlaces.{HasFirst}
+use Rattle.kernel_calls.specs.KernelModel.NotedEvents.{NotesAll}
+use Rattle.kernel_calls.specs.KernelModel.Lists.{Lists}
+use Rattle.kernel_calls.proofs.Shown.KernelModel.NotedInTurn.{notes-none}
+use Rattle.kernel_calls.specs.PacketQueue.QueueWords.{QueuedPacket}
+use Rattle.kernel_calls.proofs.Shown.PacketCalls.HeldPlaces.{HasFirst}
 use Rattle.tty_device.specs.Keys.{left_typed, met}
-use Rattle.device_returns.specs.Returned.{IsServed, Served, first_returned, unserved}
-use Rattle.device_returns.specs.declared.returns.Device.TheVariants.{OfKeys}
-use Rattle.device_returns.proofs.DeviceQueues.{none-waits, one-waits, served-none}
+use Rattle.kernel_calls.specs.PacketCalls.Returned.{IsServed, Served, first_returned, unserved}
+use Rattle.kernel_calls.specs.PacketCalls.declared.returns.Device.TheVariants.{OfKeys}
+use Rattle.kernel_calls.proofs.Shown.PacketCalls.DeviceQueues.{none-waits, one-waits, served-none}
 use Rattle.tty_device.proofs.typed.Tty.meet.Goals as goal
 
 -- with no packet, or no byte, nothing is done

@@ -1,0 +1,3 @@
+-- Lemmas of lower crates, shown to the crates above.
+pub use Rattle.shell_programs.proofs.Shown.KernelResidents
+pub use Rattle.shell_programs.proofs.Shown.KernelBoot

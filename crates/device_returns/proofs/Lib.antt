@@ -1,3 +1,0 @@
-pub mod DeviceQueues
-pub mod ReturnedLists
-pub mod ReturnedWords

@@ -1,0 +1,4 @@
+-- Lemmas of `resident_requests`.
+pub use Rattle.resident_requests.proofs.ResidentTurns
+pub use Rattle.resident_requests.proofs.RunningResident
+pub use Rattle.resident_requests.proofs.TakenRequest

@@ -1,2 +1,0 @@
-pub mod MarkedWords
-pub mod GuardedLists

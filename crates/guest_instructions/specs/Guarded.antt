@@ -1,9 +1,0 @@
--- The words that an instruction of a guest may not write.
-use Rattle.std.specs.Prelude.{ℕ, Bool, nat_lt}
-use Rattle.owned_words.specs.Owned.{owners}
-use Rattle.kernel_model.specs.Lists.{Lists}
-use Rattle.kernel_model.specs.Owned.{owned}
-
--- the word at the address is the kernel's
-abbrev pub is_owned : Lists → ℕ → Bool
-is_owned l a = nat_lt 0 (owners a (owned l))

@@ -1,0 +1,7 @@
+-- Lemmas of `kernel_calls`.
+pub use Rattle.kernel_calls.proofs.Shown.CallAnswers
+pub use Rattle.kernel_calls.proofs.Shown.KernelDispatch
+pub use Rattle.kernel_calls.proofs.Shown.KernelModel
+pub use Rattle.kernel_calls.proofs.Shown.LinkedList
+pub use Rattle.kernel_calls.proofs.Shown.OwnedWords
+pub use Rattle.kernel_calls.proofs.Shown.PacketCalls

@@ -1,0 +1,29 @@
+// A guest executes an instruction, which writes none of the kernel's words.
+ghost use Rattle.std.specs.Prelude.{◌≡◌, ◌<◌};
+ghost use Rattle.cint_exec.specs.Instruction.{instruction};
+ghost use Rattle.kernel_calls.specs.KernelModel.ChangedStore.{HasKeeper};
+ghost use Rattle.kernel_calls.specs.KernelModel.HoldsLists.{HoldsLists};
+ghost use Rattle.kernel_calls.specs.KernelModel.Lists.{Lists};
+ghost use Rattle.guest_turns.specs.Guarded.{is_owned};
+
+use cint_exec::{Outcome, execute};
+use kernel_calls::KindKeeper;
+use word_store::{Regs, Store};
+
+/// Executes the instruction at PC. The words that the kernel's lists own stay as they are: an instruction that would write one
+/// of them is fault 6, and writes nothing.
+pub fn execute_guest<Q: KindKeeper>(store: &mut Store, regs: &mut Regs, kinds: &Q) -> Outcome
+    requires byte { regs.old.c < 256 }
+    requires keeper { (l : Lists) × HasKeeper store.old (Q.tells kinds.now) (Q.room kinds.now) l }
+    ensures outcome { (l : Lists) → HasKeeper store.old (Q.tells kinds.now) (Q.room kinds.now) l
+        → result ≡ (instruction (is_owned l) store.old regs.old).outcome }
+    ensures words { (l : Lists) → HasKeeper store.old (Q.tells kinds.now) (Q.room kinds.now) l
+        → store.new ≡ (instruction (is_owned l) store.old regs.old).words }
+    ensures regs { (l : Lists) → HasKeeper store.old (Q.tells kinds.now) (Q.room kinds.now) l
+        → regs.new ≡ (instruction (is_owned l) store.old regs.old).regs }
+    ensures lists { (l : Lists) → HasKeeper store.old (Q.tells kinds.now) (Q.room kinds.now) l
+        → HoldsLists store.new l }
+    ensures byte { regs.new.c < 256 }
+{
+    execute(store, regs, kinds)
+}

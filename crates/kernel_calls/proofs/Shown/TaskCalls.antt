@@ -1,0 +1,6 @@
+-- Lemmas of `task_calls`.
+pub use Rattle.task_calls.proofs.OneWord
+pub use Rattle.task_calls.proofs.PlainRows
+pub use Rattle.task_calls.proofs.ReadNumbers
+pub use Rattle.task_calls.proofs.SameWords
+pub use Rattle.task_calls.proofs.TestsInTurn

@@ -1,0 +1,2 @@
+-- Lemmas of `packet_queue`.
+pub use Rattle.packet_queue.proofs.HeldQueues

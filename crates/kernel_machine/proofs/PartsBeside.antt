@@ -1,0 +1,24 @@
+-- Others of the parts that stand beside the store.
+use Rattle.std.proofs.Common.{◌≡◌, List, Option}
+use Rattle.ram_disc.specs.Disc.{Disc}
+use Rattle.kernel_steps.specs.KernelCalls.KernelModel.Kernel.{Console, Kernel, Pipe, Shell}
+use Rattle.kernel_machine.specs.declared.parts.Parts.{Parts}
+use Rattle.kernel_machine.specs.Stands.{Stands}
+
+pub stands-beside : (p : Parts) (k : Kernel) → Stands p k → {console now : Console} {shell put : Shell} {disc new : Disc} {pipes held : List (Option Pipe)} → console ≡ now → shell ≡ put → disc ≡ new → pipes ≡ held
+    → Stands (record p { console = console; shell = shell; disc = disc; pipes = pipes }) (record k { console = now; shell = put; disc = new; pipes = held })
+stands-beside p k st console shell disc pipes = record {
+  full = st.full;
+  keeper = st.keeper;
+  image = record { size = st.image.size; holds = st.image.holds; plain = st.image.plain };
+  plain = record { size = st.plain.size; plain = st.plain.plain; owned = st.plain.owned };
+  regs = st.regs;
+  type_ahead = st.type_ahead;
+  disc = disc;
+  console = console;
+  shell = shell;
+  pipes = pipes;
+  keys = st.keys;
+  steps = st.steps;
+  period = st.period;
+}

@@ -1,0 +1,7 @@
+-- Lemmas of `kernel_steps`.
+pub use Rattle.kernel_steps.proofs.DispatchKept
+pub use Rattle.kernel_steps.proofs.FaultRule
+pub use Rattle.kernel_steps.proofs.Runs
+pub use Rattle.kernel_steps.proofs.StepKept
+pub use Rattle.kernel_steps.proofs.StoredWords
+pub use Rattle.kernel_steps.proofs.TurnRules

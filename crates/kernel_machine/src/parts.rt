@@ -1,0 +1,31 @@
+// What a machine with a kernel consists of.
+
+use crate::script::Script;
+use kernel_steps::{ByteKinds, ConsoleState, Pipes, ShellState, Tty};
+use ram_disc::Disc;
+use word_store::{Regs, Store};
+
+/// A machine with a kernel, at one moment.
+#[derive(Drop)]
+pub struct Parts {
+    /// The words, and with them the kernel.
+    pub store: Store,
+    /// The registers of the running task.
+    pub regs: Regs,
+    /// Which words are the kernel's.
+    pub kinds: ByteKinds,
+    /// The bytes that are typed ahead.
+    pub tty: Tty,
+    pub disc: Disc,
+    /// The console's line.
+    pub console: ConsoleState,
+    /// What the shell does next, and its line.
+    pub shell: ShellState,
+    pub pipes: Pipes,
+    /// The keys that are still to come.
+    pub keys: Script,
+    /// The steps taken so far.
+    pub step: u64,
+    /// The steps from one tick to the next.
+    pub period: u32,
+}

@@ -1,0 +1,2 @@
+-- Lemmas of `console_handler`.
+pub use Rattle.console_handler.proofs.KeptKeys

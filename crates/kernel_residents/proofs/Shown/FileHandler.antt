@@ -1,0 +1,2 @@
+-- Lemmas of `file_handler`.
+pub use Rattle.file_handler.proofs.EndedRequests

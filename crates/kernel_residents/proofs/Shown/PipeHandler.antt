@@ -1,0 +1,2 @@
+-- Lemmas of `pipe_handler`.
+pub use Rattle.pipe_handler.proofs.KeptTurns

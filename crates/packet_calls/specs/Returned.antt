@@ -1,0 +1,66 @@
+-- A device returns the first packet of its queue to the task that sent it.
+use Rattle.std.specs.Prelude.{◌≡◌, ℕ, List, [], ◌∷◌, ◌++◌}
+use Rattle.word_store.specs.Arithmetic.{signed}
+use Rattle.block_calls.specs.KernelDispatch.OwnedWords.Owned.{owners}
+use Rattle.block_calls.specs.KernelDispatch.PacketQueue.QueueWords.{QueuedPacket}
+use Rattle.block_calls.specs.KernelDispatch.PacketQueue.declared.events.KernelEvent.{KernelEvent}
+use Rattle.block_calls.specs.KernelDispatch.PacketQueue.declared.events.KernelEvent.TheVariants.{Accepted, Taken}
+use Rattle.block_calls.specs.KernelDispatch.KernelModel.ChangedStore.{IsChanged}
+use Rattle.block_calls.specs.KernelDispatch.KernelModel.Changes.{queue_of, with_queue}
+use Rattle.block_calls.specs.KernelDispatch.KernelModel.Lists.{Lists}
+use Rattle.block_calls.specs.KernelDispatch.KernelModel.Owned.{clock_head, keyboard_head, output_head, owned}
+use Rattle.block_calls.specs.KernelDispatch.KernelModel.Residents.{device}
+use Rattle.block_calls.specs.KernelDispatch.KernelModel.ValidQueues.{Place}
+use Rattle.block_calls.specs.KernelDispatch.KernelModel.ValidQueues.Place.{Clock, Keyboard, Output, Work}
+use Rattle.packet_calls.specs.declared.returns.Device.{Device}
+use Rattle.packet_calls.specs.declared.returns.Device.TheVariants.{OfClock, OfKeys, OfOutput}
+
+-- the clock is -1, the keyboard -2, the output -3
+abbrev pub number_of : Device → ℕ
+number_of OfClock = device 1
+number_of OfKeys = device 2
+number_of OfOutput = device 3
+
+-- the word that leads to its first packet
+abbrev pub head_of : Device → ℕ
+head_of OfClock = clock_head
+head_of OfKeys = keyboard_head
+head_of OfOutput = output_head
+
+-- where its queue stands
+abbrev pub place_of : Device → Place
+place_of OfClock = Clock
+place_of OfKeys = Keyboard
+place_of OfOutput = Output
+
+-- the lists and the events of what a device does; it writes no plain word
+pub record Served : Type 0 where
+  pub lists : Lists
+  pub events : List KernelEvent
+
+abbrev pub unserved : Lists → Served
+unserved l = record { lists = l; events = [] }
+
+-- the packet as its sender gets it: from the device, with this result, and 0 as the second one
+abbrev pub returned_by : Device → ℕ → QueuedPacket → QueuedPacket
+returned_by d res1 p = record p { sender = number_of d; res1 = res1; last = 0 }
+
+-- a packet comes to the end of the work queue of the task with the number
+abbrev pub with_work_for : ℕ → QueuedPacket → Lists → Lists
+with_work_for id p l = with_queue (Work id) (queue_of (Work id) l ++ p ∷ []) l
+
+-- the device takes it, and its sender accepts it
+abbrev pub return_events : Device → QueuedPacket → List KernelEvent
+return_events d p = Taken (signed (number_of d)) p.address (signed p.sender) ∷ Accepted (signed p.sender) p.address (signed (number_of d)) ∷ []
+
+-- where these are queued for the device, the first of them is returned with this result
+abbrev pub first_returned : Device → ℕ → List QueuedPacket → Lists → Served
+first_returned d res1 [] l = unserved l
+first_returned d res1 (p ∷ ps) l =
+    record { lists = with_work_for p.sender (returned_by d res1 p) (with_queue (place_of d) ps l); events = return_events d p }
+
+-- The store that was s, which held the lists l, is t: it holds those that the device leaves, and nothing else has changed. The
+-- same words are owned before and after, so no keeper of kinds has to be told.
+pub record IsServed (s t : List ℕ) (l : Lists) (m : Served) : Type 0 where
+  pub lists : IsChanged s t m.lists []
+  pub same : (a : ℕ) → owners a (owned m.lists) ≡ owners a (owned l)

@@ -1,0 +1,44 @@
+// Which queue a number names.
+ghost use Rattle.std.specs.Prelude.{◌≡◌};
+ghost use Rattle.word_store.specs.Arithmetic.{word_of};
+ghost use Rattle.block_calls.specs.KernelDispatch.KernelModel.HoldsLists.{HoldsLists};
+ghost use Rattle.block_calls.specs.KernelDispatch.KernelModel.Lists.{Lists};
+ghost use Rattle.packet_calls.specs.Destinations.{destination_of};
+
+use crate::queues::Queue;
+use block_calls::kernel_dispatch::find;
+use word_store::Store;
+
+/// The number of the clock, -1.
+const CLOCK: u32 = 0xffff_ffff;
+
+/// The number of the keyboard, -2.
+pub const KEYBOARD: u32 = 0xffff_fffe;
+
+/// The number of the output device, -3.
+const OUTPUT: u32 = 0xffff_fffd;
+
+/// The number of a task or a device as a word.
+pub fn number_word(number: i32) -> u32
+    ensures { result ≡ word_of number }
+{
+    number.cast_unsigned()
+}
+
+/// The queue of the device or the task with the number.
+pub fn destination(store: &Store, number: u32) -> Option<Queue>
+    requires { (l : Lists) × HoldsLists store.now l }
+    ensures { (l : Lists) → HoldsLists store.now l → result ≡ destination_of l number }
+{
+    if number == CLOCK {
+        return Some(Queue::OfClock);
+    }
+    if number == KEYBOARD {
+        return Some(Queue::OfKeyboard);
+    }
+    if number == OUTPUT {
+        return Some(Queue::OfOutput);
+    }
+    let task = find(store, number)?;
+    Some(Queue::OfTask(task))
+}

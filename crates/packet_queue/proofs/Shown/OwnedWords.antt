@@ -1,0 +1,6 @@
+-- Lemmas of `owned_words`.
+pub use Rattle.owned_words.proofs.Exchanges
+pub use Rattle.owned_words.proofs.HeldLists
+pub use Rattle.owned_words.proofs.OwnedWords
+pub use Rattle.owned_words.proofs.RowWords
+pub use Rattle.owned_words.proofs.WrittenWords

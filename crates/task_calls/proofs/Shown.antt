@@ -1,0 +1,3 @@
+-- Lemmas of lower crates, shown to the crates above.
+pub use Rattle.block_calls.proofs.Shown.KernelDispatch
+pub use Rattle.block_calls.proofs.Shown.CallAnswers
