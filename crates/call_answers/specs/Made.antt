@@ -6,11 +6,15 @@ use Rattle.kernel_dispatch.specs.KernelModel.ChangedStore.{IsChanged, Knows}
 use Rattle.kernel_dispatch.specs.KernelModel.Lists.{Lists}
 use Rattle.call_answers.specs.Refusals.{first_refusal}
 
--- Its answer, or the code with which it is refused; the lists that it leaves, the plain words that it writes, and its events.
+-- What a call makes of the kernel.
 pub record Made : Type 0 where
+  -- its answer, a word, or the code with which it is refused
   pub answer : Result ℕ ℕ
+  -- the lists that it leaves
   pub lists : Lists
+  -- the plain words that it writes, each an address and a word
   pub plain : Pairs
+  -- its events, in their order
   pub events : List KernelEvent
 
 -- refused with this code, it changes nothing

@@ -10,9 +10,11 @@ use Rattle.shell_programs.specs.ShellPacket.{HasPacket}
 use Rattle.shell_programs.specs.Standings.{HasStanding}
 use Rattle.cli_shell.specs.TurnParts.{ShellTurn}
 
--- how a turn begins: what is outside, and for how many words the keeper has room
+-- How a turn of the shell begins.
 pub record Start : Type 0 where
+  -- the console bytes and the log
   pub outside : Outside
+  -- for how many words of a store the keeper of kinds has room
   pub room : ℕ
 
 -- So much is done since then: the store stands so, the keeper knows the words of its lists, and the rest is as the code has it. The

@@ -7,14 +7,19 @@ use Rattle.ram_disc.specs.Disc.{Disc}
 use Rattle.shell_programs.specs.KernelCalls.CallAnswers.Made.{Made}
 use Rattle.shell_programs.specs.KernelCalls.KernelModel.Standing.{Standing, left_with, standing}
 
--- The words of the store and its lists, the shell and the disc; the bytes that went to the console, and the events; and whether the
--- shell has finished the machine.
+-- How far a turn of the shell has come.
 pub record ShellTurn : Type 0 where
+  -- the words of the store and its lists
   pub standing : Standing
+  -- what the shell does next, and its line
   pub shell : Shell
+  -- the disc
   pub disc : Disc
+  -- the bytes that went to the console so far
   pub bytes : List ℕ
+  -- the events so far, in their order
   pub events : List KernelEvent
+  -- whether the shell has finished the machine
   pub finished : Bool
 
 -- nothing is done yet

@@ -2,10 +2,13 @@
 use Rattle.std.specs.Prelude.{ℕ, ◌-◌, ◌==◌, ◌&&◌, ◌||◌, Bool, true, if◌then◌else◌, List, [], ◌∷◌, ◌++◌, length, nat_le, nat_lt, take}
 use Rattle.resident_requests.specs.KernelCalls.KernelModel.Kernel.{Console}
 
--- What a key does: the line afterwards, the bytes that are echoed, and the flags that are set of the task for which the shell waits.
+-- What a key does.
 pub record Keyed : Type 0 where
+  -- the line afterwards
   pub console : Console
+  -- the bytes that are written to the console
   pub echo : List ℕ
+  -- the flags that are set of the task for which the shell waits, one a bit; 0 for none
   pub flags : ℕ
 
 abbrev pub keyed : Console → List ℕ → ℕ → Keyed

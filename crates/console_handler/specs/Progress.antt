@@ -11,15 +11,21 @@ use Rattle.resident_requests.specs.KernelCalls.KernelModel.Owned.{owned}
 use Rattle.resident_requests.specs.KernelCalls.CallAnswers.Outside.{Outside}
 use Rattle.resident_requests.specs.Requests.{RunsResident}
 
--- The words of the store and its lists; the plain words that were written, the last ones first, the bytes that went to the output,
--- and the events; the console's line, and the line that the shell has.
+-- How far a turn of the console has come.
 pub record Progress : Type 0 where
+  -- the words of the store, from address 0
   pub words : List ℕ
+  -- the lists that they hold
   pub lists : Lists
+  -- the plain words that were written so far, the last ones first
   pub plain : Pairs
+  -- the bytes that went to the console so far
   pub bytes : List ℕ
+  -- the events so far, in their order
   pub events : List KernelEvent
+  -- the console's line
   pub console : Console
+  -- the line that the shell has
   pub command : List ℕ
 
 -- nothing is done yet
@@ -43,10 +49,13 @@ and_then g l plain events = record g {
 abbrev pub console_number : ℕ
 console_number = 3
 
--- how a turn begins: the words of the store, its lists, and what is outside
+-- How a turn of the console begins.
 pub record Start : Type 0 where
+  -- the words of the store, from address 0
   pub words : List ℕ
+  -- the lists that they hold
   pub lists : Lists
+  -- the console bytes and the log
   pub outside : Outside
 
 -- So much is done since then: the store is t, the keeper knows the words of its lists, and the rest is as the code has it. The same

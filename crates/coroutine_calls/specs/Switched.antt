@@ -11,11 +11,13 @@ use Rattle.block_calls.specs.KernelDispatch.KernelModel.Owned.{owned}
 use Rattle.block_calls.specs.CallAnswers.Refusals.{first_refusal}
 use Rattle.coroutine_calls.specs.CallersCoroutines.{coroutines_of_caller, with_callers}
 
--- Whether it is accepted, or the code with which it is refused; the lists that it leaves, and the registers. It writes no plain
--- word, and has no events.
+-- What a switch between coroutines leaves. It writes no plain word, and has no events.
 pub record Switched : Type 0 where
+  -- whether it is accepted, or the code with which it is refused
   pub answer : Result (Unit {0}) ℕ
+  -- the lists
   pub lists : Lists
+  -- the registers
   pub regs : Regs
 
 -- refused with this code, it changes nothing

@@ -13,11 +13,15 @@ use Rattle.coroutines.specs.CoroutineWords.{as_parent, bottom, current_cell, par
 use Rattle.coroutines.specs.Creation.{highest}
 use Rattle.coroutines.specs.HeldCoroutines.{Coroutine, HeldCoroutines, address_of, coroutine_words, first_active}
 
--- the coroutines of a task, which of them are active, from the current one outwards, and the P and the PC of the task's root
+-- The coroutines of a task.
 pub record TaskCoroutines : Type 0 where
+  -- all of them, the newest first
   pub list : List Coroutine
+  -- the addresses of the active ones, from the one that runs outwards; none in the root
   pub active : List ℕ
+  -- the P of the task's root while a coroutine runs, a word address
   pub root_p : ℕ
+  -- the PC of the root while a coroutine runs, a byte address
   pub root_pc : ℕ
 
 -- the current one, or 0 in the root

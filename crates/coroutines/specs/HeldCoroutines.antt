@@ -13,12 +13,17 @@ use Rattle.task_block.specs.TaskChain.{task_size}
 use Rattle.coroutines.specs.Coroutines.{HasTaskBlock}
 use Rattle.coroutines.specs.CoroutineWords.{current_in}
 
--- a coroutine: its address, its function, its highest index, and the P and the PC that are saved in it
+-- A coroutine of a task.
 pub record Coroutine : Type 0 where
+  -- the word address of its word 0, where the data of its block begin
   pub address : ℕ
+  -- the byte address of its function
   pub function : ℕ
+  -- the highest index of its block's data, 16 or more
   pub highest : ℕ
+  -- its P while it does not run, a word address; while it runs the one at which it ran last
   pub saved_p : ℕ
+  -- its PC while it does not run, a byte address; while it runs the one at which it ran last
   pub saved_pc : ℕ
 
 abbrev pub address_of : Coroutine → ℕ

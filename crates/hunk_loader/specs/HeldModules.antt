@@ -8,9 +8,11 @@ use Rattle.getvec_chain.specs.OwnedWords.LinkedWords.{AreHeld}
 use Rattle.getvec_chain.specs.OwnedWords.Owned.{Pairs, row_from}
 use Rattle.task_block.specs.RootWords.{first_module}
 
--- a module: its address, and how many words each of its hunks has
+-- A module in the store.
 pub record LoadedModule : Type 0 where
+  -- the word address of its word 0, where the data of its block begin
   pub address : ℕ
+  -- how many words each of its hunks has, in their order
   pub lengths : List ℕ
 
 abbrev pub module_address : LoadedModule → ℕ

@@ -16,11 +16,15 @@ use Rattle.word_kinds.specs.KernelModel.Lists.{Lists}
 use Rattle.word_kinds.specs.KernelModel.Task.{Task, globals_of, is_guest_id, stack_of, task_address}
 use Rattle.word_kinds.specs.KernelModel.ValidTasks.{dead, interrupted, no_regs, runs, waits}
 
--- what a dispatch leaves: the lists, the plain words that it wrote, the registers, and its events
+-- What a dispatch leaves.
 pub record Dispatched : Type 0 where
+  -- the lists
   pub lists : Lists
+  -- the plain words that it wrote: the link of a packet that was taken
   pub plain : Pairs
+  -- the registers of the task that runs now
   pub regs : Regs
+  -- its events, in their order
   pub events : List KernelEvent
 
 -- ---- the task that ran

@@ -10,8 +10,11 @@ use Rattle.kernel_model.specs.Owned.{owned}
 -- From the store s the store t has become one that holds these lists; of the words that nobody owns then, these plain words were
 -- written, and no others have changed.
 pub record IsChanged (s t : List ℕ) (l : Lists) (plain : Pairs) : Type 0 where
+  -- it holds these lists
   pub lists : HoldsLists t l
+  -- it has as many words
   pub size : length t ≡ length s
+  -- its other words are as they were, or as they were written
   pub written : IsWritten s t (owned l) plain
 
 -- A keeper, seen by what it tells, knows the words that these lists own, in whatever order they are listed.
@@ -20,6 +23,9 @@ Knows tells l = (known : List ℕ) → ((a : ℕ) → times a known ≡ owners a
 
 -- The store holds these lists, and the keeper knows their words and has room for the store's.
 pub record HasKeeper (s : List ℕ) (tells : List ℕ → Type 0) (room : ℕ) (l : Lists) : Type 0 where
+  -- the lists that the store holds
   pub lists : HoldsLists s l
+  -- the words that the keeper knows
   pub knows : Knows tells l
+  -- it has room for a mark for each word
   pub enough : length s ≤ room

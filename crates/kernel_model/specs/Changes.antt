@@ -25,9 +25,13 @@ with_blocks bs l = record l { blocks = bs }
 
 -- a used block of a user begins its data at v, and no queued packet lies in it
 pub record IsIdleBlock (l : Lists) (v : ℕ) : Type 0 where
+  -- the block
   pub block : Block
+  -- its data begin at v
   pub used : used_at v l.blocks ≡ Some block
+  -- it is none of the kernel's own
   pub user : use_of_data l v ≡ User
+  -- no packet that is queued begins in it
   pub empty : AllByRecursion (λ p. has_data block p.address ≡ false) (queued l)
 
 -- nobody owns the words from a on, up to before b
@@ -84,10 +88,15 @@ with_modules ms l = record l { modules = ms }
 
 -- the task in the same place of the chain, with the same words, of which some may have changed
 pub record SameTask (t u : Task) : Type 0 where
+  -- its number
   pub id : u.id ≡ t.id
+  -- its task block
   pub address : u.address ≡ t.address
+  -- its priority, and so its place in the chain
   pub priority : u.priority ≡ t.priority
+  -- its packets
   pub queue : u.queue ≡ t.queue
+  -- which coroutines it has, in the same order
   pub coroutines : coroutine_addresses u ≡ coroutine_addresses t
 
 abbrev pub with_tasks : List Task → Lists → Lists
@@ -112,10 +121,15 @@ with_new_task t l = record l { tasks = insert_after (λ u. nat_lt t.priority u.p
 
 -- no packet that is queued for a resident or a device, or that waits for a line, is from the task
 pub record HasNoPacketsOut (l : Lists) (id : ℕ) : Type 0 where
+  -- none is on the work queue of a resident
   pub tasks : AllByRecursion (λ t. t.id < 5 → AllByRecursion (λ p. (p.sender == id) ≡ false) t.queue) l.tasks
+  -- none is at the clock
   pub clock : AllByRecursion (λ p. (p.sender == id) ≡ false) l.clock
+  -- none is at the keyboard
   pub keyboard : AllByRecursion (λ p. (p.sender == id) ≡ false) l.keyboard
+  -- none is at the output
   pub output : AllByRecursion (λ p. (p.sender == id) ≡ false) l.output
+  -- and none waits for a line
   pub pending : AllByRecursion (λ p. (p.sender == id) ≡ false) l.pending
 
 -- due ticks never fall along the clock's queue; the other queues have no order of their own

@@ -6,6 +6,9 @@ use Rattle.kernel_model.specs.Owned.{owned}
 use Rattle.kernel_model.specs.ValidLists.{AreValid}
 
 pub record HoldsLists (s : List ℕ) (l : Lists) : Type 0 where
+  -- the lists are valid
   pub valid : AreValid l
+  -- the store has as many words as they say
   pub size : length s ≡ l.size
+  -- and each owned word stands in it
   pub holds : Holds s (owned l)

@@ -18,7 +18,9 @@ use Rattle.kernel_model.specs.Task.{is_guest_id, queue_head}
 
 -- so many words from an address on
 pub record Words : Type 0 where
+  -- the address of the first
   pub first : ℕ
+  -- how many words
   pub count : ℕ
 
 abbrev pub words : ℕ → ℕ → Words
@@ -108,8 +110,11 @@ is_kernel_word s a = list_any (meets a (a + 1)) (kernel_ranges s)
 
 -- the lists of a task lead to their ends
 pub record CanWalkTask (s : List ℕ) (t : ℕ) : Type 0 where
+  -- the word that leads to its coroutines is in the store
   pub inside : first_coroutine t < length s
+  -- its work queue
   pub queue : HasQueue s (queue_head t)
+  -- its coroutines
   pub coroutines : CanWalk s coroutine_link (first_coroutine t)
 
 -- its first words, and its link, lie in the store
@@ -118,12 +123,21 @@ IsModuleIn s m = m + 2 + hunk_count s m ≤ length s
 
 -- all lists of the store do
 pub record CanWalkLists (s : List ℕ) : Type 0 where
+  -- the blocks follow one another up to the end word
   pub tiled : IsTiled s
+  -- the modules' own words are in the store
   pub module_words : AllByRecursion (IsModuleIn s) (modules_in s)
+  -- the chain of tasks
   pub chain : CanWalk s task_link first_task
+  -- the list of modules
   pub modules : CanWalk s module_link first_module
+  -- the lists of each task
   pub tasks : AllByRecursion (CanWalkTask s) (tasks_in s)
+  -- the clock's queue
   pub clock : HasQueue s clock_head
+  -- the keyboard's
   pub keyboard : HasQueue s keyboard_head
+  -- the output's
   pub output : HasQueue s output_head
+  -- that of the reads that wait for a line, where there are residents
   pub pending : has_residents s ≡ true → HasQueue s pending_head

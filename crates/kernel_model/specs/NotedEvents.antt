@@ -6,10 +6,17 @@ use Rattle.kernel_lists.specs.PacketQueue.declared.events.KernelEvent.{KernelEve
 
 -- The log has gained these events, or the first of them where it has failed; and none where it had failed before.
 pub record NotesAll (before now : Option (List KernelEvent)) (had_failed has_failed : Bool) (events : List KernelEvent) : Type 0 where
+  -- the events that were noted
   pub front : List KernelEvent
+  -- those that were not
   pub rest : List KernelEvent
+  -- they are the events, in their order
   pub is : events ≡ front ++ rest
+  -- a log that tells its events has these more
   pub gained : now ≡ option_map (λ es. es ++ front) before
+  -- one that works has noted all
   pub whole : OnFalse has_failed (rest ≡ [])
+  -- one that had failed has noted none
   pub none : OnTrue had_failed (front ≡ [])
+  -- it does not work again
   pub for_good : IsTrue had_failed → IsTrue has_failed

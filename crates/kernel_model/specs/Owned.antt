@@ -36,7 +36,9 @@ owned l =
     root_words l (address_of_task l l.running)
     ++ (blocks_words l.blocks ++ (tasks_words l ++ (modules_words l.modules ++ (device_words l ++ resident_words l))))
 
--- no word is owned twice, and each is one of the store
+-- Invariants 24 and 25: no word is owned twice, and each is one of the store.
 pub record OwnsApart (l : Lists) : Type 0 where
+  -- invariant 24
   pub apart : AreApart (owned l)
+  -- invariant 25
   pub inside : (a : ℕ) → 0 < owners a (owned l) → a < l.size

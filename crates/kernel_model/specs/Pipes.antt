@@ -19,15 +19,24 @@ pipe_at ps k = slice_index_or ps k None
 
 -- an end is open, and a writing end that is open was ever opened
 pub record IsPipe (p : Pipe) : Type 0 where
+  -- its name is lawful
   pub name : IsName p.name
+  -- one of its ends is open
   pub end_open : (p.reading || p.writing) ≡ true
+  -- a writing end that is open was opened
   pub ever : p.writing ≡ true → p.written ≡ true
+  -- it holds at most 1,024 bytes
   pub room : length p.held ≤ most_held
 
 -- their names are distinct; without residents, and in version 1, there are none
 pub record PipesStand (k : Kernel) : Type 0 where
+  -- there are eight places
   pub places : length k.pipes ≡ most_pipes
+  -- each place is free, or has a lawful pipe
   pub each : (i : ℕ) (p : Pipe) → pipe_at k.pipes i ≡ Some p → IsPipe p
+  -- no two pipes have one name
   pub distinct : (i j : ℕ) (p q : Pipe) → pipe_at k.pipes i ≡ Some p → pipe_at k.pipes j ≡ Some q → p.name ≡ q.name → i ≡ j
+  -- without residents there is none
   pub no_residents : k.lists.residents ≡ false → k.pipes ≡ no_pipes
+  -- in version 1 there is none
   pub first_version : k.lists.version ≡ 1 → k.pipes ≡ no_pipes

@@ -6,7 +6,9 @@ use Rattle.kernel_model.specs.Owned.{owned}
 
 -- the words of a store, and the lists that it holds
 pub record Standing : Type 0 where
+  -- the words of the store, from address 0
   pub words : List ℕ
+  -- the lists that they hold
   pub lists : Lists
 
 abbrev pub standing : List ℕ → Lists → Standing

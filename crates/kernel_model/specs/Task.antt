@@ -9,23 +9,35 @@ use Rattle.kernel_lists.specs.PacketQueue.QueueWords.{QueuedPacket, queue_words}
 use Rattle.kernel_lists.specs.Coroutines.CoroutineExchanges.{TaskCoroutines, words_of_coroutines}
 use Rattle.kernel_model.specs.Versions.{head_words_of}
 
--- Its number, the address of its task block, its priority, its flags and its maker; the addresses of its modules and the highest
--- index of its stack, of which a resident has none; the field of its state, and whether it is held; the fault that it met, and
--- at which address; its saved registers; its work queue; its coroutines.
+-- A task, resident or guest: what the words of its task block say, and what its lists hold.
 pub record Task : Type 0 where
+  -- its number: 1 to 4 for residents, from 5 on for guests
   pub id : ℕ
+  -- the word address of its task block
   pub address : ℕ
+  -- its priority, from 1 to 10,000; the higher one runs first
   pub priority : ℕ
+  -- its flags, one a bit
   pub flags : ℕ
+  -- the number of the task that made it, 0 where none did
   pub maker : ℕ
+  -- the word addresses of its modules, in the order in which their globals were set; a resident has none
   pub modules : List ℕ
+  -- the highest index of its stack, which has one word more; 0 for a resident, which has no stack
   pub highest : ℕ
+  -- its state without the bits for packets and for held: 0 it runs, 4 it waits, 8 it was interrupted, 12 it is dead
   pub field : ℕ
+  -- whether it is held, and so not ready
   pub held : Bool
+  -- the code of the fault that it met, 256 more once that was reported, 0 where it met none
   pub fault : ℕ
+  -- the address that belongs to that fault, of a byte or of a word, as the code says; 0 where it met none
   pub fault_address : ℕ
+  -- its registers while it does not run; while it runs, those that were saved last
   pub saved : Regs
+  -- its work queue: the packets that were sent to it and not taken, the oldest first
   pub queue : List QueuedPacket
+  -- its coroutines, the newest first, and those that are active
   pub coroutines : TaskCoroutines
 
 abbrev pub task_address : Task → ℕ

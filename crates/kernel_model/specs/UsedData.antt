@@ -10,8 +10,11 @@ use Rattle.kernel_model.specs.Lists.{Lists}
 
 -- the word at the address is one of the data of a used block
 pub record IsUsedData (bs : List Block) (a : ℕ) : Type 0 where
+  -- the block
   pub block : Block
+  -- it has the word among its data
   pub holds : holding a bs ≡ Some block
+  -- it is not free
   pub used : block.free ≡ false
 
 -- the word is one of the words 100 to 183, or the end word

@@ -26,8 +26,8 @@ is_fault_packet l p = has_task 2 l.tasks && (p.address == fault_packet)
 abbrev pub HasGuest : Lists → ℕ → Type 0
 HasGuest l id = (is_guest_id id ≡ true) × (has_task id l.tasks ≡ true)
 
--- Who may have sent what is queued there: a guest that exists to a device, and a task that exists to a resident. What was sent
--- to a guest may be from one that has gone.
+-- Invariant 16: who may have sent what is queued there. A device has packets of guests that are there, and a resident those of
+-- tasks that are there; what was sent to a guest may be from one that has gone.
 abbrev pub HasSender : Lists → Place → ℕ → Type 0
 HasSender l (Work id) sender = is_guest_id id ≡ false → has_task sender l.tasks ≡ true
 HasSender l Clock sender = HasGuest l sender
@@ -43,39 +43,63 @@ IsKeyPlace Keyboard sender = sender ≡ 3
 IsKeyPlace Output sender = ⊥
 IsKeyPlace Pending sender = ⊥
 
+-- Invariant 17: it stands there, with type and second result 0.
 pub record IsKeyPacket (at : Place) (p : QueuedPacket) : Type 0 where
+  -- where it is, and from whom
   pub place : IsKeyPlace at p.sender
+  -- its type
   pub kind : p.kind ≡ 0
+  -- its second result
   pub last : p.last ≡ 0
 
--- the fault packet is on the work queue of the task that reports faults
+-- Invariant 18: the fault packet is on the work queue of the task that reports faults.
 pub record IsFaultPacket (l : Lists) (at : Place) (p : QueuedPacket) : Type 0 where
+  -- where it is
   pub place : at ≡ Work 2
+  -- its type
   pub kind : p.kind ≡ 40
+  -- its first result
   pub res1 : p.res1 ≡ 0
+  -- its second result
   pub last : p.last ≡ 0
+  -- a task that is there has sent it
   pub sender : has_task p.sender l.tasks ≡ true
 
--- a packet may stand there
+-- Invariants 15 to 18: a packet may stand there.
 pub record MayStand (l : Lists) (at : Place) (p : QueuedPacket) : Type 0 where
+  -- invariant 15
   pub lodged : AreData l.blocks p.address 5
+  -- invariant 17
   pub key : is_key_packet l p ≡ true → IsKeyPacket at p
+  -- invariant 18
   pub fault : is_fault_packet l p ≡ true → IsFaultPacket l at p
+  -- invariant 16
   pub sender : is_key_packet l p ≡ false → HasSender l at p.sender
 
--- due ticks never fall along the clock's queue
+-- Invariant 19: due ticks never fall along the clock's queue.
 abbrev pub NeverFall : List QueuedPacket → Type 0
 NeverFall [] = Unit {0}
 NeverFall (p ∷ ps) = AllByRecursion (λ q. p.last ≤ q.last) ps × NeverFall ps
 
+-- Invariants 15 to 23.
 pub record QueuesStand (l : Lists) : Type 0 where
+  -- invariants 15 to 18 of the work queues
   pub tasks : AllByRecursion (λ t. AllByRecursion (MayStand l (Work t.id)) t.queue) l.tasks
+  -- and of the clock's queue
   pub clock : AllByRecursion (MayStand l Clock) l.clock
+  -- of the keyboard's
   pub keyboard : AllByRecursion (MayStand l Keyboard) l.keyboard
+  -- of the output's
   pub output : AllByRecursion (MayStand l Output) l.output
+  -- and of the reads that wait for a line
   pub pending : AllByRecursion (MayStand l Pending) l.pending
+  -- invariant 19
   pub due : NeverFall l.clock
+  -- invariant 20
   pub no_console : l.residents ≡ false → l.pending ≡ []
+  -- invariant 21
   pub key : is_some l.key ≡ (l.residents && not (is_queued key_packet l))
+  -- invariant 22
   pub fault : l.fault_packet_free ≡ (has_task 2 l.tasks && not (is_queued fault_packet l))
+  -- invariant 23
   pub running : (l.running ≡ 0) ⊎ (has_task l.running l.tasks ≡ true)

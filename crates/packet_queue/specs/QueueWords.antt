@@ -9,12 +9,17 @@ use Rattle.owned_words.specs.LinkedWords.{AreHeld, first_of, headed_words}
 use Rattle.packet_queue.specs.Due.{due_word}
 use Rattle.packet_queue.specs.Queue.{no_queue}
 
--- a packet: its address, and what is in its words 1 to 4
+-- A packet that is queued: what its five words hold, but for the link, which follows from its place.
 pub record QueuedPacket : Type 0 where
+  -- the word address of its word 0
   pub address : ℕ
+  -- its word 1: the number of the task or the device that sent it
   pub sender : ℕ
+  -- its word 2: its type
   pub kind : ℕ
+  -- its word 3: its first result
   pub res1 : ℕ
+  -- its word 4: its second result, or, at the clock, the tick at which it is due
   pub last : ℕ
 
 abbrev pub address_of : QueuedPacket → ℕ

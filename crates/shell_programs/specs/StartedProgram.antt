@@ -29,9 +29,11 @@ priority_of (Given pri) l = pri
 priority_of BelowShell l = 500 + next_number l
 priority_of AboveShell l = 2000 + next_number l
 
--- the program's number or the code of its refusal, and what is left
+-- What is left where a program was to be started.
 pub record Started : Type 0 where
+  -- the number of its task, or the code of the refusal
   pub answer : Result ℕ ℕ
+  -- the store and its lists
   pub left : Standing
 
 abbrev pub started : Result ℕ ℕ → Standing → Started

@@ -64,7 +64,9 @@ pub record UnlinkExchange {X : Type 0} (address id : X → ℕ) (words : X → �
 -- ---- a kind of task: its address, and what is in its words 1 to 22
 
 pub record TaskBlock : Type 0 where
+  -- the word address of its word 0
   pub address : ℕ
+  -- what its word i holds, for i from 1 to 22
   pub word : ℕ → ℕ
 
 abbrev pub block_address : TaskBlock → ℕ
