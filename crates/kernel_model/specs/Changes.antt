@@ -23,7 +23,8 @@ use Rattle.kernel_model.specs.ValidQueues.Place.{Clock, Keyboard, Output, Pendin
 abbrev pub with_blocks : List Block → Lists → Lists
 with_blocks bs l = record l { blocks = bs }
 
--- a used block of a user begins its data at v, and no queued packet lies in it
+-- A used block of a user begins its data at v, and no queued packet lies in it. So it is none of those that the invariants 3, 4, 9,
+-- 13 and 15 ask for.
 pub record IsIdleBlock (l : Lists) (v : ℕ) : Type 0 where
   -- the block
   pub block : Block
@@ -63,7 +64,8 @@ with_queue Keyboard ps l = record l { keyboard = ps }
 with_queue Output ps l = record l { output = ps }
 with_queue Pending ps l = record l { pending = ps }
 
--- there is a queue at the place: the devices have theirs, a task its own, and the residents that of the console's reads
+-- There is a queue at the place: the devices have theirs, a task its own, and the residents that of the console's reads
+-- (invariant 20).
 abbrev pub HasPlace : Lists → Place → Type 0
 HasPlace l (Work id) = has_task id l.tasks ≡ true
 HasPlace l Clock = Unit {0}
@@ -71,8 +73,8 @@ HasPlace l Keyboard = Unit {0}
 HasPlace l Output = Unit {0}
 HasPlace l Pending = l.residents ≡ true
 
--- the lists with another state of the residents' two packets: the key packet's res1 where it is on no queue, and whether the
--- fault packet is on none
+-- The lists with another state of the residents' two packets: the key packet's first result where it is on no queue (invariant 21),
+-- and whether the fault packet is on none (22).
 abbrev pub with_key : Option ℕ → Lists → Lists
 with_key x l = record l { key = x }
 
@@ -86,7 +88,7 @@ with_modules ms l = record l { modules = ms }
 
 -- ---- one task
 
--- the task in the same place of the chain, with the same words, of which some may have changed
+-- The task in the same place of the chain, with the same words, of which some may have changed. So the invariants 5 to 7 stay.
 pub record SameTask (t u : Task) : Type 0 where
   -- its number
   pub id : u.id ≡ t.id
@@ -119,7 +121,7 @@ with_task id change l = with_tasks (map (change_of id change) l.tasks) l
 abbrev pub with_new_task : Task → Lists → Lists
 with_new_task t l = record l { tasks = insert_after (λ u. nat_lt t.priority u.priority) t l.tasks }
 
--- no packet that is queued for a resident or a device, or that waits for a line, is from the task
+-- No packet that is queued for a resident or a device, or that waits for a line, is from the task, so it may go (invariant 16).
 pub record HasNoPacketsOut (l : Lists) (id : ℕ) : Type 0 where
   -- none is on the work queue of a resident
   pub tasks : AllByRecursion (λ t. t.id < 5 → AllByRecursion (λ p. (p.sender == id) ≡ false) t.queue) l.tasks
@@ -132,7 +134,7 @@ pub record HasNoPacketsOut (l : Lists) (id : ℕ) : Type 0 where
   -- and none waits for a line
   pub pending : AllByRecursion (λ p. (p.sender == id) ≡ false) l.pending
 
--- due ticks never fall along the clock's queue; the other queues have no order of their own
+-- Due ticks never fall along the clock's queue (invariant 19); the other queues have no order of their own.
 abbrev pub KeepsOrder : Place → List QueuedPacket → Type 0
 KeepsOrder (Work id) ps = Unit {0}
 KeepsOrder Clock ps = NeverFall ps
