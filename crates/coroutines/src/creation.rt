@@ -21,7 +21,7 @@ use task_block::{TcbField, field, set_field};
 const LINK: u32 = 2;
 
 /// The least highest index of a coroutine: room for its words and a few of its stack.
-const LEAST_HIGHEST: u32 = 16;
+pub const LEAST_HIGHEST: u32 = 16;
 
 /// Makes a coroutine of the task at t, which will start at the function `entry`, in a block with the data words 0 to u, or
 /// to 16 where u is less. It is the first in the task's list. The answer is its address; `NoRoom` comes exactly where no run of

@@ -9,6 +9,6 @@ pub mod members;
 mod switch;
 
 pub use calls::{call, ended, resume, wait};
-pub use creation::{create, delete};
+pub use creation::{LEAST_HIGHEST, create, delete};
 pub use ends::CoEnd;
 pub use members::check_idle;

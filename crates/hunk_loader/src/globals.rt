@@ -10,7 +10,7 @@ ghost use Rattle.hunk_loader.specs.ModuleHunks.{module_end, placed};
 use getvec_chain::{Store, add, mul, set_word_at, word_at};
 
 /// The highest number of a global.
-const MOST_GLOBALS: u32 = 1000;
+pub const MOST_GLOBALS: u32 = 1000;
 
 /// Whether no hunk of the module at m has a last word above 1,000. A hunk without words has none.
 pub fn globals_fit(store: &Store, m: u32) -> bool

@@ -1,9 +1,11 @@
-// The kernel as a record of lists, which owns words of the store. Its functions do nothing: their contracts are the laws.
+// The kernel as a record of lists, which owns words of the store, and its numbers. Its functions do nothing: their contracts are
+// the laws.
 #![tactic(auto)]
 
 pub mod change_laws;
 pub mod image_laws;
 pub mod list_laws;
+pub mod numbers;
 pub mod stops;
 
 pub use stops::Stop;

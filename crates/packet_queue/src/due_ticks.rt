@@ -5,7 +5,7 @@ ghost use Rattle.packet_queue.specs.Due as due;
 use owned_words::{Store, set_word_at, word_at};
 
 /// Which word of a packet has its due tick.
-const DUE: u32 = 4;
+pub const DUE: u32 = 4;
 
 /// The due tick of the packet.
 pub(crate) fn due_of(store: &Store, p: u32) -> u32

@@ -14,10 +14,11 @@ pub mod sink_log;
 pub mod walk;
 
 pub use due::append_due;
+pub use due_ticks::DUE;
 pub use events::KernelEvent;
 pub use list_log::ListLog;
 pub use logs::{EventLog, NoLog};
 pub use packet_list::Packets;
 pub use queue::{NO_QUEUE, append, remove, take};
 pub use sink_log::SinkLog;
-pub use walk::packets;
+pub use walk::{PACKET_LINK, packets};

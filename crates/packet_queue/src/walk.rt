@@ -6,7 +6,7 @@ use crate::packet_list::Packets;
 use owned_words::{Store, follow};
 
 /// Which word of a packet links to the next one.
-pub(crate) const PACKET_LINK: u32 = 0;
+pub const PACKET_LINK: u32 = 0;
 
 /// The packets of the queue, in order.
 pub fn packets(store: &Store, head: u32) -> Packets<'_>

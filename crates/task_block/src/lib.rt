@@ -13,5 +13,5 @@ pub use chain::{insert, unlink};
 pub use fields::{TcbField, field, set_field};
 pub use lists::{coroutine_list, modules, tasks};
 pub use roots::{RootField, root, set_root};
-pub use search::{find, free_id, priority_used};
+pub use search::{FIRST_GUEST, TABLE, find, free_id, priority_used};
 pub use versions::{head_words, highest_id, module_at, most_modules, set_module_at};

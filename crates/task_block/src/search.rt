@@ -7,11 +7,11 @@ use crate::lists::tasks;
 use crate::versions::highest_id;
 use owned_words::{Store, word};
 
-/// Where the task table begins: the entry of task i is i words after it.
-pub(crate) const TABLE: u32 = 120;
+/// Where the task table begins: the entry of task i is i words after it, and word 0 has the highest number of a task.
+pub const TABLE: u32 = 120;
 
-/// The lowest number of a guest.
-const FIRST_GUEST: u32 = 5;
+/// The lowest number of a guest. Those below are the residents'.
+pub const FIRST_GUEST: u32 = 5;
 
 /// The address of the task block of the task with that number; `None` exactly where there is no such task.
 pub fn find(store: &Store, id: u32) -> Option<u32>

@@ -3,16 +3,14 @@ ghost use Rattle.std.specs.Prelude.{◌≡◌, ◌+◌, ◌<◌, ◌≤◌, slic
 ghost use Rattle.task_block.specs.Versions.{head_words, highest_id, module_index, most_modules};
 
 use crate::roots::{RootField, root};
+use crate::search::TABLE;
 use owned_words::{Store, set_word_at, word, word_at};
-
-/// Where the highest number of a task stands.
-const HIGHEST_ID: u32 = 120;
 
 /// The highest number that a task may have, which word 120 holds: 20, or 63 in version 2.
 pub fn highest_id(store: &Store) -> u32
     ensures { result ≡ highest_id store.now }
 {
-    word(store, HIGHEST_ID)
+    word(store, TABLE)
 }
 
 /// The number of words of a guest's task block: 23, or 30 in version 2.

@@ -1,0 +1,91 @@
+// Numbers of the kernel, each in its one place: of tasks and their states, of devices, of the residents' block, and of the words of
+// task blocks, coroutines and packets.
+
+pub use kernel_lists::{DUE, FIRST_GUEST, LEAST_HIGHEST, MOST_GLOBALS, PACKET_LINK, TABLE};
+
+/// The number of the shell.
+pub const SHELL: u32 = 1;
+
+/// The number of the task that reports faults.
+pub const REPORTER: u32 = 2;
+
+/// The number of the console.
+pub const CONSOLE: u32 = 3;
+
+/// The number of the file handler.
+pub const FILE_HANDLER: u32 = 4;
+
+/// The number of the clock, -1.
+pub const CLOCK: u32 = 0xffff_ffff;
+
+/// The number of the keyboard, -2.
+pub const KEYBOARD: u32 = 0xffff_fffe;
+
+/// The number of the output device, -3.
+pub const OUTPUT: u32 = 0xffff_fffd;
+
+/// The number of the queue of the console's reads that wait for a line.
+pub const READS: u32 = 103;
+
+/// The state of a task that runs, and is not held and has no packets.
+pub const RUNS: u32 = 0;
+
+/// That of one that waits. Larger ones below that of one that was interrupted say besides that packets wait, or that it is held.
+pub const WAITS: u32 = 4;
+
+/// That of one that was interrupted.
+pub const INTERRUPTED: u32 = 8;
+
+/// That of a dead one. Each other state of one that is dead is larger, and all other states are smaller.
+pub const DEAD: u32 = 12;
+
+/// By so much the state of a task is larger that is held.
+pub const HELD: u32 = 2;
+
+/// Where the data of the residents' block begin.
+pub const RESIDENT_DATA: u32 = 201;
+
+/// The head of the console's reads that wait for a line.
+pub const READS_HEAD: u32 = 270;
+
+/// The packet that the console sends to the keyboard.
+pub const KEY_PACKET: u32 = 271;
+
+/// The packet that the shell has.
+pub const SHELL_PACKET: u32 = 279;
+
+/// The packet that comes to the task that reports faults.
+pub const FAULT_PACKET: u32 = 310;
+
+/// How many words a resident's task block has.
+pub const RESIDENT_WORDS: u32 = 23;
+
+/// How many words the globals of a task are.
+pub const GLOBAL_WORDS: u32 = 1001;
+
+/// How many words of a coroutine are the kernel's.
+pub const COROUTINE_WORDS: u32 = 10;
+
+/// How many words of a packet are the kernel's while it is queued.
+pub const PACKET_WORDS: u32 = 5;
+
+/// The word of a packet that has its destination, and once it was sent its sender.
+pub const SENDER: u32 = 1;
+
+/// The word that has its type.
+pub const KIND: u32 = 2;
+
+/// The word that has its first result.
+pub const RES1: u32 = 3;
+
+/// The word that has its second result.
+pub const RES2: u32 = 4;
+
+/// The word that has its first argument.
+pub const FIRST: u32 = 5;
+
+/// The word that has its second argument.
+pub const SECOND: u32 = 6;
+
+/// The word that has its third argument.
+pub const THIRD: u32 = 7;
