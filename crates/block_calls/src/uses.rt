@@ -15,10 +15,8 @@ ghost use Rattle.block_calls.specs.Freevec.{IsUsersBlock, is_user};
 use call_answers::codes::NO_USER_BLOCK;
 use call_answers::is_module;
 use call_answers::kernel_dispatch::{Block, RootField, block_of, coroutine_list, root, tasks};
+use call_answers::numbers::RESIDENT_DATA;
 use word_store::Store;
-
-/// Where the data of the residents' block begin.
-const RESIDENT_DATA: u32 = 201;
 
 /// The used block of a user whose data begin at address v. Refused where there is none (6).
 pub(crate) fn users_block(store: &Store, v: u32) -> Result<Block, u32>

@@ -4,7 +4,7 @@ ghost use Rattle.kernel_dispatch.specs.KernelModel.Lists.{Lists};
 ghost use Rattle.call_answers.specs.Guests.{IsGuestOf};
 
 use crate::codes::{NO_TASK, RESIDENT};
-use crate::numbers::FIRST_GUEST;
+use kernel_dispatch::numbers::FIRST_GUEST;
 use kernel_dispatch::find;
 use word_store::Store;
 

@@ -1,12 +1,11 @@
-// What the kernel calls share: the codes of their refusals, numbers that they know, the task that calls and the guest that is
-// called for, the modules that there are, what a call makes of the kernel's lists, and what it sees besides them.
+// What the kernel calls share: the codes of their refusals, the task that calls and the guest that is called for, the modules that
+// there are, what a call makes of the kernel's lists, and what it sees besides them.
 #![tactic(auto)]
 
 pub mod callers;
 pub mod codes;
 pub mod guests;
 pub mod modules;
-pub mod numbers;
 
 pub use callers::caller;
 pub use guests::guest;
@@ -14,3 +13,4 @@ pub use modules::is_module;
 
 // Shown to the crates above.
 pub use kernel_dispatch;
+pub use kernel_dispatch::numbers;

@@ -4,15 +4,8 @@ ghost use Rattle.word_kinds.specs.KernelModel.ValidTasks.{no_regs};
 ghost use Rattle.kernel_dispatch.specs.DispatchWords.{entry_in, guest_regs_in, next_regs_in, saved_in};
 
 use word_kinds::kernel_lists::{RootField, TcbField, field, root};
+use word_kinds::numbers::{DEAD, FIRST_GUEST, INTERRUPTED};
 use word_store::{Regs, Store, word_at};
-
-/// The lowest number of a guest.
-pub(crate) const FIRST_GUEST: u32 = 5;
-
-/// The lowest states of a task that was interrupted, and of a dead one.
-const INTERRUPTED: u32 = 8;
-
-const DEAD: u32 = 12;
 
 /// Those of the task at t, which has taken the packet. `regs` are the live ones, which it has where it is the one that runs.
 pub(crate) fn next_regs(store: &Store, regs: &Regs, t: u32, packet: u32) -> Regs

@@ -8,13 +8,12 @@ ghost use Rattle.kernel_dispatch.specs.Dispatch.{CanDispatch, goes_on};
 ghost use Rattle.kernel_dispatch.specs.DispatchWords.{takes_packet_by};
 ghost use Rattle.kernel_dispatch.specs.Turn.{HasTaken, IsDispatched, IsNext};
 
-use crate::registers::{FIRST_GUEST, next_regs};
+use crate::registers::next_regs;
 use crate::saving::{start, suspend, take_work};
 use word_kinds::KindKeeper;
 use word_kinds::kernel_lists::{EventLog, KernelEvent, TcbField, field};
+use word_kinds::numbers::{FIRST_GUEST, PACKET_WORDS};
 use word_store::{Regs, Store, signed, word_at};
-
-const PACKET_WORDS: u32 = 5;
 
 /// The task at t goes on, with its packet where it takes one.
 pub(crate) fn resume<Q: KindKeeper, L: EventLog>(

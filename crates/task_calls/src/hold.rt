@@ -4,10 +4,11 @@ ghost use Rattle.block_calls.specs.KernelDispatch.KernelModel.Lists.{Lists};
 ghost use Rattle.block_calls.specs.CallAnswers.Made.{Leaves, plain_answer};
 ghost use Rattle.task_calls.specs.HoldTask.{hold};
 
-use crate::states::{HELD, has_held_bit};
+use crate::states::has_held_bit;
 use block_calls::codes::HELD_ALREADY;
 use block_calls::guest;
 use block_calls::kernel_dispatch::{TcbField, field, set_field};
+use block_calls::numbers::HELD;
 use word_store::Store;
 
 /// Holds the task with the number, so that it does not run until it is released. Refused where there is no such task (2),

@@ -17,11 +17,8 @@ use block_calls::getvec;
 use block_calls::kernel_dispatch::{
     KindKeeper, TcbField, head_words, init_globals, insert, set_field,
 };
-use block_calls::numbers::{DEAD, GLOBAL_WORDS};
+use block_calls::numbers::{DEAD, GLOBAL_WORDS, MOST_GLOBALS};
 use word_store::{Store, set_word_at, set_words};
-
-/// The highest number of a global, which global 0 holds.
-const MOST_GLOBALS: u32 = 1000;
 
 /// Which word of a task block has the second module; the others follow.
 const FURTHER_MODULES: u32 = 23;

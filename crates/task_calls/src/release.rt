@@ -4,10 +4,11 @@ ghost use Rattle.block_calls.specs.KernelDispatch.KernelModel.Lists.{Lists};
 ghost use Rattle.block_calls.specs.CallAnswers.Made.{Leaves, plain_answer};
 ghost use Rattle.task_calls.specs.ReleaseTask.{release};
 
-use crate::states::{HELD, has_held_bit};
+use crate::states::has_held_bit;
 use block_calls::codes::NOT_HELD;
 use block_calls::guest;
 use block_calls::kernel_dispatch::{TcbField, field, set_field};
+use block_calls::numbers::HELD;
 use word_store::Store;
 
 /// Releases the task with the number, which is held. Refused where there is no such task (2), where it is a resident (14),

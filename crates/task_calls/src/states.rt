@@ -1,8 +1,7 @@
 // What the state of a task says: whether the task is held.
 ghost use Rattle.std.specs.Prelude.{◌≡◌, ◌/◌, ◌%◌, ◌==◌};
 
-/// What the bit is worth that says that the task is held.
-pub(crate) const HELD: u32 = 2;
+use block_calls::numbers::HELD;
 
 /// Whether the state has it.
 pub(crate) fn has_held_bit(state: u32) -> bool

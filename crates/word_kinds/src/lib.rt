@@ -16,4 +16,4 @@ pub use questions::{clear, packet_in};
 pub use walk::Walk;
 
 // Shown to the crates above.
-pub use kernel_model::{Stop, kernel_lists};
+pub use kernel_model::{Stop, kernel_lists, numbers};

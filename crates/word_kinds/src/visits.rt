@@ -13,6 +13,9 @@ ghost use Rattle.kernel_model.specs.KernelRanges.{CanWalkLists, CanWalkTask, IsM
 use kernel_model::kernel_lists::{
     RootField, TcbField, blocks, coroutine_list, field, head_words, modules, packets, root, tasks,
 };
+use kernel_model::numbers::{
+    COROUTINE_WORDS, FAULT_PACKET, FIRST_GUEST, PACKET_WORDS, READS_HEAD, REPORTER, RESIDENT_WORDS,
+};
 use word_store::{Store, word_at};
 
 /// The first word of the root node, and how many words it and the task table have.
@@ -20,25 +23,8 @@ const ROOT: u32 = 100;
 
 const ROOT_WORDS: u32 = 84;
 
-/// The head of the console's reads that wait for a line; its key packet follows.
-const PENDING_HEAD: u32 = 270;
-
+/// How many words the head of the reads that wait for a line and the key packet behind it have.
 const CONSOLE_WORDS: u32 = 9;
-
-/// The packet of the task that reports faults, and the number of that task.
-const FAULT_PACKET: u32 = 310;
-
-const REPORTER: u32 = 2;
-
-/// The lowest number of a guest.
-const FIRST_GUEST: u32 = 5;
-
-/// The kernel's words of a resident's task block, of a coroutine and of a queued packet.
-const RESIDENT_WORDS: u32 = 23;
-
-const COROUTINE_WORDS: u32 = 10;
-
-const PACKET_WORDS: u32 = 5;
 
 /// Is shown ranges of words, one after the other.
 pub trait Visitor {
@@ -84,7 +70,7 @@ fn show_pending<V: Visitor>(store: &Store, visitor: &mut V)
     ensures { V.shown visitor.old visitor.new (pending_packets store.now) }
 {
     if has_residents(store) {
-        show_queue(store, PENDING_HEAD, visitor);
+        show_queue(store, READS_HEAD, visitor);
     }
 }
 
@@ -128,7 +114,7 @@ fn show_console<V: Visitor>(store: &Store, visitor: &mut V)
     ensures { V.shown visitor.old visitor.new (console_ranges store.now) }
 {
     if has_residents(store) {
-        visitor.show(PENDING_HEAD, CONSOLE_WORDS);
+        visitor.show(READS_HEAD, CONSOLE_WORDS);
     }
 }
 
