@@ -6,11 +6,9 @@ ghost use Rattle.kernel_calls.specs.KernelModel.NotedEvents.{NotesAll};
 ghost use Rattle.kernel_calls.specs.PacketCalls.Returned.{IsServed};
 ghost use Rattle.clock_device.specs.Tick.{due_returned, is_first_due, ticked};
 
+use kernel_calls::numbers::DUE;
 use kernel_calls::{Device, EventLog, RootField, return_first, root, set_root};
 use word_store::{Store, word_at};
-
-/// The word of a packet that has the tick at which it is due.
-const DUE: u32 = 4;
 
 /// The ticks are one more, and every packet at the clock that is due by then is returned to its sender, in the order of the
 /// queue, with results of 0.

@@ -9,14 +9,12 @@ ghost use Rattle.resident_requests.specs.Turns.{service};
 
 use crate::lines::ConsoleState;
 use crate::reads::take_read;
-use crate::requests::{BAD_BUFFER, CONSOLE};
+use crate::requests::BAD_BUFFER;
 use arrayvec::ArrayVec;
+use resident_requests::numbers::{CONSOLE, SHELL};
 use resident_requests::{EventLog, KindKeeper, Request, can_write, return_request, write_buffer};
 use std::cmp::min;
 use word_store::Store;
-
-/// The number of the shell.
-const SHELL: u32 = 1;
 
 /// Hands the finished line to the reads that wait, one after the other, until it is delivered.
 pub(crate) fn deliver<Q: KindKeeper, L: EventLog>(
@@ -72,7 +70,7 @@ fn deliver_first<Q: KindKeeper, L: EventLog>(
     };
     let (answer, bytes) = line_answer(state.line(), store, kinds, read);
     write_buffer(store, read.first, bytes);
-    return_request(store, kinds, read, CONSOLE, answer, log);
+    return_request(store, kinds, read, CONSOLE as i32, answer, log);
     hand_line(state, shell_line, read, answer);
     true
 }

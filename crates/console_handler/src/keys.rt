@@ -14,20 +14,12 @@ ghost use Rattle.console_handler.specs.Progress.{IsDone, Progress, Start};
 ghost use Rattle.resident_requests.specs.Requests.{RunsResident};
 
 use crate::lines::ConsoleState;
-use resident_requests::numbers::SENDER;
+use resident_requests::numbers::{CONSOLE, KEY_PACKET, PACKET_LINK, RES1, SENDER};
 use resident_requests::{
     EventLog, KindKeeper, NO_QUEUE, Queue, RootField, TcbField, field, root, send_own, taken,
     unqueue,
 };
 use word_store::{Store, word_at};
-
-/// The address of the key packet.
-pub const KEY_PACKET: u32 = 271;
-
-/// The words of a packet that have its link and its first result.
-const LINK: u32 = 0;
-
-const RES1: u32 = 3;
 
 /// The resident that runs takes the key packet, which is its first, and answers the key, its first result. The packet is on no
 /// queue then, with the link -1. Its words are the kernel's as before, so no keeper has to be told.
@@ -50,10 +42,7 @@ pub fn take_keys<L: EventLog>(store: &mut Store, log: &mut L) -> u32
     word_at(store, KEY_PACKET, RES1)
 }
 
-/// The number of the console.
-pub const CONSOLE: u32 = 3;
-
-/// The number of the keyboard.
+/// The number of the keyboard, as a destination.
 const KEYBOARD: i32 = -2;
 
 /// Sends the key packet, which is on no queue, to the keyboard.
@@ -101,5 +90,5 @@ pub(crate) fn send_free_keys<Q: KindKeeper, L: EventLog>(
 fn are_keys_free(store: &Store) -> bool
     ensures { (l : Lists) → HoldsLists store.now l → l.residents ≡ true → result ≡ is_some l.key }
 {
-    word_at(store, KEY_PACKET, LINK) == NO_QUEUE
+    word_at(store, KEY_PACKET, PACKET_LINK) == NO_QUEUE
 }

@@ -8,15 +8,11 @@ ghost use Rattle.console_handler.specs.Reads.{IsReadTaken, put_off, read_taken};
 ghost use Rattle.resident_requests.specs.Answers.{OwnsRequest};
 ghost use Rattle.resident_requests.specs.Requests.{HasRequest};
 
-use resident_requests::numbers::SENDER;
+use resident_requests::numbers::{PACKET_WORDS, READS, SENDER};
 use resident_requests::{
-    EventLog, KindKeeper, PACKET_WORDS, Queue, Request, accepted, first, request_at, send, taken,
-    unqueue,
+    EventLog, KindKeeper, Queue, Request, accepted, first, request_at, send, taken, unqueue,
 };
 use word_store::{Store, word_at};
-
-/// The number of the reads' queue in events.
-const READS: u32 = 103;
 
 /// Puts the request, which was taken, at the end of the reads that wait, and tells the keeper that its words are the kernel's
 /// again.

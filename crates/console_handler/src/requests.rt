@@ -7,6 +7,7 @@ ghost use Rattle.console_handler.specs.Progress.{IsDone, Progress, Start};
 ghost use Rattle.resident_requests.specs.Requests.{TakesRequest};
 
 use crate::reads::put_off;
+use resident_requests::numbers::CONSOLE;
 use resident_requests::requests::UNKNOWN_TYPE;
 use resident_requests::{
     EventLog, KindKeeper, Request, can_read, read_buffer, return_request, take_request,
@@ -18,9 +19,6 @@ use word_store::Store;
 const READ: u32 = 1;
 
 const WRITE: u32 = 2;
-
-/// The number of the console.
-pub(crate) const CONSOLE: i32 = 3;
 
 /// The code of a request whose buffer may not be read, or written.
 pub const BAD_BUFFER: u32 = 30;
@@ -51,7 +49,7 @@ pub(crate) fn take_first<Q: KindKeeper, L: EventLog>(
         return;
     }
     let answer = answer(store, request, out);
-    return_request(store, kinds, request, CONSOLE, answer, log);
+    return_request(store, kinds, request, CONSOLE as i32, answer, log);
 }
 
 // The bytes of a write go out, and the answer is their number. Refused where its buffer may not be read (30), and where the request

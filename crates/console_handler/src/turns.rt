@@ -9,11 +9,12 @@ ghost use Rattle.resident_requests.specs.Requests.{work};
 ghost use Rattle.resident_requests.specs.Turns.{IsResidentTurn};
 
 use crate::deliveries::deliver;
-use crate::keys::{KEY_PACKET, send_free_keys};
+use crate::keys::send_free_keys;
 use crate::lines::ConsoleState;
 use crate::presses::take_key;
 use crate::requests::take_first;
 use arrayvec::ArrayVec;
+use resident_requests::numbers::KEY_PACKET;
 use resident_requests::{EventLog, KindKeeper, finish_turn, first_packet};
 use tp_io::Output;
 use word_store::Store;

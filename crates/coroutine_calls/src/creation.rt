@@ -8,14 +8,9 @@ ghost use Rattle.coroutine_calls.specs.CreateCo.{createco};
 
 use block_calls::codes::NO_COROUTINE_ROOM;
 use block_calls::kernel_dispatch::{KindKeeper, create_coroutine};
+use block_calls::numbers::{COROUTINE_WORDS, LEAST_HIGHEST};
 use block_calls::{caller, tell_take};
 use word_store::Store;
-
-/// The least highest index of a coroutine.
-const LEAST_HIGHEST: u32 = 16;
-
-/// How many words of a coroutine are the kernel's.
-pub(crate) const COROUTINE_WORDS: u32 = 10;
 
 /// Makes a coroutine of the running task, the first in its list, in a block with the data words 0 to u, or to 16 where u is
 /// less. It will start at the byte address `function`. The answer is its word address. Refused where no run of free blocks is

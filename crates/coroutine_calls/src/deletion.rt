@@ -9,11 +9,11 @@ ghost use Rattle.block_calls.specs.CallAnswers.Callers.{HasCaller};
 ghost use Rattle.block_calls.specs.CallAnswers.Made.{IsMade, plain_answer};
 ghost use Rattle.coroutine_calls.specs.DeleteCo.{IsRoomy, deleteco};
 
-use crate::creation::COROUTINE_WORDS;
 use crate::refusals::coded;
 use block_calls::caller;
 use block_calls::codes::PACKET_IN_COROUTINE;
 use block_calls::kernel_dispatch::{KindKeeper, are_unowned, check_idle, delete_coroutine};
+use block_calls::numbers::COROUTINE_WORDS;
 use word_store::{Store, word};
 
 /// Deletes the coroutine c of the running task and gives its block back. Refused where the task has no such coroutine (21),

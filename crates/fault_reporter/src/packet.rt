@@ -10,22 +10,14 @@ ghost use Rattle.resident_requests.specs.KernelCalls.KernelModel.NotedEvents.{No
 ghost use Rattle.resident_requests.specs.KernelCalls.CallAnswers.Callers.{HasCaller};
 ghost use Rattle.fault_reporter.specs.Recorded.{OwnsSame, sent, sent_events};
 
-use resident_requests::numbers::SENDER;
+use resident_requests::numbers::{FAULT_PACKET, KIND, REPORTER, SENDER};
 use resident_requests::{
     EventLog, Queue, RootField, TcbField, accepted, caller, field, find, has_packet, root, send,
     taken, unqueue,
 };
 use word_store::{Store, set_word_at, word_at};
 
-/// The id of the task that reports faults.
-pub(crate) const REPORTER: u32 = 2;
-
-/// The address of the fault packet.
-pub(crate) const FAULT_PACKET: u32 = 310;
-
-/// The word of a packet that has its type, and the type of the fault packet.
-const KIND: u32 = 2;
-
+/// The type of the fault packet.
 const FAULT_KIND: u32 = 40;
 
 // Where the fault packet is on no queue, it comes to the task that reports faults from the guest that runs.

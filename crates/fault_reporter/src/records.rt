@@ -7,11 +7,9 @@ ghost use Rattle.fault_reporter.specs.Recorded.{CanRecord, OwnsSame, held_with, 
 
 use crate::packet::send_packet;
 use cint_exec::Fault;
+use resident_requests::numbers::HELD;
 use resident_requests::{EventLog, TcbField, caller, field, set_field};
 use word_store::Store;
-
-/// What the bit of a state is worth that says that the task is held.
-const HELD: u32 = 2;
 
 /// Records a fault of the guest that runs, in a machine with a task that reports faults (2): the guest is held, its fault words are
 /// the code, from 1 to 8 and not 6, and the address, and where the fault packet is on no queue it comes to task 2 from the guest.

@@ -14,17 +14,15 @@ ghost use Rattle.fault_reporter.specs.FaultTurns.{CanReport, IsFaultFirst, all_r
 ghost use Rattle.fault_reporter.specs.Recorded.{OwnsSame};
 ghost use Rattle.fault_reporter.specs.Texts.{reports};
 
-use crate::packet::{FAULT_PACKET, take_packet};
+use crate::packet::take_packet;
 use crate::reports::{mark_reports, print_reports};
+use resident_requests::numbers::{FAULT_PACKET, REPORTER};
 use resident_requests::requests::UNKNOWN_TYPE;
 use resident_requests::{
     EventLog, KindKeeper, finish_turn, first_packet, serve_request, take_request,
 };
 use tp_io::Output;
 use word_store::Store;
-
-/// The id of the task that reports faults.
-const REPORTER: i32 = 2;
 
 /// The task that reports faults, which runs, takes its first packet, or waits where it has none. Where that is the fault packet,
 /// which is then on no queue, each fault that was not reported yet adds a line to the console's bytes, in the order of the chain,
@@ -53,7 +51,7 @@ pub fn fault_turn<Q: KindKeeper, L: EventLog>(
                 store,
                 kinds,
                 request,
-                REPORTER,
+                REPORTER as i32,
                 Err(UNKNOWN_TYPE),
                 0,
                 &[],

@@ -12,12 +12,10 @@ use crate::files::{delete, examine, open_to_read, open_to_write, rename};
 use crate::streams::{append, close, read_on};
 use arrayvec::ArrayVec;
 use ram_disc::Disc;
+use resident_requests::numbers::FILE_HANDLER;
 use resident_requests::requests::UNKNOWN_TYPE;
 use resident_requests::{EventLog, KindKeeper, Request, finish_turn, serve_request, take_request};
 use word_store::Store;
-
-/// The number of the file handler.
-const FILE_HANDLER: i32 = 4;
 
 /// The turn of the file handler, which runs: it takes its first request, does on the disc what is asked, writes bytes into the
 /// request's buffer, and returns the request with its answer. A request of a type that is none of its own is refused (31).
@@ -50,7 +48,7 @@ pub fn file_turn<Q: KindKeeper, L: EventLog>(
                 store,
                 kinds,
                 request,
-                FILE_HANDLER,
+                FILE_HANDLER as i32,
                 answer,
                 buffer,
                 bytes,

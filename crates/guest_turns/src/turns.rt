@@ -11,14 +11,12 @@ ghost use Rattle.guest_turns.specs.GuestTurn.{IsTurned, called, end_of_call, ret
 
 use crate::execute_guest;
 use cint_exec::{Fault, Outcome};
+use kernel_calls::numbers::DEAD;
 use kernel_calls::{
     CallOutcome, EventLog, KindKeeper, TcbField, call, caller, ended, field, set_field,
 };
 use tp_io::Output;
 use word_store::{Regs, Store};
-
-/// By so much the state of a dead task is larger than that of one that runs.
-const DEAD: u32 = 12;
 
 /// The fault of a read outside the store.
 const READ_OUTSIDE: u32 = 3;

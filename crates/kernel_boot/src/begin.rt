@@ -8,11 +8,9 @@ ghost use Rattle.kernel_calls.specs.KernelModel.ValidQueues.{HasGuest};
 ghost use Rattle.kernel_calls.specs.KernelDispatch.DispatchWords.{saved_words};
 ghost use Rattle.kernel_boot.specs.BegunTask.{with_begun};
 
+use kernel_calls::numbers::INTERRUPTED;
 use kernel_calls::{TcbField, field, guest, set_field};
 use word_store::{Regs, Store, word_at};
-
-/// The state of a task that was interrupted, which neither is held nor has packets.
-const INTERRUPTED: u32 = 8;
 
 /// Lets the guest with the number begin at its function, with A, B and C 0, once it is its turn: as if it had been interrupted
 /// before its first instruction.

@@ -6,8 +6,12 @@ ghost use Rattle.kernel_calls.specs.KernelModel.ChangedStore.{IsChanged};
 ghost use Rattle.kernel_boot.specs.BootWords.{block_pairs, chain_pairs, fault_pairs, key_pairs, reporter_pairs, shell_pairs, waiting_pairs};
 ghost use Rattle.kernel_boot.specs.ResidentKernel.{resident_block_size, resident_lists};
 
-use crate::start::{TABLE, write_root};
-use kernel_calls::{FIRST_BLOCK, RootField, TcbField, set_field, set_root};
+use crate::start::write_root;
+use kernel_calls::numbers::{
+    CONSOLE, FAULT_PACKET, FILE_HANDLER, KEY_PACKET, REPORTER, RESIDENT_DATA, SENDER, SHELL,
+    SHELL_PACKET, TABLE, WAITS,
+};
+use kernel_calls::{FIRST_BLOCK, NO_QUEUE, RootField, TcbField, set_field, set_root};
 use word_store::Store;
 
 /// A resident: its number, the address of its task block, and its priority.
@@ -18,47 +22,32 @@ struct Resident {
     priority: u32,
 }
 
-const SHELL: Resident = Resident {
-    id: 1,
-    address: 201,
+const SHELL_TASK: Resident = Resident {
+    id: SHELL,
+    address: RESIDENT_DATA,
     priority: 1000,
 };
 
-const FAULT_REPORTER: Resident = Resident {
-    id: 2,
+const REPORTER_TASK: Resident = Resident {
+    id: REPORTER,
     address: 287,
     priority: 3000,
 };
 
-const CONSOLE: Resident = Resident {
-    id: 3,
+const CONSOLE_TASK: Resident = Resident {
+    id: CONSOLE,
     address: 224,
     priority: 6000,
 };
 
-const FILES: Resident = Resident {
-    id: 4,
+const FILE_TASK: Resident = Resident {
+    id: FILE_HANDLER,
     address: 247,
     priority: 5000,
 };
 
-/// Where the packets of the residents are: the console's key packet, the shell's own packet, and the fault packet.
-const KEY_PACKET: u32 = 271;
-
-const SHELL_PACKET: u32 = 279;
-
-const FAULT_PACKET: u32 = 310;
-
-/// Which word of a packet has its sender.
-const SENDER: u32 = 1;
-
-/// The link of a packet that is on no queue.
-const ON_NO_QUEUE: u32 = u32::MAX;
-
-/// The state of a task that waits, without packets and with some.
-const WAITS: u32 = 4;
-
-const WAITS_WITH_PACKETS: u32 = 5;
+/// The state of a task that waits, and has packets.
+const WAITS_WITH_PACKETS: u32 = WAITS + 1;
 
 /// Makes a kernel with residents in a store of zeros. The console, the file handler, the reporter of faults, if it is asked
 /// for, and the shell wait in this order. Their block is the first one, of 88 words, or of 116 with that reporter, and the rest
@@ -102,20 +91,20 @@ fn write_blocks(store: &mut Store, block: u32)
 fn write_chain(store: &mut Store, reporter: bool)
     ensures { store.new ≡ written (chain_pairs reporter) store.old }
 {
-    set_root(store, RootField::FirstTask, CONSOLE.address);
-    wait(store, CONSOLE, FILES.address);
-    wait(store, FILES, below_files(reporter));
+    set_root(store, RootField::FirstTask, CONSOLE_TASK.address);
+    wait(store, CONSOLE_TASK, FILE_TASK.address);
+    wait(store, FILE_TASK, below_files(reporter));
     write_reporter(store, reporter);
-    wait(store, SHELL, 0);
+    wait(store, SHELL_TASK, 0);
 }
 
 fn below_files(reporter: bool) -> u32
     ensures { result ≡ if reporter then 287 else 201 }
 {
     if reporter {
-        FAULT_REPORTER.address
+        REPORTER_TASK.address
     } else {
-        SHELL.address
+        SHELL_TASK.address
     }
 }
 
@@ -123,7 +112,7 @@ fn write_reporter(store: &mut Store, reporter: bool)
     ensures { store.new ≡ written (reporter_pairs reporter) store.old }
 {
     if reporter {
-        wait(store, FAULT_REPORTER, SHELL.address);
+        wait(store, REPORTER_TASK, SHELL_TASK.address);
     }
 }
 
@@ -144,21 +133,21 @@ fn queue_key_packet(store: &mut Store)
     ensures { store.new ≡ written key_pairs store.old }
 {
     set_root(store, RootField::KeyQueue, KEY_PACKET);
-    store.set(KEY_PACKET + SENDER, CONSOLE.id);
+    store.set(KEY_PACKET + SENDER, CONSOLE);
 }
 
 fn queue_shell_packet(store: &mut Store)
     ensures { store.new ≡ written shell_pairs store.old }
 {
-    set_field(store, SHELL.address, TcbField::Queue, SHELL_PACKET);
-    set_field(store, SHELL.address, TcbField::State, WAITS_WITH_PACKETS);
-    store.set(SHELL_PACKET + SENDER, SHELL.id);
+    set_field(store, SHELL_TASK.address, TcbField::Queue, SHELL_PACKET);
+    set_field(store, SHELL_TASK.address, TcbField::State, WAITS_WITH_PACKETS);
+    store.set(SHELL_PACKET + SENDER, SHELL);
 }
 
 fn free_fault_packet(store: &mut Store, reporter: bool)
     ensures { store.new ≡ written (fault_pairs reporter) store.old }
 {
     if reporter {
-        store.set(FAULT_PACKET, ON_NO_QUEUE);
+        store.set(FAULT_PACKET, NO_QUEUE);
     }
 }

@@ -7,11 +7,9 @@ ghost use Rattle.kernel_calls.specs.KernelModel.Versions.{highest_id_of};
 ghost use Rattle.kernel_boot.specs.BootWords.{root_pairs};
 ghost use Rattle.kernel_boot.specs.EmptyKernel.{empty_lists};
 
+use kernel_calls::numbers::TABLE;
 use kernel_calls::{FIRST_BLOCK, RootField, make, set_root};
 use word_store::Store;
-
-/// Where the task table begins; its first word has the highest number of a task.
-pub(crate) const TABLE: u32 = 120;
 
 /// Makes a kernel in a store of zeros: the root node, the task table, and one free block of all words from 200 up to the end
 /// word. Its clock ticks each `period` steps. All other words stay 0.

@@ -11,7 +11,7 @@ pub use requests::{CallOutcome, KernelCall};
 pub use coroutine_calls::ended;
 pub use module_calls::{load_module, unload_module};
 pub use packet_calls::events::{accepted, taken};
-pub use packet_calls::packets::{PACKET_WORDS, send};
+pub use packet_calls::packets::send;
 pub use packet_calls::queues::{first, has_packet, unqueue};
 pub use packet_calls::{Device, Queue, reply, return_first, send_own};
 pub use task_calls::kernel_dispatch::{

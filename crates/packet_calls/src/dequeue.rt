@@ -13,25 +13,14 @@ ghost use Rattle.packet_calls.specs.Dqpkt.{dqpkt, found_in, found_in_own, is_res
 use crate::Queue;
 use crate::destinations::destination;
 use crate::events::dequeued;
-use crate::packets::PACKET_WORDS;
 use crate::queues::{has_packet, unqueue};
 use block_calls::caller;
 use block_calls::codes::{NO_DESTINATION, NOT_QUEUED, RESIDENT};
 use block_calls::kernel_dispatch::{EventLog, KindKeeper, RootField, TcbField, field, find, root};
-use block_calls::numbers::SENDER;
+use block_calls::numbers::{
+    CONSOLE, FAULT_PACKET, KEY_PACKET, PACKET_WORDS, READS, REPORTER, SENDER,
+};
 use word_store::{Store, set_word_at};
-
-/// The numbers of the console, of its reads that wait for a line, and of the task that reports faults.
-const CONSOLE: u32 = 3;
-
-const READS: u32 = 103;
-
-const REPORTER: u32 = 2;
-
-/// The packets of the console and of the task that reports faults.
-const KEY_PACKET: u32 = 271;
-
-const FAULT_PACKET: u32 = 310;
 
 /// The queue in which a packet was found: its number, as events name it, and what the call answers then.
 #[derive(Clone, Copy, Debug, PartialEq, Eq)]

@@ -7,16 +7,8 @@ ghost use Rattle.packet_calls.specs.Destinations.{destination_of};
 
 use crate::queues::Queue;
 use block_calls::kernel_dispatch::find;
+use block_calls::numbers::{CLOCK, KEYBOARD, OUTPUT};
 use word_store::Store;
-
-/// The number of the clock, -1.
-const CLOCK: u32 = 0xffff_ffff;
-
-/// The number of the keyboard, -2.
-pub const KEYBOARD: u32 = 0xffff_fffe;
-
-/// The number of the output device, -3.
-const OUTPUT: u32 = 0xffff_fffd;
 
 /// The number of a task or a device as a word.
 pub fn number_word(number: i32) -> u32

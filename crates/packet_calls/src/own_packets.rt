@@ -7,10 +7,11 @@ ghost use Rattle.block_calls.specs.KernelDispatch.KernelModel.NotedEvents.{Notes
 ghost use Rattle.block_calls.specs.CallAnswers.Made.{IsMade, minus_one};
 ghost use Rattle.packet_calls.specs.SendOwn.{CanSendOwn, send_own};
 
-use crate::destinations::{KEYBOARD, destination, number_word};
+use crate::destinations::{destination, number_word};
 use crate::events::accepted;
-use crate::packets::{PACKET_WORDS, send};
+use crate::packets::send;
 use block_calls::kernel_dispatch::{EventLog, KindKeeper};
+use block_calls::numbers::{KEYBOARD, PACKET_WORDS};
 use word_store::Store;
 
 /// Sends the packet at p, which is on no queue, from the task `from` to the end of the work queue of the task `to`. Or it sends

@@ -5,19 +5,11 @@ ghost use Rattle.packet_calls.specs.QueueWords.{due_in, head_of, enqueued, sent_
 
 use crate::queues::{Queue, enqueue};
 use block_calls::kernel_dispatch::{RootField, root};
-use block_calls::numbers::SENDER;
+use block_calls::numbers::{FIRST, RES1, RES2, SENDER};
 use word_store::{Store, set_word_at, word_at};
 
-/// How many words of a packet are the kernel's while it is queued.
-pub const PACKET_WORDS: u32 = 5;
-
-/// The words that have its results.
-const RES1: u32 = 3;
-
-const RES2: u32 = 4;
-
 /// The word in which a packet to the clock has the ticks that it is to wait.
-const DELAY: u32 = 5;
+const DELAY: u32 = FIRST;
 
 /// Sends the packet to the queue.
 pub fn send(store: &mut Store, queue: Queue, p: u32, sender: u32)

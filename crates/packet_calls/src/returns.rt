@@ -12,7 +12,7 @@ use crate::events::{accepted, taken};
 use crate::packets::give_back;
 use crate::queues::{first, unqueue};
 use block_calls::kernel_dispatch::{EventLog, find};
-use block_calls::numbers::SENDER;
+use block_calls::numbers::{CLOCK, KEYBOARD, OUTPUT, SENDER};
 use word_store::{Store, word_at};
 
 /// A device that has a queue.
@@ -68,8 +68,8 @@ fn number(device: Device) -> u32
     ensures { result ≡ number_of device }
 {
     match device {
-        Device::OfClock => 0xffff_ffff,
-        Device::OfKeys => 0xffff_fffe,
-        Device::OfOutput => 0xffff_fffd,
+        Device::OfClock => CLOCK,
+        Device::OfKeys => KEYBOARD,
+        Device::OfOutput => OUTPUT,
     }
 }

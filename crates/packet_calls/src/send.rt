@@ -12,13 +12,13 @@ ghost use Rattle.packet_calls.specs.Qpkt.{is_lodged, packet_tests, qpkt};
 
 use crate::destinations::destination;
 use crate::events::accepted;
-use crate::packets::{PACKET_WORDS, send};
+use crate::packets::send;
 use block_calls::caller;
 use block_calls::codes::{LINK_IN_USE, MISPLACED, NO_DESTINATION};
 use block_calls::kernel_dispatch::{
     Block, EventLog, KindKeeper, NO_QUEUE, TcbField, are_unowned, block_of, field,
 };
-use block_calls::numbers::SENDER;
+use block_calls::numbers::{PACKET_WORDS, SENDER};
 use word_store::{Store, word, word_at};
 
 /// Sends the packet at p to the task or the device that its word 1 names; this word has then the number of the task that

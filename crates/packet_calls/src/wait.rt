@@ -11,15 +11,11 @@ ghost use Rattle.packet_calls.specs.TaskWait.{answer_of_wait, first_of_queue, ta
 
 use crate::Queue;
 use crate::events::taken;
-use crate::packets::PACKET_WORDS;
 use crate::queues::unqueue;
 use block_calls::caller;
 use block_calls::kernel_dispatch::{EventLog, KindKeeper, TcbField, field, set_field};
-use block_calls::numbers::SENDER;
+use block_calls::numbers::{PACKET_WORDS, SENDER, WAITS};
 use word_store::{Store, word_at};
-
-/// By so much the state of a task that waits is larger than that of one that runs.
-const WAITS: u32 = 4;
 
 /// The task that calls takes its first packet, which is then on no queue. Where it has none, it waits, and there is no answer
 /// yet.

@@ -9,11 +9,9 @@ ghost use Rattle.pipe_handler.specs.PipeTurns.{pipe_turn, pipes_after_turn};
 
 use crate::Pipes;
 use crate::requests::serve;
+use resident_requests::numbers::FILE_HANDLER;
 use resident_requests::{EventLog, KindKeeper, finish_turn, serve_request, take_request};
 use word_store::Store;
-
-/// The id of the file handler.
-const FILE_HANDLER: i32 = 4;
 
 /// The file handler, which runs, takes its first request, does what it says of pipes, and returns it; or waits, where it has none.
 /// A request of another type than 20 to 23 is refused (31).
@@ -45,7 +43,7 @@ pub fn pipe_turn<Q: KindKeeper, L: EventLog>(
                 store,
                 kinds,
                 request,
-                FILE_HANDLER,
+                FILE_HANDLER as i32,
                 answer,
                 request.second,
                 given,

@@ -10,13 +10,9 @@ ghost use Rattle.resident_requests.specs.Answers.{IsFinished, OwnsRequest, answe
 ghost use Rattle.resident_requests.specs.Requests.{HasRequest, RunsResident};
 
 use crate::requests::Request;
-use kernel_calls::{
-    EventLog, KindKeeper, PACKET_WORDS, RootField, TcbField, field, reply, root, set_field,
-};
+use kernel_calls::numbers::{PACKET_WORDS, WAITS};
+use kernel_calls::{EventLog, KindKeeper, RootField, TcbField, field, reply, root, set_field};
 use word_store::Store;
-
-/// By so much the state of a task that waits is larger than that of one that runs.
-const WAITS: u32 = 4;
 
 /// The res1 of a request that is refused.
 const REFUSED: u32 = 0xffff_ffff;

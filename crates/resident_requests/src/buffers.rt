@@ -9,7 +9,8 @@ ghost use Rattle.resident_requests.specs.Turns.{HasWritten};
 ghost use Rattle.resident_requests.specs.declared.requests.Request.{Request};
 
 use arrayvec::ArrayVec;
-use kernel_calls::{KindKeeper, PACKET_WORDS, are_unowned};
+use kernel_calls::numbers::PACKET_WORDS;
+use kernel_calls::{KindKeeper, are_unowned};
 use word_store::{Store, set_word_at, word_at};
 
 /// The most bytes of a buffer.

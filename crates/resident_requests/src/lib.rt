@@ -15,8 +15,8 @@ pub use services::serve_request;
 
 // Shown to the crates above.
 pub use kernel_calls::{
-    EventLog, KindKeeper, NO_QUEUE, PACKET_WORDS, Queue, RootField, TcbField, accepted, caller,
-    change_pri, create_task, delete_task, field, find, first, free_id, guest, has_packet,
-    highest_id, hold_task, load_module, numbers, release_task, root, send, send_own, set_field,
-    set_flags, taken, tasks, unload_module, unqueue,
+    EventLog, KindKeeper, NO_QUEUE, Queue, RootField, TcbField, accepted, caller, change_pri,
+    create_task, delete_task, field, find, first, free_id, guest, has_packet, highest_id,
+    hold_task, load_module, numbers, release_task, root, send, send_own, set_field, set_flags,
+    taken, tasks, unload_module, unqueue,
 };

@@ -7,20 +7,11 @@ ghost use Rattle.kernel_calls.specs.KernelModel.NotedEvents.{NotesAll};
 ghost use Rattle.kernel_calls.specs.PacketCalls.TaskWait.{first_of_queue};
 ghost use Rattle.resident_requests.specs.Requests.{IsTaken, RunsResident, TakesRequest, request_at, taken, work};
 
-use kernel_calls::numbers::SENDER;
+use kernel_calls::numbers::{FIRST, KIND, PACKET_WORDS, SECOND, SENDER, THIRD};
 use kernel_calls::{
-    EventLog, KindKeeper, PACKET_WORDS, Queue, RootField, TcbField, field, root, taken, unqueue,
+    EventLog, KindKeeper, Queue, RootField, TcbField, field, root, taken, unqueue,
 };
 use word_store::{Store, word_at};
-
-/// The word of a packet that has its type, and those that have the arguments of a request.
-const KIND: u32 = 2;
-
-const FIRST: u32 = 5;
-
-const SECOND: u32 = 6;
-
-const THIRD: u32 = 7;
 
 /// The code with which a handler refuses a request of a type that it does not know.
 pub const UNKNOWN_TYPE: u32 = 31;

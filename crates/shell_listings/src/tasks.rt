@@ -8,18 +8,10 @@ ghost use Rattle.kernel_dispatch.specs.KernelModel.Lists.{Lists};
 ghost use Rattle.shell_listings.specs.TaskLines.{field_name, field_of, has_packets, is_held, line_of_words, mark, most_in_task_line, most_in_tasks, state_text, task_line_at, task_lines, task_lines_in};
 
 use crate::columns::append_right;
+use kernel_dispatch::numbers::{INTERRUPTED, RUNS, WAITS};
 use kernel_dispatch::{TcbField, field, tasks};
 use tp_io::Output;
 use word_store::Store;
-
-/// The field of the state of a task that runs.
-const RUNS: u32 = 0;
-
-/// That of one that waits.
-const WAITS: u32 = 4;
-
-/// That of one that was interrupted.
-const INTERRUPTED: u32 = 8;
 
 /// Writes a line for each task, in the order of the chain: its number right in 3 places, a space, its priority right in 5
 /// places, a space, `run`, `wait`, `int` or `dead`, then ` pkt` where packets wait and ` held` where it is held.

@@ -6,12 +6,13 @@ ghost use Rattle.kernel_calls.specs.KernelModel.NotedEvents.{NotesAll};
 ghost use Rattle.tty_device.specs.Printed.{finished, printed};
 ghost use Rattle.kernel_calls.specs.PacketCalls.Returned.{IsServed};
 
+use kernel_calls::numbers::FIRST;
 use kernel_calls::{Device, EventLog, RootField, return_first, root};
 use tp_io::Output;
 use word_store::{Store, word_at};
 
 /// The word of a packet that has the byte to be printed.
-const BYTE: u32 = 5;
+const BYTE: u32 = FIRST;
 
 /// Serves the first packet that waits for the output device, where one does: the lowest byte of its word 5 goes to the output,
 /// and the packet is returned from -3 with the results 0 and 0.
