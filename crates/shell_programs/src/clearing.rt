@@ -7,14 +7,11 @@ ghost use Rattle.shell_programs.specs.ClearedTasks.{cleared, cleared_at};
 ghost use Rattle.shell_programs.specs.Standings.{HasStanding};
 ghost use Rattle.kernel_residents.specs.KernelCalls.TaskCalls.DeleteTask.{RunsAlive};
 
-use kernel_residents::numbers::FIRST_GUEST;
+use kernel_residents::numbers::{FIRST_GUEST, SHELL};
 use kernel_residents::{
     KindKeeper, TcbField, delete_task, field, guest, highest_id, unload_module,
 };
 use word_store::Store;
-
-/// The id of the shell.
-pub(crate) const SHELL: u32 = 1;
 
 /// Deletes the dead tasks that the shell has made, in rising id, and unloads of each the first module. What the calls refuse stays,
 /// as a task of which a packet still waits for the shell.

@@ -16,6 +16,6 @@ pub use kernel_boot::{
 };
 pub use kernel_residents::{
     ConsoleState, EventLog, KindKeeper, Pipes, Request, UNKNOWN_TYPE, change_pri, console_turn,
-    fault_turn, file_turn, finish_turn, first_packet, hold_task, pipe_turn, record_fault,
+    fault_turn, file_turn, finish_turn, first_packet, hold_task, numbers, pipe_turn, record_fault,
     release_task, return_request, set_flags, take_request,
 };

@@ -8,25 +8,11 @@ ghost use Rattle.kernel_residents.specs.KernelCalls.KernelModel.Standing.{standi
 ghost use Rattle.shell_programs.specs.ShellPacket.{CanPost, post_events, posted, request_words, requested};
 ghost use Rattle.shell_programs.specs.Standings.{HasStanding};
 
-use crate::clearing::SHELL;
+use kernel_residents::numbers::{
+    FIRST, KIND, RES1, RES2, SECOND, SHELL, SHELL_PACKET, THIRD,
+};
 use kernel_residents::{EventLog, KindKeeper, send_own};
 use word_store::{Store, set_word_at, signed};
-
-/// The address of the shell's packet, which has three arguments.
-const SHELL_PACKET: u32 = 279;
-
-/// The words of a packet that have its type, its results, and its arguments.
-const KIND: u32 = 2;
-
-const RES1: u32 = 3;
-
-const RES2: u32 = 4;
-
-const FIRST: u32 = 5;
-
-const SECOND: u32 = 6;
-
-const THIRD: u32 = 7;
 
 /// Sends the shell's packet, which is on no queue, from the shell to the task with the number as a request of this type: its results
 /// and its arguments are 0.

@@ -7,7 +7,7 @@ ghost use Rattle.kernel_residents.specs.KernelCalls.CallAnswers.Made.{IsMade};
 ghost use Rattle.kernel_residents.specs.KernelCalls.KernelModel.Standing.{standing};
 ghost use Rattle.shell_programs.specs.StartedProgram.{IsStarted, create_program, load_program, next_number, priority_of, start_program};
 
-use crate::clearing::SHELL;
+use kernel_residents::numbers::SHELL;
 use kernel_residents::{KindKeeper, create_task, free_id, highest_id, load_module, unload_module};
 use ram_disc::{Disc, Name};
 use word_store::Store;
