@@ -9,12 +9,10 @@ ghost use Rattle.cli_shell.specs.Prompts.{answered, prompted, refused};
 use crate::modes::Mode;
 use crate::state::ShellState;
 use shell_listings::write_error;
+use shell_programs::numbers::CONSOLE;
 use shell_programs::{EventLog, KindKeeper, send_shell_packet};
 use tp_io::Output;
 use word_store::Store;
-
-/// The number of the console.
-pub(crate) const CONSOLE: u32 = 3;
 
 /// The type of a request for a line.
 const LINE_REQUEST: u32 = 1;

@@ -12,25 +12,18 @@ ghost use Rattle.shell_programs.specs.KernelResidents.ResidentRequests.declared.
 
 use crate::commands::execute_line;
 use crate::modes::Mode;
-use crate::prompts::{CONSOLE, prompt};
+use crate::prompts::prompt;
 use crate::state::ShellState;
 use crate::typing::type_on;
 use ram_disc::Disc;
 use shell_listings::write_return_code;
+use shell_programs::numbers::{CONSOLE, RES1, SHELL, SHELL_PACKET};
 use shell_programs::{
     EventLog, KindKeeper, Request, UNKNOWN_TYPE, clear_up, finish_turn, first_packet,
     return_request, take_request,
 };
 use tp_io::Output;
 use word_store::{Store, word_at};
-
-/// The number of the shell, as a sender.
-const SHELL: i32 = 1;
-
-/// The address of the shell's packet, and the word of it that has its first result.
-const SHELL_PACKET: u32 = 279;
-
-const RES1: u32 = 3;
 
 /// The turn of the shell, which runs. Where it has a packet it clears up, and takes the first. A packet other than its own is refused
 /// (31). With its own it does what its mode says: it prompts; or executes the line, where the packet comes from the console; or tells
@@ -95,7 +88,7 @@ fn treat_first<Q: KindKeeper, L: EventLog>(
         return false;
     };
     if request.packet != SHELL_PACKET {
-        return_request(store, kinds, request, SHELL, Err(UNKNOWN_TYPE), log);
+        return_request(store, kinds, request, SHELL as i32, Err(UNKNOWN_TYPE), log);
         return false;
     }
     treat_own(request, state, disc, store, kinds, out, log)

@@ -10,12 +10,10 @@ use crate::modes::Mode;
 use crate::prompts::{prompt, refuse};
 use crate::state::ShellState;
 use ram_disc::{Disc, Name};
+use shell_programs::numbers::SHELL;
 use shell_programs::{EventLog, KindKeeper, post_shell_packet};
 use tp_io::Output;
 use word_store::Store;
-
-/// The number of the shell.
-const SHELL: u32 = 1;
 
 /// The shell's stream.
 const SHELL_STREAM: u32 = 17;
