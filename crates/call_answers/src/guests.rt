@@ -4,8 +4,8 @@ ghost use Rattle.kernel_dispatch.specs.KernelModel.Lists.{Lists};
 ghost use Rattle.call_answers.specs.Guests.{IsGuestOf};
 
 use crate::codes::{NO_TASK, RESIDENT};
-use kernel_dispatch::numbers::FIRST_GUEST;
 use kernel_dispatch::find;
+use kernel_dispatch::numbers::FIRST_GUEST;
 use word_store::Store;
 
 /// The address of the guest's task block. Refused where there is no such task, or it is a resident.

@@ -140,7 +140,12 @@ fn queue_shell_packet(store: &mut Store)
     ensures { store.new ≡ written shell_pairs store.old }
 {
     set_field(store, SHELL_TASK.address, TcbField::Queue, SHELL_PACKET);
-    set_field(store, SHELL_TASK.address, TcbField::State, WAITS_WITH_PACKETS);
+    set_field(
+        store,
+        SHELL_TASK.address,
+        TcbField::State,
+        WAITS_WITH_PACKETS,
+    );
     store.set(SHELL_PACKET + SENDER, SHELL);
 }
 

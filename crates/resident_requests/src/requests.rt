@@ -8,9 +8,7 @@ ghost use Rattle.kernel_calls.specs.PacketCalls.TaskWait.{first_of_queue};
 ghost use Rattle.resident_requests.specs.Requests.{IsTaken, RunsResident, TakesRequest, request_at, taken, work};
 
 use kernel_calls::numbers::{FIRST, KIND, PACKET_WORDS, SECOND, SENDER, THIRD};
-use kernel_calls::{
-    EventLog, KindKeeper, Queue, RootField, TcbField, field, root, taken, unqueue,
-};
+use kernel_calls::{EventLog, KindKeeper, Queue, RootField, TcbField, field, root, taken, unqueue};
 use word_store::{Store, word_at};
 
 /// The code with which a handler refuses a request of a type that it does not know.

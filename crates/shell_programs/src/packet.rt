@@ -8,9 +8,7 @@ ghost use Rattle.kernel_residents.specs.KernelCalls.KernelModel.Standing.{standi
 ghost use Rattle.shell_programs.specs.ShellPacket.{CanPost, post_events, posted, request_words, requested};
 ghost use Rattle.shell_programs.specs.Standings.{HasStanding};
 
-use kernel_residents::numbers::{
-    FIRST, KIND, RES1, RES2, SECOND, SHELL, SHELL_PACKET, THIRD,
-};
+use kernel_residents::numbers::{FIRST, KIND, RES1, RES2, SECOND, SHELL, SHELL_PACKET, THIRD};
 use kernel_residents::{EventLog, KindKeeper, send_own};
 use word_store::{Store, set_word_at, signed};
 
