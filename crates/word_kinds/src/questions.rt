@@ -1,11 +1,8 @@
 // Questions about ranges of words.
 ghost use Rattle.std.specs.Prelude.{◌≡◌, ◌+◌, ◌<◌, ◌^◌, ◌↔◌, IsTrue};
-ghost use Rattle.std.specs.List.{list_any};
-ghost use Rattle.kernel_model.specs.KernelRanges.{AreClear, CanWalkLists, meets, packet_ranges};
+ghost use Rattle.kernel_model.specs.KernelRanges.{AreClear};
 
 use crate::keepers::KindKeeper;
-use crate::search::Search;
-use crate::visits::show_packets;
 use word_store::Store;
 
 /// Whether none of the n words from a on is the kernel's.
@@ -31,14 +28,4 @@ fn is_kernel_at<Q: KindKeeper>(kinds: &Q, store: &Store, a: u32, i: u32) -> bool
         Some(b) => kinds.is_kernel(store, b),
         None => false,
     }
-}
-
-/// Whether one of the n words from a on is among the words 0 to 4 of a queued packet.
-pub fn packet_in(store: &Store, a: u32, n: u32) -> bool
-    requires { CanWalkLists store.now }
-    ensures { result ≡ list_any (meets a (a + n)) (packet_ranges store.now) }
-{
-    let mut search = Search::new(a, n);
-    show_packets(store, &mut search);
-    search.has_found()
 }
