@@ -1,5 +1,5 @@
 -- The fields of a line, from the test and back.
-use Rattle.std.proofs.Common.{◌≡◌, ◌∙◌, ℕ, ◌⊎◌, inl, inr, Bool, true, false, cond, Option, Some, None, Result, Ok, Err, List, [], ◌∷◌, ◌++◌, length, drop, refl, sym, ap, subst, nat_eq}
+use Rattle.std.proofs.Common.{◌≡◌, ◌∙◌, ℕ, ◌⊎◌, inl, inr, Bool, true, false, cond, Option, Some, None, Result, Ok, Err, List, ◌++◌, length, drop, refl, sym, ap, subst, nat_eq}
 use Rattle.std.specs.Prelude.{option_and_then}
 use Rattle.std.specs.Option.{ok_or}
 use Rattle.std.specs.List.{starts_with}
@@ -7,7 +7,7 @@ use Rattle.std.proofs.Math.Seq.{drop-append_seam}
 use Rattle.std.proofs.lemmas.Bool.Decides.{Decides-eqb}
 use Rattle.std.proofs.lemmas.Option.{cond_some}
 use Rattle.std.proofs.lemmas.Slice.Eq.{starts_is}
-use Rattle.text_reader.specs.Fields.{IsNumberLine, after_word, end_of_text, first_line, number_after, number_line}
+use Rattle.text_reader.specs.Fields.{IsNumberLine, after_word, number_after, number_line}
 use Rattle.text_reader.specs.Numbers.{number_of}
 use Rattle.text_reader.specs.Refusal.{Refusal, refusal}
 use Rattle.text_reader.proofs.NumberLemmas.{number_in-again, number_in-ok}
@@ -78,15 +78,3 @@ number_line-err word is_in_range n line d e =
           let g = guard-err (is_in_range p.0) p.0 (refusal n 2) d p.2 in
           inr (g.1, record { number = p.0; line_is = number_after-ok word n line p.0 p.1; outside = g.0 })
     ]
-
--- ---- lines one after another
-
--- the first line was one
-pub first_line-ok : (n : ℕ) (lines : List (List ℕ)) (x : List ℕ × List (List ℕ)) → first_line n lines ≡ Ok x → lines ≡ x.0 ∷ x.1
-first_line-ok n [] x e = cc e
-first_line-ok n (line ∷ lines) x e = let p : (line, lines) ≡ x = cc in ap (λ (q : List ℕ × List (List ℕ)). q.0 ∷ q.1) p
-
--- nothing followed
-pub end_of_text-ok : (n : ℕ) (lines : List (List ℕ)) (u : Unit {0}) → end_of_text n lines ≡ Ok u → lines ≡ []
-end_of_text-ok n [] u e = refl
-end_of_text-ok n (line ∷ lines) u e = cc e

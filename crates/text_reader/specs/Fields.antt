@@ -1,5 +1,5 @@
--- The fields of a line, and lines one after another.
-use Rattle.std.specs.Prelude.{ℕ, ◌≡◌, Bool, if◌then◌else◌, List, [], ◌∷◌, ◌++◌, length, drop, Option, Some, None, Result, Ok, Err, nat_eq, option_and_then}
+-- The fields of a line.
+use Rattle.std.specs.Prelude.{ℕ, ◌≡◌, Bool, if◌then◌else◌, List, ◌++◌, length, drop, Option, Some, None, Result, Ok, Err, nat_eq, option_and_then}
 use Rattle.std.specs.List.{starts_with}
 use Rattle.std.specs.Option.{ok_or}
 use Rattle.text_reader.specs.Numbers.{IsNumber, number_of}
@@ -23,13 +23,3 @@ abbrev pub number_line : List ℕ → (ℕ → Bool) → ℕ → List ℕ → Re
 number_line word is_in_range n line = do
   value ← number_after word n line
   if is_in_range value then Ok value else Err (refusal n 2)
-
--- line n and those after it, unless the text has ended
-abbrev pub first_line : ℕ → List (List ℕ) → Result (List ℕ × List (List ℕ)) Refusal
-first_line n [] = Err (refusal n 3)
-first_line n (line ∷ lines) = Ok (line, lines)
-
--- the text has ended before line n
-abbrev pub end_of_text : ℕ → List (List ℕ) → Result Unit Refusal
-end_of_text n [] = Ok tt
-end_of_text n (line ∷ lines) = Err (refusal n 1)

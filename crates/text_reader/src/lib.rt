@@ -7,6 +7,6 @@ pub mod lines;
 pub mod numbers;
 
 pub use ends::TextEnd;
-pub use fields::{after_word, end_of_text, first_line, number_after};
+pub use fields::{after_word, number_after};
 pub use lines::split_line;
 pub use numbers::{any_number, digit, number};
