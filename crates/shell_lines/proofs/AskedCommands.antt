@@ -1,5 +1,5 @@
 -- The command of a line follows the rules, and the rules lead to it alone.
-use Rattle.std.proofs.Common.{◌≡◌, ◌⊎◌, ℕ, eqb, cond, ◌&&◌, Bool, true, false, List, [], ◌∷◌, length, codes, Option, Some, None, Result, Ok, Err, refl, ap, sym, subst, ◌∙◌, inl, inr}
+use Rattle.std.proofs.Common.{◌≡◌, ℕ, eqb, cond, ◌&&◌, Bool, true, false, List, [], ◌∷◌, length, codes, Option, Some, None, Result, Ok, Err, refl, ap, sym, subst, ◌∙◌, inl, inr}
 use Rattle.std.specs.List.{list_all}
 use Rattle.ram_disc.specs.Name.{is_name}
 use Rattle.rdargs.specs.Answer.{answer}
