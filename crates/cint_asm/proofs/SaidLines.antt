@@ -1,5 +1,5 @@
 -- What a line says follows the rules, and the rules lead to it alone.
-use Rattle.std.proofs.Common.{◌≡◌, ◌≢◌, ◌∙◌, ℕ, ◌+◌, ◌-◌, eqb, cond, not, Bool, true, false, Option, Some, None, Result, Ok, Err, List, [], ◌∷◌, ◌++◌, length, take, drop, refl, sym, ap, subst, arith, length-append}
+use Rattle.std.proofs.Common.{◌≡◌, ◌∙◌, ℕ, ◌-◌, eqb, cond, not, Bool, true, false, Option, Some, None, Result, Ok, Err, List, [], ◌∷◌, ◌++◌, length, take, drop, refl, sym, ap, subst, arith, length-append}
 use Rattle.std.specs.Prelude.{ℤ, pos, negsuc, codes, nat_eq, nat_le, ◌&&◌}
 use Rattle.std.specs.List.{ends_with, list_all}
 use Rattle.std.specs.Option.{ok_or, option_map, option_map_or}
@@ -17,10 +17,10 @@ use Rattle.cint_exec.specs.CintTable.declared.forms.Form.{Form}
 use Rattle.cint_exec.specs.CintTable.declared.forms.Form.TheVariants.{Plain, Byte, BytePlus, Half, Word, Relative, Indirect, Switch}
 use Rattle.cint_exec.proofs.Shown.CintTable.NameLemmas.{byte_named_has}
 use Rattle.cint_asm.specs.Directives.{directive_named}
-use Rattle.cint_asm.specs.LineForm.{AreParts, BeginsPlain, IsCommented, IsLine, IsNumber, Range, Says, data_range, directive_name, global_range, range_of, stands_alone}
+use Rattle.cint_asm.specs.LineForm.{AreParts, BeginsPlain, IsCommented, IsLine, IsNumber, Range, Says, data_range, directive_name, range_of, stands_alone}
 use Rattle.cint_asm.specs.LineForm.IsLine.{labelled as with_label, plain}
 use Rattle.cint_asm.specs.LineForm.Says.{nothing, alone, number, relative, indirect, bytes, reserve, address, align_half, align_word, global as global_pair}
-use Rattle.cint_asm.specs.LineText.{align, before_colon, directed, global, instruction, instruction_named, labelled, line_of, line_of_parts, number_from_to, statement_named, statement_of, unlabelled, with_number}
+use Rattle.cint_asm.specs.LineText.{align, before_colon, directed, instruction, instruction_named, labelled, line_of, line_of_parts, statement_named, statement_of, unlabelled, with_number}
 use Rattle.cint_asm.specs.Names.{is_label, is_name, label_of}
 use Rattle.cint_asm.specs.Numbers.{is_from_to, number_of, word_of}
 use Rattle.cint_asm.specs.Operands.{label_operand, no_operand, number_operand, numbered_label, operands_of, unknown_name}
