@@ -1,13 +1,11 @@
 -- Runs, a step at a time.
-use Rattle.std.proofs.Common.{◌≡◌, ◌∙◌, ℕ, zero, suc, ◌<◌, ◌≤◌, ◌+◌, ◌-◌, Option, Some, None, List, [], ◌++◌, refl, sym, ap, subst, arith, append_assoc, append-nil, add_assoc, add-zero, zero-add}
+use Rattle.std.proofs.Common.{◌≡◌, ◌∙◌, ℕ, zero, suc, ◌<◌, ◌≤◌, ◌+◌, ◌-◌, Option, Some, None, List, [], ◌++◌, refl, sym, ap, arith, append_assoc, append-nil, add_assoc, add-zero, zero-add}
 use Rattle.std.specs.Option.{option_to_list}
 use Rattle.word_store.specs.declared.registers.Regs.{Regs}
-use Rattle.cint_exec.specs.declared.Outcome.{Outcome}
-use Rattle.cint_exec.specs.declared.Outcome.TheVariants.{Next, Sys, Returned, Fault as Faulted}
 use Rattle.session_text.specs.KernelDispatch.KernelModel.declared.stops.Stop.{Stop}
 use Rattle.session_text.specs.KernelDispatch.KernelModel.declared.stops.Stop.TheVariants.{Steps}
 use Rattle.bare_machine.specs.declared.bare.Step.{Step}
-use Rattle.bare_machine.specs.Bare.{AfterStep, after_instruction, step}
+use Rattle.bare_machine.specs.Bare.{AfterStep, step}
 use Rattle.bare_machine.specs.Step.{IsStep}
 use Rattle.bare_machine.specs.Run.{HasPassed, IsRunEnd, Run, after_step, after_steps, run, run_end, unless_stopped}
 
@@ -84,49 +82,20 @@ module _ {x : Run} {n i : ℕ} {bytes : List ℕ} {s : AfterStep} (begun : IsBeg
 
 -- ---- steps that are an instruction alone
 
--- what is known of them, by the outcome behind them
-pub passed-as : (o : Outcome) (n : ℕ) (words : List ℕ) (r : Regs) (words' : List ℕ) (r' : Regs) (taken : ℕ) → (o ≡ Next → ⊥) → taken < n
-    → IsBegun (run n words r) n taken [] (after_instruction words' r' o) → HasPassed n words r words' r' taken o
-passed-as Next n words r words' r' taken other few e = absurd (other refl)
-passed-as Sys n words r words' r' taken other few e = (few, e.so_far)
-passed-as Returned n words r words' r' taken other few e = (few, e.so_far)
-passed-as (Faulted f) n words r words' r' taken other few e = (few, e.so_far)
-
-passed-of : (o : Outcome) (n : ℕ) (words : List ℕ) (r : Regs) (words' : List ℕ) (r' : Regs) (taken : ℕ) → (o ≡ Next → ⊥) → HasPassed n words r words' r' taken o
-    → (taken < n) × (run n words r ≡ after_steps taken [] (after_step (run (n - (taken + 1))) (after_instruction words' r' o)))
-passed-of Next n words r words' r' taken other h = absurd (other refl)
-passed-of Sys n words r words' r' taken other h = h
-passed-of Returned n words r words' r' taken other h = h
-passed-of (Faulted f) n words r words' r' taken other h = h
+-- so many were taken, and what was not executed then left the words and the registers
+pub passed-here : {n i : ℕ} (first : List ℕ) (r0 : Regs) {words words' : List ℕ} {r r' : Regs} → IsUnderWay (run n first r0) n i [] words r → i ≤ n → (words' ≡ words) × (r' ≡ r) → HasPassed n first r0 words' r' i
+passed-here {n} {i} first r0 u few same = (few, u.so_far ∙ (λ j. after_steps i [] (run (n - i) (sym same.0 j) (sym same.1 j))))
 
 module _ {x : Run} {n i : ℕ} {bytes words : List ℕ} {r : Regs} (u : IsUnderWay x n i bytes words r) (few : i ≤ n) (words' : List ℕ) (r' : Regs) (taken : ℕ) where
-  -- all were taken
-  pub run-passed : (o : Outcome) → o ≡ Next → HasPassed (n - i) words r words' r' taken o → (i + taken ≡ n) × IsUnderWay x n (i + taken) bytes words' r'
-  run-passed o next is =
-      let h : HasPassed (n - i) words r words' r' taken Next = subst (HasPassed (n - i) words r words' r' taken) next is in
-      let all : i + taken ≡ n = omega (arith, h.0, few) in
-      let none : n - (i + taken) ≡ 0 = omega (arith, all) in
-      let same : n - i ≡ taken = sym h.0 in (
-        all,
+  -- so many more are taken
+  pub run-passed : HasPassed (n - i) words r words' r' taken → (i + taken ≤ n) × IsUnderWay x n (i + taken) bytes words' r'
+  run-passed h =
+      let rest : n - i - taken ≡ n - (i + taken) = omega arith in (
+        omega (arith, h.0, few),
         record {
           so_far =
-              u.so_far ∙ ap (after_steps i bytes) (h.1 ∙ ap (λ k. after_steps k [] (run_end words' r' Steps)) same) ∙ after_steps-after_steps i taken bytes [] (run_end words' r' Steps)
-              ∙ ap (λ b. after_steps (i + taken) b (run_end words' r' Steps)) (append-nil bytes)
-              ∙ ap (after_steps (i + taken) bytes) (sym (run-zero words' r') ∙ ap (λ k. run k words' r') (sym none));
-        },
-      )
-
-  -- and another one has begun
-  pub run-begun : (o : Outcome) → (o ≡ Next → ⊥) → HasPassed (n - i) words r words' r' taken o
-      → (i + taken < n) × IsBegun x n (i + taken) bytes (after_instruction words' r' o)
-  run-begun o other h =
-      let p = passed-of o (n - i) words r words' r' taken other h in
-      let rest : n - i - (taken + 1) ≡ n - (i + taken + 1) = omega arith in (
-        omega (arith, p.0),
-        record {
-          so_far =
-              u.so_far ∙ ap (after_steps i bytes) p.1 ∙ after_steps-after_steps i taken bytes [] (after_step (run (n - i - (taken + 1))) (after_instruction words' r' o))
-              ∙ (λ j. after_steps (i + taken) (append-nil bytes j) (after_step (run (rest j)) (after_instruction words' r' o)));
+              u.so_far ∙ ap (after_steps i bytes) h.1 ∙ after_steps-after_steps i taken bytes [] (run (n - i - taken) words' r')
+              ∙ (λ j. after_steps (i + taken) (append-nil bytes j) (run (rest j) words' r'));
         },
       )
 

@@ -1,5 +1,5 @@
 -- One step of a bare machine, which has no kernel: all its words are plain.
-use Rattle.std.specs.Prelude.{ℕ, Bool, false, List, Option, Some, None, Result, Ok, Err}
+use Rattle.std.specs.Prelude.{◌≡◌, ℕ, Bool, false, List, Option, Some, None, Result, Ok, Err}
 use Rattle.word_store.specs.declared.registers.Regs.{Regs}
 use Rattle.cint_exec.specs.declared.Fault.{Fault}
 use Rattle.cint_exec.specs.declared.Outcome.{Outcome}
@@ -42,3 +42,7 @@ unmarked a = false
 
 unfoldable pub step : List ℕ → Regs → AfterStep
 step words r = let x = instruction unmarked words r in after_instruction x.words x.regs x.outcome
+
+-- the next step is a call
+abbrev pub StartsCall : List ℕ → Regs → Type 0
+StartsCall words r = step words r ≡ after_call words r (call_answer words r)

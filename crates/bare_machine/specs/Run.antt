@@ -1,12 +1,10 @@
 -- A run of a bare machine: so many steps, or fewer where it stops.
-use Rattle.std.specs.Prelude.{ℕ, zero, suc, ◌≡◌, ◌<◌, ◌+◌, ◌-◌, List, [], ◌++◌, Option, Some, None}
+use Rattle.std.specs.Prelude.{ℕ, zero, suc, ◌≡◌, ◌≤◌, ◌+◌, ◌-◌, List, [], ◌++◌, Option, Some, None}
 use Rattle.std.specs.Option.{option_to_list}
 use Rattle.word_store.specs.declared.registers.Regs.{Regs}
-use Rattle.cint_exec.specs.declared.Outcome.{Outcome}
-use Rattle.cint_exec.specs.declared.Outcome.TheVariants.{Next}
 use Rattle.session_text.specs.KernelDispatch.KernelModel.declared.stops.Stop.{Stop}
 use Rattle.session_text.specs.KernelDispatch.KernelModel.declared.stops.Stop.TheVariants.{Steps}
-use Rattle.bare_machine.specs.Bare.{AfterStep, after_instruction, step}
+use Rattle.bare_machine.specs.Bare.{AfterStep, step}
 
 -- what is there at the end, the steps taken, the console bytes, and why it run_end
 pub record Run : Type 0 where
@@ -43,9 +41,7 @@ pub record IsRunEnd (x : Run) (words : List ℕ) (regs : Regs) (steps : ℕ) (st
   pub steps_are : steps ≡ x.steps
   pub stop_is : stop ≡ x.stop
 
--- Of a run of n steps these were taken, each an instruction alone, and left the words and the registers; then all of them are
--- taken, or the next one has begun with an instruction that came to this outcome and changed nothing so far.
-abbrev pub HasPassed : ℕ → List ℕ → Regs → List ℕ → Regs → ℕ → Outcome → Type 0
-HasPassed n words r words' r' taken Next = (taken ≡ n) × (run n words r ≡ after_steps n [] (run_end words' r' Steps))
-HasPassed n words r words' r' taken outcome =
-    (taken < n) × (run n words r ≡ after_steps taken [] (after_step (run (n - (taken + 1))) (after_instruction words' r' outcome)))
+-- Of a run of n steps these were taken, each an instruction alone, and left the words and the registers: what is left of the
+-- run is that of the others.
+abbrev pub HasPassed : ℕ → List ℕ → Regs → List ℕ → Regs → ℕ → Type 0
+HasPassed n words r words' r' taken = (taken ≤ n) × (run n words r ≡ after_steps taken [] (run (n - taken) words' r'))

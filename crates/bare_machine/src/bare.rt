@@ -1,11 +1,11 @@
 // A machine without a kernel.
-ghost use Rattle.std.specs.Prelude.{◌≡◌, ◌<◌};
+ghost use Rattle.std.specs.Prelude.{◌≡◌, ◌≢◌, ◌<◌, true};
 ghost use Rattle.bare_machine.specs.Calls.{call_answer};
-ghost use Rattle.bare_machine.specs.Bare.{after_call, after_instruction, step};
+ghost use Rattle.bare_machine.specs.Bare.{StartsCall, after_call, after_instruction, step};
 ghost use Rattle.bare_machine.specs.Step.{IsStep};
 
 use crate::calls::call;
-use cint_exec::{Fault, NoKernel, Outcome, execute};
+use cint_exec::{Fault, NoKernel, Outcome, execute, execute_alone};
 use session_text::Stop;
 use word_store::{Regs, Store};
 
@@ -24,22 +24,24 @@ pub struct Bare {
 }
 
 impl Bare {
-    /// One instruction. At `Next` it is a step of its own; after another outcome `end` has to follow, and both together
-    /// are one step.
-    #[inline(always)]
-    #[tactic(auto, unfolding(crate::specs::Bare::step))]
-    pub fn start(&mut self) -> Outcome
-        requires { self.old.regs.c < 256 }
-        ensures step { step self.old.store self.old.regs
-            ≡ after_instruction self.new.store self.new.regs result }
+    /// One step. That its instruction is a `SYS` may be known; that is then not executed again.
+    pub fn step(&mut self, is_call: bool) -> Step
+        requires byte { self.old.regs.c < 256 }
+        requires call { is_call ≡ true → StartsCall self.old.store self.old.regs }
+        ensures step { IsStep (step self.old.store self.old.regs)
+            self.new.store self.new.regs result }
         ensures byte { self.new.regs.c < 256 }
     {
-        execute(&mut self.store, &mut self.regs, &NoKernel)
+        if is_call {
+            return self.call();
+        }
+        let outcome = start_alone(&mut self.store, &mut self.regs);
+        self.end(outcome)
     }
 
-    /// The rest of a step, whose instruction came to this outcome.
+    // The rest of a step, whose instruction came to this outcome.
     #[inline(always)]
-    pub fn end(&mut self, outcome: Outcome) -> Step
+    fn end(&mut self, outcome: Outcome) -> Step
         requires { self.old.regs.c < 256 }
         ensures step { IsStep (after_instruction self.old.store self.old.regs outcome)
             self.new.store self.new.regs result }
@@ -76,6 +78,30 @@ impl Bare {
             Err(fault) => fault_step(fault),
         }
     }
+}
+
+/// One instruction. At `Next` it is a step of its own; at another outcome the store and the registers are as before, and the step is
+/// still to be taken.
+#[inline(always)]
+#[tactic(auto, unfolding(crate::specs::Bare::step))]
+pub(crate) fn start(store: &mut Store, regs: &mut Regs) -> Outcome
+    requires { regs.old.c < 256 }
+    ensures step { step store.old regs.old ≡ after_instruction store.new regs.new result }
+    ensures stays { result ≢ Outcome.Next → (store.new ≡ store.old) × (regs.new ≡ regs.old) }
+    ensures byte { regs.new.c < 256 }
+{
+    execute(store, regs, &NoKernel)
+}
+
+// The same, for a step that is taken alone.
+#[inline(always)]
+#[tactic(auto, unfolding(crate::specs::Bare::step))]
+fn start_alone(store: &mut Store, regs: &mut Regs) -> Outcome
+    requires { regs.old.c < 256 }
+    ensures step { step store.old regs.old ≡ after_instruction store.new regs.new result }
+    ensures byte { regs.new.c < 256 }
+{
+    execute_alone(store, regs, &NoKernel)
 }
 
 fn stop_step(stop: Stop) -> Step

@@ -6,7 +6,7 @@ ghost use Rattle.block_calls.specs.Freevec.{freevec};
 
 use crate::uses::users_block;
 use call_answers::codes::PACKET_INSIDE;
-use call_answers::kernel_dispatch::{KindKeeper, are_unowned, give};
+use call_answers::kernel_dispatch::{KindKeeper, are_unowned, give_block};
 use word_store::Store;
 
 /// Gives the block back whose data begin at address v; at 0 there is nothing to do. Refused where no used block of a user
@@ -25,6 +25,6 @@ pub fn freevec<Q: KindKeeper>(store: &mut Store, kinds: &Q, v: u32) -> Result<()
     if !are_unowned(store, kinds, v, block.size - 1) {
         return Err(PACKET_INSIDE);
     }
-    give(store, v).unwrap();
+    give_block(store, block);
     Ok(())
 }

@@ -11,6 +11,8 @@ pub mod Printable
 pub mod ProgramLemmas
 pub mod RefusalLemmas
 pub mod RelocationOrder
+pub mod SaidLines
+pub mod SplitTexts
 pub mod SurveyLemmas
 pub mod TableLemmas
 pub mod TextRefusals

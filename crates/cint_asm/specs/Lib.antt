@@ -7,6 +7,7 @@ pub mod KeptCode
 pub mod KeptLabels
 pub mod Labels
 pub mod LineErrors
+pub mod LineForm
 pub mod Names
 pub mod Numbers
 pub mod Operands

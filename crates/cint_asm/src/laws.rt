@@ -4,8 +4,17 @@ ghost use Rattle.hunk_text.specs.declared.modules.Module.{Module};
 ghost use Rattle.cint_asm.specs.Assembly.{assembly_of};
 ghost use Rattle.cint_asm.specs.AssemblyForm.{Assembles, IsBadLine, IsBadOperand, IsRefused, RelocationsRise};
 ghost use Rattle.cint_asm.specs.LineErrors.{code_of};
+ghost use Rattle.cint_asm.specs.LineForm.{IsLine};
+ghost use Rattle.cint_asm.specs.LineText.{line_of};
 ghost use Rattle.cint_asm.specs.Refusal.{refusal};
 ghost use Rattle.cint_asm.specs.declared.errors.LineError.{LineError};
+ghost use Rattle.cint_asm.specs.declared.statements.Line.{Line};
+
+/// What a text is read as is the line that it is by the rules, and every such line is read: so a text is at most one line.
+pub fn line_law()
+    ensures sound { (text : List ℕ) (line : Line) → line_of text ≡ Ok line → IsLine text line }
+    ensures complete { (text : List ℕ) (line : Line) → IsLine text line → line_of text ≡ Ok line }
+{}
 
 /// What is made of a text is the module that it assembles to, and every such module is made: so a text assembles to at most
 /// one module. Its relocations stand in rising order.

@@ -1,7 +1,7 @@
 // One instruction of the machine.
 #![tactic(auto)]
 
-ghost use Rattle.std.specs.Prelude.{◌≡◌, ◌<◌};
+ghost use Rattle.std.specs.Prelude.{◌≡◌, ◌≢◌, ◌<◌};
 ghost use Rattle.cint_exec.specs.Instruction.{instruction};
 
 mod bytes;
@@ -11,10 +11,12 @@ mod effects;
 mod frames;
 mod jumps;
 pub mod laws;
+mod lent;
 mod switches;
 mod unguarded;
 mod writes;
 
+use lent::Lent;
 pub use unguarded::NoKernel;
 use word_store::{Guard, Regs, Store};
 
@@ -45,7 +47,8 @@ pub enum Outcome {
     Fault(Fault),
 }
 
-/// Executes the instruction at PC. At `Sys`, `Returned` and `Fault` the registers and the store are as before.
+/// Executes the instruction at PC. At `Sys`, `Returned` and `Fault` the registers and the store are as before. It becomes part of
+/// its caller, and is for a loop that executes many: where two callers have the same kind of guard, they share most of it.
 #[inline(always)]
 pub fn execute<X: Guard>(store: &mut Store, regs: &mut Regs, guard: &X) -> Outcome
     requires byte { regs.old.c < 256 }
@@ -56,6 +59,7 @@ pub fn execute<X: Guard>(store: &mut Store, regs: &mut Regs, guard: &X) -> Outco
         store.new ≡ (instruction marks store.old regs.old).words }
     ensures regs { let marks = X.marks guard.now store.old in
         regs.new ≡ (instruction marks store.old regs.old).regs }
+    ensures stays { result ≢ Outcome.Next → (store.new ≡ store.old) × (regs.new ≡ regs.old) }
     ensures byte { regs.new.c < 256 }
 {
     if regs.pc == 0 {
@@ -65,4 +69,22 @@ pub fn execute<X: Guard>(store: &mut Store, regs: &mut Regs, guard: &X) -> Outco
         Ok(instr) => effects::effect(store, regs, guard, instr),
         Err(end) => Outcome::Fault(decode_faults::fault_of(end)),
     }
+}
+
+/// The same, for a caller that executes one instruction alone. It is a function of its own, so that `execute` stays part of a loop
+/// with the same kind of guard.
+#[inline(never)]
+pub fn execute_alone<X: Guard>(store: &mut Store, regs: &mut Regs, guard: &X) -> Outcome
+    requires byte { regs.old.c < 256 }
+    requires guard { X.can_guard guard.now store.old }
+    ensures outcome { let marks = X.marks guard.now store.old in
+        result ≡ (instruction marks store.old regs.old).outcome }
+    ensures words { let marks = X.marks guard.now store.old in
+        store.new ≡ (instruction marks store.old regs.old).words }
+    ensures regs { let marks = X.marks guard.now store.old in
+        regs.new ≡ (instruction marks store.old regs.old).regs }
+    ensures stays { result ≢ Outcome.Next → (store.new ≡ store.old) × (regs.new ≡ regs.old) }
+    ensures byte { regs.new.c < 256 }
+{
+    execute(store, regs, &Lent { guard })
 }

@@ -1,5 +1,5 @@
 -- Each name stands once, and is found.
-use Rattle.std.proofs.Common.{◌≡◌, ◌≢◌, ◌∙◌, sym, ap, ℕ, ◌<◌, Bool, true, false, cond, ◌==◌, inl, inr, Some, None, Option, List, [], ◌∷◌, refl, arith}
+use Rattle.std.proofs.Common.{◌≡◌, ◌≢◌, ◌∙◌, sym, ap, ℕ, Bool, true, false, cond, ◌==◌, inl, inr, Some, None, Option, List, [], ◌∷◌, refl, arith}
 use Rattle.std.specs.List.{find, range_with_len}
 use Rattle.std.specs.Option.{option_map, option_map_or}
 use Rattle.std.specs.Str.{bytes_eq}
@@ -8,6 +8,7 @@ use Rattle.std.proofs.lemmas.Bool.Decides.{nat_tests}
 use Rattle.std.proofs.lemmas.Slice.Eq.{bytes_eq-Decides}
 use Rattle.cint_table.specs.Table.{Entry, entry, column0, column1, column2, column3, column4, column5, column6, column7}
 use Rattle.cint_table.specs.Names.{byte_named, has_name, name_at}
+use Rattle.cint_table.specs.Places.{kept_byte}
 use Rattle.cint_table.proofs.Entries.{passes_below, passes_at, entry_past}
 
 -- whether an entry has the name
@@ -71,13 +72,37 @@ byte_named_has name byte h = has_name_from name byte (found_passes (has_name nam
 pub once : (a b : ℕ) (name : List ℕ) → name_at a ≡ Some name → name_at b ≡ Some name → a ≡ b
 once a b name p q = let s = sym (byte_named_at name a p) ∙ byte_named_at name b q in cc
 
--- where no row of the 256 bytes has the name, none has
-pub never_named : (name : List ℕ) → ((k : ℕ) → k < 256 → has_name name k ≡ false) → (byte : ℕ) → name_at byte ≢ Some name
-never_named name h byte e =
+-- ---- the byte that is kept for a name
+
+same_byte : (b byte : ℕ) → (b == byte) ≡ true → b ≡ byte
+same_byte b byte h = grind (arith, nat_tests)
+
+-- whether the byte is the one that is kept for the name of its row
+abbrev is_kept : ℕ → Bool
+is_kept byte = option_map_or (λ e. kept_byte e.name == byte) (entry byte) true
+
+all_kept : passes_below is_kept 256 ≡ true
+unfolding passes_below entry column0 column1 column2 column3 column4 column5 column6 column7 kept_byte
+all_kept = refl
+
+kept_from : (name : List ℕ) (byte : ℕ) (o : Option Entry) → option_map_or (λ e. kept_byte e.name == byte) o true ≡ true → option_map (λ e. e.name) o ≡ Some name → kept_byte name ≡ byte
+kept_from name byte None h e = cc
+kept_from name byte (Some row) h e = let same : row.name ≡ name = cc in ap kept_byte (sym same) ∙ same_byte (kept_byte row.name) byte h
+
+-- the byte of a row is kept for the name of the row
+kept_at : (name : List ℕ) (byte : ℕ) → name_at byte ≡ Some name → kept_byte name ≡ byte
+kept_at name byte e =
     elim (cases_lt byte 256) [
-      | inl lt ↦ let passes = has_name_to name byte e in let fails = h byte lt in cc
+      | inl lt ↦ kept_from name byte (entry byte) (passes_at is_kept 256 byte all_kept lt) e
       | inr past ↦ let none = entry_past byte past in cc
     ]
+
+-- where the row of the byte that is kept for a name has another name, no row has it
+pub never_named : (name : List ℕ) → has_name name (kept_byte name) ≡ false → (byte : ℕ) → name_at byte ≢ Some name
+never_named name h byte e =
+    let passes = has_name_to name byte e in
+    let fails : has_name name byte ≡ false = ap (has_name name) (sym (kept_at name byte e)) ∙ h in
+    cc
 
 -- a name that no row has is not found
 unnamed_from : (name : List ℕ) (o : Option ℕ) → byte_named name ≡ o → ((byte : ℕ) → name_at byte ≢ Some name) → o ≡ None

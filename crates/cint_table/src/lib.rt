@@ -7,6 +7,7 @@ pub mod forms;
 pub mod laws;
 pub mod lookup;
 pub mod names;
+mod places;
 pub mod rows;
 mod slots;
 

@@ -3,6 +3,7 @@ ghost use Rattle.std.specs.Prelude.{◌≡◌, ◌≢◌, ◌↔◌, ℕ, Some, 
 ghost use Rattle.cint_table.specs.Names.{byte_named, has_name, name_at};
 
 use crate::name as row_name;
+use crate::places::kept_byte;
 
 /// The byte whose row has the name, or `None` exactly where no row has it.
 #[tactic(auto, using(crate::proofs::NameLemmas::has_name_from, crate::proofs::NameLemmas::byte_named_at, crate::proofs::NameLemmas::never_named, crate::proofs::NameLemmas::unnamed))]
@@ -11,13 +12,12 @@ pub fn byte_of(name: &str) -> Option<u8>
     ensures none { IsNone result ↔ ((byte : ℕ) → name_at byte ≢ Some name.now) }
     ensures value { result ≡ byte_named name.now }
 {
-    for number in 0..256u16 {
-        let byte = number as u8;
-        if is_named(byte, name) {
-            return Some(byte);
-        }
+    let byte = kept_byte(name.as_bytes());
+    if is_named(byte, name) {
+        Some(byte)
+    } else {
+        None
     }
-    None
 }
 
 fn is_named(byte: u8, name: &str) -> bool

@@ -46,3 +46,7 @@ keys-go g e = ap (λ f. cond f (keys_sent g) g) e
 pub and-no : (a : Bool) → (a && false) ≡ false
 and-no true = refl
 and-no false = refl
+
+pub and-yes : (a : Bool) → (a && true) ≡ a
+and-yes true = refl
+and-yes false = refl

@@ -1,5 +1,5 @@
 // The console's key packet.
-ghost use Rattle.std.specs.Prelude.{◌≡◌, List, Ok, is_some, true, ℕ};
+ghost use Rattle.std.specs.Prelude.{◌≡◌, ◌&&◌, List, Ok, is_some, not, true, ℕ};
 ghost use Rattle.resident_requests.specs.KernelCalls.OwnedWords.Owned.{owners};
 ghost use Rattle.resident_requests.specs.KernelCalls.KernelModel.HoldsLists.{HoldsLists};
 ghost use Rattle.resident_requests.specs.KernelCalls.KernelModel.Lists.{Lists};
@@ -77,13 +77,21 @@ pub(crate) fn send_free_keys<Q: KindKeeper, L: EventLog>(
         (outside shown (L.noted log.new) (L.has_failed log.new)) state.now k (with_keys_sent g) }
     ensures room { Q.room kinds.new ≡ Q.room kinds.old }
 {
-    if state.is_finished() {
-        return;
-    }
-    if !are_keys_free(store) {
+    if !are_keys_due(state, store) {
         return;
     }
     send_keys(store, kinds, log);
+}
+
+// Whether the key packet is on no queue, and no finished line waits.
+fn are_keys_due(state: &ConsoleState, store: &Store) -> bool
+    ensures { (l : Lists) → HoldsLists store.now l → l.residents ≡ true
+        → result ≡ (is_some l.key && not state.now.finished) }
+{
+    if state.is_finished() {
+        return false;
+    }
+    are_keys_free(store)
 }
 
 // Whether the key packet is on no queue.

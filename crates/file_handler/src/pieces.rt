@@ -4,14 +4,16 @@ ghost use Rattle.arrayvec.specs.ArrayVec.{array_vec_len};
 
 use arrayvec::ArrayVec;
 
+/// How many zeros are put at once.
+const ZEROS: usize = 64;
+
 /// Puts these bytes behind those that are there.
 pub(crate) fn put_all(bytes: &mut ArrayVec<u8, 4096>, more: &[u8])
     requires { array_vec_len bytes.old + length more.now ≤ 4096 }
-    ensures { bytes.new.items ≡ bytes.old.items ++ more.now }
+    ensures items { bytes.new.items ≡ bytes.old.items ++ more.now }
+    ensures count { array_vec_len bytes.new ≡ array_vec_len bytes.old + length more.now }
 {
-    for byte in more {
-        bytes.push(*byte);
-    }
+    bytes.try_extend_from_slice(more).unwrap();
 }
 
 /// Puts so many zeros behind them.
@@ -19,7 +21,11 @@ pub(crate) fn put_zeros(bytes: &mut ArrayVec<u8, 4096>, count: usize)
     requires { array_vec_len bytes.old + count ≤ 4096 }
     ensures { bytes.new.items ≡ bytes.old.items ++ replicate count 0 }
 {
-    for i in 0..count {
-        bytes.push(0);
+    let zeros = [0; ZEROS];
+    let mut done = 0;
+    while done < count {
+        let some = (count - done).min(ZEROS);
+        put_all(bytes, &zeros[..some]);
+        done += some;
     }
 }

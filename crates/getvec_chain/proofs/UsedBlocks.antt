@@ -55,6 +55,10 @@ used_at-is s at bs v b t e =
       inside = among.0.inside;
     }
 
+-- where a used block was found, its data begin behind its size word
+pub used_at-found : (s : List ℕ) (at : ℕ) (bs : List Block) (v : ℕ) (b : Block) → Tiles s at bs → used_at v bs ≡ Some b → used_at (b.start + 1) bs ≡ Some b
+used_at-found s at bs v b t e = ap (λ z. used_at z bs) (used_at-is s at bs v b t e).start ∙ e
+
 -- the block whose data hold the address a
 pub record HoldingBlock (s : List ℕ) (at a : ℕ) (b : Block) : Type 0 where
   pub above : b.start < a
@@ -91,6 +95,41 @@ holding-before s at bs a t low = on (holding a bs) refl
     on : (o : Option Block) → holding a bs ≡ o → o ≡ None
     on None is = refl
     on (Some b) is = (let u = holding-is s at bs a b t is in absurd (omega (arith, u.low, u.above, low)))
+
+-- A walk seeks the block whose data hold the address a. It has passed blocks of which none does, and these are left.
+pub record IsSought (s : List ℕ) (a : ℕ) (all : Option Block) (bs : List Block) : Type 0 where
+  pub at : ℕ
+  pub tiles : Tiles s at bs
+  pub answer : all ≡ holding a bs
+
+pub sought-first : (s : List ℕ) (a at : ℕ) (bs items : List Block) → Tiles s at bs → items ≡ bs → IsSought s a (holding a bs) items
+sought-first s a at bs items t is = subst (IsSought s a (holding a bs)) (sym is) (record { at = at; tiles = t; answer = refl })
+
+-- the block b comes next
+module _ (s : List ℕ) (a : ℕ) (all : Option Block) (items : List Block) (b : Block) (rest : List Block) (w : IsSought s a all items) (is : items ≡ b ∷ rest) where
+  here : Tiles s w.at (b ∷ rest)
+  here = subst (Tiles s w.at) is w.tiles
+
+  pub sought-inside : block_end b + 2 ≤ length s
+  sought-inside = Tiles-inside s (block_end b) rest here.2
+
+  -- it ends behind the address, which no later one holds
+  pub sought-last : a < block_end b → all ≡ cond (has_data b a) (Some b) None
+  sought-last low = w.answer ∙ ap (holding a) is ∙ ap (cond (has_data b a) (Some b)) (holding-before s (block_end b) rest a here.2 (omega (arith, low)))
+
+  -- it ends before
+  pub sought-on : block_end b ≤ a → IsSought s a all rest
+  sought-on high =
+      let past : ltb a (block_end b) ≡ false = grind (arith, nat_tests) in
+      record {
+        at = block_end b;
+        tiles = here.2;
+        answer = w.answer ∙ ap (holding a) is ∙ ap (λ x. cond (ltb b.start a && x) (Some b) (holding a rest)) past ∙ no_block (ltb b.start a);
+      }
+    where
+      no_block : (x : Bool) → cond (x && false) (Some b) (holding a rest) ≡ holding a rest
+      no_block true = refl
+      no_block false = refl
 
 -- two used blocks are one, or one ends before the other begins
 abbrev pub AreDisjoint : Block → Block → Type 0

@@ -6,7 +6,7 @@ ghost use Rattle.getvec_chain.specs.Run.{first_run, need};
 ghost use Rattle.getvec_chain.specs.Take.{IsTaken, taken, taken_store};
 ghost use Rattle.getvec_chain.specs.Tiling.{IsTiled, blocks_in, used_at};
 
-use crate::pieces::{FIRST_BLOCK, Run};
+use crate::pieces::{Block, FIRST_BLOCK, Run};
 use crate::search::{first_run, used_at, words_needed};
 use owned_words::Store;
 
@@ -82,6 +82,17 @@ pub fn give(store: &mut Store, v: u32) -> Result<(), NotABlock>
     ensures unchanged { OnErr result (store.new ≡ store.old) }
 {
     let block = used_at(store, v).ok_or(NotABlock)?;
-    store.set(block.start, block.size + 1);
+    give_block(store, block);
     Ok(())
+}
+
+/// Gives a used block back.
+pub fn give_block(store: &mut Store, block: Block)
+    requires tiled { IsTiled store.old }
+    requires used { used_at (block.start + 1) (blocks_in store.old) ≡ Some block }
+    ensures words { store.new ≡ given_store store.old (block.start + 1) }
+    ensures blocks { blocks_in store.new ≡ given (block.start + 1) (blocks_in store.old) }
+    ensures tiled { IsTiled store.new }
+{
+    store.set(block.start, block.size + 1);
 }

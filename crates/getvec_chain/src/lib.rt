@@ -8,7 +8,7 @@ mod pieces;
 mod search;
 
 pub use block_walk::Blocks;
-pub use calls::{NoRoom, NotABlock, give, make, take, take_from};
+pub use calls::{NoRoom, NotABlock, give, give_block, make, take, take_from};
 pub use pieces::{Block, FIRST_BLOCK, Run};
 pub use search::{block_of, blocks, blocks_from, first_run};
 

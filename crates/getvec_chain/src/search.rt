@@ -34,7 +34,12 @@ pub fn block_of(store: &Store, a: u32) -> Option<Block>
     requires { IsTiled store.now }
     ensures { result ≡ holding a (blocks_in store.now) }
 {
-    blocks(store).find(|block| block.has_data(a))
+    for block in blocks(store) {
+        if a < block.end() {
+            return if block.has_data(a) { Some(block) } else { None };
+        }
+    }
+    None
 }
 
 /// The used block whose data begin at address v.

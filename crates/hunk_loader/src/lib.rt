@@ -13,7 +13,8 @@ pub use globals::{MOST_GLOBALS, globals_fit, init_globals};
 
 // Shown to the crates above.
 pub use getvec_chain::{
-    Block, FIRST_BLOCK, Run, block_of, blocks, blocks_from, first_run, give, make, take_from,
+    Block, FIRST_BLOCK, Run, block_of, blocks, blocks_from, first_run, give, give_block, make,
+    take_from,
 };
 pub use task_block::{
     FIRST_GUEST, RootField, TABLE, TcbField, coroutine_list, field, find, free_id, head_words,

@@ -1,12 +1,13 @@
 // Printing a module.
 ghost use Rattle.std.specs.Prelude.{◌≡◌, ◌<◌, ◌^◌, length};
 ghost use Rattle.std.specs.List.{AllByRecursion, flat_map};
+ghost use Rattle.tp_io.specs.Pending.{Gathers};
 ghost use Rattle.tp_io.specs.Write.{Prints, HasCause};
 ghost use Rattle.hunk_text.specs.Canonical.{IsPrintable, IsPrintableHunk, after_word, end_text, head_text, item_text, printed, relocations_text, text_of_hunk, word_text, words_text};
 
 use crate::grammar::{END, HUNK, RELOCATIONS};
 use crate::{Hunk, Module};
-use tp_io::{Piece, Sink, SinkFault, write_pieces};
+use tp_io::{Output, Piece, Sink, SinkFault, gather_pieces, pass_on};
 
 /// How many words stand on a line.
 const WORDS_A_LINE: usize = 8;
@@ -15,77 +16,106 @@ const WORDS_A_LINE: usize = 8;
 /// where it has relocations, a line with their type and their number and then the offsets, eight a line; last the end
 /// word. Words have eight lower-case hex digits. It takes no memory. `SinkFault` comes only where the sink's count of
 /// faults rose; then a prefix of the text is written.
-#[tactic(auto, unfolding(crate::specs::Canonical::printed))]
 pub fn print_module<K: Sink>(m: &Module, out: &mut K) -> Result<(), SinkFault>
     requires { IsPrintable m.now }
     ensures text { Prints (K.holds out.old) (K.holds out.new) (printed m.now) result }
     ensures cause { HasCause (K.faults out.old) (K.faults out.new) result }
 {
-    print_hunks(m.hunks.as_slice(), out)?;
-    print_end(out)
+    let mut pending = Output::new();
+    gather_module(m, out, &mut pending)?;
+    pass_on(out, &mut pending)
 }
 
-// Writes the line of the end word.
-fn print_end<K: Sink>(out: &mut K) -> Result<(), SinkFault>
-    ensures text { Prints (K.holds out.old) (K.holds out.new) end_text result }
+#[tactic(auto, unfolding(crate::specs::Canonical::printed))]
+fn gather_module<K: Sink>(m: &Module, out: &mut K, pending: &mut Output) -> Result<(), SinkFault>
+    requires { IsPrintable m.now }
+    ensures text { Gathers (K.holds out.old) (K.holds out.new) pending.old pending.new
+        (printed m.now) result }
     ensures cause { HasCause (K.faults out.old) (K.faults out.new) result }
 {
-    write_pieces(out, &[Piece::Word(END), Piece::Text(b"\n")])
+    gather_hunks(m.hunks.as_slice(), out, pending)?;
+    gather_end(out, pending)
 }
 
-// Writes the hunks.
-fn print_hunks<K: Sink>(hunks: &[Hunk], out: &mut K) -> Result<(), SinkFault>
+// Gathers the line of the end word.
+fn gather_end<K: Sink>(out: &mut K, pending: &mut Output) -> Result<(), SinkFault>
+    ensures text { Gathers (K.holds out.old) (K.holds out.new) pending.old pending.new
+        end_text result }
+    ensures cause { HasCause (K.faults out.old) (K.faults out.new) result }
+{
+    gather_pieces(out, pending, &[Piece::Word(END), Piece::Text(b"\n")])
+}
+
+fn gather_hunks<K: Sink>(hunks: &[Hunk], out: &mut K, pending: &mut Output) -> Result<(), SinkFault>
     requires { AllByRecursion IsPrintableHunk hunks.now }
-    ensures text { let text = flat_map text_of_hunk hunks.now in
-        Prints (K.holds out.old) (K.holds out.new) text result }
+    ensures text { Gathers (K.holds out.old) (K.holds out.new) pending.old pending.new
+        (flat_map text_of_hunk hunks.now) result }
     ensures cause { HasCause (K.faults out.old) (K.faults out.new) result }
 {
     for hunk in hunks {
-        print_hunk(hunk, out)?;
+        gather_hunk(hunk, out, pending)?;
     }
     Ok(())
 }
 
-// Writes a hunk and its relocations.
-fn print_hunk<K: Sink>(hunk: &Hunk, out: &mut K) -> Result<(), SinkFault>
+// Gathers a hunk and its relocations.
+fn gather_hunk<K: Sink>(hunk: &Hunk, out: &mut K, pending: &mut Output) -> Result<(), SinkFault>
     requires { IsPrintableHunk hunk.now }
-    ensures text { Prints (K.holds out.old) (K.holds out.new) (text_of_hunk hunk.now) result }
+    ensures text { Gathers (K.holds out.old) (K.holds out.new) pending.old pending.new
+        (text_of_hunk hunk.now) result }
     ensures cause { HasCause (K.faults out.old) (K.faults out.new) result }
 {
-    print_item(HUNK, hunk.words.as_slice(), out)?;
-    print_relocations(hunk.relocations.as_slice(), out)
+    gather_item(HUNK, hunk.words.as_slice(), out, pending)?;
+    gather_relocations(hunk.relocations.as_slice(), out, pending)
 }
 
-// Writes all relocations of a hunk, if there are any.
-fn print_relocations<K: Sink>(offsets: &[u32], out: &mut K) -> Result<(), SinkFault>
+// Gathers all relocations of a hunk, if there are any.
+fn gather_relocations<K: Sink>(
+    offsets: &[u32],
+    out: &mut K,
+    pending: &mut Output,
+) -> Result<(), SinkFault>
     requires { length offsets.now < 2 ^ 32 }
-    ensures text { let text = relocations_text offsets.now in
-        Prints (K.holds out.old) (K.holds out.new) text result }
+    ensures text { Gathers (K.holds out.old) (K.holds out.new) pending.old pending.new
+        (relocations_text offsets.now) result }
     ensures cause { HasCause (K.faults out.old) (K.faults out.new) result }
 {
     if offsets.is_empty() {
         return Ok(());
     }
-    print_item(RELOCATIONS, offsets, out)
+    gather_item(RELOCATIONS, offsets, out, pending)
 }
 
-// Writes a line with the type and the number of the words, and then the words.
-fn print_item<K: Sink>(kind: u32, words: &[u32], out: &mut K) -> Result<(), SinkFault>
+// Gathers a line with the type and the number of the words, and then the words.
+fn gather_item<K: Sink>(
+    kind: u32,
+    words: &[u32],
+    out: &mut K,
+    pending: &mut Output,
+) -> Result<(), SinkFault>
     requires { length words.now < 2 ^ 32 }
-    ensures text { Prints (K.holds out.old) (K.holds out.new) (item_text kind words.now) result }
+    ensures text { Gathers (K.holds out.old) (K.holds out.new) pending.old pending.new
+        (item_text kind words.now) result }
     ensures cause { HasCause (K.faults out.old) (K.faults out.new) result }
 {
-    print_head(kind, words.len() as u32, out)?;
-    print_words(words, out)
+    gather_head(kind, words.len() as u32, out, pending)?;
+    gather_words(words, out, pending)
 }
 
-// Writes the line before the words of an item.
-fn print_head<K: Sink>(kind: u32, count: u32, out: &mut K) -> Result<(), SinkFault>
-    ensures text { Prints (K.holds out.old) (K.holds out.new) (head_text kind count) result }
+// Gathers the line before the words of an item.
+fn gather_head<K: Sink>(
+    kind: u32,
+    count: u32,
+    out: &mut K,
+    pending: &mut Output,
+) -> Result<(), SinkFault>
+    ensures text { Gathers (K.holds out.old) (K.holds out.new) pending.old pending.new
+        (head_text kind count) result }
     ensures cause { HasCause (K.faults out.old) (K.faults out.new) result }
 {
-    write_pieces(
+    gather_pieces(
         out,
+        pending,
         &[
             Piece::Word(kind),
             Piece::Text(b" "),
@@ -95,26 +125,33 @@ fn print_head<K: Sink>(kind: u32, count: u32, out: &mut K) -> Result<(), SinkFau
     )
 }
 
-// Writes words, eight a line.
-fn print_words<K: Sink>(words: &[u32], out: &mut K) -> Result<(), SinkFault>
-    ensures text { let text = words_text 0 (length words.now) words.now in
-        Prints (K.holds out.old) (K.holds out.new) text result }
+// Gathers words, eight a line.
+fn gather_words<K: Sink>(words: &[u32], out: &mut K, pending: &mut Output) -> Result<(), SinkFault>
+    ensures text { Gathers (K.holds out.old) (K.holds out.new) pending.old pending.new
+        (words_text 0 (length words.now) words.now) result }
     ensures cause { HasCause (K.faults out.old) (K.faults out.new) result }
 {
     for (i, word) in words.iter().enumerate() {
-        print_word(i, words.len(), *word, out)?;
+        gather_word(i, words.len(), *word, out, pending)?;
     }
     Ok(())
 }
 
-// Writes word i of n.
-fn print_word<K: Sink>(i: usize, n: usize, word: u32, out: &mut K) -> Result<(), SinkFault>
+// Gathers word i of n.
+fn gather_word<K: Sink>(
+    i: usize,
+    n: usize,
+    word: u32,
+    out: &mut K,
+    pending: &mut Output,
+) -> Result<(), SinkFault>
     requires { i < n }
-    ensures text { Prints (K.holds out.old) (K.holds out.new) (word_text i n word) result }
+    ensures text { Gathers (K.holds out.old) (K.holds out.new) pending.old pending.new
+        (word_text i n word) result }
     ensures cause { HasCause (K.faults out.old) (K.faults out.new) result }
 {
     let after = after_word(i, n);
-    write_pieces(out, &[Piece::Word(word), Piece::Text(after)])
+    gather_pieces(out, pending, &[Piece::Word(word), Piece::Text(after)])
 }
 
 // What stands after word i of n.

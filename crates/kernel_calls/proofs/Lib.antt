@@ -1,4 +1,5 @@
 pub mod SilentCalls
 pub mod CalledAnswers
 pub mod CreatedByCaller
+pub mod RefusedCalls
 pub mod Shown

@@ -1,5 +1,6 @@
 pub mod Requests
 pub mod Calls
+pub mod Refusals
 -- shown to the crates above
 pub use Rattle.task_calls.specs.KernelDispatch.LinkedList
 pub use Rattle.task_calls.specs.KernelDispatch.OwnedWords

@@ -2,6 +2,7 @@
 #![tactic(auto)]
 
 pub mod calls;
+pub mod laws;
 pub mod requests;
 
 pub use calls::call;

@@ -1,14 +1,14 @@
 -- What was written to a pipe is what was read from it, and then what it holds.
-use Rattle.std.proofs.Common.{◌≡◌, ◌≢◌, ℕ, zero, suc, ◌-◌, ◌<◌, ◌≤◌, Bool, true, false, cond, not, eqb, leb, ltb, ◌⊎◌, Option, Some, None, List, [], ◌∷◌, ◌++◌, length, set, take, drop, replicate, refl, sym, ap, subst, ◌∙◌, arith, inl, inr, append-nil, append_assoc}
+use Rattle.std.proofs.Common.{◌≡◌, ◌≢◌, ℕ, ◌-◌, ◌<◌, ◌≤◌, Bool, true, false, cond, not, eqb, leb, ltb, ◌⊎◌, Option, Some, None, List, [], ◌∷◌, ◌++◌, length, set, take, drop, refl, sym, ap, ◌∙◌, arith, inl, inr, append-nil, append_assoc}
 use Rattle.std.specs.Option.{is_some, unwrap_or}
 use Rattle.std.proofs.lemmas.Bool.{cases_eq, eq-eqb, ne_eqb}
 use Rattle.std.proofs.lemmas.List.{get_or-set_other, get_or-set_same, length-take, take-append-drop, take_min}
 use Rattle.resident_requests.specs.KernelCalls.KernelModel.Kernel.{Pipe}
-use Rattle.resident_requests.specs.KernelCalls.KernelModel.Pipes.{most_held, no_pipes, pipe_at}
+use Rattle.resident_requests.specs.KernelCalls.KernelModel.Pipes.{most_held, pipe_at}
 use Rattle.pipe_handler.specs.Ends.{is_end, is_open, names_writer, opened, pipe_of, place_for, place_of, without_end}
-use Rattle.pipe_handler.specs.Histories.{History, PipeRequest, after, history, history_after, history_of, pipes_after, read_from, with_more, written_to}
+use Rattle.pipe_handler.specs.Histories.{History, PipeRequest, StandsFor, after, history_after, history_of, pipes_after, read_from, with_more, written_to}
 use Rattle.pipe_handler.specs.Histories.PipeRequest.{Close, Open, Read, Write}
-use Rattle.pipe_handler.specs.PipeCalls.{Outcome, accepted, fitting, has_more, held_by, holding, pipe_in_place, with_end}
+use Rattle.pipe_handler.specs.PipeCalls.{ArePipes, Outcome, accepted, fitting, has_more, held_by, holding, pipe_in_place, with_end}
 use Rattle.pipe_handler.proofs.AfterRequests.{HasRoom, by-tests, closed-held, end-place, opened-held, room-after, some-is}
 use Rattle.pipe_handler.proofs.KeptPipes.{place-for, there-inside}
 
@@ -143,18 +143,24 @@ rooms : (rs : List PipeRequest) (ps : List (Option Pipe)) → HasRoom ps → Has
 rooms [] ps room = room
 rooms (r ∷ rs) ps room = rooms rs (after ps r).pipes (room-after ps r room)
 
--- where there are none, none is at any place
-none-at : (n i : ℕ) → pipe_at (replicate n None) i ≡ None
-none-at zero i = refl
-none-at (suc n) zero = refl
-none-at (suc n) (suc i) = none-at n i
+account-of : (o : Option Pipe) (h : History) → StandsFor h o → Accounts o h
+account-of None h stands = refl
+account-of (Some p) h stands = stands
 
-pub pipe-bytes : (rs : List PipeRequest) (i : ℕ) (p : Pipe) → pipe_at (pipes_after no_pipes rs) i ≡ Some p → (history i rs).written ≡ (history i rs).read ++ p.held
-pipe-bytes rs i p e =
-    accounts rs no_pipes i (record { written = []; read = [] }) (subst (λ o. Accounts o (record { written = []; read = [] })) (sym (none-at 8 i)) refl)
-    ∙ ap (λ o. (history i rs).read ++ held_by o) e
+stands-for : (o : Option Pipe) (h : History) → h.written ≡ h.read ++ held_by o → StandsFor h o
+stands-for None h account = tt
+stands-for (Some p) h account = account
 
-pub pipe-room : (rs : List PipeRequest) (i : ℕ) (p : Pipe) → pipe_at (pipes_after no_pipes rs) i ≡ Some p → length p.held ≤ most_held
-pipe-room rs i p e =
-    let start : HasRoom no_pipes = λ k. omega (arith, ap (λ o. length (held_by o)) (none-at 8 k)) in
-    omega (arith, rooms rs no_pipes start i, ap (λ o. length (held_by o)) e)
+pub pipe-bytes : (ps : List (Option Pipe)) (i : ℕ) (h : History) (rs : List PipeRequest) → StandsFor h (pipe_at ps i)
+    → StandsFor (history_after i ps h rs) (pipe_at (pipes_after ps rs) i)
+pipe-bytes ps i h rs stands = stands-for (pipe_at (pipes_after ps rs) i) (history_after i ps h rs) (accounts rs ps i h (account-of (pipe_at ps i) h stands))
+
+lawful-room : (ps : List (Option Pipe)) → ArePipes ps → HasRoom ps
+lawful-room ps a i = on (pipe_at ps i) refl
+  where
+    on : (o : Option Pipe) → pipe_at ps i ≡ o → length (held_by o) ≤ most_held
+    on None e = omega arith
+    on (Some p) e = (a.each i p e).room
+
+pub pipe-room : (ps : List (Option Pipe)) (i : ℕ) (rs : List PipeRequest) (p : Pipe) → ArePipes ps → pipe_at (pipes_after ps rs) i ≡ Some p → length p.held ≤ most_held
+pipe-room ps i rs p a e = omega (arith, rooms rs ps (lawful-room ps a) i, ap (λ o. length (held_by o)) e)

@@ -15,7 +15,7 @@ use Rattle.pipe_handler.specs.PipeTurns.{after_open_named, bytes_of_buffer, pipe
 use Rattle.pipe_handler.proofs.AfterRequests.{kept-after}
 
 -- a name that was read is lawful
-name-lawful : (s : List ℕ) (a : ℕ) (name : List ℕ) → name_at s a ≡ Ok name → IsName name
+pub name-lawful : (s : List ℕ) (a : ℕ) (name : List ℕ) → name_at s a ≡ Ok name → IsName name
 name-lawful s a name e = on (is_name_at s a) refl e
   where
     on : (b : Bool) → is_name_at s a ≡ b → cond {A = Result (List ℕ) ℕ} b (Ok (string_in s a)) (Err 40) ≡ Ok name → IsName name

@@ -5,3 +5,4 @@ pub mod AfterRequests
 pub mod Histories
 pub mod PipeTurns
 pub mod KeptTurns
+pub mod RequestsInTurns

@@ -1,8 +1,8 @@
 -- What passes through pipes, from request to request.
-use Rattle.std.specs.Prelude.{ℕ, ◌==◌, Bool, if◌then◌else◌, Option, Some, None, Result, Ok, Err, List, [], ◌∷◌, ◌++◌, take}
+use Rattle.std.specs.Prelude.{◌≡◌, ℕ, ◌==◌, Bool, if◌then◌else◌, Option, Some, None, Result, Ok, Err, List, [], ◌∷◌, ◌++◌, take}
 use Rattle.ram_disc.specs.Name.{IsName}
 use Rattle.resident_requests.specs.KernelCalls.KernelModel.Kernel.{Pipe}
-use Rattle.resident_requests.specs.KernelCalls.KernelModel.Pipes.{no_pipes, pipe_at}
+use Rattle.resident_requests.specs.KernelCalls.KernelModel.Pipes.{pipe_at}
 use Rattle.pipe_handler.specs.Ends.{place_of}
 use Rattle.pipe_handler.specs.PipeCalls.{Outcome, after_close, after_open, after_read, after_write}
 
@@ -47,6 +47,11 @@ pub record History : Type 0 where
 abbrev pub no_history : History
 no_history = record { written = []; read = [] }
 
+-- what was written to the pipe is what was read from it, and then what it holds
+abbrev pub StandsFor : History → Option Pipe → Type 0
+StandsFor h None = Unit {0}
+StandsFor h (Some p) = h.written ≡ h.read ++ p.held
+
 -- where the pipe is not there, its history begins anew
 abbrev pub history_of : Option Pipe → History → History
 history_of None h = no_history
@@ -64,7 +69,3 @@ history_after i ps h (r ∷ rs) =
 abbrev pub pipes_after : List (Option Pipe) → List PipeRequest → List (Option Pipe)
 pipes_after ps [] = ps
 pipes_after ps (r ∷ rs) = pipes_after (after ps r).pipes rs
-
--- from no pipes on
-abbrev pub history : ℕ → List PipeRequest → History
-history i rs = history_after i no_pipes no_history rs

@@ -2,4 +2,5 @@ pub mod Ends
 pub mod PipeCalls
 pub mod Histories
 pub mod PipeTurns
+pub mod PacketRequests
 pub mod Slots

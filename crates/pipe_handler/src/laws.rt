@@ -1,20 +1,34 @@
 // Laws of pipes, whatever requests are made.
-ghost use Rattle.std.specs.Prelude.{◌≡◌, ◌≤◌, ◌++◌, ℕ, List, Option, Some, length};
+ghost use Rattle.std.specs.Prelude.{◌≡◌, ◌≤◌, ℕ, List, Option, Some, Ok, length};
 ghost use Rattle.resident_requests.specs.KernelCalls.KernelModel.Kernel.{Pipe};
 ghost use Rattle.resident_requests.specs.KernelCalls.KernelModel.Lists.{Lists};
-ghost use Rattle.resident_requests.specs.KernelCalls.KernelModel.Pipes.{most_held, no_pipes, pipe_at};
-ghost use Rattle.pipe_handler.specs.Histories.{IsLawful, PipeRequest, after, history, pipes_after};
+ghost use Rattle.resident_requests.specs.KernelCalls.KernelModel.Pipes.{most_held, pipe_at};
+ghost use Rattle.resident_requests.specs.declared.requests.Request.{Request};
+ghost use Rattle.pipe_handler.specs.Histories.{History, IsLawful, PipeRequest, StandsFor, after, history_after, pipes_after};
+ghost use Rattle.pipe_handler.specs.PacketRequests.{asked, outcome_of, requests_in_turn};
 ghost use Rattle.pipe_handler.specs.PipeCalls.{ArePipes};
-ghost use Rattle.pipe_handler.specs.PipeTurns.{pipes_after_turn};
+ghost use Rattle.pipe_handler.specs.PipeTurns.{pipe_request, pipes_after_turn};
 
-/// For every list of requests, from no pipes: all that was written to a pipe since it is there is what was read from it, and then
-/// what it holds, which is at most 1,024 bytes. So what was read is a prefix of what was written.
+/// For every list of requests, from any pipes: where all that was written to a pipe was what was read from it and then what it
+/// held, it is so again, with what the requests wrote and read; a pipe holds at most 1,024 bytes. So what was read is a prefix of
+/// what was written.
 pub fn pipe_law()
-    ensures bytes { (rs : List PipeRequest) (i : ℕ) (p : Pipe)
-        → pipe_at (pipes_after no_pipes rs) i ≡ Some p
-        → (history i rs).written ≡ (history i rs).read ++ p.held }
-    ensures room { (rs : List PipeRequest) (i : ℕ) (p : Pipe)
-        → pipe_at (pipes_after no_pipes rs) i ≡ Some p → length p.held ≤ most_held }
+    ensures bytes { (ps : List (Option Pipe)) (i : ℕ) (h : History) (rs : List PipeRequest)
+        → StandsFor h (pipe_at ps i)
+        → StandsFor (history_after i ps h rs) (pipe_at (pipes_after ps rs) i) }
+    ensures room { (ps : List (Option Pipe)) (i : ℕ) (rs : List PipeRequest) (p : Pipe)
+        → ArePipes ps → pipe_at (pipes_after ps rs) i ≡ Some p → length p.held ≤ most_held }
+{}
+
+/// What a packet comes to in a turn is a request of `pipe_law`, by a lawful name, or it is refused and changes nothing: its name
+/// is bad, or its type is none of these. So a turn leaves the pipes that its requests leave, one or none.
+pub fn step_law()
+    ensures request { (ps : List (Option Pipe)) (s : List ℕ) (l : Lists) (r : Request)
+        → pipe_request ps s l r ≡ outcome_of ps (asked s l r) }
+    ensures lawful { (s : List ℕ) (l : Lists) (r : Request) (q : PipeRequest) → asked s l r ≡ Ok q
+        → IsLawful q }
+    ensures turn { (ps : List (Option Pipe)) (s : List ℕ) (l : Lists)
+        → pipes_after_turn ps s l ≡ pipes_after ps (requests_in_turn s l) }
 {}
 
 /// A request of lawful names leaves lawful pipes with distinct names.

@@ -1,14 +1,17 @@
 -- The bytes of slots.
-use Rattle.std.proofs.Common.{◌≡◌, ◌≢◌, ℕ, ◌+◌, ◌*◌, ◌/◌, ◌%◌, ◌<◌, ◌≤◌, List, [], ◌∷◌, ◌++◌, length, get_or, set, replicate, refl, sym, ap, ◌∙◌, subst, arith, inl, inr}
-use Rattle.std.proofs.lemmas.Bool.{cases_eq}
-use Rattle.std.proofs.lemmas.List.{append-nil, append_assoc, ext_get_or, get_or-set_other, get_or-set_same, get_or-replicate, length-append, length-replicate, length-set, set-get_or, set-set}
-use Rattle.std.proofs.lemmas.List.FromFn.{get_or-map-range_with_len, length-map-range_with_len, map-range_with_len_more}
+use Rattle.std.proofs.Common.{◌≡◌, ◌≢◌, ℕ, ◌+◌, ◌-◌, ◌*◌, ◌/◌, ◌%◌, ◌<◌, ◌≤◌, List, [], ◌++◌, length, get_or, set, take, drop, replicate, refl, sym, ap, ◌∙◌, subst, arith, inl, inr}
+use Rattle.std.specs.List.{between}
+use Rattle.std.proofs.lemmas.Bool.{cases_eq, cases_lt}
+use Rattle.std.proofs.lemmas.List.{append-nil, append_assoc, ext_get_or, get_or-append_right, get_or-drop, get_or-set_other, get_or-set_same, get_or-replicate, get_or-take, get_or_append_left, length-append, length-drop, length-replicate, length-set, length-take-le, set-get_or, set-set}
+use Rattle.std.proofs.lemmas.List.Edits.{get_or-between, length-between}
+use Rattle.std.proofs.lemmas.List.FromFn.{get_or-map-range_with_len, length-map-range_with_len}
 use Rattle.std.proofs.lemmas.List.Sums.{get_or-le-sum_by}
 use Rattle.word_store.specs.Count.{times}
 use Rattle.ram_disc.specs.Chain.{AreApart, Chains, times_in}
-use Rattle.ram_disc.specs.Contents.{Adds, Area, IsArea, Reserves, all_bytes, bytes_at, bytes_in, place_in}
+use Rattle.ram_disc.specs.Contents.{Adds, Area, IsArea, Reserves, all_bytes, bytes_at, bytes_in, place_in, with_piece}
 use Rattle.ram_disc.specs.Disc.{most_files, most_sectors, sectors_of}
 use Rattle.ram_disc.proofs.ChainLemmas.{places-differ, times-get_or}
+use Rattle.ram_disc.proofs.PutBytes.{get_or-with_piece, get_or-with_piece_other, length-with_piece}
 use Rattle.ram_disc.proofs.SectorLemmas.{one-count, two-counts}
 
 pub length-bytes : (stored chain : List ℕ) (n : ℕ) → length (bytes_in stored chain n) ≡ n
@@ -50,11 +53,6 @@ bytes-agree stored other chain chain' n each =
     (λ p h. let lt : p < n = omega (arith, h, length-bytes other chain' n) in
     get_or-bytes other chain' n p lt ∙ each p lt ∙ sym (get_or-bytes stored chain n p lt))
 
--- one byte more
-pub bytes-more : (stored chain : List ℕ) (n : ℕ) → bytes_in stored chain (n + 1) ≡ bytes_in stored chain n ++ get_or stored (place_in chain n) 0 ∷ []
-unfolding bytes_in
-bytes-more stored chain n = map-range_with_len_more (λ p. get_or stored (place_in chain p) 0) 0 n n (omega arith)
-
 -- different places of sectors, or different sectors, make different places
 pub same-place : (s t p q : ℕ) → 512 * s + p % 512 ≡ 512 * t + q % 512 → s ≡ t
 same-place s t p q e = omega arith
@@ -95,55 +93,110 @@ place-inside stored c sizes i p area h within =
     let lt : p / 512 < length (get_or c.chains i []) = omega (arith, area.lengths i h) in
     omega (arith, area.size, apart-below c i (p / 512) area.apart (omega (arith, area.slots, area.apart.slots)) lt)
 
--- one more byte of a slot
-module _ (stored : List ℕ) (c c' : Chains) (sizes : List ℕ) (slot n sector b : ℕ) where
+-- the size of a slot is at most that of the whole disc
+pub size-below : (stored : List ℕ) (c : Chains) (sizes : List ℕ) (i : ℕ) → IsArea stored c sizes → i < length sizes → get_or sizes i 0 ≤ 512 * most_sectors
+size-below stored c sizes i area h = omega (arith, area.lengths i h, area.apart.all, get_or-le-sum_by length c.chains i [] (omega (arith, area.slots, area.apart.slots, h)))
+
+-- so many bytes of a slot, none of them in another sector, stand in a row
+pub piece-is : (stored : List ℕ) (chains : List (List ℕ)) (sizes : List ℕ) (i p n at : ℕ) → i < length sizes → p + n ≤ get_or sizes i 0 → p % 512 + n ≤ 512
+    → at ≡ place_in (get_or chains i []) p → at + n ≤ length stored → between at (at + n) stored ≡ take n (drop p (get_or (all_bytes stored chains sizes) i []))
+piece-is stored chains sizes i p n at h within inside is fits =
+    let chain = get_or chains i [] in
+    let xs = get_or (all_bytes stored chains sizes) i [] in
+    let long : length (between at (at + n) stored) ≡ n = omega (arith, length-between stored at (at + n) fits) in
+    let same : length (take n (drop p xs)) ≡ n = length-take-le n (drop p xs) (omega (arith, within, length-slot stored chains sizes i h, length-drop p xs)) in
+    ext_get_or 0 (between at (at + n) stored) (take n (drop p xs)) (long ∙ sym same) (λ k more.
+    let lt : k < n = omega (arith, more, long) in
+    let row : (p + k) / 512 ≡ p / 512 = omega (arith, lt, inside) in
+    let sector : get_or chain ((p + k) / 512) 0 ≡ get_or chain (p / 512) 0 = ap (λ r. get_or chain r 0) row in
+    let place : at + k ≡ place_in chain (p + k) = omega (arith, is, sector, lt, inside) in
+    get_or-between stored at (at + n) k 0 (omega (arith, lt)) ∙ ap (λ q. get_or stored q 0) place
+    ∙ sym (get_or-take n (drop p xs) k 0 lt ∙ get_or-drop p xs k 0 ∙ get_or-slot stored chains sizes i (p + k) h (omega (arith, within, lt))))
+
+-- and they stand among the disc's bytes
+pub row-inside : (stored : List ℕ) (c : Chains) (sizes : List ℕ) (i p n at : ℕ) → IsArea stored c sizes → i < length sizes → 0 < n → p + n ≤ get_or sizes i 0 → p % 512 + n ≤ 512
+    → at ≡ place_in (get_or c.chains i []) p → at + n ≤ length stored
+row-inside stored c sizes i p n at area h some within inside is =
+    omega (
+      arith,
+      area.size,
+      inside,
+      is,
+      apart-below c i (p / 512) area.apart (omega (arith, area.slots, area.apart.slots, h)) (omega (arith, area.lengths i h, some, within)),
+    )
+
+-- more bytes of a slot, for which one sector has room
+module _ (stored : List ℕ) (c c' : Chains) (sizes : List ℕ) (slot n sector : ℕ) (more : List ℕ) where
   abbrev At : ℕ
   At = 512 * sector + n % 512
 
   abbrev Written : List ℕ
-  Written = set stored At b
+  Written = with_piece stored At more
 
   abbrev Sizes : List ℕ
-  Sizes = set sizes slot (n + 1)
+  Sizes = set sizes slot (n + length more)
 
   pub record Pushes : Type 0 where
     pub area : IsArea stored c sizes
     pub reserves : Reserves c c' slot n sector
     pub inside : slot < length sizes
     pub is : get_or sizes slot 0 ≡ n
+    pub some : 0 < length more
+    pub fits : n % 512 + length more ≤ 512
 
-  pub at-new : Pushes → At ≡ place_in (get_or c'.chains slot []) n
-  at-new g = omega (arith, g.reserves.last)
+  abbrev chain : List ℕ
+  chain = get_or c'.chains slot []
 
-  pub at-inside : Pushes → At < length stored
+  size-new : Pushes → length chain ≡ sectors_of (n + length more)
+  size-new g = omega (arith, g.reserves.size, g.some, g.fits)
+
+  slot-new : Pushes → slot < length c'.chains
+  slot-new g = omega (arith, g.reserves.apart.slots, g.area.slots, g.inside)
+
+  -- each of the bytes is in the chain
+  in-chain : Pushes → (k : ℕ) → k < length more → (n + k) / 512 < length chain
+  in-chain g k h = omega (arith, size-new g, h)
+
+  at-new : Pushes → (k : ℕ) → k < length more → At + k ≡ place_in chain (n + k)
+  at-new g k h =
+      let row : (n + k) / 512 ≡ n / 512 = omega (arith, h, g.fits) in
+      let same : get_or chain ((n + k) / 512) 0 ≡ get_or chain (n / 512) 0 = ap (λ r. get_or chain r 0) row in
+      omega (arith, g.reserves.last, same, h, g.fits)
+
+  pub at-inside : Pushes → At + length more ≤ length stored
   at-inside g =
-      let lt : n / 512 < length (get_or c'.chains slot []) = omega (arith, g.reserves.size) in
-      omega (
-        arith,
-        g.area.size,
-        g.reserves.last,
-        apart-below c' slot (n / 512) g.reserves.apart (omega (arith, g.reserves.apart.slots, g.area.slots, g.inside)) lt,
-      )
+      let lt : n / 512 < length chain = omega (arith, g.reserves.size) in
+      omega (arith, g.area.size, g.fits, g.reserves.last, apart-below c' slot (n / 512) g.reserves.apart (slot-new g) lt)
 
   -- the old bytes stand where they stood
-  old-bytes : Pushes → bytes_in Written (get_or c'.chains slot []) n ≡ bytes_in stored (get_or c.chains slot []) n
-  old-bytes g =
-      bytes-agree stored Written (get_or c.chains slot []) (get_or c'.chains slot []) n (λ p h.
-      let lt : p / 512 < length (get_or c.chains slot []) = omega (arith, g.area.lengths slot g.inside, g.is) in
-      let same : place_in (get_or c'.chains slot []) p ≡ place_in (get_or c.chains slot []) p = omega (arith, g.reserves.before (p / 512) lt) in
-      let ne : p ≢ n = omega arith in
-      let new : n / 512 < length (get_or c'.chains slot []) = omega (arith, g.reserves.size) in
-      let early : p / 512 < length (get_or c'.chains slot []) = omega (arith, g.reserves.size) in
-      let apart = places-in (get_or c'.chains slot []) p n
-      (slot-once c' slot g.reserves.apart (omega (arith, g.reserves.apart.slots, g.area.slots, g.inside))) early new ne in
-      get_or-set_other stored At (place_in (get_or c'.chains slot []) p) b 0 (λ e. apart (e ∙ at-new g))
-      ∙ ap (λ q. get_or stored q 0) same)
+  old-byte : Pushes → (p : ℕ) → p < n → get_or Written (place_in chain p) 0 ≡ get_or stored (place_in (get_or c.chains slot []) p) 0
+  old-byte g p h =
+      let lt : p / 512 < length (get_or c.chains slot []) = omega (arith, g.area.lengths slot g.inside, g.is, h) in
+      let same : place_in chain p ≡ place_in (get_or c.chains slot []) p = omega (arith, g.reserves.before (p / 512) lt) in
+      let early : p / 512 < length chain = omega (arith, g.reserves.size, h) in
+      get_or-with_piece_other stored At more (at-inside g) (place_in chain p)
+      (λ k low e. places-in chain p (n + k) (slot-once c' slot g.reserves.apart (slot-new g)) early (in-chain g k low) (λ f. omega (arith, h, f)) (e ∙ at-new g k low))
+      ∙ ap (λ q. get_or stored q 0) same
 
-  new-bytes : Pushes → bytes_in Written (get_or c'.chains slot []) (n + 1) ≡ bytes_in stored (get_or c.chains slot []) n ++ b ∷ []
+  new-byte : Pushes → (k : ℕ) → k < length more → get_or Written (place_in chain (n + k)) 0 ≡ get_or more k 0
+  new-byte g k h = ap (λ q. get_or Written q 0) (sym (at-new g k h)) ∙ get_or-with_piece stored At more (at-inside g) k h
+
+  new-bytes : Pushes → bytes_in Written chain (n + length more) ≡ bytes_in stored (get_or c.chains slot []) n ++ more
   new-bytes g =
-      let y = get_or c'.chains slot [] in
-      let here : get_or Written (place_in y n) 0 ≡ b = ap (λ q. get_or Written q 0) (sym (at-new g)) ∙ get_or-set_same stored At b 0 (at-inside g) in
-      bytes-more Written y n ∙ ap (λ x. bytes_in Written y n ++ x ∷ []) here ∙ ap (λ xs. xs ++ b ∷ []) (old-bytes g)
+      let new = bytes_in Written chain (n + length more) in
+      let old = bytes_in stored (get_or c.chains slot []) n in
+      let long = length-bytes stored (get_or c.chains slot []) n in
+      ext_get_or 0 new (old ++ more) (length-bytes Written chain (n + length more) ∙ omega (arith, length-append old more, long)) (λ p h.
+      let lt : p < n + length more = omega (arith, h, length-bytes Written chain (n + length more)) in
+      get_or-bytes Written chain (n + length more) p lt
+      ∙ elim (cases_lt p n) [
+        | inl early ↦ old-byte g p early ∙ sym (get_or_append_left old more 0 p (omega (arith, early, long)) ∙ get_or-bytes stored (get_or c.chains slot []) n p early)
+        | inr late ↦ (
+            let place : n + (p - n) ≡ p = omega (arith, late) in
+            ap (λ q. get_or Written (place_in chain q) 0) (sym place) ∙ new-byte g (p - n) (omega (arith, late, lt))
+            ∙ sym (get_or-append_right old more n p 0 long late)
+            )
+      ])
 
   other-bytes : Pushes → (j : ℕ) → j < length sizes → j ≢ slot
       → bytes_in Written (get_or c'.chains j []) (get_or sizes j 0) ≡ bytes_in stored (get_or c.chains j []) (get_or sizes j 0)
@@ -151,35 +204,34 @@ module _ (stored : List ℕ) (c c' : Chains) (sizes : List ℕ) (slot n sector b
       bytes-agree stored Written (get_or c.chains j []) (get_or c'.chains j []) (get_or sizes j 0) (λ p within.
       let same = g.reserves.others j ne in
       let lt : p / 512 < length (get_or c'.chains j []) = omega (arith, g.area.lengths j h, ap length same) in
-      let new : n / 512 < length (get_or c'.chains slot []) = omega (arith, g.reserves.size) in
-      let apart = places-apart c'.chains j slot p n g.reserves.apart.once ne (omega (arith, g.reserves.apart.slots, g.area.slots, h))
-      (omega (arith, g.reserves.apart.slots, g.area.slots, g.inside)) lt new in
-      get_or-set_other stored At (place_in (get_or c'.chains j []) p) b 0 (λ e. apart (e ∙ at-new g))
+      let there : j < length c'.chains = omega (arith, g.reserves.apart.slots, g.area.slots, h) in
+      get_or-with_piece_other stored At more (at-inside g) (place_in (get_or c'.chains j []) p)
+      (λ k low e. places-apart c'.chains j slot p (n + k) g.reserves.apart.once ne there (slot-new g) lt (in-chain g k low) (e ∙ at-new g k low))
       ∙ ap (λ x. get_or stored (place_in x p) 0) same)
 
   pub push-bytes : Pushes
-      → all_bytes Written c'.chains Sizes ≡ set (all_bytes stored c.chains sizes) slot (get_or (all_bytes stored c.chains sizes) slot [] ++ b ∷ [])
+      → all_bytes Written c'.chains Sizes ≡ set (all_bytes stored c.chains sizes) slot (get_or (all_bytes stored c.chains sizes) slot [] ++ more)
   push-bytes g =
       let old = all_bytes stored c.chains sizes in
-      let new = get_or old slot [] ++ b ∷ [] in
+      let new = get_or old slot [] ++ more in
       let lo = length-all_bytes stored c.chains sizes in
       let ln = length-all_bytes Written c'.chains Sizes in
-      let ls = length-set sizes slot (n + 1) in
+      let ls = length-set sizes slot (n + length more) in
       ext_get_or [] (all_bytes Written c'.chains Sizes) (set old slot new) (omega (arith, lo, ln, ls, length-set old slot new)) (λ j h.
       let lt : j < length sizes = omega (arith, h, ln, ls) in
       get_or-all_bytes Written c'.chains Sizes j (omega (arith, lt, ls))
       ∙ elim (cases_eq j slot) [
         | inl e ↦ (
-            let size : get_or Sizes j 0 ≡ n + 1 = ap (λ i. get_or Sizes i 0) e ∙ get_or-set_same sizes slot (n + 1) 0 g.inside in
+            let size : get_or Sizes j 0 ≡ n + length more = ap (λ i. get_or Sizes i 0) e ∙ get_or-set_same sizes slot (n + length more) 0 g.inside in
             let was : get_or old slot [] ≡ bytes_in stored (get_or c.chains slot []) n =
             get_or-all_bytes stored c.chains sizes slot g.inside ∙ ap (bytes_in stored (get_or c.chains slot [])) g.is in
             let now : get_or (set old slot new) j [] ≡ new =
             ap (λ i. get_or (set old slot new) i []) e ∙ get_or-set_same old slot new [] (omega (arith, lo, g.inside)) in
-            ap (bytes_in Written (get_or c'.chains j [])) size ∙ ap (λ i. bytes_in Written (get_or c'.chains i []) (n + 1)) e
-            ∙ new-bytes g ∙ ap (λ xs. xs ++ b ∷ []) (sym was) ∙ sym now
+            ap (bytes_in Written (get_or c'.chains j [])) size ∙ ap (λ i. bytes_in Written (get_or c'.chains i []) (n + length more)) e
+            ∙ new-bytes g ∙ ap (λ xs. xs ++ more) (sym was) ∙ sym now
             )
         | inr ne ↦ (
-            let size : get_or Sizes j 0 ≡ get_or sizes j 0 = get_or-set_other sizes slot j (n + 1) 0 ne in
+            let size : get_or Sizes j 0 ≡ get_or sizes j 0 = get_or-set_other sizes slot j (n + length more) 0 ne in
             ap (bytes_in Written (get_or c'.chains j [])) size ∙ other-bytes g j lt ne
             ∙ sym (get_or-all_bytes stored c.chains sizes j lt) ∙ sym (get_or-set_other old slot j new [] ne)
             )
@@ -188,20 +240,16 @@ module _ (stored : List ℕ) (c c' : Chains) (sizes : List ℕ) (slot n sector b
   pub push-area : Pushes → IsArea Written c' Sizes
   push-area g = record {
     apart = g.reserves.apart;
-    size = length-set stored At b ∙ g.area.size;
-    slots = length-set sizes slot (n + 1) ∙ g.area.slots;
+    size = length-with_piece stored At more (at-inside g) ∙ g.area.size;
+    slots = length-set sizes slot (n + length more) ∙ g.area.slots;
     lengths = λ j h.
-        let lt : j < length sizes = omega (arith, h, length-set sizes slot (n + 1)) in
+        let lt : j < length sizes = omega (arith, h, length-set sizes slot (n + length more)) in
         elim (cases_eq j slot) [
-          | inl e ↦ ap (λ i. length (get_or c'.chains i [])) e ∙ g.reserves.size
-              ∙ ap sectors_of (sym (ap (λ i. get_or Sizes i 0) e ∙ get_or-set_same sizes slot (n + 1) 0 g.inside))
-          | inr ne ↦ ap length (g.reserves.others j ne) ∙ g.area.lengths j lt ∙ ap sectors_of (sym (get_or-set_other sizes slot j (n + 1) 0 ne))
+          | inl e ↦ ap (λ i. length (get_or c'.chains i [])) e ∙ size-new g
+              ∙ ap sectors_of (sym (ap (λ i. get_or Sizes i 0) e ∙ get_or-set_same sizes slot (n + length more) 0 g.inside))
+          | inr ne ↦ ap length (g.reserves.others j ne) ∙ g.area.lengths j lt ∙ ap sectors_of (sym (get_or-set_other sizes slot j (n + length more) 0 ne))
         ];
   }
-
-  -- the size of a slot is below that of the whole disc
-  pub size-below : (i : ℕ) → IsArea stored c sizes → i < length sizes → get_or sizes i 0 ≤ 512 * most_sectors
-  size-below i area h = omega (arith, area.lengths i h, area.apart.all, get_or-le-sum_by length c.chains i [] (omega (arith, area.slots, area.apart.slots, h)))
 
 -- a slot is emptied
 module _ (stored : List ℕ) (c c' : Chains) (sizes : List ℕ) (slot : ℕ) where

@@ -7,6 +7,7 @@ pub mod KeptSlots
 pub mod KeptStreams
 pub mod NameLemmas
 pub mod NameOrder
+pub mod PutBytes
 pub mod RestoreCalls
 pub mod SectorLemmas
 pub mod SlotLemmas

@@ -1,5 +1,5 @@
 -- The bytes of slots: what stands in the sectors of their chains.
-use Rattle.std.specs.Prelude.{ℕ, ◌≡◌, ◌+◌, ◌*◌, ◌/◌, ◌%◌, ◌<◌, ◌≢◌, List, [], ◌++◌, length, map, slice_index, slice_index_or, slice_set}
+use Rattle.std.specs.Prelude.{ℕ, ◌≡◌, ◌+◌, ◌*◌, ◌/◌, ◌%◌, ◌<◌, ◌≢◌, List, [], ◌++◌, drop, length, map, slice_index, slice_index_or, slice_set, take}
 use Rattle.std.specs.List.{range_with_len}
 use Rattle.ram_disc.specs.Chain.{AreApart, Chains}
 use Rattle.ram_disc.specs.Disc.{most_files, most_sectors, sectors_of}
@@ -15,6 +15,10 @@ bytes_in stored chain n = map (λ p. slice_index stored (place_in chain p)) (ran
 -- the bytes of each slot: so many of its chain
 unfoldable pub all_bytes : List ℕ → List (List ℕ) → List ℕ → List (List ℕ)
 all_bytes stored chains sizes = map (λ i. bytes_in stored (slice_index_or chains i []) (slice_index sizes i)) (range_with_len 0 (length sizes))
+
+-- the list, with these bytes over its own from a place on
+abbrev pub with_piece : List ℕ → ℕ → List ℕ → List ℕ
+with_piece list at bytes = take at list ++ (bytes ++ drop (at + length bytes) list)
 
 -- for each slot its sectors and its bytes; and how many sectors are left
 pub record Area : Type 0 where

@@ -1,7 +1,7 @@
 // The bytes of a disc's files. Each slot has a chain of sectors, as many as its bytes take, and its bytes stand in them.
-ghost use Rattle.std.specs.Prelude.{◌≡◌, ◌≢◌, ◌+◌, ◌*◌, ◌/◌, ◌%◌, ◌<◌, ◌≤◌, ◌↔◌, ℕ, [], ◌∷◌, ◌++◌, IfOk, IsTrue, drop, length, replicate, take, vec_len};
+ghost use Rattle.std.specs.Prelude.{◌≡◌, ◌≢◌, ◌+◌, ◌*◌, ◌/◌, ◌%◌, ◌^◌, ◌<◌, ◌≤◌, ◌↔◌, ℕ, [], ◌∷◌, ◌++◌, IfOk, IsTrue, drop, length, replicate, take, vec_len};
 ghost use Rattle.std.specs.Prelude.{slice_index, slice_index_or};
-ghost use Rattle.ram_disc.specs.Contents.{Adds, Empties, Reserves, bytes_at, chain_at};
+ghost use Rattle.ram_disc.specs.Contents.{Adds, Empties, Reserves, bytes_at, chain_at, with_piece};
 ghost use Rattle.ram_disc.specs.Disc.{most_files, most_sectors, sectors_of};
 
 use crate::file_bytes::FileBytes;
@@ -81,22 +81,28 @@ impl Contents {
             ≤ sectors_of (length (bytes_at self.old slot)) + self.old.left }
         ensures { Adds self.old self.new slot bytes.now }
     {
-        for byte in bytes {
-            self.push(slot, *byte);
+        let mut done = 0;
+        while done < bytes.len() {
+            let room = SECTOR_BYTES - self.len(slot) % SECTOR_BYTES;
+            let end = done + (bytes.len() - done).min(room as usize);
+            self.push(slot, &bytes[done..end]);
+            done = end;
         }
     }
 
-    fn push(&mut self, slot: usize, byte: u8)
+    // Adds bytes behind those of a slot, for which one sector has room.
+    fn push(&mut self, slot: usize, bytes: &[u8])
         requires slot { slot < most_files }
-        requires slots { length self.old.bytes ≡ most_files }
-        requires room { sectors_of (length (bytes_at self.old slot) + 1)
+        requires some { 0 < length bytes.now }
+        requires fits { length (bytes_at self.old slot) % 512 + length bytes.now ≤ 512 }
+        requires room { sectors_of (length (bytes_at self.old slot) + length bytes.now)
             ≤ sectors_of (length (bytes_at self.old slot)) + self.old.left }
-        ensures { Adds self.old self.new slot (byte ∷ []) }
+        ensures { Adds self.old self.new slot bytes.now }
     {
         let size = self.sizes[slot];
         let sector = sector_to_write(&mut self.sectors, slot, size);
-        self.bytes[place(sector, size)] = byte;
-        self.sizes[slot] = size + 1;
+        put_at(self.bytes.as_mut_slice(), place(sector, size), bytes);
+        self.sizes[slot] = size + bytes.len() as u32;
     }
 
     /// Takes all bytes from a slot.
@@ -120,24 +126,47 @@ impl Contents {
             → result ≡ slice_index (chain_at self.now slot) ((position + length into.old) / 512) }
     {
         let mut at = position;
-        for byte in into.iter_mut() {
-            *byte = self.bytes[place(sector, at)];
-            sector = self.sector_after(slot, sector, at);
-            at += 1;
+        let mut done = 0;
+        while done < into.len() {
+            let piece = self.piece(slot, at, sector, into.len() - done);
+            put_at(into, done, piece);
+            sector = self.sector_after(slot, at, sector, piece.len() as u32);
+            at += piece.len() as u32;
+            done += piece.len();
         }
         sector
     }
 
-    // The sector of the position after the given one, which is in this sector.
-    fn sector_after(&self, slot: usize, sector: u16, position: u32) -> u16
+    // The bytes of a slot from a position on, which is in this sector: so many, or those up to the sector's end.
+    fn piece(&self, slot: usize, position: u32, sector: u16, most: usize) -> &[u8]
         requires slot { slot < most_files }
-        requires within { position < length (bytes_at self.now slot) }
+        requires some { 0 < most }
+        requires within { position + most ≤ length (bytes_at self.now slot) }
         requires sector { sector ≡ slice_index (chain_at self.now slot) (position / 512) }
-        ensures { position + 1 < length (bytes_at self.now slot)
-            → result ≡ slice_index (chain_at self.now slot) ((position + 1) / 512) }
+        ensures some { 0 < length result.now }
+        ensures most { length result.now ≤ most }
+        ensures sector { position % 512 + length result.now ≤ 512 }
+        ensures bytes { let left = drop position (bytes_at self.now slot) in
+            result.now ≡ take (length result.now) left }
+    {
+        let count = most.min((SECTOR_BYTES - position % SECTOR_BYTES) as usize);
+        let start = place(sector, position);
+        &self.bytes[start..start + count]
+    }
+
+    // The sector of the position after so many bytes of this sector, of which the first stands at the position.
+    fn sector_after(&self, slot: usize, position: u32, sector: u16, count: u32) -> u16
+        requires slot { slot < most_files }
+        requires some { 0 < count }
+        requires within { position + count ≤ length (bytes_at self.now slot) }
+        requires inside { position % 512 + count ≤ 512 }
+        requires sector { sector ≡ slice_index (chain_at self.now slot) (position / 512) }
+        ensures sector { position + count < length (bytes_at self.now slot)
+            → result ≡ slice_index (chain_at self.now slot) ((position + count) / 512) }
+        ensures end { position + count < 2 ^ 32 }
     {
         let size = self.sizes[slot];
-        let next = position + 1;
+        let next = position + count;
         if next % SECTOR_BYTES == 0 && next < size {
             self.sectors.next(sector)
         } else {
@@ -210,6 +239,14 @@ fn place(sector: u16, position: u32) -> usize
     ensures { result ≡ 512 * sector + position % 512 }
 {
     sector as usize * SECTOR_BYTES as usize + (position % SECTOR_BYTES) as usize
+}
+
+// Puts bytes over those of a list, from a place on.
+fn put_at(list: &mut [u8], at: usize, bytes: &[u8])
+    requires { at + length bytes.now ≤ length list.old }
+    ensures { list.new ≡ with_piece list.old at bytes.now }
+{
+    list[at..at + bytes.len()].copy_from_slice(bytes);
 }
 
 fn zeros(alloc: Global, n: usize) -> Result<Vec<u8>, WantMemory>

@@ -1,3 +1,4 @@
 pub mod Chains
+pub mod CutLines
 pub mod ItemEnds
 pub mod Rules

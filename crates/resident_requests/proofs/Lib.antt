@@ -1,5 +1,6 @@
 pub mod BufferTests
 pub mod NamesRead
+pub mod WordBytes
 pub mod WrittenBuffer
 pub mod RunningResident
 pub mod TakenRequest

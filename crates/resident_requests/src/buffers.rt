@@ -86,9 +86,11 @@ pub fn read_buffer(store: &Store, a: u32, n: u32) -> ArrayVec<u8, 4096>
     ensures { result.items ≡ bytes_in store.now a 0 n }
 {
     let mut bytes = ArrayVec::new();
-    for i in 0..n {
-        bytes.push(byte_in(store, a, i));
+    for i in 0..covered(n) {
+        let word = word_at(store, a, i).to_le_bytes();
+        bytes.try_extend_from_slice(&word).unwrap();
     }
+    bytes.truncate(n as usize);
     bytes
 }
 

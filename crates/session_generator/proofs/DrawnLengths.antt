@@ -2,7 +2,7 @@
 use Rattle.std.proofs.Common.{ℕ, zero, suc, ◌+◌, ◌*◌, ◌/◌, ◌%◌, ◌^◌, ◌<◌, ◌≤◌, List, length, codes, decimal, length-append, arith}
 use Rattle.std.proofs.lemmas.Fmt.{length-decimal-le}
 use Rattle.session_generator.specs.Draws.{Drawing, and_then, choosing, draw, in_turn, next, plain}
-use Rattle.session_generator.specs.Generated.{character, command_of, file, front, generated, line, on_a_file, session, typing}
+use Rattle.session_generator.specs.Generated.{character, command_of, file, front, generated, line, longest, on_a_file, session, typing}
 
 -- no text that is drawn is longer than m
 record IsShort (m : ℕ) (text : Drawing (List ℕ)) : Type 0 where
@@ -96,6 +96,6 @@ session-short =
     (both-short 124360 11010 files (and_then commands end) (in_turn-short 3109 file 40 file-short)
     (both-short 11000 10 commands end (in_turn-short 22 (λ i. typing (i + 1)) 500 (λ i low. typing-short (i + 1) (omega (arith, low)))) (plain-short (codes "GO 600000\n"))))
 
-pub length-generated : (n : ℕ) → length (generated n) ≤ 135409
+pub length-generated : (n : ℕ) → length (generated n) ≤ longest
 unfolding generated
 length-generated n = session-short.most n

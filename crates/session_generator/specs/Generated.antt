@@ -1,5 +1,5 @@
 -- The session that a number makes.
-use Rattle.std.specs.Prelude.{ℕ, zero, suc, ◌+◌, ◌*◌, List, [], ◌∷◌, ◌++◌, codes, decimal}
+use Rattle.std.specs.Prelude.{ℕ, zero, suc, ◌+◌, ◌*◌, List, [], ◌∷◌, ◌++◌, codes, decimal, length}
 use Rattle.session_generator.specs.Draws.{Drawing, and_then, choosing, draw, in_turn, plain}
 
 -- a character that is drawn: its code is 33 or more, and below 123
@@ -47,3 +47,10 @@ session =
 -- the text of the session that the number n makes
 unfoldable pub generated : ℕ → List ℕ
 generated n = (session n).value
+
+-- the most bytes of a session, each of its parts as long as it can be: the lines before the files; 40 files, each with the line of its name
+-- and 50 lines of a colon, 60 characters and a line feed; 500 lines that type a command; and the last line
+abbrev pub longest : ℕ
+longest =
+    length front + 40 * (length (codes "FILE F39\n") + 50 * (1 + 60 + 1)) + 500 * length (codes "AT 500000 :DELETE F39\n")
+    + length (codes "GO 600000\n")

@@ -2,6 +2,7 @@
 #![tactic(auto)]
 
 mod drafts;
+pub mod laws;
 pub mod sessions;
 pub mod summaries;
 pub mod tallies;

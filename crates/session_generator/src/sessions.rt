@@ -1,13 +1,13 @@
 // The session that a number makes.
 ghost use Rattle.std.specs.Prelude.{◌≡◌, ◌≤◌, ◌+◌, ◌<◌, length, IfOk, OnOk};
 ghost use Rattle.session_generator.specs.Draws.{choosing, draw, in_turn, with_next};
-ghost use Rattle.session_generator.specs.Generated.{character, command_of, file, generated, line, on_a_file, typing};
+ghost use Rattle.session_generator.specs.Generated.{character, command_of, file, generated, line, longest, on_a_file, typing};
 
 use crate::drafts::Draft;
 use std::alloc::Global;
 use tp_io::WantMemory;
 
-/// No session is longer.
+/// The most bytes of a session.
 pub const LONGEST: usize = 135_409;
 
 const FILES: u32 = 40;
@@ -21,7 +21,7 @@ const COMMANDS: u32 = 500;
 /// The text of the session that the number makes: files of drawn characters, and commands that are typed.
 pub fn generate(alloc: Global, n: u32) -> Result<Vec<u8>, WantMemory>
     ensures text { IfOk result (λ text. text.items ≡ generated n) }
-    ensures short { IfOk result (λ text. length text.items ≤ LONGEST) }
+    ensures short { IfOk result (λ text. length text.items ≤ longest) }
 {
     let mut draft = Draft::new(alloc, LONGEST, n)?;
     draft.add(b"TRIPOS 1\nSTORE 65536\nTICK 100\nRESIDENT\n")?;

@@ -1,2 +1,4 @@
+mod AskedCommands
+mod LineParts
 mod NameCodes
 mod ValuesInside

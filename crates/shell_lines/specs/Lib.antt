@@ -1,4 +1,5 @@
 pub mod Arguments
 pub mod Command
+pub mod CommandForm
 pub mod CommandNames
 pub mod Words

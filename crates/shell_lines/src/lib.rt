@@ -4,6 +4,7 @@
 pub mod arguments;
 pub mod command_names;
 pub mod commands;
+pub mod laws;
 pub mod words;
 
 pub use commands::{Command, read_command};

@@ -132,3 +132,28 @@ fn a_write_is_whole_and_flushed(rt: HostRuntime) -> Result<(), Fail> {
     assert_eq!(rt; sink.write(b"kk"), WriteStep::Failed);
     Ok(())
 }
+
+// A writer that takes nothing, however often it is asked, and counts how often that is.
+#[derive(Drop)]
+struct FullWriter {
+    calls: u64,
+}
+
+impl Write for FullWriter {
+    fn write(&mut self, _piece: &[u8]) -> io::Result<usize> {
+        self.calls = self.calls.saturating_add(1);
+        Ok(0)
+    }
+
+    fn flush(&mut self) -> io::Result<()> {
+        Ok(())
+    }
+}
+
+#[test]
+fn a_writer_that_takes_nothing_is_a_fault(rt: HostRuntime) {
+    let mut sink = StdSink::new(FullWriter { calls: 0 });
+    assert_eq!(rt; sink.write(b"a"), WriteStep::Failed);
+    assert_eq!(rt; sink.write(b"a"), WriteStep::Failed);
+    assert_eq!(rt; sink.into_writer().calls, 2);
+}

@@ -2,7 +2,6 @@
 pub use Rattle.getvec_chain.proofs.AfterGive
 pub use Rattle.getvec_chain.proofs.AfterTake
 pub use Rattle.getvec_chain.proofs.BlockExchanges
-pub use Rattle.getvec_chain.proofs.GiveAnswer
 pub use Rattle.getvec_chain.proofs.MaximalRuns
 pub use Rattle.getvec_chain.proofs.Runs
 pub use Rattle.getvec_chain.proofs.SizeWords

@@ -1,12 +1,13 @@
-use Rattle.std.proofs.Common.{◌≡◌, ◌∙◌, ◌-◌, ◌≤◌, ℕ, List, Bool, true, false, Some, ap, arith}
+use Rattle.std.proofs.Common.{◌≡◌, ◌∙◌, ◌+◌, ◌-◌, ◌≤◌, ℕ, List, Bool, true, false, Some, ap, arith}
 use Rattle.std.proofs.lemmas.Result.{err_from_is_err_and}
 use Rattle.call_answers.specs.KernelDispatch.GetvecChain.declared.pieces.Block.{Block}
 use Rattle.call_answers.specs.KernelDispatch.GetvecChain.Block.{is_used_at}
 use Rattle.call_answers.specs.KernelDispatch.GetvecChain.Give.{given_store}
-use Rattle.call_answers.specs.KernelDispatch.GetvecChain.Tiling.{blocks_in, used_at}
-use Rattle.call_answers.proofs.Shown.KernelDispatch.GetvecChain.GiveAnswer.{give-ok, give-on}
+use Rattle.call_answers.specs.KernelDispatch.GetvecChain.Tiling.{used_at}
+use Rattle.call_answers.proofs.Shown.KernelDispatch.GetvecChain.UsedBlocks.{is_used_at-true}
 use Rattle.call_answers.specs.KernelDispatch.KernelModel.HoldsLists.{HoldsLists}
 use Rattle.call_answers.specs.KernelDispatch.KernelModel.Lists.{Lists}
+use Rattle.call_answers.proofs.Shown.KernelDispatch.KernelModel.EachMember.{find-passes}
 use Rattle.call_answers.proofs.Shown.KernelDispatch.KernelModel.FollowedBlocks.{found-within}
 use Rattle.call_answers.proofs.FoundTask.{reads}
 use Rattle.call_answers.proofs.MadeCalls.{handed-plain}
@@ -16,6 +17,9 @@ use Rattle.block_calls.proofs.giving.freevec.Goals as goal
 
 some-word : (l : Lists) (s : List ℕ) (v : ℕ) (b : Block) → HoldsLists s l → used_at v l.blocks ≡ Some b → 1 ≤ b.size
 some-word l s v b h used = omega (arith, (found-within (is_used_at v) 200 l.blocks (l.size - 2) b h.valid.blocks used).some)
+
+data-start : (l : Lists) (v : ℕ) (b : Block) → used_at v l.blocks ≡ Some b → b.start + 1 ≡ v
+data-start l v b used = (is_used_at-true v b (find-passes (is_used_at v) l.blocks b used)).1
 
 clash : (x : Bool) → x ≡ false → x ≡ true → ⊥
 clash x e f = cc
@@ -39,18 +43,22 @@ returns-then-not-are_unowned g c = record {
       c.if-v-eq0.false (λ unowned. clash c.are_unowned.result c.if-not-are_unowned.true ((c.are_unowned.ensures l k).1 unowned));
 }
 
-pub give-requires : goal.give-requires
-give-requires g c = (reads c.args.store.now c.requires.0 c.requires.1.lists).tiled
-
-pub unwrap-requires : goal.unwrap-requires
-unwrap-requires g c =
-    give-ok c.give.result (used_at c.args.v (blocks_in c.args.store.now)) c.in_ok-block.block c.give.ensures.not_a_block
-    (ap (used_at c.args.v) (reads c.args.store.now c.requires.0 c.requires.1.lists).blocks ∙ (c.in_ok-block.ensures c.requires.0 c.requires.1.lists).0)
+pub give_block-requires : goal.give_block-requires
+give_block-requires g c =
+    let s = c.args.store.now in
+    let l = c.requires.0 in
+    let h = c.requires.1.lists in
+    let used = (c.in_ok-block.ensures l h).0 in
+    record {
+      tiled = (reads s l h).tiled;
+      used = ap (used_at (c.in_ok-block.block.start + 1)) (reads s l h).blocks ∙ ap (λ v. used_at v l.blocks) (data-start l c.args.v c.in_ok-block.block used) ∙ used;
+    }
 
 pub returns : goal.returns
 returns g c = record {
   made = λ l k.
-      given-made c.args.store.now (g.Q.KindKeeper.tells c.args.kinds.now) (g.Q.KindKeeper.room c.args.kinds.now) l c.args.v k c.in_ok-block.block (c.in_ok-block.ensures l k.lists)
-      c.give.new.store c.if-v-eq0.false ((c.are_unowned.ensures l k).0 c.if-not-are_unowned.false)
-      (give-on c.give.result c.unwrap.result (c.give.new.store ≡ given_store c.args.store.now c.args.v) c.unwrap.ensures c.give.ensures.words);
+      let users = c.in_ok-block.ensures l k.lists in
+      given-made c.args.store.now (g.Q.KindKeeper.tells c.args.kinds.now) (g.Q.KindKeeper.room c.args.kinds.now) l c.args.v k c.in_ok-block.block users
+      c.give_block.new.store c.if-v-eq0.false ((c.are_unowned.ensures l k).0 c.if-not-are_unowned.false)
+      (c.give_block.ensures.words ∙ ap (given_store c.args.store.now) (data-start l c.args.v c.in_ok-block.block users.0));
 }

@@ -1,7 +1,7 @@
 use Rattle.std.proofs.Common.{◌≡◌, ◌∙◌, ◌≤◌, [], ◌+◌, length, ap, codes, subst, sym}
 use Rattle.std.specs.Prelude.{List, ℕ}
 use Rattle.session_generator.specs.Draws.{Drawn, and_then, in_turn, plain, with_next}
-use Rattle.session_generator.specs.Generated.{file, front, generated, session, typing}
+use Rattle.session_generator.specs.Generated.{file, front, generated, longest, session, typing}
 use Rattle.session_generator.proofs.DrawnTexts.{with_next-both}
 use Rattle.session_generator.proofs.DrawnLengths.{length-generated}
 use Rattle.session_generator.proofs.sessions.generate.Goals as goal
@@ -20,4 +20,4 @@ returns-clause-text c =
     c.into_text.ensures ∙ ap (λ (d : Drawn (List ℕ)). d.value) whole
 
 pub returns-clause-short : goal.returns-clause-short
-returns-clause-short c = subst (λ (v : List ℕ). length v ≤ 135409) (sym (returns-clause-text c)) (length-generated c.args.n)
+returns-clause-short c = subst (λ (v : List ℕ). length v ≤ longest) (sym (returns-clause-text c)) (length-generated c.args.n)

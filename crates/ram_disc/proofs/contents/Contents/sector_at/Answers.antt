@@ -15,7 +15,7 @@ pub overflow_cast-position : goal.overflow_cast-position
 overflow_cast-position c =
     let s = c.self.inside in
     let lt : c.args.slot < length s.sizes = omega (arith, c.self.invariant.slots, c.requires) in
-    omega (arith, c.if-position-self.false, size-below s.bytes.items s.sectors s.sectors s.sizes 0 0 0 0 c.args.slot c.self.invariant lt)
+    omega (arith, c.if-position-self.false, size-below s.bytes.items s.sectors s.sizes c.args.slot c.self.invariant lt)
 
 pub nth-requires-clause-within : goal.nth-requires-clause-within
 nth-requires-clause-within c =

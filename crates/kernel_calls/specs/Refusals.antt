@@ -1,0 +1,71 @@
+-- When a call is refused, and what a refused call leaves.
+use Rattle.std.specs.Prelude.{◌≡◌, ℕ, ◌==◌, if◌then◌else◌, Bool, List, [], ◌∷◌, ◌++◌, Ok, Some}
+use Rattle.word_store.specs.Arithmetic.{add}
+use Rattle.word_store.specs.declared.registers.Regs.{Regs}
+use Rattle.task_calls.specs.KernelDispatch.KernelModel.Lists.{Lists}
+use Rattle.task_calls.specs.CallAnswers.Guests.{guest_tests}
+use Rattle.task_calls.specs.CallAnswers.Refusals.{first_refusal}
+use Rattle.task_calls.specs.BlockCalls.Freevec.{freevec_tests}
+use Rattle.task_calls.specs.BlockCalls.Getvec.{getvec_tests}
+use Rattle.module_calls.specs.AddModule.{addition_tests}
+use Rattle.module_calls.specs.UnloadModule.{unload_tests}
+use Rattle.packet_calls.specs.Dqpkt.{dqpkt_tests}
+use Rattle.packet_calls.specs.Qpkt.{qpkt_tests}
+use Rattle.task_calls.specs.ChangePri.{priority_tests}
+use Rattle.task_calls.specs.CreateTask.{creation_tests}
+use Rattle.task_calls.specs.DeleteTask.{deletion_tests}
+use Rattle.task_calls.specs.HoldTask.{hold_tests}
+use Rattle.task_calls.specs.ReleaseTask.{release_tests}
+use Rattle.coroutine_calls.specs.CallCo.{idle_tests}
+use Rattle.coroutine_calls.specs.CallersCoroutines.{coroutines_of_caller}
+use Rattle.coroutine_calls.specs.CoWait.{wait_tests}
+use Rattle.coroutine_calls.specs.CreateCo.{create_tests}
+use Rattle.coroutine_calls.specs.DeleteCo.{delete_tests}
+use Rattle.coroutine_calls.specs.ResumeCo.{resume_tests}
+use Rattle.kernel_calls.specs.Calls.{Called}
+use Rattle.kernel_calls.specs.Requests.{call_of}
+use Rattle.kernel_calls.specs.declared.requests.CallOutcome.TheVariants.{Done}
+use Rattle.kernel_calls.specs.declared.requests.KernelCall.{KernelCall}
+use Rattle.kernel_calls.specs.declared.requests.KernelCall.TheVariants.{AddModule, CallCo, ChangePri, CoWait, CreateCo, CreateTask, DeleteCo, DeleteTask, Dqpkt, Freevec, Getvec, Hold, MulDiv, Qpkt, Quit, Release, ResumeCo, SetFlags, TaskWait, TestFlags, Unload, Wrch}
+
+-- the tests of each call in their order, each with the code of its refusal
+abbrev pub tests_of : List ℕ → Lists → KernelCall → List (Bool × ℕ)
+tests_of s l (Quit result) = []
+tests_of s l (Getvec u) = getvec_tests l u
+tests_of s l (Freevec v) = if v == 0 then [] else freevec_tests l v
+tests_of s l (CreateTask m u pri) = creation_tests s l 0 (m ∷ []) u pri
+tests_of s l (DeleteTask id) = guest_tests l id ++ deletion_tests l id
+tests_of s l (ChangePri id pri) = guest_tests l id ++ priority_tests l id pri
+tests_of s l (SetFlags id flags) = guest_tests l id
+tests_of s l (TestFlags mask) = []
+tests_of s l (Hold id) = hold_tests l id
+tests_of s l (Release id) = release_tests l id
+tests_of s l TaskWait = []
+tests_of s l (Qpkt p) = qpkt_tests s l p
+tests_of s l (Dqpkt id p) = dqpkt_tests l id p
+tests_of s l (Unload m) = unload_tests l m
+tests_of s l (CreateCo fn u) = create_tests l u
+tests_of s l (DeleteCo c) = delete_tests l c
+tests_of s l (CallCo c v) = idle_tests c (coroutines_of_caller l)
+tests_of s l (ResumeCo c v) = resume_tests c (coroutines_of_caller l)
+tests_of s l (CoWait v) = wait_tests (coroutines_of_caller l)
+tests_of s l (Wrch ch) = []
+tests_of s l (MulDiv a b c) = []
+tests_of s l (AddModule id m) = addition_tests s l id m
+
+-- the guest asks for a call, and the first of its tests that fails has this code
+pub record IsRefused (s : List ℕ) (l : Lists) (r : Regs) (code : ℕ) : Type 0 where
+  pub call : KernelCall
+  pub asked : call_of s r ≡ Ok call
+  pub failed : first_refusal (tests_of s l call) ≡ Some code
+
+-- A is 0, B is the code, and PC is past the call; all else is as it was, and there are no events
+abbrev pub refused : ℕ → Lists → Regs → Called
+refused code l r = record {
+  lists = l;
+  plain = [];
+  regs = record r { a = 0; b = code; pc = add r.pc 1 };
+  bytes = [];
+  events = [];
+  outcome = Done;
+}
