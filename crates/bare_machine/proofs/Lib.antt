@@ -1,2 +1,3 @@
-pub mod RunSteps
 pub mod CodeLines
+pub mod Instructions
+pub mod Runs

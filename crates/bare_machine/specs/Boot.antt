@@ -1,14 +1,16 @@
 -- What a bare session puts into the machine before its first step.
-use Rattle.std.specs.Prelude.{ℕ, ◌≡◌, ◌+◌, ◌*◌, List, [], ◌∷◌, length, Result, Ok, Err, nat_le, replicate, if◌then◌else◌}
+use Rattle.std.specs.Prelude.{ℕ, ◌≡◌, ◌+◌, ◌*◌, List, [], ◌∷◌, length, None, Result, Ok, Err, nat_le, replicate, if◌then◌else◌}
 use Rattle.word_store.specs.Bytes.{set_byte_at}
 use Rattle.word_store.specs.declared.registers.Regs.{Regs}
 use Rattle.hunk_text.specs.TextReader.Refusal.{Refusal, refusal}
+use Rattle.hunk_text.specs.TextReader.Steps.{◌>>=◌}
 use Rattle.session_text.specs.declared.sessions.Session.{Session}
 use Rattle.session_text.specs.declared.sessions.SessionLine.{SessionLine}
 use Rattle.session_text.specs.declared.sessions.LineForm.{LineForm}
 use Rattle.session_text.specs.declared.sessions.LineForm.TheVariants.{Code, File, Task}
 use Rattle.bare_machine.specs.declared.boot.BootEnd.{BootEnd}
 use Rattle.bare_machine.specs.declared.boot.BootEnd.TheVariants.{Line, WantMemory}
+use Rattle.bare_machine.specs.State.{BareState}
 
 -- the byte address of the program
 abbrev pub program : ℕ
@@ -33,13 +35,18 @@ with_lines words a (line ∷ lines) =
     with_lines (with_bytes words a (code_of line.form)) (a + length (code_of line.form)) lines else
     Err (refusal line.line 1)
 
--- all other words are 0
-unfoldable pub boot : Session → Result (List ℕ) Refusal
-boot s = with_lines (replicate s.store 0) program s.lines
-
 -- PC is at the program, the stack frame at word 100 and the globals at word 20
 abbrev pub first_regs : Regs
 first_regs = record { a = 0; b = 0; c = 0; p = 100; g = 20; pc = program }
+
+abbrev pub first_state : List ℕ → BareState
+first_state words = record { words = words; regs = first_regs; steps = 0; stop = None }
+
+-- all words besides the code are 0
+unfoldable pub boot : Session → Result BareState Refusal
+boot s = do
+  words ← with_lines (replicate s.store 0) program s.lines
+  Ok (first_state words)
 
 -- what a booting function returned, seen by view, is what the definition gives, unless memory ran out
 abbrev pub BootEndsAs : {X : Type 0} → BootEnd → Result X Refusal → Type 0

@@ -1,5 +1,5 @@
 pub mod Calls
-pub mod Bare
+pub mod State
 pub mod Step
 pub mod Run
 pub mod Boot

@@ -1,8 +1,8 @@
 // What a bare session puts into its machine.
-ghost use Rattle.std.specs.Prelude.{◌≡◌, ◌+◌, ◌^◌, ◌<◌, ◌≤◌, length, IfOk};
-ghost use Rattle.bare_machine.specs.Boot.{Boots, boot, code_of, first_regs, with_bytes, with_lines};
+ghost use Rattle.std.specs.Prelude.{◌≡◌, ◌+◌, ◌^◌, ◌<◌, ◌≤◌, [], length, IfOk};
+ghost use Rattle.bare_machine.specs.Boot.{Boots, boot, code_of, with_bytes, with_lines};
 
-use crate::bare::Bare;
+use crate::{Bare, BareParts};
 use session_text::{LineForm, Session, SessionLine};
 use std::alloc::Global;
 use word_store::{NoStoreMemory, Regs, Store};
@@ -29,12 +29,13 @@ impl From<NoStoreMemory> for BootEnd {
     }
 }
 
-/// The machine of a bare session: its code stands in the store from byte 800 on, and all other words are 0.
+/// The machine of a bare session before its first step: its code stands in the store from byte 800 on, and all other words are 0.
+/// The first line whose bytes pass the store's end is refused with code 1. `WantMemory` comes only where memory could not be had.
 #[tactic(auto, unfolding(crate::specs::Boot::boot))]
 pub fn boot(alloc: Global, session: &Session) -> Result<Bare, BootEnd>
     requires { session.now.store ≤ 4194304 }
-    ensures store { Boots (λ m. m.store) result (boot session.now) }
-    ensures regs { IfOk result (λ m. m.regs ≡ first_regs) }
+    ensures state { Boots (λ m. m.state) result (boot session.now) }
+    ensures output { IfOk result (λ m. m.output ≡ []) }
 {
     let mut store = Store::new(alloc, session.store)?;
     load_lines(&mut store, session.lines.as_slice())?;
@@ -46,7 +47,11 @@ pub fn boot(alloc: Global, session: &Session) -> Result<Bare, BootEnd>
         g: 20,
         pc: PROGRAM,
     };
-    Ok(Bare { store, regs })
+    Ok(Bare::from_parts(BareParts {
+        store,
+        regs,
+        step: 0,
+    }))
 }
 
 // Puts the code of the lines into the store, from byte 800 on.

@@ -1,10 +1,13 @@
-// The machine: what a session puts into it, its steps, its calls, and its runs.
+// The machine without a kernel: what a session puts into it, its steps, its calls, and its runs.
 #![tactic(auto)]
 
-pub mod bare;
 pub mod boot;
 pub mod calls;
 pub mod laws;
-pub mod run;
+pub mod machine;
+pub mod parts;
+mod passes;
+mod steps;
 
-pub use bare::{Bare, Step};
+pub use machine::Bare;
+pub use parts::BareParts;

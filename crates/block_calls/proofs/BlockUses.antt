@@ -12,8 +12,9 @@ use Rattle.call_answers.proofs.Shown.KernelDispatch.GetvecChain.UsedBlocks.{is_u
 use Rattle.call_answers.specs.KernelDispatch.HunkLoader.HeldModules.{module_address}
 use Rattle.call_answers.specs.KernelDispatch.TaskBlock.Lists.{coroutines_in}
 use Rattle.call_answers.specs.KernelDispatch.TaskBlock.TaskChain.{tasks_in}
-use Rattle.call_answers.specs.KernelDispatch.KernelModel.BlockUse.{Use, coroutine_addresses, use_of_data}
-use Rattle.call_answers.specs.KernelDispatch.KernelModel.BlockUse.Use.{Free, OfCoroutine, OfModule, OfResidents, OfTask, User}
+use Rattle.call_answers.specs.KernelDispatch.KernelModel.BlockUse.{coroutine_addresses, use_of_data}
+use Rattle.call_answers.specs.KernelDispatch.KernelModel.declared.uses.Use.{Use}
+use Rattle.call_answers.specs.KernelDispatch.KernelModel.declared.uses.Use.TheVariants.{Free, OfCoroutine, OfModule, OfResidents, OfTask, User}
 use Rattle.call_answers.specs.KernelDispatch.KernelModel.HoldsLists.{HoldsLists}
 use Rattle.call_answers.specs.KernelDispatch.KernelModel.KernelRanges.{has_residents}
 use Rattle.call_answers.specs.KernelDispatch.KernelModel.Lists.{Lists}
@@ -60,21 +61,20 @@ module _ (l : Lists) (v : ℕ) where
   abbrev c' : Bool
   c' = has v (flat_map coroutine_addresses l.tasks)
 
-  pub use-residents : r' ≡ true → true ≡ not (is_user (use_of_data l v))
-  use-residents r = ap (λ x. not (is_user (use_by x t' m' c'))) (sym r)
+  pub use-residents : r' ≡ true → OfResidents ≡ use_of_data l v
+  use-residents r = ap (λ x. use_by x t' m' c') (sym r)
 
-  pub use-task : r' ≡ false → t' ≡ true → true ≡ not (is_user (use_of_data l v))
-  use-task r t = λ i. not (is_user (use_by (sym r i) (sym t i) m' c'))
+  pub use-task : r' ≡ false → t' ≡ true → OfTask ≡ use_of_data l v
+  use-task r t = λ i. use_by (sym r i) (sym t i) m' c'
 
-  pub use-module : r' ≡ false → t' ≡ false → m' ≡ true → true ≡ not (is_user (use_of_data l v))
-  use-module r t m = λ i. not (is_user (use_by (sym r i) (sym t i) (sym m i) c'))
+  pub use-module : r' ≡ false → t' ≡ false → m' ≡ true → OfModule ≡ use_of_data l v
+  use-module r t m = λ i. use_by (sym r i) (sym t i) (sym m i) c'
 
-  pub use-coroutine : r' ≡ false → t' ≡ false → m' ≡ false → c' ≡ not (is_user (use_of_data l v))
-  use-coroutine r t m = by c' refl ∙ (λ i. not (is_user (use_by (sym r i) (sym t i) (sym m i) c')))
-    where
-      by : (x : Bool) → c' ≡ x → x ≡ not (is_user (use_by false false false x))
-      by true e = refl
-      by false e = refl
+  pub use-coroutine : r' ≡ false → t' ≡ false → m' ≡ false → c' ≡ true → OfCoroutine ≡ use_of_data l v
+  use-coroutine r t m c = λ i. use_by (sym r i) (sym t i) (sym m i) (sym c i)
+
+  pub use-user : r' ≡ false → t' ≡ false → m' ≡ false → c' ≡ false → User ≡ use_of_data l v
+  use-user r t m c = λ i. use_by (sym r i) (sym t i) (sym m i) (sym c i)
 
 -- a block of a user is none of the others
 pub user-is : (u : Use) → is_user u ≡ true → u ≡ User
@@ -84,14 +84,6 @@ user-is OfTask e = cc
 user-is OfModule e = cc
 user-is OfCoroutine e = cc
 user-is OfResidents e = cc
-
-pub not-user : (b : Bool) → true ≡ not b → b ≡ false
-not-user true e = cc
-not-user false e = refl
-
-pub is-user : (b : Bool) → false ≡ not b → b ≡ true
-is-user true e = refl
-is-user false e = cc
 
 -- ---- the used block at v is the one that holds v
 
@@ -136,14 +128,14 @@ module _ (s : List ℕ) (l : Lists) (v : ℕ) (h : HoldsLists s l) where
           absurd (false≢true (sym test ∙ ap (is_used_at v) (sym it) ∙ f.1))
 
   -- it begins there, and is not a user's
-  pub not-users : true ≡ not (is_user (use_of_data l v)) → is_users_block l v ≡ false
-  not-users e = ap (λ b. b && is_some (used_at v l.blocks)) (not-user (is_user (use_of_data l v)) e)
+  pub not-users : is_user (use_of_data l v) ≡ false → is_users_block l v ≡ false
+  not-users e = ap (λ b. b && is_some (used_at v l.blocks)) e
 
   -- or is
-  pub users-here : (o : Option Block) (b : Block) → o ≡ holding v (blocks_in s) → o ≡ Some b → is_used_at v b ≡ true → false ≡ not (is_user (use_of_data l v)) → IsUsersBlock l v (Ok b)
+  pub users-here : (o : Option Block) (b : Block) → o ≡ holding v (blocks_in s) → o ≡ Some b → is_used_at v b ≡ true → is_user (use_of_data l v) ≡ true → IsUsersBlock l v (Ok b)
   users-here o b is some test e =
       let t = is_used_at-true v b test in (
         ap (λ z. used_at z l.blocks) (sym t.1)
             ∙ holding-used_at 200 l.blocks (l.size - 2) v b h.valid.blocks (ap (holding v) (sym (reads s l h).blocks) ∙ sym is ∙ some) t.0,
-        user-is (use_of_data l v) (is-user (is_user (use_of_data l v)) e),
+        user-is (use_of_data l v) e,
       )

@@ -8,7 +8,7 @@ use Rattle.call_answers.specs.KernelDispatch.GetvecChain.Block.{block_end, is_us
 use Rattle.call_answers.specs.KernelDispatch.GetvecChain.Give.{given_store}
 use Rattle.call_answers.proofs.Shown.KernelDispatch.GetvecChain.UsedBlocks.{is_used_at-true}
 use Rattle.call_answers.specs.KernelDispatch.KernelModel.BlockUse.{use_of_data}
-use Rattle.call_answers.specs.KernelDispatch.KernelModel.BlockUse.Use.{User}
+use Rattle.call_answers.specs.KernelDispatch.KernelModel.declared.uses.Use.TheVariants.{User}
 use Rattle.call_answers.specs.KernelDispatch.KernelModel.ChangedStore.{HasKeeper}
 use Rattle.call_answers.specs.KernelDispatch.KernelModel.Changes.{AreUnowned, IsIdleBlock}
 use Rattle.call_answers.specs.KernelDispatch.KernelModel.Lists.{Lists, queued}

@@ -14,7 +14,7 @@ use Rattle.call_answers.proofs.Shown.KernelDispatch.GetvecChain.UsedBlocks.{has_
 use Rattle.call_answers.specs.KernelDispatch.PacketQueue.QueueWords.{QueuedPacket}
 use Rattle.call_answers.proofs.Shown.KernelDispatch.LinkedList.AllMembers.{all-append}
 use Rattle.call_answers.specs.KernelDispatch.KernelModel.BlockUse.{use_of_data}
-use Rattle.call_answers.specs.KernelDispatch.KernelModel.BlockUse.Use.{User}
+use Rattle.call_answers.specs.KernelDispatch.KernelModel.declared.uses.Use.TheVariants.{User}
 use Rattle.call_answers.specs.KernelDispatch.KernelModel.Changes.{AreUnowned, IsIdleBlock, with_blocks}
 use Rattle.call_answers.specs.KernelDispatch.KernelModel.Lists.{Lists, queued}
 use Rattle.call_answers.specs.KernelDispatch.KernelModel.Owned.{owned}

@@ -6,8 +6,9 @@ use Rattle.call_answers.specs.KernelDispatch.GetvecChain.declared.pieces.Block.{
 use Rattle.call_answers.specs.KernelDispatch.GetvecChain.Block.{has_data}
 use Rattle.call_answers.specs.KernelDispatch.GetvecChain.Give.{given}
 use Rattle.call_answers.specs.KernelDispatch.GetvecChain.Tiling.{used_at}
-use Rattle.call_answers.specs.KernelDispatch.KernelModel.BlockUse.{Use, use_of_data}
-use Rattle.call_answers.specs.KernelDispatch.KernelModel.BlockUse.Use.{Free, OfCoroutine, OfModule, OfResidents, OfTask, User}
+use Rattle.call_answers.specs.KernelDispatch.KernelModel.BlockUse.{use_of_data}
+use Rattle.call_answers.specs.KernelDispatch.KernelModel.declared.uses.Use.{Use}
+use Rattle.call_answers.specs.KernelDispatch.KernelModel.declared.uses.Use.TheVariants.{Free, OfCoroutine, OfModule, OfResidents, OfTask, User}
 use Rattle.call_answers.specs.KernelDispatch.KernelModel.Changes.{with_blocks}
 use Rattle.call_answers.specs.KernelDispatch.KernelModel.Lists.{Lists, queued}
 use Rattle.call_answers.specs.Made.{Made, done, unless_refused}

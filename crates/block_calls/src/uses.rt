@@ -1,12 +1,12 @@
 // What a block is used for.
-ghost use Rattle.std.specs.Prelude.{◌≡◌, ◌&&◌, ◌==◌, not, slice_index, true};
+ghost use Rattle.std.specs.Prelude.{◌≡◌, ◌&&◌, ◌==◌, ◌<◌, ◌+◌, ◌^◌, slice_index, true};
 ghost use Rattle.std.specs.List.{AllByRecursion, list_any};
 ghost use Rattle.call_answers.specs.KernelDispatch.LinkedList.Places.{has};
 ghost use Rattle.call_answers.specs.KernelDispatch.LinkedList.Walk.{CanWalk};
 ghost use Rattle.call_answers.specs.KernelDispatch.TaskBlock.Lists.{coroutines_in};
 ghost use Rattle.call_answers.specs.KernelDispatch.TaskBlock.RootWords.{first_task};
 ghost use Rattle.call_answers.specs.KernelDispatch.TaskBlock.TaskChain.{task_link, tasks_in};
-ghost use Rattle.call_answers.specs.KernelDispatch.KernelModel.BlockUse.{use_of_data};
+ghost use Rattle.call_answers.specs.KernelDispatch.KernelModel.BlockUse.{use_of, use_of_data};
 ghost use Rattle.call_answers.specs.KernelDispatch.KernelModel.HoldsLists.{HoldsLists};
 ghost use Rattle.call_answers.specs.KernelDispatch.KernelModel.KernelRanges.{CanWalkTask, has_residents};
 ghost use Rattle.call_answers.specs.KernelDispatch.KernelModel.Lists.{Lists};
@@ -14,7 +14,9 @@ ghost use Rattle.block_calls.specs.Freevec.{IsUsersBlock, is_user};
 
 use call_answers::codes::NO_USER_BLOCK;
 use call_answers::is_module;
-use call_answers::kernel_dispatch::{Block, RootField, block_of, coroutine_list, root, tasks};
+use call_answers::kernel_dispatch::{
+    Block, RootField, Use, block_of, coroutine_list, root, tasks,
+};
 use call_answers::numbers::RESIDENT_DATA;
 use word_store::Store;
 
@@ -27,27 +29,51 @@ pub(crate) fn users_block(store: &Store, v: u32) -> Result<Block, u32>
     if !block.is_used_at(v) {
         return Err(NO_USER_BLOCK);
     }
-    if is_of_lists(store, v) {
+    if !is_user(use_of_data(store, v)) {
         return Err(NO_USER_BLOCK);
     }
     Ok(block)
 }
 
-// Whether the data of the residents, or of a task, a module or a coroutine begin at v.
-fn is_of_lists(store: &Store, v: u32) -> bool
+/// What the block is used for.
+pub fn use_of(store: &Store, block: Block) -> Use
+    requires lists { (l : Lists) × HoldsLists store.now l }
+    requires inside { block.start + 1 < 2 ^ 32 }
+    ensures { (l : Lists) → HoldsLists store.now l → result ≡ use_of l block }
+{
+    if block.free {
+        return Use::Free;
+    }
+    use_of_data(store, block.start + 1)
+}
+
+// What the used block is used for whose data begin at v.
+fn use_of_data(store: &Store, v: u32) -> Use
     requires { (l : Lists) × HoldsLists store.now l }
-    ensures { (l : Lists) → HoldsLists store.now l → result ≡ not (is_user (use_of_data l v)) }
+    ensures { (l : Lists) → HoldsLists store.now l → result ≡ use_of_data l v }
 {
     if is_of_residents(store, v) {
-        return true;
+        return Use::OfResidents;
     }
     if is_task(store, v) {
-        return true;
+        return Use::OfTask;
     }
     if is_module(store, v) {
-        return true;
+        return Use::OfModule;
     }
-    is_coroutine(store, v)
+    if is_coroutine(store, v) {
+        return Use::OfCoroutine;
+    }
+    Use::User
+}
+
+fn is_user(used: Use) -> bool
+    ensures { result ≡ is_user used }
+{
+    match used {
+        Use::User => true,
+        Use::Free | Use::OfTask | Use::OfModule | Use::OfCoroutine | Use::OfResidents => false,
+    }
 }
 
 fn is_of_residents(store: &Store, v: u32) -> bool

@@ -29,7 +29,7 @@ use Rattle.block_calls.specs.KernelDispatch.Coroutines.Refusals.{idle_answer}
 use Rattle.block_calls.proofs.Shown.KernelDispatch.Coroutines.CreationExchanges.{delete-exchange}
 use Rattle.block_calls.proofs.Shown.KernelDispatch.Coroutines.HeldCoroutineLists.{are_coroutines}
 use Rattle.block_calls.specs.KernelDispatch.KernelModel.BlockUse.{use_of_data}
-use Rattle.block_calls.specs.KernelDispatch.KernelModel.BlockUse.Use.{User}
+use Rattle.block_calls.specs.KernelDispatch.KernelModel.declared.uses.Use.TheVariants.{User}
 use Rattle.block_calls.specs.KernelDispatch.KernelModel.ChangedStore.{IsChanged}
 use Rattle.block_calls.specs.KernelDispatch.KernelModel.Changes.{AreUnowned, IsIdleBlock, with_coroutines, with_tasks}
 use Rattle.block_calls.specs.KernelDispatch.KernelModel.HoldsLists.{HoldsLists}

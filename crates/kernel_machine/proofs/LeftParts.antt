@@ -3,7 +3,8 @@ use Rattle.std.proofs.Common.{◌≡◌, ℕ, ◌++◌, List, length, Bool, Opti
 use Rattle.word_store.specs.declared.registers.Regs.{Regs}
 use Rattle.kernel_steps.specs.KernelCalls.OwnedWords.Owned.{Pairs, written}
 use Rattle.kernel_steps.specs.KernelCalls.KernelModel.ChangedStore.{IsChanged, Knows}
-use Rattle.kernel_steps.specs.KernelCalls.KernelModel.Kernel.{Kernel, Stop}
+use Rattle.kernel_steps.specs.KernelCalls.KernelModel.Kernel.{Kernel}
+use Rattle.kernel_steps.specs.KernelCalls.KernelModel.declared.stops.Stop.{Stop}
 use Rattle.kernel_steps.specs.KernelCalls.KernelModel.Lists.{Lists}
 use Rattle.kernel_steps.proofs.Shown.KernelCalls.KernelModel.NotedInTurn.{notes-none, notes-then}
 use Rattle.kernel_steps.specs.KernelCalls.WordKinds.ByteMap.{MarksAll}
@@ -32,11 +33,11 @@ module _ (p : Parts) (k : Kernel) (st : Stands p k) where
       → regs ≡ r → l.period ≡ k.lists.period → Stands (record p { store = t; regs = regs; kinds = marks }) (record (with_store (written plain s) l k) { regs = r; stop = stop })
   stands-changed s t marks regs l plain r stop size c knows room e same =
       let own = c.lists.valid.owns in
-      let image = image-stored s t l k plain st.full c.lists.size c.written in
-      let words = plain-stored (written plain s) l k st.full own in
+      let image = image-stored s t l k plain c.lists.size c.written in
+      let words = plain-stored (written plain s) l k own in
       record {
-        full = st.full;
         keeper = record { lists = c.lists; knows = knows; enough = omega (arith, c.size, size, room, st.keeper.enough) };
+        marks = room ∙ st.marks ∙ sym size ∙ sym c.size;
         image = record { size = image.size; holds = image.holds; plain = image.plain };
         plain = record { size = words.size; plain = words.plain; owned = words.owned };
         regs = e;

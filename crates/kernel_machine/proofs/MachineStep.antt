@@ -1,71 +1,67 @@
 -- A step of a whole machine.
 use Rattle.std.proofs.Common.{◌≡◌, ℕ, ◌<◌, Option, Some, None, refl, sym, ap, ◌∙◌, subst}
-use Rattle.std.specs.Option.{option_map}
 use Rattle.kernel_steps.specs.KernelCalls.KernelModel.Ranges.{most_steps}
-use Rattle.kernel_steps.specs.KernelCalls.KernelModel.Kernel.{Kernel, Stop as KernelStop}
-use Rattle.kernel_steps.specs.KernelCalls.KernelModel.ValidKernel.{IsFullMachine}
+use Rattle.kernel_steps.specs.KernelCalls.KernelModel.Kernel.{Kernel}
+use Rattle.kernel_steps.specs.KernelCalls.KernelModel.ValidKernel.{IsValid}
 use Rattle.kernel_steps.specs.KernelCalls.CallAnswers.Outside.{Outside}
 use Rattle.kernel_steps.specs.KernelCalls.KernelModel.declared.stops.Stop.{Stop}
 use Rattle.kernel_machine.specs.declared.parts.Parts.{Parts}
-use Rattle.kernel_machine.specs.Stops.{stop_of}
 use Rattle.kernel_steps.specs.Parts.{IsTaken}
 use Rattle.kernel_steps.specs.Step.{Stepped, quietly, run, step}
 use Rattle.kernel_steps.proofs.StepKept.{step-left}
 use Rattle.kernel_machine.specs.Leaves.{Leaves}
-use Rattle.kernel_machine.specs.Machine.{IsWhole, kernel_of, stop_in}
+use Rattle.kernel_machine.specs.Machine.{IsWhole, kernel_of}
 use Rattle.kernel_machine.specs.Runs.{HasPassed}
-use Rattle.kernel_machine.proofs.OneMachine.{one-machine, stop-of, there-and-back, whole}
+use Rattle.kernel_machine.proofs.OneMachine.{one-machine, stop-of, whole}
 use Rattle.kernel_machine.proofs.StepParts.{step-stays}
 
 module _ (p : Parts) (stop : Option Stop) (w : IsWhole p stop) where
   abbrev now : Kernel
   now = kernel_of p stop
 
-  pub stopped-now : stop ≡ option_map stop_of now.stop
-  stopped-now = w.stopped ∙ ap (option_map stop_of) (sym (stop-of p stop))
+  pub stopped-now : stop ≡ now.stop
+  stopped-now = sym (stop-of p stop)
 
-  module _ (few : now.steps < most_steps) (q : Parts) (r : Option Stop) (o n : Outside) (left : Leaves q o n (step now)) (ends : r ≡ option_map stop_of (step now).kernel.stop) (taken : now.stop ≡ None → IsTaken now) where
-    full-after : IsFullMachine (step now).kernel
-    full-after = on now.stop refl
+  module _ (few : now.steps < most_steps) (q : Parts) (r : Option Stop) (o n : Outside) (left : Leaves q o n (step now)) (ends : r ≡ (step now).kernel.stop) (taken : now.stop ≡ None → IsTaken now) where
+    valid-after : IsValid (step now).kernel
+    valid-after = on now.stop refl
       where
-        on : (s : Option KernelStop) → now.stop ≡ s → IsFullMachine (step now).kernel
-        on None goes = (step-left now w.valid goes few (taken goes)).0
-        on (Some s) e = subst (λ (x : Stepped). IsFullMachine x.kernel) (sym (step-stays now s e)) w.valid
+        on : (s : Option Stop) → now.stop ≡ s → IsValid (step now).kernel
+        on None goes = step-left now w.valid goes few (taken goes)
+        on (Some s) e = subst (λ (x : Stepped). IsValid x.kernel) (sym (step-stays now s e)) w.valid
 
     pub kernel-after : kernel_of q r ≡ (step now).kernel
-    kernel-after = one-machine q (step now).kernel left.stands r (there-and-back (step now).kernel.stop r ends).0
+    kernel-after = one-machine q (step now).kernel left.stands r (sym ends)
 
     pub whole-after : IsWhole q r
-    whole-after =
-        let both = there-and-back (step now).kernel.stop r ends in
-        whole q (step now).kernel left.stands full-after r both.0 both.1
+    whole-after = whole q (step now).kernel left.stands valid-after r (sym ends)
 
-    pub stop-after : r ≡ option_map stop_of (kernel_of q r).stop
-    stop-after = ends ∙ ap (λ (k : Kernel). option_map stop_of k.stop) (sym kernel-after)
+    pub stop-after : r ≡ (kernel_of q r).stop
+    stop-after = sym (stop-of q r)
 
 -- ---- quiet steps
 
 module _ (p : Parts) (stop : Option Stop) (w : IsWhole p stop) (goes : (kernel_of p stop).stop ≡ None) where
   -- it has not stopped
   pub not-stopped : stop ≡ None
-  not-stopped = stopped-now p stop w ∙ ap (option_map stop_of) goes
+  not-stopped = stopped-now p stop w ∙ goes
 
   module _ (n : ℕ) (q : Parts) (h : HasPassed n (kernel_of p None) q) where
     -- the same kernel
     here : kernel_of p None ≡ kernel_of p stop
     here = ap (kernel_of p) (sym not-stopped)
 
-    ends-none : (run n (kernel_of p None)).kernel.stop ≡ stop_in stop
-    ends-none = h.goes ∙ ap stop_in (sym not-stopped)
+    ends-none : (run n (kernel_of p None)).kernel.stop ≡ stop
+    ends-none = h.goes ∙ sym not-stopped
 
     kernel-passed : kernel_of q stop ≡ (run n (kernel_of p None)).kernel
     kernel-passed = one-machine q (run n (kernel_of p None)).kernel h.stands stop ends-none
 
     pub whole-passed : IsWhole q stop
-    whole-passed = whole q (run n (kernel_of p None)).kernel h.stands h.valid stop ends-none w.stopped
+    whole-passed = whole q (run n (kernel_of p None)).kernel h.stands h.valid stop ends-none
 
     pub run-passed : run n (kernel_of p stop) ≡ quietly (kernel_of q stop)
     run-passed = ap (run n) (sym here) ∙ h.quiet ∙ ap quietly (sym kernel-passed)
 
     pub goes-passed : (kernel_of q stop).stop ≡ None
-    goes-passed = stop-of q stop ∙ ap stop_in not-stopped
+    goes-passed = stop-of q stop ∙ not-stopped

@@ -1,30 +1,28 @@
 -- The parts of a machine stand for one kernel alone.
 use Rattle.std.proofs.Common.{◌≡◌, ℕ, ◌<◌, List, [], length, Option, Some, None, refl, sym, ap, ◌∙◌, subst, arith, inl, inr}
-use Rattle.std.specs.Option.{option_map}
 use Rattle.std.proofs.lemmas.Bool.{cases_lt}
 use Rattle.std.proofs.lemmas.List.{ext_get_or}
 use Rattle.kernel_steps.specs.KernelCalls.OwnedWords.Owned.{owners}
 use Rattle.kernel_steps.specs.KernelCalls.KernelModel.Image.{HasPlainWords, IsImage, plain_at, plain_words}
-use Rattle.kernel_steps.specs.KernelCalls.KernelModel.Kernel.{Kernel, Stop as KernelStop, owned_by}
-use Rattle.kernel_steps.specs.KernelCalls.KernelModel.Kernel.Stop.{Quit as KernelQuit, Finish as KernelFinish, Fault as KernelFault}
+use Rattle.kernel_steps.specs.KernelCalls.KernelModel.Kernel.{Kernel}
+use Rattle.kernel_steps.specs.KernelCalls.KernelModel.Owned.{owned}
 use Rattle.kernel_steps.specs.KernelCalls.KernelModel.Recovered.{lists_in}
-use Rattle.kernel_steps.specs.KernelCalls.KernelModel.ValidKernel.{IsFullMachine}
+use Rattle.kernel_steps.specs.KernelCalls.KernelModel.ValidKernel.{IsValid}
 use Rattle.kernel_steps.proofs.Shown.KernelCalls.KernelModel.RecoveredLists.{lists-back}
 use Rattle.kernel_steps.specs.KernelCalls.KernelModel.declared.stops.Stop.{Stop}
 use Rattle.kernel_machine.specs.declared.parts.Parts.{Parts}
 use Rattle.kernel_machine.specs.Stands.{Stands}
-use Rattle.kernel_machine.specs.Stops.{stop_of}
 use Rattle.kernel_steps.specs.Step.{with_store}
 use Rattle.kernel_steps.proofs.StoredWords.{image-stored, plain-stored}
-use Rattle.kernel_machine.specs.Machine.{IsWhole, kernel_of, kernel_stop, stop_in}
+use Rattle.kernel_machine.specs.Machine.{IsWhole, kernel_of}
 
 -- the plain words are those of the store that nobody owns
-module _ (s : List ℕ) (k j : Kernel) (p : HasPlainWords k) (q : HasPlainWords j) (is : IsImage s k) (js : IsImage s j) (words : owned_by k ≡ owned_by j) where
+module _ (s : List ℕ) (k j : Kernel) (p : HasPlainWords k) (q : HasPlainWords j) (is : IsImage s k) (js : IsImage s j) (words : owned k.lists ≡ owned j.lists) where
   same-at : (a : ℕ) → a < length k.plain → plain_at k a ≡ plain_at j a
-  same-at a low = elim (cases_lt 0 (owners a (owned_by k))) [
+  same-at a low = elim (cases_lt 0 (owners a (owned k.lists))) [
     | inl some ↦ p.owned a some ∙ sym (q.owned a (omega (arith, some, ap (owners a) words)))
     | inr few ↦
-        let none : owners a (owned_by k) ≡ 0 = omega (arith, few) in
+        let none : owners a (owned k.lists) ≡ 0 = omega (arith, few) in
         let inside : a < length s = omega (arith, low, p.size, is.size) in
         is.plain a inside none ∙ sym (js.plain a inside (sym (ap (owners a) words) ∙ none))
   ]
@@ -32,7 +30,7 @@ module _ (s : List ℕ) (k j : Kernel) (p : HasPlainWords k) (q : HasPlainWords 
   pub same-plain : k.plain ≡ j.plain
   same-plain = ext_get_or None k.plain j.plain (p.size ∙ sym is.size ∙ js.size ∙ sym q.size) same-at
 
-pub stop-of : (p : Parts) (stop : Option Stop) → (kernel_of p stop).stop ≡ stop_in stop
+pub stop-of : (p : Parts) (stop : Option Stop) → (kernel_of p stop).stop ≡ stop
 unfolding kernel_of
 stop-of p stop = refl
 
@@ -45,16 +43,15 @@ module _ (p : Parts) (k : Kernel) (st : Stands p k) where
   plain-one =
       let h = st.keeper.lists in
       let words : Kernel = with_store p.store k.lists k in
-      same-plain p.store k words st.plain (plain-stored p.store k.lists k st.full h.valid.owns) st.image
-      (image-stored p.store p.store k.lists k [] st.full h.size (record { holds = h.holds; others = λ a none. refl })) refl
+      same-plain p.store k words st.plain (plain-stored p.store k.lists k h.valid.owns) st.image
+      (image-stored p.store p.store k.lists k [] h.size (record { holds = h.holds; others = λ a none. refl })) refl
 
-  pub one-machine : (stop : Option Stop) → k.stop ≡ stop_in stop → kernel_of p stop ≡ k
+  pub one-machine : (stop : Option Stop) → k.stop ≡ stop → kernel_of p stop ≡ k
   unfolding kernel_of
   one-machine stop e =
       let lists : lists_in p.store ≡ k.lists = lists-one in
       let plain : plain_words p.store (lists_in p.store) ≡ k.plain = ap (plain_words p.store) lists ∙ sym plain-one in
       let whole : ◌≡◌ {A = Kernel} (kernel_of p stop) k = λ i. record {
-        bare = sym st.full i;
         lists = lists i;
         plain = plain i;
         regs = st.regs i;
@@ -70,22 +67,5 @@ module _ (p : Parts) (k : Kernel) (st : Stands p k) where
       whole
 
   -- and is a whole machine with it
-  pub whole : IsFullMachine k → (stop : Option Stop) → k.stop ≡ stop_in stop → stop ≡ option_map stop_of (stop_in stop) → IsWhole p stop
-  whole h stop e same = record {
-    stands = subst (Stands p) (sym (one-machine stop e)) st;
-    valid = subst IsFullMachine (sym (one-machine stop e)) h;
-    stopped = same;
-  }
-
--- a stop that a kernel has, in the words of a run and back
-pub there-and-back : (o : Option KernelStop) (stop : Option Stop) → stop ≡ option_map stop_of o → (o ≡ stop_in stop) × (stop ≡ option_map stop_of (stop_in stop))
-there-and-back o stop e = (back o ∙ ap stop_in (sym e), e ∙ ap (option_map stop_of) (back o ∙ ap stop_in (sym e)))
-  where
-    one : (s : KernelStop) → Some s ≡ kernel_stop (stop_of s)
-    one (KernelQuit result) = refl
-    one KernelFinish = refl
-    one (KernelFault code address task) = refl
-
-    back : (o : Option KernelStop) → o ≡ stop_in (option_map stop_of o)
-    back None = refl
-    back (Some s) = one s
+  pub whole : IsValid k → (stop : Option Stop) → k.stop ≡ stop → IsWhole p stop
+  whole h stop e = record { stands = subst (Stands p) (sym (one-machine stop e)) st; valid = subst IsValid (sym (one-machine stop e)) h }

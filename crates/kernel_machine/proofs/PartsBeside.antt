@@ -8,8 +8,8 @@ use Rattle.kernel_machine.specs.Stands.{Stands}
 pub stands-beside : (p : Parts) (k : Kernel) → Stands p k → {console now : Console} {shell put : Shell} {disc new : Disc} {pipes held : List (Option Pipe)} → console ≡ now → shell ≡ put → disc ≡ new → pipes ≡ held
     → Stands (record p { console = console; shell = shell; disc = disc; pipes = pipes }) (record k { console = now; shell = put; disc = new; pipes = held })
 stands-beside p k st console shell disc pipes = record {
-  full = st.full;
   keeper = st.keeper;
+  marks = st.marks;
   image = record { size = st.image.size; holds = st.image.holds; plain = st.image.plain };
   plain = record { size = st.plain.size; plain = st.plain.plain; owned = st.plain.owned };
   regs = st.regs;

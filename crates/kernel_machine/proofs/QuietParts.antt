@@ -18,6 +18,7 @@ use Rattle.kernel_steps.proofs.Shown.KernelDevices.ClockDevice.FirstDue.{due-som
 use Rattle.kernel_machine.specs.declared.parts.Parts.{Parts}
 use Rattle.kernel_steps.specs.Quiet.{AreDueAfter, AwaitsTick, ComeAfter, IsQuietFor}
 use Rattle.kernel_steps.proofs.NextTick.{some-period}
+use Rattle.kernel_machine.specs.Script.{still_to_come}
 use Rattle.kernel_machine.specs.Machine.{IsWhole, kernel_of}
 use Rattle.kernel_machine.specs.Runs.{ServesNone}
 use Rattle.kernel_machine.proofs.OneMachine.{stop-of}
@@ -111,10 +112,10 @@ module _ (p : Parts) (w : IsWhole p None) where
   -- ---- all of them
 
   -- so that many steps are quiet, but for none
-  pub quiet-all : (m : ℕ) → ServesNone now → ComeAfter (p.step + m) p.keys → AwaitsTick ((p.step + m) / p.period) now.lists → IsQuietFor m now
+  pub quiet-all : (m : ℕ) → ServesNone now → ComeAfter (p.step + m) (still_to_come p.keys) → AwaitsTick ((p.step + m) / p.period) now.lists → IsQuietFor m now
   quiet-all m none keys clock = record {
     output = none.output;
     keyboard = none.keyboard;
-    keys = subst (ComeAfter (now.steps + m)) w.stands.keys (subst (λ n. ComeAfter (n + m) p.keys) w.stands.steps keys);
+    keys = subst (ComeAfter (now.steps + m)) w.stands.keys (subst (λ n. ComeAfter (n + m) (still_to_come p.keys)) w.stands.steps keys);
     clock = subst (λ n. AwaitsTick n now.lists) (λ i. (w.stands.steps i + m) / w.stands.period i) clock;
   }

@@ -10,7 +10,7 @@ use Rattle.kernel_steps.specs.KernelCalls.KernelModel.HoldsLists.{HoldsLists}
 use Rattle.kernel_steps.specs.KernelCalls.KernelModel.Image.{image}
 use Rattle.kernel_steps.specs.KernelCalls.KernelModel.Kernel.{Kernel}
 use Rattle.kernel_steps.specs.KernelCalls.KernelModel.Task.{is_guest_id}
-use Rattle.kernel_steps.specs.KernelCalls.KernelModel.ValidKernel.{IsFullMachine}
+use Rattle.kernel_steps.specs.KernelCalls.KernelModel.ValidKernel.{IsValid}
 use Rattle.kernel_steps.proofs.Shown.KernelCalls.KernelModel.ChangedLists.{changed-none, knows-same}
 use Rattle.kernel_steps.proofs.Shown.KernelCalls.KernelModel.ImageWords.{image-list}
 use Rattle.kernel_steps.specs.KernelCalls.WordKinds.ByteMap.{MarksAll}
@@ -22,9 +22,9 @@ use Rattle.kernel_machine.specs.Stands.{Stands}
 use Rattle.kernel_steps.specs.Quiet.{IsQuietFor, after_instruction_of, instruction_of, passed}
 use Rattle.kernel_steps.specs.Step.{Stepped, and_then, quietly, run, step, with_store}
 use Rattle.kernel_steps.proofs.NextTick.{some-period}
-use Rattle.kernel_steps.proofs.QuietMachines.{guest-full, idle-full}
+use Rattle.kernel_steps.proofs.QuietMachines.{guest-valid, idle-valid}
 use Rattle.kernel_steps.proofs.QuietSteps.{IsReady}
-use Rattle.kernel_steps.proofs.QuietSpans.{full-ready, guest-left, guest-passed, idle-run, quiet-first}
+use Rattle.kernel_steps.proofs.QuietSpans.{valid-ready, guest-left, guest-passed, idle-run, quiet-first}
 use Rattle.kernel_steps.proofs.Runs.{run-more}
 use Rattle.kernel_steps.proofs.StoredWords.{HasStore, store-holds}
 use Rattle.kernel_steps.proofs.QuietDevices.{ticked-store, ticks_to}
@@ -42,10 +42,10 @@ unfolding run
 run-one k = refl
 
 -- n steps that were quiet, and left this kernel
-passed-by : (n : ℕ) (k j : Kernel) (p : Parts) → run n k ≡ quietly j → Stands p j → IsFullMachine j → j.stop ≡ None → HasPassed n k p
+passed-by : (n : ℕ) (k j : Kernel) (p : Parts) → run n k ≡ quietly j → Stands p j → IsValid j → j.stop ≡ None → HasPassed n k p
 passed-by n k j p e st h goes =
     let same : (run n k).kernel ≡ j = ap (λ (x : Stepped). x.kernel) e in
-    record { quiet = e ∙ ap quietly (sym same); stands = subst (Stands p) (sym same) st; valid = subst IsFullMachine (sym same) h; goes = ap (λ (x : Kernel). x.stop) same ∙ goes }
+    record { quiet = e ∙ ap quietly (sym same); stands = subst (Stands p) (sym same) st; valid = subst IsValid (sym same) h; goes = ap (λ (x : Kernel). x.stop) same ∙ goes }
 
 -- none is taken
 pub passed-none : (p : Parts) (w : IsWhole p None) (n : ℕ) → n ≡ 0 → HasPassed n (kernel_of p None) p
@@ -58,12 +58,12 @@ pub stands-counted : (p : Parts) (k : Kernel) → Stands p k → (m : ℕ) → S
 stands-counted p k st m =
     let n : ℕ = (k.steps + m) / k.lists.period in
     let s : List ℕ = set p.store 108 n in
-    let here : HasStore p.store k = record { full = st.full; valid = st.keeper.lists.valid; image = st.image; plain = st.plain } in
+    let here : HasStore p.store k = record { valid = st.keeper.lists.valid; image = st.image; plain = st.plain } in
     let there : HasStore s (ticks_to n k) = ticked-store p.store k here n in
     let holds : HoldsLists s (with_tick n k.lists) = store-holds s (ticks_to n k) there in
     let stands : Stands (record p { store = s; step = p.step + m }) (passed m k) =
     record {
-      full = st.full;
+      marks = st.marks ∙ st.keeper.lists.size ∙ sym holds.size;
       keeper = record {
         lists = holds;
         knows = knows-same (MarksAll p.kinds) k.lists (with_tick n k.lists) (λ a. tick-owned k.lists n a) st.keeper.knows;
@@ -91,8 +91,8 @@ module _ (p : Parts) (w : IsWhole p None) where
 
   pub passed-idle : (m : ℕ) → now.lists.running ≡ 0 → IsQuietFor m now → p.step + m ≤ most_steps → HasPassed m now (counted m p)
   passed-idle m none q few =
-      passed-by m now (passed m now) (counted m p) (idle-run m (image now) now (full-ready now w.valid w.stands.full (stop-of p None)) none q) (stands-counted p now w.stands m)
-      (idle-full m now w.valid w.stands.full (stop-of p None) none (omega (arith, few, w.stands.steps)) q) (stop-of p None)
+      passed-by m now (passed m now) (counted m p) (idle-run m (image now) now (valid-ready now w.valid (stop-of p None)) none q) (stands-counted p now w.stands m)
+      (idle-valid m now w.valid (stop-of p None) none (omega (arith, few, w.stands.steps)) q) (stop-of p None)
 
 -- ---- a guest runs
 
@@ -131,7 +131,7 @@ module _ (k : Kernel) (n m : ℕ) (p : Parts) (way : IsOnWay k n (suc m) p) (few
     there = passed 1 (after_instruction_of here)
 
     ready : IsReady (image here) here
-    ready = full-ready here way.passed.valid way.passed.stands.full way.passed.goes
+    ready = valid-ready here way.passed.valid way.passed.goes
 
     quiet : IsQuietFor (suc m) here
     quiet = way.quiet (omega arith)
@@ -152,8 +152,8 @@ module _ (k : Kernel) (n m : ℕ) (p : Parts) (way : IsOnWay k n (suc m) p) (few
     pub on-way-next : (t : List ℕ) (r : Regs) → HoldsLists t here.lists → t ≡ (instruction_of here).words → r ≡ (instruction_of here).regs → IsOnWay k (n + 1) m (counted 1 (record p { store = t; regs = r }))
     on-way-next t r holds words regs =
         let q : Parts = record p { store = t; regs = r } in
-        let full : IsFullMachine there =
-        guest-full here way.passed.valid way.passed.stands.full way.passed.goes way.guest next (omega (arith, few, way.steps)) first in
+        let full : IsValid there =
+        guest-valid here way.passed.valid way.passed.goes way.guest next (omega (arith, few, way.steps)) first in
         record {
           passed = passed-by (n + 1) k there (counted 1 q) more-steps (stands-counted q (after_instruction_of here) (stands-instruction p here t r way.passed.stands holds words regs) 1) full way.passed.goes;
           guest = ap (λ (x : Kernel). is_guest_id x.lists.running) same ∙ way.guest;

@@ -2,14 +2,12 @@
 use Rattle.std.proofs.Common.{◌≡◌, ◌≢◌, ℕ, List, [], ◌∷◌, length, Bool, true, false, Option, Some, None, cond, eqb, refl, sym, ap, ◌∙◌, subst, arith}
 use Rattle.std.proofs.lemmas.Bool.{ne_eqb}
 use Rattle.std.specs.Prelude.{is_some}
-use Rattle.std.specs.Option.{option_map}
-use Rattle.kernel_steps.specs.KernelCalls.KernelModel.declared.stops.Stop.TheVariants.{Finish as MachineFinish}
+use Rattle.kernel_steps.specs.KernelCalls.KernelModel.declared.stops.Stop.TheVariants.{Finish}
 use Rattle.kernel_steps.specs.KernelCalls.PacketQueue.QueueWords.{QueuedPacket}
 use Rattle.ram_disc.specs.Disc.{Disc, IsDisc, shell_stream, stream_at}
 use Rattle.kernel_steps.specs.KernelCalls.KernelModel.Between.{is_typing}
 use Rattle.kernel_steps.specs.KernelCalls.KernelModel.Image.{image}
 use Rattle.kernel_steps.specs.KernelCalls.KernelModel.Kernel.{Console, Kernel, Pipe, Shell}
-use Rattle.kernel_steps.specs.KernelCalls.KernelModel.Kernel.Stop.{Finish}
 use Rattle.kernel_steps.specs.KernelCalls.KernelModel.Lists.{Lists}
 use Rattle.kernel_steps.specs.KernelCalls.KernelModel.Residents.{fault_packet}
 use Rattle.kernel_steps.specs.KernelCalls.KernelModel.Task.{is_guest_id}
@@ -35,7 +33,6 @@ use Rattle.kernel_steps.specs.GuestTurns.GuestTurn.{numbers_of}
 use Rattle.kernel_steps.proofs.Shown.GuestTurns.RunningField.{RunsIn}
 use Rattle.kernel_machine.specs.declared.parts.Parts.{Parts}
 use Rattle.kernel_machine.specs.Stands.{Stands}
-use Rattle.kernel_machine.specs.Stops.{stop_of}
 use Rattle.kernel_machine.proofs.PartsBeside.{stands-beside}
 use Rattle.kernel_steps.specs.ResidentSteps.{after_resident, console_parts, console_step, file_step, handler_step, pipe_step, reporter_step, resident_step, serves_pipes, shell_step, with_console_lines, with_disc, with_pipes}
 use Rattle.kernel_steps.specs.Step.{quietly, with_store}
@@ -135,14 +132,10 @@ module _ (p : Parts) (k : Kernel) (st : Stands p k) where
             notes = now-shell.notes;
           }
 
-      pub stop-shell : cond ends (Some MachineFinish) None ≡ option_map stop_of (shell_step k).kernel.stop
+      pub stop-shell : cond ends (Some Finish) None ≡ (shell_step k).kernel.stop
       stop-shell =
-          first ends ∙ ap (λ b. option_map stop_of (cond b (Some Finish) None)) now-shell.finished
-          ∙ ap (λ s. option_map stop_of (cond (shell_turn (image k) k.lists k.shell k.disc).finished (Some Finish) s)) (sym r.can.goes)
-        where
-          first : (b : Bool) → cond b (Some MachineFinish) None ≡ option_map stop_of (cond b (Some Finish) None)
-          first true = refl
-          first false = refl
+          ap (λ b. cond b (Some Finish) None) now-shell.finished
+          ∙ ap (λ s. cond (shell_turn (image k) k.lists k.shell k.disc).finished (Some Finish) s) (sym r.can.goes)
 
   -- ---- the task that reports faults
 

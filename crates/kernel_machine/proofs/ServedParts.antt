@@ -45,8 +45,8 @@ module _ (p : Parts) (k : Kernel) (st : Stands p k) where
   stands-served t m is same =
       let found = stands-settled p k st t p.kinds p.regs m.lists [] k.regs is.lists (knows-same (MarksAll p.kinds) k.lists m.lists is.same st.keeper.knows) refl st.regs same in
       record {
-        full = found.full;
         keeper = found.keeper;
+        marks = found.marks;
         image = record { size = found.image.size; holds = found.image.holds; plain = found.image.plain };
         plain = record { size = found.plain.size; plain = found.plain.plain; owned = found.plain.owned };
         regs = found.regs;
@@ -63,8 +63,8 @@ module _ (p : Parts) (k : Kernel) (st : Stands p k) where
   -- other bytes are typed ahead
   pub stands-typed : (typed ahead : List ℕ) → typed ≡ ahead → Stands (record p { tty = typed }) (record k { type_ahead = ahead })
   stands-typed typed ahead e = record {
-    full = st.full;
     keeper = st.keeper;
+    marks = st.marks;
     image = record { size = st.image.size; holds = st.image.holds; plain = st.image.plain };
     plain = record { size = st.plain.size; plain = st.plain.plain; owned = st.plain.owned };
     regs = st.regs;

@@ -1,16 +1,14 @@
 -- What each part of a step asks, inside a step.
 use Rattle.std.proofs.Common.{◌≡◌, ℕ, ◌+◌, ◌-◌, ◌^◌, ◌<◌, Bool, true, false, cond, Option, Some, None, refl, sym, ap, ◌∙◌, subst, arith}
 use Rattle.std.specs.Prelude.{is_none, is_some, not}
-use Rattle.std.specs.Option.{option_map}
 use Rattle.std.proofs.Math.Nat.{div-le_self}
 use Rattle.kernel_steps.specs.KernelCalls.KernelModel.Ranges.{most_steps}
 use Rattle.ram_disc.specs.Disc.{IsDisc}
-use Rattle.kernel_steps.specs.KernelCalls.KernelModel.Kernel.{Kernel, Stop as KernelStop}
-use Rattle.kernel_steps.specs.KernelCalls.KernelModel.ValidKernel.{IsFullMachine}
+use Rattle.kernel_steps.specs.KernelCalls.KernelModel.Kernel.{Kernel}
+use Rattle.kernel_steps.specs.KernelCalls.KernelModel.ValidKernel.{IsValid}
 use Rattle.kernel_steps.specs.KernelCalls.KernelDispatch.Dispatch.{CanDispatch}
 use Rattle.kernel_steps.specs.KernelCalls.KernelModel.Image.{settled}
 use Rattle.kernel_steps.specs.KernelCalls.KernelModel.declared.stops.Stop.{Stop}
-use Rattle.kernel_machine.specs.Stops.{stop_of}
 use Rattle.kernel_machine.specs.declared.parts.Parts.{Parts}
 use Rattle.kernel_machine.specs.Stands.{Stands}
 use Rattle.kernel_steps.specs.Parts.{CanTurn, IsTaken}
@@ -34,7 +32,7 @@ serving k can =
 
 -- ---- the turn of a step
 
-module _ (k : Kernel) (h : IsFullMachine k) (goes : k.stop ≡ None) where
+module _ (k : Kernel) (h : IsValid k) (goes : k.stop ≡ None) where
   pub can-turn : CanTurn (with_step k)
   can-turn = step-turns k h goes
 
@@ -51,8 +49,8 @@ module _ (k : Kernel) (h : IsFullMachine k) (goes : k.stop ≡ None) where
 -- one step more is counted
 pub stands-step : (p : Parts) (k : Kernel) (n : ℕ) → Stands p k → n ≡ p.step + 1 → Stands (record p { step = n }) (with_step k)
 stands-step p k n st e = record {
-  full = st.full;
   keeper = st.keeper;
+  marks = st.marks;
   image = record { size = st.image.size; holds = st.image.holds; plain = st.image.plain };
   plain = record { size = st.plain.size; plain = st.plain.plain; owned = st.plain.owned };
   regs = st.regs;
@@ -74,7 +72,7 @@ unfolding step
 step-goes k goes = ap (λ s. cond (is_some s) (quietly k) (and_then (turn (with_step k)) (unless_stopped after_the_turn))) goes
 
 -- and ends with it where that stopped the machine
-pub rest-stops : (k : Kernel) (s : KernelStop) → k.stop ≡ Some s → unless_stopped after_the_turn k ≡ quietly k
+pub rest-stops : (k : Kernel) (s : Stop) → k.stop ≡ Some s → unless_stopped after_the_turn k ≡ quietly k
 rest-stops k s e = ap (λ o. cond (is_some o) (quietly k) (after_the_turn k)) e
 
 pub rest-goes : (k : Kernel) → k.stop ≡ None → unless_stopped after_the_turn k ≡ after_the_turn k
@@ -88,7 +86,7 @@ dispatch-stop k = refl
 rest-stop : (k : Kernel) → (after_the_turn k).kernel.stop ≡ k.stop
 rest-stop k = dispatch-stop (output (key (tick k).kernel).kernel).kernel ∙ output-stop (key (tick k).kernel).kernel ∙ key-stop (tick k).kernel ∙ tick-stop k
 
-either-stop : (k : Kernel) (o : Option KernelStop) → k.stop ≡ o → (unless_stopped after_the_turn k).kernel.stop ≡ k.stop
+either-stop : (k : Kernel) (o : Option Stop) → k.stop ≡ o → (unless_stopped after_the_turn k).kernel.stop ≡ k.stop
 either-stop k None e = ap (λ x. x.kernel.stop) (rest-goes k e) ∙ rest-stop k
 either-stop k (Some s) e = ap (λ x. x.kernel.stop) (rest-stops k s e)
 
@@ -96,14 +94,14 @@ pub stop-in-turn : (k : Kernel) → k.stop ≡ None → (step k).kernel.stop ≡
 stop-in-turn k goes = ap (λ x. x.kernel.stop) (step-goes k goes) ∙ either-stop (turn (with_step k)).kernel (turn (with_step k)).kernel.stop refl
 
 -- what was answered says so
-pub none-stopped : (o : Option KernelStop) (r : Option Stop) → r ≡ option_map stop_of o → is_none r ≡ true → o ≡ None
+pub none-stopped : (o r : Option Stop) → r ≡ o → is_none r ≡ true → o ≡ None
 none-stopped None r e none = refl
 none-stopped (Some s) r e none = absurd (no-none (ap is_none (sym e) ∙ none))
   where
     no-none : false ≡ true → ⊥
     no-none x = cc
 
-pub some-stopped : (o : Option KernelStop) (r : Option Stop) → r ≡ option_map stop_of o → is_none r ≡ false → (s : KernelStop) × (o ≡ Some s)
+pub some-stopped : (o r : Option Stop) → r ≡ o → is_none r ≡ false → (s : Stop) × (o ≡ Some s)
 some-stopped None r e some = absurd (no-some (ap is_none (sym e) ∙ some))
   where
     no-some : true ≡ false → ⊥
@@ -121,20 +119,10 @@ taken k p q turned disc whole = record {
 
 -- ---- a machine that has stopped, or has not
 
-pub not-both : (o : Option KernelStop) (s : KernelStop) → o ≡ None → o ≡ Some s → ⊥
-not-both o s none some = cc
-
 -- it stays as it is
-pub step-stays : (k : Kernel) (s : KernelStop) → k.stop ≡ Some s → step k ≡ quietly k
+pub step-stays : (k : Kernel) (s : Stop) → k.stop ≡ Some s → step k ≡ quietly k
 unfolding step
 step-stays k s e = ap (λ o. cond (is_some o) (quietly k) (and_then (turn (with_step k)) (unless_stopped after_the_turn))) e
-
--- by what is known of it
-pub was-none : (o : Option KernelStop) (r : Option Stop) → r ≡ option_map stop_of o → r ≡ None → o ≡ None
-was-none o r e none = none-stopped o r e (ap is_none none)
-
-pub was-some : (o : Option KernelStop) (r : Option Stop) (t : Stop) → r ≡ option_map stop_of o → r ≡ Some t → (s : KernelStop) × (o ≡ Some s)
-was-some o r t e some = some-stopped o r e (ap is_none some)
 
 -- what is no `None` is some, and the reverse
 pub told : (r : Option Stop) (b c : Bool) → is_some r ≡ not b → b ≡ c → is_none r ≡ c

@@ -1,6 +1,5 @@
 -- What a guest's turn leaves of a machine.
 use Rattle.std.proofs.Common.{◌≡◌, ℕ, List, length, Bool, true, false, not, Option, None, cond, eqb, refl, sym, ap, ◌∙◌, subst}
-use Rattle.std.specs.Option.{option_map}
 use Rattle.std.proofs.lemmas.Bool.{and_parts}
 use Rattle.word_store.specs.declared.registers.Regs.{Regs}
 use Rattle.cint_exec.specs.declared.Fault.{Fault}
@@ -23,7 +22,6 @@ use Rattle.kernel_steps.specs.KernelResidents.FaultReporter.Recorded.{CanRecord,
 use Rattle.kernel_steps.specs.KernelCalls.KernelModel.declared.stops.Stop.{Stop}
 use Rattle.kernel_machine.specs.declared.parts.Parts.{Parts}
 use Rattle.kernel_machine.specs.Stands.{Stands}
-use Rattle.kernel_machine.specs.Stops.{stop_of}
 use Rattle.kernel_steps.specs.GuestSteps.{after_turn, guest_step, is_recorded, reported_by, stop_by, turn_of_guest, with_recorded}
 use Rattle.kernel_steps.proofs.RunningCaller.{runs-alone, runs-calls}
 use Rattle.kernel_steps.proofs.TurnKept.{recorded-numbers}
@@ -78,8 +76,8 @@ module _ (p : Parts) (k : Kernel) (st : Stands p k) (task : ℕ) (g : RunsGuest 
             notes = now.notes;
           })
 
-      pub stop-turn : (stop : Option Stop) → stop ≡ option_map stop_of (stop_by task end) → stop ≡ option_map stop_of (guest_step k).kernel.stop
-      stop-turn stop e = e ∙ (λ i. option_map stop_of (stop_by (g.is i) (now.ends i))) ∙ ap (λ (x : Turned). option_map stop_of (stop_by k.lists.running x.ends)) (sym stays)
+      pub stop-turn : (stop : Option Stop) → stop ≡ stop_by task end → stop ≡ (guest_step k).kernel.stop
+      stop-turn stop e = e ∙ (λ i. stop_by (g.is i) (now.ends i)) ∙ ap (λ (x : Turned). stop_by k.lists.running x.ends) (sym stays)
 
     -- a fault is recorded
     module _ (f : Fault) (faults : end ≡ Faults f) (records : is_recorded (turn_without_reporter p.store k.lists p.regs).lists f ≡ true) where
@@ -116,5 +114,5 @@ module _ (p : Parts) (k : Kernel) (st : Stands p k) (task : ℕ) (g : RunsGuest 
             notes = notes-then o.noted n.noted noted.noted o.failed n.failed noted.failed m.events (recorded_events f m.lists) now.notes new;
           })
 
-      pub stop-recorded : None ≡ option_map stop_of (guest_step k).kernel.stop
-      stop-recorded = ap (λ (x : Turned). option_map stop_of (stop_by k.lists.running x.ends)) (sym records-it)
+      pub stop-recorded : None ≡ (guest_step k).kernel.stop
+      stop-recorded = ap (λ (x : Turned). stop_by k.lists.running x.ends) (sym records-it)

@@ -13,7 +13,7 @@ use Rattle.kernel_steps.specs.KernelCalls.KernelModel.HoldsLists.{HoldsLists}
 use Rattle.kernel_steps.specs.KernelCalls.KernelModel.Kernel.{Kernel}
 use Rattle.kernel_steps.specs.KernelCalls.WordKinds.ByteMap.{MarksAll}
 use Rattle.kernel_steps.specs.GuestTurns.Guarded.{is_owned}
-use Rattle.kernel_steps.proofs.Shown.GuestTurns.FaultedTurn.{stays-instruction}
+use Rattle.cint_exec.proofs.Unexecuted.{stays-instruction}
 use Rattle.kernel_machine.specs.declared.parts.Parts.{Parts}
 use Rattle.kernel_steps.specs.Step.{run}
 use Rattle.kernel_machine.specs.Runs.{HasNoTick, IsOnWay, counted}

@@ -1,8 +1,8 @@
 pub mod Stands
-pub mod Stops
 pub mod Leaves
 pub mod Machine
 pub mod Runs
+pub mod Script
 -- shown to the crates above
 pub use Rattle.kernel_steps.specs.KernelCalls
 pub use Rattle.kernel_steps.specs.GuestTurns

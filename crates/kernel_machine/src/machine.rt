@@ -1,14 +1,12 @@
 // A machine with a kernel.
 ghost use Rattle.std.specs.Prelude.{◌≡◌, ◌<◌, ◌+◌, ◌≤◌, [], Some, None, false};
-ghost use Rattle.std.specs.Option.{option_map};
 ghost use Rattle.kernel_steps.specs.KernelCalls.KernelModel.Ranges.{most_steps};
 ghost use Rattle.kernel_steps.specs.KernelCalls.KernelModel.HoldsLists.{HoldsLists};
 ghost use Rattle.kernel_steps.specs.KernelCalls.KernelModel.Kernel.{Kernel};
 ghost use Rattle.kernel_steps.specs.KernelCalls.KernelModel.Lists.{Lists};
 ghost use Rattle.kernel_steps.specs.KernelCalls.KernelModel.NotedEvents.{NotesAll};
-ghost use Rattle.kernel_steps.specs.KernelCalls.KernelModel.ValidKernel.{IsFullMachine};
+ghost use Rattle.kernel_steps.specs.KernelCalls.KernelModel.ValidKernel.{IsValid};
 ghost use Rattle.kernel_machine.specs.Stands.{Stands};
-ghost use Rattle.kernel_machine.specs.Stops.{stop_of};
 ghost use Rattle.kernel_steps.specs.Step.{boot_events, first_events, run_events, step};
 ghost use Rattle.kernel_machine.specs.Machine.{kernel_of};
 
@@ -41,8 +39,8 @@ impl Model for Machine {
 impl Machine {
     /// The machine with these parts, which has not stopped, and has no output.
     pub fn from_parts(parts: Parts) -> Machine
-        requires { (k : Kernel) × Stands parts k × IsFullMachine k × (k.stop ≡ None) }
-        ensures kernel { (k : Kernel) → Stands parts k → IsFullMachine k → k.stop ≡ None
+        requires { (k : Kernel) × Stands parts k × IsValid k × (k.stop ≡ None) }
+        ensures kernel { (k : Kernel) → Stands parts k → IsValid k → k.stop ≡ None
             → result.kernel ≡ k }
         ensures output { result.output ≡ [] }
     {
@@ -53,23 +51,25 @@ impl Machine {
         }
     }
 
-    /// Its parts.
+    /// Its parts, which stand for its kernel, a valid one.
     pub fn into_parts(self) -> Parts
-        ensures { Stands result self.kernel }
+        ensures stands { Stands result self.kernel }
+        ensures valid { IsValid self.kernel }
     {
         self.parts
     }
 
-    /// Its parts, lent.
+    /// Its parts, lent. They stand for its kernel, a valid one.
     pub fn parts(&self) -> &Parts
-        ensures { Stands result.now self.now.kernel }
+        ensures stands { Stands result.now self.now.kernel }
+        ensures valid { IsValid self.now.kernel }
     {
         &self.parts
     }
 
     /// Why it has stopped, if it has.
     pub fn stop(&self) -> Option<Stop>
-        ensures { result ≡ option_map stop_of self.now.kernel.stop }
+        ensures { result ≡ self.now.kernel.stop }
     {
         self.stop
     }
@@ -99,7 +99,7 @@ impl Machine {
         ensures output { self.new.output ≡ (step self.old.kernel).bytes }
         ensures events { NotesAll (L.noted log.old) (L.noted log.new) (L.has_failed log.old)
             (L.has_failed log.new) (step self.old.kernel).events }
-        ensures stop { result ≡ option_map stop_of self.new.kernel.stop }
+        ensures stop { result ≡ self.new.kernel.stop }
     {
         self.output.clear();
         self.stop = step_or_stay(&mut self.parts, self.stop, &mut self.output, log);

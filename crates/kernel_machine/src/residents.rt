@@ -1,6 +1,5 @@
 // The turns of the residents.
 ghost use Rattle.std.specs.Prelude.{◌≡◌, ◌<◌, ◌^◌, ℕ, [], length, slice_index};
-ghost use Rattle.std.specs.Option.{option_map};
 ghost use Rattle.ram_disc.specs.Disc.{IsDisc};
 ghost use Rattle.kernel_steps.specs.KernelCalls.KernelModel.HoldsLists.{HoldsLists};
 ghost use Rattle.kernel_steps.specs.KernelCalls.KernelModel.Kernel.{Kernel};
@@ -8,7 +7,6 @@ ghost use Rattle.kernel_steps.specs.KernelCalls.KernelModel.Lists.{Lists};
 ghost use Rattle.kernel_steps.specs.KernelCalls.CallAnswers.Outside.{outside};
 ghost use Rattle.kernel_steps.specs.KernelResidents.ResidentRequests.Requests.{RunsResident};
 ghost use Rattle.kernel_machine.specs.Stands.{Stands};
-ghost use Rattle.kernel_machine.specs.Stops.{stop_of};
 ghost use Rattle.kernel_steps.specs.ResidentSteps.{console_step, handler_step, reporter_step, resident_step, serves_pipes, shell_step};
 ghost use Rattle.kernel_machine.specs.Leaves.{Leaves, RunsNumber, RunsNoGuest};
 
@@ -45,7 +43,7 @@ pub(crate) fn resident<L: EventLog>(
         (outside out.old (L.noted log.old) (L.has_failed log.old))
         (outside out.new (L.noted log.new) (L.has_failed log.new)) (resident_step task k) }
     ensures stop { (k : Kernel) → Stands parts.old k → RunsNoGuest task k
-        → result ≡ option_map stop_of (resident_step task k).kernel.stop }
+        → result ≡ (resident_step task k).kernel.stop }
     ensures disc { IsDisc parts.new.disc }
     ensures room { length out.new < 8192 }
 {
@@ -71,7 +69,7 @@ fn shell<L: EventLog>(parts: &mut Parts, out: &mut Output, log: &mut L) -> Optio
         (outside out.old (L.noted log.old) (L.has_failed log.old))
         (outside out.new (L.noted log.new) (L.has_failed log.new)) (shell_step k) }
     ensures stop { (k : Kernel) → Stands parts.old k → RunsNumber 1 k
-        → result ≡ option_map stop_of (shell_step k).kernel.stop }
+        → result ≡ (shell_step k).kernel.stop }
     ensures disc { IsDisc parts.new.disc }
     ensures room { length out.new < 8192 }
 {

@@ -1,11 +1,12 @@
 // The keys that are typed while a machine runs.
-ghost use Rattle.std.specs.Prelude.{◌≡◌, IfOk, drop, slice_get};
+ghost use Rattle.std.specs.Prelude.{◌≡◌, ◌≤◌, IfOk, drop, length, slice_get};
+ghost use Rattle.kernel_machine.specs.Script.{still_to_come, with_next_come};
 
 use std::alloc::Global;
 use std::marker::Model;
 use tp_io::WantMemory;
 
-/// The keys that are still to come, each as the step at which it is due and its byte, in the order in which they come.
+/// All keys, each as the step at which it is due and its byte, in the order in which they come, and how many of them have come.
 #[derive(Drop)]
 pub struct Script {
     keys: Vec<(u64, u8)>,
@@ -13,17 +14,17 @@ pub struct Script {
 }
 
 impl Model for Script {
-    ghost use Rattle.std.specs.Prelude.{ℕ, List, drop};
+    ghost use Rattle.kernel_machine.specs.Script.{KeyScript};
 
-    ghost Value = { List (ℕ × ℕ) };
+    ghost Value = { KeyScript };
 
-    ghost view = { λ s. drop s.come s.keys.items };
+    ghost view = { λ s. record { keys = s.keys.items; come = s.come } };
 }
 
 impl Script {
     /// These keys, of which none has come. `WantMemory` comes only where memory could not be had.
     pub fn new(alloc: Global, keys: &[(u64, u8)]) -> Result<Script, WantMemory>
-        ensures { IfOk result (λ s. s ≡ keys.now) }
+        ensures { IfOk result (λ s. s ≡ record { keys = keys.now; come = 0 }) }
     {
         match Vec::from_slice(alloc, keys) {
             Ok(keys) => Ok(Script { keys, come: 0 }),
@@ -31,19 +32,42 @@ impl Script {
         }
     }
 
-    /// The first key, or `None` exactly where no key is still to come.
+    /// The first key that is still to come, or `None` exactly where there is none.
     pub fn first(&self) -> Option<(u64, u8)>
-        ensures { result ≡ slice_get self.now 0 }
+        ensures { result ≡ slice_get (still_to_come self.now) 0 }
     {
         self.keys.get(self.come).copied()
     }
 
-    /// The first key has come.
+    /// The keys that are still to come, lent.
+    pub fn rest(&self) -> &[(u64, u8)]
+        ensures { result.now ≡ still_to_come self.now }
+    {
+        self.keys.get(self.come..).unwrap_or(&[])
+    }
+
+    /// How many keys have come.
+    pub fn come(&self) -> usize
+        ensures { result ≡ self.now.come }
+    {
+        self.come
+    }
+
+    /// The first key that is still to come has come, if there is one.
     pub fn advance(&mut self)
-        ensures { self.new ≡ drop 1 self.old }
+        ensures all { self.new ≡ with_next_come self.old }
+        ensures rest { still_to_come self.new ≡ drop 1 (still_to_come self.old) }
     {
         if self.come < self.keys.len() {
             self.come += 1;
         }
+    }
+
+    /// So many keys have come: the others are still to come, also those that had come before.
+    pub fn set_come(&mut self, come: usize)
+        requires { come ≤ length self.old.keys }
+        ensures { self.new ≡ record self.old { come = come } }
+    {
+        self.come = come;
     }
 }

@@ -5,6 +5,7 @@ ghost use Rattle.kernel_steps.specs.KernelCalls.KernelModel.Kernel.{Kernel};
 ghost use Rattle.kernel_steps.specs.KernelCalls.KernelModel.Task.{is_guest_id};
 ghost use Rattle.kernel_steps.specs.Quiet.{AwaitsTick, ComeAfter, IsQuietFor};
 ghost use Rattle.kernel_machine.specs.Machine.{IsWhole, kernel_of};
+ghost use Rattle.kernel_machine.specs.Script.{still_to_come};
 ghost use Rattle.kernel_machine.specs.Runs.{HasNoTick, HasPassed, IsOnWay, ServesNone, counted};
 
 use crate::Parts;
@@ -57,7 +58,7 @@ fn serves_now(parts: &Parts) -> bool
 // How many steps there are before the next key comes.
 fn before_key(parts: &Parts) -> u64
     requires { parts.now.step ≤ most_steps }
-    ensures { (m : ℕ) → 0 < m → m ≤ result → ComeAfter (parts.now.step + m) parts.now.keys }
+    ensures { (m : ℕ) → 0 < m → m ≤ result → ComeAfter (parts.now.step + m) (still_to_come parts.now.keys) }
 {
     match parts.keys.first() {
         Some((due, _)) => due.saturating_sub(parts.step + 1),

@@ -1,12 +1,10 @@
 // A step: the running task's turn, the devices, and dispatch.
 ghost use Rattle.std.specs.Prelude.{◌≡◌, ◌<◌, [], None, length};
-ghost use Rattle.std.specs.Option.{option_map};
 ghost use Rattle.kernel_steps.specs.KernelCalls.KernelModel.Ranges.{most_steps};
 ghost use Rattle.kernel_steps.specs.KernelCalls.KernelModel.Kernel.{Kernel};
-ghost use Rattle.kernel_steps.specs.KernelCalls.KernelModel.ValidKernel.{IsFullMachine};
+ghost use Rattle.kernel_steps.specs.KernelCalls.KernelModel.ValidKernel.{IsValid};
 ghost use Rattle.kernel_steps.specs.KernelCalls.CallAnswers.Outside.{outside};
 ghost use Rattle.kernel_machine.specs.Stands.{Stands};
-ghost use Rattle.kernel_machine.specs.Stops.{stop_of};
 ghost use Rattle.kernel_steps.specs.Parts.{IsTaken};
 ghost use Rattle.kernel_steps.specs.Step.{after_the_turn, step};
 ghost use Rattle.kernel_machine.specs.Leaves.{CanServe, Leaves};
@@ -24,19 +22,19 @@ pub(crate) fn step_or_stay<L: EventLog>(
     out: &mut Output,
     log: &mut L,
 ) -> Option<Stop>
-    requires stands { (k : Kernel) × Stands parts.old k × IsFullMachine k
-        × (stop ≡ option_map stop_of k.stop) × (k.steps < most_steps) }
+    requires stands { (k : Kernel) × Stands parts.old k × IsValid k
+        × (stop ≡ k.stop) × (k.steps < most_steps) }
     requires empty { out.old ≡ [] }
-    ensures stepped { (k : Kernel) → Stands parts.old k → IsFullMachine k
-        → stop ≡ option_map stop_of k.stop
+    ensures stepped { (k : Kernel) → Stands parts.old k → IsValid k
+        → stop ≡ k.stop
         → k.steps < most_steps → Leaves parts.new
         (outside out.old (L.noted log.old) (L.has_failed log.old))
         (outside out.new (L.noted log.new) (L.has_failed log.new)) (step k) }
-    ensures stop { (k : Kernel) → Stands parts.old k → IsFullMachine k
-        → stop ≡ option_map stop_of k.stop
-        → k.steps < most_steps → result ≡ option_map stop_of (step k).kernel.stop }
-    ensures taken { (k : Kernel) → Stands parts.old k → IsFullMachine k → k.stop ≡ None
-        → stop ≡ option_map stop_of k.stop
+    ensures stop { (k : Kernel) → Stands parts.old k → IsValid k
+        → stop ≡ k.stop
+        → k.steps < most_steps → result ≡ (step k).kernel.stop }
+    ensures taken { (k : Kernel) → Stands parts.old k → IsValid k → k.stop ≡ None
+        → stop ≡ k.stop
         → k.steps < most_steps → IsTaken k }
 {
     match stop {
@@ -47,16 +45,16 @@ pub(crate) fn step_or_stay<L: EventLog>(
 
 // One step of a machine that has not stopped. The answer is why it stops in this step, if it does.
 fn step<L: EventLog>(parts: &mut Parts, out: &mut Output, log: &mut L) -> Option<Stop>
-    requires stands { (k : Kernel) × Stands parts.old k × IsFullMachine k × (k.stop ≡ None)
+    requires stands { (k : Kernel) × Stands parts.old k × IsValid k × (k.stop ≡ None)
         × (k.steps < most_steps) }
     requires empty { out.old ≡ [] }
-    ensures stepped { (k : Kernel) → Stands parts.old k → IsFullMachine k → k.stop ≡ None
+    ensures stepped { (k : Kernel) → Stands parts.old k → IsValid k → k.stop ≡ None
         → k.steps < most_steps → Leaves parts.new
         (outside out.old (L.noted log.old) (L.has_failed log.old))
         (outside out.new (L.noted log.new) (L.has_failed log.new)) (step k) }
-    ensures stop { (k : Kernel) → Stands parts.old k → IsFullMachine k → k.stop ≡ None
-        → k.steps < most_steps → result ≡ option_map stop_of (step k).kernel.stop }
-    ensures taken { (k : Kernel) → Stands parts.old k → IsFullMachine k → k.stop ≡ None
+    ensures stop { (k : Kernel) → Stands parts.old k → IsValid k → k.stop ≡ None
+        → k.steps < most_steps → result ≡ (step k).kernel.stop }
+    ensures taken { (k : Kernel) → Stands parts.old k → IsValid k → k.stop ≡ None
         → k.steps < most_steps → IsTaken k }
 {
     parts.step += 1;

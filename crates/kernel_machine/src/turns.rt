@@ -1,13 +1,11 @@
 // What the running task does in a step.
 ghost use Rattle.std.specs.Prelude.{◌≡◌, ◌<◌, [], length};
-ghost use Rattle.std.specs.Option.{option_map};
 ghost use Rattle.ram_disc.specs.Disc.{IsDisc};
 ghost use Rattle.kernel_steps.specs.KernelCalls.KernelModel.Kernel.{Kernel};
 ghost use Rattle.kernel_steps.specs.KernelCalls.KernelModel.HoldsLists.{HoldsLists};
 ghost use Rattle.kernel_steps.specs.KernelCalls.KernelModel.Lists.{Lists};
 ghost use Rattle.kernel_steps.specs.KernelCalls.CallAnswers.Outside.{outside};
 ghost use Rattle.kernel_machine.specs.Stands.{Stands};
-ghost use Rattle.kernel_machine.specs.Stops.{stop_of};
 ghost use Rattle.kernel_steps.specs.GuestSteps.{guest_step, is_recorded, stop_by};
 ghost use Rattle.kernel_steps.specs.Parts.{CanTurn};
 ghost use Rattle.kernel_steps.specs.Step.{turn};
@@ -41,7 +39,7 @@ pub(crate) fn turn<L: EventLog>(parts: &mut Parts, out: &mut Output, log: &mut L
         (outside out.old (L.noted log.old) (L.has_failed log.old))
         (outside out.new (L.noted log.new) (L.has_failed log.new)) (turn k) }
     ensures stop { (k : Kernel) → Stands parts.old k → CanTurn k
-        → result ≡ option_map stop_of (turn k).kernel.stop }
+        → result ≡ (turn k).kernel.stop }
     ensures disc { IsDisc parts.new.disc }
     ensures room { length out.new < 8192 }
 {
@@ -61,7 +59,7 @@ fn guest<L: EventLog>(parts: &mut Parts, task: u32, out: &mut Output, log: &mut 
         (outside out.old (L.noted log.old) (L.has_failed log.old))
         (outside out.new (L.noted log.new) (L.has_failed log.new)) (guest_step k) }
     ensures stop { (k : Kernel) → Stands parts.old k → RunsGuest task k
-        → result ≡ option_map stop_of (guest_step k).kernel.stop }
+        → result ≡ (guest_step k).kernel.stop }
 {
     let end = guest_turn(
         &mut parts.store,
@@ -105,7 +103,7 @@ pub(crate) fn running(store: &Store) -> u32
 
 // Why a turn of this task that ends so stops the machine.
 fn stop_by(task: u32, end: TurnEnd) -> Option<Stop>
-    ensures { result ≡ option_map stop_of (stop_by task end) }
+    ensures { result ≡ stop_by task end }
 {
     match end {
         TurnEnd::Goes => None,

@@ -17,7 +17,7 @@ use Rattle.kernel_lists.specs.HunkLoader.HeldModules.{module_address}
 use Rattle.kernel_lists.specs.Coroutines.HeldCoroutines.{address_of}
 use Rattle.kernel_lists.specs.PacketQueue.QueueWords.{QueuedPacket}
 use Rattle.kernel_model.specs.BlockUse.{coroutine_addresses, use_of_data}
-use Rattle.kernel_model.specs.BlockUse.Use.{OfCoroutine, OfModule, OfResidents, OfTask, User}
+use Rattle.kernel_model.specs.declared.uses.Use.TheVariants.{OfCoroutine, OfModule, OfResidents, OfTask, User}
 use Rattle.kernel_model.specs.Changes.{IsIdleBlock, with_blocks}
 use Rattle.kernel_model.specs.Lists.{Lists, queued}
 use Rattle.kernel_model.specs.Task.{Task, is_guest_id, task_address}

@@ -8,18 +8,18 @@ use Rattle.word_store.proofs.Counts.{hit-same}
 use Rattle.kernel_lists.specs.OwnedWords.Owned.{AreApart, Holds, Pairs, owners, word_in}
 use Rattle.kernel_lists.proofs.Shown.OwnedWords.OwnedWords.{word_in-holds, word_in-none}
 use Rattle.kernel_model.specs.Image.{HasPlainWords, IsImage, image, plain_at, word_of}
-use Rattle.kernel_model.specs.Kernel.{Kernel, owned_by}
+use Rattle.kernel_model.specs.Kernel.{Kernel}
 use Rattle.kernel_model.specs.Owned.{owned}
-use Rattle.kernel_model.specs.ValidKernel.{IsMachine, IsValid}
+use Rattle.kernel_model.specs.ValidKernel.{IsValid}
 
 image-word : (s : List ℕ) (k : Kernel) → IsImage s k → (a : ℕ) → a < length s → word_of k a ≡ get_or s a 0
 unfolding word_of
 image-word s k is a low =
-    elim (cases_lt 0 (owners a (owned_by k))) [
-      | inl some ↦ ap (λ o. unwrap_or o (unwrap_or (plain_at k a) 0)) (word_in-holds s a (owned_by k) is.holds some)
+    elim (cases_lt 0 (owners a (owned k.lists))) [
+      | inl some ↦ ap (λ o. unwrap_or o (unwrap_or (plain_at k a) 0)) (word_in-holds s a (owned k.lists) is.holds some)
       | inr few ↦
-          let none : owners a (owned_by k) ≡ 0 = omega (arith, few) in
-          ap (λ o. unwrap_or o (unwrap_or (plain_at k a) 0)) (word_in-none a (owned_by k) none) ∙ ap (λ o. unwrap_or o 0) (is.plain a low none)
+          let none : owners a (owned k.lists) ≡ 0 = omega (arith, few) in
+          ap (λ o. unwrap_or o (unwrap_or (plain_at k a) 0)) (word_in-none a (owned k.lists) none) ∙ ap (λ o. unwrap_or o 0) (is.plain a low none)
     ]
 
 pub image-list : (s : List ℕ) (k : Kernel) → IsImage s k → s ≡ image k
@@ -40,30 +40,21 @@ holds-words s other (e ∷ es) apart same = (
 )
 
 -- the image of a kernel that owns words apart and has the plain words
-pub image-of : (k : Kernel) → AreApart (owned_by k) → ((a : ℕ) → 0 < owners a (owned_by k) → a < k.lists.size) → HasPlainWords k → IsImage (image k) k
+pub image-of : (k : Kernel) → AreApart (owned k.lists) → ((a : ℕ) → 0 < owners a (owned k.lists) → a < k.lists.size) → HasPlainWords k → IsImage (image k) k
 unfolding image word_of
 image-of k apart inside plain =
     let size : length (image k) ≡ k.lists.size = length-map-range_with_len (word_of k) 0 k.lists.size in
     let word : (a : ℕ) → a < k.lists.size → get_or (image k) a 0 ≡ word_of k a = λ a low. get_or-map-range_with_len (word_of k) 0 k.lists.size a a 0 low (omega arith) in
     record {
       size = size;
-      holds = holds-words (image k) (λ a. unwrap_or (plain_at k a) 0) (owned_by k) apart (λ a some. word a (inside a some));
+      holds = holds-words (image k) (λ a. unwrap_or (plain_at k a) 0) (owned k.lists) apart (λ a some. word a (inside a some));
       plain = λ a low none.
           let p = plain.plain a (omega (arith, low, size)) none in
           let here : get_or (image k) a 0 ≡ p.0 =
-          word a (omega (arith, low, size)) ∙ ap (λ o. unwrap_or o (unwrap_or (plain_at k a) 0)) (word_in-none a (owned_by k) none) ∙ ap (λ o. unwrap_or o 0) p.1
+          word a (omega (arith, low, size)) ∙ ap (λ o. unwrap_or o (unwrap_or (plain_at k a) 0)) (word_in-none a (owned k.lists) none) ∙ ap (λ o. unwrap_or o 0) p.1
           in
           p.1 ∙ ap (λ w. Some w) (sym here);
     }
 
 pub valid-image : (k : Kernel) → IsValid k → IsImage (image k) k
-valid-image k v = on k.bare refl v
-  where
-    on : (b : Bool) → k.bare ≡ b → IsMachine b k → IsImage (image k) k
-    on true bare v =
-        let none : owned_by k ≡ [] = ap (λ b. cond b [] (owned k.lists)) bare in
-        let few : (a : ℕ) → owners a (owned_by k) ≡ 0 = λ a. ap (owners a) none in
-        image-of k (λ a. omega (arith, few a)) (λ a some. absurd (omega (arith, some, few a))) v.plain
-    on false full v =
-        let all : owned_by k ≡ owned k.lists = ap (λ b. cond b [] (owned k.lists)) full in
-        image-of k (λ a. omega (arith, ap (owners a) all, v.lists.owns.apart a)) (λ a some. v.lists.owns.inside a (omega (arith, some, ap (owners a) all))) v.plain
+valid-image k v = image-of k v.lists.owns.apart v.lists.owns.inside v.plain

@@ -6,7 +6,7 @@ use Rattle.kernel_lists.specs.OwnedWords.Owned.{Holds, Pairs, owners, word_in, w
 use Rattle.kernel_lists.specs.OwnedWords.Written.{IsWritten}
 use Rattle.kernel_lists.proofs.Shown.OwnedWords.OwnedWords.{word_in-none}
 use Rattle.kernel_model.specs.Image.{HasPlainWords, IsImage, image, plain_words, settled}
-use Rattle.kernel_model.specs.Kernel.{Kernel, owned_by}
+use Rattle.kernel_model.specs.Kernel.{Kernel}
 use Rattle.kernel_model.specs.Lists.{Lists}
 use Rattle.kernel_model.specs.Owned.{OwnsApart, owned}
 use Rattle.kernel_model.proofs.ImageWords.{image-list}
@@ -39,32 +39,24 @@ plain-unowned s l a low none = plain-word s l a low ∙ ap (λ o. cond (is_some 
 plain-owned : (s : List ℕ) (l : Lists) (a : ℕ) → a < l.size → 0 < owners a (owned l) → get_or (plain_words s l) a None ≡ None
 plain-owned s l a low some = plain-word s l a low ∙ ap (λ b. cond b None (Some (get_or s a 0))) (word_in-some a (owned l) some)
 
-settled-owned : (plain : Pairs) (k : Kernel) (l : Lists) → k.bare ≡ false → owned_by (settled plain k l) ≡ owned l
+pub settled-plain : (k : Kernel) (l : Lists) (plain : Pairs) → OwnsApart l → HasPlainWords (settled plain k l)
 unfolding settled
-settled-owned plain k l full = ap (λ b. cond b [] (owned l)) full
-
-pub settled-plain : (k : Kernel) (l : Lists) (plain : Pairs) → k.bare ≡ false → OwnsApart l → HasPlainWords (settled plain k l)
-unfolding settled
-settled-plain k l plain full own =
+settled-plain k l plain own =
     let s : List ℕ = written plain (image k) in
-    let all : (a : ℕ) → owners a (owned_by (settled plain k l)) ≡ owners a (owned l) = λ a. ap (owners a) (settled-owned plain k l full) in
     record {
       size = length-plain s l;
-      plain = λ a low none. (get_or s a 0, plain-unowned s l a low (sym (all a) ∙ none));
-      owned = λ a some. (let here : 0 < owners a (owned l) = omega (arith, some, all a) in plain-owned s l a (own.inside a here) here);
+      plain = λ a low none. (get_or s a 0, plain-unowned s l a low none);
+      owned = λ a some. plain-owned s l a (own.inside a some) some;
     }
 
-pub settled-image : (s t : List ℕ) (k : Kernel) (l : Lists) (plain : Pairs) → IsImage s k → l.size ≡ k.lists.size → k.bare ≡ false → OwnsApart l → length t ≡ length s
+pub settled-image : (s t : List ℕ) (k : Kernel) (l : Lists) (plain : Pairs) → IsImage s k → l.size ≡ k.lists.size → OwnsApart l → length t ≡ length s
     → IsWritten s t (owned l) plain → IsImage t (settled plain k l)
 unfolding settled
-settled-image s t k l plain is same full own size w =
-    let all : owned_by (settled plain k l) ≡ owned l = settled-owned plain k l full in
-    record {
-      size = size ∙ is.size ∙ sym same;
-      holds = subst (Holds t) (sym all) w.holds;
-      plain = λ a low none.
-          let free : owners a (owned l) ≡ 0 = sym (ap (owners a) all) ∙ none in
-          plain-unowned (written plain (image k)) l a (omega (arith, low, size, is.size, same)) free
-          ∙ ap (λ z. Some (get_or (written plain z) a 0)) (sym (image-list s k is))
-          ∙ ap (λ z. Some z) (sym (w.others a free));
-    }
+settled-image s t k l plain is same own size w = record {
+  size = size ∙ is.size ∙ sym same;
+  holds = w.holds;
+  plain = λ a low none.
+      plain-unowned (written plain (image k)) l a (omega (arith, low, size, is.size, same)) none
+      ∙ ap (λ z. Some (get_or (written plain z) a 0)) (sym (image-list s k is))
+      ∙ ap (λ z. Some z) (sym (w.others a none));
+}

@@ -15,7 +15,7 @@ use Rattle.kernel_lists.proofs.Shown.OwnedWords.OwnedWords.{owners-append}
 use Rattle.kernel_lists.specs.HunkLoader.HeldModules.{module_address, module_words}
 use Rattle.kernel_lists.specs.Coroutines.HeldCoroutines.{Coroutine, address_of, coroutine_words}
 use Rattle.kernel_model.specs.BlockUse.{coroutine_addresses, use_of_data}
-use Rattle.kernel_model.specs.BlockUse.Use.{OfCoroutine, OfModule, OfResidents, OfTask, User}
+use Rattle.kernel_model.specs.declared.uses.Use.TheVariants.{OfCoroutine, OfModule, OfResidents, OfTask, User}
 use Rattle.kernel_model.specs.Lists.{Lists, has_task}
 use Rattle.kernel_model.specs.Owned.{owned}
 use Rattle.kernel_model.specs.Task.{Task, is_guest_id, other_words, task_address, task_words}

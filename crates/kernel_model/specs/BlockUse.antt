@@ -5,16 +5,10 @@ use Rattle.kernel_lists.specs.LinkedList.Places.{has}
 use Rattle.kernel_lists.specs.GetvecChain.declared.pieces.Block.{Block}
 use Rattle.kernel_lists.specs.HunkLoader.HeldModules.{module_address}
 use Rattle.kernel_lists.specs.Coroutines.HeldCoroutines.{address_of}
+use Rattle.kernel_model.specs.declared.uses.Use.{Use}
+use Rattle.kernel_model.specs.declared.uses.Use.TheVariants.{Free, OfCoroutine, OfModule, OfResidents, OfTask, User}
 use Rattle.kernel_model.specs.Lists.{Lists}
 use Rattle.kernel_model.specs.Task.{Task, task_address}
-
-pub data Use : Type 0 where
-  Free : Use
-  User : Use
-  OfTask : Use
-  OfModule : Use
-  OfCoroutine : Use
-  OfResidents : Use
 
 -- the addresses of a task's coroutines
 abbrev pub coroutine_addresses : Task → List ℕ

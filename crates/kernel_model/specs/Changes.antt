@@ -11,7 +11,7 @@ use Rattle.kernel_lists.specs.HunkLoader.HeldModules.{LoadedModule}
 use Rattle.kernel_lists.specs.Coroutines.CoroutineExchanges.{with_list}
 use Rattle.kernel_lists.specs.Coroutines.HeldCoroutines.{Coroutine}
 use Rattle.kernel_model.specs.BlockUse.{coroutine_addresses, use_of_data}
-use Rattle.kernel_model.specs.BlockUse.Use.{User}
+use Rattle.kernel_model.specs.declared.uses.Use.TheVariants.{User}
 use Rattle.kernel_model.specs.Lists.{Lists, has_task, queued}
 use Rattle.kernel_model.specs.Owned.{owned}
 use Rattle.kernel_model.specs.Task.{Task}

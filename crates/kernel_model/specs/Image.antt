@@ -2,7 +2,7 @@
 use Rattle.std.specs.Prelude.{◌≡◌, ℕ, ◌<◌, Option, Some, None, List, is_some, length, map, slice_index, slice_index_or, unwrap_or, if◌then◌else◌}
 use Rattle.std.specs.List.{range_with_len}
 use Rattle.kernel_lists.specs.OwnedWords.Owned.{Holds, Pairs, owners, word_in, written}
-use Rattle.kernel_model.specs.Kernel.{Kernel, owned_by}
+use Rattle.kernel_model.specs.Kernel.{Kernel}
 use Rattle.kernel_model.specs.Lists.{Lists}
 use Rattle.kernel_model.specs.Owned.{owned}
 
@@ -12,7 +12,7 @@ plain_at k a = slice_index_or k.plain a None
 
 -- word a is the one that is paired with a among the owned words, else the plain one
 unfoldable pub word_of : Kernel → ℕ → ℕ
-word_of k a = unwrap_or (word_in a (owned_by k)) (unwrap_or (plain_at k a) 0)
+word_of k a = unwrap_or (word_in a (owned k.lists)) (unwrap_or (plain_at k a) 0)
 
 unfoldable pub image : Kernel → List ℕ
 image k = map (word_of k) (range_with_len 0 k.lists.size)
@@ -20,14 +20,14 @@ image k = map (word_of k) (range_with_len 0 k.lists.size)
 -- the plain words are those of the store that nobody owns
 pub record HasPlainWords (k : Kernel) : Type 0 where
   pub size : length k.plain ≡ k.lists.size
-  pub plain : (a : ℕ) → a < k.lists.size → owners a (owned_by k) ≡ 0 → (w : ℕ) × (plain_at k a ≡ Some w)
-  pub owned : (a : ℕ) → 0 < owners a (owned_by k) → plain_at k a ≡ None
+  pub plain : (a : ℕ) → a < k.lists.size → owners a (owned k.lists) ≡ 0 → (w : ℕ) × (plain_at k a ≡ Some w)
+  pub owned : (a : ℕ) → 0 < owners a (owned k.lists) → plain_at k a ≡ None
 
 -- The store is the kernel's image, word by word.
 pub record IsImage (s : List ℕ) (k : Kernel) : Type 0 where
   pub size : length s ≡ k.lists.size
-  pub holds : Holds s (owned_by k)
-  pub plain : (a : ℕ) → a < length s → owners a (owned_by k) ≡ 0 → plain_at k a ≡ Some (slice_index s a)
+  pub holds : Holds s (owned k.lists)
+  pub plain : (a : ℕ) → a < length s → owners a (owned k.lists) ≡ 0 → plain_at k a ≡ Some (slice_index s a)
 
 -- the words of a store that these lists do not own
 unfoldable pub plain_words : List ℕ → Lists → List (Option ℕ)

@@ -1,10 +1,9 @@
 -- A kernel: its lists, the words that nobody owns, the registers, and what its residents keep outside the store.
-use Rattle.std.specs.Prelude.{ℕ, Bool, Option, List, [], if◌then◌else◌}
+use Rattle.std.specs.Prelude.{ℕ, Bool, Option, List}
 use Rattle.word_store.specs.declared.registers.Regs.{Regs}
-use Rattle.kernel_lists.specs.OwnedWords.Owned.{Pairs}
 use Rattle.ram_disc.specs.Disc.{Disc}
+use Rattle.kernel_model.specs.declared.stops.Stop.{Stop}
 use Rattle.kernel_model.specs.Lists.{Lists}
-use Rattle.kernel_model.specs.Owned.{owned}
 
 -- The console.
 pub record Console : Type 0 where
@@ -40,16 +39,8 @@ pub record Pipe : Type 0 where
   -- whether that end was ever opened
   pub written : Bool
 
--- why a machine has stopped: a task quit with a result, the shell finished, or a fault at an address in a task
-pub data Stop : Type 0 where
-  Quit : ℕ → Stop
-  Finish : Stop
-  Fault : ℕ → ℕ → ℕ → Stop
-
--- A bare machine has a store and registers, and no kernel. The plain words stand by their addresses, and there is none at an
--- address that is owned. The pipes stand in eight places.
+-- The plain words stand by their addresses, and there is none at an address that is owned. The pipes stand in eight places.
 pub record Kernel : Type 0 where
-  pub bare : Bool
   -- the lists, from which the words that it owns follow
   pub lists : Lists
   -- the word at each address that nobody owns, from address 0 on; none where it is owned
@@ -72,7 +63,3 @@ pub record Kernel : Type 0 where
   pub pipes : List (Option Pipe)
   -- why it has stopped, if it has
   pub stop : Option Stop
-
--- a bare machine owns no words
-abbrev pub owned_by : Kernel → Pairs
-owned_by k = if k.bare then [] else owned k.lists

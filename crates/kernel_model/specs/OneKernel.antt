@@ -2,10 +2,8 @@
 use Rattle.std.specs.Prelude.{◌≡◌}
 use Rattle.kernel_model.specs.Kernel.{Kernel}
 
--- Two kernels have the same other parts; the version is one of them, since a bare machine has it in no word.
+-- two kernels have the same other parts
 pub record HaveSameParts (k j : Kernel) : Type 0 where
-  pub bare : k.bare ≡ j.bare
-  pub version : k.lists.version ≡ j.lists.version
   pub regs : k.regs ≡ j.regs
   pub steps : k.steps ≡ j.steps
   pub console : k.console ≡ j.console

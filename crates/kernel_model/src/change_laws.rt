@@ -11,7 +11,7 @@ ghost use Rattle.kernel_lists.specs.OwnedWords.Owned.{owners};
 ghost use Rattle.kernel_lists.specs.PacketQueue.QueueWords.{QueuedPacket};
 ghost use Rattle.kernel_lists.specs.Coroutines.HeldCoroutines.{Coroutine};
 ghost use Rattle.kernel_model.specs.BlockUse.{use_of_data};
-ghost use Rattle.kernel_model.specs.BlockUse.Use.{User};
+ghost use Rattle.kernel_model.specs.declared.uses.Use.TheVariants.{User};
 ghost use Rattle.kernel_model.specs.Changes.{AreUnowned, HasNoPacketsOut, HasPlace, IsIdleBlock, KeepsOrder, SameTask, queue_of, with_blocks, with_coroutines, with_fault_packet, with_key, with_modules, with_new_task, with_queue, with_tasks};
 ghost use Rattle.kernel_model.specs.Lists.{Lists, has_task};
 ghost use Rattle.kernel_model.specs.MovedTask.{with_moved_task};

@@ -1,5 +1,5 @@
 // Laws of the store that a kernel stands for.
-ghost use Rattle.std.specs.Prelude.{◌≡◌, ℕ, false, List, length};
+ghost use Rattle.std.specs.Prelude.{◌≡◌, ℕ, List, length};
 ghost use Rattle.kernel_lists.specs.OwnedWords.Owned.{Pairs};
 ghost use Rattle.kernel_lists.specs.OwnedWords.Written.{IsWritten};
 ghost use Rattle.kernel_model.specs.Image.{HasPlainWords, IsImage, image, settled};
@@ -19,11 +19,11 @@ pub fn image_law()
 /// besides, it stands for the kernel with these lists, settled.
 pub fn settled_law()
     ensures image { (s t : List ℕ) (k : Kernel) (l : Lists) (plain : Pairs)
-        → IsImage s k → l.size ≡ k.lists.size → k.bare ≡ false → OwnsApart l
+        → IsImage s k → l.size ≡ k.lists.size → OwnsApart l
         → length t ≡ length s
         → IsWritten s t (owned l) plain
         → IsImage t (settled plain k l) }
-    ensures plain { (k : Kernel) (l : Lists) (plain : Pairs) → k.bare ≡ false → OwnsApart l
+    ensures plain { (k : Kernel) (l : Lists) (plain : Pairs) → OwnsApart l
         → HasPlainWords (settled plain k l) }
 {}
 

@@ -7,8 +7,10 @@ pub mod image_laws;
 pub mod list_laws;
 pub mod numbers;
 pub mod stops;
+pub mod uses;
 
 pub use stops::Stop;
+pub use uses::Use;
 
 // Shown to the crates above.
 pub use kernel_lists;

@@ -65,7 +65,7 @@ runs-ticked l r can = record { numbers = refl; alone = can.field }
 module _ (k : Kernel) (m : Served) where
   served-same : IsSameMachine k (served k m).kernel
   unfolding settled
-  served-same = record { bare = refl; steps = refl }
+  served-same = record { steps = refl }
 
   served-residents : HasSameResidents k (served k m).kernel
   unfolding settled
@@ -95,7 +95,7 @@ module _ (k : Kernel) where
   tick-ways P due other = due-or-not P (eqb (k.steps % k.lists.period) 0) (λ j. served j (ticked j.lists)) k due other
 
   pub tick-same : IsSameMachine k (tick k).kernel
-  tick-same = tick-ways (λ x. IsSameMachine k x.kernel) (λ due. served-same k (ticked k.lists)) (λ none. record { bare = refl; steps = refl })
+  tick-same = tick-ways (λ x. IsSameMachine k x.kernel) (λ due. served-same k (ticked k.lists)) (λ none. record { steps = refl })
 
   pub tick-residents : HasSameResidents k (tick k).kernel
   tick-residents = tick-ways (λ x. HasSameResidents k x.kernel) (λ due. served-residents k (ticked k.lists)) (λ none. record { console = refl; shell = refl; disc = refl; pipes = refl })
@@ -156,8 +156,8 @@ module _ (k : Kernel) where
 
   typed-same : IsSameMachine k typed
   typed-same =
-      typed-ways (λ j. IsSameMachine k j) k.keys k (record { bare = refl; steps = refl })
-      (λ key rest is. record { bare = refl; steps = refl })
+      typed-ways (λ j. IsSameMachine k j) k.keys k (record { steps = refl })
+      (λ key rest is. record { steps = refl })
 
   typed-residents : HasSameResidents k typed
   typed-residents =
@@ -169,7 +169,7 @@ module _ (k : Kernel) where
 
   pub key-same : IsSameMachine k (key k).kernel
   unfolding key settled
-  key-same = record { bare = typed-same.bare; steps = typed-same.steps }
+  key-same = record { steps = typed-same.steps }
 
   pub key-residents : HasSameResidents k (key k).kernel
   unfolding key settled

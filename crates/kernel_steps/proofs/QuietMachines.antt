@@ -5,7 +5,7 @@ use Rattle.guest_turns.specs.KernelCalls.KernelModel.Ranges.{most_steps}
 use Rattle.guest_turns.specs.KernelCalls.KernelModel.Image.{HasPlainWords, IsImage, image}
 use Rattle.guest_turns.specs.KernelCalls.KernelModel.Kernel.{Kernel}
 use Rattle.guest_turns.specs.KernelCalls.KernelModel.Task.{is_guest_id}
-use Rattle.guest_turns.specs.KernelCalls.KernelModel.ValidKernel.{IsFullMachine}
+use Rattle.guest_turns.specs.KernelCalls.KernelModel.ValidKernel.{IsValid}
 use Rattle.guest_turns.specs.KernelCalls.KernelModel.ValidLists.{AreValid}
 use Rattle.ram_disc.specs.Disc.{IsDisc}
 use Rattle.kernel_steps.specs.Parts.{IsTaken}
@@ -13,19 +13,19 @@ use Rattle.kernel_steps.specs.Quiet.{IsQuietFor, after_instruction_of, instructi
 use Rattle.kernel_steps.specs.Step.{Stepped, quietly, step, turn, with_step}
 use Rattle.kernel_steps.proofs.NextTick.{some-period}
 use Rattle.kernel_steps.proofs.QuietDevices.{ticked-store}
-use Rattle.kernel_steps.proofs.QuietSpans.{full-ready, guest-passed, passed-more, passed-none, quiet-behind, quiet-first}
+use Rattle.kernel_steps.proofs.QuietSpans.{valid-ready, guest-passed, passed-more, passed-none, quiet-behind, quiet-first}
 use Rattle.kernel_steps.proofs.QuietSteps.{guest-store, guest-turn, idle-ready, idle-step, left-store, other-steps}
 use Rattle.kernel_steps.proofs.StepKept.{step-left}
 use Rattle.kernel_steps.proofs.StoredWords.{HasStore}
 use Rattle.kernel_steps.proofs.TurnWays.{turn-nobody}
 
 -- a store of a valid kernel
-any-store : (s : List ℕ) (k : Kernel) → IsFullMachine k → k.bare ≡ false → IsImage s k → HasStore s k
-any-store s k h full is = record { full = full; valid = h.lists; image = is; plain = h.plain }
+any-store : (s : List ℕ) (k : Kernel) → IsValid k → IsImage s k → HasStore s k
+any-store s k h is = record { valid = h.lists; image = is; plain = h.plain }
 
 -- where the turn leaves lists that are valid, and the disc, and the step just a kernel that has a store, that one is valid
-quiet-full : (k i j : Kernel) (t : List ℕ) → IsFullMachine k → k.stop ≡ None → k.steps < most_steps → turn (with_step k) ≡ quietly i → AreValid i.lists → i.disc ≡ k.disc → step k ≡ quietly j → HasStore t j → IsFullMachine j
-quiet-full k i j t h goes few turned v disc is store =
+quiet-valid : (k i j : Kernel) (t : List ℕ) → IsValid k → k.stop ≡ None → k.steps < most_steps → turn (with_step k) ≡ quietly i → AreValid i.lists → i.disc ≡ k.disc → step k ≡ quietly j → HasStore t j → IsValid j
+quiet-valid k i j t h goes few turned v disc is store =
     let taken : IsTaken k =
     record {
       turned = subst (λ (x : Stepped). AreValid x.kernel.lists) (sym turned) v;
@@ -33,36 +33,36 @@ quiet-full k i j t h goes few turned v disc is store =
       lists = subst (λ (x : Stepped). AreValid x.kernel.lists) (sym is) store.valid;
       plain = subst (λ (x : Stepped). HasPlainWords x.kernel) (sym is) store.plain;
     } in
-    subst (λ (x : Stepped). IsFullMachine x.kernel) is (step-left k h goes few taken).0
+    subst (λ (x : Stepped). IsValid x.kernel) is (step-left k h goes few taken)
 
 -- ---- where nobody runs
 
-pub idle-full : (m : ℕ) (k : Kernel) → IsFullMachine k → k.bare ≡ false → k.stop ≡ None → k.lists.running ≡ 0 → k.steps + m ≤ most_steps → IsQuietFor m k
-    → IsFullMachine (passed m k)
-idle-full zero k h full goes none few q = subst IsFullMachine (sym (passed-none k (h.running goes).tick)) h
-idle-full (suc m) k h full goes none few q =
-    let ready = full-ready k h full goes in
+pub idle-valid : (m : ℕ) (k : Kernel) → IsValid k → k.stop ≡ None → k.lists.running ≡ 0 → k.steps + m ≤ most_steps → IsQuietFor m k
+    → IsValid (passed m k)
+idle-valid zero k h goes none few q = subst IsValid (sym (passed-none k (h.running goes).tick)) h
+idle-valid (suc m) k h goes none few q =
+    let ready = valid-ready k h goes in
     let some : 0 < k.lists.period = some-period k.lists h.lists in
     let first : IsQuietFor 1 k = quiet-first k some ready.ticks m q in
-    let next : IsFullMachine (passed 1 k) =
-    quiet-full k (with_step k) (passed 1 k) _ h goes (omega (arith, few)) (turn-nobody (with_step k) none) h.lists refl (idle-step (image k) k ready none first) (idle-ready (image k) k ready none first).store
+    let next : IsValid (passed 1 k) =
+    quiet-valid k (with_step k) (passed 1 k) _ h goes (omega (arith, few)) (turn-nobody (with_step k) none) h.lists refl (idle-step (image k) k ready none first) (idle-ready (image k) k ready none first).store
     in
-    subst IsFullMachine (passed-more m k)
-    (idle-full m (passed 1 k) next full goes none (omega (arith, few)) (quiet-behind k some ready.ticks m q))
+    subst IsValid (passed-more m k)
+    (idle-valid m (passed 1 k) next goes none (omega (arith, few)) (quiet-behind k some ready.ticks m q))
 
 -- the word of the ticks is the only one that changes
-pub idle-image : (s : List ℕ) (m : ℕ) (k : Kernel) → IsFullMachine k → k.bare ≡ false → IsImage s k → IsImage (set s 108 ((k.steps + m) / k.lists.period)) (passed m k)
-idle-image s m k h full is =
-    (ticked-store s (record k { steps = k.steps + m }) (other-steps s k (k.steps + m) (any-store s k h full is)) ((k.steps + m) / k.lists.period)).image
+pub idle-image : (s : List ℕ) (m : ℕ) (k : Kernel) → IsValid k → IsImage s k → IsImage (set s 108 ((k.steps + m) / k.lists.period)) (passed m k)
+idle-image s m k h is =
+    (ticked-store s (record k { steps = k.steps + m }) (other-steps s k (k.steps + m) (any-store s k h is)) ((k.steps + m) / k.lists.period)).image
 
 -- ---- where a guest executes an instruction
 
-module _ (k : Kernel) (h : IsFullMachine k) (full : k.bare ≡ false) (goes : k.stop ≡ None) (guest : is_guest_id k.lists.running ≡ true) (next : (instruction_of k).outcome ≡ Next) where
-  pub guest-full : k.steps < most_steps → IsQuietFor 1 k → IsFullMachine (passed 1 (after_instruction_of k))
-  guest-full few q =
-      let ready = full-ready k h full goes in
-      quiet-full k (with_step (after_instruction_of k)) (passed 1 (after_instruction_of k)) _ h goes few (guest-turn (image k) k ready guest next) h.lists refl (guest-passed k ready guest next q)
+module _ (k : Kernel) (h : IsValid k) (goes : k.stop ≡ None) (guest : is_guest_id k.lists.running ≡ true) (next : (instruction_of k).outcome ≡ Next) where
+  pub guest-valid : k.steps < most_steps → IsQuietFor 1 k → IsValid (passed 1 (after_instruction_of k))
+  guest-valid few q =
+      let ready = valid-ready k h goes in
+      quiet-valid k (with_step (after_instruction_of k)) (passed 1 (after_instruction_of k)) _ h goes few (guest-turn (image k) k ready guest next) h.lists refl (guest-passed k ready guest next q)
       (guest-store (image k) k ready guest next)
 
   pub guest-image : IsImage (instruction_of k).words (with_step (after_instruction_of k))
-  guest-image = (left-store (image k) k (full-ready k h full goes) guest next).image
+  guest-image = (left-store (image k) k (valid-ready k h goes) guest next).image

@@ -9,17 +9,17 @@ use Rattle.guest_turns.specs.KernelCalls.KernelModel.Image.{image}
 use Rattle.guest_turns.specs.KernelCalls.KernelModel.Kernel.{Kernel}
 use Rattle.guest_turns.specs.KernelCalls.KernelModel.Lists.{Lists}
 use Rattle.guest_turns.specs.KernelCalls.KernelModel.Task.{is_guest_id}
-use Rattle.guest_turns.specs.KernelCalls.KernelModel.ValidKernel.{IsFullMachine}
+use Rattle.guest_turns.specs.KernelCalls.KernelModel.ValidKernel.{IsValid}
 use Rattle.kernel_steps.specs.Quiet.{AreDueAfter, AwaitsTick, ComeAfter, IsQuietFor, after_instruction_of, instruction_of, passed, with_ticks}
 use Rattle.kernel_steps.specs.Step.{and_then, quietly, run, step, with_step}
 use Rattle.kernel_steps.proofs.NextTick.{next-tick, some-period}
 use Rattle.kernel_steps.proofs.QuietSteps.{IsReady, guest-step, idle-ready, idle-step}
-use Rattle.kernel_steps.proofs.RunningCaller.{full-runs}
-use Rattle.kernel_steps.proofs.StoredWords.{full-store}
+use Rattle.kernel_steps.proofs.RunningCaller.{valid-runs}
+use Rattle.kernel_steps.proofs.StoredWords.{valid-store}
 
 -- between steps a valid kernel is ready for one
-pub full-ready : (k : Kernel) → IsFullMachine k → k.bare ≡ false → k.stop ≡ None → IsReady (image k) k
-full-ready k h full goes = record { store = full-store k h full; runs = full-runs k h goes; ticks = (h.running goes).tick; goes = goes }
+pub valid-ready : (k : Kernel) → IsValid k → k.stop ≡ None → IsReady (image k) k
+valid-ready k h goes = record { store = valid-store k h; runs = valid-runs k h goes; ticks = (h.running goes).tick; goes = goes }
 
 -- ---- shorter spans, and what is left of one
 

@@ -71,7 +71,6 @@ pub record IsReady (s : List ℕ) (k : Kernel) : Type 0 where
 -- the number of steps is no part of the store
 pub other-steps : (s : List ℕ) (k : Kernel) (n : ℕ) → HasStore s k → HasStore s (record k { steps = n })
 other-steps s k n h = record {
-  full = h.full;
   valid = h.valid;
   image = record { size = h.image.size; holds = h.image.holds; plain = h.image.plain };
   plain = record { size = h.plain.size; plain = h.plain.plain; owned = h.plain.owned };
@@ -121,7 +120,7 @@ module _ (s : List ℕ) (k : Kernel) (h : IsReady s k) (guest : is_guest_id k.li
   words-hold = holds-kept (image k) (instruction_of k).words k.lists (subst (λ z. HoldsLists z k.lists) (store-image s k h.store) (store-holds s k h.store)) (keeps-marked (is_owned k.lists) (image k) k.regs)
 
   pub left-store : HasStore (instruction_of k).words left
-  left-store = stored (instruction_of k).words k.lists (record (with_step k) { regs = (instruction_of k).regs }) h.store.full words-hold
+  left-store = stored (instruction_of k).words k.lists (record (with_step k) { regs = (instruction_of k).regs }) words-hold
 
   left-runs : RunsFirst left.lists left.regs
   left-runs =

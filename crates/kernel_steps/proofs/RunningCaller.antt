@@ -6,7 +6,7 @@ use Rattle.word_store.specs.declared.registers.Regs.{Regs}
 use Rattle.guest_turns.specs.KernelCalls.KernelModel.Kernel.{Kernel}
 use Rattle.guest_turns.specs.KernelCalls.KernelModel.Lists.{Lists, has_task}
 use Rattle.guest_turns.specs.KernelCalls.KernelModel.Task.{is_guest_id}
-use Rattle.guest_turns.specs.KernelCalls.KernelModel.ValidKernel.{IsFullMachine}
+use Rattle.guest_turns.specs.KernelCalls.KernelModel.ValidKernel.{IsValid}
 use Rattle.guest_turns.specs.KernelCalls.KernelModel.ValidLists.{AreValid}
 use Rattle.guest_turns.specs.KernelCalls.KernelModel.ValidTasks.{runs}
 use Rattle.guest_turns.proofs.Shown.KernelCalls.KernelModel.EachMember.{all-each}
@@ -18,8 +18,8 @@ use Rattle.guest_turns.proofs.RunningField.{RunsAs, RunsIn}
 use Rattle.kernel_steps.specs.Parts.{RunsFirst}
 
 -- between steps it does
-pub full-runs : (k : Kernel) → IsFullMachine k → k.stop ≡ None → RunsFirst k.lists k.regs
-full-runs k h goes =
+pub valid-runs : (k : Kernel) → IsValid k → k.stop ≡ None → RunsFirst k.lists k.regs
+valid-runs k h goes =
     let first = h.running goes in
     record { running = first.running; field = first.field; byte = h.registers.byte; idle = h.registers.idle }
 

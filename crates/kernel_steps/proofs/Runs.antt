@@ -2,7 +2,8 @@
 use Rattle.std.proofs.Common.{◌≡◌, ◌≢◌, ℕ, zero, suc, ◌+◌, ◌≤◌, Bool, true, false, Option, Some, None, cond, refl, sym, ap, ◌∙◌, arith}
 use Rattle.std.specs.Prelude.{is_some}
 use Rattle.std.proofs.lemmas.List.{append_assoc}
-use Rattle.guest_turns.specs.KernelCalls.KernelModel.Kernel.{Kernel, Stop}
+use Rattle.guest_turns.specs.KernelCalls.KernelModel.Kernel.{Kernel}
+use Rattle.guest_turns.specs.KernelCalls.KernelModel.declared.stops.Stop.{Stop}
 use Rattle.kernel_steps.specs.Step.{Stepped, after_the_turn, and_then, behind, key, output, quietly, run, step, tick, turn, unless_stopped, with_step}
 use Rattle.kernel_steps.proofs.DevicesKept.{key-same, output-same, tick-same}
 use Rattle.kernel_steps.proofs.StepKept.{dispatch-same}

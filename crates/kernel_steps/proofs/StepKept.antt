@@ -6,8 +6,9 @@ use Rattle.guest_turns.specs.KernelCalls.KernelModel.Ranges.{most_steps}
 use Rattle.ram_disc.specs.Disc.{IsDisc}
 use Rattle.guest_turns.specs.KernelCalls.KernelModel.Between.{RunsFirstReady}
 use Rattle.guest_turns.specs.KernelCalls.KernelModel.Image.{HasPlainWords, image, settled}
-use Rattle.guest_turns.specs.KernelCalls.KernelModel.Kernel.{Kernel, Stop}
-use Rattle.guest_turns.specs.KernelCalls.KernelModel.ValidKernel.{IsFullMachine}
+use Rattle.guest_turns.specs.KernelCalls.KernelModel.Kernel.{Kernel}
+use Rattle.guest_turns.specs.KernelCalls.KernelModel.declared.stops.Stop.{Stop}
+use Rattle.guest_turns.specs.KernelCalls.KernelModel.ValidKernel.{IsValid}
 use Rattle.guest_turns.specs.KernelCalls.KernelModel.ValidLists.{AreValid}
 use Rattle.guest_turns.specs.KernelCalls.KernelDispatch.Dispatch.{CanDispatch}
 use Rattle.kernel_devices.specs.ClockDevice.Tick.{ticked}
@@ -20,7 +21,7 @@ use Rattle.kernel_steps.proofs.DeviceRules.{NoDeviceHas, dispatch-keeps, finishe
 use Rattle.kernel_steps.proofs.DevicesKept.{key-ahead, key-dispatch, key-keys, key-numbers, key-residents, key-same, output-dispatch, output-keys, output-numbers, output-residents, output-same, tick-dispatch, tick-keys, tick-numbers, tick-residents, tick-same, typed-lists}
 use Rattle.kernel_steps.proofs.DispatchKept.{dispatch-numbers, runs-first}
 use Rattle.kernel_steps.proofs.NextTick.{some-period, tick-periods}
-use Rattle.kernel_steps.proofs.RunningCaller.{full-runs, runs-dispatches}
+use Rattle.kernel_steps.proofs.RunningCaller.{valid-runs, runs-dispatches}
 use Rattle.kernel_steps.proofs.TurnKept.{numbers-turn, turn-dispatch, turn-keys, turn-same}
 use Rattle.kernel_steps.proofs.TurnRules.{rules-kept, turn-rules}
 
@@ -37,8 +38,8 @@ pub record IsAmid (k j : Kernel) : Type 0 where
   pub can : CanDispatch j.lists j.regs
 
 -- what is valid of it
-pub amid-full : (k j : Kernel) → IsAmid (with_step k) j → k.steps < most_steps → AreValid j.lists → HasPlainWords j → (j.stop ≡ None → RunsFirstReady j) → IsFullMachine j
-amid-full k j m few v plain runs =
+pub amid-valid : (k j : Kernel) → IsAmid (with_step k) j → k.steps < most_steps → AreValid j.lists → HasPlainWords j → (j.stop ≡ None → RunsFirstReady j) → IsValid j
+amid-valid k j m few v plain runs =
     record {
       lists = v;
       plain = plain;
@@ -57,7 +58,7 @@ amid-then : (k i j : Kernel) (n : Numbers) → IsAmid k i → IsSameMachine i j 
     → AllByRecursion (λ key. key.0 ≤ most_steps) j.keys → length j.type_ahead ≤ 128 → KeepsRules i.lists j.lists → CanDispatch j.lists j.regs → IsAmid k j
 amid-then k i j n a same residents numbers version there period keys ahead keeps can =
     record {
-      same = record { bare = same.bare ∙ a.same.bare; steps = same.steps ∙ a.same.steps };
+      same = record { steps = same.steps ∙ a.same.steps };
       version = ap (λ x. x.version) numbers ∙ version ∙ a.version;
       residents = ap (λ x. x.residents) numbers ∙ there ∙ a.residents;
       period = ap (λ x. x.period) numbers ∙ period ∙ a.period;
@@ -111,7 +112,7 @@ module _ (k j : Kernel) (a : IsAmid k j) (has : NoDeviceHas j.lists) where
 module _ (k : Kernel) where
   pub dispatch-same : IsSameMachine k (dispatch k).kernel
   unfolding dispatch settled
-  dispatch-same = record { bare = refl; steps = refl }
+  dispatch-same = record { steps = refl }
 
   pub dispatch-residents : HasSameResidents k (dispatch k).kernel
   unfolding dispatch settled
@@ -143,16 +144,16 @@ module _ (k j : Kernel) (a : IsAmid k j) (v : AreValid (dispatch j).kernel.lists
 -- ---- the step
 
 -- between steps a turn may follow
-pub step-turns : (k : Kernel) → IsFullMachine k → k.stop ≡ None → CanTurn (with_step k)
+pub step-turns : (k : Kernel) → IsValid k → k.stop ≡ None → CanTurn (with_step k)
 step-turns k h goes =
     record {
       goes = goes;
       lists = h.lists;
-      first = full-runs k h goes;
+      first = valid-runs k h goes;
       rules = rules-kept k (with_step k) (record { console = refl; shell = refl; disc = refl; pipes = refl }) refl refl (keeps-none k.lists) h.residents.ahead (record { faults = h.faults; residents = h.residents; pipes = h.pipes });
     }
 
-module _ (k : Kernel) (h : IsFullMachine k) (goes : k.stop ≡ None) where
+module _ (k : Kernel) (h : IsValid k) (goes : k.stop ≡ None) where
   abbrev turned : Kernel
   turned = (turn (with_step k)).kernel
 
@@ -233,16 +234,16 @@ module _ (k : Kernel) (h : IsFullMachine k) (goes : k.stop ≡ None) where
 
     module _ (few : k.steps < most_steps) where
       abbrev IsLeft : Kernel → Type 0
-      IsLeft j = AreValid j.lists → HasPlainWords j → IsFullMachine j × (j.bare ≡ k.bare)
+      IsLeft j = AreValid j.lists → HasPlainWords j → IsValid j
 
       left-turned : turned.stop ≢ None → IsLeft turned
-      left-turned stopped w plain = (amid-full k turned amid-turned few w plain (λ none. absurd (stopped none)), amid-turned.same.bare)
+      left-turned stopped w plain = amid-valid k turned amid-turned few w plain (λ none. absurd (stopped none))
 
       left-last : IsLeft (dispatch served_all).kernel
-      left-last w plain = (amid-full k (dispatch served_all).kernel (amid-last w) few w plain (λ none. runs-last w), (amid-last w).same.bare)
+      left-last w plain = amid-valid k (dispatch served_all).kernel (amid-last w) few w plain (λ none. runs-last w)
 
       left : IsLeft (step k).kernel
       left = step-ways IsLeft left-turned (λ none. left-last)
 
-  pub step-left : k.steps < most_steps → IsTaken k → IsFullMachine (step k).kernel × ((step k).kernel.bare ≡ k.bare)
+  pub step-left : k.steps < most_steps → IsTaken k → IsValid (step k).kernel
   step-left few is = left is.turned is.disc few is.lists is.plain

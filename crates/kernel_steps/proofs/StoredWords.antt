@@ -10,17 +10,16 @@ use Rattle.guest_turns.proofs.Shown.KernelCalls.OwnedWords.OwnedWords.{word_in-n
 use Rattle.guest_turns.specs.KernelCalls.KernelModel.ChangedStore.{IsChanged}
 use Rattle.guest_turns.specs.KernelCalls.KernelModel.HoldsLists.{HoldsLists}
 use Rattle.guest_turns.specs.KernelCalls.KernelModel.Image.{HasPlainWords, IsImage, image, plain_at, plain_words, settled}
-use Rattle.guest_turns.specs.KernelCalls.KernelModel.Kernel.{Kernel, owned_by}
+use Rattle.guest_turns.specs.KernelCalls.KernelModel.Kernel.{Kernel}
 use Rattle.guest_turns.specs.KernelCalls.KernelModel.Lists.{Lists}
 use Rattle.guest_turns.specs.KernelCalls.KernelModel.Owned.{OwnsApart, owned}
-use Rattle.guest_turns.specs.KernelCalls.KernelModel.ValidKernel.{IsFullMachine, IsMachine}
+use Rattle.guest_turns.specs.KernelCalls.KernelModel.ValidKernel.{IsValid}
 use Rattle.guest_turns.specs.KernelCalls.KernelModel.ValidLists.{AreValid}
 use Rattle.guest_turns.proofs.Shown.KernelCalls.KernelModel.ImageWords.{image-list, valid-image}
 use Rattle.kernel_steps.specs.Step.{with_store}
 
--- the store of a full kernel with valid lists
+-- the store of a kernel with valid lists
 pub record HasStore (s : List ℕ) (k : Kernel) : Type 0 where
-  pub full : k.bare ≡ false
   pub valid : AreValid k.lists
   pub image : IsImage s k
   pub plain : HasPlainWords k
@@ -29,19 +28,11 @@ pub record HasStore (s : List ℕ) (k : Kernel) : Type 0 where
 pub store-image : (s : List ℕ) (k : Kernel) → HasStore s k → s ≡ image k
 store-image s k h = image-list s k h.image
 
-pub owned-full : (k : Kernel) → k.bare ≡ false → owned_by k ≡ owned k.lists
-owned-full k full = ap (λ b. cond b [] (owned k.lists)) full
-
 pub store-holds : (s : List ℕ) (k : Kernel) → HasStore s k → HoldsLists s k.lists
-store-holds s k h = record { valid = h.valid; size = h.image.size; holds = subst (Holds s) (owned-full k h.full) h.image.holds }
+store-holds s k h = record { valid = h.valid; size = h.image.size; holds = h.image.holds }
 
-pub full-store : (k : Kernel) → IsFullMachine k → k.bare ≡ false → HasStore (image k) k
-full-store k h full = record {
-  full = full;
-  valid = h.lists;
-  image = valid-image k (subst (λ b. IsMachine b k) (sym full) h);
-  plain = h.plain;
-}
+pub valid-store : (k : Kernel) → IsValid k → HasStore (image k) k
+valid-store k h = record { valid = h.lists; image = valid-image k h; plain = h.plain }
 
 -- ---- plain words
 
@@ -72,50 +63,40 @@ module _ (s : List ℕ) (l : Lists) where
   word-owned a low some = word-there a low ∙ ap (λ b. cond b None (Some (get_or s a 0))) (word_in-some a (owned l) some)
 
   -- the kernel that takes all its plain words from a store
-  pub plain-stored : (k : Kernel) → k.bare ≡ false → OwnsApart l → HasPlainWords (with_store s l k)
-  plain-stored k full own =
-      let all : (a : ℕ) → owners a (owned_by (with_store s l k)) ≡ owners a (owned l) = λ a. ap (owners a) (owned-full (with_store s l k) full) in
-      record {
-        size = words-length;
-        plain = λ a low none. (get_or s a 0, word-unowned a low (sym (all a) ∙ none));
-        owned = λ a some. (let here : 0 < owners a (owned l) = omega (arith, some, all a) in word-owned a (own.inside a here) here);
-      }
+  pub plain-stored : (k : Kernel) → OwnsApart l → HasPlainWords (with_store s l k)
+  plain-stored k own = record {
+    size = words-length;
+    plain = λ a low none. (get_or s a 0, word-unowned a low none);
+    owned = λ a some. word-owned a (own.inside a some) some;
+  }
 
 -- the store t stands for it, where of the words that nobody owns these plain ones were written
-pub image-stored : (s t : List ℕ) (l : Lists) (k : Kernel) (plain : Pairs) → k.bare ≡ false → length t ≡ l.size → IsWritten s t (owned l) plain → IsImage t (with_store (written plain s) l k)
-image-stored s t l k plain full size w =
-    let own : owned_by (with_store (written plain s) l k) ≡ owned l = owned-full (with_store (written plain s) l k) full in
-    record {
-      size = size;
-      holds = subst (Holds t) (sym own) w.holds;
-      plain = λ a low none.
-          let free : owners a (owned l) ≡ 0 = sym (ap (owners a) own) ∙ none in
-          word-unowned (written plain s) l a (omega (arith, low, size)) free ∙ ap (λ z. Some z) (sym (w.others a free));
-    }
+pub image-stored : (s t : List ℕ) (l : Lists) (k : Kernel) (plain : Pairs) → length t ≡ l.size → IsWritten s t (owned l) plain → IsImage t (with_store (written plain s) l k)
+image-stored s t l k plain size w = record {
+  size = size;
+  holds = w.holds;
+  plain = λ a low none. word-unowned (written plain s) l a (omega (arith, low, size)) none ∙ ap (λ z. Some z) (sym (w.others a none));
+}
 
-pub stored : (s : List ℕ) (l : Lists) (k : Kernel) → k.bare ≡ false → HoldsLists s l → HasStore s (with_store s l k)
-stored s l k full h = record {
-  full = full;
+pub stored : (s : List ℕ) (l : Lists) (k : Kernel) → HoldsLists s l → HasStore s (with_store s l k)
+stored s l k h = record {
   valid = h.valid;
-  image = image-stored s s l k [] full h.size (record { holds = h.holds; others = λ a none. refl });
-  plain = plain-stored s l k full h.valid.owns;
+  image = image-stored s s l k [] h.size (record { holds = h.holds; others = λ a none. refl });
+  plain = plain-stored s l k h.valid.owns;
 }
 
 -- lists that own the same words leave the same plain ones
 pub same-plain : (s : List ℕ) (k : Kernel) (l : Lists) → HasStore s k → l.size ≡ k.lists.size → ((a : ℕ) → owners a (owned l) ≡ owners a (owned k.lists)) → plain_words s l ≡ k.plain
 same-plain s k l h size own = ext_get_or None (plain_words s l) k.plain (words-length s l ∙ size ∙ sym h.plain.size) each
   where
-    all : (a : ℕ) → owners a (owned_by k) ≡ owners a (owned l)
-    all a = ap (owners a) (owned-full k h.full) ∙ sym (own a)
-
     each : (a : ℕ) → a < length (plain_words s l) → get_or (plain_words s l) a None ≡ plain_at k a
     each a low =
         let inside : a < l.size = omega (arith, low, words-length s l) in
         elim (cases_lt 0 (owners a (owned l))) [
-          | inl some ↦ word-owned s l a inside some ∙ sym (h.plain.owned a (omega (arith, some, all a)))
+          | inl some ↦ word-owned s l a inside some ∙ sym (h.plain.owned a (omega (arith, some, own a)))
           | inr few ↦
               let none : owners a (owned l) ≡ 0 = omega (arith, few) in
-              word-unowned s l a inside none ∙ sym (h.image.plain a (omega (arith, inside, size, h.image.size)) (all a ∙ none))
+              word-unowned s l a inside none ∙ sym (h.image.plain a (omega (arith, inside, size, h.image.size)) (sym (own a) ∙ none))
         ]
 
 -- settling such lists changes nothing else
@@ -129,24 +110,18 @@ settled-same s k l h size own =
 -- the store of a kernel whose lists have changed, while they own the same words
 pub changed-store : (s t : List ℕ) (k : Kernel) (l : Lists) → HasStore s k → l.size ≡ k.lists.size → ((a : ℕ) → owners a (owned l) ≡ owners a (owned k.lists)) → IsChanged s t l []
     → HasStore t (record k { lists = l })
-changed-store s t k l h size own c =
-    let j : Kernel = record k { lists = l } in
-    let all : owned_by j ≡ owned l = owned-full j h.full in
-    let same : (a : ℕ) → owners a (owned_by j) ≡ owners a (owned_by k) = λ a. ap (owners a) all ∙ own a ∙ ap (owners a) (sym (owned-full k h.full)) in
-    record {
-      full = h.full;
-      valid = c.lists.valid;
-      image =
-          record {
-            size = c.lists.size;
-            holds = subst (Holds t) (sym all) c.lists.holds;
-            plain = λ a low none.
-                h.image.plain a (omega (arith, low, c.size)) (sym (same a) ∙ none) ∙ ap (λ w. Some w) (sym (c.written.others a (ap (owners a) (sym all) ∙ none)));
-          };
-      plain =
-          record {
-            size = h.plain.size ∙ sym size;
-            plain = λ a low none. h.plain.plain a (omega (arith, low, size)) (sym (same a) ∙ none);
-            owned = λ a some. h.plain.owned a (omega (arith, some, same a));
-          };
-    }
+changed-store s t k l h size own c = record {
+  valid = c.lists.valid;
+  image =
+      record {
+        size = c.lists.size;
+        holds = c.lists.holds;
+        plain = λ a low none. h.image.plain a (omega (arith, low, c.size)) (sym (own a) ∙ none) ∙ ap (λ w. Some w) (sym (c.written.others a none));
+      };
+  plain =
+      record {
+        size = h.plain.size ∙ sym size;
+        plain = λ a low none. h.plain.plain a (omega (arith, low, size)) (sym (own a) ∙ none);
+        owned = λ a some. h.plain.owned a (omega (arith, some, own a));
+      };
+}

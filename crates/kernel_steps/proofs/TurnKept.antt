@@ -33,13 +33,13 @@ pub turn-same : (k : Kernel) → IsSameMachine k (turn k).kernel
 turn-same k =
     turn-ways (λ x. IsSameMachine k x.kernel) k
     (record {
-      guest = λ e. record { bare = refl; steps = refl };
-      shell = λ e. record { bare = refl; steps = refl };
-      reporter = λ e. record { bare = refl; steps = refl };
-      console = λ e. record { bare = refl; steps = refl };
-      files = λ e. record { bare = refl; steps = refl };
-      pipes = λ e f. record { bare = refl; steps = refl };
-      nobody = λ e. record { bare = refl; steps = refl };
+      guest = λ e. record { steps = refl };
+      shell = λ e. record { steps = refl };
+      reporter = λ e. record { steps = refl };
+      console = λ e. record { steps = refl };
+      files = λ e. record { steps = refl };
+      pipes = λ e f. record { steps = refl };
+      nobody = λ e. record { steps = refl };
     })
 
 pub turn-keys : (k : Kernel) → HasSameKeys k (turn k).kernel

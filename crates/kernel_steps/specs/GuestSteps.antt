@@ -4,8 +4,9 @@ use Rattle.word_store.specs.declared.registers.Regs.{Regs}
 use Rattle.cint_exec.specs.declared.Fault.{Fault}
 use Rattle.guest_turns.specs.KernelCalls.OwnedWords.Owned.{written}
 use Rattle.guest_turns.specs.KernelCalls.KernelModel.Image.{image}
-use Rattle.guest_turns.specs.KernelCalls.KernelModel.Kernel.{Kernel, Stop}
-use Rattle.guest_turns.specs.KernelCalls.KernelModel.Kernel.Stop.{Fault as StopByFault, Quit}
+use Rattle.guest_turns.specs.KernelCalls.KernelModel.Kernel.{Kernel}
+use Rattle.guest_turns.specs.KernelCalls.KernelModel.declared.stops.Stop.{Stop}
+use Rattle.guest_turns.specs.KernelCalls.KernelModel.declared.stops.Stop.TheVariants.{Fault as StopByFault, Quit}
 use Rattle.guest_turns.specs.KernelCalls.KernelModel.Lists.{Lists, has_task}
 use Rattle.guest_turns.specs.GuestTurn.{Turned, turn_without_reporter}
 use Rattle.guest_turns.specs.declared.turns.TurnEnd.{TurnEnd}

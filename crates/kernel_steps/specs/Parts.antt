@@ -37,7 +37,6 @@ pub record CanTurn (k : Kernel) : Type 0 where
 
 -- what no part of a step changes
 pub record IsSameMachine (k j : Kernel) : Type 0 where
-  pub bare : j.bare ≡ k.bare
   pub steps : j.steps ≡ k.steps
 
 -- what none but residents change

@@ -5,7 +5,7 @@ use Rattle.guest_turns.specs.KernelCalls.PacketQueue.QueueWords.{QueuedPacket}
 use Rattle.ram_disc.specs.Disc.{Disc}
 use Rattle.guest_turns.specs.KernelCalls.KernelModel.Image.{image}
 use Rattle.guest_turns.specs.KernelCalls.KernelModel.Kernel.{Kernel, Pipe}
-use Rattle.guest_turns.specs.KernelCalls.KernelModel.Kernel.Stop.{Finish}
+use Rattle.guest_turns.specs.KernelCalls.KernelModel.declared.stops.Stop.TheVariants.{Finish}
 use Rattle.guest_turns.specs.KernelCalls.KernelModel.Lists.{Lists}
 use Rattle.cli_shell.specs.KernelResidents.ResidentRequests.Requests.{work}
 use Rattle.cli_shell.specs.KernelResidents.ResidentRequests.Turns.{ResidentTurn}

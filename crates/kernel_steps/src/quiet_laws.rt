@@ -7,32 +7,32 @@ ghost use Rattle.guest_turns.specs.KernelCalls.TaskBlock.declared.roots.RootFiel
 ghost use Rattle.guest_turns.specs.KernelCalls.KernelModel.Image.{IsImage};
 ghost use Rattle.guest_turns.specs.KernelCalls.KernelModel.Kernel.{Kernel};
 ghost use Rattle.guest_turns.specs.KernelCalls.KernelModel.Task.{is_guest_id};
-ghost use Rattle.guest_turns.specs.KernelCalls.KernelModel.ValidKernel.{IsFullMachine};
+ghost use Rattle.guest_turns.specs.KernelCalls.KernelModel.ValidKernel.{IsValid};
 ghost use Rattle.guest_turns.specs.KernelCalls.PacketCalls.Returned.{unserved};
 ghost use Rattle.kernel_steps.specs.Quiet.{IsQuietFor, after_instruction_of, instruction_of, passed};
 ghost use Rattle.kernel_steps.specs.Step.{dispatch, quietly, run, served, step, with_step};
 
 /// A dispatch between steps changes nothing, and neither does a device that serves nobody.
 pub fn settled_law()
-    ensures dispatch { (k : Kernel) → IsFullMachine k → k.bare ≡ false → k.stop ≡ None
+    ensures dispatch { (k : Kernel) → IsValid k → k.stop ≡ None
         → dispatch k ≡ quietly k }
-    ensures unserved { (k : Kernel) → IsFullMachine k → k.bare ≡ false
+    ensures unserved { (k : Kernel) → IsValid k
         → served k (unserved k.lists) ≡ quietly k }
 {}
 
 /// Where nobody runs, a quiet span changes the number of steps and the ticks, and nothing else. It leaves a valid kernel,
 /// and of the store the word of the ticks is the only one that changes.
 pub fn idle_law()
-    ensures run { (m : ℕ) (k : Kernel) → IsFullMachine k → k.bare ≡ false → k.stop ≡ None
+    ensures run { (m : ℕ) (k : Kernel) → IsValid k → k.stop ≡ None
         → k.lists.running ≡ 0
         → IsQuietFor m k
         → run m k ≡ quietly (passed m k) }
-    ensures full { (m : ℕ) (k : Kernel) → IsFullMachine k → k.bare ≡ false → k.stop ≡ None
+    ensures valid { (m : ℕ) (k : Kernel) → IsValid k → k.stop ≡ None
         → k.lists.running ≡ 0
         → k.steps + m ≤ most_steps
         → IsQuietFor m k
-        → IsFullMachine (passed m k) }
-    ensures image { (s : List ℕ) (m : ℕ) (k : Kernel) → IsFullMachine k → k.bare ≡ false
+        → IsValid (passed m k) }
+    ensures image { (s : List ℕ) (m : ℕ) (k : Kernel) → IsValid k
         → IsImage s k
         → IsImage (slice_set s (root_address Tick) ((k.steps + m) / k.lists.period)) (passed m k) }
 {}
@@ -40,30 +40,30 @@ pub fn idle_law()
 /// Where a guest runs, a quiet step is its instruction and no more. It leaves a valid kernel, and the quiet span goes on
 /// behind it. Where the step is no tick, the ticks stay, and the store is the one that the instruction left.
 pub fn guest_law()
-    ensures step { (k : Kernel) → IsFullMachine k → k.bare ≡ false → k.stop ≡ None
+    ensures step { (k : Kernel) → IsValid k → k.stop ≡ None
         → is_guest_id k.lists.running ≡ true
         → (instruction_of k).outcome ≡ Next
         → IsQuietFor 1 k
         → step k ≡ quietly (passed 1 (after_instruction_of k)) }
-    ensures full { (k : Kernel) → IsFullMachine k → k.bare ≡ false → k.stop ≡ None
+    ensures valid { (k : Kernel) → IsValid k → k.stop ≡ None
         → is_guest_id k.lists.running ≡ true
         → (instruction_of k).outcome ≡ Next
         → k.steps < most_steps
         → IsQuietFor 1 k
-        → IsFullMachine (passed 1 (after_instruction_of k)) }
-    ensures behind { (m : ℕ) (k : Kernel) → IsFullMachine k → k.bare ≡ false → k.stop ≡ None
+        → IsValid (passed 1 (after_instruction_of k)) }
+    ensures behind { (m : ℕ) (k : Kernel) → IsValid k → k.stop ≡ None
         → IsQuietFor (suc m) k
         → IsQuietFor m (passed 1 (after_instruction_of k)) }
-    ensures left { (m : ℕ) (k j : Kernel) → IsFullMachine k → k.bare ≡ false → k.stop ≡ None
+    ensures left { (m : ℕ) (k j : Kernel) → IsValid k → k.stop ≡ None
         → is_guest_id k.lists.running ≡ true
         → (instruction_of k).outcome ≡ Next
         → IsQuietFor (suc m) k
         → step k ≡ quietly j
         → IsQuietFor m j }
-    ensures no_tick { (k : Kernel) → IsFullMachine k → k.bare ≡ false → k.stop ≡ None
+    ensures no_tick { (k : Kernel) → IsValid k → k.stop ≡ None
         → (k.steps + 1) % k.lists.period ≢ 0
         → passed 1 (after_instruction_of k) ≡ with_step (after_instruction_of k) }
-    ensures image { (k : Kernel) → IsFullMachine k → k.bare ≡ false → k.stop ≡ None
+    ensures image { (k : Kernel) → IsValid k → k.stop ≡ None
         → is_guest_id k.lists.running ≡ true
         → (instruction_of k).outcome ≡ Next
         → IsImage (instruction_of k).words (with_step (after_instruction_of k)) }

@@ -3,7 +3,7 @@ ghost use Rattle.std.specs.Prelude.{◌≡◌, None, true};
 ghost use Rattle.ram_disc.specs.Disc.{IsDisc};
 ghost use Rattle.guest_turns.specs.KernelCalls.KernelModel.Kernel.{Kernel};
 ghost use Rattle.guest_turns.specs.KernelCalls.KernelModel.Task.{is_guest_id};
-ghost use Rattle.guest_turns.specs.KernelCalls.KernelModel.ValidKernel.{IsFullMachine};
+ghost use Rattle.guest_turns.specs.KernelCalls.KernelModel.ValidKernel.{IsValid};
 ghost use Rattle.guest_turns.specs.KernelCalls.KernelModel.ValidLists.{AreValid};
 ghost use Rattle.guest_turns.specs.KernelCalls.CallAnswers.Callers.{HasCaller};
 ghost use Rattle.guest_turns.specs.KernelCalls.KernelDispatch.Dispatch.{CanDispatch};
@@ -13,7 +13,7 @@ ghost use Rattle.kernel_steps.specs.Step.{quietly, turn};
 
 /// Between steps the first ready task runs. Where that is a guest, it may make a call.
 pub fn running_law()
-    ensures runs { (k : Kernel) → IsFullMachine k → k.stop ≡ None → RunsFirst k.lists k.regs }
+    ensures runs { (k : Kernel) → IsValid k → k.stop ≡ None → RunsFirst k.lists k.regs }
     ensures calls { (k : Kernel) → AreValid k.lists → RunsFirst k.lists k.regs
         → is_guest_id k.lists.running ≡ true
         → HasCaller k.lists }

@@ -36,7 +36,7 @@ first_numbers s = record { running = 0; period = s.period; tick = 0; version = s
 
 -- nothing was done but what the lines say
 pub record HasBegun (s : Session) (k : Kernel) : Type 0 where
-  pub ready : IsReady (first_numbers s) k.lists
+  pub ready : IsReady (first_numbers s) s.store k.lists
   pub regs : k.regs ≡ no_regs
   pub steps : k.steps ≡ 0
   pub console : k.console ≡ no_line
@@ -85,12 +85,12 @@ residents-fresh reporter = on reporter
       (other false 4 247 5000 [] (omega arith) (inl refl) (λ e. cc), (other false 1 201 1000 (packet_from 1 279 ∷ []) (omega arith) (inr refl) (λ e. cc), tt)),
     )
 
-lists-ready : (s : Session) → IsReady (first_numbers s) (first_lists s)
+lists-ready : (s : Session) → IsReady (first_numbers s) s.store (first_lists s)
 lists-ready s = on s.resident
   where
-    on : (b : Bool) → IsReady (record (first_numbers s) { residents = b }) (cond b (resident_lists s.version s.period s.store s.debug) (empty_lists s.version s.period s.store))
-    on true = record { numbers = refl; fresh = record { tasks = residents-fresh s.debug; key = refl } }
-    on false = record { numbers = refl; fresh = record { tasks = tt; key = refl } }
+    on : (b : Bool) → IsReady (record (first_numbers s) { residents = b }) s.store (cond b (resident_lists s.version s.period s.store s.debug) (empty_lists s.version s.period s.store))
+    on true = record { numbers = refl; size = refl; fresh = record { tasks = residents-fresh s.debug; key = refl } }
+    on false = record { numbers = refl; size = refl; fresh = record { tasks = tt; key = refl } }
 
 module _ (s : Session) where
   pub first-begun : HasBegun s (first_kernel s)
@@ -150,7 +150,7 @@ module _ (s : Session) where
             let same : with_standing x k ≡ j = cc in
             subst (HasBegun s) same
             (record {
-              ready = tasks-ready (first_numbers s) s.version k.disc s.lines (standing (image k) k.lists) x ready-lines e b.ready;
+              ready = tasks-ready (first_numbers s) s.store s.version k.disc s.lines (standing (image k) k.lists) x ready-lines e b.ready;
               regs = b.regs;
               steps = b.steps;
               console = b.console;

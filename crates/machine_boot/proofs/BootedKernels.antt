@@ -16,7 +16,7 @@ use Rattle.kernel_machine.specs.KernelCalls.KernelModel.Kernel.{Kernel, Pipe}
 use Rattle.kernel_machine.specs.KernelCalls.KernelModel.Lists.{Lists}
 use Rattle.kernel_machine.specs.KernelCalls.KernelModel.Pipes.{PipesStand, most_pipes, pipe_at}
 use Rattle.kernel_machine.specs.KernelCalls.KernelModel.Task.{Task, is_guest_id}
-use Rattle.kernel_machine.specs.KernelCalls.KernelModel.ValidKernel.{HasSteps, IsFullMachine}
+use Rattle.kernel_machine.specs.KernelCalls.KernelModel.ValidKernel.{HasSteps, IsValid}
 use Rattle.kernel_machine.specs.KernelCalls.KernelModel.ValidLists.{AreValid}
 use Rattle.kernel_machine.specs.KernelCalls.KernelModel.ValidTasks.{dead, runs, waits}
 use Rattle.kernel_machine.specs.KernelCalls.KernelModel.Versions.{highest_id_of}
@@ -134,7 +134,7 @@ module _ (s : Session) (h : HasKernel s) where
     last = record { steps = omega (arith, b.steps); keys = subst (AllByRecursion (λ key. key.0 ≤ most_steps)) (sym b.keys) lawful-keys }
 
     -- the lists and the plain words are those that a machine stands for
-    pub booted-full : AreValid (dispatch k).kernel.lists → HasPlainWords (dispatch k).kernel → IsFullMachine (dispatch k).kernel
+    pub booted-full : AreValid (dispatch k).kernel.lists → HasPlainWords (dispatch k).kernel → IsValid (dispatch k).kernel
     booted-full v plain =
         let runs = first v in
         record {

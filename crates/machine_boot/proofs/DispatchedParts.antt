@@ -29,17 +29,17 @@ module _ (p : Parts) (k : Kernel) (h : Stands p k) (t : List ℕ) (regs : Regs) 
 
   after : IsImage t (settled m.plain k m.lists)
   after =
-      settled-image (image k) t k m.lists m.plain words (omega (arith, is.lists.lists.size, is.lists.size, words.size)) h.full is.lists.lists.valid.owns is.lists.size
+      settled-image (image k) t k m.lists m.plain words (omega (arith, is.lists.lists.size, is.lists.size, words.size)) is.lists.lists.valid.owns is.lists.size
       is.lists.written
 
   plain : HasPlainWords (settled m.plain k m.lists)
-  plain = settled-plain k m.lists m.plain h.full is.lists.lists.valid.owns
+  plain = settled-plain k m.lists m.plain is.lists.lists.valid.owns
 
   pub dispatched-stands : Stands (record p { store = t; regs = regs; kinds = kinds }) (dispatch k).kernel
   unfolding dispatch settled
   dispatched-stands = record {
-    full = h.full;
     keeper = record { lists = is.lists.lists; knows = is.knows; enough = omega (arith, room, is.lists.size, ap length (image-list p.store k h.image), h.keeper.enough) };
+    marks = room ∙ h.marks ∙ ap length (image-list p.store k h.image) ∙ sym is.lists.size;
     image = record { size = after.size; holds = after.holds; plain = after.plain };
     plain = record { size = plain.size; plain = plain.plain; owned = plain.owned };
     regs = is.regs;

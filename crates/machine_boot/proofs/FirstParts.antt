@@ -23,6 +23,7 @@ use Rattle.kernel_machine.specs.KernelBoot.EmptyKernel.{empty_lists}
 use Rattle.kernel_machine.specs.KernelBoot.ResidentKernel.{resident_lists}
 use Rattle.kernel_machine.proofs.Shown.KernelSteps.StoredWords.{HasStore, stored}
 use Rattle.kernel_machine.specs.declared.parts.Parts.{Parts}
+use Rattle.kernel_machine.specs.Script.{still_to_come}
 use Rattle.kernel_machine.specs.Stands.{Stands}
 use Rattle.machine_boot.specs.Boot.{first_kernel, first_lists}
 
@@ -67,7 +68,7 @@ pub record AreMade (s : Session) (p : Parts) : Type 0 where
   pub console : p.console ≡ no_line
   pub shell : p.shell ≡ no_command
   pub pipes : p.pipes ≡ no_pipes
-  pub keys : p.keys ≡ s.keys
+  pub keys : still_to_come p.keys ≡ s.keys
   pub step : p.step ≡ 0
   pub period : p.period ≡ s.period
 
@@ -93,18 +94,18 @@ module _ (s : Session) (p : Parts) (m : AreMade s p) where
   unfolding first_kernel
   first-store =
       let words : plain_words p.store lists ≡ plain_words (replicate s.store 0) lists = plain-same (replicate s.store 0) p.store lists m.store.lists m.store.written.others in
-      subst (λ ws. HasStore p.store (record (first_kernel s) { plain = ws })) words (stored p.store lists (first_kernel s) refl m.store.lists)
+      subst (λ ws. HasStore p.store (record (first_kernel s) { plain = ws })) words (stored p.store lists (first_kernel s) m.store.lists)
 
   pub made-stands : Stands p (first_kernel s)
   unfolding first_kernel
   made-stands = record {
-    full = refl;
     keeper =
         record {
           lists = m.store.lists;
           knows = λ known same. m.marks known lists (record { lists = m.store.lists; addresses = same }) size;
           enough = omega (arith, size);
         };
+    marks = sym size;
     image = first-store.image;
     plain = first-store.plain;
     regs = m.regs;

@@ -36,19 +36,19 @@ module _ (p : Parts) (k : Kernel) (h : Stands p k) (lines : List SessionLine) wh
 
   -- ---- the tasks
 
-  -- the numbers of the lists stay
-  numbers-kept : CanStart lines k → (x : Standing) → start_tasks k.disc lines (standing (image k) k.lists) ≡ Ok x → numbers_of x.lists ≡ numbers_of k.lists
-  numbers-kept can x is =
-      let before : IsReady (numbers_of k.lists) k.lists = record { numbers = refl; fresh = can.fresh } in
-      (tasks-ready (numbers_of k.lists) k.lists.version k.disc lines (standing (image k) k.lists) x can.may_start is before).numbers
+  -- the numbers of the lists stay, and their size
+  ready-kept : CanStart lines k → (x : Standing) → start_tasks k.disc lines (standing (image k) k.lists) ≡ Ok x → IsReady (numbers_of k.lists) k.lists.size x.lists
+  ready-kept can x is =
+      let before : IsReady (numbers_of k.lists) k.lists.size k.lists = record { numbers = refl; size = refl; fresh = can.fresh } in
+      tasks-ready (numbers_of k.lists) k.lists.size k.lists.version k.disc lines (standing (image k) k.lists) x can.may_start is before
 
-  module _ (t : List ℕ) (kinds : List Bool) where
-    left-stands : (l : Lists) → numbers_of l ≡ numbers_of k.lists → HasKeeper t (MarksAll kinds) (length kinds) l → Stands (record p { store = t; kinds = kinds }) (with_store t l k)
-    left-stands l same keeper =
-        let store : HasStore t (with_store t l k) = stored t l k h.full keeper.lists in
+  module _ (t : List ℕ) (kinds : List Bool) (room : length kinds ≡ length p.kinds) where
+    left-stands : (l : Lists) → IsReady (numbers_of k.lists) k.lists.size l → HasKeeper t (MarksAll kinds) (length kinds) l → Stands (record p { store = t; kinds = kinds }) (with_store t l k)
+    left-stands l ready keeper =
+        let store : HasStore t (with_store t l k) = stored t l k keeper.lists in
         record {
-          full = h.full;
           keeper = keeper;
+          marks = room ∙ h.marks ∙ h.keeper.lists.size ∙ sym ready.size ∙ sym keeper.lists.size;
           image = store.image;
           plain = store.plain;
           regs = h.regs;
@@ -59,7 +59,7 @@ module _ (p : Parts) (k : Kernel) (h : Stands p k) (lines : List SessionLine) wh
           pipes = h.pipes;
           keys = h.keys;
           steps = h.steps;
-          period = h.period ∙ sym (ap (λ n. n.period) same);
+          period = h.period ∙ sym (ap (λ n. n.period) ready.numbers);
         }
 
     pub tasks-reached : (r : Result (Unit {0}) BootRefusal) → CanStart lines k → IsLeft t (MarksAll kinds) (length kinds) r (start_tasks p.disc lines (standing p.store k.lists)) → IsReached (record p { store = t; kinds = kinds }) r (with_tasks lines k)
@@ -67,7 +67,7 @@ module _ (p : Parts) (k : Kernel) (h : Stands p k) (lines : List SessionLine) wh
     tasks-reached (Ok u) can left =
         let is : start_tasks k.disc lines (standing (image k) k.lists) ≡ Ok (standing t left.0) =
         (λ i. start_tasks (sym h.disc i) lines (standing (sym (image-list p.store k h.image) i) k.lists)) ∙ left.1 in
-        (with_store t left.0 k, ap (λ x. x >>= (λ y. Ok (with_standing y k))) is, left-stands left.0 (numbers-kept can (standing t left.0) is) left.2)
+        (with_store t left.0 k, ap (λ x. x >>= (λ y. Ok (with_standing y k))) is, left-stands left.0 (ready-kept can (standing t left.0) is) left.2)
     tasks-reached (Err refusal) can left =
         ap (λ x. x >>= (λ y. Ok (with_standing y k))) ((λ i. start_tasks (sym h.disc i) lines (standing (sym (image-list p.store k h.image) i) k.lists)) ∙ left)
 

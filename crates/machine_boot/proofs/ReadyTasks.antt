@@ -76,59 +76,61 @@ module _ (free : Bool) where
       on true e more some = (all.0.reporter (eqb-true t.id 2 e)).1
       on false e more some = more some
 
--- the lists have these numbers, and all their tasks are fresh
-pub record IsReady (nums : Numbers) (l : Lists) : Type 0 where
+-- the lists have these numbers and this size, and all their tasks are fresh
+pub record IsReady (nums : Numbers) (words : ℕ) (l : Lists) : Type 0 where
   pub numbers : numbers_of l ≡ nums
+  pub size : l.size ≡ words
   pub fresh : AreFresh l
 
-module _ (nums : Numbers) where
+module _ (nums : Numbers) (size : ℕ) where
   -- ---- modules
 
-  refused-ready : (o : Option ℕ) (l : Lists) (m : Made) → IsReady nums l → IsReady nums m.lists → IsReady nums (by_refusal o l m).lists
+  refused-ready : (o : Option ℕ) (l : Lists) (m : Made) → IsReady nums size l → IsReady nums size m.lists → IsReady nums size (by_refusal o l m).lists
   refused-ready None l m before after = after
   refused-ready (Some code) l m before after = before
 
-  text-ready : (l : Lists) (r : Result Module Refusal) → IsReady nums l → IsReady nums (load_text l r).lists
-  text-ready l (Ok m) h = refused-ready (first_refusal (load_tests l m.hunks)) l _ h (record { numbers = h.numbers; fresh = record { tasks = h.fresh.tasks; key = h.fresh.key } })
+  text-ready : (l : Lists) (r : Result Module Refusal) → IsReady nums size l → IsReady nums size (load_text l r).lists
+  text-ready l (Ok m) h = refused-ready (first_refusal (load_tests l m.hunks)) l _ h (record { numbers = h.numbers; size = h.size; fresh = record { tasks = h.fresh.tasks; key = h.fresh.key } })
   text-ready l (Err refusal) h = h
 
-  bytes-ready : (l : Lists) (o : Option (List ℕ)) → IsReady nums l → IsReady nums (load_bytes l o).lists
+  bytes-ready : (l : Lists) (o : Option (List ℕ)) → IsReady nums size l → IsReady nums size (load_bytes l o).lists
   bytes-ready l None h = h
   bytes-ready l (Some bytes) h = text-ready l (module_of bytes) h
 
-  named-ready : (d : Disc) (name : List ℕ) (l : Lists) → IsReady nums l → IsReady nums (load_named d name l).lists
+  named-ready : (d : Disc) (name : List ℕ) (l : Lists) → IsReady nums size l → IsReady nums size (load_named d name l).lists
   named-ready d name l h = bytes-ready l (option_map (λ f. f.bytes) (file_named d name)) h
 
-  names-ready : (d : Disc) (names : List (List ℕ)) (modules : List ℕ) (k : Standing) (x : List ℕ × Standing) → load_names d names modules k ≡ Ok x → IsReady nums k.lists → IsReady nums x.1.lists
-  names-ready d [] modules k x is h = (let same : (modules, k) ≡ x = cc in subst (λ (y : List ℕ × Standing). IsReady nums y.1.lists) same h)
+  names-ready : (d : Disc) (names : List (List ℕ)) (modules : List ℕ) (k : Standing) (x : List ℕ × Standing) → load_names d names modules k ≡ Ok x → IsReady nums size k.lists → IsReady nums size x.1.lists
+  names-ready d [] modules k x is h = (let same : (modules, k) ≡ x = cc in subst (λ (y : List ℕ × Standing). IsReady nums size y.1.lists) same h)
   names-ready d (name ∷ names) modules k x is h =
       on
       (λ m e. names-ready d names (modules ++ m ∷ []) (left_with k.words (load_named d name k.lists).lists (load_named d name k.lists).plain) x e (named-ready d name k.lists h))
       (load_named d name k.lists).answer is
     where
-      on : ((m : ℕ) → load_names d names (modules ++ m ∷ []) (left_with k.words (load_named d name k.lists).lists (load_named d name k.lists).plain) ≡ Ok x → IsReady nums x.1.lists)
+      on : ((m : ℕ) → load_names d names (modules ++ m ∷ []) (left_with k.words (load_named d name k.lists).lists (load_named d name k.lists).plain) ≡ Ok x → IsReady nums size x.1.lists)
           → (r : Result ℕ ℕ)
           → on_answer r (left_with k.words (load_named d name k.lists).lists (load_named d name k.lists).plain) (λ m j. load_names d names (modules ++ m ∷ []) j) ≡ Ok x
-          → IsReady nums x.1.lists
+          → IsReady nums size x.1.lists
       on more (Ok m) e = more m e
       on more (Err code) e = cc
 
   -- ---- a task
 
   -- it is dead at first
-  created-ready : (s : List ℕ) (l : Lists) (id : ℕ) (modules : List ℕ) (u pri maker : ℕ) → 5 ≤ id → IsReady nums l → IsReady nums (create_task s l id modules u pri maker).lists
+  created-ready : (s : List ℕ) (l : Lists) (id : ℕ) (modules : List ℕ) (u pri maker : ℕ) → 5 ≤ id → IsReady nums size l → IsReady nums size (create_task s l id modules u pri maker).lists
   created-ready s l id modules u pri maker low h =
       let n : ℕ = unwrap_or (number_of l id) 0 in
       let t : TaskRecord = new_task l n modules u pri maker in
       let number : n ≡ id = number-is l id n low refl in
       let fresh : IsFresh l.fault_packet_free t = record { number = omega (arith, low, number); stands = λ dead. absurd (omega (arith, dead)); takes = inl refl; fault = refl; reporter = λ e. absurd (omega (arith, low, number, e)) } in
       refused-ready (first_refusal (creation_tests s l id modules u pri)) l (with_created s l t) h
-      (record { numbers = h.numbers; fresh = record { tasks = all-inserted (IsFresh l.fault_packet_free) _ t l.tasks fresh h.fresh.tasks; key = h.fresh.key } })
+      (record { numbers = h.numbers; size = h.size; fresh = record { tasks = all-inserted (IsFresh l.fault_packet_free) _ t l.tasks fresh h.fresh.tasks; key = h.fresh.key } })
 
   -- and then interrupted
-  begun-ready : (words : List ℕ) (id : ℕ) (l : Lists) → IsReady nums l → IsReady nums (with_begun words id l)
+  begun-ready : (words : List ℕ) (id : ℕ) (l : Lists) → IsReady nums size l → IsReady nums size (with_begun words id l)
   begun-ready words id l h = record {
     numbers = h.numbers;
+    size = h.size;
     fresh = record {
       tasks =
           fresh-changed l.fault_packet_free id (begun l.version words)
@@ -137,13 +139,13 @@ module _ (nums : Numbers) where
     };
   }
 
-  begin-ready : (r : Result ℕ ℕ) (k j : Standing) → on_answer r k begin_it ≡ Ok j → IsReady nums k.lists → IsReady nums j.lists
+  begin-ready : (r : Result ℕ ℕ) (k j : Standing) → on_answer r k begin_it ≡ Ok j → IsReady nums size k.lists → IsReady nums size j.lists
   begin-ready (Ok n) k j is h =
       let same : left_with k.words (with_begun k.words n k.lists) [] ≡ j = cc in
-      subst (λ (y : Standing). IsReady nums y.lists) same (begun-ready k.words n k.lists h)
+      subst (λ (y : Standing). IsReady nums size y.lists) same (begun-ready k.words n k.lists h)
   begin-ready (Err code) k j is h = cc
 
-  create-ready : (id pri stack : ℕ) → 5 ≤ id → (r : Result (List ℕ × Standing) ℕ) (j : Standing) → create_it id pri stack r ≡ Ok j → ((x : List ℕ × Standing) → r ≡ Ok x → IsReady nums x.1.lists) → IsReady nums j.lists
+  create-ready : (id pri stack : ℕ) → 5 ≤ id → (r : Result (List ℕ × Standing) ℕ) (j : Standing) → create_it id pri stack r ≡ Ok j → ((x : List ℕ × Standing) → r ≡ Ok x → IsReady nums size x.1.lists) → IsReady nums size j.lists
   create-ready id pri stack low (Ok x) j is h =
       let made : Made = create_task x.1.words x.1.lists id x.0 stack pri 0 in
       begin-ready made.answer (left_with x.1.words made.lists made.plain) j is (created-ready x.1.words x.1.lists id x.0 stack pri 0 low (h x refl))
@@ -151,20 +153,20 @@ module _ (nums : Numbers) where
 
   -- ---- the lines
 
-  form-ready : (version : ℕ) (d : Disc) (form : LineForm) (k j : Standing) → IsBootForm version form → start_form d form k ≡ Ok j → IsReady nums k.lists → IsReady nums j.lists
-  form-ready version d (File name bytes) k j may is h = (let same : k ≡ j = cc in subst (λ (y : Standing). IsReady nums y.lists) same h)
-  form-ready version d (Code bytes) k j may is h = (let same : k ≡ j = cc in subst (λ (y : Standing). IsReady nums y.lists) same h)
+  form-ready : (version : ℕ) (d : Disc) (form : LineForm) (k j : Standing) → IsBootForm version form → start_form d form k ≡ Ok j → IsReady nums size k.lists → IsReady nums size j.lists
+  form-ready version d (File name bytes) k j may is h = (let same : k ≡ j = cc in subst (λ (y : Standing). IsReady nums size y.lists) same h)
+  form-ready version d (Code bytes) k j may is h = (let same : k ≡ j = cc in subst (λ (y : Standing). IsReady nums size y.lists) same h)
   form-ready version d (Task id pri stack names) k j may is h = on (has_task id k.lists.tasks) is
     where
-      on : (b : Bool) → cond b (Err 27) (create_it id pri stack (load_names d names [] k)) ≡ Ok j → IsReady nums j.lists
+      on : (b : Bool) → cond b (Err 27) (create_it id pri stack (load_names d names [] k)) ≡ Ok j → IsReady nums size j.lists
       on true e = cc
       on false e = create-ready id pri stack may.low (load_names d names [] k) j e (λ x loaded. names-ready d names [] k x loaded h)
 
-  pub tasks-ready : (version : ℕ) (d : Disc) (lines : List SessionLine) (k j : Standing) → AreBootLines version lines → start_tasks d lines k ≡ Ok j → IsReady nums k.lists → IsReady nums j.lists
-  tasks-ready version d [] k j may is h = (let same : k ≡ j = cc in subst (λ (y : Standing). IsReady nums y.lists) same h)
+  pub tasks-ready : (version : ℕ) (d : Disc) (lines : List SessionLine) (k j : Standing) → AreBootLines version lines → start_tasks d lines k ≡ Ok j → IsReady nums size k.lists → IsReady nums size j.lists
+  tasks-ready version d [] k j may is h = (let same : k ≡ j = cc in subst (λ (y : Standing). IsReady nums size y.lists) same h)
   tasks-ready version d (line ∷ lines) k j may is h = on (λ i e more. tasks-ready version d lines i j may.1 e more) (start_form d line.form k) refl is
     where
-      on : ((i : Standing) → start_tasks d lines i ≡ Ok j → IsReady nums i.lists → IsReady nums j.lists) → (r : Result Standing ℕ) → start_form d line.form k ≡ r
-          → at_line line.line r (λ i. start_tasks d lines i) ≡ Ok j → IsReady nums j.lists
+      on : ((i : Standing) → start_tasks d lines i ≡ Ok j → IsReady nums size i.lists → IsReady nums size j.lists) → (r : Result Standing ℕ) → start_form d line.form k ≡ r
+          → at_line line.line r (λ i. start_tasks d lines i) ≡ Ok j → IsReady nums size j.lists
       on more (Ok i) e f = more i f (form-ready version d line.form k i may.0 e h)
       on more (Err code) e f = cc

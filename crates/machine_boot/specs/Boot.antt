@@ -33,7 +33,6 @@ first_lists s = if s.resident then resident_lists s.version s.period s.store s.d
 -- The kernel before the lines: all words that its lists do not own are 0; no key has come, and the disc is empty.
 unfoldable pub first_kernel : Session → Kernel
 first_kernel s = record {
-  bare = false;
   lists = first_lists s;
   plain = plain_words (replicate s.store 0) (first_lists s);
   regs = no_regs;

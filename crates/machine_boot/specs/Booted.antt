@@ -6,7 +6,7 @@ use Rattle.bare_machine.specs.declared.boot.BootEnd.TheVariants.{Line, WantMemor
 use Rattle.kernel_machine.specs.KernelCalls.KernelModel.Kernel.{Kernel}
 use Rattle.kernel_machine.specs.KernelCalls.KernelModel.Lists.{Lists}
 use Rattle.kernel_machine.specs.KernelCalls.KernelModel.Task.{Task, is_guest_id}
-use Rattle.kernel_machine.specs.KernelCalls.KernelModel.ValidKernel.{IsFullMachine}
+use Rattle.kernel_machine.specs.KernelCalls.KernelModel.ValidKernel.{IsValid}
 use Rattle.kernel_machine.specs.KernelCalls.KernelModel.ValidTasks.{runs}
 use Rattle.kernel_machine.specs.KernelBoot.BootFiles.{HasNoStreams, boot_refusal}
 use Rattle.kernel_machine.specs.KernelBoot.BootTasks.{AreBootLines}
@@ -53,7 +53,7 @@ EndsAs WantMemory booted = Unit {0}
 -- the parts stand for the kernel, which is valid and has not stopped
 pub record IsBooted (p : Parts) (k : Kernel) : Type 0 where
   pub stands : Stands p k
-  pub valid : IsFullMachine k
+  pub valid : IsValid k
   pub goes : k.stop ≡ None
 
 -- what a booting function returned is what the definition gives, unless memory ran out

@@ -3,6 +3,5 @@ pub mod Booted
 -- shown to the crates above
 pub use Rattle.kernel_machine.specs.KernelCalls
 pub use Rattle.kernel_machine.specs.KernelBoot
-pub use Rattle.bare_machine.specs as BareMachine
 pub use Rattle.kernel_machine.specs.KernelSteps
 pub use Rattle.kernel_machine.specs as KernelMachine

@@ -21,7 +21,7 @@ use Rattle.block_calls.specs.KernelDispatch.HunkLoader.ModuleExchanges.{first_of
 use Rattle.block_calls.proofs.Shown.KernelDispatch.HunkLoader.HeldModuleLists.{are_modules, module_size}
 use Rattle.block_calls.specs.KernelDispatch.TaskBlock.Lists.{module_link}
 use Rattle.block_calls.specs.KernelDispatch.KernelModel.BlockUse.{use_of_data}
-use Rattle.block_calls.specs.KernelDispatch.KernelModel.BlockUse.Use.{User}
+use Rattle.block_calls.specs.KernelDispatch.KernelModel.declared.uses.Use.TheVariants.{User}
 use Rattle.block_calls.specs.KernelDispatch.KernelModel.ChangedStore.{IsChanged, Knows}
 use Rattle.block_calls.specs.KernelDispatch.KernelModel.Changes.{AreUnowned, IsIdleBlock, with_modules}
 use Rattle.block_calls.specs.KernelDispatch.KernelModel.HoldsLists.{HoldsLists}

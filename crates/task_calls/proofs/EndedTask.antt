@@ -27,7 +27,7 @@ use Rattle.block_calls.specs.KernelDispatch.TaskBlock.Versions.{head_words}
 use Rattle.block_calls.proofs.Shown.KernelDispatch.TaskBlock.ChainExchanges.{unlink-exchange}
 use Rattle.block_calls.specs.KernelDispatch.KernelModel.Between.{is_empty_queue}
 use Rattle.block_calls.specs.KernelDispatch.KernelModel.BlockUse.{use_of_data}
-use Rattle.block_calls.specs.KernelDispatch.KernelModel.BlockUse.Use.{User}
+use Rattle.block_calls.specs.KernelDispatch.KernelModel.declared.uses.Use.TheVariants.{User}
 use Rattle.block_calls.specs.KernelDispatch.KernelModel.ChangedStore.{IsChanged, Knows}
 use Rattle.block_calls.specs.KernelDispatch.KernelModel.Changes.{AreUnowned, HasNoPacketsOut, IsIdleBlock, with_blocks, with_tasks}
 use Rattle.block_calls.specs.KernelDispatch.KernelModel.HoldsLists.{HoldsLists}

@@ -8,7 +8,7 @@ use Rattle.block_calls.specs.KernelDispatch.GetvecChain.Run.{first_run, need}
 use Rattle.block_calls.specs.KernelDispatch.GetvecChain.Take.{taken}
 use Rattle.block_calls.specs.KernelDispatch.HunkLoader.HeldModules.{module_address}
 use Rattle.block_calls.specs.KernelDispatch.KernelModel.BlockUse.{coroutine_addresses, use_of_data}
-use Rattle.block_calls.specs.KernelDispatch.KernelModel.BlockUse.Use.{OfCoroutine, OfModule, OfResidents, OfTask, User}
+use Rattle.block_calls.specs.KernelDispatch.KernelModel.declared.uses.Use.TheVariants.{OfCoroutine, OfModule, OfResidents, OfTask, User}
 use Rattle.block_calls.specs.KernelDispatch.KernelModel.ChangedStore.{Knows}
 use Rattle.block_calls.specs.KernelDispatch.KernelModel.Lists.{Lists}
 use Rattle.block_calls.specs.KernelDispatch.KernelModel.ValidLists.{AreValid}

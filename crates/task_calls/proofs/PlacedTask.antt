@@ -31,7 +31,7 @@ use Rattle.block_calls.proofs.Shown.KernelDispatch.HunkLoader.HeldModuleLists.{h
 use Rattle.block_calls.proofs.Shown.KernelDispatch.HunkLoader.HunkWalk.{module_inside}
 use Rattle.block_calls.proofs.Shown.KernelDispatch.HunkLoader.ModuleBlocks.{InBlock, in_block}
 use Rattle.block_calls.specs.KernelDispatch.KernelModel.BlockUse.{use_of_data}
-use Rattle.block_calls.specs.KernelDispatch.KernelModel.BlockUse.Use.{User}
+use Rattle.block_calls.specs.KernelDispatch.KernelModel.declared.uses.Use.TheVariants.{User}
 use Rattle.block_calls.specs.KernelDispatch.KernelModel.ChangedStore.{IsChanged, Knows}
 use Rattle.block_calls.specs.KernelDispatch.KernelModel.Changes.{AreUnowned, with_new_task}
 use Rattle.block_calls.specs.KernelDispatch.KernelModel.HoldsLists.{HoldsLists}

@@ -2,7 +2,7 @@
 use std::process::Abort;
 use std::test::Fail;
 use tp_io::{MemorySink, MemorySource};
-use tripos_run::{Status, run, tripos};
+use tripos_run::{Status, generate, run, tripos};
 
 const LETTER: &[u8] = b"TRIPOS 1\nSTORE 1024\nBARE\n:6013a0036041a004916000a003a00491\nGO 100\n";
 
@@ -68,5 +68,21 @@ fn runs_over_a_reader_and_a_writer(rt: HostRuntime) -> Result<(), Fail> {
         assert_eq!(rt; status, wanted);
         assert!(rt; kept.starts_with(LETTER_RUN.split_at(room).0));
     }
+    Ok(())
+}
+
+#[test]
+fn runs_the_session_that_a_number_makes(rt: HostRuntime) -> Result<(), Fail> {
+    let text = generate(rt.alloc(), 7).map_err(|_| "memory")?;
+    let words = words_of(&rt, &["gen", "7"])?;
+    let mut src = MemorySource::new(rt.alloc(), b"", &[1]).map_err(|_| "memory")?;
+    let mut out = MemorySink::new(rt.alloc(), 256, &[0]).map_err(|_| "memory")?;
+    assert_eq!(rt;
+        tripos(rt.alloc(), words.as_slice(), &mut src, &mut out),
+        Status::Done
+    );
+    let length = text.len();
+    let wanted = format!(in rt.alloc(); "session {length} bytes\n")?;
+    assert!(rt; out.bytes().starts_with(wanted.as_bytes()));
     Ok(())
 }

@@ -1,4 +1,3 @@
 pub mod DumpLines
 pub mod AnswerParts
 pub mod NotedRuns
-pub mod BootedSteps

@@ -1,17 +1,16 @@
 -- The events of a run, from those that a log was given.
 use Rattle.std.proofs.Common.{◌≡◌, ◌∙◌, ℕ, ◌+◌, ◌-◌, ◌≤◌, Bool, true, Option, Result, Ok, Err, List, [], ◌++◌, inl, inr, sym, ap, subst, append_assoc, arith}
 use Rattle.std.specs.Bool.{OnFalse}
-use Rattle.machine_boot.specs.KernelCalls.KernelModel.declared.stops.Stop.{Stop}
-use Rattle.machine_boot.specs.KernelCalls.PacketQueue.declared.events.KernelEvent.{KernelEvent}
-use Rattle.machine_boot.specs.KernelCalls.KernelModel.Kernel.{Kernel}
-use Rattle.machine_boot.specs.KernelCalls.KernelModel.NotedEvents.{NotesAll}
-use Rattle.machine_boot.specs.KernelSteps.Step.{run}
-use Rattle.machine_boot.specs.KernelSteps.Stepped.{Stepped}
-use Rattle.machine_boot.proofs.Shown.KernelSteps.Runs.{run-more}
-use Rattle.machine_boot.specs.KernelMachine.Runs.{EndsRun, HasCause}
+use Rattle.tripos_machine.specs.KernelCalls.KernelModel.declared.stops.Stop.{Stop}
+use Rattle.tripos_machine.specs.KernelCalls.PacketQueue.declared.events.KernelEvent.{KernelEvent}
+use Rattle.tripos_machine.specs.State.{State}
+use Rattle.tripos_machine.specs.KernelCalls.KernelModel.NotedEvents.{NotesAll}
+use Rattle.tripos_machine.specs.Step.{Stepped, run}
+use Rattle.tripos_machine.proofs.StateRuns.{run-more}
+use Rattle.tripos_machine.specs.Runs.{EndsRun, HasCause}
 
 -- the first steps of a run have its first events
-first-events : (i n : ℕ) (k : Kernel) → i ≤ n → (run n k).events ≡ (run i k).events ++ (run (n - i) (run i k).kernel).events
+first-events : (i n : ℕ) (k : State) → i ≤ n → (run n k).events ≡ (run i k).events ++ (run (n - i) (run i k).state).events
 first-events i n k h =
     let all : n ≡ i + (n - i) = omega (arith, h) in
     ap (λ m. (run m k).events) all ∙ ap (λ (x : Stepped). x.events) (run-more i (n - i) k)
@@ -35,9 +34,9 @@ module _ (old new : Option (List KernelEvent)) (had_failed failed : Bool) where
   log-failed (inr is) = is
 
   -- a run to a sink that never fails gives the log its events
-  pub notes-run : {E : Type 0} (n : ℕ) (k j : Kernel) (result : Result Stop E) → EndsRun n k j old new had_failed failed 0 0 result → NotesAll old new had_failed failed (run n k).events
+  pub notes-run : {E : Type 0} (n : ℕ) (k j : State) (result : Result Stop E) → EndsRun n k j old new had_failed failed 0 0 result → NotesAll old new had_failed failed (run n k).events
   notes-run n k j (Ok stop) e = e.0.events
   notes-run n k j (Err d) e =
       let i = e.0.0 in
       subst (NotesAll old new had_failed failed) (sym (first-events i n k e.0.1))
-      (notes-more (run i k).events (run (n - i) (run i k).kernel).events (log-failed e.1) e.0.2.events)
+      (notes-more (run i k).events (run (n - i) (run i k).state).events (log-failed e.1) e.0.2.events)

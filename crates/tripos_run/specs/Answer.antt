@@ -5,7 +5,7 @@ use Rattle.std.specs.Str.{bytes_eq}
 use Rattle.std.specs.Io.KnownBytes.{Appends, Keeps}
 use Rattle.tp_io.specs.Write.{AppendsPrefix}
 use Rattle.hunk_text.specs.TextReader.Numbers.{number_of}
-use Rattle.hunk_text.specs.TextReader.Refusal.{Refusal, refusal}
+use Rattle.hunk_text.specs.TextReader.Refusal.{Refusal}
 use Rattle.hunk_text.specs.ModuleOfText.{module_of}
 use Rattle.hunk_text.specs.declared.modules.Module.{Module}
 use Rattle.listing_law.specs.CintAsm.Assembly.{assembled}
@@ -14,8 +14,8 @@ use Rattle.session_text.specs.SessionOfText.{session_of}
 use Rattle.session_text.specs.declared.sessions.Session.{Session}
 use Rattle.session_generator.specs.Generated.{generated}
 use Rattle.session_generator.specs.Summary.{summary}
-use Rattle.machine_boot.specs.KernelCalls.KernelModel.declared.stops.Stop.{Stop}
-use Rattle.machine_boot.specs.KernelCalls.KernelModel.declared.stops.Stop.TheVariants.{Steps, Quit, Finish, Fault}
+use Rattle.tripos_machine.specs.KernelCalls.KernelModel.declared.stops.Stop.{Stop}
+use Rattle.tripos_machine.specs.KernelCalls.KernelModel.declared.stops.Stop.TheVariants.{Steps, Quit, Finish, Fault}
 use Rattle.tripos_run.specs.declared.commands.Command.{Command}
 use Rattle.tripos_run.specs.declared.commands.Command.TheVariants.{Run as RunCommand, Dump as DumpCommand, Trace as TraceCommand, Asm as AsmCommand, Disasm as DisasmCommand}
 use Rattle.tripos_run.specs.declared.commands.Job.{Job}
@@ -24,16 +24,12 @@ use Rattle.tripos_run.specs.declared.reports.Report.{Report}
 use Rattle.tripos_run.specs.declared.reports.Report.TheVariants.{Console, Events, Sums, Words}
 use Rattle.tripos_run.specs.declared.status.Status.{Status}
 use Rattle.tripos_run.specs.declared.status.Status.TheVariants.{Done, GuestFault, Usage, Refused, NoBoot, ReadFault, WriteFault, TooLong, WantMemory}
-use Rattle.machine_boot.specs.BareMachine.Boot.{boot as bare_boot, first_regs}
-use Rattle.machine_boot.specs.BareMachine.Run.{Run, run as bare_run}
-use Rattle.machine_boot.specs.KernelCalls.PacketQueue.declared.events.KernelEvent.{KernelEvent}
+use Rattle.tripos_machine.specs.KernelCalls.PacketQueue.declared.events.KernelEvent.{KernelEvent}
 use Rattle.trace_log.specs.Traced.{lines_of}
-use Rattle.machine_boot.specs.KernelCalls.KernelModel.Image.{image}
-use Rattle.machine_boot.specs.KernelMachine.Stops.{end_of_run}
-use Rattle.machine_boot.specs.KernelSteps.Step.{run}
-use Rattle.machine_boot.specs.KernelSteps.Stepped.{Stepped}
-use Rattle.machine_boot.specs.KernelBoot.declared.refusals.BootRefusal.{BootRefusal}
-use Rattle.machine_boot.specs.Boot.{boot}
+use Rattle.tripos_machine.specs.Boot.{boot}
+use Rattle.tripos_machine.specs.Runs.{end_of_run}
+use Rattle.tripos_machine.specs.State.{steps_of, stop_of, words_of}
+use Rattle.tripos_machine.specs.Step.{Stepped, run}
 use Rattle.tripos_run.specs.Texts.{closing_text, dump_text, no_boot_text, refused_text, too_long_text, usage_text}
 
 pub record Answer : Type 0 where
@@ -91,18 +87,14 @@ pub record AreEnd (x : RunEnd) (steps : ℕ) (stop : Stop) (words : List ℕ) : 
   pub stop_is : stop ≡ x.stop
   pub words_are : words ≡ x.words
 
--- a machine without a kernel has no events
-abbrev pub end_without_kernel : Run → RunEnd
-end_without_kernel x = record { bytes = x.bytes; events = []; steps = x.steps; stop = x.stop; words = x.words }
-
 -- the events that were there before the run come first
-abbrev pub end_with_kernel : List KernelEvent → Stepped → RunEnd
-end_with_kernel before x = record {
+abbrev pub end_after : List KernelEvent → Stepped → RunEnd
+end_after before x = record {
   bytes = x.bytes;
   events = before ++ x.events;
-  steps = x.kernel.steps;
-  stop = end_of_run x.kernel.stop;
-  words = image x.kernel;
+  steps = steps_of x.state;
+  stop = end_of_run (stop_of x.state);
+  words = words_of x.state;
 }
 
 -- what is written of a run before the closing line: its console bytes, a line for each event, or the sums of the console bytes
@@ -130,19 +122,13 @@ run_answer report x = closed_answer report (text_before report x) x
 abbrev pub no_boot_answer : Refusal → Answer
 no_boot_answer r = record { status = NoBoot; bytes = no_boot_text r }
 
--- the run of a bare machine, where the session boots
-abbrev pub bare_answer : Report → ℕ → Result (List ℕ) Refusal → Answer
-bare_answer report go (Ok words) = run_answer report (end_without_kernel (bare_run go words first_regs))
-bare_answer report go (Err r) = no_boot_answer r
+-- the run of a machine, where its session boots
+abbrev pub machine_answer : Report → ℕ → Result Stepped Refusal → Answer
+machine_answer report go (Ok x) = run_answer report (end_after x.events (run go x.state))
+machine_answer report go (Err r) = no_boot_answer r
 
--- the run of a machine with a kernel, where the session boots
-abbrev pub kernel_answer : Report → ℕ → Result Stepped BootRefusal → Answer
-kernel_answer report go (Ok x) = run_answer report (end_with_kernel x.events (run go x.kernel))
-kernel_answer report go (Err r) = no_boot_answer (refusal r.line r.code)
-
--- the run of a session that boots, on a machine of its kind
 abbrev pub session_answer : Report → Result Session Refusal → Answer
-session_answer report (Ok s) = if s.bare then bare_answer report s.go (bare_boot s) else kernel_answer report s.go (boot s)
+session_answer report (Ok s) = machine_answer report s.go (boot s)
 session_answer report (Err r) = record { status = Refused; bytes = refused_text r }
 
 -- a text that is made of the input, or the refusal of the input

@@ -2,8 +2,8 @@
 use Rattle.std.specs.Prelude.{ℕ, ◌+◌, List, [], ◌∷◌, ◌++◌, codes, decimal, ◌==◌, if◌then◌else◌}
 use Rattle.tp_io.specs.Pieces.{joined, hex_digits_of}
 use Rattle.hunk_text.specs.TextReader.Refusal.{Refusal}
-use Rattle.machine_boot.specs.KernelCalls.KernelModel.declared.stops.Stop.{Stop}
-use Rattle.machine_boot.specs.KernelCalls.KernelModel.declared.stops.Stop.TheVariants.{Steps, Quit, Finish, Fault}
+use Rattle.tripos_machine.specs.KernelCalls.KernelModel.declared.stops.Stop.{Stop}
+use Rattle.tripos_machine.specs.KernelCalls.KernelModel.declared.stops.Stop.TheVariants.{Steps, Quit, Finish, Fault}
 
 abbrev pub usage_text : List ℕ
 usage_text =

@@ -9,7 +9,7 @@ use crate::dump::gather_dump;
 use crate::messages::gather_closing;
 use crate::reports::Report;
 use crate::status::Status;
-use machine_boot::Stop;
+use tripos_machine::Stop;
 use tp_io::{Output, Sink, SinkFault, pass_on};
 use word_store::Store;
 

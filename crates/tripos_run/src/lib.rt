@@ -2,11 +2,10 @@
 #![tactic(auto)]
 
 mod answer;
-mod bare;
 mod commands;
 mod dump;
 mod ends;
-mod kernel;
+mod machines;
 mod messages;
 pub mod program;
 mod reports;
@@ -17,5 +16,6 @@ pub use program::{run, tripos};
 pub use status::Status;
 
 // Shown to the crates above.
-pub use machine_boot::{EventLog, KernelEvent, ListLog, Pipes, SinkLog};
+pub use session_generator::generate;
 pub use trace_log::print_events;
+pub use tripos_machine::{EventLog, KernelEvent, ListLog, Pipes, SinkLog};

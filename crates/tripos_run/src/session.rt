@@ -6,8 +6,7 @@ ghost use Rattle.tripos_run.specs.Cause.{HasFaultCause};
 ghost use Rattle.tripos_run.specs.Input.{IsTextEnd};
 
 use crate::answer::status_after;
-use crate::bare::answer_bare;
-use crate::kernel::answer_kernel;
+use crate::machines::answer_session;
 use crate::messages::write_refused;
 use crate::reports::Report;
 use crate::status::Status;
@@ -45,13 +44,7 @@ pub fn answer_session_text<K: Sink>(
     ensures cause { HasFaultCause Status.WriteFault (K.faults out.old) (K.faults out.new) result }
 {
     match read_session(alloc, text) {
-        Ok(session) => {
-            if session.bare {
-                answer_bare(alloc, report, &session, out)
-            } else {
-                answer_kernel(alloc, report, &session, out)
-            }
-        }
+        Ok(session) => answer_session(alloc, report, &session, out),
         Err(SessionEnd::Bad { line, code }) => {
             status_after(write_refused(out, line, code), Status::Refused)
         }

@@ -13,4 +13,4 @@ pub use ownership::are_unowned;
 pub use questions::clear;
 
 // Shown to the crates above.
-pub use kernel_model::{Stop, kernel_lists, numbers};
+pub use kernel_model::{Stop, Use, kernel_lists, numbers};

@@ -1,9 +1,9 @@
-use Rattle.std.proofs.Common.{◌≡◌, ℕ, Option, Some, None, Result, Ok, Err, refl, sym, ◌∙◌, subst}
+use Rattle.std.proofs.Common.{◌≡◌, ℕ, Option, Some, None, Result, Ok, Err, refl, sym, ap, ◌∙◌, subst}
 use Rattle.std.specs.Option.{ok_or}
 use Rattle.std.proofs.lemmas.Result.{err_from_is_err_and}
 use Rattle.call_answers.specs.KernelDispatch.GetvecChain.declared.pieces.Block.{Block}
 use Rattle.call_answers.proofs.FoundTask.{reads}
-use Rattle.block_calls.specs.Freevec.{IsUsersBlock}
+use Rattle.block_calls.specs.Freevec.{IsUsersBlock, is_user}
 use Rattle.block_calls.proofs.BlockUses.{no-block, not-users, other-block, users-here}
 use Rattle.block_calls.proofs.uses.users_block.Goals as goal
 
@@ -32,10 +32,13 @@ returns-then-not-is_used_at c = λ l h. (
   refl,
 )
 
-pub returns-then-is_of_lists : goal.returns-then-is_of_lists
-returns-then-is_of_lists c = λ l h. (not-users c.args.store.now l c.args.v h (sym c.if-is_of_lists.true ∙ c.is_of_lists.ensures l h), refl)
+pub returns-then-not-is_user : goal.returns-then-not-is_user
+returns-then-not-is_user c = λ l h. (
+  not-users c.args.store.now l c.args.v h (ap is_user (sym (c.use_of_data.ensures l h)) ∙ sym c.is_user.ensures ∙ c.if-not-is_user.true),
+  refl,
+)
 
 pub returns : goal.returns
 returns c = λ l h.
     users-here c.args.store.now l c.args.v h c.block_of.result c.in_ok-block.block c.block_of.ensures (found c.block_of.result c.in_ok-block.block _ c.in_ok-block.ensures.value)
-    (sym c.is_used_at.ensures ∙ c.if-not-is_used_at.false) (sym c.if-is_of_lists.false ∙ c.is_of_lists.ensures l h)
+    (sym c.is_used_at.ensures ∙ c.if-not-is_used_at.false) (ap is_user (sym (c.use_of_data.ensures l h)) ∙ sym c.is_user.ensures ∙ c.if-not-is_user.false)

@@ -1,6 +1,4 @@
 use Rattle.std.proofs.Common.{◌∙◌, ap, refl, subst, sym}
-use Rattle.std.specs.Option.{option_map}
-use Rattle.kernel_machine.specs.Stops.{stop_of}
 use Rattle.kernel_steps.specs.Step.{after_the_turn, turn, unless_stopped, with_step}
 use Rattle.kernel_machine.specs.Leaves.{Leaves}
 use Rattle.kernel_machine.proofs.LeftParts.{leaves-none, leaves-then}
@@ -27,7 +25,7 @@ returns-then-is_none-clause-stepped g c = λ k st h goes few.
 
 pub returns-then-is_none-clause-stop : goal.returns-then-is_none-clause-stop
 returns-then-is_none-clause-stop g c = λ k st h goes few.
-    c.turn-stop.ensures.stop (with_step k) (stands-step c.args.parts.now k _ st refl) (can-turn k h goes) ∙ ap (option_map stop_of) (sym (stop-in-turn k goes))
+    c.turn-stop.ensures.stop (with_step k) (stands-step c.args.parts.now k _ st refl) (can-turn k h goes) ∙ sym (stop-in-turn k goes)
 
 pub returns-else-is_none-clause-stepped : goal.returns-else-is_none-clause-stepped
 returns-else-is_none-clause-stepped g c = λ k st h goes few.
@@ -39,7 +37,7 @@ returns-else-is_none-clause-stepped g c = λ k st h goes few.
 
 pub returns-else-is_none-clause-stop : goal.returns-else-is_none-clause-stop
 returns-else-is_none-clause-stop g c = λ k st h goes few.
-    c.turn-stop.ensures.stop (with_step k) (stands-step c.args.parts.now k _ st refl) (can-turn k h goes) ∙ ap (option_map stop_of) (sym (stop-in-turn k goes))
+    c.turn-stop.ensures.stop (with_step k) (stands-step c.args.parts.now k _ st refl) (can-turn k h goes) ∙ sym (stop-in-turn k goes)
 
 pub returns-then-is_none-clause-taken : goal.returns-then-is_none-clause-taken
 returns-then-is_none-clause-taken g c = λ k st h goes few.

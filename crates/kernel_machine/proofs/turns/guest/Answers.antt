@@ -1,7 +1,5 @@
 use Rattle.std.proofs.Common.{◌∙◌, ap, refl, sym}
-use Rattle.std.specs.Option.{option_map}
 use Rattle.kernel_steps.specs.GuestTurns.GuestTurn.{turn_without_reporter}
-use Rattle.kernel_machine.specs.Stops.{stop_of}
 use Rattle.kernel_steps.specs.GuestSteps.{stop_by}
 use Rattle.kernel_steps.proofs.RunningCaller.{runs-calls}
 use Rattle.kernel_machine.proofs.TurnedParts.{can-record, leaves-recorded, leaves-turn, one-fault, stop-recorded, stop-turn}
@@ -37,7 +35,7 @@ returns-then-not-is_recorded-clause-stop g c = λ k st r.
     let l = (turn_without_reporter c.args.parts.now.store k.lists c.args.parts.now.regs).lists in
     let none = sym (c.is_recorded.ensures l is.lists.lists) ∙ c.if-not-is_recorded.true in
     stop-turn c.args.parts.now k st c.args.task r _ _ _ _ _ c.guest_turn-end.result is c.guest_turn-end.ensures.room (one-fault c.guest_turn-end.result c.in-Faults.fault l c.in-Faults.is none) _
-    (c.stop_by-then-not-is_recorded.ensures ∙ ap (λ e. option_map stop_of (stop_by c.args.task e)) (sym c.in-Faults.is))
+    (c.stop_by-then-not-is_recorded.ensures ∙ ap (λ e. stop_by c.args.task e) (sym c.in-Faults.is))
 
 pub record_fault-requires : goal.record_fault-requires
 record_fault-requires g c =

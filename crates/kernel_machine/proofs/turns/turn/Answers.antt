@@ -1,8 +1,6 @@
 use Rattle.std.proofs.Common.{◌∙◌, ap, arith, length, subst, sym}
 use Rattle.std.proofs.lemmas.List.{length-append}
-use Rattle.std.specs.Option.{option_map}
 use Rattle.ram_disc.specs.Disc.{IsDisc}
-use Rattle.kernel_machine.specs.Stops.{stop_of}
 use Rattle.kernel_steps.specs.GuestSteps.{guest_step}
 use Rattle.kernel_steps.specs.ResidentSteps.{resident_step}
 use Rattle.kernel_steps.specs.Step.{Stepped}
@@ -23,7 +21,7 @@ returns-then-task-lt-FIRST_GUEST-clause-stop g c = λ k st can.
     let is = c.running-task.ensures k.lists st.keeper.lists in
     let none = other-number _ _ is c.if-task-lt-FIRST_GUEST.true in
     c.resident.ensures.stop k st (record { can = can; is = is; none = none })
-    ∙ ap (λ (x : Stepped). option_map stop_of x.kernel.stop) (ap (λ i. resident_step i k) is ∙ sym (turn-resident k none))
+    ∙ ap (λ (x : Stepped). x.kernel.stop) (ap (λ i. resident_step i k) is ∙ sym (turn-resident k none))
 
 pub returns-clause-turned : goal.returns-clause-turned
 returns-clause-turned g c = λ k st can.
@@ -35,7 +33,7 @@ pub returns-clause-stop : goal.returns-clause-stop
 returns-clause-stop g c = λ k st can.
     let is = c.running-task.ensures k.lists st.keeper.lists in
     let guest = guest-number c.running-task.result k.lists.running is (omega (arith, c.if-task-lt-FIRST_GUEST.false)) in
-    c.guest.ensures.stop k st (record { can = can; is = is; guest = guest }) ∙ ap (λ (x : Stepped). option_map stop_of x.kernel.stop) (sym (turn-guest k guest))
+    c.guest.ensures.stop k st (record { can = can; is = is; guest = guest }) ∙ ap (λ (x : Stepped). x.kernel.stop) (sym (turn-guest k guest))
 
 pub returns-clause-disc : goal.returns-clause-disc
 returns-clause-disc g c =

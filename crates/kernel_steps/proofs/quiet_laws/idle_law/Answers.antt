@@ -1,13 +1,13 @@
 use Rattle.guest_turns.specs.KernelCalls.KernelModel.Image.{image}
-use Rattle.kernel_steps.proofs.QuietMachines.{idle-full, idle-image}
-use Rattle.kernel_steps.proofs.QuietSpans.{full-ready, idle-run}
+use Rattle.kernel_steps.proofs.QuietMachines.{idle-valid, idle-image}
+use Rattle.kernel_steps.proofs.QuietSpans.{valid-ready, idle-run}
 use Rattle.kernel_steps.proofs.quiet_laws.idle_law.Goals as goal
 
 pub returns-clause-run : goal.returns-clause-run
-returns-clause-run c = λ m k h full goes none q. idle-run m (image k) k (full-ready k h full goes) none q
+returns-clause-run c = λ m k h goes none q. idle-run m (image k) k (valid-ready k h goes) none q
 
-pub returns-clause-full : goal.returns-clause-full
-returns-clause-full c = λ m k h full goes none few q. idle-full m k h full goes none few q
+pub returns-clause-valid : goal.returns-clause-valid
+returns-clause-valid c = λ m k h goes none few q. idle-valid m k h goes none few q
 
 pub returns-clause-image : goal.returns-clause-image
-returns-clause-image c = λ s m k h full is. idle-image s m k h full is
+returns-clause-image c = λ s m k h is. idle-image s m k h is

@@ -1,8 +1,8 @@
-use Rattle.kernel_steps.proofs.RunningCaller.{full-runs, runs-alone, runs-calls}
+use Rattle.kernel_steps.proofs.RunningCaller.{valid-runs, runs-alone, runs-calls}
 use Rattle.kernel_steps.proofs.turn_laws.running_law.Goals as goal
 
 pub returns-clause-runs : goal.returns-clause-runs
-returns-clause-runs c = λ k h goes. full-runs k h goes
+returns-clause-runs c = λ k h goes. valid-runs k h goes
 
 pub returns-clause-calls : goal.returns-clause-calls
 returns-clause-calls c = λ k v h guest. runs-calls k.lists k.regs h v guest

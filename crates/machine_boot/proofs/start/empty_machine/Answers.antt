@@ -2,6 +2,7 @@ use Rattle.std.proofs.Common.{◌≡◌, ℕ, Bool, false, List, [], Option, len
 use Rattle.std.proofs.lemmas.List.{length-replicate}
 use Rattle.ram_disc.specs.Disc.{Disc, empty_disc}
 use Rattle.session_text.specs.declared.sessions.Session.{Session}
+use Rattle.kernel_machine.specs.Script.{KeyScript, still_to_come}
 use Rattle.kernel_machine.specs.KernelCalls.KernelModel.Kernel.{Pipe}
 use Rattle.kernel_machine.specs.KernelCalls.KernelModel.Pipes.{no_pipes}
 use Rattle.kernel_machine.proofs.Shown.KernelCalls.KernelModel.WalkedLists.{can-walk}
@@ -32,7 +33,8 @@ returns c =
       pipes =
           made-ok (λ (ps : List (Option Pipe)). ps ≡ no_pipes) _ c.new-7.result c.in_ok-map_err-3.field-0 c.in_ok-map_err-3.ensures.cases c.in_ok-map_err-3.ensures.variant c.new-7.ensures;
       keys =
-          made-ok (λ (k : List (ℕ × ℕ)). k ≡ c.as_slice.result.now) _ c.new-8.result c.in_ok-map_err-4.field-0 c.in_ok-map_err-4.ensures.cases c.in_ok-map_err-4.ensures.variant c.new-8.ensures
+          ap still_to_come
+              (made-ok (λ (k : KeyScript). k ≡ record { keys = c.as_slice.result.now; come = 0 }) _ c.new-8.result c.in_ok-map_err-4.field-0 c.in_ok-map_err-4.ensures.cases c.in_ok-map_err-4.ensures.variant c.new-8.ensures)
           ∙ c.as_slice.ensures;
       step = refl;
       period = refl;

@@ -1,8 +1,9 @@
-use Rattle.std.proofs.Common.{◌∙◌, ◌+◌, ap, arith, sym, inl, inr}
-use Rattle.std.proofs.lemmas.Result.{err_from_is_err_and}
+use Rattle.std.proofs.Common.{◌∙◌, ◌+◌, ap, arith, subst, sym}
+use Rattle.kernel_steps.specs.KernelCalls.KernelModel.NotedEvents.{NotesAll}
+use Rattle.kernel_steps.proofs.Shown.KernelCalls.KernelModel.NotedInTurn.{notes-none}
 use Rattle.kernel_steps.specs.Step.{Stepped}
 use Rattle.kernel_steps.proofs.Runs.{run-steps}
-use Rattle.kernel_machine.proofs.RunParts.{advanced, advanced-cut, advanced-gathered, cut-gathered, gathered-quiet, ran-quiet}
+use Rattle.kernel_machine.proofs.RunParts.{run-behind}
 use Rattle.kernel_machine.proofs.machine.Machine.advance.Goals as goal
 
 pub step-requires : goal.step-requires
@@ -12,40 +13,23 @@ step-requires g c =
     let same = ap (λ (x : Stepped). x.kernel.steps) c.pass-quiet.ensures.quiet in
     omega (arith, same, run-steps q k, c.requires.steps, c.pass-quiet.ensures.most, c.if-quiet-most.false)
 
-pub returns-then-quiet-most-clause-advances : goal.returns-then-quiet-most-clause-advances
-returns-then-quiet-most-clause-advances g c =
-    let q = c.pass-quiet.result in
-    let k = c.args.self.now.kernel in
-    let e = c.pass-quiet.ensures.quiet in
-    (omega (arith, c.if-quiet-most.true, c.requires.some), c.pass-quiet.ensures.most, ran-quiet k q _ e _ _, c.requires.works, gathered-quiet k q _ e _ _)
+pub returns-then-quiet-most-clause-some : goal.returns-then-quiet-most-clause-some
+returns-then-quiet-most-clause-some g c = omega (arith, c.if-quiet-most.true, c.requires.some)
 
-pub returns-in_err-gather-clause-advances : goal.returns-in_err-gather-clause-advances
-returns-in_err-gather-clause-advances g c =
-    let q = c.pass-quiet.result in
-    let k = c.args.self.now.kernel in
-    let e = c.pass-quiet.ensures.quiet in
-    let p = err_from_is_err_and c.from_residual.result c.from_residual.ensures.1 in
-    let text = c.output.ensures ∙ c.step.ensures.output in
-    let ran = advanced k _ c.step.new.self.kernel q e _ _ _ _ c.step.ensures.kernel c.step.ensures.events in
-    let cut = advanced-cut k _ c.step.new.self.kernel q e _ _ _ _ c.step.ensures.kernel c.step.ensures.events text c.in_err-gather.ensures.text in
-    rw (p.1) ((q + 1, omega (arith, c.pass-quiet.ensures.most, c.if-quiet-most.false), ran, cut), inl c.in_err-gather.ensures.cause.failed)
+pub returns-then-quiet-most-clause-kernel : goal.returns-then-quiet-most-clause-kernel
+returns-then-quiet-most-clause-kernel g c = sym (ap (λ (x : Stepped). x.kernel) c.pass-quiet.ensures.quiet)
 
-pub returns-then-failed-clause-advances : goal.returns-then-failed-clause-advances
-returns-then-failed-clause-advances g c =
-    let q = c.pass-quiet.result in
-    let k = c.args.self.now.kernel in
-    let e = c.pass-quiet.ensures.quiet in
-    let text = c.output.ensures ∙ c.step.ensures.output in
-    let ran = advanced k _ c.step.new.self.kernel q e _ _ _ _ c.step.ensures.kernel c.step.ensures.events in
-    let cut = advanced-cut k _ c.step.new.self.kernel q e _ _ _ _ c.step.ensures.kernel c.step.ensures.events text (cut-gathered c.in_ok-gather.ensures.text) in
-    ((q + 1, omega (arith, c.pass-quiet.ensures.most, c.if-quiet-most.false), ran, cut), inr (sym c.failed.ensures ∙ c.if-failed.true))
+pub returns-then-quiet-most-clause-output : goal.returns-then-quiet-most-clause-output
+returns-then-quiet-most-clause-output g c = c.pass-quiet.ensures.output ∙ sym (ap (λ (x : Stepped). x.bytes) c.pass-quiet.ensures.quiet)
 
-pub returns-clause-advances : goal.returns-clause-advances
-returns-clause-advances g c =
-    let q = c.pass-quiet.result in
-    let k = c.args.self.now.kernel in
-    let e = c.pass-quiet.ensures.quiet in
-    let text = c.output.ensures ∙ c.step.ensures.output in
-    let ran = advanced k _ c.step.new.self.kernel q e _ _ _ _ c.step.ensures.kernel c.step.ensures.events in
-    let gathered = advanced-gathered k _ c.step.new.self.kernel q e _ _ _ _ c.step.ensures.kernel c.step.ensures.events text c.in_ok-gather.ensures.text in
-    (omega arith, omega (arith, c.pass-quiet.ensures.most, c.if-quiet-most.false), ran, sym c.failed.ensures ∙ c.if-failed.false, gathered)
+pub returns-then-quiet-most-clause-events : goal.returns-then-quiet-most-clause-events
+returns-then-quiet-most-clause-events g c = subst (NotesAll _ _ _ _) (sym (ap (λ (x : Stepped). x.events) c.pass-quiet.ensures.quiet)) (notes-none _ _)
+
+pub returns-clause-kernel : goal.returns-clause-kernel
+returns-clause-kernel g c = c.step.ensures.kernel ∙ sym (ap (λ (x : Stepped). x.kernel) (run-behind _ _ _ c.pass-quiet.ensures.quiet))
+
+pub returns-clause-output : goal.returns-clause-output
+returns-clause-output g c = c.step.ensures.output ∙ sym (ap (λ (x : Stepped). x.bytes) (run-behind _ _ _ c.pass-quiet.ensures.quiet))
+
+pub returns-clause-events : goal.returns-clause-events
+returns-clause-events g c = subst (NotesAll _ _ _ _) (sym (ap (λ (x : Stepped). x.events) (run-behind _ _ _ c.pass-quiet.ensures.quiet))) c.step.ensures.events

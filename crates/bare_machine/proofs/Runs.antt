@@ -1,0 +1,78 @@
+-- Runs: one after another, of a machine that has stopped, and how many steps they take.
+use Rattle.std.proofs.Common.{◌≡◌, ◌≢◌, ℕ, zero, suc, ◌+◌, ◌≤◌, ◌++◌, Bool, true, false, Option, Some, None, Result, Ok, Err, cond, refl, sym, ap, ◌∙◌, arith}
+use Rattle.std.specs.Prelude.{is_some}
+use Rattle.std.proofs.lemmas.List.{append_assoc, append-nil}
+use Rattle.cint_exec.specs.declared.Fault.{Fault}
+use Rattle.cint_exec.specs.declared.Outcome.{Outcome}
+use Rattle.cint_exec.specs.declared.Outcome.TheVariants.{Next, Sys, Returned, Fault as Faulted}
+use Rattle.session_text.specs.KernelDispatch.KernelModel.declared.stops.Stop.{Stop}
+use Rattle.bare_machine.specs.declared.calls.CallAnswer.{CallAnswer}
+use Rattle.bare_machine.specs.Calls.{call_answer}
+use Rattle.bare_machine.specs.Run.{run}
+use Rattle.bare_machine.specs.State.{BareState}
+use Rattle.bare_machine.specs.Step.{BareStepped, after_call, after_outcome, and_then, instruction_of, quietly, step, turn}
+
+then-assoc : (x : BareStepped) (f g : BareState → BareStepped) → and_then (and_then x f) g ≡ and_then x (λ j. and_then (f j) g)
+then-assoc x f g =
+    let y : BareStepped = f x.state in
+    let z : BareStepped = g y.state in
+    λ i. record { state = z.state; bytes = append_assoc x.bytes y.bytes z.bytes i }
+
+pub run-more : (m n : ℕ) (k : BareState) → run (m + n) k ≡ and_then (run m k) (run n)
+unfolding run
+run-more zero n k = (let none : zero + n ≡ n = omega arith in ap (λ i. run i k) none)
+run-more (suc m) n k =
+    let next : suc m + n ≡ suc (m + n) = omega arith in
+    let behind : BareStepped → BareStepped = λ (y : BareStepped). record { state = y.state; bytes = (step k).bytes ++ y.bytes } in
+    ap (λ i. run i k) next ∙ ap behind (run-more m n (step k).state) ∙ sym (then-assoc (step k) (run m) (run n))
+
+run-one : (k : BareState) → run 1 k ≡ step k
+unfolding run
+run-one k = λ i. record { state = (step k).state; bytes = append-nil (step k).bytes i }
+
+-- behind steps that wrote nothing
+pub run-behind : (n : ℕ) (k j : BareState) → run n k ≡ quietly j → run (n + 1) k ≡ step j
+run-behind n k j quiet = run-more n 1 k ∙ ap (λ (x : BareStepped). and_then x (run 1)) quiet ∙ run-one j
+
+-- ---- a machine that has stopped
+
+has-stopped : (o : Option Stop) → o ≢ None → is_some o ≡ true
+has-stopped None some = absurd (some refl)
+has-stopped (Some stop) some = refl
+
+pub step-stopped : (k : BareState) → k.stop ≢ None → step k ≡ quietly k
+unfolding step
+step-stopped k stopped = ap (λ b. cond b (quietly k) (turn (record k { steps = k.steps + 1 }))) (has-stopped k.stop stopped)
+
+pub run-stopped : (n : ℕ) (k : BareState) → k.stop ≢ None → run n k ≡ quietly k
+unfolding run
+run-stopped zero k stopped = refl
+run-stopped (suc n) k stopped = ap (λ (x : BareStepped). and_then x (run n)) (step-stopped k stopped) ∙ run-stopped n k stopped
+
+-- ---- the steps that are taken
+
+call-steps : (c : Result CallAnswer Fault) (k : BareState) → (after_call c k).state.steps ≡ k.steps
+call-steps (Ok c) k = refl
+call-steps (Err f) k = refl
+
+outcome-steps : (o : Outcome) (k : BareState) → (after_outcome o k).state.steps ≡ k.steps
+outcome-steps Next k = refl
+outcome-steps Sys k = call-steps (call_answer k.words k.regs) k
+outcome-steps Returned k = refl
+outcome-steps (Faulted f) k = refl
+
+step-steps : (k : BareState) → (step k).state.steps ≤ k.steps + 1
+unfolding step
+step-steps k = on (is_some k.stop)
+  where
+    turned : (turn (record k { steps = k.steps + 1 })).state.steps ≡ k.steps + 1
+    turned = outcome-steps (instruction_of k).outcome (record k { words = (instruction_of k).words; regs = (instruction_of k).regs; steps = k.steps + 1 })
+
+    on : (b : Bool) → (cond b (quietly k) (turn (record k { steps = k.steps + 1 }))).state.steps ≤ k.steps + 1
+    on true = omega arith
+    on false = omega (arith, turned)
+
+pub run-steps : (n : ℕ) (k : BareState) → (run n k).state.steps ≤ k.steps + n
+unfolding run
+run-steps zero k = omega arith
+run-steps (suc n) k = omega (arith, run-steps n (step k).state, step-steps k)

@@ -1,0 +1,42 @@
+use Rattle.std.proofs.Common.{◌≡◌, ◌∙◌, ◌+◌, Some, ap, sym}
+use Rattle.bare_machine.specs.Step.{BareStepped}
+use Rattle.bare_machine.proofs.Instructions.{going, step-as}
+use Rattle.bare_machine.proofs.steps.step.Goals as goal
+
+pub returns-in-Next-clause-state : goal.returns-in-Next-clause-state
+returns-in-Next-clause-state c =
+    sym (ap (λ (x : BareStepped). x.state) (step-as _ _ _ _ _ _ _ c.execute_alone.ensures.outcome c.execute_alone.ensures.words c.execute_alone.ensures.regs c.in-Next.is))
+
+pub returns-in-Next-clause-bytes : goal.returns-in-Next-clause-bytes
+returns-in-Next-clause-bytes c =
+    c.requires.empty
+    ∙ sym (ap (λ (x : BareStepped). x.bytes) (step-as _ _ _ _ _ _ _ c.execute_alone.ensures.outcome c.execute_alone.ensures.words c.execute_alone.ensures.regs c.in-Next.is))
+
+pub returns-in-Sys-clause-state : goal.returns-in-Sys-clause-state
+returns-in-Sys-clause-state c =
+    c.answer_call.ensures.state
+    ∙ sym (ap (λ (x : BareStepped). x.state) (step-as _ _ _ _ _ _ _ c.execute_alone.ensures.outcome c.execute_alone.ensures.words c.execute_alone.ensures.regs c.in-Sys.is))
+
+pub returns-in-Sys-clause-bytes : goal.returns-in-Sys-clause-bytes
+returns-in-Sys-clause-bytes c =
+    c.answer_call.ensures.bytes
+    ∙ sym (ap (λ (x : BareStepped). x.bytes) (step-as _ _ _ _ _ _ _ c.execute_alone.ensures.outcome c.execute_alone.ensures.words c.execute_alone.ensures.regs c.in-Sys.is))
+
+pub returns-in-Returned-clause-state : goal.returns-in-Returned-clause-state
+returns-in-Returned-clause-state c =
+    sym (ap (λ (x : BareStepped). x.state) (step-as _ _ _ _ _ _ _ c.execute_alone.ensures.outcome c.execute_alone.ensures.words c.execute_alone.ensures.regs c.in-Returned.is))
+
+pub returns-in-Returned-clause-bytes : goal.returns-in-Returned-clause-bytes
+returns-in-Returned-clause-bytes c =
+    c.requires.empty
+    ∙ sym (ap (λ (x : BareStepped). x.bytes) (step-as _ _ _ _ _ _ _ c.execute_alone.ensures.outcome c.execute_alone.ensures.words c.execute_alone.ensures.regs c.in-Returned.is))
+
+pub returns-in-Fault-clause-state : goal.returns-in-Fault-clause-state
+returns-in-Fault-clause-state c =
+    ap (λ s. record (going c.execute_alone.new.store c.execute_alone.new.regs (c.args.parts.now.step + 1)) { stop = Some s }) c.stop_by.ensures
+    ∙ sym (ap (λ (x : BareStepped). x.state) (step-as _ _ _ _ _ _ _ c.execute_alone.ensures.outcome c.execute_alone.ensures.words c.execute_alone.ensures.regs c.in-Fault.is))
+
+pub returns-in-Fault-clause-bytes : goal.returns-in-Fault-clause-bytes
+returns-in-Fault-clause-bytes c =
+    c.requires.empty
+    ∙ sym (ap (λ (x : BareStepped). x.bytes) (step-as _ _ _ _ _ _ _ c.execute_alone.ensures.outcome c.execute_alone.ensures.words c.execute_alone.ensures.regs c.in-Fault.is))

@@ -1,0 +1,116 @@
+// A machine without a kernel.
+ghost use Rattle.std.specs.Prelude.{◌≡◌, ◌<◌, ◌+◌, ◌≤◌, [], None};
+ghost use Rattle.session_text.specs.KernelDispatch.KernelModel.Ranges.{most_steps};
+ghost use Rattle.bare_machine.specs.Run.{run};
+ghost use Rattle.bare_machine.specs.State.{IsSound, state_of};
+ghost use Rattle.bare_machine.specs.Step.{step};
+
+use crate::BareParts;
+use crate::passes::pass;
+use crate::steps::{next_step, step_or_stay};
+use session_text::Stop;
+use std::marker::Model;
+use tp_io::Output;
+
+/// A machine without a kernel. Contracts see it as its state, and the bytes of its last step.
+#[derive(Drop)]
+pub struct Bare {
+    parts: BareParts,
+    stop: Option<Stop>,
+    output: Output,
+}
+
+impl Model for Bare {
+    ghost use Rattle.bare_machine.specs.State.{BareView, IsSound, state_of};
+
+    ghost Value = { BareView };
+
+    ghost view = { λ m. record { state = state_of m.parts m.stop; output = m.output } };
+
+    ghost invariant = { λ m. IsSound m.parts };
+}
+
+impl Bare {
+    /// The machine with these parts, which has not stopped, and has no output.
+    pub fn from_parts(parts: BareParts) -> Bare
+        requires { IsSound parts }
+        ensures state { result.state ≡ state_of parts None }
+        ensures output { result.output ≡ [] }
+    {
+        Bare {
+            parts,
+            stop: None,
+            output: Output::new(),
+        }
+    }
+
+    /// Its parts.
+    pub fn into_parts(self) -> BareParts
+        ensures parts { state_of result self.state.stop ≡ self.state }
+        ensures sound { IsSound result }
+    {
+        self.parts
+    }
+
+    /// Its parts, lent.
+    pub fn parts(&self) -> &BareParts
+        ensures parts { state_of result.now self.now.state.stop ≡ self.now.state }
+        ensures sound { IsSound result.now }
+    {
+        &self.parts
+    }
+
+    /// Why it has stopped, if it has.
+    pub fn stop(&self) -> Option<Stop>
+        ensures { result ≡ self.now.state.stop }
+    {
+        self.stop
+    }
+
+    /// The console bytes of the last step, lent; none before the first step.
+    pub fn output(&self) -> &[u8]
+        ensures { result.now ≡ self.now.output }
+    {
+        self.output.bytes()
+    }
+
+    /// Takes one step, and answers why the machine has stopped, if it has. A machine that has stopped before stays as it is,
+    /// but for its output, which is empty then.
+    pub fn step(&mut self) -> Option<Stop>
+        requires { self.old.state.steps < most_steps }
+        ensures state { self.new.state ≡ (step self.old.state).state }
+        ensures output { self.new.output ≡ (step self.old.state).bytes }
+        ensures stop { result ≡ self.new.state.stop }
+    {
+        self.output.clear();
+        self.stop = step_or_stay(&mut self.parts, self.stop, &mut self.output);
+        self.stop
+    }
+
+    /// Takes some steps, at most `most`, of a machine that has not stopped, of which only the last one may write bytes or stop the
+    /// machine. The answer is how many these are.
+    pub fn advance(&mut self, most: u64) -> u64
+        requires goes { self.old.state.stop ≡ None }
+        requires some { 0 < most }
+        requires steps { self.old.state.steps + most ≤ most_steps }
+        ensures some { 0 < result }
+        ensures most { result ≤ most }
+        ensures state { self.new.state ≡ (run result self.old.state).state }
+        ensures output { self.new.output ≡ (run result self.old.state).bytes }
+    {
+        self.output.clear();
+        let mut calls = false;
+        let taken = pass(
+            &mut self.parts.store,
+            &mut self.parts.regs,
+            most,
+            &mut calls,
+        );
+        self.parts.step += taken;
+        if taken == most {
+            return most;
+        }
+        self.stop = next_step(&mut self.parts, calls, &mut self.output);
+        taken + 1
+    }
+}

@@ -1,0 +1,103 @@
+// A step: an instruction, and what it asks for.
+ghost use Rattle.std.specs.Prelude.{◌≡◌, ◌<◌, [], None, true};
+ghost use Rattle.session_text.specs.KernelDispatch.KernelModel.Ranges.{most_steps};
+ghost use Rattle.cint_exec.specs.declared.Outcome.TheVariants.{Sys};
+ghost use Rattle.bare_machine.specs.Calls.{call_answer};
+ghost use Rattle.bare_machine.specs.State.{IsSound, state_of};
+ghost use Rattle.bare_machine.specs.Step.{after_call, instruction_of, step};
+
+use crate::BareParts;
+use crate::calls::call;
+use cint_exec::{Fault, NoKernel, Outcome, execute_alone};
+use session_text::Stop;
+use tp_io::Output;
+
+/// One step of a machine that has stopped or not. One that has stays as it is. The answer is why it has stopped, if it has.
+pub(crate) fn step_or_stay(
+    parts: &mut BareParts,
+    stop: Option<Stop>,
+    out: &mut Output,
+) -> Option<Stop>
+    requires sound { IsSound parts.old }
+    requires steps { parts.old.step < most_steps }
+    requires empty { out.old ≡ [] }
+    ensures state { state_of parts.new result ≡ (step (state_of parts.old stop)).state }
+    ensures bytes { out.new ≡ (step (state_of parts.old stop)).bytes }
+    ensures sound { IsSound parts.new }
+{
+    match stop {
+        Some(_) => stop,
+        None => step(parts, out),
+    }
+}
+
+/// One step of a machine that has not stopped, and whether it is known that its instruction is a call, which is not decoded then.
+/// The answer is why it stops in this step, if it does.
+pub(crate) fn next_step(parts: &mut BareParts, calls: bool, out: &mut Output) -> Option<Stop>
+    requires sound { IsSound parts.old }
+    requires steps { parts.old.step < most_steps }
+    requires empty { out.old ≡ [] }
+    requires calls { calls ≡ true → (instruction_of (state_of parts.old None)).outcome ≡ Sys }
+    ensures state { state_of parts.new result ≡ (step (state_of parts.old None)).state }
+    ensures bytes { out.new ≡ (step (state_of parts.old None)).bytes }
+    ensures sound { IsSound parts.new }
+{
+    if !calls {
+        return step(parts, out);
+    }
+    parts.step += 1;
+    answer_call(parts, out)
+}
+
+// One step of a machine that has not stopped. The answer is why it stops in this step, if it does.
+#[cold]
+#[inline(never)]
+fn step(parts: &mut BareParts, out: &mut Output) -> Option<Stop>
+    requires sound { IsSound parts.old }
+    requires steps { parts.old.step < most_steps }
+    requires empty { out.old ≡ [] }
+    ensures state { state_of parts.new result ≡ (step (state_of parts.old None)).state }
+    ensures bytes { out.new ≡ (step (state_of parts.old None)).bytes }
+    ensures sound { IsSound parts.new }
+{
+    parts.step += 1;
+    match execute_alone(&mut parts.store, &mut parts.regs, &NoKernel) {
+        Outcome::Next => None,
+        Outcome::Sys => answer_call(parts, out),
+        Outcome::Returned => Some(Stop::Quit(0)),
+        Outcome::Fault(fault) => Some(stop_by(fault)),
+    }
+}
+
+// The call of a step that is counted already. The answer is why the machine stops, if it does.
+fn answer_call(parts: &mut BareParts, out: &mut Output) -> Option<Stop>
+    requires sound { IsSound parts.old }
+    requires empty { out.old ≡ [] }
+    ensures state { let m = state_of parts.old None in
+        state_of parts.new result ≡ (after_call (call_answer m.words m.regs) m).state }
+    ensures bytes { let m = state_of parts.old None in
+        out.new ≡ (after_call (call_answer m.words m.regs) m).bytes }
+    ensures sound { IsSound parts.new }
+{
+    match call(&parts.store, parts.regs) {
+        Ok(answer) => {
+            parts.regs = answer.regs;
+            if let Some(byte) = answer.byte {
+                out.append(&[byte]);
+            }
+            answer.stop
+        }
+        Err(fault) => Some(stop_by(fault)),
+    }
+}
+
+// A bare machine runs no task.
+fn stop_by(fault: Fault) -> Stop
+    ensures { result ≡ Stop.Fault fault.code fault.address 0 }
+{
+    Stop::Fault {
+        code: fault.code,
+        address: fault.address,
+        task: 0,
+    }
+}

@@ -1,0 +1,5 @@
+pub mod BootedSteps
+pub mod KindRuns
+pub mod RunParts
+pub mod Shown
+pub mod StateRuns

@@ -1,0 +1,30 @@
+-- What a session puts into its machine before the first step.
+use Rattle.std.specs.Prelude.{◌≡◌, if◌then◌else◌, Result, Ok, Err}
+use Rattle.hunk_text.specs.TextReader.Refusal.{Refusal, refusal}
+use Rattle.session_text.specs.declared.sessions.Session.{Session}
+use Rattle.bare_machine.specs.Boot.{boot as bare_boot}
+use Rattle.bare_machine.specs.State.{BareState}
+use Rattle.bare_machine.specs.declared.boot.BootEnd.{BootEnd}
+use Rattle.bare_machine.specs.declared.boot.BootEnd.TheVariants.{Line, WantMemory}
+use Rattle.machine_boot.specs.Boot.{boot as kernel_boot}
+use Rattle.machine_boot.specs.KernelBoot.declared.refusals.BootRefusal.{BootRefusal}
+use Rattle.machine_boot.specs.KernelSteps.Stepped.{Stepped as KernelStepped}
+use Rattle.tripos_machine.specs.State.State.{Bare}
+use Rattle.tripos_machine.specs.Step.{Stepped, of_kernel, quietly}
+
+abbrev pub bare_booted : Result BareState Refusal → Result Stepped Refusal
+bare_booted (Ok m) = Ok (quietly (Bare m))
+bare_booted (Err r) = Err r
+
+abbrev pub kernel_booted : Result KernelStepped BootRefusal → Result Stepped Refusal
+kernel_booted (Ok x) = Ok (of_kernel x)
+kernel_booted (Err r) = Err (refusal r.line r.code)
+
+-- the state before the first step, and its events; or the first line that is refused, with its code
+abbrev pub boot : Session → Result Stepped Refusal
+boot s = if s.bare then bare_booted (bare_boot s) else kernel_booted (kernel_boot s)
+
+-- an end is the refusal that the definition gives, unless memory ran out
+abbrev pub EndsAs : BootEnd → Result Stepped Refusal → Type 0
+EndsAs (Line line code) booted = booted ≡ Err (refusal line code)
+EndsAs WantMemory booted = Unit {0}

@@ -1,0 +1,8 @@
+pub mod State
+pub mod Step
+pub mod Boot
+pub mod Machine
+pub mod Runs
+-- shown to the crates above
+pub use Rattle.bare_machine.specs as BareMachine
+pub use Rattle.machine_boot.specs.KernelCalls

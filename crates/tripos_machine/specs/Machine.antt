@@ -1,0 +1,32 @@
+-- A machine of either kind, as contracts see it.
+use Rattle.std.specs.Prelude.{◌≡◌, ℕ, List, [], None, Result, Ok, Err}
+use Rattle.hunk_text.specs.TextReader.Refusal.{Refusal}
+use Rattle.bare_machine.specs.declared.boot.BootEnd.{BootEnd}
+use Rattle.tripos_machine.specs.Boot.{EndsAs}
+use Rattle.tripos_machine.specs.State.{IsSound, State, steps_of, stop_of}
+use Rattle.tripos_machine.specs.State.State.{Bare, Full}
+use Rattle.tripos_machine.specs.Step.{Stepped, boot_events}
+use Rattle.tripos_machine.specs.declared.kinds.Kind.{Kind}
+use Rattle.tripos_machine.specs.declared.kinds.Kind.TheVariants.{Bare as BareKind, Full as FullKind}
+
+-- its state, and the bytes of its last step
+pub record MachineView : Type 0 where
+  pub state : State
+  pub output : List ℕ
+
+abbrev pub view_of : Kind → MachineView
+view_of (BareKind m) = record { state = Bare m.state; output = m.output }
+view_of (FullKind m) = record { state = Full m.kernel; output = m.output }
+
+-- the machine is as the session boots it: it has taken no step, and its events are those of a boot
+pub record IsBooted (m : MachineView) (x : Stepped) : Type 0 where
+  pub state : m.state ≡ x.state
+  pub output : m.output ≡ []
+  pub events : x.events ≡ boot_events x.state
+  pub steps : steps_of x.state ≡ 0
+  pub goes : stop_of x.state ≡ None
+
+-- what a booting function returned is what the definition gives, unless memory ran out
+abbrev pub BootsAs : Result MachineView BootEnd → Result Stepped Refusal → Type 0
+BootsAs (Ok m) booted = (x : Stepped) × (booted ≡ Ok x) × IsBooted m x
+BootsAs (Err e) booted = EndsAs e booted

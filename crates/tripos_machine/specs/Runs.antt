@@ -1,0 +1,30 @@
+-- How a run ends.
+use Rattle.std.specs.Prelude.{◌≡◌, ◌≤◌, ◌⊎◌, ℕ, Bool, true, false, Option, Some, None, List, Result, Ok, Err}
+use Rattle.tp_io.specs.Faults.{Rose}
+use Rattle.machine_boot.specs.KernelCalls.KernelModel.declared.stops.Stop.{Stop}
+use Rattle.machine_boot.specs.KernelCalls.KernelModel.declared.stops.Stop.TheVariants.{Steps}
+use Rattle.machine_boot.specs.KernelCalls.KernelModel.NotedEvents.{NotesAll}
+use Rattle.machine_boot.specs.KernelCalls.PacketQueue.declared.events.KernelEvent.{KernelEvent}
+use Rattle.tripos_machine.specs.State.{State, stop_of}
+use Rattle.tripos_machine.specs.Step.{run}
+
+-- a run of a machine that has not stopped has taken all its steps
+abbrev pub end_of_run : Option Stop → Stop
+end_of_run None = Steps
+end_of_run (Some stop) = stop
+
+-- n steps of the state s, which left t, and of which the events went to the log, or the first of them where it failed
+pub record HasRun (n : ℕ) (s t : State) (old new : Option (List KernelEvent)) (had_failed has_failed : Bool) : Type 0 where
+  pub state : t ≡ (run n s).state
+  pub events : NotesAll old new had_failed has_failed (run n s).events
+
+-- a log has failed, or the sink's count of faults rose
+abbrev pub HasCause : ℕ → ℕ → Bool → Type 0
+HasCause before now has_failed = Rose before now ⊎ (has_failed ≡ true)
+
+-- A run of n steps has taken them all, or was cut off behind some, where the sink or the log failed.
+abbrev pub EndsRun : {E : Type 0} → ℕ → State → State → Option (List KernelEvent) → Option (List KernelEvent) → Bool → Bool → ℕ → ℕ → Result Stop E → Type 0
+EndsRun n s t old new had_failed has_failed before now (Ok stop) =
+    HasRun n s t old new had_failed has_failed × (stop ≡ end_of_run (stop_of t)) × (has_failed ≡ false)
+EndsRun n s t old new had_failed has_failed before now (Err e) =
+    ((i : ℕ) × (i ≤ n) × HasRun i s t old new had_failed has_failed) × HasCause before now has_failed

@@ -1,0 +1,58 @@
+-- The state of a machine of either kind.
+use Rattle.std.specs.Prelude.{◌≡◌, ℕ, ◌<◌, ◌≤◌, List, Option}
+use Rattle.word_store.specs.declared.registers.Regs.{Regs}
+use Rattle.bare_machine.specs.State.{BareState, state_of}
+use Rattle.bare_machine.specs.declared.parts.BareParts.{BareParts}
+use Rattle.machine_boot.specs.KernelCalls.KernelModel.Image.{image}
+use Rattle.machine_boot.specs.KernelCalls.KernelModel.Kernel.{Kernel}
+use Rattle.machine_boot.specs.KernelCalls.KernelModel.Ranges.{most_steps}
+use Rattle.machine_boot.specs.KernelCalls.KernelModel.ValidKernel.{IsValid}
+use Rattle.machine_boot.specs.KernelCalls.KernelModel.declared.stops.Stop.{Stop}
+use Rattle.machine_boot.specs.KernelMachine.Stands.{Stands}
+use Rattle.machine_boot.specs.KernelMachine.declared.parts.Parts.{Parts as FullParts}
+use Rattle.tripos_machine.specs.declared.parts.Parts.{Parts}
+use Rattle.tripos_machine.specs.declared.parts.Parts.TheVariants.{Bare as BareMachine, Full as FullMachine}
+
+-- a bare machine has words and registers, and a full one has a kernel
+pub data State : Type 0 where
+  Bare : BareState → State
+  Full : Kernel → State
+
+-- the words of its store, from address 0 on
+abbrev pub words_of : State → List ℕ
+words_of (Bare m) = m.words
+words_of (Full k) = image k
+
+abbrev pub regs_of : State → Regs
+regs_of (Bare m) = m.regs
+regs_of (Full k) = k.regs
+
+-- the steps taken so far
+abbrev pub steps_of : State → ℕ
+steps_of (Bare m) = m.steps
+steps_of (Full k) = k.steps
+
+-- why it has stopped, if it has
+abbrev pub stop_of : State → Option Stop
+stop_of (Bare m) = m.stop
+stop_of (Full k) = k.stop
+
+-- what holds of it at every moment between steps
+abbrev pub IsSound : State → Type 0
+IsSound (Bare m) = (m.regs.c < 256) × (m.steps ≤ most_steps)
+IsSound (Full k) = IsValid k
+
+abbrev pub IsBare : State → Type 0
+IsBare (Bare m) = Unit {0}
+IsBare (Full k) = ⊥
+
+-- it is full, and these parts stand for its kernel
+abbrev pub StandsFull : FullParts → State → Type 0
+StandsFull p (Bare m) = ⊥
+StandsFull p (Full k) = Stands p k
+
+-- These parts are those of the state. Whether the machine has stopped is no part of them.
+abbrev pub StandFor : Parts → State → Type 0
+StandFor (BareMachine p) (Bare m) = state_of p m.stop ≡ m
+StandFor (FullMachine p) (Full k) = Stands p k
+StandFor _ _ = ⊥

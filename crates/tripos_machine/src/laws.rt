@@ -1,0 +1,19 @@
+// Laws of runs.
+ghost use Rattle.std.specs.Prelude.{◌≡◌, ◌≢◌, ◌+◌, ◌≤◌, None, ℕ};
+ghost use Rattle.bare_machine.specs.Run.{run as bare_run};
+ghost use Rattle.bare_machine.specs.State.{BareState};
+ghost use Rattle.machine_boot.specs.KernelCalls.KernelModel.Kernel.{Kernel};
+ghost use Rattle.machine_boot.specs.KernelSteps.Step.{run as kernel_run};
+ghost use Rattle.tripos_machine.specs.State.{State, steps_of, stop_of};
+ghost use Rattle.tripos_machine.specs.State.State.{Bare, Full};
+ghost use Rattle.tripos_machine.specs.Step.{and_then, of_bare, of_kernel, quietly, run};
+
+/// A run is that of the machine's kind. It may be cut in two; a machine that has stopped stays as it is; and a run takes at most
+/// its steps.
+pub fn run_law()
+    ensures bare { (n : ℕ) (m : BareState) → run n (Bare m) ≡ of_bare (bare_run n m) }
+    ensures full { (n : ℕ) (k : Kernel) → run n (Full k) ≡ of_kernel (kernel_run n k) }
+    ensures more { (m n : ℕ) (s : State) → run (m + n) s ≡ and_then (run m s) (run n) }
+    ensures stopped { (n : ℕ) (s : State) → stop_of s ≢ None → run n s ≡ quietly s }
+    ensures steps { (n : ℕ) (s : State) → steps_of (run n s).state ≤ steps_of s + n }
+{}

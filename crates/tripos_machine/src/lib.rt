@@ -1,0 +1,18 @@
+// A machine of either kind, from a session to its runs.
+#![tactic(auto)]
+
+mod kinds;
+pub mod laws;
+pub mod machine;
+pub mod parts;
+mod runs;
+mod start;
+
+pub use laws::run_law;
+pub use machine::Machine;
+pub use parts::Parts;
+pub use start::boot;
+
+// Shown to the crates above.
+pub use bare_machine::boot::BootEnd;
+pub use machine_boot::{EventLog, KernelEvent, ListLog, NoLog, Pipes, SinkLog, Stop};

@@ -1,0 +1,164 @@
+// A machine of either kind.
+ghost use Rattle.std.specs.Prelude.{◌≡◌, ◌<◌, ◌+◌, ◌≤◌, [], None, MatchOption};
+ghost use Rattle.machine_boot.specs.KernelCalls.KernelModel.NotedEvents.{NotesAll};
+ghost use Rattle.machine_boot.specs.KernelCalls.KernelModel.Ranges.{most_steps};
+ghost use Rattle.tripos_machine.specs.State.{IsBare, IsSound, StandFor, StandsFull, State, regs_of, steps_of, stop_of, words_of};
+ghost use Rattle.tripos_machine.specs.Step.{boot_events, run, step};
+
+use crate::Parts;
+use crate::kinds::Kind;
+use bare_machine::Bare;
+use machine_boot::{EventLog, Machine as FullMachine, Parts as FullParts, Stop};
+use std::marker::Model;
+use word_store::{Regs, Store};
+
+/// A machine of either kind. Contracts see it as its state, and the bytes of its last step.
+#[derive(Drop)]
+pub struct Machine {
+    pub(crate) kind: Kind,
+}
+
+impl Model for Machine {
+    ghost use Rattle.tripos_machine.specs.Machine.{MachineView, view_of};
+
+    ghost Value = { MachineView };
+
+    ghost view = { λ m. view_of m.kind };
+}
+
+impl Machine {
+    /// The machine with these parts, which has not stopped, and has no output.
+    pub fn from_parts(parts: Parts) -> Machine
+        requires { (s : State) × StandFor parts s × IsSound s × (stop_of s ≡ None) }
+        ensures state { (s : State) → StandFor parts s → IsSound s → stop_of s ≡ None
+            → result.state ≡ s }
+        ensures output { result.output ≡ [] }
+    {
+        let kind = match parts {
+            Parts::Bare(parts) => Kind::Bare(Bare::from_parts(parts)),
+            Parts::Full(parts) => Kind::Full(FullMachine::from_parts(parts)),
+        };
+        Machine { kind }
+    }
+
+    /// Its parts. They are those of its state, which is sound.
+    pub fn into_parts(self) -> Parts
+        ensures stand { StandFor result self.state }
+        ensures sound { IsSound self.state }
+    {
+        match self.kind {
+            Kind::Bare(machine) => Parts::Bare(machine.into_parts()),
+            Kind::Full(machine) => Parts::Full(machine.into_parts()),
+        }
+    }
+
+    /// The parts of a machine with a kernel, lent; `None` exactly for one without.
+    pub fn kernel_parts(&self) -> Option<&FullParts>
+        ensures stand { MatchOption result (IsBare self.now.state) (λ parts. StandsFull parts.now self.now.state) }
+        ensures sound { IsSound self.now.state }
+    {
+        match &self.kind {
+            Kind::Bare(machine) => {
+                machine.parts();
+                None
+            }
+            Kind::Full(machine) => Some(machine.parts()),
+        }
+    }
+
+    /// The words of its store, lent.
+    pub fn store(&self) -> &Store
+        ensures { result.now ≡ words_of self.now.state }
+    {
+        match &self.kind {
+            Kind::Bare(machine) => &machine.parts().store,
+            Kind::Full(machine) => &machine.parts().store,
+        }
+    }
+
+    /// Its registers.
+    pub fn regs(&self) -> Regs
+        ensures { result ≡ regs_of self.now.state }
+    {
+        match &self.kind {
+            Kind::Bare(machine) => machine.parts().regs,
+            Kind::Full(machine) => machine.parts().regs,
+        }
+    }
+
+    /// The steps taken so far.
+    pub fn steps(&self) -> u64
+        ensures { result ≡ steps_of self.now.state }
+    {
+        match &self.kind {
+            Kind::Bare(machine) => machine.parts().step,
+            Kind::Full(machine) => machine.parts().step,
+        }
+    }
+
+    /// Why it has stopped, if it has.
+    pub fn stop(&self) -> Option<Stop>
+        ensures { result ≡ stop_of self.now.state }
+    {
+        match &self.kind {
+            Kind::Bare(machine) => machine.stop(),
+            Kind::Full(machine) => machine.stop(),
+        }
+    }
+
+    /// The console bytes of the last step, lent; none before the first step.
+    pub fn output(&self) -> &[u8]
+        ensures { result.now ≡ self.now.output }
+    {
+        match &self.kind {
+            Kind::Bare(machine) => machine.output(),
+            Kind::Full(machine) => machine.output(),
+        }
+    }
+
+    /// Notes the events of the boot of a machine that has taken no step; one without a kernel has none.
+    pub fn note_boot<L: EventLog>(&self, log: &mut L)
+        ensures { NotesAll (L.noted log.old) (L.noted log.new) (L.has_failed log.old)
+            (L.has_failed log.new) (boot_events self.now.state) }
+    {
+        match &self.kind {
+            Kind::Bare(_) => {}
+            Kind::Full(machine) => machine.note_boot(log),
+        }
+    }
+
+    /// Takes one step, and answers why the machine has stopped, if it has. A machine that has stopped before stays as it is,
+    /// but for its output, which is empty then.
+    pub fn step<L: EventLog>(&mut self, log: &mut L) -> Option<Stop>
+        requires { steps_of self.old.state < most_steps }
+        ensures state { self.new.state ≡ (step self.old.state).state }
+        ensures output { self.new.output ≡ (step self.old.state).bytes }
+        ensures events { NotesAll (L.noted log.old) (L.noted log.new) (L.has_failed log.old)
+            (L.has_failed log.new) (step self.old.state).events }
+        ensures stop { result ≡ stop_of self.new.state }
+    {
+        match &mut self.kind {
+            Kind::Bare(machine) => machine.step(),
+            Kind::Full(machine) => machine.step(log),
+        }
+    }
+
+    /// Takes some steps, at most `most`, of a machine that has not stopped, of which only the last one may write bytes, have events
+    /// or stop the machine. The answer is how many these are.
+    pub fn advance<L: EventLog>(&mut self, most: u64, log: &mut L) -> u64
+        requires goes { stop_of self.old.state ≡ None }
+        requires some { 0 < most }
+        requires steps { steps_of self.old.state + most ≤ most_steps }
+        ensures some { 0 < result }
+        ensures most { result ≤ most }
+        ensures state { self.new.state ≡ (run result self.old.state).state }
+        ensures output { self.new.output ≡ (run result self.old.state).bytes }
+        ensures events { NotesAll (L.noted log.old) (L.noted log.new) (L.has_failed log.old)
+            (L.has_failed log.new) (run result self.old.state).events }
+    {
+        match &mut self.kind {
+            Kind::Bare(machine) => machine.advance(most),
+            Kind::Full(machine) => machine.advance(most, log),
+        }
+    }
+}

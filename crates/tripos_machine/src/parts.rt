@@ -1,0 +1,13 @@
+// What a machine consists of.
+
+use bare_machine::BareParts;
+use machine_boot::Parts as FullParts;
+
+/// What a machine of either kind consists of, at one moment. Whether it has stopped is no part of it.
+#[derive(Drop)]
+pub enum Parts {
+    /// A machine without a kernel.
+    Bare(BareParts),
+    /// A machine with a kernel.
+    Full(FullParts),
+}

@@ -1,0 +1,46 @@
+// Runs of a machine of either kind.
+ghost use Rattle.std.specs.Prelude.{◌≡◌, ◌+◌, ◌≤◌, false};
+ghost use Rattle.machine_boot.specs.KernelCalls.KernelModel.Ranges.{most_steps};
+ghost use Rattle.tp_io.specs.Pending.{Gathers};
+ghost use Rattle.tripos_machine.specs.Runs.{EndsRun};
+ghost use Rattle.tripos_machine.specs.State.{steps_of};
+ghost use Rattle.tripos_machine.specs.Step.{run};
+
+use crate::Machine;
+use machine_boot::{EventLog, Stop};
+use tp_io::{Output, Sink, SinkFault, gather};
+
+impl Machine {
+    /// Takes at most n steps, whose console bytes are gathered, and whose events are noted. The answer is why the machine has
+    /// stopped. `SinkFault` comes only where the sink's count of faults rose, or the log, which had not failed, has failed; then
+    /// the machine is as it is after the steps taken so far.
+    pub fn run<K: Sink, L: EventLog>(
+        &mut self,
+        n: u64,
+        out: &mut K,
+        pending: &mut Output,
+        log: &mut L,
+    ) -> Result<Stop, SinkFault>
+        requires steps { steps_of self.old.state + n ≤ most_steps }
+        requires works { L.has_failed log.old ≡ false }
+        ensures end { EndsRun n self.old.state self.new.state (L.noted log.old) (L.noted log.new)
+            (L.has_failed log.old) (L.has_failed log.new)
+            (K.faults out.old) (K.faults out.new) result }
+        ensures bytes { Gathers (K.holds out.old) (K.holds out.new) pending.old pending.new
+            (run n self.old.state).bytes result }
+        ensures later { K.faults out.old ≤ K.faults out.new }
+    {
+        let mut taken = 0;
+        while taken < n {
+            if let Some(stop) = self.stop() {
+                return Ok(stop);
+            }
+            taken += self.advance(n - taken, log);
+            gather(out, pending, self.output())?;
+            if log.failed() {
+                return Err(SinkFault);
+            }
+        }
+        Ok(self.stop().unwrap_or(Stop::Steps))
+    }
+}
