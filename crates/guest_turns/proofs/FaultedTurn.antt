@@ -17,8 +17,6 @@ use Rattle.guest_turns.specs.GuestTurn.{IsUntouched, after_instruction, called, 
 use Rattle.guest_turns.specs.declared.turns.TurnEnd.TheVariants.{Faults}
 use Rattle.guest_turns.proofs.CallFields.{IsMadeEnd, call-ends}
 
--- ---- the turn
-
 made-goes : (place : ℕ) (f : Fault) (o : CallOutcome) → IsMadeEnd o → end_of_call place o ≡ Faults f → ⊥
 made-goes place f Done is e = cc
 made-goes place f Waits is e = cc

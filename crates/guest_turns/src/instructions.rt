@@ -1,12 +1,12 @@
 // A guest executes an instruction, which writes none of the kernel's words.
-ghost use Rattle.std.specs.Prelude.{◌≡◌, ◌<◌};
+ghost use Rattle.std.specs.Prelude.{◌≡◌, ◌≢◌, ◌<◌};
 ghost use Rattle.cint_exec.specs.Instruction.{instruction};
 ghost use Rattle.kernel_calls.specs.KernelModel.ChangedStore.{HasKeeper};
 ghost use Rattle.kernel_calls.specs.KernelModel.HoldsLists.{HoldsLists};
 ghost use Rattle.kernel_calls.specs.KernelModel.Lists.{Lists};
 ghost use Rattle.guest_turns.specs.Guarded.{is_owned};
 
-use cint_exec::{Outcome, execute};
+use cint_exec::{Outcome, execute, execute_alone};
 use kernel_calls::KindKeeper;
 use word_store::{Regs, Store};
 
@@ -23,6 +23,26 @@ pub fn execute_guest<Q: KindKeeper>(store: &mut Store, regs: &mut Regs, kinds: &
         → regs.new ≡ (instruction (is_owned l) store.old regs.old).regs }
     ensures lists { (l : Lists) → HasKeeper store.old (Q.tells kinds.now) (Q.room kinds.now) l
         → HoldsLists store.new l }
+    ensures byte { regs.new.c < 256 }
+{
+    execute_alone(store, regs, kinds)
+}
+
+/// `execute_guest` for a loop that executes many: an instruction becomes part of that loop. What is not executed leaves the store
+/// and the registers.
+#[inline(always)]
+pub fn execute_next<Q: KindKeeper>(store: &mut Store, regs: &mut Regs, kinds: &Q) -> Outcome
+    requires byte { regs.old.c < 256 }
+    requires keeper { (l : Lists) × HasKeeper store.old (Q.tells kinds.now) (Q.room kinds.now) l }
+    ensures outcome { (l : Lists) → HasKeeper store.old (Q.tells kinds.now) (Q.room kinds.now) l
+        → result ≡ (instruction (is_owned l) store.old regs.old).outcome }
+    ensures words { (l : Lists) → HasKeeper store.old (Q.tells kinds.now) (Q.room kinds.now) l
+        → store.new ≡ (instruction (is_owned l) store.old regs.old).words }
+    ensures regs { (l : Lists) → HasKeeper store.old (Q.tells kinds.now) (Q.room kinds.now) l
+        → regs.new ≡ (instruction (is_owned l) store.old regs.old).regs }
+    ensures lists { (l : Lists) → HasKeeper store.old (Q.tells kinds.now) (Q.room kinds.now) l
+        → HoldsLists store.new l }
+    ensures stays { result ≢ Outcome.Next → (store.new ≡ store.old) × (regs.new ≡ regs.old) }
     ensures byte { regs.new.c < 256 }
 {
     execute(store, regs, kinds)

@@ -5,7 +5,7 @@ mod instructions;
 pub mod laws;
 pub mod turns;
 
-pub use instructions::execute_guest;
+pub use instructions::{execute_guest, execute_next};
 pub use turns::{TurnEnd, guest_turn};
 
 // Shown to the crates above.

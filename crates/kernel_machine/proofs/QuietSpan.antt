@@ -1,11 +1,9 @@
 -- Steps of which nobody but the running task knows.
-use Rattle.std.proofs.Common.{◌≡◌, ℕ, suc, ◌+◌, ◌/◌, ◌<◌, ◌≤◌, ◌⊎◌, true, None, List, [], length, set, inl, inr, refl, sym, ap, ◌∙◌, subst, arith}
+use Rattle.std.proofs.Common.{◌≡◌, ℕ, suc, ◌+◌, ◌/◌, ◌<◌, ◌≤◌, true, None, List, [], length, set, refl, sym, ap, ◌∙◌, subst, arith}
 use Rattle.kernel_steps.specs.KernelCalls.KernelModel.Ranges.{most_steps}
 use Rattle.word_store.specs.declared.registers.Regs.{Regs}
 use Rattle.cint_exec.specs.Instruction.{instruction}
-use Rattle.cint_exec.specs.declared.Fault.{Fault}
-use Rattle.cint_exec.specs.declared.Outcome.{Outcome}
-use Rattle.cint_exec.specs.declared.Outcome.TheVariants.{Next, Sys, Returned, Fault as Faulted}
+use Rattle.cint_exec.specs.declared.Outcome.TheVariants.{Next}
 use Rattle.kernel_steps.specs.KernelCalls.KernelModel.HoldsLists.{HoldsLists}
 use Rattle.kernel_steps.specs.KernelCalls.KernelModel.Image.{image}
 use Rattle.kernel_steps.specs.KernelCalls.KernelModel.Kernel.{Kernel}
@@ -160,9 +158,3 @@ module _ (k : Kernel) (n m : ℕ) (p : Parts) (way : IsOnWay k n (suc m) p) (few
           quiet = λ some. subst (IsQuietFor m) (sym same) (guest-left here ready m there way.guest next quiet one-step);
           steps = ap (λ (x : Kernel). x.steps) same ∙ omega (arith, way.steps);
         }
-
--- none that ended otherwise was executed
-pub not-next : (o : Outcome) → (o ≡ Sys) ⊎ (o ≡ Returned) ⊎ ((f : Fault) × (o ≡ Faulted f)) → o ≡ Next → ⊥
-not-next o (inl e) next = cc
-not-next o (inr (inl e)) next = cc
-not-next o (inr (inr (f, e))) next = cc

@@ -13,7 +13,6 @@ use Rattle.kernel_steps.specs.KernelCalls.KernelModel.HoldsLists.{HoldsLists}
 use Rattle.kernel_steps.specs.KernelCalls.KernelModel.Kernel.{Kernel}
 use Rattle.kernel_steps.specs.KernelCalls.WordKinds.ByteMap.{MarksAll}
 use Rattle.kernel_steps.specs.GuestTurns.Guarded.{is_owned}
-use Rattle.cint_exec.proofs.Unexecuted.{stays-instruction}
 use Rattle.kernel_machine.specs.declared.parts.Parts.{Parts}
 use Rattle.kernel_steps.specs.Step.{run}
 use Rattle.kernel_machine.specs.Runs.{HasNoTick, IsOnWay, counted}
@@ -25,6 +24,10 @@ abbrev reached : ℕ → Kernel → Kernel
 reached n k = (run n k).kernel
 
 module _ (k : Kernel) (n m i : ℕ) (p : Parts) (way : IsOnWay k n m (counted i p)) where
+  -- what was not executed left the parts
+  pub uncounted-stays : (t : List ℕ) (r : Regs) → (t ≡ p.store) × (r ≡ p.regs) → IsOnWay k n m (counted i (record p { store = t; regs = r }))
+  uncounted-stays t r same = subst (IsOnWay k n m) (λ j. counted i (record p { store = sym same.0 j; regs = sym same.1 j })) way
+
   tick-here : (reached n k).lists.tick ≡ (p.step + i) / p.period
   tick-here = (way.passed.valid.running way.passed.goes).tick ∙ (λ j. sym way.passed.stands.steps j / sym way.passed.stands.period j)
 
@@ -48,14 +51,6 @@ module _ (k : Kernel) (n m i : ℕ) (p : Parts) (way : IsOnWay k n m (counted i 
 
     pub byte-here : p.regs.c < 256
     byte-here = subst (λ r. r.c < 256) (sym way-stepped.passed.stands.regs) way-stepped.passed.valid.registers.byte
-
-    -- what is not executed leaves the parts
-    pub uncounted-stays : (t : List ℕ) (r : Regs) (outcome : Outcome) → outcome ≡ (instruction (is_owned (reached n k).lists) p.store p.regs).outcome
-        → t ≡ (instruction (is_owned (reached n k).lists) p.store p.regs).words → r ≡ (instruction (is_owned (reached n k).lists) p.store p.regs).regs → (outcome ≡ Next → ⊥)
-        → IsOnWay k n m (counted i (record p { store = t; regs = r }))
-    uncounted-stays t r outcome is words regs other =
-        let left = (stays-instruction (is_owned (reached n k).lists) p.store p.regs).stays (λ next. other (is ∙ next)) in
-        subst (IsOnWay k n m) (λ j. counted i (record p { store = (sym left.0 ∙ sym words) j; regs = (sym left.1 ∙ sym regs) j })) way
 
 -- one instruction more
 module _ (k : Kernel) (n m i : ℕ) (p : Parts) (way : IsOnWay k n (suc m) (counted i p)) (told : get_or p.store 108 0 ≡ (p.step + i) / p.period) (few : k.steps + (n + suc m) ≤ most_steps) where

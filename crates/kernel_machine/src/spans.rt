@@ -11,7 +11,7 @@ ghost use Rattle.kernel_machine.specs.Runs.{HasNoTick, HasPassed, IsOnWay, Serve
 use crate::Parts;
 use crate::turns::{FIRST_GUEST, running};
 use cint_exec::Outcome;
-use kernel_steps::{RootField, execute_guest, root, set_root};
+use kernel_steps::{RootField, execute_next, root, set_root};
 use word_store::word_at;
 
 /// The word of a packet at the clock that has the tick at which it is due.
@@ -143,7 +143,9 @@ fn up_to_tick(parts: &Parts) -> u64
 }
 
 // Executes at most so many instructions of the running guest, of which the clock ticks in the last one at most, and stops before
-// what is none. The answer is how many it executed, and they are still to be counted.
+// what is none. The answer is how many it executed, and they are still to be counted. Why it stopped is not kept, so that the loop
+// has fewer words to carry.
+#[inline(never)]
 fn execute_uncounted(parts: &mut Parts, most: u64) -> u64
     requires way { (k : Kernel) × (n : ℕ) × (m : ℕ) × IsOnWay k n m parts.old × (most ≤ m)
         × (k.steps + (n + m) ≤ most_steps) }
@@ -154,7 +156,7 @@ fn execute_uncounted(parts: &mut Parts, most: u64) -> u64
         → IsOnWay k (n + result) (m - result) (counted result parts.new) }
 {
     for taken in 0..most {
-        match execute_guest(&mut parts.store, &mut parts.regs, &parts.kinds) {
+        match execute_next(&mut parts.store, &mut parts.regs, &parts.kinds) {
             Outcome::Next => {}
             Outcome::Sys | Outcome::Returned | Outcome::Fault(_) => return taken,
         }

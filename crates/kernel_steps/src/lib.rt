@@ -16,6 +16,6 @@ pub use cli_shell::{
 };
 pub use guest_turns::{
     ByteKinds, EventLog, KernelEvent, ListLog, NoLog, RootField, SinkLog, Stop, TcbField, TurnEnd,
-    execute_guest, field, find, guest_turn, root, set_root, switch,
+    execute_next, field, find, guest_turn, root, set_root, switch,
 };
 pub use kernel_devices::{Tty, finish_output, tick};

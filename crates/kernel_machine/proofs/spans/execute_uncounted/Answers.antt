@@ -1,9 +1,9 @@
 use Rattle.std.proofs.Common.{◌≡◌, ◌∙◌, ◌+◌, ◌-◌, ◌/◌, ◌<◌, ◌≤◌, ℕ, suc, get_or, arith, refl, subst, sym}
+use Rattle.cint_exec.proofs.Unexecuted.{not-next}
 use Rattle.kernel_steps.specs.KernelCalls.KernelModel.Ranges.{most_steps}
 use Rattle.kernel_steps.specs.Step.{run}
 use Rattle.kernel_machine.specs.declared.parts.Parts.{Parts}
 use Rattle.kernel_machine.specs.Runs.{HasNoTick, IsOnWay, counted}
-use Rattle.kernel_machine.proofs.QuietSpan.{not-next}
 use Rattle.kernel_machine.proofs.UncountedSteps.{byte-here, keeper-here, told-first, told-here, uncounted-next, uncounted-stays, way-uncounted}
 use Rattle.kernel_machine.proofs.spans.execute_uncounted.Goals as goal
 use Rattle.kernel_machine.proofs.spans.execute_uncounted.Invariants.{IsCounting}
@@ -17,15 +17,15 @@ loop-taken-init c =
     let w = c.requires.way in
     record { way = λ k n m x le few. way-uncounted k n m c.args.parts.now x; tick = told-first w.0 w.1 w.2 c.args.parts.now w.3; step = refl; period = refl }
 
-pub execute_guest-requires-clause-byte : goal.execute_guest-requires-clause-byte
-execute_guest-requires-clause-byte c =
+pub execute_next-requires-clause-byte : goal.execute_next-requires-clause-byte
+execute_next-requires-clause-byte c =
     let w = c.requires.way in
     let x = c.loop-taken.invariant in
     byte-here w.0 (w.1 + c.loop-taken.taken) (w.2 - c.loop-taken.taken) c.loop-taken.taken c.loop-taken.parts (x.way w.0 w.1 w.2 w.3 w.4 w.5)
     (told-now c.args.parts.now c.loop-taken.parts c.args.most c.loop-taken.taken x c.requires.before (omega (arith, c.loop-taken-test.true)))
 
-pub execute_guest-requires-clause-keeper : goal.execute_guest-requires-clause-keeper
-execute_guest-requires-clause-keeper c =
+pub execute_next-requires-clause-keeper : goal.execute_next-requires-clause-keeper
+execute_next-requires-clause-keeper c =
     let w = c.requires.way in
     let x = c.loop-taken.invariant in
     let n : ℕ = w.1 + c.loop-taken.taken in (
@@ -43,11 +43,7 @@ returns-in-Sys-clause-way c = λ k n m x le few.
     let inv = c.loop-taken.invariant in
     let q = c.loop-taken.parts in
     let way = inv.way k n m x le few in
-    let told = told-now c.args.parts.now q c.args.most i inv c.requires.before (omega (arith, c.loop-taken-test.true)) in
-    let l = (run (n + i) k).kernel.lists in
-    let keeper = keeper-here k (n + i) (m - i) i q way told in
-    let y = c.execute_guest.ensures in
-    uncounted-stays k (n + i) (m - i) i q way told c.execute_guest.new.store c.execute_guest.new.regs c.execute_guest.result (y.outcome l keeper) (y.words l keeper) (y.regs l keeper) (not-next c.execute_guest.result c.in-Sys.is)
+    uncounted-stays k (n + i) (m - i) i q way c.execute_next.new.store c.execute_next.new.regs (c.execute_next.ensures.stays (not-next c.execute_next.result c.in-Sys.is))
 
 pub loop-taken-preserved : goal.loop-taken-preserved
 loop-taken-preserved c =
@@ -57,7 +53,7 @@ loop-taken-preserved c =
     let inv = c.loop-taken.invariant in
     let low : i < c.args.most = omega (arith, c.loop-taken-test.true) in
     let told = told-now p q c.args.most i inv c.requires.before low in
-    let y = c.execute_guest.ensures in
+    let y = c.execute_next.ensures in
     let w = c.requires.way in
     let l0 = (run (w.1 + i) w.0).kernel.lists in
     let way0 = inv.way w.0 w.1 w.2 w.3 w.4 w.5 in
@@ -70,10 +66,10 @@ loop-taken-preserved c =
           let some : m - i ≡ suc (m - (i + 1)) = omega (arith, low, le) in
           let whole : k.steps + ((n + i) + suc (m - (i + 1))) ≤ most_steps = omega (arith, few, low, le) in
           let e : (n + i) + 1 ≡ n + (i + 1) = omega arith in
-          let next = uncounted-next k (n + i) (m - (i + 1)) i q (subst (λ z. IsOnWay k (n + i) z (counted i q)) some way) told whole c.execute_guest.new.store c.execute_guest.new.regs c.execute_guest.result (y.outcome l keeper) (y.words l keeper)
+          let next = uncounted-next k (n + i) (m - (i + 1)) i q (subst (λ z. IsOnWay k (n + i) z (counted i q)) some way) told whole c.execute_next.new.store c.execute_next.new.regs c.execute_next.result (y.outcome l keeper) (y.words l keeper)
           (y.regs l keeper) (y.lists l keeper) c.in-Next.is in
-          subst (λ z. IsOnWay k z (m - (i + 1)) (counted (i + 1) (record q { store = c.execute_guest.new.store; regs = c.execute_guest.new.regs }))) e next;
-      tick = told-here w.0 (w.1 + i) (w.2 - i) i q way0 c.execute_guest.new.store (y.lists l0 keeper0) ∙ ((λ j. (inv.step j + i) / inv.period j) ∙ c.requires.before i low);
+          subst (λ z. IsOnWay k z (m - (i + 1)) (counted (i + 1) (record q { store = c.execute_next.new.store; regs = c.execute_next.new.regs }))) e next;
+      tick = told-here w.0 (w.1 + i) (w.2 - i) i q way0 c.execute_next.new.store (y.lists l0 keeper0) ∙ ((λ j. (inv.step j + i) / inv.period j) ∙ c.requires.before i low);
       step = inv.step;
       period = inv.period;
     }
