@@ -1,8 +1,8 @@
 -- The plain words once lists have changed, and the store that stands for the settled kernel.
-use Rattle.std.proofs.Common.{◌≡◌, ℕ, ◌+◌, ◌<◌, List, [], ◌∷◌, length, get_or, eqb, cond, Bool, true, false, Option, Some, None, refl, sym, ap, ◌∙◌, subst, arith}
+use Rattle.std.proofs.Common.{◌≡◌, ℕ, ◌+◌, ◌<◌, List, [], ◌∷◌, length, get_or, eqb, cond, Bool, true, false, Option, Some, None, refl, sym, ap, ◌∙◌, arith}
 use Rattle.std.specs.Prelude.{is_some}
 use Rattle.std.proofs.lemmas.List.FromFn.{get_or-map-range_with_len, length-map-range_with_len}
-use Rattle.kernel_lists.specs.OwnedWords.Owned.{Holds, Pairs, owners, word_in, written}
+use Rattle.kernel_lists.specs.OwnedWords.Owned.{Pairs, owners, word_in, written}
 use Rattle.kernel_lists.specs.OwnedWords.Written.{IsWritten}
 use Rattle.kernel_lists.proofs.Shown.OwnedWords.OwnedWords.{word_in-none}
 use Rattle.kernel_model.specs.Image.{HasPlainWords, IsImage, image, plain_words, settled}

@@ -1,4 +1,4 @@
-use Rattle.std.proofs.Common.{◌≡◌, ◌∙◌, inl, inr, sym}
+use Rattle.std.proofs.Common.{◌∙◌, inl, inr, sym}
 use Rattle.cint_exec.specs.Instruction.{instruction}
 use Rattle.cint_exec.proofs.Unexecuted.{not-next}
 use Rattle.bare_machine.specs.Step.{unmarked}

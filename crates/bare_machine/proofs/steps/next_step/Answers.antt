@@ -1,4 +1,4 @@
-use Rattle.std.proofs.Common.{◌≡◌, ◌∙◌, ap, sym}
+use Rattle.std.proofs.Common.{◌∙◌, ap, sym}
 use Rattle.bare_machine.specs.Step.{BareStepped}
 use Rattle.bare_machine.proofs.Instructions.{step-calls}
 use Rattle.bare_machine.proofs.steps.next_step.Goals as goal

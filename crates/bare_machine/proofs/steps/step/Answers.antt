@@ -1,4 +1,4 @@
-use Rattle.std.proofs.Common.{◌≡◌, ◌∙◌, ◌+◌, Some, ap, sym}
+use Rattle.std.proofs.Common.{◌∙◌, ◌+◌, Some, ap, sym}
 use Rattle.bare_machine.specs.Step.{BareStepped}
 use Rattle.bare_machine.proofs.Instructions.{going, step-as}
 use Rattle.bare_machine.proofs.steps.step.Goals as goal

@@ -1,4 +1,4 @@
-use Rattle.std.proofs.Common.{◌≡◌, ◌∙◌, Some, None, ap, sym}
+use Rattle.std.proofs.Common.{◌∙◌, ap, sym}
 use Rattle.bare_machine.specs.Step.{BareStepped}
 use Rattle.bare_machine.proofs.Runs.{step-stopped}
 use Rattle.bare_machine.proofs.steps.step_or_stay.Goals as goal

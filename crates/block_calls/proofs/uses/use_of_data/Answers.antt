@@ -1,10 +1,4 @@
-use Rattle.std.proofs.Common.{◌≡◌, ◌&&◌, eqb, false, map, sym, ◌∙◌}
-use Rattle.std.specs.List.{flat_map}
-use Rattle.call_answers.specs.KernelDispatch.LinkedList.Places.{has}
-use Rattle.call_answers.specs.KernelDispatch.HunkLoader.HeldModules.{module_address}
-use Rattle.call_answers.specs.KernelDispatch.KernelModel.HoldsLists.{HoldsLists}
-use Rattle.call_answers.specs.KernelDispatch.KernelModel.Lists.{Lists}
-use Rattle.call_answers.specs.KernelDispatch.KernelModel.Task.{task_address}
+use Rattle.std.proofs.Common.{sym, ◌∙◌}
 use Rattle.call_answers.proofs.Shown.KernelDispatch.KernelModel.WalkedLists.{can-walk}
 use Rattle.call_answers.proofs.ListedModules.{module-told}
 use Rattle.block_calls.proofs.BlockUses.{coroutines-told, residents-told, tasks-told, use-coroutine, use-module, use-residents, use-task, use-user}

@@ -1,4 +1,4 @@
-use Rattle.std.proofs.Common.{◌≡◌, ◌∙◌, ◌+◌, ap, sym}
+use Rattle.std.proofs.Common.{◌∙◌, ◌+◌, ap, sym}
 use Rattle.bare_machine.specs.Run.{run}
 use Rattle.bare_machine.specs.State.{BareView, state_of}
 use Rattle.bare_machine.specs.Step.{BareStepped}
