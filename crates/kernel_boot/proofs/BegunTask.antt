@@ -1,7 +1,6 @@
 -- What letting a task begin leaves.
 use Rattle.std.proofs.Common.{◌≡◌, ℕ, ◌+◌, ◌%◌, Bool, true, false, List, [], ◌∷◌, ◌++◌, get_or, map, inl, inr, refl, sym, ap, ◌∙◌, subst, arith}
 use Rattle.std.proofs.lemmas.List.{append-nil}
-use Rattle.word_store.specs.Count.{IsApart}
 use Rattle.word_store.specs.declared.registers.Regs.{Regs}
 use Rattle.kernel_calls.specs.OwnedWords.Exchange.{Exchange}
 use Rattle.kernel_calls.specs.TaskBlock.HeldTasks.{address_with}
@@ -17,7 +16,6 @@ use Rattle.kernel_calls.specs.KernelModel.Owned.{owned}
 use Rattle.kernel_calls.specs.KernelModel.Task.{Task, is_guest_id, queue_head, state_word, state_words, task_address, task_id, task_words}
 use Rattle.kernel_calls.specs.KernelModel.ValidLists.{AreValid}
 use Rattle.kernel_calls.specs.KernelModel.ValidTasks.{IsField, IsTask}
-use Rattle.kernel_calls.proofs.Shown.KernelModel.ChainSplits.{change-between}
 use Rattle.kernel_calls.proofs.Shown.KernelModel.ChangedLists.{exchange-owned, one_task-owned, owners-exchanged}
 use Rattle.kernel_calls.proofs.Shown.KernelModel.OneTask.{same_task-valid}
 use Rattle.kernel_calls.specs.KernelDispatch.DispatchWords.{saved_words}

@@ -1,5 +1,5 @@
 -- A run, part by part.
-use Rattle.std.proofs.Common.{◌≡◌, ◌≢◌, ℕ, ◌+◌, ◌-◌, ◌≤◌, ◌++◌, Bool, Option, Some, None, List, inl, inr, refl, sym, ap, ◌∙◌, subst, arith}
+use Rattle.std.proofs.Common.{◌≡◌, ◌≢◌, ℕ, ◌+◌, ◌-◌, ◌≤◌, ◌++◌, Bool, Option, Some, None, List, refl, sym, ap, ◌∙◌, subst, arith}
 use Rattle.std.specs.Prelude.{unwrap_or}
 use Rattle.std.proofs.lemmas.List.{append-nil}
 use Rattle.tp_io.specs.Faults.{Rose}
@@ -12,7 +12,7 @@ use Rattle.machine_boot.specs.KernelCalls.KernelModel.NotedEvents.{NotesAll}
 use Rattle.machine_boot.proofs.Shown.KernelCalls.KernelModel.NotedInTurn.{notes-none, notes-then}
 use Rattle.machine_boot.specs.KernelCalls.KernelModel.declared.stops.Stop.{Stop}
 use Rattle.machine_boot.specs.KernelCalls.KernelModel.declared.stops.Stop.TheVariants.{Steps}
-use Rattle.tripos_machine.specs.Runs.{HasCause, HasRun, end_of_run}
+use Rattle.tripos_machine.specs.Runs.{HasRun, end_of_run}
 use Rattle.tripos_machine.specs.State.{State, stop_of}
 use Rattle.tripos_machine.specs.Step.{Stepped, and_then, quietly, run}
 use Rattle.tripos_machine.proofs.StateRuns.{run-more, run-stopped}

@@ -3,7 +3,7 @@ use Rattle.std.specs.Prelude.{◌≡◌, ℕ, List, [], None, Result, Ok, Err}
 use Rattle.hunk_text.specs.TextReader.Refusal.{Refusal}
 use Rattle.bare_machine.specs.declared.boot.BootEnd.{BootEnd}
 use Rattle.tripos_machine.specs.Boot.{EndsAs}
-use Rattle.tripos_machine.specs.State.{IsSound, State, steps_of, stop_of}
+use Rattle.tripos_machine.specs.State.{State, steps_of, stop_of}
 use Rattle.tripos_machine.specs.State.State.{Bare, Full}
 use Rattle.tripos_machine.specs.Step.{Stepped, boot_events}
 use Rattle.tripos_machine.specs.declared.kinds.Kind.{Kind}

@@ -2,7 +2,6 @@
 use Rattle.std.specs.Prelude.{◌≡◌, ℕ, ◌<◌, ◌≤◌, List, Option}
 use Rattle.word_store.specs.declared.registers.Regs.{Regs}
 use Rattle.bare_machine.specs.State.{BareState, state_of}
-use Rattle.bare_machine.specs.declared.parts.BareParts.{BareParts}
 use Rattle.machine_boot.specs.KernelCalls.KernelModel.Image.{image}
 use Rattle.machine_boot.specs.KernelCalls.KernelModel.Kernel.{Kernel}
 use Rattle.machine_boot.specs.KernelCalls.KernelModel.Ranges.{most_steps}

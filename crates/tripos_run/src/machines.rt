@@ -109,7 +109,7 @@ fn gather_events<K: Sink>(
     ensures lines { GivesLines (K.holds out.old) (K.holds out.new)
         (lines_of (boot_events machine.old.state ++ (run go machine.old.state).events)) result }
     ensures end { IfOk result (λ given. StopsAt machine.new.state given.1
-        (run go machine.old.state).kernel) }
+        (run go machine.old.state).state) }
     ensures cause { HasCause (K.faults out.old) (K.faults out.new) result }
 {
     let mut log = TraceLog::new(out);
@@ -132,7 +132,7 @@ fn trace_run<K: Sink>(
         log.old.failed log.new.failed
         (boot_events machine.old.state ++ (run go machine.old.state).events) }
     ensures end { MatchResult result (λ stop. StopsAt machine.new.state stop
-        (run go machine.old.state).kernel) (λ _. log.new.failed ≡ true) }
+        (run go machine.old.state).state) (λ _. log.new.failed ≡ true) }
 {
     note_run(machine, go, log)
 }
@@ -144,7 +144,7 @@ fn note_run<L: EventLog>(machine: &mut Machine, go: u64, log: &mut L) -> Result<
         (L.has_failed log.new)
         (boot_events machine.old.state ++ (run go machine.old.state).events) }
     ensures end { MatchResult result (λ stop. StopsAt machine.new.state stop
-        (run go machine.old.state).kernel) (λ _. L.has_failed log.new ≡ true) }
+        (run go machine.old.state).state) (λ _. L.has_failed log.new ≡ true) }
 {
     machine.note_boot(log);
     if log.failed() {
@@ -175,7 +175,7 @@ fn sum_machine<K: Sink>(session_bytes: u64, machine: &mut Machine, go: u64, out:
 fn sum_run(machine: &mut Machine, go: u64) -> (Tally, Stop)
     requires { steps_of machine.old.state + go ≤ most_steps }
     ensures bytes { result.0 ≡ (run go machine.old.state).bytes }
-    ensures end { StopsAt machine.new.state result.1 (run go machine.old.state).kernel }
+    ensures end { StopsAt machine.new.state result.1 (run go machine.old.state).state }
 {
     let mut tally = Tally::new();
     let mut pending = Output::new();

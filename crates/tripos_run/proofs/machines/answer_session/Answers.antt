@@ -1,4 +1,4 @@
-use Rattle.std.proofs.Common.{◌≡◌, ◌∙◌, List, Result, Err, sym, ap, subst, arith}
+use Rattle.std.proofs.Common.{◌≡◌, List, Result, Err, sym, ap, subst, arith}
 use Rattle.std.proofs.lemmas.Bool.{leb-true}
 use Rattle.tp_io.specs.Write.{Prints}
 use Rattle.hunk_text.specs.TextReader.Refusal.{Refusal, refusal}

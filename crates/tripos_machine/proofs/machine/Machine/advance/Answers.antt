@@ -34,9 +34,9 @@ returns-clause-events g c =
       | in-Bare w ↦
           let here = sym (ap (λ (v : MachineView). v.state) c.self.view_is) ∙ ap (λ k. (view_of k).state) w.in-Bare.is in
           subst (λ l. NotesAll (g.L.EventLog.noted c.args.log.now) (g.L.EventLog.noted l) (g.L.EventLog.has_failed c.args.log.now) (g.L.EventLog.has_failed l) (run c.match-self.result c.args.self.now.state).events) (sym w.log-is)
-              (bare-events _ _ w.result-is _ _ here _ _)
+          (bare-events _ _ w.result-is _ _ here _ _)
       | in-Full w ↦
           let here = sym (ap (λ (v : MachineView). v.state) c.self.view_is) ∙ ap (λ k. (view_of k).state) w.in-Full.is in
           subst (λ l. NotesAll (g.L.EventLog.noted c.args.log.now) (g.L.EventLog.noted l) (g.L.EventLog.has_failed c.args.log.now) (g.L.EventLog.has_failed l) (run c.match-self.result c.args.self.now.state).events) (sym w.log-is)
-              (full-events _ _ w.result-is _ _ here _ _ _ _ w.advance-in-Full.ensures.events)
+          (full-events _ _ w.result-is _ _ here _ _ _ _ w.advance-in-Full.ensures.events)
     ]

@@ -1,6 +1,5 @@
-use Rattle.std.proofs.Common.{◌≡◌, ◌∙◌, ◌+◌, ap, arith, inl, inr, subst, sym}
+use Rattle.std.proofs.Common.{◌≡◌, ◌∙◌, ◌+◌, ap, arith, inl, inr, sym}
 use Rattle.std.proofs.lemmas.Result.{err_from_is_err_and}
-use Rattle.tp_io.specs.Pending.{IsCut, IsGathered}
 use Rattle.tripos_machine.specs.State.{steps_of}
 use Rattle.tripos_machine.proofs.StateRuns.{run-steps}
 use Rattle.tripos_machine.proofs.RunParts.{cut-gathered, cut-more, cut-then, ends-all, ends-stopped, gathered-all, gathered-ended, gathered-none, gathered-then, no-stop, ran-all, ran-ended, ran-none, ran-then, rose-later}
@@ -51,8 +50,7 @@ pub returns-then-failed-clause-end : goal.returns-then-failed-clause-end
 returns-then-failed-clause-end g c =
     let kept = c.loop-taken.invariant in
     let s = c.args.self.now.state in
-    let m = c.advance-taken.result in
-    (
+    let m = c.advance-taken.result in (
       (c.loop-taken.taken + m, omega (arith, kept.few, c.advance-taken.ensures.most), ran-then s c.loop-taken.taken m _ _ _ _ _ kept.ran _ _ _ c.advance-taken.ensures.state c.advance-taken.ensures.events),
       inr (sym c.failed.ensures ∙ c.if-failed.true),
     )
