@@ -14,9 +14,7 @@ ghost use Rattle.block_calls.specs.Freevec.{IsUsersBlock, is_user};
 
 use call_answers::codes::NO_USER_BLOCK;
 use call_answers::is_module;
-use call_answers::kernel_dispatch::{
-    Block, RootField, Use, block_of, coroutine_list, root, tasks,
-};
+use call_answers::kernel_dispatch::{Block, RootField, Use, block_of, coroutine_list, root, tasks};
 use call_answers::numbers::RESIDENT_DATA;
 use word_store::Store;
 

@@ -34,7 +34,7 @@ returns c =
           made-ok (λ (ps : List (Option Pipe)). ps ≡ no_pipes) _ c.new-7.result c.in_ok-map_err-3.field-0 c.in_ok-map_err-3.ensures.cases c.in_ok-map_err-3.ensures.variant c.new-7.ensures;
       keys =
           ap still_to_come
-              (made-ok (λ (k : KeyScript). k ≡ record { keys = c.as_slice.result.now; come = 0 }) _ c.new-8.result c.in_ok-map_err-4.field-0 c.in_ok-map_err-4.ensures.cases c.in_ok-map_err-4.ensures.variant c.new-8.ensures)
+          (made-ok (λ (k : KeyScript). k ≡ record { keys = c.as_slice.result.now; come = 0 }) _ c.new-8.result c.in_ok-map_err-4.field-0 c.in_ok-map_err-4.ensures.cases c.in_ok-map_err-4.ensures.variant c.new-8.ensures)
           ∙ c.as_slice.ensures;
       step = refl;
       period = refl;
