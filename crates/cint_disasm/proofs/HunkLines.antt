@@ -1,5 +1,5 @@
 -- The lines of a hunk, one after another.
-use Rattle.std.proofs.Common.{◌≡◌, ◌∙◌, ℕ, zero, suc, ◌<◌, ◌≤◌, ◌+◌, ◌*◌, ◌/◌, ◌%◌, true, false, Option, List, [], ◌∷◌, ◌++◌, length, get_or, take, drop, refl, sym, ap, arith, append_assoc, append-nil, add-one, add-zero, drop-cons, length-take, nat_lt}
+use Rattle.std.proofs.Common.{◌≡◌, ◌∙◌, ℕ, zero, suc, ◌<◌, ◌≤◌, ◌+◌, ◌*◌, ◌/◌, ◌%◌, true, Option, List, [], ◌∷◌, ◌++◌, length, get_or, take, drop, refl, sym, ap, arith, append_assoc, append-nil, add-one, add-zero, drop-cons, length-take, nat_lt}
 use Rattle.std.specs.Prelude.{IsSome, slice_get}
 use Rattle.std.specs.Option.{option_map}
 use Rattle.std.proofs.Math.Seq.{take-suc}
@@ -31,11 +31,6 @@ pub lines_more : (code : ℕ → Option ℕ) (end most a : ℕ) → a < end → 
     → (fewer : ℕ) × (most ≡ suc fewer) × (lines_from code end most a ≡ (listed code a).text ++ lines_from code end fewer (a + (listed code a).length))
 lines_more code end zero a lt enough = absurd (omega arith)
 lines_more code end (suc most) a lt enough = (most, refl, lines_some code end most a lt)
-
--- no line more
-pub lines_none : (code : ℕ → Option ℕ) (end most a : ℕ) → end ≤ a → lines_from code end most a ≡ []
-lines_none code end zero a past = refl
-lines_none code end (suc most) a past = let outside : nat_lt a end ≡ false = grind (arith, nat_tests) in rw outside refl
 
 -- ---- listings of hunks
 

@@ -6,7 +6,7 @@ use Rattle.getvec_chain.specs.declared.pieces.Run.{Run}
 use Rattle.getvec_chain.specs.Block.{block_end}
 use Rattle.getvec_chain.specs.Tiling.{Tiles}
 use Rattle.getvec_chain.specs.Run.{after_run, first_run, run_size}
-use Rattle.getvec_chain.proofs.Runs.{after_run-free, after_run-used, first_run-small, first_run-used, run_here, run_size-free, run_size-used}
+use Rattle.getvec_chain.proofs.Runs.{after_run-used, first_run-small, first_run-used, run_here, run_size-used}
 use Rattle.getvec_chain.proofs.Tilings.{Tiles-inside}
 
 -- the run from start to end where it has n words or more, else another
@@ -43,12 +43,6 @@ open-none s n at (b ∷ bs) some t = on b.free refl
     on : (f : Bool) → b.free ≡ f → first_run n (b ∷ bs) ≡ first_run_after n (record { start = at; end = at }) (b ∷ bs)
     on true free = by_size free (leb n (run_size (b ∷ bs))) refl (run_size (b ∷ bs)) refl
     on false used = small (omega (arith, some, run_size-used b bs used))
-
--- a free block is passed
-pub open-free : (n : ℕ) (run : Run) (b : Block) (bs : List Block) → b.start ≡ run.end → b.free ≡ true → first_run_after n run (b ∷ bs) ≡ first_run_after n (record { start = run.start; end = block_end b }) bs
-open-free n run b bs start free =
-    let end : run.end + run_size (b ∷ bs) ≡ block_end b + run_size bs = omega (arith, start, run_size-free b bs free) in
-    λ i. run_or n run.start (end i) (first_run n (after_run-free b bs free i))
 
 pub open-small : (s : List ℕ) (n : ℕ) (run : Run) (b : Block) (bs : List Block) → 0 < n → Tiles s (block_end b) bs → b.free ≡ false → run.end - run.start < n
     → first_run_after n run (b ∷ bs) ≡ first_run_after n (record { start = block_end b; end = block_end b }) bs

@@ -37,9 +37,6 @@ run_size-free b bs free = ap (λ f. cond f (b.size + run_size bs) 0) free
 pub run_size-used : (b : Block) (bs : List Block) → b.free ≡ false → run_size (b ∷ bs) ≡ 0
 run_size-used b bs used = ap (λ f. cond f (b.size + run_size bs) 0) used
 
-pub after_run-free : (b : Block) (bs : List Block) → b.free ≡ true → after_run (b ∷ bs) ≡ after_run bs
-after_run-free b bs free = ap (λ f. cond f (after_run bs) (b ∷ bs)) free
-
 pub after_run-used : (b : Block) (bs : List Block) → b.free ≡ false → after_run (b ∷ bs) ≡ b ∷ bs
 after_run-used b bs used = ap (λ f. cond f (after_run bs) (b ∷ bs)) used
 

@@ -5,14 +5,13 @@ use Rattle.std.specs.List.{AllByRecursion}
 use Rattle.std.proofs.lemmas.Bool.{cases_eq}
 use Rattle.getvec_chain.specs.declared.pieces.Block.{Block}
 use Rattle.getvec_chain.specs.Block.{block_end}
-use Rattle.getvec_chain.specs.LinkedList.Chain.{IsChain, cells}
+use Rattle.getvec_chain.specs.LinkedList.Chain.{cells}
 use Rattle.getvec_chain.specs.WordStore.Count.{IsApart, times, words_of}
 use Rattle.getvec_chain.specs.LinkedList.Linked.{HasList, IsNode}
 use Rattle.getvec_chain.specs.Run.{need}
 use Rattle.getvec_chain.specs.Tiling.{IsTiled, blocks_in, used_at}
 use Rattle.getvec_chain.proofs.Shown.LinkedList.Chains.{times-cells}
 use Rattle.getvec_chain.proofs.Tilings.{IsTiled-inside}
-use Rattle.getvec_chain.proofs.Shown.LinkedList.Walks.{walk-ends}
 use Rattle.getvec_chain.proofs.Shown.WordStore.Counts.{IsApart-cons, hit-other, times-words_more}
 use Rattle.getvec_chain.proofs.Shown.WordStore.Rows.{range_same}
 use Rattle.getvec_chain.proofs.UsedBlocks.{AreDisjoint, used_at-apart, used_at-is}
@@ -142,11 +141,3 @@ pub stands : (t : List ℕ) (ms : List ℕ) → IsTiled t → HasList t module_l
 stands t ms tiled l e all apart =
     let P : List ℕ → Type 0 = λ xs. AllByRecursion (IsModuleAt t) xs in
     record { tiled = tiled; chain = l.chain; modules = subst P (sym e) all; apart = subst IsApart (sym e) apart }
-
--- a store with blocks and no module
-pub stands-none : (s : List ℕ) → IsTiled s → get_or s 104 0 ≡ 0 → HasModules s
-stands-none s tiled none =
-    let empty : modules_in s ≡ [] = walk-ends s module_link 104 none in
-    let P : List ℕ → Type 0 = λ xs. IsChain s module_link 104 xs in
-    let Q : List ℕ → Type 0 = λ xs. AllByRecursion (IsModuleAt s) xs in
-    record { tiled = tiled; chain = subst P (sym empty) none; modules = subst Q (sym empty) tt; apart = subst IsApart (sym empty) (λ a. omega arith) }

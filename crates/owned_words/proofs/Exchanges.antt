@@ -39,18 +39,6 @@ splits-left L K rest part x =
       closes = λ s h k. Holds-append s L K (x.closes s (Holds-left s rest K h) k) (Holds-right s rest K h);
     }
 
--- a part of the rest is a further part of the whole
-pub splits-then : (L rest part rest' part' : Pairs) → Splits L rest part → Splits rest rest' part' → Splits L rest' (part ++ part')
-splits-then L rest part rest' part' x y =
-    record {
-      count = λ a. omega (arith, x.count a, y.count a, owners-append a part part');
-      opens = λ s h.
-          let l = x.opens s h in
-          let r = y.opens s l.0 in
-          (r.0, Holds-append s part part' l.1 r.1);
-      closes = λ s h k. x.closes s (y.closes s h (Holds-right s part part' k)) (Holds-left s part part' k);
-    }
-
 -- the same part in another order
 pub splits-as : (L rest part other : Pairs) → Splits L rest part → ((a : ℕ) → owners a other ≡ owners a part) → ((s : List ℕ) → Holds s part → Holds s other)
     → ((s : List ℕ) → Holds s other → Holds s part) → Splits L rest other

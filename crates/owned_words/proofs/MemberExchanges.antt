@@ -1,5 +1,5 @@
 -- Exchanges in members of a list of things, of which some change.
-use Rattle.std.proofs.Common.{◌≡◌, ◌≢◌, ℕ, ◌+◌, ◌<◌, List, [], ◌∷◌, ◌++◌, map, cond, eqb, Bool, true, false, refl, sym, ap, ◌∙◌, subst, arith}
+use Rattle.std.proofs.Common.{◌≡◌, ◌≢◌, ℕ, ◌+◌, ◌<◌, List, [], ◌∷◌, ◌++◌, map, cond, eqb, true, false, refl, sym, ap, ◌∙◌, subst, arith}
 use Rattle.std.proofs.lemmas.Bool.Decides.{nat_tests}
 use Rattle.std.specs.List.{flat_map}
 use Rattle.linked_list.specs.WordStore.Count.{times}
@@ -7,7 +7,7 @@ use Rattle.owned_words.specs.Owned.{Holds, Pairs, owners}
 use Rattle.owned_words.specs.Exchange.{Exchange}
 use Rattle.owned_words.specs.LinkedWords.{first_of, linked_words}
 use Rattle.linked_list.proofs.Shown.WordStore.Counts.{hit-same, hit-other}
-use Rattle.owned_words.proofs.Exchanges.{exchange-all, exchange-both, exchange-none}
+use Rattle.owned_words.proofs.Exchanges.{exchange-both, exchange-none}
 use Rattle.owned_words.proofs.OwnedWords.{Holds-append, Holds-left, Holds-right, owners-append}
 
 pub first_of-map : {X : Type 0} (address : X → ℕ) (change : X → X) → ((x : X) → address (change x) ≡ address x) → (xs : List X) (end : ℕ) → first_of address (map change xs) end ≡ first_of address xs end
@@ -23,11 +23,6 @@ exchange-map address words words' change old new same inner (x ∷ xs) end =
     subst (λ n. Exchange (words x (first_of address xs end) ++ linked_words address words xs end) (words' (change x) n ++ linked_words address words' (map change xs) end) (old x ++ flat_map old xs) (new x ++ flat_map new xs))
     (sym (first_of-map address change same xs end))
     (exchange-both _ _ _ _ _ _ _ _ (inner x (first_of address xs end)) (exchange-map address words words' change old new same inner xs end))
-
--- a choice of words
-pub exchange-choice : (b : Bool) (A B : Pairs) → Exchange A (cond b B A) (cond b A []) (cond b B [])
-exchange-choice true A B = exchange-all A B
-exchange-choice false A B = exchange-none A
 
 -- a member of a list, by its address, which no other one has
 pub record IsMember {X : Type 0} (address : X → ℕ) (c : ℕ) (xs : List X) : Type 0 where

@@ -23,15 +23,6 @@ pub exchange-within : (L M R A B old new : Pairs) → Splits L R A → Splits M 
 exchange-within L M R A B old new x y e =
     record { rest = R ++ e.rest; first = splits-within L R A e.rest old x e.first; then' = splits-within M R B e.rest new y e.then' }
 
--- a part of joined pairs, on the right
-pub splits-right : (K L rest part : Pairs) → Splits L rest part → Splits (K ++ L) (K ++ rest) part
-splits-right K L rest part x =
-    record {
-      count = λ a. omega (arith, x.count a, owners-append a K L, owners-append a K rest);
-      opens = λ s h. (let l = x.opens s (Holds-right s K L h) in (Holds-append s K rest (Holds-left s K L h) l.0, l.1));
-      closes = λ s h k. Holds-append s K L (Holds-left s K rest h) (x.closes s (Holds-right s K rest h) k);
-    }
-
 -- the first of joined pairs
 splits-first : (A L : Pairs) → Splits (A ++ L) L A
 splits-first A L =

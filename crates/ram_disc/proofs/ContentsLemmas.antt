@@ -1,8 +1,8 @@
 -- The bytes of slots.
-use Rattle.std.proofs.Common.{◌≡◌, ◌≢◌, ℕ, ◌+◌, ◌-◌, ◌*◌, ◌/◌, ◌%◌, ◌<◌, ◌≤◌, List, [], ◌++◌, length, get_or, set, take, drop, replicate, refl, sym, ap, ◌∙◌, subst, arith, inl, inr}
+use Rattle.std.proofs.Common.{◌≡◌, ◌≢◌, ℕ, ◌+◌, ◌-◌, ◌*◌, ◌/◌, ◌%◌, ◌<◌, ◌≤◌, List, [], ◌++◌, length, get_or, set, take, drop, replicate, sym, ap, ◌∙◌, subst, arith, inl, inr}
 use Rattle.std.specs.List.{between}
 use Rattle.std.proofs.lemmas.Bool.{cases_eq, cases_lt}
-use Rattle.std.proofs.lemmas.List.{append-nil, append_assoc, ext_get_or, get_or-append_right, get_or-drop, get_or-set_other, get_or-set_same, get_or-replicate, get_or-take, get_or_append_left, length-append, length-drop, length-replicate, length-set, length-take-le, set-get_or, set-set}
+use Rattle.std.proofs.lemmas.List.{append_assoc, ext_get_or, get_or-append_right, get_or-drop, get_or-set_other, get_or-set_same, get_or-replicate, get_or-take, get_or_append_left, length-append, length-drop, length-replicate, length-set, length-take-le, set-set}
 use Rattle.std.proofs.lemmas.List.Edits.{get_or-between, length-between}
 use Rattle.std.proofs.lemmas.List.FromFn.{get_or-map-range_with_len, length-map-range_with_len}
 use Rattle.std.proofs.lemmas.List.Sums.{get_or-le-sum_by}
@@ -317,14 +317,6 @@ Adds-more old now new slot some more h first second =
       others = λ j ne. second.others j ne ∙ first.others j ne;
       left = omega (arith, first.left, second.left, lens, length-append some more);
     }
-
--- no bytes come
-pub Adds-none : (a : Area) (slot : ℕ) → Adds a a slot []
-Adds-none a slot = record {
-  bytes = sym (ap (set a.bytes slot) (append-nil (bytes_at a slot)) ∙ set-get_or a.bytes slot []);
-  others = λ j ne. refl;
-  left = omega arith;
-}
 
 -- slots with no bytes
 pub area-new : (stored : List ℕ) (c : Chains) (k : ℕ) → k ≡ most_files → length stored ≡ 512 * most_sectors

@@ -59,20 +59,6 @@ module _ (names : List (List ℕ)) (a : Area) (used unused : List ℕ) (ps : Lis
   abbrev Read : ℕ → List ℕ → Option Stream → Bool → Outcome ℕ
   Read k bytes s t = unless_refused D ((t, 46) ∷ []) (length bytes) (with_stream D k (moved_on (length bytes) s))
 
-  pub read-none : (k count : ℕ) → place_in ps k ≡ None → (after_read_on D k count ≡ outcome (Err 46) D) × (bytes_read D k count ≡ [])
-  read-none k count e =
-      let none = stream-none k e in (
-        ap (λ s. Read k (bytes_read D k count) (stream_at D k) (is_reader s)) none,
-        ap (λ s. cond (is_reader s) (take count (bytes_left D (stream_at D k))) []) none,
-      )
-
-  pub read-writer : (k count : ℕ) (p : Place) → place_in ps k ≡ Some p → p.writes ≡ true → (after_read_on D k count ≡ outcome (Err 46) D) × (bytes_read D k count ≡ [])
-  read-writer k count p e w =
-      let no : is_reader (stream_at D k) ≡ false = ap is_reader (stream-is k p e) ∙ ap not w in (
-        ap (Read k (bytes_read D k count) (stream_at D k)) no,
-        ap (λ t. cond t (take count (bytes_left D (stream_at D k))) []) no,
-      )
-
   -- the bytes that are read
   pub read-bytes : AreKept names a used unused ps → (k count : ℕ) (p : Place) → place_in ps k ≡ Some p → p.writes ≡ false
       → bytes_read D k count ≡ take count (drop p.position (bytes_at a p.slot))
@@ -125,12 +111,6 @@ module _ (names : List (List ℕ)) (a : Area) (used unused : List ℕ) (ps : Lis
 
   abbrev Append : ℕ → List ℕ → Bool → Bool → Outcome Unit
   Append k more t u = unless_refused D ((t, 46) ∷ (u, 43) ∷ []) tt (with_stream (with_more D (stream_at D k) more) k (moved_on (length more) (stream_at D k)))
-
-  pub append-none : (k : ℕ) (more : List ℕ) → place_in ps k ≡ None → after_append D k more ≡ outcome (Err 46) D
-  append-none k more e = ap (λ s. Append k more (is_writer s) (has_room (with_more D (stream_at D k) more))) (stream-none k e)
-
-  pub append-reader : (k : ℕ) (more : List ℕ) (p : Place) → place_in ps k ≡ Some p → p.writes ≡ false → after_append D k more ≡ outcome (Err 46) D
-  append-reader k more p e r = ap (λ t. Append k more t (has_room (with_more D (stream_at D k) more))) (ap is_writer (stream-is k p e) ∙ r)
 
   -- the files, with more bytes behind those of a slot
   abbrev Files : Place → List ℕ → List File

@@ -7,10 +7,8 @@ use Rattle.std.specs.Str.Parse.{AllDigits}
 use Rattle.std.proofs.lemmas.Bool.{and_parts}
 use Rattle.std.proofs.lemmas.Bool.Decides.{nat_tests}
 use Rattle.std.proofs.lemmas.Fmt.{decimal_is_IsNumeral}
-use Rattle.std.proofs.lemmas.List.Elements.{All-weaker, recursion_from_All}
 use Rattle.std.proofs.lemmas.Str.Parse.{digit_from_value}
-use Rattle.hex.specs.Hex.{IsBytes, encode_lower, is_hex_digit}
-use Rattle.hex.proofs.HexLemmas.{decode_of-encode_lower, decode_of-ok}
+use Rattle.hex.specs.Hex.{is_hex_digit}
 use Rattle.text_reader.specs.Lines.{lines_of, text_of_lines}
 use Rattle.text_reader.proofs.LineEnds.{HasNoLf, lines_at_lf, strip_behind}
 
@@ -75,10 +73,3 @@ plain_decimal n lt = plain_digits (decimal n) (decimal_is_IsNumeral n lt).0.1
 -- a hex digit
 pub plain_hex_digit : (c : ℕ) → is_hex_digit c ≡ true → IsPlainByte c
 plain_hex_digit c h = (λ e. cc (subst (λ (v : ℕ). is_hex_digit v ≡ true) e h), λ e. cc (subst (λ (v : ℕ). is_hex_digit v ≡ true) e h))
-
--- bytes that are printed in hex
-pub plain_hex : (bytes : List ℕ) → IsBytes bytes → IsPlain (encode_lower bytes)
-plain_hex bytes h =
-    let digits = encode_lower bytes in
-    let ok = decode_of-ok digits bytes (decode_of-encode_lower bytes h) in
-    recursion_from_All IsPlainByte digits (All-weaker (λ c. is_hex_digit c ≡ true) IsPlainByte plain_hex_digit digits ok.1)

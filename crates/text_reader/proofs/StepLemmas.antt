@@ -28,10 +28,6 @@ pub bind-err : {A B E : Type 0} (r : Result A E) (f : A → Result B E) (d : E) 
 bind-err (Ok x) f d e = inr (x, refl, e)
 bind-err {A} {B} (Err c) f d e = inl (ap Err (Err-same {A = B} c d e))
 
--- a step that fails is the whole's failure
-pub bind-stop : {A B E : Type 0} (r : Result A E) (f : A → Result B E) (d : E) → r ≡ Err d → (r >>= f) ≡ Err d
-bind-stop r f d e = rw e refl
-
 -- a choice, by its test
 pub cond-cases : {A : Type 0} (b : Bool) (x y z : A) → cond b x y ≡ z → ((b ≡ true) × (x ≡ z)) ⊎ ((b ≡ false) × (y ≡ z))
 cond-cases true x y z e = inl (refl, e)

@@ -1,5 +1,4 @@
 pub mod ByteOf
 pub mod Rows
-pub mod WordOf
 pub mod Wide
 pub mod Counts
