@@ -7,6 +7,9 @@ use Rattle.kernel_dispatch.specs.KernelModel.ValidTasks.{runs}
 
 -- a guest runs, and its state says so
 pub record HasCaller (l : Lists) : Type 0 where
+  -- the running task is a guest
   pub guest : is_guest_id l.running ≡ true
+  -- it is there
   pub there : has_task l.running l.tasks ≡ true
+  -- its field says that it runs
   pub field : AllByRecursion (λ t. t.id ≡ l.running → t.field ≡ runs) l.tasks

@@ -10,12 +10,19 @@ guest_tests l id = (has_task id l.tasks, 2) ∷ (is_guest_id id, 14) ∷ []
 
 -- the guest with the number is the task at the address
 pub record GuestAt (l : Lists) (id address : ℕ) : Type 0 where
+  -- the tasks before it in the chain
   pub front : List Task
+  -- the guest
   pub task : Task
+  -- the tasks after it
   pub back : List Task
+  -- these are all tasks
   pub is : l.tasks ≡ front ++ task ∷ back
+  -- it has the number
   pub number : task.id ≡ id
+  -- its task block is at the address
   pub at : task.address ≡ address
+  -- a call for it is not refused
   pub accepted : first_refusal (guest_tests l id) ≡ None
 
 -- the address of the guest, or the code of the first of these tests that fails

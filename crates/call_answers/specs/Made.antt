@@ -46,10 +46,14 @@ plain_answer (Err code) = Err code
 -- The store that was s is t: it holds the lists that the call leaves, its plain words and no others have changed besides, and it
 -- answers so.
 pub record Leaves (s t : List ℕ) (answer : Result ℕ ℕ) (m : Made) : Type 0 where
+  -- the store holds these lists, and these plain words alone have changed
   pub lists : IsChanged s t m.lists m.plain
+  -- this is the answer
   pub answered : answer ≡ m.answer
 
 -- And the keeper knows the words of these lists.
 pub record IsMade (s t : List ℕ) (tells : List ℕ → Type 0) (answer : Result ℕ ℕ) (m : Made) : Type 0 where
+  -- what the call leaves
   pub leaves : Leaves s t answer m
+  -- the keeper knows the words of its lists
   pub knows : Knows tells m.lists

@@ -36,8 +36,11 @@ words_of_coroutines t k =
 
 -- the store holds them
 pub record HoldsCoroutines (s : List ℕ) (t : ℕ) (k : TaskCoroutines) : Type 0 where
+  -- the store holds the coroutines
   pub coroutines : HeldCoroutines s t k.list k.active
+  -- the root's P, while one of them runs
   pub root_p : slice_index s (saved_p t 0) ≡ k.root_p
+  -- the root's PC, while one of them runs
   pub root_pc : slice_index s (saved_pc t 0) ≡ k.root_pc
 
 -- ---- words that are written over
@@ -49,7 +52,9 @@ standing s (e ∷ es) = (e.0, slice_index s e.0) ∷ standing s es
 
 -- the words that stand there are exchanged for these new ones, which are written
 pub record Rewrites (s v : List ℕ) (before after new : Pairs) : Type 0 where
+  -- these words come in the place of those at their addresses
   pub exchange : Exchange before after (standing s new) new
+  -- they alone are written
   pub writes : v ≡ written new s
 
 -- ---- switches
@@ -127,13 +132,17 @@ created_words t k c entry u = (first_coroutine t, c) ∷ coroutine_words t k.act
 
 -- A block is taken, and then the head is exchanged for these words, which are all written.
 pub record CreateExchange (s v : List ℕ) (t : ℕ) (k : TaskCoroutines) (c entry u : ℕ) : Type 0 where
+  -- the store once the block was taken
   pub taken : List ℕ
+  -- what taking it exchanges
   pub block : TakeExchange s taken (highest u)
+  -- what the new coroutine exchanges
   pub exchange : Exchange
       (words_of_coroutines t k)
       (words_of_coroutines t (with_list (new_coroutine c entry u ∷ k.list) k))
       ((first_coroutine t, first_of address_of k.list 0) ∷ [])
       (created_words t k c entry u)
+  -- its words alone are written
   pub writes : v ≡ written (created_words t k c entry u) taken
 
 -- the word that leads on behind these coroutines
@@ -143,14 +152,21 @@ link_behind t front = last_cell (λ x. coroutine_link x.address) (first_coroutin
 -- The coroutine x goes out from between two parts of the list: the link to it and its words are exchanged for the link that
 -- leads past it, which is written, and then its block is given back.
 pub record DeleteExchange (s v : List ℕ) (t : ℕ) (k : TaskCoroutines) (front : List Coroutine) (x : Coroutine) (back : List Coroutine) : Type 0 where
+  -- the store once the coroutine was linked out
   pub unlinked : List ℕ
+  -- what linking it out exchanges
   pub exchange : Exchange
       (words_of_coroutines t (with_list (front ++ x ∷ back) k))
       (words_of_coroutines t (with_list (front ++ back) k))
       ((link_behind t front, x.address) ∷ coroutine_words t k.active x (first_of address_of back 0))
       ((link_behind t front, first_of address_of back 0) ∷ [])
+  -- the link before it alone is written
   pub writes : unlinked ≡ written ((link_behind t front, first_of address_of back 0) ∷ []) s
+  -- the blocks are as they were
   pub same_blocks : blocks_in unlinked ≡ blocks_in s
+  -- where its block begins
   pub start : ℕ
+  -- it stands behind the block's size word
   pub here : x.address ≡ start + 1
+  -- what giving the block back exchanges
   pub block : GiveExchange unlinked v (used_block start (need x.highest))

@@ -17,8 +17,11 @@ new_words c next entry u = bottom c ∷ 0 ∷ next ∷ entry ∷ highest u ∷ c
 
 -- t is s, where a block was taken for the coroutine at c, its words were written, and it became the first of the task at `task`
 pub record IsCreated (s t : List ℕ) (task c entry u : ℕ) : Type 0 where
+  -- the store once the block was taken
   pub taken : List ℕ
+  -- the block was taken for so many words
   pub block : IsTaken s taken (highest u) c
+  -- the coroutine's words were written, and it is the first of the list
   pub words : t ≡ slice_set (with_words taken c (new_words c (slice_index s (first_coroutine task)) entry u)) (first_coroutine task) c
 
 -- the store in which c went out of the list and its block was given back

@@ -46,19 +46,32 @@ coroutine_words t act c link =
 
 -- it is alone in its block
 pub record HasCoroutineBlock (s : List ℕ) (c : Coroutine) : Type 0 where
+  -- where its block begins
   pub start : ℕ
+  -- it stands behind the block's size word
   pub here : c.address ≡ start + 1
+  -- the block has the words that its stack needs
   pub block : used_at c.address (blocks_in s) ≡ Some (used_block start (need c.highest))
+  -- its highest index is at least 16
   pub high : 16 ≤ c.highest
 
 -- the store holds the words of these coroutines of the task at t, from the head on, and these are active
 pub record HeldCoroutines (s : List ℕ) (t : ℕ) (cs : List Coroutine) (act : List ℕ) : Type 0 where
+  -- the store is tiled by blocks
   pub tiled : IsTiled s
+  -- the task lies in a block
   pub task : HasTaskBlock s t
+  -- no coroutine lies in that block
   pub elsewhere : has task.first (map address_of cs) ≡ false
+  -- the store holds their words
   pub held : AreHeld address_of (coroutine_words t act) s (first_coroutine t) cs
+  -- no word of theirs is one of the task's, or of another one
   pub apart : (a : ℕ) → times a (node_words task_size t) + owners a (linked_words address_of (coroutine_words t act) cs 0) ≤ 1
+  -- the current one is the first active one
   pub current : current_in s t ≡ first_active act 0
+  -- each lies in a block of its own
   pub blocks : AllByRecursion (HasCoroutineBlock s) cs
+  -- the active ones are among them
   pub members : AllByRecursion (λ c. has c (map address_of cs) ≡ true) act
+  -- none of them is active twice
   pub distinct : IsApart act

@@ -63,7 +63,9 @@ pub(crate) fn replace(store: &mut Store, t: u32, regs: &mut Regs, c: u32, v: u32
 // Where a coroutine, or the root, goes on: its frame and its next instruction.
 #[derive(Clone, Copy)]
 struct Frame {
+    /// Its P.
     p: u32,
+    /// Its PC.
     pc: u32,
 }
 

@@ -22,14 +22,23 @@ taken_words run n = blocks_words (left_over (run.start + n) (run.end - (run.star
 
 -- What a take exchanges: for the size words of the free blocks of the run, those of the taken block and of the rest.
 pub record TakeExchange (s t : List ℕ) (u : ℕ) : Type 0 where
+  -- the run that the block is cut from
   pub run : Run
+  -- the blocks before it
   pub before : List Block
+  -- the free blocks in it
   pub free : List Block
+  -- the blocks after it
   pub after : List Block
+  -- these are all blocks
   pub is : blocks_in s ≡ before ++ (free ++ after)
+  -- those in the run are free
   pub are_free : AreFree free
+  -- they fill it
   pub fills : Follow run.start free run.end
+  -- their size words go, and those of the block and of what is left come
   pub exchange : Exchange (blocks_words (blocks_in s)) (blocks_words (blocks_in t)) (blocks_words free) (taken_words run (need u))
+  -- these alone are written
   pub words : t ≡ written (taken_words run (need u)) s
   -- they lie in the run, each at an address of its own
   pub once : AreApart (taken_words run (need u))
@@ -37,9 +46,15 @@ pub record TakeExchange (s t : List ℕ) (u : ℕ) : Type 0 where
 
 -- What a give exchanges: the size word of a used block for that of a free one.
 pub record GiveExchange (s t : List ℕ) (b : Block) : Type 0 where
+  -- the blocks before it
   pub before : List Block
+  -- the blocks after it
   pub after : List Block
+  -- these are all blocks
   pub is : blocks_in s ≡ before ++ (b ∷ after)
+  -- then the block is free
   pub becomes : blocks_in t ≡ before ++ (free_block b.start b.size ∷ after)
+  -- its size word is that of a free block
   pub exchange : Exchange (blocks_words (blocks_in s)) (blocks_words (blocks_in t)) ((b.start, b.size) ∷ []) ((b.start, b.size + 1) ∷ [])
+  -- this alone is written
   pub words : t ≡ written ((b.start, b.size + 1) ∷ []) s

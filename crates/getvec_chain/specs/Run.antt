@@ -49,17 +49,28 @@ BeginsUsed (b ∷ bs) = b.free ≡ false
 
 -- free blocks that fill the words from start to end, with no free block directly before them or behind them
 pub record IsMaximalRun (bs : List Block) (run : Run) : Type 0 where
+  -- the blocks before it
   pub before : List Block
+  -- the free blocks in it
   pub free : List Block
+  -- the blocks after it
   pub after : List Block
+  -- these are all blocks
   pub is : bs ≡ before ++ (free ++ after)
+  -- those in the run are free
   pub are_free : AreFree free
+  -- they fill it
   pub fills : Follow run.start free run.end
+  -- no free block stands just before it
   pub used_before : EndsUsed before
+  -- and none just after it
   pub used_after : BeginsUsed after
 
 -- the first of all maximal runs that have n words or more
 pub record IsFirstRun (n : ℕ) (bs : List Block) (run : Run) : Type 0 where
+  -- it is a maximal run
   pub maximal : IsMaximalRun bs run
+  -- it has so many words or more
   pub enough : n ≤ run.end - run.start
+  -- no other one with so many begins before it
   pub first : (other : Run) → IsMaximalRun bs other → n ≤ other.end - other.start → run.start ≤ other.start

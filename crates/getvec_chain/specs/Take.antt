@@ -34,7 +34,11 @@ taken_store s run n = with_size_words s (split_run run.start run.end n)
 
 -- the store t is s, where a block with the data words 0 to u at v was taken from the front of the first run that is large enough
 pub record IsTaken (s t : List ℕ) (u v : ℕ) : Type 0 where
+  -- the run that the block is cut from
   pub run : Run
+  -- it is the first that is large enough
   pub first : first_run (need u) (blocks_in s) ≡ Some run
+  -- the address of the block's data, in words
   pub front : v ≡ run.start + 1
+  -- all words of the store
   pub words : t ≡ taken_store s run (need u)

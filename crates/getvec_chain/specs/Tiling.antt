@@ -5,8 +5,11 @@ use Rattle.getvec_chain.specs.Block.{block_end, block_of_word, has_data, is_used
 
 -- the block has its size word in the store, and its size is even and 2 or more
 pub record StandsIn (s : List ℕ) (b : Block) : Type 0 where
+  -- its first word has its size, and whether it is free
   pub word : slice_index s b.start ≡ size_word b
+  -- it has at least two words
   pub some : 2 ≤ b.size
+  -- it has an even number of them
   pub even : b.size % 2 ≡ 0
 
 -- from the address on the blocks stand without a gap up to the end word, which is 0 and the store's last word but one

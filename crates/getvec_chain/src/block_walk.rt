@@ -8,8 +8,11 @@ use std::marker::Model;
 /// The blocks that are left.
 #[derive(Drop)]
 pub struct Blocks<'a> {
+    /// The store.
     pub(crate) store: &'a Store,
+    /// The address of the next block, in words.
     pub(crate) at: u32,
+    /// The address at which the blocks end.
     pub(crate) end: u32,
 }
 

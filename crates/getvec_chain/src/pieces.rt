@@ -9,15 +9,20 @@ pub const FIRST_BLOCK: u32 = 200;
 /// are the words after the size word.
 #[derive(Clone, Copy, Debug, PartialEq, Eq)]
 pub struct Block {
+    /// The address of its size word.
     pub start: u32,
+    /// How many words it has, its size word among them.
     pub size: u32,
+    /// Nobody has it.
     pub free: bool,
 }
 
 /// A run of adjacent free blocks: the address of its first word, and the address after its last.
 #[derive(Clone, Copy, Debug, PartialEq, Eq)]
 pub struct Run {
+    /// The address of its first word.
     pub start: u32,
+    /// The address behind its last word.
     pub end: u32,
 }
 

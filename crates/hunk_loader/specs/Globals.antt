@@ -18,7 +18,9 @@ GlobalsFit s m = AllByRecursion (λ h. highest h.words ≤ most_globals) (hunks_
 
 -- a global and the word to which it is set
 pub record Global : Type 0 where
+  -- its number
   pub number : ℕ
+  -- the word that it is set to
   pub value : ℕ
 
 abbrev pub global : ℕ → ℕ → Global

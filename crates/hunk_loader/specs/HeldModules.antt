@@ -24,12 +24,18 @@ module_words m link = (m.address, link) ∷ row_from m.address 1 (length m.lengt
 
 -- it has a block of its size
 pub record HasModuleBlock (s : List ℕ) (m : LoadedModule) : Type 0 where
+  -- the block
   pub block : Block
+  -- it is used, and its data begin with the module
   pub used : used_at m.address (blocks_in s) ≡ Some block
+  -- it has the words that the module needs
   pub size : block.size ≡ need (1 + length m.lengths + sum m.lengths)
 
 -- the store holds the words of these modules, from the head on
 pub record HeldModules (s : List ℕ) (ms : List LoadedModule) : Type 0 where
+  -- the store is tiled by blocks
   pub tiled : IsTiled s
+  -- the store holds their words
   pub held : AreHeld module_address module_words s first_module ms
+  -- each has a block of its own
   pub blocks : AllByRecursion (HasModuleBlock s) ms

@@ -14,11 +14,17 @@ use Rattle.hunk_loader.specs.declared.calls.LoadEnd.TheVariants.{Module as BadTe
 -- the store t is s, where a block was taken for the module of the text, and its words were put there, from the link to the
 -- end of the last hunk, and its address in word 104
 pub record IsLoaded (s t text : List ℕ) (m : ℕ) : Type 0 where
+  -- the module
   pub hunks : Module
+  -- the text is this module
   pub is : IsModule text hunks
+  -- the store once the block was taken
   pub with_block : List ℕ
+  -- the block was taken for so many words
   pub block : IsTaken s with_block (last_word hunks.hunks) m
+  -- the blocks then
   pub blocks : blocks_in t ≡ taken (need (last_word hunks.hunks)) (blocks_in s)
+  -- the module's words were written, and it is the first of the list
   pub words : t ≡ slice_set (with_words with_block m (module_row (slice_index s 104) m hunks.hunks)) 104 m
 
 -- the text is no module, and this is the code; or it is, and no run of free blocks is large enough for its words

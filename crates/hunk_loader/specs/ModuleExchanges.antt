@@ -38,15 +38,21 @@ hunk_words m hunks = row_from m (2 + length hunks) (hunks_image (m + 2 + length 
 -- A block is taken for the module of the text, and then the head is exchanged for these words. Written are they and the words
 -- of the hunks.
 pub record LoadExchange (s t text : List ℕ) (ms : List LoadedModule) (m : ℕ) : Type 0 where
+  -- the module
   pub found : Module
+  -- the text is this module
   pub is : IsModule text found
+  -- the store once the block was taken
   pub taken : List ℕ
+  -- what taking it exchanges
   pub block : TakeExchange s taken (last_word found.hunks)
+  -- what the new module exchanges
   pub exchange : Exchange
       (modules_words ms)
       (modules_words (loaded_module m found.hunks ∷ ms))
       ((first_module, first_of_modules ms) ∷ [])
       (loaded_words m found.hunks ms)
+  -- its words alone are written
   pub writes : t ≡ written (loaded_words m found.hunks ms ++ hunk_words m found.hunks) taken
 
 -- the word that leads on behind these modules
@@ -56,15 +62,23 @@ link_behind front = last_cell module_address first_module front
 -- The module m goes out from between two parts of the list: the link to it and its words are exchanged for the link that leads
 -- past it, which is written, and then its block is given back.
 pub record UnloadExchange (s t : List ℕ) (front : List LoadedModule) (m : LoadedModule) (back : List LoadedModule) : Type 0 where
+  -- the store once the module was linked out
   pub unlinked : List ℕ
+  -- what linking it out exchanges
   pub exchange : Exchange
       (modules_words (front ++ m ∷ back))
       (modules_words (front ++ back))
       ((link_behind front, m.address) ∷ module_words m (first_of_modules back))
       ((link_behind front, first_of_modules back) ∷ [])
+  -- the link before it alone is written
   pub writes : unlinked ≡ written ((link_behind front, first_of_modules back) ∷ []) s
+  -- the blocks are as they were
   pub same_blocks : blocks_in unlinked ≡ blocks_in s
+  -- its block
   pub block : Block
+  -- it stands behind the block's size word
   pub here : m.address ≡ block.start + 1
+  -- the block has the words that it needs
   pub size : block.size ≡ need (1 + length m.lengths + sum m.lengths)
+  -- what giving the block back exchanges
   pub give : GiveExchange unlinked t block

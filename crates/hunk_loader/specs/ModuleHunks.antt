@@ -3,7 +3,9 @@ use Rattle.std.specs.Prelude.{ℕ, ◌+◌, List, [], ◌∷◌, slice_index, sl
 
 -- a hunk's address and its words
 pub record PlacedHunk : Type 0 where
+  -- the address of its first word
   pub base : ℕ
+  -- its words, as they stand there
   pub words : List ℕ
 
 abbrev pub placed : ℕ → List ℕ → PlacedHunk

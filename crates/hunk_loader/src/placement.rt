@@ -45,7 +45,9 @@ fn place_hunks<X: TextBytes>(text: &X, store: &mut Store, m: u32, count: u32)
 // The number of a hunk's words, and the place after its relocation lists.
 #[derive(Clone, Copy)]
 struct ReadHunk {
+    /// How many words it has.
     length: u32,
+    /// The place behind its items in the text.
     end: u32,
 }
 

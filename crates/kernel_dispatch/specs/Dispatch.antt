@@ -134,6 +134,9 @@ dispatched words l r =
 -- what a dispatch asks: no task but the running one has the field of one that runs, C is a byte, and where no guest runs the
 -- registers are 0
 pub record CanDispatch (l : Lists) (r : Regs) : Type 0 where
+  -- no task but the running one has the field of one that runs
   pub field : AllByRecursion (λ t. t.field ≡ runs → t.id ≡ l.running) l.tasks
+  -- C is a byte
   pub byte : r.c < 256
+  -- where no guest runs all registers are 0
   pub idle : is_guest_id l.running ≡ false → r ≡ no_regs

@@ -5,7 +5,9 @@ use Rattle.linked_list.specs.Chain.{IsChain, list_at}
 
 -- the links from the word at `at` lead through the nodes to an end
 pub record IsWalk (s : List ℕ) (link : ℕ → ℕ) (at : ℕ) (ps : List ℕ) : Type 0 where
+  -- the links lead from there through the nodes to an end
   pub chain : IsChain s link at ps
+  -- each link is a word of the store
   pub inside : AllByRecursion (λ p. link p < length s) ps
 
 -- the links from the head lead to an end

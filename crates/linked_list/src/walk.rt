@@ -10,6 +10,7 @@ use word_store::{Store, word};
 /// The nodes of a list that are left, seen as the list of their addresses.
 #[derive(Drop)]
 pub struct Nodes<'a> {
+    /// The store.
     store: &'a Store,
     // the word that leads to the next node
     at: u32,

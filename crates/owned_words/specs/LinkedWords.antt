@@ -25,14 +25,22 @@ LinksAt {X} cell words = (x : X) (n m : ℕ) → Exchange (words x n) (words x m
 
 -- Things of a kind are the nodes of a list: each has its link where the list has it, and owns at least the words of its node.
 pub record AreNodes {X : Type 0} (address : X → ℕ) (words : X → ℕ → Pairs) (link size : ℕ → ℕ) : Type 0 where
+  -- each owns its link, where the list has it
   pub links : LinksAt (λ x. link (address x)) words
+  -- the link does not lie before the thing
   pub low : (x : X) → address x ≤ link (address x)
+  -- and lies before its end
   pub high : (x : X) → link (address x) < address x + size (address x)
+  -- a thing owns the words of its node, or more
   pub count : (a : ℕ) (x : X) (n : ℕ) → times a (node_words size (address x)) ≤ owners a (words x n)
 
 -- A store holds the words of linked things, from the head on to an end: they are apart and lie in the store, and none is at 0.
 pub record AreHeld {X : Type 0} (address : X → ℕ) (words : X → ℕ → Pairs) (s : List ℕ) (head : ℕ) (xs : List X) : Type 0 where
+  -- the store holds the words of the head and of the things
   pub holds : Holds s (headed_words address words head xs 0)
+  -- no address is owned twice
   pub apart : AreApart (headed_words address words head xs 0)
+  -- they lie in the store
   pub inside : AreInside s (headed_words address words head xs 0)
+  -- none of the things is at address 0
   pub some : AllByRecursion (λ x. 0 < address x) xs

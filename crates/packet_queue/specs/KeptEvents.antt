@@ -4,6 +4,9 @@ use Rattle.packet_queue.specs.declared.events.KernelEvent.{KernelEvent}
 
 -- the events, how many it has room for, and whether it has failed
 pub record KeptEvents : Type 0 where
+  -- the events, in their order
   pub events : List KernelEvent
+  -- how many events it has room for
   pub room : ℕ
+  -- an event had no room
   pub failed : Bool

@@ -13,5 +13,7 @@ WritesLine true has_failed before now line = Unit {0}
 
 -- the sink's count of faults has not fallen, and has risen where the log fails in this note
 pub record HasFailCause (had_failed has_failed : Bool) (before now : ℕ) : Type 0 where
+  -- the sink's count of faults has not fallen
   pub later : before ≤ now
+  -- it rose where a log fails that had not failed
   pub fails : OnFalse had_failed (OnTrue has_failed (Rose before now))

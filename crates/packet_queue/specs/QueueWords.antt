@@ -44,15 +44,22 @@ HeldQueue s head ps = AreHeld address_of packet_words s head ps
 -- The store holds the words of these packets and p's words 1 to 4, and the words of the queue with p at its end are apart and
 -- in the store.
 pub record CanAppend (s : List ℕ) (head : ℕ) (ps : List QueuedPacket) (p : QueuedPacket) : Type 0 where
+  -- the store holds the words of the queue
   pub holds : Holds s (queue_words head ps)
+  -- and those of the packet, but for its link
   pub packet : Holds s (other_words p)
+  -- no address is owned twice then
   pub apart : AreApart (queue_words head (ps ++ p ∷ []))
+  -- the words lie in the store
   pub inside : AreInside s (queue_words head (ps ++ p ∷ []))
+  -- no packet is at address 0
   pub some : AllByRecursion (λ q. 0 < q.address) (ps ++ p ∷ [])
 
 -- the words of a queue are exchanged, and these words are written
 pub record QueueExchange (s t : List ℕ) (before after old new writes : Pairs) : Type 0 where
+  -- the old pairs go, and the new ones come
   pub exchange : Exchange before after old new
+  -- these alone are written
   pub words : t ≡ written writes s
 
 -- the word that holds the link behind these packets, and the first of those packets
@@ -72,10 +79,15 @@ AppendExchange s t head ps p =
 
 -- a packet p, due at that tick, comes between two parts of the queue
 pub record DueExchange (s t : List ℕ) (head : ℕ) (ps : List QueuedPacket) (p : QueuedPacket) : Type 0 where
+  -- the packets before it
   pub front : List QueuedPacket
+  -- the packets after it
   pub back : List QueuedPacket
+  -- these are the packets of the queue
   pub is : ps ≡ front ++ back
+  -- it stands behind all that are due no later
   pub becomes : insert_after (λ q. nat_le q.last p.last) p ps ≡ front ++ p ∷ back
+  -- what it exchanges there
   pub words : QueueExchange s t (queue_words head (front ++ back)) (queue_words head (front ++ p ∷ back))
       ((link_behind head front, first_packet back) ∷ [])
       ((link_behind head front, p.address) ∷ packet_words p (first_packet back))

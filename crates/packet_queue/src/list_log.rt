@@ -10,8 +10,11 @@ use tp_io::WantMemory;
 /// A log that keeps its events in memory, for which it has room from the start. It fails at the first note past its room.
 #[derive(Drop)]
 pub struct ListLog {
+    /// The events, in their order.
     events: Vec<KernelEvent>,
+    /// How many events it keeps at most.
     room: u32,
+    /// An event had no room.
     failed: bool,
 }
 

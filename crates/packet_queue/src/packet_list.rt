@@ -8,6 +8,7 @@ use std::marker::Model;
 /// The packets of a queue that are left, seen as the list of their addresses.
 #[derive(Drop)]
 pub struct Packets<'a> {
+    /// The walk along their links.
     pub(crate) nodes: Nodes<'a>,
 }
 

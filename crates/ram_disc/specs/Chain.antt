@@ -35,14 +35,20 @@ times_in s chains = sum_by (times s) chains
 
 -- chains of sectors, and the number of sectors that are in none
 pub record Chains : Type 0 where
+  -- the sectors of each slot, in the order of its bytes
   pub chains : List (List ℕ)
+  -- how many sectors are in no chain
   pub left : ℕ
 
 -- no sector stands twice in the chains, each is one of the disc's, and with those that are left they are all
 pub record AreApart (c : Chains) : Type 0 where
+  -- no sector stands twice
   pub once : (s : ℕ) → times_in s c.chains ≤ 1
+  -- a sector that stands in a chain is one of the disc's
   pub below : (s : ℕ) → 0 < times_in s c.chains → s < most_sectors
+  -- the sectors in chains and those that are left are all
   pub all : sum_by length c.chains + c.left ≡ most_sectors
+  -- each slot has a chain
   pub slots : length c.chains ≡ most_files
 
 -- the last sector of a chain that has any
@@ -51,9 +57,15 @@ EndsAtLast links c = 0 < c.length → slice_index (chain_of links c) (c.length -
 
 -- Each sector is in one chain, or in the free chain, and there once.
 pub record AreChained (links : List ℕ) (cs : List Chain) (free left : ℕ) : Type 0 where
+  -- there is a link for each sector
   pub size : length links ≡ most_sectors
+  -- a sector is in one chain at most, the free one among them, and there once
   pub once : (s : ℕ) → times_in s (chains_of links cs) + times s (chain_from links free left) ≤ 1
+  -- what stands in a chain is a sector of the disc
   pub below : (s : ℕ) → 0 < times_in s (chains_of links cs) + times s (chain_from links free left) → s < most_sectors
+  -- the last sector of each chain is the one that is told
   pub ends : All (EndsAtLast links) cs
+  -- the chains and those that are left have all sectors
   pub all : sum_by length (chains_of links cs) + left ≡ most_sectors
+  -- each slot has a chain
   pub slots : length cs ≡ most_files

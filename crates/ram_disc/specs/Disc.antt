@@ -9,18 +9,25 @@ use Rattle.ram_disc.specs.Name.{IsName}
 
 -- a file: its name and its bytes
 pub record File : Type 0 where
+  -- its name, 1 to 12 bytes
   pub name : List ℕ
+  -- its bytes, from the first
   pub bytes : List ℕ
 
 -- an open stream: the name of its file, its position in it, and whether it writes
 pub record Stream : Type 0 where
+  -- the name of its file
   pub name : List ℕ
+  -- how many bytes of the file come before it
   pub position : ℕ
+  -- it writes, and does not read
   pub writes : Bool
 
 -- the files in byte order of their names, and the streams from 1 on, each of them open or not
 pub record Disc : Type 0 where
+  -- the files, in byte order of their names
   pub files : List File
+  -- the streams from 1 on, each of them open or not
   pub streams : List (Option Stream)
 
 -- the most files
@@ -99,17 +106,28 @@ AreInOrder (name ∷ names) = AllByRecursion (λ other. is_before name other ≡
 -- Stream k stands on a file of the disc: a reader at most at its end, a writer at its end and with no other stream on
 -- the file. The shell's stream reads.
 pub record StandsOn (d : Disc) (k : ℕ) (s : Stream) : Type 0 where
+  -- its file is on the disc
   pub is_there : has_file d s.name ≡ true
+  -- it stands at most at the file's end
   pub within : s.position ≤ length (bytes_of d s.name)
+  -- one that writes stands at the end
   pub at_end : s.writes ≡ true → s.position ≡ length (bytes_of d s.name)
+  -- one that writes is the only stream on its file
   pub alone : s.writes ≡ true → (j : ℕ) (other : Stream) → stream_at d j ≡ Some other → other.name ≡ s.name → j ≡ k
+  -- the shell's stream reads
   pub shell_reads : k ≡ shell_stream → s.writes ≡ false
 
 -- a valid disc
 pub record IsDisc (d : Disc) : Type 0 where
+  -- the names are distinct and in byte order
   pub in_order : AreInOrder (map (λ f. f.name) d.files)
+  -- each name is lawful
   pub lawful : AllByRecursion (λ f. IsName f.name) d.files
+  -- there are no more files than there may be
   pub few : length d.files ≤ most_files
+  -- the files take no more sectors than there are
   pub room : sectors_taken d.files ≤ most_sectors
+  -- there are as many streams as there have to be
   pub numbers : length d.streams ≡ most_streams
+  -- each open stream stands on its file
   pub stand : (k : ℕ) (s : Stream) → stream_at d k ≡ Some s → StandsOn d k s

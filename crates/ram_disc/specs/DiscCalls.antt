@@ -6,7 +6,9 @@ use Rattle.ram_disc.specs.Disc.{Disc, File, Stream, bytes_of, file_named, has_fi
 
 -- what a call answers, and the disc after it
 pub record Outcome (A : Type 0) : Type 0 where
+  -- what the call answers, or the code of its refusal
   pub answer : Result A ℕ
+  -- the disc after it
   pub disc : Disc
 
 -- The tests in their order, each with the code where it fails; then nothing changes. Where all hold, this is the answer and

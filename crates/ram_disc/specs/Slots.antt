@@ -44,42 +44,66 @@ place_in places k = if k == 0 then None else slice_index_or places (k - 1) None
 
 -- the name is that of the used slot at this place
 pub record IsAt (names : List (List ℕ)) (used : List ℕ) (name : List ℕ) (i : ℕ) : Type 0 where
+  -- there is such a place
   pub within : i < length used
+  -- the slot there has the name
   pub is : name_in names (slice_index used i) ≡ name
 
 -- the name is that of no used slot, and this is its place: those before stand before it, and it stands before the others
 pub record HasPlace (names : List (List ℕ)) (used : List ℕ) (name : List ℕ) (i : ℕ) : Type 0 where
+  -- it is a place, or the one behind the last
   pub within : i ≤ length used
+  -- the names before it come before this one
   pub before : (k : ℕ) → k < i → is_before (name_in names (slice_index used k)) name ≡ true
+  -- this one comes before those from there on
   pub after : (k : ℕ) → i ≤ k → k < length used → is_before name (name_in names (slice_index used k)) ≡ true
 
 -- each slot is used or not, and the used ones stand in the order of their names
 pub record AreSlots (names : List (List ℕ)) (used unused : List ℕ) : Type 0 where
+  -- a slot stands once, among the used ones or among the others
   pub once : (s : ℕ) → times s used + times s unused ≤ 1
+  -- what stands there is a slot
   pub below : (s : ℕ) → 0 < times s used + times s unused → s < most_files
+  -- the used ones and the others are all
   pub all : length used + length unused ≡ most_files
+  -- there is a name for each slot
   pub table : length names ≡ most_files
+  -- the names of the used ones are distinct and in byte order
   pub in_order : AreInOrder (map (name_in names) used)
+  -- the name of a used one is lawful
   pub lawful : (s : ℕ) → 0 < times s used → IsName (name_in names s)
 
 -- the slots that are not used are empty, and the sectors that are left are those that no file takes
 pub record AreFilled (names : List (List ℕ)) (a : Area) (used unused : List ℕ) : Type 0 where
+  -- there are bytes for each slot
   pub table : length a.bytes ≡ most_files
+  -- a slot that is not used has none
   pub empty : (s : ℕ) → 0 < times s unused → bytes_at a s ≡ []
+  -- the sectors that are left and those that the files take are all
   pub room : a.left + sectors_taken (files_in names a.bytes used) ≡ most_sectors
 
 -- Stream k, counted from 0, stands on a used slot: a reader at most at its end, a writer at its end and with no other
 -- stream on the slot. The shell's stream reads. The place has the sector of its position.
 pub record StandsAt (a : Area) (used : List ℕ) (places : List (Option Place)) (k : ℕ) (p : Place) : Type 0 where
+  -- its slot is used
   pub is_there : 0 < times p.slot used
+  -- it stands at most behind the slot's last byte
   pub within : p.position ≤ length (bytes_at a p.slot)
+  -- one that writes stands there
   pub at_end : p.writes ≡ true → p.position ≡ length (bytes_at a p.slot)
+  -- one that writes is the only stream on its slot
   pub alone : p.writes ≡ true → (j : ℕ) (other : Place) → slice_index_or places j None ≡ Some other → other.slot ≡ p.slot → j ≡ k
+  -- the shell's stream reads
   pub shell_reads : k + 1 ≡ shell_stream → p.writes ≡ false
+  -- before the end its sector is that of its position
   pub sector : p.position < length (bytes_at a p.slot) → p.sector ≡ slice_index (chain_at a p.slot) (p.position / 512)
 
 pub record AreKept (names : List (List ℕ)) (a : Area) (used unused : List ℕ) (places : List (Option Place)) : Type 0 where
+  -- the slots and their names
   pub slots : AreSlots names used unused
+  -- the bytes of the slots
   pub filled : AreFilled names a used unused
+  -- there are as many streams as there have to be
   pub numbers : length places ≡ most_streams
+  -- each open stream stands on a used slot
   pub stand : (k : ℕ) (p : Place) → slice_index_or places k None ≡ Some p → StandsAt a used places k p

@@ -16,8 +16,11 @@ pub(crate) const SECTOR_BYTES: u32 = 512;
 /// The sectors of all slots, and what stands in them.
 #[derive(Drop)]
 pub(crate) struct Contents {
+    /// The chains of sectors of the slots.
     sectors: Sectors,
+    /// The bytes of all sectors, 512 for each.
     bytes: Vec<u8>,
+    /// How many bytes each slot has.
     sizes: [u32; SLOTS],
 }
 

@@ -16,8 +16,11 @@ use tp_io::WantMemory;
 /// A name for each slot, the slots that are used, in byte order of their names, and those that are not.
 #[derive(Drop)]
 pub(crate) struct Directory {
+    /// A name for each slot, which counts where the slot is used.
     pub(crate) names: Vec<Name>,
+    /// The slots that are used, in byte order of their names.
     pub(crate) used: ArrayVec<u8, 64>,
+    /// The slots that are not used.
     pub(crate) unused: ArrayVec<u8, 64>,
 }
 

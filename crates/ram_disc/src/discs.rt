@@ -33,8 +33,11 @@ const IN_USE: u32 = 47;
 /// A disc of 64 files at most and 4,096 sectors of 512 bytes, on which 17 streams may be open.
 #[derive(Drop)]
 pub struct Disc {
+    /// The bytes of the slots.
     contents: Contents,
+    /// The names of the slots.
     directory: Directory,
+    /// Where the streams stand, from stream 1 on; `None` where one is not open.
     streams: [Option<Place>; STREAMS],
 }
 

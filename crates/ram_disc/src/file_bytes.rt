@@ -10,8 +10,11 @@ use std::marker::Model;
 /// file was asked for.
 #[derive(Drop)]
 pub struct FileBytes<'a> {
+    /// The bytes of all sectors of the disc.
     bytes: &'a [u8],
+    /// The file's sectors, in the order of its bytes.
     sectors: ArrayVec<u16, 4096>,
+    /// How many bytes the file has.
     size: u32,
 }
 

@@ -10,6 +10,7 @@ use std::marker::Model;
 /// The name of a file: 1 to 12 bytes, each a letter, a digit, `-`, `.` or `_`. It is seen as their list.
 #[derive(Clone, Debug, Drop, PartialEq, Eq)]
 pub struct Name {
+    /// The name's bytes.
     bytes: ArrayVec<u8, 12>,
 }
 

@@ -14,9 +14,13 @@ const SHELL: usize = 16;
 /// file, and whether the stream writes.
 #[derive(Clone, Copy, Debug)]
 pub(crate) struct Place {
+    /// The slot of its file.
     pub(crate) slot: u8,
+    /// How many bytes of the file come before it.
     pub(crate) position: u32,
+    /// The sector of that position, where it is in the file.
     pub(crate) sector: u16,
+    /// It writes, and does not read.
     pub(crate) writes: bool,
 }
 

@@ -20,8 +20,11 @@ pub(crate) const SLOTS: usize = 64;
 /// A chain: its first and its last sector, where it has any, and how many it has.
 #[derive(Clone, Copy, Debug)]
 pub(crate) struct Chain {
+    /// The first sector, where there is one.
     first: u16,
+    /// The last sector, where there is one.
     last: u16,
+    /// How many sectors it has.
     length: u16,
 }
 
@@ -56,9 +59,13 @@ impl Chain {
 /// The chains of all slots, and the sectors that are left for them.
 #[derive(Drop)]
 pub(crate) struct Sectors {
+    /// For each sector the next one of its chain.
     links: Vec<u16>,
+    /// The chain of each slot.
     chains: [Chain; SLOTS],
+    /// The first sector that no slot has, where there is one.
     free: u16,
+    /// How many sectors no slot has.
     left: u16,
 }
 

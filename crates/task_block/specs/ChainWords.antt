@@ -15,6 +15,7 @@ use Rattle.task_block.specs.declared.fields.TcbField.TheVariants.{Id, Pri}
 
 -- things of a kind have a priority, which is among their words
 pub record HavePriorities {X : Type 0} (address priority : X → ℕ) (words : X → ℕ → Pairs) : Type 0 where
+  -- the words of each have its priority
   pub level : (s : List ℕ) (x : X) (n : ℕ) → Holds s (words x n) → priority_in s (address x) ≡ priority x
 
 -- the entries of so many numbers from i on, where the entry of each holds what `to` says
@@ -27,8 +28,11 @@ listed_words address id words top xs = entries (address_with address id xs) 1 to
 
 -- a thing may come in as a task, with its number and its priority
 pub record ComesIn {X : Type 0} (address id priority : X → ℕ) (s : List ℕ) (x : X) : Type 0 where
+  -- it is a task that is not in the chain
   pub task : IsNewTask s (address x)
+  -- its words have its number
   pub number : id_in s (address x) ≡ id x
+  -- and its priority
   pub level : priority_in s (address x) ≡ priority x
 
 -- the entry of x and the link behind the front of a chain, where x is not in it, and where it comes next
@@ -41,24 +45,32 @@ present_words address id front x = (table_entry (id x), address x) ∷ (last_cel
 -- What an insert exchanges: for the two words where x is absent those where it is present, and the words of x. Written are
 -- the two and the link of x.
 pub record InsertExchange {X : Type 0} (address id priority : X → ℕ) (words : X → ℕ → Pairs) (s t : List ℕ) (xs : List X) (x : X) : Type 0 where
+  -- the tasks before it
   pub front : List X
+  -- the tasks after it
   pub back : List X
+  -- these are the tasks of the chain
   pub is : xs ≡ front ++ back
+  -- it stands behind all of higher priority
   pub becomes : insert_after (λ y. nat_lt (priority x) (priority y)) x xs ≡ front ++ x ∷ back
+  -- what it exchanges there
   pub exchange : Exchange
       (listed_words address id words (highest_id s) (front ++ back))
       (listed_words address id words (highest_id s) (front ++ x ∷ back))
       (absent_words address id front x back)
       (present_words address id front x ++ words x (first_of address back 0))
+  -- these words alone are written
   pub writes : t ≡ written (present_words address id front x ++ (address x, first_of address back 0) ∷ []) s
 
 -- What an unlink exchanges: the same words, the other way round. Written are the two.
 pub record UnlinkExchange {X : Type 0} (address id : X → ℕ) (words : X → ℕ → Pairs) (s t : List ℕ) (front : List X) (x : X) (back : List X) : Type 0 where
+  -- what it exchanges
   pub exchange : Exchange
       (listed_words address id words (highest_id s) (front ++ x ∷ back))
       (listed_words address id words (highest_id s) (front ++ back))
       (present_words address id front x ++ words x (first_of address back 0))
       (absent_words address id front x back)
+  -- these words alone are written
   pub writes : t ≡ written (absent_words address id front x back) s
 
 -- ---- a kind of task: its address, and what is in its words 1 to 22

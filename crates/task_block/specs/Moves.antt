@@ -25,17 +25,28 @@ with_priority s t pri = slice_set (without_task s t) (t + word_index Pri) pri
 
 -- The words 2 to 22 of a task block that may come in are no words of the chain or the table, whatever is written there.
 pub record StaysNew (s v : List ℕ) (t : ℕ) : Type 0 where
+  -- the chain is as it was
   pub chain : tasks_in v ≡ tasks_in s
+  -- so are the words of the tasks in it
   pub words : (j : ℕ) → j < 23 → AllByRecursion (λ u. slice_index v (u + j) ≡ slice_index s (u + j)) (tasks_in s)
+  -- they stand
   pub tasks : HasTasks v
+  -- the task is not in the chain
   pub task : IsNewTask v t
+  -- the priorities fall where they fell
   pub order : Fall s (tasks_in s) → Fall v (tasks_in v)
 
 -- A task has gone out, and may come in again with another priority.
 pub record HasNewPriority (s v : List ℕ) (t pri : ℕ) : Type 0 where
+  -- the task is out of the chain
   pub chain : tasks_in v ≡ without t (tasks_in s)
+  -- the others stand
   pub tasks : HasTasks v
+  -- the task may come in again
   pub task : IsNewTask v t
+  -- the priorities fall where they fell
   pub order : Fall s (tasks_in s) → Fall v (tasks_in v)
+  -- it has the priority
   pub priority : priority_in v t ≡ pri
+  -- no other task has that, where none had it
   pub unused : is_priority_used s pri (id_in s t) ≡ false → IsNewPriority v t

@@ -37,25 +37,39 @@ root_words = range_with_len 100 84
 
 -- a task's number is in the table's range, and the table leads to the task
 pub record IsInTable (s : List ℕ) (t : ℕ) : Type 0 where
+  -- its number is at least 1
   pub low : 1 ≤ id_in s t
+  -- and at most the highest
   pub high : id_in s t ≤ highest_id s
+  -- the table has its address
   pub entry : slice_index s (table_entry (id_in s t)) ≡ t
 
 -- the chain stands, apart from the root and the table, and the table agrees with it
 pub record HasTasks (s : List ℕ) : Type 0 where
+  -- the store has the words of the root
   pub root : 184 ≤ length s
+  -- the chain is a list
   pub chain : HasList s task_link task_size first_task
+  -- no word is of two tasks, or of a task and the root
   pub apart : IsApart (root_words ++ words_of task_size (tasks_in s))
+  -- the highest number is at most 63
   pub highest : highest_id s ≤ 63
+  -- each task of the chain is in the table
   pub listed : AllByRecursion (IsInTable s) (tasks_in s)
+  -- the table has no others
   pub table : (i : ℕ) → 1 ≤ i → i ≤ highest_id s → slice_index s (table_entry i) ≡ unwrap_or (task_with s i (tasks_in s)) 0
 
 -- a task block that may come into the chain
 pub record IsNewTask (s : List ℕ) (t : ℕ) : Type 0 where
+  -- it is a node in the store
   pub node : IsNode s task_link task_size t
+  -- none of its words is one of the root, or of a task
   pub apart : (a : ℕ) → times a (node_words task_size t) + times a (root_words ++ words_of task_size (tasks_in s)) ≤ 1
+  -- its number is at least 1
   pub low : 1 ≤ id_in s t
+  -- and at most the highest
   pub high : id_in s t ≤ highest_id s
+  -- no task has it
   pub unused : task_with s (id_in s t) (tasks_in s) ≡ None
 
 -- whether a task's priority is above that of another

@@ -6,8 +6,11 @@ use Rattle.std.specs.Str.Parse.{IsNumeral, digits_value}
 
 -- a number is 1 to so many digits of a radix, in either case, and zeros may lead
 pub record IsNumberIn (radix most : ℕ) (digits : List ℕ) (n : ℕ) : Type 0 where
+  -- they are digits, and at least one
   pub numeral : IsNumeral radix digits
+  -- there are no more than so many
   pub short : length digits ≤ most
+  -- they have the value
   pub value : digits_value radix digits ≡ n
 
 -- the value of a digit

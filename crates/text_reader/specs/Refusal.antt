@@ -3,7 +3,9 @@ use Rattle.std.specs.Prelude.{ℕ}
 
 -- the line, counted from 1, and a code, to which each reader of texts gives its meaning
 pub record Refusal : Type 0 where
+  -- the number of the line, from 1
   pub line : ℕ
+  -- the code that says why
   pub code : ℕ
 
 abbrev pub refusal : ℕ → ℕ → Refusal

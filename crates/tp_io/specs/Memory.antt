@@ -8,17 +8,26 @@ use Rattle.tp_io.specs.declared.sink.WriteStep.TheVariants.{All, Failed as Write
 
 -- the bytes left, the numbers of the calls that fail, the calls made and the faults counted
 pub record Input : Type 0 where
+  -- the bytes that are left
   pub left : List ℕ
+  -- the calls that are to fail, by their numbers
   pub fails : List ℕ
+  -- how many calls there were
   pub calls : ℕ
+  -- how many of them failed
   pub faults : ℕ
 
 -- the bytes held, the room, the numbers of the calls that fail, the calls made and the faults counted
 pub record Kept : Type 0 where
+  -- the bytes that were written
   pub bytes : List ℕ
+  -- how many bytes it keeps at most
   pub room : ℕ
+  -- the calls that are to fail, by their numbers
   pub fails : List ℕ
+  -- how many calls there were
   pub calls : ℕ
+  -- how many of them failed
   pub faults : ℕ
 
 -- The source after a call, by what the call answered: one call more, and n bytes fewer or one fault more.

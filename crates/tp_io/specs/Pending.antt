@@ -6,12 +6,16 @@ use Rattle.tp_io.specs.Write.{AppendsPrefix}
 -- What was pending, and the text after it, has gone to the sink, but for its end, which is
 -- pending now.
 pub record IsGathered (old new : Option (List ℕ)) (before after text : List ℕ) : Type 0 where
+  -- the bytes that went out
   pub front : List ℕ
+  -- they and what waits are what waited and the text
   pub whole : before ++ text ≡ front ++ after
+  -- they went to the sink
   pub sent : Appends old new front
 
 -- the sink failed, and has taken a prefix of what was pending and the text after it
 pub record IsCut (old new : Option (List ℕ)) (before text : List ℕ) : Type 0 where
+  -- a front of what waited and the text went to the sink
   pub prefix : AppendsPrefix old new (before ++ text)
 
 -- the text is gathered, or the sink failed

@@ -19,7 +19,9 @@ OnReadFailed End P = Unit {0}
 
 -- the count of faults has not fallen, and has risen where the read failed
 pub record HasReadCause (before now : ℕ) (step : ReadStep) : Type 0 where
+  -- the count of faults has not fallen
   pub later : before ≤ now
+  -- it rose where the read failed
   pub failed : OnReadFailed step (Rose before now)
 
 -- the read failed exactly where P holds

@@ -21,7 +21,9 @@ OnWriteFailed All P = Unit {0}
 
 -- the count of faults has not fallen, and has risen where the write failed
 pub record HasWriteCause (before now : ℕ) (step : WriteStep) : Type 0 where
+  -- the count of faults has not fallen
   pub later : before ≤ now
+  -- it rose where the write failed
   pub failed : OnWriteFailed step (Rose before now)
 
 -- the write failed exactly where P holds
@@ -36,5 +38,7 @@ Prints old new text (Err e) = AppendsPrefix old new text
 
 -- the count of faults has not fallen, and has risen where a printing call failed
 pub record HasCause {T E : Type 0} (before now : ℕ) (result : Result T E) : Type 0 where
+  -- the count of faults has not fallen
   pub later : before ≤ now
+  -- it rose where this failed
   pub failed : OnErr result (Rose before now)

@@ -12,10 +12,15 @@ use std::marker::Model;
 /// A source of bytes in memory. Its calls are numbered from 1, and those in `fails` fail.
 #[derive(Drop)]
 pub struct MemorySource {
+    /// All bytes.
     bytes: Vec<u8>,
+    /// How many of them were read.
     at: usize,
+    /// The calls that are to fail, by their numbers.
     fails: Vec<u32>,
+    /// How many calls there were.
     calls: u64,
+    /// How many of them failed.
     faults: u64,
 }
 
@@ -117,10 +122,15 @@ fn is_next(fails: &Vec<u32>, calls: u64) -> bool
 /// fail, and so does a write that would pass the room.
 #[derive(Drop)]
 pub struct MemorySink {
+    /// The bytes that were written.
     bytes: Vec<u8>,
+    /// How many bytes it keeps at most.
     room: usize,
+    /// The calls that are to fail, by their numbers.
     fails: Vec<u32>,
+    /// How many calls there were.
     calls: u64,
+    /// How many of them failed.
     faults: u64,
 }
 

@@ -7,6 +7,7 @@ use std::marker::Model;
 /// At most 8,192 bytes, seen as their list.
 #[derive(Drop)]
 pub struct Output {
+    /// The bytes that wait.
     bytes: ArrayVec<u8, 8192>,
 }
 

@@ -10,7 +10,9 @@ use std::marker::Model;
 /// A source over any reader. It tells the bytes that the reader tells.
 #[derive(Drop)]
 pub struct StdSource<R: Read + Drop> {
+    /// The reader.
     reader: R,
+    /// How many reads failed.
     faults: u64,
 }
 
@@ -52,7 +54,9 @@ impl<R: Read + Drop> Source for StdSource<R> {
 /// whose failure is `Failed`.
 #[derive(Drop)]
 pub struct StdSink<W: Write + Drop> {
+    /// The writer.
     writer: W,
+    /// How many writes failed.
     faults: u64,
 }
 

@@ -12,13 +12,17 @@ is_marked marks a = slice_index_or marks a false
 
 -- n words from `first` on, as far as there are marks, are marked so, and all others are as they were
 pub record IsSet (before after : List Bool) (first n : ℕ) (value : Bool) : Type 0 where
+  -- there are as many marks as before
   pub size : length after ≡ length before
+  -- the marks of these words are as given, and the others as before
   pub marks : (a : ℕ) → a < length before
       → is_marked after a ≡ (if nat_le first a && nat_lt a (first + n) then value else is_marked before a)
 
 -- the words of these ranges, as far as there are marks, are marked, and all others are as they were
 pub record AreShown (before after : List Bool) (ws : List Words) : Type 0 where
+  -- there are as many marks as before
   pub size : length after ≡ length before
+  -- a word is marked that was marked, or is in a range
   pub marks : (a : ℕ) → a < length before → is_marked after a ≡ (is_marked before a || list_any (meets a (a + 1)) ws)
 
 -- the marked words are those that are listed

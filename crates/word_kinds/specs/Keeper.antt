@@ -15,7 +15,9 @@ AreTogether all xs ys = (a : ℕ) → times a all ≡ times a xs + times a ys
 
 -- The store holds the words that valid lists own, and their addresses are these, in any order.
 pub record IsStoreOf (s known : List ℕ) (l : Lists) : Type 0 where
+  -- the store holds the lists
   pub lists : HoldsLists s l
+  -- the known words are those that they own
   pub addresses : (a : ℕ) → times a known ≡ owners a (owned l)
 
 -- so the kernel's words are those that are known

@@ -15,6 +15,7 @@ use word_store::{Guard, Store};
 /// Keeps a mark for each word of a store, seen as their list.
 #[derive(Drop)]
 pub struct ByteKinds {
+    /// A mark for each word of the store: it is the kernel's.
     marks: Vec<bool>,
 }
 

@@ -4,10 +4,16 @@
 /// the globals; PC, the byte address of the instruction.
 #[derive(Clone, Copy, Debug, PartialEq, Eq)]
 pub struct Regs {
+    /// The register A.
     pub a: u32,
+    /// The register B.
     pub b: u32,
+    /// The register C.
     pub c: u32,
+    /// The register P, the address of the stack frame, in words.
     pub p: u32,
+    /// The register G, the address of the globals, in words.
     pub g: u32,
+    /// The register PC, the address of the next instruction, in bytes.
     pub pc: u32,
 }

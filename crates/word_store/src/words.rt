@@ -14,6 +14,7 @@ pub struct NoStoreMemory;
 /// A store of fewer than 2 ^ 32 words, seen as their list.
 #[derive(Drop)]
 pub struct Store {
+    /// The words, from address 0.
     words: Vec<u32>,
 }
 
