@@ -26,5 +26,7 @@ deleteco l c = unless_refused (delete_tests l c) l (done (with_deleted_at c l))
 
 -- at c begin the data of a used block with room for a coroutine's own words
 pub record IsRoomy (l : Lists) (c : ℕ) (b : Block) : Type 0 where
+  -- it is the used block in which the coroutine lies
   pub used : used_at c l.blocks ≡ Some b
+  -- it has the words of a coroutine and its size word, or more
   pub room : 11 ≤ b.size

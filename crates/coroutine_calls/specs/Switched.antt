@@ -63,7 +63,11 @@ switched change v l r = record {
 -- The store that was s is t: where s held the lists l, it holds those that the call leaves, and nothing else has changed; its
 -- answer and the registers are these. The same words are owned before and after, so no keeper of kinds has to be told.
 pub record IsSwitched (s t : List ℕ) (l : Lists) (after : Regs) (result : Result (Unit {0}) ℕ) (m : Switched) : Type 0 where
+  -- the store holds these lists, and no plain word has changed
   pub lists : IsChanged s t m.lists []
+  -- the registers
   pub regs : after ≡ m.regs
+  -- this is the answer
   pub answered : result ≡ m.answer
+  -- the same words are owned
   pub same : (a : ℕ) → owners a (owned m.lists) ≡ owners a (owned l)

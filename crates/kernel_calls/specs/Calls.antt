@@ -41,11 +41,17 @@ use Rattle.kernel_calls.specs.declared.requests.KernelCall.TheVariants.{AddModul
 -- What a call leaves: the lists, the plain words that it wrote, the registers, the bytes that went to the console, its events, and
 -- how it ended.
 pub record Called : Type 0 where
+  -- the lists
   pub lists : Lists
+  -- the plain words that were written
   pub plain : Pairs
+  -- the registers of the guest
   pub regs : Regs
+  -- the bytes that went to the console
   pub bytes : List ℕ
+  -- the events, in their order
   pub events : List KernelEvent
+  -- how the call ends
   pub outcome : CallOutcome
 
 -- ---- registers
@@ -129,9 +135,15 @@ kernel_call s l r = requested s l r (call_of s r)
 -- The store that was s is t: it holds the lists that the call leaves, its plain words and no others have changed besides; these are
 -- its registers and its end; the keeper knows the words of those lists; its bytes went to the console, and its events to the log.
 pub record IsCalled (s t : List ℕ) (regs : Regs) (tells : List ℕ → Type 0) (old new : Outside) (outcome : CallOutcome) (c : Called) : Type 0 where
+  -- the store holds these lists, and these plain words alone have changed
   pub lists : IsChanged s t c.lists c.plain
+  -- the registers
   pub registers : regs ≡ c.regs
+  -- how the call ends
   pub ends : outcome ≡ c.outcome
+  -- the keeper knows the words of the lists
   pub knows : Knows tells c.lists
+  -- its bytes went to the console
   pub bytes : new.shown ≡ old.shown ++ c.bytes
+  -- its events went to the log
   pub notes : NotesAll old.noted new.noted old.failed new.failed c.events

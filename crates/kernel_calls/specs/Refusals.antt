@@ -55,8 +55,11 @@ tests_of s l (AddModule id m) = addition_tests s l id m
 
 -- the guest asks for a call, and the first of its tests that fails has this code
 pub record IsRefused (s : List ℕ) (l : Lists) (r : Regs) (code : ℕ) : Type 0 where
+  -- the call
   pub call : KernelCall
+  -- it is the one that the guest makes
   pub asked : call_of s r ≡ Ok call
+  -- this is the code of the first of its tests that fails
   pub failed : first_refusal (tests_of s l call) ≡ Some code
 
 -- A is 0, B is the code, and PC is past the call; all else is as it was, and there are no events

@@ -15,8 +15,11 @@ use Rattle.packet_calls.specs.declared.dequeue.Found.{Found}
 
 -- A queue that is searched: where it stands, its number as events name it, and the answer where the packet is found in it.
 pub record Search : Type 0 where
+  -- where the queue stands
   pub place : Place
+  -- its number, as events name it
   pub number : ℕ
+  -- what the call answers where the packet is there
   pub answer : ℕ
 
 -- the number of the console's reads that wait for a line

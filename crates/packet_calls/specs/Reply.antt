@@ -13,9 +13,13 @@ use Rattle.packet_calls.specs.PacketMoves.{packet_at, with_arrived}
 
 -- the packet's sender is there, its words are data of one used block, nobody owns them, and who returns it may send to its sender
 pub record CanReply (s : List ℕ) (l : Lists) (p from : ℕ) : Type 0 where
+  -- the task that sent it is there
   pub there : has_task (slice_index s (p + 1)) l.tasks ≡ true
+  -- its words are data of one used block
   pub lodged : AreData l.blocks p 5
+  -- nobody owns them
   pub plain : AreUnowned l p (p + 5)
+  -- the task that returns it may send there
   pub sender : HasSender l (Work (slice_index s (p + 1))) from
 
 -- the packet with these results, from its new sender

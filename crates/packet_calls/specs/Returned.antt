@@ -35,7 +35,9 @@ place_of OfOutput = Output
 
 -- the lists and the events of what a device does; it writes no plain word
 pub record Served : Type 0 where
+  -- the lists
   pub lists : Lists
+  -- the events, in their order
   pub events : List KernelEvent
 
 abbrev pub unserved : Lists → Served
@@ -62,5 +64,7 @@ first_returned d res1 (p ∷ ps) l =
 -- The store that was s, which held the lists l, is t: it holds those that the device leaves, and nothing else has changed. The
 -- same words are owned before and after, so no keeper of kinds has to be told.
 pub record IsServed (s t : List ℕ) (l : Lists) (m : Served) : Type 0 where
+  -- the store holds these lists, and no plain word has changed
   pub lists : IsChanged s t m.lists []
+  -- the same words are owned
   pub same : (a : ℕ) → owners a (owned m.lists) ≡ owners a (owned l)

@@ -12,14 +12,20 @@ use Rattle.packet_calls.specs.PacketMoves.{sent_packet, with_arrived}
 
 -- A packet that is plain goes from one task to another, or the same one.
 pub record CanSendToTask (l : Lists) (p from to : ℕ) : Type 0 where
+  -- the task that sends it is there
   pub sender : has_task from l.tasks ≡ true
+  -- the task that gets it is there
   pub there : has_task to l.tasks ≡ true
+  -- its words are data of one used block
   pub lodged : AreData l.blocks p 5
+  -- nobody owns them
   pub plain : AreUnowned l p (p + 5)
 
 -- The console's key packet, which is on no queue, goes to the keyboard.
 pub record CanSendKeys (l : Lists) (p from to : ℕ) : Type 0 where
+  -- it is the key packet
   pub packet : p ≡ key_packet
+  -- it is on no queue
   pub off : is_some l.key ≡ true
   pub sender : from ≡ 3
   pub to_keyboard : to ≡ keyboard

@@ -25,8 +25,11 @@ use word_store::{Store, set_word_at};
 /// The queue in which a packet was found: its number, as events name it, and what the call answers then.
 #[derive(Clone, Copy, Debug, PartialEq, Eq)]
 pub(crate) struct Found {
+    /// The queue that has the packet.
     queue: Queue,
+    /// Its number, as events name it.
     number: u32,
+    /// What the call answers.
     answer: u32,
 }
 

@@ -94,7 +94,11 @@ create_task s l id modules u pri maker =
 -- The number is 0, or one of a guest's that no task has; the maker's number is at most the highest; and there are from one to the
 -- most modules.
 pub record MayCreate (l : Lists) (id : ℕ) (modules : List ℕ) (maker : ℕ) : Type 0 where
+  -- the lowest free number is asked for, or a guest's that no task has
   pub number : (id ≡ 0) ⊎ ((5 ≤ id) × (id ≤ highest_id_of l.version) × (has_task id l.tasks ≡ false))
+  -- the maker has a task's number, or 0
   pub made_by : maker ≤ highest_id_of l.version
+  -- it has a module
   pub some_module : 1 ≤ length modules
+  -- it has no more than it may have
   pub most : length modules ≤ most_modules_of l.version

@@ -55,6 +55,9 @@ RunsAlive l = AllByRecursion (λ t. t.id ≡ l.running → t.field ≡ runs) l.t
 
 -- the guest at the address has ended, and nothing of its own is left but its block
 pub record HasEnded (l : Lists) (id address : ℕ) : Type 0 where
+  -- the guest with the number
   pub guest : GuestAt l id address
+  -- it may go
   pub accepted : first_refusal (end_tests l id) ≡ None
+  -- the task that runs is not dead
   pub runs_alive : RunsAlive l

@@ -30,8 +30,11 @@ head_row head t number modules u pri maker = first_words head t number modules u
 
 -- These are modules of the store, and the words of globals from g on are nobody's, and none of theirs.
 pub record MaySetGlobals (s : List ℕ) (l : Lists) (modules : List ℕ) (g : ℕ) : Type 0 where
+  -- nobody owns the words of the globals
   pub unowned : AreUnowned l g (g + 1001)
+  -- the modules are those of the store
   pub listed : AllByRecursion (λ m. has m (modules_in s) ≡ true) modules
+  -- none of the globals is a word of theirs
   pub clear : AllByRecursion (λ m. AreClear g m (module_end s m)) modules
 
 -- the highest index of the words of a task with a stack up to the index u, where it is the number of a word; else no run is large
@@ -45,15 +48,25 @@ IsLastWord l u (Err code) = (has_room (last_word_of l.version u) l ≡ false) ×
 -- The number is a guest's that no task has, the priority is one that no task has, the modules are of the list and from one to the
 -- most, and the maker's number is at most the highest.
 pub record MayPlace (l : Lists) (number : ℕ) (modules : List ℕ) (pri maker : ℕ) : Type 0 where
+  -- it is no resident's number
   pub low : 5 ≤ number
+  -- tasks may have it
   pub high : number ≤ highest_id_of l.version
+  -- no task has it
   pub unused : has_task number l.tasks ≡ false
+  -- the priority is at least 1
   pub lowest : 1 ≤ pri
+  -- and at most 10,000
   pub most_pri : pri ≤ 10000
+  -- no task has it
   pub untaken : AllByRecursion (λ t. t.priority ≢ pri) l.tasks
+  -- the modules are of the list
   pub listed : AllByRecursion (λ m. has_module l m ≡ true) modules
+  -- the maker has a task's number, or 0
   pub made_by : maker ≤ highest_id_of l.version
+  -- the task has a module
   pub some_module : 1 ≤ length modules
+  -- it has no more than it may have
   pub most : length modules ≤ most_modules_of l.version
 
 -- what is made of such a task, where there is room
