@@ -53,7 +53,9 @@ finished l = finished_by (work l) l
 
 -- the store holds these lists then, and the same words are owned
 pub record IsFinished (s t : List ℕ) (l : Lists) : Type 0 where
+  -- the store holds these lists, and no plain word has changed
   pub lists : IsChanged s t (finished l) []
+  -- the same words are owned
   pub same : (a : ℕ) → owners a (owned (finished l)) ≡ owners a (owned l)
 
 -- the request is returned, and the turn ends

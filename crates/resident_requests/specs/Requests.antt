@@ -21,8 +21,11 @@ use Rattle.resident_requests.specs.declared.requests.Request.{Request}
 
 -- a resident runs, and its state says so
 pub record RunsResident (l : Lists) : Type 0 where
+  -- the running task is a resident
   pub resident : is_guest_id l.running ≡ false
+  -- it is there
   pub there : has_task l.running l.tasks ≡ true
+  -- its field says that it runs
   pub field : AllByRecursion (λ t. t.id ≡ l.running → t.field ≡ runs) l.tasks
 
 -- its packets
@@ -36,15 +39,20 @@ IsForeign l (p ∷ ps) = (is_key_packet l p ≡ false) × (is_fault_packet l p �
 
 -- a resident runs that may take a request
 pub record TakesRequest (l : Lists) : Type 0 where
+  -- a resident runs
   pub runs : RunsResident l
+  -- its first packet is none of the residents' own
   pub foreign : IsForeign l (work l)
 
 -- ---- what taking leaves
 
 -- the lists, the plain words that were written, and the events
 pub record Taking : Type 0 where
+  -- the lists
   pub lists : Lists
+  -- the plain words that were written
   pub plain : Pairs
+  -- the events, in their order
   pub events : List KernelEvent
 
 abbrev pub taken_from : List QueuedPacket → Lists → Taking
@@ -92,9 +100,15 @@ pub record HasRequest (s : List ℕ) (l : Lists) (r : Request) : Type 0 where
 -- From the store s the store t has become one in which the request was taken: its lists, the words that the keeper knows, and all
 -- its words.
 pub record IsTaken (s t : List ℕ) (tells : List ℕ → Type 0) (l : Lists) (result : Option Request) : Type 0 where
+  -- the store holds the lists that taking leaves
   pub lists : IsChanged s t (taken l).lists (taken l).plain
+  -- the keeper knows their words
   pub knows : Knows tells (taken l).lists
+  -- these are all words of the store
   pub words : t ≡ words_taken s l
+  -- the resident still runs
   pub runs : RunsResident (taken l).lists
+  -- it is the request of the first packet
   pub request : result ≡ first_request t (work l)
+  -- its packet stands in the store
   pub stands : IfSome result (λ r. HasRequest t (taken l).lists r)

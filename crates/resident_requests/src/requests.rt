@@ -18,11 +18,17 @@ pub const UNKNOWN_TYPE: u32 = 31;
 /// of the packet. An argument outside the store is 0.
 #[derive(Clone, Copy, Debug, PartialEq, Eq)]
 pub struct Request {
+    /// The address of its packet, in words.
     pub packet: u32,
+    /// The number of the task that sent it.
     pub sender: u32,
+    /// Its type.
     pub kind: u32,
+    /// Its first argument, the word 5 of the packet.
     pub first: u32,
+    /// Its second argument, the word 6.
     pub second: u32,
+    /// Its third argument, the word 7.
     pub third: u32,
 }
 
