@@ -41,7 +41,9 @@ read_from i _ o = []
 
 -- all bytes that were written to the pipe at a place since it is there, and all that were read from it
 pub record History : Type 0 where
+  -- the bytes that were written, the first ones first
   pub written : List ℕ
+  -- the bytes that were read, the first ones first
   pub read : List ℕ
 
 abbrev pub no_history : History

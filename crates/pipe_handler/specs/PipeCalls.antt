@@ -8,14 +8,20 @@ use Rattle.pipe_handler.specs.Ends.{handle_at, is_end, is_named, is_open, names_
 
 -- at most eight pipes, each lawful, with distinct names
 pub record ArePipes (ps : List (Option Pipe)) : Type 0 where
+  -- there are eight places
   pub places : length ps ≡ most_pipes
+  -- each pipe is lawful
   pub each : (i : ℕ) (p : Pipe) → pipe_at ps i ≡ Some p → IsPipe p
+  -- no two pipes have one name
   pub distinct : (i j : ℕ) (p q : Pipe) → pipe_at ps i ≡ Some p → pipe_at ps j ≡ Some q → p.name ≡ q.name → i ≡ j
 
 -- what a request answers, the bytes that it gives, and the pipes after it
 pub record Outcome : Type 0 where
+  -- its first result, or the code of the refusal
   pub answer : Result ℕ ℕ
+  -- the bytes that it gives, the first ones first
   pub bytes : List ℕ
+  -- the pipes after it, by their places
   pub pipes : List (Option Pipe)
 
 abbrev pub accepted : ℕ → List ℕ → List (Option Pipe) → Outcome

@@ -20,17 +20,26 @@ pipes_in slots = map pipe_in slots
 
 -- a ring with room for what a pipe may hold
 pub record IsRing (ring : Buffer ℕ) : Type 0 where
+  -- it has room for what a pipe may hold, in bytes
   pub room : ring.capacity ≡ most_held
+  -- it holds no more
   pub most : length ring.items ≤ most_held
 
 pub record AreSlots (slots : List Slot) : Type 0 where
+  -- each slot has such a ring
   pub rings : All (λ s. IsRing s.held) slots
+  -- their pipes are lawful, with distinct names
   pub pipes : ArePipes (pipes_in slots)
 
 -- a handle names this end of the pipe in the slot at a place, and the end is open
 pub record IsPlaceOf (slots : List Slot) (handle : ℕ) (writes : Bool) (place : ℕ) : Type 0 where
+  -- the handle is that of such an end
   pub names : names_end handle writes ≡ true
+  -- it is not 0
   pub number : handle ≢ 0
+  -- the place is the handle's
   pub is : place ≡ place_of handle
+  -- there is a slot at it
   pub inside : place < length slots
+  -- the end of its pipe is open
   pub open_there : is_open writes (pipe_at (pipes_in slots) place) ≡ true

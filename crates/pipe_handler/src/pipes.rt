@@ -31,6 +31,7 @@ const PIPES: usize = 8;
 /// At most eight pipes. Pipe k, from 1, has the handles 2k - 1, with which it is read, and 2k, with which it is written.
 #[derive(Drop)]
 pub struct Pipes {
+    /// A slot for each place, from 0.
     slots: Vec<Slot>,
 }
 

@@ -20,10 +20,15 @@ pub(crate) const ROOM: usize = 1024;
 /// end is open, its writing end is, and that ever was.
 #[derive(Drop)]
 pub(crate) struct Slot {
+    /// The name of the pipe.
     pub(crate) name: Name,
+    /// The bytes that were written and not read.
     pub(crate) held: HeapCircularBuffer<u8>,
+    /// The end that reads is open.
     pub(crate) reading: bool,
+    /// The end that writes is open.
     pub(crate) writing: bool,
+    /// The end that writes was open once.
     pub(crate) written: bool,
 }
 

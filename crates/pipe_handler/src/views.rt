@@ -9,6 +9,7 @@ use std::marker::Model;
 /// A pipe that is there.
 #[derive(Drop)]
 pub struct PipeView<'a> {
+    /// The slot of the pipe.
     slot: &'a Slot,
 }
 
