@@ -12,7 +12,7 @@ use Rattle.call_answers.specs.KernelDispatch.KernelModel.declared.uses.Use.TheVa
 use Rattle.call_answers.specs.KernelDispatch.KernelModel.ChangedStore.{HasKeeper}
 use Rattle.call_answers.specs.KernelDispatch.KernelModel.Changes.{AreUnowned, IsIdleBlock}
 use Rattle.call_answers.specs.KernelDispatch.KernelModel.Lists.{Lists, queued}
-use Rattle.call_answers.proofs.Shown.KernelDispatch.KernelModel.ChangedLists.{changed-none, knows-same}
+use Rattle.call_answers.proofs.Shown.KernelDispatch.KernelModel.ChangedLists.{knows-same}
 use Rattle.call_answers.proofs.Shown.KernelDispatch.KernelModel.EachMember.{find-passes}
 use Rattle.call_answers.proofs.Shown.KernelDispatch.KernelModel.FollowedBlocks.{IsWithin, found-within}
 use Rattle.call_answers.specs.Made.{IsMade, Made, done, minus_one, unless_refused}
@@ -23,12 +23,6 @@ use Rattle.block_calls.proofs.IdleBlocks.{idle-unowned, none-idle, unowned-empty
 use Rattle.block_calls.proofs.TakenStore.{given-changed, given-owners}
 
 module _ (s : List ℕ) (tells : List ℕ → Type 0) (room : ℕ) (l : Lists) (v : ℕ) (k : HasKeeper s tells room l) where
-  -- nothing is at 0
-  pub given-nothing : v ≡ 0 → IsMade s s tells (Ok minus_one) (freevec l v)
-  given-nothing e =
-      subst (λ z. IsMade s s tells (Ok minus_one) (freevec l z)) (sym e)
-      (record { leaves = record { lists = changed-none s l k.lists; answered = refl }; knows = k.knows })
-
   abbrev made : Made
   made = done (with_given v l)
 

@@ -75,7 +75,7 @@ fn is_user(used: Use) -> bool
 }
 
 fn is_of_residents(store: &Store, v: u32) -> bool
-    ensures { result ≡ (has_residents store.now && (v == 201)) }
+    ensures { result ≡ (has_residents store.now && (v == RESIDENT_DATA)) }
 {
     root(store, RootField::Residents) != 0 && v == RESIDENT_DATA
 }

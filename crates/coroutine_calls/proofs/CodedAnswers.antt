@@ -61,22 +61,6 @@ module _ (s : List ℕ) (t : ℕ) (k : TaskCoroutines) (h : HoldsCoroutines s t 
       on true known true alone e = cc
       on false known y alone e = cc
 
-  pub record MayResume (c : ℕ) : Type 0 where
-    pub known : is_one_of c k ≡ true
-    pub within : is_within k ≡ true
-    pub alone : eqb (current_of k) c ≡ false → has_parent c k ≡ false
-
-  pub resume-passed : (c : ℕ) → first_refusal (resume_tests c k) ≡ None → MayResume c
-  resume-passed c e = on (is_one_of c k) refl (is_within k) refl (has_parent c k) refl (eqb (current_of k) c) refl e
-    where
-      on : (x : Bool) → is_one_of c k ≡ x → (w : Bool) → is_within k ≡ w → (y : Bool) → has_parent c k ≡ y → (z : Bool) → eqb (current_of k) c ≡ z
-          → first_refusal ((x, 21) ∷ (w, 23) ∷ (not y || z, 22) ∷ []) ≡ None → MayResume c
-      on true known true within false alone z same e = record { known = known; within = within; alone = λ other. alone }
-      on true known true within true alone true same e = record { known = known; within = within; alone = λ other. cc }
-      on true known true within true alone false same e = cc
-      on true known false within y alone z same e = cc
-      on false known w within y alone z same e = cc
-
   pub wait-passed : first_refusal (wait_tests k) ≡ None → is_within k ≡ true
   wait-passed e = on (is_within k) e
     where

@@ -10,7 +10,6 @@ use Rattle.block_calls.specs.KernelDispatch.KernelModel.Task.{Task, queue_bit, s
 use Rattle.block_calls.specs.KernelDispatch.KernelModel.ValidQueues.Place.{Work}
 use Rattle.block_calls.specs.KernelDispatch.KernelModel.ValidTasks.{runs}
 use Rattle.block_calls.proofs.Shown.KernelDispatch.KernelModel.AllThings.{all-here}
-use Rattle.block_calls.proofs.Shown.KernelDispatch.KernelModel.ChainSplits.{work_of-between}
 use Rattle.block_calls.proofs.Shown.KernelDispatch.KernelModel.EachMember.{holds-each}
 use Rattle.block_calls.proofs.Shown.KernelDispatch.KernelModel.ReadCoroutines.{holds-task}
 use Rattle.block_calls.specs.CallAnswers.Callers.{HasCaller}
@@ -34,9 +33,6 @@ module _ (s : List ℕ) (l : Lists) (id t : ℕ) (h : HoldsLists s l) (g : Guest
 
   pub caller-queue : queue_for l (Work id) ≡ OfTask t
   caller-queue = ap OfTask caller-address
-
-  pub caller-packets : queue_of (Work id) l ≡ g.task.queue
-  caller-packets = ap (λ ts. queue_of (Work id) (record l { tasks = ts })) g.is ∙ ap (λ i. queue_of (Work i) (record l { tasks = g.front ++ g.task ∷ g.back })) (sym g.number) ∙ work_of-between g.front g.task g.back distinct
 
   pub caller-number : get_or s (t + 1) 0 ≡ id
   caller-number =
