@@ -13,8 +13,11 @@ use Rattle.file_handler.specs.declared.calls.FileCall.TheVariants.{Append, Close
 
 -- the disc after a request, its answer, and the bytes for its buffer, which begins at its second argument
 pub record Handled : Type 0 where
+  -- the disc after the request
   pub disc : Disc
+  -- its first result, or the code of the refusal
   pub answer : Result ℕ ℕ
+  -- the bytes for its buffer, from the buffer's first
   pub bytes : List ℕ
 
 abbrev pub handled : Disc → Result ℕ ℕ → List ℕ → Handled

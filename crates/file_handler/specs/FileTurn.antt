@@ -13,6 +13,7 @@ file_handler = 4
 
 -- it runs
 pub record RunsFileHandler (l : Lists) : Type 0 where
+  -- a resident runs
   pub runs : RunsResident l
   pub is : l.running ≡ file_handler
 
