@@ -17,6 +17,7 @@ use Rattle.fault_reporter.specs.Texts.{most_reported, reports}
 
 -- Task 2 runs, and there is room for its lines among the bytes that go to the console.
 pub record CanReport (shown : List ℕ) (l : Lists) : Type 0 where
+  -- a resident runs
   pub runs : RunsResident l
   pub reporter : l.running ≡ 2
   pub room : length shown + most_reported ≤ 8192

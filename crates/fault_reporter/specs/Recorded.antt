@@ -19,6 +19,7 @@ use Rattle.resident_requests.specs.KernelCalls.PacketCalls.PacketMoves.{with_arr
 
 -- A guest runs, there is a task that reports faults, and the fault is one that it reports.
 pub record CanRecord (l : Lists) (f : Fault) : Type 0 where
+  -- a guest runs
   pub caller : HasCaller l
   pub reporter : has_task 2 l.tasks ≡ true
   pub fault : IsRecordedFault f.code
@@ -62,5 +63,7 @@ recorded_events f l = sent_events (held_with f l)
 
 -- the store that was s is t: it holds these lists in place of l, and the same words are owned
 pub record OwnsSame (s t : List ℕ) (l m : Lists) : Type 0 where
+  -- the store holds these lists, and no plain word has changed
   pub lists : IsChanged s t m []
+  -- the same words are owned
   pub same : (a : ℕ) → owners a (owned m) ≡ owners a (owned l)
