@@ -20,6 +20,7 @@ use Rattle.console_handler.specs.Reads.{put_off}
 
 -- it runs
 pub record RunsConsole (l : Lists) : Type 0 where
+  -- a resident runs
   pub runs : RunsResident l
   pub is : l.running ≡ console_number
 
@@ -112,5 +113,7 @@ console_turn id c k s l = turn_done s (all_parts id (begun s l c k))
 
 -- the line is finished exactly where the key packet is on no queue, and then no read waits
 pub record KeysStand (l : Lists) (c : Console) : Type 0 where
+  -- a finished line waits exactly where the key packet is on no queue
   pub finished : c.finished ≡ is_some l.key
+  -- no read waits beside a finished line
   pub delivered : c.finished ≡ true → l.pending ≡ []

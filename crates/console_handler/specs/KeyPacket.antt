@@ -16,7 +16,9 @@ StartsWithKeys l (p ∷ ps) = is_key_packet l p ≡ true
 
 -- the resident that runs has the key packet as its first
 pub record FindsKeys (l : Lists) : Type 0 where
+  -- a resident runs
   pub runs : RunsResident l
+  -- its first packet is the key packet
   pub first : StartsWithKeys l (work l)
 
 -- It is taken, and then on no queue. Its answer is the key.

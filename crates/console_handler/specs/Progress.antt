@@ -61,14 +61,24 @@ pub record Start : Type 0 where
 -- So much is done since then: the store is t, the keeper knows the words of its lists, and the rest is as the code has it. The same
 -- words are owned.
 pub record IsDone (b : Start) (t : List ℕ) (tells : List ℕ → Type 0) (room : ℕ) (now : Outside) (console : Console) (command : List ℕ) (g : Progress) : Type 0 where
+  -- these are all words of the store
   pub words : t ≡ g.words
+  -- the store holds the lists, and the plain words alone have changed
   pub lists : IsChanged b.words t g.lists g.plain
+  -- the keeper knows the words of the lists
   pub knows : Knows tells g.lists
+  -- the keeper has room for all words
   pub enough : length t ≤ room
+  -- the same words are owned
   pub same : (a : ℕ) → owners a (owned g.lists) ≡ owners a (owned b.lists)
+  -- the bytes went to the console
   pub bytes : now.shown ≡ b.outside.shown ++ g.bytes
+  -- the events went to the log
   pub notes : NotesAll b.outside.noted now.noted b.outside.failed now.failed g.events
+  -- the console's line
   pub line : console ≡ g.console
+  -- the line that the shell has
   pub shell : command ≡ g.command
+  -- a resident runs
   pub runs : RunsResident g.lists
   pub is : g.lists.running ≡ console_number

@@ -51,9 +51,15 @@ words_read_from (p ∷ ps) s = unqueued s OfReads p.address
 
 -- From the store s the store t has become one in which the first read was taken.
 pub record IsReadTaken (s t : List ℕ) (tells : List ℕ → Type 0) (l : Lists) (result : Option Request) : Type 0 where
+  -- the store holds the lists that taking leaves
   pub lists : IsChanged s t (read_taken l).lists (read_taken l).plain
+  -- the keeper knows their words
   pub knows : Knows tells (read_taken l).lists
+  -- these are all words of the store
   pub words : t ≡ words_read_from l.pending s
+  -- it is the first read that waited
   pub request : result ≡ first_request t l.pending
+  -- its packet stands in the store
   pub stands : IfSome result (λ r. HasRequest t (read_taken l).lists r)
+  -- the kernel owned its words before
   pub owns : IfSome result (λ r. OwnsRequest (read_taken l).lists l r)

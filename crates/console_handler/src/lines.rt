@@ -21,7 +21,9 @@ const LINE_FEED: &[u8] = &[10];
 /// A line of at most 120 bytes, and whether it is finished.
 #[derive(Drop)]
 pub struct ConsoleState {
+    /// The bytes of the line so far.
     line: ArrayVec<u8, 120>,
+    /// The line is finished, and waits for a read.
     finished: bool,
 }
 
