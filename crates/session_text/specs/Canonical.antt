@@ -41,10 +41,15 @@ IsLawfulMachine false s = IsTrue (is_period s.period) × (s.debug ≡ true → s
 
 -- the fields of a session are within the rules
 pub record IsLawful (s : Session) : Type 0 where
+  -- the version is 1 or 2
   pub version : IsVersion s.version
+  -- its version may have a store of so many words
   pub store : IsTrue (is_store_size s.version s.store)
+  -- what it says of the clock, the residents and the keys
   pub machine : IsLawfulMachine s.bare s
+  -- each line may stand in such a session
   pub lines : AllByRecursion (λ line. IsLawfulForm s.bare s.version line.form) s.lines
+  -- the most steps are a number of steps
   pub steps : IsTrue (is_step s.go)
 
 -- ---- the lines of the text

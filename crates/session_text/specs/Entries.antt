@@ -24,7 +24,9 @@ names_fit version _ = true
 
 -- a statement, and the lines of text after it, without their colons
 pub record Entry : Type 0 where
+  -- what its first line states
   pub statement : Statement
+  -- the lines of text, each without its colon
   pub texts : List (List ℕ)
 
 -- the lines of text belong to a file, and `GO` is the end
@@ -39,11 +41,17 @@ colon_line text = codes ":" ++ text
 
 -- these lines are the entry
 pub record IsEntry (version : ℕ) (entry : Entry) (lines : List (List ℕ)) : Type 0 where
+  -- its first line
   pub head : List ℕ
+  -- that line and those of text are all
   pub all : lines ≡ head ∷ map colon_line entry.texts
+  -- the first line states this
   pub states : States entry.statement head
+  -- a task has no more names than its version allows
   pub fits : IsTrue (names_fit version entry.statement)
+  -- its numbers and its names are lawful
   pub in_range : IsTrue (is_in_range version entry.statement)
+  -- such lines of text may follow
   pub texts_are : MayHave entry.statement entry.texts
 
 -- these lines are the entries, one after the other

@@ -23,17 +23,28 @@ IsOutOfRange front line = (form : Form) × MayStand front form × HasForm form l
 
 -- the lines before line n begin a session's text, with line n they do not, and Why holds of them and it
 pub record IsFirstError (text : List ℕ) (n : ℕ) (Why : List (List ℕ) → List ℕ → Type 0) : Type 0 where
+  -- the lines before it
   pub front : List (List ℕ)
+  -- the line
   pub line : List ℕ
+  -- the lines after it
   pub rest : List (List ℕ)
+  -- these are all lines
   pub all : lines_of text ≡ front ++ line ∷ rest
+  -- its number, from 1
   pub number : n ≡ length front + 1
+  -- some session begins with the lines before it
   pub before : BeginSession front
+  -- none begins with these and it
   pub up_to : ¬ BeginSession (front ++ line ∷ [])
+  -- why it is refused
   pub why : Why front line
 
 -- all lines begin a session's text, and are none; line n would be the next
 pub record EndsEarly (text : List ℕ) (n : ℕ) : Type 0 where
+  -- the number of the line that would follow
   pub next : n ≡ length (lines_of text) + 1
+  -- some session begins with all lines
   pub before : BeginSession (lines_of text)
+  -- they are no session
   pub short : (s : Session) → ¬ IsSession text s

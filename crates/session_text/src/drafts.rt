@@ -42,7 +42,9 @@ pub enum Place {
 /// A session as far as it was read, and what may come next.
 #[derive(Debug, Drop)]
 pub struct Draft {
+    /// What may come next.
     pub place: Place,
+    /// The session so far.
     pub session: Session,
 }
 

@@ -12,6 +12,7 @@ use std::alloc::Global;
 /// A session, and where the lines after it begin.
 #[derive(Debug, Drop)]
 pub struct Front {
+    /// The session.
     pub session: Session,
     /// The place after the session's lines.
     pub end: u32,

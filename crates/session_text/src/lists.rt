@@ -12,6 +12,7 @@ use std::marker::Model;
 /// Bytes, seen as their list.
 #[derive(Debug, Drop)]
 pub struct Bytes {
+    /// The bytes.
     list: Vec<u8>,
 }
 
@@ -59,6 +60,7 @@ impl Bytes {
 /// The lines between the head of a session and its `GO`, seen as their list.
 #[derive(Debug, Drop)]
 pub struct Lines {
+    /// The lines, in the order of the text.
     list: Vec<SessionLine>,
 }
 
@@ -146,6 +148,7 @@ fn form_with_text(form: LineForm, text: &[u8]) -> Result<LineForm, SessionEnd>
 /// Keys, each with the step at which it is due, seen as their list.
 #[derive(Debug, Drop)]
 pub struct Keys {
+    /// The step and the byte of each key, in the order of the text.
     list: Vec<(u64, u8)>,
 }
 
@@ -201,6 +204,7 @@ impl Keys {
 /// At most eight names of files, seen as their list.
 #[derive(Debug, Drop)]
 pub struct Names {
+    /// The names, in the order of the text.
     list: ArrayVec<Name, 8>,
 }
 

@@ -28,7 +28,9 @@ pub struct Session {
 /// A line of a session, and its number in the text, from 1.
 #[derive(Debug, Drop)]
 pub struct SessionLine {
+    /// Its number in the text.
     pub line: u32,
+    /// What it puts into the machine.
     pub form: LineForm,
 }
 
@@ -39,14 +41,20 @@ pub enum LineForm {
     Code(Bytes),
     /// A file.
     File {
+        /// Its name.
         name: Name,
+        /// Its bytes.
         bytes: Bytes,
     },
     /// A task with its priority, the highest index of its stack, and the files that its program is loaded from.
     Task {
+        /// Its number.
         id: u32,
+        /// Its priority.
         pri: u32,
+        /// The highest index of its stack, in words.
         stack: u32,
+        /// The files of its modules.
         names: Names,
     },
 }

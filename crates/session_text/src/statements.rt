@@ -15,19 +15,27 @@ pub enum Statement<'a> {
     File(&'a [u8]),
     /// A task, with the names of the files that its program is loaded from.
     Task {
+        /// Its number.
         id: u64,
+        /// Its priority.
         pri: u64,
+        /// The highest index of its stack, in words.
         stack: u64,
+        /// The names, as they stand in the line.
         names: &'a [u8],
     },
     /// Text that is typed at a step.
     At {
+        /// The step of the first key.
         step: u64,
+        /// The text, as it stands in the line.
         text: &'a [u8],
     },
     /// A key that is typed at a step.
     Key {
+        /// The step.
         step: u64,
+        /// The key.
         byte: u8,
     },
     /// The most steps.
