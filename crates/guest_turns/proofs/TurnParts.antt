@@ -13,7 +13,7 @@ use Rattle.kernel_calls.proofs.Shown.KernelModel.NotedInTurn.{notes-none}
 use Rattle.kernel_calls.specs.CoroutineCalls.Switched.{IsSwitched, Switched}
 use Rattle.kernel_calls.specs.CallAnswers.Outside.{Outside}
 use Rattle.kernel_calls.specs.Calls.{Called, IsCalled}
-use Rattle.kernel_calls.specs.declared.requests.CallOutcome.{CallOutcome}
+use Rattle.kernel_calls.specs.declared.call_numbers.CallOutcome.{CallOutcome}
 use Rattle.guest_turns.specs.Guarded.{is_owned}
 use Rattle.guest_turns.proofs.MarkedWords.{keeps-marked}
 use Rattle.guest_turns.specs.GuestTurn.{IsTurned, after_instruction, called, end_of_call, ended_with, goes_on, turn_without_reporter}
@@ -79,9 +79,3 @@ module _ (t : List ℕ) (after : Regs) (tells : List ℕ → Type 0) (old : Outs
   unfolding turn_without_reporter
   turned-by new result s s' l r r' outcome words regs ends is =
       subst (IsTurned t after tells old new result) (λ i. after_instruction l (words i) (regs i) (ends i)) is
-
--- the keeper knows the words of the lists that a turn leaves
-pub turned-keeper : (s t : List ℕ) (before tells : List ℕ → Type 0) (room : ℕ) (l : Lists) (r after : Regs) (old new : Outside) (result : TurnEnd) → HasKeeper s before room l
-    → IsTurned t after tells old new result (turn_without_reporter s l r) → HasKeeper t tells room (turn_without_reporter s l r).lists
-turned-keeper s t before tells room l r after old new result k is =
-    record { lists = is.lists.lists; knows = is.knows; enough = omega (arith, k.enough, is.lists.size, turn-size l s r) }

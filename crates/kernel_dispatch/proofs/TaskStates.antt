@@ -13,8 +13,7 @@ use Rattle.word_kinds.proofs.Shown.KernelModel.AllThings.{all-from_both}
 use Rattle.word_kinds.proofs.Shown.KernelModel.EachMember.{all-both, holds-each}
 use Rattle.word_kinds.proofs.Shown.KernelModel.ReadCoroutines.{HoldsTask, holds-task}
 use Rattle.word_kinds.proofs.Shown.KernelModel.Reading.{read-lists}
-use Rattle.kernel_dispatch.specs.DispatchWords.{state_of}
-use Rattle.kernel_dispatch.specs.ReadyTasks.{is_ready_in, is_ready_state}
+use Rattle.kernel_dispatch.specs.DispatchWords.{is_ready_in, is_ready_state, state_of}
 
 -- what holds of the four fields
 pub by-field : (P : ℕ → Type 0) → P 0 → P 4 → P 8 → P 12 → (n : ℕ) → IsField n → P n

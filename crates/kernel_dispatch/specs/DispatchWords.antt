@@ -1,5 +1,5 @@
 -- The words that a dispatch writes, and the registers that it gives, as the store has them.
-use Rattle.std.specs.Prelude.{ℕ, ◌+◌, ◌-◌, ◌%◌, ◌==◌, ◌&&◌, Bool, if◌then◌else◌, List, [], ◌∷◌, nat_le, nat_lt, slice_index, slice_set, Option, Some, None, false}
+use Rattle.std.specs.Prelude.{ℕ, ◌+◌, ◌-◌, ◌%◌, ◌==◌, ◌&&◌, ◌||◌, Bool, if◌then◌else◌, List, [], ◌∷◌, nat_le, nat_lt, slice_index, slice_set, Option, Some, None, false}
 use Rattle.word_store.specs.declared.registers.Regs.{Regs}
 use Rattle.word_kinds.specs.KernelLists.OwnedWords.Owned.{Pairs, written}
 use Rattle.word_kinds.specs.KernelLists.PacketQueue.Queue.{unlinked}
@@ -95,6 +95,14 @@ next_regs_in s r t packet = if is_guest_id (slice_index s (t + word_index Id)) t
 -- a guest of which the field is 4 or 12 takes a packet
 abbrev pub takes_packet_by : ℕ → ℕ → Bool
 takes_packet_by id state = is_guest_id id && nat_le 4 (state % 8)
+
+-- a state of 2 modulo 4, or 3, is that of a held task; a field of 0 or 8 is below 4 modulo 8; the state is odd where packets wait
+abbrev pub is_ready_state : ℕ → Bool
+is_ready_state w = nat_lt (w % 4) 2 && (nat_lt (w % 8) 4 || (w % 2 == 1))
+
+-- the task at t is ready
+abbrev pub is_ready_in : List ℕ → ℕ → Bool
+is_ready_in s t = is_ready_state (state_of s t)
 
 -- it is the task that ran, and runs
 abbrev pub goes_on_in : List ℕ → Option ℕ → Bool

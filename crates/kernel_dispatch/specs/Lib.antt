@@ -1,5 +1,4 @@
 pub mod Dispatch
-pub mod ReadyTasks
 pub mod DispatchWords
 pub mod Turn
 -- shown to the crates above

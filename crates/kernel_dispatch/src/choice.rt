@@ -1,14 +1,13 @@
 // The choice: the first ready task of the chain.
 ghost use Rattle.std.specs.Prelude.{◌≡◌, find};
 ghost use Rattle.word_kinds.specs.KernelLists.TaskBlock.RootWords.{first_task};
-ghost use Rattle.word_kinds.specs.KernelLists.TaskBlock.TaskChain.{id_in, task_link, tasks_in};
+ghost use Rattle.word_kinds.specs.KernelLists.TaskBlock.TaskChain.{task_link, tasks_in};
 ghost use Rattle.word_kinds.specs.KernelLists.LinkedList.Walk.{CanWalk};
 ghost use Rattle.word_kinds.specs.KernelModel.HoldsLists.{HoldsLists};
 ghost use Rattle.word_kinds.specs.KernelModel.Lists.{Lists};
 ghost use Rattle.kernel_dispatch.specs.Dispatch.{first_ready_block};
-ghost use Rattle.kernel_dispatch.specs.ReadyTasks.{HasReady, is_in, is_ready_in, is_ready_state};
+ghost use Rattle.kernel_dispatch.specs.DispatchWords.{is_ready_in, is_ready_state};
 
-use crate::ready_tasks::Ready;
 use word_kinds::kernel_lists::{TcbField, field, tasks};
 use word_store::Store;
 
@@ -18,15 +17,6 @@ pub fn choose(store: &Store) -> Option<u32>
     ensures { (l : Lists) → HoldsLists store.now l → result ≡ first_ready_block l }
 {
     first_by_state(store)
-}
-
-/// The same, where `ready` is the set of the ready tasks.
-pub fn choose_ready(store: &Store, ready: &Ready) -> Option<u32>
-    requires { (l : Lists) × HoldsLists store.now l × HasReady ready.now l }
-    ensures { (l : Lists) → HoldsLists store.now l → HasReady ready.now l
-        → result ≡ first_ready_block l }
-{
-    first_in_set(store, ready)
 }
 
 // The first task of the chain whose state is that of a ready one.
@@ -42,21 +32,8 @@ fn first_by_state(store: &Store) -> Option<u32>
     None
 }
 
-// The first task of the chain whose number is in the set.
-fn first_in_set(store: &Store, ready: &Ready) -> Option<u32>
-    requires { CanWalk store.now task_link first_task }
-    ensures { result ≡ find (λ t. is_in ready.now (id_in store.now t)) (tasks_in store.now) }
-{
-    for t in tasks(store) {
-        if ready.has(field(store, t, TcbField::Id)) {
-            return Some(t);
-        }
-    }
-    None
-}
-
-/// Whether the task at t is ready, by its state.
-pub(crate) fn is_ready(store: &Store, t: u32) -> bool
+// Whether the task at t is ready, by its state.
+fn is_ready(store: &Store, t: u32) -> bool
     ensures { result ≡ is_ready_in store.now t }
 {
     has_ready_state(field(store, t, TcbField::State))

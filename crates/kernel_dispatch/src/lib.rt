@@ -3,15 +3,13 @@
 
 pub mod choice;
 mod idleness;
-pub mod ready_tasks;
 mod registers;
 mod resumption;
 mod saving;
 pub mod turns;
 
-pub use choice::{choose, choose_ready};
-pub use ready_tasks::Ready;
-pub use turns::{switch, switch_ready};
+pub use choice::choose;
+pub use turns::switch;
 
 // Shown to the crates above.
 pub use word_kinds::kernel_lists::{

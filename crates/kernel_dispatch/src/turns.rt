@@ -2,14 +2,12 @@
 ghost use Rattle.std.specs.Prelude.{◌≡◌};
 ghost use Rattle.word_kinds.specs.KernelModel.ChangedStore.{HasKeeper};
 ghost use Rattle.word_kinds.specs.KernelModel.Lists.{Lists};
-ghost use Rattle.kernel_dispatch.specs.Dispatch.{CanDispatch, first_ready_block};
+ghost use Rattle.kernel_dispatch.specs.Dispatch.{CanDispatch};
 ghost use Rattle.kernel_dispatch.specs.DispatchWords.{goes_on_in};
-ghost use Rattle.kernel_dispatch.specs.ReadyTasks.{HasReady};
 ghost use Rattle.kernel_dispatch.specs.Turn.{IsDispatched};
 
-use crate::choice::{choose, choose_ready};
+use crate::choice::choose;
 use crate::idleness::idle;
-use crate::ready_tasks::Ready;
 use crate::resumption::resume;
 use word_kinds::KindKeeper;
 use word_kinds::kernel_lists::{EventLog, RootField, TcbField, field, root};
@@ -31,47 +29,6 @@ pub fn switch<Q: KindKeeper, L: EventLog>(
     ensures room { Q.room kinds.new ≡ Q.room kinds.old }
 {
     let next = choose(store);
-    switch_to(store, regs, kinds, next, log);
-}
-
-/// The same, where `ready` is the set of the ready tasks.
-pub fn switch_ready<Q: KindKeeper, L: EventLog>(
-    store: &mut Store,
-    regs: &mut Regs,
-    kinds: &mut Q,
-    ready: &Ready,
-    log: &mut L,
-)
-    requires { (l : Lists) × HasKeeper store.old (Q.tells kinds.old) (Q.room kinds.old) l
-        × CanDispatch l regs.old × HasReady ready.now l }
-    ensures dispatched { (l : Lists)
-        → HasKeeper store.old (Q.tells kinds.old) (Q.room kinds.old) l → CanDispatch l regs.old
-        → HasReady ready.now l
-        → IsDispatched store.old store.new l regs.old regs.new (Q.tells kinds.new)
-        (L.noted log.old) (L.noted log.new) (L.has_failed log.old) (L.has_failed log.new) }
-    ensures room { Q.room kinds.new ≡ Q.room kinds.old }
-{
-    let next = choose_ready(store, ready);
-    switch_to(store, regs, kinds, next, log);
-}
-
-// The task block of the first ready task is this.
-fn switch_to<Q: KindKeeper, L: EventLog>(
-    store: &mut Store,
-    regs: &mut Regs,
-    kinds: &mut Q,
-    next: Option<u32>,
-    log: &mut L,
-)
-    requires { (l : Lists) × HasKeeper store.old (Q.tells kinds.old) (Q.room kinds.old) l
-        × (next ≡ first_ready_block l) }
-    ensures dispatched { (l : Lists)
-        → HasKeeper store.old (Q.tells kinds.old) (Q.room kinds.old) l → CanDispatch l regs.old
-        → next ≡ first_ready_block l
-        → IsDispatched store.old store.new l regs.old regs.new (Q.tells kinds.new)
-        (L.noted log.old) (L.noted log.new) (L.has_failed log.old) (L.has_failed log.new) }
-    ensures room { Q.room kinds.new ≡ Q.room kinds.old }
-{
     if goes_on(store, next) {
         return;
     }

@@ -1,25 +1,22 @@
--- What a dispatch leaves: the first ready task runs, and the same tasks are ready.
+-- What a dispatch leaves: the first ready task runs, and the numbers stay.
 use Rattle.std.proofs.Common.{◌≡◌, ◌↔◌, ℕ, ◌<◌, ◌≤◌, ◌&&◌, Bool, true, false, Option, Some, None, List, map, cond, eqb, refl, sym, ap, ◌∙◌, subst, arith}
-use Rattle.std.specs.List.{AllByRecursion, list_any}
+use Rattle.std.specs.List.{AllByRecursion}
 use Rattle.std.specs.Option.{option_map_or}
 use Rattle.std.proofs.lemmas.Bool.{eqb-true}
 use Rattle.word_store.specs.Count.{IsApart}
 use Rattle.word_store.specs.declared.registers.Regs.{Regs}
 use Rattle.guest_turns.specs.KernelCalls.OwnedWords.Owned.{written}
 use Rattle.guest_turns.specs.KernelCalls.KernelModel.Between.{is_ready}
-use Rattle.guest_turns.specs.KernelCalls.KernelModel.Changes.{change_of}
 use Rattle.guest_turns.specs.KernelCalls.KernelModel.Lists.{Lists}
 use Rattle.guest_turns.specs.KernelCalls.KernelModel.Task.{Task, task_id}
 use Rattle.guest_turns.specs.KernelCalls.KernelModel.ValidLists.{AreValid}
 use Rattle.guest_turns.specs.KernelCalls.KernelModel.ValidTasks.{IsTask, runs}
-use Rattle.guest_turns.proofs.Shown.KernelCalls.KernelModel.AllThings.{all-always}
 use Rattle.guest_turns.proofs.Shown.KernelCalls.KernelModel.EachMember.{all-both, all-each}
 use Rattle.guest_turns.proofs.Shown.KernelCalls.KernelModel.TaskPlaces.{TaskPlace, task-places}
-use Rattle.guest_turns.specs.KernelCalls.KernelDispatch.Dispatch.{CanDispatch, Dispatched, dispatched, first_ready_task, goes_on, packets_taken, resumed, suspended, unchanged, unlinked_words, with_next, with_nobody, with_resumed, with_suspended}
-use Rattle.guest_turns.specs.KernelCalls.KernelDispatch.ReadyTasks.{HasReady, is_ready_id}
+use Rattle.guest_turns.specs.KernelCalls.KernelDispatch.Dispatch.{CanDispatch, Dispatched, dispatched, first_ready_task, goes_on, packets_taken, resumed, unchanged, unlinked_words, with_next, with_nobody, with_resumed, with_suspended}
 use Rattle.guest_turns.specs.GuestTurn.{numbers_of}
 use Rattle.kernel_steps.specs.Parts.{RunsFirst}
-use Rattle.kernel_steps.proofs.DispatchedTasks.{any-kept, bytes-resumed, fields-resumed, first-resumed, id-changed, ids-changed, none-run, resumed-byte, resumed-idle, resumed-kept, suspended-kept}
+use Rattle.kernel_steps.proofs.DispatchedTasks.{bytes-resumed, fields-resumed, first-resumed, ids-changed, none-run, resumed-byte, resumed-idle}
 use Rattle.kernel_steps.proofs.FoundTask.{found-holds, only-found}
 
 -- ---- the three ways of a dispatch
@@ -109,31 +106,6 @@ module _ (words : List ℕ) (l : Lists) (r : Regs) (can : CanDispatch l r) where
 
   pub runs-first : AreValid (dispatched words l r).lists → RunsFirst (dispatched words l r).lists (dispatched words l r).regs
   runs-first v = three-ways words l r Runs goes nobody next v
-
--- ---- the same tasks are ready
-
-pub ready-same : (words : List ℕ) (l : Lists) (r : Regs) → AreValid l → (id : ℕ) → is_ready_id (dispatched words l r).lists id ≡ is_ready_id l id
-ready-same words l r v id =
-    three-ways words l r (λ d. is_ready_id d.lists id ≡ is_ready_id l id) (λ t g. refl) (λ none. before) (λ t is. after t is ∙ before)
-  where
-    each : (n : ℕ) (f : Task → Task) → ((t : Task) → (f t).id ≡ t.id) → (ts : List Task) → AllByRecursion (λ u. is_ready (change_of n f u) ≡ is_ready u) ts
-        → list_any (λ t. eqb t.id id && is_ready t) (map (change_of n f) ts) ≡ list_any (λ t. eqb t.id id && is_ready t) ts
-    each n f same ts kept =
-        any-kept (λ t. eqb t.id id && is_ready t) (change_of n f) ts
-        (all-each (λ u. is_ready (change_of n f u) ≡ is_ready u) (λ u. (eqb (change_of n f u).id id && is_ready (change_of n f u)) ≡ (eqb u.id id && is_ready u))
-        (λ u h. λ i. eqb (id-changed n f same u i) id && h i) ts kept)
-
-    apart : IsApart (map task_id (with_suspended r l).tasks)
-    apart = subst IsApart (sym (ids-changed l.running (suspended r) (λ t. refl) l.tasks)) v.tasks.distinct
-
-    before : is_ready_id (with_suspended r l) id ≡ is_ready_id l id
-    before = each l.running (suspended r) (λ t. refl) l.tasks (all-always (λ u. is_ready (change_of l.running (suspended r) u) ≡ is_ready u) (suspended-kept l.running r) l.tasks)
-
-    after : (t : Task) → first_ready_task (with_suspended r l) ≡ Some t → is_ready_id (with_resumed words t (with_suspended r l)).lists id ≡ is_ready_id (with_suspended r l) id
-    after t is = each t.id resumed (λ u. refl) (with_suspended r l).tasks (resumed-kept (with_suspended r l).tasks t is apart)
-
-pub ready-kept : (ready : List Bool) (words : List ℕ) (l : Lists) (r : Regs) → AreValid l → HasReady ready l → HasReady ready (dispatched words l r).lists
-ready-kept ready words l r v has id low = has id low ∙ sym (ready-same words l r v id)
 
 -- ---- the numbers stay, but for that of the running task
 

@@ -1,7 +1,7 @@
 -- The tasks once the one that ran is suspended and the first ready one runs: who is ready, and of whom the field says that it runs.
-use Rattle.std.proofs.Common.{◌≡◌, ◌↔◌, ℕ, ◌<◌, ◌||◌, Bool, true, false, Some, List, [], ◌∷◌, map, cond, eqb, refl, sym, ap, ◌∙◌, arith}
+use Rattle.std.proofs.Common.{◌≡◌, ◌↔◌, ℕ, ◌<◌, Bool, true, false, Some, List, [], ◌∷◌, map, cond, eqb, refl, sym, ap, ◌∙◌, arith}
 use Rattle.std.specs.Prelude.{find}
-use Rattle.std.specs.List.{AllByRecursion, list_any}
+use Rattle.std.specs.List.{AllByRecursion}
 use Rattle.std.specs.Option.{option_map, option_map_or}
 use Rattle.std.proofs.lemmas.Bool.{eq-eqb, eqb-true}
 use Rattle.word_store.specs.Count.{IsApart}
@@ -26,10 +26,6 @@ find-kept f g (x ∷ xs) all = ap (λ b. cond b (Some (g x)) (find f (map g xs))
     on true more = refl
     on false more = more
 
-pub any-kept : {X : Type 0} (f : X → Bool) (g : X → X) (xs : List X) → AllByRecursion (λ x. f (g x) ≡ f x) xs → list_any f (map g xs) ≡ list_any f xs
-any-kept f g [] all = refl
-any-kept f g (x ∷ xs) all = λ i. all.0 i || any-kept f g xs all.1 i
-
 -- numbers stay
 pub id-changed : (n : ℕ) (f : Task → Task) → ((t : Task) → (f t).id ≡ t.id) → (t : Task) → (change_of n f t).id ≡ t.id
 id-changed n f same t = on (eqb t.id n)
@@ -43,20 +39,6 @@ ids-changed n f same [] = refl
 ids-changed n f same (t ∷ ts) = λ i. id-changed n f same t i ∷ ids-changed n f same ts i
 
 -- ---- the task that ran
-
-ready-suspended : (r : Regs) (t : Task) → is_ready (suspended r t) ≡ is_ready t
-ready-suspended r t = on (eqb t.field 0) refl
-  where
-    on : (b : Bool) → eqb t.field 0 ≡ b → is_ready (record t { saved = r; field = cond b 8 t.field }) ≡ is_ready t
-    on true e = ap (λ f. is_ready (record t { field = f })) (sym (eqb-true t.field 0 e))
-    on false e = refl
-
-pub suspended-kept : (n : ℕ) (r : Regs) (t : Task) → is_ready (change_of n (suspended r) t) ≡ is_ready t
-suspended-kept n r t = on (eqb t.id n)
-  where
-    on : (b : Bool) → is_ready (cond b (suspended r t) t) ≡ is_ready t
-    on true = ready-suspended r t
-    on false = refl
 
 -- it was the only one that ran, so none runs
 not-suspended : (r : Regs) (t : Task) → (suspended r t).field ≡ runs → ⊥

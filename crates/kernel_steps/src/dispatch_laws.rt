@@ -1,10 +1,9 @@
 // What a dispatch leaves.
-ghost use Rattle.std.specs.Prelude.{◌≡◌, Bool, List, ℕ};
+ghost use Rattle.std.specs.Prelude.{◌≡◌, List, ℕ};
 ghost use Rattle.word_store.specs.declared.registers.Regs.{Regs};
 ghost use Rattle.guest_turns.specs.KernelCalls.KernelModel.Lists.{Lists};
 ghost use Rattle.guest_turns.specs.KernelCalls.KernelModel.ValidLists.{AreValid};
 ghost use Rattle.guest_turns.specs.KernelCalls.KernelDispatch.Dispatch.{CanDispatch, dispatched};
-ghost use Rattle.guest_turns.specs.KernelCalls.KernelDispatch.ReadyTasks.{HasReady};
 ghost use Rattle.guest_turns.specs.GuestTurn.{numbers_of};
 ghost use Rattle.kernel_steps.specs.Parts.{RunsFirst};
 
@@ -17,11 +16,4 @@ pub fn dispatch_law()
     ensures numbers { (words : List ℕ) (l : Lists) (r : Regs)
         → numbers_of (dispatched words l r).lists
         ≡ record (numbers_of l) { running = (dispatched words l r).lists.running } }
-{}
-
-/// A dispatch changes nobody's readiness.
-pub fn ready_law()
-    ensures { (ready : List Bool) (words : List ℕ) (l : Lists) (r : Regs) → AreValid l
-        → HasReady ready l
-        → HasReady ready (dispatched words l r).lists }
 {}

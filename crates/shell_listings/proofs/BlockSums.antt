@@ -19,7 +19,7 @@ use Rattle.kernel_dispatch.specs.KernelModel.ValidLists.{AreValid}
 use Rattle.kernel_dispatch.proofs.Shown.KernelModel.BlockStarts.{Tiles-Follow}
 use Rattle.kernel_dispatch.proofs.Shown.KernelModel.Reading.{read-lists}
 use Rattle.shell_listings.specs.declared.blocks.BlockCounts.{BlockCounts}
-use Rattle.shell_listings.specs.BlockCounts.{MayCount, counted, counts_from, counts_of, no_counts, with_free, with_used}
+use Rattle.shell_listings.specs.BlockCounts.{counted, counts_from, counts_of, no_counts, with_free, with_used}
 use Rattle.shell_listings.specs.BlockLine.{block_line, count_text, free_blocks, largest_run, line_of_counts, most_in_block_line, used_blocks, words_of_blocks}
 use Rattle.shell_listings.proofs.LineLengths.{few_digits}
 
@@ -41,15 +41,6 @@ pub record MayCountAll (c : BlockCounts) (bs : List Block) : Type 0 where
   pub largest : c.largest ≤ c.free_words
   pub words : c.used_words + c.free_words + words_of_blocks bs < 2 ^ 32
   pub some : HaveWords bs
-
-pub may-count : (c : BlockCounts) (b : Block) (bs : List Block) → MayCountAll c (b ∷ bs) → MayCount c b
-may-count c b bs m = record {
-  used = omega (arith, m.used, m.words, m.some.0, words-more b bs);
-  used_words = omega (arith, m.words, words-more b bs);
-  free = omega (arith, m.free, m.words, m.some.0, words-more b bs);
-  free_words = omega (arith, m.words, words-more b bs);
-  run = omega (arith, m.run, m.words, words-more b bs);
-}
 
 pub counted-more : (c : BlockCounts) (b : Block) (bs : List Block) → MayCountAll c (b ∷ bs) → MayCountAll (counted c b) bs
 counted-more c b bs m = elim b.free as (λ free. MayCountAll (cond free (with_free c b) (with_used c b)) bs) [

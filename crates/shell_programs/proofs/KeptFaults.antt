@@ -21,11 +21,12 @@ use Rattle.kernel_residents.proofs.Shown.FaultReporter.FaultPacket.{free-is}
 use Rattle.kernel_residents.specs.KernelCalls.TaskCalls.DeleteTask.{has_packet_out, resident_packets}
 use Rattle.kernel_boot.specs.BegunTask.{begun as begun_task}
 use Rattle.kernel_residents.specs.KernelCalls.KernelModel.Standing.{Standing}
+use Rattle.kernel_residents.specs.KernelCalls.KernelModel.declared.numbers.TheConstants.{SHELL_PACKET}
 use Rattle.shell_programs.specs.ClearedTasks.{cleared}
 use Rattle.shell_programs.specs.StartedProgram.{begun, start_program}
 use Rattle.shell_programs.specs.declared.programs.Priority.{Priority}
 use Rattle.kernel_residents.specs.KernelCalls.PacketCalls.PacketMoves.{sent_packet}
-use Rattle.shell_programs.specs.ShellPacket.{posted, shell_packet}
+use Rattle.shell_programs.specs.ShellPacket.{posted}
 use Rattle.shell_programs.proofs.SentRules.{posted-is, queue-with}
 use Rattle.shell_programs.proofs.KeptRules.{other-number, other-task}
 use Rattle.shell_programs.proofs.KeptSteps.{AllowsBlocks, AllowsNew, cleared-keeps, started-keeps}
@@ -39,9 +40,6 @@ Tells ts p = eqb p.address fault_packet ≡ true → has_unreported p.sender ts 
 pub record FaultsWait (l : Lists) : Type 0 where
   pub waits : has_task 2 l.tasks ≡ true → l.fault_packet_free ≡ not (list_any is_unreported l.tasks)
   pub sender : AllByRecursion (Tells l.tasks) (work_of 2 l.tasks)
-
-pub faults-of : (k : Kernel) → FaultsStand k → FaultsWait k.lists
-faults-of k h = record { waits = h.waits; sender = h.sender }
 
 pub tells-more : (ts us : List Task) → ((id : ℕ) → has_unreported id us ≡ has_unreported id ts) → (ps : List QueuedPacket) → AllByRecursion (Tells ts) ps → AllByRecursion (Tells us) ps
 tells-more ts us same [] all = tt
@@ -257,7 +255,7 @@ posted-faults m to k low h = subst (λ l. FaultsStand (record m { lists = l })) 
 
     new : to ≡ 2 → AllByRecursion (Tells l.tasks) ps
     new e =
-        all-append (Tells l.tasks) (work_of to l.tasks) (sent_packet k.words l (Work to) shell_packet 1 ∷ [])
+        all-append (Tells l.tasks) (work_of to l.tasks) (sent_packet k.words l (Work to) SHELL_PACKET 1 ∷ [])
         (subst (λ i. AllByRecursion (Tells l.tasks) (work_of i l.tasks)) (sym e) h.sender) ((λ e. absurd (false≢true e)), tt)
 
     x : FaultsWait after
