@@ -40,11 +40,11 @@ use Rattle.kernel_calls.specs.CoroutineCalls.DeleteCo.{delete_tests, deleteco, w
 use Rattle.kernel_calls.specs.CoroutineCalls.ResumeCo.{resume_tests, resumed_itself}
 use Rattle.kernel_calls.specs.CoroutineCalls.Switched as switches
 use Rattle.kernel_calls.specs.CoroutineCalls.Switched.{Switched, switched}
-use Rattle.kernel_calls.specs.Calls.{Called, answered, made, of_made, of_switched, of_wait, past_call, requested}
-use Rattle.kernel_calls.specs.declared.requests.CallOutcome.{CallOutcome}
-use Rattle.kernel_calls.specs.declared.requests.CallOutcome.TheVariants.{Done, Outside as OutsideStore, Quit as Quits, Unknown, Waits}
-use Rattle.kernel_calls.specs.declared.requests.KernelCall.{KernelCall}
-use Rattle.kernel_calls.specs.declared.requests.KernelCall.TheVariants.{AddModule, CallCo, ChangePri, CoWait, CreateCo, CreateTask, DeleteCo, DeleteTask, Dqpkt, Freevec, Getvec, Hold, MulDiv, Qpkt, Quit, Release, ResumeCo, SetFlags, TaskWait, TestFlags, Unload, Wrch}
+use Rattle.kernel_calls.specs.Calls.{Called, answered, made, of_made, of_switched, of_wait, past_call, made_if_read}
+use Rattle.kernel_calls.specs.declared.call_numbers.CallOutcome.{CallOutcome}
+use Rattle.kernel_calls.specs.declared.call_numbers.CallOutcome.TheVariants.{Done, Outside as OutsideStore, Quit as Quits, Unknown, Waits}
+use Rattle.kernel_calls.specs.declared.call_numbers.KernelCall.{KernelCall}
+use Rattle.kernel_calls.specs.declared.call_numbers.KernelCall.TheVariants.{AddModule, CallCo, ChangePri, CoWait, CreateCo, CreateTask, DeleteCo, DeleteTask, Dqpkt, Freevec, Getvec, Hold, MulDiv, Qpkt, Quit, Release, ResumeCo, SetFlags, TaskWait, TestFlags, Unload, Wrch}
 use Rattle.guest_turns.specs.GuestTurn.{Numbers}
 use Rattle.guest_turns.proofs.RunningField.{RunsIn, moved-runs, one-runs, queue-runs, runs-changed, runs-found, runs-inserted, runs-without}
 
@@ -221,9 +221,9 @@ module _ (nums : Numbers) (l : Lists) (h : RunsIn nums l) where
   call-keeps s r (MulDiv a b c) = record { lists = h; same = refl }
   call-keeps s r (AddModule n m) = made-keeps r (add_module s l n m) (add_module-runs s n m)
 
-  pub request-keeps : (s : List ℕ) (r : Regs) (q : Result KernelCall CallOutcome) → Keeps nums r.c (requested s l r q)
-  request-keeps s r (Ok call) = call-keeps s (past_call r) call
-  request-keeps s r (Err outcome) = record { lists = h; same = refl }
+  pub read-keeps : (s : List ℕ) (r : Regs) (q : Result KernelCall CallOutcome) → Keeps nums r.c (made_if_read s l r q)
+  read-keeps s r (Ok call) = call-keeps s (past_call r) call
+  read-keeps s r (Err outcome) = record { lists = h; same = refl }
 
 -- ---- how calls end
 

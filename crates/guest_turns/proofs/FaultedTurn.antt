@@ -7,11 +7,11 @@ use Rattle.cint_exec.specs.declared.Outcome.{Outcome}
 use Rattle.cint_exec.specs.declared.Outcome.TheVariants.{Next, Sys, Returned, Fault as Faulted}
 use Rattle.cint_exec.proofs.Unexecuted.{stays-instruction}
 use Rattle.kernel_calls.specs.KernelModel.Lists.{Lists}
-use Rattle.kernel_calls.specs.Calls.{kernel_call, requested}
-use Rattle.kernel_calls.specs.Requests.{call_of}
-use Rattle.kernel_calls.specs.declared.requests.CallOutcome.{CallOutcome}
-use Rattle.kernel_calls.specs.declared.requests.CallOutcome.TheVariants.{Done, Outside as OutsideStore, Quit, Unknown, Waits}
-use Rattle.kernel_calls.specs.declared.requests.KernelCall.{KernelCall}
+use Rattle.kernel_calls.specs.Calls.{kernel_call, made_if_read}
+use Rattle.kernel_calls.specs.CallNumbers.{call_of}
+use Rattle.kernel_calls.specs.declared.call_numbers.CallOutcome.{CallOutcome}
+use Rattle.kernel_calls.specs.declared.call_numbers.CallOutcome.TheVariants.{Done, Outside as OutsideStore, Quit, Unknown, Waits}
+use Rattle.kernel_calls.specs.declared.call_numbers.KernelCall.{KernelCall}
 use Rattle.guest_turns.specs.Guarded.{is_owned}
 use Rattle.guest_turns.specs.GuestTurn.{IsUntouched, after_instruction, called, end_of_call, turn_without_reporter}
 use Rattle.guest_turns.specs.declared.turns.TurnEnd.TheVariants.{Faults}
@@ -25,14 +25,14 @@ made-goes place f Unknown is e = is
 made-goes place f (OutsideStore a) is e = is
 
 module _ (l : Lists) (f : Fault) where
-  request-untouched : (s : List ℕ) (r : Regs) (place : ℕ) (q : Result KernelCall CallOutcome) → end_of_call place (requested s l r q).outcome ≡ Faults f
-      → IsUntouched s l r (called s place (requested s l r q))
-  request-untouched s r place (Ok call) e = absurd (made-goes place f _ (call-ends s l _ call) e)
-  request-untouched s r place (Err outcome) e = record { words = refl; lists = refl; plain = refl; regs = refl; bytes = refl; events = refl }
+  read-untouched : (s : List ℕ) (r : Regs) (place : ℕ) (q : Result KernelCall CallOutcome) → end_of_call place (made_if_read s l r q).outcome ≡ Faults f
+      → IsUntouched s l r (called s place (made_if_read s l r q))
+  read-untouched s r place (Ok call) e = absurd (made-goes place f _ (call-ends s l _ call) e)
+  read-untouched s r place (Err outcome) e = record { words = refl; lists = refl; plain = refl; regs = refl; bytes = refl; events = refl }
 
   call-untouched : (s : List ℕ) (r : Regs) (place : ℕ) → end_of_call place (kernel_call s l r).outcome ≡ Faults f → IsUntouched s l r (called s place (kernel_call s l r))
   unfolding kernel_call
-  call-untouched s r place e = request-untouched s r place (call_of s r) e
+  call-untouched s r place e = read-untouched s r place (call_of s r) e
 
   -- where it left these words and registers
   from-untouched : (s : List ℕ) (r : Regs) (outcome : Outcome) → (after_instruction l s r outcome).ends ≡ Faults f → IsUntouched s l r (after_instruction l s r outcome) × (outcome ≡ Next → ⊥)

@@ -18,10 +18,10 @@ use Rattle.kernel_calls.specs.CallAnswers.Callers.{HasCaller}
 use Rattle.kernel_calls.specs.CoroutineCalls.CallersCoroutines.{coroutines_of_caller}
 use Rattle.kernel_calls.specs.CoroutineCalls.CoWait.{ended, with_ended}
 use Rattle.kernel_calls.specs.Calls.{kernel_call}
-use Rattle.kernel_calls.specs.Requests.{call_of}
+use Rattle.kernel_calls.specs.CallNumbers.{call_of}
 use Rattle.guest_turns.specs.Guarded.{is_owned}
 use Rattle.guest_turns.specs.GuestTurn.{Numbers, RunsAlone, Turned, after_instruction, died, dies, numbers_of, turn_without_reporter}
-use Rattle.guest_turns.proofs.CallFields.{Keeps, KeepsSwitched, request-keeps, switched-keeps}
+use Rattle.guest_turns.proofs.CallFields.{Keeps, KeepsSwitched, read-keeps, switched-keeps}
 use Rattle.guest_turns.proofs.RunningField.{RunsAs, RunsIn, one-runs}
 
 -- ---- the instruction
@@ -48,7 +48,7 @@ pub record Fits (nums : Numbers) (r : Regs) (m : Turned) : Type 0 where
 module _ (nums : Numbers) (l : Lists) (h : RunsIn nums l) where
   called-keeps : (s : List ℕ) (r : Regs) → Keeps nums r.c (kernel_call s l r)
   unfolding kernel_call
-  called-keeps s r = request-keeps nums l h s r (call_of s r)
+  called-keeps s r = read-keeps nums l h s r (call_of s r)
 
   returned-keeps : (r : Regs) (b : Bool) → KeepsSwitched nums r.c (cond b (dies l r) (ended l r))
   returned-keeps r true = record { lists = one-runs nums l l.running died (λ t one e. cc) h; same = refl }

@@ -21,8 +21,8 @@ use Rattle.kernel_calls.specs.CoroutineCalls.CoWait.{ended}
 use Rattle.kernel_calls.specs.CoroutineCalls.Switched.{Switched}
 use Rattle.kernel_calls.specs.CallAnswers.Outside.{Outside}
 use Rattle.kernel_calls.specs.Calls.{Called, kernel_call}
-use Rattle.kernel_calls.specs.declared.requests.CallOutcome.{CallOutcome}
-use Rattle.kernel_calls.specs.declared.requests.CallOutcome.TheVariants.{Done, Outside as OutsideStore, Quit, Unknown, Waits}
+use Rattle.kernel_calls.specs.declared.call_numbers.CallOutcome.{CallOutcome}
+use Rattle.kernel_calls.specs.declared.call_numbers.CallOutcome.TheVariants.{Done, Outside as OutsideStore, Quit, Unknown, Waits}
 use Rattle.guest_turns.specs.Guarded.{is_owned}
 use Rattle.guest_turns.specs.declared.turns.TurnEnd.{TurnEnd}
 use Rattle.guest_turns.specs.declared.turns.TurnEnd.TheVariants.{Faults, Goes, Quits}

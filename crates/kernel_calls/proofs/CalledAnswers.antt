@@ -16,8 +16,8 @@ use Rattle.coroutine_calls.specs.Switched.{IsSwitched, Switched}
 use Rattle.packet_calls.specs.TaskWait.{answer_of_wait, first_of_queue}
 use Rattle.task_calls.specs.CallAnswers.Outside.{Outside}
 use Rattle.kernel_calls.specs.Calls.{IsCalled, answered, ended_with, of_byte, of_made, of_switched, of_wait, regs_of_switch}
-use Rattle.kernel_calls.specs.declared.requests.CallOutcome.{CallOutcome}
-use Rattle.kernel_calls.specs.declared.requests.CallOutcome.TheVariants.{Done, Waits}
+use Rattle.kernel_calls.specs.declared.call_numbers.CallOutcome.{CallOutcome}
+use Rattle.kernel_calls.specs.declared.call_numbers.CallOutcome.TheVariants.{Done, Waits}
 
 -- a call that leaves the same words owned tells no keeper
 pub made-same : (s t : List ℕ) (tells : List ℕ → Type 0) (l : Lists) (answer : Result ℕ ℕ) (m : Made) → Leaves s t answer m → Knows tells l

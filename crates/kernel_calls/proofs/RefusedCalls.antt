@@ -12,10 +12,10 @@ use Rattle.task_calls.specs.KernelDispatch.KernelModel.Owned.{owned}
 use Rattle.task_calls.specs.CallAnswers.Made.{Made, by_refusal, done, unless_refused}
 use Rattle.task_calls.specs.CallAnswers.Refusals.{first_refusal}
 use Rattle.task_calls.specs.BlockCalls.Freevec.{freevec_tests, with_given}
-use Rattle.kernel_calls.specs.Calls.{kernel_call, made, of_made, past_call, requested}
+use Rattle.kernel_calls.specs.Calls.{kernel_call, made, of_made, past_call, made_if_read}
 use Rattle.kernel_calls.specs.Refusals.{IsRefused, refused, tests_of}
-use Rattle.kernel_calls.specs.declared.requests.KernelCall.{KernelCall}
-use Rattle.kernel_calls.specs.declared.requests.KernelCall.TheVariants.{AddModule, CallCo, ChangePri, CoWait, CreateCo, CreateTask, DeleteCo, DeleteTask, Dqpkt, Freevec, Getvec, Hold, MulDiv, Qpkt, Quit, Release, ResumeCo, SetFlags, TaskWait, TestFlags, Unload, Wrch}
+use Rattle.kernel_calls.specs.declared.call_numbers.KernelCall.{KernelCall}
+use Rattle.kernel_calls.specs.declared.call_numbers.KernelCall.TheVariants.{AddModule, CallCo, ChangePri, CoWait, CreateCo, CreateTask, DeleteCo, DeleteTask, Dqpkt, Freevec, Getvec, Hold, MulDiv, Qpkt, Quit, Release, ResumeCo, SetFlags, TaskWait, TestFlags, Unload, Wrch}
 
 module _ (s : List ℕ) (l : Lists) (r : Regs) (code : ℕ) where
   by-made : (tests : List (Bool × ℕ)) (m : Made) → first_refusal tests ≡ Some code → of_made (past_call r) (unless_refused tests l m) ≡ refused code l r
@@ -52,7 +52,7 @@ module _ (s : List ℕ) (l : Lists) (r : Regs) (code : ℕ) where
 
   pub call-refused : IsRefused s l r code → kernel_call s l r ≡ refused code l r
   unfolding kernel_call
-  call-refused x = ap (requested s l r) x.asked ∙ made-refused x.call x.failed
+  call-refused x = ap (made_if_read s l r) x.asked ∙ made-refused x.call x.failed
 
 -- a store that holds the same lists, and in which no plain word has changed, is the same
 pub same-store : (s t : List ℕ) (l : Lists) → HoldsLists s l → IsChanged s t l [] → t ≡ s

@@ -32,11 +32,11 @@ use Rattle.coroutine_calls.specs.CreateCo.{createco}
 use Rattle.coroutine_calls.specs.DeleteCo.{deleteco}
 use Rattle.coroutine_calls.specs.ResumeCo.{resumeco}
 use Rattle.coroutine_calls.specs.Switched.{Switched}
-use Rattle.kernel_calls.specs.Requests.{call_of}
-use Rattle.kernel_calls.specs.declared.requests.CallOutcome.{CallOutcome}
-use Rattle.kernel_calls.specs.declared.requests.CallOutcome.TheVariants.{Done, Waits, Quit as Quits}
-use Rattle.kernel_calls.specs.declared.requests.KernelCall.{KernelCall}
-use Rattle.kernel_calls.specs.declared.requests.KernelCall.TheVariants.{AddModule, CallCo, ChangePri, CoWait, CreateCo, CreateTask, DeleteCo, DeleteTask, Dqpkt, Freevec, Getvec, Hold, MulDiv, Qpkt, Quit, Release, ResumeCo, SetFlags, TaskWait, TestFlags, Unload, Wrch}
+use Rattle.kernel_calls.specs.CallNumbers.{call_of}
+use Rattle.kernel_calls.specs.declared.call_numbers.CallOutcome.{CallOutcome}
+use Rattle.kernel_calls.specs.declared.call_numbers.CallOutcome.TheVariants.{Done, Waits, Quit as Quits}
+use Rattle.kernel_calls.specs.declared.call_numbers.KernelCall.{KernelCall}
+use Rattle.kernel_calls.specs.declared.call_numbers.KernelCall.TheVariants.{AddModule, CallCo, ChangePri, CoWait, CreateCo, CreateTask, DeleteCo, DeleteTask, Dqpkt, Freevec, Getvec, Hold, MulDiv, Qpkt, Quit, Release, ResumeCo, SetFlags, TaskWait, TestFlags, Unload, Wrch}
 
 -- What a call leaves: the lists, the plain words that it wrote, the registers, the bytes that went to the console, its events, and
 -- how it ended.
@@ -123,12 +123,12 @@ made s l r (MulDiv a b c) = ended_with Done l (divided r (mul_div a b c))
 made s l r (AddModule id m) = of_made r (add_module s l id m)
 
 -- it is made past the SYS; where there is no such call, or an argument is outside the store, nothing changes
-abbrev pub requested : List ℕ → Lists → Regs → Result KernelCall CallOutcome → Called
-requested s l r (Ok call) = made s l (past_call r) call
-requested s l r (Err outcome) = ended_with outcome l r
+abbrev pub made_if_read : List ℕ → Lists → Regs → Result KernelCall CallOutcome → Called
+made_if_read s l r (Ok call) = made s l (past_call r) call
+made_if_read s l r (Err outcome) = ended_with outcome l r
 
 unfoldable pub kernel_call : List ℕ → Lists → Regs → Called
-kernel_call s l r = requested s l r (call_of s r)
+kernel_call s l r = made_if_read s l r (call_of s r)
 
 -- ---- what the code leaves
 

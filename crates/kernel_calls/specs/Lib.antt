@@ -1,4 +1,4 @@
-pub mod Requests
+pub mod CallNumbers
 pub mod Calls
 pub mod Refusals
 -- shown to the crates above

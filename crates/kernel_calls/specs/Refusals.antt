@@ -23,10 +23,10 @@ use Rattle.coroutine_calls.specs.CreateCo.{create_tests}
 use Rattle.coroutine_calls.specs.DeleteCo.{delete_tests}
 use Rattle.coroutine_calls.specs.ResumeCo.{resume_tests}
 use Rattle.kernel_calls.specs.Calls.{Called}
-use Rattle.kernel_calls.specs.Requests.{call_of}
-use Rattle.kernel_calls.specs.declared.requests.CallOutcome.TheVariants.{Done}
-use Rattle.kernel_calls.specs.declared.requests.KernelCall.{KernelCall}
-use Rattle.kernel_calls.specs.declared.requests.KernelCall.TheVariants.{AddModule, CallCo, ChangePri, CoWait, CreateCo, CreateTask, DeleteCo, DeleteTask, Dqpkt, Freevec, Getvec, Hold, MulDiv, Qpkt, Quit, Release, ResumeCo, SetFlags, TaskWait, TestFlags, Unload, Wrch}
+use Rattle.kernel_calls.specs.CallNumbers.{call_of}
+use Rattle.kernel_calls.specs.declared.call_numbers.CallOutcome.TheVariants.{Done}
+use Rattle.kernel_calls.specs.declared.call_numbers.KernelCall.{KernelCall}
+use Rattle.kernel_calls.specs.declared.call_numbers.KernelCall.TheVariants.{AddModule, CallCo, ChangePri, CoWait, CreateCo, CreateTask, DeleteCo, DeleteTask, Dqpkt, Freevec, Getvec, Hold, MulDiv, Qpkt, Quit, Release, ResumeCo, SetFlags, TaskWait, TestFlags, Unload, Wrch}
 
 -- the tests of each call in their order, each with the code of its refusal
 abbrev pub tests_of : List ℕ → Lists → KernelCall → List (Bool × ℕ)

@@ -8,7 +8,7 @@ ghost use Rattle.task_calls.specs.CreateTask.{create_task};
 ghost use Rattle.task_calls.specs.CallAnswers.Outside.{outside};
 ghost use Rattle.kernel_calls.specs.Calls.{IsCalled, answered, kernel_call, made, regs_of_switch};
 
-use crate::requests::{CallOutcome, KernelCall, read_call};
+use crate::call_numbers::{CallOutcome, KernelCall, read_call};
 use coroutine_calls::{callco, cowait, createco, deleteco, resumeco};
 use module_calls::{add_module, unload_module};
 use packet_calls::{dqpkt, qpkt, taskwait};
@@ -42,9 +42,9 @@ pub fn call<Q: KindKeeper, L: EventLog>(
     ensures room { Q.room kinds.new ≡ Q.room kinds.old }
 {
     match read_call(store, *regs) {
-        Ok(request) => {
+        Ok(call) => {
             regs.pc = add(regs.pc, 1);
-            make(store, regs, kinds, out, log, request)
+            make(store, regs, kinds, out, log, call)
         }
         Err(end) => end,
     }
@@ -57,7 +57,7 @@ fn make<Q: KindKeeper, L: EventLog>(
     kinds: &mut Q,
     out: &mut Output,
     log: &mut L,
-    request: KernelCall,
+    call: KernelCall,
 ) -> CallOutcome
     requires caller { (l : Lists)
         × HasKeeper store.old (Q.tells kinds.old) (Q.room kinds.old) l × HasCaller l }
@@ -67,10 +67,10 @@ fn make<Q: KindKeeper, L: EventLog>(
         → IsCalled store.old store.new regs.new (Q.tells kinds.new)
         (outside out.old (L.noted log.old) (L.has_failed log.old))
         (outside out.new (L.noted log.new) (L.has_failed log.new))
-        result (made store.old l regs.old request) }
+        result (made store.old l regs.old call) }
     ensures room { Q.room kinds.new ≡ Q.room kinds.old }
 {
-    match request {
+    match call {
         KernelCall::Quit { result } => {
             answer(regs, Ok(u32::MAX));
             CallOutcome::Quit(result)

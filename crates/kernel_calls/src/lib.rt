@@ -1,12 +1,12 @@
 // The kernel call: a guest asks, by number and arguments, and its registers answer.
 #![tactic(auto)]
 
+pub mod call_numbers;
 pub mod calls;
 pub mod laws;
-pub mod requests;
 
+pub use call_numbers::{CallOutcome, KernelCall};
 pub use calls::call;
-pub use requests::{CallOutcome, KernelCall};
 
 // Shown to the crates above.
 pub use coroutine_calls::ended;

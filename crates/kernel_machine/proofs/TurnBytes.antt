@@ -12,11 +12,11 @@ use Rattle.kernel_steps.specs.KernelCalls.KernelModel.Lists.{Lists}
 use Rattle.kernel_steps.specs.KernelCalls.KernelModel.ValidQueues.Place.{Work}
 use Rattle.kernel_steps.specs.KernelCalls.CallAnswers.Made.{Made}
 use Rattle.kernel_steps.specs.KernelCalls.PacketCalls.TaskWait.{taskwait}
-use Rattle.kernel_steps.specs.KernelCalls.Calls.{kernel_call, made, of_wait, requested}
-use Rattle.kernel_steps.specs.KernelCalls.Requests.{call_of}
-use Rattle.kernel_steps.specs.KernelCalls.declared.requests.CallOutcome.{CallOutcome}
-use Rattle.kernel_steps.specs.KernelCalls.declared.requests.KernelCall.{KernelCall}
-use Rattle.kernel_steps.specs.KernelCalls.declared.requests.KernelCall.TheVariants.{TaskWait}
+use Rattle.kernel_steps.specs.KernelCalls.Calls.{kernel_call, made, of_wait, made_if_read}
+use Rattle.kernel_steps.specs.KernelCalls.CallNumbers.{call_of}
+use Rattle.kernel_steps.specs.KernelCalls.declared.call_numbers.CallOutcome.{CallOutcome}
+use Rattle.kernel_steps.specs.KernelCalls.declared.call_numbers.KernelCall.{KernelCall}
+use Rattle.kernel_steps.specs.KernelCalls.declared.call_numbers.KernelCall.TheVariants.{TaskWait}
 use Rattle.kernel_steps.specs.GuestTurns.Guarded.{is_owned}
 use Rattle.kernel_steps.specs.GuestTurns.GuestTurn.{after_instruction, turn_without_reporter}
 use Rattle.kernel_steps.specs.GuestSteps.{guest_step}
@@ -43,13 +43,13 @@ call-bytes : (s : List ℕ) (l : Lists) (r : Regs) (call : KernelCall) → lengt
 call-bytes s l r TaskWait = wait-bytes r (queue_of (Work l.running) l) (taskwait l)
 call-bytes s l r _ = omega arith
 
-request-bytes : (s : List ℕ) (l : Lists) (r : Regs) (q : Result KernelCall CallOutcome) → length (requested s l r q).bytes ≤ 1
-request-bytes s l r (Ok call) = call-bytes s l _ call
-request-bytes s l r (Err outcome) = omega arith
+read-bytes : (s : List ℕ) (l : Lists) (r : Regs) (q : Result KernelCall CallOutcome) → length (made_if_read s l r q).bytes ≤ 1
+read-bytes s l r (Ok call) = call-bytes s l _ call
+read-bytes s l r (Err outcome) = omega arith
 
 kernel-bytes : (s : List ℕ) (l : Lists) (r : Regs) → length (kernel_call s l r).bytes ≤ 1
 unfolding kernel_call
-kernel-bytes s l r = request-bytes s l r (call_of s r)
+kernel-bytes s l r = read-bytes s l r (call_of s r)
 
 after-bytes : (l : Lists) (s : List ℕ) (r : Regs) (outcome : Outcome) → length (after_instruction l s r outcome).bytes ≤ 1
 after-bytes l s r Next = omega arith

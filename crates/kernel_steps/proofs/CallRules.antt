@@ -52,11 +52,11 @@ use Rattle.guest_turns.specs.KernelCalls.CoroutineCalls.Switched.{Switched, swit
 use Rattle.cint_exec.specs.Instruction.{After, instruction}
 use Rattle.cint_exec.specs.declared.Outcome.{Outcome}
 use Rattle.cint_exec.specs.declared.Outcome.TheVariants.{Next, Sys, Returned, Fault as Faulted}
-use Rattle.guest_turns.specs.KernelCalls.Calls.{kernel_call, made, of_switched, of_wait, past_call, requested}
-use Rattle.guest_turns.specs.KernelCalls.Requests.{call_of}
-use Rattle.guest_turns.specs.KernelCalls.declared.requests.CallOutcome.{CallOutcome}
-use Rattle.guest_turns.specs.KernelCalls.declared.requests.KernelCall.{KernelCall}
-use Rattle.guest_turns.specs.KernelCalls.declared.requests.KernelCall.TheVariants.{AddModule, CallCo, ChangePri, CoWait, CreateCo, CreateTask, DeleteCo, DeleteTask, Dqpkt, Freevec, Getvec, Hold, MulDiv, Qpkt, Quit, Release, ResumeCo, SetFlags, TaskWait, TestFlags, Unload, Wrch}
+use Rattle.guest_turns.specs.KernelCalls.Calls.{kernel_call, made, of_switched, of_wait, past_call, made_if_read}
+use Rattle.guest_turns.specs.KernelCalls.CallNumbers.{call_of}
+use Rattle.guest_turns.specs.KernelCalls.declared.call_numbers.CallOutcome.{CallOutcome}
+use Rattle.guest_turns.specs.KernelCalls.declared.call_numbers.KernelCall.{KernelCall}
+use Rattle.guest_turns.specs.KernelCalls.declared.call_numbers.KernelCall.TheVariants.{AddModule, CallCo, ChangePri, CoWait, CreateCo, CreateTask, DeleteCo, DeleteTask, Dqpkt, Freevec, Getvec, Hold, MulDiv, Qpkt, Quit, Release, ResumeCo, SetFlags, TaskWait, TestFlags, Unload, Wrch}
 use Rattle.guest_turns.specs.Guarded.{is_owned}
 use Rattle.guest_turns.specs.GuestTurn.{after_instruction, died, dies, turn_without_reporter}
 use Rattle.cli_shell.proofs.Shown.KernelResidents.FaultReporter.FaultsKept.{FaultsHold, Tells}
@@ -318,13 +318,13 @@ module _ (l : Lists) where
     call-keeps s r (MulDiv a b c) = keeps-none l
     call-keeps s r (AddModule n m) = add_module-keeps s n m
 
-    request-keeps : (s : List ℕ) (r : Regs) (q : Result KernelCall CallOutcome) → KeepsRules l (requested s l r q).lists
-    request-keeps s r (Ok call) = call-keeps s (past_call r) call
-    request-keeps s r (Err outcome) = keeps-none l
+    read-keeps : (s : List ℕ) (r : Regs) (q : Result KernelCall CallOutcome) → KeepsRules l (made_if_read s l r q).lists
+    read-keeps s r (Ok call) = call-keeps s (past_call r) call
+    read-keeps s r (Err outcome) = keeps-none l
 
     kernel_call-keeps : (s : List ℕ) (r : Regs) → KeepsRules l (kernel_call s l r).lists
     unfolding kernel_call
-    kernel_call-keeps s r = request-keeps s r (call_of s r)
+    kernel_call-keeps s r = read-keeps s r (call_of s r)
 
     -- ---- the turn
 

@@ -22,8 +22,8 @@ use Rattle.cint_exec.specs.Instruction.{After, after, decided, decode_fault, eff
 use Rattle.cint_exec.specs.Switch.{compared, halfword, jump_by, search_from, switch_by_key, switch_by_label, table_byte}
 use Rattle.guest_turns.specs.KernelCalls.KernelModel.Lists.{Lists}
 use Rattle.guest_turns.specs.KernelCalls.Calls.{kernel_call}
-use Rattle.guest_turns.specs.KernelCalls.declared.requests.CallOutcome.{CallOutcome}
-use Rattle.guest_turns.specs.KernelCalls.declared.requests.CallOutcome.TheVariants.{Done, Outside as OutsideStore, Quit, Unknown, Waits}
+use Rattle.guest_turns.specs.KernelCalls.declared.call_numbers.CallOutcome.{CallOutcome}
+use Rattle.guest_turns.specs.KernelCalls.declared.call_numbers.CallOutcome.TheVariants.{Done, Outside as OutsideStore, Quit, Unknown, Waits}
 use Rattle.guest_turns.specs.Guarded.{is_owned}
 use Rattle.guest_turns.specs.GuestTurn.{after_instruction, end_of_call, turn_without_reporter}
 use Rattle.guest_turns.specs.declared.turns.TurnEnd.{TurnEnd}

@@ -1,6 +1,6 @@
 use Rattle.std.proofs.Common.{refl, sym, ◌∙◌, subst}
 use Rattle.task_calls.specs.CallAnswers.Outside.{outside}
-use Rattle.kernel_calls.specs.Calls.{IsCalled, kernel_call, made, requested}
+use Rattle.kernel_calls.specs.Calls.{IsCalled, kernel_call, made, made_if_read}
 use Rattle.kernel_calls.proofs.CalledAnswers.{called-ended}
 use Rattle.kernel_calls.proofs.calls.call.Goals as goal
 
@@ -12,13 +12,13 @@ returns-in-Ok-clause-called g c = λ l k calls.
     (λ q. IsCalled s c.make.new.store c.make.new.regs (g.Q.KindKeeper.tells c.make.new.kinds)
     (outside c.args.out.now (g.L.EventLog.noted c.args.log.now) (g.L.EventLog.has_failed c.args.log.now))
     (outside c.make.new.out (g.L.EventLog.noted c.make.new.log) (g.L.EventLog.has_failed c.make.new.log))
-    c.make.result (requested s l c.args.regs.now q))
+    c.make.result (made_if_read s l c.args.regs.now q))
     (sym c.in-Ok.is ∙ c.read_call.ensures)
     (subst
     (λ pc. IsCalled s c.make.new.store c.make.new.regs (g.Q.KindKeeper.tells c.make.new.kinds)
     (outside c.args.out.now (g.L.EventLog.noted c.args.log.now) (g.L.EventLog.has_failed c.args.log.now))
     (outside c.make.new.out (g.L.EventLog.noted c.make.new.log) (g.L.EventLog.has_failed c.make.new.log))
-    c.make.result (made s l (record c.args.regs.now { pc = pc }) c.in-Ok.request))
+    c.make.result (made s l (record c.args.regs.now { pc = pc }) c.in-Ok.call))
     c.add-regs.ensures
     (c.make.ensures.called l k calls))
 
@@ -30,7 +30,7 @@ returns-in-Err-clause-called g c = λ l k calls.
     (λ q. IsCalled s s c.args.regs.now (g.Q.KindKeeper.tells c.args.kinds.now)
     (outside c.args.out.now (g.L.EventLog.noted c.args.log.now) (g.L.EventLog.has_failed c.args.log.now))
     (outside c.args.out.now (g.L.EventLog.noted c.args.log.now) (g.L.EventLog.has_failed c.args.log.now))
-    c.in-Err.end (requested s l c.args.regs.now q))
+    c.in-Err.end (made_if_read s l c.args.regs.now q))
     (sym c.in-Err.is ∙ c.read_call.ensures)
     (called-ended s (g.Q.KindKeeper.tells c.args.kinds.now) c.args.regs.now
     (outside c.args.out.now (g.L.EventLog.noted c.args.log.now) (g.L.EventLog.has_failed c.args.log.now))

@@ -1,14 +1,14 @@
--- The call that a guest asks for: its number is the word P!3, and its arguments follow.
+-- The call that a guest makes: its number is the word P!3, and its arguments follow.
 use Rattle.std.specs.Prelude.{ℕ, ◌+◌, ◌==◌, ◌&&◌, if◌then◌else◌, List, Option, Some, None, Result, Ok, Err, slice_get, slice_index}
 use Rattle.word_store.specs.Arithmetic.{add}
 use Rattle.word_store.specs.declared.registers.Regs.{Regs}
 use Rattle.hunk_text.specs.TextReader.Steps.{◌>>=◌}
 use Rattle.task_calls.specs.KernelDispatch.TaskBlock.RootWords.{root_address}
 use Rattle.task_calls.specs.KernelDispatch.TaskBlock.declared.roots.RootField.TheVariants.{Version}
-use Rattle.kernel_calls.specs.declared.requests.CallOutcome.{CallOutcome}
-use Rattle.kernel_calls.specs.declared.requests.CallOutcome.TheVariants.{Outside, Unknown}
-use Rattle.kernel_calls.specs.declared.requests.KernelCall.{KernelCall}
-use Rattle.kernel_calls.specs.declared.requests.KernelCall.TheVariants.{AddModule, CallCo, ChangePri, CoWait, CreateCo, CreateTask, DeleteCo, DeleteTask, Dqpkt, Freevec, Getvec, Hold, MulDiv, Qpkt, Quit, Release, ResumeCo, SetFlags, TaskWait, TestFlags, Unload, Wrch}
+use Rattle.kernel_calls.specs.declared.call_numbers.CallOutcome.{CallOutcome}
+use Rattle.kernel_calls.specs.declared.call_numbers.CallOutcome.TheVariants.{Outside, Unknown}
+use Rattle.kernel_calls.specs.declared.call_numbers.KernelCall.{KernelCall}
+use Rattle.kernel_calls.specs.declared.call_numbers.KernelCall.TheVariants.{AddModule, CallCo, ChangePri, CoWait, CreateCo, CreateTask, DeleteCo, DeleteTask, Dqpkt, Freevec, Getvec, Hold, MulDiv, Qpkt, Quit, Release, ResumeCo, SetFlags, TaskWait, TestFlags, Unload, Wrch}
 
 -- the word at an address, which is told where it is outside the store
 abbrev pub word_or_outside : ℕ → Option ℕ → Result ℕ CallOutcome

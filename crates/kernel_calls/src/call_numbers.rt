@@ -1,6 +1,6 @@
 // What a guest asks of the kernel: a call, with its arguments.
 ghost use Rattle.std.specs.Prelude.{◌≡◌, ◌<◌};
-ghost use Rattle.kernel_calls.specs.Requests.{argument, call_of, numbered};
+ghost use Rattle.kernel_calls.specs.CallNumbers.{argument, call_of, numbered};
 
 use task_calls::kernel_dispatch::{RootField, root};
 use word_store::{Regs, Store, add};
@@ -10,99 +10,131 @@ use word_store::{Regs, Store, add};
 pub enum KernelCall {
     /// Call 0: the machine stops with the result.
     Quit {
+        /// The result of the machine.
         result: u32,
     },
     /// Call 1: a block with the data words 0 to `highest`.
     Getvec {
+        /// The index of the block's last data word.
         highest: u32,
     },
     /// Call 2: the block is given back.
     Freevec {
+        /// The address of the block's data, in words.
         block: u32,
     },
     /// Call 3: a task of the module, with a stack up to the index `highest`.
     CreateTask {
+        /// The address of the module, in words.
         module: u32,
+        /// The index of the stack's last word.
         highest: u32,
+        /// The priority of the task.
         priority: u32,
     },
     /// Call 4: the task with the number goes.
     DeleteTask {
+        /// The number of the task.
         id: u32,
     },
     /// Call 5: it gets the priority.
     ChangePri {
+        /// The number of the task.
         id: u32,
+        /// The priority that it gets.
         priority: u32,
     },
     /// Call 6: it gets these flags, beside those that it has.
     SetFlags {
+        /// The number of the task.
         id: u32,
+        /// The flags, a bit each.
         flags: u32,
     },
     /// Call 7: the caller's flags among these are answered and cleared.
     TestFlags {
+        /// The flags that are asked about, a bit each.
         mask: u32,
     },
     /// Call 8: the task is held.
     Hold {
+        /// The number of the task.
         id: u32,
     },
     /// Call 9: it is released.
     Release {
+        /// The number of the task.
         id: u32,
     },
     /// Call 10: the caller's next packet.
     TaskWait,
     /// Call 11: the packet is sent to whom its word 1 names.
     Qpkt {
+        /// The address of the packet, in words.
         packet: u32,
     },
     /// Call 12: it is taken off the queue of the task or device, or the caller's.
     Dqpkt {
+        /// The number of a task or a device.
         id: u32,
+        /// The address of the packet, in words.
         packet: u32,
     },
     /// Call 13: the module goes.
     Unload {
+        /// The address of the module, in words.
         module: u32,
     },
     /// Call 14: a coroutine of the caller.
     CreateCo {
+        /// The byte address at which it begins.
         function: u32,
+        /// The index of its stack's last word.
         highest: u32,
     },
     /// Call 15: the coroutine goes.
     DeleteCo {
+        /// The address of the coroutine, in words.
         coroutine: u32,
     },
     /// Call 16: it is called.
     CallCo {
+        /// The address of the coroutine, in words.
         coroutine: u32,
+        /// What it gets.
         value: u32,
     },
     /// Call 17: it is resumed in the place of the current one.
     ResumeCo {
+        /// The address of the coroutine, in words.
         coroutine: u32,
+        /// What it gets.
         value: u32,
     },
     /// Call 18: the current one waits.
     CoWait {
+        /// What its parent gets.
         value: u32,
     },
     /// Call 19: a byte goes to the console.
     Wrch {
+        /// The byte, its low 8 bits.
         character: u32,
     },
     /// Call 20: the product of two numbers, divided by the third.
     MulDiv {
+        /// The first factor.
         a: u32,
+        /// The second factor.
         b: u32,
+        /// The divisor.
         c: u32,
     },
     /// Call 21, in version 2 alone: the task gets one more module.
     AddModule {
+        /// The number of the task.
         id: u32,
+        /// The address of the module, in words.
         module: u32,
     },
 }
