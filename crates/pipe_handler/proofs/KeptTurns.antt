@@ -1,5 +1,5 @@
 -- Pipes stay lawful over a turn.
-use Rattle.std.proofs.Common.{◌≡◌, ◌+◌, ℕ, Bool, true, false, cond, eqb, Option, Some, None, Result, Ok, Err, List, refl, subst}
+use Rattle.std.proofs.Common.{◌≡◌, ◌+◌, ℕ, Bool, true, false, cond, Option, Some, None, Result, Ok, Err, List, refl, subst}
 use Rattle.std.proofs.lemmas.Bool.{and_parts}
 use Rattle.ram_disc.specs.Name.{IsName}
 use Rattle.resident_requests.specs.KernelCalls.KernelModel.Kernel.{Pipe}
@@ -10,8 +10,11 @@ use Rattle.resident_requests.specs.Requests.{first_request, taken, words_taken, 
 use Rattle.resident_requests.specs.declared.requests.Request.{Request}
 use Rattle.resident_requests.proofs.NamesRead.{is_name-lawful}
 use Rattle.pipe_handler.specs.Histories.PipeRequest.{Close, Open, Read, Write}
-use Rattle.pipe_handler.specs.PipeCalls.{ArePipes, after_close, after_read, after_write, refused}
-use Rattle.pipe_handler.specs.PipeTurns.{after_open_named, bytes_of_buffer, pipe_request, pipes_after_turn, pipes_by}
+use Rattle.pipe_handler.specs.PipeCalls.{ArePipes}
+use Rattle.pipe_handler.specs.PipeTurns.{after_open_named, bytes_of_buffer, call_outcome, pipe_request, pipes_after_turn, pipes_by}
+use Rattle.pipe_handler.specs.RequestTypes.{pipe_call}
+use Rattle.pipe_handler.specs.declared.calls.PipeCall.{PipeCall}
+use Rattle.pipe_handler.specs.declared.calls.PipeCall.TheVariants.{CloseEnd, OpenEnd, ReadBytes, WriteBytes}
 use Rattle.pipe_handler.proofs.AfterRequests.{kept-after}
 
 -- a name that was read is lawful
@@ -29,16 +32,14 @@ named-kept ps (Err code) end lawful a = a
 named-kept ps (Ok name) end lawful a = kept-after ps a (Open name end) (lawful name refl)
 
 request-kept : (ps : List (Option Pipe)) (s : List ℕ) (l : Lists) (r : Request) → ArePipes ps → ArePipes (pipe_request ps s l r).pipes
-request-kept ps s l r a = on (eqb r.kind 20) (eqb r.kind 21) (eqb r.kind 22) (eqb r.kind 23)
+request-kept ps s l r a = on (pipe_call r)
   where
-    on : (b c d e : Bool)
-        → ArePipes (cond b (after_open_named ps (name_at s r.first) r.second) (cond c (after_read ps r.first (is_writable s l r.packet r.second r.third) r.third)
-        (cond d (after_write ps r.first (is_readable s r.second r.third) (bytes_of_buffer s r.second r.third)) (cond e (after_close ps r.first) (refused 31 ps))))).pipes
-    on true c d e = named-kept ps (name_at s r.first) r.second (λ name f. name-lawful s r.first name f) a
-    on false true d e = kept-after ps a (Read r.first (is_writable s l r.packet r.second r.third) r.third) tt
-    on false false true e = kept-after ps a (Write r.first (is_readable s r.second r.third) (bytes_of_buffer s r.second r.third)) tt
-    on false false false true = kept-after ps a (Close r.first) tt
-    on false false false false = a
+    on : (asked : Option PipeCall) → ArePipes (call_outcome ps s l r.packet asked).pipes
+    on (Some (OpenEnd name end)) = named-kept ps (name_at s name) end (λ read f. name-lawful s name read f) a
+    on (Some (ReadBytes handle buffer count)) = kept-after ps a (Read handle (is_writable s l r.packet buffer count) count) tt
+    on (Some (WriteBytes handle buffer count)) = kept-after ps a (Write handle (is_readable s buffer count) (bytes_of_buffer s buffer count)) tt
+    on (Some (CloseEnd handle)) = kept-after ps a (Close handle) tt
+    on None = a
 
 pub turn-kept : (ps : List (Option Pipe)) (s : List ℕ) (l : Lists) → ArePipes ps → ArePipes (pipes_after_turn ps s l)
 turn-kept ps s l a = on (first_request (words_taken s l) (work l))

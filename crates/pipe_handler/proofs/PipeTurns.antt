@@ -1,5 +1,5 @@
 -- What requests for pipes give, and where it may be written.
-use Rattle.std.proofs.Common.{◌≡◌, ℕ, ◌≤◌, Bool, true, false, cond, eqb, leb, ltb, not, ◌⊎◌, Option, Result, Ok, Err, List, [], ◌∷◌, ◌++◌, length, set, take, drop, refl, ap, ◌∙◌, arith, inl, inr}
+use Rattle.std.proofs.Common.{◌≡◌, ℕ, ◌≤◌, Bool, true, false, cond, eqb, leb, ltb, not, ◌⊎◌, Option, Some, None, Result, Ok, Err, List, [], ◌∷◌, ◌++◌, length, set, take, drop, refl, ap, ◌∙◌, arith, inl, inr}
 use Rattle.std.specs.Option.{is_some, unwrap_or}
 use Rattle.std.proofs.lemmas.List.{length-take}
 use Rattle.resident_requests.specs.KernelCalls.KernelModel.Kernel.{Pipe}
@@ -10,8 +10,9 @@ use Rattle.resident_requests.specs.Names.{name_at}
 use Rattle.resident_requests.specs.Turns.{CanServe, service}
 use Rattle.resident_requests.specs.declared.requests.Request.{Request}
 use Rattle.pipe_handler.specs.Ends.{is_end, is_open, names_writer, pipe_of, place_for, place_of, without_end}
-use Rattle.pipe_handler.specs.PipeCalls.{Outcome, accepted, after_close, after_open, after_read, after_write, fitting, has_more, held_by, holding, pipe_in_place, refused, with_end}
-use Rattle.pipe_handler.specs.PipeTurns.{after_open_named, bytes_of_buffer, pipe_request, pipe_service}
+use Rattle.pipe_handler.specs.PipeCalls.{Outcome, accepted, after_close, after_open, after_read, after_write, fitting, has_more, held_by, holding, pipe_in_place, with_end}
+use Rattle.pipe_handler.specs.PipeTurns.{after_open_named, bytes_of_buffer, call_outcome, pipe_service}
+use Rattle.pipe_handler.specs.declared.calls.PipeCall.TheVariants.{CloseEnd, OpenEnd, ReadBytes, WriteBytes}
 use Rattle.pipe_handler.proofs.AfterRequests.{by-tests}
 
 abbrev GivesNone : Outcome → Type 0
@@ -36,13 +37,12 @@ module _ (ps : List (Option Pipe)) where
   close-gives-none h =
       by-tests GivesNone ps ((is_end ps h (names_writer h), 46) ∷ []) (accepted 0 [] (set ps (place_of h) (without_end (names_writer h) (pipe_of ps h)))) (λ all. refl) (λ code. refl)
 
--- by the type of a request
-pub opens-give-none : (ps : List (Option Pipe)) (s : List ℕ) (l : Lists) (r : Request) → r.kind ≡ 20 → (pipe_request ps s l r).bytes ≡ []
-opens-give-none ps s l r e = ap (λ n. (pipe_request ps s l (record r { kind = n })).bytes) e ∙ named-gives-none ps (name_at s r.first) r.second
+-- by what a request asks
+pub opens-give-none : (ps : List (Option Pipe)) (s : List ℕ) (l : Lists) (packet name end : ℕ) → (call_outcome ps s l packet (Some (OpenEnd name end))).bytes ≡ []
+opens-give-none ps s l packet name end = named-gives-none ps (name_at s name) end
 
-pub writes-give-none : (ps : List (Option Pipe)) (s : List ℕ) (l : Lists) (r : Request) → r.kind ≡ 22 → (pipe_request ps s l r).bytes ≡ []
-writes-give-none ps s l r e =
-    ap (λ n. (pipe_request ps s l (record r { kind = n })).bytes) e ∙ write-gives-none ps r.first (is_readable s r.second r.third) (bytes_of_buffer s r.second r.third)
+pub writes-give-none : (ps : List (Option Pipe)) (s : List ℕ) (l : Lists) (packet handle buffer count : ℕ) → (call_outcome ps s l packet (Some (WriteBytes handle buffer count))).bytes ≡ []
+writes-give-none ps s l packet handle buffer count = write-gives-none ps handle (is_readable s buffer count) (bytes_of_buffer s buffer count)
 
 -- there are no bytes, or the buffer has room for them and may be written
 abbrev HasBuffer : List ℕ → Lists → Request → Outcome → Type 0
@@ -60,8 +60,8 @@ can-serve ps s l r = on (eqb r.kind 20) (eqb r.kind 21) (eqb r.kind 22) (eqb r.k
         (λ all. inr (r.third, all.1.0, omega (arith, length-take r.third held))) (λ code. inl refl)
 
     on : (a b c d : Bool)
-        → HasBuffer s l r (cond a (after_open_named ps (name_at s r.first) r.second) (cond b (after_read ps r.first (is_writable s l r.packet r.second r.third) r.third)
-        (cond c (after_write ps r.first (is_readable s r.second r.third) (bytes_of_buffer s r.second r.third)) (cond d (after_close ps r.first) (refused 31 ps)))))
+        → HasBuffer s l r (call_outcome ps s l r.packet (cond a (Some (OpenEnd r.first r.second)) (cond b (Some (ReadBytes r.first r.second r.third))
+        (cond c (Some (WriteBytes r.first r.second r.third)) (cond d (Some (CloseEnd r.first)) None)))))
     on true b c d = inl (named-gives-none ps (name_at s r.first) r.second)
     on false true c d = reads
     on false false true d = inl (write-gives-none ps r.first (is_readable s r.second r.third) (bytes_of_buffer s r.second r.third))

@@ -1,3 +1,4 @@
+pub mod RequestTypes
 pub mod Ends
 pub mod PipeCalls
 pub mod Histories

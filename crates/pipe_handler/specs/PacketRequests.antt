@@ -1,11 +1,15 @@
 -- The requests for pipes that packets make.
-use Rattle.std.specs.Prelude.{ℕ, ◌==◌, if◌then◌else◌, Option, Some, None, Result, Ok, Err, List, [], ◌∷◌}
+use Rattle.std.specs.Prelude.{ℕ, Option, Some, None, Result, Ok, Err, List, [], ◌∷◌}
 use Rattle.resident_requests.specs.KernelCalls.KernelModel.Kernel.{Pipe}
 use Rattle.resident_requests.specs.KernelCalls.KernelModel.Lists.{Lists}
 use Rattle.resident_requests.specs.Buffers.{is_readable, is_writable}
 use Rattle.resident_requests.specs.Names.{name_at}
 use Rattle.resident_requests.specs.Requests.{first_request, taken, words_taken, work}
 use Rattle.resident_requests.specs.declared.requests.Request.{Request}
+use Rattle.resident_requests.specs.declared.requests.TheConstants.{UNKNOWN_TYPE}
+use Rattle.pipe_handler.specs.RequestTypes.{pipe_call}
+use Rattle.pipe_handler.specs.declared.calls.PipeCall.{PipeCall}
+use Rattle.pipe_handler.specs.declared.calls.PipeCall.TheVariants.{CloseEnd, OpenEnd, ReadBytes, WriteBytes}
 use Rattle.pipe_handler.specs.Histories.{PipeRequest, after}
 use Rattle.pipe_handler.specs.Histories.PipeRequest.{Close, Open, Read, Write}
 use Rattle.pipe_handler.specs.PipeCalls.{Outcome, refused}
@@ -15,14 +19,16 @@ abbrev pub opening : Result (List ℕ) ℕ → ℕ → Result PipeRequest ℕ
 opening (Ok name) end = Ok (Open name end)
 opening (Err code) end = Err code
 
--- the request that a packet makes; or it makes none, since its name is bad (40) or its type is another (31)
+-- the request of what is asked by this packet; or none, since its name is bad (40) or it asks nothing of pipes (31)
+abbrev pub asked_by : List ℕ → Lists → ℕ → Option PipeCall → Result PipeRequest ℕ
+asked_by s l packet (Some (OpenEnd name end)) = opening (name_at s name) end
+asked_by s l packet (Some (ReadBytes handle buffer count)) = Ok (Read handle (is_writable s l packet buffer count) count)
+asked_by s l packet (Some (WriteBytes handle buffer count)) = Ok (Write handle (is_readable s buffer count) (bytes_of_buffer s buffer count))
+asked_by s l packet (Some (CloseEnd handle)) = Ok (Close handle)
+asked_by s l packet None = Err UNKNOWN_TYPE
+
 abbrev pub asked : List ℕ → Lists → Request → Result PipeRequest ℕ
-asked s l r =
-    if r.kind == 20 then opening (name_at s r.first) r.second
-    else if r.kind == 21 then Ok (Read r.first (is_writable s l r.packet r.second r.third) r.third)
-    else if r.kind == 22 then Ok (Write r.first (is_readable s r.second r.third) (bytes_of_buffer s r.second r.third))
-    else if r.kind == 23 then Ok (Close r.first)
-    else Err 31
+asked s l r = asked_by s l r.packet (pipe_call r)
 
 -- what the packet comes to
 abbrev pub outcome_of : List (Option Pipe) → Result PipeRequest ℕ → Outcome

@@ -4,6 +4,7 @@ use Rattle.std.specs.List.{list_any}
 use Rattle.std.specs.Option.{is_none, is_some, option_map}
 use Rattle.resident_requests.specs.KernelCalls.KernelModel.Kernel.{Pipe}
 use Rattle.resident_requests.specs.KernelCalls.KernelModel.Pipes.{IsPipe, most_held, most_pipes, pipe_at}
+use Rattle.ram_disc.specs.declared.codes.TheConstants.{BAD_BUFFER, IN_USE, NOT_OPEN}
 use Rattle.pipe_handler.specs.Ends.{handle_at, is_end, is_named, is_open, names_writer, opened, pipe_of, place_for, place_of, without_end}
 
 -- at most eight pipes, each lawful, with distinct names
@@ -51,7 +52,7 @@ with_end ps name writes i = accepted (handle_at i writes) [] (slice_set ps i (So
 abbrev pub after_open : List (Option Pipe) → List ℕ → ℕ → Outcome
 after_open ps name end =
     unless_refused ps
-    ((nat_le end 1, 71) ∷ (not (is_open (end == 1) (pipe_in_place ps (place_for ps name))), 47) ∷ (is_some (place_for ps name), 72) ∷ [])
+    ((nat_le end 1, 71) ∷ (not (is_open (end == 1) (pipe_in_place ps (place_for ps name))), IN_USE) ∷ (is_some (place_for ps name), 72) ∷ [])
     (with_end ps name (end == 1) (unwrap_or (place_for ps name) 0))
 
 -- ---- reading
@@ -72,7 +73,7 @@ has_more (Some p) = nat_lt 0 (length p.held) || (p.written && not p.writing)
 abbrev pub after_read : List (Option Pipe) → ℕ → Bool → ℕ → Outcome
 after_read ps handle buffer count =
     let pipe = pipe_of ps handle in
-    unless_refused ps ((is_end ps handle false, 46) ∷ (buffer, 48) ∷ (has_more pipe, 70) ∷ [])
+    unless_refused ps ((is_end ps handle false, NOT_OPEN) ∷ (buffer, BAD_BUFFER) ∷ (has_more pipe, 70) ∷ [])
     (accepted (length (take count (held_by pipe))) (take count (held_by pipe)) (slice_set ps (place_of handle) (holding (drop count (held_by pipe)) pipe)))
 
 -- ---- writing
@@ -85,14 +86,14 @@ fitting pipe bytes = take (most_held - length (held_by pipe)) bytes
 abbrev pub after_write : List (Option Pipe) → ℕ → Bool → List ℕ → Outcome
 after_write ps handle buffer bytes =
     let pipe = pipe_of ps handle in
-    unless_refused ps ((is_end ps handle true, 46) ∷ (buffer, 48) ∷ (nat_lt (length (held_by pipe)) most_held, 73) ∷ [])
+    unless_refused ps ((is_end ps handle true, NOT_OPEN) ∷ (buffer, BAD_BUFFER) ∷ (nat_lt (length (held_by pipe)) most_held, 73) ∷ [])
     (accepted (length (fitting pipe bytes)) [] (slice_set ps (place_of handle) (holding (held_by pipe ++ fitting pipe bytes) pipe)))
 
 -- ---- closing
 
 abbrev pub after_close : List (Option Pipe) → ℕ → Outcome
 after_close ps handle =
-    unless_refused ps ((is_end ps handle (names_writer handle), 46) ∷ [])
+    unless_refused ps ((is_end ps handle (names_writer handle), NOT_OPEN) ∷ [])
     (accepted 0 [] (slice_set ps (place_of handle) (without_end (names_writer handle) (pipe_of ps handle))))
 
 -- ---- looking, and setting up

@@ -1,5 +1,5 @@
 -- A turn of the file handler in which its request is for a pipe.
-use Rattle.std.specs.Prelude.{ℕ, ◌==◌, if◌then◌else◌, Option, Some, None, Result, Ok, Err, List, []}
+use Rattle.std.specs.Prelude.{ℕ, if◌then◌else◌, Option, Some, None, Result, Ok, Err, List, []}
 use Rattle.resident_requests.specs.KernelCalls.KernelModel.Kernel.{Pipe}
 use Rattle.resident_requests.specs.KernelCalls.KernelModel.Lists.{Lists}
 use Rattle.resident_requests.specs.Buffers.{bytes_in, is_readable, is_writable}
@@ -7,6 +7,10 @@ use Rattle.resident_requests.specs.Names.{name_at}
 use Rattle.resident_requests.specs.Requests.{first_request, taken, words_taken, work}
 use Rattle.resident_requests.specs.Turns.{ResidentTurn, Served, request_turn, service}
 use Rattle.resident_requests.specs.declared.requests.Request.{Request}
+use Rattle.resident_requests.specs.declared.requests.TheConstants.{UNKNOWN_TYPE}
+use Rattle.pipe_handler.specs.RequestTypes.{pipe_call}
+use Rattle.pipe_handler.specs.declared.calls.PipeCall.{PipeCall}
+use Rattle.pipe_handler.specs.declared.calls.PipeCall.TheVariants.{CloseEnd, OpenEnd, ReadBytes, WriteBytes}
 use Rattle.pipe_handler.specs.PipeCalls.{Outcome, after_close, after_open, after_read, after_write, refused}
 
 -- a bad name comes before all else
@@ -18,15 +22,17 @@ after_open_named ps (Ok name) end = after_open ps name end
 abbrev pub bytes_of_buffer : List ℕ → ℕ → ℕ → List ℕ
 bytes_of_buffer s a n = if is_readable s a n then bytes_in s a 0 n else []
 
--- What a request comes to, by its type: 20 opens, 21 reads, 22 writes and 23 closes. The arguments are a name and an end; a handle,
--- a buffer and a count; and a handle.
+-- What is made of what a request asks, of which this is the packet. A request that asks nothing of pipes is refused.
+abbrev pub call_outcome : List (Option Pipe) → List ℕ → Lists → ℕ → Option PipeCall → Outcome
+call_outcome ps s l packet (Some (OpenEnd name end)) = after_open_named ps (name_at s name) end
+call_outcome ps s l packet (Some (ReadBytes handle buffer count)) = after_read ps handle (is_writable s l packet buffer count) count
+call_outcome ps s l packet (Some (WriteBytes handle buffer count)) =
+    after_write ps handle (is_readable s buffer count) (bytes_of_buffer s buffer count)
+call_outcome ps s l packet (Some (CloseEnd handle)) = after_close ps handle
+call_outcome ps s l packet None = refused UNKNOWN_TYPE ps
+
 abbrev pub pipe_request : List (Option Pipe) → List ℕ → Lists → Request → Outcome
-pipe_request ps s l r =
-    if r.kind == 20 then after_open_named ps (name_at s r.first) r.second
-    else if r.kind == 21 then after_read ps r.first (is_writable s l r.packet r.second r.third) r.third
-    else if r.kind == 22 then after_write ps r.first (is_readable s r.second r.third) (bytes_of_buffer s r.second r.third)
-    else if r.kind == 23 then after_close ps r.first
-    else refused 31 ps
+pipe_request ps s l r = call_outcome ps s l r.packet (pipe_call r)
 
 -- its answer, and the bytes that it gives, which go into its buffer
 abbrev pub pipe_service : List (Option Pipe) → List ℕ → Lists → Request → Served

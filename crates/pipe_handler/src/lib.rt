@@ -1,6 +1,7 @@
 // Pipes between tasks, and the requests for them.
 #![tactic(auto)]
 
+mod calls;
 pub mod laws;
 pub mod pipes;
 mod places;

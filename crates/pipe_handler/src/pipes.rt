@@ -7,15 +7,10 @@ use crate::places::{can_restore, handle_at, open_place, place_for};
 use crate::slots::{Slot, copy_slots};
 use crate::views::PipeView;
 use ram_disc::Name;
+use ram_disc::codes::{BAD_BUFFER, IN_USE, NOT_OPEN};
 use std::alloc::Global;
 use std::marker::Model;
 use tp_io::WantMemory;
-
-const NOT_OPEN: u32 = 46;
-
-const IN_USE: u32 = 47;
-
-const BAD_BUFFER: u32 = 48;
 
 const NO_BYTES: u32 = 70;
 

@@ -22,10 +22,10 @@ pub fn pipe_turn<Q: KindKeeper, L: EventLog>(
     log: &mut L,
 )
     requires { (l : Lists) × HasKeeper store.old (Q.tells kinds.old) (Q.room kinds.old) l
-        × TakesRequest l × (4 ≡ l.running) }
+        × TakesRequest l × (FILE_HANDLER ≡ l.running) }
     ensures turn { (l : Lists) (shown : List ℕ)
         → HasKeeper store.old (Q.tells kinds.old) (Q.room kinds.old) l → TakesRequest l
-        → 4 ≡ l.running
+        → FILE_HANDLER ≡ l.running
         → IsResidentTurn store.new (Q.tells kinds.new)
         (outside shown (L.noted log.old) (L.has_failed log.old))
         (outside shown (L.noted log.new) (L.has_failed log.new))
