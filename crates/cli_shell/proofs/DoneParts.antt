@@ -18,8 +18,9 @@ use Rattle.shell_programs.specs.KernelResidents.ResidentRequests.Requests.{RunsR
 use Rattle.shell_programs.specs.ShellPacket.{CanPost, post_events, posted, request_words, requested}
 use Rattle.shell_programs.specs.Standings.{HasStanding}
 use Rattle.shell_programs.proofs.SentRules.{posted-runs}
+use Rattle.shell_programs.specs.KernelCalls.KernelModel.declared.numbers.TheConstants.{CONSOLE}
 use Rattle.cli_shell.specs.DoneParts.{IsDone, IsReady, Start}
-use Rattle.cli_shell.specs.Prompts.{answered, console_number, prompted, refused, with_packet_sent}
+use Rattle.cli_shell.specs.Prompts.{answered, prompted, refused, with_packet_sent}
 use Rattle.cli_shell.specs.TurnParts.{ShellTurn, and_then, called, in_mode, shown, with_disc}
 use Rattle.cli_shell.proofs.RunningShell.{GoesOn, posted-running}
 
@@ -133,7 +134,7 @@ can-post h to there = record { packet = h.packet; there = there }
 
 -- the console is there
 pub console-there : {b : Start} {t : List ℕ} {tells : List ℕ → Type 0} {room : ℕ} {now : Outside} {sh : Shell} {d : Disc} {x : ShellTurn}
-    → IsReady b t tells room now sh d x → has_task console_number x.standing.lists.tasks ≡ true
+    → IsReady b t tells room now sh d x → has_task CONSOLE x.standing.lists.tasks ≡ true
 console-there h = (let v = h.done.stands.keeper.lists.valid.tasks in v.console ∙ sym v.shell ∙ h.packet.shell)
 
 pub done-posted : {b : Start} {t : List ℕ} {tells : List ℕ → Type 0} {room : ℕ} {now : Outside} {sh : Shell} {d : Disc} {x : ShellTurn}

@@ -36,12 +36,13 @@ use Rattle.shell_programs.specs.KernelCalls.KernelModel.Standing.{Standing, stan
 use Rattle.shell_programs.specs.KernelResidents.ResidentRequests.Answers.{answered_packet, finished, finished_by, returned}
 use Rattle.shell_programs.specs.KernelResidents.ResidentRequests.Requests.{RunsResident, taken, taken_from, work}
 use Rattle.shell_programs.specs.KernelResidents.ResidentRequests.declared.requests.Request.{Request}
-use Rattle.shell_programs.specs.ClearedTasks.{cleared, shell_number}
+use Rattle.shell_programs.specs.ClearedTasks.{cleared}
 use Rattle.shell_programs.specs.KeptLists.{KeepsResidents, RunsAlone}
 use Rattle.shell_programs.proofs.KeptFaults.{FaultsWait, Tells, all-work, begun-faults, cleared-faults, faults-same, posted-faults, started-faults, tells-more}
 use Rattle.shell_programs.proofs.KeptRules.{begun-alone, begun-residents, cleared-alone, cleared-residents, other-number, other-task, started-alone, started-residents}
 use Rattle.shell_programs.proofs.KeptTasks.{all-changed, all-without, any-changed, work-changed, work-inserted, work-without}
 use Rattle.shell_programs.proofs.SentRules.{posted-alone, posted-is}
+use Rattle.shell_programs.specs.KernelCalls.KernelModel.declared.numbers.TheConstants.{SHELL}
 use Rattle.cli_shell.specs.ShellTurn.{shell_turn}
 use Rattle.cli_shell.proofs.KeptTurns.{Allows, turn-keeps}
 
@@ -286,7 +287,7 @@ faults-move l pri t guest is h =
 record Begins (k : Kernel) (l : Lists) : Type 0 where
   pub faults : FaultsStand (record k { lists = l })
   pub others : has_task 2 l.tasks ≡ true → AllByRecursion (λ p. eqb p.address fault_packet ≡ false) (work l)
-  pub is : l.running ≡ shell_number
+  pub is : l.running ≡ SHELL
 
 module _ (k : Kernel) where
   abbrev Waits : Lists → Type 0
@@ -305,7 +306,7 @@ module _ (k : Kernel) where
         move = λ l pri t guest is h. stands (with_tasks (moved_chain pri t l.tasks) l) (faults-move l pri t guest is (waits-of l h));
       }
 
-  waits-taken : (l : Lists) (ps : List QueuedPacket) → l.running ≡ shell_number → FaultsWait l → FaultsWait (taken_from ps l).lists
+  waits-taken : (l : Lists) (ps : List QueuedPacket) → l.running ≡ SHELL → FaultsWait l → FaultsWait (taken_from ps l).lists
   waits-taken l [] is h = h
   waits-taken l (p ∷ ps) is h = queue-faults l l.running ps (λ e. absurd (omega (arith, e, is))) h
 
@@ -354,7 +355,7 @@ module _ (k : Kernel) where
       }
 
   -- the fault packet is none of the shell's
-  none-fault : (l : Lists) → AreValid l → RunsResident l → l.running ≡ shell_number → has_task 2 l.tasks ≡ true → AllByRecursion (λ p. eqb p.address fault_packet ≡ false) (work l)
+  none-fault : (l : Lists) → AreValid l → RunsResident l → l.running ≡ SHELL → has_task 2 l.tasks ≡ true → AllByRecursion (λ p. eqb p.address fault_packet ≡ false) (work l)
   none-fault l v r is there = all-each (MayStand l (Work l.running)) (λ p. eqb p.address fault_packet ≡ false) each (work l) (place-stands l (Work l.running) v r.there)
     where
       each : (p : QueuedPacket) → MayStand l (Work l.running) p → eqb p.address fault_packet ≡ false
@@ -364,7 +365,7 @@ module _ (k : Kernel) where
           on false e = refl
           on true e = (let place = (may.fault (λ i. there i && e i)).place in let two : l.running ≡ 2 = cc in absurd (omega (arith, two, is)))
 
-  pub turn-faults : (s : List ℕ) (sh : Shell) (d : Disc) → AreValid k.lists → RunsResident k.lists → k.lists.running ≡ shell_number → FaultsStand k → Waits (shell_turn s k.lists sh d).standing.lists
+  pub turn-faults : (s : List ℕ) (sh : Shell) (d : Disc) → AreValid k.lists → RunsResident k.lists → k.lists.running ≡ SHELL → FaultsStand k → Waits (shell_turn s k.lists sh d).standing.lists
   turn-faults s sh d v r is h =
       let start : Standing = standing s k.lists in
       let kept = cleared-residents start in

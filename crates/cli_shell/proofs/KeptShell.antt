@@ -24,13 +24,13 @@ use Rattle.shell_listings.specs.BlockLine.{block_line}
 use Rattle.shell_listings.specs.FileLines.{file_lines}
 use Rattle.shell_listings.specs.NumberLines.{error_line, task_number_line}
 use Rattle.shell_listings.specs.TaskLines.{task_lines}
-use Rattle.shell_programs.specs.ShellPacket.{shell_packet}
 use Rattle.shell_programs.specs.StartedProgram.{start_program}
 use Rattle.shell_programs.specs.declared.programs.Priority.TheVariants.{AboveShell}
 use Rattle.shell_programs.proofs.KeptRules.{cleared-residents}
 use Rattle.shell_programs.proofs.KeptSteps.{started-there}
+use Rattle.shell_programs.specs.KernelCalls.KernelModel.declared.numbers.TheConstants.{CONSOLE, SHELL_PACKET}
 use Rattle.cli_shell.specs.Commands.{after_run, after_start, executed, executed_if, line_executed, run, run_priority, start, with_program_begun, with_started}
-use Rattle.cli_shell.specs.Prompts.{answered, console_number, prompted, refused}
+use Rattle.cli_shell.specs.Prompts.{answered, prompted, refused}
 use Rattle.cli_shell.specs.ShellTurn.{all_parts, ended, first_treated, packet_taken, return_code, result_of, returned_unknown, shell_turn, treated, treated_in, with_cleared}
 use Rattle.cli_shell.specs.TurnParts.{ShellTurn, and_then, begun, called, shown, with_disc}
 use Rattle.cli_shell.specs.TypedFiles.{goes_on, is_at_end, is_typed, opened, piece_size, typed, typed_if, with_file_typed, with_piece, with_stream_closed}
@@ -213,7 +213,7 @@ module _ (v : ℕ) (w : List ℕ) where
 
   own-sound : (m : Mode) (r : Request) (x : ShellTurn) → x.shell.mode ≡ m → x.standing.lists.version ≡ v → HasLine w x → IsSound v w x → IsSound v w (treated_in m r x)
   own-sound Prompt r x is version h s = prompted-sound x (still-closed x Prompt is refl h s)
-  own-sound Reading r x is version h s = on (eqb r.sender console_number)
+  own-sound Reading r x is version h s = on (eqb r.sender CONSOLE)
     where
       closed : IsClosed w x
       closed = still-closed x Reading is refl h s
@@ -240,7 +240,7 @@ module _ (v : ℕ) (w : List ℕ) where
 
       on : (ps : List QueuedPacket) → IsSound v w (treated (first_request y.standing.words ps) y)
       on [] = sound
-      on (q ∷ qs) = either (eqb q.address shell_packet)
+      on (q ∷ qs) = either (eqb q.address SHELL_PACKET)
         where
           r : Request
           r = request_at y.standing.words q.address

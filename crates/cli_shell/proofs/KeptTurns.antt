@@ -25,14 +25,16 @@ use Rattle.shell_listings.specs.BlockLine.{block_line}
 use Rattle.shell_listings.specs.FileLines.{file_lines}
 use Rattle.shell_listings.specs.NumberLines.{error_line, task_number_line}
 use Rattle.shell_listings.specs.TaskLines.{task_lines}
-use Rattle.shell_programs.specs.ClearedTasks.{cleared, shell_number}
-use Rattle.shell_programs.specs.ShellPacket.{posted, request_words, shell_packet}
+use Rattle.shell_programs.specs.ClearedTasks.{cleared}
+use Rattle.shell_programs.specs.ShellPacket.{posted, request_words}
 use Rattle.shell_programs.specs.StartedProgram.{begun, start_program}
 use Rattle.shell_programs.specs.declared.programs.Priority.{Priority}
 use Rattle.shell_programs.specs.declared.programs.Priority.TheVariants.{AboveShell}
 use Rattle.shell_programs.proofs.KeptSteps.{started-there}
+use Rattle.shell_programs.specs.KernelCalls.KernelModel.declared.numbers.TheConstants.{CONSOLE, SHELL, SHELL_PACKET}
+use Rattle.cli_shell.specs.declared.prompts.TheConstants.{LINE_REQUEST}
 use Rattle.cli_shell.specs.Commands.{after_run, after_start, executed, executed_if, line_executed, program_request, run, run_priority, start, with_program_begun, with_started}
-use Rattle.cli_shell.specs.Prompts.{answered, console_number, line_request, prompt, prompted, refused, with_packet_sent}
+use Rattle.cli_shell.specs.Prompts.{answered, prompt, prompted, refused, with_packet_sent}
 use Rattle.cli_shell.specs.ShellTurn.{all_parts, ended, first_treated, packet_taken, returned_unknown, result_of, return_code, shell_turn, treated, treated_in, with_cleared}
 use Rattle.cli_shell.specs.TurnParts.{ShellTurn, and_then, begun as turn_begun, called, shown, with_disc}
 use Rattle.cli_shell.specs.TypedFiles.{goes_on, is_typed, opened, typed, typed_if, with_piece, with_stream_closed}
@@ -60,7 +62,7 @@ module _ (Q P : Lists → Type 0) (h : Allows Q P) where
   sent-keeps to kind x low p = h.at_sending to (standing (written (request_words kind) x.standing.words) x.standing.lists) low p
 
   prompted-keeps : (x : ShellTurn) → On x → On (prompted x)
-  prompted-keeps x p = sent-keeps console_number line_request (shown prompt x) (omega arith) p
+  prompted-keeps x p = sent-keeps CONSOLE LINE_REQUEST (shown prompt x) (omega arith) p
 
   refused-keeps : (code : ℕ) (x : ShellTurn) → On x → On (refused code x)
   refused-keeps code x p = prompted-keeps (shown (error_line code) x) p
@@ -76,7 +78,7 @@ module _ (Q P : Lists → Type 0) (h : Allows Q P) where
     where
       on : (b : Bool) → On (cond b (prompted (with_disc (with_stream_closed (with_piece x).disc) (with_piece x))) (goes_on (with_piece x)))
       on true = prompted-keeps (with_disc (with_stream_closed (with_piece x).disc) (with_piece x)) p
-      on false = h.at_sending shell_number x.standing (omega arith) p
+      on false = h.at_sending SHELL x.standing (omega arith) p
 
   opened-keeps : (o : Result ℕ ℕ) (x : ShellTurn) → On x → On (typed_if o x)
   opened-keeps (Ok stream) x p = typed-keeps x p
@@ -141,7 +143,7 @@ module _ (Q P : Lists → Type 0) (h : Allows Q P) where
 
   own-keeps : (m : Mode) (r : Request) (x : ShellTurn) → On x → On (treated_in m r x)
   own-keeps Prompt r x p = prompted-keeps x p
-  own-keeps Reading r x p = on (eqb r.sender console_number)
+  own-keeps Reading r x p = on (eqb r.sender CONSOLE)
     where
       on : (b : Bool) → On (cond b (line_executed x) (prompted x))
       on true = line-keeps (command_of x.shell.line) x p
@@ -157,7 +159,7 @@ module _ (Q P : Lists → Type 0) (h : Allows Q P) where
 
       on : (ps : List QueuedPacket) → work x.standing.lists ≡ ps → On (treated (first_request y.standing.words ps) y)
       on [] e = h.at_taking x.standing.lists p
-      on (q ∷ qs) e = either (eqb q.address shell_packet)
+      on (q ∷ qs) e = either (eqb q.address SHELL_PACKET)
         where
           r : Request
           r = request_at y.standing.words q.address

@@ -20,10 +20,10 @@ use Rattle.shell_programs.specs.KernelCalls.TaskCalls.ReleaseTask.{release, rele
 use Rattle.shell_programs.specs.KernelCalls.TaskCalls.SetFlags.{flagged, set_flags}
 use Rattle.shell_programs.specs.KernelCalls.KernelModel.Standing.{Standing}
 use Rattle.shell_programs.specs.KernelResidents.ResidentRequests.Requests.{RunsResident}
-use Rattle.shell_programs.specs.ClearedTasks.{shell_number}
 use Rattle.shell_programs.specs.ShellPacket.{posted}
 use Rattle.shell_programs.proofs.KeptTasks.{all-changed, all-without, any-changed}
 use Rattle.shell_programs.proofs.SentRules.{posted-is}
+use Rattle.shell_programs.specs.KernelCalls.KernelModel.declared.numbers.TheConstants.{SHELL}
 
 -- the task with the number has the state of one that runs
 abbrev RunsIf : ℕ → Task → Type 0
@@ -65,7 +65,7 @@ moved-fields l pri (Some t) others one rest all = all-inserted (RunsIf l.running
 -- ---- a call about a task
 
 -- the shell is there where the residents are
-shell-there : (l m : Lists) → AreValid l → AreValid m → m.residents ≡ l.residents → l.running ≡ shell_number → RunsResident l → has_task shell_number m.tasks ≡ true
+shell-there : (l m : Lists) → AreValid l → AreValid m → m.residents ≡ l.residents → l.running ≡ SHELL → RunsResident l → has_task SHELL m.tasks ≡ true
 shell-there l m v w same is r = w.tasks.shell ∙ same ∙ sym v.tasks.shell ∙ ap (λ i. has_task i l.tasks) (sym is) ∙ r.there
 
 -- what a call makes, where it is refused or not
@@ -106,7 +106,7 @@ release-goes l id r = one-goes l (first_refusal (release_tests l id)) id release
 pub flags-goes : (l : Lists) (id flags : ℕ) → RunsResident l → GoesOn l (set_flags l id flags)
 flags-goes l id flags r = one-goes l (first_refusal (guest_tests l id)) id (flagged flags) (λ t. refl) (λ t. refl) r
 
-pub pri-goes : (s t : List ℕ) (l : Lists) (id pri : ℕ) → HoldsLists s l → HoldsLists t (change_pri l id pri).lists → l.running ≡ shell_number → RunsResident l → GoesOn l (change_pri l id pri)
+pub pri-goes : (s t : List ℕ) (l : Lists) (id pri : ℕ) → HoldsLists s l → HoldsLists t (change_pri l id pri).lists → l.running ≡ SHELL → RunsResident l → GoesOn l (change_pri l id pri)
 pri-goes s t l id pri h k is r =
     record {
       runs = record {

@@ -13,7 +13,7 @@ use Rattle.shell_programs.specs.KernelResidents.ResidentRequests.Requests.{HasRe
 use Rattle.shell_programs.specs.KernelResidents.ResidentRequests.declared.requests.Request.{Request}
 use Rattle.shell_programs.proofs.Shown.KernelResidents.ResidentRequests.ResidentTurns.{takes-request}
 use Rattle.shell_programs.proofs.Shown.KernelResidents.ResidentRequests.TakenRequest.{taken-running}
-use Rattle.shell_programs.specs.ShellPacket.{shell_packet}
+use Rattle.shell_programs.specs.KernelCalls.KernelModel.declared.numbers.TheConstants.{SHELL_PACKET}
 use Rattle.cli_shell.specs.DoneParts.{IsDone, IsReady, Start}
 use Rattle.cli_shell.specs.ShellTurn.{first_treated, packet_taken, returned_unknown, treated, treated_in}
 use Rattle.cli_shell.specs.TurnParts.{ShellTurn}
@@ -47,19 +47,19 @@ done-returned {x = x} h r u told after y room_is runs noted failed notes =
     let m = returned x.standing.lists r (Err 31) in
     done-then h (left-stands h.stands u told after m.lists m.plain y.leaves.lists y.knows room_is) room_is noted failed m.events notes runs refl
 
-pub other-treated : (r : Request) (x : ShellTurn) → r.packet ≢ shell_packet → returned_unknown r x ≡ treated (Some r) x
-other-treated r x ne = ap (λ f. cond f (treated_in x.shell.mode r x) (returned_unknown r x)) (sym (ne_eqb r.packet shell_packet ne))
+pub other-treated : (r : Request) (x : ShellTurn) → r.packet ≢ SHELL_PACKET → returned_unknown r x ≡ treated (Some r) x
+other-treated r x ne = ap (λ f. cond f (treated_in x.shell.mode r x) (returned_unknown r x)) (sym (ne_eqb r.packet SHELL_PACKET ne))
 
 -- ---- the shell's own
 
 pub ready-own : {b : Start} {t : List ℕ} {tells : List ℕ → Type 0} {room : ℕ} {now : Outside} {sh : Shell} {d : Disc} {x : ShellTurn}
-    → IsDone b t tells room now sh d false x → (r : Request) → HasRequest t x.standing.lists r → r.packet ≡ shell_packet → IsReady b t tells room now sh d x
+    → IsDone b t tells room now sh d false x → (r : Request) → HasRequest t x.standing.lists r → r.packet ≡ SHELL_PACKET → IsReady b t tells room now sh d x
 ready-own {x = x} h r y is =
     record {
       done = h;
       packet = record { shell = ap (λ i. has_task i x.standing.lists.tasks) (sym h.is) ∙ h.runs.there; words = λ a low high. y.plain a (omega (arith, low, is)) (omega (arith, high, is)) };
     }
 
-pub own-treated : (r : Request) (x : ShellTurn) (sh : Shell) → sh ≡ x.shell → r.packet ≡ shell_packet → treated_in sh.mode r x ≡ treated (Some r) x
+pub own-treated : (r : Request) (x : ShellTurn) (sh : Shell) → sh ≡ x.shell → r.packet ≡ SHELL_PACKET → treated_in sh.mode r x ≡ treated (Some r) x
 own-treated r x sh is own =
-    ap (λ (s : Shell). treated_in s.mode r x) is ∙ ap (λ f. cond f (treated_in x.shell.mode r x) (returned_unknown r x)) (sym (eq-eqb r.packet shell_packet own))
+    ap (λ (s : Shell). treated_in s.mode r x) is ∙ ap (λ f. cond f (treated_in x.shell.mode r x) (returned_unknown r x)) (sym (eq-eqb r.packet SHELL_PACKET own))

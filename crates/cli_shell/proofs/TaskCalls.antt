@@ -14,7 +14,7 @@ use Rattle.shell_programs.specs.KernelCalls.TaskCalls.ReleaseTask.{release}
 use Rattle.shell_programs.specs.KernelCalls.TaskCalls.SetFlags.{set_flags}
 use Rattle.shell_programs.proofs.Shown.KernelCalls.TaskCalls.SameWords.{change_pri-owners, hold-owners, release-owners, set_flags-owners}
 use Rattle.shell_programs.specs.KernelResidents.ResidentRequests.Requests.{RunsResident}
-use Rattle.shell_programs.specs.ClearedTasks.{shell_number}
+use Rattle.shell_programs.specs.KernelCalls.KernelModel.declared.numbers.TheConstants.{SHELL}
 use Rattle.cli_shell.specs.Commands.{by_call}
 use Rattle.cli_shell.specs.DoneParts.{IsDone, IsReady, Start}
 use Rattle.cli_shell.specs.Prompts.{answered}
@@ -25,7 +25,7 @@ use Rattle.cli_shell.proofs.RunningShell.{GoesOn, flags-goes, hold-goes, pri-goe
 -- It leaves the same words owned, and the shell goes on running.
 pub record IsTaskCall (call : Lists → Made) : Type 0 where
   pub owns : (s : List ℕ) (l : Lists) → HoldsLists s l → (a : ℕ) → owners a (owned (call l).lists) ≡ owners a (owned l)
-  pub goes : (s t : List ℕ) (l : Lists) → HoldsLists s l → HoldsLists t (call l).lists → l.running ≡ shell_number → RunsResident l → GoesOn l (call l)
+  pub goes : (s t : List ℕ) (l : Lists) → HoldsLists s l → HoldsLists t (call l).lists → l.running ≡ SHELL → RunsResident l → GoesOn l (call l)
 
 pub hold-call : (task : ℕ) → IsTaskCall (λ l. hold l task)
 hold-call task = record { owns = λ s l h a. hold-owners s l h a task; goes = λ s t l h k is r. hold-goes l task r }

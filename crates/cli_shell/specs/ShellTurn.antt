@@ -11,10 +11,11 @@ use Rattle.shell_programs.specs.KernelResidents.ResidentRequests.Requests.{RunsR
 use Rattle.shell_programs.specs.KernelResidents.ResidentRequests.declared.requests.Request.{Request}
 use Rattle.shell_programs.specs.KernelCalls.KernelModel.Standing.{left_with}
 use Rattle.shell_listings.specs.NumberLines.{return_code_line}
-use Rattle.shell_programs.specs.ClearedTasks.{cleared, shell_number}
-use Rattle.shell_programs.specs.ShellPacket.{shell_packet}
+use Rattle.shell_programs.specs.ClearedTasks.{cleared}
+use Rattle.shell_programs.specs.KernelCalls.KernelModel.declared.numbers.TheConstants.{CONSOLE, RES1, SHELL, SHELL_PACKET}
+use Rattle.shell_programs.specs.KernelResidents.ResidentRequests.declared.requests.TheConstants.{UNKNOWN_TYPE}
 use Rattle.cli_shell.specs.Commands.{line_executed}
-use Rattle.cli_shell.specs.Prompts.{console_number, prompted}
+use Rattle.cli_shell.specs.Prompts.{prompted}
 use Rattle.cli_shell.specs.TurnParts.{ShellTurn, and_then, begun, called, shown}
 use Rattle.cli_shell.specs.TypedFiles.{typed}
 
@@ -22,11 +23,11 @@ use Rattle.cli_shell.specs.TypedFiles.{typed}
 
 -- where the packet comes from the console the line is executed; else it counts as an empty one
 abbrev pub line_read : Request → ShellTurn → ShellTurn
-line_read r x = if r.sender == console_number then line_executed x else prompted x
+line_read r x = if r.sender == CONSOLE then line_executed x else prompted x
 
 -- what a program gives back, the first result of the packet; 0 is not told
 abbrev pub result_of : ShellTurn → ℕ
-result_of x = slice_index x.standing.words (shell_packet + 3)
+result_of x = slice_index x.standing.words (SHELL_PACKET + RES1)
 
 abbrev pub return_code : ℕ → List ℕ
 return_code result = if result == 0 then [] else return_code_line result
@@ -44,11 +45,11 @@ treated_in Typing r x = typed x
 
 -- every other packet is returned, refused
 abbrev pub returned_unknown : Request → ShellTurn → ShellTurn
-returned_unknown r x = called (returned x.standing.lists r (Err 31)) x
+returned_unknown r x = called (returned x.standing.lists r (Err UNKNOWN_TYPE)) x
 
 abbrev pub treated : Option Request → ShellTurn → ShellTurn
 treated None x = x
-treated (Some r) x = if r.packet == shell_packet then treated_in x.shell.mode r x else returned_unknown r x
+treated (Some r) x = if r.packet == SHELL_PACKET then treated_in x.shell.mode r x else returned_unknown r x
 
 -- the first packet is taken
 abbrev pub packet_taken : ShellTurn → ShellTurn
@@ -82,7 +83,11 @@ shell_turn words l sh d = ended (all_parts (work l) (begun words l sh d))
 
 -- It runs, its stream is open exactly while it types a file, and the disc is one.
 pub record RunsShell (l : Lists) (sh : Shell) (d : Disc) : Type 0 where
+  -- a resident runs
   pub runs : RunsResident l
-  pub is : l.running ≡ shell_number
+  -- it is the shell
+  pub is : l.running ≡ SHELL
+  -- the shell's stream is open exactly while it types a file
   pub typing : is_some (stream_at d shell_stream) ≡ is_typing sh.mode
+  -- the disc is sound
   pub disc : IsDisc d

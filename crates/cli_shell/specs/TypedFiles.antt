@@ -3,8 +3,8 @@ use Rattle.std.specs.Prelude.{ℕ, ◌==◌, Bool, true, if◌then◌else◌, Op
 use Rattle.shell_programs.specs.KernelCalls.KernelModel.Kernel.Mode.{Typing}
 use Rattle.ram_disc.specs.Disc.{Disc, Stream, bytes_of, shell_stream, stream_at}
 use Rattle.ram_disc.specs.DiscCalls.{Outcome, after_close, after_open_read, after_read_on, bytes_read}
-use Rattle.shell_programs.specs.ClearedTasks.{shell_number}
 use Rattle.shell_programs.specs.ShellPacket.{post_events, posted}
+use Rattle.shell_programs.specs.KernelCalls.KernelModel.declared.numbers.TheConstants.{SHELL}
 use Rattle.cli_shell.specs.Prompts.{prompted, refused}
 use Rattle.cli_shell.specs.TurnParts.{ShellTurn, and_then, in_mode, shown, with_disc}
 
@@ -38,7 +38,7 @@ with_piece x = with_disc (after_piece x.disc) (shown (next_piece x.disc) x)
 
 -- the shell sends its packet to itself, so that it types on at its next turn
 abbrev pub goes_on : ShellTurn → ShellTurn
-goes_on x = in_mode Typing (and_then (posted shell_number x.standing) (post_events shell_number) x)
+goes_on x = in_mode Typing (and_then (posted SHELL x.standing) (post_events SHELL) x)
 
 -- where the file has ended its stream is closed, and the shell prompts; else it types on
 abbrev pub after_typing : ShellTurn → ShellTurn

@@ -9,7 +9,7 @@ ghost use Rattle.shell_programs.specs.KernelCalls.KernelModel.Versions.{highest_
 ghost use Rattle.ram_disc.specs.Disc.{Disc, shell_stream, stream_at};
 ghost use Rattle.shell_programs.specs.KernelCalls.KernelDispatch.Dispatch.{CanDispatch};
 ghost use Rattle.shell_programs.specs.KernelResidents.ResidentRequests.Requests.{RunsResident};
-ghost use Rattle.shell_programs.specs.ClearedTasks.{shell_number};
+ghost use Rattle.shell_programs.specs.KernelCalls.KernelModel.declared.numbers.TheConstants.{SHELL};
 ghost use Rattle.cli_shell.specs.KeptLists.{KeepsRest};
 ghost use Rattle.cli_shell.specs.ShellTurn.{RunsShell, shell_turn};
 
@@ -23,7 +23,7 @@ pub fn lists_law()
     ensures dispatch { (s : List ℕ) (l : Lists) (sh : Shell) (d : Disc) (r : Regs) → RunsResident l
         → CanDispatch l r → CanDispatch (shell_turn s l sh d).standing.lists r }
     ensures faults { (k : Kernel) (s : List ℕ) (sh : Shell) (d : Disc) → AreValid k.lists
-        → RunsResident k.lists → k.lists.running ≡ shell_number → FaultsStand k
+        → RunsResident k.lists → k.lists.running ≡ SHELL → FaultsStand k
         → FaultsStand (record k { lists = (shell_turn s k.lists sh d).standing.lists }) }
 {}
 

@@ -10,7 +10,9 @@ use std::marker::Model;
 /// A mode, and a line of at most 120 bytes.
 #[derive(Drop)]
 pub struct ShellState {
+    /// What the shell does between its turns.
     mode: Mode,
+    /// The line that it has from the console.
     line: ArrayVec<u8, 120>,
 }
 

@@ -9,14 +9,12 @@ ghost use Rattle.cli_shell.specs.TypedFiles.{after_piece, goes_on, is_typed, nex
 use crate::modes::Mode;
 use crate::prompts::{prompt, refuse};
 use crate::state::ShellState;
+use ram_disc::codes::SHELL_STREAM;
 use ram_disc::{Disc, Name};
 use shell_programs::numbers::SHELL;
 use shell_programs::{EventLog, KindKeeper, post_shell_packet};
 use tp_io::Output;
 use word_store::Store;
-
-/// The shell's stream.
-const SHELL_STREAM: u32 = 17;
 
 /// The most bytes of a piece.
 const PIECE_SIZE: usize = 512;

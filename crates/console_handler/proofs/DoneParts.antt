@@ -15,10 +15,11 @@ use Rattle.resident_requests.specs.KernelCalls.KernelModel.Owned.{owned}
 use Rattle.resident_requests.proofs.Shown.KernelCalls.KernelModel.ChangedLists.{changed-none, changed-then, knows-same}
 use Rattle.resident_requests.proofs.Shown.KernelCalls.KernelModel.NotedInTurn.{notes-none, notes-then}
 use Rattle.resident_requests.specs.KernelCalls.CallAnswers.Outside.{Outside, outside}
+use Rattle.resident_requests.specs.KernelCalls.KernelModel.declared.numbers.TheConstants.{CONSOLE}
 use Rattle.console_handler.specs.ConsoleTurn.{ended, turn_done}
 use Rattle.resident_requests.specs.Answers.{IsFinished, finished}
 use Rattle.resident_requests.specs.Turns.{IsResidentTurn}
-use Rattle.console_handler.specs.Progress.{IsDone, Progress, Start, and_then, begun, console_number, settled_words}
+use Rattle.console_handler.specs.Progress.{IsDone, Progress, Start, and_then, begun, settled_words}
 use Rattle.resident_requests.specs.Requests.{RunsResident}
 use Rattle.resident_requests.proofs.ResidentTurns.{written-same}
 
@@ -44,7 +45,7 @@ settled-words s t l plain x =
 
 -- ---- one part more
 
-pub done-none : (s : List ℕ) (l : Lists) (o : Outside) (tells : List ℕ → Type 0) (room : ℕ) (c : Console) (k : List ℕ) → HasKeeper s tells room l → RunsResident l → l.running ≡ console_number
+pub done-none : (s : List ℕ) (l : Lists) (o : Outside) (tells : List ℕ → Type 0) (room : ℕ) (c : Console) (k : List ℕ) → HasKeeper s tells room l → RunsResident l → l.running ≡ CONSOLE
     → IsDone (record { words = s; lists = l; outside = o }) s tells room o c k (begun s l c k)
 done-none s l o tells room c k h runs is =
     record {

@@ -21,7 +21,8 @@ use Rattle.resident_requests.specs.Requests.{HasRequest, RunsResident, first_req
 use Rattle.resident_requests.specs.Turns.{CanServe, HasWritten, service}
 use Rattle.resident_requests.specs.declared.requests.Request.{Request}
 use Rattle.resident_requests.proofs.ResidentTurns.{keeper-written, turn-changed, written-then}
-use Rattle.console_handler.specs.Deliveries.{command_after, given, handed, handed_if_finished, line_after, line_service, shell_number, with_read, with_served}
+use Rattle.resident_requests.specs.KernelCalls.KernelModel.declared.numbers.TheConstants.{SHELL}
+use Rattle.console_handler.specs.Deliveries.{command_after, given, handed, handed_if_finished, line_after, line_service, with_read, with_served}
 use Rattle.console_handler.specs.Progress.{IsDone, Progress, Start}
 use Rattle.console_handler.specs.Reads.{IsReadTaken, read_taken, read_taken_from, words_read_from}
 use Rattle.console_handler.proofs.DoneParts.{done-then}
@@ -46,7 +47,7 @@ length-take (suc n) [] = omega arith
 length-take (suc n) (x ∷ xs) = omega (arith, length-take n xs)
 
 line-fits : (s : List ℕ) (l : Lists) (line : List ℕ) (r : Request) → CanServe s l r (line_service s l line r)
-line-fits s l line r = on (eqb r.sender shell_number) (is_writable s l r.packet r.first r.second) refl
+line-fits s l line r = on (eqb r.sender SHELL) (is_writable s l r.packet r.first r.second) refl
   where
     on : (shell writable : Bool) → is_writable s l r.packet r.first r.second ≡ writable
         → CanServe s l r (cond shell (service (Ok (length line)) r.first []) (cond writable (service (Ok (given line r)) r.first (take (given line r) line)) (service (Err 30) r.first [])))

@@ -12,17 +12,21 @@ use Rattle.resident_requests.specs.Buffers.{bytes_in, is_readable}
 use Rattle.resident_requests.specs.Requests.{RunsResident, first_request, taken, words_taken, work}
 use Rattle.resident_requests.specs.Turns.{ResidentTurn}
 use Rattle.resident_requests.specs.declared.requests.Request.{Request}
+use Rattle.resident_requests.specs.KernelCalls.KernelModel.declared.numbers.TheConstants.{CONSOLE}
+use Rattle.resident_requests.specs.declared.requests.TheConstants.{UNKNOWN_TYPE}
+use Rattle.console_handler.specs.declared.requests.TheConstants.{BAD_BUFFER, READ, WRITE}
 use Rattle.console_handler.specs.Deliveries.{delivery}
 use Rattle.console_handler.specs.KeyPacket.{keys_taken}
 use Rattle.console_handler.specs.Line.{Keyed, key}
-use Rattle.console_handler.specs.Progress.{Progress, and_then, begun, console_number}
+use Rattle.console_handler.specs.Progress.{Progress, and_then, begun}
 use Rattle.console_handler.specs.Reads.{put_off}
 
 -- it runs
 pub record RunsConsole (l : Lists) : Type 0 where
   -- a resident runs
   pub runs : RunsResident l
-  pub is : l.running ≡ console_number
+  -- it is the console
+  pub is : l.running ≡ CONSOLE
 
 -- ---- a key
 
@@ -53,17 +57,17 @@ written_bytes s r = if is_readable s r.first r.second then bytes_in s r.first 0 
 
 abbrev pub answer_of : List ℕ → Request → Result ℕ ℕ
 answer_of s r =
-    if r.kind == 2
-    then (if is_readable s r.first r.second then Ok r.second else Err 30)
-    else Err 31
+    if r.kind == WRITE
+    then (if is_readable s r.first r.second then Ok r.second else Err BAD_BUFFER)
+    else Err UNKNOWN_TYPE
 
 abbrev pub bytes_of : List ℕ → Request → List ℕ
-bytes_of s r = if r.kind == 2 then written_bytes s r else []
+bytes_of s r = if r.kind == WRITE then written_bytes s r else []
 
 -- a read waits; all else is answered at once
 abbrev pub with_request : List ℕ → Lists → Request → Progress → Progress
 with_request s l r g =
-    if r.kind == 1
+    if r.kind == READ
     then and_then g (put_off s l r).lists [] ((taken g.lists).events ++ (put_off s l r).events)
     else record (and_then g (returned l r (answer_of s r)).lists [] ((taken g.lists).events ++ (returned l r (answer_of s r)).events)) { bytes = g.bytes ++ bytes_of s r }
 
@@ -86,8 +90,8 @@ treated id (p ∷ ps) g =
 -- the key packet is sent to the keyboard
 abbrev pub keys_sent : Progress → Progress
 keys_sent g =
-    and_then g (send_own g.words g.lists key_packet console_number keyboard).lists []
-    (send_own g.words g.lists key_packet console_number keyboard).events
+    and_then g (send_own g.words g.lists key_packet CONSOLE keyboard).lists []
+    (send_own g.words g.lists key_packet CONSOLE keyboard).events
 
 -- unless it is on a queue, or a finished line waits
 abbrev pub with_keys_sent : Progress → Progress

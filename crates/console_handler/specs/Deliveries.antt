@@ -9,12 +9,10 @@ use Rattle.resident_requests.specs.Buffers.{is_writable, written_buffer}
 use Rattle.resident_requests.specs.Requests.{first_request}
 use Rattle.resident_requests.specs.Turns.{Served, service}
 use Rattle.resident_requests.specs.declared.requests.Request.{Request}
+use Rattle.resident_requests.specs.KernelCalls.KernelModel.declared.numbers.TheConstants.{SHELL}
+use Rattle.console_handler.specs.declared.requests.TheConstants.{BAD_BUFFER}
 use Rattle.console_handler.specs.Progress.{Progress, and_then}
 use Rattle.console_handler.specs.Reads.{read_taken, words_read_from}
-
--- the number of the shell
-abbrev pub shell_number : ℕ
-shell_number = 1
 
 -- so many bytes of the line are for the read
 abbrev pub given : List ℕ → Request → ℕ
@@ -24,9 +22,9 @@ given line r = min r.second (length line)
 -- buffer, and their number; code 30 where the whole buffer may not be written.
 abbrev pub line_service : List ℕ → Lists → List ℕ → Request → Served
 line_service s l line r =
-    if r.sender == shell_number then service (Ok (length line)) r.first []
+    if r.sender == SHELL then service (Ok (length line)) r.first []
     else if is_writable s l r.packet r.first r.second then service (Ok (given line r)) r.first (take (given line r) line)
-    else service (Err 30) r.first []
+    else service (Err BAD_BUFFER) r.first []
 
 -- a line that was delivered is emptied
 abbrev pub line_after : Result ℕ ℕ → Console → Console
@@ -35,7 +33,7 @@ line_after (Err code) c = c
 
 -- the line goes to the shell where the shell reads
 abbrev pub command_after : Request → List ℕ → List ℕ → List ℕ
-command_after r line command = if r.sender == shell_number then line else command
+command_after r line command = if r.sender == SHELL then line else command
 
 -- the read, which was taken, gets this, and is returned
 abbrev pub with_served : List ℕ → Lists → Request → Served → Progress → Progress

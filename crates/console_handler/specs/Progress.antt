@@ -10,6 +10,7 @@ use Rattle.resident_requests.specs.KernelCalls.KernelModel.NotedEvents.{NotesAll
 use Rattle.resident_requests.specs.KernelCalls.KernelModel.Owned.{owned}
 use Rattle.resident_requests.specs.KernelCalls.CallAnswers.Outside.{Outside}
 use Rattle.resident_requests.specs.Requests.{RunsResident}
+use Rattle.resident_requests.specs.KernelCalls.KernelModel.declared.numbers.TheConstants.{CONSOLE}
 
 -- How far a turn of the console has come.
 pub record Progress : Type 0 where
@@ -45,10 +46,6 @@ and_then g l plain events = record g {
   events = g.events ++ events;
 }
 
--- the number of the console
-abbrev pub console_number : ℕ
-console_number = 3
-
 -- How a turn of the console begins.
 pub record Start : Type 0 where
   -- the words of the store, from address 0
@@ -81,4 +78,5 @@ pub record IsDone (b : Start) (t : List ℕ) (tells : List ℕ → Type 0) (room
   pub shell : command ≡ g.command
   -- a resident runs
   pub runs : RunsResident g.lists
-  pub is : g.lists.running ≡ console_number
+  -- it is the console
+  pub is : g.lists.running ≡ CONSOLE

@@ -15,10 +15,11 @@ use resident_requests::{
 use tp_io::Output;
 use word_store::Store;
 
-/// The types of requests.
-const READ: u32 = 1;
+/// The type of a read, which waits for a line.
+pub const READ: u32 = 1;
 
-const WRITE: u32 = 2;
+/// The type of a write.
+pub const WRITE: u32 = 2;
 
 /// The code of a request whose buffer may not be read, or written.
 pub const BAD_BUFFER: u32 = 30;

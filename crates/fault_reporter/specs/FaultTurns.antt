@@ -13,13 +13,17 @@ use Rattle.resident_requests.specs.Answers.{finished}
 use Rattle.resident_requests.specs.Requests.{RunsResident, work}
 use Rattle.resident_requests.specs.Turns.{ResidentTurn, Served, idle_turn, request_turn, service}
 use Rattle.resident_requests.specs.declared.requests.Request.{Request}
+use Rattle.resident_requests.specs.KernelCalls.KernelModel.declared.numbers.TheConstants.{REPORTER}
+use Rattle.resident_requests.specs.declared.requests.TheConstants.{UNKNOWN_TYPE}
 use Rattle.fault_reporter.specs.Texts.{most_reported, reports}
 
 -- Task 2 runs, and there is room for its lines among the bytes that go to the console.
 pub record CanReport (shown : List ℕ) (l : Lists) : Type 0 where
   -- a resident runs
   pub runs : RunsResident l
-  pub reporter : l.running ≡ 2
+  -- it is the task that reports faults
+  pub reporter : l.running ≡ REPORTER
+  -- its lines fit behind the bytes that wait
   pub room : length shown + most_reported ≤ 8192
 
 -- a fault that is reported has 256 more in its word
@@ -31,7 +35,7 @@ all_reported l = with_tasks (map reported l.tasks) l
 
 -- the fault packet goes off the queue of task 2, on which these packets are left
 abbrev pub packet_taken : List QueuedPacket → Lists → Lists
-packet_taken ps l = with_fault_packet true (with_queue (Work 2) ps l)
+packet_taken ps l = with_fault_packet true (with_queue (Work REPORTER) ps l)
 
 -- it is taken, and all faults that were not reported yet are
 abbrev pub reported_turn : QueuedPacket → List QueuedPacket → List ℕ → Lists → ResidentTurn
@@ -40,12 +44,12 @@ reported_turn p ps s l = record {
   lists = finished (all_reported (packet_taken ps l));
   plain = [];
   bytes = reports l;
-  events = Taken (signed 2) fault_packet (signed p.sender) ∷ [];
+  events = Taken (signed REPORTER) fault_packet (signed p.sender) ∷ [];
 }
 
 -- every other packet is refused
 abbrev pub unknown : List ℕ → Lists → Request → Served
-unknown s l r = service (Err 31) 0 []
+unknown s l r = service (Err UNKNOWN_TYPE) 0 []
 
 -- the first packet is the fault packet
 abbrev pub is_fault_first : List QueuedPacket → Bool

@@ -16,12 +16,15 @@ use Rattle.resident_requests.specs.KernelCalls.KernelModel.ValidQueues.Place.{Wo
 use Rattle.resident_requests.specs.KernelCalls.KernelModel.ValidTasks.{IsRecordedFault}
 use Rattle.resident_requests.specs.KernelCalls.CallAnswers.Callers.{HasCaller}
 use Rattle.resident_requests.specs.KernelCalls.PacketCalls.PacketMoves.{with_arrived}
+use Rattle.resident_requests.specs.KernelCalls.KernelModel.declared.numbers.TheConstants.{FAULT_KIND, REPORTER}
 
 -- A guest runs, there is a task that reports faults, and the fault is one that it reports.
 pub record CanRecord (l : Lists) (f : Fault) : Type 0 where
   -- a guest runs
   pub caller : HasCaller l
-  pub reporter : has_task 2 l.tasks ≡ true
+  -- the task that reports faults is there
+  pub reporter : has_task REPORTER l.tasks ≡ true
+  -- the code is one that is recorded
   pub fault : IsRecordedFault f.code
 
 -- ---- the guest
@@ -36,16 +39,16 @@ held_with f l = with_task l.running (with_fault f) l
 -- ---- the fault packet
 
 abbrev pub packet_from : ℕ → QueuedPacket
-packet_from id = record { address = fault_packet; sender = id; kind = 40; res1 = 0; last = 0 }
+packet_from id = record { address = fault_packet; sender = id; kind = FAULT_KIND; res1 = 0; last = 0 }
 
 -- where it is on no queue the running task sends it to task 2
 abbrev pub sent_where : Bool → Lists → Lists
 sent_where false l = l
-sent_where true l = with_fault_packet false (with_arrived (Work 2) (packet_from l.running) l)
+sent_where true l = with_fault_packet false (with_arrived (Work REPORTER) (packet_from l.running) l)
 
 abbrev pub events_where : Bool → Lists → List KernelEvent
 events_where false l = []
-events_where true l = Accepted (signed 2) fault_packet (signed l.running) ∷ []
+events_where true l = Accepted (signed REPORTER) fault_packet (signed l.running) ∷ []
 
 abbrev pub sent : Lists → Lists
 sent l = sent_where l.fault_packet_free l

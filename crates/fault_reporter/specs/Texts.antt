@@ -6,6 +6,9 @@ use Rattle.tp_io.specs.Pieces.{joined}
 use Rattle.resident_requests.specs.KernelCalls.KernelModel.Between.{is_unreported}
 use Rattle.resident_requests.specs.KernelCalls.KernelModel.Lists.{Lists}
 use Rattle.resident_requests.specs.KernelCalls.KernelModel.Task.{Task}
+use Rattle.resident_requests.specs.KernelCalls.TaskBlock.TaskWords.{word_index}
+use Rattle.resident_requests.specs.KernelCalls.TaskBlock.declared.fields.TcbField.TheVariants.{Id}
+use Rattle.resident_requests.specs.KernelCalls.KernelModel.declared.numbers.TheConstants.{FAULT_ADDRESS, FAULT_WORD}
 
 -- the line of a task with a fault at an address
 abbrev pub report : ℕ → ℕ → ℕ → List ℕ
@@ -32,7 +35,10 @@ is_unreported_word w = nat_le 1 w && nat_lt w 256
 
 -- that of the task block at t
 abbrev pub report_at : List ℕ → ℕ → List ℕ
-report_at s t = if is_unreported_word (slice_index s (t + 21)) then report (slice_index s (t + 1)) (slice_index s (t + 21)) (slice_index s (t + 22)) else []
+report_at s t =
+    if is_unreported_word (slice_index s (t + word_index FAULT_WORD))
+    then report (slice_index s (t + word_index Id)) (slice_index s (t + word_index FAULT_WORD)) (slice_index s (t + word_index FAULT_ADDRESS))
+    else []
 
 unfoldable pub reports_in : List ℕ → List ℕ
 reports_in s = flat_map (report_at s) (tasks_in s)

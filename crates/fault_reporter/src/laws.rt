@@ -8,6 +8,7 @@ ghost use Rattle.resident_requests.specs.KernelCalls.KernelModel.Lists.{Lists};
 ghost use Rattle.resident_requests.specs.KernelCalls.KernelModel.ValidLists.{AreValid};
 ghost use Rattle.resident_requests.specs.KernelCalls.KernelDispatch.Dispatch.{CanDispatch};
 ghost use Rattle.resident_requests.specs.Requests.{RunsResident};
+ghost use Rattle.resident_requests.specs.KernelCalls.KernelModel.declared.numbers.TheConstants.{REPORTER};
 ghost use Rattle.fault_reporter.specs.FaultTurns.{fault_turn};
 ghost use Rattle.fault_reporter.specs.Recorded.{CanRecord, recorded};
 
@@ -17,7 +18,7 @@ pub fn faults_law()
     ensures recorded { (k : Kernel) (f : Fault) → CanRecord k.lists f → FaultsStand k
         → FaultsStand (record k { lists = recorded f k.lists }) }
     ensures reported { (k : Kernel) (s : List ℕ) → AreValid k.lists → RunsResident k.lists
-        → k.lists.running ≡ 2 → FaultsStand k
+        → k.lists.running ≡ REPORTER → FaultsStand k
         → FaultsStand (record k { lists = (fault_turn s k.lists).lists }) }
 {}
 

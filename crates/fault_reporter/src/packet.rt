@@ -10,22 +10,19 @@ ghost use Rattle.resident_requests.specs.KernelCalls.KernelModel.NotedEvents.{No
 ghost use Rattle.resident_requests.specs.KernelCalls.CallAnswers.Callers.{HasCaller};
 ghost use Rattle.fault_reporter.specs.Recorded.{OwnsSame, sent, sent_events};
 
-use resident_requests::numbers::{FAULT_PACKET, KIND, REPORTER, SENDER};
+use resident_requests::numbers::{FAULT_KIND, FAULT_PACKET, KIND, REPORTER, SENDER};
 use resident_requests::{
     EventLog, Queue, RootField, TcbField, accepted, caller, field, find, has_packet, root, send,
     taken, unqueue,
 };
 use word_store::{Store, set_word_at, word_at};
 
-/// The type of the fault packet.
-const FAULT_KIND: u32 = 40;
-
 // Where the fault packet is on no queue, it comes to the task that reports faults from the guest that runs.
 pub(crate) fn send_packet<L: EventLog>(store: &mut Store, log: &mut L)
-    requires { (l : Lists) × HoldsLists store.old l × HasCaller l × (has_task 2 l.tasks ≡ true) }
-    ensures sent { (l : Lists) → HoldsLists store.old l → HasCaller l → has_task 2 l.tasks ≡ true
+    requires { (l : Lists) × HoldsLists store.old l × HasCaller l × (has_task REPORTER l.tasks ≡ true) }
+    ensures sent { (l : Lists) → HoldsLists store.old l → HasCaller l → has_task REPORTER l.tasks ≡ true
         → OwnsSame store.old store.new l (sent l) }
-    ensures notes { (l : Lists) → HoldsLists store.old l → HasCaller l → has_task 2 l.tasks ≡ true
+    ensures notes { (l : Lists) → HoldsLists store.old l → HasCaller l → has_task REPORTER l.tasks ≡ true
         → NotesAll (L.noted log.old) (L.noted log.new) (L.has_failed log.old) (L.has_failed log.new)
         (sent_events l) }
 {
@@ -44,14 +41,14 @@ pub(crate) fn send_packet<L: EventLog>(store: &mut Store, log: &mut L)
 
 // The fault packet, the first of the task that reports faults, goes off its queue.
 pub(crate) fn take_packet<L: EventLog>(store: &mut Store, log: &mut L)
-    requires { (l : Lists) × HoldsLists store.old l × RunsResident l × (l.running ≡ 2)
+    requires { (l : Lists) × HoldsLists store.old l × RunsResident l × (l.running ≡ REPORTER)
         × IsFaultFirst (work l) }
-    ensures taken { (l : Lists) → HoldsLists store.old l → RunsResident l → l.running ≡ 2
+    ensures taken { (l : Lists) → HoldsLists store.old l → RunsResident l → l.running ≡ REPORTER
         → IsFaultFirst (work l) → OwnsSame store.old store.new l (fault_taken_from (work l) l) }
-    ensures notes { (l : Lists) → HoldsLists store.old l → RunsResident l → l.running ≡ 2
+    ensures notes { (l : Lists) → HoldsLists store.old l → RunsResident l → l.running ≡ REPORTER
         → IsFaultFirst (work l) → NotesAll (L.noted log.old) (L.noted log.new)
         (L.has_failed log.old) (L.has_failed log.new)
-        (Taken (signed 2) 310 (signed (sender_of (work l))) ∷ []) }
+        (Taken (signed REPORTER) FAULT_PACKET (signed (sender_of (work l))) ∷ []) }
 {
     let task = root(store, RootField::Running);
     let sender = word_at(store, FAULT_PACKET, SENDER);

@@ -7,7 +7,7 @@ ghost use Rattle.fault_reporter.specs.Recorded.{CanRecord, OwnsSame, held_with, 
 
 use crate::packet::send_packet;
 use cint_exec::Fault;
-use resident_requests::numbers::HELD;
+use resident_requests::numbers::{FAULT_ADDRESS, FAULT_WORD, HELD};
 use resident_requests::{EventLog, TcbField, caller, field, set_field};
 use word_store::Store;
 
@@ -34,7 +34,7 @@ fn hold_with(store: &mut Store, fault: Fault)
 {
     let task = caller(store);
     let state = field(store, task, TcbField::State);
-    set_field(store, task, TcbField::Extra2, fault.address);
-    set_field(store, task, TcbField::Extra1, fault.code);
+    set_field(store, task, FAULT_ADDRESS, fault.address);
+    set_field(store, task, FAULT_WORD, fault.code);
     set_field(store, task, TcbField::State, state % 2 + HELD);
 }

@@ -11,7 +11,7 @@ ghost use Rattle.fault_reporter.specs.Recorded.{OwnsSame};
 ghost use Rattle.fault_reporter.specs.Texts.{is_unreported_word, most_in_line, report, report_at, reports_in};
 
 use itoa::Buffer;
-use resident_requests::numbers::FIRST_GUEST;
+use resident_requests::numbers::{FAULT_ADDRESS, FAULT_WORD, FIRST_GUEST};
 use resident_requests::{TcbField, field, find, set_field, tasks};
 use tp_io::Output;
 use word_store::Store;
@@ -40,12 +40,12 @@ fn print_report(store: &Store, t: u32, out: &mut Output)
     ensures text { out.new ≡ out.old ++ report_at store.now t }
     ensures short { length out.new ≤ length out.old + most_in_line }
 {
-    let fault = field(store, t, TcbField::Extra1);
+    let fault = field(store, t, FAULT_WORD);
     if !is_unreported(fault) {
         return;
     }
     let id = field(store, t, TcbField::Id);
-    let address = field(store, t, TcbField::Extra2);
+    let address = field(store, t, FAULT_ADDRESS);
     append_report(out, id, fault, address);
 }
 
@@ -97,7 +97,7 @@ pub(crate) fn mark_reports(store: &mut Store)
 
 // The fault of the guest with the number is reported.
 fn mark_report(store: &mut Store, id: u32)
-    requires guest { 5 ≤ id }
+    requires guest { FIRST_GUEST ≤ id }
     requires lists { (l : Lists) × HoldsLists store.old l }
     ensures { (l : Lists) → HoldsLists store.old l
         → OwnsSame store.old store.new l (with_task id reported l) }
@@ -105,9 +105,9 @@ fn mark_report(store: &mut Store, id: u32)
     let Some(task) = find(store, id) else {
         return;
     };
-    let fault = field(store, task, TcbField::Extra1);
+    let fault = field(store, task, FAULT_WORD);
     if !is_unreported(fault) {
         return;
     }
-    set_field(store, task, TcbField::Extra1, fault + REPORTED);
+    set_field(store, task, FAULT_WORD, fault + REPORTED);
 }

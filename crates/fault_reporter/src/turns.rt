@@ -85,7 +85,7 @@ fn report_faults<L: EventLog>(store: &mut Store, out: &mut Output, log: &mut L)
     ensures notes { (l : Lists) → HoldsLists store.old l → CanReport out.old l
         → IsFaultFirst (work l) → NotesAll (L.noted log.old) (L.noted log.new)
         (L.has_failed log.old) (L.has_failed log.new)
-        (Taken (signed 2) 310 (signed (sender_of (work l))) ∷ []) }
+        (Taken (signed REPORTER) FAULT_PACKET (signed (sender_of (work l))) ∷ []) }
 {
     take_packet(store, log);
     print_reports(store, out);

@@ -7,6 +7,8 @@ use Rattle.ram_disc.specs.DiscCalls.{Outcome, after_append, after_close, after_d
 use Rattle.resident_requests.specs.Buffers.{bytes_in, is_readable, is_writable}
 use Rattle.resident_requests.specs.Names.{is_name_at, string_in}
 use Rattle.resident_requests.specs.declared.requests.Request.{Request}
+use Rattle.ram_disc.specs.declared.codes.TheConstants.{BAD_BUFFER, BAD_NAME, NO_FILE, NOT_OPEN}
+use Rattle.resident_requests.specs.declared.requests.TheConstants.{UNKNOWN_TYPE}
 use Rattle.file_handler.specs.FileCalls.{file_call}
 use Rattle.file_handler.specs.declared.calls.FileCall.{FileCall}
 use Rattle.file_handler.specs.declared.calls.FileCall.TheVariants.{Append, Close, Delete, Examine, OpenToRead, OpenToWrite, ReadOn, Rename}
@@ -57,22 +59,22 @@ second_name s r = string_in s r.second
 -- A file is opened to read: a bad name is code 40; then no such file 41, a stream writes it 47, no stream is free 45.
 abbrev pub open_to_read : Disc → List ℕ → Request → Handled
 open_to_read d s r =
-    unless_refused d ((is_name_at s r.first, 40) ∷ []) (by_call (after_open_read d (first_name s r) false))
+    unless_refused d ((is_name_at s r.first, BAD_NAME) ∷ []) (by_call (after_open_read d (first_name s r) false))
 
 -- To write, and the file is emptied: a bad name is code 40; then any stream has it 47, no stream is free 45, there are 64 files 44.
 abbrev pub open_to_write : Disc → List ℕ → Request → Handled
 open_to_write d s r =
-    unless_refused d ((is_name_at s r.first, 40) ∷ []) (by_call (after_open_write d (first_name s r)))
+    unless_refused d ((is_name_at s r.first, BAD_NAME) ∷ []) (by_call (after_open_write d (first_name s r)))
 
 -- A file is deleted: a bad name is code 40; then no such file 41, any stream has it 47.
 abbrev pub delete : Disc → List ℕ → Request → Handled
 delete d s r =
-    unless_refused d ((is_name_at s r.first, 40) ∷ []) (by_silent_call 0 (after_delete d (first_name s r)))
+    unless_refused d ((is_name_at s r.first, BAD_NAME) ∷ []) (by_silent_call 0 (after_delete d (first_name s r)))
 
 -- It gets another name: a bad name of the two is code 40; then no such file 41, one has the new name 42, any stream has it 47.
 abbrev pub rename : Disc → List ℕ → Request → Handled
 rename d s r =
-    unless_refused d ((is_name_at s r.first && is_name_at s r.second, 40) ∷ [])
+    unless_refused d ((is_name_at s r.first && is_name_at s r.second, BAD_NAME) ∷ [])
     (by_silent_call 0 (after_rename d (first_name s r) (second_name s r)))
 
 -- the 16 bytes of the buffer for a name: it as a string, and zeros behind it
@@ -81,9 +83,9 @@ name_buffer name = take 16 (length name ∷ name ++ replicate 16 0)
 
 -- The k-th file in byte order, from 1, is examined: no such file is code 41, a bad buffer 48. The answer is its size.
 abbrev pub examined : Disc → List ℕ → Lists → Request → Option (List ℕ × ℕ) → Handled
-examined d s l r None = refused d 41
+examined d s l r None = refused d NO_FILE
 examined d s l r (Some file) =
-    unless_refused d ((is_writable s l r.packet r.second 16, 48) ∷ []) (handled d (Ok file.1) (name_buffer file.0))
+    unless_refused d ((is_writable s l r.packet r.second 16, BAD_BUFFER) ∷ []) (handled d (Ok file.1) (name_buffer file.0))
 
 abbrev pub examine : Disc → List ℕ → Lists → Request → Handled
 examine d s l r = examined d s l r (nth_of d r.first)
@@ -98,20 +100,20 @@ handler_stream d k = if k == shell_stream then None else stream_at d k
 -- as the third argument says, or those that are left.
 abbrev pub read_on : Disc → List ℕ → Lists → Request → Handled
 read_on d s l r =
-    unless_refused d ((is_reader (handler_stream d r.first), 46) ∷ (is_writable s l r.packet r.second r.third, 48) ∷ [])
+    unless_refused d ((is_reader (handler_stream d r.first), NOT_OPEN) ∷ (is_writable s l r.packet r.second r.third, BAD_BUFFER) ∷ [])
     (record (by_call (after_read_on d r.first r.third)) { bytes = bytes_read d r.first r.third })
 
 -- Bytes are written to a stream: it is none that writes, code 46, or the buffer is bad 48; then the disc is full 43. The answer is the
 -- number of the bytes.
 abbrev pub append : Disc → List ℕ → Request → Handled
 append d s r =
-    unless_refused d ((is_writer (handler_stream d r.first), 46) ∷ (is_readable s r.second r.third, 48) ∷ [])
+    unless_refused d ((is_writer (handler_stream d r.first), NOT_OPEN) ∷ (is_readable s r.second r.third, BAD_BUFFER) ∷ [])
     (by_silent_call r.third (after_append d r.first (bytes_in s r.second 0 r.third)))
 
 -- A stream is closed: it is not open, code 46.
 abbrev pub close : Disc → Request → Handled
 close d r =
-    unless_refused d ((is_some (handler_stream d r.first), 46) ∷ []) (by_silent_call 0 (after_close d r.first))
+    unless_refused d ((is_some (handler_stream d r.first), NOT_OPEN) ∷ []) (by_silent_call 0 (after_close d r.first))
 
 -- ---- all requests
 
@@ -124,7 +126,7 @@ call_handled d s l r (Some Close) = close d r
 call_handled d s l r (Some Delete) = delete d s r
 call_handled d s l r (Some Rename) = rename d s r
 call_handled d s l r (Some Examine) = examine d s l r
-call_handled d s l r None = refused d 31
+call_handled d s l r None = refused d UNKNOWN_TYPE
 
 -- the words and the lists are those that taking the request leaves
 unfoldable pub file_request : Disc → List ℕ → Lists → Request → Handled

@@ -5,17 +5,15 @@ use Rattle.ram_disc.specs.Disc.{Disc}
 use Rattle.resident_requests.specs.Requests.{RunsResident, first_request, taken, words_taken, work}
 use Rattle.resident_requests.specs.Turns.{ResidentTurn, Served, request_turn, service}
 use Rattle.resident_requests.specs.declared.requests.Request.{Request}
+use Rattle.resident_requests.specs.KernelCalls.KernelModel.declared.numbers.TheConstants.{FILE_HANDLER}
 use Rattle.file_handler.specs.FileRequests.{Handled, file_request}
-
--- the number of the file handler
-abbrev pub file_handler : ℕ
-file_handler = 4
 
 -- it runs
 pub record RunsFileHandler (l : Lists) : Type 0 where
   -- a resident runs
   pub runs : RunsResident l
-  pub is : l.running ≡ file_handler
+  -- it is the file handler
+  pub is : l.running ≡ FILE_HANDLER
 
 -- what it makes of a request goes back to the sender
 abbrev pub served : Request → Handled → Served

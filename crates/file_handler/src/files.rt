@@ -5,13 +5,11 @@ ghost use Rattle.resident_requests.specs.KernelCalls.KernelModel.Lists.{Lists};
 ghost use Rattle.file_handler.specs.FileRequests.{delete, examine, handled, name_buffer, open_to_read, open_to_write, rename};
 
 use crate::pieces::{put_all, put_zeros};
-use crate::streams::BAD_BUFFER;
 use arrayvec::ArrayVec;
+use ram_disc::codes::{BAD_BUFFER, NO_FILE};
 use ram_disc::{Disc, Name};
 use resident_requests::{KindKeeper, Request, can_write, name_at};
 use word_store::Store;
-
-const NOT_FOUND: u32 = 41;
 
 /// The bytes of the buffer for a name.
 const NAME_BYTES: u32 = 16;
@@ -68,7 +66,7 @@ pub(crate) fn examine<Q: KindKeeper>(
     ensures { (l : Lists) → HasKeeper store.now (Q.tells kinds.now) (Q.room kinds.now) l
         → handled disc.now result bytes.new.items ≡ examine disc.now store.now l request }
 {
-    let (name, size) = disc.nth(request.first).ok_or(NOT_FOUND)?;
+    let (name, size) = disc.nth(request.first).ok_or(NO_FILE)?;
     if !can_write(store, kinds, request.packet, request.second, NAME_BYTES) {
         return Err(BAD_BUFFER);
     }

@@ -10,15 +10,9 @@ ghost use Rattle.file_handler.specs.FileRequests.{append, close, handled, handle
 use crate::pieces::put_zeros;
 use arrayvec::ArrayVec;
 use ram_disc::Disc;
+use ram_disc::codes::{BAD_BUFFER, NOT_OPEN, SHELL_STREAM};
 use resident_requests::{KindKeeper, Request, can_read, can_write, read_buffer};
 use word_store::Store;
-
-const NOT_OPEN: u32 = 46;
-
-pub(crate) const BAD_BUFFER: u32 = 48;
-
-/// The shell's stream, which no request may name.
-const SHELL_STREAM: u32 = 17;
 
 /// Puts the next bytes of the stream that is the first argument into `bytes`, for the buffer at the second one, as many as the third
 /// one says or those that are left. The answer is their number. Refused where the stream is none that reads (46), or the buffer is bad

@@ -6,6 +6,7 @@ use Rattle.session_text.specs.declared.sessions.LineForm.{LineForm}
 use Rattle.session_text.specs.declared.sessions.LineForm.TheVariants.{Code, File as FileForm, Task}
 use Rattle.session_text.specs.declared.sessions.SessionLine.{SessionLine}
 use Rattle.kernel_calls.specs.CallAnswers.Refusals.{first_refusal}
+use Rattle.ram_disc.specs.declared.codes.TheConstants.{DIRECTORY_FULL, DISC_FULL, NAME_TAKEN}
 use Rattle.kernel_boot.specs.declared.refusals.BootRefusal.{BootRefusal}
 
 -- ---- lines
@@ -23,7 +24,7 @@ at_line n (Err code) next = Err (boot_refusal n code)
 -- no file has the name (code 42), there is room for a file more (44), and the disc has room for the bytes (43)
 abbrev pub file_tests : Disc → List ℕ → List ℕ → List (Bool × ℕ)
 file_tests d name bytes =
-    (not (has_file d name), 42) ∷ (nat_lt (length d.files) most_files, 44) ∷ (has_room (with_bytes d name bytes), 43) ∷ []
+    (not (has_file d name), NAME_TAKEN) ∷ (nat_lt (length d.files) most_files, DIRECTORY_FULL) ∷ (has_room (with_bytes d name bytes), DISC_FULL) ∷ []
 
 -- refused or not, as this says, it makes that of the disc
 abbrev pub disc_or_code : Option ℕ → Disc → Result Disc ℕ
@@ -66,4 +67,4 @@ writing others name bytes =
 -- the disc is this one and has room for it, or has none, which is code 43
 abbrev pub IsAppended : Disc → Result (Unit {0}) ℕ → Disc → Type 0
 IsAppended d (Ok u) whole = (d ≡ whole) × (has_room whole ≡ true)
-IsAppended d (Err code) whole = (code ≡ 43) × (has_room whole ≡ false)
+IsAppended d (Err code) whole = (code ≡ DISC_FULL) × (has_room whole ≡ false)

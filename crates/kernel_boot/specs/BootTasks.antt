@@ -16,6 +16,7 @@ use Rattle.kernel_calls.specs.KernelModel.Versions.{highest_id_of, most_modules_
 use Rattle.kernel_calls.specs.CallAnswers.Made.{Made, refused}
 use Rattle.kernel_calls.specs.ModuleCalls.LoadModule.{load_module}
 use Rattle.kernel_calls.specs.TaskCalls.CreateTask.{create_task}
+use Rattle.ram_disc.specs.declared.codes.TheConstants.{NO_FILE}
 use Rattle.kernel_boot.specs.BegunTask.{with_begun}
 use Rattle.kernel_boot.specs.BootFiles.{at_line}
 use Rattle.kernel_boot.specs.declared.refusals.BootRefusal.{BootRefusal}
@@ -39,7 +40,7 @@ load_text l (Err refusal) = refused l (60 + refusal.code)
 
 -- there is such a file (code 41)
 abbrev pub load_bytes : Lists → Option (List ℕ) → Made
-load_bytes l None = refused l 41
+load_bytes l None = refused l NO_FILE
 load_bytes l (Some bytes) = load_text l (module_of bytes)
 
 abbrev pub load_named : Disc → List ℕ → Lists → Made
@@ -83,9 +84,13 @@ start_tasks d (line ∷ lines) k = at_line line.line (start_form d line.form k) 
 
 -- a task's number is a guest's, and it has from one to the most modules
 pub record MayStart (version id : ℕ) (names : List (List ℕ)) : Type 0 where
+  -- it is no resident's number
   pub low : 5 ≤ id
+  -- tasks may have it
   pub high : id ≤ highest_id_of version
+  -- the task has a module
   pub some_module : 1 ≤ length names
+  -- it has no more than it may have
   pub most : length names ≤ most_modules_of version
 
 abbrev pub IsBootForm : ℕ → LineForm → Type 0

@@ -4,11 +4,9 @@ ghost use Rattle.ram_disc.specs.Disc.{File, most_sectors, sectors_taken};
 ghost use Rattle.kernel_boot.specs.BootFiles.{HasNoStreams, IsAppended, IsNewDisc, load_files, load_form, with_new_file, writing};
 
 use crate::BootRefusal;
+use ram_disc::codes::NAME_TAKEN;
 use ram_disc::{Disc, Name};
 use session_text::{LineForm, SessionLine};
-
-/// A file has the name already.
-const THERE_ALREADY: u32 = 42;
 
 /// The most bytes that are appended at a time.
 const PIECE: usize = 4096;
@@ -48,7 +46,7 @@ fn load_file(disc: &mut Disc, name: &Name, bytes: &[u8]) -> Result<(), u32>
     ensures { IsNewDisc disc.new result (with_new_file disc.old name.now bytes.now) }
 {
     if disc.size(name).is_some() {
-        return Err(THERE_ALREADY);
+        return Err(NAME_TAKEN);
     }
     let stream = disc.open_write(name)?;
     append_all(disc, stream, bytes)?;

@@ -9,15 +9,13 @@ ghost use Rattle.kernel_calls.specs.KernelModel.Standing.{standing};
 use crate::{BootRefusal, begin_task};
 use arrayvec::ArrayVec;
 use kernel_calls::{KindKeeper, create_task_of, guest, load_module};
+use ram_disc::codes::NO_FILE;
 use ram_disc::{Disc, Name};
 use session_text::{LineForm, SessionLine};
 use word_store::Store;
 
 /// A task has the number already.
 const TASK_THERE: u32 = 27;
-
-/// No file has the name.
-const NO_FILE: u32 = 41;
 
 /// The maker of a task that no task has made.
 const NO_MAKER: u32 = 0;

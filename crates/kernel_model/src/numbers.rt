@@ -1,6 +1,7 @@
 // Numbers of the kernel, each in its one place: of tasks and their states, of devices, of the residents' block, and of the words of
 // task blocks, coroutines and packets.
 
+use kernel_lists::TcbField;
 pub use kernel_lists::{DUE, FIRST_GUEST, LEAST_HIGHEST, MOST_GLOBALS, PACKET_LINK, TABLE};
 
 /// The number of the shell.
@@ -56,6 +57,15 @@ pub const SHELL_PACKET: u32 = 279;
 
 /// The packet that comes to the task that reports faults.
 pub const FAULT_PACKET: u32 = 310;
+
+/// The type of that packet.
+pub const FAULT_KIND: u32 = 40;
+
+/// The word of a task block that has the code of the task's fault: 0 where it had none, and 256 more once it was reported.
+pub const FAULT_WORD: TcbField = TcbField::Extra1;
+
+/// The word of a task block that has the address of that fault.
+pub const FAULT_ADDRESS: TcbField = TcbField::Extra2;
 
 /// How many words a resident's task block has.
 pub const RESIDENT_WORDS: u32 = 23;

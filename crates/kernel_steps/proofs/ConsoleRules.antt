@@ -29,11 +29,12 @@ use Rattle.cli_shell.specs.KernelResidents.ConsoleHandler.ConsoleTurn.{all_parts
 use Rattle.cli_shell.specs.KernelResidents.ConsoleHandler.Deliveries.{command_after, delivered, delivery, handed, line_after, line_service, with_read}
 use Rattle.cli_shell.specs.KernelResidents.ConsoleHandler.KeyPacket.{keys_taken, keys_taken_from}
 use Rattle.cli_shell.specs.KernelResidents.ConsoleHandler.Line.{Keyed, flags_of, is_printed, key, keyed, with_end, with_finish, without_end}
-use Rattle.cli_shell.specs.KernelResidents.ConsoleHandler.Progress.{Progress, and_then, begun, console_number}
+use Rattle.cli_shell.specs.KernelResidents.ConsoleHandler.Progress.{Progress, and_then, begun}
 use Rattle.cli_shell.specs.KernelResidents.ConsoleHandler.Reads.{put_off, read_taken_from, words_read_from}
 use Rattle.guest_turns.specs.GuestTurn.{Numbers, numbers_of}
 use Rattle.guest_turns.proofs.RunningField.{RunsIn, one-runs, queue-runs}
 use Rattle.cli_shell.proofs.Shown.KernelResidents.FaultReporter.FaultsKept.{KeepsFault, there-same, work-keeps}
+use Rattle.guest_turns.specs.KernelCalls.KernelModel.declared.numbers.TheConstants.{CONSOLE}
 use Rattle.kernel_steps.proofs.CallRules.{set_flags-keeps}
 use Rattle.kernel_steps.proofs.FaultRule.{HasRule, arrived-rule}
 use Rattle.kernel_steps.proofs.HandledRules.{finished-keeps, finished-runs, rest-keeps, returned-keeps}
@@ -226,7 +227,7 @@ module _ (nums : Numbers) where
     where
       on : (b : Bool) → IsKept nums (cond b (keys_sent g) g)
       on true =
-          let p : QueuedPacket = sent_packet g.words g.lists Keyboard key_packet console_number in
+          let p : QueuedPacket = sent_packet g.words g.lists Keyboard key_packet CONSOLE in
           let runs : RunsIn nums (with_arrived Keyboard p g.lists) = queue-runs nums g.lists Keyboard (arrived Keyboard p g.lists.keyboard) k.runs in
           record {
             runs = record { numbers = runs.numbers; alone = runs.alone };

@@ -8,6 +8,7 @@ use Rattle.block_calls.specs.KernelDispatch.KernelModel.Residents.{key_packet, k
 use Rattle.block_calls.specs.KernelDispatch.KernelModel.ValidBlocks.{AreData}
 use Rattle.block_calls.specs.KernelDispatch.KernelModel.ValidQueues.Place.{Keyboard, Work}
 use Rattle.block_calls.specs.CallAnswers.Made.{Made, minus_one}
+use Rattle.block_calls.specs.KernelDispatch.KernelModel.declared.numbers.TheConstants.{CONSOLE}
 use Rattle.packet_calls.specs.PacketMoves.{sent_packet, with_arrived}
 
 -- A packet that is plain goes from one task to another, or the same one.
@@ -27,7 +28,9 @@ pub record CanSendKeys (l : Lists) (p from to : ℕ) : Type 0 where
   pub packet : p ≡ key_packet
   -- it is on no queue
   pub off : is_some l.key ≡ true
-  pub sender : from ≡ 3
+  -- the console sends it
+  pub sender : from ≡ CONSOLE
+  -- the keyboard gets it
   pub to_keyboard : to ≡ keyboard
 
 abbrev pub CanSendOwn : Lists → ℕ → ℕ → ℕ → Type 0

@@ -3,6 +3,7 @@ use Rattle.std.specs.Prelude.{ℕ, ◌+◌, ◌-◌, ◌==◌, ◌&&◌, ◌||�
 use Rattle.std.specs.Option.{is_none, is_some, option_map}
 use Rattle.std.specs.Str.{bytes_eq}
 use Rattle.ram_disc.specs.Disc.{Disc, File, Stream, bytes_of, file_named, has_file, is_before, is_used, is_written, most_files, most_sectors, most_streams, sectors_taken, shell_stream, stream_at}
+use Rattle.ram_disc.specs.declared.codes.TheConstants.{DIRECTORY_FULL, DISC_FULL, IN_USE, NAME_TAKEN, NO_FILE, NO_STREAM, NOT_OPEN}
 
 -- what a call answers, and the disc after it
 pub record Outcome (A : Type 0) : Type 0 where
@@ -61,7 +62,7 @@ stream_to_read d shell = if shell then shell_stream else free_stream d
 
 abbrev pub after_open_read : Disc → List ℕ → Bool → Outcome ℕ
 after_open_read d name shell =
-    unless_refused d ((has_file d name, 41) ∷ (not (is_written d name), 47) ∷ (shell || has_free_stream d, 45) ∷ [])
+    unless_refused d ((has_file d name, NO_FILE) ∷ (not (is_written d name), IN_USE) ∷ (shell || has_free_stream d, NO_STREAM) ∷ [])
     (stream_to_read d shell) (with_stream d (stream_to_read d shell) (Some (reader name 0)))
 
 -- there is such a file already, or room for one
@@ -70,7 +71,7 @@ has_place d name = has_file d name || nat_lt (length d.files) most_files
 
 abbrev pub after_open_write : Disc → List ℕ → Outcome ℕ
 after_open_write d name =
-    unless_refused d ((not (is_used d name), 47) ∷ (has_free_stream d, 45) ∷ (has_place d name, 44) ∷ [])
+    unless_refused d ((not (is_used d name), IN_USE) ∷ (has_free_stream d, NO_STREAM) ∷ (has_place d name, DIRECTORY_FULL) ∷ [])
     (free_stream d) (with_stream (with_bytes d name []) (free_stream d) (Some (writer name 0)))
 
 -- the stream is open, and reads
@@ -98,7 +99,7 @@ bytes_read d k count = if is_reader (stream_at d k) then take count (bytes_left 
 
 abbrev pub after_read_on : Disc → ℕ → ℕ → Outcome ℕ
 after_read_on d k count =
-    unless_refused d ((is_reader (stream_at d k), 46) ∷ [])
+    unless_refused d ((is_reader (stream_at d k), NOT_OPEN) ∷ [])
     (length (bytes_read d k count)) (with_stream d k (moved_on (length (bytes_read d k count)) (stream_at d k)))
 
 -- the disc, with these bytes behind those of the file that an open stream is on
@@ -112,15 +113,15 @@ has_room d = nat_le (sectors_taken d.files) most_sectors
 
 abbrev pub after_append : Disc → ℕ → List ℕ → Outcome Unit
 after_append d k bytes =
-    unless_refused d ((is_writer (stream_at d k), 46) ∷ (has_room (with_more d (stream_at d k) bytes), 43) ∷ [])
+    unless_refused d ((is_writer (stream_at d k), NOT_OPEN) ∷ (has_room (with_more d (stream_at d k) bytes), DISC_FULL) ∷ [])
     tt (with_stream (with_more d (stream_at d k) bytes) k (moved_on (length bytes) (stream_at d k)))
 
 abbrev pub after_close : Disc → ℕ → Outcome Unit
-after_close d k = unless_refused d ((is_some (stream_at d k), 46) ∷ []) tt (with_stream d k None)
+after_close d k = unless_refused d ((is_some (stream_at d k), NOT_OPEN) ∷ []) tt (with_stream d k None)
 
 abbrev pub after_delete : Disc → List ℕ → Outcome Unit
 after_delete d name =
-    unless_refused d ((has_file d name, 41) ∷ (not (is_used d name), 47) ∷ [])
+    unless_refused d ((has_file d name, NO_FILE) ∷ (not (is_used d name), IN_USE) ∷ [])
     tt (record d { files = without_file name d.files })
 
 -- the files, with the one name in place of the other
@@ -129,7 +130,7 @@ renamed d old new = with_file (file new (bytes_of d old)) (without_file old d.fi
 
 abbrev pub after_rename : Disc → List ℕ → List ℕ → Outcome Unit
 after_rename d old new =
-    unless_refused d ((has_file d old, 41) ∷ (not (has_file d new), 42) ∷ (not (is_used d old), 47) ∷ [])
+    unless_refused d ((has_file d old, NO_FILE) ∷ (not (has_file d new), NAME_TAKEN) ∷ (not (is_used d old), IN_USE) ∷ [])
     tt (record d { files = renamed d old new })
 
 -- the size of the file of this name

@@ -5,6 +5,7 @@ ghost use Rattle.ram_disc.specs.Disc.{IsDisc, empty_disc, file_named, shell_stre
 ghost use Rattle.ram_disc.specs.DiscCalls.{after_append, after_close, after_delete, after_open_read, after_open_write, after_read_on, after_rename, after_restore, bytes_read, can_stand, nth_of, size_of, stream_of};
 
 use crate::Name;
+use crate::codes::{DIRECTORY_FULL, DISC_FULL, IN_USE, NAME_TAKEN, NO_FILE, NO_STREAM, NOT_OPEN};
 use crate::contents::Contents;
 use crate::directory::Directory;
 use crate::file_bytes::FileBytes;
@@ -15,20 +16,6 @@ use crate::places::{
 use std::alloc::Global;
 use std::marker::Model;
 use tp_io::WantMemory;
-
-const NOT_FOUND: u32 = 41;
-
-const THERE_ALREADY: u32 = 42;
-
-const DISC_FULL: u32 = 43;
-
-const DIRECTORY_FULL: u32 = 44;
-
-const NO_STREAM: u32 = 45;
-
-const NOT_OPEN: u32 = 46;
-
-const IN_USE: u32 = 47;
 
 /// A disc of 64 files at most and 4,096 sectors of 512 bytes, on which 17 streams may be open.
 #[derive(Drop)]
@@ -127,7 +114,7 @@ impl Disc {
         ensures disc { self.new ≡ (after_open_read self.old name.now shell).disc }
     {
         let Ok(place) = self.directory.place_of(name) else {
-            return Err(NOT_FOUND);
+            return Err(NO_FILE);
         };
         let slot = self.directory.slot_at(place);
         if is_written(&self.streams, slot) {
@@ -231,7 +218,7 @@ impl Disc {
         ensures disc { self.new ≡ (after_delete self.old name.now).disc }
     {
         let Ok(place) = self.directory.place_of(name) else {
-            return Err(NOT_FOUND);
+            return Err(NO_FILE);
         };
         if is_open(&self.streams, self.directory.slot_at(place)) {
             return Err(IN_USE);
@@ -248,10 +235,10 @@ impl Disc {
         ensures disc { self.new ≡ (after_rename self.old from.now to.now).disc }
     {
         let Ok(place) = self.directory.place_of(from) else {
-            return Err(NOT_FOUND);
+            return Err(NO_FILE);
         };
         let Err(end) = self.directory.place_of(to) else {
-            return Err(THERE_ALREADY);
+            return Err(NAME_TAKEN);
         };
         if is_open(&self.streams, self.directory.slot_at(place)) {
             return Err(IN_USE);

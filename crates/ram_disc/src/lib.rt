@@ -1,6 +1,7 @@
 // Files in memory: a disc of sectors, with names and streams.
 #![tactic(auto)]
 
+pub mod codes;
 mod contents;
 mod directory;
 pub mod discs;

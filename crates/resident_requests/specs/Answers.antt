@@ -14,6 +14,7 @@ use Rattle.kernel_calls.specs.KernelModel.ValidQueues.Place.{Work}
 use Rattle.kernel_calls.specs.CallAnswers.Made.{Made, minus_one}
 use Rattle.kernel_calls.specs.PacketCalls.PacketMoves.{with_arrived}
 use Rattle.kernel_calls.specs.PacketCalls.TaskWait.{waiting}
+use Rattle.kernel_calls.specs.KernelModel.declared.numbers.TheConstants.{PACKET_WORDS}
 use Rattle.resident_requests.specs.Requests.{work}
 use Rattle.resident_requests.specs.declared.requests.Request.{Request}
 
@@ -41,7 +42,7 @@ returned l r answer = record {
 
 -- the five words of the request are owned besides
 abbrev pub OwnsRequest : Lists → Lists → Request → Type 0
-OwnsRequest l m r = (a : ℕ) → owners a (owned m) ≡ owners a (owned l) + times a (range_with_len r.packet 5)
+OwnsRequest l m r = (a : ℕ) → owners a (owned m) ≡ owners a (owned l) + times a (range_with_len r.packet PACKET_WORDS)
 
 -- After its turn a resident waits where it has no packets, and still runs where it has some.
 abbrev pub finished_by : List QueuedPacket → Lists → Lists

@@ -5,6 +5,7 @@ use Rattle.word_store.specs.Bytes.{byte_of, with_byte}
 use Rattle.kernel_calls.specs.OwnedWords.Owned.{Pairs, owners}
 use Rattle.kernel_calls.specs.KernelModel.Lists.{Lists}
 use Rattle.kernel_calls.specs.KernelModel.Owned.{owned}
+use Rattle.kernel_calls.specs.KernelModel.declared.numbers.TheConstants.{PACKET_WORDS}
 
 -- ---- reading
 
@@ -44,7 +45,7 @@ is_readable s a n = is_count n && lies_inside s a n
 
 -- its words are none of the five of the packet at p
 abbrev pub lies_beside : ℕ → ℕ → ℕ → Bool
-lies_beside p a n = nat_le (a + covered n) p || nat_le (p + 5) a
+lies_beside p a n = nat_le (a + covered n) p || nat_le (p + PACKET_WORDS) a
 
 -- and nobody owns them
 abbrev pub is_unowned : Lists → ℕ → ℕ → Bool

@@ -2,6 +2,7 @@
 use Rattle.std.specs.Prelude.{ℕ, ◌+◌, ◌&&◌, Bool, if◌then◌else◌, Result, Ok, Err, List, length, nat_le}
 use Rattle.std.specs.List.{list_all}
 use Rattle.ram_disc.specs.Name.{is_name_byte}
+use Rattle.ram_disc.specs.declared.codes.TheConstants.{BAD_NAME}
 use Rattle.resident_requests.specs.Buffers.{byte_in, bytes_in, lies_inside}
 
 -- 1 to 12 bytes that may stand in a name
@@ -17,4 +18,4 @@ is_name_at s a = lies_inside s a (byte_in s a 0 + 1) && is_name (string_in s a)
 
 -- code 40 where it is no name, or does not lie in the store
 abbrev pub name_at : List ℕ → ℕ → Result (List ℕ) ℕ
-name_at s a = if is_name_at s a then Ok (string_in s a) else Err 40
+name_at s a = if is_name_at s a then Ok (string_in s a) else Err BAD_NAME

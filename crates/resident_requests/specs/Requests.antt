@@ -17,6 +17,7 @@ use Rattle.kernel_calls.specs.KernelModel.ValidQueues.Place.{Work}
 use Rattle.kernel_calls.specs.KernelModel.ValidTasks.{runs}
 use Rattle.kernel_calls.specs.PacketCalls.Destinations.{queue_for}
 use Rattle.kernel_calls.specs.PacketCalls.QueueWords.{unqueued}
+use Rattle.kernel_calls.specs.KernelModel.declared.numbers.TheConstants.{FIRST, KIND, PACKET_WORDS, SECOND, SENDER, THIRD}
 use Rattle.resident_requests.specs.declared.requests.Request.{Request}
 
 -- a resident runs, and its state says so
@@ -78,11 +79,11 @@ words_taken s l = words_taken_from (work l) s l
 abbrev pub request_at : List ℕ → ℕ → Request
 request_at s p = record {
   packet = p;
-  sender = slice_index s (p + 1);
-  kind = slice_index s (p + 2);
-  first = slice_index s (p + 5);
-  second = slice_index s (p + 6);
-  third = slice_index s (p + 7);
+  sender = slice_index s (p + SENDER);
+  kind = slice_index s (p + KIND);
+  first = slice_index s (p + FIRST);
+  second = slice_index s (p + SECOND);
+  third = slice_index s (p + THIRD);
 }
 
 abbrev pub first_request : List ℕ → List QueuedPacket → Option Request
@@ -91,11 +92,16 @@ first_request s (p ∷ ps) = Some (request_at s p.address)
 
 -- The request was taken: its packet stands in the data of one used block, nobody owns its words, and its sender is there.
 pub record HasRequest (s : List ℕ) (l : Lists) (r : Request) : Type 0 where
-  pub sender : slice_index s (r.packet + 1) ≡ r.sender
-  pub kind : slice_index s (r.packet + 2) ≡ r.kind
+  -- the packet has the sender's number
+  pub sender : slice_index s (r.packet + SENDER) ≡ r.sender
+  -- it has the type
+  pub kind : slice_index s (r.packet + KIND) ≡ r.kind
+  -- the sender is there
   pub there : has_task r.sender l.tasks ≡ true
-  pub lodged : AreData l.blocks r.packet 5
-  pub plain : AreUnowned l r.packet (r.packet + 5)
+  -- the packet's words are data of one used block
+  pub lodged : AreData l.blocks r.packet PACKET_WORDS
+  -- nobody owns them
+  pub plain : AreUnowned l r.packet (r.packet + PACKET_WORDS)
 
 -- From the store s the store t has become one in which the request was taken: its lists, the words that the keeper knows, and all
 -- its words.

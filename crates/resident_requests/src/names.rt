@@ -6,10 +6,8 @@ ghost use Rattle.resident_requests.specs.Names.{name_at};
 use crate::buffers::{byte_in, lies_inside};
 use arrayvec::ArrayVec;
 use ram_disc::Name;
+use ram_disc::codes::BAD_NAME;
 use word_store::Store;
-
-/// It is no name, or does not lie in the store.
-pub const BAD_NAME: u32 = 40;
 
 /// The most bytes of a name.
 const MOST_NAME_BYTES: u32 = 12;

@@ -6,6 +6,7 @@ use Rattle.ram_disc.specs.Name.{is_name}
 use Rattle.rdargs.specs.Answer.{answer}
 use Rattle.rdargs.specs.declared.args.Arg.{Arg}
 use Rattle.rdargs.specs.declared.args.Arg.TheVariants.{Unset, Switch, Span}
+use Rattle.ram_disc.specs.declared.codes.TheConstants.{BAD_NAME}
 
 -- what follows where there is no refusal
 abbrev pub on_ok : {A B : Type 0} → Result A ℕ → (A → Result B ℕ) → Result B ℕ
@@ -47,7 +48,7 @@ is_set_at args k = is_set (slice_index_or args k Unset)
 
 -- a name, or code 40
 abbrev pub name_of : List ℕ → Result (List ℕ) ℕ
-name_of text = if is_name text then Ok text else Err 40
+name_of text = if is_name text then Ok text else Err BAD_NAME
 
 -- a decimal number of any number of digits, of which zeros may lead, below 2 ^ 32; or code 55
 abbrev pub number_of : List ℕ → Result ℕ ℕ

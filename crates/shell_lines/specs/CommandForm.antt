@@ -7,6 +7,7 @@ use Rattle.ram_disc.specs.Name.{is_name}
 use Rattle.rdargs.specs.Args.{Args}
 use Rattle.rdargs.specs.Cut.{IsFreeOf, MayEnd}
 use Rattle.rdargs.specs.declared.args.Arg.{Arg}
+use Rattle.ram_disc.specs.declared.codes.TheConstants.{BAD_NAME}
 use Rattle.shell_lines.specs.declared.commands.Command.{Command}
 use Rattle.shell_lines.specs.declared.commands.Command.TheVariants.{Nothing, «Type», Examine, Delete, Rename, Status, Map, Hold, Release, ChangePriority, Break, Run, Finish, Start}
 use Rattle.shell_lines.specs.declared.command_names.CommandName.{CommandName}
@@ -90,7 +91,7 @@ pub data Takes (name : CommandName) (rest : List ℕ) : Result Command ℕ → T
   refused : {code : ℕ} → Args (template_of name) rest (Err code) → Takes name rest (Err code)
   no_number : {args : List Arg} → Args (template_of name) rest (Ok args) → list_all is_number (numbers_in name rest args) ≡ false → Takes name rest (Err 55)
   no_name : {args : List Arg} → Args (template_of name) rest (Ok args) → list_all is_number (numbers_in name rest args) ≡ true →
-      list_all is_name (names_in name rest args) ≡ false → Takes name rest (Err 40)
+      list_all is_name (names_in name rest args) ≡ false → Takes name rest (Err BAD_NAME)
   taken : {args : List Arg} → Args (template_of name) rest (Ok args) → list_all is_number (numbers_in name rest args) ≡ true →
       list_all is_name (names_in name rest args) ≡ true → Takes name rest (Ok (made name rest args))
 
@@ -110,4 +111,4 @@ pub data Asks (line : List ℕ) : Result Command ℕ → Type 0 where
   -- any other word is a program, where it is a name; what is wrong with what follows it is told when the program is there
   program : {first rest : List ℕ} {after : Result (List Arg) ℕ} → Parts line first rest → command_named first ≡ None → is_name first ≡ true →
       Args (codes "") rest after → Asks line (Ok (Start first (without_arguments after)))
-  no_program : {first rest : List ℕ} → Parts line first rest → command_named first ≡ None → is_name first ≡ false → Asks line (Err 40)
+  no_program : {first rest : List ℕ} → Parts line first rest → command_named first ≡ None → is_name first ≡ false → Asks line (Err BAD_NAME)

@@ -4,13 +4,11 @@ ghost use Rattle.shell_lines.specs.Arguments.{AreInside, IsInside, arguments, is
 
 use hunk_text::any_number;
 use ram_disc::Name;
+use ram_disc::codes::BAD_NAME;
 use rdargs::{Arg, read_args};
 
 /// The code of an argument that is no number.
 const NO_NUMBER: u32 = 55;
-
-/// The code of a text that is no lawful name.
-const NO_NAME: u32 = 40;
 
 /// What a line gives the entries of a template, in their order, or the code of the refusal.
 pub fn read_arguments(template: &[u8], line: &[u8]) -> Result<[Arg; 8], u32>
@@ -45,7 +43,7 @@ pub fn is_set(arg: Arg) -> bool
 pub fn name(text: &[u8]) -> Result<Name, u32>
     ensures { result ≡ name_of text.now }
 {
-    Name::read(text).ok_or(NO_NAME)
+    Name::read(text).ok_or(BAD_NAME)
 }
 
 /// The decimal number below 2 ^ 32 that a text is, or code 55. It has any number of digits, and zeros may lead.

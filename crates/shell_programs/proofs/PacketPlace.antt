@@ -23,16 +23,17 @@ use Rattle.kernel_residents.proofs.Shown.KernelCalls.KernelModel.OwnerCounts.{pa
 use Rattle.kernel_residents.proofs.Shown.KernelCalls.KernelModel.QueuedPackets.{work_packets}
 use Rattle.kernel_residents.proofs.Shown.KernelCalls.KernelModel.TaskPlaces.{last-resident}
 use Rattle.kernel_residents.proofs.Shown.KernelCalls.KernelModel.UsedData.{lodged}
+use Rattle.kernel_residents.specs.KernelCalls.KernelModel.declared.numbers.TheConstants.{SHELL_PACKET}
 use Rattle.shell_programs.specs.KeptLists.{KeepsResidents}
-use Rattle.shell_programs.specs.ShellPacket.{HasPacket, shell_packet}
+use Rattle.shell_programs.specs.ShellPacket.{HasPacket}
 use Rattle.shell_programs.proofs.PacketWords.{held-by, packet-words, packets-more, row-there, rows-packets}
 
 -- it lies in the resident block
-pub packet-lodged : (l : Lists) → AreValid l → l.residents ≡ true → AreData l.blocks shell_packet 8
-packet-lodged l v residents = HasBlock-data l 201 (last_resident_word l) shell_packet 8 v.blocks (v.numbers.residents residents) (omega arith) (omega (arith, last-resident l)) (omega arith)
+pub packet-lodged : (l : Lists) → AreValid l → l.residents ≡ true → AreData l.blocks SHELL_PACKET 8
+packet-lodged l v residents = HasBlock-data l 201 (last_resident_word l) SHELL_PACKET 8 v.blocks (v.numbers.residents residents) (omega arith) (omega (arith, last-resident l)) (omega arith)
 
-pub packet-five : (l : Lists) → AreValid l → l.residents ≡ true → AreData l.blocks shell_packet 5
-packet-five l v residents = HasBlock-data l 201 (last_resident_word l) shell_packet 5 v.blocks (v.numbers.residents residents) (omega arith) (omega (arith, last-resident l)) (omega arith)
+pub packet-five : (l : Lists) → AreValid l → l.residents ≡ true → AreData l.blocks SHELL_PACKET 5
+packet-five l v residents = HasBlock-data l 201 (last_resident_word l) SHELL_PACKET 5 v.blocks (v.numbers.residents residents) (omega arith) (omega (arith, last-resident l)) (omega arith)
 
 -- ---- its arguments
 
@@ -114,7 +115,7 @@ module _ (l : Lists) (v : AreValid l) (residents : l.residents ≡ true) (a : �
 pub packet-residents : (l : Lists) → AreValid l → HasPacket l → l.residents ≡ true
 packet-residents l v h = sym v.tasks.shell ∙ h.shell
 
-pub packet-arguments : (l : Lists) → AreValid l → HasPacket l → AreUnowned l shell_packet (shell_packet + 8)
+pub packet-arguments : (l : Lists) → AreValid l → HasPacket l → AreUnowned l SHELL_PACKET (SHELL_PACKET + 8)
 packet-arguments l v h c low high =
     elim (cases_lt c 284) [
       | inl before ↦ h.words c low before

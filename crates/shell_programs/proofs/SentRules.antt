@@ -10,16 +10,17 @@ use Rattle.kernel_residents.specs.KernelCalls.PacketCalls.PacketMoves.{arrived, 
 use Rattle.kernel_residents.specs.KernelCalls.KernelModel.Standing.{Standing}
 use Rattle.kernel_residents.specs.ResidentRequests.Requests.{RunsResident}
 use Rattle.kernel_residents.proofs.Shown.ResidentRequests.RunningResident.{runs-work}
+use Rattle.kernel_residents.specs.KernelCalls.KernelModel.declared.numbers.TheConstants.{SHELL_PACKET}
 use Rattle.shell_programs.specs.KeptLists.{RunsAlone}
-use Rattle.shell_programs.specs.ShellPacket.{posted, shell_packet}
+use Rattle.shell_programs.specs.ShellPacket.{posted}
 use Rattle.shell_programs.proofs.KeptTasks.{all-changed}
 
 -- the queue that the task has then
 abbrev pub queue-with : ℕ → Standing → List QueuedPacket
-queue-with to k = arrived (Work to) (sent_packet k.words k.lists (Work to) shell_packet 1) (queue_of (Work to) k.lists)
+queue-with to k = arrived (Work to) (sent_packet k.words k.lists (Work to) SHELL_PACKET 1) (queue_of (Work to) k.lists)
 
 pub posted-is : (to : ℕ) (k : Standing) → to ≤ 63 → (posted to k).lists ≡ with_queue (Work to) (queue-with to k) k.lists
-posted-is to k low = ap (λ b. cond b (with_key None (with_arrived Keyboard (sent_packet k.words k.lists Keyboard shell_packet 1) k.lists)) (with_arrived (Work to) (sent_packet k.words k.lists (Work to) shell_packet 1) k.lists)) (ne_eqb to keyboard (λ e. absurd (omega (arith, low, e))))
+posted-is to k low = ap (λ b. cond b (with_key None (with_arrived Keyboard (sent_packet k.words k.lists Keyboard SHELL_PACKET 1) k.lists)) (with_arrived (Work to) (sent_packet k.words k.lists (Work to) SHELL_PACKET 1) k.lists)) (ne_eqb to keyboard (λ e. absurd (omega (arith, low, e))))
 
 pub posted-runs : (to : ℕ) (k : Standing) → to ≤ 63 → RunsResident k.lists → RunsResident (posted to k).lists
 posted-runs to k low r = subst RunsResident (sym (posted-is to k low)) (runs-work k.lists to (queue-with to k) r)

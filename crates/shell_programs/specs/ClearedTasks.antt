@@ -7,11 +7,8 @@ use Rattle.kernel_residents.specs.KernelCalls.KernelModel.Versions.{highest_id_o
 use Rattle.kernel_residents.specs.KernelCalls.ModuleCalls.UnloadModule.{unload_module}
 use Rattle.kernel_residents.specs.KernelCalls.TaskCalls.DeleteTask.{delete_task}
 use Rattle.kernel_residents.specs.KernelCalls.KernelModel.Standing.{Standing}
+use Rattle.kernel_residents.specs.KernelCalls.KernelModel.declared.numbers.TheConstants.{SHELL}
 use Rattle.shell_programs.specs.Standings.{left_by}
-
--- the number of the shell: it is the maker of the tasks that it starts
-abbrev pub shell_number : ℕ
-shell_number = 1
 
 -- the first of a task's modules; a resident has none
 abbrev pub first_module_of : Task → ℕ
@@ -33,7 +30,7 @@ deleted id m k = after_deletion (delete_task k.lists id).answer m (left_by k.wor
 -- a task that the shell has made: the call refuses it where it is not dead, and where one of its packets still waits for the shell
 abbrev pub cleared_task : ℕ → Option Task → Standing → Standing
 cleared_task id None k = k
-cleared_task id (Some t) k = if t.maker == shell_number then deleted id (first_module_of t) k else k
+cleared_task id (Some t) k = if t.maker == SHELL then deleted id (first_module_of t) k else k
 
 abbrev pub cleared_at : ℕ → Standing → Standing
 cleared_at id k = cleared_task id (find (λ t. t.id == id) k.lists.tasks) k

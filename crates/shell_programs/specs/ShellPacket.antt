@@ -8,32 +8,33 @@ use Rattle.kernel_residents.specs.KernelCalls.KernelModel.Changes.{AreUnowned}
 use Rattle.kernel_residents.specs.KernelCalls.KernelModel.Lists.{Lists, has_task}
 use Rattle.kernel_residents.specs.KernelCalls.PacketCalls.SendOwn.{send_own}
 use Rattle.kernel_residents.specs.KernelCalls.KernelModel.Standing.{Standing, standing}
-use Rattle.shell_programs.specs.ClearedTasks.{shell_number}
+use Rattle.kernel_residents.specs.KernelCalls.KernelModel.declared.numbers.TheConstants.{SHELL, SHELL_PACKET}
 use Rattle.shell_programs.specs.Standings.{left_by}
-
-abbrev pub shell_packet : ℕ
-shell_packet = 279
 
 -- it is on no queue: nobody owns its first five words
 pub record HasPacket (l : Lists) : Type 0 where
-  pub shell : has_task shell_number l.tasks ≡ true
-  pub words : AreUnowned l shell_packet (shell_packet + 5)
+  -- the shell is there
+  pub shell : has_task SHELL l.tasks ≡ true
+  -- nobody owns the packet's words
+  pub words : AreUnowned l SHELL_PACKET (SHELL_PACKET + 5)
 
 -- the shell has it, and there is a task with the number
 pub record CanPost (l : Lists) (to : ℕ) : Type 0 where
+  -- the shell has its packet
   pub packet : HasPacket l
+  -- the task that gets it is there
   pub there : has_task to l.tasks ≡ true
 
 -- the shell sends it to a task as it is
 abbrev pub posted : ℕ → Standing → Standing
-posted to k = left_by k.words (send_own k.words k.lists shell_packet shell_number to)
+posted to k = left_by k.words (send_own k.words k.lists SHELL_PACKET SHELL to)
 
 abbrev pub post_events : ℕ → List KernelEvent
-post_events to = Accepted (signed to) shell_packet (signed shell_number) ∷ []
+post_events to = Accepted (signed to) SHELL_PACKET (signed SHELL) ∷ []
 
 -- its type, its results and its arguments, as those of a request of this type
 abbrev pub request_words : ℕ → Pairs
-request_words kind = row_from shell_packet 2 (kind ∷ 0 ∷ 0 ∷ 0 ∷ 0 ∷ 0 ∷ [])
+request_words kind = row_from SHELL_PACKET 2 (kind ∷ 0 ∷ 0 ∷ 0 ∷ 0 ∷ 0 ∷ [])
 
 -- the shell sends it to a task as a request of this type
 abbrev pub requested : ℕ → ℕ → Standing → Standing

@@ -10,5 +10,7 @@ left_by words made = left_with words made.lists made.plain
 
 -- the store has these words and holds these lists, and the keeper knows the words of the lists
 pub record HasStanding (s : List ℕ) (tells : List ℕ → Type 0) (room : ℕ) (k : Standing) : Type 0 where
+  -- these are all words of the store
   pub words : s ≡ k.words
+  -- it holds the lists, and the keeper knows their words
   pub keeper : HasKeeper s tells room k.lists

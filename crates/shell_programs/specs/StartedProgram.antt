@@ -10,7 +10,9 @@ use Rattle.kernel_residents.specs.KernelCalls.TaskCalls.CreateTask.{create_task,
 use Rattle.kernel_boot.specs.BegunTask.{with_begun}
 use Rattle.kernel_residents.specs.KernelCalls.KernelModel.Standing.{Standing, left_with}
 use Rattle.kernel_boot.specs.BootTasks.{load_text}
-use Rattle.shell_programs.specs.ClearedTasks.{shell_number, unloaded}
+use Rattle.kernel_residents.specs.KernelCalls.KernelModel.declared.numbers.TheConstants.{SHELL}
+use Rattle.ram_disc.specs.declared.codes.TheConstants.{NO_FILE}
+use Rattle.shell_programs.specs.ClearedTasks.{unloaded}
 use Rattle.shell_programs.specs.Standings.{HasStanding, left_by}
 use Rattle.shell_programs.specs.declared.programs.Priority.{Priority}
 use Rattle.shell_programs.specs.declared.programs.Priority.TheVariants.{AboveShell, BelowShell, Given}
@@ -43,7 +45,7 @@ started answer k = record { answer = answer; left = k }
 
 -- there is such a file (code 41), nothing else of the line is refused, and the module is loaded (60 and more, 1)
 abbrev pub load_found : Option (List ℕ) → Result (Unit {0}) ℕ → Lists → Made
-load_found None rest l = refused l 41
+load_found None rest l = refused l NO_FILE
 load_found (Some bytes) (Err code) l = refused l code
 load_found (Some bytes) (Ok u) l = load_text l (module_of bytes)
 
@@ -59,7 +61,7 @@ after_creation (Err code) m k = started (Err code) (unloaded m k)
 
 -- the shell creates a task of the module (9, 8, 10, 18, 1)
 abbrev pub creation : Priority → ℕ → Standing → Made
-creation priority m k = create_task k.words k.lists 0 (m ∷ []) program_stack (priority_of priority k.lists) shell_number
+creation priority m k = create_task k.words k.lists 0 (m ∷ []) program_stack (priority_of priority k.lists) SHELL
 
 abbrev pub create_program : Priority → ℕ → Standing → Started
 create_program priority m k = after_creation (creation priority m k).answer m (left_by k.words (creation priority m k))
@@ -82,5 +84,7 @@ begun id k = left_with k.words (with_begun k.words id k.lists) []
 
 -- The function has answered so, and the store stands so.
 pub record IsStarted (s : List ℕ) (tells : List ℕ → Type 0) (room : ℕ) (answer : Result ℕ ℕ) (x : Started) : Type 0 where
+  -- this is the answer
   pub answered : answer ≡ x.answer
+  -- the store stands as it is left
   pub stands : HasStanding s tells room x.left

@@ -31,7 +31,7 @@ pub fn clear_up<Q: KindKeeper>(store: &mut Store, kinds: &mut Q)
 
 // Deletes the task with the number, where there is one that the shell has made, and unloads its first module.
 fn clear_task<Q: KindKeeper>(store: &mut Store, kinds: &mut Q, id: u32)
-    requires guest { 5 ≤ id }
+    requires guest { FIRST_GUEST ≤ id }
     requires holds { (l : Lists)
         × HasKeeper store.old (Q.tells kinds.old) (Q.room kinds.old) l × RunsAlive l }
     ensures cleared { (l : Lists)

@@ -12,9 +12,10 @@ ghost use Rattle.kernel_residents.specs.KernelCalls.KernelModel.ValidLists.{AreV
 ghost use Rattle.kernel_residents.specs.KernelCalls.KernelModel.ValidQueues.Place.{Work};
 ghost use Rattle.kernel_residents.specs.KernelCalls.KernelModel.Standing.{Standing};
 ghost use Rattle.kernel_residents.specs.ResidentRequests.Requests.{RunsResident};
+ghost use Rattle.kernel_residents.specs.KernelCalls.KernelModel.declared.numbers.TheConstants.{SHELL_PACKET};
 ghost use Rattle.shell_programs.specs.ClearedTasks.{cleared};
 ghost use Rattle.shell_programs.specs.KeptLists.{HasProgram, KeepsResidents, RunsAlone};
-ghost use Rattle.shell_programs.specs.ShellPacket.{HasPacket, posted, shell_packet};
+ghost use Rattle.shell_programs.specs.ShellPacket.{HasPacket, posted};
 ghost use Rattle.shell_programs.specs.StartedProgram.{begun, start_program};
 ghost use Rattle.shell_programs.specs.declared.programs.Priority.{Priority};
 
@@ -79,9 +80,9 @@ pub fn packet_law()
 /// where the same packets are queued.
 pub fn place_law()
     ensures lodged { (l : Lists) → AreValid l → l.residents ≡ true
-        → AreData l.blocks shell_packet 8 }
+        → AreData l.blocks SHELL_PACKET 8 }
     ensures arguments { (l : Lists) → AreValid l → HasPacket l
-        → AreUnowned l shell_packet (shell_packet + 8) }
+        → AreUnowned l SHELL_PACKET (SHELL_PACKET + 8) }
     ensures kept { (l m : Lists) → AreValid l → AreValid m → KeepsResidents l m
         → queued m ≡ queued l → HasPacket l → HasPacket m }
 {}

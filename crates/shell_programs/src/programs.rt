@@ -9,6 +9,7 @@ ghost use Rattle.shell_programs.specs.StartedProgram.{IsStarted, create_program,
 
 use kernel_residents::numbers::SHELL;
 use kernel_residents::{KindKeeper, create_task, free_id, highest_id, load_module, unload_module};
+use ram_disc::codes::NO_FILE;
 use ram_disc::{Disc, Name};
 use word_store::Store;
 
@@ -22,9 +23,6 @@ pub enum Priority {
     /// 2,000 more than its number.
     AboveShell,
 }
-
-/// No file has the name.
-const NO_FILE: u32 = 41;
 
 /// The highest index of a program's stack.
 const STACK: u32 = 1000;

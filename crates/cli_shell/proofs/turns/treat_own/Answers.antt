@@ -1,7 +1,8 @@
 use Rattle.std.proofs.Common.{◌∙◌, ap, cond, sym}
 use Rattle.std.proofs.lemmas.Bool.{ne_eqb}
+use Rattle.shell_programs.specs.KernelCalls.KernelModel.declared.numbers.TheConstants.{CONSOLE}
 use Rattle.cli_shell.specs.Commands.{line_executed}
-use Rattle.cli_shell.specs.Prompts.{console_number, prompted}
+use Rattle.cli_shell.specs.Prompts.{prompted}
 use Rattle.cli_shell.specs.ShellTurn.{treated_in}
 use Rattle.cli_shell.proofs.DoneParts.{done-is}
 use Rattle.cli_shell.proofs.turns.treat_own.Goals as goal
@@ -12,7 +13,7 @@ returns-in-Prompt-clause-done g c = λ b x r. done-is (c.prompt.ensures.done b _
 pub returns-else-request-eq-CONSOLE-clause-done : goal.returns-else-request-eq-CONSOLE-clause-done
 returns-else-request-eq-CONSOLE-clause-done g c = λ b x r.
     done-is (c.prompt-in-Reading.ensures.done b _ x r) _
-    (ap (λ f. cond f (line_executed x) (prompted x)) (sym (ne_eqb c.args.request.sender console_number c.if-request-eq-CONSOLE.false)) ∙ ap (λ m. treated_in m c.args.request x) c.in-Reading.ensures)
+    (ap (λ f. cond f (line_executed x) (prompted x)) (sym (ne_eqb c.args.request.sender CONSOLE c.if-request-eq-CONSOLE.false)) ∙ ap (λ m. treated_in m c.args.request x) c.in-Reading.ensures)
 
 pub returns-in-Waiting-clause-done : goal.returns-in-Waiting-clause-done
 returns-in-Waiting-clause-done g c = λ b x r. done-is (c.end_program.ensures.done b _ x r) _ (ap (λ m. treated_in m c.args.request x) c.in-Waiting.ensures)
