@@ -32,12 +32,19 @@ code_of_pieces pieces = record {
 
 -- Some table gives each label its line's place and, with it, each line its bytes at its offset; these are the module's.
 pub record Assembles (text : List ℕ) (m : Module) : Type 0 where
+  -- what the lines say
   pub program : List Line
+  -- the place of each label
   pub table : Table
+  -- the bytes, relocations and pairs of each line
   pub pieces : List Piece
+  -- the lines are the program
   pub lines : IsProgram (lines_of text) program
+  -- the table has its labels
   pub labels : IsTable table program
+  -- the lines are given the pieces by the table
   pub given : AreGiven table (placed first_offset program) pieces
+  -- the module is made of these
   pub made : m ≡ module_of (code_of_pieces pieces)
 
 -- the relocations of each hunk stand in rising order
@@ -46,8 +53,11 @@ RelocationsRise m = AllByRecursion (λ hunk. IsStrictlyIncreasing hunk.relocatio
 
 -- the line defines a label that one of these lines defines
 pub record RepeatsLabel (program : List Line) (line : Line) : Type 0 where
+  -- the label
   pub name : List ℕ
+  -- the line defines it
   pub label : line.label ≡ Some name
+  -- one of these lines defines it
   pub before : list_any (bytes_eq name) (labels_of program) ≡ true
 
 -- after these lines, the line makes the hunk too long
@@ -66,29 +76,50 @@ IsWrong program text e = (line_of text ≡ Err e) ⊎ CannotFollow program text 
 
 -- The lines before line n are right, and line n is not: e has the lowest code of what is wrong with it.
 pub record IsBadLine (text : List ℕ) (n : ℕ) (e : LineError) : Type 0 where
+  -- the lines before it
   pub front : List (List ℕ)
+  -- the line
   pub line : List ℕ
+  -- the lines after it
   pub rest : List (List ℕ)
+  -- what the lines before it say
   pub program : List Line
+  -- these are all lines
   pub all : lines_of text ≡ front ++ line ∷ rest
+  -- its number, from 1
   pub number : n ≡ length front + 1
+  -- the lines before it are right
   pub before : IsProgram front program
+  -- it is wrong in this way
   pub wrong : IsWrong program line e
+  -- and in none with a lower code
   pub lowest : (d : LineError) → IsWrong program line d → code_of e ≤ code_of d
 
 -- No line is wrong in itself. Those before line n are given their bytes, and line n is not.
 pub record IsBadOperand (text : List ℕ) (n : ℕ) (e : LineError) : Type 0 where
+  -- what the lines say
   pub program : List Line
+  -- the place of each label
   pub table : Table
+  -- what the lines before it are given
   pub pieces : List Piece
+  -- the lines before it, each with its offset in bytes
   pub front : List (ℕ × Line)
+  -- the line, with its offset
   pub line : ℕ × Line
+  -- the lines after it
   pub rest : List (ℕ × Line)
+  -- the lines are the program
   pub lines : IsProgram (lines_of text) program
+  -- the table has its labels
   pub labels : IsTable table program
+  -- these are all lines
   pub all : placed first_offset program ≡ front ++ line ∷ rest
+  -- its number, from 1
   pub number : n ≡ length front + 1
+  -- the lines before it are given their pieces
   pub before : AreGiven table front pieces
+  -- it is refused its piece
   pub wrong : piece_of table line.0 line.1.statement ≡ Err e
 
 -- the text is refused at line n with that code

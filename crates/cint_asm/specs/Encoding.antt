@@ -9,8 +9,11 @@ use Rattle.cint_asm.specs.declared.pieces.Piece.{Piece}
 
 -- the bytes from the first offset on, the offsets of the words to be relocated, and the pairs of the global table
 pub record Code : Type 0 where
+  -- the bytes
   pub bytes : List ℕ
+  -- the offsets of the words to be relocated, in bytes
   pub relocations : List ℕ
+  -- the number and the offset of each global
   pub pairs : List (ℕ × ℕ)
 
 abbrev pub no_code : Code

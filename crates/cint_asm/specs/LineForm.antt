@@ -27,9 +27,13 @@ EndsAt byte (c ∷ cs) = c ≡ byte
 
 -- the text is this, and then a comment or none; a comment begins with a semicolon
 pub record IsCommented (text code : List ℕ) : Type 0 where
+  -- the comment, or no bytes
   pub comment : List ℕ
+  -- the text is both
   pub all : text ≡ code ++ comment
+  -- no semicolon stands before it
   pub free : IsFreeOf 59 code
+  -- it begins with one
   pub ends : EndsAt 59 comment
 
 -- the parts stand between spaces
@@ -43,8 +47,11 @@ pub data AreParts : List ℕ → List (List ℕ) → Type 0 where
 
 -- the lowest and the highest, and how many bytes hold one
 pub record Range : Type 0 where
+  -- the lowest number
   pub low : ℤ
+  -- the highest number
   pub high : ℤ
+  -- how many bytes hold one
   pub size : ℕ
 
 -- those that an instruction may have, by the form of its operand
@@ -64,7 +71,9 @@ data_range _ = None
 
 -- the part is the number in decimal, which is in the range
 pub record IsNumber (part : List ℕ) (range : Range) (n : ℤ) : Type 0 where
+  -- the part is the number in decimal
   pub number : number_of part ≡ Some n
+  -- it is in the range
   pub inside : is_from_to range.low range.high n ≡ true
 
 -- ---- what parts say

@@ -33,8 +33,11 @@ program_size program = hunk_size (end_after first_offset program) (pair_count pr
 
 -- the texts are the lines of a program in which no label is defined twice, and whose hunk is within its limit
 pub record IsProgram (texts : List (List ℕ)) (program : List Line) : Type 0 where
+  -- each line says this
   pub read : AreRead texts program
+  -- no label is defined twice
   pub once : IsDistinct bytes_eq (labels_of program)
+  -- the hunk is not too long
   pub fits : program_size program ≤ most_words
 
 -- each line with the offset at which the bytes of the line before it end

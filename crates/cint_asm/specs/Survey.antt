@@ -11,8 +11,11 @@ use Rattle.cint_asm.specs.declared.statements.Line.{Line}
 
 -- what is known after some lines: where their bytes end, how many pairs they give, and their labels
 pub record Layout : Type 0 where
+  -- where their bytes end, from the first offset on
   pub offset : ℕ
+  -- how many pairs they give the global table
   pub pairs : ℕ
+  -- the place of each of their labels
   pub table : Table
 
 -- before the first line

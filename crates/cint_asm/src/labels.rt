@@ -9,6 +9,7 @@ use std::marker::Model;
 /// A label, lent by the text and seen as its bytes.
 #[derive(Debug, Drop)]
 pub struct Label<'a> {
+    /// The label's bytes.
     name: &'a [u8],
 }
 

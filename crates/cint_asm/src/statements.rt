@@ -8,6 +8,7 @@ use std::marker::Model;
 /// At most eight bytes, seen as their list.
 #[derive(Debug, Drop)]
 pub struct LineBytes {
+    /// The bytes.
     bytes: ArrayVec<u8, 8>,
 }
 
@@ -79,6 +80,8 @@ pub enum Statement<'a> {
 /// A line: the label that it defines, and what else it says.
 #[derive(Debug, Drop)]
 pub struct Line<'a> {
+    /// The label that it defines.
     pub label: Option<Label<'a>>,
+    /// What it says besides.
     pub statement: Statement<'a>,
 }

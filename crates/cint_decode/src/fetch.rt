@@ -30,8 +30,11 @@ pub fn decode<X: Code>(code: &X, pc: u32) -> Result<Instr, DecodeEnd>
 // What a form tells of an instruction.
 #[derive(Clone, Copy)]
 struct Operand {
+    /// The operand.
     number: u32,
+    /// How many bytes the instruction has.
     length: u32,
+    /// The byte address that it leads to, where it leads anywhere.
     target: u32,
 }
 

@@ -4,8 +4,11 @@ use Rattle.word_store.specs.Bytes.{byte_at}
 use Rattle.cint_disasm.specs.Listing.{listed}
 
 pub record ListedLine : Type 0 where
+  -- the offset of its first byte
   pub offset : ℕ
+  -- how many bytes it stands for
   pub length : ℕ
+  -- its text
   pub text : List ℕ
 
 -- the line at an offset

@@ -8,7 +8,9 @@ use Rattle.cint_disasm.specs.Lines.{byte_line, instruction_line}
 
 -- a line, and the number of bytes that it stands for
 pub record Listed : Type 0 where
+  -- the text of the line
   pub text : List ℕ
+  -- how many bytes it stands for
   pub length : ℕ
 
 -- the byte's row and what is decoded there, or else the byte alone

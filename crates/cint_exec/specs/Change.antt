@@ -12,7 +12,9 @@ use Rattle.cint_exec.specs.declared.Fault.{Fault}
 
 -- the writes are pairs of an address and a word, in the order in which they are tried
 pub record Change : Type 0 where
+  -- the registers
   pub regs : Regs
+  -- the addresses and words that are written
   pub writes : List (ℕ × ℕ)
 
 abbrev pub fault : ℕ → ℕ → Fault

@@ -16,8 +16,11 @@ use Rattle.cint_exec.specs.Change.{Change, fault}
 use Rattle.cint_exec.specs.Effect.{change_of}
 
 pub record After : Type 0 where
+  -- how it ended
   pub outcome : Outcome
+  -- the words of the store
   pub words : List ℕ
+  -- the registers
   pub regs : Regs
 
 abbrev pub after : Outcome → List ℕ → Regs → After

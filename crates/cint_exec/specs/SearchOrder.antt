@@ -6,7 +6,9 @@ use Rattle.cint_exec.specs.Switch.{halfword}
 
 -- the table at t has these keys in pairs 1 to count
 pub record HasKeys (words : List ℕ) (t count : ℕ) (keys : ℕ → ℕ) : Type 0 where
+  -- the table has so many pairs
   pub counted : halfword words t ≡ Ok count
+  -- each pair has its key
   pub stands : (i : ℕ) → 1 ≤ i → i ≤ count → halfword words (add t (4 * i)) ≡ Ok (keys i)
 
 -- pair j is pair i or stands below it: the number j, halved some times, is i
@@ -15,5 +17,7 @@ IsUnder i j = (times : ℕ) × (j / 2 ^ times ≡ i)
 
 -- below each pair, lower keys stand to the left and higher ones to the right
 pub record IsSearchOrder (count : ℕ) (keys : ℕ → ℕ) : Type 0 where
+  -- to the left of a pair the keys are lower
   pub left : (i j : ℕ) → 1 ≤ i → j ≤ count → IsUnder (2 * i) j → keys j < keys i
+  -- to the right of it they are higher
   pub right : (i j : ℕ) → 1 ≤ i → j ≤ count → IsUnder (2 * i + 1) j → keys i < keys j

@@ -10,7 +10,9 @@ use word_store::{Regs, Store, add};
 /// New registers, and the words to write.
 #[derive(Clone, Copy, Debug)]
 pub struct Change {
+    /// The registers.
     pub regs: Regs,
+    /// The words that are written.
     pub writes: Writes,
 }
 

@@ -4,6 +4,7 @@ use word_store::{Guard, Store};
 /// A guard, lent: it marks what that one marks. Code that is made for each kind of guard is made once more for it.
 #[derive(Clone, Copy)]
 pub(crate) struct Lent<'a, X> {
+    /// The guard.
     pub(crate) guard: &'a X,
 }
 

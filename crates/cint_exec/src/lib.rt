@@ -30,7 +30,9 @@ pub use cint_table::{Form, Row, byte_of, row};
 /// kernel word, 7 an unknown call, 8 a function or operand byte outside the store. An instruction has no fault 7 itself.
 #[derive(Clone, Copy, Debug, PartialEq, Eq)]
 pub struct Fault {
+    /// What is wrong.
     pub code: u32,
+    /// Where: the address of a word, or of the instruction's byte.
     pub address: u32,
 }
 

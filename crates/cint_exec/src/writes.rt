@@ -13,15 +13,22 @@ pub enum Writes {
     Nothing,
     /// One word at an address.
     Word {
+        /// Its address.
         at: u32,
+        /// The word.
         word: u32,
     },
     /// The four words of a stack frame, from an address on.
     Frame {
+        /// The address of the first, in words.
         at: u32,
+        /// The caller's P, as it is saved.
         caller: u32,
+        /// Where the caller goes on, as a byte address.
         next: u32,
+        /// The byte address of the function.
         function: u32,
+        /// Its first argument.
         argument: u32,
     },
 }

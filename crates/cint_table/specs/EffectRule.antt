@@ -13,8 +13,11 @@ use Rattle.cint_table.specs.declared.effects.Effect.TheVariants.{Load, LoadMinus
 
 -- A name begins with letters. Digits may follow, and then the rest, as in L1G, ST0P3 and JEQ0$.
 pub record NameParts : Type 0 where
+  -- the letters that it begins with
   pub letters : List ℕ
+  -- the digits after them
   pub digits : List ℕ
+  -- all after these
   pub rest : List ℕ
 
 abbrev pub parts_of : List ℕ → NameParts

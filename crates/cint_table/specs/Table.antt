@@ -12,8 +12,11 @@ use Rattle.cint_table.specs.declared.rows.Row.{Row}
 
 -- what a row says, with its name as text
 pub record Entry : Type 0 where
+  -- its name in assembly text
   pub name : List ℕ
+  -- the form of its operand
   pub form : Form
+  -- what it does
   pub effect : Effect
 
 -- a row of the code, seen as an entry

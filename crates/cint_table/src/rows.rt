@@ -6,13 +6,17 @@ use crate::{Effect, Form};
 pub struct Row {
     /// The instruction's name in assembly text.
     pub name: &'static str,
+    /// The form of its operand.
     pub form: Form,
+    /// What it does.
     pub effect: Effect,
 }
 
 /// A row without its name.
 #[derive(Clone, Copy, Debug, PartialEq, Eq)]
 pub struct Shape {
+    /// The form of its operand.
     pub form: Form,
+    /// What it does.
     pub effect: Effect,
 }

@@ -8,8 +8,11 @@ use Rattle.hunk_text.specs.declared.modules.Module.{Module}
 
 -- a hunk that can be printed
 pub record IsPrintableHunk (h : Hunk) : Type 0 where
+  -- its length is one that a text may have
   pub words : length h.words < 2 ^ 30
+  -- so is the number of its relocations
   pub relocations : length h.relocations < 2 ^ 32
+  -- each relocates one of its words
   pub inside : AllByRecursion (λ offset. offset < length h.words) h.relocations
 
 abbrev pub IsPrintable : Module → Type 0

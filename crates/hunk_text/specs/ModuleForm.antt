@@ -26,9 +26,13 @@ relocation_items lists = flat_map (item relocation_type) lists
 
 -- the words are a hunk and its relocation lists, whose offsets, joined in order, lie inside the hunk
 pub record IsHunk (h : Hunk) (words : List ℕ) : Type 0 where
+  -- its relocation lists
   pub lists : List (List ℕ)
+  -- its words and these lists are all words
   pub all : words ≡ item hunk_type h.words ++ relocation_items lists
+  -- its relocations are those of the lists, in their order
   pub offsets : h.relocations ≡ concat lists
+  -- each relocates one of its words
   pub inside : AllByRecursion (λ offset. offset < length h.words) h.relocations
 
 -- the words are hunks, one after another, and the end word

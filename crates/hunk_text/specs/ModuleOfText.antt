@@ -21,7 +21,9 @@ read_token expects bytes = do
 
 -- where a reading stops: a place of the text, and a code
 pub record Stop : Type 0 where
+  -- the place in the text, in bytes
   pub place : ℕ
+  -- the code that says why
   pub code : ℕ
 
 abbrev pub stop : ℕ → ℕ → Stop
@@ -33,8 +35,11 @@ or_stop place (Err code) = Err (stop place code)
 
 -- what the rest of a text adds to a module: words and offsets of the hunk that is being read, and further hunks
 pub record Rest : Type 0 where
+  -- the further words of the hunk that is being read
   pub words : List ℕ
+  -- its further offsets
   pub relocations : List ℕ
+  -- the hunks after it
   pub hunks : List Hunk
 
 abbrev pub rest : List ℕ → List ℕ → List Hunk → Rest

@@ -15,8 +15,13 @@ read word end = record { word = word; end = end }
 
 -- The next word from the place on is this one. It ends further on, inside the text, and from there on the others are read.
 pub record ReadsOn (text : List ℕ) (place word : ℕ) (words : List ℕ) : Type 0 where
+  -- the place after it
   pub end : ℕ
+  -- it is the next word
   pub next : next_word text place ≡ Some (read word end)
+  -- it ends further on
   pub further : place < end
+  -- it ends inside the text
   pub inside : end ≤ length text
+  -- the others are read from there
   pub rest : Reads text end words

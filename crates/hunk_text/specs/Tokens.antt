@@ -7,7 +7,9 @@ is_blank c = (c == 32) || (c == 10) || (c == 13)
 
 -- a token's bytes, and the place of the first of them in the text
 pub record Token : Type 0 where
+  -- the place of its first byte
   pub place : ℕ
+  -- its bytes
   pub bytes : List ℕ
 
 -- whether a token ends before these bytes

@@ -8,6 +8,7 @@ use std::marker::Model;
 /// Words of 32 bits, seen as their list.
 #[derive(Debug, Drop)]
 pub struct WordList {
+    /// The words.
     list: Vec<u32>,
 }
 
@@ -54,6 +55,7 @@ impl WordList {
 /// Hunks, seen as their list.
 #[derive(Debug, Drop)]
 pub struct Hunks {
+    /// The hunks.
     list: Vec<Hunk>,
 }
 

@@ -14,5 +14,6 @@ pub struct Hunk {
 /// A module: hunks, in their order.
 #[derive(Debug, Drop)]
 pub struct Module {
+    /// Its hunks, in their order.
     pub hunks: Hunks,
 }

@@ -10,7 +10,9 @@ use crate::tokens::{Span, word_in};
 /// A word that was read, and what is expected after it.
 #[derive(Clone, Copy)]
 pub struct Step {
+    /// The word.
     pub word: u32,
+    /// What is expected after it.
     pub next: Expects,
 }
 

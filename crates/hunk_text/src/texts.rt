@@ -20,6 +20,7 @@ pub trait TextBytes {
 /// A text in memory, seen as its bytes.
 #[derive(Debug, Drop)]
 pub struct SliceText<'a> {
+    /// The bytes of the text.
     bytes: &'a [u8],
 }
 

@@ -13,7 +13,9 @@ const MOST_DIGITS: u32 = 8;
 /// A word of a text, and the place after it.
 #[derive(Clone, Copy, Debug, PartialEq, Eq)]
 pub struct NextWord {
+    /// The word.
     pub word: u32,
+    /// The place after it.
     pub end: u32,
 }
 
@@ -33,7 +35,9 @@ pub fn next_word<X: TextBytes>(text: &X, from: u32) -> Option<NextWord>
 /// Where a token stands: the place of its first byte, and the place after its last.
 #[derive(Clone, Copy)]
 pub struct Span {
+    /// The place of its first byte.
     pub start: u32,
+    /// The place after its last.
     pub end: u32,
 }
 

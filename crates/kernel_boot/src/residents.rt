@@ -17,8 +17,11 @@ use word_store::Store;
 /// A resident: its number, the address of its task block, and its priority.
 #[derive(Clone, Copy)]
 struct Resident {
+    /// Its number.
     id: u32,
+    /// The address of its task block, in words.
     address: u32,
+    /// Its priority.
     priority: u32,
 }
 

@@ -34,11 +34,19 @@ IsPlainAt leads code a = IsPlainAs leads (entry (unwrap_or (code a) 0)) (decoded
 -- first of the code and end before the 0; none of them has an indirect form, and each relative target is one of them that
 -- has a label.
 pub record IsPlainCode (has_label : ℕ → Bool) (lines : List ListedLine) (h : Hunk) : Type 0 where
+  -- its words of code
   pub code : List ℕ
+  -- its length, these and a 0 are all its words
   pub all : h.words ≡ length h.words ∷ code ++ 0 ∷ []
+  -- each is a word
   pub are_words : AllByRecursion (λ w. w < 2 ^ 32) h.words
+  -- assembly can make so many
   pub fits : length h.words ≤ most_words
+  -- nothing is relocated
   pub bare : h.relocations ≡ []
+  -- the lines are those of its listing
   pub listed : AllByRecursion (λ line. line ≡ line_at (byte_at h.words) line.offset) lines
+  -- they follow one another from the code's first byte to its end
   pub follow : Follow first_offset (first_offset + 4 * length code) lines
+  -- none has an indirect form, and each relative target has a label
   pub plain : AllByRecursion (λ line. IsPlainAt (IsLabelled has_label lines) (byte_at h.words) line.offset) lines

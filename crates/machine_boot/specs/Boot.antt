@@ -23,7 +23,9 @@ use Rattle.kernel_machine.specs.KernelSteps.Stepped.{Stepped, behind, with_store
 
 -- a session of a machine with a kernel
 pub record HasKernel (s : Session) : Type 0 where
+  -- the session is lawful
   pub lawful : IsLawful s
+  -- its machine has a kernel
   pub full : s.bare ≡ false
 
 -- the lists before the lines: those of the residents, where the session has them, or none

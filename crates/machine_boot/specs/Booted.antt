@@ -19,25 +19,36 @@ use Rattle.kernel_machine.specs.Stands.{Stands}
 -- A task that neither runs, nor takes a packet once it is dispatched, and that has met no fault. The one that reports faults has no
 -- packets, and the fault packet is on no queue.
 pub record IsFresh (free : Bool) (t : Task) : Type 0 where
+  -- it has a number from 1
   pub number : 1 ≤ t.id
+  -- its field is not that of one that runs
   pub stands : t.field ≡ runs → ⊥
+  -- it has no packets, or is a resident
   pub takes : (t.queue ≡ []) ⊎ (is_guest_id t.id ≡ false)
+  -- it has met no fault
   pub fault : t.fault ≡ 0
+  -- the one that reports faults has no packets, and the fault packet is on no queue
   pub reporter : t.id ≡ 2 → (t.queue ≡ []) × (free ≡ true)
 
 -- all tasks are such, and the key packet is on a queue or not there
 pub record AreFresh (l : Lists) : Type 0 where
+  -- all tasks are such
   pub tasks : AllByRecursion (IsFresh l.fault_packet_free) l.tasks
+  -- the key packet is on a queue or not there
   pub key : l.key ≡ None
 
 -- tasks of the lines may be started: each line is one that a session may have, and no task has done anything yet
 pub record CanStart (lines : List SessionLine) (k : Kernel) : Type 0 where
+  -- each line is one that a session may have
   pub may_start : AreBootLines k.lists.version lines
+  -- no task has done anything yet
   pub fresh : AreFresh k.lists
 
 -- and files may be put on the disc
 pub record CanLoad (lines : List SessionLine) (k : Kernel) : Type 0 where
+  -- the tasks may be started
   pub tasks : CanStart lines k
+  -- no stream is open
   pub streams : HasNoStreams k.disc
 
 -- the parts stand for the kernel that is reached, or the answer is its refusal
@@ -52,8 +63,11 @@ EndsAs WantMemory booted = Unit {0}
 
 -- the parts stand for the kernel, which is valid and has not stopped
 pub record IsBooted (p : Parts) (k : Kernel) : Type 0 where
+  -- the parts stand for the kernel
   pub stands : Stands p k
+  -- it is valid
   pub valid : IsValid k
+  -- the machine has not stopped
   pub goes : k.stop ≡ None
 
 -- what a booting function returned is what the definition gives, unless memory ran out

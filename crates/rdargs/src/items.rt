@@ -21,8 +21,11 @@ pub enum Form {
 /// An item, and the places in the line where its bytes begin and end.
 #[derive(Clone, Copy, Debug, PartialEq, Eq)]
 pub struct Item {
+    /// How its bytes stand there.
     pub form: Form,
+    /// The place of its first byte.
     pub from: usize,
+    /// The place behind its last byte.
     pub to: usize,
 }
 

@@ -3,7 +3,9 @@ use Rattle.std.specs.Prelude.{ℕ, zero, suc, ◌+◌, ◌*◌, ◌/◌, ◌%◌
 
 -- what was drawn, and the state after it
 pub record Drawn (A : Type 0) : Type 0 where
+  -- what was drawn
   pub value : A
+  -- the state of the generator after it
   pub state : ℕ
 
 -- what is drawn from each state

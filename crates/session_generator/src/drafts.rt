@@ -10,7 +10,9 @@ use tp_io::WantMemory;
 /// A text, and the state that the next draw starts from.
 #[derive(Drop)]
 pub(crate) struct Draft {
+    /// The text so far.
     text: Vec<u8>,
+    /// The state of the generator.
     state: u32,
 }
 

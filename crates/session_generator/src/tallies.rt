@@ -10,8 +10,11 @@ use tp_io::{Sink, WriteStep};
 /// those bytes.
 #[derive(Drop)]
 pub struct Tally {
+    /// How many bytes it was given.
     count: u64,
+    /// Their hash.
     hash: u32,
+    /// The bytes, for clauses alone.
     trail: Trail,
 }
 

@@ -22,7 +22,9 @@ pub enum Command {
     Delete(Name),
     /// The file gets another name.
     Rename {
+        /// The name that it has.
         from: Name,
+        /// The name that it gets.
         to: Name,
     },
     /// The tasks are listed.
@@ -35,17 +37,23 @@ pub enum Command {
     Release(u32),
     /// The task gets another priority.
     ChangePriority {
+        /// The number of the task.
         task: u32,
+        /// The priority that it gets.
         priority: u32,
     },
     /// The task's flags get more: 1, 2, 4 and 8 for B, C, D and E, added up.
     Break {
+        /// The number of the task.
         task: u32,
+        /// The flags, added up.
         flags: u32,
     },
     /// The program is started beside the shell, with the priority where there is one.
     Run {
+        /// The name of its file.
         program: Name,
+        /// Its priority, where the line has one.
         priority: Option<u32>,
     },
     /// The machine stops.
@@ -53,7 +61,9 @@ pub enum Command {
     /// The line's word is a program that is started and waited for. A program takes no arguments: `rest` has the code of the
     /// refusal where there are some.
     Start {
+        /// The name of its file.
         program: Name,
+        /// That nothing follows, or the code of the refusal.
         rest: Result<(), u32>,
     },
 }

@@ -28,8 +28,13 @@ counts_of bs = counts_from no_counts bs
 
 -- the counts stay below 2 ^ 32
 pub record MayCount (c : BlockCounts) (b : Block) : Type 0 where
+  -- one used block more can be counted
   pub used : c.used + 1 < 2 ^ 32
+  -- so can its words
   pub used_words : c.used_words + b.size < 2 ^ 32
+  -- one free block more can be counted
   pub free : c.free + 1 < 2 ^ 32
+  -- so can its words
   pub free_words : c.free_words + b.size < 2 ^ 32
+  -- and the words of the run that it ends
   pub run : c.run + b.size < 2 ^ 32

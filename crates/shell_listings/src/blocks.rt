@@ -15,11 +15,17 @@ use word_store::Store;
 /// blocks counted so far, and of the largest run among them.
 #[derive(Clone, Copy, Debug)]
 pub struct BlockCounts {
+    /// How many used blocks.
     pub used: u32,
+    /// How many words they have.
     pub used_words: u32,
+    /// How many free blocks.
     pub free: u32,
+    /// How many words they have.
     pub free_words: u32,
+    /// The words of the free blocks that were counted last.
     pub run: u32,
+    /// The words of the largest run of free blocks.
     pub largest: u32,
 }
 

@@ -20,9 +20,13 @@ Reaches first now pending lines true = AppendsPrefix first now lines
 -- The sink held `first`, and has counted `first_faults`, when the log began. The lines of these events are gathered; the count has
 -- not fallen, and has risen where a write has failed; and no note has failed before a write.
 pub record Traced (first now : Option (List ℕ)) (first_faults faults : ℕ) (pending : List ℕ) (events : List KernelEvent) (cut failed : Bool) : Type 0 where
+  -- what was written and what waits are the lines of the events, or the front of them
   pub lines : Reaches first now pending (lines_of events) cut
+  -- the sink's count of faults has not fallen
   pub later : first_faults ≤ faults
+  -- it rose where the lines were cut off
   pub rose : OnTrue cut (Rose first_faults faults)
+  -- no write failed where they were not
   pub works : OnFalse cut (failed ≡ false)
 
 -- These lines have gone to the sink, but for what is given back; or a write has failed, and a prefix of them has.

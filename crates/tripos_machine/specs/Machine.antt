@@ -11,7 +11,9 @@ use Rattle.tripos_machine.specs.declared.kinds.Kind.TheVariants.{Bare as BareKin
 
 -- its state, and the bytes of its last step
 pub record MachineView : Type 0 where
+  -- the state
   pub state : State
+  -- the bytes for the console that were not taken yet
   pub output : List ℕ
 
 abbrev pub view_of : Kind → MachineView
@@ -20,10 +22,15 @@ view_of (FullKind m) = record { state = Full m.kernel; output = m.output }
 
 -- the machine is as the session boots it: it has taken no step, and its events are those of a boot
 pub record IsBooted (m : MachineView) (x : Stepped) : Type 0 where
+  -- the machine has the state
   pub state : m.state ≡ x.state
+  -- no byte waits for the console
   pub output : m.output ≡ []
+  -- the events are those of the boot
   pub events : x.events ≡ boot_events x.state
+  -- no step was taken
   pub steps : steps_of x.state ≡ 0
+  -- it has not stopped
   pub goes : stop_of x.state ≡ None
 
 -- what a booting function returned is what the definition gives, unless memory ran out

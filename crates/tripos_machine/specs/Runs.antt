@@ -15,7 +15,9 @@ end_of_run (Some stop) = stop
 
 -- n steps of the state s, which left t, and of which the events went to the log, or the first of them where it failed
 pub record HasRun (n : ℕ) (s t : State) (old new : Option (List KernelEvent)) (had_failed has_failed : Bool) : Type 0 where
+  -- the state after the steps
   pub state : t ≡ (run n s).state
+  -- their events went to the log
   pub events : NotesAll old new had_failed has_failed (run n s).events
 
 -- a log has failed, or the sink's count of faults rose

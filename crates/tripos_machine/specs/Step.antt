@@ -9,8 +9,11 @@ use Rattle.tripos_machine.specs.State.State.{Bare, Full}
 
 -- the state after some steps, the bytes that they wrote to the console, and their events
 pub record Stepped : Type 0 where
+  -- the state after the step
   pub state : State
+  -- the bytes that went to the console
   pub bytes : List ℕ
+  -- the events, in their order
   pub events : List KernelEvent
 
 abbrev pub quietly : State → Stepped

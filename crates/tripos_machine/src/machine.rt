@@ -15,6 +15,7 @@ use word_store::{Regs, Store};
 /// A machine of either kind. Contracts see it as its state, and the bytes of its last step.
 #[derive(Drop)]
 pub struct Machine {
+    /// A machine without a kernel, or one with it.
     pub(crate) kind: Kind,
 }
 

@@ -55,6 +55,7 @@ fn prints_pieces(rt: HostRuntime) -> Result<(), Fail> {
 // A reader that gives one byte, and then fails.
 #[derive(Drop)]
 struct CutReader {
+    /// How often it was asked.
     calls: u8,
 }
 
@@ -86,8 +87,11 @@ fn a_reader_that_fails_is_not_at_its_end(rt: HostRuntime) -> Result<(), Fail> {
 // A writer that is interrupted at its first call, takes two bytes a call, and flushes that many times.
 #[derive(Drop)]
 struct SlowWriter {
+    /// How often it was asked.
     calls: u8,
+    /// How many bytes it has taken.
     taken: usize,
+    /// How often it was flushed.
     flushes: u8,
 }
 
@@ -136,6 +140,7 @@ fn a_write_is_whole_and_flushed(rt: HostRuntime) -> Result<(), Fail> {
 // A writer that takes nothing, however often it is asked, and counts how often that is.
 #[derive(Drop)]
 struct FullWriter {
+    /// How often it was asked.
     calls: u64,
 }
 

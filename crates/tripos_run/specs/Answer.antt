@@ -33,7 +33,9 @@ use Rattle.tripos_machine.specs.Step.{Stepped, run}
 use Rattle.tripos_run.specs.Texts.{closing_text, dump_text, no_boot_text, refused_text, too_long_text, usage_text}
 
 pub record Answer : Type 0 where
+  -- the exit status
   pub status : Status
+  -- the bytes that are written
   pub bytes : List ℕ
 
 -- ---- the words
@@ -75,16 +77,24 @@ status_of (Fault code address task) = GuestFault
 
 -- a run of a machine of either kind: its console bytes, its events, the steps taken, why it ended, and the words at the end
 pub record RunEnd : Type 0 where
+  -- the bytes that went to the console
   pub bytes : List ℕ
+  -- the events, in their order
   pub events : List KernelEvent
+  -- how many steps were taken
   pub steps : ℕ
+  -- why the run ended
   pub stop : Stop
+  -- the words of the store
   pub words : List ℕ
 
 -- it ended after so many steps, for this reason, and with these words
 pub record AreEnd (x : RunEnd) (steps : ℕ) (stop : Stop) (words : List ℕ) : Type 0 where
+  -- the steps
   pub steps_are : steps ≡ x.steps
+  -- why it ended
   pub stop_is : stop ≡ x.stop
+  -- the words of the store
   pub words_are : words ≡ x.words
 
 -- the events that were there before the run come first

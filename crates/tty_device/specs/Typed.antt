@@ -4,7 +4,9 @@ use Rattle.circular_buffer.specs.Buffer.{Buffer}
 
 -- a ring of room for 128
 pub record IsTypeAhead (ring : Buffer ℕ) : Type 0 where
+  -- there is room for 128 bytes
   pub room : ring.capacity ≡ 128
+  -- there are no more
   pub most : length ring.items ≤ 128
 
 -- a byte comes last, where there is room, and else it is dropped

@@ -20,6 +20,7 @@ const ROOM: usize = 128;
 /// At most 128 bytes, seen as their list, the first that was typed first.
 #[derive(Drop)]
 pub struct Tty {
+    /// The bytes that were typed and not read.
     bytes: HeapCircularBuffer<u8>,
 }
 
