@@ -1,5 +1,6 @@
 -- Instructions that are each a step of their own.
-use Rattle.std.proofs.Common.{◌≡◌, ℕ, zero, suc, ◌+◌, List, None, refl, sym, ap, ◌∙◌, subst, arith}
+use Rattle.std.proofs.Common.{◌≡◌, ℕ, zero, suc, ◌+◌, List, None, refl, sym, ap, ◌++◌, ◌∙◌, subst, arith}
+use Rattle.std.proofs.lemmas.List.{append-nil}
 use Rattle.word_store.specs.declared.registers.Regs.{Regs}
 use Rattle.cint_exec.specs.Instruction.{After, instruction}
 use Rattle.cint_exec.specs.declared.Outcome.{Outcome}
@@ -63,3 +64,13 @@ module _ (s : List ℕ) (r : Regs) (t : List ℕ) (q : Regs) (k n : ℕ) (e : Ex
 
   pub ran-behind : run (n + 1) old ≡ step (going t q (k + n))
   ran-behind = run-behind n old (going t q (k + n)) ran
+
+-- ---- bytes behind others
+
+-- what a step wrote stands behind what was there
+pub same-behind : (old : List ℕ) (x y : BareStepped) → x ≡ y → old ++ x.bytes ≡ old ++ y.bytes
+same-behind old x y same = ap (λ (z : BareStepped). old ++ z.bytes) same
+
+-- and nothing, where nothing was written
+pub quiet-behind : (old : List ℕ) (x : BareStepped) (j : BareState) → x ≡ quietly j → old ≡ old ++ x.bytes
+quiet-behind old x j quiet = sym (append-nil old) ∙ same-behind old (quietly j) x (sym quiet)

@@ -5,25 +5,31 @@ use Rattle.session_text.specs.KernelDispatch.KernelModel.Ranges.{most_steps}
 use Rattle.session_text.specs.KernelDispatch.KernelModel.declared.stops.Stop.{Stop}
 use Rattle.bare_machine.specs.declared.parts.BareParts.{BareParts}
 
+-- A machine without a kernel, at one moment.
 pub record BareState : Type 0 where
   -- the words, from address 0 on; all of them are plain
   pub words : List ℕ
+  -- the registers
   pub regs : Regs
   -- the steps taken so far
   pub steps : ℕ
   -- why the machine has stopped, if it has
   pub stop : Option Stop
 
--- the state, and the bytes of the last step
+-- A machine, as contracts see it.
 pub record BareView : Type 0 where
+  -- its state
   pub state : BareState
+  -- the bytes that the steps wrote which were taken last
   pub output : List ℕ
 
 -- the parts, and why the machine has stopped, as a state
 abbrev pub state_of : BareParts → Option Stop → BareState
 state_of p stop = record { words = p.store; regs = p.regs; steps = p.step; stop = stop }
 
--- C is a byte, and no more steps were taken than a machine may take
+-- what holds of the parts of every machine
 pub record IsSound (p : BareParts) : Type 0 where
+  -- C is a byte
   pub byte : p.regs.c < 256
+  -- a machine may take so many steps
   pub steps : p.step ≤ most_steps

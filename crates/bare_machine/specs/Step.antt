@@ -11,9 +11,11 @@ use Rattle.bare_machine.specs.declared.calls.CallAnswer.{CallAnswer}
 use Rattle.bare_machine.specs.Calls.{call_answer}
 use Rattle.bare_machine.specs.State.{BareState}
 
--- the state after some steps, and the bytes that they wrote to the console
+-- What some steps come to.
 pub record BareStepped : Type 0 where
+  -- the state after them
   pub state : BareState
+  -- the bytes that they wrote to the console
   pub bytes : List ℕ
 
 abbrev pub quietly : BareState → BareStepped

@@ -1,6 +1,7 @@
 // The machine without a kernel: what a session puts into it, its steps, its calls, and its runs.
 #![tactic(auto)]
 
+mod advances;
 pub mod boot;
 pub mod calls;
 pub mod laws;

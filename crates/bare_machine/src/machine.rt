@@ -6,13 +6,13 @@ ghost use Rattle.bare_machine.specs.State.{IsSound, state_of};
 ghost use Rattle.bare_machine.specs.Step.{step};
 
 use crate::BareParts;
-use crate::passes::pass;
-use crate::steps::{next_step, step_or_stay};
+use crate::advances::advance;
+use crate::steps::step_or_stay;
 use session_text::Stop;
 use std::marker::Model;
 use tp_io::Output;
 
-/// A machine without a kernel. Contracts see it as its state, and the bytes of its last step.
+/// A machine without a kernel. Contracts see it as its state, and the bytes of what it did last.
 #[derive(Drop)]
 pub struct Bare {
     parts: BareParts,
@@ -67,7 +67,7 @@ impl Bare {
         self.stop
     }
 
-    /// The console bytes of the last step, lent; none before the first step.
+    /// The console bytes of the steps that were taken last, lent; none before the first step.
     pub fn output(&self) -> &[u8]
         ensures { result.now ≡ self.now.output }
     {
@@ -87,8 +87,8 @@ impl Bare {
         self.stop
     }
 
-    /// Takes some steps, at most `most`, of a machine that has not stopped, of which only the last one may write bytes or stop the
-    /// machine. The answer is how many these are.
+    /// Takes some steps, at most `most`, of a machine that has not stopped, up to the step that stops it, if there is one. The
+    /// answer is how many these are; the output is what they wrote, at most 8,192 bytes.
     pub fn advance(&mut self, most: u64) -> u64
         requires goes { self.old.state.stop ≡ None }
         requires some { 0 < most }
@@ -99,18 +99,8 @@ impl Bare {
         ensures output { self.new.output ≡ (run result self.old.state).bytes }
     {
         self.output.clear();
-        let mut calls = false;
-        let taken = pass(
-            &mut self.parts.store,
-            &mut self.parts.regs,
-            most,
-            &mut calls,
-        );
-        self.parts.step += taken;
-        if taken == most {
-            return most;
-        }
-        self.stop = next_step(&mut self.parts, calls, &mut self.output);
-        taken + 1
+        let done = advance(&mut self.parts, most, &mut self.output);
+        self.stop = done.stop;
+        done.steps
     }
 }

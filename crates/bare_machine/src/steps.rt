@@ -1,5 +1,5 @@
 // A step: an instruction, and what it asks for.
-ghost use Rattle.std.specs.Prelude.{◌≡◌, ◌<◌, [], None, true};
+ghost use Rattle.std.specs.Prelude.{◌≡◌, ◌<◌, [], ◌++◌, None, length, true};
 ghost use Rattle.session_text.specs.KernelDispatch.KernelModel.Ranges.{most_steps};
 ghost use Rattle.cint_exec.specs.declared.Outcome.TheVariants.{Sys};
 ghost use Rattle.bare_machine.specs.Calls.{call_answer};
@@ -36,10 +36,10 @@ pub(crate) fn step_or_stay(
 pub(crate) fn next_step(parts: &mut BareParts, calls: bool, out: &mut Output) -> Option<Stop>
     requires sound { IsSound parts.old }
     requires steps { parts.old.step < most_steps }
-    requires empty { out.old ≡ [] }
+    requires room { length out.old < 8192 }
     requires calls { calls ≡ true → (instruction_of (state_of parts.old None)).outcome ≡ Sys }
     ensures state { state_of parts.new result ≡ (step (state_of parts.old None)).state }
-    ensures bytes { out.new ≡ (step (state_of parts.old None)).bytes }
+    ensures bytes { out.new ≡ out.old ++ (step (state_of parts.old None)).bytes }
     ensures sound { IsSound parts.new }
 {
     if !calls {
@@ -55,9 +55,9 @@ pub(crate) fn next_step(parts: &mut BareParts, calls: bool, out: &mut Output) ->
 fn step(parts: &mut BareParts, out: &mut Output) -> Option<Stop>
     requires sound { IsSound parts.old }
     requires steps { parts.old.step < most_steps }
-    requires empty { out.old ≡ [] }
+    requires room { length out.old < 8192 }
     ensures state { state_of parts.new result ≡ (step (state_of parts.old None)).state }
-    ensures bytes { out.new ≡ (step (state_of parts.old None)).bytes }
+    ensures bytes { out.new ≡ out.old ++ (step (state_of parts.old None)).bytes }
     ensures sound { IsSound parts.new }
 {
     parts.step += 1;
@@ -72,11 +72,11 @@ fn step(parts: &mut BareParts, out: &mut Output) -> Option<Stop>
 // The call of a step that is counted already. The answer is why the machine stops, if it does.
 fn answer_call(parts: &mut BareParts, out: &mut Output) -> Option<Stop>
     requires sound { IsSound parts.old }
-    requires empty { out.old ≡ [] }
+    requires room { length out.old < 8192 }
     ensures state { let m = state_of parts.old None in
         state_of parts.new result ≡ (after_call (call_answer m.words m.regs) m).state }
     ensures bytes { let m = state_of parts.old None in
-        out.new ≡ (after_call (call_answer m.words m.regs) m).bytes }
+        out.new ≡ out.old ++ (after_call (call_answer m.words m.regs) m).bytes }
     ensures sound { IsSound parts.new }
 {
     match call(&parts.store, parts.regs) {

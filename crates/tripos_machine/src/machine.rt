@@ -12,7 +12,7 @@ use machine_boot::{EventLog, Machine as FullMachine, Parts as FullParts, Stop};
 use std::marker::Model;
 use word_store::{Regs, Store};
 
-/// A machine of either kind. Contracts see it as its state, and the bytes of its last step.
+/// A machine of either kind. Contracts see it as its state, and the bytes of what it did last.
 #[derive(Drop)]
 pub struct Machine {
     /// A machine without a kernel, or one with it.
@@ -107,7 +107,7 @@ impl Machine {
         }
     }
 
-    /// The console bytes of the last step, lent; none before the first step.
+    /// The console bytes of the steps that were taken last, lent; none before the first step.
     pub fn output(&self) -> &[u8]
         ensures { result.now ≡ self.now.output }
     {
@@ -144,8 +144,8 @@ impl Machine {
         }
     }
 
-    /// Takes some steps, at most `most`, of a machine that has not stopped, of which only the last one may write bytes, have events
-    /// or stop the machine. The answer is how many these are.
+    /// Takes some steps, at most `most`, of a machine that has not stopped, up to the step that stops it, if there is one. The
+    /// answer is how many these are; the output is what they wrote.
     pub fn advance<L: EventLog>(&mut self, most: u64, log: &mut L) -> u64
         requires goes { stop_of self.old.state ≡ None }
         requires some { 0 < most }

@@ -1,6 +1,6 @@
 use Rattle.std.proofs.Common.{◌∙◌, ◌+◌, Some, ap, sym}
 use Rattle.bare_machine.specs.Step.{BareStepped}
-use Rattle.bare_machine.proofs.Instructions.{going, step-as}
+use Rattle.bare_machine.proofs.Instructions.{going, quiet-behind, same-behind, step-as}
 use Rattle.bare_machine.proofs.steps.step.Goals as goal
 
 pub returns-in-Next-clause-state : goal.returns-in-Next-clause-state
@@ -9,8 +9,7 @@ returns-in-Next-clause-state c =
 
 pub returns-in-Next-clause-bytes : goal.returns-in-Next-clause-bytes
 returns-in-Next-clause-bytes c =
-    c.requires.empty
-    ∙ sym (ap (λ (x : BareStepped). x.bytes) (step-as _ _ _ _ _ _ _ c.execute_alone.ensures.outcome c.execute_alone.ensures.words c.execute_alone.ensures.regs c.in-Next.is))
+    quiet-behind _ _ _ (step-as _ _ _ _ _ _ _ c.execute_alone.ensures.outcome c.execute_alone.ensures.words c.execute_alone.ensures.regs c.in-Next.is)
 
 pub returns-in-Sys-clause-state : goal.returns-in-Sys-clause-state
 returns-in-Sys-clause-state c =
@@ -20,7 +19,7 @@ returns-in-Sys-clause-state c =
 pub returns-in-Sys-clause-bytes : goal.returns-in-Sys-clause-bytes
 returns-in-Sys-clause-bytes c =
     c.answer_call.ensures.bytes
-    ∙ sym (ap (λ (x : BareStepped). x.bytes) (step-as _ _ _ _ _ _ _ c.execute_alone.ensures.outcome c.execute_alone.ensures.words c.execute_alone.ensures.regs c.in-Sys.is))
+    ∙ same-behind _ _ _ (sym (step-as _ _ _ _ _ _ _ c.execute_alone.ensures.outcome c.execute_alone.ensures.words c.execute_alone.ensures.regs c.in-Sys.is))
 
 pub returns-in-Returned-clause-state : goal.returns-in-Returned-clause-state
 returns-in-Returned-clause-state c =
@@ -28,8 +27,7 @@ returns-in-Returned-clause-state c =
 
 pub returns-in-Returned-clause-bytes : goal.returns-in-Returned-clause-bytes
 returns-in-Returned-clause-bytes c =
-    c.requires.empty
-    ∙ sym (ap (λ (x : BareStepped). x.bytes) (step-as _ _ _ _ _ _ _ c.execute_alone.ensures.outcome c.execute_alone.ensures.words c.execute_alone.ensures.regs c.in-Returned.is))
+    quiet-behind _ _ _ (step-as _ _ _ _ _ _ _ c.execute_alone.ensures.outcome c.execute_alone.ensures.words c.execute_alone.ensures.regs c.in-Returned.is)
 
 pub returns-in-Fault-clause-state : goal.returns-in-Fault-clause-state
 returns-in-Fault-clause-state c =
@@ -38,5 +36,4 @@ returns-in-Fault-clause-state c =
 
 pub returns-in-Fault-clause-bytes : goal.returns-in-Fault-clause-bytes
 returns-in-Fault-clause-bytes c =
-    c.requires.empty
-    ∙ sym (ap (λ (x : BareStepped). x.bytes) (step-as _ _ _ _ _ _ _ c.execute_alone.ensures.outcome c.execute_alone.ensures.words c.execute_alone.ensures.regs c.in-Fault.is))
+    quiet-behind _ _ _ (step-as _ _ _ _ _ _ _ c.execute_alone.ensures.outcome c.execute_alone.ensures.words c.execute_alone.ensures.regs c.in-Fault.is)

@@ -1,0 +1,71 @@
+// Steps, one after another.
+ghost use Rattle.std.specs.Prelude.{◌≡◌, ◌<◌, ◌+◌, ◌≤◌, [], ◌++◌, None, length};
+ghost use Rattle.session_text.specs.KernelDispatch.KernelModel.Ranges.{most_steps};
+ghost use Rattle.bare_machine.specs.Run.{run};
+ghost use Rattle.bare_machine.specs.State.{IsSound, state_of};
+
+use crate::BareParts;
+use crate::passes::pass;
+use crate::steps::next_step;
+use session_text::Stop;
+use tp_io::Output;
+
+/// What steps have come to.
+#[derive(Clone, Copy, Debug)]
+pub(crate) struct Advanced {
+    /// How many there were.
+    pub steps: u64,
+    /// Why the machine has stopped in the last of them, if it has.
+    pub stop: Option<Stop>,
+}
+
+/// Takes some steps, at most `most`, of a machine that has not stopped, up to the step that stops it, if there is one. It ends
+/// before where there is no room for a byte more.
+pub(crate) fn advance(parts: &mut BareParts, most: u64, out: &mut Output) -> Advanced
+    requires sound { IsSound parts.old }
+    requires some { 0 < most }
+    requires steps { parts.old.step + most ≤ most_steps }
+    requires empty { out.old ≡ [] }
+    ensures some { 0 < result.steps }
+    ensures most { result.steps ≤ most }
+    ensures state { state_of parts.new result.stop
+        ≡ (run result.steps (state_of parts.old None)).state }
+    ensures bytes { out.new ≡ (run result.steps (state_of parts.old None)).bytes }
+    ensures sound { IsSound parts.new }
+{
+    let mut done = pass_and_step(parts, most, out);
+    while done.stop.is_none() && done.steps < most && out.room() > 0 {
+        let more = pass_and_step(parts, most - done.steps, out);
+        done = Advanced {
+            steps: done.steps + more.steps,
+            stop: more.stop,
+        };
+    }
+    done
+}
+
+// Takes some steps, at most `most`, of a machine that has not stopped, of which only the last one may write a byte or stop it.
+fn pass_and_step(parts: &mut BareParts, most: u64, out: &mut Output) -> Advanced
+    requires sound { IsSound parts.old }
+    requires some { 0 < most }
+    requires steps { parts.old.step + most ≤ most_steps }
+    requires room { length out.old < 8192 }
+    ensures some { 0 < result.steps }
+    ensures most { result.steps ≤ most }
+    ensures state { state_of parts.new result.stop
+        ≡ (run result.steps (state_of parts.old None)).state }
+    ensures bytes { out.new ≡ out.old ++ (run result.steps (state_of parts.old None)).bytes }
+    ensures sound { IsSound parts.new }
+{
+    let mut calls = false;
+    let steps = pass(&mut parts.store, &mut parts.regs, most, &mut calls);
+    parts.step += steps;
+    if steps == most {
+        return Advanced { steps, stop: None };
+    }
+    let stop = next_step(parts, calls, out);
+    Advanced {
+        steps: steps + 1,
+        stop,
+    }
+}
