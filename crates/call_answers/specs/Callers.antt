@@ -1,9 +1,8 @@
 -- The task that makes a call: the running one.
 use Rattle.std.specs.Prelude.{◌≡◌, true}
-use Rattle.std.specs.List.{AllByRecursion}
 use Rattle.kernel_dispatch.specs.KernelModel.Lists.{Lists, has_task}
+use Rattle.kernel_dispatch.specs.KernelModel.Running.{RunsAlive}
 use Rattle.kernel_dispatch.specs.KernelModel.Task.{is_guest_id}
-use Rattle.kernel_dispatch.specs.KernelModel.ValidTasks.{runs}
 
 -- a guest runs, and its state says so
 pub record HasCaller (l : Lists) : Type 0 where
@@ -11,5 +10,5 @@ pub record HasCaller (l : Lists) : Type 0 where
   pub guest : is_guest_id l.running ≡ true
   -- it is there
   pub there : has_task l.running l.tasks ≡ true
-  -- its field says that it runs
-  pub field : AllByRecursion (λ t. t.id ≡ l.running → t.field ≡ runs) l.tasks
+  -- its field is that of one that runs
+  pub field : RunsAlive l

@@ -8,12 +8,13 @@ use Rattle.shell_programs.specs.KernelCalls.LinkedList.Places.{insert_after, wit
 use Rattle.shell_programs.proofs.Shown.KernelCalls.LinkedList.AllMembers.{all-append}
 use Rattle.word_store.specs.declared.registers.Regs.{Regs}
 use Rattle.shell_programs.specs.KernelCalls.PacketQueue.QueueWords.{QueuedPacket}
-use Rattle.shell_programs.specs.KernelCalls.KernelModel.Between.{FaultsStand, is_unreported}
+use Rattle.shell_programs.specs.KernelCalls.KernelModel.Between.{FaultsStand, Tells, is_unreported}
 use Rattle.shell_programs.specs.KernelCalls.KernelModel.Changes.{with_queue, with_task, with_tasks, work_of}
-use Rattle.shell_programs.specs.KernelCalls.KernelModel.Kernel.{Kernel, Shell}
+use Rattle.shell_programs.specs.KernelCalls.KernelModel.Kernel.{Shell}
 use Rattle.shell_programs.specs.KernelCalls.KernelModel.Lists.{Lists, has_task}
 use Rattle.shell_programs.specs.KernelCalls.KernelModel.MovedTask.{with_moved_task, with_priority}
 use Rattle.shell_programs.specs.KernelCalls.KernelModel.Residents.{fault_packet}
+use Rattle.shell_programs.specs.KernelCalls.KernelModel.Running.{RunsAs}
 use Rattle.shell_programs.specs.KernelCalls.KernelModel.Task.{Task, is_guest_id}
 use Rattle.shell_programs.specs.KernelCalls.KernelModel.ValidLists.{AreValid}
 use Rattle.shell_programs.specs.KernelCalls.KernelModel.ValidQueues.{MayStand}
@@ -37,8 +38,8 @@ use Rattle.shell_programs.specs.KernelResidents.ResidentRequests.Answers.{answer
 use Rattle.shell_programs.specs.KernelResidents.ResidentRequests.Requests.{RunsResident, taken, taken_from, work}
 use Rattle.shell_programs.specs.KernelResidents.ResidentRequests.declared.requests.Request.{Request}
 use Rattle.shell_programs.specs.ClearedTasks.{cleared}
-use Rattle.shell_programs.specs.KeptLists.{KeepsResidents, RunsAlone}
-use Rattle.shell_programs.proofs.KeptFaults.{FaultsWait, Tells, all-work, begun-faults, cleared-faults, faults-same, posted-faults, started-faults, tells-more}
+use Rattle.shell_programs.specs.KeptLists.{KeepsResidents, ResidentAlone}
+use Rattle.shell_programs.proofs.KeptFaults.{all-work, begun-faults, cleared-faults, faults-same, posted-faults, started-faults, tells-more}
 use Rattle.shell_programs.proofs.KeptRules.{begun-alone, begun-residents, cleared-alone, cleared-residents, other-number, other-task, started-alone, started-residents}
 use Rattle.shell_programs.proofs.KeptTasks.{all-changed, all-without, any-changed, work-changed, work-inserted, work-without}
 use Rattle.shell_programs.proofs.SentRules.{posted-alone, posted-is}
@@ -146,39 +147,35 @@ turn-rest s l sh d = turn-keeps (Rest l) (Rest l) (rest-allows l) s l sh d refl 
 
 -- ---- the task that runs alone has the field of one that runs
 
--- the task has the field only where it is the one with the number
-abbrev Runs : ℕ → Task → Type 0
-Runs n t = t.field ≡ runs → t.id ≡ n
-
-find-all : (f : Task → Bool) (ts : List Task) (t : Task) (n : ℕ) → find f ts ≡ Some t → AllByRecursion (Runs n) ts → Runs n t
+find-all : (f : Task → Bool) (ts : List Task) (t : Task) (n : ℕ) → find f ts ≡ Some t → AllByRecursion (RunsAs n) ts → RunsAs n t
 find-all f [] t n e all = cc
 find-all f (u ∷ us) t n e all = on (f u) e (λ is. find-all f us t n is all.1)
   where
-    on : (b : Bool) → cond b (Some u) (find f us) ≡ Some t → (find f us ≡ Some t → Runs n t) → Runs n t
-    on true is more = (let same : u ≡ t = cc in subst (Runs n) same all.0)
+    on : (b : Bool) → cond b (Some u) (find f us) ≡ Some t → (find f us ≡ Some t → RunsAs n t) → RunsAs n t
+    on true is more = (let same : u ≡ t = cc in subst (RunsAs n) same all.0)
     on false is more = more is
 
-alone-tasks : (m : Lists) (ts : List Task) → RunsAlone m → AllByRecursion (Runs m.running) ts → RunsAlone (with_tasks ts m)
+alone-tasks : (m : Lists) (ts : List Task) → ResidentAlone m → AllByRecursion (RunsAs m.running) ts → ResidentAlone (with_tasks ts m)
 alone-tasks m ts r all = record { resident = r.resident; field = all }
 
-alone-changes : AllowsTasks RunsAlone
+alone-changes : AllowsTasks ResidentAlone
 alone-changes =
     record {
-      one = λ m id f same r. alone-tasks m _ r (all-changed id f (Runs m.running) (λ t e before e'. same.id t ∙ before (same.field t e')) m.tasks r.field);
+      one = λ m id f same r. alone-tasks m _ r (all-changed id f (RunsAs m.running) (λ t e before e'. same.id t ∙ before (same.field t e')) m.tasks r.field);
       move = λ m pri t guest is r.
           alone-tasks m _ r
-          (all-inserted (Runs m.running) (λ u. nat_lt pri u.priority) (with_priority pri t) (without_first (λ u. eqb u.id t.id) m.tasks) (find-all (λ u. eqb u.id t.id) m.tasks t m.running is r.field)
-          (all-without (λ u. eqb u.id t.id) (Runs m.running) m.tasks r.field));
+          (all-inserted (RunsAs m.running) (λ u. nat_lt pri u.priority) (with_priority pri t) (without_first (λ u. eqb u.id t.id) m.tasks) (find-all (λ u. eqb u.id t.id) m.tasks t m.running is r.field)
+          (all-without (λ u. eqb u.id t.id) (RunsAs m.running) m.tasks r.field));
     }
 
-alone-work : (m : Lists) (id : ℕ) (ps : List QueuedPacket) → RunsAlone m → RunsAlone (with_queue (Work id) ps m)
-alone-work m id ps r = alone-tasks m _ r (all-changed id (λ t. record t { queue = ps }) (Runs m.running) (λ t e before. before) m.tasks r.field)
+alone-work : (m : Lists) (id : ℕ) (ps : List QueuedPacket) → ResidentAlone m → ResidentAlone (with_queue (Work id) ps m)
+alone-work m id ps r = alone-tasks m _ r (all-changed id (λ t. record t { queue = ps }) (RunsAs m.running) (λ t e before. before) m.tasks r.field)
 
-alone-taken : (m : Lists) (ps : List QueuedPacket) → RunsAlone m → RunsAlone (taken_from ps m).lists
+alone-taken : (m : Lists) (ps : List QueuedPacket) → ResidentAlone m → ResidentAlone (taken_from ps m).lists
 alone-taken m [] r = r
 alone-taken m (p ∷ ps) r = alone-work m m.running ps r
 
-alone-allows : Allows RunsAlone RunsAlone
+alone-allows : Allows ResidentAlone ResidentAlone
 alone-allows =
     record {
       at_taking = λ m r. alone-taken m (work m) r;
@@ -186,21 +183,21 @@ alone-allows =
       at_sending = posted-alone;
       at_start = started-alone;
       at_beginning = λ id k guest r. begun-alone id k r;
-      at_hold = hold-keeps RunsAlone alone-changes;
-      at_release = release-keeps RunsAlone alone-changes;
-      at_priority = priority-keeps RunsAlone alone-changes;
-      at_flags = flags-keeps RunsAlone alone-changes;
-      at_end = end-keeps RunsAlone alone-changes;
+      at_hold = hold-keeps ResidentAlone alone-changes;
+      at_release = release-keeps ResidentAlone alone-changes;
+      at_priority = priority-keeps ResidentAlone alone-changes;
+      at_flags = flags-keeps ResidentAlone alone-changes;
+      at_end = end-keeps ResidentAlone alone-changes;
     }
 
-pub turn-alone : (s : List ℕ) (l : Lists) (sh : Shell) (d : Disc) → RunsAlone l → RunsAlone (shell_turn s l sh d).standing.lists
-turn-alone s l sh d r = turn-keeps RunsAlone RunsAlone alone-allows s l sh d r (cleared-alone (standing s l) r)
+pub turn-alone : (s : List ℕ) (l : Lists) (sh : Shell) (d : Disc) → ResidentAlone l → ResidentAlone (shell_turn s l sh d).standing.lists
+turn-alone s l sh d r = turn-keeps ResidentAlone ResidentAlone alone-allows s l sh d r (cleared-alone (standing s l) r)
 
 -- a dispatch may follow
 pub turn-dispatches : (s : List ℕ) (l : Lists) (sh : Shell) (d : Disc) (r : Regs) → RunsResident l → CanDispatch l r → CanDispatch (shell_turn s l sh d).standing.lists r
 turn-dispatches s l sh d r runs c =
     let still : (shell_turn s l sh d).standing.lists.running ≡ l.running = ap (λ (m : Lists). m.running) (turn-rest s l sh d) in
-    record { field = (turn-alone s l sh d (record { resident = runs.resident; field = c.field })).field; byte = c.byte; idle = λ e. c.idle (ap is_guest_id (sym still) ∙ e) }
+    record { field = (turn-alone s l sh d (record { resident = runs.resident; field = c.field })).field; registers = record { byte = c.registers.byte; idle = λ e. c.registers.idle (ap is_guest_id (sym still) ∙ e) } }
 
 -- ---- the fault packet waits where some fault was not reported yet
 
@@ -242,11 +239,11 @@ no-work (t ∷ ts) none = on (eqb t.id 2) none (no-work ts)
     on true e more = cc
     on false e more = more e
 
-absent : (l : Lists) → has_task 2 l.tasks ≡ false → FaultsWait l
+absent : (l : Lists) → has_task 2 l.tasks ≡ false → FaultsStand l
 absent l none = record { waits = λ there. absurd (false≢true (sym none ∙ there)); sender = subst (AllByRecursion (Tells l.tasks)) (sym (no-work l.tasks none)) tt }
 
 -- a queue is another
-queue-faults : (l : Lists) (n : ℕ) (ps : List QueuedPacket) → (n ≡ 2 → AllByRecursion (Tells l.tasks) ps) → FaultsWait l → FaultsWait (with_queue (Work n) ps l)
+queue-faults : (l : Lists) (n : ℕ) (ps : List QueuedPacket) → (n ≡ 2 → AllByRecursion (Tells l.tasks) ps) → FaultsStand l → FaultsStand (with_queue (Work n) ps l)
 queue-faults l n ps new h =
     record {
       waits = λ there. h.waits (sym (any-changed n f (λ t. eqb t.id 2) (λ t. refl) l.tasks) ∙ there) ∙ ap not (sym (any-changed n f is_unreported (λ t. refl) l.tasks));
@@ -258,7 +255,7 @@ queue-faults l n ps new h =
     f : Task → Task
     f t = record t { queue = ps }
 
-faults-one : (l : Lists) (n : ℕ) (f : Task → Task) → IsLight f → FaultsWait l → FaultsWait (with_task n f l)
+faults-one : (l : Lists) (n : ℕ) (f : Task → Task) → IsLight f → FaultsStand l → FaultsStand (with_task n f l)
 faults-one l n f same h =
     faults-same l (with_task n f l)
     (record {
@@ -270,7 +267,7 @@ faults-one l n f same h =
       work = work-changed n f (λ t. (same.id t, same.queue t)) 2 l.tasks;
     }) h
 
-faults-move : (l : Lists) (pri : ℕ) (t : Task) → is_guest_id t.id ≡ true → find (λ u. eqb u.id t.id) l.tasks ≡ Some t → FaultsWait l → FaultsWait (with_tasks (moved_chain pri t l.tasks) l)
+faults-move : (l : Lists) (pri : ℕ) (t : Task) → is_guest_id t.id ≡ true → find (λ u. eqb u.id t.id) l.tasks ≡ Some t → FaultsStand l → FaultsStand (with_tasks (moved_chain pri t l.tasks) l)
 faults-move l pri t guest is h =
     faults-same l (with_tasks (moved_chain pri t l.tasks) l)
     (record {
@@ -284,98 +281,87 @@ faults-move l pri t guest is h =
     }) h
 
 -- none of the shell's packets is the fault packet
-record Begins (k : Kernel) (l : Lists) : Type 0 where
-  pub faults : FaultsStand (record k { lists = l })
+record Begins (l : Lists) : Type 0 where
+  pub faults : FaultsStand l
   pub others : has_task 2 l.tasks ≡ true → AllByRecursion (λ p. eqb p.address fault_packet ≡ false) (work l)
   pub is : l.running ≡ SHELL
 
-module _ (k : Kernel) where
-  abbrev Waits : Lists → Type 0
-  Waits l = FaultsStand (record k { lists = l })
+waits-changes : AllowsTasks FaultsStand
+waits-changes =
+    record {
+      one = faults-one;
+      move = faults-move;
+    }
 
-  waits-of : (l : Lists) → Waits l → FaultsWait l
-  waits-of l h = record { waits = h.waits; sender = h.sender }
+waits-taken : (l : Lists) (ps : List QueuedPacket) → l.running ≡ SHELL → FaultsStand l → FaultsStand (taken_from ps l).lists
+waits-taken l [] is h = h
+waits-taken l (p ∷ ps) is h = queue-faults l l.running ps (λ e. absurd (omega (arith, e, is))) h
 
-  stands : (l : Lists) → FaultsWait l → Waits l
-  stands l h = record { waits = h.waits; sender = h.sender }
+taken-has : (l : Lists) (ps : List QueuedPacket) → has_task 2 (taken_from ps l).lists.tasks ≡ has_task 2 l.tasks
+taken-has l [] = refl
+taken-has l (p ∷ ps) = any-changed l.running (λ t. record t { queue = ps }) (λ t. eqb t.id 2) (λ t. refl) l.tasks
 
-  waits-changes : AllowsTasks Waits
-  waits-changes =
-      record {
-        one = λ l n f same h. stands (with_task n f l) (faults-one l n f same (waits-of l h));
-        move = λ l pri t guest is h. stands (with_tasks (moved_chain pri t l.tasks) l) (faults-move l pri t guest is (waits-of l h));
-      }
+waits-refused : (l : Lists) (r : Request) (p : QueuedPacket) (ps : List QueuedPacket) → work l ≡ p ∷ ps → r.packet ≡ p.address → Begins l → FaultsStand (returned (taken l).lists r (Err 31)).lists
+waits-refused l r p ps is same h = on (has_task 2 l.tasks) refl
+  where
+    m : Lists
+    m = (taken l).lists
 
-  waits-taken : (l : Lists) (ps : List QueuedPacket) → l.running ≡ SHELL → FaultsWait l → FaultsWait (taken_from ps l).lists
-  waits-taken l [] is h = h
-  waits-taken l (p ∷ ps) is h = queue-faults l l.running ps (λ e. absurd (omega (arith, e, is))) h
+    q : QueuedPacket
+    q = answered_packet m r (Err 31)
 
-  taken-has : (l : Lists) (ps : List QueuedPacket) → has_task 2 (taken_from ps l).lists.tasks ≡ has_task 2 l.tasks
-  taken-has l [] = refl
-  taken-has l (p ∷ ps) = any-changed l.running (λ t. record t { queue = ps }) (λ t. eqb t.id 2) (λ t. refl) l.tasks
+    qs : List QueuedPacket
+    qs = work_of r.sender m.tasks ++ q ∷ []
 
-  waits-refused : (l : Lists) (r : Request) (p : QueuedPacket) (ps : List QueuedPacket) → work l ≡ p ∷ ps → r.packet ≡ p.address → Begins k l → Waits (returned (taken l).lists r (Err 31)).lists
-  waits-refused l r p ps is same h = stands (returned m r (Err 31)).lists (on (has_task 2 l.tasks) refl)
-    where
-      m : Lists
-      m = (taken l).lists
+    before : FaultsStand m
+    before = waits-taken l (work l) h.is h.faults
 
-      q : QueuedPacket
-      q = answered_packet m r (Err 31)
+    on : (b : Bool) → has_task 2 l.tasks ≡ b → FaultsStand (with_queue (Work r.sender) qs m)
+    on true there =
+        queue-faults m r.sender qs
+        (λ e.
+        all-append (Tells m.tasks) (work_of r.sender m.tasks) (q ∷ []) (subst (λ i. AllByRecursion (Tells m.tasks) (work_of i m.tasks)) (sym e) before.sender)
+        ((λ fault. absurd (false≢true (sym (subst (AllByRecursion (λ z. eqb z.address fault_packet ≡ false)) is (h.others there)).0 ∙ ap (λ a. eqb a fault_packet) (sym same) ∙ fault))), tt)) before
+    on false none =
+        absent (with_queue (Work r.sender) qs m)
+        (any-changed r.sender (λ t. record t { queue = qs }) (λ t. eqb t.id 2) (λ t. refl) m.tasks ∙ taken-has l (work l) ∙ none)
 
-      qs : List QueuedPacket
-      qs = work_of r.sender m.tasks ++ q ∷ []
+waits-allows : Allows Begins FaultsStand
+waits-allows =
+    record {
+      at_taking = λ l h. waits-taken l (work l) h.is h.faults;
+      at_refusal = waits-refused;
+      at_sending = posted-faults;
+      at_start = started-faults;
+      at_beginning = λ id j guest h. begun-faults id j h;
+      at_hold = hold-keeps FaultsStand waits-changes;
+      at_release = release-keeps FaultsStand waits-changes;
+      at_priority = priority-keeps FaultsStand waits-changes;
+      at_flags = flags-keeps FaultsStand waits-changes;
+      at_end = end-keeps FaultsStand waits-changes;
+    }
 
-      before : FaultsWait m
-      before = waits-taken l (work l) h.is (waits-of l h.faults)
+-- the fault packet is none of the shell's
+none-fault : (l : Lists) → AreValid l → RunsResident l → l.running ≡ SHELL → has_task 2 l.tasks ≡ true → AllByRecursion (λ p. eqb p.address fault_packet ≡ false) (work l)
+none-fault l v r is there = all-each (MayStand l (Work l.running)) (λ p. eqb p.address fault_packet ≡ false) each (work l) (place-stands l (Work l.running) v r.there)
+  where
+    each : (p : QueuedPacket) → MayStand l (Work l.running) p → eqb p.address fault_packet ≡ false
+    each p may = on (eqb p.address fault_packet) refl
+      where
+        on : (b : Bool) → eqb p.address fault_packet ≡ b → b ≡ false
+        on false e = refl
+        on true e = (let place = (may.fault (λ i. there i && e i)).place in let two : l.running ≡ 2 = cc in absurd (omega (arith, two, is)))
 
-      on : (b : Bool) → has_task 2 l.tasks ≡ b → FaultsWait (with_queue (Work r.sender) qs m)
-      on true there =
-          queue-faults m r.sender qs
-          (λ e.
-          all-append (Tells m.tasks) (work_of r.sender m.tasks) (q ∷ []) (subst (λ i. AllByRecursion (Tells m.tasks) (work_of i m.tasks)) (sym e) before.sender)
-          ((λ fault. absurd (false≢true (sym (subst (AllByRecursion (λ z. eqb z.address fault_packet ≡ false)) is (h.others there)).0 ∙ ap (λ a. eqb a fault_packet) (sym same) ∙ fault))), tt)) before
-      on false none =
-          absent (with_queue (Work r.sender) qs m)
-          (any-changed r.sender (λ t. record t { queue = qs }) (λ t. eqb t.id 2) (λ t. refl) m.tasks ∙ taken-has l (work l) ∙ none)
-
-  waits-allows : Allows (Begins k) Waits
-  waits-allows =
-      record {
-        at_taking = λ l h. stands (taken l).lists (waits-taken l (work l) h.is (waits-of l h.faults));
-        at_refusal = waits-refused;
-        at_sending = posted-faults k;
-        at_start = started-faults k;
-        at_beginning = λ id j guest h. begun-faults k id j h;
-        at_hold = hold-keeps Waits waits-changes;
-        at_release = release-keeps Waits waits-changes;
-        at_priority = priority-keeps Waits waits-changes;
-        at_flags = flags-keeps Waits waits-changes;
-        at_end = end-keeps Waits waits-changes;
-      }
-
-  -- the fault packet is none of the shell's
-  none-fault : (l : Lists) → AreValid l → RunsResident l → l.running ≡ SHELL → has_task 2 l.tasks ≡ true → AllByRecursion (λ p. eqb p.address fault_packet ≡ false) (work l)
-  none-fault l v r is there = all-each (MayStand l (Work l.running)) (λ p. eqb p.address fault_packet ≡ false) each (work l) (place-stands l (Work l.running) v r.there)
-    where
-      each : (p : QueuedPacket) → MayStand l (Work l.running) p → eqb p.address fault_packet ≡ false
-      each p may = on (eqb p.address fault_packet) refl
-        where
-          on : (b : Bool) → eqb p.address fault_packet ≡ b → b ≡ false
-          on false e = refl
-          on true e = (let place = (may.fault (λ i. there i && e i)).place in let two : l.running ≡ 2 = cc in absurd (omega (arith, two, is)))
-
-  pub turn-faults : (s : List ℕ) (sh : Shell) (d : Disc) → AreValid k.lists → RunsResident k.lists → k.lists.running ≡ SHELL → FaultsStand k → Waits (shell_turn s k.lists sh d).standing.lists
-  turn-faults s sh d v r is h =
-      let start : Standing = standing s k.lists in
-      let kept = cleared-residents start in
-      let still : (cleared start).lists.running ≡ k.lists.running = ap (λ (m : Lists). m.running) kept.rest in
-      let faults : Waits k.lists = record { waits = h.waits; sender = h.sender } in
-      turn-keeps (Begins k) Waits waits-allows s k.lists sh d faults
-      (record {
-        faults = cleared-faults k start v faults;
-        others = λ there.
-            subst (AllByRecursion (λ p. eqb p.address fault_packet ≡ false)) (sym (ap (λ i. work_of i (cleared start).lists.tasks) still ∙ kept.work k.lists.running r.resident))
-            (none-fault k.lists v r is (sym (kept.there 2 refl) ∙ there));
-        is = still ∙ is;
-      })
+pub turn-faults : (s : List ℕ) (l : Lists) (sh : Shell) (d : Disc) → AreValid l → RunsResident l → l.running ≡ SHELL → FaultsStand l → FaultsStand (shell_turn s l sh d).standing.lists
+turn-faults s l sh d v r is h =
+    let start : Standing = standing s l in
+    let kept = cleared-residents start in
+    let still : (cleared start).lists.running ≡ l.running = ap (λ (m : Lists). m.running) kept.rest in
+    turn-keeps Begins FaultsStand waits-allows s l sh d h
+    (record {
+      faults = cleared-faults start v h;
+      others = λ there.
+          subst (AllByRecursion (λ p. eqb p.address fault_packet ≡ false)) (sym (ap (λ i. work_of i (cleared start).lists.tasks) still ∙ kept.work l.running r.resident))
+          (none-fault l v r is (sym (kept.there 2 refl) ∙ there));
+      is = still ∙ is;
+    })

@@ -7,6 +7,7 @@ use Rattle.shell_programs.specs.KernelCalls.KernelModel.Changes.{with_task}
 use Rattle.shell_programs.specs.KernelCalls.KernelModel.HoldsLists.{HoldsLists}
 use Rattle.shell_programs.specs.KernelCalls.KernelModel.Lists.{Lists, has_task}
 use Rattle.shell_programs.specs.KernelCalls.KernelModel.MovedTask.{with_priority}
+use Rattle.shell_programs.specs.KernelCalls.KernelModel.Running.{RunsIf}
 use Rattle.shell_programs.specs.KernelCalls.KernelModel.Task.{Task, is_guest_id}
 use Rattle.shell_programs.specs.KernelCalls.KernelModel.ValidLists.{AreValid}
 use Rattle.shell_programs.specs.KernelCalls.KernelModel.ValidTasks.{runs}
@@ -24,10 +25,6 @@ use Rattle.shell_programs.specs.ShellPacket.{posted}
 use Rattle.shell_programs.proofs.KeptTasks.{all-changed, all-without, any-changed}
 use Rattle.shell_programs.proofs.SentRules.{posted-is}
 use Rattle.shell_programs.specs.KernelCalls.KernelModel.declared.numbers.TheConstants.{SHELL}
-
--- the task with the number has the state of one that runs
-abbrev RunsIf : ℕ → Task → Type 0
-RunsIf running t = t.id ≡ running → t.field ≡ runs
 
 -- ---- one task changes, but for its number and its field
 

@@ -2,7 +2,7 @@
 ghost use Rattle.std.specs.Prelude.{◌≡◌, ℕ, List, is_some};
 ghost use Rattle.word_store.specs.declared.registers.Regs.{Regs};
 ghost use Rattle.shell_programs.specs.KernelCalls.KernelModel.Between.{FaultsStand, IsAwaited, is_typing};
-ghost use Rattle.shell_programs.specs.KernelCalls.KernelModel.Kernel.{Kernel, Shell};
+ghost use Rattle.shell_programs.specs.KernelCalls.KernelModel.Kernel.{Shell};
 ghost use Rattle.shell_programs.specs.KernelCalls.KernelModel.Lists.{Lists};
 ghost use Rattle.shell_programs.specs.KernelCalls.KernelModel.ValidLists.{AreValid};
 ghost use Rattle.shell_programs.specs.KernelCalls.KernelModel.Versions.{highest_id_of};
@@ -22,9 +22,9 @@ pub fn lists_law()
         → KeepsRest l (shell_turn s l sh d).standing.lists }
     ensures dispatch { (s : List ℕ) (l : Lists) (sh : Shell) (d : Disc) (r : Regs) → RunsResident l
         → CanDispatch l r → CanDispatch (shell_turn s l sh d).standing.lists r }
-    ensures faults { (k : Kernel) (s : List ℕ) (sh : Shell) (d : Disc) → AreValid k.lists
-        → RunsResident k.lists → k.lists.running ≡ SHELL → FaultsStand k
-        → FaultsStand (record k { lists = (shell_turn s k.lists sh d).standing.lists }) }
+    ensures faults { (s : List ℕ) (l : Lists) (sh : Shell) (d : Disc) → AreValid l → RunsResident l
+        → l.running ≡ SHELL → FaultsStand l
+        → FaultsStand (shell_turn s l sh d).standing.lists }
 {}
 
 /// After a turn too the shell's stream is open exactly while it types a file, and the task for which it waits has a guest's

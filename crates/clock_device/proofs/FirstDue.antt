@@ -6,23 +6,23 @@ use Rattle.kernel_calls.specs.PacketQueue.QueueWords.{QueuedPacket, first_packet
 use Rattle.kernel_calls.specs.KernelModel.HoldsLists.{HoldsLists}
 use Rattle.kernel_calls.specs.KernelModel.Lists.{Lists}
 use Rattle.kernel_calls.specs.KernelModel.Owned.{clock_head}
-use Rattle.kernel_calls.specs.PacketCalls.declared.returns.Device.TheVariants.{OfClock}
+use Rattle.kernel_calls.specs.PacketCalls.declared.returns.Device.TheVariants.{Clock}
 use Rattle.kernel_calls.proofs.Shown.PacketCalls.DeviceQueues.{device-held}
 use Rattle.clock_device.specs.Tick.{is_first_due}
 
 module _ (s : List ℕ) (l : Lists) (now : ℕ) (h : HoldsLists s l) (p : ℕ) (is : p ≡ get_or s clock_head 0) where
   first-is : p ≡ first_packet l.clock
-  first-is = is ∙ (device-held s l OfClock h).holds.0
+  first-is = is ∙ (device-held s l Clock h).holds.0
 
   pub due-none : p ≡ 0 → false ≡ is_first_due now l.clock
-  due-none e = on l.clock (device-held s l OfClock h).some (sym first-is ∙ e)
+  due-none e = on l.clock (device-held s l Clock h).some (sym first-is ∙ e)
     where
       on : (ps : List QueuedPacket) → AllByRecursion (λ z. 0 < z.address) ps → first_packet ps ≡ 0 → false ≡ is_first_due now ps
       on [] some e = refl
       on (z ∷ zs) some e = absurd (omega (arith, some.0, e))
 
   pub due-some : p ≢ 0 → (due : ℕ) → due ≡ get_or s (p + 4) 0 → leb due now ≡ is_first_due now l.clock
-  due-some some due due_is = on l.clock (device-held s l OfClock h).holds first-is
+  due-some some due due_is = on l.clock (device-held s l Clock h).holds first-is
     where
       on : (ps : List QueuedPacket) → Holds s (queue_words clock_head ps) → p ≡ first_packet ps → leb due now ≡ is_first_due now ps
       on [] own at = absurd (some at)

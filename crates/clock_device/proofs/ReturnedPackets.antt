@@ -20,7 +20,7 @@ use Rattle.kernel_calls.proofs.Shown.KernelModel.ChangedLists.{changed-none, cha
 use Rattle.kernel_calls.proofs.Shown.KernelModel.EachMember.{all-each}
 use Rattle.kernel_calls.proofs.Shown.KernelModel.NotedInTurn.{notes-none, notes-then}
 use Rattle.kernel_calls.specs.PacketCalls.Returned.{IsServed, Served, first_returned, return_events, returned_by, with_work_for}
-use Rattle.kernel_calls.specs.PacketCalls.declared.returns.Device.TheVariants.{OfClock}
+use Rattle.kernel_calls.specs.PacketCalls.declared.returns.Device.TheVariants as devices
 use Rattle.clock_device.specs.Tick.{due_packets, due_returned, events_of_return, is_first_due, later_packets, with_returned}
 use Rattle.kernel_calls.proofs.Shown.PacketCalls.DeviceQueues.{device-held}
 
@@ -81,7 +81,7 @@ module _ (now : ℕ) (m : Lists) (x : IsDue now m) where
   qs = x.others
 
   abbrev next : Lists
-  next = with_work_for q.sender (returned_by OfClock 0 q) (with_queue Clock qs m)
+  next = with_work_for q.sender (returned_by devices.Clock 0 q) (with_queue Clock qs m)
 
   due-is : due_packets now m.clock ≡ q ∷ due_packets now qs
   due-is = ap (due_packets now) x.is ∙ (λ i. cond (x.due i) (q ∷ due_packets now qs) (due_packets now qs))
@@ -92,40 +92,40 @@ module _ (now : ℕ) (m : Lists) (x : IsDue now m) where
   all-left : (due_returned now next).lists ≡ (due_returned now m).lists
   all-left = sym (λ i. with_returned (due-is i) (with_queue Clock (later-is i) m))
 
-  all-events : (due_returned now m).events ≡ return_events OfClock q ++ (due_returned now next).events
+  all-events : (due_returned now m).events ≡ return_events devices.Clock q ++ (due_returned now next).events
   all-events = ap events_of_return due-is
 
-  served-is : first_returned OfClock 0 m.clock m ≡ record { lists = next; events = return_events OfClock q }
-  served-is = ap (λ ps. first_returned OfClock 0 ps m) x.is
+  served-is : first_returned devices.Clock 0 m.clock m ≡ record { lists = next; events = return_events devices.Clock q }
+  served-is = ap (λ ps. first_returned devices.Clock 0 ps m) x.is
 
   module _ (s t u : List ℕ) (l : Lists) (before after last : Option (List KernelEvent)) (b d e : Bool) (so : HasReturned s t now l before after b d) (same : so.lists ≡ m)
-      (step : IsServed t u m (first_returned OfClock 0 m.clock m)) (noted : NotesAll after last d e (first_returned OfClock 0 m.clock m).events) where
+      (step : IsServed t u m (first_returned devices.Clock 0 m.clock m)) (noted : NotesAll after last d e (first_returned devices.Clock 0 m.clock m).events) where
     pub returned-more : HasReturned s u now l before last b e
     returned-more =
         let held : IsChanged s t m [] = subst (λ z. IsChanged s t z []) same so.changed in
         let own : (a : ℕ) → owners a (owned m) ≡ owners a (owned l) = subst (λ z. (a : ℕ) → owners a (owned z) ≡ owners a (owned l)) same so.own in
-        let served : IsServed t u m (record { lists = next; events = return_events OfClock q }) = subst (IsServed t u m) served-is step in
-        let notes : NotesAll after last d e (return_events OfClock q) = subst (λ (z : Served). NotesAll after last d e z.events) served-is noted in
+        let served : IsServed t u m (record { lists = next; events = return_events devices.Clock q }) = subst (IsServed t u m) served-is step in
+        let notes : NotesAll after last d e (return_events devices.Clock q) = subst (λ (z : Served). NotesAll after last d e z.events) served-is noted in
         record {
           lists = next;
           changed = changed-then s t u m next [] held served.lists (λ a none. sym (served.same a) ∙ none);
           left = all-left ∙ ap (λ z. (due_returned now z).lists) (sym same) ∙ so.left;
           own = λ a. served.same a ∙ own a;
-          events = so.events ++ return_events OfClock q;
-          notes = notes-then before after last b d e so.events (return_events OfClock q) so.notes notes;
+          events = so.events ++ return_events devices.Clock q;
+          notes = notes-then before after last b d e so.events (return_events devices.Clock q) so.notes notes;
           so_far =
-              append_assoc so.events (return_events OfClock q) (due_returned now next).events
+              append_assoc so.events (return_events devices.Clock q) (due_returned now next).events
               ∙ ap (λ z. so.events ++ z) (sym all-events)
               ∙ ap (λ z. so.events ++ (due_returned now z).events) (sym same)
               ∙ so.so_far;
         }
 
   -- the queue is shorter
-  pub shorter : (t u : List ℕ) → HoldsLists t m → IsServed t u m (first_returned OfClock 0 m.clock m) → length (queue_at u clock_head) < length (queue_at t clock_head)
+  pub shorter : (t u : List ℕ) → HoldsLists t m → IsServed t u m (first_returned devices.Clock 0 m.clock m) → length (queue_at u clock_head) < length (queue_at t clock_head)
   shorter t u held step =
-      let served : IsServed t u m (record { lists = next; events = return_events OfClock q }) = subst (IsServed t u m) served-is step in
-      let before : queue_at t clock_head ≡ q.address ∷ map address_of qs = (held-queue t clock_head m.clock (device-held t m OfClock held)).list ∙ ap (map address_of) x.is in
-      let now_is : queue_at u clock_head ≡ map address_of qs = (held-queue u clock_head qs (device-held u next OfClock served.lists.lists)).list in
+      let served : IsServed t u m (record { lists = next; events = return_events devices.Clock q }) = subst (IsServed t u m) served-is step in
+      let before : queue_at t clock_head ≡ q.address ∷ map address_of qs = (held-queue t clock_head m.clock (device-held t m devices.Clock held)).list ∙ ap (map address_of) x.is in
+      let now_is : queue_at u clock_head ≡ map address_of qs = (held-queue u clock_head qs (device-held u next devices.Clock served.lists.lists)).list in
       omega (arith, ap length before, ap length now_is)
 
 -- ---- none is left

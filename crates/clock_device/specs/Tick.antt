@@ -7,7 +7,7 @@ use Rattle.kernel_calls.specs.KernelModel.Changes.{with_queue}
 use Rattle.kernel_calls.specs.KernelModel.Lists.{Lists}
 use Rattle.kernel_calls.specs.KernelModel.ValidQueues.Place.{Clock}
 use Rattle.kernel_calls.specs.PacketCalls.Returned.{Served, return_events, returned_by, with_work_for}
-use Rattle.kernel_calls.specs.PacketCalls.declared.returns.Device.TheVariants.{OfClock}
+use Rattle.kernel_calls.specs.PacketCalls.declared.returns.Device.TheVariants as devices
 
 -- a packet is due at this tick or before, and it is not
 abbrev pub due_packets : ℕ → List QueuedPacket → List QueuedPacket
@@ -23,10 +23,10 @@ is_first_due now (q ∷ qs) = nat_le q.last now
 -- each of these packets comes from the clock to the end of its sender's work queue, one after the other, with results of 0
 abbrev pub with_returned : List QueuedPacket → Lists → Lists
 with_returned [] l = l
-with_returned (q ∷ qs) l = with_returned qs (with_work_for q.sender (returned_by OfClock 0 q) l)
+with_returned (q ∷ qs) l = with_returned qs (with_work_for q.sender (returned_by devices.Clock 0 q) l)
 
 abbrev pub events_of_return : List QueuedPacket → List KernelEvent
-events_of_return qs = flat_map (return_events OfClock) qs
+events_of_return qs = flat_map (return_events devices.Clock) qs
 
 -- those that are due are returned, and the others stay
 abbrev pub due_returned : ℕ → Lists → Served

@@ -35,7 +35,7 @@ fn return_due<L: EventLog>(store: &mut Store, now: u32, log: &mut L)
         (L.has_failed log.old) (L.has_failed log.new) (due_returned now l).events }
 {
     while is_first_due(store, now) {
-        return_first(store, Device::OfClock, 0, log);
+        return_first(store, Device::Clock, 0, log);
     }
 }
 

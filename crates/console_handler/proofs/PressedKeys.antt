@@ -9,6 +9,7 @@ use Rattle.resident_requests.specs.KernelCalls.KernelModel.Kernel.{Console}
 use Rattle.resident_requests.specs.KernelCalls.KernelModel.Lists.{Lists, has_task}
 use Rattle.resident_requests.specs.KernelCalls.KernelModel.NotedEvents.{NotesAll}
 use Rattle.resident_requests.specs.KernelCalls.KernelModel.Owned.{owned}
+use Rattle.resident_requests.specs.KernelCalls.KernelModel.Running.{RunsIf}
 use Rattle.resident_requests.specs.KernelCalls.KernelModel.Task.{Task}
 use Rattle.resident_requests.specs.KernelCalls.KernelModel.ValidTasks.{runs}
 use Rattle.resident_requests.proofs.Shown.KernelCalls.KernelModel.ChangedLists.{knows-same}
@@ -39,8 +40,8 @@ has_task-flag : (i id f : ℕ) (ts : List Task) → has_task i (map (change_of i
 has_task-flag i id f [] = refl
 has_task-flag i id f (t ∷ ts) = λ k. eqb (flag-id id f t k) i || has_task-flag i id f ts k
 
-fields-flag : (running id f : ℕ) (ts : List Task) → AllByRecursion (λ t. t.id ≡ running → t.field ≡ runs) ts
-    → AllByRecursion (λ t. t.id ≡ running → t.field ≡ runs) (map (change_of id (flagged f)) ts)
+fields-flag : (running id f : ℕ) (ts : List Task) → AllByRecursion (RunsIf running) ts
+    → AllByRecursion (RunsIf running) (map (change_of id (flagged f)) ts)
 fields-flag running id f [] all = tt
 fields-flag running id f (t ∷ ts) all = ((λ e. flag-field id f t ∙ all.0 (sym (flag-id id f t) ∙ e)), fields-flag running id f ts all.1)
 

@@ -34,7 +34,7 @@ use Rattle.resident_requests.specs.KernelCalls.CallAnswers.Made.{Leaves}
 use Rattle.resident_requests.specs.KernelCalls.PacketCalls.Destinations.{queue_for}
 use Rattle.resident_requests.specs.KernelCalls.PacketCalls.PacketMoves.{stands_in}
 use Rattle.resident_requests.specs.KernelCalls.PacketCalls.QueueWords.{head_of, unqueued}
-use Rattle.resident_requests.specs.KernelCalls.PacketCalls.declared.queues.Queue.TheVariants.{OfTask}
+use Rattle.resident_requests.specs.KernelCalls.PacketCalls.declared.queues.Queue.TheVariants as queues
 use Rattle.resident_requests.proofs.Shown.KernelCalls.PacketCalls.Departure.{departed-size, departed-written, held-before, others-kept, owners-departed, packet-inside}
 use Rattle.resident_requests.proofs.Shown.KernelCalls.PacketCalls.HeldPlaces.{has-at, stands-at}
 use Rattle.resident_requests.proofs.Shown.KernelCalls.PacketCalls.PlaceWords.{keys-exchange}
@@ -95,8 +95,8 @@ module _ (s : List ℕ) (l : Lists) (h : HoldsLists s l) (f : FindsKeys l) (t : 
   valid : AreValid after
   valid = key_unqueued-valid l (Work l.running) q [] back h.valid first.is first.key
 
-  queue-is : OfTask t ≡ queue_for l (Work l.running)
-  queue-is = ap OfTask at
+  queue-is : queues.Work t ≡ queue_for l (Work l.running)
+  queue-is = ap queues.Work at
 
   pub keys-queue : HasQueue s (queue_head t)
   keys-queue = subst (λ z. HasQueue s (head_of z)) (sym queue-is) (stands-at s l (Work l.running) h there)
@@ -133,7 +133,7 @@ module _ (s : List ℕ) (l : Lists) (h : HoldsLists s l) (f : FindsKeys l) (t : 
         ap (λ z. times a (range_with_len z 5)) address,
       )
 
-  module _ (v : List ℕ) (is_left : v ≡ unqueued s (OfTask t) key_packet) where
+  module _ (v : List ℕ) (is_left : v ≡ unqueued s (queues.Work t) key_packet) where
     left : v ≡ unqueued s (queue_for l (Work l.running)) q.address
     left = is_left ∙ (λ i. unqueued s (queue-is i) (sym address i))
 

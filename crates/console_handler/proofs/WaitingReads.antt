@@ -28,7 +28,7 @@ use Rattle.resident_requests.specs.KernelCalls.CallAnswers.Made.{IsMade, minus_o
 use Rattle.resident_requests.proofs.Shown.KernelCalls.CallAnswers.RootTold.{tick-told}
 use Rattle.resident_requests.specs.KernelCalls.PacketCalls.PacketMoves.{stands_in}
 use Rattle.resident_requests.specs.KernelCalls.PacketCalls.QueueWords.{sent_words, unqueued}
-use Rattle.resident_requests.specs.KernelCalls.PacketCalls.declared.queues.Queue.TheVariants.{OfReads}
+use Rattle.resident_requests.specs.KernelCalls.PacketCalls.declared.queues.Queue.TheVariants as queues
 use Rattle.resident_requests.proofs.Shown.KernelCalls.PacketCalls.Departure.{departed-changed, held-before, others-kept, owners-departed}
 use Rattle.resident_requests.proofs.Shown.KernelCalls.PacketCalls.HeldPlaces.{HasFirst, first-there, has-at, held-at, no-packets, stands-at}
 use Rattle.resident_requests.proofs.Shown.KernelCalls.PacketCalls.SendCall.{lodged-room}
@@ -58,7 +58,7 @@ module _ (s : List ℕ) (tells : List ℕ → Type 0) (room : ℕ) (l : Lists) (
     pub come-owns : OwnsRequest l (put_off s l r).lists r
     come-owns = sent.more
 
-    pub come-made : (t : List ℕ) (told : List ℕ → Type 0) → t ≡ sent_words s OfReads r.packet r.sender
+    pub come-made : (t : List ℕ) (told : List ℕ → Type 0) → t ≡ sent_words s queues.Pending r.packet r.sender
         → ((known after : List ℕ) → tells known → AreTogether after known (range_with_len r.packet 5) → told after) → IsMade s t told (Ok minus_one) (put_off s l r)
     come-made t told is claim =
         record {
@@ -111,7 +111,7 @@ module _ (s : List ℕ) (tells : List ℕ → Type 0) (room : ℕ) (l : Lists) (
     no_key = false_from_ne_true (is_key_packet l q) (λ e. (let i : IsKeyPacket Pending q = stands.key e in i.place))
 
     no_fault : is_fault_packet l q ≡ false
-    no_fault = false_from_ne_true (is_fault_packet l q) (λ e. (let i : IsFaultPacket l Pending q = stands.fault e in let is = i.place in cc))
+    no_fault = false_from_ne_true (is_fault_packet l q) (λ e. (let i : IsFaultPacket Pending q = stands.fault e in let is = i.place in cc))
 
     valid : AreValid m
     valid = unqueued-valid l Pending q [] back k.lists.valid first.is no_key no_fault
@@ -122,9 +122,9 @@ module _ (s : List ℕ) (tells : List ℕ → Type 0) (room : ℕ) (l : Lists) (
     pub read-packet : has p (queue_at s pending_head) ≡ true
     read-packet = has-at s l Pending k.lists residents p ∙ ap (stands_in p) first.is ∙ or_left _ (stands_in p back) (eq-eqb p q.address (sym first.address))
 
-    module _ (v : List ℕ) (is_left : v ≡ unqueued s OfReads p) where
-      left : v ≡ unqueued s OfReads q.address
-      left = is_left ∙ ap (unqueued s OfReads) (sym first.address)
+    module _ (v : List ℕ) (is_left : v ≡ unqueued s queues.Pending p) where
+      left : v ≡ unqueued s queues.Pending q.address
+      left = is_left ∙ ap (unqueued s queues.Pending) (sym first.address)
 
       sender : get_or v (p + 1) 0 ≡ q.sender
       sender =

@@ -64,7 +64,7 @@ module _ (b : Start) (t : List ℕ) (tells : List ℕ → Type 0) (room : ℕ) (
     foreign [] all e = cc
     foreign (q ∷ qs) all e = (
       no-key q qs e,
-      false_from_ne_true (is_fault_packet g.lists q) (λ z. (let i : IsFaultPacket g.lists (Work g.lists.running) q = all.0.fault z in absurd (omega (arith, ap number_in i.place, x.is)))),
+      false_from_ne_true (is_fault_packet g.lists q) (λ z. (let i : IsFaultPacket (Work g.lists.running) q = all.0.fault z in absurd (omega (arith, ap number_in i.place, x.is)))),
     )
 
     pub takes-request : TakesRequest g.lists

@@ -3,7 +3,7 @@ use Rattle.std.specs.Prelude.{ℕ, ◌==◌, ◌&&◌, Bool, true, false, if◌t
 use Rattle.resident_requests.specs.KernelCalls.PacketQueue.QueueWords.{QueuedPacket}
 use Rattle.resident_requests.specs.KernelCalls.KernelModel.Kernel.{Console}
 use Rattle.resident_requests.specs.KernelCalls.KernelModel.Lists.{Lists}
-use Rattle.resident_requests.specs.KernelCalls.KernelModel.ValidKernel.{no_line}
+use Rattle.resident_requests.specs.KernelCalls.KernelModel.Kernel.{no_line}
 use Rattle.resident_requests.specs.Answers.{returned}
 use Rattle.resident_requests.specs.Buffers.{is_writable, written_buffer}
 use Rattle.resident_requests.specs.Requests.{first_request}

@@ -11,7 +11,7 @@ use Rattle.resident_requests.specs.KernelCalls.KernelModel.ValidQueues.Place.{Pe
 use Rattle.resident_requests.specs.KernelCalls.CallAnswers.Made.{Made, minus_one}
 use Rattle.resident_requests.specs.KernelCalls.PacketCalls.PacketMoves.{sent_packet, with_arrived}
 use Rattle.resident_requests.specs.KernelCalls.PacketCalls.QueueWords.{unqueued}
-use Rattle.resident_requests.specs.KernelCalls.PacketCalls.declared.queues.Queue.TheVariants.{OfReads}
+use Rattle.resident_requests.specs.KernelCalls.PacketCalls.declared.queues.Queue.TheVariants as queues
 use Rattle.resident_requests.specs.Answers.{OwnsRequest}
 use Rattle.resident_requests.specs.Requests.{HasRequest, Taking, first_request}
 use Rattle.resident_requests.specs.declared.requests.Request.{Request}
@@ -44,7 +44,7 @@ read_taken l = read_taken_from l.pending l
 -- the store then
 abbrev pub words_read_from : List QueuedPacket → List ℕ → List ℕ
 words_read_from [] s = s
-words_read_from (p ∷ ps) s = unqueued s OfReads p.address
+words_read_from (p ∷ ps) s = unqueued s queues.Pending p.address
 
 -- From the store s the store t has become one in which the first read was taken.
 pub record IsReadTaken (s t : List ℕ) (tells : List ℕ → Type 0) (l : Lists) (result : Option Request) : Type 0 where

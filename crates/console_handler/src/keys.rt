@@ -37,7 +37,7 @@ pub fn take_keys<L: EventLog>(store: &mut Store, log: &mut L) -> u32
 {
     let task = root(store, RootField::Running);
     let id = field(store, task, TcbField::Id);
-    unqueue(store, Queue::OfTask(task), KEY_PACKET);
+    unqueue(store, Queue::Work(task), KEY_PACKET);
     log.note(taken(id, KEY_PACKET, word_at(store, KEY_PACKET, SENDER)));
     word_at(store, KEY_PACKET, RES1)
 }

@@ -8,7 +8,7 @@ ghost use Rattle.console_handler.specs.Reads.{IsReadTaken, put_off, read_taken};
 ghost use Rattle.resident_requests.specs.Answers.{OwnsRequest};
 ghost use Rattle.resident_requests.specs.Requests.{HasRequest};
 
-use resident_requests::numbers::{PACKET_WORDS, READS, SENDER};
+use resident_requests::numbers::{PACKET_WORDS, PENDING, SENDER};
 use resident_requests::{
     EventLog, KindKeeper, Queue, Request, accepted, first, request_at, send, taken, unqueue,
 };
@@ -36,9 +36,9 @@ pub fn put_off<Q: KindKeeper, L: EventLog>(
         → OwnsRequest l (put_off store.old l request).lists request }
     ensures room { Q.room kinds.new ≡ Q.room kinds.old }
 {
-    send(store, Queue::OfReads, request.packet, request.sender);
+    send(store, Queue::Pending, request.packet, request.sender);
     kinds.claim(request.packet, PACKET_WORDS);
-    log.note(accepted(READS, request.packet, request.sender));
+    log.note(accepted(PENDING, request.packet, request.sender));
 }
 
 /// Takes the first read that waits, which is then on no queue, with the link -1; its words are plain, and the keeper is told.
@@ -57,12 +57,12 @@ pub fn take_read<Q: KindKeeper, L: EventLog>(
         (L.has_failed log.old) (L.has_failed log.new) (read_taken l).events }
     ensures room { Q.room kinds.new ≡ Q.room kinds.old }
 {
-    let p = first(store, Queue::OfReads);
+    let p = first(store, Queue::Pending);
     if p == 0 {
         return None;
     }
-    unqueue(store, Queue::OfReads, p);
+    unqueue(store, Queue::Pending, p);
     kinds.release(p, PACKET_WORDS);
-    log.note(taken(READS, p, word_at(store, p, SENDER)));
+    log.note(taken(PENDING, p, word_at(store, p, SENDER)));
     Some(request_at(store, p))
 }

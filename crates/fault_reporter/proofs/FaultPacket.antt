@@ -35,7 +35,7 @@ use Rattle.resident_requests.proofs.Shown.KernelCalls.CallAnswers.FoundTask.{Fin
 use Rattle.resident_requests.specs.KernelCalls.LinkedList.Places.{has}
 use Rattle.resident_requests.specs.KernelCalls.TaskBlock.TaskChain.{task_with, tasks_in}
 use Rattle.resident_requests.specs.KernelCalls.PacketCalls.declared.queues.Queue.{Queue}
-use Rattle.resident_requests.specs.KernelCalls.PacketCalls.declared.queues.Queue.TheVariants.{OfTask}
+use Rattle.resident_requests.specs.KernelCalls.PacketCalls.declared.queues.Queue.TheVariants as queues
 use Rattle.resident_requests.proofs.Shown.KernelCalls.PacketCalls.HeldPlaces.{has-at}
 use Rattle.resident_requests.specs.KernelCalls.PacketCalls.Destinations.{queue_for}
 use Rattle.resident_requests.specs.KernelCalls.PacketCalls.QueueWords.{due_in, enqueued, head_of, sent_words}
@@ -99,7 +99,7 @@ module _ (l : Lists) (there : has_task 2 l.tasks ≡ true) where
   elsewhere at other [] all = refl
   elsewhere at other (p ∷ ps) all =
       ap (λ b. b || stands_in fault_packet ps)
-      (false_from_ne_true (eqb p.address fault_packet) (λ e. (let f : IsFaultPacket l at p = all.0.fault (and_from (has_task 2 l.tasks) (eqb p.address fault_packet) there e) in other f.place)))
+      (false_from_ne_true (eqb p.address fault_packet) (λ e. (let f : IsFaultPacket at p = all.0.fault (and_from (has_task 2 l.tasks) (eqb p.address fault_packet) there e) in other f.place)))
       ∙ elsewhere at other ps all.1
 
   abbrev Stand : List Task → Type 0
@@ -187,7 +187,7 @@ module _ (s : List ℕ) (l : Lists) (h : HoldsLists s l) (c : HasCaller l) (ther
   stands = (let words : Holds s (fault_packet_words true) = subst (λ b. Holds s (fault_packet_words b)) free (gone.first.opens s h.holds).1 in (words.1.1.1.0, (words.1.1.1.1.0, tt)))
 
   valid : AreValid (with_queue (Work 2) (ps ++ q ∷ []) base)
-  valid = fault_queued-valid l q ps [] h.valid (sym (append-nil ps)) free refl (record { place = refl; kind = refl; res1 = refl; last = refl; sender = c.there })
+  valid = fault_queued-valid l q ps [] h.valid (sym (append-nil ps)) free refl (record { place = refl; kind = refl; res1 = refl; last = refl }) c.there
 
   some : AllByRecursion (λ z. 0 < z.address) (ps ++ q ∷ [])
   some = all-append (λ z. 0 < z.address) ps (q ∷ []) (packets-some l (Work 2) ps (place-stands l (Work 2) h.valid there)) (omega arith, tt)
@@ -258,8 +258,8 @@ module _ (s : List ℕ) (l : Lists) (h : HoldsLists s l) (c : HasCaller l) (ther
         (subst (λ z. NotesAll before now b d (Accepted (signed 2) fault_packet (signed z) ∷ [])) is_sender (notes-one before now b d _ notes))
 
 -- the task that reports faults, as it was found
-pub reporter-queue : (s : List ℕ) (l : Lists) (a : ℕ) → HoldsLists s l → task_with s 2 (tasks_in s) ≡ Some a → OfTask a ≡ queue_for l (Work 2)
-reporter-queue s l a h e = ap OfTask (sym (found-address l 2 a h.valid.tasks.distinct (subst (Finds 2 l.tasks) e (find-task s l 2 h))))
+pub reporter-queue : (s : List ℕ) (l : Lists) (a : ℕ) → HoldsLists s l → task_with s 2 (tasks_in s) ≡ Some a → queues.Work a ≡ queue_for l (Work 2)
+reporter-queue s l a h e = ap queues.Work (sym (found-address l 2 a h.valid.tasks.distinct (subst (Finds 2 l.tasks) e (find-task s l 2 h))))
 
 pub reporter-found : (s : List ℕ) (l : Lists) → HoldsLists s l → has_task 2 l.tasks ≡ true → task_with s 2 (tasks_in s) ≡ None → ⊥
 reporter-found s l h has e = (let none : has_task 2 l.tasks ≡ false = subst (Finds 2 l.tasks) e (find-task s l 2 h) in false≢true (sym none ∙ has))

@@ -5,9 +5,8 @@ use Rattle.std.proofs.lemmas.Bool.{and_from, and_parts, eq-eqb, eqb-true, false�
 use Rattle.cint_exec.specs.declared.Fault.{Fault}
 use Rattle.resident_requests.proofs.Shown.KernelCalls.LinkedList.AllMembers.{all-append}
 use Rattle.resident_requests.specs.KernelCalls.PacketQueue.QueueWords.{QueuedPacket}
-use Rattle.resident_requests.specs.KernelCalls.KernelModel.Between.{FaultsStand, has_unreported, is_unreported}
+use Rattle.resident_requests.specs.KernelCalls.KernelModel.Between.{FaultsStand, Tells, has_unreported, is_unreported}
 use Rattle.resident_requests.specs.KernelCalls.KernelModel.Changes.{change_of, queue_of, with_queue, with_tasks, with_work, work_of}
-use Rattle.resident_requests.specs.KernelCalls.KernelModel.Kernel.{Kernel}
 use Rattle.resident_requests.specs.KernelCalls.KernelModel.Lists.{Lists, has_task}
 use Rattle.resident_requests.specs.KernelCalls.KernelModel.Residents.{fault_packet}
 use Rattle.resident_requests.specs.KernelCalls.KernelModel.Task.{Task, is_guest_id}
@@ -28,15 +27,6 @@ use Rattle.fault_reporter.proofs.FaultPacket.{free-is}
 -- whether a guest with a number has a fault that was not reported
 abbrev HasNew : ℕ → Task → Bool
 HasNew id t = eqb t.id id && is_guest_id id && is_unreported t
-
--- the fault packet is from such a guest
-abbrev pub Tells : List Task → QueuedPacket → Type 0
-Tells ts p = eqb p.address fault_packet ≡ true → has_unreported p.sender ts ≡ true
-
--- what holds of the lists
-pub record FaultsHold (l : Lists) : Type 0 where
-  pub waits : has_task 2 l.tasks ≡ true → l.fault_packet_free ≡ not (list_any is_unreported l.tasks)
-  pub sender : AllByRecursion (Tells l.tasks) (work_of 2 l.tasks)
 
 -- ---- tasks that stay as they are in number and fault
 
@@ -69,7 +59,7 @@ work-same f keeps id [] = refl
 work-same f keeps id (t ∷ ts) = λ i. cond (eqb ((keeps t).0 i) id) ((keeps t).1 i) (work-same f keeps id ts i)
 
 -- where queues stay too, all holds as before
-pub map-faults : (l : Lists) (f : Task → Task) → KeepsFault f → ((t : Task) → ((f t).id ≡ t.id) × ((f t).queue ≡ t.queue)) → FaultsHold l → FaultsHold (with_tasks (map f l.tasks) l)
+pub map-faults : (l : Lists) (f : Task → Task) → KeepsFault f → ((t : Task) → ((f t).id ≡ t.id) × ((f t).queue ≡ t.queue)) → FaultsStand l → FaultsStand (with_tasks (map f l.tasks) l)
 map-faults l f keeps queues h =
     record {
       waits = λ there. h.waits (sym (there-same f keeps 2 l.tasks) ∙ there) ∙ ap not (sym (any-new f keeps l.tasks));
@@ -98,7 +88,7 @@ queue-sender : (l : Lists) (i : ℕ) (qs : List QueuedPacket) → (i ≡ 2 → A
 queue-sender l i qs new all =
     tells-same (with_work i qs) (work-keeps i qs) l.tasks (work_of 2 (map (with_work i qs) l.tasks)) (work-all (Tells l.tasks) i qs l.tasks new all)
 
-pub queue-faults : (l : Lists) (i : ℕ) (qs : List QueuedPacket) → (i ≡ 2 → AllByRecursion (Tells l.tasks) qs) → FaultsHold l → FaultsHold (with_queue (Work i) qs l)
+pub queue-faults : (l : Lists) (i : ℕ) (qs : List QueuedPacket) → (i ≡ 2 → AllByRecursion (Tells l.tasks) qs) → FaultsStand l → FaultsStand (with_queue (Work i) qs l)
 queue-faults l i qs new h =
     record {
       waits = λ there. h.waits (sym (there-same (with_work i qs) (work-keeps i qs) 2 l.tasks) ∙ there) ∙ ap not (sym (any-new (with_work i qs) (work-keeps i qs) l.tasks));
@@ -107,7 +97,7 @@ queue-faults l i qs new h =
 
 -- ---- a turn ends
 
-pub finished-faults : (l : Lists) → FaultsHold l → FaultsHold (finished l)
+pub finished-faults : (l : Lists) → FaultsStand l → FaultsStand (finished l)
 finished-faults l h = on (work l)
   where
     keeps : (t : Task) → ((change_of l.running waiting t).id ≡ t.id) × ((change_of l.running waiting t).fault ≡ t.fault)
@@ -116,7 +106,7 @@ finished-faults l h = on (work l)
     queues : (t : Task) → ((change_of l.running waiting t).id ≡ t.id) × ((change_of l.running waiting t).queue ≡ t.queue)
     queues t = elim (eqb t.id l.running) as (λ b. ((cond b (waiting t) t).id ≡ t.id) × ((cond b (waiting t) t).queue ≡ t.queue)) [ true ↦ (refl, refl) | false ↦ (refl, refl) ]
 
-    on : (ps : List QueuedPacket) → FaultsHold (finished_by ps l)
+    on : (ps : List QueuedPacket) → FaultsStand (finished_by ps l)
     on [] = map-faults l (change_of l.running waiting) keeps queues h
     on (p ∷ ps) = h
 
@@ -165,7 +155,7 @@ module _ (f : Fault) (is : IsRecordedFault f.code) where
 held-queues : (id : ℕ) (f : Fault) (t : Task) → ((change_of id (with_fault f) t).id ≡ t.id) × ((change_of id (with_fault f) t).queue ≡ t.queue)
 held-queues id f t = elim (eqb t.id id) as (λ b. ((cond b (with_fault f t) t).id ≡ t.id) × ((cond b (with_fault f t) t).queue ≡ t.queue)) [ true ↦ (refl, refl) | false ↦ (refl, refl) ]
 
-pub recorded-hold : (l : Lists) (f : Fault) → CanRecord l f → FaultsHold l → FaultsHold (recorded f l)
+pub recorded-hold : (l : Lists) (f : Fault) → CanRecord l f → FaultsStand l → FaultsStand (recorded f l)
 recorded-hold l f r h = on l.fault_packet_free refl
   where
     m : Lists
@@ -180,7 +170,7 @@ recorded-hold l f r h = on l.fault_packet_free refl
     qs : List QueuedPacket
     qs = work_of 2 m.tasks ++ packet_from l.running ∷ []
 
-    on : (b : Bool) → l.fault_packet_free ≡ b → FaultsHold (sent_where b m)
+    on : (b : Bool) → l.fault_packet_free ≡ b → FaultsStand (sent_where b m)
     on false e = record { waits = λ there. e ∙ ap not (sym new); sender = waiting-all }
     on true e =
         record {
@@ -189,11 +179,6 @@ recorded-hold l f r h = on l.fault_packet_free refl
               queue-sender m 2 qs
               (λ _. all-append (Tells m.tasks) (work_of 2 m.tasks) (packet_from l.running ∷ []) waiting-all ((λ _. own-held f r.fault l.running r.caller.guest l.tasks r.caller.there), tt)) waiting-all;
         }
-
-pub recorded-faults : (k : Kernel) (f : Fault) → CanRecord k.lists f → FaultsStand k → FaultsStand (record k { lists = recorded f k.lists })
-recorded-faults k f r h =
-    let x : FaultsHold (recorded f k.lists) = recorded-hold k.lists f r (record { waits = h.waits; sender = h.sender }) in
-    record { waits = x.waits; sender = x.sender }
 
 -- ---- faults are reported
 
@@ -229,7 +214,7 @@ reported-queues : (t : Task) → ((reported t).id ≡ t.id) × ((reported t).que
 reported-queues t =
     elim (is_unreported t) as (λ b. ((cond b (record t { fault = t.fault + 256 }) t).id ≡ t.id) × ((cond b (record t { fault = t.fault + 256 }) t).queue ≡ t.queue)) [ true ↦ (refl, refl) | false ↦ (refl, refl) ]
 
-reported-hold : (l : Lists) (p : QueuedPacket) (ps : List QueuedPacket) → AreValid l → has_task 2 l.tasks ≡ true → work_of 2 l.tasks ≡ p ∷ ps → p.address ≡ fault_packet → FaultsHold (all_reported (packet_taken ps l))
+reported-hold : (l : Lists) (p : QueuedPacket) (ps : List QueuedPacket) → AreValid l → has_task 2 l.tasks ≡ true → work_of 2 l.tasks ≡ p ∷ ps → p.address ≡ fault_packet → FaultsStand (all_reported (packet_taken ps l))
 reported-hold l p ps v there is address =
     record {
       waits = λ _. ap not (sym (none-left m.tasks));
@@ -251,7 +236,7 @@ reported-hold l p ps v there is address =
     gone true e = cc
     gone false e = refl
 
-pub turn-hold : (s : List ℕ) (l : Lists) → AreValid l → RunsResident l → l.running ≡ 2 → FaultsHold l → FaultsHold (fault_turn s l).lists
+pub turn-hold : (s : List ℕ) (l : Lists) → AreValid l → RunsResident l → l.running ≡ 2 → FaultsStand l → FaultsStand (fault_turn s l).lists
 turn-hold s l v r two h = on (work l) refl
   where
     there : has_task 2 l.tasks ≡ true
@@ -262,30 +247,25 @@ turn-hold s l v r two h = on (work l) refl
 
     -- another packet is refused
     refused : (p : QueuedPacket) (ps : List QueuedPacket) → work l ≡ p ∷ ps → eqb p.address fault_packet ≡ false → (q : Request) → q.packet ≡ p.address
-        → FaultsHold (finished (with_arrived (Work q.sender) (answered_packet (with_queue (Work l.running) ps l) q (Err 31)) (with_queue (Work l.running) ps l)))
+        → FaultsStand (finished (with_arrived (Work q.sender) (answered_packet (with_queue (Work l.running) ps l) q (Err 31)) (with_queue (Work l.running) ps l)))
     refused p ps is other q address =
         let m : Lists = with_queue (Work l.running) ps l in
         let back : QueuedPacket = answered_packet m q (Err 31) in
         let rest : AllByRecursion (Tells l.tasks) ps = (subst (AllByRecursion (Tells l.tasks)) (here (p ∷ ps) is) h.sender).1 in
-        let x : FaultsHold m = queue-faults l l.running ps (λ _. rest) h in
+        let x : FaultsStand m = queue-faults l l.running ps (λ _. rest) h in
         finished-faults (with_arrived (Work q.sender) back m)
         (queue-faults m q.sender (queue_of (Work q.sender) m ++ back ∷ [])
         (λ e.
         all-append (Tells m.tasks) (queue_of (Work q.sender) m) (back ∷ []) (subst (λ i. AllByRecursion (Tells m.tasks) (work_of i m.tasks)) (sym e) x.sender)
         ((λ same. absurd (false≢true (sym other ∙ ap (λ a. eqb a fault_packet) (sym address) ∙ same))), tt)) x)
 
-    on : (ps : List QueuedPacket) → work l ≡ ps → FaultsHold (fault_turn_from ps s l).lists
+    on : (ps : List QueuedPacket) → work l ≡ ps → FaultsStand (fault_turn_from ps s l).lists
     on [] is = finished-faults l h
     on (p ∷ ps) is = by (eqb p.address fault_packet) refl
       where
-        by : (b : Bool) → eqb p.address fault_packet ≡ b → FaultsHold (cond b (reported_turn p ps s l) (request_turn unknown s l)).lists
+        by : (b : Bool) → eqb p.address fault_packet ≡ b → FaultsStand (cond b (reported_turn p ps s l) (request_turn unknown s l)).lists
         by true e = finished-faults (all_reported (packet_taken ps l)) (reported-hold l p ps v there (here (p ∷ ps) is) (eqb-true p.address fault_packet e))
         by false e =
-            subst (λ qs. FaultsHold (turn_of (first_request (words_taken_from qs s l) qs) (unknown (words_taken_from qs s l) (taken_from qs l).lists) s l).lists) (sym is)
-            (subst (λ qs. FaultsHold (finished (with_arrived (Work (request_at (words_taken_from (p ∷ ps) s l) p.address).sender) (answered_packet (taken_from qs l).lists (request_at (words_taken_from (p ∷ ps) s l) p.address) (Err 31)) (taken_from qs l).lists))) (sym is)
+            subst (λ qs. FaultsStand (turn_of (first_request (words_taken_from qs s l) qs) (unknown (words_taken_from qs s l) (taken_from qs l).lists) s l).lists) (sym is)
+            (subst (λ qs. FaultsStand (finished (with_arrived (Work (request_at (words_taken_from (p ∷ ps) s l) p.address).sender) (answered_packet (taken_from qs l).lists (request_at (words_taken_from (p ∷ ps) s l) p.address) (Err 31)) (taken_from qs l).lists))) (sym is)
             (refused p ps is e (request_at (words_taken_from (p ∷ ps) s l) p.address) refl))
-
-pub turn-faults : (k : Kernel) (s : List ℕ) → AreValid k.lists → RunsResident k.lists → k.lists.running ≡ 2 → FaultsStand k → FaultsStand (record k { lists = (fault_turn s k.lists).lists })
-turn-faults k s v r two h =
-    let x : FaultsHold (fault_turn s k.lists).lists = turn-hold s k.lists v r two (record { waits = h.waits; sender = h.sender }) in
-    record { waits = x.waits; sender = x.sender }

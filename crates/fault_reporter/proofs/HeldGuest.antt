@@ -13,6 +13,7 @@ use Rattle.resident_requests.specs.KernelCalls.KernelModel.Changes.{change_of, w
 use Rattle.resident_requests.specs.KernelCalls.KernelModel.HoldsLists.{HoldsLists}
 use Rattle.resident_requests.specs.KernelCalls.KernelModel.Lists.{Lists, has_task}
 use Rattle.resident_requests.specs.KernelCalls.KernelModel.Owned.{owned}
+use Rattle.resident_requests.specs.KernelCalls.KernelModel.Running.{RunsIf}
 use Rattle.resident_requests.specs.KernelCalls.KernelModel.Task.{Task, fault_words, further_modules, globals_of, is_guest_id, name_words, queue_bit, queue_head, stack_of, state_word, state_words, task_address, task_words}
 use Rattle.resident_requests.specs.KernelCalls.KernelModel.ValidLists.{AreValid}
 use Rattle.resident_requests.specs.KernelCalls.KernelModel.ValidTasks.{IsGuest, IsTask, runs}
@@ -128,7 +129,7 @@ has_task-held : (i id : ℕ) (f : Fault) (ts : List Task) → has_task i (map (c
 has_task-held i id f [] = refl
 has_task-held i id f (t ∷ ts) = λ k. eqb (change-id id f t k) i || has_task-held i id f ts k
 
-fields-held : (running id : ℕ) (f : Fault) (ts : List Task) → AllByRecursion (λ t. t.id ≡ running → t.field ≡ runs) ts → AllByRecursion (λ t. t.id ≡ running → t.field ≡ runs) (map (change_of id (with_fault f)) ts)
+fields-held : (running id : ℕ) (f : Fault) (ts : List Task) → AllByRecursion (RunsIf running) ts → AllByRecursion (RunsIf running) (map (change_of id (with_fault f)) ts)
 fields-held running id f [] all = tt
 fields-held running id f (t ∷ ts) all = ((λ e. change-field id f t ∙ all.0 (sym (change-id id f t) ∙ e)), fields-held running id f ts all.1)
 

@@ -11,6 +11,7 @@ use Rattle.resident_requests.specs.KernelCalls.KernelModel.Changes.{with_queue}
 use Rattle.resident_requests.specs.KernelCalls.KernelModel.Lists.{Lists, has_task}
 use Rattle.resident_requests.specs.KernelCalls.KernelModel.NotedEvents.{NotesAll}
 use Rattle.resident_requests.specs.KernelCalls.KernelModel.Residents.{fault_packet}
+use Rattle.resident_requests.specs.KernelCalls.KernelModel.Running.{RunsIf}
 use Rattle.resident_requests.specs.KernelCalls.KernelModel.Task.{Task}
 use Rattle.resident_requests.specs.KernelCalls.KernelModel.ValidLists.{AreValid}
 use Rattle.resident_requests.specs.KernelCalls.KernelModel.ValidQueues.{IsKeyPacket, MayStand, is_fault_packet, is_key_packet}
@@ -48,7 +49,7 @@ pub has_task-reported : (i : ℕ) (ts : List Task) → has_task i (map reported 
 has_task-reported i [] = refl
 has_task-reported i (t ∷ ts) = λ k. eqb (reported-id t k) i || has_task-reported i ts k
 
-fields-reported : (running : ℕ) (ts : List Task) → AllByRecursion (λ t. t.id ≡ running → t.field ≡ runs) ts → AllByRecursion (λ t. t.id ≡ running → t.field ≡ runs) (map reported ts)
+fields-reported : (running : ℕ) (ts : List Task) → AllByRecursion (RunsIf running) ts → AllByRecursion (RunsIf running) (map reported ts)
 fields-reported running [] all = tt
 fields-reported running (t ∷ ts) all = ((λ e. reported-field t ∙ all.0 (sym (reported-id t) ∙ e)), fields-reported running ts all.1)
 

@@ -8,6 +8,7 @@ use Rattle.resident_requests.specs.KernelCalls.KernelModel.Between.{is_unreporte
 use Rattle.resident_requests.specs.KernelCalls.KernelModel.Changes.{change_of, queue_of, with_queue, with_tasks, with_work}
 use Rattle.resident_requests.specs.KernelCalls.KernelModel.Lists.{Lists}
 use Rattle.resident_requests.specs.KernelCalls.KernelModel.Residents.{fault_packet}
+use Rattle.resident_requests.specs.KernelCalls.KernelModel.Running.{RunsAs}
 use Rattle.resident_requests.specs.KernelCalls.KernelModel.Task.{Task, is_guest_id}
 use Rattle.resident_requests.specs.KernelCalls.KernelModel.ValidQueues.Place.{Work}
 use Rattle.resident_requests.specs.KernelCalls.KernelModel.ValidTasks.{runs}
@@ -24,7 +25,7 @@ use Rattle.fault_reporter.specs.Recorded.{held_with, recorded, sent_where, with_
 -- the task with the number runs, and alone has its field
 record RunsAlone (n : ℕ) (l : Lists) : Type 0 where
   pub running : l.running ≡ n
-  pub field : AllByRecursion (λ t. t.field ≡ runs → t.id ≡ n) l.tasks
+  pub field : AllByRecursion (RunsAs n) l.tasks
 
 -- a task that runs after a change ran before
 abbrev KeepsRuns : (Task → Task) → Type 0
@@ -33,7 +34,7 @@ KeepsRuns f = (t : Task) → ((f t).id ≡ t.id) × ((f t).field ≡ runs → t.
 map-runs : (n : ℕ) (f : Task → Task) → KeepsRuns f → (l : Lists) → RunsAlone n l → RunsAlone n (with_tasks (map f l.tasks) l)
 map-runs n f keeps l a = record { running = a.running; field = each l.tasks a.field }
   where
-    each : (ts : List Task) → AllByRecursion (λ t. t.field ≡ runs → t.id ≡ n) ts → AllByRecursion (λ t. t.field ≡ runs → t.id ≡ n) (map f ts)
+    each : (ts : List Task) → AllByRecursion (RunsAs n) ts → AllByRecursion (RunsAs n) (map f ts)
     each [] all = tt
     each (t ∷ ts) all = ((λ e. (keeps t).0 ∙ all.0 ((keeps t).1 e)), each ts all.1)
 
@@ -109,9 +110,8 @@ turn-alone n s l a = on (work l) refl
 can-dispatch : (l m : Lists) (r : Regs) → CanDispatch l r → RunsAlone l.running m → CanDispatch m r
 can-dispatch l m r c a =
     record {
-      field = subst (λ n. AllByRecursion (λ t. t.field ≡ runs → t.id ≡ n) m.tasks) (sym a.running) a.field;
-      byte = c.byte;
-      idle = λ e. c.idle (sym (ap is_guest_id a.running) ∙ e);
+      field = subst (λ n. AllByRecursion (RunsAs n) m.tasks) (sym a.running) a.field;
+      registers = record { byte = c.registers.byte; idle = λ e. c.registers.idle (sym (ap is_guest_id a.running) ∙ e) };
     }
 
 pub recorded-dispatch : (l : Lists) (f : Fault) (r : Regs) → CanDispatch l r → CanDispatch (recorded f l) r

@@ -25,7 +25,7 @@ use Rattle.resident_requests.proofs.Shown.KernelCalls.KernelModel.ResidentPacket
 use Rattle.resident_requests.specs.KernelCalls.PacketCalls.Destinations.{queue_for}
 use Rattle.resident_requests.specs.KernelCalls.PacketCalls.PacketMoves.{stands_in}
 use Rattle.resident_requests.specs.KernelCalls.PacketCalls.QueueWords.{head_of, unqueued}
-use Rattle.resident_requests.specs.KernelCalls.PacketCalls.declared.queues.Queue.TheVariants.{OfTask}
+use Rattle.resident_requests.specs.KernelCalls.PacketCalls.declared.queues.Queue.TheVariants as queues
 use Rattle.resident_requests.proofs.Shown.KernelCalls.PacketCalls.Departure.{departed-size, departed-written, held-before, others-kept, owners-departed, packet-inside}
 use Rattle.resident_requests.proofs.Shown.KernelCalls.PacketCalls.HeldPlaces.{has-at, stands-at}
 use Rattle.resident_requests.specs.Requests.{RunsResident, work}
@@ -73,7 +73,7 @@ module _ (s : List ℕ) (l : Lists) (h : HoldsLists s l) (r : RunsResident l) (t
   stands : MayStand l (Work 2) q
   stands = (subst (AllByRecursion (MayStand l (Work 2))) is (place-stands l (Work 2) h.valid there)).0
 
-  kind : IsFaultPacket l (Work 2) q
+  kind : IsFaultPacket (Work 2) q
   kind = stands.fault (and_from (has_task 2 l.tasks) (eqb q.address fault_packet) there (eq-eqb q.address fault_packet first.address))
 
   -- it waits, so it is not free
@@ -86,13 +86,13 @@ module _ (s : List ℕ) (l : Lists) (h : HoldsLists s l) (r : RunsResident l) (t
   comes = packet-exchange m true (h.valid.tasks.reporter there)
 
   module _ (t : ℕ) (at : t ≡ address_of_task l l.running) where
-    queue-is : OfTask t ≡ queue_for l (Work 2)
-    queue-is = ap OfTask at ∙ ap (λ i. queue_for l (Work i)) two
+    queue-is : queues.Work t ≡ queue_for l (Work 2)
+    queue-is = ap queues.Work at ∙ ap (λ i. queue_for l (Work i)) two
 
-    pub take-queue : HasQueue s (head_of (OfTask t))
+    pub take-queue : HasQueue s (head_of (queues.Work t))
     take-queue = subst (λ z. HasQueue s (head_of z)) (sym queue-is) (stands-at s l (Work 2) h there)
 
-    pub take-packet : has fault_packet (queue_at s (head_of (OfTask t))) ≡ true
+    pub take-packet : has fault_packet (queue_at s (head_of (queues.Work t))) ≡ true
     take-packet =
         subst (λ z. has fault_packet (queue_at s (head_of z)) ≡ true) (sym queue-is)
         (has-at s l (Work 2) h there fault_packet
@@ -102,7 +102,7 @@ module _ (s : List ℕ) (l : Lists) (h : HoldsLists s l) (r : RunsResident l) (t
     pub sender-is : get_or s 311 0 ≡ sender_of (work l)
     sender-is = sym (ap (λ a. get_or s (a + 1) 0) first.address) ∙ (held-before s l (Work 2) q [] back h is).holds.1.1.0 ∙ sym (ap sender_of first.is)
 
-    module _ (u v : List ℕ) (is_u : u ≡ unqueued s (OfTask t) fault_packet) (is_v : v ≡ set (set u 311 0) 312 0) where
+    module _ (u v : List ℕ) (is_u : u ≡ unqueued s (queues.Work t) fault_packet) (is_v : v ≡ set (set u 311 0) 312 0) where
       left : u ≡ unqueued s (queue_for l (Work 2)) q.address
       left = is_u ∙ (λ i. unqueued s (queue-is i) (sym first.address i))
 

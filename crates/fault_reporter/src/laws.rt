@@ -3,7 +3,6 @@ ghost use Rattle.std.specs.Prelude.{◌≡◌, ℕ, List};
 ghost use Rattle.word_store.specs.declared.registers.Regs.{Regs};
 ghost use Rattle.cint_exec.specs.declared.Fault.{Fault};
 ghost use Rattle.resident_requests.specs.KernelCalls.KernelModel.Between.{FaultsStand};
-ghost use Rattle.resident_requests.specs.KernelCalls.KernelModel.Kernel.{Kernel};
 ghost use Rattle.resident_requests.specs.KernelCalls.KernelModel.Lists.{Lists};
 ghost use Rattle.resident_requests.specs.KernelCalls.KernelModel.ValidLists.{AreValid};
 ghost use Rattle.resident_requests.specs.KernelCalls.KernelDispatch.Dispatch.{CanDispatch};
@@ -15,11 +14,10 @@ ghost use Rattle.fault_reporter.specs.Recorded.{CanRecord, recorded};
 /// The fault packet waits exactly where some fault was not reported yet, from a guest with such a fault: also after a fault was
 /// recorded, and after a turn of the task that reports faults.
 pub fn faults_law()
-    ensures recorded { (k : Kernel) (f : Fault) → CanRecord k.lists f → FaultsStand k
-        → FaultsStand (record k { lists = recorded f k.lists }) }
-    ensures reported { (k : Kernel) (s : List ℕ) → AreValid k.lists → RunsResident k.lists
-        → k.lists.running ≡ REPORTER → FaultsStand k
-        → FaultsStand (record k { lists = (fault_turn s k.lists).lists }) }
+    ensures recorded { (l : Lists) (f : Fault) → CanRecord l f → FaultsStand l
+        → FaultsStand (recorded f l) }
+    ensures reported { (s : List ℕ) (l : Lists) → AreValid l → RunsResident l → l.running ≡ REPORTER
+        → FaultsStand l → FaultsStand (fault_turn s l).lists }
 {}
 
 /// Where a dispatch may follow, it may follow a fault that was recorded, and a turn of the task that reports faults.

@@ -29,7 +29,7 @@ pub(crate) fn send_packet<L: EventLog>(store: &mut Store, log: &mut L)
     let Some(reporter) = find(store, REPORTER) else {
         return;
     };
-    let queue = Queue::OfTask(reporter);
+    let queue = Queue::Work(reporter);
     if has_packet(store, queue, FAULT_PACKET) {
         return;
     }
@@ -52,7 +52,7 @@ pub(crate) fn take_packet<L: EventLog>(store: &mut Store, log: &mut L)
 {
     let task = root(store, RootField::Running);
     let sender = word_at(store, FAULT_PACKET, SENDER);
-    unqueue(store, Queue::OfTask(task), FAULT_PACKET);
+    unqueue(store, Queue::Work(task), FAULT_PACKET);
     set_word_at(store, FAULT_PACKET, SENDER, 0);
     set_word_at(store, FAULT_PACKET, KIND, 0);
     log.note(taken(REPORTER, FAULT_PACKET, sender));

@@ -7,6 +7,7 @@ use Rattle.kernel_calls.specs.PacketQueue.QueueWords.{QueuedPacket}
 use Rattle.kernel_calls.specs.KernelModel.Changes.{change_of, with_queue, with_task}
 use Rattle.kernel_calls.specs.KernelModel.Lists.{Lists}
 use Rattle.kernel_calls.specs.KernelModel.MovedTask.{with_priority}
+use Rattle.kernel_calls.specs.KernelModel.Running.{RunsAs}
 use Rattle.kernel_calls.specs.KernelModel.Task.{Task}
 use Rattle.kernel_calls.specs.KernelModel.ValidQueues.{Place}
 use Rattle.kernel_calls.specs.KernelModel.ValidQueues.Place.{Clock, Keyboard, Output, Pending, Work}
@@ -14,10 +15,6 @@ use Rattle.kernel_calls.specs.KernelModel.ValidTasks.{runs}
 use Rattle.kernel_calls.proofs.Shown.KernelModel.AllThings.{all-inserted}
 use Rattle.kernel_calls.specs.TaskCalls.ChangePri.{moved}
 use Rattle.guest_turns.specs.GuestTurn.{Numbers, numbers_of}
-
--- where it has that field, it is the task with the number
-abbrev pub RunsAs : ℕ → Task → Type 0
-RunsAs id t = t.field ≡ runs → t.id ≡ id
 
 -- ---- the chain
 

@@ -20,9 +20,10 @@ use Rattle.kernel_calls.specs.CoroutineCalls.CoWait.{ended, with_ended}
 use Rattle.kernel_calls.specs.Calls.{kernel_call}
 use Rattle.kernel_calls.specs.CallNumbers.{call_of}
 use Rattle.guest_turns.specs.Guarded.{is_owned}
-use Rattle.guest_turns.specs.GuestTurn.{Numbers, RunsAlone, Turned, after_instruction, died, dies, numbers_of, turn_without_reporter}
+use Rattle.guest_turns.specs.GuestTurn.{Numbers, Turned, after_instruction, died, dies, numbers_of, turn_without_reporter}
+use Rattle.kernel_calls.specs.KernelModel.Running.{RunsAlone, RunsAs}
 use Rattle.guest_turns.proofs.CallFields.{Keeps, KeepsSwitched, read-keeps, switched-keeps}
-use Rattle.guest_turns.proofs.RunningField.{RunsAs, RunsIn, one-runs}
+use Rattle.guest_turns.proofs.RunningField.{RunsIn, one-runs}
 
 -- ---- the instruction
 
@@ -84,6 +85,9 @@ module _ (s : List ℕ) (l : Lists) (r : Regs) (alone : RunsAlone l) where
   pub turn-dispatches : HasCaller l → r.c < 256 → CanDispatch (turn_without_reporter s l r).lists (turn_without_reporter s l r).regs
   turn-dispatches c small = record {
     field = subst (λ i. AllByRecursion (RunsAs i) (turn_without_reporter s l r).lists.tasks) (sym turn-running) fits.lists.alone;
-    byte = fits.byte small;
-    idle = λ none. (let guest : is_guest_id (turn_without_reporter s l r).lists.running ≡ true = ap is_guest_id turn-running ∙ c.guest in cc);
+    registers =
+        record {
+          byte = fits.byte small;
+          idle = λ none. (let guest : is_guest_id (turn_without_reporter s l r).lists.running ≡ true = ap is_guest_id turn-running ∙ c.guest in cc);
+        };
   }

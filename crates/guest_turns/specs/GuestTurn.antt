@@ -1,7 +1,6 @@
 -- What the running guest does in a step, before the clock, the devices and dispatch: its instruction, its call, or the end of its
 -- function.
 use Rattle.std.specs.Prelude.{◌≡◌, ℕ, ◌==◌, Bool, if◌then◌else◌, List, [], ◌++◌, Ok}
-use Rattle.std.specs.List.{AllByRecursion}
 use Rattle.word_store.specs.declared.registers.Regs.{Regs}
 use Rattle.cint_exec.specs.Change.{fault}
 use Rattle.cint_exec.specs.Instruction.{instruction}
@@ -15,7 +14,7 @@ use Rattle.kernel_calls.specs.KernelModel.Changes.{with_task}
 use Rattle.kernel_calls.specs.KernelModel.Lists.{Lists}
 use Rattle.kernel_calls.specs.KernelModel.NotedEvents.{NotesAll}
 use Rattle.kernel_calls.specs.KernelModel.Task.{Task}
-use Rattle.kernel_calls.specs.KernelModel.ValidTasks.{dead, runs}
+use Rattle.kernel_calls.specs.KernelModel.ValidTasks.{dead}
 use Rattle.kernel_calls.specs.CoroutineCalls.CallersCoroutines.{coroutines_of_caller}
 use Rattle.kernel_calls.specs.CoroutineCalls.CoWait.{ended}
 use Rattle.kernel_calls.specs.CoroutineCalls.Switched.{Switched}
@@ -27,15 +26,21 @@ use Rattle.guest_turns.specs.Guarded.{is_owned}
 use Rattle.guest_turns.specs.declared.turns.TurnEnd.{TurnEnd}
 use Rattle.guest_turns.specs.declared.turns.TurnEnd.TheVariants.{Faults, Goes, Quits}
 
--- What a turn leaves: the words that its instruction left, the lists, the plain words that were written over those words, the
--- registers, the bytes that went to the console, its events, and how it ended.
+-- What a turn leaves.
 pub record Turned : Type 0 where
+  -- the words that its instruction left
   pub words : List ℕ
+  -- the lists
   pub lists : Lists
+  -- the plain words that were written over those words
   pub plain : Pairs
+  -- the registers
   pub regs : Regs
+  -- the bytes that went to the console
   pub bytes : List ℕ
+  -- the events, in their order
   pub events : List KernelEvent
+  -- how it ended
   pub ends : TurnEnd
 
 -- the turn ends so, and the lists stay
@@ -95,40 +100,50 @@ turn_without_reporter s l r = let x = instruction (is_owned l) s r in after_inst
 
 -- ---- what the code leaves
 
--- The store is t: it holds the lists that the turn leaves, and of the other words its plain ones have changed since the
--- instruction; these are its registers and its end; the keeper knows the words of those lists; its bytes went to the console, and
--- its events to the log.
+-- What the code leaves is what the turn leaves. The store is t.
 pub record IsTurned (t : List ℕ) (after : Regs) (tells : List ℕ → Type 0) (old new : Outside) (result : TurnEnd) (m : Turned) : Type 0 where
+  -- the store holds the lists, and of the other words the plain ones alone have changed since the instruction
   pub lists : IsChanged m.words t m.lists m.plain
+  -- the registers
   pub regs : after ≡ m.regs
+  -- how the turn ended
   pub ends : result ≡ m.ends
+  -- the keeper knows the words of those lists
   pub knows : Knows tells m.lists
+  -- its bytes went to the console
   pub bytes : new.shown ≡ old.shown ++ m.bytes
+  -- its events went to the log
   pub notes : NotesAll old.noted new.noted old.failed new.failed m.events
 
 -- ---- what a turn keeps
 
--- the task that runs, and the numbers that no turn changes: the steps from one tick to the next, the ticks so far, the version,
--- and whether there are residents
+-- the task that runs, and the numbers that no turn changes
 pub record Numbers : Type 0 where
+  -- the number of the running task, 0 where nobody runs
   pub running : ℕ
+  -- the steps from one tick to the next
   pub period : ℕ
+  -- the ticks so far
   pub tick : ℕ
+  -- the version, 1 or 2
   pub version : ℕ
+  -- whether there are residents
   pub residents : Bool
 
 abbrev pub numbers_of : Lists → Numbers
 numbers_of l = record { running = l.running; period = l.period; tick = l.tick; version = l.version; residents = l.residents }
 
--- no task but the running one has the field of one that runs
-abbrev pub RunsAlone : Lists → Type 0
-RunsAlone l = AllByRecursion (λ t. t.field ≡ runs → t.id ≡ l.running) l.tasks
-
 -- nothing has changed, shown or noted
 pub record IsUntouched (s : List ℕ) (l : Lists) (r : Regs) (m : Turned) : Type 0 where
+  -- the words of the store
   pub words : m.words ≡ s
+  -- the lists
   pub lists : m.lists ≡ l
+  -- no plain word was written
   pub plain : m.plain ≡ []
+  -- the registers
   pub regs : m.regs ≡ r
+  -- nothing went to the console
   pub bytes : m.bytes ≡ []
+  -- nothing was noted
   pub events : m.events ≡ []

@@ -68,7 +68,7 @@ module _ (s t : List ℕ) (l : Lists) (r r' : Regs) (tells : List ℕ → Type 0
       ∙ ap (with_next s m) (first-suspended l.running r l.tasks ∙ ap (option_map (change_of l.running (suspended r))) none)
 
   suspends : IsSuspended s (with_running_saved s r) l m
-  suspends = lists-suspended s (with_running_saved s r) l r h can.byte can.idle refl
+  suspends = lists-suspended s (with_running_saved s r) l r h can.registers.byte can.registers.idle refl
 
   changed : IsChanged s t (with_running 0 m) []
   changed =

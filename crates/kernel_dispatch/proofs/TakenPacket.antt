@@ -85,7 +85,7 @@ module _ (s t : List ℕ) (l : Lists) (front : List Task) (c : Task) (back : Lis
   no_key = false_from_ne_true (is_key_packet l p) (λ some. (let k : IsKeyPacket (Work c.id) p = stands.key some in absurd (omega (arith, leb-true 5 c.id guest, k.place.0))))
 
   no_fault : is_fault_packet l p ≡ false
-  no_fault = false_from_ne_true (is_fault_packet l p) (λ some. (let k : IsFaultPacket l (Work c.id) p = stands.fault some in absurd (omega (arith, leb-true 5 c.id guest, ap number_of k.place))))
+  no_fault = false_from_ne_true (is_fault_packet l p) (λ some. (let k : IsFaultPacket (Work c.id) p = stands.fault some in absurd (omega (arith, leb-true 5 c.id guest, ap number_of k.place))))
 
   becomes : with_queue (Work c.id) qs l ≡ after
   becomes =

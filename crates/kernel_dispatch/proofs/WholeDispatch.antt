@@ -70,7 +70,7 @@ module _ (s0 s1 s2 s3 : List ℕ) (tells told : List ℕ → Type 0) (room : ℕ
   w2 = change_of l.running (suspended r) (with_packet_taken w)
 
   suspends : IsSuspended s1 s2 l1 l2
-  suspends = lists-suspended s1 s2 l1 r x.lists.lists can.byte can.idle saved
+  suspends = lists-suspended s1 s2 l1 r x.lists.lists can.registers.byte can.registers.idle saved
 
   abbrev place : IsBetween l2.tasks w2
   place = between-map (change_of l.running (suspended r)) l1.tasks (with_packet_taken w) (between-taken s0 tells room l w t k n)

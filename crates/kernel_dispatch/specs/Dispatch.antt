@@ -1,6 +1,5 @@
 -- Dispatch: the first ready task runs.
 use Rattle.std.specs.Prelude.{◌≡◌, ℕ, pos, ◌+◌, ◌<◌, ◌==◌, ◌&&◌, ◌||◌, Bool, false, if◌then◌else◌, Option, Some, None, List, [], ◌∷◌, ◌++◌, drop, find, map, slice_index, take}
-use Rattle.std.specs.List.{AllByRecursion}
 use Rattle.std.specs.Option.{option_map}
 use Rattle.word_store.specs.Arithmetic.{signed}
 use Rattle.word_store.specs.declared.registers.Regs.{Regs}
@@ -10,9 +9,10 @@ use Rattle.word_kinds.specs.KernelLists.PacketQueue.Queue.{no_queue}
 use Rattle.word_kinds.specs.KernelLists.PacketQueue.QueueWords.{QueuedPacket, address_of}
 use Rattle.word_kinds.specs.KernelLists.PacketQueue.declared.events.KernelEvent.{KernelEvent}
 use Rattle.word_kinds.specs.KernelLists.PacketQueue.declared.events.KernelEvent.TheVariants.{Runs, Taken}
-use Rattle.word_kinds.specs.KernelModel.Between.{is_ready}
+use Rattle.word_kinds.specs.KernelModel.Between.{RegistersStand, is_ready}
 use Rattle.word_kinds.specs.KernelModel.Changes.{with_task}
 use Rattle.word_kinds.specs.KernelModel.Lists.{Lists}
+use Rattle.word_kinds.specs.KernelModel.Running.{RunsAlone}
 use Rattle.word_kinds.specs.KernelModel.Task.{Task, globals_of, is_guest_id, stack_of, task_address}
 use Rattle.word_kinds.specs.KernelModel.ValidTasks.{dead, interrupted, no_regs, runs, waits}
 
@@ -131,12 +131,9 @@ dispatched words l r =
     if goes_on l (first_ready_task l) then unchanged l r else
     with_next words (with_suspended r l) (first_ready_task (with_suspended r l))
 
--- what a dispatch asks: no task but the running one has the field of one that runs, C is a byte, and where no guest runs the
--- registers are 0
+-- what a dispatch asks
 pub record CanDispatch (l : Lists) (r : Regs) : Type 0 where
   -- no task but the running one has the field of one that runs
-  pub field : AllByRecursion (λ t. t.field ≡ runs → t.id ≡ l.running) l.tasks
-  -- C is a byte
-  pub byte : r.c < 256
-  -- where no guest runs all registers are 0
-  pub idle : is_guest_id l.running ≡ false → r ≡ no_regs
+  pub field : RunsAlone l
+  -- C is a byte, and where no guest runs all registers are 0
+  pub registers : RegistersStand l r

@@ -11,7 +11,7 @@ use Rattle.kernel_steps.specs.KernelCalls.KernelModel.Kernel.{Kernel}
 use Rattle.kernel_steps.specs.KernelCalls.KernelModel.Lists.{Lists}
 use Rattle.kernel_steps.specs.KernelCalls.KernelModel.Recovered.{lists_in}
 use Rattle.kernel_steps.proofs.Shown.KernelCalls.KernelModel.RecoveredLists.{lists-back}
-use Rattle.kernel_steps.specs.KernelCalls.PacketCalls.declared.returns.Device.TheVariants.{OfClock, OfKeys, OfOutput}
+use Rattle.kernel_steps.specs.KernelCalls.PacketCalls.declared.returns.Device.TheVariants.{Clock, Keyboard, Output}
 use Rattle.kernel_steps.proofs.Shown.KernelCalls.PacketCalls.DeviceQueues.{none-waits}
 use Rattle.kernel_steps.specs.KernelDevices.ClockDevice.Tick.{is_first_due}
 use Rattle.kernel_steps.proofs.Shown.KernelDevices.ClockDevice.FirstDue.{due-some}
@@ -92,7 +92,7 @@ module _ (p : Parts) (w : IsWhole p None) where
   -- ---- before the clock returns a packet
 
   pub awaits-none : (m : ℕ) → get_or p.store 105 0 ≡ 0 → AwaitsTick m now.lists
-  awaits-none m none = inl (subst (AreDueAfter m) (sym (none-waits p.store now.lists OfClock held none)) tt)
+  awaits-none m none = inl (subst (AreDueAfter m) (sym (none-waits p.store now.lists Clock held none)) tt)
 
   pub awaits-first : (m packet due next latest : ℕ) → packet ≡ get_or p.store 105 0 → (packet ≡ 0 → ⊥) → due ≡ get_or p.store (packet + 4) 0 → next ≡ now.lists.tick + 1 → (latest ≤ due) ⊎ (latest ≤ next)
       → (p.step + m) / p.period < latest → AwaitsTick ((p.step + m) / p.period) now.lists
@@ -104,10 +104,10 @@ module _ (p : Parts) (w : IsWhole p None) where
   -- ---- the other two
 
   pub serves-none : get_or p.store 107 0 ≡ 0 → get_or p.store 106 0 ≡ 0 → ServesNone now
-  serves-none out keys = record { output = none-waits p.store now.lists OfOutput held out; keyboard = inl (none-waits p.store now.lists OfKeys held keys) }
+  serves-none out keys = record { output = none-waits p.store now.lists Output held out; keyboard = inl (none-waits p.store now.lists Keyboard held keys) }
 
   pub serves-nobody : get_or p.store 107 0 ≡ 0 → is_some (slice_get p.tty 0) ≡ false → ServesNone now
-  serves-nobody out none = record { output = none-waits p.store now.lists OfOutput held out; keyboard = inr (sym w.stands.type_ahead ∙ no-byte p.tty none) }
+  serves-nobody out none = record { output = none-waits p.store now.lists Output held out; keyboard = inr (sym w.stands.type_ahead ∙ no-byte p.tty none) }
 
   -- ---- all of them
 

@@ -37,7 +37,7 @@ module _ (k : Kernel) (h : IsValid k) (goes : k.stop ≡ None) where
   can-turn = step-turns k h goes
 
   few-ticks : k.steps < most_steps → k.lists.tick < 2 ^ 32 - 1
-  few-ticks few = omega (arith, (h.running goes).tick, div-le_self k.steps k.lists.period, few)
+  few-ticks few = omega (arith, h.ticks goes, div-le_self k.steps k.lists.period, few)
 
   -- where the turn did not stop the machine, the devices may follow
   pub can-serve : k.steps < most_steps → CanServe (turn (with_step k)).kernel

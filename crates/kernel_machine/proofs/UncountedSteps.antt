@@ -29,7 +29,7 @@ module _ (k : Kernel) (n m i : ℕ) (p : Parts) (way : IsOnWay k n m (counted i 
   uncounted-stays t r same = subst (IsOnWay k n m) (λ j. counted i (record p { store = sym same.0 j; regs = sym same.1 j })) way
 
   tick-here : (reached n k).lists.tick ≡ (p.step + i) / p.period
-  tick-here = (way.passed.valid.running way.passed.goes).tick ∙ (λ j. sym way.passed.stands.steps j / sym way.passed.stands.period j)
+  tick-here = way.passed.valid.ticks way.passed.goes ∙ (λ j. sym way.passed.stands.steps j / sym way.passed.stands.period j)
 
   -- a store that holds the lists has that tick
   pub told-here : (s : List ℕ) → HoldsLists s (reached n k).lists → get_or s 108 0 ≡ (p.step + i) / p.period
@@ -70,7 +70,7 @@ module _ (k : Kernel) (n m i : ℕ) (p : Parts) (way : IsOnWay k n (suc m) (coun
 module _ (k : Kernel) (n m : ℕ) (p : Parts) (way : IsOnWay k n m p) where
   pub told-first : get_or p.store 108 0 ≡ p.step / p.period
   told-first =
-      held-tick p.store (reached n k).lists way.passed.stands.keeper.lists ∙ ((way.passed.valid.running way.passed.goes).tick ∙ (λ j. sym way.passed.stands.steps j / sym way.passed.stands.period j))
+      held-tick p.store (reached n k).lists way.passed.stands.keeper.lists ∙ (way.passed.valid.ticks way.passed.goes ∙ (λ j. sym way.passed.stands.steps j / sym way.passed.stands.period j))
 
   pub way-uncounted : IsOnWay k (n + 0) (m - 0) (counted 0 p)
   way-uncounted =

@@ -11,7 +11,9 @@ use Rattle.kernel_machine.specs.Stands.{Stands}
 
 -- its kernel, and the bytes of its last step
 pub record MachineView : Type 0 where
+  -- its kernel
   pub kernel : Kernel
+  -- the bytes that went to the console in its last step
   pub output : List ℕ
 
 -- the kernel, read off the parts
@@ -32,5 +34,7 @@ kernel_of p stop = record {
 
 -- the parts stand for this kernel, which is valid, and so for no other one
 pub record IsWhole (p : Parts) (stop : Option Stop) : Type 0 where
+  -- the parts stand for that kernel
   pub stands : Stands p (kernel_of p stop)
+  -- which is valid
   pub valid : IsValid (kernel_of p stop)

@@ -12,9 +12,13 @@ use Rattle.kernel_steps.specs.Step.{quietly, run}
 
 -- n steps of the kernel k, which left the parts p; none of them showed or noted anything, or stopped the machine
 pub record HasPassed (n : ℕ) (k : Kernel) (p : Parts) : Type 0 where
+  -- they showed and noted nothing
   pub quiet : run n k ≡ quietly (run n k).kernel
+  -- the parts stand for the kernel that they left
   pub stands : Stands p (run n k).kernel
+  -- that kernel is valid
   pub valid : IsValid (run n k).kernel
+  -- and has not stopped
   pub goes : (run n k).kernel.stop ≡ None
 
 -- the parts once n steps more are counted, and with them the ticks, in the word of the root
@@ -27,12 +31,18 @@ HasNoTick n p = (i : ℕ) → i < n → (p.step + i) / p.period ≡ p.step / p.p
 
 -- n steps were taken, and m more may be: the guest still runs, and no device acts in them
 pub record IsOnWay (k : Kernel) (n m : ℕ) (p : Parts) : Type 0 where
+  -- n steps have passed
   pub passed : HasPassed n k p
+  -- a guest runs still
   pub guest : is_guest_id (run n k).kernel.lists.running ≡ true
+  -- no device acts in the steps that may follow
   pub quiet : 0 < m → IsQuietFor m (run n k).kernel
+  -- the steps are counted
   pub steps : (run n k).kernel.steps ≡ k.steps + n
 
 -- the output device has no packet, and no byte meets one that waits for it
 pub record ServesNone (k : Kernel) : Type 0 where
+  -- the output device has no packet
   pub output : k.lists.output ≡ []
+  -- the keyboard has none, or there is no byte for it
   pub keyboard : (k.lists.keyboard ≡ []) ⊎ (k.type_ahead ≡ [])

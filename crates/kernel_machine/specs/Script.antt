@@ -3,7 +3,9 @@ use Rattle.std.specs.Prelude.{ℕ, ◌+◌, List, drop, length, nat_lt, if◌the
 
 -- all keys, each as the step at which it is due and its byte, in the order in which they come; and how many of them have come
 pub record KeyScript : Type 0 where
+  -- all keys, each as the step at which it is due and its byte
   pub keys : List (ℕ × ℕ)
+  -- how many of them have come
   pub come : ℕ
 
 abbrev pub still_to_come : KeyScript → List (ℕ × ℕ)

@@ -21,8 +21,11 @@ use word_store::Store;
 /// A machine with a kernel. Contracts see it as the one valid kernel for which its parts stand, and the bytes of its last step.
 #[derive(Drop)]
 pub struct Machine {
+    /// The kernel and what it keeps.
     pub(crate) parts: Parts,
+    /// Why it has stopped, if it has.
     pub(crate) stop: Option<Stop>,
+    /// The bytes that went to the console in the last step.
     pub(crate) output: Output,
 }
 

@@ -16,11 +16,13 @@ pub struct Parts {
     pub kinds: ByteKinds,
     /// The bytes that are typed ahead.
     pub tty: Tty,
+    /// The files, and the streams that are open on them.
     pub disc: Disc,
     /// The console's line.
     pub console: ConsoleState,
     /// What the shell does next, and its line.
     pub shell: ShellState,
+    /// The pipes between tasks.
     pub pipes: Pipes,
     /// The keys that are still to come.
     pub keys: Script,

@@ -9,7 +9,9 @@ use tp_io::WantMemory;
 /// All keys, each as the step at which it is due and its byte, in the order in which they come, and how many of them have come.
 #[derive(Drop)]
 pub struct Script {
+    /// Each key as the step at which it is due and its byte.
     keys: Vec<(u64, u8)>,
+    /// How many of them have come.
     come: usize,
 }
 

@@ -135,16 +135,13 @@ module _ (l : Lists) (front back : List Task) (t : Task) (v : AreValid l) (is : 
   stays at p h other =
       let ne : p.sender ≢ t.id = eqb-false p.sender t.id other in
       MayStand-kept l (with_tasks (front ++ back) l) at p refl (residents-same 2 refl) (λ d. d)
-      (HasSender-kept l (with_tasks (front ++ back) l) at p.sender (keeps-others p.sender ne)) (λ _. keeps-others p.sender ne) h
+      (HasSender-kept l (with_tasks (front ++ back) l) at p.sender (keeps-others p.sender ne)) h
 
   -- and so does any packet of a guest
   stays-with_guest : (z : ℕ) (p : QueuedPacket) → is_guest_id z ≡ true → MayStand l (Work z) p → MayStand (with_tasks (front ++ back) l) (Work z) p
   stays-with_guest z p high h =
       MayStand-kept l (with_tasks (front ++ back) l) (Work z) p refl (residents-same 2 refl) (λ d. d)
-      (λ _ resident. absurd (false≢true (sym resident ∙ high))) (λ e _. absurd (guest-other z 2 high refl (number e))) h
-    where
-      number : Work z ≡ Work 2 → z ≡ 2
-      number e = cc
+      (λ _ resident. absurd (false≢true (sym resident ∙ high))) h
 
   stay : (at : Place) (ps : List QueuedPacket) → AllByRecursion (MayStand l at) ps → AllByRecursion (λ p. eqb p.sender t.id ≡ false) ps → AllByRecursion (MayStand (with_tasks (front ++ back) l) at) ps
   stay at ps all others = all-from_both (MayStand l at) (λ p. eqb p.sender t.id ≡ false) (MayStand (with_tasks (front ++ back) l) at) (stays at) ps all others
@@ -180,7 +177,7 @@ module _ (l : Lists) (front back : List Task) (t : Task) (v : AreValid l) (is : 
       on false e = refl
       on true e =
           let p = any-found (λ q. eqb q.address fault_packet) (MayStand l (Work t.id)) t.queue e queue-stands in
-          let k : IsFaultPacket l (Work t.id) p.0 = p.2.fault (and_from (has_task 2 l.tasks) _ r p.1) in
+          let k : IsFaultPacket (Work t.id) p.0 = p.2.fault (and_from (has_task 2 l.tasks) _ r p.1) in
           absurd (guest-other t.id 2 guest refl (number k.place))
 
   same-queued : (a : ℕ) → stands_in a t.queue ≡ false → is_queued a (with_tasks (front ++ back) l) ≡ is_queued a l

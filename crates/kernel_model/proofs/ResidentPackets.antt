@@ -210,8 +210,8 @@ key_unqueued-valid l at p front back v is is_key =
 -- ---- the fault packet
 
 pub fault_queued-valid : (l : Lists) (p : QueuedPacket) (front back : List QueuedPacket) → AreValid l → queue_of (Work 2) l ≡ front ++ back → l.fault_packet_free ≡ true → p.address ≡ fault_packet
-    → IsFaultPacket l (Work 2) p → AreValid (with_fault_packet false (with_queue (Work 2) (front ++ p ∷ back) l))
-fault_queued-valid l p front back v is free address k =
+    → IsFaultPacket (Work 2) p → has_task p.sender l.tasks ≡ true → AreValid (with_fault_packet false (with_queue (Work 2) (front ++ p ∷ back) l))
+fault_queued-valid l p front back v is free address k there =
     comes l (Work 2) p front back l.key false v has r is stands tt
     (key-kept l (with_queue (Work 2) ps l) v.queues.key
     (λ _. is_queued-place key_packet l (Work 2) ps v.tasks.distinct has (any-between (λ q. eqb q.address key_packet) front p back (ap (λ a. eqb a key_packet) address) ∙ ap (stands_in key_packet) (sym is))))
@@ -243,7 +243,7 @@ fault_queued-valid l p front back v is free address k =
           lodged = subst (λ a. AreData l.blocks a 5) (sym address) lodged;
           key = λ e. absurd (false≢true (sym no_key ∙ e));
           fault = λ _. k;
-          sender = λ _ _. k.sender;
+          sender = λ _ _. there;
         }
 
     less : (a : ℕ) → (owners a (key_words l.key) + 0) + owners a (packet_words p 0) ≤ owners a (key_words l.key) + owners a (fault_packet_words l.fault_packet_free)

@@ -11,8 +11,8 @@ use Rattle.kernel_model.specs.Changes.{with_coroutines}
 use Rattle.kernel_model.specs.Lists.{Lists, has_task}
 use Rattle.kernel_model.specs.Task.{Task, is_guest_id, task_id}
 use Rattle.kernel_model.specs.ValidBlocks.{AreData, HasBlock}
-use Rattle.kernel_model.specs.ValidQueues.{HasSender, IsFaultPacket, MayStand, Place, is_fault_packet, is_key_packet}
-use Rattle.kernel_model.specs.ValidQueues.Place.{Clock, Keyboard, Output, Pending, Work}
+use Rattle.kernel_model.specs.ValidQueues.{HasSender, MayStand, Place, is_fault_packet, is_key_packet}
+use Rattle.kernel_model.specs.ValidQueues.Place.{Pending, Work}
 use Rattle.kernel_model.specs.ValidTasks.{CoroutinesStand, IsCoroutine, IsGuest, IsTask, PrioritiesFall, TasksStand}
 use Rattle.kernel_model.specs.Versions.{head_words_of, highest_id_of, most_modules_of}
 use Rattle.kernel_model.proofs.EachMember.{all-each}
@@ -114,23 +114,18 @@ CoroutinesStand-same l m t same h =
 -- who sent it is still there
 pub HasSender-kept : (l m : Lists) (at : Place) (s : ℕ) → (has_task s l.tasks ≡ true → has_task s m.tasks ≡ true) → HasSender l at s → HasSender m at s
 HasSender-kept l m (Work id) s keeps h = λ resident. keeps (h resident)
-HasSender-kept l m Clock s keeps h = (h.0, keeps h.1)
-HasSender-kept l m Keyboard s keeps h = (h.0, keeps h.1)
-HasSender-kept l m Output s keeps h = (h.0, keeps h.1)
 HasSender-kept l m Pending s keeps h = keeps h
+HasSender-kept l m _ s keeps h = (h.0, keeps h.1)
 
 pub MayStand-kept : (l m : Lists) (at : Place) (p : QueuedPacket) → m.residents ≡ l.residents → has_task 2 m.tasks ≡ has_task 2 l.tasks
     → (AreData l.blocks p.address 5 → AreData m.blocks p.address 5)
     → (HasSender l at p.sender → HasSender m at p.sender)
-    → (at ≡ Work 2 → has_task p.sender l.tasks ≡ true → has_task p.sender m.tasks ≡ true)
     → MayStand l at p → MayStand m at p
-MayStand-kept l m at p residents reporter lodged sender by_fault h =
+MayStand-kept l m at p residents reporter lodged sender h =
     record {
       lodged = lodged h.lodged;
       key = λ is. h.key (sym key_same ∙ is);
-      fault = λ is.
-          let f : IsFaultPacket l at p = h.fault (sym fault_same ∙ is) in
-          record { place = f.place; kind = f.kind; res1 = f.res1; last = f.last; sender = by_fault f.place f.sender };
+      fault = λ is. h.fault (sym fault_same ∙ is);
       sender = λ none. sender (h.sender (sym key_same ∙ none));
     }
   where
@@ -146,4 +141,4 @@ pub MayStand-more : (l m : Lists) (at : Place) (p : QueuedPacket) → m.resident
     → ((i : ℕ) → has_task i l.tasks ≡ true → has_task i m.tasks ≡ true)
     → MayStand l at p → MayStand m at p
 MayStand-more l m at p residents reporter lodged keeps h =
-    MayStand-kept l m at p residents reporter lodged (HasSender-kept l m at p.sender (keeps p.sender)) (λ _. keeps p.sender) h
+    MayStand-kept l m at p residents reporter lodged (HasSender-kept l m at p.sender (keeps p.sender)) h

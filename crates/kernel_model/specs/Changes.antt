@@ -68,10 +68,8 @@ with_queue Pending ps l = record l { pending = ps }
 -- (invariant 20).
 abbrev pub HasPlace : Lists → Place → Type 0
 HasPlace l (Work id) = has_task id l.tasks ≡ true
-HasPlace l Clock = Unit {0}
-HasPlace l Keyboard = Unit {0}
-HasPlace l Output = Unit {0}
 HasPlace l Pending = l.residents ≡ true
+HasPlace l _ = Unit {0}
 
 -- The lists with another state of the residents' two packets: the key packet's first result where it is on no queue (invariant 21),
 -- and whether the fault packet is on none (22).
@@ -136,8 +134,5 @@ pub record HasNoPacketsOut (l : Lists) (id : ℕ) : Type 0 where
 
 -- Due ticks never fall along the clock's queue (invariant 19); the other queues have no order of their own.
 abbrev pub KeepsOrder : Place → List QueuedPacket → Type 0
-KeepsOrder (Work id) ps = Unit {0}
 KeepsOrder Clock ps = NeverFall ps
-KeepsOrder Keyboard ps = Unit {0}
-KeepsOrder Output ps = Unit {0}
-KeepsOrder Pending ps = Unit {0}
+KeepsOrder _ ps = Unit {0}

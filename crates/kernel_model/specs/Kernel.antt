@@ -1,5 +1,5 @@
 -- A kernel: its lists, the words that nobody owns, the registers, and what its residents keep outside the store.
-use Rattle.std.specs.Prelude.{ℕ, Bool, Option, List}
+use Rattle.std.specs.Prelude.{ℕ, Bool, false, Option, List, []}
 use Rattle.word_store.specs.declared.registers.Regs.{Regs}
 use Rattle.ram_disc.specs.Disc.{Disc}
 use Rattle.kernel_model.specs.declared.stops.Stop.{Stop}
@@ -11,6 +11,10 @@ pub record Console : Type 0 where
   pub line : List ℕ
   -- whether it is finished, and waits for a read
   pub finished : Bool
+
+-- nothing was typed
+abbrev pub no_line : Console
+no_line = record { line = []; finished = false }
 
 -- what the shell does next: it prompts, or it has asked for a line, it waits for the task with a number, or it types a file
 pub data Mode : Type 0 where
@@ -25,6 +29,10 @@ pub record Shell : Type 0 where
   pub mode : Mode
   -- the bytes of the line that the console has handed over, at most 120
   pub line : List ℕ
+
+-- it has done nothing yet
+abbrev pub no_command : Shell
+no_command = record { mode = Prompt; line = [] }
 
 -- A pipe.
 pub record Pipe : Type 0 where

@@ -17,6 +17,7 @@ pub mod ReadsLists
 pub mod Recovered
 pub mod Residents
 pub mod Root
+pub mod Running
 pub mod Standing
 pub mod Task
 pub mod UsedData

@@ -1,7 +1,8 @@
 -- The rules of pipes.
 use Rattle.std.specs.Prelude.{◌≡◌, ℕ, ◌≤◌, ◌||◌, true, false, Option, Some, None, List, length, replicate, slice_index_or}
 use Rattle.ram_disc.specs.Name.{IsName}
-use Rattle.kernel_model.specs.Kernel.{Kernel, Pipe}
+use Rattle.kernel_model.specs.Kernel.{Pipe}
+use Rattle.kernel_model.specs.Lists.{Lists}
 
 -- the most pipes, and the most bytes that one holds
 abbrev pub most_pipes : ℕ
@@ -28,15 +29,20 @@ pub record IsPipe (p : Pipe) : Type 0 where
   -- it holds at most 1,024 bytes
   pub room : length p.held ≤ most_held
 
--- their names are distinct; without residents, and in version 1, there are none
-pub record PipesStand (k : Kernel) : Type 0 where
+-- at most eight pipes, each lawful, with distinct names
+pub record ArePipes (ps : List (Option Pipe)) : Type 0 where
   -- there are eight places
-  pub places : length k.pipes ≡ most_pipes
+  pub places : length ps ≡ most_pipes
   -- each place is free, or has a lawful pipe
-  pub each : (i : ℕ) (p : Pipe) → pipe_at k.pipes i ≡ Some p → IsPipe p
+  pub each : (i : ℕ) (p : Pipe) → pipe_at ps i ≡ Some p → IsPipe p
   -- no two pipes have one name
-  pub distinct : (i j : ℕ) (p q : Pipe) → pipe_at k.pipes i ≡ Some p → pipe_at k.pipes j ≡ Some q → p.name ≡ q.name → i ≡ j
+  pub distinct : (i j : ℕ) (p q : Pipe) → pipe_at ps i ≡ Some p → pipe_at ps j ≡ Some q → p.name ≡ q.name → i ≡ j
+
+-- without residents, and in version 1, there are none
+pub record PipesStand (l : Lists) (ps : List (Option Pipe)) : Type 0 where
+  -- they are pipes
+  pub pipes : ArePipes ps
   -- without residents there is none
-  pub no_residents : k.lists.residents ≡ false → k.pipes ≡ no_pipes
+  pub no_residents : l.residents ≡ false → ps ≡ no_pipes
   -- in version 1 there is none
-  pub first_version : k.lists.version ≡ 1 → k.pipes ≡ no_pipes
+  pub first_version : l.version ≡ 1 → ps ≡ no_pipes

@@ -28,7 +28,7 @@
 -- 16. What is queued at a device is from a guest that is there, and what is queued for a resident, or waits for a line, from a task
 --     that is there; but for the key packet.
 -- 17. The key packet is at the keyboard, from the console, or at the console, from the keyboard, with type and second result 0.
--- 18. The fault packet is on the queue of task 2, from a task that is there, with type 40 and results 0.
+-- 18. The fault packet is on the queue of task 2, with type 40 and results 0.
 -- 19. Due ticks never fall along the clock's queue.
 -- 20. No read waits for a line where there are no residents.
 -- 21. The key packet's first result is kept exactly where there are residents and that packet is on no queue.

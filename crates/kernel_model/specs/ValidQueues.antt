@@ -15,12 +15,19 @@ pub data Place : Type 0 where
   Output : Place
   Pending : Place
 
--- the packet is the key packet, or the fault packet; without a task that reports faults there is none
+-- the address is that of the key packet, or of the fault packet; without a task that reports faults there is none
+abbrev pub is_key_at : Lists → ℕ → Bool
+is_key_at l a = l.residents && (a == key_packet)
+
+abbrev pub is_fault_at : Lists → ℕ → Bool
+is_fault_at l a = has_task 2 l.tasks && (a == fault_packet)
+
+-- the packet is the one or the other
 abbrev pub is_key_packet : Lists → QueuedPacket → Bool
-is_key_packet l p = l.residents && (p.address == key_packet)
+is_key_packet l p = is_key_at l p.address
 
 abbrev pub is_fault_packet : Lists → QueuedPacket → Bool
-is_fault_packet l p = has_task 2 l.tasks && (p.address == fault_packet)
+is_fault_packet l p = is_fault_at l p.address
 
 -- a guest with the number is there
 abbrev pub HasGuest : Lists → ℕ → Type 0
@@ -30,18 +37,14 @@ HasGuest l id = (is_guest_id id ≡ true) × (has_task id l.tasks ≡ true)
 -- tasks that are there; what was sent to a guest may be from one that has gone.
 abbrev pub HasSender : Lists → Place → ℕ → Type 0
 HasSender l (Work id) sender = is_guest_id id ≡ false → has_task sender l.tasks ≡ true
-HasSender l Clock sender = HasGuest l sender
-HasSender l Keyboard sender = HasGuest l sender
-HasSender l Output sender = HasGuest l sender
 HasSender l Pending sender = has_task sender l.tasks ≡ true
+HasSender l _ sender = HasGuest l sender
 
 -- the key packet is at the keyboard, sent by the console, or comes back from there to the console's work queue
 abbrev pub IsKeyPlace : Place → ℕ → Type 0
 IsKeyPlace (Work id) sender = (id ≡ 3) × (sender ≡ keyboard)
-IsKeyPlace Clock sender = ⊥
 IsKeyPlace Keyboard sender = sender ≡ 3
-IsKeyPlace Output sender = ⊥
-IsKeyPlace Pending sender = ⊥
+IsKeyPlace _ sender = ⊥
 
 -- Invariant 17: it stands there, with type and second result 0.
 pub record IsKeyPacket (at : Place) (p : QueuedPacket) : Type 0 where
@@ -52,8 +55,9 @@ pub record IsKeyPacket (at : Place) (p : QueuedPacket) : Type 0 where
   -- its second result
   pub last : p.last ≡ 0
 
--- Invariant 18: the fault packet is on the work queue of the task that reports faults.
-pub record IsFaultPacket (l : Lists) (at : Place) (p : QueuedPacket) : Type 0 where
+-- Invariant 18: the fault packet is on the work queue of the task that reports faults. Who sends it is a matter of invariant 16, and
+-- between steps of FaultsStand.
+pub record IsFaultPacket (at : Place) (p : QueuedPacket) : Type 0 where
   -- where it is
   pub place : at ≡ Work 2
   -- its type
@@ -62,8 +66,6 @@ pub record IsFaultPacket (l : Lists) (at : Place) (p : QueuedPacket) : Type 0 wh
   pub res1 : p.res1 ≡ 0
   -- its second result
   pub last : p.last ≡ 0
-  -- a task that is there has sent it
-  pub sender : has_task p.sender l.tasks ≡ true
 
 -- Invariants 15 to 18: a packet may stand there.
 pub record MayStand (l : Lists) (at : Place) (p : QueuedPacket) : Type 0 where
@@ -72,7 +74,7 @@ pub record MayStand (l : Lists) (at : Place) (p : QueuedPacket) : Type 0 where
   -- invariant 17
   pub key : is_key_packet l p ≡ true → IsKeyPacket at p
   -- invariant 18
-  pub fault : is_fault_packet l p ≡ true → IsFaultPacket l at p
+  pub fault : is_fault_packet l p ≡ true → IsFaultPacket at p
   -- invariant 16
   pub sender : is_key_packet l p ≡ false → HasSender l at p.sender
 

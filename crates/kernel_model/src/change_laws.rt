@@ -101,7 +101,7 @@ pub fn key_packet_law()
 pub fn fault_packet_law()
     ensures queued { (l : Lists) (p : QueuedPacket) (front back : List QueuedPacket)
         → AreValid l → queue_of (Work 2) l ≡ front ++ back → l.fault_packet_free ≡ true
-        → p.address ≡ fault_packet → IsFaultPacket l (Work 2) p
+        → p.address ≡ fault_packet → IsFaultPacket (Work 2) p → has_task p.sender l.tasks ≡ true
         → AreValid (with_fault_packet false (with_queue (Work 2) (front ++ p ∷ back) l)) }
     ensures unqueued { (l : Lists) (p : QueuedPacket) (front back : List QueuedPacket)
         → AreValid l → queue_of (Work 2) l ≡ front ++ p ∷ back → p.address ≡ fault_packet

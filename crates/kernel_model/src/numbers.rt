@@ -26,7 +26,7 @@ pub const KEYBOARD: u32 = 0xffff_fffe;
 pub const OUTPUT: u32 = 0xffff_fffd;
 
 /// The number of the queue of the console's reads that wait for a line.
-pub const READS: u32 = 103;
+pub const PENDING: u32 = 103;
 
 /// The state of a task that runs, and is not held and has no packets.
 pub const RUNS: u32 = 0;
@@ -47,7 +47,7 @@ pub const HELD: u32 = 2;
 pub const RESIDENT_DATA: u32 = 201;
 
 /// The head of the console's reads that wait for a line.
-pub const READS_HEAD: u32 = 270;
+pub const PENDING_HEAD: u32 = 270;
 
 /// The packet that the console sends to the keyboard.
 pub const KEY_PACKET: u32 = 271;

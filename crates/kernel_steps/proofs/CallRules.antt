@@ -10,7 +10,7 @@ use Rattle.guest_turns.specs.KernelCalls.OwnedWords.Owned.{owners}
 use Rattle.guest_turns.specs.KernelCalls.PacketQueue.QueueWords.{QueuedPacket}
 use Rattle.guest_turns.specs.KernelCalls.Coroutines.CoroutineExchanges.{TaskCoroutines, current_of, with_called, with_resumed, with_waiting}
 use Rattle.guest_turns.specs.KernelCalls.Coroutines.Creation.{highest}
-use Rattle.guest_turns.specs.KernelCalls.KernelModel.Between.{is_unreported}
+use Rattle.guest_turns.specs.KernelCalls.KernelModel.Between.{FaultsStand, Tells, is_unreported}
 use Rattle.guest_turns.specs.KernelCalls.KernelModel.Changes.{queue_of, with_queue, with_task, work_of}
 use Rattle.guest_turns.specs.KernelCalls.KernelModel.Lists.{Lists, has_task}
 use Rattle.guest_turns.specs.KernelCalls.KernelModel.Owned.{owned}
@@ -59,7 +59,6 @@ use Rattle.guest_turns.specs.KernelCalls.declared.call_numbers.KernelCall.{Kerne
 use Rattle.guest_turns.specs.KernelCalls.declared.call_numbers.KernelCall.TheVariants.{AddModule, CallCo, ChangePri, CoWait, CreateCo, CreateTask, DeleteCo, DeleteTask, Dqpkt, Freevec, Getvec, Hold, MulDiv, Qpkt, Quit, Release, ResumeCo, SetFlags, TaskWait, TestFlags, Unload, Wrch}
 use Rattle.guest_turns.specs.Guarded.{is_owned}
 use Rattle.guest_turns.specs.GuestTurn.{after_instruction, died, dies, turn_without_reporter}
-use Rattle.cli_shell.proofs.Shown.KernelResidents.FaultReporter.FaultsKept.{FaultsHold, Tells}
 use Rattle.kernel_steps.proofs.FaultRule.{HasRule, LeavesFault, arrived-rule, departed-fewer, gone-rule, left-rule, moved-rule, new-rule, one-rule}
 
 -- The rule of the fault packet holds where it held before; the key packet is where it was; and no read waits where none waited.
@@ -78,7 +77,7 @@ beside-keeps l m ts free key pending = record { faults = faults; key = key; pend
     faults : HasRule l → HasRule m
     faults h = λ there.
         let before : has_task 2 l.tasks ≡ true = ap (has_task 2) (sym ts) ∙ there in
-        let x : FaultsHold l = h before in
+        let x : FaultsStand l = h before in
         record {
           waits = λ _. free ∙ x.waits before ∙ ap (λ us. not (list_any is_unreported us)) (sym ts);
           sender = subst (λ us. AllByRecursion (Tells us) (work_of 2 us)) (sym ts) x.sender;

@@ -9,6 +9,7 @@ use Rattle.guest_turns.specs.KernelCalls.KernelModel.Changes.{HasPlace, change_o
 use Rattle.guest_turns.specs.KernelCalls.KernelModel.Kernel.{Console}
 use Rattle.guest_turns.specs.KernelCalls.KernelModel.Lists.{Lists, has_task}
 use Rattle.guest_turns.specs.KernelCalls.KernelModel.Residents.{fault_packet, key_packet}
+use Rattle.guest_turns.specs.KernelCalls.KernelModel.Running.{RunsAlone}
 use Rattle.guest_turns.specs.KernelCalls.KernelModel.Task.{Task}
 use Rattle.guest_turns.specs.KernelCalls.KernelModel.ValidLists.{AreValid}
 use Rattle.guest_turns.specs.KernelCalls.KernelModel.ValidQueues.{MayStand, Place, is_key_packet}
@@ -272,7 +273,7 @@ none-fault l at v place other there = all-each (MayStand l at) (λ p. eqb p.addr
         on true e = absurd (other (stands.fault (λ i. there i && e i)).place)
         on false e = refl
 
-pub console-kept : (id : ℕ) (s : List ℕ) (l : Lists) (c : Console) (k : List ℕ) → AreValid l → l.residents ≡ true → has_task 3 l.tasks ≡ true → l.running ≡ 3 → AllByRecursion (λ t. t.field ≡ runs → t.id ≡ l.running) l.tasks → HasRule l
+pub console-kept : (id : ℕ) (s : List ℕ) (l : Lists) (c : Console) (k : List ℕ) → AreValid l → l.residents ≡ true → has_task 3 l.tasks ≡ true → l.running ≡ 3 → RunsAlone l → HasRule l
     → length c.line ≤ 120 → length k ≤ 120 → IsKept (numbers_of l) (all_parts id (begun s l c k))
 console-kept id s l c k v residents there is alone rule line command =
     parts-kept (numbers_of l) id (begun s l c k) (λ two. subst (λ i. AllByRecursion (λ p. eqb p.address fault_packet ≡ false) (queue_of (Work i) l)) (sym is) (none-fault l (Work 3) v there (λ e. cc) two))

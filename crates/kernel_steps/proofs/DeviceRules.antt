@@ -13,7 +13,7 @@ use Rattle.guest_turns.specs.KernelCalls.KernelModel.ValidQueues.Place.{Clock, K
 use Rattle.guest_turns.specs.KernelCalls.KernelDispatch.Dispatch.{dispatched, packets_left, resumed, suspended, takes_packet, with_nobody, with_resumed, with_suspended}
 use Rattle.guest_turns.specs.KernelCalls.PacketCalls.Returned.{first_returned, place_of, returned_by, with_work_for}
 use Rattle.guest_turns.specs.KernelCalls.PacketCalls.declared.returns.Device.{Device}
-use Rattle.guest_turns.specs.KernelCalls.PacketCalls.declared.returns.Device.TheVariants.{OfClock, OfKeys, OfOutput}
+use Rattle.guest_turns.specs.KernelCalls.PacketCalls.declared.returns.Device.TheVariants as devices
 use Rattle.kernel_devices.specs.ClockDevice.Tick.{due_packets, later_packets, ticked, with_returned, with_tick}
 use Rattle.kernel_devices.specs.TtyDevice.Keys.{met}
 use Rattle.kernel_devices.specs.TtyDevice.Printed.{finished}
@@ -41,7 +41,7 @@ sender-keeps l id p other = queue-keeps l (Work id) (queue_of (Work id) l ++ p �
 returned-all : (ps : List QueuedPacket) (l : Lists) → NoneIsFault l ps → KeepsRules l (with_returned ps l)
 returned-all [] l none = keeps-none l
 returned-all (p ∷ ps) l none =
-    let q : QueuedPacket = returned_by OfClock 0 p in
+    let q : QueuedPacket = returned_by devices.Clock 0 p in
     let m : Lists = with_work_for p.sender q l in
     keeps-then l m (with_returned ps m) (sender-keeps l p.sender q (λ there. (none there).0))
     (returned-all ps m (λ there. (none (sym (there-same _ (work-keeps p.sender (queue_of (Work p.sender) l ++ q ∷ [])) 2 l.tasks) ∙ there)).1))
@@ -63,21 +63,21 @@ first-keeps d res1 (p ∷ ps) l none =
     keeps-then l m (with_work_for p.sender q m) (left d) (sender-keeps m p.sender q (λ there. (none (same d there)).0))
   where
     left : (d : Device) → KeepsRules l (with_queue (place_of d) ps l)
-    left OfClock = beside-keeps l (with_queue Clock ps l) refl refl refl refl
-    left OfKeys = beside-keeps l (with_queue Keyboard ps l) refl refl refl refl
-    left OfOutput = beside-keeps l (with_queue Output ps l) refl refl refl refl
+    left devices.Clock = beside-keeps l (with_queue Clock ps l) refl refl refl refl
+    left devices.Keyboard = beside-keeps l (with_queue Keyboard ps l) refl refl refl refl
+    left devices.Output = beside-keeps l (with_queue Output ps l) refl refl refl refl
 
     same : (d : Device) → has_task 2 (with_queue (place_of d) ps l).tasks ≡ true → has_task 2 l.tasks ≡ true
-    same OfClock there = there
-    same OfKeys there = there
-    same OfOutput there = there
+    same devices.Clock there = there
+    same devices.Keyboard there = there
+    same devices.Output there = there
 
 pub met-keeps : (bytes : List ℕ) (l : Lists) → NoneIsFault l l.keyboard → KeepsRules l (met bytes l).lists
 met-keeps [] l none = keeps-none l
-met-keeps (byte ∷ bytes) l none = first-keeps OfKeys byte l.keyboard l none
+met-keeps (byte ∷ bytes) l none = first-keeps devices.Keyboard byte l.keyboard l none
 
 pub finished-output-keeps : (l : Lists) → NoneIsFault l l.output → KeepsRules l (finished l).lists
-finished-output-keeps l none = first-keeps OfOutput 0 l.output l none
+finished-output-keeps l none = first-keeps devices.Output 0 l.output l none
 
 -- ---- what devices have
 
@@ -101,7 +101,7 @@ work-devices l id p has =
 
 returned-devices : (ps : List QueuedPacket) (l : Lists) → NoDeviceHas l → NoDeviceHas (with_returned ps l)
 returned-devices [] l has = has
-returned-devices (p ∷ ps) l has = returned-devices ps (with_work_for p.sender (returned_by OfClock 0 p) l) (work-devices l p.sender (returned_by OfClock 0 p) has)
+returned-devices (p ∷ ps) l has = returned-devices ps (with_work_for p.sender (returned_by devices.Clock 0 p) l) (work-devices l p.sender (returned_by devices.Clock 0 p) has)
 
 pub ticked-devices : (l : Lists) → NoDeviceHas l → NoDeviceHas (ticked l).lists
 ticked-devices l has =
@@ -117,10 +117,10 @@ pub met-devices : (bytes : List ℕ) (l : Lists) → NoDeviceHas l → NoDeviceH
 met-devices [] l has = has
 met-devices (byte ∷ bytes) l has = on l.keyboard refl
   where
-    on : (ps : List QueuedPacket) → l.keyboard ≡ ps → NoDeviceHas (first_returned OfKeys byte ps l).lists
+    on : (ps : List QueuedPacket) → l.keyboard ≡ ps → NoDeviceHas (first_returned devices.Keyboard byte ps l).lists
     on [] is = has
     on (p ∷ ps) is =
-        work-devices (with_queue Keyboard ps l) p.sender (returned_by OfKeys byte p)
+        work-devices (with_queue Keyboard ps l) p.sender (returned_by devices.Keyboard byte p)
         (record { clock = has.clock; keyboard = λ there. (subst (AllByRecursion (λ q. eqb q.address fault_packet ≡ false)) is (has.keyboard there)).1; output = has.output })
 
 -- ---- dispatch

@@ -13,7 +13,7 @@ use Rattle.guest_turns.specs.KernelCalls.KernelModel.ValidQueues.Place.{Clock, W
 use Rattle.guest_turns.specs.KernelCalls.KernelDispatch.Dispatch.{CanDispatch}
 use Rattle.guest_turns.specs.KernelCalls.PacketCalls.Returned.{Served, first_returned, place_of, returned_by, with_work_for}
 use Rattle.guest_turns.specs.KernelCalls.PacketCalls.declared.returns.Device.{Device}
-use Rattle.guest_turns.specs.KernelCalls.PacketCalls.declared.returns.Device.TheVariants.{OfClock, OfKeys, OfOutput}
+use Rattle.guest_turns.specs.KernelCalls.PacketCalls.declared.returns.Device.TheVariants as devices
 use Rattle.kernel_devices.specs.ClockDevice.Tick.{due_packets, due_returned, later_packets, ticked, with_returned, with_tick}
 use Rattle.kernel_devices.specs.TtyDevice.Keys.{left_typed, met}
 use Rattle.kernel_devices.specs.TtyDevice.Printed.{finished}
@@ -37,14 +37,14 @@ module _ (nums : Numbers) where
 
   met-runs : (bytes : List ℕ) (l : Lists) → RunsIn nums l → RunsIn nums (met bytes l).lists
   met-runs [] l h = h
-  met-runs (byte ∷ bytes) l h = first-runs OfKeys byte l.keyboard l h
+  met-runs (byte ∷ bytes) l h = first-runs devices.Keyboard byte l.keyboard l h
 
   finished-runs : (l : Lists) → RunsIn nums l → RunsIn nums (finished l).lists
-  finished-runs l h = first-runs OfOutput 0 l.output l h
+  finished-runs l h = first-runs devices.Output 0 l.output l h
 
   all-returned : (ps : List QueuedPacket) (l : Lists) → RunsIn nums l → RunsIn nums (with_returned ps l)
   all-returned [] l h = h
-  all-returned (p ∷ ps) l h = all-returned ps (with_work_for p.sender (returned_by OfClock 0 p) l) (work-runs l p.sender (returned_by OfClock 0 p) h)
+  all-returned (p ∷ ps) l h = all-returned ps (with_work_for p.sender (returned_by devices.Clock 0 p) l) (work-runs l p.sender (returned_by devices.Clock 0 p) h)
 
   due-runs : (now : ℕ) (l : Lists) → RunsIn nums l → RunsIn nums (due_returned now l).lists
   due-runs now l h = all-returned (due_packets now l.clock) (with_queue Clock (later_packets now l.clock) l) (queue-runs nums l Clock (later_packets now l.clock) h)

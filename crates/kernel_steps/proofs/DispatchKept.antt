@@ -1,6 +1,6 @@
--- What a dispatch leaves: the first ready task runs, and the numbers stay.
-use Rattle.std.proofs.Common.{◌≡◌, ◌↔◌, ℕ, ◌<◌, ◌≤◌, ◌&&◌, Bool, true, false, Option, Some, None, List, map, cond, eqb, refl, sym, ap, ◌∙◌, subst, arith}
-use Rattle.std.specs.List.{AllByRecursion}
+-- What a dispatch leaves: the first ready task runs, and the same tasks are ready.
+use Rattle.std.proofs.Common.{◌≡◌, ℕ, ◌<◌, ◌&&◌, Bool, true, false, Option, Some, None, List, map, cond, eqb, refl, sym, ap, ◌∙◌, subst, arith}
+use Rattle.std.specs.List.{AllByRecursion, list_any}
 use Rattle.std.specs.Option.{option_map_or}
 use Rattle.std.proofs.lemmas.Bool.{eqb-true}
 use Rattle.word_store.specs.Count.{IsApart}
@@ -11,12 +11,13 @@ use Rattle.guest_turns.specs.KernelCalls.KernelModel.Lists.{Lists}
 use Rattle.guest_turns.specs.KernelCalls.KernelModel.Task.{Task, task_id}
 use Rattle.guest_turns.specs.KernelCalls.KernelModel.ValidLists.{AreValid}
 use Rattle.guest_turns.specs.KernelCalls.KernelModel.ValidTasks.{IsTask, runs}
-use Rattle.guest_turns.proofs.Shown.KernelCalls.KernelModel.EachMember.{all-both, all-each}
+use Rattle.guest_turns.proofs.Shown.KernelCalls.KernelModel.AllThings.{all-always}
+use Rattle.guest_turns.proofs.Shown.KernelCalls.KernelModel.EachMember.{all-each}
 use Rattle.guest_turns.proofs.Shown.KernelCalls.KernelModel.TaskPlaces.{TaskPlace, task-places}
 use Rattle.guest_turns.specs.KernelCalls.KernelDispatch.Dispatch.{CanDispatch, Dispatched, dispatched, first_ready_task, goes_on, packets_taken, resumed, unchanged, unlinked_words, with_next, with_nobody, with_resumed, with_suspended}
 use Rattle.guest_turns.specs.GuestTurn.{numbers_of}
 use Rattle.kernel_steps.specs.Parts.{RunsFirst}
-use Rattle.kernel_steps.proofs.DispatchedTasks.{bytes-resumed, fields-resumed, first-resumed, ids-changed, none-run, resumed-byte, resumed-idle}
+use Rattle.kernel_steps.proofs.DispatchedTasks.{alive-resumed, alone-resumed, any-kept, bytes-resumed, first-resumed, id-changed, ids-changed, none-run, resumed-byte, resumed-idle, resumed-kept, suspended-kept}
 use Rattle.kernel_steps.proofs.FoundTask.{found-holds, only-found}
 
 -- ---- the three ways of a dispatch
@@ -59,14 +60,15 @@ module _ (words : List ℕ) (l : Lists) (r : Regs) (can : CanDispatch l r) where
   goes : (t : Task) → GoesOn l t → Runs (unchanged l r)
   goes t g v =
       record {
-        running = sym g.running ∙ sym (ap (λ o. option_map_or task_id o 0) g.first);
-        field =
-            all-each (λ u. (u.field ≡ runs → u.id ≡ l.running) × (u.id ≡ t.id → u.field ≡ runs)) (λ u. (u.field ≡ runs) ↔ (u.id ≡ l.running))
-            (λ u h. (h.0, λ is. h.1 (is ∙ sym g.running))) l.tasks
-            (all-both (λ u. u.field ≡ runs → u.id ≡ l.running) (λ u. u.id ≡ t.id → u.field ≡ runs) l.tasks can.field
-            (only-found (λ u. u.field ≡ runs) is_ready l.tasks t g.first v.tasks.distinct g.field));
-        byte = can.byte;
-        idle = can.idle;
+        runs =
+            record {
+              running = sym g.running ∙ sym (ap (λ o. option_map_or task_id o 0) g.first);
+              alone = can.field;
+              alive =
+                  subst (λ i. AllByRecursion (λ u. u.id ≡ i → u.field ≡ runs) l.tasks) g.running
+                  (only-found (λ u. u.field ≡ runs) is_ready l.tasks t g.first v.tasks.distinct g.field);
+            };
+        registers = can.registers;
       }
 
   abbrev suspended_lists : Lists
@@ -79,14 +81,13 @@ module _ (words : List ℕ) (l : Lists) (r : Regs) (can : CanDispatch l r) where
   nobody none v =
       let idle : Lists = (with_nobody suspended_lists).lists in
       record {
-        running = sym (ap (λ o. option_map_or task_id o 0) none);
-        field =
-            all-each (λ t. (t.field ≡ runs → ⊥) × (1 ≤ t.id)) (λ t. (t.field ≡ runs) ↔ (t.id ≡ 0))
-            (λ t h. (λ is. absurd (h.0 is), λ is. absurd (omega (arith, is, h.1)))) idle.tasks
-            (all-both (λ t. t.field ≡ runs → ⊥) (λ t. 1 ≤ t.id) idle.tasks stopped
-            (all-each (TaskPlace idle) (λ t. 1 ≤ t.id) (λ t p. p.low_id) idle.tasks (task-places idle v)));
-        byte = omega arith;
-        idle = λ _. refl;
+        runs =
+            record {
+              running = sym (ap (λ o. option_map_or task_id o 0) none);
+              alone = all-each (λ t. t.field ≡ runs → ⊥) (λ t. t.field ≡ runs → t.id ≡ 0) (λ t h is. absurd (h is)) idle.tasks stopped;
+              alive = all-each (TaskPlace idle) (λ t. t.id ≡ 0 → t.field ≡ runs) (λ t p is. absurd (omega (arith, is, p.low_id))) idle.tasks (task-places idle v);
+            };
+        registers = record { byte = omega arith; idle = λ _. refl };
       }
 
   next : (t : Task) → first_ready_task suspended_lists ≡ Some t → Runs (with_resumed words t suspended_lists)
@@ -98,10 +99,17 @@ module _ (words : List ℕ) (l : Lists) (r : Regs) (can : CanDispatch l r) where
       bytes-resumed t.id suspended_lists.tasks (all-each (IsTask after) (λ u. u.saved.c < 256) (λ u h. h.byte) after.tasks v.tasks.each)
       in
       record {
-        running = sym (first-resumed suspended_lists.tasks t is apart);
-        field = fields-resumed t.id suspended_lists.tasks stopped;
-        byte = resumed-byte l.version left t (found-holds (λ u. u.saved.c < 256) is_ready suspended_lists.tasks t is bytes);
-        idle = resumed-idle l.version left t;
+        runs =
+            record {
+              running = sym (first-resumed suspended_lists.tasks t is apart);
+              alone = alone-resumed t.id suspended_lists.tasks stopped;
+              alive = alive-resumed t.id suspended_lists.tasks;
+            };
+        registers =
+            record {
+              byte = resumed-byte l.version left t (found-holds (λ u. u.saved.c < 256) is_ready suspended_lists.tasks t is bytes);
+              idle = resumed-idle l.version left t;
+            };
       }
 
   pub runs-first : AreValid (dispatched words l r).lists → RunsFirst (dispatched words l r).lists (dispatched words l r).regs

@@ -1,5 +1,5 @@
 -- The tasks once the one that ran is suspended and the first ready one runs: who is ready, and of whom the field says that it runs.
-use Rattle.std.proofs.Common.{◌≡◌, ◌↔◌, ℕ, ◌<◌, Bool, true, false, Some, List, [], ◌∷◌, map, cond, eqb, refl, sym, ap, ◌∙◌, arith}
+use Rattle.std.proofs.Common.{◌≡◌, ℕ, ◌<◌, ◌||◌, Bool, true, false, Some, List, [], ◌∷◌, map, cond, eqb, refl, sym, ap, ◌∙◌, arith}
 use Rattle.std.specs.Prelude.{find}
 use Rattle.std.specs.List.{AllByRecursion}
 use Rattle.std.specs.Option.{option_map, option_map_or}
@@ -10,6 +10,7 @@ use Rattle.guest_turns.specs.KernelCalls.OwnedWords.LinkedWords.{first_of}
 use Rattle.guest_turns.specs.KernelCalls.PacketQueue.QueueWords.{address_of}
 use Rattle.guest_turns.specs.KernelCalls.KernelModel.Between.{first_ready, is_ready}
 use Rattle.guest_turns.specs.KernelCalls.KernelModel.Changes.{change_of}
+use Rattle.guest_turns.specs.KernelCalls.KernelModel.Running.{RunsAs, RunsIf}
 use Rattle.guest_turns.specs.KernelCalls.KernelModel.Task.{Task, is_guest_id, task_id}
 use Rattle.guest_turns.specs.KernelCalls.KernelModel.ValidTasks.{no_regs, runs}
 use Rattle.guest_turns.proofs.Shown.KernelCalls.KernelModel.EachMember.{all-each, find-passes}
@@ -48,7 +49,7 @@ not-suspended r t = on (eqb t.field 0) refl
     on true e is = absurd (omega (arith, is))
     on false e is = (let here : eqb t.field 0 ≡ true = eq-eqb t.field 0 is in cc)
 
-pub none-run : (n : ℕ) (r : Regs) (ts : List Task) → AllByRecursion (λ t. t.field ≡ runs → t.id ≡ n) ts → AllByRecursion (λ t. t.field ≡ runs → ⊥) (map (change_of n (suspended r)) ts)
+pub none-run : (n : ℕ) (r : Regs) (ts : List Task) → AllByRecursion (RunsAs n) ts → AllByRecursion (λ t. t.field ≡ runs → ⊥) (map (change_of n (suspended r)) ts)
 none-run n r [] all = tt
 none-run n r (t ∷ ts) all = (on (eqb t.id n) refl, none-run n r ts all.1)
   where
@@ -65,13 +66,21 @@ ready-resumed t e = on t.held e ∙ sym e
     on true e = cc
     on false e = refl
 
-pub fields-resumed : (n : ℕ) (ts : List Task) → AllByRecursion (λ t. t.field ≡ runs → ⊥) ts → AllByRecursion (λ t. (t.field ≡ runs) ↔ (t.id ≡ n)) (map (change_of n resumed) ts)
-fields-resumed n [] none = tt
-fields-resumed n (t ∷ ts) none = (on (eqb t.id n) refl, fields-resumed n ts none.1)
+pub alone-resumed : (n : ℕ) (ts : List Task) → AllByRecursion (λ t. t.field ≡ runs → ⊥) ts → AllByRecursion (RunsAs n) (map (change_of n resumed) ts)
+alone-resumed n [] none = tt
+alone-resumed n (t ∷ ts) none = (on (eqb t.id n) refl, alone-resumed n ts none.1)
   where
-    on : (b : Bool) → eqb t.id n ≡ b → ((cond b (resumed t) t).field ≡ runs) ↔ ((cond b (resumed t) t).id ≡ n)
-    on true e = (λ is. eqb-true t.id n e, λ is. refl)
-    on false e = (λ is. absurd (none.0 is), λ is. (let here : eqb t.id n ≡ true = eq-eqb t.id n is in cc))
+    on : (b : Bool) → eqb t.id n ≡ b → (cond b (resumed t) t).field ≡ runs → (cond b (resumed t) t).id ≡ n
+    on true e = λ is. eqb-true t.id n e
+    on false e = λ is. absurd (none.0 is)
+
+pub alive-resumed : (n : ℕ) (ts : List Task) → AllByRecursion (RunsIf n) (map (change_of n resumed) ts)
+alive-resumed n [] = tt
+alive-resumed n (t ∷ ts) = (on (eqb t.id n) refl, alive-resumed n ts)
+  where
+    on : (b : Bool) → eqb t.id n ≡ b → (cond b (resumed t) t).id ≡ n → (cond b (resumed t) t).field ≡ runs
+    on true e = λ is. refl
+    on false e = λ is. (let here : eqb t.id n ≡ true = eq-eqb t.id n is in cc)
 
 module _ (ts : List Task) (t : Task) (is : find is_ready ts ≡ Some t) (apart : IsApart (map task_id ts)) where
   -- it was ready, and all others are what they were

@@ -7,9 +7,8 @@ use Rattle.std.proofs.lemmas.List.Folds.{list_any-append}
 use Rattle.guest_turns.specs.KernelCalls.LinkedList.Places.{insert_after, without_first}
 use Rattle.guest_turns.proofs.Shown.KernelCalls.LinkedList.AllMembers.{all-append}
 use Rattle.guest_turns.specs.KernelCalls.PacketQueue.QueueWords.{QueuedPacket}
-use Rattle.guest_turns.specs.KernelCalls.KernelModel.Between.{FaultsStand, has_unreported, is_unreported}
+use Rattle.guest_turns.specs.KernelCalls.KernelModel.Between.{FaultsStand, Tells, has_unreported, is_unreported}
 use Rattle.guest_turns.specs.KernelCalls.KernelModel.Changes.{change_of, queue_of, with_new_task, with_queue, with_task, with_work, work_of}
-use Rattle.guest_turns.specs.KernelCalls.KernelModel.Kernel.{Kernel}
 use Rattle.guest_turns.specs.KernelCalls.KernelModel.Lists.{Lists, has_task}
 use Rattle.guest_turns.specs.KernelCalls.KernelModel.MovedTask.{with_priority}
 use Rattle.guest_turns.specs.KernelCalls.KernelModel.Residents.{fault_packet}
@@ -22,11 +21,11 @@ use Rattle.guest_turns.specs.KernelCalls.PacketCalls.PacketMoves.{arrived, with_
 use Rattle.guest_turns.specs.KernelCalls.TaskCalls.ChangePri.{moved}
 use Rattle.guest_turns.specs.KernelCalls.TaskCalls.DeleteTask.{has_packet_out, resident_packets, without_task}
 use Rattle.cli_shell.proofs.Shown.KernelResidents.FaultReporter.FaultPacket.{free-is}
-use Rattle.cli_shell.proofs.Shown.KernelResidents.FaultReporter.FaultsKept.{FaultsHold, KeepsFault, Tells, any-new, map-faults, queue-faults, tells-same, there-same, work-keeps}
+use Rattle.cli_shell.proofs.Shown.KernelResidents.FaultReporter.FaultsKept.{KeepsFault, any-new, map-faults, queue-faults, tells-same, there-same, work-keeps}
 
 -- it is asked where a task reports faults
 abbrev pub HasRule : Lists → Type 0
-HasRule l = has_task 2 l.tasks ≡ true → FaultsHold l
+HasRule l = has_task 2 l.tasks ≡ true → FaultsStand l
 
 -- a task that is not there has no packets
 pub no-work : (id : ℕ) (ts : List Task) → has_task id ts ≡ false → work_of id ts ≡ []
@@ -37,15 +36,15 @@ no-work id (t ∷ ts) none = on (eqb t.id id) none (no-work id ts)
     on true e more = cc
     on false e more = more e
 
-pub rule-of : (k : Kernel) → FaultsStand k → HasRule k.lists
-rule-of k h = λ there. record { waits = h.waits; sender = h.sender }
+pub rule-of : (l : Lists) → FaultsStand l → HasRule l
+rule-of l h = λ there. h
 
-pub rule-stands : (k : Kernel) → HasRule k.lists → FaultsStand k
-rule-stands k h = on (has_task 2 k.lists.tasks) refl
+pub rule-stands : (l : Lists) → HasRule l → FaultsStand l
+rule-stands l h = on (has_task 2 l.tasks) refl
   where
-    on : (b : Bool) → has_task 2 k.lists.tasks ≡ b → FaultsStand k
-    on true there = (let x : FaultsHold k.lists = h there in record { waits = x.waits; sender = x.sender })
-    on false absent = record { waits = λ there. absurd (false≢true (sym absent ∙ there)); sender = subst (AllByRecursion (Tells k.lists.tasks)) (sym (no-work 2 k.lists.tasks absent)) tt }
+    on : (b : Bool) → has_task 2 l.tasks ≡ b → FaultsStand l
+    on true there = h there
+    on false absent = record { waits = λ there. absurd (false≢true (sym absent ∙ there)); sender = subst (AllByRecursion (Tells l.tasks)) (sym (no-work 2 l.tasks absent)) tt }
 
 -- ---- one task
 
@@ -74,14 +73,14 @@ one-rule l n f same h = λ there. map-faults l (change_of n f) keeps queues (h (
 
 -- ---- queues
 
-pub queue-rule : (l : Lists) (at : Place) (ps : List QueuedPacket) → (has_task 2 l.tasks ≡ true → FaultsHold l → at ≡ Work 2 → AllByRecursion (Tells l.tasks) ps) → HasRule l → HasRule (with_queue at ps l)
+pub queue-rule : (l : Lists) (at : Place) (ps : List QueuedPacket) → (has_task 2 l.tasks ≡ true → FaultsStand l → at ≡ Work 2 → AllByRecursion (Tells l.tasks) ps) → HasRule l → HasRule (with_queue at ps l)
 queue-rule l (Work i) ps new h = λ there.
     let before : has_task 2 l.tasks ≡ true = sym (there-same (with_work i ps) (work-keeps i ps) 2 l.tasks) ∙ there in
     queue-faults l i ps (λ e. new before (h before) (ap Work e)) (h before)
-queue-rule l Clock ps new h = λ there. let x : FaultsHold l = h there in record { waits = x.waits; sender = x.sender }
-queue-rule l Keyboard ps new h = λ there. let x : FaultsHold l = h there in record { waits = x.waits; sender = x.sender }
-queue-rule l Output ps new h = λ there. let x : FaultsHold l = h there in record { waits = x.waits; sender = x.sender }
-queue-rule l Pending ps new h = λ there. let x : FaultsHold l = h there in record { waits = x.waits; sender = x.sender }
+queue-rule l Clock ps new h = λ there. let x : FaultsStand l = h there in record { waits = x.waits; sender = x.sender }
+queue-rule l Keyboard ps new h = λ there. let x : FaultsStand l = h there in record { waits = x.waits; sender = x.sender }
+queue-rule l Output ps new h = λ there. let x : FaultsStand l = h there in record { waits = x.waits; sender = x.sender }
+queue-rule l Pending ps new h = λ there. let x : FaultsStand l = h there in record { waits = x.waits; sender = x.sender }
 
 -- another packet comes
 pub arrived-rule : (l : Lists) (at : Place) (p : QueuedPacket) → (has_task 2 l.tasks ≡ true → eqb p.address fault_packet ≡ false) → HasRule l → HasRule (with_arrived at p l)
@@ -122,7 +121,7 @@ fewer-work P n f same fewer (t ∷ ts) all = on (eqb t.id n) (eqb t.id 2) refl a
 pub fewer-rule : (l : Lists) (n : ℕ) (f : Task → Task) → ((t : Task) → (f t).id ≡ t.id) → ((t : Task) → (f t).fault ≡ t.fault) → ((t : Task) → AreFewer (f t).queue t.queue) → HasRule l → HasRule (with_task n f l)
 fewer-rule l n f id fault fewer h = λ there.
     let before : has_task 2 l.tasks ≡ true = sym (there-same (change_of n f) keeps 2 l.tasks) ∙ there in
-    let x : FaultsHold l = h before in
+    let x : FaultsStand l = h before in
     record {
       waits = λ _. x.waits before ∙ ap not (sym (any-new (change_of n f) keeps l.tasks));
       sender =
@@ -212,7 +211,7 @@ IsNew id t = eqb t.id id && is_guest_id id && is_unreported t
 -- a task comes that has no fault
 pub new-rule : (l : Lists) (t : Task) → is_unreported t ≡ false → eqb t.id 2 ≡ false → HasRule l → HasRule (with_new_task t l)
 new-rule l t none other h = λ there.
-    let x : FaultsHold l = h (sym (any-in (λ u. eqb u.id 2) _ t l.tasks ∙ ap (λ b. b || has_task 2 l.tasks) other) ∙ there) in
+    let x : FaultsStand l = h (sym (any-in (λ u. eqb u.id 2) _ t l.tasks ∙ ap (λ b. b || has_task 2 l.tasks) other) ∙ there) in
     record {
       waits = λ _.
           x.waits (sym (any-in (λ u. eqb u.id 2) _ t l.tasks ∙ ap (λ b. b || has_task 2 l.tasks) other) ∙ there)
@@ -238,7 +237,7 @@ moved-rule l pri n guest (Some t) is h = λ there.
     let m : Lists = moved pri (Some t) (without_first f l.tasks) l in
     let other : eqb u.id 2 ≡ false = not-reporter n guest t (find-passes f l.tasks t is) in
     let before : has_task 2 l.tasks ≡ true = sym (any-moved (λ v. eqb v.id 2) f _ t u l.tasks is refl) ∙ there in
-    let x : FaultsHold l = h before in
+    let x : FaultsStand l = h before in
     record {
       waits = λ _. x.waits before ∙ ap not (sym (any-moved is_unreported f _ t u l.tasks is refl));
       sender =
@@ -295,7 +294,7 @@ some-new id (t ∷ ts) e = on (IsNew id t) refl e (some-new id ts)
     on true is e more = or_left (is_unreported t) (list_any is_unreported ts) (and_parts (eqb t.id id && is_guest_id id) (is_unreported t) is).1
     on false is e more = or_right (is_unreported t) (list_any is_unreported ts) (more e)
 
-module _ (l : Lists) (n : ℕ) (v : AreValid l) (guest : is_guest_id n ≡ true) (out : has_packet_out l n ≡ false) (x : FaultsHold l) (there : has_task 2 l.tasks ≡ true) where
+module _ (l : Lists) (n : ℕ) (v : AreValid l) (guest : is_guest_id n ≡ true) (out : has_packet_out l n ≡ false) (x : FaultsStand l) (there : has_task 2 l.tasks ≡ true) where
   abbrev f : Task → Bool
   f = λ t. eqb t.id n
 
@@ -342,7 +341,7 @@ module _ (l : Lists) (n : ℕ) (v : AreValid l) (guest : is_guest_id n ≡ true)
       some true e = sym e
       some false e = absurd (false≢true (sym busy ∙ free-is l there false v e))
 
-  gone-hold : FaultsHold m
+  gone-hold : FaultsStand m
   gone-hold = record {
     waits = λ _. waits-still l.fault_packet_free refl;
     sender = subst (AllByRecursion (Tells m.tasks)) (sym (work-out 2 f (not-reporter n guest) l.tasks)) told;

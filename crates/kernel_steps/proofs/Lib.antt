@@ -11,6 +11,7 @@ pub mod DeviceRules
 pub mod FaultCodes
 pub mod TurnWays
 pub mod TurnKept
+pub mod OwnersRules
 pub mod TurnRules
 pub mod NextTick
 pub mod DevicesKept

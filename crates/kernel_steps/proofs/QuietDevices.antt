@@ -7,7 +7,7 @@ use Rattle.guest_turns.specs.KernelCalls.KernelModel.Kernel.{Kernel}
 use Rattle.guest_turns.specs.KernelCalls.KernelModel.Lists.{Lists}
 use Rattle.guest_turns.specs.KernelCalls.KernelModel.ValidQueues.{NeverFall}
 use Rattle.guest_turns.specs.KernelCalls.PacketCalls.Returned.{first_returned, unserved}
-use Rattle.guest_turns.specs.KernelCalls.PacketCalls.declared.returns.Device.TheVariants.{OfKeys, OfOutput}
+use Rattle.guest_turns.specs.KernelCalls.PacketCalls.declared.returns.Device.TheVariants.{Keyboard, Output}
 use Rattle.kernel_devices.specs.ClockDevice.Tick.{events_of_return, is_first_due, ticked, with_returned, with_tick}
 use Rattle.kernel_devices.proofs.Shown.ClockDevice.ReturnedPackets.{all-later}
 use Rattle.kernel_devices.proofs.Shown.ClockDevice.TickLists.{tick-changed, tick-owned}
@@ -69,7 +69,7 @@ unmet bytes l (inl none) = (without bytes, ap (left_typed bytes) none)
   where
     without : (bytes : List ℕ) → met bytes l ≡ unserved l
     without [] = refl
-    without (byte ∷ rest) = ap (λ ps. first_returned OfKeys byte ps l) none
+    without (byte ∷ rest) = ap (λ ps. first_returned Keyboard byte ps l) none
 unmet bytes l (inr none) = (ap (λ b. met b l) none, ap (λ b. left_typed b l.keyboard) none ∙ left l.keyboard ∙ sym none)
   where
     left : (ps : List QueuedPacket) → left_typed [] ps ≡ []
@@ -87,5 +87,5 @@ key-stays s k h none after =
 pub output-stays : (s : List ℕ) (k : Kernel) → HasStore s k → k.lists.output ≡ [] → output k ≡ quietly k
 unfolding output
 output-stays s k h none =
-    (λ i. record (served k (first_returned OfOutput 0 (none i) k.lists)) { bytes = printed (image k) (none i) })
+    (λ i. record (served k (first_returned Output 0 (none i) k.lists)) { bytes = printed (image k) (none i) })
     ∙ ap (λ (x : Stepped). record x { bytes = [] }) (unserved-stays s k h)

@@ -1,5 +1,5 @@
 -- A dispatch that changes nothing: the first ready task runs already.
-use Rattle.std.proofs.Common.{◌≡◌, ◌↔◌, ℕ, Option, Some, None, List, [], ◌∷◌, cond, eqb, map, refl, sym, ap, ◌∙◌}
+use Rattle.std.proofs.Common.{◌≡◌, ℕ, Option, Some, None, List, [], ◌∷◌, cond, eqb, map, refl, sym, ap, ◌∙◌}
 use Rattle.std.specs.Option.{option_map_or}
 use Rattle.std.proofs.lemmas.Bool.{and_from, eq-eqb}
 use Rattle.word_store.specs.declared.registers.Regs.{Regs}
@@ -26,8 +26,8 @@ module _ (words : List ℕ) (l : Lists) (r : Regs) (h : RunsFirst l r) (v : AreV
   somebody-stays : (t : Task) → first_ready_task l ≡ Some t → dispatched words l r ≡ unchanged l r
   unfolding dispatched
   somebody-stays t is =
-      let same : t.id ≡ l.running = ap (λ o. option_map_or task_id o 0) (sym is) ∙ sym h.running in
-      let field : t.field ≡ runs = (found-holds (λ u. (u.field ≡ runs) ↔ (u.id ≡ l.running)) is_ready l.tasks t is h.field).1 same in
+      let same : t.id ≡ l.running = ap (λ o. option_map_or task_id o 0) (sym is) ∙ sym h.runs.running in
+      let field : t.field ≡ runs = found-holds (λ u. u.id ≡ l.running → u.field ≡ runs) is_ready l.tasks t is h.runs.alive same in
       ap (λ o. cond (goes_on l o) (unchanged l r) (with_next words (with_suspended r l) (first_ready_task (with_suspended r l)))) is
       ∙ ap (λ b. cond b (unchanged l r) (with_next words (with_suspended r l) (first_ready_task (with_suspended r l))))
       (and_from (eqb t.id l.running) (eqb t.field 0) (eq-eqb t.id l.running same) (eq-eqb t.field 0 field))
@@ -36,11 +36,11 @@ module _ (words : List ℕ) (l : Lists) (r : Regs) (h : RunsFirst l r) (v : AreV
   nobody-stays : first_ready_task l ≡ None → dispatched words l r ≡ unchanged l r
   unfolding dispatched
   nobody-stays none =
-      let zero : l.running ≡ 0 = h.running ∙ ap (λ o. option_map_or task_id o 0) none in
+      let zero : l.running ≡ 0 = h.runs.running ∙ ap (λ o. option_map_or task_id o 0) none in
       let same : with_suspended r l ≡ l =
       ap (λ i. with_tasks (map (change_of i (suspended r)) l.tasks) l) zero ∙ ap (λ ts. with_tasks ts l) (change-none 0 (suspended r) l.tasks (none-runs l (task-places l v)))
       in
-      let idle : r ≡ no_regs = h.idle (ap is_guest_id zero) in
+      let idle : r ≡ no_regs = h.registers.idle (ap is_guest_id zero) in
       ap (λ o. cond (goes_on l o) (unchanged l r) (with_next words (with_suspended r l) (first_ready_task (with_suspended r l)))) none
       ∙ ap (λ m. with_next words m (first_ready_task m)) same
       ∙ ap (λ o. with_next words l o) none

@@ -29,7 +29,7 @@ quiet-valid k i j t h goes few turned v disc is store =
     let taken : IsTaken k =
     record {
       turned = subst (λ (x : Stepped). AreValid x.kernel.lists) (sym turned) v;
-      disc = subst (λ (x : Stepped). IsDisc x.kernel.disc) (sym turned) (subst IsDisc (sym disc) h.residents.disc);
+      disc = subst (λ (x : Stepped). IsDisc x.kernel.disc) (sym turned) (subst IsDisc (sym disc) h.residents.disc.valid);
       lists = subst (λ (x : Stepped). AreValid x.kernel.lists) (sym is) store.valid;
       plain = subst (λ (x : Stepped). HasPlainWords x.kernel) (sym is) store.plain;
     } in
@@ -39,7 +39,7 @@ quiet-valid k i j t h goes few turned v disc is store =
 
 pub idle-valid : (m : ℕ) (k : Kernel) → IsValid k → k.stop ≡ None → k.lists.running ≡ 0 → k.steps + m ≤ most_steps → IsQuietFor m k
     → IsValid (passed m k)
-idle-valid zero k h goes none few q = subst IsValid (sym (passed-none k (h.running goes).tick)) h
+idle-valid zero k h goes none few q = subst IsValid (sym (passed-none k (h.ticks goes))) h
 idle-valid (suc m) k h goes none few q =
     let ready = valid-ready k h goes in
     let some : 0 < k.lists.period = some-period k.lists h.lists in

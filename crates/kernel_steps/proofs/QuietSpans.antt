@@ -19,7 +19,7 @@ use Rattle.kernel_steps.proofs.StoredWords.{valid-store}
 
 -- between steps a valid kernel is ready for one
 pub valid-ready : (k : Kernel) → IsValid k → k.stop ≡ None → IsReady (image k) k
-valid-ready k h goes = record { store = valid-store k h; runs = valid-runs k h goes; ticks = (h.running goes).tick; goes = goes }
+valid-ready k h goes = record { store = valid-store k h; runs = valid-runs k h goes; ticks = h.ticks goes; goes = goes }
 
 -- ---- shorter spans, and what is left of one
 

@@ -1,12 +1,15 @@
 -- A step in which no device acts.
 use Rattle.std.proofs.Common.{◌≡◌, ℕ, ◌+◌, ◌/◌, ◌⊎◌, true, None, List, [], cond, set, refl, sym, ap, ◌∙◌, subst}
 use Rattle.std.specs.Prelude.{is_some}
+use Rattle.word_store.specs.declared.registers.Regs.{Regs}
 use Rattle.cint_exec.specs.declared.Outcome.TheVariants.{Next}
 use Rattle.guest_turns.specs.KernelCalls.KernelModel.HoldsLists.{HoldsLists}
 use Rattle.guest_turns.specs.KernelCalls.KernelModel.Image.{image, word_of}
 use Rattle.guest_turns.specs.KernelCalls.KernelModel.Kernel.{Kernel}
+use Rattle.guest_turns.specs.KernelCalls.KernelModel.Lists.{Lists}
 use Rattle.guest_turns.specs.KernelCalls.KernelModel.Task.{is_guest_id}
 use Rattle.guest_turns.specs.KernelCalls.KernelDispatch.Dispatch.{CanDispatch}
+use Rattle.kernel_devices.specs.ClockDevice.Tick.{with_tick}
 use Rattle.guest_turns.specs.Guarded.{is_owned}
 use Rattle.guest_turns.proofs.GuardedLists.{holds-kept}
 use Rattle.guest_turns.proofs.MarkedWords.{keeps-marked}
@@ -26,6 +29,13 @@ use Rattle.kernel_steps.proofs.TurnWays.{guest-goes, turn-guest, turn-nobody}
 
 -- ---- behind the turn
 
+-- the ticks are no part of what says who runs
+runs-ticked : (l : Lists) (r : Regs) (now : ℕ) → RunsFirst l r → RunsFirst (with_tick now l) r
+runs-ticked l r now h = record {
+  runs = record { running = h.runs.running; alone = h.runs.alone; alive = h.runs.alive };
+  registers = record { byte = h.registers.byte; idle = h.registers.idle };
+}
+
 -- the kernel behind a turn, in a step in which no device acts
 record IsQuiet (s : List ℕ) (k : Kernel) (n : ℕ) : Type 0 where
   store : HasStore s k
@@ -43,7 +53,7 @@ quiet-rest s k n q =
     let j : Kernel = ticks_to now k in
     let t : List ℕ = set s 108 now in
     let store : HasStore t j = ticked-store s k q.store now in
-    let runs : RunsFirst j.lists j.regs = record { running = q.runs.running; field = q.runs.field; byte = q.runs.byte; idle = q.runs.idle } in
+    let runs : RunsFirst j.lists j.regs = runs-ticked k.lists k.regs now q.runs in
     let ticked : tick k ≡ quietly j = tick-stays s k q.store now (tick-periods k n (some-period k.lists q.store.valid) q.steps q.ticks) q.clock in
     ap (λ x. and_then (and_then (and_then x key) output) dispatch) ticked
     ∙ ap (λ x. and_then (and_then x output) dispatch) (key-stays t j store q.keyboard q.keys)
@@ -97,7 +107,7 @@ module _ (s : List ℕ) (k : Kernel) (h : IsReady s k) (none : k.lists.running �
   pub idle-ready : IsReady (set s 108 ((k.steps + 1) / k.lists.period)) (passed 1 k)
   idle-ready = record {
     store = ticked-store s (with_step k) (other-steps s k (k.steps + 1) h.store) ((k.steps + 1) / k.lists.period);
-    runs = record { running = h.runs.running; field = h.runs.field; byte = h.runs.byte; idle = h.runs.idle };
+    runs = runs-ticked k.lists k.regs ((k.steps + 1) / k.lists.period) h.runs;
     ticks = refl;
     goes = h.goes;
   }
@@ -125,8 +135,8 @@ module _ (s : List ℕ) (k : Kernel) (h : IsReady s k) (guest : is_guest_id k.li
   left-runs : RunsFirst left.lists left.regs
   left-runs =
       let can : CanDispatch left.lists left.regs =
-      subst (λ m. CanDispatch m.lists m.regs) turn-next (turn-dispatches (image k) k.lists k.regs (runs-alone k.lists k.regs h.runs) (runs-calls k.lists k.regs h.runs h.store.valid guest) h.runs.byte) in
-      record { running = h.runs.running; field = h.runs.field; byte = can.byte; idle = can.idle }
+      subst (λ m. CanDispatch m.lists m.regs) turn-next (turn-dispatches (image k) k.lists k.regs (runs-alone k.lists k.regs h.runs) (runs-calls k.lists k.regs h.runs h.store.valid guest) h.runs.registers.byte) in
+      record { runs = h.runs.runs; registers = can.registers }
 
   pub guest-step : IsQuietFor 1 k → step k ≡ quietly (with_ticks left)
   guest-step q =

@@ -1,5 +1,5 @@
 -- Where the first ready task runs, and it is a guest, it may make a call.
-use Rattle.std.proofs.Common.{◌≡◌, ◌≢◌, ◌↔◌, ℕ, true, false, None, sym, ap, ◌∙◌, subst, arith, inl, inr}
+use Rattle.std.proofs.Common.{◌≡◌, ◌≢◌, ℕ, true, false, None, sym, ap, ◌∙◌, subst, arith, inl, inr}
 use Rattle.std.specs.List.{AllByRecursion}
 use Rattle.std.proofs.lemmas.Bool.{leb-true}
 use Rattle.word_store.specs.declared.registers.Regs.{Regs}
@@ -8,34 +8,31 @@ use Rattle.guest_turns.specs.KernelCalls.KernelModel.Lists.{Lists, has_task}
 use Rattle.guest_turns.specs.KernelCalls.KernelModel.Task.{is_guest_id}
 use Rattle.guest_turns.specs.KernelCalls.KernelModel.ValidKernel.{IsValid}
 use Rattle.guest_turns.specs.KernelCalls.KernelModel.ValidLists.{AreValid}
-use Rattle.guest_turns.specs.KernelCalls.KernelModel.ValidTasks.{runs}
-use Rattle.guest_turns.proofs.Shown.KernelCalls.KernelModel.EachMember.{all-each}
 use Rattle.guest_turns.specs.KernelCalls.KernelDispatch.Dispatch.{CanDispatch}
 use Rattle.guest_turns.specs.KernelCalls.CallAnswers.Callers.{HasCaller}
 use Rattle.cli_shell.specs.KernelResidents.ResidentRequests.Requests.{RunsResident}
-use Rattle.guest_turns.specs.GuestTurn.{Numbers, RunsAlone}
-use Rattle.guest_turns.proofs.RunningField.{RunsAs, RunsIn}
+use Rattle.guest_turns.specs.GuestTurn.{Numbers}
+use Rattle.guest_turns.specs.KernelCalls.KernelModel.Running.{RunsAlone, RunsAs}
+use Rattle.guest_turns.proofs.RunningField.{RunsIn}
 use Rattle.kernel_steps.specs.Parts.{RunsFirst}
 
 -- between steps it does
 pub valid-runs : (k : Kernel) → IsValid k → k.stop ≡ None → RunsFirst k.lists k.regs
-valid-runs k h goes =
-    let first = h.running goes in
-    record { running = first.running; field = first.field; byte = h.registers.byte; idle = h.registers.idle }
+valid-runs k h goes = record { runs = h.running goes; registers = h.registers }
 
 module _ (l : Lists) (r : Regs) (h : RunsFirst l r) where
   pub runs-alone : RunsAlone l
-  runs-alone = all-each (λ t. (t.field ≡ runs) ↔ (t.id ≡ l.running)) (λ t. t.field ≡ runs → t.id ≡ l.running) (λ t h. h.0) l.tasks h.field
+  runs-alone = h.runs.alone
 
   pub runs-dispatches : CanDispatch l r
-  runs-dispatches = record { field = runs-alone; byte = h.byte; idle = h.idle }
+  runs-dispatches = record { field = h.runs.alone; registers = h.registers }
 
   pub runs-calls : AreValid l → is_guest_id l.running ≡ true → HasCaller l
   runs-calls v guest =
       record {
         guest = guest;
         there = elim v.queues.running [ inl none ↦ absurd (omega (arith, none, leb-true 5 l.running guest)) | inr some ↦ some ];
-        field = all-each (λ t. (t.field ≡ runs) ↔ (t.id ≡ l.running)) (λ t. t.id ≡ l.running → t.field ≡ runs) (λ t h. h.1) l.tasks h.field;
+        field = h.runs.alive;
       }
 
   -- where a task runs it is there
@@ -47,7 +44,7 @@ module _ (l : Lists) (r : Regs) (h : RunsFirst l r) where
       record {
         resident = resident;
         there = elim v.queues.running [ inl none ↦ absurd (some none) | inr there ↦ there ];
-        field = all-each (λ t. (t.field ≡ runs) ↔ (t.id ≡ l.running)) (λ t. t.id ≡ l.running → t.field ≡ runs) (λ t h. h.1) l.tasks h.field;
+        field = h.runs.alive;
       }
 
 -- the same task runs
@@ -56,6 +53,5 @@ dispatch-after nums l m r can same h =
     let here : m.running ≡ nums.running = ap (λ n. n.running) h.numbers in
     record {
       field = subst (λ i. AllByRecursion (RunsAs i) m.tasks) (sym here) h.alone;
-      byte = can.byte;
-      idle = λ none. can.idle (ap is_guest_id (sym (here ∙ same)) ∙ none);
+      registers = record { byte = can.registers.byte; idle = λ none. can.registers.idle (ap is_guest_id (sym (here ∙ same)) ∙ none) };
     }

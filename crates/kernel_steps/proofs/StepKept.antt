@@ -4,7 +4,7 @@ use Rattle.std.specs.Prelude.{is_some}
 use Rattle.std.specs.List.{AllByRecursion}
 use Rattle.guest_turns.specs.KernelCalls.KernelModel.Ranges.{most_steps}
 use Rattle.ram_disc.specs.Disc.{IsDisc}
-use Rattle.guest_turns.specs.KernelCalls.KernelModel.Between.{RunsFirstReady}
+use Rattle.guest_turns.specs.KernelCalls.KernelModel.Between.{FirstRuns, ResidentsStand}
 use Rattle.guest_turns.specs.KernelCalls.KernelModel.Image.{HasPlainWords, image, settled}
 use Rattle.guest_turns.specs.KernelCalls.KernelModel.Kernel.{Kernel}
 use Rattle.guest_turns.specs.KernelCalls.KernelModel.declared.stops.Stop.{Stop}
@@ -14,13 +14,14 @@ use Rattle.guest_turns.specs.KernelCalls.KernelDispatch.Dispatch.{CanDispatch}
 use Rattle.kernel_devices.specs.ClockDevice.Tick.{ticked}
 use Rattle.kernel_devices.specs.TtyDevice.Keys.{met}
 use Rattle.guest_turns.specs.GuestTurn.{Numbers, numbers_of}
-use Rattle.kernel_steps.specs.Parts.{CanTurn, HasSameKeys, HasSameResidents, IsSameMachine, IsTaken, RulesStand, RunsFirst, numbers_after_tick}
+use Rattle.kernel_steps.specs.Parts.{CanTurn, HasSameKeys, HasSameResidents, IsSameMachine, IsSameSystem, IsTaken, RunsFirst, numbers_after_tick}
 use Rattle.kernel_steps.specs.Step.{after_the_turn, and_then, dispatch, key, output, quietly, served, step, tick, turn, unless_stopped, where_due, with_key_typed, with_step}
 use Rattle.kernel_steps.proofs.CallRules.{KeepsRules, keeps-none}
 use Rattle.kernel_steps.proofs.DeviceRules.{NoDeviceHas, dispatch-keeps, finished-output-keeps, met-devices, met-keeps, no-device-has, tick-keeps, ticked-devices}
 use Rattle.kernel_steps.proofs.DevicesKept.{key-ahead, key-dispatch, key-keys, key-numbers, key-residents, key-same, output-dispatch, output-keys, output-numbers, output-residents, output-same, tick-dispatch, tick-keys, tick-numbers, tick-residents, tick-same, typed-lists}
 use Rattle.kernel_steps.proofs.DispatchKept.{dispatch-numbers, runs-first}
 use Rattle.kernel_steps.proofs.NextTick.{some-period, tick-periods}
+use Rattle.kernel_steps.proofs.OwnersRules.{system-of}
 use Rattle.kernel_steps.proofs.RunningCaller.{valid-runs, runs-dispatches}
 use Rattle.kernel_steps.proofs.TurnKept.{numbers-turn, turn-dispatch, turn-keys, turn-same}
 use Rattle.kernel_steps.proofs.TurnRules.{rules-kept, turn-rules}
@@ -30,24 +31,27 @@ use Rattle.kernel_steps.proofs.TurnRules.{rules-kept, turn-rules}
 -- the kernel j inside a step that began with k, or at its end
 pub record IsAmid (k j : Kernel) : Type 0 where
   pub same : IsSameMachine k j
-  pub version : j.lists.version ≡ k.lists.version
-  pub residents : j.lists.residents ≡ k.lists.residents
+  pub system : IsSameSystem k.lists j.lists
   pub period : j.lists.period ≡ k.lists.period
   pub keys : AllByRecursion (λ key. key.0 ≤ most_steps) j.keys
-  pub rules : RulesStand j
+  pub rules : ResidentsStand j
   pub can : CanDispatch j.lists j.regs
 
+-- what a dispatch leaves
+record IsDispatched (j : Kernel) : Type 0 where
+  pub ticks : j.lists.tick ≡ j.steps / j.lists.period
+  pub runs : FirstRuns j.lists
+
 -- what is valid of it
-pub amid-valid : (k j : Kernel) → IsAmid (with_step k) j → k.steps < most_steps → AreValid j.lists → HasPlainWords j → (j.stop ≡ None → RunsFirstReady j) → IsValid j
-amid-valid k j m few v plain runs =
+pub amid-valid : (k j : Kernel) → IsAmid (with_step k) j → k.steps < most_steps → AreValid j.lists → HasPlainWords j → (j.stop ≡ None → IsDispatched j) → IsValid j
+amid-valid k j m few v plain on =
     record {
       lists = v;
       plain = plain;
-      running = runs;
-      registers = record { byte = m.can.byte; idle = m.can.idle };
-      faults = m.rules.faults;
-      residents = m.rules.residents;
-      pipes = m.rules.pipes;
+      ticks = λ goes. (on goes).ticks;
+      running = λ goes. (on goes).runs;
+      registers = m.can.registers;
+      residents = m.rules;
       steps = record { steps = omega (arith, few, m.same.steps); keys = m.keys };
     }
 
@@ -57,13 +61,13 @@ amid-valid k j m few v plain runs =
 amid-then : (k i j : Kernel) (n : Numbers) → IsAmid k i → IsSameMachine i j → HasSameResidents i j → numbers_of j.lists ≡ n → n.version ≡ i.lists.version → n.residents ≡ i.lists.residents → n.period ≡ i.lists.period
     → AllByRecursion (λ key. key.0 ≤ most_steps) j.keys → length j.type_ahead ≤ 128 → KeepsRules i.lists j.lists → CanDispatch j.lists j.regs → IsAmid k j
 amid-then k i j n a same residents numbers version there period keys ahead keeps can =
+    let system : IsSameSystem i.lists j.lists = record { version = ap (λ x. x.version) numbers ∙ version; residents = ap (λ x. x.residents) numbers ∙ there } in
     record {
       same = record { steps = same.steps ∙ a.same.steps };
-      version = ap (λ x. x.version) numbers ∙ version ∙ a.version;
-      residents = ap (λ x. x.residents) numbers ∙ there ∙ a.residents;
+      system = record { version = system.version ∙ a.system.version; residents = system.residents ∙ a.system.residents };
       period = ap (λ x. x.period) numbers ∙ period ∙ a.period;
       keys = keys;
-      rules = rules-kept i j residents (ap (λ x. x.version) numbers ∙ version) (ap (λ x. x.residents) numbers ∙ there) keeps ahead a.rules;
+      rules = rules-kept i j residents system keeps ahead a.rules;
       can = can;
     }
 
@@ -72,7 +76,7 @@ amid-beside : (k i j : Kernel) (n : Numbers) → IsAmid k i → IsSameMachine i 
     → HasSameKeys i j → KeepsRules i.lists j.lists → CanDispatch j.lists j.regs → IsAmid k j
 amid-beside k i j n a same residents numbers version there period keys keeps can =
     amid-then k i j n a same residents numbers version there period (subst (AllByRecursion (λ key. key.0 ≤ most_steps)) (sym keys.keys) a.keys)
-    (omega (arith, a.rules.residents.ahead, ap length keys.ahead)) keeps can
+    (omega (arith, a.rules.ahead, ap length keys.ahead)) keeps can
 
 -- ---- the parts
 
@@ -99,7 +103,7 @@ module _ (k j : Kernel) (a : IsAmid k j) (has : NoDeviceHas j.lists) where
   amid-key : IsAmid k (key j).kernel
   amid-key =
       amid-then k j (key j).kernel (numbers_of j.lists) a (key-same j) (key-residents j) (key-numbers j a.can) refl refl refl (key-keys j (λ key. key.0 ≤ most_steps) a.keys)
-      (key-ahead j a.rules.residents.ahead) key-lists.0 (key-dispatch j a.can)
+      (key-ahead j a.rules.ahead) key-lists.0 (key-dispatch j a.can)
 
   output-lists : KeepsRules j.lists (output j).kernel.lists
   unfolding output settled
@@ -150,7 +154,7 @@ step-turns k h goes =
       goes = goes;
       lists = h.lists;
       first = valid-runs k h goes;
-      rules = rules-kept k (with_step k) (record { console = refl; shell = refl; disc = refl; pipes = refl }) refl refl (keeps-none k.lists) h.residents.ahead (record { faults = h.faults; residents = h.residents; pipes = h.pipes });
+      rules = rules-kept k (with_step k) (record { console = refl; shell = refl; disc = refl; pipes = refl }) (record { version = refl; residents = refl }) (keeps-none k.lists) h.residents.ahead h.residents;
     }
 
 module _ (k : Kernel) (h : IsValid k) (goes : k.stop ≡ None) where
@@ -180,8 +184,7 @@ module _ (k : Kernel) (h : IsValid k) (goes : k.stop ≡ None) where
         let numbers = numbers-turn first can in
         record {
           same = turn-same first;
-          version = ap (λ n. n.version) numbers;
-          residents = ap (λ n. n.residents) numbers;
+          system = system-of first.lists turned.lists numbers;
           period = ap (λ n. n.period) numbers;
           keys = subst (AllByRecursion (λ key. key.0 ≤ most_steps)) (sym keys.keys) h.steps.keys;
           rules = turn-rules first can disc;
@@ -205,7 +208,7 @@ module _ (k : Kernel) (h : IsValid k) (goes : k.stop ≡ None) where
 
     -- the ticks
     turned-ticks : turned.lists.tick ≡ k.steps / turned.lists.period
-    turned-ticks = ap (λ n. n.tick) (numbers-turn (with_step k) can) ∙ (h.running goes).tick ∙ ap (λ p. k.steps / p) (sym amid-turned.period)
+    turned-ticks = ap (λ n. n.tick) (numbers-turn (with_step k) can) ∙ h.ticks goes ∙ ap (λ p. k.steps / p) (sym amid-turned.period)
 
     period-turned : 0 < turned.lists.period
     period-turned = omega (arith, amid-turned.period, some-period k.lists h.lists)
@@ -229,8 +232,8 @@ module _ (k : Kernel) (h : IsValid k) (goes : k.stop ≡ None) where
           ap (λ n. n.tick) (dispatch-lists served_all) ∙ ticks-served
           ∙ (λ i. (amid-turned.same.steps ∙ sym amid-last.same.steps) i / (amid-turned.period ∙ sym amid-last.period) i)
 
-      runs-last : RunsFirstReady last
-      runs-last = (let r : RunsFirst last.lists last.regs = dispatch-runs served_all amid-served.can w in record { tick = ticks-last; running = r.running; field = r.field })
+      runs-last : IsDispatched last
+      runs-last = record { ticks = ticks-last; runs = (dispatch-runs served_all amid-served.can w).runs }
 
     module _ (few : k.steps < most_steps) where
       abbrev IsLeft : Kernel → Type 0

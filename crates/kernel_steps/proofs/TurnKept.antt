@@ -75,7 +75,7 @@ module _ (k : Kernel) (can : CanTurn k) where
       let s : List ℕ = image k in
       let alone = runs-alone k.lists k.regs can.first in
       let m : Turned = turn_without_reporter s k.lists k.regs in
-      let dispatch : CanDispatch m.lists m.regs = turn-dispatches s k.lists k.regs alone (runs-calls k.lists k.regs can.first can.lists guest) can.first.byte in
+      let dispatch : CanDispatch m.lists m.regs = turn-dispatches s k.lists k.regs alone (runs-calls k.lists k.regs can.first can.lists guest) can.first.registers.byte in
       let numbers : numbers_of m.lists ≡ numbers_of k.lists = turn-numbers s k.lists k.regs alone in
       guest-ways (λ x. Goes k (after_turn k x).kernel) s k.lists k.regs (record { dispatch = dispatch; numbers = numbers })
       (λ f is. record { dispatch = recorded-dispatch m.lists f m.regs dispatch; numbers = recorded-numbers f m.lists ∙ numbers })
@@ -93,11 +93,11 @@ module _ (k : Kernel) (can : CanTurn k) where
   now : RunsIn (numbers_of k.lists) k.lists
   now = record { numbers = refl; alone = runs-alone k.lists k.regs can.first }
 
-  pub console-stands : k.lists.running ≡ 3 → IsKept (numbers_of k.lists) (console_parts k)
-  console-stands three =
+  pub console-turned : k.lists.running ≡ 3 → IsKept (numbers_of k.lists) (console_parts k)
+  console-turned three =
       let there : has_task 3 k.lists.tasks ≡ true = residents-there k.lists k.regs can.first can.lists 3 (λ e. cc) three in
-      console-kept (awaited k.shell.mode) (image k) k.lists k.console k.shell.line can.lists (sym can.lists.tasks.console ∙ there) there three (runs-alone k.lists k.regs can.first) (rule-of k can.rules.faults)
-      can.rules.residents.line can.rules.residents.command
+      console-kept (awaited k.shell.mode) (image k) k.lists k.console k.shell.line can.lists (sym can.lists.tasks.console ∙ there) there three (runs-alone k.lists k.regs can.first) (rule-of k.lists can.rules.faults)
+      can.rules.console.line can.rules.shell.line
 
   shell-kept : k.lists.running ≡ 1 → Goes k (shell_step k).kernel
   shell-kept one =
@@ -114,7 +114,7 @@ module _ (k : Kernel) (can : CanTurn k) where
         guest = guest-kept;
         shell = shell-kept;
         reporter = λ two. stays _ (report-runs (numbers_of k.lists) (image k) k.lists now) _ refl refl;
-        console = λ three. stays _ (console-stands three).runs _ refl refl;
+        console = λ three. stays _ (console-turned three).runs _ refl refl;
         files = λ four. stays _ (request-runs (numbers_of k.lists) k.lists now (file_service k.disc) (image k)) _ refl refl;
         pipes = λ four two. stays _ (request-runs (numbers_of k.lists) k.lists now (pipe_service k.pipes) (image k)) _ refl refl;
         nobody = λ none. stays k.lists now k refl refl;

@@ -24,11 +24,15 @@ AreDueAfter n (p ∷ ps) = n < p.last
 abbrev pub AwaitsTick : ℕ → Lists → Type 0
 AwaitsTick now l = AreDueAfter now l.clock ⊎ (now ≡ l.tick)
 
--- in the next m steps nothing is printed, no byte meets a packet, no key comes, and no packet is returned by the clock
+-- no device acts in the next m steps
 pub record IsQuietFor (m : ℕ) (k : Kernel) : Type 0 where
+  -- nothing is printed
   pub output : k.lists.output ≡ []
+  -- no byte meets a packet
   pub keyboard : (k.lists.keyboard ≡ []) ⊎ (k.type_ahead ≡ [])
+  -- no key comes
   pub keys : ComeAfter (k.steps + m) k.keys
+  -- no packet is returned by the clock
   pub clock : AwaitsTick ((k.steps + m) / k.lists.period) k.lists
 
 -- the kernel with the whole periods of its steps as its ticks

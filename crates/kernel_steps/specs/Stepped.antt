@@ -5,10 +5,13 @@ use Rattle.guest_turns.specs.KernelCalls.KernelModel.Image.{plain_words}
 use Rattle.guest_turns.specs.KernelCalls.KernelModel.Kernel.{Kernel}
 use Rattle.guest_turns.specs.KernelCalls.KernelModel.Lists.{Lists}
 
--- the kernel after a part of a step, the bytes that went to the console, and the events
+-- what a part of a step leaves
 pub record Stepped : Type 0 where
+  -- the kernel
   pub kernel : Kernel
+  -- the bytes that went to the console
   pub bytes : List ℕ
+  -- the events, in their order
   pub events : List KernelEvent
 
 -- nothing is shown or noted

@@ -1,14 +1,16 @@
 // What a turn leaves.
 ghost use Rattle.std.specs.Prelude.{◌≡◌, None, true};
 ghost use Rattle.ram_disc.specs.Disc.{IsDisc};
+ghost use Rattle.guest_turns.specs.KernelCalls.KernelModel.Between.{ResidentsStand};
 ghost use Rattle.guest_turns.specs.KernelCalls.KernelModel.Kernel.{Kernel};
 ghost use Rattle.guest_turns.specs.KernelCalls.KernelModel.Task.{is_guest_id};
 ghost use Rattle.guest_turns.specs.KernelCalls.KernelModel.ValidKernel.{IsValid};
 ghost use Rattle.guest_turns.specs.KernelCalls.KernelModel.ValidLists.{AreValid};
 ghost use Rattle.guest_turns.specs.KernelCalls.CallAnswers.Callers.{HasCaller};
 ghost use Rattle.guest_turns.specs.KernelCalls.KernelDispatch.Dispatch.{CanDispatch};
-ghost use Rattle.guest_turns.specs.GuestTurn.{RunsAlone, numbers_of};
-ghost use Rattle.kernel_steps.specs.Parts.{CanTurn, HasSameKeys, IsSameMachine, RulesStand, RunsFirst};
+ghost use Rattle.guest_turns.specs.GuestTurn.{numbers_of};
+ghost use Rattle.guest_turns.specs.KernelCalls.KernelModel.Running.{RunsAlone};
+ghost use Rattle.kernel_steps.specs.Parts.{CanTurn, HasSameKeys, IsSameMachine, RunsFirst};
 ghost use Rattle.kernel_steps.specs.Step.{quietly, turn};
 
 /// Between steps the first ready task runs. Where that is a guest, it may make a call.
@@ -29,7 +31,7 @@ pub fn turn_law()
     ensures numbers { (k : Kernel) → CanTurn k
         → numbers_of (turn k).kernel.lists ≡ numbers_of k.lists }
     ensures rules { (k : Kernel) → CanTurn k → IsDisc (turn k).kernel.disc
-        → RulesStand (turn k).kernel }
+        → ResidentsStand (turn k).kernel }
     ensures same { (k : Kernel) → IsSameMachine k (turn k).kernel }
     ensures keys { (k : Kernel) → HasSameKeys k (turn k).kernel }
     ensures nobody { (k : Kernel) → k.lists.running ≡ 0 → turn k ≡ quietly k }

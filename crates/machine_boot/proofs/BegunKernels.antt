@@ -11,7 +11,7 @@ use Rattle.kernel_machine.specs.KernelCalls.KernelModel.Image.{image}
 use Rattle.kernel_machine.specs.KernelCalls.KernelModel.Kernel.{Kernel}
 use Rattle.kernel_machine.specs.KernelCalls.KernelModel.Pipes.{no_pipes}
 use Rattle.kernel_machine.specs.KernelCalls.KernelModel.Task.{is_guest_id}
-use Rattle.kernel_machine.specs.KernelCalls.KernelModel.ValidKernel.{no_command, no_line}
+use Rattle.kernel_machine.specs.KernelCalls.KernelModel.Kernel.{no_command, no_line}
 use Rattle.kernel_machine.specs.KernelCalls.KernelModel.ValidTasks.{no_regs, runs}
 use Rattle.kernel_machine.proofs.Shown.KernelCalls.KernelModel.EachMember.{all-each}
 use Rattle.kernel_machine.specs.KernelCalls.KernelDispatch.Dispatch.{CanDispatch}
@@ -178,8 +178,7 @@ module _ (s : Session) where
     pub begun-dispatches : (k : Kernel) → HasBegun s k → CanDispatch k.lists k.regs
     begun-dispatches k b = record {
       field = all-each (IsFresh k.lists.fault_packet_free) (λ t. t.field ≡ runs → t.id ≡ k.lists.running) (λ t fresh e. absurd (fresh.stands e)) k.lists.tasks b.ready.fresh.tasks;
-      byte = omega (arith, ap (λ (r : Regs). r.c) b.regs);
-      idle = λ nobody. b.regs;
+      registers = record { byte = omega (arith, ap (λ (r : Regs). r.c) b.regs); idle = λ nobody. b.regs };
     }
 
     -- the first kernel may be loaded

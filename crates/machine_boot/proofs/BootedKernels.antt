@@ -10,7 +10,7 @@ use Rattle.ram_disc.specs.Disc.{most_streams, shell_stream}
 use Rattle.session_text.specs.Canonical.{IsLawfulKey, IsLawfulMachine}
 use Rattle.kernel_machine.specs.KernelCalls.KernelModel.Ranges.{most_steps}
 use Rattle.session_text.specs.declared.sessions.Session.{Session}
-use Rattle.kernel_machine.specs.KernelCalls.KernelModel.Between.{AreShut, FaultsStand, IsAwaited, ResidentsStand, is_ready, is_typing}
+use Rattle.kernel_machine.specs.KernelCalls.KernelModel.Between.{AreShut, ConsoleStands, DiscStands, FaultsStand, IsAwaited, ResidentsStand, ShellStands, Tells, is_ready, is_typing}
 use Rattle.kernel_machine.specs.KernelCalls.KernelModel.Image.{HasPlainWords, image, settled}
 use Rattle.kernel_machine.specs.KernelCalls.KernelModel.Kernel.{Kernel, Pipe}
 use Rattle.kernel_machine.specs.KernelCalls.KernelModel.Lists.{Lists}
@@ -23,14 +23,13 @@ use Rattle.kernel_machine.specs.KernelCalls.KernelModel.Versions.{highest_id_of}
 use Rattle.kernel_machine.proofs.Shown.KernelCalls.KernelModel.EachMember.{all-each}
 use Rattle.kernel_machine.specs.KernelCalls.KernelDispatch.Dispatch.{Dispatched, dispatched, first_ready_task, packets_taken, suspended, taken_event, takes_packet, unchanged, with_nobody, with_resumed, with_suspended}
 use Rattle.kernel_machine.specs.GuestTurns.GuestTurn.{Numbers, numbers_of}
-use Rattle.kernel_machine.specs.KernelSteps.Parts.{RulesStand, RunsFirst}
+use Rattle.kernel_machine.specs.KernelSteps.Parts.{RunsFirst}
 use Rattle.kernel_machine.specs.KernelSteps.Step.{boot_events, dispatch, first_events, run_events}
 use Rattle.kernel_machine.specs.KernelSteps.Stepped.{Stepped}
 use Rattle.kernel_machine.proofs.Shown.KernelSteps.DispatchKept.{GoesOn, dispatch-numbers, runs-first, three-ways}
 use Rattle.kernel_machine.proofs.Shown.KernelSteps.FaultRule.{rule-stands}
 use Rattle.kernel_machine.proofs.Shown.KernelSteps.StepKept.{dispatch-residents, dispatch-rules}
 use Rattle.kernel_machine.proofs.Shown.KernelSteps.TurnRules.{rules-kept}
-use Rattle.kernel_machine.proofs.Shown.KernelResidents.FaultReporter.FaultsKept.{Tells}
 use Rattle.kernel_machine.specs.KernelBoot.declared.refusals.BootRefusal.{BootRefusal}
 use Rattle.hunk_text.specs.TextReader.Steps.{◌>>=◌}
 use Rattle.machine_boot.specs.Boot.{HasKernel, boot, first_kernel, started, with_lines}
@@ -69,44 +68,46 @@ module _ (s : Session) (h : HasKernel s) where
 
     -- ---- the rules of the kernel
 
-    residents : ResidentsStand k
-    residents = record {
+    console : ConsoleStands k.lists k.console
+    console = record {
       finished = λ some. ap (λ c. c.finished) b.console ∙ sym (ap is_some b.ready.fresh.key);
       delivered = λ some. (let unfinished : k.console.finished ≡ false = ap (λ c. c.finished) b.console in cc);
+      line = omega (arith, ap (λ c. length c.line) b.console);
+      absent = λ e. b.console;
+    }
+
+    shell : ShellStands k.lists k.shell k.disc
+    shell = record {
       typing = ap is_some (no-stream k.disc shell_stream b.disc.shut) ∙ ap (λ c. is_typing c.mode) (sym b.shell);
       awaited = subst (λ c. IsAwaited (highest_id_of k.lists.version) c.mode) (sym b.shell) tt;
-      disc = b.disc.valid;
-      line = omega (arith, ap (λ c. length c.line) b.console);
-      command = omega (arith, ap (λ c. length c.line) b.shell);
-      ahead = omega (arith, ap length b.ahead);
-      absent = λ e.
-          record {
-            streams = subst AreShut (sym b.disc.shut) (none-shut most_streams);
-            line = ap (λ c. c.line) b.console;
-            unfinished = ap (λ c. c.finished) b.console;
-            mode = ap (λ c. c.mode) b.shell;
-            command = ap (λ c. c.line) b.shell;
-          };
+      line = omega (arith, ap (λ c. length c.line) b.shell);
+      absent = λ e. b.shell;
     }
+
+    disc : DiscStands k.lists k.disc
+    disc = record { valid = b.disc.valid; absent = λ e. subst AreShut (sym b.disc.shut) (none-shut most_streams) }
 
     no-pipe : (i : ℕ) → pipe_at k.pipes i ≡ None
     no-pipe i = ap (λ ps. pipe_at ps i) b.pipes ∙ none-at {X = Pipe} most_pipes i
 
-    pipes : PipesStand k
+    pipes : PipesStand k.lists k.pipes
     pipes = record {
-      places = ap length b.pipes;
-      each = λ i p e. (let none = no-pipe i in cc);
-      distinct = λ i j p q e f same. (let none = no-pipe i in cc);
+      pipes =
+          record {
+            places = ap length b.pipes;
+            each = λ i p e. (let none = no-pipe i in cc);
+            distinct = λ i j p q e f same. (let none = no-pipe i in cc);
+          };
       no_residents = λ e. b.pipes;
       first_version = λ e. b.pipes;
     }
 
-    faults : FaultsStand k
+    faults : FaultsStand k.lists
     faults =
         let free : Bool = k.lists.fault_packet_free in
         let ts : List Task = k.lists.tasks in
         let fresh : FreshTasks free ts = b.ready.fresh.tasks in
-        rule-stands k
+        rule-stands k.lists
         (λ there. record {
           waits = λ reports. free-there free ts fresh reports ∙ sym (ap not (none-unreported free ts fresh));
           sender = subst (AllByRecursion (Tells ts)) (sym (no-reports free ts fresh)) tt;
@@ -124,10 +125,11 @@ module _ (s : Session) (h : HasKernel s) where
     unfolding dispatch settled
     few-ahead = omega (arith, ap length b.ahead)
 
-    rules : RulesStand (dispatch k).kernel
+    rules : ResidentsStand (dispatch k).kernel
     rules =
-        rules-kept k (dispatch k).kernel (dispatch-residents k) (same-numbers (λ n. n.version) (λ n running. refl)) same-residents (dispatch-rules k) few-ahead
-        (record { faults = faults; residents = residents; pipes = pipes })
+        rules-kept k (dispatch k).kernel (dispatch-residents k)
+        (record { version = same-numbers (λ n. n.version) (λ n running. refl); residents = same-residents }) (dispatch-rules k) few-ahead
+        (record { faults = faults; console = console; shell = shell; disc = disc; pipes = pipes; ahead = omega (arith, ap length b.ahead) })
 
     last : HasSteps (dispatch k).kernel
     unfolding dispatch settled
@@ -140,16 +142,10 @@ module _ (s : Session) (h : HasKernel s) where
         record {
           lists = v;
           plain = plain;
-          running = λ goes.
-              record {
-                tick = ap (λ n. n.tick) numbers ∙ sym (ap (λ n. n / (dispatch k).kernel.lists.period) steps ∙ zero-div (dispatch k).kernel.lists.period);
-                running = runs.running;
-                field = runs.field;
-              };
-          registers = record { byte = runs.byte; idle = runs.idle };
-          faults = rules.faults;
-          residents = rules.residents;
-          pipes = rules.pipes;
+          ticks = λ goes. ap (λ n. n.tick) numbers ∙ sym (ap (λ n. n / (dispatch k).kernel.lists.period) steps ∙ zero-div (dispatch k).kernel.lists.period);
+          running = λ goes. runs.runs;
+          registers = runs.registers;
+          residents = rules;
           steps = last;
         }
 

@@ -15,7 +15,7 @@ use Rattle.kernel_machine.specs.KernelCalls.KernelModel.Image.{plain_words}
 use Rattle.kernel_machine.specs.KernelCalls.KernelModel.Lists.{Lists}
 use Rattle.kernel_machine.specs.KernelCalls.KernelModel.Owned.{owned}
 use Rattle.kernel_machine.specs.KernelCalls.KernelModel.Pipes.{no_pipes}
-use Rattle.kernel_machine.specs.KernelCalls.KernelModel.ValidKernel.{no_command, no_line}
+use Rattle.kernel_machine.specs.KernelCalls.KernelModel.Kernel.{no_command, no_line}
 use Rattle.kernel_machine.specs.KernelCalls.KernelModel.ValidTasks.{no_regs}
 use Rattle.kernel_machine.specs.KernelCalls.WordKinds.ByteMap.{MarksAll}
 use Rattle.kernel_machine.specs.KernelCalls.WordKinds.Keeper.{IsStoreOf}

@@ -9,7 +9,7 @@ use Rattle.kernel_machine.specs.KernelCalls.KernelModel.Image.{image, plain_word
 use Rattle.kernel_machine.specs.KernelCalls.KernelModel.Kernel.{Kernel}
 use Rattle.kernel_machine.specs.KernelCalls.KernelModel.Lists.{Lists}
 use Rattle.kernel_machine.specs.KernelCalls.KernelModel.Pipes.{no_pipes}
-use Rattle.kernel_machine.specs.KernelCalls.KernelModel.ValidKernel.{no_command, no_line}
+use Rattle.kernel_machine.specs.KernelCalls.KernelModel.Kernel.{no_command, no_line}
 use Rattle.kernel_machine.specs.KernelCalls.KernelModel.ValidTasks.{no_regs}
 use Rattle.kernel_machine.specs.KernelBoot.BootFiles.{load_files}
 use Rattle.kernel_machine.specs.KernelCalls.KernelModel.Standing.{Standing, standing}

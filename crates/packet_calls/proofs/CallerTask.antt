@@ -18,7 +18,7 @@ use Rattle.block_calls.proofs.Shown.CallAnswers.FoundTask.{found-address, found-
 use Rattle.block_calls.proofs.Shown.CallAnswers.GuestTask.{guest-facts}
 use Rattle.block_calls.proofs.Shown.CallAnswers.Refusals.{task-at}
 use Rattle.packet_calls.specs.Destinations.{queue_for}
-use Rattle.packet_calls.specs.declared.queues.Queue.TheVariants.{OfTask}
+use Rattle.packet_calls.specs.declared.queues.Queue.TheVariants as queues
 use Rattle.packet_calls.proofs.HeldPlaces.{held-at}
 
 module _ (s : List ℕ) (l : Lists) (id t : ℕ) (h : HoldsLists s l) (g : GuestAt l id t) where
@@ -31,8 +31,8 @@ module _ (s : List ℕ) (l : Lists) (id t : ℕ) (h : HoldsLists s l) (g : Guest
   pub caller-address : address_of_task l id ≡ t
   caller-address = found-address l id t h.valid.tasks.distinct (task-at l id t g)
 
-  pub caller-queue : queue_for l (Work id) ≡ OfTask t
-  caller-queue = ap OfTask caller-address
+  pub caller-queue : queue_for l (Work id) ≡ queues.Work t
+  caller-queue = ap queues.Work caller-address
 
   pub caller-number : get_or s (t + 1) 0 ≡ id
   caller-number =

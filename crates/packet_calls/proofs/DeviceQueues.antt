@@ -9,13 +9,13 @@ use Rattle.block_calls.proofs.Shown.KernelDispatch.KernelModel.ChangedLists.{cha
 use Rattle.packet_calls.proofs.HeldPlaces.{HasFirst, first-there, held-at, no-packets}
 use Rattle.packet_calls.specs.Returned.{IsServed, first_returned, head_of, place_of, unserved}
 use Rattle.packet_calls.specs.declared.returns.Device.{Device}
-use Rattle.packet_calls.specs.declared.returns.Device.TheVariants.{OfClock, OfKeys, OfOutput}
+use Rattle.packet_calls.specs.declared.returns.Device.TheVariants as devices
 
 -- its queue always has a place
 pub device-place : (l : Lists) (d : Device) → HasPlace l (place_of d)
-device-place l OfClock = tt
-device-place l OfKeys = tt
-device-place l OfOutput = tt
+device-place l devices.Clock = tt
+device-place l devices.Keyboard = tt
+device-place l devices.Output = tt
 
 module _ (s : List ℕ) (l : Lists) (d : Device) (h : HoldsLists s l) where
   abbrev waiting : List QueuedPacket
@@ -25,9 +25,9 @@ module _ (s : List ℕ) (l : Lists) (d : Device) (h : HoldsLists s l) where
   device-held = on d
     where
       on : (e : Device) → HeldQueue s (head_of e) (queue_of (place_of e) l)
-      on OfClock = held-at s l Clock h tt
-      on OfKeys = held-at s l Keyboard h tt
-      on OfOutput = held-at s l Output h tt
+      on devices.Clock = held-at s l Clock h tt
+      on devices.Keyboard = held-at s l Keyboard h tt
+      on devices.Output = held-at s l Output h tt
 
   -- none waits where the head holds 0
   pub none-waits : get_or s (head_of d) 0 ≡ 0 → waiting ≡ []

@@ -10,20 +10,20 @@ use Rattle.block_calls.specs.KernelDispatch.KernelModel.ValidQueues.Place.{Clock
 use Rattle.block_calls.proofs.Shown.CallAnswers.FoundTask.{Finds, found-address, found-there}
 use Rattle.packet_calls.specs.Destinations.{destination_of, is_destination, place_of, queue_for}
 use Rattle.packet_calls.specs.declared.queues.Queue.{Queue}
-use Rattle.packet_calls.specs.declared.queues.Queue.TheVariants.{OfTask}
+use Rattle.packet_calls.specs.declared.queues.Queue.TheVariants as queues
 
 module _ (l : Lists) (n : ℕ) (no_clock : n ≢ device 1) (no_keyboard : n ≢ device 2) (no_output : n ≢ device 3) where
-  pub no-device : destination_of l n ≡ cond (has_task n l.tasks) (Some (OfTask (address_of_task l n))) None
+  pub no-device : destination_of l n ≡ cond (has_task n l.tasks) (Some (queues.Work (address_of_task l n))) None
   no-device =
       let a : eqb n (device 1) ≡ false = ne_eqb n (device 1) no_clock in
       let b : eqb n (device 2) ≡ false = ne_eqb n (device 2) no_keyboard in
       let c : eqb n (device 3) ≡ false = ne_eqb n (device 3) no_output in
       λ i. cond (a i || (b i || (c i || has_task n l.tasks))) (Some (queue_for l (cond (a i) Clock (cond (b i) Keyboard (cond (c i) Output (Work n)))))) None
 
-  pub names-task : (o : Option ℕ) → IsApart (map task_id l.tasks) → Finds n l.tasks o → option_map OfTask o ≡ destination_of l n
-  names-task None apart none = sym (no-device ∙ ap (λ b. cond b (Some (OfTask (address_of_task l n))) None) none)
+  pub names-task : (o : Option ℕ) → IsApart (map task_id l.tasks) → Finds n l.tasks o → option_map queues.Work o ≡ destination_of l n
+  names-task None apart none = sym (no-device ∙ ap (λ b. cond b (Some (queues.Work (address_of_task l n))) None) none)
   names-task (Some a) apart t =
-      sym (no-device ∙ ap (λ b. cond b (Some (OfTask (address_of_task l n))) None) (found-there l n a t) ∙ ap (λ z. Some (OfTask z)) (found-address l n a apart t))
+      sym (no-device ∙ ap (λ b. cond b (Some (queues.Work (address_of_task l n))) None) (found-there l n a t) ∙ ap (λ z. Some (queues.Work z)) (found-address l n a apart t))
 
 -- what such a number says
 pub record Names (l : Lists) (n : ℕ) (q : Queue) : Type 0 where

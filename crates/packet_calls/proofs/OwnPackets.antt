@@ -40,7 +40,7 @@ use Rattle.packet_calls.specs.PacketMoves.{packet_at, sent_packet, with_arrived}
 use Rattle.packet_calls.specs.QueueWords.{due_in, head_of, sent_words}
 use Rattle.packet_calls.specs.SendOwn.{CanSendKeys, CanSendOwn, CanSendToTask, send_own, with_sent}
 use Rattle.packet_calls.specs.declared.queues.Queue.{Queue}
-use Rattle.packet_calls.specs.declared.queues.Queue.TheVariants.{OfKeyboard}
+use Rattle.packet_calls.specs.declared.queues.Queue.TheVariants as queues
 use Rattle.packet_calls.proofs.NamedQueues.{no-device}
 use Rattle.packet_calls.proofs.PlacedPackets.{end-changed, end-owners, end-packet, end-queue, fields-stand}
 use Rattle.packet_calls.proofs.PlaceWords.{keys-exchange}
@@ -124,7 +124,7 @@ to-keyboard s l p from to h r =
     ap (λ b. cond b (with_key None (with_arrived Keyboard (sent_packet s l Keyboard p from) l)) (with_arrived (Work to) (sent_packet s l (Work to) p from) l)) (eq-eqb to keyboard r.to_keyboard)
     in
     record {
-      goes_to = OfKeyboard;
+      goes_to = queues.Keyboard;
       named = ap (destination_of l) r.to_keyboard;
       queue = end-queue s base Keyboard q ws kept holds h.size h.valid.tasks.distinct tt v some tt fields (word-within p 1 from (omega arith)) (sender-set s p from) (refl, (refl, (refl, tt)));
       packet = end-packet s base Keyboard q ws kept holds h.size h.valid.tasks.distinct tt v some tt fields (word-within p 1 from (omega arith)) (sender-set s p from) (refl, (refl, (refl, tt)));

@@ -25,7 +25,7 @@ use Rattle.block_calls.proofs.Shown.CallAnswers.FoundTask.{Finds, find-task, fou
 use Rattle.packet_calls.specs.Destinations.{queue_for}
 use Rattle.packet_calls.specs.QueueWords.{head_of, enqueued, with_results}
 use Rattle.packet_calls.specs.Reply.{CanReply, reply, returned}
-use Rattle.packet_calls.specs.declared.queues.Queue.TheVariants.{OfTask}
+use Rattle.packet_calls.specs.declared.queues.Queue.TheVariants as queues
 use Rattle.packet_calls.proofs.PlacedPackets.{end-changed, end-packet, end-queue, fields-stand, results-own, results-set}
 use Rattle.packet_calls.proofs.SentPackets.{comes-some, comes-valid}
 
@@ -75,8 +75,8 @@ module _ (s : List ℕ) (l : Lists) (p from res1 res2 : ℕ) (h : HoldsLists s l
         (sym (subst (Finds sender l.tasks) e (find-task s l sender h)) ∙ ap (λ i. has_task i l.tasks) is_sender ∙ r.there))
 
     module _ (task : ℕ) (found : task_with s sender (tasks_in s) ≡ Some task) where
-      queue-is : queue_for l at ≡ OfTask task
-      queue-is = ap (λ i. queue_for l (Work i)) (sym is_sender) ∙ ap OfTask (found-address l sender task h.valid.tasks.distinct (subst (Finds sender l.tasks) found (find-task s l sender h)))
+      queue-is : queue_for l at ≡ queues.Work task
+      queue-is = ap (λ i. queue_for l (Work i)) (sym is_sender) ∙ ap queues.Work (found-address l sender task h.valid.tasks.distinct (subst (Finds sender l.tasks) found (find-task s l sender h)))
 
       pub reply-queue : HasQueue (with_results s p from res1 res2) (queue_head task)
       reply-queue = subst (λ z. HasQueue (with_results s p from res1 res2) (head_of z)) queue-is queue
@@ -84,7 +84,7 @@ module _ (s : List ℕ) (l : Lists) (p from res1 res2 : ℕ) (h : HoldsLists s l
       pub reply-packet : CanQueue (with_results s p from res1 res2) (queue_head task) p
       reply-packet = subst (λ z. CanQueue (with_results s p from res1 res2) (head_of z) p) queue-is packet
 
-      pub is-returned : (v : List ℕ) → v ≡ enqueued (with_results s p from res1 res2) (OfTask task) p 0 → Leaves s v (Ok minus_one) (reply s l p from res1 res2)
+      pub is-returned : (v : List ℕ) → v ≡ enqueued (with_results s p from res1 res2) (queues.Work task) p 0 → Leaves s v (Ok minus_one) (reply s l p from res1 res2)
       is-returned v is =
           record {
             lists =

@@ -24,19 +24,19 @@ use Rattle.block_calls.proofs.Shown.KernelDispatch.KernelModel.ReadQueues.{packe
 use Rattle.block_calls.proofs.Shown.CallAnswers.FoundTask.{TaskAt, found-address}
 use Rattle.packet_calls.specs.Destinations.{queue_for}
 use Rattle.packet_calls.specs.QueueWords as moves
-use Rattle.packet_calls.specs.declared.queues.Queue.TheVariants.{OfTask}
+use Rattle.packet_calls.specs.declared.queues.Queue.TheVariants as queues
 use Rattle.packet_calls.proofs.Departure.{departed-size, departed-written, held-before, others-kept, owners-departed}
 use Rattle.packet_calls.proofs.PlacedPackets.{end-changed, end-owners, end-packet, end-queue, fields-stand, results-own, results-set}
 use Rattle.packet_calls.specs.Returned.{IsServed, number_of, place_of, returned_by, with_work_for}
 use Rattle.packet_calls.specs.declared.returns.Device.{Device}
-use Rattle.packet_calls.specs.declared.returns.Device.TheVariants.{OfClock, OfKeys, OfOutput}
+use Rattle.packet_calls.specs.declared.returns.Device.TheVariants.{Clock, Keyboard, Output}
 use Rattle.packet_calls.proofs.ReturnedLists.{returned-valid, sender-there}
 
 -- a device's queue has no part in the tasks
 tasks-same : (l : Lists) (d : Device) (ps : List QueuedPacket) → l.tasks ≡ (with_queue (place_of d) ps l).tasks
-tasks-same l OfClock ps = refl
-tasks-same l OfKeys ps = refl
-tasks-same l OfOutput ps = refl
+tasks-same l Clock ps = refl
+tasks-same l Keyboard ps = refl
+tasks-same l Output ps = refl
 
 module _ (s : List ℕ) (l : Lists) (d : Device) (p : QueuedPacket) (ps : List QueuedPacket) (res1 : ℕ) (h : HoldsLists s l) (is : queue_of (place_of d) l ≡ p ∷ ps) where
   -- the lists between the two steps, and the store that has their words
@@ -98,21 +98,21 @@ module _ (s : List ℕ) (l : Lists) (d : Device) (p : QueuedPacket) (ps : List Q
   more = end-owners s1 m at r ws kept out.holds long distinct there valid some tt fields (results-own r) (results-set r) (kind, tt)
 
   module _ (task : ℕ) (to : TaskAt l.tasks p.sender task) where
-    queue-is : queue_for m at ≡ OfTask task
+    queue-is : queue_for m at ≡ queues.Work task
     queue-is =
-        ap OfTask (ap (λ ts. address_with task_address task_id ts p.sender) (sym (tasks-same l d ps)) ∙ found-address l p.sender task h.valid.tasks.distinct to)
+        ap queues.Work (ap (λ ts. address_with task_address task_id ts p.sender) (sym (tasks-same l d ps)) ∙ found-address l p.sender task h.valid.tasks.distinct to)
 
-    pub returned-queue : HasQueue x (moves.head_of (OfTask task))
+    pub returned-queue : HasQueue x (moves.head_of (queues.Work task))
     returned-queue =
         subst (λ z. HasQueue x (moves.head_of z)) queue-is
         (end-queue s1 m at r ws kept out.holds long distinct there valid some tt fields (results-own r) (results-set r) (kind, tt))
 
-    pub returned-packet : CanQueue x (moves.head_of (OfTask task)) p.address
+    pub returned-packet : CanQueue x (moves.head_of (queues.Work task)) p.address
     returned-packet =
         subst (λ z. CanQueue x (moves.head_of z) p.address) queue-is
         (end-packet s1 m at r ws kept out.holds long distinct there valid some tt fields (results-own r) (results-set r) (kind, tt))
 
-    pub returned-served : (v : List ℕ) → v ≡ moves.enqueued x (OfTask task) p.address 0 → IsServed s v l (record { lists = with_work_for p.sender r m; events = [] })
+    pub returned-served : (v : List ℕ) → v ≡ moves.enqueued x (queues.Work task) p.address 0 → IsServed s v l (record { lists = with_work_for p.sender r m; events = [] })
     returned-served v is_v =
         let c : IsChanged s1 v (with_work_for p.sender r m) [] =
         end-changed s1 m at r ws kept out.holds long distinct there valid some tt fields (results-own r) (results-set r) (kind, tt) v 0

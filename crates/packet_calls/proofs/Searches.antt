@@ -11,7 +11,7 @@ use Rattle.block_calls.proofs.Shown.KernelDispatch.KernelModel.WalkedLists.{resi
 use Rattle.block_calls.proofs.Shown.CallAnswers.FoundTask.{Finds, find-task, found-there}
 use Rattle.block_calls.specs.KernelDispatch.KernelModel.ValidLists.{AreValid}
 use Rattle.packet_calls.specs.Destinations.{is_destination, place_of}
-use Rattle.packet_calls.specs.Dqpkt.{Search, found_in, found_in_own, further_searches, is_residents_packet, located, reads_number}
+use Rattle.packet_calls.specs.Dqpkt.{Search, found_in, found_in_own, further_searches, is_residents_packet, located, pending_number}
 use Rattle.packet_calls.specs.PacketMoves.{stands_in}
 use Rattle.packet_calls.specs.declared.dequeue.Found.{Found}
 
@@ -25,7 +25,7 @@ module _ (l : Lists) (id p : ℕ) where
   named = record { place = place_of id; number = id; answer = id }
 
   abbrev reads : Search
-  reads = record { place = Pending; number = reads_number; answer = id }
+  reads = record { place = Pending; number = pending_number; answer = id }
 
   abbrev own : Search
   own = record { place = Work l.running; number = l.running; answer = l.running }

@@ -39,7 +39,7 @@ use Rattle.packet_calls.specs.Destinations.{queue_for}
 use Rattle.packet_calls.specs.PacketMoves.{stands_in}
 use Rattle.packet_calls.specs.QueueWords.{head_of, unqueued}
 use Rattle.packet_calls.specs.TaskWait.{first_of_queue, taskwait, waited, waiting}
-use Rattle.packet_calls.specs.declared.queues.Queue.TheVariants.{OfTask}
+use Rattle.packet_calls.specs.declared.queues.Queue.TheVariants as queues
 use Rattle.packet_calls.proofs.CallerTask.{caller-first, caller-number, caller-queue, caller-runs, caller-state, caller-there}
 use Rattle.packet_calls.proofs.HeldPlaces.{HasFirst, first-there, has-at, held-at, no-packets, stands-at}
 use Rattle.packet_calls.proofs.Departure.{departed-changed, held-before, others-kept, owners-departed}
@@ -145,7 +145,7 @@ module _ (s : List ℕ) (tells : List ℕ → Type 0) (room : ℕ) (l : Lists) (
     no_fault : is_fault_packet l q ≡ false
     no_fault =
         false_from_ne_true (is_fault_packet l q)
-        (λ one. (let i : IsFaultPacket l (Work l.running) q = stands.fault one in absurd (omega (arith, leb-true 5 l.running guest, ap number_in i.place))))
+        (λ one. (let i : IsFaultPacket (Work l.running) q = stands.fault one in absurd (omega (arith, leb-true 5 l.running guest, ap number_in i.place))))
 
     valid : AreValid (with_queue (Work l.running) first.back l)
     valid = unqueued-valid l (Work l.running) q [] first.back k.lists.valid first.is no_key no_fault
@@ -158,10 +158,10 @@ module _ (s : List ℕ) (tells : List ℕ → Type 0) (room : ℕ) (l : Lists) (
         subst (λ z. has p (queue_at s (head_of z)) ≡ true) (caller-queue s l l.running t k.lists g)
         (has-at s l (Work l.running) k.lists there p ∙ ap (stands_in p) first.is ∙ or_left (eqb p q.address) (stands_in p first.back) (eq-eqb p q.address (sym first.address)))
 
-    left-is : (v : List ℕ) → v ≡ unqueued s (OfTask t) p → v ≡ unqueued s (queue_for l (Work l.running)) q.address
+    left-is : (v : List ℕ) → v ≡ unqueued s (queues.Work t) p → v ≡ unqueued s (queue_for l (Work l.running)) q.address
     left-is v is = is ∙ (λ i. unqueued s (sym (caller-queue s l l.running t k.lists g) i) (sym first.address i))
 
-    pub some-taken : (v : List ℕ) (told : List ℕ → Type 0) → v ≡ unqueued s (OfTask t) p
+    pub some-taken : (v : List ℕ) (told : List ℕ → Type 0) → v ≡ unqueued s (queues.Work t) p
         → ((known rest : List ℕ) → tells known → IsApart known → AreTogether known rest (range_with_len p 5) → told rest)
         → IsMade s v told (Ok p) (taskwait l)
     some-taken v told is release =
@@ -177,7 +177,7 @@ module _ (s : List ℕ) (tells : List ℕ → Type 0) (room : ℕ) (l : Lists) (
     pub taken-first : Some p ≡ first_of_queue (queue_of (Work l.running) l)
     taken-first = ap Some (sym first.address) ∙ ap first_of_queue (sym first.is)
 
-    pub some-noted : (v : List ℕ) (before now : Option (List KernelEvent)) (f g' : Bool) → v ≡ unqueued s (OfTask t) p
+    pub some-noted : (v : List ℕ) (before now : Option (List KernelEvent)) (f g' : Bool) → v ≡ unqueued s (queues.Work t) p
         → Notes before now f g' (Taken (signed (get_or s (t + 1) 0)) p (signed (get_or v (p + 1) 0))) → NotesAll before now f g' (taskwait l).events
     some-noted v before now f g' is notes =
         let sender : get_or v (p + 1) 0 ≡ q.sender =

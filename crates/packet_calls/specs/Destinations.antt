@@ -6,7 +6,7 @@ use Rattle.block_calls.specs.KernelDispatch.KernelModel.Residents.{device}
 use Rattle.block_calls.specs.KernelDispatch.KernelModel.ValidQueues.{Place}
 use Rattle.block_calls.specs.KernelDispatch.KernelModel.ValidQueues.Place.{Clock, Keyboard, Output, Pending, Work}
 use Rattle.packet_calls.specs.declared.queues.Queue.{Queue}
-use Rattle.packet_calls.specs.declared.queues.Queue.TheVariants.{OfClock, OfKeyboard, OfOutput, OfReads, OfTask}
+use Rattle.packet_calls.specs.declared.queues.Queue.TheVariants as queues
 
 abbrev pub place_of : ℕ → Place
 place_of n =
@@ -21,11 +21,11 @@ is_destination l n = (n == device 1) || ((n == device 2) || ((n == device 3) || 
 
 -- the queue that stands at a place
 abbrev pub queue_for : Lists → Place → Queue
-queue_for l (Work id) = OfTask (address_of_task l id)
-queue_for l Clock = OfClock
-queue_for l Keyboard = OfKeyboard
-queue_for l Output = OfOutput
-queue_for l Pending = OfReads
+queue_for l (Work id) = queues.Work (address_of_task l id)
+queue_for l Clock = queues.Clock
+queue_for l Keyboard = queues.Keyboard
+queue_for l Output = queues.Output
+queue_for l Pending = queues.Pending
 
 -- the queue that the number names
 abbrev pub destination_of : Lists → ℕ → Option Queue

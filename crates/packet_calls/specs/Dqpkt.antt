@@ -1,12 +1,11 @@
 -- The call that takes a packet back out of a queue.
-use Rattle.std.specs.Prelude.{ℕ, ◌+◌, ◌==◌, ◌&&◌, ◌||◌, Bool, if◌then◌else◌, not, find, is_some, Option, Some, None, Ok, List, [], ◌∷◌, ◌++◌}
+use Rattle.std.specs.Prelude.{ℕ, ◌+◌, ◌==◌, ◌||◌, Bool, if◌then◌else◌, not, find, is_some, Option, Some, None, Ok, List, [], ◌∷◌, ◌++◌}
 use Rattle.word_store.specs.Arithmetic.{signed}
 use Rattle.block_calls.specs.KernelDispatch.PacketQueue.Queue.{no_queue}
 use Rattle.block_calls.specs.KernelDispatch.PacketQueue.declared.events.KernelEvent.TheVariants.{Dequeued}
 use Rattle.block_calls.specs.KernelDispatch.KernelModel.Changes.{queue_of}
-use Rattle.block_calls.specs.KernelDispatch.KernelModel.Lists.{Lists, has_task}
-use Rattle.block_calls.specs.KernelDispatch.KernelModel.Residents.{fault_packet, key_packet}
-use Rattle.block_calls.specs.KernelDispatch.KernelModel.ValidQueues.{Place}
+use Rattle.block_calls.specs.KernelDispatch.KernelModel.Lists.{Lists}
+use Rattle.block_calls.specs.KernelDispatch.KernelModel.ValidQueues.{Place, is_fault_at, is_key_at}
 use Rattle.block_calls.specs.KernelDispatch.KernelModel.ValidQueues.Place.{Pending, Work}
 use Rattle.block_calls.specs.CallAnswers.Made.{Made, done, unless_refused}
 use Rattle.packet_calls.specs.Destinations.{is_destination, place_of, queue_for}
@@ -23,12 +22,12 @@ pub record Search : Type 0 where
   pub answer : ℕ
 
 -- the number of the console's reads that wait for a line
-abbrev pub reads_number : ℕ
-reads_number = 103
+abbrev pub pending_number : ℕ
+pending_number = 103
 
 -- with the console's queue, also the reads that wait for a line
 abbrev pub further_searches : ℕ → List Search
-further_searches id = if id == 3 then record { place = Pending; number = reads_number; answer = id } ∷ [] else []
+further_searches id = if id == 3 then record { place = Pending; number = pending_number; answer = id } ∷ [] else []
 
 -- the queue that the number names, those reads, and the queue of the task that calls, in this order
 abbrev pub searches : Lists → ℕ → List Search
@@ -51,7 +50,7 @@ located l w = record { queue = queue_for l w.place; number = w.number; answer = 
 
 -- the packet is the console's key packet, or that of the task that reports faults
 abbrev pub is_residents_packet : Lists → ℕ → Bool
-is_residents_packet l p = (l.residents && (p == key_packet)) || (has_task 2 l.tasks && (p == fault_packet))
+is_residents_packet l p = is_key_at l p || is_fault_at l p
 
 -- the number names a task or a device (code 4), one of the queues has the packet (code 19), which is none of the residents' own
 -- (code 14)

@@ -6,7 +6,7 @@ use Rattle.block_calls.specs.KernelDispatch.PacketQueue.QueueWords.{QueuedPacket
 use Rattle.block_calls.specs.KernelDispatch.KernelModel.Changes.{queue_of, with_queue}
 use Rattle.block_calls.specs.KernelDispatch.KernelModel.Lists.{Lists}
 use Rattle.block_calls.specs.KernelDispatch.KernelModel.ValidQueues.{Place}
-use Rattle.block_calls.specs.KernelDispatch.KernelModel.ValidQueues.Place.{Clock, Keyboard, Output, Pending, Work}
+use Rattle.block_calls.specs.KernelDispatch.KernelModel.ValidQueues.Place.{Clock}
 use Rattle.packet_calls.specs.QueueWords.{due_tick}
 
 -- the packet at p, as its words say
@@ -18,11 +18,8 @@ packet_at s p =
 
 -- at the clock it stands after all that are due no later, and elsewhere at the end
 abbrev pub arrived : Place → QueuedPacket → List QueuedPacket → List QueuedPacket
-arrived (Work id) p ps = ps ++ p ∷ []
 arrived Clock p ps = insert_after (λ q. nat_le q.last p.last) p ps
-arrived Keyboard p ps = ps ++ p ∷ []
-arrived Output p ps = ps ++ p ∷ []
-arrived Pending p ps = ps ++ p ∷ []
+arrived _ p ps = ps ++ p ∷ []
 
 abbrev pub with_arrived : Place → QueuedPacket → Lists → Lists
 with_arrived at p l = with_queue at (arrived at p (queue_of at l)) l
@@ -30,11 +27,8 @@ with_arrived at p l = with_queue at (arrived at p (queue_of at l)) l
 -- A packet that is sent there has its sender in word 1; at the clock its word 4 is the tick at which it is due, so many ticks from
 -- now on as its word 5 says.
 abbrev pub sent_last : List ℕ → Lists → ℕ → Place → ℕ
-sent_last s l p (Work id) = slice_index s (p + 4)
 sent_last s l p Clock = due_tick l.tick (slice_index s (p + 5))
-sent_last s l p Keyboard = slice_index s (p + 4)
-sent_last s l p Output = slice_index s (p + 4)
-sent_last s l p Pending = slice_index s (p + 4)
+sent_last s l p _ = slice_index s (p + 4)
 
 abbrev pub sent_packet : List ℕ → Lists → Place → ℕ → ℕ → QueuedPacket
 sent_packet s l at p sender = record (packet_at s p) { sender = sender; last = sent_last s l p at }

@@ -10,15 +10,15 @@ use Rattle.block_calls.specs.KernelDispatch.KernelModel.Owned.{clock_head, keybo
 use Rattle.block_calls.specs.KernelDispatch.KernelModel.Residents.{pending_head}
 use Rattle.block_calls.specs.KernelDispatch.KernelModel.Task.{queue_head}
 use Rattle.packet_calls.specs.declared.queues.Queue.{Queue}
-use Rattle.packet_calls.specs.declared.queues.Queue.TheVariants.{OfClock, OfKeyboard, OfOutput, OfReads, OfTask}
+use Rattle.packet_calls.specs.declared.queues.Queue.TheVariants.{Clock, Keyboard, Output, Pending, Work}
 
 -- the word that leads to its first packet
 abbrev pub head_of : Queue → ℕ
-head_of (OfTask t) = queue_head t
-head_of OfClock = clock_head
-head_of OfKeyboard = keyboard_head
-head_of OfOutput = output_head
-head_of OfReads = pending_head
+head_of (Work t) = queue_head t
+head_of Clock = clock_head
+head_of Keyboard = keyboard_head
+head_of Output = output_head
+head_of Pending = pending_head
 
 -- a word of the task block at t
 abbrev pub state_of : List ℕ → ℕ → ℕ
@@ -34,20 +34,20 @@ state_left w next = if next == 0 then w - w % 2 else w
 
 -- the store in which the packet came into the queue: at the clock by its due tick, and else at the end
 abbrev pub enqueued : List ℕ → Queue → ℕ → ℕ → List ℕ
-enqueued s (OfTask t) p due = slice_set (appended s (queue_head t) p) (t + word_index State) (state_with_packets (state_of s t))
-enqueued s OfClock p due = with_due s clock_head p due
-enqueued s OfKeyboard p due = appended s keyboard_head p
-enqueued s OfOutput p due = appended s output_head p
-enqueued s OfReads p due = appended s pending_head p
+enqueued s (Work t) p due = slice_set (appended s (queue_head t) p) (t + word_index State) (state_with_packets (state_of s t))
+enqueued s Clock p due = with_due s clock_head p due
+enqueued s Keyboard p due = appended s keyboard_head p
+enqueued s Output p due = appended s output_head p
+enqueued s Pending p due = appended s pending_head p
 
 -- the store in which the packet went out of the queue
 abbrev pub unqueued : List ℕ → Queue → ℕ → List ℕ
-unqueued s (OfTask t) p =
+unqueued s (Work t) p =
     slice_set (unlinked s (queue_head t) p) (t + word_index State) (state_left (state_of s t) (slice_index (unlinked s (queue_head t) p) (queue_head t)))
-unqueued s OfClock p = unlinked s clock_head p
-unqueued s OfKeyboard p = unlinked s keyboard_head p
-unqueued s OfOutput p = unlinked s output_head p
-unqueued s OfReads p = unlinked s pending_head p
+unqueued s Clock p = unlinked s clock_head p
+unqueued s Keyboard p = unlinked s keyboard_head p
+unqueued s Output p = unlinked s output_head p
+unqueued s Pending p = unlinked s pending_head p
 
 -- so many ticks from now on, or at the last tick that there is
 abbrev pub due_tick : ℕ → ℕ → ℕ

@@ -13,25 +13,25 @@ use Rattle.block_calls.specs.KernelDispatch.KernelModel.Residents.{device}
 use Rattle.block_calls.specs.KernelDispatch.KernelModel.ValidQueues.{Place}
 use Rattle.block_calls.specs.KernelDispatch.KernelModel.ValidQueues.Place.{Clock, Keyboard, Output, Work}
 use Rattle.packet_calls.specs.declared.returns.Device.{Device}
-use Rattle.packet_calls.specs.declared.returns.Device.TheVariants.{OfClock, OfKeys, OfOutput}
+use Rattle.packet_calls.specs.declared.returns.Device.TheVariants as devices
 
 -- the clock is -1, the keyboard -2, the output -3
 abbrev pub number_of : Device → ℕ
-number_of OfClock = device 1
-number_of OfKeys = device 2
-number_of OfOutput = device 3
+number_of devices.Clock = device 1
+number_of devices.Keyboard = device 2
+number_of devices.Output = device 3
 
 -- the word that leads to its first packet
 abbrev pub head_of : Device → ℕ
-head_of OfClock = clock_head
-head_of OfKeys = keyboard_head
-head_of OfOutput = output_head
+head_of devices.Clock = clock_head
+head_of devices.Keyboard = keyboard_head
+head_of devices.Output = output_head
 
 -- where its queue stands
 abbrev pub place_of : Device → Place
-place_of OfClock = Clock
-place_of OfKeys = Keyboard
-place_of OfOutput = Output
+place_of devices.Clock = Clock
+place_of devices.Keyboard = Keyboard
+place_of devices.Output = Output
 
 -- the lists and the events of what a device does; it writes no plain word
 pub record Served : Type 0 where

@@ -18,7 +18,7 @@ use block_calls::caller;
 use block_calls::codes::{NO_DESTINATION, NOT_QUEUED, RESIDENT};
 use block_calls::kernel_dispatch::{EventLog, KindKeeper, RootField, TcbField, field, find, root};
 use block_calls::numbers::{
-    CONSOLE, FAULT_PACKET, KEY_PACKET, PACKET_WORDS, READS, REPORTER, SENDER,
+    CONSOLE, FAULT_PACKET, KEY_PACKET, PACKET_WORDS, PENDING, REPORTER, SENDER,
 };
 use word_store::{Store, set_word_at};
 
@@ -85,10 +85,10 @@ fn find_packet(store: &Store, id: u32, named: Queue, p: u32) -> Option<Found>
     if id != CONSOLE {
         return find_own(store, p);
     }
-    if has_packet(store, Queue::OfReads, p) {
+    if has_packet(store, Queue::Pending, p) {
         return Some(Found {
-            queue: Queue::OfReads,
-            number: READS,
+            queue: Queue::Pending,
+            number: PENDING,
             answer: id,
         });
     }
@@ -102,7 +102,7 @@ fn find_own(store: &Store, p: u32) -> Option<Found>
         → result ≡ option_map (located l) (found_in_own l p) }
 {
     let task = caller(store);
-    let queue = Queue::OfTask(task);
+    let queue = Queue::Work(task);
     if !has_packet(store, queue, p) {
         return None;
     }

@@ -23,14 +23,14 @@ pub fn destination(store: &Store, number: u32) -> Option<Queue>
     ensures { (l : Lists) → HoldsLists store.now l → result ≡ destination_of l number }
 {
     if number == CLOCK {
-        return Some(Queue::OfClock);
+        return Some(Queue::Clock);
     }
     if number == KEYBOARD {
-        return Some(Queue::OfKeyboard);
+        return Some(Queue::Keyboard);
     }
     if number == OUTPUT {
-        return Some(Queue::OfOutput);
+        return Some(Queue::Output);
     }
     let task = find(store, number)?;
-    Some(Queue::OfTask(task))
+    Some(Queue::Work(task))
 }

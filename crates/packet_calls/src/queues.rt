@@ -7,22 +7,22 @@ ghost use Rattle.packet_calls.specs.QueueWords.{head_of, enqueued, unqueued, sta
 use block_calls::kernel_dispatch::{
     RootField, TcbField, append, append_due, field, packets, remove, set_field,
 };
-use block_calls::numbers::READS_HEAD;
+use block_calls::numbers::PENDING_HEAD;
 use word_store::{Store, word};
 
 /// A queue of packets.
 #[derive(Clone, Copy, Debug, PartialEq, Eq)]
 pub enum Queue {
     /// The work queue of the task whose block is at the address.
-    OfTask(u32),
+    Work(u32),
     /// The clock's.
-    OfClock,
+    Clock,
     /// The keyboard's.
-    OfKeyboard,
+    Keyboard,
     /// The output device's.
-    OfOutput,
+    Output,
     /// The console's reads that wait for a line.
-    OfReads,
+    Pending,
 }
 
 /// The word that leads to the first packet of the queue.
@@ -31,11 +31,11 @@ pub fn head(store: &Store, queue: Queue) -> u32
     ensures { result ≡ head_of queue }
 {
     match queue {
-        Queue::OfTask(t) => store.address_of(t, TcbField::Queue.index()),
-        Queue::OfClock => RootField::ClockQueue.address(),
-        Queue::OfKeyboard => RootField::KeyQueue.address(),
-        Queue::OfOutput => RootField::OutputQueue.address(),
-        Queue::OfReads => READS_HEAD,
+        Queue::Work(t) => store.address_of(t, TcbField::Queue.index()),
+        Queue::Clock => RootField::ClockQueue.address(),
+        Queue::Keyboard => RootField::KeyQueue.address(),
+        Queue::Output => RootField::OutputQueue.address(),
+        Queue::Pending => PENDING_HEAD,
     }
 }
 
@@ -76,9 +76,9 @@ pub fn enqueue(store: &mut Store, queue: Queue, p: u32, due: u32)
 {
     let head = head(store, queue);
     match queue {
-        Queue::OfTask(t) => enqueue_work(store, t, head, p),
-        Queue::OfClock => append_due(store, head, p, due),
-        Queue::OfKeyboard | Queue::OfOutput | Queue::OfReads => append(store, head, p),
+        Queue::Work(t) => enqueue_work(store, t, head, p),
+        Queue::Clock => append_due(store, head, p, due),
+        Queue::Keyboard | Queue::Output | Queue::Pending => append(store, head, p),
     }
 }
 
@@ -86,8 +86,8 @@ pub fn enqueue(store: &mut Store, queue: Queue, p: u32, due: u32)
 fn enqueue_work(store: &mut Store, t: u32, head: u32, p: u32)
     requires queue { HasQueue store.old head }
     requires packet { CanQueue store.old head p }
-    requires head { head ≡ head_of (Queue.OfTask t) }
-    ensures { store.new ≡ enqueued store.old (Queue.OfTask t) p 0 }
+    requires head { head ≡ head_of (Queue.Work t) }
+    ensures { store.new ≡ enqueued store.old (Queue.Work t) p 0 }
 {
     let state = state_with_packets(field(store, t, TcbField::State));
     append(store, head, p);
@@ -109,8 +109,8 @@ pub fn unqueue(store: &mut Store, queue: Queue, p: u32)
 {
     let head = head(store, queue);
     match queue {
-        Queue::OfTask(t) => unqueue_work(store, t, head, p),
-        Queue::OfClock | Queue::OfKeyboard | Queue::OfOutput | Queue::OfReads => {
+        Queue::Work(t) => unqueue_work(store, t, head, p),
+        Queue::Clock | Queue::Keyboard | Queue::Output | Queue::Pending => {
             remove(store, head, p);
         }
     }
@@ -120,8 +120,8 @@ pub fn unqueue(store: &mut Store, queue: Queue, p: u32)
 fn unqueue_work(store: &mut Store, t: u32, head: u32, p: u32)
     requires queue { HasQueue store.old head }
     requires packet { has p (queue_at store.old head) ≡ true }
-    requires head { head ≡ head_of (Queue.OfTask t) }
-    ensures { store.new ≡ unqueued store.old (Queue.OfTask t) p }
+    requires head { head ≡ head_of (Queue.Work t) }
+    ensures { store.new ≡ unqueued store.old (Queue.Work t) p }
 {
     let state = field(store, t, TcbField::State);
     remove(store, head, p);

@@ -31,6 +31,6 @@ pub fn reply<L: EventLog>(store: &mut Store, p: u32, from: i32, res1: u32, res2:
         return;
     };
     let from = number_word(from);
-    give_back(store, Queue::OfTask(task), p, from, res1, res2);
+    give_back(store, Queue::Work(task), p, from, res1, res2);
     log.note(accepted(sender, p, from));
 }

@@ -19,11 +19,11 @@ use word_store::{Store, word_at};
 #[derive(Clone, Copy, Debug, PartialEq, Eq)]
 pub enum Device {
     /// The clock, -1.
-    OfClock,
+    Clock,
     /// The keyboard, -2.
-    OfKeys,
+    Keyboard,
     /// The output device, -3.
-    OfOutput,
+    Output,
 }
 
 /// Takes the first packet from the queue of the device, where there is one, and puts it at the end of the work queue of the
@@ -47,7 +47,7 @@ pub fn return_first<L: EventLog>(store: &mut Store, device: Device, res1: u32, l
     };
     let from = number(device);
     unqueue(store, queue, p);
-    give_back(store, Queue::OfTask(task), p, from, res1, 0);
+    give_back(store, Queue::Work(task), p, from, res1, 0);
     log.note(taken(from, p, sender));
     log.note(accepted(sender, p, from));
 }
@@ -57,9 +57,9 @@ fn queue(device: Device) -> Queue
     ensures { (l : Lists) → result ≡ queue_for l (place_of device) }
 {
     match device {
-        Device::OfClock => Queue::OfClock,
-        Device::OfKeys => Queue::OfKeyboard,
-        Device::OfOutput => Queue::OfOutput,
+        Device::Clock => Queue::Clock,
+        Device::Keyboard => Queue::Keyboard,
+        Device::Output => Queue::Output,
     }
 }
 
@@ -68,8 +68,8 @@ fn number(device: Device) -> u32
     ensures { result ≡ number_of device }
 {
     match device {
-        Device::OfClock => CLOCK,
-        Device::OfKeys => KEYBOARD,
-        Device::OfOutput => OUTPUT,
+        Device::Clock => CLOCK,
+        Device::Keyboard => KEYBOARD,
+        Device::Output => OUTPUT,
     }
 }

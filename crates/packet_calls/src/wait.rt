@@ -44,7 +44,7 @@ pub fn taskwait<Q: KindKeeper, L: EventLog>(
         return None;
     }
     let id = field(store, task, TcbField::Id);
-    unqueue(store, Queue::OfTask(task), p);
+    unqueue(store, Queue::Work(task), p);
     kinds.release(p, PACKET_WORDS);
     log.note(taken(id, p, word_at(store, p, SENDER)));
     Some(p)

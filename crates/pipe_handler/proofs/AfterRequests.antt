@@ -4,11 +4,11 @@ use Rattle.std.specs.Option.{is_some, unwrap_or}
 use Rattle.std.proofs.lemmas.Bool.{and_parts, cases_eq, true≢false}
 use Rattle.std.proofs.lemmas.List.{get_or-set_other, get_or-set_same, length-drop, length-take}
 use Rattle.resident_requests.specs.KernelCalls.KernelModel.Kernel.{Pipe}
-use Rattle.resident_requests.specs.KernelCalls.KernelModel.Pipes.{most_held, pipe_at}
+use Rattle.resident_requests.specs.KernelCalls.KernelModel.Pipes.{ArePipes, most_held, pipe_at}
 use Rattle.pipe_handler.specs.Ends.{closed, is_end, is_open, kept, names_end, names_writer, opened, pipe_of, place_for, place_of, without_end}
 use Rattle.pipe_handler.specs.Histories.{IsLawful, PipeRequest, after}
 use Rattle.pipe_handler.specs.Histories.PipeRequest.{Close, Open, Read, Write}
-use Rattle.pipe_handler.specs.PipeCalls.{ArePipes, Outcome, accepted, fitting, has_more, held_by, holding, pipe_in_place, refused, unless_refused, with_end}
+use Rattle.pipe_handler.specs.PipeCalls.{Outcome, accepted, fitting, has_more, held_by, holding, pipe_in_place, refused, unless_refused, with_end}
 use Rattle.pipe_handler.proofs.KeptPipes.{close-kept, hold-kept, open-kept, place-for, there-inside}
 
 -- ---- tests

@@ -4,11 +4,11 @@ use Rattle.std.specs.Option.{is_some, unwrap_or}
 use Rattle.std.proofs.lemmas.Bool.{cases_eq, eq-eqb, ne_eqb}
 use Rattle.std.proofs.lemmas.List.{get_or-set_other, get_or-set_same, length-take, take-append-drop, take_min}
 use Rattle.resident_requests.specs.KernelCalls.KernelModel.Kernel.{Pipe}
-use Rattle.resident_requests.specs.KernelCalls.KernelModel.Pipes.{most_held, pipe_at}
+use Rattle.resident_requests.specs.KernelCalls.KernelModel.Pipes.{ArePipes, most_held, pipe_at}
 use Rattle.pipe_handler.specs.Ends.{is_end, is_open, names_writer, opened, pipe_of, place_for, place_of, without_end}
 use Rattle.pipe_handler.specs.Histories.{History, PipeRequest, StandsFor, after, history_after, history_of, pipes_after, read_from, with_more, written_to}
 use Rattle.pipe_handler.specs.Histories.PipeRequest.{Close, Open, Read, Write}
-use Rattle.pipe_handler.specs.PipeCalls.{ArePipes, Outcome, accepted, fitting, has_more, held_by, holding, pipe_in_place, with_end}
+use Rattle.pipe_handler.specs.PipeCalls.{Outcome, accepted, fitting, has_more, held_by, holding, pipe_in_place, with_end}
 use Rattle.pipe_handler.proofs.AfterRequests.{HasRoom, by-tests, closed-held, end-place, opened-held, room-after, some-is}
 use Rattle.pipe_handler.proofs.KeptPipes.{place-for, there-inside}
 

@@ -3,18 +3,9 @@ use Rattle.std.specs.Prelude.{◌≡◌, ℕ, ◌-◌, ◌==◌, ◌&&◌, ◌||
 use Rattle.std.specs.List.{list_any}
 use Rattle.std.specs.Option.{is_none, is_some, option_map}
 use Rattle.resident_requests.specs.KernelCalls.KernelModel.Kernel.{Pipe}
-use Rattle.resident_requests.specs.KernelCalls.KernelModel.Pipes.{IsPipe, most_held, most_pipes, pipe_at}
+use Rattle.resident_requests.specs.KernelCalls.KernelModel.Pipes.{most_held, most_pipes, pipe_at}
 use Rattle.ram_disc.specs.declared.codes.TheConstants.{BAD_BUFFER, IN_USE, NOT_OPEN}
 use Rattle.pipe_handler.specs.Ends.{handle_at, is_end, is_named, is_open, names_writer, opened, pipe_of, place_for, place_of, without_end}
-
--- at most eight pipes, each lawful, with distinct names
-pub record ArePipes (ps : List (Option Pipe)) : Type 0 where
-  -- there are eight places
-  pub places : length ps ≡ most_pipes
-  -- each pipe is lawful
-  pub each : (i : ℕ) (p : Pipe) → pipe_at ps i ≡ Some p → IsPipe p
-  -- no two pipes have one name
-  pub distinct : (i j : ℕ) (p q : Pipe) → pipe_at ps i ≡ Some p → pipe_at ps j ≡ Some q → p.name ≡ q.name → i ≡ j
 
 -- what a request answers, the bytes that it gives, and the pipes after it
 pub record Outcome : Type 0 where

@@ -3,9 +3,8 @@ use Rattle.std.specs.Prelude.{◌≡◌, ◌≢◌, ◌<◌, ◌≤◌, ℕ, Boo
 use Rattle.std.specs.List.{All}
 use Rattle.circular_buffer.specs.Buffer.{Buffer}
 use Rattle.resident_requests.specs.KernelCalls.KernelModel.Kernel.{Pipe}
-use Rattle.resident_requests.specs.KernelCalls.KernelModel.Pipes.{most_held, pipe_at}
+use Rattle.resident_requests.specs.KernelCalls.KernelModel.Pipes.{ArePipes, most_held, pipe_at}
 use Rattle.pipe_handler.specs.Ends.{is_open, names_end, place_of}
-use Rattle.pipe_handler.specs.PipeCalls.{ArePipes}
 use Rattle.pipe_handler.specs.declared.slots.Slot.{Slot}
 
 -- the pipe that a slot tells of

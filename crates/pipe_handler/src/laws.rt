@@ -2,11 +2,10 @@
 ghost use Rattle.std.specs.Prelude.{◌≡◌, ◌≤◌, ℕ, List, Option, Some, Ok, length};
 ghost use Rattle.resident_requests.specs.KernelCalls.KernelModel.Kernel.{Pipe};
 ghost use Rattle.resident_requests.specs.KernelCalls.KernelModel.Lists.{Lists};
-ghost use Rattle.resident_requests.specs.KernelCalls.KernelModel.Pipes.{most_held, pipe_at};
+ghost use Rattle.resident_requests.specs.KernelCalls.KernelModel.Pipes.{ArePipes, most_held, pipe_at};
 ghost use Rattle.resident_requests.specs.declared.requests.Request.{Request};
 ghost use Rattle.pipe_handler.specs.Histories.{History, IsLawful, PipeRequest, StandsFor, after, history_after, pipes_after};
 ghost use Rattle.pipe_handler.specs.PacketRequests.{asked, outcome_of, requests_in_turn};
-ghost use Rattle.pipe_handler.specs.PipeCalls.{ArePipes};
 ghost use Rattle.pipe_handler.specs.PipeTurns.{pipe_request, pipes_after_turn};
 
 /// For every list of requests, from any pipes: where all that was written to a pipe was what was read from it and then what it

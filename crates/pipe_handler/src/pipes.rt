@@ -1,7 +1,7 @@
 // Pipes, and the requests for them.
 ghost use Rattle.std.specs.Prelude.{◌≡◌, ◌≤◌, ◌++◌, IfOk, drop, length};
-ghost use Rattle.resident_requests.specs.KernelCalls.KernelModel.Pipes.{most_pipes, no_pipes};
-ghost use Rattle.pipe_handler.specs.PipeCalls.{after_close, after_open, after_read, after_restore, after_write, ArePipes, can_restore, pipe_numbered};
+ghost use Rattle.resident_requests.specs.KernelCalls.KernelModel.Pipes.{ArePipes, most_pipes, no_pipes};
+ghost use Rattle.pipe_handler.specs.PipeCalls.{after_close, after_open, after_read, after_restore, after_write, can_restore, pipe_numbered};
 
 use crate::places::{can_restore, handle_at, open_place, place_for};
 use crate::slots::{Slot, copy_slots};

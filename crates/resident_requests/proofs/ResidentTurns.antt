@@ -47,7 +47,7 @@ takes-request l v r not_reporter not_console = record { runs = r; foreign = on (
     on [] stand = tt
     on (p ∷ ps) stand = (
       false_from_ne_true (is_key_packet l p) (λ e. (let i : IsKeyPacket (Work l.running) p = stand.0.key e in not_console i.place.0)),
-      false_from_ne_true (is_fault_packet l p) (λ e. (let i : IsFaultPacket l (Work l.running) p = stand.0.fault e in not_reporter (ap number_in i.place))),
+      false_from_ne_true (is_fault_packet l p) (λ e. (let i : IsFaultPacket (Work l.running) p = stand.0.fault e in not_reporter (ap number_in i.place))),
     )
 
 -- ---- the keeper

@@ -6,6 +6,7 @@ use Rattle.kernel_calls.specs.PacketQueue.QueueWords.{QueuedPacket, first_packet
 use Rattle.kernel_calls.specs.KernelModel.Changes.{with_queue, with_work}
 use Rattle.kernel_calls.specs.KernelModel.HoldsLists.{HoldsLists}
 use Rattle.kernel_calls.specs.KernelModel.Lists.{Lists, address_of_task, has_task}
+use Rattle.kernel_calls.specs.KernelModel.Running.{RunsIf}
 use Rattle.kernel_calls.specs.KernelModel.Task.{Task, state_word, state_words, task_address, task_words}
 use Rattle.kernel_calls.specs.KernelModel.ValidQueues.Place.{Work}
 use Rattle.kernel_calls.specs.KernelModel.ValidTasks.{runs}
@@ -59,8 +60,8 @@ pub has_task-work : (i id : ℕ) (ps : List QueuedPacket) (ts : List Task) → h
 has_task-work i id ps [] = refl
 has_task-work i id ps (t ∷ ts) = λ k. eqb (with_work-id id ps t k) i || has_task-work i id ps ts k
 
-fields-work : (running id : ℕ) (ps : List QueuedPacket) (ts : List Task) → AllByRecursion (λ t. t.id ≡ running → t.field ≡ runs) ts
-    → AllByRecursion (λ t. t.id ≡ running → t.field ≡ runs) (map (with_work id ps) ts)
+fields-work : (running id : ℕ) (ps : List QueuedPacket) (ts : List Task) → AllByRecursion (RunsIf running) ts
+    → AllByRecursion (RunsIf running) (map (with_work id ps) ts)
 fields-work running id ps [] all = tt
 fields-work running id ps (t ∷ ts) all = ((λ e. with_work-field id ps t ∙ all.0 (sym (with_work-id id ps t) ∙ e)), fields-work running id ps ts all.1)
 

@@ -29,7 +29,7 @@ use Rattle.kernel_calls.proofs.Shown.WordKinds.KnownWords.{knows-released}
 use Rattle.kernel_calls.specs.PacketCalls.Destinations.{queue_for}
 use Rattle.kernel_calls.specs.PacketCalls.PacketMoves.{stands_in}
 use Rattle.kernel_calls.specs.PacketCalls.QueueWords.{head_of, unqueued}
-use Rattle.kernel_calls.specs.PacketCalls.declared.queues.Queue.TheVariants.{OfTask}
+use Rattle.kernel_calls.specs.PacketCalls.declared.queues.Queue.TheVariants as queues
 use Rattle.kernel_calls.proofs.Shown.PacketCalls.HeldPlaces.{HasFirst, first-there, has-at, held-at, no-packets, stands-at}
 use Rattle.kernel_calls.proofs.Shown.PacketCalls.Departure.{departed-changed, held-before, others-kept, owners-departed}
 use Rattle.kernel_calls.specs.PacketCalls.TaskWait.{first_of_queue}
@@ -91,8 +91,8 @@ module _ (s : List ℕ) (tells : List ℕ → Type 0) (room : ℕ) (l : Lists) (
     valid : AreValid m
     valid = unqueued-valid l (Work l.running) q [] back k.lists.valid first.is foreign.0 foreign.1
 
-    queue-is : OfTask t ≡ queue_for l (Work l.running)
-    queue-is = ap OfTask at
+    queue-is : queues.Work t ≡ queue_for l (Work l.running)
+    queue-is = ap queues.Work at
 
     pub take-queue : HasQueue s (queue_head t)
     take-queue = subst (λ z. HasQueue s (head_of z)) (sym queue-is) (stands-at s l (Work l.running) k.lists there)
@@ -102,7 +102,7 @@ module _ (s : List ℕ) (tells : List ℕ → Type 0) (room : ℕ) (l : Lists) (
         subst (λ z. has p (queue_at s (head_of z)) ≡ true) (sym queue-is)
         (has-at s l (Work l.running) k.lists there p ∙ ap (stands_in p) first.is ∙ or_left (eqb p q.address) (stands_in p back) (eq-eqb p q.address (sym first.address)))
 
-    module _ (v : List ℕ) (is_left : v ≡ unqueued s (OfTask t) p) where
+    module _ (v : List ℕ) (is_left : v ≡ unqueued s (queues.Work t) p) where
       left : v ≡ unqueued s (queue_for l (Work l.running)) q.address
       left = is_left ∙ (λ i. unqueued s (queue-is i) (sym first.address i))
 

@@ -1,6 +1,5 @@
 -- A resident takes a request: its first packet, which is then on no queue.
 use Rattle.std.specs.Prelude.{◌≡◌, ℕ, ◌+◌, Option, Some, None, true, false, IfSome, List, [], ◌∷◌, slice_index}
-use Rattle.std.specs.List.{AllByRecursion}
 use Rattle.word_store.specs.Arithmetic.{signed}
 use Rattle.kernel_calls.specs.OwnedWords.Owned.{Pairs}
 use Rattle.kernel_calls.specs.PacketQueue.Queue.{no_queue}
@@ -10,11 +9,11 @@ use Rattle.kernel_calls.specs.PacketQueue.declared.events.KernelEvent.TheVariant
 use Rattle.kernel_calls.specs.KernelModel.ChangedStore.{IsChanged, Knows}
 use Rattle.kernel_calls.specs.KernelModel.Changes.{AreUnowned, queue_of, with_queue}
 use Rattle.kernel_calls.specs.KernelModel.Lists.{Lists, has_task}
+use Rattle.kernel_calls.specs.KernelModel.Running.{RunsAlive}
 use Rattle.kernel_calls.specs.KernelModel.Task.{is_guest_id}
 use Rattle.kernel_calls.specs.KernelModel.ValidBlocks.{AreData}
 use Rattle.kernel_calls.specs.KernelModel.ValidQueues.{is_fault_packet, is_key_packet}
 use Rattle.kernel_calls.specs.KernelModel.ValidQueues.Place.{Work}
-use Rattle.kernel_calls.specs.KernelModel.ValidTasks.{runs}
 use Rattle.kernel_calls.specs.PacketCalls.Destinations.{queue_for}
 use Rattle.kernel_calls.specs.PacketCalls.QueueWords.{unqueued}
 use Rattle.kernel_calls.specs.KernelModel.declared.numbers.TheConstants.{FIRST, KIND, PACKET_WORDS, SECOND, SENDER, THIRD}
@@ -26,8 +25,8 @@ pub record RunsResident (l : Lists) : Type 0 where
   pub resident : is_guest_id l.running ≡ false
   -- it is there
   pub there : has_task l.running l.tasks ≡ true
-  -- its field says that it runs
-  pub field : AllByRecursion (λ t. t.id ≡ l.running → t.field ≡ runs) l.tasks
+  -- its field is that of one that runs
+  pub field : RunsAlive l
 
 -- its packets
 abbrev pub work : Lists → List QueuedPacket

@@ -54,7 +54,7 @@ pub fn take_request<Q: KindKeeper, L: EventLog>(
         return None;
     }
     let id = field(store, task, TcbField::Id);
-    unqueue(store, Queue::OfTask(task), p);
+    unqueue(store, Queue::Work(task), p);
     kinds.release(p, PACKET_WORDS);
     log.note(taken(id, p, word_at(store, p, SENDER)));
     Some(request_at(store, p))

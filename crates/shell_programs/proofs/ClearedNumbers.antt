@@ -7,7 +7,7 @@ use Rattle.kernel_residents.specs.KernelCalls.KernelModel.Lists.{Lists}
 use Rattle.kernel_residents.specs.KernelCalls.KernelModel.ValidTasks.{runs}
 use Rattle.kernel_residents.specs.KernelCalls.KernelModel.Versions.{highest_id_of}
 use Rattle.kernel_residents.proofs.Shown.KernelCalls.KernelModel.RootCounts.{highest-low}
-use Rattle.kernel_residents.specs.KernelCalls.TaskCalls.DeleteTask.{RunsAlive}
+use Rattle.kernel_residents.specs.KernelCalls.KernelModel.Running.{RunsAlive}
 use Rattle.kernel_residents.proofs.Shown.KernelCalls.TaskCalls.ReadNumbers.{highest-read}
 use Rattle.kernel_residents.specs.KernelCalls.KernelModel.Standing.{Standing, standing}
 use Rattle.shell_programs.specs.ClearedTasks.{cleared, cleared_all, cleared_at}

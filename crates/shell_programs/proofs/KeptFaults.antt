@@ -8,9 +8,8 @@ use Rattle.kernel_residents.specs.KernelCalls.LinkedList.Places.{without_first}
 use Rattle.kernel_residents.proofs.Shown.KernelCalls.LinkedList.AllMembers.{all-append}
 use Rattle.kernel_residents.specs.KernelCalls.PacketQueue.QueueWords.{QueuedPacket}
 use Rattle.ram_disc.specs.Disc.{Disc}
-use Rattle.kernel_residents.specs.KernelCalls.KernelModel.Between.{FaultsStand, has_unreported, is_unreported}
+use Rattle.kernel_residents.specs.KernelCalls.KernelModel.Between.{FaultsStand, Tells, has_unreported, is_unreported}
 use Rattle.kernel_residents.specs.KernelCalls.KernelModel.Changes.{change_of, with_queue, with_tasks, work_of}
-use Rattle.kernel_residents.specs.KernelCalls.KernelModel.Kernel.{Kernel}
 use Rattle.kernel_residents.specs.KernelCalls.KernelModel.Lists.{Lists, has_task}
 use Rattle.kernel_residents.specs.KernelCalls.KernelModel.Residents.{fault_packet}
 use Rattle.kernel_residents.specs.KernelCalls.KernelModel.Task.{Task, is_guest_id}
@@ -34,13 +33,6 @@ use Rattle.shell_programs.proofs.KeptTasks.{all-without, any-changed, any-insert
 
 -- ---- the rule, of the lists
 
-abbrev pub Tells : List Task → QueuedPacket → Type 0
-Tells ts p = eqb p.address fault_packet ≡ true → has_unreported p.sender ts ≡ true
-
-pub record FaultsWait (l : Lists) : Type 0 where
-  pub waits : has_task 2 l.tasks ≡ true → l.fault_packet_free ≡ not (list_any is_unreported l.tasks)
-  pub sender : AllByRecursion (Tells l.tasks) (work_of 2 l.tasks)
-
 pub tells-more : (ts us : List Task) → ((id : ℕ) → has_unreported id us ≡ has_unreported id ts) → (ps : List QueuedPacket) → AllByRecursion (Tells ts) ps → AllByRecursion (Tells us) ps
 tells-more ts us same [] all = tt
 tells-more ts us same (p ∷ ps) all = ((λ e. same p.sender ∙ all.0 e), tells-more ts us same ps all.1)
@@ -53,7 +45,7 @@ pub record SameFaults (l m : Lists) : Type 0 where
   pub own : (id : ℕ) → has_unreported id m.tasks ≡ has_unreported id l.tasks
   pub work : work_of 2 m.tasks ≡ work_of 2 l.tasks
 
-pub faults-same : (l m : Lists) → SameFaults l m → FaultsWait l → FaultsWait m
+pub faults-same : (l m : Lists) → SameFaults l m → FaultsStand l → FaultsStand m
 faults-same l m x h =
     record {
       waits = λ there. x.free ∙ h.waits (sym x.there ∙ there) ∙ ap not (sym x.any);
@@ -72,7 +64,7 @@ no-own id t e = ap (λ b. eqb t.id id && is_guest_id id && b) e ∙ and-none (eq
     and-none true = refl
     and-none false = refl
 
-faults-new : AllowsNew FaultsWait
+faults-new : AllowsNew FaultsStand
 faults-new l t p h =
     faults-same l _
     (record {
@@ -83,19 +75,15 @@ faults-new l t p h =
       work = work-inserted _ t 2 (other-number t.id 2 p.guest refl) l.tasks;
     }) h
 
-faults-beside : AllowsBlocks FaultsWait
+faults-beside : AllowsBlocks FaultsStand
 faults-beside l bs ms h = record { waits = h.waits; sender = h.sender }
 
-pub started-faults : (m : Kernel) (d : Disc) (name : List ℕ) (rest : Result (Unit {0}) ℕ) (pri : Priority) (k : Standing) → FaultsStand (record m { lists = k.lists })
-    → FaultsStand (record m { lists = (start_program d name rest pri k).left.lists })
-started-faults m d name rest pri k h =
-    let x : FaultsWait (start_program d name rest pri k).left.lists = started-keeps FaultsWait faults-beside faults-new d name rest pri k (record { waits = h.waits; sender = h.sender }) in
-    record { waits = x.waits; sender = x.sender }
+pub started-faults : (d : Disc) (name : List ℕ) (rest : Result (Unit {0}) ℕ) (pri : Priority) (k : Standing) → FaultsStand k.lists → FaultsStand (start_program d name rest pri k).left.lists
+started-faults d name rest pri k h = started-keeps FaultsStand faults-beside faults-new d name rest pri k h
 
-pub begun-faults : (m : Kernel) (id : ℕ) (k : Standing) → FaultsStand (record m { lists = k.lists }) → FaultsStand (record m { lists = (begun id k).lists })
-begun-faults m n k h =
+pub begun-faults : (id : ℕ) (k : Standing) → FaultsStand k.lists → FaultsStand (begun id k).lists
+begun-faults n k h =
     let f : Task → Task = begun_task k.lists.version k.words in
-    let x : FaultsWait (begun n k).lists =
     faults-same k.lists (begun n k).lists
     (record {
       free = refl;
@@ -103,17 +91,14 @@ begun-faults m n k h =
       any = any-changed n f is_unreported (λ t. refl) k.lists.tasks;
       own = λ id. any-changed n f (λ u. eqb u.id id && is_guest_id id && is_unreported u) (λ t. refl) k.lists.tasks;
       work = work-changed n f (λ t. (refl, refl)) 2 k.lists.tasks;
-    })
-    (record { waits = h.waits; sender = h.sender })
-    in
-    record { waits = x.waits; sender = x.sender }
+    }) h
 
 -- ---- a guest goes
 
 -- the fault packet waits where it is on a queue
 record FaultsQueued (l : Lists) : Type 0 where
   free : has_task 2 l.tasks ≡ true → l.fault_packet_free ≡ not (list_any (λ q. eqb fault_packet q.address) (work_of 2 l.tasks))
-  wait : FaultsWait l
+  wait : FaultsStand l
 
 -- the reporter has no packet from a guest of which none is out
 none-from : (n : ℕ) (ts : List Task) → list_any (λ p. eqb p.sender n) (flat_map resident_packets ts) ≡ false → AllByRecursion (λ p. eqb p.sender n ≡ false) (work_of 2 ts)
@@ -207,16 +192,13 @@ module _ (l : Lists) (n : ℕ) (guest : is_guest_id n ≡ true) (out : has_packe
           let free : l.fault_packet_free ≡ true = h.free there ∙ ap not away in
           free ∙ ap not (sym (any-fewer f is_unreported l.tasks (none (list_any is_unreported l.tasks) (sym free ∙ h.wait.waits there))))
 
-pub cleared-faults : (m : Kernel) (k : Standing) → AreValid k.lists → FaultsStand (record m { lists = k.lists }) → FaultsStand (record m { lists = (cleared k).lists })
-cleared-faults m k v h =
-    let x : FaultsQueued (cleared k).lists =
-    cleared-keeps FaultsQueued (λ l bs ms y. record { free = y.free; wait = record { waits = y.wait.waits; sender = y.wait.sender } }) faults-gone k
+pub cleared-faults : (k : Standing) → AreValid k.lists → FaultsStand k.lists → FaultsStand (cleared k).lists
+cleared-faults k v h =
+    (cleared-keeps FaultsQueued (λ l bs ms y. record { free = y.free; wait = record { waits = y.wait.waits; sender = y.wait.sender } }) faults-gone k
     (record {
       free = λ there. free-is k.lists there (list_any (λ q. eqb fault_packet q.address) (work_of 2 k.lists.tasks)) v refl;
-      wait = record { waits = h.waits; sender = h.sender };
-    })
-    in
-    record { waits = x.wait.waits; sender = x.wait.sender }
+      wait = h;
+    })).wait
 
 -- ---- the shell's packet is sent
 
@@ -238,8 +220,8 @@ all-work P n ps (t ∷ ts) new all = on (eqb t.id n) (eqb t.id 2) refl refl all 
     on false true e f all more = subst (λ b. AllByRecursion P (cond b t.queue (work_of 2 rest))) (sym f) all
     on false false e f all more = subst (λ b. AllByRecursion P (cond b t.queue (work_of 2 rest))) (sym f) (more all)
 
-pub posted-faults : (m : Kernel) (to : ℕ) (k : Standing) → to ≤ 63 → FaultsStand (record m { lists = k.lists }) → FaultsStand (record m { lists = (posted to k).lists })
-posted-faults m to k low h = subst (λ l. FaultsStand (record m { lists = l })) (sym (posted-is to k low)) (record { waits = x.waits; sender = x.sender })
+pub posted-faults : (to : ℕ) (k : Standing) → to ≤ 63 → FaultsStand k.lists → FaultsStand (posted to k).lists
+posted-faults to k low h = subst FaultsStand (sym (posted-is to k low)) x
   where
     l : Lists
     l = k.lists
@@ -258,7 +240,7 @@ posted-faults m to k low h = subst (λ l. FaultsStand (record m { lists = l })) 
         all-append (Tells l.tasks) (work_of to l.tasks) (sent_packet k.words l (Work to) SHELL_PACKET 1 ∷ [])
         (subst (λ i. AllByRecursion (Tells l.tasks) (work_of i l.tasks)) (sym e) h.sender) ((λ e. absurd (false≢true e)), tt)
 
-    x : FaultsWait after
+    x : FaultsStand after
     x =
         record {
           waits = λ there.

@@ -13,7 +13,7 @@ use Rattle.kernel_boot.specs.BegunTask.{begun as begun_task}
 use Rattle.kernel_residents.specs.KernelCalls.KernelModel.Standing.{Standing}
 use Rattle.kernel_residents.specs.ResidentRequests.Requests.{RunsResident}
 use Rattle.shell_programs.specs.ClearedTasks.{cleared}
-use Rattle.shell_programs.specs.KeptLists.{KeepsResidents, RunsAlone}
+use Rattle.shell_programs.specs.KeptLists.{KeepsResidents, ResidentAlone}
 use Rattle.shell_programs.specs.StartedProgram.{begun, start_program}
 use Rattle.shell_programs.specs.declared.programs.Priority.{Priority}
 use Rattle.shell_programs.proofs.KeptSteps.{AllowsBlocks, AllowsGone, AllowsNew, cleared-keeps, started-keeps}
@@ -119,10 +119,10 @@ module _ (n : ℕ) (resident : is_guest_id n ≡ false) where
         field = subst (λ i. AllByRecursion (λ t. t.id ≡ i → t.field ≡ runs) m.tasks) (sym h.0) h.2;
       }
 
-  alone : (m : Lists) → m.running ≡ n → RunsAlone m → Alone m
+  alone : (m : Lists) → m.running ≡ n → ResidentAlone m → Alone m
   alone m is r = (is, subst (λ i. AllByRecursion (λ t. t.field ≡ runs → t.id ≡ i) m.tasks) is r.field)
 
-  alone-on : (m : Lists) → Alone m → RunsAlone m
+  alone-on : (m : Lists) → Alone m → ResidentAlone m
   alone-on m h = record { resident = ap is_guest_id h.0 ∙ resident; field = subst (λ i. AllByRecursion (λ t. t.field ≡ runs → t.id ≡ i) m.tasks) (sym h.0) h.1 }
 
 pub cleared-runs : (k : Standing) → RunsResident k.lists → RunsResident (cleared k).lists
@@ -130,7 +130,7 @@ cleared-runs k r =
     let n : ℕ = k.lists.running in
     goes-on n r.resident (cleared k).lists (cleared-keeps (Goes n r.resident) (λ m bs ms h. h) (goes-gone n r.resident) k (goes n r.resident k.lists refl r))
 
-pub cleared-alone : (k : Standing) → RunsAlone k.lists → RunsAlone (cleared k).lists
+pub cleared-alone : (k : Standing) → ResidentAlone k.lists → ResidentAlone (cleared k).lists
 cleared-alone k r =
     let n : ℕ = k.lists.running in
     alone-on n r.resident (cleared k).lists
@@ -142,7 +142,7 @@ started-runs d name rest pri k r =
     goes-on n r.resident (start_program d name rest pri k).left.lists
     (started-keeps (Goes n r.resident) (λ m bs ms h. h) (goes-new n r.resident) d name rest pri k (goes n r.resident k.lists refl r))
 
-pub started-alone : (d : Disc) (name : List ℕ) (rest : Result (Unit {0}) ℕ) (pri : Priority) (k : Standing) → RunsAlone k.lists → RunsAlone (start_program d name rest pri k).left.lists
+pub started-alone : (d : Disc) (name : List ℕ) (rest : Result (Unit {0}) ℕ) (pri : Priority) (k : Standing) → ResidentAlone k.lists → ResidentAlone (start_program d name rest pri k).left.lists
 started-alone d name rest pri k r =
     let n : ℕ = k.lists.running in
     alone-on n r.resident (start_program d name rest pri k).left.lists
@@ -158,7 +158,7 @@ begun-runs id k guest r =
           (λ t e h same. absurd (false≢true (sym r.resident ∙ sym (ap is_guest_id same) ∙ ap is_guest_id (eqb-true t.id id e) ∙ guest))) k.lists.tasks r.field;
     }
 
-pub begun-alone : (id : ℕ) (k : Standing) → RunsAlone k.lists → RunsAlone (begun id k).lists
+pub begun-alone : (id : ℕ) (k : Standing) → ResidentAlone k.lists → ResidentAlone (begun id k).lists
 begun-alone id k r =
     record {
       resident = r.resident;

@@ -11,7 +11,7 @@ use Rattle.kernel_residents.specs.KernelCalls.KernelModel.Standing.{Standing}
 use Rattle.kernel_residents.specs.ResidentRequests.Requests.{RunsResident}
 use Rattle.kernel_residents.proofs.Shown.ResidentRequests.RunningResident.{runs-work}
 use Rattle.kernel_residents.specs.KernelCalls.KernelModel.declared.numbers.TheConstants.{SHELL_PACKET}
-use Rattle.shell_programs.specs.KeptLists.{RunsAlone}
+use Rattle.shell_programs.specs.KeptLists.{ResidentAlone}
 use Rattle.shell_programs.specs.ShellPacket.{posted}
 use Rattle.shell_programs.proofs.KeptTasks.{all-changed}
 
@@ -25,9 +25,9 @@ posted-is to k low = ap (λ b. cond b (with_key None (with_arrived Keyboard (sen
 pub posted-runs : (to : ℕ) (k : Standing) → to ≤ 63 → RunsResident k.lists → RunsResident (posted to k).lists
 posted-runs to k low r = subst RunsResident (sym (posted-is to k low)) (runs-work k.lists to (queue-with to k) r)
 
-pub posted-alone : (to : ℕ) (k : Standing) → to ≤ 63 → RunsAlone k.lists → RunsAlone (posted to k).lists
+pub posted-alone : (to : ℕ) (k : Standing) → to ≤ 63 → ResidentAlone k.lists → ResidentAlone (posted to k).lists
 posted-alone to k low r =
-    subst RunsAlone (sym (posted-is to k low))
+    subst ResidentAlone (sym (posted-is to k low))
     (record {
       resident = r.resident;
       field = all-changed to (λ t. record t { queue = queue-with to k }) (λ t. t.field ≡ runs → t.id ≡ k.lists.running) (λ t e h. h) k.lists.tasks r.field;

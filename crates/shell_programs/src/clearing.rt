@@ -5,7 +5,7 @@ ghost use Rattle.kernel_residents.specs.KernelCalls.KernelModel.Lists.{Lists};
 ghost use Rattle.kernel_residents.specs.KernelCalls.KernelModel.Standing.{standing};
 ghost use Rattle.shell_programs.specs.ClearedTasks.{cleared, cleared_at};
 ghost use Rattle.shell_programs.specs.Standings.{HasStanding};
-ghost use Rattle.kernel_residents.specs.KernelCalls.TaskCalls.DeleteTask.{RunsAlive};
+ghost use Rattle.kernel_residents.specs.KernelCalls.KernelModel.Running.{RunsAlive};
 
 use kernel_residents::numbers::{FIRST_GUEST, SHELL};
 use kernel_residents::{

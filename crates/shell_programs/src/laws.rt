@@ -4,7 +4,6 @@ ghost use Rattle.kernel_residents.specs.KernelCalls.PacketQueue.QueueWords.{Queu
 ghost use Rattle.ram_disc.specs.Disc.{Disc};
 ghost use Rattle.kernel_residents.specs.KernelCalls.KernelModel.Between.{FaultsStand};
 ghost use Rattle.kernel_residents.specs.KernelCalls.KernelModel.Changes.{AreUnowned, with_queue};
-ghost use Rattle.kernel_residents.specs.KernelCalls.KernelModel.Kernel.{Kernel};
 ghost use Rattle.kernel_residents.specs.KernelCalls.KernelModel.Lists.{Lists, queued};
 ghost use Rattle.kernel_residents.specs.KernelCalls.KernelModel.ValidBlocks.{AreData};
 ghost use Rattle.kernel_residents.specs.KernelCalls.KernelModel.Task.{is_guest_id};
@@ -14,7 +13,7 @@ ghost use Rattle.kernel_residents.specs.KernelCalls.KernelModel.Standing.{Standi
 ghost use Rattle.kernel_residents.specs.ResidentRequests.Requests.{RunsResident};
 ghost use Rattle.kernel_residents.specs.KernelCalls.KernelModel.declared.numbers.TheConstants.{SHELL_PACKET};
 ghost use Rattle.shell_programs.specs.ClearedTasks.{cleared};
-ghost use Rattle.shell_programs.specs.KeptLists.{HasProgram, KeepsResidents, RunsAlone};
+ghost use Rattle.shell_programs.specs.KeptLists.{HasProgram, KeepsResidents, ResidentAlone};
 ghost use Rattle.shell_programs.specs.ShellPacket.{HasPacket, posted};
 ghost use Rattle.shell_programs.specs.StartedProgram.{begun, start_program};
 ghost use Rattle.shell_programs.specs.declared.programs.Priority.{Priority};
@@ -24,10 +23,9 @@ ghost use Rattle.shell_programs.specs.declared.programs.Priority.{Priority};
 pub fn clearing_law()
     ensures kept { (k : Standing) → KeepsResidents k.lists (cleared k).lists }
     ensures runs { (k : Standing) → RunsResident k.lists → RunsResident (cleared k).lists }
-    ensures alone { (k : Standing) → RunsAlone k.lists → RunsAlone (cleared k).lists }
-    ensures faults { (m : Kernel) (k : Standing) → AreValid k.lists
-        → FaultsStand (record m { lists = k.lists })
-        → FaultsStand (record m { lists = (cleared k).lists }) }
+    ensures alone { (k : Standing) → ResidentAlone k.lists → ResidentAlone (cleared k).lists }
+    ensures faults { (k : Standing) → AreValid k.lists → FaultsStand k.lists
+        → FaultsStand (cleared k).lists }
 {}
 
 /// What starting a program keeps, also where it is refused: the same, and all queued packets. One that was started is a guest that
@@ -41,11 +39,11 @@ pub fn starting_law()
         (k : Standing) → RunsResident k.lists
         → RunsResident (start_program d name rest pri k).left.lists }
     ensures alone { (d : Disc) (name : List ℕ) (rest : Result (Unit {0}) ℕ) (pri : Priority)
-        (k : Standing) → RunsAlone k.lists
-        → RunsAlone (start_program d name rest pri k).left.lists }
-    ensures faults { (m : Kernel) (d : Disc) (name : List ℕ) (rest : Result (Unit {0}) ℕ)
-        (pri : Priority) (k : Standing) → FaultsStand (record m { lists = k.lists })
-        → FaultsStand (record m { lists = (start_program d name rest pri k).left.lists }) }
+        (k : Standing) → ResidentAlone k.lists
+        → ResidentAlone (start_program d name rest pri k).left.lists }
+    ensures faults { (d : Disc) (name : List ℕ) (rest : Result (Unit {0}) ℕ) (pri : Priority)
+        (k : Standing) → FaultsStand k.lists
+        → FaultsStand (start_program d name rest pri k).left.lists }
     ensures there { (d : Disc) (name : List ℕ) (rest : Result (Unit {0}) ℕ) (pri : Priority)
         (k : Standing) (id : ℕ) → (start_program d name rest pri k).answer ≡ Ok id
         → HasProgram k.lists.version id (start_program d name rest pri k).left.lists }
@@ -57,10 +55,9 @@ pub fn beginning_law()
     ensures packets { (id : ℕ) (k : Standing) → queued (begun id k).lists ≡ queued k.lists }
     ensures runs { (id : ℕ) (k : Standing) → is_guest_id id ≡ true → RunsResident k.lists
         → RunsResident (begun id k).lists }
-    ensures alone { (id : ℕ) (k : Standing) → RunsAlone k.lists → RunsAlone (begun id k).lists }
-    ensures faults { (m : Kernel) (id : ℕ) (k : Standing)
-        → FaultsStand (record m { lists = k.lists })
-        → FaultsStand (record m { lists = (begun id k).lists }) }
+    ensures alone { (id : ℕ) (k : Standing) → ResidentAlone k.lists → ResidentAlone (begun id k).lists }
+    ensures faults { (id : ℕ) (k : Standing) → FaultsStand k.lists
+        → FaultsStand (begun id k).lists }
 {}
 
 /// What sending the packet keeps. Only the queue of the task that gets it is another.
@@ -69,11 +66,10 @@ pub fn packet_law()
         → (ps : List QueuedPacket) × ((posted to k).lists ≡ with_queue (Work to) ps k.lists) }
     ensures runs { (to : ℕ) (k : Standing) → to ≤ 63 → RunsResident k.lists
         → RunsResident (posted to k).lists }
-    ensures alone { (to : ℕ) (k : Standing) → to ≤ 63 → RunsAlone k.lists
-        → RunsAlone (posted to k).lists }
-    ensures faults { (m : Kernel) (to : ℕ) (k : Standing) → to ≤ 63
-        → FaultsStand (record m { lists = k.lists })
-        → FaultsStand (record m { lists = (posted to k).lists }) }
+    ensures alone { (to : ℕ) (k : Standing) → to ≤ 63 → ResidentAlone k.lists
+        → ResidentAlone (posted to k).lists }
+    ensures faults { (to : ℕ) (k : Standing) → to ≤ 63 → FaultsStand k.lists
+        → FaultsStand (posted to k).lists }
 {}
 
 /// The shell's packet lies in the resident block, and while no queue has it nobody owns its words and arguments. It stays on no queue

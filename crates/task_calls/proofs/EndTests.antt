@@ -25,7 +25,8 @@ use Rattle.block_calls.proofs.Shown.CallAnswers.FoundTask.{any-one, reads}
 use Rattle.block_calls.proofs.Shown.CallAnswers.GuestTask.{GuestFacts, guest-facts}
 use Rattle.block_calls.specs.CallAnswers.Tasks.{is_dead}
 use Rattle.block_calls.specs.Freevec.{has_packet_in}
-use Rattle.task_calls.specs.DeleteTask.{HasEnded, RunsAlive, deletion_tests, end_tests, has_no_coroutines, has_no_work, has_packet_out}
+use Rattle.task_calls.specs.DeleteTask.{HasEnded, deletion_tests, end_tests, has_no_coroutines, has_no_work, has_packet_out}
+use Rattle.block_calls.specs.KernelDispatch.KernelModel.Running.{RunsAlive}
 use Rattle.task_calls.proofs.TestsInTurn.{all-passed}
 
 -- the state is the field and 3 more at most

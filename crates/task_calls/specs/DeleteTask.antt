@@ -1,14 +1,14 @@
 -- The call that deletes a task.
 use Rattle.std.specs.Prelude.{◌≡◌, ℕ, ◌==◌, ◌&&◌, Bool, not, None, if◌then◌else◌, List, [], ◌∷◌, ◌++◌, length}
-use Rattle.std.specs.List.{AllByRecursion, flat_map, list_any}
+use Rattle.std.specs.List.{flat_map, list_any}
 use Rattle.block_calls.specs.KernelDispatch.LinkedList.Places.{without_first}
 use Rattle.block_calls.specs.KernelDispatch.GetvecChain.Give.{given}
 use Rattle.block_calls.specs.KernelDispatch.PacketQueue.QueueWords.{QueuedPacket}
 use Rattle.block_calls.specs.KernelDispatch.KernelModel.Between.{is_empty_queue}
 use Rattle.block_calls.specs.KernelDispatch.KernelModel.Changes.{with_blocks, with_tasks}
 use Rattle.block_calls.specs.KernelDispatch.KernelModel.Lists.{Lists, address_of_task}
+use Rattle.block_calls.specs.KernelDispatch.KernelModel.Running.{RunsAlive}
 use Rattle.block_calls.specs.KernelDispatch.KernelModel.Task.{Task, is_guest_id}
-use Rattle.block_calls.specs.KernelDispatch.KernelModel.ValidTasks.{runs}
 use Rattle.block_calls.specs.CallAnswers.Guests.{GuestAt, guest_tests}
 use Rattle.block_calls.specs.CallAnswers.Made.{Made, done, unless_refused}
 use Rattle.block_calls.specs.CallAnswers.Refusals.{first_refusal}
@@ -48,10 +48,6 @@ without_task l id = with_blocks (given (address_of_task l id) l.blocks) (with_ta
 
 abbrev pub delete_task : Lists → ℕ → Made
 delete_task l id = unless_refused (guest_tests l id ++ deletion_tests l id) l (done (without_task l id))
-
--- the task that runs, if there is one, has the state of one that runs
-abbrev pub RunsAlive : Lists → Type 0
-RunsAlive l = AllByRecursion (λ t. t.id ≡ l.running → t.field ≡ runs) l.tasks
 
 -- the guest at the address has ended, and nothing of its own is left but its block
 pub record HasEnded (l : Lists) (id address : ℕ) : Type 0 where

@@ -5,7 +5,8 @@ ghost use Rattle.block_calls.specs.KernelDispatch.KernelModel.Lists.{Lists};
 ghost use Rattle.block_calls.specs.CallAnswers.Guests.{GuestAt};
 ghost use Rattle.block_calls.specs.CallAnswers.Made.{IsMade, done, minus_one, plain_answer};
 ghost use Rattle.block_calls.specs.CallAnswers.Refusals.{answer_of, first_refusal};
-ghost use Rattle.task_calls.specs.DeleteTask.{HasEnded, RunsAlive, delete_task, deletion_tests, without_task};
+ghost use Rattle.task_calls.specs.DeleteTask.{HasEnded, delete_task, deletion_tests, without_task};
+ghost use Rattle.block_calls.specs.KernelDispatch.KernelModel.Running.{RunsAlive};
 ghost use Rattle.block_calls.specs.Freevec.{has_packet_in};
 
 use crate::packets_out::has_packet_out;

@@ -11,7 +11,7 @@ ghost use Rattle.block_calls.specs.KernelDispatch.KernelModel.Residents.{pending
 ghost use Rattle.task_calls.specs.PacketsOut.{is_sender_at, is_sender_at_device, is_sender_of_read, is_sender_out, is_sender_to, is_sender_to_residents};
 
 use block_calls::kernel_dispatch::{RootField, TcbField, field, packets, root, tasks};
-use block_calls::numbers::{FIRST_GUEST, READS_HEAD, SENDER};
+use block_calls::numbers::{FIRST_GUEST, PENDING_HEAD, SENDER};
 use word_store::{Store, word_at};
 
 /// Whether a resident or a device has a packet from the task with the number, or one of its reads waits for a line.
@@ -77,7 +77,7 @@ fn is_sender_of_read(store: &Store, id: u32) -> bool
     if root(store, RootField::Residents) == 0 {
         return false;
     }
-    is_sender_at(store, READS_HEAD, id)
+    is_sender_at(store, PENDING_HEAD, id)
 }
 
 // Whether a packet that is queued at the head is.

@@ -3,7 +3,7 @@ use Rattle.std.specs.Prelude.{ℕ, ◌+◌, ◌%◌, List, [], ◌∷◌, slice_
 use Rattle.kernel_calls.specs.PacketQueue.QueueWords.{QueuedPacket}
 use Rattle.kernel_calls.specs.KernelModel.Lists.{Lists}
 use Rattle.kernel_calls.specs.PacketCalls.Returned.{Served, first_returned}
-use Rattle.kernel_calls.specs.PacketCalls.declared.returns.Device.TheVariants.{OfOutput}
+use Rattle.kernel_calls.specs.PacketCalls.declared.returns.Device.TheVariants.{Output}
 use Rattle.kernel_calls.specs.KernelModel.declared.numbers.TheConstants.{FIRST}
 
 -- the byte that is printed, where these packets waited: what word 5 of the first one ends with; beyond the store it is 0
@@ -13,4 +13,4 @@ printed words (p ∷ ps) = slice_index words (p.address + FIRST) % 256 ∷ []
 
 -- and the packet is returned
 abbrev pub finished : Lists → Served
-finished l = first_returned OfOutput 0 l.output l
+finished l = first_returned Output 0 l.output l

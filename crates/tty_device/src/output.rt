@@ -32,5 +32,5 @@ pub fn finish_output<L: EventLog>(store: &mut Store, out: &mut Output, log: &mut
         return;
     }
     out.append(&[(word_at(store, p, BYTE) % 256) as u8]);
-    return_first(store, Device::OfOutput, 0, log);
+    return_first(store, Device::Output, 0, log);
 }

@@ -79,7 +79,7 @@ impl Tty {
         let Some(byte) = self.bytes.pop_front() else {
             return;
         };
-        return_first(store, Device::OfKeys, u32::from(byte), log);
+        return_first(store, Device::Keyboard, u32::from(byte), log);
     }
 
     /// Drops all bytes.

@@ -14,7 +14,8 @@ use kernel_model::kernel_lists::{
     RootField, TcbField, blocks, coroutine_list, field, head_words, modules, packets, root, tasks,
 };
 use kernel_model::numbers::{
-    COROUTINE_WORDS, FAULT_PACKET, FIRST_GUEST, PACKET_WORDS, READS_HEAD, REPORTER, RESIDENT_WORDS,
+    COROUTINE_WORDS, FAULT_PACKET, FIRST_GUEST, PACKET_WORDS, PENDING_HEAD, REPORTER,
+    RESIDENT_WORDS,
 };
 use word_store::{Store, word_at};
 
@@ -70,7 +71,7 @@ fn show_pending<V: Visitor>(store: &Store, visitor: &mut V)
     ensures { V.shown visitor.old visitor.new (pending_packets store.now) }
 {
     if has_residents(store) {
-        show_queue(store, READS_HEAD, visitor);
+        show_queue(store, PENDING_HEAD, visitor);
     }
 }
 
@@ -114,7 +115,7 @@ fn show_console<V: Visitor>(store: &Store, visitor: &mut V)
     ensures { V.shown visitor.old visitor.new (console_ranges store.now) }
 {
     if has_residents(store) {
-        visitor.show(READS_HEAD, CONSOLE_WORDS);
+        visitor.show(PENDING_HEAD, CONSOLE_WORDS);
     }
 }
 

@@ -8,4 +8,4 @@ pub returns-clause-dispatch : goal.returns-clause-dispatch
 returns-clause-dispatch c = λ s l sh d r. turn-dispatches s l sh d r
 
 pub returns-clause-faults : goal.returns-clause-faults
-returns-clause-faults c = λ k s sh d. turn-faults k s sh d
+returns-clause-faults c = turn-faults

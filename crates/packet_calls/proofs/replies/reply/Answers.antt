@@ -7,7 +7,7 @@ use Rattle.block_calls.specs.KernelDispatch.PacketQueue.declared.events.KernelEv
 use Rattle.block_calls.specs.KernelDispatch.KernelModel.Task.{queue_head}
 use Rattle.block_calls.proofs.Shown.CallAnswers.FoundTask.{reads}
 use Rattle.packet_calls.specs.QueueWords.{enqueued, with_results}
-use Rattle.packet_calls.specs.declared.queues.Queue.TheVariants.{OfTask}
+use Rattle.packet_calls.specs.declared.queues.Queue.TheVariants.{Work}
 use Rattle.packet_calls.proofs.ReplyCall.{is-noted, is-returned, reply-nobody, reply-packet, reply-queue}
 use Rattle.packet_calls.proofs.replies.reply.Goals as goal
 
@@ -35,7 +35,7 @@ give_back-requires-clause-packet g c =
 pub returns-clause-made : goal.returns-clause-made
 returns-clause-made g c = λ l h r.
     is-returned c.args.store.now l c.args.p _ c.args.res1 c.args.res2 h r c.word_at-sender.result c.word_at-sender.ensures c.in-Some.task (sym c.find.ensures ∙ c.in-Some.is) c.give_back.new.store
-    (subst (λ n. c.give_back.new.store ≡ enqueued (with_results c.args.store.now c.args.p n c.args.res1 c.args.res2) (OfTask c.in-Some.task) c.args.p 0) (c.number_word-from.ensures ∙ ap word_of (to_z-of_z c.ranges.from)) c.give_back.ensures)
+    (subst (λ n. c.give_back.new.store ≡ enqueued (with_results c.args.store.now c.args.p n c.args.res1 c.args.res2) (Work c.in-Some.task) c.args.p 0) (c.number_word-from.ensures ∙ ap word_of (to_z-of_z c.ranges.from)) c.give_back.ensures)
 
 pub returns-clause-notes : goal.returns-clause-notes
 returns-clause-notes g c = λ l h r.

@@ -18,20 +18,20 @@ use Rattle.packet_calls.specs.Destinations.{queue_for}
 use Rattle.packet_calls.specs.PacketMoves.{stands_in}
 use Rattle.packet_calls.specs.QueueWords as moves
 use Rattle.packet_calls.specs.declared.queues.Queue.{Queue}
-use Rattle.packet_calls.specs.declared.queues.Queue.TheVariants.{OfTask}
+use Rattle.packet_calls.specs.declared.queues.Queue.TheVariants.{Work}
 use Rattle.packet_calls.proofs.HeldPlaces.{HasFirst, has-at, stands-at}
 use Rattle.packet_calls.specs.Returned.{IsServed, first_returned, head_of, number_of, place_of}
 use Rattle.packet_calls.specs.declared.returns.Device.{Device}
-use Rattle.packet_calls.specs.declared.returns.Device.TheVariants.{OfClock, OfKeys, OfOutput}
+use Rattle.packet_calls.specs.declared.returns.Device.TheVariants.{Clock, Keyboard, Output}
 use Rattle.packet_calls.proofs.DeviceQueues.{device-held, device-place, one-waits, returned-none, served-none}
 use Rattle.packet_calls.proofs.ReturnedLists.{sender-there}
 use Rattle.packet_calls.proofs.ReturnedWords.{returned-packet, returned-queue, returned-served}
 use Rattle.packet_calls.proofs.returns.return_first.Goals as goal
 
 head-same : (l : Lists) (d : Device) → moves.head_of (queue_for l (place_of d)) ≡ head_of d
-head-same l OfClock = refl
-head-same l OfKeys = refl
-head-same l OfOutput = refl
+head-same l Clock = refl
+head-same l Keyboard = refl
+head-same l Output = refl
 
 -- the queue of the device, and its first packet
 module _ (s : List ℕ) (l : Lists) (d : Device) (h : HoldsLists s l) (queue : Queue) (at : queue ≡ queue_for l (place_of d)) where
@@ -77,17 +77,17 @@ module _ (s : List ℕ) (l : Lists) (d : Device) (h : HoldsLists s l) (queue : Q
             ap (λ z. moves.with_results z p from res1 0) out
             ∙ (λ i. moves.with_results (moves.unqueued s (at i) (sym one.address i)) (sym one.address i) (number i) res1 0)
 
-        back-queue : HasQueue (moves.with_results v p from res1 0) (moves.head_of (OfTask task))
-        back-queue = subst (λ z. HasQueue z (moves.head_of (OfTask task))) (sym words) (returned-queue s l d one.packet one.back res1 h one.is task to)
+        back-queue : HasQueue (moves.with_results v p from res1 0) (moves.head_of (Work task))
+        back-queue = subst (λ z. HasQueue z (moves.head_of (Work task))) (sym words) (returned-queue s l d one.packet one.back res1 h one.is task to)
 
-        back-packet : CanQueue (moves.with_results v p from res1 0) (moves.head_of (OfTask task)) p
+        back-packet : CanQueue (moves.with_results v p from res1 0) (moves.head_of (Work task)) p
         back-packet =
-            subst (CanQueue (moves.with_results v p from res1 0) (moves.head_of (OfTask task))) one.address
-            (subst (λ z. CanQueue z (moves.head_of (OfTask task)) one.packet.address) (sym words) (returned-packet s l d one.packet one.back res1 h one.is task to))
+            subst (CanQueue (moves.with_results v p from res1 0) (moves.head_of (Work task))) one.address
+            (subst (λ z. CanQueue z (moves.head_of (Work task)) one.packet.address) (sym words) (returned-packet s l d one.packet one.back res1 h one.is task to))
 
-        served : (w : List ℕ) → w ≡ moves.enqueued (moves.with_results v p from res1 0) (OfTask task) p 0 → IsServed s w l (first_returned d res1 (queue_of (place_of d) l) l)
+        served : (w : List ℕ) → w ≡ moves.enqueued (moves.with_results v p from res1 0) (Work task) p 0 → IsServed s w l (first_returned d res1 (queue_of (place_of d) l) l)
         served w is_w =
-            let r = returned-served s l d one.packet one.back res1 h one.is task to w (is_w ∙ (λ i. moves.enqueued (words i) (OfTask task) (sym one.address i) 0)) in
+            let r = returned-served s l d one.packet one.back res1 h one.is task to w (is_w ∙ (λ i. moves.enqueued (words i) (Work task) (sym one.address i) 0)) in
             subst (λ ps. IsServed s w l (first_returned d res1 ps l)) (sym one.is) (record { lists = r.lists; same = r.same })
 
 -- the two events

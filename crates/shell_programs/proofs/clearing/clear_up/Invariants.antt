@@ -1,7 +1,7 @@
 use Rattle.std.proofs.Common.{◌≡◌}
 use Rattle.kernel_residents.specs.KernelCalls.KernelModel.ChangedStore.{HasKeeper}
 use Rattle.kernel_residents.specs.KernelCalls.KernelModel.Lists.{Lists}
-use Rattle.kernel_residents.specs.KernelCalls.TaskCalls.DeleteTask.{RunsAlive}
+use Rattle.kernel_residents.specs.KernelCalls.KernelModel.Running.{RunsAlive}
 use Rattle.kernel_residents.specs.KernelCalls.KernelModel.Standing.{standing}
 use Rattle.shell_programs.specs.ClearedTasks.{cleared}
 use Rattle.shell_programs.proofs.ClearedNumbers.{rest_of}

@@ -4,7 +4,8 @@ use Rattle.block_calls.specs.CallAnswers.Refusals.{answer_of}
 use Rattle.block_calls.specs.KernelDispatch.KernelModel.HoldsLists.{HoldsLists}
 use Rattle.block_calls.specs.KernelDispatch.KernelModel.Lists.{Lists}
 use Rattle.block_calls.proofs.Shown.KernelDispatch.KernelModel.WalkedLists.{can-walk}
-use Rattle.task_calls.specs.DeleteTask.{HasEnded, RunsAlive, has_packet_out}
+use Rattle.task_calls.specs.DeleteTask.{HasEnded, has_packet_out}
+use Rattle.block_calls.specs.KernelDispatch.KernelModel.Running.{RunsAlive}
 use Rattle.task_calls.proofs.EndTests.{alive, at-address, dead, ended, served, several, single, tests-are, waiting}
 use Rattle.task_calls.proofs.SentPackets.{out-told}
 use Rattle.task_calls.proofs.deletion.check_deletion.Goals as goal
