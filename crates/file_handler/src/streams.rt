@@ -11,7 +11,7 @@ use crate::pieces::put_zeros;
 use arrayvec::ArrayVec;
 use ram_disc::Disc;
 use ram_disc::codes::{BAD_BUFFER, NOT_OPEN, SHELL_STREAM};
-use resident_requests::{KindKeeper, Request, can_read, can_write, read_buffer};
+use resident_requests::{KindKeeper, Request, can_read, can_write, read_buffer_into};
 use word_store::Store;
 
 /// Puts the next bytes of the stream that is the first argument into `bytes`, for the buffer at the second one, as many as the third
@@ -59,10 +59,16 @@ fn read_bytes(
 }
 
 /// Writes the bytes of the buffer at the second argument, of which the third one is the number, behind those of the file of the stream
-/// that is the first one. The answer is their number. Refused where the stream is none that writes (46), the buffer is bad (48), or the
-/// disc is full (43).
-pub(crate) fn append(disc: &mut Disc, store: &Store, request: Request) -> Result<u32, u32>
-    ensures { handled disc.new result [] ≡ append disc.old store.now request }
+/// that is the first one. On their way they are in `bytes`. The answer is their number. Refused where the stream is none that writes
+/// (46), the buffer is bad (48), or the disc is full (43).
+pub(crate) fn append(
+    disc: &mut Disc,
+    store: &Store,
+    request: Request,
+    bytes: &mut ArrayVec<u8, 4096>,
+) -> Result<u32, u32>
+    requires empty { bytes.old.items ≡ [] }
+    ensures { handled disc.new result bytes.new.items ≡ append disc.old store.now request }
 {
     if !is_writer(disc, request.first) {
         return Err(NOT_OPEN);
@@ -70,8 +76,10 @@ pub(crate) fn append(disc: &mut Disc, store: &Store, request: Request) -> Result
     if !can_read(store, request.second, request.third) {
         return Err(BAD_BUFFER);
     }
-    let bytes = read_buffer(store, request.second, request.third);
-    disc.append(request.first, bytes.as_slice())?;
+    read_buffer_into(store, request.second, request.third, bytes);
+    let end = disc.append(request.first, bytes.as_slice());
+    bytes.clear();
+    end?;
     Ok(request.third)
 }
 

@@ -19,11 +19,13 @@ use word_store::Store;
 
 /// The turn of the file handler, which runs: it takes its first request, does on the disc what is asked, writes bytes into the
 /// request's buffer, and returns the request with its answer. A request of a type that is none of its own is refused (31).
-/// Without a request it waits.
+/// Without a request it waits. On their way between the disc and the store the bytes are in `bytes`, and what is there before the turn
+/// is dropped.
 pub fn file_turn<Q: KindKeeper, L: EventLog>(
     disc: &mut Disc,
     store: &mut Store,
     kinds: &mut Q,
+    bytes: &mut ArrayVec<u8, 4096>,
     log: &mut L,
 )
     requires { (l : Lists) × HasKeeper store.old (Q.tells kinds.old) (Q.room kinds.old) l
@@ -40,8 +42,8 @@ pub fn file_turn<Q: KindKeeper, L: EventLog>(
 {
     match take_request(store, kinds, log) {
         Some(request) => {
-            let mut bytes = ArrayVec::new();
-            let answer = file_request(disc, store, kinds, request, &mut bytes);
+            bytes.clear();
+            let answer = file_request(disc, store, kinds, request, bytes);
             let buffer = request.second;
             let bytes = bytes.as_slice();
             serve_request(
@@ -76,7 +78,7 @@ fn file_request<Q: KindKeeper>(
         Some(FileCall::OpenToRead) => open_to_read(disc, store, request),
         Some(FileCall::OpenToWrite) => open_to_write(disc, store, request),
         Some(FileCall::ReadOn) => read_on(disc, store, kinds, request, bytes),
-        Some(FileCall::Append) => append(disc, store, request),
+        Some(FileCall::Append) => append(disc, store, request, bytes),
         Some(FileCall::Close) => close(disc, request),
         Some(FileCall::Delete) => delete(disc, store, request),
         Some(FileCall::Rename) => rename(disc, store, request),

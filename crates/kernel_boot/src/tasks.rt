@@ -144,7 +144,8 @@ fn load_named<Q: KindKeeper>(
         → IsMade store.old store.new (Q.tells kinds.new) result (load_named disc.now name.now l) }
     ensures room { Q.room kinds.new ≡ Q.room kinds.old }
 {
-    let Some(text) = disc.file(name) else {
+    let mut sectors = ArrayVec::new();
+    let Some(text) = disc.file(name, &mut sectors) else {
         return Err(NO_FILE);
     };
     load_module(store, kinds, &text)

@@ -1,5 +1,6 @@
 -- Others of the parts that stand beside the store.
-use Rattle.std.proofs.Common.{◌≡◌, List, Option}
+use Rattle.std.proofs.Common.{◌≡◌, ℕ, List, Option}
+use Rattle.arrayvec.specs.ArrayVec.{ArrayVec}
 use Rattle.ram_disc.specs.Disc.{Disc}
 use Rattle.kernel_steps.specs.KernelCalls.KernelModel.Kernel.{Console, Kernel, Pipe, Shell}
 use Rattle.kernel_machine.specs.declared.parts.Parts.{Parts}
@@ -18,6 +19,24 @@ stands-beside p k st console shell disc pipes = record {
   console = console;
   shell = shell;
   pipes = pipes;
+  keys = st.keys;
+  steps = st.steps;
+  period = st.period;
+}
+
+-- the file handler's buffer is no part of the kernel
+pub stands-buffer : (p : Parts) (k : Kernel) (bytes : ArrayVec ℕ) → Stands p k → Stands (record p { bytes = bytes }) k
+stands-buffer p k bytes st = record {
+  keeper = st.keeper;
+  marks = st.marks;
+  image = st.image;
+  plain = st.plain;
+  regs = st.regs;
+  type_ahead = st.type_ahead;
+  disc = st.disc;
+  console = st.console;
+  shell = st.shell;
+  pipes = st.pipes;
   keys = st.keys;
   steps = st.steps;
   period = st.period;

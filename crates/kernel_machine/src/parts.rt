@@ -1,6 +1,7 @@
 // What a machine with a kernel consists of.
 
 use crate::script::Script;
+use arrayvec::ArrayVec;
 use kernel_steps::{ByteKinds, ConsoleState, Pipes, ShellState, Tty};
 use ram_disc::Disc;
 use word_store::{Regs, Store};
@@ -18,6 +19,8 @@ pub struct Parts {
     pub tty: Tty,
     /// The files, and the streams that are open on them.
     pub disc: Disc,
+    /// The file handler's buffer, of which no turn but its own knows what is there.
+    pub bytes: ArrayVec<u8, 4096>,
     /// The console's line.
     pub console: ConsoleState,
     /// What the shell does next, and its line.

@@ -148,7 +148,13 @@ fn handle<L: EventLog>(parts: &mut Parts, out: &Output, log: &mut L)
         pipe_turn(&mut parts.pipes, &mut parts.store, &mut parts.kinds, log);
         return;
     }
-    file_turn(&mut parts.disc, &mut parts.store, &mut parts.kinds, log);
+    file_turn(
+        &mut parts.disc,
+        &mut parts.store,
+        &mut parts.kinds,
+        &mut parts.bytes,
+        log,
+    );
 }
 
 // Tells what the disc is: a disc.

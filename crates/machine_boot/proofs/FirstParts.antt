@@ -60,8 +60,8 @@ made-changed n l s t u zeros is ch = subst (λ w. IsChanged (replicate n 0) w l 
 -- they were made for the session
 pub record AreMade (s : Session) (p : Parts) : Type 0 where
   pub store : IsChanged (replicate s.store 0) p.store (first_lists s) []
-  pub marks : (known : List ℕ) (l : Lists) → IsStoreOf p.store known l → length p.store ≡ length p.kinds → MarksAll p.kinds known
-  pub kinds : length p.kinds ≡ s.store
+  pub marks : (known : List ℕ) (l : Lists) → IsStoreOf p.store known l → MarksAll p.kinds known
+  pub kinds : length p.kinds ≡ length p.store
   pub regs : p.regs ≡ no_regs
   pub type_ahead : p.tty ≡ []
   pub disc : p.disc ≡ empty_disc
@@ -76,19 +76,16 @@ pub record AreMade (s : Session) (p : Parts) : Type 0 where
 abbrev lists_with : Bool → Session → Lists
 lists_with b s = cond b (resident_lists s.version s.period s.store s.debug) (empty_lists s.version s.period s.store)
 
-first-numbers : (s : Session) → ((first_lists s).period ≡ s.period) × ((first_lists s).size ≡ s.store)
-first-numbers s = on s.resident
+first-period : (s : Session) → (first_lists s).period ≡ s.period
+first-period s = on s.resident
   where
-    on : (b : Bool) → ((lists_with b s).period ≡ s.period) × ((lists_with b s).size ≡ s.store)
-    on true = (refl, refl)
-    on false = (refl, refl)
+    on : (b : Bool) → (lists_with b s).period ≡ s.period
+    on true = refl
+    on false = refl
 
 module _ (s : Session) (p : Parts) (m : AreMade s p) where
   abbrev lists : Lists
   lists = first_lists s
-
-  size : length p.store ≡ length p.kinds
-  size = omega (arith, m.store.lists.size, m.kinds, (first-numbers s).1)
 
   first-store : HasStore p.store (first_kernel s)
   unfolding first_kernel
@@ -102,10 +99,10 @@ module _ (s : Session) (p : Parts) (m : AreMade s p) where
     keeper =
         record {
           lists = m.store.lists;
-          knows = λ known same. m.marks known lists (record { lists = m.store.lists; addresses = same }) size;
-          enough = omega (arith, size);
+          knows = λ known same. m.marks known lists (record { lists = m.store.lists; addresses = same });
+          enough = omega (arith, m.kinds);
         };
-    marks = sym size;
+    marks = m.kinds;
     image = first-store.image;
     plain = first-store.plain;
     regs = m.regs;
@@ -116,5 +113,5 @@ module _ (s : Session) (p : Parts) (m : AreMade s p) where
     pipes = m.pipes;
     keys = m.keys;
     steps = m.step;
-    period = m.period ∙ sym (first-numbers s).0;
+    period = m.period ∙ sym (first-period s);
   }

@@ -68,14 +68,14 @@ fn empty_machine(alloc: Global, session: &Session) -> Result<Parts, BootEnd>
 {
     let mut store = Store::new(alloc, session.store)?;
     make_lists(&mut store, session);
-    let mut kinds = ByteKinds::new(alloc, session.store).map_err(want_memory)?;
-    kinds.rebuild(&store);
+    let kinds = ByteKinds::of_store(alloc, &store).map_err(want_memory)?;
     Ok(Parts {
         store,
         regs: NO_REGS,
         kinds,
         tty: Tty::new(alloc).map_err(want_memory)?,
         disc: Disc::new(alloc).map_err(want_memory)?,
+        bytes: ArrayVec::new(),
         console: ConsoleState::new(ArrayVec::new(), false),
         shell: ShellState::begin(),
         pipes: Pipes::new(alloc).map_err(want_memory)?,

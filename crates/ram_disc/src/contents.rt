@@ -6,6 +6,7 @@ ghost use Rattle.ram_disc.specs.Disc.{most_files, most_sectors, sectors_of};
 
 use crate::file_bytes::FileBytes;
 use crate::sectors::{SECTORS, SLOTS, Sectors};
+use arrayvec::ArrayVec;
 use std::alloc::Global;
 use std::marker::Model;
 use tp_io::WantMemory;
@@ -189,16 +190,17 @@ impl Contents {
         self.sectors.nth(slot, (position / SECTOR_BYTES) as u16)
     }
 
-    /// The bytes of a slot, as a text.
-    pub(crate) fn text(&self, slot: usize) -> FileBytes<'_>
+    /// The bytes of a slot, as a text. Its sectors are listed in `sectors`.
+    pub(crate) fn text<'a>(
+        &'a self,
+        slot: usize,
+        sectors: &'a mut ArrayVec<u16, 4096>,
+    ) -> FileBytes<'a>
         requires { slot < most_files }
         ensures { result ≡ bytes_at self.now slot }
     {
-        FileBytes::new(
-            self.bytes.as_slice(),
-            self.sectors.list(slot),
-            self.sizes[slot],
-        )
+        self.sectors.list(slot, sectors);
+        FileBytes::new(self.bytes.as_slice(), sectors.as_slice(), self.sizes[slot])
     }
 
     /// Makes the slots those of the other.

@@ -13,6 +13,7 @@ use crate::places::{
     Place, STREAMS, free_stream, is_free, is_open, is_written, may_stand, place_at, stream_to_open,
     writer,
 };
+use arrayvec::ArrayVec;
 use std::alloc::Global;
 use std::marker::Model;
 use tp_io::WantMemory;
@@ -79,15 +80,20 @@ impl Disc {
         ))
     }
 
-    /// The bytes of the file of this name, lent, where there is one.
-    pub fn file(&self, name: &Name) -> Option<FileBytes<'_>>
+    /// The bytes of the file of this name, lent, where there is one. What was in `sectors` is dropped, and the file's sectors are listed
+    /// there.
+    pub fn file<'a>(
+        &'a self,
+        name: &Name,
+        sectors: &'a mut ArrayVec<u16, 4096>,
+    ) -> Option<FileBytes<'a>>
         ensures { result ≡ option_map (λ f. f.bytes) (file_named self.now name.now) }
     {
         let Ok(place) = self.directory.place_of(name) else {
             return None;
         };
         let slot = self.directory.slot_at(place);
-        Some(self.contents.text(slot as usize))
+        Some(self.contents.text(slot as usize, sectors))
     }
 
     /// Where stream k is open: the name of its file, its position, and whether it writes.

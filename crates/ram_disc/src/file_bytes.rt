@@ -2,7 +2,6 @@
 ghost use Rattle.std.specs.Prelude.{◌≡◌, ◌<◌, ◌≤◌, ◌*◌, ℕ, length};
 ghost use Rattle.ram_disc.specs.Contents.{bytes_in, place_in};
 
-use arrayvec::ArrayVec;
 use hunk_text::TextBytes;
 use std::marker::Model;
 
@@ -13,7 +12,7 @@ pub struct FileBytes<'a> {
     /// The bytes of all sectors of the disc.
     bytes: &'a [u8],
     /// The file's sectors, in the order of its bytes.
-    sectors: ArrayVec<u16, 4096>,
+    sectors: &'a [u16],
     /// How many bytes the file has.
     size: u32,
 }
@@ -24,18 +23,18 @@ impl<'a> Model for FileBytes<'a> {
 
     ghost Value = { List ℕ };
 
-    ghost view = { λ f. bytes_in f.bytes.now f.sectors.items f.size };
+    ghost view = { λ f. bytes_in f.bytes.now f.sectors.now f.size };
 
-    ghost invariant = { λ f. (f.size ≤ 512 * length f.sectors.items)
-        × ((p : ℕ) → p < f.size → place_in f.sectors.items p < length f.bytes.now) };
+    ghost invariant = { λ f. (f.size ≤ 512 * length f.sectors.now)
+        × ((p : ℕ) → p < f.size → place_in f.sectors.now p < length f.bytes.now) };
 }
 
 impl<'a> FileBytes<'a> {
     // So many bytes of these sectors of the disc's bytes.
-    pub(crate) fn new(bytes: &'a [u8], sectors: ArrayVec<u16, 4096>, size: u32) -> FileBytes<'a>
-        requires size { size ≤ 512 * length sectors.items }
-        requires inside { (p : ℕ) → p < size → place_in sectors.items p < length bytes.now }
-        ensures { result ≡ bytes_in bytes.now sectors.items size }
+    pub(crate) fn new(bytes: &'a [u8], sectors: &'a [u16], size: u32) -> FileBytes<'a>
+        requires size { size ≤ 512 * length sectors.now }
+        requires inside { (p : ℕ) → p < size → place_in sectors.now p < length bytes.now }
+        ensures { result ≡ bytes_in bytes.now sectors.now size }
     {
         FileBytes {
             bytes,
@@ -56,7 +55,7 @@ impl TextBytes for FileBytes<'_> {
         if i >= self.size {
             return None;
         }
-        let sector = self.sectors.as_slice()[(i / 512) as usize];
+        let sector = self.sectors[(i / 512) as usize];
         Some(self.bytes[sector as usize * 512 + (i % 512) as usize])
     }
 }

@@ -173,20 +173,19 @@ impl Sectors {
         sector
     }
 
-    /// The sectors of a chain, in order.
-    pub(crate) fn list(&self, slot: usize) -> ArrayVec<u16, 4096>
+    /// Puts the sectors of a chain, in order, into `sectors` in the place of what is there.
+    pub(crate) fn list(&self, slot: usize, sectors: &mut ArrayVec<u16, 4096>)
         requires { slot < most_files }
-        ensures sectors { result.items ≡ slice_index_or self.now.chains slot [] }
+        ensures sectors { sectors.new.items ≡ slice_index_or self.now.chains slot [] }
         ensures apart { AreApart self.now }
     {
         let chain = self.chains[slot];
-        let mut sectors = ArrayVec::new();
+        sectors.clear();
         let mut sector = chain.first;
         for i in 0..chain.length {
             sectors.push(sector);
             sector = self.links[sector as usize];
         }
-        sectors
     }
 
     /// Makes the chains those of the other.

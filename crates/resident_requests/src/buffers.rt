@@ -1,5 +1,5 @@
 // Buffers of bytes, which a request names by a word address and a count.
-ghost use Rattle.std.specs.Prelude.{◌≡◌, ◌≤◌, ℕ, length, true};
+ghost use Rattle.std.specs.Prelude.{◌≡◌, ◌≤◌, ℕ, [], length, true};
 ghost use Rattle.kernel_calls.specs.KernelModel.ChangedStore.{HasKeeper};
 ghost use Rattle.kernel_calls.specs.KernelModel.HoldsLists.{HoldsLists};
 ghost use Rattle.kernel_calls.specs.KernelModel.Lists.{Lists};
@@ -86,12 +86,21 @@ pub fn read_buffer(store: &Store, a: u32, n: u32) -> ArrayVec<u8, 4096>
     ensures { result.items ≡ bytes_in store.now a 0 n }
 {
     let mut bytes = ArrayVec::new();
+    read_buffer_into(store, a, n, &mut bytes);
+    bytes
+}
+
+/// Puts them into `bytes`, where there are none yet.
+pub fn read_buffer_into(store: &Store, a: u32, n: u32, bytes: &mut ArrayVec<u8, 4096>)
+    requires count { n ≤ 4096 }
+    requires empty { bytes.old.items ≡ [] }
+    ensures { bytes.new.items ≡ bytes_in store.now a 0 n }
+{
     for i in 0..covered(n) {
         let word = word_at(store, a, i).to_le_bytes();
         bytes.try_extend_from_slice(&word).unwrap();
     }
     bytes.truncate(n as usize);
-    bytes
 }
 
 /// Byte i of the words from a on, or 0 where it is outside the store.

@@ -8,7 +8,7 @@ pub mod requests;
 pub mod services;
 
 pub use answers::{answer_request, finish_turn, return_request};
-pub use buffers::{can_read, can_write, read_buffer, write_buffer};
+pub use buffers::{can_read, can_write, read_buffer, read_buffer_into, write_buffer};
 pub use names::name_at;
 pub use requests::{Request, first_packet, request_at, take_request};
 pub use services::serve_request;

@@ -7,6 +7,7 @@ ghost use Rattle.kernel_residents.specs.KernelCalls.CallAnswers.Made.{IsMade};
 ghost use Rattle.kernel_residents.specs.KernelCalls.KernelModel.Standing.{standing};
 ghost use Rattle.shell_programs.specs.StartedProgram.{IsStarted, create_program, load_program, next_number, priority_of, start_program};
 
+use arrayvec::ArrayVec;
 use kernel_residents::numbers::SHELL;
 use kernel_residents::{KindKeeper, create_task, free_id, highest_id, load_module, unload_module};
 use ram_disc::codes::NO_FILE;
@@ -70,7 +71,8 @@ fn load_program<Q: KindKeeper>(
         (load_program disc.now program.now rest l) }
     ensures room { Q.room kinds.new ≡ Q.room kinds.old }
 {
-    let Some(text) = disc.file(program) else {
+    let mut sectors = ArrayVec::new();
+    let Some(text) = disc.file(program, &mut sectors) else {
         return Err(NO_FILE);
     };
     rest?;

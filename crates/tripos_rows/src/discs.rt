@@ -1,4 +1,5 @@
 // What no run shows of a disc: a stream that is set up anew, its place, and the byte at a place of a file.
+use arrayvec::ArrayVec;
 use hunk_text::TextBytes;
 use ram_disc::{Disc, Name};
 use std::test::Fail;
@@ -12,7 +13,8 @@ fn sets_up_streams(rt: HostRuntime) -> Result<(), Fail> {
     assert_eq!(rt; disc.append(1, &[b'f'; 512]), Ok(()));
     assert_eq!(rt; disc.append(1, b"x"), Ok(()));
     assert_eq!(rt; disc.close(1), Ok(()));
-    let file = disc.file(&name).ok_or("file")?;
+    let mut sectors = ArrayVec::new();
+    let file = disc.file(&name, &mut sectors).ok_or("file")?;
     let bytes = [file.at(511), file.at(512), file.at(513)];
     assert_eq!(rt; bytes, [Some(b'f'), Some(b'x'), None]);
     for (k, name, place, writes, set) in [

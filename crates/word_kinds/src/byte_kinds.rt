@@ -28,25 +28,27 @@ impl Model for ByteKinds {
 }
 
 impl ByteKinds {
-    /// A map of so many words, of which none is marked. `WantMemory` comes only where memory could not be had.
-    pub fn new(alloc: Global, words: u32) -> Result<ByteKinds, WantMemory>
+    /// A map of the words of a store that stands for a kernel, of which exactly the kernel's are marked. `WantMemory` comes only where
+    /// memory could not be had.
+    pub fn of_store(alloc: Global, store: &Store) -> Result<ByteKinds, WantMemory>
+        requires { CanWalkLists store.now }
+        ensures size { IfOk result (λ k. length k ≡ length store.now) }
+        ensures marks { IfOk result (λ k. (known : List ℕ) (l : Lists) → IsStoreOf store.now known l
+            → MarksAll k known) }
+    {
+        let mut kinds = ByteKinds::unmarked(alloc, store.size())?;
+        show_kernel(store, &mut kinds);
+        Ok(kinds)
+    }
+
+    // A map of so many words, of which none is marked.
+    fn unmarked(alloc: Global, words: u32) -> Result<ByteKinds, WantMemory>
         ensures { IfOk result (λ k. k ≡ replicate words false) }
     {
         match vec![in alloc; false; words as usize] {
             Ok(marks) => Ok(ByteKinds { marks }),
             Err(_) => Err(WantMemory),
         }
-    }
-
-    /// Marks exactly the kernel's words, where the store stands for a kernel and has as many words as the map.
-    pub fn rebuild(&mut self, store: &Store)
-        requires { CanWalkLists store.now }
-        ensures size { length self.new ≡ length self.old }
-        ensures marks { (known : List ℕ) (l : Lists) → IsStoreOf store.now known l
-            → length store.now ≡ length self.old → MarksAll self.new known }
-    {
-        self.marks.fill(false);
-        show_kernel(store, self);
     }
 
     // Sets the marks of the n words from `first` on, as far as there are any.

@@ -21,8 +21,8 @@ returns-in-Some-ReadOn g c = λ l k.
 
 pub returns-in-Some-Append : goal.returns-in-Some-Append
 returns-in-Some-Append g c = λ l k.
-    of-asked c.args.disc.now c.args.store.now l c.args.request (handled c.append.new.disc c.append.result c.args.bytes.now.items) c.in-Some-Append.field-0 Append c.in-Some-Append.field-0-is c.in-Some-Append.ensures
-    ((λ k. handled c.append.new.disc c.append.result (c.requires.empty k)) ∙ c.append.ensures)
+    of-asked c.args.disc.now c.args.store.now l c.args.request (handled c.append.new.disc c.append.result c.append.new.bytes.items) c.in-Some-Append.field-0 Append c.in-Some-Append.field-0-is c.in-Some-Append.ensures
+    c.append.ensures
 
 pub returns-in-Some-Close : goal.returns-in-Some-Close
 returns-in-Some-Close g c = λ l k.

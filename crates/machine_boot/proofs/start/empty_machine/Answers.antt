@@ -1,33 +1,38 @@
-use Rattle.std.proofs.Common.{◌≡◌, ℕ, Bool, false, List, [], Option, length, replicate, refl, sym, ap, ◌∙◌, subst}
-use Rattle.std.proofs.lemmas.List.{length-replicate}
+use Rattle.std.proofs.Common.{◌≡◌, ℕ, Bool, List, [], Option, length, refl, sym, ap, ◌∙◌, subst}
 use Rattle.ram_disc.specs.Disc.{Disc, empty_disc}
 use Rattle.session_text.specs.declared.sessions.Session.{Session}
 use Rattle.kernel_machine.specs.Script.{KeyScript, still_to_come}
 use Rattle.kernel_machine.specs.KernelCalls.KernelModel.Kernel.{Pipe}
+use Rattle.kernel_machine.specs.KernelCalls.KernelModel.Lists.{Lists}
 use Rattle.kernel_machine.specs.KernelCalls.KernelModel.Pipes.{no_pipes}
 use Rattle.kernel_machine.proofs.Shown.KernelCalls.KernelModel.WalkedLists.{can-walk}
+use Rattle.kernel_machine.specs.KernelCalls.WordKinds.ByteMap.{MarksAll}
 use Rattle.kernel_machine.specs.KernelCalls.WordKinds.Keeper.{IsStoreOf}
 use Rattle.machine_boot.specs.Boot.{first_lists}
 use Rattle.machine_boot.proofs.FirstParts.{made-changed, made-ok, made-stands}
 use Rattle.machine_boot.proofs.start.empty_machine.Goals as goal
 
-pub rebuild-requires : goal.rebuild-requires
-rebuild-requires c = can-walk _ _ c.make_lists.ensures.lists
+pub of_store-requires : goal.of_store-requires
+of_store-requires c = can-walk _ _ c.make_lists.ensures.lists
 
 pub returns : goal.returns
 returns c =
     let s : Session = c.args.session.now in
-    let none : c.in_ok-kinds.kinds ≡ replicate s.store false =
-    made-ok (λ (k : List Bool). k ≡ replicate s.store false) _ c.new-2.result c.in_ok-kinds.kinds c.in_ok-kinds.ensures.cases c.in_ok-kinds.ensures.variant c.new-2.ensures in
+    let t = c.make_lists.new.store in
+    let size : length c.in_ok-kinds.kinds ≡ length t =
+    made-ok (λ (k : List Bool). length k ≡ length t) _ c.of_store.result c.in_ok-kinds.kinds c.in_ok-kinds.ensures.cases c.in_ok-kinds.ensures.variant c.of_store.ensures.size in
+    let marks =
+    made-ok (λ (k : List Bool). (known : List ℕ) (l : Lists) → IsStoreOf t known l → MarksAll k known) _ c.of_store.result c.in_ok-kinds.kinds c.in_ok-kinds.ensures.cases
+    c.in_ok-kinds.ensures.variant c.of_store.ensures.marks
+    in
     made-stands s _
     (record {
       store = made-changed s.store (first_lists s) c.in_ok-store.store c.make_lists.new.store c.store.inside.words.items c.in_ok-store.ensures c.store.view_is c.make_lists.ensures;
-      marks = λ known l is same.
-          c.rebuild.ensures.marks known l (subst (λ t. IsStoreOf t known l) c.store.view_is is) (sym (ap length c.store.view_is) ∙ same ∙ c.rebuild.ensures.size);
-      kinds = c.rebuild.ensures.size ∙ ap length none ∙ length-replicate s.store false;
+      marks = λ known l is. marks known l (subst (λ t. IsStoreOf t known l) c.store.view_is is);
+      kinds = size ∙ sym (ap length c.store.view_is);
       regs = refl;
-      type_ahead = made-ok (λ (t : List ℕ). t ≡ []) _ c.new-3.result c.in_ok-map_err.field-0 c.in_ok-map_err.ensures.cases c.in_ok-map_err.ensures.variant c.new-3.ensures;
-      disc = made-ok (λ (d : Disc). d ≡ empty_disc) _ c.new-4.result c.in_ok-map_err-2.field-0 c.in_ok-map_err-2.ensures.cases c.in_ok-map_err-2.ensures.variant c.new-4.ensures;
+      type_ahead = made-ok (λ (t : List ℕ). t ≡ []) _ c.new-2.result c.in_ok-map_err.field-0 c.in_ok-map_err.ensures.cases c.in_ok-map_err.ensures.variant c.new-2.ensures;
+      disc = made-ok (λ (d : Disc). d ≡ empty_disc) _ c.new-3.result c.in_ok-map_err-2.field-0 c.in_ok-map_err-2.ensures.cases c.in_ok-map_err-2.ensures.variant c.new-3.ensures;
       console = c.new-6.ensures ∙ ap (λ l. record { line = l; finished = false }) c.new-5.ensures;
       shell = c.begin.ensures;
       pipes =

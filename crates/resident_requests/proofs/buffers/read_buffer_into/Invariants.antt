@@ -1,7 +1,7 @@
 use Rattle.std.proofs.Common.{◌≡◌, ◌*◌}
 use Rattle.arrayvec.specs.ArrayVec.{array_vec_len}
 use Rattle.resident_requests.specs.Buffers.{bytes_in}
-use Rattle.resident_requests.proofs.buffers.read_buffer.Given as goal
+use Rattle.resident_requests.proofs.buffers.read_buffer_into.Given as goal
 
 abbrev pub invariant-loop-i : goal.invariant-loop-i
 invariant-loop-i l = record {

@@ -2,7 +2,7 @@ use Rattle.std.proofs.Common.{◌≡◌, ◌∙◌, ◌+◌, ◌*◌, ◌≤◌,
 use Rattle.std.specs.Prelude.{OnOk}
 use Rattle.std.specs.Int.{w32, to_le_bytes}
 use Rattle.resident_requests.proofs.WordBytes.{front-bytes, word-more}
-use Rattle.resident_requests.proofs.buffers.read_buffer.Goals as goal
+use Rattle.resident_requests.proofs.buffers.read_buffer_into.Goals as goal
 
 on-ok : {T E : Type 0} (r : Result T E) (x : T) (P : Type 0) → r ≡ Ok x → OnOk r P → P
 on-ok (Ok y) x P ok p = p
