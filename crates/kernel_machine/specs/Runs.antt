@@ -1,5 +1,5 @@
 -- How far a run has come.
-use Rattle.std.specs.Prelude.{◌≡◌, ◌<◌, ◌+◌, ◌/◌, ◌⊎◌, ℕ, true, None, [], slice_set}
+use Rattle.std.specs.Prelude.{◌≡◌, ◌<◌, ◌+◌, ◌-◌, ◌/◌, ◌⊎◌, ℕ, true, None, [], slice_set}
 use Rattle.kernel_steps.specs.KernelCalls.TaskBlock.RootWords.{root_address}
 use Rattle.kernel_steps.specs.KernelCalls.TaskBlock.declared.roots.RootField.TheVariants.{Tick}
 use Rattle.kernel_steps.specs.KernelCalls.KernelModel.Kernel.{Kernel}
@@ -20,6 +20,11 @@ pub record HasPassed (n : ℕ) (k : Kernel) (p : Parts) : Type 0 where
   pub valid : IsValid (run n k).kernel
   -- and has not stopped
   pub goes : (run n k).kernel.stop ≡ None
+
+-- n steps, of which none but the last shows or notes anything, or stops the machine
+pub record IsQuietButLast (n : ℕ) (k : Kernel) : Type 0 where
+  pub quiet : run (n - 1) k ≡ quietly (run (n - 1) k).kernel
+  pub goes : (run (n - 1) k).kernel.stop ≡ None
 
 -- the parts once n steps more are counted, and with them the ticks, in the word of the root
 abbrev pub counted : ℕ → Parts → Parts

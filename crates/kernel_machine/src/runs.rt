@@ -3,6 +3,7 @@ ghost use Rattle.std.specs.Prelude.{◌≡◌, ◌<◌, ◌+◌, ◌≤◌, [], 
 ghost use Rattle.kernel_steps.specs.KernelCalls.KernelModel.NotedEvents.{NotesAll};
 ghost use Rattle.kernel_steps.specs.KernelCalls.KernelModel.Ranges.{most_steps};
 ghost use Rattle.kernel_steps.specs.Step.{quietly, run};
+ghost use Rattle.kernel_machine.specs.Runs.{IsQuietButLast};
 
 use crate::machine::Machine;
 use crate::spans::pass;
@@ -17,6 +18,7 @@ impl Machine {
         requires steps { self.old.kernel.steps + most ≤ most_steps }
         ensures some { 0 < result }
         ensures most { result ≤ most }
+        ensures last { IsQuietButLast result self.old.kernel }
         ensures kernel { self.new.kernel ≡ (run result self.old.kernel).kernel }
         ensures output { self.new.output ≡ (run result self.old.kernel).bytes }
         ensures events { NotesAll (L.noted log.old) (L.noted log.new) (L.has_failed log.old)

@@ -1,9 +1,9 @@
-use Rattle.std.proofs.Common.{◌∙◌, ◌+◌, ap, arith, subst, sym}
+use Rattle.std.proofs.Common.{◌∙◌, ◌+◌, ap, arith, refl, subst, sym}
 use Rattle.kernel_steps.specs.KernelCalls.KernelModel.NotedEvents.{NotesAll}
 use Rattle.kernel_steps.proofs.Shown.KernelCalls.KernelModel.NotedInTurn.{notes-none}
 use Rattle.kernel_steps.specs.Step.{Stepped}
 use Rattle.kernel_steps.proofs.Runs.{run-steps}
-use Rattle.kernel_machine.proofs.RunParts.{run-behind}
+use Rattle.kernel_machine.proofs.RunParts.{last-behind, last-of-quiet, run-behind}
 use Rattle.kernel_machine.proofs.machine.Machine.advance.Goals as goal
 
 pub step-requires : goal.step-requires
@@ -16,6 +16,9 @@ step-requires g c =
 pub returns-then-quiet-most-clause-some : goal.returns-then-quiet-most-clause-some
 returns-then-quiet-most-clause-some g c = omega (arith, c.if-quiet-most.true, c.requires.some)
 
+pub returns-then-quiet-most-clause-last : goal.returns-then-quiet-most-clause-last
+returns-then-quiet-most-clause-last g c = last-of-quiet _ _ _ c.pass-quiet.ensures.quiet c.pass-quiet.ensures.goes (omega (arith, c.if-quiet-most.true, c.requires.some))
+
 pub returns-then-quiet-most-clause-kernel : goal.returns-then-quiet-most-clause-kernel
 returns-then-quiet-most-clause-kernel g c = sym (ap (λ (x : Stepped). x.kernel) c.pass-quiet.ensures.quiet)
 
@@ -24,6 +27,9 @@ returns-then-quiet-most-clause-output g c = c.pass-quiet.ensures.output ∙ sym 
 
 pub returns-then-quiet-most-clause-events : goal.returns-then-quiet-most-clause-events
 returns-then-quiet-most-clause-events g c = subst (NotesAll _ _ _ _) (sym (ap (λ (x : Stepped). x.events) c.pass-quiet.ensures.quiet)) (notes-none _ _)
+
+pub returns-clause-last : goal.returns-clause-last
+returns-clause-last g c = last-behind _ _ _ _ refl c.pass-quiet.ensures.quiet c.pass-quiet.ensures.goes
 
 pub returns-clause-kernel : goal.returns-clause-kernel
 returns-clause-kernel g c = c.step.ensures.kernel ∙ sym (ap (λ (x : Stepped). x.kernel) (run-behind _ _ _ c.pass-quiet.ensures.quiet))
