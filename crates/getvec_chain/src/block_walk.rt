@@ -2,14 +2,13 @@
 ghost use Rattle.std.specs.Iterator.{YieldsFirst, item_count};
 
 use crate::pieces::Block;
-use owned_words::Store;
 use std::marker::Model;
 
 /// The blocks that are left.
 #[derive(Drop)]
 pub struct Blocks<'a> {
-    /// The store.
-    pub(crate) store: &'a Store,
+    /// The words of the store.
+    pub(crate) words: &'a [u32],
     /// The address of the next block, in words.
     pub(crate) at: u32,
     /// The address at which the blocks end.
@@ -23,10 +22,10 @@ impl<'a> Model for Blocks<'a> {
 
     ghost Value = { List Block };
 
-    ghost view = { λ it. blocks_from it.store.now it.at };
+    ghost view = { λ it. blocks_from it.words.now it.at };
 
     // the words from the iterator's place on tile, up to the end word
-    ghost invariant = { λ it. IsTiledFrom it.store.now it.at × (it.end + 2 ≡ length it.store.now) };
+    ghost invariant = { λ it. IsTiledFrom it.words.now it.at × (it.end + 2 ≡ length it.words.now) };
 }
 
 impl Iterator for Blocks<'_> {
@@ -40,7 +39,7 @@ impl Iterator for Blocks<'_> {
         if self.at == self.end {
             return None;
         }
-        let block = Block::of_word(self.at, self.store.get(self.at)?);
+        let block = Block::of_word(self.at, self.words[self.at as usize]);
         self.at = block.end();
         Some(block)
     }

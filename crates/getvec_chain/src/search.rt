@@ -23,10 +23,20 @@ pub fn blocks_from(store: &Store, at: u32) -> Blocks<'_>
     ensures addresses { length store.now < 2 ^ 32 }
 {
     Blocks {
-        store,
+        words: all_words(store),
         at,
         end: store.size() - 2,
     }
+}
+
+// All words of the store, lent.
+fn all_words(store: &Store) -> &[u32]
+    ensures { result.now ≡ store.now }
+{
+    let Some(words) = store.words(0, store.size()) else {
+        unreachable!()
+    };
+    words
 }
 
 /// The block whose data hold the word at address a.

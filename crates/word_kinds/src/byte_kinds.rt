@@ -41,6 +41,17 @@ impl ByteKinds {
         Ok(kinds)
     }
 
+    /// Marks exactly the kernel's words, where the store stands for a kernel and has as many words as the map. It takes no memory.
+    pub fn rebuild(&mut self, store: &Store)
+        requires { CanWalkLists store.now }
+        ensures size { length self.new ≡ length self.old }
+        ensures marks { (known : List ℕ) (l : Lists) → IsStoreOf store.now known l
+            → length store.now ≡ length self.old → MarksAll self.new known }
+    {
+        self.marks.fill(false);
+        show_kernel(store, self);
+    }
+
     // A map of so many words, of which none is marked.
     fn unmarked(alloc: Global, words: u32) -> Result<ByteKinds, WantMemory>
         ensures { IfOk result (λ k. k ≡ replicate words false) }

@@ -1,4 +1,5 @@
-use Rattle.std.proofs.Common.{arith}
+use Rattle.std.proofs.Common.{ap, arith, length, subst, sym}
+use Rattle.getvec_chain.specs.Tiling.{IsTiledFrom}
 use Rattle.getvec_chain.proofs.Tilings.{Tiles-inside}
 use Rattle.getvec_chain.proofs.search.blocks_from.Goals as goal
 
@@ -6,4 +7,7 @@ pub overflow_sub-result : goal.overflow_sub-result
 overflow_sub-result c = omega (arith, c.size.ensures, Tiles-inside _ _ _ c.requires)
 
 pub invariant_of-result : goal.invariant_of-result
-invariant_of-result c = (c.requires, omega (arith, c.size.ensures, Tiles-inside _ _ _ c.requires))
+invariant_of-result c = (
+  subst (λ s. IsTiledFrom s c.args.at) (sym c.all_words.ensures) c.requires,
+  omega (arith, c.size.ensures, ap length c.all_words.ensures, Tiles-inside _ _ _ c.requires),
+)
