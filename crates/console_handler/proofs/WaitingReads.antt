@@ -33,7 +33,7 @@ use Rattle.resident_requests.proofs.Shown.KernelCalls.PacketCalls.Departure.{dep
 use Rattle.resident_requests.proofs.Shown.KernelCalls.PacketCalls.HeldPlaces.{HasFirst, first-there, has-at, held-at, no-packets, stands-at}
 use Rattle.resident_requests.proofs.Shown.KernelCalls.PacketCalls.SendCall.{lodged-room}
 use Rattle.resident_requests.proofs.Shown.KernelCalls.PacketCalls.SentPackets.{Sent, sent-packet}
-use Rattle.resident_requests.specs.KernelCalls.KernelModel.declared.numbers.TheConstants.{READS}
+use Rattle.resident_requests.specs.KernelCalls.KernelModel.declared.numbers.TheConstants.{PENDING}
 use Rattle.console_handler.specs.Reads.{IsReadTaken, put_off, read_taken, read_taken_from, words_read_from}
 use Rattle.resident_requests.specs.Answers.{OwnsRequest}
 use Rattle.resident_requests.specs.Requests.{HasRequest, first_request, request_at}
@@ -159,7 +159,7 @@ module _ (s : List ℕ) (tells : List ℕ → Type 0) (room : ℕ) (l : Lists) (
                 (subst (λ a. OwnsRequest m l (request_at v a)) first.address (owners-departed s l Pending q [] back k.lists first.is));
           }
 
-      pub read-noted : (before now : Option (List KernelEvent)) (f g : Bool) → Notes before now f g (Taken (signed READS) p (signed (get_or v (p + 1) 0))) → NotesAll before now f g (read_taken l).events
+      pub read-noted : (before now : Option (List KernelEvent)) (f g : Bool) → Notes before now f g (Taken (signed PENDING) p (signed (get_or v (p + 1) 0))) → NotesAll before now f g (read_taken l).events
       read-noted before now f g notes =
           subst (λ ps. NotesAll before now f g (read_taken_from ps l).events) (sym first.is)
-          (subst (λ e. NotesAll before now f g (e ∷ [])) (λ i. Taken (signed READS) (sym first.address i) (signed (sender i))) (notes-one before now f g _ notes))
+          (subst (λ e. NotesAll before now f g (e ∷ [])) (λ i. Taken (signed PENDING) (sym first.address i) (signed (sender i))) (notes-one before now f g _ notes))

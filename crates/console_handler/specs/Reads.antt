@@ -15,7 +15,7 @@ use Rattle.resident_requests.specs.KernelCalls.PacketCalls.declared.queues.Queue
 use Rattle.resident_requests.specs.Answers.{OwnsRequest}
 use Rattle.resident_requests.specs.Requests.{HasRequest, Taking, first_request}
 use Rattle.resident_requests.specs.declared.requests.Request.{Request}
-use Rattle.resident_requests.specs.KernelCalls.KernelModel.declared.numbers.TheConstants.{READS}
+use Rattle.resident_requests.specs.KernelCalls.KernelModel.declared.numbers.TheConstants.{PENDING}
 
 -- ---- a read comes
 
@@ -25,7 +25,7 @@ put_off s l r = record {
   answer = Ok minus_one;
   lists = with_arrived Pending (sent_packet s l Pending r.packet r.sender) l;
   plain = [];
-  events = Accepted (signed READS) r.packet (signed r.sender) ∷ [];
+  events = Accepted (signed PENDING) r.packet (signed r.sender) ∷ [];
 }
 
 -- ---- the first read goes
@@ -35,7 +35,7 @@ read_taken_from [] l = record { lists = l; plain = []; events = [] }
 read_taken_from (p ∷ ps) l = record {
   lists = with_queue Pending ps l;
   plain = (p.address, no_queue) ∷ [];
-  events = Taken (signed READS) p.address (signed p.sender) ∷ [];
+  events = Taken (signed PENDING) p.address (signed p.sender) ∷ [];
 }
 
 abbrev pub read_taken : Lists → Taking

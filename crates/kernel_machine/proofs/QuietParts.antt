@@ -51,7 +51,7 @@ module _ (p : Parts) (w : IsWhole p None) where
   held = w.stands.keeper.lists
 
   pub ticks-now : now.lists.tick ≡ now.steps / now.lists.period
-  ticks-now = (w.valid.running goes-on).tick
+  ticks-now = w.valid.ticks goes-on
 
   pub period-now : 0 < now.lists.period
   period-now = some-period now.lists w.valid.lists

@@ -39,7 +39,7 @@ use Rattle.kernel_steps.specs.Step.{quietly, with_store}
 use Rattle.kernel_steps.proofs.HandledRules.{request-runs}
 use Rattle.kernel_steps.proofs.ReportedRuns.{report-runs}
 use Rattle.kernel_steps.proofs.RunningCaller.{runs-alone, runs-resident}
-use Rattle.kernel_steps.proofs.TurnKept.{console-stands}
+use Rattle.kernel_steps.proofs.TurnKept.{console-turned}
 use Rattle.kernel_steps.proofs.TurnRules.{runs-shell as shell-runs}
 use Rattle.kernel_machine.specs.Leaves.{Leaves, RunsNumber}
 use Rattle.kernel_machine.proofs.LeftParts.{stands-changed}
@@ -173,7 +173,7 @@ module _ (p : Parts) (k : Kernel) (st : Stands p k) where
           stands-beside p k st (now ∙ ap (λ (g : Progress). g.console) parts-here) (put ∙ (λ i. record (st.shell i) { line = (parts-here i).command })) st.disc st.pipes
           in
           leaves-resident (record p { console = console; shell = shell }) (with_console_lines (console_parts k) k) lines t marks o n (turn_done (image k) (console_parts k)) here store-size room
-          (ap (λ x. x.period) (console-stands k r.can r.is).runs.numbers)
+          (ap (λ x. x.period) (console-turned k r.can r.is).runs.numbers)
 
   -- ---- the file handler
 

@@ -1,6 +1,6 @@
--- What a dispatch leaves: the first ready task runs, and the same tasks are ready.
+-- What a dispatch leaves: the first ready task runs, and the numbers stay.
 use Rattle.std.proofs.Common.{◌≡◌, ℕ, ◌<◌, ◌&&◌, Bool, true, false, Option, Some, None, List, map, cond, eqb, refl, sym, ap, ◌∙◌, subst, arith}
-use Rattle.std.specs.List.{AllByRecursion, list_any}
+use Rattle.std.specs.List.{AllByRecursion}
 use Rattle.std.specs.Option.{option_map_or}
 use Rattle.std.proofs.lemmas.Bool.{eqb-true}
 use Rattle.word_store.specs.Count.{IsApart}
@@ -11,13 +11,12 @@ use Rattle.guest_turns.specs.KernelCalls.KernelModel.Lists.{Lists}
 use Rattle.guest_turns.specs.KernelCalls.KernelModel.Task.{Task, task_id}
 use Rattle.guest_turns.specs.KernelCalls.KernelModel.ValidLists.{AreValid}
 use Rattle.guest_turns.specs.KernelCalls.KernelModel.ValidTasks.{IsTask, runs}
-use Rattle.guest_turns.proofs.Shown.KernelCalls.KernelModel.AllThings.{all-always}
 use Rattle.guest_turns.proofs.Shown.KernelCalls.KernelModel.EachMember.{all-each}
 use Rattle.guest_turns.proofs.Shown.KernelCalls.KernelModel.TaskPlaces.{TaskPlace, task-places}
 use Rattle.guest_turns.specs.KernelCalls.KernelDispatch.Dispatch.{CanDispatch, Dispatched, dispatched, first_ready_task, goes_on, packets_taken, resumed, unchanged, unlinked_words, with_next, with_nobody, with_resumed, with_suspended}
 use Rattle.guest_turns.specs.GuestTurn.{numbers_of}
 use Rattle.kernel_steps.specs.Parts.{RunsFirst}
-use Rattle.kernel_steps.proofs.DispatchedTasks.{alive-resumed, alone-resumed, any-kept, bytes-resumed, first-resumed, id-changed, ids-changed, none-run, resumed-byte, resumed-idle, resumed-kept, suspended-kept}
+use Rattle.kernel_steps.proofs.DispatchedTasks.{alive-resumed, alone-resumed, bytes-resumed, first-resumed, ids-changed, none-run, resumed-byte, resumed-idle}
 use Rattle.kernel_steps.proofs.FoundTask.{found-holds, only-found}
 
 -- ---- the three ways of a dispatch

@@ -38,7 +38,7 @@ pub record IsAmid (k j : Kernel) : Type 0 where
   pub can : CanDispatch j.lists j.regs
 
 -- what a dispatch leaves
-record IsDispatched (j : Kernel) : Type 0 where
+pub record IsDispatched (j : Kernel) : Type 0 where
   pub ticks : j.lists.tick ≡ j.steps / j.lists.period
   pub runs : FirstRuns j.lists
 

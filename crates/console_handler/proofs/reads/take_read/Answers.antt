@@ -4,7 +4,7 @@ use Rattle.resident_requests.specs.KernelCalls.PacketQueue.Log.{Notes}
 use Rattle.resident_requests.specs.KernelCalls.PacketQueue.declared.events.KernelEvent.TheVariants.{Taken}
 use Rattle.resident_requests.proofs.Shown.KernelCalls.PacketCalls.HeldPlaces.{stands-at}
 use Rattle.resident_requests.specs.KernelCalls.KernelModel.ValidQueues.Place.{Pending}
-use Rattle.resident_requests.specs.KernelCalls.KernelModel.declared.numbers.TheConstants.{READS}
+use Rattle.resident_requests.specs.KernelCalls.KernelModel.declared.numbers.TheConstants.{PENDING}
 use Rattle.console_handler.specs.Reads.{IsReadTaken}
 use Rattle.console_handler.proofs.WaitingReads.{none-noted, none-waits, read-noted, read-packet, read-queue, read-taken}
 use Rattle.console_handler.proofs.reads.take_read.Goals as goal
@@ -40,4 +40,4 @@ returns-clause-notes g c = λ l k residents.
     c.first-p.result c.first-p.ensures c.if-p-eq0.false c.unqueue.new.store c.unqueue.ensures (g.L.EventLog.noted c.args.log.now) (g.L.EventLog.noted c.note.new.self) (g.L.EventLog.has_failed c.args.log.now)
     (g.L.EventLog.has_failed c.note.new.self)
     (subst (λ e. Notes (g.L.EventLog.noted c.args.log.now) (g.L.EventLog.noted c.note.new.self) (g.L.EventLog.has_failed c.args.log.now) (g.L.EventLog.has_failed c.note.new.self) e)
-    (c.taken.ensures ∙ (λ i. Taken (signed READS) c.first-p.result (signed (c.word_at.ensures i)))) c.note.ensures)
+    (c.taken.ensures ∙ (λ i. Taken (signed PENDING) c.first-p.result (signed (c.word_at.ensures i)))) c.note.ensures)
