@@ -76,3 +76,40 @@ pub run-steps : (n : ℕ) (k : BareState) → (run n k).state.steps ≤ k.steps 
 unfolding run
 run-steps zero k = omega arith
 run-steps (suc n) k = omega (arith, run-steps n (step k).state, step-steps k)
+
+-- they are never fewer
+step-later : (k : BareState) → k.steps ≤ (step k).state.steps
+unfolding step
+step-later k = on (is_some k.stop)
+  where
+    turned : (turn (record k { steps = k.steps + 1 })).state.steps ≡ k.steps + 1
+    turned = outcome-steps (instruction_of k).outcome (record k { words = (instruction_of k).words; regs = (instruction_of k).regs; steps = k.steps + 1 })
+
+    on : (b : Bool) → k.steps ≤ (cond b (quietly k) (turn (record k { steps = k.steps + 1 }))).state.steps
+    on true = omega arith
+    on false = omega (arith, turned)
+
+pub run-later : (n : ℕ) (k : BareState) → k.steps ≤ (run n k).state.steps
+unfolding run
+run-later zero k = omega arith
+run-later (suc n) k = omega (arith, run-later n (step k).state, step-later k)
+
+-- and a step of a machine that has not stopped is one more
+step-counts : (k : BareState) → k.stop ≡ None → (step k).state.steps ≡ k.steps + 1
+unfolding step
+step-counts k goes =
+    let stepped : BareStepped = turn (record k { steps = k.steps + 1 }) in
+    ap (λ o. (cond (is_some o) (quietly k) stepped).state.steps) goes
+    ∙ outcome-steps (instruction_of k).outcome (record k { words = (instruction_of k).words; regs = (instruction_of k).regs; steps = k.steps + 1 })
+
+pub run-counts : (n : ℕ) (k : BareState) → (run n k).state.stop ≡ None → (run n k).state.steps ≡ k.steps + n
+unfolding run
+run-counts zero k goes = omega arith
+run-counts (suc n) k goes = on k.stop refl (run-counts n (step k).state goes)
+  where
+    on : (o : Option Stop) → k.stop ≡ o → (run n (step k).state).state.steps ≡ (step k).state.steps + n → (run n (step k).state).state.steps ≡ k.steps + suc n
+    on None is more = omega (arith, more, step-counts k is)
+    on (Some stop) is more =
+        let stays = ap (λ (x : BareStepped). x.state.stop) (run-stopped (suc n) k (λ none. (let other = sym is ∙ none in cc))) in
+        let other : Some stop ≡ None = sym is ∙ sym stays ∙ goes in
+        cc

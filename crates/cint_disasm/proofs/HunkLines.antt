@@ -23,7 +23,8 @@ byte_some words a lt = get_some words (a / 4) (λ w. byte_of w (a % 4)) (omega a
 
 -- ---- lines
 
-lines_some : (code : ℕ → Option ℕ) (end most a : ℕ) → a < end → lines_from code end (suc most) a ≡ (listed code a).text ++ lines_from code end most (a + (listed code a).length)
+-- a line, and the lines after it
+pub lines_some : (code : ℕ → Option ℕ) (end most a : ℕ) → a < end → lines_from code end (suc most) a ≡ (listed code a).text ++ lines_from code end most (a + (listed code a).length)
 lines_some code end most a lt = let inside : nat_lt a end ≡ true = grind (arith, nat_tests) in rw inside refl
 
 -- a line more

@@ -9,3 +9,4 @@ pub mod KeptLists
 -- shown to the crates above
 pub use Rattle.shell_programs.specs.KernelResidents
 pub use Rattle.shell_programs.specs.KernelBoot
+pub use Rattle.shell_listings.specs as ShellListings

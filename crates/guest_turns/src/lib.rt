@@ -10,6 +10,6 @@ pub use turns::{TurnEnd, guest_turn};
 
 // Shown to the crates above.
 pub use kernel_calls::{
-    ByteKinds, EventLog, KernelEvent, ListLog, NoLog, RootField, SinkLog, Stop, TcbField, field,
-    find, root, set_root, switch,
+    Block, ByteKinds, EventLog, KernelEvent, ListLog, NoLog, Queue, RootField, SinkLog, Stop,
+    TcbField, Use, blocks, field, find, head, numbers, packets, root, set_root, switch, use_of,
 };

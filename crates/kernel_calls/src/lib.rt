@@ -13,14 +13,14 @@ pub use coroutine_calls::ended;
 pub use module_calls::{load_module, unload_module};
 pub use packet_calls::events::{accepted, taken};
 pub use packet_calls::packets::send;
-pub use packet_calls::queues::{first, has_packet, unqueue};
+pub use packet_calls::queues::{first, has_packet, head, unqueue};
 pub use packet_calls::{Device, Queue, reply, return_first, send_own};
 pub use task_calls::kernel_dispatch::{
-    ByteKinds, EventLog, FIRST_BLOCK, KernelEvent, KindKeeper, ListLog, NO_QUEUE, NoLog, RootField,
-    SinkLog, Stop, TcbField, are_unowned, field, find, free_id, highest_id, make, root, set_field,
-    set_root, switch, tasks,
+    Block, ByteKinds, EventLog, FIRST_BLOCK, KernelEvent, KindKeeper, ListLog, NO_QUEUE, NoLog,
+    RootField, SinkLog, Stop, TcbField, Use, are_unowned, blocks, field, find, free_id, highest_id,
+    make, packets, root, set_field, set_root, switch, tasks,
 };
 pub use task_calls::{
     caller, change_pri, create_task, create_task_of, delete_task, guest, hold_task, numbers,
-    release_task, set_flags,
+    release_task, set_flags, use_of,
 };

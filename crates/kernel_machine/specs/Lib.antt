@@ -5,6 +5,7 @@ pub mod Runs
 pub mod Script
 -- shown to the crates above
 pub use Rattle.kernel_steps.specs.KernelCalls
+pub use Rattle.kernel_steps.specs.ShellListings
 pub use Rattle.kernel_steps.specs.GuestTurns
 pub use Rattle.kernel_steps.specs.KernelBoot
 pub use Rattle.kernel_steps.specs as KernelSteps

@@ -17,6 +17,7 @@ pub use script::Script;
 
 // Shown to the crates above.
 pub use kernel_steps::{
-    BootRefusal, ByteKinds, ConsoleState, EventLog, KernelEvent, ListLog, NoLog, Pipes, ShellState,
-    SinkLog, Stop, Tty, load_files, make_kernel, make_resident_kernel, start_tasks, switch,
+    Block, BootRefusal, ByteKinds, ConsoleState, EventLog, KernelEvent, ListLog, NoLog, Pipes,
+    Queue, ShellState, SinkLog, Stop, Tty, Use, blocks, find, head, load_files, make_kernel,
+    make_resident_kernel, numbers, packets, start_tasks, switch, use_of, write_tasks,
 };

@@ -70,6 +70,13 @@ impl Machine {
         &self.parts
     }
 
+    /// The number of the task that runs, or 0.
+    pub fn running(&self) -> u32
+        ensures { result ≡ self.now.kernel.lists.running }
+    {
+        running(&self.parts.store)
+    }
+
     /// Why it has stopped, if it has.
     pub fn stop(&self) -> Option<Stop>
         ensures { result ≡ self.now.kernel.stop }

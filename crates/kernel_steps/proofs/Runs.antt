@@ -65,3 +65,54 @@ pub run-steps : (n : ℕ) (k : Kernel) → (run n k).kernel.steps ≤ k.steps + 
 unfolding run
 run-steps zero k = omega arith
 run-steps (suc n) k = omega (arith, run-steps n (step k).kernel, step-steps k)
+
+-- they are never fewer
+unless-later : (n : ℕ) (part : Kernel → Stepped) (k : Kernel) → n ≤ k.steps → n ≤ (part k).kernel.steps → n ≤ (unless_stopped part k).kernel.steps
+unless-later n part k stays goes = on (is_some k.stop)
+  where
+    on : (b : Bool) → n ≤ (cond b (quietly k) (part k)).kernel.steps
+    on true = stays
+    on false = goes
+
+step-later : (k : Kernel) → k.steps ≤ (step k).kernel.steps
+unfolding step
+step-later k =
+    let first : Kernel = with_step k in
+    let turned : Kernel = (turn first).kernel in
+    let same : turned.steps ≡ k.steps + 1 = (turn-same first).steps in
+    unless-later k.steps (λ j. and_then (turn (with_step j)) (unless_stopped after_the_turn)) k (omega arith)
+    (unless-later k.steps after_the_turn turned (omega (arith, same)) (omega (arith, same, rest-steps turned)))
+
+pub run-later : (n : ℕ) (k : Kernel) → k.steps ≤ (run n k).kernel.steps
+unfolding run
+run-later zero k = omega arith
+run-later (suc n) k = omega (arith, run-later n (step k).kernel, step-later k)
+
+-- and a step of a machine that has not stopped is one more
+unless-counts : (n : ℕ) (part : Kernel → Stepped) (k : Kernel) → k.steps ≡ n → (part k).kernel.steps ≡ n → (unless_stopped part k).kernel.steps ≡ n
+unless-counts n part k stays goes = on (is_some k.stop)
+  where
+    on : (b : Bool) → (cond b (quietly k) (part k)).kernel.steps ≡ n
+    on true = stays
+    on false = goes
+
+step-counts : (k : Kernel) → k.stop ≡ None → (step k).kernel.steps ≡ k.steps + 1
+unfolding step
+step-counts k goes =
+    let first : Kernel = with_step k in
+    let turned : Kernel = (turn first).kernel in
+    let same : turned.steps ≡ k.steps + 1 = (turn-same first).steps in
+    ap (λ o. (cond (is_some o) (quietly k) (and_then (turn first) (unless_stopped after_the_turn))).kernel.steps) goes
+    ∙ unless-counts (k.steps + 1) after_the_turn turned same (rest-steps turned ∙ same)
+
+pub run-counts : (n : ℕ) (k : Kernel) → (run n k).kernel.stop ≡ None → (run n k).kernel.steps ≡ k.steps + n
+unfolding run
+run-counts zero k goes = omega arith
+run-counts (suc n) k goes = on k.stop refl (run-counts n (step k).kernel goes)
+  where
+    on : (o : Option Stop) → k.stop ≡ o → (run n (step k).kernel).kernel.steps ≡ (step k).kernel.steps + n → (run n (step k).kernel).kernel.steps ≡ k.steps + suc n
+    on None is more = omega (arith, more, step-counts k is)
+    on (Some stop) is more =
+        let stays = ap (λ (x : Stepped). x.kernel.stop) (run-stopped (suc n) k (λ none. (let other = sym is ∙ none in cc))) in
+        let other : Some stop ≡ None = sym is ∙ sym stays ∙ goes in
+        cc

@@ -12,10 +12,11 @@ pub mod turn_laws;
 pub use cli_shell::{
     BootRefusal, ConsoleState, Pipes, ShellState, console_turn, fault_turn, file_turn,
     first_packet, load_files, make_kernel, make_resident_kernel, pipe_turn, record_fault,
-    shell_turn, start_tasks,
+    shell_turn, start_tasks, write_tasks,
 };
 pub use guest_turns::{
-    ByteKinds, EventLog, KernelEvent, ListLog, NoLog, RootField, SinkLog, Stop, TcbField, TurnEnd,
-    execute_next, field, find, guest_turn, root, set_root, switch,
+    Block, ByteKinds, EventLog, KernelEvent, ListLog, NoLog, Queue, RootField, SinkLog, Stop,
+    TcbField, TurnEnd, Use, blocks, execute_next, field, find, guest_turn, head, numbers, packets,
+    root, set_root, switch, use_of,
 };
 pub use kernel_devices::{Tty, finish_output, tick};

@@ -41,3 +41,4 @@ pub fn listed_law()
 // Shown to the crates above.
 pub use cint_asm::{AsmEnd, assemble};
 pub use cint_disasm::disassemble_module;
+pub use cint_disasm::lines::gather_line;

@@ -2,6 +2,7 @@
 ghost use Rattle.std.specs.Prelude.{◌≡◌, ◌==◌, ◌-◌, ◌^◌, ◌<◌, ◌≤◌, if◌then◌else◌, length, IfOk};
 ghost use Rattle.hunk_text.specs.TextReader.Answers.{Gives};
 ghost use Rattle.hunk_text.specs.TextReader.Lines.{lines_of};
+ghost use Rattle.session_text.specs.Canonical.{IsLawful};
 ghost use Rattle.session_text.specs.Front.{front_count, front_end, front_lines, place_after};
 ghost use Rattle.session_text.specs.SessionOfText.{session_lines};
 
@@ -25,9 +26,11 @@ pub struct Front {
 /// line and code, and `WantMemory` only where memory could not be had.
 pub fn read_front(alloc: Global, text: &[u8]) -> Result<Front, SessionEnd>
     requires { length text.now < 2 ^ 32 }
+    ensures lawful { IfOk result (λ f. IsLawful f.session) }
     ensures session { Gives (λ f. f.session) result (session_lines (front_lines text.now)) }
     ensures end { IfOk result (λ f. f.end ≡ front_end text.now) }
     ensures lines { IfOk result (λ f. f.lines ≡ length (front_lines text.now)) }
+    ensures few { IfOk result (λ f. f.lines ≤ length text.now) }
 {
     let lines = front_count(text);
     let end = place_after(lines, text);
@@ -42,7 +45,8 @@ pub fn read_front(alloc: Global, text: &[u8]) -> Result<Front, SessionEnd>
 // How many lines there are up to the first that begins with `GO `.
 fn front_count(text: &[u8]) -> u32
     requires { length text.now < 2 ^ 32 }
-    ensures { result ≡ front_count (lines_of text.now) }
+    ensures count { result ≡ front_count (lines_of text.now) }
+    ensures few { result ≤ length text.now }
 {
     let mut count = 0;
     let mut rest = text;

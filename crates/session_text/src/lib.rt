@@ -12,6 +12,7 @@ pub mod read;
 pub mod sessions;
 mod statements;
 
+pub use fields::number_field;
 pub use fronts::{Front, read_front};
 pub use hunk_text::TextEnd as SessionEnd;
 pub use lists::{Bytes, Keys, Lines, Names};

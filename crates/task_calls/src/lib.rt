@@ -21,4 +21,4 @@ pub use priority::change_pri;
 pub use release::release_task;
 
 // Shown to the crates above.
-pub use block_calls::{caller, freevec, getvec, guest, kernel_dispatch, numbers};
+pub use block_calls::{caller, freevec, getvec, guest, kernel_dispatch, numbers, use_of};

@@ -4,10 +4,10 @@ use Rattle.std.proofs.lemmas.List.{append_assoc}
 use Rattle.bare_machine.specs.Run.{run as bare_run}
 use Rattle.bare_machine.specs.State.{BareState}
 use Rattle.bare_machine.specs.Step.{step as bare_step}
-use Rattle.bare_machine.proofs.Runs.{run-steps as bare-run-steps, run-stopped as bare-run-stopped}
+use Rattle.bare_machine.proofs.Runs.{run-counts as bare-run-counts, run-later as bare-run-later, run-steps as bare-run-steps, run-stopped as bare-run-stopped}
 use Rattle.machine_boot.specs.KernelCalls.KernelModel.Kernel.{Kernel}
 use Rattle.machine_boot.specs.KernelSteps.Step.{run as kernel_run, step as kernel_step}
-use Rattle.machine_boot.proofs.Shown.KernelSteps.Runs.{run-steps as kernel-run-steps, run-stopped as kernel-run-stopped}
+use Rattle.machine_boot.proofs.Shown.KernelSteps.Runs.{run-counts as kernel-run-counts, run-later as kernel-run-later, run-steps as kernel-run-steps, run-stopped as kernel-run-stopped}
 use Rattle.tripos_machine.specs.State.{State, steps_of, stop_of}
 use Rattle.tripos_machine.specs.State.State.{Bare, Full}
 use Rattle.tripos_machine.specs.Step.{Stepped, and_then, of_bare, of_kernel, quietly, run, step}
@@ -44,3 +44,11 @@ run-stopped n (Full k) stopped = run-full n k ∙ ap of_kernel (kernel-run-stopp
 pub run-steps : (n : ℕ) (s : State) → steps_of (run n s).state ≤ steps_of s + n
 run-steps n (Bare m) = (let is = ap (λ (x : Stepped). steps_of x.state) (run-bare n m) in omega (arith, is, bare-run-steps n m))
 run-steps n (Full k) = (let is = ap (λ (x : Stepped). steps_of x.state) (run-full n k) in omega (arith, is, kernel-run-steps n k))
+
+pub run-counts : (n : ℕ) (s : State) → stop_of (run n s).state ≡ None → steps_of (run n s).state ≡ steps_of s + n
+run-counts n (Bare m) goes = (let is = run-bare n m in ap (λ (x : Stepped). steps_of x.state) is ∙ bare-run-counts n m (sym (ap (λ (x : Stepped). stop_of x.state) is) ∙ goes))
+run-counts n (Full k) goes = (let is = run-full n k in ap (λ (x : Stepped). steps_of x.state) is ∙ kernel-run-counts n k (sym (ap (λ (x : Stepped). stop_of x.state) is) ∙ goes))
+
+pub run-later : (n : ℕ) (s : State) → steps_of s ≤ steps_of (run n s).state
+run-later n (Bare m) = (let is = ap (λ (x : Stepped). steps_of x.state) (run-bare n m) in omega (arith, is, bare-run-later n m))
+run-later n (Full k) = (let is = ap (λ (x : Stepped). steps_of x.state) (run-full n k) in omega (arith, is, kernel-run-later n k))

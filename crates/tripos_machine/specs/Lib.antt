@@ -6,3 +6,5 @@ pub mod Runs
 -- shown to the crates above
 pub use Rattle.bare_machine.specs as BareMachine
 pub use Rattle.machine_boot.specs.KernelCalls
+pub use Rattle.machine_boot.specs.KernelMachine
+pub use Rattle.machine_boot.specs.ShellListings

@@ -31,6 +31,11 @@ abbrev pub steps_of : State → ℕ
 steps_of (Bare m) = m.steps
 steps_of (Full k) = k.steps
 
+-- the number of the task that runs, 0 where nobody runs; a bare machine has no tasks
+abbrev pub running_of : State → ℕ
+running_of (Bare m) = 0
+running_of (Full k) = k.lists.running
+
 -- why it has stopped, if it has
 abbrev pub stop_of : State → Option Stop
 stop_of (Bare m) = m.stop

@@ -9,11 +9,14 @@ ghost use Rattle.tripos_machine.specs.State.State.{Bare, Full};
 ghost use Rattle.tripos_machine.specs.Step.{and_then, of_bare, of_kernel, quietly, run};
 
 /// A run is that of the machine's kind. It may be cut in two; a machine that has stopped stays as it is; and a run takes at most
-/// its steps.
+/// its steps, and all of them where the machine has not stopped then.
 pub fn run_law()
     ensures bare { (n : ℕ) (m : BareState) → run n (Bare m) ≡ of_bare (bare_run n m) }
     ensures full { (n : ℕ) (k : Kernel) → run n (Full k) ≡ of_kernel (kernel_run n k) }
     ensures more { (m n : ℕ) (s : State) → run (m + n) s ≡ and_then (run m s) (run n) }
     ensures stopped { (n : ℕ) (s : State) → stop_of s ≢ None → run n s ≡ quietly s }
     ensures steps { (n : ℕ) (s : State) → steps_of (run n s).state ≤ steps_of s + n }
+    ensures later { (n : ℕ) (s : State) → steps_of s ≤ steps_of (run n s).state }
+    ensures counts { (n : ℕ) (s : State) → stop_of (run n s).state ≡ None
+        → steps_of (run n s).state ≡ steps_of s + n }
 {}

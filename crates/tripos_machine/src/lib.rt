@@ -15,4 +15,7 @@ pub use start::boot;
 
 // Shown to the crates above.
 pub use bare_machine::boot::BootEnd;
-pub use machine_boot::{EventLog, KernelEvent, ListLog, NoLog, Pipes, SinkLog, Stop};
+pub use machine_boot::{
+    Block, EventLog, KernelEvent, ListLog, NoLog, Pipes, Queue, SinkLog, Stop, Use, blocks, find,
+    head, numbers, packets, use_of, write_tasks,
+};

@@ -2,7 +2,7 @@
 ghost use Rattle.std.specs.Prelude.{◌≡◌, ◌<◌, ◌+◌, ◌≤◌, [], None, MatchOption};
 ghost use Rattle.machine_boot.specs.KernelCalls.KernelModel.NotedEvents.{NotesAll};
 ghost use Rattle.machine_boot.specs.KernelCalls.KernelModel.Ranges.{most_steps};
-ghost use Rattle.tripos_machine.specs.State.{IsBare, IsSound, StandFor, StandsFull, State, regs_of, steps_of, stop_of, words_of};
+ghost use Rattle.tripos_machine.specs.State.{IsBare, IsSound, StandFor, StandsFull, State, regs_of, running_of, steps_of, stop_of, words_of};
 ghost use Rattle.tripos_machine.specs.Step.{boot_events, run, step};
 
 use crate::Parts;
@@ -94,6 +94,16 @@ impl Machine {
         match &self.kind {
             Kind::Bare(machine) => machine.parts().step,
             Kind::Full(machine) => machine.parts().step,
+        }
+    }
+
+    /// The number of the task that runs; 0 where nobody runs, and on a machine without a kernel.
+    pub fn running(&self) -> u32
+        ensures { result ≡ running_of self.now.state }
+    {
+        match &self.kind {
+            Kind::Bare(_) => 0,
+            Kind::Full(machine) => machine.running(),
         }
     }
 

@@ -10,7 +10,6 @@ use Rattle.tp_io.proofs.AppendedTexts.{AppendsPrefix-more}
 use Rattle.tp_io.proofs.GatheredTexts.{Prints-after}
 use Rattle.hunk_text.specs.TextReader.Refusal.{Refusal}
 use Rattle.session_text.specs.SessionOfText.{session_of}
-use Rattle.session_text.specs.declared.sessions.Session.{Session}
 use Rattle.session_generator.specs.Generated.{generated}
 use Rattle.tripos_machine.specs.KernelCalls.KernelModel.declared.stops.Stop.{Stop}
 use Rattle.tripos_machine.specs.KernelCalls.KernelModel.declared.stops.Stop.TheVariants.{Steps, Quit, Finish, Fault}
@@ -21,7 +20,7 @@ use Rattle.tripos_run.specs.declared.reports.Report.TheVariants.{Sums}
 use Rattle.tripos_run.specs.declared.status.Status.{Status}
 use Rattle.tripos_run.specs.declared.status.Status.TheVariants.{Done, GuestFault, Usage, Refused, NoBoot, ReadFault, WriteFault, TooLong, WantMemory}
 use Rattle.tripos_run.specs.Texts.{closing_text, no_boot_text, refused_text, too_long_text, usage_text}
-use Rattle.tripos_run.specs.Answer.{Answer, Answers, AreEnd, RunEnd, closed_answer, generated_answer, input_answer, job_answer, limit, no_boot_answer, session_answer, status_of, text_answer, words_text}
+use Rattle.tripos_run.specs.Answer.{Answer, Answers, AreEnd, RunEnd, closed_answer, generated_answer, input_answer, job_answer, limit, no_boot_answer, refused_answer, session_answer, status_of, text_answer, words_text}
 use Rattle.tripos_run.specs.Input.{IsInput, IsMachineEnd}
 
 -- the status of a call that has printed its text
@@ -44,10 +43,9 @@ Answers-no_boot r h k (Ok t) p = (refl, p)
 Answers-no_boot r h k (Err d) p = p
 
 -- the refusal of a text is printed
-pub Answers-refused : {T E : Type 0} (report : Report) (r : Refusal) (h k : Option (List ℕ)) (written : Result T E) {read : Result Session Refusal} → read ≡ Err r → Prints h k (refused_text r) written
-    → Answers (session_answer report read) h k (status_after written Refused)
-Answers-refused report r h k (Ok t) is p = rw is (refl, p)
-Answers-refused report r h k (Err d) is p = rw is p
+pub Answers-refused : {T E : Type 0} (r : Refusal) (h k : Option (List ℕ)) (written : Result T E) → Prints h k (refused_text r) written → Answers (refused_answer r) h k (status_after written Refused)
+Answers-refused r h k (Ok t) p = (refl, p)
+Answers-refused r h k (Err d) p = p
 
 -- the answer of the session that a number makes is that of its text
 pub generated-is : (n size : ℕ) (text : List ℕ) → text ≡ generated n → size ≡ length text → session_answer (Sums size) (session_of text) ≡ generated_answer n

@@ -1,3 +1,4 @@
 pub mod DumpLines
 pub mod AnswerParts
+pub mod FrontPlace
 pub mod NotedRuns

@@ -1,23 +1,25 @@
 -- The program's answer to its words and its input: a status, and the bytes that it writes.
-use Rattle.std.specs.Prelude.{ℕ, ◌≡◌, ◌^◌, List, [], ◌∷◌, ◌++◌, length, codes, Option, Some, None, Result, Ok, Err, nat_le, nat_lt, if◌then◌else◌}
+use Rattle.std.specs.Prelude.{ℕ, ◌≡◌, ◌+◌, ◌^◌, drop, List, [], ◌∷◌, ◌++◌, length, codes, Option, Some, None, Result, Ok, Err, nat_le, nat_lt, if◌then◌else◌}
 use Rattle.std.specs.Option.{option_and_then, option_map}
 use Rattle.std.specs.Str.{bytes_eq}
 use Rattle.std.specs.Io.KnownBytes.{Appends, Keeps}
 use Rattle.tp_io.specs.Write.{AppendsPrefix}
 use Rattle.hunk_text.specs.TextReader.Numbers.{number_of}
-use Rattle.hunk_text.specs.TextReader.Refusal.{Refusal}
+use Rattle.hunk_text.specs.TextReader.Lines.{lines_of as text_lines}
+use Rattle.hunk_text.specs.TextReader.Refusal.{Refusal, refusal}
 use Rattle.hunk_text.specs.ModuleOfText.{module_of}
 use Rattle.hunk_text.specs.declared.modules.Module.{Module}
 use Rattle.listing_law.specs.CintAsm.Assembly.{assembled}
 use Rattle.listing_law.specs.CintDisasm.HunkListing.{listing_of_module}
-use Rattle.session_text.specs.SessionOfText.{session_of}
+use Rattle.session_text.specs.Front.{front_end, front_lines}
+use Rattle.session_text.specs.SessionOfText.{session_lines, session_of}
 use Rattle.session_text.specs.declared.sessions.Session.{Session}
 use Rattle.session_generator.specs.Generated.{generated}
 use Rattle.session_generator.specs.Summary.{summary}
 use Rattle.tripos_machine.specs.KernelCalls.KernelModel.declared.stops.Stop.{Stop}
 use Rattle.tripos_machine.specs.KernelCalls.KernelModel.declared.stops.Stop.TheVariants.{Steps, Quit, Finish, Fault}
 use Rattle.tripos_run.specs.declared.commands.Command.{Command}
-use Rattle.tripos_run.specs.declared.commands.Command.TheVariants.{Run as RunCommand, Dump as DumpCommand, Trace as TraceCommand, Asm as AsmCommand, Disasm as DisasmCommand}
+use Rattle.tripos_run.specs.declared.commands.Command.TheVariants.{Run as RunCommand, Dump as DumpCommand, Trace as TraceCommand, Asm as AsmCommand, Disasm as DisasmCommand, Debug as DebugCommand}
 use Rattle.tripos_run.specs.declared.commands.Job.{Job}
 use Rattle.tripos_run.specs.declared.commands.Job.TheVariants.{Answer as AnswerJob, Generate as GenerateJob}
 use Rattle.tripos_run.specs.declared.reports.Report.{Report}
@@ -29,7 +31,10 @@ use Rattle.trace_log.specs.Traced.{lines_of}
 use Rattle.tripos_machine.specs.Boot.{boot}
 use Rattle.tripos_machine.specs.Runs.{end_of_run}
 use Rattle.tripos_machine.specs.State.{steps_of, stop_of, words_of}
-use Rattle.tripos_machine.specs.Step.{Stepped, run}
+use Rattle.tripos_machine.specs.Step.{Stepped, quietly, run}
+use Rattle.cint_debug.specs.declared.orders.BadLine.{BadLine}
+use Rattle.cint_debug.specs.Debugged.{Told, debugged}
+use Rattle.cint_debug.specs.OrderLines.{first_bad}
 use Rattle.tripos_run.specs.Texts.{closing_text, dump_text, no_boot_text, refused_text, too_long_text, usage_text}
 
 pub record Answer : Type 0 where
@@ -48,6 +53,7 @@ command_named word =
     if bytes_eq word (codes "trace") then Some TraceCommand else
     if bytes_eq word (codes "asm") then Some AsmCommand else
     if bytes_eq word (codes "disasm") then Some DisasmCommand else
+    if bytes_eq word (codes "debug") then Some DebugCommand else
     None
 
 -- a number of 1 to 10 digits that a machine word can hold
@@ -137,27 +143,61 @@ abbrev pub machine_answer : Report → ℕ → Result Stepped Refusal → Answer
 machine_answer report go (Ok x) = run_answer report (end_after x.events (run go x.state))
 machine_answer report go (Err r) = no_boot_answer r
 
+abbrev pub refused_answer : Refusal → Answer
+refused_answer r = record { status = Refused; bytes = refused_text r }
+
 abbrev pub session_answer : Report → Result Session Refusal → Answer
 session_answer report (Ok s) = machine_answer report s.go (boot s)
-session_answer report (Err r) = record { status = Refused; bytes = refused_text r }
+session_answer report (Err r) = refused_answer r
+
+-- ---- a session that is debugged by the lines behind it
+
+-- what the lines wrote, and the closing line of the last state
+abbrev pub told_answer : Told → Answer
+told_answer t = closed_answer Console t.bytes (end_after [] (quietly t.after.state))
+
+-- the machine of a session, where that boots
+abbrev pub lines_answer : ℕ → List (List ℕ) → Result Stepped Refusal → Answer
+lines_answer budget lines (Ok x) = told_answer (debugged budget lines x.state)
+lines_answer budget lines (Err r) = no_boot_answer r
+
+-- before it boots the lines are checked
+abbrev pub checked_by : Option BadLine → Answer → Answer
+checked_by (Some bad) answer = refused_answer (refusal bad.line bad.code)
+checked_by None answer = answer
+
+-- the first of them has this number
+abbrev pub checked_answer : Session → ℕ → List (List ℕ) → Answer
+checked_answer s first lines = checked_by (first_bad first lines) (lines_answer s.go lines (boot s))
+
+-- the session ends with the first line that begins with `GO `
+abbrev pub front_answer : List ℕ → Result Session Refusal → Answer
+front_answer text (Ok s) = checked_answer s (length (front_lines text) + 1) (text_lines (drop (front_end text) text))
+front_answer text (Err r) = refused_answer r
+
+abbrev pub debugging_answer : List ℕ → Answer
+debugging_answer text = front_answer text (session_lines (front_lines text))
+
+-- ---- texts
 
 -- a text that is made of the input, or the refusal of the input
 abbrev pub made_answer : Result (List ℕ) Refusal → Answer
 made_answer (Ok text) = record { status = Done; bytes = text }
-made_answer (Err r) = record { status = Refused; bytes = refused_text r }
+made_answer (Err r) = refused_answer r
 
 -- the listing of a module
 abbrev pub listed : Result Module Refusal → Result (List ℕ) Refusal
 listed (Ok m) = Ok (listing_of_module m.hunks)
 listed (Err r) = Err r
 
--- `asm` writes the module of an assembly text, `disasm` the listing of a module, and the others run a session
+-- `asm` writes the module of an assembly text, `disasm` the listing of a module, `debug` debugs a session, and the others run it
 abbrev pub text_answer : Command → List ℕ → Answer
 text_answer AsmCommand text = made_answer (assembled text)
 text_answer DisasmCommand text = made_answer (listed (module_of text))
 text_answer RunCommand text = session_answer Console (session_of text)
 text_answer DumpCommand text = session_answer Words (session_of text)
 text_answer TraceCommand text = session_answer Events (session_of text)
+text_answer DebugCommand text = debugging_answer text
 
 unfoldable pub input_answer : Command → List ℕ → Answer
 input_answer command input =

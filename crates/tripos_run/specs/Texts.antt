@@ -1,6 +1,7 @@
 -- The texts that the program writes besides the console bytes.
 use Rattle.std.specs.Prelude.{ℕ, ◌+◌, List, [], ◌∷◌, ◌++◌, codes, decimal, ◌==◌, if◌then◌else◌}
-use Rattle.tp_io.specs.Pieces.{joined, hex_digits_of}
+use Rattle.tp_io.specs.Pieces.{joined}
+use Rattle.cint_debug.specs.Texts.{word_line}
 use Rattle.hunk_text.specs.TextReader.Refusal.{Refusal}
 use Rattle.tripos_machine.specs.KernelCalls.KernelModel.declared.stops.Stop.{Stop}
 use Rattle.tripos_machine.specs.KernelCalls.KernelModel.declared.stops.Stop.TheVariants.{Steps, Quit, Finish, Fault}
@@ -38,7 +39,7 @@ closing_text steps (Fault code address task) =
 -- the line of a word that is not 0
 abbrev pub word_text : ℕ → ℕ → List ℕ
 word_text a w =
-    if w == 0 then [] else joined (decimal a ∷ codes " " ∷ hex_digits_of w ∷ codes "\n" ∷ [])
+    if w == 0 then [] else word_line a w
 
 -- the lines of the words from address a on
 abbrev pub dump_text : ℕ → List ℕ → List ℕ

@@ -7,6 +7,7 @@ ghost use Rattle.tripos_run.specs.Cause.{HasFaultCause};
 ghost use Rattle.tripos_run.specs.Input.{IsTextEnd};
 
 use crate::commands::Command;
+use crate::debugging::answer_debugging;
 use crate::messages::write_refused;
 use crate::reports::Report;
 use crate::session::answer_session_text;
@@ -40,6 +41,7 @@ pub fn answer_text<K: Sink>(alloc: Global, command: Command, text: &[u8], out: &
         Command::Trace => answer_session_text(alloc, Report::Events, text, out),
         Command::Asm => answer_assembly(alloc, text, out),
         Command::Disasm => answer_module(alloc, text, out),
+        Command::Debug => answer_debugging(alloc, text, out),
     }
 }
 

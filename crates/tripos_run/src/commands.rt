@@ -26,6 +26,8 @@ pub enum Command {
     Asm,
     /// List the module.
     Disasm,
+    /// Run the session, by the debugger's lines behind it.
+    Debug,
 }
 
 /// What the words ask for, or `None` exactly where they ask for nothing.
@@ -48,6 +50,7 @@ fn command_named(word: &str) -> Option<Command>
         "trace" => Some(Command::Trace),
         "asm" => Some(Command::Asm),
         "disasm" => Some(Command::Disasm),
+        "debug" => Some(Command::Debug),
         _ => None,
     }
 }

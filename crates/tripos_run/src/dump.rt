@@ -4,8 +4,8 @@ ghost use Rattle.tp_io.specs.Pending.{Gathers};
 ghost use Rattle.tp_io.specs.Write.{HasCause};
 ghost use Rattle.tripos_run.specs.Texts.{dump_text, word_text};
 
-use tp_io::Piece::{Decimal, Text, Word};
-use tp_io::{Output, Sink, SinkFault, gather_pieces};
+use cint_debug::gather_word as gather_line;
+use tp_io::{Output, Sink, SinkFault};
 
 /// Gathers a line for each word that is not 0, in rising order: its address in decimal, and eight hex digits.
 pub fn gather_dump<K: Sink>(
@@ -31,9 +31,5 @@ fn gather_word<K: Sink>(a: u64, w: u32, out: &mut K, pending: &mut Output) -> Re
     if w == 0 {
         return Ok(());
     }
-    gather_pieces(
-        out,
-        pending,
-        &[Decimal(a), Text(b" "), Word(w), Text(b"\n")],
-    )
+    gather_line(a, w, out, pending)
 }

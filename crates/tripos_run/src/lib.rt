@@ -3,6 +3,7 @@
 
 mod answer;
 mod commands;
+mod debugging;
 mod dump;
 mod ends;
 mod machines;

@@ -188,8 +188,8 @@ fn sum_run(machine: &mut Machine, go: u64) -> (Tally, Stop)
     }
 }
 
-// What is pending, and how the run ended.
-fn write_run_end<K: Sink>(
+/// Writes what is pending, and how the run ended.
+pub(crate) fn write_run_end<K: Sink>(
     report: Report,
     machine: &Machine,
     stop: Stop,

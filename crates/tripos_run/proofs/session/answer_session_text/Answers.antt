@@ -8,4 +8,4 @@ use Rattle.tripos_run.proofs.session.answer_session_text.Goals as goal
 pub returns-in-Err-Bad-clause-answer : goal.returns-in-Err-Bad-clause-answer
 returns-in-Err-Bad-clause-answer g c =
     let read = subst (λ e. EndsAs e (session_of c.args.text.now)) c.in-Err-Bad.field-0-is c.in-Err-Bad.ensures.value in
-    rw (c.status_after.ensures) (Answers-refused c.args.report (refusal c.in-Err-Bad.line c.in-Err-Bad.code) _ _ c.write_refused.result read (rw (← c.in-Err-Bad.line-is, ← c.in-Err-Bad.code-is) c.write_refused.ensures.text))
+    rw (read, c.status_after.ensures) (Answers-refused (refusal c.in-Err-Bad.line c.in-Err-Bad.code) _ _ c.write_refused.result (rw (← c.in-Err-Bad.line-is, ← c.in-Err-Bad.code-is) c.write_refused.ensures.text))

@@ -1,0 +1,66 @@
+-- How steps and lines end, by what they answered.
+use Rattle.std.proofs.Common.{◌≡◌, ℕ, ◌+◌, ◌-◌, ◌≤◌, ◌<◌, ◌++◌, true, Option, List, [], ◌∷◌, Result, Ok, Err, refl, sym, ap, ◌∙◌, subst, arith}
+use Rattle.std.specs.Prelude.{◌==◌, length}
+use Rattle.std.proofs.lemmas.Bool.{eqb-true}
+use Rattle.tp_io.specs.Pending.{Gathers, IsCut, IsGathered}
+use Rattle.tp_io.proofs.GatheredTexts.{Gathers-then, IsCut-then}
+use Rattle.tripos_machine.specs.State.{State}
+use Rattle.tripos_machine.specs.Step.{Stepped, run, step}
+use Rattle.tripos_machine.proofs.RunParts.{cut-more}
+use Rattle.cint_debug.specs.declared.limits.Limits.{Limits}
+use Rattle.cint_debug.specs.declared.orders.Order.{Order}
+use Rattle.cint_debug.specs.declared.orders.Order.TheVariants.{Break}
+use Rattle.cint_debug.specs.Breakpoints.{with_breakpoint}
+use Rattle.cint_debug.specs.Debugged.{Debugging, obeyed, stepped, steps_left, steps_text, steps_to}
+use Rattle.cint_debug.specs.Runs.{EndsSteps, EndsTold}
+use Rattle.cint_debug.specs.Texts.{place_text}
+use Rattle.cint_debug.proofs.DebuggedRuns.{debugged-all, debugged-none}
+use Rattle.cint_debug.proofs.StepsTo.{next-bytes, to-all, to-some}
+
+-- all steps were taken, whatever came of the text after them
+pub ends-all : {T E : Type 0} (n most : ℕ) (s t : State) (r : Result T E) → n ≤ most → t ≡ (run n s).state → EndsSteps n most s t r
+ends-all n most s t (Ok x) few is = is
+ends-all n most s t (Err e) few is = debugged-all n most s t few is
+
+-- the steps and the text after them
+pub text-then : {T E : Type 0} (c : Limits) (n : ℕ) (s t : State) {h m : Option (List ℕ)} {p q : List ℕ} (k : Option (List ℕ)) (o : List ℕ) (r : Result T E) → t ≡ (run n s).state → IsGathered h m p q (run n s).bytes
+    → Gathers m k q o (place_text c.first t) r → Gathers h k p o (steps_text c n s) r
+text-then c n s t {h} {m} {p} {q} k o r is first second =
+    Gathers-then first k o (place_text c.first (run n s).state) r (subst (λ z. Gathers m k q o (place_text c.first z) r) is second)
+
+-- ---- without breakpoints
+
+pub empty-steps : {T E : Type 0} (stops : List ℕ) (most : ℕ) (s t : State) (r : Result T E) → (length stops == 0) ≡ true → EndsSteps most most s t r → EndsSteps (steps_to stops most s) most s t r
+empty-steps [] most s t (Ok x) none is = is ∙ sym (ap (λ (y : Stepped). y.state) (to-all most s))
+empty-steps [] most s t (Err e) none cut = cut
+empty-steps (a ∷ stops) most s t r none is = absurd (omega (arith, eqb-true (length (a ∷ stops)) 0 none))
+
+pub empty-bytes : (stops : List ℕ) (most : ℕ) (s : State) → (length stops == 0) ≡ true → (run most s).bytes ≡ (run (steps_to stops most s) s).bytes
+empty-bytes [] most s none = sym (ap (λ (y : Stepped). y.bytes) (to-all most s))
+empty-bytes (a ∷ stops) most s none = absurd (omega (arith, eqb-true (length (a ∷ stops)) 0 none))
+
+-- ---- the sink failed behind a step
+
+module _ (stops : List ℕ) (most taken : ℕ) (s t : State) (state : t ≡ (run taken s).state) (few : taken < most) (told : steps_to stops most s ≡ taken + steps_to stops (most - taken) t) where
+  pub cut-behind : {h m k : Option (List ℕ)} {p q text : List ℕ} → IsGathered h m p q (run taken s).bytes → text ≡ (step t).bytes → IsCut m k q text → IsCut h k p (run (steps_to stops most s) s).bytes
+  cut-behind {h} {m} {k} {p} {q} {text} first is cut =
+      let more : taken + 1 ≤ steps_to stops most s = omega (arith, told, to-some stops (most - taken) t (omega (arith, few))) in
+      let whole : (run taken s).bytes ++ text ≡ (run (taken + 1) s).bytes = ap (λ v. (run taken s).bytes ++ v) is ∙ next-bytes stops most taken s t state in
+      cut-more s (taken + 1) (steps_to stops most s) more (subst (IsCut h k p) whole (IsCut-then first cut))
+
+-- ---- lines
+
+-- a line that only shows something, whatever came of it
+pub ends-shown : {T E : Type 0} (c : Limits) (d : Debugging) (order : Order) (r : Result T E) → d ≡ (obeyed c order d).after → EndsTold c d (obeyed c order d) d.state d.stops r
+ends-shown c d order (Ok x) same = (ap (λ (e : Debugging). e.state) same, ap (λ (e : Debugging). e.stops) same)
+ends-shown c d order (Err e) same = debugged-none _ _
+
+-- a line that sets a breakpoint
+pub ends-set : {T E : Type 0} (c : Limits) (a : ℕ) (d : Debugging) (stops : List ℕ) (r : Result T E) → stops ≡ with_breakpoint a d.stops → EndsTold c d (obeyed c (Break a) d) d.state stops r
+ends-set c a d stops (Ok x) is = (refl, is)
+ends-set c a d stops (Err e) is = debugged-none _ _
+
+-- a line that takes steps
+pub ends-stepped : {T E : Type 0} (c : Limits) (d : Debugging) (n : ℕ) (t : State) (r : Result T E) → EndsSteps n (steps_left c d.state) d.state t r → EndsTold c d (stepped c n d) t d.stops r
+ends-stepped c d n t (Ok x) is = (is, refl)
+ends-stepped c d n t (Err e) cut = cut

@@ -1,0 +1,88 @@
+-- What the words of a store say of its kernel's queues and blocks.
+use Rattle.std.proofs.Common.{◌≡◌, ℕ, ◌==◌, Bool, true, false, Option, Some, None, List, [], ◌∷◌, map, refl, sym, ap, ◌∙◌, subst}
+use Rattle.std.specs.Prelude.{if◌then◌else◌, unwrap_or}
+use Rattle.std.specs.List.{AllByRecursion}
+use Rattle.std.specs.Option.{option_map}
+use Rattle.tripos_machine.specs.KernelCalls.GetvecChain.Tiling.{IsTiled, blocks_in}
+use Rattle.tripos_machine.specs.KernelCalls.KernelModel.HoldsLists.{HoldsLists}
+use Rattle.tripos_machine.specs.KernelCalls.KernelModel.KernelRanges.{CanWalkLists, CanWalkTask}
+use Rattle.tripos_machine.specs.KernelCalls.KernelModel.Lists.{Lists}
+use Rattle.tripos_machine.specs.KernelCalls.KernelModel.Recovered.{lists_in, packets_at, task_in}
+use Rattle.tripos_machine.specs.KernelCalls.KernelModel.Task.{queue_head}
+use Rattle.tripos_machine.specs.KernelCalls.PacketCalls.declared.queues.Queue.TheVariants.{Clock, Keyboard, Output, Work}
+use Rattle.tripos_machine.specs.KernelCalls.PacketQueue.Queue.{HasQueue}
+use Rattle.tripos_machine.specs.KernelCalls.PacketQueue.QueueWords.{QueuedPacket}
+use Rattle.tripos_machine.specs.KernelCalls.TaskBlock.TaskChain.{HasTasks, id_in, task_with, tasks_in}
+use Rattle.tripos_machine.proofs.Shown.KernelCalls.KernelModel.Reading.{read-lists}
+use Rattle.tripos_machine.proofs.Shown.KernelCalls.KernelModel.RecoveredLists.{lists-back}
+use Rattle.tripos_machine.proofs.Shown.KernelCalls.KernelModel.WalkedLists.{can-walk}
+use Rattle.cint_debug.specs.Views.{Leads, task_queue}
+
+-- ---- the queue of the task that is found
+
+-- the queue of the task at an address
+abbrev queue_in : List ℕ → ℕ → List QueuedPacket
+queue_in s t = packets_at s (queue_head t)
+
+queue-found : (s : List ℕ) (id : ℕ) (ts : List ℕ) → task_queue id (map (task_in s) ts) ≡ option_map (queue_in s) (task_with s id ts)
+queue-found s id [] = refl
+queue-found s id (t ∷ ts) = on (id_in s t == id) (queue-found s id ts)
+  where
+    on : (b : Bool) → task_queue id (map (task_in s) ts) ≡ option_map (queue_in s) (task_with s id ts)
+        → (if b then Some (queue_in s t) else task_queue id (map (task_in s) ts)) ≡ option_map (queue_in s) (if b then Some t else task_with s id ts)
+    on true more = refl
+    on false more = more
+
+queue-stands : (s : List ℕ) (id : ℕ) (ts : List ℕ) (t : ℕ) → task_with s id ts ≡ Some t → AllByRecursion (CanWalkTask s) ts → HasQueue s (queue_head t)
+queue-stands s id [] t is all = (let other : None ≡ Some t = is in cc)
+queue-stands s id (u ∷ us) t is all = on (id_in s u == id) is (λ more. queue-stands s id us t more all.1)
+  where
+    on : (b : Bool) → (if b then Some u else task_with s id us) ≡ Some t → (task_with s id us ≡ Some t → HasQueue s (queue_head t)) → HasQueue s (queue_head t)
+    on true same later = subst (λ v. HasQueue s (queue_head v)) (ap (λ o. unwrap_or o 0) same) all.0.queue
+    on false more later = later more
+
+module _ (s : List ℕ) (l : Lists) (h : HoldsLists s l) where
+  walks : CanWalkLists s
+  walks = can-walk s l h
+
+  back : lists_in s ≡ l
+  back = lists-back s l h.valid h.size h.holds
+
+  tasks-back : map (task_in s) (tasks_in s) ≡ l.tasks
+  unfolding lists_in
+  tasks-back = ap (λ (m : Lists). m.tasks) back
+
+  pub has-tasks : HasTasks s
+  has-tasks = (read-lists s l h.valid h.size h.holds).tasks.tasks
+
+  pub leads-task : (id : ℕ) → Leads s (option_map Work (task_with s id (tasks_in s))) (task_queue id l.tasks)
+  leads-task id =
+      let there = queue-found s id (tasks_in s) in
+      subst (Leads s (option_map Work (task_with s id (tasks_in s)))) (sym there ∙ ap (task_queue id) tasks-back) (stands (task_with s id (tasks_in s)) refl)
+    where
+      stands : (o : Option ℕ) → task_with s id (tasks_in s) ≡ o → Leads s (option_map Work o) (option_map (queue_in s) o)
+      stands None none = tt
+      stands (Some t) some = (queue-stands s id (tasks_in s) t some walks.tasks, refl)
+
+  -- ---- devices
+
+  pub leads-clock : Leads s (Some Clock) (Some l.clock)
+  unfolding lists_in
+  leads-clock = (walks.clock, ap (λ (m : Lists). m.clock) back)
+
+  pub leads-keyboard : Leads s (Some Keyboard) (Some l.keyboard)
+  unfolding lists_in
+  leads-keyboard = (walks.keyboard, ap (λ (m : Lists). m.keyboard) back)
+
+  pub leads-output : Leads s (Some Output) (Some l.output)
+  unfolding lists_in
+  leads-output = (walks.output, ap (λ (m : Lists). m.output) back)
+
+  -- ---- blocks
+
+  pub is-tiled : IsTiled s
+  is-tiled = walks.tiled
+
+  pub blocks-back : blocks_in s ≡ l.blocks
+  unfolding lists_in
+  blocks-back = ap (λ (m : Lists). m.blocks) back

@@ -1,0 +1,11 @@
+pub mod BlockLines
+pub mod DebuggedRuns
+pub mod EndedSteps
+pub mod KernelLists
+pub mod KernelParts
+pub mod ListedStore
+pub mod OrderForms
+pub mod QueueTexts
+pub mod StepsTo
+pub mod ToldLines
+pub mod WordLines

@@ -1,0 +1,89 @@
+// Where a machine stands.
+ghost use Rattle.std.specs.Prelude.{◌≡◌, ◌≤◌};
+ghost use Rattle.tp_io.specs.Pending.{Gathers};
+ghost use Rattle.tp_io.specs.Write.{HasCause};
+ghost use Rattle.tripos_machine.specs.State.{regs_of, running_of, steps_of};
+ghost use Rattle.cint_debug.specs.Texts.{at_line, place_text, registers_line};
+
+use tp_io::Piece::{Decimal, Text};
+use tp_io::{Output, Sink, SinkFault, gather, gather_pieces};
+use tripos_machine::Machine;
+
+/// Gathers where the machine stands: the steps since it had taken the first ones, PC, and the task that runs; or that it has stopped.
+pub(crate) fn gather_place<K: Sink>(
+    machine: &Machine,
+    first: u64,
+    out: &mut K,
+    pending: &mut Output,
+) -> Result<(), SinkFault>
+    requires { first ≤ steps_of machine.now.state }
+    ensures text { Gathers (K.holds out.old) (K.holds out.new) pending.old pending.new
+        (place_text first machine.now.state) result }
+    ensures cause { HasCause (K.faults out.old) (K.faults out.new) result }
+{
+    if machine.stop().is_some() {
+        return gather(out, pending, b"\nstopped\n");
+    }
+    let steps = machine.steps() - first;
+    gather_at(steps, machine.regs().pc, machine.running(), out, pending)
+}
+
+fn gather_at<K: Sink>(
+    steps: u64,
+    pc: u32,
+    task: u32,
+    out: &mut K,
+    pending: &mut Output,
+) -> Result<(), SinkFault>
+    ensures text { Gathers (K.holds out.old) (K.holds out.new) pending.old pending.new
+        (at_line steps pc task) result }
+    ensures cause { HasCause (K.faults out.old) (K.faults out.new) result }
+{
+    gather_pieces(
+        out,
+        pending,
+        &[
+            Text(b"\nat "),
+            Decimal(steps),
+            Text(b" PC "),
+            Decimal(u64::from(pc)),
+            Text(b" task "),
+            Decimal(u64::from(task)),
+            Text(b"\n"),
+        ],
+    )
+}
+
+/// Gathers the registers, and the task that runs.
+pub(crate) fn gather_registers<K: Sink>(
+    machine: &Machine,
+    out: &mut K,
+    pending: &mut Output,
+) -> Result<(), SinkFault>
+    ensures text { Gathers (K.holds out.old) (K.holds out.new) pending.old pending.new
+        (registers_line (regs_of machine.now.state) (running_of machine.now.state)) result }
+    ensures cause { HasCause (K.faults out.old) (K.faults out.new) result }
+{
+    let regs = machine.regs();
+    gather_pieces(
+        out,
+        pending,
+        &[
+            Text(b"REGS A="),
+            Decimal(u64::from(regs.a)),
+            Text(b" B="),
+            Decimal(u64::from(regs.b)),
+            Text(b" C="),
+            Decimal(u64::from(regs.c)),
+            Text(b" P="),
+            Decimal(u64::from(regs.p)),
+            Text(b" G="),
+            Decimal(u64::from(regs.g)),
+            Text(b" PC="),
+            Decimal(u64::from(regs.pc)),
+            Text(b" T="),
+            Decimal(u64::from(machine.running())),
+            Text(b"\n"),
+        ],
+    )
+}

@@ -1,0 +1,2 @@
+-- Lemmas of `cint_disasm`.
+pub use Rattle.cint_disasm.proofs.HunkLines

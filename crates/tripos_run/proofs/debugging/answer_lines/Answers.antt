@@ -1,0 +1,37 @@
+use Rattle.std.proofs.Common.{◌≡◌, Result, Err, sym, ap, subst, arith}
+use Rattle.std.proofs.lemmas.Bool.{leb-true}
+use Rattle.tp_io.specs.Write.{Prints}
+use Rattle.hunk_text.specs.TextReader.Lines.{lines_of}
+use Rattle.hunk_text.specs.TextReader.Refusal.{Refusal, refusal}
+use Rattle.tripos_machine.specs.BareMachine.declared.boot.BootEnd.{BootEnd}
+use Rattle.tripos_machine.specs.KernelCalls.KernelModel.Ranges.{most_steps}
+use Rattle.tripos_machine.specs.Boot.{EndsAs, boot}
+use Rattle.tripos_machine.specs.State.{State, steps_of}
+use Rattle.tripos_machine.specs.Step.{Stepped}
+use Rattle.cint_debug.specs.Debugged.{debugged}
+use Rattle.tripos_run.specs.Texts.{no_boot_text}
+use Rattle.tripos_run.specs.Answer.{Answers, lines_answer, told_answer}
+use Rattle.tripos_run.proofs.AnswerParts.{Answers-no_boot}
+use Rattle.tripos_run.proofs.debugging.answer_lines.Goals as goal
+
+pub debug_machine-requires : goal.debug_machine-requires
+debug_machine-requires g c =
+    let booted = c.in-Ok.ensures.2 in
+    omega (arith, ap steps_of booted.state, booted.steps, leb-true c.args.session.now.go most_steps c.requires.steps)
+
+pub returns-in-Ok-clause-answer : goal.returns-in-Ok-clause-answer
+returns-in-Ok-clause-answer g c =
+    let holds = g.K.Sink.holds in
+    let s = c.args.session.now in
+    let lines = lines_of c.args.lines.now in
+    let (x, is, booted) = c.in-Ok.ensures in
+    let told = subst (λ (t : State). Answers (told_answer (debugged s.go lines t)) (holds c.args.out.now) (holds c.debug_machine.new.out) c.debug_machine.result) booted.state c.debug_machine.ensures.answer in
+    subst (λ (r : Result Stepped Refusal). Answers (lines_answer s.go lines r) (holds c.args.out.now) (holds c.debug_machine.new.out) c.debug_machine.result) (sym is) told
+
+pub returns-in-Err-Line-clause-answer : goal.returns-in-Err-Line-clause-answer
+returns-in-Err-Line-clause-answer g c =
+    let refused : boot c.args.session.now ≡ Err (refusal c.in-Err-Line.line c.in-Err-Line.code) =
+    subst (λ (e : BootEnd). EndsAs e (boot c.args.session.now)) c.in-Err-Line.field-0-is c.in-Err-Line.ensures in
+    let text : Prints (g.K.Sink.holds c.args.out.now) (g.K.Sink.holds c.write_no_boot.new.out) (no_boot_text (refusal c.in-Err-Line.line c.in-Err-Line.code)) c.write_no_boot.result =
+    rw (← c.in-Err-Line.line-is, ← c.in-Err-Line.code-is) c.write_no_boot.ensures.text in
+    rw (refused, c.status_after.ensures) (Answers-no_boot (refusal c.in-Err-Line.line c.in-Err-Line.code) _ _ c.write_no_boot.result text)

@@ -1,0 +1,107 @@
+// The answer to a session that is debugged.
+ghost use Rattle.std.specs.Prelude.{◌≡◌, ◌<◌, ◌≤◌, ◌+◌, ◌^◌, drop, length};
+ghost use Rattle.hunk_text.specs.TextReader.Lines.{lines_of};
+ghost use Rattle.session_text.specs.Canonical.{IsLawful};
+ghost use Rattle.tripos_machine.specs.KernelCalls.KernelModel.Ranges.{most_steps};
+ghost use Rattle.tripos_machine.specs.Boot.{boot};
+ghost use Rattle.tripos_machine.specs.State.{steps_of};
+ghost use Rattle.cint_debug.specs.Debugged.{debugged};
+ghost use Rattle.tripos_run.specs.Answer.{Answers, checked_answer, debugging_answer, lines_answer, told_answer};
+ghost use Rattle.tripos_run.specs.Cause.{HasFaultCause};
+ghost use Rattle.tripos_run.specs.Input.{IsMachineEnd, IsTextEnd};
+
+use crate::answer::status_after;
+use crate::machines::write_run_end;
+use crate::messages::{write_no_boot, write_refused};
+use crate::reports::Report;
+use crate::status::Status;
+use cint_debug::{BadLine, check_lines, debug};
+use session_text::{Session, SessionEnd, read_front};
+use std::alloc::Global;
+use tp_io::{Output, Sink, SinkFault};
+use tripos_machine::{BootEnd, Machine, Stop, boot};
+
+/// Boots the session at the front of a text, and does with its machine what the lines behind it ask for. They are checked before.
+pub(crate) fn answer_debugging<K: Sink>(alloc: Global, text: &[u8], out: &mut K) -> Status
+    requires { length text.now < 2 ^ 30 }
+    ensures answer { Answers (debugging_answer text.now) (K.holds out.old) (K.holds out.new) result }
+    ensures ends { IsTextEnd result }
+    ensures cause { HasFaultCause Status.WriteFault (K.faults out.old) (K.faults out.new) result }
+{
+    match read_front(alloc, text) {
+        Ok(front) => {
+            let lines = text_behind(front.end as usize, text);
+            answer_checked(alloc, &front.session, lines, front.lines + 1, out)
+        }
+        Err(SessionEnd::Bad { line, code }) => {
+            status_after(write_refused(out, line, code), Status::Refused)
+        }
+        Err(SessionEnd::WantMemory) => Status::WantMemory,
+    }
+}
+
+// The text behind a place.
+fn text_behind(place: usize, text: &[u8]) -> &[u8]
+    requires { place ≤ length text.now }
+    ensures { result.now ≡ drop place text.now }
+{
+    &text[place..]
+}
+
+// Checks the lines, of which the first has this number, and then does what they ask for.
+fn answer_checked<K: Sink>(
+    alloc: Global,
+    session: &Session,
+    lines: &[u8],
+    first: u32,
+    out: &mut K,
+) -> Status
+    requires lawful { IsLawful session.now }
+    requires numbers { first + length lines.now < 2 ^ 32 }
+    ensures answer { Answers (checked_answer session.now first (lines_of lines.now))
+        (K.holds out.old) (K.holds out.new) result }
+    ensures ends { IsTextEnd result }
+    ensures cause { HasFaultCause Status.WriteFault (K.faults out.old) (K.faults out.new) result }
+{
+    match check_lines(lines, first) {
+        Ok(()) => answer_lines(alloc, session, lines, out),
+        Err(BadLine { line, code }) => {
+            status_after(write_refused(out, line, code), Status::Refused)
+        }
+    }
+}
+
+// Boots the session, and does with its machine what the lines ask for.
+fn answer_lines<K: Sink>(alloc: Global, session: &Session, lines: &[u8], out: &mut K) -> Status
+    requires { IsLawful session.now }
+    ensures answer { Answers (lines_answer session.now.go (lines_of lines.now) (boot session.now))
+        (K.holds out.old) (K.holds out.new) result }
+    ensures ends { IsTextEnd result }
+    ensures cause { HasFaultCause Status.WriteFault (K.faults out.old) (K.faults out.new) result }
+{
+    match boot(alloc, session) {
+        Ok(mut machine) => debug_machine(&mut machine, lines, session.go, out),
+        Err(BootEnd::Line { line, code }) => {
+            status_after(write_no_boot(out, line, code), Status::NoBoot)
+        }
+        Err(BootEnd::WantMemory) => Status::WantMemory,
+    }
+}
+
+fn debug_machine<K: Sink>(machine: &mut Machine, lines: &[u8], budget: u64, out: &mut K) -> Status
+    requires { steps_of machine.old.state + budget ≤ most_steps }
+    ensures answer { Answers
+        (told_answer (debugged budget (lines_of lines.now) machine.old.state))
+        (K.holds out.old) (K.holds out.new) result }
+    ensures ends { IsMachineEnd result }
+    ensures cause { HasFaultCause Status.WriteFault (K.faults out.old) (K.faults out.new) result }
+{
+    let mut pending = Output::new();
+    match debug(machine, lines, budget, out, &mut pending) {
+        Ok(()) => {
+            let stop = machine.stop().unwrap_or(Stop::Steps);
+            write_run_end(Report::Console, machine, stop, out, &mut pending)
+        }
+        Err(SinkFault) => Status::WriteFault,
+    }
+}
