@@ -15,7 +15,10 @@ pub mod OwnersRules
 pub mod TurnRules
 pub mod NextTick
 pub mod DevicesKept
+pub mod StepEnds
 pub mod StepKept
+pub mod FilesKept
+pub mod PeriodKept
 pub mod StoredWords
 pub mod QuietDispatch
 pub mod QuietDevices

@@ -1,5 +1,5 @@
 -- Quiet spans lead from a valid kernel to a valid one.
-use Rattle.std.proofs.Common.{◌≡◌, ℕ, zero, suc, ◌+◌, ◌/◌, ◌<◌, ◌≤◌, false, true, None, List, refl, set, sym, subst, arith}
+use Rattle.std.proofs.Common.{◌≡◌, ℕ, zero, suc, ◌+◌, ◌/◌, ◌<◌, ◌≤◌, true, None, List, refl, set, sym, subst, arith}
 use Rattle.cint_exec.specs.declared.Outcome.TheVariants.{Next}
 use Rattle.guest_turns.specs.KernelCalls.KernelModel.Ranges.{most_steps}
 use Rattle.guest_turns.specs.KernelCalls.KernelModel.Image.{HasPlainWords, IsImage, image}

@@ -1,11 +1,12 @@
 -- Runs: one after another, of a machine that has stopped, and how many steps they take.
-use Rattle.std.proofs.Common.{◌≡◌, ◌≢◌, ℕ, zero, suc, ◌+◌, ◌≤◌, Bool, true, false, Option, Some, None, cond, refl, sym, ap, ◌∙◌, arith}
+use Rattle.std.proofs.Common.{◌≡◌, ◌≢◌, ℕ, zero, suc, ◌+◌, ◌≤◌, true, Option, Some, None, cond, refl, sym, ap, ◌∙◌, arith}
 use Rattle.std.specs.Prelude.{is_some}
 use Rattle.std.proofs.lemmas.List.{append_assoc}
 use Rattle.guest_turns.specs.KernelCalls.KernelModel.Kernel.{Kernel}
 use Rattle.guest_turns.specs.KernelCalls.KernelModel.declared.stops.Stop.{Stop}
 use Rattle.kernel_steps.specs.Step.{Stepped, after_the_turn, and_then, behind, key, output, quietly, run, step, tick, turn, unless_stopped, with_step}
 use Rattle.kernel_steps.proofs.DevicesKept.{key-same, output-same, tick-same}
+use Rattle.kernel_steps.proofs.StepEnds.{step-ends, turned}
 use Rattle.kernel_steps.proofs.StepKept.{dispatch-same}
 use Rattle.kernel_steps.proofs.TurnKept.{turn-same}
 
@@ -45,21 +46,11 @@ rest-steps k =
     let typed : Kernel = (key ticked).kernel in
     (dispatch-same (output typed).kernel).steps ∙ (output-same typed).steps ∙ (key-same ticked).steps ∙ (tick-same k).steps
 
-unless-steps : (n : ℕ) (part : Kernel → Stepped) (k : Kernel) → k.steps ≤ n → (part k).kernel.steps ≤ n → (unless_stopped part k).kernel.steps ≤ n
-unless-steps n part k stays goes = on (is_some k.stop)
-  where
-    on : (b : Bool) → (cond b (quietly k) (part k)).kernel.steps ≤ n
-    on true = stays
-    on false = goes
-
 pub step-steps : (k : Kernel) → (step k).kernel.steps ≤ k.steps + 1
-unfolding step
 step-steps k =
-    let first : Kernel = with_step k in
-    let turned : Kernel = (turn first).kernel in
-    let same : turned.steps ≡ k.steps + 1 = (turn-same first).steps in
-    unless-steps (k.steps + 1) (λ j. and_then (turn (with_step j)) (unless_stopped after_the_turn)) k (omega arith)
-    (unless-steps (k.steps + 1) after_the_turn turned (omega (arith, same)) (omega (arith, same, rest-steps turned)))
+    let same : (turned k).steps ≡ k.steps + 1 = (turn-same (with_step k)).steps in
+    step-ends (λ j. j.steps ≤ k.steps + 1) k
+    (record { stopped = λ e. omega arith; stops = λ e f. omega (arith, same); whole = λ e f. omega (arith, same, rest-steps (turned k)) })
 
 pub run-steps : (n : ℕ) (k : Kernel) → (run n k).kernel.steps ≤ k.steps + n
 unfolding run
@@ -67,21 +58,11 @@ run-steps zero k = omega arith
 run-steps (suc n) k = omega (arith, run-steps n (step k).kernel, step-steps k)
 
 -- they are never fewer
-unless-later : (n : ℕ) (part : Kernel → Stepped) (k : Kernel) → n ≤ k.steps → n ≤ (part k).kernel.steps → n ≤ (unless_stopped part k).kernel.steps
-unless-later n part k stays goes = on (is_some k.stop)
-  where
-    on : (b : Bool) → n ≤ (cond b (quietly k) (part k)).kernel.steps
-    on true = stays
-    on false = goes
-
 step-later : (k : Kernel) → k.steps ≤ (step k).kernel.steps
-unfolding step
 step-later k =
-    let first : Kernel = with_step k in
-    let turned : Kernel = (turn first).kernel in
-    let same : turned.steps ≡ k.steps + 1 = (turn-same first).steps in
-    unless-later k.steps (λ j. and_then (turn (with_step j)) (unless_stopped after_the_turn)) k (omega arith)
-    (unless-later k.steps after_the_turn turned (omega (arith, same)) (omega (arith, same, rest-steps turned)))
+    let same : (turned k).steps ≡ k.steps + 1 = (turn-same (with_step k)).steps in
+    step-ends (λ j. k.steps ≤ j.steps) k
+    (record { stopped = λ e. omega arith; stops = λ e f. omega (arith, same); whole = λ e f. omega (arith, same, rest-steps (turned k)) })
 
 pub run-later : (n : ℕ) (k : Kernel) → k.steps ≤ (run n k).kernel.steps
 unfolding run
@@ -89,21 +70,10 @@ run-later zero k = omega arith
 run-later (suc n) k = omega (arith, run-later n (step k).kernel, step-later k)
 
 -- and a step of a machine that has not stopped is one more
-unless-counts : (n : ℕ) (part : Kernel → Stepped) (k : Kernel) → k.steps ≡ n → (part k).kernel.steps ≡ n → (unless_stopped part k).kernel.steps ≡ n
-unless-counts n part k stays goes = on (is_some k.stop)
-  where
-    on : (b : Bool) → (cond b (quietly k) (part k)).kernel.steps ≡ n
-    on true = stays
-    on false = goes
-
-step-counts : (k : Kernel) → k.stop ≡ None → (step k).kernel.steps ≡ k.steps + 1
-unfolding step
+pub step-counts : (k : Kernel) → k.stop ≡ None → (step k).kernel.steps ≡ k.steps + 1
 step-counts k goes =
-    let first : Kernel = with_step k in
-    let turned : Kernel = (turn first).kernel in
-    let same : turned.steps ≡ k.steps + 1 = (turn-same first).steps in
-    ap (λ o. (cond (is_some o) (quietly k) (and_then (turn first) (unless_stopped after_the_turn))).kernel.steps) goes
-    ∙ unless-counts (k.steps + 1) after_the_turn turned same (rest-steps turned ∙ same)
+    let same : (turned k).steps ≡ k.steps + 1 = (turn-same (with_step k)).steps in
+    step-ends (λ j. j.steps ≡ k.steps + 1) k (record { stopped = λ e. absurd (e goes); stops = λ e f. same; whole = λ e f. rest-steps (turned k) ∙ same })
 
 pub run-counts : (n : ℕ) (k : Kernel) → (run n k).kernel.stop ≡ None → (run n k).kernel.steps ≡ k.steps + n
 unfolding run

@@ -1,13 +1,11 @@
 -- What a step leaves: a valid kernel, if its lists are.
-use Rattle.std.proofs.Common.{◌≡◌, ◌/◌, ◌%◌, ◌<◌, ◌≤◌, Bool, true, false, Option, Some, None, ◌≢◌, cond, eqb, length, refl, sym, ap, ◌∙◌, subst, arith}
-use Rattle.std.specs.Prelude.{is_some}
+use Rattle.std.proofs.Common.{◌≡◌, ◌/◌, ◌%◌, ◌<◌, ◌≤◌, Bool, true, false, None, ◌≢◌, eqb, length, refl, sym, ap, ◌∙◌, subst, arith}
 use Rattle.std.specs.List.{AllByRecursion}
 use Rattle.guest_turns.specs.KernelCalls.KernelModel.Ranges.{most_steps}
 use Rattle.ram_disc.specs.Disc.{IsDisc}
 use Rattle.guest_turns.specs.KernelCalls.KernelModel.Between.{FirstRuns, ResidentsStand}
 use Rattle.guest_turns.specs.KernelCalls.KernelModel.Image.{HasPlainWords, image, settled}
 use Rattle.guest_turns.specs.KernelCalls.KernelModel.Kernel.{Kernel}
-use Rattle.guest_turns.specs.KernelCalls.KernelModel.declared.stops.Stop.{Stop}
 use Rattle.guest_turns.specs.KernelCalls.KernelModel.ValidKernel.{IsValid}
 use Rattle.guest_turns.specs.KernelCalls.KernelModel.ValidLists.{AreValid}
 use Rattle.guest_turns.specs.KernelCalls.KernelDispatch.Dispatch.{CanDispatch}
@@ -15,7 +13,7 @@ use Rattle.kernel_devices.specs.ClockDevice.Tick.{ticked}
 use Rattle.kernel_devices.specs.TtyDevice.Keys.{met}
 use Rattle.guest_turns.specs.GuestTurn.{Numbers, numbers_of}
 use Rattle.kernel_steps.specs.Parts.{CanTurn, HasSameKeys, HasSameResidents, IsSameMachine, IsSameSystem, IsTaken, RunsFirst, numbers_after_tick}
-use Rattle.kernel_steps.specs.Step.{after_the_turn, and_then, dispatch, key, output, quietly, served, step, tick, turn, unless_stopped, where_due, with_key_typed, with_step}
+use Rattle.kernel_steps.specs.Step.{dispatch, key, output, served, step, tick, turn, where_due, with_key_typed, with_step}
 use Rattle.kernel_steps.proofs.CallRules.{KeepsRules, keeps-none}
 use Rattle.kernel_steps.proofs.DeviceRules.{NoDeviceHas, dispatch-keeps, finished-output-keeps, met-devices, met-keeps, no-device-has, tick-keeps, ticked-devices}
 use Rattle.kernel_steps.proofs.DevicesKept.{key-ahead, key-dispatch, key-keys, key-numbers, key-residents, key-same, output-dispatch, output-keys, output-numbers, output-residents, output-same, tick-dispatch, tick-keys, tick-numbers, tick-residents, tick-same, typed-lists}
@@ -23,6 +21,7 @@ use Rattle.kernel_steps.proofs.DispatchKept.{dispatch-numbers, runs-first}
 use Rattle.kernel_steps.proofs.NextTick.{some-period, tick-periods}
 use Rattle.kernel_steps.proofs.OwnersRules.{system-of}
 use Rattle.kernel_steps.proofs.RunningCaller.{valid-runs, runs-dispatches}
+use Rattle.kernel_steps.proofs.StepEnds.{step-ends}
 use Rattle.kernel_steps.proofs.TurnKept.{numbers-turn, turn-dispatch, turn-keys, turn-same}
 use Rattle.kernel_steps.proofs.TurnRules.{rules-kept, turn-rules}
 
@@ -126,7 +125,7 @@ module _ (k : Kernel) where
   unfolding dispatch settled
   dispatch-keys = record { keys = refl; ahead = refl }
 
-  dispatch-lists : numbers_of (dispatch k).kernel.lists ≡ record (numbers_of k.lists) { running = (dispatch k).kernel.lists.running }
+  pub dispatch-lists : numbers_of (dispatch k).kernel.lists ≡ record (numbers_of k.lists) { running = (dispatch k).kernel.lists.running }
   unfolding dispatch settled
   dispatch-lists = dispatch-numbers (image k) k.lists k.regs
 
@@ -166,12 +165,7 @@ module _ (k : Kernel) (h : IsValid k) (goes : k.stop ≡ None) where
 
   -- it ends with the turn, or with the dispatch
   step-ways : (P : Kernel → Type 0) → (turned.stop ≢ None → P turned) → (turned.stop ≡ None → P (dispatch served_all).kernel) → P (step k).kernel
-  unfolding step
-  step-ways P stopped other = subst P (sym (ap (λ s. (cond (is_some s) (quietly k) (and_then (turn (with_step k)) (unless_stopped after_the_turn))).kernel) goes)) (on turned.stop refl)
-    where
-      on : (s : Option Stop) → turned.stop ≡ s → P (cond (is_some s) (quietly turned) (after_the_turn turned)).kernel
-      on None e = other e
-      on (Some s) e = stopped (λ none. cc)
+  step-ways P stopped other = step-ends P k (record { stopped = λ e. absurd (e goes); stops = λ e. stopped; whole = λ e. other })
 
   can : CanTurn (with_step k)
   can = step-turns k h goes

@@ -1,10 +1,10 @@
 -- A store that stands for a kernel, and the plain words that it has beside its lists.
-use Rattle.std.proofs.Common.{◌≡◌, ℕ, ◌+◌, ◌<◌, List, [], ◌∷◌, length, get_or, eqb, cond, Bool, true, false, Option, Some, None, refl, sym, ap, ◌∙◌, subst, arith, inl, inr}
+use Rattle.std.proofs.Common.{◌≡◌, ℕ, ◌+◌, ◌<◌, List, [], ◌∷◌, length, get_or, eqb, cond, Bool, true, false, Option, Some, None, refl, sym, ap, ◌∙◌, arith, inl, inr}
 use Rattle.std.specs.Prelude.{is_some}
 use Rattle.std.proofs.lemmas.Bool.{cases_lt}
 use Rattle.std.proofs.lemmas.List.{ext_get_or}
 use Rattle.std.proofs.lemmas.List.FromFn.{get_or-map-range_with_len, length-map-range_with_len}
-use Rattle.guest_turns.specs.KernelCalls.OwnedWords.Owned.{Holds, Pairs, owners, word_in, written}
+use Rattle.guest_turns.specs.KernelCalls.OwnedWords.Owned.{Pairs, owners, word_in, written}
 use Rattle.guest_turns.specs.KernelCalls.OwnedWords.Written.{IsWritten}
 use Rattle.guest_turns.proofs.Shown.KernelCalls.OwnedWords.OwnedWords.{word_in-none}
 use Rattle.guest_turns.specs.KernelCalls.KernelModel.ChangedStore.{IsChanged}

@@ -1,5 +1,5 @@
 // What a step leaves.
-ghost use Rattle.std.specs.Prelude.{◌≡◌, ◌<◌, None};
+ghost use Rattle.std.specs.Prelude.{◌≡◌, ◌≢◌, ◌+◌, ◌<◌, None};
 ghost use Rattle.guest_turns.specs.KernelCalls.KernelModel.Ranges.{most_steps};
 ghost use Rattle.guest_turns.specs.KernelCalls.KernelModel.Kernel.{Kernel};
 ghost use Rattle.guest_turns.specs.KernelCalls.KernelModel.ValidKernel.{IsValid};
@@ -12,4 +12,18 @@ pub fn step_law()
         → k.steps < most_steps
         → IsTaken k
         → IsValid (step k).kernel }
+{}
+
+/// A step in which neither the shell nor the file handler has its turn leaves the files, the streams and the pipes as they are.
+pub fn files_law()
+    ensures disc { (k : Kernel) → k.lists.running ≢ 1 → k.lists.running ≢ 4
+        → (step k).kernel.disc ≡ k.disc }
+    ensures pipes { (k : Kernel) → k.lists.running ≢ 1 → k.lists.running ≢ 4
+        → (step k).kernel.pipes ≡ k.pipes }
+{}
+
+/// A step of a machine that has not stopped is one more, also where it stops the machine. The period stays.
+pub fn count_law()
+    ensures steps { (k : Kernel) → k.stop ≡ None → (step k).kernel.steps ≡ k.steps + 1 }
+    ensures period { (k : Kernel) → IsValid k → (step k).kernel.lists.period ≡ k.lists.period }
 {}
