@@ -7,4 +7,5 @@ pub mod Runs
 pub use Rattle.bare_machine.specs as BareMachine
 pub use Rattle.machine_boot.specs.KernelCalls
 pub use Rattle.machine_boot.specs.KernelMachine
+pub use Rattle.machine_boot.specs.KernelSteps
 pub use Rattle.machine_boot.specs.ShellListings

@@ -1,0 +1,2 @@
+-- Lemmas of `kernel_machine`.
+pub use Rattle.kernel_machine.proofs.OneMachine
