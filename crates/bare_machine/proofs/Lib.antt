@@ -2,3 +2,4 @@ pub mod StepsBehind
 pub mod CodeLines
 pub mod Instructions
 pub mod Runs
+pub mod WordCounts

@@ -95,7 +95,7 @@ run-later zero k = omega arith
 run-later (suc n) k = omega (arith, run-later n (step k).state, step-later k)
 
 -- and a step of a machine that has not stopped is one more
-step-counts : (k : BareState) → k.stop ≡ None → (step k).state.steps ≡ k.steps + 1
+pub step-counts : (k : BareState) → k.stop ≡ None → (step k).state.steps ≡ k.steps + 1
 unfolding step
 step-counts k goes =
     let stepped : BareStepped = turn (record k { steps = k.steps + 1 }) in

@@ -1,12 +1,13 @@
 -- The steps of a call: how they add up, and that they stay within its limits.
-use Rattle.std.proofs.Common.{◌≡◌, ℕ, ◌+◌, ◌-◌, ◌≤◌, Option, Some, None, refl, sym, ap, ◌∙◌, arith}
-use Rattle.std.specs.Prelude.{is_some, if◌then◌else◌}
+use Rattle.std.proofs.Common.{◌≡◌, ℕ, ◌+◌, ◌-◌, ◌≤◌, Option, Some, None, [], refl, sym, ap, ◌∙◌, arith}
+use Rattle.std.specs.Prelude.{is_some, if◌then◌else◌, unwrap_or}
 use Rattle.tripos_machine.specs.KernelCalls.KernelModel.declared.stops.Stop.{Stop}
+use Rattle.machine_history.specs.Pasts.{state_back}
 use Rattle.tripos_machine.specs.State.{State, steps_of, stop_of}
 use Rattle.tripos_machine.specs.Step.{Stepped, run}
 use Rattle.tripos_machine.proofs.StateRuns.{run-counts, run-later, run-more, run-steps, run-stopped}
 use Rattle.cint_debug.specs.declared.limits.Limits.{Limits}
-use Rattle.cint_debug.specs.Debugged.{HasDebugged, steps_left}
+use Rattle.cint_debug.specs.Debugged.{Debugging, HasDebugged, steps_left, went_back}
 use Rattle.cint_debug.specs.Runs.{IsWithin}
 use Rattle.cint_debug.proofs.StepsTo.{run-zero}
 
@@ -22,10 +23,25 @@ debugged-more n m s t few d = record { steps = d.steps; few = omega (arith, few,
 pub debugged-all : (n m : ℕ) (s t : State) → n ≤ m → t ≡ (run n s).state → HasDebugged m s t
 debugged-all n m s t few state = record { steps = n; few = few; state = state }
 
+-- where no history is kept
+pub back-stays : (n : ℕ) (d : Debugging) → d.past ≡ None → (went_back n d).state ≡ d.state
+back-stays n d none = ap (λ p. state_back n (unwrap_or p []) d.state) none
+
+-- behind a machine that has not stopped
+pub went-on : (n : ℕ) (s : State) → stop_of (run n s).state ≡ None → stop_of s ≡ None
+went-on n s goes = on (stop_of s) refl
+  where
+    on : (o : Option Stop) → stop_of s ≡ o → stop_of s ≡ None
+    on None is = is
+    on (Some stop) is =
+        let stays = ap (λ (x : Stepped). stop_of x.state) (run-stopped n s (λ none. (let other = sym is ∙ none in cc))) in
+        let other : Some stop ≡ None = sym is ∙ sym stays ∙ goes in
+        cc
+
 -- ---- the steps that are left
 
 module _ (c : Limits) where
-  left-goes : (s : State) → stop_of s ≡ None → steps_left c s ≡ c.last - steps_of s
+  pub left-goes : (s : State) → stop_of s ≡ None → steps_left c s ≡ c.last - steps_of s
   left-goes s goes = ap (λ o. if is_some o then 0 else (c.last - steps_of s)) goes
 
   left-stopped : (s : State) (stop : Stop) → stop_of s ≡ Some stop → steps_left c s ≡ 0
@@ -37,17 +53,6 @@ module _ (c : Limits) where
       on : (o : Option Stop) → stop_of s ≡ o → steps_left c s ≤ c.last - steps_of s
       on None is = omega (arith, left-goes s is)
       on (Some stop) is = omega (arith, left-stopped s stop is)
-
-  -- behind a machine that has not stopped
-  went-on : (n : ℕ) (s : State) → stop_of (run n s).state ≡ None → stop_of s ≡ None
-  went-on n s goes = on (stop_of s) refl
-    where
-      on : (o : Option Stop) → stop_of s ≡ o → stop_of s ≡ None
-      on None is = is
-      on (Some stop) is =
-          let stays = ap (λ (x : Stepped). stop_of x.state) (run-stopped n s (λ none. (let other = sym is ∙ none in cc))) in
-          let other : Some stop ≡ None = sym is ∙ sym stays ∙ goes in
-          cc
 
   -- first some steps, and then others
   pub debugged-then : (s t u : State) → HasDebugged (steps_left c s) s t → HasDebugged (steps_left c t) t u → HasDebugged (steps_left c s) s u

@@ -1,20 +1,23 @@
 -- How steps and lines end, by what they answered.
-use Rattle.std.proofs.Common.{◌≡◌, ℕ, ◌+◌, ◌-◌, ◌≤◌, ◌<◌, ◌++◌, true, Option, List, [], ◌∷◌, Result, Ok, Err, refl, sym, ap, ◌∙◌, subst, arith}
-use Rattle.std.specs.Prelude.{◌==◌, length}
+use Rattle.std.proofs.Common.{◌≡◌, ℕ, ◌+◌, ◌-◌, ◌≤◌, ◌<◌, ◌++◌, ◌||◌, true, false, Option, Some, None, List, [], ◌∷◌, Result, Ok, Err, refl, sym, ap, ◌∙◌, subst, arith}
+use Rattle.std.specs.Prelude.{◌==◌, IfOk, is_some, length}
 use Rattle.std.proofs.lemmas.Bool.{eqb-true}
 use Rattle.tp_io.specs.Pending.{Gathers, IsCut, IsGathered}
 use Rattle.tp_io.proofs.GatheredTexts.{Gathers-then, IsCut-then}
-use Rattle.tripos_machine.specs.State.{State}
+use Rattle.tripos_machine.specs.State.{State, stop_of}
+use Rattle.tripos_machine.specs.KernelCalls.KernelModel.declared.stops.Stop.{Stop}
+use Rattle.cint_debug.specs.Views.{is_at, is_end}
 use Rattle.tripos_machine.specs.Step.{Stepped, run, step}
 use Rattle.tripos_machine.proofs.RunParts.{cut-more}
 use Rattle.cint_debug.specs.declared.limits.Limits.{Limits}
 use Rattle.cint_debug.specs.declared.orders.Order.{Order}
 use Rattle.cint_debug.specs.declared.orders.Order.TheVariants.{Break}
 use Rattle.cint_debug.specs.Breakpoints.{with_breakpoint}
-use Rattle.cint_debug.specs.Debugged.{Debugging, obeyed, stepped, steps_left, steps_text, steps_to}
+use Rattle.cint_debug.specs.Debugged.{Debugging, obeyed, stepped, steps_left, steps_text, steps_to, undone}
 use Rattle.cint_debug.specs.Runs.{EndsSteps, EndsTold}
 use Rattle.cint_debug.specs.Texts.{place_text}
 use Rattle.cint_debug.proofs.DebuggedRuns.{debugged-all, debugged-none}
+use Rattle.cint_debug.proofs.DebuggedRuns.{back-stays}
 use Rattle.cint_debug.proofs.StepsTo.{next-bytes, to-all, to-some}
 
 -- all steps were taken, whatever came of the text after them
@@ -64,3 +67,21 @@ ends-set c a d stops (Err e) is = debugged-none _ _
 pub ends-stepped : {T E : Type 0} (c : Limits) (d : Debugging) (n : ℕ) (t : State) (r : Result T E) → EndsSteps n (steps_left c d.state) d.state t r → EndsTold c d (stepped c n d) t d.stops r
 ends-stepped c d n t (Ok x) is = (is, refl)
 ends-stepped c d n t (Err e) cut = cut
+
+-- a line that undoes steps, where no history is kept
+pub ends-returned : {T E : Type 0} (c : Limits) (n : ℕ) (d : Debugging) (r : Result T E) → d.past ≡ None → EndsTold c d (undone c n d) d.state d.stops r
+ends-returned c n d (Ok x) none = (sym (back-stays n d none), refl)
+ends-returned c n d (Err e) none = debugged-none _ _
+
+-- where something holds, it holds if all went well
+pub if-held : {T E : Type 0} (r : Result T E) (P : Type 0) → P → IfOk r (λ x. P)
+if-held (Ok x) P held = held
+if-held (Err e) P held = tt
+
+-- behind a step at which no run ends the machine goes on
+pub end-goes : (stops : List ℕ) (t : State) → is_end stops t ≡ false → stop_of t ≡ None
+end-goes stops t none = on (stop_of t) refl
+  where
+    on : (o : Option Stop) → stop_of t ≡ o → stop_of t ≡ None
+    on None is = is
+    on (Some stop) is = (let here : true ≡ false = sym (ap (λ o. is_some o || is_at stops t) is) ∙ none in cc)

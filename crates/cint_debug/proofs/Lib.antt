@@ -7,5 +7,8 @@ pub mod ListedStore
 pub mod OrderForms
 pub mod QueueTexts
 pub mod StepsTo
+pub mod PastSteps
+pub mod ReachedStates
+pub mod KeptLines
 pub mod ToldLines
 pub mod WordLines

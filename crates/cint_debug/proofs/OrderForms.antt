@@ -15,8 +15,8 @@ use Rattle.session_text.specs.Statements.{number_field}
 use Rattle.session_text.proofs.Blanks.{number_field-again, number_field-ok}
 use Rattle.cint_debug.specs.declared.orders.BadLine.{BadLine}
 use Rattle.cint_debug.specs.declared.orders.Order.{Order}
-use Rattle.cint_debug.specs.declared.orders.Order.TheVariants.{Blocks, Break, Continue, DeviceQueue, Instructions, Registers, Step, TaskQueue, Tasks, Unbreak, Words}
-use Rattle.cint_debug.specs.Orders.{Asks, at_most, bad, break_order, device_queue_order, given, instructions_order, is_in_range, is_span, most_device, most_shown, order_alone, order_of, queue_order, span_fields, step_order, task_queue_order, unbreak_order, word_field, words_order}
+use Rattle.cint_debug.specs.declared.orders.Order.TheVariants.{Back, Blocks, Break, Continue, DeviceQueue, Instructions, Registers, Step, TaskQueue, Tasks, Unbreak, Words}
+use Rattle.cint_debug.specs.Orders.{Asks, at_most, back_order, bad, break_order, device_queue_order, given, instructions_order, is_in_range, is_span, most_device, most_shown, order_alone, order_of, queue_order, span_fields, step_order, task_queue_order, unbreak_order, word_field, words_order}
 
 -- what is asked for, where it is in its range
 abbrev pub ranged : {X : Type 0} → ℕ → Bool → X → Result X BadLine
@@ -90,6 +90,7 @@ unfolding order_of
 asked-again n line (Break a) h = ap (order_of n) h.1 ∙ word-order n h.0 a Break h.2
 asked-again n line (Unbreak a) h = ap (order_of n) h.1 ∙ word-order n h.0 a Unbreak h.2
 asked-again n line (Step steps) h = ap (order_of n) h.1 ∙ word-order n h.0 steps Step h.2
+asked-again n line (Back steps) h = ap (order_of n) h.1 ∙ word-order n h.0 steps Back h.2
 asked-again n line Continue h = ap (order_of n) h
 asked-again n line Registers h = ap (order_of n) h
 asked-again n line (Words a count) h = ap (order_of n) h.4 ∙ span-order n h.0 h.1 a count Words h.2 h.3
@@ -179,10 +180,11 @@ judged n line =
     one-of n line (codes "BP ") (break_order n) _ (λ text is. word-judged n line text Break (λ v h. (text, is, h)))
     (one-of n line (codes "UNBP ") (unbreak_order n) _ (λ text is. word-judged n line text Unbreak (λ v h. (text, is, h)))
     (one-of n line (codes "STEP ") (step_order n) _ (λ text is. word-judged n line text Step (λ v h. (text, is, h)))
+    (one-of n line (codes "BACK ") (back_order n) _ (λ text is. word-judged n line text Back (λ v h. (text, is, h)))
     (one-of n line (codes "MEM ") (words_order n) _ (λ text is. span-judged n line text Words (λ x y a count h k t. (x, y, h, k, is ∙ ap (λ (z : List ℕ). codes "MEM " ++ z) t)))
     (one-of n line (codes "QUEUE ") (queue_order n) _ (λ text is. queue-judged n line text is)
     (one-of n line (codes "DIS ") (instructions_order n) _ (λ text is. span-judged n line text Instructions (λ x y a count h k t. (x, y, h, k, is ∙ ap (λ (z : List ℕ). codes "DIS " ++ z) t)))
-    (alone-judged n line))))))
+    (alone-judged n line)))))))
 
 pub asked-none : (n : ℕ) (line : List ℕ) → ((o : Order) → Asks o line → ⊥) → order_of n line ≡ Err (bad n 1)
 asked-none n line none = on (order_of n line) (judged n line)

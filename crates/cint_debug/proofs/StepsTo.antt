@@ -47,11 +47,15 @@ or-false false b none = none
 never-at : (t : State) → is_at [] t ≡ false
 never-at t = and-false (is_guest_next t) (not ((regs_of t).pc == 0))
 
+-- a run ends at a stop alone
+pub end-none : (t : State) → is_end [] t ≡ is_some (stop_of t)
+end-none t = or-false (is_some (stop_of t)) (is_at [] t) (never-at t)
+
 pub run-zero : (s : State) → run 0 s ≡ quietly s
 unfolding run
 run-zero s = refl
 
-run-suc : (n : ℕ) (s : State) → run (suc n) s ≡ and_then (step s) (run n)
+pub run-suc : (n : ℕ) (s : State) → run (suc n) s ≡ and_then (step s) (run n)
 unfolding run
 run-suc n s = refl
 
@@ -66,15 +70,12 @@ to-all (suc n) s = on (is_some (stop_of (step s).state)) refl (to-all n (step s)
     t : State
     t = (step s).state
 
-    asked : is_end [] t ≡ is_some (stop_of t)
-    asked = or-false (is_some (stop_of t)) (is_at [] t) (never-at t)
-
     on : (b : Bool) → is_some (stop_of t) ≡ b → run (steps_to [] n t) t ≡ run n t → run (steps_to [] (suc n) s) s ≡ run (suc n) s
     on true is more =
-        ap (λ i. run i s) (to-here [] n s (asked ∙ is)) ∙ run-suc 0 s
+        ap (λ i. run i s) (to-here [] n s (end-none t ∙ is)) ∙ run-suc 0 s
         ∙ ap (λ (x : Stepped). and_then (step s) (λ _. x)) (run-zero t ∙ sym (run-stopped n t (not-none (stop_of t) is))) ∙ sym (run-suc n s)
     on false is more =
-        ap (λ i. run i s) (to-further [] n s (asked ∙ is)) ∙ run-suc (steps_to [] n t) s
+        ap (λ i. run i s) (to-further [] n s (end-none t ∙ is)) ∙ run-suc (steps_to [] n t) s
         ∙ ap (λ (x : Stepped). and_then (step s) (λ _. x)) more ∙ sym (run-suc n s)
 
 -- ---- behind these steps, and behind fewer
@@ -109,7 +110,7 @@ to-last stops (suc n) s few = on (is_end stops (step s).state) refl (to-last sto
 
 -- ---- one step after another, of which so many are taken and no one halted
 
-run-one : (s : State) → run 1 s ≡ step s
+pub run-one : (s : State) → run 1 s ≡ step s
 run-one s =
     let t : State = (step s).state in
     run-suc 0 s ∙ ap (λ (x : Stepped). and_then (step s) (λ _. x)) (run-zero t)

@@ -5,3 +5,5 @@ pub mod Views
 pub mod Texts
 pub mod Debugged
 pub mod Runs
+-- shown to the crates above
+pub use Rattle.machine_history.specs as MachineHistory

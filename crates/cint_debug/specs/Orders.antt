@@ -8,7 +8,7 @@ use Rattle.hunk_text.specs.TextReader.Steps.{◌>>=◌}
 use Rattle.session_text.specs.Statements.{number_field}
 use Rattle.cint_debug.specs.declared.orders.BadLine.{BadLine}
 use Rattle.cint_debug.specs.declared.orders.Order.{Order}
-use Rattle.cint_debug.specs.declared.orders.Order.TheVariants.{Blocks, Break, Continue, DeviceQueue, Instructions, Registers, Step, TaskQueue, Tasks, Unbreak, Words}
+use Rattle.cint_debug.specs.declared.orders.Order.TheVariants.{Back, Blocks, Break, Continue, DeviceQueue, Instructions, Registers, Step, TaskQueue, Tasks, Unbreak, Words}
 
 -- ---- which lines ask for what
 
@@ -21,6 +21,7 @@ abbrev pub Asks : Order → List ℕ → Type 0
 Asks (Break a) line = IsNumberLine (codes "BP ") a line
 Asks (Unbreak a) line = IsNumberLine (codes "UNBP ") a line
 Asks (Step n) line = IsNumberLine (codes "STEP ") n line
+Asks (Back n) line = IsNumberLine (codes "BACK ") n line
 Asks Continue line = line ≡ codes "CONT"
 Asks Registers line = line ≡ codes "REGS"
 Asks (Words a n) line = IsSpanLine (codes "MEM ") a n line
@@ -47,6 +48,7 @@ abbrev pub is_in_range : Order → Bool
 is_in_range (Break a) = nat_lt a (2 ^ 32)
 is_in_range (Unbreak a) = nat_lt a (2 ^ 32)
 is_in_range (Step n) = nat_lt n (2 ^ 32)
+is_in_range (Back n) = nat_lt n (2 ^ 32)
 is_in_range Continue = true
 is_in_range Registers = true
 is_in_range (Words a n) = is_span a n
@@ -98,6 +100,11 @@ step_order n text = do
   steps ← word_field n text
   Ok (Step steps)
 
+abbrev pub back_order : ℕ → List ℕ → Result Order BadLine
+back_order n text = do
+  steps ← word_field n text
+  Ok (Back steps)
+
 abbrev pub words_order : ℕ → List ℕ → Result Order BadLine
 words_order n text = do
   span ← span_fields n text
@@ -137,7 +144,8 @@ order_of n line =
     option_map_or (break_order n) (after_word (codes "BP ") line)
     (option_map_or (unbreak_order n) (after_word (codes "UNBP ") line)
     (option_map_or (step_order n) (after_word (codes "STEP ") line)
+    (option_map_or (back_order n) (after_word (codes "BACK ") line)
     (option_map_or (words_order n) (after_word (codes "MEM ") line)
     (option_map_or (queue_order n) (after_word (codes "QUEUE ") line)
     (option_map_or (instructions_order n) (after_word (codes "DIS ") line)
-    (order_alone n line))))))
+    (order_alone n line)))))))

@@ -1,10 +1,11 @@
 -- How steps and lines of the debugger end.
-use Rattle.std.specs.Prelude.{ℕ, ◌≡◌, ◌≤◌, List, Result, Ok, Err}
+use Rattle.std.specs.Prelude.{ℕ, ◌≡◌, ◌≤◌, ◌⊎◌, List, Some, Result, Ok, Err}
 use Rattle.tripos_machine.specs.KernelCalls.KernelModel.Ranges.{most_steps}
+use Rattle.machine_history.specs.Pasts.{state_back}
 use Rattle.tripos_machine.specs.State.{State, steps_of}
 use Rattle.tripos_machine.specs.Step.{run}
 use Rattle.cint_debug.specs.declared.limits.Limits.{Limits}
-use Rattle.cint_debug.specs.Debugged.{Debugging, HasDebugged, Told, steps_left}
+use Rattle.cint_debug.specs.Debugged.{Debugging, HasDebugged, Told, past_of, steps_left}
 
 -- n steps were taken, or others, at most so many, where the sink failed
 abbrev pub EndsSteps : {T E : Type 0} → ℕ → ℕ → State → State → Result T E → Type 0
@@ -24,3 +25,8 @@ pub record IsWithin (c : Limits) (s : State) : Type 0 where
 abbrev pub EndsTold : {T E : Type 0} → Limits → Debugging → Told → State → List ℕ → Result T E → Type 0
 EndsTold c d told t stops (Ok x) = (t ≡ told.after.state) × (stops ≡ told.after.stops)
 EndsTold c d told t stops (Err e) = HasDebugged (steps_left c d.state) d.state t
+
+-- the same where a history is kept: the sink failed behind some steps, or when some had been undone
+abbrev pub EndsToldBack : {T E : Type 0} → Limits → Debugging → Told → State → List ℕ → List State → Result T E → Type 0
+EndsToldBack c d told t stops past (Ok x) = (t ≡ told.after.state) × (stops ≡ told.after.stops) × (Some past ≡ told.after.past)
+EndsToldBack c d told t stops past (Err e) = HasDebugged (steps_left c d.state) d.state t ⊎ ((n : ℕ) × (t ≡ state_back n (past_of d) d.state))

@@ -3,6 +3,7 @@
 
 mod blocks;
 mod breakpoints;
+pub mod histories;
 mod instructions;
 pub mod laws;
 mod limits;
@@ -15,7 +16,11 @@ pub mod sessions;
 mod tasks;
 pub mod words;
 
-pub use lines::check_lines;
+pub use histories::debug_back;
+pub use lines::{check_lines, goes_back};
 pub use orders::{BadLine, Order};
 pub use sessions::debug;
 pub use words::gather_word;
+
+// Shown to the crates above.
+pub use machine_history::History;

@@ -1,10 +1,10 @@
 // Lines that are checked before any is done.
 ghost use Rattle.std.specs.Prelude.{◌≡◌, ◌<◌, ◌+◌, ◌^◌, Some, None, MatchResult, length};
 ghost use Rattle.hunk_text.specs.TextReader.Lines.{lines_of};
-ghost use Rattle.cint_debug.specs.OrderLines.{first_bad};
+ghost use Rattle.cint_debug.specs.OrderLines.{first_bad, goes_back};
 
-use crate::BadLine;
 use crate::orders::order_of;
+use crate::{BadLine, Order};
 use hunk_text::split_line;
 
 /// Whether each of these lines asks for something; the first of them has the number `first`. The first that does not is the answer.
@@ -21,4 +21,18 @@ pub fn check_lines(lines: &[u8], first: u32) -> Result<(), BadLine>
         rest = others;
     }
     Ok(())
+}
+
+/// Whether some of these lines asks for steps to be undone.
+pub fn goes_back(lines: &[u8]) -> bool
+    ensures { result ≡ goes_back (lines_of lines.now) }
+{
+    let mut rest = lines;
+    while let Some((line, others)) = split_line(rest) {
+        if let Ok(Order::Back(_)) = order_of(0, line) {
+            return true;
+        }
+        rest = others;
+    }
+    false
 }

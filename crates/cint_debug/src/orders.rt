@@ -1,7 +1,7 @@
 // What a line asks for.
 ghost use Rattle.std.specs.Prelude.{◌≡◌, ◌<◌, ◌^◌};
 ghost use Rattle.hunk_text.specs.TextReader.Numbers.{number_of};
-ghost use Rattle.cint_debug.specs.Orders.{at_most, break_order, device_queue_order, given, instructions_order, order_alone, order_of, queue_order, span_fields, step_order, task_queue_order, unbreak_order, word_field, words_order};
+ghost use Rattle.cint_debug.specs.Orders.{at_most, back_order, break_order, device_queue_order, given, instructions_order, order_alone, order_of, queue_order, span_fields, step_order, task_queue_order, unbreak_order, word_field, words_order};
 
 use hunk_text::{after_word, number};
 use session_text::number_field;
@@ -21,6 +21,8 @@ pub enum Order {
     Unbreak(u32),
     /// At most so many steps.
     Step(u32),
+    /// At most so many steps undone.
+    Back(u32),
     /// Steps up to a breakpoint.
     Continue,
     /// The registers.
@@ -48,7 +50,7 @@ pub struct BadLine {
     pub code: u32,
 }
 
-/// What line n asks for: `BP a`, `UNBP a`, `STEP n`, `CONT`, `REGS`, `MEM a n`, `TASKS`, `QUEUE id`, `QUEUE -device`, `BLOCKS` or
+/// What line n asks for: `BP a`, `UNBP a`, `STEP n`, `BACK n`, `CONT`, `REGS`, `MEM a n`, `TASKS`, `QUEUE id`, `QUEUE -device`, `BLOCKS` or
 /// `DIS a n`. A number is 1 to 10 decimal digits below 2 ^ 32; a count is at most 4,096, and a device at most 2 ^ 31.
 #[tactic(auto, unfolding(crate::specs::Orders::order_of))]
 pub fn order_of(n: u32, line: &[u8]) -> Result<Order, BadLine>
@@ -62,6 +64,9 @@ pub fn order_of(n: u32, line: &[u8]) -> Result<Order, BadLine>
     }
     if let Some(text) = after_word(b"STEP ", line) {
         return step_order(n, text);
+    }
+    if let Some(text) = after_word(b"BACK ", line) {
+        return back_order(n, text);
     }
     if let Some(text) = after_word(b"MEM ", line) {
         return words_order(n, text);
@@ -91,6 +96,12 @@ fn step_order(n: u32, text: &[u8]) -> Result<Order, BadLine>
     ensures { result ≡ step_order n text.now }
 {
     Ok(Order::Step(word_field(n, text)?))
+}
+
+fn back_order(n: u32, text: &[u8]) -> Result<Order, BadLine>
+    ensures { result ≡ back_order n text.now }
+{
+    Ok(Order::Back(word_field(n, text)?))
 }
 
 fn words_order(n: u32, text: &[u8]) -> Result<Order, BadLine>

@@ -1,5 +1,5 @@
 // Where a machine stands.
-ghost use Rattle.std.specs.Prelude.{◌≡◌, ◌≤◌};
+ghost use Rattle.std.specs.Prelude.{◌≡◌, ◌≤◌, ◌++◌, [], codes, if◌then◌else◌};
 ghost use Rattle.tp_io.specs.Pending.{Gathers};
 ghost use Rattle.tp_io.specs.Write.{HasCause};
 ghost use Rattle.tripos_machine.specs.State.{regs_of, running_of, steps_of};
@@ -26,6 +26,29 @@ pub(crate) fn gather_place<K: Sink>(
     }
     let steps = machine.steps() - first;
     gather_at(steps, machine.regs().pc, machine.running(), out, pending)
+}
+
+/// Gathers that fewer steps could be undone than were to be, where that is so, and where the machine stands.
+pub(crate) fn gather_return<K: Sink>(
+    fewer: bool,
+    machine: &Machine,
+    first: u64,
+    out: &mut K,
+    pending: &mut Output,
+) -> Result<(), SinkFault>
+    requires { first ≤ steps_of machine.now.state }
+    ensures text { Gathers (K.holds out.old) (K.holds out.new) pending.old pending.new
+        ((if fewer then codes "? no more\n" else []) ++ place_text first machine.now.state) result }
+    ensures cause { HasCause (K.faults out.old) (K.faults out.new) result }
+{
+    gather(out, pending, no_more(fewer))?;
+    gather_place(machine, first, out, pending)
+}
+
+fn no_more(fewer: bool) -> &'static [u8]
+    ensures { result.now ≡ (if fewer then codes "? no more\n" else []) }
+{
+    if fewer { b"? no more\n" } else { b"" }
 }
 
 fn gather_at<K: Sink>(

@@ -106,8 +106,8 @@ fn take_steps_to<K: Sink>(
     Ok(())
 }
 
-// Whether a run ends here: at a breakpoint, or as the machine has stopped.
-fn is_end(machine: &Machine, stops: &Breakpoints) -> bool
+/// Whether a run ends here: at a breakpoint, or as the machine has stopped.
+pub(crate) fn is_end(machine: &Machine, stops: &Breakpoints) -> bool
     ensures { result ≡ is_end stops.now machine.now.state }
 {
     machine.stop().is_some() || is_at(machine, stops)
@@ -128,8 +128,8 @@ fn is_guest_next(machine: &Machine) -> bool
     machine.kernel_parts().is_none() || machine.running() >= FIRST_GUEST
 }
 
-// The steps that may be taken yet: none on a machine that has stopped.
-fn steps_left(machine: &Machine, limits: Limits) -> u64
+/// The steps that may be taken yet: none on a machine that has stopped.
+pub(crate) fn steps_left(machine: &Machine, limits: Limits) -> u64
     requires { steps_of machine.now.state ≤ limits.last }
     ensures { result ≡ steps_left limits machine.now.state }
 {

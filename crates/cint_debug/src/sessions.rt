@@ -1,14 +1,16 @@
 // Lines of the debugger, one after another.
-ghost use Rattle.std.specs.Prelude.{◌≡◌, ◌+◌, ◌≤◌, IfOk};
+ghost use Rattle.std.specs.Prelude.{◌≡◌, ◌+◌, ◌≤◌, ◌++◌, [], None, IfOk, false};
 ghost use Rattle.hunk_text.specs.TextReader.Lines.{lines_of};
 ghost use Rattle.tp_io.specs.Pending.{Gathers};
 ghost use Rattle.tp_io.specs.Write.{HasCause};
 ghost use Rattle.tripos_machine.specs.KernelCalls.KernelModel.Ranges.{most_steps};
 ghost use Rattle.tripos_machine.specs.State.{steps_of};
 ghost use Rattle.cint_debug.specs.Breakpoints.{with_breakpoint};
-ghost use Rattle.cint_debug.specs.Debugged.{Debugging, HasDebugged, debugged, full_text, line_obeyed, obeyed};
+ghost use Rattle.cint_debug.specs.Debugged.{Debugging, HasDebugged, debugged, fewer_text, full_text, line_obeyed, obeyed};
+ghost use Rattle.cint_debug.specs.OrderLines.{takes_steps};
 ghost use Rattle.cint_debug.specs.Orders.{order_of};
 ghost use Rattle.cint_debug.specs.Runs.{EndsTold, IsWithin};
+ghost use Rattle.cint_debug.specs.Texts.{place_text};
 
 use crate::Order;
 use crate::blocks::gather_blocks;
@@ -16,7 +18,7 @@ use crate::breakpoints::Breakpoints;
 use crate::instructions::gather_instructions;
 use crate::limits::Limits;
 use crate::orders::order_of;
-use crate::places::gather_registers;
+use crate::places::{gather_registers, gather_return};
 use crate::queues::{gather_device_queue, gather_task_queue};
 use crate::runs::{go_on, step};
 use crate::tasks::gather_tasks;
@@ -37,9 +39,9 @@ pub fn debug<K: Sink>(
 ) -> Result<(), SinkFault>
     requires { steps_of machine.old.state + budget ≤ most_steps }
     ensures text { Gathers (K.holds out.old) (K.holds out.new) pending.old pending.new
-        (debugged budget (lines_of lines.now) machine.old.state).bytes result }
+        (debugged budget (lines_of lines.now) machine.old.state None).bytes result }
     ensures state { IfOk result (λ _. machine.new.state
-        ≡ (debugged budget (lines_of lines.now) machine.old.state).after.state) }
+        ≡ (debugged budget (lines_of lines.now) machine.old.state None).after.state) }
     ensures steps { HasDebugged budget machine.old.state machine.new.state }
     ensures cause { HasCause (K.faults out.old) (K.faults out.new) result }
 {
@@ -67,10 +69,10 @@ fn obey_line<K: Sink>(
     pending: &mut Output,
 ) -> Result<(), SinkFault>
     requires { IsWithin limits machine.old.state }
-    ensures text { let d : Debugging = record { state = machine.old.state; stops = stops.old } in
+    ensures text { let d : Debugging = record { state = machine.old.state; stops = stops.old; past = None } in
         Gathers (K.holds out.old) (K.holds out.new) pending.old pending.new
         (line_obeyed limits (order_of 0 line.now) d).bytes result }
-    ensures end { let d : Debugging = record { state = machine.old.state; stops = stops.old } in
+    ensures end { let d : Debugging = record { state = machine.old.state; stops = stops.old; past = None } in
         EndsTold limits d (line_obeyed limits (order_of 0 line.now) d)
         machine.new.state stops.new result }
     ensures cause { HasCause (K.faults out.old) (K.faults out.new) result }
@@ -81,7 +83,8 @@ fn obey_line<K: Sink>(
     }
 }
 
-fn obey<K: Sink>(
+/// Does what a line asks for, where no step can be undone. The machine stays as it is where no steps are asked for.
+pub(crate) fn obey<K: Sink>(
     order: Order,
     limits: Limits,
     machine: &mut Machine,
@@ -90,11 +93,12 @@ fn obey<K: Sink>(
     pending: &mut Output,
 ) -> Result<(), SinkFault>
     requires { IsWithin limits machine.old.state }
-    ensures text { let d : Debugging = record { state = machine.old.state; stops = stops.old } in
+    ensures text { let d : Debugging = record { state = machine.old.state; stops = stops.old; past = None } in
         Gathers (K.holds out.old) (K.holds out.new) pending.old pending.new
         (obeyed limits order d).bytes result }
-    ensures end { let d : Debugging = record { state = machine.old.state; stops = stops.old } in
+    ensures end { let d : Debugging = record { state = machine.old.state; stops = stops.old; past = None } in
         EndsTold limits d (obeyed limits order d) machine.new.state stops.new result }
+    ensures stays { takes_steps order ≡ false → machine.new ≡ machine.old }
     ensures cause { HasCause (K.faults out.old) (K.faults out.new) result }
 {
     match order {
@@ -104,6 +108,7 @@ fn obey<K: Sink>(
             Ok(())
         }
         Order::Step(n) => step(machine, u64::from(n), limits, out, pending),
+        Order::Back(n) => go_back(n, machine, limits, out, pending),
         Order::Continue => go_on(machine, stops, limits, out, pending),
         Order::Registers => gather_registers(machine, out, pending),
         Order::Words { from, count } => gather_words(machine.store(), from, count, out, pending),
@@ -115,6 +120,22 @@ fn obey<K: Sink>(
             gather_instructions(machine.store(), from, count, out, pending)
         }
     }
+}
+
+// Gathers that no step can be undone, where one was to be, and where the machine stands.
+fn go_back<K: Sink>(
+    n: u32,
+    machine: &Machine,
+    limits: Limits,
+    out: &mut K,
+    pending: &mut Output,
+) -> Result<(), SinkFault>
+    requires { IsWithin limits machine.now.state }
+    ensures text { Gathers (K.holds out.old) (K.holds out.new) pending.old pending.new
+        (fewer_text n [] ++ place_text limits.first machine.now.state) result }
+    ensures cause { HasCause (K.faults out.old) (K.faults out.new) result }
+{
+    gather_return(n > 0, machine, limits.first, out, pending)
 }
 
 // Sets a breakpoint, or says that there is no room for one more.

@@ -10,7 +10,6 @@ use Rattle.shell_programs.specs.KernelCalls.KernelModel.MovedTask.{with_priority
 use Rattle.shell_programs.specs.KernelCalls.KernelModel.Running.{RunsIf}
 use Rattle.shell_programs.specs.KernelCalls.KernelModel.Task.{Task, is_guest_id}
 use Rattle.shell_programs.specs.KernelCalls.KernelModel.ValidLists.{AreValid}
-use Rattle.shell_programs.specs.KernelCalls.KernelModel.ValidTasks.{runs}
 use Rattle.shell_programs.proofs.Shown.KernelCalls.KernelModel.AllThings.{all-inserted}
 use Rattle.shell_programs.specs.KernelCalls.CallAnswers.Guests.{guest_tests}
 use Rattle.shell_programs.specs.KernelCalls.CallAnswers.Made.{Made, by_refusal, done}

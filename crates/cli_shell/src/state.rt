@@ -43,6 +43,21 @@ impl ShellState {
         }
     }
 
+    /// The same mode and line again. It takes no memory.
+    pub fn copy(&self) -> ShellState
+        ensures { result ≡ self.now }
+    {
+        let mut line = ArrayVec::new();
+        match line.try_extend_from_slice(self.line.as_slice()) {
+            Ok(()) => {}
+            Err(_) => unreachable!(),
+        }
+        ShellState {
+            mode: self.mode,
+            line,
+        }
+    }
+
     /// What it does next.
     pub fn mode(&self) -> Mode
         ensures { mode_of result ≡ self.now.mode }

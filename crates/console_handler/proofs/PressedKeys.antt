@@ -11,7 +11,6 @@ use Rattle.resident_requests.specs.KernelCalls.KernelModel.NotedEvents.{NotesAll
 use Rattle.resident_requests.specs.KernelCalls.KernelModel.Owned.{owned}
 use Rattle.resident_requests.specs.KernelCalls.KernelModel.Running.{RunsIf}
 use Rattle.resident_requests.specs.KernelCalls.KernelModel.Task.{Task}
-use Rattle.resident_requests.specs.KernelCalls.KernelModel.ValidTasks.{runs}
 use Rattle.resident_requests.proofs.Shown.KernelCalls.KernelModel.ChangedLists.{knows-same}
 use Rattle.resident_requests.proofs.Shown.KernelCalls.KernelModel.NotedInTurn.{notes-none}
 use Rattle.resident_requests.specs.KernelCalls.OwnedWords.Owned.{owners}

@@ -7,7 +7,7 @@ ghost use Rattle.console_handler.specs.Deliveries.{command_after, delivery, hand
 ghost use Rattle.console_handler.specs.Progress.{IsDone, Progress, Start};
 ghost use Rattle.resident_requests.specs.Turns.{service};
 
-use crate::lines::ConsoleState;
+use crate::lines::{ConsoleState, copy_line};
 use crate::reads::take_read;
 use crate::requests::BAD_BUFFER;
 use arrayvec::ArrayVec;
@@ -115,16 +115,5 @@ fn hand_line(
     }
     if answer.is_ok() {
         state.clear();
-    }
-}
-
-fn copy_line(line: &[u8], into: &mut ArrayVec<u8, 120>)
-    requires { length line.now ≤ 120 }
-    ensures { into.new.items ≡ line.now }
-{
-    into.clear();
-    match into.try_extend_from_slice(line) {
-        Ok(()) => {}
-        Err(_) => unreachable!(),
     }
 }

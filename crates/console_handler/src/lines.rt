@@ -43,6 +43,18 @@ impl ConsoleState {
         ConsoleState { line, finished }
     }
 
+    /// The same line again, finished or not. It takes no memory.
+    pub fn copy(&self) -> ConsoleState
+        ensures { result ≡ self.now }
+    {
+        let mut line = ArrayVec::new();
+        copy_line(self.line(), &mut line);
+        ConsoleState {
+            line,
+            finished: self.finished,
+        }
+    }
+
     /// The bytes of the line, of which there are at most 120.
     pub fn line(&self) -> &[u8]
         ensures bytes { result.now ≡ self.now.line }
@@ -122,6 +134,18 @@ impl ConsoleState {
     {
         self.finished = true;
         out.append(LINE_FEED);
+    }
+}
+
+/// Makes a line what the other is.
+pub(crate) fn copy_line(line: &[u8], into: &mut ArrayVec<u8, 120>)
+    requires { length line.now ≤ 120 }
+    ensures { into.new.items ≡ line.now }
+{
+    into.clear();
+    match into.try_extend_from_slice(line) {
+        Ok(()) => {}
+        Err(_) => unreachable!(),
     }
 }
 

@@ -129,9 +129,11 @@ pub record Numbers : Type 0 where
   pub version : ℕ
   -- whether there are residents
   pub residents : Bool
+  -- the words of the store
+  pub size : ℕ
 
 abbrev pub numbers_of : Lists → Numbers
-numbers_of l = record { running = l.running; period = l.period; tick = l.tick; version = l.version; residents = l.residents }
+numbers_of l = record { running = l.running; period = l.period; tick = l.tick; version = l.version; residents = l.residents; size = l.size }
 
 -- nothing has changed, shown or noted
 pub record IsUntouched (s : List ℕ) (l : Lists) (r : Regs) (m : Turned) : Type 0 where

@@ -9,10 +9,12 @@ use Rattle.kernel_machine.specs.declared.parts.Parts.{Parts}
 use Rattle.kernel_machine.specs.Script.{still_to_come}
 use Rattle.kernel_machine.specs.Stands.{Stands}
 
--- its kernel, and the bytes of its last step
+-- its kernel, all keys of its script, and the bytes of its last step
 pub record MachineView : Type 0 where
   -- its kernel
   pub kernel : Kernel
+  -- all keys of its script, those that have come too: each the step at which it is due, and its byte
+  pub keys : List (ℕ × ℕ)
   -- the bytes that went to the console in its last step
   pub output : List ℕ
 

@@ -18,7 +18,8 @@ use std::marker::Model;
 use tp_io::Output;
 use word_store::Store;
 
-/// A machine with a kernel. Contracts see it as the one valid kernel for which its parts stand, and the bytes of its last step.
+/// A machine with a kernel. Contracts see it as the one valid kernel for which its parts stand, all keys of its script, and the
+/// bytes of its last step.
 #[derive(Drop)]
 pub struct Machine {
     /// The kernel and what it keeps.
@@ -34,17 +35,18 @@ impl Model for Machine {
 
     ghost Value = { MachineView };
 
-    ghost view = { λ m. record { kernel = kernel_of m.parts m.stop; output = m.output } };
+    ghost view = { λ m. record { kernel = kernel_of m.parts m.stop; keys = m.parts.keys.keys; output = m.output } };
 
     ghost invariant = { λ m. IsWhole m.parts m.stop };
 }
 
 impl Machine {
-    /// The machine with these parts, which has not stopped, and has no output.
+    /// The machine with these parts, which has not stopped, and has no output. Its keys are all those of the script.
     pub fn from_parts(parts: Parts) -> Machine
         requires { (k : Kernel) × Stands parts k × IsValid k × (k.stop ≡ None) }
         ensures kernel { (k : Kernel) → Stands parts k → IsValid k → k.stop ≡ None
             → result.kernel ≡ k }
+        ensures keys { result.keys ≡ parts.keys.keys }
         ensures output { result.output ≡ [] }
     {
         Machine {
@@ -54,18 +56,20 @@ impl Machine {
         }
     }
 
-    /// Its parts, which stand for its kernel, a valid one.
+    /// Its parts, which stand for its kernel, a valid one. The script has all its keys.
     pub fn into_parts(self) -> Parts
         ensures stands { Stands result self.kernel }
         ensures valid { IsValid self.kernel }
+        ensures keys { result.keys.keys ≡ self.keys }
     {
         self.parts
     }
 
-    /// Its parts, lent. They stand for its kernel, a valid one.
+    /// Its parts, lent. They stand for its kernel, a valid one. The script has all its keys.
     pub fn parts(&self) -> &Parts
         ensures stands { Stands result.now self.now.kernel }
         ensures valid { IsValid self.now.kernel }
+        ensures keys { result.now.keys.keys ≡ self.now.keys }
     {
         &self.parts
     }
@@ -102,7 +106,7 @@ impl Machine {
     }
 
     /// Takes one step, and answers why the machine has stopped, if it has. A machine that has stopped before stays as it is,
-    /// but for its output, which is empty then.
+    /// but for its output, which is empty then. The list of its keys stays.
     pub fn step<L: EventLog>(&mut self, log: &mut L) -> Option<Stop>
         requires { self.old.kernel.steps < most_steps }
         ensures kernel { self.new.kernel ≡ (step self.old.kernel).kernel }
@@ -110,6 +114,7 @@ impl Machine {
         ensures events { NotesAll (L.noted log.old) (L.noted log.new) (L.has_failed log.old)
             (L.has_failed log.new) (step self.old.kernel).events }
         ensures stop { result ≡ self.new.kernel.stop }
+        ensures keys { self.new.keys ≡ self.old.keys }
     {
         self.output.clear();
         self.stop = step_or_stay(&mut self.parts, self.stop, &mut self.output, log);

@@ -44,6 +44,7 @@ pub(crate) fn resident<L: EventLog>(
         (outside out.new (L.noted log.new) (L.has_failed log.new)) (resident_step task k) }
     ensures stop { (k : Kernel) → Stands parts.old k → RunsNoGuest task k
         → result ≡ (resident_step task k).kernel.stop }
+    ensures keys { parts.new.keys.keys ≡ parts.old.keys.keys }
     ensures disc { IsDisc parts.new.disc }
     ensures room { length out.new < 8192 }
 {
@@ -70,6 +71,7 @@ fn shell<L: EventLog>(parts: &mut Parts, out: &mut Output, log: &mut L) -> Optio
         (outside out.new (L.noted log.new) (L.has_failed log.new)) (shell_step k) }
     ensures stop { (k : Kernel) → Stands parts.old k → RunsNumber 1 k
         → result ≡ (shell_step k).kernel.stop }
+    ensures keys { parts.new.keys.keys ≡ parts.old.keys.keys }
     ensures disc { IsDisc parts.new.disc }
     ensures room { length out.new < 8192 }
 {
@@ -93,6 +95,7 @@ fn report<L: EventLog>(parts: &mut Parts, out: &mut Output, log: &mut L)
         → Leaves parts.new
         (outside out.old (L.noted log.old) (L.has_failed log.old))
         (outside out.new (L.noted log.new) (L.has_failed log.new)) (reporter_step k) }
+    ensures keys { parts.new.keys.keys ≡ parts.old.keys.keys }
     ensures room { length out.new < 8192 }
 {
     know_words(&parts.store);
@@ -117,10 +120,11 @@ fn know_numbers(words: &[u32])
 fn console<L: EventLog>(parts: &mut Parts, out: &mut Output, log: &mut L)
     requires stands { (k : Kernel) × Stands parts.old k × RunsNumber 3 k }
     requires empty { out.old ≡ [] }
-    ensures { (k : Kernel) → Stands parts.old k → RunsNumber 3 k
+    ensures turned { (k : Kernel) → Stands parts.old k → RunsNumber 3 k
         → Leaves parts.new
         (outside out.old (L.noted log.old) (L.has_failed log.old))
         (outside out.new (L.noted log.new) (L.has_failed log.new)) (console_step k) }
+    ensures keys { parts.new.keys.keys ≡ parts.old.keys.keys }
 {
     let awaited = parts.shell.awaited();
     let mut line = parts.shell.take_line();
@@ -139,10 +143,11 @@ fn console<L: EventLog>(parts: &mut Parts, out: &mut Output, log: &mut L)
 // The file handler, which in version 2 serves requests for pipes too.
 fn handle<L: EventLog>(parts: &mut Parts, out: &Output, log: &mut L)
     requires { (k : Kernel) × Stands parts.old k × RunsNumber 4 k }
-    ensures { (k : Kernel) → Stands parts.old k → RunsNumber 4 k
+    ensures turned { (k : Kernel) → Stands parts.old k → RunsNumber 4 k
         → Leaves parts.new
         (outside out.now (L.noted log.old) (L.has_failed log.old))
         (outside out.now (L.noted log.new) (L.has_failed log.new)) (handler_step k) }
+    ensures keys { parts.new.keys.keys ≡ parts.old.keys.keys }
 {
     if serves_pipes(&parts.store) {
         pipe_turn(&mut parts.pipes, &mut parts.store, &mut parts.kinds, log);

@@ -11,7 +11,7 @@ use kernel_steps::EventLog;
 
 impl Machine {
     /// Takes some steps, at most `most`, of a machine that has not stopped, of which only the last one may write bytes, have events
-    /// or stop the machine. The answer is how many these are.
+    /// or stop the machine. The answer is how many these are. The list of its keys stays.
     pub fn advance<L: EventLog>(&mut self, most: u64, log: &mut L) -> u64
         requires goes { self.old.kernel.stop ≡ None }
         requires some { 0 < most }
@@ -23,6 +23,7 @@ impl Machine {
         ensures output { self.new.output ≡ (run result self.old.kernel).bytes }
         ensures events { NotesAll (L.noted log.old) (L.noted log.new) (L.has_failed log.old)
             (L.has_failed log.new) (run result self.old.kernel).events }
+        ensures keys { self.new.keys ≡ self.old.keys }
     {
         let quiet = self.pass(most);
         if quiet == most {
@@ -40,6 +41,7 @@ impl Machine {
         ensures quiet { run result self.old.kernel ≡ quietly self.new.kernel }
         ensures goes { self.new.kernel.stop ≡ None }
         ensures output { self.new.output ≡ [] }
+        ensures keys { self.new.keys ≡ self.old.keys }
     {
         self.output.clear();
         pass(&mut self.parts, most)

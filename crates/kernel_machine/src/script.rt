@@ -16,11 +16,14 @@ pub struct Script {
 }
 
 impl Model for Script {
+    ghost use Rattle.std.specs.Prelude.{◌≤◌, length};
     ghost use Rattle.kernel_machine.specs.Script.{KeyScript};
 
     ghost Value = { KeyScript };
 
     ghost view = { λ s. record { keys = s.keys.items; come = s.come } };
+
+    ghost invariant = { λ s. s.come ≤ length s.keys.items };
 }
 
 impl Script {
@@ -48,9 +51,17 @@ impl Script {
         self.keys.get(self.come..).unwrap_or(&[])
     }
 
-    /// How many keys have come.
+    /// All keys, lent, those that have come too.
+    pub fn all(&self) -> &[(u64, u8)]
+        ensures { result.now ≡ self.now.keys }
+    {
+        self.keys.as_slice()
+    }
+
+    /// How many keys have come: all at most.
     pub fn come(&self) -> usize
-        ensures { result ≡ self.now.come }
+        ensures come { result ≡ self.now.come }
+        ensures few { result ≤ length self.now.keys }
     {
         self.come
     }

@@ -25,6 +25,7 @@ pub(crate) fn pass(parts: &mut Parts, most: u64) -> u64
     requires steps { parts.old.step + most ≤ most_steps }
     ensures most { result ≤ most }
     ensures passed { HasPassed result (kernel_of parts.old None) parts.new }
+    ensures keys { parts.new.keys.keys ≡ parts.old.keys.keys }
 {
     if serves_now(parts) {
         return 0;
@@ -103,7 +104,8 @@ fn wait(parts: &mut Parts, steps: u64)
     requires idle { (kernel_of parts.old None).lists.running ≡ 0 }
     requires quiet { 0 < steps → IsQuietFor steps (kernel_of parts.old None) }
     requires most { parts.old.step + steps ≤ most_steps }
-    ensures { HasPassed steps (kernel_of parts.old None) parts.new }
+    ensures passed { HasPassed steps (kernel_of parts.old None) parts.new }
+    ensures keys { parts.new.keys.keys ≡ parts.old.keys.keys }
 {
     if steps > 0 {
         count(parts, steps);
@@ -118,6 +120,7 @@ fn execute(parts: &mut Parts, most: u64) -> u64
     requires most { parts.old.step + most ≤ most_steps }
     ensures most { result ≤ most }
     ensures passed { HasPassed result (kernel_of parts.old None) parts.new }
+    ensures keys { parts.new.keys.keys ≡ parts.old.keys.keys }
 {
     let mut taken = 0;
     while taken < most {
@@ -154,6 +157,7 @@ fn execute_uncounted(parts: &mut Parts, most: u64) -> u64
     ensures way { (k : Kernel) (n m : ℕ) → IsOnWay k n m parts.old → most ≤ m
         → k.steps + (n + m) ≤ most_steps
         → IsOnWay k (n + result) (m - result) (counted result parts.new) }
+    ensures keys { parts.new.keys.keys ≡ parts.old.keys.keys }
 {
     for taken in 0..most {
         match execute_next(&mut parts.store, &mut parts.regs, &parts.kinds) {

@@ -33,6 +33,7 @@ pub(crate) fn step_or_stay<L: EventLog>(
     ensures stop { (k : Kernel) → Stands parts.old k → IsValid k
         → stop ≡ k.stop
         → k.steps < most_steps → result ≡ (step k).kernel.stop }
+    ensures keys { parts.new.keys.keys ≡ parts.old.keys.keys }
     ensures taken { (k : Kernel) → Stands parts.old k → IsValid k → k.stop ≡ None
         → stop ≡ k.stop
         → k.steps < most_steps → IsTaken k }
@@ -54,6 +55,7 @@ fn step<L: EventLog>(parts: &mut Parts, out: &mut Output, log: &mut L) -> Option
         (outside out.new (L.noted log.new) (L.has_failed log.new)) (step k) }
     ensures stop { (k : Kernel) → Stands parts.old k → IsValid k → k.stop ≡ None
         → k.steps < most_steps → result ≡ (step k).kernel.stop }
+    ensures keys { parts.new.keys.keys ≡ parts.old.keys.keys }
     ensures taken { (k : Kernel) → Stands parts.old k → IsValid k → k.stop ≡ None
         → k.steps < most_steps → IsTaken k }
 {
@@ -69,9 +71,10 @@ fn step<L: EventLog>(parts: &mut Parts, out: &mut Output, log: &mut L) -> Option
 fn serve<L: EventLog>(parts: &mut Parts, out: &mut Output, log: &mut L)
     requires stands { (k : Kernel) × Stands parts.old k × CanServe k }
     requires room_for_byte { length out.old < 8192 }
-    ensures { (k : Kernel) → Stands parts.old k → CanServe k → Leaves parts.new
+    ensures served { (k : Kernel) → Stands parts.old k → CanServe k → Leaves parts.new
         (outside out.old (L.noted log.old) (L.has_failed log.old))
         (outside out.new (L.noted log.new) (L.has_failed log.new)) (after_the_turn k) }
+    ensures keys { parts.new.keys.keys ≡ parts.old.keys.keys }
 {
     tick(parts, out, log);
     key(parts, out, log);

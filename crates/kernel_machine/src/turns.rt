@@ -40,6 +40,7 @@ pub(crate) fn turn<L: EventLog>(parts: &mut Parts, out: &mut Output, log: &mut L
         (outside out.new (L.noted log.new) (L.has_failed log.new)) (turn k) }
     ensures stop { (k : Kernel) → Stands parts.old k → CanTurn k
         → result ≡ (turn k).kernel.stop }
+    ensures keys { parts.new.keys.keys ≡ parts.old.keys.keys }
     ensures disc { IsDisc parts.new.disc }
     ensures room { length out.new < 8192 }
 {
@@ -60,6 +61,7 @@ fn guest<L: EventLog>(parts: &mut Parts, task: u32, out: &mut Output, log: &mut 
         (outside out.new (L.noted log.new) (L.has_failed log.new)) (guest_step k) }
     ensures stop { (k : Kernel) → Stands parts.old k → RunsGuest task k
         → result ≡ (guest_step k).kernel.stop }
+    ensures keys { parts.new.keys.keys ≡ parts.old.keys.keys }
 {
     let end = guest_turn(
         &mut parts.store,

@@ -18,7 +18,7 @@ pub mod DevicesKept
 pub mod StepEnds
 pub mod StepKept
 pub mod FilesKept
-pub mod PeriodKept
+pub mod NumbersKept
 pub mod StoredWords
 pub mod QuietDispatch
 pub mod QuietDevices

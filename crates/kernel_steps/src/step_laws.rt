@@ -22,8 +22,10 @@ pub fn files_law()
         → (step k).kernel.pipes ≡ k.pipes }
 {}
 
-/// A step of a machine that has not stopped is one more, also where it stops the machine. The period stays.
+/// A step of a machine that has not stopped is one more, also where it stops the machine. The period stays, and so does the size of
+/// the store.
 pub fn count_law()
     ensures steps { (k : Kernel) → k.stop ≡ None → (step k).kernel.steps ≡ k.steps + 1 }
     ensures period { (k : Kernel) → IsValid k → (step k).kernel.lists.period ≡ k.lists.period }
+    ensures size { (k : Kernel) → IsValid k → (step k).kernel.lists.size ≡ k.lists.size }
 {}

@@ -32,7 +32,7 @@ use Rattle.machine_boot.proofs.ReadyTasks.{IsReady, tasks-ready}
 
 -- nobody runs, and no tick has passed
 abbrev pub first_numbers : Session → Numbers
-first_numbers s = record { running = 0; period = s.period; tick = 0; version = s.version; residents = s.resident }
+first_numbers s = record { running = 0; period = s.period; tick = 0; version = s.version; residents = s.resident; size = s.store }
 
 -- nothing was done but what the lines say
 pub record HasBegun (s : Session) (k : Kernel) : Type 0 where

@@ -9,6 +9,6 @@ pub use start::boot;
 
 // Shown to the crates above.
 pub use kernel_machine::{
-    Block, EventLog, KernelEvent, ListLog, Machine, NoLog, Parts, Pipes, Queue, SinkLog, Stop, Use,
-    blocks, find, head, numbers, packets, use_of, write_tasks,
+    Block, ConsoleState, EventLog, KernelEvent, ListLog, Machine, NoLog, Parts, Pipes, Queue,
+    ShellState, SinkLog, Stop, Use, blocks, find, head, numbers, packets, use_of, write_tasks,
 };

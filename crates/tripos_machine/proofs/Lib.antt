@@ -3,3 +3,4 @@ pub mod KindRuns
 pub mod RunParts
 pub mod Shown
 pub mod StateRuns
+pub mod StepSizes

@@ -9,16 +9,18 @@ use Rattle.tripos_machine.specs.Step.{Stepped, boot_events}
 use Rattle.tripos_machine.specs.declared.kinds.Kind.{Kind}
 use Rattle.tripos_machine.specs.declared.kinds.Kind.TheVariants.{Bare as BareKind, Full as FullKind}
 
--- its state, and the bytes of its last step
+-- its state, all keys of its script, and the bytes of its last step
 pub record MachineView : Type 0 where
   -- the state
   pub state : State
+  -- all keys of its script, those that have come too: each the step at which it is due, and its byte; a bare machine has none
+  pub keys : List (ℕ × ℕ)
   -- the bytes for the console that were not taken yet
   pub output : List ℕ
 
 abbrev pub view_of : Kind → MachineView
-view_of (BareKind m) = record { state = Bare m.state; output = m.output }
-view_of (FullKind m) = record { state = Full m.kernel; output = m.output }
+view_of (BareKind m) = record { state = Bare m.state; keys = []; output = m.output }
+view_of (FullKind m) = record { state = Full m.kernel; keys = m.keys; output = m.output }
 
 -- the machine is as the session boots it: it has taken no step, and its events are those of a boot
 pub record IsBooted (m : MachineView) (x : Stepped) : Type 0 where

@@ -1,5 +1,5 @@
 -- The state of a machine of either kind.
-use Rattle.std.specs.Prelude.{◌≡◌, ℕ, ◌<◌, ◌≤◌, List, Option}
+use Rattle.std.specs.Prelude.{◌≡◌, ℕ, ◌<◌, ◌≤◌, List, [], Option}
 use Rattle.word_store.specs.declared.registers.Regs.{Regs}
 use Rattle.bare_machine.specs.State.{BareState, state_of}
 use Rattle.machine_boot.specs.KernelCalls.KernelModel.Image.{image}
@@ -60,3 +60,8 @@ abbrev pub StandFor : Parts → State → Type 0
 StandFor (BareMachine p) (Bare m) = state_of p m.stop ≡ m
 StandFor (FullMachine p) (Full k) = Stands p k
 StandFor _ _ = ⊥
+
+-- all keys of its script, those that have come too: each the step at which it is due, and its byte; a bare machine has none
+abbrev pub keys_of : Parts → List (ℕ × ℕ)
+keys_of (BareMachine p) = []
+keys_of (FullMachine p) = p.keys.keys

@@ -1,12 +1,12 @@
 // Laws of runs.
-ghost use Rattle.std.specs.Prelude.{◌≡◌, ◌≢◌, ◌+◌, ◌≤◌, None, ℕ};
+ghost use Rattle.std.specs.Prelude.{◌≡◌, ◌≢◌, ◌+◌, ◌≤◌, None, length, ℕ};
 ghost use Rattle.bare_machine.specs.Run.{run as bare_run};
 ghost use Rattle.bare_machine.specs.State.{BareState};
 ghost use Rattle.machine_boot.specs.KernelCalls.KernelModel.Kernel.{Kernel};
 ghost use Rattle.machine_boot.specs.KernelSteps.Step.{run as kernel_run};
-ghost use Rattle.tripos_machine.specs.State.{State, steps_of, stop_of};
+ghost use Rattle.tripos_machine.specs.State.{IsSound, State, steps_of, stop_of, words_of};
 ghost use Rattle.tripos_machine.specs.State.State.{Bare, Full};
-ghost use Rattle.tripos_machine.specs.Step.{and_then, of_bare, of_kernel, quietly, run};
+ghost use Rattle.tripos_machine.specs.Step.{and_then, of_bare, of_kernel, quietly, run, step};
 
 /// A run is that of the machine's kind. It may be cut in two; a machine that has stopped stays as it is; and a run takes at most
 /// its steps, and all of them where the machine has not stopped then.
@@ -19,4 +19,12 @@ pub fn run_law()
     ensures later { (n : ℕ) (s : State) → steps_of s ≤ steps_of (run n s).state }
     ensures counts { (n : ℕ) (s : State) → stop_of (run n s).state ≡ None
         → steps_of (run n s).state ≡ steps_of s + n }
+{}
+
+/// A step of a machine between steps leaves as many words as there were. One of a machine that has not stopped is one more.
+pub fn step_law()
+    ensures size { (s : State) → IsSound s
+        → length (words_of (step s).state) ≡ length (words_of s) }
+    ensures count { (s : State) → stop_of s ≡ None
+        → steps_of (step s).state ≡ steps_of s + 1 }
 {}

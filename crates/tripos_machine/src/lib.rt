@@ -8,14 +8,15 @@ pub mod parts;
 mod runs;
 mod start;
 
-pub use laws::run_law;
+pub use laws::{run_law, step_law};
 pub use machine::Machine;
 pub use parts::Parts;
 pub use start::boot;
 
 // Shown to the crates above.
+pub use bare_machine::BareParts;
 pub use bare_machine::boot::BootEnd;
 pub use machine_boot::{
-    Block, EventLog, KernelEvent, ListLog, NoLog, Pipes, Queue, SinkLog, Stop, Use, blocks, find,
-    head, numbers, packets, use_of, write_tasks,
+    Block, ConsoleState, EventLog, KernelEvent, ListLog, NoLog, Parts as KernelParts, Pipes, Queue,
+    ShellState, SinkLog, Stop, Use, blocks, find, head, numbers, packets, use_of, write_tasks,
 };

@@ -2,7 +2,7 @@
 ghost use Rattle.std.specs.Prelude.{◌≡◌, ◌<◌, ◌+◌, ◌≤◌, [], None, MatchOption};
 ghost use Rattle.machine_boot.specs.KernelCalls.KernelModel.NotedEvents.{NotesAll};
 ghost use Rattle.machine_boot.specs.KernelCalls.KernelModel.Ranges.{most_steps};
-ghost use Rattle.tripos_machine.specs.State.{IsBare, IsSound, StandFor, StandsFull, State, regs_of, running_of, steps_of, stop_of, words_of};
+ghost use Rattle.tripos_machine.specs.State.{IsBare, IsSound, StandFor, StandsFull, State, keys_of, regs_of, running_of, steps_of, stop_of, words_of};
 ghost use Rattle.tripos_machine.specs.Step.{boot_events, run, step};
 
 use crate::Parts;
@@ -12,7 +12,7 @@ use machine_boot::{EventLog, Machine as FullMachine, Parts as FullParts, Stop};
 use std::marker::Model;
 use word_store::{Regs, Store};
 
-/// A machine of either kind. Contracts see it as its state, and the bytes of what it did last.
+/// A machine of either kind. Contracts see it as its state, all keys of its script, and the bytes of what it did last.
 #[derive(Drop)]
 pub struct Machine {
     /// A machine without a kernel, or one with it.
@@ -28,11 +28,12 @@ impl Model for Machine {
 }
 
 impl Machine {
-    /// The machine with these parts, which has not stopped, and has no output.
+    /// The machine with these parts, which has not stopped, and has no output. Its keys are all those of the script.
     pub fn from_parts(parts: Parts) -> Machine
         requires { (s : State) × StandFor parts s × IsSound s × (stop_of s ≡ None) }
         ensures state { (s : State) → StandFor parts s → IsSound s → stop_of s ≡ None
             → result.state ≡ s }
+        ensures keys { result.keys ≡ keys_of parts }
         ensures output { result.output ≡ [] }
     {
         let kind = match parts {
@@ -42,10 +43,11 @@ impl Machine {
         Machine { kind }
     }
 
-    /// Its parts. They are those of its state, which is sound.
+    /// Its parts. They are those of its state, which is sound, and the script has all its keys.
     pub fn into_parts(self) -> Parts
         ensures stand { StandFor result self.state }
         ensures sound { IsSound self.state }
+        ensures keys { keys_of result ≡ self.keys }
     {
         match self.kind {
             Kind::Bare(machine) => Parts::Bare(machine.into_parts()),
@@ -53,10 +55,12 @@ impl Machine {
         }
     }
 
-    /// The parts of a machine with a kernel, lent; `None` exactly for one without.
+    /// The parts of a machine with a kernel, lent, with all its keys; `None` exactly for one without, which has no keys.
     pub fn kernel_parts(&self) -> Option<&FullParts>
         ensures stand { MatchOption result (IsBare self.now.state) (λ parts. StandsFull parts.now self.now.state) }
         ensures sound { IsSound self.now.state }
+        ensures keys { MatchOption result (self.now.keys ≡ [])
+            (λ parts. parts.now.keys.keys ≡ self.now.keys) }
     {
         match &self.kind {
             Kind::Bare(machine) => {
@@ -139,7 +143,7 @@ impl Machine {
     }
 
     /// Takes one step, and answers why the machine has stopped, if it has. A machine that has stopped before stays as it is,
-    /// but for its output, which is empty then.
+    /// but for its output, which is empty then. The list of its keys stays.
     pub fn step<L: EventLog>(&mut self, log: &mut L) -> Option<Stop>
         requires { steps_of self.old.state < most_steps }
         ensures state { self.new.state ≡ (step self.old.state).state }
@@ -147,6 +151,7 @@ impl Machine {
         ensures events { NotesAll (L.noted log.old) (L.noted log.new) (L.has_failed log.old)
             (L.has_failed log.new) (step self.old.state).events }
         ensures stop { result ≡ stop_of self.new.state }
+        ensures keys { self.new.keys ≡ self.old.keys }
     {
         match &mut self.kind {
             Kind::Bare(machine) => machine.step(),
@@ -155,7 +160,7 @@ impl Machine {
     }
 
     /// Takes some steps, at most `most`, of a machine that has not stopped, up to the step that stops it, if there is one. The
-    /// answer is how many these are; the output is what they wrote.
+    /// answer is how many these are; the output is what they wrote. The list of its keys stays.
     pub fn advance<L: EventLog>(&mut self, most: u64, log: &mut L) -> u64
         requires goes { stop_of self.old.state ≡ None }
         requires some { 0 < most }
@@ -166,6 +171,7 @@ impl Machine {
         ensures output { self.new.output ≡ (run result self.old.state).bytes }
         ensures events { NotesAll (L.noted log.old) (L.noted log.new) (L.has_failed log.old)
             (L.has_failed log.new) (run result self.old.state).events }
+        ensures keys { self.new.keys ≡ self.old.keys }
     {
         match &mut self.kind {
             Kind::Bare(machine) => machine.advance(most),

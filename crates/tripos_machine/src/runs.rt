@@ -13,7 +13,7 @@ use tp_io::{Output, Sink, SinkFault, gather};
 impl Machine {
     /// Takes at most n steps, whose console bytes are gathered, and whose events are noted. The answer is why the machine has
     /// stopped. `SinkFault` comes only where the sink's count of faults rose, or the log, which had not failed, has failed; then
-    /// the machine is as it is after the steps taken so far.
+    /// the machine is as it is after the steps taken so far. The list of its keys stays.
     pub fn run<K: Sink, L: EventLog>(
         &mut self,
         n: u64,
@@ -29,6 +29,7 @@ impl Machine {
         ensures bytes { Gathers (K.holds out.old) (K.holds out.new) pending.old pending.new
             (run n self.old.state).bytes result }
         ensures later { K.faults out.old ≤ K.faults out.new }
+        ensures keys { self.new.keys ≡ self.old.keys }
     {
         let mut taken = 0;
         while taken < n {

@@ -30,11 +30,11 @@ use Rattle.tripos_machine.specs.KernelCalls.PacketQueue.declared.events.KernelEv
 use Rattle.trace_log.specs.Traced.{lines_of}
 use Rattle.tripos_machine.specs.Boot.{boot}
 use Rattle.tripos_machine.specs.Runs.{end_of_run}
-use Rattle.tripos_machine.specs.State.{steps_of, stop_of, words_of}
+use Rattle.tripos_machine.specs.State.{State, steps_of, stop_of, words_of}
 use Rattle.tripos_machine.specs.Step.{Stepped, quietly, run}
 use Rattle.cint_debug.specs.declared.orders.BadLine.{BadLine}
 use Rattle.cint_debug.specs.Debugged.{Told, debugged}
-use Rattle.cint_debug.specs.OrderLines.{first_bad}
+use Rattle.cint_debug.specs.OrderLines.{first_bad, goes_back}
 use Rattle.tripos_run.specs.Texts.{closing_text, dump_text, no_boot_text, refused_text, too_long_text, usage_text}
 
 pub record Answer : Type 0 where
@@ -156,9 +156,13 @@ session_answer report (Err r) = refused_answer r
 abbrev pub told_answer : Told → Answer
 told_answer t = closed_answer Console t.bytes (end_after [] (quietly t.after.state))
 
+-- a history is kept exactly where some line undoes steps, and it begins with nothing past
+abbrev pub first_past : List (List ℕ) → Option (List State)
+first_past lines = if goes_back lines then Some [] else None
+
 -- the machine of a session, where that boots
 abbrev pub lines_answer : ℕ → List (List ℕ) → Result Stepped Refusal → Answer
-lines_answer budget lines (Ok x) = told_answer (debugged budget lines x.state)
+lines_answer budget lines (Ok x) = told_answer (debugged budget lines x.state (first_past lines))
 lines_answer budget lines (Err r) = no_boot_answer r
 
 -- before it boots the lines are checked

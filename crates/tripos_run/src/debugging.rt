@@ -1,12 +1,13 @@
 // The answer to a session that is debugged.
-ghost use Rattle.std.specs.Prelude.{◌≡◌, ◌<◌, ◌≤◌, ◌+◌, ◌^◌, drop, length};
+ghost use Rattle.std.specs.Prelude.{◌≡◌, ◌<◌, ◌≤◌, ◌+◌, ◌^◌, [], Some, None, drop, length};
 ghost use Rattle.hunk_text.specs.TextReader.Lines.{lines_of};
 ghost use Rattle.session_text.specs.Canonical.{IsLawful};
 ghost use Rattle.tripos_machine.specs.KernelCalls.KernelModel.Ranges.{most_steps};
 ghost use Rattle.tripos_machine.specs.Boot.{boot};
 ghost use Rattle.tripos_machine.specs.State.{steps_of};
 ghost use Rattle.cint_debug.specs.Debugged.{debugged};
-ghost use Rattle.tripos_run.specs.Answer.{Answers, checked_answer, debugging_answer, lines_answer, told_answer};
+ghost use Rattle.cint_debug.specs.MachineHistory.Pasts.{now_of};
+ghost use Rattle.tripos_run.specs.Answer.{Answers, checked_answer, debugging_answer, first_past, lines_answer, told_answer};
 ghost use Rattle.tripos_run.specs.Cause.{HasFaultCause};
 ghost use Rattle.tripos_run.specs.Input.{IsMachineEnd, IsTextEnd};
 
@@ -15,10 +16,10 @@ use crate::machines::write_run_end;
 use crate::messages::{write_no_boot, write_refused};
 use crate::reports::Report;
 use crate::status::Status;
-use cint_debug::{BadLine, check_lines, debug};
+use cint_debug::{BadLine, History, check_lines, debug, debug_back, goes_back};
 use session_text::{Session, SessionEnd, read_front};
 use std::alloc::Global;
-use tp_io::{Output, Sink, SinkFault};
+use tp_io::{Output, Sink, SinkFault, WantMemory};
 use tripos_machine::{BootEnd, Machine, Stop, boot};
 
 /// Boots the session at the front of a text, and does with its machine what the lines behind it ask for. They are checked before.
@@ -80,7 +81,7 @@ fn answer_lines<K: Sink>(alloc: Global, session: &Session, lines: &[u8], out: &m
     ensures cause { HasFaultCause Status.WriteFault (K.faults out.old) (K.faults out.new) result }
 {
     match boot(alloc, session) {
-        Ok(mut machine) => debug_machine(&mut machine, lines, session.go, out),
+        Ok(machine) => debug_machine(alloc, machine, lines, session.go, out),
         Err(BootEnd::Line { line, code }) => {
             status_after(write_no_boot(out, line, code), Status::NoBoot)
         }
@@ -88,10 +89,35 @@ fn answer_lines<K: Sink>(alloc: Global, session: &Session, lines: &[u8], out: &m
     }
 }
 
-fn debug_machine<K: Sink>(machine: &mut Machine, lines: &[u8], budget: u64, out: &mut K) -> Status
+// Does with a machine what the lines ask for. A history is made first, exactly where some line undoes steps.
+fn debug_machine<K: Sink>(
+    alloc: Global,
+    machine: Machine,
+    lines: &[u8],
+    budget: u64,
+    out: &mut K,
+) -> Status
+    requires { steps_of machine.state + budget ≤ most_steps }
+    ensures answer { let lines = lines_of lines.now in
+        Answers (told_answer (debugged budget lines machine.state (first_past lines)))
+        (K.holds out.old) (K.holds out.new) result }
+    ensures ends { IsTextEnd result }
+    ensures cause { HasFaultCause Status.WriteFault (K.faults out.old) (K.faults out.new) result }
+{
+    if !goes_back(lines) {
+        let mut machine = machine;
+        return debug_forward(&mut machine, lines, budget, out);
+    }
+    match History::new(alloc, &machine) {
+        Ok(mut history) => debug_both_ways(machine, &mut history, lines, budget, out),
+        Err(WantMemory) => Status::WantMemory,
+    }
+}
+
+fn debug_forward<K: Sink>(machine: &mut Machine, lines: &[u8], budget: u64, out: &mut K) -> Status
     requires { steps_of machine.old.state + budget ≤ most_steps }
     ensures answer { Answers
-        (told_answer (debugged budget (lines_of lines.now) machine.old.state))
+        (told_answer (debugged budget (lines_of lines.now) machine.old.state None))
         (K.holds out.old) (K.holds out.new) result }
     ensures ends { IsMachineEnd result }
     ensures cause { HasFaultCause Status.WriteFault (K.faults out.old) (K.faults out.new) result }
@@ -101,6 +127,32 @@ fn debug_machine<K: Sink>(machine: &mut Machine, lines: &[u8], budget: u64, out:
         Ok(()) => {
             let stop = machine.stop().unwrap_or(Stop::Steps);
             write_run_end(Report::Console, machine, stop, out, &mut pending)
+        }
+        Err(SinkFault) => Status::WriteFault,
+    }
+}
+
+fn debug_both_ways<K: Sink>(
+    machine: Machine,
+    history: &mut History,
+    lines: &[u8],
+    budget: u64,
+    out: &mut K,
+) -> Status
+    requires steps { steps_of machine.state + budget ≤ most_steps }
+    requires begins { history.old ≡ record { past = []; now = now_of machine.state machine.keys } }
+    ensures answer { Answers
+        (told_answer (debugged budget (lines_of lines.now) machine.state (Some [])))
+        (K.holds out.old) (K.holds out.new) result }
+    ensures ends { IsMachineEnd result }
+    ensures cause { HasFaultCause Status.WriteFault (K.faults out.old) (K.faults out.new) result }
+{
+    let mut pending = Output::new();
+    let (machine, told) = debug_back(machine, history, lines, budget, out, &mut pending);
+    match told {
+        Ok(()) => {
+            let stop = machine.stop().unwrap_or(Stop::Steps);
+            write_run_end(Report::Console, &machine, stop, out, &mut pending)
         }
         Err(SinkFault) => Status::WriteFault,
     }

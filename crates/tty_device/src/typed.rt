@@ -1,5 +1,5 @@
 // The bytes that were typed, and that no packet has taken yet.
-ghost use Rattle.std.specs.Prelude.{◌≡◌, ◌<◌, ◌↔◌, [], IfOk, IsTrue, drop, length, slice_get};
+ghost use Rattle.std.specs.Prelude.{◌≡◌, ◌+◌, ◌<◌, ◌≤◌, ◌↔◌, [], ◌++◌, IfOk, IsTrue, drop, length, slice_get};
 ghost use Rattle.kernel_calls.specs.KernelModel.HoldsLists.{HoldsLists};
 ghost use Rattle.kernel_calls.specs.KernelModel.Lists.{Lists};
 ghost use Rattle.kernel_calls.specs.KernelModel.NotedEvents.{NotesAll};
@@ -7,6 +7,7 @@ ghost use Rattle.tty_device.specs.Keys.{left_typed, met};
 ghost use Rattle.kernel_calls.specs.PacketCalls.Returned.{IsServed};
 ghost use Rattle.tty_device.specs.Typed.{with_typed};
 
+use arrayvec::ArrayVec;
 use circular_buffer::HeapCircularBuffer;
 use kernel_calls::{Device, EventLog, RootField, return_first, root};
 use std::alloc::Global;
@@ -61,6 +62,26 @@ impl Tty {
         self.bytes.get(k as usize).copied()
     }
 
+    /// The bytes that are held, as a list of their own. It takes no memory.
+    pub fn bytes(&self) -> ArrayVec<u8, 128>
+        ensures { result.items ≡ self.now }
+    {
+        let mut bytes = ArrayVec::new();
+        let (front, back) = self.bytes.as_slices();
+        append(&mut bytes, front);
+        append(&mut bytes, back);
+        bytes
+    }
+
+    /// Holds these bytes, in place of those that it held.
+    pub fn set(&mut self, bytes: &[u8])
+        requires { length bytes.now ≤ 128 }
+        ensures { self.new ≡ bytes.now }
+    {
+        self.bytes.clear();
+        self.bytes.extend_from_slice(bytes);
+    }
+
     /// Lets the first byte meet the first packet that waits at the keyboard, where there are both: the packet is returned from -2
     /// with the byte as its first result, and 0 as its second.
     pub fn meet<L: EventLog>(&mut self, store: &mut Store, log: &mut L)
@@ -87,5 +108,16 @@ impl Tty {
         ensures { self.new ≡ [] }
     {
         self.bytes.clear();
+    }
+}
+
+// The others come after the bytes that are there.
+fn append(bytes: &mut ArrayVec<u8, 128>, others: &[u8])
+    requires { length bytes.old.items + length others.now ≤ 128 }
+    ensures { bytes.new.items ≡ bytes.old.items ++ others.now }
+{
+    match bytes.try_extend_from_slice(others) {
+        Ok(()) => {}
+        Err(_) => unreachable!(),
     }
 }

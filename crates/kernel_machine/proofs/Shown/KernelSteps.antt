@@ -2,7 +2,7 @@
 pub use Rattle.kernel_steps.proofs.DispatchKept
 pub use Rattle.kernel_steps.proofs.FaultRule
 pub use Rattle.kernel_steps.proofs.FilesKept
-pub use Rattle.kernel_steps.proofs.PeriodKept
+pub use Rattle.kernel_steps.proofs.NumbersKept
 pub use Rattle.kernel_steps.proofs.Runs
 pub use Rattle.kernel_steps.proofs.StepKept
 pub use Rattle.kernel_steps.proofs.StoredWords

@@ -1,4 +1,4 @@
-use Rattle.std.proofs.Common.{◌≤◌, [], length}
+use Rattle.std.proofs.Common.{◌≤◌, [], None, length}
 use Rattle.hunk_text.specs.TextReader.Lines.{lines_of}
 use Rattle.cint_debug.specs.Debugged.{HasDebugged, steps_left}
 use Rattle.cint_debug.specs.Runs.{IsWithin}
@@ -7,7 +7,7 @@ use Rattle.cint_debug.proofs.sessions.debug.Given as goal
 
 abbrev pub invariant-loop-line : goal.invariant-loop-line
 invariant-loop-line g l = record {
-  told : IsTold l.limits (lines_of l.lines) (record { state = l.fn.machine.state; stops = [] }) (record { state = l.machine.state; stops = l.stops }) (lines_of l.rest) (g.K.Sink.holds l.fn.out) (g.K.Sink.holds l.out) l.fn.pending l.pending;
+  told : IsTold l.limits (lines_of l.lines) (record { state = l.fn.machine.state; stops = []; past = None }) (record { state = l.machine.state; stops = l.stops; past = None }) (lines_of l.rest) (g.K.Sink.holds l.fn.out) (g.K.Sink.holds l.out) l.fn.pending l.pending;
   ran : HasDebugged (steps_left l.limits l.fn.machine.state) l.fn.machine.state l.machine.state;
   within : IsWithin l.limits l.machine.state;
   later : g.K.Sink.faults l.fn.out ≤ g.K.Sink.faults l.out;

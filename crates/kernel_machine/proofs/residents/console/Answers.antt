@@ -7,8 +7,8 @@ console_turn-requires-clause-console g c =
     let (k, st, r) = c.requires.stands in
     (k.lists, st.keeper, runs-console c.args.parts.now k st r)
 
-pub returns : goal.returns
-returns g c = λ k st r.
+pub returns-clause-turned : goal.returns-clause-turned
+returns-clause-turned g c = λ k st r.
     let runs = runs-console c.args.parts.now k st r in
     let x = c.console_turn.ensures in
     leaves-console c.args.parts.now k st r c.awaited-awaited.result c.take_line-line.result.items c.awaited-awaited.ensures c.take_line-line.ensures.line _ _ _ _ _ _ (x.turn k.lists st.keeper runs) x.room (x.line k.lists st.keeper runs)

@@ -1,5 +1,6 @@
-use Rattle.std.proofs.Common.{◌≡◌, ◌+◌, ◌-◌, None, arith, subst, sym}
+use Rattle.std.proofs.Common.{◌≡◌, ◌∙◌, ◌+◌, ◌-◌, None, ap, arith, refl, subst, sym}
 use Rattle.kernel_steps.proofs.NextTick.{some-period}
+use Rattle.kernel_machine.specs.declared.parts.Parts.{Parts}
 use Rattle.kernel_machine.specs.Machine.{kernel_of}
 use Rattle.kernel_machine.specs.Runs.{IsOnWay}
 use Rattle.kernel_machine.proofs.QuietSpan.{on-way-first}
@@ -9,6 +10,7 @@ pub loop-taken-init : goal.loop-taken-init
 loop-taken-init c = record {
   few = omega arith;
   way = subst (λ m. IsOnWay (kernel_of c.args.parts.now None) 0 m c.args.parts.now) (omega arith) (on-way-first c.args.parts.now c.requires.whole c.args.most c.requires.guest c.requires.quiet);
+  keys = refl;
 }
 
 pub count-requires-clause-period : goal.count-requires-clause-period
@@ -35,4 +37,5 @@ loop-taken-preserved c =
     record {
       few = omega (arith, c.execute_uncounted-executed.ensures.most, c.min-steps.ensures, c.loop-taken-test.true);
       way = subst (λ z. IsOnWay k (i + n) z c.count.new.parts) left (subst (IsOnWay k (i + n) ((c.args.most - i) - n)) (sym c.count.ensures) way);
+      keys = ap (λ (p : Parts). p.keys.keys) c.count.ensures ∙ c.execute_uncounted-executed.ensures.keys ∙ c.loop-taken.invariant.keys;
     }

@@ -1,4 +1,4 @@
-use Rattle.std.proofs.Common.{◌-◌, ◌≤◌, ℕ, None}
+use Rattle.std.proofs.Common.{◌≡◌, ◌-◌, ◌≤◌, ℕ, None}
 use Rattle.kernel_machine.specs.declared.parts.Parts.{Parts}
 use Rattle.kernel_machine.specs.Machine.{kernel_of}
 use Rattle.kernel_machine.specs.Runs.{IsOnWay}
@@ -8,6 +8,7 @@ use Rattle.kernel_machine.proofs.spans.execute.Given as goal
 pub record HasTaken (p q : Parts) (most taken : ℕ) : Type 0 where
   pub few : taken ≤ most
   pub way : IsOnWay (kernel_of p None) taken (most - taken) q
+  pub keys : q.keys.keys ≡ p.keys.keys
 
 abbrev pub invariant-loop-taken : goal.invariant-loop-taken
 invariant-loop-taken l = HasTaken l.fn.parts l.parts l.most l.taken

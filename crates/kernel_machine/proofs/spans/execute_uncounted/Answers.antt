@@ -15,7 +15,7 @@ told-now p q most taken x before low = x.tick ∙ (sym (before taken low) ∙ (�
 pub loop-taken-init : goal.loop-taken-init
 loop-taken-init c =
     let w = c.requires.way in
-    record { way = λ k n m x le few. way-uncounted k n m c.args.parts.now x; tick = told-first w.0 w.1 w.2 c.args.parts.now w.3; step = refl; period = refl }
+    record { way = λ k n m x le few. way-uncounted k n m c.args.parts.now x; tick = told-first w.0 w.1 w.2 c.args.parts.now w.3; step = refl; period = refl; keys = refl }
 
 pub execute_next-requires-clause-byte : goal.execute_next-requires-clause-byte
 execute_next-requires-clause-byte c =
@@ -72,6 +72,7 @@ loop-taken-preserved c =
       tick = told-here w.0 (w.1 + i) (w.2 - i) i q way0 c.execute_next.new.store (y.lists l0 keeper0) ∙ ((λ j. (inv.step j + i) / inv.period j) ∙ c.requires.before i low);
       step = inv.step;
       period = inv.period;
+      keys = inv.keys;
     }
 
 pub returns-clause-way : goal.returns-clause-way

@@ -11,6 +11,7 @@ pub record IsCounting (p q : Parts) (most taken : ℕ) : Type 0 where
   pub tick : get_or q.store 108 0 ≡ p.step / p.period
   pub step : q.step ≡ p.step
   pub period : q.period ≡ p.period
+  pub keys : q.keys.keys ≡ p.keys.keys
 
 abbrev pub invariant-loop-taken : goal.invariant-loop-taken
 invariant-loop-taken l = IsCounting l.fn.parts l.parts l.most l.taken

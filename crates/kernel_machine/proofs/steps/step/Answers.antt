@@ -1,4 +1,4 @@
-use Rattle.std.proofs.Common.{◌∙◌, ap, refl, subst, sym}
+use Rattle.std.proofs.Common.{◌∙◌, refl, subst, sym}
 use Rattle.kernel_steps.specs.Step.{after_the_turn, turn, unless_stopped, with_step}
 use Rattle.kernel_machine.specs.Leaves.{Leaves}
 use Rattle.kernel_machine.proofs.LeftParts.{leaves-none, leaves-then}
@@ -20,7 +20,7 @@ returns-then-is_none-clause-stepped g c = λ k st h goes few.
     let here = stands-step c.args.parts.now k _ st refl in
     let left = c.turn-stop.ensures.turned (with_step k) here (can-turn k h goes) in
     let none = none-stopped _ _ (c.turn-stop.ensures.stop (with_step k) here (can-turn k h goes)) (told _ _ _ c.is_none.ensures c.if-is_none.true) in
-    let rest = c.serve.ensures (turn (with_step k)).kernel left.stands (can-serve k h goes few) in
+    let rest = c.serve.ensures.served (turn (with_step k)).kernel left.stands (can-serve k h goes few) in
     subst (Leaves _ _ _) (sym (step-goes k goes)) (leaves-then _ _ _ _ _ _ (unless_stopped after_the_turn) left (subst (Leaves _ _ _) (sym (rest-goes (turn (with_step k)).kernel none)) rest))
 
 pub returns-then-is_none-clause-stop : goal.returns-then-is_none-clause-stop
@@ -44,7 +44,7 @@ returns-then-is_none-clause-taken g c = λ k st h goes few.
     let here = stands-step c.args.parts.now k _ st refl in
     let left = c.turn-stop.ensures.turned (with_step k) here (can-turn k h goes) in
     let none = none-stopped _ _ (c.turn-stop.ensures.stop (with_step k) here (can-turn k h goes)) (told _ _ _ c.is_none.ensures c.if-is_none.true) in
-    let rest = c.serve.ensures (turn (with_step k)).kernel left.stands (can-serve k h goes few) in
+    let rest = c.serve.ensures.served (turn (with_step k)).kernel left.stands (can-serve k h goes few) in
     let whole = subst (Leaves _ _ _) (sym (step-goes k goes)) (leaves-then _ _ _ _ _ _ (unless_stopped after_the_turn) left (subst (Leaves _ _ _) (sym (rest-goes (turn (with_step k)).kernel none)) rest)) in
     taken k _ _ left.stands c.turn-stop.ensures.disc whole.stands
 

@@ -1,4 +1,4 @@
-use Rattle.kernel_steps.proofs.PeriodKept.{step-period}
+use Rattle.kernel_steps.proofs.NumbersKept.{step-period, step-size}
 use Rattle.kernel_steps.proofs.Runs.{step-counts}
 use Rattle.kernel_steps.proofs.step_laws.count_law.Goals as goal
 
@@ -7,3 +7,6 @@ returns-clause-steps c = λ k goes. step-counts k goes
 
 pub returns-clause-period : goal.returns-clause-period
 returns-clause-period c = λ k h. step-period k h
+
+pub returns-clause-size : goal.returns-clause-size
+returns-clause-size c = λ k h. step-size k h

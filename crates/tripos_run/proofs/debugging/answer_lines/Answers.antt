@@ -10,7 +10,7 @@ use Rattle.tripos_machine.specs.State.{State, steps_of}
 use Rattle.tripos_machine.specs.Step.{Stepped}
 use Rattle.cint_debug.specs.Debugged.{debugged}
 use Rattle.tripos_run.specs.Texts.{no_boot_text}
-use Rattle.tripos_run.specs.Answer.{Answers, lines_answer, told_answer}
+use Rattle.tripos_run.specs.Answer.{Answers, first_past, lines_answer, told_answer}
 use Rattle.tripos_run.proofs.AnswerParts.{Answers-no_boot}
 use Rattle.tripos_run.proofs.debugging.answer_lines.Goals as goal
 
@@ -25,7 +25,7 @@ returns-in-Ok-clause-answer g c =
     let s = c.args.session.now in
     let lines = lines_of c.args.lines.now in
     let (x, is, booted) = c.in-Ok.ensures in
-    let told = subst (λ (t : State). Answers (told_answer (debugged s.go lines t)) (holds c.args.out.now) (holds c.debug_machine.new.out) c.debug_machine.result) booted.state c.debug_machine.ensures.answer in
+    let told = subst (λ (t : State). Answers (told_answer (debugged s.go lines t (first_past lines))) (holds c.args.out.now) (holds c.debug_machine.new.out) c.debug_machine.result) booted.state c.debug_machine.ensures.answer in
     subst (λ (r : Result Stepped Refusal). Answers (lines_answer s.go lines r) (holds c.args.out.now) (holds c.debug_machine.new.out) c.debug_machine.result) (sym is) told
 
 pub returns-in-Err-Line-clause-answer : goal.returns-in-Err-Line-clause-answer

@@ -1,27 +1,22 @@
-use Rattle.std.proofs.Common.{[], subst}
-use Rattle.tp_io.proofs.GatheredTexts.{IsCut-first}
+use Rattle.std.proofs.Common.{◌≡◌, Bool, [], List, None, Option, Some, ap, subst}
+use Rattle.std.specs.Prelude.{if◌then◌else◌}
 use Rattle.hunk_text.specs.TextReader.Lines.{lines_of}
 use Rattle.tripos_machine.specs.State.{State}
-use Rattle.tripos_machine.specs.Step.{quietly}
-use Rattle.tripos_machine.proofs.RunParts.{ends-all}
 use Rattle.cint_debug.specs.Debugged.{debugged}
-use Rattle.tripos_run.specs.Answer.{Answers, closed_answer, end_after}
-use Rattle.tripos_run.specs.declared.reports.Report.TheVariants.{Console}
-use Rattle.tripos_run.proofs.AnswerParts.{Answers-behind, AppendsPrefix-closed}
+use Rattle.tripos_run.specs.Answer.{Answers, told_answer}
 use Rattle.tripos_run.proofs.debugging.debug_machine.Goals as goal
 
-pub write_run_end-requires : goal.write_run_end-requires
-write_run_end-requires g c = ends-all _ _ _ c.stop.ensures c.unwrap_or-stop.ensures
+abbrev begun : Bool → Option (List State)
+begun b = if b then Some [] else None
+
+pub returns-then-not-goes_back-clause-answer : goal.returns-then-not-goes_back-clause-answer
+returns-then-not-goes_back-clause-answer g c =
+    let holds = g.K.Sink.holds in
+    subst (λ past. Answers (told_answer (debugged c.args.budget (lines_of c.args.lines.now) c.args.machine.state past)) (holds c.args.out.now) (holds c.debug_forward.new.out) c.debug_forward.result) (ap begun c.if-not-goes_back.ensures)
+    c.debug_forward.ensures.answer
 
 pub returns-in-Ok-clause-answer : goal.returns-in-Ok-clause-answer
 returns-in-Ok-clause-answer g c =
     let holds = g.K.Sink.holds in
-    let told = debugged c.args.budget (lines_of c.args.lines.now) c.args.machine.now.state in
-    let end = c.write_run_end in
-    let closed = subst (λ (s : State). Answers (closed_answer Console c.debug.new.pending (end_after [] (quietly s))) (holds c.debug.new.out) (holds end.new.out) end.result) c.in-Ok.ensures.state end.ensures.answer in
-    Answers-behind Console (end_after [] (quietly told.after.state)) told.bytes _ end.result c.new-pending.ensures c.in-Ok.ensures.text end.ensures.ends closed
-
-pub returns-in-Err-clause-answer : goal.returns-in-Err-clause-answer
-returns-in-Err-clause-answer g c =
-    let told = debugged c.args.budget (lines_of c.args.lines.now) c.args.machine.now.state in
-    AppendsPrefix-closed Console (end_after [] (quietly told.after.state)) told.bytes _ _ (IsCut-first c.new-pending.ensures c.in-Err.ensures.text)
+    subst (λ past. Answers (told_answer (debugged c.args.budget (lines_of c.args.lines.now) c.args.machine.state past)) (holds c.args.out.now) (holds c.debug_both_ways.new.out) c.debug_both_ways.result) (ap begun c.if-not-goes_back.ensures)
+    c.debug_both_ways.ensures.answer

@@ -1,4 +1,4 @@
-use Rattle.std.proofs.Common.{◌∙◌, ◌+◌, ap, arith, refl, subst, sym}
+use Rattle.std.proofs.Common.{◌∙◌, ap, arith, refl, subst, sym}
 use Rattle.kernel_steps.specs.KernelCalls.KernelModel.NotedEvents.{NotesAll}
 use Rattle.kernel_steps.proofs.Shown.KernelCalls.KernelModel.NotedInTurn.{notes-none}
 use Rattle.kernel_steps.specs.Step.{Stepped}

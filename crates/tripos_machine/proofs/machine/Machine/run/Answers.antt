@@ -1,4 +1,4 @@
-use Rattle.std.proofs.Common.{◌≡◌, ◌∙◌, ◌+◌, ap, arith, inl, inr, sym}
+use Rattle.std.proofs.Common.{◌≡◌, ◌∙◌, ◌+◌, ap, arith, inl, inr, refl, sym}
 use Rattle.std.proofs.lemmas.Result.{err_from_is_err_and}
 use Rattle.tripos_machine.specs.State.{steps_of}
 use Rattle.tripos_machine.proofs.StateRuns.{run-steps}
@@ -6,7 +6,7 @@ use Rattle.tripos_machine.proofs.RunParts.{cut-gathered, cut-more, cut-then, end
 use Rattle.tripos_machine.proofs.machine.Machine.run.Goals as goal
 
 pub loop-taken-init : goal.loop-taken-init
-loop-taken-init g c = record { few = omega arith; ran = ran-none c.args.self.now.state _ _; works = c.requires.works; gathered = gathered-none c.args.self.now.state _ _; later = omega arith }
+loop-taken-init g c = record { few = omega arith; ran = ran-none c.args.self.now.state _ _; works = c.requires.works; gathered = gathered-none c.args.self.now.state _ _; later = omega arith; keys = refl }
 
 pub returns-in-Some-clause-end : goal.returns-in-Some-clause-end
 returns-in-Some-clause-end g c =
@@ -73,6 +73,7 @@ loop-taken-preserved g c =
       works = sym c.failed.ensures ∙ c.if-failed.false;
       gathered = gathered-then s c.loop-taken.taken m _ _ _ _ _ kept.ran kept.gathered (c.output.ensures ∙ c.advance-taken.ensures.output) c.in_ok-gather.ensures.text;
       later = omega (arith, kept.later, c.in_ok-gather.ensures.cause.later);
+      keys = c.advance-taken.ensures.keys ∙ kept.keys;
     }
 
 pub returns-clause-end : goal.returns-clause-end

@@ -11,6 +11,7 @@ invariant-loop-taken g l = record {
   works : g.L.EventLog.has_failed l.log ≡ false;
   gathered : IsGathered (g.K.Sink.holds l.fn.out) (g.K.Sink.holds l.out) l.fn.pending l.pending (run l.taken l.fn.self.state).bytes;
   later : g.K.Sink.faults l.fn.out ≤ g.K.Sink.faults l.out;
+  keys : l.self.keys ≡ l.fn.self.keys;
 }
 
 abbrev pub decreases-loop-taken : goal.decreases-loop-taken
