@@ -1,4 +1,5 @@
 pub mod ByteRegister
+pub mod PlacesWritten
 pub mod Unexecuted
 pub mod SearchLaw
 pub mod KeySearch

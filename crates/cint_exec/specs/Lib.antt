@@ -1,6 +1,8 @@
+pub mod Breakpoints
 pub mod Change
 pub mod Effect
 pub mod Instruction
+pub mod Places
 pub mod SearchOrder
 pub mod Switch
 pub mod Writes

@@ -7,9 +7,9 @@ use crate::Fault;
 use crate::changes::{Change, read, set_a, write};
 use word_store::{Regs, Store, add, mul};
 
-// The byte address of byte i of the words from x on.
+/// The byte address of byte i of the words from x on.
 #[inline(always)]
-fn byte_place(x: u32, i: u32) -> u32
+pub fn byte_place(x: u32, i: u32) -> u32
     ensures { result ≡ byte_place x i }
 {
     add(mul(4, x), i)

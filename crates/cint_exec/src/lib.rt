@@ -4,6 +4,7 @@
 ghost use Rattle.std.specs.Prelude.{◌≡◌, ◌≢◌, ◌<◌};
 ghost use Rattle.cint_exec.specs.Instruction.{instruction};
 
+pub mod breakpoints;
 mod bytes;
 mod changes;
 mod decode_faults;
@@ -12,11 +13,14 @@ mod frames;
 mod jumps;
 pub mod laws;
 mod lent;
+pub mod places;
 mod switches;
 mod unguarded;
 mod writes;
 
+pub use breakpoints::has_breakpoint;
 use lent::Lent;
+pub use places::{Places, written_places};
 pub use unguarded::NoKernel;
 use word_store::{Guard, Regs, Store};
 

@@ -16,7 +16,7 @@ pub use cli_shell::{
 };
 pub use guest_turns::{
     Block, ByteKinds, EventLog, KernelEvent, ListLog, NoLog, Queue, RootField, SinkLog, Stop,
-    TcbField, TurnEnd, Use, blocks, execute_next, field, find, guest_turn, head, numbers, packets,
-    root, set_root, switch, use_of,
+    TcbField, TurnEnd, Use, blocks, execute_guest, execute_next, field, find, guest_turn, head,
+    numbers, packets, root, set_root, switch, use_of,
 };
 pub use kernel_devices::{Tty, finish_output, tick};
