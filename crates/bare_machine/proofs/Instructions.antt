@@ -1,5 +1,5 @@
 -- Instructions that are each a step of their own.
-use Rattle.std.proofs.Common.{◌≡◌, ℕ, zero, suc, ◌+◌, List, None, refl, sym, ap, ◌++◌, ◌∙◌, subst, arith}
+use Rattle.std.proofs.Common.{◌≡◌, ℕ, zero, suc, ◌+◌, List, refl, sym, ap, ◌++◌, ◌∙◌, subst, arith}
 use Rattle.std.proofs.lemmas.List.{append-nil}
 use Rattle.word_store.specs.declared.registers.Regs.{Regs}
 use Rattle.cint_exec.specs.Instruction.{After, instruction}
@@ -7,7 +7,7 @@ use Rattle.cint_exec.specs.declared.Outcome.{Outcome}
 use Rattle.cint_exec.specs.declared.Outcome.TheVariants.{Next, Sys}
 use Rattle.cint_exec.proofs.Unexecuted.{stays-instruction}
 use Rattle.bare_machine.specs.Run.{Executes, run}
-use Rattle.bare_machine.specs.State.{BareState}
+use Rattle.bare_machine.specs.State.{BareState, going}
 use Rattle.bare_machine.specs.Step.{BareStepped, after_outcome, and_then, quietly, step, unmarked}
 use Rattle.bare_machine.proofs.Runs.{run-behind}
 
@@ -25,10 +25,6 @@ pub executes-next : (n : ℕ) (s : List ℕ) (r : Regs) (t : List ℕ) (q : Regs
 executes-next n s r t q e next =
     let more : suc n ≡ n + 1 = omega arith in
     subst (λ k. Executes k s r (instruction unmarked t q).words (instruction unmarked t q).regs) more (executes-suc n s r t q e next)
-
--- the state of a machine that goes on
-abbrev pub going : List ℕ → Regs → ℕ → BareState
-going s r steps = record { words = s; regs = r; steps = steps; stop = None }
 
 step-going : (s : List ℕ) (r : Regs) (k : ℕ) → (instruction unmarked s r).outcome ≡ Next → step (going s r k) ≡ quietly (going (instruction unmarked s r).words (instruction unmarked s r).regs (k + 1))
 unfolding step

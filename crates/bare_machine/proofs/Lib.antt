@@ -1,3 +1,4 @@
+pub mod Breakpoints
 pub mod StepsBehind
 pub mod CodeLines
 pub mod Instructions

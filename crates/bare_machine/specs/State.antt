@@ -1,5 +1,5 @@
 -- The state of a machine without a kernel.
-use Rattle.std.specs.Prelude.{ℕ, ◌≤◌, ◌<◌, List, Option}
+use Rattle.std.specs.Prelude.{ℕ, ◌≤◌, ◌<◌, List, Option, None}
 use Rattle.word_store.specs.declared.registers.Regs.{Regs}
 use Rattle.session_text.specs.KernelDispatch.KernelModel.Ranges.{most_steps}
 use Rattle.session_text.specs.KernelDispatch.KernelModel.declared.stops.Stop.{Stop}
@@ -26,6 +26,10 @@ pub record BareView : Type 0 where
 -- the parts, and why the machine has stopped, as a state
 abbrev pub state_of : BareParts → Option Stop → BareState
 state_of p stop = record { words = p.store; regs = p.regs; steps = p.step; stop = stop }
+
+-- the state of a machine that has not stopped
+abbrev pub going : List ℕ → Regs → ℕ → BareState
+going words regs steps = record { words = words; regs = regs; steps = steps; stop = None }
 
 -- what holds of the parts of every machine
 pub record IsSound (p : BareParts) : Type 0 where

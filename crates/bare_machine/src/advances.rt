@@ -1,12 +1,13 @@
 // Steps, one after another.
-ghost use Rattle.std.specs.Prelude.{◌≡◌, ◌<◌, ◌+◌, ◌≤◌, [], ◌++◌, None, length};
+ghost use Rattle.std.specs.Prelude.{◌≡◌, ◌<◌, ◌+◌, ◌≤◌, [], ◌++◌, None, length, true};
 ghost use Rattle.session_text.specs.KernelDispatch.KernelModel.Ranges.{most_steps};
-ghost use Rattle.bare_machine.specs.Run.{run};
+ghost use Rattle.bare_machine.specs.Run.{Avoids, run};
 ghost use Rattle.bare_machine.specs.State.{IsSound, state_of};
 
 use crate::BareParts;
 use crate::passes::pass;
 use crate::steps::next_step;
+use cint_exec::has_breakpoint;
 use session_text::Stop;
 use tp_io::Output;
 
@@ -19,9 +20,14 @@ pub(crate) struct Advanced {
     pub stop: Option<Stop>,
 }
 
-/// Takes some steps, at most `most`, of a machine that has not stopped, up to the step that stops it, if there is one. It ends
-/// before where there is no room for a byte more.
-pub(crate) fn advance(parts: &mut BareParts, most: u64, out: &mut Output) -> Advanced
+/// Takes some steps, at most `most`, of a machine that has not stopped, up to the step that stops it or the first that leads to a
+/// breakpoint, if there is one. It ends before where there is no room for a byte more.
+pub(crate) fn advance(
+    parts: &mut BareParts,
+    most: u64,
+    breakpoints: &[u32],
+    out: &mut Output,
+) -> Advanced
     requires sound { IsSound parts.old }
     requires some { 0 < most }
     requires steps { parts.old.step + most ≤ most_steps }
@@ -31,11 +37,12 @@ pub(crate) fn advance(parts: &mut BareParts, most: u64, out: &mut Output) -> Adv
     ensures state { state_of parts.new result.stop
         ≡ (run result.steps (state_of parts.old None)).state }
     ensures bytes { out.new ≡ (run result.steps (state_of parts.old None)).bytes }
+    ensures before { Avoids breakpoints.now result.steps (state_of parts.old None) }
     ensures sound { IsSound parts.new }
 {
-    let mut done = pass_and_step(parts, most, out);
-    while done.stop.is_none() && done.steps < most && out.room() > 0 {
-        let more = pass_and_step(parts, most - done.steps, out);
+    let mut done = pass_and_step(parts, most, breakpoints, out);
+    while may_go_on(done, most, out) && !has_breakpoint(parts.regs.pc, breakpoints) {
+        let more = pass_and_step(parts, most - done.steps, breakpoints, out);
         done = Advanced {
             steps: done.steps + more.steps,
             stop: more.stop,
@@ -44,8 +51,23 @@ pub(crate) fn advance(parts: &mut BareParts, most: u64, out: &mut Output) -> Adv
     done
 }
 
-// Takes some steps, at most `most`, of a machine that has not stopped, of which only the last one may write a byte or stop it.
-fn pass_and_step(parts: &mut BareParts, most: u64, out: &mut Output) -> Advanced
+// Whether more steps may follow: the machine has not stopped, some are left, and there is room for a byte.
+fn may_go_on(done: Advanced, most: u64, out: &Output) -> bool
+    ensures goes { result ≡ true → done.stop ≡ None }
+    ensures left { result ≡ true → done.steps < most }
+    ensures room { result ≡ true → length out.now < 8192 }
+{
+    done.stop.is_none() && done.steps < most && out.room() > 0
+}
+
+// Takes some steps, at most `most`, of a machine that has not stopped, of which only the last one may write a byte or stop it, and
+// no other one leads to a breakpoint.
+fn pass_and_step(
+    parts: &mut BareParts,
+    most: u64,
+    breakpoints: &[u32],
+    out: &mut Output,
+) -> Advanced
     requires sound { IsSound parts.old }
     requires some { 0 < most }
     requires steps { parts.old.step + most ≤ most_steps }
@@ -55,12 +77,22 @@ fn pass_and_step(parts: &mut BareParts, most: u64, out: &mut Output) -> Advanced
     ensures state { state_of parts.new result.stop
         ≡ (run result.steps (state_of parts.old None)).state }
     ensures bytes { out.new ≡ out.old ++ (run result.steps (state_of parts.old None)).bytes }
+    ensures before { Avoids breakpoints.now result.steps (state_of parts.old None) }
     ensures sound { IsSound parts.new }
 {
     let mut calls = false;
-    let steps = pass(&mut parts.store, &mut parts.regs, most, &mut calls);
+    let steps = pass(
+        &mut parts.store,
+        &mut parts.regs,
+        most,
+        breakpoints,
+        &mut calls,
+    );
     parts.step += steps;
     if steps == most {
+        return Advanced { steps, stop: None };
+    }
+    if steps > 0 && has_breakpoint(parts.regs.pc, breakpoints) {
         return Advanced { steps, stop: None };
     }
     let stop = next_step(parts, calls, out);

@@ -12,3 +12,6 @@ mod steps;
 
 pub use machine::Bare;
 pub use parts::BareParts;
+
+// Shown to the crates above.
+pub use cint_exec::Places;

@@ -1,13 +1,14 @@
 // A machine without a kernel.
-ghost use Rattle.std.specs.Prelude.{◌≡◌, ◌<◌, ◌+◌, ◌≤◌, [], None};
+ghost use Rattle.std.specs.Prelude.{◌≡◌, ◌<◌, ◌+◌, ◌≤◌, [], None, MatchOption};
 ghost use Rattle.session_text.specs.KernelDispatch.KernelModel.Ranges.{most_steps};
-ghost use Rattle.bare_machine.specs.Run.{run};
+ghost use Rattle.bare_machine.specs.Run.{Avoids, IsPlainStep, run};
 ghost use Rattle.bare_machine.specs.State.{IsSound, state_of};
 ghost use Rattle.bare_machine.specs.Step.{step};
 
 use crate::BareParts;
 use crate::advances::advance;
-use crate::steps::step_or_stay;
+use crate::steps::{execute_one, step_or_stay};
+use cint_exec::Places;
 use session_text::Stop;
 use std::marker::Model;
 use tp_io::Output;
@@ -87,9 +88,24 @@ impl Bare {
         self.stop
     }
 
-    /// Takes some steps, at most `most`, of a machine that has not stopped, up to the step that stops it, if there is one. The
-    /// answer is how many these are; the output is what they wrote, at most 8,192 bytes.
-    pub fn advance(&mut self, most: u64) -> u64
+    /// Takes one step of a machine that has not stopped, if it is an instruction alone: no call, no fault, and not the end of the
+    /// function at the bottom of the stack. The answer tells where the instruction may have written: every other word is as it was.
+    /// Else the answer is `None`, and no step is taken. There is no output then.
+    pub fn execute(&mut self) -> Option<Places>
+        requires goes { self.old.state.stop ≡ None }
+        requires steps { self.old.state.steps < most_steps }
+        ensures step { MatchOption result (self.new.state ≡ self.old.state)
+            (λ p. IsPlainStep p self.old.state self.new.state) }
+        ensures output { self.new.output ≡ [] }
+    {
+        self.output.clear();
+        execute_one(&mut self.parts)
+    }
+
+    /// Takes some steps, at most `most`, of a machine that has not stopped, up to the step that stops it or the first that leads to a
+    /// breakpoint, if there is one: a byte address. The answer is how many these are; the output is what they wrote, at most 8,192
+    /// bytes.
+    pub fn advance(&mut self, most: u64, breakpoints: &[u32]) -> u64
         requires goes { self.old.state.stop ≡ None }
         requires some { 0 < most }
         requires steps { self.old.state.steps + most ≤ most_steps }
@@ -97,9 +113,10 @@ impl Bare {
         ensures most { result ≤ most }
         ensures state { self.new.state ≡ (run result self.old.state).state }
         ensures output { self.new.output ≡ (run result self.old.state).bytes }
+        ensures before { Avoids breakpoints.now result self.old.state }
     {
         self.output.clear();
-        let done = advance(&mut self.parts, most, &mut self.output);
+        let done = advance(&mut self.parts, most, breakpoints, &mut self.output);
         self.stop = done.stop;
         done.steps
     }

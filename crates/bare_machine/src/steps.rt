@@ -1,14 +1,15 @@
 // A step: an instruction, and what it asks for.
-ghost use Rattle.std.specs.Prelude.{◌≡◌, ◌<◌, [], ◌++◌, None, length, true};
+ghost use Rattle.std.specs.Prelude.{◌≡◌, ◌<◌, [], ◌++◌, None, MatchOption, length, true};
 ghost use Rattle.session_text.specs.KernelDispatch.KernelModel.Ranges.{most_steps};
 ghost use Rattle.cint_exec.specs.declared.Outcome.TheVariants.{Sys};
 ghost use Rattle.bare_machine.specs.Calls.{call_answer};
+ghost use Rattle.bare_machine.specs.Run.{IsPlainStep};
 ghost use Rattle.bare_machine.specs.State.{IsSound, state_of};
 ghost use Rattle.bare_machine.specs.Step.{after_call, instruction_of, step};
 
 use crate::BareParts;
 use crate::calls::call;
-use cint_exec::{Fault, NoKernel, Outcome, execute_alone};
+use cint_exec::{Fault, NoKernel, Outcome, Places, execute_alone, written_places};
 use session_text::Stop;
 use tp_io::Output;
 
@@ -47,6 +48,25 @@ pub(crate) fn next_step(parts: &mut BareParts, calls: bool, out: &mut Output) ->
     }
     parts.step += 1;
     answer_call(parts, out)
+}
+
+/// One step of a machine that has not stopped, if it is an instruction alone. The answer tells where the instruction may have written;
+/// `None`: no step is taken.
+pub(crate) fn execute_one(parts: &mut BareParts) -> Option<Places>
+    requires sound { IsSound parts.old }
+    requires steps { parts.old.step < most_steps }
+    ensures step { MatchOption result (parts.new ≡ parts.old)
+        (λ p. IsPlainStep p (state_of parts.old None) (state_of parts.new None)) }
+    ensures sound { IsSound parts.new }
+{
+    let places = written_places(&parts.store, parts.regs);
+    match execute_alone(&mut parts.store, &mut parts.regs, &NoKernel) {
+        Outcome::Next => {
+            parts.step += 1;
+            Some(places)
+        }
+        Outcome::Sys | Outcome::Returned | Outcome::Fault(_) => None,
+    }
 }
 
 // One step of a machine that has not stopped. The answer is why it stops in this step, if it does.

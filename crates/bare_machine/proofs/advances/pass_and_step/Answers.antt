@@ -1,7 +1,9 @@
-use Rattle.std.proofs.Common.{◌∙◌, ap, refl, sym}
+use Rattle.std.proofs.Common.{◌∙◌, ap, arith, refl, sym}
 use Rattle.bare_machine.specs.Step.{BareStepped}
 use Rattle.bare_machine.proofs.Instructions.{quiet-behind, ran, ran-behind, same-behind}
+use Rattle.bare_machine.proofs.Breakpoints.{avoids-next, met-there}
 use Rattle.bare_machine.proofs.advances.pass_and_step.Goals as goal
+use Rattle.bare_machine.proofs.advances.pass_and_step.Goals.{else-steps-gt0-via-then-steps-gt0+else-has_breakpoint, else-steps-gt0-via-else-steps-gt0}
 
 pub returns-then-steps-most-clause-state : goal.returns-then-steps-most-clause-state
 returns-then-steps-most-clause-state c = sym (ap (λ (x : BareStepped). x.state) (ran _ _ _ _ _ _ c.pass-steps.ensures.executes _ refl))
@@ -14,3 +16,17 @@ returns-clause-state c = c.next_step-stop.ensures.state ∙ sym (ap (λ (x : Bar
 
 pub returns-clause-bytes : goal.returns-clause-bytes
 returns-clause-bytes c = c.next_step-stop.ensures.bytes ∙ same-behind _ _ _ (sym (ran-behind _ _ _ _ _ _ c.pass-steps.ensures.executes _ refl))
+
+pub returns-then-has_breakpoint-clause-state : goal.returns-then-has_breakpoint-clause-state
+returns-then-has_breakpoint-clause-state c = sym (ap (λ (x : BareStepped). x.state) (ran _ _ _ _ _ _ c.pass-steps.ensures.executes _ refl))
+
+pub returns-then-has_breakpoint-clause-bytes : goal.returns-then-has_breakpoint-clause-bytes
+returns-then-has_breakpoint-clause-bytes c = quiet-behind _ _ _ (ran _ _ _ _ _ _ c.pass-steps.ensures.executes _ refl)
+
+pub returns-clause-before : goal.returns-clause-before
+returns-clause-before c =
+    avoids-next c.args.breakpoints.now c.pass-steps.result _ (c.pass-steps.ensures.before _)
+    (λ some. elim c.else-steps-gt0.branch [
+      | else-steps-gt0-via-then-steps-gt0+else-has_breakpoint w ↦ met-there c.args.breakpoints.now c.pass-steps.result _ _ _ _ _ c.pass-steps.ensures.executes (sym w.has_breakpoint.ensures ∙ w.if-has_breakpoint.false)
+      | else-steps-gt0-via-else-steps-gt0 w ↦ absurd (omega (arith, some, w.if-steps-gt0.false))
+    ])

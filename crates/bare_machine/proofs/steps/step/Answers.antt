@@ -1,6 +1,7 @@
 use Rattle.std.proofs.Common.{◌∙◌, ◌+◌, Some, ap, sym}
+use Rattle.bare_machine.specs.State.{going}
 use Rattle.bare_machine.specs.Step.{BareStepped}
-use Rattle.bare_machine.proofs.Instructions.{going, quiet-behind, same-behind, step-as}
+use Rattle.bare_machine.proofs.Instructions.{quiet-behind, same-behind, step-as}
 use Rattle.bare_machine.proofs.steps.step.Goals as goal
 
 pub returns-in-Next-clause-state : goal.returns-in-Next-clause-state

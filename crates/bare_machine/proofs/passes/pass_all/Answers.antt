@@ -3,7 +3,7 @@ use Rattle.cint_exec.specs.Instruction.{instruction}
 use Rattle.cint_exec.proofs.Unexecuted.{not-next}
 use Rattle.bare_machine.specs.Step.{unmarked}
 use Rattle.bare_machine.proofs.Instructions.{executes-next, executes-same}
-use Rattle.bare_machine.proofs.passes.pass.Goals as goal
+use Rattle.bare_machine.proofs.passes.pass_all.Goals as goal
 
 pub loop-steps-preserved : goal.loop-steps-preserved
 loop-steps-preserved c = record {

@@ -1,6 +1,6 @@
 use Rattle.std.proofs.Common.{◌≡◌, ◌<◌, false}
 use Rattle.bare_machine.specs.Run.{Executes}
-use Rattle.bare_machine.proofs.passes.pass.Given as goal
+use Rattle.bare_machine.proofs.passes.pass_all.Given as goal
 
 abbrev pub invariant-loop-steps : goal.invariant-loop-steps
 invariant-loop-steps l = record {
