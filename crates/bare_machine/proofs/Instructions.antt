@@ -1,5 +1,5 @@
 -- Instructions that are each a step of their own.
-use Rattle.std.proofs.Common.{◌≡◌, ℕ, zero, suc, ◌+◌, List, refl, sym, ap, ◌++◌, ◌∙◌, subst, arith}
+use Rattle.std.proofs.Common.{◌≡◌, ℕ, zero, suc, ◌+◌, ◌≤◌, List, None, refl, sym, ap, ◌++◌, ◌∙◌, subst, arith}
 use Rattle.std.proofs.lemmas.List.{append-nil}
 use Rattle.word_store.specs.declared.registers.Regs.{Regs}
 use Rattle.cint_exec.specs.Instruction.{After, instruction}
@@ -9,7 +9,7 @@ use Rattle.cint_exec.proofs.Unexecuted.{stays-instruction}
 use Rattle.bare_machine.specs.Run.{Executes, run}
 use Rattle.bare_machine.specs.State.{BareState, going}
 use Rattle.bare_machine.specs.Step.{BareStepped, after_outcome, and_then, quietly, step, unmarked}
-use Rattle.bare_machine.proofs.Runs.{run-behind}
+use Rattle.bare_machine.proofs.Runs.{goes-earlier, run-behind}
 
 -- one more is executed
 executes-suc : (n : ℕ) (s : List ℕ) (r : Regs) (t : List ℕ) (q : Regs) → Executes n s r t q → (instruction unmarked t q).outcome ≡ Next → Executes (suc n) s r (instruction unmarked t q).words (instruction unmarked t q).regs
@@ -60,6 +60,9 @@ module _ (s : List ℕ) (r : Regs) (t : List ℕ) (q : Regs) (k n : ℕ) (e : Ex
 
   pub ran-behind : run (n + 1) old ≡ step (going t q (k + n))
   ran-behind = run-behind n old (going t q (k + n)) ran
+
+  pub ran-goes : (i : ℕ) → i ≤ n → (run i old).state.stop ≡ None
+  ran-goes i few = goes-earlier i n old few (ap (λ (x : BareStepped). x.state.stop) ran)
 
 -- ---- bytes behind others
 

@@ -1,5 +1,5 @@
 -- Runs: one after another, of a machine that has stopped, and how many steps they take.
-use Rattle.std.proofs.Common.{◌≡◌, ◌≢◌, ℕ, zero, suc, ◌+◌, ◌≤◌, ◌++◌, Bool, true, false, Option, Some, None, Result, Ok, Err, cond, refl, sym, ap, ◌∙◌, arith}
+use Rattle.std.proofs.Common.{◌≡◌, ◌≢◌, ℕ, zero, suc, ◌+◌, ◌-◌, ◌≤◌, ◌++◌, Bool, true, false, Option, Some, None, Result, Ok, Err, cond, refl, sym, ap, ◌∙◌, arith}
 use Rattle.std.specs.Prelude.{is_some}
 use Rattle.std.proofs.lemmas.List.{append_assoc, append-nil}
 use Rattle.cint_exec.specs.declared.Fault.{Fault}
@@ -112,4 +112,17 @@ run-counts (suc n) k goes = on k.stop refl (run-counts n (step k).state goes)
     on (Some stop) is more =
         let stays = ap (λ (x : BareStepped). x.state.stop) (run-stopped (suc n) k (λ none. (let other = sym is ∙ none in cc))) in
         let other : Some stop ≡ None = sym is ∙ sym stays ∙ goes in
+        cc
+
+-- a machine that has not stopped after some steps has not stopped after fewer
+pub goes-earlier : (i n : ℕ) (k : BareState) → i ≤ n → (run n k).state.stop ≡ None → (run i k).state.stop ≡ None
+goes-earlier i n k few goes = on (run i k).state.stop refl
+  where
+    on : (o : Option Stop) → (run i k).state.stop ≡ o → (run i k).state.stop ≡ None
+    on None is = is
+    on (Some stop) is =
+        let all : n ≡ i + (n - i) = omega (arith, few) in
+        let stays = run-stopped (n - i) (run i k).state (λ none. (let other = sym is ∙ none in cc)) in
+        let there = ap (λ j. (run j k).state.stop) all ∙ ap (λ (x : BareStepped). x.state.stop) (run-more i (n - i) k) ∙ ap (λ (x : BareStepped). x.state.stop) stays ∙ is in
+        let other : Some stop ≡ None = sym there ∙ goes in
         cc

@@ -1,5 +1,5 @@
 -- Steps behind others, of which none has stopped the machine.
-use Rattle.std.proofs.Common.{◌≡◌, ℕ, ◌+◌, ◌≤◌, ◌++◌, Option, None, sym, ap, ◌∙◌, arith}
+use Rattle.std.proofs.Common.{◌≡◌, ℕ, ◌+◌, ◌-◌, ◌<◌, ◌≤◌, ◌++◌, Option, None, sym, ap, ◌∙◌, arith}
 use Rattle.session_text.specs.KernelDispatch.KernelModel.declared.stops.Stop.{Stop}
 use Rattle.bare_machine.specs.declared.parts.BareParts.{BareParts}
 use Rattle.bare_machine.specs.Run.{run}
@@ -19,3 +19,8 @@ module _ (n : ℕ) (s : BareState) (p : BareParts) (o : Option Stop) (goes : o �
 
   pub more-bytes : (m : ℕ) → (run n s).bytes ++ (run m (state_of p None)).bytes ≡ (run (n + m) s).bytes
   more-bytes m = ap (λ (k : BareState). (run n s).bytes ++ (run m k).bytes) going-on ∙ sym (ap (λ (x : BareStepped). x.bytes) (run-more n m s))
+
+  pub more-goes : (m : ℕ) → 0 < m → (run (m - 1) (state_of p None)).state.stop ≡ None → (run (n + m - 1) s).state.stop ≡ None
+  more-goes m some last =
+      let same : n + m - 1 ≡ n + (m - 1) = omega (arith, some) in
+      ap (λ j. (run j s).state.stop) same ∙ sym (ap (λ (k : BareState). k.stop) (more-state (m - 1))) ∙ last

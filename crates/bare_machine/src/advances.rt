@@ -1,5 +1,5 @@
 // Steps, one after another.
-ghost use Rattle.std.specs.Prelude.{◌≡◌, ◌<◌, ◌+◌, ◌≤◌, [], ◌++◌, None, length, true};
+ghost use Rattle.std.specs.Prelude.{◌≡◌, ◌<◌, ◌+◌, ◌-◌, ◌≤◌, [], ◌++◌, None, length, true};
 ghost use Rattle.session_text.specs.KernelDispatch.KernelModel.Ranges.{most_steps};
 ghost use Rattle.bare_machine.specs.Run.{Avoids, run};
 ghost use Rattle.bare_machine.specs.State.{IsSound, state_of};
@@ -37,6 +37,7 @@ pub(crate) fn advance(
     ensures state { state_of parts.new result.stop
         ≡ (run result.steps (state_of parts.old None)).state }
     ensures bytes { out.new ≡ (run result.steps (state_of parts.old None)).bytes }
+    ensures last { (run (result.steps - 1) (state_of parts.old None)).state.stop ≡ None }
     ensures before { Avoids breakpoints.now result.steps (state_of parts.old None) }
     ensures sound { IsSound parts.new }
 {
@@ -77,6 +78,7 @@ fn pass_and_step(
     ensures state { state_of parts.new result.stop
         ≡ (run result.steps (state_of parts.old None)).state }
     ensures bytes { out.new ≡ out.old ++ (run result.steps (state_of parts.old None)).bytes }
+    ensures last { (run (result.steps - 1) (state_of parts.old None)).state.stop ≡ None }
     ensures before { Avoids breakpoints.now result.steps (state_of parts.old None) }
     ensures sound { IsSound parts.new }
 {

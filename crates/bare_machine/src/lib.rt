@@ -14,4 +14,4 @@ pub use machine::Bare;
 pub use parts::BareParts;
 
 // Shown to the crates above.
-pub use cint_exec::Places;
+pub use cint_exec::{Places, has_breakpoint};

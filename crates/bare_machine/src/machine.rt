@@ -1,5 +1,5 @@
 // A machine without a kernel.
-ghost use Rattle.std.specs.Prelude.{◌≡◌, ◌<◌, ◌+◌, ◌≤◌, [], None, MatchOption};
+ghost use Rattle.std.specs.Prelude.{◌≡◌, ◌<◌, ◌+◌, ◌-◌, ◌≤◌, [], None, MatchOption};
 ghost use Rattle.session_text.specs.KernelDispatch.KernelModel.Ranges.{most_steps};
 ghost use Rattle.bare_machine.specs.Run.{Avoids, IsPlainStep, run};
 ghost use Rattle.bare_machine.specs.State.{IsSound, state_of};
@@ -113,6 +113,7 @@ impl Bare {
         ensures most { result ≤ most }
         ensures state { self.new.state ≡ (run result self.old.state).state }
         ensures output { self.new.output ≡ (run result self.old.state).bytes }
+        ensures last { (run (result - 1) self.old.state).state.stop ≡ None }
         ensures before { Avoids breakpoints.now result self.old.state }
     {
         self.output.clear();

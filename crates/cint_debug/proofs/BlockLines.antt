@@ -3,13 +3,13 @@ use Rattle.std.proofs.Common.{◌≡◌, ◌∙◌, ℕ, ◌<◌, ◌+◌, ◌^�
 use Rattle.std.specs.List.{AllByRecursion}
 use Rattle.tp_io.specs.Pending.{IsCut, IsGathered}
 use Rattle.tp_io.proofs.GatheredTexts.{IsCut-more, IsCut-then, IsGathered-nothing, IsGathered-then}
-use Rattle.tripos_machine.specs.KernelCalls.GetvecChain.Block.{block_end}
-use Rattle.tripos_machine.specs.KernelCalls.GetvecChain.Tiling.{Tiles}
-use Rattle.tripos_machine.specs.KernelCalls.GetvecChain.declared.pieces.Block.{Block}
-use Rattle.tripos_machine.specs.KernelCalls.KernelModel.BlockUse.{use_of}
-use Rattle.tripos_machine.specs.KernelCalls.KernelModel.Lists.{Lists}
-use Rattle.tripos_machine.specs.KernelCalls.KernelModel.declared.uses.Use.{Use}
-use Rattle.tripos_machine.proofs.Shown.KernelCalls.KernelDispatch.GetvecChain.Tilings.{Tiles-inside}
+use Rattle.machine_history.specs.TriposMachine.KernelCalls.GetvecChain.Block.{block_end}
+use Rattle.machine_history.specs.TriposMachine.KernelCalls.GetvecChain.Tiling.{Tiles}
+use Rattle.machine_history.specs.TriposMachine.KernelCalls.GetvecChain.declared.pieces.Block.{Block}
+use Rattle.machine_history.specs.TriposMachine.KernelCalls.KernelModel.BlockUse.{use_of}
+use Rattle.machine_history.specs.TriposMachine.KernelCalls.KernelModel.Lists.{Lists}
+use Rattle.machine_history.specs.TriposMachine.KernelCalls.KernelModel.declared.uses.Use.{Use}
+use Rattle.machine_history.proofs.Shown.KernelCalls.KernelDispatch.GetvecChain.Tilings.{Tiles-inside}
 use Rattle.cint_debug.specs.Texts.{block_line, block_lines}
 
 -- ---- where blocks begin

@@ -1,11 +1,11 @@
 -- The steps of a call: how they add up, and that they stay within its limits.
 use Rattle.std.proofs.Common.{◌≡◌, ℕ, ◌+◌, ◌-◌, ◌≤◌, Option, Some, None, [], refl, sym, ap, ◌∙◌, arith}
 use Rattle.std.specs.Prelude.{is_some, if◌then◌else◌, unwrap_or}
-use Rattle.tripos_machine.specs.KernelCalls.KernelModel.declared.stops.Stop.{Stop}
+use Rattle.machine_history.specs.TriposMachine.KernelCalls.KernelModel.declared.stops.Stop.{Stop}
 use Rattle.machine_history.specs.Pasts.{state_back}
-use Rattle.tripos_machine.specs.State.{State, steps_of, stop_of}
-use Rattle.tripos_machine.specs.Step.{Stepped, run}
-use Rattle.tripos_machine.proofs.StateRuns.{run-counts, run-later, run-more, run-steps, run-stopped}
+use Rattle.machine_history.specs.TriposMachine.State.{State, steps_of, stop_of}
+use Rattle.machine_history.specs.TriposMachine.Step.{Stepped, run}
+use Rattle.machine_history.proofs.Shown.TriposMachine.StateRuns.{run-counts, run-later, run-more, run-steps, run-stopped}
 use Rattle.cint_debug.specs.declared.limits.Limits.{Limits}
 use Rattle.cint_debug.specs.Debugged.{Debugging, HasDebugged, steps_left, went_back}
 use Rattle.cint_debug.specs.Runs.{IsWithin}

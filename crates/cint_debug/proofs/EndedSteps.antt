@@ -4,11 +4,11 @@ use Rattle.std.specs.Prelude.{◌==◌, IfOk, is_some, length}
 use Rattle.std.proofs.lemmas.Bool.{eqb-true}
 use Rattle.tp_io.specs.Pending.{Gathers, IsCut, IsGathered}
 use Rattle.tp_io.proofs.GatheredTexts.{Gathers-then, IsCut-then}
-use Rattle.tripos_machine.specs.State.{State, stop_of}
-use Rattle.tripos_machine.specs.KernelCalls.KernelModel.declared.stops.Stop.{Stop}
+use Rattle.machine_history.specs.TriposMachine.State.{State, stop_of}
+use Rattle.machine_history.specs.TriposMachine.KernelCalls.KernelModel.declared.stops.Stop.{Stop}
 use Rattle.cint_debug.specs.Views.{is_at, is_end}
-use Rattle.tripos_machine.specs.Step.{Stepped, run, step}
-use Rattle.tripos_machine.proofs.RunParts.{cut-more}
+use Rattle.machine_history.specs.TriposMachine.Step.{Stepped, run, step}
+use Rattle.machine_history.proofs.Shown.TriposMachine.RunParts.{cut-more}
 use Rattle.cint_debug.specs.declared.limits.Limits.{Limits}
 use Rattle.cint_debug.specs.declared.orders.Order.{Order}
 use Rattle.cint_debug.specs.declared.orders.Order.TheVariants.{Break}
@@ -18,7 +18,7 @@ use Rattle.cint_debug.specs.Runs.{EndsSteps, EndsTold}
 use Rattle.cint_debug.specs.Texts.{place_text}
 use Rattle.cint_debug.proofs.DebuggedRuns.{debugged-all, debugged-none}
 use Rattle.cint_debug.proofs.DebuggedRuns.{back-stays}
-use Rattle.cint_debug.proofs.StepsTo.{next-bytes, to-all, to-some}
+use Rattle.cint_debug.proofs.StepsTo.{next-bytes}
 
 -- all steps were taken, whatever came of the text after them
 pub ends-all : {T E : Type 0} (n most : ℕ) (s t : State) (r : Result T E) → n ≤ most → t ≡ (run n s).state → EndsSteps n most s t r
@@ -31,25 +31,13 @@ pub text-then : {T E : Type 0} (c : Limits) (n : ℕ) (s t : State) {h m : Optio
 text-then c n s t {h} {m} {p} {q} k o r is first second =
     Gathers-then first k o (place_text c.first (run n s).state) r (subst (λ z. Gathers m k q o (place_text c.first z) r) is second)
 
--- ---- without breakpoints
+-- ---- the sink failed behind some steps
 
-pub empty-steps : {T E : Type 0} (stops : List ℕ) (most : ℕ) (s t : State) (r : Result T E) → (length stops == 0) ≡ true → EndsSteps most most s t r → EndsSteps (steps_to stops most s) most s t r
-empty-steps [] most s t (Ok x) none is = is ∙ sym (ap (λ (y : Stepped). y.state) (to-all most s))
-empty-steps [] most s t (Err e) none cut = cut
-empty-steps (a ∷ stops) most s t r none is = absurd (omega (arith, eqb-true (length (a ∷ stops)) 0 none))
-
-pub empty-bytes : (stops : List ℕ) (most : ℕ) (s : State) → (length stops == 0) ≡ true → (run most s).bytes ≡ (run (steps_to stops most s) s).bytes
-empty-bytes [] most s none = sym (ap (λ (y : Stepped). y.bytes) (to-all most s))
-empty-bytes (a ∷ stops) most s none = absurd (omega (arith, eqb-true (length (a ∷ stops)) 0 none))
-
--- ---- the sink failed behind a step
-
-module _ (stops : List ℕ) (most taken : ℕ) (s t : State) (state : t ≡ (run taken s).state) (few : taken < most) (told : steps_to stops most s ≡ taken + steps_to stops (most - taken) t) where
-  pub cut-behind : {h m k : Option (List ℕ)} {p q text : List ℕ} → IsGathered h m p q (run taken s).bytes → text ≡ (step t).bytes → IsCut m k q text → IsCut h k p (run (steps_to stops most s) s).bytes
-  cut-behind {h} {m} {k} {p} {q} {text} first is cut =
-      let more : taken + 1 ≤ steps_to stops most s = omega (arith, told, to-some stops (most - taken) t (omega (arith, few))) in
-      let whole : (run taken s).bytes ++ text ≡ (run (taken + 1) s).bytes = ap (λ v. (run taken s).bytes ++ v) is ∙ next-bytes stops most taken s t state in
-      cut-more s (taken + 1) (steps_to stops most s) more (subst (IsCut h k p) whole (IsCut-then first cut))
+module _ (stops : List ℕ) (most taken m : ℕ) (s t : State) (state : t ≡ (run taken s).state) (more : taken + m ≤ steps_to stops most s) where
+  pub cut-behind : {h o k : Option (List ℕ)} {p q text : List ℕ} → IsGathered h o p q (run taken s).bytes → text ≡ (run m t).bytes → IsCut o k q text → IsCut h k p (run (steps_to stops most s) s).bytes
+  cut-behind {h} {o} {k} {p} {q} {text} first is cut =
+      let whole : (run taken s).bytes ++ text ≡ (run (taken + m) s).bytes = ap (λ v. (run taken s).bytes ++ v) is ∙ next-bytes stops most taken m s t state in
+      cut-more s (taken + m) (steps_to stops most s) more (subst (IsCut h k p) whole (IsCut-then first cut))
 
 -- ---- lines
 

@@ -3,7 +3,7 @@ use Rattle.std.proofs.Common.{◌≡◌, ℕ, true, false, Option, Some, None, L
 use Rattle.std.specs.Prelude.{is_err}
 use Rattle.tp_io.specs.Pending.{Gathers, IsCut, IsGathered}
 use Rattle.machine_history.specs.Pasts.{state_back}
-use Rattle.tripos_machine.specs.State.{State}
+use Rattle.machine_history.specs.TriposMachine.State.{State}
 use Rattle.cint_debug.specs.declared.limits.Limits.{Limits}
 use Rattle.cint_debug.specs.declared.orders.Order.{Order}
 use Rattle.cint_debug.specs.declared.orders.Order.TheVariants.{Back, Blocks, Break, Continue, DeviceQueue, Instructions, Registers, Step, TaskQueue, Tasks, Unbreak, Words}

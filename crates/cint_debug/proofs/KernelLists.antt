@@ -3,19 +3,19 @@ use Rattle.std.proofs.Common.{◌≡◌, ℕ, ◌==◌, Bool, true, false, Optio
 use Rattle.std.specs.Prelude.{if◌then◌else◌, unwrap_or}
 use Rattle.std.specs.List.{AllByRecursion}
 use Rattle.std.specs.Option.{option_map}
-use Rattle.tripos_machine.specs.KernelCalls.GetvecChain.Tiling.{IsTiled, blocks_in}
-use Rattle.tripos_machine.specs.KernelCalls.KernelModel.HoldsLists.{HoldsLists}
-use Rattle.tripos_machine.specs.KernelCalls.KernelModel.KernelRanges.{CanWalkLists, CanWalkTask}
-use Rattle.tripos_machine.specs.KernelCalls.KernelModel.Lists.{Lists}
-use Rattle.tripos_machine.specs.KernelCalls.KernelModel.Recovered.{lists_in, packets_at, task_in}
-use Rattle.tripos_machine.specs.KernelCalls.KernelModel.Task.{queue_head}
-use Rattle.tripos_machine.specs.KernelCalls.PacketCalls.declared.queues.Queue.TheVariants.{Clock, Keyboard, Output, Work}
-use Rattle.tripos_machine.specs.KernelCalls.PacketQueue.Queue.{HasQueue}
-use Rattle.tripos_machine.specs.KernelCalls.PacketQueue.QueueWords.{QueuedPacket}
-use Rattle.tripos_machine.specs.KernelCalls.TaskBlock.TaskChain.{HasTasks, id_in, task_with, tasks_in}
-use Rattle.tripos_machine.proofs.Shown.KernelCalls.KernelModel.Reading.{read-lists}
-use Rattle.tripos_machine.proofs.Shown.KernelCalls.KernelModel.RecoveredLists.{lists-back}
-use Rattle.tripos_machine.proofs.Shown.KernelCalls.KernelModel.WalkedLists.{can-walk}
+use Rattle.machine_history.specs.TriposMachine.KernelCalls.GetvecChain.Tiling.{IsTiled, blocks_in}
+use Rattle.machine_history.specs.TriposMachine.KernelCalls.KernelModel.HoldsLists.{HoldsLists}
+use Rattle.machine_history.specs.TriposMachine.KernelCalls.KernelModel.KernelRanges.{CanWalkLists, CanWalkTask}
+use Rattle.machine_history.specs.TriposMachine.KernelCalls.KernelModel.Lists.{Lists}
+use Rattle.machine_history.specs.TriposMachine.KernelCalls.KernelModel.Recovered.{lists_in, packets_at, task_in}
+use Rattle.machine_history.specs.TriposMachine.KernelCalls.KernelModel.Task.{queue_head}
+use Rattle.machine_history.specs.TriposMachine.KernelCalls.PacketCalls.declared.queues.Queue.TheVariants.{Clock, Keyboard, Output, Work}
+use Rattle.machine_history.specs.TriposMachine.KernelCalls.PacketQueue.Queue.{HasQueue}
+use Rattle.machine_history.specs.TriposMachine.KernelCalls.PacketQueue.QueueWords.{QueuedPacket}
+use Rattle.machine_history.specs.TriposMachine.KernelCalls.TaskBlock.TaskChain.{HasTasks, id_in, task_with, tasks_in}
+use Rattle.machine_history.proofs.Shown.KernelCalls.KernelModel.Reading.{read-lists}
+use Rattle.machine_history.proofs.Shown.KernelCalls.KernelModel.RecoveredLists.{lists-back}
+use Rattle.machine_history.proofs.Shown.KernelCalls.KernelModel.WalkedLists.{can-walk}
 use Rattle.cint_debug.specs.Views.{Leads, task_queue}
 
 -- ---- the queue of the task that is found

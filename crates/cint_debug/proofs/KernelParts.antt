@@ -1,11 +1,11 @@
 -- A machine of either kind, of which it is known which it is.
-use Rattle.tripos_machine.specs.BareMachine.State.{BareState}
-use Rattle.tripos_machine.specs.KernelCalls.KernelModel.HoldsLists.{HoldsLists}
-use Rattle.tripos_machine.specs.KernelCalls.KernelModel.Kernel.{Kernel}
-use Rattle.tripos_machine.specs.KernelCalls.KernelModel.Lists.{Lists}
-use Rattle.tripos_machine.specs.KernelMachine.declared.parts.Parts.{Parts}
-use Rattle.tripos_machine.specs.State.{IsBare, StandsFull, State}
-use Rattle.tripos_machine.specs.State.State.{Bare, Full}
+use Rattle.machine_history.specs.TriposMachine.BareMachine.State.{BareState}
+use Rattle.machine_history.specs.TriposMachine.KernelCalls.KernelModel.HoldsLists.{HoldsLists}
+use Rattle.machine_history.specs.TriposMachine.KernelCalls.KernelModel.Kernel.{Kernel}
+use Rattle.machine_history.specs.TriposMachine.KernelCalls.KernelModel.Lists.{Lists}
+use Rattle.machine_history.specs.TriposMachine.KernelMachine.declared.parts.Parts.{Parts}
+use Rattle.machine_history.specs.TriposMachine.State.{IsBare, StandsFull, State}
+use Rattle.machine_history.specs.TriposMachine.State.State.{Bare, Full}
 
 -- what holds of each kernel whose lists the store of the parts holds, holds of the machine
 pub on-full : (p : Parts) (s : State) (P : State → Type 0) → StandsFull p s → ((k : Kernel) → HoldsLists p.store k.lists → P (Full k)) → P s

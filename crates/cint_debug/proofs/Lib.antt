@@ -12,3 +12,4 @@ pub mod ReachedStates
 pub mod KeptLines
 pub mod ToldLines
 pub mod WordLines
+pub mod Shown

@@ -2,9 +2,9 @@
 use Rattle.std.proofs.Common.{◌≡◌, ℕ, zero, suc, ◌+◌, Bool, true, false, Option, Some, None, List, [], refl, sym, ap, ◌∙◌, arith}
 use Rattle.std.specs.Prelude.{is_some, if◌then◌else◌}
 use Rattle.machine_history.specs.Pasts.{remembered}
-use Rattle.tripos_machine.specs.KernelCalls.KernelModel.declared.stops.Stop.{Stop}
-use Rattle.tripos_machine.specs.State.{State, stop_of}
-use Rattle.tripos_machine.specs.Step.{Stepped, run, step}
+use Rattle.machine_history.specs.TriposMachine.KernelCalls.KernelModel.declared.stops.Stop.{Stop}
+use Rattle.machine_history.specs.TriposMachine.State.{State, stop_of}
+use Rattle.machine_history.specs.TriposMachine.Step.{Stepped, run, step}
 use Rattle.cint_debug.specs.Debugged.{past_after, steps_to}
 use Rattle.cint_debug.proofs.DebuggedRuns.{went-on}
 use Rattle.cint_debug.proofs.StepsTo.{end-none, run-suc, run-zero, to-further, to-here}

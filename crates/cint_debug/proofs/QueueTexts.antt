@@ -1,10 +1,10 @@
 -- The text of a queue that stands in a store.
 use Rattle.std.proofs.Common.{◌≡◌, ℕ, Option, Some, None, List, refl, ap}
-use Rattle.tripos_machine.specs.KernelCalls.KernelModel.Recovered.{packets_at}
-use Rattle.tripos_machine.specs.KernelCalls.PacketCalls.QueueWords.{head_of}
-use Rattle.tripos_machine.specs.KernelCalls.PacketCalls.declared.queues.Queue.{Queue}
-use Rattle.tripos_machine.specs.KernelCalls.PacketQueue.Queue.{HasQueue}
-use Rattle.tripos_machine.specs.KernelCalls.PacketQueue.QueueWords.{QueuedPacket}
+use Rattle.machine_history.specs.TriposMachine.KernelCalls.KernelModel.Recovered.{packets_at}
+use Rattle.machine_history.specs.TriposMachine.KernelCalls.PacketCalls.QueueWords.{head_of}
+use Rattle.machine_history.specs.TriposMachine.KernelCalls.PacketCalls.declared.queues.Queue.{Queue}
+use Rattle.machine_history.specs.TriposMachine.KernelCalls.PacketQueue.Queue.{HasQueue}
+use Rattle.machine_history.specs.TriposMachine.KernelCalls.PacketQueue.QueueWords.{QueuedPacket}
 use Rattle.cint_debug.specs.Texts.{packet_lines, queue_text}
 use Rattle.cint_debug.specs.Views.{Leads}
 

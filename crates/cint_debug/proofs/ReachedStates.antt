@@ -6,10 +6,10 @@ use Rattle.std.specs.Option.{option_map}
 use Rattle.machine_history.specs.Pasts.{kept, past_back, remembered, state_back}
 use Rattle.machine_history.proofs.KeptStates.{is-suffix}
 use Rattle.machine_history.proofs.StatesInOrder.{all-back, all-joined, all-turned}
-use Rattle.tripos_machine.specs.KernelCalls.KernelModel.declared.stops.Stop.{Stop}
-use Rattle.tripos_machine.specs.State.{State, steps_of, stop_of}
-use Rattle.tripos_machine.specs.Step.{Stepped, run, step}
-use Rattle.tripos_machine.proofs.StateRuns.{run-counts}
+use Rattle.machine_history.specs.TriposMachine.KernelCalls.KernelModel.declared.stops.Stop.{Stop}
+use Rattle.machine_history.specs.TriposMachine.State.{State, steps_of, stop_of}
+use Rattle.machine_history.specs.TriposMachine.Step.{Stepped, run, step}
+use Rattle.machine_history.proofs.Shown.TriposMachine.StateRuns.{run-counts}
 use Rattle.cint_debug.specs.declared.limits.Limits.{Limits}
 use Rattle.cint_debug.specs.declared.orders.BadLine.{BadLine}
 use Rattle.cint_debug.specs.declared.orders.Order.{Order}

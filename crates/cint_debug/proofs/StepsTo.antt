@@ -1,13 +1,19 @@
 -- How many steps lead to a breakpoint or to a stop.
-use Rattle.std.proofs.Common.{◌≡◌, ◌≢◌, ℕ, zero, suc, ◌+◌, ◌-◌, ◌<◌, ◌≤◌, ◌&&◌, ◌||◌, ◌++◌, Bool, true, false, Option, Some, None, List, [], refl, sym, ap, ◌∙◌, arith}
+use Rattle.std.proofs.Common.{◌≡◌, ◌≢◌, ℕ, zero, suc, ◌+◌, ◌-◌, ◌<◌, ◌≤◌, ◌&&◌, ◌||◌, ◌++◌, Bool, true, false, Option, Some, None, List, [], inl, inr, refl, sym, ap, ◌∙◌, arith}
 use Rattle.std.specs.Prelude.{◌==◌, is_some, if◌then◌else◌, not}
-use Rattle.tripos_machine.specs.KernelCalls.KernelModel.declared.stops.Stop.{Stop}
-use Rattle.tripos_machine.specs.State.{State, regs_of, stop_of}
-use Rattle.tripos_machine.specs.Step.{Stepped, and_then, quietly, run, step}
-use Rattle.tripos_machine.proofs.StateRuns.{run-more, run-stopped}
+use Rattle.machine_history.specs.TriposMachine.KernelCalls.KernelModel.declared.stops.Stop.{Stop}
+use Rattle.machine_history.specs.TriposMachine.Breakpoints.{Avoids, is_met}
+use Rattle.machine_history.specs.TriposMachine.CintExec.Breakpoints.{has_breakpoint}
+use Rattle.machine_history.specs.TriposMachine.KernelCalls.KernelModel.Task.{is_guest_id}
+use Rattle.machine_history.specs.TriposMachine.State.{State, regs_of, stop_of}
+use Rattle.machine_history.specs.TriposMachine.State.State.{Bare, Full}
+use Rattle.machine_history.specs.TriposMachine.Step.{Stepped, and_then, quietly, run, step}
+use Rattle.machine_history.proofs.Shown.TriposMachine.StateRuns.{run-more, run-stopped}
 use Rattle.cint_debug.specs.Debugged.{steps_to}
+use Rattle.std.proofs.lemmas.Bool.{cases_lt}
 use Rattle.std.proofs.lemmas.List.{append-nil}
 use Rattle.cint_debug.specs.Views.{is_at, is_end, is_guest_next}
+use Rattle.cint_debug.proofs.DebuggedRuns.{went-on}
 
 pub to-here : (stops : List ℕ) (n : ℕ) (s : State) → is_end stops (step s).state ≡ true → steps_to stops (suc n) s ≡ 1
 to-here stops n s here = ap (λ b. if b then 1 else suc (steps_to stops n (step s).state)) here
@@ -108,7 +114,7 @@ to-last stops (suc n) s few = on (is_end stops (step s).state) refl (to-last sto
         ap (λ k. is_end stops (run k s).state) (to-further stops n s is) ∙ ap (λ (x : Stepped). is_end stops x.state) (run-suc (steps_to stops n t) s)
         ∙ more (omega (arith, few, to-further stops n s is))
 
--- ---- one step after another, of which so many are taken and no one halted
+-- ---- some steps after others, between which no run ends
 
 pub run-one : (s : State) → run 1 s ≡ step s
 run-one s =
@@ -116,29 +122,85 @@ run-one s =
     run-suc 0 s ∙ ap (λ (x : Stepped). and_then (step s) (λ _. x)) (run-zero t)
     ∙ (λ i. record { state = t; bytes = append-nil (step s).bytes i; events = append-nil (step s).events i })
 
-module _ (stops : List ℕ) (most taken : ℕ) (s t : State) (state : t ≡ (run taken s).state) where
-  whole : run (taken + 1) s ≡ and_then (run taken s) step
-  whole = run-more taken 1 s ∙ (λ i. and_then (run taken s) (λ z. run-one z i))
+pub one-state : (s : State) → (step s).state ≡ (run 1 s).state
+one-state s = ap (λ (x : Stepped). x.state) (sym (run-one s))
 
-  pub next-state : (step t).state ≡ (run (taken + 1) s).state
-  next-state = ap (λ z. (step z).state) state ∙ sym (ap (λ (x : Stepped). x.state) whole)
+pub one-bytes : (s : State) → (step s).bytes ≡ (run 1 s).bytes
+one-bytes s = ap (λ (x : Stepped). x.bytes) (sym (run-one s))
 
-  pub next-bytes : (run taken s).bytes ++ (step t).bytes ≡ (run (taken + 1) s).bytes
-  next-bytes = ap (λ z. (run taken s).bytes ++ (step z).bytes) state ∙ sym (ap (λ (x : Stepped). x.bytes) whole)
+-- within one step no run ends
+pub one-unended : (stops : List ℕ) (s : State) → (i : ℕ) → 0 < i → i < 1 → is_end stops (run i s).state ≡ false
+one-unended stops s i some less = absurd (omega (arith, some, less))
 
-  module _ (told : steps_to stops most s ≡ taken + steps_to stops (most - taken) t) where
-    pub told-end : taken ≡ most → steps_to stops most s ≡ taken
-    told-end all =
-        let none : most - taken ≡ 0 = omega (arith, all) in
-        let no-more : steps_to stops (most - taken) t ≡ 0 = ap (λ n. steps_to stops n t) none in
-        omega (arith, told, no-more)
+to-past : (stops : List ℕ) (m rest : ℕ) (t : State) → m ≤ rest → ((i : ℕ) → 0 < i → i ≤ m → is_end stops (run i t).state ≡ false) → steps_to stops rest t ≡ m + steps_to stops (rest - m) (run m t).state
+to-past stops zero rest t few none =
+    let whole : rest ≡ rest - 0 = omega arith in
+    let same : steps_to stops rest t ≡ steps_to stops (rest - 0) (run 0 t).state = λ j. steps_to stops (whole j) (sym (ap (λ (x : Stepped). x.state) (run-zero t)) j) in
+    omega (arith, same)
+to-past stops (suc m) zero t few none = absurd (omega (arith, few))
+to-past stops (suc m) (suc rest) t few none =
+    let u : State = (step t).state in
+    let behind : (i : ℕ) → (run (suc i) t).state ≡ (run i u).state = λ i. ap (λ (x : Stepped). x.state) (run-suc i t) in
+    let first : is_end stops u ≡ false = sym (ap (λ (x : Stepped). is_end stops x.state) (run-one t)) ∙ none 1 (omega arith) (omega arith) in
+    let more = to-past stops m rest u (omega (arith, few)) (λ i some le. sym (ap (is_end stops) (behind i)) ∙ none (suc i) (omega arith) (omega (arith, le))) in
+    let less : rest - m ≡ suc rest - suc m = omega arith in
+    let same : steps_to stops (rest - m) (run m u).state ≡ steps_to stops (suc rest - suc m) (run (suc m) t).state = λ j. steps_to stops (less j) (sym (behind m) j) in
+    omega (arith, to-further stops rest t first, more, same)
 
-    module _ (few : taken < most) where
-      one-more : most - taken ≡ suc (most - (taken + 1))
-      one-more = omega (arith, few)
+module _ (stops : List ℕ) (most taken m : ℕ) (s t : State) (state : t ≡ (run taken s).state) where
+  pub next-state : (run m t).state ≡ (run (taken + m) s).state
+  next-state = ap (λ z. (run m z).state) state ∙ sym (ap (λ (x : Stepped). x.state) (run-more taken m s))
 
-      pub told-here : is_end stops (step t).state ≡ true → steps_to stops most s ≡ taken + 1
-      told-here is = (let one = ap (λ n. steps_to stops n t) one-more ∙ to-here stops (most - (taken + 1)) t is in omega (arith, told, one))
+  pub next-bytes : (run taken s).bytes ++ (run m t).bytes ≡ (run (taken + m) s).bytes
+  next-bytes = ap (λ z. (run taken s).bytes ++ (run m z).bytes) state ∙ sym (ap (λ (x : Stepped). x.bytes) (run-more taken m s))
 
-      pub told-further : is_end stops (step t).state ≡ false → steps_to stops most s ≡ taken + 1 + steps_to stops (most - (taken + 1)) (step t).state
-      told-further is = (let one = ap (λ n. steps_to stops n t) one-more ∙ to-further stops (most - (taken + 1)) t is in omega (arith, told, one))
+  module _ (told : steps_to stops most s ≡ taken + steps_to stops (most - taken) t) (some : 0 < m) (few : m ≤ most - taken) (none : (i : ℕ) → 0 < i → i < m → is_end stops (run i t).state ≡ false) where
+    -- all but the last
+    but_last : steps_to stops (most - taken) t ≡ m - 1 + steps_to stops (most - taken - (m - 1)) (run (m - 1) t).state
+    but_last = to-past stops (m - 1) (most - taken) t (omega (arith, few)) (λ i positive le. none i positive (omega (arith, some, le)))
+
+    pub told-some : taken + m ≤ steps_to stops most s
+    told-some = omega (arith, told, but_last, some, to-some stops (most - taken - (m - 1)) (run (m - 1) t).state (omega (arith, some, few)))
+
+    pub told-here : is_end stops (run m t).state ≡ true → steps_to stops most s ≡ taken + m
+    told-here is =
+        let u : State = (run (m - 1) t).state in
+        let all : m - 1 + 1 ≡ m = omega (arith, some) in
+        let there : (step u).state ≡ (run m t).state =
+        sym (ap (λ (x : Stepped). x.state) (run-one u)) ∙ sym (ap (λ (x : Stepped). x.state) (run-more (m - 1) 1 t)) ∙ ap (λ n. (run n t).state) all in
+        let left : most - taken - (m - 1) ≡ suc (most - taken - m) = omega (arith, some, few) in
+        let one = ap (λ n. steps_to stops n u) left ∙ to-here stops (most - taken - m) u (ap (is_end stops) there ∙ is) in
+        omega (arith, told, but_last, one, some)
+
+    pub told-further : is_end stops (run m t).state ≡ false → steps_to stops most s ≡ taken + m + steps_to stops (most - (taken + m)) (run m t).state
+    told-further is =
+        let past = to-past stops m (most - taken) t few (λ i positive le. elim (cases_lt i m) [
+          | inl low ↦ none i positive low
+          | inr high ↦ (let same : i ≡ m = omega (arith, le, high) in ap (λ n. is_end stops (run n t).state) same ∙ is)
+        ]) in
+        let left = ap (λ n. steps_to stops n (run m t).state) (let less : most - taken - m ≡ most - (taken + m) = omega arith in less) in
+        omega (arith, told, past, left)
+
+pub told-end : (stops : List ℕ) (most taken : ℕ) (s t : State) → steps_to stops most s ≡ taken + steps_to stops (most - taken) t → taken ≡ most → steps_to stops most s ≡ taken
+told-end stops most taken s t told all =
+    let none : most - taken ≡ 0 = omega (arith, all) in
+    let no-more : steps_to stops (most - taken) t ≡ 0 = ap (λ n. steps_to stops n t) none in
+    omega (arith, told, no-more)
+
+-- ---- steps that met no breakpoint
+
+unmet-between : (g n h : Bool) → (g && h) ≡ false → (g && n && h) ≡ false
+unmet-between true true h unmet = unmet
+unmet-between true false h unmet = refl
+unmet-between false n h unmet = refl
+
+unmet-at : (stops : List ℕ) (t : State) → is_met stops t ≡ false → is_at stops t ≡ false
+unmet-at stops (Bare m) unmet = unmet-between true (not (m.regs.pc == 0)) (has_breakpoint m.regs.pc stops) unmet
+unmet-at stops (Full k) unmet = unmet-between (is_guest_id k.lists.running) (not (k.regs.pc == 0)) (has_breakpoint k.regs.pc stops) unmet
+
+-- no run ends before the last of them
+pub unended : (stops : List ℕ) (m : ℕ) (t : State) → Avoids stops m t → stop_of (run (m - 1) t).state ≡ None → (i : ℕ) → 0 < i → i < m → is_end stops (run i t).state ≡ false
+unended stops m t unmet goes i some less =
+    let all : i + (m - 1 - i) ≡ m - 1 = omega (arith, less) in
+    let later : stop_of (run (m - 1 - i) (run i t).state).state ≡ None = sym (ap (λ (x : Stepped). stop_of x.state) (run-more i (m - 1 - i) t)) ∙ ap (λ n. stop_of (run n t).state) all ∙ goes in
+    ap (λ o. is_some o || is_at stops (run i t).state) (went-on (m - 1 - i) (run i t).state later) ∙ unmet-at stops (run i t).state (unmet i some less)

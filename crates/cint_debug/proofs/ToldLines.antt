@@ -2,7 +2,7 @@
 use Rattle.std.proofs.Common.{◌≡◌, ℕ, ◌+◌, ◌++◌, min, Option, None, List, [], ◌∷◌, Result, Ok, Err, refl, sym, ap, ◌∙◌, subst, arith}
 use Rattle.std.proofs.lemmas.List.{append_assoc, append-nil}
 use Rattle.std.specs.Option.{option_map}
-use Rattle.tripos_machine.specs.State.{State, steps_of}
+use Rattle.machine_history.specs.TriposMachine.State.{State, steps_of}
 use Rattle.tp_io.specs.Pending.{IsCut, IsGathered}
 use Rattle.tp_io.proofs.GatheredTexts.{IsCut-more, IsCut-then, IsGathered-nothing, IsGathered-then}
 use Rattle.cint_debug.specs.declared.limits.Limits.{Limits}

@@ -1,13 +1,10 @@
 -- The addresses at which a run is to stop, each once, in the order in which they came.
 use Rattle.std.specs.Prelude.{ℕ, ◌==◌, ◌&&◌, Bool, not, if◌then◌else◌, List, [], ◌∷◌, ◌++◌, filter, length, nat_le}
-use Rattle.std.specs.List.{list_any}
+use Rattle.machine_history.specs.TriposMachine.CintExec.Breakpoints.{has_breakpoint}
 
 -- so many at most
 abbrev pub most_breakpoints : ℕ
 most_breakpoints = 16
-
-abbrev pub has_breakpoint : ℕ → List ℕ → Bool
-has_breakpoint a stops = list_any (λ b. b == a) stops
 
 -- there is no room for one more that is not there
 abbrev pub is_full_for : ℕ → List ℕ → Bool

@@ -2,8 +2,8 @@
 use Rattle.std.specs.Prelude.{ℕ, zero, suc, ◌≡◌, ◌+◌, ◌-◌, ◌≤◌, min, if◌then◌else◌, is_some, nat_lt, List, [], ◌∷◌, ◌++◌, Option, Result, Ok, Err, codes, length, unwrap_or}
 use Rattle.std.specs.Option.{option_map}
 use Rattle.machine_history.specs.Pasts.{past_back, remembered, state_back}
-use Rattle.tripos_machine.specs.State.{State, regs_of, running_of, steps_of, stop_of, words_of}
-use Rattle.tripos_machine.specs.Step.{run, step}
+use Rattle.machine_history.specs.TriposMachine.State.{State, regs_of, running_of, steps_of, stop_of, words_of}
+use Rattle.machine_history.specs.TriposMachine.Step.{run, step}
 use Rattle.cint_debug.specs.declared.limits.Limits.{Limits}
 use Rattle.cint_debug.specs.declared.orders.BadLine.{BadLine}
 use Rattle.cint_debug.specs.declared.orders.Order.{Order}

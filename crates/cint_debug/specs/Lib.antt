@@ -7,3 +7,4 @@ pub mod Debugged
 pub mod Runs
 -- shown to the crates above
 pub use Rattle.machine_history.specs as MachineHistory
+pub use Rattle.machine_history.specs.TriposMachine

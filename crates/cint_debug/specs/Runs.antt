@@ -1,9 +1,9 @@
 -- How steps and lines of the debugger end.
 use Rattle.std.specs.Prelude.{ℕ, ◌≡◌, ◌≤◌, ◌⊎◌, List, Some, Result, Ok, Err}
-use Rattle.tripos_machine.specs.KernelCalls.KernelModel.Ranges.{most_steps}
+use Rattle.machine_history.specs.TriposMachine.KernelCalls.KernelModel.Ranges.{most_steps}
 use Rattle.machine_history.specs.Pasts.{state_back}
-use Rattle.tripos_machine.specs.State.{State, steps_of}
-use Rattle.tripos_machine.specs.Step.{run}
+use Rattle.machine_history.specs.TriposMachine.State.{State, steps_of}
+use Rattle.machine_history.specs.TriposMachine.Step.{run}
 use Rattle.cint_debug.specs.declared.limits.Limits.{Limits}
 use Rattle.cint_debug.specs.Debugged.{Debugging, HasDebugged, Told, past_of, steps_left}
 

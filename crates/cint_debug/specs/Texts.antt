@@ -7,15 +7,15 @@ use Rattle.word_store.specs.Arithmetic.{signed}
 use Rattle.word_store.specs.Bytes.{byte_at}
 use Rattle.word_store.specs.declared.registers.Regs.{Regs}
 use Rattle.listing_law.specs.CintDisasm.HunkListing.{lines_from}
-use Rattle.tripos_machine.specs.KernelCalls.GetvecChain.declared.pieces.Block.{Block}
-use Rattle.tripos_machine.specs.KernelCalls.KernelModel.BlockUse.{use_of}
-use Rattle.tripos_machine.specs.KernelCalls.KernelModel.Lists.{Lists}
-use Rattle.tripos_machine.specs.KernelCalls.KernelModel.declared.uses.Use.{Use}
-use Rattle.tripos_machine.specs.KernelCalls.KernelModel.declared.uses.Use.TheVariants.{Free, OfCoroutine, OfModule, OfResidents, OfTask, User}
-use Rattle.tripos_machine.specs.KernelCalls.PacketQueue.QueueWords.{QueuedPacket}
-use Rattle.tripos_machine.specs.ShellListings.TaskLines.{task_lines}
-use Rattle.tripos_machine.specs.State.{State, regs_of, running_of, steps_of, stop_of}
-use Rattle.tripos_machine.specs.State.State.{Bare, Full}
+use Rattle.machine_history.specs.TriposMachine.KernelCalls.GetvecChain.declared.pieces.Block.{Block}
+use Rattle.machine_history.specs.TriposMachine.KernelCalls.KernelModel.BlockUse.{use_of}
+use Rattle.machine_history.specs.TriposMachine.KernelCalls.KernelModel.Lists.{Lists}
+use Rattle.machine_history.specs.TriposMachine.KernelCalls.KernelModel.declared.uses.Use.{Use}
+use Rattle.machine_history.specs.TriposMachine.KernelCalls.KernelModel.declared.uses.Use.TheVariants.{Free, OfCoroutine, OfModule, OfResidents, OfTask, User}
+use Rattle.machine_history.specs.TriposMachine.KernelCalls.PacketQueue.QueueWords.{QueuedPacket}
+use Rattle.machine_history.specs.TriposMachine.ShellListings.TaskLines.{task_lines}
+use Rattle.machine_history.specs.TriposMachine.State.{State, regs_of, running_of, steps_of, stop_of}
+use Rattle.machine_history.specs.TriposMachine.State.State.{Bare, Full}
 use Rattle.cint_debug.specs.Views.{device_queue, task_queue}
 
 -- ---- where a machine stands

@@ -1,15 +1,15 @@
 -- What is looked at in a machine of either kind.
 use Rattle.std.specs.Prelude.{ℕ, ◌≡◌, ◌==◌, ◌&&◌, ◌||◌, Bool, true, not, if◌then◌else◌, is_some, Option, Some, None, List, [], ◌∷◌}
-use Rattle.tripos_machine.specs.KernelCalls.KernelModel.Lists.{Lists}
-use Rattle.tripos_machine.specs.KernelCalls.KernelModel.Task.{Task, is_guest_id}
-use Rattle.tripos_machine.specs.KernelCalls.KernelModel.Recovered.{packets_at}
-use Rattle.tripos_machine.specs.KernelCalls.PacketCalls.QueueWords.{head_of}
-use Rattle.tripos_machine.specs.KernelCalls.PacketCalls.declared.queues.Queue.{Queue}
-use Rattle.tripos_machine.specs.KernelCalls.PacketQueue.Queue.{HasQueue}
-use Rattle.tripos_machine.specs.KernelCalls.PacketQueue.QueueWords.{QueuedPacket}
-use Rattle.tripos_machine.specs.State.{State, regs_of, stop_of}
-use Rattle.tripos_machine.specs.State.State.{Bare, Full}
-use Rattle.cint_debug.specs.Breakpoints.{has_breakpoint}
+use Rattle.machine_history.specs.TriposMachine.CintExec.Breakpoints.{has_breakpoint}
+use Rattle.machine_history.specs.TriposMachine.KernelCalls.KernelModel.Lists.{Lists}
+use Rattle.machine_history.specs.TriposMachine.KernelCalls.KernelModel.Task.{Task, is_guest_id}
+use Rattle.machine_history.specs.TriposMachine.KernelCalls.KernelModel.Recovered.{packets_at}
+use Rattle.machine_history.specs.TriposMachine.KernelCalls.PacketCalls.QueueWords.{head_of}
+use Rattle.machine_history.specs.TriposMachine.KernelCalls.PacketCalls.declared.queues.Queue.{Queue}
+use Rattle.machine_history.specs.TriposMachine.KernelCalls.PacketQueue.Queue.{HasQueue}
+use Rattle.machine_history.specs.TriposMachine.KernelCalls.PacketQueue.QueueWords.{QueuedPacket}
+use Rattle.machine_history.specs.TriposMachine.State.{State, regs_of, stop_of}
+use Rattle.machine_history.specs.TriposMachine.State.State.{Bare, Full}
 
 -- whether a guest is the next to do something; on a machine without a kernel every instruction is a guest's
 abbrev pub is_guest_next : State → Bool

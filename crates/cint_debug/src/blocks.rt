@@ -2,13 +2,13 @@
 ghost use Rattle.std.specs.Prelude.{◌≡◌, ◌<◌, ◌+◌, ◌^◌};
 ghost use Rattle.tp_io.specs.Pending.{Gathers};
 ghost use Rattle.tp_io.specs.Write.{HasCause};
-ghost use Rattle.tripos_machine.specs.KernelCalls.KernelModel.HoldsLists.{HoldsLists};
-ghost use Rattle.tripos_machine.specs.KernelCalls.KernelModel.Lists.{Lists};
+ghost use Rattle.machine_history.specs.TriposMachine.KernelCalls.KernelModel.HoldsLists.{HoldsLists};
+ghost use Rattle.machine_history.specs.TriposMachine.KernelCalls.KernelModel.Lists.{Lists};
 ghost use Rattle.cint_debug.specs.Texts.{block_line, block_lines, blocks_text, use_name};
 
+use machine_history::{Block, Machine, Use, blocks, use_of};
 use tp_io::Piece::{Decimal, Text};
 use tp_io::{Output, Sink, SinkFault, gather_pieces};
-use tripos_machine::{Block, Machine, Use, blocks, use_of};
 use word_store::Store;
 
 /// Gathers a line for each block, in rising order; none on a machine without a kernel.

@@ -1,8 +1,10 @@
 // The addresses at which a run is to stop.
-ghost use Rattle.std.specs.Prelude.{◌≡◌, ◌==◌, ◌≤◌, [], length};
-ghost use Rattle.cint_debug.specs.Breakpoints.{has_breakpoint, is_full_for, most_breakpoints, with_breakpoint, without_breakpoint};
+ghost use Rattle.std.specs.Prelude.{◌≡◌, ◌≤◌, [], length};
+ghost use Rattle.machine_history.specs.TriposMachine.CintExec.Breakpoints.{has_breakpoint};
+ghost use Rattle.cint_debug.specs.Breakpoints.{is_full_for, most_breakpoints, with_breakpoint, without_breakpoint};
 
 use arrayvec::ArrayVec;
+use machine_history::has_breakpoint;
 use std::marker::Model;
 
 /// At most 16 byte addresses, each once.
@@ -29,18 +31,18 @@ impl Breakpoints {
         }
     }
 
-    /// Whether there are none.
-    pub fn is_empty(&self) -> bool
-        ensures { result ≡ (length self.now == 0) }
+    /// The addresses, lent.
+    pub fn as_slice(&self) -> &[u32]
+        ensures { result.now ≡ self.now }
     {
-        self.addresses.is_empty()
+        self.addresses.as_slice()
     }
 
     /// Whether the address is one of them.
     pub fn has(&self, a: u32) -> bool
         ensures { result ≡ has_breakpoint a self.now }
     {
-        self.addresses.as_slice().iter().any(|b| *b == a)
+        has_breakpoint(a, self.as_slice())
     }
 
     /// Adds the address, if it is none of them and there is room. The answer is whether there was none for it.

@@ -5,9 +5,9 @@ ghost use Rattle.hunk_text.specs.TextReader.Lines.{lines_of};
 ghost use Rattle.machine_history.specs.Pasts.{now_of, past_back, state_back};
 ghost use Rattle.tp_io.specs.Pending.{Gathers};
 ghost use Rattle.tp_io.specs.Write.{HasCause};
-ghost use Rattle.tripos_machine.specs.KernelCalls.KernelModel.Ranges.{most_steps};
-ghost use Rattle.tripos_machine.specs.State.{steps_of, stop_of};
-ghost use Rattle.tripos_machine.specs.Step.{run};
+ghost use Rattle.machine_history.specs.TriposMachine.KernelCalls.KernelModel.Ranges.{most_steps};
+ghost use Rattle.machine_history.specs.TriposMachine.State.{steps_of, stop_of};
+ghost use Rattle.machine_history.specs.TriposMachine.Step.{run};
 ghost use Rattle.cint_debug.specs.Debugged.{Debugging, HasDebugged, debugged, fewer_text, line_obeyed, obeyed, past_after, steps_left, steps_text, steps_to};
 ghost use Rattle.cint_debug.specs.Orders.{order_of};
 ghost use Rattle.cint_debug.specs.OrderLines.{is_back};
@@ -22,9 +22,8 @@ use crate::places::{gather_place, gather_return};
 use crate::runs::{is_end, steps_left};
 use crate::sessions::obey;
 use hunk_text::split_line;
-use machine_history::History;
+use machine_history::{History, Machine};
 use tp_io::{Output, Sink, SinkFault, gather};
-use tripos_machine::Machine;
 
 /// Does what the lines ask for, as `debug` does, and `BACK n` undoes at most n of the steps that were taken in this call: as many as
 /// the history keeps, which is that of the machine and begins with it. The budget is of the steps taken, less those that were undone,

@@ -1,7 +1,7 @@
 // Laws of what lines ask for, and of how far a run goes.
 ghost use Rattle.std.specs.Prelude.{◌≡◌, ◌<◌, ◌≤◌, ℕ, List, Ok, Err, false, true, if◌then◌else◌};
-ghost use Rattle.tripos_machine.specs.State.{State};
-ghost use Rattle.tripos_machine.specs.Step.{run};
+ghost use Rattle.machine_history.specs.TriposMachine.State.{State};
+ghost use Rattle.machine_history.specs.TriposMachine.Step.{run};
 ghost use Rattle.cint_debug.specs.declared.orders.Order.{Order};
 ghost use Rattle.cint_debug.specs.Debugged.{steps_to};
 ghost use Rattle.cint_debug.specs.Orders.{Asks, bad, is_in_range, order_of};

@@ -23,4 +23,6 @@ pub use sessions::debug;
 pub use words::gather_word;
 
 // Shown to the crates above.
-pub use machine_history::History;
+pub use machine_history::{
+    BootEnd, EventLog, History, KernelEvent, ListLog, Machine, NoLog, Pipes, SinkLog, Stop, boot,
+};

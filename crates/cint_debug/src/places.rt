@@ -2,12 +2,12 @@
 ghost use Rattle.std.specs.Prelude.{◌≡◌, ◌≤◌, ◌++◌, [], codes, if◌then◌else◌};
 ghost use Rattle.tp_io.specs.Pending.{Gathers};
 ghost use Rattle.tp_io.specs.Write.{HasCause};
-ghost use Rattle.tripos_machine.specs.State.{regs_of, running_of, steps_of};
+ghost use Rattle.machine_history.specs.TriposMachine.State.{regs_of, running_of, steps_of};
 ghost use Rattle.cint_debug.specs.Texts.{at_line, place_text, registers_line};
 
+use machine_history::Machine;
 use tp_io::Piece::{Decimal, Text};
 use tp_io::{Output, Sink, SinkFault, gather, gather_pieces};
-use tripos_machine::Machine;
 
 /// Gathers where the machine stands: the steps since it had taken the first ones, PC, and the task that runs; or that it has stopped.
 pub(crate) fn gather_place<K: Sink>(

@@ -3,19 +3,19 @@ ghost use Rattle.std.specs.Prelude.{◌≡◌, None, List, Option};
 ghost use Rattle.std.specs.Option.{option_map};
 ghost use Rattle.tp_io.specs.Pending.{Gathers};
 ghost use Rattle.tp_io.specs.Write.{HasCause};
-ghost use Rattle.tripos_machine.specs.KernelCalls.KernelModel.HoldsLists.{HoldsLists};
-ghost use Rattle.tripos_machine.specs.KernelCalls.KernelModel.Lists.{Lists};
-ghost use Rattle.tripos_machine.specs.KernelCalls.KernelModel.Recovered.{packet_in, packets_at};
-ghost use Rattle.tripos_machine.specs.KernelCalls.PacketQueue.Queue.{HasQueue};
-ghost use Rattle.tripos_machine.specs.KernelCalls.PacketQueue.QueueWords.{QueuedPacket};
-ghost use Rattle.tripos_machine.specs.KernelCalls.TaskBlock.TaskChain.{HasTasks, task_with, tasks_in};
+ghost use Rattle.machine_history.specs.TriposMachine.KernelCalls.KernelModel.HoldsLists.{HoldsLists};
+ghost use Rattle.machine_history.specs.TriposMachine.KernelCalls.KernelModel.Lists.{Lists};
+ghost use Rattle.machine_history.specs.TriposMachine.KernelCalls.KernelModel.Recovered.{packet_in, packets_at};
+ghost use Rattle.machine_history.specs.TriposMachine.KernelCalls.PacketQueue.Queue.{HasQueue};
+ghost use Rattle.machine_history.specs.TriposMachine.KernelCalls.PacketQueue.QueueWords.{QueuedPacket};
+ghost use Rattle.machine_history.specs.TriposMachine.KernelCalls.TaskBlock.TaskChain.{HasTasks, task_with, tasks_in};
 ghost use Rattle.cint_debug.specs.Texts.{device_queue_text, packet_line, packet_lines, queue_text, task_queue_text};
 ghost use Rattle.cint_debug.specs.Views.{Leads, device_queue};
 
+use machine_history::numbers::{KIND, SENDER};
+use machine_history::{Machine, Queue, find, head, packets};
 use tp_io::Piece::{Decimal, Signed, Text};
 use tp_io::{Output, Sink, SinkFault, gather, gather_pieces};
-use tripos_machine::numbers::{KIND, SENDER};
-use tripos_machine::{Machine, Queue, find, head, packets};
 use word_store::{Store, signed, word_at};
 
 /// Gathers the packets of the queue of the task with the number.

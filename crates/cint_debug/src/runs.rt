@@ -1,10 +1,10 @@
 // Steps of a machine that is debugged.
-ghost use Rattle.std.specs.Prelude.{◌≡◌, ◌+◌, ◌≤◌, min};
+ghost use Rattle.std.specs.Prelude.{◌≡◌, ◌+◌, ◌<◌, ◌≤◌, None, min};
 ghost use Rattle.tp_io.specs.Pending.{Gathers};
 ghost use Rattle.tp_io.specs.Write.{HasCause};
-ghost use Rattle.tripos_machine.specs.KernelCalls.KernelModel.Ranges.{most_steps};
-ghost use Rattle.tripos_machine.specs.State.{steps_of};
-ghost use Rattle.tripos_machine.specs.Step.{run};
+ghost use Rattle.machine_history.specs.TriposMachine.KernelCalls.KernelModel.Ranges.{most_steps};
+ghost use Rattle.machine_history.specs.TriposMachine.State.{steps_of, stop_of};
+ghost use Rattle.machine_history.specs.TriposMachine.Step.{run};
 ghost use Rattle.cint_debug.specs.Debugged.{steps_left, steps_text, steps_to};
 ghost use Rattle.cint_debug.specs.Runs.{EndsSteps, IsWithin};
 ghost use Rattle.cint_debug.specs.Views.{is_at, is_end, is_guest_next};
@@ -12,9 +12,9 @@ ghost use Rattle.cint_debug.specs.Views.{is_at, is_end, is_guest_next};
 use crate::breakpoints::Breakpoints;
 use crate::limits::Limits;
 use crate::places::gather_place;
+use machine_history::numbers::FIRST_GUEST;
+use machine_history::{Machine, NoLog};
 use tp_io::{Output, Sink, SinkFault, gather};
-use tripos_machine::numbers::FIRST_GUEST;
-use tripos_machine::{Machine, NoLog};
 
 /// Takes at most so many steps, and gathers their console bytes, and where the machine stands then.
 pub(crate) fn step<K: Sink>(
@@ -84,20 +84,17 @@ fn take_steps_to<K: Sink>(
     out: &mut K,
     pending: &mut Output,
 ) -> Result<(), SinkFault>
-    requires { steps_of machine.old.state + most ≤ most_steps }
+    requires steps { steps_of machine.old.state + most ≤ most_steps }
+    requires goes { 0 < most → stop_of machine.old.state ≡ None }
     ensures state { EndsSteps (steps_to stops.now most machine.old.state) most
         machine.old.state machine.new.state result }
     ensures text { Gathers (K.holds out.old) (K.holds out.new) pending.old pending.new
         (run (steps_to stops.now most machine.old.state) machine.old.state).bytes result }
     ensures cause { HasCause (K.faults out.old) (K.faults out.new) result }
 {
-    if stops.is_empty() {
-        return take_steps(machine, most, out, pending);
-    }
     let mut taken = 0;
     while taken < most {
-        machine.step(&mut NoLog);
-        taken += 1;
+        taken += machine.advance(most - taken, stops.as_slice(), &mut NoLog);
         gather(out, pending, machine.output())?;
         if is_end(machine, stops) {
             return Ok(());

@@ -3,8 +3,8 @@ ghost use Rattle.std.specs.Prelude.{◌≡◌, ◌+◌, ◌≤◌, ◌++◌, [],
 ghost use Rattle.hunk_text.specs.TextReader.Lines.{lines_of};
 ghost use Rattle.tp_io.specs.Pending.{Gathers};
 ghost use Rattle.tp_io.specs.Write.{HasCause};
-ghost use Rattle.tripos_machine.specs.KernelCalls.KernelModel.Ranges.{most_steps};
-ghost use Rattle.tripos_machine.specs.State.{steps_of};
+ghost use Rattle.machine_history.specs.TriposMachine.KernelCalls.KernelModel.Ranges.{most_steps};
+ghost use Rattle.machine_history.specs.TriposMachine.State.{steps_of};
 ghost use Rattle.cint_debug.specs.Breakpoints.{with_breakpoint};
 ghost use Rattle.cint_debug.specs.Debugged.{Debugging, HasDebugged, debugged, fewer_text, full_text, line_obeyed, obeyed};
 ghost use Rattle.cint_debug.specs.OrderLines.{takes_steps};
@@ -24,8 +24,8 @@ use crate::runs::{go_on, step};
 use crate::tasks::gather_tasks;
 use crate::words::gather_words;
 use hunk_text::split_line;
+use machine_history::Machine;
 use tp_io::{Output, Sink, SinkFault, gather};
-use tripos_machine::Machine;
 
 /// Does what the lines ask for, one after another, and gathers what they write. All together take at most `budget` steps. A line that
 /// asks for nothing does nothing. `SinkFault` comes only where the sink's count of faults rose; then a prefix is written. In either

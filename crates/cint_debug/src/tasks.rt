@@ -3,8 +3,8 @@ ghost use Rattle.tp_io.specs.Pending.{Gathers};
 ghost use Rattle.tp_io.specs.Write.{HasCause};
 ghost use Rattle.cint_debug.specs.Texts.{tasks_text};
 
+use machine_history::{Machine, write_tasks};
 use tp_io::{Output, Sink, SinkFault, gather};
-use tripos_machine::{Machine, write_tasks};
 
 /// Gathers the line of each task, as the shell lists them; none on a machine without a kernel.
 pub(crate) fn gather_tasks<K: Sink>(

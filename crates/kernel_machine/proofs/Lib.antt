@@ -14,4 +14,6 @@ pub mod QuietParts
 pub mod QuietSpan
 pub mod UncountedSteps
 pub mod RunParts
+pub mod MetBreakpoints
+pub mod PlainSteps
 pub mod Shown

@@ -46,11 +46,11 @@ module _ (p : Parts) (stop : Option Stop) (w : IsWhole p stop) (goes : (kernel_o
   pub not-stopped : stop ≡ None
   not-stopped = stopped-now p stop w ∙ goes
 
-  module _ (n : ℕ) (q : Parts) (h : HasPassed n (kernel_of p None) q) where
-    -- the same kernel
-    here : kernel_of p None ≡ kernel_of p stop
-    here = ap (kernel_of p) (sym not-stopped)
+  -- the same kernel
+  pub here : kernel_of p None ≡ kernel_of p stop
+  here = ap (kernel_of p) (sym not-stopped)
 
+  module _ (n : ℕ) (q : Parts) (h : HasPassed n (kernel_of p None) q) where
     ends-none : (run n (kernel_of p None)).kernel.stop ≡ stop
     ends-none = h.goes ∙ sym not-stopped
 

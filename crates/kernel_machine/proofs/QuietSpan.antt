@@ -92,6 +92,10 @@ module _ (p : Parts) (w : IsWhole p None) where
       passed-by m now (passed m now) (counted m p) (idle-run m (image now) now (valid-ready now w.valid (stop-of p None)) none q) (stands-counted p now w.stands m)
       (idle-valid m now w.valid (stop-of p None) none (omega (arith, few, w.stands.steps)) q) (stop-of p None)
 
+  -- nobody runs behind them
+  pub idle-behind : (m : ℕ) → now.lists.running ≡ 0 → IsQuietFor m now → (run m now).kernel.lists.running ≡ 0
+  idle-behind m none q = ap (λ (x : Stepped). x.kernel.lists.running) (idle-run m (image now) now (valid-ready now w.valid (stop-of p None)) none q) ∙ none
+
 -- ---- a guest runs
 
 -- so they are before the first one

@@ -18,7 +18,7 @@ run-first k = refl
 and-quietly : (x : Stepped) → and_then x quietly ≡ x
 and-quietly x = λ i. record { kernel = x.kernel; bytes = append-nil x.bytes i; events = append-nil x.events i }
 
-run-one : (k : Kernel) → run 1 k ≡ step k
+pub run-one : (k : Kernel) → run 1 k ≡ step k
 run-one k =
     run-first k ∙ ap (λ (y : Stepped). record { kernel = y.kernel; bytes = (step k).bytes ++ y.bytes; events = (step k).events ++ y.events }) (run-zero (step k).kernel)
     ∙ and-quietly (step k)

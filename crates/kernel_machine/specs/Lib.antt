@@ -2,6 +2,7 @@ pub mod Stands
 pub mod Leaves
 pub mod Machine
 pub mod Runs
+pub mod PlainSteps
 pub mod Script
 -- shown to the crates above
 pub use Rattle.kernel_steps.specs.KernelCalls

@@ -1,5 +1,6 @@
 -- How far a run has come.
-use Rattle.std.specs.Prelude.{◌≡◌, ◌<◌, ◌+◌, ◌-◌, ◌/◌, ◌⊎◌, ℕ, true, None, [], slice_set}
+use Rattle.std.specs.Prelude.{◌≡◌, ◌<◌, ◌+◌, ◌-◌, ◌/◌, ◌⊎◌, ◌&&◌, ℕ, Bool, true, false, List, None, [], slice_set}
+use Rattle.cint_exec.specs.Breakpoints.{has_breakpoint}
 use Rattle.kernel_steps.specs.KernelCalls.TaskBlock.RootWords.{root_address}
 use Rattle.kernel_steps.specs.KernelCalls.TaskBlock.declared.roots.RootField.TheVariants.{Tick}
 use Rattle.kernel_steps.specs.KernelCalls.KernelModel.Kernel.{Kernel}
@@ -25,6 +26,14 @@ pub record HasPassed (n : ℕ) (k : Kernel) (p : Parts) : Type 0 where
 pub record IsQuietButLast (n : ℕ) (k : Kernel) : Type 0 where
   pub quiet : run (n - 1) k ≡ quietly (run (n - 1) k).kernel
   pub goes : (run (n - 1) k).kernel.stop ≡ None
+
+-- the running guest's next instruction is at one of these byte addresses
+abbrev pub is_met : List ℕ → Kernel → Bool
+is_met breakpoints k = is_guest_id k.lists.running && has_breakpoint k.regs.pc breakpoints
+
+-- between the first and the last of n steps none is met
+abbrev pub Avoids : List ℕ → ℕ → Kernel → Type 0
+Avoids breakpoints n k = (i : ℕ) → 0 < i → i < n → is_met breakpoints (run i k).kernel ≡ false
 
 -- the parts once n steps more are counted, and with them the ticks, in the word of the root
 abbrev pub counted : ℕ → Parts → Parts

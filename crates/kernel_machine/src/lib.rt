@@ -4,6 +4,7 @@
 mod devices;
 pub mod machine;
 pub mod parts;
+mod plain_steps;
 mod residents;
 mod runs;
 pub mod script;
@@ -18,6 +19,6 @@ pub use script::Script;
 // Shown to the crates above.
 pub use kernel_steps::{
     Block, BootRefusal, ByteKinds, ConsoleState, EventLog, KernelEvent, ListLog, NoLog, Pipes,
-    Queue, ShellState, SinkLog, Stop, Tty, Use, blocks, find, head, load_files, make_kernel,
-    make_resident_kernel, numbers, packets, start_tasks, switch, use_of, write_tasks,
+    Queue, RootField, ShellState, SinkLog, Stop, Tty, Use, blocks, find, head, load_files,
+    make_kernel, make_resident_kernel, numbers, packets, start_tasks, switch, use_of, write_tasks,
 };

@@ -1,49 +1,84 @@
 // Several steps of a machine with a kernel.
-ghost use Rattle.std.specs.Prelude.{◌≡◌, ◌<◌, ◌+◌, ◌≤◌, [], None};
+ghost use Rattle.std.specs.Prelude.{◌≡◌, ◌<◌, ◌+◌, ◌≤◌, [], MatchOption, None};
 ghost use Rattle.kernel_steps.specs.KernelCalls.KernelModel.NotedEvents.{NotesAll};
 ghost use Rattle.kernel_steps.specs.KernelCalls.KernelModel.Ranges.{most_steps};
 ghost use Rattle.kernel_steps.specs.Step.{quietly, run};
-ghost use Rattle.kernel_machine.specs.Runs.{IsQuietButLast};
+ghost use Rattle.kernel_machine.specs.PlainSteps.{IsPlainStep};
+ghost use Rattle.kernel_machine.specs.Runs.{Avoids, IsQuietButLast, is_met};
 
 use crate::machine::Machine;
+use crate::plain_steps::execute_one;
 use crate::spans::pass;
+use crate::turns::FIRST_GUEST;
+use cint_exec::{Places, has_breakpoint};
 use kernel_steps::EventLog;
 
 impl Machine {
     /// Takes some steps, at most `most`, of a machine that has not stopped, of which only the last one may write bytes, have events
-    /// or stop the machine. The answer is how many these are. The list of its keys stays.
-    pub fn advance<L: EventLog>(&mut self, most: u64, log: &mut L) -> u64
+    /// or stop the machine. The answer is how many these are: it takes no step behind one that leaves the running guest's next
+    /// instruction at a breakpoint. The list of its keys stays.
+    pub fn advance<L: EventLog>(&mut self, most: u64, breakpoints: &[u32], log: &mut L) -> u64
         requires goes { self.old.kernel.stop ≡ None }
         requires some { 0 < most }
         requires steps { self.old.kernel.steps + most ≤ most_steps }
         ensures some { 0 < result }
         ensures most { result ≤ most }
         ensures last { IsQuietButLast result self.old.kernel }
+        ensures before { Avoids breakpoints.now result self.old.kernel }
         ensures kernel { self.new.kernel ≡ (run result self.old.kernel).kernel }
         ensures output { self.new.output ≡ (run result self.old.kernel).bytes }
         ensures events { NotesAll (L.noted log.old) (L.noted log.new) (L.has_failed log.old)
             (L.has_failed log.new) (run result self.old.kernel).events }
         ensures keys { self.new.keys ≡ self.old.keys }
     {
-        let quiet = self.pass(most);
+        let quiet = self.pass(most, breakpoints);
         if quiet == most {
+            return quiet;
+        }
+        if quiet > 0 && self.is_met(breakpoints) {
             return quiet;
         }
         self.step(log);
         quiet + 1
     }
 
-    // Takes at most `most` steps, of which none shows or notes anything, or stops the machine.
-    fn pass(&mut self, most: u64) -> u64
+    /// Takes one step of a machine that has not stopped, if nothing happens in it but that the running guest executes an
+    /// instruction. The answer tells the words that the instruction may have written: every other one, but that of the ticks, is as
+    /// it was. Else the answer is `None`, and no step is taken. The output is empty, and the list of its keys stays.
+    pub fn execute(&mut self) -> Option<Places>
+        requires goes { self.old.kernel.stop ≡ None }
+        requires steps { self.old.kernel.steps < most_steps }
+        ensures step { MatchOption result (self.new.kernel ≡ self.old.kernel)
+            (λ p. IsPlainStep p self.old.kernel self.new.kernel) }
+        ensures output { self.new.output ≡ [] }
+        ensures keys { self.new.keys ≡ self.old.keys }
+    {
+        self.output.clear();
+        execute_one(&mut self.parts)
+    }
+
+    // Whether the running guest's next instruction is at one of these breakpoints.
+    fn is_met(&self, breakpoints: &[u32]) -> bool
+        ensures { result ≡ is_met breakpoints.now self.now.kernel }
+    {
+        if self.running() < FIRST_GUEST {
+            return false;
+        }
+        has_breakpoint(self.parts.regs.pc, breakpoints)
+    }
+
+    // Takes at most `most` steps, of which none shows or notes anything, or stops the machine, up to a breakpoint.
+    fn pass(&mut self, most: u64, breakpoints: &[u32]) -> u64
         requires goes { self.old.kernel.stop ≡ None }
         requires steps { self.old.kernel.steps + most ≤ most_steps }
         ensures most { result ≤ most }
         ensures quiet { run result self.old.kernel ≡ quietly self.new.kernel }
         ensures goes { self.new.kernel.stop ≡ None }
+        ensures before { Avoids breakpoints.now result self.old.kernel }
         ensures output { self.new.output ≡ [] }
         ensures keys { self.new.keys ≡ self.old.keys }
     {
         self.output.clear();
-        pass(&mut self.parts, most)
+        pass(&mut self.parts, most, breakpoints)
     }
 }

@@ -4,27 +4,29 @@ ghost use Rattle.kernel_steps.specs.KernelCalls.KernelModel.Ranges.{most_steps};
 ghost use Rattle.kernel_steps.specs.KernelCalls.KernelModel.Kernel.{Kernel};
 ghost use Rattle.kernel_steps.specs.KernelCalls.KernelModel.Task.{is_guest_id};
 ghost use Rattle.kernel_steps.specs.Quiet.{AwaitsTick, ComeAfter, IsQuietFor};
+ghost use Rattle.kernel_steps.specs.Step.{run};
 ghost use Rattle.kernel_machine.specs.Machine.{IsWhole, kernel_of};
 ghost use Rattle.kernel_machine.specs.Script.{still_to_come};
-ghost use Rattle.kernel_machine.specs.Runs.{HasNoTick, HasPassed, IsOnWay, ServesNone, counted};
+ghost use Rattle.kernel_machine.specs.Runs.{Avoids, HasNoTick, HasPassed, IsOnWay, ServesNone, counted};
 
 use crate::Parts;
 use crate::turns::{FIRST_GUEST, running};
-use cint_exec::Outcome;
-use kernel_steps::{RootField, execute_next, root, set_root};
+use cint_exec::{Outcome, has_breakpoint};
+use kernel_steps::{RootField, execute_guest, execute_next, root, set_root};
 use word_store::word_at;
 
 /// The word of a packet at the clock that has the tick at which it is due.
 const DUE: u32 = 4;
 
 /// Takes at most `most` steps of a machine that has not stopped, in which nothing happens but that the running task executes
-/// instructions: as many as there are before a device may act, or before the task does something else. The answer is how many
-/// these are.
-pub(crate) fn pass(parts: &mut Parts, most: u64) -> u64
+/// instructions: as many as there are before a device may act, before the task does something else, or up to the first instruction
+/// but the next one that is at a breakpoint. The answer is how many these are.
+pub(crate) fn pass(parts: &mut Parts, most: u64, breakpoints: &[u32]) -> u64
     requires whole { IsWhole parts.old None }
     requires steps { parts.old.step + most ≤ most_steps }
     ensures most { result ≤ most }
     ensures passed { HasPassed result (kernel_of parts.old None) parts.new }
+    ensures before { Avoids breakpoints.now result (kernel_of parts.old None) }
     ensures keys { parts.new.keys.keys ≡ parts.old.keys.keys }
 {
     if serves_now(parts) {
@@ -39,11 +41,11 @@ pub(crate) fn pass(parts: &mut Parts, most: u64) -> u64
     if task < FIRST_GUEST {
         return 0;
     }
-    execute(parts, quiet)
+    execute(parts, quiet, breakpoints)
 }
 
-// Whether the output device or the keyboard has a packet to serve.
-fn serves_now(parts: &Parts) -> bool
+/// Whether the output device or the keyboard has a packet to serve.
+pub(crate) fn serves_now(parts: &Parts) -> bool
     requires { IsWhole parts.now None }
     ensures { result ≡ false → ServesNone (kernel_of parts.now None) }
 {
@@ -56,8 +58,8 @@ fn serves_now(parts: &Parts) -> bool
     parts.tty.at(0).is_some()
 }
 
-// How many steps there are before the next key comes.
-fn before_key(parts: &Parts) -> u64
+/// How many steps there are before the next key comes.
+pub(crate) fn before_key(parts: &Parts) -> u64
     requires { parts.now.step ≤ most_steps }
     ensures { (m : ℕ) → 0 < m → m ≤ result → ComeAfter (parts.now.step + m) (still_to_come parts.now.keys) }
 {
@@ -67,8 +69,8 @@ fn before_key(parts: &Parts) -> u64
     }
 }
 
-// How many steps there are before the clock returns a packet.
-fn before_return(parts: &Parts) -> u64
+/// How many steps there are before the clock returns a packet.
+pub(crate) fn before_return(parts: &Parts) -> u64
     requires { IsWhole parts.now None }
     ensures { (m : ℕ) → m ≤ result
         → AwaitsTick ((parts.now.step + m) / parts.now.period) (kernel_of parts.now None).lists }
@@ -112,24 +114,29 @@ fn wait(parts: &mut Parts, steps: u64)
     }
 }
 
-// Executes at most so many instructions of the running guest, and stops before what is none. The answer is how many it executed.
-fn execute(parts: &mut Parts, most: u64) -> u64
+// Executes at most so many instructions of the running guest, and stops before what is none, and behind one that leads to a
+// breakpoint. The answer is how many it executed.
+fn execute(parts: &mut Parts, most: u64, breakpoints: &[u32]) -> u64
     requires whole { IsWhole parts.old None }
     requires guest { is_guest_id (kernel_of parts.old None).lists.running ≡ true }
     requires quiet { 0 < most → IsQuietFor most (kernel_of parts.old None) }
     requires most { parts.old.step + most ≤ most_steps }
     ensures most { result ≤ most }
     ensures passed { HasPassed result (kernel_of parts.old None) parts.new }
+    ensures before { Avoids breakpoints.now result (kernel_of parts.old None) }
     ensures keys { parts.new.keys.keys ≡ parts.old.keys.keys }
 {
     let mut taken = 0;
     while taken < most {
         let steps = up_to_tick(parts).min(most - taken);
-        let executed = execute_uncounted(parts, steps);
+        let executed = execute_some(parts, steps, breakpoints);
         count(parts, executed);
         taken += executed;
         if executed < steps {
-            break;
+            return taken;
+        }
+        if has_breakpoint(parts.regs.pc, breakpoints) {
+            return taken;
         }
     }
     taken
@@ -146,8 +153,27 @@ fn up_to_tick(parts: &Parts) -> u64
 }
 
 // Executes at most so many instructions of the running guest, of which the clock ticks in the last one at most, and stops before
-// what is none. The answer is how many it executed, and they are still to be counted. Why it stopped is not kept, so that the loop
-// has fewer words to carry.
+// what is none, and behind one that leads to a breakpoint. The answer is how many it executed, and they are still to be counted.
+fn execute_some(parts: &mut Parts, most: u64, breakpoints: &[u32]) -> u64
+    requires way { (k : Kernel) × (n : ℕ) × (m : ℕ) × IsOnWay k n m parts.old × (most ≤ m)
+        × (k.steps + (n + m) ≤ most_steps) }
+    requires before { HasNoTick most parts.old }
+    ensures most { result ≤ most }
+    ensures way { (k : Kernel) (n m : ℕ) → IsOnWay k n m parts.old → most ≤ m
+        → k.steps + (n + m) ≤ most_steps
+        → IsOnWay k (n + result) (m - result) (counted result parts.new) }
+    ensures between { (k : Kernel) (n m : ℕ) → IsOnWay k n m parts.old → most ≤ m
+        → k.steps + (n + m) ≤ most_steps
+        → Avoids breakpoints.now result (run n k).kernel }
+    ensures keys { parts.new.keys.keys ≡ parts.old.keys.keys }
+{
+    if breakpoints.is_empty() {
+        return execute_uncounted(parts, most);
+    }
+    execute_to_breakpoint(parts, most, breakpoints)
+}
+
+// The same without breakpoints. Why it stopped is not kept, so that the loop has fewer words to carry.
 #[inline(never)]
 fn execute_uncounted(parts: &mut Parts, most: u64) -> u64
     requires way { (k : Kernel) × (n : ℕ) × (m : ℕ) × IsOnWay k n m parts.old × (most ≤ m)
@@ -168,8 +194,37 @@ fn execute_uncounted(parts: &mut Parts, most: u64) -> u64
     most
 }
 
-// Counts these steps, and with them the ticks.
-fn count(parts: &mut Parts, steps: u64)
+// The same with breakpoints: it stops behind the first instruction that leads to one. An instruction is a call here, so that it
+// stays part of the loop without breakpoints.
+#[inline(never)]
+fn execute_to_breakpoint(parts: &mut Parts, most: u64, breakpoints: &[u32]) -> u64
+    requires way { (k : Kernel) × (n : ℕ) × (m : ℕ) × IsOnWay k n m parts.old × (most ≤ m)
+        × (k.steps + (n + m) ≤ most_steps) }
+    requires before { HasNoTick most parts.old }
+    ensures most { result ≤ most }
+    ensures way { (k : Kernel) (n m : ℕ) → IsOnWay k n m parts.old → most ≤ m
+        → k.steps + (n + m) ≤ most_steps
+        → IsOnWay k (n + result) (m - result) (counted result parts.new) }
+    ensures between { (k : Kernel) (n m : ℕ) → IsOnWay k n m parts.old → most ≤ m
+        → k.steps + (n + m) ≤ most_steps
+        → Avoids breakpoints.now result (run n k).kernel }
+    ensures keys { parts.new.keys.keys ≡ parts.old.keys.keys }
+{
+    for taken in 0..most {
+        match execute_guest(&mut parts.store, &mut parts.regs, &parts.kinds) {
+            Outcome::Next => {
+                if has_breakpoint(parts.regs.pc, breakpoints) {
+                    return taken + 1;
+                }
+            }
+            Outcome::Sys | Outcome::Returned | Outcome::Fault(_) => return taken,
+        }
+    }
+    most
+}
+
+/// Counts these steps, and with them the ticks.
+pub(crate) fn count(parts: &mut Parts, steps: u64)
     requires period { 0 < parts.old.period }
     requires most { parts.old.step + steps ≤ most_steps }
     ensures { parts.new ≡ counted steps parts.old }

@@ -10,5 +10,6 @@ pub use start::boot;
 // Shown to the crates above.
 pub use kernel_machine::{
     Block, ConsoleState, EventLog, KernelEvent, ListLog, Machine, NoLog, Parts, Pipes, Queue,
-    ShellState, SinkLog, Stop, Use, blocks, find, head, numbers, packets, use_of, write_tasks,
+    RootField, ShellState, SinkLog, Stop, Use, blocks, find, head, numbers, packets, use_of,
+    write_tasks,
 };

@@ -11,3 +11,4 @@ pub mod ReturnedHistories
 pub mod KernelMoments
 pub mod StandingParts
 pub mod ReturnedParts
+pub mod Shown

@@ -8,12 +8,13 @@ ghost use Rattle.machine_history.specs.Pasts.{now_of, past_back, remembered, sta
 use crate::files::{KeptFiles, first_files};
 use crate::moments::{Moment, moment_of};
 use crate::returns::{bare_back, full_back};
+use crate::steps::note_step;
 use crate::turns::{is_file_turn, keep_files, make_room};
 use circular_buffer::HeapCircularBuffer;
 use std::alloc::Global;
 use std::marker::Model;
 use tp_io::WantMemory;
-use tripos_machine::{Machine, NoLog, Parts};
+use tripos_machine::{Machine, Parts};
 use undo_journal::Journal;
 
 /// The most states that are kept.
@@ -80,9 +81,8 @@ impl History {
         let moment = moment_of(machine);
         let may_change = is_file_turn(machine);
         make_room(&mut self.journal, &self.files, self.steps, may_change);
-        machine.step(&mut NoLog);
+        note_step(&mut self.journal, machine, moment);
         self.steps += 1;
-        self.journal.note(machine.store(), moment);
         keep_files(&mut self.files, self.steps, may_change, machine);
     }
 

@@ -1,5 +1,6 @@
 pub mod BootedSteps
 pub mod KindRuns
+pub mod PlainSteps
 pub mod RunParts
 pub mod Shown
 pub mod StateRuns

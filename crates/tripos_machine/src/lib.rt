@@ -14,9 +14,10 @@ pub use parts::Parts;
 pub use start::boot;
 
 // Shown to the crates above.
-pub use bare_machine::BareParts;
 pub use bare_machine::boot::BootEnd;
+pub use bare_machine::{BareParts, Places, has_breakpoint};
 pub use machine_boot::{
     Block, ConsoleState, EventLog, KernelEvent, ListLog, NoLog, Parts as KernelParts, Pipes, Queue,
-    ShellState, SinkLog, Stop, Use, blocks, find, head, numbers, packets, use_of, write_tasks,
+    RootField, ShellState, SinkLog, Stop, Use, blocks, find, head, numbers, packets, use_of,
+    write_tasks,
 };

@@ -1,13 +1,14 @@
 // A machine of either kind.
-ghost use Rattle.std.specs.Prelude.{◌≡◌, ◌<◌, ◌+◌, ◌≤◌, [], None, MatchOption};
+ghost use Rattle.std.specs.Prelude.{◌≡◌, ◌<◌, ◌+◌, ◌-◌, ◌≤◌, [], None, MatchOption};
 ghost use Rattle.machine_boot.specs.KernelCalls.KernelModel.NotedEvents.{NotesAll};
 ghost use Rattle.machine_boot.specs.KernelCalls.KernelModel.Ranges.{most_steps};
+ghost use Rattle.tripos_machine.specs.Breakpoints.{Avoids, IsPlainStep};
 ghost use Rattle.tripos_machine.specs.State.{IsBare, IsSound, StandFor, StandsFull, State, keys_of, regs_of, running_of, steps_of, stop_of, words_of};
 ghost use Rattle.tripos_machine.specs.Step.{boot_events, run, step};
 
 use crate::Parts;
 use crate::kinds::Kind;
-use bare_machine::Bare;
+use bare_machine::{Bare, Places};
 use machine_boot::{EventLog, Machine as FullMachine, Parts as FullParts, Stop};
 use std::marker::Model;
 use word_store::{Regs, Store};
@@ -159,9 +160,27 @@ impl Machine {
         }
     }
 
-    /// Takes some steps, at most `most`, of a machine that has not stopped, up to the step that stops it, if there is one. The
-    /// answer is how many these are; the output is what they wrote. The list of its keys stays.
-    pub fn advance<L: EventLog>(&mut self, most: u64, log: &mut L) -> u64
+    /// Takes one step of a machine that has not stopped, if nothing happens in it but that a guest executes an instruction. The answer
+    /// tells where the instruction may have written: every other word but that of the ticks is as it was. Else the answer is `None`,
+    /// and no step is taken. There is no output then, and the list of its keys stays.
+    pub fn execute(&mut self) -> Option<Places>
+        requires goes { stop_of self.old.state ≡ None }
+        requires steps { steps_of self.old.state < most_steps }
+        ensures step { MatchOption result (self.new.state ≡ self.old.state)
+            (λ p. IsPlainStep p self.old.state self.new.state) }
+        ensures output { self.new.output ≡ [] }
+        ensures keys { self.new.keys ≡ self.old.keys }
+    {
+        match &mut self.kind {
+            Kind::Bare(machine) => machine.execute(),
+            Kind::Full(machine) => machine.execute(),
+        }
+    }
+
+    /// Takes some steps, at most `most`, of a machine that has not stopped, up to the step that stops it or the first that leads to a
+    /// breakpoint, if there is one: the byte address of an instruction that a guest executes next. The answer is how many these are;
+    /// the output is what they wrote. The list of its keys stays.
+    pub fn advance<L: EventLog>(&mut self, most: u64, breakpoints: &[u32], log: &mut L) -> u64
         requires goes { stop_of self.old.state ≡ None }
         requires some { 0 < most }
         requires steps { steps_of self.old.state + most ≤ most_steps }
@@ -171,11 +190,13 @@ impl Machine {
         ensures output { self.new.output ≡ (run result self.old.state).bytes }
         ensures events { NotesAll (L.noted log.old) (L.noted log.new) (L.has_failed log.old)
             (L.has_failed log.new) (run result self.old.state).events }
+        ensures last { stop_of (run (result - 1) self.old.state).state ≡ None }
+        ensures before { Avoids breakpoints.now result self.old.state }
         ensures keys { self.new.keys ≡ self.old.keys }
     {
         match &mut self.kind {
-            Kind::Bare(machine) => machine.advance(most),
-            Kind::Full(machine) => machine.advance(most, log),
+            Kind::Bare(machine) => machine.advance(most, breakpoints),
+            Kind::Full(machine) => machine.advance(most, breakpoints, log),
         }
     }
 }

@@ -36,7 +36,7 @@ impl Machine {
             if let Some(stop) = self.stop() {
                 return Ok(stop);
             }
-            taken += self.advance(n - taken, log);
+            taken += self.advance(n - taken, &[], log);
             gather(out, pending, self.output())?;
             if log.failed() {
                 return Err(SinkFault);

@@ -11,8 +11,8 @@ use Rattle.tp_io.proofs.GatheredTexts.{Prints-after}
 use Rattle.hunk_text.specs.TextReader.Refusal.{Refusal}
 use Rattle.session_text.specs.SessionOfText.{session_of}
 use Rattle.session_generator.specs.Generated.{generated}
-use Rattle.tripos_machine.specs.KernelCalls.KernelModel.declared.stops.Stop.{Stop}
-use Rattle.tripos_machine.specs.KernelCalls.KernelModel.declared.stops.Stop.TheVariants.{Steps, Quit, Finish, Fault}
+use Rattle.cint_debug.specs.TriposMachine.KernelCalls.KernelModel.declared.stops.Stop.{Stop}
+use Rattle.cint_debug.specs.TriposMachine.KernelCalls.KernelModel.declared.stops.Stop.TheVariants.{Steps, Quit, Finish, Fault}
 use Rattle.tripos_run.specs.declared.commands.Command.{Command}
 use Rattle.tripos_run.specs.declared.commands.Job.{Job}
 use Rattle.tripos_run.specs.declared.reports.Report.{Report}

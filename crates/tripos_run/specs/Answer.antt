@@ -16,8 +16,8 @@ use Rattle.session_text.specs.SessionOfText.{session_lines, session_of}
 use Rattle.session_text.specs.declared.sessions.Session.{Session}
 use Rattle.session_generator.specs.Generated.{generated}
 use Rattle.session_generator.specs.Summary.{summary}
-use Rattle.tripos_machine.specs.KernelCalls.KernelModel.declared.stops.Stop.{Stop}
-use Rattle.tripos_machine.specs.KernelCalls.KernelModel.declared.stops.Stop.TheVariants.{Steps, Quit, Finish, Fault}
+use Rattle.cint_debug.specs.TriposMachine.KernelCalls.KernelModel.declared.stops.Stop.{Stop}
+use Rattle.cint_debug.specs.TriposMachine.KernelCalls.KernelModel.declared.stops.Stop.TheVariants.{Steps, Quit, Finish, Fault}
 use Rattle.tripos_run.specs.declared.commands.Command.{Command}
 use Rattle.tripos_run.specs.declared.commands.Command.TheVariants.{Run as RunCommand, Dump as DumpCommand, Trace as TraceCommand, Asm as AsmCommand, Disasm as DisasmCommand, Debug as DebugCommand}
 use Rattle.tripos_run.specs.declared.commands.Job.{Job}
@@ -26,12 +26,12 @@ use Rattle.tripos_run.specs.declared.reports.Report.{Report}
 use Rattle.tripos_run.specs.declared.reports.Report.TheVariants.{Console, Events, Sums, Words}
 use Rattle.tripos_run.specs.declared.status.Status.{Status}
 use Rattle.tripos_run.specs.declared.status.Status.TheVariants.{Done, GuestFault, Usage, Refused, NoBoot, ReadFault, WriteFault, TooLong, WantMemory}
-use Rattle.tripos_machine.specs.KernelCalls.PacketQueue.declared.events.KernelEvent.{KernelEvent}
+use Rattle.cint_debug.specs.TriposMachine.KernelCalls.PacketQueue.declared.events.KernelEvent.{KernelEvent}
 use Rattle.trace_log.specs.Traced.{lines_of}
-use Rattle.tripos_machine.specs.Boot.{boot}
-use Rattle.tripos_machine.specs.Runs.{end_of_run}
-use Rattle.tripos_machine.specs.State.{State, steps_of, stop_of, words_of}
-use Rattle.tripos_machine.specs.Step.{Stepped, quietly, run}
+use Rattle.cint_debug.specs.TriposMachine.Boot.{boot}
+use Rattle.cint_debug.specs.TriposMachine.Runs.{end_of_run}
+use Rattle.cint_debug.specs.TriposMachine.State.{State, steps_of, stop_of, words_of}
+use Rattle.cint_debug.specs.TriposMachine.Step.{Stepped, quietly, run}
 use Rattle.cint_debug.specs.declared.orders.BadLine.{BadLine}
 use Rattle.cint_debug.specs.Debugged.{Told, debugged}
 use Rattle.cint_debug.specs.OrderLines.{first_bad, goes_back}

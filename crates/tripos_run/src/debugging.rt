@@ -2,9 +2,9 @@
 ghost use Rattle.std.specs.Prelude.{◌≡◌, ◌<◌, ◌≤◌, ◌+◌, ◌^◌, [], Some, None, drop, length};
 ghost use Rattle.hunk_text.specs.TextReader.Lines.{lines_of};
 ghost use Rattle.session_text.specs.Canonical.{IsLawful};
-ghost use Rattle.tripos_machine.specs.KernelCalls.KernelModel.Ranges.{most_steps};
-ghost use Rattle.tripos_machine.specs.Boot.{boot};
-ghost use Rattle.tripos_machine.specs.State.{steps_of};
+ghost use Rattle.cint_debug.specs.TriposMachine.KernelCalls.KernelModel.Ranges.{most_steps};
+ghost use Rattle.cint_debug.specs.TriposMachine.Boot.{boot};
+ghost use Rattle.cint_debug.specs.TriposMachine.State.{steps_of};
 ghost use Rattle.cint_debug.specs.Debugged.{debugged};
 ghost use Rattle.cint_debug.specs.MachineHistory.Pasts.{now_of};
 ghost use Rattle.tripos_run.specs.Answer.{Answers, checked_answer, debugging_answer, first_past, lines_answer, told_answer};
@@ -16,11 +16,12 @@ use crate::machines::write_run_end;
 use crate::messages::{write_no_boot, write_refused};
 use crate::reports::Report;
 use crate::status::Status;
-use cint_debug::{BadLine, History, check_lines, debug, debug_back, goes_back};
+use cint_debug::{
+    BadLine, BootEnd, History, Machine, Stop, boot, check_lines, debug, debug_back, goes_back,
+};
 use session_text::{Session, SessionEnd, read_front};
 use std::alloc::Global;
 use tp_io::{Output, Sink, SinkFault, WantMemory};
-use tripos_machine::{BootEnd, Machine, Stop, boot};
 
 /// Boots the session at the front of a text, and does with its machine what the lines behind it ask for. They are checked before.
 pub(crate) fn answer_debugging<K: Sink>(alloc: Global, text: &[u8], out: &mut K) -> Status

@@ -9,8 +9,8 @@ use crate::dump::gather_dump;
 use crate::messages::gather_closing;
 use crate::reports::Report;
 use crate::status::Status;
+use cint_debug::Stop;
 use tp_io::{Output, Sink, SinkFault, pass_on};
-use tripos_machine::Stop;
 use word_store::Store;
 
 /// Writes what is pending, the closing line, and what is asked for besides.

@@ -17,6 +17,6 @@ pub use program::{run, tripos};
 pub use status::Status;
 
 // Shown to the crates above.
+pub use cint_debug::{EventLog, KernelEvent, ListLog, Pipes, SinkLog};
 pub use session_generator::generate;
 pub use trace_log::print_events;
-pub use tripos_machine::{EventLog, KernelEvent, ListLog, Pipes, SinkLog};

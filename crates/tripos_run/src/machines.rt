@@ -2,12 +2,12 @@
 ghost use Rattle.std.specs.Prelude.{◌≡◌, ◌≤◌, ◌+◌, ◌++◌, [], Some, true, IfOk, MatchResult};
 ghost use Rattle.tp_io.specs.Write.{HasCause};
 ghost use Rattle.session_text.specs.Canonical.{IsLawful};
-ghost use Rattle.tripos_machine.specs.KernelCalls.KernelModel.Ranges.{most_steps};
-ghost use Rattle.tripos_machine.specs.KernelCalls.KernelModel.NotedEvents.{NotesAll};
-ghost use Rattle.tripos_machine.specs.Runs.{end_of_run};
-ghost use Rattle.tripos_machine.specs.Boot.{boot};
-ghost use Rattle.tripos_machine.specs.State.{steps_of, stop_of};
-ghost use Rattle.tripos_machine.specs.Step.{boot_events, quietly, run};
+ghost use Rattle.cint_debug.specs.TriposMachine.KernelCalls.KernelModel.Ranges.{most_steps};
+ghost use Rattle.cint_debug.specs.TriposMachine.KernelCalls.KernelModel.NotedEvents.{NotesAll};
+ghost use Rattle.cint_debug.specs.TriposMachine.Runs.{end_of_run};
+ghost use Rattle.cint_debug.specs.TriposMachine.Boot.{boot};
+ghost use Rattle.cint_debug.specs.TriposMachine.State.{steps_of, stop_of};
+ghost use Rattle.cint_debug.specs.TriposMachine.Step.{boot_events, quietly, run};
 ghost use Rattle.trace_log.specs.Trails.{events_of};
 ghost use Rattle.trace_log.specs.Traced.{lines_of};
 ghost use Rattle.tripos_run.specs.Answer.{Answers, closed_answer, end_after, machine_answer, run_answer};
@@ -20,12 +20,12 @@ use crate::ends::{status_of, write_end};
 use crate::messages::write_no_boot;
 use crate::reports::Report;
 use crate::status::Status;
+use cint_debug::{BootEnd, EventLog, Machine, NoLog, Stop, boot};
 use session_generator::{Tally, gather_summary};
 use session_text::Session;
 use std::alloc::Global;
 use tp_io::{NoSink, Output, Sink, SinkFault, pass_on};
 use trace_log::TraceLog;
-use tripos_machine::{BootEnd, EventLog, Machine, NoLog, Stop, boot};
 
 /// Boots a session, and runs its machine.
 pub(crate) fn answer_session<K: Sink>(

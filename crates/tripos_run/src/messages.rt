@@ -3,9 +3,9 @@ ghost use Rattle.tp_io.specs.Pending.{Gathers};
 ghost use Rattle.tp_io.specs.Write.{Prints, HasCause};
 ghost use Rattle.tripos_run.specs.Texts.{closing_text, no_boot_text, refused_text, too_long_text, usage_text};
 
+use cint_debug::Stop;
 use tp_io::Piece::{Decimal, Text};
 use tp_io::{Output, Sink, SinkFault, gather_pieces, write_pieces, write_text};
-use tripos_machine::Stop;
 
 const STOPPED: &[u8] = b"\n* stopped after ";
 

@@ -2,7 +2,7 @@ use Rattle.std.proofs.Common.{◌∙◌, ◌++◌, None, ap, arith, subst, sym}
 use Rattle.bare_machine.specs.Run.{Avoids, is_met, run}
 use Rattle.bare_machine.specs.State.{state_of}
 use Rattle.bare_machine.proofs.Breakpoints.{avoids-more}
-use Rattle.bare_machine.proofs.StepsBehind.{few-steps, going-on, more-bytes, more-state}
+use Rattle.bare_machine.proofs.StepsBehind.{few-steps, going-on, more-bytes, more-goes, more-state}
 use Rattle.bare_machine.proofs.advances.advance.Goals as goal
 
 pub pass_and_step-more-requires-clause-steps : goal.pass_and_step-more-requires-clause-steps
@@ -24,6 +24,7 @@ loop-parts-preserved c =
       bytes =
           more.bytes ∙ ap (λ v. v ++ (run c.pass_and_step-more.result.steps (state_of c.loop-parts.parts None)).bytes) kept.bytes
           ∙ more-bytes c.loop-parts.done.steps first c.loop-parts.parts c.loop-parts.done.stop goes kept.state c.pass_and_step-more.result.steps;
+      last = more-goes c.loop-parts.done.steps first c.loop-parts.parts c.loop-parts.done.stop goes kept.state c.pass_and_step-more.result.steps more.some more.last;
       before =
           let here = going-on c.loop-parts.done.steps first c.loop-parts.parts c.loop-parts.done.stop goes kept.state in
           avoids-more c.args.breakpoints.now c.loop-parts.done.steps c.pass_and_step-more.result.steps first kept.before

@@ -9,6 +9,7 @@ invariant-loop-parts l = record {
   most : l.done.steps ≤ l.most;
   state : state_of l.parts l.done.stop ≡ (run l.done.steps (state_of l.fn.parts None)).state;
   bytes : l.out ≡ (run l.done.steps (state_of l.fn.parts None)).bytes;
+  last : (run (l.done.steps - 1) (state_of l.fn.parts None)).state.stop ≡ None;
   before : Avoids l.breakpoints l.done.steps (state_of l.fn.parts None);
   sound : IsSound l.parts;
 }

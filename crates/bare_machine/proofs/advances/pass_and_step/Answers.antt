@@ -1,6 +1,6 @@
-use Rattle.std.proofs.Common.{◌∙◌, ap, arith, refl, sym}
+use Rattle.std.proofs.Common.{◌∙◌, ◌+◌, ◌-◌, ap, arith, refl, sym}
 use Rattle.bare_machine.specs.Step.{BareStepped}
-use Rattle.bare_machine.proofs.Instructions.{quiet-behind, ran, ran-behind, same-behind}
+use Rattle.bare_machine.proofs.Instructions.{quiet-behind, ran, ran-behind, ran-goes, same-behind}
 use Rattle.bare_machine.proofs.Breakpoints.{avoids-next, met-there}
 use Rattle.bare_machine.proofs.advances.pass_and_step.Goals as goal
 use Rattle.bare_machine.proofs.advances.pass_and_step.Goals.{else-steps-gt0-via-then-steps-gt0+else-has_breakpoint, else-steps-gt0-via-else-steps-gt0}
@@ -30,3 +30,12 @@ returns-clause-before c =
       | else-steps-gt0-via-then-steps-gt0+else-has_breakpoint w ↦ met-there c.args.breakpoints.now c.pass-steps.result _ _ _ _ _ c.pass-steps.ensures.executes (sym w.has_breakpoint.ensures ∙ w.if-has_breakpoint.false)
       | else-steps-gt0-via-else-steps-gt0 w ↦ absurd (omega (arith, some, w.if-steps-gt0.false))
     ])
+
+pub returns-then-steps-most-clause-last : goal.returns-then-steps-most-clause-last
+returns-then-steps-most-clause-last c = ran-goes _ _ _ _ _ c.pass-steps.result c.pass-steps.ensures.executes _ refl (c.pass-steps.result - 1) (omega arith)
+
+pub returns-then-has_breakpoint-clause-last : goal.returns-then-has_breakpoint-clause-last
+returns-then-has_breakpoint-clause-last c = ran-goes _ _ _ _ _ c.pass-steps.result c.pass-steps.ensures.executes _ refl (c.pass-steps.result - 1) (omega arith)
+
+pub returns-clause-last : goal.returns-clause-last
+returns-clause-last c = ran-goes _ _ _ _ _ c.pass-steps.result c.pass-steps.ensures.executes _ refl (c.pass-steps.result + 1 - 1) (omega arith)

@@ -1,7 +1,7 @@
 use Rattle.std.proofs.Common.{◌∙◌, ◌<◌, ◌+◌, ◌^◌, sym, subst, arith}
 use Rattle.std.specs.List.{AllByRecursion}
 use Rattle.std.proofs.lemmas.Result.{err_from_is_err_and}
-use Rattle.tripos_machine.specs.KernelCalls.GetvecChain.Tiling.{blocks_in}
+use Rattle.machine_history.specs.TriposMachine.KernelCalls.GetvecChain.Tiling.{blocks_in}
 use Rattle.cint_debug.proofs.BlockLines.{blocks-cut, blocks-first, blocks-next, tiles-inside}
 use Rattle.cint_debug.proofs.KernelLists.{blocks-back, is-tiled}
 use Rattle.cint_debug.proofs.blocks.gather_lines.Goals as goal

@@ -1,7 +1,7 @@
 use Rattle.std.proofs.Common.{◌≤◌, ◌<◌, ◌+◌, ◌^◌}
 use Rattle.std.specs.List.{AllByRecursion}
-use Rattle.tripos_machine.specs.KernelCalls.KernelModel.HoldsLists.{HoldsLists}
-use Rattle.tripos_machine.specs.KernelCalls.KernelModel.Lists.{Lists}
+use Rattle.machine_history.specs.TriposMachine.KernelCalls.KernelModel.HoldsLists.{HoldsLists}
+use Rattle.machine_history.specs.TriposMachine.KernelCalls.KernelModel.Lists.{Lists}
 use Rattle.cint_debug.proofs.BlockLines.{IsBlocksSoFar}
 use Rattle.cint_debug.proofs.blocks.gather_lines.Given as goal
 

@@ -1,7 +1,7 @@
 use Rattle.std.proofs.Common.{sym, subst, ap, ◌∙◌}
 use Rattle.machine_history.specs.Pasts.{now_of}
 use Rattle.tp_io.specs.Pending.{Gathers}
-use Rattle.tripos_machine.specs.Machine.{MachineView}
+use Rattle.machine_history.specs.TriposMachine.Machine.{MachineView}
 use Rattle.cint_debug.proofs.KeptLines.{ends-kept, is-shown, no-steps}
 use Rattle.cint_debug.proofs.histories.go_on.Goals as goal
 

@@ -2,9 +2,9 @@ use Rattle.std.proofs.Common.{◌∙◌, ap, subst, arith}
 use Rattle.std.proofs.lemmas.Result.{err_from_is_err_and}
 use Rattle.tp_io.specs.Pending.{Gathers, IsCut}
 use Rattle.tp_io.proofs.GatheredTexts.{IsCut-more}
-use Rattle.tripos_machine.specs.State.{steps_of}
-use Rattle.tripos_machine.specs.Step.{run}
-use Rattle.tripos_machine.proofs.StateRuns.{run-later}
+use Rattle.machine_history.specs.TriposMachine.State.{steps_of}
+use Rattle.machine_history.specs.TriposMachine.Step.{run}
+use Rattle.machine_history.proofs.Shown.TriposMachine.StateRuns.{run-later}
 use Rattle.cint_debug.specs.Debugged.{steps_left, steps_text, steps_to}
 use Rattle.cint_debug.proofs.EndedSteps.{ends-all, text-then}
 use Rattle.cint_debug.proofs.StepsTo.{to-most}

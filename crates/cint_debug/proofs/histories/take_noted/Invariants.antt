@@ -1,8 +1,8 @@
 use Rattle.std.proofs.Common.{◌≡◌, ◌+◌, ◌-◌, ◌<◌, ◌≤◌, None}
 use Rattle.machine_history.specs.Pasts.{now_of}
 use Rattle.tp_io.specs.Pending.{IsGathered}
-use Rattle.tripos_machine.specs.State.{stop_of}
-use Rattle.tripos_machine.specs.Step.{run}
+use Rattle.machine_history.specs.TriposMachine.State.{stop_of}
+use Rattle.machine_history.specs.TriposMachine.Step.{run}
 use Rattle.cint_debug.specs.Debugged.{past_after, steps_to}
 use Rattle.cint_debug.proofs.histories.take_noted.Given as goal
 

@@ -2,7 +2,7 @@ use Rattle.std.proofs.Common.{◌∙◌, ◌++◌, [], ap, arith, append_assoc, 
 use Rattle.std.proofs.lemmas.Result.{err_from_is_err_and}
 use Rattle.tp_io.specs.Pending.{IsCut}
 use Rattle.tp_io.proofs.GatheredTexts.{IsCut-more, IsCut-then, IsGathered-nothing, IsGathered-then}
-use Rattle.tripos_machine.specs.KernelCalls.KernelModel.Recovered.{packet_in}
+use Rattle.machine_history.specs.TriposMachine.KernelCalls.KernelModel.Recovered.{packet_in}
 use Rattle.cint_debug.specs.Texts.{packet_line, packet_lines}
 use Rattle.cint_debug.proofs.queues.gather_packets.Goals as goal
 

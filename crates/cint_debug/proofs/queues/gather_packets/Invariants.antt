@@ -1,6 +1,6 @@
 use Rattle.std.proofs.Common.{◌≡◌, ◌≤◌, ℕ, List, ◌++◌, map}
 use Rattle.tp_io.specs.Pending.{IsGathered}
-use Rattle.tripos_machine.specs.KernelCalls.KernelModel.Recovered.{packet_in, packets_at}
+use Rattle.machine_history.specs.TriposMachine.KernelCalls.KernelModel.Recovered.{packet_in, packets_at}
 use Rattle.cint_debug.specs.Texts.{packet_lines}
 use Rattle.cint_debug.proofs.queues.gather_packets.Given as goal
 

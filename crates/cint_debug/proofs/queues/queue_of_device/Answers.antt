@@ -1,5 +1,5 @@
 use Rattle.std.proofs.Common.{Some, sym, subst}
-use Rattle.tripos_machine.specs.KernelCalls.PacketCalls.declared.queues.Queue.TheVariants.{Clock, Keyboard, Output}
+use Rattle.machine_history.specs.TriposMachine.KernelCalls.PacketCalls.declared.queues.Queue.TheVariants.{Clock, Keyboard, Output}
 use Rattle.cint_debug.specs.Views.{Leads, device_queue}
 use Rattle.cint_debug.proofs.KernelLists.{leads-clock, leads-keyboard, leads-output}
 use Rattle.cint_debug.proofs.queues.queue_of_device.Goals as goal

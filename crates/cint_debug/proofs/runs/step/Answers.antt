@@ -2,8 +2,8 @@ use Rattle.std.proofs.Common.{◌∙◌, ◌≤◌, min, ap, subst, arith}
 use Rattle.std.proofs.lemmas.Result.{err_from_is_err_and}
 use Rattle.tp_io.specs.Pending.{Gathers, IsCut}
 use Rattle.tp_io.proofs.GatheredTexts.{IsCut-more}
-use Rattle.tripos_machine.specs.State.{steps_of}
-use Rattle.tripos_machine.proofs.StateRuns.{run-later}
+use Rattle.machine_history.specs.TriposMachine.State.{steps_of}
+use Rattle.machine_history.proofs.Shown.TriposMachine.StateRuns.{run-later}
 use Rattle.cint_debug.specs.Debugged.{steps_left, steps_text}
 use Rattle.cint_debug.proofs.DebuggedRuns.{debugged-more, left-few}
 use Rattle.cint_debug.proofs.EndedSteps.{text-then}

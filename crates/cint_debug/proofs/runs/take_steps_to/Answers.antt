@@ -2,25 +2,16 @@ use Rattle.std.proofs.Common.{◌≡◌, ◌∙◌, ◌+◌, ◌-◌, ◌++◌, 
 use Rattle.std.proofs.lemmas.Result.{err_from_is_err_and}
 use Rattle.tp_io.specs.Pending.{Gathers, IsGathered}
 use Rattle.tp_io.proofs.GatheredTexts.{IsGathered-then}
-use Rattle.tripos_machine.specs.State.{steps_of}
-use Rattle.tripos_machine.specs.Step.{Stepped, run}
-use Rattle.tripos_machine.proofs.RunParts.{gathered-none}
-use Rattle.tripos_machine.proofs.StateRuns.{run-steps}
+use Rattle.machine_history.specs.TriposMachine.Breakpoints.{Avoids}
+use Rattle.machine_history.specs.TriposMachine.State.{steps_of}
+use Rattle.machine_history.specs.TriposMachine.Step.{Stepped, run}
+use Rattle.machine_history.proofs.Shown.TriposMachine.RunParts.{gathered-none}
+use Rattle.machine_history.proofs.Shown.TriposMachine.StateRuns.{run-steps}
 use Rattle.cint_debug.specs.Debugged.{steps_to}
 use Rattle.cint_debug.specs.Views.{is_end}
-use Rattle.cint_debug.proofs.EndedSteps.{cut-behind, empty-bytes, empty-steps}
-use Rattle.cint_debug.proofs.StepsTo.{next-bytes, next-state, run-zero, told-end, told-further, told-here}
+use Rattle.cint_debug.proofs.EndedSteps.{cut-behind, end-goes}
+use Rattle.cint_debug.proofs.StepsTo.{next-bytes, next-state, run-zero, told-end, told-further, told-here, told-some, unended}
 use Rattle.cint_debug.proofs.runs.take_steps_to.Goals as goal
-
-pub returns-then-is_empty-clause-state : goal.returns-then-is_empty-clause-state
-returns-then-is_empty-clause-state g c = empty-steps c.args.stops.now c.args.most _ _ _ (sym c.is_empty.ensures ∙ c.if-is_empty.true) c.take_steps.ensures.state
-
-pub returns-then-is_empty-clause-text : goal.returns-then-is_empty-clause-text
-returns-then-is_empty-clause-text g c =
-    let holds = g.K.Sink.holds in
-    let end = c.take_steps in
-    subst (λ text. Gathers (holds c.args.out.now) (holds end.new.out) c.args.pending.now end.new.pending text end.result)
-    (empty-bytes c.args.stops.now c.args.most c.args.machine.now.state (sym c.is_empty.ensures ∙ c.if-is_empty.true)) end.ensures.text
 
 pub loop-taken-init : goal.loop-taken-init
 loop-taken-init g c =
@@ -32,42 +23,67 @@ loop-taken-init g c =
       state = sym (ap (λ (x : Stepped). x.state) (run-zero s));
       told = omega (arith, same);
       text = gathered-none s _ _;
+      goes = c.requires.goes;
       later = omega arith;
     }
 
-pub step-requires : goal.step-requires
-step-requires g c =
+pub advance-taken-requires-clause-steps : goal.advance-taken-requires-clause-steps
+advance-taken-requires-clause-steps g c =
     let kept = c.loop-taken.invariant in
-    omega (arith, c.requires, c.loop-taken-test.true, ap steps_of kept.state, run-steps c.loop-taken.taken c.args.machine.now.state)
+    omega (arith, c.requires.steps, c.loop-taken-test.true, ap steps_of kept.state, run-steps c.loop-taken.taken c.args.machine.now.state)
 
 pub returns-in_err-gather-clause-state : goal.returns-in_err-gather-clause-state
 returns-in_err-gather-clause-state g c =
     let kept = c.loop-taken.invariant in
+    let m = c.advance-taken.result in
     let p = err_from_is_err_and c.from_residual.result c.from_residual.ensures.1 in
-    rw p.1 (record { steps = c.loop-taken.taken + 1; few = omega (arith, c.loop-taken-test.true); state = c.step.ensures.state ∙ next-state c.args.stops.now c.args.most c.loop-taken.taken c.args.machine.now.state _ kept.state })
+    rw p.1 (record {
+      steps = c.loop-taken.taken + m;
+      few = omega (arith, c.loop-taken-test.true, c.advance-taken.ensures.most);
+      state = c.advance-taken.ensures.state ∙ next-state c.args.stops.now c.args.most c.loop-taken.taken m c.args.machine.now.state _ kept.state;
+    })
 
 pub returns-in_err-gather-clause-text : goal.returns-in_err-gather-clause-text
 returns-in_err-gather-clause-text g c =
     let kept = c.loop-taken.invariant in
+    let s = c.args.machine.now.state in
+    let t = c.loop-taken.machine.state in
+    let y = c.advance-taken.ensures in
+    let stops = c.args.stops.now in
+    let taken = c.loop-taken.taken in
+    let m = c.advance-taken.result in
+    let none = unended stops m t (subst (λ b. Avoids b m t) c.as_slice.ensures y.before) y.last in
     let p = err_from_is_err_and c.from_residual.result c.from_residual.ensures.1 in
-    rw p.1 (cut-behind c.args.stops.now c.args.most c.loop-taken.taken c.args.machine.now.state _ kept.state c.loop-taken-test.true kept.told kept.text (c.output.ensures ∙ c.step.ensures.output) c.in_err-gather.ensures.text)
+    rw p.1 (cut-behind stops c.args.most taken m s t kept.state (told-some stops c.args.most taken m s t kept.state kept.told y.some y.most none) kept.text (c.output.ensures ∙ y.output) c.in_err-gather.ensures.text)
 
 pub returns-then-is_end-clause-state : goal.returns-then-is_end-clause-state
 returns-then-is_end-clause-state g c =
     let kept = c.loop-taken.invariant in
     let s = c.args.machine.now.state in
-    let there = subst (λ t. is_end c.args.stops.now t ≡ true) c.step.ensures.state (sym c.is_end.ensures ∙ c.if-is_end.true) in
-    let steps = told-here c.args.stops.now c.args.most c.loop-taken.taken s _ kept.state kept.told c.loop-taken-test.true there in
-    c.step.ensures.state ∙ next-state c.args.stops.now c.args.most c.loop-taken.taken s _ kept.state ∙ sym (ap (λ n. (run n s).state) steps)
+    let t = c.loop-taken.machine.state in
+    let y = c.advance-taken.ensures in
+    let stops = c.args.stops.now in
+    let taken = c.loop-taken.taken in
+    let m = c.advance-taken.result in
+    let none = unended stops m t (subst (λ b. Avoids b m t) c.as_slice.ensures y.before) y.last in
+    let there = subst (λ z. is_end stops z ≡ true) y.state (sym c.is_end.ensures ∙ c.if-is_end.true) in
+    let steps = told-here stops c.args.most taken m s t kept.state kept.told y.some y.most none there in
+    y.state ∙ next-state stops c.args.most taken m s t kept.state ∙ sym (ap (λ n. (run n s).state) steps)
 
 pub returns-then-is_end-clause-text : goal.returns-then-is_end-clause-text
 returns-then-is_end-clause-text g c =
     let holds = g.K.Sink.holds in
     let kept = c.loop-taken.invariant in
     let s = c.args.machine.now.state in
-    let there = subst (λ t. is_end c.args.stops.now t ≡ true) c.step.ensures.state (sym c.is_end.ensures ∙ c.if-is_end.true) in
-    let steps = told-here c.args.stops.now c.args.most c.loop-taken.taken s _ kept.state kept.told c.loop-taken-test.true there in
-    let bytes = ap (λ v. (run c.loop-taken.taken s).bytes ++ v) (c.output.ensures ∙ c.step.ensures.output) ∙ next-bytes c.args.stops.now c.args.most c.loop-taken.taken s _ kept.state ∙ sym (ap (λ n. (run n s).bytes) steps) in
+    let t = c.loop-taken.machine.state in
+    let y = c.advance-taken.ensures in
+    let stops = c.args.stops.now in
+    let taken = c.loop-taken.taken in
+    let m = c.advance-taken.result in
+    let none = unended stops m t (subst (λ b. Avoids b m t) c.as_slice.ensures y.before) y.last in
+    let there = subst (λ z. is_end stops z ≡ true) y.state (sym c.is_end.ensures ∙ c.if-is_end.true) in
+    let steps = told-here stops c.args.most taken m s t kept.state kept.told y.some y.most none there in
+    let bytes = ap (λ v. (run taken s).bytes ++ v) (c.output.ensures ∙ y.output) ∙ next-bytes stops c.args.most taken m s t kept.state ∙ sym (ap (λ n. (run n s).bytes) steps) in
     subst (IsGathered (holds c.args.out.now) (holds c.gather.new.out) c.args.pending.now c.gather.new.pending) bytes (IsGathered-then kept.text c.in_ok-gather.ensures.text)
 
 pub loop-taken-preserved : goal.loop-taken-preserved
@@ -75,16 +91,21 @@ loop-taken-preserved g c =
     let holds = g.K.Sink.holds in
     let kept = c.loop-taken.invariant in
     let s = c.args.machine.now.state in
+    let t = c.loop-taken.machine.state in
+    let y = c.advance-taken.ensures in
     let stops = c.args.stops.now in
     let taken = c.loop-taken.taken in
-    let other = subst (λ t. is_end stops t ≡ false) c.step.ensures.state (sym c.is_end.ensures ∙ c.if-is_end.false) in
-    let further = told-further stops c.args.most taken s _ kept.state kept.told c.loop-taken-test.true other in
-    let bytes = ap (λ v. (run taken s).bytes ++ v) (c.output.ensures ∙ c.step.ensures.output) ∙ next-bytes stops c.args.most taken s _ kept.state in
+    let m = c.advance-taken.result in
+    let none = unended stops m t (subst (λ b. Avoids b m t) c.as_slice.ensures y.before) y.last in
+    let other = subst (λ z. is_end stops z ≡ false) y.state (sym c.is_end.ensures ∙ c.if-is_end.false) in
+    let further = told-further stops c.args.most taken m s t kept.state kept.told y.some y.most none other in
+    let bytes = ap (λ v. (run taken s).bytes ++ v) (c.output.ensures ∙ y.output) ∙ next-bytes stops c.args.most taken m s t kept.state in
     record {
-      few = omega (arith, c.loop-taken-test.true);
-      state = c.step.ensures.state ∙ next-state stops c.args.most taken s _ kept.state;
-      told = further ∙ ap (λ t. taken + 1 + steps_to stops (c.args.most - (taken + 1)) t) (sym c.step.ensures.state);
+      few = omega (arith, c.loop-taken-test.true, y.most);
+      state = y.state ∙ next-state stops c.args.most taken m s t kept.state;
+      told = further ∙ ap (λ z. taken + m + steps_to stops (c.args.most - (taken + m)) z) (sym y.state);
       text = subst (IsGathered (holds c.args.out.now) (holds c.gather.new.out) c.args.pending.now c.gather.new.pending) bytes (IsGathered-then kept.text c.in_ok-gather.ensures.text);
+      goes = λ few. end-goes stops c.advance-taken.new.machine.state (sym c.is_end.ensures ∙ c.if-is_end.false);
       later = omega (arith, kept.later, c.in_ok-gather.ensures.cause.later);
     }
 
@@ -93,7 +114,7 @@ returns-clause-state g c =
     let kept = c.loop-taken.invariant in
     let s = c.args.machine.now.state in
     let all : c.loop-taken.taken ≡ c.args.most = omega (arith, kept.few, c.loop-taken-test.false) in
-    let steps = told-end c.args.stops.now c.args.most c.loop-taken.taken s _ kept.state kept.told all in
+    let steps = told-end c.args.stops.now c.args.most c.loop-taken.taken s _ kept.told all in
     kept.state ∙ sym (ap (λ n. (run n s).state) steps)
 
 pub returns-clause-text : goal.returns-clause-text
@@ -102,5 +123,5 @@ returns-clause-text g c =
     let kept = c.loop-taken.invariant in
     let s = c.args.machine.now.state in
     let all : c.loop-taken.taken ≡ c.args.most = omega (arith, kept.few, c.loop-taken-test.false) in
-    let steps = told-end c.args.stops.now c.args.most c.loop-taken.taken s _ kept.state kept.told all in
+    let steps = told-end c.args.stops.now c.args.most c.loop-taken.taken s _ kept.told all in
     subst (λ v. IsGathered (holds c.args.out.now) (holds c.loop-taken.out) c.args.pending.now c.loop-taken.pending v) (sym (ap (λ n. (run n s).bytes) steps)) kept.text

@@ -1,6 +1,7 @@
-use Rattle.std.proofs.Common.{◌≡◌, ◌+◌, ◌-◌, ◌≤◌}
+use Rattle.std.proofs.Common.{◌≡◌, ◌+◌, ◌-◌, ◌<◌, ◌≤◌, None}
 use Rattle.tp_io.specs.Pending.{IsGathered}
-use Rattle.tripos_machine.specs.Step.{run}
+use Rattle.machine_history.specs.TriposMachine.State.{stop_of}
+use Rattle.machine_history.specs.TriposMachine.Step.{run}
 use Rattle.cint_debug.specs.Debugged.{steps_to}
 use Rattle.cint_debug.proofs.runs.take_steps_to.Given as goal
 
@@ -10,6 +11,7 @@ invariant-loop-taken g l = record {
   state : l.machine.state ≡ (run l.taken l.fn.machine.state).state;
   told : steps_to l.stops l.most l.fn.machine.state ≡ l.taken + steps_to l.stops (l.most - l.taken) l.machine.state;
   text : IsGathered (g.K.Sink.holds l.fn.out) (g.K.Sink.holds l.out) l.fn.pending l.pending (run l.taken l.fn.machine.state).bytes;
+  goes : l.taken < l.most → stop_of l.machine.state ≡ None;
   later : g.K.Sink.faults l.fn.out ≤ g.K.Sink.faults l.out;
 }
 

@@ -2,7 +2,7 @@ use Rattle.std.proofs.Common.{◌∙◌, ◌≤◌, [], None, List, ℕ, ap, ref
 use Rattle.std.proofs.lemmas.Result.{err_from_is_err_and}
 use Rattle.hunk_text.specs.TextReader.Lines.{lines_of}
 use Rattle.tp_io.specs.Pending.{IsCut, IsGathered}
-use Rattle.tripos_machine.specs.State.{State}
+use Rattle.machine_history.specs.TriposMachine.State.{State}
 use Rattle.cint_debug.specs.Debugged.{Debugging, HasDebugged, Told, steps_left}
 use Rattle.cint_debug.specs.Orders.{order_of}
 use Rattle.cint_debug.proofs.DebuggedRuns.{debugged-more, debugged-none, debugged-then, left-few, within-then}

@@ -1,6 +1,6 @@
 use Rattle.std.proofs.Common.{◌∙◌, ◌++◌, ap, subst}
 use Rattle.tp_io.specs.Pending.{Gathers}
-use Rattle.tripos_machine.specs.ShellListings.TaskLines.{task_lines}
+use Rattle.machine_history.specs.TriposMachine.ShellListings.TaskLines.{task_lines}
 use Rattle.cint_debug.specs.Texts.{tasks_text}
 use Rattle.cint_debug.proofs.KernelParts.{held-lists, on-full}
 use Rattle.cint_debug.proofs.tasks.gather_tasks.Goals as goal

@@ -1,6 +1,9 @@
-use Rattle.std.proofs.Common.{arith, refl}
+use Rattle.std.proofs.Common.{◌≡◌, ◌∙◌, None, arith, refl, sym}
+use Rattle.kernel_steps.specs.Step.{run}
+use Rattle.kernel_machine.specs.Machine.{kernel_of}
+use Rattle.kernel_machine.proofs.MetBreakpoints.{avoids-few, idle-met}
 use Rattle.kernel_machine.proofs.QuietParts.{quiet-all}
-use Rattle.kernel_machine.proofs.QuietSpan.{passed-none}
+use Rattle.kernel_machine.proofs.QuietSpan.{idle-behind, passed-none}
 use Rattle.kernel_machine.proofs.spans.pass.Goals as goal
 
 pub returns-then-serves_now-clause-passed : goal.returns-then-serves_now-clause-passed
@@ -18,3 +21,18 @@ execute-requires-clause-quiet c = λ some.
 
 pub returns-then-task-lt-FIRST_GUEST-clause-passed : goal.returns-then-task-lt-FIRST_GUEST-clause-passed
 returns-then-task-lt-FIRST_GUEST-clause-passed c = passed-none c.args.parts.now c.requires.whole 0 refl
+
+pub returns-then-serves_now-clause-before : goal.returns-then-serves_now-clause-before
+returns-then-serves_now-clause-before c = avoids-few c.args.breakpoints.now (kernel_of c.args.parts.now None) 0 (omega arith)
+
+pub returns-then-task-eq0-clause-before : goal.returns-then-task-eq0-clause-before
+returns-then-task-eq0-clause-before c = λ i some low.
+    let p = c.args.parts.now in
+    let w = c.requires.whole in
+    let none : (kernel_of p None).lists.running ≡ 0 = sym (c.running-task.ensures (kernel_of p None).lists w.stands.keeper.lists) ∙ c.if-task-eq0.true in
+    idle-met c.args.breakpoints.now (run i (kernel_of p None)).kernel
+    (idle-behind p w i none
+    (quiet-all p w i (c.serves_now.ensures c.if-serves_now.false) (c.before_key.ensures i some (omega (arith, low, c.min-quiet.ensures, c.min.ensures))) (c.before_return.ensures i (omega (arith, low, c.min-quiet.ensures, c.min.ensures)))))
+
+pub returns-then-task-lt-FIRST_GUEST-clause-before : goal.returns-then-task-lt-FIRST_GUEST-clause-before
+returns-then-task-lt-FIRST_GUEST-clause-before c = avoids-few c.args.breakpoints.now (kernel_of c.args.parts.now None) 0 (omega arith)

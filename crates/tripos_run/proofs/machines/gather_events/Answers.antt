@@ -1,7 +1,7 @@
 use Rattle.std.proofs.Common.{◌∙◌, ◌++◌, Err, ap, rules}
 use Rattle.std.proofs.lemmas.Result.{err_from_is_err_and}
 use Rattle.tp_io.specs.Write.{AppendsPrefix}
-use Rattle.tripos_machine.specs.Step.{boot_events, run}
+use Rattle.cint_debug.specs.TriposMachine.Step.{boot_events, run}
 use Rattle.trace_log.specs.Traced.{lines_of}
 use Rattle.trace_log.proofs.GivenLines.{GivesPending-all}
 use Rattle.tripos_run.proofs.machines.gather_events.Goals as goal

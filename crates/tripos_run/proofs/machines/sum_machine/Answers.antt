@@ -2,8 +2,8 @@ use Rattle.std.proofs.Common.{[], subst}
 use Rattle.tp_io.specs.Pending.{IsCut, IsGathered}
 use Rattle.tp_io.proofs.GatheredTexts.{IsCut-first}
 use Rattle.session_generator.specs.Summary.{summary}
-use Rattle.tripos_machine.specs.State.{State}
-use Rattle.tripos_machine.specs.Step.{boot_events, quietly, run}
+use Rattle.cint_debug.specs.TriposMachine.State.{State}
+use Rattle.cint_debug.specs.TriposMachine.Step.{boot_events, quietly, run}
 use Rattle.tripos_run.specs.Answer.{Answers, closed_answer, end_after}
 use Rattle.tripos_run.specs.declared.reports.Report.TheVariants.{Sums}
 use Rattle.tripos_run.proofs.AnswerParts.{Answers-behind, AppendsPrefix-closed}

@@ -3,8 +3,11 @@ use Rattle.kernel_steps.specs.KernelCalls.KernelModel.NotedEvents.{NotesAll}
 use Rattle.kernel_steps.proofs.Shown.KernelCalls.KernelModel.NotedInTurn.{notes-none}
 use Rattle.kernel_steps.specs.Step.{Stepped}
 use Rattle.kernel_steps.proofs.Runs.{run-steps}
+use Rattle.kernel_machine.specs.Runs.{is_met}
+use Rattle.kernel_machine.proofs.MetBreakpoints.{avoids-next}
 use Rattle.kernel_machine.proofs.RunParts.{last-behind, last-of-quiet, run-behind}
 use Rattle.kernel_machine.proofs.machine.Machine.advance.Goals as goal
+use Rattle.kernel_machine.proofs.machine.Machine.advance.Goals.{else-quiet-gt0-via-else-quiet-gt0, else-quiet-gt0-via-then-quiet-gt0+else-is_met}
 
 pub step-requires : goal.step-requires
 step-requires g c =
@@ -28,6 +31,9 @@ returns-then-quiet-most-clause-output g c = c.pass-quiet.ensures.output ∙ sym 
 pub returns-then-quiet-most-clause-events : goal.returns-then-quiet-most-clause-events
 returns-then-quiet-most-clause-events g c = subst (NotesAll _ _ _ _) (sym (ap (λ (x : Stepped). x.events) c.pass-quiet.ensures.quiet)) (notes-none _ _)
 
+pub returns-then-is_met-clause-last : goal.returns-then-is_met-clause-last
+returns-then-is_met-clause-last g c = last-of-quiet _ _ _ c.pass-quiet.ensures.quiet c.pass-quiet.ensures.goes (omega (arith, c.if-quiet-gt0.true))
+
 pub returns-clause-last : goal.returns-clause-last
 returns-clause-last g c = last-behind _ _ _ _ refl c.pass-quiet.ensures.quiet c.pass-quiet.ensures.goes
 
@@ -39,3 +45,15 @@ returns-clause-output g c = c.step.ensures.output ∙ sym (ap (λ (x : Stepped).
 
 pub returns-clause-events : goal.returns-clause-events
 returns-clause-events g c = subst (NotesAll _ _ _ _) (sym (ap (λ (x : Stepped). x.events) (run-behind _ _ _ c.pass-quiet.ensures.quiet))) c.step.ensures.events
+
+pub returns-clause-before : goal.returns-clause-before
+returns-clause-before g c =
+    let b = c.args.breakpoints.now in
+    let q = c.pass-quiet.result in
+    let k = c.args.self.now.kernel in
+    avoids-next b k q c.pass-quiet.ensures.before
+    (λ some.
+    elim c.else-quiet-gt0.branch [
+      | else-quiet-gt0-via-else-quiet-gt0 w ↦ absurd (omega (arith, some, w.if-quiet-gt0.false))
+      | else-quiet-gt0-via-then-quiet-gt0+else-is_met w ↦ ap (λ (x : Stepped). is_met b x.kernel) c.pass-quiet.ensures.quiet ∙ sym w.is_met.ensures ∙ w.if-is_met.false
+    ])

@@ -1,7 +1,8 @@
 use Rattle.std.proofs.Common.{◌∙◌, ap, arith, subst, sym}
 use Rattle.kernel_steps.specs.Step.{run}
 use Rattle.kernel_machine.specs.Machine.{IsWhole, MachineView}
-use Rattle.kernel_machine.proofs.MachineStep.{goes-passed, not-stopped, run-passed, whole-passed}
+use Rattle.kernel_machine.specs.Runs.{Avoids}
+use Rattle.kernel_machine.proofs.MachineStep.{goes-passed, here, not-stopped, run-passed, whole-passed}
 use Rattle.kernel_machine.proofs.machine.Machine.pass.Goals as goal
 
 pub pass-requires-clause-whole : goal.pass-requires-clause-whole
@@ -28,3 +29,8 @@ pub returns-clause-goes : goal.returns-clause-goes
 returns-clause-goes c =
     let goes = ap (λ (v : MachineView). v.kernel.stop) c.self.view_is ∙ c.requires.goes in
     goes-passed c.self.inside.parts c.self.inside.stop c.self.invariant goes c.pass.result c.pass.new.parts c.pass.ensures.passed
+
+pub returns-clause-before : goal.returns-clause-before
+returns-clause-before c =
+    let goes = ap (λ (v : MachineView). v.kernel.stop) c.self.view_is ∙ c.requires.goes in
+    subst (Avoids c.args.breakpoints.now c.pass.result) (here c.self.inside.parts c.self.inside.stop c.self.invariant goes ∙ ap (λ (v : MachineView). v.kernel) c.self.view_is) c.pass.ensures.before

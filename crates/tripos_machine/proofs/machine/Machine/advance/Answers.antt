@@ -2,7 +2,7 @@ use Rattle.std.proofs.Common.{◌∙◌, ap, subst, sym}
 use Rattle.machine_boot.specs.KernelCalls.KernelModel.NotedEvents.{NotesAll}
 use Rattle.tripos_machine.specs.Machine.{MachineView, view_of}
 use Rattle.tripos_machine.specs.Step.{run}
-use Rattle.tripos_machine.proofs.KindRuns.{bare-bytes, bare-events, bare-state, full-bytes, full-events, full-state}
+use Rattle.tripos_machine.proofs.KindRuns.{bare-before, bare-bytes, bare-events, bare-last, bare-state, full-before, full-bytes, full-events, full-last, full-state}
 use Rattle.tripos_machine.proofs.machine.Machine.advance.Goals as goal
 use Rattle.tripos_machine.proofs.machine.Machine.advance.Goals.{in-Bare, in-Full}
 
@@ -39,4 +39,26 @@ returns-clause-events g c =
           let here = sym (ap (λ (v : MachineView). v.state) c.self.view_is) ∙ ap (λ k. (view_of k).state) w.in-Full.is in
           subst (λ l. NotesAll (g.L.EventLog.noted c.args.log.now) (g.L.EventLog.noted l) (g.L.EventLog.has_failed c.args.log.now) (g.L.EventLog.has_failed l) (run c.match-self.result c.args.self.now.state).events) (sym w.log-is)
           (full-events _ _ w.result-is _ _ here _ _ _ _ w.advance-in-Full.ensures.events)
+    ]
+
+pub returns-clause-before : goal.returns-clause-before
+returns-clause-before g c =
+    elim c.match-self.branch [
+      | in-Bare w ↦
+          let here = sym (ap (λ (v : MachineView). v.state) c.self.view_is) ∙ ap (λ k. (view_of k).state) w.in-Bare.is in
+          bare-before _ _ w.result-is _ _ here c.args.breakpoints.now w.advance.ensures.before
+      | in-Full w ↦
+          let here = sym (ap (λ (v : MachineView). v.state) c.self.view_is) ∙ ap (λ k. (view_of k).state) w.in-Full.is in
+          full-before _ _ w.result-is _ _ here c.args.breakpoints.now w.advance-in-Full.ensures.before
+    ]
+
+pub returns-clause-last : goal.returns-clause-last
+returns-clause-last g c =
+    elim c.match-self.branch [
+      | in-Bare w ↦
+          let here = sym (ap (λ (v : MachineView). v.state) c.self.view_is) ∙ ap (λ k. (view_of k).state) w.in-Bare.is in
+          bare-last _ _ w.result-is _ _ here w.advance.ensures.last
+      | in-Full w ↦
+          let here = sym (ap (λ (v : MachineView). v.state) c.self.view_is) ∙ ap (λ k. (view_of k).state) w.in-Full.is in
+          full-last _ _ w.result-is _ _ here w.advance-in-Full.ensures.last
     ]

@@ -1,0 +1,22 @@
+-- Steps in which the running guest executes an instruction, and nothing else happens.
+use Rattle.std.specs.Prelude.{◌≡◌, ℕ, List, ◌∷◌, None}
+use Rattle.cint_exec.specs.Places.{DifferAt, addresses}
+use Rattle.cint_exec.specs.declared.places.Places.{Places}
+use Rattle.kernel_steps.specs.KernelCalls.TaskBlock.RootWords.{root_address}
+use Rattle.kernel_steps.specs.KernelCalls.TaskBlock.declared.roots.RootField.TheVariants.{Tick}
+use Rattle.kernel_steps.specs.KernelCalls.KernelModel.Image.{image}
+use Rattle.kernel_steps.specs.KernelCalls.KernelModel.Kernel.{Kernel}
+use Rattle.kernel_steps.specs.Step.{quietly, step}
+
+-- the words are the same but at the word of the ticks and at these places
+abbrev pub DifferBeside : Places → List ℕ → List ℕ → Type 0
+DifferBeside p old new = DifferAt (root_address Tick ∷ addresses p) old new
+
+-- a step of k in which nothing happens but that the running guest executes an instruction; it leaves j
+pub record IsPlainStep (p : Places) (k j : Kernel) : Type 0 where
+  -- it shows and notes nothing
+  pub step : step k ≡ quietly j
+  -- the machine goes on
+  pub goes : j.stop ≡ None
+  -- it writes at these places alone, beside the word of the ticks
+  pub differ : DifferBeside p (image k) (image j)

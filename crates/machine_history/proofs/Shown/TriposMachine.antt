@@ -1,0 +1,3 @@
+-- Lemmas of `tripos_machine`.
+pub use Rattle.tripos_machine.proofs.RunParts
+pub use Rattle.tripos_machine.proofs.StateRuns

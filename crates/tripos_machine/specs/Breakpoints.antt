@@ -1,0 +1,34 @@
+-- Steps up to a breakpoint, and steps that tell where they wrote.
+use Rattle.std.specs.Prelude.{◌≡◌, ℕ, ◌<◌, Bool, false, List, ◌∷◌, None}
+use Rattle.bare_machine.specs.CintExec.Places.{DifferAt, addresses}
+use Rattle.bare_machine.specs.CintExec.declared.places.Places.{Places}
+use Rattle.bare_machine.specs.Run.{is_met as bare_is_met}
+use Rattle.machine_boot.specs.KernelCalls.TaskBlock.RootWords.{root_address}
+use Rattle.machine_boot.specs.KernelCalls.TaskBlock.declared.roots.RootField.TheVariants.{Tick}
+use Rattle.machine_boot.specs.KernelMachine.Runs.{is_met as kernel_is_met}
+use Rattle.tripos_machine.specs.State.{State, stop_of, words_of}
+use Rattle.tripos_machine.specs.State.State.{Bare, Full}
+use Rattle.tripos_machine.specs.Step.{quietly, run, step}
+
+-- A guest's next instruction is at one of these byte addresses. On a machine without a kernel every instruction is a guest's.
+abbrev pub is_met : List ℕ → State → Bool
+is_met breakpoints (Bare m) = bare_is_met breakpoints m
+is_met breakpoints (Full k) = kernel_is_met breakpoints k
+
+-- between the first and the last of n steps none is met
+abbrev pub Avoids : List ℕ → ℕ → State → Type 0
+Avoids breakpoints n s = (i : ℕ) → 0 < i → i < n → is_met breakpoints (run i s).state ≡ false
+
+-- the addresses of the words that a plain step may write: the word of the ticks, and where its instruction writes
+abbrev pub plain_addresses : Places → List ℕ
+plain_addresses p = root_address Tick ∷ addresses p
+
+-- A step in which nothing happens but that a guest executes an instruction: it writes nothing to the console, has no events, and
+-- does not stop the machine.
+pub record IsPlainStep (p : Places) (s t : State) : Type 0 where
+  -- it leads to that state
+  pub step : step s ≡ quietly t
+  -- which goes on
+  pub goes : stop_of t ≡ None
+  -- the words are as they were but at these addresses
+  pub differ : DifferAt (plain_addresses p) (words_of s) (words_of t)
