@@ -5,11 +5,11 @@ use Rattle.machine_history.specs.TriposMachine.KernelCalls.KernelModel.declared.
 use Rattle.machine_history.specs.Pasts.{state_back}
 use Rattle.machine_history.specs.TriposMachine.State.{State, steps_of, stop_of}
 use Rattle.machine_history.specs.TriposMachine.Step.{Stepped, run}
-use Rattle.machine_history.proofs.Shown.TriposMachine.StateRuns.{run-counts, run-later, run-more, run-steps, run-stopped}
+use Rattle.machine_history.proofs.Shown.TriposMachine.StateRuns.{run-counts, run-later, run-more, run-steps}
 use Rattle.cint_debug.specs.declared.limits.Limits.{Limits}
 use Rattle.cint_debug.specs.Debugged.{Debugging, HasDebugged, steps_left, went_back}
 use Rattle.cint_debug.specs.Runs.{IsWithin}
-use Rattle.cint_debug.proofs.StepsTo.{run-zero}
+use Rattle.cint_debug.proofs.StepsTo.{run-zero, went-on}
 
 -- no step was taken
 pub debugged-none : (n : ℕ) (s : State) → HasDebugged n s s
@@ -26,17 +26,6 @@ debugged-all n m s t few state = record { steps = n; few = few; state = state }
 -- where no history is kept
 pub back-stays : (n : ℕ) (d : Debugging) → d.past ≡ None → (went_back n d).state ≡ d.state
 back-stays n d none = ap (λ p. state_back n (unwrap_or p []) d.state) none
-
--- behind a machine that has not stopped
-pub went-on : (n : ℕ) (s : State) → stop_of (run n s).state ≡ None → stop_of s ≡ None
-went-on n s goes = on (stop_of s) refl
-  where
-    on : (o : Option Stop) → stop_of s ≡ o → stop_of s ≡ None
-    on None is = is
-    on (Some stop) is =
-        let stays = ap (λ (x : Stepped). stop_of x.state) (run-stopped n s (λ none. (let other = sym is ∙ none in cc))) in
-        let other : Some stop ≡ None = sym is ∙ sym stays ∙ goes in
-        cc
 
 -- ---- the steps that are left
 

@@ -1,13 +1,12 @@
 -- How steps and lines end, by what they answered.
-use Rattle.std.proofs.Common.{◌≡◌, ℕ, ◌+◌, ◌-◌, ◌≤◌, ◌<◌, ◌++◌, ◌||◌, true, false, Option, Some, None, List, [], ◌∷◌, Result, Ok, Err, refl, sym, ap, ◌∙◌, subst, arith}
-use Rattle.std.specs.Prelude.{◌==◌, IfOk, is_some, length}
-use Rattle.std.proofs.lemmas.Bool.{eqb-true}
+use Rattle.std.proofs.Common.{◌≡◌, ℕ, ◌+◌, ◌≤◌, ◌++◌, ◌||◌, true, false, Option, Some, None, List, Result, Ok, Err, refl, sym, ap, ◌∙◌, subst}
+use Rattle.std.specs.Prelude.{IfOk, is_some}
 use Rattle.tp_io.specs.Pending.{Gathers, IsCut, IsGathered}
 use Rattle.tp_io.proofs.GatheredTexts.{Gathers-then, IsCut-then}
 use Rattle.machine_history.specs.TriposMachine.State.{State, stop_of}
 use Rattle.machine_history.specs.TriposMachine.KernelCalls.KernelModel.declared.stops.Stop.{Stop}
 use Rattle.cint_debug.specs.Views.{is_at, is_end}
-use Rattle.machine_history.specs.TriposMachine.Step.{Stepped, run, step}
+use Rattle.machine_history.specs.TriposMachine.Step.{run}
 use Rattle.machine_history.proofs.Shown.TriposMachine.RunParts.{cut-more}
 use Rattle.cint_debug.specs.declared.limits.Limits.{Limits}
 use Rattle.cint_debug.specs.declared.orders.Order.{Order}

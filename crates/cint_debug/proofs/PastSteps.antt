@@ -6,8 +6,7 @@ use Rattle.machine_history.specs.TriposMachine.KernelCalls.KernelModel.declared.
 use Rattle.machine_history.specs.TriposMachine.State.{State, stop_of}
 use Rattle.machine_history.specs.TriposMachine.Step.{Stepped, run, step}
 use Rattle.cint_debug.specs.Debugged.{past_after, steps_to}
-use Rattle.cint_debug.proofs.DebuggedRuns.{went-on}
-use Rattle.cint_debug.proofs.StepsTo.{end-none, run-suc, run-zero, to-further, to-here}
+use Rattle.cint_debug.proofs.StepsTo.{end-none, run-suc, run-zero, to-further, to-here, went-on}
 
 -- a machine that has stopped takes no step
 pub past-stopped : (n : ℕ) (past : List State) (s : State) → is_some (stop_of s) ≡ true → past_after n past s ≡ past

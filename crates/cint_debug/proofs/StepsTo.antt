@@ -13,7 +13,6 @@ use Rattle.cint_debug.specs.Debugged.{steps_to}
 use Rattle.std.proofs.lemmas.Bool.{cases_lt}
 use Rattle.std.proofs.lemmas.List.{append-nil}
 use Rattle.cint_debug.specs.Views.{is_at, is_end, is_guest_next}
-use Rattle.cint_debug.proofs.DebuggedRuns.{went-on}
 
 pub to-here : (stops : List ℕ) (n : ℕ) (s : State) → is_end stops (step s).state ≡ true → steps_to stops (suc n) s ≡ 1
 to-here stops n s here = ap (λ b. if b then 1 else suc (steps_to stops n (step s).state)) here
@@ -197,6 +196,17 @@ unmet-between false n h unmet = refl
 unmet-at : (stops : List ℕ) (t : State) → is_met stops t ≡ false → is_at stops t ≡ false
 unmet-at stops (Bare m) unmet = unmet-between true (not (m.regs.pc == 0)) (has_breakpoint m.regs.pc stops) unmet
 unmet-at stops (Full k) unmet = unmet-between (is_guest_id k.lists.running) (not (k.regs.pc == 0)) (has_breakpoint k.regs.pc stops) unmet
+
+-- behind a machine that has not stopped
+pub went-on : (n : ℕ) (s : State) → stop_of (run n s).state ≡ None → stop_of s ≡ None
+went-on n s goes = on (stop_of s) refl
+  where
+    on : (o : Option Stop) → stop_of s ≡ o → stop_of s ≡ None
+    on None is = is
+    on (Some stop) is =
+        let stays = ap (λ (x : Stepped). stop_of x.state) (run-stopped n s (λ none. (let other = sym is ∙ none in cc))) in
+        let other : Some stop ≡ None = sym is ∙ sym stays ∙ goes in
+        cc
 
 -- no run ends before the last of them
 pub unended : (stops : List ℕ) (m : ℕ) (t : State) → Avoids stops m t → stop_of (run (m - 1) t).state ≡ None → (i : ℕ) → 0 < i → i < m → is_end stops (run i t).state ≡ false

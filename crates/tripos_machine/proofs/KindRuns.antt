@@ -1,5 +1,5 @@
 -- A run of a machine of one kind, as a run of its state.
-use Rattle.std.proofs.Common.{◌≡◌, ℕ, ◌<◌, ◌-◌, List, Bool, Option, None, sym, ap, arith, ◌∙◌, subst}
+use Rattle.std.proofs.Common.{◌≡◌, ℕ, ◌-◌, List, Bool, Option, None, sym, ap, arith, ◌∙◌, subst}
 use Rattle.bare_machine.specs.Run.{Avoids as BareAvoids, run as bare_run}
 use Rattle.bare_machine.specs.State.{BareState}
 use Rattle.machine_boot.specs.KernelCalls.KernelModel.Kernel.{Kernel}

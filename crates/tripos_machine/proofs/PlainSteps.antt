@@ -1,6 +1,5 @@
 -- A plain step of a machine of either kind.
-use Rattle.std.proofs.Common.{◌≡◌, ◌≢◌, ◌∙◌, ap, arith, suc, ℕ, ◌+◌, ◌<◌, ◌∷◌, length, List, Option, Some, None, MatchOption, slice_index, slice_index_or, subst, sym}
-use Rattle.std.specs.List.{Contains}
+use Rattle.std.proofs.Common.{◌≡◌, ap, arith, suc, ℕ, ◌∷◌, List, Option, Some, None, MatchOption, subst, sym}
 use Rattle.bare_machine.specs.CintExec.Places.{DifferAt, addresses}
 use Rattle.bare_machine.specs.CintExec.declared.places.Places.{Places}
 use Rattle.bare_machine.specs.Run.{IsPlainStep as IsBarePlainStep}

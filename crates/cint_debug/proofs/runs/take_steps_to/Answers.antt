@@ -1,6 +1,6 @@
 use Rattle.std.proofs.Common.{◌≡◌, ◌∙◌, ◌+◌, ◌-◌, ◌++◌, true, false, sym, ap, subst, arith}
 use Rattle.std.proofs.lemmas.Result.{err_from_is_err_and}
-use Rattle.tp_io.specs.Pending.{Gathers, IsGathered}
+use Rattle.tp_io.specs.Pending.{IsGathered}
 use Rattle.tp_io.proofs.GatheredTexts.{IsGathered-then}
 use Rattle.machine_history.specs.TriposMachine.Breakpoints.{Avoids}
 use Rattle.machine_history.specs.TriposMachine.State.{steps_of}
@@ -105,7 +105,7 @@ loop-taken-preserved g c =
       state = y.state ∙ next-state stops c.args.most taken m s t kept.state;
       told = further ∙ ap (λ z. taken + m + steps_to stops (c.args.most - (taken + m)) z) (sym y.state);
       text = subst (IsGathered (holds c.args.out.now) (holds c.gather.new.out) c.args.pending.now c.gather.new.pending) bytes (IsGathered-then kept.text c.in_ok-gather.ensures.text);
-      goes = λ few. end-goes stops c.advance-taken.new.machine.state (sym c.is_end.ensures ∙ c.if-is_end.false);
+      goes = λ few. end-goes stops c.advance-taken.new.self.state (sym c.is_end.ensures ∙ c.if-is_end.false);
       later = omega (arith, kept.later, c.in_ok-gather.ensures.cause.later);
     }
 
