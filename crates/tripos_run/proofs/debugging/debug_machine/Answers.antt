@@ -1,4 +1,4 @@
-use Rattle.std.proofs.Common.{◌≡◌, Bool, [], List, None, Option, Some, ap, subst}
+use Rattle.std.proofs.Common.{Bool, [], List, None, Option, Some, ap, subst}
 use Rattle.std.specs.Prelude.{if◌then◌else◌}
 use Rattle.hunk_text.specs.TextReader.Lines.{lines_of}
 use Rattle.cint_debug.specs.TriposMachine.State.{State}
