@@ -13,9 +13,9 @@ ghost use Rattle.adoption_law.specs.ClaimableStore.{AreClaimable, OpensData};
 ghost use Rattle.adoption_law.specs.ClaimCounts.{AreUsed, claim_count};
 ghost use Rattle.adoption_law.specs.Passes.{RootStands};
 
-/// Where root and blocks stand, and each word that a list has is claimed once, among the data of used blocks, no word is owned twice,
-/// and each is one of the store. Where the store holds the words of valid lists, what is claimed are such data. And words of a range,
-/// all of them such data, are data of one block.
+/// Where root and blocks stand, and each word that a list has is claimed once, among the data of used blocks, no word is owned
+/// twice, and each is one of the store. Where the store holds the words of valid lists, what is claimed are such data. And words
+/// of a range, all of them such data, are data of one block.
 pub fn claimed_law()
     ensures owns { (s : List ℕ) → RootStands s → IsTiled s
         → ((a : ℕ) → claim_count a (lists_in s) ≤ 1) → AreUsed s
@@ -28,11 +28,13 @@ pub fn claimed_law()
         → AreData bs p n }
 {}
 
-/// Where the open words are the data of the used blocks, the walks succeed exactly where all lists end, no word is met twice, and each
-/// is one of such data. So they succeed where the store holds the words of valid lists; and where they succeed, no word is owned twice.
+/// Where the open words are the data of the used blocks, the walks succeed exactly where all lists end, no word is met twice, and
+/// each is one of such data. So they succeed where the store holds the words of valid lists; and where they succeed, no word is
+/// owned twice.
 pub fn counted_law()
     ensures claimable { (s : List ℕ) (m : List Bool) → IsTiled s → OpensData s m
         → Can (AllEnd s) m (all_words s) ↔ AreClaimable s }
     ensures valid { (s : List ℕ) → HoldsLists s (lists_in s) → AreClaimable s }
-    ensures owns { (s : List ℕ) → RootStands s → IsTiled s → AreClaimable s → OwnsApart (lists_in s) }
+    ensures owns { (s : List ℕ) → RootStands s → IsTiled s → AreClaimable s
+        → OwnsApart (lists_in s) }
 {}

@@ -37,7 +37,8 @@ when-true false P t h = absurd (false≢true t)
 
 -- ---- task blocks
 
-task-size : (s : List ℕ) (t : ℕ) → 23 ≤ task_size_in s t
+-- a task block has 23 words at least
+pub task-size : (s : List ℕ) (t : ℕ) → 23 ≤ task_size_in s t
 task-size s t = on (is_guest_id (id_in s t)) (eqb (get_or s 111 0) 2)
   where
     on : (g v : Bool) → 23 ≤ cond g (cond v 30 23) 23

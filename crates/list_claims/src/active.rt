@@ -12,8 +12,8 @@ use word_store::{Store, word};
 /// Which word of a coroutine has its parent.
 const PARENT: u32 = 1;
 
-/// Claims the first word of each active coroutine of the task at t, from the current one outwards. The answer is true exactly where each
-/// of them is open, and none is met twice. Where the coroutines of the task alone are open, each is then one of them.
+/// Claims the first word of each active coroutine of the task at t, from the current one outwards. The answer is true exactly
+/// where each of them is open, and none is met twice. Where the coroutines of the task alone are open, each is then one of them.
 pub fn claim_active(store: &Store, own: &mut Claims, t: u32) -> bool
     requires room { length own.old ≤ length store.now }
     requires block { t + 23 ≤ length store.now }

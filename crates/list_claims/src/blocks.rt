@@ -8,8 +8,8 @@ use kernel_dispatch::{Block, FIRST_BLOCK, blocks};
 use word_claims::Claims;
 use word_store::{Store, word};
 
-/// Whether the words from 200 on are blocks: they follow one another, with even sizes of 2 words or more, up to the end word, which is 0.
-/// It looks once at each block.
+/// Whether the words from 200 on are blocks: they follow one another, with even sizes of 2 words or more, up to the end word,
+/// which is 0. It looks once at each block.
 pub fn are_tiled(store: &Store) -> bool
     ensures { IsTrue result ↔ IsTiled store.now }
 {
@@ -29,8 +29,8 @@ pub fn are_tiled(store: &Store) -> bool
     word(store, end) == 0
 }
 
-/// Opens the data of the used blocks, where no word is open. So no open word is one of the root, a size word, a word of a free block, or
-/// the end word.
+/// Opens the data of the used blocks, where no word is open. So no open word is one of the root, a size word, a word of a free
+/// block, or the end word.
 pub fn open_blocks(store: &Store, claims: &mut Claims)
     requires tiled { IsTiled store.now }
     requires room { length claims.old ≡ length store.now }

@@ -1,5 +1,5 @@
-// The blocks of a store that may have any words, and walks along all its lists. Each walk claims the words that it meets, so it ends,
-// and none meets a word twice.
+// The blocks of a store that may have any words, and walks along all its lists. Each walk claims the words that it meets, so it
+// ends, and none meets a word twice.
 #![tactic(auto)]
 
 pub mod active;

@@ -20,8 +20,9 @@ use word_store::Store;
 /// Which word of a coroutine is its link.
 const COROUTINE_LINK: u32 = 2;
 
-/// Claims the words of all lists: of the chain of tasks, of the modules, of the packets and the coroutines of each task, of the packets
-/// of the devices, and of the residents. The answer is true exactly where all lists end, and their words are open and apart.
+/// Claims the words of all lists: of the chain of tasks, of the modules, of the packets and the coroutines of each task, of the
+/// packets of the devices, and of the residents. The answer is true exactly where all lists end, and their words are open and
+/// apart.
 pub fn claim_lists(store: &Store, words: &mut Claims) -> bool
     requires { length words.old ≤ length store.now }
     ensures { IsTrue result ↔ Can (AllEnd store.now) words.old (all_words store.now) }
@@ -35,8 +36,8 @@ pub fn claim_lists(store: &Store, words: &mut Claims) -> bool
 // The task blocks.
 fn claim_chain(store: &Store, words: &mut Claims) -> bool
     requires { length words.old ≤ length store.now }
-    ensures answer { IsTrue result ↔ Can (IsChain store.now task_link first_task (tasks_in store.now))
-        words.old (chain_words store.now) }
+    ensures answer { IsTrue result ↔
+        Can (IsChain store.now task_link first_task (tasks_in store.now)) words.old (chain_words store.now) }
     ensures claimed { OnTrue result (AreClaimed words.old words.new (chain_words store.now)) }
     ensures size { length words.new ≡ length words.old }
     ensures walk { OnTrue result (CanWalk store.now task_link first_task) }
@@ -87,8 +88,9 @@ fn claim_task_lists(store: &Store, words: &mut Claims) -> bool
     requires room { length words.old ≤ length store.now }
     requires walk { CanWalk store.now task_link first_task }
     requires blocks { AreBlocks store.now (tasks_in store.now) }
-    ensures answer { IsTrue result ↔ Can (AllByRecursion (TaskListsEnd store.now) (tasks_in store.now))
-        words.old (flat_map (task_list_words store.now) (tasks_in store.now)) }
+    ensures answer { IsTrue result ↔
+        Can (AllByRecursion (TaskListsEnd store.now) (tasks_in store.now)) words.old
+        (flat_map (task_list_words store.now) (tasks_in store.now)) }
     ensures claimed { OnTrue result (AreClaimed words.old words.new
         (flat_map (task_list_words store.now) (tasks_in store.now))) }
     ensures size { length words.new ≡ length words.old }
@@ -122,7 +124,8 @@ fn claim_coroutines(store: &Store, words: &mut Claims, t: u32) -> bool
     requires block { t + 23 ≤ length store.now }
     ensures answer { IsTrue result ↔ Can (CoroutinesEnd store.now t)
         words.old (coroutine_words_at store.now t) }
-    ensures claimed { OnTrue result (AreClaimed words.old words.new (coroutine_words_at store.now t)) }
+    ensures claimed { OnTrue result
+        (AreClaimed words.old words.new (coroutine_words_at store.now t)) }
     ensures size { length words.new ≡ length words.old }
 {
     let head = store.address_of(t, TcbField::FirstCo.index());
@@ -134,7 +137,8 @@ pub(crate) fn claim_queue(store: &Store, words: &mut Claims, head: u32) -> bool
     requires { length words.old ≤ length store.now }
     ensures answer { IsTrue result ↔
         Can (QueueEnds store.now head) words.old (queue_words_at store.now head) }
-    ensures claimed { OnTrue result (AreClaimed words.old words.new (queue_words_at store.now head)) }
+    ensures claimed { OnTrue result
+        (AreClaimed words.old words.new (queue_words_at store.now head)) }
     ensures size { length words.new ≡ length words.old }
 {
     claim_list(store, words, head, 0, &Packets)

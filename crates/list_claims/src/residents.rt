@@ -90,7 +90,8 @@ fn claim_fault_packet(store: &Store, words: &mut Claims) -> bool
 // The packet of residents at p, where it is there and on no queue.
 fn claim_free(store: &Store, words: &mut Claims, there: bool, p: u32) -> bool
     ensures answer { IsTrue result ↔ Can (Unit {0}) words.old (free_packet there store.now p) }
-    ensures claimed { OnTrue result (AreClaimed words.old words.new (free_packet there store.now p)) }
+    ensures claimed { OnTrue result
+        (AreClaimed words.old words.new (free_packet there store.now p)) }
     ensures size { length words.new ≡ length words.old }
 {
     if !there || word(store, p) != NO_QUEUE {

@@ -1,5 +1,5 @@
 -- Lists whose words were claimed can be walked.
-use Rattle.std.proofs.Common.{◌≡◌, ◌↔◌, ℕ, ◌+◌, ◌-◌, ◌<◌, ◌≤◌, ◌||◌, Bool, true, false, List, [], ◌∷◌, cond, eqb, get_or, length, map, refl, sym, ap, subst, arith}
+use Rattle.std.proofs.Common.{◌≡◌, ◌↔◌, ℕ, ◌+◌, ◌-◌, ◌<◌, ◌≤◌, ◌||◌, Bool, true, List, [], ◌∷◌, length, map, refl, sym, ap, subst, arith}
 use Rattle.std.specs.List.{AllByRecursion, flat_map, list_any}
 use Rattle.kernel_dispatch.specs.LinkedList.Chain.{IsChain}
 use Rattle.word_store.specs.Count.{times, words_of}
@@ -9,16 +9,17 @@ use Rattle.kernel_dispatch.specs.GetvecChain.Tiling.{Follow, blocks_in}
 use Rattle.kernel_dispatch.proofs.Shown.GetvecChain.Tilings.{IsTiled-inside}
 use Rattle.kernel_dispatch.specs.PacketQueue.Queue.{link_of, packet_size, queue_at}
 use Rattle.kernel_dispatch.specs.TaskBlock.Lists.{coroutine_link, coroutines_in, first_coroutine}
-use Rattle.kernel_dispatch.specs.TaskBlock.TaskChain.{id_in, task_link, tasks_in}
+use Rattle.kernel_dispatch.specs.TaskBlock.TaskChain.{task_link, tasks_in}
 use Rattle.kernel_dispatch.specs.Coroutines.CoroutineWords.{coroutine_size}
 use Rattle.kernel_dispatch.specs.KernelModel.KernelRanges.{task_size_in}
 use Rattle.kernel_dispatch.specs.KernelModel.Owned.{clock_head, keyboard_head, output_head}
 use Rattle.kernel_dispatch.specs.KernelModel.Recovered.{lists_in, task_in}
-use Rattle.kernel_dispatch.specs.KernelModel.Task.{Task, is_guest_id, queue_head}
+use Rattle.kernel_dispatch.specs.KernelModel.Task.{Task, queue_head}
 use Rattle.kernel_dispatch.proofs.Shown.KernelModel.BlockStarts.{Tiles-Follow}
 use Rattle.list_claims.specs.BlockData.{is_used_data}
 use Rattle.list_claims.specs.ListWords.{all_words, chain_words, coroutine_words_at, device_rest, keyboard_rest, module_rest, module_words_in, output_rest, queue_words_at, resident_words_in, task_list_words, task_rest}
 use Rattle.list_claims.specs.ListEnds.{TaskListsEnd}
+use Rattle.list_claims.proofs.ListAnswers.{task-size}
 use Rattle.adoption_law.proofs.BlockData.{lies-in-data}
 use Rattle.adoption_law.proofs.ClaimableStore.{counted}
 use Rattle.list_passes.specs.ClaimedStore.{IsClaimed}
@@ -38,14 +39,6 @@ blocks-low s n (t ∷ ts) all =
     let size : ℕ = task_size_in s t in
     let last : t + (size - 1) < n = all (t + (size - 1)) (omega (arith, times-words_more (task_size_in s) (t + (size - 1)) t ts, times-within (t + (size - 1)) t size (omega arith) (omega (arith, task-size s t)))) in
     (omega (arith, last, task-size s t), blocks-low s n ts (λ a more. all a (omega (arith, more, times-words_more (task_size_in s) a t ts))))
-  where
-    task-size : (s : List ℕ) (t : ℕ) → 23 ≤ task_size_in s t
-    task-size s t = on (is_guest_id (id_in s t)) (eqb (get_or s 111 0) 2)
-      where
-        on : (g v : Bool) → 23 ≤ cond g (cond v 30 23) 23
-        on true true = omega arith
-        on true false = omega arith
-        on false v = omega arith
 
 all-weaker : (P Q : ℕ → Type 0) → ((p : ℕ) → P p → Q p) → (ps : List ℕ) → AllByRecursion P ps → AllByRecursion Q ps
 all-weaker P Q more [] all = tt
@@ -71,15 +64,7 @@ module _ (s : List ℕ) (c : IsClaimed s) where
   blocks = blocks-low s (length s) (tasks_in s) (λ a some. all-low a (omega (arith, some, times-append a (chain_words s) (module_rest s))))
 
   pub heads : AllByRecursion (λ t. t + 23 ≤ length s) (tasks_in s)
-  heads = all-weaker (λ t. t + task_size_in s t ≤ length s) (λ t. t + 23 ≤ length s) (λ t low. omega (arith, low, size t)) (tasks_in s) blocks
-    where
-      size : (t : ℕ) → 23 ≤ task_size_in s t
-      size t = on (is_guest_id (id_in s t)) (eqb (get_or s 111 0) 2)
-        where
-          on : (g v : Bool) → 23 ≤ cond g (cond v 30 23) 23
-          on true true = omega arith
-          on true false = omega arith
-          on false v = omega arith
+  heads = all-weaker (λ t. t + task_size_in s t ≤ length s) (λ t. t + 23 ≤ length s) (λ t low. omega (arith, low, task-size s t)) (tasks_in s) blocks
 
   pub chain-walk : CanWalk s task_link 101
   chain-walk = record { chain = c.claims.ends.chain; inside = all-weaker (λ t. t + 23 ≤ length s) (λ t. t < length s) (λ t low. omega (arith, low)) (tasks_in s) heads }

@@ -18,7 +18,7 @@ use Rattle.list_passes.proofs.Residents.{has-id}
 
 -- ---- the key packet
 
-key-is : (s : List ℕ) → (lists_in s).key ≡ cond ((lists_in s).residents && eqb (get_or s 271 0) no_queue) (Some (get_or s 274 0)) None
+pub key-is : (s : List ℕ) → (lists_in s).key ≡ cond ((lists_in s).residents && eqb (get_or s 271 0) no_queue) (Some (get_or s 274 0)) None
 unfolding lists_in
 key-is s = refl
 
@@ -46,7 +46,7 @@ free-at : (s : List ℕ) → (lists_in s).fault_packet_free ≡ (list_any (λ t.
 unfolding lists_in
 free-at s = refl
 
-free-is : (s : List ℕ) → (lists_in s).fault_packet_free ≡ (has_task 2 (lists_in s).tasks && ((lists_in s).residents && eqb (get_or s 310 0) no_queue))
+pub free-is : (s : List ℕ) → (lists_in s).fault_packet_free ≡ (has_task 2 (lists_in s).tasks && ((lists_in s).residents && eqb (get_or s 310 0) no_queue))
 free-is s = free-at s ∙ ap (λ b. b && ((lists_in s).residents && eqb (get_or s 310 0) no_queue)) (has-id s 2)
 
 pub fault-absent : (s : List ℕ) → has_task 2 (lists_in s).tasks ≡ false → Holds s (fault_packet_words (lists_in s).fault_packet_free)

@@ -21,8 +21,9 @@ use word_store::{Store, word_at};
 /// Which word of a coroutine has its highest index.
 const HIGHEST: u32 = 4;
 
-/// Whether each coroutine has a block of its size, and the active ones of each task are distinct coroutines of the task. Of each task
-/// the coroutines are opened, the active ones claimed one by one, and the rest shut again: so it takes a few looks at each coroutine.
+/// Whether each coroutine has a block of its size, and the active ones of each task are distinct coroutines of the task. Of each
+/// task the coroutines are opened, the active ones claimed one by one, and the rest shut again: so it takes a few looks at each
+/// coroutine.
 pub fn coroutines_stand(store: &Store, starts: &Claims, own: &mut Claims) -> bool
     requires claimed { IsClaimed store.now }
     requires starts { OpensStarts store.now starts.now }

@@ -16,8 +16,8 @@ use kernel_dispatch::numbers::{FIRST_GUEST, GLOBAL_WORDS, RESIDENT_WORDS};
 use kernel_dispatch::{TcbField, field, head_words, tasks};
 use word_store::Store;
 
-/// Whether the words of tasks stand that follow from others: the bit of the queue, the addresses of stack and globals, the zeros behind
-/// a guest's modules, and the fixed words of coroutines.
+/// Whether the words of tasks stand that follow from others: the bit of the queue, the addresses of stack and globals, the zeros
+/// behind a guest's modules, and the fixed words of coroutines.
 pub fn heads_stand(store: &Store) -> bool
     requires claimed { IsClaimed store.now }
     ensures { IsTrue result ↔
@@ -122,7 +122,8 @@ fn first_stands(store: &Store, t: u32) -> bool
 // Whether the words of the task block at t from 21 on stand: a guest's modules in order, and then zeros.
 fn further_stand(store: &Store, t: u32) -> bool
     requires can { CanPass store.now t }
-    requires first { slice_index store.now (t + 10) ≡ first_of (λ m. m) (task_in store.now t).modules 0 }
+    requires first { slice_index store.now (t + 10)
+        ≡ first_of (λ m. m) (task_in store.now t).modules 0 }
     ensures { IsTrue result ↔
         Holds store.now (fault_words (lists_in store.now).version (task_in store.now t)) }
 {

@@ -41,7 +41,7 @@ fn last_word(store: &Store) -> u64
 }
 
 /// Whether there are residents.
-pub(crate) fn has_residents(store: &Store) -> bool
+pub fn has_residents(store: &Store) -> bool
     ensures { result ≡ (lists_in store.now).residents }
 {
     root(store, RootField::Residents) != 0
@@ -55,8 +55,8 @@ pub(crate) fn has_task(store: &Store, id: u32) -> bool
     list_claims::has_task(store, id)
 }
 
-/// Whether the words of the residents that are no task's stand: those of the key packet and of the fault packet, where they are on no
-/// queue, and the arguments of the key packet.
+/// Whether the words of the residents that are no task's stand: those of the key packet and of the fault packet, where they are on
+/// no queue, and the arguments of the key packet.
 pub fn resident_words_stand(store: &Store) -> bool
     requires claimed { IsClaimed store.now }
     ensures { IsTrue result ↔ Holds store.now (resident_words (lists_in store.now)) }

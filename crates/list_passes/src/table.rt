@@ -51,7 +51,7 @@ fn running_of(store: &Store) -> u32
 }
 
 /// The highest number of a task.
-pub(crate) fn highest_of(store: &Store) -> u32
+pub fn highest_of(store: &Store) -> u32
     ensures value { result ≡ highest_id_of (lists_in store.now).version }
     ensures most { result ≤ 63 }
 {

@@ -44,7 +44,8 @@ fn each_stands(store: &Store, starts: &Claims, modules: &Claims) -> bool
     requires claimed { IsClaimed store.now }
     requires starts { OpensStarts store.now starts.now }
     requires modules { OpensMembers store.now (modules_in store.now) modules.now }
-    ensures { IsTrue result ↔ AllByRecursion (IsTask (lists_in store.now)) (lists_in store.now).tasks }
+    ensures { IsTrue result ↔
+        AllByRecursion (IsTask (lists_in store.now)) (lists_in store.now).tasks }
 {
     for t in tasks(store) {
         if !task_stands(store, starts, modules, t) {

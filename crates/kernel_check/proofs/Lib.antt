@@ -1,0 +1,6 @@
+pub mod ClaimedQueues
+pub mod TaskNumbers
+pub mod PacketRules
+pub mod QueuedPackets
+pub mod QueueRules
+pub mod WholeCheck
