@@ -4,3 +4,4 @@ pub mod PacketRules
 pub mod QueuedPackets
 pub mod QueueRules
 pub mod WholeCheck
+pub mod RunningTask

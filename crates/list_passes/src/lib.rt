@@ -18,5 +18,5 @@ pub use module_pass::modules_stand;
 pub use resident_pass::{has_residents, resident_block_stands, resident_words_stand};
 pub use root_pass::root_stands;
 pub use starts::{open_modules, open_starts};
-pub use table::{highest_of, running_stands, table_stands};
+pub use table::{highest_of, running_of, running_stands, table_stands};
 pub use task_pass::tasks_stand;

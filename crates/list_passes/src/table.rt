@@ -38,8 +38,8 @@ pub fn running_stands(store: &Store) -> bool
     root(store, RootField::Running) == address_of(store, running_of(store))
 }
 
-// The number that is read at the word of the running task.
-fn running_of(store: &Store) -> u32
+/// The number of the task at whose block the word of the running task is, or 0.
+pub fn running_of(store: &Store) -> u32
     ensures { result ≡ (lists_in store.now).running }
 {
     let t = root(store, RootField::Running);
