@@ -5,3 +5,4 @@ pub mod QueuedPackets
 pub mod QueueRules
 pub mod WholeCheck
 pub mod RunningTask
+pub mod FaultReports

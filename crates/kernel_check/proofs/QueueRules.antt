@@ -10,6 +10,7 @@ use Rattle.kernel_dispatch.specs.KernelModel.Lists.{address_of_task, has_task}
 use Rattle.kernel_dispatch.specs.KernelModel.Recovered.{lists_in, packet_in, packets_at, task_in}
 use Rattle.kernel_dispatch.specs.KernelModel.Task.{queue_head}
 use Rattle.kernel_dispatch.specs.KernelModel.ValidBlocks.{AreData}
+use Rattle.kernel_dispatch.specs.KernelModel.ValidTasks.{TasksStand}
 use Rattle.kernel_dispatch.specs.KernelModel.ValidQueues.{MayStand, NeverFall, Place}
 use Rattle.kernel_dispatch.specs.KernelModel.ValidQueues.Place.{Work}
 use Rattle.list_passes.specs.ClaimedStore.{IsClaimed}
@@ -183,8 +184,8 @@ module _ (s : List ℕ) where
   pub fault-absent : (Q : Bool) → has_task 2 (lists_in s).tasks ≡ false → (lists_in s).fault_packet_free ≡ (has_task 2 (lists_in s).tasks && not Q)
   fault-absent Q none = said-absent (lists_in s).fault_packet_free (has_task 2 (lists_in s).tasks) Q none (free-is s ∙ ap (λ b. b && ((lists_in s).residents && eqb (get_or s 310 0) no_queue)) none)
 
-  pub fault-free : AreTasksKnown s → (w : ℕ) → w ≡ get_or s 310 0 → w ≡ 4294967295 → has_task 2 (lists_in s).tasks ≡ true → (lists_in s).fault_packet_free ≡ true
-  fault-free k w read is there = free-is s ∙ (λ i. there i && (k.tasks.reporter there i && eq-eqb (get_or s 310 0) no_queue (sym read ∙ is) i))
+  pub fault-free : TasksStand (lists_in s) → (w : ℕ) → w ≡ get_or s 310 0 → w ≡ 4294967295 → has_task 2 (lists_in s).tasks ≡ true → (lists_in s).fault_packet_free ≡ true
+  fault-free k w read is there = free-is s ∙ (λ i. there i && (k.reporter there i && eq-eqb (get_or s 310 0) no_queue (sym read ∙ is) i))
 
   pub fault-other : (w : ℕ) → w ≡ get_or s 310 0 → w ≢ 4294967295 → (lists_in s).fault_packet_free ≡ false
   fault-other w read other =

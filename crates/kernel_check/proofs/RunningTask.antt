@@ -1,5 +1,5 @@
 -- Which task runs, and what the registers and the ticks are then.
-use Rattle.std.proofs.Common.{◌≡◌, ◌≢◌, ◌↔◌, ℕ, ◌/◌, Bool, true, false, Option, Some, None, List, [], ◌∷◌, cond, eqb, get_or, leb, map, refl, sym, ap, ◌∙◌, subst}
+use Rattle.std.proofs.Common.{◌≡◌, ◌≢◌, ◌↔◌, ℕ, ◌/◌, Bool, true, false, Option, Some, List, [], ◌∷◌, cond, eqb, get_or, leb, map, refl, sym, ap, ◌∙◌, subst}
 use Rattle.std.specs.Prelude.{find}
 use Rattle.std.specs.List.{AllByRecursion}
 use Rattle.std.specs.Option.{option_map, option_map_or}
@@ -33,9 +33,6 @@ number-ready s = number-found s (tasks_in s)
 
 pub some-ready : (s : List ℕ) (o : Option ℕ) (t w : ℕ) → o ≡ first_ready_block (lists_in s) → o ≡ Some t → w ≡ id_in s t → w ≡ first_ready (lists_in s).tasks
 some-ready s o t w is some read = read ∙ ap (λ o. option_map_or (id_in s) o 0) (sym some ∙ is) ∙ number-ready s
-
-pub none-ready : (s : List ℕ) (o : Option ℕ) → o ≡ first_ready_block (lists_in s) → o ≡ None → 0 ≡ first_ready (lists_in s).tasks
-none-ready s o is none = ap (λ o. option_map_or (id_in s) o 0) (sym none ∙ is) ∙ number-ready s
 
 -- ---- the states
 

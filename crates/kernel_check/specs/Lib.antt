@@ -1,3 +1,4 @@
 pub mod Places
 pub mod KnownTasks
 pub mod ClaimedQueue
+pub mod Reports

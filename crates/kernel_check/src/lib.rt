@@ -3,6 +3,7 @@
 
 pub mod between;
 pub mod check;
+pub mod fault_reports;
 mod packet_rules;
 pub mod places;
 pub mod queue_pass;
@@ -10,3 +11,4 @@ mod queued;
 
 pub use between::{first_runs, registers_stand, ticks_stand};
 pub use check::holds_lists;
+pub use fault_reports::faults_stand;

@@ -11,7 +11,7 @@ pub returns-then-word-eq-NO_QUEUE : goal.returns-then-word-eq-NO_QUEUE
 returns-then-word-eq-NO_QUEUE c =
     said-free (lists_in c.args.store.now).fault_packet_free (has_task 2 (lists_in c.args.store.now).tasks) c.is_queued-queued.result (is_queued 310 (lists_in c.args.store.now))
     (sym c.is_task.ensures ∙ c.if-not-is_task.false) c.is_queued-queued.ensures
-    (fault-free c.args.store.now c.requires c.word.result c.word.ensures c.if-word-eq-NO_QUEUE.true (sym c.is_task.ensures ∙ c.if-not-is_task.false))
+    (fault-free c.args.store.now c.requires.tasks c.word.result c.word.ensures c.if-word-eq-NO_QUEUE.true (sym c.is_task.ensures ∙ c.if-not-is_task.false))
 
 pub returns-else-word-eq-NO_QUEUE : goal.returns-else-word-eq-NO_QUEUE
 returns-else-word-eq-NO_QUEUE c =
