@@ -1,14 +1,23 @@
 -- All passes together.
-use Rattle.std.proofs.Common.{◌≡◌, ◌↔◌, ℕ, Bool, true, false, List, length, replicate, sym, ap, ◌∙◌, arith, inl, inr}
+use Rattle.std.proofs.Common.{◌≡◌, ◌↔◌, ℕ, Bool, true, false, List, length, replicate, sym, ap, ◌∙◌, arith, inl, inr, ◌<◌, [], ◌∷◌}
+use Rattle.std.specs.List.{AllByRecursion}
 use Rattle.std.proofs.lemmas.Bool.{cases_lt, false≢true}
 use Rattle.std.proofs.lemmas.List.{get_or-replicate, get_or_past, length-replicate}
 use Rattle.kernel_dispatch.specs.KernelModel.HoldsLists.{HoldsLists}
-use Rattle.kernel_dispatch.specs.KernelModel.Recovered.{lists_in}
+use Rattle.kernel_dispatch.specs.KernelModel.Recovered.{lists_in, task_in}
+use Rattle.kernel_dispatch.specs.TaskBlock.Lists.{coroutines_in}
+use Rattle.kernel_dispatch.specs.TaskBlock.TaskChain.{tasks_in}
+use Rattle.kernel_dispatch.specs.KernelModel.ValidTasks.{CoroutinesStand}
+use Rattle.kernel_dispatch.proofs.Shown.KernelModel.EachMember.{all-each}
 use Rattle.word_claims.specs.Marks.{is_open}
-use Rattle.adoption_law.specs.Passes.{Passes}
+use Rattle.adoption_law.specs.Passes.{HeadStands, Passes}
 use Rattle.adoption_law.proofs.AllPasses.{passes}
 use Rattle.adoption_law.proofs.ClaimableStore.{valid-claimable}
 use Rattle.list_passes.specs.ClaimedStore.{IsClaimed}
+use Rattle.list_passes.specs.Frames.{HasParent, OwnsCoroutines}
+use Rattle.list_passes.proofs.ClaimedWalks.{of-tasks}
+use Rattle.list_passes.proofs.FrameWords.{Frame, frames-all, parents-tell}
+use Rattle.kernel_check.proofs.ClaimedQueues.{some-tasks}
 use Rattle.list_passes.specs.StartMarks.{IsShut}
 
 -- a pass that does not find what it looks for
@@ -28,3 +37,24 @@ is-shut s m is = record {
   size = ap length is ∙ length-replicate (length s) false;
   none = λ a t. absurd (false≢true (sym (ap (λ z. is_open z a) is ∙ shut (length s) a) ∙ t));
 }
+
+-- ---- coroutines
+
+-- the coroutines of tasks that own them stand
+pub owned-stand : (s : List ℕ) → AllByRecursion (OwnsCoroutines s) (tasks_in s) → AllByRecursion (CoroutinesStand (lists_in s)) (lists_in s).tasks
+owned-stand s all = (of-tasks s (CoroutinesStand (lists_in s))).0 (all-each (OwnsCoroutines s) (λ t. CoroutinesStand (lists_in s) (task_in s t)) (λ t h. h.stand) (tasks_in s) all)
+
+-- and where the words of tasks stand, each tells whether it is active
+pub all-owned : (s : List ℕ) → IsClaimed s → Passes s → AllByRecursion (OwnsCoroutines s) (tasks_in s)
+all-owned s c p = each (tasks_in s) (some-tasks s c) ((of-tasks s (CoroutinesStand (lists_in s))).1 p.coroutines) ((of-tasks s (HeadStands s (lists_in s))).1 p.heads)
+  where
+    each : (ts : List ℕ) → AllByRecursion (λ t. 0 < t) ts → AllByRecursion (λ t. CoroutinesStand (lists_in s) (task_in s t)) ts → AllByRecursion (λ t. HeadStands s (lists_in s) (task_in s t)) ts
+        → AllByRecursion (OwnsCoroutines s) ts
+    each [] some stand heads = tt
+    each (t ∷ ts) some stand heads = (
+      record {
+        stand = stand.0;
+        parents = parents-tell s t (λ e. omega (arith, e, some.0)) (coroutines_in s t) (all-each (Frame s t) (HasParent s t) (λ k f. f.1) (coroutines_in s t) (frames-all s t heads.0.coroutines));
+      },
+      each ts some.1 stand.1 heads.1,
+    )

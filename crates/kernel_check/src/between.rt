@@ -14,8 +14,8 @@ use kernel_dispatch::{RootField, TcbField, choose, field, root, tasks};
 use list_passes::running_of;
 use word_store::{Regs, Store};
 
-/// Whether the first ready task runs, or nobody where none is ready, and exactly that task has the state of one that runs. It looks
-/// twice at each task.
+/// Whether the first ready task runs, or nobody where none is ready, and exactly that task has the state of one that runs. It
+/// looks twice at each task.
 pub fn first_runs(store: &Store) -> bool
     requires { HoldsLists store.now (lists_in store.now) }
     ensures { IsTrue result ↔ FirstRuns (lists_in store.now) }

@@ -17,8 +17,8 @@ use kernel_dispatch::{NO_QUEUE, TcbField, field, packets, tasks};
 use list_claims::has_task;
 use word_store::{Store, word, word_at};
 
-/// Whether the fault packet, where there is one, is on a queue exactly where some fault was not reported yet, and is from a guest with
-/// such a fault. It looks twice at each task, and once at each packet of the task that reports faults.
+/// Whether the fault packet, where there is one, is on a queue exactly where some fault was not reported yet, and is from a guest
+/// with such a fault. It looks twice at each task, and once at each packet of the task that reports faults.
 pub fn faults_stand(store: &Store) -> bool
     requires { HoldsLists store.now (lists_in store.now) }
     ensures { IsTrue result ↔ FaultsStand (lists_in store.now) }

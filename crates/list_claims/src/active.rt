@@ -10,7 +10,7 @@ use word_claims::Claims;
 use word_store::{Store, word};
 
 /// Which word of a coroutine has its parent.
-const PARENT: u32 = 1;
+pub const PARENT: u32 = 1;
 
 /// Claims the first word of each active coroutine of the task at t, from the current one outwards. The answer is true exactly
 /// where each of them is open, and none is met twice. Where the coroutines of the task alone are open, each is then one of them.

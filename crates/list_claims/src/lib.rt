@@ -9,7 +9,7 @@ pub mod lists;
 mod residents;
 pub mod search;
 
-pub use active::claim_active;
+pub use active::{PARENT, claim_active};
 pub use blocks::{are_tiled, open_blocks};
 pub use lists::claim_lists;
 pub use search::has_task;

@@ -12,12 +12,11 @@ use Rattle.kernel_dispatch.specs.TaskBlock.Lists.{coroutine_link, coroutines_in,
 use Rattle.kernel_dispatch.specs.TaskBlock.TaskChain.{task_link, tasks_in}
 use Rattle.kernel_dispatch.specs.Coroutines.CoroutineWords.{coroutine_size}
 use Rattle.kernel_dispatch.specs.KernelModel.KernelRanges.{task_size_in}
-use Rattle.kernel_dispatch.specs.KernelModel.Owned.{clock_head, keyboard_head, output_head}
 use Rattle.kernel_dispatch.specs.KernelModel.Recovered.{lists_in, task_in}
 use Rattle.kernel_dispatch.specs.KernelModel.Task.{Task, queue_head}
 use Rattle.kernel_dispatch.proofs.Shown.KernelModel.BlockStarts.{Tiles-Follow}
 use Rattle.list_claims.specs.BlockData.{is_used_data}
-use Rattle.list_claims.specs.ListWords.{all_words, chain_words, coroutine_words_at, device_rest, keyboard_rest, module_rest, module_words_in, output_rest, queue_words_at, resident_words_in, task_list_words, task_rest}
+use Rattle.list_claims.specs.ListWords.{all_words, chain_words, coroutine_words_at, device_rest, module_rest, module_words_in, queue_words_at, task_list_words, task_rest}
 use Rattle.list_claims.specs.ListEnds.{TaskListsEnd}
 use Rattle.list_claims.proofs.ListAnswers.{task-size}
 use Rattle.adoption_law.proofs.BlockData.{lies-in-data}
@@ -56,9 +55,6 @@ module _ (s : List ℕ) (c : IsClaimed s) where
 
   rest-low : (a : ℕ) → 0 < times a (task_rest s) → a < length s
   rest-low a some = all-low a (omega (arith, some, times-append a (chain_words s) (module_rest s), times-append a (module_words_in s) (task_rest s)))
-
-  devices-low : (a : ℕ) → 0 < times a (device_rest s) → a < length s
-  devices-low a some = rest-low a (omega (arith, some, times-append a (flat_map (task_list_words s) (tasks_in s)) (device_rest s)))
 
   pub blocks : AllByRecursion (λ t. t + task_size_in s t ≤ length s) (tasks_in s)
   blocks = blocks-low s (length s) (tasks_in s) (λ a some. all-low a (omega (arith, some, times-append a (chain_words s) (module_rest s))))
@@ -100,32 +96,6 @@ module _ (s : List ℕ) (c : IsClaimed s) where
 
   pub can-pass : AllByRecursion (CanPass s) (tasks_in s)
   can-pass = tasks-pass (tasks_in s) c.claims.ends.tasks blocks heads (λ a some. rest-low a (omega (arith, some, times-append a (flat_map (task_list_words s) (tasks_in s)) (device_rest s))))
-
-  -- ---- the devices
-
-  clock-low : (a : ℕ) → 0 < times a (queue_words_at s clock_head) → a < length s
-  clock-low a some = devices-low a (omega (arith, some, times-append a (queue_words_at s clock_head) (keyboard_rest s)))
-
-  keys-low : (a : ℕ) → 0 < times a (keyboard_rest s) → a < length s
-  keys-low a some = devices-low a (omega (arith, some, times-append a (queue_words_at s clock_head) (keyboard_rest s)))
-
-  keyboard-low : (a : ℕ) → 0 < times a (queue_words_at s keyboard_head) → a < length s
-  keyboard-low a some = keys-low a (omega (arith, some, times-append a (queue_words_at s keyboard_head) (output_rest s)))
-
-  outs-low : (a : ℕ) → 0 < times a (output_rest s) → a < length s
-  outs-low a some = keys-low a (omega (arith, some, times-append a (queue_words_at s keyboard_head) (output_rest s)))
-
-  output-low : (a : ℕ) → 0 < times a (queue_words_at s output_head) → a < length s
-  output-low a some = outs-low a (omega (arith, some, times-append a (queue_words_at s output_head) (resident_words_in s)))
-
-  pub clock-walk : CanWalk s link_of 105
-  clock-walk = queue-walk 105 c.claims.ends.clock clock-low
-
-  pub keyboard-walk : CanWalk s link_of 106
-  keyboard-walk = queue-walk 106 c.claims.ends.keyboard keyboard-low
-
-  pub output-walk : CanWalk s link_of 107
-  output-walk = queue-walk 107 c.claims.ends.output output-low
 
 -- ---- walks over the tasks
 

@@ -1,9 +1,10 @@
 -- The walks over the coroutines of a task.
-use Rattle.std.proofs.Common.{◌≡◌, ◌≢◌, ◌↔◌, ℕ, ◌+◌, ◌<◌, ◌≤◌, ◌&&◌, ◌||◌, Bool, true, false, List, [], ◌∷◌, cond, eqb, leb, ltb, length, map, refl, sym, ap, ◌∙◌, subst, arith, inl, inr}
+use Rattle.std.proofs.Common.{◌≡◌, ◌≢◌, ◌↔◌, ℕ, ◌+◌, ◌<◌, ◌≤◌, ◌&&◌, ◌||◌, Bool, true, false, not, List, [], ◌∷◌, cond, eqb, get_or, leb, ltb, length, map, refl, sym, ap, ◌∙◌, subst, arith, inl, inr}
 use Rattle.std.specs.Bool.{OnFalse, OnTrue}
 use Rattle.std.specs.List.{AllByRecursion}
-use Rattle.std.proofs.lemmas.Bool.{cases_eq, eqb-true, false≢true}
+use Rattle.std.proofs.lemmas.Bool.{cases_eq, cases_lt, eq-eqb, eqb-true, false≢true, ne_eqb}
 use Rattle.std.proofs.lemmas.Bool.Decides.{nat_tests}
+use Rattle.word_store.specs.Count.{times}
 use Rattle.kernel_dispatch.specs.LinkedList.Places.{has}
 use Rattle.kernel_dispatch.proofs.Shown.LinkedList.AllMembers.{all-has, all-members}
 use Rattle.kernel_dispatch.proofs.Shown.LinkedList.Members.{has-times, times-has}
@@ -20,6 +21,7 @@ use Rattle.word_claims.proofs.ClaimedWords.{open-low}
 use Rattle.list_claims.specs.ListWords.{Claimable}
 use Rattle.list_passes.specs.StartMarks.{IsShut, OpensMembers}
 use Rattle.list_passes.specs.CanPass.{CanPass}
+use Rattle.list_passes.specs.Frames.{TellsParent}
 use Rattle.list_passes.proofs.ClaimedWalks.{of-map}
 
 abbrev pub Body : List ℕ → ℕ → Type 0
@@ -46,6 +48,12 @@ map-coroutines : (s : List ℕ) (cs : List ℕ) → map address_of (map (corouti
 map-coroutines s [] = refl
 map-coroutines s (c ∷ cs) = ap (λ z. c ∷ z) (map-coroutines s cs)
 
+no-times : (a : ℕ) (xs : List ℕ) → has a xs ≡ false → times a xs ≡ 0
+no-times a xs none = elim (cases_lt 0 (times a xs)) [ inl some ↦ absurd (false≢true (sym none ∙ times-has a xs some)) | inr few ↦ omega (arith, few) ]
+
+pub members-read : (s : List ℕ) (t : ℕ) → coroutine_addresses (task_in s t) ≡ coroutines_in s t
+members-read s t = map-coroutines s (coroutines_in s t)
+
 module _ (s : List ℕ) (t : ℕ) (marks : List Bool) (can : CanPass s t) (o : OpensMembers s (coroutines_in s t) marks) where
   members-are : coroutine_addresses (task_in s t) ≡ coroutines_in s t
   members-are = map-coroutines s (coroutines_in s t)
@@ -67,6 +75,24 @@ module _ (s : List ℕ) (t : ℕ) (marks : List Bool) (can : CanPass s t) (o : O
         o.are_open a (omega (arith, low)) ∙ there;
     apart = k.distinct;
   }
+
+  -- of the coroutines those are left open that are not active
+  pub left-idle : (new : List Bool) → AreClaimed marks new (active_in s t) → AllByRecursion (λ a. is_open new a ≡ not (has a (active_in s t))) (coroutines_in s t)
+  left-idle new c = all-members (λ a. is_open new a ≡ not (has a (active_in s t))) (coroutines_in s t) each
+    where
+      each : (a : ℕ) → has a (coroutines_in s t) ≡ true → is_open new a ≡ not (has a (active_in s t))
+      each a there =
+          let low : a + 10 ≤ length s = all-has (λ a. a + 10 ≤ length s) a (coroutines_in s t) can.bodies there in
+          let before : is_open marks a ≡ true = o.are_open a (omega (arith, low)) ∙ there in
+          on (has a (active_in s t)) refl before
+        where
+          on : (b : Bool) → has a (active_in s t) ≡ b → is_open marks a ≡ true → is_open new a ≡ not b
+          on true is before = shut (is_open new a) refl
+            where
+              shut : (x : Bool) → is_open new a ≡ x → is_open new a ≡ false
+              shut true e = absurd (omega (arith, ((c.marks a).0 e).1, has-times a (active_in s t) is))
+              shut false e = e
+          on false is before = (c.marks a).1 (before, no-times a (active_in s t) is)
 
   -- what is left open are coroutines
   pub left-open : (new : List Bool) → AreClaimed marks new (active_in s t) → (a : ℕ) → is_open new a ≡ true → has a (coroutines_in s t) ≡ true
@@ -131,3 +157,26 @@ shut-next s m v c bs rest false g is answer set none = shut-none s m v c bs rest
 
 pub all-shut : (s : List ℕ) (m : List Bool) (bs : List ℕ) → IsShutting s m bs → bs ≡ [] → IsShut s m
 all-shut s m bs g is = record { size = g.size; none = λ a shown. false≢true (ap (has a) (sym is) ∙ g.only a shown) }
+
+-- ---- their parents
+
+pub tells-open : (s : List ℕ) (t c : ℕ) (m : List Bool) (b : Bool) → is_open m c ≡ not (has c (active_in s t)) → ((b ≡ true) ↔ (eqb (get_or s (c + 1) 0) 0 ≡ is_open m c)) → (b ≡ true) ↔ TellsParent s t c
+tells-open s t c m b idle answer = (λ y. answer.0 y ∙ idle, λ h. answer.1 (h ∙ sym idle))
+
+pub no-word : (w : ℕ) (v : ℕ) (b : Bool) → w ≡ v → w ≡ 0 → (b ≡ true) ↔ (eqb v 0 ≡ b)
+no-word w v b read none =
+    let z : eqb v 0 ≡ true = eq-eqb v 0 (sym read ∙ none) in (
+      λ t. z ∙ sym t,
+      λ e. sym e ∙ z,
+    )
+
+pub some-word : (w : ℕ) (v : ℕ) (b : Bool) → w ≡ v → w ≢ 0 → (not b ≡ true) ↔ (eqb v 0 ≡ b)
+some-word w v b read some =
+    let z : eqb v 0 ≡ false = ne_eqb v 0 (λ e. some (read ∙ e)) in (
+      λ t. z ∙ turn b t,
+      λ e. ap not (sym e ∙ z),
+    )
+  where
+    turn : (b : Bool) → not b ≡ true → false ≡ b
+    turn true e = absurd (false≢true e)
+    turn false e = refl

@@ -2,12 +2,14 @@
 ghost use Rattle.std.specs.Prelude.{◌≡◌, ◌↔◌, ◌+◌, IsTrue, slice_index};
 ghost use Rattle.kernel_dispatch.specs.OwnedWords.LinkedWords.{first_of};
 ghost use Rattle.kernel_dispatch.specs.OwnedWords.Owned.{Holds};
+ghost use Rattle.kernel_dispatch.specs.TaskBlock.TaskChain.{tasks_in};
 ghost use Rattle.kernel_dispatch.specs.KernelModel.Recovered.{lists_in, task_in};
 ghost use Rattle.kernel_dispatch.specs.KernelModel.Task.{fault_words, globals_of, queue_bit, stack_of, state_words};
 ghost use Rattle.std.specs.List.{AllByRecursion};
 ghost use Rattle.adoption_law.specs.Passes.{HeadStands};
 ghost use Rattle.list_passes.specs.ClaimedStore.{IsClaimed};
 ghost use Rattle.list_passes.specs.CanPass.{CanPass};
+ghost use Rattle.list_passes.specs.Frames.{OwnsCoroutines};
 ghost use Rattle.list_passes.specs.TaskRules.{IsDense};
 
 use crate::frames::frames_stand;
@@ -20,6 +22,7 @@ use word_store::Store;
 /// behind a guest's modules, and the fixed words of coroutines.
 pub fn heads_stand(store: &Store) -> bool
     requires claimed { IsClaimed store.now }
+    requires own { AllByRecursion (OwnsCoroutines store.now) (tasks_in store.now) }
     ensures { IsTrue result ↔
         AllByRecursion (HeadStands store.now (lists_in store.now)) (lists_in store.now).tasks }
 {
@@ -34,6 +37,7 @@ pub fn heads_stand(store: &Store) -> bool
 // The same of the task at t.
 fn head_stands(store: &Store, t: u32) -> bool
     requires can { CanPass store.now t }
+    requires own { OwnsCoroutines store.now t }
     ensures { IsTrue result ↔ HeadStands store.now (lists_in store.now) (task_in store.now t) }
 {
     if !state_stands(store, t) {

@@ -1,7 +1,7 @@
 use Rattle.std.proofs.Common.{◌∙◌, false, replicate, ap}
 use Rattle.adoption_law.proofs.OwnedOnce.{owned-once}
 use Rattle.adoption_law.proofs.AllPasses.{holds-lists, passes}
-use Rattle.kernel_check.proofs.WholeCheck.{is-shut, refuse}
+use Rattle.kernel_check.proofs.WholeCheck.{all-owned, owned-stand, is-shut, refuse}
 use Rattle.kernel_check.proofs.check.holds_claimed.Goals as goal
 
 pub open_starts-requires-clause-shut : goal.open_starts-requires-clause-shut
@@ -33,7 +33,7 @@ returns c = (
     tasks = c.tasks_stand.ensures.0 c.if-not-tasks_stand.false;
     table = c.table_stands.ensures.0 c.if-not-table_stands.false;
     running = c.running_stands.ensures.0 c.if-not-running_stands.false;
-    coroutines = c.coroutines_stand.ensures.0 c.if-not-coroutines_stand.false;
+    coroutines = owned-stand c.args.store.now (c.coroutines_stand.ensures.0 c.if-not-coroutines_stand.false);
     heads = c.heads_stand.ensures.0 c.if-not-heads_stand.false;
     resident_block = c.resident_block_stands.ensures.0 c.if-not-resident_block_stands.false;
     queues = c.queues_stand.ensures.0 c.if-not-queues_stand.false;
@@ -51,3 +51,10 @@ queues_stand-requires-clause-known c = record {
 
 pub queues_stand-requires-clause-running : goal.queues_stand-requires-clause-running
 queues_stand-requires-clause-running c = c.running_stands.ensures.0 c.if-not-running_stands.false
+
+pub heads_stand-requires-clause-own : goal.heads_stand-requires-clause-own
+heads_stand-requires-clause-own c = c.coroutines_stand.ensures.0 c.if-not-coroutines_stand.false
+
+pub returns-then-not-coroutines_stand : goal.returns-then-not-coroutines_stand
+returns-then-not-coroutines_stand c =
+    refuse c.args.store.now _ c.coroutines_stand.result c.coroutines_stand.ensures c.if-not-coroutines_stand.true (λ p. all-owned c.args.store.now c.requires p)
