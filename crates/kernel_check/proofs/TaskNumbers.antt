@@ -1,39 +1,18 @@
 -- An entry of the task table tells whether there is a task with the number.
-use Rattle.std.proofs.Common.{◌≡◌, ◌≢◌, ℕ, ◌+◌, ◌-◌, ◌<◌, ◌≤◌, ◌||◌, Bool, true, false, not, Some, List, [], ◌∷◌, cond, eqb, get_or, refl, sym, ap, ◌∙◌, subst, arith, inl, inr}
+use Rattle.std.proofs.Common.{◌≡◌, ◌≢◌, ℕ, ◌+◌, ◌-◌, ◌<◌, ◌≤◌, ◌||◌, Bool, true, false, not, List, [], ◌∷◌, cond, eqb, get_or, refl, sym, ap, ◌∙◌, subst, arith}
 use Rattle.std.specs.List.{AllByRecursion}
-use Rattle.std.proofs.lemmas.Bool.{cases_eq, cases_lt, eqb-true, false≢true, ne_eqb}
+use Rattle.std.proofs.lemmas.Bool.{eqb-true, false≢true, ne_eqb}
 use Rattle.kernel_dispatch.specs.TaskBlock.HeldTasks.{address_with}
 use Rattle.kernel_dispatch.specs.KernelModel.Lists.{Lists, has_task}
 use Rattle.kernel_dispatch.specs.KernelModel.Recovered.{lists_in}
 use Rattle.kernel_dispatch.specs.KernelModel.Task.{Task, task_address, task_id}
-use Rattle.kernel_dispatch.specs.KernelModel.ValidTasks.{IsResident, IsTask, resident_place}
+use Rattle.kernel_dispatch.specs.KernelModel.ValidTasks.{IsTask}
 use Rattle.kernel_dispatch.specs.KernelModel.Versions.{highest_id_of}
 use Rattle.list_passes.proofs.ClaimedWalks.{of-tasks}
 use Rattle.list_passes.proofs.TaskTable.{holds-entries}
-use Rattle.list_passes.proofs.TaskWalks.{guest-is, guest-not}
+use Rattle.list_passes.proofs.TaskWalks.{IsNumber, task-number}
 use Rattle.kernel_check.specs.KnownTasks.{AreTasksKnown}
 use Rattle.kernel_check.proofs.ClaimedQueues.{some-tasks}
-
-abbrev IsNumber : Lists → ℕ → Type 0
-IsNumber l id = (1 ≤ id) × (id ≤ highest_id_of l.version)
-
-highest-low : (v : ℕ) → 20 ≤ highest_id_of v
-highest-low v = on (eqb v 2)
-  where
-    on : (b : Bool) → 20 ≤ cond b 63 20
-    on true = omega arith
-    on false = omega arith
-
-task-number : (l : Lists) (t : Task) → IsTask l t → IsNumber l t.id
-task-number l t k = elim (cases_lt t.id 5) [
-  | inl low ↦
-      let r : IsResident t = k.resident (guest-not t.id t.id refl low) in
-      elim (cases_eq t.id 0) [
-        | inl none ↦ absurd (let e : resident_place 0 ≡ Some (t.address, t.priority) = ap resident_place (sym none) ∙ r.place in cc)
-        | inr some ↦ (omega (arith, some), omega (arith, low, highest-low l.version))
-      ]
-  | inr high ↦ (omega (arith, high), (k.guest (guest-is t.id t.id refl (omega (arith, high)))).high)
-]
 
 numbers-in : (l : Lists) (ts : List Task) (id : ℕ) → AllByRecursion (IsTask l) ts → has_task id ts ≡ true → IsNumber l id
 numbers-in l [] id all e = absurd (false≢true e)

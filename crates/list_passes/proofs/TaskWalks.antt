@@ -1,9 +1,11 @@
 -- The walks over the tasks: priorities that fall, numbers that differ, and the rules of each.
-use Rattle.std.proofs.Common.{◌≡◌, ◌≢◌, ◌↔◌, ℕ, zero, suc, ◌+◌, ◌-◌, ◌<◌, ◌≤◌, ◌/◌, ◌%◌, Bool, true, false, List, [], ◌∷◌, cond, get_or, map, refl, sym, ap, ◌∙◌, subst, arith, inl, inr}
+use Rattle.std.proofs.Common.{◌≡◌, ◌≢◌, ◌↔◌, ℕ, zero, suc, ◌+◌, ◌-◌, ◌<◌, ◌≤◌, ◌/◌, ◌%◌, Bool, true, false, List, [], ◌∷◌, cond, get_or, map, refl, sym, ap, ◌∙◌, subst, arith, inl, inr, eqb, length, Some}
 use Rattle.std.specs.List.{AllByRecursion}
-use Rattle.std.proofs.lemmas.Bool.{cases_lt, false≢true}
+use Rattle.std.proofs.lemmas.Bool.{cases_eq, cases_lt, false≢true}
+use Rattle.std.proofs.lemmas.List.{length-map}
 use Rattle.std.proofs.lemmas.Bool.Decides.{nat_tests}
 use Rattle.word_store.specs.Count.{IsApart, hit, times}
+use Rattle.kernel_dispatch.proofs.Shown.LinkedList.Chains.{length-apart}
 use Rattle.kernel_dispatch.proofs.Shown.LinkedList.AllMembers.{all-has}
 use Rattle.word_store.proofs.Counts.{hit-other, hit-same}
 use Rattle.kernel_dispatch.proofs.Shown.LinkedList.Members.{times-has}
@@ -11,7 +13,9 @@ use Rattle.kernel_dispatch.specs.TaskBlock.TaskChain.{id_in, tasks_in}
 use Rattle.kernel_dispatch.specs.KernelModel.Lists.{Lists}
 use Rattle.kernel_dispatch.specs.KernelModel.Recovered.{lists_in, task_in}
 use Rattle.kernel_dispatch.specs.KernelModel.Task.{Task, is_guest_id, task_id}
-use Rattle.kernel_dispatch.specs.KernelModel.ValidTasks.{IsField, IsGuest, IsResident, IsTask, PrioritiesFall, TasksStand}
+use Rattle.kernel_dispatch.specs.KernelModel.ValidTasks.{IsField, IsGuest, IsResident, IsTask, PrioritiesFall, TasksStand, resident_place}
+use Rattle.kernel_dispatch.specs.KernelModel.Versions.{highest_id_of}
+use Rattle.list_passes.proofs.ClaimedWalks.{IsGoing, all-any, goes, going}
 use Rattle.list_passes.specs.TaskRules.{HasNumbers, HasResidents}
 
 -- ---- priorities
@@ -165,6 +169,63 @@ field-is w (inl e) = omega (arith, e)
 field-is w (inr (inl e)) = omega (arith, e)
 field-is w (inr (inr (inl e))) = omega (arith, e)
 field-is w (inr (inr (inr e))) = omega (arith, e)
+
+-- ---- numbers of tasks
+
+abbrev pub IsNumber : Lists → ℕ → Type 0
+IsNumber l id = (1 ≤ id) × (id ≤ highest_id_of l.version)
+
+highest-low : (v : ℕ) → 20 ≤ highest_id_of v
+highest-low v = on (eqb v 2)
+  where
+    on : (b : Bool) → 20 ≤ cond b 63 20
+    on true = omega arith
+    on false = omega arith
+
+pub task-number : (l : Lists) (t : Task) → IsTask l t → IsNumber l t.id
+task-number l t k = elim (cases_lt t.id 5) [
+  | inl low ↦
+      let r : IsResident t = k.resident (guest-not t.id t.id refl low) in
+      elim (cases_eq t.id 0) [
+        | inl none ↦ absurd (let e : resident_place 0 ≡ Some (t.address, t.priority) = ap resident_place (sym none) ∙ r.place in cc)
+        | inr some ↦ (omega (arith, some), omega (arith, low, highest-low l.version))
+      ]
+  | inr high ↦ (omega (arith, high), (k.guest (guest-is t.id t.id refl (omega (arith, high)))).high)
+]
+
+highest-high : (v : ℕ) → highest_id_of v ≤ 63
+highest-high v = on (eqb v 2)
+  where
+    on : (b : Bool) → cond b 63 20 ≤ 63
+    on true = omega arith
+    on false = omega arith
+
+ids-low : (l : Lists) (ts : List Task) → AllByRecursion (IsTask l) ts → AllByRecursion (λ i. i < 64) (map task_id ts)
+ids-low l [] all = tt
+ids-low l (t ∷ ts) all = (omega (arith, (task-number l t all.0).1, highest-high l.version), ids-low l ts all.1)
+
+-- where they differ there are few tasks
+few-tasks : (s : List ℕ) → AllByRecursion (IsTask (lists_in s)) (lists_in s).tasks → IsApart (map task_id (lists_in s).tasks) → length (map task_id (lists_in s).tasks) ≤ 64
+few-tasks s each apart = length-apart 64 (map task_id (lists_in s).tasks) apart (ids-low (lists_in s) (lists_in s).tasks each)
+
+count-lists : (s : List ℕ) → length (map task_id (lists_in s).tasks) ≡ length (tasks_in s)
+count-lists s = ap length (sym (ids-lists s)) ∙ length-map (tasks_in s) (id_in s)
+
+pub record IsMeeting (s : List ℕ) (n : ℕ) (rest : List ℕ) : Type 0 where
+  pub going : IsGoing (Once s) (λ t. Unit {0}) rest (tasks_in s)
+  pub count : n + length rest ≡ length (tasks_in s)
+
+pub meeting : (s : List ℕ) (ts : List ℕ) → ts ≡ tasks_in s → IsMeeting s 0 ts
+meeting s ts is = record { going = going (Once s) (λ t. Unit {0}) ts (tasks_in s) is (all-any (tasks_in s)); count = (let e : length ts ≡ length (tasks_in s) = ap length is in omega (arith, e)) }
+
+pub meets-on : (s : List ℕ) (n : ℕ) (bs : List ℕ) (t : ℕ) (rest : List ℕ) → IsMeeting s n bs → bs ≡ t ∷ rest → Once s t → IsMeeting s (n + 1) rest
+meets-on s n bs t rest g is once = record {
+  going = goes (Once s) (λ t. Unit {0}) bs (tasks_in s) t rest g.going is once;
+  count = (let e : length bs ≡ suc (length rest) = ap length is in omega (arith, g.count, e));
+}
+
+pub too-many : (s : List ℕ) (n : ℕ) (bs : List ℕ) (t : ℕ) (rest : List ℕ) → IsMeeting s n bs → bs ≡ t ∷ rest → 64 ≤ n → AllByRecursion (IsTask (lists_in s)) (lists_in s).tasks → IsApart (map task_id (lists_in s).tasks) → ⊥
+too-many s n bs t rest g is full each apart = (let e : length bs ≡ suc (length rest) = ap length is in omega (arith, g.count, e, full, few-tasks s each apart, count-lists s))
 
 -- ---- all rules
 

@@ -20,6 +20,9 @@ use kernel_dispatch::{TcbField, field, tasks};
 use word_claims::Claims;
 use word_store::Store;
 
+/// One more than the highest number of a task.
+const MOST_LOOKS: u32 = 64;
+
 /// Whether each task is as it must be, no two have one number, priorities fall, and all residents are there or none is.
 pub fn tasks_stand(store: &Store, starts: &Claims, modules: &Claims) -> bool
     requires claimed { IsClaimed store.now }
@@ -107,15 +110,22 @@ fn priorities_fall(store: &Store) -> bool
     true
 }
 
-// Whether no two tasks have one number. Of 64 tasks two have one, so it ends after 64 looks along the chain at most.
+// Whether no two tasks have one number. Numbers are at most 63, so of more than 64 tasks two have one, and it looks along the chain at
+// most 64 times.
 fn numbers_differ(store: &Store) -> bool
     requires claimed { IsClaimed store.now }
+    requires each { AllByRecursion (IsTask (lists_in store.now)) (lists_in store.now).tasks }
     ensures { IsTrue result ↔ IsApart (map task_id (lists_in store.now).tasks) }
 {
+    let mut count = 0;
     for t in tasks(store) {
+        if count >= MOST_LOOKS {
+            return false;
+        }
         if !is_once(store, field(store, t, TcbField::Id)) {
             return false;
         }
+        count += 1;
     }
     true
 }
