@@ -110,8 +110,8 @@ fn priorities_fall(store: &Store) -> bool
     true
 }
 
-// Whether no two tasks have one number. Numbers are at most 63, so of more than 64 tasks two have one, and it looks along the chain at
-// most 64 times.
+// Whether no two tasks have one number. Numbers are at most 63, so of more than 64 tasks two have one, and it looks along the
+// chain at most 64 times.
 fn numbers_differ(store: &Store) -> bool
     requires claimed { IsClaimed store.now }
     requires each { AllByRecursion (IsTask (lists_in store.now)) (lists_in store.now).tasks }
