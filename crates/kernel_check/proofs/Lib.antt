@@ -6,3 +6,4 @@ pub mod QueueRules
 pub mod WholeCheck
 pub mod RunningTask
 pub mod FaultReports
+pub mod ConsoleLine

@@ -2,3 +2,4 @@ pub mod Places
 pub mod KnownTasks
 pub mod ClaimedQueue
 pub mod Reports
+pub mod ConsoleLine

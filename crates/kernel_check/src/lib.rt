@@ -3,6 +3,7 @@
 
 pub mod between;
 pub mod check;
+pub mod console_line;
 pub mod fault_reports;
 mod packet_rules;
 pub mod places;
@@ -11,4 +12,5 @@ mod queued;
 
 pub use between::{first_runs, registers_stand, ticks_stand};
 pub use check::holds_lists;
+pub use console_line::console_stands;
 pub use fault_reports::faults_stand;
