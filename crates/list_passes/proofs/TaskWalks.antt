@@ -15,7 +15,6 @@ use Rattle.kernel_dispatch.specs.KernelModel.Recovered.{lists_in, task_in}
 use Rattle.kernel_dispatch.specs.KernelModel.Task.{Task, is_guest_id, task_id}
 use Rattle.kernel_dispatch.specs.KernelModel.ValidTasks.{IsField, IsGuest, IsResident, IsTask, PrioritiesFall, TasksStand, resident_place}
 use Rattle.kernel_dispatch.specs.KernelModel.Versions.{highest_id_of}
-use Rattle.list_passes.proofs.ClaimedWalks.{IsGoing, all-any, goes, going}
 use Rattle.list_passes.specs.TaskRules.{HasNumbers, HasResidents}
 
 -- ---- priorities
@@ -211,21 +210,29 @@ few-tasks s each apart = length-apart 64 (map task_id (lists_in s).tasks) apart 
 count-lists : (s : List ℕ) → length (map task_id (lists_in s).tasks) ≡ length (tasks_in s)
 count-lists s = ap length (sym (ids-lists s)) ∙ length-map (tasks_in s) (id_in s)
 
-pub record IsMeeting (s : List ℕ) (n : ℕ) (rest : List ℕ) : Type 0 where
-  pub going : IsGoing (Once s) (λ t. Unit {0}) rest (tasks_in s)
-  pub count : n + length rest ≡ length (tasks_in s)
+pub few-lists : (s : List ℕ) → TasksStand (lists_in s) → length (tasks_in s) ≤ 64
+few-lists s h = omega (arith, few-tasks s h.each h.distinct, count-lists s)
 
-pub meeting : (s : List ℕ) (ts : List ℕ) → ts ≡ tasks_in s → IsMeeting s 0 ts
-meeting s ts is = record { going = going (Once s) (λ t. Unit {0}) ts (tasks_in s) is (all-any (tasks_in s)); count = (let e : length ts ≡ length (tasks_in s) = ap length is in omega (arith, e)) }
+-- so many were counted, and these are left
+pub record IsCounted (s : List ℕ) (n : ℕ) (rest : List ℕ) : Type 0 where
+  pub few : n ≤ 64
+  pub all : n + length rest ≡ length (tasks_in s)
 
-pub meets-on : (s : List ℕ) (n : ℕ) (bs : List ℕ) (t : ℕ) (rest : List ℕ) → IsMeeting s n bs → bs ≡ t ∷ rest → Once s t → IsMeeting s (n + 1) rest
-meets-on s n bs t rest g is once = record {
-  going = goes (Once s) (λ t. Unit {0}) bs (tasks_in s) t rest g.going is once;
-  count = (let e : length bs ≡ suc (length rest) = ap length is in omega (arith, g.count, e));
-}
+pub counted-none : (s : List ℕ) (ts : List ℕ) → ts ≡ tasks_in s → IsCounted s 0 ts
+counted-none s ts is = (let e : length ts ≡ length (tasks_in s) = ap length is in record { few = omega arith; all = omega (arith, e) })
 
-pub too-many : (s : List ℕ) (n : ℕ) (bs : List ℕ) (t : ℕ) (rest : List ℕ) → IsMeeting s n bs → bs ≡ t ∷ rest → 64 ≤ n → AllByRecursion (IsTask (lists_in s)) (lists_in s).tasks → IsApart (map task_id (lists_in s).tasks) → ⊥
-too-many s n bs t rest g is full each apart = (let e : length bs ≡ suc (length rest) = ap length is in omega (arith, g.count, e, full, few-tasks s each apart, count-lists s))
+module _ (s : List ℕ) (n : ℕ) (bs : List ℕ) (t : ℕ) (rest : List ℕ) (g : IsCounted s n bs) (is : bs ≡ t ∷ rest) where
+  counted : length bs ≡ suc (length rest)
+  counted = ap length is
+
+  pub counts-on : n < 64 → IsCounted s (n + 1) rest
+  counts-on low = record { few = omega (arith, low); all = omega (arith, g.all, counted) }
+
+  pub too-many : 64 ≤ n → length (tasks_in s) ≤ 64 → ⊥
+  too-many full few = omega (arith, g.all, counted, full, few)
+
+pub all-counted : (s : List ℕ) (n : ℕ) (bs : List ℕ) → IsCounted s n bs → bs ≡ [] → length (tasks_in s) ≤ 64
+all-counted s n bs g is = (let e : length bs ≡ 0 = ap length is in omega (arith, g.all, g.few, e))
 
 -- ---- all rules
 

@@ -1,5 +1,5 @@
 // The rules of tasks.
-ghost use Rattle.std.specs.Prelude.{◌≡◌, ◌↔◌, ◌≤◌, ◌<◌, IsTrue, Some, map};
+ghost use Rattle.std.specs.Prelude.{◌≡◌, ◌↔◌, ◌≤◌, ◌<◌, IsTrue, Some, length, map};
 ghost use Rattle.std.specs.List.{AllByRecursion};
 ghost use Rattle.word_store.specs.Count.{IsApart, times};
 ghost use Rattle.kernel_dispatch.specs.TaskBlock.Lists.{modules_in};
@@ -20,8 +20,8 @@ use kernel_dispatch::{TcbField, field, tasks};
 use word_claims::Claims;
 use word_store::Store;
 
-/// One more than the highest number of a task.
-const MOST_LOOKS: u32 = 64;
+/// More tasks than this have no number each for itself.
+const MOST_TASKS: u32 = 64;
 
 /// Whether each task is as it must be, no two have one number, priorities fall, and all residents are there or none is.
 pub fn tasks_stand(store: &Store, starts: &Claims, modules: &Claims) -> bool
@@ -30,6 +30,9 @@ pub fn tasks_stand(store: &Store, starts: &Claims, modules: &Claims) -> bool
     requires modules { OpensMembers store.now (modules_in store.now) modules.now }
     ensures { IsTrue result ↔ TasksStand (lists_in store.now) }
 {
+    if !are_few(store) {
+        return false;
+    }
     if !each_stands(store, starts, modules) {
         return false;
     }
@@ -110,22 +113,30 @@ fn priorities_fall(store: &Store) -> bool
     true
 }
 
-// Whether no two tasks have one number. Numbers are at most 63, so of more than 64 tasks two have one, and it looks along the
-// chain at most 64 times.
-fn numbers_differ(store: &Store) -> bool
+// Whether there are at most 64 tasks. Numbers are at most 63, so of more tasks two have one.
+fn are_few(store: &Store) -> bool
     requires claimed { IsClaimed store.now }
-    requires each { AllByRecursion (IsTask (lists_in store.now)) (lists_in store.now).tasks }
-    ensures { IsTrue result ↔ IsApart (map task_id (lists_in store.now).tasks) }
+    ensures { IsTrue result ↔ (length (tasks_in store.now) ≤ 64) }
 {
     let mut count = 0;
-    for t in tasks(store) {
-        if count >= MOST_LOOKS {
-            return false;
-        }
-        if !is_once(store, field(store, t, TcbField::Id)) {
+    for _t in tasks(store) {
+        if count >= MOST_TASKS {
             return false;
         }
         count += 1;
+    }
+    true
+}
+
+// Whether no two tasks have one number.
+fn numbers_differ(store: &Store) -> bool
+    requires claimed { IsClaimed store.now }
+    ensures { IsTrue result ↔ IsApart (map task_id (lists_in store.now).tasks) }
+{
+    for t in tasks(store) {
+        if !is_once(store, field(store, t, TcbField::Id)) {
+            return false;
+        }
     }
     true
 }
