@@ -1,0 +1,9 @@
+use Rattle.std.proofs.Common.{◌≡◌}
+use Rattle.std.specs.List.{list_any}
+use Rattle.kernel_dispatch.specs.KernelModel.Between.{is_unreported}
+use Rattle.kernel_dispatch.specs.KernelModel.Recovered.{lists_in}
+use Rattle.kernel_check.proofs.FaultReports.{any_in}
+use Rattle.kernel_check.proofs.fault_reports.are_unreported.Given as goal
+
+abbrev pub invariant-loop-t : goal.invariant-loop-t
+invariant-loop-t l = any_in l.store is_unreported l.t-iterator ≡ list_any is_unreported (lists_in l.store).tasks

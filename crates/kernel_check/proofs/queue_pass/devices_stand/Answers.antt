@@ -1,0 +1,44 @@
+use Rattle.std.proofs.Common.{◌∙◌, sym}
+use Rattle.std.proofs.lemmas.Bool.{false≢true}
+use Rattle.kernel_dispatch.specs.KernelModel.Recovered.{lists_in}
+use Rattle.kernel_dispatch.specs.KernelModel.ValidQueues.Place.{Clock, Keyboard, Output}
+use Rattle.kernel_check.proofs.ClaimedQueues.{clock-queue, keyboard-queue, output-queue}
+use Rattle.kernel_check.proofs.QueuedPackets.{queue-at}
+use Rattle.kernel_check.proofs.QueueRules.{clock-read, keyboard-read, output-read, read-at}
+use Rattle.kernel_check.proofs.queue_pass.devices_stand.Goals as goal
+
+pub packets_stand-requires-clause-queue : goal.packets_stand-requires-clause-queue
+packets_stand-requires-clause-queue c = queue-at c.args.store.now c.address.result 105 c.address.ensures (clock-queue c.args.store.now c.requires.claimed)
+
+pub returns-then-not-packets_stand : goal.returns-then-not-packets_stand
+returns-then-not-packets_stand c = (
+  λ t. absurd (false≢true t),
+  λ h. sym c.if-not-packets_stand.true
+      ∙ (read-at c.args.store.now Clock c.packets_stand.result c.address.result 105 (lists_in c.args.store.now).clock c.address.ensures (clock-read c.args.store.now) c.packets_stand.ensures).1 h.0,
+)
+
+pub packets_stand-requires-2-clause-queue : goal.packets_stand-requires-2-clause-queue
+packets_stand-requires-2-clause-queue c = queue-at c.args.store.now c.address-2.result 106 c.address-2.ensures (keyboard-queue c.args.store.now c.requires.claimed)
+
+pub returns-then-not-packets_stand-2 : goal.returns-then-not-packets_stand-2
+returns-then-not-packets_stand-2 c = (
+  λ t. absurd (false≢true t),
+  λ h. sym c.if-not-packets_stand-2.true
+      ∙ (read-at c.args.store.now Keyboard c.packets_stand-2.result c.address-2.result 106 (lists_in c.args.store.now).keyboard c.address-2.ensures (keyboard-read c.args.store.now) c.packets_stand-2.ensures).1 h.1,
+)
+
+pub packets_stand-requires-3-clause-queue : goal.packets_stand-requires-3-clause-queue
+packets_stand-requires-3-clause-queue c = queue-at c.args.store.now c.address-3.result 107 c.address-3.ensures (output-queue c.args.store.now c.requires.claimed)
+
+pub returns : goal.returns
+returns c =
+    let output = read-at c.args.store.now Output c.packets_stand-3.result c.address-3.result 107 (lists_in c.args.store.now).output c.address-3.ensures (output-read c.args.store.now) c.packets_stand-3.ensures in (
+      λ t. (
+        (read-at c.args.store.now Clock c.packets_stand.result c.address.result 105 (lists_in c.args.store.now).clock c.address.ensures (clock-read c.args.store.now) c.packets_stand.ensures).0
+            c.if-not-packets_stand.false,
+        (read-at c.args.store.now Keyboard c.packets_stand-2.result c.address-2.result 106 (lists_in c.args.store.now).keyboard c.address-2.ensures (keyboard-read c.args.store.now) c.packets_stand-2.ensures).0
+            c.if-not-packets_stand-2.false,
+        output.0 t,
+      ),
+      λ h. output.1 h.2,
+    )

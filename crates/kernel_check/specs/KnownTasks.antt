@@ -1,0 +1,19 @@
+-- What the pass over the queues may rest on.
+use Rattle.std.specs.Prelude.{ℕ, List}
+use Rattle.kernel_dispatch.specs.OwnedWords.Owned.{Holds}
+use Rattle.kernel_dispatch.specs.TaskBlock.ChainWords.{entries}
+use Rattle.kernel_dispatch.specs.TaskBlock.HeldTasks.{address_with}
+use Rattle.kernel_dispatch.specs.KernelModel.Recovered.{lists_in}
+use Rattle.kernel_dispatch.specs.KernelModel.Task.{task_address, task_id}
+use Rattle.kernel_dispatch.specs.KernelModel.ValidTasks.{TasksStand}
+use Rattle.kernel_dispatch.specs.KernelModel.Versions.{highest_id_of}
+use Rattle.list_passes.specs.ClaimedStore.{IsClaimed}
+
+-- All words were claimed, the tasks stand, and the table leads to each of them.
+pub record AreTasksKnown (s : List ℕ) : Type 0 where
+  -- the words
+  pub claimed : IsClaimed s
+  -- the tasks
+  pub tasks : TasksStand (lists_in s)
+  -- the table
+  pub table : Holds s (entries (address_with task_address task_id (lists_in s).tasks) 1 (highest_id_of (lists_in s).version))

@@ -1,0 +1,5 @@
+pub mod Places
+pub mod KnownTasks
+pub mod ClaimedQueue
+pub mod Reports
+pub mod ConsoleLine

@@ -1,0 +1,12 @@
+-- The places at which packets are queued, as the check names them.
+use Rattle.kernel_dispatch.specs.KernelModel.ValidQueues.{Place}
+use Rattle.kernel_dispatch.specs.KernelModel.ValidQueues.Place.{Clock, Keyboard, Output, Pending, Work}
+use Rattle.kernel_check.specs.declared.places.QueuePlace.{QueuePlace}
+use Rattle.kernel_check.specs.declared.places.QueuePlace.TheVariants.{OfClock, OfConsole, OfKeyboard, OfOutput, OfTask}
+
+abbrev pub place_of : QueuePlace → Place
+place_of (OfTask id) = Work id
+place_of OfClock = Clock
+place_of OfKeyboard = Keyboard
+place_of OfOutput = Output
+place_of OfConsole = Pending

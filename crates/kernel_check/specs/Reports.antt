@@ -1,0 +1,8 @@
+-- A task with a number and a fault that was not reported yet.
+use Rattle.std.specs.Prelude.{ℕ, ◌==◌, ◌&&◌, Bool}
+use Rattle.kernel_dispatch.specs.KernelModel.Between.{is_unreported}
+use Rattle.kernel_dispatch.specs.KernelModel.Task.{Task, is_guest_id}
+
+-- it is the guest with this number, and has such a fault
+abbrev pub is_unreported_as : ℕ → Task → Bool
+is_unreported_as id t = (t.id == id) && is_guest_id id && is_unreported t

@@ -1,0 +1,73 @@
+// All passes, in their order.
+ghost use Rattle.std.specs.Prelude.{◌↔◌, IfOk, IsTrue};
+ghost use Rattle.kernel_dispatch.specs.KernelModel.HoldsLists.{HoldsLists};
+ghost use Rattle.kernel_dispatch.specs.KernelModel.Recovered.{lists_in};
+ghost use Rattle.list_passes.specs.ClaimedStore.{IsClaimed};
+
+use crate::queue_pass::queues_stand;
+use list_claims::{are_tiled, claim_lists, open_blocks};
+use list_passes::{
+    coroutines_stand, heads_stand, modules_stand, open_modules, open_starts, resident_block_stands,
+    resident_words_stand, root_stands, running_stands, table_stands, tasks_stand,
+};
+use std::alloc::Global;
+use tp_io::WantMemory;
+use word_claims::Claims;
+use word_store::Store;
+
+/// Whether the lists that are read off the store are valid, and the store holds their words: exactly where some valid lists' words
+/// stand in it. It takes some looks at each word that a list may have, and has memory for a mark for each word, four times.
+/// `WantMemory` comes only where that could not be had.
+pub fn holds_lists(alloc: Global, store: &Store) -> Result<bool, WantMemory>
+    ensures { IfOk result (λ b. IsTrue b ↔ HoldsLists store.now (lists_in store.now)) }
+{
+    if !root_stands(store) {
+        return Ok(false);
+    }
+    if !are_tiled(store) {
+        return Ok(false);
+    }
+    let mut words = Claims::new(alloc, store.size())?;
+    open_blocks(store, &mut words);
+    if !claim_lists(store, &mut words) {
+        return Ok(false);
+    }
+    holds_claimed(alloc, store)
+}
+
+// The same of a store whose words were claimed.
+fn holds_claimed(alloc: Global, store: &Store) -> Result<bool, WantMemory>
+    requires { IsClaimed store.now }
+    ensures { IfOk result (λ b. IsTrue b ↔ HoldsLists store.now (lists_in store.now)) }
+{
+    let mut starts = Claims::new(alloc, store.size())?;
+    open_starts(store, &mut starts);
+    let mut modules = Claims::new(alloc, store.size())?;
+    open_modules(store, &mut modules);
+    let mut own = Claims::new(alloc, store.size())?;
+    if !modules_stand(store, &starts) {
+        return Ok(false);
+    }
+    if !tasks_stand(store, &starts, &modules) {
+        return Ok(false);
+    }
+    if !table_stands(store) {
+        return Ok(false);
+    }
+    if !running_stands(store) {
+        return Ok(false);
+    }
+    if !coroutines_stand(store, &starts, &mut own) {
+        return Ok(false);
+    }
+    if !heads_stand(store) {
+        return Ok(false);
+    }
+    if !resident_block_stands(store, &starts) {
+        return Ok(false);
+    }
+    if !queues_stand(store) {
+        return Ok(false);
+    }
+    Ok(resident_words_stand(store))
+}

@@ -1,0 +1,65 @@
+// Whether the console's line is as it must be, between steps.
+ghost use Rattle.std.specs.Prelude.{◌≡◌, ◌↔◌, [], IsTrue, is_some, true};
+ghost use Rattle.kernel_dispatch.specs.KernelModel.Between.{ConsoleStands};
+ghost use Rattle.kernel_dispatch.specs.KernelModel.HoldsLists.{HoldsLists};
+ghost use Rattle.kernel_dispatch.specs.KernelModel.Kernel.{no_line};
+ghost use Rattle.kernel_dispatch.specs.KernelModel.Recovered.{lists_in};
+ghost use Rattle.kernel_check.specs.ConsoleLine.{console_of};
+
+use kernel_dispatch::NO_QUEUE;
+use kernel_dispatch::numbers::{KEY_PACKET, PENDING_HEAD};
+use list_passes::has_residents;
+use word_store::{Store, word};
+
+/// The most bytes of the line.
+const MOST_BYTES: usize = 120;
+
+/// Whether the line, which is finished or not, may be the console's. It looks at two words.
+pub fn console_stands(store: &Store, line: &[u8], finished: bool) -> bool
+    requires { HoldsLists store.now (lists_in store.now) }
+    ensures { IsTrue result ↔ ConsoleStands (lists_in store.now) (console_of line.now finished) }
+{
+    if line.len() > MOST_BYTES {
+        return false;
+    }
+    if !has_residents(store) {
+        return is_absent(line, finished);
+    }
+    if !key_tells(store, finished) {
+        return false;
+    }
+    is_delivered(store, finished)
+}
+
+// Whether nothing was typed.
+fn is_absent(line: &[u8], finished: bool) -> bool
+    ensures { IsTrue result ↔ (console_of line.now finished ≡ no_line) }
+{
+    if finished {
+        return false;
+    }
+    line.is_empty()
+}
+
+// Whether the line is finished exactly where the key packet is on no queue.
+fn key_tells(store: &Store, finished: bool) -> bool
+    requires { (lists_in store.now).residents ≡ true }
+    ensures { IsTrue result ↔ (finished ≡ is_some (lists_in store.now).key) }
+{
+    if word(store, KEY_PACKET) == NO_QUEUE {
+        return finished;
+    }
+    !finished
+}
+
+// Whether no read waits for a line, where it is finished.
+fn is_delivered(store: &Store, finished: bool) -> bool
+    requires there { (lists_in store.now).residents ≡ true }
+    requires lists { HoldsLists store.now (lists_in store.now) }
+    ensures { IsTrue result ↔ (finished ≡ true → (lists_in store.now).pending ≡ []) }
+{
+    if !finished {
+        return true;
+    }
+    word(store, PENDING_HEAD) == 0
+}

@@ -1,0 +1,16 @@
+// Whether a store, whatever its words are, holds the words of valid lists. It is the door of its room.
+#![tactic(auto)]
+
+pub mod between;
+pub mod check;
+pub mod console_line;
+pub mod fault_reports;
+mod packet_rules;
+pub mod places;
+pub mod queue_pass;
+mod queued;
+
+pub use between::{first_runs, registers_stand, ticks_stand};
+pub use check::holds_lists;
+pub use console_line::console_stands;
+pub use fault_reports::faults_stand;

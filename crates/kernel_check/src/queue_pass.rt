@@ -1,0 +1,174 @@
+// The queued packets.
+ghost use Rattle.std.specs.Prelude.{◌≡◌, ◌↔◌, ◌+◌, ◌≤◌, ◌&&◌, IsTrue, is_some, length, not, slice_index};
+ghost use Rattle.std.specs.List.{AllByRecursion};
+ghost use Rattle.kernel_dispatch.specs.PacketQueue.Queue.{HasQueue};
+ghost use Rattle.kernel_dispatch.specs.TaskBlock.RootWords.{root_address};
+ghost use Rattle.kernel_dispatch.specs.TaskBlock.declared.roots.RootField.TheVariants.{Running};
+ghost use Rattle.kernel_dispatch.specs.KernelModel.Lists.{address_of_task, has_task, is_queued};
+ghost use Rattle.kernel_dispatch.specs.KernelModel.Recovered.{lists_in, packet_in, packets_at, task_in};
+ghost use Rattle.kernel_dispatch.specs.KernelModel.Residents.{fault_packet, key_packet};
+ghost use Rattle.kernel_dispatch.specs.KernelModel.Task.{queue_head};
+ghost use Rattle.kernel_dispatch.specs.KernelModel.ValidQueues.{MayStand, NeverFall, Place, QueuesStand};
+ghost use Rattle.kernel_dispatch.specs.KernelModel.ValidQueues.Place.{Clock, Keyboard, Output, Pending, Work};
+ghost use Rattle.kernel_check.specs.KnownTasks.{AreTasksKnown};
+ghost use Rattle.kernel_check.specs.ClaimedQueue.{IsClaimedQueue};
+ghost use Rattle.kernel_check.specs.Places.{place_of};
+
+use crate::packet_rules::{is_task, packet_stands};
+use crate::places::QueuePlace;
+use crate::queued::is_queued;
+use kernel_dispatch::numbers::{FAULT_PACKET, KEY_PACKET, PENDING_HEAD, REPORTER, RES2};
+use kernel_dispatch::{NO_QUEUE, RootField, TcbField, field, packets, tasks};
+use list_passes::has_residents;
+use word_store::{Store, word, word_at};
+
+/// Whether each queued packet may stand where it does, due ticks never fall along the clock's queue, and the packets of residents
+/// are free exactly where they are on no queue. It looks three times at each packet.
+pub fn queues_stand(store: &Store) -> bool
+    requires known { AreTasksKnown store.now }
+    requires running { slice_index store.now (root_address Running)
+        ≡ address_of_task (lists_in store.now) (lists_in store.now).running }
+    ensures { IsTrue result ↔ QueuesStand (lists_in store.now) }
+{
+    if !work_stands(store) {
+        return false;
+    }
+    if !devices_stand(store) {
+        return false;
+    }
+    if !pending_stands(store) {
+        return false;
+    }
+    if !ticks_rise(store, RootField::ClockQueue.address()) {
+        return false;
+    }
+    if !key_packet_is_told(store) {
+        return false;
+    }
+    fault_packet_is_told(store)
+}
+
+// The packets of all tasks.
+fn work_stands(store: &Store) -> bool
+    requires { AreTasksKnown store.now }
+    ensures { IsTrue result ↔ AllByRecursion
+        (λ t. AllByRecursion (MayStand (lists_in store.now) (Work t.id)) t.queue)
+        (lists_in store.now).tasks }
+{
+    for t in tasks(store) {
+        if !task_queue_stands(store, t) {
+            return false;
+        }
+    }
+    true
+}
+
+// Those of the task at t.
+fn task_queue_stands(store: &Store, t: u32) -> bool
+    requires known { AreTasksKnown store.now }
+    requires queue { IsClaimedQueue store.now (queue_head t) }
+    requires block { t + 23 ≤ length store.now }
+    ensures { IsTrue result ↔ AllByRecursion
+        (MayStand (lists_in store.now) (Work (task_in store.now t).id)) (task_in store.now t).queue }
+{
+    let place = QueuePlace::OfTask(field(store, t, TcbField::Id));
+    packets_stand(store, place, store.address_of(t, TcbField::Queue.index()))
+}
+
+// Those of the devices.
+fn devices_stand(store: &Store) -> bool
+    requires { AreTasksKnown store.now }
+    ensures { IsTrue result ↔
+        (AllByRecursion (MayStand (lists_in store.now) Clock) (lists_in store.now).clock
+        × AllByRecursion (MayStand (lists_in store.now) Keyboard) (lists_in store.now).keyboard
+        × AllByRecursion (MayStand (lists_in store.now) Output) (lists_in store.now).output) }
+{
+    if !packets_stand(store, QueuePlace::OfClock, RootField::ClockQueue.address()) {
+        return false;
+    }
+    if !packets_stand(store, QueuePlace::OfKeyboard, RootField::KeyQueue.address()) {
+        return false;
+    }
+    packets_stand(
+        store,
+        QueuePlace::OfOutput,
+        RootField::OutputQueue.address(),
+    )
+}
+
+// The reads that wait for a line.
+fn pending_stands(store: &Store) -> bool
+    requires { AreTasksKnown store.now }
+    ensures { IsTrue result ↔
+        AllByRecursion (MayStand (lists_in store.now) Pending) (lists_in store.now).pending }
+{
+    if !has_residents(store) {
+        return true;
+    }
+    packets_stand(store, QueuePlace::OfConsole, PENDING_HEAD)
+}
+
+// The packets of the queue at a head.
+fn packets_stand(store: &Store, at: QueuePlace, head: u32) -> bool
+    requires known { AreTasksKnown store.now }
+    requires queue { IsClaimedQueue store.now head }
+    ensures { IsTrue result ↔
+        AllByRecursion (MayStand (lists_in store.now) (place_of at)) (packets_at store.now head) }
+{
+    for p in packets(store, head) {
+        if !packet_stands(store, at, p) {
+            return false;
+        }
+    }
+    true
+}
+
+// Whether due ticks never fall along the queue at a head.
+fn ticks_rise(store: &Store, head: u32) -> bool
+    requires { HasQueue store.now head }
+    ensures { IsTrue result ↔ NeverFall (packets_at store.now head) }
+{
+    let mut last = 0;
+    for p in packets(store, head) {
+        let due = word_at(store, p, RES2);
+        if due < last {
+            return false;
+        }
+        last = due;
+    }
+    true
+}
+
+// Whether the key packet is on a queue exactly where its link does not say that it is on none.
+fn key_packet_is_told(store: &Store) -> bool
+    requires { AreTasksKnown store.now }
+    ensures { IsTrue result ↔ (is_some (lists_in store.now).key
+        ≡ ((lists_in store.now).residents && not (is_queued key_packet (lists_in store.now)))) }
+{
+    if !has_residents(store) {
+        return true;
+    }
+    let queued = is_queued(store, KEY_PACKET);
+    if word(store, KEY_PACKET) == NO_QUEUE {
+        !queued
+    } else {
+        queued
+    }
+}
+
+// The same of the fault packet.
+fn fault_packet_is_told(store: &Store) -> bool
+    requires { AreTasksKnown store.now }
+    ensures { IsTrue result ↔ ((lists_in store.now).fault_packet_free
+        ≡ (has_task 2 (lists_in store.now).tasks && not (is_queued fault_packet (lists_in store.now)))) }
+{
+    if !is_task(store, REPORTER) {
+        return true;
+    }
+    let queued = is_queued(store, FAULT_PACKET);
+    if word(store, FAULT_PACKET) == NO_QUEUE {
+        !queued
+    } else {
+        queued
+    }
+}

@@ -1,0 +1,2 @@
+pub mod ClaimedWords
+pub mod ClaimWalk
