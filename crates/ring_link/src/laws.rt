@@ -1,0 +1,23 @@
+// The law of the protocol, whatever happens on the link.
+ghost use Rattle.std.specs.Prelude.{◌≡◌, ◌+◌, ◌≤◌, List, drop, length};
+ghost use Rattle.ring_link.specs.Transfers.{Event, IsPrefix, transfer_after};
+
+/// After every list of events the delivered bytes are a prefix of those that were offered, as many as the receiver counts. No more are
+/// acknowledged than were delivered, and of those delivered one at most is not acknowledged. What waits is what was offered and is not
+/// acknowledged.
+///
+/// An event is that a byte is offered, that the sender has a turn, that data comes, with room for it or without, or that an
+/// acknowledgement comes. What was once sent may come at any time, as often as it may, or never. `Sender::turn`, `Sender::acknowledge`
+/// and `Receiver::arrive` do what these events do.
+pub fn ring_law()
+    ensures prefix { (events : List Event) → let t = transfer_after events in
+        IsPrefix t.delivered t.offered }
+    ensures count { (events : List Event) → let t = transfer_after events in
+        length t.delivered ≡ t.received }
+    ensures acknowledged { (events : List Event) → let t = transfer_after events in
+        t.sender.acknowledged ≤ t.received }
+    ensures ahead { (events : List Event) → let t = transfer_after events in
+        t.received ≤ t.sender.acknowledged + 1 }
+    ensures waiting { (events : List Event) → let t = transfer_after events in
+        t.waiting ≡ drop t.sender.acknowledged t.offered }
+{}
