@@ -1,2 +1,5 @@
 pub mod InStep
+pub mod LeftLines
+pub mod LineCounts
 pub mod ListPlaces
+pub mod RefusedLines

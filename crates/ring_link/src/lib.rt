@@ -2,9 +2,17 @@
 // other.
 #![tactic(auto)]
 
+mod heads;
+pub mod inputs;
 pub mod laws;
+mod lines;
+mod machines;
+pub mod read;
 pub mod receivers;
 pub mod senders;
 
+pub use hunk_text::TextEnd as RingEnd;
+pub use inputs::RingInput;
+pub use read::read_ring;
 pub use receivers::Receiver;
 pub use senders::Sender;
