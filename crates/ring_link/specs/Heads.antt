@@ -1,13 +1,12 @@
 -- The four lines before the sessions of a ring: its numbers, and what its link does.
-use Rattle.std.specs.Prelude.{ℕ, ◌==◌, ◌||◌, ◌&&◌, if◌then◌else◌, Bool, List, length, Option, Some, Result, Ok, Err, option_and_then, codes, nat_le}
+use Rattle.std.specs.Prelude.{ℕ, ◌==◌, ◌||◌, ◌&&◌, if◌then◌else◌, Bool, List, length, Result, Ok, Err, codes, nat_le}
 use Rattle.std.specs.List.{list_all}
 use Rattle.std.specs.Option.{ok_or}
 use Rattle.hunk_text.specs.TextReader.Fields.{after_word}
-use Rattle.hunk_text.specs.TextReader.Numbers.{number_of}
 use Rattle.hunk_text.specs.TextReader.Refusal.{Refusal, refusal}
 use Rattle.hunk_text.specs.TextReader.Steps.{◌>>=◌}
-use Rattle.session_text.specs.Statements.{number_field}
 use Rattle.ring_link.specs.NextLines.{line_after, next_line}
+use Rattle.ring_link.specs.TwoNumbers.{two_numbers}
 use Rattle.ring_link.specs.declared.heads.Head.{Head}
 use Rattle.ring_link.specs.declared.inputs.TheConstants.{MOST_LETTERS, MOST_ROUNDS, MOST_WAIT}
 
@@ -29,11 +28,6 @@ abbrev pub is_letter_count : ℕ → Bool
 is_letter_count n = nat_le 1 n && nat_le n MOST_LETTERS
 
 -- ---- each line
-
--- the two numbers of the first line, if it has them
-abbrev pub two_numbers : List ℕ → Option (ℕ × ℕ)
-two_numbers line =
-    option_and_then (λ text. option_and_then (λ rounds. option_and_then (λ wait. Some (rounds.0, wait)) (number_of rounds.1)) (number_field text)) (after_word (codes "RING ") line)
 
 -- the rounds and the wait
 abbrev pub numbers : List ℕ → Result (ℕ × ℕ) Refusal

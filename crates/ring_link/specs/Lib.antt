@@ -5,3 +5,5 @@ pub mod NextLines
 pub mod Heads
 pub mod Machines
 pub mod RingOfText
+pub mod TwoNumbers
+pub mod RingForm

@@ -3,7 +3,8 @@ ghost use Rattle.std.specs.Prelude.{◌≡◌, ◌<◌, ◌+◌, ◌≤◌, leng
 ghost use Rattle.std.specs.List.{list_all};
 ghost use Rattle.hunk_text.specs.TextReader.Answers.{Gives};
 ghost use Rattle.hunk_text.specs.TextReader.Lines.{lines_of};
-ghost use Rattle.ring_link.specs.Heads.{head_lines, is_letter, is_letter_count, is_round_count, is_wait, letters, letters_after, letters_line, numbers, numbers_line, two_numbers};
+ghost use Rattle.ring_link.specs.Heads.{head_lines, is_letter, is_letter_count, is_round_count, is_wait, letters, letters_after, letters_line, numbers, numbers_line};
+ghost use Rattle.ring_link.specs.TwoNumbers.{two_numbers};
 
 use crate::RingEnd;
 use crate::inputs::{MOST_LETTERS, MOST_ROUNDS, MOST_WAIT};

@@ -1,6 +1,9 @@
-// The law of the protocol, whatever happens on the link.
-ghost use Rattle.std.specs.Prelude.{◌≡◌, ◌+◌, ◌≤◌, List, drop, length};
+// The laws of a ring: of the protocol, whatever happens on the link, and of its text.
+ghost use Rattle.std.specs.Prelude.{◌≡◌, ◌+◌, ◌≤◌, ℕ, List, Ok, drop, length};
+ghost use Rattle.ring_link.specs.RingForm.{IsRing};
+ghost use Rattle.ring_link.specs.RingOfText.{ring_of};
 ghost use Rattle.ring_link.specs.Transfers.{Event, IsPrefix, transfer_after};
+ghost use Rattle.ring_link.specs.declared.inputs.RingInput.{RingInput};
 
 /// After every list of events the delivered bytes are a prefix of those that were offered, as many as the receiver counts. No more are
 /// acknowledged than were delivered, and of those delivered one at most is not acknowledged. What waits is what was offered and is not
@@ -20,4 +23,10 @@ pub fn ring_law()
         t.received ≤ t.sender.acknowledged + 1 }
     ensures waiting { (events : List Event) → let t = transfer_after events in
         t.waiting ≡ drop t.sender.acknowledged t.offered }
+{}
+
+/// What is read from a text is the ring whose text it is, and every text of a ring is read: so a text has at most one ring.
+pub fn text_law()
+    ensures sound { (text : List ℕ) (ring : RingInput) → ring_of text ≡ Ok ring → IsRing text ring }
+    ensures complete { (text : List ℕ) (ring : RingInput) → IsRing text ring → ring_of text ≡ Ok ring }
 {}
