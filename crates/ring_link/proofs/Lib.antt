@@ -1,8 +1,10 @@
 pub mod GoLines
 pub mod HeadLines
 pub mod InStep
+pub mod LawfulRings
 pub mod LeftLines
 pub mod LineCounts
 pub mod ListPlaces
 pub mod RefusedLines
 pub mod RingTexts
+pub mod SessionNumbers

@@ -7,3 +7,4 @@ pub mod Machines
 pub mod RingOfText
 pub mod TwoNumbers
 pub mod RingForm
+pub mod LawfulRing

@@ -1,6 +1,7 @@
 // Reading the input of a ring.
-ghost use Rattle.std.specs.Prelude.{◌≡◌, ◌<◌, ◌+◌, ◌^◌, length};
+ghost use Rattle.std.specs.Prelude.{◌≡◌, ◌<◌, ◌+◌, ◌^◌, length, IfOk};
 ghost use Rattle.hunk_text.specs.TextReader.Answers.{Gives};
+ghost use Rattle.ring_link.specs.LawfulRing.{IsLawfulRing};
 ghost use Rattle.ring_link.specs.RingOfText.{ring_of};
 
 use crate::heads::read_head;
@@ -14,8 +15,19 @@ use std::alloc::Global;
 /// code: 1 where no such form may stand there, 2 where a number, a name or the number of letters is out of its range, and 3 where the text
 /// ended before the right machine's `GO` line, which is one more than the lines that there are. `WantMemory` comes only where memory could
 /// not be had.
-#[tactic(auto, unfolding(crate::specs::RingOfText::ring_of))]
 pub fn read_ring(alloc: Global, text: &[u8]) -> Result<RingInput, RingEnd>
+    requires { length text.now < 2 ^ 32 }
+    ensures value { Gives (λ x. x) result (ring_of text.now) }
+
+    // A ring that was read is within the rules, and each of its lines has a number in the text.
+    ensures lawful { IfOk result IsLawfulRing }
+{
+    whole_ring(alloc, text)
+}
+
+// The ring of a text, part by part.
+#[tactic(auto, unfolding(crate::specs::RingOfText::ring_of))]
+fn whole_ring(alloc: Global, text: &[u8]) -> Result<RingInput, RingEnd>
     requires { length text.now < 2 ^ 32 }
     ensures { Gives (λ x. x) result (ring_of text.now) }
 {
