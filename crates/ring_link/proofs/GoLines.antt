@@ -12,10 +12,10 @@ use Rattle.session_text.specs.declared.sessions.SessionLine.{SessionLine}
 use Rattle.session_text.proofs.Parts.{all-append}
 
 -- the line begins with `GO `
-abbrev is_go : List ℕ → Bool
+abbrev pub is_go : List ℕ → Bool
 is_go line = starts_with nat_eq line (codes "GO ")
 
-abbrev IsNoGo : List ℕ → Type 0
+abbrev pub IsNoGo : List ℕ → Type 0
 IsNoGo line = is_go line ≡ false
 
 -- ---- the lines before the last
@@ -63,7 +63,7 @@ front_count-by true n e = cc e
 front_count-by false n e = refl
 
 -- lines of which none begins so are all of the front
-front_count-append : (lines rest : List (List ℕ)) → AllByRecursion IsNoGo lines → front_count (lines ++ rest) ≡ length lines + front_count rest
+pub front_count-append : (lines rest : List (List ℕ)) → AllByRecursion IsNoGo lines → front_count (lines ++ rest) ≡ length lines + front_count rest
 front_count-append [] rest h = omega arith
 front_count-append (line ∷ lines) rest h =
     let more = front_count-append lines rest h.1 in

@@ -3,8 +3,11 @@ pub mod HeadLines
 pub mod InStep
 pub mod LawfulRings
 pub mod LeftLines
+pub mod LeftStops
 pub mod LineCounts
 pub mod ListPlaces
 pub mod RefusedLines
+pub mod RightStops
 pub mod RingTexts
 pub mod SessionNumbers
+pub mod Stops

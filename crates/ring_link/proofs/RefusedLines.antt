@@ -1,5 +1,5 @@
 -- The lines at which a session is refused.
-use Rattle.std.proofs.Common.{◌≡◌, ℕ, ◌+◌, ◌≤◌, inl, inr, Bool, true, false, cond, Option, Some, None, Result, Ok, Err, List, ◌∷◌, length, refl, ap, arith, length-append, nat_lt}
+use Rattle.std.proofs.Common.{◌≡◌, ℕ, ◌+◌, ◌≤◌, inl, inr, Bool, true, false, cond, Option, Some, None, Result, Ok, Err, List, ◌∷◌, length, refl, ap, arith, length-append, nat_lt, ◌⊎◌, sym}
 use Rattle.std.specs.Prelude.{codes, slice_get, IfErr}
 use Rattle.std.specs.Option.{option_map_or}
 use Rattle.std.specs.Str.{bytes_eq}
@@ -18,9 +18,14 @@ use Rattle.session_text.proofs.StepRefusals.{step-err}
 use Rattle.ring_link.specs.Machines.{IsUpTo, bare_end, has_bare}
 
 -- a line that is wrong is named by its number
-wrong_line : (d : Draft) (n : ℕ) (line : List ℕ) (r : Refusal) → IsWrong d n line r → n ≡ r.line
+pub wrong_line : (d : Draft) (n : ℕ) (line : List ℕ) (r : Refusal) → IsWrong d n line r → n ≡ r.line
 wrong_line d n line r (inl w) = ap (λ (x : Refusal). x.line) w.0
 wrong_line d n line r (inr w) = ap (λ (x : Refusal). x.line) w.0
+
+-- with a code of a line
+pub wrong_code : (d : Draft) (n : ℕ) (line : List ℕ) (r : Refusal) → IsWrong d n line r → (r.code ≡ 1) ⊎ (r.code ≡ 2)
+wrong_code d n line r (inl w) = inl (sym (ap (λ (x : Refusal). x.code) w.0))
+wrong_code d n line r (inr w) = inr (sym (ap (λ (x : Refusal). x.code) w.0))
 
 -- lines from line n on are refused at one of them, or at the next
 read_on-line : (d : Draft) (n : ℕ) (lines : List (List ℕ)) (r : Refusal) → read_on d n lines ≡ Err r → r.line ≤ n + length lines

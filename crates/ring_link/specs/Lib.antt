@@ -8,3 +8,4 @@ pub mod RingOfText
 pub mod TwoNumbers
 pub mod RingForm
 pub mod LawfulRing
+pub mod FirstError
