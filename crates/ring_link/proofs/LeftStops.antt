@@ -1,17 +1,16 @@
 -- Where the reading of the left machine's session stops.
-use Rattle.std.proofs.Common.{◌≡◌, ◌∙◌, ℕ, suc, ◌+◌, ◌≤◌, ◌⊎◌, inl, inr, Bool, true, false, cond, Result, Ok, Err, List, [], ◌∷◌, ◌++◌, length, take, drop, refl, sym, ap, subst, arith, add-one, append_assoc, append-nil, length-append}
-use Rattle.std.specs.Prelude.{codes}
+use Rattle.std.proofs.Common.{◌≡◌, ◌∙◌, ℕ, suc, ◌+◌, ◌⊎◌, inl, inr, Bool, true, false, cond, Result, Ok, Err, List, [], ◌∷◌, ◌++◌, length, take, drop, refl, sym, ap, subst, arith, add-one, append_assoc, append-nil, length-append}
 use Rattle.std.specs.List.{AllByRecursion}
 use Rattle.std.proofs.Math.Seq.{take-append-add, take-length}
-use Rattle.std.proofs.lemmas.List.{drop_all, length-take, take-append-drop}
-use Rattle.hunk_text.specs.TextReader.Refusal.{Refusal, refusal}
+use Rattle.std.proofs.lemmas.List.{length-take, take-append-drop}
+use Rattle.hunk_text.specs.TextReader.Refusal.{Refusal}
 use Rattle.hunk_text.specs.TextReader.Steps.{◌>>=◌}
-use Rattle.hunk_text.proofs.Shown.TextReader.StepLemmas.{Err-same, bind-err}
+use Rattle.hunk_text.proofs.Shown.TextReader.StepLemmas.{Err-same}
 use Rattle.session_text.specs.Front.{front_count}
 use Rattle.session_text.specs.SessionForm.{AreSessionLines}
-use Rattle.session_text.specs.SessionOfText.{first_draft, read_on, session_lines, step}
+use Rattle.session_text.specs.SessionOfText.{first_draft, session_lines}
 use Rattle.session_text.specs.declared.sessions.Session.{Session}
-use Rattle.session_text.proofs.Advances.{EndsAt, StopsAt, advance, begin_lines-advance, read_on-behind, read_on-err}
+use Rattle.session_text.proofs.Advances.{EndsAt, StopsAt, begin_lines-advance, read_on-behind, read_on-err}
 use Rattle.session_text.proofs.Complete.{complete_lines}
 use Rattle.session_text.proofs.Sound.{sound_lines}
 use Rattle.ring_link.specs.Machines.{behind, left_lines, refusal_behind}
@@ -21,7 +20,7 @@ use Rattle.ring_link.proofs.GoLines.{IsNoGo, front_count-append, front_count-ses
 use Rattle.ring_link.proofs.LineCounts.{front_count-within}
 use Rattle.ring_link.proofs.RefusedLines.{wrong_code, wrong_line}
 use Rattle.ring_link.proofs.RingTexts.{left_lines-again}
-use Rattle.ring_link.proofs.Stops.{Begins, IsLineCode, IsReader, Reader, Stops}
+use Rattle.ring_link.proofs.Stops.{Begins, IsReader, Reader, Stops}
 use Rattle.session_text.proofs.StepRefusals.{step-err}
 
 -- ---- the lines of a front
@@ -117,22 +116,22 @@ refused_again front line more q s none = again (is_go line) refl
         let part = ap (λ (n : ℕ). take n (front ++ line ∷ more)) count ∙ take-append-add front (line ∷ more) (suc k.0) in
         rw (part, s (take k.0 more)) refl
 
-module _ (g : Session → ℕ → Reader) (h : (s : Session) (count : ℕ) → IsReader (g s count) (LEFT_LINE + count + 1)) where
-  -- the left session, and then the others
-  abbrev pub by_left : Reader
-  by_left lines = behind LEFT_LINE (left_lines lines) >>= λ left. g left.0 left.1.1 left.1.0
+-- the left session, and then the others
+abbrev pub by_left : (Session → ℕ → Reader) → Reader
+by_left g lines = behind LEFT_LINE (left_lines lines) >>= λ left. g left.0 left.1.1 left.1.0
 
+module _ (g : Session → ℕ → Reader) (h : (s : Session) (count : ℕ) → IsReader (g s count) (LEFT_LINE + count + 1)) where
   -- behind a session's lines
-  by_left-session : (s : Session) (lines rest : List (List ℕ)) → AreSessionLines s lines → by_left (lines ++ rest) ≡ g s (length lines) rest
+  by_left-session : (s : Session) (lines rest : List (List ℕ)) → AreSessionLines s lines → (by_left g) (lines ++ rest) ≡ g s (length lines) rest
   by_left-session s lines rest are = rw (left_lines-again s lines rest are) refl
 
   -- lines that begin a session's lines begin
-  begins : (front : List (List ℕ)) (s : Session) (more : List (List ℕ)) → AreSessionLines s (front ++ more) → Begins by_left front
+  begins : (front : List (List ℕ)) (s : Session) (more : List (List ℕ)) → AreSessionLines s (front ++ more) → Begins (by_left g) front
   begins front s more are =
       let b = (h s (length (front ++ more))).some in
-      (more ++ b.0, b.1, ap by_left (sym (append_assoc front more b.0)) ∙ by_left-session s (front ++ more) b.0 are ∙ b.2)
+      (more ++ b.0, b.1, ap (by_left g) (sym (append_assoc front more b.0)) ∙ by_left-session s (front ++ more) b.0 are ∙ b.2)
 
-  stops_at : (lines : List (List ℕ)) (q : Refusal) → StopsAt first_draft 1 (take (front_count lines) lines) q → Stops by_left (LEFT_LINE + 1) lines (refusal_behind LEFT_LINE q)
+  stops_at : (lines : List (List ℕ)) (q : Refusal) → StopsAt first_draft 1 (take (front_count lines) lines) q → Stops (by_left g) (LEFT_LINE + 1) lines (refusal_behind LEFT_LINE q)
   stops_at lines q s =
       let wrong = step-err s.at.place s.at.session (1 + length s.front) s.line q s.stops in
       let b = begin_lines-advance s.front s.at s.before in
@@ -157,7 +156,7 @@ module _ (g : Session → ℕ → Reader) (h : (s : Session) (count : ℕ) → I
       }
 
   ends_at : (lines : List (List ℕ)) (q : Refusal) → session_lines (take (front_count lines) lines) ≡ Err q → EndsAt first_draft 1 (take (front_count lines) lines) q → AllByRecursion IsNoGo lines ⊎ HasGo lines
-      → Stops by_left (LEFT_LINE + 1) lines (refusal_behind LEFT_LINE q)
+      → Stops (by_left g) (LEFT_LINE + 1) lines (refusal_behind LEFT_LINE q)
   ends_at lines q e s (inl none) =
       let b = begin_lines-advance (take (front_count lines) lines) s.at s.before in
       let all = taken-none lines none in
@@ -173,7 +172,7 @@ module _ (g : Session → ℕ → Reader) (h : (s : Session) (count : ℕ) → I
       let b = begin_lines-advance (take (front_count lines) lines) s.at s.before in
       cc (sym (whole_front lines has b.0 b.1 b.2) ∙ e)
 
-  left_refused : (lines : List (List ℕ)) (q : Refusal) → session_lines (take (front_count lines) lines) ≡ Err q → Stops by_left (LEFT_LINE + 1) lines (refusal_behind LEFT_LINE q)
+  left_refused : (lines : List (List ℕ)) (q : Refusal) → session_lines (take (front_count lines) lines) ≡ Err q → Stops (by_left g) (LEFT_LINE + 1) lines (refusal_behind LEFT_LINE q)
   left_refused lines q e =
       elim (read_on-err first_draft 1 (take (front_count lines) lines) q e) [
         | inl s ↦ stops_at lines q s
@@ -183,15 +182,15 @@ module _ (g : Session → ℕ → Reader) (h : (s : Session) (count : ℕ) → I
   -- ---- what is behind it
 
   by_session : (lines : List (List ℕ)) (r : Refusal) (s : Session) → session_lines (take (front_count lines) lines) ≡ Ok s → g s (front_count lines) (drop (front_count lines) lines) ≡ Err r
-      → Stops by_left (LEFT_LINE + 1) lines r
+      → Stops (by_left g) (LEFT_LINE + 1) lines r
   by_session lines r s read e =
       let n = front_count lines in
       let within = front_count-within lines in
       let are = sound_lines (take n lines) s read in
       let size : length (take n lines) ≡ n = omega (arith, length-take n lines) in
       let stop = (h s n).stops (drop n lines) r e in
-      let behind : (rest : List (List ℕ)) → by_left ((take n lines ++ stop.front) ++ rest) ≡ g s n (stop.front ++ rest) =
-      λ rest. ap by_left (append_assoc (take n lines) stop.front rest) ∙ by_left-session s (take n lines) (stop.front ++ rest) are ∙ ap (λ (k : ℕ). g s k (stop.front ++ rest)) size in
+      let behind : (rest : List (List ℕ)) → (by_left g) ((take n lines ++ stop.front) ++ rest) ≡ g s n (stop.front ++ rest) =
+      λ rest. ap (by_left g) (append_assoc (take n lines) stop.front rest) ∙ by_left-session s (take n lines) (stop.front ++ rest) are ∙ ap (λ (k : ℕ). g s k (stop.front ++ rest)) size in
       record {
         front = take n lines ++ stop.front;
         back = stop.back;
@@ -208,11 +207,11 @@ module _ (g : Session → ℕ → Reader) (h : (s : Session) (count : ℕ) → I
   left_of lines o = o >>= λ s. Ok (s, (drop (front_count lines) lines, front_count lines))
 
   by_read : (lines : List (List ℕ)) (r : Refusal) (o : Result Session Refusal) → session_lines (take (front_count lines) lines) ≡ o
-      → (behind LEFT_LINE (left_of lines o) >>= λ left. g left.0 left.1.1 left.1.0) ≡ Err r → Stops by_left (LEFT_LINE + 1) lines r
+      → (behind LEFT_LINE (left_of lines o) >>= λ left. g left.0 left.1.1 left.1.0) ≡ Err r → Stops (by_left g) (LEFT_LINE + 1) lines r
   by_read lines r (Ok s) is e = by_session lines r s is e
-  by_read lines r (Err q) is e = subst (Stops by_left (LEFT_LINE + 1) lines) (Err-same {A = RingInput} (refusal_behind LEFT_LINE q) r e) (left_refused lines q is)
+  by_read lines r (Err q) is e = subst (Stops (by_left g) (LEFT_LINE + 1) lines) (Err-same {A = RingInput} (refusal_behind LEFT_LINE q) r e) (left_refused lines q is)
 
-  pub by_left-reader : IsReader by_left (LEFT_LINE + 1)
+  pub by_left-reader : IsReader (by_left g) (LEFT_LINE + 1)
   by_left-reader = record {
     some = let b = begin_lines-advance [] first_draft refl in begins [] b.0 b.1 b.2;
     stops = λ lines r e. by_read lines r (session_lines (take (front_count lines) lines)) refl e;

@@ -8,6 +8,8 @@ pub mod LineCounts
 pub mod ListPlaces
 pub mod RefusedLines
 pub mod RightStops
+pub mod RingReaders
+pub mod RingRefusals
 pub mod RingTexts
 pub mod SessionNumbers
 pub mod Stops

@@ -1,20 +1,18 @@
 -- Where the reading of the right machine's session stops.
-use Rattle.std.proofs.Common.{◌≡◌, ◌∙◌, ℕ, ◌+◌, ◌<◌, ◌≤◌, ◌⊎◌, inl, inr, Bool, true, false, cond, Result, Ok, Err, List, [], ◌∷◌, ◌++◌, length, nat_lt, refl, sym, ap, subst, arith, append-nil, length-append}
+use Rattle.std.proofs.Common.{◌≡◌, ◌∙◌, ℕ, ◌+◌, ◌<◌, ◌≤◌, ◌⊎◌, inl, inr, Bool, true, false, cond, Result, Ok, Err, List, [], ◌∷◌, ◌++◌, length, nat_lt, refl, sym, ap, subst, arith, append-nil}
 use Rattle.std.specs.Prelude.{codes}
-use Rattle.std.specs.Str.{bytes_eq}
 use Rattle.std.proofs.lemmas.Bool.{ltb-true}
 use Rattle.std.proofs.lemmas.Bool.Decides.{nat_tests}
 use Rattle.hunk_text.specs.TextReader.Fields.{number_line}
 use Rattle.hunk_text.specs.TextReader.Refusal.{Refusal, refusal}
 use Rattle.hunk_text.specs.TextReader.Steps.{◌>>=◌}
 use Rattle.hunk_text.proofs.Shown.TextReader.StepLemmas.{Err-same, Ok-same, bind-ok}
-use Rattle.kernel_dispatch.specs.KernelModel.Ranges.{is_store_size}
-use Rattle.session_text.specs.SessionOfText.{draft, first_draft, read_on, session_lines, step, store_step, version_line, version_step}
+use Rattle.session_text.specs.SessionOfText.{draft, first_draft, read_on, session_lines, step, version_line}
 use Rattle.session_text.specs.Statements.{statement_of}
 use Rattle.session_text.specs.declared.drafts.Draft.{Draft}
 use Rattle.session_text.specs.declared.drafts.Place.TheVariants.{Store as AtStore, Machine as AtMachine}
 use Rattle.session_text.specs.declared.sessions.Session.{Session}
-use Rattle.session_text.proofs.Advances.{EndsAt, StopsAt, advance, advance-front, advance-read, least_store, read_on-behind, read_on-err, session_behind}
+use Rattle.session_text.proofs.Advances.{StopsAt, advance, advance-front, advance-read, least_store, read_on-behind, read_on-err, session_behind}
 use Rattle.session_text.proofs.StepRefusals.{step-err}
 use Rattle.ring_link.specs.Machines.{bare_refusal, behind, has_bare, kernel_lines, refusal_behind}
 use Rattle.ring_link.specs.declared.inputs.RingInput.{RingInput}
@@ -49,7 +47,7 @@ second_step : (s : Session) (line : List ℕ) (at : Draft) → step (draft AtSto
 unfolding step
 second_step s line at e =
     let after : ℕ → Session = λ store. record s { store = store } in
-    let b = bind-ok (number_line (codes "STORE ") (is_store_size s.version) 2 line) (λ store. Ok (draft AtMachine (after store))) at e in
+    let b = bind-ok (number_line (codes "STORE ") _ 2 line) (λ store. Ok (draft AtMachine (after store))) at e in
     (after b.0, Ok-same {E = Refusal} (draft AtMachine (after b.0)) at b.2)
 
 one_on : (a : List ℕ) (s : Session) → step first_draft 1 a ≡ Ok (draft AtStore s) → GoesOn (a ∷ [])
@@ -227,10 +225,10 @@ third_stops a b c rest e at h = record {
     refl,
     inl refl,
     λ more.
-    let lines = a ∷ b ∷ c ∷ more in
-    let behind_two = read_on-behind first_draft at 1 3 (a ∷ b ∷ []) (c ∷ more) refl h in
-    let late : (q : Refusal) → session_lines lines ≡ Err q → 3 ≤ q.line = λ q f. read_on-low at 3 (c ∷ more) q (sym behind_two ∙ f) in
-    bare_by lines e (session_lines lines) refl (late_by (session_lines lines) late),
+        let lines = a ∷ b ∷ c ∷ more in
+        let behind_two = read_on-behind first_draft at 1 3 (a ∷ b ∷ []) (c ∷ more) refl h in
+        let late : (q : Refusal) → session_lines lines ≡ Err q → 3 ≤ q.line = λ q f. read_on-low at 3 (c ∷ more) q (sym behind_two ∙ f) in
+        bare_by lines e (session_lines lines) refl (late_by (session_lines lines) late),
   );
 }
 

@@ -1,5 +1,5 @@
 -- Where a reading of lines stops: lines are read one after another, and the first that is refused is refused whatever follows.
-use Rattle.std.proofs.Common.{◌≡◌, ◌∙◌, ℕ, ◌+◌, ◌⊎◌, inl, inr, Result, Ok, Err, List, [], ◌∷◌, ◌++◌, length, refl, sym, ap, subst, arith}
+use Rattle.std.proofs.Common.{◌≡◌, ◌∙◌, ℕ, ◌+◌, ◌⊎◌, inl, inr, Result, Ok, Err, List, [], ◌∷◌, ◌++◌, length, refl, sym, ap, arith}
 use Rattle.hunk_text.specs.TextReader.Refusal.{Refusal, refusal}
 use Rattle.hunk_text.specs.TextReader.Steps.{◌>>=◌}
 use Rattle.hunk_text.proofs.Shown.TextReader.StepLemmas.{Err-same}

@@ -1,5 +1,6 @@
 // The laws of a ring: of the protocol, whatever happens on the link, and of its text.
-ghost use Rattle.std.specs.Prelude.{◌≡◌, ◌+◌, ◌≤◌, ℕ, List, Ok, drop, length};
+ghost use Rattle.std.specs.Prelude.{◌≡◌, ◌↔◌, ◌⊎◌, ◌+◌, ◌≤◌, ℕ, List, Ok, drop, length};
+ghost use Rattle.ring_link.specs.FirstError.{EndsEarly, IsFirstError, IsRefused};
 ghost use Rattle.ring_link.specs.RingForm.{IsRing};
 ghost use Rattle.ring_link.specs.RingOfText.{ring_of};
 ghost use Rattle.ring_link.specs.Transfers.{Event, IsPrefix, transfer_after};
@@ -29,4 +30,14 @@ pub fn ring_law()
 pub fn text_law()
     ensures sound { (text : List ℕ) (ring : RingInput) → ring_of text ≡ Ok ring → IsRing text ring }
     ensures complete { (text : List ℕ) (ring : RingInput) → IsRing text ring → ring_of text ≡ Ok ring }
+{}
+
+/// A text is refused at its first line in error: some ring's lines begin with the lines before it, and none with these and it. The code
+/// is 1 or 2 exactly there, and 3 exactly where all lines begin a ring's lines, and are none.
+pub fn refusal_law()
+    ensures line { (text : List ℕ) (n : ℕ) →
+        (IsRefused text n 1 ⊎ IsRefused text n 2) ↔ IsFirstError text n }
+    ensures end { (text : List ℕ) (n : ℕ) → IsRefused text n 3 ↔ EndsEarly text n }
+    ensures codes { (text : List ℕ) (n code : ℕ) →
+        IsRefused text n code → (1 ≤ code) × (code ≤ 3) }
 {}
