@@ -21,7 +21,8 @@ pub record AreRingLines (ring : RingInput) (lines : List (List ℕ)) : Type 0 wh
   -- those of the right machine's
   pub right : List (List ℕ)
   -- these are all lines
-  pub all : lines ≡ first ∷ (codes "LINK :" ++ ring.link) ∷ (codes "ACKS :" ++ ring.acks) ∷ codes "LEFT" ∷ (left ++ codes "RIGHT" ∷ right)
+  pub all :
+      lines ≡ first ∷ (codes "LINK :" ++ ring.link) ∷ (codes "ACKS :" ++ ring.acks) ∷ codes "LEFT" ∷ (left ++ codes "RIGHT" ∷ right)
   -- the first line has the rounds and the wait
   pub numbers : HasNumbers (ring.rounds, ring.wait) first
   -- they are a number of rounds

@@ -1,5 +1,5 @@
--- All that can happen between the two ends. What was once sent is kept for good, and any of it may come, at any time, again, in another
--- order, or never: so the link may lose, repeat and reorder.
+-- All that can happen between the two ends. What was once sent is kept for good, and any of it may come, at any time,
+-- again, in another order, or never: so the link may lose, repeat and reorder.
 use Rattle.std.specs.Prelude.{◌≡◌, ℕ, Bool, if◌then◌else◌, Option, Some, None, List, [], ◌∷◌, ◌++◌, drop, slice_get}
 use Rattle.ring_link.specs.Receivers.{count_after, is_taken}
 use Rattle.ring_link.specs.Senders.{Sender, is_new_count, new_sender, sender_after_count, sender_after_turn, sent_in_turn}
@@ -26,8 +26,9 @@ abbrev pub new_transfer : Transfer
 new_transfer =
     record { offered = []; waiting = []; sender = new_sender; received = 0; delivered = []; sent = []; acknowledgements = [] }
 
--- A byte is offered. The sender has a turn with some wait, in which it sends a byte, sends it again, or sends nothing. Of all data that was
--- sent the one in this place comes, and there is room for it or not. Of all acknowledgements the one in this place comes.
+-- A byte is offered. The sender has a turn with some wait, in which it sends a byte, sends it again, or sends
+-- nothing. Of all data that was sent the one in this place comes, and there is room for it or not. Of all
+-- acknowledgements the one in this place comes.
 pub data Event : Type 0 where
   Offer : ℕ → Event
   Turn : ℕ → Event

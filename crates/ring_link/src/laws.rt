@@ -6,13 +6,13 @@ ghost use Rattle.ring_link.specs.RingOfText.{ring_of};
 ghost use Rattle.ring_link.specs.Transfers.{Event, IsPrefix, transfer_after};
 ghost use Rattle.ring_link.specs.declared.inputs.RingInput.{RingInput};
 
-/// After every list of events the delivered bytes are a prefix of those that were offered, as many as the receiver counts. No more are
-/// acknowledged than were delivered, and of those delivered one at most is not acknowledged. What waits is what was offered and is not
-/// acknowledged.
+/// After every list of events the delivered bytes are a prefix of those that were offered, as many as the receiver
+/// counts. No more are acknowledged than were delivered, and of those delivered one at most is not acknowledged. What
+/// waits is what was offered and is not acknowledged.
 ///
-/// An event is that a byte is offered, that the sender has a turn, that data comes, with room for it or without, or that an
-/// acknowledgement comes. What was once sent may come at any time, as often as it may, or never. `Sender::turn`, `Sender::acknowledge`
-/// and `Receiver::arrive` do what these events do.
+/// An event is that a byte is offered, that the sender has a turn, that data comes, with room for it or without, or
+/// that an acknowledgement comes. What was once sent may come at any time, as often as it may, or never.
+/// `Sender::turn`, `Sender::acknowledge` and `Receiver::arrive` do what these events do.
 pub fn ring_law()
     ensures prefix { (events : List Event) → let t = transfer_after events in
         IsPrefix t.delivered t.offered }
@@ -32,8 +32,8 @@ pub fn text_law()
     ensures complete { (text : List ℕ) (ring : RingInput) → IsRing text ring → ring_of text ≡ Ok ring }
 {}
 
-/// A text is refused at its first line in error: some ring's lines begin with the lines before it, and none with these and it. The code
-/// is 1 or 2 exactly there, and 3 exactly where all lines begin a ring's lines, and are none.
+/// A text is refused at its first line in error: some ring's lines begin with the lines before it, and none with
+/// these and it. The code is 1 or 2 exactly there, and 3 exactly where all lines begin a ring's lines, and are none.
 pub fn refusal_law()
     ensures line { (text : List ℕ) (n : ℕ) →
         (IsRefused text n 1 ⊎ IsRefused text n 2) ↔ IsFirstError text n }

@@ -1,5 +1,5 @@
-// A ring of two machines: what one writes to its console goes byte by byte over a link that loses, repeats and reorders, and is typed at the
-// other.
+// A ring of two machines: what one writes to its console goes byte by byte over a link that loses, repeats and
+// reorders, and is typed at the other.
 #![tactic(auto)]
 
 mod heads;

@@ -27,8 +27,8 @@ impl Receiver {
         Receiver { count: 0 }
     }
 
-    /// Byte `i` comes, counted from 0, and there is room for it or not. The answer is true exactly where it is taken: it is the next
-    /// one, and there is room. Then the count is one more; else it stays.
+    /// Byte `i` comes, counted from 0, and there is room for it or not. The answer is true exactly where it is taken:
+    /// it is the next one, and there is room. Then the count is one more; else it stays.
     pub fn arrive(&mut self, i: u64, room: bool) -> bool
         requires { self.old + 1 < 2 ^ 64 }
         ensures taken { result ≡ is_taken self.old i room }

@@ -4,8 +4,8 @@ ghost use Rattle.ring_link.specs.Senders.{is_new_count, new_sender, sender_after
 
 use std::marker::Model;
 
-/// The end that sends. It is seen as what it knows: how many bytes were acknowledged, which byte is outstanding, and for how many turns
-/// that one was not sent.
+/// The end that sends. It is seen as what it knows: how many bytes were acknowledged, which byte is outstanding, and
+/// for how many turns that one was not sent.
 #[derive(Drop)]
 pub struct Sender {
     // How many bytes were acknowledged.
@@ -36,9 +36,10 @@ impl Sender {
         }
     }
 
-    /// A turn, with the first byte that waits. Where no byte is outstanding, that one is sent, and is outstanding. Else the timer
-    /// grows by 1; at `wait` turns the outstanding byte is sent again, and the timer is 0. The answer is what is sent, the byte with
-    /// its number from 0, which is how many were acknowledged before it; `None` exactly where nothing is sent.
+    /// A turn, with the first byte that waits. Where no byte is outstanding, that one is sent, and is outstanding.
+    /// Else the timer grows by 1; at `wait` turns the outstanding byte is sent again, and the timer is 0. The answer
+    /// is what is sent, the byte with its number from 0, which is how many were acknowledged before it; `None`
+    /// exactly where nothing is sent.
     pub fn turn(&mut self, first: Option<u8>, wait: u32) -> Option<(u64, u8)>
         requires { self.old.timer < wait }
         ensures sent { result ≡ sent_in_turn self.old first wait }
@@ -66,8 +67,8 @@ impl Sender {
         (self.acknowledged, byte)
     }
 
-    /// An acknowledgement of `count` bytes comes. The answer is true exactly where that is more than were acknowledged; then so many
-    /// are, and no byte is outstanding. Else nothing changes.
+    /// An acknowledgement of `count` bytes comes. The answer is true exactly where that is more than were
+    /// acknowledged; then so many are, and no byte is outstanding. Else nothing changes.
     pub fn acknowledge(&mut self, count: u64) -> bool
         ensures new { result ≡ is_new_count self.old count }
         ensures sender { self.new ≡ sender_after_count self.old count }
