@@ -72,19 +72,19 @@ all-front : (a b : List (List ℕ)) → AllByRecursion IsNoGo (a ++ b) → AllBy
 all-front [] b h = tt
 all-front (x ∷ xs) b h = (h.0, all-front xs b h.1)
 
-taken-none : (lines : List (List ℕ)) → AllByRecursion IsNoGo lines → take (front_count lines) lines ≡ lines
-taken-none lines h = ap (λ (n : ℕ). take n lines) (front_count-none lines h) ∙ take-length lines
+front-none : (lines : List (List ℕ)) → AllByRecursion IsNoGo lines → take (front_count lines) lines ≡ lines
+front-none lines h = ap (λ (n : ℕ). take n lines) (front_count-none lines h) ∙ take-length lines
 
-taken-has : (lines : List (List ℕ)) (h : HasGo lines) → take (front_count lines) lines ≡ h.front ++ h.go ∷ []
-taken-has lines h =
+front-has : (lines : List (List ℕ)) (h : HasGo lines) → take (front_count lines) lines ≡ h.front ++ h.go ∷ []
+front-has lines h =
     ap (λ (ls : List (List ℕ)). take (front_count ls) ls) h.all
     ∙ ap (λ (n : ℕ). take n (h.front ++ h.go ∷ h.rest)) (front_count-has h.front h.go h.rest h.none h.is)
     ∙ take-front h.front h.go h.rest
 
 -- before its last line none begins with `GO `
 none_before : (lines a : List (List ℕ)) (x : List ℕ) (rest : List (List ℕ)) → take (front_count lines) lines ≡ a ++ x ∷ rest → AllByRecursion IsNoGo lines ⊎ HasGo lines → AllByRecursion IsNoGo a
-none_before lines a x rest e (inl h) = all-front a (x ∷ rest) (subst (AllByRecursion IsNoGo) (sym (taken-none lines h) ∙ e) h)
-none_before lines a x rest e (inr h) = strict a h.front x h.go rest (sym (taken-has lines h) ∙ e) h.none
+none_before lines a x rest e (inl h) = all-front a (x ∷ rest) (subst (AllByRecursion IsNoGo) (sym (front-none lines h) ∙ e) h)
+none_before lines a x rest e (inr h) = strict a h.front x h.go rest (sym (front-has lines h) ∙ e) h.none
 
 -- ---- a session that is refused
 
@@ -95,9 +95,9 @@ whole_front lines h s (m ∷ ms) are =
     let front = take (front_count lines) lines in
     let count = front_count-session s (front ++ m ∷ ms) [] are in
     let behind : (front ++ m ∷ ms) ++ [] ≡ h.front ++ h.go ∷ (m ∷ ms)
-    = append-nil (front ++ m ∷ ms) ∙ ap (λ (ls : List (List ℕ)). ls ++ m ∷ ms) (taken-has lines h) ∙ append_assoc h.front (h.go ∷ []) (m ∷ ms) in
+    = append-nil (front ++ m ∷ ms) ∙ ap (λ (ls : List (List ℕ)). ls ++ m ∷ ms) (front-has lines h) ∙ append_assoc h.front (h.go ∷ []) (m ∷ ms) in
     let one = ap front_count behind ∙ front_count-has h.front h.go (m ∷ ms) h.none h.is in
-    let size = ap length (taken-has lines h) in
+    let size = ap length (front-has lines h) in
     absurd (omega (arith, count, one, size, length-append front (m ∷ ms), length-append h.front (h.go ∷ [])))
 
 -- where the line stands, it is read whatever follows
@@ -159,7 +159,7 @@ module _ (g : Session → ℕ → Reader) (h : (s : Session) (count : ℕ) → I
       → Stops (by_left g) (LEFT_LINE + 1) lines (refusal_behind LEFT_LINE q)
   ends_at lines q e s (inl none) =
       let b = begin_lines-advance (take (front_count lines) lines) s.at s.before in
-      let all = taken-none lines none in
+      let all = front-none lines none in
       record {
         front = lines;
         back = [];

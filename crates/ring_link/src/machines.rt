@@ -77,7 +77,7 @@ fn third_line(text: &[u8]) -> Option<&[u8]>
 }
 
 /// Why a text behind so many lines is refused, with the line in the whole.
-pub fn behind(before: u32, end: RingEnd) -> RingEnd
+pub fn end_behind(before: u32, end: RingEnd) -> RingEnd
     requires { IsUpTo (2 ^ 32 - 1 - before) end }
     ensures { result ≡ end_behind before end }
 {

@@ -7,7 +7,7 @@ ghost use Rattle.ring_link.specs.RingOfText.{ring_of};
 use crate::heads::read_head;
 use crate::inputs::LEFT_LINE;
 use crate::lines::rest_after;
-use crate::machines::{behind, read_left, read_right};
+use crate::machines::{end_behind, read_left, read_right};
 use crate::{RingEnd, RingInput};
 use std::alloc::Global;
 
@@ -34,13 +34,13 @@ fn whole_ring(alloc: Global, text: &[u8]) -> Result<RingInput, RingEnd>
     let (head, rest) = read_head(alloc, text)?;
     let (left, rest, lines) = match read_left(alloc, rest) {
         Ok(parts) => parts,
-        Err(end) => return Err(behind(LEFT_LINE, end)),
+        Err(end) => return Err(end_behind(LEFT_LINE, end)),
     };
     let right_line = LEFT_LINE + lines + 1;
     let rest = rest_after(b"RIGHT", right_line, rest)?;
     let right = match read_right(alloc, rest) {
         Ok(session) => session,
-        Err(end) => return Err(behind(right_line, end)),
+        Err(end) => return Err(end_behind(right_line, end)),
     };
     Ok(RingInput {
         rounds: head.rounds,
