@@ -11,7 +11,7 @@ pub mod read;
 pub mod receivers;
 pub mod senders;
 
-pub use hunk_text::TextEnd as RingEnd;
+pub(crate) use hunk_text::TextEnd as RingEnd;
 pub use inputs::RingInput;
 pub use read::read_ring;
 pub use receivers::Receiver;
