@@ -1,0 +1,15 @@
+pub mod GoLines
+pub mod HeadLines
+pub mod InStep
+pub mod LawfulRings
+pub mod LeftLines
+pub mod LeftStops
+pub mod LineCounts
+pub mod ListPlaces
+pub mod RefusedLines
+pub mod RightStops
+pub mod RingReaders
+pub mod RingRefusals
+pub mod RingTexts
+pub mod SessionNumbers
+pub mod Stops

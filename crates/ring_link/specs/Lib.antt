@@ -1,0 +1,11 @@
+pub mod Senders
+pub mod Receivers
+pub mod Transfers
+pub mod NextLines
+pub mod Heads
+pub mod Machines
+pub mod RingOfText
+pub mod TwoNumbers
+pub mod RingForm
+pub mod LawfulRing
+pub mod FirstError
