@@ -1,0 +1,4 @@
+pub mod HeadLines
+pub mod HexTexts
+pub mod LineFields
+pub mod StatementLines

@@ -1,0 +1,4 @@
+pub mod Heads
+pub mod HexText
+pub mod Seen
+pub mod Statements

@@ -1,0 +1,11 @@
+// The lines of the text of a saved machine, each read and printed.
+#![tactic(auto)]
+
+mod fields;
+pub mod heads;
+pub mod hex_text;
+pub mod statements;
+
+pub use heads::{console_of, is_word, read_regs, ring_of, shell_of};
+pub use hex_text::decoded;
+pub use statements::{Statement, statement_of};

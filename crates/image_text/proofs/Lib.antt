@@ -1,0 +1,6 @@
+pub mod Acceptance
+pub mod FileLists
+pub mod StatementLists
+pub mod Sound
+pub mod Complete
+pub mod CompleteText

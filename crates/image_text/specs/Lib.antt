@@ -1,0 +1,5 @@
+pub mod Files
+pub mod ImageForm
+pub mod ImageOfText
+pub mod Places
+pub mod Ranges
