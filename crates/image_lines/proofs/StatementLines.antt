@@ -166,7 +166,7 @@ bytes_again bytes some few h =
     let b : nat_le (length (encode_lower bytes)) 64 ≡ true = grind (arith, nat_tests) in
     rw (p.0, a, b, p.1) refl
 
-IsBytes-one : (byte : ℕ) → byte < 256 → IsBytes (byte ∷ [])
+pub IsBytes-one : (byte : ℕ) → byte < 256 → IsBytes (byte ∷ [])
 IsBytes-one byte h zero = h
 IsBytes-one byte h (suc i) = omega arith
 
@@ -180,7 +180,7 @@ byte_again byte h =
     let p = is_hex-encode (byte ∷ []) (IsBytes-one byte h) in
     byte_by (encode_lower (byte ∷ [])) (byte ∷ []) p.0 (length-digits (byte ∷ [])) p.1
 
-word_bytes : (w : ℕ) → IsBytes (to_be_bytes w32 w)
+pub word_bytes : (w : ℕ) → IsBytes (to_be_bytes w32 w)
 word_bytes w zero = omega arith
 word_bytes w (suc zero) = omega arith
 word_bytes w (suc (suc zero)) = omega arith

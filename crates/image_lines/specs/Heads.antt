@@ -82,7 +82,8 @@ regs_or_refusal n x =
 
 -- the registers of line n
 abbrev pub regs_line : ℕ → List ℕ → Result Regs Refusal
-regs_line n line = option_map_or (regs_or_refusal n) (option_and_then six_numbers (after_word (codes "REGS ") line)) (Err (refusal n 1))
+regs_line n line =
+    option_map_or (regs_or_refusal n) (option_and_then six_numbers (after_word (codes "REGS ") line)) (Err (refusal n 1))
 
 -- the digits behind a colon, where they are hex
 abbrev pub hex_field : List ℕ → Option (List ℕ)

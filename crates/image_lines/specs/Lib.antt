@@ -1,3 +1,4 @@
+pub mod Canonical
 pub mod Heads
 pub mod HexText
 pub mod Seen

@@ -1,3 +1,4 @@
+pub mod Canonical
 pub mod Files
 pub mod ImageForm
 pub mod ImageOfText
