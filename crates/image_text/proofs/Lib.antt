@@ -1,7 +1,9 @@
 pub mod Acceptance
-pub mod FileLists
-pub mod StatementLists
-pub mod PrintedText
-pub mod Sound
+pub mod Advances
 pub mod Complete
 pub mod CompleteText
+pub mod FileLists
+pub mod PrintedText
+pub mod Sound
+pub mod StatementLists
+pub mod TextRefusals

@@ -1,5 +1,6 @@
 pub mod Canonical
 pub mod Files
+pub mod FirstError
 pub mod ImageForm
 pub mod ImageOfText
 pub mod Places
