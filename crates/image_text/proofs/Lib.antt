@@ -1,0 +1,9 @@
+pub mod Acceptance
+pub mod Advances
+pub mod Complete
+pub mod CompleteText
+pub mod FileLists
+pub mod PrintedText
+pub mod Sound
+pub mod StatementLists
+pub mod TextRefusals

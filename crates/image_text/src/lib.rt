@@ -1,0 +1,14 @@
+// The text of a saved machine: what it says, read and printed.
+#![tactic(auto)]
+
+mod drafts;
+pub mod images;
+pub mod laws;
+pub mod lists;
+mod ranges;
+pub mod read;
+
+pub(crate) use hunk_text::TextEnd as ImageEnd;
+pub use images::{Image, Mode, SavedFile, SavedPipe, SavedStream};
+pub use lists::{Files, Pipes, Streams};
+pub use read::{ReadImage, read_image};
