@@ -8,7 +8,7 @@ pub mod lists;
 mod ranges;
 pub mod read;
 
-pub use hunk_text::TextEnd as ImageEnd;
+pub(crate) use hunk_text::TextEnd as ImageEnd;
 pub use images::{Image, Mode, SavedFile, SavedPipe, SavedStream};
 pub use lists::{Files, Pipes, Streams};
 pub use read::{ReadImage, read_image};
