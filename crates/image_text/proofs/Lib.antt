@@ -3,6 +3,7 @@ pub mod Advances
 pub mod Complete
 pub mod CompleteText
 pub mod FileLists
+pub mod LawfulText
 pub mod PrintedText
 pub mod Sound
 pub mod StatementLists

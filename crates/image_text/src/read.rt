@@ -2,6 +2,7 @@
 ghost use Rattle.std.specs.Prelude.{◌≡◌, ◌^◌, ◌<◌, length, IfOk};
 ghost use Rattle.hunk_text.specs.TextReader.Answers.{Gives};
 ghost use Rattle.hunk_text.specs.TextReader.Lines.{lines_of};
+ghost use Rattle.image_text.specs.Canonical.{IsLawful};
 ghost use Rattle.image_text.specs.ImageOfText.{image_of};
 
 use crate::drafts::Draft;
@@ -23,6 +24,18 @@ pub struct ReadImage {
 /// where a number or a name is out of its range, and 3 where the text ended before its `GO` line, which is one more than the
 /// lines that there are. `WantMemory` comes only where memory could not be had.
 pub fn read_image(alloc: Global, text: &[u8]) -> Result<ReadImage, ImageEnd>
+    requires { length text.now < 2 ^ 32 }
+    ensures value { Gives (λ r. r.image) result (image_of text.now) }
+    ensures lines { IfOk result (λ r. r.lines ≡ length (lines_of text.now)) }
+
+    // A machine that was read can be printed.
+    ensures lawful { IfOk result (λ r. IsLawful r.image) }
+{
+    whole_image(alloc, text)
+}
+
+// The saved machine of a text, line by line.
+fn whole_image(alloc: Global, text: &[u8]) -> Result<ReadImage, ImageEnd>
     requires { length text.now < 2 ^ 32 }
     ensures value { Gives (λ r. r.image) result (image_of text.now) }
     ensures lines { IfOk result (λ r. r.lines ≡ length (lines_of text.now)) }

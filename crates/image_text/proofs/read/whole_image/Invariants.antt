@@ -2,7 +2,7 @@ use Rattle.std.proofs.Common.{◌≡◌, ◌^◌, ◌<◌, ◌≤◌, ◌+◌, �
 use Rattle.hunk_text.specs.TextReader.Lines.{lines_of}
 use Rattle.image_text.specs.ImageOfText.{image_of, read_on}
 use Rattle.image_text.specs.declared.drafts.Place.TheVariants.{Version}
-use Rattle.image_text.proofs.read.read_image.Given as goal
+use Rattle.image_text.proofs.read.whole_image.Given as goal
 
 abbrev pub invariant-loop-line : goal.invariant-loop-line
 invariant-loop-line l = record {
