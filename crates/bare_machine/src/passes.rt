@@ -6,7 +6,7 @@ ghost use Rattle.bare_machine.specs.Run.{Avoids, Executes};
 ghost use Rattle.bare_machine.specs.State.{going};
 ghost use Rattle.bare_machine.specs.Step.{unmarked};
 
-use cint_exec::{NoKernel, Outcome, execute, has_breakpoint};
+use cint_exec::{NoKernel, Outcome, execute, execute_alone, has_breakpoint};
 use word_store::{Regs, Store};
 
 /// Executes at most so many instructions, and stops before what is none, and behind the first before a breakpoint. The answer is how
@@ -56,7 +56,8 @@ fn pass_all(store: &mut Store, regs: &mut Regs, most: u64, calls: &mut bool) -> 
     most
 }
 
-// The same with breakpoints, of which each instruction but the first is asked.
+// The same with breakpoints, for which it is asked before each instruction but the first. An instruction is a call here, so that
+// it stays a part of the loop without breakpoints.
 #[inline(never)]
 fn pass_to(
     store: &mut Store,
@@ -77,7 +78,7 @@ fn pass_to(
         if steps > 0 && has_breakpoint(regs.pc, breakpoints) {
             return steps;
         }
-        match execute(store, regs, &NoKernel) {
+        match execute_alone(store, regs, &NoKernel) {
             Outcome::Next => {}
             Outcome::Sys => {
                 *calls = true;
