@@ -1,6 +1,7 @@
 // Steps, one after another.
 ghost use Rattle.std.specs.Prelude.{◌≡◌, ◌<◌, ◌+◌, ◌-◌, ◌≤◌, [], ◌++◌, None, length, true};
 ghost use Rattle.session_text.specs.KernelDispatch.KernelModel.Ranges.{most_steps};
+ghost use Rattle.cint_exec.specs.Breakpoints.{has_breakpoint};
 ghost use Rattle.bare_machine.specs.Run.{Avoids, run};
 ghost use Rattle.bare_machine.specs.State.{IsSound, state_of};
 
@@ -42,7 +43,7 @@ pub(crate) fn advance(
     ensures sound { IsSound parts.new }
 {
     let mut done = pass_and_step(parts, most, breakpoints, out);
-    while may_go_on(done, most, out) && !has_breakpoint(parts.regs.pc, breakpoints) {
+    while may_go_on(done, most, out) && !is_met(parts, breakpoints) {
         let more = pass_and_step(parts, most - done.steps, breakpoints, out);
         done = Advanced {
             steps: done.steps + more.steps,
@@ -53,12 +54,21 @@ pub(crate) fn advance(
 }
 
 // Whether more steps may follow: the machine has not stopped, some are left, and there is room for a byte.
+#[inline(always)]
 fn may_go_on(done: Advanced, most: u64, out: &Output) -> bool
     ensures goes { result ≡ true → done.stop ≡ None }
     ensures left { result ≡ true → done.steps < most }
     ensures room { result ≡ true → length out.now < 8192 }
 {
     done.stop.is_none() && done.steps < most && out.room() > 0
+}
+
+// Whether the next instruction is at a breakpoint. Most runs have none, so that is asked first.
+#[inline(always)]
+fn is_met(parts: &BareParts, breakpoints: &[u32]) -> bool
+    ensures { result ≡ has_breakpoint parts.now.regs.pc breakpoints.now }
+{
+    !breakpoints.is_empty() && has_breakpoint(parts.regs.pc, breakpoints)
 }
 
 // Takes some steps, at most `most`, of a machine that has not stopped, of which only the last one may write a byte or stop it, and
@@ -94,7 +104,7 @@ fn pass_and_step(
     if steps == most {
         return Advanced { steps, stop: None };
     }
-    if steps > 0 && has_breakpoint(parts.regs.pc, breakpoints) {
+    if steps > 0 && is_met(parts, breakpoints) {
         return Advanced { steps, stop: None };
     }
     let stop = next_step(parts, calls, out);

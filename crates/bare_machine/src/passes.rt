@@ -12,6 +12,7 @@ use word_store::{Regs, Store};
 /// Executes at most so many instructions, and stops before what is none, and behind the first before a breakpoint. The answer is how
 /// many these are; `calls` says whether the next one is known to be a call. A fault is not kept, so that the loops have few words to
 /// carry.
+#[inline(always)]
 pub(crate) fn pass(
     store: &mut Store,
     regs: &mut Regs,

@@ -28,6 +28,6 @@ loop-parts-preserved c =
       before =
           let here = going-on c.loop-parts.done.steps first c.loop-parts.parts c.loop-parts.done.stop goes kept.state in
           avoids-more c.args.breakpoints.now c.loop-parts.done.steps c.pass_and_step-more.result.steps first kept.before
-          (ap (is_met c.args.breakpoints.now) (sym here) ∙ (sym c.has_breakpoint.ensures ∙ c.if-not-has_breakpoint.true)) (subst (Avoids c.args.breakpoints.now c.pass_and_step-more.result.steps) here more.before);
+          (ap (is_met c.args.breakpoints.now) (sym here) ∙ (sym c.is_met.ensures ∙ c.if-not-is_met.true)) (subst (Avoids c.args.breakpoints.now c.pass_and_step-more.result.steps) here more.before);
       sound = more.sound;
     }
