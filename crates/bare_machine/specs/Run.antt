@@ -7,7 +7,7 @@ use Rattle.cint_exec.specs.declared.places.Places.{Places}
 use Rattle.cint_exec.specs.declared.Outcome.TheVariants.{Next}
 use Rattle.cint_exec.specs.Instruction.{instruction}
 use Rattle.bare_machine.specs.State.{BareState}
-use Rattle.bare_machine.specs.Step.{BareStepped, and_then, quietly, step, unmarked}
+use Rattle.bare_machine.specs.Step.{BareStepped, and_then, instruction_of, quietly, step, unmarked}
 
 -- n steps
 unfoldable pub run : ℕ → BareState → BareStepped
@@ -28,6 +28,10 @@ is_met breakpoints m = has_breakpoint m.regs.pc breakpoints
 -- between the first and the last of n steps none is met
 abbrev pub Avoids : List ℕ → ℕ → BareState → Type 0
 Avoids breakpoints n m = (i : ℕ) → 0 < i → i < n → is_met breakpoints (run i m).state ≡ false
+
+-- the next step is an instruction alone
+abbrev pub IsPlain : BareState → Type 0
+IsPlain m = (instruction_of m).outcome ≡ Next
 
 -- a step that is an instruction alone: it writes nothing, and does not stop the machine
 pub record IsPlainStep (p : Places) (m j : BareState) : Type 0 where

@@ -1,7 +1,7 @@
 // A machine without a kernel.
 ghost use Rattle.std.specs.Prelude.{◌≡◌, ◌<◌, ◌+◌, ◌-◌, ◌≤◌, [], None, MatchOption};
 ghost use Rattle.session_text.specs.KernelDispatch.KernelModel.Ranges.{most_steps};
-ghost use Rattle.bare_machine.specs.Run.{Avoids, IsPlainStep, run};
+ghost use Rattle.bare_machine.specs.Run.{Avoids, IsPlain, IsPlainStep, run};
 ghost use Rattle.bare_machine.specs.State.{IsSound, state_of};
 ghost use Rattle.bare_machine.specs.Step.{step};
 
@@ -90,12 +90,13 @@ impl Bare {
 
     /// Takes one step of a machine that has not stopped, if it is an instruction alone: no call, no fault, and not the end of the
     /// function at the bottom of the stack. The answer tells where the instruction may have written: every other word is as it was.
-    /// Else the answer is `None`, and no step is taken. There is no output then.
+    /// The answer is `None`, and no step is taken, exactly where it is more than that. There is no output then.
     pub fn execute(&mut self) -> Option<Places>
         requires goes { self.old.state.stop ≡ None }
         requires steps { self.old.state.steps < most_steps }
         ensures step { MatchOption result (self.new.state ≡ self.old.state)
             (λ p. IsPlainStep p self.old.state self.new.state) }
+        ensures none { result ≡ None → IsPlain self.old.state → ⊥ }
         ensures output { self.new.output ≡ [] }
     {
         self.output.clear();

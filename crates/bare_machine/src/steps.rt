@@ -3,7 +3,7 @@ ghost use Rattle.std.specs.Prelude.{◌≡◌, ◌<◌, [], ◌++◌, None, Matc
 ghost use Rattle.session_text.specs.KernelDispatch.KernelModel.Ranges.{most_steps};
 ghost use Rattle.cint_exec.specs.declared.Outcome.TheVariants.{Sys};
 ghost use Rattle.bare_machine.specs.Calls.{call_answer};
-ghost use Rattle.bare_machine.specs.Run.{IsPlainStep};
+ghost use Rattle.bare_machine.specs.Run.{IsPlain, IsPlainStep};
 ghost use Rattle.bare_machine.specs.State.{IsSound, state_of};
 ghost use Rattle.bare_machine.specs.Step.{after_call, instruction_of, step};
 
@@ -57,6 +57,7 @@ pub(crate) fn execute_one(parts: &mut BareParts) -> Option<Places>
     requires steps { parts.old.step < most_steps }
     ensures step { MatchOption result (parts.new ≡ parts.old)
         (λ p. IsPlainStep p (state_of parts.old None) (state_of parts.new None)) }
+    ensures none { result ≡ None → IsPlain (state_of parts.old None) → ⊥ }
     ensures sound { IsSound parts.new }
 {
     let places = written_places(&parts.store, parts.regs);

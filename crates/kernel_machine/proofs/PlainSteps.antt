@@ -26,7 +26,7 @@ use Rattle.kernel_steps.specs.Quiet.{IsQuietFor}
 use Rattle.kernel_steps.specs.Step.{run}
 use Rattle.kernel_machine.specs.declared.parts.Parts.{Parts}
 use Rattle.kernel_machine.specs.Machine.{IsWhole, kernel_of}
-use Rattle.kernel_machine.specs.PlainSteps.{DifferBeside, IsPlainStep}
+use Rattle.kernel_machine.specs.PlainSteps.{DifferBeside, IsPlain, IsPlainStep}
 use Rattle.kernel_machine.specs.Runs.{HasPassed, IsOnWay, counted}
 use Rattle.kernel_machine.proofs.MachineStep.{goes-passed, run-passed, whole-passed}
 use Rattle.kernel_machine.proofs.QuietSpan.{instruction-here, on-way-first, on-way-next}
@@ -55,6 +55,11 @@ module _ (p : Parts) (w : IsWhole p None) where
 
   pub keeper-whole : (l : Lists) × HasKeeper p.store (MarksAll p.kinds) (length p.kinds) l
   keeper-whole = (now.lists, w.stands.keeper)
+
+  -- in a plain step the instruction is executed
+  pub plain-executed : (o : Outcome) → ((l : Lists) → HasKeeper p.store (MarksAll p.kinds) (length p.kinds) l → o ≡ (instruction (is_owned l) p.store p.regs).outcome) → IsPlain now → o ≡ Next
+  plain-executed o outcome plain =
+      outcome now.lists w.stands.keeper ∙ (λ j. (instruction (is_owned now.lists) (image-list p.store now w.stands.image j) (w.stands.regs j)).outcome) ∙ plain.executed
 
   module _ (t : List ℕ) (r : Regs) (o : Outcome) (outcome : (l : Lists) → HasKeeper p.store (MarksAll p.kinds) (length p.kinds) l → o ≡ (instruction (is_owned l) p.store p.regs).outcome) (words : (l : Lists) → HasKeeper p.store (MarksAll p.kinds) (length p.kinds) l → t ≡ (instruction (is_owned l) p.store p.regs).words) (regs : (l : Lists) → HasKeeper p.store (MarksAll p.kinds) (length p.kinds) l → r ≡ (instruction (is_owned l) p.store p.regs).regs) (lists : (l : Lists) → HasKeeper p.store (MarksAll p.kinds) (length p.kinds) l → HoldsLists t l) where
     -- what is not executed leaves the parts

@@ -1,16 +1,28 @@
 -- Steps in which the running guest executes an instruction, and nothing else happens.
-use Rattle.std.specs.Prelude.{◌≡◌, ℕ, List, ◌∷◌, None}
+use Rattle.std.specs.Prelude.{◌≡◌, ℕ, List, ◌∷◌, None, true}
 use Rattle.cint_exec.specs.Places.{DifferAt, addresses}
+use Rattle.cint_exec.specs.declared.Outcome.TheVariants.{Next}
 use Rattle.cint_exec.specs.declared.places.Places.{Places}
 use Rattle.kernel_steps.specs.KernelCalls.TaskBlock.RootWords.{root_address}
 use Rattle.kernel_steps.specs.KernelCalls.TaskBlock.declared.roots.RootField.TheVariants.{Tick}
 use Rattle.kernel_steps.specs.KernelCalls.KernelModel.Image.{image}
 use Rattle.kernel_steps.specs.KernelCalls.KernelModel.Kernel.{Kernel}
+use Rattle.kernel_steps.specs.KernelCalls.KernelModel.Task.{is_guest_id}
+use Rattle.kernel_steps.specs.Quiet.{IsQuietFor, instruction_of}
 use Rattle.kernel_steps.specs.Step.{quietly, step}
 
 -- the words are the same but at the word of the ticks and at these places
 abbrev pub DifferBeside : Places → List ℕ → List ℕ → Type 0
 DifferBeside p old new = DifferAt (root_address Tick ∷ addresses p) old new
+
+-- in the next step of k nothing happens but that the running guest executes an instruction
+pub record IsPlain (k : Kernel) : Type 0 where
+  -- a guest runs
+  pub guest : is_guest_id k.lists.running ≡ true
+  -- no device acts in the step
+  pub quiet : IsQuietFor 1 k
+  -- the instruction is executed
+  pub executed : (instruction_of k).outcome ≡ Next
 
 -- a step of k in which nothing happens but that the running guest executes an instruction; it leaves j
 pub record IsPlainStep (p : Places) (k j : Kernel) : Type 0 where

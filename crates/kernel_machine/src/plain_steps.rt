@@ -2,7 +2,7 @@
 ghost use Rattle.std.specs.Prelude.{◌≡◌, ◌<◌, MatchOption, None};
 ghost use Rattle.kernel_steps.specs.KernelCalls.KernelModel.Ranges.{most_steps};
 ghost use Rattle.kernel_machine.specs.Machine.{IsWhole, kernel_of};
-ghost use Rattle.kernel_machine.specs.PlainSteps.{DifferBeside};
+ghost use Rattle.kernel_machine.specs.PlainSteps.{DifferBeside, IsPlain};
 ghost use Rattle.kernel_machine.specs.Runs.{HasPassed};
 
 use crate::Parts;
@@ -19,6 +19,7 @@ pub(crate) fn execute_one(parts: &mut Parts) -> Option<Places>
     ensures step { MatchOption result (parts.new ≡ parts.old)
         (λ p. HasPassed 1 (kernel_of parts.old None) parts.new
         × DifferBeside p parts.old.store parts.new.store) }
+    ensures none { result ≡ None → IsPlain (kernel_of parts.old None) → ⊥ }
     ensures keys { parts.new.keys.keys ≡ parts.old.keys.keys }
 {
     if serves_now(parts) {

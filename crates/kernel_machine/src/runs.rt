@@ -3,7 +3,7 @@ ghost use Rattle.std.specs.Prelude.{◌≡◌, ◌<◌, ◌+◌, ◌≤◌, [], 
 ghost use Rattle.kernel_steps.specs.KernelCalls.KernelModel.NotedEvents.{NotesAll};
 ghost use Rattle.kernel_steps.specs.KernelCalls.KernelModel.Ranges.{most_steps};
 ghost use Rattle.kernel_steps.specs.Step.{quietly, run};
-ghost use Rattle.kernel_machine.specs.PlainSteps.{IsPlainStep};
+ghost use Rattle.kernel_machine.specs.PlainSteps.{IsPlain, IsPlainStep};
 ghost use Rattle.kernel_machine.specs.Runs.{Avoids, IsQuietButLast, is_met};
 
 use crate::machine::Machine;
@@ -44,12 +44,14 @@ impl Machine {
 
     /// Takes one step of a machine that has not stopped, if nothing happens in it but that the running guest executes an
     /// instruction. The answer tells the words that the instruction may have written: every other one, but that of the ticks, is as
-    /// it was. Else the answer is `None`, and no step is taken. The output is empty, and the list of its keys stays.
+    /// it was. The answer is `None`, and no step is taken, exactly where more happens. The output is empty, and the list of its keys
+    /// stays.
     pub fn execute(&mut self) -> Option<Places>
         requires goes { self.old.kernel.stop ≡ None }
         requires steps { self.old.kernel.steps < most_steps }
         ensures step { MatchOption result (self.new.kernel ≡ self.old.kernel)
             (λ p. IsPlainStep p self.old.kernel self.new.kernel) }
+        ensures none { result ≡ None → IsPlain self.old.kernel → ⊥ }
         ensures output { self.new.output ≡ [] }
         ensures keys { self.new.keys ≡ self.old.keys }
     {

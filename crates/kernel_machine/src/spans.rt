@@ -47,7 +47,8 @@ pub(crate) fn pass(parts: &mut Parts, most: u64, breakpoints: &[u32]) -> u64
 /// Whether the output device or the keyboard has a packet to serve.
 pub(crate) fn serves_now(parts: &Parts) -> bool
     requires { IsWhole parts.now None }
-    ensures { result ≡ false → ServesNone (kernel_of parts.now None) }
+    ensures none { result ≡ false → ServesNone (kernel_of parts.now None) }
+    ensures some { result ≡ true → ServesNone (kernel_of parts.now None) → ⊥ }
 {
     if root(&parts.store, RootField::OutputQueue) != 0 {
         return true;
@@ -61,7 +62,9 @@ pub(crate) fn serves_now(parts: &Parts) -> bool
 /// How many steps there are before the next key comes.
 pub(crate) fn before_key(parts: &Parts) -> u64
     requires { parts.now.step ≤ most_steps }
-    ensures { (m : ℕ) → 0 < m → m ≤ result → ComeAfter (parts.now.step + m) (still_to_come parts.now.keys) }
+    ensures later { (m : ℕ) → 0 < m → m ≤ result
+        → ComeAfter (parts.now.step + m) (still_to_come parts.now.keys) }
+    ensures next { result ≡ 0 → ComeAfter (parts.now.step + 1) (still_to_come parts.now.keys) → ⊥ }
 {
     match parts.keys.first() {
         Some((due, _)) => due.saturating_sub(parts.step + 1),
@@ -72,8 +75,10 @@ pub(crate) fn before_key(parts: &Parts) -> u64
 /// How many steps there are before the clock returns a packet.
 pub(crate) fn before_return(parts: &Parts) -> u64
     requires { IsWhole parts.now None }
-    ensures { (m : ℕ) → m ≤ result
+    ensures later { (m : ℕ) → m ≤ result
         → AwaitsTick ((parts.now.step + m) / parts.now.period) (kernel_of parts.now None).lists }
+    ensures next { result ≡ 0
+        → AwaitsTick ((parts.now.step + 1) / parts.now.period) (kernel_of parts.now None).lists → ⊥ }
 {
     let packet = root(&parts.store, RootField::ClockQueue);
     if packet == 0 {
@@ -95,7 +100,8 @@ fn next_tick(parts: &Parts) -> u32
 fn before(parts: &Parts, tick: u32) -> u64
     requires whole { IsWhole parts.now None }
     requires later { (kernel_of parts.now None).lists.tick < tick }
-    ensures { (m : ℕ) → m ≤ result → (parts.now.step + m) / parts.now.period < tick }
+    ensures later { (m : ℕ) → m ≤ result → (parts.now.step + m) / parts.now.period < tick }
+    ensures next { (parts.now.step + (result + 1)) / parts.now.period ≡ tick }
 {
     u64::from(tick) * u64::from(parts.period) - 1 - parts.step
 }

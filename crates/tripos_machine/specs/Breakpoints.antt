@@ -2,9 +2,10 @@
 use Rattle.std.specs.Prelude.{◌≡◌, ℕ, ◌<◌, Bool, false, List, ◌∷◌, None}
 use Rattle.bare_machine.specs.CintExec.Places.{DifferAt, addresses}
 use Rattle.bare_machine.specs.CintExec.declared.places.Places.{Places}
-use Rattle.bare_machine.specs.Run.{is_met as bare_is_met}
+use Rattle.bare_machine.specs.Run.{IsPlain as IsBarePlain, is_met as bare_is_met}
 use Rattle.machine_boot.specs.KernelCalls.TaskBlock.RootWords.{root_address}
 use Rattle.machine_boot.specs.KernelCalls.TaskBlock.declared.roots.RootField.TheVariants.{Tick}
+use Rattle.machine_boot.specs.KernelMachine.PlainSteps.{IsPlain as IsKernelPlain}
 use Rattle.machine_boot.specs.KernelMachine.Runs.{is_met as kernel_is_met}
 use Rattle.tripos_machine.specs.State.{State, stop_of, words_of}
 use Rattle.tripos_machine.specs.State.State.{Bare, Full}
@@ -22,6 +23,11 @@ Avoids breakpoints n s = (i : ℕ) → 0 < i → i < n → is_met breakpoints (r
 -- the addresses of the words that a plain step may write: the word of the ticks, and where its instruction writes
 abbrev pub plain_addresses : Places → List ℕ
 plain_addresses p = root_address Tick ∷ addresses p
+
+-- in the next step nothing happens but that a guest executes an instruction
+abbrev pub IsPlain : State → Type 0
+IsPlain (Bare m) = IsBarePlain m
+IsPlain (Full k) = IsKernelPlain k
 
 -- A step in which nothing happens but that a guest executes an instruction: it writes nothing to the console, has no events, and
 -- does not stop the machine.

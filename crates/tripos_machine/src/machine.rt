@@ -2,7 +2,7 @@
 ghost use Rattle.std.specs.Prelude.{◌≡◌, ◌<◌, ◌+◌, ◌-◌, ◌≤◌, [], None, MatchOption};
 ghost use Rattle.machine_boot.specs.KernelCalls.KernelModel.NotedEvents.{NotesAll};
 ghost use Rattle.machine_boot.specs.KernelCalls.KernelModel.Ranges.{most_steps};
-ghost use Rattle.tripos_machine.specs.Breakpoints.{Avoids, IsPlainStep};
+ghost use Rattle.tripos_machine.specs.Breakpoints.{Avoids, IsPlain, IsPlainStep};
 ghost use Rattle.tripos_machine.specs.State.{IsBare, IsSound, StandFor, StandsFull, State, keys_of, regs_of, running_of, steps_of, stop_of, words_of};
 ghost use Rattle.tripos_machine.specs.Step.{boot_events, run, step};
 
@@ -161,13 +161,14 @@ impl Machine {
     }
 
     /// Takes one step of a machine that has not stopped, if nothing happens in it but that a guest executes an instruction. The answer
-    /// tells where the instruction may have written: every other word but that of the ticks is as it was. Else the answer is `None`,
-    /// and no step is taken. There is no output then, and the list of its keys stays.
+    /// tells where the instruction may have written: every other word but that of the ticks is as it was. The answer is `None`, and no
+    /// step is taken, exactly where more happens. There is no output then, and the list of its keys stays.
     pub fn execute(&mut self) -> Option<Places>
         requires goes { stop_of self.old.state ≡ None }
         requires steps { steps_of self.old.state < most_steps }
         ensures step { MatchOption result (self.new.state ≡ self.old.state)
             (λ p. IsPlainStep p self.old.state self.new.state) }
+        ensures none { result ≡ None → IsPlain self.old.state → ⊥ }
         ensures output { self.new.output ≡ [] }
         ensures keys { self.new.keys ≡ self.old.keys }
     {

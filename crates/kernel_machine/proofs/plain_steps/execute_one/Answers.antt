@@ -8,7 +8,7 @@ use Rattle.kernel_machine.specs.declared.parts.Parts.{Parts}
 use Rattle.kernel_machine.specs.Machine.{kernel_of}
 use Rattle.kernel_machine.specs.PlainSteps.{DifferBeside}
 use Rattle.kernel_machine.specs.Runs.{HasPassed}
-use Rattle.kernel_machine.proofs.PlainSteps.{byte-whole, differ-one, keeper-whole, passed-one, whole-stays}
+use Rattle.kernel_machine.proofs.PlainSteps.{byte-whole, differ-one, keeper-whole, passed-one, plain-executed, whole-stays}
 use Rattle.kernel_machine.proofs.QuietParts.{period-here, quiet-all}
 use Rattle.kernel_machine.proofs.plain_steps.execute_one.Goals as goal
 
@@ -36,7 +36,10 @@ returns-in-Next-clause-step c =
     let k = kernel_of p None in
     let guest : is_guest_id k.lists.running ≡ true = le-leb 5 k.lists.running (omega (arith, c.running.ensures k.lists w.stands.keeper.lists, c.if-running-lt-FIRST_GUEST.false)) in
     let quiet : IsQuietFor 1 k =
-    quiet-all p w 1 (c.serves_now.ensures c.if-serves_now.false) (c.before_key.ensures 1 (omega arith) (omega (arith, c.min.ensures, c.if-min-eq0.false))) (c.before_return.ensures 1 (omega (arith, c.min.ensures, c.if-min-eq0.false))) in
+    quiet-all p w 1 (c.serves_now.ensures.none c.if-serves_now.false) (c.before_key.ensures.later 1 (omega arith) (omega (arith, c.min.ensures, c.if-min-eq0.false))) (c.before_return.ensures.later 1 (omega (arith, c.min.ensures, c.if-min-eq0.false))) in
     let few : k.steps + 1 ≤ most_steps = omega (arith, c.requires.steps, w.stands.steps) in
     subst (λ (q : Parts). HasPassed 1 k q × DifferBeside c.written_places-places.result p.store q.store) (sym c.count.ensures)
     (passed-one p w t r c.execute_guest.result y.outcome y.words y.regs y.lists guest quiet few c.in-Next.is, differ-one p w t r c.execute_guest.result y.outcome y.words y.regs y.lists c.written_places-places.result _ c.written_places-places.ensures)
+
+pub returns-in-Sys-clause-none : goal.returns-in-Sys-clause-none
+returns-in-Sys-clause-none c = λ none plain. not-next c.execute_guest.result c.in-Sys.is (plain-executed c.args.parts.now c.requires.whole c.execute_guest.result c.execute_guest.ensures.outcome plain)

@@ -1,7 +1,7 @@
-use Rattle.std.proofs.Common.{◌≡◌, ◌∙◌, ap, arith, subst}
+use Rattle.std.proofs.Common.{◌≡◌, ◌∙◌, ap, arith, subst, sym}
 use Rattle.std.specs.Prelude.{MatchOption}
 use Rattle.kernel_machine.specs.Machine.{IsWhole, MachineView, kernel_of}
-use Rattle.kernel_machine.specs.PlainSteps.{IsPlainStep}
+use Rattle.kernel_machine.specs.PlainSteps.{IsPlain, IsPlainStep}
 use Rattle.kernel_machine.proofs.MachineStep.{not-stopped}
 use Rattle.kernel_machine.proofs.PlainSteps.{step-plain, whole-plain}
 use Rattle.kernel_machine.proofs.machine.Machine.execute.Goals as goal
@@ -27,3 +27,10 @@ returns-clause-step c =
     let j = kernel_of c.execute_one.new.parts c.self.inside.stop in
     subst (λ (v : MachineView). MatchOption c.execute_one.result (j ≡ v.kernel) (λ p. IsPlainStep p v.kernel j)) c.self.view_is
     (step-plain c.self.inside.parts c.self.inside.stop c.self.invariant goes c.execute_one.new.parts c.execute_one.result c.execute_one.ensures.step)
+
+pub returns-clause-none : goal.returns-clause-none
+returns-clause-none c = λ none plain.
+    let p = c.self.inside.parts in
+    let goes = ap (λ (v : MachineView). v.kernel.stop) c.self.view_is ∙ c.requires.goes in
+    let here = subst IsPlain (sym (ap (λ (v : MachineView). v.kernel) c.self.view_is)) plain in
+    c.execute_one.ensures.none none (subst (λ stop. IsPlain (kernel_of p stop)) (not-stopped p c.self.inside.stop c.self.invariant goes) here)
