@@ -32,7 +32,7 @@ use Rattle.shell_programs.specs.declared.programs.Priority.{Priority}
 use Rattle.shell_programs.specs.declared.programs.Priority.TheVariants.{AboveShell}
 use Rattle.shell_programs.proofs.KeptSteps.{started-there}
 use Rattle.shell_programs.specs.KernelCalls.KernelModel.declared.numbers.TheConstants.{CONSOLE, SHELL, SHELL_PACKET}
-use Rattle.cli_shell.specs.declared.prompts.TheConstants.{LINE_REQUEST}
+use Rattle.shell_programs.specs.KernelResidents.ConsoleHandler.declared.requests.TheConstants.{READ_LINE}
 use Rattle.cli_shell.specs.Commands.{after_run, after_start, executed, executed_if, line_executed, program_request, run, run_priority, start, with_program_begun, with_started}
 use Rattle.cli_shell.specs.Prompts.{answered, prompt, prompted, refused, with_packet_sent}
 use Rattle.cli_shell.specs.ShellTurn.{all_parts, ended, first_treated, packet_taken, returned_unknown, result_of, return_code, shell_turn, treated, treated_in, with_cleared}
@@ -62,7 +62,7 @@ module _ (Q P : Lists → Type 0) (h : Allows Q P) where
   sent-keeps to kind x low p = h.at_sending to (standing (written (request_words kind) x.standing.words) x.standing.lists) low p
 
   prompted-keeps : (x : ShellTurn) → On x → On (prompted x)
-  prompted-keeps x p = sent-keeps CONSOLE LINE_REQUEST (shown prompt x) (omega arith) p
+  prompted-keeps x p = sent-keeps CONSOLE READ_LINE (shown prompt x) (omega arith) p
 
   refused-keeps : (code : ℕ) (x : ShellTurn) → On x → On (refused code x)
   refused-keeps code x p = prompted-keeps (shown (error_line code) x) p

@@ -4,7 +4,7 @@ use Rattle.shell_programs.specs.KernelCalls.KernelModel.Kernel.Mode.{Reading}
 use Rattle.shell_listings.specs.NumberLines.{error_line}
 use Rattle.shell_programs.specs.ShellPacket.{post_events, requested}
 use Rattle.shell_programs.specs.KernelCalls.KernelModel.declared.numbers.TheConstants.{CONSOLE}
-use Rattle.cli_shell.specs.declared.prompts.TheConstants.{LINE_REQUEST}
+use Rattle.shell_programs.specs.KernelResidents.ConsoleHandler.declared.requests.TheConstants.{READ_LINE}
 use Rattle.cli_shell.specs.TurnParts.{ShellTurn, and_then, in_mode, shown}
 
 abbrev pub prompt : List ℕ
@@ -16,7 +16,7 @@ with_packet_sent to kind x = and_then (requested to kind x.standing) (post_event
 
 -- it prompts: it writes the prompt, asks the console for a line, and reads that next
 abbrev pub prompted : ShellTurn → ShellTurn
-prompted x = in_mode Reading (with_packet_sent CONSOLE LINE_REQUEST (shown prompt x))
+prompted x = in_mode Reading (with_packet_sent CONSOLE READ_LINE (shown prompt x))
 
 abbrev pub refused : ℕ → ShellTurn → ShellTurn
 refused code x = prompted (shown (error_line code) x)

@@ -10,12 +10,9 @@ use crate::modes::Mode;
 use crate::state::ShellState;
 use shell_listings::write_error;
 use shell_programs::numbers::CONSOLE;
-use shell_programs::{EventLog, KindKeeper, send_shell_packet};
+use shell_programs::{EventLog, KindKeeper, READ_LINE, send_shell_packet};
 use tp_io::Output;
 use word_store::Store;
-
-/// The type of a request for a line.
-const LINE_REQUEST: u32 = 1;
 
 const PROMPT: &[u8] = b"> ";
 
@@ -40,7 +37,7 @@ pub(crate) fn prompt<Q: KindKeeper, L: EventLog>(
     ensures short { length out.new ≤ length out.old + 2 }
 {
     out.append(PROMPT);
-    send_shell_packet(store, kinds, CONSOLE, LINE_REQUEST, log);
+    send_shell_packet(store, kinds, CONSOLE, READ_LINE, log);
     state.set_mode(Mode::Reading);
 }
 

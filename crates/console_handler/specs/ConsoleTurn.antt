@@ -14,7 +14,7 @@ use Rattle.resident_requests.specs.Turns.{ResidentTurn}
 use Rattle.resident_requests.specs.declared.requests.Request.{Request}
 use Rattle.resident_requests.specs.KernelCalls.KernelModel.declared.numbers.TheConstants.{CONSOLE}
 use Rattle.resident_requests.specs.declared.requests.TheConstants.{UNKNOWN_TYPE}
-use Rattle.console_handler.specs.declared.requests.TheConstants.{BAD_BUFFER, READ, WRITE}
+use Rattle.console_handler.specs.declared.requests.TheConstants.{BAD_BUFFER, READ_LINE, WRITE}
 use Rattle.console_handler.specs.Deliveries.{delivery}
 use Rattle.console_handler.specs.KeyPacket.{keys_taken}
 use Rattle.console_handler.specs.Line.{Keyed, key}
@@ -67,7 +67,7 @@ bytes_of s r = if r.kind == WRITE then written_bytes s r else []
 -- a read waits; all else is answered at once
 abbrev pub with_request : List ℕ → Lists → Request → Progress → Progress
 with_request s l r g =
-    if r.kind == READ
+    if r.kind == READ_LINE
     then and_then g (put_off s l r).lists [] ((taken g.lists).events ++ (put_off s l r).events)
     else record (and_then g (returned l r (answer_of s r)).lists [] ((taken g.lists).events ++ (returned l r (answer_of s r)).events)) { bytes = g.bytes ++ bytes_of s r }
 

@@ -14,7 +14,7 @@ ghost use Rattle.console_handler.specs.Progress.{IsDone, Progress, Start};
 ghost use Rattle.resident_requests.specs.Requests.{RunsResident};
 
 use crate::lines::ConsoleState;
-use resident_requests::numbers::{CONSOLE, KEY_PACKET, PACKET_LINK, RES1, SENDER};
+use resident_requests::numbers::{CONSOLE, KEY_PACKET, PACKET_LINK, RES1, SENDER, SIGNED_KEYBOARD};
 use resident_requests::{
     EventLog, KindKeeper, NO_QUEUE, Queue, RootField, TcbField, field, root, send_own, taken,
     unqueue,
@@ -42,9 +42,6 @@ pub fn take_keys<L: EventLog>(store: &mut Store, log: &mut L) -> u32
     word_at(store, KEY_PACKET, RES1)
 }
 
-/// The number of the keyboard, as a destination.
-const KEYBOARD: i32 = -2;
-
 /// Sends the key packet, which is on no queue, to the keyboard.
 pub(crate) fn send_keys<Q: KindKeeper, L: EventLog>(store: &mut Store, kinds: &mut Q, log: &mut L)
     requires { (b : Start) × (shown : List ℕ) × (c : Console) × (k : List ℕ) × (g : Progress)
@@ -57,7 +54,7 @@ pub(crate) fn send_keys<Q: KindKeeper, L: EventLog>(store: &mut Store, kinds: &m
         (outside shown (L.noted log.new) (L.has_failed log.new)) c k (keys_sent g) }
     ensures room { Q.room kinds.new ≡ Q.room kinds.old }
 {
-    send_own(store, kinds, KEY_PACKET, CONSOLE, KEYBOARD, log);
+    send_own(store, kinds, KEY_PACKET, CONSOLE, SIGNED_KEYBOARD, log);
 }
 
 /// Sends the key packet to the keyboard, unless it is on a queue, or a finished line waits.

@@ -11,4 +11,5 @@ mod requests;
 pub mod turns;
 
 pub use lines::ConsoleState;
+pub use requests::READ_LINE;
 pub use turns::console_turn;

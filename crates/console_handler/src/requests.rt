@@ -16,7 +16,7 @@ use tp_io::Output;
 use word_store::Store;
 
 /// The type of a read, which waits for a line.
-pub const READ: u32 = 1;
+pub const READ_LINE: u32 = 1;
 
 /// The type of a write.
 pub const WRITE: u32 = 2;
@@ -45,7 +45,7 @@ pub(crate) fn take_first<Q: KindKeeper, L: EventLog>(
     let Some(request) = take_request(store, kinds, log) else {
         return;
     };
-    if request.kind == READ {
+    if request.kind == READ_LINE {
         put_off(store, kinds, request, log);
         return;
     }

@@ -60,6 +60,10 @@ pub opened : (s : List ℕ) (n at : ℕ) (bs items : List Block) → 0 < n → T
 opened s n at bs items some t is =
     subst (IsOpen s n (first_run n bs) (record { start = at; end = at })) (sym is) (record { tiles = t; order = omega arith; answer = open-none s n at bs some t })
 
+-- the same, with where the free blocks begin that it has passed last
+abbrev pub IsOpenFrom : List ℕ → ℕ → Option Run → ℕ → List Block → Type 0
+IsOpenFrom s n all start bs = (end : ℕ) × IsOpen s n all (record { start = start; end = end }) bs
+
 -- the block that the walk stands at
 pub record AtBlock (s : List ℕ) (n : ℕ) (all : Option Run) (run : Run) (b : Block) (rest : List Block) : Type 0 where
   pub start : b.start ≡ run.end

@@ -1,5 +1,5 @@
 // Blocks of a store, and runs of free blocks.
-ghost use Rattle.std.specs.Prelude.{◌≡◌, ◌+◌, ◌-◌, ◌<◌, ◌≤◌, ◌^◌};
+ghost use Rattle.std.specs.Prelude.{◌≡◌, ◌+◌, ◌<◌, ◌^◌};
 ghost use Rattle.getvec_chain.specs.Block.{block_end, block_of_word, has_data, is_used_at, size_word};
 
 /// The address of the first block.
@@ -66,15 +66,5 @@ impl Block {
         ensures { result ≡ is_used_at v self }
     {
         !self.free && v.checked_sub(1) == Some(self.start)
-    }
-}
-
-impl Run {
-    /// The number of words.
-    pub fn size(self) -> u32
-        requires { self.start ≤ self.end }
-        ensures { result ≡ self.end - self.start }
-    {
-        self.end - self.start
     }
 }

@@ -66,24 +66,21 @@ pub fn first_run(store: &Store, u: u32) -> Option<Run>
     ensures { result ≡ first_run (need u) (blocks_in store.now) }
 {
     let need = words_needed(u);
-    // the free blocks that were passed last
-    let mut run = Run {
-        start: FIRST_BLOCK,
-        end: FIRST_BLOCK,
-    };
+    // where the free blocks begin that were passed last
+    let mut start = FIRST_BLOCK;
     for block in blocks(store) {
         if block.free {
-            run.end = block.end();
             continue;
         }
-        if need <= u64::from(run.size()) {
-            return Some(run);
+        if need <= u64::from(block.start - start) {
+            let end = block.start;
+            return Some(Run { start, end });
         }
-        let end = block.end();
-        run = Run { start: end, end };
+        start = block.end();
     }
-    if need <= u64::from(run.size()) {
-        return Some(run);
+    let end = store.size() - 2;
+    if need <= u64::from(end - start) {
+        return Some(Run { start, end });
     }
     None
 }

@@ -18,7 +18,7 @@ pub use script::Script;
 
 // Shown to the crates above.
 pub use kernel_steps::{
-    Block, BootRefusal, ByteKinds, ConsoleState, EventLog, KernelEvent, ListLog, NoLog, Pipes,
-    Queue, RootField, ShellState, SinkLog, Stop, Tty, Use, blocks, find, head, load_files,
+    Block, BootRefusal, ByteKinds, ConsoleState, EventLog, KernelEvent, ListLog, Mode, NoLog,
+    Pipes, Queue, RootField, ShellState, SinkLog, Stop, Tty, Use, blocks, find, head, load_files,
     make_kernel, make_resident_kernel, numbers, packets, start_tasks, switch, use_of, write_tasks,
 };

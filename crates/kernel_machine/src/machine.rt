@@ -13,6 +13,7 @@ ghost use Rattle.kernel_machine.specs.Machine.{kernel_of};
 use crate::Parts;
 use crate::steps::step_or_stay;
 use crate::turns::running;
+use kernel_steps::numbers::{CONSOLE, KEY_PACKET, SHELL, SHELL_PACKET, SIGNED_KEYBOARD};
 use kernel_steps::{EventLog, KernelEvent, RootField, Stop, root};
 use std::marker::Model;
 use tp_io::Output;
@@ -122,17 +123,6 @@ impl Machine {
     }
 }
 
-/// The number of the keyboard, that of the console and its key packet, and that of the shell and its packet.
-const KEYBOARD: i32 = -2;
-
-const CONSOLE: i32 = 3;
-
-const KEY_PACKET: u32 = 271;
-
-const SHELL: i32 = 1;
-
-const SHELL_PACKET: u32 = 279;
-
 // Where there are residents, the console has sent its key packet, and the shell's packet has come to it.
 fn note_residents<L: EventLog>(store: &Store, log: &mut L)
     requires { (l : Lists) × HoldsLists store.now l }
@@ -144,14 +134,14 @@ fn note_residents<L: EventLog>(store: &Store, log: &mut L)
         return;
     }
     log.note(KernelEvent::Accepted {
-        queue: KEYBOARD,
+        queue: SIGNED_KEYBOARD,
         packet: KEY_PACKET,
-        sender: CONSOLE,
+        sender: CONSOLE as i32,
     });
     log.note(KernelEvent::Accepted {
-        queue: SHELL,
+        queue: SHELL as i32,
         packet: SHELL_PACKET,
-        sender: SHELL,
+        sender: SHELL as i32,
     });
 }
 

@@ -7,9 +7,10 @@ ghost use Rattle.kernel_machine.specs.Runs.{HasPassed};
 
 use crate::Parts;
 use crate::spans::{before_key, before_return, count, serves_now};
-use crate::turns::{FIRST_GUEST, running};
+use crate::turns::running;
 use cint_exec::{Outcome, Places, written_places};
 use kernel_steps::execute_guest;
+use kernel_steps::numbers::FIRST_GUEST;
 
 /// Takes one step of a machine that has not stopped, if nothing happens in it but that the running guest executes an instruction.
 /// The answer tells the words that the instruction may have written. Else it is `None`, and nothing changes.

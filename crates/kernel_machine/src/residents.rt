@@ -11,6 +11,7 @@ ghost use Rattle.kernel_steps.specs.ResidentSteps.{console_step, handler_step, r
 ghost use Rattle.kernel_machine.specs.Leaves.{Leaves, RunsNumber, RunsNoGuest};
 
 use crate::Parts;
+use kernel_steps::numbers::{CONSOLE, FILE_HANDLER, KIND, REPORTER, SHELL};
 use kernel_steps::{
     EventLog, RootField, Stop, console_turn, fault_turn, file_turn, first_packet, pipe_turn, root,
     shell_turn,
@@ -18,15 +19,6 @@ use kernel_steps::{
 use ram_disc::Disc;
 use tp_io::Output;
 use word_store::{Store, word_at};
-
-/// The numbers of the residents.
-const SHELL: u32 = 1;
-
-const REPORTER: u32 = 2;
-
-const CONSOLE: u32 = 3;
-
-const FILE_HANDLER: u32 = 4;
 
 /// The turn of the resident with the number, which runs; nothing where that is 0, and nobody runs. The answer is why the machine
 /// stops, if it does.
@@ -172,9 +164,7 @@ fn know_disc(disc: &Disc)
 /// The version in which there are pipes.
 const SECOND_VERSION: u32 = 2;
 
-/// The word of a packet that has its type, and the types of requests for pipes.
-const KIND: u32 = 2;
-
+/// The types of requests for pipes.
 const FIRST_PIPE_KIND: u32 = 20;
 
 const LAST_PIPE_KIND: u32 = 23;

@@ -9,9 +9,9 @@ ghost use Rattle.kernel_machine.specs.Runs.{Avoids, IsQuietButLast, is_met};
 use crate::machine::Machine;
 use crate::plain_steps::execute_one;
 use crate::spans::pass;
-use crate::turns::FIRST_GUEST;
 use cint_exec::{Places, has_breakpoint};
 use kernel_steps::EventLog;
+use kernel_steps::numbers::FIRST_GUEST;
 
 impl Machine {
     /// Takes some steps, at most `most`, of a machine that has not stopped, of which only the last one may write bytes, have events

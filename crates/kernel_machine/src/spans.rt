@@ -10,13 +10,11 @@ ghost use Rattle.kernel_machine.specs.Script.{still_to_come};
 ghost use Rattle.kernel_machine.specs.Runs.{Avoids, HasNoTick, HasPassed, IsOnWay, ServesNone, counted};
 
 use crate::Parts;
-use crate::turns::{FIRST_GUEST, running};
+use crate::turns::running;
 use cint_exec::{Outcome, has_breakpoint};
+use kernel_steps::numbers::{DUE, FIRST_GUEST};
 use kernel_steps::{RootField, execute_guest, execute_next, root, set_root};
 use word_store::word_at;
-
-/// The word of a packet at the clock that has the tick at which it is due.
-const DUE: u32 = 4;
 
 /// Takes at most `most` steps of a machine that has not stopped, in which nothing happens but that the running task executes
 /// instructions: as many as there are before a device may act, before the task does something else, or up to the first instruction

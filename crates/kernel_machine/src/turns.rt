@@ -14,17 +14,12 @@ ghost use Rattle.kernel_machine.specs.Leaves.{Leaves, RunsGuest};
 use crate::Parts;
 use crate::residents::resident;
 use cint_exec::Fault;
+use kernel_steps::numbers::{FIRST_GUEST, REPORTER};
 use kernel_steps::{
     EventLog, RootField, Stop, TcbField, TurnEnd, field, find, guest_turn, record_fault, root,
 };
 use tp_io::Output;
 use word_store::Store;
-
-/// The lowest number of a guest.
-pub(crate) const FIRST_GUEST: u32 = 5;
-
-/// The number of the task that reports faults.
-const REPORTER: u32 = 2;
 
 /// The fault of a write into a word of the kernel's.
 const KERNEL_WORD: u32 = 6;

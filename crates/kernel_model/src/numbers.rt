@@ -22,6 +22,9 @@ pub const CLOCK: u32 = 0xffff_ffff;
 /// The number of the keyboard, -2.
 pub const KEYBOARD: u32 = 0xffff_fffe;
 
+/// The same number with its sign, as it stands in events and as a destination.
+pub const SIGNED_KEYBOARD: i32 = -2;
+
 /// The number of the output device, -3.
 pub const OUTPUT: u32 = 0xffff_fffd;
 

@@ -2,7 +2,7 @@
 #![tactic(auto)]
 
 // Shown to the crates above.
-pub use console_handler::{ConsoleState, console_turn};
+pub use console_handler::{ConsoleState, READ_LINE, console_turn};
 pub use fault_reporter::{fault_turn, record_fault};
 pub use file_handler::{
     EventLog, KindKeeper, Request, TcbField, UNKNOWN_TYPE, change_pri, create_task, delete_task,

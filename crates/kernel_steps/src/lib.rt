@@ -10,7 +10,7 @@ pub mod turn_laws;
 
 // Shown to the crates above.
 pub use cli_shell::{
-    BootRefusal, ConsoleState, Pipes, ShellState, console_turn, fault_turn, file_turn,
+    BootRefusal, ConsoleState, Mode, Pipes, ShellState, console_turn, fault_turn, file_turn,
     first_packet, load_files, make_kernel, make_resident_kernel, pipe_turn, record_fault,
     shell_turn, start_tasks, write_tasks,
 };

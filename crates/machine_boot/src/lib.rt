@@ -9,7 +9,7 @@ pub use start::boot;
 
 // Shown to the crates above.
 pub use kernel_machine::{
-    Block, ConsoleState, EventLog, KernelEvent, ListLog, Machine, NoLog, Parts, Pipes, Queue,
-    RootField, ShellState, SinkLog, Stop, Use, blocks, find, head, numbers, packets, use_of,
-    write_tasks,
+    Block, ByteKinds, ConsoleState, EventLog, KernelEvent, ListLog, Machine, Mode, NoLog, Parts,
+    Pipes, Queue, RootField, Script, ShellState, SinkLog, Stop, Tty, Use, blocks, find, head,
+    load_files, numbers, packets, use_of, write_tasks,
 };

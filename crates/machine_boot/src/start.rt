@@ -1,5 +1,5 @@
 // The machine of a session.
-ghost use Rattle.std.specs.Prelude.{◌≡◌, [], MatchResult, replicate};
+ghost use Rattle.std.specs.Prelude.{◌≡◌, [], IfOk, MatchResult, replicate};
 ghost use Rattle.kernel_machine.specs.KernelCalls.KernelModel.ChangedStore.{IsChanged};
 ghost use Rattle.kernel_machine.specs.KernelCalls.KernelModel.Kernel.{Kernel};
 ghost use Rattle.kernel_machine.specs.KernelCalls.KernelDispatch.Dispatch.{CanDispatch};
@@ -32,15 +32,18 @@ const NO_REGS: Regs = Regs {
 };
 
 /// The machine of a session before its first step: the files of all lines are on its disc, the tasks of all lines have been
-/// started, the first ready task runs, and the session's keys are to come. The residents are there if the session has them. The first line that is refused is the
-/// answer, with its code. First come the files: a file has the name already (42), there are 64 files (44), or the disc has no
+/// started, the first ready task runs, and the session's keys are to come. The residents are there if the session has them. The
+/// first line that is refused is the answer, with its code. First come the files: a file has the name already (42), there are 64 files (44), or the disc has no
 /// room (43). Then come the tasks: a task has the number already (27); for each of its names in turn, no file has it (41), its
 /// text is no module (61 to 66), or no run of free blocks is large enough for the module (1); a task has the priority already
 /// (8), a module has a number of a global above 1,000 (18), or no run of free blocks is large enough for the task (1).
 /// `WantMemory` comes only where memory could not be had.
 pub fn boot(alloc: Global, session: &Session) -> Result<Parts, BootEnd>
     requires { HasKernel session.now }
-    ensures { BootsAs result (boot session.now) }
+    ensures boots { BootsAs result (boot session.now) }
+
+    // No key of the session has come.
+    ensures keys { IfOk result (λ p. p.keys.come ≡ 0) }
 {
     let mut parts = empty_machine(alloc, session)?;
     if let Err(refusal) = put_lines(&mut parts, session.lines.as_slice()) {
@@ -63,8 +66,9 @@ fn want_memory(_: WantMemory) -> BootEnd
 // The machine before the lines.
 fn empty_machine(alloc: Global, session: &Session) -> Result<Parts, BootEnd>
     requires { HasKernel session.now }
-    ensures { MatchResult result (λ p. Stands p (first_kernel session.now))
+    ensures stands { MatchResult result (λ p. Stands p (first_kernel session.now))
         (λ e. e ≡ BootEnd.WantMemory) }
+    ensures keys { IfOk result (λ p. p.keys.come ≡ 0) }
 {
     let mut store = Store::new(alloc, session.store)?;
     make_lists(&mut store, session);
@@ -101,8 +105,9 @@ fn make_lists(store: &mut Store, session: &Session)
 // Puts the files of all lines on the disc, and then starts the tasks of all lines.
 fn put_lines(parts: &mut Parts, lines: &[SessionLine]) -> Result<(), BootRefusal>
     requires { (k : Kernel) × Stands parts.old k × CanLoad lines.now k }
-    ensures { (k : Kernel) → Stands parts.old k → CanLoad lines.now k
+    ensures reached { (k : Kernel) → Stands parts.old k → CanLoad lines.now k
         → IsReached parts.new result (with_lines lines.now k) }
+    ensures keys { parts.new.keys ≡ parts.old.keys }
 {
     put_files(parts, lines)?;
     put_tasks(parts, lines)
@@ -111,8 +116,9 @@ fn put_lines(parts: &mut Parts, lines: &[SessionLine]) -> Result<(), BootRefusal
 // Puts the files of the lines on the disc.
 fn put_files(parts: &mut Parts, lines: &[SessionLine]) -> Result<(), BootRefusal>
     requires { HasNoStreams parts.old.disc }
-    ensures { (k : Kernel) → Stands parts.old k
+    ensures reached { (k : Kernel) → Stands parts.old k
         → IsReached parts.new result (with_files lines.now k) }
+    ensures keys { parts.new.keys ≡ parts.old.keys }
 {
     load_files(&mut parts.disc, lines)
 }
@@ -120,8 +126,9 @@ fn put_files(parts: &mut Parts, lines: &[SessionLine]) -> Result<(), BootRefusal
 // Starts the tasks of the lines.
 fn put_tasks(parts: &mut Parts, lines: &[SessionLine]) -> Result<(), BootRefusal>
     requires { (k : Kernel) × Stands parts.old k × CanStart lines.now k }
-    ensures { (k : Kernel) → Stands parts.old k → CanStart lines.now k
+    ensures reached { (k : Kernel) → Stands parts.old k → CanStart lines.now k
         → IsReached parts.new result (with_tasks lines.now k) }
+    ensures keys { parts.new.keys ≡ parts.old.keys }
 {
     start_tasks(&mut parts.store, &mut parts.kinds, &parts.disc, lines)
 }
@@ -129,8 +136,9 @@ fn put_tasks(parts: &mut Parts, lines: &[SessionLine]) -> Result<(), BootRefusal
 // Lets the first ready task run.
 fn dispatch(parts: &mut Parts)
     requires { (k : Kernel) × Stands parts.old k × CanDispatch k.lists k.regs }
-    ensures { (k : Kernel) → Stands parts.old k → CanDispatch k.lists k.regs
+    ensures stands { (k : Kernel) → Stands parts.old k → CanDispatch k.lists k.regs
         → Stands parts.new (dispatch k).kernel }
+    ensures keys { parts.new.keys ≡ parts.old.keys }
 {
     switch(
         &mut parts.store,

@@ -7,13 +7,8 @@ use crate::files::{KeptFiles, note_files, second_since};
 use crate::moments::Moment;
 use circular_buffer::HeapCircularBuffer;
 use tripos_machine::Machine;
+use tripos_machine::numbers::{FILE_HANDLER, SHELL};
 use undo_journal::Journal;
-
-/// The shell's task.
-const SHELL: u32 = 1;
-
-/// The file handler's.
-const FILE_HANDLER: u32 = 4;
 
 /// Whether the shell's turn or the file handler's is next.
 pub(crate) fn is_file_turn(machine: &Machine) -> bool

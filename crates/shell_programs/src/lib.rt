@@ -15,7 +15,7 @@ pub use kernel_boot::{
     BootRefusal, begin_task, load_files, make_kernel, make_resident_kernel, start_tasks,
 };
 pub use kernel_residents::{
-    ConsoleState, EventLog, KindKeeper, Pipes, Request, UNKNOWN_TYPE, change_pri, console_turn,
-    fault_turn, file_turn, finish_turn, first_packet, hold_task, numbers, pipe_turn, record_fault,
-    release_task, return_request, set_flags, take_request,
+    ConsoleState, EventLog, KindKeeper, Pipes, READ_LINE, Request, UNKNOWN_TYPE, change_pri,
+    console_turn, fault_turn, file_turn, finish_turn, first_packet, hold_task, numbers, pipe_turn,
+    record_fault, release_task, return_request, set_flags, take_request,
 };

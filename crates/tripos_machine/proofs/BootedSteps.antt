@@ -1,5 +1,5 @@
 -- A machine that is booted has taken no step.
-use Rattle.std.proofs.Common.{◌≡◌, ℕ, List, Result, Ok, Err, None, Bool, true, false, cond, ap, refl, replicate, subst, sym, ◌∙◌}
+use Rattle.std.proofs.Common.{◌≡◌, ℕ, List, Result, Ok, Err, None, Bool, true, false, cond, ap, drop, refl, replicate, subst, sym, ◌∙◌}
 use Rattle.session_text.specs.declared.sessions.Session.{Session}
 use Rattle.hunk_text.specs.TextReader.Refusal.{Refusal}
 use Rattle.hunk_text.specs.TextReader.Steps.{◌>>=◌}
@@ -8,6 +8,8 @@ use Rattle.bare_machine.specs.State.{BareState}
 use Rattle.machine_boot.specs.KernelCalls.KernelModel.Kernel.{Kernel}
 use Rattle.machine_boot.specs.KernelBoot.declared.refusals.BootRefusal.{BootRefusal}
 use Rattle.machine_boot.specs.KernelSteps.Stepped.{Stepped}
+use Rattle.machine_boot.specs.KernelMachine.Stands.{Stands}
+use Rattle.machine_boot.specs.KernelMachine.declared.parts.Parts.{Parts}
 use Rattle.machine_boot.proofs.Shown.KernelSteps.StepKept.{dispatch-same}
 use Rattle.machine_boot.specs.Boot.{HasKernel, boot, first_kernel, started, with_lines}
 use Rattle.machine_boot.proofs.BegunKernels.{first-begun, lines-begun}
@@ -23,6 +25,10 @@ booted-steps s h x is = on (with_lines s.lines (first_kernel s)) refl is
         let same : started k ≡ x = cc in
         subst (λ (y : Stepped). y.kernel.steps ≡ 0) same ((dispatch-same k).steps ∙ (lines-begun s h (first_kernel s) k (first-begun s) e).steps)
     on (Err refusal) e f = cc
+
+-- parts of which no key has come have the keys that are to come
+pub all-to-come : (p : Parts) (k : Kernel) → Stands p k → p.keys.come ≡ 0 → p.keys.keys ≡ k.keys
+all-to-come p k h e = subst (λ n. drop n p.keys.keys ≡ k.keys) e h.keys
 
 -- the two ways of a boot
 

@@ -3,7 +3,7 @@ use Rattle.std.specs.Prelude.{◌≡◌, ℕ, List, [], None, Result, Ok, Err}
 use Rattle.hunk_text.specs.TextReader.Refusal.{Refusal}
 use Rattle.bare_machine.specs.declared.boot.BootEnd.{BootEnd}
 use Rattle.tripos_machine.specs.Boot.{EndsAs}
-use Rattle.tripos_machine.specs.State.{State, steps_of, stop_of}
+use Rattle.tripos_machine.specs.State.{State, keys_to_come, steps_of, stop_of}
 use Rattle.tripos_machine.specs.State.State.{Bare, Full}
 use Rattle.tripos_machine.specs.Step.{Stepped, boot_events}
 use Rattle.tripos_machine.specs.declared.kinds.Kind.{Kind}
@@ -30,6 +30,8 @@ pub record IsBooted (m : MachineView) (x : Stepped) : Type 0 where
   pub output : m.output ≡ []
   -- the events are those of the boot
   pub events : x.events ≡ boot_events x.state
+  -- all its keys are still to come
+  pub keys : m.keys ≡ keys_to_come x.state
   -- no step was taken
   pub steps : steps_of x.state ≡ 0
   -- it has not stopped

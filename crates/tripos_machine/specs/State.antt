@@ -36,6 +36,11 @@ abbrev pub running_of : State → ℕ
 running_of (Bare m) = 0
 running_of (Full k) = k.lists.running
 
+-- the keys that are still to come, each the step at which it is due, and its byte; a bare machine has none
+abbrev pub keys_to_come : State → List (ℕ × ℕ)
+keys_to_come (Bare m) = []
+keys_to_come (Full k) = k.keys
+
 -- why it has stopped, if it has
 abbrev pub stop_of : State → Option Stop
 stop_of (Bare m) = m.stop

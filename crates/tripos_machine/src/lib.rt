@@ -17,7 +17,7 @@ pub use start::boot;
 pub use bare_machine::boot::BootEnd;
 pub use bare_machine::{BareParts, Places, has_breakpoint};
 pub use machine_boot::{
-    Block, ConsoleState, EventLog, KernelEvent, ListLog, NoLog, Parts as KernelParts, Pipes, Queue,
-    RootField, ShellState, SinkLog, Stop, Use, blocks, find, head, numbers, packets, use_of,
-    write_tasks,
+    Block, ByteKinds, ConsoleState, EventLog, KernelEvent, ListLog, Mode, NoLog,
+    Parts as KernelParts, Pipes, Queue, RootField, Script, ShellState, SinkLog, Stop, Tty, Use,
+    blocks, find, head, load_files, numbers, packets, use_of, write_tasks,
 };

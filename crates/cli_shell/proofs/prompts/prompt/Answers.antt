@@ -1,7 +1,7 @@
 use Rattle.std.proofs.Common.{arith}
 use Rattle.shell_programs.specs.KernelCalls.KernelModel.Kernel.Mode.{Reading}
 use Rattle.shell_programs.specs.KernelCalls.KernelModel.declared.numbers.TheConstants.{CONSOLE}
-use Rattle.cli_shell.specs.declared.prompts.TheConstants.{LINE_REQUEST}
+use Rattle.shell_programs.specs.KernelResidents.ConsoleHandler.declared.requests.TheConstants.{READ_LINE}
 use Rattle.cli_shell.specs.Prompts.{prompt}
 use Rattle.cli_shell.proofs.DoneParts.{can-post, console-there, done-mode, done-sent, ready-shown}
 use Rattle.cli_shell.proofs.prompts.prompt.Goals as goal
@@ -14,5 +14,5 @@ returns-clause-done g c = λ b d x r.
     let k = r.done.stands.keeper in
     let can = can-post r CONSOLE (console-there r) in
     done-mode
-    (done-sent (ready-shown r prompt c.append.new.self c.append.ensures) CONSOLE LINE_REQUEST (omega arith) (c.send_shell_packet.ensures.sent x.standing.lists k can) c.send_shell_packet.ensures.room _ _
+    (done-sent (ready-shown r prompt c.append.new.self c.append.ensures) CONSOLE READ_LINE (omega arith) (c.send_shell_packet.ensures.sent x.standing.lists k can) c.send_shell_packet.ensures.room _ _
     (c.send_shell_packet.ensures.notes x.standing.lists k can)) Reading c.set_mode.new.self c.set_mode.ensures

@@ -33,8 +33,8 @@ put_off-requires g c =
           (g.Q.KindKeeper.room c.take_request.new.kinds) (g.L.EventLog.noted c.take_request.new.log) (g.L.EventLog.has_failed c.take_request.new.log) c.in-Some.request y c.take_request.ensures.room notes,
     )
 
-pub returns-then-request-eq-READ-clause-done : goal.returns-then-request-eq-READ-clause-done
-returns-then-request-eq-READ-clause-done g c = λ b console k p x takes.
+pub returns-then-request-eq-READ_LINE-clause-done : goal.returns-then-request-eq-READ_LINE-clause-done
+returns-then-request-eq-READ_LINE-clause-done g c = λ b console k p x takes.
     let keeper = done-keeper b c.args.store.now (g.Q.KindKeeper.tells c.args.kinds.now) (g.Q.KindKeeper.room c.args.kinds.now) (outside c.args.out.now (g.L.EventLog.noted c.args.log.now) (g.L.EventLog.has_failed c.args.log.now)) console k p x in
     let now = outside c.args.out.now (g.L.EventLog.noted c.args.log.now) (g.L.EventLog.has_failed c.args.log.now) in
     let y = subst (IsTaken c.args.store.now c.take_request.new.store (g.Q.KindKeeper.tells c.take_request.new.kinds) p.lists) c.in-Some.is (c.take_request.ensures.taken p.lists keeper takes) in
@@ -45,7 +45,7 @@ returns-then-request-eq-READ-clause-done g c = λ b console k p x takes.
     (g.Q.KindKeeper.room c.take_request.new.kinds) (g.L.EventLog.noted c.take_request.new.log) (g.L.EventLog.has_failed c.take_request.new.log) c.in-Some.request y c.take_request.ensures.room notes in
     read-done b c.args.store.now (g.Q.KindKeeper.tells c.args.kinds.now) (g.Q.KindKeeper.room c.args.kinds.now) now console k p x c.take_request.new.store (g.Q.KindKeeper.tells c.take_request.new.kinds)
     (g.Q.KindKeeper.room c.take_request.new.kinds) (g.L.EventLog.noted c.take_request.new.log) (g.L.EventLog.has_failed c.take_request.new.log) c.in-Some.request y c.take_request.ensures.room notes
-    c.put_off.new.store (g.Q.KindKeeper.tells c.put_off.new.kinds) (g.Q.KindKeeper.room c.put_off.new.kinds) (g.L.EventLog.noted c.put_off.new.log) (g.L.EventLog.has_failed c.put_off.new.log) c.if-request-eq-READ.true c.put_off.ensures.room
+    c.put_off.new.store (g.Q.KindKeeper.tells c.put_off.new.kinds) (g.Q.KindKeeper.room c.put_off.new.kinds) (g.L.EventLog.noted c.put_off.new.log) (g.L.EventLog.has_failed c.put_off.new.log) c.if-request-eq-READ_LINE.true c.put_off.ensures.room
     (c.put_off.ensures.made _ held y.stands residents) (c.put_off.ensures.owns _ held y.stands residents) (c.put_off.ensures.notes _ held y.stands residents)
 
 pub return_request-requires : goal.return_request-requires
@@ -82,5 +82,5 @@ returns-clause-done g c = λ b console k p x takes.
     answer-done b c.args.store.now (g.Q.KindKeeper.tells c.args.kinds.now) (g.Q.KindKeeper.room c.args.kinds.now) now console k p x c.take_request.new.store (g.Q.KindKeeper.tells c.take_request.new.kinds)
     (g.Q.KindKeeper.room c.take_request.new.kinds) (g.L.EventLog.noted c.take_request.new.log) (g.L.EventLog.has_failed c.take_request.new.log) c.in-Some.request y c.take_request.ensures.room notes
     c.return_request.new.store (g.Q.KindKeeper.tells c.return_request.new.kinds) (g.Q.KindKeeper.room c.return_request.new.kinds) (g.L.EventLog.noted c.return_request.new.log) (g.L.EventLog.has_failed c.return_request.new.log)
-    c.answer-answer.result c.answer-answer.new.out c.if-request-eq-READ.false c.answer-answer.ensures.answer c.answer-answer.ensures.bytes c.return_request.ensures.room
+    c.answer-answer.result c.answer-answer.new.out c.if-request-eq-READ_LINE.false c.answer-answer.ensures.answer c.answer-answer.ensures.bytes c.return_request.ensures.room
     (c.return_request.ensures.made _ held y.runs y.stands number) (c.return_request.ensures.owns _ held y.runs y.stands number) (c.return_request.ensures.runs _ y.runs) (c.return_request.ensures.notes _ held y.runs y.stands number)

@@ -15,8 +15,8 @@ use Rattle.machine_boot.proofs.start.empty_machine.Goals as goal
 pub of_store-requires : goal.of_store-requires
 of_store-requires c = can-walk _ _ c.make_lists.ensures.lists
 
-pub returns : goal.returns
-returns c =
+pub returns-clause-stands : goal.returns-clause-stands
+returns-clause-stands c =
     let s : Session = c.args.session.now in
     let t = c.make_lists.new.store in
     let size : length c.in_ok-kinds.kinds ≡ length t =
@@ -44,3 +44,8 @@ returns c =
       step = refl;
       period = refl;
     })
+
+pub returns-clause-keys : goal.returns-clause-keys
+returns-clause-keys c =
+    ap (λ (k : KeyScript). k.come)
+    (made-ok (λ (k : KeyScript). k ≡ record { keys = c.as_slice.result.now; come = 0 }) _ c.new-8.result c.in_ok-map_err-4.field-0 c.in_ok-map_err-4.ensures.cases c.in_ok-map_err-4.ensures.variant c.new-8.ensures)

@@ -7,20 +7,20 @@ use Rattle.machine_boot.proofs.BegunKernels.{files-start}
 use Rattle.machine_boot.proofs.LoadedParts.{lines-refused, lines-then}
 use Rattle.machine_boot.proofs.start.put_lines.Goals as goal
 
-pub returns-in_err-put_files : goal.returns-in_err-put_files
-returns-in_err-put_files c = λ k h can.
+pub returns-in_err-put_files-clause-reached : goal.returns-in_err-put_files-clause-reached
+returns-in_err-put_files-clause-reached c = λ k h can.
     let refusal : BootRefusal = c.in_err-put_files.field-0.0 in
     let p = err_from_is_err_and c.from_residual.result c.from_residual.ensures.1 in
     subst (λ (r : Result (Unit {0}) BootRefusal). IsReached c.put_files.new.parts r (with_lines c.args.lines.now k)) (sym p.1)
-    (lines-refused c.args.lines.now k refusal (c.in_err-put_files.ensures k h) ∙ ap Err (sym p.2))
+    (lines-refused c.args.lines.now k refusal (c.in_err-put_files.ensures.reached k h) ∙ ap Err (sym p.2))
 
 pub put_tasks-requires : goal.put_tasks-requires
 put_tasks-requires c =
-    let files = c.in_ok-put_files.ensures c.requires.0 c.requires.1 in
+    let files = c.in_ok-put_files.ensures.reached c.requires.0 c.requires.1 in
     (files.0, files.2, files-start c.args.lines.now c.requires.0 files.0 c.requires.2.tasks files.1)
 
-pub returns : goal.returns
-returns c = λ k h can.
-    let files = c.in_ok-put_files.ensures k h in
+pub returns-clause-reached : goal.returns-clause-reached
+returns-clause-reached c = λ k h can.
+    let files = c.in_ok-put_files.ensures.reached k h in
     subst (IsReached c.put_tasks.new.parts c.put_tasks.result) (sym (lines-then c.args.lines.now k files.0 files.1))
-    (c.put_tasks.ensures files.0 files.2 (files-start c.args.lines.now k files.0 can.tasks files.1))
+    (c.put_tasks.ensures.reached files.0 files.2 (files-start c.args.lines.now k files.0 can.tasks files.1))

@@ -4,7 +4,7 @@ use Rattle.tripos_machine.specs.Boot.{bare_booted, kernel_booted}
 use Rattle.tripos_machine.specs.State.State.{Bare, Full}
 use Rattle.tripos_machine.specs.Step.{of_kernel, quietly}
 use Rattle.machine_boot.proofs.BootedKernels.{booted-events}
-use Rattle.tripos_machine.proofs.BootedSteps.{bare-goes, bare-no-steps, boot-bare, boot-full, booted-steps}
+use Rattle.tripos_machine.proofs.BootedSteps.{all-to-come, bare-goes, bare-no-steps, boot-bare, boot-full, booted-steps}
 use Rattle.tripos_machine.proofs.start.boot.Goals as goal
 
 pub returns-then-session : goal.returns-then-session
@@ -16,6 +16,7 @@ returns-then-session c =
         state = refl;
         output = c.in_ok-machine.ensures.output;
         events = refl;
+        keys = refl;
         steps = bare-no-steps c.args.session.now m c.in_ok-machine.ensures.state;
         goes = bare-goes c.args.session.now m c.in_ok-machine.ensures.state;
       },
@@ -25,7 +26,7 @@ pub returns : goal.returns
 returns c =
     let s = c.args.session.now in
     let h : HasKernel s = record { lawful = c.requires; full = c.if-session.false } in
-    let (x, is, booted) = c.in_ok-boot.ensures in
+    let (x, is, booted) = c.in_ok-boot.ensures.boots in
     let kernel = c.from_parts-machine.ensures.kernel x.kernel booted.stands booted.valid booted.goes in (
       of_kernel x,
       boot-full s c.if-session.false ∙ ap kernel_booted is,
@@ -33,6 +34,7 @@ returns c =
         state = ap (λ k. Full k) kernel;
         output = c.from_parts-machine.ensures.output;
         events = booted-events s h x is;
+        keys = c.from_parts-machine.ensures.keys ∙ all-to-come _ x.kernel booted.stands c.in_ok-boot.ensures.keys;
         steps = booted-steps s h x is;
         goes = booted.goes;
       },
