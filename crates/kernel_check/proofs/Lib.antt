@@ -7,3 +7,4 @@ pub mod WholeCheck
 pub mod RunningTask
 pub mod FaultReports
 pub mod ConsoleLine
+pub mod Shown

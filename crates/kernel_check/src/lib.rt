@@ -14,3 +14,7 @@ pub use between::{first_runs, registers_stand, ticks_stand};
 pub use check::holds_lists;
 pub use console_line::console_stands;
 pub use fault_reports::faults_stand;
+
+// Shown to the crates above.
+pub use kernel_dispatch::{RootField, root};
+pub use list_passes::{has_residents, highest_of};

@@ -1,0 +1,2 @@
+-- Lemmas of `adoption_law`.
+pub use Rattle.adoption_law.proofs.OneKernel

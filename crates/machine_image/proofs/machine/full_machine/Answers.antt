@@ -1,0 +1,32 @@
+use Rattle.std.proofs.Common.{◌∙◌, ap}
+use Rattle.std.proofs.lemmas.Option.{MatchOption-at_some}
+use Rattle.tripos_machine.specs.State.State.{Full}
+use Rattle.kernel_check.proofs.Shown.AdoptionLaw.OneKernel.{has-kernel}
+use Rattle.machine_image.specs.Machines.{AreKept, HasMachine}
+use Rattle.machine_image.specs.Parts.{others_of}
+use Rattle.machine_image.proofs.SavedMachines.{full-machine, parts-stand}
+use Rattle.machine_image.proofs.machine.full_machine.Goals as goal
+
+pub parts_of-requires : goal.parts_of-requires
+parts_of-requires c =
+    let x = c.args.image in
+    MatchOption-at_some (HasMachine x → ⊥) (AreKept x) c.in-Some.kept c.in-Some.is c.in_ok-kept.ensures
+
+pub from_parts-requires : goal.from_parts-requires
+from_parts-requires c =
+    let x = c.args.image in
+    let kept = MatchOption-at_some (HasMachine x → ⊥) (AreKept x) c.in-Some.kept c.in-Some.is c.in_ok-kept.ensures in
+    let k = (has-kernel x.store (others_of x)).1 kept.adopted in
+    (Full k.0, parts-stand x c.in_ok-parts.parts k.0 c.in_ok-parts.ensures k.1 k.2, k.1, k.2.goes)
+
+pub returns : goal.returns
+returns c =
+    let x = c.args.image in
+    let kept = MatchOption-at_some (HasMachine x → ⊥) (AreKept x) c.in-Some.kept c.in-Some.is c.in_ok-kept.ensures in
+    let k = (has-kernel x.store (others_of x)).1 kept.adopted in
+    let is = c.from_parts.ensures.state (Full k.0) (parts-stand x c.in_ok-parts.parts k.0 c.in_ok-parts.ensures k.1 k.2) k.1 k.2.goes in
+    record {
+      state = full-machine x c.from_parts.result.state k.0 c.requires.full k.1 k.2 is;
+      keys = c.from_parts.ensures.keys ∙ ap (λ s. s.keys) c.in_ok-parts.ensures.keys;
+      output = c.from_parts.ensures.output;
+    }

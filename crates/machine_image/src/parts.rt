@@ -1,0 +1,101 @@
+// The parts of a machine with a kernel, from what was saved.
+ghost use Rattle.std.specs.Prelude.{◌≡◌, ◌≤◌, IfOk, length};
+ghost use Rattle.tripos_machine.specs.KernelSteps.CliShell.Modes.{mode_of as kernel_mode};
+ghost use Rattle.machine_image.specs.Machines.{AreKept, AreMade};
+ghost use Rattle.machine_image.specs.Parts.{console_of, mode_of, shell_of};
+
+use arrayvec::ArrayVec;
+use image_text::{Image, Mode as SavedMode};
+use ram_disc::Disc;
+use std::alloc::Global;
+use tp_io::WantMemory;
+use tripos_machine::{ByteKinds, ConsoleState, KernelParts, Mode, Pipes, Script, ShellState, Tty};
+
+/// What the file handler keeps.
+#[derive(Drop)]
+pub(crate) struct KeptParts {
+    /// The files, and the streams that are open on them.
+    pub(crate) disc: Disc,
+    /// The pipes.
+    pub(crate) pipes: Pipes,
+}
+
+/// The parts, of which these are kept by the file handler. `WantMemory` comes only where memory could not be had.
+pub(crate) fn parts_of(
+    alloc: Global,
+    image: Image,
+    kept: KeptParts,
+) -> Result<KernelParts, WantMemory>
+    requires { AreKept image kept }
+    ensures { IfOk result (AreMade image) }
+{
+    let kinds = ByteKinds::of_store(alloc, &image.store)?;
+    let tty = type_ahead_of(alloc, image.ring.as_slice())?;
+    let keys = Script::new(alloc, image.keys.as_slice())?;
+    let console = console_in(&image);
+    let shell = shell_in(&image);
+    Ok(KernelParts {
+        store: image.store,
+        regs: image.regs,
+        kinds,
+        tty,
+        disc: kept.disc,
+        bytes: ArrayVec::new(),
+        console,
+        shell,
+        pipes: kept.pipes,
+        keys,
+        step: image.step,
+        period: image.period,
+    })
+}
+
+// The type-ahead with these bytes.
+fn type_ahead_of(alloc: Global, bytes: &[u8]) -> Result<Tty, WantMemory>
+    requires { length bytes.now ≤ 128 }
+    ensures { IfOk result (λ tty. tty ≡ bytes.now) }
+{
+    let mut tty = Tty::new(alloc)?;
+    tty.set(bytes);
+    Ok(tty)
+}
+
+// The console's line.
+fn console_in(image: &Image) -> ConsoleState
+    requires { length image.now.line ≤ 120 }
+    ensures { result ≡ console_of image.now }
+{
+    ConsoleState::new(line_of(image.line.as_slice()), image.finished)
+}
+
+// What the shell does next, and its line.
+fn shell_in(image: &Image) -> ShellState
+    requires { length image.now.command ≤ 120 }
+    ensures { result ≡ shell_of image.now }
+{
+    ShellState::new(mode_of(image.mode), line_of(image.command.as_slice()))
+}
+
+// What the shell does next.
+fn mode_of(mode: SavedMode) -> Mode
+    ensures { kernel_mode result ≡ mode_of mode }
+{
+    match mode {
+        SavedMode::Prompt => Mode::Prompt,
+        SavedMode::Reading => Mode::Reading,
+        SavedMode::Waiting(id) => Mode::Waiting(id),
+        SavedMode::Typing => Mode::Typing,
+    }
+}
+
+// The bytes, as a line.
+fn line_of(bytes: &[u8]) -> ArrayVec<u8, 120>
+    requires { length bytes.now ≤ 120 }
+    ensures { result.items ≡ bytes.now }
+{
+    let mut line = ArrayVec::new();
+    match line.try_extend_from_slice(bytes) {
+        Ok(()) => line,
+        Err(_) => unreachable!(),
+    }
+}
