@@ -1,0 +1,177 @@
+use Rattle.std.proofs.Common.{◌+◌, ◌-◌, ◌≡◌, ◌≤◌, ap, arith, refl, sym, subst, ◌∙◌}
+use Rattle.std.proofs.lemmas.Bool.{ltb-false, ltb-true}
+use Rattle.std.proofs.lemmas.Result.{err_from_is_err_and}
+use Rattle.tp_io.specs.Pending.{IsCut, IsGathered}
+use Rattle.tripos_machine.specs.KernelCalls.KernelModel.Ranges.{most_steps}
+use Rattle.tripos_machine.specs.Runs.{end_of_run}
+use Rattle.machine_ring.specs.Links.{Link}
+use Rattle.machine_ring.specs.Outcomes.{outcome_of}
+use Rattle.machine_ring.specs.Rings.{Ring}
+use Rattle.machine_ring.specs.Rounds.{Rounded, first_of, right_after, shown_by, with_typing}
+use Rattle.machine_ring.specs.Runs.{run}
+use Rattle.machine_ring.specs.declared.terms.Terms.{Terms}
+use Rattle.machine_ring.proofs.IdleRounds.{idle-from}
+use Rattle.machine_ring.proofs.RingProgress.{acknowledged-few, carried-room, cut-then, end-left, ended-early, gathered-first, gathered-then, outcome-is, outstanding-none, ran-first, ran-then, round-is, shown-is}
+use Rattle.machine_ring.proofs.rings.Ring.run.Goals as goal
+use Rattle.machine_ring.proofs.rings.Ring.run.Goals.{in-None-carry, in-Some-carry}
+
+pub loop-right-init : goal.loop-right-init
+loop-right-init g c =
+    let none = ap (λ (r : Ring). r.link.rounds) c.self.invariant.first in
+    record {
+      ran = ran-first c.args.self (record { left = c.self.inside.left; link = c.self.inside.link; right = c.self.inside.right.state }) c.self.view_is none;
+      few = omega (arith, none);
+      terms = ap (λ (r : Ring). r.link.terms) c.self.view_is;
+      gathered = gathered-first c.args.self _ none _ _;
+      later = omega arith;
+    }
+
+pub outcome_after-requires : goal.outcome_after-requires
+outcome_after-requires g c =
+    acknowledged-few c.args.self c.self.inside.link.terms c.self.inside.left.state c.self.inside.right.state (sym c.self.view_is ∙ c.self.invariant.first) c.loop-right.link.rounds
+    (record { left = c.loop-right.left; link = c.loop-right.link; right = c.loop-right.right.state }) c.loop-right.invariant.ran
+
+pub returns-in-Some-clause-outcome : goal.returns-in-Some-clause-outcome
+returns-in-Some-clause-outcome g c =
+    let kept = c.loop-right.invariant in
+    let f = c.args.self in
+    let r : Ring = record { left = c.loop-right.left; link = c.loop-right.link; right = c.loop-right.right.state } in
+    let stopped = sym c.stop.ensures ∙ c.in-Some.is in
+    let is = c.outcome_after.ensures in
+    outcome-is f c.self.inside.link.terms c.self.inside.left.state c.self.inside.right.state (sym c.self.view_is ∙ c.self.invariant.first) c.loop-right.link.rounds
+    r kept.ran c.outcome_after.result is.rounds is.sent is.delivered is.acknowledged (is.end ∙ sym (ap end_of_run stopped))
+    ∙ sym (ap outcome_of (ended-early f r f.link.terms.rounds kept.ran kept.few c.in-Some.stop stopped))
+
+pub returns-in-Some-clause-bytes : goal.returns-in-Some-clause-bytes
+returns-in-Some-clause-bytes g c =
+    let kept = c.loop-right.invariant in
+    let f = c.args.self in
+    let r : Ring = record { left = c.loop-right.left; link = c.loop-right.link; right = c.loop-right.right.state } in
+    subst (λ (x : Rounded). IsGathered (g.K.Sink.holds c.args.out.now) (g.K.Sink.holds c.loop-right.out) c.args.pending.now c.loop-right.pending x.shown)
+    (sym (ended-early f r f.link.terms.rounds kept.ran kept.few c.in-Some.stop (sym c.stop.ensures ∙ c.in-Some.is))) kept.gathered
+
+pub typed-right-requires-clause-room : goal.typed-right-requires-clause-room
+typed-right-requires-clause-room g c =
+    let r : Ring = record { left = c.loop-right.left; link = c.loop-right.link; right = c.loop-right.right.state } in
+    sym c.has_room.ensures ∙ carried-room (first_of r) c.has_room.result r.link c.in-Some-carry.byte (sym (c.carry.ensures.byte (first_of r) refl) ∙ c.in-Some-carry.is)
+
+pub step-requires : goal.step-requires
+step-requires g c =
+    let r : Ring = record { left = c.loop-right.left; link = c.loop-right.link; right = c.loop-right.right.state } in
+    let same = ap (λ (k : Link). k.terms) (c.carry.ensures.link (first_of r) refl) ∙ c.loop-right.invariant.terms ∙ sym (ap (λ (q : Ring). q.link.terms) c.self.view_is) in
+    subst (λ n. n ≤ most_steps) (sym (c.right_steps.ensures ∙ (λ i. (same i).right_steps))) c.self.invariant.right_steps
+
+pub loop-right-smaller : goal.loop-right-smaller
+loop-right-smaller g c =
+    let r : Ring = record { left = c.loop-right.left; link = c.loop-right.link; right = c.loop-right.right.state } in
+    let less = ltb-true c.loop-right.link.rounds c.loop-right.link.terms.rounds (sym c.loop-right-test.ensures.more) in
+    let same = c.loop-right.invariant.terms in
+    omega (arith, less, ap (λ (t : Terms). t.rounds) same, ap (λ (k : Link). k.rounds) (c.carry.ensures.link (first_of r) refl))
+
+pub loop-right-preserved : goal.loop-right-preserved
+loop-right-preserved g c =
+    let kept = c.loop-right.invariant in
+    let f = c.args.self in
+    let r : Ring = record { left = c.loop-right.left; link = c.loop-right.link; right = c.loop-right.right.state } in
+    let after : Ring = record { left = c.carry.new.left; link = c.carry.new.link; right = c.step.new.machine.state } in
+    let link = c.carry.ensures.link (first_of r) refl in
+    let same = ap (λ (k : Link). k.terms) link in
+    let rounds : after.link.rounds ≡ r.link.rounds + 1 = ap (λ (k : Link). k.rounds) link in
+    let goes = sym c.stop.ensures ∙ c.in-None.is in
+    let less = ltb-true c.loop-right.link.rounds c.loop-right.link.terms.rounds (sym c.loop-right-test.ensures.more) in
+    let types : c.match-carry.right.state ≡ with_typing c.carry.result r.right =
+    elim c.match-carry.branch [
+      | in-Some-carry w ↦ (λ i. (w.right-is i).state) ∙ w.typed-right.ensures ∙ sym (ap (λ o. with_typing o r.right) w.in-Some-carry.is)
+      | in-None-carry w ↦ (λ i. (w.right-is i).state) ∙ sym (ap (λ o. with_typing o r.right) w.in-None-carry.is)
+    ] in
+    let steps : c.right_steps.result ≡ r.link.terms.right_steps = c.right_steps.ensures ∙ (λ i. (same i).right_steps) in
+    let right = c.in_ok-step.ensures.state ∙ (λ i. right_after (steps i) c.match-carry.right.state) in
+    let byte = c.carry.ensures.byte (first_of r) refl in
+    let is : after ≡ (run 1 r).ring =
+    round-is r goes c.has_room.result c.has_room.ensures c.carry.result byte c.match-carry.right.state types c.carry.new.left c.carry.new.link c.step.new.machine.state (c.carry.ensures.left (first_of r) refl) link right in
+    let shown = ap (λ n. shown_by n c.match-carry.right.state) steps ∙ shown-is r goes c.has_room.result c.has_room.ensures c.carry.result byte c.match-carry.right.state types in
+    record {
+      ran = ran-then f r after kept.ran 1 rounds is;
+      few = omega (arith, less, ap (λ (t : Terms). t.rounds) kept.terms, rounds);
+      terms = same ∙ kept.terms;
+      gathered = gathered-then f r after kept.ran 1 rounds is kept.gathered
+          (subst (λ l. IsGathered (g.K.Sink.holds c.loop-right.out) (g.K.Sink.holds c.step.new.out) c.loop-right.pending c.step.new.pending l) shown c.in_ok-step.ensures.bytes);
+      later = omega (arith, kept.later, c.in_ok-step.ensures.cause.later);
+    }
+
+pub returns-in_err-step-clause-bytes : goal.returns-in_err-step-clause-bytes
+returns-in_err-step-clause-bytes g c =
+    let kept = c.loop-right.invariant in
+    let f = c.args.self in
+    let r : Ring = record { left = c.loop-right.left; link = c.loop-right.link; right = c.loop-right.right.state } in
+    let after : Ring = record { left = c.carry.new.left; link = c.carry.new.link; right = c.step.new.machine.state } in
+    let link = c.carry.ensures.link (first_of r) refl in
+    let same = ap (λ (k : Link). k.terms) link in
+    let rounds : after.link.rounds ≡ r.link.rounds + 1 = ap (λ (k : Link). k.rounds) link in
+    let goes = sym c.stop.ensures ∙ c.in-None.is in
+    let less = ltb-true c.loop-right.link.rounds c.loop-right.link.terms.rounds (sym c.loop-right-test.ensures.more) in
+    let types : c.match-carry.right.state ≡ with_typing c.carry.result r.right =
+    elim c.match-carry.branch [
+      | in-Some-carry w ↦ (λ i. (w.right-is i).state) ∙ w.typed-right.ensures ∙ sym (ap (λ o. with_typing o r.right) w.in-Some-carry.is)
+      | in-None-carry w ↦ (λ i. (w.right-is i).state) ∙ sym (ap (λ o. with_typing o r.right) w.in-None-carry.is)
+    ] in
+    let steps : c.right_steps.result ≡ r.link.terms.right_steps = c.right_steps.ensures ∙ (λ i. (same i).right_steps) in
+    let right = c.in_err-step.ensures.state ∙ (λ i. right_after (steps i) c.match-carry.right.state) in
+    let byte = c.carry.ensures.byte (first_of r) refl in
+    let is : after ≡ (run 1 r).ring =
+    round-is r goes c.has_room.result c.has_room.ensures c.carry.result byte c.match-carry.right.state types c.carry.new.left c.carry.new.link c.step.new.machine.state (c.carry.ensures.left (first_of r) refl) link right in
+    let shown = ap (λ n. shown_by n c.match-carry.right.state) steps ∙ shown-is r goes c.has_room.result c.has_room.ensures c.carry.result byte c.match-carry.right.state types in
+    let p = err_from_is_err_and c.from_residual-in_err-step.result c.from_residual-in_err-step.ensures.1 in
+    rw (p.1) (cut-then f r after kept.ran 1 rounds is kept.gathered f.link.terms.rounds (omega (arith, less, ap (λ (t : Terms). t.rounds) kept.terms, rounds))
+    (subst (λ l. IsCut (g.K.Sink.holds c.loop-right.out) (g.K.Sink.holds c.step.new.out) c.loop-right.pending l) shown c.in_err-step.ensures.bytes))
+
+pub loop-right-preserved-then-are_idle : goal.loop-right-preserved-then-are_idle
+loop-right-preserved-then-are_idle g c =
+    let kept = c.loop-right.invariant in
+    let f = c.args.self in
+    let r : Ring = record { left = c.loop-right.left; link = c.loop-right.link; right = c.loop-right.right.state } in
+    let after : Ring = record { left = c.loop-right.left; link = c.pass.new.link; right = c.pass.new.right.state } in
+    let new = sym c.self.view_is ∙ c.self.invariant.first in
+    let out = outstanding-none f c.self.inside.link.terms c.self.inside.left.state c.self.inside.right.state new r.link.rounds r kept.ran in
+    let idle = idle-from r.left r.link out (sym c.are_idle.ensures ∙ c.if-are_idle.true) in
+    let m = after.link.rounds - r.link.rounds in
+    let rounds : after.link.rounds ≡ r.link.rounds + m = omega (arith, c.in_ok-pass.ensures.some) in
+    record {
+      ran = ran-then f r after kept.ran m rounds (c.in_ok-pass.ensures.ring r.left idle);
+      few = omega (arith, c.in_ok-pass.ensures.few, ap (λ (t : Terms). t.rounds) kept.terms);
+      terms = c.in_ok-pass.ensures.terms ∙ kept.terms;
+      gathered = gathered-then f r after kept.ran m rounds (c.in_ok-pass.ensures.ring r.left idle) kept.gathered (c.in_ok-pass.ensures.bytes r.left idle);
+      later = omega (arith, kept.later, c.in_ok-pass.ensures.cause.later);
+    }
+
+pub returns-in_err-pass-clause-bytes : goal.returns-in_err-pass-clause-bytes
+returns-in_err-pass-clause-bytes g c =
+    let kept = c.loop-right.invariant in
+    let f = c.args.self in
+    let r : Ring = record { left = c.loop-right.left; link = c.loop-right.link; right = c.loop-right.right.state } in
+    let after : Ring = record { left = c.loop-right.left; link = c.pass.new.link; right = c.pass.new.right.state } in
+    let new = sym c.self.view_is ∙ c.self.invariant.first in
+    let out = outstanding-none f c.self.inside.link.terms c.self.inside.left.state c.self.inside.right.state new r.link.rounds r kept.ran in
+    let idle = idle-from r.left r.link out (sym c.are_idle.ensures ∙ c.if-are_idle.true) in
+    let m = after.link.rounds - r.link.rounds in
+    let rounds : after.link.rounds ≡ r.link.rounds + m = omega (arith, c.in_err-pass.ensures.some) in
+    let p = err_from_is_err_and c.from_residual.result c.from_residual.ensures.1 in
+    rw (p.1) (cut-then f r after kept.ran m rounds (c.in_err-pass.ensures.ring r.left idle) kept.gathered f.link.terms.rounds
+    (omega (arith, c.in_err-pass.ensures.few, ap (λ (t : Terms). t.rounds) kept.terms)) (c.in_err-pass.ensures.bytes r.left idle))
+
+pub outcome_after-requires-2 : goal.outcome_after-requires-2
+outcome_after-requires-2 g c =
+    acknowledged-few c.args.self c.self.inside.link.terms c.self.inside.left.state c.self.inside.right.state (sym c.self.view_is ∙ c.self.invariant.first) c.loop-right.link.rounds
+    (record { left = c.loop-right.left; link = c.loop-right.link; right = c.loop-right.right.state }) c.loop-right.invariant.ran
+
+pub returns-clause-outcome : goal.returns-clause-outcome
+returns-clause-outcome g c =
+    let kept = c.loop-right.invariant in
+    let f = c.args.self in
+    let r : Ring = record { left = c.loop-right.left; link = c.loop-right.link; right = c.loop-right.right.state } in
+    let is = c.outcome_after-2.ensures in
+    let more = ltb-false c.loop-right.link.rounds c.loop-right.link.terms.rounds (sym c.loop-right-test.ensures.more) in
+    let end : c.loop-right.link.rounds ≡ f.link.terms.rounds = omega (arith, kept.few, more, ap (λ (t : Terms). t.rounds) kept.terms) in
+    outcome-is f c.self.inside.link.terms c.self.inside.left.state c.self.inside.right.state (sym c.self.view_is ∙ c.self.invariant.first) c.loop-right.link.rounds
+    r kept.ran c.outcome_after-2.result is.rounds is.sent is.delivered is.acknowledged (is.end ∙ end-left _ _ _ c.stop-2.ensures c.unwrap_or-end.ensures)
+    ∙ ap (λ n. outcome_of (run n f)) end

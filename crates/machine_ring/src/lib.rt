@@ -1,0 +1,21 @@
+// The rounds of a ring: what its left machine writes to the console goes over the link, and is typed at its right machine.
+#![tactic(auto)]
+
+pub mod flights;
+mod idle;
+pub mod laws;
+mod left;
+mod links;
+pub mod outcomes;
+mod right;
+pub mod rings;
+mod runs;
+mod start;
+pub mod terms;
+
+pub use outcomes::RingOutcome;
+pub use rings::Ring;
+pub use tripos_machine::BootEnd as RingBoot;
+
+// Shown to the crates above.
+pub use ring_link::{RingInput, read_ring};

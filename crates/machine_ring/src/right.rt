@@ -1,0 +1,62 @@
+// The right machine, at which bytes are typed.
+ghost use Rattle.std.specs.Prelude.{◌≡◌, ◌≤◌, None, true};
+ghost use Rattle.tp_io.specs.Pending.{Gathers};
+ghost use Rattle.tp_io.specs.Write.{HasCause};
+ghost use Rattle.tripos_machine.specs.KernelCalls.KernelModel.Ranges.{most_steps};
+ghost use Rattle.tripos_machine.specs.State.{stop_of};
+ghost use Rattle.machine_ring.specs.Rounds.{has_room, right_after, shown_by, typed};
+
+use crate::left::can_step;
+use tp_io::{Output, Sink, SinkFault, gather};
+use tripos_machine::{Machine, NoLog, Parts};
+
+/// The place of the last byte that may be typed ahead.
+const LAST_PLACE: u32 = 127;
+
+/// Whether there is room for a byte more that is typed ahead. A machine without a kernel has no room.
+pub(crate) fn has_room(machine: &Machine) -> bool
+    ensures { result ≡ has_room machine.now.state }
+{
+    match machine.kernel_parts() {
+        Some(parts) => parts.tty.at(LAST_PLACE).is_none(),
+        None => false,
+    }
+}
+
+/// The machine, at which a byte was typed. Its parts are moved out and in again, and none of them is looked through.
+pub(crate) fn typed(machine: Machine, byte: u8) -> Machine
+    requires room { has_room machine.state ≡ true }
+    requires goes { stop_of machine.state ≡ None }
+    ensures { result.state ≡ typed byte machine.state }
+{
+    match machine.into_parts() {
+        Parts::Full(mut parts) => {
+            parts.tty.enter(byte);
+            Machine::from_parts(Parts::Full(parts))
+        }
+        Parts::Bare(parts) => Machine::from_parts(Parts::Bare(parts)),
+    }
+}
+
+/// Takes a step where the machine has neither stopped nor taken so many steps, and gathers its console bytes.
+pub(crate) fn step<K: Sink>(
+    machine: &mut Machine,
+    most: u64,
+    out: &mut K,
+    pending: &mut Output,
+) -> Result<(), SinkFault>
+    requires { most ≤ most_steps }
+    ensures state { machine.new.state ≡ right_after most machine.old.state }
+    ensures bytes { Gathers (K.holds out.old) (K.holds out.new) pending.old pending.new
+        (shown_by most machine.old.state) result }
+    ensures cause { HasCause (K.faults out.old) (K.faults out.new) result }
+{
+    if !can_step(machine, most) {
+        return Ok(());
+    }
+    machine.step(&mut NoLog);
+    if machine.output().is_empty() {
+        return Ok(());
+    }
+    gather(out, pending, machine.output())
+}

@@ -1,0 +1,77 @@
+// The rounds of a ring, one after another.
+ghost use Rattle.std.specs.Prelude.{◌≡◌, ◌<◌, ◌≤◌, IfOk, Option, slice_get, ℕ};
+ghost use Rattle.tp_io.specs.Pending.{Gathers};
+ghost use Rattle.tp_io.specs.Write.{HasCause};
+ghost use Rattle.tripos_machine.specs.KernelCalls.KernelModel.Ranges.{most_steps};
+ghost use Rattle.machine_ring.specs.Links.{carried, carried_byte, carries_back};
+ghost use Rattle.machine_ring.specs.Outcomes.{outcome_of};
+ghost use Rattle.machine_ring.specs.Rounds.{after_answer, after_step};
+ghost use Rattle.machine_ring.specs.Runs.{run};
+
+use crate::Ring;
+use crate::idle::{are_idle, pass};
+use crate::left::LeftEnd;
+use crate::links::LinkParts;
+use crate::outcomes::{RingOutcome, outcome_after};
+use crate::right::{has_room, step, typed};
+use tp_io::{Output, Sink, SinkFault};
+use tripos_machine::Stop;
+
+impl Ring {
+    /// Takes all rounds, or those up to the one in which the right machine stops, and gathers its console bytes. `SinkFault` comes only
+    /// where the sink's count of faults rose; then the sink has a prefix of what was pending, and of these bytes. No memory is taken.
+    /// Rounds in which the right machine alone may act are its steps, and those in which nobody may are only counted.
+    pub fn run<K: Sink>(self, out: &mut K, pending: &mut Output) -> Result<RingOutcome, SinkFault>
+        ensures outcome { IfOk result (λ o. o ≡ outcome_of (run self.link.terms.rounds self)) }
+        ensures bytes { Gathers (K.holds out.old) (K.holds out.new) pending.old pending.new
+            (run self.link.terms.rounds self).shown result }
+        ensures cause { HasCause (K.faults out.old) (K.faults out.new) result }
+    {
+        let Ring {
+            mut left,
+            mut link,
+            mut right,
+        } = self;
+        while link.goes_on() {
+            match right.stop() {
+                Some(stop) => return Ok(outcome_after(&left, &link, stop)),
+                None => {}
+            }
+            if are_idle(&left, &link) {
+                pass(&mut link, &mut right, out, pending)?;
+                continue;
+            }
+            match carry(&mut left, &mut link, has_room(&right)) {
+                Some(byte) => right = typed(right, byte),
+                None => {}
+            }
+            step(&mut right, link.right_steps(), out, pending)?;
+        }
+        let end = right.stop().unwrap_or(Stop::Steps);
+        Ok(outcome_after(&left, &link, end))
+    }
+}
+
+// The left machine takes a step, and the link has a round, with room for a byte at its other end or not. The answer is the byte that it
+// takes there.
+fn carry(left: &mut LeftEnd, link: &mut LinkParts, room: bool) -> Option<u8>
+    requires going { link.old.rounds < link.old.terms.rounds }
+    requires steps { link.old.terms.left_steps ≤ most_steps }
+    ensures left { (first : Option ℕ)
+        → first ≡ slice_get (after_step link.old.terms.left_steps left.old).waiting 0
+        → left.new ≡ after_answer (carries_back first room link.old)
+        (after_step link.old.terms.left_steps left.old) }
+    ensures link { (first : Option ℕ)
+        → first ≡ slice_get (after_step link.old.terms.left_steps left.old).waiting 0
+        → link.new ≡ carried first room link.old }
+    ensures byte { (first : Option ℕ)
+        → first ≡ slice_get (after_step link.old.terms.left_steps left.old).waiting 0
+        → result ≡ carried_byte first room link.old }
+{
+    left.step(link.left_steps());
+    let carried = link.carry(left.first(), room);
+    if carried.acknowledged {
+        left.drop_first();
+    }
+    carried.byte
+}

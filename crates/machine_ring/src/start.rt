@@ -1,0 +1,91 @@
+// The machines of a ring are booted.
+ghost use Rattle.std.specs.Prelude.{◌≡◌, IfOk};
+ghost use Rattle.ring_link.specs.LawfulRing.{IsLawfulRing};
+ghost use Rattle.ring_link.specs.Machines.{behind};
+ghost use Rattle.session_text.specs.Canonical.{IsLawful};
+ghost use Rattle.tripos_machine.specs.Boot.{boot};
+ghost use Rattle.tripos_machine.specs.Machine.{BootsAs};
+ghost use Rattle.machine_ring.specs.Boot.{BootsRing, IsBehind, booted_ring};
+ghost use Rattle.machine_ring.specs.Rings.{terms_of};
+
+use crate::left::LeftEnd;
+use crate::links::LinkParts;
+use crate::terms::Terms;
+use crate::{Ring, RingBoot};
+use ring_link::RingInput;
+use session_text::{Bytes, Session};
+use std::alloc::Global;
+use tp_io::WantMemory;
+use tripos_machine::{BootEnd, Machine, boot};
+
+impl Ring {
+    /// The ring of an input before its first round. The left machine boots first, and then the right one. `Line` comes exactly where a
+    /// line of a session is refused, with its number in the whole input and the code of `boot`. All memory is taken here; `WantMemory`
+    /// comes only where it could not be had.
+    #[tactic(auto, unfolding(crate::specs::Boot::booted_ring))]
+    pub fn new(alloc: Global, input: &RingInput) -> Result<Ring, RingBoot>
+        requires { IsLawfulRing input.now }
+        ensures { BootsRing result (booted_ring input.now) }
+    {
+        let left = boot_behind(alloc, input.left_line, &input.left)?;
+        let right = boot_behind(alloc, input.right_line, &input.right)?;
+        let Ok(terms) = terms_of(alloc, input) else {
+            return Err(RingBoot::WantMemory);
+        };
+        let Ok(left) = LeftEnd::new(alloc, left) else {
+            return Err(RingBoot::WantMemory);
+        };
+        let Ok(link) = LinkParts::new(alloc, terms) else {
+            return Err(RingBoot::WantMemory);
+        };
+        Ok(Ring { left, link, right })
+    }
+}
+
+// The machine of a session whose lines stand behind so many others.
+fn boot_behind(alloc: Global, before: u32, session: &Session) -> Result<Machine, BootEnd>
+    requires { IsLawful session.now }
+    ensures { BootsAs result (behind before (boot session.now)) }
+{
+    match boot(alloc, session) {
+        Ok(machine) => Ok(machine),
+        Err(end) => Err(end_behind(before, end)),
+    }
+}
+
+// Why a session does not boot, with the line in the whole. The numbers of an input's lines have 32 bits; for one that had more the
+// answer would be `WantMemory`.
+fn end_behind(before: u32, end: BootEnd) -> BootEnd
+    ensures { IsBehind before end result }
+{
+    let BootEnd::Line { line, code } = end else {
+        return BootEnd::WantMemory;
+    };
+    match before.checked_add(line) {
+        Some(line) => BootEnd::Line { line, code },
+        None => BootEnd::WantMemory,
+    }
+}
+
+// What is set for the ring of an input.
+fn terms_of(alloc: Global, input: &RingInput) -> Result<Terms, WantMemory>
+    ensures { IfOk result (λ terms. terms ≡ terms_of input.now) }
+{
+    Ok(Terms {
+        rounds: input.rounds,
+        wait: input.wait,
+        link: copy_of(alloc, &input.link)?,
+        acks: copy_of(alloc, &input.acks)?,
+        left_steps: input.left.go,
+        right_steps: input.right.go,
+    })
+}
+
+fn copy_of(alloc: Global, letters: &Bytes) -> Result<Bytes, WantMemory>
+    ensures { IfOk result (λ copy. copy ≡ letters.now) }
+{
+    match Vec::from_slice(alloc, letters.as_slice()) {
+        Ok(copy) => Ok(Bytes::new(copy)),
+        Err(_) => Err(WantMemory),
+    }
+}
