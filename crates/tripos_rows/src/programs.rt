@@ -18,6 +18,19 @@ const TYPED_RUN: &[u8] =
 // Writes a letter at every second step from the fifth on.
 const LETTERS: &[u8] = b"TRIPOS 1\nSTORE 1024\nBARE\n:6013a0036041a00491bafe\nGO 20004\n";
 
+// Before it writes its letter.
+const STARTED: &[u8] = b"TRIPOS 1\nSTORE 1024\nBARE\n:6013a0036041a004916000a003a00491\nGO 4\n";
+
+const SAVED: &[u8] =
+    b"TRIPOS-IMAGE 1\nSTORE 1024\nBARE\nSTEP 4\nREGS 65 19 0 100 20 808\nW 103 00000013\nW 104 00000041\nW 200 03a01360\nW 201 04a04160\nW 202 a0006091\nW 203 9104a003\nGO 4\n";
+
+const RESUMED: &[u8] = b"A\n* stopped after 4 steps: steps\n";
+
+const RING: &[u8] =
+    b"RING 20 4\nLINK :D\nACKS :D\nLEFT\nTRIPOS 1\nSTORE 1024\nBARE\n:6013a0036041a004916000a003a00491\nGO 100\nRIGHT\nTRIPOS 1\nSTORE 1024\nTICK 10\nGO 100\n";
+
+const ROUNDS: &[u8] = b"\n* ring after 20 rounds: sent 1 delivered 1 acknowledged 1\n";
+
 const USAGE: &[u8] =
     b"* usage: tripos run, dump, trace, asm, disasm, debug, save, resume, ring or gen N\n";
 
@@ -33,15 +46,27 @@ fn words_of<R: Abort + AllocGlobal>(rt: &R, words: &[&str]) -> Result<Vec<String
 fn tells_faults_of_source_and_sink(rt: HostRuntime) -> Result<(), Fail> {
     let front = [b'A'; 8192];
     let command = ["run"].as_slice();
+    let save = ["save"].as_slice();
+    let resume = ["resume"].as_slice();
+    let ring = ["ring"].as_slice();
     let other = ["run", "x"].as_slice();
     // The words and the input, the read and the write that fail, the status and the bytes written.
-    let rows: [(&[&str], &[u8], u32, u32, Status, &[u8]); 8] = [
+    let rows: [(&[&str], &[u8], u32, u32, Status, &[u8]); 17] = [
         (command, TYPED, 0, 2, Status::Done, TYPED_RUN),
         (command, TYPED, 1, 0, Status::ReadFault, b""),
         (command, TYPED, 2, 0, Status::ReadFault, b""),
         (command, TYPED, 0, 1, Status::WriteFault, b""),
         (command, LETTERS, 0, 2, Status::WriteFault, &front),
         (command, b"", 0, 1, Status::WriteFault, b""),
+        (save, STARTED, 0, 2, Status::Done, SAVED),
+        (save, STARTED, 1, 0, Status::ReadFault, b""),
+        (save, STARTED, 0, 1, Status::WriteFault, b""),
+        (resume, SAVED, 0, 2, Status::Done, RESUMED),
+        (resume, SAVED, 1, 0, Status::ReadFault, b""),
+        (resume, SAVED, 0, 1, Status::WriteFault, b""),
+        (ring, RING, 0, 2, Status::Done, ROUNDS),
+        (ring, RING, 1, 0, Status::ReadFault, b""),
+        (ring, RING, 0, 1, Status::WriteFault, b""),
         (other, LETTER, 1, 0, Status::Usage, USAGE),
         (other, LETTER, 1, 1, Status::WriteFault, b""),
     ];

@@ -1,7 +1,7 @@
 -- Answers, from what was read, run and written.
 use Rattle.std.proofs.Common.{◌≡◌, ◌∙◌, ℕ, ◌≤◌, ◌<◌, ◌+◌, Option, None, Some, Result, Ok, Err, List, [], ◌++◌, length, refl, sym, ap, subst, arith, append-nil, length-append}
 use Rattle.std.specs.Prelude.{is_ok, if◌then◌else◌}
-use Rattle.std.proofs.lemmas.Bool.Decides.{nat_tests}
+use Rattle.std.proofs.lemmas.Bool.{le-leb, lt-leb}
 use Rattle.std.specs.Io.KnownBytes.{Appends, Consumes, IsAtEnd, Keeps}
 use Rattle.std.proofs.KnownBytes.{Keeps-refl}
 use Rattle.tp_io.specs.Write.{AppendsPrefix, Prints}
@@ -20,8 +20,9 @@ use Rattle.tripos_run.specs.declared.reports.Report.TheVariants.{Sums}
 use Rattle.tripos_run.specs.declared.status.Status.{Status}
 use Rattle.tripos_run.specs.declared.status.Status.TheVariants.{Done, GuestFault, Usage, Refused, NoBoot, ReadFault, WriteFault, TooLong, WantMemory}
 use Rattle.tripos_run.specs.Texts.{closing_text, no_boot_text, refused_text, too_long_text, usage_text}
-use Rattle.tripos_run.specs.Answer.{Answer, Answers, AreEnd, RunEnd, closed_answer, generated_answer, input_answer, job_answer, limit, no_boot_answer, refused_answer, session_answer, status_of, text_answer, words_text}
+use Rattle.tripos_run.specs.Answer.{Answer, Answers, AreEnd, RunEnd, closed_answer, no_boot_answer, refused_answer, session_answer, status_of, words_text}
 use Rattle.tripos_run.specs.Input.{IsInput, IsMachineEnd}
+use Rattle.tripos_run.specs.InputAnswers.{Answered, IsAnswerWithin, IsInputAnswer, IsJobAnswer, IsTextAnswer, generated_answer, limit, too_long_answer, usage_answer}
 
 -- the status of a call that has printed its text
 abbrev pub status_after : {T E : Type 0} → Result T E → Status → Status
@@ -33,7 +34,7 @@ Answers-stop a h k (Quit code) e p = (e, p)
 Answers-stop a h k Finish e p = (e, p)
 Answers-stop a h k (Fault code address task) e p = (e, p)
 
-Answers-run_text : {T E : Type 0} (a : Answer) (h k : Option (List ℕ)) (stop : Stop) (written : Result T E) → a.status ≡ status_of stop → Prints h k a.bytes written → Answers a h k (status_after written (status_of stop))
+pub Answers-run_text : {T E : Type 0} (a : Answer) (h k : Option (List ℕ)) (stop : Stop) (written : Result T E) → a.status ≡ status_of stop → Prints h k a.bytes written → Answers a h k (status_after written (status_of stop))
 Answers-run_text a h k stop (Ok t) e p = Answers-stop a h k stop e p
 Answers-run_text a h k stop (Err d) e p = p
 
@@ -98,13 +99,37 @@ module _ (report : Report) (x : RunEnd) (before : List ℕ) where
       on TooLong e b = absurd e
       on WantMemory e b = absurd e
 
-input_answer-short : (command : Command) (input : List ℕ) → length input ≤ limit → input_answer command input ≡ text_answer command input
-unfolding input_answer
-input_answer-short command input h = grind (arith, nat_tests)
+-- an answer of a kind was given
+pub Answered-by : (IsIt : Answer → Type 0) (a : Answer) → IsIt a → (h k : Option (List ℕ)) (s : Status) → Answers a h k s → Answered IsIt h k s
+Answered-by IsIt a is h k Done x = (a, is, x)
+Answered-by IsIt a is h k GuestFault x = (a, is, x)
+Answered-by IsIt a is h k Usage x = (a, is, x)
+Answered-by IsIt a is h k Refused x = (a, is, x)
+Answered-by IsIt a is h k NoBoot x = (a, is, x)
+Answered-by IsIt a is h k TooLong x = (a, is, x)
+Answered-by IsIt a is h k WriteFault x = (a, is, x)
+Answered-by IsIt a is h k ReadFault x = x
+Answered-by IsIt a is h k WantMemory x = x
 
-input_answer-long : (command : Command) (input : List ℕ) → limit < length input → input_answer command input ≡ record { status = TooLong; bytes = too_long_text }
-unfolding input_answer
-input_answer-long command input h = grind (arith, nat_tests)
+-- and so one of each kind that has all of these
+pub Answered-as : (IsIt IsThat : Answer → Type 0) → ((a : Answer) → IsIt a → IsThat a) → (h k : Option (List ℕ)) (s : Status) → Answered IsIt h k s → Answered IsThat h k s
+Answered-as IsIt IsThat f h k Done x = (x.0, f x.0 x.1, x.2)
+Answered-as IsIt IsThat f h k GuestFault x = (x.0, f x.0 x.1, x.2)
+Answered-as IsIt IsThat f h k Usage x = (x.0, f x.0 x.1, x.2)
+Answered-as IsIt IsThat f h k Refused x = (x.0, f x.0 x.1, x.2)
+Answered-as IsIt IsThat f h k NoBoot x = (x.0, f x.0 x.1, x.2)
+Answered-as IsIt IsThat f h k TooLong x = (x.0, f x.0 x.1, x.2)
+Answered-as IsIt IsThat f h k WriteFault x = (x.0, f x.0 x.1, x.2)
+Answered-as IsIt IsThat f h k ReadFault x = x
+Answered-as IsIt IsThat f h k WantMemory x = x
+
+IsInputAnswer-short : (command : Command) (input : List ℕ) → length input ≤ limit → (a : Answer) → IsTextAnswer command input a → IsInputAnswer command input a
+unfolding IsInputAnswer
+IsInputAnswer-short command input h a is = subst (λ b. IsAnswerWithin b command input a) (sym (le-leb (length input) limit h)) is
+
+IsInputAnswer-long : (command : Command) (input : List ℕ) → limit < length input → IsInputAnswer command input too_long_answer
+unfolding IsInputAnswer
+IsInputAnswer-long command input h = subst (λ b. IsAnswerWithin b command input too_long_answer) (sym (lt-leb (length input) limit h)) refl
 
 -- some input there is, whatever the source tells
 IsInput-some : (left : Option (List ℕ)) → (input : List ℕ) × IsInput left input
@@ -119,12 +144,12 @@ Answers-usage_text : {T E : Type 0} (a : Answer) (h k : Option (List ℕ)) (writ
 Answers-usage_text a h k (Ok t) e p = (e, p)
 Answers-usage_text a h k (Err d) e p = p
 
-pub Answers-usage : {T E : Type 0} (job : Option Job) (left h k : Option (List ℕ)) (written : Result T E) → job ≡ None → Prints h k usage_text written → (input : List ℕ) × IsInput left input × Answers (job_answer job input) h k (status_after written Usage)
+pub Answers-usage : {T E : Type 0} (job : Option Job) (left h k : Option (List ℕ)) (written : Result T E) → job ≡ None → Prints h k usage_text written → (input : List ℕ) × IsInput left input × Answered (IsJobAnswer job input) h k (status_after written Usage)
 Answers-usage job left h k written is p =
     let some = IsInput-some left in
-    (some.0, some.1, rw is (Answers-usage_text (record { status = Usage; bytes = usage_text }) h k written refl p))
+    (some.0, some.1, rw is (Answered-by (λ a. a ≡ usage_answer) usage_answer refl h k (status_after written Usage) (Answers-usage_text usage_answer h k written refl p)))
 
-Answers-too_long_text : {T E : Type 0} (h k : Option (List ℕ)) (written : Result T E) → Prints h k too_long_text written → Answers (record { status = TooLong; bytes = too_long_text }) h k (status_after written TooLong)
+Answers-too_long_text : {T E : Type 0} (h k : Option (List ℕ)) (written : Result T E) → Prints h k too_long_text written → Answers too_long_answer h k (status_after written TooLong)
 Answers-too_long_text h k (Ok t) p = (refl, p)
 Answers-too_long_text h k (Err d) p = p
 
@@ -134,10 +159,10 @@ IsInput-long (Some xs) None items c l = absurd c
 IsInput-long (Some xs) (Some ys) items c l = (xs, refl, omega (arith, ap length c, length-append items ys))
 
 pub Answers-too_long : {T E : Type 0} (command : Command) (left left' : Option (List ℕ)) (items : List ℕ) (h k : Option (List ℕ)) (written : Result T E) → Consumes left left' items → length items ≡ limit + 1
-    → Prints h k too_long_text written → (input : List ℕ) × IsInput left input × Answers (input_answer command input) h k (status_after written TooLong)
+    → Prints h k too_long_text written → (input : List ℕ) × IsInput left input × Answered (IsInputAnswer command input) h k (status_after written TooLong)
 Answers-too_long command left left' items h k written c l p =
     let long = IsInput-long left left' items c l in
-    (long.0, long.1, rw (input_answer-long command long.0 long.2) (Answers-too_long_text h k written p))
+    (long.0, long.1, Answered-by (IsInputAnswer command long.0) too_long_answer (IsInputAnswer-long command long.0 long.2) h k (status_after written TooLong) (Answers-too_long_text h k written p))
 
 -- all that was taken is all that was left
 IsInput-whole : (left left' : Option (List ℕ)) (items : List ℕ) → Consumes left left' items → IsAtEnd left' → IsInput left items
@@ -146,15 +171,15 @@ IsInput-whole (Some xs) None items c e = absurd c
 IsInput-whole (Some xs) (Some ys) items c e = sym (c ∙ ap (λ v. items ++ v) e ∙ append-nil items)
 
 pub Answers-text : (command : Command) (left left' : Option (List ℕ)) (items text : List ℕ) (h k : Option (List ℕ)) (s : Status) → Consumes left left' items → IsAtEnd left' → length items ≤ limit → text ≡ items
-    → Answers (text_answer command text) h k s → (input : List ℕ) × IsInput left input × Answers (input_answer command input) h k s
+    → Answered (IsTextAnswer command text) h k s → (input : List ℕ) × IsInput left input × Answered (IsInputAnswer command input) h k s
 Answers-text command left left' items text h k s c e short same a =
-    (items, IsInput-whole left left' items c e, rw (input_answer-short command items short, ← same) a)
+    (items, IsInput-whole left left' items c e, Answered-as (IsTextAnswer command items) (IsInputAnswer command items) (IsInputAnswer-short command items short) h k s (rw (← same) a))
 
 -- a job's answer to an input, where the job is known
-pub Answers-job : {job other : Option Job} (left h k : Option (List ℕ)) (s : Status) → job ≡ other → (input : List ℕ) × IsInput left input × Answers (job_answer other input) h k s
-    → (input : List ℕ) × IsInput left input × Answers (job_answer job input) h k s
+pub Answers-job : {job other : Option Job} (left h k : Option (List ℕ)) (s : Status) → job ≡ other → (input : List ℕ) × IsInput left input × Answered (IsJobAnswer other input) h k s
+    → (input : List ℕ) × IsInput left input × Answered (IsJobAnswer job input) h k s
 Answers-job left h k s is x = (x.0, x.1, rw is x.2)
 
 -- an answer that no input changes
-pub Answers-any : (a : Answer) (left h k : Option (List ℕ)) (s : Status) → Answers a h k s → (input : List ℕ) × IsInput left input × Answers a h k s
-Answers-any a left h k s x = let some = IsInput-some left in (some.0, some.1, x)
+pub Answers-any : (a : Answer) (left h k : Option (List ℕ)) (s : Status) → Answers a h k s → (input : List ℕ) × IsInput left input × Answered (λ b. b ≡ a) h k s
+Answers-any a left h k s x = let some = IsInput-some left in (some.0, some.1, Answered-by (λ b. b ≡ a) a refl h k s x)

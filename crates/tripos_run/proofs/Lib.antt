@@ -2,3 +2,5 @@ pub mod DumpLines
 pub mod AnswerParts
 pub mod FrontPlace
 pub mod NotedRuns
+pub mod OneAnswer
+pub mod ContinuedRuns

@@ -1,27 +1,17 @@
 -- The program's answer to its words and its input: a status, and the bytes that it writes.
-use Rattle.std.specs.Prelude.{ℕ, ◌≡◌, ◌+◌, ◌^◌, drop, List, [], ◌∷◌, ◌++◌, length, codes, Option, Some, None, Result, Ok, Err, nat_le, nat_lt, if◌then◌else◌}
-use Rattle.std.specs.Option.{option_and_then, option_map}
-use Rattle.std.specs.Str.{bytes_eq}
+use Rattle.std.specs.Prelude.{ℕ, ◌≡◌, ◌+◌, ◌-◌, drop, List, [], ◌++◌, length, Option, Some, None, Result, Ok, Err, if◌then◌else◌}
 use Rattle.std.specs.Io.KnownBytes.{Appends, Keeps}
 use Rattle.tp_io.specs.Write.{AppendsPrefix}
-use Rattle.hunk_text.specs.TextReader.Numbers.{number_of}
 use Rattle.hunk_text.specs.TextReader.Lines.{lines_of as text_lines}
 use Rattle.hunk_text.specs.TextReader.Refusal.{Refusal, refusal}
-use Rattle.hunk_text.specs.ModuleOfText.{module_of}
 use Rattle.hunk_text.specs.declared.modules.Module.{Module}
-use Rattle.listing_law.specs.CintAsm.Assembly.{assembled}
 use Rattle.listing_law.specs.CintDisasm.HunkListing.{listing_of_module}
 use Rattle.session_text.specs.Front.{front_end, front_lines}
-use Rattle.session_text.specs.SessionOfText.{session_lines, session_of}
+use Rattle.session_text.specs.SessionOfText.{session_lines}
 use Rattle.session_text.specs.declared.sessions.Session.{Session}
-use Rattle.session_generator.specs.Generated.{generated}
 use Rattle.session_generator.specs.Summary.{summary}
 use Rattle.cint_debug.specs.TriposMachine.KernelCalls.KernelModel.declared.stops.Stop.{Stop}
 use Rattle.cint_debug.specs.TriposMachine.KernelCalls.KernelModel.declared.stops.Stop.TheVariants.{Steps, Quit, Finish, Fault}
-use Rattle.tripos_run.specs.declared.commands.Command.{Command}
-use Rattle.tripos_run.specs.declared.commands.Command.TheVariants.{Run as RunCommand, Dump as DumpCommand, Trace as TraceCommand, Asm as AsmCommand, Disasm as DisasmCommand, Debug as DebugCommand}
-use Rattle.tripos_run.specs.declared.commands.Job.{Job}
-use Rattle.tripos_run.specs.declared.commands.Job.TheVariants.{Answer as AnswerJob, Generate as GenerateJob}
 use Rattle.tripos_run.specs.declared.reports.Report.{Report}
 use Rattle.tripos_run.specs.declared.reports.Report.TheVariants.{Console, Events, Sums, Words}
 use Rattle.tripos_run.specs.declared.status.Status.{Status}
@@ -35,7 +25,7 @@ use Rattle.cint_debug.specs.TriposMachine.Step.{Stepped, quietly, run}
 use Rattle.cint_debug.specs.declared.orders.BadLine.{BadLine}
 use Rattle.cint_debug.specs.Debugged.{Told, debugged}
 use Rattle.cint_debug.specs.OrderLines.{first_bad, goes_back}
-use Rattle.tripos_run.specs.Texts.{closing_text, dump_text, no_boot_text, refused_text, too_long_text, usage_text}
+use Rattle.tripos_run.specs.Texts.{closing_text, dump_text, no_boot_text, refused_text}
 
 pub record Answer : Type 0 where
   -- the exit status
@@ -43,37 +33,7 @@ pub record Answer : Type 0 where
   -- the bytes that are written
   pub bytes : List ℕ
 
--- ---- the words
-
--- the command that a word is, if it is one
-abbrev pub command_named : List ℕ → Option Command
-command_named word =
-    if bytes_eq word (codes "run") then Some RunCommand else
-    if bytes_eq word (codes "dump") then Some DumpCommand else
-    if bytes_eq word (codes "trace") then Some TraceCommand else
-    if bytes_eq word (codes "asm") then Some AsmCommand else
-    if bytes_eq word (codes "disasm") then Some DisasmCommand else
-    if bytes_eq word (codes "debug") then Some DebugCommand else
-    None
-
--- a number of 1 to 10 digits that a machine word can hold
-abbrev pub seed : ℕ → Option ℕ
-seed n = if nat_lt n (2 ^ 32) then Some n else None
-
-abbrev pub generation : List ℕ → List ℕ → Option Job
-generation word number = if bytes_eq word (codes "gen") then option_map GenerateJob (option_and_then seed (number_of number)) else None
-
--- what the words ask for, if they ask for something: a command's word, or `gen` and a number
-abbrev pub job_of : List (List ℕ) → Option Job
-job_of (word ∷ []) = option_map AnswerJob (command_named word)
-job_of (word ∷ number ∷ []) = generation word number
-job_of _ = None
-
 -- ---- runs
-
--- the most bytes of an input
-abbrev pub limit : ℕ
-limit = 67108864
 
 abbrev pub status_of : Stop → Status
 status_of Steps = Done
@@ -112,6 +72,10 @@ end_after before x = record {
   stop = end_of_run (stop_of x.state);
   words = words_of x.state;
 }
+
+-- the run of a machine that had taken some steps before it
+abbrev pub end_since : ℕ → Stepped → RunEnd
+end_since before x = record (end_after [] x) { steps = steps_of x.state - before }
 
 -- what is written of a run before the closing line: its console bytes, a line for each event, or the sums of the console bytes
 abbrev pub text_before : Report → RunEnd → List ℕ
@@ -193,33 +157,6 @@ made_answer (Err r) = refused_answer r
 abbrev pub listed : Result Module Refusal → Result (List ℕ) Refusal
 listed (Ok m) = Ok (listing_of_module m.hunks)
 listed (Err r) = Err r
-
--- `asm` writes the module of an assembly text, `disasm` the listing of a module, `debug` debugs a session, and the others run it
-abbrev pub text_answer : Command → List ℕ → Answer
-text_answer AsmCommand text = made_answer (assembled text)
-text_answer DisasmCommand text = made_answer (listed (module_of text))
-text_answer RunCommand text = session_answer Console (session_of text)
-text_answer DumpCommand text = session_answer Words (session_of text)
-text_answer TraceCommand text = session_answer Events (session_of text)
-text_answer DebugCommand text = debugging_answer text
-
-unfoldable pub input_answer : Command → List ℕ → Answer
-input_answer command input =
-    if nat_le (length input) limit then text_answer command input else
-    record { status = TooLong; bytes = too_long_text }
-
--- the session that a number makes is run, and summed up
-unfoldable pub generated_answer : ℕ → Answer
-generated_answer n = session_answer (Sums (length (generated n))) (session_of (generated n))
-
--- words that ask for nothing get the usage
-abbrev pub job_answer : Option Job → List ℕ → Answer
-job_answer None input = record { status = Usage; bytes = usage_text }
-job_answer (Some (AnswerJob command)) input = input_answer command input
-job_answer (Some (GenerateJob n)) input = generated_answer n
-
-abbrev pub answer : List (List ℕ) → List ℕ → Answer
-answer words input = job_answer (job_of words) input
 
 -- What a call has written where it ends with a status. A fault of the source and want of memory come before anything is
 -- written, a fault of the sink leaves a prefix, and every other status is the answer's.

@@ -6,7 +6,7 @@ use Rattle.tripos_run.specs.declared.commands.Job.{Job}
 use Rattle.tripos_run.specs.declared.commands.Job.TheVariants.{Answer, Generate}
 use Rattle.tripos_run.specs.declared.status.Status.{Status}
 use Rattle.tripos_run.specs.declared.status.Status.TheVariants.{Done, GuestFault, Usage, Refused, NoBoot, ReadFault, WriteFault, TooLong, WantMemory}
-use Rattle.tripos_run.specs.Answer.{limit}
+use Rattle.tripos_run.specs.InputAnswers.{limit}
 
 -- the input is all that the source had left, where it tells
 abbrev pub IsInput : Option (List ℕ) → List ℕ → Type 0

@@ -1,5 +1,9 @@
 pub mod Texts
+pub mod Words
 pub mod Answer
+pub mod SavedAnswers
+pub mod RingAnswers
+pub mod InputAnswers
 pub mod Input
 pub mod Cause
 pub mod Exit

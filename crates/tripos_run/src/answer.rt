@@ -2,14 +2,18 @@
 ghost use Rattle.std.specs.Prelude.{◌≡◌, ◌<◌, ◌^◌, is_ok, if◌then◌else◌, length};
 ghost use Rattle.hunk_text.specs.ModuleOfText.{module_of};
 ghost use Rattle.listing_law.specs.CintAsm.Assembly.{assembled};
-ghost use Rattle.tripos_run.specs.Answer.{Answers, listed, made_answer, text_answer};
+ghost use Rattle.tripos_run.specs.Answer.{Answers, listed, made_answer};
 ghost use Rattle.tripos_run.specs.Cause.{HasFaultCause};
 ghost use Rattle.tripos_run.specs.Input.{IsTextEnd};
+ghost use Rattle.tripos_run.specs.InputAnswers.{Answered, IsTextAnswer};
 
 use crate::commands::Command;
 use crate::debugging::answer_debugging;
 use crate::messages::write_refused;
 use crate::reports::Report;
+use crate::resuming::answer_resuming;
+use crate::rings::answer_ring;
+use crate::saving::answer_saving;
 use crate::session::answer_session_text;
 use crate::status::Status;
 use hunk_text::{HunkEnd, read_module};
@@ -30,7 +34,7 @@ pub fn status_after(end: Result<(), SinkFault>, status: Status) -> Status
 /// Answers a text.
 pub fn answer_text<K: Sink>(alloc: Global, command: Command, text: &[u8], out: &mut K) -> Status
     requires { length text.now < 2 ^ 30 }
-    ensures answer { Answers (text_answer command text.now)
+    ensures answer { Answered (IsTextAnswer command text.now)
         (K.holds out.old) (K.holds out.new) result }
     ensures ends { IsTextEnd result }
     ensures cause { HasFaultCause Status.WriteFault (K.faults out.old) (K.faults out.new) result }
@@ -42,6 +46,9 @@ pub fn answer_text<K: Sink>(alloc: Global, command: Command, text: &[u8], out: &
         Command::Asm => answer_assembly(alloc, text, out),
         Command::Disasm => answer_module(alloc, text, out),
         Command::Debug => answer_debugging(alloc, text, out),
+        Command::Save => answer_saving(alloc, text, out),
+        Command::Resume => answer_resuming(alloc, text, out),
+        Command::Ring => answer_ring(alloc, text, out),
     }
 }
 

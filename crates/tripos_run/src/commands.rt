@@ -1,6 +1,6 @@
 // What the words of the command line ask for.
 ghost use Rattle.std.specs.Prelude.{◌≡◌, map, string_bytes};
-ghost use Rattle.tripos_run.specs.Answer.{command_named, generation, job_of, seed};
+ghost use Rattle.tripos_run.specs.Words.{command_named, generation, job_of, seed};
 
 use hunk_text::number;
 
@@ -28,6 +28,12 @@ pub enum Command {
     Disasm,
     /// Run the session, by the debugger's lines behind it.
     Debug,
+    /// Run the session, and write its machine as a text.
+    Save,
+    /// Go on with the machine of a text.
+    Resume,
+    /// Take the rounds of two machines and the link between them.
+    Ring,
 }
 
 /// What the words ask for, or `None` exactly where they ask for nothing.
@@ -51,6 +57,9 @@ fn command_named(word: &str) -> Option<Command>
         "asm" => Some(Command::Asm),
         "disasm" => Some(Command::Disasm),
         "debug" => Some(Command::Debug),
+        "save" => Some(Command::Save),
+        "resume" => Some(Command::Resume),
+        "ring" => Some(Command::Ring),
         _ => None,
     }
 }

@@ -6,13 +6,18 @@ mod commands;
 mod debugging;
 mod dump;
 mod ends;
+pub mod laws;
 mod machines;
 mod messages;
 pub mod program;
 mod reports;
+mod resuming;
+mod rings;
+mod saving;
 mod session;
 pub mod status;
 
+pub use laws::{answer_law, continued_law};
 pub use program::{run, tripos};
 pub use status::Status;
 

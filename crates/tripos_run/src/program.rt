@@ -1,9 +1,10 @@
 // The program: the words of the command line and an input, to an exit status and the bytes written.
 ghost use Rattle.std.specs.Prelude.{◌≡◌, List, ℕ, map, string_bytes};
-ghost use Rattle.tripos_run.specs.Answer.{Answers, answer, input_answer, job_of};
 ghost use Rattle.tripos_run.specs.Cause.{HasFaultCause};
 ghost use Rattle.tripos_run.specs.Exit.{exit_code};
 ghost use Rattle.tripos_run.specs.Input.{CommandLeaves, IsInput, Leaves};
+ghost use Rattle.tripos_run.specs.InputAnswers.{Answered, IsAnswer, IsInputAnswer};
+ghost use Rattle.tripos_run.specs.Words.{job_of};
 
 use crate::answer::{answer_text, status_after};
 use crate::commands::{Command, Job, job_of};
@@ -25,7 +26,7 @@ pub fn run<R: Read + Drop, W: Write + Drop>(
 ) -> (u8, W)
     ensures { (input : List ℕ) × (status : Status) × IsInput (R.remaining reader) input
         × (result.0 ≡ exit_code status)
-        × Answers (answer (map string_bytes words.now) input)
+        × Answered (IsAnswer (map string_bytes words.now) input)
         (W.contents writer) (W.contents result.1) status }
 {
     let mut src = StdSource::new(reader);
@@ -44,7 +45,7 @@ pub fn tripos<S: Source, K: Sink>(
     // The status and the bytes are those of the answer to the words and the input, which is all that
     // the source had left.
     ensures answer { (input : List ℕ) × IsInput (S.left src.old) input
-        × Answers (answer (map string_bytes words.now) input)
+        × Answered (IsAnswer (map string_bytes words.now) input)
         (K.holds out.old) (K.holds out.new) result }
 
     // The input is read to its end, or to one byte past the limit. Nothing is read where the words
@@ -73,7 +74,7 @@ fn answer_input<S: Source, K: Sink>(
     out: &mut K,
 ) -> Status
     ensures answer { (input : List ℕ) × IsInput (S.left src.old) input
-        × Answers (input_answer command input) (K.holds out.old) (K.holds out.new) result }
+        × Answered (IsInputAnswer command input) (K.holds out.old) (K.holds out.new) result }
     ensures source { CommandLeaves (S.left src.old) (S.left src.new) result }
     ensures read_fault { HasFaultCause Status.ReadFault
         (S.faults src.old) (S.faults src.new) result }

@@ -1,9 +1,10 @@
 // The answer to the text of a session.
 ghost use Rattle.std.specs.Prelude.{◌≡◌, ◌<◌, ◌^◌, length};
 ghost use Rattle.session_text.specs.SessionOfText.{session_of};
-ghost use Rattle.tripos_run.specs.Answer.{Answers, generated_answer, session_answer};
+ghost use Rattle.tripos_run.specs.Answer.{Answers, session_answer};
 ghost use Rattle.tripos_run.specs.Cause.{HasFaultCause};
 ghost use Rattle.tripos_run.specs.Input.{IsTextEnd};
+ghost use Rattle.tripos_run.specs.InputAnswers.{generated_answer};
 
 use crate::answer::status_after;
 use crate::machines::answer_session;

@@ -1,5 +1,5 @@
 use Rattle.std.proofs.Common.{◌∙◌, Some, ap, sym}
-use Rattle.tripos_run.specs.Answer.{generated_answer}
+use Rattle.tripos_run.specs.InputAnswers.{generated_answer}
 use Rattle.tripos_run.proofs.AnswerParts.{Answers-any, Answers-job, Answers-usage}
 use Rattle.tripos_run.proofs.program.tripos.Goals as goal
 

@@ -1,0 +1,31 @@
+use Rattle.std.proofs.Common.{◌≡◌, Result, length, refl, subst, sym}
+use Rattle.hunk_text.specs.TextReader.Answers.{EndsAs}
+use Rattle.hunk_text.specs.TextReader.Lines.{lines_of}
+use Rattle.hunk_text.specs.TextReader.Refusal.{Refusal, refusal}
+use Rattle.image_print.specs.ImageText.ImageOfText.{image_of}
+use Rattle.image_print.specs.ImageText.declared.images.Image.{Image}
+use Rattle.tripos_run.specs.Answer.{refused_answer}
+use Rattle.tripos_run.specs.InputAnswers.{Answered}
+use Rattle.tripos_run.specs.SavedAnswers.{IsResumed, IsResumedImage}
+use Rattle.tripos_run.specs.declared.status.Status.TheVariants.{Refused}
+use Rattle.tripos_run.proofs.AnswerParts.{Answered-by, Answers-refused, status_after}
+use Rattle.tripos_run.proofs.resuming.answer_resuming.Goals as goal
+
+pub returns-in-Ok-clause-answer : goal.returns-in-Ok-clause-answer
+returns-in-Ok-clause-answer g c =
+    let holds = g.K.Sink.holds in
+    let gives = λ (is : _). Answered is (holds c.args.out.now) (holds c.resume_image.new.out) c.resume_image.result in
+    let last = subst (λ n. gives (IsResumedImage n c.in-Ok.read.image)) c.in-Ok.ensures.lines c.resume_image.ensures.answer in
+    subst (λ (x : Result Image Refusal). gives (IsResumed (length (lines_of c.args.text.now)) x)) (sym c.in-Ok.ensures.value) last
+
+pub returns-in-Err-Bad-clause-answer : goal.returns-in-Err-Bad-clause-answer
+returns-in-Err-Bad-clause-answer g c =
+    let r = refusal c.in-Err-Bad.line c.in-Err-Bad.code in
+    let read = subst (λ e. EndsAs e (image_of c.args.text.now)) c.in-Err-Bad.field-0-is c.in-Err-Bad.ensures.value in
+    let holds = g.K.Sink.holds in
+    let refused : Answered (λ a. a ≡ refused_answer r) (holds c.args.out.now) (holds c.write_refused.new.out) c.status_after.result =
+    rw c.status_after.ensures
+    (Answered-by (λ a. a ≡ refused_answer r) (refused_answer r) refl _ _ (status_after c.write_refused.result Refused)
+    (Answers-refused r _ _ c.write_refused.result (rw (← c.in-Err-Bad.line-is, ← c.in-Err-Bad.code-is) c.write_refused.ensures.text)))
+    in
+    subst (λ (x : Result Image Refusal). Answered (IsResumed (length (lines_of c.args.text.now)) x) (holds c.args.out.now) (holds c.write_refused.new.out) c.status_after.result) (sym read) refused

@@ -1,0 +1,11 @@
+use Rattle.std.proofs.Common.{subst}
+use Rattle.hunk_text.specs.TextReader.Answers.{EndsAs}
+use Rattle.hunk_text.specs.TextReader.Refusal.{refusal}
+use Rattle.machine_ring.specs.RingLink.RingOfText.{ring_of}
+use Rattle.tripos_run.proofs.AnswerParts.{Answers-refused}
+use Rattle.tripos_run.proofs.rings.answer_ring.Goals as goal
+
+pub returns-in-Err-Bad-clause-answer : goal.returns-in-Err-Bad-clause-answer
+returns-in-Err-Bad-clause-answer g c =
+    let read = subst (λ e. EndsAs e (ring_of c.args.text.now)) c.in-Err-Bad.field-0-is c.in-Err-Bad.ensures.value in
+    rw (read, c.status_after.ensures) (Answers-refused (refusal c.in-Err-Bad.line c.in-Err-Bad.code) _ _ c.write_refused.result (rw (← c.in-Err-Bad.line-is, ← c.in-Err-Bad.code-is) c.write_refused.ensures.text))

@@ -1,0 +1,85 @@
+-- Which answer the program's words and its input get.
+use Rattle.std.specs.Prelude.{ℕ, ◌≡◌, Bool, true, false, List, length, Option, Some, None, nat_le}
+use Rattle.std.specs.Io.KnownBytes.{Keeps}
+use Rattle.hunk_text.specs.ModuleOfText.{module_of}
+use Rattle.listing_law.specs.CintAsm.Assembly.{assembled}
+use Rattle.session_text.specs.SessionOfText.{session_of}
+use Rattle.session_generator.specs.Generated.{generated}
+use Rattle.tripos_run.specs.Answer.{Answer, Answers, debugging_answer, listed, made_answer, session_answer}
+use Rattle.tripos_run.specs.RingAnswers.{ring_answer}
+use Rattle.tripos_run.specs.SavedAnswers.{IsResumedText, saving_answer}
+use Rattle.tripos_run.specs.Texts.{too_long_text, usage_text}
+use Rattle.tripos_run.specs.Words.{job_of}
+use Rattle.tripos_run.specs.declared.commands.Command.{Command}
+use Rattle.tripos_run.specs.declared.commands.Command.TheVariants.{Run as RunCommand, Dump as DumpCommand, Trace as TraceCommand, Asm as AsmCommand, Disasm as DisasmCommand, Debug as DebugCommand, Save as SaveCommand, Resume as ResumeCommand, Ring as RingCommand}
+use Rattle.tripos_run.specs.declared.commands.Job.{Job}
+use Rattle.tripos_run.specs.declared.commands.Job.TheVariants.{Answer as AnswerJob, Generate as GenerateJob}
+use Rattle.tripos_run.specs.declared.reports.Report.TheVariants.{Console, Events, Sums, Words}
+use Rattle.tripos_run.specs.declared.status.Status.{Status}
+use Rattle.tripos_run.specs.declared.status.Status.TheVariants.{Done, GuestFault, Usage, Refused, NoBoot, ReadFault, WriteFault, TooLong, WantMemory}
+
+-- ---- texts
+
+-- `asm` writes the module of an assembly text, `disasm` the listing of a module, `debug` debugs a session, `save` saves its machine,
+-- `resume` goes on with a saved one, `ring` takes the rounds of two, and the others run a session
+abbrev pub IsTextAnswer : Command → List ℕ → Answer → Type 0
+IsTextAnswer AsmCommand text a = a ≡ made_answer (assembled text)
+IsTextAnswer DisasmCommand text a = a ≡ made_answer (listed (module_of text))
+IsTextAnswer RunCommand text a = a ≡ session_answer Console (session_of text)
+IsTextAnswer DumpCommand text a = a ≡ session_answer Words (session_of text)
+IsTextAnswer TraceCommand text a = a ≡ session_answer Events (session_of text)
+IsTextAnswer DebugCommand text a = a ≡ debugging_answer text
+IsTextAnswer SaveCommand text a = a ≡ saving_answer (session_of text)
+IsTextAnswer ResumeCommand text a = IsResumedText text a
+IsTextAnswer RingCommand text a = a ≡ ring_answer text
+
+-- ---- inputs
+
+-- the most bytes of an input
+abbrev pub limit : ℕ
+limit = 67108864
+
+abbrev pub too_long_answer : Answer
+too_long_answer = record { status = TooLong; bytes = too_long_text }
+
+-- an input that is within the limit is answered as a text
+abbrev pub IsAnswerWithin : Bool → Command → List ℕ → Answer → Type 0
+IsAnswerWithin true command input a = IsTextAnswer command input a
+IsAnswerWithin false command input a = a ≡ too_long_answer
+
+unfoldable pub IsInputAnswer : Command → List ℕ → Answer → Type 0
+IsInputAnswer command input a = IsAnswerWithin (nat_le (length input) limit) command input a
+
+-- ---- words
+
+-- the session that a number makes is run, and summed up
+unfoldable pub generated_answer : ℕ → Answer
+generated_answer n = session_answer (Sums (length (generated n))) (session_of (generated n))
+
+abbrev pub usage_answer : Answer
+usage_answer = record { status = Usage; bytes = usage_text }
+
+-- words that ask for nothing get the usage
+abbrev pub IsJobAnswer : Option Job → List ℕ → Answer → Type 0
+IsJobAnswer None input a = a ≡ usage_answer
+IsJobAnswer (Some (AnswerJob command)) input a = IsInputAnswer command input a
+IsJobAnswer (Some (GenerateJob n)) input a = a ≡ generated_answer n
+
+-- the answer to these words and this input, of which there is one at most
+abbrev pub IsAnswer : List (List ℕ) → List ℕ → Answer → Type 0
+IsAnswer words input a = IsJobAnswer (job_of words) input a
+
+-- ---- what was written
+
+-- A call ended with this status, and wrote what by this status an answer of this kind says. A fault of the source and want of memory
+-- come before it is known which answer it is.
+abbrev pub Answered : (Answer → Type 0) → Option (List ℕ) → Option (List ℕ) → Status → Type 0
+Answered IsIt old new ReadFault = Keeps old new
+Answered IsIt old new WantMemory = Keeps old new
+Answered IsIt old new Done = (a : Answer) × IsIt a × Answers a old new Done
+Answered IsIt old new GuestFault = (a : Answer) × IsIt a × Answers a old new GuestFault
+Answered IsIt old new Usage = (a : Answer) × IsIt a × Answers a old new Usage
+Answered IsIt old new Refused = (a : Answer) × IsIt a × Answers a old new Refused
+Answered IsIt old new NoBoot = (a : Answer) × IsIt a × Answers a old new NoBoot
+Answered IsIt old new TooLong = (a : Answer) × IsIt a × Answers a old new TooLong
+Answered IsIt old new WriteFault = (a : Answer) × IsIt a × Answers a old new WriteFault

@@ -1,0 +1,81 @@
+// The answer to the text of a saved machine.
+ghost use Rattle.std.specs.Prelude.{◌≡◌, ◌<◌, ◌≤◌, ◌+◌, ◌^◌, length};
+ghost use Rattle.cint_debug.specs.TriposMachine.KernelCalls.KernelModel.Ranges.{most_steps};
+ghost use Rattle.cint_debug.specs.TriposMachine.State.{steps_of};
+ghost use Rattle.image_print.specs.ImageText.Canonical.{IsLawful};
+ghost use Rattle.tripos_run.specs.Answer.{Answers};
+ghost use Rattle.tripos_run.specs.Cause.{HasFaultCause};
+ghost use Rattle.tripos_run.specs.Input.{IsMachineEnd, IsTextEnd};
+ghost use Rattle.tripos_run.specs.InputAnswers.{Answered};
+ghost use Rattle.tripos_run.specs.SavedAnswers.{IsResumedImage, IsResumedText, no_machine_code, resumed_answer};
+
+use crate::answer::status_after;
+use crate::ends::{status_of, write_end};
+use crate::messages::write_refused;
+use crate::reports::Report;
+use crate::status::Status;
+use cint_debug::{Machine, NoLog};
+use hunk_text::TextEnd;
+use image_print::{Image, machine_of, read_image};
+use std::alloc::Global;
+use tp_io::{Output, Sink, SinkFault, WantMemory};
+
+/// The code of a text that has the form of a saved machine, and is none.
+const NO_MACHINE: u32 = 10;
+
+/// Goes on with the machine of a text.
+pub(crate) fn answer_resuming<K: Sink>(alloc: Global, text: &[u8], out: &mut K) -> Status
+    requires { length text.now < 2 ^ 32 }
+    ensures answer { Answered (IsResumedText text.now) (K.holds out.old) (K.holds out.new) result }
+    ensures ends { IsTextEnd result }
+    ensures cause { HasFaultCause Status.WriteFault (K.faults out.old) (K.faults out.new) result }
+{
+    match read_image(alloc, text) {
+        Ok(read) => resume_image(alloc, read.image, read.lines, out),
+        Err(TextEnd::Bad { line, code }) => {
+            status_after(write_refused(out, line, code), Status::Refused)
+        }
+        Err(TextEnd::WantMemory) => Status::WantMemory,
+    }
+}
+
+// Goes on with the machine of an image, whose text has so many lines.
+fn resume_image<K: Sink>(alloc: Global, image: Image, last: u32, out: &mut K) -> Status
+    requires { IsLawful image }
+    ensures answer { Answered (IsResumedImage last image) (K.holds out.old) (K.holds out.new) result }
+    ensures ends { IsTextEnd result }
+    ensures cause { HasFaultCause Status.WriteFault (K.faults out.old) (K.faults out.new) result }
+{
+    let go = image.go;
+    match machine_of(alloc, image) {
+        Ok(Some(mut machine)) => resume_machine(&mut machine, go, out),
+        Ok(None) => status_after(write_refused(out, last, NO_MACHINE), Status::Refused),
+        Err(WantMemory) => Status::WantMemory,
+    }
+}
+
+// Runs a machine for so many steps more.
+fn resume_machine<K: Sink>(machine: &mut Machine, go: u64, out: &mut K) -> Status
+    requires { steps_of machine.old.state + go ≤ most_steps }
+    ensures answer { Answers (resumed_answer go machine.old.state)
+        (K.holds out.old) (K.holds out.new) result }
+    ensures ends { IsMachineEnd result }
+    ensures cause { HasFaultCause Status.WriteFault (K.faults out.old) (K.faults out.new) result }
+{
+    let before = machine.steps();
+    let mut pending = Output::new();
+    let stop = match machine.run(go, out, &mut pending, &mut NoLog) {
+        Ok(stop) => stop,
+        Err(SinkFault) => return Status::WriteFault,
+    };
+    let steps = machine.steps() - before;
+    let end = write_end(
+        Report::Console,
+        steps,
+        stop,
+        machine.store(),
+        out,
+        &mut pending,
+    );
+    status_after(end, status_of(stop))
+}

@@ -1,0 +1,112 @@
+// The answer to a session whose machine is saved.
+ghost use Rattle.std.specs.Prelude.{◌≡◌, ◌<◌, ◌≤◌, ◌+◌, ◌^◌, length};
+ghost use Rattle.tp_io.specs.Write.{HasCause, Prints};
+ghost use Rattle.session_text.specs.Canonical.{IsLawful};
+ghost use Rattle.session_text.specs.SessionOfText.{session_of};
+ghost use Rattle.cint_debug.specs.TriposMachine.Boot.{boot};
+ghost use Rattle.cint_debug.specs.TriposMachine.KernelCalls.KernelModel.Ranges.{most_steps};
+ghost use Rattle.cint_debug.specs.TriposMachine.State.{steps_of, stop_of};
+ghost use Rattle.cint_debug.specs.TriposMachine.Step.{run};
+ghost use Rattle.image_print.specs.ImageText.Canonical.{canonical};
+ghost use Rattle.image_print.specs.SavedImage.{saved_image};
+ghost use Rattle.tripos_run.specs.Answer.{Answers};
+ghost use Rattle.tripos_run.specs.Cause.{HasFaultCause};
+ghost use Rattle.tripos_run.specs.Input.{IsMachineEnd, IsTextEnd};
+ghost use Rattle.tripos_run.specs.SavedAnswers.{kept_answer, saved_answer, saving_answer, state_answer};
+ghost use Rattle.tripos_run.specs.Texts.{closing_text};
+
+use crate::answer::status_after;
+use crate::ends::status_of;
+use crate::messages::{gather_closing, write_no_boot, write_refused};
+use crate::status::Status;
+use cint_debug::{BootEnd, Machine, NoLog, Stop, boot};
+use image_print::print_image;
+use session_text::{Session, SessionEnd, read_session};
+use std::alloc::Global;
+use tp_io::{NoSink, Output, Sink, SinkFault, pass_on};
+
+/// Runs a session, and writes the text of its machine.
+pub(crate) fn answer_saving<K: Sink>(alloc: Global, text: &[u8], out: &mut K) -> Status
+    requires { length text.now < 2 ^ 32 }
+    ensures answer { Answers (saving_answer (session_of text.now))
+        (K.holds out.old) (K.holds out.new) result }
+    ensures ends { IsTextEnd result }
+    ensures cause { HasFaultCause Status.WriteFault (K.faults out.old) (K.faults out.new) result }
+{
+    match read_session(alloc, text) {
+        Ok(session) => save_session(alloc, &session, out),
+        Err(SessionEnd::Bad { line, code }) => {
+            status_after(write_refused(out, line, code), Status::Refused)
+        }
+        Err(SessionEnd::WantMemory) => Status::WantMemory,
+    }
+}
+
+// Boots a session, and writes the text of its machine after its steps.
+fn save_session<K: Sink>(alloc: Global, session: &Session, out: &mut K) -> Status
+    requires { IsLawful session.now }
+    ensures answer { Answers (saved_answer session.now (boot session.now))
+        (K.holds out.old) (K.holds out.new) result }
+    ensures ends { IsTextEnd result }
+    ensures cause { HasFaultCause Status.WriteFault (K.faults out.old) (K.faults out.new) result }
+{
+    match boot(alloc, session) {
+        Ok(mut machine) => {
+            run_unheard(&mut machine, session.go);
+            save_machine(&machine, session, out)
+        }
+        Err(BootEnd::Line { line, code }) => {
+            status_after(write_no_boot(out, line, code), Status::NoBoot)
+        }
+        Err(BootEnd::WantMemory) => Status::WantMemory,
+    }
+}
+
+// Runs a machine for so many steps. Its console bytes go nowhere.
+fn run_unheard(machine: &mut Machine, go: u64)
+    requires { steps_of machine.old.state + go ≤ most_steps }
+    ensures { machine.new.state ≡ (run go machine.old.state).state }
+{
+    match machine.run(go, &mut NoSink, &mut Output::new(), &mut NoLog) {
+        Ok(_) => {}
+        Err(SinkFault) => unreachable!(),
+    }
+}
+
+// Writes the text of a machine of the session, or its closing line where it has stopped.
+fn save_machine<K: Sink>(machine: &Machine, session: &Session, out: &mut K) -> Status
+    ensures answer { Answers (state_answer session.now machine.now.state)
+        (K.holds out.old) (K.holds out.new) result }
+    ensures ends { IsMachineEnd result }
+    ensures cause { HasFaultCause Status.WriteFault (K.faults out.old) (K.faults out.new) result }
+{
+    match machine.stop() {
+        None => status_after(write_machine(machine, session, out), Status::Done),
+        Some(stop) => status_after(write_closing(machine.steps(), stop, out), status_of(stop)),
+    }
+}
+
+// Writes the text of a machine of the session.
+fn write_machine<K: Sink>(
+    machine: &Machine,
+    session: &Session,
+    out: &mut K,
+) -> Result<(), SinkFault>
+    ensures text { Prints (K.holds out.old) (K.holds out.new)
+        (canonical (saved_image session.now.version machine.now.state session.now.go)) result }
+    ensures cause { HasCause (K.faults out.old) (K.faults out.new) result }
+{
+    let mut pending = Output::new();
+    print_image(machine, session.version, session.go, out, &mut pending)?;
+    pass_on(out, &mut pending)
+}
+
+// Writes the closing line.
+fn write_closing<K: Sink>(steps: u64, stop: Stop, out: &mut K) -> Result<(), SinkFault>
+    ensures text { Prints (K.holds out.old) (K.holds out.new) (closing_text steps stop) result }
+    ensures cause { HasCause (K.faults out.old) (K.faults out.new) result }
+{
+    let mut pending = Output::new();
+    gather_closing(steps, stop, out, &mut pending)?;
+    pass_on(out, &mut pending)
+}
