@@ -1,0 +1,52 @@
+; Sleeps for two ticks, takes the lock, writes H, and gives the lock back.
+
+GLOBAL 1 start
+start:  LM1             ; the packet is globals 20 to 25: its link is -1
+        SG 20
+        L 2
+        LF sleep
+        K8
+        L 1
+        LF ask
+        K8
+        L 72
+        LF write
+        K8
+        L 2
+        LF ask
+        K8
+        RTN
+
+; Sends the packet with the type in A to the lock, and waits for it.
+ask:    SG 22
+        L5
+        SG 21
+        LLG 20          ; qpkt(packet)
+        SP4
+        L 11
+        SP3
+        SYS
+        L10             ; taskwait()
+        SP3
+        SYS
+        RTN
+
+; Sleeps for as many ticks as are in A.
+sleep:  SG 25
+        LM1             ; the packet goes to the clock
+        SG 21
+        LLG 20
+        SP4
+        L 11
+        SP3
+        SYS
+        L10
+        SP3
+        SYS
+        RTN
+
+write:  SP4
+        L 19
+        SP3
+        SYS
+        RTN
