@@ -1,5 +1,6 @@
 pub mod PartsBeside
 pub mod OneMachine
+pub mod TypedByte
 pub mod LeftParts
 pub mod ServedParts
 pub mod TurnedParts
@@ -11,9 +12,9 @@ pub mod TurnBytes
 pub mod ConsoleBytes
 pub mod MachineStep
 pub mod QuietParts
+pub mod RunParts
 pub mod QuietSpan
 pub mod UncountedSteps
-pub mod RunParts
 pub mod MetBreakpoints
 pub mod PlainSteps
 pub mod Shown

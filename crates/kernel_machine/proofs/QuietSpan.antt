@@ -1,5 +1,5 @@
 -- Steps of which nobody but the running task knows.
-use Rattle.std.proofs.Common.{◌≡◌, ℕ, suc, ◌+◌, ◌/◌, ◌<◌, ◌≤◌, true, None, List, [], length, set, refl, sym, ap, ◌∙◌, subst, arith}
+use Rattle.std.proofs.Common.{◌≡◌, ℕ, zero, suc, ◌+◌, ◌/◌, ◌<◌, ◌≤◌, true, None, List, [], length, set, refl, sym, ap, ◌∙◌, subst, arith}
 use Rattle.kernel_steps.specs.KernelCalls.KernelModel.Ranges.{most_steps}
 use Rattle.word_store.specs.declared.registers.Regs.{Regs}
 use Rattle.cint_exec.specs.Instruction.{instruction}
@@ -27,9 +27,10 @@ use Rattle.kernel_steps.proofs.Runs.{run-more}
 use Rattle.kernel_steps.proofs.StoredWords.{HasStore, store-holds}
 use Rattle.kernel_steps.proofs.QuietDevices.{ticked-store, ticks_to}
 use Rattle.kernel_machine.specs.Machine.{IsWhole, kernel_of}
-use Rattle.kernel_machine.specs.Runs.{HasPassed, IsOnWay, counted}
+use Rattle.kernel_machine.specs.Runs.{AreQuiet, HasPassed, IsOnWay, counted}
 use Rattle.kernel_machine.proofs.LeftParts.{stands-changed}
 use Rattle.kernel_machine.proofs.OneMachine.{stop-of}
+use Rattle.kernel_machine.proofs.RunParts.{are-quiet, none-quiet}
 
 run-zero : (k : Kernel) → run 0 k ≡ quietly k
 unfolding run
@@ -95,6 +96,12 @@ module _ (p : Parts) (w : IsWhole p None) where
   -- nobody runs behind them
   pub idle-behind : (m : ℕ) → now.lists.running ≡ 0 → IsQuietFor m now → (run m now).kernel.lists.running ≡ 0
   idle-behind m none q = ap (λ (x : Stepped). x.kernel.lists.running) (idle-run m (image now) now (valid-ready now w.valid (stop-of p None)) none q) ∙ none
+
+  -- and they show and note nothing
+  pub idle-quiet : (m : ℕ) → now.lists.running ≡ 0 → (0 < m → IsQuietFor m now) → AreQuiet m now
+  idle-quiet zero none q = none-quiet 0 now refl (stop-of p None)
+  idle-quiet (suc m) none q =
+      are-quiet (suc m) now (passed (suc m) now) (idle-run (suc m) (image now) now (valid-ready now w.valid (stop-of p None)) none (q (omega arith))) (stop-of p None)
 
 -- ---- a guest runs
 

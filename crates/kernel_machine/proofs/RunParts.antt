@@ -5,7 +5,7 @@ use Rattle.kernel_steps.specs.KernelCalls.KernelModel.Kernel.{Kernel}
 use Rattle.kernel_steps.specs.KernelCalls.KernelModel.declared.stops.Stop.{Stop}
 use Rattle.kernel_steps.specs.Step.{Stepped, and_then, quietly, run, step}
 use Rattle.kernel_steps.proofs.Runs.{run-more, run-stopped}
-use Rattle.kernel_machine.specs.Runs.{IsQuietButLast}
+use Rattle.kernel_machine.specs.Runs.{AreQuiet, IsQuietButLast}
 
 run-zero : (k : Kernel) → run 0 k ≡ quietly k
 unfolding run
@@ -26,16 +26,22 @@ run-one k =
 pub run-behind : (q : ℕ) (k j : Kernel) → run q k ≡ quietly j → run (q + 1) k ≡ step j
 run-behind q k j quiet = run-more q 1 k ∙ ap (λ (x : Stepped). and_then x (run 1)) quiet ∙ run-one j
 
--- ---- steps of which the last alone may show something
+-- ---- steps that show and note nothing
 
-quiet-but-last : (n : ℕ) (k j : Kernel) → run (n - 1) k ≡ quietly j → j.stop ≡ None → IsQuietButLast n k
-quiet-but-last n k j e goes =
-    let same : (run (n - 1) k).kernel ≡ j = ap (λ (x : Stepped). x.kernel) e in
+pub are-quiet : (n : ℕ) (k j : Kernel) → run n k ≡ quietly j → j.stop ≡ None → AreQuiet n k
+are-quiet n k j e goes =
+    let same : (run n k).kernel ≡ j = ap (λ (x : Stepped). x.kernel) e in
     record { quiet = e ∙ ap quietly (sym same); goes = ap (λ (x : Kernel). x.stop) same ∙ goes }
+
+-- none is taken
+pub none-quiet : (n : ℕ) (k : Kernel) → n ≡ 0 → k.stop ≡ None → AreQuiet n k
+none-quiet n k none goes = are-quiet n k k (ap (λ m. run m k) none ∙ run-zero k) goes
+
+-- ---- steps of which the last alone may show something
 
 -- a step behind quiet ones is the last
 pub last-behind : (q n : ℕ) (k j : Kernel) → n ≡ q + 1 → run q k ≡ quietly j → j.stop ≡ None → IsQuietButLast n k
-last-behind q n k j next quiet goes = (let before : n - 1 ≡ q = omega (arith, next) in quiet-but-last n k j (ap (λ i. run i k) before ∙ quiet) goes)
+last-behind q n k j next quiet goes = (let before : n - 1 ≡ q = omega (arith, next) in are-quiet (n - 1) k j (ap (λ i. run i k) before ∙ quiet) goes)
 
 no-front : {A : Type 0} (xs ys : List A) → xs ++ ys ≡ [] → xs ≡ []
 no-front [] ys e = refl

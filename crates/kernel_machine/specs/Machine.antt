@@ -5,6 +5,7 @@ use Rattle.kernel_steps.specs.KernelCalls.KernelModel.Kernel.{Kernel}
 use Rattle.kernel_steps.specs.KernelCalls.KernelModel.Recovered.{lists_in}
 use Rattle.kernel_steps.specs.KernelCalls.KernelModel.ValidKernel.{IsValid}
 use Rattle.kernel_steps.specs.KernelCalls.KernelModel.declared.stops.Stop.{Stop}
+use Rattle.kernel_steps.specs.KernelDevices.TtyDevice.Typed.{with_typed}
 use Rattle.kernel_machine.specs.declared.parts.Parts.{Parts}
 use Rattle.kernel_machine.specs.Script.{still_to_come}
 use Rattle.kernel_machine.specs.Stands.{Stands}
@@ -33,6 +34,10 @@ kernel_of p stop = record {
   pipes = p.pipes;
   stop = stop;
 }
+
+-- a byte is typed ahead, where there is room
+abbrev pub with_byte_typed : ℕ → Kernel → Kernel
+with_byte_typed byte k = record k { type_ahead = with_typed byte k.type_ahead }
 
 -- the parts stand for this kernel, which is valid, and so for no other one
 pub record IsWhole (p : Parts) (stop : Option Stop) : Type 0 where

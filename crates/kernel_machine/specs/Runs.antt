@@ -22,10 +22,23 @@ pub record HasPassed (n : ℕ) (k : Kernel) (p : Parts) : Type 0 where
   -- and has not stopped
   pub goes : (run n k).kernel.stop ≡ None
 
--- n steps, of which none but the last shows or notes anything, or stops the machine
-pub record IsQuietButLast (n : ℕ) (k : Kernel) : Type 0 where
-  pub quiet : run (n - 1) k ≡ quietly (run (n - 1) k).kernel
-  pub goes : (run (n - 1) k).kernel.stop ≡ None
+-- n steps, of which none shows or notes anything, or stops the machine
+pub record AreQuiet (n : ℕ) (k : Kernel) : Type 0 where
+  -- they show and note nothing
+  pub quiet : run n k ≡ quietly (run n k).kernel
+  -- the machine goes on
+  pub goes : (run n k).kernel.stop ≡ None
+
+-- all but the last are such
+abbrev pub IsQuietButLast : ℕ → Kernel → Type 0
+IsQuietButLast n k = AreQuiet (n - 1) k
+
+-- nobody runs, and no device acts in the next step
+pub record IsIdle (k : Kernel) : Type 0 where
+  -- nobody runs
+  pub nobody : k.lists.running ≡ 0
+  -- no device acts
+  pub quiet : IsQuietFor 1 k
 
 -- the running guest's next instruction is at one of these byte addresses
 abbrev pub is_met : List ℕ → Kernel → Bool

@@ -8,7 +8,7 @@ ghost use Rattle.kernel_steps.specs.KernelCalls.KernelModel.NotedEvents.{NotesAl
 ghost use Rattle.kernel_steps.specs.KernelCalls.KernelModel.ValidKernel.{IsValid};
 ghost use Rattle.kernel_machine.specs.Stands.{Stands};
 ghost use Rattle.kernel_steps.specs.Step.{boot_events, first_events, run_events, step};
-ghost use Rattle.kernel_machine.specs.Machine.{kernel_of};
+ghost use Rattle.kernel_machine.specs.Machine.{kernel_of, with_byte_typed};
 
 use crate::Parts;
 use crate::steps::step_or_stay;
@@ -104,6 +104,15 @@ impl Machine {
     {
         note_residents(&self.parts.store, log);
         note_running(&self.parts.store, log);
+    }
+
+    /// Types a byte ahead. Where 128 bytes are typed ahead it is dropped. Nothing else changes.
+    pub fn type_byte(&mut self, byte: u8)
+        ensures kernel { self.new.kernel ≡ with_byte_typed byte self.old.kernel }
+        ensures output { self.new.output ≡ self.old.output }
+        ensures keys { self.new.keys ≡ self.old.keys }
+    {
+        self.parts.tty.enter(byte);
     }
 
     /// Takes one step, and answers why the machine has stopped, if it has. A machine that has stopped before stays as it is,

@@ -1,14 +1,14 @@
 // Several steps of a machine with a kernel.
-ghost use Rattle.std.specs.Prelude.{◌≡◌, ◌<◌, ◌+◌, ◌≤◌, [], MatchOption, None};
+ghost use Rattle.std.specs.Prelude.{◌≡◌, ◌<◌, ◌+◌, ◌≤◌, [], MatchOption, None, ℕ};
 ghost use Rattle.kernel_steps.specs.KernelCalls.KernelModel.NotedEvents.{NotesAll};
 ghost use Rattle.kernel_steps.specs.KernelCalls.KernelModel.Ranges.{most_steps};
 ghost use Rattle.kernel_steps.specs.Step.{quietly, run};
 ghost use Rattle.kernel_machine.specs.PlainSteps.{IsPlain, IsPlainStep};
-ghost use Rattle.kernel_machine.specs.Runs.{Avoids, IsQuietButLast, is_met};
+ghost use Rattle.kernel_machine.specs.Runs.{AreQuiet, Avoids, IsIdle, IsQuietButLast, is_met};
 
 use crate::machine::Machine;
 use crate::plain_steps::execute_one;
-use crate::spans::pass;
+use crate::spans::{idle_steps, pass};
 use cint_exec::{Places, has_breakpoint};
 use kernel_steps::EventLog;
 use kernel_steps::numbers::FIRST_GUEST;
@@ -40,6 +40,16 @@ impl Machine {
         }
         self.step(log);
         quiet + 1
+    }
+
+    /// For how many steps from here nobody runs and no device acts, on a machine that has not stopped: nothing happens in them but that
+    /// steps and ticks are counted. 0 where somebody runs, and where a device acts in the next step.
+    pub fn idle_steps(&self) -> u64
+        requires goes { self.now.kernel.stop ≡ None }
+        ensures quiet { (n : ℕ) → n ≤ result → AreQuiet n self.now.kernel }
+        ensures some { IsIdle self.now.kernel → 0 < result }
+    {
+        idle_steps(&self.parts)
     }
 
     /// Takes one step of a machine that has not stopped, if nothing happens in it but that the running guest executes an

@@ -7,7 +7,7 @@ ghost use Rattle.kernel_steps.specs.Quiet.{AwaitsTick, ComeAfter, IsQuietFor};
 ghost use Rattle.kernel_steps.specs.Step.{run};
 ghost use Rattle.kernel_machine.specs.Machine.{IsWhole, kernel_of};
 ghost use Rattle.kernel_machine.specs.Script.{still_to_come};
-ghost use Rattle.kernel_machine.specs.Runs.{Avoids, HasNoTick, HasPassed, IsOnWay, ServesNone, counted};
+ghost use Rattle.kernel_machine.specs.Runs.{AreQuiet, Avoids, HasNoTick, HasPassed, IsIdle, IsOnWay, ServesNone, counted};
 
 use crate::Parts;
 use crate::turns::running;
@@ -40,6 +40,21 @@ pub(crate) fn pass(parts: &mut Parts, most: u64, breakpoints: &[u32]) -> u64
         return 0;
     }
     execute(parts, quiet, breakpoints)
+}
+
+/// How many steps there are in which nobody runs and no device acts.
+pub(crate) fn idle_steps(parts: &Parts) -> u64
+    requires { IsWhole parts.now None }
+    ensures quiet { (n : ℕ) → n ≤ result → AreQuiet n (kernel_of parts.now None) }
+    ensures some { IsIdle (kernel_of parts.now None) → 0 < result }
+{
+    if running(&parts.store) != 0 {
+        return 0;
+    }
+    if serves_now(parts) {
+        return 0;
+    }
+    before_key(parts).min(before_return(parts))
 }
 
 /// Whether the output device or the keyboard has a packet to serve.

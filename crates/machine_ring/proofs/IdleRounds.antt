@@ -1,19 +1,21 @@
--- Rounds in which the right machine alone may act are its steps.
-use Rattle.std.proofs.Common.{◌≡◌, ◌≢◌, ℕ, zero, suc, ◌+◌, ◌-◌, ◌<◌, ◌≤◌, ◌++◌, ◌&&◌, Bool, true, false, cond, Option, Some, None, List, [], length, refl, sym, ap, ◌∙◌, arith}
-use Rattle.std.specs.Prelude.{◌==◌, ◌||◌, is_none, not, nat_le, nat_lt, slice_get}
+-- Rounds in which nothing happens but that the two machines take their steps are these steps.
+use Rattle.std.proofs.Common.{◌≡◌, ◌≢◌, ℕ, zero, suc, ◌+◌, ◌-◌, ◌<◌, ◌≤◌, ◌++◌, ◌&&◌, Bool, true, false, cond, Option, Some, None, List, [], ◌∷◌, length, inl, inr, refl, sym, ap, ◌∙◌, subst, arith}
+use Rattle.std.specs.Prelude.{◌==◌, ◌||◌, is_none, nat_le, nat_lt, slice_get}
 use Rattle.std.proofs.lemmas.Bool.{and_parts, eqb-true, lt-ltb, ltb-true}
 use Rattle.std.proofs.lemmas.List.{nil_from_length}
 use Rattle.tripos_machine.specs.KernelCalls.KernelModel.declared.stops.Stop.{Stop}
+use Rattle.tripos_machine.specs.Quiet.{AreQuiet}
 use Rattle.tripos_machine.specs.State.{State, steps_of, stop_of}
 use Rattle.tripos_machine.specs.Step.{Stepped, run as machine_run, step}
 use Rattle.tripos_machine.proofs.StateRuns.{run-more as machine-run-more, run-stopped as machine-run-stopped}
 use Rattle.tripos_machine.proofs.StepSizes.{step-count}
 use Rattle.machine_ring.specs.Flights.{coming, staying}
-use Rattle.machine_ring.specs.IdleRounds.{AreIdle, are_idle, is_done, is_empty, later}
+use Rattle.machine_ring.specs.IdleRounds.{AreIdle, IsStill, is_empty, later, left_after}
 use Rattle.machine_ring.specs.Links.{Link, byte_taken, carried, carried_byte, carries_back, counts_after, is_new, letter_after, listed, received_after, sender_after_answer}
 use Rattle.machine_ring.specs.Rings.{Left, Ring}
-use Rattle.machine_ring.specs.Rounds.{Rounded, after_answer, can_step, has_room, offered_by, right_after, round, shown_by, stepped, with_step, with_typing}
+use Rattle.machine_ring.specs.Rounds.{Rounded, after_answer, after_step, can_step, has_room, left_steps, offered_by, right_after, round, shown_by, with_step, with_typing}
 use Rattle.machine_ring.specs.Runs.{and_then, no_rounds, run}
+use Rattle.machine_ring.proofs.QuietSteps.{can-now, goes-now, machine-bytes, machine-next, machine-none, no-back, quiet-behind, quiet-bytes}
 use Rattle.machine_ring.proofs.RingRuns.{run-next, run-zero}
 
 -- ---- the link
@@ -70,15 +72,6 @@ module _ (k : Link) (room : Bool) where
     rounds = k.rounds + 1;
   }
 
--- ---- tests
-
-nil-of : {P : Type 0} (ps : List P) → (length ps == 0) ≡ true → ps ≡ []
-nil-of ps is = nil_from_length ps (eqb-true (length ps) 0 is)
-
-not-true : (b : Bool) → not b ≡ true → b ≡ false
-not-true true is = sym is
-not-true false is = refl
-
 -- ---- a round
 
 abbrev pub ring-with : Left → Link → State → Ring
@@ -99,31 +92,34 @@ round-by x bytes k s =
       delivered = listed byte;
     }
 
-module _ (x : Left) (k : Link) (idle : AreIdle x k) (s : State) where
-  abbrev still : Left
-  still = record x { waiting = [] }
+-- what waits and what was written, of a left machine of which nothing waits behind its step
+none-offered : (most : ℕ) (x : Left) → (after_step most x).waiting ≡ [] → offered_by most x ≡ []
+none-offered most x none = on (left_steps most x) none
+  where
+    on : (b : Bool) → (cond b (with_step x) x).waiting ≡ [] → cond b (step x.state).bytes [] ≡ []
+    on true none = no-back x.waiting (step x.state).bytes none
+    on false none = refl
 
-  is-still : x ≡ still
-  is-still = λ i. record { state = x.state; waiting = idle.waiting i }
+-- a quiet round: the left machine has taken its step, and nothing waits
+module _ (x y : Left) (k : Link) (s : State) (stepped : after_step k.terms.left_steps x ≡ y) (waiting : y.waiting ≡ []) (outstanding : k.sender.outstanding ≡ None) (packets : k.packets ≡ []) (counts : k.counts ≡ []) where
+  abbrev still : Left
+  still = record y { waiting = [] }
+
+  is-still : y ≡ still
+  is-still = λ i. record { state = y.state; waiting = waiting i }
 
   is-quiet : k ≡ quiet k
   is-quiet = λ i. record {
     terms = k.terms;
-    sender = record { acknowledged = k.sender.acknowledged; outstanding = idle.outstanding i; timer = k.sender.timer };
-    packets = idle.packets i;
+    sender = record { acknowledged = k.sender.acknowledged; outstanding = outstanding i; timer = k.sender.timer };
+    packets = packets i;
     received = k.received;
-    counts = idle.counts i;
+    counts = counts i;
     rounds = k.rounds;
   }
 
-  no-step : (nat_le (length x.waiting) 8192 && can_step k.terms.left_steps x.state) ≡ false
-  no-step = λ i. nat_le (length (idle.waiting i)) 8192 && idle.stays i
-
-  not-stepped : stepped (ring-with x k s) ≡ still
-  not-stepped = ap (λ b. cond b (with_step x) x) no-step ∙ is-still
-
   nothing-offered : offered_by k.terms.left_steps x ≡ []
-  nothing-offered = ap (λ b. cond b (step x.state).bytes []) no-step
+  nothing-offered = none-offered k.terms.left_steps x (ap (λ (z : Left). z.waiting) stepped ∙ waiting)
 
   quiet-round : round-by still [] (quiet k) s ≡ record {
     ring = ring-with still (record (quiet k) { rounds = k.rounds + 1 }) (right_after k.terms.right_steps s);
@@ -143,14 +139,14 @@ module _ (x : Left) (k : Link) (idle : AreIdle x k) (s : State) where
   }
 
   idle-round : round (ring-with x k s) ≡ record {
-    ring = ring-with x (record k { rounds = k.rounds + 1 }) (right_after k.terms.right_steps s);
+    ring = ring-with y (later 1 k) (right_after k.terms.right_steps s);
     shown = shown_by k.terms.right_steps s;
     offered = [];
     delivered = [];
   }
   unfolding round
   idle-round =
-      (λ i. round-by (not-stepped i) (nothing-offered i) (is-quiet i) s) ∙ quiet-round
+      (λ i. round-by ((stepped ∙ is-still) i) (nothing-offered i) (is-quiet i) s) ∙ quiet-round
       ∙ (λ i. record {
         ring = ring-with (sym is-still i) (record (sym is-quiet i) { rounds = k.rounds + 1 }) (right_after k.terms.right_steps s);
         shown = shown_by k.terms.right_steps s;
@@ -158,10 +154,61 @@ module _ (x : Left) (k : Link) (idle : AreIdle x k) (s : State) where
         delivered = [];
       })
 
--- ---- rounds
+-- ---- the left machine
 
-still-idle : (n : ℕ) (x : Left) (k : Link) → AreIdle x k → AreIdle x (later n k)
-still-idle n x k h = record { waiting = h.waiting; stays = h.stays; outstanding = h.outstanding; packets = h.packets; counts = h.counts }
+-- a round more of a machine that is still
+module _ (n most : ℕ) (x : Left) (none : x.waiting ≡ []) where
+  -- it takes no step
+  still-stays : can_step most x.state ≡ false → after_step most x ≡ x
+  still-stays stays = ap (λ b. cond b (with_step x) x) (λ i. nat_le (length (none i)) 8192 && stays i)
+
+  module _ (few : steps_of x.state + suc n ≤ most) (quiet : (i : ℕ) → i ≤ suc n → AreQuiet i x.state) where
+    goes : stop_of x.state ≡ None
+    goes = goes-now x.state (quiet 0 (omega arith))
+
+    -- it takes one
+    still-steps : after_step most x ≡ record { state = (step x.state).state; waiting = [] }
+    still-steps =
+        (λ i. cond (nat_le (length (none i)) 8192 && can-now most x.state goes (omega (arith, few)) i) (with_step x) x)
+        ∙ (λ i. record { state = (step x.state).state; waiting = none i ++ quiet-bytes 0 x.state (quiet 1 (omega arith)) i })
+
+    steps-behind : steps_of (step x.state).state + n ≤ most
+    steps-behind = omega (arith, few, step-count x.state goes)
+
+    quiet-later : (i : ℕ) → i ≤ n → AreQuiet i (step x.state).state
+    quiet-later i low = quiet-behind i x.state (quiet (suc i) (omega (arith, low)))
+
+-- nothing waits behind a round, and the machine is still in the others
+pub still-next : (n most : ℕ) (x : Left) → x.waiting ≡ [] → IsStill (suc n) most x.state → ((after_step most x).waiting ≡ []) × IsStill n most (after_step most x).state
+still-next n most x none (inl stays) =
+    let same : x ≡ after_step most x = sym (still-stays n most x none stays) in
+    subst (λ (y : Left). (y.waiting ≡ []) × IsStill n most y.state) same (none, inl stays)
+still-next n most x none (inr both) =
+    subst (λ (y : Left). (y.waiting ≡ []) × IsStill n most y.state) (sym (still-steps n most x none both.0 both.1))
+    (refl, inr (steps-behind n most x none both.0 both.1, quiet-later n most x none both.0 both.1))
+
+-- a machine that takes no step
+pub left-stays : (n most : ℕ) (x : Left) → x.waiting ≡ [] → can_step most x.state ≡ false → x ≡ left_after n most x
+left-stays zero most x none stays = refl
+left-stays (suc n) most x none stays = left-stays n most x none stays ∙ ap (left_after n most) (sym (still-stays n most x none stays))
+
+-- one that takes quiet ones
+pub left-steps : (n most : ℕ) (x : Left) → x.waiting ≡ [] → steps_of x.state + n ≤ most → ((i : ℕ) → i ≤ n → AreQuiet i x.state)
+    → record { state = (machine_run n x.state).state; waiting = [] } ≡ left_after n most x
+left-steps zero most x none few quiet = λ i. record { state = ap (λ (y : Stepped). y.state) (machine-none x.state) i; waiting = sym none i }
+left-steps (suc n) most x none few quiet =
+    let y : Left = record { state = (step x.state).state; waiting = [] } in
+    (λ i. record { state = sym (machine-next n x.state) i; waiting = [] })
+    ∙ left-steps n most y refl (steps-behind n most x none few quiet) (quiet-later n most x none few quiet)
+    ∙ ap (left_after n most) (sym (still-steps n most x none few quiet))
+
+-- as the code takes them
+pub left-passed : (n most : ℕ) (x : Left) → x.waiting ≡ [] → IsStill n most x.state → can_step most x.state ≡ true
+    → (held out : List ℕ) (t : State) → held ≡ [] → out ≡ [] → t ≡ (machine_run n x.state).state → record { state = t; waiting = held ++ out } ≡ left_after n most x
+left-passed n most x none (inl stays) can held out t no-held no-out is = (let other : true ≡ false = sym can ∙ stays in cc other)
+left-passed n most x none (inr both) can held out t no-held no-out is = (λ i. record { state = is i; waiting = no-held i ++ no-out i }) ∙ left-steps n most x none both.0 both.1
+
+-- ---- rounds
 
 later-none : (k : Link) → k ≡ later 0 k
 later-none k = (let same : k.rounds ≡ k.rounds + 0 = omega arith in λ i. record k { rounds = same i })
@@ -169,16 +216,31 @@ later-none k = (let same : k.rounds ≡ k.rounds + 0 = omega arith in λ i. reco
 later-more : (n : ℕ) (k : Link) → later n (later 1 k) ≡ later (suc n) k
 later-more n k = (let same : (k.rounds + 1) + n ≡ k.rounds + suc n = omega arith in λ i. record k { rounds = same i })
 
+-- a round, and what holds behind it
+module _ (n : ℕ) (x : Left) (k : Link) (idle : AreIdle (suc n) x k) (s : State) where
+  abbrev y : Left
+  y = after_step k.terms.left_steps x
+
+  next : (y.waiting ≡ []) × IsStill n k.terms.left_steps y.state
+  next = still-next n k.terms.left_steps x idle.waiting idle.still
+
+  idle-next : AreIdle n y (later 1 k)
+  idle-next = record { waiting = next.0; still = next.1; outstanding = idle.outstanding; packets = idle.packets; counts = idle.counts }
+
+  round-next : round (ring-with x k s) ≡ record { ring = ring-with y (later 1 k) (right_after k.terms.right_steps s); shown = shown_by k.terms.right_steps s; offered = []; delivered = [] }
+  round-next = idle-round x y k s refl next.0 idle.outstanding idle.packets idle.counts
+
 -- the right machine takes no step any more
-pub idle-waits : (n : ℕ) (x : Left) (k : Link) → AreIdle x k → (s : State) → stop_of s ≡ None → can_step k.terms.right_steps s ≡ false
-    → run n (ring-with x k s) ≡ no_rounds (ring-with x (later n k) s)
+pub idle-waits : (n : ℕ) (x : Left) (k : Link) → AreIdle n x k → (s : State) → stop_of s ≡ None → can_step k.terms.right_steps s ≡ false
+    → run n (ring-with x k s) ≡ no_rounds (ring-with (left_after n k.terms.left_steps x) (later n k) s)
 idle-waits zero x k idle s goes stays = run-zero (ring-with x k s) ∙ ap (λ (j : Link). no_rounds (ring-with x j s)) (later-none k)
 idle-waits (suc n) x k idle s goes stays =
-    let same : ◌≡◌ {A = Rounded} (round (ring-with x k s)) (no_rounds (ring-with x (later 1 k) s)) =
-    idle-round x k idle s ∙ (λ i. record { ring = ring-with x (later 1 k) (cond (stays i) (step s).state s); shown = cond (stays i) (step s).bytes []; offered = []; delivered = [] }) in
-    run-next n (ring-with x k s) goes ∙ ap (λ y. and_then y (run n)) same
-    ∙ idle-waits n x (later 1 k) (still-idle 1 x k idle) s goes stays
-    ∙ ap (λ (j : Link). no_rounds (ring-with x j s)) (later-more n k)
+    let y : Left = after_step k.terms.left_steps x in
+    let same : ◌≡◌ {A = Rounded} (round (ring-with x k s)) (no_rounds (ring-with y (later 1 k) s)) =
+    round-next n x k idle s ∙ (λ i. record { ring = ring-with y (later 1 k) (cond (stays i) (step s).state s); shown = cond (stays i) (step s).bytes []; offered = []; delivered = [] }) in
+    run-next n (ring-with x k s) goes ∙ ap (λ z. and_then z (run n)) same
+    ∙ idle-waits n y (later 1 k) (idle-next n x k idle s) s goes stays
+    ∙ ap (λ (j : Link). no_rounds (ring-with (left_after n k.terms.left_steps y) j s)) (later-more n k)
 
 -- a machine that goes on has gone on before
 pub goes-before : (i m : ℕ) (s : State) → i ≤ m → stop_of (machine_run m s).state ≡ None → stop_of (machine_run i s).state ≡ None
@@ -194,67 +256,56 @@ goes-before i m s few goes = on (stop_of (machine_run i s).state) refl
         ap (λ j. (machine_run j s).state) whole ∙ ap (λ (y : Stepped). y.state) (machine-run-more i (m - i) s) ∙ ap (λ (y : Stepped). y.state) (machine-run-stopped (m - i) t stopped) in
         sym (ap stop_of same) ∙ goes
 
-machine-next : (n : ℕ) (s : State) → (machine_run n (step s).state).state ≡ (machine_run (suc n) s).state
-unfolding machine_run
-machine-next n s = refl
-
-machine-bytes : (n : ℕ) (s : State) → (step s).bytes ++ (machine_run n (step s).state).bytes ≡ (machine_run (suc n) s).bytes
-unfolding machine_run
-machine-bytes n s = refl
-
-machine-none : (s : State) → machine_run 0 s ≡ record { state = s; bytes = []; events = [] }
-unfolding machine_run
-machine-none s = refl
-
 -- the right machine takes so many steps
-pub idle-steps : (n : ℕ) (x : Left) (k : Link) → AreIdle x k → (s : State) → steps_of s + n ≤ k.terms.right_steps
+pub idle-steps : (n : ℕ) (x : Left) (k : Link) → AreIdle n x k → (s : State) → steps_of s + n ≤ k.terms.right_steps
     → ((i : ℕ) → i < n → stop_of (machine_run i s).state ≡ None)
-    → run n (ring-with x k s) ≡ record { ring = ring-with x (later n k) (machine_run n s).state; shown = (machine_run n s).bytes; offered = []; delivered = [] }
+    → run n (ring-with x k s) ≡ record { ring = ring-with (left_after n k.terms.left_steps x) (later n k) (machine_run n s).state; shown = (machine_run n s).bytes; offered = []; delivered = [] }
 idle-steps zero x k idle s few goes =
     run-zero (ring-with x k s)
     ∙ (λ i. record { ring = ring-with x (later-none k i) (sym (machine-none s) i).state; shown = (sym (machine-none s) i).bytes; offered = []; delivered = [] })
 idle-steps (suc n) x k idle s few goes =
-    let now : stop_of s ≡ None = sym (ap (λ (y : Stepped). stop_of y.state) (machine-none s)) ∙ goes 0 (omega arith) in
-    let less : steps_of s < k.terms.right_steps = omega (arith, few) in
-    let can : can_step k.terms.right_steps s ≡ true = λ i. is_none (now i) && lt-ltb (steps_of s) k.terms.right_steps less i in
+    let y : Left = after_step k.terms.left_steps x in
+    let now : stop_of s ≡ None = sym (ap (λ (z : Stepped). stop_of z.state) (machine-none s)) ∙ goes 0 (omega arith) in
+    let can : can_step k.terms.right_steps s ≡ true = can-now k.terms.right_steps s now (omega (arith, few)) in
     let t : State = (step s).state in
-    let one : ◌≡◌ {A = Rounded} (round (ring-with x k s)) (record { ring = ring-with x (later 1 k) t; shown = (step s).bytes; offered = []; delivered = [] }) =
-    idle-round x k idle s ∙ (λ i. record { ring = ring-with x (later 1 k) (cond (can i) (step s).state s); shown = cond (can i) (step s).bytes []; offered = []; delivered = [] }) in
-    let rest = idle-steps n x (later 1 k) (still-idle 1 x k idle) t (omega (arith, few, step-count s now))
+    let one : ◌≡◌ {A = Rounded} (round (ring-with x k s)) (record { ring = ring-with y (later 1 k) t; shown = (step s).bytes; offered = []; delivered = [] }) =
+    round-next n x k idle s ∙ (λ i. record { ring = ring-with y (later 1 k) (cond (can i) (step s).state s); shown = cond (can i) (step s).bytes []; offered = []; delivered = [] }) in
+    let rest = idle-steps n y (later 1 k) (idle-next n x k idle s) t (omega (arith, few, step-count s now))
     (λ i low. ap stop_of (machine-next i s) ∙ goes (suc i) (omega (arith, low))) in
-    run-next n (ring-with x k s) now ∙ ap (λ y. and_then y (run n)) one
+    run-next n (ring-with x k s) now ∙ ap (λ z. and_then z (run n)) one
     ∙ (λ i. record { ring = (rest i).ring; shown = (step s).bytes ++ (rest i).shown; offered = (rest i).offered; delivered = (rest i).delivered })
-    ∙ (λ i. record { ring = ring-with x (later-more n k i) (machine-next n s i); shown = machine-bytes n s i; offered = []; delivered = [] })
+    ∙ (λ i. record { ring = ring-with (left_after n k.terms.left_steps y) (later-more n k i) (machine-next n s i); shown = machine-bytes n s i; offered = []; delivered = [] })
 
 -- ---- whether they are such
 
--- by the tests of the two, where an outstanding byte waits
-pub idle-from : (x : Left) (k : Link) → (x.waiting ≡ [] → k.sender.outstanding ≡ None) → are_idle k x ≡ true → AreIdle x k
-idle-from x k out is =
-    let both = and_parts (is_done k.terms.left_steps x) (is_empty k) is in
-    let done = and_parts (not (can_step k.terms.left_steps x.state)) (length x.waiting == 0) both.0 in
-    let empty = and_parts (length k.packets == 0) (length k.counts == 0) both.1 in
+nil-of : {P : Type 0} (ps : List P) → (length ps == 0) ≡ true → ps ≡ []
+nil-of ps is = nil_from_length ps (eqb-true (length ps) 0 is)
+
+-- where an outstanding byte waits
+pub idle-from : (n : ℕ) (x : Left) (k : Link) → x.waiting ≡ [] → IsStill n k.terms.left_steps x.state → (x.waiting ≡ [] → k.sender.outstanding ≡ None) → is_empty k ≡ true → AreIdle n x k
+idle-from n x k none still out is =
+    let empty = and_parts (length k.packets == 0) (length k.counts == 0) is in
     record {
-      waiting = nil-of x.waiting done.1;
-      stays = not-true (can_step k.terms.left_steps x.state) done.0;
-      outstanding = out (nil-of x.waiting done.1);
+      waiting = none;
+      still = still;
+      outstanding = out none;
       packets = nil-of k.packets empty.0;
       counts = nil-of k.counts empty.1;
     }
 
 -- ---- what such rounds leave
 
-module _ (x : Left) (k j : Link) (idle : AreIdle x k) (s : State) (n : ℕ) (is : j ≡ later n k) where
+module _ (x y : Left) (k j : Link) (s : State) (n : ℕ) (idle : AreIdle n x k) (left : y ≡ left_after n k.terms.left_steps x) (is : j ≡ later n k) where
   count : j.rounds - k.rounds ≡ n
   count = (let more : j.rounds ≡ k.rounds + n = ap (λ (l : Link). l.rounds) is in omega (arith, more))
 
-  pub rounds-waited : stop_of s ≡ None → can_step k.terms.right_steps s ≡ false → run (j.rounds - k.rounds) (ring-with x k s) ≡ no_rounds (ring-with x j s)
-  rounds-waited goes stays = ap (λ m. run m (ring-with x k s)) count ∙ idle-waits n x k idle s goes stays ∙ ap (λ (l : Link). no_rounds (ring-with x l s)) (sym is)
+  pub rounds-waited : stop_of s ≡ None → can_step k.terms.right_steps s ≡ false → run (j.rounds - k.rounds) (ring-with x k s) ≡ no_rounds (ring-with y j s)
+  rounds-waited goes stays = ap (λ m. run m (ring-with x k s)) count ∙ idle-waits n x k idle s goes stays ∙ (λ i. no_rounds (ring-with (sym left i) (sym is i) s))
 
   pub rounds-stepped : (t : State) → t ≡ (machine_run n s).state → can_step k.terms.right_steps s ≡ true → n ≤ k.terms.right_steps - steps_of s → stop_of (machine_run (n - 1) s).state ≡ None
-      → run (j.rounds - k.rounds) (ring-with x k s) ≡ record { ring = ring-with x j t; shown = (machine_run n s).bytes; offered = []; delivered = [] }
-  rounds-stepped t left can few goes =
+      → run (j.rounds - k.rounds) (ring-with x k s) ≡ record { ring = ring-with y j t; shown = (machine_run n s).bytes; offered = []; delivered = [] }
+  rounds-stepped t right can few goes =
       let less = ltb-true (steps_of s) k.terms.right_steps (and_parts (is_none (stop_of s)) (nat_lt (steps_of s) k.terms.right_steps) can).1 in
       ap (λ m. run m (ring-with x k s)) count
       ∙ idle-steps n x k idle s (omega (arith, few, less)) (λ i low. goes-before i (n - 1) s (omega (arith, low)) goes)
-      ∙ (λ i. record { ring = ring-with x (sym is i) (sym left i); shown = (machine_run n s).bytes; offered = []; delivered = [] })
+      ∙ (λ i. record { ring = ring-with (sym left i) (sym is i) (sym right i); shown = (machine_run n s).bytes; offered = []; delivered = [] })

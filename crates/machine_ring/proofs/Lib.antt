@@ -1,7 +1,8 @@
 pub mod CarriedEvents
+pub mod QuietSteps
 pub mod IdleRounds
 pub mod RingEvents
 pub mod RingProgress
 pub mod RingRuns
-pub mod TypedStates
+pub mod TypedRoom
 pub mod WaitingBytes

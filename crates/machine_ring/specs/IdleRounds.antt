@@ -1,27 +1,30 @@
--- Rounds in which the right machine alone may act.
-use Rattle.std.specs.Prelude.{◌≡◌, ℕ, ◌+◌, ◌==◌, ◌&&◌, Bool, false, not, None, [], length}
+-- Rounds in which nothing happens but that the two machines take their steps.
+use Rattle.std.specs.Prelude.{◌≡◌, ℕ, zero, suc, ◌+◌, ◌≤◌, ◌⊎◌, ◌==◌, ◌&&◌, Bool, false, None, [], length}
+use Rattle.tripos_machine.specs.Quiet.{AreQuiet}
+use Rattle.tripos_machine.specs.State.{State, steps_of}
 use Rattle.machine_ring.specs.Links.{Link}
 use Rattle.machine_ring.specs.Rings.{Left}
-use Rattle.machine_ring.specs.Rounds.{can_step}
+use Rattle.machine_ring.specs.Rounds.{after_step, can_step}
 
 -- nothing is in flight
 abbrev pub is_empty : Link → Bool
 is_empty k = (length k.packets == 0) && (length k.counts == 0)
 
--- the left machine takes no step of so many any more, and no byte of it waits
-abbrev pub is_done : ℕ → Left → Bool
-is_done most x = not (can_step most x.state) && (length x.waiting == 0)
+-- In n rounds a machine that takes at most so many steps takes none, or takes one in each and writes nothing.
+abbrev pub IsStill : ℕ → ℕ → State → Type 0
+IsStill n most s = (can_step most s ≡ false) ⊎ ((steps_of s + n ≤ most) × ((i : ℕ) → i ≤ n → AreQuiet i s))
 
--- both
-abbrev pub are_idle : Link → Left → Bool
-are_idle k x = is_done k.terms.left_steps x && is_empty k
+-- the left machine once n rounds more are over, in which no byte of it is acknowledged
+abbrev pub left_after : ℕ → ℕ → Left → Left
+left_after zero most x = x
+left_after (suc n) most x = left_after n most (after_step most x)
 
--- so nothing but the right machine may act
-pub record AreIdle (x : Left) (k : Link) : Type 0 where
+-- in n rounds nothing happens but that the two machines take their steps
+pub record AreIdle (n : ℕ) (x : Left) (k : Link) : Type 0 where
   -- no byte waits
   pub waiting : x.waiting ≡ []
-  -- the left machine takes no step
-  pub stays : can_step k.terms.left_steps x.state ≡ false
+  -- and the left machine writes none
+  pub still : IsStill n k.terms.left_steps x.state
   -- no byte is outstanding
   pub outstanding : k.sender.outstanding ≡ None
   -- no data is in flight

@@ -1,8 +1,7 @@
 -- A round of a ring. In its five parts the left machine takes a step, the sender has a turn, data comes and a byte is typed, an
 -- acknowledgement comes, and the right machine takes a step.
 use Rattle.std.specs.Prelude.{ℕ, ◌&&◌, if◌then◌else◌, Bool, false, Option, Some, None, List, [], ◌++◌, drop, is_none, length, nat_le, nat_lt, slice_get}
-use Rattle.tripos_machine.specs.KernelSteps.KernelDevices.TtyDevice.Typed.{with_typed}
-use Rattle.tripos_machine.specs.State.{State, steps_of, stop_of}
+use Rattle.tripos_machine.specs.State.{State, steps_of, stop_of, typed}
 use Rattle.tripos_machine.specs.State.State.{Bare, Full}
 use Rattle.tripos_machine.specs.Step.{step}
 use Rattle.machine_ring.specs.Links.{carried, carried_byte, carries_back, listed}
@@ -41,12 +40,7 @@ abbrev pub has_room : State → Bool
 has_room (Bare m) = false
 has_room (Full k) = nat_lt (length k.type_ahead) 128
 
--- a byte is typed ahead
-abbrev pub typed : ℕ → State → State
-typed byte (Bare m) = Bare m
-typed byte (Full k) = Full (record k { type_ahead = with_typed byte k.type_ahead })
-
--- the same, where there is one
+-- a byte is typed ahead, where there is one
 abbrev pub with_typing : Option ℕ → State → State
 with_typing None s = s
 with_typing (Some byte) s = typed byte s

@@ -1,11 +1,10 @@
-// Rounds in which the right machine alone may act: they are taken many at once.
-ghost use Rattle.std.specs.Prelude.{◌≡◌, ◌-◌, ◌<◌, ◌≤◌, None};
+// Rounds in which nothing happens but that the two machines take their steps: they are taken many at once.
+ghost use Rattle.std.specs.Prelude.{◌≡◌, ◌-◌, ◌<◌, ◌≤◌, None, [], ℕ};
 ghost use Rattle.tp_io.specs.Pending.{Gathers};
 ghost use Rattle.tp_io.specs.Write.{HasCause};
 ghost use Rattle.tripos_machine.specs.KernelCalls.KernelModel.Ranges.{most_steps};
 ghost use Rattle.tripos_machine.specs.State.{stop_of};
-ghost use Rattle.machine_ring.specs.IdleRounds.{AreIdle, are_idle};
-ghost use Rattle.machine_ring.specs.Rings.{Left};
+ghost use Rattle.machine_ring.specs.IdleRounds.{AreIdle};
 ghost use Rattle.machine_ring.specs.Runs.{run};
 
 use crate::left::{LeftEnd, can_step};
@@ -13,44 +12,56 @@ use crate::links::LinkParts;
 use tp_io::{Output, Sink, SinkFault, gather};
 use tripos_machine::{Machine, NoLog};
 
-/// Whether no byte of the left machine waits, it takes no step any more, and nothing is in flight.
-pub(crate) fn are_idle(left: &LeftEnd, link: &LinkParts) -> bool
-    ensures { result ≡ are_idle link.now left.now }
+/// For how many rounds from here nothing happens but that the two machines take their steps, as far as this is known: nothing is in
+/// flight, no byte of the left machine waits, and it takes no step any more, or nobody runs there and no device acts.
+pub(crate) fn idle_rounds(left: &LeftEnd, link: &LinkParts) -> u64
+    requires { link.now.terms.left_steps ≤ most_steps }
+    ensures { (n : ℕ) → n ≤ result → 0 < result
+        → (left.now.waiting ≡ [] → link.now.sender.outstanding ≡ None)
+        → AreIdle n left.now link.now }
 {
-    left.is_done(link.left_steps()) && link.is_empty()
+    if !link.is_empty() {
+        return 0;
+    }
+    left.still_rounds(link.left_steps())
 }
 
-/// Takes some rounds, of which the right machine may stop in the last one alone, and gathers its console bytes: where it takes no step
-/// any more these are all rounds that may come.
+/// Takes some of these rounds, of which the right machine may stop in the last one alone, and gathers its console bytes. Where neither
+/// machine takes a step any more they are all rounds that may come.
 pub(crate) fn pass<K: Sink>(
+    left: &mut LeftEnd,
     link: &mut LinkParts,
     right: &mut Machine,
+    most: u64,
     out: &mut K,
     pending: &mut Output,
 ) -> Result<(), SinkFault>
+    requires idle { (n : ℕ) → n ≤ most → AreIdle n left.old link.old }
+    requires most { 0 < most }
     requires going { link.old.rounds < link.old.terms.rounds }
-    requires steps { link.old.terms.right_steps ≤ most_steps }
+    requires left_steps { link.old.terms.left_steps ≤ most_steps }
+    requires right_steps { link.old.terms.right_steps ≤ most_steps }
     requires goes { stop_of right.old.state ≡ None }
     ensures terms { link.new.terms ≡ link.old.terms }
     ensures some { link.old.rounds < link.new.rounds }
     ensures few { link.new.rounds ≤ link.old.terms.rounds }
-    ensures ring { (x : Left) → AreIdle x link.old
-        → record { left = x; link = link.new; right = right.new.state }
+    ensures ring { record { left = left.new; link = link.new; right = right.new.state }
         ≡ (run (link.new.rounds - link.old.rounds)
-        (record { left = x; link = link.old; right = right.old.state })).ring }
-    ensures bytes { (x : Left) → AreIdle x link.old
-        → Gathers (K.holds out.old) (K.holds out.new) pending.old pending.new
+        (record { left = left.old; link = link.old; right = right.old.state })).ring }
+    ensures bytes { Gathers (K.holds out.old) (K.holds out.new) pending.old pending.new
         (run (link.new.rounds - link.old.rounds)
-        (record { left = x; link = link.old; right = right.old.state })).shown result }
+        (record { left = left.old; link = link.old; right = right.old.state })).shown result }
     ensures cause { HasCause (K.faults out.old) (K.faults out.new) result }
 {
-    let rest = link.rest();
-    let most = link.right_steps();
-    if !can_step(right, most) {
-        link.pass(rest);
+    let rounds = link.rest().min(most);
+    if !can_step(right, link.right_steps()) {
+        left.pass(rounds, link.left_steps());
+        link.pass(rounds);
         return Ok(());
     }
-    let taken = right.advance(rest.min(most - right.steps()), &[], &mut NoLog);
+    let steps = link.right_steps() - right.steps();
+    let taken = right.advance(rounds.min(steps), &[], &mut NoLog);
+    left.pass(taken, link.left_steps());
     link.pass(taken);
     gather(out, pending, right.output())
 }

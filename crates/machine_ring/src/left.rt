@@ -1,8 +1,11 @@
 // The left machine, and those of its console bytes that wait.
-ghost use Rattle.std.specs.Prelude.{◌≡◌, ◌+◌, ◌-◌, ◌<◌, ◌≤◌, ◌^◌, [], ◌++◌, IfOk, drop, length, slice_get};
+ghost use Rattle.std.specs.Prelude.{◌≡◌, ◌+◌, ◌-◌, ◌<◌, ◌≤◌, ◌^◌, [], ◌++◌, IfOk, drop, false, length, slice_get, true, ℕ};
 ghost use Rattle.circular_buffer.specs.Buffer.{buffer};
 ghost use Rattle.tripos_machine.specs.KernelCalls.KernelModel.Ranges.{most_steps};
-ghost use Rattle.machine_ring.specs.IdleRounds.{is_done};
+ghost use Rattle.tripos_machine.specs.Quiet.{AreQuiet, IsIdle};
+ghost use Rattle.tripos_machine.specs.State.{steps_of};
+ghost use Rattle.tripos_machine.specs.Step.{run};
+ghost use Rattle.machine_ring.specs.IdleRounds.{IsStill, left_after};
 ghost use Rattle.machine_ring.specs.Rounds.{after_step, can_step};
 
 use crate::terms::MOST_WAITING;
@@ -98,11 +101,53 @@ impl LeftEnd {
         }
     }
 
-    /// Whether the machine takes no step of so many any more, and no byte waits.
-    pub(crate) fn is_done(&self, most: u64) -> bool
-        ensures { result ≡ is_done most self.now }
+    /// For how many rounds from here it is known that no byte waits, and that the machine, which takes at most so many steps, writes
+    /// none: it takes no step any more, or nobody runs there and no device acts. 0 where a byte waits.
+    pub(crate) fn still_rounds(&self, most: u64) -> u64
+        ensures waiting { 0 < result → self.now.waiting ≡ [] }
+        ensures still { (n : ℕ) → n ≤ result → 0 < result → IsStill n most self.now.state }
+        ensures done { self.now.waiting ≡ [] → can_step most self.now.state ≡ false
+            → result + 1 ≡ 2 ^ 64 }
+        ensures idle { self.now.waiting ≡ [] → can_step most self.now.state ≡ true
+            → IsIdle self.now.state
+            → 0 < result }
     {
-        !can_step(&self.machine, most) && self.waiting() == 0
+        if self.waiting() > 0 {
+            return 0;
+        }
+        if !can_step(&self.machine, most) {
+            return u64::MAX;
+        }
+        self.machine.idle_steps().min(most - self.machine.steps())
+    }
+
+    /// Takes its steps of so many rounds, in which no byte waits.
+    pub(crate) fn pass(&mut self, n: u64, most: u64)
+        requires some { 0 < n }
+        requires most { most ≤ most_steps }
+        requires waiting { self.old.waiting ≡ [] }
+        requires still { IsStill n most self.old.state }
+        ensures { self.new ≡ left_after n most self.old }
+    {
+        if !can_step(&self.machine, most) {
+            return;
+        }
+        take_quiet_steps(&mut self.machine, n);
+        self.taken = 0;
+    }
+}
+
+// Takes so many steps of a machine that writes nothing in them, and does not stop.
+fn take_quiet_steps(machine: &mut Machine, n: u64)
+    requires some { 0 < n }
+    requires steps { steps_of machine.old.state + n ≤ most_steps }
+    requires quiet { (i : ℕ) → i ≤ n → AreQuiet i machine.old.state }
+    ensures state { machine.new.state ≡ (run n machine.old.state).state }
+    ensures output { machine.new.output ≡ [] }
+{
+    let mut taken = 0;
+    while taken < n {
+        taken += machine.advance(n - taken, &[], &mut NoLog);
     }
 }
 

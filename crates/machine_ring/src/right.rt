@@ -1,14 +1,13 @@
 // The right machine, at which bytes are typed.
-ghost use Rattle.std.specs.Prelude.{◌≡◌, ◌≤◌, None, true};
+ghost use Rattle.std.specs.Prelude.{◌≡◌, ◌≤◌};
 ghost use Rattle.tp_io.specs.Pending.{Gathers};
 ghost use Rattle.tp_io.specs.Write.{HasCause};
 ghost use Rattle.tripos_machine.specs.KernelCalls.KernelModel.Ranges.{most_steps};
-ghost use Rattle.tripos_machine.specs.State.{stop_of};
-ghost use Rattle.machine_ring.specs.Rounds.{has_room, right_after, shown_by, typed};
+ghost use Rattle.machine_ring.specs.Rounds.{has_room, right_after, shown_by};
 
 use crate::left::can_step;
 use tp_io::{Output, Sink, SinkFault, gather};
-use tripos_machine::{Machine, NoLog, Parts};
+use tripos_machine::{Machine, NoLog};
 
 /// The place of the last byte that may be typed ahead.
 const LAST_PLACE: u32 = 127;
@@ -20,21 +19,6 @@ pub(crate) fn has_room(machine: &Machine) -> bool
     match machine.kernel_parts() {
         Some(parts) => parts.tty.at(LAST_PLACE).is_none(),
         None => false,
-    }
-}
-
-/// The machine, at which a byte was typed. Its parts are moved out and in again, and none of them is looked through.
-pub(crate) fn typed(machine: Machine, byte: u8) -> Machine
-    requires room { has_room machine.state ≡ true }
-    requires goes { stop_of machine.state ≡ None }
-    ensures { result.state ≡ typed byte machine.state }
-{
-    match machine.into_parts() {
-        Parts::Full(mut parts) => {
-            parts.tty.enter(byte);
-            Machine::from_parts(Parts::Full(parts))
-        }
-        Parts::Bare(parts) => Machine::from_parts(Parts::Bare(parts)),
     }
 }
 

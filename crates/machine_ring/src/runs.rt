@@ -9,18 +9,18 @@ ghost use Rattle.machine_ring.specs.Rounds.{after_answer, after_step};
 ghost use Rattle.machine_ring.specs.Runs.{run};
 
 use crate::Ring;
-use crate::idle::{are_idle, pass};
+use crate::idle::{idle_rounds, pass};
 use crate::left::LeftEnd;
 use crate::links::LinkParts;
 use crate::outcomes::{RingOutcome, outcome_after};
-use crate::right::{has_room, step, typed};
+use crate::right::{has_room, step};
 use tp_io::{Output, Sink, SinkFault};
 use tripos_machine::Stop;
 
 impl Ring {
     /// Takes all rounds, or those up to the one in which the right machine stops, and gathers its console bytes. `SinkFault` comes only
     /// where the sink's count of faults rose; then the sink has a prefix of what was pending, and of these bytes. No memory is taken.
-    /// Rounds in which the right machine alone may act are its steps, and those in which nobody may are only counted.
+    /// Rounds in which no byte can come from one machine to the other are taken many at once.
     pub fn run<K: Sink>(self, out: &mut K, pending: &mut Output) -> Result<RingOutcome, SinkFault>
         ensures outcome { IfOk result (λ o. o ≡ outcome_of (run self.link.terms.rounds self)) }
         ensures bytes { Gathers (K.holds out.old) (K.holds out.new) pending.old pending.new
@@ -37,12 +37,13 @@ impl Ring {
                 Some(stop) => return Ok(outcome_after(&left, &link, stop)),
                 None => {}
             }
-            if are_idle(&left, &link) {
-                pass(&mut link, &mut right, out, pending)?;
+            let idle = idle_rounds(&left, &link);
+            if idle > 0 {
+                pass(&mut left, &mut link, &mut right, idle, out, pending)?;
                 continue;
             }
             match carry(&mut left, &mut link, has_room(&right)) {
-                Some(byte) => right = typed(right, byte),
+                Some(byte) => right.type_byte(byte),
                 None => {}
             }
             step(&mut right, link.right_steps(), out, pending)?;

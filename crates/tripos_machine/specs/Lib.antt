@@ -4,6 +4,7 @@ pub mod Boot
 pub mod Machine
 pub mod Runs
 pub mod Breakpoints
+pub mod Quiet
 -- shown to the crates above
 pub use Rattle.bare_machine.specs as BareMachine
 pub use Rattle.bare_machine.specs.CintExec

@@ -7,6 +7,7 @@ use Rattle.machine_boot.specs.KernelCalls.KernelModel.Kernel.{Kernel}
 use Rattle.machine_boot.specs.KernelCalls.KernelModel.Ranges.{most_steps}
 use Rattle.machine_boot.specs.KernelCalls.KernelModel.ValidKernel.{IsValid}
 use Rattle.machine_boot.specs.KernelCalls.KernelModel.declared.stops.Stop.{Stop}
+use Rattle.machine_boot.specs.KernelMachine.Machine.{with_byte_typed}
 use Rattle.machine_boot.specs.KernelMachine.Stands.{Stands}
 use Rattle.machine_boot.specs.KernelMachine.declared.parts.Parts.{Parts as FullParts}
 use Rattle.tripos_machine.specs.declared.parts.Parts.{Parts}
@@ -45,6 +46,11 @@ keys_to_come (Full k) = k.keys
 abbrev pub stop_of : State → Option Stop
 stop_of (Bare m) = m.stop
 stop_of (Full k) = k.stop
+
+-- a byte is typed ahead, where there is room; a machine without a kernel has no keyboard
+abbrev pub typed : ℕ → State → State
+typed byte (Bare m) = Bare m
+typed byte (Full k) = Full (with_byte_typed byte k)
 
 -- what holds of it at every moment between steps
 abbrev pub IsSound : State → Type 0

@@ -1,9 +1,10 @@
 // A machine of either kind.
-ghost use Rattle.std.specs.Prelude.{◌≡◌, ◌<◌, ◌+◌, ◌-◌, ◌≤◌, [], None, MatchOption};
+ghost use Rattle.std.specs.Prelude.{◌≡◌, ◌<◌, ◌+◌, ◌-◌, ◌≤◌, [], None, MatchOption, ℕ};
 ghost use Rattle.machine_boot.specs.KernelCalls.KernelModel.NotedEvents.{NotesAll};
 ghost use Rattle.machine_boot.specs.KernelCalls.KernelModel.Ranges.{most_steps};
 ghost use Rattle.tripos_machine.specs.Breakpoints.{Avoids, IsPlain, IsPlainStep};
-ghost use Rattle.tripos_machine.specs.State.{IsBare, IsSound, StandFor, StandsFull, State, keys_of, regs_of, running_of, steps_of, stop_of, words_of};
+ghost use Rattle.tripos_machine.specs.Quiet.{AreQuiet, IsIdle};
+ghost use Rattle.tripos_machine.specs.State.{IsBare, IsSound, StandFor, StandsFull, State, keys_of, regs_of, running_of, steps_of, stop_of, typed, words_of};
 ghost use Rattle.tripos_machine.specs.Step.{boot_events, run, step};
 
 use crate::Parts;
@@ -143,6 +144,18 @@ impl Machine {
         }
     }
 
+    /// Types a byte ahead. It is dropped where 128 bytes are typed ahead, and on a machine without a kernel. Nothing else changes.
+    pub fn type_byte(&mut self, byte: u8)
+        ensures state { self.new.state ≡ typed byte self.old.state }
+        ensures output { self.new.output ≡ self.old.output }
+        ensures keys { self.new.keys ≡ self.old.keys }
+    {
+        match &mut self.kind {
+            Kind::Bare(_) => {}
+            Kind::Full(machine) => machine.type_byte(byte),
+        }
+    }
+
     /// Takes one step, and answers why the machine has stopped, if it has. A machine that has stopped before stays as it is,
     /// but for its output, which is empty then. The list of its keys stays.
     pub fn step<L: EventLog>(&mut self, log: &mut L) -> Option<Stop>
@@ -175,6 +188,19 @@ impl Machine {
         match &mut self.kind {
             Kind::Bare(machine) => machine.execute(),
             Kind::Full(machine) => machine.execute(),
+        }
+    }
+
+    /// For how many steps from here nobody runs and no device acts, on a machine that has not stopped: nothing happens in them but that
+    /// steps and ticks are counted. 0 where somebody runs, and where a device acts in the next step.
+    pub fn idle_steps(&self) -> u64
+        requires goes { stop_of self.now.state ≡ None }
+        ensures quiet { (n : ℕ) → n ≤ result → AreQuiet n self.now.state }
+        ensures some { IsIdle self.now.state → 0 < result }
+    {
+        match &self.kind {
+            Kind::Bare(_) => 0,
+            Kind::Full(machine) => machine.idle_steps(),
         }
     }
 

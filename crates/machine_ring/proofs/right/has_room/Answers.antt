@@ -1,7 +1,7 @@
 use Rattle.std.proofs.Common.{◌∙◌, ap, sym}
 use Rattle.std.specs.Prelude.{is_none, not}
 use Rattle.std.proofs.Math.Bool.{not-not}
-use Rattle.machine_ring.proofs.TypedStates.{room-is}
+use Rattle.machine_ring.proofs.TypedRoom.{room-is}
 use Rattle.machine_ring.proofs.right.has_room.Goals as goal
 
 pub returns-in-Some : goal.returns-in-Some

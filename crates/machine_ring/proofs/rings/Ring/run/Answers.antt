@@ -10,7 +10,6 @@ use Rattle.machine_ring.specs.Rings.{Ring}
 use Rattle.machine_ring.specs.Rounds.{Rounded, first_of, right_after, shown_by, with_typing}
 use Rattle.machine_ring.specs.Runs.{run}
 use Rattle.machine_ring.specs.declared.terms.Terms.{Terms}
-use Rattle.machine_ring.proofs.IdleRounds.{idle-from}
 use Rattle.machine_ring.proofs.RingProgress.{acknowledged-few, carried-room, cut-then, end-left, ended-early, gathered-first, gathered-then, outcome-is, outstanding-none, ran-first, ran-then, round-is, shown-is}
 use Rattle.machine_ring.proofs.rings.Ring.run.Goals as goal
 use Rattle.machine_ring.proofs.rings.Ring.run.Goals.{in-None-carry, in-Some-carry}
@@ -50,11 +49,6 @@ returns-in-Some-clause-bytes g c =
     subst (λ (x : Rounded). IsGathered (g.K.Sink.holds c.args.out.now) (g.K.Sink.holds c.loop-right.out) c.args.pending.now c.loop-right.pending x.shown)
     (sym (ended-early f r f.link.terms.rounds kept.ran kept.few c.in-Some.stop (sym c.stop.ensures ∙ c.in-Some.is))) kept.gathered
 
-pub typed-right-requires-clause-room : goal.typed-right-requires-clause-room
-typed-right-requires-clause-room g c =
-    let r : Ring = record { left = c.loop-right.left; link = c.loop-right.link; right = c.loop-right.right.state } in
-    sym c.has_room.ensures ∙ carried-room (first_of r) c.has_room.result r.link c.in-Some-carry.byte (sym (c.carry.ensures.byte (first_of r) refl) ∙ c.in-Some-carry.is)
-
 pub step-requires : goal.step-requires
 step-requires g c =
     let r : Ring = record { left = c.loop-right.left; link = c.loop-right.link; right = c.loop-right.right.state } in
@@ -81,7 +75,7 @@ loop-right-preserved g c =
     let less = ltb-true c.loop-right.link.rounds c.loop-right.link.terms.rounds (sym c.loop-right-test.ensures.more) in
     let types : c.match-carry.right.state ≡ with_typing c.carry.result r.right =
     elim c.match-carry.branch [
-      | in-Some-carry w ↦ (λ i. (w.right-is i).state) ∙ w.typed-right.ensures ∙ sym (ap (λ o. with_typing o r.right) w.in-Some-carry.is)
+      | in-Some-carry w ↦ (λ i. (w.right-is i).state) ∙ w.type_byte.ensures.state ∙ sym (ap (λ o. with_typing o r.right) w.in-Some-carry.is)
       | in-None-carry w ↦ (λ i. (w.right-is i).state) ∙ sym (ap (λ o. with_typing o r.right) w.in-None-carry.is)
     ] in
     let steps : c.right_steps.result ≡ r.link.terms.right_steps = c.right_steps.ensures ∙ (λ i. (same i).right_steps) in
@@ -112,7 +106,7 @@ returns-in_err-step-clause-bytes g c =
     let less = ltb-true c.loop-right.link.rounds c.loop-right.link.terms.rounds (sym c.loop-right-test.ensures.more) in
     let types : c.match-carry.right.state ≡ with_typing c.carry.result r.right =
     elim c.match-carry.branch [
-      | in-Some-carry w ↦ (λ i. (w.right-is i).state) ∙ w.typed-right.ensures ∙ sym (ap (λ o. with_typing o r.right) w.in-Some-carry.is)
+      | in-Some-carry w ↦ (λ i. (w.right-is i).state) ∙ w.type_byte.ensures.state ∙ sym (ap (λ o. with_typing o r.right) w.in-Some-carry.is)
       | in-None-carry w ↦ (λ i. (w.right-is i).state) ∙ sym (ap (λ o. with_typing o r.right) w.in-None-carry.is)
     ] in
     let steps : c.right_steps.result ≡ r.link.terms.right_steps = c.right_steps.ensures ∙ (λ i. (same i).right_steps) in
@@ -125,22 +119,27 @@ returns-in_err-step-clause-bytes g c =
     rw (p.1) (cut-then f r after kept.ran 1 rounds is kept.gathered f.link.terms.rounds (omega (arith, less, ap (λ (t : Terms). t.rounds) kept.terms, rounds))
     (subst (λ l. IsCut (g.K.Sink.holds c.loop-right.out) (g.K.Sink.holds c.step.new.out) c.loop-right.pending l) shown c.in_err-step.ensures.bytes))
 
-pub loop-right-preserved-then-are_idle : goal.loop-right-preserved-then-are_idle
-loop-right-preserved-then-are_idle g c =
+pub pass-requires-clause-idle : goal.pass-requires-clause-idle
+pass-requires-clause-idle g c = λ n few.
+    let f = c.args.self in
+    let r : Ring = record { left = c.loop-right.left; link = c.loop-right.link; right = c.loop-right.right.state } in
+    let new = sym c.self.view_is ∙ c.self.invariant.first in
+    let out = outstanding-none f c.self.inside.link.terms c.self.inside.left.state c.self.inside.right.state new r.link.rounds r c.loop-right.invariant.ran in
+    c.idle_rounds-idle.ensures n few c.if-idle-gt0.true out
+
+pub loop-right-preserved-then-idle-gt0 : goal.loop-right-preserved-then-idle-gt0
+loop-right-preserved-then-idle-gt0 g c =
     let kept = c.loop-right.invariant in
     let f = c.args.self in
     let r : Ring = record { left = c.loop-right.left; link = c.loop-right.link; right = c.loop-right.right.state } in
-    let after : Ring = record { left = c.loop-right.left; link = c.pass.new.link; right = c.pass.new.right.state } in
-    let new = sym c.self.view_is ∙ c.self.invariant.first in
-    let out = outstanding-none f c.self.inside.link.terms c.self.inside.left.state c.self.inside.right.state new r.link.rounds r kept.ran in
-    let idle = idle-from r.left r.link out (sym c.are_idle.ensures ∙ c.if-are_idle.true) in
+    let after : Ring = record { left = c.pass.new.left; link = c.pass.new.link; right = c.pass.new.right.state } in
     let m = after.link.rounds - r.link.rounds in
     let rounds : after.link.rounds ≡ r.link.rounds + m = omega (arith, c.in_ok-pass.ensures.some) in
     record {
-      ran = ran-then f r after kept.ran m rounds (c.in_ok-pass.ensures.ring r.left idle);
+      ran = ran-then f r after kept.ran m rounds c.in_ok-pass.ensures.ring;
       few = omega (arith, c.in_ok-pass.ensures.few, ap (λ (t : Terms). t.rounds) kept.terms);
       terms = c.in_ok-pass.ensures.terms ∙ kept.terms;
-      gathered = gathered-then f r after kept.ran m rounds (c.in_ok-pass.ensures.ring r.left idle) kept.gathered (c.in_ok-pass.ensures.bytes r.left idle);
+      gathered = gathered-then f r after kept.ran m rounds c.in_ok-pass.ensures.ring kept.gathered c.in_ok-pass.ensures.bytes;
       later = omega (arith, kept.later, c.in_ok-pass.ensures.cause.later);
     }
 
@@ -149,15 +148,12 @@ returns-in_err-pass-clause-bytes g c =
     let kept = c.loop-right.invariant in
     let f = c.args.self in
     let r : Ring = record { left = c.loop-right.left; link = c.loop-right.link; right = c.loop-right.right.state } in
-    let after : Ring = record { left = c.loop-right.left; link = c.pass.new.link; right = c.pass.new.right.state } in
-    let new = sym c.self.view_is ∙ c.self.invariant.first in
-    let out = outstanding-none f c.self.inside.link.terms c.self.inside.left.state c.self.inside.right.state new r.link.rounds r kept.ran in
-    let idle = idle-from r.left r.link out (sym c.are_idle.ensures ∙ c.if-are_idle.true) in
+    let after : Ring = record { left = c.pass.new.left; link = c.pass.new.link; right = c.pass.new.right.state } in
     let m = after.link.rounds - r.link.rounds in
     let rounds : after.link.rounds ≡ r.link.rounds + m = omega (arith, c.in_err-pass.ensures.some) in
     let p = err_from_is_err_and c.from_residual.result c.from_residual.ensures.1 in
-    rw (p.1) (cut-then f r after kept.ran m rounds (c.in_err-pass.ensures.ring r.left idle) kept.gathered f.link.terms.rounds
-    (omega (arith, c.in_err-pass.ensures.few, ap (λ (t : Terms). t.rounds) kept.terms)) (c.in_err-pass.ensures.bytes r.left idle))
+    rw (p.1) (cut-then f r after kept.ran m rounds c.in_err-pass.ensures.ring kept.gathered f.link.terms.rounds
+    (omega (arith, c.in_err-pass.ensures.few, ap (λ (t : Terms). t.rounds) kept.terms)) c.in_err-pass.ensures.bytes)
 
 pub outcome_after-requires-2 : goal.outcome_after-requires-2
 outcome_after-requires-2 g c =
