@@ -2,17 +2,17 @@
 use Rattle.std.proofs.Common.{◌≡◌, ◌≢◌, ℕ, ℤ, ◌+◌, ◌≤◌, ◌⊎◌, ◌||◌, inl, inr, Bool, true, false, cond, eqb, leb, List, [], ◌∷◌, ◌++◌, drop, Option, Some, None, refl, sym, ap, ◌∙◌, subst, arith, eqb-true, eq-eqb}
 use Rattle.std.specs.List.{list_any}
 use Rattle.std.proofs.lemmas.Bool.{false≢true}
-use Rattle.linked_list.specs.Places.{insert_after, without_first}
 use Rattle.word_store.proofs.Counts.{hit-same}
+use Rattle.linked_list.specs.Places.{insert_after, without_first}
 use Rattle.packet_queue.specs.declared.events.KernelEvent.{KernelEvent}
 use Rattle.packet_queue.specs.declared.events.KernelEvent.TheVariants.{Accepted, Taken, Dequeued, Runs}
-use Rattle.event_history.specs.Ledger.{AreOnce, Entry, Follows, IsFirst, IsNowhere, Ledger, May, Timed, after_event, arrived, clock, count_of, entry_on, events_of, same_queue, stands_in}
 use Rattle.event_history.specs.Acceptances.{last_of, names, or_this}
+use Rattle.event_history.specs.Ledger.{AreOnce, Entry, Follows, IsFirst, IsNowhere, Ledger, May, Timed, after_event, arrived, clock, count_of, entry_on, events_of, same_queue, stands_in}
 use Rattle.event_history.specs.QueueHistory.{EndsOne, HasEntry, WasAccepted}
-use Rattle.event_history.proofs.Queues.{queue-ways, same-self}
-use Rattle.event_history.proofs.Packets.{none-stands}
-use Rattle.event_history.proofs.Following.{IsCut, follows-cut, once-after}
 use Rattle.event_history.proofs.Ends.{elsewhere, first-stands}
+use Rattle.event_history.proofs.Following.{IsCut, follows-cut, once-after}
+use Rattle.event_history.proofs.Packets.{none-stands}
+use Rattle.event_history.proofs.Queues.{queue-ways, same-self}
 
 pub entry-stands : (p : ℕ) (s : ℤ) (es : List Entry) → HasEntry p s es → stands_in p es ≡ true
 entry-stands p s [] h = absurd h

@@ -1,17 +1,17 @@
 -- The first event of a packet after its acceptance is its end.
 use Rattle.std.proofs.Common.{◌≡◌, ℕ, ℤ, ◌+◌, ◌≤◌, ◌||◌, Bool, true, false, cond, eqb, leb, List, [], ◌∷◌, ◌++◌, map, drop, Some, refl, sym, ap, ◌∙◌, subst, arith, eqb-true, eq-eqb}
 use Rattle.std.specs.List.{AllByRecursion}
+use Rattle.word_store.proofs.Counts.{hit-same}
 use Rattle.linked_list.specs.Places.{insert_after, without_first}
 use Rattle.linked_list.proofs.AllMembers.{all-append, all-back, all-front}
-use Rattle.word_store.proofs.Counts.{hit-same}
 use Rattle.linked_list.proofs.Places.{IsPlace, place}
 use Rattle.packet_queue.specs.declared.events.KernelEvent.{KernelEvent}
 use Rattle.packet_queue.specs.declared.events.KernelEvent.TheVariants.{Accepted, Taken, Dequeued, Runs}
-use Rattle.event_history.specs.Ledger.{AreOnce, Entry, Follows, IsFirst, Ledger, May, Timed, after_event, arrived, clock, count_of, entry_on, events_of, same_queue, stands_in}
 use Rattle.event_history.specs.Acceptances.{Acceptance, HasEnd, IsEnd, accepted_by, accepted_in, accepted_on, at_start, end_of, names, next_of}
-use Rattle.event_history.proofs.Queues.{queue-here, queue-ways, same-self}
-use Rattle.event_history.proofs.Packets.{none-stands}
+use Rattle.event_history.specs.Ledger.{AreOnce, Entry, Follows, IsFirst, Ledger, May, Timed, after_event, arrived, clock, count_of, entry_on, events_of, same_queue, stands_in}
 use Rattle.event_history.proofs.Following.{once-after}
+use Rattle.event_history.proofs.Packets.{none-stands}
+use Rattle.event_history.proofs.Queues.{queue-here, queue-ways, same-self}
 
 -- the packet of the queue has its end among the events
 abbrev pub Ends : ℤ → List KernelEvent → Entry → Type 0

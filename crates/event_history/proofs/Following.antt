@@ -1,13 +1,13 @@
 -- Events that lead from one ledger to another: joined and cut, and what every event keeps.
 use Rattle.std.proofs.Common.{◌≡◌, ◌≢◌, ℕ, ℤ, ◌≤◌, ◌⊎◌, inl, inr, true, false, cond, eqb, List, [], ◌∷◌, ◌++◌, drop, refl, sym, ◌∙◌, subst, arith}
 use Rattle.std.proofs.lemmas.Bool.{cases_eq}
-use Rattle.linked_list.specs.Places.{without_first}
 use Rattle.word_store.proofs.Counts.{hit-other, hit-same}
+use Rattle.linked_list.specs.Places.{without_first}
 use Rattle.packet_queue.specs.declared.events.KernelEvent.{KernelEvent}
 use Rattle.packet_queue.specs.declared.events.KernelEvent.TheVariants.{Accepted, Taken, Dequeued, Runs}
 use Rattle.event_history.specs.Ledger.{AreOnce, Entry, Follows, IsNowhere, Ledger, May, Timed, after_event, arrived, count_of, entry_on, same_queue, stands_in, with_queue}
-use Rattle.event_history.proofs.Queues.{queue-ways}
 use Rattle.event_history.proofs.Packets.{count-arrived, count-rest, count-without, none-counted, some-counted, some-stands}
+use Rattle.event_history.proofs.Queues.{queue-ways}
 
 -- ---- joined and cut
 

@@ -2,16 +2,16 @@
 -- dequeued. Where those that are taken do not count either, the rest are left.
 use Rattle.std.proofs.Common.{◌≡◌, ℕ, ℤ, ◌+◌, ◌≤◌, ◌&&◌, ◌||◌, Bool, true, false, cond, eqb, List, [], ◌∷◌, ◌++◌, append-nil, drop, filter, map, Option, Some, None, refl, sym, ap, ◌∙◌, subst, arith, eqb-true}
 use Rattle.std.proofs.lemmas.List.{append_assoc}
-use Rattle.linked_list.specs.Places.{without_first}
 use Rattle.word_store.proofs.Counts.{hit-same}
+use Rattle.linked_list.specs.Places.{without_first}
 use Rattle.packet_queue.specs.declared.events.KernelEvent.{KernelEvent}
 use Rattle.packet_queue.specs.declared.events.KernelEvent.TheVariants.{Accepted, Taken, Dequeued, Runs}
-use Rattle.event_history.specs.Ledger.{AreOnce, Entry, Follows, IsFirst, Ledger, May, Timed, after_event, arrived, count_of, entry_on, events_of, same_queue, stands_in}
 use Rattle.event_history.specs.Acceptances.{next_of, pair_of}
-use Rattle.event_history.proofs.Queues.{queue-ways, same-self, same-true}
-use Rattle.event_history.proofs.Packets.{none-stands}
-use Rattle.event_history.proofs.Following.{once-after}
+use Rattle.event_history.specs.Ledger.{AreOnce, Entry, Follows, IsFirst, Ledger, May, Timed, after_event, arrived, count_of, entry_on, events_of, same_queue, stands_in}
 use Rattle.event_history.proofs.Ends.{IsOf, elsewhere, first-stands, next-other, next-this}
+use Rattle.event_history.proofs.Following.{once-after}
+use Rattle.event_history.proofs.Packets.{none-stands}
+use Rattle.event_history.proofs.Queues.{queue-ways, same-self, same-true}
 
 not-same : (r q : ℤ) → same_queue r q ≡ false → same_queue q r ≡ false
 not-same r q other = on (same_queue q r) refl

@@ -7,14 +7,14 @@ use Rattle.linked_list.specs.Places.{insert_after, without_first}
 use Rattle.linked_list.proofs.Places.{IsPlace, place}
 use Rattle.packet_queue.specs.declared.events.KernelEvent.{KernelEvent}
 use Rattle.packet_queue.specs.declared.events.KernelEvent.TheVariants.{Accepted, Taken, Dequeued, Runs}
-use Rattle.event_history.specs.Ledger.{AreOnce, Entry, Follows, Ledger, NeverFall, Timed, after_event, arrived, clock, entry_on, events_of, same_queue}
 use Rattle.event_history.specs.Acceptances.{Acceptance, accepted_by, accepted_in, accepted_on, at_start, end_of, is_dequeued, is_open, next_of, pair_of, taken_by, taken_from}
+use Rattle.event_history.specs.Ledger.{AreOnce, Entry, Follows, Ledger, NeverFall, Timed, after_event, arrived, clock, entry_on, events_of, same_queue}
 use Rattle.event_history.specs.QueueHistory.{QueueHistory, due_at, entries_of, not_dequeued, open_ones, pairs_of}
-use Rattle.event_history.proofs.Queues.{queue-ways}
-use Rattle.event_history.proofs.Following.{follows-once}
-use Rattle.event_history.proofs.Ends.{acceptances-end}
 use Rattle.event_history.proofs.Before.{ends-one}
+use Rattle.event_history.proofs.Ends.{acceptances-end}
+use Rattle.event_history.proofs.Following.{follows-once}
 use Rattle.event_history.proofs.Kept.{all-kept, counts, kept, kept-append, kept_by, kept_in, taken_in, taken_now}
+use Rattle.event_history.proofs.Queues.{queue-ways}
 
 -- ---- acceptances that count
 

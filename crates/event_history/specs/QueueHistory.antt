@@ -3,8 +3,8 @@ use Rattle.std.specs.Prelude.{◌≡◌, ◌⊎◌, ℕ, ℤ, ◌==◌, false, n
 use Rattle.std.specs.List.{AllByRecursion}
 use Rattle.packet_queue.specs.declared.events.KernelEvent.{KernelEvent}
 use Rattle.packet_queue.specs.declared.events.KernelEvent.TheVariants.{Accepted, Taken, Dequeued, Runs}
-use Rattle.event_history.specs.Ledger.{AreOnce, Entry, Ledger, NeverFall, Timed, clock, events_of, same_queue}
 use Rattle.event_history.specs.Acceptances.{Acceptance, HasEnd, accepted_on, end_of, is_dequeued, is_open, last_of, pair_of, taken_from}
+use Rattle.event_history.specs.Ledger.{AreOnce, Entry, Ledger, NeverFall, Timed, clock, events_of, same_queue}
 
 -- ---- the second part
 
