@@ -1,0 +1,33 @@
+-- A store of which valid lists, and plain words, were written.
+use Rattle.std.proofs.Common.{◌≡◌, ℕ, List, length, ◌∙◌, subst, arith}
+use Rattle.owned_words.specs.Owned.{Pairs, written}
+use Rattle.owned_words.proofs.OwnedWords.{Holds-written, length-written, written-other}
+use Rattle.kernel_model.specs.HoldsLists.{HoldsLists}
+use Rattle.kernel_model.specs.Lists.{Lists}
+use Rattle.kernel_model.specs.Owned.{owned}
+use Rattle.kernel_model.specs.ValidLists.{AreValid}
+use Rattle.console_handler.specs.Progress.{settled_words}
+use Rattle.console_handler.proofs.DoneParts.{settled-words}
+
+module _ (s : List ℕ) (m : Lists) (plain : Pairs) (v : AreValid m) (size : length s ≡ m.size) where
+  abbrev left : List ℕ
+  left = written (owned m) (written plain s)
+
+  long : length left ≡ length s
+  long = length-written (owned m) (written plain s) ∙ length-written plain s
+
+  -- it holds the lists
+  pub left-holds : HoldsLists left m
+  left-holds =
+      record {
+        valid = v;
+        size = long ∙ size;
+        holds = Holds-written (owned m) (written plain s) v.owns.apart (λ a some. omega (arith, v.owns.inside a some, size, length-written plain s));
+      }
+
+  -- and so does one with these words
+  pub settled-holds : HoldsLists (settled_words s m plain) m
+  settled-holds =
+      subst (λ t. HoldsLists t m)
+      (settled-words s left m plain (record { lists = left-holds; size = long; written = record { holds = left-holds.holds; others = λ a none. written-other a (owned m) (written plain s) none } }))
+      left-holds

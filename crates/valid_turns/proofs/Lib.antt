@@ -1,0 +1,6 @@
+pub mod LeftStores
+pub mod TakenPackets
+pub mod HandlerTurns
+pub mod ReporterTurns
+pub mod ConsoleParts
+pub mod ConsoleTurns

@@ -1,0 +1,34 @@
+// The turns of residents leave valid lists.
+ghost use Rattle.std.specs.Prelude.{◌≡◌, List, ℕ};
+ghost use Rattle.kernel_model.specs.HoldsLists.{HoldsLists};
+ghost use Rattle.kernel_model.specs.Kernel.{Console};
+ghost use Rattle.kernel_model.specs.Lists.{Lists};
+ghost use Rattle.kernel_model.specs.ValidLists.{AreValid};
+ghost use Rattle.kernel_model.specs.declared.numbers.TheConstants.{CONSOLE, REPORTER};
+ghost use Rattle.resident_requests.specs.Answers.{finished};
+ghost use Rattle.resident_requests.specs.Requests.{RunsResident, TakesRequest};
+ghost use Rattle.resident_requests.specs.Turns.{Served, request_turn};
+ghost use Rattle.resident_requests.specs.declared.requests.Request.{Request};
+ghost use Rattle.fault_reporter.specs.FaultTurns.{fault_turn};
+ghost use Rattle.console_handler.specs.ConsoleTurn.{console_turn};
+
+/// The turn of a handler leaves valid lists, whatever it makes of the request, and so does the end of each resident's turn.
+pub fn handler_law()
+    ensures request { (serve : List ℕ → Lists → Request → Served) (s : List ℕ) (l : Lists) → HoldsLists s l
+        → TakesRequest l
+        → AreValid (request_turn serve s l).lists }
+    ensures ends { (s : List ℕ) (l : Lists) → HoldsLists s l → RunsResident l → AreValid (finished l) }
+{}
+
+/// So does the turn of the task that reports faults.
+pub fn reporter_law()
+    ensures { (s : List ℕ) (l : Lists) → HoldsLists s l → RunsResident l → l.running ≡ REPORTER
+        → AreValid (fault_turn s l).lists }
+{}
+
+/// So does the turn of the console, for whatever task the shell waits.
+pub fn console_law()
+    ensures { (id : ℕ) (c : Console) (k s : List ℕ) (l : Lists) → HoldsLists s l → RunsResident l
+        → l.running ≡ CONSOLE
+        → AreValid (console_turn id c k s l).lists }
+{}
