@@ -1,5 +1,5 @@
 -- Every call leaves valid lists.
-use Rattle.std.proofs.Common.{ℕ, List, [], ◌∷◌, Result, Ok, Err}
+use Rattle.std.proofs.Common.{ℕ, get_or, List, [], ◌∷◌, Result, Ok, Err}
 use Rattle.word_store.specs.declared.registers.Regs.{Regs}
 use Rattle.packet_queue.specs.QueueWords.{QueuedPacket}
 use Rattle.kernel_model.specs.Changes.{queue_of}
@@ -9,12 +9,14 @@ use Rattle.kernel_model.specs.ValidLists.{AreValid}
 use Rattle.kernel_model.specs.ValidQueues.Place.{Work}
 use Rattle.call_answers.specs.Callers.{HasCaller}
 use Rattle.call_answers.specs.Made.{Made}
+use Rattle.call_answers.proofs.RunningTask.{caller-at}
 use Rattle.packet_calls.specs.TaskWait.{taskwait}
 use Rattle.kernel_calls.specs.CallNumbers.{call_of}
 use Rattle.kernel_calls.specs.Calls.{kernel_call, made, made_if_read, of_wait, past_call}
 use Rattle.kernel_calls.specs.declared.call_numbers.CallOutcome.{CallOutcome}
 use Rattle.kernel_calls.specs.declared.call_numbers.KernelCall.{KernelCall}
 use Rattle.kernel_calls.specs.declared.call_numbers.KernelCall.TheVariants.{AddModule, CallCo, ChangePri, CoWait, CreateCo, CreateTask, DeleteCo, DeleteTask, Dqpkt, Freevec, Getvec, Hold, MulDiv, Qpkt, Quit, Release, ResumeCo, SetFlags, TaskWait, TestFlags, Unload, Wrch}
+use Rattle.kernel_calls.proofs.CreatedByCaller.{caller-creates}
 use Rattle.valid_calls.proofs.BlockCalls.{freevec-valid, getvec-valid}
 use Rattle.valid_calls.proofs.CoroutineCalls.{callco-valid, cowait-valid, createco-valid, deleteco-valid, resumeco-valid}
 use Rattle.valid_calls.proofs.ModuleCalls.{add_module-valid, unload-valid}
@@ -30,8 +32,8 @@ module _ (s : List ℕ) (l : Lists) (h : HoldsLists s l) (c : HasCaller l) where
   call-valid r (Quit result) = h.valid
   call-valid r (Getvec u) = getvec-valid l u h.valid
   call-valid r (Freevec a) = freevec-valid l a h.valid
-  call-valid r (CreateTask m u pri) = create_task-valid s l h m u pri c
-  call-valid r (DeleteTask id) = delete_task-valid s l h id c
+  call-valid r (CreateTask m u pri) = create_task-valid s l h m u pri l.running (caller-creates s l (get_or s 102 0) m h (caller-at s l h c))
+  call-valid r (DeleteTask id) = delete_task-valid s l h id c.field
   call-valid r (ChangePri id pri) = change_pri-valid s l h id pri
   call-valid r (SetFlags id flags) = set_flags-valid l h.valid id flags
   call-valid r (TestFlags mask) = test_flags-valid l h.valid mask c

@@ -1,5 +1,5 @@
 -- Flags, holding and releasing, a priority; a task is created, or deleted.
-use Rattle.std.proofs.Common.{◌≡◌, ℕ, ◌+◌, ◌-◌, ◌^◌, not, Bool, true, false, bit_and, bit_or, get_or, Option, Some, None, Result, Ok, List, [], ◌∷◌, ◌++◌, refl, sym, ap, ◌∙◌}
+use Rattle.std.proofs.Common.{◌≡◌, ℕ, ◌+◌, ◌-◌, ◌^◌, not, Bool, true, false, bit_and, bit_or, Option, Some, None, Result, Ok, List, [], ◌∷◌, ◌++◌, refl, sym, ap, ◌∙◌}
 use Rattle.std.specs.Prelude.{is_some, unwrap_or}
 use Rattle.std.specs.List.{list_any}
 use Rattle.std.specs.Option.{ok_or}
@@ -14,6 +14,7 @@ use Rattle.task_block.specs.Versions.{head_words}
 use Rattle.kernel_model.specs.Changes.{with_new_task, with_task}
 use Rattle.kernel_model.specs.HoldsLists.{HoldsLists}
 use Rattle.kernel_model.specs.Lists.{Lists, address_of_task}
+use Rattle.kernel_model.specs.Running.{RunsAlive}
 use Rattle.kernel_model.specs.Task.{Task}
 use Rattle.kernel_model.specs.ValidLists.{AreValid}
 use Rattle.call_answers.specs.Callers.{HasCaller}
@@ -24,12 +25,11 @@ use Rattle.call_answers.specs.Refusals.{first_refusal}
 use Rattle.call_answers.proofs.FoundTask.{reads}
 use Rattle.call_answers.proofs.ListedModules.{module-told}
 use Rattle.call_answers.proofs.Refusals.{first_refusal-front}
-use Rattle.call_answers.proofs.RunningTask.{caller-at}
 use Rattle.block_calls.specs.FreeStore.{with_taken}
 use Rattle.block_calls.specs.Getvec.{getvec_tests}
 use Rattle.block_calls.proofs.TakenStore.{taken-changed}
 use Rattle.task_calls.specs.ChangePri.{change_pri, priority_tests, with_new_priority}
-use Rattle.task_calls.specs.CreateTask.{create_task, creation_tests, has_high_globals, last_word_of, new_task, number_of, with_created}
+use Rattle.task_calls.specs.CreateTask.{MayCreate, create_task, creation_tests, has_high_globals, last_word_of, new_task, number_of, with_created}
 use Rattle.task_calls.specs.DeleteTask.{delete_task, deletion_tests, without_task}
 use Rattle.task_calls.specs.HoldTask.{held, hold, hold_tests}
 use Rattle.task_calls.specs.NewTasks.{MayPlace}
@@ -43,7 +43,6 @@ use Rattle.task_calls.proofs.EndTests.{may-go}
 use Rattle.task_calls.proofs.EndedTask.{removed-made}
 use Rattle.task_calls.proofs.PlacedTask.{comes}
 use Rattle.task_calls.proofs.TestsInTurn.{all-passed}
-use Rattle.kernel_calls.proofs.CreatedByCaller.{caller-creates}
 use Rattle.valid_calls.proofs.NoKeeper.{tells_nothing}
 use Rattle.valid_calls.proofs.OneGuest.{guest-stands, state-valid}
 use Rattle.valid_calls.proofs.TestedCalls.{all-hold, calling-guest, tested-guest, unless-valid}
@@ -84,8 +83,8 @@ module _ (s : List ℕ) (l : Lists) (h : HoldsLists s l) where
 
   -- ---- deletion
 
-  pub delete_task-valid : (id : ℕ) → HasCaller l → AreValid (delete_task l id).lists
-  delete_task-valid id c =
+  pub delete_task-valid : (id : ℕ) → RunsAlive l → AreValid (delete_task l id).lists
+  delete_task-valid id alive =
       unless-valid (guest_tests l id ++ deletion_tests l id) l (done (without_task l id)) h.valid gone
     where
       address : ℕ
@@ -94,14 +93,14 @@ module _ (s : List ℕ) (l : Lists) (h : HoldsLists s l) where
       gone : first_refusal (guest_tests l id ++ deletion_tests l id) ≡ None → AreValid (without_task l id)
       gone e =
           let parts = all-passed (guest_tests l id) (deletion_tests l id) e in
-          let m = may-go s l id address h c.field (tested-guest l id parts.0) parts.1 in
+          let m = may-go s l id address h alive (tested-guest l id parts.0) parts.1 in
           (removed-made s l id address h m.0 m.1 (given_store (task_out s address) address) (head_words s) tells_nothing tells_nothing refl refl (λ _ _. tt) (λ _ _ _ _ _. tt)).leaves.lists.lists.valid
 
   -- ---- creation
 
-  pub create_task-valid : (m u pri : ℕ) → HasCaller l → AreValid (create_task s l 0 (m ∷ []) u pri l.running).lists
-  create_task-valid m u pri c =
-      unless-valid (creation_tests s l 0 (m ∷ []) u pri) l (with_created s l (new_task l (unwrap_or (number_of l 0) 0) (m ∷ []) u pri l.running)) h.valid made
+  pub create_task-valid : (m u pri maker : ℕ) → MayCreate l 0 (m ∷ []) maker → AreValid (create_task s l 0 (m ∷ []) u pri maker).lists
+  create_task-valid m u pri maker may_create =
+      unless-valid (creation_tests s l 0 (m ∷ []) u pri) l (with_created s l (new_task l (unwrap_or (number_of l 0) 0) (m ∷ []) u pri maker)) h.valid made
     where
       last : ℕ
       last = last_word_of l.version u
@@ -118,7 +117,7 @@ module _ (s : List ℕ) (l : Lists) (h : HoldsLists s l) where
       of_room : List (Bool × ℕ)
       of_room = getvec_tests l last
 
-      made : first_refusal (creation_tests s l 0 (m ∷ []) u pri) ≡ None → AreValid (with_created s l (new_task l (unwrap_or (number_of l 0) 0) (m ∷ []) u pri l.running)).lists
+      made : first_refusal (creation_tests s l 0 (m ∷ []) u pri) ≡ None → AreValid (with_created s l (new_task l (unwrap_or (number_of l 0) 0) (m ∷ []) u pri maker)).lists
       made e =
           let modules = all-passed of_modules (priority_tests l 0 pri ++ (of_number ++ (of_globals ++ of_room))) e in
           let priority = all-passed (priority_tests l 0 pri) (of_number ++ (of_globals ++ of_room)) modules.1 in
@@ -131,11 +130,11 @@ module _ (s : List ℕ) (l : Lists) (h : HoldsLists s l) where
           module_is one = ap (λ b. first_refusal ((not (list_any not (b ∷ [])), 17) ∷ [])) (module-told s l m h) ∙ one
 
           by : (o : Option ℕ) → number_of l 0 ≡ o → (r : Option Run) → first_run (need last) l.blocks ≡ r → first_refusal ((not (list_any (λ n. not (has n (modules_in s))) (m ∷ [])), 17) ∷ []) ≡ None
-              → first_refusal (priority_tests l 0 pri) ≡ None → is_some o ≡ true → is_some r ≡ true → AreValid (with_new_task (new_task l (unwrap_or o 0) (m ∷ []) u pri l.running) (with_taken last l))
+              → first_refusal (priority_tests l 0 pri) ≡ None → is_some o ≡ true → is_some r ≡ true → AreValid (with_new_task (new_task l (unwrap_or o 0) (m ∷ []) u pri maker) (with_taken last l))
           by None number r run one two some room = cc
           by (Some n) number None run one two some room = cc
           by (Some n) number (Some run) first one two some room =
               let three : ◌≡◌ {A = Result ℕ ℕ} (Ok n) (ok_or (number_of l 0) 10) = ap (λ o. ok_or o 10) (sym number) in
-              let may : MayPlace l n (m ∷ []) pri l.running = may-place s l 0 (m ∷ []) u pri l.running h one two n three (caller-creates s l (get_or s 102 0) m h (caller-at s l h c)) in
+              let may : MayPlace l n (m ∷ []) pri maker = may-place s l 0 (m ∷ []) u pri maker h one two n three may_create in
               let taken : IsTaken s (taken_store s run (need last)) last (run.start + 1) = record { run = run; first = ap (first_run (need last)) (reads s l h).blocks ∙ first; front = refl; words = refl } in
-              (comes l n (m ∷ []) u pri l.running s (taken_store s run (need last)) (run.start + 1) h may (taken-changed s (taken_store s run (need last)) l last (run.start + 1) h taken)).valid
+              (comes l n (m ∷ []) u pri maker s (taken_store s run (need last)) (run.start + 1) h may (taken-changed s (taken_store s run (need last)) l last (run.start + 1) h taken)).valid
