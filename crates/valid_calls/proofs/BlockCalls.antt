@@ -17,7 +17,8 @@ use Rattle.block_calls.specs.Freevec.{freevec, freevec_tests, has_packet_in, hol
 use Rattle.block_calls.specs.Getvec.{getvec, getvec_tests}
 use Rattle.block_calls.proofs.BlockUses.{user-is}
 use Rattle.block_calls.proofs.IdleBlocks.{none-idle}
-use Rattle.valid_calls.proofs.TestedCalls.{all-hold, unless-valid}
+use Rattle.ledger_moves.proofs.CallMoves.{passed}
+use Rattle.valid_calls.proofs.TestedCalls.{unless-valid}
 
 pub getvec-valid : (l : Lists) (u : ℕ) → AreValid l → AreValid (getvec l u).lists
 getvec-valid l u v =
@@ -32,7 +33,7 @@ freevec-valid l a v = on (eqb a 0)
   where
     given-back : first_refusal (freevec_tests l a) ≡ None → AreValid (with_given a l)
     given-back e =
-        let ok = all-hold (freevec_tests l a) e in
+        let ok = passed (freevec_tests l a) e in
         let parts = and_parts (is_user (use_of_data l a)) (is_some (used_at a l.blocks)) ok.0 in
         by (used_at a l.blocks) refl parts.1 (user-is (use_of_data l a) parts.0) (not-true (has_packet_in l a) ok.1.0)
       where

@@ -42,9 +42,10 @@ use Rattle.coroutine_calls.proofs.DeletedCoroutine.{block-there, coded-ok}
 use Rattle.coroutine_calls.proofs.GoneCoroutine.{deleted-changed}
 use Rattle.coroutine_calls.proofs.MadeCoroutine.{createco-made}
 use Rattle.coroutine_calls.proofs.MadeSwitches.{switched_to}
+use Rattle.ledger_moves.proofs.CallMoves.{passed}
 use Rattle.valid_calls.proofs.NoKeeper.{no-keeper, tells_nothing}
 use Rattle.valid_calls.proofs.OneGuest.{guest-stands, guest-valid, guests-coroutines}
-use Rattle.valid_calls.proofs.TestedCalls.{all-hold, switch-valid, unless-valid}
+use Rattle.valid_calls.proofs.TestedCalls.{switch-valid, unless-valid}
 
 -- ---- coroutines of which one has another frame saved
 
@@ -119,13 +120,13 @@ module _ (s : List ℕ) (l : Lists) (h : HoldsLists s l) (c : HasCaller l) where
     where
       called : first_refusal (idle_tests d (coroutines_of_caller l)) ≡ None → AreValid (with_callers (with_called d r.p r.pc) l)
       called e =
-          let ok = all-hold (idle_tests d own) (ap (λ k. first_refusal (idle_tests d k)) (sym found) ∙ e) in
+          let ok = passed (idle_tests d own) (ap (λ k. first_refusal (idle_tests d k)) (sym found) ∙ e) in
           called-valid (with_called d r.p r.pc) r.p r.pc d own.active refl ok.0 stand.members stand.distinct (not-true (has_parent d own) ok.1.0)
 
   pub resumeco-valid : (r : Regs) (d v : ℕ) → AreValid (resumeco l r d v).lists
   resumeco-valid r d v =
       switch-valid (resume_tests d (coroutines_of_caller l)) l r (cond (eqb (current_of (coroutines_of_caller l)) d) (resumed_itself v l r) (switched (with_resumed d r.p r.pc) v l r)) h.valid
-      (λ e. on (eqb (current_of own) d) refl (all-hold (resume_tests d own) (ap (λ k. first_refusal (resume_tests d k)) (sym found) ∙ e)))
+      (λ e. on (eqb (current_of own) d) refl (passed (resume_tests d own) (ap (λ k. first_refusal (resume_tests d k)) (sym found) ∙ e)))
     where
       either : (x y : Bool) → (not x || y) ≡ true → y ≡ false → x ≡ false
       either false y e f = refl
@@ -171,9 +172,9 @@ module _ (s : List ℕ) (l : Lists) (h : HoldsLists s l) (c : HasCaller l) where
       gone : first_refusal (delete_tests l d) ≡ None → AreValid (with_deleted_at d l)
       gone e =
           let parts = all-passed (idle_tests d (coroutines_of_caller l)) packet e in
-          let passed : first_refusal (idle_tests d own) ≡ None = ap (λ k. first_refusal (idle_tests d k)) (sym found) ∙ parts.0 in
+          let none : first_refusal (idle_tests d own) ≡ None = ap (λ k. first_refusal (idle_tests d k)) (sym found) ∙ parts.0 in
           let held = callers-held s l t h g in
-          let idle : IsIdle s t own held d = idle-passed s t own held d passed in
-          let answer : idle_answer s t d ≡ Ok tt = coded-ok (idle_answer s t d) tt (sym (idle-coded s t own held d ∙ ap answer_of passed)) in
+          let idle : IsIdle s t own held d = idle-passed s t own held d none in
+          let answer : idle_answer s t d ≡ Ok tt = coded-ok (idle_answer s t d) tt (sym (idle-coded s t own held d ∙ ap answer_of none)) in
           let block = block-there s tells_nothing (length s) l keeper t g d answer in
-          (deleted-changed s l t h g d idle.known idle.alone answer block.0 block.1 (not-true (has_packet_in l d) (all-hold packet parts.1).0)).lists.valid
+          (deleted-changed s l t h g d idle.known idle.alone answer block.0 block.1 (not-true (has_packet_in l d) (passed packet parts.1).0)).lists.valid

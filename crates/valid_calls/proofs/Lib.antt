@@ -7,3 +7,4 @@ pub mod ModuleCalls
 pub mod PacketCalls
 pub mod CoroutineCalls
 pub mod EveryCall
+pub mod GuestTurns

@@ -22,12 +22,13 @@ use Rattle.module_calls.specs.UnloadModule.{is_in_use, unload_module, unload_tes
 use Rattle.module_calls.proofs.AddedModule.{added-changed}
 use Rattle.module_calls.proofs.AdditionTests.{IsChecked, checks-passed, room-is}
 use Rattle.module_calls.proofs.GoneModule.{ModuleAt, block, own_block, place}
+use Rattle.ledger_moves.proofs.CallMoves.{passed}
 use Rattle.valid_calls.proofs.BlockCalls.{given-back-valid}
-use Rattle.valid_calls.proofs.TestedCalls.{all-hold, tested-guest, unless-valid}
+use Rattle.valid_calls.proofs.TestedCalls.{tested-guest, unless-valid}
 
 module _ (s : List ℕ) (l : Lists) (h : HoldsLists s l) where
   pub unload-valid : (m : ℕ) → AreValid (unload_module l m).lists
-  unload-valid m = unless-valid (unload_tests l m) l (done (with_given m (without_module m l))) h.valid (λ e. let ok = all-hold (unload_tests l m) e in gone ok.0 (not-true _ ok.1.0) (not-true _ ok.1.1.0))
+  unload-valid m = unless-valid (unload_tests l m) l (done (with_given m (without_module m l))) h.valid (λ e. let ok = passed (unload_tests l m) e in gone ok.0 (not-true _ ok.1.0) (not-true _ ok.1.1.0))
     where
       gone : has_module l m ≡ true → is_in_use l m ≡ false → has_packet_in l m ≡ false → AreValid (with_given m (without_module m l))
       gone there unused empty =

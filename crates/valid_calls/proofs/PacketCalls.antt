@@ -19,8 +19,9 @@ use Rattle.packet_calls.proofs.DequeueCall.{is-dequeued}
 use Rattle.packet_calls.proofs.NamedQueues.{Names, named-place}
 use Rattle.packet_calls.proofs.SendCall.{is-sent}
 use Rattle.packet_calls.proofs.WaitCall.{none-waits, some-taken}
+use Rattle.ledger_moves.proofs.CallMoves.{passed}
 use Rattle.valid_calls.proofs.NoKeeper.{no-keeper, tells_nothing}
-use Rattle.valid_calls.proofs.TestedCalls.{all-hold, unless-valid}
+use Rattle.valid_calls.proofs.TestedCalls.{unless-valid}
 
 module _ (s : List ℕ) (l : Lists) (h : HoldsLists s l) (c : HasCaller l) where
   keeper : HasKeeper s tells_nothing (length s) l
@@ -45,7 +46,7 @@ module _ (s : List ℕ) (l : Lists) (h : HoldsLists s l) (c : HasCaller l) where
       sent : first_refusal (qpkt_tests s l p) ≡ None → AreValid (sent_to number s l p).lists
       sent e =
           let parts = all-passed (packet_tests s l p) ((is_destination l number, 4) ∷ []) e in
-          let there : is_destination l number ≡ true = (all-hold ((is_destination l number, 4) ∷ []) parts.1).0 in
+          let there : is_destination l number ≡ true = (passed ((is_destination l number, 4) ∷ []) parts.1).0 in
           let names : Names l number (queue_for l (place_of number)) = record { is = there; queue = refl; place = named-place l number there } in
           subst (λ o. AreValid (by_refusal o l (sent_to number s l p)).lists) e
           (is-sent s tells_nothing (length s) l p keeper c (get_or s 102 0) caller parts.0 (queue_for l (place_of number)) names _ refl _ tells_nothing refl (λ _ _ _ _. tt)).leaves.lists.lists.valid
@@ -54,7 +55,7 @@ module _ (s : List ℕ) (l : Lists) (h : HoldsLists s l) (c : HasCaller l) where
   dqpkt-valid id p = unless-valid (dqpkt_tests l id p) l (dequeued p (found_in l id p) l) h.valid back
     where
       back : first_refusal (dqpkt_tests l id p) ≡ None → AreValid (dequeued p (found_in l id p) l).lists
-      back e = (let ok = all-hold (dqpkt_tests l id p) e in by (found_in l id p) refl ok.0 (not-true (is_residents_packet l p) ok.1.1.0))
+      back e = (let ok = passed (dqpkt_tests l id p) e in by (found_in l id p) refl ok.0 (not-true (is_residents_packet l p) ok.1.1.0))
         where
           by : (o : Option Search) → found_in l id p ≡ o → is_destination l id ≡ true → is_residents_packet l p ≡ false → AreValid (dequeued p (found_in l id p) l).lists
           by None found names plain = subst (λ o. AreValid (dequeued p o l).lists) (sym found) h.valid

@@ -43,9 +43,10 @@ use Rattle.task_calls.proofs.EndTests.{may-go}
 use Rattle.task_calls.proofs.EndedTask.{removed-made}
 use Rattle.task_calls.proofs.PlacedTask.{comes}
 use Rattle.task_calls.proofs.TestsInTurn.{all-passed}
+use Rattle.ledger_moves.proofs.CallMoves.{passed}
 use Rattle.valid_calls.proofs.NoKeeper.{tells_nothing}
 use Rattle.valid_calls.proofs.OneGuest.{guest-stands, state-valid}
-use Rattle.valid_calls.proofs.TestedCalls.{all-hold, calling-guest, tested-guest, unless-valid}
+use Rattle.valid_calls.proofs.TestedCalls.{calling-guest, tested-guest, unless-valid}
 
 -- ---- flags, and whether a task is held
 
@@ -123,7 +124,7 @@ module _ (s : List ℕ) (l : Lists) (h : HoldsLists s l) where
           let priority = all-passed (priority_tests l 0 pri) (of_number ++ (of_globals ++ of_room)) modules.1 in
           let number = all-passed of_number (of_globals ++ of_room) priority.1 in
           let globals = all-passed of_globals of_room number.1 in
-          by (number_of l 0) refl (first_run (need last) l.blocks) refl (module_is modules.0) priority.0 (all-hold of_number number.0).0 (all-hold of_room globals.1).0
+          by (number_of l 0) refl (first_run (need last) l.blocks) refl (module_is modules.0) priority.0 (passed of_number number.0).0 (passed of_room globals.1).0
         where
           -- the store's list of modules has it
           module_is : first_refusal of_modules ≡ None → first_refusal ((not (list_any (λ n. not (has n (modules_in s))) (m ∷ [])), 17) ∷ []) ≡ None

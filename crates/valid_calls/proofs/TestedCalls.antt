@@ -1,6 +1,5 @@
 -- A call that is refused leaves the lists as they are, so what it makes matters only where all of its tests hold.
-use Rattle.std.proofs.Common.{◌≡◌, ℕ, Bool, true, false, cond, Option, Some, None, List, [], ◌∷◌, refl}
-use Rattle.std.specs.List.{AllByRecursion}
+use Rattle.std.proofs.Common.{◌≡◌, ℕ, Bool, Option, Some, None, List, refl}
 use Rattle.word_store.specs.declared.registers.Regs.{Regs}
 use Rattle.kernel_model.specs.Lists.{Lists, address_of_task}
 use Rattle.kernel_model.specs.ValidLists.{AreValid}
@@ -26,16 +25,6 @@ switch-valid tests l r m v made = on (first_refusal tests) refl
     on : (o : Option ℕ) → first_refusal tests ≡ o → AreValid (switches.by_refusal o l r m).lists
     on None e = made e
     on (Some code) e = v
-
--- each of the tests holds then
-pub all-hold : (tests : List (Bool × ℕ)) → first_refusal tests ≡ None → AllByRecursion (λ test. test.0 ≡ true) tests
-all-hold [] e = tt
-all-hold (test ∷ tests) e = on test.0 refl e (all-hold tests)
-  where
-    on : (b : Bool) → test.0 ≡ b → cond b (first_refusal tests) (Some test.1) ≡ None → (first_refusal tests ≡ None → AllByRecursion (λ test. test.0 ≡ true) tests)
-        → AllByRecursion (λ test. test.0 ≡ true) (test ∷ tests)
-    on true is e more = (is, more e)
-    on false is e more = cc
 
 -- the guest that passes its tests
 pub tested-guest : (l : Lists) (id : ℕ) → first_refusal (guest_tests l id) ≡ None → GuestAt l id (address_of_task l id)
