@@ -1,28 +1,36 @@
--- Events that lead from one ledger to another: joined and cut, and what every event keeps.
-use Rattle.std.proofs.Common.{◌≡◌, ◌≢◌, ℕ, ℤ, ◌≤◌, ◌⊎◌, inl, inr, true, false, cond, eqb, List, [], ◌∷◌, ◌++◌, drop, refl, sym, ◌∙◌, subst, arith}
+-- Events that lead from one ledger to another: joined, and what every event keeps.
+use Rattle.std.proofs.Common.{◌≡◌, ◌≢◌, ℕ, ℤ, ◌≤◌, ◌⊎◌, inl, inr, true, false, cond, eqb, List, [], ◌∷◌, ◌++◌, drop, refl, sym, ◌∙◌, subst, arith, Bool, ◌||◌, eq-eqb, ap}
 use Rattle.std.proofs.lemmas.Bool.{cases_eq}
 use Rattle.word_store.proofs.Counts.{hit-other, hit-same}
 use Rattle.linked_list.specs.Places.{without_first}
 use Rattle.packet_queue.specs.declared.events.KernelEvent.{KernelEvent}
 use Rattle.packet_queue.specs.declared.events.KernelEvent.TheVariants.{Accepted, Taken, Dequeued, Runs}
-use Rattle.event_history.specs.Ledger.{AreOnce, Entry, Follows, IsNowhere, Ledger, May, Timed, after_event, arrived, count_of, entry_on, same_queue, stands_in, with_queue}
-use Rattle.event_history.proofs.Packets.{count-arrived, count-rest, count-without, none-counted, some-counted, some-stands}
-use Rattle.event_history.proofs.Queues.{queue-ways}
+use Rattle.event_history.specs.Ledger.{AreOnce, Entry, Follows, IsNowhere, Ledger, May, Timed, after_event, arrived, count_of, entry_on, same_queue, stands_in, with_queue, IsFirst}
+use Rattle.event_history.proofs.Packets.{count-arrived, count-rest, count-without, none-counted, some-counted, some-stands, none-stands}
+use Rattle.event_history.proofs.Queues.{queue-ways, same-self}
 
--- ---- joined and cut
+-- ---- joined
 
 pub follows-join : (xs ys : List Timed) (b m a : Ledger) → Follows xs b m → Follows ys m a → Follows (xs ++ ys) b a
 follows-join [] ys b m a e f = subst (λ z. Follows ys z a) (sym e) f
 follows-join (x ∷ xs) ys b m a h f = (h.0, follows-join xs ys (after_event x.event x.due b) m a h.1 f)
 
-pub record IsCut (xs ys : List Timed) (b a : Ledger) : Type 0 where
-  pub between : Ledger
-  pub first : Follows xs b between
-  pub rest : Follows ys between a
+-- ---- where a packet stands
 
-pub follows-cut : (xs ys : List Timed) (b a : Ledger) → Follows (xs ++ ys) b a → IsCut xs ys b a
-follows-cut [] ys b a h = record { between = b; first = refl; rest = h }
-follows-cut (x ∷ xs) ys b a h = let r = follows-cut xs ys (after_event x.event x.due b) a h.1 in record { between = r.between; first = (h.0, r.first); rest = r.rest }
+-- a packet that stands on one queue stands on no other
+pub elsewhere : (b : Ledger) (h : AreOnce b) (p : ℕ) (r q : ℤ) → stands_in p (b r) ≡ true → same_queue q r ≡ false → stands_in p (b q) ≡ false
+elsewhere b h p r q here other = on (stands_in p (b q)) refl
+  where
+    on : (c : Bool) → stands_in p (b q) ≡ c → c ≡ false
+    on true some = clash (sym (ap (λ z. same_queue z r) (h.one q r p some here)) ∙ other)
+      where
+        clash : same_queue r r ≡ false → true ≡ false
+        clash e = sym (same-self r) ∙ e
+    on false none = refl
+
+pub first-stands : (p : ℕ) (s : ℤ) (ys : List Entry) → IsFirst p s ys → stands_in p ys ≡ true
+first-stands p s [] first = absurd first
+first-stands p s (y ∷ ys) first = ap (λ b. b || stands_in p ys) (eq-eqb p y.packet (sym first.0))
 
 -- ---- no packet twice
 
@@ -90,3 +98,13 @@ once-after (Runs t) due b h may = h
 pub follows-once : (xs : List Timed) (b a : Ledger) → AreOnce b → Follows xs b a → AreOnce a
 follows-once [] b a h e = subst AreOnce e h
 follows-once (x ∷ xs) b a h f = follows-once xs (after_event x.event x.due b) a (once-after x.event x.due b h f.0) f.1
+
+-- ---- what was just taken stands nowhere
+
+pub taken-nowhere : (q : ℤ) (p : ℕ) (s : ℤ) (due : ℕ) (b : Ledger) → AreOnce b → IsFirst p s (b q) → IsNowhere p (after_event (Taken q p s) due b)
+taken-nowhere q p s due b h first r =
+    queue-ways (λ c. stands_in p (cond c (drop 1 (b q)) (b r)) ≡ false) r q (λ is. gone (b q) first (h.once q p)) (λ other. elsewhere b h p q r (first-stands p s (b q) first) other)
+  where
+    gone : (es : List Entry) → IsFirst p s es → count_of p es ≤ 1 → stands_in p (drop 1 es) ≡ false
+    gone [] first once = refl
+    gone (e ∷ es) first once = none-stands p es (omega (arith, once, hit-same p e.packet (sym first.0)))

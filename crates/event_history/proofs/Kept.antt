@@ -6,19 +6,12 @@ use Rattle.word_store.proofs.Counts.{hit-same}
 use Rattle.linked_list.specs.Places.{without_first}
 use Rattle.packet_queue.specs.declared.events.KernelEvent.{KernelEvent}
 use Rattle.packet_queue.specs.declared.events.KernelEvent.TheVariants.{Accepted, Taken, Dequeued, Runs}
-use Rattle.event_history.specs.Acceptances.{next_of, pair_of}
+use Rattle.event_history.specs.Acceptances.{is_end, pair_of}
 use Rattle.event_history.specs.Ledger.{AreOnce, Entry, Follows, IsFirst, Ledger, May, Timed, after_event, arrived, count_of, entry_on, events_of, same_queue, stands_in}
-use Rattle.event_history.proofs.Ends.{IsOf, elsewhere, first-stands, next-other, next-this}
-use Rattle.event_history.proofs.Following.{once-after}
+use Rattle.event_history.proofs.Ends.{EndsOf, dequeue-ends, end-other, end-this, end_in, take-ends}
+use Rattle.event_history.proofs.Following.{elsewhere, first-stands, once-after}
 use Rattle.event_history.proofs.Packets.{none-stands}
-use Rattle.event_history.proofs.Queues.{queue-ways, same-self, same-true}
-
-not-same : (r q : ℤ) → same_queue r q ≡ false → same_queue q r ≡ false
-not-same r q other = on (same_queue q r) refl
-  where
-    on : (b : Bool) → same_queue q r ≡ b → b ≡ false
-    on true e = sym (same-self r) ∙ (λ i. same_queue r (sym (same-true q r e) i)) ∙ other
-    on false e = refl
+use Rattle.event_history.proofs.Queues.{not-same, queue-ways, same-self}
 
 -- whether an acceptance with such an end counts; t says whether one does that is taken
 abbrev pub counts : Bool → Option KernelEvent → Bool
@@ -32,7 +25,7 @@ module _ (t : Bool) (h : Entry → Bool) where
   -- the pairs of those that count, of which h is asked besides, where these events come
   abbrev pub kept : List KernelEvent → List Entry → List (ℕ × ℤ)
   kept es [] = []
-  kept es (y ∷ ys) = cond (h y && counts t (next_of y.packet es)) (pair_of y ∷ kept es ys) (kept es ys)
+  kept es (y ∷ ys) = cond (h y && counts t (end_in y.packet es)) (pair_of y ∷ kept es ys) (kept es ys)
 
   abbrev pub kept_by : ℤ → KernelEvent → ℕ → List KernelEvent → List (ℕ × ℤ)
   kept_by q (Accepted r p s) due es = cond (same_queue r q) (kept es (entry_on r p s due ∷ [])) []
@@ -58,20 +51,25 @@ module _ (t : Bool) (h : Entry → Bool) where
 
   pub kept-append : (es : List KernelEvent) (xs ys : List Entry) → kept es (xs ++ ys) ≡ kept es xs ++ kept es ys
   kept-append es [] ys = refl
-  kept-append es (x ∷ xs) ys = on (h x && counts t (next_of x.packet es)) (kept-append es xs ys)
+  kept-append es (x ∷ xs) ys = on (h x && counts t (end_in x.packet es)) (kept-append es xs ys)
     where
       on : (b : Bool) → kept es (xs ++ ys) ≡ kept es xs ++ kept es ys → cond b (pair_of x ∷ kept es (xs ++ ys)) (kept es (xs ++ ys)) ≡ cond b (pair_of x ∷ kept es xs) (kept es xs) ++ kept es ys
       on true more = ap (λ z. pair_of x ∷ z) more
       on false more = more
 
-  -- an event of another packet changes nothing
-  kept-other : (p : ℕ) (e : KernelEvent) (es : List KernelEvent) (ys : List Entry) → IsOf p e → stands_in p ys ≡ false → kept (e ∷ es) ys ≡ kept es ys
+  -- an event that is no end changes nothing, nor does the end of another packet
+  kept-same : (e : KernelEvent) → ((r : ℕ) → is_end r e ≡ false) → (es : List KernelEvent) (ys : List Entry) → kept (e ∷ es) ys ≡ kept es ys
+  kept-same e no_end es [] = refl
+  kept-same e no_end es (y ∷ ys) =
+      λ i. cond (h y && counts t (cond (no_end y.packet i) (Some e) (end_in y.packet es))) (pair_of y ∷ kept-same e no_end es ys i) (kept-same e no_end es ys i)
+
+  kept-other : (p : ℕ) (e : KernelEvent) (es : List KernelEvent) (ys : List Entry) → EndsOf p e → stands_in p ys ≡ false → kept (e ∷ es) ys ≡ kept es ys
   kept-other p e es [] of none = refl
   kept-other p e es (y ∷ ys) of none = on (eqb p y.packet) refl none (kept-other p e es ys of)
     where
       on : (b : Bool) → eqb p y.packet ≡ b → (b || stands_in p ys) ≡ false → (stands_in p ys ≡ false → kept (e ∷ es) ys ≡ kept es ys) → kept (e ∷ es) (y ∷ ys) ≡ kept es (y ∷ ys)
       on true is none more = cc
-      on false is none more = λ i. cond (h y && counts t (next-other p e es y.packet of is i)) (pair_of y ∷ more none i) (more none i)
+      on false is none more = λ i. cond (h y && counts t (end-other p e es of y.packet is i)) (pair_of y ∷ more none i) (more none i)
 
   kept-none : (ys : List Entry) → kept [] ys ≡ map pair_of (filter h ys)
   kept-none [] = refl
@@ -83,15 +81,15 @@ module _ (t : Bool) (h : Entry → Bool) where
 
   -- ---- one event
 
-  module _ (q : ℤ) (all : t ≡ true → (y : Entry) → h y ≡ true) (comes : (x : Entry) (es : List KernelEvent) (ys : List Entry) → kept es (arrived q x ys) ≡ kept es ys ++ kept es (x ∷ [])) where
+  module _ (q : ℤ) (all : t ≡ true → (y : Entry) → h y ≡ true) (comes : (x : Entry) (es : List KernelEvent) (ys : List Entry) → stands_in x.packet ys ≡ false → kept es (arrived q x ys) ≡ kept es ys ++ kept es (x ∷ [])) where
     kept-taken : (p : ℕ) (s : ℤ) (es : List KernelEvent) (ys : List Entry) → IsFirst p s ys → count_of p ys ≤ 1
         → cond (t && true) ((p, s) ∷ []) [] ++ kept es (drop 1 ys) ≡ kept (Taken q p s ∷ es) ys
     kept-taken p s es [] first once = absurd first
     kept-taken p s es (y ∷ ys) first once =
-        on t refl (h y) refl (next-this p (Taken q p s) es y.packet (λ r. refl) (sym first.0))
-        (kept-other p (Taken q p s) es ys (λ r. refl) (none-stands p ys (omega (arith, once, hit-same p y.packet (sym first.0)))))
+        on t refl (h y) refl (end-this p (Taken q p s) es (take-ends q p s) y.packet (sym first.0))
+        (kept-other p (Taken q p s) es ys (take-ends q p s) (none-stands p ys (omega (arith, once, hit-same p y.packet (sym first.0)))))
       where
-        on : (c : Bool) → t ≡ c → (d : Bool) → h y ≡ d → next_of y.packet (Taken q p s ∷ es) ≡ Some (Taken q p s) → kept (Taken q p s ∷ es) ys ≡ kept es ys
+        on : (c : Bool) → t ≡ c → (d : Bool) → h y ≡ d → end_in y.packet (Taken q p s ∷ es) ≡ Some (Taken q p s) → kept (Taken q p s ∷ es) ys ≡ kept es ys
             → cond (t && true) ((p, s) ∷ []) [] ++ kept es ys ≡ kept (Taken q p s ∷ es) (y ∷ ys)
         on true is true here next rest =
             ap (λ c. cond (c && true) ((p, s) ∷ []) [] ++ kept es ys) is
@@ -119,11 +117,11 @@ module _ (t : Bool) (h : Entry → Bool) where
         on : (b : Bool) → eqb p y.packet ≡ b → cond b 1 0 + count_of p ys ≤ 1 → (count_of p ys ≤ 1 → kept es (without_first (λ y. eqb p y.packet) ys) ≡ kept (Dequeued r p ∷ es) ys)
             → kept es (cond b ys (y ∷ without_first (λ y. eqb p y.packet) ys)) ≡ kept (Dequeued r p ∷ es) (y ∷ ys)
         on true is once more =
-            sym (kept-other p (Dequeued r p) es ys (λ z. refl) (none-stands p ys (omega (arith, once)))) ∙ sym (none (h y))
-            ∙ sym (ap (λ o. cond (h y && counts t o) (pair_of y ∷ kept (Dequeued r p ∷ es) ys) (kept (Dequeued r p ∷ es) ys)) (next-this p (Dequeued r p) es y.packet (λ z. refl) (eqb-true p y.packet is)))
+            sym (kept-other p (Dequeued r p) es ys (dequeue-ends r p) (none-stands p ys (omega (arith, once)))) ∙ sym (none (h y))
+            ∙ sym (ap (λ o. cond (h y && counts t o) (pair_of y ∷ kept (Dequeued r p ∷ es) ys) (kept (Dequeued r p ∷ es) ys)) (end-this p (Dequeued r p) es (dequeue-ends r p) y.packet (eqb-true p y.packet is)))
         on false is once more =
             let rest : kept es (without_first (λ y. eqb p y.packet) ys) ≡ kept (Dequeued r p ∷ es) ys = more (omega (arith, once)) in
-            let next : next_of y.packet (Dequeued r p ∷ es) ≡ next_of y.packet es = next-other p (Dequeued r p) es y.packet (λ z. refl) is in
+            let next : end_in y.packet (Dequeued r p ∷ es) ≡ end_in y.packet es = end-other p (Dequeued r p) es (dequeue-ends r p) y.packet is in
             λ i. cond (h y && counts t (sym next i)) (pair_of y ∷ rest i) (rest i)
 
     abbrev Stays : KernelEvent → ℕ → List KernelEvent → Ledger → Type 0
@@ -132,10 +130,10 @@ module _ (t : Bool) (h : Entry → Bool) where
     stays : (e : KernelEvent) (due : ℕ) (es : List KernelEvent) (b : Ledger) → AreOnce b → May e b → Stays e due es b
     stays (Accepted r p s) due es b once may =
         let x : Entry = entry_on r p s due in
-        let same : kept (Accepted r p s ∷ es) (b q) ≡ kept es (b q) = kept-other p (Accepted r p s) es (b q) (λ z. refl) (may q) in
+        let same : kept (Accepted r p s ∷ es) (b q) ≡ kept es (b q) = kept-same (Accepted r p s) (λ z. refl) es (b q) in
         queue-ways (λ c. kept es (after_event (Accepted r p s) due b q) ≡ kept (Accepted r p s ∷ es) (b q) ++ cond c (kept es (x ∷ [])) []) r q
         (λ is.
-        ap (kept es) (ap (λ c. cond c (arrived r x (b r)) (b q)) (ap (same_queue q) is ∙ same-self q) ∙ (λ i. arrived (is i) x (b (is i)))) ∙ comes x es (b q)
+        ap (kept es) (ap (λ c. cond c (arrived r x (b r)) (b q)) (ap (same_queue q) is ∙ same-self q) ∙ (λ i. arrived (is i) x (b (is i)))) ∙ comes x es (b q) (may q)
         ∙ ap (λ z. z ++ kept es (x ∷ [])) (sym same))
         (λ other. ap (kept es) (ap (λ c. cond c (arrived r x (b r)) (b q)) (not-same r q other)) ∙ sym same ∙ sym (append-nil (kept (Accepted r p s ∷ es) (b q))))
     stays (Taken r p s) due es b once may =
@@ -146,7 +144,7 @@ module _ (t : Bool) (h : Entry → Bool) where
         (λ other.
         (λ i. cond (no-more t i) ((p, s) ∷ []) [] ++ kept es (after_event (Taken r p s) due b q))
         ∙ ap (kept es) (ap (λ c. cond c (drop 1 (b r)) (b q)) (not-same r q other))
-        ∙ sym (kept-other p (Taken r p s) es (b q) (λ z. refl) (elsewhere b once p r q (first-stands p s (b r) may) (not-same r q other)))
+        ∙ sym (kept-other p (Taken r p s) es (b q) (take-ends r p s) (elsewhere b once p r q (first-stands p s (b r) may) (not-same r q other)))
         ∙ sym (append-nil (kept (Taken r p s ∷ es) (b q))))
       where
         no-more : (c : Bool) → (c && false) ≡ false
@@ -157,12 +155,8 @@ module _ (t : Bool) (h : Entry → Bool) where
         (λ is.
         ap (λ z. kept es (without_first (λ y. eqb p y.packet) (b z))) (sym is) ∙ kept-dequeued r p es (b q) (once.once q p) ∙ sym (append-nil (kept (Dequeued r p ∷ es) (b q))))
         (λ other.
-        sym (kept-other p (Dequeued r p) es (b q) (λ z. refl) (elsewhere b once p r q may other)) ∙ sym (append-nil (kept (Dequeued r p ∷ es) (b q))))
-    stays (Runs n) due es b once may = kept-runs (b q) ∙ sym (append-nil (kept (Runs n ∷ es) (b q)))
-      where
-        kept-runs : (ys : List Entry) → kept es ys ≡ kept (Runs n ∷ es) ys
-        kept-runs [] = refl
-        kept-runs (y ∷ ys) = λ i. cond (h y && counts t (next_of y.packet es)) (pair_of y ∷ kept-runs ys i) (kept-runs ys i)
+        sym (kept-other p (Dequeued r p) es (b q) (dequeue-ends r p) (elsewhere b once p r q may other)) ∙ sym (append-nil (kept (Dequeued r p ∷ es) (b q))))
+    stays (Runs n) due es b once may = sym (kept-same (Runs n) (λ z. refl) es (b q)) ∙ sym (append-nil (kept (Runs n ∷ es) (b q)))
 
     -- ---- all events
 

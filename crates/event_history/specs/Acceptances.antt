@@ -1,27 +1,34 @@
 -- Acceptances of packets, and the end of each.
-use Rattle.std.specs.Prelude.{◌≡◌, ℕ, ℤ, ◌==◌, Bool, true, false, if◌then◌else◌, Option, Some, None, List, [], ◌∷◌, ◌++◌, find, map}
+use Rattle.std.specs.Prelude.{◌≡◌, ℕ, ℤ, suc, ◌==◌, Bool, true, false, if◌then◌else◌, Option, Some, None, List, [], ◌∷◌, ◌++◌, find, length, map}
+use Rattle.std.specs.List.{list_any}
 use Rattle.packet_queue.specs.declared.events.KernelEvent.{KernelEvent}
 use Rattle.packet_queue.specs.declared.events.KernelEvent.TheVariants.{Accepted, Taken, Dequeued, Runs}
 use Rattle.event_history.specs.Ledger.{Entry, Ledger, Timed, entry_on, events_of, same_queue}
 
--- the event is one of the packet
-abbrev pub names : ℕ → KernelEvent → Bool
-names p (Accepted q r s) = r == p
-names p (Taken q r s) = r == p
-names p (Dequeued q r) = r == p
-names p (Runs t) = false
+-- ---- the end of an acceptance
 
--- the first of these events that is one of the packet, and the last
-abbrev pub next_of : ℕ → List KernelEvent → Option KernelEvent
-next_of p es = find (names p) es
+-- the event takes or dequeues the packet
+abbrev pub is_end : ℕ → KernelEvent → Bool
+is_end p (Accepted q r s) = false
+is_end p (Taken q r s) = r == p
+is_end p (Dequeued q r) = r == p
+is_end p (Runs t) = false
 
-abbrev pub or_this : Option KernelEvent → ℕ → KernelEvent → Option KernelEvent
-or_this (Some later) p e = Some later
-or_this None p e = if names p e then Some e else None
+-- the event accepts it
+abbrev pub accepts : ℕ → KernelEvent → Bool
+accepts p (Accepted q r s) = r == p
+accepts p (Taken q r s) = false
+accepts p (Dequeued q r) = false
+accepts p (Runs t) = false
 
-abbrev pub last_of : ℕ → List KernelEvent → Option KernelEvent
-last_of p [] = None
-last_of p (e ∷ es) = or_this (last_of p es) p e
+-- of these events those before the packet's end, and those from its end on: none where it has no end
+abbrev pub before_end : ℕ → List KernelEvent → List KernelEvent
+before_end p [] = []
+before_end p (e ∷ es) = if is_end p e then [] else e ∷ before_end p es
+
+abbrev pub from_end : ℕ → List KernelEvent → List KernelEvent
+from_end p [] = []
+from_end p (e ∷ es) = if is_end p e then e ∷ es else from_end p es
 
 -- A packet comes to a queue, and then there are these later events. Or it stands there at the start.
 pub record Acceptance : Type 0 where
@@ -31,9 +38,17 @@ pub record Acceptance : Type 0 where
 abbrev pub at_start : List KernelEvent → Entry → Acceptance
 at_start later e = record { entry = e; later = later }
 
--- the first later event of its packet
+-- its end is the first later event that takes or dequeues its packet
 abbrev pub end_of : Acceptance → Option KernelEvent
-end_of x = next_of x.entry.packet x.later
+end_of x = find (is_end x.entry.packet) x.later
+
+-- its packet is accepted again before its end
+abbrev pub is_repeated : Acceptance → Bool
+is_repeated x = list_any (accepts x.entry.packet) (before_end x.entry.packet x.later)
+
+-- so many events come after its end
+abbrev pub ends_before : ℕ → Acceptance → Bool
+ends_before n x = length (from_end x.entry.packet x.later) == suc n
 
 -- an end is on the same queue, and where the packet is taken it is from the same sender
 abbrev pub IsEnd : ℤ → Entry → KernelEvent → Type 0
@@ -78,8 +93,16 @@ abbrev pub taken_from : ℤ → List KernelEvent → List (ℕ × ℤ)
 taken_from q [] = []
 taken_from q (e ∷ es) = taken_by q e ++ taken_from q es
 
+-- the event takes a packet from the queue, or dequeues one there
+abbrev pub leaves : ℤ → KernelEvent → Bool
+leaves q (Accepted r p s) = false
+leaves q (Taken r p s) = same_queue r q
+leaves q (Dequeued r p) = same_queue r q
+leaves q (Runs t) = false
+
 -- ---- how an acceptance ended
 
+-- it has none
 abbrev pub is_open : Option KernelEvent → Bool
 is_open None = true
 is_open (Some e) = false

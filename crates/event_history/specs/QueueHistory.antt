@@ -1,29 +1,8 @@
 -- What the events say of the queues, from those at the start to those at the end.
-use Rattle.std.specs.Prelude.{◌≡◌, ◌⊎◌, ℕ, ℤ, ◌==◌, false, not, Option, Some, None, List, [], ◌∷◌, ◌++◌, filter, map}
-use Rattle.std.specs.List.{AllByRecursion}
-use Rattle.packet_queue.specs.declared.events.KernelEvent.{KernelEvent}
-use Rattle.packet_queue.specs.declared.events.KernelEvent.TheVariants.{Accepted, Taken, Dequeued, Runs}
-use Rattle.event_history.specs.Acceptances.{Acceptance, HasEnd, accepted_on, end_of, is_dequeued, is_open, last_of, pair_of, taken_from}
+use Rattle.std.specs.Prelude.{◌≡◌, ℕ, ℤ, ◌==◌, false, not, if◌then◌else◌, List, ◌∷◌, ◌++◌, filter, length, map}
+use Rattle.std.specs.List.{AllByRecursion, count_by}
+use Rattle.event_history.specs.Acceptances.{Acceptance, HasEnd, accepted_on, end_of, ends_before, is_dequeued, is_open, is_repeated, leaves, pair_of, taken_from}
 use Rattle.event_history.specs.Ledger.{AreOnce, Entry, Ledger, NeverFall, Timed, clock, events_of, same_queue}
-
--- ---- the second part
-
--- among these packets is one from that sender
-abbrev pub HasEntry : ℕ → ℤ → List Entry → Type 0
-HasEntry p s [] = ⊥
-HasEntry p s (e ∷ es) = ((e.packet ≡ p) × (e.sender ≡ s)) ⊎ HasEntry p s es
-
--- The last event of the packet accepted it on that queue from that sender; or there was none, and it stood there at the start.
-abbrev pub WasAccepted : ℤ → ℕ → ℤ → Ledger → Option KernelEvent → Type 0
-WasAccepted q p s b None = HasEntry p s (b q)
-WasAccepted q p s b (Some e) = e ≡ Accepted q p s
-
--- the event, where it is an end, is that of an acceptance behind these events
-abbrev pub EndsOne : Ledger → List KernelEvent → KernelEvent → Type 0
-EndsOne b before (Accepted q p s) = Unit {0}
-EndsOne b before (Taken q p s) = WasAccepted q p s b (last_of p before)
-EndsOne b before (Dequeued q p) = (s : ℤ) × WasAccepted q p s b (last_of p before)
-EndsOne b before (Runs t) = Unit {0}
 
 -- ---- which acceptances
 
@@ -36,22 +15,34 @@ not_dequeued xs = filter (λ x. not (is_dequeued (end_of x))) xs
 abbrev pub pairs_of : List Acceptance → List (ℕ × ℤ)
 pairs_of xs = map (λ x. pair_of x.entry) xs
 
-abbrev pub due_at : ℕ → List Entry → List Entry
-due_at tick es = filter (λ e. e.due == tick) es
-
 abbrev pub entries_of : List Acceptance → List Entry
 entries_of xs = map (λ x. x.entry) xs
 
+-- ---- which entries
+
+abbrev pub due_at : ℕ → List Entry → List Entry
+due_at tick es = filter (λ e. e.due == tick) es
+
+abbrev pub of_packet : ℕ → List Entry → List Entry
+of_packet p es = filter (λ e. p == e.packet) es
+
 -- ---- the law
+
+-- Before its end an acceptance's packet is not accepted again. The end is on the same queue, and if it takes the packet it is from
+-- the same sender.
+pub record IsEnded (q : ℤ) (x : Acceptance) : Type 0 where
+  pub once : is_repeated x ≡ false
+  pub end : HasEnd q x.entry (end_of x)
 
 -- From the queues at the start, b, the events lead to the queues a.
 pub record QueueHistory (b : Ledger) (xs : List Timed) (a : Ledger) : Type 0 where
-  -- the first event of a packet after its acceptance is its end: it takes or dequeues it from the same queue
-  pub ends : (q : ℤ) → AllByRecursion (λ x. HasEnd q x.entry (end_of x)) (accepted_on q b xs)
-  -- each packet that is taken or dequeued had been accepted there, and no event of it came between
-  pub ended : (front : List Timed) (x : Timed) (back : List Timed) → xs ≡ front ++ x ∷ back → EndsOne b (events_of front) x.event
-  -- those that are queued at the end are those of the acceptances without an end, in their order, each once
-  pub left : (q : ℤ) → same_queue q clock ≡ false → map pair_of (a q) ≡ pairs_of (open_ones (accepted_on q b xs))
+  -- how each acceptance ends
+  pub ends : (q : ℤ) → AllByRecursion (IsEnded q) (accepted_on q b xs)
+  -- each event that takes or dequeues a packet is the end of exactly one acceptance, which is on its queue
+  pub ended : (front : List Timed) (x : Timed) (back : List Timed) → xs ≡ front ++ x ∷ back
+      → (q : ℤ) → count_by (ends_before (length back)) (accepted_on q b xs) ≡ (if leaves q x.event then 1 else 0)
+  -- those that are queued at the end are exactly those of the acceptances without an end, on their queues, each once
+  pub left : (q : ℤ) (p : ℕ) → map pair_of (of_packet p (a q)) ≡ map pair_of (of_packet p (entries_of (open_ones (accepted_on q b xs))))
   pub once : AreOnce a
   -- those taken, and behind them those still queued, are the accepted ones in order, without those that were dequeued
   pub order : (q : ℤ) → same_queue q clock ≡ false

@@ -12,8 +12,7 @@ use Rattle.kernel_model.specs.ValidQueues.{Place}
 use Rattle.kernel_model.specs.ValidQueues.Place.{Clock, Keyboard, Output, Pending, Work}
 use Rattle.packet_calls.specs.PacketMoves.{arrived, departed, with_arrived, with_departed}
 use Rattle.event_history.specs.Ledger.{AreOnce, Follows, IsFirst, IsNowhere, after_event, arrived as arrives, entry_on, with_queue as put}
-use Rattle.event_history.proofs.Before.{taken-nowhere}
-use Rattle.event_history.proofs.Following.{follows-join}
+use Rattle.event_history.proofs.Following.{taken-nowhere, follows-join}
 use Rattle.ledger_moves.specs.Queues.{Moves, clock_entry, entry_of, ledger_of, reads, timed_by}
 use Rattle.ledger_moves.proofs.Ledgers.{IsNamed, any-at, entries-end, entries-insert, entries-without, entries_at, ledger-at, ledger-put, number_of}
 
