@@ -1,0 +1,76 @@
+-- The ticks are another number (as in clock_device, where `tick-valid` is not public).
+use Rattle.std.proofs.Common.{◌≡◌, ℕ, ◌-◌, List, [], ◌∷◌, ◌++◌, refl, sym, arith}
+use Rattle.std.specs.List.{AllByRecursion}
+use Rattle.owned_words.specs.Exchange.{Exchange}
+use Rattle.owned_words.specs.Owned.{Pairs, owners, row_from}
+use Rattle.owned_words.proofs.Exchanges.{exchange-left}
+use Rattle.getvec_chain.specs.BlockWords.{blocks_words}
+use Rattle.packet_queue.specs.QueueWords.{QueuedPacket}
+use Rattle.hunk_loader.specs.ModuleExchanges.{modules_words}
+use Rattle.kernel_model.specs.Lists.{Lists, address_of_task}
+use Rattle.kernel_model.specs.Owned.{device_words, owned, tasks_words}
+use Rattle.kernel_model.specs.Residents.{resident_words}
+use Rattle.kernel_model.specs.Root.{resident_data, root_words, unused_entries}
+use Rattle.kernel_model.specs.Task.{filled}
+use Rattle.kernel_model.specs.ValidLists.{AreValid}
+use Rattle.kernel_model.specs.ValidQueues.{MayStand, Place}
+use Rattle.kernel_model.specs.ValidQueues.Place.{Clock, Keyboard, Output, Pending, Work}
+use Rattle.kernel_model.specs.ValidTasks.{CoroutinesStand, IsTask}
+use Rattle.kernel_model.specs.Versions.{highest_id_of}
+use Rattle.kernel_model.proofs.ChangedLists.{owners-exchanged}
+use Rattle.kernel_model.proofs.EachMember.{all-each}
+use Rattle.kernel_model.proofs.OwnerCounts.{owns-without}
+use Rattle.kernel_model.proofs.RulesKept.{CoroutinesStand-same, IsTask-kept, MayStand-more, TasksStand-same}
+use Rattle.clock_device.specs.Tick.{with_tick}
+
+-- the words of the root behind that of the ticks
+abbrev behind : Lists → Pairs
+behind l =
+    row_from 108 1 (l.size ∷ l.period ∷ l.version ∷ resident_data l.residents ∷ filled 7 [])
+    ++ ((120, highest_id_of l.version) ∷ (unused_entries l.version ++ (l.size - 2, 0) ∷ []))
+
+tick-exchange : (l : Lists) (now : ℕ) → Exchange (owned l) (owned (with_tick now l)) ((108, l.tick) ∷ []) ((108, now) ∷ [])
+unfolding owned
+tick-exchange l now =
+    exchange-left (root_words l (address_of_task l l.running)) (root_words (with_tick now l) (address_of_task l l.running))
+    (blocks_words l.blocks ++ (tasks_words l ++ (modules_words l.modules ++ (device_words l ++ resident_words l)))) _ _
+    (record {
+      rest = (100, 120) ∷ (102, address_of_task l l.running) ∷ (103, 200) ∷ behind l;
+      first = record { count = λ a. omega arith; opens = λ s h. ((h.0, (h.1.0, (h.1.1.0, h.1.1.1.1))), (h.1.1.1.0, tt)); closes = λ s h k. (h.0, (h.1.0, (h.1.1.0, (k.0, h.1.1.1)))) };
+      then' = record { count = λ a. omega arith; opens = λ s h. ((h.0, (h.1.0, (h.1.1.0, h.1.1.1.1))), (h.1.1.1.0, tt)); closes = λ s h k. (h.0, (h.1.0, (h.1.1.0, (k.0, h.1.1.1)))) };
+    })
+
+pub tick-owned : (l : Lists) (now a : ℕ) → owners a (owned (with_tick now l)) ≡ owners a (owned l)
+tick-owned l now a = sym (owners-exchanged (owned l) (owned (with_tick now l)) _ _ a (tick-exchange l now) refl)
+
+pub tick-valid : (l : Lists) (now : ℕ) → AreValid l → AreValid (with_tick now l)
+tick-valid l now v =
+    record {
+      blocks = v.blocks;
+      numbers = record { version = v.numbers.version; size = v.numbers.size; period = v.numbers.period; residents = v.numbers.residents };
+      modules = v.modules;
+      tasks = TasksStand-same l m refl refl (all-each (IsTask l) (IsTask m) (λ t h. IsTask-kept l m t refl refl (λ h. h) (λ _ u h. h) h) l.tasks v.tasks.each) v.tasks;
+      coroutines = all-each (CoroutinesStand l) (CoroutinesStand m) (λ t h. CoroutinesStand-same l m t refl h) l.tasks v.coroutines;
+      queues =
+          record {
+            tasks =
+                all-each (λ t. AllByRecursion (MayStand l (Work t.id)) t.queue) (λ t. AllByRecursion (MayStand m (Work t.id)) t.queue)
+                (λ t all. stay (Work t.id) t.queue all) l.tasks v.queues.tasks;
+            clock = stay Clock l.clock v.queues.clock;
+            keyboard = stay Keyboard l.keyboard v.queues.keyboard;
+            output = stay Output l.output v.queues.output;
+            pending = stay Pending l.pending v.queues.pending;
+            due = v.queues.due;
+            no_console = v.queues.no_console;
+            key = v.queues.key;
+            fault = v.queues.fault;
+            running = v.queues.running;
+          };
+      owns = owns-without l m (λ _. 0) refl (λ a. omega (arith, tick-owned l now a)) v.owns;
+    }
+  where
+    m : Lists
+    m = with_tick now l
+
+    stay : (at : Place) (ps : List QueuedPacket) → AllByRecursion (MayStand l at) ps → AllByRecursion (MayStand m at) ps
+    stay at ps all = all-each (MayStand l at) (MayStand m at) (λ p h. MayStand-more l m at p refl refl (λ d. d) (λ i some. some) h) ps all
