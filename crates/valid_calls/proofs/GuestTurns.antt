@@ -1,5 +1,5 @@
 -- A guest's whole turn leaves valid lists: its instruction, its call, the end of its function, and its fault.
-use Rattle.std.proofs.Common.{◌≡◌, ℕ, Bool, true, false, cond, eqb, List, [], append-nil, inr, refl, sym, subst}
+use Rattle.std.proofs.Common.{◌≡◌, ℕ, Bool, true, false, cond, eqb, List, [], append-nil, inr, not, refl, sym, ap, subst}
 use Rattle.word_store.specs.declared.registers.Regs.{Regs}
 use Rattle.cint_exec.specs.Instruction.{After, instruction}
 use Rattle.cint_exec.specs.declared.Fault.{Fault}
@@ -13,6 +13,7 @@ use Rattle.kernel_model.specs.Kernel.{Kernel}
 use Rattle.kernel_model.specs.Lists.{Lists}
 use Rattle.kernel_model.specs.ValidLists.{AreValid}
 use Rattle.kernel_model.specs.ValidQueues.Place.{Work}
+use Rattle.kernel_model.specs.ValidTasks.{dead}
 use Rattle.kernel_model.proofs.ResidentPackets.{fault_queued-valid}
 use Rattle.call_answers.specs.Callers.{HasCaller}
 use Rattle.call_answers.proofs.RunningTask.{caller-at}
@@ -48,11 +49,11 @@ module _ (s : List ℕ) (l : Lists) (f : Fault) (h : HoldsLists s l) (can : CanR
 module _ (l : Lists) (c : HasCaller l) where
   -- a function has returned
   returned-valid : (s : List ℕ) (r : Regs) → HoldsLists s l → AreValid (returned l r).lists
-  returned-valid s r h = on (eqb (current_of (coroutines_of_caller l)) 0)
+  returned-valid s r h = on (eqb (current_of (coroutines_of_caller l)) 0) refl
     where
-      on : (b : Bool) → AreValid (cond b (dies l r) (ended l r)).lists
-      on true = (let g = caller-at s l h c in state-valid l l.running _ h.valid g died 12 g.task.flags g.task.held refl (inr (inr (inr refl))))
-      on false = ended-valid s l h c r
+      on : (b : Bool) → eqb (current_of (coroutines_of_caller l)) 0 ≡ b → AreValid (cond b (dies l r) (ended l r)).lists
+      on true root = (let g = caller-at s l h c in state-valid l l.running _ h.valid g died dead g.task.flags g.task.held refl (inr (inr (inr refl))))
+      on false inside = ended-valid s l h c r (ap not inside)
 
   instruction-valid : (s : List ℕ) (r : Regs) (o : Outcome) → HoldsLists s l → AreValid (after_instruction l s r o).lists
   instruction-valid s r Next h = h.valid

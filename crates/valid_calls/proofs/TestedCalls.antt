@@ -1,6 +1,5 @@
 -- A call that is refused leaves the lists as they are, so what it makes matters only where all of its tests hold.
 use Rattle.std.proofs.Common.{◌≡◌, ℕ, Bool, Option, Some, None, List, refl}
-use Rattle.word_store.specs.declared.registers.Regs.{Regs}
 use Rattle.kernel_model.specs.Lists.{Lists, address_of_task}
 use Rattle.kernel_model.specs.ValidLists.{AreValid}
 use Rattle.call_answers.specs.Callers.{HasCaller}
@@ -9,20 +8,11 @@ use Rattle.call_answers.specs.Made.{Made, by_refusal, unless_refused}
 use Rattle.call_answers.specs.Refusals.{first_refusal}
 use Rattle.call_answers.proofs.Refusals.{guest-at, guest-parts}
 use Rattle.call_answers.proofs.RunningTask.{there-at}
-use Rattle.coroutine_calls.specs.Switched as switches
-use Rattle.coroutine_calls.specs.Switched.{Switched}
 
 pub unless-valid : (tests : List (Bool × ℕ)) (l : Lists) (m : Made) → AreValid l → (first_refusal tests ≡ None → AreValid m.lists) → AreValid (unless_refused tests l m).lists
 unless-valid tests l m v made = on (first_refusal tests) refl
   where
     on : (o : Option ℕ) → first_refusal tests ≡ o → AreValid (by_refusal o l m).lists
-    on None e = made e
-    on (Some code) e = v
-
-pub switch-valid : (tests : List (Bool × ℕ)) (l : Lists) (r : Regs) (m : Switched) → AreValid l → (first_refusal tests ≡ None → AreValid m.lists) → AreValid (switches.unless_refused tests l r m).lists
-switch-valid tests l r m v made = on (first_refusal tests) refl
-  where
-    on : (o : Option ℕ) → first_refusal tests ≡ o → AreValid (switches.by_refusal o l r m).lists
     on None e = made e
     on (Some code) e = v
 
