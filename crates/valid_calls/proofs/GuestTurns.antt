@@ -37,7 +37,7 @@ module _ (s : List ℕ) (l : Lists) (f : Fault) (h : HoldsLists s l) (can : CanR
   held-valid : AreValid (held_with f l)
   held-valid = (is-held s l f h can _ (caller-at s l h can.caller) _ refl).lists.lists.valid
 
-  pub recorded-valid : AreValid (recorded f l)
+  recorded-valid : AreValid (recorded f l)
   recorded-valid = on l.fault_packet_free refl
     where
       on : (b : Bool) → l.fault_packet_free ≡ b → AreValid (sent_where b (held_with f l))
@@ -65,7 +65,7 @@ module _ (l : Lists) (c : HasCaller l) where
   unfolding turn_without_reporter
   turn-valid s r h = (let x : After = instruction (is_owned l) s r in instruction-valid x.words x.regs x.outcome (holds-executed s x.words r l h refl))
 
-  pub guest_turn-valid : (s : List ℕ) (r : Regs) → HoldsLists s l → AreValid (turn_of_guest s l r).lists
+  guest_turn-valid : (s : List ℕ) (r : Regs) → HoldsLists s l → AreValid (turn_of_guest s l r).lists
   guest_turn-valid s r h = guest-ways (λ m. AreValid m.lists) s l r (turn-valid s r h) recorded-turn
     where
       recorded-turn : (f : Fault) → IsRecorded s l r f → AreValid (recorded f (turn_without_reporter s l r).lists)
