@@ -35,7 +35,7 @@ use Rattle.cli_shell.proofs.RunningShell.{GoesOn, flags-goes}
 use Rattle.valid_calls.proofs.TaskCalls.{set_flags-valid}
 use Rattle.valid_turns.proofs.ConsoleParts.{Allows, parts-on, read_request, without_work, work_request}
 use Rattle.valid_turns.proofs.HandlerTurns.{finished-valid}
-use Rattle.valid_turns.proofs.LeftStores.{settled-holds}
+use Rattle.valid_turns.proofs.LeftStores.{made-size, settled-holds}
 use Rattle.valid_turns.proofs.TakenPackets.{put_off-valid, returned-runs, returned-valid, runs-then}
 
 -- The words are those of a store that holds these lists, and the console runs.
@@ -90,13 +90,6 @@ module _ (s : List ℕ) (l : Lists) (es : List KernelEvent) (x : IsConsole s l e
 
 -- ---- the turn
 
-flags-size : (l : Lists) (id flags : ℕ) → (set_flags l id flags).lists.size ≡ l.size
-flags-size l id flags = on (first_refusal (guest_tests l id))
-  where
-    on : (o : Option ℕ) → (by_refusal o l (done (with_task id (flagged flags) l))).lists.size ≡ l.size
-    on None = refl
-    on (Some code) = refl
-
 -- the key packet comes to the keyboard
 keys-valid : (s : List ℕ) (l : Lists) → HoldsLists s l → is_some l.key ≡ true → AreValid (send_own s l key_packet CONSOLE keyboard).lists
 keys-valid s l h off =
@@ -111,7 +104,7 @@ console-allows =
           (record { resident = r.resident; there = r.there; field = r.field }) refl;
       at_flags = λ s l es id flags x.
           let goes : GoesOn l (set_flags l id flags) = flags-goes l id flags x.runs in
-          left-so s l (set_flags l id flags).lists es _ [] x (set_flags-valid l x.holds.valid id flags) (flags-size l id flags) goes.runs goes.running;
+          left-so s l (set_flags l id flags).lists es _ [] x (set_flags-valid l x.holds.valid id flags) (made-size (first_refusal (guest_tests l id)) l (done (with_task id (flagged flags) l)) refl) goes.runs goes.running;
       at_answer = λ s l es p ps answer is no_key x.
           let no_fault = work-no_fault s l es x p ps is in
           let from = work-sender s l es x p ps is no_key in

@@ -4,3 +4,8 @@ pub mod HandlerTurns
 pub mod ReporterTurns
 pub mod ConsoleParts
 pub mod ConsoleTurns
+pub mod ClearedStores
+pub mod StartedPrograms
+pub mod ShellParts
+pub mod ShellTurns
+pub mod ResidentTurns

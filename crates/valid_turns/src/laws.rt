@@ -1,16 +1,23 @@
 // The turns of residents leave valid lists.
-ghost use Rattle.std.specs.Prelude.{◌≡◌, List, ℕ};
+ghost use Rattle.std.specs.Prelude.{◌≡◌, List, None, false, ℕ};
+ghost use Rattle.ram_disc.specs.Disc.{Disc};
 ghost use Rattle.kernel_model.specs.HoldsLists.{HoldsLists};
-ghost use Rattle.kernel_model.specs.Kernel.{Console};
+ghost use Rattle.kernel_model.specs.Image.{HasPlainWords};
+ghost use Rattle.kernel_model.specs.Kernel.{Console, Kernel, Shell};
 ghost use Rattle.kernel_model.specs.Lists.{Lists};
+ghost use Rattle.kernel_model.specs.Task.{is_guest_id};
+ghost use Rattle.kernel_model.specs.ValidKernel.{IsValid};
 ghost use Rattle.kernel_model.specs.ValidLists.{AreValid};
-ghost use Rattle.kernel_model.specs.declared.numbers.TheConstants.{CONSOLE, REPORTER};
+ghost use Rattle.kernel_model.specs.declared.numbers.TheConstants.{CONSOLE, REPORTER, SHELL};
 ghost use Rattle.resident_requests.specs.Answers.{finished};
 ghost use Rattle.resident_requests.specs.Requests.{RunsResident, TakesRequest};
 ghost use Rattle.resident_requests.specs.Turns.{Served, request_turn};
 ghost use Rattle.resident_requests.specs.declared.requests.Request.{Request};
 ghost use Rattle.fault_reporter.specs.FaultTurns.{fault_turn};
 ghost use Rattle.console_handler.specs.ConsoleTurn.{console_turn};
+ghost use Rattle.cli_shell.specs.ShellTurn.{shell_turn};
+ghost use Rattle.kernel_steps.specs.Parts.{CanTurn};
+ghost use Rattle.kernel_steps.specs.ResidentSteps.{resident_step};
 
 /// The turn of a handler leaves valid lists, whatever it makes of the request, and so does the end of each resident's turn.
 pub fn handler_law()
@@ -31,4 +38,21 @@ pub fn console_law()
     ensures { (id : ℕ) (c : Console) (k s : List ℕ) (l : Lists) → HoldsLists s l → RunsResident l
         → l.running ≡ CONSOLE
         → AreValid (console_turn id c k s l).lists }
+{}
+
+/// So does the turn of the shell, whatever it does next, also where it finishes the machine.
+pub fn shell_law()
+    ensures { (s : List ℕ) (l : Lists) (sh : Shell) (d : Disc) → HoldsLists s l → RunsResident l
+        → l.running ≡ SHELL
+        → AreValid (shell_turn s l sh d).standing.lists }
+{}
+
+/// So the turn of a resident, or of nobody, leaves valid lists: of a valid kernel between two steps, and of one that may have a
+/// turn, as within a step.
+pub fn resident_law()
+    ensures between { (k : Kernel) → IsValid k → k.stop ≡ None → is_guest_id k.lists.running ≡ false
+        → AreValid (resident_step k.lists.running k).kernel.lists }
+    ensures within { (k : Kernel) → CanTurn k → HasPlainWords k
+        → is_guest_id k.lists.running ≡ false
+        → AreValid (resident_step k.lists.running k).kernel.lists }
 {}
