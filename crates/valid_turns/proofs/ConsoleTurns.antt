@@ -1,5 +1,5 @@
 -- The console's turn leaves valid lists.
-use Rattle.std.proofs.Common.{◌≡◌, ℕ, true, false, is_some, length, Option, Some, None, List, [], ◌∷◌, refl, sym, ap, ◌∙◌, subst, arith}
+use Rattle.std.proofs.Common.{◌≡◌, ℕ, true, false, is_some, length, Some, List, [], ◌∷◌, refl, sym, ap, ◌∙◌, subst, arith}
 use Rattle.std.specs.List.{AllByRecursion}
 use Rattle.std.proofs.lemmas.Bool.{false_from_ne_true}
 use Rattle.owned_words.specs.Owned.{Pairs}
@@ -17,7 +17,7 @@ use Rattle.kernel_model.specs.declared.numbers.TheConstants.{CONSOLE}
 use Rattle.kernel_model.proofs.QueuePlaces.{place-stands}
 use Rattle.kernel_model.proofs.ResidentPackets.{key_unqueued-valid}
 use Rattle.call_answers.specs.Guests.{guest_tests}
-use Rattle.call_answers.specs.Made.{by_refusal, done}
+use Rattle.call_answers.specs.Made.{done}
 use Rattle.call_answers.specs.Refusals.{first_refusal}
 use Rattle.packet_calls.specs.Destinations.{queue_for}
 use Rattle.packet_calls.specs.QueueWords.{unqueued}

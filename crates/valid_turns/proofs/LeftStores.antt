@@ -1,5 +1,5 @@
 -- A store of which valid lists, and plain words, were written.
-use Rattle.std.proofs.Common.{◌≡◌, ℕ, ◌+◌, ◌<◌, Option, Some, None, List, length, refl, sym, ◌∙◌, subst, arith}
+use Rattle.std.proofs.Common.{◌≡◌, ℕ, Option, Some, None, List, length, refl, sym, ◌∙◌, subst, arith}
 use Rattle.owned_words.specs.Owned.{Pairs, written}
 use Rattle.owned_words.proofs.OwnedWords.{Holds-written, length-written, written-other}
 use Rattle.kernel_model.specs.HoldsLists.{HoldsLists}

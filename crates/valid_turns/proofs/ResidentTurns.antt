@@ -1,53 +1,65 @@
--- The turn of each resident leaves valid lists.
-use Rattle.std.proofs.Common.{◌≡◌, ◌≢◌, ℕ, true, false, None, List, ap, subst, arith}
-use Rattle.ram_disc.specs.Disc.{Disc}
+-- The turn of each resident, and so of whoever runs, leaves valid lists.
+use Rattle.std.proofs.Common.{◌≡◌, Bool, true, false, None, inl, inr, refl, sym, ◌∙◌, subst, arith}
+use Rattle.std.proofs.lemmas.Bool.{cases_eq, false≢true}
 use Rattle.kernel_model.specs.HoldsLists.{HoldsLists}
-use Rattle.kernel_model.specs.Image.{HasPlainWords, IsImage, image}
+use Rattle.kernel_model.specs.Image.{IsImage, image}
 use Rattle.kernel_model.specs.Kernel.{Kernel}
 use Rattle.kernel_model.specs.Task.{is_guest_id}
 use Rattle.kernel_model.specs.ValidKernel.{IsValid}
 use Rattle.kernel_model.specs.ValidLists.{AreValid}
 use Rattle.kernel_model.proofs.ImageWords.{image-of}
-use Rattle.resident_requests.specs.Requests.{RunsResident}
+use Rattle.resident_requests.specs.Requests.{RunsResident, TakesRequest}
 use Rattle.resident_requests.proofs.ResidentTurns.{takes-request}
 use Rattle.file_handler.specs.FileTurn.{file_service}
 use Rattle.pipe_handler.specs.PipeTurns.{pipe_service}
 use Rattle.cli_shell.specs.Modes.{awaited}
-use Rattle.kernel_steps.specs.Parts.{CanTurn, RunsFirst}
+use Rattle.kernel_steps.specs.Parts.{RunsFirst}
 use Rattle.kernel_steps.specs.ResidentSteps.{resident_step}
+use Rattle.kernel_steps.specs.Step.{turn, with_step}
 use Rattle.kernel_steps.specs.Stepped.{Stepped}
-use Rattle.kernel_steps.proofs.RunningCaller.{runs-resident}
-use Rattle.kernel_steps.proofs.TurnWays.{turn-resident, turn-ways}
+use Rattle.kernel_steps.proofs.RunningCaller.{runs-calls, runs-resident, valid-runs}
+use Rattle.kernel_steps.proofs.TurnWays.{turn-guest, turn-nobody, turn-resident, turn-ways}
+use Rattle.valid_calls.proofs.GuestTurns.{guest_step-valid}
 use Rattle.valid_turns.proofs.ConsoleTurns.{console-valid}
 use Rattle.valid_turns.proofs.HandlerTurns.{request-valid}
 use Rattle.valid_turns.proofs.ReporterTurns.{reporter-valid}
 use Rattle.valid_turns.proofs.ShellTurns.{shell-valid}
 
--- a kernel's store holds its lists
-pub image-holds : (k : Kernel) → AreValid k.lists → HasPlainWords k → HoldsLists (image k) k.lists
-image-holds k v plain =
-    let i : IsImage (image k) k = image-of k v.owns.apart v.owns.inside plain in
-    record { valid = v; size = i.size; holds = i.holds }
-
-pub resident-valid : (k : Kernel) → AreValid k.lists → HasPlainWords k → RunsFirst k.lists k.regs → is_guest_id k.lists.running ≡ false → AreValid (resident_step k.lists.running k).kernel.lists
-resident-valid k v plain first resident =
-    subst (λ (m : Stepped). AreValid m.kernel.lists) (turn-resident k resident)
+pub resident-valid : (k : Kernel) → HoldsLists (image k) k.lists → RunsResident k.lists → AreValid (resident_step k.lists.running k).kernel.lists
+resident-valid k h r =
+    subst (λ (m : Stepped). AreValid m.kernel.lists) (turn-resident k r.resident)
     (turn-ways (λ m. AreValid m.kernel.lists) k
     (record {
-      guest = λ guest. cc;
-      shell = λ is. shell-valid (image k) k.lists k.shell k.disc h (runs 1 is (omega arith)) is;
-      reporter = λ is. reporter-valid (image k) k.lists h (runs 2 is (omega arith)) is;
-      console = λ is. console-valid (awaited k.shell.mode) k.console k.shell.line (image k) k.lists h (runs 3 is (omega arith)) is;
+      guest = λ guest. absurd (false≢true (sym r.resident ∙ guest));
+      shell = λ is. shell-valid (image k) k.lists k.shell k.disc h r is;
+      reporter = λ is. reporter-valid (image k) k.lists h r is;
+      console = λ is. console-valid (awaited k.shell.mode) k.console k.shell.line (image k) k.lists h r is;
       files = λ is. request-valid (file_service k.disc) (image k) k.lists h (takes is);
       pipes = λ is serves. request-valid (pipe_service k.pipes) (image k) k.lists h (takes is);
-      nobody = λ none. v;
+      nobody = λ none. h.valid;
     }))
   where
-    h : HoldsLists (image k) k.lists
-    h = image-holds k v plain
-
-    runs : (id : ℕ) → k.lists.running ≡ id → id ≢ 0 → RunsResident k.lists
-    runs id is some = runs-resident k.lists k.regs first v resident (λ none. absurd (omega (arith, none, is, some)))
-
     takes : k.lists.running ≡ 4 → TakesRequest k.lists
-    takes is = takes-request k.lists v (runs 4 is (omega arith)) (λ e. absurd (omega (arith, e, is))) (λ e. absurd (omega (arith, e, is)))
+    takes is = takes-request k.lists h.valid r (λ e. absurd (omega (arith, e, is))) (λ e. absurd (omega (arith, e, is)))
+
+-- ---- the turn of whoever runs
+
+turn-valid : (k : Kernel) → HoldsLists (image k) k.lists → RunsFirst k.lists k.regs → AreValid (turn k).kernel.lists
+turn-valid k h first = on (is_guest_id k.lists.running) refl
+  where
+    on : (b : Bool) → is_guest_id k.lists.running ≡ b → AreValid (turn k).kernel.lists
+    on true guest = subst (λ (m : Stepped). AreValid m.kernel.lists) (sym (turn-guest k guest)) (guest_step-valid k h (runs-calls k.lists k.regs first h.valid guest))
+    on false resident =
+        elim (cases_eq k.lists.running 0) [
+          | inl nobody ↦ subst (λ (m : Stepped). AreValid m.kernel.lists) (sym (turn-nobody k nobody)) h.valid
+          | inr some ↦ subst (λ (m : Stepped). AreValid m.kernel.lists) (sym (turn-resident k resident)) (resident-valid k h (runs-resident k.lists k.regs first h.valid resident some))
+        ]
+
+-- in a step
+pub step-turn-valid : (k : Kernel) → IsValid k → k.stop ≡ None → AreValid (turn (with_step k)).kernel.lists
+step-turn-valid k v goes =
+    let i : IsImage (image j) j = image-of j v.lists.owns.apart v.lists.owns.inside (record { size = v.plain.size; plain = v.plain.plain; owned = v.plain.owned }) in
+    turn-valid j (record { valid = v.lists; size = i.size; holds = i.holds }) (valid-runs k v goes)
+  where
+    j : Kernel
+    j = with_step k

@@ -1,6 +1,6 @@
 -- What holds of a store, its lists and the events of a shell's turn as far as it has come: before the first packet is taken, while the
 -- shell has its own packet, and once it has sent it. It goes from one part to the next.
-use Rattle.std.proofs.Common.{◌≡◌, ℕ, ◌≤◌, Bool, true, false, cond, eqb, Option, Result, Ok, Err, List, [], ◌∷◌, ◌++◌, refl, sym, subst, arith}
+use Rattle.std.proofs.Common.{◌≡◌, ℕ, ◌≤◌, Bool, true, false, cond, eqb, Option, Result, Ok, Err, List, [], ◌∷◌, ◌++◌, refl, arith}
 use Rattle.std.proofs.lemmas.Bool.{eqb-true, le-leb}
 use Rattle.word_store.specs.Arithmetic.{signed}
 use Rattle.packet_queue.specs.Queue.{no_queue}
@@ -43,7 +43,7 @@ use Rattle.shell_programs.specs.declared.programs.Priority.TheVariants.{AboveShe
 use Rattle.shell_programs.specs.Standings.{left_by}
 use Rattle.shell_programs.proofs.KeptSteps.{started-there}
 use Rattle.cli_shell.specs.Commands.{after_run, after_start, executed, executed_if, line_executed, program_request, run, run_priority, start, with_program_begun, with_started}
-use Rattle.cli_shell.specs.Prompts.{answered, prompt, prompted, refused, with_packet_sent}
+use Rattle.cli_shell.specs.Prompts.{answered, prompted, refused}
 use Rattle.cli_shell.specs.ShellTurn.{all_parts, ended, first_treated, result_of, return_code, returned_unknown, shell_turn, treated, treated_in, with_cleared}
 use Rattle.cli_shell.specs.TurnParts.{ShellTurn, and_then, begun as turn_begun, called, shown, with_disc}
 use Rattle.cli_shell.specs.TypedFiles.{goes_on, is_typed, opened, typed, typed_if, with_piece, with_stream_closed}

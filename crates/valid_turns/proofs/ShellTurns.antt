@@ -1,5 +1,5 @@
 -- The turn of the shell leaves valid lists.
-use Rattle.std.proofs.Common.{◌≡◌, ℕ, ◌+◌, ◌≤◌, eqb, true, false, length, Option, Some, None, Result, Err, List, [], ◌∷◌, ◌++◌, append-nil, refl, sym, ap, ◌∙◌, subst, arith}
+use Rattle.std.proofs.Common.{◌≡◌, ℕ, ◌+◌, ◌≤◌, eqb, true, length, Option, Some, None, Result, Err, List, [], ◌∷◌, ◌++◌, append-nil, refl, sym, ap, ◌∙◌, subst, arith}
 use Rattle.std.specs.Prelude.{find}
 use Rattle.std.specs.List.{AllByRecursion}
 use Rattle.linked_list.specs.Places.{without_first as without_first_of}
@@ -12,7 +12,6 @@ use Rattle.kernel_model.specs.Changes.{AreUnowned, queue_of, with_queue, with_ta
 use Rattle.kernel_model.specs.HoldsLists.{HoldsLists}
 use Rattle.kernel_model.specs.Kernel.{Shell}
 use Rattle.kernel_model.specs.Lists.{Lists, has_task}
-use Rattle.kernel_model.specs.Owned.{owned}
 use Rattle.kernel_model.specs.Running.{RunsAlive}
 use Rattle.kernel_model.specs.Standing.{Standing, standing}
 use Rattle.kernel_model.specs.Task.{Task}
@@ -35,8 +34,8 @@ use Rattle.task_calls.specs.DeleteTask.{delete_task, deletion_tests, without_tas
 use Rattle.task_calls.specs.HoldTask.{hold, hold_tests, held}
 use Rattle.task_calls.specs.ReleaseTask.{release, release_tests, released}
 use Rattle.task_calls.specs.SetFlags.{flagged, set_flags}
-use Rattle.resident_requests.specs.Requests.{RunsResident, TakesRequest, IsForeign, request_at, work}
-use Rattle.resident_requests.specs.Answers.{finished, returned}
+use Rattle.resident_requests.specs.Requests.{RunsResident, IsForeign, request_at, work}
+use Rattle.resident_requests.specs.Answers.{returned}
 use Rattle.resident_requests.proofs.ResidentTurns.{takes-request}
 use Rattle.kernel_boot.proofs.StandingKernels.{left-is}
 use Rattle.shell_programs.specs.ShellPacket.{HasPacket, posted, requested, request_words}

@@ -1,11 +1,10 @@
-// The turns of residents leave valid lists.
-ghost use Rattle.std.specs.Prelude.{◌≡◌, List, None, false, ℕ};
+// Turns leave valid lists.
+ghost use Rattle.std.specs.Prelude.{◌≡◌, List, None, ℕ};
 ghost use Rattle.ram_disc.specs.Disc.{Disc};
 ghost use Rattle.kernel_model.specs.HoldsLists.{HoldsLists};
-ghost use Rattle.kernel_model.specs.Image.{HasPlainWords};
+ghost use Rattle.kernel_model.specs.Image.{image};
 ghost use Rattle.kernel_model.specs.Kernel.{Console, Kernel, Shell};
 ghost use Rattle.kernel_model.specs.Lists.{Lists};
-ghost use Rattle.kernel_model.specs.Task.{is_guest_id};
 ghost use Rattle.kernel_model.specs.ValidKernel.{IsValid};
 ghost use Rattle.kernel_model.specs.ValidLists.{AreValid};
 ghost use Rattle.kernel_model.specs.declared.numbers.TheConstants.{CONSOLE, REPORTER, SHELL};
@@ -16,8 +15,8 @@ ghost use Rattle.resident_requests.specs.declared.requests.Request.{Request};
 ghost use Rattle.fault_reporter.specs.FaultTurns.{fault_turn};
 ghost use Rattle.console_handler.specs.ConsoleTurn.{console_turn};
 ghost use Rattle.cli_shell.specs.ShellTurn.{shell_turn};
-ghost use Rattle.kernel_steps.specs.Parts.{CanTurn};
 ghost use Rattle.kernel_steps.specs.ResidentSteps.{resident_step};
+ghost use Rattle.kernel_steps.specs.Step.{turn, with_step};
 
 /// The turn of a handler leaves valid lists, whatever it makes of the request, and so does the end of each resident's turn.
 pub fn handler_law()
@@ -47,12 +46,13 @@ pub fn shell_law()
         → AreValid (shell_turn s l sh d).standing.lists }
 {}
 
-/// So the turn of a resident, or of nobody, leaves valid lists: of a valid kernel between two steps, and of one that may have a
-/// turn, as within a step.
+/// So the turn of each resident leaves valid lists.
 pub fn resident_law()
-    ensures between { (k : Kernel) → IsValid k → k.stop ≡ None → is_guest_id k.lists.running ≡ false
+    ensures { (k : Kernel) → HoldsLists (image k) k.lists → RunsResident k.lists
         → AreValid (resident_step k.lists.running k).kernel.lists }
-    ensures within { (k : Kernel) → CanTurn k → HasPlainWords k
-        → is_guest_id k.lists.running ≡ false
-        → AreValid (resident_step k.lists.running k).kernel.lists }
+{}
+
+/// So in each step of a valid kernel the turn leaves valid lists, whoever runs.
+pub fn turn_law()
+    ensures { (k : Kernel) → IsValid k → k.stop ≡ None → AreValid (turn (with_step k)).kernel.lists }
 {}
