@@ -23,7 +23,7 @@ use Rattle.ledger_moves.specs.Queues.{Moves, ledger_of}
 use Rattle.ledger_moves.proofs.Ledgers.{IsNamed, number_of}
 use Rattle.ledger_moves.proofs.Moves.{low-named, move-accepted, move-none, move-taken, moves-then, nowhere-then, signed-low}
 use Rattle.ledger_moves.proofs.ValidLedgers.{IsNumber, task-number, valid-once}
-use Rattle.step_moves.proofs.TickValid.{tick-valid}
+use Rattle.step_moves.proofs.StoredLists.{tick-valid}
 
 -- the device's number
 device-named : (d : Device) → IsNamed (place_of d)
@@ -113,10 +113,6 @@ due-first now (p ∷ ps) falls = on (leb p.last now) refl (due-first now ps fall
         → cond b (p ∷ due_packets now ps) (due_packets now ps) ++ cond (not b) (p ∷ later_packets now ps) (later_packets now ps) ≡ p ∷ ps
     on true is more = ap (λ z. p ∷ z) more
     on false is more = (let r = none-due p.last now ps (leb-false p.last now is) falls.0 in λ i. r.0 i ++ (p ∷ r.1 i))
-
--- the clock's queue is other packets, once more
-clock-twice : (l : Lists) (qs rs : List QueuedPacket) → with_queue Clock rs (with_queue Clock qs l) ≡ with_queue Clock rs l
-clock-twice l qs rs = refl
 
 -- packets are returned one after the other, where they are the first at the clock
 each-returned : (due : KernelEvent → ℕ) (qs rs : List QueuedPacket) (l : Lists) → AreValid l → l.clock ≡ qs ++ rs → Moves due l (events_of_return qs) (with_returned qs (with_queue Clock rs l))

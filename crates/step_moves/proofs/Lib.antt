@@ -1,4 +1,4 @@
-pub mod TickValid
+pub mod StoredLists
 pub mod DeviceMoves
 pub mod DispatchMoves
 pub mod StepMoved

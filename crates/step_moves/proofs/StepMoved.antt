@@ -14,13 +14,13 @@ use Rattle.packet_calls.specs.declared.returns.Device.TheVariants as devices
 use Rattle.packet_calls.proofs.ReturnedLists.{returned-valid}
 use Rattle.clock_device.specs.Tick.{due_packets, later_packets, ticked, with_returned, with_tick}
 use Rattle.tty_device.specs.Keys.{met}
-use Rattle.kernel_steps.specs.Step.{Stepped, after_the_turn, and_then, dispatch, key, output, quietly, served, step, tick, turn, unless_stopped, where_due, with_key_typed, with_step}
+use Rattle.kernel_steps.specs.Step.{Stepped, after_the_turn, and_then, devices, dispatch, key, output, quietly, served, step, tick, turn, unless_stopped, where_due, with_key_typed, with_step}
 use Rattle.kernel_steps.proofs.DevicesKept.{typed-lists}
 use Rattle.ledger_moves.specs.Queues.{Moves}
 use Rattle.ledger_moves.proofs.Moves.{move-none, moves-then}
 use Rattle.step_moves.proofs.DeviceMoves.{due-first, finished-moves, met-moves, ticked-moves}
 use Rattle.step_moves.proofs.DispatchMoves.{dispatch-moves}
-use Rattle.step_moves.proofs.TickValid.{tick-valid}
+use Rattle.step_moves.proofs.StoredLists.{tick-valid}
 
 -- ---- lists stay valid
 
@@ -89,13 +89,17 @@ module _ (due : KernelEvent → ℕ) where
 
   -- ---- the step
 
-  rest-moved : (k : Kernel) → AreValid k.lists → Moves due k.lists (after_the_turn k).events (after_the_turn k).kernel.lists
-  rest-moved k v =
+  pub devices-moved : (k : Kernel) → AreValid k.lists → IsMoved due k.lists (devices k)
+  devices-moved k v =
       let t : IsMoved due k.lists (tick k) = tick-moved k v in
       let b : IsMoved due k.lists (and_then (tick k) key) = moved-then k.lists (tick k) key t (key-moved (tick k).kernel t.valid) in
-      let o : IsMoved due k.lists (and_then (and_then (tick k) key) output) = moved-then k.lists (and_then (tick k) key) output b (output-moved (and_then (tick k) key).kernel b.valid) in
-      let d : Stepped = and_then (and_then (tick k) key) output in
-      moves-then due k.lists d.kernel.lists (dispatch d.kernel).kernel.lists d.events (dispatch d.kernel).events o.moves (dispatch-moved d.kernel o.valid)
+      moved-then k.lists (and_then (tick k) key) output b (output-moved (and_then (tick k) key).kernel b.valid)
+
+  rest-moved : (k : Kernel) → AreValid k.lists → Moves due k.lists (after_the_turn k).events (after_the_turn k).kernel.lists
+  rest-moved k v =
+      let d : IsMoved due k.lists (devices k) = devices-moved k v in
+      moves-then due k.lists (devices k).kernel.lists (dispatch (devices k).kernel).kernel.lists (devices k).events (dispatch (devices k).kernel).events d.moves
+      (dispatch-moved (devices k).kernel d.valid)
 
   unless-moved : (k : Kernel) → AreValid k.lists → Moves due k.lists (unless_stopped after_the_turn k).events (unless_stopped after_the_turn k).kernel.lists
   unless-moved k v = on (is_some k.stop)
