@@ -95,7 +95,7 @@ keys-valid : (s : List ℕ) (l : Lists) → HoldsLists s l → is_some l.key ≡
 keys-valid s l h off =
     (keys-sent s (λ _. Unit {0}) (length s) l key_packet CONSOLE keyboard (record { lists = h; knows = λ _ _. tt; enough = omega arith }) (can-send l off) _ refl _ refl refl).leaves.lists.lists.valid
 
-console-allows : Allows IsConsole
+pub console-allows : Allows IsConsole
 console-allows =
     record {
       at_keys = λ s l es p ps is own x.

@@ -43,13 +43,6 @@ runs-then Keyboard ps l r = record { resident = r.resident; there = r.there; fie
 runs-then Output ps l r = record { resident = r.resident; there = r.there; field = r.field }
 runs-then Pending ps l r = record { resident = r.resident; there = r.there; field = r.field }
 
-pub running-then : (at : Place) (ps : List QueuedPacket) (l : Lists) → (with_queue at ps l).running ≡ l.running
-running-then (Work i) ps l = refl
-running-then Clock ps l = refl
-running-then Keyboard ps l = refl
-running-then Output ps l = refl
-running-then Pending ps l = refl
-
 data-then : (at : Place) (ps : List QueuedPacket) (l : Lists) (a n : ℕ) → AreData l.blocks a n → AreData (with_queue at ps l).blocks a n
 data-then (Work i) ps l a n d = d
 data-then Clock ps l a n d = d
@@ -75,6 +68,10 @@ module _ (s : List ℕ) (l : Lists) (h : HoldsLists s l) (at : Place) (p : Queue
   pub sender-kept : request.sender ≡ p.sender
   sender-kept = others-kept s l at p [] ps h is (p.address + 1) (omega arith) (omega arith) ∙ (held-before s l at p [] ps h is).holds.1.1.0
 
+  -- and is there, if it was
+  pub sender-there : has_task p.sender l.tasks ≡ true → has_task request.sender m.tasks ≡ true
+  sender-there from = ap (λ n. has_task n m.tasks) sender-kept ∙ there-then p.sender at ps l ∙ from
+
   module _ (no_key : is_key_packet l p ≡ false) (no_fault : is_fault_packet l p ≡ false) where
     pub taken-valid : AreValid m
     taken-valid = unqueued-valid l at p [] ps h.valid is no_key no_fault
@@ -90,18 +87,15 @@ module _ (s : List ℕ) (l : Lists) (h : HoldsLists s l) (at : Place) (p : Queue
 
     -- it comes to the queue of its sender, which is there
     module _ (from : has_task p.sender l.tasks ≡ true) where
-      sender-there : has_task request.sender m.tasks ≡ true
-      sender-there = ap (λ n. has_task n m.tasks) sender-kept ∙ there-then p.sender at ps l ∙ from
-
       pub returned-valid : RunsResident l → (answer : Result ℕ ℕ) → AreValid (returned m request answer).lists
       returned-valid r answer =
           let qs : List QueuedPacket = queue_of (Work request.sender) m in
-          comes-valid _ m (Work request.sender) (answered_packet m request answer) taken-holds sender-there lodged unowned (λ _. (runs-then at ps l r).there) qs [] (sym (append-nil qs)) tt
+          comes-valid _ m (Work request.sender) (answered_packet m request answer) taken-holds (sender-there from) lodged unowned (λ _. (runs-then at ps l r).there) qs [] (sym (append-nil qs)) tt
 
       -- or to the reads that wait
       pub put_off-valid : l.residents ≡ true → AreValid (put_off words m request).lists
       put_off-valid residents =
-          comes-valid _ m Pending (sent_packet words m Pending p.address request.sender) taken-holds (with_queue-residents at ps l ∙ residents) lodged unowned sender-there m.pending [] (sym (append-nil m.pending)) tt
+          comes-valid _ m Pending (sent_packet words m Pending p.address request.sender) taken-holds (with_queue-residents at ps l ∙ residents) lodged unowned (sender-there from) m.pending [] (sym (append-nil m.pending)) tt
 
       -- and the resident goes on
       pub returned-runs : RunsResident l → (answer : Result ℕ ℕ) → RunsResident (returned m request answer).lists

@@ -1,0 +1,5 @@
+pub mod TakenMoves
+pub mod RequestMoves
+pub mod FreePackets
+pub mod ReporterMoves
+pub mod ConsoleMoves
