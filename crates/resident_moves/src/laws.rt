@@ -3,17 +3,21 @@ ghost use Rattle.std.specs.Prelude.{◌≡◌, List, true, ℕ};
 ghost use Rattle.word_store.specs.Arithmetic.{signed};
 ghost use Rattle.cint_exec.specs.declared.Fault.{Fault};
 ghost use Rattle.packet_queue.specs.declared.events.KernelEvent.{KernelEvent};
+ghost use Rattle.ram_disc.specs.Disc.{Disc};
 ghost use Rattle.kernel_model.specs.HoldsLists.{HoldsLists};
-ghost use Rattle.kernel_model.specs.Kernel.{Console};
+ghost use Rattle.kernel_model.specs.Image.{image};
+ghost use Rattle.kernel_model.specs.Kernel.{Console, Kernel, Shell};
 ghost use Rattle.kernel_model.specs.Lists.{Lists, has_task};
 ghost use Rattle.kernel_model.specs.ValidLists.{AreValid};
-ghost use Rattle.kernel_model.specs.declared.numbers.TheConstants.{CONSOLE, REPORTER};
+ghost use Rattle.kernel_model.specs.declared.numbers.TheConstants.{CONSOLE, REPORTER, SHELL};
 ghost use Rattle.resident_requests.specs.Requests.{RunsResident, TakesRequest};
 ghost use Rattle.resident_requests.specs.Turns.{Served, request_turn};
 ghost use Rattle.resident_requests.specs.declared.requests.Request.{Request};
 ghost use Rattle.fault_reporter.specs.FaultTurns.{fault_turn};
 ghost use Rattle.fault_reporter.specs.Recorded.{recorded, recorded_events};
 ghost use Rattle.console_handler.specs.ConsoleTurn.{console_turn};
+ghost use Rattle.cli_shell.specs.ShellTurn.{shell_turn};
+ghost use Rattle.kernel_steps.specs.ResidentSteps.{resident_step};
 ghost use Rattle.ledger_moves.specs.Queues.{Moves};
 ghost use Rattle.ledger_moves.specs.SentBy.{AreOfTurn};
 
@@ -56,4 +60,26 @@ pub fn console_law()
     ensures senders { (id : ℕ) (c : Console) (k s : List ℕ) (l : Lists) → HoldsLists s l → RunsResident l
         → l.running ≡ CONSOLE
         → AreOfTurn (signed l.running) (console_turn id c k s l).events }
+{}
+
+/// The turn of the shell moves packets as its events say: it takes its first packet, and sends its own or returns another. What it
+/// sends is from the shell, and it takes nothing from the clock's queue.
+pub fn shell_law()
+    ensures moves { (due : KernelEvent → ℕ) (s : List ℕ) (l : Lists) (sh : Shell) (d : Disc) → HoldsLists s l
+        → RunsResident l
+        → l.running ≡ SHELL
+        → Moves due l (shell_turn s l sh d).events (shell_turn s l sh d).standing.lists }
+    ensures senders { (s : List ℕ) (l : Lists) (sh : Shell) (d : Disc) → HoldsLists s l → RunsResident l
+        → l.running ≡ SHELL
+        → AreOfTurn (signed l.running) (shell_turn s l sh d).events }
+{}
+
+/// So the turn of each resident moves packets as its events say, and what it sends is from the resident.
+pub fn resident_law()
+    ensures moves { (due : KernelEvent → ℕ) (k : Kernel) → HoldsLists (image k) k.lists
+        → RunsResident k.lists
+        → Moves due k.lists (resident_step k.lists.running k).events
+        (resident_step k.lists.running k).kernel.lists }
+    ensures senders { (k : Kernel) → HoldsLists (image k) k.lists → RunsResident k.lists
+        → AreOfTurn (signed k.lists.running) (resident_step k.lists.running k).events }
 {}

@@ -137,7 +137,7 @@ module _ (p : QueuedPacket) (ps : List QueuedPacket) (k : Standing) (es : List K
   abbrev words : List ℕ
   words = unqueued k.words (queue_for l (Work l.running)) p.address
 
-  from : has_task p.sender l.tasks ≡ true
+  pub from : has_task p.sender l.tasks ≡ true
   from = (subst (AllByRecursion (MayStand l (Work l.running))) is (place-stands l (Work l.running) h.valid b.well.runs.there)).0.sender foreign.0 b.well.runs.resident
 
   back-so : (fs : List KernelEvent) → GoesWell (left_by (after_first p ps k).words (sent_back p ps k)) fs
@@ -212,7 +212,7 @@ requested-so to kind k es fs low there x =
 
 -- ---- the turn
 
-shell-allows : Allows IsShell HasOwn GoesWell (λ l es. AreValid l)
+pub shell-allows : Allows IsShell HasOwn GoesWell (λ l es. AreValid l)
 shell-allows =
     record {
       at_clearing = cleared-so;
