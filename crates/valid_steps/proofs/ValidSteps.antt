@@ -57,7 +57,7 @@ module _ (k : Kernel) (h : IsValid k) (goes : k.stop ≡ None) where
   step-valid few = step-left k h goes few taken
 
 -- also where it has stopped before
-next-valid : (k : Kernel) → IsValid k → k.steps < most_steps → IsValid (step k).kernel
+pub next-valid : (k : Kernel) → IsValid k → k.steps < most_steps → IsValid (step k).kernel
 next-valid k h few = on k.stop refl
   where
     on : (o : Option Stop) → k.stop ≡ o → IsValid (step k).kernel
