@@ -12,11 +12,11 @@ use Rattle.kernel_model.specs.Residents.{key_packet, keyboard}
 use Rattle.kernel_model.specs.ValidQueues.{is_key_packet}
 use Rattle.kernel_model.specs.ValidQueues.Place.{Keyboard, Pending, Work}
 use Rattle.kernel_model.specs.declared.numbers.TheConstants.{CONSOLE, PENDING}
+use Rattle.task_calls.specs.SetFlags.{set_flags}
 use Rattle.packet_calls.specs.Destinations.{queue_for}
 use Rattle.packet_calls.specs.PacketMoves.{sent_packet, with_arrived}
 use Rattle.packet_calls.specs.QueueWords.{unqueued}
 use Rattle.packet_calls.specs.SendOwn.{send_own}
-use Rattle.task_calls.specs.SetFlags.{set_flags}
 use Rattle.resident_requests.specs.Answers.{finished, returned}
 use Rattle.resident_requests.specs.Requests.{RunsResident, work}
 use Rattle.console_handler.specs.ConsoleTurn.{console_turn, treated, with_keys_sent}
@@ -27,9 +27,9 @@ use Rattle.cli_shell.proofs.RunningShell.{flags-goes}
 use Rattle.ledger_moves.proofs.Ledgers.{ledger-same}
 use Rattle.ledger_moves.proofs.Moves.{low-named, move-accepted, moves-same, signed-low}
 use Rattle.ledger_moves.proofs.SentEvents.{low-clock, turn-accepted}
-use Rattle.guest_moves.proofs.GuestMoves.{set_flags-quiet}
 use Rattle.valid_turns.proofs.ConsoleParts.{Allows, parts-on, read_event, read_request, without_work, work_event, work_request}
 use Rattle.valid_turns.proofs.ConsoleTurns.{IsConsole, console-allows, has-residents, read-sender, work-sender}
+use Rattle.guest_moves.proofs.GuestMoves.{set_flags-quiet}
 use Rattle.resident_moves.proofs.FreePackets.{unqueued-nowhere}
 use Rattle.resident_moves.proofs.RequestMoves.{TurnMoves, finished-same}
 use Rattle.resident_moves.proofs.TakenMoves.{MovesInTurn, none-moved, put_off-moves, returned-moves, same-moved, taken-moves, then-moved}

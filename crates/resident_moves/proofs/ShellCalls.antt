@@ -4,8 +4,8 @@ use Rattle.std.specs.Prelude.{unwrap_or}
 use Rattle.std.specs.Option.{option_map}
 use Rattle.hunk_text.specs.ModuleOfText.{Refusal, module_of}
 use Rattle.hunk_text.specs.declared.modules.Module.{Module}
-use Rattle.hunk_loader.specs.ModuleExchanges.{hunk_words}
 use Rattle.ram_disc.specs.Disc.{Disc, file_named}
+use Rattle.hunk_loader.specs.ModuleExchanges.{hunk_words}
 use Rattle.kernel_model.specs.HoldsLists.{HoldsLists}
 use Rattle.kernel_model.specs.Lists.{Lists}
 use Rattle.kernel_model.specs.Running.{RunsAlive}
@@ -28,10 +28,10 @@ use Rattle.shell_programs.specs.declared.programs.Priority.{Priority}
 use Rattle.cli_shell.proofs.RunningShell.{made-events}
 use Rattle.ledger_moves.specs.Queues.{Moves, ledger_of}
 use Rattle.ledger_moves.proofs.Ledgers.{ledger-task}
-use Rattle.guest_moves.proofs.GuestMoves.{beside-quiet, create_task-quiet, delete_task-quiet, unload-quiet}
 use Rattle.valid_turns.proofs.ClearedStores.{all-cleared}
 use Rattle.valid_turns.proofs.ShellTurns.{deleted-holds}
 use Rattle.valid_turns.proofs.StartedPrograms.{unloaded-holds}
+use Rattle.guest_moves.proofs.GuestMoves.{beside-quiet, create_task-quiet, delete_task-quiet, unload-quiet}
 
 -- without events none does
 quiet-same : (l : Lists) (m : Made) → m.events ≡ [] → Moves (λ e. 0) l m.events m.lists → ledger_of m.lists ≡ ledger_of l

@@ -1,11 +1,11 @@
 -- The turn of the shell.
 use Rattle.std.proofs.Common.{◌≡◌, ℕ, ◌≤◌, true, Err, List, [], ◌∷◌, ◌++◌, append_assoc, refl, sym, ap, subst, arith}
 use Rattle.word_store.specs.Arithmetic.{signed}
+use Rattle.ram_disc.specs.Disc.{Disc}
 use Rattle.owned_words.specs.Owned.{written}
 use Rattle.packet_queue.specs.QueueWords.{QueuedPacket}
 use Rattle.packet_queue.specs.declared.events.KernelEvent.{KernelEvent}
 use Rattle.packet_queue.specs.declared.events.KernelEvent.TheVariants.{Accepted}
-use Rattle.ram_disc.specs.Disc.{Disc}
 use Rattle.kernel_model.specs.HoldsLists.{HoldsLists}
 use Rattle.kernel_model.specs.Kernel.{Shell}
 use Rattle.kernel_model.specs.Lists.{Lists, has_task}
@@ -33,9 +33,9 @@ use Rattle.ledger_moves.specs.SentBy.{AreOfTurn}
 use Rattle.ledger_moves.proofs.CallMoves.{unowned-nowhere}
 use Rattle.ledger_moves.proofs.Moves.{low-named, move-accepted, signed-low}
 use Rattle.ledger_moves.proofs.SentEvents.{low-clock, low-reads, turn-accepted}
-use Rattle.guest_moves.proofs.GuestMoves.{change_pri-quiet, hold-quiet, release-quiet, set_flags-quiet}
 use Rattle.valid_turns.proofs.ShellParts.{Allows, first_event, sent_back, turn-done, without_first}
-use Rattle.valid_turns.proofs.ShellTurns.{HasOwn, IsShell, from, shell-allows, words-are}
+use Rattle.valid_turns.proofs.ShellTurns.{HasOwn, IsShell, first-sender, shell-allows, first-words}
+use Rattle.guest_moves.proofs.GuestMoves.{change_pri-quiet, hold-quiet, release-quiet, set_flags-quiet}
 use Rattle.resident_moves.proofs.RequestMoves.{finished-same}
 use Rattle.resident_moves.proofs.ShellCalls.{begun-same, cleared-same, started-same}
 use Rattle.resident_moves.proofs.TakenMoves.{MovesInTurn, none-moved, returned-moves, still-moved, taken-moves, then-moved}
@@ -73,11 +73,11 @@ module _ (due : KernelEvent → ℕ) (b : Lists) where
 
     back-led : Led ((es ++ first_event p k ∷ []) ++ (sent_back p ps k).events) (sent_back p ps k).lists
     back-led =
-        subst (λ s. let m : Made = returned (without_first ps k) (request_at s p.address) (Err 31) in Led ((es ++ first_event p k ∷ []) ++ m.events) m.lists) (words-are p ps k es is x.shell)
+        subst (λ s. let m : Made = returned (without_first ps k) (request_at s p.address) (Err 31) in Led ((es ++ first_event p k ∷ []) ++ m.events) m.lists) (first-words p ps k es is x.shell)
         (subst (λ fs. Led fs back.lists) (sym (append_assoc es (first_event p k ∷ []) back.events))
         (then-moved due (signed SHELL) b l back.lists es (first_event p k ∷ back.events) x.led
         (returned-moves due (signed SHELL) k.words l x.shell.well.holds (Work l.running) p ps is (low-named l.running low) (signed l.running) (signed-low l.running low) (low-clock l.running low)
-        (from p ps k es is x.shell) refl (ap signed (sym x.shell.is)) (Err 31))))
+        (first-sender p ps k es is x.shell) refl (ap signed (sym x.shell.is)) (Err 31))))
 
   -- ---- its own
 

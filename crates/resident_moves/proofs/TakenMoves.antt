@@ -71,7 +71,7 @@ module _ (due : KernelEvent → ℕ) (from : ℤ) (s : List ℕ) (l : Lists) (h 
         turn = turn-taken from z p.address (signed p.sender) no_clock;
       }
 
-  pub taken-nowhere : IsNowhere p.address (ledger_of m)
+  taken-nowhere : IsNowhere p.address (ledger_of m)
   taken-nowhere = nowhere-then due l at p ps (valid-once l h.valid) has named is
 
   -- it comes to the queue of its sender, which is there

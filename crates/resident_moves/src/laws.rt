@@ -2,8 +2,8 @@
 ghost use Rattle.std.specs.Prelude.{◌≡◌, List, true, ℕ};
 ghost use Rattle.word_store.specs.Arithmetic.{signed};
 ghost use Rattle.cint_exec.specs.declared.Fault.{Fault};
-ghost use Rattle.packet_queue.specs.declared.events.KernelEvent.{KernelEvent};
 ghost use Rattle.ram_disc.specs.Disc.{Disc};
+ghost use Rattle.packet_queue.specs.declared.events.KernelEvent.{KernelEvent};
 ghost use Rattle.kernel_model.specs.HoldsLists.{HoldsLists};
 ghost use Rattle.kernel_model.specs.Image.{image};
 ghost use Rattle.kernel_model.specs.Kernel.{Console, Kernel, Shell};

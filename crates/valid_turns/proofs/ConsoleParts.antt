@@ -11,10 +11,10 @@ use Rattle.kernel_model.specs.Residents.{key_packet, keyboard}
 use Rattle.kernel_model.specs.ValidQueues.{is_key_packet}
 use Rattle.kernel_model.specs.ValidQueues.Place.{Pending, Work}
 use Rattle.kernel_model.specs.declared.numbers.TheConstants.{CONSOLE, PENDING}
+use Rattle.task_calls.specs.SetFlags.{set_flags}
 use Rattle.packet_calls.specs.Destinations.{queue_for}
 use Rattle.packet_calls.specs.QueueWords.{unqueued}
 use Rattle.packet_calls.specs.SendOwn.{send_own}
-use Rattle.task_calls.specs.SetFlags.{set_flags}
 use Rattle.resident_requests.specs.Answers.{returned}
 use Rattle.resident_requests.specs.Buffers.{written_buffer}
 use Rattle.resident_requests.specs.Requests.{first_request, request_at, taken, taken_from, words_taken_from, work}

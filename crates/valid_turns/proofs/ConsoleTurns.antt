@@ -11,19 +11,19 @@ use Rattle.kernel_model.specs.Kernel.{Console}
 use Rattle.kernel_model.specs.Lists.{Lists, has_task}
 use Rattle.kernel_model.specs.Residents.{key_packet, keyboard}
 use Rattle.kernel_model.specs.ValidLists.{AreValid}
-use Rattle.kernel_model.specs.ValidQueues.{IsFaultPacket, IsKeyPacket, MayStand, Place, is_fault_packet, is_key_packet}
-use Rattle.kernel_model.specs.ValidQueues.Place.{Clock, Keyboard, Output, Pending, Work}
+use Rattle.kernel_model.specs.ValidQueues.{IsFaultPacket, IsKeyPacket, MayStand, is_fault_packet, is_key_packet}
+use Rattle.kernel_model.specs.ValidQueues.Place.{Pending, Work}
 use Rattle.kernel_model.specs.declared.numbers.TheConstants.{CONSOLE}
 use Rattle.kernel_model.proofs.QueuePlaces.{place-stands}
 use Rattle.kernel_model.proofs.ResidentPackets.{key_unqueued-valid}
 use Rattle.call_answers.specs.Guests.{guest_tests}
 use Rattle.call_answers.specs.Made.{done}
 use Rattle.call_answers.specs.Refusals.{first_refusal}
+use Rattle.task_calls.specs.SetFlags.{flagged, set_flags}
 use Rattle.packet_calls.specs.Destinations.{queue_for}
 use Rattle.packet_calls.specs.QueueWords.{unqueued}
 use Rattle.packet_calls.specs.SendOwn.{send_own}
 use Rattle.packet_calls.proofs.OwnPackets.{keys-sent}
-use Rattle.task_calls.specs.SetFlags.{flagged, set_flags}
 use Rattle.resident_requests.specs.Answers.{returned}
 use Rattle.resident_requests.specs.Requests.{RunsResident, work}
 use Rattle.console_handler.specs.ConsoleTurn.{all_parts, treated, with_keys_sent}
@@ -32,6 +32,7 @@ use Rattle.console_handler.specs.Progress.{Progress, begun, settled_words}
 use Rattle.console_handler.specs.Reads.{put_off}
 use Rattle.console_handler.proofs.SentKeys.{can-send}
 use Rattle.cli_shell.proofs.RunningShell.{GoesOn, flags-goes}
+use Rattle.valid_calls.proofs.NoKeeper.{no-keeper, tells_nothing}
 use Rattle.valid_calls.proofs.TaskCalls.{set_flags-valid}
 use Rattle.valid_turns.proofs.ConsoleParts.{Allows, parts-on, read_request, without_work, work_request}
 use Rattle.valid_turns.proofs.HandlerTurns.{finished-valid}
@@ -55,22 +56,12 @@ left-so s l m es fs plain x v size runs same = record { holds = settled-holds s 
 -- ---- packets that come to the console
 
 module _ (s : List ℕ) (l : Lists) (es : List KernelEvent) (x : IsConsole s l es) (p : QueuedPacket) (ps : List QueuedPacket) where
-  not-two : Work l.running ≡ Work 2 → ⊥
-  not-two e = absurd (omega (arith, x.is, ap number_in e))
-    where
-      number_in : Place → ℕ
-      number_in (Work id) = id
-      number_in Clock = 0
-      number_in Keyboard = 0
-      number_in Output = 0
-      number_in Pending = 0
-
   module _ (is : work l ≡ p ∷ ps) where
     work-stands : MayStand l (Work l.running) p
     work-stands = (subst (AllByRecursion (MayStand l (Work l.running))) is (place-stands l (Work l.running) x.holds.valid x.runs.there)).0
 
-    pub work-no_fault : is_fault_packet l p ≡ false
-    work-no_fault = false_from_ne_true (is_fault_packet l p) (λ e. not-two (work-stands.fault e).place)
+    work-no_fault : is_fault_packet l p ≡ false
+    work-no_fault = false_from_ne_true (is_fault_packet l p) (λ e. (let i : IsFaultPacket (Work l.running) p = work-stands.fault e in let at = i.place in let two : l.running ≡ 2 = cc in absurd (omega (arith, two, x.is))))
 
     pub work-sender : is_key_packet l p ≡ false → has_task p.sender l.tasks ≡ true
     work-sender no_key = work-stands.sender no_key x.runs.resident
@@ -79,10 +70,10 @@ module _ (s : List ℕ) (l : Lists) (es : List KernelEvent) (x : IsConsole s l e
     read-stands : MayStand l Pending p
     read-stands = (subst (AllByRecursion (MayStand l Pending)) is x.holds.valid.queues.pending).0
 
-    pub read-no_key : is_key_packet l p ≡ false
+    read-no_key : is_key_packet l p ≡ false
     read-no_key = false_from_ne_true (is_key_packet l p) (λ e. (let i : IsKeyPacket Pending p = read-stands.key e in i.place))
 
-    pub read-no_fault : is_fault_packet l p ≡ false
+    read-no_fault : is_fault_packet l p ≡ false
     read-no_fault = false_from_ne_true (is_fault_packet l p) (λ e. (let i : IsFaultPacket Pending p = read-stands.fault e in let at = i.place in cc))
 
     pub read-sender : has_task p.sender l.tasks ≡ true
@@ -93,7 +84,7 @@ module _ (s : List ℕ) (l : Lists) (es : List KernelEvent) (x : IsConsole s l e
 -- the key packet comes to the keyboard
 keys-valid : (s : List ℕ) (l : Lists) → HoldsLists s l → is_some l.key ≡ true → AreValid (send_own s l key_packet CONSOLE keyboard).lists
 keys-valid s l h off =
-    (keys-sent s (λ _. Unit {0}) (length s) l key_packet CONSOLE keyboard (record { lists = h; knows = λ _ _. tt; enough = omega arith }) (can-send l off) _ refl _ refl refl).leaves.lists.lists.valid
+    (keys-sent s tells_nothing (length s) l key_packet CONSOLE keyboard (no-keeper s l h) (can-send l off) _ refl _ refl refl).leaves.lists.lists.valid
 
 pub console-allows : Allows IsConsole
 console-allows =

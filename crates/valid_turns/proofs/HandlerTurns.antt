@@ -1,7 +1,7 @@
 -- The turn of a handler leaves valid lists, and so does the end of any resident's turn.
 use Rattle.std.proofs.Common.{◌≡◌, ℕ, ◌+◌, get_or, Result, List, [], ◌∷◌, inl, inr, refl, sym, subst}
-use Rattle.std.proofs.lemmas.Bool.{cases_eq}
 use Rattle.std.specs.List.{AllByRecursion}
+use Rattle.std.proofs.lemmas.Bool.{cases_eq}
 use Rattle.packet_queue.specs.QueueWords.{QueuedPacket}
 use Rattle.kernel_model.specs.Changes.{with_queue}
 use Rattle.kernel_model.specs.HoldsLists.{HoldsLists}

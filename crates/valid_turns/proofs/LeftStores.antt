@@ -1,12 +1,13 @@
--- A store of which valid lists, and plain words, were written.
-use Rattle.std.proofs.Common.{◌≡◌, ℕ, Option, Some, None, List, length, refl, sym, ◌∙◌, subst, arith}
+-- A store into which valid lists were written, after plain words, holds them.
+use Rattle.std.proofs.Common.{◌≡◌, ℕ, Bool, Option, Some, None, List, length, refl, sym, ◌∙◌, subst, arith}
 use Rattle.owned_words.specs.Owned.{Pairs, written}
 use Rattle.owned_words.proofs.OwnedWords.{Holds-written, length-written, written-other}
 use Rattle.kernel_model.specs.HoldsLists.{HoldsLists}
 use Rattle.kernel_model.specs.Lists.{Lists}
 use Rattle.kernel_model.specs.Owned.{owned}
 use Rattle.kernel_model.specs.ValidLists.{AreValid}
-use Rattle.call_answers.specs.Made.{Made, by_refusal}
+use Rattle.call_answers.specs.Made.{Made, by_refusal, unless_refused}
+use Rattle.call_answers.specs.Refusals.{first_refusal}
 use Rattle.console_handler.specs.Progress.{settled_words}
 use Rattle.console_handler.proofs.DoneParts.{settled-words}
 use Rattle.shell_programs.specs.Standings.{left_by}
@@ -18,7 +19,7 @@ module _ (s : List ℕ) (m : Lists) (plain : Pairs) (v : AreValid m) (size : len
   long : length left ≡ length s
   long = length-written (owned m) (written plain s) ∙ length-written plain s
 
-  -- it holds the lists
+  -- the store itself
   pub left-holds : HoldsLists left m
   left-holds =
       record {
@@ -27,18 +28,20 @@ module _ (s : List ℕ) (m : Lists) (plain : Pairs) (v : AreValid m) (size : len
         holds = Holds-written (owned m) (written plain s) v.owns.apart (λ a some. omega (arith, v.owns.inside a some, size, length-written plain s));
       }
 
-  -- and so does one with these words
+  -- and one with the words that the console's turn names
   pub settled-holds : HoldsLists (settled_words s m plain) m
   settled-holds =
       subst (λ t. HoldsLists t m)
       (settled-words s left m plain (record { lists = left-holds; size = long; written = record { holds = left-holds.holds; others = λ a none. written-other a (owned m) (written plain s) none } }))
       left-holds
 
--- a call that leaves valid lists of the same size leaves a store that holds them
-pub made-holds : (s : List ℕ) (l : Lists) (m : Made) → HoldsLists s l → AreValid m.lists → m.lists.size ≡ l.size → HoldsLists (left_by s m).words m.lists
-made-holds s l m h v size = left-holds s m.lists m.plain v (h.size ∙ sym size)
-
--- where it is refused the size stays too
+-- where a call is refused the size stays too
 pub made-size : (o : Option ℕ) (l : Lists) (m : Made) → m.lists.size ≡ l.size → (by_refusal o l m).lists.size ≡ l.size
 made-size None l m same = same
 made-size (Some code) l m same = refl
+
+-- a call that leaves valid lists, refused or not, leaves a store that holds them
+pub call-holds : (s : List ℕ) (l : Lists) (tests : List (Bool × ℕ)) (m : Made) → HoldsLists s l → AreValid (unless_refused tests l m).lists → m.lists.size ≡ l.size
+    → HoldsLists (left_by s (unless_refused tests l m)).words (unless_refused tests l m).lists
+call-holds s l tests m h v same =
+    left-holds s (unless_refused tests l m).lists (unless_refused tests l m).plain v (h.size ∙ sym (made-size (first_refusal tests) l m same))

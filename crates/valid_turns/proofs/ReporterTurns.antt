@@ -1,8 +1,8 @@
 -- The turn of the task that reports faults leaves valid lists.
 use Rattle.std.proofs.Common.{◌≡◌, ℕ, zero, suc, ◌+◌, ◌≤◌, Bool, true, false, cond, eqb, get_or, set, Option, Some, None, List, [], ◌∷◌, refl, sym, ap, ◌∙◌, subst, arith}
 use Rattle.std.proofs.lemmas.Bool.{eqb-true}
-use Rattle.packet_queue.specs.QueueWords.{QueuedPacket}
 use Rattle.task_block.specs.TaskChain.{task_with, tasks_in}
+use Rattle.packet_queue.specs.QueueWords.{QueuedPacket}
 use Rattle.kernel_model.specs.Changes.{queue_of, with_task}
 use Rattle.kernel_model.specs.HoldsLists.{HoldsLists}
 use Rattle.kernel_model.specs.Lists.{Lists}
@@ -53,7 +53,7 @@ module _ (s : List ℕ) (l : Lists) (h : HoldsLists s l) where
   each-reported zero n low high r = (r.words, (marks-end s r.words l n h (omega (arith, high)) r.same).lists.lists)
   each-reported (suc k) n low high r = each-reported k (n + 1) (omega (arith, low)) (omega (arith, high)) (next-reported n low r)
 
-  pub all-reported : (t : List ℕ) × HoldsLists t (all_reported l)
+  all-reported : (t : List ℕ) × HoldsLists t (all_reported l)
   all-reported = each-reported 59 5 (omega arith) (omega arith) (record { words = s; same = marks-begin s l h })
 
 -- ---- the turn

@@ -3,12 +3,12 @@
 use Rattle.std.proofs.Common.{◌≡◌, ℕ, ◌≤◌, Bool, true, false, cond, eqb, Option, Result, Ok, Err, List, [], ◌∷◌, ◌++◌, refl, arith}
 use Rattle.std.proofs.lemmas.Bool.{eqb-true, le-leb}
 use Rattle.word_store.specs.Arithmetic.{signed}
+use Rattle.ram_disc.specs.Disc.{Disc}
+use Rattle.ram_disc.specs.DiscCalls.{after_delete, after_open_read, after_rename}
 use Rattle.packet_queue.specs.Queue.{no_queue}
 use Rattle.packet_queue.specs.QueueWords.{QueuedPacket}
 use Rattle.packet_queue.specs.declared.events.KernelEvent.{KernelEvent}
 use Rattle.packet_queue.specs.declared.events.KernelEvent.TheVariants.{Taken}
-use Rattle.ram_disc.specs.Disc.{Disc}
-use Rattle.ram_disc.specs.DiscCalls.{after_delete, after_open_read, after_rename}
 use Rattle.kernel_model.specs.Changes.{with_queue}
 use Rattle.kernel_model.specs.Kernel.{Mode, Shell}
 use Rattle.kernel_model.specs.Kernel.Mode.{Prompt, Reading, Typing, Waiting}
@@ -37,10 +37,10 @@ use Rattle.shell_listings.specs.NumberLines.{error_line, task_number_line}
 use Rattle.shell_listings.specs.TaskLines.{task_lines}
 use Rattle.shell_programs.specs.ClearedTasks.{cleared}
 use Rattle.shell_programs.specs.ShellPacket.{post_events, posted, requested}
+use Rattle.shell_programs.specs.Standings.{left_by}
 use Rattle.shell_programs.specs.StartedProgram.{begun, start_program}
 use Rattle.shell_programs.specs.declared.programs.Priority.{Priority}
 use Rattle.shell_programs.specs.declared.programs.Priority.TheVariants.{AboveShell}
-use Rattle.shell_programs.specs.Standings.{left_by}
 use Rattle.shell_programs.proofs.KeptSteps.{started-there}
 use Rattle.cli_shell.specs.Commands.{after_run, after_start, executed, executed_if, line_executed, program_request, run, run_priority, start, with_program_begun, with_started}
 use Rattle.cli_shell.specs.Prompts.{answered, prompted, refused}

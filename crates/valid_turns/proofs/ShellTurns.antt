@@ -2,12 +2,12 @@
 use Rattle.std.proofs.Common.{◌≡◌, ℕ, ◌+◌, ◌≤◌, eqb, true, length, Option, Some, None, Result, Err, List, [], ◌∷◌, ◌++◌, append-nil, refl, sym, ap, ◌∙◌, subst, arith}
 use Rattle.std.specs.Prelude.{find}
 use Rattle.std.specs.List.{AllByRecursion}
+use Rattle.ram_disc.specs.Disc.{Disc}
 use Rattle.linked_list.specs.Places.{without_first as without_first_of}
 use Rattle.owned_words.specs.Owned.{written}
 use Rattle.packet_queue.specs.Queue.{no_queue}
 use Rattle.packet_queue.specs.QueueWords.{QueuedPacket}
 use Rattle.packet_queue.specs.declared.events.KernelEvent.{KernelEvent}
-use Rattle.ram_disc.specs.Disc.{Disc}
 use Rattle.kernel_model.specs.Changes.{AreUnowned, queue_of, with_queue, with_task}
 use Rattle.kernel_model.specs.HoldsLists.{HoldsLists}
 use Rattle.kernel_model.specs.Kernel.{Shell}
@@ -23,26 +23,25 @@ use Rattle.kernel_model.proofs.PacketMoves.{unqueued-unowned}
 use Rattle.kernel_model.proofs.QueuePlaces.{place-stands}
 use Rattle.call_answers.specs.Guests.{guest_tests}
 use Rattle.call_answers.specs.Made.{Made, done}
-use Rattle.call_answers.specs.Refusals.{first_refusal}
-use Rattle.packet_calls.specs.Destinations.{queue_for}
-use Rattle.packet_calls.specs.PacketMoves.{sent_packet}
-use Rattle.packet_calls.specs.QueueWords.{unqueued}
-use Rattle.packet_calls.proofs.Departure.{departed-changed}
-use Rattle.packet_calls.proofs.SentPackets.{comes-valid}
 use Rattle.task_calls.specs.ChangePri.{change_pri, moved, priority_tests, with_new_priority}
 use Rattle.task_calls.specs.DeleteTask.{delete_task, deletion_tests, without_task}
 use Rattle.task_calls.specs.HoldTask.{hold, hold_tests, held}
 use Rattle.task_calls.specs.ReleaseTask.{release, release_tests, released}
 use Rattle.task_calls.specs.SetFlags.{flagged, set_flags}
-use Rattle.resident_requests.specs.Requests.{RunsResident, IsForeign, request_at, work}
+use Rattle.packet_calls.specs.Destinations.{queue_for}
+use Rattle.packet_calls.specs.PacketMoves.{sent_packet}
+use Rattle.packet_calls.specs.QueueWords.{unqueued}
+use Rattle.packet_calls.proofs.Departure.{departed-changed}
+use Rattle.packet_calls.proofs.SentPackets.{comes-valid}
 use Rattle.resident_requests.specs.Answers.{returned}
+use Rattle.resident_requests.specs.Requests.{RunsResident, IsForeign, request_at, work}
 use Rattle.resident_requests.proofs.ResidentTurns.{takes-request}
 use Rattle.kernel_boot.proofs.StandingKernels.{left-is}
-use Rattle.shell_programs.specs.ShellPacket.{HasPacket, posted, requested, request_words}
-use Rattle.shell_programs.specs.StartedProgram.{begun, start_program}
 use Rattle.shell_programs.specs.ClearedTasks.{cleared}
-use Rattle.shell_programs.specs.Standings.{left_by}
 use Rattle.shell_programs.specs.KeptLists.{KeepsResidents}
+use Rattle.shell_programs.specs.ShellPacket.{HasPacket, posted, requested, request_words}
+use Rattle.shell_programs.specs.Standings.{left_by}
+use Rattle.shell_programs.specs.StartedProgram.{begun, start_program}
 use Rattle.shell_programs.specs.declared.programs.Priority.{Priority}
 use Rattle.shell_programs.proofs.KeptRules.{begun-packets, begun-residents, begun-runs, cleared-residents, cleared-runs, started-packets, started-residents, started-runs}
 use Rattle.shell_programs.proofs.PacketPlace.{packet-five, packet-kept, packet-residents}
@@ -51,10 +50,11 @@ use Rattle.shell_programs.proofs.SentRules.{posted-is, posted-runs}
 use Rattle.cli_shell.specs.ShellTurn.{shell_turn}
 use Rattle.cli_shell.proofs.RunningShell.{GoesOn}
 use Rattle.cli_shell.proofs.TaskCalls.{IsTaskCall, flags-call, hold-call, priority-call, release-call}
+use Rattle.valid_calls.proofs.NoKeeper.{no-keeper, tells_nothing}
 use Rattle.valid_calls.proofs.TaskCalls.{change_pri-valid, delete_task-valid, hold-valid, release-valid, set_flags-valid}
 use Rattle.valid_turns.proofs.ClearedStores.{all-cleared}
 use Rattle.valid_turns.proofs.HandlerTurns.{finished-valid}
-use Rattle.valid_turns.proofs.LeftStores.{left-holds, made-holds, made-size}
+use Rattle.valid_turns.proofs.LeftStores.{call-holds, left-holds}
 use Rattle.valid_turns.proofs.ShellParts.{Allows, after_first, sent_back, turn-done, without_first}
 use Rattle.valid_turns.proofs.StartedPrograms.{begun-holds, started-holds, unloaded-holds}
 use Rattle.valid_turns.proofs.TakenPackets.{returned-runs, returned-valid, runs-then, taken-valid}
@@ -78,18 +78,16 @@ pub record HasOwn (k : Standing) (es : List KernelEvent) : Type 0 where
 shell-there : (l : Lists) → RunsResident l → l.running ≡ SHELL → has_task SHELL l.tasks ≡ true
 shell-there l r is = ap (λ i. has_task i l.tasks) (sym is) ∙ r.there
 
-pub console-there : (l : Lists) → AreValid l → RunsResident l → l.running ≡ SHELL → has_task CONSOLE l.tasks ≡ true
+console-there : (l : Lists) → AreValid l → RunsResident l → l.running ≡ SHELL → has_task CONSOLE l.tasks ≡ true
 console-there l v r is = v.tasks.console ∙ sym v.tasks.shell ∙ shell-there l r is
 
 -- ---- clearing up
 
-deletion-size : (l : Lists) (id : ℕ) → (delete_task l id).lists.size ≡ l.size
-deletion-size l id = made-size (first_refusal (guest_tests l id ++ deletion_tests l id)) l (done (without_task l id)) refl
-
 pub deleted-holds : (id : ℕ) (k : Standing) → RunsAlive k.lists → HoldsLists k.words k.lists → HoldsLists (left_by k.words (delete_task k.lists id)).words (delete_task k.lists id).lists
-deleted-holds id k alive h = made-holds k.words k.lists (delete_task k.lists id) h (delete_task-valid k.words k.lists h id alive) (deletion-size k.lists id)
+deleted-holds id k alive h =
+    call-holds k.words k.lists (guest_tests k.lists id ++ deletion_tests k.lists id) (done (without_task k.lists id)) h (delete_task-valid k.words k.lists h id alive) refl
 
-pub cleared-holds : (k : Standing) → RunsAlive k.lists → HoldsLists k.words k.lists → HoldsLists (cleared k).words (cleared k).lists
+cleared-holds : (k : Standing) → RunsAlive k.lists → HoldsLists k.words k.lists → HoldsLists (cleared k).words (cleared k).lists
 cleared-holds k alive h = all-cleared (λ j. HoldsLists j.words j.lists) (λ id j low a x. deleted-holds id j a x) unloaded-holds k alive h
 
 cleared-so : (k : Standing) (es : List KernelEvent) → IsShell k es → IsShell (cleared k) (es ++ [])
@@ -131,21 +129,21 @@ module _ (p : QueuedPacket) (ps : List QueuedPacket) (k : Standing) (es : List K
       }
 
   -- the words, as taking leaves them
-  pub words-are : unqueued k.words (queue_for l (Work l.running)) p.address ≡ (after_first p ps k).words
-  words-are = left-is k.words (unqueued k.words (queue_for l (Work l.running)) p.address) (without_first ps k) ((p.address, no_queue) ∷ []) (departed-changed k.words l (Work l.running) p [] ps h is _ valid refl)
-
   abbrev words : List ℕ
   words = unqueued k.words (queue_for l (Work l.running)) p.address
 
-  pub from : has_task p.sender l.tasks ≡ true
-  from = (subst (AllByRecursion (MayStand l (Work l.running))) is (place-stands l (Work l.running) h.valid b.well.runs.there)).0.sender foreign.0 b.well.runs.resident
+  pub first-words : words ≡ (after_first p ps k).words
+  first-words = left-is k.words words (without_first ps k) ((p.address, no_queue) ∷ []) (departed-changed k.words l (Work l.running) p [] ps h is _ valid refl)
+
+  pub first-sender : has_task p.sender l.tasks ≡ true
+  first-sender = (subst (AllByRecursion (MayStand l (Work l.running))) is (place-stands l (Work l.running) h.valid b.well.runs.there)).0.sender foreign.0 b.well.runs.resident
 
   back-so : (fs : List KernelEvent) → GoesWell (left_by (after_first p ps k).words (sent_back p ps k)) fs
   back-so fs =
-      subst (λ s. GoesWell (left_by (after_first p ps k).words (returned (without_first ps k) (request_at s p.address) (Err 31))) fs) words-are
+      subst (λ s. GoesWell (left_by (after_first p ps k).words (returned (without_first ps k) (request_at s p.address) (Err 31))) fs) first-words
       (record {
-        holds = made-holds (after_first p ps k).words (without_first ps k) (returned (without_first ps k) (request_at words p.address) (Err 31)) first-holds (returned-valid k.words l h (Work l.running) p ps is foreign.0 foreign.1 from b.well.runs (Err 31)) refl;
-        runs = returned-runs k.words l h (Work l.running) p ps is foreign.0 foreign.1 from b.well.runs (Err 31);
+        holds = left-holds (after_first p ps k).words (returned (without_first ps k) (request_at words p.address) (Err 31)).lists [] (returned-valid k.words l h (Work l.running) p ps is foreign.0 foreign.1 first-sender b.well.runs (Err 31)) first-holds.size;
+        runs = returned-runs k.words l h (Work l.running) p ps is foreign.0 foreign.1 first-sender b.well.runs (Err 31);
       })
 
 -- ---- a program
@@ -169,9 +167,8 @@ begun-so id k es fs guest x =
 
 -- ---- a call about a task
 
-called-so : (call : Lists → Made) → IsTaskCall call → (k : Standing) (es fs : List KernelEvent) → AreValid (call k.lists).lists → (call k.lists).lists.size ≡ k.lists.size → HasOwn k es → HasOwn (left_by k.words (call k.lists)) fs
-called-so call is k es fs v size x =
-    let h = made-holds k.words k.lists (call k.lists) x.shell.well.holds v size in
+called-so : (call : Lists → Made) → IsTaskCall call → (k : Standing) (es fs : List KernelEvent) → HoldsLists (left_by k.words (call k.lists)).words (call k.lists).lists → HasOwn k es → HasOwn (left_by k.words (call k.lists)) fs
+called-so call is k es fs h x =
     let goes : GoesOn k.lists (call k.lists) = is.goes k.words _ k.lists x.shell.well.holds h x.shell.is x.shell.well.runs in
     let still = goes.running ∙ x.shell.is in
     record {
@@ -179,10 +176,8 @@ called-so call is k es fs v size x =
       packet = record { shell = shell-there (call k.lists).lists goes.runs still; words = λ a low high. is.owns k.words k.lists x.shell.well.holds a ∙ x.packet.words a low high };
     }
 
-priority-size : (id pri : ℕ) (l : Lists) → (change_pri l id pri).lists.size ≡ l.size
-priority-size id pri l =
-    made-size (first_refusal (guest_tests l id ++ priority_tests l id pri)) l (done (with_new_priority id pri l))
-    (on (find (λ t. eqb t.id id) l.tasks))
+priority-size : (id pri : ℕ) (l : Lists) → (with_new_priority id pri l).size ≡ l.size
+priority-size id pri l = on (find (λ t. eqb t.id id) l.tasks)
   where
     on : (o : Option Task) → (moved pri o (without_first_of (λ t. eqb t.id id) l.tasks) l).size ≡ l.size
     on None = refl
@@ -207,7 +202,7 @@ posted-so to k es low there h r packet =
 requested-so : (to kind : ℕ) (k : Standing) (es fs : List KernelEvent) → to ≤ 63 → has_task to k.lists.tasks ≡ true → HasOwn k es → GoesWell (requested to kind k) fs
 requested-so to kind k es fs low there x =
     posted-so to (standing (written (request_words kind) k.words) k.lists) fs low there
-    (request-keeper k.words k.lists to kind (λ _. Unit {0}) (length k.words) (record { lists = x.shell.well.holds; knows = λ _ _. tt; enough = omega arith }) (record { packet = x.packet; there = there })).lists
+    (request-keeper k.words k.lists to kind tells_nothing (length k.words) (no-keeper k.words k.lists x.shell.well.holds) (record { packet = x.packet; there = there })).lists
     x.shell.well.runs x.packet
 
 -- ---- the turn
@@ -224,15 +219,18 @@ shell-allows =
       at_start = λ d name rest pri k es x. started-so d name rest pri k es _ x;
       at_beginning = λ id k es guest x. begun-so id k es _ guest x;
       at_hold = λ id k es x.
-          called-so (λ l. hold l id) (hold-call id) k es _ (hold-valid k.lists x.shell.well.holds.valid id) (made-size (first_refusal (hold_tests k.lists id)) k.lists (done (with_task id held k.lists)) refl) x;
+          let h = x.shell.well.holds in
+          called-so (λ l. hold l id) (hold-call id) k es _ (call-holds k.words k.lists (hold_tests k.lists id) (done (with_task id held k.lists)) h (hold-valid k.lists h.valid id) refl) x;
       at_release = λ id k es x.
-          called-so (λ l. release l id) (release-call id) k es _ (release-valid k.lists x.shell.well.holds.valid id)
-          (made-size (first_refusal (release_tests k.lists id)) k.lists (done (with_task id released k.lists)) refl) x;
+          let h = x.shell.well.holds in
+          called-so (λ l. release l id) (release-call id) k es _ (call-holds k.words k.lists (release_tests k.lists id) (done (with_task id released k.lists)) h (release-valid k.lists h.valid id) refl) x;
       at_priority = λ id pri k es x.
-          called-so (λ l. change_pri l id pri) (priority-call id pri) k es _ (change_pri-valid k.words k.lists x.shell.well.holds id pri) (priority-size id pri k.lists) x;
+          let h = x.shell.well.holds in
+          called-so (λ l. change_pri l id pri) (priority-call id pri) k es _
+          (call-holds k.words k.lists (guest_tests k.lists id ++ priority_tests k.lists id pri) (done (with_new_priority id pri k.lists)) h (change_pri-valid k.words k.lists h id pri) (priority-size id pri k.lists)) x;
       at_flags = λ id flags k es x.
-          called-so (λ l. set_flags l id flags) (flags-call id flags) k es _ (set_flags-valid k.lists x.shell.well.holds.valid id flags)
-          (made-size (first_refusal (guest_tests k.lists id)) k.lists (done (with_task id (flagged flags) k.lists)) refl) x;
+          let h = x.shell.well.holds in
+          called-so (λ l. set_flags l id flags) (flags-call id flags) k es _ (call-holds k.words k.lists (guest_tests k.lists id) (done (with_task id (flagged flags) k.lists)) h (set_flags-valid k.lists h.valid id flags) refl) x;
       at_request = λ to kind k es low there x. requested-so to kind k es _ low there x;
       at_going_on = λ k es x. posted-so SHELL k _ (omega arith) x.packet.shell x.shell.well.holds x.shell.well.runs x.packet;
       at_finish = λ k es x. x.shell.well;

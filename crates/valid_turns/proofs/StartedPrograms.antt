@@ -2,28 +2,28 @@
 use Rattle.std.proofs.Common.{◌≡◌, ℕ, ◌+◌, Bool, true, false, length, Option, Some, None, Result, Ok, Err, List, [], ◌∷◌, refl, sym, ap, ◌∙◌, subst, arith}
 use Rattle.std.specs.Prelude.{is_some, unwrap_or}
 use Rattle.std.specs.Option.{option_map}
-use Rattle.getvec_chain.specs.declared.pieces.Run.{Run}
-use Rattle.getvec_chain.specs.Run.{first_run, need}
-use Rattle.getvec_chain.specs.Take.{IsTaken, taken_store}
 use Rattle.hunk_text.specs.ModuleOfText.{Refusal, module_of}
 use Rattle.hunk_text.specs.declared.modules.Hunk.{Hunk}
 use Rattle.hunk_text.specs.declared.modules.Module.{Module}
+use Rattle.ram_disc.specs.Disc.{Disc, file_named}
+use Rattle.getvec_chain.specs.Run.{first_run, need}
+use Rattle.getvec_chain.specs.Take.{IsTaken, taken_store}
+use Rattle.getvec_chain.specs.declared.pieces.Run.{Run}
 use Rattle.hunk_loader.specs.HeldModules.{LoadedModule}
 use Rattle.hunk_loader.specs.ModuleExchanges.{hunk_words, loaded_module}
 use Rattle.hunk_loader.specs.ModuleRow.{last_word}
 use Rattle.hunk_loader.proofs.LoadedModules.{length-lengths}
-use Rattle.ram_disc.specs.Disc.{Disc, file_named}
 use Rattle.kernel_model.specs.Changes.{AreUnowned, with_modules}
 use Rattle.kernel_model.specs.HoldsLists.{HoldsLists}
 use Rattle.kernel_model.specs.Lists.{Lists, address_of_task}
 use Rattle.kernel_model.specs.Standing.{Standing}
-use Rattle.kernel_model.specs.declared.numbers.TheConstants.{SHELL}
 use Rattle.kernel_model.specs.ValidBlocks.{HasBlock, last_module_word}
 use Rattle.kernel_model.specs.ValidLists.{AreValid}
 use Rattle.kernel_model.specs.ValidQueues.{HasGuest}
+use Rattle.kernel_model.specs.declared.numbers.TheConstants.{SHELL}
 use Rattle.kernel_model.proofs.ModuleMoves.{new_module-valid}
 use Rattle.call_answers.specs.Guests.{GuestAt}
-use Rattle.call_answers.specs.Made.{done}
+use Rattle.call_answers.specs.Made.{Made, done}
 use Rattle.call_answers.specs.Refusals.{first_refusal}
 use Rattle.call_answers.proofs.FoundTask.{reads}
 use Rattle.call_answers.proofs.Refusals.{guest-at}
@@ -33,7 +33,7 @@ use Rattle.block_calls.specs.Freevec.{with_given}
 use Rattle.block_calls.proofs.TakenStore.{HasTakenBlock, taken-changed}
 use Rattle.task_calls.specs.CreateTask.{creation_tests, new_task, number_of, with_created}
 use Rattle.module_calls.specs.LoadModule.{load_module, load_tests, loaded_at, with_loaded}
-use Rattle.module_calls.specs.UnloadModule.{unload_module, unload_tests, without_module}
+use Rattle.module_calls.specs.UnloadModule.{unload_tests, without_module}
 use Rattle.module_calls.proofs.LoadedWords.{last-word}
 use Rattle.kernel_boot.specs.BegunTask.{with_begun}
 use Rattle.kernel_boot.specs.BootTasks.{load_text}
@@ -46,13 +46,17 @@ use Rattle.shell_programs.proofs.ProgramNumbers.{may-create_program}
 use Rattle.valid_calls.proofs.ModuleCalls.{unload-valid}
 use Rattle.valid_calls.proofs.TaskCalls.{create_task-valid}
 use Rattle.valid_calls.proofs.TestedCalls.{unless-valid}
-use Rattle.valid_turns.proofs.LeftStores.{left-holds, made-holds, made-size}
+use Rattle.valid_turns.proofs.LeftStores.{call-holds, left-holds}
 
 -- ---- a module is loaded
 
-pub load-valid : (s : List ℕ) (l : Lists) (hunks : List Hunk) → HoldsLists s l → AreValid (load_module l hunks).lists
+-- what is made of the lists where there is room for it
+abbrev loaded : Lists → List Hunk → Made
+loaded l hunks = record { answer = Ok (loaded_at hunks l); lists = with_loaded hunks l; plain = hunk_words (loaded_at hunks l) hunks; events = [] }
+
+load-valid : (s : List ℕ) (l : Lists) (hunks : List Hunk) → HoldsLists s l → AreValid (load_module l hunks).lists
 load-valid s l hunks h =
-    unless-valid (load_tests l hunks) l (record { answer = Ok (loaded_at hunks l); lists = with_loaded hunks l; plain = hunk_words (loaded_at hunks l) hunks; events = [] }) h.valid
+    unless-valid (load_tests l hunks) l (loaded l hunks) h.valid
     (λ e. on (first_run (need u) l.blocks) refl (room (is_some (first_run (need u) l.blocks)) e))
   where
     u : ℕ
@@ -75,33 +79,28 @@ load-valid s l hunks h =
         subst (λ a. AreValid (with_modules (loaded_module a hunks ∷ l.modules) (with_taken u l))) (t.front ∙ ap data_of_front (sym t.first))
         (new_module-valid (with_taken u l) [] l.modules it t.changed.lists.valid refl block unowned)
 
-load-size : (l : Lists) (hunks : List Hunk) → (load_module l hunks).lists.size ≡ l.size
-load-size l hunks =
-    made-size (first_refusal (load_tests l hunks)) l (record { answer = Ok (loaded_at hunks l); lists = with_loaded hunks l; plain = hunk_words (loaded_at hunks l) hunks; events = [] }) refl
-
 -- a file is found, and its module loaded, or this is refused
 found-holds : (k : Standing) (o : Option (List ℕ)) (rest : Result (Unit {0}) ℕ) → HoldsLists k.words k.lists → HoldsLists (left_by k.words (load_found o rest k.lists)).words (load_found o rest k.lists).lists
-found-holds k None rest h = made-holds k.words k.lists (load_found None rest k.lists) h h.valid refl
-found-holds k (Some bytes) (Err code) h = made-holds k.words k.lists (load_found (Some bytes) (Err code) k.lists) h h.valid refl
+found-holds k None rest h = left-holds k.words k.lists [] h.valid h.size
+found-holds k (Some bytes) (Err code) h = left-holds k.words k.lists [] h.valid h.size
 found-holds k (Some bytes) (Ok u) h = on (module_of bytes)
   where
     on : (r : Result Module Refusal) → HoldsLists (left_by k.words (load_text k.lists r)).words (load_text k.lists r).lists
-    on (Err refusal) = made-holds k.words k.lists (load_text k.lists (Err refusal)) h h.valid refl
-    on (Ok m) = made-holds k.words k.lists (load_module k.lists m.hunks) h (load-valid k.words k.lists m.hunks h) (load-size k.lists m.hunks)
+    on (Err refusal) = left-holds k.words k.lists [] h.valid h.size
+    on (Ok m) = call-holds k.words k.lists (load_tests k.lists m.hunks) (loaded k.lists m.hunks) h (load-valid k.words k.lists m.hunks h) refl
 
 -- ---- a program is started, or refused
 
-unload-size : (l : Lists) (m : ℕ) → (unload_module l m).lists.size ≡ l.size
-unload-size l m = made-size (first_refusal (unload_tests l m)) l (done (with_given m (without_module m l))) refl
-
 -- a module is unloaded, or this is refused
 pub unloaded-holds : (m : ℕ) (k : Standing) → HoldsLists k.words k.lists → HoldsLists (unloaded m k).words (unloaded m k).lists
-unloaded-holds m k h = made-holds k.words k.lists (unload_module k.lists m) h (unload-valid k.words k.lists h m) (unload-size k.lists m)
+unloaded-holds m k h = call-holds k.words k.lists (unload_tests k.lists m) (done (with_given m (without_module m k.lists))) h (unload-valid k.words k.lists h m) refl
 
-creation-size : (pri : Priority) (m : ℕ) (k : Standing) → (creation pri m k).lists.size ≡ k.lists.size
-creation-size pri m k =
-    made-size (first_refusal (creation_tests k.words k.lists 0 (m ∷ []) program_stack (priority_of pri k.lists))) k.lists
-    (with_created k.words k.lists (new_task k.lists (unwrap_or (number_of k.lists 0) 0) (m ∷ []) program_stack (priority_of pri k.lists) SHELL)) refl
+created-holds : (pri : Priority) (m : ℕ) (k : Standing) → HoldsLists k.words k.lists → HoldsLists (left_by k.words (creation pri m k)).words (creation pri m k).lists
+created-holds pri m k h =
+    let p : ℕ = priority_of pri k.lists in
+    call-holds k.words k.lists (creation_tests k.words k.lists 0 (m ∷ []) program_stack p)
+    (with_created k.words k.lists (new_task k.lists (unwrap_or (number_of k.lists 0) 0) (m ∷ []) program_stack p SHELL)) h
+    (create_task-valid k.words k.lists h m program_stack p SHELL (may-create_program k.lists m)) refl
 
 pub started-holds : (d : Disc) (name : List ℕ) (rest : Result (Unit {0}) ℕ) (pri : Priority) (k : Standing) → HoldsLists k.words k.lists
     → HoldsLists (start_program d name rest pri k).left.words (start_program d name rest pri k).left.lists
@@ -111,20 +110,16 @@ started-holds d name rest pri k h = on (load_program d name rest k.lists).answer
     j : Standing
     j = left_by k.words (load_program d name rest k.lists)
 
-    loaded : HoldsLists j.words j.lists
-    loaded = found-holds k (option_map (λ f. f.bytes) (file_named d name)) rest h
-
-    created : (m : ℕ) → HoldsLists (left_by j.words (creation pri m j)).words (creation pri m j).lists
-    created m =
-        made-holds j.words j.lists (creation pri m j) loaded (create_task-valid j.words j.lists loaded m program_stack (priority_of pri j.lists) SHELL (may-create_program j.lists m)) (creation-size pri m j)
+    found : HoldsLists j.words j.lists
+    found = found-holds k (option_map (λ f. f.bytes) (file_named d name)) rest h
 
     after : (r : Result ℕ ℕ) (m : ℕ) → HoldsLists (after_creation r m (left_by j.words (creation pri m j))).left.words (after_creation r m (left_by j.words (creation pri m j))).left.lists
-    after (Ok id) m = created m
-    after (Err code) m = unloaded-holds m (left_by j.words (creation pri m j)) (created m)
+    after (Ok id) m = created-holds pri m j found
+    after (Err code) m = unloaded-holds m (left_by j.words (creation pri m j)) (created-holds pri m j found)
 
     on : (r : Result ℕ ℕ) → HoldsLists (after_loading r pri j).left.words (after_loading r pri j).left.lists
     on (Ok m) = after (creation pri m j).answer m
-    on (Err code) = loaded
+    on (Err code) = found
 
 -- ---- it begins
 

@@ -28,7 +28,7 @@ use Rattle.valid_turns.proofs.LeftStores.{left-holds}
 -- ---- the lists with another queue
 
 -- the same tasks are there
-pub there-then : (id : ℕ) (at : Place) (ps : List QueuedPacket) (l : Lists) → has_task id (with_queue at ps l).tasks ≡ has_task id l.tasks
+there-then : (id : ℕ) (at : Place) (ps : List QueuedPacket) (l : Lists) → has_task id (with_queue at ps l).tasks ≡ has_task id l.tasks
 there-then id (Work i) ps l = has_task-work id i ps l.tasks
 there-then id Clock ps l = refl
 there-then id Keyboard ps l = refl
@@ -68,7 +68,7 @@ module _ (s : List ℕ) (l : Lists) (h : HoldsLists s l) (at : Place) (p : Queue
   pub sender-kept : request.sender ≡ p.sender
   sender-kept = others-kept s l at p [] ps h is (p.address + 1) (omega arith) (omega arith) ∙ (held-before s l at p [] ps h is).holds.1.1.0
 
-  -- and is there, if it was
+  -- and is there as before
   pub sender-there : has_task p.sender l.tasks ≡ true → has_task request.sender m.tasks ≡ true
   sender-there from = ap (λ n. has_task n m.tasks) sender-kept ∙ there-then p.sender at ps l ∙ from
 
