@@ -32,7 +32,7 @@ module _ (s : List ℕ) (l : Lists) (h : HoldsLists s l) (c : HasCaller l) where
   call-valid r (Quit result) = h.valid
   call-valid r (Getvec u) = getvec-valid l u h.valid
   call-valid r (Freevec a) = freevec-valid l a h.valid
-  call-valid r (CreateTask m u pri) = create_task-valid s l h m u pri l.running (caller-creates s l (get_or s 102 0) m h (caller-at s l h c))
+  call-valid r (CreateTask m u pri) = create_task-valid s l h 0 (m ∷ []) u pri l.running (caller-creates s l (get_or s 102 0) m h (caller-at s l h c))
   call-valid r (DeleteTask id) = delete_task-valid s l h id c.field
   call-valid r (ChangePri id pri) = change_pri-valid s l h id pri
   call-valid r (SetFlags id flags) = set_flags-valid l h.valid id flags

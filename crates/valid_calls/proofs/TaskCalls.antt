@@ -1,5 +1,5 @@
 -- Flags, holding and releasing, a priority; a task is created, or deleted.
-use Rattle.std.proofs.Common.{◌≡◌, ℕ, ◌+◌, ◌-◌, ◌^◌, not, Bool, true, false, bit_and, bit_or, Option, Some, None, Result, Ok, List, [], ◌∷◌, ◌++◌, refl, sym, ap, ◌∙◌}
+use Rattle.std.proofs.Common.{◌≡◌, ℕ, ◌+◌, ◌-◌, ◌^◌, ◌||◌, not, Bool, true, false, bit_and, bit_or, Option, Some, None, Result, Ok, List, [], ◌∷◌, ◌++◌, refl, sym, ap, ◌∙◌}
 use Rattle.std.specs.Prelude.{is_some, unwrap_or}
 use Rattle.std.specs.List.{list_any}
 use Rattle.std.specs.Option.{ok_or}
@@ -99,43 +99,47 @@ module _ (s : List ℕ) (l : Lists) (h : HoldsLists s l) where
 
   -- ---- creation
 
-  pub create_task-valid : (m u pri maker : ℕ) → MayCreate l 0 (m ∷ []) maker → AreValid (create_task s l 0 (m ∷ []) u pri maker).lists
-  create_task-valid m u pri maker may_create =
-      unless-valid (creation_tests s l 0 (m ∷ []) u pri) l (with_created s l (new_task l (unwrap_or (number_of l 0) 0) (m ∷ []) u pri maker)) h.valid made
+  pub create_task-valid : (id : ℕ) (ms : List ℕ) (u pri maker : ℕ) → MayCreate l id ms maker → AreValid (create_task s l id ms u pri maker).lists
+  create_task-valid id ms u pri maker may_create =
+      unless-valid (creation_tests s l id ms u pri) l (with_created s l (new_task l (unwrap_or (number_of l id) 0) ms u pri maker)) h.valid made
     where
       last : ℕ
       last = last_word_of l.version u
 
       of_modules : List (Bool × ℕ)
-      of_modules = (not (list_any (λ n. not (has_module l n)) (m ∷ [])), 17) ∷ []
+      of_modules = (not (list_any (λ n. not (has_module l n)) ms), 17) ∷ []
 
       of_number : List (Bool × ℕ)
-      of_number = (is_some (number_of l 0), 10) ∷ []
+      of_number = (is_some (number_of l id), 10) ∷ []
 
       of_globals : List (Bool × ℕ)
-      of_globals = (not (list_any (has_high_globals s) (m ∷ [])), 18) ∷ []
+      of_globals = (not (list_any (has_high_globals s) ms), 18) ∷ []
 
       of_room : List (Bool × ℕ)
       of_room = getvec_tests l last
 
-      made : first_refusal (creation_tests s l 0 (m ∷ []) u pri) ≡ None → AreValid (with_created s l (new_task l (unwrap_or (number_of l 0) 0) (m ∷ []) u pri maker)).lists
+      made : first_refusal (creation_tests s l id ms u pri) ≡ None → AreValid (with_created s l (new_task l (unwrap_or (number_of l id) 0) ms u pri maker)).lists
       made e =
           let modules = all-passed of_modules (priority_tests l 0 pri ++ (of_number ++ (of_globals ++ of_room))) e in
           let priority = all-passed (priority_tests l 0 pri) (of_number ++ (of_globals ++ of_room)) modules.1 in
           let number = all-passed of_number (of_globals ++ of_room) priority.1 in
           let globals = all-passed of_globals of_room number.1 in
-          by (number_of l 0) refl (first_run (need last) l.blocks) refl (module_is modules.0) priority.0 (passed of_number number.0).0 (passed of_room globals.1).0
+          by (number_of l id) refl (first_run (need last) l.blocks) refl (module_is modules.0) priority.0 (passed of_number number.0).0 (passed of_room globals.1).0
         where
-          -- the store's list of modules has it
-          module_is : first_refusal of_modules ≡ None → first_refusal ((not (list_any (λ n. not (has n (modules_in s))) (m ∷ [])), 17) ∷ []) ≡ None
-          module_is one = ap (λ b. first_refusal ((not (list_any not (b ∷ [])), 17) ∷ [])) (module-told s l m h) ∙ one
+          -- the store's list of modules has them
+          told : (ns : List ℕ) → list_any (λ n. not (has n (modules_in s))) ns ≡ list_any (λ n. not (has_module l n)) ns
+          told [] = refl
+          told (n ∷ ns) = λ i. not (module-told s l n h i) || told ns i
 
-          by : (o : Option ℕ) → number_of l 0 ≡ o → (r : Option Run) → first_run (need last) l.blocks ≡ r → first_refusal ((not (list_any (λ n. not (has n (modules_in s))) (m ∷ [])), 17) ∷ []) ≡ None
-              → first_refusal (priority_tests l 0 pri) ≡ None → is_some o ≡ true → is_some r ≡ true → AreValid (with_new_task (new_task l (unwrap_or o 0) (m ∷ []) u pri maker) (with_taken last l))
+          module_is : first_refusal of_modules ≡ None → first_refusal ((not (list_any (λ n. not (has n (modules_in s))) ms), 17) ∷ []) ≡ None
+          module_is one = ap (λ b. first_refusal ((not b, 17) ∷ [])) (told ms) ∙ one
+
+          by : (o : Option ℕ) → number_of l id ≡ o → (r : Option Run) → first_run (need last) l.blocks ≡ r → first_refusal ((not (list_any (λ n. not (has n (modules_in s))) ms), 17) ∷ []) ≡ None
+              → first_refusal (priority_tests l 0 pri) ≡ None → is_some o ≡ true → is_some r ≡ true → AreValid (with_new_task (new_task l (unwrap_or o 0) ms u pri maker) (with_taken last l))
           by None number r run one two some room = cc
           by (Some n) number None run one two some room = cc
           by (Some n) number (Some run) first one two some room =
-              let three : ◌≡◌ {A = Result ℕ ℕ} (Ok n) (ok_or (number_of l 0) 10) = ap (λ o. ok_or o 10) (sym number) in
-              let may : MayPlace l n (m ∷ []) pri maker = may-place s l 0 (m ∷ []) u pri maker h one two n three may_create in
+              let three : ◌≡◌ {A = Result ℕ ℕ} (Ok n) (ok_or (number_of l id) 10) = ap (λ o. ok_or o 10) (sym number) in
+              let may : MayPlace l n ms pri maker = may-place s l id ms u pri maker h one two n three may_create in
               let taken : IsTaken s (taken_store s run (need last)) last (run.start + 1) = record { run = run; first = ap (first_run (need last)) (reads s l h).blocks ∙ first; front = refl; words = refl } in
-              (comes l n (m ∷ []) u pri maker s (taken_store s run (need last)) (run.start + 1) h may (taken-changed s (taken_store s run (need last)) l last (run.start + 1) h taken)).valid
+              (comes l n ms u pri maker s (taken_store s run (need last)) (run.start + 1) h may (taken-changed s (taken_store s run (need last)) l last (run.start + 1) h taken)).valid

@@ -80,7 +80,7 @@ load-valid s l hunks h =
         (new_module-valid (with_taken u l) [] l.modules it t.changed.lists.valid refl block unowned)
 
 -- a file is found, and its module loaded, or this is refused
-found-holds : (k : Standing) (o : Option (List ℕ)) (rest : Result (Unit {0}) ℕ) → HoldsLists k.words k.lists → HoldsLists (left_by k.words (load_found o rest k.lists)).words (load_found o rest k.lists).lists
+pub found-holds : (k : Standing) (o : Option (List ℕ)) (rest : Result (Unit {0}) ℕ) → HoldsLists k.words k.lists → HoldsLists (left_by k.words (load_found o rest k.lists)).words (load_found o rest k.lists).lists
 found-holds k None rest h = left-holds k.words k.lists [] h.valid h.size
 found-holds k (Some bytes) (Err code) h = left-holds k.words k.lists [] h.valid h.size
 found-holds k (Some bytes) (Ok u) h = on (module_of bytes)
@@ -100,7 +100,7 @@ created-holds pri m k h =
     let p : ℕ = priority_of pri k.lists in
     call-holds k.words k.lists (creation_tests k.words k.lists 0 (m ∷ []) program_stack p)
     (with_created k.words k.lists (new_task k.lists (unwrap_or (number_of k.lists 0) 0) (m ∷ []) program_stack p SHELL)) h
-    (create_task-valid k.words k.lists h m program_stack p SHELL (may-create_program k.lists m)) refl
+    (create_task-valid k.words k.lists h 0 (m ∷ []) program_stack p SHELL (may-create_program k.lists m)) refl
 
 pub started-holds : (d : Disc) (name : List ℕ) (rest : Result (Unit {0}) ℕ) (pri : Priority) (k : Standing) → HoldsLists k.words k.lists
     → HoldsLists (start_program d name rest pri k).left.words (start_program d name rest pri k).left.lists
