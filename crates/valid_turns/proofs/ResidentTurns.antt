@@ -2,12 +2,11 @@
 use Rattle.std.proofs.Common.{◌≡◌, Bool, true, false, None, inl, inr, refl, sym, ◌∙◌, subst, arith}
 use Rattle.std.proofs.lemmas.Bool.{cases_eq, false≢true}
 use Rattle.kernel_model.specs.HoldsLists.{HoldsLists}
-use Rattle.kernel_model.specs.Image.{IsImage, image}
+use Rattle.kernel_model.specs.Image.{image, word_of}
 use Rattle.kernel_model.specs.Kernel.{Kernel}
 use Rattle.kernel_model.specs.Task.{is_guest_id}
 use Rattle.kernel_model.specs.ValidKernel.{IsValid}
 use Rattle.kernel_model.specs.ValidLists.{AreValid}
-use Rattle.kernel_model.proofs.ImageWords.{image-of}
 use Rattle.resident_requests.specs.Requests.{RunsResident, TakesRequest}
 use Rattle.resident_requests.proofs.ResidentTurns.{takes-request}
 use Rattle.file_handler.specs.FileTurn.{file_service}
@@ -18,6 +17,7 @@ use Rattle.kernel_steps.specs.ResidentSteps.{resident_step}
 use Rattle.kernel_steps.specs.Step.{turn, with_step}
 use Rattle.kernel_steps.specs.Stepped.{Stepped}
 use Rattle.kernel_steps.proofs.RunningCaller.{runs-calls, runs-resident, valid-runs}
+use Rattle.kernel_steps.proofs.StoredWords.{store-holds, valid-store}
 use Rattle.kernel_steps.proofs.TurnWays.{turn-guest, turn-nobody, turn-resident, turn-ways}
 use Rattle.valid_calls.proofs.GuestTurns.{guest_step-valid}
 use Rattle.valid_turns.proofs.ConsoleTurns.{console-valid}
@@ -55,11 +55,12 @@ turn-valid k h first = on (is_guest_id k.lists.running) refl
           | inr some ↦ subst (λ (m : Stepped). AreValid m.kernel.lists) (sym (turn-resident k resident)) (resident-valid k h (runs-resident k.lists k.regs first h.valid resident some))
         ]
 
--- in a step
+-- ---- in a step
+
+-- the store holds the lists
+pub step-holds : (k : Kernel) → IsValid k → HoldsLists (image (with_step k)) k.lists
+unfolding image word_of
+step-holds k v = store-holds (image k) k (valid-store k v)
+
 pub step-turn-valid : (k : Kernel) → IsValid k → k.stop ≡ None → AreValid (turn (with_step k)).kernel.lists
-step-turn-valid k v goes =
-    let i : IsImage (image j) j = image-of j v.lists.owns.apart v.lists.owns.inside (record { size = v.plain.size; plain = v.plain.plain; owned = v.plain.owned }) in
-    turn-valid j (record { valid = v.lists; size = i.size; holds = i.holds }) (valid-runs k v goes)
-  where
-    j : Kernel
-    j = with_step k
+step-turn-valid k v goes = turn-valid (with_step k) (step-holds k v) (valid-runs k v goes)
