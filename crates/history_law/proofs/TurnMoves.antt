@@ -18,9 +18,9 @@ use Rattle.kernel_steps.specs.GuestSteps.{guest_step, with_recorded}
 use Rattle.kernel_steps.specs.Parts.{RunsFirst}
 use Rattle.kernel_steps.specs.Step.{Stepped, turn, with_step}
 use Rattle.kernel_steps.proofs.RunningCaller.{runs-calls, runs-resident, valid-runs}
-use Rattle.kernel_steps.proofs.StoredWords.{store-holds, valid-store}
 use Rattle.kernel_steps.proofs.TurnWays.{IsRecorded, guest-ways, turn-guest, turn-nobody, turn-resident}
 use Rattle.ledger_moves.specs.Queues.{IsDueIn}
+use Rattle.valid_turns.proofs.ResidentTurns.{step-holds}
 use Rattle.guest_moves.proofs.GuestMoves.{guest-moves}
 use Rattle.step_moves.specs.Steps.{due_in}
 use Rattle.resident_moves.proofs.ReporterMoves.{recorded-moves}
@@ -68,13 +68,8 @@ module _ (due : KernelEvent → ℕ) (k : Kernel) (h : HoldsLists (image k) k.li
 
 -- ---- in a step
 
-image-step : (k : Kernel) → image (with_step k) ≡ image k
-unfolding image word_of
-image-step k = refl
-
 -- a packet that it accepts is due so many ticks after those before the step as its word 5 says
 pub turn-moves : (k : Kernel) → IsValid k → k.stop ≡ None
     → MovesInTurn (due_in k) (signed k.lists.running) k.lists (turn (with_step k)).events (turn (with_step k)).kernel.lists
-turn-moves k valid goes =
-    turn-leads (due_in k) (with_step k) (subst (λ s. HoldsLists s k.lists) (sym (image-step k)) (store-holds (image k) k (valid-store k valid))) (valid-runs k valid goes)
-    (λ p. subst (λ s. IsDueIn (due_in k) s k.lists p) (sym (image-step k)) (λ q from. refl))
+unfolding image word_of
+turn-moves k valid goes = turn-leads (due_in k) (with_step k) (step-holds k valid) (valid-runs k valid goes) (λ p q from. refl)
