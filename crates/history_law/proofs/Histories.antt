@@ -69,10 +69,13 @@ each-step P one (suc n) k valid few =
     let next : IsValid (step k).kernel = next-valid k valid (omega (arith, few)) in
     (one k valid next, each-step P one n (step k).kernel next (omega (arith, few, step-steps k)))
 
+pub each-moves : (n : ℕ) (k : Kernel) → IsValid k → k.steps + n ≤ most_steps → EachStep StepMoves n k
+each-moves n k valid few = each-step StepMoves (λ j v next. step-moves j v) n k valid few
+
 pub whole-law : (n : ℕ) (k : Kernel) → IsValid k → k.steps + n ≤ most_steps → HistoryLaw n k
 whole-law n k valid few =
     record {
       events = history-events n k;
-      queues = run-history n k valid.lists (each-step StepMoves (λ j v next. step-moves j v) n k valid few);
+      queues = run-history n k valid.lists (each-moves n k valid few);
       steps = each-step (λ j. j.stop ≡ None → StepLaw j) step-law n k valid few;
     }

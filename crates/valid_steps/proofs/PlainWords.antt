@@ -12,7 +12,7 @@ use Rattle.kernel_steps.proofs.StoredWords.{plain-stored}
 use Rattle.kernel_steps.proofs.TurnWays.{turn-ways}
 
 -- a kernel with the lists and the plain words of another
-plain-like : (i j : Kernel) → HasPlainWords i → j.lists ≡ i.lists → j.plain ≡ i.plain → HasPlainWords j
+pub plain-like : (i j : Kernel) → HasPlainWords i → j.lists ≡ i.lists → j.plain ≡ i.plain → HasPlainWords j
 plain-like i j h lists plain =
     record {
       size = ap length plain ∙ h.size ∙ sym (ap (λ (l : Lists). l.size) lists);
@@ -42,7 +42,7 @@ turn-left k h =
       nobody = λ e v. h;
     })
 
-dispatch-left : (k : Kernel) → IsLeft (dispatch k).kernel
+pub dispatch-left : (k : Kernel) → IsLeft (dispatch k).kernel
 unfolding dispatch settled
 dispatch-left k = stored-left _ _ k _ refl refl
 

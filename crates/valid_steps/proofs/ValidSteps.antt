@@ -21,7 +21,7 @@ use Rattle.valid_steps.proofs.DispatchedLists.{dispatched-valid}
 use Rattle.valid_steps.proofs.PlainWords.{step-plain}
 
 -- a dispatch, as a part of a step
-part-valid : (k : Kernel) → AreValid k.lists → CanDispatch k.lists k.regs → AreValid (dispatch k).kernel.lists
+pub part-valid : (k : Kernel) → AreValid k.lists → CanDispatch k.lists k.regs → AreValid (dispatch k).kernel.lists
 unfolding dispatch settled
 part-valid k v can = dispatched-valid (image k) k.lists k.regs v can
 
