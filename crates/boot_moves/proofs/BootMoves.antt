@@ -5,13 +5,10 @@ use Rattle.std.specs.List.{AllByRecursion}
 use Rattle.std.specs.Option.{option_map}
 use Rattle.word_store.specs.declared.registers.Regs.{Regs}
 use Rattle.text_reader.specs.Steps.{◌>>=◌}
-use Rattle.hunk_text.specs.ModuleOfText.{Refusal, module_of}
-use Rattle.hunk_text.specs.declared.modules.Module.{Module}
 use Rattle.ram_disc.specs.Disc.{Disc, file_named}
 use Rattle.packet_queue.specs.QueueWords.{QueuedPacket}
 use Rattle.packet_queue.specs.declared.events.KernelEvent.{KernelEvent}
 use Rattle.packet_queue.specs.declared.events.KernelEvent.TheVariants.{Accepted, Runs}
-use Rattle.hunk_loader.specs.ModuleExchanges.{hunk_words}
 use Rattle.kernel_model.specs.Changes.{change_of, with_work, work_of}
 use Rattle.kernel_model.specs.Image.{image, settled}
 use Rattle.kernel_model.specs.Kernel.{Kernel}
@@ -25,15 +22,15 @@ use Rattle.kernel_dispatch.specs.Dispatch.{dispatched, packets_left, resumed, su
 use Rattle.call_answers.specs.Made.{Made, by_refusal}
 use Rattle.call_answers.specs.Refusals.{first_refusal}
 use Rattle.task_calls.specs.CreateTask.{create_task, creation_tests, new_task, number_of as given_number, with_created}
-use Rattle.module_calls.specs.LoadModule.{load_tests, loaded_at, with_loaded}
+use Rattle.packet_calls.specs.Dqpkt.{pending_number}
 use Rattle.packet_calls.specs.PacketMoves.{with_arrived}
 use Rattle.session_text.specs.declared.sessions.LineForm.{LineForm}
 use Rattle.session_text.specs.declared.sessions.LineForm.TheVariants.{Code, File, Task as TaskForm}
 use Rattle.session_text.specs.declared.sessions.Session.{Session}
 use Rattle.session_text.specs.declared.sessions.SessionLine.{SessionLine}
-use Rattle.kernel_boot.specs.BegunTask.{begun, with_begun}
+use Rattle.kernel_boot.specs.BegunTask.{with_begun}
 use Rattle.kernel_boot.specs.BootFiles.{at_line, load_files}
-use Rattle.kernel_boot.specs.BootTasks.{AreBootLines, IsBootForm, begin_it, create_it, load_bytes, load_named, load_names, load_text, on_answer, start_form, start_tasks}
+use Rattle.kernel_boot.specs.BootTasks.{AreBootLines, IsBootForm, begin_it, create_it, load_bytes, load_named, load_names, on_answer, start_form, start_tasks}
 use Rattle.kernel_boot.specs.EmptyKernel.{empty_lists}
 use Rattle.kernel_boot.specs.ResidentKernel.{packet_from, resident_lists, resident_tasks}
 use Rattle.kernel_boot.specs.declared.refusals.BootRefusal.{BootRefusal}
@@ -49,11 +46,11 @@ use Rattle.machine_boot.proofs.BegunKernels.{HasBegun, first-begun, lines-begun}
 use Rattle.machine_boot.proofs.BootedKernels.{booted-events}
 use Rattle.event_history.specs.Ledger.{Follows, IsNowhere, Ledger, same_queue, stands_in, with_queue as put}
 use Rattle.event_history.proofs.Following.{follows-join}
-use Rattle.ledger_moves.specs.Queues.{clock_entry, entry_of, ledger_of, reads, timed_by}
+use Rattle.ledger_moves.specs.Queues.{clock_entry, entry_of, ledger_of, timed_by}
 use Rattle.ledger_moves.proofs.Ledgers.{ledger-put, ledger-same, ledger-task}
 use Rattle.ledger_moves.proofs.Moves.{move-accepted, moves-then, timed-join}
 use Rattle.guest_moves.proofs.ChainMoves.{work-new}
-use Rattle.guest_moves.proofs.GuestMoves.{beside-quiet}
+use Rattle.resident_moves.proofs.ShellCalls.{begun-same, load-same}
 use Rattle.boot_moves.specs.Booted.{no_packets}
 
 -- the same queues
@@ -78,7 +75,7 @@ empty-ledger l e = λ i q. each q i
     both false = refl
 
     each : (q : ℤ) → [] ≡ ledger_of l q
-    each (pos n) = sym ((λ i. map entry_of (cond (eqb n reads) (e.pending i) (e.tasks n i))) ∙ both (eqb n reads))
+    each (pos n) = sym ((λ i. map entry_of (cond (eqb n pending_number) (e.pending i) (e.tasks n i))) ∙ both (eqb n pending_number))
     each (negsuc zero) = sym (ap (map clock_entry) e.clock)
     each (negsuc (suc zero)) = sym (ap (map entry_of) e.keyboard)
     each (negsuc (suc (suc zero))) = sym (ap (map entry_of) e.output)
@@ -165,13 +162,9 @@ refused-same : (o : Option ℕ) (l : Lists) (m : Made) → Same l m.lists → Sa
 refused-same None l m same = same
 refused-same (Some code) l m same = refl
 
-text-same : (l : Lists) (r : Result Module Refusal) → Same l (load_text l r).lists
-text-same l (Ok m) = refused-same (first_refusal (load_tests l m.hunks)) l (record { answer = Ok (loaded_at m.hunks l); lists = with_loaded m.hunks l; plain = hunk_words (loaded_at m.hunks l) m.hunks; events = [] }) (beside-quiet l (with_loaded m.hunks l) refl refl refl refl refl)
-text-same l (Err refusal) = refl
-
 bytes-same : (l : Lists) (o : Option (List ℕ)) → Same l (load_bytes l o).lists
 bytes-same l None = refl
-bytes-same l (Some bytes) = text-same l (module_of bytes)
+bytes-same l (Some bytes) = load-same l (Some bytes) (Ok tt)
 
 names-same : (d : Disc) (names : List (List ℕ)) (modules : List ℕ) (k : Standing) (x : List ℕ × Standing) → load_names d names modules k ≡ Ok x → Same k.lists x.1.lists
 names-same d [] modules k x is = (let same : (modules, k) ≡ x = cc in subst (λ (y : List ℕ × Standing). Same k.lists y.1.lists) same refl)
@@ -197,7 +190,7 @@ created-same s l id modules u pri maker low away =
 begin-same : (r : Result ℕ ℕ) (k j : Standing) → on_answer r k begin_it ≡ Ok j → Same k.lists j.lists
 begin-same (Ok n) k j is =
     let same : left_with k.words (with_begun k.words n k.lists) [] ≡ j = cc in
-    subst (λ (y : Standing). Same k.lists y.lists) same (ledger-task k.lists n (begun k.lists.version k.words) (λ t. (refl, refl)))
+    subst (λ (y : Standing). Same k.lists y.lists) same (begun-same n k)
 begin-same (Err code) k j is = cc
 
 create-same : (id pri stack : ℕ) → 5 ≤ id → (l : Lists) (r : Result (List ℕ × Standing) ℕ) (j : Standing) → create_it id pri stack r ≡ Ok j

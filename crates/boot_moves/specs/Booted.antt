@@ -16,8 +16,11 @@ no_packets = λ q. []
 abbrev pub boot_history : Stepped → List Timed
 boot_history x = timed_by (λ e. 0) x.events
 
--- What the events of a boot, and then of n steps, say: of the queues, from no packets on; which those of the boot are; and of the steps.
+-- what holds of a boot, and of n steps from the kernel that it leaves
 pub record BootHistory (n : ℕ) (x : Stepped) : Type 0 where
+  -- all events lead from no packets to the queues after the steps
   pub queues : QueueHistory no_packets (boot_history x ++ history n x.kernel) (ledger_of (run n x.kernel).kernel.lists)
+  -- those of the boot are these
   pub booted : x.events ≡ boot_events x.kernel
+  -- and those of the steps are so
   pub steps : HistoryLaw n x.kernel

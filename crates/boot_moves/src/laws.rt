@@ -13,7 +13,8 @@ ghost use Rattle.boot_moves.specs.Booted.{BootHistory, no_packets};
 /// The kernel that a session boots is valid, and has not stopped.
 pub fn valid_law()
     ensures valid { (s : Session) (x : Stepped) → HasKernel s → boot s ≡ Ok x → IsValid x.kernel }
-    ensures goes { (s : Session) (x : Stepped) → HasKernel s → boot s ≡ Ok x → x.kernel.stop ≡ None }
+    ensures goes { (s : Session) (x : Stepped) → HasKernel s → boot s ≡ Ok x
+        → x.kernel.stop ≡ None }
 {}
 
 /// From no packets the events of a boot lead to the queues of the kernel that it leaves.

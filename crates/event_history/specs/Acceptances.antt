@@ -21,20 +21,24 @@ accepts p (Taken q r s) = false
 accepts p (Dequeued q r) = false
 accepts p (Runs t) = false
 
--- of these events those before the packet's end, and those from its end on: none where it has no end
+-- of these events those before the packet's end: all, where it has none
 abbrev pub before_end : ℕ → List KernelEvent → List KernelEvent
 before_end p [] = []
 before_end p (e ∷ es) = if is_end p e then [] else e ∷ before_end p es
 
+-- and those from its end on
 abbrev pub from_end : ℕ → List KernelEvent → List KernelEvent
 from_end p [] = []
 from_end p (e ∷ es) = if is_end p e then e ∷ es else from_end p es
 
--- A packet comes to a queue, and then there are these later events. Or it stands there at the start.
+-- A packet comes to a queue, or stands there at the start.
 pub record Acceptance : Type 0 where
+  -- the packet, its sender, and at the clock when it is due
   pub entry : Entry
+  -- the events after it
   pub later : List KernelEvent
 
+-- it stands there at the start of these events
 abbrev pub at_start : List KernelEvent → Entry → Acceptance
 at_start later e = record { entry = e; later = later }
 
@@ -57,18 +61,21 @@ IsEnd q e (Taken r p s) = (r ≡ q) × (s ≡ e.sender)
 IsEnd q e (Dequeued r p) = r ≡ q
 IsEnd q e (Runs t) = ⊥
 
+-- there is none, or such a one
 abbrev pub HasEnd : ℤ → Entry → Option KernelEvent → Type 0
 HasEnd q e None = Unit {0}
 HasEnd q e (Some end) = IsEnd q e end
 
 -- ---- the acceptances of a queue
 
+-- an event that accepts a packet on the queue
 abbrev pub accepted_by : ℤ → KernelEvent → ℕ → List KernelEvent → List Acceptance
 accepted_by q (Accepted r p s) due later = if same_queue r q then record { entry = entry_on r p s due; later = later } ∷ [] else []
 accepted_by q (Taken r p s) due later = []
 accepted_by q (Dequeued r p) due later = []
 accepted_by q (Runs t) due later = []
 
+-- those of all events, in order
 abbrev pub accepted_in : ℤ → List Timed → List Acceptance
 accepted_in q [] = []
 accepted_in q (x ∷ xs) = accepted_by q x.event x.due (events_of xs) ++ accepted_in q xs
@@ -77,11 +84,13 @@ accepted_in q (x ∷ xs) = accepted_by q x.event x.due (events_of xs) ++ accepte
 abbrev pub accepted_on : ℤ → Ledger → List Timed → List Acceptance
 accepted_on q b xs = map (at_start (events_of xs)) (b q) ++ accepted_in q xs
 
--- ---- pairs of a packet and its sender
+-- ---- pairs
 
+-- a packet and its sender
 abbrev pub pair_of : Entry → ℕ × ℤ
 pair_of e = (e.packet, e.sender)
 
+-- the one that the event takes from the queue
 abbrev pub taken_by : ℤ → KernelEvent → List (ℕ × ℤ)
 taken_by q (Accepted r p s) = []
 taken_by q (Taken r p s) = if same_queue r q then (p, s) ∷ [] else []
@@ -107,12 +116,14 @@ abbrev pub is_open : Option KernelEvent → Bool
 is_open None = true
 is_open (Some e) = false
 
+-- its packet was dequeued
 abbrev pub is_dequeue : KernelEvent → Bool
 is_dequeue (Accepted q p s) = false
 is_dequeue (Taken q p s) = false
 is_dequeue (Dequeued q p) = true
 is_dequeue (Runs t) = false
 
+-- it has an end by which its packet was dequeued
 abbrev pub is_dequeued : Option KernelEvent → Bool
 is_dequeued None = false
 is_dequeued (Some e) = is_dequeue e

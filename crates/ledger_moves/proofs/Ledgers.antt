@@ -8,8 +8,9 @@ use Rattle.kernel_model.specs.Lists.{Lists, has_task}
 use Rattle.kernel_model.specs.Task.{Task}
 use Rattle.kernel_model.specs.ValidQueues.{Place}
 use Rattle.kernel_model.specs.ValidQueues.Place.{Clock, Keyboard, Output, Pending, Work}
+use Rattle.packet_calls.specs.Dqpkt.{pending_number}
 use Rattle.event_history.specs.Ledger.{Entry, with_queue as put}
-use Rattle.ledger_moves.specs.Queues.{clock_entry, entry_of, ledger_of, reads}
+use Rattle.ledger_moves.specs.Queues.{clock_entry, entry_of, ledger_of}
 
 -- the number of a place, and its packets as entries
 abbrev pub number_of : Place → ℤ
@@ -17,7 +18,7 @@ number_of (Work id) = pos id
 number_of Clock = negsuc 0
 number_of Keyboard = negsuc 1
 number_of Output = negsuc 2
-number_of Pending = pos reads
+number_of Pending = pos pending_number
 
 abbrev pub entries_at : Place → List QueuedPacket → List Entry
 entries_at (Work id) ps = map entry_of ps
@@ -28,7 +29,7 @@ entries_at Pending ps = map entry_of ps
 
 -- 103 is no task's number
 abbrev pub IsNamed : Place → Type 0
-IsNamed (Work id) = id ≢ reads
+IsNamed (Work id) = id ≢ pending_number
 IsNamed Clock = Unit {0}
 IsNamed Keyboard = Unit {0}
 IsNamed Output = Unit {0}
@@ -76,7 +77,7 @@ pub ledger-same : (l m : Lists) → ((n : ℕ) → work_of n m.tasks ≡ work_of
 ledger-same l m work c k o p = λ i q. each q i
   where
     each : (q : ℤ) → ledger_of m q ≡ ledger_of l q
-    each (pos n) = λ i. map entry_of (cond (eqb n reads) (p i) (work n i))
+    each (pos n) = λ i. map entry_of (cond (eqb n pending_number) (p i) (work n i))
     each (negsuc zero) = ap (map clock_entry) c
     each (negsuc (suc zero)) = ap (map entry_of) k
     each (negsuc (suc (suc zero))) = ap (map entry_of) o
@@ -87,7 +88,7 @@ ledger-task l id f same = ledger-same l (with_task id f l) (λ n. work-kept n id
 
 -- the queue at a place
 pub ledger-at : (l : Lists) (at : Place) → IsNamed at → ledger_of l (number_of at) ≡ entries_at at (queue_of at l)
-ledger-at l (Work id) named = ap (λ b. map entry_of (cond b l.pending (work_of id l.tasks))) (ne_eqb id reads named)
+ledger-at l (Work id) named = ap (λ b. map entry_of (cond b l.pending (work_of id l.tasks))) (ne_eqb id pending_number named)
 ledger-at l Clock named = refl
 ledger-at l Keyboard named = refl
 ledger-at l Output named = refl
@@ -97,9 +98,9 @@ ledger-at l Pending named = refl
 pub ledger-put : (l : Lists) (at : Place) (ps : List QueuedPacket) → HasPlace l at → IsNamed at → ledger_of (with_queue at ps l) ≡ put (number_of at) (entries_at at ps) (ledger_of l)
 ledger-put l at ps has named = λ i q. each at has named q i
   where
-    task : (id : ℕ) → has_task id l.tasks ≡ true → id ≢ reads → (n : ℕ) → (b : Bool) → eqb n id ≡ b → (c : Bool) → eqb n reads ≡ c
+    task : (id : ℕ) → has_task id l.tasks ≡ true → id ≢ pending_number → (n : ℕ) → (b : Bool) → eqb n id ≡ b → (c : Bool) → eqb n pending_number ≡ c
         → map entry_of (cond c l.pending (work_of n (map (with_work id ps) l.tasks))) ≡ cond b (map entry_of ps) (map entry_of (cond c l.pending (work_of n l.tasks)))
-    task id has named n true is true there = absurd (named (sym (eqb-true n id is) ∙ eqb-true n reads there))
+    task id has named n true is true there = absurd (named (sym (eqb-true n id is) ∙ eqb-true n pending_number there))
     task id has named n true is false there = ap (map entry_of) (ap (λ z. work_of z (map (with_work id ps) l.tasks)) (eqb-true n id is) ∙ work-here id ps l.tasks has)
     task id has named n false is true there = refl
     task id has named n false is false there = ap (map entry_of) (work-other id n ps l.tasks (λ e. absurd (clash (sym is ∙ eq-eqb n id e))))
@@ -107,12 +108,12 @@ ledger-put l at ps has named = λ i q. each at has named q i
         clash : false ≡ true → ⊥
         clash e = cc
 
-    reading : (n : ℕ) (b : Bool) → eqb n reads ≡ b → map entry_of (cond b ps (work_of n l.tasks)) ≡ cond b (map entry_of ps) (map entry_of (cond b l.pending (work_of n l.tasks)))
+    reading : (n : ℕ) (b : Bool) → eqb n pending_number ≡ b → map entry_of (cond b ps (work_of n l.tasks)) ≡ cond b (map entry_of ps) (map entry_of (cond b l.pending (work_of n l.tasks)))
     reading n true is = refl
     reading n false is = refl
 
     each : (at : Place) → HasPlace l at → IsNamed at → (q : ℤ) → ledger_of (with_queue at ps l) q ≡ put (number_of at) (entries_at at ps) (ledger_of l) q
-    each (Work id) has named (pos n) = task id has named n (eqb n id) refl (eqb n reads) refl
+    each (Work id) has named (pos n) = task id has named n (eqb n id) refl (eqb n pending_number) refl
     each (Work id) has named (negsuc zero) = refl
     each (Work id) has named (negsuc (suc zero)) = refl
     each (Work id) has named (negsuc (suc (suc zero))) = refl
@@ -132,7 +133,7 @@ ledger-put l at ps has named = λ i q. each at has named q i
     each Output has named (negsuc (suc zero)) = refl
     each Output has named (negsuc (suc (suc zero))) = refl
     each Output has named (negsuc (suc (suc (suc n)))) = sym (ap (λ b. cond b (map entry_of ps) []) (ne_eqb (suc (suc (suc n))) 2 (λ e. absurd (omega (arith, e)))))
-    each Pending has named (pos n) = reading n (eqb n reads) refl
+    each Pending has named (pos n) = reading n (eqb n pending_number) refl
     each Pending has named (negsuc zero) = refl
     each Pending has named (negsuc (suc zero)) = refl
     each Pending has named (negsuc (suc (suc zero))) = refl

@@ -10,10 +10,11 @@ use Rattle.kernel_model.specs.Changes.{HasPlace, queue_of, with_queue}
 use Rattle.kernel_model.specs.Lists.{Lists}
 use Rattle.kernel_model.specs.ValidQueues.{Place}
 use Rattle.kernel_model.specs.ValidQueues.Place.{Clock, Keyboard, Output, Pending, Work}
+use Rattle.packet_calls.specs.Dqpkt.{pending_number}
 use Rattle.packet_calls.specs.PacketMoves.{arrived, departed, with_arrived, with_departed}
 use Rattle.event_history.specs.Ledger.{AreOnce, Follows, IsFirst, IsNowhere, after_event, arrived as arrives, entry_on, with_queue as put}
 use Rattle.event_history.proofs.Following.{taken-nowhere, follows-join}
-use Rattle.ledger_moves.specs.Queues.{Moves, clock_entry, entry_of, ledger_of, reads, timed_by}
+use Rattle.ledger_moves.specs.Queues.{Moves, clock_entry, entry_of, ledger_of, timed_by}
 use Rattle.ledger_moves.proofs.Ledgers.{IsNamed, any-at, entries-end, entries-insert, entries-without, entries_at, ledger-at, ledger-put, number_of}
 
 pub timed-join : (due : KernelEvent → ℕ) (es fs : List KernelEvent) → timed_by due (es ++ fs) ≡ timed_by due es ++ timed_by due fs
@@ -24,7 +25,7 @@ timed-join due (e ∷ es) fs = ap (λ z. record { event = e; due = due e } ∷ z
 pub signed-low : (n : ℕ) → n ≤ 63 → signed n ≡ pos n
 signed-low n low = ap (λ b. cond b (pos n) (pos n -ℤ pos (2 ^ 32))) (lt-ltb n (2 ^ 31) (omega (arith, low)))
 
-pub low-named : (n : ℕ) → n ≤ 63 → n ≢ reads
+pub low-named : (n : ℕ) → n ≤ 63 → n ≢ pending_number
 low-named n low e = absurd (omega (arith, low, e))
 
 -- ---- entries of a place

@@ -14,12 +14,11 @@ use Rattle.kernel_model.specs.ValidQueues.Place.{Clock, Keyboard, Output, Pendin
 use Rattle.call_answers.specs.Made.{Made, by_refusal, unless_refused}
 use Rattle.call_answers.specs.Refusals.{first_refusal}
 use Rattle.packet_calls.specs.Destinations.{is_destination, place_of}
-use Rattle.packet_calls.specs.Dqpkt.{Search, dequeued, dqpkt, dqpkt_tests, found_in}
+use Rattle.packet_calls.specs.Dqpkt.{Search, dequeued, dqpkt, dqpkt_tests, found_in, pending_number}
 use Rattle.packet_calls.specs.Qpkt.{qpkt, qpkt_tests, sent_to}
 use Rattle.packet_calls.specs.TaskWait.{taskwait, waited}
 use Rattle.event_history.specs.Acceptances.{taken_by, taken_from}
 use Rattle.event_history.specs.Ledger.{clock, same_queue}
-use Rattle.ledger_moves.specs.Queues.{reads}
 use Rattle.ledger_moves.specs.SentBy.{AreOfTurn, AreSentBy, IsFrom}
 use Rattle.ledger_moves.proofs.CallMoves.{names, passed}
 use Rattle.ledger_moves.proofs.Ledgers.{IsNamed, number_of}
@@ -45,7 +44,7 @@ module _ (from : ℤ) where
   pub turn-none : AreOfTurn from []
   turn-none = record { sent = λ before. tt; takes = refl }
 
-  pub turn-accepted : (q : ℤ) (p : ℕ) → same_queue q (pos reads) ≡ false → AreOfTurn from (Accepted q p from ∷ [])
+  pub turn-accepted : (q : ℤ) (p : ℕ) → same_queue q (pos pending_number) ≡ false → AreOfTurn from (Accepted q p from ∷ [])
   turn-accepted q p other = record { sent = λ before. (subst (λ b. IsFrom b from before p from) (sym other) refl, tt); takes = refl }
 
   pub turn-taken : (q : ℤ) (p : ℕ) (s : ℤ) → same_queue q clock ≡ false → AreOfTurn from (Taken q p s ∷ [])
@@ -55,7 +54,7 @@ module _ (from : ℤ) where
   turn-dequeued q p = record { sent = λ before. (tt, tt); takes = refl }
 
   -- a read is put off
-  pub turn-put_off : (p : ℕ) (s : ℤ) → AreOfTurn from (Taken (pos 3) p s ∷ Accepted (pos reads) p s ∷ [])
+  pub turn-put_off : (p : ℕ) (s : ℤ) → AreOfTurn from (Taken (pos 3) p s ∷ Accepted (pos pending_number) p s ∷ [])
   turn-put_off p s = record { sent = λ before. (tt, (refl, tt)); takes = refl }
 
   -- refused it has no events
@@ -68,8 +67,8 @@ module _ (from : ℤ) where
 
 -- ---- numbers of tasks
 
-pub low-reads : (n : ℕ) → n ≤ 63 → same_queue (signed n) (pos reads) ≡ false
-low-reads n low = ap (λ q. same_queue q (pos reads)) (signed-low n low) ∙ ne_eqb n reads (low-named n low)
+pub low-reads : (n : ℕ) → n ≤ 63 → same_queue (signed n) (pos pending_number) ≡ false
+low-reads n low = ap (λ q. same_queue q (pos pending_number)) (signed-low n low) ∙ ne_eqb n pending_number (low-named n low)
 
 pub low-clock : (n : ℕ) → n ≤ 63 → same_queue (signed n) clock ≡ false
 low-clock n low = ap (λ q. same_queue q clock) (signed-low n low)
@@ -77,8 +76,8 @@ low-clock n low = ap (λ q. same_queue q clock) (signed-low n low)
 -- ---- calls
 
 module _ (l : Lists) (v : AreValid l) where
-  place-reads : (n : ℕ) → is_destination l n ≡ true → same_queue (signed n) (pos reads) ≡ false
-  place-reads n to = ap (λ q. same_queue q (pos reads)) (sym (names l v n to).number) ∙ on (place_of n) (names l v n to).named (place-of n)
+  place-reads : (n : ℕ) → is_destination l n ≡ true → same_queue (signed n) (pos pending_number) ≡ false
+  place-reads n to = ap (λ q. same_queue q (pos pending_number)) (sym (names l v n to).number) ∙ on (place_of n) (names l v n to).named (place-of n)
     where
       IsNoRead : Place → Type 0
       IsNoRead (Work id) = Unit {0}
@@ -96,8 +95,8 @@ module _ (l : Lists) (v : AreValid l) where
           by false false true = tt
           by false false false = tt
 
-      on : (at : Place) → IsNamed at → IsNoRead at → same_queue (number_of at) (pos reads) ≡ false
-      on (Work id) named none = ne_eqb id reads named
+      on : (at : Place) → IsNamed at → IsNoRead at → same_queue (number_of at) (pos pending_number) ≡ false
+      on (Work id) named none = ne_eqb id pending_number named
       on Clock named none = refl
       on Keyboard named none = refl
       on Output named none = refl

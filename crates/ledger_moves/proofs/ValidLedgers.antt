@@ -21,11 +21,12 @@ use Rattle.kernel_model.proofs.QueueCounts.{owned-queue}
 use Rattle.kernel_model.proofs.QueuePlaces.{place-there}
 use Rattle.kernel_model.proofs.RootCounts.{highest-high}
 use Rattle.kernel_model.proofs.TaskPlaces.{TaskPlace, task-places}
+use Rattle.packet_calls.specs.Dqpkt.{pending_number}
 use Rattle.packet_calls.proofs.HeldPlaces.{StandsBetween, stands-between}
 use Rattle.event_history.specs.Ledger.{AreOnce, Entry, NeverFall, clock, count_of, same_queue, stands_in}
 use Rattle.event_history.proofs.Packets.{none-counted, some-counted}
 use Rattle.event_history.proofs.Queues.{same-true}
-use Rattle.ledger_moves.specs.Queues.{clock_entry, entry_of, ledger_of, reads}
+use Rattle.ledger_moves.specs.Queues.{clock_entry, entry_of, ledger_of}
 use Rattle.ledger_moves.proofs.Ledgers.{IsNamed, any-at, entries_at, ledger-at, number_of, work-other}
 
 -- ---- the tasks that are there
@@ -88,11 +89,11 @@ module _ (l : Lists) (v : AreValid l) where
       record { at = at; number = refl; has = place-there l at r.front r.packet r.back v r.is; named = named }
 
   pub has-place : (q : ℤ) (a : ℕ) → stands_in a (ledger_of l q) ≡ true → IsPlaceOf l q
-  has-place (pos n) a = on (eqb n reads) refl
+  has-place (pos n) a = on (eqb n pending_number) refl
     where
-      on : (b : Bool) → eqb n reads ≡ b → stands_in a (map entry_of (cond b l.pending (work_of n l.tasks))) ≡ true → IsPlaceOf l (pos n)
-      on true is some = subst (λ z. IsPlaceOf l (pos z)) (sym (eqb-true n reads is)) (place-of Pending tt a some)
-      on false is some = place-of (Work n) (λ e. absurd (false≢true (sym is ∙ eq-eqb n reads e))) a some
+      on : (b : Bool) → eqb n pending_number ≡ b → stands_in a (map entry_of (cond b l.pending (work_of n l.tasks))) ≡ true → IsPlaceOf l (pos n)
+      on true is some = subst (λ z. IsPlaceOf l (pos z)) (sym (eqb-true n pending_number is)) (place-of Pending tt a some)
+      on false is some = place-of (Work n) (λ e. absurd (false≢true (sym is ∙ eq-eqb n pending_number e))) a some
   has-place (negsuc zero) a = place-of Clock tt a
   has-place (negsuc (suc zero)) a = place-of Keyboard tt a
   has-place (negsuc (suc (suc zero))) a = place-of Output tt a

@@ -6,9 +6,11 @@ use Rattle.packet_queue.specs.declared.events.KernelEvent.{KernelEvent}
 use Rattle.packet_queue.specs.declared.events.KernelEvent.TheVariants.{Accepted}
 use Rattle.kernel_model.specs.Changes.{work_of}
 use Rattle.kernel_model.specs.Lists.{Lists}
+use Rattle.packet_calls.specs.Dqpkt.{pending_number}
 use Rattle.packet_calls.specs.QueueWords.{due_tick}
 use Rattle.event_history.specs.Ledger.{Entry, Follows, Ledger, Timed}
 
+-- a packet as an entry
 abbrev pub entry_of : QueuedPacket → Entry
 entry_of p = record { packet = p.address; sender = signed p.sender; due = 0 }
 
@@ -16,13 +18,9 @@ entry_of p = record { packet = p.address; sender = signed p.sender; due = 0 }
 abbrev pub clock_entry : QueuedPacket → Entry
 clock_entry p = record { packet = p.address; sender = signed p.sender; due = p.last }
 
--- the number of the reads that wait for a line
-abbrev pub reads : ℕ
-reads = 103
-
 -- A task's queue has its number, and one of no task is empty; -1 is the clock, -2 the keyboard, -3 the output, and 103 the reads.
 abbrev pub ledger_of : Lists → Ledger
-ledger_of l (pos n) = map entry_of (if n == reads then l.pending else work_of n l.tasks)
+ledger_of l (pos n) = map entry_of (if n == pending_number then l.pending else work_of n l.tasks)
 ledger_of l (negsuc zero) = map clock_entry l.clock
 ledger_of l (negsuc (suc zero)) = map entry_of l.keyboard
 ledger_of l (negsuc (suc (suc zero))) = map entry_of l.output

@@ -50,7 +50,7 @@ cleared-same k h alive =
 
 -- ---- a program
 
-load-same : (l : Lists) (o : Option (List ℕ)) (rest : Result (Unit {0}) ℕ) → ledger_of (load_found o rest l).lists ≡ ledger_of l
+pub load-same : (l : Lists) (o : Option (List ℕ)) (rest : Result (Unit {0}) ℕ) → ledger_of (load_found o rest l).lists ≡ ledger_of l
 load-same l None rest = refl
 load-same l (Some bytes) (Err code) = refl
 load-same l (Some bytes) (Ok u) = on (module_of bytes)

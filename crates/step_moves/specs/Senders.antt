@@ -32,6 +32,7 @@ AreReturns device (Taken q p s ∷ Runs t ∷ es) = ⊥
 
 -- ---- the events of a dispatch
 
+-- it accepts nothing
 abbrev pub IsNoAcceptance : KernelEvent → Type 0
 IsNoAcceptance (Accepted q p s) = ⊥
 IsNoAcceptance (Taken q p s) = Unit {0}
@@ -40,19 +41,23 @@ IsNoAcceptance (Runs t) = Unit {0}
 
 -- ---- a step
 
--- The kernel after the turn, and after the clock, the keyboard and the output.
+-- what the turn leaves
 abbrev pub turned : Kernel → Stepped
 turned k = turn (with_step k)
 
+-- the clock after it
 abbrev pub ticked : Kernel → Stepped
 ticked k = tick (turned k).kernel
 
+-- the keyboard
 abbrev pub typed : Kernel → Stepped
 typed k = key (ticked k).kernel
 
+-- the output
 abbrev pub printed : Kernel → Stepped
 printed k = output (typed k).kernel
 
+-- and the dispatch
 abbrev pub dispatched : Kernel → Stepped
 dispatched k = dispatch (printed k).kernel
 
@@ -64,15 +69,22 @@ events_of_parts k =
 
 -- Each packet that is accepted is from the task whose turn it was, or from the device that returns it.
 pub record Senders (k : Kernel) : Type 0 where
+  -- the events of the step are those of its parts
   pub parts : (step k).events ≡ events_of_parts k
+  -- the turn sends from the task whose turn it is
   pub turn : AreSentBy (signed k.lists.running) None (turned k).events
+  -- the clock returns packets
   pub clock : AreReturns (negsuc 0) (ticked k).events
+  -- and so does the keyboard
   pub keyboard : AreReturns (negsuc 1) (typed k).events
+  -- and the output
   pub output : AreReturns (negsuc 2) (printed k).events
+  -- the dispatch accepts none
   pub dispatch : AllByRecursion IsNoAcceptance (dispatched k).events
 
 -- ---- the clock
 
+-- packets of the clock's queue, with their senders
 abbrev pub pairs_at_clock : List QueuedPacket → List (ℕ × ℤ)
 pairs_at_clock ps = map (λ p. pair_of (clock_entry p)) ps
 
@@ -82,10 +94,15 @@ due_now k ps = if k.steps % k.lists.period == 0 then filter (λ p. nat_le p.last
 
 -- A tick takes exactly the packets that are due at the new tick at most, in the order of the queue, and nothing else takes any.
 pub record TakesDue (k : Kernel) : Type 0 where
+  -- what the clock takes
   pub takes : taken_from clock (ticked k).events ≡ pairs_at_clock (due_now (turned k).kernel (turned k).kernel.lists.clock)
+  -- the turn takes none from its queue
   pub turn : taken_from clock (turned k).events ≡ []
+  -- nor does the keyboard
   pub keyboard : taken_from clock (typed k).events ≡ []
+  -- nor the output
   pub output : taken_from clock (printed k).events ≡ []
+  -- nor the dispatch
   pub dispatch : taken_from clock (dispatched k).events ≡ []
 
 -- ---- word 1

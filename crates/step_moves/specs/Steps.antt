@@ -17,6 +17,7 @@ due_in k (Taken q p s) = 0
 due_in k (Dequeued q p) = 0
 due_in k (Runs t) = 0
 
+-- the events of a step, so timed
 abbrev pub timed_step : Kernel → List Timed
 timed_step k = timed_by (due_in k) (step k).events
 

@@ -48,7 +48,8 @@ pub fn parts_law()
     ensures clock { (k : Kernel) → AreReturns (negsuc 0) (tick k).events }
     ensures keyboard { (k : Kernel) → AreReturns (negsuc 1) (key k).events }
     ensures output { (k : Kernel) → AreReturns (negsuc 2) (output k).events }
-    ensures takes { (k : Kernel) → taken_from clock (tick k).events ≡ pairs_at_clock (due_now k k.lists.clock) }
+    ensures takes { (k : Kernel) → taken_from clock (tick k).events
+        ≡ pairs_at_clock (due_now k k.lists.clock) }
     ensures dispatch { (k : Kernel) → AllByRecursion IsNoAcceptance (dispatch k).events }
     ensures keys_take { (k : Kernel) → taken_from clock (key k).events ≡ [] }
     ensures output_takes { (k : Kernel) → taken_from clock (output k).events ≡ [] }
