@@ -1,0 +1,3 @@
+pub mod BootedLists
+pub mod BootMoves
+pub mod BootHistories

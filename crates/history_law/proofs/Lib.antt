@@ -1,0 +1,2 @@
+pub mod TurnMoves
+pub mod Histories

@@ -1,0 +1,5 @@
+pub mod Ledgers
+pub mod ValidLedgers
+pub mod Moves
+pub mod CallMoves
+pub mod SentEvents

@@ -1,0 +1,10 @@
+pub mod TestedCalls
+pub mod NoKeeper
+pub mod OneGuest
+pub mod BlockCalls
+pub mod TaskCalls
+pub mod ModuleCalls
+pub mod PacketCalls
+pub mod CoroutineCalls
+pub mod EveryCall
+pub mod GuestTurns

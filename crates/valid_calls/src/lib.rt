@@ -1,0 +1,4 @@
+// What calls and turns of guests leave: valid lists.
+#![tactic(auto)]
+
+pub mod laws;

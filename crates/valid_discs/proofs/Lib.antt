@@ -1,0 +1,3 @@
+pub mod KeptDiscs
+pub mod FoundNames
+pub mod ValidCalls

@@ -1,0 +1,11 @@
+pub mod LeftStores
+pub mod TakenPackets
+pub mod HandlerTurns
+pub mod ReporterTurns
+pub mod ConsoleParts
+pub mod ConsoleTurns
+pub mod ClearedStores
+pub mod StartedPrograms
+pub mod ShellParts
+pub mod ShellTurns
+pub mod ResidentTurns
