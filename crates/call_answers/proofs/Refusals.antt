@@ -1,5 +1,6 @@
 -- Refusals by tests in their order, and the tests of a guest.
 use Rattle.std.proofs.Common.{◌≡◌, ℕ, ◌<◌, ◌≤◌, List, [], ◌∷◌, ◌++◌, cond, Bool, true, false, Option, Some, None, Result, Ok, Err, refl, ap, ◌∙◌, arith}
+use Rattle.std.specs.List.{AllByRecursion}
 use Rattle.std.proofs.lemmas.Bool.Decides.{nat_tests}
 use Rattle.kernel_dispatch.specs.KernelModel.Lists.{Lists, has_task}
 use Rattle.kernel_dispatch.specs.KernelModel.Task.{is_guest_id}
@@ -32,6 +33,15 @@ first_refusal-front (x ∷ xs) ys e = on x.0 e (first_refusal-front xs ys)
     on : (b : Bool) → cond b (first_refusal (xs ++ ys)) (Some x.1) ≡ None → (first_refusal (xs ++ ys) ≡ None → first_refusal xs ≡ None) → cond b (first_refusal xs) (Some x.1) ≡ None
     on true e more = more e
     on false e more = cc
+
+-- where there is no refusal all tests hold
+pub passed-tests : (tests : List (Bool × ℕ)) → first_refusal tests ≡ None → AllByRecursion (λ test. test.0 ≡ true) tests
+passed-tests [] e = tt
+passed-tests (test ∷ tests) e = on test.0 refl e (passed-tests tests)
+  where
+    on : (b : Bool) → test.0 ≡ b → cond b (first_refusal tests) (Some test.1) ≡ None → (first_refusal tests ≡ None → AllByRecursion (λ test. test.0 ≡ true) tests) → AllByRecursion (λ test. test.0 ≡ true) (test ∷ tests)
+    on true is e more = (is, more e)
+    on false is e more = cc
 
 -- ---- a guest
 

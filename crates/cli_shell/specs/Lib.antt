@@ -10,3 +10,5 @@ pub mod KeptLists
 pub use Rattle.shell_programs.specs.KernelResidents
 pub use Rattle.shell_programs.specs.KernelBoot
 pub use Rattle.shell_listings.specs as ShellListings
+pub use Rattle.shell_programs.specs as ShellPrograms
+pub use Rattle.shell_lines.specs as ShellLines

@@ -3,10 +3,10 @@ use Rattle.std.proofs.Common.{◌≡◌, ℕ, ℤ, ◌&&◌, ◌||◌, Bool, tru
 use Rattle.std.specs.List.{AllByRecursion, list_any}
 use Rattle.std.proofs.lemmas.Bool.{leb-false}
 use Rattle.std.proofs.lemmas.List.{append_assoc}
-use Rattle.linked_list.specs.Places.{insert_after}
-use Rattle.linked_list.proofs.AllMembers.{all-back}
-use Rattle.linked_list.proofs.Places.{IsPlace, place}
-use Rattle.packet_queue.specs.declared.events.KernelEvent.{KernelEvent}
+use Rattle.kernel_lists.specs.LinkedList.Places.{insert_after}
+use Rattle.kernel_lists.proofs.Shown.LinkedList.AllMembers.{all-back}
+use Rattle.kernel_lists.proofs.Shown.LinkedList.Places.{IsPlace, place}
+use Rattle.kernel_lists.specs.PacketQueue.declared.events.KernelEvent.{KernelEvent}
 use Rattle.event_history.specs.Acceptances.{pair_of}
 use Rattle.event_history.specs.Ledger.{Entry, arrived, clock, same_queue, stands_in}
 use Rattle.event_history.proofs.Ends.{end_in}

@@ -2,9 +2,9 @@
 use Rattle.std.proofs.Common.{◌≡◌, ℕ, ◌≤◌, ◌||◌, Bool, true, false, cond, eqb, leb, List, [], ◌∷◌, drop, subst, arith, leb-true, refl}
 use Rattle.std.specs.List.{AllByRecursion, list_any}
 use Rattle.std.proofs.lemmas.Bool.{leb-false}
-use Rattle.linked_list.specs.Places.{insert_after, without_first}
-use Rattle.packet_queue.specs.declared.events.KernelEvent.{KernelEvent}
-use Rattle.packet_queue.specs.declared.events.KernelEvent.TheVariants.{Accepted, Taken, Dequeued, Runs}
+use Rattle.kernel_lists.specs.LinkedList.Places.{insert_after, without_first}
+use Rattle.kernel_lists.specs.PacketQueue.declared.events.KernelEvent.{KernelEvent}
+use Rattle.kernel_lists.specs.PacketQueue.declared.events.KernelEvent.TheVariants.{Accepted, Taken, Dequeued, Runs}
 use Rattle.event_history.specs.Ledger.{Entry, Follows, Ledger, NeverFall, Timed, after_event, arrived, clock, entry_on}
 use Rattle.event_history.proofs.Queues.{queue-ways}
 

@@ -3,9 +3,9 @@ use Rattle.std.proofs.Common.{◌≡◌, ℕ, ℤ, suc, ◌+◌, ◌<◌, ◌≤
 use Rattle.std.specs.List.{count_by, list_any}
 use Rattle.std.proofs.lemmas.List.Recursion.{is_count_by}
 use Rattle.word_store.proofs.Counts.{hit-same}
-use Rattle.linked_list.specs.Places.{insert_after, without_first}
-use Rattle.packet_queue.specs.declared.events.KernelEvent.{KernelEvent}
-use Rattle.packet_queue.specs.declared.events.KernelEvent.TheVariants.{Accepted, Taken, Dequeued, Runs}
+use Rattle.kernel_lists.specs.LinkedList.Places.{insert_after, without_first}
+use Rattle.kernel_lists.specs.PacketQueue.declared.events.KernelEvent.{KernelEvent}
+use Rattle.kernel_lists.specs.PacketQueue.declared.events.KernelEvent.TheVariants.{Accepted, Taken, Dequeued, Runs}
 use Rattle.event_history.specs.Acceptances.{Acceptance, accepted_by, accepted_in, accepted_on, at_start, ends_before, from_end, is_end, leaves}
 use Rattle.event_history.specs.Ledger.{AreOnce, Entry, Follows, IsFirst, Ledger, May, Timed, after_event, arrived, clock, count_of, entry_on, events_of, same_queue, stands_in}
 use Rattle.event_history.proofs.Ends.{EndsOf, dequeue-ends, take-ends}

@@ -2,11 +2,11 @@
 use Rattle.std.proofs.Common.{◌≡◌, ℕ, ℤ, ◌+◌, ◌≤◌, ◌||◌, Bool, true, false, cond, eqb, leb, List, [], ◌∷◌, ◌++◌, map, drop, find, Option, Some, refl, sym, ap, ◌∙◌, subst, arith, eqb-true, eq-eqb}
 use Rattle.std.specs.List.{AllByRecursion, list_any}
 use Rattle.word_store.proofs.Counts.{hit-same}
-use Rattle.linked_list.specs.Places.{insert_after, without_first}
-use Rattle.linked_list.proofs.AllMembers.{all-append, all-back, all-front}
-use Rattle.linked_list.proofs.Places.{IsPlace, place}
-use Rattle.packet_queue.specs.declared.events.KernelEvent.{KernelEvent}
-use Rattle.packet_queue.specs.declared.events.KernelEvent.TheVariants.{Accepted, Taken, Dequeued, Runs}
+use Rattle.kernel_lists.specs.LinkedList.Places.{insert_after, without_first}
+use Rattle.kernel_lists.proofs.Shown.LinkedList.AllMembers.{all-append, all-back, all-front}
+use Rattle.kernel_lists.proofs.Shown.LinkedList.Places.{IsPlace, place}
+use Rattle.kernel_lists.specs.PacketQueue.declared.events.KernelEvent.{KernelEvent}
+use Rattle.kernel_lists.specs.PacketQueue.declared.events.KernelEvent.TheVariants.{Accepted, Taken, Dequeued, Runs}
 use Rattle.event_history.specs.Acceptances.{HasEnd, IsEnd, accepted_by, accepted_in, accepted_on, accepts, at_start, before_end, is_end, is_repeated}
 use Rattle.event_history.specs.Ledger.{AreOnce, Entry, Follows, IsFirst, Ledger, May, Timed, after_event, arrived, clock, count_of, entry_on, events_of, same_queue, stands_in}
 use Rattle.event_history.specs.QueueHistory.{IsEnded}

@@ -2,9 +2,9 @@
 use Rattle.std.proofs.Common.{◌≡◌, ◌≢◌, ℕ, ℤ, ◌≤◌, ◌⊎◌, inl, inr, true, false, cond, eqb, List, [], ◌∷◌, ◌++◌, drop, refl, sym, ◌∙◌, subst, arith, Bool, ◌||◌, eq-eqb, ap}
 use Rattle.std.proofs.lemmas.Bool.{cases_eq}
 use Rattle.word_store.proofs.Counts.{hit-other, hit-same}
-use Rattle.linked_list.specs.Places.{without_first}
-use Rattle.packet_queue.specs.declared.events.KernelEvent.{KernelEvent}
-use Rattle.packet_queue.specs.declared.events.KernelEvent.TheVariants.{Accepted, Taken, Dequeued, Runs}
+use Rattle.kernel_lists.specs.LinkedList.Places.{without_first}
+use Rattle.kernel_lists.specs.PacketQueue.declared.events.KernelEvent.{KernelEvent}
+use Rattle.kernel_lists.specs.PacketQueue.declared.events.KernelEvent.TheVariants.{Accepted, Taken, Dequeued, Runs}
 use Rattle.event_history.specs.Ledger.{AreOnce, Entry, Follows, IsNowhere, Ledger, May, Timed, after_event, arrived, count_of, entry_on, same_queue, stands_in, with_queue, IsFirst}
 use Rattle.event_history.proofs.Packets.{count-arrived, count-rest, count-without, none-counted, some-counted, some-stands, none-stands}
 use Rattle.event_history.proofs.Queues.{queue-ways, same-self}

@@ -2,7 +2,7 @@
 use Rattle.std.proofs.Common.{◌≡◌, ℕ, ℤ, ◌+◌, ◌<◌, ◌≤◌, ◌||◌, Bool, true, false, cond, eqb, leb, List, [], ◌∷◌, ◌++◌, drop, refl, arith}
 use Rattle.std.specs.List.{list_any}
 use Rattle.word_store.specs.Count.{hit}
-use Rattle.linked_list.specs.Places.{insert_after, without_first}
+use Rattle.kernel_lists.specs.LinkedList.Places.{insert_after, without_first}
 use Rattle.event_history.specs.Ledger.{Entry, arrived, clock, count_of, same_queue, stands_in}
 
 -- ---- a packet stands there where it is counted

@@ -1,7 +1,7 @@
 -- The whole history of queues.
 use Rattle.std.proofs.Common.{◌≡◌, ℕ, ℤ, ◌&&◌, not, Bool, true, false, cond, eqb, List, [], ◌∷◌, ◌++◌, filter, map, Option, Some, None, refl, sym, ap, ◌∙◌}
-use Rattle.packet_queue.specs.declared.events.KernelEvent.{KernelEvent}
-use Rattle.packet_queue.specs.declared.events.KernelEvent.TheVariants.{Accepted, Taken, Dequeued, Runs}
+use Rattle.kernel_lists.specs.PacketQueue.declared.events.KernelEvent.{KernelEvent}
+use Rattle.kernel_lists.specs.PacketQueue.declared.events.KernelEvent.TheVariants.{Accepted, Taken, Dequeued, Runs}
 use Rattle.event_history.specs.Acceptances.{Acceptance, accepted_by, accepted_in, accepted_on, at_start, end_of, is_dequeued, is_open, pair_of, taken_by, taken_from}
 use Rattle.event_history.specs.Ledger.{AreOnce, Entry, Follows, Ledger, NeverFall, Timed, clock, entry_on, events_of, same_queue}
 use Rattle.event_history.specs.QueueHistory.{QueueHistory, due_at, entries_of, not_dequeued, of_packet, open_ones, pairs_of}

@@ -1,8 +1,8 @@
 -- Acceptances of packets, and the end of each.
 use Rattle.std.specs.Prelude.{◌≡◌, ℕ, ℤ, suc, ◌==◌, Bool, true, false, if◌then◌else◌, Option, Some, None, List, [], ◌∷◌, ◌++◌, find, length, map}
 use Rattle.std.specs.List.{list_any}
-use Rattle.packet_queue.specs.declared.events.KernelEvent.{KernelEvent}
-use Rattle.packet_queue.specs.declared.events.KernelEvent.TheVariants.{Accepted, Taken, Dequeued, Runs}
+use Rattle.kernel_lists.specs.PacketQueue.declared.events.KernelEvent.{KernelEvent}
+use Rattle.kernel_lists.specs.PacketQueue.declared.events.KernelEvent.TheVariants.{Accepted, Taken, Dequeued, Runs}
 use Rattle.event_history.specs.Ledger.{Entry, Ledger, Timed, entry_on, events_of, same_queue}
 
 -- ---- the end of an acceptance

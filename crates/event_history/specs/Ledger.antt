@@ -2,9 +2,9 @@
 use Rattle.std.specs.Prelude.{◌≡◌, ◌≤◌, ℕ, ℤ, pos, negsuc, ◌==◌, Bool, true, false, if◌then◌else◌, List, [], ◌∷◌, ◌++◌, drop, map, nat_le}
 use Rattle.std.specs.List.{AllByRecursion, list_any}
 use Rattle.word_store.specs.Count.{times}
-use Rattle.linked_list.specs.Places.{insert_after, without_first}
-use Rattle.packet_queue.specs.declared.events.KernelEvent.{KernelEvent}
-use Rattle.packet_queue.specs.declared.events.KernelEvent.TheVariants.{Accepted, Taken, Dequeued, Runs}
+use Rattle.kernel_lists.specs.LinkedList.Places.{insert_after, without_first}
+use Rattle.kernel_lists.specs.PacketQueue.declared.events.KernelEvent.{KernelEvent}
+use Rattle.kernel_lists.specs.PacketQueue.declared.events.KernelEvent.TheVariants.{Accepted, Taken, Dequeued, Runs}
 
 -- a packet on a queue
 pub record Entry : Type 0 where

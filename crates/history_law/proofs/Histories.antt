@@ -1,23 +1,23 @@
 -- The history of every run of a valid kernel.
 use Rattle.std.proofs.Common.{◌≡◌, ℕ, zero, suc, ◌+◌, ◌≤◌, Option, Some, None, sym, ◌∙◌, subst, arith, refl}
 use Rattle.word_store.specs.Arithmetic.{signed}
-use Rattle.kernel_model.specs.Kernel.{Kernel}
-use Rattle.kernel_model.specs.Ranges.{most_steps}
-use Rattle.kernel_model.specs.ValidKernel.{IsValid}
-use Rattle.kernel_model.specs.declared.stops.Stop.{Stop}
-use Rattle.kernel_steps.specs.Step.{Stepped, key, output, step, tick, turn, with_step}
-use Rattle.kernel_steps.proofs.Runs.{step-steps, step-stopped}
-use Rattle.ledger_moves.specs.Queues.{Moves}
-use Rattle.ledger_moves.specs.SentBy.{AreOfTurn}
-use Rattle.ledger_moves.proofs.Moves.{move-none}
-use Rattle.valid_turns.proofs.ResidentTurns.{step-turn-valid}
-use Rattle.step_moves.specs.HistoryLaw.{HistoryLaw, StepLaw}
-use Rattle.step_moves.specs.Steps.{EachStep, StepMoves, due_in}
-use Rattle.step_moves.proofs.HeldSenders.{valid-senders}
-use Rattle.step_moves.proofs.PartEvents.{dispatch-accepts, dispatch-takes, key-returns, key-takes, output-returns, output-takes, step-parts, tick-returns, tick-takes}
-use Rattle.step_moves.proofs.Runs.{history-events, run-history}
-use Rattle.step_moves.proofs.StepMoved.{step-moved}
-use Rattle.valid_steps.proofs.ValidSteps.{next-valid}
+use Rattle.session_text.specs.KernelDispatch.KernelModel.Kernel.{Kernel}
+use Rattle.session_text.specs.KernelDispatch.KernelModel.Ranges.{most_steps}
+use Rattle.session_text.specs.KernelDispatch.KernelModel.ValidKernel.{IsValid}
+use Rattle.session_text.specs.KernelDispatch.KernelModel.declared.stops.Stop.{Stop}
+use Rattle.packet_moves.specs.KernelSteps.Step.{Stepped, key, output, step, tick, turn, with_step}
+use Rattle.packet_moves.proofs.Shown.KernelSteps.Runs.{step-steps, step-stopped}
+use Rattle.packet_moves.specs.Queues.{Moves}
+use Rattle.packet_moves.specs.SentBy.{AreOfTurn}
+use Rattle.packet_moves.proofs.Moves.{move-none}
+use Rattle.packet_moves.proofs.Shown.ValidTurns.ResidentTurns.{step-turn-valid}
+use Rattle.packet_moves.specs.HistoryLaw.{HistoryLaw, StepLaw}
+use Rattle.packet_moves.specs.Steps.{EachStep, StepMoves, due_in}
+use Rattle.packet_moves.proofs.HeldSenders.{valid-senders}
+use Rattle.packet_moves.proofs.PartEvents.{dispatch-accepts, dispatch-takes, key-returns, key-takes, output-returns, output-takes, step-parts, tick-returns, tick-takes}
+use Rattle.packet_moves.proofs.Runs.{history-events, run-history}
+use Rattle.packet_moves.proofs.StepMoved.{step-moved}
+use Rattle.history_law.proofs.ValidSteps.{next-valid}
 use Rattle.history_law.proofs.TurnMoves.{turn-moves}
 
 -- ---- one step

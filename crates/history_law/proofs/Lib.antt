@@ -1,2 +1,11 @@
+pub mod DiscRequests
+pub mod DiscTurns
+pub mod DispatchedLists
+pub mod PlainWords
+pub mod ValidSteps
 pub mod TurnMoves
 pub mod Histories
+pub mod BootedLists
+pub mod BootMoves
+pub mod BootHistories
+pub mod Shown

@@ -3,29 +3,29 @@ use Rattle.std.proofs.Common.{◌≡◌, ℕ, Bool, true, false, None, inl, inr,
 use Rattle.std.proofs.lemmas.Bool.{cases_eq}
 use Rattle.word_store.specs.Arithmetic.{signed}
 use Rattle.cint_exec.specs.declared.Fault.{Fault}
-use Rattle.packet_queue.specs.declared.events.KernelEvent.{KernelEvent}
-use Rattle.kernel_model.specs.HoldsLists.{HoldsLists}
-use Rattle.kernel_model.specs.Image.{image, word_of}
-use Rattle.kernel_model.specs.Kernel.{Kernel}
-use Rattle.kernel_model.specs.Lists.{Lists, has_task}
-use Rattle.kernel_model.specs.Task.{is_guest_id}
-use Rattle.kernel_model.specs.ValidKernel.{IsValid}
-use Rattle.kernel_model.specs.ValidLists.{AreValid}
-use Rattle.guest_turns.specs.GuestTurn.{Turned, turn_without_reporter}
-use Rattle.guest_turns.proofs.FaultedTurn.{fault-untouched}
-use Rattle.fault_reporter.specs.Recorded.{recorded, recorded_events}
-use Rattle.kernel_steps.specs.GuestSteps.{guest_step, with_recorded}
-use Rattle.kernel_steps.specs.Parts.{RunsFirst}
-use Rattle.kernel_steps.specs.Step.{Stepped, turn, with_step}
-use Rattle.kernel_steps.proofs.RunningCaller.{runs-calls, runs-resident, valid-runs}
-use Rattle.kernel_steps.proofs.TurnWays.{IsRecorded, guest-ways, turn-guest, turn-nobody, turn-resident}
-use Rattle.ledger_moves.specs.Queues.{IsDueIn}
-use Rattle.valid_turns.proofs.ResidentTurns.{step-holds}
-use Rattle.guest_moves.proofs.GuestMoves.{guest-moves}
-use Rattle.step_moves.specs.Steps.{due_in}
-use Rattle.resident_moves.proofs.ReporterMoves.{recorded-moves}
-use Rattle.resident_moves.proofs.ResidentMoves.{resident-moves}
-use Rattle.resident_moves.proofs.TakenMoves.{MovesInTurn, none-moved, then-moved}
+use Rattle.session_text.specs.KernelDispatch.PacketQueue.declared.events.KernelEvent.{KernelEvent}
+use Rattle.session_text.specs.KernelDispatch.KernelModel.HoldsLists.{HoldsLists}
+use Rattle.session_text.specs.KernelDispatch.KernelModel.Image.{image, word_of}
+use Rattle.session_text.specs.KernelDispatch.KernelModel.Kernel.{Kernel}
+use Rattle.session_text.specs.KernelDispatch.KernelModel.Lists.{Lists, has_task}
+use Rattle.session_text.specs.KernelDispatch.KernelModel.Task.{is_guest_id}
+use Rattle.session_text.specs.KernelDispatch.KernelModel.ValidKernel.{IsValid}
+use Rattle.session_text.specs.KernelDispatch.KernelModel.ValidLists.{AreValid}
+use Rattle.packet_moves.specs.KernelMachine.GuestTurns.GuestTurn.{Turned, turn_without_reporter}
+use Rattle.packet_moves.proofs.Shown.GuestTurns.FaultedTurn.{fault-untouched}
+use Rattle.packet_moves.specs.KernelSteps.KernelResidents.FaultReporter.Recorded.{recorded, recorded_events}
+use Rattle.packet_moves.specs.KernelSteps.GuestSteps.{guest_step, with_recorded}
+use Rattle.packet_moves.specs.KernelSteps.Parts.{RunsFirst}
+use Rattle.packet_moves.specs.KernelSteps.Step.{Stepped, turn, with_step}
+use Rattle.packet_moves.proofs.Shown.KernelSteps.RunningCaller.{runs-calls, runs-resident, valid-runs}
+use Rattle.packet_moves.proofs.Shown.KernelSteps.TurnWays.{IsRecorded, guest-ways, turn-guest, turn-nobody, turn-resident}
+use Rattle.packet_moves.specs.Queues.{IsDueIn}
+use Rattle.packet_moves.proofs.Shown.ValidTurns.ResidentTurns.{step-holds}
+use Rattle.packet_moves.proofs.GuestMoves.{guest-moves}
+use Rattle.packet_moves.specs.Steps.{due_in}
+use Rattle.packet_moves.proofs.ReporterMoves.{recorded-moves}
+use Rattle.packet_moves.proofs.ResidentMoves.{resident-moves}
+use Rattle.packet_moves.proofs.TakenMoves.{MovesInTurn, none-moved, then-moved}
 
 module _ (due : KernelEvent → ℕ) (k : Kernel) (h : HoldsLists (image k) k.lists) (first : RunsFirst k.lists k.regs) (dues : (p : ℕ) → IsDueIn due (image k) k.lists p) where
   abbrev l : Lists

@@ -2,3 +2,8 @@
 pub mod KernelSteps
 pub use Rattle.kernel_steps.proofs.Shown.KernelCalls
 pub use Rattle.kernel_steps.proofs.Shown.KernelBoot
+pub use Rattle.kernel_steps.proofs.Shown.CliShell
+pub use Rattle.kernel_steps.proofs.Shown.GuestTurns
+pub use Rattle.kernel_steps.proofs.Shown.KernelDevices
+pub use Rattle.kernel_steps.proofs.Shown.KernelResidents
+pub use Rattle.kernel_steps.proofs.Shown.ShellPrograms

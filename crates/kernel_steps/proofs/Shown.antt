@@ -5,3 +5,4 @@ pub mod CliShell
 pub use Rattle.guest_turns.proofs.Shown.KernelCalls
 pub use Rattle.cli_shell.proofs.Shown.KernelResidents
 pub use Rattle.cli_shell.proofs.Shown.KernelBoot
+pub use Rattle.cli_shell.proofs.Shown.ShellPrograms

@@ -2,3 +2,9 @@
 pub mod KernelMachine
 pub use Rattle.kernel_machine.proofs.Shown.KernelCalls
 pub use Rattle.kernel_machine.proofs.Shown.KernelSteps
+pub use Rattle.kernel_machine.proofs.Shown.CliShell
+pub use Rattle.kernel_machine.proofs.Shown.GuestTurns
+pub use Rattle.kernel_machine.proofs.Shown.KernelBoot
+pub use Rattle.kernel_machine.proofs.Shown.KernelDevices
+pub use Rattle.kernel_machine.proofs.Shown.KernelResidents
+pub use Rattle.kernel_machine.proofs.Shown.ShellPrograms

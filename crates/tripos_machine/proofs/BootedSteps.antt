@@ -5,14 +5,14 @@ use Rattle.hunk_text.specs.TextReader.Refusal.{Refusal}
 use Rattle.hunk_text.specs.TextReader.Steps.{◌>>=◌}
 use Rattle.bare_machine.specs.Boot.{boot as bare_boot, first_state, program, with_lines as with_code}
 use Rattle.bare_machine.specs.State.{BareState}
-use Rattle.machine_boot.specs.KernelCalls.KernelModel.Kernel.{Kernel}
-use Rattle.machine_boot.specs.KernelBoot.declared.refusals.BootRefusal.{BootRefusal}
-use Rattle.machine_boot.specs.KernelSteps.Stepped.{Stepped}
-use Rattle.machine_boot.specs.KernelMachine.Stands.{Stands}
-use Rattle.machine_boot.specs.KernelMachine.declared.parts.Parts.{Parts}
-use Rattle.machine_boot.proofs.Shown.KernelSteps.StepKept.{dispatch-same}
-use Rattle.machine_boot.specs.Boot.{HasKernel, boot, first_kernel, started, with_lines}
-use Rattle.machine_boot.proofs.BegunKernels.{first-begun, lines-begun}
+use Rattle.history_law.specs.KernelCalls.KernelModel.Kernel.{Kernel}
+use Rattle.history_law.specs.KernelBoot.declared.refusals.BootRefusal.{BootRefusal}
+use Rattle.history_law.specs.KernelSteps.Stepped.{Stepped}
+use Rattle.history_law.specs.KernelMachine.Stands.{Stands}
+use Rattle.history_law.specs.KernelMachine.declared.parts.Parts.{Parts}
+use Rattle.history_law.proofs.Shown.KernelSteps.StepKept.{dispatch-same}
+use Rattle.history_law.specs.MachineBoot.Boot.{HasKernel, boot, first_kernel, started, with_lines}
+use Rattle.history_law.proofs.Shown.MachineBoot.BegunKernels.{first-begun, lines-begun}
 use Rattle.tripos_machine.specs.Boot.{bare_booted, boot as machine_boot, kernel_booted}
 use Rattle.tripos_machine.specs.Step.{Stepped as MachineStepped}
 

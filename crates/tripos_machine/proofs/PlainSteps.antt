@@ -4,8 +4,8 @@ use Rattle.bare_machine.specs.CintExec.Places.{DifferAt, addresses}
 use Rattle.bare_machine.specs.CintExec.declared.places.Places.{Places}
 use Rattle.bare_machine.specs.Run.{IsPlainStep as IsBarePlainStep}
 use Rattle.bare_machine.specs.State.{BareState}
-use Rattle.machine_boot.specs.KernelCalls.KernelModel.Kernel.{Kernel}
-use Rattle.machine_boot.specs.KernelMachine.PlainSteps.{IsPlainStep as IsKernelPlainStep}
+use Rattle.history_law.specs.KernelCalls.KernelModel.Kernel.{Kernel}
+use Rattle.history_law.specs.KernelMachine.PlainSteps.{IsPlainStep as IsKernelPlainStep}
 use Rattle.tripos_machine.specs.Breakpoints.{IsPlainStep}
 use Rattle.tripos_machine.specs.State.{State}
 use Rattle.tripos_machine.specs.State.State.{Bare, Full}

@@ -7,11 +7,11 @@ use Rattle.tp_io.specs.Pending.{IsCut, IsGathered}
 use Rattle.tp_io.proofs.AppendedTexts.{AppendsPrefix-whole}
 use Rattle.tp_io.proofs.GatheredTexts.{IsCut-more, IsCut-then, IsGathered-nothing, IsGathered-then}
 use Rattle.tp_io.specs.Write.{AppendsPrefix}
-use Rattle.machine_boot.specs.KernelCalls.PacketQueue.declared.events.KernelEvent.{KernelEvent}
-use Rattle.machine_boot.specs.KernelCalls.KernelModel.NotedEvents.{NotesAll}
-use Rattle.machine_boot.proofs.Shown.KernelCalls.KernelModel.NotedInTurn.{notes-none, notes-then}
-use Rattle.machine_boot.specs.KernelCalls.KernelModel.declared.stops.Stop.{Stop}
-use Rattle.machine_boot.specs.KernelCalls.KernelModel.declared.stops.Stop.TheVariants.{Steps}
+use Rattle.history_law.specs.KernelCalls.PacketQueue.declared.events.KernelEvent.{KernelEvent}
+use Rattle.history_law.specs.KernelCalls.KernelModel.NotedEvents.{NotesAll}
+use Rattle.history_law.proofs.Shown.KernelCalls.KernelModel.NotedInTurn.{notes-none, notes-then}
+use Rattle.history_law.specs.KernelCalls.KernelModel.declared.stops.Stop.{Stop}
+use Rattle.history_law.specs.KernelCalls.KernelModel.declared.stops.Stop.TheVariants.{Steps}
 use Rattle.tripos_machine.specs.Runs.{HasRun, end_of_run}
 use Rattle.tripos_machine.specs.State.{State, stop_of}
 use Rattle.tripos_machine.specs.Step.{Stepped, and_then, quietly, run}

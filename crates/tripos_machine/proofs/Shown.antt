@@ -1,4 +1,4 @@
 -- Lemmas of lower crates, shown to the crates above.
-pub use Rattle.machine_boot.proofs.Shown.KernelCalls
-pub use Rattle.machine_boot.proofs.Shown.KernelMachine
-pub use Rattle.machine_boot.proofs.Shown.KernelSteps
+pub use Rattle.history_law.proofs.Shown.KernelCalls
+pub use Rattle.history_law.proofs.Shown.KernelMachine
+pub use Rattle.history_law.proofs.Shown.KernelSteps

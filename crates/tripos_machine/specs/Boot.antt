@@ -6,9 +6,9 @@ use Rattle.bare_machine.specs.Boot.{boot as bare_boot}
 use Rattle.bare_machine.specs.State.{BareState}
 use Rattle.bare_machine.specs.declared.boot.BootEnd.{BootEnd}
 use Rattle.bare_machine.specs.declared.boot.BootEnd.TheVariants.{Line, WantMemory}
-use Rattle.machine_boot.specs.Boot.{boot as kernel_boot}
-use Rattle.machine_boot.specs.KernelBoot.declared.refusals.BootRefusal.{BootRefusal}
-use Rattle.machine_boot.specs.KernelSteps.Stepped.{Stepped as KernelStepped}
+use Rattle.history_law.specs.MachineBoot.Boot.{boot as kernel_boot}
+use Rattle.history_law.specs.KernelBoot.declared.refusals.BootRefusal.{BootRefusal}
+use Rattle.history_law.specs.KernelSteps.Stepped.{Stepped as KernelStepped}
 use Rattle.tripos_machine.specs.State.State.{Bare}
 use Rattle.tripos_machine.specs.Step.{Stepped, of_kernel, quietly}
 

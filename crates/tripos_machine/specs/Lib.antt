@@ -8,7 +8,7 @@ pub mod Quiet
 -- shown to the crates above
 pub use Rattle.bare_machine.specs as BareMachine
 pub use Rattle.bare_machine.specs.CintExec
-pub use Rattle.machine_boot.specs.KernelCalls
-pub use Rattle.machine_boot.specs.KernelMachine
-pub use Rattle.machine_boot.specs.KernelSteps
-pub use Rattle.machine_boot.specs.ShellListings
+pub use Rattle.history_law.specs.KernelCalls
+pub use Rattle.history_law.specs.KernelMachine
+pub use Rattle.history_law.specs.KernelSteps
+pub use Rattle.history_law.specs.ShellListings

@@ -2,14 +2,14 @@
 use Rattle.std.specs.Prelude.{◌≡◌, ℕ, ◌<◌, ◌≤◌, List, [], Option}
 use Rattle.word_store.specs.declared.registers.Regs.{Regs}
 use Rattle.bare_machine.specs.State.{BareState, state_of}
-use Rattle.machine_boot.specs.KernelCalls.KernelModel.Image.{image}
-use Rattle.machine_boot.specs.KernelCalls.KernelModel.Kernel.{Kernel}
-use Rattle.machine_boot.specs.KernelCalls.KernelModel.Ranges.{most_steps}
-use Rattle.machine_boot.specs.KernelCalls.KernelModel.ValidKernel.{IsValid}
-use Rattle.machine_boot.specs.KernelCalls.KernelModel.declared.stops.Stop.{Stop}
-use Rattle.machine_boot.specs.KernelMachine.Machine.{with_byte_typed}
-use Rattle.machine_boot.specs.KernelMachine.Stands.{Stands}
-use Rattle.machine_boot.specs.KernelMachine.declared.parts.Parts.{Parts as FullParts}
+use Rattle.history_law.specs.KernelCalls.KernelModel.Image.{image}
+use Rattle.history_law.specs.KernelCalls.KernelModel.Kernel.{Kernel}
+use Rattle.history_law.specs.KernelCalls.KernelModel.Ranges.{most_steps}
+use Rattle.history_law.specs.KernelCalls.KernelModel.ValidKernel.{IsValid}
+use Rattle.history_law.specs.KernelCalls.KernelModel.declared.stops.Stop.{Stop}
+use Rattle.history_law.specs.KernelMachine.Machine.{with_byte_typed}
+use Rattle.history_law.specs.KernelMachine.Stands.{Stands}
+use Rattle.history_law.specs.KernelMachine.declared.parts.Parts.{Parts as FullParts}
 use Rattle.tripos_machine.specs.declared.parts.Parts.{Parts}
 use Rattle.tripos_machine.specs.declared.parts.Parts.TheVariants.{Bare as BareMachine, Full as FullMachine}
 

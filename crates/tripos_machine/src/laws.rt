@@ -2,8 +2,8 @@
 ghost use Rattle.std.specs.Prelude.{◌≡◌, ◌≢◌, ◌+◌, ◌≤◌, None, length, ℕ};
 ghost use Rattle.bare_machine.specs.Run.{run as bare_run};
 ghost use Rattle.bare_machine.specs.State.{BareState};
-ghost use Rattle.machine_boot.specs.KernelCalls.KernelModel.Kernel.{Kernel};
-ghost use Rattle.machine_boot.specs.KernelSteps.Step.{run as kernel_run};
+ghost use Rattle.history_law.specs.KernelCalls.KernelModel.Kernel.{Kernel};
+ghost use Rattle.history_law.specs.KernelSteps.Step.{run as kernel_run};
 ghost use Rattle.tripos_machine.specs.State.{IsSound, State, steps_of, stop_of, words_of};
 ghost use Rattle.tripos_machine.specs.State.State.{Bare, Full};
 ghost use Rattle.tripos_machine.specs.Step.{and_then, of_bare, of_kernel, quietly, run, step};

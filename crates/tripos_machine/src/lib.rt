@@ -16,7 +16,7 @@ pub use start::boot;
 // Shown to the crates above.
 pub use bare_machine::boot::BootEnd;
 pub use bare_machine::{BareParts, Places, has_breakpoint};
-pub use machine_boot::{
+pub use history_law::{
     Block, ByteKinds, ConsoleState, EventLog, KernelEvent, ListLog, Mode, NoLog,
     Parts as KernelParts, Pipes, Queue, RootField, Script, ShellState, SinkLog, Stop, Tty, Use,
     blocks, find, head, load_files, numbers, packets, use_of, write_tasks,

@@ -1,7 +1,7 @@
 // A machine of either kind.
 ghost use Rattle.std.specs.Prelude.{◌≡◌, ◌<◌, ◌+◌, ◌-◌, ◌≤◌, [], None, MatchOption, ℕ};
-ghost use Rattle.machine_boot.specs.KernelCalls.KernelModel.NotedEvents.{NotesAll};
-ghost use Rattle.machine_boot.specs.KernelCalls.KernelModel.Ranges.{most_steps};
+ghost use Rattle.history_law.specs.KernelCalls.KernelModel.NotedEvents.{NotesAll};
+ghost use Rattle.history_law.specs.KernelCalls.KernelModel.Ranges.{most_steps};
 ghost use Rattle.tripos_machine.specs.Breakpoints.{Avoids, IsPlain, IsPlainStep};
 ghost use Rattle.tripos_machine.specs.Quiet.{AreQuiet, IsIdle};
 ghost use Rattle.tripos_machine.specs.State.{IsBare, IsSound, StandFor, StandsFull, State, keys_of, regs_of, running_of, steps_of, stop_of, typed, words_of};
@@ -10,7 +10,7 @@ ghost use Rattle.tripos_machine.specs.Step.{boot_events, run, step};
 use crate::Parts;
 use crate::kinds::Kind;
 use bare_machine::{Bare, Places};
-use machine_boot::{EventLog, Machine as FullMachine, Parts as FullParts, Stop};
+use history_law::{EventLog, Machine as FullMachine, Parts as FullParts, Stop};
 use std::marker::Model;
 use word_store::{Regs, Store};
 

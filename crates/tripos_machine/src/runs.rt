@@ -1,13 +1,13 @@
 // Runs of a machine of either kind.
 ghost use Rattle.std.specs.Prelude.{◌≡◌, ◌+◌, ◌≤◌, false};
-ghost use Rattle.machine_boot.specs.KernelCalls.KernelModel.Ranges.{most_steps};
+ghost use Rattle.history_law.specs.KernelCalls.KernelModel.Ranges.{most_steps};
 ghost use Rattle.tp_io.specs.Pending.{Gathers};
 ghost use Rattle.tripos_machine.specs.Runs.{EndsRun};
 ghost use Rattle.tripos_machine.specs.State.{steps_of};
 ghost use Rattle.tripos_machine.specs.Step.{run};
 
 use crate::Machine;
-use machine_boot::{EventLog, Stop};
+use history_law::{EventLog, Stop};
 use tp_io::{Output, Sink, SinkFault, gather};
 
 impl Machine {

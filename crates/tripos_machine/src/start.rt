@@ -6,7 +6,7 @@ ghost use Rattle.tripos_machine.specs.Machine.{BootsAs};
 use crate::kinds::Kind;
 use crate::{BootEnd, Machine};
 use bare_machine::boot::boot as boot_bare;
-use machine_boot::{Machine as FullMachine, boot as boot_kernel};
+use history_law::{Machine as FullMachine, boot as boot_kernel};
 use session_text::Session;
 use std::alloc::Global;
 

@@ -2,14 +2,14 @@
 use Rattle.std.proofs.Common.{ℕ, zero, suc, ◌+◌, ◌-◌, ◌≤◌, Bool, true, false, cond, eqb, Option, Some, None, Result, Ok, Err, arith}
 use Rattle.std.specs.Prelude.{find}
 use Rattle.std.specs.List.{range_with_len}
-use Rattle.kernel_model.specs.Running.{RunsAlive}
-use Rattle.kernel_model.specs.Standing.{Standing}
-use Rattle.kernel_model.specs.Task.{Task}
-use Rattle.kernel_model.specs.Versions.{highest_id_of}
-use Rattle.task_calls.specs.DeleteTask.{delete_task}
-use Rattle.shell_programs.specs.ClearedTasks.{after_deletion, cleared, cleared_all, cleared_at, cleared_task, deleted, first_module_of, unloaded}
-use Rattle.shell_programs.specs.Standings.{left_by}
-use Rattle.shell_programs.proofs.ClearedNumbers.{alive-cleared}
+use Rattle.machine_boot.specs.KernelCalls.KernelModel.Running.{RunsAlive}
+use Rattle.machine_boot.specs.KernelCalls.KernelModel.Standing.{Standing}
+use Rattle.machine_boot.specs.KernelCalls.KernelModel.Task.{Task}
+use Rattle.machine_boot.specs.KernelCalls.KernelModel.Versions.{highest_id_of}
+use Rattle.machine_boot.specs.KernelCalls.TaskCalls.DeleteTask.{delete_task}
+use Rattle.machine_boot.specs.KernelSteps.CliShell.ShellPrograms.ClearedTasks.{after_deletion, cleared, cleared_all, cleared_at, cleared_task, deleted, first_module_of, unloaded}
+use Rattle.machine_boot.specs.KernelSteps.CliShell.ShellPrograms.Standings.{left_by}
+use Rattle.machine_boot.proofs.Shown.ShellPrograms.ClearedNumbers.{alive-cleared}
 
 -- It goes over where a guest is deleted while the running task has its state, and where a module is unloaded; refused or not.
 module _ (P : Standing → Type 0) (at_deletion : (id : ℕ) (k : Standing) → 5 ≤ id → RunsAlive k.lists → P k → P (left_by k.words (delete_task k.lists id))) (at_unloading : (m : ℕ) (k : Standing) → P k → P (unloaded m k)) where

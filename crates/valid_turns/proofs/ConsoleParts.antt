@@ -1,31 +1,31 @@
 -- What holds of the words, the lists and the events of a console's turn as far as it has come: it goes from one part to the next.
 use Rattle.std.proofs.Common.{◌≡◌, ℕ, ◌&&◌, not, Bool, true, false, cond, eqb, is_some, Some, Result, List, [], ◌∷◌, ◌++◌, refl, sym, subst}
 use Rattle.word_store.specs.Arithmetic.{signed}
-use Rattle.owned_words.specs.Owned.{Pairs}
-use Rattle.packet_queue.specs.QueueWords.{QueuedPacket}
-use Rattle.packet_queue.specs.declared.events.KernelEvent.{KernelEvent}
-use Rattle.packet_queue.specs.declared.events.KernelEvent.TheVariants.{Taken}
-use Rattle.kernel_model.specs.Changes.{with_key as with_key_word, with_queue}
-use Rattle.kernel_model.specs.Lists.{Lists}
-use Rattle.kernel_model.specs.Residents.{key_packet, keyboard}
-use Rattle.kernel_model.specs.ValidQueues.{is_key_packet}
-use Rattle.kernel_model.specs.ValidQueues.Place.{Pending, Work}
-use Rattle.kernel_model.specs.declared.numbers.TheConstants.{CONSOLE, PENDING}
-use Rattle.task_calls.specs.SetFlags.{set_flags}
-use Rattle.packet_calls.specs.Destinations.{queue_for}
-use Rattle.packet_calls.specs.QueueWords.{unqueued}
-use Rattle.packet_calls.specs.SendOwn.{send_own}
-use Rattle.resident_requests.specs.Answers.{returned}
-use Rattle.resident_requests.specs.Buffers.{written_buffer}
-use Rattle.resident_requests.specs.Requests.{first_request, request_at, taken, taken_from, words_taken_from, work}
-use Rattle.resident_requests.specs.Turns.{Served}
-use Rattle.resident_requests.specs.declared.requests.Request.{Request}
-use Rattle.console_handler.specs.ConsoleTurn.{answer_of, bytes_of, key_of, keys_sent, treated, with_first, with_key, with_keyed, with_keys_sent, with_keys_taken, with_taken}
-use Rattle.console_handler.specs.Deliveries.{delivered, delivery, handed, line_service, with_read}
-use Rattle.console_handler.specs.KeyPacket.{keys_taken, keys_taken_from}
-use Rattle.console_handler.specs.Line.{Keyed, key}
-use Rattle.console_handler.specs.Progress.{Progress, and_then, settled_words}
-use Rattle.console_handler.specs.Reads.{put_off, read_taken_from, words_read_from}
+use Rattle.machine_boot.specs.KernelCalls.OwnedWords.Owned.{Pairs}
+use Rattle.machine_boot.specs.KernelCalls.PacketQueue.QueueWords.{QueuedPacket}
+use Rattle.machine_boot.specs.KernelCalls.PacketQueue.declared.events.KernelEvent.{KernelEvent}
+use Rattle.machine_boot.specs.KernelCalls.PacketQueue.declared.events.KernelEvent.TheVariants.{Taken}
+use Rattle.machine_boot.specs.KernelCalls.KernelModel.Changes.{with_key as with_key_word, with_queue}
+use Rattle.machine_boot.specs.KernelCalls.KernelModel.Lists.{Lists}
+use Rattle.machine_boot.specs.KernelCalls.KernelModel.Residents.{key_packet, keyboard}
+use Rattle.machine_boot.specs.KernelCalls.KernelModel.ValidQueues.{is_key_packet}
+use Rattle.machine_boot.specs.KernelCalls.KernelModel.ValidQueues.Place.{Pending, Work}
+use Rattle.machine_boot.specs.KernelCalls.KernelModel.declared.numbers.TheConstants.{CONSOLE, PENDING}
+use Rattle.machine_boot.specs.KernelCalls.TaskCalls.SetFlags.{set_flags}
+use Rattle.machine_boot.specs.KernelCalls.PacketCalls.Destinations.{queue_for}
+use Rattle.machine_boot.specs.KernelCalls.PacketCalls.QueueWords.{unqueued}
+use Rattle.machine_boot.specs.KernelCalls.PacketCalls.SendOwn.{send_own}
+use Rattle.machine_boot.specs.KernelSteps.KernelResidents.ResidentRequests.Answers.{returned}
+use Rattle.machine_boot.specs.KernelSteps.KernelResidents.ResidentRequests.Buffers.{written_buffer}
+use Rattle.machine_boot.specs.KernelSteps.KernelResidents.ResidentRequests.Requests.{first_request, request_at, taken, taken_from, words_taken_from, work}
+use Rattle.machine_boot.specs.KernelSteps.KernelResidents.ResidentRequests.Turns.{Served}
+use Rattle.machine_boot.specs.KernelSteps.KernelResidents.ResidentRequests.declared.requests.Request.{Request}
+use Rattle.machine_boot.specs.KernelSteps.KernelResidents.ConsoleHandler.ConsoleTurn.{answer_of, bytes_of, key_of, keys_sent, treated, with_first, with_key, with_keyed, with_keys_sent, with_keys_taken, with_taken}
+use Rattle.machine_boot.specs.KernelSteps.KernelResidents.ConsoleHandler.Deliveries.{delivered, delivery, handed, line_service, with_read}
+use Rattle.machine_boot.specs.KernelSteps.KernelResidents.ConsoleHandler.KeyPacket.{keys_taken, keys_taken_from}
+use Rattle.machine_boot.specs.KernelSteps.KernelResidents.ConsoleHandler.Line.{Keyed, key}
+use Rattle.machine_boot.specs.KernelSteps.KernelResidents.ConsoleHandler.Progress.{Progress, and_then, settled_words}
+use Rattle.machine_boot.specs.KernelSteps.KernelResidents.ConsoleHandler.Reads.{put_off, read_taken_from, words_read_from}
 
 -- the lists once the first packet of a place was taken, and its request, in the words that taking leaves
 abbrev pub without_work : List QueuedPacket → Lists → Lists

@@ -2,38 +2,38 @@
 use Rattle.std.proofs.Common.{◌≡◌, ℕ, true, false, is_some, length, Some, List, [], ◌∷◌, refl, sym, ap, ◌∙◌, subst, arith}
 use Rattle.std.specs.List.{AllByRecursion}
 use Rattle.std.proofs.lemmas.Bool.{false_from_ne_true}
-use Rattle.owned_words.specs.Owned.{Pairs}
-use Rattle.packet_queue.specs.QueueWords.{QueuedPacket}
-use Rattle.packet_queue.specs.declared.events.KernelEvent.{KernelEvent}
-use Rattle.kernel_model.specs.Changes.{with_key, with_queue, with_task}
-use Rattle.kernel_model.specs.HoldsLists.{HoldsLists}
-use Rattle.kernel_model.specs.Kernel.{Console}
-use Rattle.kernel_model.specs.Lists.{Lists, has_task}
-use Rattle.kernel_model.specs.Residents.{key_packet, keyboard}
-use Rattle.kernel_model.specs.ValidLists.{AreValid}
-use Rattle.kernel_model.specs.ValidQueues.{IsFaultPacket, IsKeyPacket, MayStand, is_fault_packet, is_key_packet}
-use Rattle.kernel_model.specs.ValidQueues.Place.{Pending, Work}
-use Rattle.kernel_model.specs.declared.numbers.TheConstants.{CONSOLE}
-use Rattle.kernel_model.proofs.QueuePlaces.{place-stands}
-use Rattle.kernel_model.proofs.ResidentPackets.{key_unqueued-valid}
-use Rattle.call_answers.specs.Guests.{guest_tests}
-use Rattle.call_answers.specs.Made.{done}
-use Rattle.call_answers.specs.Refusals.{first_refusal}
-use Rattle.task_calls.specs.SetFlags.{flagged, set_flags}
-use Rattle.packet_calls.specs.Destinations.{queue_for}
-use Rattle.packet_calls.specs.QueueWords.{unqueued}
-use Rattle.packet_calls.specs.SendOwn.{send_own}
-use Rattle.packet_calls.proofs.OwnPackets.{keys-sent}
-use Rattle.resident_requests.specs.Answers.{returned}
-use Rattle.resident_requests.specs.Requests.{RunsResident, work}
-use Rattle.console_handler.specs.ConsoleTurn.{all_parts, treated, with_keys_sent}
-use Rattle.console_handler.specs.Deliveries.{delivery}
-use Rattle.console_handler.specs.Progress.{Progress, begun, settled_words}
-use Rattle.console_handler.specs.Reads.{put_off}
-use Rattle.console_handler.proofs.SentKeys.{can-send}
-use Rattle.cli_shell.proofs.RunningShell.{GoesOn, flags-goes}
-use Rattle.valid_calls.proofs.NoKeeper.{no-keeper, tells_nothing}
-use Rattle.valid_calls.proofs.TaskCalls.{set_flags-valid}
+use Rattle.machine_boot.specs.KernelCalls.OwnedWords.Owned.{Pairs}
+use Rattle.machine_boot.specs.KernelCalls.PacketQueue.QueueWords.{QueuedPacket}
+use Rattle.machine_boot.specs.KernelCalls.PacketQueue.declared.events.KernelEvent.{KernelEvent}
+use Rattle.machine_boot.specs.KernelCalls.KernelModel.Changes.{with_key, with_queue, with_task}
+use Rattle.machine_boot.specs.KernelCalls.KernelModel.HoldsLists.{HoldsLists}
+use Rattle.machine_boot.specs.KernelCalls.KernelModel.Kernel.{Console}
+use Rattle.machine_boot.specs.KernelCalls.KernelModel.Lists.{Lists, has_task}
+use Rattle.machine_boot.specs.KernelCalls.KernelModel.Residents.{key_packet, keyboard}
+use Rattle.machine_boot.specs.KernelCalls.KernelModel.ValidLists.{AreValid}
+use Rattle.machine_boot.specs.KernelCalls.KernelModel.ValidQueues.{IsFaultPacket, IsKeyPacket, MayStand, is_fault_packet, is_key_packet}
+use Rattle.machine_boot.specs.KernelCalls.KernelModel.ValidQueues.Place.{Pending, Work}
+use Rattle.machine_boot.specs.KernelCalls.KernelModel.declared.numbers.TheConstants.{CONSOLE}
+use Rattle.machine_boot.proofs.Shown.KernelCalls.KernelModel.QueuePlaces.{place-stands}
+use Rattle.machine_boot.proofs.Shown.KernelCalls.KernelModel.ResidentPackets.{key_unqueued-valid}
+use Rattle.machine_boot.specs.KernelCalls.CallAnswers.Guests.{guest_tests}
+use Rattle.machine_boot.specs.KernelCalls.CallAnswers.Made.{done}
+use Rattle.machine_boot.specs.KernelCalls.CallAnswers.Refusals.{first_refusal}
+use Rattle.machine_boot.specs.KernelCalls.TaskCalls.SetFlags.{flagged, set_flags}
+use Rattle.machine_boot.specs.KernelCalls.PacketCalls.Destinations.{queue_for}
+use Rattle.machine_boot.specs.KernelCalls.PacketCalls.QueueWords.{unqueued}
+use Rattle.machine_boot.specs.KernelCalls.PacketCalls.SendOwn.{send_own}
+use Rattle.machine_boot.proofs.Shown.KernelCalls.PacketCalls.OwnPackets.{keys-sent}
+use Rattle.machine_boot.specs.KernelSteps.KernelResidents.ResidentRequests.Answers.{returned}
+use Rattle.machine_boot.specs.KernelSteps.KernelResidents.ResidentRequests.Requests.{RunsResident, work}
+use Rattle.machine_boot.specs.KernelSteps.KernelResidents.ConsoleHandler.ConsoleTurn.{all_parts, treated, with_keys_sent}
+use Rattle.machine_boot.specs.KernelSteps.KernelResidents.ConsoleHandler.Deliveries.{delivery}
+use Rattle.machine_boot.specs.KernelSteps.KernelResidents.ConsoleHandler.Progress.{Progress, begun, settled_words}
+use Rattle.machine_boot.specs.KernelSteps.KernelResidents.ConsoleHandler.Reads.{put_off}
+use Rattle.machine_boot.proofs.Shown.KernelResidents.ConsoleHandler.SentKeys.{can-send}
+use Rattle.machine_boot.proofs.Shown.CliShell.RunningShell.{GoesOn, flags-goes}
+use Rattle.valid_turns.proofs.NoKeeper.{no-keeper, tells_nothing}
+use Rattle.valid_turns.proofs.TaskCalls.{set_flags-valid}
 use Rattle.valid_turns.proofs.ConsoleParts.{Allows, parts-on, read_request, without_work, work_request}
 use Rattle.valid_turns.proofs.HandlerTurns.{finished-valid}
 use Rattle.valid_turns.proofs.LeftStores.{made-size, settled-holds}

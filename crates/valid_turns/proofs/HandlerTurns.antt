@@ -2,21 +2,21 @@
 use Rattle.std.proofs.Common.{◌≡◌, ℕ, ◌+◌, get_or, Result, List, [], ◌∷◌, inl, inr, refl, sym, subst}
 use Rattle.std.specs.List.{AllByRecursion}
 use Rattle.std.proofs.lemmas.Bool.{cases_eq}
-use Rattle.packet_queue.specs.QueueWords.{QueuedPacket}
-use Rattle.kernel_model.specs.Changes.{with_queue}
-use Rattle.kernel_model.specs.HoldsLists.{HoldsLists}
-use Rattle.kernel_model.specs.Lists.{Lists, address_of_task}
-use Rattle.kernel_model.specs.ValidLists.{AreValid}
-use Rattle.kernel_model.specs.ValidQueues.{MayStand}
-use Rattle.kernel_model.specs.ValidQueues.Place.{Work}
-use Rattle.kernel_model.proofs.QueuePlaces.{place-stands}
-use Rattle.packet_calls.specs.Destinations.{queue_for}
-use Rattle.packet_calls.specs.QueueWords.{unqueued}
-use Rattle.resident_requests.specs.Answers.{answered, finished, returned}
-use Rattle.resident_requests.specs.Requests.{IsForeign, RunsResident, TakesRequest, first_request, request_at, taken_from, words_taken_from, work}
-use Rattle.resident_requests.specs.Turns.{Served, request_turn, turn_of}
-use Rattle.resident_requests.specs.declared.requests.Request.{Request}
-use Rattle.resident_requests.proofs.FinishedTurn.{goes-on, waits}
+use Rattle.machine_boot.specs.KernelCalls.PacketQueue.QueueWords.{QueuedPacket}
+use Rattle.machine_boot.specs.KernelCalls.KernelModel.Changes.{with_queue}
+use Rattle.machine_boot.specs.KernelCalls.KernelModel.HoldsLists.{HoldsLists}
+use Rattle.machine_boot.specs.KernelCalls.KernelModel.Lists.{Lists, address_of_task}
+use Rattle.machine_boot.specs.KernelCalls.KernelModel.ValidLists.{AreValid}
+use Rattle.machine_boot.specs.KernelCalls.KernelModel.ValidQueues.{MayStand}
+use Rattle.machine_boot.specs.KernelCalls.KernelModel.ValidQueues.Place.{Work}
+use Rattle.machine_boot.proofs.Shown.KernelCalls.KernelModel.QueuePlaces.{place-stands}
+use Rattle.machine_boot.specs.KernelCalls.PacketCalls.Destinations.{queue_for}
+use Rattle.machine_boot.specs.KernelCalls.PacketCalls.QueueWords.{unqueued}
+use Rattle.machine_boot.specs.KernelSteps.KernelResidents.ResidentRequests.Answers.{answered, finished, returned}
+use Rattle.machine_boot.specs.KernelSteps.KernelResidents.ResidentRequests.Requests.{IsForeign, RunsResident, TakesRequest, first_request, request_at, taken_from, words_taken_from, work}
+use Rattle.machine_boot.specs.KernelSteps.KernelResidents.ResidentRequests.Turns.{Served, request_turn, turn_of}
+use Rattle.machine_boot.specs.KernelSteps.KernelResidents.ResidentRequests.declared.requests.Request.{Request}
+use Rattle.machine_boot.proofs.Shown.KernelResidents.ResidentRequests.FinishedTurn.{goes-on, waits}
 use Rattle.valid_turns.proofs.LeftStores.{left-holds}
 use Rattle.valid_turns.proofs.TakenPackets.{returned-runs, returned-valid}
 

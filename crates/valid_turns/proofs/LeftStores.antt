@@ -1,16 +1,16 @@
 -- A store into which valid lists were written, after plain words, holds them.
 use Rattle.std.proofs.Common.{◌≡◌, ℕ, Bool, Option, Some, None, List, length, refl, sym, ◌∙◌, subst, arith}
-use Rattle.owned_words.specs.Owned.{Pairs, written}
-use Rattle.owned_words.proofs.OwnedWords.{Holds-written, length-written, written-other}
-use Rattle.kernel_model.specs.HoldsLists.{HoldsLists}
-use Rattle.kernel_model.specs.Lists.{Lists}
-use Rattle.kernel_model.specs.Owned.{owned}
-use Rattle.kernel_model.specs.ValidLists.{AreValid}
-use Rattle.call_answers.specs.Made.{Made, by_refusal, unless_refused}
-use Rattle.call_answers.specs.Refusals.{first_refusal}
-use Rattle.console_handler.specs.Progress.{settled_words}
-use Rattle.console_handler.proofs.DoneParts.{settled-words}
-use Rattle.shell_programs.specs.Standings.{left_by}
+use Rattle.machine_boot.specs.KernelCalls.OwnedWords.Owned.{Pairs, written}
+use Rattle.machine_boot.proofs.Shown.KernelCalls.OwnedWords.OwnedWords.{Holds-written, length-written, written-other}
+use Rattle.machine_boot.specs.KernelCalls.KernelModel.HoldsLists.{HoldsLists}
+use Rattle.machine_boot.specs.KernelCalls.KernelModel.Lists.{Lists}
+use Rattle.machine_boot.specs.KernelCalls.KernelModel.Owned.{owned}
+use Rattle.machine_boot.specs.KernelCalls.KernelModel.ValidLists.{AreValid}
+use Rattle.machine_boot.specs.KernelCalls.CallAnswers.Made.{Made, by_refusal, unless_refused}
+use Rattle.machine_boot.specs.KernelCalls.CallAnswers.Refusals.{first_refusal}
+use Rattle.machine_boot.specs.KernelSteps.KernelResidents.ConsoleHandler.Progress.{settled_words}
+use Rattle.machine_boot.proofs.Shown.KernelResidents.ConsoleHandler.DoneParts.{settled-words}
+use Rattle.machine_boot.specs.KernelSteps.CliShell.ShellPrograms.Standings.{left_by}
 
 module _ (s : List ℕ) (m : Lists) (plain : Pairs) (v : AreValid m) (size : length s ≡ m.size) where
   abbrev left : List ℕ

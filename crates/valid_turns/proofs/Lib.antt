@@ -1,3 +1,16 @@
+pub mod KeptDiscs
+pub mod FoundNames
+pub mod ValidCalls
+pub mod TestedCalls
+pub mod NoKeeper
+pub mod OneGuest
+pub mod BlockCalls
+pub mod TaskCalls
+pub mod ModuleCalls
+pub mod PacketCalls
+pub mod CoroutineCalls
+pub mod EveryCall
+pub mod GuestTurns
 pub mod LeftStores
 pub mod TakenPackets
 pub mod HandlerTurns
@@ -9,3 +22,4 @@ pub mod StartedPrograms
 pub mod ShellParts
 pub mod ShellTurns
 pub mod ResidentTurns
+pub mod Shown

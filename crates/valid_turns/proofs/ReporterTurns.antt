@@ -1,23 +1,23 @@
 -- The turn of the task that reports faults leaves valid lists.
 use Rattle.std.proofs.Common.{◌≡◌, ℕ, zero, suc, ◌+◌, ◌≤◌, Bool, true, false, cond, eqb, get_or, set, Option, Some, None, List, [], ◌∷◌, refl, sym, ap, ◌∙◌, subst, arith}
 use Rattle.std.proofs.lemmas.Bool.{eqb-true}
-use Rattle.task_block.specs.TaskChain.{task_with, tasks_in}
-use Rattle.packet_queue.specs.QueueWords.{QueuedPacket}
-use Rattle.kernel_model.specs.Changes.{queue_of, with_task}
-use Rattle.kernel_model.specs.HoldsLists.{HoldsLists}
-use Rattle.kernel_model.specs.Lists.{Lists}
-use Rattle.kernel_model.specs.Residents.{fault_packet}
-use Rattle.kernel_model.specs.ValidLists.{AreValid}
-use Rattle.kernel_model.specs.ValidQueues.Place.{Work}
-use Rattle.kernel_model.proofs.ResidentPackets.{fault_unqueued-valid}
-use Rattle.call_answers.proofs.FoundTask.{Finds, find-task}
-use Rattle.resident_requests.specs.Requests.{RunsResident, work}
-use Rattle.resident_requests.specs.Turns.{request_turn}
-use Rattle.fault_reporter.specs.FaultTurns.{all_reported, fault_taken_from, fault_turn, fault_turn_from, is_fault_first, packet_taken, reported, reported_turn, unknown}
-use Rattle.fault_reporter.specs.Recorded.{OwnsSame}
-use Rattle.fault_reporter.specs.Texts.{is_unreported_word}
-use Rattle.fault_reporter.proofs.Reported.{marks-begin, marks-end, marks-next, no-guest, nothing-new, one-new, reported_below}
-use Rattle.fault_reporter.proofs.ReportedTurn.{reported-runs, taken-runs, takes-other}
+use Rattle.machine_boot.specs.KernelCalls.TaskBlock.TaskChain.{task_with, tasks_in}
+use Rattle.machine_boot.specs.KernelCalls.PacketQueue.QueueWords.{QueuedPacket}
+use Rattle.machine_boot.specs.KernelCalls.KernelModel.Changes.{queue_of, with_task}
+use Rattle.machine_boot.specs.KernelCalls.KernelModel.HoldsLists.{HoldsLists}
+use Rattle.machine_boot.specs.KernelCalls.KernelModel.Lists.{Lists}
+use Rattle.machine_boot.specs.KernelCalls.KernelModel.Residents.{fault_packet}
+use Rattle.machine_boot.specs.KernelCalls.KernelModel.ValidLists.{AreValid}
+use Rattle.machine_boot.specs.KernelCalls.KernelModel.ValidQueues.Place.{Work}
+use Rattle.machine_boot.proofs.Shown.KernelCalls.KernelModel.ResidentPackets.{fault_unqueued-valid}
+use Rattle.machine_boot.proofs.Shown.KernelCalls.CallAnswers.FoundTask.{Finds, find-task}
+use Rattle.machine_boot.specs.KernelSteps.KernelResidents.ResidentRequests.Requests.{RunsResident, work}
+use Rattle.machine_boot.specs.KernelSteps.KernelResidents.ResidentRequests.Turns.{request_turn}
+use Rattle.machine_boot.specs.KernelSteps.KernelResidents.FaultReporter.FaultTurns.{all_reported, fault_taken_from, fault_turn, fault_turn_from, is_fault_first, packet_taken, reported, reported_turn, unknown}
+use Rattle.machine_boot.specs.KernelSteps.KernelResidents.FaultReporter.Recorded.{OwnsSame}
+use Rattle.machine_boot.specs.KernelSteps.KernelResidents.FaultReporter.Texts.{is_unreported_word}
+use Rattle.machine_boot.proofs.Shown.KernelResidents.FaultReporter.Reported.{marks-begin, marks-end, marks-next, no-guest, nothing-new, one-new, reported_below}
+use Rattle.machine_boot.proofs.Shown.KernelResidents.FaultReporter.ReportedTurn.{reported-runs, taken-runs, takes-other}
 use Rattle.valid_turns.proofs.HandlerTurns.{finished-valid, request-valid}
 use Rattle.valid_turns.proofs.LeftStores.{left-holds}
 

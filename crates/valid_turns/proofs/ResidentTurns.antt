@@ -1,25 +1,25 @@
 -- The turn of each resident, and so of whoever runs, leaves valid lists.
 use Rattle.std.proofs.Common.{◌≡◌, Bool, true, false, None, inl, inr, refl, sym, ◌∙◌, subst, arith}
 use Rattle.std.proofs.lemmas.Bool.{cases_eq, false≢true}
-use Rattle.kernel_model.specs.HoldsLists.{HoldsLists}
-use Rattle.kernel_model.specs.Image.{image, word_of}
-use Rattle.kernel_model.specs.Kernel.{Kernel}
-use Rattle.kernel_model.specs.Task.{is_guest_id}
-use Rattle.kernel_model.specs.ValidKernel.{IsValid}
-use Rattle.kernel_model.specs.ValidLists.{AreValid}
-use Rattle.resident_requests.specs.Requests.{RunsResident, TakesRequest}
-use Rattle.resident_requests.proofs.ResidentTurns.{takes-request}
-use Rattle.file_handler.specs.FileTurn.{file_service}
-use Rattle.pipe_handler.specs.PipeTurns.{pipe_service}
-use Rattle.cli_shell.specs.Modes.{awaited}
-use Rattle.kernel_steps.specs.Parts.{RunsFirst}
-use Rattle.kernel_steps.specs.ResidentSteps.{resident_step}
-use Rattle.kernel_steps.specs.Step.{turn, with_step}
-use Rattle.kernel_steps.specs.Stepped.{Stepped}
-use Rattle.kernel_steps.proofs.RunningCaller.{runs-calls, runs-resident, valid-runs}
-use Rattle.kernel_steps.proofs.StoredWords.{store-holds, valid-store}
-use Rattle.kernel_steps.proofs.TurnWays.{turn-guest, turn-nobody, turn-resident, turn-ways}
-use Rattle.valid_calls.proofs.GuestTurns.{guest_step-valid}
+use Rattle.machine_boot.specs.KernelCalls.KernelModel.HoldsLists.{HoldsLists}
+use Rattle.machine_boot.specs.KernelCalls.KernelModel.Image.{image, word_of}
+use Rattle.machine_boot.specs.KernelCalls.KernelModel.Kernel.{Kernel}
+use Rattle.machine_boot.specs.KernelCalls.KernelModel.Task.{is_guest_id}
+use Rattle.machine_boot.specs.KernelCalls.KernelModel.ValidKernel.{IsValid}
+use Rattle.machine_boot.specs.KernelCalls.KernelModel.ValidLists.{AreValid}
+use Rattle.machine_boot.specs.KernelSteps.KernelResidents.ResidentRequests.Requests.{RunsResident, TakesRequest}
+use Rattle.machine_boot.proofs.Shown.KernelResidents.ResidentRequests.ResidentTurns.{takes-request}
+use Rattle.machine_boot.specs.KernelSteps.KernelResidents.FileHandler.FileTurn.{file_service}
+use Rattle.machine_boot.specs.KernelSteps.KernelResidents.PipeHandler.PipeTurns.{pipe_service}
+use Rattle.machine_boot.specs.KernelSteps.CliShell.Modes.{awaited}
+use Rattle.machine_boot.specs.KernelSteps.Parts.{RunsFirst}
+use Rattle.machine_boot.specs.KernelSteps.ResidentSteps.{resident_step}
+use Rattle.machine_boot.specs.KernelSteps.Step.{turn, with_step}
+use Rattle.machine_boot.specs.KernelSteps.Stepped.{Stepped}
+use Rattle.machine_boot.proofs.Shown.KernelSteps.RunningCaller.{runs-calls, runs-resident, valid-runs}
+use Rattle.machine_boot.proofs.Shown.KernelSteps.StoredWords.{store-holds, valid-store}
+use Rattle.machine_boot.proofs.Shown.KernelSteps.TurnWays.{turn-guest, turn-nobody, turn-resident, turn-ways}
+use Rattle.valid_turns.proofs.GuestTurns.{guest_step-valid}
 use Rattle.valid_turns.proofs.ConsoleTurns.{console-valid}
 use Rattle.valid_turns.proofs.HandlerTurns.{request-valid}
 use Rattle.valid_turns.proofs.ReporterTurns.{reporter-valid}

@@ -5,48 +5,48 @@ use Rattle.std.proofs.lemmas.Bool.{eqb-true, le-leb}
 use Rattle.word_store.specs.Arithmetic.{signed}
 use Rattle.ram_disc.specs.Disc.{Disc}
 use Rattle.ram_disc.specs.DiscCalls.{after_delete, after_open_read, after_rename}
-use Rattle.packet_queue.specs.Queue.{no_queue}
-use Rattle.packet_queue.specs.QueueWords.{QueuedPacket}
-use Rattle.packet_queue.specs.declared.events.KernelEvent.{KernelEvent}
-use Rattle.packet_queue.specs.declared.events.KernelEvent.TheVariants.{Taken}
-use Rattle.kernel_model.specs.Changes.{with_queue}
-use Rattle.kernel_model.specs.Kernel.{Mode, Shell}
-use Rattle.kernel_model.specs.Kernel.Mode.{Prompt, Reading, Typing, Waiting}
-use Rattle.kernel_model.specs.Lists.{Lists, has_task}
-use Rattle.kernel_model.specs.Standing.{Standing, left_with, standing}
-use Rattle.kernel_model.specs.ValidQueues.{HasGuest}
-use Rattle.kernel_model.specs.ValidQueues.Place.{Work}
-use Rattle.kernel_model.specs.declared.numbers.TheConstants.{CONSOLE, SHELL, SHELL_PACKET}
-use Rattle.kernel_model.proofs.RootCounts.{highest-high}
-use Rattle.call_answers.specs.Made.{Made}
-use Rattle.task_calls.specs.ChangePri.{change_pri}
-use Rattle.task_calls.specs.HoldTask.{hold}
-use Rattle.task_calls.specs.ReleaseTask.{release}
-use Rattle.task_calls.specs.SetFlags.{set_flags}
-use Rattle.resident_requests.specs.Answers.{finished, returned}
-use Rattle.resident_requests.specs.Requests.{first_request, request_at, taken_from, work}
-use Rattle.resident_requests.specs.declared.requests.Request.{Request}
-use Rattle.resident_requests.specs.declared.requests.TheConstants.{UNKNOWN_TYPE}
-use Rattle.console_handler.specs.declared.requests.TheConstants.{READ_LINE}
-use Rattle.shell_lines.specs.Command.{command_of}
-use Rattle.shell_lines.specs.declared.commands.Command.{Command}
-use Rattle.shell_lines.specs.declared.commands.Command.TheVariants.{Break, ChangePriority, Delete, Examine, Finish, Hold, Map, Nothing, Release, Rename, Run, Start, Status, «Type»}
-use Rattle.shell_listings.specs.BlockLine.{block_line}
-use Rattle.shell_listings.specs.FileLines.{file_lines}
-use Rattle.shell_listings.specs.NumberLines.{error_line, task_number_line}
-use Rattle.shell_listings.specs.TaskLines.{task_lines}
-use Rattle.shell_programs.specs.ClearedTasks.{cleared}
-use Rattle.shell_programs.specs.ShellPacket.{post_events, posted, requested}
-use Rattle.shell_programs.specs.Standings.{left_by}
-use Rattle.shell_programs.specs.StartedProgram.{begun, start_program}
-use Rattle.shell_programs.specs.declared.programs.Priority.{Priority}
-use Rattle.shell_programs.specs.declared.programs.Priority.TheVariants.{AboveShell}
-use Rattle.shell_programs.proofs.KeptSteps.{started-there}
-use Rattle.cli_shell.specs.Commands.{after_run, after_start, executed, executed_if, line_executed, program_request, run, run_priority, start, with_program_begun, with_started}
-use Rattle.cli_shell.specs.Prompts.{answered, prompted, refused}
-use Rattle.cli_shell.specs.ShellTurn.{all_parts, ended, first_treated, result_of, return_code, returned_unknown, shell_turn, treated, treated_in, with_cleared}
-use Rattle.cli_shell.specs.TurnParts.{ShellTurn, and_then, begun as turn_begun, called, shown, with_disc}
-use Rattle.cli_shell.specs.TypedFiles.{goes_on, is_typed, opened, typed, typed_if, with_piece, with_stream_closed}
+use Rattle.machine_boot.specs.KernelCalls.PacketQueue.Queue.{no_queue}
+use Rattle.machine_boot.specs.KernelCalls.PacketQueue.QueueWords.{QueuedPacket}
+use Rattle.machine_boot.specs.KernelCalls.PacketQueue.declared.events.KernelEvent.{KernelEvent}
+use Rattle.machine_boot.specs.KernelCalls.PacketQueue.declared.events.KernelEvent.TheVariants.{Taken}
+use Rattle.machine_boot.specs.KernelCalls.KernelModel.Changes.{with_queue}
+use Rattle.machine_boot.specs.KernelCalls.KernelModel.Kernel.{Mode, Shell}
+use Rattle.machine_boot.specs.KernelCalls.KernelModel.Kernel.Mode.{Prompt, Reading, Typing, Waiting}
+use Rattle.machine_boot.specs.KernelCalls.KernelModel.Lists.{Lists, has_task}
+use Rattle.machine_boot.specs.KernelCalls.KernelModel.Standing.{Standing, left_with, standing}
+use Rattle.machine_boot.specs.KernelCalls.KernelModel.ValidQueues.{HasGuest}
+use Rattle.machine_boot.specs.KernelCalls.KernelModel.ValidQueues.Place.{Work}
+use Rattle.machine_boot.specs.KernelCalls.KernelModel.declared.numbers.TheConstants.{CONSOLE, SHELL, SHELL_PACKET}
+use Rattle.machine_boot.proofs.Shown.KernelCalls.KernelModel.RootCounts.{highest-high}
+use Rattle.machine_boot.specs.KernelCalls.CallAnswers.Made.{Made}
+use Rattle.machine_boot.specs.KernelCalls.TaskCalls.ChangePri.{change_pri}
+use Rattle.machine_boot.specs.KernelCalls.TaskCalls.HoldTask.{hold}
+use Rattle.machine_boot.specs.KernelCalls.TaskCalls.ReleaseTask.{release}
+use Rattle.machine_boot.specs.KernelCalls.TaskCalls.SetFlags.{set_flags}
+use Rattle.machine_boot.specs.KernelSteps.KernelResidents.ResidentRequests.Answers.{finished, returned}
+use Rattle.machine_boot.specs.KernelSteps.KernelResidents.ResidentRequests.Requests.{first_request, request_at, taken_from, work}
+use Rattle.machine_boot.specs.KernelSteps.KernelResidents.ResidentRequests.declared.requests.Request.{Request}
+use Rattle.machine_boot.specs.KernelSteps.KernelResidents.ResidentRequests.declared.requests.TheConstants.{UNKNOWN_TYPE}
+use Rattle.machine_boot.specs.KernelSteps.KernelResidents.ConsoleHandler.declared.requests.TheConstants.{READ_LINE}
+use Rattle.machine_boot.specs.KernelSteps.CliShell.ShellLines.Command.{command_of}
+use Rattle.machine_boot.specs.KernelSteps.CliShell.ShellLines.declared.commands.Command.{Command}
+use Rattle.machine_boot.specs.KernelSteps.CliShell.ShellLines.declared.commands.Command.TheVariants.{Break, ChangePriority, Delete, Examine, Finish, Hold, Map, Nothing, Release, Rename, Run, Start, Status, «Type»}
+use Rattle.machine_boot.specs.ShellListings.BlockLine.{block_line}
+use Rattle.machine_boot.specs.ShellListings.FileLines.{file_lines}
+use Rattle.machine_boot.specs.ShellListings.NumberLines.{error_line, task_number_line}
+use Rattle.machine_boot.specs.ShellListings.TaskLines.{task_lines}
+use Rattle.machine_boot.specs.KernelSteps.CliShell.ShellPrograms.ClearedTasks.{cleared}
+use Rattle.machine_boot.specs.KernelSteps.CliShell.ShellPrograms.ShellPacket.{post_events, posted, requested}
+use Rattle.machine_boot.specs.KernelSteps.CliShell.ShellPrograms.Standings.{left_by}
+use Rattle.machine_boot.specs.KernelSteps.CliShell.ShellPrograms.StartedProgram.{begun, start_program}
+use Rattle.machine_boot.specs.KernelSteps.CliShell.ShellPrograms.declared.programs.Priority.{Priority}
+use Rattle.machine_boot.specs.KernelSteps.CliShell.ShellPrograms.declared.programs.Priority.TheVariants.{AboveShell}
+use Rattle.machine_boot.proofs.Shown.ShellPrograms.KeptSteps.{started-there}
+use Rattle.machine_boot.specs.KernelSteps.CliShell.Commands.{after_run, after_start, executed, executed_if, line_executed, program_request, run, run_priority, start, with_program_begun, with_started}
+use Rattle.machine_boot.specs.KernelSteps.CliShell.Prompts.{answered, prompted, refused}
+use Rattle.machine_boot.specs.KernelSteps.CliShell.ShellTurn.{all_parts, ended, first_treated, result_of, return_code, returned_unknown, shell_turn, treated, treated_in, with_cleared}
+use Rattle.machine_boot.specs.KernelSteps.CliShell.TurnParts.{ShellTurn, and_then, begun as turn_begun, called, shown, with_disc}
+use Rattle.machine_boot.specs.KernelSteps.CliShell.TypedFiles.{goes_on, is_typed, opened, typed, typed_if, with_piece, with_stream_closed}
 
 -- the lists once the first packet was taken, the store that this leaves, and the event
 abbrev pub without_first : List QueuedPacket → Standing → Lists

@@ -3,55 +3,55 @@ use Rattle.std.proofs.Common.{◌≡◌, ℕ, ◌+◌, ◌≤◌, eqb, true, len
 use Rattle.std.specs.Prelude.{find}
 use Rattle.std.specs.List.{AllByRecursion}
 use Rattle.ram_disc.specs.Disc.{Disc}
-use Rattle.linked_list.specs.Places.{without_first as without_first_of}
-use Rattle.owned_words.specs.Owned.{written}
-use Rattle.packet_queue.specs.Queue.{no_queue}
-use Rattle.packet_queue.specs.QueueWords.{QueuedPacket}
-use Rattle.packet_queue.specs.declared.events.KernelEvent.{KernelEvent}
-use Rattle.kernel_model.specs.Changes.{AreUnowned, queue_of, with_queue, with_task}
-use Rattle.kernel_model.specs.HoldsLists.{HoldsLists}
-use Rattle.kernel_model.specs.Kernel.{Shell}
-use Rattle.kernel_model.specs.Lists.{Lists, has_task}
-use Rattle.kernel_model.specs.Running.{RunsAlive}
-use Rattle.kernel_model.specs.Standing.{Standing, standing}
-use Rattle.kernel_model.specs.Task.{Task}
-use Rattle.kernel_model.specs.ValidLists.{AreValid}
-use Rattle.kernel_model.specs.ValidQueues.{HasGuest, MayStand}
-use Rattle.kernel_model.specs.ValidQueues.Place.{Work}
-use Rattle.kernel_model.specs.declared.numbers.TheConstants.{CONSOLE, SHELL, SHELL_PACKET}
-use Rattle.kernel_model.proofs.PacketMoves.{unqueued-unowned}
-use Rattle.kernel_model.proofs.QueuePlaces.{place-stands}
-use Rattle.call_answers.specs.Guests.{guest_tests}
-use Rattle.call_answers.specs.Made.{Made, done}
-use Rattle.task_calls.specs.ChangePri.{change_pri, moved, priority_tests, with_new_priority}
-use Rattle.task_calls.specs.DeleteTask.{delete_task, deletion_tests, without_task}
-use Rattle.task_calls.specs.HoldTask.{hold, hold_tests, held}
-use Rattle.task_calls.specs.ReleaseTask.{release, release_tests, released}
-use Rattle.task_calls.specs.SetFlags.{flagged, set_flags}
-use Rattle.packet_calls.specs.Destinations.{queue_for}
-use Rattle.packet_calls.specs.PacketMoves.{sent_packet}
-use Rattle.packet_calls.specs.QueueWords.{unqueued}
-use Rattle.packet_calls.proofs.Departure.{departed-changed}
-use Rattle.packet_calls.proofs.SentPackets.{comes-valid}
-use Rattle.resident_requests.specs.Answers.{returned}
-use Rattle.resident_requests.specs.Requests.{RunsResident, IsForeign, request_at, work}
-use Rattle.resident_requests.proofs.ResidentTurns.{takes-request}
-use Rattle.kernel_boot.proofs.StandingKernels.{left-is}
-use Rattle.shell_programs.specs.ClearedTasks.{cleared}
-use Rattle.shell_programs.specs.KeptLists.{KeepsResidents}
-use Rattle.shell_programs.specs.ShellPacket.{HasPacket, posted, requested, request_words}
-use Rattle.shell_programs.specs.Standings.{left_by}
-use Rattle.shell_programs.specs.StartedProgram.{begun, start_program}
-use Rattle.shell_programs.specs.declared.programs.Priority.{Priority}
-use Rattle.shell_programs.proofs.KeptRules.{begun-packets, begun-residents, begun-runs, cleared-residents, cleared-runs, started-packets, started-residents, started-runs}
-use Rattle.shell_programs.proofs.PacketPlace.{packet-five, packet-kept, packet-residents}
-use Rattle.shell_programs.proofs.PostedPacket.{request-keeper}
-use Rattle.shell_programs.proofs.SentRules.{posted-is, posted-runs}
-use Rattle.cli_shell.specs.ShellTurn.{shell_turn}
-use Rattle.cli_shell.proofs.RunningShell.{GoesOn}
-use Rattle.cli_shell.proofs.TaskCalls.{IsTaskCall, flags-call, hold-call, priority-call, release-call}
-use Rattle.valid_calls.proofs.NoKeeper.{no-keeper, tells_nothing}
-use Rattle.valid_calls.proofs.TaskCalls.{change_pri-valid, delete_task-valid, hold-valid, release-valid, set_flags-valid}
+use Rattle.machine_boot.specs.KernelCalls.LinkedList.Places.{without_first as without_first_of}
+use Rattle.machine_boot.specs.KernelCalls.OwnedWords.Owned.{written}
+use Rattle.machine_boot.specs.KernelCalls.PacketQueue.Queue.{no_queue}
+use Rattle.machine_boot.specs.KernelCalls.PacketQueue.QueueWords.{QueuedPacket}
+use Rattle.machine_boot.specs.KernelCalls.PacketQueue.declared.events.KernelEvent.{KernelEvent}
+use Rattle.machine_boot.specs.KernelCalls.KernelModel.Changes.{AreUnowned, queue_of, with_queue, with_task}
+use Rattle.machine_boot.specs.KernelCalls.KernelModel.HoldsLists.{HoldsLists}
+use Rattle.machine_boot.specs.KernelCalls.KernelModel.Kernel.{Shell}
+use Rattle.machine_boot.specs.KernelCalls.KernelModel.Lists.{Lists, has_task}
+use Rattle.machine_boot.specs.KernelCalls.KernelModel.Running.{RunsAlive}
+use Rattle.machine_boot.specs.KernelCalls.KernelModel.Standing.{Standing, standing}
+use Rattle.machine_boot.specs.KernelCalls.KernelModel.Task.{Task}
+use Rattle.machine_boot.specs.KernelCalls.KernelModel.ValidLists.{AreValid}
+use Rattle.machine_boot.specs.KernelCalls.KernelModel.ValidQueues.{HasGuest, MayStand}
+use Rattle.machine_boot.specs.KernelCalls.KernelModel.ValidQueues.Place.{Work}
+use Rattle.machine_boot.specs.KernelCalls.KernelModel.declared.numbers.TheConstants.{CONSOLE, SHELL, SHELL_PACKET}
+use Rattle.machine_boot.proofs.Shown.KernelCalls.KernelModel.PacketMoves.{unqueued-unowned}
+use Rattle.machine_boot.proofs.Shown.KernelCalls.KernelModel.QueuePlaces.{place-stands}
+use Rattle.machine_boot.specs.KernelCalls.CallAnswers.Guests.{guest_tests}
+use Rattle.machine_boot.specs.KernelCalls.CallAnswers.Made.{Made, done}
+use Rattle.machine_boot.specs.KernelCalls.TaskCalls.ChangePri.{change_pri, moved, priority_tests, with_new_priority}
+use Rattle.machine_boot.specs.KernelCalls.TaskCalls.DeleteTask.{delete_task, deletion_tests, without_task}
+use Rattle.machine_boot.specs.KernelCalls.TaskCalls.HoldTask.{hold, hold_tests, held}
+use Rattle.machine_boot.specs.KernelCalls.TaskCalls.ReleaseTask.{release, release_tests, released}
+use Rattle.machine_boot.specs.KernelCalls.TaskCalls.SetFlags.{flagged, set_flags}
+use Rattle.machine_boot.specs.KernelCalls.PacketCalls.Destinations.{queue_for}
+use Rattle.machine_boot.specs.KernelCalls.PacketCalls.PacketMoves.{sent_packet}
+use Rattle.machine_boot.specs.KernelCalls.PacketCalls.QueueWords.{unqueued}
+use Rattle.machine_boot.proofs.Shown.KernelCalls.PacketCalls.Departure.{departed-changed}
+use Rattle.machine_boot.proofs.Shown.KernelCalls.PacketCalls.SentPackets.{comes-valid}
+use Rattle.machine_boot.specs.KernelSteps.KernelResidents.ResidentRequests.Answers.{returned}
+use Rattle.machine_boot.specs.KernelSteps.KernelResidents.ResidentRequests.Requests.{RunsResident, IsForeign, request_at, work}
+use Rattle.machine_boot.proofs.Shown.KernelResidents.ResidentRequests.ResidentTurns.{takes-request}
+use Rattle.machine_boot.proofs.Shown.KernelBoot.StandingKernels.{left-is}
+use Rattle.machine_boot.specs.KernelSteps.CliShell.ShellPrograms.ClearedTasks.{cleared}
+use Rattle.machine_boot.specs.KernelSteps.CliShell.ShellPrograms.KeptLists.{KeepsResidents}
+use Rattle.machine_boot.specs.KernelSteps.CliShell.ShellPrograms.ShellPacket.{HasPacket, posted, requested, request_words}
+use Rattle.machine_boot.specs.KernelSteps.CliShell.ShellPrograms.Standings.{left_by}
+use Rattle.machine_boot.specs.KernelSteps.CliShell.ShellPrograms.StartedProgram.{begun, start_program}
+use Rattle.machine_boot.specs.KernelSteps.CliShell.ShellPrograms.declared.programs.Priority.{Priority}
+use Rattle.machine_boot.proofs.Shown.ShellPrograms.KeptRules.{begun-packets, begun-residents, begun-runs, cleared-residents, cleared-runs, started-packets, started-residents, started-runs}
+use Rattle.machine_boot.proofs.Shown.ShellPrograms.PacketPlace.{packet-five, packet-kept, packet-residents}
+use Rattle.machine_boot.proofs.Shown.ShellPrograms.PostedPacket.{request-keeper}
+use Rattle.machine_boot.proofs.Shown.ShellPrograms.SentRules.{posted-is, posted-runs}
+use Rattle.machine_boot.specs.KernelSteps.CliShell.ShellTurn.{shell_turn}
+use Rattle.machine_boot.proofs.Shown.CliShell.RunningShell.{GoesOn}
+use Rattle.machine_boot.proofs.Shown.CliShell.TaskCalls.{IsTaskCall, flags-call, hold-call, priority-call, release-call}
+use Rattle.valid_turns.proofs.NoKeeper.{no-keeper, tells_nothing}
+use Rattle.valid_turns.proofs.TaskCalls.{change_pri-valid, delete_task-valid, hold-valid, release-valid, set_flags-valid}
 use Rattle.valid_turns.proofs.ClearedStores.{all-cleared}
 use Rattle.valid_turns.proofs.HandlerTurns.{finished-valid}
 use Rattle.valid_turns.proofs.LeftStores.{call-holds, left-holds}

@@ -6,46 +6,46 @@ use Rattle.hunk_text.specs.ModuleOfText.{Refusal, module_of}
 use Rattle.hunk_text.specs.declared.modules.Hunk.{Hunk}
 use Rattle.hunk_text.specs.declared.modules.Module.{Module}
 use Rattle.ram_disc.specs.Disc.{Disc, file_named}
-use Rattle.getvec_chain.specs.Run.{first_run, need}
-use Rattle.getvec_chain.specs.Take.{IsTaken, taken_store}
-use Rattle.getvec_chain.specs.declared.pieces.Run.{Run}
-use Rattle.hunk_loader.specs.HeldModules.{LoadedModule}
-use Rattle.hunk_loader.specs.ModuleExchanges.{hunk_words, loaded_module}
-use Rattle.hunk_loader.specs.ModuleRow.{last_word}
-use Rattle.hunk_loader.proofs.LoadedModules.{length-lengths}
-use Rattle.kernel_model.specs.Changes.{AreUnowned, with_modules}
-use Rattle.kernel_model.specs.HoldsLists.{HoldsLists}
-use Rattle.kernel_model.specs.Lists.{Lists, address_of_task}
-use Rattle.kernel_model.specs.Standing.{Standing}
-use Rattle.kernel_model.specs.ValidBlocks.{HasBlock, last_module_word}
-use Rattle.kernel_model.specs.ValidLists.{AreValid}
-use Rattle.kernel_model.specs.ValidQueues.{HasGuest}
-use Rattle.kernel_model.specs.declared.numbers.TheConstants.{SHELL}
-use Rattle.kernel_model.proofs.ModuleMoves.{new_module-valid}
-use Rattle.call_answers.specs.Guests.{GuestAt}
-use Rattle.call_answers.specs.Made.{Made, done}
-use Rattle.call_answers.specs.Refusals.{first_refusal}
-use Rattle.call_answers.proofs.FoundTask.{reads}
-use Rattle.call_answers.proofs.Refusals.{guest-at}
-use Rattle.call_answers.proofs.RunningTask.{there-at}
-use Rattle.block_calls.specs.FreeStore.{data_of_front, with_taken}
-use Rattle.block_calls.specs.Freevec.{with_given}
-use Rattle.block_calls.proofs.TakenStore.{HasTakenBlock, taken-changed}
-use Rattle.task_calls.specs.CreateTask.{creation_tests, new_task, number_of, with_created}
-use Rattle.module_calls.specs.LoadModule.{load_module, load_tests, loaded_at, with_loaded}
-use Rattle.module_calls.specs.UnloadModule.{unload_tests, without_module}
-use Rattle.module_calls.proofs.LoadedWords.{last-word}
-use Rattle.kernel_boot.specs.BegunTask.{with_begun}
-use Rattle.kernel_boot.specs.BootTasks.{load_text}
-use Rattle.kernel_boot.proofs.BegunTask.{begun-changed}
-use Rattle.shell_programs.specs.ClearedTasks.{unloaded}
-use Rattle.shell_programs.specs.Standings.{left_by}
-use Rattle.shell_programs.specs.StartedProgram.{after_creation, after_loading, begun, creation, load_found, load_program, priority_of, program_stack, start_program}
-use Rattle.shell_programs.specs.declared.programs.Priority.{Priority}
-use Rattle.shell_programs.proofs.ProgramNumbers.{may-create_program}
-use Rattle.valid_calls.proofs.ModuleCalls.{unload-valid}
-use Rattle.valid_calls.proofs.TaskCalls.{create_task-valid}
-use Rattle.valid_calls.proofs.TestedCalls.{unless-valid}
+use Rattle.machine_boot.specs.KernelCalls.GetvecChain.Run.{first_run, need}
+use Rattle.machine_boot.specs.KernelCalls.GetvecChain.Take.{IsTaken, taken_store}
+use Rattle.machine_boot.specs.KernelCalls.GetvecChain.declared.pieces.Run.{Run}
+use Rattle.machine_boot.specs.KernelCalls.HunkLoader.HeldModules.{LoadedModule}
+use Rattle.machine_boot.specs.KernelCalls.HunkLoader.ModuleExchanges.{hunk_words, loaded_module}
+use Rattle.machine_boot.specs.KernelCalls.HunkLoader.ModuleRow.{last_word}
+use Rattle.machine_boot.proofs.Shown.KernelCalls.KernelDispatch.HunkLoader.LoadedModules.{length-lengths}
+use Rattle.machine_boot.specs.KernelCalls.KernelModel.Changes.{AreUnowned, with_modules}
+use Rattle.machine_boot.specs.KernelCalls.KernelModel.HoldsLists.{HoldsLists}
+use Rattle.machine_boot.specs.KernelCalls.KernelModel.Lists.{Lists, address_of_task}
+use Rattle.machine_boot.specs.KernelCalls.KernelModel.Standing.{Standing}
+use Rattle.machine_boot.specs.KernelCalls.KernelModel.ValidBlocks.{HasBlock, last_module_word}
+use Rattle.machine_boot.specs.KernelCalls.KernelModel.ValidLists.{AreValid}
+use Rattle.machine_boot.specs.KernelCalls.KernelModel.ValidQueues.{HasGuest}
+use Rattle.machine_boot.specs.KernelCalls.KernelModel.declared.numbers.TheConstants.{SHELL}
+use Rattle.machine_boot.proofs.Shown.KernelCalls.KernelModel.ModuleMoves.{new_module-valid}
+use Rattle.machine_boot.specs.KernelCalls.CallAnswers.Guests.{GuestAt}
+use Rattle.machine_boot.specs.KernelCalls.CallAnswers.Made.{Made, done}
+use Rattle.machine_boot.specs.KernelCalls.CallAnswers.Refusals.{first_refusal}
+use Rattle.machine_boot.proofs.Shown.KernelCalls.CallAnswers.FoundTask.{reads}
+use Rattle.machine_boot.proofs.Shown.KernelCalls.CallAnswers.Refusals.{guest-at}
+use Rattle.machine_boot.proofs.Shown.KernelCalls.CallAnswers.RunningTask.{there-at}
+use Rattle.machine_boot.specs.KernelCalls.BlockCalls.FreeStore.{data_of_front, with_taken}
+use Rattle.machine_boot.specs.KernelCalls.BlockCalls.Freevec.{with_given}
+use Rattle.machine_boot.proofs.Shown.KernelCalls.BlockCalls.TakenStore.{HasTakenBlock, taken-changed}
+use Rattle.machine_boot.specs.KernelCalls.TaskCalls.CreateTask.{creation_tests, new_task, number_of, with_created}
+use Rattle.machine_boot.specs.KernelCalls.ModuleCalls.LoadModule.{load_module, load_tests, loaded_at, with_loaded}
+use Rattle.machine_boot.specs.KernelCalls.ModuleCalls.UnloadModule.{unload_tests, without_module}
+use Rattle.machine_boot.proofs.Shown.KernelCalls.ModuleCalls.LoadedWords.{last-word}
+use Rattle.machine_boot.specs.KernelBoot.BegunTask.{with_begun}
+use Rattle.machine_boot.specs.KernelBoot.BootTasks.{load_text}
+use Rattle.machine_boot.proofs.Shown.KernelBoot.BegunTask.{begun-changed}
+use Rattle.machine_boot.specs.KernelSteps.CliShell.ShellPrograms.ClearedTasks.{unloaded}
+use Rattle.machine_boot.specs.KernelSteps.CliShell.ShellPrograms.Standings.{left_by}
+use Rattle.machine_boot.specs.KernelSteps.CliShell.ShellPrograms.StartedProgram.{after_creation, after_loading, begun, creation, load_found, load_program, priority_of, program_stack, start_program}
+use Rattle.machine_boot.specs.KernelSteps.CliShell.ShellPrograms.declared.programs.Priority.{Priority}
+use Rattle.machine_boot.proofs.Shown.ShellPrograms.ProgramNumbers.{may-create_program}
+use Rattle.valid_turns.proofs.ModuleCalls.{unload-valid}
+use Rattle.valid_turns.proofs.TaskCalls.{create_task-valid}
+use Rattle.valid_turns.proofs.TestedCalls.{unless-valid}
 use Rattle.valid_turns.proofs.LeftStores.{call-holds, left-holds}
 
 -- ---- a module is loaded

@@ -1,28 +1,28 @@
 -- A packet that was taken comes to a queue again, and the lists stay valid.
 use Rattle.std.proofs.Common.{◌≡◌, ℕ, ◌+◌, false, true, Result, List, [], ◌∷◌, ◌++◌, append-nil, refl, sym, ap, ◌∙◌, subst, arith}
 use Rattle.std.specs.List.{AllByRecursion}
-use Rattle.owned_words.specs.Owned.{written}
-use Rattle.packet_queue.specs.QueueWords.{QueuedPacket}
-use Rattle.kernel_model.specs.Changes.{AreUnowned, queue_of, with_queue}
-use Rattle.kernel_model.specs.HoldsLists.{HoldsLists}
-use Rattle.kernel_model.specs.Lists.{Lists, has_task}
-use Rattle.kernel_model.specs.Owned.{owned}
-use Rattle.kernel_model.specs.ValidBlocks.{AreData}
-use Rattle.kernel_model.specs.ValidLists.{AreValid}
-use Rattle.kernel_model.specs.ValidQueues.{MayStand, Place, is_fault_packet, is_key_packet}
-use Rattle.kernel_model.specs.ValidQueues.Place.{Clock, Keyboard, Output, Pending, Work}
-use Rattle.kernel_model.proofs.PacketMoves.{unqueued-unowned, unqueued-valid}
-use Rattle.kernel_model.proofs.QueuePlaces.{place-stands, place-there, with_queue-residents, with_queue-size}
-use Rattle.packet_calls.specs.Destinations.{queue_for}
-use Rattle.packet_calls.specs.PacketMoves.{sent_packet}
-use Rattle.packet_calls.specs.QueueWords.{unqueued}
-use Rattle.packet_calls.proofs.Departure.{held-before, others-kept}
-use Rattle.packet_calls.proofs.SentPackets.{comes-valid}
-use Rattle.resident_requests.specs.Answers.{answered_packet, returned}
-use Rattle.resident_requests.specs.Requests.{RunsResident, request_at}
-use Rattle.resident_requests.specs.declared.requests.Request.{Request}
-use Rattle.resident_requests.proofs.RunningResident.{has_task-work, runs-work}
-use Rattle.console_handler.specs.Reads.{put_off}
+use Rattle.machine_boot.specs.KernelCalls.OwnedWords.Owned.{written}
+use Rattle.machine_boot.specs.KernelCalls.PacketQueue.QueueWords.{QueuedPacket}
+use Rattle.machine_boot.specs.KernelCalls.KernelModel.Changes.{AreUnowned, queue_of, with_queue}
+use Rattle.machine_boot.specs.KernelCalls.KernelModel.HoldsLists.{HoldsLists}
+use Rattle.machine_boot.specs.KernelCalls.KernelModel.Lists.{Lists, has_task}
+use Rattle.machine_boot.specs.KernelCalls.KernelModel.Owned.{owned}
+use Rattle.machine_boot.specs.KernelCalls.KernelModel.ValidBlocks.{AreData}
+use Rattle.machine_boot.specs.KernelCalls.KernelModel.ValidLists.{AreValid}
+use Rattle.machine_boot.specs.KernelCalls.KernelModel.ValidQueues.{MayStand, Place, is_fault_packet, is_key_packet}
+use Rattle.machine_boot.specs.KernelCalls.KernelModel.ValidQueues.Place.{Clock, Keyboard, Output, Pending, Work}
+use Rattle.machine_boot.proofs.Shown.KernelCalls.KernelModel.PacketMoves.{unqueued-unowned, unqueued-valid}
+use Rattle.machine_boot.proofs.Shown.KernelCalls.KernelModel.QueuePlaces.{place-stands, place-there, with_queue-residents, with_queue-size}
+use Rattle.machine_boot.specs.KernelCalls.PacketCalls.Destinations.{queue_for}
+use Rattle.machine_boot.specs.KernelCalls.PacketCalls.PacketMoves.{sent_packet}
+use Rattle.machine_boot.specs.KernelCalls.PacketCalls.QueueWords.{unqueued}
+use Rattle.machine_boot.proofs.Shown.KernelCalls.PacketCalls.Departure.{held-before, others-kept}
+use Rattle.machine_boot.proofs.Shown.KernelCalls.PacketCalls.SentPackets.{comes-valid}
+use Rattle.machine_boot.specs.KernelSteps.KernelResidents.ResidentRequests.Answers.{answered_packet, returned}
+use Rattle.machine_boot.specs.KernelSteps.KernelResidents.ResidentRequests.Requests.{RunsResident, request_at}
+use Rattle.machine_boot.specs.KernelSteps.KernelResidents.ResidentRequests.declared.requests.Request.{Request}
+use Rattle.machine_boot.proofs.Shown.KernelResidents.ResidentRequests.RunningResident.{has_task-work, runs-work}
+use Rattle.machine_boot.specs.KernelSteps.KernelResidents.ConsoleHandler.Reads.{put_off}
 use Rattle.valid_turns.proofs.LeftStores.{left-holds}
 
 -- ---- the lists with another queue

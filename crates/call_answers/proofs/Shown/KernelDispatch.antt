@@ -8,6 +8,8 @@ pub use Rattle.kernel_dispatch.proofs.Shown.OwnedWords
 pub use Rattle.kernel_dispatch.proofs.Shown.PacketQueue
 pub use Rattle.kernel_dispatch.proofs.Shown.TaskBlock
 pub use Rattle.kernel_dispatch.proofs.Shown.WordKinds
+pub use Rattle.kernel_dispatch.proofs.StartedTask
 pub use Rattle.kernel_dispatch.proofs.StateExchanges
 pub use Rattle.kernel_dispatch.proofs.SuspendedLists
+pub use Rattle.kernel_dispatch.proofs.TakenPacket
 pub use Rattle.kernel_dispatch.proofs.TaskStates

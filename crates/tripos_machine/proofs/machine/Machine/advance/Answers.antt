@@ -1,5 +1,5 @@
 use Rattle.std.proofs.Common.{◌∙◌, ap, subst, sym}
-use Rattle.machine_boot.specs.KernelCalls.KernelModel.NotedEvents.{NotesAll}
+use Rattle.history_law.specs.KernelCalls.KernelModel.NotedEvents.{NotesAll}
 use Rattle.tripos_machine.specs.Machine.{MachineView, view_of}
 use Rattle.tripos_machine.specs.Step.{run}
 use Rattle.tripos_machine.proofs.KindRuns.{bare-before, bare-bytes, bare-events, bare-last, bare-state, full-before, full-bytes, full-events, full-last, full-state}

@@ -1,3 +1,0 @@
-pub mod BootedLists
-pub mod BootMoves
-pub mod BootHistories

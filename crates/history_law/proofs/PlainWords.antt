@@ -1,0 +1,56 @@
+-- The plain words of a kernel after a step are those that nobody owns.
+use Rattle.std.proofs.Common.{◌≡◌, ℕ, List, None, get_or, length, ◌<◌, refl, sym, ap, ◌∙◌, subst, arith}
+use Rattle.session_text.specs.KernelDispatch.OwnedWords.Owned.{owners}
+use Rattle.session_text.specs.KernelDispatch.KernelModel.Image.{HasPlainWords, settled}
+use Rattle.session_text.specs.KernelDispatch.KernelModel.Kernel.{Kernel}
+use Rattle.session_text.specs.KernelDispatch.KernelModel.Lists.{Lists}
+use Rattle.session_text.specs.KernelDispatch.KernelModel.Owned.{owned}
+use Rattle.session_text.specs.KernelDispatch.KernelModel.ValidLists.{AreValid}
+use Rattle.packet_moves.specs.KernelSteps.Step.{dispatch, step, turn, with_step, with_store}
+use Rattle.packet_moves.proofs.Shown.KernelSteps.StepEnds.{step-ends}
+use Rattle.packet_moves.proofs.Shown.KernelSteps.StoredWords.{plain-stored}
+use Rattle.packet_moves.proofs.Shown.KernelSteps.TurnWays.{turn-ways}
+
+-- a kernel with the lists and the plain words of another
+pub plain-like : (i j : Kernel) → HasPlainWords i → j.lists ≡ i.lists → j.plain ≡ i.plain → HasPlainWords j
+plain-like i j h lists plain =
+    record {
+      size = ap length plain ∙ h.size ∙ sym (ap (λ (l : Lists). l.size) lists);
+      plain = λ a low none.
+          let p = h.plain a (omega (arith, low, ap (λ (l : Lists). l.size) lists)) (ap (λ l. owners a (owned l)) (sym lists) ∙ none) in
+          (p.0, ap (λ ps. get_or ps a None) plain ∙ p.1);
+      owned = λ a some. ap (λ ps. get_or ps a None) plain ∙ h.owned a (subst (λ l. 0 < owners a (owned l)) lists some);
+    }
+
+-- what a part leaves has plain words, if its lists are valid
+abbrev IsLeft : Kernel → Type 0
+IsLeft j = AreValid j.lists → HasPlainWords j
+
+stored-left : (s : List ℕ) (l : Lists) (k j : Kernel) → j.lists ≡ l → j.plain ≡ (with_store s l k).plain → IsLeft j
+stored-left s l k j lists plain v = plain-like (with_store s l k) j (plain-stored s l k (subst AreValid lists v).owns) lists plain
+
+turn-left : (k : Kernel) → HasPlainWords k → IsLeft (turn k).kernel
+turn-left k h =
+    turn-ways (λ x. IsLeft x.kernel) k
+    (record {
+      guest = λ e. stored-left _ _ k _ refl refl;
+      shell = λ e. stored-left _ _ k _ refl refl;
+      reporter = λ e. stored-left _ _ k _ refl refl;
+      console = λ e. stored-left _ _ k _ refl refl;
+      files = λ e. stored-left _ _ k _ refl refl;
+      pipes = λ e f. stored-left _ _ k _ refl refl;
+      nobody = λ e v. h;
+    })
+
+pub dispatch-left : (k : Kernel) → IsLeft (dispatch k).kernel
+unfolding dispatch settled
+dispatch-left k = stored-left _ _ k _ refl refl
+
+pub step-plain : (k : Kernel) → HasPlainWords k → IsLeft (step k).kernel
+step-plain k h =
+    step-ends IsLeft k
+    (record {
+      stopped = λ e v. h;
+      stops = λ e f. turn-left (with_step k) (plain-like k (with_step k) h refl refl);
+      whole = λ e f. dispatch-left _;
+    })

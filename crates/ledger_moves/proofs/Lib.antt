@@ -1,5 +1,0 @@
-pub mod Ledgers
-pub mod ValidLedgers
-pub mod Moves
-pub mod CallMoves
-pub mod SentEvents

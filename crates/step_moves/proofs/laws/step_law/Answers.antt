@@ -1,5 +1,0 @@
-use Rattle.step_moves.proofs.StepMoved.{step-moved}
-use Rattle.step_moves.proofs.laws.step_law.Goals as goal
-
-pub returns : goal.returns
-returns c = λ due k v moves. step-moved due k (record { moves = moves; valid = v })

@@ -1,3 +1,0 @@
-pub mod KeptDiscs
-pub mod FoundNames
-pub mod ValidCalls
