@@ -6,5 +6,4 @@ pub use Rattle.packet_moves.specs.KernelMachine
 pub use Rattle.packet_moves.specs.KernelSteps
 pub use Rattle.packet_moves.specs.MachineBoot
 pub use Rattle.packet_moves.specs.ShellListings
-pub use Rattle.packet_moves.specs.EventHistory
 pub use Rattle.packet_moves.specs as PacketMoves

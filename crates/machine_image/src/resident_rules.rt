@@ -14,6 +14,8 @@ ghost use Rattle.machine_image.specs.Rules.{ResidentsKeep, lists_of};
 use crate::store_rules::version_of;
 use image_text::{Image, Mode, SavedStream};
 use kernel_check::{console_stands, has_residents, highest_of};
+use ram_disc::codes::SHELL_STREAM;
+use tripos_machine::numbers::FIRST_GUEST;
 use word_store::Store;
 
 /// The most bytes that are typed ahead.
@@ -21,12 +23,6 @@ const MOST_AHEAD: usize = 128;
 
 /// The most bytes of the shell's line.
 const MOST_LINE: usize = 120;
-
-/// The shell's stream.
-const SHELL_STREAM: u32 = 17;
-
-/// The lowest number of a guest.
-const FIRST_GUEST: u32 = 5;
 
 /// Whether the console's line, the shell, open streams, pipes and what is typed ahead are as the lists have it.
 pub(crate) fn residents_keep(image: &Image) -> bool

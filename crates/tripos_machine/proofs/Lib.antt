@@ -1,4 +1,5 @@
 pub mod BootedSteps
+pub mod Histories
 pub mod KindRuns
 pub mod PlainSteps
 pub mod QuietSteps

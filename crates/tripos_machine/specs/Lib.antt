@@ -5,6 +5,7 @@ pub mod Machine
 pub mod Runs
 pub mod Breakpoints
 pub mod Quiet
+pub mod Histories
 -- shown to the crates above
 pub use Rattle.bare_machine.specs as BareMachine
 pub use Rattle.bare_machine.specs.CintExec

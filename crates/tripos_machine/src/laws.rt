@@ -1,12 +1,17 @@
 // Laws of runs.
-ghost use Rattle.std.specs.Prelude.{◌≡◌, ◌≢◌, ◌+◌, ◌≤◌, None, length, ℕ};
+ghost use Rattle.std.specs.Prelude.{◌≡◌, ◌≢◌, ◌+◌, ◌≤◌, None, Ok, length, ℕ};
+ghost use Rattle.session_text.specs.Canonical.{IsLawful};
+ghost use Rattle.session_text.specs.declared.sessions.Session.{Session};
 ghost use Rattle.bare_machine.specs.Run.{run as bare_run};
 ghost use Rattle.bare_machine.specs.State.{BareState};
 ghost use Rattle.history_law.specs.KernelCalls.KernelModel.Kernel.{Kernel};
+ghost use Rattle.history_law.specs.KernelCalls.KernelModel.Ranges.{most_steps};
 ghost use Rattle.history_law.specs.KernelSteps.Step.{run as kernel_run};
+ghost use Rattle.tripos_machine.specs.Boot.{boot};
+ghost use Rattle.tripos_machine.specs.Histories.{HasBootHistory, HasHistory};
 ghost use Rattle.tripos_machine.specs.State.{IsSound, State, steps_of, stop_of, words_of};
 ghost use Rattle.tripos_machine.specs.State.State.{Bare, Full};
-ghost use Rattle.tripos_machine.specs.Step.{and_then, of_bare, of_kernel, quietly, run, step};
+ghost use Rattle.tripos_machine.specs.Step.{Stepped, and_then, of_bare, of_kernel, quietly, run, step};
 
 /// A run is that of the machine's kind. It may be cut in two; a machine that has stopped stays as it is; and a run takes at most
 /// its steps, and all of them where the machine has not stopped then.
@@ -27,4 +32,15 @@ pub fn step_law()
         → length (words_of (step s).state) ≡ length (words_of s) }
     ensures count { (s : State) → stop_of s ≡ None
         → steps_of (step s).state ≡ steps_of s + 1 }
+{}
+
+/// The history law: nothing that was sent is lost. The events of each run of a machine between steps are a history of its packets: each
+/// packet that is accepted is taken once, dequeued once or still queued, on its queue, in its order and from its sender; due ticks are
+/// kept; and after each step the first ready task runs. So are the events of a boot and of the steps after it, from no packet on.
+pub fn history_law()
+    ensures run { (n : ℕ) (s : State) → IsSound s → steps_of s + n ≤ most_steps
+        → HasHistory n s }
+    ensures boot { (n : ℕ) (s : Session) (x : Stepped) → IsLawful s → boot s ≡ Ok x
+        → n ≤ most_steps
+        → HasBootHistory n x }
 {}

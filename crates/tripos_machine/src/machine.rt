@@ -3,6 +3,7 @@ ghost use Rattle.std.specs.Prelude.{◌≡◌, ◌<◌, ◌+◌, ◌-◌, ◌≤
 ghost use Rattle.history_law.specs.KernelCalls.KernelModel.NotedEvents.{NotesAll};
 ghost use Rattle.history_law.specs.KernelCalls.KernelModel.Ranges.{most_steps};
 ghost use Rattle.tripos_machine.specs.Breakpoints.{Avoids, IsPlain, IsPlainStep};
+ghost use Rattle.tripos_machine.specs.Histories.{HasHistory};
 ghost use Rattle.tripos_machine.specs.Quiet.{AreQuiet, IsIdle};
 ghost use Rattle.tripos_machine.specs.State.{IsBare, IsSound, StandFor, StandsFull, State, keys_of, regs_of, running_of, steps_of, stop_of, typed, words_of};
 ghost use Rattle.tripos_machine.specs.Step.{boot_events, run, step};
@@ -157,16 +158,18 @@ impl Machine {
     }
 
     /// Takes one step, and answers why the machine has stopped, if it has. A machine that has stopped before stays as it is,
-    /// but for its output, which is empty then. The list of its keys stays.
+    /// but for its output, which is empty then. The list of its keys stays. The events that are noted are a history of its packets.
     pub fn step<L: EventLog>(&mut self, log: &mut L) -> Option<Stop>
         requires { steps_of self.old.state < most_steps }
         ensures state { self.new.state ≡ (step self.old.state).state }
         ensures output { self.new.output ≡ (step self.old.state).bytes }
         ensures events { NotesAll (L.noted log.old) (L.noted log.new) (L.has_failed log.old)
             (L.has_failed log.new) (step self.old.state).events }
+        ensures history { HasHistory 1 self.old.state }
         ensures stop { result ≡ stop_of self.new.state }
         ensures keys { self.new.keys ≡ self.old.keys }
     {
+        self.know_sound();
         match &mut self.kind {
             Kind::Bare(machine) => machine.step(),
             Kind::Full(machine) => machine.step(log),
@@ -206,7 +209,7 @@ impl Machine {
 
     /// Takes some steps, at most `most`, of a machine that has not stopped, up to the step that stops it or the first that leads to a
     /// breakpoint, if there is one: the byte address of an instruction that a guest executes next. The answer is how many these are;
-    /// the output is what they wrote. The list of its keys stays.
+    /// the output is what they wrote. The list of its keys stays. The events that are noted are a history of its packets.
     pub fn advance<L: EventLog>(&mut self, most: u64, breakpoints: &[u32], log: &mut L) -> u64
         requires goes { stop_of self.old.state ≡ None }
         requires some { 0 < most }
@@ -217,13 +220,21 @@ impl Machine {
         ensures output { self.new.output ≡ (run result self.old.state).bytes }
         ensures events { NotesAll (L.noted log.old) (L.noted log.new) (L.has_failed log.old)
             (L.has_failed log.new) (run result self.old.state).events }
+        ensures history { HasHistory result self.old.state }
         ensures last { stop_of (run (result - 1) self.old.state).state ≡ None }
         ensures before { Avoids breakpoints.now result self.old.state }
         ensures keys { self.new.keys ≡ self.old.keys }
     {
+        self.know_sound();
         match &mut self.kind {
             Kind::Bare(machine) => machine.advance(most, breakpoints),
             Kind::Full(machine) => machine.advance(most, breakpoints, log),
         }
+    }
+    // Tells that its state is one between steps.
+    pub(crate) fn know_sound(&self)
+        ensures { IsSound self.now.state }
+    {
+        self.kernel_parts();
     }
 }

@@ -1,7 +1,8 @@
 // Runs of a machine of either kind.
-ghost use Rattle.std.specs.Prelude.{◌≡◌, ◌+◌, ◌≤◌, false};
+ghost use Rattle.std.specs.Prelude.{◌≡◌, ◌+◌, ◌≤◌, false, ℕ};
 ghost use Rattle.history_law.specs.KernelCalls.KernelModel.Ranges.{most_steps};
 ghost use Rattle.tp_io.specs.Pending.{Gathers};
+ghost use Rattle.tripos_machine.specs.Histories.{HasHistory};
 ghost use Rattle.tripos_machine.specs.Runs.{EndsRun};
 ghost use Rattle.tripos_machine.specs.State.{steps_of};
 ghost use Rattle.tripos_machine.specs.Step.{run};
@@ -13,7 +14,8 @@ use tp_io::{Output, Sink, SinkFault, gather};
 impl Machine {
     /// Takes at most n steps, whose console bytes are gathered, and whose events are noted. The answer is why the machine has
     /// stopped. `SinkFault` comes only where the sink's count of faults rose, or the log, which had not failed, has failed; then
-    /// the machine is as it is after the steps taken so far. The list of its keys stays.
+    /// the machine is as it is after the steps taken so far. The list of its keys stays. However many of the steps are taken, their
+    /// events are a history of its packets.
     pub fn run<K: Sink, L: EventLog>(
         &mut self,
         n: u64,
@@ -26,11 +28,13 @@ impl Machine {
         ensures end { EndsRun n self.old.state self.new.state (L.noted log.old) (L.noted log.new)
             (L.has_failed log.old) (L.has_failed log.new)
             (K.faults out.old) (K.faults out.new) result }
+        ensures history { (i : ℕ) → i ≤ n → HasHistory i self.old.state }
         ensures bytes { Gathers (K.holds out.old) (K.holds out.new) pending.old pending.new
             (run n self.old.state).bytes result }
         ensures later { K.faults out.old ≤ K.faults out.new }
         ensures keys { self.new.keys ≡ self.old.keys }
     {
+        self.know_sound();
         let mut taken = 0;
         while taken < n {
             if let Some(stop) = self.stop() {

@@ -4,3 +4,4 @@ pub mod FrontPlace
 pub mod NotedRuns
 pub mod OneAnswer
 pub mod ContinuedRuns
+pub mod TracedHistories

@@ -8,3 +8,4 @@ pub mod Input
 pub mod Cause
 pub mod Exit
 pub mod TracedRun
+pub mod TracedHistory

@@ -17,7 +17,7 @@ mod saving;
 mod session;
 pub mod status;
 
-pub use laws::{answer_law, continued_law};
+pub use laws::{answer_law, continued_law, trace_law};
 pub use program::{run, tripos};
 pub use status::Status;
 

@@ -1,7 +1,8 @@
-use Rattle.std.proofs.Common.{◌∙◌, ap, subst, sym}
+use Rattle.std.proofs.Common.{◌∙◌, ap, arith, subst, sym}
 use Rattle.history_law.specs.KernelCalls.KernelModel.NotedEvents.{NotesAll}
 use Rattle.tripos_machine.specs.Machine.{MachineView, view_of}
 use Rattle.tripos_machine.specs.Step.{run}
+use Rattle.tripos_machine.proofs.Histories.{has-history}
 use Rattle.tripos_machine.proofs.KindRuns.{bare-before, bare-bytes, bare-events, bare-last, bare-state, full-before, full-bytes, full-events, full-last, full-state}
 use Rattle.tripos_machine.proofs.machine.Machine.advance.Goals as goal
 use Rattle.tripos_machine.proofs.machine.Machine.advance.Goals.{in-Bare, in-Full}
@@ -61,4 +62,11 @@ returns-clause-last g c =
       | in-Full w ↦
           let here = sym (ap (λ (v : MachineView). v.state) c.self.view_is) ∙ ap (λ k. (view_of k).state) w.in-Full.is in
           full-last _ _ w.result-is _ _ here w.advance-in-Full.ensures.last
+    ]
+
+pub returns-clause-history : goal.returns-clause-history
+returns-clause-history g c =
+    elim c.match-self.branch [
+      | in-Bare w ↦ has-history c.match-self.result c.args.self.now.state c.know_sound.ensures (omega (arith, c.requires.steps, w.result-is, w.advance.ensures.most))
+      | in-Full w ↦ has-history c.match-self.result c.args.self.now.state c.know_sound.ensures (omega (arith, c.requires.steps, w.result-is, w.advance-in-Full.ensures.most))
     ]

@@ -1,6 +1,7 @@
 use Rattle.std.proofs.Common.{◌≡◌, ◌∙◌, ◌+◌, ap, arith, inl, inr, refl, sym}
 use Rattle.std.proofs.lemmas.Result.{err_from_is_err_and}
 use Rattle.tripos_machine.specs.State.{steps_of}
+use Rattle.tripos_machine.proofs.Histories.{has-history}
 use Rattle.tripos_machine.proofs.StateRuns.{run-steps}
 use Rattle.tripos_machine.proofs.RunParts.{cut-gathered, cut-more, cut-then, ends-all, ends-stopped, gathered-all, gathered-ended, gathered-none, gathered-then, no-stop, ran-all, ran-ended, ran-none, ran-then, rose-later}
 use Rattle.tripos_machine.proofs.machine.Machine.run.Goals as goal
@@ -87,3 +88,15 @@ returns-clause-bytes g c =
     let kept = c.loop-taken.invariant in
     let end : c.loop-taken.taken ≡ c.args.n = omega (arith, kept.few, c.loop-taken-test.false) in
     gathered-all c.loop-taken.taken c.args.n c.args.self.now.state _ _ _ _ end kept.gathered
+
+pub returns-in-Some-clause-history : goal.returns-in-Some-clause-history
+returns-in-Some-clause-history g c = λ i few. has-history i c.args.self.now.state c.know_sound.ensures (omega (arith, c.requires.steps, few))
+
+pub returns-in_err-gather-clause-history : goal.returns-in_err-gather-clause-history
+returns-in_err-gather-clause-history g c = λ i few. has-history i c.args.self.now.state c.know_sound.ensures (omega (arith, c.requires.steps, few))
+
+pub returns-then-failed-clause-history : goal.returns-then-failed-clause-history
+returns-then-failed-clause-history g c = λ i few. has-history i c.args.self.now.state c.know_sound.ensures (omega (arith, c.requires.steps, few))
+
+pub returns-clause-history : goal.returns-clause-history
+returns-clause-history g c = λ i few. has-history i c.args.self.now.state c.know_sound.ensures (omega (arith, c.requires.steps, few))
