@@ -2,8 +2,9 @@
 ; empty. The run ends with fault 5, and the dump shows the store as it was.
 ;
 ; A fault stops the machine. The instruction that faults changes nothing, so the
-; registers and the words are those from before it, and the closing line names the
-; fault and its place: here 5, a division by zero, and the byte address of DIV.
+; words of the dump are those from before it, and the closing line names the fault
+; and its place: here 5, a division by zero, and the byte address of DIV. The
+; debugger shows the registers: CONT goes up to the fault, and REGS writes them.
 
         L0              ; P!4 := 0, the sum
         SP4

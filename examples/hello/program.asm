@@ -13,5 +13,4 @@
         SP 4            ; a0 04    P!4 := 0, the code to quit with
         SYS             ; 91       stops the machine
 
-; Try this: write a second letter before the program quits, and give the session
-; the steps that it then needs.
+; Try this: write a second letter before the program quits.

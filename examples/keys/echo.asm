@@ -43,5 +43,5 @@ ask:    SP4             ; qpkt(packet)
 ; A device is named by the packets that it returns, as a task is. So both packets
 ; can be sent again as they are.
 ;
-; Try this: look at the trace. The task waits from step 47 to step 300, and the
-; keys of step 300 come in one after another, one a step.
+; Try this: give the debugger the lines STEP 46, STEP 1 and STEP 253, with TASKS
+; behind each. The task waits from step 47 to step 300, when the next keys come.

@@ -1,4 +1,5 @@
-; A client: sends a request of type 9, and then adds 9. It writes both results of each.
+; A client: sends a request of type 9, adds 9, and asks for the sum. It writes both results of each. Before
+; each both hold 99.
 
 GLOBAL 1 start
 start:  LM1             ; the packet is globals 20 to 25: its link is -1,
@@ -10,41 +11,25 @@ start:  LM1             ; the packet is globals 20 to 25: its link is -1,
         L 9
         LF ask
         K8
-        LG 23
-        LF print
-        K8
-        L 32
-        LF wrch
-        K8
-        LG 24
-        LF print
-        K8
-        L 10
-        LF wrch
-        K8
         L 9
         SP 12
         L 1
         LF ask
         K8
-        LG 23
-        LF print
-        K8
-        L 32
-        LF wrch
-        K8
-        LG 24
-        LF print
-        K8
-        L 10
-        LF wrch
+        L 0
+        SP 12
+        L 2
+        LF ask
         K8
         RTN
 
-; Sends the packet, with the type in A and the argument in P!4, and waits for it.
+; Sends the packet, with the type in A and the argument in P!4, waits for it, and writes both results.
 ask:    SG 22
         LP4
         SG 25
+        L 99
+        SG 23
+        SG 24
         LLG 20          ; qpkt(packet)
         SP4
         L 11
@@ -53,6 +38,18 @@ ask:    SG 22
         L10             ; taskwait()
         SP3
         SYS
+        LG 23
+        LF print
+        K8
+        L 32
+        LF wrch
+        K8
+        LG 24
+        LF print
+        K8
+        L 10
+        LF wrch
+        K8
         RTN
 
 ; Writes the number in A in decimal; before one below 0 stands a -.
