@@ -3,7 +3,8 @@
 ; A string is kept as BCPL keeps it: a byte with the number of its characters,
 ; and then the characters, four bytes to a word. GBYT loads byte A of the bytes
 ; that begin at word B, so byte 0 is the length, and byte 1 the first character.
-; There is no directive for a string: DB gives one byte.
+; There is no directive for a string: DB gives one byte. bin/asm makes such lines
+; of DS "text".
 
         L 19            ; P!3 := 19, the call that writes a character
         SP3
