@@ -9,7 +9,8 @@ function read_codes(line, w) {
 }
 
 function begin_words(n, w, i) {
-    n = split("quit getvec freevec createtask deletetask changepri setflags testflags hold release taskwait qpkt dqpkt unload createco deleteco callco resumeco cowait wrch muldiv addmodule", w, " ")
+    n = split("quit getvec freevec createtask deletetask changepri setflags testflags hold release taskwait qpkt dqpkt unload " \
+        "createco deleteco callco resumeco cowait wrch muldiv addmodule", w, " ")
     for (i = 1; i <= n; i++) call_name[i - 1] = w[i]
     n = split("1 1 1 3 1 2 2 1 1 1 0 1 2 1 2 1 2 2 1 1 3 2", w, " ")
     for (i = 1; i <= n; i++) arguments[i - 1] = w[i]
@@ -67,7 +68,7 @@ function says(from, p, type, code) {
     if (from >= 1 && from <= 4 && packet_word(p, 3) == 4294967295) {
         code = packet_word(p, 4)
         is_refusal = 1
-        return ", " ((from, type) in request ? request[from, type] " is " : "") "refused with code " code ": " (("request", code) in meaning ? meaning["request", code] : "?")
+        return ", " ((from, type) in request ? request[from, type] " is " : "") "refused with code " code ": " meaning["request", code]
     }
     return ", results " signed(packet_word(p, 3)) " and " signed(packet_word(p, 4))
 }
@@ -84,7 +85,8 @@ function is_wanted(kind, about) {
 
 function write_line(kind, about, words) {
     if (!is_wanted(kind, about)) return
-    printf "%6d %5s %4s %7s  %-8s %s\n", step, (bare ? "-" : int(step / period)), (ran_now > 0 ? ran_now : "-"), ((bare || ran_now >= 5) && kind != "run" ? pc_now : "-"), kind, words
+    printf "%6.0f %5s %4s ", step, (bare ? "-" : int(step / period)), (ran_now > 0 ? ran_now : "-")
+    printf "%7s  %-8s %s\n", ((bare || ran_now >= 5) && kind != "run" ? pc_now : "-"), kind, words
 }
 
 function call_line(what, w, n, i, args, words, kind) {
@@ -108,7 +110,12 @@ function call_line(what, w, n, i, args, words, kind) {
 
 # A packet comes into a queue: it is sent, or goes back to who sent it.
 function accept_line(q, p, from, w, kind, words) {
-    if (q == 103) { write_line("send", " " from " 3 ", "packet " p " of " who(from) " waits for a line at the console"); out_to[p] = 3; out_from[p] = from; return }
+    if (q == 103) {
+        write_line("send", " " from " 3 ", "packet " p " of " who(from) " waits for a line at the console")
+        out_to[p] = 3
+        out_from[p] = from
+        return
+    }
     if (out_to[p] == from && out_from[p] == q) {
         is_refusal = 0
         words = "packet " p " from " who(from) " back to " who(q) says(from, p)
@@ -154,8 +161,14 @@ function write_event(kind, what, w) {
     else if (kind == "key") write_line(kind, "", "the key \"" shown_byte(what + 0) "\" comes in")
     else if (kind == "fault") write_line(kind, "", "code " w[1] " at " w[2] ": " meaning["fault", w[1]] "; the task is held")
     else if (kind == "accept") accept_line(w[2] + 0, w[3], w[4] + 0)
-    else if (kind == "take") { if (w[2] + 0 >= 0 && w[2] != 103) write_line(kind, " " w[2] " " w[4] + 0 " ", who(w[2] + 0) " takes packet " w[3] " of " who(w[4] + 0)) }
-    else if (kind == "dequeue") { write_line(kind, " " w[2] " ", "packet " w[3] " is taken back from " who(w[2] + 0)); delete out_to[w[3]]; delete out_from[w[3]] }
+    else if (kind == "take") {
+        if (w[2] + 0 >= 0 && w[2] != 103)
+            write_line(kind, " " w[2] " " w[4] + 0 " ", who(w[2] + 0) " takes packet " w[3] " of " who(w[4] + 0))
+    } else if (kind == "dequeue") {
+        write_line(kind, " " w[2] " ", "packet " w[3] " is taken back from " who(w[2] + 0))
+        delete out_to[w[3]]
+        delete out_from[w[3]]
+    }
     else if (kind == "run") write_line(kind, " " w[2] " ", w[2] == 0 ? "nobody runs" : named(w[2] + 0) " runs")
 }
 
@@ -173,7 +186,8 @@ function write_head(i, w) {
     print shown_name ": steps " first " to " last (bare ? ", a bare machine" : ", a tick every " period " steps")
     for (i = 1; i <= task_lines; i++) {
         split(task_line[i], w, " ")
-        print "task " w[1] (w[1] in program_of ? ", " program_of[w[1]] : "") ", priority " w[2] ", " state_word[w[3]] (task_line[i] ~ / held/ ? ", held" : "")
+        print "task " w[1] (w[1] in program_of ? ", " program_of[w[1]] : "") ", priority " w[2] ", " state_word[w[3]] \
+            (task_line[i] ~ / held/ ? ", held" : "")
     }
     print "  step  tick task      pc  kind     what"
 }

@@ -1,11 +1,12 @@
-# The work of bin/log: what is to be asked of the debugger, and what its answers say. The debugger is asked three times, each time for
-# all steps in one run, since only the answers to one run tell where to look in the next:
+# The work of bin/log: what is to be asked of the debugger, and what its answers say. The debugger is asked three times, each time
+# for all steps in one run, since only the answers to one run tell where to look in the next:
 #     want=places     asks for the registers and the heads of the devices' queues after each step
 #     want=words      asks for each instruction, the frame's arguments, and the answer of a caller that lost the processor
 #     want=events     puts the kernel's events to their steps, and asks for the packets that they name
 #     want=log        writes the log
 # What is asked is a list of lines, of which each has a known number of lines as its answer:
-#     S step          one step;  J step count: up to this step;  R: registers;  T: tasks, and registers;  D byte: the instruction;  M address count: words
+#     S step: one step;  J step count: up to this step;  R: registers;  T: tasks, and registers;  D byte: the instruction;
+#     M address count: words
 # room is the folder of the answers, first and last are the steps, and skip is how many events come before them.
 
 function number(hex, i, n) {
@@ -231,7 +232,7 @@ function find_answer(words, w) {
     if (number(w[11]) > 0 && number(w[11]) < 256) fault = number(w[11]) " " number(w[12])
 }
 
-function pass_call(t, w, n, i, what, taken) {
+function pass_call(t, w, n, i, what, taken, refused) {
     split(mem[step - 1, register(step - 1, "P") + 3], w, " ")
     n = number(w[1])
     what = n
@@ -250,10 +251,11 @@ function pass_call(t, w, n, i, what, taken) {
         waits = !taken
         return
     }
-    note("call", what " " answer " " code_b " " (n != 19 && n != 20 && n != 0 && answer == 0 && code_b > 0 && code_b < 29 ? "refused" : n == 0 ? "stop" : "done"))
-    if (n == 11 && !(answer == 0 && code_b > 0)) if (event[now] ~ ("^accept -?[0-9]+ " number(w[2]) " " t "$")) pass()
+    refused = n != 0 && n != 19 && n != 20 && answer == 0 && code_b > 0 && code_b < 29
+    note("call", what " " answer " " code_b " " (refused ? "refused" : n == 0 ? "stop" : "done"))
+    if (n == 11 && !refused) if (event[now] ~ ("^accept -?[0-9]+ " number(w[2]) " " t "$")) pass()
     if (n == 12 && next_is("dequeue")) pass()
-    if (n == 11 && answer == 0) { packets[step] = packets[step] " " number(w[2]) }
+    if (n == 11 && refused) packets[step] = packets[step] " " number(w[2])
 }
 
 function pass_turn(t) {
@@ -335,6 +337,8 @@ function ask_packets(step, n, p, i) {
 }
 
 BEGIN {
+    # numbers up to 4294967295 are written in full, which not every awk does by itself
+    CONVFMT = OFMT = "%.0f"
     for (i = 0; i < 256; i++) code[sprintf("%c", i)] = i
     read_session()
     if (want == "places") ask_places()

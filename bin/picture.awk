@@ -57,6 +57,8 @@ function set_state(lane, what) {
 
 # ---- reading
 
+BEGIN { CONVFMT = "%.0f" }
+
 NR == 1 {
     title = $0
     from_step = $0; sub(/.*: steps /, "", from_step); sub(/ .*/, "", from_step)
@@ -116,12 +118,18 @@ function read_packet(task, kind, words, p, a, b, rest) {
     }
 }
 
+function hold(lane) {
+    held_from[lane] = now_state[lane] == "run" ? "ready" : now_state[lane]
+    set_state(lane, "held")
+}
+
 function place(lane) {
     return lane == -1 ? "the clock" : lane == -2 ? "the keyboard" : lane == -3 ? "the output" : "task " lane
 }
 
 # A packet comes to a task: if it waits, it is ready.
 function wakes(lane) {
+    if (now_state[lane] == "held") held_from[lane] = "ready"
     if (lane > 0 && (now_state[lane] == "wait" || now_state[lane] == "dead" || !(lane in now_state))) set_state(lane, "ready")
 }
 
@@ -140,8 +148,8 @@ function read_event(task, kind, words, lane, p, n) {
     else if (kind == "call") {
         if (words ~ /^taskwait\(\) waits/) { leaving = lane; leaves = "wait" }
         else if (words !~ /^(taskwait|qpkt|wrch)\(/) { n = words; sub(/ = -1$/, "", n); say(n, ""); mark(lane, "dot") }
-        if (words ~ /^hold\(/) { n = words; sub(/^hold\(/, "", n); set_state(n + 0, "held") }
-        if (words ~ /^release\(/) { n = words; sub(/^release\(/, "", n); set_state(n + 0, "ready") }
+        if (words ~ /^hold\(/) { n = words; sub(/^hold\(/, "", n); hold(n + 0) }
+        if (words ~ /^release\(/) { n = words; sub(/^release\(/, "", n); set_state(n + 0, n + 0 in held_from ? held_from[n + 0] : "ready") }
     } else if (kind == "console") {
         if (lane == "" || words_output()) say("writes " words, "")
         else { say("writes " words, ""); arrow(lane, -3, "write") }
@@ -170,7 +178,10 @@ function lane_of_rest(words) {
 
 function read_run(lane, words, t, name) {
     t = words ~ /^nobody/ ? 0 : lane_of(words)
-    if (running > 0 && running != t) set_state(running, leaving == running ? leaves : running < 5 ? "wait" : now_state[running] == "held" ? "held" : "ready")
+    if (running > 0 && running != t) {
+        if (leaving == running) set_state(running, leaves)
+        else if (now_state[running] != "held") set_state(running, running < 5 ? "wait" : "ready")
+    }
     if (t > 0) {
         set_state(t, "run")
         if (words ~ /\(.*\)/) {
@@ -205,7 +216,11 @@ function box(x, y, width, height, look) {
 
 function sort_lanes(i, j, t) {
     for (i = 2; i <= tasks; i++)
-        for (j = i; j > 1 && priority_of[task_at[j]] + 0 > priority_of[task_at[j - 1]] + 0; j--) { t = task_at[j]; task_at[j] = task_at[j - 1]; task_at[j - 1] = t }
+        for (j = i; j > 1 && priority_of[task_at[j]] + 0 > priority_of[task_at[j - 1]] + 0; j--) {
+            t = task_at[j]
+            task_at[j] = task_at[j - 1]
+            task_at[j - 1] = t
+        }
     if (-1 in used) lane_at[++lanes] = -1
     if (-2 in used) lane_at[++lanes] = -2
     for (i = 1; i <= tasks; i++) if (task_at[i] in used) lane_at[++lanes] = task_at[i]
@@ -396,5 +411,5 @@ END {
     if (ended != "") { y += 4; text(text_x, y + 9, ended, "words"); y += 12 }
     for (i = 1; i <= aboves; i++) print above[i]
     draw_legend()
-    print "HEIGHT " y
+    printf "HEIGHT %.1f\n", y
 }

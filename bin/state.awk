@@ -45,7 +45,7 @@ function walk_tasks(a) {
 }
 
 # Which of the session's files a module is, by its hunks' words; data may have changed since it was loaded.
-function file_of(m, i, j, k, h, n, t, size, moved, a, same, count) {
+function file_of(m, i, j, k, h, n, t, size, moved, a, same, count, at_word) {
     for (i = 1; i <= files; i++) {
         n = split(text[file_at[i]], t, " ")
         a = m + 2 + word[m + 1]
@@ -55,8 +55,13 @@ function file_of(m, i, j, k, h, n, t, size, moved, a, same, count) {
             if (word[m + 2 + h] != size) break
             split("", moved)
             j = k + 2 + size
-            while (number(t[j]) == 1001) { for (n_moved = number(t[j + 1]); n_moved > 0; n_moved--) moved[number(t[j + 1 + n_moved])] = 1; j += 2 + number(t[j + 1]) }
-            for (n_moved = 0; n_moved < size; n_moved++) if (!(n_moved in moved)) { count += 1; same += word[a + n_moved] == number(t[k + 2 + n_moved]) }
+            for (; number(t[j]) == 1001; j += 2 + number(t[j + 1]))
+                for (at_word = number(t[j + 1]); at_word > 0; at_word--) moved[number(t[j + 1 + at_word])] = 1
+            for (at_word = 0; at_word < size; at_word++) {
+                if (at_word in moved) continue
+                count += 1
+                same += word[a + at_word] == number(t[k + 2 + at_word])
+            }
             a += size; h += 1; k = j
         }
         if (h == word[m + 1] && number(t[k]) == 1002 && same >= 0.75 * count) return file_at[i]
@@ -72,7 +77,8 @@ function walk_modules(m, h, i, a) {
         a = m + 2 + word[m + 1]
         for (i = 0; i < word[m + 1]; i++) {
             hunks += 1
-            hunk_from[hunks] = a; hunk_to[hunks] = a + word[m + 2 + i]; hunk_name[hunks] = module_name[m]; hunk_number[hunks] = word[m + 1] > 1 ? i + 1 : 0
+            hunk_from[hunks] = a; hunk_to[hunks] = a + word[m + 2 + i]
+            hunk_name[hunks] = module_name[m]; hunk_number[hunks] = word[m + 1] > 1 ? i + 1 : 0
             a += word[m + 2 + i]
         }
     }
@@ -141,7 +147,12 @@ function where(t, pc, words) {
     if (t >= 5) say(words)
 }
 
-function nobody(i, s, dead, held, waits, others) {
+# A part of a list of counts: so many that do this, with a comma before it where a part stands before.
+function part(count, before, one, many) {
+    return count ? (before ? ", " : "") count " " (count == 1 ? one : many) : ""
+}
+
+function nobody(i, s, dead, held, waits) {
     for (i = 1; i <= tasks; i++) {
         s = word[at_task[i] + 4]
         if (int(s / 2) % 2) held += 1
@@ -149,7 +160,9 @@ function nobody(i, s, dead, held, waits, others) {
         else waits += 1
     }
     if (dead == tasks) return "all tasks are dead"
-    return (waits ? waits (waits == 1 ? " task waits" : " tasks wait") : "") (dead ? (waits ? ", " : "") dead (dead == 1 ? " is dead" : " are dead") : "") (held ? (waits || dead ? ", " : "") held (held == 1 ? " is held" : " are held") : "") (nothing_comes() ? "; nothing can ever come: no packet is at the clock, and no key is to come" : "")
+    return part(waits, 0, "task waits", "tasks wait") part(dead, waits, "is dead", "are dead") \
+        part(held, waits + dead, "is held", "are held") \
+        (nothing_comes() ? "; nothing can ever come: no packet is at the clock, and no key is to come" : "")
 }
 
 function keys_left(s, n) {
@@ -187,7 +200,8 @@ function tell_packets(t, p, n, q, i) {
         if (q == t) say("    its packet " p " is its own")
         else if (q == -1) say("    its packet " p " is at the clock, due at tick " word[p + 4])
         else if (q == -2) say("    its packet " p " is at the keyboard; " (keys_left() ? "the next key comes at step " next_key() : "no key is to come"))
-        else if (p in on_queue) say("    its packet " p (on_queue[p] == 103 ? " waits for a line at the console" : " is on the queue of " task_name(q)))
+        else if (p in on_queue && on_queue[p] == 103) say("    its packet " p " waits for a line at the console")
+        else if (p in on_queue) say("    its packet " p " is on the queue of " task_name(q))
         else say("    its packet " p " is with " task_name(q) ", which took it and has not sent it back")
     }
     if (!n) say("    no packet of it is anywhere: it goes on only if another task sends it one")
@@ -208,11 +222,19 @@ function tell_task(i, a, t, s, n, j) {
         else say("    it has not begun, or ended before the last 100,000 steps")
     } else if (s >= 8 && s < 12) say("    it goes on at " place_of(word[a + 16]))
     else if (s >= 4 && t >= 5 && n == 0) tell_packets(t)
-    else if (s >= 4 && t < 5) say("    it waits for requests" (t == 3 && 271 in on_queue ? "; its packet 271 is at the keyboard" : t == 1 && 279 in on_queue ? "; its packet 279 waits for a line at the console" : ""))
+    else if (s >= 4 && t < 5) tell_resident(t)
     n = t >= 5 ? find_packets(t, 0) : 0
     for (j = 1; j <= n; j++) say("    it has packet " found[j] " of " task_name(out_from[found[j]]))
     if (word[a + 5] != 0) say("    its flags are " word[a + 5])
-    if (word[a + 21] != 0) say("    fault " word[a + 21] % 256 " at " word[a + 22] ": " meaning["fault", word[a + 21] % 256] (word[a + 21] >= 256 ? "; it was reported" : "; it is not reported yet"))
+    if (word[a + 21] != 0)
+        say("    fault " word[a + 21] % 256 " at " word[a + 22] ": " meaning["fault", word[a + 21] % 256] \
+            (word[a + 21] >= 256 ? "; it was reported" : "; it is not reported yet"))
+}
+
+function tell_resident(t) {
+    if (t == 1 && 279 in on_queue) say("    it waits for a line at the console, by its packet 279")
+    else if (t == 1) tell_packets(t)
+    else say("    it waits for requests" (t == 3 && 271 in on_queue ? ", and for keys by its packet 271" : ""))
 }
 
 # ---- the lists
@@ -220,7 +242,9 @@ function tell_task(i, a, t, s, n, j) {
 function tell_queue(name, head, n, i, line) {
     n = queue(head)
     if (n == 0) return
-    for (i = 1; i <= n; i++) line = line (i > 1 ? " -> " : "") queued[i] " of " who(word[queued[i] + 1]) (head == 105 ? ", due at tick " word[queued[i] + 4] : ", type " word[queued[i] + 2])
+    for (i = 1; i <= n; i++)
+        line = line (i > 1 ? " -> " : "") queued[i] " of " who(word[queued[i] + 1]) \
+            (head == 105 ? ", due at tick " word[queued[i] + 4] : ", type " word[queued[i] + 2])
     say("  " name ": " line)
     told += 1
 }
@@ -278,7 +302,9 @@ function tell_coroutines(i, a, c, p) {
         if (word[a + 17] == 0) continue
         for (c = word[a + 17]; c != 0; c = word[c + 2]) {
             p = word[c + 1]
-            say("  " c " of " task_name(id[i]) ", its function at " place_of(word[c + 3]) ": " (word[a + 18] == c ? "runs" : p == 0 ? "is not active" : "has called another") (p == 0 ? "" : p == a ? ", called by the root" : ", called by " p))
+            say("  " c " of " task_name(id[i]) ", its function at " place_of(word[c + 3]) ": " \
+                (word[a + 18] == c ? "runs" : p == 0 ? "is not active" : "has called another") \
+                (p == 0 ? "" : p == a ? ", called by the root" : ", called by " p))
         }
     }
 }
@@ -287,7 +313,8 @@ function tell_chain(i, a) {
     say("chain")
     for (i = 1; i <= tasks; i++) {
         a = at_task[i]
-        say("  " (i == 1 ? "101 -> " : "    -> ") a ": " task_name(id[i]) ", priority " word[a + 2] ", state " word[a + 4] ", " state_of(word[a + 4]) (word[102] == a ? "  <- 102, the running task" : ""))
+        say("  " (i == 1 ? "101 -> " : "    -> ") a ": " task_name(id[i]) ", priority " word[a + 2] ", state " word[a + 4] ", " \
+            state_of(word[a + 4]) (word[102] == a ? "  <- 102, the running task" : ""))
     }
     if (!tasks) say("  no tasks")
 }
