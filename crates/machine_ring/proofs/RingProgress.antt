@@ -1,15 +1,13 @@
 -- How far the rounds of a ring have come.
-use Rattle.std.proofs.Common.{[], ◌≡◌, ℕ, ◌+◌, ◌-◌, ◌≤◌, ◌++◌, Bool, false, true, Option, Some, None, List, cond, length, refl, sym, ap, ◌∙◌, subst, arith, length-append, length-drop}
-use Rattle.std.specs.Prelude.{◌==◌, unwrap_or}
-use Rattle.std.proofs.lemmas.Bool.{and_parts}
-use Rattle.ring_link.specs.Receivers.{is_taken}
+use Rattle.std.proofs.Common.{[], ◌≡◌, ℕ, ◌+◌, ◌-◌, ◌≤◌, ◌++◌, Bool, Option, Some, None, List, length, sym, ap, ◌∙◌, subst, arith, length-append, length-drop}
+use Rattle.std.specs.Prelude.{unwrap_or}
 use Rattle.tp_io.specs.Pending.{IsCut, IsGathered}
 use Rattle.tp_io.proofs.GatheredTexts.{IsCut-more, IsCut-then, IsGathered-nothing, IsGathered-then}
 use Rattle.tripos_machine.specs.KernelCalls.KernelModel.declared.stops.Stop.{Stop}
 use Rattle.tripos_machine.specs.KernelCalls.KernelModel.declared.stops.Stop.TheVariants.{Steps}
 use Rattle.tripos_machine.specs.Runs.{end_of_run}
 use Rattle.tripos_machine.specs.State.{State, stop_of}
-use Rattle.machine_ring.specs.Links.{Link, byte_taken, carried, carried_byte, carries_back}
+use Rattle.machine_ring.specs.Links.{Link, carried, carried_byte, carries_back}
 use Rattle.machine_ring.specs.Outcomes.{outcome_of}
 use Rattle.machine_ring.specs.Rings.{Left, Ring, first_ring}
 use Rattle.machine_ring.specs.Rounds.{Rounded, after_answer, after_round, first_of, has_room, right_after, round, shown_by, stepped, with_typing}
@@ -74,18 +72,6 @@ module _ (r : Ring) (goes : stop_of r.right ≡ None) (room : Bool) (there : roo
   pub shown-is : shown_by r.link.terms.right_steps s ≡ (run 1 r).shown
   unfolding round
   shown-is = ap (shown_by r.link.terms.right_steps) typed-right ∙ sym (ap (λ (x : Rounded). x.shown) (run-one r goes))
-
--- a byte is taken only where there is room
-taken-room : (received : ℕ) (room : Bool) (o : Option (ℕ × ℕ)) (byte : ℕ) → byte_taken received room o ≡ Some byte → room ≡ true
-taken-room received room None byte is = cc is
-taken-room received room (Some numbered) byte is = on (is_taken received numbered.0 room) refl is
-  where
-    on : (b : Bool) → is_taken received numbered.0 room ≡ b → cond b (Some numbered.1) None ≡ Some byte → room ≡ true
-    on true taken is = (and_parts (numbered.0 == received) room taken).1
-    on false taken is = cc is
-
-pub carried-room : (first : Option ℕ) (room : Bool) (k : Link) (byte : ℕ) → carried_byte first room k ≡ Some byte → room ≡ true
-carried-room first room k byte is = taken-room k.received room _ byte is
 
 -- ---- the end
 

@@ -1,5 +1,5 @@
 -- The events of a machine of either kind are a history of its packets.
-use Rattle.std.proofs.Common.{◌≡◌, ℕ, ◌+◌, ◌≤◌, Bool, true, false, cond, Result, Ok, Err, [], refl, sym, subst, ◌∙◌}
+use Rattle.std.proofs.Common.{◌≡◌, ℕ, ◌+◌, ◌≤◌, Bool, true, false, Result, Ok, Err, [], refl, sym, subst, ◌∙◌}
 use Rattle.hunk_text.specs.TextReader.Refusal.{Refusal}
 use Rattle.session_text.specs.Canonical.{IsLawful}
 use Rattle.session_text.specs.declared.sessions.Session.{Session}

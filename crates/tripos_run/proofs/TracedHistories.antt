@@ -1,7 +1,6 @@
 -- The lines that `trace` writes are those of a history.
-use Rattle.std.proofs.Common.{◌≡◌, ℕ, ◌≤◌, ◌++◌, List, Result, Ok, append-nil, leb-true, ap, ◌∙◌}
+use Rattle.std.proofs.Common.{◌≡◌, ℕ, ◌≤◌, ◌++◌, List, Ok, append-nil, leb-true, ap, ◌∙◌}
 use Rattle.hunk_text.specs.TextReader.Lines.{lines_of as text_lines}
-use Rattle.hunk_text.specs.TextReader.Refusal.{Refusal}
 use Rattle.session_text.specs.Canonical.{IsLawful}
 use Rattle.session_text.specs.SessionOfText.{session_of}
 use Rattle.session_text.specs.declared.sessions.Session.{Session}

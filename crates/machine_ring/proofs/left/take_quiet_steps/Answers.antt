@@ -1,4 +1,4 @@
-use Rattle.std.proofs.Common.{◌≡◌, ◌+◌, ◌≤◌, ap, arith}
+use Rattle.std.proofs.Common.{◌+◌, ◌≤◌, ap, arith}
 use Rattle.tripos_machine.specs.State.{steps_of}
 use Rattle.tripos_machine.proofs.StateRuns.{run-steps}
 use Rattle.machine_ring.proofs.QuietSteps.{bytes-then, none-taken, taken-then}

@@ -10,7 +10,7 @@ use Rattle.machine_ring.specs.Rings.{Ring}
 use Rattle.machine_ring.specs.Rounds.{Rounded, first_of, right_after, shown_by, with_typing}
 use Rattle.machine_ring.specs.Runs.{run}
 use Rattle.machine_ring.specs.declared.terms.Terms.{Terms}
-use Rattle.machine_ring.proofs.RingProgress.{acknowledged-few, carried-room, cut-then, end-left, ended-early, gathered-first, gathered-then, outcome-is, outstanding-none, ran-first, ran-then, round-is, shown-is}
+use Rattle.machine_ring.proofs.RingProgress.{acknowledged-few, cut-then, end-left, ended-early, gathered-first, gathered-then, outcome-is, outstanding-none, ran-first, ran-then, round-is, shown-is}
 use Rattle.machine_ring.proofs.rings.Ring.run.Goals as goal
 use Rattle.machine_ring.proofs.rings.Ring.run.Goals.{in-None-carry, in-Some-carry}
 
