@@ -12,7 +12,7 @@ use tp_io::{Output, Sink, SinkFault, gather_pieces};
 use word_store::Store;
 
 /// Gathers a line for each block, in rising order; none on a machine without a kernel.
-pub(crate) fn gather_blocks<K: Sink>(
+pub fn gather_blocks<K: Sink>(
     machine: &Machine,
     out: &mut K,
     pending: &mut Output,

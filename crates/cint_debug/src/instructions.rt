@@ -9,7 +9,7 @@ use tp_io::{Output, Sink, SinkFault};
 use word_store::Store;
 
 /// Gathers at most so many lines of the listing of a store, from a byte address on.
-pub(crate) fn gather_instructions<K: Sink>(
+pub fn gather_instructions<K: Sink>(
     store: &Store,
     from: u32,
     count: u32,

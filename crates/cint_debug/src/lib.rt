@@ -1,24 +1,27 @@
 // The debugger: lines that take steps and show what a machine is, and what they write.
 #![tactic(auto)]
 
-mod blocks;
+pub mod blocks;
 mod breakpoints;
 pub mod histories;
-mod instructions;
+pub mod instructions;
 pub mod laws;
 mod limits;
 pub mod lines;
 pub mod orders;
-mod places;
+pub mod places;
 mod queues;
 mod runs;
 pub mod sessions;
 mod tasks;
 pub mod words;
 
+pub use blocks::gather_blocks;
 pub use histories::debug_back;
+pub use instructions::gather_instructions;
 pub use lines::{check_lines, goes_back};
 pub use orders::{BadLine, Order};
+pub use places::gather_registers;
 pub use sessions::debug;
 pub use words::gather_word;
 

@@ -78,7 +78,7 @@ fn gather_at<K: Sink>(
 }
 
 /// Gathers the registers, and the task that runs.
-pub(crate) fn gather_registers<K: Sink>(
+pub fn gather_registers<K: Sink>(
     machine: &Machine,
     out: &mut K,
     pending: &mut Output,
