@@ -6,8 +6,9 @@ use Rattle.hunk_text.specs.TextReader.Refusal.{Refusal}
 use Rattle.image_print.specs.ImageText.ImageOfText.{image_of}
 use Rattle.image_print.specs.ImageText.declared.images.Image.{Image}
 use Rattle.image_print.proofs.Shown.SavedMachines.{which-machine}
-use Rattle.tripos_run.specs.Answer.{Answer}
-use Rattle.tripos_run.specs.InputAnswers.{IsAnswer, IsAnswerWithin, IsInputAnswer, IsJobAnswer, IsTextAnswer, limit}
+use Rattle.program_answers.specs.Answer.{Answer}
+use Rattle.program_answers.specs.Input.{IsAnswerWithin, IsInputAnswer, limit}
+use Rattle.tripos_run.specs.InputAnswers.{IsAnswer, IsJobAnswer, IsTextAnswer}
 use Rattle.tripos_run.specs.SavedAnswers.{IsResumed, IsResumedImage, resumed_answer}
 use Rattle.tripos_run.specs.Words.{job_of}
 use Rattle.tripos_run.specs.declared.commands.Command.{Command}
@@ -41,11 +42,11 @@ one-of-text Save text a b p q = the-one p q
 one-of-text Ring text a b p q = the-one p q
 one-of-text Resume text a b p q = one-resumed (length (lines_of text)) (image_of text) a b p q
 
-one-within : (within : Bool) (command : Command) (input : List ℕ) (a b : Answer) → IsAnswerWithin within command input a → IsAnswerWithin within command input b → a ≡ b
+one-within : (within : Bool) (command : Command) (input : List ℕ) (a b : Answer) → IsAnswerWithin within (IsTextAnswer command) input a → IsAnswerWithin within (IsTextAnswer command) input b → a ≡ b
 one-within true command input a b p q = one-of-text command input a b p q
 one-within false command input a b p q = the-one p q
 
-one-of-input : (command : Command) (input : List ℕ) (a b : Answer) → IsInputAnswer command input a → IsInputAnswer command input b → a ≡ b
+one-of-input : (command : Command) (input : List ℕ) (a b : Answer) → IsInputAnswer (IsTextAnswer command) input a → IsInputAnswer (IsTextAnswer command) input b → a ≡ b
 unfolding IsInputAnswer
 one-of-input command input a b p q = one-within (nat_le (length input) limit) command input a b p q
 

@@ -14,7 +14,8 @@ use Rattle.cint_debug.specs.TriposMachine.Step.{Stepped, run}
 use Rattle.cint_debug.proofs.Shown.TriposMachine.Histories.{has-boot-history}
 use Rattle.trace_log.specs.Traced.{lines_of}
 use Rattle.tripos_run.specs.declared.reports.Report.TheVariants.{Events}
-use Rattle.tripos_run.specs.Answer.{Answer, machine_answer, session_answer}
+use Rattle.program_answers.specs.Answer.{Answer}
+use Rattle.tripos_run.specs.Answer.{machine_answer, session_answer}
 use Rattle.tripos_run.specs.Texts.{closing_text}
 use Rattle.tripos_run.specs.TracedHistory.{TracesHistory}
 

@@ -1,7 +1,5 @@
 -- The program's answer to its words and its input: a status, and the bytes that it writes.
 use Rattle.std.specs.Prelude.{ℕ, ◌≡◌, ◌+◌, ◌-◌, drop, List, [], ◌++◌, length, Option, Some, None, Result, Ok, Err, if◌then◌else◌}
-use Rattle.std.specs.Io.KnownBytes.{Appends, Keeps}
-use Rattle.tp_io.specs.Write.{AppendsPrefix}
 use Rattle.hunk_text.specs.TextReader.Lines.{lines_of as text_lines}
 use Rattle.hunk_text.specs.TextReader.Refusal.{Refusal, refusal}
 use Rattle.hunk_text.specs.declared.modules.Module.{Module}
@@ -12,10 +10,6 @@ use Rattle.session_text.specs.declared.sessions.Session.{Session}
 use Rattle.session_generator.specs.Summary.{summary}
 use Rattle.cint_debug.specs.TriposMachine.KernelCalls.KernelModel.declared.stops.Stop.{Stop}
 use Rattle.cint_debug.specs.TriposMachine.KernelCalls.KernelModel.declared.stops.Stop.TheVariants.{Steps, Quit, Finish, Fault}
-use Rattle.tripos_run.specs.declared.reports.Report.{Report}
-use Rattle.tripos_run.specs.declared.reports.Report.TheVariants.{Console, Events, Sums, Words}
-use Rattle.tripos_run.specs.declared.status.Status.{Status}
-use Rattle.tripos_run.specs.declared.status.Status.TheVariants.{Done, GuestFault, Usage, Refused, NoBoot, ReadFault, WriteFault, TooLong, WantMemory}
 use Rattle.cint_debug.specs.TriposMachine.KernelCalls.PacketQueue.declared.events.KernelEvent.{KernelEvent}
 use Rattle.trace_log.specs.Traced.{lines_of}
 use Rattle.cint_debug.specs.TriposMachine.Boot.{boot}
@@ -25,13 +19,12 @@ use Rattle.cint_debug.specs.TriposMachine.Step.{Stepped, quietly, run}
 use Rattle.cint_debug.specs.declared.orders.BadLine.{BadLine}
 use Rattle.cint_debug.specs.Debugged.{Told, debugged}
 use Rattle.cint_debug.specs.OrderLines.{first_bad, goes_back}
-use Rattle.tripos_run.specs.Texts.{closing_text, dump_text, no_boot_text, refused_text}
-
-pub record Answer : Type 0 where
-  -- the exit status
-  pub status : Status
-  -- the bytes that are written
-  pub bytes : List ℕ
+use Rattle.program_answers.specs.Answer.{Answer, no_boot_answer, refused_answer}
+use Rattle.program_answers.specs.declared.status.Status.{Status}
+use Rattle.program_answers.specs.declared.status.Status.TheVariants.{Done, GuestFault}
+use Rattle.tripos_run.specs.declared.reports.Report.{Report}
+use Rattle.tripos_run.specs.declared.reports.Report.TheVariants.{Console, Events, Sums, Words}
+use Rattle.tripos_run.specs.Texts.{closing_text, dump_text}
 
 -- ---- runs
 
@@ -99,16 +92,10 @@ closed_answer report before x = record {
 abbrev pub run_answer : Report → RunEnd → Answer
 run_answer report x = closed_answer report (text_before report x) x
 
-abbrev pub no_boot_answer : Refusal → Answer
-no_boot_answer r = record { status = NoBoot; bytes = no_boot_text r }
-
 -- the run of a machine, where its session boots
 abbrev pub machine_answer : Report → ℕ → Result Stepped Refusal → Answer
 machine_answer report go (Ok x) = run_answer report (end_after x.events (run go x.state))
 machine_answer report go (Err r) = no_boot_answer r
-
-abbrev pub refused_answer : Refusal → Answer
-refused_answer r = record { status = Refused; bytes = refused_text r }
 
 abbrev pub session_answer : Report → Result Session Refusal → Answer
 session_answer report (Ok s) = machine_answer report s.go (boot s)
@@ -157,16 +144,3 @@ made_answer (Err r) = refused_answer r
 abbrev pub listed : Result Module Refusal → Result (List ℕ) Refusal
 listed (Ok m) = Ok (listing_of_module m.hunks)
 listed (Err r) = Err r
-
--- What a call has written where it ends with a status. A fault of the source and want of memory come before anything is
--- written, a fault of the sink leaves a prefix, and every other status is the answer's.
-abbrev pub Answers : Answer → Option (List ℕ) → Option (List ℕ) → Status → Type 0
-Answers a old new Done = (a.status ≡ Done) × Appends old new a.bytes
-Answers a old new GuestFault = (a.status ≡ GuestFault) × Appends old new a.bytes
-Answers a old new Usage = (a.status ≡ Usage) × Appends old new a.bytes
-Answers a old new Refused = (a.status ≡ Refused) × Appends old new a.bytes
-Answers a old new NoBoot = (a.status ≡ NoBoot) × Appends old new a.bytes
-Answers a old new TooLong = (a.status ≡ TooLong) × Appends old new a.bytes
-Answers a old new WriteFault = AppendsPrefix old new a.bytes
-Answers a old new ReadFault = Keeps old new
-Answers a old new WantMemory = Keeps old new

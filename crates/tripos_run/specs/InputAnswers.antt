@@ -1,22 +1,22 @@
 -- Which answer the program's words and its input get.
-use Rattle.std.specs.Prelude.{ℕ, ◌≡◌, Bool, true, false, List, length, Option, Some, None, nat_le}
-use Rattle.std.specs.Io.KnownBytes.{Keeps}
+use Rattle.std.specs.Prelude.{ℕ, ◌≡◌, List, length, Option, Some, None}
 use Rattle.hunk_text.specs.ModuleOfText.{module_of}
 use Rattle.listing_law.specs.CintAsm.Assembly.{assembled}
 use Rattle.session_text.specs.SessionOfText.{session_of}
 use Rattle.session_generator.specs.Generated.{generated}
-use Rattle.tripos_run.specs.Answer.{Answer, Answers, debugging_answer, listed, made_answer, session_answer}
+use Rattle.program_answers.specs.Answer.{Answer}
+use Rattle.program_answers.specs.Input.{IsInputAnswer}
+use Rattle.program_answers.specs.declared.status.Status.TheVariants.{Usage}
+use Rattle.tripos_run.specs.Answer.{debugging_answer, listed, made_answer, session_answer}
 use Rattle.tripos_run.specs.RingAnswers.{ring_answer}
 use Rattle.tripos_run.specs.SavedAnswers.{IsResumedText, saving_answer}
-use Rattle.tripos_run.specs.Texts.{too_long_text, usage_text}
+use Rattle.tripos_run.specs.Texts.{usage_text}
 use Rattle.tripos_run.specs.Words.{job_of}
 use Rattle.tripos_run.specs.declared.commands.Command.{Command}
 use Rattle.tripos_run.specs.declared.commands.Command.TheVariants.{Run as RunCommand, Dump as DumpCommand, Trace as TraceCommand, Asm as AsmCommand, Disasm as DisasmCommand, Debug as DebugCommand, Save as SaveCommand, Resume as ResumeCommand, Ring as RingCommand}
 use Rattle.tripos_run.specs.declared.commands.Job.{Job}
 use Rattle.tripos_run.specs.declared.commands.Job.TheVariants.{Answer as AnswerJob, Generate as GenerateJob}
 use Rattle.tripos_run.specs.declared.reports.Report.TheVariants.{Console, Events, Sums, Words}
-use Rattle.tripos_run.specs.declared.status.Status.{Status}
-use Rattle.tripos_run.specs.declared.status.Status.TheVariants.{Done, GuestFault, Usage, Refused, NoBoot, ReadFault, WriteFault, TooLong, WantMemory}
 
 -- ---- texts
 
@@ -33,23 +33,6 @@ IsTextAnswer SaveCommand text a = a ≡ saving_answer (session_of text)
 IsTextAnswer ResumeCommand text a = IsResumedText text a
 IsTextAnswer RingCommand text a = a ≡ ring_answer text
 
--- ---- inputs
-
--- the most bytes of an input
-abbrev pub limit : ℕ
-limit = 67108864
-
-abbrev pub too_long_answer : Answer
-too_long_answer = record { status = TooLong; bytes = too_long_text }
-
--- an input that is within the limit is answered as a text
-abbrev pub IsAnswerWithin : Bool → Command → List ℕ → Answer → Type 0
-IsAnswerWithin true command input a = IsTextAnswer command input a
-IsAnswerWithin false command input a = a ≡ too_long_answer
-
-unfoldable pub IsInputAnswer : Command → List ℕ → Answer → Type 0
-IsInputAnswer command input a = IsAnswerWithin (nat_le (length input) limit) command input a
-
 -- ---- words
 
 -- the session that a number makes is run, and summed up
@@ -62,24 +45,9 @@ usage_answer = record { status = Usage; bytes = usage_text }
 -- words that ask for nothing get the usage
 abbrev pub IsJobAnswer : Option Job → List ℕ → Answer → Type 0
 IsJobAnswer None input a = a ≡ usage_answer
-IsJobAnswer (Some (AnswerJob command)) input a = IsInputAnswer command input a
+IsJobAnswer (Some (AnswerJob command)) input a = IsInputAnswer (IsTextAnswer command) input a
 IsJobAnswer (Some (GenerateJob n)) input a = a ≡ generated_answer n
 
 -- the answer to these words and this input, of which there is one at most
 abbrev pub IsAnswer : List (List ℕ) → List ℕ → Answer → Type 0
 IsAnswer words input a = IsJobAnswer (job_of words) input a
-
--- ---- what was written
-
--- A call ended with this status, and wrote what by this status an answer of this kind says. A fault of the source and want of memory
--- come before it is known which answer it is.
-abbrev pub Answered : (Answer → Type 0) → Option (List ℕ) → Option (List ℕ) → Status → Type 0
-Answered IsIt old new ReadFault = Keeps old new
-Answered IsIt old new WantMemory = Keeps old new
-Answered IsIt old new Done = (a : Answer) × IsIt a × Answers a old new Done
-Answered IsIt old new GuestFault = (a : Answer) × IsIt a × Answers a old new GuestFault
-Answered IsIt old new Usage = (a : Answer) × IsIt a × Answers a old new Usage
-Answered IsIt old new Refused = (a : Answer) × IsIt a × Answers a old new Refused
-Answered IsIt old new NoBoot = (a : Answer) × IsIt a × Answers a old new NoBoot
-Answered IsIt old new TooLong = (a : Answer) × IsIt a × Answers a old new TooLong
-Answered IsIt old new WriteFault = (a : Answer) × IsIt a × Answers a old new WriteFault

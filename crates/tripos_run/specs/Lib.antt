@@ -5,7 +5,5 @@ pub mod SavedAnswers
 pub mod RingAnswers
 pub mod InputAnswers
 pub mod Input
-pub mod Cause
-pub mod Exit
 pub mod TracedRun
 pub mod TracedHistory

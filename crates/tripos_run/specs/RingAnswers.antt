@@ -10,7 +10,8 @@ use Rattle.machine_ring.specs.RingLink.declared.inputs.RingInput.{RingInput}
 use Rattle.machine_ring.specs.Rounds.{Rounded}
 use Rattle.machine_ring.specs.Runs.{run}
 use Rattle.machine_ring.specs.declared.outcomes.RingOutcome.{RingOutcome}
-use Rattle.tripos_run.specs.Answer.{Answer, no_boot_answer, refused_answer, status_of}
+use Rattle.program_answers.specs.Answer.{Answer, no_boot_answer, refused_answer}
+use Rattle.tripos_run.specs.Answer.{status_of}
 
 -- the closing line: the rounds, and how many bytes were sent, were typed at the right machine, and were acknowledged
 abbrev pub ring_text : RingOutcome → List ℕ

@@ -12,10 +12,11 @@ use Rattle.image_print.specs.ImageText.ImageOfText.{image_of}
 use Rattle.image_print.specs.ImageText.declared.images.Image.{Image}
 use Rattle.image_print.specs.MachineImage.Machines.{HasMachine, IsMachineOf}
 use Rattle.image_print.specs.SavedImage.{saved_image}
-use Rattle.tripos_run.specs.Answer.{Answer, end_since, no_boot_answer, refused_answer, run_answer, status_of}
+use Rattle.program_answers.specs.Answer.{Answer, no_boot_answer, refused_answer}
+use Rattle.tripos_run.specs.Answer.{end_since, run_answer, status_of}
 use Rattle.tripos_run.specs.Texts.{closing_text}
 use Rattle.tripos_run.specs.declared.reports.Report.TheVariants.{Console}
-use Rattle.tripos_run.specs.declared.status.Status.TheVariants.{Done}
+use Rattle.program_answers.specs.declared.status.Status.TheVariants.{Done}
 
 -- ---- a machine is saved
 

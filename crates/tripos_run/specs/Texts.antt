@@ -2,26 +2,12 @@
 use Rattle.std.specs.Prelude.{ℕ, ◌+◌, List, [], ◌∷◌, ◌++◌, codes, decimal, ◌==◌, if◌then◌else◌}
 use Rattle.tp_io.specs.Pieces.{joined}
 use Rattle.cint_debug.specs.Texts.{word_line}
-use Rattle.hunk_text.specs.TextReader.Refusal.{Refusal}
 use Rattle.cint_debug.specs.TriposMachine.KernelCalls.KernelModel.declared.stops.Stop.{Stop}
 use Rattle.cint_debug.specs.TriposMachine.KernelCalls.KernelModel.declared.stops.Stop.TheVariants.{Steps, Quit, Finish, Fault}
 
 abbrev pub usage_text : List ℕ
 usage_text =
     codes "* usage: tripos run, dump, trace, asm, disasm, debug, save, resume, ring or gen N\n"
-
-abbrev pub too_long_text : List ℕ
-too_long_text = codes "* input too long\n"
-
-abbrev pub refused_text : Refusal → List ℕ
-refused_text r =
-    joined (codes "* refused: line " ∷ decimal r.line ∷ codes " code " ∷ decimal r.code
-    ∷ codes "\n" ∷ [])
-
-abbrev pub no_boot_text : Refusal → List ℕ
-no_boot_text r =
-    joined (codes "* no boot: line " ∷ decimal r.line ∷ codes " code " ∷ decimal r.code
-    ∷ codes "\n" ∷ [])
 
 -- the closing line, which begins on a line of its own: the steps taken, and why the machine has stopped
 abbrev pub closing_text : ℕ → Stop → List ℕ

@@ -6,7 +6,7 @@ use Rattle.cint_debug.specs.TriposMachine.Runs.{end_of_run}
 use Rattle.cint_debug.specs.TriposMachine.State.{steps_of, stop_of}
 use Rattle.cint_debug.specs.TriposMachine.Step.{Stepped, run}
 use Rattle.trace_log.specs.Traced.{lines_of}
-use Rattle.tripos_run.specs.Answer.{Answer}
+use Rattle.program_answers.specs.Answer.{Answer}
 use Rattle.tripos_run.specs.Texts.{closing_text}
 
 -- what `trace` answers to a session that boots so

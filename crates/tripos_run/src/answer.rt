@@ -1,38 +1,37 @@
 // The answer to a text that was read.
-ghost use Rattle.std.specs.Prelude.{◌≡◌, ◌<◌, ◌^◌, is_ok, if◌then◌else◌, length};
+ghost use Rattle.std.specs.Prelude.{◌<◌, ◌^◌, length};
 ghost use Rattle.hunk_text.specs.ModuleOfText.{module_of};
 ghost use Rattle.listing_law.specs.CintAsm.Assembly.{assembled};
-ghost use Rattle.tripos_run.specs.Answer.{Answers, listed, made_answer};
-ghost use Rattle.tripos_run.specs.Cause.{HasFaultCause};
-ghost use Rattle.tripos_run.specs.Input.{IsTextEnd};
-ghost use Rattle.tripos_run.specs.InputAnswers.{Answered, IsTextAnswer};
+ghost use Rattle.program_answers.specs.Answer.{Answers};
+ghost use Rattle.program_answers.specs.Answered.{Answered};
+ghost use Rattle.program_answers.specs.Cause.{HasFaultCause};
+ghost use Rattle.program_answers.specs.Input.{IsTextEnd};
+ghost use Rattle.tripos_run.specs.Answer.{listed, made_answer};
+ghost use Rattle.tripos_run.specs.InputAnswers.{IsTextAnswer};
 
 use crate::commands::Command;
 use crate::debugging::answer_debugging;
-use crate::messages::write_refused;
 use crate::reports::Report;
 use crate::resuming::answer_resuming;
 use crate::rings::answer_ring;
 use crate::saving::answer_saving;
 use crate::session::answer_session_text;
-use crate::status::Status;
 use hunk_text::{HunkEnd, read_module};
 use listing_law::{AsmEnd, assemble, disassemble_module};
+use program_answers::{Status, TextAnswers, status_after, write_refused};
 use std::alloc::Global;
-use tp_io::{Sink, SinkFault, write_text};
+use tp_io::{Sink, write_text};
 
-/// The status of a call that has printed its text, or the sink's failure.
-pub fn status_after(end: Result<(), SinkFault>, status: Status) -> Status
-    ensures { result ≡ (if is_ok end then status else Status.WriteFault) }
-{
-    match end {
-        Ok(()) => status,
-        Err(SinkFault) => Status::WriteFault,
+impl TextAnswers for Command {
+    ghost is_answer = { IsTextAnswer };
+
+    fn answer<K: Sink>(&self, alloc: Global, text: &[u8], out: &mut K) -> Status {
+        answer_text(alloc, *self, text, out)
     }
 }
 
-/// Answers a text.
-pub fn answer_text<K: Sink>(alloc: Global, command: Command, text: &[u8], out: &mut K) -> Status
+// Answers a text.
+fn answer_text<K: Sink>(alloc: Global, command: Command, text: &[u8], out: &mut K) -> Status
     requires { length text.now < 2 ^ 30 }
     ensures answer { Answered (IsTextAnswer command text.now)
         (K.holds out.old) (K.holds out.new) result }

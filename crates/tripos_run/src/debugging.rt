@@ -7,18 +7,18 @@ ghost use Rattle.cint_debug.specs.TriposMachine.Boot.{boot};
 ghost use Rattle.cint_debug.specs.TriposMachine.State.{steps_of};
 ghost use Rattle.cint_debug.specs.Debugged.{debugged};
 ghost use Rattle.cint_debug.specs.MachineHistory.Pasts.{now_of};
-ghost use Rattle.tripos_run.specs.Answer.{Answers, checked_answer, debugging_answer, first_past, lines_answer, told_answer};
-ghost use Rattle.tripos_run.specs.Cause.{HasFaultCause};
-ghost use Rattle.tripos_run.specs.Input.{IsMachineEnd, IsTextEnd};
+ghost use Rattle.program_answers.specs.Answer.{Answers};
+ghost use Rattle.tripos_run.specs.Answer.{checked_answer, debugging_answer, first_past, lines_answer, told_answer};
+ghost use Rattle.program_answers.specs.Cause.{HasFaultCause};
+ghost use Rattle.program_answers.specs.Input.{IsTextEnd};
+ghost use Rattle.tripos_run.specs.Input.{IsMachineEnd};
 
-use crate::answer::status_after;
 use crate::machines::write_run_end;
-use crate::messages::{write_no_boot, write_refused};
 use crate::reports::Report;
-use crate::status::Status;
 use cint_debug::{
     BadLine, BootEnd, History, Machine, Stop, boot, check_lines, debug, debug_back, goes_back,
 };
+use program_answers::{Status, status_after, write_no_boot, write_refused};
 use session_text::{Session, SessionEnd, read_front};
 use std::alloc::Global;
 use tp_io::{Output, Sink, SinkFault, WantMemory};

@@ -8,8 +8,8 @@ ghost use Rattle.tripos_run.specs.Texts.{closing_text};
 use crate::dump::gather_dump;
 use crate::messages::gather_closing;
 use crate::reports::Report;
-use crate::status::Status;
 use cint_debug::Stop;
+use program_answers::Status;
 use tp_io::{Output, Sink, SinkFault, pass_on};
 use word_store::Store;
 

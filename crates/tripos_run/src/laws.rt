@@ -8,7 +8,7 @@ ghost use Rattle.cint_debug.specs.TriposMachine.Step.{Stepped, run};
 ghost use Rattle.image_print.specs.ImageText.Canonical.{canonical};
 ghost use Rattle.image_print.specs.Numbers.{HasNumbers, IsSized, MayTake};
 ghost use Rattle.image_print.specs.SavedImage.{saved_image};
-ghost use Rattle.tripos_run.specs.Answer.{Answer};
+ghost use Rattle.program_answers.specs.Answer.{Answer};
 ghost use Rattle.tripos_run.specs.InputAnswers.{IsAnswer, IsTextAnswer};
 ghost use Rattle.tripos_run.specs.SavedAnswers.{IsResumedText, resumed_answer};
 ghost use Rattle.tripos_run.specs.TracedHistory.{TracesHistory};

@@ -15,13 +15,12 @@ mod resuming;
 mod rings;
 mod saving;
 mod session;
-pub mod status;
 
 pub use laws::{answer_law, continued_law, trace_law};
 pub use program::{run, tripos};
-pub use status::Status;
 
 // Shown to the crates above.
 pub use cint_debug::{EventLog, KernelEvent, ListLog, Pipes, SinkLog};
+pub use program_answers::Status;
 pub use session_generator::generate;
 pub use trace_log::print_events;

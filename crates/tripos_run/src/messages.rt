@@ -1,11 +1,11 @@
 // The lines that the program writes besides the console bytes.
 ghost use Rattle.tp_io.specs.Pending.{Gathers};
 ghost use Rattle.tp_io.specs.Write.{Prints, HasCause};
-ghost use Rattle.tripos_run.specs.Texts.{closing_text, no_boot_text, refused_text, too_long_text, usage_text};
+ghost use Rattle.tripos_run.specs.Texts.{closing_text, usage_text};
 
 use cint_debug::Stop;
 use tp_io::Piece::{Decimal, Text};
-use tp_io::{Output, Sink, SinkFault, gather_pieces, write_pieces, write_text};
+use tp_io::{Output, Sink, SinkFault, gather_pieces, write_text};
 
 const STOPPED: &[u8] = b"\n* stopped after ";
 
@@ -17,50 +17,6 @@ pub fn write_usage<K: Sink>(out: &mut K) -> Result<(), SinkFault>
     write_text(
         out,
         b"* usage: tripos run, dump, trace, asm, disasm, debug, save, resume, ring or gen N\n",
-    )
-}
-
-/// The input is too long.
-pub fn write_too_long<K: Sink>(out: &mut K) -> Result<(), SinkFault>
-    ensures text { Prints (K.holds out.old) (K.holds out.new) too_long_text result }
-    ensures cause { HasCause (K.faults out.old) (K.faults out.new) result }
-{
-    write_text(out, b"* input too long\n")
-}
-
-/// Where and why the input was refused.
-pub fn write_refused<K: Sink>(out: &mut K, line: u32, code: u32) -> Result<(), SinkFault>
-    ensures text { Prints (K.holds out.old) (K.holds out.new)
-        (refused_text (record { line = line; code = code })) result }
-    ensures cause { HasCause (K.faults out.old) (K.faults out.new) result }
-{
-    write_pieces(
-        out,
-        &[
-            Text(b"* refused: line "),
-            Decimal(line as u64),
-            Text(b" code "),
-            Decimal(code as u64),
-            Text(b"\n"),
-        ],
-    )
-}
-
-/// Where and why the session does not boot.
-pub fn write_no_boot<K: Sink>(out: &mut K, line: u32, code: u32) -> Result<(), SinkFault>
-    ensures text { Prints (K.holds out.old) (K.holds out.new)
-        (no_boot_text (record { line = line; code = code })) result }
-    ensures cause { HasCause (K.faults out.old) (K.faults out.new) result }
-{
-    write_pieces(
-        out,
-        &[
-            Text(b"* no boot: line "),
-            Decimal(line as u64),
-            Text(b" code "),
-            Decimal(code as u64),
-            Text(b"\n"),
-        ],
     )
 }
 

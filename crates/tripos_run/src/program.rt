@@ -1,21 +1,20 @@
 // The program: the words of the command line and an input, to an exit status and the bytes written.
 ghost use Rattle.std.specs.Prelude.{◌≡◌, List, ℕ, map, string_bytes};
-ghost use Rattle.tripos_run.specs.Cause.{HasFaultCause};
-ghost use Rattle.tripos_run.specs.Exit.{exit_code};
-ghost use Rattle.tripos_run.specs.Input.{CommandLeaves, IsInput, Leaves};
-ghost use Rattle.tripos_run.specs.InputAnswers.{Answered, IsAnswer, IsInputAnswer};
+ghost use Rattle.program_answers.specs.Answered.{Answered};
+ghost use Rattle.program_answers.specs.Cause.{HasFaultCause};
+ghost use Rattle.program_answers.specs.Exit.{exit_code};
+ghost use Rattle.program_answers.specs.Input.{IsInput};
+ghost use Rattle.tripos_run.specs.Input.{Leaves};
+ghost use Rattle.tripos_run.specs.InputAnswers.{IsAnswer};
 ghost use Rattle.tripos_run.specs.Words.{job_of};
 
-use crate::answer::{answer_text, status_after};
-use crate::commands::{Command, Job, job_of};
-use crate::messages::{write_too_long, write_usage};
+use crate::commands::{Job, job_of};
+use crate::messages::write_usage;
 use crate::session::answer_generated;
-use crate::status::{Status, exit_code};
+use program_answers::{Status, answer_input, exit_code, status_after};
 use std::alloc::Global;
 use std::io::{Read, Write};
-use tp_io::{ReadEnd, Sink, Source, StdSink, StdSource, read_all};
-
-const LIMIT: usize = 67_108_864;
+use tp_io::{Sink, Source, StdSink, StdSource};
 
 /// The exit status of the program with these words, over any reader and any writer, which is given back.
 pub fn run<R: Read + Drop, W: Write + Drop>(
@@ -60,31 +59,8 @@ pub fn tripos<S: Source, K: Sink>(
         (K.faults out.old) (K.faults out.new) result }
 {
     match job_of(words) {
-        Some(Job::Answer(command)) => answer_input(alloc, command, src, out),
+        Some(Job::Answer(command)) => answer_input(alloc, &command, src, out),
         Some(Job::Generate(n)) => answer_generated(alloc, n, out),
         None => status_after(write_usage(out), Status::Usage),
-    }
-}
-
-// Reads all that the source has left, and answers it.
-fn answer_input<S: Source, K: Sink>(
-    alloc: Global,
-    command: Command,
-    src: &mut S,
-    out: &mut K,
-) -> Status
-    ensures answer { (input : List ℕ) × IsInput (S.left src.old) input
-        × Answered (IsInputAnswer command input) (K.holds out.old) (K.holds out.new) result }
-    ensures source { CommandLeaves (S.left src.old) (S.left src.new) result }
-    ensures read_fault { HasFaultCause Status.ReadFault
-        (S.faults src.old) (S.faults src.new) result }
-    ensures write_fault { HasFaultCause Status.WriteFault
-        (K.faults out.old) (K.faults out.new) result }
-{
-    match read_all(alloc, src, LIMIT) {
-        Ok(text) => answer_text(alloc, command, &text, out),
-        Err(ReadEnd::TooLong) => status_after(write_too_long(out), Status::TooLong),
-        Err(ReadEnd::Fault) => Status::ReadFault,
-        Err(ReadEnd::WantMemory) => Status::WantMemory,
     }
 }

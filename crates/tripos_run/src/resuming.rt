@@ -3,20 +3,19 @@ ghost use Rattle.std.specs.Prelude.{◌≡◌, ◌<◌, ◌≤◌, ◌+◌, ◌^
 ghost use Rattle.cint_debug.specs.TriposMachine.KernelCalls.KernelModel.Ranges.{most_steps};
 ghost use Rattle.cint_debug.specs.TriposMachine.State.{steps_of};
 ghost use Rattle.image_print.specs.ImageText.Canonical.{IsLawful};
-ghost use Rattle.tripos_run.specs.Answer.{Answers};
-ghost use Rattle.tripos_run.specs.Cause.{HasFaultCause};
-ghost use Rattle.tripos_run.specs.Input.{IsMachineEnd, IsTextEnd};
-ghost use Rattle.tripos_run.specs.InputAnswers.{Answered};
+ghost use Rattle.program_answers.specs.Answer.{Answers};
+ghost use Rattle.program_answers.specs.Cause.{HasFaultCause};
+ghost use Rattle.program_answers.specs.Input.{IsTextEnd};
+ghost use Rattle.tripos_run.specs.Input.{IsMachineEnd};
+ghost use Rattle.program_answers.specs.Answered.{Answered};
 ghost use Rattle.tripos_run.specs.SavedAnswers.{IsResumedImage, IsResumedText, no_machine_code, resumed_answer};
 
-use crate::answer::status_after;
 use crate::ends::{status_of, write_end};
-use crate::messages::write_refused;
 use crate::reports::Report;
-use crate::status::Status;
 use cint_debug::{Machine, NoLog};
 use hunk_text::TextEnd;
 use image_print::{Image, machine_of, read_image};
+use program_answers::{Status, status_after, write_refused};
 use std::alloc::Global;
 use tp_io::{Output, Sink, SinkFault, WantMemory};
 

@@ -3,17 +3,16 @@ ghost use Rattle.std.specs.Prelude.{◌≡◌, ◌<◌, ◌++◌, ◌^◌, lengt
 ghost use Rattle.tp_io.specs.Write.{HasCause, Prints};
 ghost use Rattle.machine_ring.specs.Boot.{booted_ring};
 ghost use Rattle.machine_ring.specs.RingLink.LawfulRing.{IsLawfulRing};
-ghost use Rattle.tripos_run.specs.Answer.{Answers};
-ghost use Rattle.tripos_run.specs.Cause.{HasFaultCause};
-ghost use Rattle.tripos_run.specs.Input.{IsMachineEnd, IsTextEnd};
+ghost use Rattle.program_answers.specs.Answer.{Answers};
+ghost use Rattle.program_answers.specs.Cause.{HasFaultCause};
+ghost use Rattle.program_answers.specs.Input.{IsTextEnd};
+ghost use Rattle.tripos_run.specs.Input.{IsMachineEnd};
 ghost use Rattle.tripos_run.specs.RingAnswers.{booted_answer, ring_answer, ring_text, run_ring_answer};
 
-use crate::answer::status_after;
 use crate::ends::status_of;
-use crate::messages::{write_no_boot, write_refused};
-use crate::status::Status;
 use hunk_text::TextEnd;
 use machine_ring::{Ring, RingBoot, RingInput, RingOutcome, read_ring};
+use program_answers::{Status, status_after, write_no_boot, write_refused};
 use std::alloc::Global;
 use tp_io::Piece::{Decimal, Text};
 use tp_io::{Output, Sink, SinkFault, gather_pieces, pass_on};

@@ -1,16 +1,15 @@
 // The answer to the text of a session.
 ghost use Rattle.std.specs.Prelude.{◌≡◌, ◌<◌, ◌^◌, length};
 ghost use Rattle.session_text.specs.SessionOfText.{session_of};
-ghost use Rattle.tripos_run.specs.Answer.{Answers, session_answer};
-ghost use Rattle.tripos_run.specs.Cause.{HasFaultCause};
-ghost use Rattle.tripos_run.specs.Input.{IsTextEnd};
+ghost use Rattle.program_answers.specs.Answer.{Answers};
+ghost use Rattle.tripos_run.specs.Answer.{session_answer};
+ghost use Rattle.program_answers.specs.Cause.{HasFaultCause};
+ghost use Rattle.program_answers.specs.Input.{IsTextEnd};
 ghost use Rattle.tripos_run.specs.InputAnswers.{generated_answer};
 
-use crate::answer::status_after;
 use crate::machines::answer_session;
-use crate::messages::write_refused;
 use crate::reports::Report;
-use crate::status::Status;
+use program_answers::{Status, status_after, write_refused};
 use session_generator::generate;
 use session_text::{SessionEnd, read_session};
 use std::alloc::Global;

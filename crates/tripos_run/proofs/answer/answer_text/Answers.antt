@@ -1,7 +1,7 @@
 use Rattle.std.proofs.Common.{refl}
 use Rattle.tripos_run.specs.InputAnswers.{IsTextAnswer}
 use Rattle.tripos_run.specs.declared.commands.Command.TheVariants.{Run, Dump, Trace, Asm, Disasm, Debug, Save, Ring}
-use Rattle.tripos_run.proofs.AnswerParts.{Answered-by}
+use Rattle.program_answers.proofs.AnswerParts.{Answered-by}
 use Rattle.tripos_run.proofs.answer.answer_text.Goals as goal
 
 pub returns-in-Run-clause-answer : goal.returns-in-Run-clause-answer

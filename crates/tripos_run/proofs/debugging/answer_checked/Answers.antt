@@ -1,5 +1,5 @@
 use Rattle.hunk_text.specs.TextReader.Refusal.{refusal}
-use Rattle.tripos_run.proofs.AnswerParts.{Answers-refused}
+use Rattle.program_answers.proofs.AnswerParts.{Answers-refused}
 use Rattle.tripos_run.proofs.debugging.answer_checked.Goals as goal
 
 pub returns-in-Ok-clause-answer : goal.returns-in-Ok-clause-answer

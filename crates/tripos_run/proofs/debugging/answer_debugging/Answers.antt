@@ -4,7 +4,7 @@ use Rattle.hunk_text.specs.TextReader.Lines.{lines_of}
 use Rattle.hunk_text.specs.TextReader.Refusal.{refusal}
 use Rattle.session_text.specs.Front.{front_count, front_lines}
 use Rattle.session_text.specs.SessionOfText.{session_lines}
-use Rattle.tripos_run.proofs.AnswerParts.{Answers-refused}
+use Rattle.program_answers.proofs.AnswerParts.{Answers-refused}
 use Rattle.tripos_run.proofs.FrontPlace.{place-within}
 use Rattle.tripos_run.proofs.debugging.answer_debugging.Goals as goal
 

@@ -9,9 +9,10 @@ use Rattle.cint_debug.specs.TriposMachine.Boot.{EndsAs, boot}
 use Rattle.cint_debug.specs.TriposMachine.State.{State, steps_of}
 use Rattle.cint_debug.specs.TriposMachine.Step.{Stepped}
 use Rattle.cint_debug.specs.Debugged.{debugged}
-use Rattle.tripos_run.specs.Texts.{no_boot_text}
-use Rattle.tripos_run.specs.Answer.{Answers, first_past, lines_answer, told_answer}
-use Rattle.tripos_run.proofs.AnswerParts.{Answers-no_boot}
+use Rattle.program_answers.specs.Texts.{no_boot_text}
+use Rattle.program_answers.specs.Answer.{Answers}
+use Rattle.tripos_run.specs.Answer.{first_past, lines_answer, told_answer}
+use Rattle.program_answers.proofs.AnswerParts.{Answers-no_boot}
 use Rattle.tripos_run.proofs.debugging.answer_lines.Goals as goal
 
 pub debug_machine-requires : goal.debug_machine-requires

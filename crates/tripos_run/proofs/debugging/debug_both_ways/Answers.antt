@@ -6,7 +6,8 @@ use Rattle.hunk_text.specs.TextReader.Lines.{lines_of}
 use Rattle.cint_debug.specs.TriposMachine.State.{State}
 use Rattle.cint_debug.specs.TriposMachine.Step.{quietly}
 use Rattle.cint_debug.specs.Debugged.{debugged}
-use Rattle.tripos_run.specs.Answer.{Answers, closed_answer, end_after}
+use Rattle.program_answers.specs.Answer.{Answers}
+use Rattle.tripos_run.specs.Answer.{closed_answer, end_after}
 use Rattle.tripos_run.specs.declared.reports.Report.TheVariants.{Console}
 use Rattle.tripos_run.proofs.AnswerParts.{Answers-behind, AppendsPrefix-closed}
 use Rattle.tripos_run.proofs.debugging.debug_both_ways.Goals as goal

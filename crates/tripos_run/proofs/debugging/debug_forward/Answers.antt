@@ -5,7 +5,8 @@ use Rattle.cint_debug.specs.TriposMachine.State.{State}
 use Rattle.cint_debug.specs.TriposMachine.Step.{quietly}
 use Rattle.cint_debug.proofs.Shown.TriposMachine.RunParts.{ends-all}
 use Rattle.cint_debug.specs.Debugged.{debugged}
-use Rattle.tripos_run.specs.Answer.{Answers, closed_answer, end_after}
+use Rattle.program_answers.specs.Answer.{Answers}
+use Rattle.tripos_run.specs.Answer.{closed_answer, end_after}
 use Rattle.tripos_run.specs.declared.reports.Report.TheVariants.{Console}
 use Rattle.tripos_run.proofs.AnswerParts.{Answers-behind, AppendsPrefix-closed}
 use Rattle.tripos_run.proofs.debugging.debug_forward.Goals as goal

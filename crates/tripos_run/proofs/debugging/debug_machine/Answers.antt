@@ -3,7 +3,8 @@ use Rattle.std.specs.Prelude.{if◌then◌else◌}
 use Rattle.hunk_text.specs.TextReader.Lines.{lines_of}
 use Rattle.cint_debug.specs.TriposMachine.State.{State}
 use Rattle.cint_debug.specs.Debugged.{debugged}
-use Rattle.tripos_run.specs.Answer.{Answers, told_answer}
+use Rattle.program_answers.specs.Answer.{Answers}
+use Rattle.tripos_run.specs.Answer.{told_answer}
 use Rattle.tripos_run.proofs.debugging.debug_machine.Goals as goal
 
 abbrev begun : Bool → Option (List State)

@@ -8,9 +8,10 @@ use Rattle.cint_debug.specs.TriposMachine.KernelCalls.PacketQueue.declared.event
 use Rattle.cint_debug.specs.TriposMachine.Boot.{EndsAs, boot}
 use Rattle.cint_debug.specs.TriposMachine.State.{State, steps_of}
 use Rattle.cint_debug.specs.TriposMachine.Step.{Stepped, boot_events, run}
-use Rattle.tripos_run.specs.Texts.{no_boot_text}
-use Rattle.tripos_run.specs.Answer.{Answers, end_after, machine_answer, run_answer}
-use Rattle.tripos_run.proofs.AnswerParts.{Answers-no_boot}
+use Rattle.program_answers.specs.Texts.{no_boot_text}
+use Rattle.program_answers.specs.Answer.{Answers}
+use Rattle.tripos_run.specs.Answer.{end_after, machine_answer, run_answer}
+use Rattle.program_answers.proofs.AnswerParts.{Answers-no_boot}
 use Rattle.tripos_run.proofs.machines.answer_session.Goals as goal
 
 pub answer_machine-requires : goal.answer_machine-requires

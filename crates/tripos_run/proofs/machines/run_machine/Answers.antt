@@ -2,7 +2,8 @@ use Rattle.std.proofs.Common.{[], subst}
 use Rattle.tp_io.proofs.GatheredTexts.{IsCut-first}
 use Rattle.cint_debug.specs.TriposMachine.State.{State}
 use Rattle.cint_debug.specs.TriposMachine.Step.{boot_events, quietly, run}
-use Rattle.tripos_run.specs.Answer.{Answers, closed_answer, end_after}
+use Rattle.program_answers.specs.Answer.{Answers}
+use Rattle.tripos_run.specs.Answer.{closed_answer, end_after}
 use Rattle.tripos_run.proofs.AnswerParts.{Answers-behind, AppendsPrefix-closed}
 use Rattle.tripos_run.proofs.machines.run_machine.Goals as goal
 

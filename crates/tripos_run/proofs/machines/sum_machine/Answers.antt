@@ -4,7 +4,8 @@ use Rattle.tp_io.proofs.GatheredTexts.{IsCut-first}
 use Rattle.session_generator.specs.Summary.{summary}
 use Rattle.cint_debug.specs.TriposMachine.State.{State}
 use Rattle.cint_debug.specs.TriposMachine.Step.{boot_events, quietly, run}
-use Rattle.tripos_run.specs.Answer.{Answers, closed_answer, end_after}
+use Rattle.program_answers.specs.Answer.{Answers}
+use Rattle.tripos_run.specs.Answer.{closed_answer, end_after}
 use Rattle.tripos_run.specs.declared.reports.Report.TheVariants.{Sums}
 use Rattle.tripos_run.proofs.AnswerParts.{Answers-behind, AppendsPrefix-closed}
 use Rattle.tripos_run.proofs.machines.sum_machine.Goals as goal

@@ -2,7 +2,8 @@ use Rattle.std.proofs.Common.{[], ◌++◌, refl, subst}
 use Rattle.cint_debug.specs.TriposMachine.State.{State}
 use Rattle.cint_debug.specs.TriposMachine.Step.{boot_events, quietly, run}
 use Rattle.trace_log.specs.Traced.{lines_of}
-use Rattle.tripos_run.specs.Answer.{Answers, closed_answer, end_after}
+use Rattle.program_answers.specs.Answer.{Answers}
+use Rattle.tripos_run.specs.Answer.{closed_answer, end_after}
 use Rattle.tripos_run.specs.declared.reports.Report.TheVariants.{Events}
 use Rattle.tripos_run.proofs.AnswerParts.{Answers-behind, AppendsPrefix-closed}
 use Rattle.tripos_run.proofs.machines.trace_machine.Goals as goal

@@ -1,6 +1,7 @@
 use Rattle.std.proofs.Common.{◌∙◌, Some, ap, sym}
 use Rattle.tripos_run.specs.InputAnswers.{generated_answer}
-use Rattle.tripos_run.proofs.AnswerParts.{Answers-any, Answers-job, Answers-usage}
+use Rattle.program_answers.proofs.AnswerParts.{Answers-any}
+use Rattle.tripos_run.proofs.AnswerParts.{Answers-job, Answers-usage}
 use Rattle.tripos_run.proofs.program.tripos.Goals as goal
 
 pub returns-in-Some-Generate-clause-answer : goal.returns-in-Some-Generate-clause-answer

@@ -4,11 +4,11 @@ use Rattle.hunk_text.specs.TextReader.Lines.{lines_of}
 use Rattle.hunk_text.specs.TextReader.Refusal.{Refusal, refusal}
 use Rattle.image_print.specs.ImageText.ImageOfText.{image_of}
 use Rattle.image_print.specs.ImageText.declared.images.Image.{Image}
-use Rattle.tripos_run.specs.Answer.{refused_answer}
-use Rattle.tripos_run.specs.InputAnswers.{Answered}
+use Rattle.program_answers.specs.Answer.{refused_answer}
+use Rattle.program_answers.specs.Answered.{Answered}
 use Rattle.tripos_run.specs.SavedAnswers.{IsResumed, IsResumedImage}
-use Rattle.tripos_run.specs.declared.status.Status.TheVariants.{Refused}
-use Rattle.tripos_run.proofs.AnswerParts.{Answered-by, Answers-refused, status_after}
+use Rattle.program_answers.specs.declared.status.Status.TheVariants.{Refused}
+use Rattle.program_answers.proofs.AnswerParts.{Answered-by, Answers-refused, status_after}
 use Rattle.tripos_run.proofs.resuming.answer_resuming.Goals as goal
 
 pub returns-in-Ok-clause-answer : goal.returns-in-Ok-clause-answer

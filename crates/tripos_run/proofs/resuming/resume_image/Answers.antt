@@ -2,10 +2,10 @@ use Rattle.std.proofs.Common.{inl, inr, refl, subst}
 use Rattle.std.specs.Prelude.{MatchOption}
 use Rattle.hunk_text.specs.TextReader.Refusal.{refusal}
 use Rattle.image_print.specs.MachineImage.Machines.{HasMachine, IsResumed}
-use Rattle.tripos_run.specs.Answer.{refused_answer}
+use Rattle.program_answers.specs.Answer.{refused_answer}
 use Rattle.tripos_run.specs.SavedAnswers.{IsResumedImage, no_machine_code, resumed_answer}
-use Rattle.tripos_run.specs.declared.status.Status.TheVariants.{Refused}
-use Rattle.tripos_run.proofs.AnswerParts.{Answered-by, Answers-refused, status_after}
+use Rattle.program_answers.specs.declared.status.Status.TheVariants.{Refused}
+use Rattle.program_answers.proofs.AnswerParts.{Answered-by, Answers-refused, status_after}
 use Rattle.tripos_run.proofs.resuming.resume_image.Goals as goal
 
 pub returns-in-Ok-Some-clause-answer : goal.returns-in-Ok-Some-clause-answer

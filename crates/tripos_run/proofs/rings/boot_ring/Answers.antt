@@ -2,9 +2,9 @@ use Rattle.std.proofs.Common.{◌≡◌, Result, Err, subst, sym}
 use Rattle.hunk_text.specs.TextReader.Refusal.{Refusal, refusal}
 use Rattle.machine_ring.specs.Boot.{BootsRing, booted_ring}
 use Rattle.machine_ring.specs.Rings.{Ring}
-use Rattle.tripos_run.specs.Answer.{Answers, no_boot_answer}
+use Rattle.program_answers.specs.Answer.{Answers, no_boot_answer}
 use Rattle.tripos_run.specs.RingAnswers.{booted_answer}
-use Rattle.tripos_run.proofs.AnswerParts.{Answers-no_boot}
+use Rattle.program_answers.proofs.AnswerParts.{Answers-no_boot}
 use Rattle.tripos_run.proofs.rings.boot_ring.Goals as goal
 
 pub returns-in-Ok-clause-answer : goal.returns-in-Ok-clause-answer

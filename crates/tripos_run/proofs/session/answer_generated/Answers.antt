@@ -1,5 +1,5 @@
 use Rattle.std.proofs.Common.{◌∙◌, arith, subst}
-use Rattle.tripos_run.specs.Answer.{Answers}
+use Rattle.program_answers.specs.Answer.{Answers}
 use Rattle.tripos_run.proofs.AnswerParts.{generated-is}
 use Rattle.tripos_run.proofs.session.answer_generated.Goals as goal
 

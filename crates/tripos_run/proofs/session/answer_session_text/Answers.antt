@@ -2,7 +2,7 @@ use Rattle.std.proofs.Common.{subst}
 use Rattle.session_text.specs.SessionOfText.{session_of}
 use Rattle.hunk_text.specs.TextReader.Answers.{EndsAs}
 use Rattle.hunk_text.specs.TextReader.Refusal.{refusal}
-use Rattle.tripos_run.proofs.AnswerParts.{Answers-refused}
+use Rattle.program_answers.proofs.AnswerParts.{Answers-refused}
 use Rattle.tripos_run.proofs.session.answer_session_text.Goals as goal
 
 pub returns-in-Err-Bad-clause-answer : goal.returns-in-Err-Bad-clause-answer

@@ -1,7 +1,7 @@
 -- The exit status of the program.
 use Rattle.std.specs.Prelude.{ℕ}
-use Rattle.tripos_run.specs.declared.status.Status.{Status}
-use Rattle.tripos_run.specs.declared.status.Status.TheVariants.{Done, GuestFault, Usage, Refused, NoBoot, ReadFault, WriteFault, TooLong, WantMemory}
+use Rattle.program_answers.specs.declared.status.Status.{Status}
+use Rattle.program_answers.specs.declared.status.Status.TheVariants.{Done, GuestFault, Usage, Refused, NoBoot, ReadFault, WriteFault, TooLong, WantMemory}
 
 abbrev pub exit_code : Status → ℕ
 exit_code Done = 0

@@ -1,6 +1,6 @@
 // How a call of the program ends.
 ghost use Rattle.std.specs.Prelude.{◌≡◌};
-ghost use Rattle.tripos_run.specs.Exit.{exit_code};
+ghost use Rattle.program_answers.specs.Exit.{exit_code};
 
 /// How a call ended. What it wrote stands beside each.
 #[derive(Clone, Copy, Debug, PartialEq, Eq)]

@@ -1,7 +1,7 @@
 -- When a call may end with the fault of its source, or of its sink.
 use Rattle.std.specs.Prelude.{◌≡◌, ℕ, ◌≤◌}
 use Rattle.tp_io.specs.Faults.{Rose}
-use Rattle.tripos_run.specs.declared.status.Status.{Status}
+use Rattle.program_answers.specs.declared.status.Status.{Status}
 
 -- the count of faults has not fallen, and has risen where the call ended with this fault
 pub record HasFaultCause (fault : Status) (before now : ℕ) (status : Status) : Type 0 where

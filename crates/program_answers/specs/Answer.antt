@@ -1,0 +1,36 @@
+-- An answer: a status, and the bytes that are written.
+use Rattle.std.specs.Prelude.{ℕ, ◌≡◌, List, Option}
+use Rattle.std.specs.Io.KnownBytes.{Appends, Keeps}
+use Rattle.tp_io.specs.Write.{AppendsPrefix}
+use Rattle.hunk_text.specs.TextReader.Refusal.{Refusal}
+use Rattle.program_answers.specs.declared.status.Status.{Status}
+use Rattle.program_answers.specs.declared.status.Status.TheVariants.{Done, GuestFault, Usage, Refused, NoBoot, ReadFault, WriteFault, TooLong, WantMemory}
+use Rattle.program_answers.specs.Texts.{no_boot_text, refused_text, too_long_text}
+
+pub record Answer : Type 0 where
+  -- the exit status
+  pub status : Status
+  -- the bytes that are written
+  pub bytes : List ℕ
+
+abbrev pub no_boot_answer : Refusal → Answer
+no_boot_answer r = record { status = NoBoot; bytes = no_boot_text r }
+
+abbrev pub refused_answer : Refusal → Answer
+refused_answer r = record { status = Refused; bytes = refused_text r }
+
+abbrev pub too_long_answer : Answer
+too_long_answer = record { status = TooLong; bytes = too_long_text }
+
+-- What a call has written where it ends with a status. A fault of the source and want of memory come before anything is
+-- written, a fault of the sink leaves a prefix, and every other status is the answer's.
+abbrev pub Answers : Answer → Option (List ℕ) → Option (List ℕ) → Status → Type 0
+Answers a old new Done = (a.status ≡ Done) × Appends old new a.bytes
+Answers a old new GuestFault = (a.status ≡ GuestFault) × Appends old new a.bytes
+Answers a old new Usage = (a.status ≡ Usage) × Appends old new a.bytes
+Answers a old new Refused = (a.status ≡ Refused) × Appends old new a.bytes
+Answers a old new NoBoot = (a.status ≡ NoBoot) × Appends old new a.bytes
+Answers a old new TooLong = (a.status ≡ TooLong) × Appends old new a.bytes
+Answers a old new WriteFault = AppendsPrefix old new a.bytes
+Answers a old new ReadFault = Keeps old new
+Answers a old new WantMemory = Keeps old new

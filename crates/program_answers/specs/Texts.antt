@@ -1,0 +1,17 @@
+-- The texts of an input that has no other answer.
+use Rattle.std.specs.Prelude.{ℕ, List, [], ◌∷◌, codes, decimal}
+use Rattle.tp_io.specs.Pieces.{joined}
+use Rattle.hunk_text.specs.TextReader.Refusal.{Refusal}
+
+abbrev pub too_long_text : List ℕ
+too_long_text = codes "* input too long\n"
+
+abbrev pub refused_text : Refusal → List ℕ
+refused_text r =
+    joined (codes "* refused: line " ∷ decimal r.line ∷ codes " code " ∷ decimal r.code
+    ∷ codes "\n" ∷ [])
+
+abbrev pub no_boot_text : Refusal → List ℕ
+no_boot_text r =
+    joined (codes "* no boot: line " ∷ decimal r.line ∷ codes " code " ∷ decimal r.code
+    ∷ codes "\n" ∷ [])

@@ -1,0 +1,34 @@
+use Rattle.std.proofs.Common.{◌≡◌, Ok, Err, refl, ap, subst, arith}
+use Rattle.std.proofs.lemmas.Bool.{leb-true}
+use Rattle.tp_io.specs.Write.{Prints}
+use Rattle.hunk_text.specs.TextReader.Refusal.{refusal}
+use Rattle.step_log.specs.TriposMachine.BareMachine.declared.boot.BootEnd.{BootEnd}
+use Rattle.step_log.specs.TriposMachine.KernelCalls.KernelModel.Ranges.{most_steps}
+use Rattle.step_log.specs.TriposMachine.Boot.{EndsAs, boot}
+use Rattle.step_log.specs.TriposMachine.State.{State, steps_of}
+use Rattle.program_answers.specs.Texts.{no_boot_text}
+use Rattle.program_answers.proofs.AnswerParts.{Answers-done, Answers-no_boot}
+use Rattle.show_run.specs.ShownAnswers.{machine_answer, shown_text}
+use Rattle.show_run.proofs.answer.answer_session.Goals as goal
+
+pub show_machine-requires : goal.show_machine-requires
+show_machine-requires g c =
+    let booted = c.in-Ok.ensures.2 in
+    omega (arith, ap steps_of booted.state, booted.steps, leb-true c.args.session.now.go most_steps c.requires.steps)
+
+pub returns-in-Ok-clause-answer : goal.returns-in-Ok-clause-answer
+returns-in-Ok-clause-answer g c =
+    let holds = g.K.Sink.holds in
+    let s = c.args.session.now in
+    let (x, is, booted) = c.in-Ok.ensures in
+    let text : Prints (holds c.args.out.now) (holds c.show_machine.new.out) (shown_text c.args.asked s.go x.state) c.show_machine.result =
+    subst (λ (t : State). Prints (holds c.args.out.now) (holds c.show_machine.new.out) (shown_text c.args.asked s.go t) c.show_machine.result) booted.state c.show_machine.ensures.text in
+    rw (is, c.status_after.ensures) (Answers-done (machine_answer c.args.asked s.go (Ok x)) _ _ c.show_machine.result refl text)
+
+pub returns-in-Err-Line-clause-answer : goal.returns-in-Err-Line-clause-answer
+returns-in-Err-Line-clause-answer g c =
+    let refused : boot c.args.session.now ≡ Err (refusal c.in-Err-Line.line c.in-Err-Line.code) =
+    subst (λ (e : BootEnd). EndsAs e (boot c.args.session.now)) c.in-Err-Line.field-0-is c.in-Err-Line.ensures in
+    let text : Prints (g.K.Sink.holds c.args.out.now) (g.K.Sink.holds c.write_no_boot.new.out) (no_boot_text (refusal c.in-Err-Line.line c.in-Err-Line.code)) c.write_no_boot.result =
+    rw (← c.in-Err-Line.line-is, ← c.in-Err-Line.code-is) c.write_no_boot.ensures.text in
+    rw (refused, c.status_after.ensures) (Answers-no_boot (refusal c.in-Err-Line.line c.in-Err-Line.code) _ _ c.write_no_boot.result text)

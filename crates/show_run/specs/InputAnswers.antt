@@ -1,0 +1,25 @@
+-- Which answer the program's words and its input get.
+use Rattle.std.specs.Prelude.{ℕ, ◌≡◌, List, Option, Some, None}
+use Rattle.session_text.specs.SessionOfText.{session_of}
+use Rattle.program_answers.specs.Answer.{Answer}
+use Rattle.program_answers.specs.Input.{IsInputAnswer}
+use Rattle.program_answers.specs.declared.status.Status.TheVariants.{Usage}
+use Rattle.show_run.specs.ShownAnswers.{session_answer}
+use Rattle.show_run.specs.Words.{show_of, usage_text}
+use Rattle.show_run.specs.declared.commands.Show.{Show}
+
+-- what is asked for is shown of the session that the text is
+abbrev pub IsShown : Show → List ℕ → Answer → Type 0
+IsShown asked text a = a ≡ session_answer asked (session_of text)
+
+abbrev pub usage_answer : Answer
+usage_answer = record { status = Usage; bytes = usage_text }
+
+-- words that ask for nothing get the usage
+abbrev pub IsShowAnswer : Option Show → List ℕ → Answer → Type 0
+IsShowAnswer None input a = a ≡ usage_answer
+IsShowAnswer (Some asked) input a = IsInputAnswer (IsShown asked) input a
+
+-- the answer to these words and this input, of which there is one at most
+abbrev pub IsAnswer : List (List ℕ) → List ℕ → Answer → Type 0
+IsAnswer words input a = IsShowAnswer (show_of words) input a

@@ -1,0 +1,4 @@
+pub mod Words
+pub mod ShownAnswers
+pub mod InputAnswers
+pub mod Leaves

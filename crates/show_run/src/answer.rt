@@ -1,0 +1,74 @@
+// The answer to the text of a session.
+ghost use Rattle.std.specs.Prelude.{◌<◌, ◌^◌, length};
+ghost use Rattle.session_text.specs.Canonical.{IsLawful};
+ghost use Rattle.session_text.specs.SessionOfText.{session_of};
+ghost use Rattle.step_log.specs.TriposMachine.Boot.{boot};
+ghost use Rattle.program_answers.specs.Answer.{Answers};
+ghost use Rattle.program_answers.specs.Answered.{Answered};
+ghost use Rattle.program_answers.specs.Cause.{HasFaultCause};
+ghost use Rattle.program_answers.specs.Input.{IsTextEnd};
+ghost use Rattle.show_run.specs.InputAnswers.{IsShown};
+ghost use Rattle.show_run.specs.ShownAnswers.{machine_answer, session_answer};
+
+use crate::Show;
+use crate::machines::show_machine;
+use step_log::{BootEnd, boot};
+use program_answers::{Status, TextAnswers, status_after, write_no_boot, write_refused};
+use session_text::{Session, SessionEnd, read_session};
+use std::alloc::Global;
+use tp_io::Sink;
+
+impl TextAnswers for Show {
+    ghost is_answer = { IsShown };
+
+    fn answer<K: Sink>(&self, alloc: Global, text: &[u8], out: &mut K) -> Status {
+        answer_text(alloc, *self, text, out)
+    }
+}
+
+// What is asked for is shown of the session that a text is.
+fn answer_text<K: Sink>(alloc: Global, asked: Show, text: &[u8], out: &mut K) -> Status
+    requires { length text.now < 2 ^ 30 }
+    ensures answer { Answered (IsShown asked text.now) (K.holds out.old) (K.holds out.new) result }
+    ensures ends { IsTextEnd result }
+    ensures cause { HasFaultCause Status.WriteFault (K.faults out.old) (K.faults out.new) result }
+{
+    answer_session_text(alloc, asked, text, out)
+}
+
+// Reads a session, and shows what is asked for of its run.
+fn answer_session_text<K: Sink>(alloc: Global, asked: Show, text: &[u8], out: &mut K) -> Status
+    requires { length text.now < 2 ^ 32 }
+    ensures answer { Answers (session_answer asked (session_of text.now))
+        (K.holds out.old) (K.holds out.new) result }
+    ensures ends { IsTextEnd result }
+    ensures cause { HasFaultCause Status.WriteFault (K.faults out.old) (K.faults out.new) result }
+{
+    match read_session(alloc, text) {
+        Ok(session) => answer_session(alloc, asked, &session, out),
+        Err(SessionEnd::Bad { line, code }) => {
+            status_after(write_refused(out, line, code), Status::Refused)
+        }
+        Err(SessionEnd::WantMemory) => Status::WantMemory,
+    }
+}
+
+// Boots a session, and shows what is asked for of its run.
+fn answer_session<K: Sink>(alloc: Global, asked: Show, session: &Session, out: &mut K) -> Status
+    requires { IsLawful session.now }
+    ensures answer { Answers (machine_answer asked session.now.go (boot session.now))
+        (K.holds out.old) (K.holds out.new) result }
+    ensures ends { IsTextEnd result }
+    ensures cause { HasFaultCause Status.WriteFault (K.faults out.old) (K.faults out.new) result }
+{
+    match boot(alloc, session) {
+        Ok(mut machine) => {
+            let shown = show_machine(asked, &mut machine, session.go, out);
+            status_after(shown, Status::Done)
+        }
+        Err(BootEnd::Line { line, code }) => {
+            status_after(write_no_boot(out, line, code), Status::NoBoot)
+        }
+        Err(BootEnd::WantMemory) => Status::WantMemory,
+    }
+}

@@ -1,0 +1,57 @@
+// What the words of the command line ask for.
+ghost use Rattle.std.specs.Prelude.{◌≡◌, map, string_bytes};
+ghost use Rattle.show_run.specs.Words.{command_named, show_of, span};
+
+use hunk_text::number;
+
+/// What is shown of the run of a session.
+#[derive(Clone, Copy, Debug)]
+pub enum Show {
+    /// The state in which it stopped.
+    State,
+    /// What happened in its steps, from the first of these to the last, which are counted from 1.
+    Log {
+        /// The first step.
+        first: u64,
+        /// The last step.
+        last: u64,
+    },
+}
+
+/// The last step where none is named: more than any machine takes.
+pub const LAST: u64 = 9_999_999_999;
+
+/// What the words ask for, or `None` exactly where they ask for nothing: `state`, `log`, or `log` and two numbers of 1 to 10 digits.
+pub fn show_of(words: &[String]) -> Option<Show>
+    ensures { result ≡ show_of (map string_bytes words.now) }
+{
+    match words {
+        [word] => command_named(word.as_str()),
+        [word, first, last] => span(word.as_str(), first.as_str(), last.as_str()),
+        _ => None,
+    }
+}
+
+fn command_named(word: &str) -> Option<Show>
+    ensures { result ≡ command_named word.now }
+{
+    match word {
+        "state" => Some(Show::State),
+        "log" => Some(Show::Log {
+            first: 1,
+            last: LAST,
+        }),
+        _ => None,
+    }
+}
+
+fn span(word: &str, first: &str, last: &str) -> Option<Show>
+    ensures { result ≡ span word.now first.now last.now }
+{
+    if word != "log" {
+        return None;
+    }
+    let first = number(first.as_bytes())?;
+    let last = number(last.as_bytes())?;
+    Some(Show::Log { first, last })
+}

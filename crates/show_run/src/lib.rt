@@ -1,0 +1,12 @@
+// What the second program does: the state in which a session's run stopped, or what happened in its steps, in words.
+#![tactic(auto)]
+
+mod answer;
+pub mod commands;
+pub mod laws;
+mod machines;
+pub mod program;
+
+pub use commands::Show;
+pub use laws::answer_law;
+pub use program::{run, show};

@@ -1,0 +1,94 @@
+// What is shown of a machine's run.
+ghost use Rattle.std.specs.Prelude.{◌≡◌, ◌≤◌, ◌+◌};
+ghost use Rattle.tp_io.specs.Pending.{Gathers};
+ghost use Rattle.tp_io.specs.Write.{HasCause, Prints};
+ghost use Rattle.step_log.specs.TriposMachine.KernelCalls.KernelModel.Ranges.{most_steps};
+ghost use Rattle.step_log.specs.TriposMachine.State.{steps_of};
+ghost use Rattle.step_log.specs.TriposMachine.Step.{run};
+ghost use Rattle.show_run.specs.ShownAnswers.{first_lines, log_of, shown_text, state_of};
+
+use crate::Show;
+use step_log::{Machine, NoLog};
+use state_text::gather_state;
+use step_log::{gather_boot, gather_steps};
+use tp_io::{NoSink, Output, Sink, SinkFault, pass_on};
+
+/// Takes the steps of a machine that was booted just now, at most so many, and shows what is asked for.
+pub(crate) fn show_machine<K: Sink>(
+    asked: Show,
+    machine: &mut Machine,
+    go: u64,
+    out: &mut K,
+) -> Result<(), SinkFault>
+    requires { steps_of machine.old.state + go ≤ most_steps }
+    ensures text { Prints (K.holds out.old) (K.holds out.new)
+        (shown_text asked go machine.old.state) result }
+    ensures cause { HasCause (K.faults out.old) (K.faults out.new) result }
+{
+    match asked {
+        Show::State => show_state(machine, go, out),
+        Show::Log { first, last } => show_log(first, last, machine, go, out),
+    }
+}
+
+fn show_state<K: Sink>(machine: &mut Machine, go: u64, out: &mut K) -> Result<(), SinkFault>
+    requires { steps_of machine.old.state + go ≤ most_steps }
+    ensures text { Prints (K.holds out.old) (K.holds out.new)
+        (state_of go machine.old.state) result }
+    ensures cause { HasCause (K.faults out.old) (K.faults out.new) result }
+{
+    take_steps(machine, go);
+    let mut pending = Output::new();
+    gather_state(machine, out, &mut pending)?;
+    pass_on(out, &mut pending)
+}
+
+// The steps before the first are taken without a word, and at most so many in all.
+fn show_log<K: Sink>(
+    first: u64,
+    last: u64,
+    machine: &mut Machine,
+    go: u64,
+    out: &mut K,
+) -> Result<(), SinkFault>
+    requires { steps_of machine.old.state + go ≤ most_steps }
+    ensures text { Prints (K.holds out.old) (K.holds out.new)
+        (log_of first last go machine.old.state) result }
+    ensures cause { HasCause (K.faults out.old) (K.faults out.new) result }
+{
+    let mut pending = Output::new();
+    gather_first(first, machine, out, &mut pending)?;
+    let skipped = first.saturating_sub(1).min(go);
+    let shown = last.min(go).saturating_sub(skipped);
+    take_steps(machine, skipped);
+    gather_steps(machine, shown, out, &mut pending)?;
+    pass_on(out, &mut pending)
+}
+
+// The events of the boot, before the first step.
+fn gather_first<K: Sink>(
+    first: u64,
+    machine: &Machine,
+    out: &mut K,
+    pending: &mut Output,
+) -> Result<(), SinkFault>
+    ensures text { Gathers (K.holds out.old) (K.holds out.new) pending.old pending.new
+        (first_lines first machine.now.state) result }
+    ensures cause { HasCause (K.faults out.old) (K.faults out.new) result }
+{
+    if first > 1 {
+        return Ok(());
+    }
+    gather_boot(machine, out, pending)
+}
+
+// Takes the steps, of which nothing is written.
+fn take_steps(machine: &mut Machine, n: u64)
+    requires { steps_of machine.old.state + n ≤ most_steps }
+    ensures { machine.new.state ≡ (run n machine.old.state).state }
+{
+    match machine.run(n, &mut NoSink, &mut Output::new(), &mut NoLog) {
+        Ok(_) => {}
+        Err(SinkFault) => unreachable!(),
+    }
+}

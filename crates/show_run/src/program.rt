@@ -1,0 +1,75 @@
+// The program: the words of the command line and an input, to an exit status and the bytes written.
+ghost use Rattle.std.specs.Prelude.{◌≡◌, List, ℕ, map, string_bytes};
+ghost use Rattle.program_answers.specs.Answered.{Answered};
+ghost use Rattle.program_answers.specs.Cause.{HasFaultCause};
+ghost use Rattle.program_answers.specs.Exit.{exit_code};
+ghost use Rattle.program_answers.specs.Input.{IsInput};
+ghost use Rattle.tp_io.specs.Write.{HasCause, Prints};
+ghost use Rattle.show_run.specs.InputAnswers.{IsAnswer};
+ghost use Rattle.show_run.specs.Leaves.{Leaves};
+ghost use Rattle.show_run.specs.Words.{show_of, usage_text};
+
+use crate::commands::show_of;
+use program_answers::{Status, answer_input, exit_code, status_after};
+use std::alloc::Global;
+use std::io::{Read, Write};
+use tp_io::{Sink, SinkFault, Source, StdSink, StdSource, write_text};
+
+/// The exit status of the program with these words, over any reader and any writer, which is given back.
+pub fn run<R: Read + Drop, W: Write + Drop>(
+    alloc: Global,
+    words: &[String],
+    reader: R,
+    writer: W,
+) -> (u8, W)
+    ensures { (input : List ℕ) × (status : Status) × IsInput (R.remaining reader) input
+        × (result.0 ≡ exit_code status)
+        × Answered (IsAnswer (map string_bytes words.now) input)
+        (W.contents writer) (W.contents result.1) status }
+{
+    let mut src = StdSource::new(reader);
+    let mut out = StdSink::new(writer);
+    let status = show(alloc, words, &mut src, &mut out);
+    (exit_code(status), out.into_writer())
+}
+
+/// Shows what the words of the command line ask for, of the session that is all that the source has left.
+pub fn show<S: Source, K: Sink>(
+    alloc: Global,
+    words: &[String],
+    src: &mut S,
+    out: &mut K,
+) -> Status
+    // The status and the bytes are those of the answer to the words and the input, which is all that
+    // the source had left.
+    ensures answer { (input : List ℕ) × IsInput (S.left src.old) input
+        × Answered (IsAnswer (map string_bytes words.now) input)
+        (K.holds out.old) (K.holds out.new) result }
+
+    // The input is read to its end, or to one byte past the limit. Nothing is read where the words
+    // ask for nothing.
+    ensures source { Leaves (show_of (map string_bytes words.now))
+        (S.left src.old) (S.left src.new) result }
+
+    // The source and the sink are blamed only where their counts of faults rose in this call.
+    ensures read_fault { HasFaultCause Status.ReadFault
+        (S.faults src.old) (S.faults src.new) result }
+    ensures write_fault { HasFaultCause Status.WriteFault
+        (K.faults out.old) (K.faults out.new) result }
+{
+    match show_of(words) {
+        Some(asked) => answer_input(alloc, &asked, src, out),
+        None => status_after(write_usage(out), Status::Usage),
+    }
+}
+
+// The words that there are.
+fn write_usage<K: Sink>(out: &mut K) -> Result<(), SinkFault>
+    ensures text { Prints (K.holds out.old) (K.holds out.new) usage_text result }
+    ensures cause { HasCause (K.faults out.old) (K.faults out.new) result }
+{
+    write_text(
+        out,
+        b"* usage: tripos_show state, log, or log FIRST LAST\n",
+    )
+}
