@@ -1,35 +1,35 @@
 -- A store holds the words of valid lists exactly where each pass finds what it looks for.
 use Rattle.std.proofs.Common.{◌≡◌, ◌↔◌, ℕ, ◌+◌, ◌-◌, ◌≤◌, List, [], ◌∷◌, ◌++◌, length, map, get_or, refl, sym, subst, arith}
 use Rattle.std.specs.List.{AllByRecursion}
-use Rattle.kernel_dispatch.specs.LinkedList.Chain.{IsChain}
-use Rattle.kernel_dispatch.specs.OwnedWords.LinkedWords.{headed_words}
-use Rattle.kernel_dispatch.specs.OwnedWords.Owned.{Holds, Pairs, row_from}
-use Rattle.kernel_dispatch.proofs.Shown.OwnedWords.OwnedWords.{Holds-append}
-use Rattle.kernel_dispatch.specs.GetvecChain.declared.pieces.Block.{Block}
-use Rattle.kernel_dispatch.specs.GetvecChain.Block.{block_end}
-use Rattle.kernel_dispatch.specs.GetvecChain.BlockWords.{blocks_words}
-use Rattle.kernel_dispatch.specs.GetvecChain.Tiling.{Follow, Tiles, blocks_in}
-use Rattle.kernel_dispatch.specs.HunkLoader.HeldModules.{module_address}
-use Rattle.kernel_dispatch.specs.HunkLoader.ModuleExchanges.{modules_words}
-use Rattle.kernel_dispatch.specs.HunkLoader.ModuleHunks.{hunk_count, lengths_in}
-use Rattle.kernel_dispatch.specs.PacketQueue.Queue.{link_of, queue_at}
-use Rattle.kernel_dispatch.specs.PacketQueue.QueueWords.{address_of, other_words, queue_words}
-use Rattle.kernel_dispatch.specs.TaskBlock.Lists.{modules_in}
-use Rattle.kernel_dispatch.specs.TaskBlock.TaskChain.{tasks_in}
-use Rattle.kernel_dispatch.specs.Coroutines.CoroutineExchanges.{words_of_coroutines}
-use Rattle.kernel_dispatch.specs.KernelModel.HoldsLists.{HoldsLists}
-use Rattle.kernel_dispatch.specs.KernelModel.KernelRanges.{CanWalkLists, CanWalkTask, IsModuleIn}
-use Rattle.kernel_dispatch.specs.KernelModel.Lists.{Lists, address_of_task}
-use Rattle.kernel_dispatch.specs.KernelModel.Owned.{clock_head, device_words, keyboard_head, output_head, owned, tasks_words}
-use Rattle.kernel_dispatch.specs.KernelModel.Recovered.{lists_in, module_in, packet_in, packets_at, task_in}
-use Rattle.kernel_dispatch.specs.KernelModel.Residents.{resident_words}
-use Rattle.kernel_dispatch.specs.KernelModel.Root.{root_words}
-use Rattle.kernel_dispatch.specs.KernelModel.Task.{Task, fault_words, name_words, other_words as task_others, queue_head, state_words, task_address, task_words}
-use Rattle.kernel_dispatch.proofs.Shown.KernelModel.BlockStarts.{Tiles-Follow}
-use Rattle.kernel_dispatch.proofs.Shown.KernelModel.EachMember.{holds-each}
-use Rattle.kernel_dispatch.proofs.Shown.KernelModel.OwnedParts.{HoldsParts, chain_part, holds-parts, root_part, table_part}
-use Rattle.kernel_dispatch.proofs.Shown.KernelModel.ReadCoroutines.{HoldsTask, holds-task}
-use Rattle.kernel_dispatch.proofs.Shown.KernelModel.WalkedLists.{can-walk}
+use Rattle.list_claims.specs.KernelDispatch.LinkedList.Chain.{IsChain}
+use Rattle.list_claims.specs.KernelDispatch.OwnedWords.LinkedWords.{headed_words}
+use Rattle.list_claims.specs.KernelDispatch.OwnedWords.Owned.{Holds, Pairs, row_from}
+use Rattle.list_claims.proofs.Shown.KernelDispatch.OwnedWords.OwnedWords.{Holds-append}
+use Rattle.list_claims.specs.KernelDispatch.GetvecChain.declared.pieces.Block.{Block}
+use Rattle.list_claims.specs.KernelDispatch.GetvecChain.Block.{block_end}
+use Rattle.list_claims.specs.KernelDispatch.GetvecChain.BlockWords.{blocks_words}
+use Rattle.list_claims.specs.KernelDispatch.GetvecChain.Tiling.{Follow, Tiles, blocks_in}
+use Rattle.list_claims.specs.KernelDispatch.HunkLoader.HeldModules.{module_address}
+use Rattle.list_claims.specs.KernelDispatch.HunkLoader.ModuleExchanges.{modules_words}
+use Rattle.list_claims.specs.KernelDispatch.HunkLoader.ModuleHunks.{hunk_count, lengths_in}
+use Rattle.list_claims.specs.KernelDispatch.PacketQueue.Queue.{link_of, queue_at}
+use Rattle.list_claims.specs.KernelDispatch.PacketQueue.QueueWords.{address_of, other_words, queue_words}
+use Rattle.list_claims.specs.KernelDispatch.TaskBlock.Lists.{modules_in}
+use Rattle.list_claims.specs.KernelDispatch.TaskBlock.TaskChain.{tasks_in}
+use Rattle.list_claims.specs.KernelDispatch.Coroutines.CoroutineExchanges.{words_of_coroutines}
+use Rattle.list_claims.specs.KernelDispatch.KernelModel.HoldsLists.{HoldsLists}
+use Rattle.list_claims.specs.KernelDispatch.KernelModel.KernelRanges.{CanWalkLists, CanWalkTask, IsModuleIn}
+use Rattle.list_claims.specs.KernelDispatch.KernelModel.Lists.{Lists, address_of_task}
+use Rattle.list_claims.specs.KernelDispatch.KernelModel.Owned.{clock_head, device_words, keyboard_head, output_head, owned, tasks_words}
+use Rattle.list_claims.specs.KernelDispatch.KernelModel.Recovered.{lists_in, module_in, packet_in, packets_at, task_in}
+use Rattle.list_claims.specs.KernelDispatch.KernelModel.Residents.{resident_words}
+use Rattle.list_claims.specs.KernelDispatch.KernelModel.Root.{root_words}
+use Rattle.list_claims.specs.KernelDispatch.KernelModel.Task.{Task, fault_words, name_words, other_words as task_others, queue_head, state_words, task_address, task_words}
+use Rattle.list_claims.proofs.Shown.KernelDispatch.KernelModel.BlockStarts.{Tiles-Follow}
+use Rattle.list_claims.proofs.Shown.KernelDispatch.KernelModel.EachMember.{holds-each}
+use Rattle.list_claims.proofs.Shown.KernelDispatch.KernelModel.OwnedParts.{HoldsParts, chain_part, holds-parts, root_part, table_part}
+use Rattle.list_claims.proofs.Shown.KernelDispatch.KernelModel.ReadCoroutines.{HoldsTask, holds-task}
+use Rattle.list_claims.proofs.Shown.KernelDispatch.KernelModel.WalkedLists.{can-walk}
 use Rattle.adoption_law.specs.Passes.{HeadStands, Passes}
 use Rattle.list_claims.specs.ListEnds.{TaskListsEnd}
 use Rattle.adoption_law.proofs.HeldChains.{chain-held, range-row, IsRow}

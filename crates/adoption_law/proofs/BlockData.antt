@@ -2,14 +2,14 @@
 use Rattle.std.proofs.Common.{◌≡◌, ℕ, ◌+◌, ◌<◌, ◌≤◌, ◌&&◌, ◌||◌, Bool, true, false, not, cond, ltb, Some, List, [], ◌∷◌, refl, sym, ap, ◌∙◌, arith, inl, inr}
 use Rattle.std.proofs.lemmas.Bool.{and_parts, and_right, cases_lt, false≢true, le-ltb}
 use Rattle.word_store.proofs.Counts.{hit-other}
-use Rattle.kernel_dispatch.specs.OwnedWords.Owned.{owners}
-use Rattle.kernel_dispatch.specs.GetvecChain.declared.pieces.Block.{Block}
-use Rattle.kernel_dispatch.specs.GetvecChain.Block.{block_end, has_data}
-use Rattle.kernel_dispatch.specs.GetvecChain.BlockWords.{blocks_words}
-use Rattle.kernel_dispatch.specs.GetvecChain.Tiling.{Follow, holding}
-use Rattle.kernel_dispatch.proofs.Shown.GetvecChain.SizeWords.{Follow-order}
-use Rattle.kernel_dispatch.proofs.Shown.GetvecChain.UsedBlocks.{has_data-true}
-use Rattle.kernel_dispatch.specs.KernelModel.ValidBlocks.{AreData}
+use Rattle.list_claims.specs.KernelDispatch.OwnedWords.Owned.{owners}
+use Rattle.list_claims.specs.KernelDispatch.GetvecChain.declared.pieces.Block.{Block}
+use Rattle.list_claims.specs.KernelDispatch.GetvecChain.Block.{block_end, has_data}
+use Rattle.list_claims.specs.KernelDispatch.GetvecChain.BlockWords.{blocks_words}
+use Rattle.list_claims.specs.KernelDispatch.GetvecChain.Tiling.{Follow, holding}
+use Rattle.list_claims.proofs.Shown.KernelDispatch.GetvecChain.SizeWords.{Follow-order}
+use Rattle.list_claims.proofs.Shown.KernelDispatch.GetvecChain.UsedBlocks.{has_data-true}
+use Rattle.list_claims.specs.KernelDispatch.KernelModel.ValidBlocks.{AreData}
 use Rattle.list_claims.specs.BlockData.{is_used_data}
 
 has_data-behind : (b : Block) (a : ℕ) → block_end b ≤ a → has_data b a ≡ false

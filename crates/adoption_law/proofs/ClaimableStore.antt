@@ -4,28 +4,28 @@ use Rattle.std.specs.List.{AllByRecursion, flat_map, range_with_len}
 use Rattle.std.proofs.lemmas.Bool.{false≢true}
 use Rattle.word_store.specs.Count.{times, words_of}
 use Rattle.word_store.proofs.Counts.{times-append, times-within, times-words_more}
-use Rattle.kernel_dispatch.specs.OwnedWords.LinkedWords.{linked_words}
-use Rattle.kernel_dispatch.specs.OwnedWords.Owned.{Pairs, owners}
-use Rattle.kernel_dispatch.proofs.Shown.OwnedWords.RowWords.{owners-row}
-use Rattle.kernel_dispatch.specs.GetvecChain.Tiling.{Follow, IsTiled, blocks_in}
-use Rattle.kernel_dispatch.proofs.Shown.GetvecChain.Tilings.{IsTiled-inside}
-use Rattle.kernel_dispatch.proofs.Shown.KernelModel.BlockStarts.{Tiles-Follow}
+use Rattle.list_claims.specs.KernelDispatch.OwnedWords.LinkedWords.{linked_words}
+use Rattle.list_claims.specs.KernelDispatch.OwnedWords.Owned.{Pairs, owners}
+use Rattle.list_claims.proofs.Shown.KernelDispatch.OwnedWords.RowWords.{owners-row}
+use Rattle.list_claims.specs.KernelDispatch.GetvecChain.Tiling.{Follow, IsTiled, blocks_in}
+use Rattle.list_claims.proofs.Shown.KernelDispatch.GetvecChain.Tilings.{IsTiled-inside}
+use Rattle.list_claims.proofs.Shown.KernelDispatch.KernelModel.BlockStarts.{Tiles-Follow}
 use Rattle.adoption_law.proofs.BlockData.{lies-in-data}
-use Rattle.kernel_dispatch.specs.HunkLoader.HeldModules.{module_address, module_words}
-use Rattle.kernel_dispatch.specs.HunkLoader.ModuleHunks.{hunk_count}
-use Rattle.kernel_dispatch.specs.TaskBlock.Lists.{modules_in}
-use Rattle.kernel_dispatch.specs.TaskBlock.TaskChain.{tasks_in}
-use Rattle.kernel_dispatch.specs.KernelModel.HoldsLists.{HoldsLists}
-use Rattle.kernel_dispatch.specs.KernelModel.KernelRanges.{IsModuleIn, has_residents}
-use Rattle.kernel_dispatch.specs.KernelModel.Lists.{Lists}
-use Rattle.kernel_dispatch.specs.KernelModel.Owned.{clock_head, keyboard_head, output_head}
-use Rattle.kernel_dispatch.specs.KernelModel.Recovered.{lists_in, module_in, packets_at, task_in}
-use Rattle.kernel_dispatch.specs.KernelModel.Residents.{fault_packet_words, key_words, resident_words}
-use Rattle.kernel_dispatch.specs.KernelModel.Task.{task_address, task_words}
-use Rattle.kernel_dispatch.proofs.Shown.KernelModel.OwnerCounts.{owners-residents}
+use Rattle.list_claims.specs.KernelDispatch.HunkLoader.HeldModules.{module_address, module_words}
+use Rattle.list_claims.specs.KernelDispatch.HunkLoader.ModuleHunks.{hunk_count}
+use Rattle.list_claims.specs.KernelDispatch.TaskBlock.Lists.{modules_in}
+use Rattle.list_claims.specs.KernelDispatch.TaskBlock.TaskChain.{tasks_in}
+use Rattle.list_claims.specs.KernelDispatch.KernelModel.HoldsLists.{HoldsLists}
+use Rattle.list_claims.specs.KernelDispatch.KernelModel.KernelRanges.{IsModuleIn, has_residents}
+use Rattle.list_claims.specs.KernelDispatch.KernelModel.Lists.{Lists}
+use Rattle.list_claims.specs.KernelDispatch.KernelModel.Owned.{clock_head, keyboard_head, output_head}
+use Rattle.list_claims.specs.KernelDispatch.KernelModel.Recovered.{lists_in, module_in, packets_at, task_in}
+use Rattle.list_claims.specs.KernelDispatch.KernelModel.Residents.{fault_packet_words, key_words, resident_words}
+use Rattle.list_claims.specs.KernelDispatch.KernelModel.Task.{task_address, task_words}
+use Rattle.list_claims.proofs.Shown.KernelDispatch.KernelModel.OwnerCounts.{owners-residents}
 use Rattle.list_claims.specs.BlockData.{is_used_data}
-use Rattle.word_claims.specs.Marks.{is_open}
-use Rattle.word_claims.proofs.ClaimedWords.{open-low}
+use Rattle.list_claims.specs.WordClaims.Marks.{is_open}
+use Rattle.list_claims.proofs.Shown.WordClaims.ClaimedWords.{open-low}
 use Rattle.adoption_law.specs.Passes.{ListsEnd}
 use Rattle.adoption_law.proofs.AllPasses.{passes}
 use Rattle.adoption_law.specs.ClaimCounts.{claim_count, packet_count}

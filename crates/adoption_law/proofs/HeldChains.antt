@@ -3,10 +3,10 @@ use Rattle.std.proofs.Common.{◌≡◌, ℕ, zero, suc, ◌+◌, ◌≤◌, Lis
 use Rattle.std.specs.Prelude.{slice_range}
 use Rattle.std.specs.List.{AllByRecursion}
 use Rattle.word_store.proofs.Rows.{range_first, range_none}
-use Rattle.kernel_dispatch.specs.LinkedList.Chain.{IsChain}
-use Rattle.kernel_dispatch.specs.OwnedWords.LinkedWords.{headed_words, linked_words}
-use Rattle.kernel_dispatch.specs.OwnedWords.Owned.{Holds, Pairs, row_from}
-use Rattle.kernel_dispatch.proofs.Shown.OwnedWords.OwnedWords.{Holds-append}
+use Rattle.list_claims.specs.KernelDispatch.LinkedList.Chain.{IsChain}
+use Rattle.list_claims.specs.KernelDispatch.OwnedWords.LinkedWords.{headed_words, linked_words}
+use Rattle.list_claims.specs.KernelDispatch.OwnedWords.Owned.{Holds, Pairs, row_from}
+use Rattle.list_claims.proofs.Shown.KernelDispatch.OwnedWords.OwnedWords.{Holds-append}
 
 -- the link of such a thing is its first word
 pub chain-held : {X : Type 0} (address : X → ℕ) (other : X → Pairs) (s : List ℕ) (at : ℕ) (xs : List X) → IsChain s (λ a. a) at (map address xs) → AllByRecursion (λ x. Holds s (other x)) xs

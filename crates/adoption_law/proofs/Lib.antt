@@ -5,3 +5,4 @@ pub mod BlockData
 pub mod OwnedOnce
 pub mod WordCounts
 pub mod ClaimableStore
+pub mod Shown

@@ -4,16 +4,16 @@ use Rattle.std.specs.Prelude.{is_some}
 use Rattle.std.proofs.lemmas.Bool.{cases_lt}
 use Rattle.std.proofs.lemmas.List.{ext_get_or}
 use Rattle.std.proofs.lemmas.List.FromFn.{get_or-map-range_with_len, length-map-range_with_len}
-use Rattle.kernel_dispatch.specs.OwnedWords.Owned.{Pairs, owners, word_in}
-use Rattle.kernel_dispatch.proofs.Shown.OwnedWords.OwnedWords.{word_in-none}
-use Rattle.kernel_dispatch.specs.KernelModel.HoldsLists.{HoldsLists}
-use Rattle.kernel_dispatch.specs.KernelModel.Image.{HasPlainWords, IsImage, plain_at, plain_words}
-use Rattle.kernel_dispatch.specs.KernelModel.Kernel.{Kernel}
-use Rattle.kernel_dispatch.specs.KernelModel.Lists.{Lists}
-use Rattle.kernel_dispatch.specs.KernelModel.Owned.{OwnsApart, owned}
-use Rattle.kernel_dispatch.specs.KernelModel.Recovered.{lists_in}
-use Rattle.kernel_dispatch.specs.KernelModel.ValidKernel.{IsValid}
-use Rattle.kernel_dispatch.proofs.Shown.KernelModel.RecoveredLists.{lists-back}
+use Rattle.list_claims.specs.KernelDispatch.OwnedWords.Owned.{Pairs, owners, word_in}
+use Rattle.list_claims.proofs.Shown.KernelDispatch.OwnedWords.OwnedWords.{word_in-none}
+use Rattle.list_claims.specs.KernelDispatch.KernelModel.HoldsLists.{HoldsLists}
+use Rattle.list_claims.specs.KernelDispatch.KernelModel.Image.{HasPlainWords, IsImage, plain_at, plain_words}
+use Rattle.list_claims.specs.KernelDispatch.KernelModel.Kernel.{Kernel}
+use Rattle.list_claims.specs.KernelDispatch.KernelModel.Lists.{Lists}
+use Rattle.list_claims.specs.KernelDispatch.KernelModel.Owned.{OwnsApart, owned}
+use Rattle.list_claims.specs.KernelDispatch.KernelModel.Recovered.{lists_in}
+use Rattle.list_claims.specs.KernelDispatch.KernelModel.ValidKernel.{IsValid}
+use Rattle.list_claims.proofs.Shown.KernelDispatch.KernelModel.RecoveredLists.{lists-back}
 use Rattle.adoption_law.specs.OtherParts.{OtherParts}
 use Rattle.adoption_law.specs.Adoption.{HasKernel, IsAdopted, OthersStand, StandsFor, kernel_in}
 

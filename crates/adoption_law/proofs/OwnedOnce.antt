@@ -4,19 +4,19 @@ use Rattle.std.specs.List.{range_with_len}
 use Rattle.std.proofs.lemmas.Bool.{cases_eq, cases_lt}
 use Rattle.word_store.specs.Count.{hit, times}
 use Rattle.word_store.proofs.Counts.{hit-le, hit-other, hit-same, range-apart, range-high}
-use Rattle.kernel_dispatch.specs.OwnedWords.Owned.{owners}
-use Rattle.kernel_dispatch.specs.GetvecChain.declared.pieces.Block.{Block}
-use Rattle.kernel_dispatch.specs.GetvecChain.Block.{block_end}
-use Rattle.kernel_dispatch.specs.GetvecChain.BlockWords.{blocks_words}
-use Rattle.kernel_dispatch.specs.GetvecChain.Tiling.{Follow, IsTiled, Tiles, blocks_in}
-use Rattle.kernel_dispatch.specs.KernelModel.HoldsLists.{HoldsLists}
-use Rattle.kernel_dispatch.specs.KernelModel.Lists.{Lists}
-use Rattle.kernel_dispatch.specs.KernelModel.Owned.{OwnsApart, owned}
-use Rattle.kernel_dispatch.specs.KernelModel.Recovered.{lists_in}
-use Rattle.kernel_dispatch.specs.KernelModel.UsedData.{OwnedWhere}
-use Rattle.kernel_dispatch.proofs.Shown.KernelModel.BlockStarts.{Tiles-Follow, starts-once, starts-within}
-use Rattle.kernel_dispatch.proofs.Shown.KernelModel.DataLaw.{owned-where}
-use Rattle.kernel_dispatch.proofs.Shown.KernelModel.RootCounts.{owners-nodes}
+use Rattle.list_claims.specs.KernelDispatch.OwnedWords.Owned.{owners}
+use Rattle.list_claims.specs.KernelDispatch.GetvecChain.declared.pieces.Block.{Block}
+use Rattle.list_claims.specs.KernelDispatch.GetvecChain.Block.{block_end}
+use Rattle.list_claims.specs.KernelDispatch.GetvecChain.BlockWords.{blocks_words}
+use Rattle.list_claims.specs.KernelDispatch.GetvecChain.Tiling.{Follow, IsTiled, Tiles, blocks_in}
+use Rattle.list_claims.specs.KernelDispatch.KernelModel.HoldsLists.{HoldsLists}
+use Rattle.list_claims.specs.KernelDispatch.KernelModel.Lists.{Lists}
+use Rattle.list_claims.specs.KernelDispatch.KernelModel.Owned.{OwnsApart, owned}
+use Rattle.list_claims.specs.KernelDispatch.KernelModel.Recovered.{lists_in}
+use Rattle.list_claims.specs.KernelDispatch.KernelModel.UsedData.{OwnedWhere}
+use Rattle.list_claims.proofs.Shown.KernelDispatch.KernelModel.BlockStarts.{Tiles-Follow, starts-once, starts-within}
+use Rattle.list_claims.proofs.Shown.KernelDispatch.KernelModel.DataLaw.{owned-where}
+use Rattle.list_claims.proofs.Shown.KernelDispatch.KernelModel.RootCounts.{owners-nodes}
 use Rattle.list_claims.specs.BlockData.{is_used_data}
 use Rattle.adoption_law.specs.Passes.{RootStands}
 use Rattle.adoption_law.specs.ClaimCounts.{AreUsed, claim_count}

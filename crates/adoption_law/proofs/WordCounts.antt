@@ -3,29 +3,29 @@ use Rattle.std.proofs.Common.{◌≡◌, ℕ, ◌+◌, ◌-◌, ◌&&◌, Bool, 
 use Rattle.std.specs.List.{AllByRecursion, flat_map, range_with_len}
 use Rattle.word_store.specs.Count.{times, words_of}
 use Rattle.word_store.proofs.Counts.{times-append, times-words_more}
-use Rattle.kernel_dispatch.specs.OwnedWords.LinkedWords.{first_of, linked_words}
-use Rattle.kernel_dispatch.specs.OwnedWords.Owned.{owners}
-use Rattle.kernel_dispatch.proofs.Shown.OwnedWords.OwnedWords.{owners-append}
-use Rattle.kernel_dispatch.proofs.Shown.OwnedWords.RowWords.{owners-row}
-use Rattle.kernel_dispatch.specs.HunkLoader.HeldModules.{module_address, module_words}
-use Rattle.kernel_dispatch.specs.HunkLoader.ModuleHunks.{hunk_count, lengths_in}
-use Rattle.kernel_dispatch.specs.PacketQueue.Queue.{no_queue, packet_size, queue_at}
-use Rattle.kernel_dispatch.specs.PacketQueue.QueueWords.{address_of, packet_words}
-use Rattle.kernel_dispatch.specs.TaskBlock.Lists.{coroutines_in}
-use Rattle.kernel_dispatch.specs.TaskBlock.TaskChain.{id_in}
-use Rattle.kernel_dispatch.specs.Coroutines.HeldCoroutines.{address_of as coroutine_address}
-use Rattle.kernel_dispatch.specs.Coroutines.CoroutineWords.{coroutine_size}
-use Rattle.kernel_dispatch.specs.KernelModel.BlockUse.{coroutine_addresses}
-use Rattle.kernel_dispatch.specs.KernelModel.KernelRanges.{IsModuleIn, task_size_in}
-use Rattle.kernel_dispatch.specs.KernelModel.Recovered.{coroutine_in, module_in, packet_in, packets_at, task_in}
-use Rattle.kernel_dispatch.specs.KernelModel.Residents.{fault_packet_words, key_words}
-use Rattle.kernel_dispatch.specs.KernelModel.Task.{is_guest_id, queue_head, task_address, task_words}
-use Rattle.kernel_dispatch.specs.KernelModel.Versions.{head_words_of}
-use Rattle.kernel_dispatch.proofs.Shown.KernelModel.CutRanges.{times-cut}
-use Rattle.kernel_dispatch.proofs.Shown.KernelModel.OwnerCounts.{packets_count}
-use Rattle.kernel_dispatch.proofs.Shown.KernelModel.QueueCounts.{owners-packet}
-use Rattle.kernel_dispatch.proofs.Shown.KernelModel.RootCounts.{head-low}
-use Rattle.kernel_dispatch.proofs.Shown.KernelModel.TaskCounts.{further_count, owners-task_by}
+use Rattle.list_claims.specs.KernelDispatch.OwnedWords.LinkedWords.{first_of, linked_words}
+use Rattle.list_claims.specs.KernelDispatch.OwnedWords.Owned.{owners}
+use Rattle.list_claims.proofs.Shown.KernelDispatch.OwnedWords.OwnedWords.{owners-append}
+use Rattle.list_claims.proofs.Shown.KernelDispatch.OwnedWords.RowWords.{owners-row}
+use Rattle.list_claims.specs.KernelDispatch.HunkLoader.HeldModules.{module_address, module_words}
+use Rattle.list_claims.specs.KernelDispatch.HunkLoader.ModuleHunks.{hunk_count, lengths_in}
+use Rattle.list_claims.specs.KernelDispatch.PacketQueue.Queue.{no_queue, packet_size, queue_at}
+use Rattle.list_claims.specs.KernelDispatch.PacketQueue.QueueWords.{address_of, packet_words}
+use Rattle.list_claims.specs.KernelDispatch.TaskBlock.Lists.{coroutines_in}
+use Rattle.list_claims.specs.KernelDispatch.TaskBlock.TaskChain.{id_in}
+use Rattle.list_claims.specs.KernelDispatch.Coroutines.HeldCoroutines.{address_of as coroutine_address}
+use Rattle.list_claims.specs.KernelDispatch.Coroutines.CoroutineWords.{coroutine_size}
+use Rattle.list_claims.specs.KernelDispatch.KernelModel.BlockUse.{coroutine_addresses}
+use Rattle.list_claims.specs.KernelDispatch.KernelModel.KernelRanges.{IsModuleIn, task_size_in}
+use Rattle.list_claims.specs.KernelDispatch.KernelModel.Recovered.{coroutine_in, module_in, packet_in, packets_at, task_in}
+use Rattle.list_claims.specs.KernelDispatch.KernelModel.Residents.{fault_packet_words, key_words}
+use Rattle.list_claims.specs.KernelDispatch.KernelModel.Task.{is_guest_id, queue_head, task_address, task_words}
+use Rattle.list_claims.specs.KernelDispatch.KernelModel.Versions.{head_words_of}
+use Rattle.list_claims.proofs.Shown.KernelDispatch.KernelModel.CutRanges.{times-cut}
+use Rattle.list_claims.proofs.Shown.KernelDispatch.KernelModel.OwnerCounts.{packets_count}
+use Rattle.list_claims.proofs.Shown.KernelDispatch.KernelModel.QueueCounts.{owners-packet}
+use Rattle.list_claims.proofs.Shown.KernelDispatch.KernelModel.RootCounts.{head-low}
+use Rattle.list_claims.proofs.Shown.KernelDispatch.KernelModel.TaskCounts.{further_count, owners-task_by}
 use Rattle.adoption_law.proofs.HeldChains.{IsRow, range-row}
 use Rattle.list_claims.specs.ListWords.{coroutine_words_at, free_packet, module_size_in, queue_words_at, task_list_words}
 

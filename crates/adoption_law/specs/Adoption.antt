@@ -1,11 +1,11 @@
 -- The valid kernel that stands for a store and the other parts of a machine.
 use Rattle.std.specs.Prelude.{◌≡◌, ◌/◌, ℕ, None, List}
-use Rattle.kernel_dispatch.specs.KernelModel.Between.{FirstRuns, RegistersStand, ResidentsStand}
-use Rattle.kernel_dispatch.specs.KernelModel.HoldsLists.{HoldsLists}
-use Rattle.kernel_dispatch.specs.KernelModel.Image.{IsImage, plain_words}
-use Rattle.kernel_dispatch.specs.KernelModel.Kernel.{Kernel}
-use Rattle.kernel_dispatch.specs.KernelModel.Recovered.{lists_in}
-use Rattle.kernel_dispatch.specs.KernelModel.ValidKernel.{HasSteps, IsValid}
+use Rattle.list_claims.specs.KernelDispatch.KernelModel.Between.{FirstRuns, RegistersStand, ResidentsStand}
+use Rattle.list_claims.specs.KernelDispatch.KernelModel.HoldsLists.{HoldsLists}
+use Rattle.list_claims.specs.KernelDispatch.KernelModel.Image.{IsImage, plain_words}
+use Rattle.list_claims.specs.KernelDispatch.KernelModel.Kernel.{Kernel}
+use Rattle.list_claims.specs.KernelDispatch.KernelModel.Recovered.{lists_in}
+use Rattle.list_claims.specs.KernelDispatch.KernelModel.ValidKernel.{HasSteps, IsValid}
 use Rattle.adoption_law.specs.OtherParts.{OtherParts}
 
 -- The kernel, which has not stopped, stands for the store and the other parts.

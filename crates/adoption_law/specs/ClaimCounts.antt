@@ -1,14 +1,14 @@
 -- The words that the walks of a check claim: those of linked things and of residents, of the lists that are read off.
 use Rattle.std.specs.Prelude.{◌≡◌, ℕ, ◌+◌, ◌<◌, true, List}
-use Rattle.kernel_dispatch.specs.OwnedWords.LinkedWords.{linked_words}
-use Rattle.kernel_dispatch.specs.OwnedWords.Owned.{owners}
-use Rattle.kernel_dispatch.specs.GetvecChain.Tiling.{blocks_in}
-use Rattle.kernel_dispatch.specs.HunkLoader.HeldModules.{module_address, module_words}
-use Rattle.kernel_dispatch.specs.PacketQueue.QueueWords.{QueuedPacket, address_of, packet_words}
-use Rattle.kernel_dispatch.specs.KernelModel.Lists.{Lists}
-use Rattle.kernel_dispatch.specs.KernelModel.Recovered.{lists_in}
-use Rattle.kernel_dispatch.specs.KernelModel.Residents.{resident_words}
-use Rattle.kernel_dispatch.specs.KernelModel.Task.{task_address, task_words}
+use Rattle.list_claims.specs.KernelDispatch.OwnedWords.LinkedWords.{linked_words}
+use Rattle.list_claims.specs.KernelDispatch.OwnedWords.Owned.{owners}
+use Rattle.list_claims.specs.KernelDispatch.GetvecChain.Tiling.{blocks_in}
+use Rattle.list_claims.specs.KernelDispatch.HunkLoader.HeldModules.{module_address, module_words}
+use Rattle.list_claims.specs.KernelDispatch.PacketQueue.QueueWords.{QueuedPacket, address_of, packet_words}
+use Rattle.list_claims.specs.KernelDispatch.KernelModel.Lists.{Lists}
+use Rattle.list_claims.specs.KernelDispatch.KernelModel.Recovered.{lists_in}
+use Rattle.list_claims.specs.KernelDispatch.KernelModel.Residents.{resident_words}
+use Rattle.list_claims.specs.KernelDispatch.KernelModel.Task.{task_address, task_words}
 use Rattle.list_claims.specs.BlockData.{is_used_data}
 
 -- how often the address is among the words of queued packets

@@ -1,9 +1,9 @@
 -- What the walks of a check claim.
 use Rattle.std.specs.Prelude.{◌≡◌, ℕ, ◌<◌, ◌≤◌, Bool, List, length}
-use Rattle.kernel_dispatch.specs.GetvecChain.Tiling.{blocks_in}
-use Rattle.kernel_dispatch.specs.KernelModel.Recovered.{lists_in}
+use Rattle.list_claims.specs.KernelDispatch.GetvecChain.Tiling.{blocks_in}
+use Rattle.list_claims.specs.KernelDispatch.KernelModel.Recovered.{lists_in}
 use Rattle.list_claims.specs.BlockData.{is_used_data}
-use Rattle.word_claims.specs.Marks.{is_open}
+use Rattle.list_claims.specs.WordClaims.Marks.{is_open}
 use Rattle.adoption_law.specs.Passes.{ListsEnd}
 use Rattle.adoption_law.specs.ClaimCounts.{AreUsed, claim_count}
 

@@ -2,7 +2,7 @@
 use Rattle.std.specs.Prelude.{ℕ, Option, List}
 use Rattle.word_store.specs.declared.registers.Regs.{Regs}
 use Rattle.ram_disc.specs.Disc.{Disc}
-use Rattle.kernel_dispatch.specs.KernelModel.Kernel.{Console, Pipe, Shell}
+use Rattle.list_claims.specs.KernelDispatch.KernelModel.Kernel.{Console, Pipe, Shell}
 
 -- What a machine that has not stopped tells besides its words.
 pub record OtherParts : Type 0 where

@@ -1,29 +1,29 @@
 -- What each pass of a check finds of a store with any words. Each speaks of the lists that are read off, `lists_in`.
 use Rattle.std.specs.Prelude.{◌≡◌, ℕ, true, IsTrue, List, length, slice_index}
 use Rattle.std.specs.List.{AllByRecursion}
-use Rattle.kernel_dispatch.specs.LinkedList.Chain.{IsChain}
-use Rattle.kernel_dispatch.specs.OwnedWords.Owned.{Holds}
-use Rattle.kernel_dispatch.specs.GetvecChain.Tiling.{IsTiled}
-use Rattle.kernel_dispatch.specs.PacketQueue.Queue.{link_of, queue_at}
-use Rattle.kernel_dispatch.specs.KernelModel.Ranges.{IsVersion, is_period, is_store_size}
-use Rattle.kernel_dispatch.specs.TaskBlock.ChainWords.{entries}
-use Rattle.kernel_dispatch.specs.TaskBlock.HeldTasks.{address_with}
-use Rattle.kernel_dispatch.specs.TaskBlock.Lists.{module_link, modules_in}
-use Rattle.kernel_dispatch.specs.TaskBlock.RootWords.{first_module, first_task, root_address}
-use Rattle.kernel_dispatch.specs.TaskBlock.TaskChain.{task_link, tasks_in}
-use Rattle.kernel_dispatch.specs.TaskBlock.declared.roots.RootField.TheVariants.{Running}
-use Rattle.kernel_dispatch.specs.Coroutines.CoroutineExchanges.{words_of_coroutines}
-use Rattle.kernel_dispatch.specs.KernelModel.KernelRanges.{IsModuleIn}
-use Rattle.kernel_dispatch.specs.KernelModel.Lists.{Lists, address_of_task}
-use Rattle.kernel_dispatch.specs.KernelModel.Owned.{OwnsApart, clock_head, keyboard_head, output_head}
-use Rattle.kernel_dispatch.specs.KernelModel.Recovered.{has_residents, lists_in}
-use Rattle.kernel_dispatch.specs.KernelModel.Residents.{pending_head, resident_words}
-use Rattle.kernel_dispatch.specs.KernelModel.Root.{root_words}
-use Rattle.kernel_dispatch.specs.KernelModel.Task.{Task, fault_words, state_words, task_address, task_id}
-use Rattle.kernel_dispatch.specs.KernelModel.ValidBlocks.{HasBlock, ModulesStand, last_resident_word}
-use Rattle.kernel_dispatch.specs.KernelModel.ValidQueues.{QueuesStand}
-use Rattle.kernel_dispatch.specs.KernelModel.ValidTasks.{CoroutinesStand, TasksStand}
-use Rattle.kernel_dispatch.specs.KernelModel.Versions.{highest_id_of}
+use Rattle.list_claims.specs.KernelDispatch.LinkedList.Chain.{IsChain}
+use Rattle.list_claims.specs.KernelDispatch.OwnedWords.Owned.{Holds}
+use Rattle.list_claims.specs.KernelDispatch.GetvecChain.Tiling.{IsTiled}
+use Rattle.list_claims.specs.KernelDispatch.PacketQueue.Queue.{link_of, queue_at}
+use Rattle.list_claims.specs.KernelDispatch.KernelModel.Ranges.{IsVersion, is_period, is_store_size}
+use Rattle.list_claims.specs.KernelDispatch.TaskBlock.ChainWords.{entries}
+use Rattle.list_claims.specs.KernelDispatch.TaskBlock.HeldTasks.{address_with}
+use Rattle.list_claims.specs.KernelDispatch.TaskBlock.Lists.{module_link, modules_in}
+use Rattle.list_claims.specs.KernelDispatch.TaskBlock.RootWords.{first_module, first_task, root_address}
+use Rattle.list_claims.specs.KernelDispatch.TaskBlock.TaskChain.{task_link, tasks_in}
+use Rattle.list_claims.specs.KernelDispatch.TaskBlock.declared.roots.RootField.TheVariants.{Running}
+use Rattle.list_claims.specs.KernelDispatch.Coroutines.CoroutineExchanges.{words_of_coroutines}
+use Rattle.list_claims.specs.KernelDispatch.KernelModel.KernelRanges.{IsModuleIn}
+use Rattle.list_claims.specs.KernelDispatch.KernelModel.Lists.{Lists, address_of_task}
+use Rattle.list_claims.specs.KernelDispatch.KernelModel.Owned.{OwnsApart, clock_head, keyboard_head, output_head}
+use Rattle.list_claims.specs.KernelDispatch.KernelModel.Recovered.{has_residents, lists_in}
+use Rattle.list_claims.specs.KernelDispatch.KernelModel.Residents.{pending_head, resident_words}
+use Rattle.list_claims.specs.KernelDispatch.KernelModel.Root.{root_words}
+use Rattle.list_claims.specs.KernelDispatch.KernelModel.Task.{Task, fault_words, state_words, task_address, task_id}
+use Rattle.list_claims.specs.KernelDispatch.KernelModel.ValidBlocks.{HasBlock, ModulesStand, last_resident_word}
+use Rattle.list_claims.specs.KernelDispatch.KernelModel.ValidQueues.{QueuesStand}
+use Rattle.list_claims.specs.KernelDispatch.KernelModel.ValidTasks.{CoroutinesStand, TasksStand}
+use Rattle.list_claims.specs.KernelDispatch.KernelModel.Versions.{highest_id_of}
 use Rattle.list_claims.specs.ListEnds.{TaskListsEnd}
 
 -- ---- the root, with its numbers and its fixed words, whoever runs

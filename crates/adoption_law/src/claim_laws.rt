@@ -1,11 +1,11 @@
 // Laws of claimed words: they are those that the lists own.
 ghost use Rattle.std.specs.Prelude.{◌≡◌, ◌↔◌, ◌+◌, ◌<◌, ◌≤◌, Bool, ℕ, List, true};
-ghost use Rattle.kernel_dispatch.specs.GetvecChain.declared.pieces.Block.{Block};
-ghost use Rattle.kernel_dispatch.specs.GetvecChain.Tiling.{Follow, IsTiled};
-ghost use Rattle.kernel_dispatch.specs.KernelModel.HoldsLists.{HoldsLists};
-ghost use Rattle.kernel_dispatch.specs.KernelModel.Owned.{OwnsApart};
-ghost use Rattle.kernel_dispatch.specs.KernelModel.Recovered.{lists_in};
-ghost use Rattle.kernel_dispatch.specs.KernelModel.ValidBlocks.{AreData};
+ghost use Rattle.list_claims.specs.KernelDispatch.GetvecChain.declared.pieces.Block.{Block};
+ghost use Rattle.list_claims.specs.KernelDispatch.GetvecChain.Tiling.{Follow, IsTiled};
+ghost use Rattle.list_claims.specs.KernelDispatch.KernelModel.HoldsLists.{HoldsLists};
+ghost use Rattle.list_claims.specs.KernelDispatch.KernelModel.Owned.{OwnsApart};
+ghost use Rattle.list_claims.specs.KernelDispatch.KernelModel.Recovered.{lists_in};
+ghost use Rattle.list_claims.specs.KernelDispatch.KernelModel.ValidBlocks.{AreData};
 ghost use Rattle.list_claims.specs.BlockData.{is_used_data};
 ghost use Rattle.list_claims.specs.ListEnds.{AllEnd};
 ghost use Rattle.list_claims.specs.ListWords.{Can, all_words};

@@ -1,7 +1,7 @@
 // The law of the valid kernel that stands for a store and the other parts of a machine.
 ghost use Rattle.std.specs.Prelude.{◌≡◌, ◌↔◌, ℕ, List};
-ghost use Rattle.kernel_dispatch.specs.KernelModel.Kernel.{Kernel};
-ghost use Rattle.kernel_dispatch.specs.KernelModel.ValidKernel.{IsValid};
+ghost use Rattle.list_claims.specs.KernelDispatch.KernelModel.Kernel.{Kernel};
+ghost use Rattle.list_claims.specs.KernelDispatch.KernelModel.ValidKernel.{IsValid};
 ghost use Rattle.adoption_law.specs.Adoption.{HasKernel, IsAdopted, StandsFor, kernel_in};
 ghost use Rattle.adoption_law.specs.OtherParts.{OtherParts};
 

@@ -5,3 +5,8 @@
 pub mod claim_laws;
 pub mod laws;
 pub mod pass_laws;
+
+// Shown to the crates above.
+pub use list_claims::{
+    Claims, PARENT, are_tiled, claim_active, claim_lists, has_task, kernel_dispatch, open_blocks,
+};

@@ -1,7 +1,7 @@
 // The law of what the passes of a check find.
 ghost use Rattle.std.specs.Prelude.{◌↔◌, ℕ, List};
-ghost use Rattle.kernel_dispatch.specs.KernelModel.HoldsLists.{HoldsLists};
-ghost use Rattle.kernel_dispatch.specs.KernelModel.Recovered.{lists_in};
+ghost use Rattle.list_claims.specs.KernelDispatch.KernelModel.HoldsLists.{HoldsLists};
+ghost use Rattle.list_claims.specs.KernelDispatch.KernelModel.Recovered.{lists_in};
 ghost use Rattle.adoption_law.specs.Passes.{Passes};
 
 /// A store, whatever its words are, holds the words of valid lists exactly where each pass finds what it looks for.

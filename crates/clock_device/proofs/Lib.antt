@@ -2,3 +2,4 @@ pub mod TickLists
 pub mod FirstDue
 pub mod ReturnedPackets
 pub mod WholeTick
+pub mod Shown

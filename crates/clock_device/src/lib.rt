@@ -4,3 +4,6 @@
 pub mod ticks;
 
 pub use ticks::tick;
+
+// Shown to the crates above.
+pub use kernel_calls::{Device, EventLog, RootField, numbers, return_first, root};

@@ -4,24 +4,24 @@ use Rattle.std.specs.Prelude.{unwrap_or, Bool}
 use Rattle.std.proofs.lemmas.Bool.{cases_lt}
 use Rattle.std.proofs.lemmas.List.{ext_get_or}
 use Rattle.std.proofs.lemmas.List.FromFn.{get_or-map-range_with_len, length-map-range_with_len}
-use Rattle.resident_requests.specs.KernelCalls.OwnedWords.Owned.{Pairs, owners, word_in, written}
-use Rattle.resident_requests.proofs.Shown.KernelCalls.OwnedWords.OwnedWords.{length-written, written-append, word_in-holds, word_in-none}
-use Rattle.resident_requests.specs.KernelCalls.PacketQueue.declared.events.KernelEvent.{KernelEvent}
-use Rattle.resident_requests.specs.KernelCalls.KernelModel.ChangedStore.{HasKeeper, IsChanged, Knows}
-use Rattle.resident_requests.specs.KernelCalls.KernelModel.Kernel.{Console}
-use Rattle.resident_requests.specs.KernelCalls.KernelModel.Lists.{Lists, has_task}
-use Rattle.resident_requests.specs.KernelCalls.KernelModel.NotedEvents.{NotesAll}
-use Rattle.resident_requests.specs.KernelCalls.KernelModel.Owned.{owned}
-use Rattle.resident_requests.proofs.Shown.KernelCalls.KernelModel.ChangedLists.{changed-none, changed-then, knows-same}
-use Rattle.resident_requests.proofs.Shown.KernelCalls.KernelModel.NotedInTurn.{notes-none, notes-then}
-use Rattle.resident_requests.specs.KernelCalls.CallAnswers.Outside.{Outside, outside}
-use Rattle.resident_requests.specs.KernelCalls.KernelModel.declared.numbers.TheConstants.{CONSOLE}
+use Rattle.fault_reporter.specs.KernelCalls.OwnedWords.Owned.{Pairs, owners, word_in, written}
+use Rattle.fault_reporter.proofs.Shown.KernelCalls.OwnedWords.OwnedWords.{length-written, written-append, word_in-holds, word_in-none}
+use Rattle.fault_reporter.specs.KernelCalls.PacketQueue.declared.events.KernelEvent.{KernelEvent}
+use Rattle.fault_reporter.specs.KernelCalls.KernelModel.ChangedStore.{HasKeeper, IsChanged, Knows}
+use Rattle.fault_reporter.specs.KernelCalls.KernelModel.Kernel.{Console}
+use Rattle.fault_reporter.specs.KernelCalls.KernelModel.Lists.{Lists, has_task}
+use Rattle.fault_reporter.specs.KernelCalls.KernelModel.NotedEvents.{NotesAll}
+use Rattle.fault_reporter.specs.KernelCalls.KernelModel.Owned.{owned}
+use Rattle.fault_reporter.proofs.Shown.KernelCalls.KernelModel.ChangedLists.{changed-none, changed-then, knows-same}
+use Rattle.fault_reporter.proofs.Shown.KernelCalls.KernelModel.NotedInTurn.{notes-none, notes-then}
+use Rattle.fault_reporter.specs.KernelCalls.CallAnswers.Outside.{Outside, outside}
+use Rattle.fault_reporter.specs.KernelCalls.KernelModel.declared.numbers.TheConstants.{CONSOLE}
 use Rattle.console_handler.specs.ConsoleTurn.{ended, turn_done}
-use Rattle.resident_requests.specs.Answers.{IsFinished, finished}
-use Rattle.resident_requests.specs.Turns.{IsResidentTurn}
+use Rattle.fault_reporter.specs.ResidentRequests.Answers.{IsFinished, finished}
+use Rattle.fault_reporter.specs.ResidentRequests.Turns.{IsResidentTurn}
 use Rattle.console_handler.specs.Progress.{IsDone, Progress, Start, and_then, begun, settled_words}
-use Rattle.resident_requests.specs.Requests.{RunsResident}
-use Rattle.resident_requests.proofs.ResidentTurns.{written-same}
+use Rattle.fault_reporter.specs.ResidentRequests.Requests.{RunsResident}
+use Rattle.fault_reporter.proofs.Shown.ResidentRequests.ResidentTurns.{written-same}
 
 -- ---- the words of a store
 

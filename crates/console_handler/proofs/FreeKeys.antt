@@ -1,16 +1,16 @@
 -- Whether the key packet is on no queue, as its link says.
 use Rattle.std.proofs.Common.{◌≡◌, ℕ, ◌<◌, ◌≤◌, leb, ◌&&◌, Bool, true, false, not, cond, eqb, get_or, is_some, Option, Some, None, List, refl, ap, ◌∙◌, arith}
 use Rattle.std.proofs.lemmas.Bool.{and_parts, eq-eqb, leb-true, ne_eqb}
-use Rattle.resident_requests.specs.KernelCalls.OwnedWords.Owned.{Holds}
-use Rattle.resident_requests.specs.KernelCalls.PacketQueue.Queue.{no_queue}
-use Rattle.resident_requests.specs.KernelCalls.KernelModel.HoldsLists.{HoldsLists}
-use Rattle.resident_requests.specs.KernelCalls.KernelModel.Lists.{Lists, is_queued}
-use Rattle.resident_requests.specs.KernelCalls.KernelModel.Residents.{key_packet, key_words}
-use Rattle.resident_requests.specs.KernelCalls.KernelModel.Ranges.{most_words}
-use Rattle.resident_requests.specs.KernelCalls.KernelModel.ValidLists.{AreValid}
-use Rattle.resident_requests.proofs.Shown.KernelCalls.KernelModel.QueuedLinks.{queued-link}
-use Rattle.resident_requests.proofs.Shown.KernelCalls.CallAnswers.FoundTask.{reads}
-use Rattle.resident_requests.proofs.Shown.KernelCalls.PacketCalls.PlaceWords.{keys-exchange}
+use Rattle.fault_reporter.specs.KernelCalls.OwnedWords.Owned.{Holds}
+use Rattle.fault_reporter.specs.KernelCalls.PacketQueue.Queue.{no_queue}
+use Rattle.fault_reporter.specs.KernelCalls.KernelModel.HoldsLists.{HoldsLists}
+use Rattle.fault_reporter.specs.KernelCalls.KernelModel.Lists.{Lists, is_queued}
+use Rattle.fault_reporter.specs.KernelCalls.KernelModel.Residents.{key_packet, key_words}
+use Rattle.fault_reporter.specs.KernelCalls.KernelModel.Ranges.{most_words}
+use Rattle.fault_reporter.specs.KernelCalls.KernelModel.ValidLists.{AreValid}
+use Rattle.fault_reporter.proofs.Shown.KernelCalls.KernelModel.QueuedLinks.{queued-link}
+use Rattle.fault_reporter.proofs.Shown.KernelCalls.CallAnswers.FoundTask.{reads}
+use Rattle.fault_reporter.proofs.Shown.KernelCalls.PacketCalls.PlaceWords.{keys-exchange}
 use Rattle.console_handler.specs.ConsoleTurn.{keys_sent, with_keys_sent}
 use Rattle.console_handler.specs.Progress.{Progress}
 

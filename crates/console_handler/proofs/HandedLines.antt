@@ -2,26 +2,26 @@
 use Rattle.std.proofs.Common.{◌≡◌, ℕ, zero, suc, ◌≤◌, Bool, true, false, cond, eqb, Option, Some, None, Result, Ok, Err, List, [], ◌∷◌, ◌++◌, append-nil, inl, inr, length, refl, sym, ap, ◌∙◌, subst, arith}
 use Rattle.std.specs.Prelude.{take}
 use Rattle.word_store.specs.Count.{times}
-use Rattle.resident_requests.specs.KernelCalls.OwnedWords.Owned.{Pairs, owners}
-use Rattle.resident_requests.specs.KernelCalls.PacketQueue.Queue.{no_queue}
-use Rattle.resident_requests.specs.KernelCalls.PacketQueue.QueueWords.{QueuedPacket}
-use Rattle.resident_requests.specs.KernelCalls.PacketQueue.declared.events.KernelEvent.{KernelEvent}
-use Rattle.resident_requests.specs.KernelCalls.KernelModel.ChangedStore.{HasKeeper, IsChanged}
-use Rattle.resident_requests.specs.KernelCalls.KernelModel.Kernel.{Console}
-use Rattle.resident_requests.specs.KernelCalls.KernelModel.Lists.{Lists}
-use Rattle.resident_requests.specs.KernelCalls.KernelModel.NotedEvents.{NotesAll}
-use Rattle.resident_requests.specs.KernelCalls.KernelModel.Owned.{owned}
-use Rattle.resident_requests.proofs.Shown.KernelCalls.KernelModel.ChangedLists.{changed-then}
-use Rattle.resident_requests.proofs.Shown.KernelCalls.KernelModel.NotedInTurn.{notes-then}
-use Rattle.resident_requests.specs.KernelCalls.CallAnswers.Made.{IsMade, minus_one}
-use Rattle.resident_requests.specs.KernelCalls.CallAnswers.Outside.{Outside, outside}
-use Rattle.resident_requests.specs.Answers.{OwnsRequest, returned}
-use Rattle.resident_requests.specs.Buffers.{is_writable, with_bytes, written_buffer}
-use Rattle.resident_requests.specs.Requests.{HasRequest, RunsResident, first_request, request_at}
-use Rattle.resident_requests.specs.Turns.{CanServe, HasWritten, service}
-use Rattle.resident_requests.specs.declared.requests.Request.{Request}
-use Rattle.resident_requests.proofs.ResidentTurns.{keeper-written, turn-changed, written-then}
-use Rattle.resident_requests.specs.KernelCalls.KernelModel.declared.numbers.TheConstants.{SHELL}
+use Rattle.fault_reporter.specs.KernelCalls.OwnedWords.Owned.{Pairs, owners}
+use Rattle.fault_reporter.specs.KernelCalls.PacketQueue.Queue.{no_queue}
+use Rattle.fault_reporter.specs.KernelCalls.PacketQueue.QueueWords.{QueuedPacket}
+use Rattle.fault_reporter.specs.KernelCalls.PacketQueue.declared.events.KernelEvent.{KernelEvent}
+use Rattle.fault_reporter.specs.KernelCalls.KernelModel.ChangedStore.{HasKeeper, IsChanged}
+use Rattle.fault_reporter.specs.KernelCalls.KernelModel.Kernel.{Console}
+use Rattle.fault_reporter.specs.KernelCalls.KernelModel.Lists.{Lists}
+use Rattle.fault_reporter.specs.KernelCalls.KernelModel.NotedEvents.{NotesAll}
+use Rattle.fault_reporter.specs.KernelCalls.KernelModel.Owned.{owned}
+use Rattle.fault_reporter.proofs.Shown.KernelCalls.KernelModel.ChangedLists.{changed-then}
+use Rattle.fault_reporter.proofs.Shown.KernelCalls.KernelModel.NotedInTurn.{notes-then}
+use Rattle.fault_reporter.specs.KernelCalls.CallAnswers.Made.{IsMade, minus_one}
+use Rattle.fault_reporter.specs.KernelCalls.CallAnswers.Outside.{Outside, outside}
+use Rattle.fault_reporter.specs.ResidentRequests.Answers.{OwnsRequest, returned}
+use Rattle.fault_reporter.specs.ResidentRequests.Buffers.{is_writable, with_bytes, written_buffer}
+use Rattle.fault_reporter.specs.ResidentRequests.Requests.{HasRequest, RunsResident, first_request, request_at}
+use Rattle.fault_reporter.specs.ResidentRequests.Turns.{CanServe, HasWritten, service}
+use Rattle.fault_reporter.specs.ResidentRequests.declared.requests.Request.{Request}
+use Rattle.fault_reporter.proofs.Shown.ResidentRequests.ResidentTurns.{keeper-written, turn-changed, written-then}
+use Rattle.fault_reporter.specs.KernelCalls.KernelModel.declared.numbers.TheConstants.{SHELL}
 use Rattle.console_handler.specs.Deliveries.{command_after, given, handed, handed_if_finished, line_after, line_service, with_read, with_served}
 use Rattle.console_handler.specs.Progress.{IsDone, Progress, Start}
 use Rattle.console_handler.specs.Reads.{IsReadTaken, read_taken, read_taken_from, words_read_from}

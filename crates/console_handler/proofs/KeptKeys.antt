@@ -1,18 +1,18 @@
 -- Between turns the line is finished exactly where the key packet is on no queue.
 use Rattle.std.proofs.Common.{◌≡◌, ℕ, ◌&&◌, Bool, true, false, not, cond, eqb, is_some, Option, Some, None, Result, Ok, Err, List, [], ◌∷◌, refl, sym, ap, ◌∙◌, subst}
 use Rattle.std.proofs.lemmas.Bool.{false≢true}
-use Rattle.resident_requests.specs.KernelCalls.PacketQueue.QueueWords.{QueuedPacket}
-use Rattle.resident_requests.specs.KernelCalls.KernelModel.Changes.{with_task}
-use Rattle.resident_requests.specs.KernelCalls.KernelModel.Kernel.{Console}
-use Rattle.resident_requests.specs.KernelCalls.KernelModel.Lists.{Lists}
-use Rattle.resident_requests.specs.KernelCalls.KernelModel.ValidQueues.{is_key_packet}
-use Rattle.resident_requests.specs.KernelCalls.CallAnswers.Guests.{guest_tests}
-use Rattle.resident_requests.specs.KernelCalls.CallAnswers.Made.{by_refusal, done}
-use Rattle.resident_requests.specs.KernelCalls.CallAnswers.Refusals.{first_refusal}
-use Rattle.resident_requests.specs.KernelCalls.TaskCalls.SetFlags.{flagged}
-use Rattle.resident_requests.specs.Answers.{finished_by}
-use Rattle.resident_requests.specs.Requests.{first_request, taken_from, words_taken_from, work}
-use Rattle.resident_requests.specs.declared.requests.Request.{Request}
+use Rattle.fault_reporter.specs.KernelCalls.PacketQueue.QueueWords.{QueuedPacket}
+use Rattle.fault_reporter.specs.KernelCalls.KernelModel.Changes.{with_task}
+use Rattle.fault_reporter.specs.KernelCalls.KernelModel.Kernel.{Console}
+use Rattle.fault_reporter.specs.KernelCalls.KernelModel.Lists.{Lists}
+use Rattle.fault_reporter.specs.KernelCalls.KernelModel.ValidQueues.{is_key_packet}
+use Rattle.fault_reporter.specs.KernelCalls.CallAnswers.Guests.{guest_tests}
+use Rattle.fault_reporter.specs.KernelCalls.CallAnswers.Made.{by_refusal, done}
+use Rattle.fault_reporter.specs.KernelCalls.CallAnswers.Refusals.{first_refusal}
+use Rattle.fault_reporter.specs.KernelCalls.TaskCalls.SetFlags.{flagged}
+use Rattle.fault_reporter.specs.ResidentRequests.Answers.{finished_by}
+use Rattle.fault_reporter.specs.ResidentRequests.Requests.{first_request, taken_from, words_taken_from, work}
+use Rattle.fault_reporter.specs.ResidentRequests.declared.requests.Request.{Request}
 use Rattle.console_handler.specs.ConsoleTurn.{KeysStand, all_parts, ended, key_of, keys_sent, treated, with_key, with_keys_taken, with_first, with_keyed, with_keys_sent, with_request, with_taken}
 use Rattle.console_handler.specs.Deliveries.{delivered, delivery, handed, line_after, line_service, with_read}
 use Rattle.console_handler.specs.KeyPacket.{keys_taken, keys_taken_from}

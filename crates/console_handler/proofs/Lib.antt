@@ -9,3 +9,4 @@ pub mod WholeDelivery
 pub mod FreeKeys
 pub mod WholeTurn
 pub mod KeptKeys
+pub mod Shown

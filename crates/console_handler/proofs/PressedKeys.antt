@@ -1,26 +1,26 @@
 -- What a key leaves.
 use Rattle.std.proofs.Common.{◌≡◌, ℕ, ◌||◌, Bool, true, false, cond, eqb, Option, Some, None, Result, Ok, List, [], ◌∷◌, ◌++◌, append_assoc, map, refl, sym, ap, ◌∙◌, subst}
 use Rattle.std.specs.List.{AllByRecursion}
-use Rattle.resident_requests.specs.KernelCalls.PacketQueue.QueueWords.{QueuedPacket}
-use Rattle.resident_requests.specs.KernelCalls.PacketQueue.declared.events.KernelEvent.{KernelEvent}
-use Rattle.resident_requests.specs.KernelCalls.KernelModel.ChangedStore.{IsChanged}
-use Rattle.resident_requests.specs.KernelCalls.KernelModel.Changes.{change_of, with_task}
-use Rattle.resident_requests.specs.KernelCalls.KernelModel.Kernel.{Console}
-use Rattle.resident_requests.specs.KernelCalls.KernelModel.Lists.{Lists, has_task}
-use Rattle.resident_requests.specs.KernelCalls.KernelModel.NotedEvents.{NotesAll}
-use Rattle.resident_requests.specs.KernelCalls.KernelModel.Owned.{owned}
-use Rattle.resident_requests.specs.KernelCalls.KernelModel.Running.{RunsIf}
-use Rattle.resident_requests.specs.KernelCalls.KernelModel.Task.{Task}
-use Rattle.resident_requests.proofs.Shown.KernelCalls.KernelModel.ChangedLists.{knows-same}
-use Rattle.resident_requests.proofs.Shown.KernelCalls.KernelModel.NotedInTurn.{notes-none}
-use Rattle.resident_requests.specs.KernelCalls.OwnedWords.Owned.{owners}
-use Rattle.resident_requests.specs.KernelCalls.CallAnswers.Guests.{guest_tests}
-use Rattle.resident_requests.specs.KernelCalls.CallAnswers.Made.{Leaves, Made, by_refusal, done}
-use Rattle.resident_requests.specs.KernelCalls.CallAnswers.Refusals.{first_refusal}
-use Rattle.resident_requests.specs.KernelCalls.TaskCalls.SetFlags.{flagged, set_flags}
-use Rattle.resident_requests.proofs.Shown.KernelCalls.TaskCalls.SameWords.{set_flags-owners}
-use Rattle.resident_requests.specs.KernelCalls.CallAnswers.Outside.{Outside, outside}
-use Rattle.resident_requests.specs.Requests.{RunsResident, work}
+use Rattle.fault_reporter.specs.KernelCalls.PacketQueue.QueueWords.{QueuedPacket}
+use Rattle.fault_reporter.specs.KernelCalls.PacketQueue.declared.events.KernelEvent.{KernelEvent}
+use Rattle.fault_reporter.specs.KernelCalls.KernelModel.ChangedStore.{IsChanged}
+use Rattle.fault_reporter.specs.KernelCalls.KernelModel.Changes.{change_of, with_task}
+use Rattle.fault_reporter.specs.KernelCalls.KernelModel.Kernel.{Console}
+use Rattle.fault_reporter.specs.KernelCalls.KernelModel.Lists.{Lists, has_task}
+use Rattle.fault_reporter.specs.KernelCalls.KernelModel.NotedEvents.{NotesAll}
+use Rattle.fault_reporter.specs.KernelCalls.KernelModel.Owned.{owned}
+use Rattle.fault_reporter.specs.KernelCalls.KernelModel.Running.{RunsIf}
+use Rattle.fault_reporter.specs.KernelCalls.KernelModel.Task.{Task}
+use Rattle.fault_reporter.proofs.Shown.KernelCalls.KernelModel.ChangedLists.{knows-same}
+use Rattle.fault_reporter.proofs.Shown.KernelCalls.KernelModel.NotedInTurn.{notes-none}
+use Rattle.fault_reporter.specs.KernelCalls.OwnedWords.Owned.{owners}
+use Rattle.fault_reporter.specs.KernelCalls.CallAnswers.Guests.{guest_tests}
+use Rattle.fault_reporter.specs.KernelCalls.CallAnswers.Made.{Leaves, Made, by_refusal, done}
+use Rattle.fault_reporter.specs.KernelCalls.CallAnswers.Refusals.{first_refusal}
+use Rattle.fault_reporter.specs.KernelCalls.TaskCalls.SetFlags.{flagged, set_flags}
+use Rattle.fault_reporter.proofs.Shown.KernelCalls.TaskCalls.SameWords.{set_flags-owners}
+use Rattle.fault_reporter.specs.KernelCalls.CallAnswers.Outside.{Outside, outside}
+use Rattle.fault_reporter.specs.ResidentRequests.Requests.{RunsResident, work}
 use Rattle.console_handler.specs.ConsoleTurn.{key_of, with_flags, with_key, with_keys_taken}
 use Rattle.console_handler.specs.KeyPacket.{keys_taken, keys_taken_from}
 use Rattle.console_handler.specs.Line.{Keyed, key}

@@ -1,16 +1,16 @@
 -- What sending the key packet leaves.
 use Rattle.std.proofs.Common.{◌≡◌, ℕ, Bool, true, is_some, Option, Ok, List, [], ◌++◌, inr, refl, subst}
-use Rattle.resident_requests.specs.KernelCalls.PacketQueue.declared.events.KernelEvent.{KernelEvent}
-use Rattle.resident_requests.specs.KernelCalls.KernelModel.Kernel.{Console}
-use Rattle.resident_requests.specs.KernelCalls.KernelModel.Lists.{Lists}
-use Rattle.resident_requests.specs.KernelCalls.KernelModel.NotedEvents.{NotesAll}
-use Rattle.resident_requests.specs.KernelCalls.KernelModel.Residents.{key_packet, keyboard}
-use Rattle.resident_requests.specs.KernelCalls.CallAnswers.Made.{IsMade, minus_one}
-use Rattle.resident_requests.specs.KernelCalls.CallAnswers.Outside.{Outside, outside}
-use Rattle.resident_requests.specs.KernelCalls.PacketCalls.SendOwn.{CanSendOwn, send_own, with_sent}
-use Rattle.resident_requests.proofs.Shown.KernelCalls.PacketCalls.OwnPackets.{own-kept}
-use Rattle.resident_requests.specs.Requests.{RunsResident}
-use Rattle.resident_requests.specs.KernelCalls.KernelModel.declared.numbers.TheConstants.{CONSOLE}
+use Rattle.fault_reporter.specs.KernelCalls.PacketQueue.declared.events.KernelEvent.{KernelEvent}
+use Rattle.fault_reporter.specs.KernelCalls.KernelModel.Kernel.{Console}
+use Rattle.fault_reporter.specs.KernelCalls.KernelModel.Lists.{Lists}
+use Rattle.fault_reporter.specs.KernelCalls.KernelModel.NotedEvents.{NotesAll}
+use Rattle.fault_reporter.specs.KernelCalls.KernelModel.Residents.{key_packet, keyboard}
+use Rattle.fault_reporter.specs.KernelCalls.CallAnswers.Made.{IsMade, minus_one}
+use Rattle.fault_reporter.specs.KernelCalls.CallAnswers.Outside.{Outside, outside}
+use Rattle.fault_reporter.specs.KernelCalls.PacketCalls.SendOwn.{CanSendOwn, send_own, with_sent}
+use Rattle.fault_reporter.proofs.Shown.KernelCalls.PacketCalls.OwnPackets.{own-kept}
+use Rattle.fault_reporter.specs.ResidentRequests.Requests.{RunsResident}
+use Rattle.fault_reporter.specs.KernelCalls.KernelModel.declared.numbers.TheConstants.{CONSOLE}
 use Rattle.console_handler.specs.ConsoleTurn.{keys_sent}
 use Rattle.console_handler.specs.Progress.{IsDone, Progress, Start, settled_words}
 use Rattle.console_handler.proofs.DoneParts.{done-keeper, done-then}

@@ -4,43 +4,43 @@ use Rattle.std.specs.List.{AllByRecursion, range_with_len}
 use Rattle.std.proofs.lemmas.Bool.{and_parts, eq-eqb, eqb-true, or_left}
 use Rattle.word_store.specs.Arithmetic.{signed}
 use Rattle.word_store.specs.Count.{times}
-use Rattle.resident_requests.specs.KernelCalls.LinkedList.Places.{has}
+use Rattle.fault_reporter.specs.KernelCalls.LinkedList.Places.{has}
 use Rattle.word_store.proofs.Counts.{times-within}
-use Rattle.resident_requests.specs.KernelCalls.OwnedWords.Exchange.{Exchange}
-use Rattle.resident_requests.specs.KernelCalls.OwnedWords.Owned.{Holds, owners}
-use Rattle.resident_requests.specs.KernelCalls.OwnedWords.Written.{IsWritten}
-use Rattle.resident_requests.proofs.Shown.KernelCalls.OwnedWords.RowWords.{owners-row}
-use Rattle.resident_requests.specs.KernelCalls.PacketQueue.Log.{Notes}
-use Rattle.resident_requests.specs.KernelCalls.PacketQueue.Queue.{HasQueue, no_queue, queue_at}
-use Rattle.resident_requests.specs.KernelCalls.PacketQueue.QueueWords.{QueuedPacket}
-use Rattle.resident_requests.specs.KernelCalls.PacketQueue.declared.events.KernelEvent.{KernelEvent}
-use Rattle.resident_requests.specs.KernelCalls.PacketQueue.declared.events.KernelEvent.TheVariants.{Taken}
-use Rattle.resident_requests.specs.KernelCalls.KernelModel.ChangedStore.{IsChanged}
-use Rattle.resident_requests.specs.KernelCalls.KernelModel.Changes.{with_key, with_queue}
-use Rattle.resident_requests.specs.KernelCalls.KernelModel.HoldsLists.{HoldsLists}
-use Rattle.resident_requests.specs.KernelCalls.KernelModel.Lists.{Lists, address_of_task, has_task}
-use Rattle.resident_requests.specs.KernelCalls.KernelModel.NotedEvents.{NotesAll}
-use Rattle.resident_requests.specs.KernelCalls.KernelModel.Owned.{owned}
-use Rattle.resident_requests.specs.KernelCalls.KernelModel.Residents.{key_packet, key_words, keyboard}
-use Rattle.resident_requests.specs.KernelCalls.KernelModel.Task.{queue_head}
-use Rattle.resident_requests.specs.KernelCalls.KernelModel.ValidLists.{AreValid}
-use Rattle.resident_requests.specs.KernelCalls.KernelModel.ValidQueues.{IsKeyPacket, MayStand, is_key_packet}
-use Rattle.resident_requests.specs.KernelCalls.KernelModel.ValidQueues.Place.{Work}
-use Rattle.resident_requests.proofs.Shown.KernelCalls.KernelModel.NotedInTurn.{notes-one}
-use Rattle.resident_requests.proofs.Shown.KernelCalls.KernelModel.PacketMoves.{unqueued-unowned}
-use Rattle.resident_requests.proofs.Shown.KernelCalls.KernelModel.QueuePlaces.{place-stands}
-use Rattle.resident_requests.proofs.Shown.KernelCalls.KernelModel.ResidentPackets.{key_unqueued-valid}
-use Rattle.resident_requests.specs.KernelCalls.CallAnswers.Made.{Leaves}
-use Rattle.resident_requests.specs.KernelCalls.PacketCalls.Destinations.{queue_for}
-use Rattle.resident_requests.specs.KernelCalls.PacketCalls.PacketMoves.{stands_in}
-use Rattle.resident_requests.specs.KernelCalls.PacketCalls.QueueWords.{head_of, unqueued}
-use Rattle.resident_requests.specs.KernelCalls.PacketCalls.declared.queues.Queue.TheVariants as queues
-use Rattle.resident_requests.proofs.Shown.KernelCalls.PacketCalls.Departure.{departed-size, departed-written, held-before, others-kept, owners-departed, packet-inside}
-use Rattle.resident_requests.proofs.Shown.KernelCalls.PacketCalls.HeldPlaces.{has-at, stands-at}
-use Rattle.resident_requests.proofs.Shown.KernelCalls.PacketCalls.PlaceWords.{keys-exchange}
+use Rattle.fault_reporter.specs.KernelCalls.OwnedWords.Exchange.{Exchange}
+use Rattle.fault_reporter.specs.KernelCalls.OwnedWords.Owned.{Holds, owners}
+use Rattle.fault_reporter.specs.KernelCalls.OwnedWords.Written.{IsWritten}
+use Rattle.fault_reporter.proofs.Shown.KernelCalls.OwnedWords.RowWords.{owners-row}
+use Rattle.fault_reporter.specs.KernelCalls.PacketQueue.Log.{Notes}
+use Rattle.fault_reporter.specs.KernelCalls.PacketQueue.Queue.{HasQueue, no_queue, queue_at}
+use Rattle.fault_reporter.specs.KernelCalls.PacketQueue.QueueWords.{QueuedPacket}
+use Rattle.fault_reporter.specs.KernelCalls.PacketQueue.declared.events.KernelEvent.{KernelEvent}
+use Rattle.fault_reporter.specs.KernelCalls.PacketQueue.declared.events.KernelEvent.TheVariants.{Taken}
+use Rattle.fault_reporter.specs.KernelCalls.KernelModel.ChangedStore.{IsChanged}
+use Rattle.fault_reporter.specs.KernelCalls.KernelModel.Changes.{with_key, with_queue}
+use Rattle.fault_reporter.specs.KernelCalls.KernelModel.HoldsLists.{HoldsLists}
+use Rattle.fault_reporter.specs.KernelCalls.KernelModel.Lists.{Lists, address_of_task, has_task}
+use Rattle.fault_reporter.specs.KernelCalls.KernelModel.NotedEvents.{NotesAll}
+use Rattle.fault_reporter.specs.KernelCalls.KernelModel.Owned.{owned}
+use Rattle.fault_reporter.specs.KernelCalls.KernelModel.Residents.{key_packet, key_words, keyboard}
+use Rattle.fault_reporter.specs.KernelCalls.KernelModel.Task.{queue_head}
+use Rattle.fault_reporter.specs.KernelCalls.KernelModel.ValidLists.{AreValid}
+use Rattle.fault_reporter.specs.KernelCalls.KernelModel.ValidQueues.{IsKeyPacket, MayStand, is_key_packet}
+use Rattle.fault_reporter.specs.KernelCalls.KernelModel.ValidQueues.Place.{Work}
+use Rattle.fault_reporter.proofs.Shown.KernelCalls.KernelModel.NotedInTurn.{notes-one}
+use Rattle.fault_reporter.proofs.Shown.KernelCalls.KernelModel.PacketMoves.{unqueued-unowned}
+use Rattle.fault_reporter.proofs.Shown.KernelCalls.KernelModel.QueuePlaces.{place-stands}
+use Rattle.fault_reporter.proofs.Shown.KernelCalls.KernelModel.ResidentPackets.{key_unqueued-valid}
+use Rattle.fault_reporter.specs.KernelCalls.CallAnswers.Made.{Leaves}
+use Rattle.fault_reporter.specs.KernelCalls.PacketCalls.Destinations.{queue_for}
+use Rattle.fault_reporter.specs.KernelCalls.PacketCalls.PacketMoves.{stands_in}
+use Rattle.fault_reporter.specs.KernelCalls.PacketCalls.QueueWords.{head_of, unqueued}
+use Rattle.fault_reporter.specs.KernelCalls.PacketCalls.declared.queues.Queue.TheVariants as queues
+use Rattle.fault_reporter.proofs.Shown.KernelCalls.PacketCalls.Departure.{departed-size, departed-written, held-before, others-kept, owners-departed, packet-inside}
+use Rattle.fault_reporter.proofs.Shown.KernelCalls.PacketCalls.HeldPlaces.{has-at, stands-at}
+use Rattle.fault_reporter.proofs.Shown.KernelCalls.PacketCalls.PlaceWords.{keys-exchange}
 use Rattle.console_handler.specs.KeyPacket.{FindsKeys, StartsWithKeys, keys_taken, keys_taken_from}
-use Rattle.resident_requests.specs.Requests.{RunsResident, work}
-use Rattle.resident_requests.proofs.RunningResident.{resident-number, runs-work}
+use Rattle.fault_reporter.specs.ResidentRequests.Requests.{RunsResident, work}
+use Rattle.fault_reporter.proofs.Shown.ResidentRequests.RunningResident.{resident-number, runs-work}
 
 -- the key packet, and those behind it
 record HasKeys (l : Lists) (ps : List QueuedPacket) : Type 0 where

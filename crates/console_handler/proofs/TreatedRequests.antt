@@ -3,26 +3,26 @@ use Rattle.std.proofs.Common.{◌≡◌, ℕ, ◌+◌, ◌≤◌, Bool, true, co
 use Rattle.std.specs.List.{range_with_len}
 use Rattle.std.proofs.lemmas.Bool.{and_parts, eq-eqb, leb-true, ne_eqb}
 use Rattle.word_store.specs.Count.{times}
-use Rattle.resident_requests.specs.KernelCalls.OwnedWords.Owned.{owners}
-use Rattle.resident_requests.specs.KernelCalls.PacketQueue.QueueWords.{QueuedPacket}
-use Rattle.resident_requests.specs.KernelCalls.PacketQueue.declared.events.KernelEvent.{KernelEvent}
-use Rattle.resident_requests.specs.KernelCalls.KernelModel.ChangedStore.{HasKeeper, IsChanged}
-use Rattle.resident_requests.specs.KernelCalls.KernelModel.HoldsLists.{HoldsLists}
-use Rattle.resident_requests.specs.KernelCalls.KernelModel.Kernel.{Console}
-use Rattle.resident_requests.specs.KernelCalls.KernelModel.Lists.{Lists}
-use Rattle.resident_requests.specs.KernelCalls.KernelModel.NotedEvents.{NotesAll}
-use Rattle.resident_requests.specs.KernelCalls.KernelModel.Owned.{owned}
-use Rattle.resident_requests.specs.KernelCalls.KernelModel.ValidQueues.Place.{Work}
-use Rattle.resident_requests.proofs.Shown.KernelCalls.KernelModel.NotedInTurn.{notes-then}
-use Rattle.resident_requests.specs.KernelCalls.CallAnswers.Made.{IsMade, minus_one}
-use Rattle.resident_requests.specs.KernelCalls.CallAnswers.Outside.{Outside, outside}
-use Rattle.resident_requests.proofs.Shown.KernelCalls.PacketCalls.Departure.{owners-departed}
-use Rattle.resident_requests.specs.Answers.{OwnsRequest, returned}
-use Rattle.resident_requests.specs.Buffers.{is_count, is_readable, lies_inside}
-use Rattle.resident_requests.specs.Requests.{IsTaken, RunsResident, first_request, request_at, taken, taken_from, words_taken, words_taken_from, work}
-use Rattle.resident_requests.specs.declared.requests.Request.{Request}
-use Rattle.resident_requests.proofs.ResidentTurns.{keeper-taken, taken-plain, turn-changed}
-use Rattle.resident_requests.proofs.TakenRequest.{taken-running}
+use Rattle.fault_reporter.specs.KernelCalls.OwnedWords.Owned.{owners}
+use Rattle.fault_reporter.specs.KernelCalls.PacketQueue.QueueWords.{QueuedPacket}
+use Rattle.fault_reporter.specs.KernelCalls.PacketQueue.declared.events.KernelEvent.{KernelEvent}
+use Rattle.fault_reporter.specs.KernelCalls.KernelModel.ChangedStore.{HasKeeper, IsChanged}
+use Rattle.fault_reporter.specs.KernelCalls.KernelModel.HoldsLists.{HoldsLists}
+use Rattle.fault_reporter.specs.KernelCalls.KernelModel.Kernel.{Console}
+use Rattle.fault_reporter.specs.KernelCalls.KernelModel.Lists.{Lists}
+use Rattle.fault_reporter.specs.KernelCalls.KernelModel.NotedEvents.{NotesAll}
+use Rattle.fault_reporter.specs.KernelCalls.KernelModel.Owned.{owned}
+use Rattle.fault_reporter.specs.KernelCalls.KernelModel.ValidQueues.Place.{Work}
+use Rattle.fault_reporter.proofs.Shown.KernelCalls.KernelModel.NotedInTurn.{notes-then}
+use Rattle.fault_reporter.specs.KernelCalls.CallAnswers.Made.{IsMade, minus_one}
+use Rattle.fault_reporter.specs.KernelCalls.CallAnswers.Outside.{Outside, outside}
+use Rattle.fault_reporter.proofs.Shown.KernelCalls.PacketCalls.Departure.{owners-departed}
+use Rattle.fault_reporter.specs.ResidentRequests.Answers.{OwnsRequest, returned}
+use Rattle.fault_reporter.specs.ResidentRequests.Buffers.{is_count, is_readable, lies_inside}
+use Rattle.fault_reporter.specs.ResidentRequests.Requests.{IsTaken, RunsResident, first_request, request_at, taken, taken_from, words_taken, words_taken_from, work}
+use Rattle.fault_reporter.specs.ResidentRequests.declared.requests.Request.{Request}
+use Rattle.fault_reporter.proofs.Shown.ResidentRequests.ResidentTurns.{keeper-taken, taken-plain, turn-changed}
+use Rattle.fault_reporter.proofs.Shown.ResidentRequests.TakenRequest.{taken-running}
 use Rattle.console_handler.specs.ConsoleTurn.{answer_of, bytes_of, with_first, with_request, with_taken}
 use Rattle.console_handler.specs.Progress.{IsDone, Progress, Start, and_then}
 use Rattle.console_handler.specs.Reads.{put_off}

@@ -4,40 +4,40 @@ use Rattle.std.specs.List.{AllByRecursion, range_with_len}
 use Rattle.std.proofs.lemmas.Bool.{eq-eqb, false_from_ne_true, or_left}
 use Rattle.word_store.specs.Arithmetic.{signed}
 use Rattle.word_store.specs.Count.{IsApart}
-use Rattle.resident_requests.specs.KernelCalls.LinkedList.Places.{has}
-use Rattle.resident_requests.specs.KernelCalls.PacketQueue.Log.{Notes}
-use Rattle.resident_requests.specs.KernelCalls.PacketQueue.Queue.{CanQueue, HasQueue, queue_at}
-use Rattle.resident_requests.specs.KernelCalls.PacketQueue.QueueWords.{QueuedPacket, first_packet}
-use Rattle.resident_requests.specs.KernelCalls.PacketQueue.declared.events.KernelEvent.{KernelEvent}
-use Rattle.resident_requests.specs.KernelCalls.PacketQueue.declared.events.KernelEvent.TheVariants.{Taken}
-use Rattle.resident_requests.specs.KernelCalls.KernelModel.ChangedStore.{HasKeeper, IsChanged, Knows}
-use Rattle.resident_requests.specs.KernelCalls.KernelModel.Changes.{AreUnowned, with_queue}
-use Rattle.resident_requests.specs.KernelCalls.KernelModel.Lists.{Lists, has_task}
-use Rattle.resident_requests.specs.KernelCalls.KernelModel.NotedEvents.{NotesAll}
-use Rattle.resident_requests.specs.KernelCalls.KernelModel.Residents.{pending_head}
-use Rattle.resident_requests.specs.KernelCalls.KernelModel.ValidBlocks.{AreData}
-use Rattle.resident_requests.specs.KernelCalls.KernelModel.ValidLists.{AreValid}
-use Rattle.resident_requests.specs.KernelCalls.KernelModel.ValidQueues.{IsFaultPacket, IsKeyPacket, MayStand, is_fault_packet, is_key_packet}
-use Rattle.resident_requests.specs.KernelCalls.KernelModel.ValidQueues.Place.{Pending}
-use Rattle.resident_requests.proofs.Shown.KernelCalls.KernelModel.ChangedLists.{changed-none}
-use Rattle.resident_requests.proofs.Shown.KernelCalls.KernelModel.NotedInTurn.{notes-none, notes-one}
-use Rattle.resident_requests.proofs.Shown.KernelCalls.KernelModel.PacketMoves.{unqueued-unowned, unqueued-valid}
-use Rattle.resident_requests.specs.KernelCalls.WordKinds.Keeper.{AreTogether}
-use Rattle.resident_requests.proofs.Shown.KernelCalls.WordKinds.KnownWords.{knows-claimed, knows-released}
-use Rattle.resident_requests.specs.KernelCalls.CallAnswers.Made.{IsMade, minus_one}
-use Rattle.resident_requests.proofs.Shown.KernelCalls.CallAnswers.RootTold.{tick-told}
-use Rattle.resident_requests.specs.KernelCalls.PacketCalls.PacketMoves.{stands_in}
-use Rattle.resident_requests.specs.KernelCalls.PacketCalls.QueueWords.{sent_words, unqueued}
-use Rattle.resident_requests.specs.KernelCalls.PacketCalls.declared.queues.Queue.TheVariants as queues
-use Rattle.resident_requests.proofs.Shown.KernelCalls.PacketCalls.Departure.{departed-changed, held-before, others-kept, owners-departed}
-use Rattle.resident_requests.proofs.Shown.KernelCalls.PacketCalls.HeldPlaces.{HasFirst, first-there, has-at, held-at, no-packets, stands-at}
-use Rattle.resident_requests.proofs.Shown.KernelCalls.PacketCalls.SendCall.{lodged-room}
-use Rattle.resident_requests.proofs.Shown.KernelCalls.PacketCalls.SentPackets.{Sent, sent-packet}
-use Rattle.resident_requests.specs.KernelCalls.KernelModel.declared.numbers.TheConstants.{PENDING}
+use Rattle.fault_reporter.specs.KernelCalls.LinkedList.Places.{has}
+use Rattle.fault_reporter.specs.KernelCalls.PacketQueue.Log.{Notes}
+use Rattle.fault_reporter.specs.KernelCalls.PacketQueue.Queue.{CanQueue, HasQueue, queue_at}
+use Rattle.fault_reporter.specs.KernelCalls.PacketQueue.QueueWords.{QueuedPacket, first_packet}
+use Rattle.fault_reporter.specs.KernelCalls.PacketQueue.declared.events.KernelEvent.{KernelEvent}
+use Rattle.fault_reporter.specs.KernelCalls.PacketQueue.declared.events.KernelEvent.TheVariants.{Taken}
+use Rattle.fault_reporter.specs.KernelCalls.KernelModel.ChangedStore.{HasKeeper, IsChanged, Knows}
+use Rattle.fault_reporter.specs.KernelCalls.KernelModel.Changes.{AreUnowned, with_queue}
+use Rattle.fault_reporter.specs.KernelCalls.KernelModel.Lists.{Lists, has_task}
+use Rattle.fault_reporter.specs.KernelCalls.KernelModel.NotedEvents.{NotesAll}
+use Rattle.fault_reporter.specs.KernelCalls.KernelModel.Residents.{pending_head}
+use Rattle.fault_reporter.specs.KernelCalls.KernelModel.ValidBlocks.{AreData}
+use Rattle.fault_reporter.specs.KernelCalls.KernelModel.ValidLists.{AreValid}
+use Rattle.fault_reporter.specs.KernelCalls.KernelModel.ValidQueues.{IsFaultPacket, IsKeyPacket, MayStand, is_fault_packet, is_key_packet}
+use Rattle.fault_reporter.specs.KernelCalls.KernelModel.ValidQueues.Place.{Pending}
+use Rattle.fault_reporter.proofs.Shown.KernelCalls.KernelModel.ChangedLists.{changed-none}
+use Rattle.fault_reporter.proofs.Shown.KernelCalls.KernelModel.NotedInTurn.{notes-none, notes-one}
+use Rattle.fault_reporter.proofs.Shown.KernelCalls.KernelModel.PacketMoves.{unqueued-unowned, unqueued-valid}
+use Rattle.fault_reporter.specs.KernelCalls.WordKinds.Keeper.{AreTogether}
+use Rattle.fault_reporter.proofs.Shown.KernelCalls.WordKinds.KnownWords.{knows-claimed, knows-released}
+use Rattle.fault_reporter.specs.KernelCalls.CallAnswers.Made.{IsMade, minus_one}
+use Rattle.fault_reporter.proofs.Shown.KernelCalls.CallAnswers.RootTold.{tick-told}
+use Rattle.fault_reporter.specs.KernelCalls.PacketCalls.PacketMoves.{stands_in}
+use Rattle.fault_reporter.specs.KernelCalls.PacketCalls.QueueWords.{sent_words, unqueued}
+use Rattle.fault_reporter.specs.KernelCalls.PacketCalls.declared.queues.Queue.TheVariants as queues
+use Rattle.fault_reporter.proofs.Shown.KernelCalls.PacketCalls.Departure.{departed-changed, held-before, others-kept, owners-departed}
+use Rattle.fault_reporter.proofs.Shown.KernelCalls.PacketCalls.HeldPlaces.{HasFirst, first-there, has-at, held-at, no-packets, stands-at}
+use Rattle.fault_reporter.proofs.Shown.KernelCalls.PacketCalls.SendCall.{lodged-room}
+use Rattle.fault_reporter.proofs.Shown.KernelCalls.PacketCalls.SentPackets.{Sent, sent-packet}
+use Rattle.fault_reporter.specs.KernelCalls.KernelModel.declared.numbers.TheConstants.{PENDING}
 use Rattle.console_handler.specs.Reads.{IsReadTaken, put_off, read_taken, read_taken_from, words_read_from}
-use Rattle.resident_requests.specs.Answers.{OwnsRequest}
-use Rattle.resident_requests.specs.Requests.{HasRequest, first_request, request_at}
-use Rattle.resident_requests.specs.declared.requests.Request.{Request}
+use Rattle.fault_reporter.specs.ResidentRequests.Answers.{OwnsRequest}
+use Rattle.fault_reporter.specs.ResidentRequests.Requests.{HasRequest, first_request, request_at}
+use Rattle.fault_reporter.specs.ResidentRequests.declared.requests.Request.{Request}
 
 module _ (s : List ℕ) (tells : List ℕ → Type 0) (room : ℕ) (l : Lists) (k : HasKeeper s tells room l) (residents : l.residents ≡ true) where
   -- ---- a read comes

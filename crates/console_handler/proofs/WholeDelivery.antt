@@ -1,14 +1,14 @@
 -- What handing a line to one read after the other leaves.
 use Rattle.std.proofs.Common.{◌≡◌, ℕ, ◌<◌, ◌&&◌, Bool, true, false, cond, List, [], ◌∷◌, map, length, refl, sym, ap, ◌∙◌, subst, arith}
 use Rattle.std.proofs.lemmas.Bool.{and_parts}
-use Rattle.resident_requests.specs.KernelCalls.PacketQueue.Queue.{queue_at}
-use Rattle.resident_requests.specs.KernelCalls.PacketQueue.QueueWords.{QueuedPacket, address_of}
-use Rattle.resident_requests.specs.KernelCalls.KernelModel.Kernel.{Console}
-use Rattle.resident_requests.specs.KernelCalls.KernelModel.Residents.{pending_head}
-use Rattle.resident_requests.specs.KernelCalls.KernelModel.ValidQueues.Place.{Pending}
-use Rattle.resident_requests.specs.KernelCalls.CallAnswers.Outside.{Outside}
-use Rattle.resident_requests.proofs.Shown.KernelCalls.PacketCalls.HeldPlaces.{queue-at}
-use Rattle.resident_requests.specs.Requests.{first_request}
+use Rattle.fault_reporter.specs.KernelCalls.PacketQueue.Queue.{queue_at}
+use Rattle.fault_reporter.specs.KernelCalls.PacketQueue.QueueWords.{QueuedPacket, address_of}
+use Rattle.fault_reporter.specs.KernelCalls.KernelModel.Kernel.{Console}
+use Rattle.fault_reporter.specs.KernelCalls.KernelModel.Residents.{pending_head}
+use Rattle.fault_reporter.specs.KernelCalls.KernelModel.ValidQueues.Place.{Pending}
+use Rattle.fault_reporter.specs.KernelCalls.CallAnswers.Outside.{Outside}
+use Rattle.fault_reporter.proofs.Shown.KernelCalls.PacketCalls.HeldPlaces.{queue-at}
+use Rattle.fault_reporter.specs.ResidentRequests.Requests.{first_request}
 use Rattle.console_handler.specs.Deliveries.{delivered, delivery, handed, handed_if_finished, has_reads, is_handed, with_read}
 use Rattle.console_handler.specs.Progress.{IsDone, Progress, Start}
 use Rattle.console_handler.specs.Reads.{read_taken_from, words_read_from}

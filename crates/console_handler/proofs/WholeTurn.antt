@@ -2,15 +2,15 @@
 use Rattle.std.proofs.Common.{◌≡◌, ◌≢◌, ℕ, ◌&&◌, true, false, cond, Some, None, List, [], ◌∷◌, refl, sym, ap, ◌∙◌, arith}
 use Rattle.std.specs.List.{AllByRecursion}
 use Rattle.std.proofs.lemmas.Bool.{eq-eqb, false_from_ne_true, ne_eqb}
-use Rattle.resident_requests.specs.KernelCalls.PacketQueue.QueueWords.{QueuedPacket}
-use Rattle.resident_requests.specs.KernelCalls.KernelModel.Kernel.{Console}
-use Rattle.resident_requests.specs.KernelCalls.KernelModel.Residents.{key_packet}
-use Rattle.resident_requests.specs.KernelCalls.KernelModel.ValidQueues.{IsFaultPacket, MayStand, Place, is_fault_packet, is_key_packet}
-use Rattle.resident_requests.specs.KernelCalls.KernelModel.ValidQueues.Place.{Clock, Keyboard, Output, Pending, Work}
-use Rattle.resident_requests.proofs.Shown.KernelCalls.KernelModel.QueuePlaces.{place-stands}
-use Rattle.resident_requests.specs.KernelCalls.CallAnswers.Outside.{Outside}
-use Rattle.resident_requests.specs.KernelCalls.PacketCalls.TaskWait.{first_of_queue}
-use Rattle.resident_requests.specs.Requests.{IsForeign, TakesRequest, work}
+use Rattle.fault_reporter.specs.KernelCalls.PacketQueue.QueueWords.{QueuedPacket}
+use Rattle.fault_reporter.specs.KernelCalls.KernelModel.Kernel.{Console}
+use Rattle.fault_reporter.specs.KernelCalls.KernelModel.Residents.{key_packet}
+use Rattle.fault_reporter.specs.KernelCalls.KernelModel.ValidQueues.{IsFaultPacket, MayStand, Place, is_fault_packet, is_key_packet}
+use Rattle.fault_reporter.specs.KernelCalls.KernelModel.ValidQueues.Place.{Clock, Keyboard, Output, Pending, Work}
+use Rattle.fault_reporter.proofs.Shown.KernelCalls.KernelModel.QueuePlaces.{place-stands}
+use Rattle.fault_reporter.specs.KernelCalls.CallAnswers.Outside.{Outside}
+use Rattle.fault_reporter.specs.KernelCalls.PacketCalls.TaskWait.{first_of_queue}
+use Rattle.fault_reporter.specs.ResidentRequests.Requests.{IsForeign, TakesRequest, work}
 use Rattle.console_handler.specs.ConsoleTurn.{treated, with_first, with_key}
 use Rattle.console_handler.specs.KeyPacket.{FindsKeys, StartsWithKeys}
 use Rattle.console_handler.specs.Progress.{IsDone, Progress, Start}

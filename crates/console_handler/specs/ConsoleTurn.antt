@@ -1,19 +1,19 @@
 -- The turn of the console.
 use Rattle.std.specs.Prelude.{◌≡◌, ℕ, ◌==◌, ◌&&◌, true, not, if◌then◌else◌, Option, Some, None, Result, Ok, Err, List, [], ◌∷◌, ◌++◌, is_some}
-use Rattle.resident_requests.specs.KernelCalls.PacketQueue.QueueWords.{QueuedPacket}
-use Rattle.resident_requests.specs.KernelCalls.KernelModel.Kernel.{Console}
-use Rattle.resident_requests.specs.KernelCalls.KernelModel.Lists.{Lists}
-use Rattle.resident_requests.specs.KernelCalls.KernelModel.Residents.{key_packet, keyboard}
-use Rattle.resident_requests.specs.KernelCalls.KernelModel.ValidQueues.{is_key_packet}
-use Rattle.resident_requests.specs.KernelCalls.PacketCalls.SendOwn.{send_own}
-use Rattle.resident_requests.specs.KernelCalls.TaskCalls.SetFlags.{set_flags}
-use Rattle.resident_requests.specs.Answers.{finished, returned}
-use Rattle.resident_requests.specs.Buffers.{bytes_in, is_readable}
-use Rattle.resident_requests.specs.Requests.{RunsResident, first_request, taken, words_taken, work}
-use Rattle.resident_requests.specs.Turns.{ResidentTurn}
-use Rattle.resident_requests.specs.declared.requests.Request.{Request}
-use Rattle.resident_requests.specs.KernelCalls.KernelModel.declared.numbers.TheConstants.{CONSOLE}
-use Rattle.resident_requests.specs.declared.requests.TheConstants.{UNKNOWN_TYPE}
+use Rattle.fault_reporter.specs.KernelCalls.PacketQueue.QueueWords.{QueuedPacket}
+use Rattle.fault_reporter.specs.KernelCalls.KernelModel.Kernel.{Console}
+use Rattle.fault_reporter.specs.KernelCalls.KernelModel.Lists.{Lists}
+use Rattle.fault_reporter.specs.KernelCalls.KernelModel.Residents.{key_packet, keyboard}
+use Rattle.fault_reporter.specs.KernelCalls.KernelModel.ValidQueues.{is_key_packet}
+use Rattle.fault_reporter.specs.KernelCalls.PacketCalls.SendOwn.{send_own}
+use Rattle.fault_reporter.specs.KernelCalls.TaskCalls.SetFlags.{set_flags}
+use Rattle.fault_reporter.specs.ResidentRequests.Answers.{finished, returned}
+use Rattle.fault_reporter.specs.ResidentRequests.Buffers.{bytes_in, is_readable}
+use Rattle.fault_reporter.specs.ResidentRequests.Requests.{RunsResident, first_request, taken, words_taken, work}
+use Rattle.fault_reporter.specs.ResidentRequests.Turns.{ResidentTurn}
+use Rattle.fault_reporter.specs.ResidentRequests.declared.requests.Request.{Request}
+use Rattle.fault_reporter.specs.KernelCalls.KernelModel.declared.numbers.TheConstants.{CONSOLE}
+use Rattle.fault_reporter.specs.ResidentRequests.declared.requests.TheConstants.{UNKNOWN_TYPE}
 use Rattle.console_handler.specs.declared.requests.TheConstants.{BAD_BUFFER, READ_LINE, WRITE}
 use Rattle.console_handler.specs.Deliveries.{delivery}
 use Rattle.console_handler.specs.KeyPacket.{keys_taken}

@@ -1,15 +1,15 @@
 -- A finished line is handed to the reads that wait.
 use Rattle.std.specs.Prelude.{ℕ, ◌==◌, ◌&&◌, Bool, true, false, if◌then◌else◌, Option, Some, None, Result, Ok, Err, List, [], ◌∷◌, ◌++◌, length, min, take}
-use Rattle.resident_requests.specs.KernelCalls.PacketQueue.QueueWords.{QueuedPacket}
-use Rattle.resident_requests.specs.KernelCalls.KernelModel.Kernel.{Console}
-use Rattle.resident_requests.specs.KernelCalls.KernelModel.Lists.{Lists}
-use Rattle.resident_requests.specs.KernelCalls.KernelModel.Kernel.{no_line}
-use Rattle.resident_requests.specs.Answers.{returned}
-use Rattle.resident_requests.specs.Buffers.{is_writable, written_buffer}
-use Rattle.resident_requests.specs.Requests.{first_request}
-use Rattle.resident_requests.specs.Turns.{Served, service}
-use Rattle.resident_requests.specs.declared.requests.Request.{Request}
-use Rattle.resident_requests.specs.KernelCalls.KernelModel.declared.numbers.TheConstants.{SHELL}
+use Rattle.fault_reporter.specs.KernelCalls.PacketQueue.QueueWords.{QueuedPacket}
+use Rattle.fault_reporter.specs.KernelCalls.KernelModel.Kernel.{Console}
+use Rattle.fault_reporter.specs.KernelCalls.KernelModel.Lists.{Lists}
+use Rattle.fault_reporter.specs.KernelCalls.KernelModel.Kernel.{no_line}
+use Rattle.fault_reporter.specs.ResidentRequests.Answers.{returned}
+use Rattle.fault_reporter.specs.ResidentRequests.Buffers.{is_writable, written_buffer}
+use Rattle.fault_reporter.specs.ResidentRequests.Requests.{first_request}
+use Rattle.fault_reporter.specs.ResidentRequests.Turns.{Served, service}
+use Rattle.fault_reporter.specs.ResidentRequests.declared.requests.Request.{Request}
+use Rattle.fault_reporter.specs.KernelCalls.KernelModel.declared.numbers.TheConstants.{SHELL}
 use Rattle.console_handler.specs.declared.requests.TheConstants.{BAD_BUFFER}
 use Rattle.console_handler.specs.Progress.{Progress, and_then}
 use Rattle.console_handler.specs.Reads.{read_taken, words_read_from}

@@ -1,14 +1,14 @@
 -- The console's key packet, which comes back from the keyboard with a key as its first result.
 use Rattle.std.specs.Prelude.{◌≡◌, true, Some, Ok, List, [], ◌∷◌}
 use Rattle.word_store.specs.Arithmetic.{signed}
-use Rattle.resident_requests.specs.KernelCalls.PacketQueue.QueueWords.{QueuedPacket}
-use Rattle.resident_requests.specs.KernelCalls.PacketQueue.declared.events.KernelEvent.TheVariants.{Taken}
-use Rattle.resident_requests.specs.KernelCalls.KernelModel.Changes.{with_key, with_queue}
-use Rattle.resident_requests.specs.KernelCalls.KernelModel.Lists.{Lists}
-use Rattle.resident_requests.specs.KernelCalls.KernelModel.ValidQueues.{is_key_packet}
-use Rattle.resident_requests.specs.KernelCalls.KernelModel.ValidQueues.Place.{Work}
-use Rattle.resident_requests.specs.KernelCalls.CallAnswers.Made.{Made, done}
-use Rattle.resident_requests.specs.Requests.{RunsResident, work}
+use Rattle.fault_reporter.specs.KernelCalls.PacketQueue.QueueWords.{QueuedPacket}
+use Rattle.fault_reporter.specs.KernelCalls.PacketQueue.declared.events.KernelEvent.TheVariants.{Taken}
+use Rattle.fault_reporter.specs.KernelCalls.KernelModel.Changes.{with_key, with_queue}
+use Rattle.fault_reporter.specs.KernelCalls.KernelModel.Lists.{Lists}
+use Rattle.fault_reporter.specs.KernelCalls.KernelModel.ValidQueues.{is_key_packet}
+use Rattle.fault_reporter.specs.KernelCalls.KernelModel.ValidQueues.Place.{Work}
+use Rattle.fault_reporter.specs.KernelCalls.CallAnswers.Made.{Made, done}
+use Rattle.fault_reporter.specs.ResidentRequests.Requests.{RunsResident, work}
 
 abbrev pub StartsWithKeys : Lists → List QueuedPacket → Type 0
 StartsWithKeys l [] = ⊥

@@ -1,6 +1,6 @@
 -- The console's line, and what a key makes of it.
 use Rattle.std.specs.Prelude.{ℕ, ◌-◌, ◌==◌, ◌&&◌, ◌||◌, Bool, true, if◌then◌else◌, List, [], ◌∷◌, ◌++◌, length, nat_le, nat_lt, take}
-use Rattle.resident_requests.specs.KernelCalls.KernelModel.Kernel.{Console}
+use Rattle.fault_reporter.specs.KernelCalls.KernelModel.Kernel.{Console}
 
 -- What a key does.
 pub record Keyed : Type 0 where

@@ -1,16 +1,16 @@
 -- A turn of the console, of which some parts are done.
 use Rattle.std.specs.Prelude.{◌≡◌, ℕ, ◌≤◌, List, [], ◌++◌, length, map, slice_index, unwrap_or}
 use Rattle.std.specs.List.{range_with_len}
-use Rattle.resident_requests.specs.KernelCalls.OwnedWords.Owned.{Pairs, owners, word_in, written}
-use Rattle.resident_requests.specs.KernelCalls.PacketQueue.declared.events.KernelEvent.{KernelEvent}
-use Rattle.resident_requests.specs.KernelCalls.KernelModel.ChangedStore.{IsChanged, Knows}
-use Rattle.resident_requests.specs.KernelCalls.KernelModel.Kernel.{Console}
-use Rattle.resident_requests.specs.KernelCalls.KernelModel.Lists.{Lists}
-use Rattle.resident_requests.specs.KernelCalls.KernelModel.NotedEvents.{NotesAll}
-use Rattle.resident_requests.specs.KernelCalls.KernelModel.Owned.{owned}
-use Rattle.resident_requests.specs.KernelCalls.CallAnswers.Outside.{Outside}
-use Rattle.resident_requests.specs.Requests.{RunsResident}
-use Rattle.resident_requests.specs.KernelCalls.KernelModel.declared.numbers.TheConstants.{CONSOLE}
+use Rattle.fault_reporter.specs.KernelCalls.OwnedWords.Owned.{Pairs, owners, word_in, written}
+use Rattle.fault_reporter.specs.KernelCalls.PacketQueue.declared.events.KernelEvent.{KernelEvent}
+use Rattle.fault_reporter.specs.KernelCalls.KernelModel.ChangedStore.{IsChanged, Knows}
+use Rattle.fault_reporter.specs.KernelCalls.KernelModel.Kernel.{Console}
+use Rattle.fault_reporter.specs.KernelCalls.KernelModel.Lists.{Lists}
+use Rattle.fault_reporter.specs.KernelCalls.KernelModel.NotedEvents.{NotesAll}
+use Rattle.fault_reporter.specs.KernelCalls.KernelModel.Owned.{owned}
+use Rattle.fault_reporter.specs.KernelCalls.CallAnswers.Outside.{Outside}
+use Rattle.fault_reporter.specs.ResidentRequests.Requests.{RunsResident}
+use Rattle.fault_reporter.specs.KernelCalls.KernelModel.declared.numbers.TheConstants.{CONSOLE}
 
 -- How far a turn of the console has come.
 pub record Progress : Type 0 where

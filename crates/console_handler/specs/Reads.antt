@@ -1,21 +1,21 @@
 -- The reads that wait for a line, in the order in which they came.
 use Rattle.std.specs.Prelude.{◌≡◌, ℕ, Option, IfSome, Ok, List, [], ◌∷◌}
 use Rattle.word_store.specs.Arithmetic.{signed}
-use Rattle.resident_requests.specs.KernelCalls.PacketQueue.Queue.{no_queue}
-use Rattle.resident_requests.specs.KernelCalls.PacketQueue.QueueWords.{QueuedPacket}
-use Rattle.resident_requests.specs.KernelCalls.PacketQueue.declared.events.KernelEvent.TheVariants.{Accepted, Taken}
-use Rattle.resident_requests.specs.KernelCalls.KernelModel.ChangedStore.{IsChanged, Knows}
-use Rattle.resident_requests.specs.KernelCalls.KernelModel.Changes.{with_queue}
-use Rattle.resident_requests.specs.KernelCalls.KernelModel.Lists.{Lists}
-use Rattle.resident_requests.specs.KernelCalls.KernelModel.ValidQueues.Place.{Pending}
-use Rattle.resident_requests.specs.KernelCalls.CallAnswers.Made.{Made, minus_one}
-use Rattle.resident_requests.specs.KernelCalls.PacketCalls.PacketMoves.{sent_packet, with_arrived}
-use Rattle.resident_requests.specs.KernelCalls.PacketCalls.QueueWords.{unqueued}
-use Rattle.resident_requests.specs.KernelCalls.PacketCalls.declared.queues.Queue.TheVariants as queues
-use Rattle.resident_requests.specs.Answers.{OwnsRequest}
-use Rattle.resident_requests.specs.Requests.{HasRequest, Taking, first_request}
-use Rattle.resident_requests.specs.declared.requests.Request.{Request}
-use Rattle.resident_requests.specs.KernelCalls.KernelModel.declared.numbers.TheConstants.{PENDING}
+use Rattle.fault_reporter.specs.KernelCalls.PacketQueue.Queue.{no_queue}
+use Rattle.fault_reporter.specs.KernelCalls.PacketQueue.QueueWords.{QueuedPacket}
+use Rattle.fault_reporter.specs.KernelCalls.PacketQueue.declared.events.KernelEvent.TheVariants.{Accepted, Taken}
+use Rattle.fault_reporter.specs.KernelCalls.KernelModel.ChangedStore.{IsChanged, Knows}
+use Rattle.fault_reporter.specs.KernelCalls.KernelModel.Changes.{with_queue}
+use Rattle.fault_reporter.specs.KernelCalls.KernelModel.Lists.{Lists}
+use Rattle.fault_reporter.specs.KernelCalls.KernelModel.ValidQueues.Place.{Pending}
+use Rattle.fault_reporter.specs.KernelCalls.CallAnswers.Made.{Made, minus_one}
+use Rattle.fault_reporter.specs.KernelCalls.PacketCalls.PacketMoves.{sent_packet, with_arrived}
+use Rattle.fault_reporter.specs.KernelCalls.PacketCalls.QueueWords.{unqueued}
+use Rattle.fault_reporter.specs.KernelCalls.PacketCalls.declared.queues.Queue.TheVariants as queues
+use Rattle.fault_reporter.specs.ResidentRequests.Answers.{OwnsRequest}
+use Rattle.fault_reporter.specs.ResidentRequests.Requests.{HasRequest, Taking, first_request}
+use Rattle.fault_reporter.specs.ResidentRequests.declared.requests.Request.{Request}
+use Rattle.fault_reporter.specs.KernelCalls.KernelModel.declared.numbers.TheConstants.{PENDING}
 
 -- ---- a read comes
 

@@ -1,18 +1,18 @@
 // A finished line is handed to the reads that wait.
 ghost use Rattle.std.specs.Prelude.{◌≡◌, ◌≤◌, List, length, ℕ};
-ghost use Rattle.resident_requests.specs.KernelCalls.CallAnswers.Outside.{outside};
-ghost use Rattle.resident_requests.specs.KernelCalls.KernelModel.ChangedStore.{HasKeeper};
-ghost use Rattle.resident_requests.specs.KernelCalls.KernelModel.Lists.{Lists};
+ghost use Rattle.fault_reporter.specs.KernelCalls.CallAnswers.Outside.{outside};
+ghost use Rattle.fault_reporter.specs.KernelCalls.KernelModel.ChangedStore.{HasKeeper};
+ghost use Rattle.fault_reporter.specs.KernelCalls.KernelModel.Lists.{Lists};
 ghost use Rattle.console_handler.specs.Deliveries.{command_after, delivery, handed_if_finished, is_handed, line_after, line_service};
 ghost use Rattle.console_handler.specs.Progress.{IsDone, Progress, Start};
-ghost use Rattle.resident_requests.specs.Turns.{service};
+ghost use Rattle.fault_reporter.specs.ResidentRequests.Turns.{service};
 
 use crate::lines::{ConsoleState, copy_line};
 use crate::reads::take_read;
 use crate::requests::BAD_BUFFER;
 use arrayvec::ArrayVec;
-use resident_requests::numbers::{CONSOLE, SHELL};
-use resident_requests::{EventLog, KindKeeper, Request, can_write, return_request, write_buffer};
+use fault_reporter::numbers::{CONSOLE, SHELL};
+use fault_reporter::{EventLog, KindKeeper, Request, can_write, return_request, write_buffer};
 use std::cmp::min;
 use word_store::Store;
 

@@ -1,21 +1,21 @@
 // The console's key packet.
 ghost use Rattle.std.specs.Prelude.{◌≡◌, ◌&&◌, List, Ok, is_some, not, true, ℕ};
-ghost use Rattle.resident_requests.specs.KernelCalls.OwnedWords.Owned.{owners};
-ghost use Rattle.resident_requests.specs.KernelCalls.KernelModel.HoldsLists.{HoldsLists};
-ghost use Rattle.resident_requests.specs.KernelCalls.KernelModel.Lists.{Lists};
-ghost use Rattle.resident_requests.specs.KernelCalls.KernelModel.NotedEvents.{NotesAll};
-ghost use Rattle.resident_requests.specs.KernelCalls.KernelModel.Owned.{owned};
-ghost use Rattle.resident_requests.specs.KernelCalls.CallAnswers.Made.{Leaves};
-ghost use Rattle.resident_requests.specs.KernelCalls.CallAnswers.Outside.{outside};
-ghost use Rattle.resident_requests.specs.KernelCalls.KernelModel.Kernel.{Console};
+ghost use Rattle.fault_reporter.specs.KernelCalls.OwnedWords.Owned.{owners};
+ghost use Rattle.fault_reporter.specs.KernelCalls.KernelModel.HoldsLists.{HoldsLists};
+ghost use Rattle.fault_reporter.specs.KernelCalls.KernelModel.Lists.{Lists};
+ghost use Rattle.fault_reporter.specs.KernelCalls.KernelModel.NotedEvents.{NotesAll};
+ghost use Rattle.fault_reporter.specs.KernelCalls.KernelModel.Owned.{owned};
+ghost use Rattle.fault_reporter.specs.KernelCalls.CallAnswers.Made.{Leaves};
+ghost use Rattle.fault_reporter.specs.KernelCalls.CallAnswers.Outside.{outside};
+ghost use Rattle.fault_reporter.specs.KernelCalls.KernelModel.Kernel.{Console};
 ghost use Rattle.console_handler.specs.ConsoleTurn.{keys_sent, with_keys_sent};
 ghost use Rattle.console_handler.specs.KeyPacket.{FindsKeys, keys_taken};
 ghost use Rattle.console_handler.specs.Progress.{IsDone, Progress, Start};
-ghost use Rattle.resident_requests.specs.Requests.{RunsResident};
+ghost use Rattle.fault_reporter.specs.ResidentRequests.Requests.{RunsResident};
 
 use crate::lines::ConsoleState;
-use resident_requests::numbers::{CONSOLE, KEY_PACKET, PACKET_LINK, RES1, SENDER, SIGNED_KEYBOARD};
-use resident_requests::{
+use fault_reporter::numbers::{CONSOLE, KEY_PACKET, PACKET_LINK, RES1, SENDER, SIGNED_KEYBOARD};
+use fault_reporter::{
     EventLog, KindKeeper, NO_QUEUE, Queue, RootField, TcbField, field, root, send_own, taken,
     unqueue,
 };

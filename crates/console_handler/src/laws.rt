@@ -1,7 +1,7 @@
 // Laws over the definitions alone.
 ghost use Rattle.std.specs.Prelude.{List, ℕ};
-ghost use Rattle.resident_requests.specs.KernelCalls.KernelModel.Kernel.{Console};
-ghost use Rattle.resident_requests.specs.KernelCalls.KernelModel.Lists.{Lists};
+ghost use Rattle.fault_reporter.specs.KernelCalls.KernelModel.Kernel.{Console};
+ghost use Rattle.fault_reporter.specs.KernelCalls.KernelModel.Lists.{Lists};
 ghost use Rattle.console_handler.specs.ConsoleTurn.{KeysStand, all_parts};
 ghost use Rattle.console_handler.specs.Progress.{begun};
 

@@ -1,6 +1,6 @@
 // The console's line, which is edited key by key.
 ghost use Rattle.std.specs.Prelude.{◌≡◌, ◌+◌, ◌≤◌, [], ◌++◌, false, length, true};
-ghost use Rattle.resident_requests.specs.KernelCalls.KernelModel.Kernel.{Console};
+ghost use Rattle.fault_reporter.specs.KernelCalls.KernelModel.Kernel.{Console};
 ghost use Rattle.console_handler.specs.Line.{flags_of, is_printed, key, with_end, with_finish, without_end};
 
 use arrayvec::ArrayVec;
@@ -28,7 +28,7 @@ pub struct ConsoleState {
 }
 
 impl Model for ConsoleState {
-    ghost use Rattle.resident_requests.specs.KernelCalls.KernelModel.Kernel.{Console};
+    ghost use Rattle.fault_reporter.specs.KernelCalls.KernelModel.Kernel.{Console};
 
     ghost Value = { Console };
 

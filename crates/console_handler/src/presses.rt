@@ -1,13 +1,13 @@
 // A key comes.
 ghost use Rattle.std.specs.Prelude.{◌+◌, ◌≤◌, List, length, ℕ};
-ghost use Rattle.resident_requests.specs.KernelCalls.CallAnswers.Outside.{outside};
+ghost use Rattle.fault_reporter.specs.KernelCalls.CallAnswers.Outside.{outside};
 ghost use Rattle.console_handler.specs.ConsoleTurn.{with_key};
 ghost use Rattle.console_handler.specs.KeyPacket.{FindsKeys};
 ghost use Rattle.console_handler.specs.Progress.{IsDone, Progress, Start};
 
 use crate::keys::take_keys;
 use crate::lines::ConsoleState;
-use resident_requests::{EventLog, KindKeeper, set_flags};
+use fault_reporter::{EventLog, KindKeeper, set_flags};
 use tp_io::Output;
 use word_store::Store;
 

@@ -1,15 +1,15 @@
 // The reads that wait for a line.
 ghost use Rattle.std.specs.Prelude.{◌≡◌, Ok, true};
-ghost use Rattle.resident_requests.specs.KernelCalls.KernelModel.ChangedStore.{HasKeeper};
-ghost use Rattle.resident_requests.specs.KernelCalls.KernelModel.Lists.{Lists};
-ghost use Rattle.resident_requests.specs.KernelCalls.KernelModel.NotedEvents.{NotesAll};
-ghost use Rattle.resident_requests.specs.KernelCalls.CallAnswers.Made.{IsMade, minus_one};
+ghost use Rattle.fault_reporter.specs.KernelCalls.KernelModel.ChangedStore.{HasKeeper};
+ghost use Rattle.fault_reporter.specs.KernelCalls.KernelModel.Lists.{Lists};
+ghost use Rattle.fault_reporter.specs.KernelCalls.KernelModel.NotedEvents.{NotesAll};
+ghost use Rattle.fault_reporter.specs.KernelCalls.CallAnswers.Made.{IsMade, minus_one};
 ghost use Rattle.console_handler.specs.Reads.{IsReadTaken, put_off, read_taken};
-ghost use Rattle.resident_requests.specs.Answers.{OwnsRequest};
-ghost use Rattle.resident_requests.specs.Requests.{HasRequest};
+ghost use Rattle.fault_reporter.specs.ResidentRequests.Answers.{OwnsRequest};
+ghost use Rattle.fault_reporter.specs.ResidentRequests.Requests.{HasRequest};
 
-use resident_requests::numbers::{PACKET_WORDS, PENDING, SENDER};
-use resident_requests::{
+use fault_reporter::numbers::{PACKET_WORDS, PENDING, SENDER};
+use fault_reporter::{
     EventLog, KindKeeper, Queue, Request, accepted, first, request_at, send, taken, unqueue,
 };
 use word_store::{Store, word_at};

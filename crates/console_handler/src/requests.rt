@@ -1,16 +1,16 @@
 // Requests come to the console.
 ghost use Rattle.std.specs.Prelude.{◌≡◌, ◌+◌, ◌++◌, ◌≤◌, List, Some, length, ℕ};
-ghost use Rattle.resident_requests.specs.KernelCalls.CallAnswers.Outside.{outside};
-ghost use Rattle.resident_requests.specs.KernelCalls.KernelModel.Kernel.{Console};
+ghost use Rattle.fault_reporter.specs.KernelCalls.CallAnswers.Outside.{outside};
+ghost use Rattle.fault_reporter.specs.KernelCalls.KernelModel.Kernel.{Console};
 ghost use Rattle.console_handler.specs.ConsoleTurn.{answer_of, bytes_of, with_first};
 ghost use Rattle.console_handler.specs.Progress.{IsDone, Progress, Start};
-ghost use Rattle.resident_requests.specs.Requests.{TakesRequest};
+ghost use Rattle.fault_reporter.specs.ResidentRequests.Requests.{TakesRequest};
 
 use crate::reads::put_off;
-use resident_requests::numbers::CONSOLE;
-use resident_requests::requests::UNKNOWN_TYPE;
-use resident_requests::{
-    EventLog, KindKeeper, Request, can_read, read_buffer, return_request, take_request,
+use fault_reporter::numbers::CONSOLE;
+use fault_reporter::{
+    EventLog, KindKeeper, Request, UNKNOWN_TYPE, can_read, read_buffer, return_request,
+    take_request,
 };
 use tp_io::Output;
 use word_store::Store;

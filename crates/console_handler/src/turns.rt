@@ -1,12 +1,12 @@
 // The turn of the console.
 ghost use Rattle.std.specs.Prelude.{◌≡◌, [], List, ℕ};
-ghost use Rattle.resident_requests.specs.KernelCalls.CallAnswers.Outside.{outside};
-ghost use Rattle.resident_requests.specs.KernelCalls.KernelModel.ChangedStore.{HasKeeper};
-ghost use Rattle.resident_requests.specs.KernelCalls.KernelModel.Lists.{Lists};
+ghost use Rattle.fault_reporter.specs.KernelCalls.CallAnswers.Outside.{outside};
+ghost use Rattle.fault_reporter.specs.KernelCalls.KernelModel.ChangedStore.{HasKeeper};
+ghost use Rattle.fault_reporter.specs.KernelCalls.KernelModel.Lists.{Lists};
 ghost use Rattle.console_handler.specs.ConsoleTurn.{RunsConsole, all_parts, console_turn, treated};
 ghost use Rattle.console_handler.specs.Progress.{IsDone, Progress, Start, begun};
-ghost use Rattle.resident_requests.specs.Requests.{work};
-ghost use Rattle.resident_requests.specs.Turns.{IsResidentTurn};
+ghost use Rattle.fault_reporter.specs.ResidentRequests.Requests.{work};
+ghost use Rattle.fault_reporter.specs.ResidentRequests.Turns.{IsResidentTurn};
 
 use crate::deliveries::deliver;
 use crate::keys::send_free_keys;
@@ -14,8 +14,8 @@ use crate::lines::ConsoleState;
 use crate::presses::take_key;
 use crate::requests::take_first;
 use arrayvec::ArrayVec;
-use resident_requests::numbers::KEY_PACKET;
-use resident_requests::{EventLog, KindKeeper, finish_turn, first_packet};
+use fault_reporter::numbers::KEY_PACKET;
+use fault_reporter::{EventLog, KindKeeper, finish_turn, first_packet};
 use tp_io::Output;
 use word_store::Store;
 

@@ -5,32 +5,32 @@ use Rattle.std.specs.List.{AllByRecursion}
 use Rattle.std.specs.Option.{option_map_or}
 use Rattle.std.proofs.lemmas.Bool.{false≢true}
 use Rattle.word_store.specs.Count.{IsApart}
-use Rattle.block_calls.specs.KernelDispatch.OwnedWords.Exchange.{Exchange}
-use Rattle.block_calls.specs.KernelDispatch.OwnedWords.LinkedWords.{first_of}
-use Rattle.block_calls.specs.KernelDispatch.OwnedWords.Owned.{Pairs, owners}
-use Rattle.block_calls.proofs.Shown.KernelDispatch.OwnedWords.Exchanges.{exchange-right}
-use Rattle.block_calls.specs.KernelDispatch.PacketQueue.QueueWords.{queue_words}
-use Rattle.block_calls.specs.KernelDispatch.Coroutines.CoroutineExchanges.{HoldsCoroutines, Rewrites, TaskCoroutines, standing, words_of_coroutines}
-use Rattle.block_calls.specs.KernelDispatch.Coroutines.Coroutines.{HasCoroutines}
-use Rattle.block_calls.specs.KernelDispatch.Coroutines.HeldCoroutines.{address_of}
-use Rattle.block_calls.proofs.Shown.KernelDispatch.Coroutines.HeldCoroutineLists.{held-coroutines}
-use Rattle.block_calls.specs.KernelDispatch.KernelModel.BlockUse.{coroutine_addresses}
-use Rattle.block_calls.specs.KernelDispatch.KernelModel.ChangedStore.{IsChanged}
-use Rattle.block_calls.specs.KernelDispatch.KernelModel.Changes.{change_of, with_tasks}
-use Rattle.block_calls.specs.KernelDispatch.KernelModel.HoldsLists.{HoldsLists}
-use Rattle.block_calls.specs.KernelDispatch.KernelModel.Lists.{Lists}
-use Rattle.block_calls.specs.KernelDispatch.KernelModel.Owned.{owned}
-use Rattle.block_calls.specs.KernelDispatch.KernelModel.Task.{Task, fault_words, is_guest_id, name_words, queue_head, state_words, task_address, task_id, task_words}
-use Rattle.block_calls.specs.KernelDispatch.KernelModel.ValidLists.{AreValid}
-use Rattle.block_calls.specs.KernelDispatch.KernelModel.ValidTasks.{CoroutinesStand, IsTask}
-use Rattle.block_calls.proofs.Shown.KernelDispatch.KernelModel.AllThings.{all-here}
-use Rattle.block_calls.proofs.Shown.KernelDispatch.KernelModel.ChangedLists.{exchange-owned, one_task-owned, owners-exchanged}
-use Rattle.block_calls.proofs.Shown.KernelDispatch.KernelModel.OneTask.{same_task-valid}
-use Rattle.block_calls.specs.CallAnswers.Guests.{GuestAt}
-use Rattle.block_calls.proofs.Shown.CallAnswers.FoundTask.{find-numbered, reads}
-use Rattle.block_calls.proofs.Shown.CallAnswers.Refusals.{accepted-guest}
-use Rattle.block_calls.specs.CallAnswers.Tasks.{no_coroutines}
-use Rattle.block_calls.proofs.Shown.CallAnswers.GuestTask.{guest-changed}
+use Rattle.packet_calls.specs.KernelDispatch.OwnedWords.Exchange.{Exchange}
+use Rattle.packet_calls.specs.KernelDispatch.OwnedWords.LinkedWords.{first_of}
+use Rattle.packet_calls.specs.KernelDispatch.OwnedWords.Owned.{Pairs, owners}
+use Rattle.packet_calls.proofs.Shown.KernelDispatch.OwnedWords.Exchanges.{exchange-right}
+use Rattle.packet_calls.specs.KernelDispatch.PacketQueue.QueueWords.{queue_words}
+use Rattle.packet_calls.specs.KernelDispatch.Coroutines.CoroutineExchanges.{HoldsCoroutines, Rewrites, TaskCoroutines, standing, words_of_coroutines}
+use Rattle.packet_calls.specs.KernelDispatch.Coroutines.Coroutines.{HasCoroutines}
+use Rattle.packet_calls.specs.KernelDispatch.Coroutines.HeldCoroutines.{address_of}
+use Rattle.packet_calls.proofs.Shown.KernelDispatch.Coroutines.HeldCoroutineLists.{held-coroutines}
+use Rattle.packet_calls.specs.KernelDispatch.KernelModel.BlockUse.{coroutine_addresses}
+use Rattle.packet_calls.specs.KernelDispatch.KernelModel.ChangedStore.{IsChanged}
+use Rattle.packet_calls.specs.KernelDispatch.KernelModel.Changes.{change_of, with_tasks}
+use Rattle.packet_calls.specs.KernelDispatch.KernelModel.HoldsLists.{HoldsLists}
+use Rattle.packet_calls.specs.KernelDispatch.KernelModel.Lists.{Lists}
+use Rattle.packet_calls.specs.KernelDispatch.KernelModel.Owned.{owned}
+use Rattle.packet_calls.specs.KernelDispatch.KernelModel.Task.{Task, fault_words, is_guest_id, name_words, queue_head, state_words, task_address, task_id, task_words}
+use Rattle.packet_calls.specs.KernelDispatch.KernelModel.ValidLists.{AreValid}
+use Rattle.packet_calls.specs.KernelDispatch.KernelModel.ValidTasks.{CoroutinesStand, IsTask}
+use Rattle.packet_calls.proofs.Shown.KernelDispatch.KernelModel.AllThings.{all-here}
+use Rattle.packet_calls.proofs.Shown.KernelDispatch.KernelModel.ChangedLists.{exchange-owned, one_task-owned, owners-exchanged}
+use Rattle.packet_calls.proofs.Shown.KernelDispatch.KernelModel.OneTask.{same_task-valid}
+use Rattle.packet_calls.specs.CallAnswers.Guests.{GuestAt}
+use Rattle.packet_calls.proofs.Shown.CallAnswers.FoundTask.{find-numbered, reads}
+use Rattle.packet_calls.proofs.Shown.CallAnswers.Refusals.{accepted-guest}
+use Rattle.packet_calls.specs.CallAnswers.Tasks.{no_coroutines}
+use Rattle.packet_calls.proofs.Shown.CallAnswers.GuestTask.{guest-changed}
 use Rattle.coroutine_calls.specs.CallersCoroutines.{coroutines_of_caller, with_callers, with_changed}
 
 -- what stands at these addresses has the same owners

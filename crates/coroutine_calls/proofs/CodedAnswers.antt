@@ -1,15 +1,15 @@
 -- The answers of the calls of coroutines, with codes in place of their reasons.
 use Rattle.std.proofs.Common.{◌≡◌, ℕ, ◌||◌, List, [], ◌∷◌, cond, eqb, map, Bool, true, false, Some, None, Err, refl, ◌∙◌}
 use Rattle.std.specs.Prelude.{not}
-use Rattle.block_calls.specs.KernelDispatch.LinkedList.Places.{has}
-use Rattle.block_calls.specs.KernelDispatch.Coroutines.CoroutineExchanges.{HoldsCoroutines, TaskCoroutines, current_of}
-use Rattle.block_calls.specs.KernelDispatch.Coroutines.HeldCoroutines.{address_of}
-use Rattle.block_calls.specs.KernelDispatch.Coroutines.Refusals as reasons
-use Rattle.block_calls.specs.KernelDispatch.Coroutines.declared.ends.CoEnd.{CoEnd}
-use Rattle.block_calls.specs.KernelDispatch.Coroutines.declared.ends.CoEnd.TheVariants.{HasParent, NoParent, Unknown}
-use Rattle.block_calls.proofs.Shown.KernelDispatch.Coroutines.CoroutineLists.{Built}
-use Rattle.block_calls.proofs.Shown.KernelDispatch.Coroutines.HeldCoroutineLists.{held-coroutines}
-use Rattle.block_calls.specs.CallAnswers.Refusals.{answer_of, first_refusal}
+use Rattle.packet_calls.specs.KernelDispatch.LinkedList.Places.{has}
+use Rattle.packet_calls.specs.KernelDispatch.Coroutines.CoroutineExchanges.{HoldsCoroutines, TaskCoroutines, current_of}
+use Rattle.packet_calls.specs.KernelDispatch.Coroutines.HeldCoroutines.{address_of}
+use Rattle.packet_calls.specs.KernelDispatch.Coroutines.Refusals as reasons
+use Rattle.packet_calls.specs.KernelDispatch.Coroutines.declared.ends.CoEnd.{CoEnd}
+use Rattle.packet_calls.specs.KernelDispatch.Coroutines.declared.ends.CoEnd.TheVariants.{HasParent, NoParent, Unknown}
+use Rattle.packet_calls.proofs.Shown.KernelDispatch.Coroutines.CoroutineLists.{Built}
+use Rattle.packet_calls.proofs.Shown.KernelDispatch.Coroutines.HeldCoroutineLists.{held-coroutines}
+use Rattle.packet_calls.specs.CallAnswers.Refusals.{answer_of, first_refusal}
 use Rattle.coroutine_calls.specs.CallCo.{idle_tests}
 use Rattle.coroutine_calls.specs.CallersCoroutines.{has_parent, is_one_of, is_within}
 use Rattle.coroutine_calls.specs.CoWait.{wait_tests}

@@ -3,31 +3,31 @@ use Rattle.std.specs.Prelude.{OnOk, not}
 use Rattle.std.proofs.Common.{◌≡◌, ℕ, ◌+◌, ◌-◌, ◌≤◌, List, [], ◌∷◌, cond, get_or, length, Bool, true, false, Some, None, Option, Ok, Err, Result, refl, sym, ap, ◌∙◌, subst, arith}
 use Rattle.std.specs.List.{AllByRecursion, range_with_len}
 use Rattle.word_store.specs.Count.{IsApart}
-use Rattle.block_calls.specs.KernelDispatch.GetvecChain.declared.pieces.Block.{Block}
-use Rattle.block_calls.specs.KernelDispatch.GetvecChain.Block.{block_end, used_block}
-use Rattle.block_calls.specs.KernelDispatch.GetvecChain.Run.{need}
-use Rattle.block_calls.specs.KernelDispatch.GetvecChain.Tiling.{blocks_in, used_at}
-use Rattle.block_calls.proofs.Shown.KernelDispatch.GetvecChain.UsedBlocks.{UsedBlock, used_at-is}
-use Rattle.block_calls.specs.KernelDispatch.Coroutines.CoroutineExchanges.{HoldsCoroutines, TaskCoroutines}
-use Rattle.block_calls.specs.KernelDispatch.Coroutines.Creation.{deleted}
-use Rattle.block_calls.specs.KernelDispatch.Coroutines.Refusals.{idle_answer}
-use Rattle.block_calls.specs.KernelDispatch.Coroutines.declared.ends.CoEnd.{CoEnd}
-use Rattle.block_calls.specs.KernelDispatch.KernelModel.ChangedStore.{HasKeeper}
-use Rattle.block_calls.specs.KernelDispatch.KernelModel.Changes.{AreUnowned}
-use Rattle.block_calls.specs.KernelDispatch.KernelModel.HoldsLists.{HoldsLists}
-use Rattle.block_calls.specs.KernelDispatch.KernelModel.Lists.{Lists}
-use Rattle.block_calls.specs.KernelDispatch.KernelModel.ReadsLists.{ReadsLists}
-use Rattle.block_calls.specs.KernelDispatch.KernelModel.ValidTasks.{IsCoroutine}
-use Rattle.block_calls.proofs.Shown.KernelDispatch.KernelModel.AllThings.{all-here}
-use Rattle.block_calls.specs.KernelDispatch.WordKinds.Keeper.{AreTogether}
-use Rattle.block_calls.proofs.Shown.KernelDispatch.WordKinds.KnownWords.{knows-released}
-use Rattle.block_calls.specs.CallAnswers.Guests.{GuestAt}
-use Rattle.block_calls.specs.CallAnswers.Made.{IsMade, Made, done, minus_one, plain_answer}
-use Rattle.block_calls.specs.CallAnswers.Refusals.{first_refusal}
-use Rattle.block_calls.proofs.Shown.CallAnswers.FoundTask.{reads}
-use Rattle.block_calls.proofs.Shown.CallAnswers.MadeCalls.{made-accepted, made-refused}
-use Rattle.block_calls.proofs.Shown.CallAnswers.Refusals.{answer_of-err, answer_of-ok, first_refusal-failed, first_refusal-passed}
-use Rattle.block_calls.specs.Freevec.{has_packet_in}
+use Rattle.packet_calls.specs.KernelDispatch.GetvecChain.declared.pieces.Block.{Block}
+use Rattle.packet_calls.specs.KernelDispatch.GetvecChain.Block.{block_end, used_block}
+use Rattle.packet_calls.specs.KernelDispatch.GetvecChain.Run.{need}
+use Rattle.packet_calls.specs.KernelDispatch.GetvecChain.Tiling.{blocks_in, used_at}
+use Rattle.packet_calls.proofs.Shown.KernelDispatch.GetvecChain.UsedBlocks.{UsedBlock, used_at-is}
+use Rattle.packet_calls.specs.KernelDispatch.Coroutines.CoroutineExchanges.{HoldsCoroutines, TaskCoroutines}
+use Rattle.packet_calls.specs.KernelDispatch.Coroutines.Creation.{deleted}
+use Rattle.packet_calls.specs.KernelDispatch.Coroutines.Refusals.{idle_answer}
+use Rattle.packet_calls.specs.KernelDispatch.Coroutines.declared.ends.CoEnd.{CoEnd}
+use Rattle.packet_calls.specs.KernelDispatch.KernelModel.ChangedStore.{HasKeeper}
+use Rattle.packet_calls.specs.KernelDispatch.KernelModel.Changes.{AreUnowned}
+use Rattle.packet_calls.specs.KernelDispatch.KernelModel.HoldsLists.{HoldsLists}
+use Rattle.packet_calls.specs.KernelDispatch.KernelModel.Lists.{Lists}
+use Rattle.packet_calls.specs.KernelDispatch.KernelModel.ReadsLists.{ReadsLists}
+use Rattle.packet_calls.specs.KernelDispatch.KernelModel.ValidTasks.{IsCoroutine}
+use Rattle.packet_calls.proofs.Shown.KernelDispatch.KernelModel.AllThings.{all-here}
+use Rattle.packet_calls.specs.KernelDispatch.WordKinds.Keeper.{AreTogether}
+use Rattle.packet_calls.proofs.Shown.KernelDispatch.WordKinds.KnownWords.{knows-released}
+use Rattle.packet_calls.specs.CallAnswers.Guests.{GuestAt}
+use Rattle.packet_calls.specs.CallAnswers.Made.{IsMade, Made, done, minus_one, plain_answer}
+use Rattle.packet_calls.specs.CallAnswers.Refusals.{first_refusal}
+use Rattle.packet_calls.proofs.Shown.CallAnswers.FoundTask.{reads}
+use Rattle.packet_calls.proofs.Shown.CallAnswers.MadeCalls.{made-accepted, made-refused}
+use Rattle.packet_calls.proofs.Shown.CallAnswers.Refusals.{answer_of-err, answer_of-ok, first_refusal-failed, first_refusal-passed}
+use Rattle.packet_calls.specs.BlockCalls.Freevec.{has_packet_in}
 use Rattle.coroutine_calls.specs.CallCo.{idle_tests}
 use Rattle.coroutine_calls.specs.CallersCoroutines.{coroutines_of_caller}
 use Rattle.coroutine_calls.specs.DeleteCo.{IsRoomy, delete_tests, deleteco, with_deleted_at}

@@ -3,52 +3,52 @@ use Rattle.std.proofs.Common.{◌≡◌, ℕ, ◌+◌, ◌≤◌, List, [], ◌�
 use Rattle.std.specs.Prelude.{filter, not}
 use Rattle.std.specs.List.{AllByRecursion, flat_map, list_any, range_with_len}
 use Rattle.std.proofs.lemmas.Bool.{cases_lt, eq-eqb, eqb-true, ne_eqb}
-use Rattle.block_calls.specs.KernelDispatch.LinkedList.Chain.{list_at}
+use Rattle.packet_calls.specs.KernelDispatch.LinkedList.Chain.{list_at}
 use Rattle.word_store.specs.Count.{IsApart, times}
-use Rattle.block_calls.specs.KernelDispatch.LinkedList.Linked.{IsListAt}
-use Rattle.block_calls.specs.KernelDispatch.LinkedList.Places.{has}
-use Rattle.block_calls.proofs.Shown.KernelDispatch.LinkedList.Chains.{nodes-apart}
+use Rattle.packet_calls.specs.KernelDispatch.LinkedList.Linked.{IsListAt}
+use Rattle.packet_calls.specs.KernelDispatch.LinkedList.Places.{has}
+use Rattle.packet_calls.proofs.Shown.KernelDispatch.LinkedList.Chains.{nodes-apart}
 use Rattle.word_store.proofs.Counts.{hit-same, times-above}
-use Rattle.block_calls.specs.KernelDispatch.OwnedWords.Exchange.{Exchange}
-use Rattle.block_calls.specs.KernelDispatch.OwnedWords.LinkedWords.{first_of}
-use Rattle.block_calls.specs.KernelDispatch.OwnedWords.Owned.{Pairs, owners}
-use Rattle.block_calls.proofs.Shown.KernelDispatch.OwnedWords.HeldLists.{held-list}
-use Rattle.block_calls.specs.KernelDispatch.GetvecChain.declared.pieces.Block.{Block}
-use Rattle.block_calls.specs.KernelDispatch.GetvecChain.Block.{block_end, is_used_at, used_block}
-use Rattle.block_calls.specs.KernelDispatch.GetvecChain.Run.{need}
-use Rattle.block_calls.specs.KernelDispatch.GetvecChain.Give.{given_store}
-use Rattle.block_calls.specs.KernelDispatch.GetvecChain.Tiling.{blocks_in, used_at}
-use Rattle.block_calls.proofs.Shown.KernelDispatch.GetvecChain.AfterGive.{given_store-is}
-use Rattle.block_calls.proofs.Shown.KernelDispatch.GetvecChain.UsedBlocks.{is_used_at-true}
-use Rattle.block_calls.specs.KernelDispatch.TaskBlock.Lists.{coroutine_link}
-use Rattle.block_calls.specs.KernelDispatch.Coroutines.CoroutineExchanges.{DeleteExchange, HoldsCoroutines, TaskCoroutines, link_behind, with_list, words_of_coroutines}
-use Rattle.block_calls.specs.KernelDispatch.Coroutines.CoroutineWords.{coroutine_size}
-use Rattle.block_calls.specs.KernelDispatch.Coroutines.Creation.{deleted}
-use Rattle.block_calls.specs.KernelDispatch.Coroutines.HeldCoroutines.{Coroutine, address_of, coroutine_words}
-use Rattle.block_calls.specs.KernelDispatch.Coroutines.Refusals.{idle_answer}
-use Rattle.block_calls.proofs.Shown.KernelDispatch.Coroutines.CreationExchanges.{delete-exchange}
-use Rattle.block_calls.proofs.Shown.KernelDispatch.Coroutines.HeldCoroutineLists.{are_coroutines}
-use Rattle.block_calls.specs.KernelDispatch.KernelModel.BlockUse.{use_of_data}
-use Rattle.block_calls.specs.KernelDispatch.KernelModel.declared.uses.Use.TheVariants.{User}
-use Rattle.block_calls.specs.KernelDispatch.KernelModel.ChangedStore.{IsChanged}
-use Rattle.block_calls.specs.KernelDispatch.KernelModel.Changes.{AreUnowned, IsIdleBlock, with_coroutines, with_tasks}
-use Rattle.block_calls.specs.KernelDispatch.KernelModel.HoldsLists.{HoldsLists}
-use Rattle.block_calls.specs.KernelDispatch.KernelModel.Lists.{Lists, queued}
-use Rattle.block_calls.specs.KernelDispatch.KernelModel.Owned.{owned}
-use Rattle.block_calls.specs.KernelDispatch.KernelModel.Task.{Task, task_address}
-use Rattle.block_calls.specs.KernelDispatch.KernelModel.ValidLists.{AreValid}
-use Rattle.block_calls.specs.KernelDispatch.KernelModel.ValidTasks.{IsCoroutine}
-use Rattle.block_calls.proofs.Shown.KernelDispatch.KernelModel.AllThings.{all-here}
-use Rattle.block_calls.proofs.Shown.KernelDispatch.KernelModel.ChangedLists.{changed-then, exchange-owned, one_task-owned}
-use Rattle.block_calls.proofs.Shown.KernelDispatch.KernelModel.CoroutineMoves.{gone_coroutine-unowned, gone_coroutine-valid}
-use Rattle.block_calls.proofs.Shown.KernelDispatch.KernelModel.EachMember.{find-passes}
-use Rattle.block_calls.proofs.Shown.KernelDispatch.KernelModel.TaskCounts.{owners-coroutine}
-use Rattle.block_calls.proofs.Shown.KernelDispatch.KernelModel.UnownedBlocks.{unowned-user}
-use Rattle.block_calls.specs.Freevec.{has_packet_in, holds_packet, lies_in, with_given}
-use Rattle.block_calls.proofs.IdleBlocks.{idle-unowned, none-idle, unowned-empty}
-use Rattle.block_calls.proofs.TakenStore.{given-changed, given-owners}
-use Rattle.block_calls.specs.CallAnswers.Guests.{GuestAt}
-use Rattle.block_calls.proofs.Shown.CallAnswers.FoundTask.{reads}
+use Rattle.packet_calls.specs.KernelDispatch.OwnedWords.Exchange.{Exchange}
+use Rattle.packet_calls.specs.KernelDispatch.OwnedWords.LinkedWords.{first_of}
+use Rattle.packet_calls.specs.KernelDispatch.OwnedWords.Owned.{Pairs, owners}
+use Rattle.packet_calls.proofs.Shown.KernelDispatch.OwnedWords.HeldLists.{held-list}
+use Rattle.packet_calls.specs.KernelDispatch.GetvecChain.declared.pieces.Block.{Block}
+use Rattle.packet_calls.specs.KernelDispatch.GetvecChain.Block.{block_end, is_used_at, used_block}
+use Rattle.packet_calls.specs.KernelDispatch.GetvecChain.Run.{need}
+use Rattle.packet_calls.specs.KernelDispatch.GetvecChain.Give.{given_store}
+use Rattle.packet_calls.specs.KernelDispatch.GetvecChain.Tiling.{blocks_in, used_at}
+use Rattle.packet_calls.proofs.Shown.KernelDispatch.GetvecChain.AfterGive.{given_store-is}
+use Rattle.packet_calls.proofs.Shown.KernelDispatch.GetvecChain.UsedBlocks.{is_used_at-true}
+use Rattle.packet_calls.specs.KernelDispatch.TaskBlock.Lists.{coroutine_link}
+use Rattle.packet_calls.specs.KernelDispatch.Coroutines.CoroutineExchanges.{DeleteExchange, HoldsCoroutines, TaskCoroutines, link_behind, with_list, words_of_coroutines}
+use Rattle.packet_calls.specs.KernelDispatch.Coroutines.CoroutineWords.{coroutine_size}
+use Rattle.packet_calls.specs.KernelDispatch.Coroutines.Creation.{deleted}
+use Rattle.packet_calls.specs.KernelDispatch.Coroutines.HeldCoroutines.{Coroutine, address_of, coroutine_words}
+use Rattle.packet_calls.specs.KernelDispatch.Coroutines.Refusals.{idle_answer}
+use Rattle.packet_calls.proofs.Shown.KernelDispatch.Coroutines.CreationExchanges.{delete-exchange}
+use Rattle.packet_calls.proofs.Shown.KernelDispatch.Coroutines.HeldCoroutineLists.{are_coroutines}
+use Rattle.packet_calls.specs.KernelDispatch.KernelModel.BlockUse.{use_of_data}
+use Rattle.packet_calls.specs.KernelDispatch.KernelModel.declared.uses.Use.TheVariants.{User}
+use Rattle.packet_calls.specs.KernelDispatch.KernelModel.ChangedStore.{IsChanged}
+use Rattle.packet_calls.specs.KernelDispatch.KernelModel.Changes.{AreUnowned, IsIdleBlock, with_coroutines, with_tasks}
+use Rattle.packet_calls.specs.KernelDispatch.KernelModel.HoldsLists.{HoldsLists}
+use Rattle.packet_calls.specs.KernelDispatch.KernelModel.Lists.{Lists, queued}
+use Rattle.packet_calls.specs.KernelDispatch.KernelModel.Owned.{owned}
+use Rattle.packet_calls.specs.KernelDispatch.KernelModel.Task.{Task, task_address}
+use Rattle.packet_calls.specs.KernelDispatch.KernelModel.ValidLists.{AreValid}
+use Rattle.packet_calls.specs.KernelDispatch.KernelModel.ValidTasks.{IsCoroutine}
+use Rattle.packet_calls.proofs.Shown.KernelDispatch.KernelModel.AllThings.{all-here}
+use Rattle.packet_calls.proofs.Shown.KernelDispatch.KernelModel.ChangedLists.{changed-then, exchange-owned, one_task-owned}
+use Rattle.packet_calls.proofs.Shown.KernelDispatch.KernelModel.CoroutineMoves.{gone_coroutine-unowned, gone_coroutine-valid}
+use Rattle.packet_calls.proofs.Shown.KernelDispatch.KernelModel.EachMember.{find-passes}
+use Rattle.packet_calls.proofs.Shown.KernelDispatch.KernelModel.TaskCounts.{owners-coroutine}
+use Rattle.packet_calls.proofs.Shown.KernelDispatch.KernelModel.UnownedBlocks.{unowned-user}
+use Rattle.packet_calls.specs.BlockCalls.Freevec.{has_packet_in, holds_packet, lies_in, with_given}
+use Rattle.packet_calls.proofs.Shown.BlockCalls.IdleBlocks.{idle-unowned, none-idle, unowned-empty}
+use Rattle.packet_calls.proofs.Shown.BlockCalls.TakenStore.{given-changed, given-owners}
+use Rattle.packet_calls.specs.CallAnswers.Guests.{GuestAt}
+use Rattle.packet_calls.proofs.Shown.CallAnswers.FoundTask.{reads}
 use Rattle.coroutine_calls.specs.CallersCoroutines.{has_parent, is_one_of, with_callers}
 use Rattle.coroutine_calls.specs.DeleteCo.{IsRoomy, with_deleted, with_deleted_at}
 use Rattle.coroutine_calls.proofs.CallersTask.{callers-between, callers-held, callers-stand, task-exchange}

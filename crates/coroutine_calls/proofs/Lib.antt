@@ -5,3 +5,4 @@ pub mod MadeSwitches
 pub mod MadeCoroutine
 pub mod GoneCoroutine
 pub mod DeletedCoroutine
+pub mod Shown

@@ -3,46 +3,46 @@ use Rattle.std.proofs.Common.{◌≡◌, ℕ, ◌+◌, ◌≤◌, List, [], ◌�
 use Rattle.std.specs.Prelude.{IfOk, OnErr, OnOk, is_err, is_some}
 use Rattle.std.specs.List.{range_with_len}
 use Rattle.word_store.specs.Count.{times}
-use Rattle.block_calls.specs.KernelDispatch.LinkedList.Places.{has}
-use Rattle.block_calls.proofs.Shown.KernelDispatch.LinkedList.AllMembers.{all-has}
-use Rattle.block_calls.specs.KernelDispatch.OwnedWords.Exchange.{Exchange}
-use Rattle.block_calls.specs.KernelDispatch.OwnedWords.LinkedWords.{first_of}
-use Rattle.block_calls.specs.KernelDispatch.OwnedWords.Owned.{Pairs, owners, row_from, written}
-use Rattle.block_calls.proofs.Shown.KernelDispatch.OwnedWords.RowWords.{with_words-written}
-use Rattle.block_calls.specs.KernelDispatch.GetvecChain.declared.pieces.Block.{Block}
-use Rattle.block_calls.proofs.Shown.KernelDispatch.GetvecChain.AfterTake.{after_take}
-use Rattle.block_calls.specs.KernelDispatch.TaskBlock.Lists.{first_coroutine}
-use Rattle.block_calls.specs.KernelDispatch.Coroutines.CoroutineExchanges.{CreateExchange, HoldsCoroutines, TaskCoroutines, created_words, new_coroutine, words_of_coroutines}
-use Rattle.block_calls.specs.KernelDispatch.Coroutines.Creation.{IsCreated, highest, new_words}
-use Rattle.block_calls.specs.KernelDispatch.Coroutines.HeldCoroutines.{Coroutine, address_of}
-use Rattle.block_calls.proofs.Shown.KernelDispatch.Coroutines.CoroutineLists.{Built}
-use Rattle.block_calls.proofs.Shown.KernelDispatch.Coroutines.CreationExchanges.{create-exchange}
-use Rattle.block_calls.proofs.Shown.KernelDispatch.Coroutines.HeldCoroutineLists.{held-coroutines, parent_of-none}
-use Rattle.block_calls.proofs.Shown.KernelDispatch.Coroutines.KnownCoroutines.{known-block}
-use Rattle.block_calls.specs.KernelDispatch.KernelModel.ChangedStore.{IsChanged, Knows}
-use Rattle.block_calls.specs.KernelDispatch.KernelModel.Changes.{AreUnowned, with_coroutines, with_tasks}
-use Rattle.block_calls.specs.KernelDispatch.KernelModel.HoldsLists.{HoldsLists}
-use Rattle.block_calls.specs.KernelDispatch.KernelModel.Lists.{Lists}
-use Rattle.block_calls.specs.KernelDispatch.KernelModel.Owned.{owned}
-use Rattle.block_calls.specs.KernelDispatch.KernelModel.Task.{task_address}
-use Rattle.block_calls.specs.KernelDispatch.KernelModel.ValidLists.{AreValid}
-use Rattle.block_calls.specs.KernelDispatch.KernelModel.ValidTasks.{IsCoroutine}
-use Rattle.block_calls.proofs.Shown.KernelDispatch.KernelModel.ChangedLists.{changed-then, exchange-owned, one_task-owned}
-use Rattle.block_calls.proofs.Shown.KernelDispatch.KernelModel.CoroutineMoves.{new_coroutine-valid}
-use Rattle.block_calls.proofs.Shown.KernelDispatch.KernelModel.DataInside.{HasBlock-inside}
-use Rattle.block_calls.proofs.Shown.KernelDispatch.KernelModel.TaskCounts.{owners-coroutine}
-use Rattle.block_calls.specs.FreeStore.{data_of_front, data_taken, has_room, with_taken}
-use Rattle.block_calls.proofs.TakenStore.{HasTakenBlock, taken-changed}
-use Rattle.block_calls.specs.CallAnswers.Guests.{GuestAt}
-use Rattle.block_calls.specs.CallAnswers.Made.{IsMade}
-use Rattle.block_calls.proofs.Shown.CallAnswers.FoundTask.{reads}
-use Rattle.block_calls.proofs.Shown.CallAnswers.MadeCalls.{made-accepted, made-refused}
-use Rattle.block_calls.specs.KernelDispatch.WordKinds.Keeper.{AreTogether}
-use Rattle.block_calls.proofs.Shown.KernelDispatch.WordKinds.KnownWords.{knows-claimed}
-use Rattle.block_calls.specs.KernelDispatch.GetvecChain.declared.calls.NoRoom.{NoRoom}
-use Rattle.block_calls.specs.KernelDispatch.GetvecChain.declared.pieces.Run.{Run}
-use Rattle.block_calls.specs.KernelDispatch.GetvecChain.Run.{first_run, need}
-use Rattle.block_calls.specs.KernelDispatch.GetvecChain.Tiling.{blocks_in}
+use Rattle.packet_calls.specs.KernelDispatch.LinkedList.Places.{has}
+use Rattle.packet_calls.proofs.Shown.KernelDispatch.LinkedList.AllMembers.{all-has}
+use Rattle.packet_calls.specs.KernelDispatch.OwnedWords.Exchange.{Exchange}
+use Rattle.packet_calls.specs.KernelDispatch.OwnedWords.LinkedWords.{first_of}
+use Rattle.packet_calls.specs.KernelDispatch.OwnedWords.Owned.{Pairs, owners, row_from, written}
+use Rattle.packet_calls.proofs.Shown.KernelDispatch.OwnedWords.RowWords.{with_words-written}
+use Rattle.packet_calls.specs.KernelDispatch.GetvecChain.declared.pieces.Block.{Block}
+use Rattle.packet_calls.proofs.Shown.KernelDispatch.GetvecChain.AfterTake.{after_take}
+use Rattle.packet_calls.specs.KernelDispatch.TaskBlock.Lists.{first_coroutine}
+use Rattle.packet_calls.specs.KernelDispatch.Coroutines.CoroutineExchanges.{CreateExchange, HoldsCoroutines, TaskCoroutines, created_words, new_coroutine, words_of_coroutines}
+use Rattle.packet_calls.specs.KernelDispatch.Coroutines.Creation.{IsCreated, highest, new_words}
+use Rattle.packet_calls.specs.KernelDispatch.Coroutines.HeldCoroutines.{Coroutine, address_of}
+use Rattle.packet_calls.proofs.Shown.KernelDispatch.Coroutines.CoroutineLists.{Built}
+use Rattle.packet_calls.proofs.Shown.KernelDispatch.Coroutines.CreationExchanges.{create-exchange}
+use Rattle.packet_calls.proofs.Shown.KernelDispatch.Coroutines.HeldCoroutineLists.{held-coroutines, parent_of-none}
+use Rattle.packet_calls.proofs.Shown.KernelDispatch.Coroutines.KnownCoroutines.{known-block}
+use Rattle.packet_calls.specs.KernelDispatch.KernelModel.ChangedStore.{IsChanged, Knows}
+use Rattle.packet_calls.specs.KernelDispatch.KernelModel.Changes.{AreUnowned, with_coroutines, with_tasks}
+use Rattle.packet_calls.specs.KernelDispatch.KernelModel.HoldsLists.{HoldsLists}
+use Rattle.packet_calls.specs.KernelDispatch.KernelModel.Lists.{Lists}
+use Rattle.packet_calls.specs.KernelDispatch.KernelModel.Owned.{owned}
+use Rattle.packet_calls.specs.KernelDispatch.KernelModel.Task.{task_address}
+use Rattle.packet_calls.specs.KernelDispatch.KernelModel.ValidLists.{AreValid}
+use Rattle.packet_calls.specs.KernelDispatch.KernelModel.ValidTasks.{IsCoroutine}
+use Rattle.packet_calls.proofs.Shown.KernelDispatch.KernelModel.ChangedLists.{changed-then, exchange-owned, one_task-owned}
+use Rattle.packet_calls.proofs.Shown.KernelDispatch.KernelModel.CoroutineMoves.{new_coroutine-valid}
+use Rattle.packet_calls.proofs.Shown.KernelDispatch.KernelModel.DataInside.{HasBlock-inside}
+use Rattle.packet_calls.proofs.Shown.KernelDispatch.KernelModel.TaskCounts.{owners-coroutine}
+use Rattle.packet_calls.specs.BlockCalls.FreeStore.{data_of_front, data_taken, has_room, with_taken}
+use Rattle.packet_calls.proofs.Shown.BlockCalls.TakenStore.{HasTakenBlock, taken-changed}
+use Rattle.packet_calls.specs.CallAnswers.Guests.{GuestAt}
+use Rattle.packet_calls.specs.CallAnswers.Made.{IsMade}
+use Rattle.packet_calls.proofs.Shown.CallAnswers.FoundTask.{reads}
+use Rattle.packet_calls.proofs.Shown.CallAnswers.MadeCalls.{made-accepted, made-refused}
+use Rattle.packet_calls.specs.KernelDispatch.WordKinds.Keeper.{AreTogether}
+use Rattle.packet_calls.proofs.Shown.KernelDispatch.WordKinds.KnownWords.{knows-claimed}
+use Rattle.packet_calls.specs.KernelDispatch.GetvecChain.declared.calls.NoRoom.{NoRoom}
+use Rattle.packet_calls.specs.KernelDispatch.GetvecChain.declared.pieces.Run.{Run}
+use Rattle.packet_calls.specs.KernelDispatch.GetvecChain.Run.{first_run, need}
+use Rattle.packet_calls.specs.KernelDispatch.GetvecChain.Tiling.{blocks_in}
 use Rattle.coroutine_calls.specs.CreateCo.{create_tests, created as created_by, createco, with_created, with_created_at}
 use Rattle.coroutine_calls.proofs.CallersTask.{callers-between, callers-guest, callers-held, task-exchange}
 

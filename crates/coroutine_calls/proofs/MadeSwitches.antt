@@ -5,31 +5,31 @@ use Rattle.std.specs.List.{AllByRecursion}
 use Rattle.std.proofs.lemmas.Bool.{false≢true}
 use Rattle.word_store.specs.declared.registers.Regs.{Regs}
 use Rattle.word_store.specs.Count.{IsApart}
-use Rattle.block_calls.specs.KernelDispatch.LinkedList.Places.{has}
-use Rattle.block_calls.specs.KernelDispatch.Coroutines.Active.{LeadsOut, active_in}
-use Rattle.block_calls.specs.KernelDispatch.OwnedWords.Owned.{Pairs}
-use Rattle.block_calls.specs.KernelDispatch.TaskBlock.Lists.{coroutines_in}
-use Rattle.block_calls.specs.KernelDispatch.Coroutines.Coroutines.{HasCoroutines}
-use Rattle.block_calls.specs.KernelDispatch.Coroutines.CoroutineExchanges.{CallExchange, EndExchange, HoldsCoroutines, ResumeExchange, Rewrites, TaskCoroutines, WaitExchange, current_of, function_of, with_called, with_frame, with_resumed, with_saved, with_waiting, words_of_coroutines}
-use Rattle.block_calls.specs.KernelDispatch.Coroutines.CoroutineWords.{bottom, current_in, current_parent, function_in}
-use Rattle.block_calls.specs.KernelDispatch.Coroutines.HeldCoroutines.{Coroutine, address_of, first_active}
-use Rattle.block_calls.specs.KernelDispatch.Coroutines.Refusals as reasons
-use Rattle.block_calls.specs.KernelDispatch.Coroutines.Switch as store
-use Rattle.block_calls.specs.KernelDispatch.Coroutines.declared.ends.CoEnd.{CoEnd}
-use Rattle.block_calls.proofs.Shown.KernelDispatch.Coroutines.CoroutineLists.{Built}
-use Rattle.block_calls.proofs.Shown.KernelDispatch.Coroutines.HeldCoroutineLists.{held-coroutines}
-use Rattle.block_calls.proofs.Shown.KernelDispatch.Coroutines.KnownCoroutines.{current}
-use Rattle.block_calls.proofs.Shown.KernelDispatch.Coroutines.SwitchExchanges.{call-answered, end-answered, resume-answered, wait-answered}
-use Rattle.block_calls.proofs.Shown.KernelDispatch.Coroutines.Switches.{still-current, switched-current}
-use Rattle.block_calls.specs.KernelDispatch.KernelModel.BlockUse.{coroutine_addresses}
-use Rattle.block_calls.specs.KernelDispatch.KernelModel.HoldsLists.{HoldsLists}
-use Rattle.block_calls.specs.KernelDispatch.KernelModel.Lists.{Lists}
-use Rattle.block_calls.specs.KernelDispatch.KernelModel.Task.{Task}
-use Rattle.block_calls.specs.KernelDispatch.KernelModel.ValidTasks.{CoroutinesStand, IsCoroutine}
-use Rattle.block_calls.proofs.Shown.KernelDispatch.KernelModel.ChangedLists.{changed-none}
-use Rattle.block_calls.specs.CallAnswers.Guests.{GuestAt}
-use Rattle.block_calls.specs.CallAnswers.Refusals.{first_refusal}
-use Rattle.block_calls.proofs.Shown.CallAnswers.Refusals.{answer_of-err, answer_of-ok}
+use Rattle.packet_calls.specs.KernelDispatch.LinkedList.Places.{has}
+use Rattle.packet_calls.specs.KernelDispatch.Coroutines.Active.{LeadsOut, active_in}
+use Rattle.packet_calls.specs.KernelDispatch.OwnedWords.Owned.{Pairs}
+use Rattle.packet_calls.specs.KernelDispatch.TaskBlock.Lists.{coroutines_in}
+use Rattle.packet_calls.specs.KernelDispatch.Coroutines.Coroutines.{HasCoroutines}
+use Rattle.packet_calls.specs.KernelDispatch.Coroutines.CoroutineExchanges.{CallExchange, EndExchange, HoldsCoroutines, ResumeExchange, Rewrites, TaskCoroutines, WaitExchange, current_of, function_of, with_called, with_frame, with_resumed, with_saved, with_waiting, words_of_coroutines}
+use Rattle.packet_calls.specs.KernelDispatch.Coroutines.CoroutineWords.{bottom, current_in, current_parent, function_in}
+use Rattle.packet_calls.specs.KernelDispatch.Coroutines.HeldCoroutines.{Coroutine, address_of, first_active}
+use Rattle.packet_calls.specs.KernelDispatch.Coroutines.Refusals as reasons
+use Rattle.packet_calls.specs.KernelDispatch.Coroutines.Switch as store
+use Rattle.packet_calls.specs.KernelDispatch.Coroutines.declared.ends.CoEnd.{CoEnd}
+use Rattle.packet_calls.proofs.Shown.KernelDispatch.Coroutines.CoroutineLists.{Built}
+use Rattle.packet_calls.proofs.Shown.KernelDispatch.Coroutines.HeldCoroutineLists.{held-coroutines}
+use Rattle.packet_calls.proofs.Shown.KernelDispatch.Coroutines.KnownCoroutines.{current}
+use Rattle.packet_calls.proofs.Shown.KernelDispatch.Coroutines.SwitchExchanges.{call-answered, end-answered, resume-answered, wait-answered}
+use Rattle.packet_calls.proofs.Shown.KernelDispatch.Coroutines.Switches.{still-current, switched-current}
+use Rattle.packet_calls.specs.KernelDispatch.KernelModel.BlockUse.{coroutine_addresses}
+use Rattle.packet_calls.specs.KernelDispatch.KernelModel.HoldsLists.{HoldsLists}
+use Rattle.packet_calls.specs.KernelDispatch.KernelModel.Lists.{Lists}
+use Rattle.packet_calls.specs.KernelDispatch.KernelModel.Task.{Task}
+use Rattle.packet_calls.specs.KernelDispatch.KernelModel.ValidTasks.{CoroutinesStand, IsCoroutine}
+use Rattle.packet_calls.proofs.Shown.KernelDispatch.KernelModel.ChangedLists.{changed-none}
+use Rattle.packet_calls.specs.CallAnswers.Guests.{GuestAt}
+use Rattle.packet_calls.specs.CallAnswers.Refusals.{first_refusal}
+use Rattle.packet_calls.proofs.Shown.CallAnswers.Refusals.{answer_of-err, answer_of-ok}
 use Rattle.coroutine_calls.specs.CallCo.{callco, idle_tests}
 use Rattle.coroutine_calls.specs.CallersCoroutines.{coroutines_of_caller, is_one_of, is_within, with_callers, with_changed}
 use Rattle.coroutine_calls.specs.CoWait.{IsWithin, cowait, ended, wait_tests, with_ended}

@@ -5,14 +5,14 @@ use Rattle.std.specs.List.{AllByRecursion}
 use Rattle.std.specs.Option.{option_map_or}
 use Rattle.std.proofs.lemmas.Bool.{cases_eq, eq-eqb, ne_eqb}
 use Rattle.word_store.specs.declared.registers.Regs.{Regs}
-use Rattle.block_calls.specs.KernelDispatch.LinkedList.Places.{has}
-use Rattle.block_calls.proofs.Shown.KernelDispatch.LinkedList.AllMembers.{all-has}
-use Rattle.block_calls.specs.KernelDispatch.Coroutines.CoroutineExchanges.{HoldsCoroutines, TaskCoroutines}
-use Rattle.block_calls.specs.KernelDispatch.Coroutines.CoroutineWords.{saved_p, saved_pc}
-use Rattle.block_calls.specs.KernelDispatch.Coroutines.HeldCoroutines.{Coroutine, address_of, coroutine_words, first_active}
-use Rattle.block_calls.specs.KernelDispatch.Coroutines.Switch as store
-use Rattle.block_calls.proofs.Shown.KernelDispatch.Coroutines.Switches.{saved-known}
-use Rattle.block_calls.proofs.Shown.KernelDispatch.KernelModel.EachMember.{all-addresses, holds-each}
+use Rattle.packet_calls.specs.KernelDispatch.LinkedList.Places.{has}
+use Rattle.packet_calls.proofs.Shown.KernelDispatch.LinkedList.AllMembers.{all-has}
+use Rattle.packet_calls.specs.KernelDispatch.Coroutines.CoroutineExchanges.{HoldsCoroutines, TaskCoroutines}
+use Rattle.packet_calls.specs.KernelDispatch.Coroutines.CoroutineWords.{saved_p, saved_pc}
+use Rattle.packet_calls.specs.KernelDispatch.Coroutines.HeldCoroutines.{Coroutine, address_of, coroutine_words, first_active}
+use Rattle.packet_calls.specs.KernelDispatch.Coroutines.Switch as store
+use Rattle.packet_calls.proofs.Shown.KernelDispatch.Coroutines.Switches.{saved-known}
+use Rattle.packet_calls.proofs.Shown.KernelDispatch.KernelModel.EachMember.{all-addresses, holds-each}
 use Rattle.coroutine_calls.specs.CallersCoroutines.{is_one_of}
 use Rattle.coroutine_calls.specs.Switched.{entered, of_one, p_of, pc_of}
 

@@ -1,8 +1,8 @@
 -- The call that calls a coroutine.
 use Rattle.std.specs.Prelude.{ℕ, Bool, not, List, [], ◌∷◌}
 use Rattle.word_store.specs.declared.registers.Regs.{Regs}
-use Rattle.block_calls.specs.KernelDispatch.Coroutines.CoroutineExchanges.{TaskCoroutines, with_called}
-use Rattle.block_calls.specs.KernelDispatch.KernelModel.Lists.{Lists}
+use Rattle.packet_calls.specs.KernelDispatch.Coroutines.CoroutineExchanges.{TaskCoroutines, with_called}
+use Rattle.packet_calls.specs.KernelDispatch.KernelModel.Lists.{Lists}
 use Rattle.coroutine_calls.specs.CallersCoroutines.{coroutines_of_caller, has_parent, is_one_of}
 use Rattle.coroutine_calls.specs.Switched.{Switched, switched, unless_refused}
 

@@ -1,13 +1,13 @@
 -- The coroutines of the task that makes a call.
 use Rattle.std.specs.Prelude.{ℕ, ◌==◌, Bool, not, find, map}
 use Rattle.std.specs.Option.{option_map_or}
-use Rattle.block_calls.specs.KernelDispatch.LinkedList.Places.{has}
-use Rattle.block_calls.specs.KernelDispatch.Coroutines.CoroutineExchanges.{TaskCoroutines, current_of}
-use Rattle.block_calls.specs.KernelDispatch.Coroutines.HeldCoroutines.{address_of}
-use Rattle.block_calls.specs.KernelDispatch.KernelModel.Changes.{with_task}
-use Rattle.block_calls.specs.KernelDispatch.KernelModel.Lists.{Lists}
-use Rattle.block_calls.specs.KernelDispatch.KernelModel.Task.{Task}
-use Rattle.block_calls.specs.CallAnswers.Tasks.{no_coroutines}
+use Rattle.packet_calls.specs.KernelDispatch.LinkedList.Places.{has}
+use Rattle.packet_calls.specs.KernelDispatch.Coroutines.CoroutineExchanges.{TaskCoroutines, current_of}
+use Rattle.packet_calls.specs.KernelDispatch.Coroutines.HeldCoroutines.{address_of}
+use Rattle.packet_calls.specs.KernelDispatch.KernelModel.Changes.{with_task}
+use Rattle.packet_calls.specs.KernelDispatch.KernelModel.Lists.{Lists}
+use Rattle.packet_calls.specs.KernelDispatch.KernelModel.Task.{Task}
+use Rattle.packet_calls.specs.CallAnswers.Tasks.{no_coroutines}
 
 -- those of the running task
 abbrev pub coroutines_of_caller : Lists → TaskCoroutines

@@ -1,9 +1,9 @@
 -- The call by which a coroutine waits, and what happens where its function has returned.
 use Rattle.std.specs.Prelude.{◌≡◌, ℕ, Bool, true, List, [], ◌∷◌}
 use Rattle.word_store.specs.declared.registers.Regs.{Regs}
-use Rattle.block_calls.specs.KernelDispatch.Coroutines.CoroutineExchanges.{TaskCoroutines, current_of, function_of, with_waiting}
-use Rattle.block_calls.specs.KernelDispatch.Coroutines.CoroutineWords.{bottom}
-use Rattle.block_calls.specs.KernelDispatch.KernelModel.Lists.{Lists}
+use Rattle.packet_calls.specs.KernelDispatch.Coroutines.CoroutineExchanges.{TaskCoroutines, current_of, function_of, with_waiting}
+use Rattle.packet_calls.specs.KernelDispatch.Coroutines.CoroutineWords.{bottom}
+use Rattle.packet_calls.specs.KernelDispatch.KernelModel.Lists.{Lists}
 use Rattle.coroutine_calls.specs.CallersCoroutines.{coroutines_of_caller, is_within}
 use Rattle.coroutine_calls.specs.Switched.{Switched, switched, unless_refused}
 

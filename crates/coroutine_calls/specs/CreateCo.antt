@@ -1,10 +1,10 @@
 -- The call that makes a coroutine.
 use Rattle.std.specs.Prelude.{ℕ, Bool, Ok, List, [], ◌∷◌}
-use Rattle.block_calls.specs.FreeStore.{data_taken, has_room, with_taken}
-use Rattle.block_calls.specs.KernelDispatch.Coroutines.CoroutineExchanges.{TaskCoroutines, new_coroutine, with_list}
-use Rattle.block_calls.specs.KernelDispatch.Coroutines.Creation.{highest}
-use Rattle.block_calls.specs.KernelDispatch.KernelModel.Lists.{Lists}
-use Rattle.block_calls.specs.CallAnswers.Made.{Made, unless_refused}
+use Rattle.packet_calls.specs.BlockCalls.FreeStore.{data_taken, has_room, with_taken}
+use Rattle.packet_calls.specs.KernelDispatch.Coroutines.CoroutineExchanges.{TaskCoroutines, new_coroutine, with_list}
+use Rattle.packet_calls.specs.KernelDispatch.Coroutines.Creation.{highest}
+use Rattle.packet_calls.specs.KernelDispatch.KernelModel.Lists.{Lists}
+use Rattle.packet_calls.specs.CallAnswers.Made.{Made, unless_refused}
 use Rattle.coroutine_calls.specs.CallersCoroutines.{with_callers}
 
 -- some run is large enough for the data words 0 to u, or to 16 where u is less (code 20)

@@ -1,11 +1,11 @@
 -- The call that deletes a coroutine.
 use Rattle.std.specs.Prelude.{◌≡◌, ◌≤◌, ℕ, ◌==◌, Bool, Some, not, List, [], ◌∷◌, ◌++◌, filter}
-use Rattle.block_calls.specs.Freevec.{has_packet_in, with_given}
-use Rattle.block_calls.specs.KernelDispatch.Coroutines.CoroutineExchanges.{TaskCoroutines, with_list}
-use Rattle.block_calls.specs.KernelDispatch.GetvecChain.declared.pieces.Block.{Block}
-use Rattle.block_calls.specs.KernelDispatch.GetvecChain.Tiling.{used_at}
-use Rattle.block_calls.specs.KernelDispatch.KernelModel.Lists.{Lists}
-use Rattle.block_calls.specs.CallAnswers.Made.{Made, done, unless_refused}
+use Rattle.packet_calls.specs.BlockCalls.Freevec.{has_packet_in, with_given}
+use Rattle.packet_calls.specs.KernelDispatch.Coroutines.CoroutineExchanges.{TaskCoroutines, with_list}
+use Rattle.packet_calls.specs.KernelDispatch.GetvecChain.declared.pieces.Block.{Block}
+use Rattle.packet_calls.specs.KernelDispatch.GetvecChain.Tiling.{used_at}
+use Rattle.packet_calls.specs.KernelDispatch.KernelModel.Lists.{Lists}
+use Rattle.packet_calls.specs.CallAnswers.Made.{Made, done, unless_refused}
 use Rattle.coroutine_calls.specs.CallCo.{idle_tests}
 use Rattle.coroutine_calls.specs.CallersCoroutines.{coroutines_of_caller, with_callers}
 

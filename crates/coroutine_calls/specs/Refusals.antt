@@ -1,7 +1,7 @@
 -- The codes of the refusals of calls on coroutines.
 use Rattle.std.specs.Prelude.{ℕ, Result, Ok, Err}
-use Rattle.block_calls.specs.KernelDispatch.Coroutines.declared.ends.CoEnd.{CoEnd}
-use Rattle.block_calls.specs.KernelDispatch.Coroutines.declared.ends.CoEnd.TheVariants.{HasParent, NoParent, Unknown}
+use Rattle.packet_calls.specs.KernelDispatch.Coroutines.declared.ends.CoEnd.{CoEnd}
+use Rattle.packet_calls.specs.KernelDispatch.Coroutines.declared.ends.CoEnd.TheVariants.{HasParent, NoParent, Unknown}
 
 abbrev pub code_of : CoEnd → ℕ
 code_of Unknown = 21

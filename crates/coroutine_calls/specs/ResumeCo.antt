@@ -1,8 +1,8 @@
 -- The call that resumes a coroutine.
 use Rattle.std.specs.Prelude.{ℕ, ◌==◌, ◌||◌, if◌then◌else◌, Bool, not, Ok, List, [], ◌∷◌}
 use Rattle.word_store.specs.declared.registers.Regs.{Regs}
-use Rattle.block_calls.specs.KernelDispatch.Coroutines.CoroutineExchanges.{TaskCoroutines, current_of, with_resumed}
-use Rattle.block_calls.specs.KernelDispatch.KernelModel.Lists.{Lists}
+use Rattle.packet_calls.specs.KernelDispatch.Coroutines.CoroutineExchanges.{TaskCoroutines, current_of, with_resumed}
+use Rattle.packet_calls.specs.KernelDispatch.KernelModel.Lists.{Lists}
 use Rattle.coroutine_calls.specs.CallersCoroutines.{coroutines_of_caller, has_parent, is_one_of, is_within}
 use Rattle.coroutine_calls.specs.Switched.{Switched, handed, switched, unless_refused}
 

@@ -2,13 +2,13 @@
 use Rattle.std.specs.Prelude.{◌≡◌, ℕ, ◌==◌, if◌then◌else◌, Bool, Option, Some, None, Result, Ok, Err, List, [], find}
 use Rattle.std.specs.Option.{option_map_or}
 use Rattle.word_store.specs.declared.registers.Regs.{Regs}
-use Rattle.block_calls.specs.KernelDispatch.OwnedWords.Owned.{owners}
-use Rattle.block_calls.specs.KernelDispatch.Coroutines.CoroutineExchanges.{TaskCoroutines, current_of}
-use Rattle.block_calls.specs.KernelDispatch.Coroutines.HeldCoroutines.{Coroutine}
-use Rattle.block_calls.specs.KernelDispatch.KernelModel.ChangedStore.{IsChanged}
-use Rattle.block_calls.specs.KernelDispatch.KernelModel.Lists.{Lists}
-use Rattle.block_calls.specs.KernelDispatch.KernelModel.Owned.{owned}
-use Rattle.block_calls.specs.CallAnswers.Refusals.{first_refusal}
+use Rattle.packet_calls.specs.KernelDispatch.OwnedWords.Owned.{owners}
+use Rattle.packet_calls.specs.KernelDispatch.Coroutines.CoroutineExchanges.{TaskCoroutines, current_of}
+use Rattle.packet_calls.specs.KernelDispatch.Coroutines.HeldCoroutines.{Coroutine}
+use Rattle.packet_calls.specs.KernelDispatch.KernelModel.ChangedStore.{IsChanged}
+use Rattle.packet_calls.specs.KernelDispatch.KernelModel.Lists.{Lists}
+use Rattle.packet_calls.specs.KernelDispatch.KernelModel.Owned.{owned}
+use Rattle.packet_calls.specs.CallAnswers.Refusals.{first_refusal}
 use Rattle.coroutine_calls.specs.CallersCoroutines.{coroutines_of_caller, with_callers}
 
 -- What a switch between coroutines leaves. It writes no plain word, and has no events.

@@ -1,15 +1,15 @@
 // A coroutine of the running task is made.
 ghost use Rattle.std.specs.Prelude.{◌≡◌};
-ghost use Rattle.block_calls.specs.KernelDispatch.KernelModel.ChangedStore.{HasKeeper};
-ghost use Rattle.block_calls.specs.KernelDispatch.KernelModel.Lists.{Lists};
-ghost use Rattle.block_calls.specs.CallAnswers.Callers.{HasCaller};
-ghost use Rattle.block_calls.specs.CallAnswers.Made.{IsMade};
+ghost use Rattle.packet_calls.specs.KernelDispatch.KernelModel.ChangedStore.{HasKeeper};
+ghost use Rattle.packet_calls.specs.KernelDispatch.KernelModel.Lists.{Lists};
+ghost use Rattle.packet_calls.specs.CallAnswers.Callers.{HasCaller};
+ghost use Rattle.packet_calls.specs.CallAnswers.Made.{IsMade};
 ghost use Rattle.coroutine_calls.specs.CreateCo.{createco};
 
-use block_calls::codes::NO_COROUTINE_ROOM;
-use block_calls::kernel_dispatch::{KindKeeper, create_coroutine};
-use block_calls::numbers::{COROUTINE_WORDS, LEAST_HIGHEST};
-use block_calls::{caller, tell_take};
+use packet_calls::codes::NO_COROUTINE_ROOM;
+use packet_calls::kernel_dispatch::{KindKeeper, create_coroutine};
+use packet_calls::numbers::{COROUTINE_WORDS, LEAST_HIGHEST};
+use packet_calls::{caller, tell_take};
 use word_store::Store;
 
 /// Makes a coroutine of the running task, the first in its list, in a block with the data words 0 to u, or to 16 where u is

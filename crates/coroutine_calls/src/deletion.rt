@@ -1,19 +1,19 @@
 // A coroutine of the running task is deleted.
 ghost use Rattle.std.specs.Prelude.{◌≡◌, ◌+◌, ◌↔◌, IsTrue};
-ghost use Rattle.block_calls.specs.KernelDispatch.GetvecChain.declared.pieces.Block.{Block};
-ghost use Rattle.block_calls.specs.KernelDispatch.GetvecChain.Block.{block_end};
-ghost use Rattle.block_calls.specs.KernelDispatch.KernelModel.ChangedStore.{HasKeeper};
-ghost use Rattle.block_calls.specs.KernelDispatch.KernelModel.Changes.{AreUnowned};
-ghost use Rattle.block_calls.specs.KernelDispatch.KernelModel.Lists.{Lists};
-ghost use Rattle.block_calls.specs.CallAnswers.Callers.{HasCaller};
-ghost use Rattle.block_calls.specs.CallAnswers.Made.{IsMade, plain_answer};
+ghost use Rattle.packet_calls.specs.KernelDispatch.GetvecChain.declared.pieces.Block.{Block};
+ghost use Rattle.packet_calls.specs.KernelDispatch.GetvecChain.Block.{block_end};
+ghost use Rattle.packet_calls.specs.KernelDispatch.KernelModel.ChangedStore.{HasKeeper};
+ghost use Rattle.packet_calls.specs.KernelDispatch.KernelModel.Changes.{AreUnowned};
+ghost use Rattle.packet_calls.specs.KernelDispatch.KernelModel.Lists.{Lists};
+ghost use Rattle.packet_calls.specs.CallAnswers.Callers.{HasCaller};
+ghost use Rattle.packet_calls.specs.CallAnswers.Made.{IsMade, plain_answer};
 ghost use Rattle.coroutine_calls.specs.DeleteCo.{IsRoomy, deleteco};
 
 use crate::refusals::coded;
-use block_calls::caller;
-use block_calls::codes::PACKET_IN_COROUTINE;
-use block_calls::kernel_dispatch::{KindKeeper, are_unowned, check_idle, delete_coroutine};
-use block_calls::numbers::COROUTINE_WORDS;
+use packet_calls::caller;
+use packet_calls::codes::PACKET_IN_COROUTINE;
+use packet_calls::kernel_dispatch::{KindKeeper, are_unowned, check_idle, delete_coroutine};
+use packet_calls::numbers::COROUTINE_WORDS;
 use word_store::{Store, word};
 
 /// Deletes the coroutine c of the running task and gives its block back. Refused where the task has no such coroutine (21),

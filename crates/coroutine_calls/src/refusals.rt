@@ -2,8 +2,8 @@
 ghost use Rattle.std.specs.Prelude.{◌≡◌};
 ghost use Rattle.coroutine_calls.specs.Refusals.{code_of, coded};
 
-use block_calls::codes::{HAS_PARENT, NO_COROUTINE, NO_PARENT};
-use block_calls::kernel_dispatch::CoEnd;
+use packet_calls::codes::{HAS_PARENT, NO_COROUTINE, NO_PARENT};
+use packet_calls::kernel_dispatch::CoEnd;
 
 // The answer, with the code in place of the reason.
 pub(crate) fn coded(answer: Result<(), CoEnd>) -> Result<(), u32>

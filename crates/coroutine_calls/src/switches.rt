@@ -1,16 +1,16 @@
 // The task that runs goes on in another of its coroutines.
 ghost use Rattle.std.specs.Prelude.{Ok};
-ghost use Rattle.block_calls.specs.KernelDispatch.KernelModel.HoldsLists.{HoldsLists};
-ghost use Rattle.block_calls.specs.KernelDispatch.KernelModel.Lists.{Lists};
-ghost use Rattle.block_calls.specs.CallAnswers.Callers.{HasCaller};
+ghost use Rattle.packet_calls.specs.KernelDispatch.KernelModel.HoldsLists.{HoldsLists};
+ghost use Rattle.packet_calls.specs.KernelDispatch.KernelModel.Lists.{Lists};
+ghost use Rattle.packet_calls.specs.CallAnswers.Callers.{HasCaller};
 ghost use Rattle.coroutine_calls.specs.CallCo.{callco};
 ghost use Rattle.coroutine_calls.specs.CoWait.{IsWithin, cowait, ended};
 ghost use Rattle.coroutine_calls.specs.ResumeCo.{resumeco};
 ghost use Rattle.coroutine_calls.specs.Switched.{IsSwitched};
 
 use crate::refusals::coded;
-use block_calls::caller;
-use block_calls::kernel_dispatch::{
+use packet_calls::caller;
+use packet_calls::kernel_dispatch::{
     call_coroutine, coroutine_ended, resume_coroutine, wait_in_coroutine,
 };
 use word_store::{Regs, Store};

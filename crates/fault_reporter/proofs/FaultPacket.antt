@@ -4,49 +4,49 @@ use Rattle.std.specs.List.{AllByRecursion, list_any, range_with_len}
 use Rattle.std.proofs.lemmas.Bool.{and_from, cases_eq, eq-eqb, false≢true, false_from_ne_true, ne_eqb}
 use Rattle.std.proofs.lemmas.List.Folds.{list_any-append}
 use Rattle.word_store.specs.Count.{IsApart, times}
-use Rattle.resident_requests.proofs.Shown.KernelCalls.LinkedList.AllMembers.{all-append}
+use Rattle.pipe_handler.proofs.Shown.KernelCalls.LinkedList.AllMembers.{all-append}
 use Rattle.word_store.proofs.Counts.{hit-other, hit-same, times-within}
-use Rattle.resident_requests.specs.KernelCalls.OwnedWords.Exchange.{Exchange}
-use Rattle.resident_requests.specs.KernelCalls.OwnedWords.Owned.{Holds, Pairs, owners, written}
-use Rattle.resident_requests.proofs.Shown.KernelCalls.OwnedWords.Exchanges.{exchange-all, exchange-right}
-use Rattle.resident_requests.proofs.Shown.KernelCalls.OwnedWords.RowWords.{owners-row}
-use Rattle.resident_requests.specs.KernelCalls.PacketQueue.Queue.{CanQueue, HasQueue, no_queue, queue_at}
-use Rattle.resident_requests.specs.KernelCalls.PacketQueue.QueueWords.{QueuedPacket, queue_words}
-use Rattle.resident_requests.specs.KernelCalls.GetvecChain.BlockWords.{blocks_words}
-use Rattle.resident_requests.specs.KernelCalls.HunkLoader.ModuleExchanges.{modules_words}
-use Rattle.resident_requests.specs.KernelCalls.KernelModel.ChangedStore.{IsChanged}
-use Rattle.resident_requests.specs.KernelCalls.KernelModel.Changes.{queue_of, with_fault_packet, with_queue, work_of}
-use Rattle.resident_requests.specs.KernelCalls.KernelModel.HoldsLists.{HoldsLists}
-use Rattle.resident_requests.specs.KernelCalls.KernelModel.Lists.{Lists, address_of_task, has_task, is_queued}
-use Rattle.resident_requests.specs.KernelCalls.KernelModel.Owned.{device_words, owned, tasks_words}
-use Rattle.resident_requests.specs.KernelCalls.KernelModel.Residents.{fault_packet, fault_packet_words, key_arguments, key_words, pending_head}
-use Rattle.resident_requests.specs.KernelCalls.KernelModel.Root.{root_words}
-use Rattle.resident_requests.specs.KernelCalls.KernelModel.Task.{Task, task_id}
-use Rattle.resident_requests.specs.KernelCalls.KernelModel.ValidLists.{AreValid}
-use Rattle.resident_requests.specs.KernelCalls.KernelModel.ValidQueues.{IsFaultPacket, MayStand, Place}
-use Rattle.resident_requests.specs.KernelCalls.KernelModel.ValidQueues.Place.{Clock, Keyboard, Output, Pending, Work}
-use Rattle.resident_requests.proofs.Shown.KernelCalls.KernelModel.ChangedLists.{changed-none}
-use Rattle.resident_requests.proofs.Shown.KernelCalls.KernelModel.QueuePlaces.{is_queued-here, is_queued-place, place-stands}
-use Rattle.resident_requests.proofs.Shown.KernelCalls.KernelModel.QueuedPackets.{is_queued-parts, stands_in, work_packets}
-use Rattle.resident_requests.proofs.Shown.KernelCalls.KernelModel.ReadQueues.{packets-some}
-use Rattle.resident_requests.proofs.Shown.KernelCalls.KernelModel.ResidentPackets.{fault_queued-valid}
-use Rattle.resident_requests.specs.KernelCalls.CallAnswers.Callers.{HasCaller}
-use Rattle.resident_requests.proofs.Shown.KernelCalls.CallAnswers.FoundTask.{Finds, find-task, found-address}
-use Rattle.resident_requests.specs.KernelCalls.LinkedList.Places.{has}
-use Rattle.resident_requests.specs.KernelCalls.TaskBlock.TaskChain.{task_with, tasks_in}
-use Rattle.resident_requests.specs.KernelCalls.PacketCalls.declared.queues.Queue.{Queue}
-use Rattle.resident_requests.specs.KernelCalls.PacketCalls.declared.queues.Queue.TheVariants as queues
-use Rattle.resident_requests.proofs.Shown.KernelCalls.PacketCalls.HeldPlaces.{has-at}
-use Rattle.resident_requests.specs.KernelCalls.PacketCalls.Destinations.{queue_for}
-use Rattle.resident_requests.specs.KernelCalls.PacketCalls.QueueWords.{due_in, enqueued, head_of, sent_words}
-use Rattle.resident_requests.proofs.Shown.KernelCalls.PacketCalls.Arrival.{AreOfPacket}
-use Rattle.resident_requests.proofs.Shown.KernelCalls.PacketCalls.PlacedPackets.{AreSet, end-changed, end-owners, end-packet, end-queue, fields-stand}
+use Rattle.pipe_handler.specs.KernelCalls.OwnedWords.Exchange.{Exchange}
+use Rattle.pipe_handler.specs.KernelCalls.OwnedWords.Owned.{Holds, Pairs, owners, written}
+use Rattle.pipe_handler.proofs.Shown.KernelCalls.OwnedWords.Exchanges.{exchange-all, exchange-right}
+use Rattle.pipe_handler.proofs.Shown.KernelCalls.OwnedWords.RowWords.{owners-row}
+use Rattle.pipe_handler.specs.KernelCalls.PacketQueue.Queue.{CanQueue, HasQueue, no_queue, queue_at}
+use Rattle.pipe_handler.specs.KernelCalls.PacketQueue.QueueWords.{QueuedPacket, queue_words}
+use Rattle.pipe_handler.specs.KernelCalls.GetvecChain.BlockWords.{blocks_words}
+use Rattle.pipe_handler.specs.KernelCalls.HunkLoader.ModuleExchanges.{modules_words}
+use Rattle.pipe_handler.specs.KernelCalls.KernelModel.ChangedStore.{IsChanged}
+use Rattle.pipe_handler.specs.KernelCalls.KernelModel.Changes.{queue_of, with_fault_packet, with_queue, work_of}
+use Rattle.pipe_handler.specs.KernelCalls.KernelModel.HoldsLists.{HoldsLists}
+use Rattle.pipe_handler.specs.KernelCalls.KernelModel.Lists.{Lists, address_of_task, has_task, is_queued}
+use Rattle.pipe_handler.specs.KernelCalls.KernelModel.Owned.{device_words, owned, tasks_words}
+use Rattle.pipe_handler.specs.KernelCalls.KernelModel.Residents.{fault_packet, fault_packet_words, key_arguments, key_words, pending_head}
+use Rattle.pipe_handler.specs.KernelCalls.KernelModel.Root.{root_words}
+use Rattle.pipe_handler.specs.KernelCalls.KernelModel.Task.{Task, task_id}
+use Rattle.pipe_handler.specs.KernelCalls.KernelModel.ValidLists.{AreValid}
+use Rattle.pipe_handler.specs.KernelCalls.KernelModel.ValidQueues.{IsFaultPacket, MayStand, Place}
+use Rattle.pipe_handler.specs.KernelCalls.KernelModel.ValidQueues.Place.{Clock, Keyboard, Output, Pending, Work}
+use Rattle.pipe_handler.proofs.Shown.KernelCalls.KernelModel.ChangedLists.{changed-none}
+use Rattle.pipe_handler.proofs.Shown.KernelCalls.KernelModel.QueuePlaces.{is_queued-here, is_queued-place, place-stands}
+use Rattle.pipe_handler.proofs.Shown.KernelCalls.KernelModel.QueuedPackets.{is_queued-parts, stands_in, work_packets}
+use Rattle.pipe_handler.proofs.Shown.KernelCalls.KernelModel.ReadQueues.{packets-some}
+use Rattle.pipe_handler.proofs.Shown.KernelCalls.KernelModel.ResidentPackets.{fault_queued-valid}
+use Rattle.pipe_handler.specs.KernelCalls.CallAnswers.Callers.{HasCaller}
+use Rattle.pipe_handler.proofs.Shown.KernelCalls.CallAnswers.FoundTask.{Finds, find-task, found-address}
+use Rattle.pipe_handler.specs.KernelCalls.LinkedList.Places.{has}
+use Rattle.pipe_handler.specs.KernelCalls.TaskBlock.TaskChain.{task_with, tasks_in}
+use Rattle.pipe_handler.specs.KernelCalls.PacketCalls.declared.queues.Queue.{Queue}
+use Rattle.pipe_handler.specs.KernelCalls.PacketCalls.declared.queues.Queue.TheVariants as queues
+use Rattle.pipe_handler.proofs.Shown.KernelCalls.PacketCalls.HeldPlaces.{has-at}
+use Rattle.pipe_handler.specs.KernelCalls.PacketCalls.Destinations.{queue_for}
+use Rattle.pipe_handler.specs.KernelCalls.PacketCalls.QueueWords.{due_in, enqueued, head_of, sent_words}
+use Rattle.pipe_handler.proofs.Shown.KernelCalls.PacketCalls.Arrival.{AreOfPacket}
+use Rattle.pipe_handler.proofs.Shown.KernelCalls.PacketCalls.PlacedPackets.{AreSet, end-changed, end-owners, end-packet, end-queue, fields-stand}
 use Rattle.word_store.specs.Arithmetic.{signed}
-use Rattle.resident_requests.specs.KernelCalls.PacketQueue.Log.{Notes}
-use Rattle.resident_requests.specs.KernelCalls.PacketQueue.declared.events.KernelEvent.{KernelEvent}
-use Rattle.resident_requests.specs.KernelCalls.PacketQueue.declared.events.KernelEvent.TheVariants.{Accepted}
-use Rattle.resident_requests.specs.KernelCalls.KernelModel.NotedEvents.{NotesAll}
-use Rattle.resident_requests.proofs.Shown.KernelCalls.KernelModel.NotedInTurn.{notes-one}
+use Rattle.pipe_handler.specs.KernelCalls.PacketQueue.Log.{Notes}
+use Rattle.pipe_handler.specs.KernelCalls.PacketQueue.declared.events.KernelEvent.{KernelEvent}
+use Rattle.pipe_handler.specs.KernelCalls.PacketQueue.declared.events.KernelEvent.TheVariants.{Accepted}
+use Rattle.pipe_handler.specs.KernelCalls.KernelModel.NotedEvents.{NotesAll}
+use Rattle.pipe_handler.proofs.Shown.KernelCalls.KernelModel.NotedInTurn.{notes-one}
 use Rattle.fault_reporter.specs.Recorded.{OwnsSame, events_where, packet_from, sent, sent_events, sent_where}
 
 -- ---- its words, while it is on no queue

@@ -3,23 +3,23 @@ use Rattle.std.proofs.Common.{◌≡◌, ℕ, ◌+◌, ◌&&◌, ◌||◌, Bool,
 use Rattle.std.specs.List.{AllByRecursion, list_any}
 use Rattle.std.proofs.lemmas.Bool.{and_from, and_parts, eq-eqb, eqb-true, false≢true, le-leb, lt-ltb, ltb-true, or_left, or_right}
 use Rattle.cint_exec.specs.declared.Fault.{Fault}
-use Rattle.resident_requests.proofs.Shown.KernelCalls.LinkedList.AllMembers.{all-append}
-use Rattle.resident_requests.specs.KernelCalls.PacketQueue.QueueWords.{QueuedPacket}
-use Rattle.resident_requests.specs.KernelCalls.KernelModel.Between.{FaultsStand, Tells, has_unreported, is_unreported}
-use Rattle.resident_requests.specs.KernelCalls.KernelModel.Changes.{change_of, queue_of, with_queue, with_tasks, with_work, work_of}
-use Rattle.resident_requests.specs.KernelCalls.KernelModel.Lists.{Lists, has_task}
-use Rattle.resident_requests.specs.KernelCalls.KernelModel.Residents.{fault_packet}
-use Rattle.resident_requests.specs.KernelCalls.KernelModel.Task.{Task, is_guest_id}
-use Rattle.resident_requests.specs.KernelCalls.KernelModel.ValidLists.{AreValid}
-use Rattle.resident_requests.specs.KernelCalls.KernelModel.ValidQueues.Place.{Work}
-use Rattle.resident_requests.specs.KernelCalls.KernelModel.ValidTasks.{IsRecordedFault}
-use Rattle.resident_requests.proofs.Shown.KernelCalls.KernelModel.ResidentPackets.{fault_unqueued-valid}
-use Rattle.resident_requests.specs.KernelCalls.PacketCalls.TaskWait.{waiting}
-use Rattle.resident_requests.specs.KernelCalls.PacketCalls.PacketMoves.{stands_in, with_arrived}
-use Rattle.resident_requests.specs.Answers.{answered_packet, finished, finished_by}
-use Rattle.resident_requests.specs.Requests.{RunsResident, first_request, request_at, taken_from, words_taken_from, work}
-use Rattle.resident_requests.specs.Turns.{request_turn, turn_of}
-use Rattle.resident_requests.specs.declared.requests.Request.{Request}
+use Rattle.pipe_handler.proofs.Shown.KernelCalls.LinkedList.AllMembers.{all-append}
+use Rattle.pipe_handler.specs.KernelCalls.PacketQueue.QueueWords.{QueuedPacket}
+use Rattle.pipe_handler.specs.KernelCalls.KernelModel.Between.{FaultsStand, Tells, has_unreported, is_unreported}
+use Rattle.pipe_handler.specs.KernelCalls.KernelModel.Changes.{change_of, queue_of, with_queue, with_tasks, with_work, work_of}
+use Rattle.pipe_handler.specs.KernelCalls.KernelModel.Lists.{Lists, has_task}
+use Rattle.pipe_handler.specs.KernelCalls.KernelModel.Residents.{fault_packet}
+use Rattle.pipe_handler.specs.KernelCalls.KernelModel.Task.{Task, is_guest_id}
+use Rattle.pipe_handler.specs.KernelCalls.KernelModel.ValidLists.{AreValid}
+use Rattle.pipe_handler.specs.KernelCalls.KernelModel.ValidQueues.Place.{Work}
+use Rattle.pipe_handler.specs.KernelCalls.KernelModel.ValidTasks.{IsRecordedFault}
+use Rattle.pipe_handler.proofs.Shown.KernelCalls.KernelModel.ResidentPackets.{fault_unqueued-valid}
+use Rattle.pipe_handler.specs.KernelCalls.PacketCalls.TaskWait.{waiting}
+use Rattle.pipe_handler.specs.KernelCalls.PacketCalls.PacketMoves.{stands_in, with_arrived}
+use Rattle.pipe_handler.specs.ResidentRequests.Answers.{answered_packet, finished, finished_by}
+use Rattle.pipe_handler.specs.ResidentRequests.Requests.{RunsResident, first_request, request_at, taken_from, words_taken_from, work}
+use Rattle.pipe_handler.specs.ResidentRequests.Turns.{request_turn, turn_of}
+use Rattle.pipe_handler.specs.ResidentRequests.declared.requests.Request.{Request}
 use Rattle.fault_reporter.specs.FaultTurns.{all_reported, fault_turn, fault_turn_from, packet_taken, reported, reported_turn, unknown}
 use Rattle.fault_reporter.specs.Recorded.{CanRecord, held_with, packet_from, recorded, sent_where, with_fault}
 use Rattle.fault_reporter.proofs.FaultPacket.{free-is}

@@ -2,28 +2,28 @@
 use Rattle.std.proofs.Common.{◌≡◌, ℕ, ◌+◌, ◌%◌, ◌≤◌, Bool, true, false, ◌||◌, eqb, map, List, [], ◌∷◌, ◌++◌, cond, get_or, set, inl, inr, refl, sym, ap, ◌∙◌, subst, arith}
 use Rattle.std.proofs.lemmas.Bool.{false≢true}
 use Rattle.cint_exec.specs.declared.Fault.{Fault}
-use Rattle.resident_requests.specs.KernelCalls.OwnedWords.Exchange.{Exchange}
-use Rattle.resident_requests.specs.KernelCalls.OwnedWords.LinkedWords.{first_of}
-use Rattle.resident_requests.specs.KernelCalls.OwnedWords.Owned.{Pairs, owners, row_from, written}
-use Rattle.resident_requests.proofs.Shown.KernelCalls.OwnedWords.Exchanges.{exchange-all, exchange-both, exchange-left, exchange-right, exchange-row}
-use Rattle.resident_requests.specs.KernelCalls.PacketQueue.QueueWords.{QueuedPacket, queue_words}
-use Rattle.resident_requests.specs.KernelCalls.Coroutines.CoroutineExchanges.{words_of_coroutines}
-use Rattle.resident_requests.specs.KernelCalls.KernelModel.ChangedStore.{IsChanged}
-use Rattle.resident_requests.specs.KernelCalls.KernelModel.Changes.{change_of, with_tasks}
-use Rattle.resident_requests.specs.KernelCalls.KernelModel.HoldsLists.{HoldsLists}
-use Rattle.resident_requests.specs.KernelCalls.KernelModel.Lists.{Lists, has_task}
-use Rattle.resident_requests.specs.KernelCalls.KernelModel.Owned.{owned}
-use Rattle.resident_requests.specs.KernelCalls.KernelModel.Running.{RunsIf}
-use Rattle.resident_requests.specs.KernelCalls.KernelModel.Task.{Task, fault_words, further_modules, globals_of, is_guest_id, name_words, queue_bit, queue_head, stack_of, state_word, state_words, task_address, task_words}
-use Rattle.resident_requests.specs.KernelCalls.KernelModel.ValidLists.{AreValid}
-use Rattle.resident_requests.specs.KernelCalls.KernelModel.ValidTasks.{IsGuest, IsTask, runs}
-use Rattle.resident_requests.proofs.Shown.KernelCalls.KernelModel.ChangedLists.{changed-then, exchange-owned, one_task-owned, owners-exchanged}
-use Rattle.resident_requests.proofs.Shown.KernelCalls.KernelModel.OneTask.{same_task-valid}
+use Rattle.pipe_handler.specs.KernelCalls.OwnedWords.Exchange.{Exchange}
+use Rattle.pipe_handler.specs.KernelCalls.OwnedWords.LinkedWords.{first_of}
+use Rattle.pipe_handler.specs.KernelCalls.OwnedWords.Owned.{Pairs, owners, row_from, written}
+use Rattle.pipe_handler.proofs.Shown.KernelCalls.OwnedWords.Exchanges.{exchange-all, exchange-both, exchange-left, exchange-right, exchange-row}
+use Rattle.pipe_handler.specs.KernelCalls.PacketQueue.QueueWords.{QueuedPacket, queue_words}
+use Rattle.pipe_handler.specs.KernelCalls.Coroutines.CoroutineExchanges.{words_of_coroutines}
+use Rattle.pipe_handler.specs.KernelCalls.KernelModel.ChangedStore.{IsChanged}
+use Rattle.pipe_handler.specs.KernelCalls.KernelModel.Changes.{change_of, with_tasks}
+use Rattle.pipe_handler.specs.KernelCalls.KernelModel.HoldsLists.{HoldsLists}
+use Rattle.pipe_handler.specs.KernelCalls.KernelModel.Lists.{Lists, has_task}
+use Rattle.pipe_handler.specs.KernelCalls.KernelModel.Owned.{owned}
+use Rattle.pipe_handler.specs.KernelCalls.KernelModel.Running.{RunsIf}
+use Rattle.pipe_handler.specs.KernelCalls.KernelModel.Task.{Task, fault_words, further_modules, globals_of, is_guest_id, name_words, queue_bit, queue_head, stack_of, state_word, state_words, task_address, task_words}
+use Rattle.pipe_handler.specs.KernelCalls.KernelModel.ValidLists.{AreValid}
+use Rattle.pipe_handler.specs.KernelCalls.KernelModel.ValidTasks.{IsGuest, IsTask, runs}
+use Rattle.pipe_handler.proofs.Shown.KernelCalls.KernelModel.ChangedLists.{changed-then, exchange-owned, one_task-owned, owners-exchanged}
+use Rattle.pipe_handler.proofs.Shown.KernelCalls.KernelModel.OneTask.{same_task-valid}
 use Rattle.std.specs.List.{AllByRecursion}
-use Rattle.resident_requests.specs.KernelCalls.CallAnswers.Callers.{HasCaller}
-use Rattle.resident_requests.specs.KernelCalls.CallAnswers.Guests.{GuestAt}
-use Rattle.resident_requests.proofs.Shown.KernelCalls.CallAnswers.GuestTask.{GuestFacts, guest-changed, guest-facts}
-use Rattle.resident_requests.proofs.Shown.KernelCalls.PacketCalls.CallerTask.{caller-runs}
+use Rattle.pipe_handler.specs.KernelCalls.CallAnswers.Callers.{HasCaller}
+use Rattle.pipe_handler.specs.KernelCalls.CallAnswers.Guests.{GuestAt}
+use Rattle.pipe_handler.proofs.Shown.KernelCalls.CallAnswers.GuestTask.{GuestFacts, guest-changed, guest-facts}
+use Rattle.pipe_handler.proofs.Shown.KernelCalls.PacketCalls.CallerTask.{caller-runs}
 use Rattle.fault_reporter.specs.Recorded.{CanRecord, OwnsSame, held_with, with_fault}
 
 -- its fault words are others

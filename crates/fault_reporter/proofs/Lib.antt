@@ -6,3 +6,4 @@ pub mod TakenFaults
 pub mod ReportedTurn
 pub mod FaultsKept
 pub mod RunsKept
+pub mod Shown

@@ -4,17 +4,17 @@ use Rattle.std.specs.List.{AllByRecursion, flat_map}
 use Rattle.std.proofs.lemmas.Fmt.{length-decimal-le}
 use Rattle.std.proofs.lemmas.List.{length-map}
 use Rattle.std.specs.Fmt.{decimal}
-use Rattle.resident_requests.proofs.Shown.KernelCalls.LinkedList.Chains.{length-apart}
-use Rattle.resident_requests.specs.KernelCalls.TaskBlock.TaskChain.{tasks_in}
-use Rattle.resident_requests.specs.KernelCalls.KernelModel.Task.{Task, task_address, task_id, task_words}
-use Rattle.resident_requests.proofs.Shown.KernelCalls.KernelModel.EachMember.{all-each, holds-each}
+use Rattle.pipe_handler.proofs.Shown.KernelCalls.LinkedList.Chains.{length-apart}
+use Rattle.pipe_handler.specs.KernelCalls.TaskBlock.TaskChain.{tasks_in}
+use Rattle.pipe_handler.specs.KernelCalls.KernelModel.Task.{Task, task_address, task_id, task_words}
+use Rattle.pipe_handler.proofs.Shown.KernelCalls.KernelModel.EachMember.{all-each, holds-each}
 use Rattle.fault_reporter.specs.Texts.{is_unreported_word, most_in_line, most_reported, report, report_at, report_of, reports, reports_in}
-use Rattle.resident_requests.specs.KernelCalls.PacketQueue.QueueWords.{QueuedPacket}
-use Rattle.resident_requests.specs.KernelCalls.KernelModel.Changes.{with_work}
-use Rattle.resident_requests.specs.KernelCalls.KernelModel.HoldsLists.{HoldsLists}
-use Rattle.resident_requests.specs.KernelCalls.KernelModel.Lists.{Lists}
-use Rattle.resident_requests.proofs.Shown.KernelCalls.KernelModel.ReadCoroutines.{HoldsTask, holds-task}
-use Rattle.resident_requests.proofs.Shown.KernelCalls.CallAnswers.FoundTask.{reads}
+use Rattle.pipe_handler.specs.KernelCalls.PacketQueue.QueueWords.{QueuedPacket}
+use Rattle.pipe_handler.specs.KernelCalls.KernelModel.Changes.{with_work}
+use Rattle.pipe_handler.specs.KernelCalls.KernelModel.HoldsLists.{HoldsLists}
+use Rattle.pipe_handler.specs.KernelCalls.KernelModel.Lists.{Lists}
+use Rattle.pipe_handler.proofs.Shown.KernelCalls.KernelModel.ReadCoroutines.{HoldsTask, holds-task}
+use Rattle.pipe_handler.proofs.Shown.KernelCalls.CallAnswers.FoundTask.{reads}
 use Rattle.fault_reporter.specs.FaultTurns.{packet_taken}
 
 -- a number of 32 bits has at most 10 digits

@@ -2,30 +2,30 @@
 use Rattle.std.proofs.Common.{◌≡◌, ℕ, ◌+◌, ◌<◌, ◌≤◌, ◌&&◌, ◌||◌, Bool, true, false, Some, None, List, [], ◌∷◌, ◌++◌, map, cond, eqb, leb, ltb, get_or, set, inl, inr, refl, sym, ap, ◌∙◌, subst, arith}
 use Rattle.std.specs.List.{AllByRecursion}
 use Rattle.std.proofs.lemmas.Bool.{and_parts, cases_eq, cases_lt, eq-eqb, leb-true, lt-ltb, ltb-true, ne_eqb}
-use Rattle.resident_requests.specs.KernelCalls.OwnedWords.Exchange.{Exchange}
-use Rattle.resident_requests.specs.KernelCalls.OwnedWords.Owned.{Pairs, owners, row_from}
-use Rattle.resident_requests.proofs.Shown.KernelCalls.OwnedWords.Exchanges.{exchange-all, exchange-left, exchange-right}
-use Rattle.resident_requests.specs.KernelCalls.PacketQueue.QueueWords.{queue_words}
-use Rattle.resident_requests.specs.KernelCalls.Coroutines.CoroutineExchanges.{words_of_coroutines}
-use Rattle.resident_requests.specs.KernelCalls.KernelModel.Between.{is_unreported}
-use Rattle.resident_requests.specs.KernelCalls.KernelModel.ChangedStore.{IsChanged}
-use Rattle.resident_requests.specs.KernelCalls.KernelModel.Changes.{change_of, with_task, with_tasks}
-use Rattle.resident_requests.specs.KernelCalls.KernelModel.HoldsLists.{HoldsLists}
-use Rattle.resident_requests.specs.KernelCalls.KernelModel.Lists.{Lists, has_task}
-use Rattle.resident_requests.specs.KernelCalls.KernelModel.Owned.{owned}
-use Rattle.resident_requests.specs.KernelCalls.KernelModel.Task.{Task, fault_words, further_modules, is_guest_id, name_words, queue_head, state_words, task_address, task_words}
-use Rattle.resident_requests.specs.KernelCalls.KernelModel.ValidTasks.{IsFaultWord, IsGuest, IsResident, IsTask}
-use Rattle.resident_requests.proofs.Shown.KernelCalls.KernelModel.AllThings.{all-here}
-use Rattle.resident_requests.proofs.Shown.KernelCalls.KernelModel.ChangedLists.{changed-none}
-use Rattle.resident_requests.proofs.Shown.KernelCalls.KernelModel.EachMember.{holds-each}
-use Rattle.resident_requests.proofs.Shown.KernelCalls.KernelModel.ReadCoroutines.{holds-task}
-use Rattle.resident_requests.proofs.Shown.KernelCalls.KernelModel.TaskCounts.{owners-same_task}
-use Rattle.resident_requests.proofs.Shown.KernelCalls.KernelModel.OneTask.{owned-one_task}
-use Rattle.resident_requests.specs.KernelCalls.CallAnswers.Guests.{GuestAt}
-use Rattle.resident_requests.proofs.Shown.KernelCalls.CallAnswers.FoundTask.{Finds, reads}
-use Rattle.resident_requests.proofs.Shown.KernelCalls.CallAnswers.GuestTask.{GuestFacts, guest-changed, guest-facts}
-use Rattle.resident_requests.proofs.Shown.KernelCalls.CallAnswers.Refusals.{guest-at, high-guest}
-use Rattle.resident_requests.proofs.Shown.KernelCalls.TaskCalls.OneWord.{word-changed}
+use Rattle.pipe_handler.specs.KernelCalls.OwnedWords.Exchange.{Exchange}
+use Rattle.pipe_handler.specs.KernelCalls.OwnedWords.Owned.{Pairs, owners, row_from}
+use Rattle.pipe_handler.proofs.Shown.KernelCalls.OwnedWords.Exchanges.{exchange-all, exchange-left, exchange-right}
+use Rattle.pipe_handler.specs.KernelCalls.PacketQueue.QueueWords.{queue_words}
+use Rattle.pipe_handler.specs.KernelCalls.Coroutines.CoroutineExchanges.{words_of_coroutines}
+use Rattle.pipe_handler.specs.KernelCalls.KernelModel.Between.{is_unreported}
+use Rattle.pipe_handler.specs.KernelCalls.KernelModel.ChangedStore.{IsChanged}
+use Rattle.pipe_handler.specs.KernelCalls.KernelModel.Changes.{change_of, with_task, with_tasks}
+use Rattle.pipe_handler.specs.KernelCalls.KernelModel.HoldsLists.{HoldsLists}
+use Rattle.pipe_handler.specs.KernelCalls.KernelModel.Lists.{Lists, has_task}
+use Rattle.pipe_handler.specs.KernelCalls.KernelModel.Owned.{owned}
+use Rattle.pipe_handler.specs.KernelCalls.KernelModel.Task.{Task, fault_words, further_modules, is_guest_id, name_words, queue_head, state_words, task_address, task_words}
+use Rattle.pipe_handler.specs.KernelCalls.KernelModel.ValidTasks.{IsFaultWord, IsGuest, IsResident, IsTask}
+use Rattle.pipe_handler.proofs.Shown.KernelCalls.KernelModel.AllThings.{all-here}
+use Rattle.pipe_handler.proofs.Shown.KernelCalls.KernelModel.ChangedLists.{changed-none}
+use Rattle.pipe_handler.proofs.Shown.KernelCalls.KernelModel.EachMember.{holds-each}
+use Rattle.pipe_handler.proofs.Shown.KernelCalls.KernelModel.ReadCoroutines.{holds-task}
+use Rattle.pipe_handler.proofs.Shown.KernelCalls.KernelModel.TaskCounts.{owners-same_task}
+use Rattle.pipe_handler.proofs.Shown.KernelCalls.KernelModel.OneTask.{owned-one_task}
+use Rattle.pipe_handler.specs.KernelCalls.CallAnswers.Guests.{GuestAt}
+use Rattle.pipe_handler.proofs.Shown.KernelCalls.CallAnswers.FoundTask.{Finds, reads}
+use Rattle.pipe_handler.proofs.Shown.KernelCalls.CallAnswers.GuestTask.{GuestFacts, guest-changed, guest-facts}
+use Rattle.pipe_handler.proofs.Shown.KernelCalls.CallAnswers.Refusals.{guest-at, high-guest}
+use Rattle.pipe_handler.proofs.Shown.KernelCalls.TaskCalls.OneWord.{word-changed}
 use Rattle.fault_reporter.specs.FaultTurns.{all_reported, reported}
 use Rattle.fault_reporter.specs.Recorded.{OwnsSame}
 use Rattle.fault_reporter.specs.Texts.{is_unreported_word}

@@ -2,29 +2,29 @@
 use Rattle.std.proofs.Common.{◌≡◌, ℕ, ◌+◌, ◌||◌, Bool, true, false, Option, List, [], ◌∷◌, ◌++◌, map, cond, eqb, refl, sym, ap, ◌∙◌, subst, arith}
 use Rattle.std.specs.List.{AllByRecursion}
 use Rattle.word_store.specs.Arithmetic.{signed}
-use Rattle.resident_requests.specs.KernelCalls.PacketQueue.QueueWords.{QueuedPacket}
-use Rattle.resident_requests.specs.KernelCalls.PacketQueue.declared.events.KernelEvent.{KernelEvent}
-use Rattle.resident_requests.specs.KernelCalls.PacketQueue.declared.events.KernelEvent.TheVariants.{Taken}
-use Rattle.resident_requests.specs.KernelCalls.KernelModel.Between.{is_unreported}
-use Rattle.resident_requests.specs.KernelCalls.KernelModel.ChangedStore.{HasKeeper}
-use Rattle.resident_requests.specs.KernelCalls.KernelModel.Changes.{with_queue}
-use Rattle.resident_requests.specs.KernelCalls.KernelModel.Lists.{Lists, has_task}
-use Rattle.resident_requests.specs.KernelCalls.KernelModel.NotedEvents.{NotesAll}
-use Rattle.resident_requests.specs.KernelCalls.KernelModel.Residents.{fault_packet}
-use Rattle.resident_requests.specs.KernelCalls.KernelModel.Running.{RunsIf}
-use Rattle.resident_requests.specs.KernelCalls.KernelModel.Task.{Task}
-use Rattle.resident_requests.specs.KernelCalls.KernelModel.ValidLists.{AreValid}
-use Rattle.resident_requests.specs.KernelCalls.KernelModel.ValidQueues.{IsKeyPacket, MayStand, is_fault_packet, is_key_packet}
-use Rattle.resident_requests.specs.KernelCalls.KernelModel.ValidQueues.Place.{Work}
-use Rattle.resident_requests.specs.KernelCalls.KernelModel.ValidTasks.{runs}
-use Rattle.resident_requests.proofs.Shown.KernelCalls.KernelModel.ChangedLists.{changed-then, knows-same}
-use Rattle.resident_requests.proofs.Shown.KernelCalls.KernelModel.QueuePlaces.{place-stands}
+use Rattle.pipe_handler.specs.KernelCalls.PacketQueue.QueueWords.{QueuedPacket}
+use Rattle.pipe_handler.specs.KernelCalls.PacketQueue.declared.events.KernelEvent.{KernelEvent}
+use Rattle.pipe_handler.specs.KernelCalls.PacketQueue.declared.events.KernelEvent.TheVariants.{Taken}
+use Rattle.pipe_handler.specs.KernelCalls.KernelModel.Between.{is_unreported}
+use Rattle.pipe_handler.specs.KernelCalls.KernelModel.ChangedStore.{HasKeeper}
+use Rattle.pipe_handler.specs.KernelCalls.KernelModel.Changes.{with_queue}
+use Rattle.pipe_handler.specs.KernelCalls.KernelModel.Lists.{Lists, has_task}
+use Rattle.pipe_handler.specs.KernelCalls.KernelModel.NotedEvents.{NotesAll}
+use Rattle.pipe_handler.specs.KernelCalls.KernelModel.Residents.{fault_packet}
+use Rattle.pipe_handler.specs.KernelCalls.KernelModel.Running.{RunsIf}
+use Rattle.pipe_handler.specs.KernelCalls.KernelModel.Task.{Task}
+use Rattle.pipe_handler.specs.KernelCalls.KernelModel.ValidLists.{AreValid}
+use Rattle.pipe_handler.specs.KernelCalls.KernelModel.ValidQueues.{IsKeyPacket, MayStand, is_fault_packet, is_key_packet}
+use Rattle.pipe_handler.specs.KernelCalls.KernelModel.ValidQueues.Place.{Work}
+use Rattle.pipe_handler.specs.KernelCalls.KernelModel.ValidTasks.{runs}
+use Rattle.pipe_handler.proofs.Shown.KernelCalls.KernelModel.ChangedLists.{changed-then, knows-same}
+use Rattle.pipe_handler.proofs.Shown.KernelCalls.KernelModel.QueuePlaces.{place-stands}
 use Rattle.std.proofs.lemmas.Bool.{and_parts, false≢true, false_from_ne_true}
-use Rattle.resident_requests.specs.KernelCalls.CallAnswers.Outside.{outside}
-use Rattle.resident_requests.specs.Answers.{IsFinished, finished}
-use Rattle.resident_requests.specs.Requests.{IsForeign, RunsResident, TakesRequest, first_request, taken, words_taken, work}
-use Rattle.resident_requests.specs.Turns.{IsResidentTurn, request_turn, turn_of}
-use Rattle.resident_requests.proofs.RunningResident.{runs-work}
+use Rattle.pipe_handler.specs.KernelCalls.CallAnswers.Outside.{outside}
+use Rattle.pipe_handler.specs.ResidentRequests.Answers.{IsFinished, finished}
+use Rattle.pipe_handler.specs.ResidentRequests.Requests.{IsForeign, RunsResident, TakesRequest, first_request, taken, words_taken, work}
+use Rattle.pipe_handler.specs.ResidentRequests.Turns.{IsResidentTurn, request_turn, turn_of}
+use Rattle.pipe_handler.proofs.Shown.ResidentRequests.RunningResident.{runs-work}
 use Rattle.fault_reporter.specs.FaultTurns.{IsFaultFirst, all_reported, fault_turn, fault_turn_from, is_fault_first, packet_taken, reported, reported_turn, sender_of, fault_taken_from, unknown}
 use Rattle.fault_reporter.specs.Recorded.{OwnsSame}
 use Rattle.fault_reporter.specs.Texts.{reports}

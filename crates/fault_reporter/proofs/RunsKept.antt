@@ -3,22 +3,22 @@ use Rattle.std.proofs.Common.{◌≡◌, ℕ, ◌+◌, Bool, true, false, Err, L
 use Rattle.std.specs.List.{AllByRecursion}
 use Rattle.word_store.specs.declared.registers.Regs.{Regs}
 use Rattle.cint_exec.specs.declared.Fault.{Fault}
-use Rattle.resident_requests.specs.KernelCalls.PacketQueue.QueueWords.{QueuedPacket}
-use Rattle.resident_requests.specs.KernelCalls.KernelModel.Between.{is_unreported}
-use Rattle.resident_requests.specs.KernelCalls.KernelModel.Changes.{change_of, queue_of, with_queue, with_tasks, with_work}
-use Rattle.resident_requests.specs.KernelCalls.KernelModel.Lists.{Lists}
-use Rattle.resident_requests.specs.KernelCalls.KernelModel.Residents.{fault_packet}
-use Rattle.resident_requests.specs.KernelCalls.KernelModel.Running.{RunsAs}
-use Rattle.resident_requests.specs.KernelCalls.KernelModel.Task.{Task, is_guest_id}
-use Rattle.resident_requests.specs.KernelCalls.KernelModel.ValidQueues.Place.{Work}
-use Rattle.resident_requests.specs.KernelCalls.KernelModel.ValidTasks.{runs}
-use Rattle.resident_requests.specs.KernelCalls.KernelDispatch.Dispatch.{CanDispatch}
-use Rattle.resident_requests.specs.KernelCalls.PacketCalls.TaskWait.{waiting}
-use Rattle.resident_requests.specs.KernelCalls.PacketCalls.PacketMoves.{with_arrived}
-use Rattle.resident_requests.specs.Answers.{answered_packet, finished, finished_by}
-use Rattle.resident_requests.specs.Requests.{first_request, request_at, taken_from, words_taken_from, work}
-use Rattle.resident_requests.specs.Turns.{request_turn, turn_of}
-use Rattle.resident_requests.specs.declared.requests.Request.{Request}
+use Rattle.pipe_handler.specs.KernelCalls.PacketQueue.QueueWords.{QueuedPacket}
+use Rattle.pipe_handler.specs.KernelCalls.KernelModel.Between.{is_unreported}
+use Rattle.pipe_handler.specs.KernelCalls.KernelModel.Changes.{change_of, queue_of, with_queue, with_tasks, with_work}
+use Rattle.pipe_handler.specs.KernelCalls.KernelModel.Lists.{Lists}
+use Rattle.pipe_handler.specs.KernelCalls.KernelModel.Residents.{fault_packet}
+use Rattle.pipe_handler.specs.KernelCalls.KernelModel.Running.{RunsAs}
+use Rattle.pipe_handler.specs.KernelCalls.KernelModel.Task.{Task, is_guest_id}
+use Rattle.pipe_handler.specs.KernelCalls.KernelModel.ValidQueues.Place.{Work}
+use Rattle.pipe_handler.specs.KernelCalls.KernelModel.ValidTasks.{runs}
+use Rattle.pipe_handler.specs.KernelCalls.KernelDispatch.Dispatch.{CanDispatch}
+use Rattle.pipe_handler.specs.KernelCalls.PacketCalls.TaskWait.{waiting}
+use Rattle.pipe_handler.specs.KernelCalls.PacketCalls.PacketMoves.{with_arrived}
+use Rattle.pipe_handler.specs.ResidentRequests.Answers.{answered_packet, finished, finished_by}
+use Rattle.pipe_handler.specs.ResidentRequests.Requests.{first_request, request_at, taken_from, words_taken_from, work}
+use Rattle.pipe_handler.specs.ResidentRequests.Turns.{request_turn, turn_of}
+use Rattle.pipe_handler.specs.ResidentRequests.declared.requests.Request.{Request}
 use Rattle.fault_reporter.specs.FaultTurns.{all_reported, fault_turn, fault_turn_from, packet_taken, reported, reported_turn, unknown}
 use Rattle.fault_reporter.specs.Recorded.{held_with, recorded, sent_where, with_fault}
 

@@ -3,32 +3,32 @@ use Rattle.std.proofs.Common.{◌≡◌, ◌≢◌, ℕ, ◌+◌, ◌<◌, ◌�
 use Rattle.std.specs.List.{AllByRecursion, range_with_len}
 use Rattle.std.proofs.lemmas.Bool.{and_from, eq-eqb, eqb-true, or_left}
 use Rattle.word_store.specs.Count.{times}
-use Rattle.resident_requests.specs.KernelCalls.LinkedList.Places.{has}
+use Rattle.pipe_handler.specs.KernelCalls.LinkedList.Places.{has}
 use Rattle.word_store.proofs.Counts.{hit-other, times-within}
-use Rattle.resident_requests.specs.KernelCalls.OwnedWords.Exchange.{Exchange}
-use Rattle.resident_requests.specs.KernelCalls.OwnedWords.Owned.{Holds, owners}
-use Rattle.resident_requests.specs.KernelCalls.OwnedWords.Written.{IsWritten}
-use Rattle.resident_requests.proofs.Shown.KernelCalls.OwnedWords.OwnedWords.{Holds-same, length-written, written-other}
-use Rattle.resident_requests.specs.KernelCalls.PacketQueue.Queue.{HasQueue, no_queue, queue_at}
-use Rattle.resident_requests.specs.KernelCalls.PacketQueue.QueueWords.{QueuedPacket}
-use Rattle.resident_requests.specs.KernelCalls.KernelModel.ChangedStore.{IsChanged}
-use Rattle.resident_requests.specs.KernelCalls.KernelModel.Changes.{queue_of, with_queue}
-use Rattle.resident_requests.specs.KernelCalls.KernelModel.HoldsLists.{HoldsLists}
-use Rattle.resident_requests.specs.KernelCalls.KernelModel.Lists.{Lists, address_of_task, has_task}
-use Rattle.resident_requests.specs.KernelCalls.KernelModel.Owned.{owned}
-use Rattle.resident_requests.specs.KernelCalls.KernelModel.Residents.{fault_packet, fault_packet_words}
-use Rattle.resident_requests.specs.KernelCalls.KernelModel.ValidLists.{AreValid}
-use Rattle.resident_requests.specs.KernelCalls.KernelModel.ValidQueues.{IsFaultPacket, MayStand}
-use Rattle.resident_requests.specs.KernelCalls.KernelModel.ValidQueues.Place.{Work}
-use Rattle.resident_requests.proofs.Shown.KernelCalls.KernelModel.QueuePlaces.{place-stands}
-use Rattle.resident_requests.proofs.Shown.KernelCalls.KernelModel.ResidentPackets.{fault_unqueued-valid}
-use Rattle.resident_requests.specs.KernelCalls.PacketCalls.Destinations.{queue_for}
-use Rattle.resident_requests.specs.KernelCalls.PacketCalls.PacketMoves.{stands_in}
-use Rattle.resident_requests.specs.KernelCalls.PacketCalls.QueueWords.{head_of, unqueued}
-use Rattle.resident_requests.specs.KernelCalls.PacketCalls.declared.queues.Queue.TheVariants as queues
-use Rattle.resident_requests.proofs.Shown.KernelCalls.PacketCalls.Departure.{departed-size, departed-written, held-before, others-kept, owners-departed, packet-inside}
-use Rattle.resident_requests.proofs.Shown.KernelCalls.PacketCalls.HeldPlaces.{has-at, stands-at}
-use Rattle.resident_requests.specs.Requests.{RunsResident, work}
+use Rattle.pipe_handler.specs.KernelCalls.OwnedWords.Exchange.{Exchange}
+use Rattle.pipe_handler.specs.KernelCalls.OwnedWords.Owned.{Holds, owners}
+use Rattle.pipe_handler.specs.KernelCalls.OwnedWords.Written.{IsWritten}
+use Rattle.pipe_handler.proofs.Shown.KernelCalls.OwnedWords.OwnedWords.{Holds-same, length-written, written-other}
+use Rattle.pipe_handler.specs.KernelCalls.PacketQueue.Queue.{HasQueue, no_queue, queue_at}
+use Rattle.pipe_handler.specs.KernelCalls.PacketQueue.QueueWords.{QueuedPacket}
+use Rattle.pipe_handler.specs.KernelCalls.KernelModel.ChangedStore.{IsChanged}
+use Rattle.pipe_handler.specs.KernelCalls.KernelModel.Changes.{queue_of, with_queue}
+use Rattle.pipe_handler.specs.KernelCalls.KernelModel.HoldsLists.{HoldsLists}
+use Rattle.pipe_handler.specs.KernelCalls.KernelModel.Lists.{Lists, address_of_task, has_task}
+use Rattle.pipe_handler.specs.KernelCalls.KernelModel.Owned.{owned}
+use Rattle.pipe_handler.specs.KernelCalls.KernelModel.Residents.{fault_packet, fault_packet_words}
+use Rattle.pipe_handler.specs.KernelCalls.KernelModel.ValidLists.{AreValid}
+use Rattle.pipe_handler.specs.KernelCalls.KernelModel.ValidQueues.{IsFaultPacket, MayStand}
+use Rattle.pipe_handler.specs.KernelCalls.KernelModel.ValidQueues.Place.{Work}
+use Rattle.pipe_handler.proofs.Shown.KernelCalls.KernelModel.QueuePlaces.{place-stands}
+use Rattle.pipe_handler.proofs.Shown.KernelCalls.KernelModel.ResidentPackets.{fault_unqueued-valid}
+use Rattle.pipe_handler.specs.KernelCalls.PacketCalls.Destinations.{queue_for}
+use Rattle.pipe_handler.specs.KernelCalls.PacketCalls.PacketMoves.{stands_in}
+use Rattle.pipe_handler.specs.KernelCalls.PacketCalls.QueueWords.{head_of, unqueued}
+use Rattle.pipe_handler.specs.KernelCalls.PacketCalls.declared.queues.Queue.TheVariants as queues
+use Rattle.pipe_handler.proofs.Shown.KernelCalls.PacketCalls.Departure.{departed-size, departed-written, held-before, others-kept, owners-departed, packet-inside}
+use Rattle.pipe_handler.proofs.Shown.KernelCalls.PacketCalls.HeldPlaces.{has-at, stands-at}
+use Rattle.pipe_handler.specs.ResidentRequests.Requests.{RunsResident, work}
 use Rattle.fault_reporter.specs.FaultTurns.{IsFaultFirst, packet_taken, sender_of, fault_taken_from}
 use Rattle.fault_reporter.specs.Recorded.{OwnsSame}
 use Rattle.fault_reporter.proofs.FaultPacket.{fault-count, free-is, packet-exchange}

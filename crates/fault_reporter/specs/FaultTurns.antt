@@ -1,20 +1,20 @@
 -- A turn of the task that reports faults.
 use Rattle.std.specs.Prelude.{◌≡◌, ℕ, ◌+◌, ◌≤◌, ◌==◌, Bool, true, false, if◌then◌else◌, Err, List, [], ◌∷◌, length, map}
 use Rattle.word_store.specs.Arithmetic.{signed}
-use Rattle.resident_requests.specs.KernelCalls.PacketQueue.QueueWords.{QueuedPacket}
-use Rattle.resident_requests.specs.KernelCalls.PacketQueue.declared.events.KernelEvent.TheVariants.{Taken}
-use Rattle.resident_requests.specs.KernelCalls.KernelModel.Between.{is_unreported}
-use Rattle.resident_requests.specs.KernelCalls.KernelModel.Changes.{with_fault_packet, with_queue, with_tasks}
-use Rattle.resident_requests.specs.KernelCalls.KernelModel.Lists.{Lists}
-use Rattle.resident_requests.specs.KernelCalls.KernelModel.Residents.{fault_packet}
-use Rattle.resident_requests.specs.KernelCalls.KernelModel.Task.{Task}
-use Rattle.resident_requests.specs.KernelCalls.KernelModel.ValidQueues.Place.{Work}
-use Rattle.resident_requests.specs.Answers.{finished}
-use Rattle.resident_requests.specs.Requests.{RunsResident, work}
-use Rattle.resident_requests.specs.Turns.{ResidentTurn, Served, idle_turn, request_turn, service}
-use Rattle.resident_requests.specs.declared.requests.Request.{Request}
-use Rattle.resident_requests.specs.KernelCalls.KernelModel.declared.numbers.TheConstants.{REPORTER}
-use Rattle.resident_requests.specs.declared.requests.TheConstants.{UNKNOWN_TYPE}
+use Rattle.pipe_handler.specs.KernelCalls.PacketQueue.QueueWords.{QueuedPacket}
+use Rattle.pipe_handler.specs.KernelCalls.PacketQueue.declared.events.KernelEvent.TheVariants.{Taken}
+use Rattle.pipe_handler.specs.KernelCalls.KernelModel.Between.{is_unreported}
+use Rattle.pipe_handler.specs.KernelCalls.KernelModel.Changes.{with_fault_packet, with_queue, with_tasks}
+use Rattle.pipe_handler.specs.KernelCalls.KernelModel.Lists.{Lists}
+use Rattle.pipe_handler.specs.KernelCalls.KernelModel.Residents.{fault_packet}
+use Rattle.pipe_handler.specs.KernelCalls.KernelModel.Task.{Task}
+use Rattle.pipe_handler.specs.KernelCalls.KernelModel.ValidQueues.Place.{Work}
+use Rattle.pipe_handler.specs.ResidentRequests.Answers.{finished}
+use Rattle.pipe_handler.specs.ResidentRequests.Requests.{RunsResident, work}
+use Rattle.pipe_handler.specs.ResidentRequests.Turns.{ResidentTurn, Served, idle_turn, request_turn, service}
+use Rattle.pipe_handler.specs.ResidentRequests.declared.requests.Request.{Request}
+use Rattle.pipe_handler.specs.KernelCalls.KernelModel.declared.numbers.TheConstants.{REPORTER}
+use Rattle.pipe_handler.specs.ResidentRequests.declared.requests.TheConstants.{UNKNOWN_TYPE}
 use Rattle.fault_reporter.specs.Texts.{most_reported, reports}
 
 -- Task 2 runs, and there is room for its lines among the bytes that go to the console.

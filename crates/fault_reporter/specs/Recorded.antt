@@ -2,21 +2,21 @@
 use Rattle.std.specs.Prelude.{◌≡◌, ℕ, Bool, true, false, List, [], ◌∷◌}
 use Rattle.word_store.specs.Arithmetic.{signed}
 use Rattle.cint_exec.specs.declared.Fault.{Fault}
-use Rattle.resident_requests.specs.KernelCalls.OwnedWords.Owned.{owners}
-use Rattle.resident_requests.specs.KernelCalls.PacketQueue.QueueWords.{QueuedPacket}
-use Rattle.resident_requests.specs.KernelCalls.PacketQueue.declared.events.KernelEvent.{KernelEvent}
-use Rattle.resident_requests.specs.KernelCalls.PacketQueue.declared.events.KernelEvent.TheVariants.{Accepted}
-use Rattle.resident_requests.specs.KernelCalls.KernelModel.ChangedStore.{IsChanged}
-use Rattle.resident_requests.specs.KernelCalls.KernelModel.Changes.{with_fault_packet, with_task}
-use Rattle.resident_requests.specs.KernelCalls.KernelModel.Lists.{Lists, has_task}
-use Rattle.resident_requests.specs.KernelCalls.KernelModel.Owned.{owned}
-use Rattle.resident_requests.specs.KernelCalls.KernelModel.Residents.{fault_packet}
-use Rattle.resident_requests.specs.KernelCalls.KernelModel.Task.{Task}
-use Rattle.resident_requests.specs.KernelCalls.KernelModel.ValidQueues.Place.{Work}
-use Rattle.resident_requests.specs.KernelCalls.KernelModel.ValidTasks.{IsRecordedFault}
-use Rattle.resident_requests.specs.KernelCalls.CallAnswers.Callers.{HasCaller}
-use Rattle.resident_requests.specs.KernelCalls.PacketCalls.PacketMoves.{with_arrived}
-use Rattle.resident_requests.specs.KernelCalls.KernelModel.declared.numbers.TheConstants.{FAULT_KIND, REPORTER}
+use Rattle.pipe_handler.specs.KernelCalls.OwnedWords.Owned.{owners}
+use Rattle.pipe_handler.specs.KernelCalls.PacketQueue.QueueWords.{QueuedPacket}
+use Rattle.pipe_handler.specs.KernelCalls.PacketQueue.declared.events.KernelEvent.{KernelEvent}
+use Rattle.pipe_handler.specs.KernelCalls.PacketQueue.declared.events.KernelEvent.TheVariants.{Accepted}
+use Rattle.pipe_handler.specs.KernelCalls.KernelModel.ChangedStore.{IsChanged}
+use Rattle.pipe_handler.specs.KernelCalls.KernelModel.Changes.{with_fault_packet, with_task}
+use Rattle.pipe_handler.specs.KernelCalls.KernelModel.Lists.{Lists, has_task}
+use Rattle.pipe_handler.specs.KernelCalls.KernelModel.Owned.{owned}
+use Rattle.pipe_handler.specs.KernelCalls.KernelModel.Residents.{fault_packet}
+use Rattle.pipe_handler.specs.KernelCalls.KernelModel.Task.{Task}
+use Rattle.pipe_handler.specs.KernelCalls.KernelModel.ValidQueues.Place.{Work}
+use Rattle.pipe_handler.specs.KernelCalls.KernelModel.ValidTasks.{IsRecordedFault}
+use Rattle.pipe_handler.specs.KernelCalls.CallAnswers.Callers.{HasCaller}
+use Rattle.pipe_handler.specs.KernelCalls.PacketCalls.PacketMoves.{with_arrived}
+use Rattle.pipe_handler.specs.KernelCalls.KernelModel.declared.numbers.TheConstants.{FAULT_KIND, REPORTER}
 
 -- A guest runs, there is a task that reports faults, and the fault is one that it reports.
 pub record CanRecord (l : Lists) (f : Fault) : Type 0 where

@@ -1,14 +1,14 @@
 -- What is reported of the faults of tasks: a line for each fault that was not reported yet, in the order of the chain.
 use Rattle.std.specs.Prelude.{ℕ, ◌+◌, ◌&&◌, Bool, if◌then◌else◌, List, [], ◌∷◌, codes, decimal, nat_le, nat_lt, slice_index}
 use Rattle.std.specs.List.{flat_map}
-use Rattle.resident_requests.specs.KernelCalls.TaskBlock.TaskChain.{tasks_in}
+use Rattle.pipe_handler.specs.KernelCalls.TaskBlock.TaskChain.{tasks_in}
 use Rattle.tp_io.specs.Pieces.{joined}
-use Rattle.resident_requests.specs.KernelCalls.KernelModel.Between.{is_unreported}
-use Rattle.resident_requests.specs.KernelCalls.KernelModel.Lists.{Lists}
-use Rattle.resident_requests.specs.KernelCalls.KernelModel.Task.{Task}
-use Rattle.resident_requests.specs.KernelCalls.TaskBlock.TaskWords.{word_index}
-use Rattle.resident_requests.specs.KernelCalls.TaskBlock.declared.fields.TcbField.TheVariants.{Id}
-use Rattle.resident_requests.specs.KernelCalls.KernelModel.declared.numbers.TheConstants.{FAULT_ADDRESS, FAULT_WORD}
+use Rattle.pipe_handler.specs.KernelCalls.KernelModel.Between.{is_unreported}
+use Rattle.pipe_handler.specs.KernelCalls.KernelModel.Lists.{Lists}
+use Rattle.pipe_handler.specs.KernelCalls.KernelModel.Task.{Task}
+use Rattle.pipe_handler.specs.KernelCalls.TaskBlock.TaskWords.{word_index}
+use Rattle.pipe_handler.specs.KernelCalls.TaskBlock.declared.fields.TcbField.TheVariants.{Id}
+use Rattle.pipe_handler.specs.KernelCalls.KernelModel.declared.numbers.TheConstants.{FAULT_ADDRESS, FAULT_WORD}
 
 -- the line of a task with a fault at an address
 abbrev pub report : ℕ → ℕ → ℕ → List ℕ

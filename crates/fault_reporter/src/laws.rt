@@ -2,12 +2,12 @@
 ghost use Rattle.std.specs.Prelude.{◌≡◌, ℕ, List};
 ghost use Rattle.word_store.specs.declared.registers.Regs.{Regs};
 ghost use Rattle.cint_exec.specs.declared.Fault.{Fault};
-ghost use Rattle.resident_requests.specs.KernelCalls.KernelModel.Between.{FaultsStand};
-ghost use Rattle.resident_requests.specs.KernelCalls.KernelModel.Lists.{Lists};
-ghost use Rattle.resident_requests.specs.KernelCalls.KernelModel.ValidLists.{AreValid};
-ghost use Rattle.resident_requests.specs.KernelCalls.KernelDispatch.Dispatch.{CanDispatch};
-ghost use Rattle.resident_requests.specs.Requests.{RunsResident};
-ghost use Rattle.resident_requests.specs.KernelCalls.KernelModel.declared.numbers.TheConstants.{REPORTER};
+ghost use Rattle.pipe_handler.specs.KernelCalls.KernelModel.Between.{FaultsStand};
+ghost use Rattle.pipe_handler.specs.KernelCalls.KernelModel.Lists.{Lists};
+ghost use Rattle.pipe_handler.specs.KernelCalls.KernelModel.ValidLists.{AreValid};
+ghost use Rattle.pipe_handler.specs.KernelCalls.KernelDispatch.Dispatch.{CanDispatch};
+ghost use Rattle.pipe_handler.specs.ResidentRequests.Requests.{RunsResident};
+ghost use Rattle.pipe_handler.specs.KernelCalls.KernelModel.declared.numbers.TheConstants.{REPORTER};
 ghost use Rattle.fault_reporter.specs.FaultTurns.{fault_turn};
 ghost use Rattle.fault_reporter.specs.Recorded.{CanRecord, recorded};
 

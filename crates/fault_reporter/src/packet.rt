@@ -1,17 +1,17 @@
 // The fault packet goes to the task that reports faults, and comes off its queue.
 ghost use Rattle.std.specs.Prelude.{◌≡◌, [], ◌∷◌, true};
 ghost use Rattle.word_store.specs.Arithmetic.{signed};
-ghost use Rattle.resident_requests.specs.KernelCalls.PacketQueue.declared.events.KernelEvent.TheVariants.{Taken};
-ghost use Rattle.resident_requests.specs.Requests.{RunsResident, work};
+ghost use Rattle.pipe_handler.specs.KernelCalls.PacketQueue.declared.events.KernelEvent.TheVariants.{Taken};
+ghost use Rattle.pipe_handler.specs.ResidentRequests.Requests.{RunsResident, work};
 ghost use Rattle.fault_reporter.specs.FaultTurns.{IsFaultFirst, sender_of, fault_taken_from};
-ghost use Rattle.resident_requests.specs.KernelCalls.KernelModel.HoldsLists.{HoldsLists};
-ghost use Rattle.resident_requests.specs.KernelCalls.KernelModel.Lists.{Lists, has_task};
-ghost use Rattle.resident_requests.specs.KernelCalls.KernelModel.NotedEvents.{NotesAll};
-ghost use Rattle.resident_requests.specs.KernelCalls.CallAnswers.Callers.{HasCaller};
+ghost use Rattle.pipe_handler.specs.KernelCalls.KernelModel.HoldsLists.{HoldsLists};
+ghost use Rattle.pipe_handler.specs.KernelCalls.KernelModel.Lists.{Lists, has_task};
+ghost use Rattle.pipe_handler.specs.KernelCalls.KernelModel.NotedEvents.{NotesAll};
+ghost use Rattle.pipe_handler.specs.KernelCalls.CallAnswers.Callers.{HasCaller};
 ghost use Rattle.fault_reporter.specs.Recorded.{OwnsSame, sent, sent_events};
 
-use resident_requests::numbers::{FAULT_KIND, FAULT_PACKET, KIND, REPORTER, SENDER};
-use resident_requests::{
+use pipe_handler::numbers::{FAULT_KIND, FAULT_PACKET, KIND, REPORTER, SENDER};
+use pipe_handler::{
     EventLog, Queue, RootField, TcbField, accepted, caller, field, find, has_packet, root, send,
     taken, unqueue,
 };

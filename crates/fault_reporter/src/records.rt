@@ -1,14 +1,14 @@
 // A fault of a guest is recorded.
 ghost use Rattle.std.specs.Prelude.{◌≡◌};
-ghost use Rattle.resident_requests.specs.KernelCalls.KernelModel.HoldsLists.{HoldsLists};
-ghost use Rattle.resident_requests.specs.KernelCalls.KernelModel.Lists.{Lists};
-ghost use Rattle.resident_requests.specs.KernelCalls.KernelModel.NotedEvents.{NotesAll};
+ghost use Rattle.pipe_handler.specs.KernelCalls.KernelModel.HoldsLists.{HoldsLists};
+ghost use Rattle.pipe_handler.specs.KernelCalls.KernelModel.Lists.{Lists};
+ghost use Rattle.pipe_handler.specs.KernelCalls.KernelModel.NotedEvents.{NotesAll};
 ghost use Rattle.fault_reporter.specs.Recorded.{CanRecord, OwnsSame, held_with, recorded, recorded_events};
 
 use crate::packet::send_packet;
 use cint_exec::Fault;
-use resident_requests::numbers::{FAULT_ADDRESS, FAULT_WORD, HELD};
-use resident_requests::{EventLog, TcbField, caller, field, set_field};
+use pipe_handler::numbers::{FAULT_ADDRESS, FAULT_WORD, HELD};
+use pipe_handler::{EventLog, TcbField, caller, field, set_field};
 use word_store::Store;
 
 /// Records a fault of the guest that runs, in a machine with a task that reports faults (2): the guest is held, its fault words are

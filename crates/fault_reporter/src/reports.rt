@@ -1,18 +1,18 @@
 // The reports of faults: their lines, and the mark of a fault that was reported.
 ghost use Rattle.std.specs.Prelude.{◌≡◌, ◌+◌, ◌*◌, ◌≤◌, ◌++◌, decimal, length};
-ghost use Rattle.resident_requests.specs.KernelCalls.LinkedList.Walk.{CanWalk};
-ghost use Rattle.resident_requests.specs.KernelCalls.TaskBlock.TaskChain.{task_link, tasks_in};
-ghost use Rattle.resident_requests.specs.KernelCalls.TaskBlock.RootWords.{first_task};
-ghost use Rattle.resident_requests.specs.KernelCalls.KernelModel.HoldsLists.{HoldsLists};
-ghost use Rattle.resident_requests.specs.KernelCalls.KernelModel.Lists.{Lists};
-ghost use Rattle.resident_requests.specs.KernelCalls.KernelModel.Changes.{with_task};
+ghost use Rattle.pipe_handler.specs.KernelCalls.LinkedList.Walk.{CanWalk};
+ghost use Rattle.pipe_handler.specs.KernelCalls.TaskBlock.TaskChain.{task_link, tasks_in};
+ghost use Rattle.pipe_handler.specs.KernelCalls.TaskBlock.RootWords.{first_task};
+ghost use Rattle.pipe_handler.specs.KernelCalls.KernelModel.HoldsLists.{HoldsLists};
+ghost use Rattle.pipe_handler.specs.KernelCalls.KernelModel.Lists.{Lists};
+ghost use Rattle.pipe_handler.specs.KernelCalls.KernelModel.Changes.{with_task};
 ghost use Rattle.fault_reporter.specs.FaultTurns.{all_reported, reported};
 ghost use Rattle.fault_reporter.specs.Recorded.{OwnsSame};
 ghost use Rattle.fault_reporter.specs.Texts.{is_unreported_word, most_in_line, report, report_at, reports_in};
 
 use itoa::Buffer;
-use resident_requests::numbers::{FAULT_ADDRESS, FAULT_WORD, FIRST_GUEST};
-use resident_requests::{TcbField, field, find, set_field, tasks};
+use pipe_handler::numbers::{FAULT_ADDRESS, FAULT_WORD, FIRST_GUEST};
+use pipe_handler::{TcbField, field, find, set_field, tasks};
 use tp_io::Output;
 use word_store::Store;
 

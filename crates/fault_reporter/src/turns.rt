@@ -1,25 +1,24 @@
 // A turn of the task that reports faults.
 ghost use Rattle.std.specs.Prelude.{◌≡◌, ◌+◌, ◌++◌, [], ◌∷◌};
 ghost use Rattle.word_store.specs.Arithmetic.{signed};
-ghost use Rattle.resident_requests.specs.KernelCalls.PacketQueue.declared.events.KernelEvent.TheVariants.{Taken};
-ghost use Rattle.resident_requests.specs.KernelCalls.KernelModel.ChangedStore.{HasKeeper};
-ghost use Rattle.resident_requests.specs.KernelCalls.KernelModel.HoldsLists.{HoldsLists};
-ghost use Rattle.resident_requests.specs.KernelCalls.KernelModel.Lists.{Lists};
-ghost use Rattle.resident_requests.specs.KernelCalls.KernelModel.NotedEvents.{NotesAll};
-ghost use Rattle.resident_requests.specs.KernelCalls.CallAnswers.Outside.{outside};
-ghost use Rattle.resident_requests.specs.Answers.{finished};
-ghost use Rattle.resident_requests.specs.Requests.{RunsResident, work};
-ghost use Rattle.resident_requests.specs.Turns.{IsResidentTurn};
+ghost use Rattle.pipe_handler.specs.KernelCalls.PacketQueue.declared.events.KernelEvent.TheVariants.{Taken};
+ghost use Rattle.pipe_handler.specs.KernelCalls.KernelModel.ChangedStore.{HasKeeper};
+ghost use Rattle.pipe_handler.specs.KernelCalls.KernelModel.HoldsLists.{HoldsLists};
+ghost use Rattle.pipe_handler.specs.KernelCalls.KernelModel.Lists.{Lists};
+ghost use Rattle.pipe_handler.specs.KernelCalls.KernelModel.NotedEvents.{NotesAll};
+ghost use Rattle.pipe_handler.specs.KernelCalls.CallAnswers.Outside.{outside};
+ghost use Rattle.pipe_handler.specs.ResidentRequests.Answers.{finished};
+ghost use Rattle.pipe_handler.specs.ResidentRequests.Requests.{RunsResident, work};
+ghost use Rattle.pipe_handler.specs.ResidentRequests.Turns.{IsResidentTurn};
 ghost use Rattle.fault_reporter.specs.FaultTurns.{CanReport, IsFaultFirst, all_reported, fault_turn, is_fault_first, sender_of, fault_taken_from};
 ghost use Rattle.fault_reporter.specs.Recorded.{OwnsSame};
 ghost use Rattle.fault_reporter.specs.Texts.{reports};
 
 use crate::packet::take_packet;
 use crate::reports::{mark_reports, print_reports};
-use resident_requests::numbers::{FAULT_PACKET, REPORTER};
-use resident_requests::requests::UNKNOWN_TYPE;
-use resident_requests::{
-    EventLog, KindKeeper, finish_turn, first_packet, serve_request, take_request,
+use pipe_handler::numbers::{FAULT_PACKET, REPORTER};
+use pipe_handler::{
+    EventLog, KindKeeper, UNKNOWN_TYPE, finish_turn, first_packet, serve_request, take_request,
 };
 use tp_io::Output;
 use word_store::Store;

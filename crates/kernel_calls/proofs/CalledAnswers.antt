@@ -2,19 +2,19 @@
 use Rattle.std.proofs.Common.{◌≡◌, ℕ, List, [], ◌∷◌, ◌++◌, Some, None, Result, Ok, refl, sym, ap, ◌∙◌, subst}
 use Rattle.std.proofs.lemmas.List.{append-nil}
 use Rattle.word_store.specs.declared.registers.Regs.{Regs}
-use Rattle.task_calls.specs.KernelDispatch.OwnedWords.Owned.{owners}
-use Rattle.task_calls.specs.KernelDispatch.PacketQueue.QueueWords.{QueuedPacket}
-use Rattle.task_calls.specs.KernelDispatch.KernelModel.ChangedStore.{Knows}
-use Rattle.task_calls.specs.KernelDispatch.KernelModel.HoldsLists.{HoldsLists}
-use Rattle.task_calls.specs.KernelDispatch.KernelModel.Lists.{Lists}
-use Rattle.task_calls.specs.KernelDispatch.KernelModel.NotedEvents.{NotesAll}
-use Rattle.task_calls.specs.KernelDispatch.KernelModel.Owned.{owned}
-use Rattle.task_calls.proofs.Shown.KernelDispatch.KernelModel.ChangedLists.{changed-none, knows-same}
-use Rattle.task_calls.proofs.Shown.KernelDispatch.KernelModel.NotedInTurn.{notes-none}
-use Rattle.task_calls.specs.CallAnswers.Made.{IsMade, Leaves, Made}
+use Rattle.coroutine_calls.specs.KernelDispatch.OwnedWords.Owned.{owners}
+use Rattle.coroutine_calls.specs.KernelDispatch.PacketQueue.QueueWords.{QueuedPacket}
+use Rattle.coroutine_calls.specs.KernelDispatch.KernelModel.ChangedStore.{Knows}
+use Rattle.coroutine_calls.specs.KernelDispatch.KernelModel.HoldsLists.{HoldsLists}
+use Rattle.coroutine_calls.specs.KernelDispatch.KernelModel.Lists.{Lists}
+use Rattle.coroutine_calls.specs.KernelDispatch.KernelModel.NotedEvents.{NotesAll}
+use Rattle.coroutine_calls.specs.KernelDispatch.KernelModel.Owned.{owned}
+use Rattle.coroutine_calls.proofs.Shown.KernelDispatch.KernelModel.ChangedLists.{changed-none, knows-same}
+use Rattle.coroutine_calls.proofs.Shown.KernelDispatch.KernelModel.NotedInTurn.{notes-none}
+use Rattle.coroutine_calls.specs.CallAnswers.Made.{IsMade, Leaves, Made}
 use Rattle.coroutine_calls.specs.Switched.{IsSwitched, Switched}
-use Rattle.packet_calls.specs.TaskWait.{answer_of_wait, first_of_queue}
-use Rattle.task_calls.specs.CallAnswers.Outside.{Outside}
+use Rattle.coroutine_calls.specs.PacketCalls.TaskWait.{answer_of_wait, first_of_queue}
+use Rattle.coroutine_calls.specs.CallAnswers.Outside.{Outside}
 use Rattle.kernel_calls.specs.Calls.{IsCalled, answered, ended_with, of_byte, of_made, of_switched, of_wait, regs_of_switch}
 use Rattle.kernel_calls.specs.declared.call_numbers.CallOutcome.{CallOutcome}
 use Rattle.kernel_calls.specs.declared.call_numbers.CallOutcome.TheVariants.{Done, Waits}

@@ -3,8 +3,8 @@ use Rattle.std.specs.Prelude.{ℕ, ◌+◌, ◌==◌, ◌&&◌, if◌then◌else
 use Rattle.word_store.specs.Arithmetic.{add}
 use Rattle.word_store.specs.declared.registers.Regs.{Regs}
 use Rattle.hunk_text.specs.TextReader.Steps.{◌>>=◌}
-use Rattle.task_calls.specs.KernelDispatch.TaskBlock.RootWords.{root_address}
-use Rattle.task_calls.specs.KernelDispatch.TaskBlock.declared.roots.RootField.TheVariants.{Version}
+use Rattle.coroutine_calls.specs.KernelDispatch.TaskBlock.RootWords.{root_address}
+use Rattle.coroutine_calls.specs.KernelDispatch.TaskBlock.declared.roots.RootField.TheVariants.{Version}
 use Rattle.kernel_calls.specs.declared.call_numbers.CallOutcome.{CallOutcome}
 use Rattle.kernel_calls.specs.declared.call_numbers.CallOutcome.TheVariants.{Outside, Unknown}
 use Rattle.kernel_calls.specs.declared.call_numbers.KernelCall.{KernelCall}

@@ -2,30 +2,30 @@
 use Rattle.std.specs.Prelude.{◌≡◌, ℕ, ◌%◌, List, [], ◌∷◌, ◌++◌, Result, Ok, Err}
 use Rattle.word_store.specs.Arithmetic.{add, mul_div}
 use Rattle.word_store.specs.declared.registers.Regs.{Regs}
-use Rattle.task_calls.specs.KernelDispatch.OwnedWords.Owned.{Pairs}
-use Rattle.task_calls.specs.KernelDispatch.PacketQueue.QueueWords.{QueuedPacket}
-use Rattle.task_calls.specs.KernelDispatch.PacketQueue.declared.events.KernelEvent.{KernelEvent}
-use Rattle.task_calls.specs.KernelDispatch.KernelModel.ChangedStore.{IsChanged, Knows}
-use Rattle.task_calls.specs.KernelDispatch.KernelModel.Changes.{queue_of}
-use Rattle.task_calls.specs.KernelDispatch.KernelModel.Lists.{Lists}
-use Rattle.task_calls.specs.KernelDispatch.KernelModel.NotedEvents.{NotesAll}
-use Rattle.task_calls.specs.KernelDispatch.KernelModel.ValidQueues.Place.{Work}
-use Rattle.task_calls.specs.CallAnswers.Made.{Made, minus_one}
-use Rattle.task_calls.specs.CallAnswers.Outside.{Outside}
-use Rattle.task_calls.specs.BlockCalls.Freevec.{freevec}
-use Rattle.task_calls.specs.BlockCalls.Getvec.{getvec}
-use Rattle.module_calls.specs.AddModule.{add_module}
-use Rattle.module_calls.specs.UnloadModule.{unload_module}
-use Rattle.packet_calls.specs.Dqpkt.{dqpkt}
-use Rattle.packet_calls.specs.Qpkt.{qpkt}
-use Rattle.packet_calls.specs.TaskWait.{taskwait}
-use Rattle.task_calls.specs.ChangePri.{change_pri}
-use Rattle.task_calls.specs.CreateTask.{create_task}
-use Rattle.task_calls.specs.DeleteTask.{delete_task}
-use Rattle.task_calls.specs.HoldTask.{hold}
-use Rattle.task_calls.specs.ReleaseTask.{release}
-use Rattle.task_calls.specs.SetFlags.{set_flags}
-use Rattle.task_calls.specs.TestFlags.{test_flags}
+use Rattle.coroutine_calls.specs.KernelDispatch.OwnedWords.Owned.{Pairs}
+use Rattle.coroutine_calls.specs.KernelDispatch.PacketQueue.QueueWords.{QueuedPacket}
+use Rattle.coroutine_calls.specs.KernelDispatch.PacketQueue.declared.events.KernelEvent.{KernelEvent}
+use Rattle.coroutine_calls.specs.KernelDispatch.KernelModel.ChangedStore.{IsChanged, Knows}
+use Rattle.coroutine_calls.specs.KernelDispatch.KernelModel.Changes.{queue_of}
+use Rattle.coroutine_calls.specs.KernelDispatch.KernelModel.Lists.{Lists}
+use Rattle.coroutine_calls.specs.KernelDispatch.KernelModel.NotedEvents.{NotesAll}
+use Rattle.coroutine_calls.specs.KernelDispatch.KernelModel.ValidQueues.Place.{Work}
+use Rattle.coroutine_calls.specs.CallAnswers.Made.{Made, minus_one}
+use Rattle.coroutine_calls.specs.CallAnswers.Outside.{Outside}
+use Rattle.coroutine_calls.specs.BlockCalls.Freevec.{freevec}
+use Rattle.coroutine_calls.specs.BlockCalls.Getvec.{getvec}
+use Rattle.coroutine_calls.specs.ModuleCalls.AddModule.{add_module}
+use Rattle.coroutine_calls.specs.ModuleCalls.UnloadModule.{unload_module}
+use Rattle.coroutine_calls.specs.PacketCalls.Dqpkt.{dqpkt}
+use Rattle.coroutine_calls.specs.PacketCalls.Qpkt.{qpkt}
+use Rattle.coroutine_calls.specs.PacketCalls.TaskWait.{taskwait}
+use Rattle.coroutine_calls.specs.TaskCalls.ChangePri.{change_pri}
+use Rattle.coroutine_calls.specs.TaskCalls.CreateTask.{create_task}
+use Rattle.coroutine_calls.specs.TaskCalls.DeleteTask.{delete_task}
+use Rattle.coroutine_calls.specs.TaskCalls.HoldTask.{hold}
+use Rattle.coroutine_calls.specs.TaskCalls.ReleaseTask.{release}
+use Rattle.coroutine_calls.specs.TaskCalls.SetFlags.{set_flags}
+use Rattle.coroutine_calls.specs.TaskCalls.TestFlags.{test_flags}
 use Rattle.coroutine_calls.specs.CallCo.{callco}
 use Rattle.coroutine_calls.specs.CoWait.{cowait}
 use Rattle.coroutine_calls.specs.CreateCo.{createco}

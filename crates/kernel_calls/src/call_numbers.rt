@@ -2,7 +2,7 @@
 ghost use Rattle.std.specs.Prelude.{◌≡◌, ◌<◌};
 ghost use Rattle.kernel_calls.specs.CallNumbers.{argument, call_of, numbered};
 
-use task_calls::kernel_dispatch::{RootField, root};
+use coroutine_calls::kernel_dispatch::{RootField, root};
 use word_store::{Regs, Store, add};
 
 /// A kernel call. Its arguments are words.

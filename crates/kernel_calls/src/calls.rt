@@ -1,21 +1,19 @@
 // The kernel call that the running guest makes.
 ghost use Rattle.std.specs.Prelude.{◌≡◌, ◌<◌, ◌∷◌, Ok, [], length};
-ghost use Rattle.task_calls.specs.KernelDispatch.KernelModel.ChangedStore.{HasKeeper};
-ghost use Rattle.task_calls.specs.KernelDispatch.KernelModel.Lists.{Lists};
-ghost use Rattle.task_calls.specs.CallAnswers.Callers.{HasCaller};
-ghost use Rattle.task_calls.specs.CallAnswers.Made.{IsMade, plain_answer};
-ghost use Rattle.task_calls.specs.CreateTask.{create_task};
-ghost use Rattle.task_calls.specs.CallAnswers.Outside.{outside};
+ghost use Rattle.coroutine_calls.specs.KernelDispatch.KernelModel.ChangedStore.{HasKeeper};
+ghost use Rattle.coroutine_calls.specs.KernelDispatch.KernelModel.Lists.{Lists};
+ghost use Rattle.coroutine_calls.specs.CallAnswers.Callers.{HasCaller};
+ghost use Rattle.coroutine_calls.specs.CallAnswers.Made.{IsMade, plain_answer};
+ghost use Rattle.coroutine_calls.specs.TaskCalls.CreateTask.{create_task};
+ghost use Rattle.coroutine_calls.specs.CallAnswers.Outside.{outside};
 ghost use Rattle.kernel_calls.specs.Calls.{IsCalled, answered, kernel_call, made, regs_of_switch};
 
 use crate::call_numbers::{CallOutcome, KernelCall, read_call};
-use coroutine_calls::{callco, cowait, createco, deleteco, resumeco};
-use module_calls::{add_module, unload_module};
-use packet_calls::{dqpkt, qpkt, taskwait};
-use task_calls::kernel_dispatch::{EventLog, KindKeeper, TcbField, field};
-use task_calls::{
-    caller, change_pri, create_task, delete_task, freevec, getvec, hold_task, release_task,
-    set_flags, test_flags,
+use coroutine_calls::kernel_dispatch::{EventLog, KindKeeper, TcbField, field};
+use coroutine_calls::{
+    add_module, callco, caller, change_pri, cowait, create_task, createco, delete_task, deleteco,
+    dqpkt, freevec, getvec, hold_task, qpkt, release_task, resumeco, set_flags, taskwait,
+    test_flags, unload_module,
 };
 use tp_io::Output;
 use word_store::{Regs, Store, add, mul_div};

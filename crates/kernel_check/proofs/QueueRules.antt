@@ -3,16 +3,16 @@ use Rattle.std.proofs.Common.{◌≡◌, ◌≢◌, ◌↔◌, ◌⊎◌, inl, i
 use Rattle.std.specs.Prelude.{is_some}
 use Rattle.std.specs.List.{AllByRecursion}
 use Rattle.std.proofs.lemmas.Bool.{cases_eq, eq-eqb, false≢true, ne_eqb}
-use Rattle.kernel_dispatch.specs.PacketQueue.Queue.{no_queue}
-use Rattle.kernel_dispatch.specs.PacketQueue.QueueWords.{QueuedPacket}
-use Rattle.kernel_dispatch.specs.TaskBlock.TaskChain.{id_in, tasks_in}
-use Rattle.kernel_dispatch.specs.KernelModel.Lists.{address_of_task, has_task}
-use Rattle.kernel_dispatch.specs.KernelModel.Recovered.{lists_in, packet_in, packets_at, task_in}
-use Rattle.kernel_dispatch.specs.KernelModel.Task.{queue_head}
-use Rattle.kernel_dispatch.specs.KernelModel.ValidBlocks.{AreData}
-use Rattle.kernel_dispatch.specs.KernelModel.ValidTasks.{TasksStand}
-use Rattle.kernel_dispatch.specs.KernelModel.ValidQueues.{MayStand, NeverFall, Place}
-use Rattle.kernel_dispatch.specs.KernelModel.ValidQueues.Place.{Work}
+use Rattle.list_passes.specs.KernelDispatch.PacketQueue.Queue.{no_queue}
+use Rattle.list_passes.specs.KernelDispatch.PacketQueue.QueueWords.{QueuedPacket}
+use Rattle.list_passes.specs.KernelDispatch.TaskBlock.TaskChain.{id_in, tasks_in}
+use Rattle.list_passes.specs.KernelDispatch.KernelModel.Lists.{address_of_task, has_task}
+use Rattle.list_passes.specs.KernelDispatch.KernelModel.Recovered.{lists_in, packet_in, packets_at, task_in}
+use Rattle.list_passes.specs.KernelDispatch.KernelModel.Task.{queue_head}
+use Rattle.list_passes.specs.KernelDispatch.KernelModel.ValidBlocks.{AreData}
+use Rattle.list_passes.specs.KernelDispatch.KernelModel.ValidTasks.{TasksStand}
+use Rattle.list_passes.specs.KernelDispatch.KernelModel.ValidQueues.{MayStand, NeverFall, Place}
+use Rattle.list_passes.specs.KernelDispatch.KernelModel.ValidQueues.Place.{Work}
 use Rattle.list_passes.specs.ClaimedStore.{IsClaimed}
 use Rattle.list_passes.proofs.ClaimedWalks.{heads, of-tasks}
 use Rattle.list_passes.proofs.FreePackets.{free-is, key-is}

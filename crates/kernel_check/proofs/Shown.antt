@@ -1,2 +1,2 @@
 -- Lemmas of lower crates, shown to the crates above.
-pub mod AdoptionLaw
+pub use Rattle.list_passes.proofs.Shown.AdoptionLaw

@@ -2,12 +2,12 @@
 use Rattle.std.proofs.Common.{◌≡◌, ◌≢◌, ℕ, ◌+◌, ◌-◌, ◌<◌, ◌≤◌, ◌||◌, Bool, true, false, not, List, [], ◌∷◌, cond, eqb, get_or, refl, sym, ap, ◌∙◌, subst, arith}
 use Rattle.std.specs.List.{AllByRecursion}
 use Rattle.std.proofs.lemmas.Bool.{eqb-true, false≢true, ne_eqb}
-use Rattle.kernel_dispatch.specs.TaskBlock.HeldTasks.{address_with}
-use Rattle.kernel_dispatch.specs.KernelModel.Lists.{Lists, has_task}
-use Rattle.kernel_dispatch.specs.KernelModel.Recovered.{lists_in}
-use Rattle.kernel_dispatch.specs.KernelModel.Task.{Task, task_address, task_id}
-use Rattle.kernel_dispatch.specs.KernelModel.ValidTasks.{IsTask}
-use Rattle.kernel_dispatch.specs.KernelModel.Versions.{highest_id_of}
+use Rattle.list_passes.specs.KernelDispatch.TaskBlock.HeldTasks.{address_with}
+use Rattle.list_passes.specs.KernelDispatch.KernelModel.Lists.{Lists, has_task}
+use Rattle.list_passes.specs.KernelDispatch.KernelModel.Recovered.{lists_in}
+use Rattle.list_passes.specs.KernelDispatch.KernelModel.Task.{Task, task_address, task_id}
+use Rattle.list_passes.specs.KernelDispatch.KernelModel.ValidTasks.{IsTask}
+use Rattle.list_passes.specs.KernelDispatch.KernelModel.Versions.{highest_id_of}
 use Rattle.list_passes.proofs.ClaimedWalks.{of-tasks}
 use Rattle.list_passes.proofs.TaskTable.{holds-entries}
 use Rattle.list_passes.proofs.TaskWalks.{IsNumber, task-number}

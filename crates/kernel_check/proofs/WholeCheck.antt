@@ -3,16 +3,16 @@ use Rattle.std.proofs.Common.{◌≡◌, ◌↔◌, ℕ, Bool, true, false, List
 use Rattle.std.specs.List.{AllByRecursion}
 use Rattle.std.proofs.lemmas.Bool.{cases_lt, false≢true}
 use Rattle.std.proofs.lemmas.List.{get_or-replicate, get_or_past, length-replicate}
-use Rattle.kernel_dispatch.specs.KernelModel.HoldsLists.{HoldsLists}
-use Rattle.kernel_dispatch.specs.KernelModel.Recovered.{lists_in, task_in}
-use Rattle.kernel_dispatch.specs.TaskBlock.Lists.{coroutines_in}
-use Rattle.kernel_dispatch.specs.TaskBlock.TaskChain.{tasks_in}
-use Rattle.kernel_dispatch.specs.KernelModel.ValidTasks.{CoroutinesStand}
-use Rattle.kernel_dispatch.proofs.Shown.KernelModel.EachMember.{all-each}
-use Rattle.word_claims.specs.Marks.{is_open}
-use Rattle.adoption_law.specs.Passes.{HeadStands, Passes}
-use Rattle.adoption_law.proofs.AllPasses.{passes}
-use Rattle.adoption_law.proofs.ClaimableStore.{valid-claimable}
+use Rattle.list_passes.specs.KernelDispatch.KernelModel.HoldsLists.{HoldsLists}
+use Rattle.list_passes.specs.KernelDispatch.KernelModel.Recovered.{lists_in, task_in}
+use Rattle.list_passes.specs.KernelDispatch.TaskBlock.Lists.{coroutines_in}
+use Rattle.list_passes.specs.KernelDispatch.TaskBlock.TaskChain.{tasks_in}
+use Rattle.list_passes.specs.KernelDispatch.KernelModel.ValidTasks.{CoroutinesStand}
+use Rattle.list_passes.proofs.Shown.KernelDispatch.KernelModel.EachMember.{all-each}
+use Rattle.list_passes.specs.WordClaims.Marks.{is_open}
+use Rattle.list_passes.specs.AdoptionLaw.Passes.{HeadStands, Passes}
+use Rattle.list_passes.proofs.Shown.AdoptionLaw.AllPasses.{passes}
+use Rattle.list_passes.proofs.Shown.AdoptionLaw.ClaimableStore.{valid-claimable}
 use Rattle.list_passes.specs.ClaimedStore.{IsClaimed}
 use Rattle.list_passes.specs.Frames.{HasParent, OwnsCoroutines}
 use Rattle.list_passes.proofs.ClaimedWalks.{of-tasks}

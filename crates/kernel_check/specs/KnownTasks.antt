@@ -1,12 +1,12 @@
 -- What the pass over the queues may rest on.
 use Rattle.std.specs.Prelude.{ℕ, List}
-use Rattle.kernel_dispatch.specs.OwnedWords.Owned.{Holds}
-use Rattle.kernel_dispatch.specs.TaskBlock.ChainWords.{entries}
-use Rattle.kernel_dispatch.specs.TaskBlock.HeldTasks.{address_with}
-use Rattle.kernel_dispatch.specs.KernelModel.Recovered.{lists_in}
-use Rattle.kernel_dispatch.specs.KernelModel.Task.{task_address, task_id}
-use Rattle.kernel_dispatch.specs.KernelModel.ValidTasks.{TasksStand}
-use Rattle.kernel_dispatch.specs.KernelModel.Versions.{highest_id_of}
+use Rattle.list_passes.specs.KernelDispatch.OwnedWords.Owned.{Holds}
+use Rattle.list_passes.specs.KernelDispatch.TaskBlock.ChainWords.{entries}
+use Rattle.list_passes.specs.KernelDispatch.TaskBlock.HeldTasks.{address_with}
+use Rattle.list_passes.specs.KernelDispatch.KernelModel.Recovered.{lists_in}
+use Rattle.list_passes.specs.KernelDispatch.KernelModel.Task.{task_address, task_id}
+use Rattle.list_passes.specs.KernelDispatch.KernelModel.ValidTasks.{TasksStand}
+use Rattle.list_passes.specs.KernelDispatch.KernelModel.Versions.{highest_id_of}
 use Rattle.list_passes.specs.ClaimedStore.{IsClaimed}
 
 -- All words were claimed, the tasks stand, and the table leads to each of them.

@@ -4,4 +4,4 @@ pub mod ClaimedQueue
 pub mod Reports
 pub mod ConsoleLine
 -- shown to the crates above
-pub use Rattle.adoption_law.specs as AdoptionLaw
+pub use Rattle.list_passes.specs.AdoptionLaw

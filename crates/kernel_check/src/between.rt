@@ -1,16 +1,16 @@
 // What holds between steps besides, of the lists of a store that holds the words of valid ones.
 ghost use Rattle.std.specs.Prelude.{◌≡◌, ◌↔◌, ◌/◌, IsTrue};
 ghost use Rattle.std.specs.List.{AllByRecursion};
-ghost use Rattle.kernel_dispatch.specs.LinkedList.Walk.{CanWalk};
-ghost use Rattle.kernel_dispatch.specs.TaskBlock.RootWords.{first_task};
-ghost use Rattle.kernel_dispatch.specs.TaskBlock.TaskChain.{task_link};
-ghost use Rattle.kernel_dispatch.specs.KernelModel.Between.{FirstRuns, RegistersStand, first_ready};
-ghost use Rattle.kernel_dispatch.specs.KernelModel.HoldsLists.{HoldsLists};
-ghost use Rattle.kernel_dispatch.specs.KernelModel.Recovered.{lists_in, task_in};
-ghost use Rattle.kernel_dispatch.specs.KernelModel.Running.{RunsAs, RunsIf};
+ghost use Rattle.list_passes.specs.KernelDispatch.LinkedList.Walk.{CanWalk};
+ghost use Rattle.list_passes.specs.KernelDispatch.TaskBlock.RootWords.{first_task};
+ghost use Rattle.list_passes.specs.KernelDispatch.TaskBlock.TaskChain.{task_link};
+ghost use Rattle.list_passes.specs.KernelDispatch.KernelModel.Between.{FirstRuns, RegistersStand, first_ready};
+ghost use Rattle.list_passes.specs.KernelDispatch.KernelModel.HoldsLists.{HoldsLists};
+ghost use Rattle.list_passes.specs.KernelDispatch.KernelModel.Recovered.{lists_in, task_in};
+ghost use Rattle.list_passes.specs.KernelDispatch.KernelModel.Running.{RunsAs, RunsIf};
 
-use kernel_dispatch::numbers::{FIRST_GUEST, WAITS};
-use kernel_dispatch::{RootField, TcbField, choose, field, root, tasks};
+use list_passes::kernel_dispatch::numbers::{FIRST_GUEST, WAITS};
+use list_passes::kernel_dispatch::{RootField, TcbField, choose, field, root, tasks};
 use list_passes::running_of;
 use word_store::{Regs, Store};
 

@@ -1,14 +1,14 @@
 // Whether the console's line is as it must be, between steps.
 ghost use Rattle.std.specs.Prelude.{◌≡◌, ◌↔◌, [], IsTrue, is_some, true};
-ghost use Rattle.kernel_dispatch.specs.KernelModel.Between.{ConsoleStands};
-ghost use Rattle.kernel_dispatch.specs.KernelModel.HoldsLists.{HoldsLists};
-ghost use Rattle.kernel_dispatch.specs.KernelModel.Kernel.{no_line};
-ghost use Rattle.kernel_dispatch.specs.KernelModel.Recovered.{lists_in};
+ghost use Rattle.list_passes.specs.KernelDispatch.KernelModel.Between.{ConsoleStands};
+ghost use Rattle.list_passes.specs.KernelDispatch.KernelModel.HoldsLists.{HoldsLists};
+ghost use Rattle.list_passes.specs.KernelDispatch.KernelModel.Kernel.{no_line};
+ghost use Rattle.list_passes.specs.KernelDispatch.KernelModel.Recovered.{lists_in};
 ghost use Rattle.kernel_check.specs.ConsoleLine.{console_of};
 
-use kernel_dispatch::NO_QUEUE;
-use kernel_dispatch::numbers::{KEY_PACKET, PENDING_HEAD};
 use list_passes::has_residents;
+use list_passes::kernel_dispatch::NO_QUEUE;
+use list_passes::kernel_dispatch::numbers::{KEY_PACKET, PENDING_HEAD};
 use word_store::{Store, word};
 
 /// The most bytes of the line.

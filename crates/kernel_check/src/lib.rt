@@ -16,5 +16,5 @@ pub use console_line::console_stands;
 pub use fault_reports::faults_stand;
 
 // Shown to the crates above.
-pub use kernel_dispatch::{RootField, root};
+pub use list_passes::kernel_dispatch::{RootField, root};
 pub use list_passes::{has_residents, highest_of};

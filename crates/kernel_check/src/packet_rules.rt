@@ -1,15 +1,15 @@
 // Whether a packet may stand where it is queued.
 ghost use Rattle.std.specs.Prelude.{◌≡◌, ◌↔◌, IsTrue, true};
-ghost use Rattle.kernel_dispatch.specs.KernelModel.Lists.{has_task};
-ghost use Rattle.kernel_dispatch.specs.KernelModel.Recovered.{lists_in, packet_in};
-ghost use Rattle.kernel_dispatch.specs.KernelModel.ValidBlocks.{AreData};
-ghost use Rattle.kernel_dispatch.specs.KernelModel.ValidQueues.{HasSender, IsFaultPacket, IsKeyPacket, IsKeyPlace, MayStand, Place, is_fault_packet, is_key_packet};
-ghost use Rattle.kernel_dispatch.specs.KernelModel.ValidQueues.Place.{Work};
+ghost use Rattle.list_passes.specs.KernelDispatch.KernelModel.Lists.{has_task};
+ghost use Rattle.list_passes.specs.KernelDispatch.KernelModel.Recovered.{lists_in, packet_in};
+ghost use Rattle.list_passes.specs.KernelDispatch.KernelModel.ValidBlocks.{AreData};
+ghost use Rattle.list_passes.specs.KernelDispatch.KernelModel.ValidQueues.{HasSender, IsFaultPacket, IsKeyPacket, IsKeyPlace, MayStand, Place, is_fault_packet, is_key_packet};
+ghost use Rattle.list_passes.specs.KernelDispatch.KernelModel.ValidQueues.Place.{Work};
 ghost use Rattle.kernel_check.specs.KnownTasks.{AreTasksKnown};
 ghost use Rattle.kernel_check.specs.Places.{place_of};
 
 use crate::places::QueuePlace;
-use kernel_dispatch::numbers::{
+use list_passes::kernel_dispatch::numbers::{
     CONSOLE, FAULT_KIND, FAULT_PACKET, FIRST_GUEST, KEY_PACKET, KEYBOARD, KIND, REPORTER, RES1,
     RES2, SENDER, TABLE,
 };

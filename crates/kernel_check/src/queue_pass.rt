@@ -1,15 +1,15 @@
 // The queued packets.
 ghost use Rattle.std.specs.Prelude.{◌≡◌, ◌↔◌, ◌+◌, ◌≤◌, ◌&&◌, IsTrue, is_some, length, not, slice_index};
 ghost use Rattle.std.specs.List.{AllByRecursion};
-ghost use Rattle.kernel_dispatch.specs.PacketQueue.Queue.{HasQueue};
-ghost use Rattle.kernel_dispatch.specs.TaskBlock.RootWords.{root_address};
-ghost use Rattle.kernel_dispatch.specs.TaskBlock.declared.roots.RootField.TheVariants.{Running};
-ghost use Rattle.kernel_dispatch.specs.KernelModel.Lists.{address_of_task, has_task, is_queued};
-ghost use Rattle.kernel_dispatch.specs.KernelModel.Recovered.{lists_in, packet_in, packets_at, task_in};
-ghost use Rattle.kernel_dispatch.specs.KernelModel.Residents.{fault_packet, key_packet};
-ghost use Rattle.kernel_dispatch.specs.KernelModel.Task.{queue_head};
-ghost use Rattle.kernel_dispatch.specs.KernelModel.ValidQueues.{MayStand, NeverFall, Place, QueuesStand};
-ghost use Rattle.kernel_dispatch.specs.KernelModel.ValidQueues.Place.{Clock, Keyboard, Output, Pending, Work};
+ghost use Rattle.list_passes.specs.KernelDispatch.PacketQueue.Queue.{HasQueue};
+ghost use Rattle.list_passes.specs.KernelDispatch.TaskBlock.RootWords.{root_address};
+ghost use Rattle.list_passes.specs.KernelDispatch.TaskBlock.declared.roots.RootField.TheVariants.{Running};
+ghost use Rattle.list_passes.specs.KernelDispatch.KernelModel.Lists.{address_of_task, has_task, is_queued};
+ghost use Rattle.list_passes.specs.KernelDispatch.KernelModel.Recovered.{lists_in, packet_in, packets_at, task_in};
+ghost use Rattle.list_passes.specs.KernelDispatch.KernelModel.Residents.{fault_packet, key_packet};
+ghost use Rattle.list_passes.specs.KernelDispatch.KernelModel.Task.{queue_head};
+ghost use Rattle.list_passes.specs.KernelDispatch.KernelModel.ValidQueues.{MayStand, NeverFall, Place, QueuesStand};
+ghost use Rattle.list_passes.specs.KernelDispatch.KernelModel.ValidQueues.Place.{Clock, Keyboard, Output, Pending, Work};
 ghost use Rattle.kernel_check.specs.KnownTasks.{AreTasksKnown};
 ghost use Rattle.kernel_check.specs.ClaimedQueue.{IsClaimedQueue};
 ghost use Rattle.kernel_check.specs.Places.{place_of};
@@ -17,9 +17,11 @@ ghost use Rattle.kernel_check.specs.Places.{place_of};
 use crate::packet_rules::{is_task, packet_stands};
 use crate::places::QueuePlace;
 use crate::queued::is_queued;
-use kernel_dispatch::numbers::{FAULT_PACKET, KEY_PACKET, PENDING_HEAD, REPORTER, RES2};
-use kernel_dispatch::{NO_QUEUE, RootField, TcbField, field, packets, tasks};
 use list_passes::has_residents;
+use list_passes::kernel_dispatch::numbers::{
+    FAULT_PACKET, KEY_PACKET, PENDING_HEAD, REPORTER, RES2,
+};
+use list_passes::kernel_dispatch::{NO_QUEUE, RootField, TcbField, field, packets, tasks};
 use word_store::{Store, word, word_at};
 
 /// Whether each queued packet may stand where it does, due ticks never fall along the clock's queue, and the packets of residents

@@ -1,14 +1,14 @@
 // Whether a packet is on a queue.
 ghost use Rattle.std.specs.Prelude.{◌≡◌, ◌==◌};
 ghost use Rattle.std.specs.List.{flat_map, list_any};
-ghost use Rattle.kernel_dispatch.specs.PacketQueue.Queue.{HasQueue, queue_at};
-ghost use Rattle.kernel_dispatch.specs.KernelModel.Lists.{is_queued};
-ghost use Rattle.kernel_dispatch.specs.KernelModel.Recovered.{lists_in};
+ghost use Rattle.list_passes.specs.KernelDispatch.PacketQueue.Queue.{HasQueue, queue_at};
+ghost use Rattle.list_passes.specs.KernelDispatch.KernelModel.Lists.{is_queued};
+ghost use Rattle.list_passes.specs.KernelDispatch.KernelModel.Recovered.{lists_in};
 ghost use Rattle.list_passes.specs.ClaimedStore.{IsClaimed};
 
-use kernel_dispatch::numbers::PENDING_HEAD;
-use kernel_dispatch::{RootField, TcbField, packets, tasks};
 use list_passes::has_residents;
+use list_passes::kernel_dispatch::numbers::PENDING_HEAD;
+use list_passes::kernel_dispatch::{RootField, TcbField, packets, tasks};
 use word_store::Store;
 
 /// Whether the packet at p is on one of the queues. It looks at all packets.

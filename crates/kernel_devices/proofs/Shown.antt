@@ -1,2 +1,2 @@
 -- Lemmas of lower crates, shown to the crates above.
-pub mod ClockDevice
+pub use Rattle.tty_device.proofs.Shown.ClockDevice

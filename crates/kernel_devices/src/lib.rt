@@ -2,5 +2,4 @@
 #![tactic(auto)]
 
 // Shown to the crates above.
-pub use clock_device::tick;
-pub use tty_device::{Tty, finish_output};
+pub use tty_device::{Tty, finish_output, tick};

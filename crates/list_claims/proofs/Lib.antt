@@ -4,3 +4,4 @@ pub mod JoinedClaims
 pub mod ListAnswers
 pub mod TaskWalk
 pub mod OutwardWalk
+pub mod Shown

@@ -13,3 +13,7 @@ pub use active::{PARENT, claim_active};
 pub use blocks::{are_tiled, open_blocks};
 pub use lists::claim_lists;
 pub use search::has_task;
+
+// Shown to the crates above.
+pub use kernel_dispatch;
+pub use word_claims::Claims;

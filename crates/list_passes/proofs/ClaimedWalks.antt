@@ -1,24 +1,24 @@
 -- Lists whose words were claimed can be walked.
 use Rattle.std.proofs.Common.{◌≡◌, ◌↔◌, ℕ, ◌+◌, ◌-◌, ◌<◌, ◌≤◌, ◌||◌, Bool, true, List, [], ◌∷◌, length, map, refl, sym, ap, subst, arith}
 use Rattle.std.specs.List.{AllByRecursion, flat_map, list_any}
-use Rattle.kernel_dispatch.specs.LinkedList.Chain.{IsChain}
+use Rattle.adoption_law.specs.KernelDispatch.LinkedList.Chain.{IsChain}
 use Rattle.word_store.specs.Count.{times, words_of}
-use Rattle.kernel_dispatch.specs.LinkedList.Walk.{CanWalk}
+use Rattle.adoption_law.specs.KernelDispatch.LinkedList.Walk.{CanWalk}
 use Rattle.word_store.proofs.Counts.{times-append, times-within, times-words_more}
-use Rattle.kernel_dispatch.specs.GetvecChain.Tiling.{Follow, blocks_in}
-use Rattle.kernel_dispatch.proofs.Shown.GetvecChain.Tilings.{IsTiled-inside}
-use Rattle.kernel_dispatch.specs.PacketQueue.Queue.{link_of, packet_size, queue_at}
-use Rattle.kernel_dispatch.specs.TaskBlock.Lists.{coroutine_link, coroutines_in, first_coroutine}
-use Rattle.kernel_dispatch.specs.TaskBlock.TaskChain.{task_link, tasks_in}
-use Rattle.kernel_dispatch.specs.Coroutines.CoroutineWords.{coroutine_size}
-use Rattle.kernel_dispatch.specs.KernelModel.KernelRanges.{task_size_in}
-use Rattle.kernel_dispatch.specs.KernelModel.Recovered.{lists_in, task_in}
-use Rattle.kernel_dispatch.specs.KernelModel.Task.{Task, queue_head}
-use Rattle.kernel_dispatch.proofs.Shown.KernelModel.BlockStarts.{Tiles-Follow}
-use Rattle.list_claims.specs.BlockData.{is_used_data}
-use Rattle.list_claims.specs.ListWords.{all_words, chain_words, coroutine_words_at, device_rest, module_rest, module_words_in, queue_words_at, task_list_words, task_rest}
-use Rattle.list_claims.specs.ListEnds.{TaskListsEnd}
-use Rattle.list_claims.proofs.ListAnswers.{task-size}
+use Rattle.adoption_law.specs.KernelDispatch.GetvecChain.Tiling.{Follow, blocks_in}
+use Rattle.adoption_law.proofs.Shown.KernelDispatch.GetvecChain.Tilings.{IsTiled-inside}
+use Rattle.adoption_law.specs.KernelDispatch.PacketQueue.Queue.{link_of, packet_size, queue_at}
+use Rattle.adoption_law.specs.KernelDispatch.TaskBlock.Lists.{coroutine_link, coroutines_in, first_coroutine}
+use Rattle.adoption_law.specs.KernelDispatch.TaskBlock.TaskChain.{task_link, tasks_in}
+use Rattle.adoption_law.specs.KernelDispatch.Coroutines.CoroutineWords.{coroutine_size}
+use Rattle.adoption_law.specs.KernelDispatch.KernelModel.KernelRanges.{task_size_in}
+use Rattle.adoption_law.specs.KernelDispatch.KernelModel.Recovered.{lists_in, task_in}
+use Rattle.adoption_law.specs.KernelDispatch.KernelModel.Task.{Task, queue_head}
+use Rattle.adoption_law.proofs.Shown.KernelDispatch.KernelModel.BlockStarts.{Tiles-Follow}
+use Rattle.adoption_law.specs.ListClaims.BlockData.{is_used_data}
+use Rattle.adoption_law.specs.ListClaims.ListWords.{all_words, chain_words, coroutine_words_at, device_rest, module_rest, module_words_in, queue_words_at, task_list_words, task_rest}
+use Rattle.adoption_law.specs.ListClaims.ListEnds.{TaskListsEnd}
+use Rattle.adoption_law.proofs.Shown.ListClaims.ListAnswers.{task-size}
 use Rattle.adoption_law.proofs.BlockData.{lies-in-data}
 use Rattle.adoption_law.proofs.ClaimableStore.{counted}
 use Rattle.list_passes.specs.ClaimedStore.{IsClaimed}

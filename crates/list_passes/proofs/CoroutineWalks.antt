@@ -5,20 +5,20 @@ use Rattle.std.specs.List.{AllByRecursion}
 use Rattle.std.proofs.lemmas.Bool.{cases_eq, cases_lt, eq-eqb, eqb-true, false≢true, ne_eqb}
 use Rattle.std.proofs.lemmas.Bool.Decides.{nat_tests}
 use Rattle.word_store.specs.Count.{times}
-use Rattle.kernel_dispatch.specs.LinkedList.Places.{has}
-use Rattle.kernel_dispatch.proofs.Shown.LinkedList.AllMembers.{all-has, all-members}
-use Rattle.kernel_dispatch.proofs.Shown.LinkedList.Members.{has-times, times-has}
-use Rattle.kernel_dispatch.specs.GetvecChain.Tiling.{blocks_in}
-use Rattle.kernel_dispatch.specs.TaskBlock.Lists.{coroutines_in}
-use Rattle.kernel_dispatch.specs.Coroutines.Active.{active_in}
-use Rattle.kernel_dispatch.specs.Coroutines.HeldCoroutines.{address_of}
-use Rattle.kernel_dispatch.specs.KernelModel.BlockUse.{coroutine_addresses}
-use Rattle.kernel_dispatch.specs.KernelModel.Recovered.{coroutine_in, lists_in, task_in}
-use Rattle.kernel_dispatch.specs.KernelModel.ValidBlocks.{HasBlock}
-use Rattle.kernel_dispatch.specs.KernelModel.ValidTasks.{CoroutinesStand, IsCoroutine}
-use Rattle.word_claims.specs.Marks.{AreClaimed, AreOpen, IsSet, is_open}
-use Rattle.word_claims.proofs.ClaimedWords.{open-low}
-use Rattle.list_claims.specs.ListWords.{Claimable}
+use Rattle.adoption_law.specs.KernelDispatch.LinkedList.Places.{has}
+use Rattle.adoption_law.proofs.Shown.KernelDispatch.LinkedList.AllMembers.{all-has, all-members}
+use Rattle.adoption_law.proofs.Shown.KernelDispatch.LinkedList.Members.{has-times, times-has}
+use Rattle.adoption_law.specs.KernelDispatch.GetvecChain.Tiling.{blocks_in}
+use Rattle.adoption_law.specs.KernelDispatch.TaskBlock.Lists.{coroutines_in}
+use Rattle.adoption_law.specs.KernelDispatch.Coroutines.Active.{active_in}
+use Rattle.adoption_law.specs.KernelDispatch.Coroutines.HeldCoroutines.{address_of}
+use Rattle.adoption_law.specs.KernelDispatch.KernelModel.BlockUse.{coroutine_addresses}
+use Rattle.adoption_law.specs.KernelDispatch.KernelModel.Recovered.{coroutine_in, lists_in, task_in}
+use Rattle.adoption_law.specs.KernelDispatch.KernelModel.ValidBlocks.{HasBlock}
+use Rattle.adoption_law.specs.KernelDispatch.KernelModel.ValidTasks.{CoroutinesStand, IsCoroutine}
+use Rattle.adoption_law.specs.WordClaims.Marks.{AreClaimed, AreOpen, IsSet, is_open}
+use Rattle.adoption_law.proofs.Shown.WordClaims.ClaimedWords.{open-low}
+use Rattle.adoption_law.specs.ListClaims.ListWords.{Claimable}
 use Rattle.list_passes.specs.StartMarks.{IsShut, OpensMembers}
 use Rattle.list_passes.specs.CanPass.{CanPass}
 use Rattle.list_passes.specs.Frames.{TellsParent}

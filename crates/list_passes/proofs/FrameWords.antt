@@ -4,21 +4,21 @@ use Rattle.std.specs.List.{AllByRecursion}
 use Rattle.std.proofs.lemmas.Bool.{cases_eq, eq-eqb, eqb-true, false≢true, ne_eqb}
 use Rattle.word_store.specs.Count.{times}
 use Rattle.word_store.proofs.Counts.{IsApart-cons, hit-other}
-use Rattle.kernel_dispatch.specs.LinkedList.Chain.{IsChain}
-use Rattle.kernel_dispatch.specs.LinkedList.Places.{has}
-use Rattle.kernel_dispatch.proofs.Shown.LinkedList.Chains.{length-apart}
-use Rattle.kernel_dispatch.proofs.Shown.LinkedList.AllMembers.{all-has}
-use Rattle.kernel_dispatch.proofs.Shown.KernelModel.EachMember.{all-each}
-use Rattle.kernel_dispatch.specs.OwnedWords.LinkedWords.{headed_words, linked_words}
-use Rattle.kernel_dispatch.specs.OwnedWords.Owned.{Holds}
-use Rattle.kernel_dispatch.proofs.Shown.OwnedWords.OwnedWords.{Holds-append, Holds-left, Holds-right}
-use Rattle.kernel_dispatch.specs.TaskBlock.Lists.{coroutine_link, coroutines_in, first_coroutine}
-use Rattle.kernel_dispatch.specs.Coroutines.Active.{active_in, outwards}
-use Rattle.kernel_dispatch.specs.Coroutines.CoroutineExchanges.{words_of_coroutines}
-use Rattle.kernel_dispatch.specs.Coroutines.HeldCoroutines.{address_of, coroutine_words, first_active, parent_of}
-use Rattle.kernel_dispatch.specs.Coroutines.CoroutineWords.{current_cell}
-use Rattle.kernel_dispatch.specs.KernelModel.BlockUse.{coroutine_addresses}
-use Rattle.kernel_dispatch.specs.KernelModel.Recovered.{coroutine_in, coroutines_of, task_in}
+use Rattle.adoption_law.specs.KernelDispatch.LinkedList.Chain.{IsChain}
+use Rattle.adoption_law.specs.KernelDispatch.LinkedList.Places.{has}
+use Rattle.adoption_law.proofs.Shown.KernelDispatch.LinkedList.Chains.{length-apart}
+use Rattle.adoption_law.proofs.Shown.KernelDispatch.LinkedList.AllMembers.{all-has}
+use Rattle.adoption_law.proofs.Shown.KernelDispatch.KernelModel.EachMember.{all-each}
+use Rattle.adoption_law.specs.KernelDispatch.OwnedWords.LinkedWords.{headed_words, linked_words}
+use Rattle.adoption_law.specs.KernelDispatch.OwnedWords.Owned.{Holds}
+use Rattle.adoption_law.proofs.Shown.KernelDispatch.OwnedWords.OwnedWords.{Holds-append, Holds-left, Holds-right}
+use Rattle.adoption_law.specs.KernelDispatch.TaskBlock.Lists.{coroutine_link, coroutines_in, first_coroutine}
+use Rattle.adoption_law.specs.KernelDispatch.Coroutines.Active.{active_in, outwards}
+use Rattle.adoption_law.specs.KernelDispatch.Coroutines.CoroutineExchanges.{words_of_coroutines}
+use Rattle.adoption_law.specs.KernelDispatch.Coroutines.HeldCoroutines.{address_of, coroutine_words, first_active, parent_of}
+use Rattle.adoption_law.specs.KernelDispatch.Coroutines.CoroutineWords.{current_cell}
+use Rattle.adoption_law.specs.KernelDispatch.KernelModel.BlockUse.{coroutine_addresses}
+use Rattle.adoption_law.specs.KernelDispatch.KernelModel.Recovered.{coroutine_in, coroutines_of, task_in}
 use Rattle.list_passes.specs.CanPass.{CanPass}
 use Rattle.list_passes.specs.Frames.{HasFrame, HasParent, OwnsCoroutines, TellsParent}
 use Rattle.list_passes.proofs.CoroutineWalks.{members-read}

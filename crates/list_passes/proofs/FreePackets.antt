@@ -2,16 +2,16 @@
 use Rattle.std.proofs.Common.{◌≡◌, ◌≢◌, ◌↔◌, ℕ, ◌&&◌, Bool, true, false, Some, None, List, [], ◌∷◌, ◌++◌, cond, eqb, get_or, map, refl, sym, ap, ◌∙◌, subst}
 use Rattle.std.specs.List.{AllByRecursion, list_any}
 use Rattle.std.proofs.lemmas.Bool.{eq-eqb, ne_eqb}
-use Rattle.kernel_dispatch.specs.LinkedList.Chain.{IsChain}
-use Rattle.kernel_dispatch.specs.OwnedWords.Owned.{Holds, Pairs}
-use Rattle.kernel_dispatch.proofs.Shown.OwnedWords.OwnedWords.{Holds-append, Holds-left, Holds-right}
-use Rattle.kernel_dispatch.specs.PacketQueue.Queue.{link_of, no_queue, queue_at}
-use Rattle.kernel_dispatch.specs.PacketQueue.QueueWords.{address_of, other_words, queue_words}
-use Rattle.kernel_dispatch.specs.TaskBlock.TaskChain.{id_in, tasks_in}
-use Rattle.kernel_dispatch.specs.KernelModel.KernelRanges.{has_residents}
-use Rattle.kernel_dispatch.specs.KernelModel.Lists.{has_task}
-use Rattle.kernel_dispatch.specs.KernelModel.Recovered.{lists_in, packet_in, packets_at}
-use Rattle.kernel_dispatch.specs.KernelModel.Residents.{fault_packet_words, key_arguments, key_words, resident_words}
+use Rattle.adoption_law.specs.KernelDispatch.LinkedList.Chain.{IsChain}
+use Rattle.adoption_law.specs.KernelDispatch.OwnedWords.Owned.{Holds, Pairs}
+use Rattle.adoption_law.proofs.Shown.KernelDispatch.OwnedWords.OwnedWords.{Holds-append, Holds-left, Holds-right}
+use Rattle.adoption_law.specs.KernelDispatch.PacketQueue.Queue.{link_of, no_queue, queue_at}
+use Rattle.adoption_law.specs.KernelDispatch.PacketQueue.QueueWords.{address_of, other_words, queue_words}
+use Rattle.adoption_law.specs.KernelDispatch.TaskBlock.TaskChain.{id_in, tasks_in}
+use Rattle.adoption_law.specs.KernelDispatch.KernelModel.KernelRanges.{has_residents}
+use Rattle.adoption_law.specs.KernelDispatch.KernelModel.Lists.{has_task}
+use Rattle.adoption_law.specs.KernelDispatch.KernelModel.Recovered.{lists_in, packet_in, packets_at}
+use Rattle.adoption_law.specs.KernelDispatch.KernelModel.Residents.{fault_packet_words, key_arguments, key_words, resident_words}
 use Rattle.adoption_law.proofs.HeldChains.{chain-held}
 use Rattle.list_passes.specs.ClaimedStore.{IsClaimed}
 use Rattle.list_passes.proofs.Residents.{has-id}

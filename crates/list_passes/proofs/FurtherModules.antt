@@ -3,14 +3,14 @@ use Rattle.std.proofs.Common.{◌≡◌, ◌↔◌, ℕ, zero, suc, ◌+◌, ◌
 use Rattle.std.specs.Prelude.{drop, filter, slice_range}
 use Rattle.std.proofs.lemmas.Bool.{eq-eqb, eqb-true, false≢true}
 use Rattle.word_store.proofs.Rows.{range_first, range_none}
-use Rattle.kernel_dispatch.specs.OwnedWords.LinkedWords.{first_of}
-use Rattle.kernel_dispatch.specs.OwnedWords.Owned.{Holds, row_from}
-use Rattle.kernel_dispatch.proofs.Shown.HunkLoader.GlobalLists.{length-range}
-use Rattle.kernel_dispatch.specs.TaskBlock.TaskChain.{id_in}
-use Rattle.kernel_dispatch.specs.TaskBlock.Versions.{head_words}
-use Rattle.kernel_dispatch.specs.KernelModel.Recovered.{lists_in, task_in}
-use Rattle.kernel_dispatch.specs.KernelModel.Task.{fault_words, filled, is_guest_id}
-use Rattle.kernel_dispatch.specs.KernelModel.Versions.{head_words_of}
+use Rattle.adoption_law.specs.KernelDispatch.OwnedWords.LinkedWords.{first_of}
+use Rattle.adoption_law.specs.KernelDispatch.OwnedWords.Owned.{Holds, row_from}
+use Rattle.adoption_law.proofs.Shown.KernelDispatch.HunkLoader.GlobalLists.{length-range}
+use Rattle.adoption_law.specs.KernelDispatch.TaskBlock.TaskChain.{id_in}
+use Rattle.adoption_law.specs.KernelDispatch.TaskBlock.Versions.{head_words}
+use Rattle.adoption_law.specs.KernelDispatch.KernelModel.Recovered.{lists_in, task_in}
+use Rattle.adoption_law.specs.KernelDispatch.KernelModel.Task.{fault_words, filled, is_guest_id}
+use Rattle.adoption_law.specs.KernelDispatch.KernelModel.Versions.{head_words_of}
 use Rattle.list_passes.specs.CanPass.{CanPass}
 use Rattle.list_passes.specs.TaskRules.{HasWord, IsDense}
 use Rattle.list_passes.proofs.GuestWords.{filter-some, head-is}

@@ -4,24 +4,24 @@ use Rattle.std.specs.Prelude.{Some, drop, filter, slice_range}
 use Rattle.std.proofs.lemmas.List.{length-take}
 use Rattle.std.specs.List.{AllByRecursion}
 use Rattle.std.proofs.lemmas.Bool.{cases_eq, eq-eqb, eqb-true, false≢true, ne_eqb}
-use Rattle.kernel_dispatch.specs.LinkedList.Chain.{IsChain}
-use Rattle.kernel_dispatch.specs.LinkedList.Places.{has}
-use Rattle.kernel_dispatch.proofs.Shown.LinkedList.AllMembers.{all-has}
-use Rattle.kernel_dispatch.proofs.Shown.LinkedList.Walks.{walk-ends}
-use Rattle.kernel_dispatch.specs.GetvecChain.Tiling.{blocks_in}
-use Rattle.kernel_dispatch.specs.HunkLoader.HeldModules.{module_address}
-use Rattle.kernel_dispatch.specs.TaskBlock.Lists.{coroutine_link, coroutines_in, first_coroutine, modules_in}
-use Rattle.kernel_dispatch.specs.TaskBlock.TaskChain.{id_in}
-use Rattle.kernel_dispatch.specs.TaskBlock.Versions.{head_words}
-use Rattle.kernel_dispatch.specs.Coroutines.Active.{outwards}
-use Rattle.kernel_dispatch.specs.KernelModel.KernelRanges.{IsModuleIn}
-use Rattle.kernel_dispatch.specs.KernelModel.Recovered.{coroutine_in, lists_in, module_in, task_in}
-use Rattle.kernel_dispatch.specs.KernelModel.Task.{is_guest_id}
-use Rattle.kernel_dispatch.specs.KernelModel.ValidBlocks.{HasBlock}
-use Rattle.kernel_dispatch.specs.KernelModel.ValidTasks.{IsResident, resident_place}
-use Rattle.kernel_dispatch.specs.KernelModel.Versions.{head_words_of, most_modules_of}
-use Rattle.word_claims.specs.Marks.{is_open}
-use Rattle.word_claims.proofs.ClaimedWords.{open-low}
+use Rattle.adoption_law.specs.KernelDispatch.LinkedList.Chain.{IsChain}
+use Rattle.adoption_law.specs.KernelDispatch.LinkedList.Places.{has}
+use Rattle.adoption_law.proofs.Shown.KernelDispatch.LinkedList.AllMembers.{all-has}
+use Rattle.adoption_law.proofs.Shown.KernelDispatch.LinkedList.Walks.{walk-ends}
+use Rattle.adoption_law.specs.KernelDispatch.GetvecChain.Tiling.{blocks_in}
+use Rattle.adoption_law.specs.KernelDispatch.HunkLoader.HeldModules.{module_address}
+use Rattle.adoption_law.specs.KernelDispatch.TaskBlock.Lists.{coroutine_link, coroutines_in, first_coroutine, modules_in}
+use Rattle.adoption_law.specs.KernelDispatch.TaskBlock.TaskChain.{id_in}
+use Rattle.adoption_law.specs.KernelDispatch.TaskBlock.Versions.{head_words}
+use Rattle.adoption_law.specs.KernelDispatch.Coroutines.Active.{outwards}
+use Rattle.adoption_law.specs.KernelDispatch.KernelModel.KernelRanges.{IsModuleIn}
+use Rattle.adoption_law.specs.KernelDispatch.KernelModel.Recovered.{coroutine_in, lists_in, module_in, task_in}
+use Rattle.adoption_law.specs.KernelDispatch.KernelModel.Task.{is_guest_id}
+use Rattle.adoption_law.specs.KernelDispatch.KernelModel.ValidBlocks.{HasBlock}
+use Rattle.adoption_law.specs.KernelDispatch.KernelModel.ValidTasks.{IsResident, resident_place}
+use Rattle.adoption_law.specs.KernelDispatch.KernelModel.Versions.{head_words_of, most_modules_of}
+use Rattle.adoption_law.specs.WordClaims.Marks.{is_open}
+use Rattle.adoption_law.proofs.Shown.WordClaims.ClaimedWords.{open-low}
 use Rattle.list_passes.specs.ClaimedStore.{IsClaimed}
 use Rattle.list_passes.specs.StartMarks.{OpensMembers}
 use Rattle.list_passes.specs.CanPass.{CanPass}

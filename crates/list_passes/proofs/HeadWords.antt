@@ -2,17 +2,17 @@
 use Rattle.std.proofs.Common.{◌≡◌, ◌≢◌, ◌↔◌, ℕ, zero, suc, ◌+◌, ◌-◌, ◌<◌, ◌≤◌, ◌/◌, ◌%◌, Bool, true, false, List, [], ◌∷◌, cond, eqb, get_or, length, map, not, refl, sym, ap, ◌∙◌, arith}
 use Rattle.std.specs.Prelude.{filter, slice_range}
 use Rattle.std.proofs.lemmas.Bool.{eq-eqb, eqb-true, false≢true, ne_eqb}
-use Rattle.kernel_dispatch.specs.LinkedList.Chain.{IsChain}
-use Rattle.kernel_dispatch.proofs.Shown.LinkedList.Walks.{walk-ends}
-use Rattle.kernel_dispatch.specs.OwnedWords.LinkedWords.{first_of}
-use Rattle.kernel_dispatch.specs.OwnedWords.Owned.{Holds}
-use Rattle.kernel_dispatch.specs.PacketQueue.Queue.{link_of, queue_at}
-use Rattle.kernel_dispatch.specs.PacketQueue.QueueWords.{QueuedPacket}
-use Rattle.kernel_dispatch.specs.TaskBlock.TaskChain.{id_in}
-use Rattle.kernel_dispatch.specs.TaskBlock.Versions.{head_words}
-use Rattle.kernel_dispatch.specs.KernelModel.Recovered.{lists_in, packet_in, task_in}
-use Rattle.kernel_dispatch.specs.KernelModel.Task.{globals_of, is_guest_id, queue_bit, queue_head, stack_of, state_words}
-use Rattle.kernel_dispatch.specs.KernelModel.Versions.{head_words_of}
+use Rattle.adoption_law.specs.KernelDispatch.LinkedList.Chain.{IsChain}
+use Rattle.adoption_law.proofs.Shown.KernelDispatch.LinkedList.Walks.{walk-ends}
+use Rattle.adoption_law.specs.KernelDispatch.OwnedWords.LinkedWords.{first_of}
+use Rattle.adoption_law.specs.KernelDispatch.OwnedWords.Owned.{Holds}
+use Rattle.adoption_law.specs.KernelDispatch.PacketQueue.Queue.{link_of, queue_at}
+use Rattle.adoption_law.specs.KernelDispatch.PacketQueue.QueueWords.{QueuedPacket}
+use Rattle.adoption_law.specs.KernelDispatch.TaskBlock.TaskChain.{id_in}
+use Rattle.adoption_law.specs.KernelDispatch.TaskBlock.Versions.{head_words}
+use Rattle.adoption_law.specs.KernelDispatch.KernelModel.Recovered.{lists_in, packet_in, task_in}
+use Rattle.adoption_law.specs.KernelDispatch.KernelModel.Task.{globals_of, is_guest_id, queue_bit, queue_head, stack_of, state_words}
+use Rattle.adoption_law.specs.KernelDispatch.KernelModel.Versions.{head_words_of}
 use Rattle.list_passes.specs.CanPass.{CanPass}
 use Rattle.list_passes.specs.TaskRules.{HasWord}
 use Rattle.list_passes.proofs.GuestWords.{filter-some, head-is}

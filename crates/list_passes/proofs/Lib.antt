@@ -11,3 +11,4 @@ pub mod FreePackets
 pub mod HeadWords
 pub mod FurtherModules
 pub mod FrameWords
+pub mod Shown

@@ -1,11 +1,11 @@
 -- The walk over the modules.
 use Rattle.std.proofs.Common.{◌≡◌, ◌↔◌, ℕ, List, [], ◌∷◌, map, sym, subst}
 use Rattle.std.specs.List.{AllByRecursion}
-use Rattle.kernel_dispatch.specs.GetvecChain.Tiling.{blocks_in}
-use Rattle.kernel_dispatch.specs.TaskBlock.Lists.{modules_in}
-use Rattle.kernel_dispatch.specs.KernelModel.KernelRanges.{IsModuleIn}
-use Rattle.kernel_dispatch.specs.KernelModel.Recovered.{lists_in, module_in}
-use Rattle.kernel_dispatch.specs.KernelModel.ValidBlocks.{HasBlock, ModulesStand, last_module_word}
+use Rattle.adoption_law.specs.KernelDispatch.GetvecChain.Tiling.{blocks_in}
+use Rattle.adoption_law.specs.KernelDispatch.TaskBlock.Lists.{modules_in}
+use Rattle.adoption_law.specs.KernelDispatch.KernelModel.KernelRanges.{IsModuleIn}
+use Rattle.adoption_law.specs.KernelDispatch.KernelModel.Recovered.{lists_in, module_in}
+use Rattle.adoption_law.specs.KernelDispatch.KernelModel.ValidBlocks.{HasBlock, ModulesStand, last_module_word}
 
 abbrev pub Stands : List ℕ → ℕ → Type 0
 Stands s m = HasBlock (blocks_in s) m (last_module_word (module_in s m))

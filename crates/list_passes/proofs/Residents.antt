@@ -2,11 +2,11 @@
 use Rattle.std.proofs.Common.{◌≡◌, ◌≢◌, ◌↔◌, ℕ, ◌||◌, Bool, true, List, ◌∷◌, eqb, get_or, not, refl, sym, ap, ◌∙◌, subst}
 use Rattle.std.specs.List.{list_any}
 use Rattle.std.proofs.lemmas.Bool.{eq-eqb, ne_eqb}
-use Rattle.kernel_dispatch.specs.GetvecChain.Tiling.{blocks_in}
-use Rattle.kernel_dispatch.specs.TaskBlock.TaskChain.{id_in, tasks_in}
-use Rattle.kernel_dispatch.specs.KernelModel.Lists.{has_task}
-use Rattle.kernel_dispatch.specs.KernelModel.Recovered.{lists_in}
-use Rattle.kernel_dispatch.specs.KernelModel.ValidBlocks.{HasBlock, last_resident_word}
+use Rattle.adoption_law.specs.KernelDispatch.GetvecChain.Tiling.{blocks_in}
+use Rattle.adoption_law.specs.KernelDispatch.TaskBlock.TaskChain.{id_in, tasks_in}
+use Rattle.adoption_law.specs.KernelDispatch.KernelModel.Lists.{has_task}
+use Rattle.adoption_law.specs.KernelDispatch.KernelModel.Recovered.{lists_in}
+use Rattle.adoption_law.specs.KernelDispatch.KernelModel.ValidBlocks.{HasBlock, last_resident_word}
 use Rattle.list_passes.proofs.ClaimedWalks.{in-lists}
 
 abbrev pub has_id : List ℕ → ℕ → List ℕ → Bool

@@ -1,15 +1,15 @@
 -- The words of the root, as the lists that are read off own them.
 use Rattle.std.proofs.Common.{◌≡◌, ◌⊎◌, inl, inr, ℕ, zero, suc, ◌+◌, ◌-◌, ◌<◌, ◌≤◌, Bool, true, false, not, eqb, get_or, List, [], ◌∷◌, ◌++◌, refl, sym, ap, ◌∙◌, subst, arith}
 use Rattle.std.specs.Prelude.{IsTrue}
-use Rattle.kernel_dispatch.specs.KernelModel.Ranges.{is_period, is_store_size}
-use Rattle.kernel_dispatch.specs.OwnedWords.Owned.{Holds, row_from}
-use Rattle.kernel_dispatch.proofs.Shown.OwnedWords.OwnedWords.{Holds-append}
-use Rattle.kernel_dispatch.specs.KernelModel.Lists.{Lists}
-use Rattle.kernel_dispatch.specs.KernelModel.Recovered.{has_residents, lists_in}
-use Rattle.kernel_dispatch.specs.KernelModel.Root.{number_words, resident_data, root_words, unused_entries}
-use Rattle.kernel_dispatch.specs.KernelModel.Task.{filled}
-use Rattle.kernel_dispatch.specs.KernelModel.Versions.{highest_id_of}
-use Rattle.kernel_dispatch.proofs.Shown.KernelModel.RootCounts.{RootWords, root-held}
+use Rattle.adoption_law.specs.KernelDispatch.KernelModel.Ranges.{is_period, is_store_size}
+use Rattle.adoption_law.specs.KernelDispatch.OwnedWords.Owned.{Holds, row_from}
+use Rattle.adoption_law.proofs.Shown.KernelDispatch.OwnedWords.OwnedWords.{Holds-append}
+use Rattle.adoption_law.specs.KernelDispatch.KernelModel.Lists.{Lists}
+use Rattle.adoption_law.specs.KernelDispatch.KernelModel.Recovered.{has_residents, lists_in}
+use Rattle.adoption_law.specs.KernelDispatch.KernelModel.Root.{number_words, resident_data, root_words, unused_entries}
+use Rattle.adoption_law.specs.KernelDispatch.KernelModel.Task.{filled}
+use Rattle.adoption_law.specs.KernelDispatch.KernelModel.Versions.{highest_id_of}
+use Rattle.adoption_law.proofs.Shown.KernelDispatch.KernelModel.RootCounts.{RootWords, root-held}
 use Rattle.adoption_law.specs.Passes.{RootStands}
 use Rattle.list_passes.specs.RootRules.{HasRootWords, NumbersMayBe}
 

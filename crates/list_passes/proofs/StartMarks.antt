@@ -2,15 +2,15 @@
 use Rattle.std.proofs.Common.{◌≡◌, ℕ, ◌+◌, ◌<◌, ◌&&◌, ◌||◌, Bool, true, false, not, cond, eqb, leb, ltb, get_or, List, [], ◌∷◌, length, Some, refl, sym, ap, ◌∙◌, arith}
 use Rattle.std.proofs.lemmas.Bool.{false≢true}
 use Rattle.std.proofs.lemmas.Bool.Decides.{nat_tests}
-use Rattle.kernel_dispatch.specs.LinkedList.Places.{has}
-use Rattle.kernel_dispatch.specs.GetvecChain.declared.pieces.Block.{Block}
-use Rattle.kernel_dispatch.specs.GetvecChain.Block.{is_used_at, used_block}
-use Rattle.kernel_dispatch.specs.GetvecChain.Run.{need}
-use Rattle.kernel_dispatch.specs.GetvecChain.Tiling.{IsTiled, blocks_in, used_at}
-use Rattle.kernel_dispatch.proofs.Shown.GetvecChain.UsedBlocks.{UsedBlock, used_at-is}
-use Rattle.kernel_dispatch.specs.KernelModel.ValidBlocks.{HasBlock}
-use Rattle.word_claims.specs.Marks.{IsSet, is_open}
-use Rattle.word_claims.proofs.ClaimedWords.{open-low}
+use Rattle.adoption_law.specs.KernelDispatch.LinkedList.Places.{has}
+use Rattle.adoption_law.specs.KernelDispatch.GetvecChain.declared.pieces.Block.{Block}
+use Rattle.adoption_law.specs.KernelDispatch.GetvecChain.Block.{is_used_at, used_block}
+use Rattle.adoption_law.specs.KernelDispatch.GetvecChain.Run.{need}
+use Rattle.adoption_law.specs.KernelDispatch.GetvecChain.Tiling.{IsTiled, blocks_in, used_at}
+use Rattle.adoption_law.proofs.Shown.KernelDispatch.GetvecChain.UsedBlocks.{UsedBlock, used_at-is}
+use Rattle.adoption_law.specs.KernelDispatch.KernelModel.ValidBlocks.{HasBlock}
+use Rattle.adoption_law.specs.WordClaims.Marks.{IsSet, is_open}
+use Rattle.adoption_law.proofs.Shown.WordClaims.ClaimedWords.{open-low}
 use Rattle.list_passes.specs.StartMarks.{IsShut, OpensMembers, OpensStarts, starts_at}
 
 -- one word is opened

@@ -1,13 +1,13 @@
 -- The table of tasks.
 use Rattle.std.proofs.Common.{◌≡◌, ◌≢◌, ◌↔◌, ℕ, zero, suc, ◌+◌, ◌<◌, List, [], ◌∷◌, cond, eqb, get_or, map, refl, sym, ap, ◌∙◌, subst, arith}
 use Rattle.std.proofs.lemmas.Bool.{eq-eqb, ne_eqb}
-use Rattle.kernel_dispatch.specs.OwnedWords.Owned.{Holds}
-use Rattle.kernel_dispatch.specs.TaskBlock.ChainWords.{entries}
-use Rattle.kernel_dispatch.specs.TaskBlock.HeldTasks.{address_with}
-use Rattle.kernel_dispatch.specs.TaskBlock.TaskChain.{id_in, tasks_in}
-use Rattle.kernel_dispatch.specs.KernelModel.Recovered.{lists_in, task_in}
-use Rattle.kernel_dispatch.specs.KernelModel.Task.{task_address, task_id}
-use Rattle.kernel_dispatch.specs.KernelModel.Versions.{highest_id_of}
+use Rattle.adoption_law.specs.KernelDispatch.OwnedWords.Owned.{Holds}
+use Rattle.adoption_law.specs.KernelDispatch.TaskBlock.ChainWords.{entries}
+use Rattle.adoption_law.specs.KernelDispatch.TaskBlock.HeldTasks.{address_with}
+use Rattle.adoption_law.specs.KernelDispatch.TaskBlock.TaskChain.{id_in, tasks_in}
+use Rattle.adoption_law.specs.KernelDispatch.KernelModel.Recovered.{lists_in, task_in}
+use Rattle.adoption_law.specs.KernelDispatch.KernelModel.Task.{task_address, task_id}
+use Rattle.adoption_law.specs.KernelDispatch.KernelModel.Versions.{highest_id_of}
 
 -- the address of the first of these tasks with the number
 abbrev pub address_in : List ℕ → List ℕ → ℕ → ℕ

@@ -5,16 +5,16 @@ use Rattle.std.proofs.lemmas.Bool.{cases_eq, cases_lt, false≢true}
 use Rattle.std.proofs.lemmas.List.{length-map}
 use Rattle.std.proofs.lemmas.Bool.Decides.{nat_tests}
 use Rattle.word_store.specs.Count.{IsApart, hit, times}
-use Rattle.kernel_dispatch.proofs.Shown.LinkedList.Chains.{length-apart}
-use Rattle.kernel_dispatch.proofs.Shown.LinkedList.AllMembers.{all-has}
+use Rattle.adoption_law.proofs.Shown.KernelDispatch.LinkedList.Chains.{length-apart}
+use Rattle.adoption_law.proofs.Shown.KernelDispatch.LinkedList.AllMembers.{all-has}
 use Rattle.word_store.proofs.Counts.{hit-other, hit-same}
-use Rattle.kernel_dispatch.proofs.Shown.LinkedList.Members.{times-has}
-use Rattle.kernel_dispatch.specs.TaskBlock.TaskChain.{id_in, tasks_in}
-use Rattle.kernel_dispatch.specs.KernelModel.Lists.{Lists}
-use Rattle.kernel_dispatch.specs.KernelModel.Recovered.{lists_in, task_in}
-use Rattle.kernel_dispatch.specs.KernelModel.Task.{Task, is_guest_id, task_id}
-use Rattle.kernel_dispatch.specs.KernelModel.ValidTasks.{IsField, IsGuest, IsResident, IsTask, PrioritiesFall, TasksStand, resident_place}
-use Rattle.kernel_dispatch.specs.KernelModel.Versions.{highest_id_of}
+use Rattle.adoption_law.proofs.Shown.KernelDispatch.LinkedList.Members.{times-has}
+use Rattle.adoption_law.specs.KernelDispatch.TaskBlock.TaskChain.{id_in, tasks_in}
+use Rattle.adoption_law.specs.KernelDispatch.KernelModel.Lists.{Lists}
+use Rattle.adoption_law.specs.KernelDispatch.KernelModel.Recovered.{lists_in, task_in}
+use Rattle.adoption_law.specs.KernelDispatch.KernelModel.Task.{Task, is_guest_id, task_id}
+use Rattle.adoption_law.specs.KernelDispatch.KernelModel.ValidTasks.{IsField, IsGuest, IsResident, IsTask, PrioritiesFall, TasksStand, resident_place}
+use Rattle.adoption_law.specs.KernelDispatch.KernelModel.Versions.{highest_id_of}
 use Rattle.list_passes.specs.TaskRules.{HasNumbers, HasResidents}
 
 -- ---- priorities

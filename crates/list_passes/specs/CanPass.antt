@@ -1,11 +1,11 @@
 -- What a pass may do with a task whose words were claimed.
 use Rattle.std.specs.Prelude.{ℕ, ◌+◌, ◌≤◌, List, length}
 use Rattle.std.specs.List.{AllByRecursion}
-use Rattle.kernel_dispatch.specs.LinkedList.Walk.{CanWalk}
-use Rattle.kernel_dispatch.specs.PacketQueue.Queue.{link_of, queue_at}
-use Rattle.kernel_dispatch.specs.TaskBlock.Lists.{coroutine_link, coroutines_in, first_coroutine}
-use Rattle.kernel_dispatch.specs.KernelModel.KernelRanges.{task_size_in}
-use Rattle.kernel_dispatch.specs.KernelModel.Task.{queue_head}
+use Rattle.adoption_law.specs.KernelDispatch.LinkedList.Walk.{CanWalk}
+use Rattle.adoption_law.specs.KernelDispatch.PacketQueue.Queue.{link_of, queue_at}
+use Rattle.adoption_law.specs.KernelDispatch.TaskBlock.Lists.{coroutine_link, coroutines_in, first_coroutine}
+use Rattle.adoption_law.specs.KernelDispatch.KernelModel.KernelRanges.{task_size_in}
+use Rattle.adoption_law.specs.KernelDispatch.KernelModel.Task.{queue_head}
 
 -- Its lists can be walked, and lie in the store.
 pub record CanPass (s : List ℕ) (t : ℕ) : Type 0 where

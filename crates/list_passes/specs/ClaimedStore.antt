@@ -1,6 +1,6 @@
 -- What a pass over the lists may rest on.
 use Rattle.std.specs.Prelude.{ℕ, List}
-use Rattle.kernel_dispatch.specs.GetvecChain.Tiling.{IsTiled}
+use Rattle.adoption_law.specs.KernelDispatch.GetvecChain.Tiling.{IsTiled}
 use Rattle.adoption_law.specs.Passes.{RootStands}
 use Rattle.adoption_law.specs.ClaimableStore.{AreClaimable}
 

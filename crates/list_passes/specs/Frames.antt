@@ -1,12 +1,12 @@
 -- The words of coroutines that follow from others.
 use Rattle.std.specs.Prelude.{◌≡◌, ℕ, ◌+◌, ◌==◌, not, List, slice_index}
 use Rattle.std.specs.List.{AllByRecursion}
-use Rattle.kernel_dispatch.specs.LinkedList.Places.{has}
-use Rattle.kernel_dispatch.specs.TaskBlock.Lists.{coroutines_in}
-use Rattle.kernel_dispatch.specs.Coroutines.Active.{active_in}
-use Rattle.kernel_dispatch.specs.Coroutines.HeldCoroutines.{parent_of}
-use Rattle.kernel_dispatch.specs.KernelModel.Recovered.{lists_in, task_in}
-use Rattle.kernel_dispatch.specs.KernelModel.ValidTasks.{CoroutinesStand}
+use Rattle.adoption_law.specs.KernelDispatch.LinkedList.Places.{has}
+use Rattle.adoption_law.specs.KernelDispatch.TaskBlock.Lists.{coroutines_in}
+use Rattle.adoption_law.specs.KernelDispatch.Coroutines.Active.{active_in}
+use Rattle.adoption_law.specs.KernelDispatch.Coroutines.HeldCoroutines.{parent_of}
+use Rattle.adoption_law.specs.KernelDispatch.KernelModel.Recovered.{lists_in, task_in}
+use Rattle.adoption_law.specs.KernelDispatch.KernelModel.ValidTasks.{CoroutinesStand}
 
 -- The words of the coroutine at c but for its parent.
 pub record HasFrame (s : List ℕ) (c : ℕ) : Type 0 where

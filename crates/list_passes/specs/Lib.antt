@@ -5,3 +5,8 @@ pub mod CanPass
 pub mod TaskRules
 pub mod Frames
 pub mod FreePackets
+-- shown to the crates above
+pub use Rattle.adoption_law.specs.KernelDispatch
+pub use Rattle.adoption_law.specs.WordClaims
+pub use Rattle.adoption_law.specs.ListClaims
+pub use Rattle.adoption_law.specs as AdoptionLaw

@@ -1,7 +1,7 @@
 -- The numbers of the root, and its fixed words.
 use Rattle.std.specs.Prelude.{◌≡◌, ℕ, ◌+◌, ◌-◌, ◌<◌, ◌⊎◌, IsTrue, List, length, slice_index}
-use Rattle.kernel_dispatch.specs.KernelModel.Ranges.{IsVersion, is_period, is_store_size}
-use Rattle.kernel_dispatch.specs.KernelModel.Versions.{highest_id_of}
+use Rattle.adoption_law.specs.KernelDispatch.KernelModel.Ranges.{IsVersion, is_period, is_store_size}
+use Rattle.adoption_law.specs.KernelDispatch.KernelModel.Versions.{highest_id_of}
 
 -- The words 109, 110 and 111 are a size, a period and a version.
 pub record NumbersMayBe (s : List ℕ) : Type 0 where

@@ -1,10 +1,10 @@
 -- Marks at the starts of used blocks, at modules, and at a task's coroutines: each answers in one look whether something is there.
 use Rattle.std.specs.Prelude.{◌≡◌, ℕ, ◌<◌, ◌==◌, ◌&&◌, Bool, true, not, List, length}
 use Rattle.std.specs.List.{list_any}
-use Rattle.kernel_dispatch.specs.LinkedList.Places.{has}
-use Rattle.kernel_dispatch.specs.GetvecChain.declared.pieces.Block.{Block}
-use Rattle.kernel_dispatch.specs.GetvecChain.Tiling.{blocks_in}
-use Rattle.word_claims.specs.Marks.{is_open}
+use Rattle.adoption_law.specs.KernelDispatch.LinkedList.Places.{has}
+use Rattle.adoption_law.specs.KernelDispatch.GetvecChain.declared.pieces.Block.{Block}
+use Rattle.adoption_law.specs.KernelDispatch.GetvecChain.Tiling.{blocks_in}
+use Rattle.adoption_law.specs.WordClaims.Marks.{is_open}
 
 -- a used block starts there
 abbrev pub starts_at : ℕ → List Block → Bool

@@ -1,13 +1,13 @@
 -- The rules of tasks, in the parts in which they are decided.
 use Rattle.std.specs.Prelude.{◌≡◌, ◌≢◌, ℕ, ◌+◌, ◌/◌, ◌%◌, ◌<◌, ◌≤◌, ◌⊎◌, Bool, true, List, length, map, slice_index}
 use Rattle.std.specs.List.{AllByRecursion}
-use Rattle.kernel_dispatch.specs.LinkedList.Places.{has}
-use Rattle.kernel_dispatch.specs.HunkLoader.HeldModules.{module_address}
-use Rattle.kernel_dispatch.specs.KernelModel.Lists.{Lists, has_task}
-use Rattle.kernel_dispatch.specs.KernelModel.Task.{Task}
-use Rattle.kernel_dispatch.specs.KernelModel.ValidTasks.{IsField}
-use Rattle.kernel_dispatch.specs.KernelModel.Versions.{highest_id_of, most_modules_of}
-use Rattle.word_claims.specs.Marks.{is_open}
+use Rattle.adoption_law.specs.KernelDispatch.LinkedList.Places.{has}
+use Rattle.adoption_law.specs.KernelDispatch.HunkLoader.HeldModules.{module_address}
+use Rattle.adoption_law.specs.KernelDispatch.KernelModel.Lists.{Lists, has_task}
+use Rattle.adoption_law.specs.KernelDispatch.KernelModel.Task.{Task}
+use Rattle.adoption_law.specs.KernelDispatch.KernelModel.ValidTasks.{IsField}
+use Rattle.adoption_law.specs.KernelDispatch.KernelModel.Versions.{highest_id_of, most_modules_of}
+use Rattle.adoption_law.specs.WordClaims.Marks.{is_open}
 
 -- What is asked of guests and residents alike.
 pub record HasNumbers (l : Lists) (t : Task) : Type 0 where

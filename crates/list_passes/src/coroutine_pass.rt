@@ -2,23 +2,22 @@
 ghost use Rattle.std.specs.Prelude.{◌≡◌, ◌↔◌, ◌+◌, ◌==◌, ℕ, IsTrue, true, length, not, slice_index};
 ghost use Rattle.std.specs.Bool.{OnTrue};
 ghost use Rattle.std.specs.List.{AllByRecursion};
-ghost use Rattle.kernel_dispatch.specs.LinkedList.Places.{has};
-ghost use Rattle.kernel_dispatch.specs.GetvecChain.Tiling.{IsTiled};
-ghost use Rattle.kernel_dispatch.specs.TaskBlock.Lists.{coroutines_in};
-ghost use Rattle.kernel_dispatch.specs.TaskBlock.TaskChain.{tasks_in};
-ghost use Rattle.kernel_dispatch.specs.Coroutines.Active.{active_in};
-ghost use Rattle.kernel_dispatch.specs.KernelModel.Recovered.{coroutine_in, lists_in};
-ghost use Rattle.kernel_dispatch.specs.KernelModel.ValidTasks.{IsCoroutine};
-ghost use Rattle.word_claims.specs.Marks.{is_open};
+ghost use Rattle.adoption_law.specs.KernelDispatch.LinkedList.Places.{has};
+ghost use Rattle.adoption_law.specs.KernelDispatch.GetvecChain.Tiling.{IsTiled};
+ghost use Rattle.adoption_law.specs.KernelDispatch.TaskBlock.Lists.{coroutines_in};
+ghost use Rattle.adoption_law.specs.KernelDispatch.TaskBlock.TaskChain.{tasks_in};
+ghost use Rattle.adoption_law.specs.KernelDispatch.Coroutines.Active.{active_in};
+ghost use Rattle.adoption_law.specs.KernelDispatch.KernelModel.Recovered.{coroutine_in, lists_in};
+ghost use Rattle.adoption_law.specs.KernelDispatch.KernelModel.ValidTasks.{IsCoroutine};
+ghost use Rattle.adoption_law.specs.WordClaims.Marks.{is_open};
 ghost use Rattle.list_passes.specs.ClaimedStore.{IsClaimed};
 ghost use Rattle.list_passes.specs.StartMarks.{IsShut, OpensMembers, OpensStarts};
 ghost use Rattle.list_passes.specs.CanPass.{CanPass};
 ghost use Rattle.list_passes.specs.Frames.{OwnsCoroutines, TellsParent};
 
 use crate::starts::has_block;
-use kernel_dispatch::{coroutine_list, tasks};
-use list_claims::{PARENT, claim_active};
-use word_claims::Claims;
+use adoption_law::kernel_dispatch::{coroutine_list, tasks};
+use adoption_law::{Claims, PARENT, claim_active};
 use word_store::{Store, word_at};
 
 /// Which word of a coroutine has its highest index.

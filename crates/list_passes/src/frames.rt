@@ -1,14 +1,14 @@
 // The words of a task's coroutines that follow from others.
 ghost use Rattle.std.specs.Prelude.{◌≡◌, ◌↔◌, ◌+◌, IsTrue, slice_index};
 ghost use Rattle.std.specs.List.{AllByRecursion};
-ghost use Rattle.kernel_dispatch.specs.OwnedWords.Owned.{Holds};
-ghost use Rattle.kernel_dispatch.specs.TaskBlock.Lists.{coroutines_in};
-ghost use Rattle.kernel_dispatch.specs.Coroutines.CoroutineExchanges.{words_of_coroutines};
-ghost use Rattle.kernel_dispatch.specs.KernelModel.Recovered.{coroutines_of};
+ghost use Rattle.adoption_law.specs.KernelDispatch.OwnedWords.Owned.{Holds};
+ghost use Rattle.adoption_law.specs.KernelDispatch.TaskBlock.Lists.{coroutines_in};
+ghost use Rattle.adoption_law.specs.KernelDispatch.Coroutines.CoroutineExchanges.{words_of_coroutines};
+ghost use Rattle.adoption_law.specs.KernelDispatch.KernelModel.Recovered.{coroutines_of};
 ghost use Rattle.list_passes.specs.CanPass.{CanPass};
 ghost use Rattle.list_passes.specs.Frames.{HasFrame, HasParent};
 
-use kernel_dispatch::{TcbField, coroutine_list, field};
+use adoption_law::kernel_dispatch::{TcbField, coroutine_list, field};
 use word_store::{Store, word_at};
 
 /// Whether the words 17 to 20 of the task block at t, and the words of its coroutines, stand, where these have their parents.

@@ -1,10 +1,10 @@
 // The rules of a guest, and of a resident.
 ghost use Rattle.std.specs.Prelude.{◌≡◌, ◌↔◌, ◌≤◌, ◌<◌, IsTrue, Some, true, false, length, slice_index};
-ghost use Rattle.kernel_dispatch.specs.TaskBlock.Lists.{modules_in};
-ghost use Rattle.kernel_dispatch.specs.TaskBlock.TaskChain.{id_in};
-ghost use Rattle.kernel_dispatch.specs.KernelModel.Recovered.{lists_in, task_in};
-ghost use Rattle.kernel_dispatch.specs.KernelModel.Task.{is_guest_id};
-ghost use Rattle.kernel_dispatch.specs.KernelModel.ValidTasks.{IsFaultWord, IsGuest, IsResident, resident_place};
+ghost use Rattle.adoption_law.specs.KernelDispatch.TaskBlock.Lists.{modules_in};
+ghost use Rattle.adoption_law.specs.KernelDispatch.TaskBlock.TaskChain.{id_in};
+ghost use Rattle.adoption_law.specs.KernelDispatch.KernelModel.Recovered.{lists_in, task_in};
+ghost use Rattle.adoption_law.specs.KernelDispatch.KernelModel.Task.{is_guest_id};
+ghost use Rattle.adoption_law.specs.KernelDispatch.KernelModel.ValidTasks.{IsFaultWord, IsGuest, IsResident, resident_place};
 ghost use Rattle.list_passes.specs.ClaimedStore.{IsClaimed};
 ghost use Rattle.list_passes.specs.StartMarks.{OpensMembers, OpensStarts};
 ghost use Rattle.list_passes.specs.CanPass.{CanPass};
@@ -13,11 +13,11 @@ ghost use Rattle.list_passes.specs.TaskRules.{AreNamed, HasModules, HasWord, IsI
 use crate::resident_pass::has_task;
 use crate::starts::has_block;
 use crate::table::highest_of;
-use kernel_dispatch::numbers::{
+use adoption_law::Claims;
+use adoption_law::kernel_dispatch::numbers::{
     CONSOLE, FAULT_ADDRESS, FAULT_WORD, FILE_HANDLER, GLOBAL_WORDS, REPORTER, RESIDENT_WORDS, SHELL,
 };
-use kernel_dispatch::{TcbField, field, head_words};
-use word_claims::Claims;
+use adoption_law::kernel_dispatch::{TcbField, field, head_words};
 use word_store::{Store, word_at};
 
 /// The words of a task block that have saved registers: from this one on,

@@ -1,10 +1,10 @@
 // The words of a task that follow from others.
 ghost use Rattle.std.specs.Prelude.{◌≡◌, ◌↔◌, ◌+◌, IsTrue, slice_index};
-ghost use Rattle.kernel_dispatch.specs.OwnedWords.LinkedWords.{first_of};
-ghost use Rattle.kernel_dispatch.specs.OwnedWords.Owned.{Holds};
-ghost use Rattle.kernel_dispatch.specs.TaskBlock.TaskChain.{tasks_in};
-ghost use Rattle.kernel_dispatch.specs.KernelModel.Recovered.{lists_in, task_in};
-ghost use Rattle.kernel_dispatch.specs.KernelModel.Task.{fault_words, globals_of, queue_bit, stack_of, state_words};
+ghost use Rattle.adoption_law.specs.KernelDispatch.OwnedWords.LinkedWords.{first_of};
+ghost use Rattle.adoption_law.specs.KernelDispatch.OwnedWords.Owned.{Holds};
+ghost use Rattle.adoption_law.specs.KernelDispatch.TaskBlock.TaskChain.{tasks_in};
+ghost use Rattle.adoption_law.specs.KernelDispatch.KernelModel.Recovered.{lists_in, task_in};
+ghost use Rattle.adoption_law.specs.KernelDispatch.KernelModel.Task.{fault_words, globals_of, queue_bit, stack_of, state_words};
 ghost use Rattle.std.specs.List.{AllByRecursion};
 ghost use Rattle.adoption_law.specs.Passes.{HeadStands};
 ghost use Rattle.list_passes.specs.ClaimedStore.{IsClaimed};
@@ -14,8 +14,8 @@ ghost use Rattle.list_passes.specs.TaskRules.{IsDense};
 
 use crate::frames::frames_stand;
 use crate::guests::has_word;
-use kernel_dispatch::numbers::{FIRST_GUEST, GLOBAL_WORDS, RESIDENT_WORDS};
-use kernel_dispatch::{TcbField, field, head_words, tasks};
+use adoption_law::kernel_dispatch::numbers::{FIRST_GUEST, GLOBAL_WORDS, RESIDENT_WORDS};
+use adoption_law::kernel_dispatch::{TcbField, field, head_words, tasks};
 use word_store::Store;
 
 /// Whether the words of tasks stand that follow from others: the bit of the queue, the addresses of stack and globals, the zeros

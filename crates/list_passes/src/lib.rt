@@ -20,3 +20,6 @@ pub use root_pass::root_stands;
 pub use starts::{open_modules, open_starts};
 pub use table::{highest_of, running_of, running_stands, table_stands};
 pub use task_pass::tasks_stand;
+
+// Shown to the crates above.
+pub use adoption_law::{Claims, are_tiled, claim_lists, has_task, kernel_dispatch, open_blocks};

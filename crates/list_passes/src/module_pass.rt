@@ -1,15 +1,15 @@
 // The modules of a store whose words were claimed.
 ghost use Rattle.std.specs.Prelude.{◌≡◌, ◌↔◌, ◌≤◌, ◌^◌, ◌*◌, IsTrue, length, sum};
-ghost use Rattle.kernel_dispatch.specs.GetvecChain.Tiling.{IsTiled, blocks_in};
-ghost use Rattle.kernel_dispatch.specs.KernelModel.KernelRanges.{IsModuleIn};
-ghost use Rattle.kernel_dispatch.specs.KernelModel.Recovered.{lists_in, module_in};
-ghost use Rattle.kernel_dispatch.specs.KernelModel.ValidBlocks.{HasBlock, ModulesStand, last_module_word};
+ghost use Rattle.adoption_law.specs.KernelDispatch.GetvecChain.Tiling.{IsTiled, blocks_in};
+ghost use Rattle.adoption_law.specs.KernelDispatch.KernelModel.KernelRanges.{IsModuleIn};
+ghost use Rattle.adoption_law.specs.KernelDispatch.KernelModel.Recovered.{lists_in, module_in};
+ghost use Rattle.adoption_law.specs.KernelDispatch.KernelModel.ValidBlocks.{HasBlock, ModulesStand, last_module_word};
 ghost use Rattle.list_passes.specs.ClaimedStore.{IsClaimed};
 ghost use Rattle.list_passes.specs.StartMarks.{OpensStarts};
 
 use crate::starts::has_block;
-use kernel_dispatch::modules;
-use word_claims::Claims;
+use adoption_law::Claims;
+use adoption_law::kernel_dispatch::modules;
 use word_store::{Store, word_at};
 
 /// Whether each module has a block of its size. It looks once at the size word of the block, and at each length.

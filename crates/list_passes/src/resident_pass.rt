@@ -1,21 +1,21 @@
 // The resident block, and the words in it that are no task's.
 ghost use Rattle.std.specs.Prelude.{◌≡◌, ◌↔◌, ◌≤◌, IsTrue, true};
-ghost use Rattle.kernel_dispatch.specs.KernelModel.Lists.{has_task};
-ghost use Rattle.kernel_dispatch.specs.OwnedWords.Owned.{Holds};
-ghost use Rattle.kernel_dispatch.specs.KernelModel.Recovered.{lists_in};
-ghost use Rattle.kernel_dispatch.specs.KernelModel.Residents.{fault_packet_words, key_arguments, key_words, resident_words};
-ghost use Rattle.kernel_dispatch.specs.KernelModel.ValidBlocks.{HasBlock, last_resident_word};
+ghost use Rattle.adoption_law.specs.KernelDispatch.KernelModel.Lists.{has_task};
+ghost use Rattle.adoption_law.specs.KernelDispatch.OwnedWords.Owned.{Holds};
+ghost use Rattle.adoption_law.specs.KernelDispatch.KernelModel.Recovered.{lists_in};
+ghost use Rattle.adoption_law.specs.KernelDispatch.KernelModel.Residents.{fault_packet_words, key_arguments, key_words, resident_words};
+ghost use Rattle.adoption_law.specs.KernelDispatch.KernelModel.ValidBlocks.{HasBlock, last_resident_word};
 ghost use Rattle.list_passes.specs.ClaimedStore.{IsClaimed};
 ghost use Rattle.list_passes.specs.StartMarks.{OpensStarts};
 ghost use Rattle.list_passes.specs.FreePackets.{HasFaultWords, HasKeyWords};
 
 use crate::starts::has_block;
-use kernel_dispatch::numbers::{
+use adoption_law::Claims;
+use adoption_law::kernel_dispatch::numbers::{
     FAULT_PACKET, FIRST, KEY_PACKET, KEYBOARD, KIND, REPORTER, RES1, RES2, RESIDENT_DATA, SECOND,
     SENDER, THIRD,
 };
-use kernel_dispatch::{NO_QUEUE, RootField, root};
-use word_claims::Claims;
+use adoption_law::kernel_dispatch::{NO_QUEUE, RootField, root};
 use word_store::{Store, word, word_at};
 
 /// Whether the residents, where there are any, have their block.
@@ -52,7 +52,7 @@ pub(crate) fn has_task(store: &Store, id: u32) -> bool
     requires claimed { IsClaimed store.now }
     ensures { result ≡ has_task id (lists_in store.now).tasks }
 {
-    list_claims::has_task(store, id)
+    adoption_law::has_task(store, id)
 }
 
 /// Whether the words of the residents that are no task's stand: those of the key packet and of the fault packet, where they are on

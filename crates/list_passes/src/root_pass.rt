@@ -1,10 +1,10 @@
 // The words of the root.
 ghost use Rattle.std.specs.Prelude.{◌≡◌, ◌↔◌, ◌+◌, ◌<◌, ◌≤◌, ℕ, IsTrue, slice_index};
-ghost use Rattle.kernel_dispatch.specs.KernelModel.Versions.{highest_id_of};
+ghost use Rattle.adoption_law.specs.KernelDispatch.KernelModel.Versions.{highest_id_of};
 ghost use Rattle.adoption_law.specs.Passes.{RootStands};
 ghost use Rattle.list_passes.specs.RootRules.{HasRootWords, NumbersMayBe};
 
-use kernel_dispatch::{RootField, root};
+use adoption_law::kernel_dispatch::{RootField, root};
 use word_store::{Store, word};
 
 /// Whether the numbers of the root are those that a session may name, and its fixed words stand. It looks at some 80 words.

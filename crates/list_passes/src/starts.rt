@@ -1,13 +1,13 @@
 // Marks that answer in one look whether a used block or a module begins at an address.
 ghost use Rattle.std.specs.Prelude.{◌↔◌, ◌+◌, ◌<◌, ◌^◌, IsTrue};
-ghost use Rattle.kernel_dispatch.specs.GetvecChain.Tiling.{IsTiled, blocks_in};
-ghost use Rattle.kernel_dispatch.specs.TaskBlock.Lists.{modules_in};
-ghost use Rattle.kernel_dispatch.specs.KernelModel.ValidBlocks.{HasBlock};
+ghost use Rattle.adoption_law.specs.KernelDispatch.GetvecChain.Tiling.{IsTiled, blocks_in};
+ghost use Rattle.adoption_law.specs.KernelDispatch.TaskBlock.Lists.{modules_in};
+ghost use Rattle.adoption_law.specs.KernelDispatch.KernelModel.ValidBlocks.{HasBlock};
 ghost use Rattle.list_passes.specs.ClaimedStore.{IsClaimed};
 ghost use Rattle.list_passes.specs.StartMarks.{IsShut, OpensMembers, OpensStarts};
 
-use kernel_dispatch::{blocks, modules};
-use word_claims::Claims;
+use adoption_law::Claims;
+use adoption_law::kernel_dispatch::{blocks, modules};
 use word_store::{Store, word};
 
 /// Opens the first words of used blocks.

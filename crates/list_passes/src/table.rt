@@ -1,18 +1,18 @@
 // The task table, and the word of the running task.
 ghost use Rattle.std.specs.Prelude.{◌≡◌, ◌↔◌, ◌≤◌, IsTrue, slice_index};
-ghost use Rattle.kernel_dispatch.specs.OwnedWords.Owned.{Holds};
-ghost use Rattle.kernel_dispatch.specs.TaskBlock.ChainWords.{entries};
-ghost use Rattle.kernel_dispatch.specs.TaskBlock.HeldTasks.{address_with};
-ghost use Rattle.kernel_dispatch.specs.TaskBlock.RootWords.{root_address};
-ghost use Rattle.kernel_dispatch.specs.TaskBlock.declared.roots.RootField.TheVariants.{Running};
-ghost use Rattle.kernel_dispatch.specs.KernelModel.Lists.{address_of_task};
-ghost use Rattle.kernel_dispatch.specs.KernelModel.Recovered.{lists_in};
-ghost use Rattle.kernel_dispatch.specs.KernelModel.Task.{task_address, task_id};
-ghost use Rattle.kernel_dispatch.specs.KernelModel.Versions.{highest_id_of};
+ghost use Rattle.adoption_law.specs.KernelDispatch.OwnedWords.Owned.{Holds};
+ghost use Rattle.adoption_law.specs.KernelDispatch.TaskBlock.ChainWords.{entries};
+ghost use Rattle.adoption_law.specs.KernelDispatch.TaskBlock.HeldTasks.{address_with};
+ghost use Rattle.adoption_law.specs.KernelDispatch.TaskBlock.RootWords.{root_address};
+ghost use Rattle.adoption_law.specs.KernelDispatch.TaskBlock.declared.roots.RootField.TheVariants.{Running};
+ghost use Rattle.adoption_law.specs.KernelDispatch.KernelModel.Lists.{address_of_task};
+ghost use Rattle.adoption_law.specs.KernelDispatch.KernelModel.Recovered.{lists_in};
+ghost use Rattle.adoption_law.specs.KernelDispatch.KernelModel.Task.{task_address, task_id};
+ghost use Rattle.adoption_law.specs.KernelDispatch.KernelModel.Versions.{highest_id_of};
 ghost use Rattle.list_passes.specs.ClaimedStore.{IsClaimed};
 
-use kernel_dispatch::numbers::TABLE;
-use kernel_dispatch::{RootField, TcbField, field, root, tasks};
+use adoption_law::kernel_dispatch::numbers::TABLE;
+use adoption_law::kernel_dispatch::{RootField, TcbField, field, root, tasks};
 use word_store::{Store, word};
 
 /// Whether the task table leads to each task, and to nothing else.

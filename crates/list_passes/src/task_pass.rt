@@ -2,11 +2,11 @@
 ghost use Rattle.std.specs.Prelude.{◌≡◌, ◌↔◌, ◌≤◌, ◌<◌, IsTrue, Some, length, map};
 ghost use Rattle.std.specs.List.{AllByRecursion};
 ghost use Rattle.word_store.specs.Count.{IsApart, times};
-ghost use Rattle.kernel_dispatch.specs.TaskBlock.Lists.{modules_in};
-ghost use Rattle.kernel_dispatch.specs.TaskBlock.TaskChain.{id_in, tasks_in};
-ghost use Rattle.kernel_dispatch.specs.KernelModel.Recovered.{lists_in, task_in};
-ghost use Rattle.kernel_dispatch.specs.KernelModel.Task.{task_id};
-ghost use Rattle.kernel_dispatch.specs.KernelModel.ValidTasks.{IsTask, PrioritiesFall, TasksStand};
+ghost use Rattle.adoption_law.specs.KernelDispatch.TaskBlock.Lists.{modules_in};
+ghost use Rattle.adoption_law.specs.KernelDispatch.TaskBlock.TaskChain.{id_in, tasks_in};
+ghost use Rattle.adoption_law.specs.KernelDispatch.KernelModel.Recovered.{lists_in, task_in};
+ghost use Rattle.adoption_law.specs.KernelDispatch.KernelModel.Task.{task_id};
+ghost use Rattle.adoption_law.specs.KernelDispatch.KernelModel.ValidTasks.{IsTask, PrioritiesFall, TasksStand};
 ghost use Rattle.list_passes.specs.ClaimedStore.{IsClaimed};
 ghost use Rattle.list_passes.specs.StartMarks.{OpensMembers, OpensStarts};
 ghost use Rattle.list_passes.specs.CanPass.{CanPass};
@@ -15,9 +15,9 @@ ghost use Rattle.list_passes.specs.TaskRules.{HasNumbers, HasResidents};
 use crate::guests::{guest_stands, resident_stands};
 use crate::resident_pass::{has_residents, has_task};
 use crate::table::highest_of;
-use kernel_dispatch::numbers::{CONSOLE, FILE_HANDLER, FIRST_GUEST, REPORTER, SHELL};
-use kernel_dispatch::{TcbField, field, tasks};
-use word_claims::Claims;
+use adoption_law::Claims;
+use adoption_law::kernel_dispatch::numbers::{CONSOLE, FILE_HANDLER, FIRST_GUEST, REPORTER, SHELL};
+use adoption_law::kernel_dispatch::{TcbField, field, tasks};
 use word_store::Store;
 
 /// More tasks than this have no number each for itself.

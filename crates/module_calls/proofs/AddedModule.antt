@@ -1,29 +1,29 @@
 -- A store of the kernel's after a guest got one more module.
 use Rattle.std.proofs.Common.{◌≡◌, ℕ, suc, ◌+◌, ◌-◌, ◌<◌, List, [], ◌∷◌, ◌++◌, length, map, set, cond, eqb, true, false, inl, inr, refl, sym, ap, ◌∙◌, subst, arith, length-append}
 use Rattle.std.proofs.lemmas.Bool.{cases_lt, ne_eqb}
-use Rattle.block_calls.specs.KernelDispatch.LinkedList.Places.{has}
-use Rattle.block_calls.proofs.Shown.KernelDispatch.LinkedList.AllMembers.{all-append}
-use Rattle.block_calls.specs.KernelDispatch.OwnedWords.LinkedWords.{first_of}
-use Rattle.block_calls.specs.KernelDispatch.OwnedWords.Owned.{Holds, Pairs, owners, written}
-use Rattle.block_calls.proofs.Shown.KernelDispatch.OwnedWords.OwnedWords.{Holds-same, length-written, written-other}
-use Rattle.block_calls.specs.KernelDispatch.HunkLoader.Globals.{globals_in, with_globals}
-use Rattle.block_calls.specs.KernelDispatch.HunkLoader.HeldModules.{module_address}
-use Rattle.block_calls.specs.KernelDispatch.TaskBlock.Versions.{module_index}
-use Rattle.block_calls.specs.KernelDispatch.KernelModel.ChangedStore.{IsChanged}
-use Rattle.block_calls.specs.KernelDispatch.KernelModel.Changes.{AreUnowned, SameTask, with_task, with_tasks}
-use Rattle.block_calls.specs.KernelDispatch.KernelModel.HoldsLists.{HoldsLists}
-use Rattle.block_calls.specs.KernelDispatch.KernelModel.Lists.{Lists}
-use Rattle.block_calls.specs.KernelDispatch.KernelModel.Owned.{owned}
-use Rattle.block_calls.specs.KernelDispatch.KernelModel.Task.{Task, is_guest_id, task_address}
-use Rattle.block_calls.specs.KernelDispatch.KernelModel.ValidLists.{AreValid}
-use Rattle.block_calls.specs.KernelDispatch.KernelModel.ValidTasks.{CoroutinesStand, IsGuest, IsTask}
-use Rattle.block_calls.specs.KernelDispatch.KernelModel.Versions.{head_words_of, most_modules_of}
-use Rattle.block_calls.proofs.Shown.KernelDispatch.KernelModel.ChangedLists.{exchange-owned, one_task-owned}
-use Rattle.block_calls.proofs.Shown.KernelDispatch.KernelModel.OneTask.{owned-one_task, same_task-valid}
-use Rattle.block_calls.proofs.Shown.KernelDispatch.KernelModel.TaskCounts.{owners-same_task}
-use Rattle.block_calls.specs.CallAnswers.Guests.{GuestAt}
-use Rattle.block_calls.specs.CallAnswers.Modules.{has_module}
-use Rattle.block_calls.proofs.Shown.CallAnswers.GuestTask.{guest-changed}
+use Rattle.task_calls.specs.KernelDispatch.LinkedList.Places.{has}
+use Rattle.task_calls.proofs.Shown.KernelDispatch.LinkedList.AllMembers.{all-append}
+use Rattle.task_calls.specs.KernelDispatch.OwnedWords.LinkedWords.{first_of}
+use Rattle.task_calls.specs.KernelDispatch.OwnedWords.Owned.{Holds, Pairs, owners, written}
+use Rattle.task_calls.proofs.Shown.KernelDispatch.OwnedWords.OwnedWords.{Holds-same, length-written, written-other}
+use Rattle.task_calls.specs.KernelDispatch.HunkLoader.Globals.{globals_in, with_globals}
+use Rattle.task_calls.specs.KernelDispatch.HunkLoader.HeldModules.{module_address}
+use Rattle.task_calls.specs.KernelDispatch.TaskBlock.Versions.{module_index}
+use Rattle.task_calls.specs.KernelDispatch.KernelModel.ChangedStore.{IsChanged}
+use Rattle.task_calls.specs.KernelDispatch.KernelModel.Changes.{AreUnowned, SameTask, with_task, with_tasks}
+use Rattle.task_calls.specs.KernelDispatch.KernelModel.HoldsLists.{HoldsLists}
+use Rattle.task_calls.specs.KernelDispatch.KernelModel.Lists.{Lists}
+use Rattle.task_calls.specs.KernelDispatch.KernelModel.Owned.{owned}
+use Rattle.task_calls.specs.KernelDispatch.KernelModel.Task.{Task, is_guest_id, task_address}
+use Rattle.task_calls.specs.KernelDispatch.KernelModel.ValidLists.{AreValid}
+use Rattle.task_calls.specs.KernelDispatch.KernelModel.ValidTasks.{CoroutinesStand, IsGuest, IsTask}
+use Rattle.task_calls.specs.KernelDispatch.KernelModel.Versions.{head_words_of, most_modules_of}
+use Rattle.task_calls.proofs.Shown.KernelDispatch.KernelModel.ChangedLists.{exchange-owned, one_task-owned}
+use Rattle.task_calls.proofs.Shown.KernelDispatch.KernelModel.OneTask.{owned-one_task, same_task-valid}
+use Rattle.task_calls.proofs.Shown.KernelDispatch.KernelModel.TaskCounts.{owners-same_task}
+use Rattle.task_calls.specs.CallAnswers.Guests.{GuestAt}
+use Rattle.task_calls.specs.CallAnswers.Modules.{has_module}
+use Rattle.task_calls.proofs.Shown.CallAnswers.GuestTask.{guest-changed}
 use Rattle.module_calls.specs.AddModule.{global_words, with_further}
 use Rattle.module_calls.proofs.AddedWords.{further-exchange, globals-within, globals-written, module-globals}
 use Rattle.module_calls.proofs.AdditionTests.{facts, is-guest}

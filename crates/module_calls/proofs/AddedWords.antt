@@ -2,20 +2,20 @@
 use Rattle.std.proofs.Common.{◌≡◌, ℕ, zero, suc, ◌+◌, ◌-◌, ◌<◌, ◌≤◌, List, [], ◌∷◌, ◌++◌, length, drop, set, cond, Bool, true, inl, inr, refl, sym, ap, ◌∙◌, subst, arith}
 use Rattle.std.specs.List.{flat_map}
 use Rattle.std.proofs.lemmas.Bool.{cases_eq}
-use Rattle.block_calls.proofs.Shown.KernelDispatch.LinkedList.AllMembers.{all-append}
+use Rattle.task_calls.proofs.Shown.KernelDispatch.LinkedList.AllMembers.{all-append}
 use Rattle.word_store.proofs.Counts.{hit-other}
-use Rattle.block_calls.specs.KernelDispatch.OwnedWords.Exchange.{Exchange}
-use Rattle.block_calls.specs.KernelDispatch.OwnedWords.LinkedWords.{first_of}
-use Rattle.block_calls.specs.KernelDispatch.OwnedWords.Owned.{Pairs, owners, row_from, written}
-use Rattle.block_calls.proofs.Shown.KernelDispatch.OwnedWords.Exchanges.{exchange-left, exchange-right, exchange-row}
-use Rattle.block_calls.proofs.Shown.KernelDispatch.OwnedWords.OwnedWords.{owners-append, written-append}
-use Rattle.block_calls.specs.KernelDispatch.PacketQueue.QueueWords.{queue_words}
-use Rattle.block_calls.specs.KernelDispatch.Coroutines.CoroutineExchanges.{words_of_coroutines}
-use Rattle.block_calls.specs.KernelDispatch.HunkLoader.Globals.{Global, globals_in, globals_of_hunk, with_globals}
-use Rattle.block_calls.specs.KernelDispatch.HunkLoader.ModuleHunks.{PlacedHunk, hunks_in}
-use Rattle.block_calls.proofs.Shown.KernelDispatch.HunkLoader.GlobalLists.{AreGlobals, hunk-are}
-use Rattle.block_calls.specs.KernelDispatch.KernelModel.Task.{Task, filled, globals_of, is_guest_id, name_words, queue_head, stack_of, state_word, task_words}
-use Rattle.block_calls.specs.KernelDispatch.KernelModel.Versions.{head_words_of}
+use Rattle.task_calls.specs.KernelDispatch.OwnedWords.Exchange.{Exchange}
+use Rattle.task_calls.specs.KernelDispatch.OwnedWords.LinkedWords.{first_of}
+use Rattle.task_calls.specs.KernelDispatch.OwnedWords.Owned.{Pairs, owners, row_from, written}
+use Rattle.task_calls.proofs.Shown.KernelDispatch.OwnedWords.Exchanges.{exchange-left, exchange-right, exchange-row}
+use Rattle.task_calls.proofs.Shown.KernelDispatch.OwnedWords.OwnedWords.{owners-append, written-append}
+use Rattle.task_calls.specs.KernelDispatch.PacketQueue.QueueWords.{queue_words}
+use Rattle.task_calls.specs.KernelDispatch.Coroutines.CoroutineExchanges.{words_of_coroutines}
+use Rattle.task_calls.specs.KernelDispatch.HunkLoader.Globals.{Global, globals_in, globals_of_hunk, with_globals}
+use Rattle.task_calls.specs.KernelDispatch.HunkLoader.ModuleHunks.{PlacedHunk, hunks_in}
+use Rattle.task_calls.proofs.Shown.KernelDispatch.HunkLoader.GlobalLists.{AreGlobals, hunk-are}
+use Rattle.task_calls.specs.KernelDispatch.KernelModel.Task.{Task, filled, globals_of, is_guest_id, name_words, queue_head, stack_of, state_word, task_words}
+use Rattle.task_calls.specs.KernelDispatch.KernelModel.Versions.{head_words_of}
 use Rattle.module_calls.specs.AddModule.{global_words, with_further}
 
 -- ---- globals

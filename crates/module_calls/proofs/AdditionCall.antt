@@ -1,21 +1,21 @@
 -- What the call makes that gives a guest one more module.
 use Rattle.std.proofs.Common.{◌≡◌, ℕ, ◌+◌, ◌<◌, List, [], ◌∷◌, ◌++◌, length, get_or, set, cond, not, Bool, true, false, Some, None, Ok, Err, refl, sym, ap, ◌∙◌, subst}
 use Rattle.std.specs.List.{list_any}
-use Rattle.block_calls.specs.KernelDispatch.OwnedWords.Owned.{owners}
-use Rattle.block_calls.specs.KernelDispatch.HunkLoader.Globals.{globals_in, with_globals}
-use Rattle.block_calls.specs.KernelDispatch.TaskBlock.Versions.{module_index}
-use Rattle.block_calls.specs.KernelDispatch.KernelModel.ChangedStore.{HasKeeper, IsChanged}
-use Rattle.block_calls.specs.KernelDispatch.KernelModel.Changes.{AreUnowned, with_task}
-use Rattle.block_calls.specs.KernelDispatch.KernelModel.Lists.{Lists, queued}
-use Rattle.block_calls.specs.KernelDispatch.KernelModel.Owned.{owned}
-use Rattle.block_calls.specs.KernelDispatch.KernelModel.Task.{globals_of}
-use Rattle.block_calls.specs.KernelDispatch.KernelModel.Versions.{most_modules_of}
-use Rattle.block_calls.proofs.Shown.KernelDispatch.KernelModel.ChangedLists.{changed-then, knows-same}
-use Rattle.block_calls.specs.CallAnswers.Guests.{GuestAt, guest_tests}
-use Rattle.block_calls.specs.CallAnswers.Made.{IsMade, Made}
-use Rattle.block_calls.specs.CallAnswers.Refusals.{first_refusal}
-use Rattle.block_calls.proofs.Shown.CallAnswers.MadeCalls.{made-accepted, made-refused}
-use Rattle.block_calls.proofs.Shown.CallAnswers.Refusals.{first_refusal-failed, first_refusal-passed}
+use Rattle.task_calls.specs.KernelDispatch.OwnedWords.Owned.{owners}
+use Rattle.task_calls.specs.KernelDispatch.HunkLoader.Globals.{globals_in, with_globals}
+use Rattle.task_calls.specs.KernelDispatch.TaskBlock.Versions.{module_index}
+use Rattle.task_calls.specs.KernelDispatch.KernelModel.ChangedStore.{HasKeeper, IsChanged}
+use Rattle.task_calls.specs.KernelDispatch.KernelModel.Changes.{AreUnowned, with_task}
+use Rattle.task_calls.specs.KernelDispatch.KernelModel.Lists.{Lists, queued}
+use Rattle.task_calls.specs.KernelDispatch.KernelModel.Owned.{owned}
+use Rattle.task_calls.specs.KernelDispatch.KernelModel.Task.{globals_of}
+use Rattle.task_calls.specs.KernelDispatch.KernelModel.Versions.{most_modules_of}
+use Rattle.task_calls.proofs.Shown.KernelDispatch.KernelModel.ChangedLists.{changed-then, knows-same}
+use Rattle.task_calls.specs.CallAnswers.Guests.{GuestAt, guest_tests}
+use Rattle.task_calls.specs.CallAnswers.Made.{IsMade, Made}
+use Rattle.task_calls.specs.CallAnswers.Refusals.{first_refusal}
+use Rattle.task_calls.proofs.Shown.CallAnswers.MadeCalls.{made-accepted, made-refused}
+use Rattle.task_calls.proofs.Shown.CallAnswers.Refusals.{first_refusal-failed, first_refusal-passed}
 use Rattle.module_calls.specs.AddModule.{add_module, addition_tests, check_tests, global_words, globals_of_task, has_packet_in_globals, lies_in_globals, modules_so_far, task_of, with_further}
 use Rattle.module_calls.proofs.AddedModule.{added-changed, added-same, globals-changed}
 use Rattle.module_calls.proofs.GlobalPackets.{empty-unowned, unowned-empty}

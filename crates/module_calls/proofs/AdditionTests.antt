@@ -4,28 +4,28 @@ use Rattle.std.specs.Prelude.{◌↔◌, IsTrue, filter, slice_range}
 use Rattle.std.specs.List.{AllByRecursion, list_all}
 use Rattle.std.proofs.lemmas.Bool.{cases_eq, cases_lt, eq-eqb, le-leb, le-ltb, leb-true, lt-ltb, ne_eqb}
 use Rattle.word_store.specs.Count.{IsApart}
-use Rattle.block_calls.specs.KernelDispatch.LinkedList.Places.{has}
-use Rattle.block_calls.specs.KernelDispatch.OwnedWords.LinkedWords.{first_of}
-use Rattle.block_calls.specs.KernelDispatch.HunkLoader.Globals.{GlobalsFit, highest, most_globals}
-use Rattle.block_calls.specs.KernelDispatch.HunkLoader.HeldModules.{module_address}
-use Rattle.block_calls.specs.KernelDispatch.HunkLoader.ModuleHunks.{PlacedHunk, hunks_in}
-use Rattle.block_calls.specs.KernelDispatch.TaskBlock.TaskChain.{id_in}
-use Rattle.block_calls.specs.KernelDispatch.TaskBlock.Versions.{head_words, most_modules}
-use Rattle.block_calls.specs.KernelDispatch.KernelModel.HoldsLists.{HoldsLists}
-use Rattle.block_calls.specs.KernelDispatch.KernelModel.KernelRanges.{task_size_in}
-use Rattle.block_calls.specs.KernelDispatch.KernelModel.Lists.{Lists}
-use Rattle.block_calls.specs.KernelDispatch.KernelModel.Recovered.{lists_in, modules_of, task_in}
-use Rattle.block_calls.specs.KernelDispatch.KernelModel.Task.{is_guest_id, task_id}
-use Rattle.block_calls.specs.KernelDispatch.KernelModel.ValidTasks.{IsGuest}
-use Rattle.block_calls.specs.KernelDispatch.KernelModel.Versions.{most_modules_of}
-use Rattle.block_calls.proofs.Shown.KernelDispatch.KernelModel.AllThings.{all-here}
-use Rattle.block_calls.proofs.Shown.KernelDispatch.KernelModel.RecoveredLists.{lists-back}
-use Rattle.block_calls.specs.CallAnswers.Guests.{GuestAt}
-use Rattle.block_calls.specs.CallAnswers.Refusals.{first_refusal}
-use Rattle.block_calls.proofs.Shown.CallAnswers.FoundTask.{any-one}
-use Rattle.block_calls.proofs.Shown.CallAnswers.GuestTask.{GuestFacts, guest-facts, guest-words}
-use Rattle.block_calls.specs.CallAnswers.Tasks.{is_dead}
-use Rattle.block_calls.specs.CallAnswers.Modules.{has_module}
+use Rattle.task_calls.specs.KernelDispatch.LinkedList.Places.{has}
+use Rattle.task_calls.specs.KernelDispatch.OwnedWords.LinkedWords.{first_of}
+use Rattle.task_calls.specs.KernelDispatch.HunkLoader.Globals.{GlobalsFit, highest, most_globals}
+use Rattle.task_calls.specs.KernelDispatch.HunkLoader.HeldModules.{module_address}
+use Rattle.task_calls.specs.KernelDispatch.HunkLoader.ModuleHunks.{PlacedHunk, hunks_in}
+use Rattle.task_calls.specs.KernelDispatch.TaskBlock.TaskChain.{id_in}
+use Rattle.task_calls.specs.KernelDispatch.TaskBlock.Versions.{head_words, most_modules}
+use Rattle.task_calls.specs.KernelDispatch.KernelModel.HoldsLists.{HoldsLists}
+use Rattle.task_calls.specs.KernelDispatch.KernelModel.KernelRanges.{task_size_in}
+use Rattle.task_calls.specs.KernelDispatch.KernelModel.Lists.{Lists}
+use Rattle.task_calls.specs.KernelDispatch.KernelModel.Recovered.{lists_in, modules_of, task_in}
+use Rattle.task_calls.specs.KernelDispatch.KernelModel.Task.{is_guest_id, task_id}
+use Rattle.task_calls.specs.KernelDispatch.KernelModel.ValidTasks.{IsGuest}
+use Rattle.task_calls.specs.KernelDispatch.KernelModel.Versions.{most_modules_of}
+use Rattle.task_calls.proofs.Shown.KernelDispatch.KernelModel.AllThings.{all-here}
+use Rattle.task_calls.proofs.Shown.KernelDispatch.KernelModel.RecoveredLists.{lists-back}
+use Rattle.task_calls.specs.CallAnswers.Guests.{GuestAt}
+use Rattle.task_calls.specs.CallAnswers.Refusals.{first_refusal}
+use Rattle.task_calls.proofs.Shown.CallAnswers.FoundTask.{any-one}
+use Rattle.task_calls.proofs.Shown.CallAnswers.GuestTask.{GuestFacts, guest-facts, guest-words}
+use Rattle.task_calls.specs.CallAnswers.Tasks.{is_dead}
+use Rattle.task_calls.specs.CallAnswers.Modules.{has_module}
 use Rattle.module_calls.specs.AddModule.{check_tests, globals_fit, has_module_room}
 use Rattle.module_calls.specs.ModuleFields.{IsTaskIn, further_count}
 use Rattle.module_calls.proofs.ModuleUses.{each-inside, each-told, module-some}

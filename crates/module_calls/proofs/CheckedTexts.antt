@@ -7,7 +7,7 @@ use Rattle.hunk_text.specs.declared.check.Shape.{Shape}
 use Rattle.hunk_text.specs.declared.modules.Module.{Module}
 use Rattle.hunk_text.proofs.Complete.{complete}
 use Rattle.hunk_text.proofs.TextRefusals.{code_bounds}
-use Rattle.block_calls.specs.KernelDispatch.HunkLoader.ModuleRow.{last_word}
+use Rattle.task_calls.specs.KernelDispatch.HunkLoader.ModuleRow.{last_word}
 
 -- a code is at most 6
 pub code-low : (text : List ℕ) (code : ℕ) → check_of text ≡ Err code → code ≤ 6

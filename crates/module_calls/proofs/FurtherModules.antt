@@ -2,8 +2,8 @@
 use Rattle.std.proofs.Common.{◌≡◌, ◌≢◌, ℕ, suc, ◌+◌, ◌<◌, ◌≤◌, List, ◌∷◌, length, get_or, cond, eqb, not, ◌||◌, Bool, true, false, refl, sym, ap, ◌∙◌, arith}
 use Rattle.std.specs.Prelude.{filter, slice_range}
 use Rattle.std.proofs.lemmas.Bool.{eq-eqb, ne_eqb}
-use Rattle.block_calls.specs.KernelDispatch.LinkedList.Places.{has}
-use Rattle.block_calls.specs.KernelDispatch.TaskBlock.Versions.{head_words, module_index, most_modules}
+use Rattle.task_calls.specs.KernelDispatch.LinkedList.Places.{has}
+use Rattle.task_calls.specs.KernelDispatch.TaskBlock.Versions.{head_words, module_index, most_modules}
 use Rattle.word_store.proofs.Rows.{range_first, range_none}
 
 -- behind word 22 there is one word for each of them

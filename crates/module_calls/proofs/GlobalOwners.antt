@@ -4,42 +4,42 @@ use Rattle.std.specs.Prelude.{unwrap_or}
 use Rattle.std.specs.List.{AllByRecursion, flat_map, range_with_len}
 use Rattle.std.proofs.lemmas.Bool.{and_parts, cases_lt, eqb-true, leb-true}
 use Rattle.word_store.specs.Count.{times, words_of}
-use Rattle.block_calls.proofs.Shown.KernelDispatch.LinkedList.AllMembers.{all-back, all-front}
+use Rattle.task_calls.proofs.Shown.KernelDispatch.LinkedList.AllMembers.{all-back, all-front}
 use Rattle.word_store.proofs.Counts.{hit-other, hit-same, range-high, range-low, times-above, times-within, times-words_more}
-use Rattle.block_calls.specs.KernelDispatch.OwnedWords.LinkedWords.{first_of, linked_words}
-use Rattle.block_calls.specs.KernelDispatch.OwnedWords.Owned.{Pairs, owners}
-use Rattle.block_calls.proofs.Shown.KernelDispatch.OwnedWords.OwnedWords.{owners-append}
-use Rattle.block_calls.proofs.Shown.KernelDispatch.OwnedWords.RowWords.{owners-row}
-use Rattle.block_calls.specs.KernelDispatch.GetvecChain.declared.pieces.Block.{Block}
-use Rattle.block_calls.specs.KernelDispatch.GetvecChain.Block.{is_used_at, used_block}
-use Rattle.block_calls.specs.KernelDispatch.GetvecChain.BlockWords.{blocks_words}
-use Rattle.block_calls.specs.KernelDispatch.GetvecChain.Give.{given}
-use Rattle.block_calls.specs.KernelDispatch.GetvecChain.Run.{need}
-use Rattle.block_calls.specs.KernelDispatch.GetvecChain.Tiling.{Follow, holding}
-use Rattle.block_calls.proofs.Shown.KernelDispatch.GetvecChain.Splits.{GiveSplit, give_split}
-use Rattle.block_calls.specs.KernelDispatch.HunkLoader.HeldModules.{LoadedModule, module_address, module_words}
-use Rattle.block_calls.specs.KernelDispatch.PacketQueue.QueueWords.{QueuedPacket, address_of as packet_address, packet_words, queue_words}
-use Rattle.block_calls.specs.KernelDispatch.PacketQueue.Queue.{no_queue}
-use Rattle.block_calls.specs.KernelDispatch.Coroutines.CoroutineWords.{coroutine_size}
-use Rattle.block_calls.specs.KernelDispatch.Coroutines.HeldCoroutines.{Coroutine, address_of}
-use Rattle.block_calls.specs.KernelDispatch.KernelModel.BlockUse.{coroutine_addresses}
-use Rattle.block_calls.specs.KernelDispatch.KernelModel.Lists.{Lists, has_task, is_queued, queued}
-use Rattle.block_calls.specs.KernelDispatch.KernelModel.Owned.{owned}
-use Rattle.block_calls.specs.KernelDispatch.KernelModel.Residents.{fault_packet, keyboard, fault_packet_words, key_arguments, key_words, pending_head, resident_words}
-use Rattle.block_calls.specs.KernelDispatch.KernelModel.Task.{Task, is_guest_id, task_address, task_words}
-use Rattle.block_calls.specs.KernelDispatch.KernelModel.ValidBlocks.{HasBlock, last_module_word, last_resident_word}
-use Rattle.block_calls.specs.KernelDispatch.KernelModel.ValidLists.{AreValid}
-use Rattle.block_calls.specs.KernelDispatch.KernelModel.ValidTasks.{CoroutinesStand, IsCoroutine, IsGuest, IsTask, resident_place}
-use Rattle.block_calls.specs.KernelDispatch.KernelModel.Versions.{head_words_of}
-use Rattle.block_calls.proofs.Shown.KernelDispatch.KernelModel.AllThings.{all-beside, all-between, all-here, all-pieces}
-use Rattle.block_calls.proofs.Shown.KernelDispatch.KernelModel.BlockStarts.{store-Tiles, store_of}
-use Rattle.block_calls.proofs.Shown.KernelDispatch.KernelModel.ChainSplits.{HasNumbered, numbered}
-use Rattle.block_calls.proofs.Shown.KernelDispatch.KernelModel.EachMember.{all-both, all-each, linked-each}
-use Rattle.block_calls.proofs.Shown.KernelDispatch.KernelModel.FollowedBlocks.{IsDataOf, IsWithin, found-holding, found-within, member-data}
-use Rattle.block_calls.proofs.Shown.KernelDispatch.KernelModel.OwnerCounts.{owners-linked_between, owners-residents, packets_count}
-use Rattle.block_calls.proofs.Shown.KernelDispatch.KernelModel.RootCounts.{head-low, owners-nodes}
-use Rattle.block_calls.proofs.Shown.KernelDispatch.KernelModel.TaskCounts.{further_count, owners-task_by}
-use Rattle.block_calls.proofs.Shown.KernelDispatch.KernelModel.TaskPlaces.{has-each, last-resident}
+use Rattle.task_calls.specs.KernelDispatch.OwnedWords.LinkedWords.{first_of, linked_words}
+use Rattle.task_calls.specs.KernelDispatch.OwnedWords.Owned.{Pairs, owners}
+use Rattle.task_calls.proofs.Shown.KernelDispatch.OwnedWords.OwnedWords.{owners-append}
+use Rattle.task_calls.proofs.Shown.KernelDispatch.OwnedWords.RowWords.{owners-row}
+use Rattle.task_calls.specs.KernelDispatch.GetvecChain.declared.pieces.Block.{Block}
+use Rattle.task_calls.specs.KernelDispatch.GetvecChain.Block.{is_used_at, used_block}
+use Rattle.task_calls.specs.KernelDispatch.GetvecChain.BlockWords.{blocks_words}
+use Rattle.task_calls.specs.KernelDispatch.GetvecChain.Give.{given}
+use Rattle.task_calls.specs.KernelDispatch.GetvecChain.Run.{need}
+use Rattle.task_calls.specs.KernelDispatch.GetvecChain.Tiling.{Follow, holding}
+use Rattle.task_calls.proofs.Shown.KernelDispatch.GetvecChain.Splits.{GiveSplit, give_split}
+use Rattle.task_calls.specs.KernelDispatch.HunkLoader.HeldModules.{LoadedModule, module_address, module_words}
+use Rattle.task_calls.specs.KernelDispatch.PacketQueue.QueueWords.{QueuedPacket, address_of as packet_address, packet_words, queue_words}
+use Rattle.task_calls.specs.KernelDispatch.PacketQueue.Queue.{no_queue}
+use Rattle.task_calls.specs.KernelDispatch.Coroutines.CoroutineWords.{coroutine_size}
+use Rattle.task_calls.specs.KernelDispatch.Coroutines.HeldCoroutines.{Coroutine, address_of}
+use Rattle.task_calls.specs.KernelDispatch.KernelModel.BlockUse.{coroutine_addresses}
+use Rattle.task_calls.specs.KernelDispatch.KernelModel.Lists.{Lists, has_task, is_queued, queued}
+use Rattle.task_calls.specs.KernelDispatch.KernelModel.Owned.{owned}
+use Rattle.task_calls.specs.KernelDispatch.KernelModel.Residents.{fault_packet, keyboard, fault_packet_words, key_arguments, key_words, pending_head, resident_words}
+use Rattle.task_calls.specs.KernelDispatch.KernelModel.Task.{Task, is_guest_id, task_address, task_words}
+use Rattle.task_calls.specs.KernelDispatch.KernelModel.ValidBlocks.{HasBlock, last_module_word, last_resident_word}
+use Rattle.task_calls.specs.KernelDispatch.KernelModel.ValidLists.{AreValid}
+use Rattle.task_calls.specs.KernelDispatch.KernelModel.ValidTasks.{CoroutinesStand, IsCoroutine, IsGuest, IsTask, resident_place}
+use Rattle.task_calls.specs.KernelDispatch.KernelModel.Versions.{head_words_of}
+use Rattle.task_calls.proofs.Shown.KernelDispatch.KernelModel.AllThings.{all-beside, all-between, all-here, all-pieces}
+use Rattle.task_calls.proofs.Shown.KernelDispatch.KernelModel.BlockStarts.{store-Tiles, store_of}
+use Rattle.task_calls.proofs.Shown.KernelDispatch.KernelModel.ChainSplits.{HasNumbered, numbered}
+use Rattle.task_calls.proofs.Shown.KernelDispatch.KernelModel.EachMember.{all-both, all-each, linked-each}
+use Rattle.task_calls.proofs.Shown.KernelDispatch.KernelModel.FollowedBlocks.{IsDataOf, IsWithin, found-holding, found-within, member-data}
+use Rattle.task_calls.proofs.Shown.KernelDispatch.KernelModel.OwnerCounts.{owners-linked_between, owners-residents, packets_count}
+use Rattle.task_calls.proofs.Shown.KernelDispatch.KernelModel.RootCounts.{head-low, owners-nodes}
+use Rattle.task_calls.proofs.Shown.KernelDispatch.KernelModel.TaskCounts.{further_count, owners-task_by}
+use Rattle.task_calls.proofs.Shown.KernelDispatch.KernelModel.TaskPlaces.{has-each, last-resident}
 use Rattle.module_calls.proofs.ModuleParts.{owners-module}
 
 -- linked things of which none owns an address do not stand there

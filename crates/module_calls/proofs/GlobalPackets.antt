@@ -4,17 +4,17 @@ use Rattle.std.specs.List.{list_any, range_with_len}
 use Rattle.std.proofs.lemmas.Bool.{and_parts, cases_eq, false≢true, le-leb, leb-true, lt-ltb, or_right}
 use Rattle.std.proofs.lemmas.Bool.Decides.{nat_tests}
 use Rattle.std.proofs.lemmas.List.Folds.{list_any-append}
-use Rattle.block_calls.specs.KernelDispatch.PacketQueue.QueueWords.{QueuedPacket}
-use Rattle.block_calls.specs.KernelDispatch.KernelModel.Changes.{AreUnowned}
-use Rattle.block_calls.specs.KernelDispatch.KernelModel.HoldsLists.{HoldsLists}
-use Rattle.block_calls.specs.KernelDispatch.KernelModel.KernelRanges.{is_kernel_word, list_ranges, meets, packet_ranges, packet_words_of}
-use Rattle.block_calls.specs.KernelDispatch.KernelModel.Lists.{Lists, queued}
-use Rattle.block_calls.specs.KernelDispatch.KernelModel.Task.{globals_of}
-use Rattle.block_calls.proofs.Shown.KernelDispatch.KernelModel.AllThings.{all-fail}
-use Rattle.block_calls.proofs.Shown.KernelDispatch.KernelModel.EachMember.{all-each}
-use Rattle.block_calls.proofs.Shown.KernelDispatch.KernelModel.PacketRanges.{queued-packets}
-use Rattle.block_calls.proofs.Shown.KernelDispatch.KernelModel.RangesOwned.{ranges-owned}
-use Rattle.block_calls.specs.CallAnswers.Guests.{GuestAt}
+use Rattle.task_calls.specs.KernelDispatch.PacketQueue.QueueWords.{QueuedPacket}
+use Rattle.task_calls.specs.KernelDispatch.KernelModel.Changes.{AreUnowned}
+use Rattle.task_calls.specs.KernelDispatch.KernelModel.HoldsLists.{HoldsLists}
+use Rattle.task_calls.specs.KernelDispatch.KernelModel.KernelRanges.{is_kernel_word, list_ranges, meets, packet_ranges, packet_words_of}
+use Rattle.task_calls.specs.KernelDispatch.KernelModel.Lists.{Lists, queued}
+use Rattle.task_calls.specs.KernelDispatch.KernelModel.Task.{globals_of}
+use Rattle.task_calls.proofs.Shown.KernelDispatch.KernelModel.AllThings.{all-fail}
+use Rattle.task_calls.proofs.Shown.KernelDispatch.KernelModel.EachMember.{all-each}
+use Rattle.task_calls.proofs.Shown.KernelDispatch.KernelModel.PacketRanges.{queued-packets}
+use Rattle.task_calls.proofs.Shown.KernelDispatch.KernelModel.RangesOwned.{ranges-owned}
+use Rattle.task_calls.specs.CallAnswers.Guests.{GuestAt}
 use Rattle.module_calls.specs.AddModule.{lies_in_globals}
 use Rattle.module_calls.proofs.AdditionTests.{facts, is-guest}
 use Rattle.module_calls.proofs.GlobalOwners.{globals-unowned}

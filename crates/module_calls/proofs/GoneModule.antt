@@ -3,50 +3,50 @@ use Rattle.std.proofs.Common.{◌≡◌, ℕ, suc, ◌+◌, ◌-◌, ◌^◌, �
 use Rattle.std.specs.List.{AllByRecursion, list_any, range_with_len}
 use Rattle.std.proofs.lemmas.Bool.{cases_lt, eqb-true}
 use Rattle.word_store.specs.Count.{IsApart, hit, times}
-use Rattle.block_calls.specs.KernelDispatch.LinkedList.Places.{has, without_first, without_node}
+use Rattle.task_calls.specs.KernelDispatch.LinkedList.Places.{has, without_first, without_node}
 use Rattle.word_store.proofs.Counts.{times-above}
-use Rattle.block_calls.specs.KernelDispatch.OwnedWords.Exchange.{Exchange}
-use Rattle.block_calls.specs.KernelDispatch.OwnedWords.LinkedWords.{AreHeld}
-use Rattle.block_calls.specs.KernelDispatch.OwnedWords.Owned.{owners}
-use Rattle.block_calls.proofs.Shown.KernelDispatch.OwnedWords.Exchanges.{exchange-remove}
-use Rattle.block_calls.proofs.Shown.KernelDispatch.OwnedWords.HeldLists.{held-without_node}
-use Rattle.block_calls.specs.KernelDispatch.GetvecChain.declared.pieces.Block.{Block}
-use Rattle.block_calls.specs.KernelDispatch.GetvecChain.Block.{block_end, used_block}
-use Rattle.block_calls.specs.KernelDispatch.GetvecChain.Give.{given_store}
-use Rattle.block_calls.specs.KernelDispatch.GetvecChain.Run.{need}
-use Rattle.block_calls.specs.KernelDispatch.GetvecChain.Tiling.{blocks_in, used_at}
-use Rattle.block_calls.proofs.Shown.KernelDispatch.GetvecChain.UsedBlocks.{UsedBlock, used_at-is}
-use Rattle.block_calls.specs.KernelDispatch.HunkLoader.HeldModules.{LoadedModule, module_address, module_words}
-use Rattle.block_calls.specs.KernelDispatch.HunkLoader.ModuleExchanges.{first_of_modules, link_behind, modules_words}
-use Rattle.block_calls.proofs.Shown.KernelDispatch.HunkLoader.HeldModuleLists.{are_modules, module_size}
-use Rattle.block_calls.specs.KernelDispatch.TaskBlock.Lists.{module_link}
-use Rattle.block_calls.specs.KernelDispatch.KernelModel.BlockUse.{use_of_data}
-use Rattle.block_calls.specs.KernelDispatch.KernelModel.declared.uses.Use.TheVariants.{User}
-use Rattle.block_calls.specs.KernelDispatch.KernelModel.ChangedStore.{IsChanged, Knows}
-use Rattle.block_calls.specs.KernelDispatch.KernelModel.Changes.{AreUnowned, IsIdleBlock, with_modules}
-use Rattle.block_calls.specs.KernelDispatch.KernelModel.HoldsLists.{HoldsLists}
-use Rattle.block_calls.specs.KernelDispatch.KernelModel.Lists.{Lists, queued}
-use Rattle.block_calls.specs.KernelDispatch.KernelModel.Owned.{owned}
-use Rattle.block_calls.specs.KernelDispatch.KernelModel.ValidBlocks.{HasBlock, last_module_word}
-use Rattle.block_calls.specs.KernelDispatch.KernelModel.ValidLists.{AreValid}
-use Rattle.block_calls.proofs.Shown.KernelDispatch.KernelModel.AllThings.{all-fail, all-here}
-use Rattle.block_calls.proofs.Shown.KernelDispatch.KernelModel.ChangedLists.{changed-then, exchange-owned, knows-same}
-use Rattle.block_calls.proofs.Shown.KernelDispatch.KernelModel.ListRanges.{HasCount}
-use Rattle.block_calls.proofs.Shown.KernelDispatch.KernelModel.ModuleMoves.{gone_module-unowned, gone_module-valid}
-use Rattle.block_calls.proofs.Shown.KernelDispatch.KernelModel.UnownedBlocks.{unowned-user}
-use Rattle.block_calls.proofs.Shown.KernelDispatch.KernelModel.WalkedLists.{counts-read}
-use Rattle.block_calls.specs.CallAnswers.Made.{IsMade, Made, done, minus_one}
-use Rattle.block_calls.specs.CallAnswers.Refusals.{first_refusal}
-use Rattle.block_calls.proofs.Shown.CallAnswers.FoundTask.{reads}
-use Rattle.block_calls.proofs.Shown.CallAnswers.MadeCalls.{made-accepted, made-refused}
-use Rattle.block_calls.proofs.Shown.CallAnswers.Refusals.{first_refusal-failed, first_refusal-passed}
-use Rattle.block_calls.specs.CallAnswers.Modules.{has_module}
-use Rattle.block_calls.specs.KernelDispatch.WordKinds.Keeper.{AreTogether}
-use Rattle.block_calls.proofs.Shown.KernelDispatch.WordKinds.KnownWords.{knows-released}
-use Rattle.block_calls.specs.Freevec.{has_packet_in, holds_packet, lies_in, with_given}
-use Rattle.block_calls.proofs.IdleBlocks.{idle-unowned, none-idle, unowned-empty}
-use Rattle.block_calls.proofs.Shown.KernelDispatch.WordKinds.OwnedMarks.{size-low}
-use Rattle.block_calls.proofs.TakenStore.{given-changed, given-owners}
+use Rattle.task_calls.specs.KernelDispatch.OwnedWords.Exchange.{Exchange}
+use Rattle.task_calls.specs.KernelDispatch.OwnedWords.LinkedWords.{AreHeld}
+use Rattle.task_calls.specs.KernelDispatch.OwnedWords.Owned.{owners}
+use Rattle.task_calls.proofs.Shown.KernelDispatch.OwnedWords.Exchanges.{exchange-remove}
+use Rattle.task_calls.proofs.Shown.KernelDispatch.OwnedWords.HeldLists.{held-without_node}
+use Rattle.task_calls.specs.KernelDispatch.GetvecChain.declared.pieces.Block.{Block}
+use Rattle.task_calls.specs.KernelDispatch.GetvecChain.Block.{block_end, used_block}
+use Rattle.task_calls.specs.KernelDispatch.GetvecChain.Give.{given_store}
+use Rattle.task_calls.specs.KernelDispatch.GetvecChain.Run.{need}
+use Rattle.task_calls.specs.KernelDispatch.GetvecChain.Tiling.{blocks_in, used_at}
+use Rattle.task_calls.proofs.Shown.KernelDispatch.GetvecChain.UsedBlocks.{UsedBlock, used_at-is}
+use Rattle.task_calls.specs.KernelDispatch.HunkLoader.HeldModules.{LoadedModule, module_address, module_words}
+use Rattle.task_calls.specs.KernelDispatch.HunkLoader.ModuleExchanges.{first_of_modules, link_behind, modules_words}
+use Rattle.task_calls.proofs.Shown.KernelDispatch.HunkLoader.HeldModuleLists.{are_modules, module_size}
+use Rattle.task_calls.specs.KernelDispatch.TaskBlock.Lists.{module_link}
+use Rattle.task_calls.specs.KernelDispatch.KernelModel.BlockUse.{use_of_data}
+use Rattle.task_calls.specs.KernelDispatch.KernelModel.declared.uses.Use.TheVariants.{User}
+use Rattle.task_calls.specs.KernelDispatch.KernelModel.ChangedStore.{IsChanged, Knows}
+use Rattle.task_calls.specs.KernelDispatch.KernelModel.Changes.{AreUnowned, IsIdleBlock, with_modules}
+use Rattle.task_calls.specs.KernelDispatch.KernelModel.HoldsLists.{HoldsLists}
+use Rattle.task_calls.specs.KernelDispatch.KernelModel.Lists.{Lists, queued}
+use Rattle.task_calls.specs.KernelDispatch.KernelModel.Owned.{owned}
+use Rattle.task_calls.specs.KernelDispatch.KernelModel.ValidBlocks.{HasBlock, last_module_word}
+use Rattle.task_calls.specs.KernelDispatch.KernelModel.ValidLists.{AreValid}
+use Rattle.task_calls.proofs.Shown.KernelDispatch.KernelModel.AllThings.{all-fail, all-here}
+use Rattle.task_calls.proofs.Shown.KernelDispatch.KernelModel.ChangedLists.{changed-then, exchange-owned, knows-same}
+use Rattle.task_calls.proofs.Shown.KernelDispatch.KernelModel.ListRanges.{HasCount}
+use Rattle.task_calls.proofs.Shown.KernelDispatch.KernelModel.ModuleMoves.{gone_module-unowned, gone_module-valid}
+use Rattle.task_calls.proofs.Shown.KernelDispatch.KernelModel.UnownedBlocks.{unowned-user}
+use Rattle.task_calls.proofs.Shown.KernelDispatch.KernelModel.WalkedLists.{counts-read}
+use Rattle.task_calls.specs.CallAnswers.Made.{IsMade, Made, done, minus_one}
+use Rattle.task_calls.specs.CallAnswers.Refusals.{first_refusal}
+use Rattle.task_calls.proofs.Shown.CallAnswers.FoundTask.{reads}
+use Rattle.task_calls.proofs.Shown.CallAnswers.MadeCalls.{made-accepted, made-refused}
+use Rattle.task_calls.proofs.Shown.CallAnswers.Refusals.{first_refusal-failed, first_refusal-passed}
+use Rattle.task_calls.specs.CallAnswers.Modules.{has_module}
+use Rattle.task_calls.specs.KernelDispatch.WordKinds.Keeper.{AreTogether}
+use Rattle.task_calls.proofs.Shown.KernelDispatch.WordKinds.KnownWords.{knows-released}
+use Rattle.task_calls.specs.BlockCalls.Freevec.{has_packet_in, holds_packet, lies_in, with_given}
+use Rattle.task_calls.proofs.Shown.BlockCalls.IdleBlocks.{idle-unowned, none-idle, unowned-empty}
+use Rattle.task_calls.proofs.Shown.KernelDispatch.WordKinds.OwnedMarks.{size-low}
+use Rattle.task_calls.proofs.Shown.BlockCalls.TakenStore.{given-changed, given-owners}
 use Rattle.module_calls.specs.UnloadModule.{is_in_use, unload_module, unload_tests, use_tests, without_module}
 use Rattle.module_calls.proofs.ModuleParts.{modules-exchange, owners-module}
 use Rattle.module_calls.proofs.ModuleUses.{tests-use}

@@ -12,3 +12,4 @@ pub mod TaskGlobals
 pub mod GlobalOwners
 pub mod GlobalPackets
 pub mod AdditionCall
+pub mod Shown

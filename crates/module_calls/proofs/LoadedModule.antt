@@ -4,37 +4,37 @@ use Rattle.std.specs.Prelude.{is_some}
 use Rattle.std.specs.List.{range_with_len}
 use Rattle.word_store.specs.Count.{hit, times}
 use Rattle.word_store.proofs.Counts.{times-above}
-use Rattle.block_calls.specs.KernelDispatch.OwnedWords.Exchange.{Exchange}
-use Rattle.block_calls.specs.KernelDispatch.OwnedWords.Owned.{Pairs, owners}
-use Rattle.block_calls.proofs.Shown.KernelDispatch.OwnedWords.Exchanges.{exchange-insert}
-use Rattle.block_calls.proofs.Shown.KernelDispatch.OwnedWords.OwnedWords.{Holds-append, Holds-left, Holds-right, owners-append}
-use Rattle.block_calls.specs.KernelDispatch.GetvecChain.Run.{first_run, need}
-use Rattle.block_calls.specs.KernelDispatch.GetvecChain.Tiling.{blocks_in}
+use Rattle.task_calls.specs.KernelDispatch.OwnedWords.Exchange.{Exchange}
+use Rattle.task_calls.specs.KernelDispatch.OwnedWords.Owned.{Pairs, owners}
+use Rattle.task_calls.proofs.Shown.KernelDispatch.OwnedWords.Exchanges.{exchange-insert}
+use Rattle.task_calls.proofs.Shown.KernelDispatch.OwnedWords.OwnedWords.{Holds-append, Holds-left, Holds-right, owners-append}
+use Rattle.task_calls.specs.KernelDispatch.GetvecChain.Run.{first_run, need}
+use Rattle.task_calls.specs.KernelDispatch.GetvecChain.Tiling.{blocks_in}
 use Rattle.hunk_text.specs.declared.modules.Hunk.{Hunk}
-use Rattle.block_calls.specs.KernelDispatch.HunkLoader.HeldModules.{LoadedModule, module_address, module_words}
-use Rattle.block_calls.specs.KernelDispatch.HunkLoader.LoadOutcome.{IsLoaded}
-use Rattle.block_calls.specs.KernelDispatch.HunkLoader.ModuleExchanges.{first_of_modules, hunk_words, loaded_module, loaded_words}
-use Rattle.block_calls.specs.KernelDispatch.HunkLoader.ModuleRow.{last_word}
-use Rattle.block_calls.proofs.Shown.KernelDispatch.HunkLoader.HeldModuleLists.{are_modules}
-use Rattle.block_calls.proofs.Shown.KernelDispatch.HunkLoader.LoadedModules.{length-lengths}
-use Rattle.block_calls.specs.KernelDispatch.KernelModel.ChangedStore.{IsChanged, Knows}
-use Rattle.block_calls.specs.KernelDispatch.KernelModel.Changes.{AreUnowned, with_modules}
-use Rattle.block_calls.specs.KernelDispatch.KernelModel.HoldsLists.{HoldsLists}
-use Rattle.block_calls.specs.KernelDispatch.KernelModel.Lists.{Lists}
-use Rattle.block_calls.specs.KernelDispatch.KernelModel.Owned.{owned}
-use Rattle.block_calls.specs.KernelDispatch.KernelModel.ValidBlocks.{HasBlock, last_module_word}
-use Rattle.block_calls.specs.KernelDispatch.KernelModel.ValidLists.{AreValid}
-use Rattle.block_calls.proofs.Shown.KernelDispatch.KernelModel.ChangedLists.{exchange-changed}
-use Rattle.block_calls.proofs.Shown.KernelDispatch.KernelModel.DataInside.{HasBlock-inside}
-use Rattle.block_calls.proofs.Shown.KernelDispatch.KernelModel.ModuleMoves.{new_module-valid}
-use Rattle.block_calls.specs.CallAnswers.Made.{IsMade, Made}
-use Rattle.block_calls.proofs.Shown.CallAnswers.ChangedTwice.{changed-twice}
-use Rattle.block_calls.proofs.Shown.CallAnswers.FoundTask.{reads}
-use Rattle.block_calls.proofs.Shown.CallAnswers.MadeCalls.{made-accepted, made-refused}
-use Rattle.block_calls.specs.KernelDispatch.WordKinds.Keeper.{AreTogether}
-use Rattle.block_calls.proofs.Shown.KernelDispatch.WordKinds.KnownWords.{knows-claimed}
-use Rattle.block_calls.specs.FreeStore.{data_of_front, with_taken}
-use Rattle.block_calls.proofs.TakenStore.{HasTakenBlock, taken-changed}
+use Rattle.task_calls.specs.KernelDispatch.HunkLoader.HeldModules.{LoadedModule, module_address, module_words}
+use Rattle.task_calls.specs.KernelDispatch.HunkLoader.LoadOutcome.{IsLoaded}
+use Rattle.task_calls.specs.KernelDispatch.HunkLoader.ModuleExchanges.{first_of_modules, hunk_words, loaded_module, loaded_words}
+use Rattle.task_calls.specs.KernelDispatch.HunkLoader.ModuleRow.{last_word}
+use Rattle.task_calls.proofs.Shown.KernelDispatch.HunkLoader.HeldModuleLists.{are_modules}
+use Rattle.task_calls.proofs.Shown.KernelDispatch.HunkLoader.LoadedModules.{length-lengths}
+use Rattle.task_calls.specs.KernelDispatch.KernelModel.ChangedStore.{IsChanged, Knows}
+use Rattle.task_calls.specs.KernelDispatch.KernelModel.Changes.{AreUnowned, with_modules}
+use Rattle.task_calls.specs.KernelDispatch.KernelModel.HoldsLists.{HoldsLists}
+use Rattle.task_calls.specs.KernelDispatch.KernelModel.Lists.{Lists}
+use Rattle.task_calls.specs.KernelDispatch.KernelModel.Owned.{owned}
+use Rattle.task_calls.specs.KernelDispatch.KernelModel.ValidBlocks.{HasBlock, last_module_word}
+use Rattle.task_calls.specs.KernelDispatch.KernelModel.ValidLists.{AreValid}
+use Rattle.task_calls.proofs.Shown.KernelDispatch.KernelModel.ChangedLists.{exchange-changed}
+use Rattle.task_calls.proofs.Shown.KernelDispatch.KernelModel.DataInside.{HasBlock-inside}
+use Rattle.task_calls.proofs.Shown.KernelDispatch.KernelModel.ModuleMoves.{new_module-valid}
+use Rattle.task_calls.specs.CallAnswers.Made.{IsMade, Made}
+use Rattle.task_calls.proofs.Shown.CallAnswers.ChangedTwice.{changed-twice}
+use Rattle.task_calls.proofs.Shown.CallAnswers.FoundTask.{reads}
+use Rattle.task_calls.proofs.Shown.CallAnswers.MadeCalls.{made-accepted, made-refused}
+use Rattle.task_calls.specs.KernelDispatch.WordKinds.Keeper.{AreTogether}
+use Rattle.task_calls.proofs.Shown.KernelDispatch.WordKinds.KnownWords.{knows-claimed}
+use Rattle.task_calls.specs.BlockCalls.FreeStore.{data_of_front, with_taken}
+use Rattle.task_calls.proofs.Shown.BlockCalls.TakenStore.{HasTakenBlock, taken-changed}
 use Rattle.module_calls.specs.LoadModule.{load_module, load_tests, loaded_at, with_loaded}
 use Rattle.module_calls.proofs.LoadedWords.{hunks-apart, hunks-high, hunks-low, last-word, load-written}
 use Rattle.module_calls.proofs.ModuleParts.{modules-exchange, owners-module}

@@ -5,16 +5,16 @@ use Rattle.std.proofs.lemmas.List.Sums.{sum-map}
 use Rattle.word_store.specs.Count.{times}
 use Rattle.word_store.proofs.Counts.{range-apart, range-high, range-low}
 use Rattle.word_store.specs.Row.{with_words}
-use Rattle.block_calls.specs.KernelDispatch.OwnedWords.Owned.{owners, row_from, written}
-use Rattle.block_calls.proofs.Shown.KernelDispatch.OwnedWords.RowWords.{owners-row, with_words-written}
+use Rattle.task_calls.specs.KernelDispatch.OwnedWords.Owned.{owners, row_from, written}
+use Rattle.task_calls.proofs.Shown.KernelDispatch.OwnedWords.RowWords.{owners-row, with_words-written}
 use Rattle.hunk_text.specs.Shapes.{words_in}
 use Rattle.hunk_text.specs.declared.modules.Hunk.{Hunk}
-use Rattle.block_calls.specs.KernelDispatch.HunkLoader.HeldModules.{LoadedModule, module_words}
-use Rattle.block_calls.specs.KernelDispatch.HunkLoader.ModuleExchanges.{first_of_modules, hunk_words, loaded_module, loaded_words}
-use Rattle.block_calls.specs.KernelDispatch.HunkLoader.ModuleRow.{hunks_image, last_word, lengths_of, module_row}
-use Rattle.block_calls.proofs.Shown.KernelDispatch.HunkLoader.LoadedModules.{length-lengths, length-row}
-use Rattle.block_calls.specs.KernelDispatch.KernelModel.ValidBlocks.{last_module_word}
-use Rattle.block_calls.proofs.Shown.CallAnswers.JoinedRows.{row_from-append}
+use Rattle.task_calls.specs.KernelDispatch.HunkLoader.HeldModules.{LoadedModule, module_words}
+use Rattle.task_calls.specs.KernelDispatch.HunkLoader.ModuleExchanges.{first_of_modules, hunk_words, loaded_module, loaded_words}
+use Rattle.task_calls.specs.KernelDispatch.HunkLoader.ModuleRow.{hunks_image, last_word, lengths_of, module_row}
+use Rattle.task_calls.proofs.Shown.KernelDispatch.HunkLoader.LoadedModules.{length-lengths, length-row}
+use Rattle.task_calls.specs.KernelDispatch.KernelModel.ValidBlocks.{last_module_word}
+use Rattle.task_calls.proofs.Shown.CallAnswers.JoinedRows.{row_from-append}
 
 -- its last word, counted from its lengths
 pub last-word : (m : ℕ) (hunks : List Hunk) → last_module_word (loaded_module m hunks) ≡ last_word hunks

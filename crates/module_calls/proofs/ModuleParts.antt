@@ -2,17 +2,17 @@
 use Rattle.std.proofs.Common.{◌≡◌, ℕ, suc, ◌+◌, List, ◌∷◌, length, ap}
 use Rattle.std.specs.List.{range_with_len}
 use Rattle.word_store.specs.Count.{hit, times}
-use Rattle.block_calls.specs.KernelDispatch.OwnedWords.Exchange.{Exchange}
-use Rattle.block_calls.specs.KernelDispatch.OwnedWords.Owned.{Pairs, owners}
-use Rattle.block_calls.proofs.Shown.KernelDispatch.OwnedWords.Exchanges.{exchange-left, exchange-right}
-use Rattle.block_calls.proofs.Shown.KernelDispatch.OwnedWords.RowWords.{owners-row}
-use Rattle.block_calls.specs.KernelDispatch.GetvecChain.BlockWords.{blocks_words}
-use Rattle.block_calls.specs.KernelDispatch.HunkLoader.HeldModules.{LoadedModule, module_words}
-use Rattle.block_calls.specs.KernelDispatch.HunkLoader.ModuleExchanges.{modules_words}
-use Rattle.block_calls.specs.KernelDispatch.KernelModel.Changes.{with_modules}
-use Rattle.block_calls.specs.KernelDispatch.KernelModel.Lists.{Lists, address_of_task}
-use Rattle.block_calls.specs.KernelDispatch.KernelModel.Owned.{owned, tasks_words}
-use Rattle.block_calls.specs.KernelDispatch.KernelModel.Root.{root_words}
+use Rattle.task_calls.specs.KernelDispatch.OwnedWords.Exchange.{Exchange}
+use Rattle.task_calls.specs.KernelDispatch.OwnedWords.Owned.{Pairs, owners}
+use Rattle.task_calls.proofs.Shown.KernelDispatch.OwnedWords.Exchanges.{exchange-left, exchange-right}
+use Rattle.task_calls.proofs.Shown.KernelDispatch.OwnedWords.RowWords.{owners-row}
+use Rattle.task_calls.specs.KernelDispatch.GetvecChain.BlockWords.{blocks_words}
+use Rattle.task_calls.specs.KernelDispatch.HunkLoader.HeldModules.{LoadedModule, module_words}
+use Rattle.task_calls.specs.KernelDispatch.HunkLoader.ModuleExchanges.{modules_words}
+use Rattle.task_calls.specs.KernelDispatch.KernelModel.Changes.{with_modules}
+use Rattle.task_calls.specs.KernelDispatch.KernelModel.Lists.{Lists, address_of_task}
+use Rattle.task_calls.specs.KernelDispatch.KernelModel.Owned.{owned, tasks_words}
+use Rattle.task_calls.specs.KernelDispatch.KernelModel.Root.{root_words}
 
 -- an exchange of the words of modules is one of owned words
 pub modules-exchange : (l : Lists) (ms : List LoadedModule) (old new : Pairs) → Exchange (modules_words l.modules) (modules_words ms) old new → Exchange (owned l) (owned (with_modules ms l)) old new

@@ -2,25 +2,25 @@
 use Rattle.std.proofs.Common.{◌≡◌, ℕ, ◌+◌, ◌<◌, List, [], ◌∷◌, length, map, drop, cond, eqb, not, ◌||◌, Bool, true, false, Some, None, Option, refl, sym, ap, ◌∙◌, subst, arith}
 use Rattle.std.specs.List.{AllByRecursion, filter, list_any}
 use Rattle.std.proofs.lemmas.Bool.{eqb-true, ne_eqb}
-use Rattle.block_calls.specs.KernelDispatch.LinkedList.Places.{has}
-use Rattle.block_calls.proofs.Shown.KernelDispatch.LinkedList.AllMembers.{all-has}
-use Rattle.block_calls.specs.KernelDispatch.HunkLoader.HeldModules.{module_address}
-use Rattle.block_calls.specs.KernelDispatch.TaskBlock.TaskChain.{tasks_in}
-use Rattle.block_calls.specs.KernelDispatch.KernelModel.HoldsLists.{HoldsLists}
-use Rattle.block_calls.specs.KernelDispatch.KernelModel.Lists.{Lists}
-use Rattle.block_calls.specs.KernelDispatch.KernelModel.Recovered.{lists_in, task_in}
-use Rattle.block_calls.specs.KernelDispatch.KernelModel.Task.{Task, further_modules, task_address}
-use Rattle.block_calls.specs.KernelDispatch.KernelModel.ValidBlocks.{HasBlock, last_module_word}
-use Rattle.block_calls.specs.KernelDispatch.KernelModel.ValidLists.{AreValid}
-use Rattle.block_calls.proofs.Shown.KernelDispatch.KernelModel.DataInside.{HasBlock-inside}
-use Rattle.block_calls.proofs.Shown.KernelDispatch.KernelModel.EachMember.{all-addresses, all-both, all-each}
-use Rattle.block_calls.proofs.Shown.KernelDispatch.KernelModel.ListRanges.{TaskReads}
-use Rattle.block_calls.proofs.Shown.KernelDispatch.KernelModel.RecoveredLists.{lists-back}
-use Rattle.block_calls.proofs.Shown.KernelDispatch.KernelModel.TaskPlaces.{TaskPlace, task-places}
-use Rattle.block_calls.proofs.Shown.KernelDispatch.KernelModel.WalkedLists.{tasks-read}
-use Rattle.block_calls.specs.CallAnswers.Refusals.{first_refusal}
-use Rattle.block_calls.proofs.Shown.CallAnswers.FoundTask.{reads}
-use Rattle.block_calls.specs.CallAnswers.Modules.{has_module}
+use Rattle.task_calls.specs.KernelDispatch.LinkedList.Places.{has}
+use Rattle.task_calls.proofs.Shown.KernelDispatch.LinkedList.AllMembers.{all-has}
+use Rattle.task_calls.specs.KernelDispatch.HunkLoader.HeldModules.{module_address}
+use Rattle.task_calls.specs.KernelDispatch.TaskBlock.TaskChain.{tasks_in}
+use Rattle.task_calls.specs.KernelDispatch.KernelModel.HoldsLists.{HoldsLists}
+use Rattle.task_calls.specs.KernelDispatch.KernelModel.Lists.{Lists}
+use Rattle.task_calls.specs.KernelDispatch.KernelModel.Recovered.{lists_in, task_in}
+use Rattle.task_calls.specs.KernelDispatch.KernelModel.Task.{Task, further_modules, task_address}
+use Rattle.task_calls.specs.KernelDispatch.KernelModel.ValidBlocks.{HasBlock, last_module_word}
+use Rattle.task_calls.specs.KernelDispatch.KernelModel.ValidLists.{AreValid}
+use Rattle.task_calls.proofs.Shown.KernelDispatch.KernelModel.DataInside.{HasBlock-inside}
+use Rattle.task_calls.proofs.Shown.KernelDispatch.KernelModel.EachMember.{all-addresses, all-both, all-each}
+use Rattle.task_calls.proofs.Shown.KernelDispatch.KernelModel.ListRanges.{TaskReads}
+use Rattle.task_calls.proofs.Shown.KernelDispatch.KernelModel.RecoveredLists.{lists-back}
+use Rattle.task_calls.proofs.Shown.KernelDispatch.KernelModel.TaskPlaces.{TaskPlace, task-places}
+use Rattle.task_calls.proofs.Shown.KernelDispatch.KernelModel.WalkedLists.{tasks-read}
+use Rattle.task_calls.specs.CallAnswers.Refusals.{first_refusal}
+use Rattle.task_calls.proofs.Shown.CallAnswers.FoundTask.{reads}
+use Rattle.task_calls.specs.CallAnswers.Modules.{has_module}
 use Rattle.module_calls.specs.ModuleFields.{IsTaskIn, module_fields}
 use Rattle.module_calls.specs.UnloadModule.{is_in_use, use_tests}
 

@@ -2,33 +2,33 @@
 use Rattle.std.proofs.Common.{◌≡◌, ◌≢◌, ℕ, ◌+◌, ◌<◌, ◌≤◌, ◌⊎◌, List, ◌∷◌, ◌++◌, map, get_or, cond, eqb, true, Some, inl, inr, refl, sym, ap, ◌∙◌, subst, arith}
 use Rattle.std.specs.Prelude.{find}
 use Rattle.word_store.specs.Count.{IsApart}
-use Rattle.block_calls.proofs.Shown.KernelDispatch.LinkedList.AllMembers.{all-has}
+use Rattle.task_calls.proofs.Shown.KernelDispatch.LinkedList.AllMembers.{all-has}
 use Rattle.word_store.proofs.Counts.{hit-same}
-use Rattle.block_calls.specs.KernelDispatch.OwnedWords.LinkedWords.{linked_words}
-use Rattle.block_calls.specs.KernelDispatch.OwnedWords.Owned.{owners}
-use Rattle.block_calls.specs.KernelDispatch.GetvecChain.Block.{used_block}
-use Rattle.block_calls.specs.KernelDispatch.GetvecChain.Run.{need}
-use Rattle.block_calls.specs.KernelDispatch.GetvecChain.Tiling.{blocks_in, used_at}
-use Rattle.block_calls.proofs.Shown.KernelDispatch.GetvecChain.UsedBlocks.{AreDisjoint, used_at-apart}
-use Rattle.block_calls.specs.KernelDispatch.HunkLoader.GlobalWords.{AreClear}
-use Rattle.block_calls.specs.KernelDispatch.HunkLoader.HeldModules.{module_address, module_words}
-use Rattle.block_calls.specs.KernelDispatch.HunkLoader.ModuleHunks.{module_end}
-use Rattle.block_calls.specs.KernelDispatch.HunkLoader.Modules.{IsModuleAt}
-use Rattle.block_calls.proofs.Shown.KernelDispatch.HunkLoader.HeldModuleLists.{held-modules}
-use Rattle.block_calls.proofs.Shown.KernelDispatch.HunkLoader.ModuleBlocks.{InBlock, in_block}
-use Rattle.block_calls.specs.KernelDispatch.TaskBlock.Lists.{modules_in}
-use Rattle.block_calls.specs.KernelDispatch.KernelModel.HoldsLists.{HoldsLists}
-use Rattle.block_calls.specs.KernelDispatch.KernelModel.Lists.{Lists}
-use Rattle.block_calls.specs.KernelDispatch.KernelModel.Task.{globals_of, task_address, task_id, task_words}
-use Rattle.block_calls.specs.KernelDispatch.KernelModel.ValidBlocks.{HasBlock}
-use Rattle.block_calls.specs.KernelDispatch.KernelModel.Versions.{head_words_of}
-use Rattle.block_calls.proofs.Shown.KernelDispatch.KernelModel.OwnerCounts.{owners-linked_here}
-use Rattle.block_calls.proofs.Shown.KernelDispatch.KernelModel.RootCounts.{owners-nodes}
-use Rattle.block_calls.specs.CallAnswers.Guests.{GuestAt}
-use Rattle.block_calls.proofs.Shown.CallAnswers.FoundTask.{find-numbered, reads}
-use Rattle.block_calls.specs.CallAnswers.Modules.{has_module}
-use Rattle.block_calls.proofs.Shown.CallAnswers.ListedModules.{module-told}
-use Rattle.block_calls.proofs.Shown.CallAnswers.GuestTask.{guest-words}
+use Rattle.task_calls.specs.KernelDispatch.OwnedWords.LinkedWords.{linked_words}
+use Rattle.task_calls.specs.KernelDispatch.OwnedWords.Owned.{owners}
+use Rattle.task_calls.specs.KernelDispatch.GetvecChain.Block.{used_block}
+use Rattle.task_calls.specs.KernelDispatch.GetvecChain.Run.{need}
+use Rattle.task_calls.specs.KernelDispatch.GetvecChain.Tiling.{blocks_in, used_at}
+use Rattle.task_calls.proofs.Shown.KernelDispatch.GetvecChain.UsedBlocks.{AreDisjoint, used_at-apart}
+use Rattle.task_calls.specs.KernelDispatch.HunkLoader.GlobalWords.{AreClear}
+use Rattle.task_calls.specs.KernelDispatch.HunkLoader.HeldModules.{module_address, module_words}
+use Rattle.task_calls.specs.KernelDispatch.HunkLoader.ModuleHunks.{module_end}
+use Rattle.task_calls.specs.KernelDispatch.HunkLoader.Modules.{IsModuleAt}
+use Rattle.task_calls.proofs.Shown.KernelDispatch.HunkLoader.HeldModuleLists.{held-modules}
+use Rattle.task_calls.proofs.Shown.KernelDispatch.HunkLoader.ModuleBlocks.{InBlock, in_block}
+use Rattle.task_calls.specs.KernelDispatch.TaskBlock.Lists.{modules_in}
+use Rattle.task_calls.specs.KernelDispatch.KernelModel.HoldsLists.{HoldsLists}
+use Rattle.task_calls.specs.KernelDispatch.KernelModel.Lists.{Lists}
+use Rattle.task_calls.specs.KernelDispatch.KernelModel.Task.{globals_of, task_address, task_id, task_words}
+use Rattle.task_calls.specs.KernelDispatch.KernelModel.ValidBlocks.{HasBlock}
+use Rattle.task_calls.specs.KernelDispatch.KernelModel.Versions.{head_words_of}
+use Rattle.task_calls.proofs.Shown.KernelDispatch.KernelModel.OwnerCounts.{owners-linked_here}
+use Rattle.task_calls.proofs.Shown.KernelDispatch.KernelModel.RootCounts.{owners-nodes}
+use Rattle.task_calls.specs.CallAnswers.Guests.{GuestAt}
+use Rattle.task_calls.proofs.Shown.CallAnswers.FoundTask.{find-numbered, reads}
+use Rattle.task_calls.specs.CallAnswers.Modules.{has_module}
+use Rattle.task_calls.proofs.Shown.CallAnswers.ListedModules.{module-told}
+use Rattle.task_calls.proofs.Shown.CallAnswers.GuestTask.{guest-words}
 use Rattle.module_calls.specs.AddModule.{globals_at, globals_of_task, task_of}
 use Rattle.module_calls.proofs.AdditionTests.{facts, is-guest}
 use Rattle.module_calls.proofs.GoneModule.{ModuleAt, module-at}

@@ -1,19 +1,19 @@
 -- The call that gives a task one more module.
 use Rattle.std.specs.Prelude.{◌≡◌, ℕ, ◌+◌, ◌==◌, ◌&&◌, Bool, not, Result, Ok, Err, Option, Some, None, find, length, List, [], ◌∷◌, ◌++◌, nat_le, nat_lt}
 use Rattle.std.specs.List.{list_all, list_any, range_with_len}
-use Rattle.block_calls.specs.KernelDispatch.OwnedWords.Owned.{Pairs}
-use Rattle.block_calls.specs.KernelDispatch.PacketQueue.QueueWords.{QueuedPacket}
-use Rattle.block_calls.specs.KernelDispatch.HunkLoader.Globals.{Global, globals_in, highest, most_globals}
-use Rattle.block_calls.specs.KernelDispatch.HunkLoader.ModuleHunks.{hunks_in}
-use Rattle.block_calls.specs.KernelDispatch.KernelModel.Changes.{with_task}
-use Rattle.block_calls.specs.KernelDispatch.KernelModel.Lists.{Lists, queued}
-use Rattle.block_calls.specs.KernelDispatch.KernelModel.Task.{Task, globals_of}
-use Rattle.block_calls.specs.KernelDispatch.KernelModel.Versions.{most_modules_of}
-use Rattle.block_calls.specs.CallAnswers.Guests.{guest_tests}
-use Rattle.block_calls.specs.CallAnswers.Refusals.{first_refusal}
-use Rattle.block_calls.specs.CallAnswers.Made.{Made, unless_refused}
-use Rattle.block_calls.specs.CallAnswers.Tasks.{is_dead}
-use Rattle.block_calls.specs.CallAnswers.Modules.{has_module}
+use Rattle.task_calls.specs.KernelDispatch.OwnedWords.Owned.{Pairs}
+use Rattle.task_calls.specs.KernelDispatch.PacketQueue.QueueWords.{QueuedPacket}
+use Rattle.task_calls.specs.KernelDispatch.HunkLoader.Globals.{Global, globals_in, highest, most_globals}
+use Rattle.task_calls.specs.KernelDispatch.HunkLoader.ModuleHunks.{hunks_in}
+use Rattle.task_calls.specs.KernelDispatch.KernelModel.Changes.{with_task}
+use Rattle.task_calls.specs.KernelDispatch.KernelModel.Lists.{Lists, queued}
+use Rattle.task_calls.specs.KernelDispatch.KernelModel.Task.{Task, globals_of}
+use Rattle.task_calls.specs.KernelDispatch.KernelModel.Versions.{most_modules_of}
+use Rattle.task_calls.specs.CallAnswers.Guests.{guest_tests}
+use Rattle.task_calls.specs.CallAnswers.Refusals.{first_refusal}
+use Rattle.task_calls.specs.CallAnswers.Made.{Made, unless_refused}
+use Rattle.task_calls.specs.CallAnswers.Tasks.{is_dead}
+use Rattle.task_calls.specs.CallAnswers.Modules.{has_module}
 
 -- the task has fewer modules than it may have
 abbrev pub has_module_room : Lists → ℕ → Bool

@@ -1,12 +1,12 @@
 -- The call that loads a module.
 use Rattle.std.specs.Prelude.{ℕ, Bool, Ok, List, [], ◌∷◌}
 use Rattle.hunk_text.specs.declared.modules.Hunk.{Hunk}
-use Rattle.block_calls.specs.KernelDispatch.HunkLoader.ModuleExchanges.{hunk_words, loaded_module}
-use Rattle.block_calls.specs.KernelDispatch.HunkLoader.ModuleRow.{last_word}
-use Rattle.block_calls.specs.KernelDispatch.KernelModel.Changes.{with_modules}
-use Rattle.block_calls.specs.KernelDispatch.KernelModel.Lists.{Lists}
-use Rattle.block_calls.specs.CallAnswers.Made.{Made, unless_refused}
-use Rattle.block_calls.specs.FreeStore.{data_taken, has_room, with_taken}
+use Rattle.task_calls.specs.KernelDispatch.HunkLoader.ModuleExchanges.{hunk_words, loaded_module}
+use Rattle.task_calls.specs.KernelDispatch.HunkLoader.ModuleRow.{last_word}
+use Rattle.task_calls.specs.KernelDispatch.KernelModel.Changes.{with_modules}
+use Rattle.task_calls.specs.KernelDispatch.KernelModel.Lists.{Lists}
+use Rattle.task_calls.specs.CallAnswers.Made.{Made, unless_refused}
+use Rattle.task_calls.specs.BlockCalls.FreeStore.{data_taken, has_room, with_taken}
 
 -- where the module of these hunks will stand
 abbrev pub loaded_at : List Hunk → Lists → ℕ

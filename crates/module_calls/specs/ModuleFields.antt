@@ -1,9 +1,9 @@
 -- The words of a task block that have its modules.
 use Rattle.std.specs.Prelude.{ℕ, ◌+◌, ◌≤◌, ◌==◌, not, List, ◌∷◌, filter, length, slice_range}
-use Rattle.block_calls.specs.KernelDispatch.TaskBlock.Versions.{head_words}
-use Rattle.block_calls.specs.KernelDispatch.TaskBlock.declared.fields.TcbField.TheVariants.{Module}
-use Rattle.block_calls.specs.KernelDispatch.KernelModel.KernelRanges.{task_size_in}
-use Rattle.block_calls.specs.KernelDispatch.KernelModel.Recovered.{field_in, further_words}
+use Rattle.task_calls.specs.KernelDispatch.TaskBlock.Versions.{head_words}
+use Rattle.task_calls.specs.KernelDispatch.TaskBlock.declared.fields.TcbField.TheVariants.{Module}
+use Rattle.task_calls.specs.KernelDispatch.KernelModel.KernelRanges.{task_size_in}
+use Rattle.task_calls.specs.KernelDispatch.KernelModel.Recovered.{field_in, further_words}
 
 -- the first, and those of a guest behind word 22; where it has fewer modules they hold 0
 abbrev pub module_fields : List ℕ → ℕ → List ℕ

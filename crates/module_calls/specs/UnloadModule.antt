@@ -1,12 +1,12 @@
 -- The call that takes a module out.
 use Rattle.std.specs.Prelude.{ℕ, ◌==◌, Bool, not, List, [], ◌∷◌, ◌++◌}
 use Rattle.std.specs.List.{list_any}
-use Rattle.block_calls.specs.KernelDispatch.LinkedList.Places.{has, without_first}
-use Rattle.block_calls.specs.KernelDispatch.KernelModel.Changes.{with_modules}
-use Rattle.block_calls.specs.KernelDispatch.KernelModel.Lists.{Lists}
-use Rattle.block_calls.specs.CallAnswers.Made.{Made, done, unless_refused}
-use Rattle.block_calls.specs.CallAnswers.Modules.{has_module}
-use Rattle.block_calls.specs.Freevec.{has_packet_in, with_given}
+use Rattle.task_calls.specs.KernelDispatch.LinkedList.Places.{has, without_first}
+use Rattle.task_calls.specs.KernelDispatch.KernelModel.Changes.{with_modules}
+use Rattle.task_calls.specs.KernelDispatch.KernelModel.Lists.{Lists}
+use Rattle.task_calls.specs.CallAnswers.Made.{Made, done, unless_refused}
+use Rattle.task_calls.specs.CallAnswers.Modules.{has_module}
+use Rattle.task_calls.specs.BlockCalls.Freevec.{has_packet_in, with_given}
 
 -- a task has it among its modules
 abbrev pub is_in_use : Lists → ℕ → Bool

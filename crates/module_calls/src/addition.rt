@@ -1,24 +1,24 @@
 // A task gets one more module.
 ghost use Rattle.std.specs.Prelude.{◌≡◌, ◌≤◌, ◌+◌, ◌-◌, ◌%◌, ◌==◌, ℕ, length};
-ghost use Rattle.block_calls.specs.KernelDispatch.TaskBlock.Versions.{head_words};
-ghost use Rattle.block_calls.specs.KernelDispatch.TaskBlock.declared.fields.TcbField.TheVariants.{State};
-ghost use Rattle.block_calls.specs.KernelDispatch.KernelModel.ChangedStore.{HasKeeper};
-ghost use Rattle.block_calls.specs.KernelDispatch.KernelModel.HoldsLists.{HoldsLists};
-ghost use Rattle.block_calls.specs.KernelDispatch.KernelModel.Lists.{Lists};
-ghost use Rattle.block_calls.specs.KernelDispatch.KernelModel.Recovered.{field_in};
-ghost use Rattle.block_calls.specs.KernelDispatch.KernelModel.ValidTasks.{dead};
-ghost use Rattle.block_calls.specs.CallAnswers.Guests.{GuestAt};
-ghost use Rattle.block_calls.specs.CallAnswers.Made.{IsMade};
+ghost use Rattle.task_calls.specs.KernelDispatch.TaskBlock.Versions.{head_words};
+ghost use Rattle.task_calls.specs.KernelDispatch.TaskBlock.declared.fields.TcbField.TheVariants.{State};
+ghost use Rattle.task_calls.specs.KernelDispatch.KernelModel.ChangedStore.{HasKeeper};
+ghost use Rattle.task_calls.specs.KernelDispatch.KernelModel.HoldsLists.{HoldsLists};
+ghost use Rattle.task_calls.specs.KernelDispatch.KernelModel.Lists.{Lists};
+ghost use Rattle.task_calls.specs.KernelDispatch.KernelModel.Recovered.{field_in};
+ghost use Rattle.task_calls.specs.KernelDispatch.KernelModel.ValidTasks.{dead};
+ghost use Rattle.task_calls.specs.CallAnswers.Guests.{GuestAt};
+ghost use Rattle.task_calls.specs.CallAnswers.Made.{IsMade};
 ghost use Rattle.module_calls.specs.AddModule.{IsCounted, add_module};
 ghost use Rattle.module_calls.specs.ModuleFields.{further_count};
 
-use block_calls::codes::{GLOBALS_TOO_HIGH, MODULES_FULL, NO_MODULE, NOT_DEAD, PACKET_INSIDE};
-use block_calls::kernel_dispatch::{
+use task_calls::codes::{GLOBALS_TOO_HIGH, MODULES_FULL, NO_MODULE, NOT_DEAD, PACKET_INSIDE};
+use task_calls::kernel_dispatch::{
     KindKeeper, TcbField, are_unowned, field, globals_fit, init_globals, module_at, most_modules,
     set_module_at,
 };
-use block_calls::numbers::{DEAD, GLOBAL_WORDS};
-use block_calls::{guest, is_module};
+use task_calls::numbers::{DEAD, GLOBAL_WORDS};
+use task_calls::{guest, is_module};
 use word_store::Store;
 
 /// Gives the dead task with the number the module at m as its last one, and sets the module's globals in those of the task.

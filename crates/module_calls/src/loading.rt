@@ -3,14 +3,14 @@ ghost use Rattle.std.specs.Prelude.{◌≡◌, ◌+◌, ℕ, Err, Ok};
 ghost use Rattle.hunk_text.specs.ModuleForm.{IsModule};
 ghost use Rattle.hunk_text.specs.Shapes.{check_of};
 ghost use Rattle.hunk_text.specs.declared.modules.Module.{Module};
-ghost use Rattle.block_calls.specs.KernelDispatch.KernelModel.ChangedStore.{HasKeeper};
-ghost use Rattle.block_calls.specs.KernelDispatch.KernelModel.Lists.{Lists};
-ghost use Rattle.block_calls.specs.CallAnswers.Made.{IsMade, refused};
+ghost use Rattle.task_calls.specs.KernelDispatch.KernelModel.ChangedStore.{HasKeeper};
+ghost use Rattle.task_calls.specs.KernelDispatch.KernelModel.Lists.{Lists};
+ghost use Rattle.task_calls.specs.CallAnswers.Made.{IsMade, refused};
 ghost use Rattle.module_calls.specs.LoadModule.{load_module};
 
-use block_calls::kernel_dispatch::{KindKeeper, load};
-use block_calls::tell_take;
 use hunk_text::{Shape, TextBytes, check_module};
+use task_calls::kernel_dispatch::{KindKeeper, load};
+use task_calls::tell_take;
 use word_store::Store;
 
 /// What is added to the code of a text that is no module.

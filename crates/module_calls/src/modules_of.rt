@@ -1,15 +1,15 @@
 // Which modules tasks have.
 ghost use Rattle.std.specs.Prelude.{◌≡◌, ◌≤◌, ◌+◌, length, slice_range};
 ghost use Rattle.std.specs.List.{AllByRecursion, list_any};
-ghost use Rattle.block_calls.specs.KernelDispatch.LinkedList.Places.{has};
-ghost use Rattle.block_calls.specs.KernelDispatch.LinkedList.Walk.{CanWalk};
-ghost use Rattle.block_calls.specs.KernelDispatch.TaskBlock.RootWords.{first_task};
-ghost use Rattle.block_calls.specs.KernelDispatch.TaskBlock.TaskChain.{task_link, tasks_in};
-ghost use Rattle.block_calls.specs.KernelDispatch.TaskBlock.Versions.{head_words};
+ghost use Rattle.task_calls.specs.KernelDispatch.LinkedList.Places.{has};
+ghost use Rattle.task_calls.specs.KernelDispatch.LinkedList.Walk.{CanWalk};
+ghost use Rattle.task_calls.specs.KernelDispatch.TaskBlock.RootWords.{first_task};
+ghost use Rattle.task_calls.specs.KernelDispatch.TaskBlock.TaskChain.{task_link, tasks_in};
+ghost use Rattle.task_calls.specs.KernelDispatch.TaskBlock.Versions.{head_words};
 ghost use Rattle.module_calls.specs.ModuleFields.{IsTaskIn, module_fields};
 
-use block_calls::kernel_dispatch::{TcbField, field, module_at, most_modules, tasks};
-use block_calls::numbers::FIRST_GUEST;
+use task_calls::kernel_dispatch::{TcbField, field, module_at, most_modules, tasks};
+use task_calls::numbers::FIRST_GUEST;
 use word_store::Store;
 
 /// Whether a task has the module at m.

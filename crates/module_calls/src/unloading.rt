@@ -1,16 +1,16 @@
 // A module is taken out.
 ghost use Rattle.std.specs.Prelude.{◌≡◌};
-ghost use Rattle.block_calls.specs.KernelDispatch.KernelModel.ChangedStore.{HasKeeper};
-ghost use Rattle.block_calls.specs.KernelDispatch.KernelModel.HoldsLists.{HoldsLists};
-ghost use Rattle.block_calls.specs.KernelDispatch.KernelModel.Lists.{Lists};
-ghost use Rattle.block_calls.specs.CallAnswers.Made.{IsMade, plain_answer};
-ghost use Rattle.block_calls.specs.CallAnswers.Refusals.{answer_of, first_refusal};
+ghost use Rattle.task_calls.specs.KernelDispatch.KernelModel.ChangedStore.{HasKeeper};
+ghost use Rattle.task_calls.specs.KernelDispatch.KernelModel.HoldsLists.{HoldsLists};
+ghost use Rattle.task_calls.specs.KernelDispatch.KernelModel.Lists.{Lists};
+ghost use Rattle.task_calls.specs.CallAnswers.Made.{IsMade, plain_answer};
+ghost use Rattle.task_calls.specs.CallAnswers.Refusals.{answer_of, first_refusal};
 ghost use Rattle.module_calls.specs.UnloadModule.{unload_module, use_tests};
 
 use crate::modules_of::is_in_use;
-use block_calls::codes::{MODULE_IN_USE, NO_MODULE, PACKET_INSIDE};
-use block_calls::is_module;
-use block_calls::kernel_dispatch::{KindKeeper, are_unowned, unload};
+use task_calls::codes::{MODULE_IN_USE, NO_MODULE, PACKET_INSIDE};
+use task_calls::is_module;
+use task_calls::kernel_dispatch::{KindKeeper, are_unowned, unload};
 use word_store::{Store, word, word_at};
 
 /// Takes the module at m out of the list, and gives its block back. Refused where there is no such module (17), where a task

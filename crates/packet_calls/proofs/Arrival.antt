@@ -4,25 +4,25 @@ use Rattle.std.specs.List.{AllByRecursion, range_with_len}
 use Rattle.std.proofs.lemmas.Bool.{cases_lt}
 use Rattle.std.proofs.lemmas.List.{append_assoc}
 use Rattle.word_store.specs.Count.{IsApart, times}
-use Rattle.block_calls.specs.KernelDispatch.OwnedWords.Exchange.{Exchange, Splits}
-use Rattle.block_calls.specs.KernelDispatch.OwnedWords.Owned.{Holds, Pairs, owners, written}
-use Rattle.block_calls.proofs.Shown.KernelDispatch.OwnedWords.Exchanges.{exchange-all, exchange-insert, links-first, splits-all, splits-both}
-use Rattle.block_calls.proofs.Shown.KernelDispatch.OwnedWords.OwnedWords.{Holds-left, Holds-right, Holds-same, length-written, owners-append, written-append, written-other}
-use Rattle.block_calls.specs.KernelDispatch.PacketQueue.Queue.{CanQueue}
-use Rattle.block_calls.specs.KernelDispatch.PacketQueue.QueueWords.{HeldQueue, QueuedPacket, address_of, first_packet, link_behind, other_words, packet_words, queue_words}
-use Rattle.block_calls.proofs.Shown.KernelDispatch.PacketQueue.HeldQueues.{appendable}
-use Rattle.block_calls.specs.KernelDispatch.KernelModel.ChangedStore.{IsChanged}
-use Rattle.block_calls.specs.KernelDispatch.KernelModel.Changes.{HasPlace, queue_of, with_queue}
-use Rattle.block_calls.specs.KernelDispatch.KernelModel.Lists.{Lists}
-use Rattle.block_calls.specs.KernelDispatch.KernelModel.Owned.{owned}
-use Rattle.block_calls.specs.KernelDispatch.KernelModel.Task.{task_id}
-use Rattle.block_calls.specs.KernelDispatch.KernelModel.ValidLists.{AreValid}
-use Rattle.block_calls.specs.KernelDispatch.KernelModel.ValidQueues.{Place}
-use Rattle.block_calls.proofs.Shown.KernelDispatch.LinkedList.AllMembers.{all-append}
-use Rattle.block_calls.proofs.Shown.KernelDispatch.KernelModel.AllThings.{all-beside, all-here}
-use Rattle.block_calls.proofs.Shown.KernelDispatch.KernelModel.OwnerCounts.{owners-packet_between, packets_count}
-use Rattle.block_calls.proofs.Shown.KernelDispatch.KernelModel.QueueCounts.{owned-queue, owners-packet}
-use Rattle.block_calls.proofs.Shown.KernelDispatch.KernelModel.QueuePlaces.{with_queue-size}
+use Rattle.module_calls.specs.KernelDispatch.OwnedWords.Exchange.{Exchange, Splits}
+use Rattle.module_calls.specs.KernelDispatch.OwnedWords.Owned.{Holds, Pairs, owners, written}
+use Rattle.module_calls.proofs.Shown.KernelDispatch.OwnedWords.Exchanges.{exchange-all, exchange-insert, links-first, splits-all, splits-both}
+use Rattle.module_calls.proofs.Shown.KernelDispatch.OwnedWords.OwnedWords.{Holds-left, Holds-right, Holds-same, length-written, owners-append, written-append, written-other}
+use Rattle.module_calls.specs.KernelDispatch.PacketQueue.Queue.{CanQueue}
+use Rattle.module_calls.specs.KernelDispatch.PacketQueue.QueueWords.{HeldQueue, QueuedPacket, address_of, first_packet, link_behind, other_words, packet_words, queue_words}
+use Rattle.module_calls.proofs.Shown.KernelDispatch.PacketQueue.HeldQueues.{appendable}
+use Rattle.module_calls.specs.KernelDispatch.KernelModel.ChangedStore.{IsChanged}
+use Rattle.module_calls.specs.KernelDispatch.KernelModel.Changes.{HasPlace, queue_of, with_queue}
+use Rattle.module_calls.specs.KernelDispatch.KernelModel.Lists.{Lists}
+use Rattle.module_calls.specs.KernelDispatch.KernelModel.Owned.{owned}
+use Rattle.module_calls.specs.KernelDispatch.KernelModel.Task.{task_id}
+use Rattle.module_calls.specs.KernelDispatch.KernelModel.ValidLists.{AreValid}
+use Rattle.module_calls.specs.KernelDispatch.KernelModel.ValidQueues.{Place}
+use Rattle.module_calls.proofs.Shown.KernelDispatch.LinkedList.AllMembers.{all-append}
+use Rattle.module_calls.proofs.Shown.KernelDispatch.KernelModel.AllThings.{all-beside, all-here}
+use Rattle.module_calls.proofs.Shown.KernelDispatch.KernelModel.OwnerCounts.{owners-packet_between, packets_count}
+use Rattle.module_calls.proofs.Shown.KernelDispatch.KernelModel.QueueCounts.{owned-queue, owners-packet}
+use Rattle.module_calls.proofs.Shown.KernelDispatch.KernelModel.QueuePlaces.{with_queue-size}
 use Rattle.packet_calls.specs.Destinations.{queue_for}
 use Rattle.packet_calls.specs.PacketMoves.{packet_at}
 use Rattle.packet_calls.specs.QueueWords.{head_of}

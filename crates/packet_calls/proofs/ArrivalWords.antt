@@ -1,14 +1,14 @@
 -- What a packet that comes into a queue writes.
 use Rattle.std.proofs.Common.{◌≡◌, ℕ, ◌+◌, List, [], ◌∷◌, ◌++◌, set, ap, ◌∙◌}
 use Rattle.std.specs.List.{AllByRecursion}
-use Rattle.block_calls.specs.KernelDispatch.OwnedWords.Owned.{Holds, written}
-use Rattle.block_calls.specs.KernelDispatch.PacketQueue.QueueWords.{HeldQueue, QueuedPacket, link_behind}
-use Rattle.block_calls.proofs.Shown.KernelDispatch.PacketQueue.HeldQueues.{append-exchange}
-use Rattle.block_calls.specs.KernelDispatch.KernelModel.Changes.{HasPlace}
-use Rattle.block_calls.specs.KernelDispatch.KernelModel.Lists.{Lists, address_of_task}
-use Rattle.block_calls.specs.KernelDispatch.KernelModel.ValidQueues.{Place}
-use Rattle.block_calls.specs.KernelDispatch.KernelModel.ValidQueues.Place.{Clock, Keyboard, Output, Pending, Work}
-use Rattle.block_calls.specs.KernelDispatch.KernelModel.ValidTasks.{IsField}
+use Rattle.module_calls.specs.KernelDispatch.OwnedWords.Owned.{Holds, written}
+use Rattle.module_calls.specs.KernelDispatch.PacketQueue.QueueWords.{HeldQueue, QueuedPacket, link_behind}
+use Rattle.module_calls.proofs.Shown.KernelDispatch.PacketQueue.HeldQueues.{append-exchange}
+use Rattle.module_calls.specs.KernelDispatch.KernelModel.Changes.{HasPlace}
+use Rattle.module_calls.specs.KernelDispatch.KernelModel.Lists.{Lists, address_of_task}
+use Rattle.module_calls.specs.KernelDispatch.KernelModel.ValidQueues.{Place}
+use Rattle.module_calls.specs.KernelDispatch.KernelModel.ValidQueues.Place.{Clock, Keyboard, Output, Pending, Work}
+use Rattle.module_calls.specs.KernelDispatch.KernelModel.ValidTasks.{IsField}
 use Rattle.packet_calls.specs.Destinations.{queue_for}
 use Rattle.packet_calls.specs.QueueWords.{head_of, enqueued, state_with_packets}
 use Rattle.packet_calls.proofs.PlaceWords.{state_pairs, work-comes}

@@ -2,21 +2,21 @@
 use Rattle.std.proofs.Common.{◌≡◌, ℕ, ◌+◌, ◌≤◌, Bool, true, false, List, [], ◌∷◌, ◌++◌, map, cond, get_or, sym, ap, ◌∙◌, subst, arith}
 use Rattle.std.specs.List.{AllByRecursion}
 use Rattle.word_store.specs.Count.{IsApart}
-use Rattle.block_calls.specs.KernelDispatch.PacketQueue.QueueWords.{QueuedPacket, first_packet}
-use Rattle.block_calls.specs.KernelDispatch.KernelModel.Changes.{queue_of}
-use Rattle.block_calls.specs.KernelDispatch.KernelModel.HoldsLists.{HoldsLists}
-use Rattle.block_calls.specs.KernelDispatch.KernelModel.Lists.{Lists, address_of_task, has_task}
-use Rattle.block_calls.specs.KernelDispatch.KernelModel.Task.{Task, queue_bit, state_word, task_address, task_id, task_words}
-use Rattle.block_calls.specs.KernelDispatch.KernelModel.ValidQueues.Place.{Work}
-use Rattle.block_calls.specs.KernelDispatch.KernelModel.ValidTasks.{runs}
-use Rattle.block_calls.proofs.Shown.KernelDispatch.KernelModel.AllThings.{all-here}
-use Rattle.block_calls.proofs.Shown.KernelDispatch.KernelModel.EachMember.{holds-each}
-use Rattle.block_calls.proofs.Shown.KernelDispatch.KernelModel.ReadCoroutines.{holds-task}
-use Rattle.block_calls.specs.CallAnswers.Callers.{HasCaller}
-use Rattle.block_calls.specs.CallAnswers.Guests.{GuestAt}
-use Rattle.block_calls.proofs.Shown.CallAnswers.FoundTask.{found-address, found-there, reads}
-use Rattle.block_calls.proofs.Shown.CallAnswers.GuestTask.{guest-facts}
-use Rattle.block_calls.proofs.Shown.CallAnswers.Refusals.{task-at}
+use Rattle.module_calls.specs.KernelDispatch.PacketQueue.QueueWords.{QueuedPacket, first_packet}
+use Rattle.module_calls.specs.KernelDispatch.KernelModel.Changes.{queue_of}
+use Rattle.module_calls.specs.KernelDispatch.KernelModel.HoldsLists.{HoldsLists}
+use Rattle.module_calls.specs.KernelDispatch.KernelModel.Lists.{Lists, address_of_task, has_task}
+use Rattle.module_calls.specs.KernelDispatch.KernelModel.Task.{Task, queue_bit, state_word, task_address, task_id, task_words}
+use Rattle.module_calls.specs.KernelDispatch.KernelModel.ValidQueues.Place.{Work}
+use Rattle.module_calls.specs.KernelDispatch.KernelModel.ValidTasks.{runs}
+use Rattle.module_calls.proofs.Shown.KernelDispatch.KernelModel.AllThings.{all-here}
+use Rattle.module_calls.proofs.Shown.KernelDispatch.KernelModel.EachMember.{holds-each}
+use Rattle.module_calls.proofs.Shown.KernelDispatch.KernelModel.ReadCoroutines.{holds-task}
+use Rattle.module_calls.specs.CallAnswers.Callers.{HasCaller}
+use Rattle.module_calls.specs.CallAnswers.Guests.{GuestAt}
+use Rattle.module_calls.proofs.Shown.CallAnswers.FoundTask.{found-address, found-there, reads}
+use Rattle.module_calls.proofs.Shown.CallAnswers.GuestTask.{guest-facts}
+use Rattle.module_calls.proofs.Shown.CallAnswers.Refusals.{task-at}
 use Rattle.packet_calls.specs.Destinations.{queue_for}
 use Rattle.packet_calls.specs.declared.queues.Queue.TheVariants as queues
 use Rattle.packet_calls.proofs.HeldPlaces.{held-at}

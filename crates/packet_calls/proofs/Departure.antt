@@ -4,31 +4,31 @@ use Rattle.std.specs.List.{AllByRecursion, range_with_len}
 use Rattle.std.proofs.lemmas.Bool.{cases_eq}
 use Rattle.word_store.specs.Count.{times}
 use Rattle.word_store.proofs.Counts.{hit-le, hit-other, times-within}
-use Rattle.block_calls.specs.KernelDispatch.OwnedWords.Exchange.{Exchange}
-use Rattle.block_calls.specs.KernelDispatch.OwnedWords.Owned.{Holds, Pairs, owners, written}
-use Rattle.block_calls.specs.KernelDispatch.OwnedWords.Written.{IsWritten}
-use Rattle.block_calls.proofs.Shown.KernelDispatch.OwnedWords.Exchanges.{exchange-all}
-use Rattle.block_calls.proofs.Shown.KernelDispatch.OwnedWords.WrittenWords.{ordered-hold}
-use Rattle.block_calls.proofs.Shown.KernelDispatch.OwnedWords.OwnedWords.{Holds-append, Holds-left, Holds-right, length-written, owners-append, written-other}
-use Rattle.block_calls.specs.KernelDispatch.PacketQueue.Queue.{no_queue, unlinked}
-use Rattle.block_calls.specs.KernelDispatch.PacketQueue.QueueWords.{HeldQueue, QueuedPacket, RemoveExchange, first_packet, link_behind, packet_words, queue_words}
-use Rattle.block_calls.proofs.Shown.KernelDispatch.PacketQueue.HeldQueues.{remove-exchange}
-use Rattle.block_calls.specs.KernelDispatch.KernelModel.ChangedStore.{IsChanged}
-use Rattle.block_calls.specs.KernelDispatch.KernelModel.Changes.{HasPlace, queue_of, with_queue}
-use Rattle.block_calls.specs.KernelDispatch.KernelModel.HoldsLists.{HoldsLists}
-use Rattle.block_calls.specs.KernelDispatch.KernelModel.Lists.{Lists, address_of_task}
-use Rattle.block_calls.specs.KernelDispatch.KernelModel.Owned.{OwnsApart, owned}
-use Rattle.block_calls.specs.KernelDispatch.KernelModel.ValidLists.{AreValid}
-use Rattle.block_calls.specs.KernelDispatch.KernelModel.ValidQueues.{MayStand, Place}
-use Rattle.block_calls.specs.KernelDispatch.KernelModel.ValidQueues.Place.{Clock, Keyboard, Output, Pending, Work}
-use Rattle.block_calls.specs.KernelDispatch.KernelModel.ValidTasks.{IsField, IsTask}
-use Rattle.block_calls.proofs.Shown.KernelDispatch.KernelModel.AllThings.{all-beside}
-use Rattle.block_calls.proofs.Shown.KernelDispatch.KernelModel.EachMember.{all-each}
-use Rattle.block_calls.proofs.Shown.KernelDispatch.KernelModel.OwnerCounts.{owners-packet_between, owns-fewer, packets_count}
-use Rattle.block_calls.proofs.Shown.KernelDispatch.KernelModel.PacketMoves.{unqueued-unowned}
-use Rattle.block_calls.proofs.Shown.KernelDispatch.KernelModel.QueueCounts.{owned-queue, owners-packet}
-use Rattle.block_calls.proofs.Shown.KernelDispatch.KernelModel.QueuePlaces.{place-stands, place-there, with_queue-size}
-use Rattle.block_calls.proofs.Shown.KernelDispatch.KernelModel.ReadQueues.{packets-some}
+use Rattle.module_calls.specs.KernelDispatch.OwnedWords.Exchange.{Exchange}
+use Rattle.module_calls.specs.KernelDispatch.OwnedWords.Owned.{Holds, Pairs, owners, written}
+use Rattle.module_calls.specs.KernelDispatch.OwnedWords.Written.{IsWritten}
+use Rattle.module_calls.proofs.Shown.KernelDispatch.OwnedWords.Exchanges.{exchange-all}
+use Rattle.module_calls.proofs.Shown.KernelDispatch.OwnedWords.WrittenWords.{ordered-hold}
+use Rattle.module_calls.proofs.Shown.KernelDispatch.OwnedWords.OwnedWords.{Holds-append, Holds-left, Holds-right, length-written, owners-append, written-other}
+use Rattle.module_calls.specs.KernelDispatch.PacketQueue.Queue.{no_queue, unlinked}
+use Rattle.module_calls.specs.KernelDispatch.PacketQueue.QueueWords.{HeldQueue, QueuedPacket, RemoveExchange, first_packet, link_behind, packet_words, queue_words}
+use Rattle.module_calls.proofs.Shown.KernelDispatch.PacketQueue.HeldQueues.{remove-exchange}
+use Rattle.module_calls.specs.KernelDispatch.KernelModel.ChangedStore.{IsChanged}
+use Rattle.module_calls.specs.KernelDispatch.KernelModel.Changes.{HasPlace, queue_of, with_queue}
+use Rattle.module_calls.specs.KernelDispatch.KernelModel.HoldsLists.{HoldsLists}
+use Rattle.module_calls.specs.KernelDispatch.KernelModel.Lists.{Lists, address_of_task}
+use Rattle.module_calls.specs.KernelDispatch.KernelModel.Owned.{OwnsApart, owned}
+use Rattle.module_calls.specs.KernelDispatch.KernelModel.ValidLists.{AreValid}
+use Rattle.module_calls.specs.KernelDispatch.KernelModel.ValidQueues.{MayStand, Place}
+use Rattle.module_calls.specs.KernelDispatch.KernelModel.ValidQueues.Place.{Clock, Keyboard, Output, Pending, Work}
+use Rattle.module_calls.specs.KernelDispatch.KernelModel.ValidTasks.{IsField, IsTask}
+use Rattle.module_calls.proofs.Shown.KernelDispatch.KernelModel.AllThings.{all-beside}
+use Rattle.module_calls.proofs.Shown.KernelDispatch.KernelModel.EachMember.{all-each}
+use Rattle.module_calls.proofs.Shown.KernelDispatch.KernelModel.OwnerCounts.{owners-packet_between, owns-fewer, packets_count}
+use Rattle.module_calls.proofs.Shown.KernelDispatch.KernelModel.PacketMoves.{unqueued-unowned}
+use Rattle.module_calls.proofs.Shown.KernelDispatch.KernelModel.QueueCounts.{owned-queue, owners-packet}
+use Rattle.module_calls.proofs.Shown.KernelDispatch.KernelModel.QueuePlaces.{place-stands, place-there, with_queue-size}
+use Rattle.module_calls.proofs.Shown.KernelDispatch.KernelModel.ReadQueues.{packets-some}
 use Rattle.packet_calls.specs.Destinations.{queue_for}
 use Rattle.packet_calls.specs.QueueWords.{head_of, unqueued, state_left}
 use Rattle.packet_calls.proofs.PlaceWords.{place-exchange, state_pairs, work-goes}

@@ -3,29 +3,29 @@ use Rattle.std.proofs.Common.{◌≡◌, ℕ, ◌+◌, ◌<◌, ◌&&◌, Bool, 
 use Rattle.std.specs.List.{range_with_len}
 use Rattle.word_store.specs.Arithmetic.{signed}
 use Rattle.word_store.specs.Count.{IsApart}
-use Rattle.block_calls.specs.KernelDispatch.LinkedList.Places.{has}
-use Rattle.block_calls.specs.KernelDispatch.OwnedWords.Owned.{owners}
-use Rattle.block_calls.specs.KernelDispatch.PacketQueue.Log.{Notes}
-use Rattle.block_calls.specs.KernelDispatch.PacketQueue.Queue.{HasQueue, no_queue, queue_at}
-use Rattle.block_calls.specs.KernelDispatch.PacketQueue.QueueWords.{QueuedPacket}
-use Rattle.block_calls.specs.KernelDispatch.PacketQueue.declared.events.KernelEvent.{KernelEvent}
-use Rattle.block_calls.specs.KernelDispatch.PacketQueue.declared.events.KernelEvent.TheVariants.{Dequeued}
-use Rattle.block_calls.specs.KernelDispatch.KernelModel.ChangedStore.{HasKeeper, IsChanged}
-use Rattle.block_calls.specs.KernelDispatch.KernelModel.Changes.{HasPlace, queue_of, with_queue}
-use Rattle.block_calls.specs.KernelDispatch.KernelModel.Lists.{Lists, has_task}
-use Rattle.block_calls.specs.KernelDispatch.KernelModel.NotedEvents.{NotesAll}
-use Rattle.block_calls.specs.KernelDispatch.KernelModel.Owned.{owned}
-use Rattle.block_calls.specs.KernelDispatch.KernelModel.Residents.{fault_packet, key_packet}
-use Rattle.block_calls.specs.KernelDispatch.KernelModel.ValidLists.{AreValid}
-use Rattle.block_calls.specs.KernelDispatch.KernelModel.ValidQueues.{is_fault_packet, is_key_packet}
-use Rattle.block_calls.proofs.Shown.KernelDispatch.KernelModel.NotedInTurn.{notes-none, notes-one}
-use Rattle.block_calls.proofs.Shown.KernelDispatch.KernelModel.PacketMoves.{unqueued-unowned, unqueued-valid}
-use Rattle.block_calls.proofs.Shown.KernelDispatch.KernelModel.QueuePlaces.{place-there}
-use Rattle.block_calls.specs.KernelDispatch.WordKinds.Keeper.{AreTogether}
-use Rattle.block_calls.proofs.Shown.KernelDispatch.WordKinds.KnownWords.{knows-released}
-use Rattle.block_calls.specs.CallAnswers.Made.{IsMade, by_refusal}
-use Rattle.block_calls.specs.CallAnswers.Refusals.{first_refusal}
-use Rattle.block_calls.proofs.Shown.CallAnswers.MadeCalls.{made-accepted, made-refused}
+use Rattle.module_calls.specs.KernelDispatch.LinkedList.Places.{has}
+use Rattle.module_calls.specs.KernelDispatch.OwnedWords.Owned.{owners}
+use Rattle.module_calls.specs.KernelDispatch.PacketQueue.Log.{Notes}
+use Rattle.module_calls.specs.KernelDispatch.PacketQueue.Queue.{HasQueue, no_queue, queue_at}
+use Rattle.module_calls.specs.KernelDispatch.PacketQueue.QueueWords.{QueuedPacket}
+use Rattle.module_calls.specs.KernelDispatch.PacketQueue.declared.events.KernelEvent.{KernelEvent}
+use Rattle.module_calls.specs.KernelDispatch.PacketQueue.declared.events.KernelEvent.TheVariants.{Dequeued}
+use Rattle.module_calls.specs.KernelDispatch.KernelModel.ChangedStore.{HasKeeper, IsChanged}
+use Rattle.module_calls.specs.KernelDispatch.KernelModel.Changes.{HasPlace, queue_of, with_queue}
+use Rattle.module_calls.specs.KernelDispatch.KernelModel.Lists.{Lists, has_task}
+use Rattle.module_calls.specs.KernelDispatch.KernelModel.NotedEvents.{NotesAll}
+use Rattle.module_calls.specs.KernelDispatch.KernelModel.Owned.{owned}
+use Rattle.module_calls.specs.KernelDispatch.KernelModel.Residents.{fault_packet, key_packet}
+use Rattle.module_calls.specs.KernelDispatch.KernelModel.ValidLists.{AreValid}
+use Rattle.module_calls.specs.KernelDispatch.KernelModel.ValidQueues.{is_fault_packet, is_key_packet}
+use Rattle.module_calls.proofs.Shown.KernelDispatch.KernelModel.NotedInTurn.{notes-none, notes-one}
+use Rattle.module_calls.proofs.Shown.KernelDispatch.KernelModel.PacketMoves.{unqueued-unowned, unqueued-valid}
+use Rattle.module_calls.proofs.Shown.KernelDispatch.KernelModel.QueuePlaces.{place-there}
+use Rattle.module_calls.specs.KernelDispatch.WordKinds.Keeper.{AreTogether}
+use Rattle.module_calls.proofs.Shown.KernelDispatch.WordKinds.KnownWords.{knows-released}
+use Rattle.module_calls.specs.CallAnswers.Made.{IsMade, by_refusal}
+use Rattle.module_calls.specs.CallAnswers.Refusals.{first_refusal}
+use Rattle.module_calls.proofs.Shown.CallAnswers.MadeCalls.{made-accepted, made-refused}
 use Rattle.packet_calls.specs.Destinations.{is_destination, queue_for}
 use Rattle.packet_calls.specs.Dqpkt.{Search, dequeued, dqpkt, dqpkt_tests, found_in, is_residents_packet, searches}
 use Rattle.packet_calls.specs.PacketMoves.{departed, stands_in}

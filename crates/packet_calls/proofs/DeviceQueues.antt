@@ -1,11 +1,11 @@
 -- The first packet of a device's queue, as a store tells it.
 use Rattle.std.proofs.Common.{◌≡◌, ◌≢◌, ℕ, List, [], get_or, refl, sym, ap, ◌∙◌}
-use Rattle.block_calls.specs.KernelDispatch.PacketQueue.QueueWords.{HeldQueue, QueuedPacket}
-use Rattle.block_calls.specs.KernelDispatch.KernelModel.Changes.{HasPlace, queue_of}
-use Rattle.block_calls.specs.KernelDispatch.KernelModel.HoldsLists.{HoldsLists}
-use Rattle.block_calls.specs.KernelDispatch.KernelModel.Lists.{Lists}
-use Rattle.block_calls.specs.KernelDispatch.KernelModel.ValidQueues.Place.{Clock, Keyboard, Output}
-use Rattle.block_calls.proofs.Shown.KernelDispatch.KernelModel.ChangedLists.{changed-none}
+use Rattle.module_calls.specs.KernelDispatch.PacketQueue.QueueWords.{HeldQueue, QueuedPacket}
+use Rattle.module_calls.specs.KernelDispatch.KernelModel.Changes.{HasPlace, queue_of}
+use Rattle.module_calls.specs.KernelDispatch.KernelModel.HoldsLists.{HoldsLists}
+use Rattle.module_calls.specs.KernelDispatch.KernelModel.Lists.{Lists}
+use Rattle.module_calls.specs.KernelDispatch.KernelModel.ValidQueues.Place.{Clock, Keyboard, Output}
+use Rattle.module_calls.proofs.Shown.KernelDispatch.KernelModel.ChangedLists.{changed-none}
 use Rattle.packet_calls.proofs.HeldPlaces.{HasFirst, first-there, held-at, no-packets}
 use Rattle.packet_calls.specs.Returned.{IsServed, first_returned, head_of, place_of, unserved}
 use Rattle.packet_calls.specs.declared.returns.Device.{Device}

@@ -3,11 +3,11 @@ use Rattle.std.proofs.Common.{◌≡◌, ℕ, ◌≤◌, Bool, true, false, List
 use Rattle.std.specs.List.{list_any}
 use Rattle.std.proofs.lemmas.Bool.{leb-true}
 use Rattle.std.proofs.lemmas.Bool.Decides.{nat_tests}
-use Rattle.block_calls.specs.KernelDispatch.LinkedList.Places.{insert_after}
-use Rattle.block_calls.specs.KernelDispatch.PacketQueue.QueueWords.{QueuedPacket}
-use Rattle.block_calls.specs.KernelDispatch.KernelModel.ValidQueues.{NeverFall}
-use Rattle.block_calls.proofs.Shown.KernelDispatch.KernelModel.AllThings.{all-fail, all-inserted, any-found}
-use Rattle.block_calls.proofs.Shown.KernelDispatch.KernelModel.EachMember.{all-each}
+use Rattle.module_calls.specs.KernelDispatch.LinkedList.Places.{insert_after}
+use Rattle.module_calls.specs.KernelDispatch.PacketQueue.QueueWords.{QueuedPacket}
+use Rattle.module_calls.specs.KernelDispatch.KernelModel.ValidQueues.{NeverFall}
+use Rattle.module_calls.proofs.Shown.KernelDispatch.KernelModel.AllThings.{all-fail, all-inserted, any-found}
+use Rattle.module_calls.proofs.Shown.KernelDispatch.KernelModel.EachMember.{all-each}
 
 later : (a b : ℕ) → leb a b ≡ false → b ≤ a
 later a b e = grind (arith, nat_tests)

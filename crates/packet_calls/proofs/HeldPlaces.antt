@@ -2,21 +2,21 @@
 use Rattle.std.proofs.Common.{◌≡◌, ◌≢◌, ℕ, ◌+◌, ◌<◌, ◌||◌, Bool, true, false, List, [], ◌∷◌, ◌++◌, map, cond, eqb, refl, sym, ap, ◌∙◌, arith}
 use Rattle.std.specs.List.{AllByRecursion}
 use Rattle.std.proofs.lemmas.Bool.{eqb-true}
-use Rattle.block_calls.specs.KernelDispatch.LinkedList.Places.{has}
-use Rattle.block_calls.specs.KernelDispatch.OwnedWords.Exchange.{Exchange}
-use Rattle.block_calls.specs.KernelDispatch.OwnedWords.Owned.{Pairs, owners}
-use Rattle.block_calls.proofs.Shown.KernelDispatch.OwnedWords.Exchanges.{exchange-all}
-use Rattle.block_calls.proofs.Shown.KernelDispatch.OwnedWords.OwnedWords.{Holds-right, owners-append}
-use Rattle.block_calls.specs.KernelDispatch.PacketQueue.Queue.{HasQueue, queue_at}
-use Rattle.block_calls.specs.KernelDispatch.PacketQueue.QueueWords.{HeldQueue, QueuedPacket, address_of, first_packet, queue_words}
-use Rattle.block_calls.proofs.Shown.KernelDispatch.PacketQueue.HeldQueues.{held-queue}
-use Rattle.block_calls.specs.KernelDispatch.KernelModel.Changes.{HasPlace, queue_of, with_queue}
-use Rattle.block_calls.specs.KernelDispatch.KernelModel.HoldsLists.{HoldsLists}
-use Rattle.block_calls.specs.KernelDispatch.KernelModel.Lists.{Lists}
-use Rattle.block_calls.specs.KernelDispatch.KernelModel.Owned.{owned}
-use Rattle.block_calls.specs.KernelDispatch.KernelModel.ValidQueues.{Place}
-use Rattle.block_calls.proofs.Shown.KernelDispatch.KernelModel.QueuePlaces.{place-stands}
-use Rattle.block_calls.proofs.Shown.KernelDispatch.KernelModel.ReadQueues.{packets-some}
+use Rattle.module_calls.specs.KernelDispatch.LinkedList.Places.{has}
+use Rattle.module_calls.specs.KernelDispatch.OwnedWords.Exchange.{Exchange}
+use Rattle.module_calls.specs.KernelDispatch.OwnedWords.Owned.{Pairs, owners}
+use Rattle.module_calls.proofs.Shown.KernelDispatch.OwnedWords.Exchanges.{exchange-all}
+use Rattle.module_calls.proofs.Shown.KernelDispatch.OwnedWords.OwnedWords.{Holds-right, owners-append}
+use Rattle.module_calls.specs.KernelDispatch.PacketQueue.Queue.{HasQueue, queue_at}
+use Rattle.module_calls.specs.KernelDispatch.PacketQueue.QueueWords.{HeldQueue, QueuedPacket, address_of, first_packet, queue_words}
+use Rattle.module_calls.proofs.Shown.KernelDispatch.PacketQueue.HeldQueues.{held-queue}
+use Rattle.module_calls.specs.KernelDispatch.KernelModel.Changes.{HasPlace, queue_of, with_queue}
+use Rattle.module_calls.specs.KernelDispatch.KernelModel.HoldsLists.{HoldsLists}
+use Rattle.module_calls.specs.KernelDispatch.KernelModel.Lists.{Lists}
+use Rattle.module_calls.specs.KernelDispatch.KernelModel.Owned.{owned}
+use Rattle.module_calls.specs.KernelDispatch.KernelModel.ValidQueues.{Place}
+use Rattle.module_calls.proofs.Shown.KernelDispatch.KernelModel.QueuePlaces.{place-stands}
+use Rattle.module_calls.proofs.Shown.KernelDispatch.KernelModel.ReadQueues.{packets-some}
 use Rattle.packet_calls.specs.Destinations.{queue_for}
 use Rattle.packet_calls.specs.PacketMoves.{departed, stands_in}
 use Rattle.packet_calls.specs.QueueWords.{head_of}

@@ -3,16 +3,16 @@
 use Rattle.std.proofs.Common.{◌≡◌, ◌≢◌, ℕ, ◌<◌, List, [], ◌∷◌, ◌++◌, get_or, length, set, inl, inr, sym, ap, ◌∙◌, subst, arith}
 use Rattle.std.proofs.lemmas.Bool.{cases_eq}
 use Rattle.std.proofs.lemmas.List.{get_or-set_other, get_or-set_same, length-set}
-use Rattle.block_calls.specs.KernelDispatch.OwnedWords.Exchange.{Exchange, Splits}
-use Rattle.block_calls.specs.KernelDispatch.OwnedWords.Owned.{Holds, Pairs, owners, written}
-use Rattle.block_calls.specs.KernelDispatch.OwnedWords.Written.{IsWritten}
-use Rattle.block_calls.proofs.Shown.KernelDispatch.OwnedWords.Exchanges.{exchange-as}
-use Rattle.block_calls.proofs.Shown.KernelDispatch.OwnedWords.OwnedWords.{Holds-append, Holds-left, Holds-right, Holds-same, length-written, owners-append}
-use Rattle.block_calls.proofs.Shown.KernelDispatch.OwnedWords.WrittenWords.{ordered-hold}
-use Rattle.block_calls.specs.KernelDispatch.KernelModel.ChangedStore.{IsChanged}
-use Rattle.block_calls.specs.KernelDispatch.KernelModel.Lists.{Lists}
-use Rattle.block_calls.specs.KernelDispatch.KernelModel.Owned.{owned}
-use Rattle.block_calls.specs.KernelDispatch.KernelModel.ValidLists.{AreValid}
+use Rattle.module_calls.specs.KernelDispatch.OwnedWords.Exchange.{Exchange, Splits}
+use Rattle.module_calls.specs.KernelDispatch.OwnedWords.Owned.{Holds, Pairs, owners, written}
+use Rattle.module_calls.specs.KernelDispatch.OwnedWords.Written.{IsWritten}
+use Rattle.module_calls.proofs.Shown.KernelDispatch.OwnedWords.Exchanges.{exchange-as}
+use Rattle.module_calls.proofs.Shown.KernelDispatch.OwnedWords.OwnedWords.{Holds-append, Holds-left, Holds-right, Holds-same, length-written, owners-append}
+use Rattle.module_calls.proofs.Shown.KernelDispatch.OwnedWords.WrittenWords.{ordered-hold}
+use Rattle.module_calls.specs.KernelDispatch.KernelModel.ChangedStore.{IsChanged}
+use Rattle.module_calls.specs.KernelDispatch.KernelModel.Lists.{Lists}
+use Rattle.module_calls.specs.KernelDispatch.KernelModel.Owned.{owned}
+use Rattle.module_calls.specs.KernelDispatch.KernelModel.ValidLists.{AreValid}
 
 -- of the new words some are kept as they stand, and the others are written
 pub exchange-kept : (s t : List ℕ) (l m : Lists) (old new kept all : Pairs) → Holds s (owned l) → AreValid m → length s ≡ m.size → Exchange (owned l) (owned m) old new

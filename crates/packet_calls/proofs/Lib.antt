@@ -19,3 +19,4 @@ pub mod OwnPackets
 pub mod DeviceQueues
 pub mod ReturnedLists
 pub mod ReturnedWords
+pub mod Shown

@@ -2,12 +2,12 @@
 use Rattle.std.proofs.Common.{◌≡◌, ◌≢◌, ℕ, ◌||◌, Bool, true, false, Option, Some, None, Result, Ok, Err, ok_or, map, cond, eqb, option_map, refl, sym, ap, ◌∙◌}
 use Rattle.std.proofs.lemmas.Bool.{ne_eqb}
 use Rattle.word_store.specs.Count.{IsApart}
-use Rattle.block_calls.specs.KernelDispatch.KernelModel.Changes.{HasPlace}
-use Rattle.block_calls.specs.KernelDispatch.KernelModel.Lists.{Lists, address_of_task, has_task}
-use Rattle.block_calls.specs.KernelDispatch.KernelModel.Residents.{device}
-use Rattle.block_calls.specs.KernelDispatch.KernelModel.Task.{task_id}
-use Rattle.block_calls.specs.KernelDispatch.KernelModel.ValidQueues.Place.{Clock, Keyboard, Output, Work}
-use Rattle.block_calls.proofs.Shown.CallAnswers.FoundTask.{Finds, found-address, found-there}
+use Rattle.module_calls.specs.KernelDispatch.KernelModel.Changes.{HasPlace}
+use Rattle.module_calls.specs.KernelDispatch.KernelModel.Lists.{Lists, address_of_task, has_task}
+use Rattle.module_calls.specs.KernelDispatch.KernelModel.Residents.{device}
+use Rattle.module_calls.specs.KernelDispatch.KernelModel.Task.{task_id}
+use Rattle.module_calls.specs.KernelDispatch.KernelModel.ValidQueues.Place.{Clock, Keyboard, Output, Work}
+use Rattle.module_calls.proofs.Shown.CallAnswers.FoundTask.{Finds, found-address, found-there}
 use Rattle.packet_calls.specs.Destinations.{destination_of, is_destination, place_of, queue_for}
 use Rattle.packet_calls.specs.declared.queues.Queue.{Queue}
 use Rattle.packet_calls.specs.declared.queues.Queue.TheVariants as queues

@@ -4,37 +4,37 @@ use Rattle.std.specs.List.{AllByRecursion, range_with_len}
 use Rattle.std.proofs.lemmas.Bool.{and_parts, eq-eqb, ne_eqb}
 use Rattle.word_store.specs.Arithmetic.{signed}
 use Rattle.word_store.specs.Count.{times}
-use Rattle.block_calls.proofs.Shown.KernelDispatch.LinkedList.AllMembers.{all-append}
-use Rattle.block_calls.specs.KernelDispatch.OwnedWords.Exchange.{Exchange}
-use Rattle.block_calls.specs.KernelDispatch.OwnedWords.Owned.{Holds, Pairs, owners}
-use Rattle.block_calls.proofs.Shown.KernelDispatch.OwnedWords.RowWords.{owners-row}
-use Rattle.block_calls.specs.KernelDispatch.PacketQueue.Log.{Notes}
-use Rattle.block_calls.specs.KernelDispatch.PacketQueue.Queue.{CanQueue, HasQueue, no_queue}
-use Rattle.block_calls.specs.KernelDispatch.PacketQueue.QueueWords.{QueuedPacket}
-use Rattle.block_calls.specs.KernelDispatch.PacketQueue.declared.events.KernelEvent.{KernelEvent}
-use Rattle.block_calls.specs.KernelDispatch.PacketQueue.declared.events.KernelEvent.TheVariants.{Accepted}
-use Rattle.block_calls.specs.KernelDispatch.KernelModel.ChangedStore.{HasKeeper, IsChanged}
-use Rattle.block_calls.specs.KernelDispatch.KernelModel.Changes.{with_key, with_queue}
-use Rattle.block_calls.specs.KernelDispatch.KernelModel.HoldsLists.{HoldsLists}
-use Rattle.block_calls.specs.KernelDispatch.KernelModel.Lists.{Lists, has_task, is_queued}
-use Rattle.block_calls.specs.KernelDispatch.KernelModel.NotedEvents.{NotesAll}
-use Rattle.block_calls.specs.KernelDispatch.KernelModel.Owned.{owned}
-use Rattle.block_calls.specs.KernelDispatch.KernelModel.Residents.{key_packet, key_words, keyboard}
-use Rattle.block_calls.specs.KernelDispatch.KernelModel.ValidLists.{AreValid}
-use Rattle.block_calls.specs.KernelDispatch.KernelModel.ValidQueues.{IsKeyPacket}
-use Rattle.block_calls.specs.KernelDispatch.KernelModel.ValidQueues.Place.{Keyboard, Work}
-use Rattle.block_calls.specs.KernelDispatch.KernelModel.ValidTasks.{IsField}
-use Rattle.block_calls.proofs.Shown.KernelDispatch.KernelModel.AllThings.{all-here}
-use Rattle.block_calls.proofs.Shown.KernelDispatch.KernelModel.ChainSplits.{HasNumbered, numbered}
-use Rattle.block_calls.proofs.Shown.KernelDispatch.KernelModel.ChangedLists.{knows-same}
-use Rattle.block_calls.proofs.Shown.KernelDispatch.KernelModel.NotedInTurn.{notes-one}
-use Rattle.block_calls.proofs.Shown.KernelDispatch.KernelModel.ReadQueues.{packets-some}
-use Rattle.block_calls.proofs.Shown.KernelDispatch.KernelModel.ResidentPackets.{key_queued-valid}
-use Rattle.block_calls.specs.KernelDispatch.WordKinds.Keeper.{AreTogether}
-use Rattle.block_calls.proofs.Shown.KernelDispatch.WordKinds.KnownWords.{knows-claimed}
-use Rattle.block_calls.specs.CallAnswers.Made.{IsMade, minus_one}
-use Rattle.block_calls.proofs.Shown.CallAnswers.FoundTask.{reads}
-use Rattle.block_calls.proofs.Shown.CallAnswers.RootTold.{tick-told}
+use Rattle.module_calls.proofs.Shown.KernelDispatch.LinkedList.AllMembers.{all-append}
+use Rattle.module_calls.specs.KernelDispatch.OwnedWords.Exchange.{Exchange}
+use Rattle.module_calls.specs.KernelDispatch.OwnedWords.Owned.{Holds, Pairs, owners}
+use Rattle.module_calls.proofs.Shown.KernelDispatch.OwnedWords.RowWords.{owners-row}
+use Rattle.module_calls.specs.KernelDispatch.PacketQueue.Log.{Notes}
+use Rattle.module_calls.specs.KernelDispatch.PacketQueue.Queue.{CanQueue, HasQueue, no_queue}
+use Rattle.module_calls.specs.KernelDispatch.PacketQueue.QueueWords.{QueuedPacket}
+use Rattle.module_calls.specs.KernelDispatch.PacketQueue.declared.events.KernelEvent.{KernelEvent}
+use Rattle.module_calls.specs.KernelDispatch.PacketQueue.declared.events.KernelEvent.TheVariants.{Accepted}
+use Rattle.module_calls.specs.KernelDispatch.KernelModel.ChangedStore.{HasKeeper, IsChanged}
+use Rattle.module_calls.specs.KernelDispatch.KernelModel.Changes.{with_key, with_queue}
+use Rattle.module_calls.specs.KernelDispatch.KernelModel.HoldsLists.{HoldsLists}
+use Rattle.module_calls.specs.KernelDispatch.KernelModel.Lists.{Lists, has_task, is_queued}
+use Rattle.module_calls.specs.KernelDispatch.KernelModel.NotedEvents.{NotesAll}
+use Rattle.module_calls.specs.KernelDispatch.KernelModel.Owned.{owned}
+use Rattle.module_calls.specs.KernelDispatch.KernelModel.Residents.{key_packet, key_words, keyboard}
+use Rattle.module_calls.specs.KernelDispatch.KernelModel.ValidLists.{AreValid}
+use Rattle.module_calls.specs.KernelDispatch.KernelModel.ValidQueues.{IsKeyPacket}
+use Rattle.module_calls.specs.KernelDispatch.KernelModel.ValidQueues.Place.{Keyboard, Work}
+use Rattle.module_calls.specs.KernelDispatch.KernelModel.ValidTasks.{IsField}
+use Rattle.module_calls.proofs.Shown.KernelDispatch.KernelModel.AllThings.{all-here}
+use Rattle.module_calls.proofs.Shown.KernelDispatch.KernelModel.ChainSplits.{HasNumbered, numbered}
+use Rattle.module_calls.proofs.Shown.KernelDispatch.KernelModel.ChangedLists.{knows-same}
+use Rattle.module_calls.proofs.Shown.KernelDispatch.KernelModel.NotedInTurn.{notes-one}
+use Rattle.module_calls.proofs.Shown.KernelDispatch.KernelModel.ReadQueues.{packets-some}
+use Rattle.module_calls.proofs.Shown.KernelDispatch.KernelModel.ResidentPackets.{key_queued-valid}
+use Rattle.module_calls.specs.KernelDispatch.WordKinds.Keeper.{AreTogether}
+use Rattle.module_calls.proofs.Shown.KernelDispatch.WordKinds.KnownWords.{knows-claimed}
+use Rattle.module_calls.specs.CallAnswers.Made.{IsMade, minus_one}
+use Rattle.module_calls.proofs.Shown.CallAnswers.FoundTask.{reads}
+use Rattle.module_calls.proofs.Shown.CallAnswers.RootTold.{tick-told}
 use Rattle.packet_calls.specs.Destinations.{destination_of, queue_for}
 use Rattle.packet_calls.specs.PacketMoves.{packet_at, sent_packet, with_arrived}
 use Rattle.packet_calls.specs.QueueWords.{due_in, head_of, sent_words}
@@ -44,7 +44,7 @@ use Rattle.packet_calls.specs.declared.queues.Queue.TheVariants as queues
 use Rattle.packet_calls.proofs.NamedQueues.{no-device}
 use Rattle.packet_calls.proofs.PlacedPackets.{end-changed, end-owners, end-packet, end-queue, fields-stand}
 use Rattle.packet_calls.proofs.PlaceWords.{keys-exchange}
-use Rattle.block_calls.proofs.Shown.KernelDispatch.KernelModel.DataInside.{AreData-inside}
+use Rattle.module_calls.proofs.Shown.KernelDispatch.KernelModel.DataInside.{AreData-inside}
 use Rattle.packet_calls.proofs.SentPackets.{Sent, sender-set, sent-packet, word-within}
 
 -- the number of a task is no device's

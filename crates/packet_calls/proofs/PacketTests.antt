@@ -3,16 +3,16 @@ use Rattle.std.proofs.Common.{◌≡◌, ℕ, zero, suc, ◌+◌, ◌<◌, ◌�
 use Rattle.std.specs.List.{list_any, range_with_len}
 use Rattle.std.specs.Option.{option_map_or}
 use Rattle.std.proofs.lemmas.Bool.{and_parts, cases_eq, cases_lt, lt-ltb, ltb-true}
-use Rattle.block_calls.specs.KernelDispatch.OwnedWords.Owned.{owners}
-use Rattle.block_calls.specs.KernelDispatch.GetvecChain.declared.pieces.Block.{Block}
-use Rattle.block_calls.specs.KernelDispatch.GetvecChain.Block.{block_end, has_data}
-use Rattle.block_calls.specs.KernelDispatch.GetvecChain.Tiling.{holding}
-use Rattle.block_calls.specs.KernelDispatch.PacketQueue.Queue.{no_queue}
-use Rattle.block_calls.specs.KernelDispatch.KernelModel.Changes.{AreUnowned}
-use Rattle.block_calls.specs.KernelDispatch.KernelModel.Lists.{Lists}
-use Rattle.block_calls.specs.KernelDispatch.KernelModel.Owned.{owned}
-use Rattle.block_calls.specs.KernelDispatch.KernelModel.ValidBlocks.{AreData}
-use Rattle.block_calls.specs.CallAnswers.Refusals.{answer_of, first_refusal}
+use Rattle.module_calls.specs.KernelDispatch.OwnedWords.Owned.{owners}
+use Rattle.module_calls.specs.KernelDispatch.GetvecChain.declared.pieces.Block.{Block}
+use Rattle.module_calls.specs.KernelDispatch.GetvecChain.Block.{block_end, has_data}
+use Rattle.module_calls.specs.KernelDispatch.GetvecChain.Tiling.{holding}
+use Rattle.module_calls.specs.KernelDispatch.PacketQueue.Queue.{no_queue}
+use Rattle.module_calls.specs.KernelDispatch.KernelModel.Changes.{AreUnowned}
+use Rattle.module_calls.specs.KernelDispatch.KernelModel.Lists.{Lists}
+use Rattle.module_calls.specs.KernelDispatch.KernelModel.Owned.{owned}
+use Rattle.module_calls.specs.KernelDispatch.KernelModel.ValidBlocks.{AreData}
+use Rattle.module_calls.specs.CallAnswers.Refusals.{answer_of, first_refusal}
 use Rattle.packet_calls.specs.Qpkt.{is_lodged, is_plain, packet_tests}
 
 -- what was found passes the test

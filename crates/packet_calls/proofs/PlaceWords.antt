@@ -5,27 +5,27 @@ use Rattle.std.specs.List.{AllByRecursion}
 use Rattle.std.proofs.lemmas.Bool.{eq-eqb, ne_eqb}
 use Rattle.word_store.specs.Count.{IsApart, times}
 use Rattle.word_store.proofs.Counts.{hit-same}
-use Rattle.block_calls.specs.KernelDispatch.OwnedWords.Exchange.{Exchange}
-use Rattle.block_calls.specs.KernelDispatch.OwnedWords.LinkedWords.{first_of}
-use Rattle.block_calls.specs.KernelDispatch.OwnedWords.Owned.{Pairs}
-use Rattle.block_calls.proofs.Shown.KernelDispatch.OwnedWords.Exchanges.{exchange-all, exchange-both, exchange-left, exchange-right, exchange-row}
-use Rattle.block_calls.specs.KernelDispatch.GetvecChain.BlockWords.{blocks_words}
-use Rattle.block_calls.specs.KernelDispatch.HunkLoader.ModuleExchanges.{modules_words}
-use Rattle.block_calls.specs.KernelDispatch.PacketQueue.QueueWords.{QueuedPacket, first_packet, queue_words}
-use Rattle.block_calls.specs.KernelDispatch.Coroutines.CoroutineExchanges.{words_of_coroutines}
-use Rattle.block_calls.specs.KernelDispatch.TaskBlock.HeldTasks.{address_with}
-use Rattle.block_calls.specs.KernelDispatch.KernelModel.Changes.{HasPlace, queue_of, with_key, with_queue, with_tasks}
-use Rattle.block_calls.specs.KernelDispatch.KernelModel.Lists.{Lists, address_of_task, has_task}
-use Rattle.block_calls.specs.KernelDispatch.KernelModel.Owned.{clock_head, device_words, keyboard_head, output_head, owned, tasks_words}
-use Rattle.block_calls.specs.KernelDispatch.KernelModel.Residents.{fault_packet_words, key_arguments, key_words, pending_head, resident_words}
-use Rattle.block_calls.specs.KernelDispatch.KernelModel.Root.{root_words}
-use Rattle.block_calls.specs.KernelDispatch.KernelModel.Task.{Task, fault_words, globals_of, name_words, queue_bit, queue_head, stack_of, state_word, state_words, task_address, task_id, task_words}
-use Rattle.block_calls.specs.KernelDispatch.KernelModel.ValidQueues.{Place}
-use Rattle.block_calls.specs.KernelDispatch.KernelModel.ValidQueues.Place.{Clock, Keyboard, Output, Pending, Work}
-use Rattle.block_calls.specs.KernelDispatch.KernelModel.ValidTasks.{IsField}
-use Rattle.block_calls.proofs.Shown.KernelDispatch.KernelModel.ChainSplits.{address-between}
-use Rattle.block_calls.proofs.Shown.KernelDispatch.KernelModel.ChangedLists.{one_task-owned}
-use Rattle.block_calls.proofs.Shown.KernelDispatch.KernelModel.WorkQueues.{WorkSplit, work-split}
+use Rattle.module_calls.specs.KernelDispatch.OwnedWords.Exchange.{Exchange}
+use Rattle.module_calls.specs.KernelDispatch.OwnedWords.LinkedWords.{first_of}
+use Rattle.module_calls.specs.KernelDispatch.OwnedWords.Owned.{Pairs}
+use Rattle.module_calls.proofs.Shown.KernelDispatch.OwnedWords.Exchanges.{exchange-all, exchange-both, exchange-left, exchange-right, exchange-row}
+use Rattle.module_calls.specs.KernelDispatch.GetvecChain.BlockWords.{blocks_words}
+use Rattle.module_calls.specs.KernelDispatch.HunkLoader.ModuleExchanges.{modules_words}
+use Rattle.module_calls.specs.KernelDispatch.PacketQueue.QueueWords.{QueuedPacket, first_packet, queue_words}
+use Rattle.module_calls.specs.KernelDispatch.Coroutines.CoroutineExchanges.{words_of_coroutines}
+use Rattle.module_calls.specs.KernelDispatch.TaskBlock.HeldTasks.{address_with}
+use Rattle.module_calls.specs.KernelDispatch.KernelModel.Changes.{HasPlace, queue_of, with_key, with_queue, with_tasks}
+use Rattle.module_calls.specs.KernelDispatch.KernelModel.Lists.{Lists, address_of_task, has_task}
+use Rattle.module_calls.specs.KernelDispatch.KernelModel.Owned.{clock_head, device_words, keyboard_head, output_head, owned, tasks_words}
+use Rattle.module_calls.specs.KernelDispatch.KernelModel.Residents.{fault_packet_words, key_arguments, key_words, pending_head, resident_words}
+use Rattle.module_calls.specs.KernelDispatch.KernelModel.Root.{root_words}
+use Rattle.module_calls.specs.KernelDispatch.KernelModel.Task.{Task, fault_words, globals_of, name_words, queue_bit, queue_head, stack_of, state_word, state_words, task_address, task_id, task_words}
+use Rattle.module_calls.specs.KernelDispatch.KernelModel.ValidQueues.{Place}
+use Rattle.module_calls.specs.KernelDispatch.KernelModel.ValidQueues.Place.{Clock, Keyboard, Output, Pending, Work}
+use Rattle.module_calls.specs.KernelDispatch.KernelModel.ValidTasks.{IsField}
+use Rattle.module_calls.proofs.Shown.KernelDispatch.KernelModel.ChainSplits.{address-between}
+use Rattle.module_calls.proofs.Shown.KernelDispatch.KernelModel.ChangedLists.{one_task-owned}
+use Rattle.module_calls.proofs.Shown.KernelDispatch.KernelModel.WorkQueues.{WorkSplit, work-split}
 use Rattle.packet_calls.specs.Destinations.{queue_for}
 use Rattle.packet_calls.specs.QueueWords.{head_of, state_left, state_with_packets}
 

@@ -3,24 +3,24 @@
 use Rattle.std.proofs.Common.{◌≡◌, ℕ, ◌+◌, ◌<◌, List, [], ◌∷◌, ◌++◌, map, sym, ap, ◌∙◌, subst, append-nil, length, arith}
 use Rattle.std.specs.List.{AllByRecursion, range_with_len}
 use Rattle.word_store.specs.Count.{IsApart, times}
-use Rattle.block_calls.specs.KernelDispatch.OwnedWords.Exchange.{Splits}
-use Rattle.block_calls.specs.KernelDispatch.OwnedWords.Owned.{Holds, Pairs, owners, written}
-use Rattle.block_calls.specs.KernelDispatch.PacketQueue.Due.{with_due}
-use Rattle.block_calls.specs.KernelDispatch.PacketQueue.Queue.{CanQueue, HasQueue}
-use Rattle.block_calls.specs.KernelDispatch.PacketQueue.QueueWords.{DueExchange, HeldQueue, QueuedPacket, first_packet, link_behind, packet_words}
-use Rattle.block_calls.proofs.Shown.KernelDispatch.PacketQueue.HeldQueues.{due-exchange, held-queue}
-use Rattle.block_calls.specs.KernelDispatch.KernelModel.ChangedStore.{IsChanged}
-use Rattle.block_calls.specs.KernelDispatch.KernelModel.Changes.{HasPlace, queue_of, with_queue}
-use Rattle.block_calls.specs.KernelDispatch.KernelModel.HoldsLists.{HoldsLists}
-use Rattle.block_calls.specs.KernelDispatch.KernelModel.Lists.{Lists}
-use Rattle.block_calls.specs.KernelDispatch.KernelModel.Owned.{clock_head, owned}
-use Rattle.block_calls.specs.KernelDispatch.KernelModel.Task.{task_id}
-use Rattle.block_calls.specs.KernelDispatch.KernelModel.ValidLists.{AreValid}
-use Rattle.block_calls.specs.KernelDispatch.KernelModel.ValidQueues.{Place}
-use Rattle.block_calls.specs.KernelDispatch.KernelModel.ValidQueues.Place.{Clock}
-use Rattle.block_calls.specs.KernelDispatch.KernelModel.ValidTasks.{IsField, IsTask}
-use Rattle.block_calls.proofs.Shown.KernelDispatch.KernelModel.EachMember.{all-each}
-use Rattle.block_calls.proofs.Shown.KernelDispatch.KernelModel.QueueCounts.{owners-packet}
+use Rattle.module_calls.specs.KernelDispatch.OwnedWords.Exchange.{Splits}
+use Rattle.module_calls.specs.KernelDispatch.OwnedWords.Owned.{Holds, Pairs, owners, written}
+use Rattle.module_calls.specs.KernelDispatch.PacketQueue.Due.{with_due}
+use Rattle.module_calls.specs.KernelDispatch.PacketQueue.Queue.{CanQueue, HasQueue}
+use Rattle.module_calls.specs.KernelDispatch.PacketQueue.QueueWords.{DueExchange, HeldQueue, QueuedPacket, first_packet, link_behind, packet_words}
+use Rattle.module_calls.proofs.Shown.KernelDispatch.PacketQueue.HeldQueues.{due-exchange, held-queue}
+use Rattle.module_calls.specs.KernelDispatch.KernelModel.ChangedStore.{IsChanged}
+use Rattle.module_calls.specs.KernelDispatch.KernelModel.Changes.{HasPlace, queue_of, with_queue}
+use Rattle.module_calls.specs.KernelDispatch.KernelModel.HoldsLists.{HoldsLists}
+use Rattle.module_calls.specs.KernelDispatch.KernelModel.Lists.{Lists}
+use Rattle.module_calls.specs.KernelDispatch.KernelModel.Owned.{clock_head, owned}
+use Rattle.module_calls.specs.KernelDispatch.KernelModel.Task.{task_id}
+use Rattle.module_calls.specs.KernelDispatch.KernelModel.ValidLists.{AreValid}
+use Rattle.module_calls.specs.KernelDispatch.KernelModel.ValidQueues.{Place}
+use Rattle.module_calls.specs.KernelDispatch.KernelModel.ValidQueues.Place.{Clock}
+use Rattle.module_calls.specs.KernelDispatch.KernelModel.ValidTasks.{IsField, IsTask}
+use Rattle.module_calls.proofs.Shown.KernelDispatch.KernelModel.EachMember.{all-each}
+use Rattle.module_calls.proofs.Shown.KernelDispatch.KernelModel.QueueCounts.{owners-packet}
 use Rattle.packet_calls.specs.Destinations.{queue_for}
 use Rattle.packet_calls.specs.PacketMoves.{arrived}
 use Rattle.packet_calls.specs.QueueWords.{head_of, enqueued}

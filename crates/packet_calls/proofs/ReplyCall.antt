@@ -3,25 +3,25 @@ use Rattle.std.proofs.Common.{◌≡◌, ℕ, ◌+◌, ◌<◌, Bool, Option, So
 use Rattle.std.specs.List.{AllByRecursion}
 use Rattle.std.proofs.lemmas.Bool.{false≢true}
 use Rattle.word_store.specs.Arithmetic.{signed}
-use Rattle.block_calls.specs.KernelDispatch.OwnedWords.Owned.{Pairs}
-use Rattle.block_calls.specs.KernelDispatch.PacketQueue.Log.{Notes}
-use Rattle.block_calls.specs.KernelDispatch.PacketQueue.Queue.{CanQueue, HasQueue}
-use Rattle.block_calls.specs.KernelDispatch.PacketQueue.QueueWords.{QueuedPacket}
-use Rattle.block_calls.specs.KernelDispatch.PacketQueue.declared.events.KernelEvent.{KernelEvent}
-use Rattle.block_calls.specs.KernelDispatch.PacketQueue.declared.events.KernelEvent.TheVariants.{Accepted}
-use Rattle.block_calls.specs.KernelDispatch.TaskBlock.TaskChain.{task_with, tasks_in}
-use Rattle.block_calls.specs.KernelDispatch.KernelModel.Changes.{queue_of, with_queue}
-use Rattle.block_calls.specs.KernelDispatch.KernelModel.HoldsLists.{HoldsLists}
-use Rattle.block_calls.specs.KernelDispatch.KernelModel.Lists.{Lists, has_task}
-use Rattle.block_calls.specs.KernelDispatch.KernelModel.NotedEvents.{NotesAll}
-use Rattle.block_calls.specs.KernelDispatch.KernelModel.Task.{queue_head}
-use Rattle.block_calls.specs.KernelDispatch.KernelModel.ValidLists.{AreValid}
-use Rattle.block_calls.specs.KernelDispatch.KernelModel.ValidQueues.{Place}
-use Rattle.block_calls.specs.KernelDispatch.KernelModel.ValidQueues.Place.{Work}
-use Rattle.block_calls.specs.KernelDispatch.KernelModel.ValidTasks.{IsField}
-use Rattle.block_calls.proofs.Shown.KernelDispatch.KernelModel.NotedInTurn.{notes-one}
-use Rattle.block_calls.specs.CallAnswers.Made.{Leaves, minus_one}
-use Rattle.block_calls.proofs.Shown.CallAnswers.FoundTask.{Finds, find-task, found-address}
+use Rattle.module_calls.specs.KernelDispatch.OwnedWords.Owned.{Pairs}
+use Rattle.module_calls.specs.KernelDispatch.PacketQueue.Log.{Notes}
+use Rattle.module_calls.specs.KernelDispatch.PacketQueue.Queue.{CanQueue, HasQueue}
+use Rattle.module_calls.specs.KernelDispatch.PacketQueue.QueueWords.{QueuedPacket}
+use Rattle.module_calls.specs.KernelDispatch.PacketQueue.declared.events.KernelEvent.{KernelEvent}
+use Rattle.module_calls.specs.KernelDispatch.PacketQueue.declared.events.KernelEvent.TheVariants.{Accepted}
+use Rattle.module_calls.specs.KernelDispatch.TaskBlock.TaskChain.{task_with, tasks_in}
+use Rattle.module_calls.specs.KernelDispatch.KernelModel.Changes.{queue_of, with_queue}
+use Rattle.module_calls.specs.KernelDispatch.KernelModel.HoldsLists.{HoldsLists}
+use Rattle.module_calls.specs.KernelDispatch.KernelModel.Lists.{Lists, has_task}
+use Rattle.module_calls.specs.KernelDispatch.KernelModel.NotedEvents.{NotesAll}
+use Rattle.module_calls.specs.KernelDispatch.KernelModel.Task.{queue_head}
+use Rattle.module_calls.specs.KernelDispatch.KernelModel.ValidLists.{AreValid}
+use Rattle.module_calls.specs.KernelDispatch.KernelModel.ValidQueues.{Place}
+use Rattle.module_calls.specs.KernelDispatch.KernelModel.ValidQueues.Place.{Work}
+use Rattle.module_calls.specs.KernelDispatch.KernelModel.ValidTasks.{IsField}
+use Rattle.module_calls.proofs.Shown.KernelDispatch.KernelModel.NotedInTurn.{notes-one}
+use Rattle.module_calls.specs.CallAnswers.Made.{Leaves, minus_one}
+use Rattle.module_calls.proofs.Shown.CallAnswers.FoundTask.{Finds, find-task, found-address}
 use Rattle.packet_calls.specs.Destinations.{queue_for}
 use Rattle.packet_calls.specs.QueueWords.{head_of, enqueued, with_results}
 use Rattle.packet_calls.specs.Reply.{CanReply, reply, returned}

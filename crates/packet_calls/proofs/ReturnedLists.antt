@@ -3,18 +3,18 @@ use Rattle.std.proofs.Common.{◌≡◌, ℕ, ◌+◌, List, [], ◌∷◌, eqb,
 use Rattle.std.specs.Prelude.{is_some, not}
 use Rattle.std.specs.List.{AllByRecursion, list_any}
 use Rattle.std.proofs.lemmas.Bool.{and_parts, eqb-true, false≢true}
-use Rattle.block_calls.specs.KernelDispatch.PacketQueue.QueueWords.{QueuedPacket}
-use Rattle.block_calls.specs.KernelDispatch.KernelModel.Changes.{AreUnowned, queue_of, with_key, with_queue}
-use Rattle.block_calls.specs.KernelDispatch.KernelModel.Lists.{Lists, has_task, is_queued}
-use Rattle.block_calls.specs.KernelDispatch.KernelModel.Residents.{key_packet}
-use Rattle.block_calls.specs.KernelDispatch.KernelModel.Task.{is_guest_id}
-use Rattle.block_calls.specs.KernelDispatch.KernelModel.ValidBlocks.{AreData}
-use Rattle.block_calls.specs.KernelDispatch.KernelModel.ValidLists.{AreValid}
-use Rattle.block_calls.specs.KernelDispatch.KernelModel.ValidQueues.{IsFaultPacket, IsKeyPacket, MayStand, Place, is_fault_packet, is_key_packet}
-use Rattle.block_calls.specs.KernelDispatch.KernelModel.ValidQueues.Place.{Clock, Keyboard, Output, Work}
-use Rattle.block_calls.proofs.Shown.KernelDispatch.KernelModel.PacketMoves.{queued-valid, unqueued-unowned, unqueued-valid}
-use Rattle.block_calls.proofs.Shown.KernelDispatch.KernelModel.QueuePlaces.{is_queued-here}
-use Rattle.block_calls.proofs.Shown.KernelDispatch.KernelModel.ResidentPackets.{key_queued-valid, key_unqueued-valid}
+use Rattle.module_calls.specs.KernelDispatch.PacketQueue.QueueWords.{QueuedPacket}
+use Rattle.module_calls.specs.KernelDispatch.KernelModel.Changes.{AreUnowned, queue_of, with_key, with_queue}
+use Rattle.module_calls.specs.KernelDispatch.KernelModel.Lists.{Lists, has_task, is_queued}
+use Rattle.module_calls.specs.KernelDispatch.KernelModel.Residents.{key_packet}
+use Rattle.module_calls.specs.KernelDispatch.KernelModel.Task.{is_guest_id}
+use Rattle.module_calls.specs.KernelDispatch.KernelModel.ValidBlocks.{AreData}
+use Rattle.module_calls.specs.KernelDispatch.KernelModel.ValidLists.{AreValid}
+use Rattle.module_calls.specs.KernelDispatch.KernelModel.ValidQueues.{IsFaultPacket, IsKeyPacket, MayStand, Place, is_fault_packet, is_key_packet}
+use Rattle.module_calls.specs.KernelDispatch.KernelModel.ValidQueues.Place.{Clock, Keyboard, Output, Work}
+use Rattle.module_calls.proofs.Shown.KernelDispatch.KernelModel.PacketMoves.{queued-valid, unqueued-unowned, unqueued-valid}
+use Rattle.module_calls.proofs.Shown.KernelDispatch.KernelModel.QueuePlaces.{is_queued-here}
+use Rattle.module_calls.proofs.Shown.KernelDispatch.KernelModel.ResidentPackets.{key_queued-valid, key_unqueued-valid}
 use Rattle.packet_calls.specs.Returned.{place_of, returned_by, with_work_for}
 use Rattle.packet_calls.specs.declared.returns.Device.{Device}
 use Rattle.packet_calls.specs.declared.returns.Device.TheVariants as devices

@@ -1,15 +1,15 @@
 -- The queue in which a packet is found.
 use Rattle.std.proofs.Common.{◌≡◌, ◌≢◌, ℕ, ◌&&◌, ◌||◌, Bool, true, false, not, Option, Some, None, Result, Ok, Err, ok_or, List, [], ◌∷◌, ◌++◌, cond, eqb, find, get_or, is_some, option_map, refl, sym, ap, ◌∙◌, subst}
 use Rattle.std.proofs.lemmas.Bool.{eq-eqb, ne_eqb}
-use Rattle.block_calls.specs.KernelDispatch.TaskBlock.TaskChain.{task_with, tasks_in}
-use Rattle.block_calls.specs.KernelDispatch.KernelModel.Changes.{queue_of}
-use Rattle.block_calls.specs.KernelDispatch.KernelModel.HoldsLists.{HoldsLists}
-use Rattle.block_calls.specs.KernelDispatch.KernelModel.Lists.{Lists, has_task}
-use Rattle.block_calls.specs.KernelDispatch.KernelModel.Residents.{fault_packet, key_packet}
-use Rattle.block_calls.specs.KernelDispatch.KernelModel.ValidQueues.Place.{Pending, Work}
-use Rattle.block_calls.proofs.Shown.KernelDispatch.KernelModel.WalkedLists.{residents-read}
-use Rattle.block_calls.proofs.Shown.CallAnswers.FoundTask.{Finds, find-task, found-there}
-use Rattle.block_calls.specs.KernelDispatch.KernelModel.ValidLists.{AreValid}
+use Rattle.module_calls.specs.KernelDispatch.TaskBlock.TaskChain.{task_with, tasks_in}
+use Rattle.module_calls.specs.KernelDispatch.KernelModel.Changes.{queue_of}
+use Rattle.module_calls.specs.KernelDispatch.KernelModel.HoldsLists.{HoldsLists}
+use Rattle.module_calls.specs.KernelDispatch.KernelModel.Lists.{Lists, has_task}
+use Rattle.module_calls.specs.KernelDispatch.KernelModel.Residents.{fault_packet, key_packet}
+use Rattle.module_calls.specs.KernelDispatch.KernelModel.ValidQueues.Place.{Pending, Work}
+use Rattle.module_calls.proofs.Shown.KernelDispatch.KernelModel.WalkedLists.{residents-read}
+use Rattle.module_calls.proofs.Shown.CallAnswers.FoundTask.{Finds, find-task, found-there}
+use Rattle.module_calls.specs.KernelDispatch.KernelModel.ValidLists.{AreValid}
 use Rattle.packet_calls.specs.Destinations.{is_destination, place_of}
 use Rattle.packet_calls.specs.Dqpkt.{Search, found_in, found_in_own, further_searches, is_residents_packet, located, pending_number}
 use Rattle.packet_calls.specs.PacketMoves.{stands_in}

@@ -2,27 +2,27 @@
 use Rattle.std.proofs.Common.{◌≡◌, ℕ, ◌+◌, ◌≤◌, Bool, false, Option, Some, None, Ok, Err, List, [], ◌∷◌, cond, get_or, set, refl, sym, ap, ◌∙◌, subst, arith}
 use Rattle.std.specs.List.{range_with_len}
 use Rattle.word_store.specs.Arithmetic.{signed}
-use Rattle.block_calls.specs.KernelDispatch.PacketQueue.Log.{Notes}
-use Rattle.block_calls.specs.KernelDispatch.PacketQueue.Queue.{CanQueue, HasQueue}
-use Rattle.block_calls.specs.KernelDispatch.PacketQueue.declared.events.KernelEvent.{KernelEvent}
-use Rattle.block_calls.specs.KernelDispatch.PacketQueue.declared.events.KernelEvent.TheVariants.{Accepted}
-use Rattle.block_calls.specs.KernelDispatch.KernelModel.ChangedStore.{HasKeeper}
-use Rattle.block_calls.specs.KernelDispatch.KernelModel.Lists.{Lists}
-use Rattle.block_calls.specs.KernelDispatch.KernelModel.NotedEvents.{NotesAll}
-use Rattle.block_calls.specs.KernelDispatch.KernelModel.ValidBlocks.{AreData}
-use Rattle.block_calls.specs.KernelDispatch.KernelModel.ValidQueues.{HasSender, Place}
-use Rattle.block_calls.specs.KernelDispatch.KernelModel.ValidQueues.Place.{Clock, Keyboard, Output, Pending, Work}
-use Rattle.block_calls.proofs.Shown.KernelDispatch.KernelModel.DataInside.{AreData-inside}
-use Rattle.block_calls.proofs.Shown.KernelDispatch.KernelModel.NotedInTurn.{notes-none, notes-one}
-use Rattle.block_calls.specs.KernelDispatch.WordKinds.Keeper.{AreTogether}
-use Rattle.block_calls.proofs.Shown.KernelDispatch.WordKinds.KnownWords.{knows-claimed}
-use Rattle.block_calls.specs.CallAnswers.Callers.{HasCaller}
-use Rattle.block_calls.specs.CallAnswers.Guests.{GuestAt}
-use Rattle.block_calls.specs.CallAnswers.Made.{IsMade, by_refusal, minus_one}
-use Rattle.block_calls.specs.CallAnswers.Refusals.{first_refusal}
-use Rattle.block_calls.proofs.Shown.CallAnswers.MadeCalls.{made-accepted, made-refused}
-use Rattle.block_calls.proofs.Shown.CallAnswers.Refusals.{first_refusal-failed, first_refusal-passed}
-use Rattle.block_calls.proofs.Shown.CallAnswers.RootTold.{tick-told}
+use Rattle.module_calls.specs.KernelDispatch.PacketQueue.Log.{Notes}
+use Rattle.module_calls.specs.KernelDispatch.PacketQueue.Queue.{CanQueue, HasQueue}
+use Rattle.module_calls.specs.KernelDispatch.PacketQueue.declared.events.KernelEvent.{KernelEvent}
+use Rattle.module_calls.specs.KernelDispatch.PacketQueue.declared.events.KernelEvent.TheVariants.{Accepted}
+use Rattle.module_calls.specs.KernelDispatch.KernelModel.ChangedStore.{HasKeeper}
+use Rattle.module_calls.specs.KernelDispatch.KernelModel.Lists.{Lists}
+use Rattle.module_calls.specs.KernelDispatch.KernelModel.NotedEvents.{NotesAll}
+use Rattle.module_calls.specs.KernelDispatch.KernelModel.ValidBlocks.{AreData}
+use Rattle.module_calls.specs.KernelDispatch.KernelModel.ValidQueues.{HasSender, Place}
+use Rattle.module_calls.specs.KernelDispatch.KernelModel.ValidQueues.Place.{Clock, Keyboard, Output, Pending, Work}
+use Rattle.module_calls.proofs.Shown.KernelDispatch.KernelModel.DataInside.{AreData-inside}
+use Rattle.module_calls.proofs.Shown.KernelDispatch.KernelModel.NotedInTurn.{notes-none, notes-one}
+use Rattle.module_calls.specs.KernelDispatch.WordKinds.Keeper.{AreTogether}
+use Rattle.module_calls.proofs.Shown.KernelDispatch.WordKinds.KnownWords.{knows-claimed}
+use Rattle.module_calls.specs.CallAnswers.Callers.{HasCaller}
+use Rattle.module_calls.specs.CallAnswers.Guests.{GuestAt}
+use Rattle.module_calls.specs.CallAnswers.Made.{IsMade, by_refusal, minus_one}
+use Rattle.module_calls.specs.CallAnswers.Refusals.{first_refusal}
+use Rattle.module_calls.proofs.Shown.CallAnswers.MadeCalls.{made-accepted, made-refused}
+use Rattle.module_calls.proofs.Shown.CallAnswers.Refusals.{first_refusal-failed, first_refusal-passed}
+use Rattle.module_calls.proofs.Shown.CallAnswers.RootTold.{tick-told}
 use Rattle.packet_calls.specs.Destinations.{is_destination, place_of, queue_for}
 use Rattle.packet_calls.specs.PacketMoves.{sent_packet, with_arrived}
 use Rattle.packet_calls.specs.Qpkt.{packet_tests, qpkt, qpkt_tests, sent_to}

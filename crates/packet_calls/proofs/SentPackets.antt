@@ -4,25 +4,25 @@ use Rattle.std.specs.List.{AllByRecursion, range_with_len}
 use Rattle.std.proofs.lemmas.Bool.{cases_eq, false≢true}
 use Rattle.word_store.specs.Count.{times}
 use Rattle.word_store.proofs.Counts.{hit-other, times-within}
-use Rattle.block_calls.specs.KernelDispatch.OwnedWords.Exchange.{Splits}
-use Rattle.block_calls.specs.KernelDispatch.OwnedWords.Owned.{Pairs, owners}
-use Rattle.block_calls.specs.KernelDispatch.PacketQueue.Queue.{CanQueue, HasQueue}
-use Rattle.block_calls.specs.KernelDispatch.PacketQueue.QueueWords.{HeldQueue, QueuedPacket, packet_words}
-use Rattle.block_calls.specs.KernelDispatch.KernelModel.ChangedStore.{IsChanged}
-use Rattle.block_calls.specs.KernelDispatch.KernelModel.Changes.{AreUnowned, HasPlace, KeepsOrder, queue_of, with_queue}
-use Rattle.block_calls.specs.KernelDispatch.KernelModel.HoldsLists.{HoldsLists}
-use Rattle.block_calls.specs.KernelDispatch.KernelModel.Lists.{Lists}
-use Rattle.block_calls.specs.KernelDispatch.KernelModel.Owned.{clock_head, owned}
-use Rattle.block_calls.specs.KernelDispatch.KernelModel.ValidBlocks.{AreData}
-use Rattle.block_calls.specs.KernelDispatch.KernelModel.ValidLists.{AreValid}
-use Rattle.block_calls.specs.KernelDispatch.KernelModel.ValidQueues.{HasSender, MayStand, NeverFall, Place}
-use Rattle.block_calls.specs.KernelDispatch.KernelModel.ValidQueues.Place.{Clock, Keyboard, Output, Pending, Work}
-use Rattle.block_calls.specs.KernelDispatch.KernelModel.ValidTasks.{IsField}
-use Rattle.block_calls.proofs.Shown.KernelDispatch.KernelModel.AllThings.{all-between}
-use Rattle.block_calls.proofs.Shown.KernelDispatch.KernelModel.OwnedPackets.{unowned-no_fault, unowned-no_key}
-use Rattle.block_calls.proofs.Shown.KernelDispatch.KernelModel.PacketMoves.{queued-valid}
-use Rattle.block_calls.proofs.Shown.KernelDispatch.KernelModel.QueuePlaces.{place-stands}
-use Rattle.block_calls.proofs.Shown.KernelDispatch.KernelModel.ReadQueues.{packets-some}
+use Rattle.module_calls.specs.KernelDispatch.OwnedWords.Exchange.{Splits}
+use Rattle.module_calls.specs.KernelDispatch.OwnedWords.Owned.{Pairs, owners}
+use Rattle.module_calls.specs.KernelDispatch.PacketQueue.Queue.{CanQueue, HasQueue}
+use Rattle.module_calls.specs.KernelDispatch.PacketQueue.QueueWords.{HeldQueue, QueuedPacket, packet_words}
+use Rattle.module_calls.specs.KernelDispatch.KernelModel.ChangedStore.{IsChanged}
+use Rattle.module_calls.specs.KernelDispatch.KernelModel.Changes.{AreUnowned, HasPlace, KeepsOrder, queue_of, with_queue}
+use Rattle.module_calls.specs.KernelDispatch.KernelModel.HoldsLists.{HoldsLists}
+use Rattle.module_calls.specs.KernelDispatch.KernelModel.Lists.{Lists}
+use Rattle.module_calls.specs.KernelDispatch.KernelModel.Owned.{clock_head, owned}
+use Rattle.module_calls.specs.KernelDispatch.KernelModel.ValidBlocks.{AreData}
+use Rattle.module_calls.specs.KernelDispatch.KernelModel.ValidLists.{AreValid}
+use Rattle.module_calls.specs.KernelDispatch.KernelModel.ValidQueues.{HasSender, MayStand, NeverFall, Place}
+use Rattle.module_calls.specs.KernelDispatch.KernelModel.ValidQueues.Place.{Clock, Keyboard, Output, Pending, Work}
+use Rattle.module_calls.specs.KernelDispatch.KernelModel.ValidTasks.{IsField}
+use Rattle.module_calls.proofs.Shown.KernelDispatch.KernelModel.AllThings.{all-between}
+use Rattle.module_calls.proofs.Shown.KernelDispatch.KernelModel.OwnedPackets.{unowned-no_fault, unowned-no_key}
+use Rattle.module_calls.proofs.Shown.KernelDispatch.KernelModel.PacketMoves.{queued-valid}
+use Rattle.module_calls.proofs.Shown.KernelDispatch.KernelModel.QueuePlaces.{place-stands}
+use Rattle.module_calls.proofs.Shown.KernelDispatch.KernelModel.ReadQueues.{packets-some}
 use Rattle.packet_calls.specs.Destinations.{queue_for}
 use Rattle.packet_calls.specs.PacketMoves.{arrived, packet_at, sent_packet, with_arrived}
 use Rattle.packet_calls.specs.QueueWords.{due_in, due_tick, head_of, enqueued, sent_words}

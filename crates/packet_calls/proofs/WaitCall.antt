@@ -4,37 +4,37 @@ use Rattle.std.specs.List.{AllByRecursion, range_with_len}
 use Rattle.std.proofs.lemmas.Bool.{eq-eqb, false_from_ne_true, leb-true, or_left}
 use Rattle.word_store.specs.Arithmetic.{signed}
 use Rattle.word_store.specs.Count.{IsApart}
-use Rattle.block_calls.specs.KernelDispatch.LinkedList.Places.{has}
-use Rattle.block_calls.specs.KernelDispatch.OwnedWords.Exchange.{Exchange}
-use Rattle.block_calls.specs.KernelDispatch.OwnedWords.LinkedWords.{first_of}
-use Rattle.block_calls.proofs.Shown.KernelDispatch.OwnedWords.Exchanges.{exchange-left, exchange-right, exchange-row}
-use Rattle.block_calls.specs.KernelDispatch.PacketQueue.Log.{Notes}
-use Rattle.block_calls.specs.KernelDispatch.PacketQueue.Queue.{HasQueue, queue_at}
-use Rattle.block_calls.specs.KernelDispatch.PacketQueue.QueueWords.{QueuedPacket, queue_words}
-use Rattle.block_calls.specs.KernelDispatch.PacketQueue.declared.events.KernelEvent.{KernelEvent}
-use Rattle.block_calls.specs.KernelDispatch.PacketQueue.declared.events.KernelEvent.TheVariants.{Taken}
-use Rattle.block_calls.specs.KernelDispatch.Coroutines.CoroutineExchanges.{words_of_coroutines}
-use Rattle.block_calls.specs.KernelDispatch.KernelModel.ChangedStore.{HasKeeper, IsChanged, Knows}
-use Rattle.block_calls.specs.KernelDispatch.KernelModel.Changes.{queue_of, with_queue, with_task, with_tasks}
-use Rattle.block_calls.specs.KernelDispatch.KernelModel.Lists.{Lists, has_task}
-use Rattle.block_calls.specs.KernelDispatch.KernelModel.NotedEvents.{NotesAll}
-use Rattle.block_calls.specs.KernelDispatch.KernelModel.Owned.{owned}
-use Rattle.block_calls.specs.KernelDispatch.KernelModel.Task.{Task, fault_words, globals_of, is_guest_id, name_words, queue_bit, queue_head, stack_of, state_word, state_words, task_address, task_words}
-use Rattle.block_calls.specs.KernelDispatch.KernelModel.ValidLists.{AreValid}
-use Rattle.block_calls.specs.KernelDispatch.KernelModel.ValidQueues.{IsFaultPacket, IsKeyPacket, MayStand, Place, is_fault_packet, is_key_packet}
-use Rattle.block_calls.specs.KernelDispatch.KernelModel.ValidQueues.Place.{Clock, Keyboard, Output, Pending, Work}
-use Rattle.block_calls.specs.KernelDispatch.KernelModel.ValidTasks.{IsTask}
-use Rattle.block_calls.proofs.Shown.KernelDispatch.KernelModel.ChangedLists.{exchange-owned, knows-same, one_task-owned, owners-exchanged}
-use Rattle.block_calls.proofs.Shown.KernelDispatch.KernelModel.NotedInTurn.{notes-none, notes-one}
-use Rattle.block_calls.proofs.Shown.KernelDispatch.KernelModel.OneTask.{same_task-valid}
-use Rattle.block_calls.proofs.Shown.KernelDispatch.KernelModel.PacketMoves.{unqueued-valid}
-use Rattle.block_calls.proofs.Shown.KernelDispatch.KernelModel.QueuePlaces.{place-stands}
-use Rattle.block_calls.specs.KernelDispatch.WordKinds.Keeper.{AreTogether}
-use Rattle.block_calls.proofs.Shown.KernelDispatch.WordKinds.KnownWords.{knows-released}
-use Rattle.block_calls.specs.CallAnswers.Callers.{HasCaller}
-use Rattle.block_calls.specs.CallAnswers.Guests.{GuestAt}
-use Rattle.block_calls.specs.CallAnswers.Made.{IsMade}
-use Rattle.block_calls.proofs.Shown.CallAnswers.GuestTask.{GuestFacts, guest-changed, guest-facts}
+use Rattle.module_calls.specs.KernelDispatch.LinkedList.Places.{has}
+use Rattle.module_calls.specs.KernelDispatch.OwnedWords.Exchange.{Exchange}
+use Rattle.module_calls.specs.KernelDispatch.OwnedWords.LinkedWords.{first_of}
+use Rattle.module_calls.proofs.Shown.KernelDispatch.OwnedWords.Exchanges.{exchange-left, exchange-right, exchange-row}
+use Rattle.module_calls.specs.KernelDispatch.PacketQueue.Log.{Notes}
+use Rattle.module_calls.specs.KernelDispatch.PacketQueue.Queue.{HasQueue, queue_at}
+use Rattle.module_calls.specs.KernelDispatch.PacketQueue.QueueWords.{QueuedPacket, queue_words}
+use Rattle.module_calls.specs.KernelDispatch.PacketQueue.declared.events.KernelEvent.{KernelEvent}
+use Rattle.module_calls.specs.KernelDispatch.PacketQueue.declared.events.KernelEvent.TheVariants.{Taken}
+use Rattle.module_calls.specs.KernelDispatch.Coroutines.CoroutineExchanges.{words_of_coroutines}
+use Rattle.module_calls.specs.KernelDispatch.KernelModel.ChangedStore.{HasKeeper, IsChanged, Knows}
+use Rattle.module_calls.specs.KernelDispatch.KernelModel.Changes.{queue_of, with_queue, with_task, with_tasks}
+use Rattle.module_calls.specs.KernelDispatch.KernelModel.Lists.{Lists, has_task}
+use Rattle.module_calls.specs.KernelDispatch.KernelModel.NotedEvents.{NotesAll}
+use Rattle.module_calls.specs.KernelDispatch.KernelModel.Owned.{owned}
+use Rattle.module_calls.specs.KernelDispatch.KernelModel.Task.{Task, fault_words, globals_of, is_guest_id, name_words, queue_bit, queue_head, stack_of, state_word, state_words, task_address, task_words}
+use Rattle.module_calls.specs.KernelDispatch.KernelModel.ValidLists.{AreValid}
+use Rattle.module_calls.specs.KernelDispatch.KernelModel.ValidQueues.{IsFaultPacket, IsKeyPacket, MayStand, Place, is_fault_packet, is_key_packet}
+use Rattle.module_calls.specs.KernelDispatch.KernelModel.ValidQueues.Place.{Clock, Keyboard, Output, Pending, Work}
+use Rattle.module_calls.specs.KernelDispatch.KernelModel.ValidTasks.{IsTask}
+use Rattle.module_calls.proofs.Shown.KernelDispatch.KernelModel.ChangedLists.{exchange-owned, knows-same, one_task-owned, owners-exchanged}
+use Rattle.module_calls.proofs.Shown.KernelDispatch.KernelModel.NotedInTurn.{notes-none, notes-one}
+use Rattle.module_calls.proofs.Shown.KernelDispatch.KernelModel.OneTask.{same_task-valid}
+use Rattle.module_calls.proofs.Shown.KernelDispatch.KernelModel.PacketMoves.{unqueued-valid}
+use Rattle.module_calls.proofs.Shown.KernelDispatch.KernelModel.QueuePlaces.{place-stands}
+use Rattle.module_calls.specs.KernelDispatch.WordKinds.Keeper.{AreTogether}
+use Rattle.module_calls.proofs.Shown.KernelDispatch.WordKinds.KnownWords.{knows-released}
+use Rattle.module_calls.specs.CallAnswers.Callers.{HasCaller}
+use Rattle.module_calls.specs.CallAnswers.Guests.{GuestAt}
+use Rattle.module_calls.specs.CallAnswers.Made.{IsMade}
+use Rattle.module_calls.proofs.Shown.CallAnswers.GuestTask.{GuestFacts, guest-changed, guest-facts}
 use Rattle.packet_calls.specs.Destinations.{queue_for}
 use Rattle.packet_calls.specs.PacketMoves.{stands_in}
 use Rattle.packet_calls.specs.QueueWords.{head_of, unqueued}

@@ -1,10 +1,10 @@
 -- Which queue a number names: a task's number its work queue, and -1, -2 and -3 the queues of the clock, the keyboard and the
 -- output.
 use Rattle.std.specs.Prelude.{ℕ, ◌==◌, ◌||◌, Bool, if◌then◌else◌, Option, Some, None}
-use Rattle.block_calls.specs.KernelDispatch.KernelModel.Lists.{Lists, address_of_task, has_task}
-use Rattle.block_calls.specs.KernelDispatch.KernelModel.Residents.{device}
-use Rattle.block_calls.specs.KernelDispatch.KernelModel.ValidQueues.{Place}
-use Rattle.block_calls.specs.KernelDispatch.KernelModel.ValidQueues.Place.{Clock, Keyboard, Output, Pending, Work}
+use Rattle.module_calls.specs.KernelDispatch.KernelModel.Lists.{Lists, address_of_task, has_task}
+use Rattle.module_calls.specs.KernelDispatch.KernelModel.Residents.{device}
+use Rattle.module_calls.specs.KernelDispatch.KernelModel.ValidQueues.{Place}
+use Rattle.module_calls.specs.KernelDispatch.KernelModel.ValidQueues.Place.{Clock, Keyboard, Output, Pending, Work}
 use Rattle.packet_calls.specs.declared.queues.Queue.{Queue}
 use Rattle.packet_calls.specs.declared.queues.Queue.TheVariants as queues
 

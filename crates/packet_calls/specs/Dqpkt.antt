@@ -1,13 +1,13 @@
 -- The call that takes a packet back out of a queue.
 use Rattle.std.specs.Prelude.{ℕ, ◌+◌, ◌==◌, ◌||◌, Bool, if◌then◌else◌, not, find, is_some, Option, Some, None, Ok, List, [], ◌∷◌, ◌++◌}
 use Rattle.word_store.specs.Arithmetic.{signed}
-use Rattle.block_calls.specs.KernelDispatch.PacketQueue.Queue.{no_queue}
-use Rattle.block_calls.specs.KernelDispatch.PacketQueue.declared.events.KernelEvent.TheVariants.{Dequeued}
-use Rattle.block_calls.specs.KernelDispatch.KernelModel.Changes.{queue_of}
-use Rattle.block_calls.specs.KernelDispatch.KernelModel.Lists.{Lists}
-use Rattle.block_calls.specs.KernelDispatch.KernelModel.ValidQueues.{Place, is_fault_at, is_key_at}
-use Rattle.block_calls.specs.KernelDispatch.KernelModel.ValidQueues.Place.{Pending, Work}
-use Rattle.block_calls.specs.CallAnswers.Made.{Made, done, unless_refused}
+use Rattle.module_calls.specs.KernelDispatch.PacketQueue.Queue.{no_queue}
+use Rattle.module_calls.specs.KernelDispatch.PacketQueue.declared.events.KernelEvent.TheVariants.{Dequeued}
+use Rattle.module_calls.specs.KernelDispatch.KernelModel.Changes.{queue_of}
+use Rattle.module_calls.specs.KernelDispatch.KernelModel.Lists.{Lists}
+use Rattle.module_calls.specs.KernelDispatch.KernelModel.ValidQueues.{Place, is_fault_at, is_key_at}
+use Rattle.module_calls.specs.KernelDispatch.KernelModel.ValidQueues.Place.{Pending, Work}
+use Rattle.module_calls.specs.CallAnswers.Made.{Made, done, unless_refused}
 use Rattle.packet_calls.specs.Destinations.{is_destination, place_of, queue_for}
 use Rattle.packet_calls.specs.PacketMoves.{stands_in, with_departed}
 use Rattle.packet_calls.specs.declared.dequeue.Found.{Found}

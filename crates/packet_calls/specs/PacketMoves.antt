@@ -1,12 +1,12 @@
 -- Packets come into queues, and go out of them.
 use Rattle.std.specs.Prelude.{ℕ, ◌+◌, ◌==◌, Bool, List, [], ◌∷◌, ◌++◌, nat_le, slice_index}
 use Rattle.std.specs.List.{list_any}
-use Rattle.block_calls.specs.KernelDispatch.LinkedList.Places.{insert_after, without_first}
-use Rattle.block_calls.specs.KernelDispatch.PacketQueue.QueueWords.{QueuedPacket}
-use Rattle.block_calls.specs.KernelDispatch.KernelModel.Changes.{queue_of, with_queue}
-use Rattle.block_calls.specs.KernelDispatch.KernelModel.Lists.{Lists}
-use Rattle.block_calls.specs.KernelDispatch.KernelModel.ValidQueues.{Place}
-use Rattle.block_calls.specs.KernelDispatch.KernelModel.ValidQueues.Place.{Clock}
+use Rattle.module_calls.specs.KernelDispatch.LinkedList.Places.{insert_after, without_first}
+use Rattle.module_calls.specs.KernelDispatch.PacketQueue.QueueWords.{QueuedPacket}
+use Rattle.module_calls.specs.KernelDispatch.KernelModel.Changes.{queue_of, with_queue}
+use Rattle.module_calls.specs.KernelDispatch.KernelModel.Lists.{Lists}
+use Rattle.module_calls.specs.KernelDispatch.KernelModel.ValidQueues.{Place}
+use Rattle.module_calls.specs.KernelDispatch.KernelModel.ValidQueues.Place.{Clock}
 use Rattle.packet_calls.specs.QueueWords.{due_tick}
 
 -- the packet at p, as its words say

@@ -3,14 +3,14 @@ use Rattle.std.specs.Prelude.{ℕ, ◌+◌, ◌==◌, ◌&&◌, Bool, false, not
 use Rattle.std.specs.List.{list_any, range_with_len}
 use Rattle.std.specs.Option.{option_map_or}
 use Rattle.word_store.specs.Arithmetic.{signed}
-use Rattle.block_calls.specs.KernelDispatch.OwnedWords.Owned.{owners}
-use Rattle.block_calls.specs.KernelDispatch.GetvecChain.Block.{has_data}
-use Rattle.block_calls.specs.KernelDispatch.GetvecChain.Tiling.{holding}
-use Rattle.block_calls.specs.KernelDispatch.PacketQueue.Queue.{no_queue}
-use Rattle.block_calls.specs.KernelDispatch.PacketQueue.declared.events.KernelEvent.TheVariants.{Accepted}
-use Rattle.block_calls.specs.KernelDispatch.KernelModel.Lists.{Lists}
-use Rattle.block_calls.specs.KernelDispatch.KernelModel.Owned.{owned}
-use Rattle.block_calls.specs.CallAnswers.Made.{Made, minus_one, unless_refused}
+use Rattle.module_calls.specs.KernelDispatch.OwnedWords.Owned.{owners}
+use Rattle.module_calls.specs.KernelDispatch.GetvecChain.Block.{has_data}
+use Rattle.module_calls.specs.KernelDispatch.GetvecChain.Tiling.{holding}
+use Rattle.module_calls.specs.KernelDispatch.PacketQueue.Queue.{no_queue}
+use Rattle.module_calls.specs.KernelDispatch.PacketQueue.declared.events.KernelEvent.TheVariants.{Accepted}
+use Rattle.module_calls.specs.KernelDispatch.KernelModel.Lists.{Lists}
+use Rattle.module_calls.specs.KernelDispatch.KernelModel.Owned.{owned}
+use Rattle.module_calls.specs.CallAnswers.Made.{Made, minus_one, unless_refused}
 use Rattle.packet_calls.specs.Destinations.{is_destination, place_of}
 use Rattle.packet_calls.specs.PacketMoves.{sent_packet, with_arrived}
 

@@ -1,14 +1,14 @@
 -- The words that are written where a packet comes into a queue, and where it goes out.
 use Rattle.std.specs.Prelude.{ℕ, ◌+◌, ◌-◌, ◌%◌, ◌^◌, ◌==◌, if◌then◌else◌, List, min, slice_index, slice_set}
-use Rattle.block_calls.specs.KernelDispatch.PacketQueue.Due.{with_due}
-use Rattle.block_calls.specs.KernelDispatch.PacketQueue.Queue.{appended, unlinked}
-use Rattle.block_calls.specs.KernelDispatch.TaskBlock.RootWords.{root_address}
-use Rattle.block_calls.specs.KernelDispatch.TaskBlock.TaskWords.{word_index}
-use Rattle.block_calls.specs.KernelDispatch.TaskBlock.declared.fields.TcbField.TheVariants.{State}
-use Rattle.block_calls.specs.KernelDispatch.TaskBlock.declared.roots.RootField.TheVariants.{Tick}
-use Rattle.block_calls.specs.KernelDispatch.KernelModel.Owned.{clock_head, keyboard_head, output_head}
-use Rattle.block_calls.specs.KernelDispatch.KernelModel.Residents.{pending_head}
-use Rattle.block_calls.specs.KernelDispatch.KernelModel.Task.{queue_head}
+use Rattle.module_calls.specs.KernelDispatch.PacketQueue.Due.{with_due}
+use Rattle.module_calls.specs.KernelDispatch.PacketQueue.Queue.{appended, unlinked}
+use Rattle.module_calls.specs.KernelDispatch.TaskBlock.RootWords.{root_address}
+use Rattle.module_calls.specs.KernelDispatch.TaskBlock.TaskWords.{word_index}
+use Rattle.module_calls.specs.KernelDispatch.TaskBlock.declared.fields.TcbField.TheVariants.{State}
+use Rattle.module_calls.specs.KernelDispatch.TaskBlock.declared.roots.RootField.TheVariants.{Tick}
+use Rattle.module_calls.specs.KernelDispatch.KernelModel.Owned.{clock_head, keyboard_head, output_head}
+use Rattle.module_calls.specs.KernelDispatch.KernelModel.Residents.{pending_head}
+use Rattle.module_calls.specs.KernelDispatch.KernelModel.Task.{queue_head}
 use Rattle.packet_calls.specs.declared.queues.Queue.{Queue}
 use Rattle.packet_calls.specs.declared.queues.Queue.TheVariants.{Clock, Keyboard, Output, Pending, Work}
 

@@ -1,14 +1,14 @@
 -- A packet is returned to the task that sent it.
 use Rattle.std.specs.Prelude.{◌≡◌, ℕ, ◌+◌, true, Ok, List, [], ◌∷◌, slice_index}
 use Rattle.word_store.specs.Arithmetic.{signed}
-use Rattle.block_calls.specs.KernelDispatch.PacketQueue.QueueWords.{QueuedPacket}
-use Rattle.block_calls.specs.KernelDispatch.PacketQueue.declared.events.KernelEvent.TheVariants.{Accepted}
-use Rattle.block_calls.specs.KernelDispatch.KernelModel.Changes.{AreUnowned}
-use Rattle.block_calls.specs.KernelDispatch.KernelModel.Lists.{Lists, has_task}
-use Rattle.block_calls.specs.KernelDispatch.KernelModel.ValidBlocks.{AreData}
-use Rattle.block_calls.specs.KernelDispatch.KernelModel.ValidQueues.{HasSender}
-use Rattle.block_calls.specs.KernelDispatch.KernelModel.ValidQueues.Place.{Work}
-use Rattle.block_calls.specs.CallAnswers.Made.{Made, minus_one}
+use Rattle.module_calls.specs.KernelDispatch.PacketQueue.QueueWords.{QueuedPacket}
+use Rattle.module_calls.specs.KernelDispatch.PacketQueue.declared.events.KernelEvent.TheVariants.{Accepted}
+use Rattle.module_calls.specs.KernelDispatch.KernelModel.Changes.{AreUnowned}
+use Rattle.module_calls.specs.KernelDispatch.KernelModel.Lists.{Lists, has_task}
+use Rattle.module_calls.specs.KernelDispatch.KernelModel.ValidBlocks.{AreData}
+use Rattle.module_calls.specs.KernelDispatch.KernelModel.ValidQueues.{HasSender}
+use Rattle.module_calls.specs.KernelDispatch.KernelModel.ValidQueues.Place.{Work}
+use Rattle.module_calls.specs.CallAnswers.Made.{Made, minus_one}
 use Rattle.packet_calls.specs.PacketMoves.{packet_at, with_arrived}
 
 -- the packet's sender is there, its words are data of one used block, nobody owns them, and who returns it may send to its sender

@@ -1,17 +1,17 @@
 -- A device returns the first packet of its queue to the task that sent it.
 use Rattle.std.specs.Prelude.{◌≡◌, ℕ, List, [], ◌∷◌, ◌++◌}
 use Rattle.word_store.specs.Arithmetic.{signed}
-use Rattle.block_calls.specs.KernelDispatch.OwnedWords.Owned.{owners}
-use Rattle.block_calls.specs.KernelDispatch.PacketQueue.QueueWords.{QueuedPacket}
-use Rattle.block_calls.specs.KernelDispatch.PacketQueue.declared.events.KernelEvent.{KernelEvent}
-use Rattle.block_calls.specs.KernelDispatch.PacketQueue.declared.events.KernelEvent.TheVariants.{Accepted, Taken}
-use Rattle.block_calls.specs.KernelDispatch.KernelModel.ChangedStore.{IsChanged}
-use Rattle.block_calls.specs.KernelDispatch.KernelModel.Changes.{queue_of, with_queue}
-use Rattle.block_calls.specs.KernelDispatch.KernelModel.Lists.{Lists}
-use Rattle.block_calls.specs.KernelDispatch.KernelModel.Owned.{clock_head, keyboard_head, output_head, owned}
-use Rattle.block_calls.specs.KernelDispatch.KernelModel.Residents.{device}
-use Rattle.block_calls.specs.KernelDispatch.KernelModel.ValidQueues.{Place}
-use Rattle.block_calls.specs.KernelDispatch.KernelModel.ValidQueues.Place.{Clock, Keyboard, Output, Work}
+use Rattle.module_calls.specs.KernelDispatch.OwnedWords.Owned.{owners}
+use Rattle.module_calls.specs.KernelDispatch.PacketQueue.QueueWords.{QueuedPacket}
+use Rattle.module_calls.specs.KernelDispatch.PacketQueue.declared.events.KernelEvent.{KernelEvent}
+use Rattle.module_calls.specs.KernelDispatch.PacketQueue.declared.events.KernelEvent.TheVariants.{Accepted, Taken}
+use Rattle.module_calls.specs.KernelDispatch.KernelModel.ChangedStore.{IsChanged}
+use Rattle.module_calls.specs.KernelDispatch.KernelModel.Changes.{queue_of, with_queue}
+use Rattle.module_calls.specs.KernelDispatch.KernelModel.Lists.{Lists}
+use Rattle.module_calls.specs.KernelDispatch.KernelModel.Owned.{clock_head, keyboard_head, output_head, owned}
+use Rattle.module_calls.specs.KernelDispatch.KernelModel.Residents.{device}
+use Rattle.module_calls.specs.KernelDispatch.KernelModel.ValidQueues.{Place}
+use Rattle.module_calls.specs.KernelDispatch.KernelModel.ValidQueues.Place.{Clock, Keyboard, Output, Work}
 use Rattle.packet_calls.specs.declared.returns.Device.{Device}
 use Rattle.packet_calls.specs.declared.returns.Device.TheVariants as devices
 

@@ -1,14 +1,14 @@
 -- A resident sends a packet of its own.
 use Rattle.std.specs.Prelude.{◌≡◌, ℕ, ◌+◌, ◌⊎◌, ◌==◌, true, is_some, if◌then◌else◌, None, Ok, List, [], ◌∷◌}
 use Rattle.word_store.specs.Arithmetic.{signed}
-use Rattle.block_calls.specs.KernelDispatch.PacketQueue.declared.events.KernelEvent.TheVariants.{Accepted}
-use Rattle.block_calls.specs.KernelDispatch.KernelModel.Changes.{AreUnowned, with_key}
-use Rattle.block_calls.specs.KernelDispatch.KernelModel.Lists.{Lists, has_task}
-use Rattle.block_calls.specs.KernelDispatch.KernelModel.Residents.{key_packet, keyboard}
-use Rattle.block_calls.specs.KernelDispatch.KernelModel.ValidBlocks.{AreData}
-use Rattle.block_calls.specs.KernelDispatch.KernelModel.ValidQueues.Place.{Keyboard, Work}
-use Rattle.block_calls.specs.CallAnswers.Made.{Made, minus_one}
-use Rattle.block_calls.specs.KernelDispatch.KernelModel.declared.numbers.TheConstants.{CONSOLE}
+use Rattle.module_calls.specs.KernelDispatch.PacketQueue.declared.events.KernelEvent.TheVariants.{Accepted}
+use Rattle.module_calls.specs.KernelDispatch.KernelModel.Changes.{AreUnowned, with_key}
+use Rattle.module_calls.specs.KernelDispatch.KernelModel.Lists.{Lists, has_task}
+use Rattle.module_calls.specs.KernelDispatch.KernelModel.Residents.{key_packet, keyboard}
+use Rattle.module_calls.specs.KernelDispatch.KernelModel.ValidBlocks.{AreData}
+use Rattle.module_calls.specs.KernelDispatch.KernelModel.ValidQueues.Place.{Keyboard, Work}
+use Rattle.module_calls.specs.CallAnswers.Made.{Made, minus_one}
+use Rattle.module_calls.specs.KernelDispatch.KernelModel.declared.numbers.TheConstants.{CONSOLE}
 use Rattle.packet_calls.specs.PacketMoves.{sent_packet, with_arrived}
 
 -- A packet that is plain goes from one task to another, or the same one.

@@ -1,15 +1,15 @@
 -- The call by which a task takes its first packet, or waits for one.
 use Rattle.std.specs.Prelude.{ℕ, Option, Some, None, Result, Ok, List, [], ◌∷◌}
 use Rattle.word_store.specs.Arithmetic.{signed}
-use Rattle.block_calls.specs.KernelDispatch.PacketQueue.Queue.{no_queue}
-use Rattle.block_calls.specs.KernelDispatch.PacketQueue.QueueWords.{QueuedPacket}
-use Rattle.block_calls.specs.KernelDispatch.PacketQueue.declared.events.KernelEvent.TheVariants.{Taken}
-use Rattle.block_calls.specs.KernelDispatch.KernelModel.Changes.{queue_of, with_queue, with_task}
-use Rattle.block_calls.specs.KernelDispatch.KernelModel.Lists.{Lists}
-use Rattle.block_calls.specs.KernelDispatch.KernelModel.Task.{Task}
-use Rattle.block_calls.specs.KernelDispatch.KernelModel.ValidQueues.Place.{Work}
-use Rattle.block_calls.specs.KernelDispatch.KernelModel.ValidTasks.{waits}
-use Rattle.block_calls.specs.CallAnswers.Made.{Made}
+use Rattle.module_calls.specs.KernelDispatch.PacketQueue.Queue.{no_queue}
+use Rattle.module_calls.specs.KernelDispatch.PacketQueue.QueueWords.{QueuedPacket}
+use Rattle.module_calls.specs.KernelDispatch.PacketQueue.declared.events.KernelEvent.TheVariants.{Taken}
+use Rattle.module_calls.specs.KernelDispatch.KernelModel.Changes.{queue_of, with_queue, with_task}
+use Rattle.module_calls.specs.KernelDispatch.KernelModel.Lists.{Lists}
+use Rattle.module_calls.specs.KernelDispatch.KernelModel.Task.{Task}
+use Rattle.module_calls.specs.KernelDispatch.KernelModel.ValidQueues.Place.{Work}
+use Rattle.module_calls.specs.KernelDispatch.KernelModel.ValidTasks.{waits}
+use Rattle.module_calls.specs.CallAnswers.Made.{Made}
 
 abbrev pub waiting : Task → Task
 waiting t = record t { field = waits }

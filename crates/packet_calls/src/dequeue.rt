@@ -1,12 +1,12 @@
 // A task takes a packet back out of a queue.
 ghost use Rattle.std.specs.Prelude.{◌≡◌, true};
 ghost use Rattle.std.specs.Option.{option_map};
-ghost use Rattle.block_calls.specs.KernelDispatch.KernelModel.ChangedStore.{HasKeeper};
-ghost use Rattle.block_calls.specs.KernelDispatch.KernelModel.HoldsLists.{HoldsLists};
-ghost use Rattle.block_calls.specs.KernelDispatch.KernelModel.Lists.{Lists};
-ghost use Rattle.block_calls.specs.KernelDispatch.KernelModel.NotedEvents.{NotesAll};
-ghost use Rattle.block_calls.specs.CallAnswers.Callers.{HasCaller};
-ghost use Rattle.block_calls.specs.CallAnswers.Made.{IsMade};
+ghost use Rattle.module_calls.specs.KernelDispatch.KernelModel.ChangedStore.{HasKeeper};
+ghost use Rattle.module_calls.specs.KernelDispatch.KernelModel.HoldsLists.{HoldsLists};
+ghost use Rattle.module_calls.specs.KernelDispatch.KernelModel.Lists.{Lists};
+ghost use Rattle.module_calls.specs.KernelDispatch.KernelModel.NotedEvents.{NotesAll};
+ghost use Rattle.module_calls.specs.CallAnswers.Callers.{HasCaller};
+ghost use Rattle.module_calls.specs.CallAnswers.Made.{IsMade};
 ghost use Rattle.packet_calls.specs.Destinations.{is_destination, place_of, queue_for};
 ghost use Rattle.packet_calls.specs.Dqpkt.{dqpkt, found_in, found_in_own, is_residents_packet, located};
 
@@ -14,10 +14,10 @@ use crate::Queue;
 use crate::destinations::destination;
 use crate::events::dequeued;
 use crate::queues::{has_packet, unqueue};
-use block_calls::caller;
-use block_calls::codes::{NO_DESTINATION, NOT_QUEUED, RESIDENT};
-use block_calls::kernel_dispatch::{EventLog, KindKeeper, RootField, TcbField, field, find, root};
-use block_calls::numbers::{
+use module_calls::caller;
+use module_calls::codes::{NO_DESTINATION, NOT_QUEUED, RESIDENT};
+use module_calls::kernel_dispatch::{EventLog, KindKeeper, RootField, TcbField, field, find, root};
+use module_calls::numbers::{
     CONSOLE, FAULT_PACKET, KEY_PACKET, PACKET_WORDS, PENDING, REPORTER, SENDER,
 };
 use word_store::{Store, set_word_at};

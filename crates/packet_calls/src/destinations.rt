@@ -1,13 +1,13 @@
 // Which queue a number names.
 ghost use Rattle.std.specs.Prelude.{◌≡◌};
 ghost use Rattle.word_store.specs.Arithmetic.{word_of};
-ghost use Rattle.block_calls.specs.KernelDispatch.KernelModel.HoldsLists.{HoldsLists};
-ghost use Rattle.block_calls.specs.KernelDispatch.KernelModel.Lists.{Lists};
+ghost use Rattle.module_calls.specs.KernelDispatch.KernelModel.HoldsLists.{HoldsLists};
+ghost use Rattle.module_calls.specs.KernelDispatch.KernelModel.Lists.{Lists};
 ghost use Rattle.packet_calls.specs.Destinations.{destination_of};
 
 use crate::queues::Queue;
-use block_calls::kernel_dispatch::find;
-use block_calls::numbers::{CLOCK, KEYBOARD, OUTPUT};
+use module_calls::kernel_dispatch::find;
+use module_calls::numbers::{CLOCK, KEYBOARD, OUTPUT};
 use word_store::Store;
 
 /// The number of a task or a device as a word.

@@ -2,7 +2,7 @@
 ghost use Rattle.std.specs.Prelude.{◌≡◌};
 ghost use Rattle.word_store.specs.Arithmetic.{signed};
 
-use block_calls::kernel_dispatch::KernelEvent;
+use module_calls::kernel_dispatch::KernelEvent;
 use word_store::signed;
 
 /// A packet came into a queue, from a task or a device.

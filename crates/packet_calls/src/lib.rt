@@ -20,3 +20,10 @@ pub use replies::reply;
 pub use returns::{Device, return_first};
 pub use send::qpkt;
 pub use wait::taskwait;
+
+// Shown to the crates above.
+pub use module_calls::{
+    add_module, caller, change_pri, codes, create_task, create_task_of, delete_task, freevec,
+    getvec, guest, hold_task, kernel_dispatch, load_module, numbers, release_task, set_flags,
+    tell_take, test_flags, unload_module, use_of,
+};

@@ -1,17 +1,17 @@
 // A resident sends a packet of its own.
 ghost use Rattle.std.specs.Prelude.{◌≡◌, Ok};
 ghost use Rattle.word_store.specs.Arithmetic.{word_of};
-ghost use Rattle.block_calls.specs.KernelDispatch.KernelModel.ChangedStore.{HasKeeper};
-ghost use Rattle.block_calls.specs.KernelDispatch.KernelModel.Lists.{Lists};
-ghost use Rattle.block_calls.specs.KernelDispatch.KernelModel.NotedEvents.{NotesAll};
-ghost use Rattle.block_calls.specs.CallAnswers.Made.{IsMade, minus_one};
+ghost use Rattle.module_calls.specs.KernelDispatch.KernelModel.ChangedStore.{HasKeeper};
+ghost use Rattle.module_calls.specs.KernelDispatch.KernelModel.Lists.{Lists};
+ghost use Rattle.module_calls.specs.KernelDispatch.KernelModel.NotedEvents.{NotesAll};
+ghost use Rattle.module_calls.specs.CallAnswers.Made.{IsMade, minus_one};
 ghost use Rattle.packet_calls.specs.SendOwn.{CanSendOwn, send_own};
 
 use crate::destinations::{destination, number_word};
 use crate::events::accepted;
 use crate::packets::send;
-use block_calls::kernel_dispatch::{EventLog, KindKeeper};
-use block_calls::numbers::{KEYBOARD, PACKET_WORDS};
+use module_calls::kernel_dispatch::{EventLog, KindKeeper};
+use module_calls::numbers::{KEYBOARD, PACKET_WORDS};
 use word_store::Store;
 
 /// Sends the packet at p, which is on no queue, from the task `from` to the end of the work queue of the task `to`. Or it sends

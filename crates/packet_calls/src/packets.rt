@@ -1,11 +1,11 @@
 // A packet's words, and the queues to which it is sent.
 ghost use Rattle.std.specs.Prelude.{◌≡◌, slice_set, ◌+◌};
-ghost use Rattle.block_calls.specs.KernelDispatch.PacketQueue.Queue.{CanQueue, HasQueue};
+ghost use Rattle.module_calls.specs.KernelDispatch.PacketQueue.Queue.{CanQueue, HasQueue};
 ghost use Rattle.packet_calls.specs.QueueWords.{due_in, head_of, enqueued, sent_words, with_results};
 
 use crate::queues::{Queue, enqueue};
-use block_calls::kernel_dispatch::{RootField, root};
-use block_calls::numbers::{FIRST, RES1, RES2, SENDER};
+use module_calls::kernel_dispatch::{RootField, root};
+use module_calls::numbers::{FIRST, RES1, RES2, SENDER};
 use word_store::{Store, set_word_at, word_at};
 
 /// The word in which a packet to the clock has the ticks that it is to wait.

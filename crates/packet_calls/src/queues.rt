@@ -1,13 +1,13 @@
 // The queues of packets: a packet comes into one, and goes out.
 ghost use Rattle.std.specs.Prelude.{◌≡◌, slice_index, true};
-ghost use Rattle.block_calls.specs.KernelDispatch.LinkedList.Places.{has};
-ghost use Rattle.block_calls.specs.KernelDispatch.PacketQueue.Queue.{CanQueue, HasQueue, queue_at};
+ghost use Rattle.module_calls.specs.KernelDispatch.LinkedList.Places.{has};
+ghost use Rattle.module_calls.specs.KernelDispatch.PacketQueue.Queue.{CanQueue, HasQueue, queue_at};
 ghost use Rattle.packet_calls.specs.QueueWords.{head_of, enqueued, unqueued, state_left, state_with_packets};
 
-use block_calls::kernel_dispatch::{
+use module_calls::kernel_dispatch::{
     RootField, TcbField, append, append_due, field, packets, remove, set_field,
 };
-use block_calls::numbers::PENDING_HEAD;
+use module_calls::numbers::PENDING_HEAD;
 use word_store::{Store, word};
 
 /// A queue of packets.

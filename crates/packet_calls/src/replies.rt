@@ -1,18 +1,18 @@
 // A packet is returned to the task that sent it.
 ghost use Rattle.std.specs.Prelude.{◌≡◌, Ok};
 ghost use Rattle.word_store.specs.Arithmetic.{word_of};
-ghost use Rattle.block_calls.specs.KernelDispatch.KernelModel.HoldsLists.{HoldsLists};
-ghost use Rattle.block_calls.specs.KernelDispatch.KernelModel.Lists.{Lists};
-ghost use Rattle.block_calls.specs.KernelDispatch.KernelModel.NotedEvents.{NotesAll};
-ghost use Rattle.block_calls.specs.CallAnswers.Made.{Leaves, minus_one};
+ghost use Rattle.module_calls.specs.KernelDispatch.KernelModel.HoldsLists.{HoldsLists};
+ghost use Rattle.module_calls.specs.KernelDispatch.KernelModel.Lists.{Lists};
+ghost use Rattle.module_calls.specs.KernelDispatch.KernelModel.NotedEvents.{NotesAll};
+ghost use Rattle.module_calls.specs.CallAnswers.Made.{Leaves, minus_one};
 ghost use Rattle.packet_calls.specs.Reply.{CanReply, reply};
 
 use crate::Queue;
 use crate::destinations::number_word;
 use crate::events::accepted;
 use crate::packets::give_back;
-use block_calls::kernel_dispatch::{EventLog, find};
-use block_calls::numbers::SENDER;
+use module_calls::kernel_dispatch::{EventLog, find};
+use module_calls::numbers::SENDER;
 use word_store::{Store, word_at};
 
 /// Returns the packet at p, which is on no queue, with these results to the task that its word 1 names: it comes to the end of

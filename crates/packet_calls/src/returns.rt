@@ -1,9 +1,9 @@
 // A device returns a packet to the task that sent it.
 ghost use Rattle.std.specs.Prelude.{◌≡◌};
-ghost use Rattle.block_calls.specs.KernelDispatch.KernelModel.Changes.{queue_of};
-ghost use Rattle.block_calls.specs.KernelDispatch.KernelModel.HoldsLists.{HoldsLists};
-ghost use Rattle.block_calls.specs.KernelDispatch.KernelModel.Lists.{Lists};
-ghost use Rattle.block_calls.specs.KernelDispatch.KernelModel.NotedEvents.{NotesAll};
+ghost use Rattle.module_calls.specs.KernelDispatch.KernelModel.Changes.{queue_of};
+ghost use Rattle.module_calls.specs.KernelDispatch.KernelModel.HoldsLists.{HoldsLists};
+ghost use Rattle.module_calls.specs.KernelDispatch.KernelModel.Lists.{Lists};
+ghost use Rattle.module_calls.specs.KernelDispatch.KernelModel.NotedEvents.{NotesAll};
 ghost use Rattle.packet_calls.specs.Destinations.{queue_for};
 ghost use Rattle.packet_calls.specs.Returned.{IsServed, first_returned, number_of, place_of};
 
@@ -11,8 +11,8 @@ use crate::Queue;
 use crate::events::{accepted, taken};
 use crate::packets::give_back;
 use crate::queues::{first, unqueue};
-use block_calls::kernel_dispatch::{EventLog, find};
-use block_calls::numbers::{CLOCK, KEYBOARD, OUTPUT, SENDER};
+use module_calls::kernel_dispatch::{EventLog, find};
+use module_calls::numbers::{CLOCK, KEYBOARD, OUTPUT, SENDER};
 use word_store::{Store, word_at};
 
 /// A device that has a queue.

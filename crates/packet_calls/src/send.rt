@@ -1,24 +1,24 @@
 // A task sends a packet.
 ghost use Rattle.std.specs.Prelude.{◌≡◌, ◌+◌, ◌&&◌, not, true};
-ghost use Rattle.block_calls.specs.KernelDispatch.GetvecChain.Block.{has_data};
-ghost use Rattle.block_calls.specs.KernelDispatch.KernelModel.ChangedStore.{HasKeeper};
-ghost use Rattle.block_calls.specs.KernelDispatch.KernelModel.HoldsLists.{HoldsLists};
-ghost use Rattle.block_calls.specs.KernelDispatch.KernelModel.Lists.{Lists};
-ghost use Rattle.block_calls.specs.KernelDispatch.KernelModel.NotedEvents.{NotesAll};
-ghost use Rattle.block_calls.specs.CallAnswers.Callers.{HasCaller};
-ghost use Rattle.block_calls.specs.CallAnswers.Made.{IsMade, plain_answer};
-ghost use Rattle.block_calls.specs.CallAnswers.Refusals.{answer_of, first_refusal};
+ghost use Rattle.module_calls.specs.KernelDispatch.GetvecChain.Block.{has_data};
+ghost use Rattle.module_calls.specs.KernelDispatch.KernelModel.ChangedStore.{HasKeeper};
+ghost use Rattle.module_calls.specs.KernelDispatch.KernelModel.HoldsLists.{HoldsLists};
+ghost use Rattle.module_calls.specs.KernelDispatch.KernelModel.Lists.{Lists};
+ghost use Rattle.module_calls.specs.KernelDispatch.KernelModel.NotedEvents.{NotesAll};
+ghost use Rattle.module_calls.specs.CallAnswers.Callers.{HasCaller};
+ghost use Rattle.module_calls.specs.CallAnswers.Made.{IsMade, plain_answer};
+ghost use Rattle.module_calls.specs.CallAnswers.Refusals.{answer_of, first_refusal};
 ghost use Rattle.packet_calls.specs.Qpkt.{is_lodged, packet_tests, qpkt};
 
 use crate::destinations::destination;
 use crate::events::accepted;
 use crate::packets::send;
-use block_calls::caller;
-use block_calls::codes::{LINK_IN_USE, MISPLACED, NO_DESTINATION};
-use block_calls::kernel_dispatch::{
+use module_calls::caller;
+use module_calls::codes::{LINK_IN_USE, MISPLACED, NO_DESTINATION};
+use module_calls::kernel_dispatch::{
     Block, EventLog, KindKeeper, NO_QUEUE, TcbField, are_unowned, block_of, field,
 };
-use block_calls::numbers::{PACKET_WORDS, SENDER};
+use module_calls::numbers::{PACKET_WORDS, SENDER};
 use word_store::{Store, word, word_at};
 
 /// Sends the packet at p to the task or the device that its word 1 names; this word has then the number of the task that

@@ -1,20 +1,20 @@
 // A task takes its first packet, or waits for one.
 ghost use Rattle.std.specs.Prelude.{◌≡◌};
-ghost use Rattle.block_calls.specs.KernelDispatch.KernelModel.ChangedStore.{HasKeeper};
-ghost use Rattle.block_calls.specs.KernelDispatch.KernelModel.Lists.{Lists};
-ghost use Rattle.block_calls.specs.KernelDispatch.KernelModel.NotedEvents.{NotesAll};
-ghost use Rattle.block_calls.specs.KernelDispatch.KernelModel.Changes.{queue_of};
-ghost use Rattle.block_calls.specs.KernelDispatch.KernelModel.ValidQueues.Place.{Work};
-ghost use Rattle.block_calls.specs.CallAnswers.Callers.{HasCaller};
-ghost use Rattle.block_calls.specs.CallAnswers.Made.{IsMade};
+ghost use Rattle.module_calls.specs.KernelDispatch.KernelModel.ChangedStore.{HasKeeper};
+ghost use Rattle.module_calls.specs.KernelDispatch.KernelModel.Lists.{Lists};
+ghost use Rattle.module_calls.specs.KernelDispatch.KernelModel.NotedEvents.{NotesAll};
+ghost use Rattle.module_calls.specs.KernelDispatch.KernelModel.Changes.{queue_of};
+ghost use Rattle.module_calls.specs.KernelDispatch.KernelModel.ValidQueues.Place.{Work};
+ghost use Rattle.module_calls.specs.CallAnswers.Callers.{HasCaller};
+ghost use Rattle.module_calls.specs.CallAnswers.Made.{IsMade};
 ghost use Rattle.packet_calls.specs.TaskWait.{answer_of_wait, first_of_queue, taskwait};
 
 use crate::Queue;
 use crate::events::taken;
 use crate::queues::unqueue;
-use block_calls::caller;
-use block_calls::kernel_dispatch::{EventLog, KindKeeper, TcbField, field, set_field};
-use block_calls::numbers::{PACKET_WORDS, SENDER, WAITS};
+use module_calls::caller;
+use module_calls::kernel_dispatch::{EventLog, KindKeeper, TcbField, field, set_field};
+use module_calls::numbers::{PACKET_WORDS, SENDER, WAITS};
 use word_store::{Store, word_at};
 
 /// The task that calls takes its first packet, which is then on no queue. Where it has none, it waits, and there is no answer

@@ -3,8 +3,8 @@ use Rattle.std.proofs.Common.{◌≡◌, ℕ, ◌-◌, ◌<◌, ◌≤◌, Bool,
 use Rattle.std.specs.Option.{is_some, unwrap_or}
 use Rattle.std.proofs.lemmas.Bool.{and_parts, cases_eq, true≢false}
 use Rattle.std.proofs.lemmas.List.{get_or-set_other, get_or-set_same, length-drop, length-take}
-use Rattle.resident_requests.specs.KernelCalls.KernelModel.Kernel.{Pipe}
-use Rattle.resident_requests.specs.KernelCalls.KernelModel.Pipes.{ArePipes, most_held, pipe_at}
+use Rattle.file_handler.specs.KernelCalls.KernelModel.Kernel.{Pipe}
+use Rattle.file_handler.specs.KernelCalls.KernelModel.Pipes.{ArePipes, most_held, pipe_at}
 use Rattle.pipe_handler.specs.Ends.{closed, is_end, is_open, kept, names_end, names_writer, opened, pipe_of, place_for, place_of, without_end}
 use Rattle.pipe_handler.specs.Histories.{IsLawful, PipeRequest, after}
 use Rattle.pipe_handler.specs.Histories.PipeRequest.{Close, Open, Read, Write}

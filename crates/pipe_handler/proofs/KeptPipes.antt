@@ -9,8 +9,8 @@ use Rattle.std.proofs.lemmas.List.Quantifiers.{position-Some}
 use Rattle.std.proofs.lemmas.Slice.Eq.{bytes_eq-Decides}
 use Rattle.ram_disc.specs.Name.{IsName}
 use Rattle.ram_disc.proofs.NameOrder.{bytes_eq-self}
-use Rattle.resident_requests.specs.KernelCalls.KernelModel.Kernel.{Pipe}
-use Rattle.resident_requests.specs.KernelCalls.KernelModel.Pipes.{ArePipes, IsPipe, most_held, pipe_at}
+use Rattle.file_handler.specs.KernelCalls.KernelModel.Kernel.{Pipe}
+use Rattle.file_handler.specs.KernelCalls.KernelModel.Pipes.{ArePipes, IsPipe, most_held, pipe_at}
 use Rattle.pipe_handler.specs.Ends.{closed, is_named, opened, place_for, without_end}
 use Rattle.pipe_handler.specs.PipeCalls.{are_ends, holding, pipe_with}
 

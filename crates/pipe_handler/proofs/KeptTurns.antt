@@ -2,14 +2,14 @@
 use Rattle.std.proofs.Common.{◌≡◌, ◌+◌, ℕ, Bool, true, false, cond, Option, Some, None, Result, Ok, Err, List, refl, subst}
 use Rattle.std.proofs.lemmas.Bool.{and_parts}
 use Rattle.ram_disc.specs.Name.{IsName}
-use Rattle.resident_requests.specs.KernelCalls.KernelModel.Kernel.{Pipe}
-use Rattle.resident_requests.specs.KernelCalls.KernelModel.Lists.{Lists}
-use Rattle.resident_requests.specs.KernelCalls.KernelModel.Pipes.{ArePipes}
-use Rattle.resident_requests.specs.Buffers.{byte_in, is_readable, is_writable, lies_inside}
-use Rattle.resident_requests.specs.Names.{is_name, is_name_at, name_at, string_in}
-use Rattle.resident_requests.specs.Requests.{first_request, taken, words_taken, work}
-use Rattle.resident_requests.specs.declared.requests.Request.{Request}
-use Rattle.resident_requests.proofs.NamesRead.{is_name-lawful}
+use Rattle.file_handler.specs.KernelCalls.KernelModel.Kernel.{Pipe}
+use Rattle.file_handler.specs.KernelCalls.KernelModel.Lists.{Lists}
+use Rattle.file_handler.specs.KernelCalls.KernelModel.Pipes.{ArePipes}
+use Rattle.file_handler.specs.ResidentRequests.Buffers.{byte_in, is_readable, is_writable, lies_inside}
+use Rattle.file_handler.specs.ResidentRequests.Names.{is_name, is_name_at, name_at, string_in}
+use Rattle.file_handler.specs.ResidentRequests.Requests.{first_request, taken, words_taken, work}
+use Rattle.file_handler.specs.ResidentRequests.declared.requests.Request.{Request}
+use Rattle.file_handler.proofs.Shown.ResidentRequests.NamesRead.{is_name-lawful}
 use Rattle.pipe_handler.specs.Histories.PipeRequest.{Close, Open, Read, Write}
 use Rattle.pipe_handler.specs.PipeTurns.{after_open_named, bytes_of_buffer, call_outcome, pipe_request, pipes_after_turn, pipes_by}
 use Rattle.pipe_handler.specs.RequestTypes.{pipe_call}

@@ -6,3 +6,4 @@ pub mod Histories
 pub mod PipeTurns
 pub mod KeptTurns
 pub mod RequestsInTurns
+pub mod Shown

@@ -2,13 +2,13 @@
 use Rattle.std.proofs.Common.{◌≡◌, ℕ, ◌≤◌, Bool, true, false, cond, eqb, leb, ltb, not, ◌⊎◌, Option, Some, None, Result, Ok, Err, List, [], ◌∷◌, ◌++◌, length, set, take, drop, refl, ap, ◌∙◌, arith, inl, inr}
 use Rattle.std.specs.Option.{is_some, unwrap_or}
 use Rattle.std.proofs.lemmas.List.{length-take}
-use Rattle.resident_requests.specs.KernelCalls.KernelModel.Kernel.{Pipe}
-use Rattle.resident_requests.specs.KernelCalls.KernelModel.Lists.{Lists}
-use Rattle.resident_requests.specs.KernelCalls.KernelModel.Pipes.{most_held}
-use Rattle.resident_requests.specs.Buffers.{is_readable, is_writable}
-use Rattle.resident_requests.specs.Names.{name_at}
-use Rattle.resident_requests.specs.Turns.{CanServe, service}
-use Rattle.resident_requests.specs.declared.requests.Request.{Request}
+use Rattle.file_handler.specs.KernelCalls.KernelModel.Kernel.{Pipe}
+use Rattle.file_handler.specs.KernelCalls.KernelModel.Lists.{Lists}
+use Rattle.file_handler.specs.KernelCalls.KernelModel.Pipes.{most_held}
+use Rattle.file_handler.specs.ResidentRequests.Buffers.{is_readable, is_writable}
+use Rattle.file_handler.specs.ResidentRequests.Names.{name_at}
+use Rattle.file_handler.specs.ResidentRequests.Turns.{CanServe, service}
+use Rattle.file_handler.specs.ResidentRequests.declared.requests.Request.{Request}
 use Rattle.pipe_handler.specs.Ends.{is_end, is_open, names_writer, pipe_of, place_for, place_of, without_end}
 use Rattle.pipe_handler.specs.PipeCalls.{Outcome, accepted, after_close, after_open, after_read, after_write, fitting, has_more, held_by, holding, pipe_in_place, with_end}
 use Rattle.pipe_handler.specs.PipeTurns.{after_open_named, bytes_of_buffer, call_outcome, pipe_service}

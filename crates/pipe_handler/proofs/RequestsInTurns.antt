@@ -1,11 +1,11 @@
 -- What a packet comes to in a turn is one of the requests for pipes, or a refusal.
 use Rattle.std.proofs.Common.{◌≡◌, ℕ, Option, Some, None, Result, Ok, Err, List, refl, ap, subst, ◌∙◌}
-use Rattle.resident_requests.specs.KernelCalls.KernelModel.Kernel.{Pipe}
-use Rattle.resident_requests.specs.KernelCalls.KernelModel.Lists.{Lists}
-use Rattle.resident_requests.specs.Buffers.{is_readable, is_writable}
-use Rattle.resident_requests.specs.Names.{name_at}
-use Rattle.resident_requests.specs.Requests.{first_request, taken, words_taken, work}
-use Rattle.resident_requests.specs.declared.requests.Request.{Request}
+use Rattle.file_handler.specs.KernelCalls.KernelModel.Kernel.{Pipe}
+use Rattle.file_handler.specs.KernelCalls.KernelModel.Lists.{Lists}
+use Rattle.file_handler.specs.ResidentRequests.Buffers.{is_readable, is_writable}
+use Rattle.file_handler.specs.ResidentRequests.Names.{name_at}
+use Rattle.file_handler.specs.ResidentRequests.Requests.{first_request, taken, words_taken, work}
+use Rattle.file_handler.specs.ResidentRequests.declared.requests.Request.{Request}
 use Rattle.pipe_handler.specs.Histories.{IsLawful, PipeRequest, pipes_after}
 use Rattle.pipe_handler.specs.Histories.PipeRequest.{Close, Open, Read, Write}
 use Rattle.pipe_handler.specs.PacketRequests.{asked, asked_by, opening, outcome_of, requests_by, requests_in_turn, requests_of}

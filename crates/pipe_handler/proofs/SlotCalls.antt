@@ -5,8 +5,8 @@ use Rattle.std.specs.Option.{is_none, is_some, unwrap_or}
 use Rattle.std.proofs.lemmas.Bool.{and_parts, le-leb, leb-true, ne_eqb, true≢false}
 use Rattle.std.proofs.lemmas.List.{length-drop, length-take, length-map}
 use Rattle.circular_buffer.specs.Buffer.{buffer}
-use Rattle.resident_requests.specs.KernelCalls.KernelModel.Kernel.{Pipe}
-use Rattle.resident_requests.specs.KernelCalls.KernelModel.Pipes.{most_held, most_pipes, pipe_at}
+use Rattle.file_handler.specs.KernelCalls.KernelModel.Kernel.{Pipe}
+use Rattle.file_handler.specs.KernelCalls.KernelModel.Pipes.{most_held, most_pipes, pipe_at}
 use Rattle.ram_disc.specs.Name.{IsName}
 use Rattle.pipe_handler.specs.Ends.{is_end, is_named, is_open, names_writer, opened, pipe_of, place_for, place_of, without_end}
 use Rattle.pipe_handler.specs.PipeCalls.{Outcome, accepted, after_close, after_open, after_read, after_restore, after_write, are_ends, can_restore, has_more, held_by, holding, pipe_in_place, pipe_numbered, pipe_with, refused, unless_refused, with_end}

@@ -6,8 +6,8 @@ use Rattle.std.proofs.lemmas.Bool.{cases_eq, true≢false}
 use Rattle.std.proofs.lemmas.List.{get_or-map, get_or-set_other, get_or-set_same, length-map, map-set}
 use Rattle.std.proofs.lemmas.List.Elements.{All-set}
 use Rattle.circular_buffer.specs.Buffer.{buffer}
-use Rattle.resident_requests.specs.KernelCalls.KernelModel.Kernel.{Pipe}
-use Rattle.resident_requests.specs.KernelCalls.KernelModel.Pipes.{ArePipes, pipe_at}
+use Rattle.file_handler.specs.KernelCalls.KernelModel.Kernel.{Pipe}
+use Rattle.file_handler.specs.KernelCalls.KernelModel.Pipes.{ArePipes, pipe_at}
 use Rattle.pipe_handler.specs.Ends.{is_named, is_open, place_for}
 use Rattle.pipe_handler.specs.PipeCalls.{held_by, holding}
 use Rattle.pipe_handler.specs.Slots.{AreSlots, IsRing, pipe_in, pipes_in, told}

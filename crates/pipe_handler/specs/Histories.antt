@@ -1,8 +1,8 @@
 -- What passes through pipes, from request to request.
 use Rattle.std.specs.Prelude.{◌≡◌, ℕ, ◌==◌, Bool, if◌then◌else◌, Option, Some, None, Result, Ok, Err, List, [], ◌∷◌, ◌++◌, take}
 use Rattle.ram_disc.specs.Name.{IsName}
-use Rattle.resident_requests.specs.KernelCalls.KernelModel.Kernel.{Pipe}
-use Rattle.resident_requests.specs.KernelCalls.KernelModel.Pipes.{pipe_at}
+use Rattle.file_handler.specs.KernelCalls.KernelModel.Kernel.{Pipe}
+use Rattle.file_handler.specs.KernelCalls.KernelModel.Pipes.{pipe_at}
 use Rattle.pipe_handler.specs.Ends.{place_of}
 use Rattle.pipe_handler.specs.PipeCalls.{Outcome, after_close, after_open, after_read, after_write}
 

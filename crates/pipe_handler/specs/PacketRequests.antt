@@ -1,12 +1,12 @@
 -- The requests for pipes that packets make.
 use Rattle.std.specs.Prelude.{ℕ, Option, Some, None, Result, Ok, Err, List, [], ◌∷◌}
-use Rattle.resident_requests.specs.KernelCalls.KernelModel.Kernel.{Pipe}
-use Rattle.resident_requests.specs.KernelCalls.KernelModel.Lists.{Lists}
-use Rattle.resident_requests.specs.Buffers.{is_readable, is_writable}
-use Rattle.resident_requests.specs.Names.{name_at}
-use Rattle.resident_requests.specs.Requests.{first_request, taken, words_taken, work}
-use Rattle.resident_requests.specs.declared.requests.Request.{Request}
-use Rattle.resident_requests.specs.declared.requests.TheConstants.{UNKNOWN_TYPE}
+use Rattle.file_handler.specs.KernelCalls.KernelModel.Kernel.{Pipe}
+use Rattle.file_handler.specs.KernelCalls.KernelModel.Lists.{Lists}
+use Rattle.file_handler.specs.ResidentRequests.Buffers.{is_readable, is_writable}
+use Rattle.file_handler.specs.ResidentRequests.Names.{name_at}
+use Rattle.file_handler.specs.ResidentRequests.Requests.{first_request, taken, words_taken, work}
+use Rattle.file_handler.specs.ResidentRequests.declared.requests.Request.{Request}
+use Rattle.file_handler.specs.ResidentRequests.declared.requests.TheConstants.{UNKNOWN_TYPE}
 use Rattle.pipe_handler.specs.RequestTypes.{pipe_call}
 use Rattle.pipe_handler.specs.declared.calls.PipeCall.{PipeCall}
 use Rattle.pipe_handler.specs.declared.calls.PipeCall.TheVariants.{CloseEnd, OpenEnd, ReadBytes, WriteBytes}

@@ -2,8 +2,8 @@
 use Rattle.std.specs.Prelude.{◌≡◌, ℕ, ◌-◌, ◌==◌, ◌&&◌, ◌||◌, Bool, true, false, not, if◌then◌else◌, Option, Some, None, Result, Ok, Err, List, [], ◌∷◌, ◌++◌, drop, length, nat_le, nat_lt, slice_set, take, unwrap_or}
 use Rattle.std.specs.List.{list_any}
 use Rattle.std.specs.Option.{is_none, is_some, option_map}
-use Rattle.resident_requests.specs.KernelCalls.KernelModel.Kernel.{Pipe}
-use Rattle.resident_requests.specs.KernelCalls.KernelModel.Pipes.{most_held, most_pipes, pipe_at}
+use Rattle.file_handler.specs.KernelCalls.KernelModel.Kernel.{Pipe}
+use Rattle.file_handler.specs.KernelCalls.KernelModel.Pipes.{most_held, most_pipes, pipe_at}
 use Rattle.ram_disc.specs.declared.codes.TheConstants.{BAD_BUFFER, IN_USE, NOT_OPEN}
 use Rattle.pipe_handler.specs.Ends.{handle_at, is_end, is_named, is_open, names_writer, opened, pipe_of, place_for, place_of, without_end}
 

@@ -1,13 +1,13 @@
 -- A turn of the file handler in which its request is for a pipe.
 use Rattle.std.specs.Prelude.{ℕ, if◌then◌else◌, Option, Some, None, Result, Ok, Err, List, []}
-use Rattle.resident_requests.specs.KernelCalls.KernelModel.Kernel.{Pipe}
-use Rattle.resident_requests.specs.KernelCalls.KernelModel.Lists.{Lists}
-use Rattle.resident_requests.specs.Buffers.{bytes_in, is_readable, is_writable}
-use Rattle.resident_requests.specs.Names.{name_at}
-use Rattle.resident_requests.specs.Requests.{first_request, taken, words_taken, work}
-use Rattle.resident_requests.specs.Turns.{ResidentTurn, Served, request_turn, service}
-use Rattle.resident_requests.specs.declared.requests.Request.{Request}
-use Rattle.resident_requests.specs.declared.requests.TheConstants.{UNKNOWN_TYPE}
+use Rattle.file_handler.specs.KernelCalls.KernelModel.Kernel.{Pipe}
+use Rattle.file_handler.specs.KernelCalls.KernelModel.Lists.{Lists}
+use Rattle.file_handler.specs.ResidentRequests.Buffers.{bytes_in, is_readable, is_writable}
+use Rattle.file_handler.specs.ResidentRequests.Names.{name_at}
+use Rattle.file_handler.specs.ResidentRequests.Requests.{first_request, taken, words_taken, work}
+use Rattle.file_handler.specs.ResidentRequests.Turns.{ResidentTurn, Served, request_turn, service}
+use Rattle.file_handler.specs.ResidentRequests.declared.requests.Request.{Request}
+use Rattle.file_handler.specs.ResidentRequests.declared.requests.TheConstants.{UNKNOWN_TYPE}
 use Rattle.pipe_handler.specs.RequestTypes.{pipe_call}
 use Rattle.pipe_handler.specs.declared.calls.PipeCall.{PipeCall}
 use Rattle.pipe_handler.specs.declared.calls.PipeCall.TheVariants.{CloseEnd, OpenEnd, ReadBytes, WriteBytes}

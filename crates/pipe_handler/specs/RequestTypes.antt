@@ -1,6 +1,6 @@
 -- What the types of requests ask of the pipes, with their arguments.
 use Rattle.std.specs.Prelude.{◌==◌, if◌then◌else◌, Option, Some, None}
-use Rattle.resident_requests.specs.declared.requests.Request.{Request}
+use Rattle.file_handler.specs.ResidentRequests.declared.requests.Request.{Request}
 use Rattle.pipe_handler.specs.declared.calls.PipeCall.{PipeCall}
 use Rattle.pipe_handler.specs.declared.calls.PipeCall.TheVariants.{CloseEnd, OpenEnd, ReadBytes, WriteBytes}
 

@@ -2,7 +2,7 @@
 ghost use Rattle.std.specs.Prelude.{◌≡◌};
 ghost use Rattle.pipe_handler.specs.RequestTypes.{pipe_call};
 
-use resident_requests::Request;
+use file_handler::Request;
 
 /// What a request asks of the pipes, with its arguments.
 #[derive(Clone, Copy)]

@@ -1,9 +1,9 @@
 // Laws of pipes, whatever requests are made.
 ghost use Rattle.std.specs.Prelude.{◌≡◌, ◌≤◌, ℕ, List, Option, Some, Ok, length};
-ghost use Rattle.resident_requests.specs.KernelCalls.KernelModel.Kernel.{Pipe};
-ghost use Rattle.resident_requests.specs.KernelCalls.KernelModel.Lists.{Lists};
-ghost use Rattle.resident_requests.specs.KernelCalls.KernelModel.Pipes.{ArePipes, most_held, pipe_at};
-ghost use Rattle.resident_requests.specs.declared.requests.Request.{Request};
+ghost use Rattle.file_handler.specs.KernelCalls.KernelModel.Kernel.{Pipe};
+ghost use Rattle.file_handler.specs.KernelCalls.KernelModel.Lists.{Lists};
+ghost use Rattle.file_handler.specs.KernelCalls.KernelModel.Pipes.{ArePipes, most_held, pipe_at};
+ghost use Rattle.file_handler.specs.ResidentRequests.declared.requests.Request.{Request};
 ghost use Rattle.pipe_handler.specs.Histories.{History, IsLawful, PipeRequest, StandsFor, after, history_after, pipes_after};
 ghost use Rattle.pipe_handler.specs.PacketRequests.{asked, outcome_of, requests_in_turn};
 ghost use Rattle.pipe_handler.specs.PipeTurns.{pipe_request, pipes_after_turn};

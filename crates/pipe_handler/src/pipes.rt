@@ -1,6 +1,6 @@
 // Pipes, and the requests for them.
 ghost use Rattle.std.specs.Prelude.{◌≡◌, ◌≤◌, ◌++◌, IfOk, drop, length};
-ghost use Rattle.resident_requests.specs.KernelCalls.KernelModel.Pipes.{ArePipes, most_pipes, no_pipes};
+ghost use Rattle.file_handler.specs.KernelCalls.KernelModel.Pipes.{ArePipes, most_pipes, no_pipes};
 ghost use Rattle.pipe_handler.specs.PipeCalls.{after_close, after_open, after_read, after_restore, after_write, can_restore, pipe_numbered};
 
 use crate::places::{can_restore, handle_at, open_place, place_for};
@@ -32,7 +32,7 @@ pub struct Pipes {
 
 impl Model for Pipes {
     ghost use Rattle.std.specs.Prelude.{List, Option};
-    ghost use Rattle.resident_requests.specs.KernelCalls.KernelModel.Kernel.{Pipe};
+    ghost use Rattle.file_handler.specs.KernelCalls.KernelModel.Kernel.{Pipe};
     ghost use Rattle.pipe_handler.specs.Slots.{AreSlots, pipes_in};
 
     ghost Value = { List (Option Pipe) };

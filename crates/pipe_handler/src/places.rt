@@ -2,7 +2,7 @@
 ghost use Rattle.std.specs.Prelude.{◌≡◌, ◌<◌, ◌≤◌, ◌-◌, ◌&&◌, ◌||◌, None, Some, true, false, MatchOption, length, nat_le, not, position};
 ghost use Rattle.std.specs.List.{list_any};
 ghost use Rattle.std.specs.Option.{is_none, is_some};
-ghost use Rattle.resident_requests.specs.KernelCalls.KernelModel.Pipes.{most_pipes};
+ghost use Rattle.file_handler.specs.KernelCalls.KernelModel.Pipes.{most_pipes};
 ghost use Rattle.pipe_handler.specs.Ends.{handle_at, is_end, is_named, place_for};
 ghost use Rattle.pipe_handler.specs.PipeCalls.{are_ends, can_restore, pipe_numbered};
 ghost use Rattle.pipe_handler.specs.Slots.{IsPlaceOf, pipe_in, pipes_in};

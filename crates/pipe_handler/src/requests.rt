@@ -1,18 +1,18 @@
 // The requests for pipes are done.
 ghost use Rattle.std.specs.Prelude.{◌≡◌, ◌≤◌, Ok, length, min, take, true, Some};
-ghost use Rattle.resident_requests.specs.KernelCalls.KernelModel.ChangedStore.{HasKeeper};
-ghost use Rattle.resident_requests.specs.KernelCalls.KernelModel.Lists.{Lists};
-ghost use Rattle.resident_requests.specs.Buffers.{is_readable};
-ghost use Rattle.resident_requests.specs.Names.{name_at};
+ghost use Rattle.file_handler.specs.KernelCalls.KernelModel.ChangedStore.{HasKeeper};
+ghost use Rattle.file_handler.specs.KernelCalls.KernelModel.Lists.{Lists};
+ghost use Rattle.file_handler.specs.ResidentRequests.Buffers.{is_readable};
+ghost use Rattle.file_handler.specs.ResidentRequests.Names.{name_at};
 ghost use Rattle.pipe_handler.specs.PipeCalls.{after_read, after_write};
 ghost use Rattle.pipe_handler.specs.PipeTurns.{after_open_named, bytes_of_buffer, call_outcome, pipe_request};
 
 use crate::Pipes;
 use crate::calls::{PipeCall, pipe_call};
 use arrayvec::ArrayVec;
-use resident_requests::buffers::MOST_BYTES;
-use resident_requests::requests::UNKNOWN_TYPE;
-use resident_requests::{KindKeeper, Request, can_read, can_write, name_at, read_buffer};
+use file_handler::{
+    KindKeeper, MOST_BYTES, Request, UNKNOWN_TYPE, can_read, can_write, name_at, read_buffer,
+};
 use word_store::Store;
 
 /// Does what a request says. The answer is what the request is answered, and how many bytes it gives; they come first in `bytes`,

@@ -3,7 +3,7 @@ ghost use Rattle.std.specs.Prelude.{◌≡◌, ◌≤◌, ◌-◌, ◌||◌, ◌
 ghost use Rattle.std.specs.List.{All};
 ghost use Rattle.std.specs.Option.{is_none, is_some};
 ghost use Rattle.circular_buffer.specs.Buffer.{buffer};
-ghost use Rattle.resident_requests.specs.KernelCalls.KernelModel.Pipes.{most_held};
+ghost use Rattle.file_handler.specs.KernelCalls.KernelModel.Pipes.{most_held};
 ghost use Rattle.pipe_handler.specs.Ends.{is_named, is_open, opened, without_end};
 ghost use Rattle.pipe_handler.specs.PipeCalls.{has_more};
 ghost use Rattle.pipe_handler.specs.Slots.{IsRing, pipe_in};

@@ -1,16 +1,16 @@
 // The turn of the file handler in which its request is for a pipe.
 ghost use Rattle.std.specs.Prelude.{◌≡◌, ℕ, List};
-ghost use Rattle.resident_requests.specs.KernelCalls.KernelModel.ChangedStore.{HasKeeper};
-ghost use Rattle.resident_requests.specs.KernelCalls.KernelModel.Lists.{Lists};
-ghost use Rattle.resident_requests.specs.KernelCalls.CallAnswers.Outside.{outside};
-ghost use Rattle.resident_requests.specs.Requests.{TakesRequest};
-ghost use Rattle.resident_requests.specs.Turns.{IsResidentTurn};
+ghost use Rattle.file_handler.specs.KernelCalls.KernelModel.ChangedStore.{HasKeeper};
+ghost use Rattle.file_handler.specs.KernelCalls.KernelModel.Lists.{Lists};
+ghost use Rattle.file_handler.specs.KernelCalls.CallAnswers.Outside.{outside};
+ghost use Rattle.file_handler.specs.ResidentRequests.Requests.{TakesRequest};
+ghost use Rattle.file_handler.specs.ResidentRequests.Turns.{IsResidentTurn};
 ghost use Rattle.pipe_handler.specs.PipeTurns.{pipe_turn, pipes_after_turn};
 
 use crate::Pipes;
 use crate::requests::serve;
-use resident_requests::numbers::FILE_HANDLER;
-use resident_requests::{EventLog, KindKeeper, finish_turn, serve_request, take_request};
+use file_handler::numbers::FILE_HANDLER;
+use file_handler::{EventLog, KindKeeper, finish_turn, serve_request, take_request};
 use word_store::Store;
 
 /// The file handler, which runs, takes its first request, does what it says of pipes, and returns it; or waits, where it has none.

@@ -14,7 +14,7 @@ pub struct PipeView<'a> {
 }
 
 impl<'a> Model for PipeView<'a> {
-    ghost use Rattle.resident_requests.specs.KernelCalls.KernelModel.Kernel.{Pipe};
+    ghost use Rattle.file_handler.specs.KernelCalls.KernelModel.Kernel.{Pipe};
     ghost use Rattle.pipe_handler.specs.Slots.{told};
 
     ghost Value = { Pipe };

@@ -21,4 +21,6 @@ pub use priority::change_pri;
 pub use release::release_task;
 
 // Shown to the crates above.
-pub use block_calls::{caller, freevec, getvec, guest, kernel_dispatch, numbers, use_of};
+pub use block_calls::{
+    caller, codes, freevec, getvec, guest, is_module, kernel_dispatch, numbers, tell_take, use_of,
+};

@@ -1,9 +1,9 @@
 -- A byte that was typed meets a packet that waits for one.
 use Rattle.std.specs.Prelude.{ℕ, List, [], ◌∷◌, drop}
-use Rattle.kernel_calls.specs.PacketQueue.QueueWords.{QueuedPacket}
-use Rattle.kernel_calls.specs.KernelModel.Lists.{Lists}
-use Rattle.kernel_calls.specs.PacketCalls.Returned.{Served, first_returned, unserved}
-use Rattle.kernel_calls.specs.PacketCalls.declared.returns.Device.TheVariants.{Keyboard}
+use Rattle.clock_device.specs.KernelCalls.PacketQueue.QueueWords.{QueuedPacket}
+use Rattle.clock_device.specs.KernelCalls.KernelModel.Lists.{Lists}
+use Rattle.clock_device.specs.KernelCalls.PacketCalls.Returned.{Served, first_returned, unserved}
+use Rattle.clock_device.specs.KernelCalls.PacketCalls.declared.returns.Device.TheVariants.{Keyboard}
 
 -- the first packet is returned with the first byte, where there are both
 abbrev pub met : List ℕ → Lists → Served

@@ -6,3 +6,6 @@ pub mod typed;
 
 pub use output::finish_output;
 pub use typed::Tty;
+
+// Shown to the crates above.
+pub use clock_device::tick;

@@ -1,13 +1,13 @@
 // The output device.
 ghost use Rattle.std.specs.Prelude.{◌≡◌, ◌<◌, ◌++◌, length};
-ghost use Rattle.kernel_calls.specs.KernelModel.HoldsLists.{HoldsLists};
-ghost use Rattle.kernel_calls.specs.KernelModel.Lists.{Lists};
-ghost use Rattle.kernel_calls.specs.KernelModel.NotedEvents.{NotesAll};
+ghost use Rattle.clock_device.specs.KernelCalls.KernelModel.HoldsLists.{HoldsLists};
+ghost use Rattle.clock_device.specs.KernelCalls.KernelModel.Lists.{Lists};
+ghost use Rattle.clock_device.specs.KernelCalls.KernelModel.NotedEvents.{NotesAll};
 ghost use Rattle.tty_device.specs.Printed.{finished, printed};
-ghost use Rattle.kernel_calls.specs.PacketCalls.Returned.{IsServed};
+ghost use Rattle.clock_device.specs.KernelCalls.PacketCalls.Returned.{IsServed};
 
-use kernel_calls::numbers::FIRST;
-use kernel_calls::{Device, EventLog, RootField, return_first, root};
+use clock_device::numbers::FIRST;
+use clock_device::{Device, EventLog, RootField, return_first, root};
 use tp_io::Output;
 use word_store::{Store, word_at};
 

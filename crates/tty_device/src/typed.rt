@@ -1,15 +1,15 @@
 // The bytes that were typed, and that no packet has taken yet.
 ghost use Rattle.std.specs.Prelude.{◌≡◌, ◌+◌, ◌<◌, ◌≤◌, ◌↔◌, [], ◌++◌, IfOk, IsTrue, drop, length, slice_get};
-ghost use Rattle.kernel_calls.specs.KernelModel.HoldsLists.{HoldsLists};
-ghost use Rattle.kernel_calls.specs.KernelModel.Lists.{Lists};
-ghost use Rattle.kernel_calls.specs.KernelModel.NotedEvents.{NotesAll};
+ghost use Rattle.clock_device.specs.KernelCalls.KernelModel.HoldsLists.{HoldsLists};
+ghost use Rattle.clock_device.specs.KernelCalls.KernelModel.Lists.{Lists};
+ghost use Rattle.clock_device.specs.KernelCalls.KernelModel.NotedEvents.{NotesAll};
 ghost use Rattle.tty_device.specs.Keys.{left_typed, met};
-ghost use Rattle.kernel_calls.specs.PacketCalls.Returned.{IsServed};
+ghost use Rattle.clock_device.specs.KernelCalls.PacketCalls.Returned.{IsServed};
 ghost use Rattle.tty_device.specs.Typed.{with_typed};
 
 use arrayvec::ArrayVec;
 use circular_buffer::HeapCircularBuffer;
-use kernel_calls::{Device, EventLog, RootField, return_first, root};
+use clock_device::{Device, EventLog, RootField, return_first, root};
 use std::alloc::Global;
 use std::marker::Model;
 use tp_io::WantMemory;

@@ -1,5 +1,5 @@
 use Rattle.std.proofs.Common.{◌∙◌, sym, subst}
-use Rattle.resident_requests.specs.KernelCalls.CallAnswers.Outside.{outside}
+use Rattle.fault_reporter.specs.KernelCalls.CallAnswers.Outside.{outside}
 use Rattle.console_handler.specs.Progress.{IsDone}
 use Rattle.console_handler.proofs.WholeDelivery.{fewer-wait, next-left, none-left, waiting-is}
 use Rattle.console_handler.proofs.deliveries.deliver.Goals as goal

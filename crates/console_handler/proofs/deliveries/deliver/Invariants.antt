@@ -1,7 +1,7 @@
 use Rattle.std.proofs.Common.{◌≡◌, ℕ, List, length}
-use Rattle.resident_requests.specs.KernelCalls.PacketQueue.Queue.{queue_at}
-use Rattle.resident_requests.specs.KernelCalls.KernelModel.Residents.{pending_head}
-use Rattle.resident_requests.specs.KernelCalls.CallAnswers.Outside.{outside}
+use Rattle.fault_reporter.specs.KernelCalls.PacketQueue.Queue.{queue_at}
+use Rattle.fault_reporter.specs.KernelCalls.KernelModel.Residents.{pending_head}
+use Rattle.fault_reporter.specs.KernelCalls.CallAnswers.Outside.{outside}
 use Rattle.console_handler.specs.Progress.{IsDone, Progress, Start}
 use Rattle.console_handler.proofs.WholeDelivery.{HasDelivered}
 use Rattle.console_handler.proofs.deliveries.deliver.Given as goal

@@ -1,6 +1,6 @@
 use Rattle.std.proofs.Common.{◌∙◌, sym, ap, subst}
 use Rattle.console_handler.specs.Deliveries.{line_service}
-use Rattle.resident_requests.specs.KernelCalls.CallAnswers.Outside.{outside}
+use Rattle.fault_reporter.specs.KernelCalls.CallAnswers.Outside.{outside}
 use Rattle.console_handler.specs.Reads.{IsReadTaken, read_taken}
 use Rattle.console_handler.proofs.DoneParts.{done-keeper, done-residents}
 use Rattle.console_handler.proofs.HandedLines.{hand-done, hand-keeper, hand-kept, hand-number, hand-runs, hand-stands, nothing-done}

@@ -1,6 +1,6 @@
 use Rattle.std.proofs.Common.{◌∙◌, ◌&&◌, ap, is_some, not, sym, subst}
 use Rattle.std.proofs.lemmas.Bool.{and_parts}
-use Rattle.resident_requests.specs.KernelCalls.CallAnswers.Outside.{outside}
+use Rattle.fault_reporter.specs.KernelCalls.CallAnswers.Outside.{outside}
 use Rattle.console_handler.specs.Progress.{IsDone}
 use Rattle.console_handler.proofs.DoneParts.{done-residents}
 use Rattle.console_handler.proofs.FreeKeys.{keys-go, keys-stay}

@@ -1,4 +1,4 @@
-use Rattle.resident_requests.specs.KernelCalls.CallAnswers.Outside.{outside}
+use Rattle.fault_reporter.specs.KernelCalls.CallAnswers.Outside.{outside}
 use Rattle.console_handler.proofs.DoneParts.{done-keeper}
 use Rattle.console_handler.proofs.SentKeys.{can-send, send-done}
 use Rattle.console_handler.proofs.keys.send_keys.Goals as goal

@@ -1,6 +1,6 @@
 use Rattle.std.proofs.Common.{◌∙◌, subst}
-use Rattle.resident_requests.specs.KernelCalls.PacketQueue.Log.{Notes}
-use Rattle.resident_requests.proofs.Shown.KernelCalls.CallAnswers.RootTold.{running-word}
+use Rattle.fault_reporter.specs.KernelCalls.PacketQueue.Log.{Notes}
+use Rattle.fault_reporter.proofs.Shown.KernelCalls.CallAnswers.RootTold.{running-word}
 use Rattle.console_handler.proofs.TakenKeys.{keys-noted, keys-owners, keys-packet, keys-queue, keys-runs, keys-taken}
 use Rattle.console_handler.proofs.keys.take_keys.Goals as goal
 

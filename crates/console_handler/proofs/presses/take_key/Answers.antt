@@ -1,4 +1,4 @@
-use Rattle.resident_requests.specs.KernelCalls.CallAnswers.Outside.{outside}
+use Rattle.fault_reporter.specs.KernelCalls.CallAnswers.Outside.{outside}
 use Rattle.console_handler.proofs.PressedKeys.{key-done}
 use Rattle.console_handler.proofs.presses.take_key.Goals as goal
 

@@ -1,6 +1,6 @@
 use Rattle.std.proofs.Common.{subst}
-use Rattle.resident_requests.specs.KernelCalls.PacketQueue.Log.{Notes}
-use Rattle.resident_requests.proofs.Shown.KernelCalls.KernelModel.NotedInTurn.{notes-one}
+use Rattle.fault_reporter.specs.KernelCalls.PacketQueue.Log.{Notes}
+use Rattle.fault_reporter.proofs.Shown.KernelCalls.KernelModel.NotedInTurn.{notes-one}
 use Rattle.console_handler.proofs.WaitingReads.{come-made, come-owns, come-packet, come-queue, come-room}
 use Rattle.console_handler.proofs.reads.put_off.Goals as goal
 

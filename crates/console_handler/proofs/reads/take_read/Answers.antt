@@ -1,10 +1,10 @@
 use Rattle.std.proofs.Common.{◌∙◌, sym, subst, Some}
 use Rattle.word_store.specs.Arithmetic.{signed}
-use Rattle.resident_requests.specs.KernelCalls.PacketQueue.Log.{Notes}
-use Rattle.resident_requests.specs.KernelCalls.PacketQueue.declared.events.KernelEvent.TheVariants.{Taken}
-use Rattle.resident_requests.proofs.Shown.KernelCalls.PacketCalls.HeldPlaces.{stands-at}
-use Rattle.resident_requests.specs.KernelCalls.KernelModel.ValidQueues.Place.{Pending}
-use Rattle.resident_requests.specs.KernelCalls.KernelModel.declared.numbers.TheConstants.{PENDING}
+use Rattle.fault_reporter.specs.KernelCalls.PacketQueue.Log.{Notes}
+use Rattle.fault_reporter.specs.KernelCalls.PacketQueue.declared.events.KernelEvent.TheVariants.{Taken}
+use Rattle.fault_reporter.proofs.Shown.KernelCalls.PacketCalls.HeldPlaces.{stands-at}
+use Rattle.fault_reporter.specs.KernelCalls.KernelModel.ValidQueues.Place.{Pending}
+use Rattle.fault_reporter.specs.KernelCalls.KernelModel.declared.numbers.TheConstants.{PENDING}
 use Rattle.console_handler.specs.Reads.{IsReadTaken}
 use Rattle.console_handler.proofs.WaitingReads.{none-noted, none-waits, read-noted, read-packet, read-queue, read-taken}
 use Rattle.console_handler.proofs.reads.take_read.Goals as goal

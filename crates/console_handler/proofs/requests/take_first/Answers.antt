@@ -1,6 +1,6 @@
 use Rattle.std.proofs.Common.{subst}
-use Rattle.resident_requests.specs.KernelCalls.CallAnswers.Outside.{outside}
-use Rattle.resident_requests.specs.Requests.{IsTaken, taken}
+use Rattle.fault_reporter.specs.KernelCalls.CallAnswers.Outside.{outside}
+use Rattle.fault_reporter.specs.ResidentRequests.Requests.{IsTaken, taken}
 use Rattle.console_handler.proofs.DoneParts.{done-keeper}
 use Rattle.console_handler.proofs.TreatedRequests.{answer-done, none-done, read-done, request-keeper, request-number, request-residents}
 use Rattle.console_handler.proofs.requests.take_first.Goals as goal

@@ -1,4 +1,4 @@
-use Rattle.resident_requests.specs.KernelCalls.CallAnswers.Outside.{outside}
+use Rattle.fault_reporter.specs.KernelCalls.CallAnswers.Outside.{outside}
 use Rattle.console_handler.proofs.DoneParts.{done-ended, done-none}
 use Rattle.console_handler.proofs.turns.console_turn.Goals as goal
 

@@ -1,5 +1,5 @@
 use Rattle.std.proofs.Common.{◌∙◌, sym, subst}
-use Rattle.resident_requests.specs.KernelCalls.CallAnswers.Outside.{outside}
+use Rattle.fault_reporter.specs.KernelCalls.CallAnswers.Outside.{outside}
 use Rattle.console_handler.specs.Progress.{IsDone}
 use Rattle.console_handler.proofs.WholeTurn.{finds-keys, key-treated, none-treated, request-treated, takes-request}
 use Rattle.console_handler.proofs.turns.treat_first.Goals as goal

@@ -1,8 +1,8 @@
 use Rattle.std.proofs.Common.{◌∙◌, sym, subst, ap, arith}
-use Rattle.block_calls.specs.KernelDispatch.GetvecChain.Run.{first_run, need}
-use Rattle.block_calls.specs.KernelDispatch.GetvecChain.Tiling.{blocks_in}
-use Rattle.block_calls.specs.KernelDispatch.KernelModel.ChangedStore.{Knows}
-use Rattle.block_calls.specs.FreeStore.{with_taken}
+use Rattle.packet_calls.specs.KernelDispatch.GetvecChain.Run.{first_run, need}
+use Rattle.packet_calls.specs.KernelDispatch.GetvecChain.Tiling.{blocks_in}
+use Rattle.packet_calls.specs.KernelDispatch.KernelModel.ChangedStore.{Knows}
+use Rattle.packet_calls.specs.BlockCalls.FreeStore.{with_taken}
 use Rattle.coroutine_calls.proofs.CallersTask.{callers-stood}
 use Rattle.coroutine_calls.proofs.MadeCoroutine.{created-inside, createco-made, createco-refused, if-ok, on-err, on-ok}
 use Rattle.coroutine_calls.proofs.creation.createco.Goals as goal

@@ -1,7 +1,7 @@
 use Rattle.std.proofs.Common.{◌≡◌, ◌∙◌, Ok, sym}
 use Rattle.std.proofs.lemmas.Bool.{false≢true}
 use Rattle.std.proofs.lemmas.Result.{err_from_is_err_and}
-use Rattle.block_calls.specs.KernelDispatch.Coroutines.Refusals.{idle_answer}
+use Rattle.packet_calls.specs.KernelDispatch.Coroutines.Refusals.{idle_answer}
 use Rattle.coroutine_calls.proofs.CallersTask.{callers-stood}
 use Rattle.coroutine_calls.proofs.DeletedCoroutine.{block-there, coded-ok, deleteco-made, deleteco-not_idle, deleteco-packet, ended-ok}
 use Rattle.coroutine_calls.proofs.deletion.deleteco.Goals as goal

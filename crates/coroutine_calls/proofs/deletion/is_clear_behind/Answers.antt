@@ -1,7 +1,7 @@
 use Rattle.std.proofs.Common.{◌≡◌, ◌∙◌, ◌+◌, ◌-◌, ◌≤◌, ℕ, refl, subst, arith}
 use Rattle.std.specs.Prelude.{◌↔◌, IsTrue}
-use Rattle.block_calls.specs.KernelDispatch.GetvecChain.Block.{block_end}
-use Rattle.block_calls.specs.KernelDispatch.KernelModel.Changes.{AreUnowned}
+use Rattle.packet_calls.specs.KernelDispatch.GetvecChain.Block.{block_end}
+use Rattle.packet_calls.specs.KernelDispatch.KernelModel.Changes.{AreUnowned}
 use Rattle.coroutine_calls.proofs.DeletedCoroutine.{roomy-block}
 use Rattle.coroutine_calls.proofs.deletion.is_clear_behind.Goals as goal
 

@@ -1,13 +1,13 @@
 use Rattle.std.proofs.Common.{◌∙◌, sym, subst}
-use Rattle.resident_requests.specs.KernelCalls.PacketQueue.Log.{Notes}
-use Rattle.resident_requests.specs.KernelCalls.PacketQueue.Queue.{HasQueue}
-use Rattle.resident_requests.specs.KernelCalls.KernelModel.NotedEvents.{NotesAll}
-use Rattle.resident_requests.proofs.Shown.KernelCalls.KernelModel.NotedInTurn.{notes-none}
-use Rattle.resident_requests.proofs.Shown.KernelCalls.CallAnswers.FoundTask.{reads}
-use Rattle.resident_requests.proofs.Shown.KernelCalls.PacketCalls.CallerTask.{caller-number}
-use Rattle.resident_requests.specs.KernelCalls.PacketCalls.QueueWords.{head_of}
-use Rattle.resident_requests.proofs.Shown.KernelCalls.PacketCalls.HeldPlaces.{stands-at}
-use Rattle.resident_requests.specs.KernelCalls.KernelModel.ValidQueues.Place.{Work}
+use Rattle.pipe_handler.specs.KernelCalls.PacketQueue.Log.{Notes}
+use Rattle.pipe_handler.specs.KernelCalls.PacketQueue.Queue.{HasQueue}
+use Rattle.pipe_handler.specs.KernelCalls.KernelModel.NotedEvents.{NotesAll}
+use Rattle.pipe_handler.proofs.Shown.KernelCalls.KernelModel.NotedInTurn.{notes-none}
+use Rattle.pipe_handler.proofs.Shown.KernelCalls.CallAnswers.FoundTask.{reads}
+use Rattle.pipe_handler.proofs.Shown.KernelCalls.PacketCalls.CallerTask.{caller-number}
+use Rattle.pipe_handler.specs.KernelCalls.PacketCalls.QueueWords.{head_of}
+use Rattle.pipe_handler.proofs.Shown.KernelCalls.PacketCalls.HeldPlaces.{stands-at}
+use Rattle.pipe_handler.specs.KernelCalls.KernelModel.ValidQueues.Place.{Work}
 use Rattle.fault_reporter.specs.Recorded.{events_where}
 use Rattle.fault_reporter.proofs.FaultPacket.{not-sent, packet-noted, packet-sent, send-packet, send-queue, reporter-found, reporter-queue, waits-is}
 use Rattle.fault_reporter.proofs.packet.send_packet.Goals as goal

@@ -1,9 +1,9 @@
 use Rattle.std.proofs.Common.{◌∙◌, set, ap, subst}
 use Rattle.word_store.specs.Arithmetic.{signed}
-use Rattle.resident_requests.specs.KernelCalls.PacketQueue.Log.{Notes}
-use Rattle.resident_requests.specs.KernelCalls.PacketQueue.declared.events.KernelEvent.TheVariants.{Taken}
-use Rattle.resident_requests.proofs.Shown.KernelCalls.KernelModel.NotedInTurn.{notes-one}
-use Rattle.resident_requests.proofs.Shown.KernelCalls.CallAnswers.RootTold.{running-word}
+use Rattle.pipe_handler.specs.KernelCalls.PacketQueue.Log.{Notes}
+use Rattle.pipe_handler.specs.KernelCalls.PacketQueue.declared.events.KernelEvent.TheVariants.{Taken}
+use Rattle.pipe_handler.proofs.Shown.KernelCalls.KernelModel.NotedInTurn.{notes-one}
+use Rattle.pipe_handler.proofs.Shown.KernelCalls.CallAnswers.RootTold.{running-word}
 use Rattle.fault_reporter.proofs.TakenFaults.{is-taken, sender-is, take-packet, take-queue}
 use Rattle.fault_reporter.proofs.packet.take_packet.Goals as goal
 

@@ -1,5 +1,5 @@
 use Rattle.std.proofs.Common.{◌+◌, ◌∙◌, set, sym, ap, subst}
-use Rattle.resident_requests.proofs.Shown.KernelCalls.CallAnswers.FoundTask.{Finds, find-task, reads}
+use Rattle.pipe_handler.proofs.Shown.KernelCalls.CallAnswers.FoundTask.{Finds, find-task, reads}
 use Rattle.fault_reporter.specs.Texts.{is_unreported_word}
 use Rattle.fault_reporter.proofs.Reported.{no-guest, nothing-new, one-new}
 use Rattle.fault_reporter.proofs.reports.mark_report.Goals as goal

@@ -1,6 +1,6 @@
 use Rattle.std.proofs.Common.{◌≤◌}
-use Rattle.resident_requests.specs.KernelCalls.KernelModel.HoldsLists.{HoldsLists}
-use Rattle.resident_requests.specs.KernelCalls.KernelModel.Lists.{Lists}
+use Rattle.pipe_handler.specs.KernelCalls.KernelModel.HoldsLists.{HoldsLists}
+use Rattle.pipe_handler.specs.KernelCalls.KernelModel.Lists.{Lists}
 use Rattle.fault_reporter.specs.Recorded.{OwnsSame}
 use Rattle.fault_reporter.proofs.Reported.{reported_below}
 use Rattle.fault_reporter.proofs.reports.mark_reports.Given as goal

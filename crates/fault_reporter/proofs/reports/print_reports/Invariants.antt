@@ -1,6 +1,6 @@
 use Rattle.std.proofs.Common.{◌≡◌, ◌+◌, ◌*◌, ◌≤◌, ◌++◌, length}
 use Rattle.std.specs.List.{flat_map}
-use Rattle.resident_requests.specs.KernelCalls.TaskBlock.TaskChain.{tasks_in}
+use Rattle.pipe_handler.specs.KernelCalls.TaskBlock.TaskChain.{tasks_in}
 use Rattle.fault_reporter.specs.Texts.{most_in_line, report_at}
 use Rattle.fault_reporter.proofs.reports.print_reports.Given as goal
 

@@ -1,9 +1,9 @@
 use Rattle.std.proofs.Common.{◌∙◌, Some, inl, refl, sym, subst, []}
-use Rattle.resident_requests.specs.Requests.{taken}
-use Rattle.resident_requests.specs.Turns.{IsResidentTurn}
-use Rattle.resident_requests.specs.KernelCalls.CallAnswers.Outside.{outside}
-use Rattle.resident_requests.proofs.ResidentTurns.{keeper-taken, turn-idle, turn-served}
-use Rattle.resident_requests.proofs.TakenRequest.{taken-running}
+use Rattle.pipe_handler.specs.ResidentRequests.Requests.{taken}
+use Rattle.pipe_handler.specs.ResidentRequests.Turns.{IsResidentTurn}
+use Rattle.pipe_handler.specs.KernelCalls.CallAnswers.Outside.{outside}
+use Rattle.pipe_handler.proofs.Shown.ResidentRequests.ResidentTurns.{keeper-taken, turn-idle, turn-served}
+use Rattle.pipe_handler.proofs.Shown.ResidentRequests.TakenRequest.{taken-running}
 use Rattle.fault_reporter.specs.FaultTurns.{unknown}
 use Rattle.fault_reporter.proofs.ReportedTurn.{other-turn, takes-other, turn-reported}
 use Rattle.fault_reporter.proofs.turns.fault_turn.Goals as goal

@@ -1,6 +1,6 @@
 use Rattle.std.proofs.Common.{◌++◌, ◌∙◌, length, ap}
-use Rattle.resident_requests.proofs.Shown.KernelCalls.KernelModel.WalkedLists.{can-walk}
-use Rattle.resident_requests.specs.Requests.{work}
+use Rattle.pipe_handler.proofs.Shown.KernelCalls.KernelModel.WalkedLists.{can-walk}
+use Rattle.pipe_handler.specs.ResidentRequests.Requests.{work}
 use Rattle.fault_reporter.specs.FaultTurns.{all_reported, fault_taken_from}
 use Rattle.fault_reporter.proofs.HeldGuest.{same-then}
 use Rattle.fault_reporter.proofs.ReportLines.{lines-room, reports-read}

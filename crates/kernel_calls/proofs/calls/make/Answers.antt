@@ -1,27 +1,27 @@
 use Rattle.std.proofs.Common.{◌%◌, [], ◌∷◌, Ok, refl, sym, ap, ◌∙◌, subst}
-use Rattle.task_calls.specs.KernelDispatch.KernelModel.Changes.{queue_of}
-use Rattle.task_calls.specs.KernelDispatch.KernelModel.ValidQueues.Place.{Work}
-use Rattle.task_calls.specs.CallAnswers.Made.{IsMade, minus_one, plain_answer}
-use Rattle.task_calls.specs.BlockCalls.Freevec.{freevec}
-use Rattle.task_calls.specs.BlockCalls.Getvec.{getvec}
+use Rattle.coroutine_calls.specs.KernelDispatch.KernelModel.Changes.{queue_of}
+use Rattle.coroutine_calls.specs.KernelDispatch.KernelModel.ValidQueues.Place.{Work}
+use Rattle.coroutine_calls.specs.CallAnswers.Made.{IsMade, minus_one, plain_answer}
+use Rattle.coroutine_calls.specs.BlockCalls.Freevec.{freevec}
+use Rattle.coroutine_calls.specs.BlockCalls.Getvec.{getvec}
 use Rattle.coroutine_calls.specs.CallCo.{callco}
 use Rattle.coroutine_calls.specs.CoWait.{cowait}
 use Rattle.coroutine_calls.specs.CreateCo.{createco}
 use Rattle.coroutine_calls.specs.DeleteCo.{deleteco}
 use Rattle.coroutine_calls.specs.ResumeCo.{resumeco}
-use Rattle.module_calls.specs.AddModule.{add_module}
-use Rattle.module_calls.specs.UnloadModule.{unload_module}
-use Rattle.packet_calls.specs.Qpkt.{qpkt}
-use Rattle.packet_calls.specs.TaskWait.{answer_of_wait, taskwait}
-use Rattle.task_calls.specs.ChangePri.{change_pri}
-use Rattle.task_calls.specs.CreateTask.{create_task}
-use Rattle.task_calls.specs.DeleteTask.{delete_task}
-use Rattle.task_calls.specs.HoldTask.{hold}
-use Rattle.task_calls.specs.ReleaseTask.{release}
-use Rattle.task_calls.specs.SetFlags.{set_flags}
-use Rattle.task_calls.specs.TestFlags.{test_flags}
-use Rattle.task_calls.proofs.SameWords.{change_pri-owners, hold-owners, release-owners, set_flags-owners, test_flags-owners}
-use Rattle.task_calls.specs.CallAnswers.Outside.{outside}
+use Rattle.coroutine_calls.specs.ModuleCalls.AddModule.{add_module}
+use Rattle.coroutine_calls.specs.ModuleCalls.UnloadModule.{unload_module}
+use Rattle.coroutine_calls.specs.PacketCalls.Qpkt.{qpkt}
+use Rattle.coroutine_calls.specs.PacketCalls.TaskWait.{answer_of_wait, taskwait}
+use Rattle.coroutine_calls.specs.TaskCalls.ChangePri.{change_pri}
+use Rattle.coroutine_calls.specs.TaskCalls.CreateTask.{create_task}
+use Rattle.coroutine_calls.specs.TaskCalls.DeleteTask.{delete_task}
+use Rattle.coroutine_calls.specs.TaskCalls.HoldTask.{hold}
+use Rattle.coroutine_calls.specs.TaskCalls.ReleaseTask.{release}
+use Rattle.coroutine_calls.specs.TaskCalls.SetFlags.{set_flags}
+use Rattle.coroutine_calls.specs.TaskCalls.TestFlags.{test_flags}
+use Rattle.coroutine_calls.proofs.Shown.TaskCalls.SameWords.{change_pri-owners, hold-owners, release-owners, set_flags-owners, test_flags-owners}
+use Rattle.coroutine_calls.specs.CallAnswers.Outside.{outside}
 use Rattle.kernel_calls.specs.Calls.{answered, divided}
 use Rattle.kernel_calls.proofs.CalledAnswers.{called-byte, called-ended, called-noting, called-silent, called-switched, called-taking, called-waiting, made-same}
 use Rattle.kernel_calls.proofs.SilentCalls.{add_module-silent, change_pri-silent, create_task-silent, createco-silent, delete_task-silent, deleteco-silent, freevec-silent, getvec-silent, hold-silent, release-silent, set_flags-silent, unload_module-silent}

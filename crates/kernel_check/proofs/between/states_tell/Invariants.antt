@@ -1,5 +1,5 @@
-use Rattle.kernel_dispatch.specs.TaskBlock.TaskChain.{tasks_in}
-use Rattle.kernel_dispatch.specs.KernelModel.Recovered.{task_in}
+use Rattle.list_passes.specs.KernelDispatch.TaskBlock.TaskChain.{tasks_in}
+use Rattle.list_passes.specs.KernelDispatch.KernelModel.Recovered.{task_in}
 use Rattle.list_passes.proofs.ClaimedWalks.{IsGoing}
 use Rattle.kernel_check.proofs.RunningTask.{Tells}
 use Rattle.kernel_check.proofs.between.states_tell.Given as goal

@@ -1,7 +1,7 @@
 use Rattle.std.proofs.Common.{arith}
-use Rattle.kernel_dispatch.specs.KernelModel.Recovered.{lists_in}
-use Rattle.kernel_dispatch.proofs.Shown.GetvecChain.Tilings.{IsTiled-inside}
-use Rattle.kernel_dispatch.proofs.Shown.KernelModel.WalkedLists.{can-walk}
+use Rattle.list_passes.specs.KernelDispatch.KernelModel.Recovered.{lists_in}
+use Rattle.list_passes.proofs.Shown.KernelDispatch.GetvecChain.Tilings.{IsTiled-inside}
+use Rattle.list_passes.proofs.Shown.KernelDispatch.KernelModel.WalkedLists.{can-walk}
 use Rattle.kernel_check.proofs.ConsoleLine.{pending-empty}
 use Rattle.kernel_check.proofs.console_line.is_delivered.Goals as goal
 

@@ -1,10 +1,10 @@
 use Rattle.std.proofs.Common.{◌∙◌, refl, sym}
 use Rattle.std.specs.List.{list_any}
 use Rattle.std.proofs.lemmas.Bool.{false≢true}
-use Rattle.kernel_dispatch.specs.KernelModel.Between.{is_unreported}
-use Rattle.kernel_dispatch.specs.KernelModel.Lists.{has_task}
-use Rattle.kernel_dispatch.specs.KernelModel.Recovered.{lists_in}
-use Rattle.kernel_dispatch.proofs.Shown.KernelModel.WalkedLists.{can-walk}
+use Rattle.list_passes.specs.KernelDispatch.KernelModel.Between.{is_unreported}
+use Rattle.list_passes.specs.KernelDispatch.KernelModel.Lists.{has_task}
+use Rattle.list_passes.specs.KernelDispatch.KernelModel.Recovered.{lists_in}
+use Rattle.list_passes.proofs.Shown.KernelDispatch.KernelModel.WalkedLists.{can-walk}
 use Rattle.list_passes.proofs.Residents.{has-id}
 use Rattle.kernel_check.proofs.FaultReports.{under-task, waits-free, waits-queued}
 use Rattle.kernel_check.proofs.QueueRules.{fault-free, fault-other}

@@ -1,4 +1,4 @@
-use Rattle.kernel_dispatch.specs.PacketQueue.Queue.{queue_at}
+use Rattle.list_passes.specs.KernelDispatch.PacketQueue.Queue.{queue_at}
 use Rattle.list_passes.proofs.ClaimedWalks.{IsGoing}
 use Rattle.kernel_check.proofs.FaultReports.{PacketTells}
 use Rattle.kernel_check.proofs.fault_reports.packets_tell.Given as goal

@@ -1,4 +1,4 @@
-use Rattle.kernel_dispatch.specs.PacketQueue.Queue.{queue_at}
+use Rattle.list_passes.specs.KernelDispatch.PacketQueue.Queue.{queue_at}
 use Rattle.list_passes.proofs.ClaimedWalks.{IsGoing}
 use Rattle.kernel_check.specs.Places.{place_of}
 use Rattle.kernel_check.proofs.QueueRules.{Lodged, May}

@@ -1,4 +1,4 @@
-use Rattle.kernel_dispatch.specs.TaskBlock.TaskChain.{tasks_in}
+use Rattle.list_passes.specs.KernelDispatch.TaskBlock.TaskChain.{tasks_in}
 use Rattle.list_passes.proofs.ClaimedWalks.{IsGoing}
 use Rattle.kernel_check.proofs.QueueRules.{IsKnown, WorkStands}
 use Rattle.kernel_check.proofs.queue_pass.work_stands.Given as goal

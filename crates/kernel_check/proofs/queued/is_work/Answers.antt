@@ -1,5 +1,5 @@
 use Rattle.std.proofs.Common.{◌≡◌, ◌∙◌, ◌+◌, ap, sym}
-use Rattle.kernel_dispatch.specs.TaskBlock.TaskChain.{tasks_in}
+use Rattle.list_passes.specs.KernelDispatch.TaskBlock.TaskChain.{tasks_in}
 use Rattle.list_passes.proofs.ClaimedWalks.{chain-walk}
 use Rattle.kernel_check.proofs.QueuedPackets.{has_in, looked, looking, looks-on, next-queue, queue-at, work-found}
 use Rattle.kernel_check.proofs.queued.is_work.Goals as goal

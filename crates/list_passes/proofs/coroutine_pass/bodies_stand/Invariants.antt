@@ -1,4 +1,4 @@
-use Rattle.kernel_dispatch.specs.TaskBlock.Lists.{coroutines_in}
+use Rattle.adoption_law.specs.KernelDispatch.TaskBlock.Lists.{coroutines_in}
 use Rattle.list_passes.proofs.ClaimedWalks.{IsGoing}
 use Rattle.list_passes.proofs.CoroutineWalks.{Body}
 use Rattle.list_passes.proofs.coroutine_pass.bodies_stand.Given as goal

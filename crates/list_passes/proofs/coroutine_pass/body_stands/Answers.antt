@@ -1,6 +1,6 @@
 use Rattle.std.proofs.Common.{sym, subst}
-use Rattle.kernel_dispatch.specs.GetvecChain.Tiling.{blocks_in}
-use Rattle.kernel_dispatch.specs.KernelModel.ValidBlocks.{HasBlock}
+use Rattle.adoption_law.specs.KernelDispatch.GetvecChain.Tiling.{blocks_in}
+use Rattle.adoption_law.specs.KernelDispatch.KernelModel.ValidBlocks.{HasBlock}
 use Rattle.list_passes.proofs.CoroutineWalks.{body-is, is-body}
 use Rattle.list_passes.proofs.coroutine_pass.body_stands.Goals as goal
 

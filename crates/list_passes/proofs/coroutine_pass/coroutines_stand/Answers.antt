@@ -1,6 +1,6 @@
 use Rattle.std.proofs.Common.{◌≡◌, ◌∙◌, refl, sym}
 use Rattle.std.proofs.lemmas.Bool.{false≢true}
-use Rattle.kernel_dispatch.specs.TaskBlock.TaskChain.{tasks_in}
+use Rattle.adoption_law.specs.KernelDispatch.TaskBlock.TaskChain.{tasks_in}
 use Rattle.list_passes.specs.CanPass.{CanPass}
 use Rattle.list_passes.proofs.ClaimedWalks.{can-pass, chain-walk, first, going, gone}
 use Rattle.list_passes.specs.Frames.{OwnsCoroutines}

@@ -1,4 +1,4 @@
-use Rattle.kernel_dispatch.specs.TaskBlock.TaskChain.{tasks_in}
+use Rattle.adoption_law.specs.KernelDispatch.TaskBlock.TaskChain.{tasks_in}
 use Rattle.list_passes.specs.StartMarks.{IsShut}
 use Rattle.list_passes.specs.CanPass.{CanPass}
 use Rattle.list_passes.proofs.ClaimedWalks.{IsGoing}

@@ -1,9 +1,9 @@
 use Rattle.std.proofs.Common.{◌≡◌, ◌∙◌, not, refl, sym}
 use Rattle.std.proofs.lemmas.Bool.{false≢true}
-use Rattle.kernel_dispatch.specs.LinkedList.Places.{has}
-use Rattle.kernel_dispatch.specs.TaskBlock.Lists.{coroutines_in}
-use Rattle.kernel_dispatch.specs.Coroutines.Active.{active_in}
-use Rattle.word_claims.specs.Marks.{is_open}
+use Rattle.adoption_law.specs.KernelDispatch.LinkedList.Places.{has}
+use Rattle.adoption_law.specs.KernelDispatch.TaskBlock.Lists.{coroutines_in}
+use Rattle.adoption_law.specs.KernelDispatch.Coroutines.Active.{active_in}
+use Rattle.adoption_law.specs.WordClaims.Marks.{is_open}
 use Rattle.list_passes.specs.Frames.{TellsParent}
 use Rattle.list_passes.proofs.ClaimedWalks.{first, goes, going, gone, known-first}
 use Rattle.list_passes.proofs.CoroutineWalks.{tells-open}

@@ -1,8 +1,8 @@
 use Rattle.std.proofs.Common.{◌≡◌, not}
-use Rattle.kernel_dispatch.specs.LinkedList.Places.{has}
-use Rattle.kernel_dispatch.specs.TaskBlock.Lists.{coroutines_in}
-use Rattle.kernel_dispatch.specs.Coroutines.Active.{active_in}
-use Rattle.word_claims.specs.Marks.{is_open}
+use Rattle.adoption_law.specs.KernelDispatch.LinkedList.Places.{has}
+use Rattle.adoption_law.specs.KernelDispatch.TaskBlock.Lists.{coroutines_in}
+use Rattle.adoption_law.specs.KernelDispatch.Coroutines.Active.{active_in}
+use Rattle.adoption_law.specs.WordClaims.Marks.{is_open}
 use Rattle.list_passes.specs.Frames.{TellsParent}
 use Rattle.list_passes.proofs.ClaimedWalks.{IsGoing}
 use Rattle.list_passes.proofs.coroutine_pass.parents_tell.Given as goal

@@ -1,7 +1,7 @@
 use Rattle.std.proofs.Common.{◌≡◌, ◌≢◌, ◌⊎◌, ◌∙◌, ◌+◌, get_or, inl, inr, refl, sym}
 use Rattle.std.proofs.lemmas.Bool.{false≢true}
-use Rattle.kernel_dispatch.specs.TaskBlock.Lists.{coroutines_in}
-use Rattle.kernel_dispatch.proofs.Shown.KernelModel.EachMember.{all-both, all-each}
+use Rattle.adoption_law.specs.KernelDispatch.TaskBlock.Lists.{coroutines_in}
+use Rattle.adoption_law.proofs.Shown.KernelDispatch.KernelModel.EachMember.{all-both, all-each}
 use Rattle.list_passes.specs.Frames.{HasFrame, HasParent}
 use Rattle.list_passes.proofs.ClaimedWalks.{all-any, first, going, gone}
 use Rattle.list_passes.proofs.FrameWords.{Frame, all-frames, frames-all, no-frames}

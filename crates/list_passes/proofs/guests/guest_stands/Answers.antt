@@ -1,6 +1,6 @@
 use Rattle.std.proofs.Common.{◌∙◌, ◌+◌, get_or, sym, subst, arith}
 use Rattle.std.proofs.lemmas.Bool.{false≢true}
-use Rattle.kernel_dispatch.specs.KernelModel.ValidTasks.{IsFaultWord}
+use Rattle.adoption_law.specs.KernelDispatch.KernelModel.ValidTasks.{IsFaultWord}
 use Rattle.list_passes.proofs.GuestWords.{guest-block}
 use Rattle.list_passes.proofs.guests.guest_stands.Goals as goal
 use Rattle.list_passes.proofs.guests.guest_stands.Goals.{else-fault-ne0-via-then-fault-ne0+else-not-has_task, else-fault-ne0-via-else-fault-ne0}

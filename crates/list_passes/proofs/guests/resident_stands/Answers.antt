@@ -1,6 +1,6 @@
 use Rattle.std.proofs.Common.{◌∙◌, sym, ap}
 use Rattle.std.specs.Prelude.{Some}
-use Rattle.kernel_dispatch.specs.KernelModel.ValidTasks.{resident_place}
+use Rattle.adoption_law.specs.KernelDispatch.KernelModel.ValidTasks.{resident_place}
 use Rattle.list_passes.proofs.GuestWords.{idle-resident, resident-idle}
 use Rattle.list_passes.proofs.guests.resident_stands.Goals as goal
 

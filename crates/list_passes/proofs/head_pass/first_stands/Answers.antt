@@ -1,5 +1,5 @@
 use Rattle.std.proofs.Common.{◌-◌, ap}
-use Rattle.kernel_dispatch.specs.TaskBlock.TaskChain.{id_in}
+use Rattle.adoption_law.specs.KernelDispatch.TaskBlock.TaskChain.{id_in}
 use Rattle.list_passes.proofs.HeadWords.{first-absent}
 use Rattle.list_passes.proofs.TaskWalks.{guest-is}
 use Rattle.list_passes.proofs.head_pass.first_stands.Goals as goal

@@ -1,5 +1,5 @@
 use Rattle.std.proofs.Common.{◌-◌, refl, ap}
-use Rattle.kernel_dispatch.specs.TaskBlock.TaskChain.{id_in}
+use Rattle.adoption_law.specs.KernelDispatch.TaskBlock.TaskChain.{id_in}
 use Rattle.list_passes.proofs.FurtherModules.{further-none, further-words}
 use Rattle.list_passes.proofs.TaskWalks.{guest-is, guest-not}
 use Rattle.list_passes.proofs.head_pass.further_stand.Goals as goal

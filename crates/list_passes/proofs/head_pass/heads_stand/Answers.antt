@@ -1,9 +1,9 @@
 use Rattle.std.proofs.Common.{◌≡◌, ◌∙◌, refl, sym}
 use Rattle.std.proofs.lemmas.Bool.{false≢true}
-use Rattle.kernel_dispatch.specs.TaskBlock.TaskChain.{tasks_in}
-use Rattle.kernel_dispatch.specs.KernelModel.Recovered.{lists_in, task_in}
+use Rattle.adoption_law.specs.KernelDispatch.TaskBlock.TaskChain.{tasks_in}
+use Rattle.adoption_law.specs.KernelDispatch.KernelModel.Recovered.{lists_in, task_in}
 use Rattle.adoption_law.specs.Passes.{HeadStands}
-use Rattle.kernel_dispatch.proofs.Shown.KernelModel.EachMember.{all-both}
+use Rattle.adoption_law.proofs.Shown.KernelDispatch.KernelModel.EachMember.{all-both}
 use Rattle.list_passes.specs.CanPass.{CanPass}
 use Rattle.list_passes.specs.Frames.{OwnsCoroutines}
 use Rattle.list_passes.proofs.ClaimedWalks.{can-pass, chain-walk, first, goes, going, gone, known-first, of-tasks}

@@ -1,5 +1,5 @@
-use Rattle.kernel_dispatch.specs.TaskBlock.TaskChain.{tasks_in}
-use Rattle.kernel_dispatch.specs.KernelModel.Recovered.{lists_in, task_in}
+use Rattle.adoption_law.specs.KernelDispatch.TaskBlock.TaskChain.{tasks_in}
+use Rattle.adoption_law.specs.KernelDispatch.KernelModel.Recovered.{lists_in, task_in}
 use Rattle.adoption_law.specs.Passes.{HeadStands}
 use Rattle.list_passes.specs.CanPass.{CanPass}
 use Rattle.list_passes.specs.Frames.{OwnsCoroutines}

@@ -1,6 +1,6 @@
 use Rattle.std.proofs.Common.{◌≡◌, ◌∙◌, ◌+◌, arith}
-use Rattle.kernel_dispatch.specs.TaskBlock.TaskChain.{id_in}
-use Rattle.kernel_dispatch.specs.TaskBlock.Versions.{head_words}
+use Rattle.adoption_law.specs.KernelDispatch.TaskBlock.TaskChain.{id_in}
+use Rattle.adoption_law.specs.KernelDispatch.TaskBlock.Versions.{head_words}
 use Rattle.list_passes.proofs.HeadWords.{guest-stack}
 use Rattle.list_passes.proofs.TaskWalks.{guest-is}
 use Rattle.list_passes.proofs.head_pass.stack_of.Goals as goal

@@ -1,6 +1,6 @@
 use Rattle.std.proofs.Common.{◌∙◌, refl, sym}
 use Rattle.std.proofs.lemmas.Bool.{false≢true}
-use Rattle.kernel_dispatch.specs.TaskBlock.Lists.{modules_in}
+use Rattle.adoption_law.specs.KernelDispatch.TaskBlock.Lists.{modules_in}
 use Rattle.list_passes.proofs.ModuleWalk.{first, gone, modules-stand}
 use Rattle.list_passes.proofs.module_pass.modules_stand.Goals as goal
 

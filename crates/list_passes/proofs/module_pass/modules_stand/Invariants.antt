@@ -1,4 +1,4 @@
-use Rattle.kernel_dispatch.specs.TaskBlock.Lists.{modules_in}
+use Rattle.adoption_law.specs.KernelDispatch.TaskBlock.Lists.{modules_in}
 use Rattle.list_passes.proofs.ModuleWalk.{IsGoing}
 use Rattle.list_passes.proofs.module_pass.modules_stand.Given as goal
 

@@ -1,7 +1,7 @@
 use Rattle.std.proofs.Common.{◌≡◌, ◌∙◌, ℕ, ◌+◌, ◌*◌, ◌/◌, get_or, List, sym, subst, arith}
 use Rattle.std.proofs.lemmas.Bool.{eq-eqb, eqb-true, false≢true}
-use Rattle.kernel_dispatch.specs.GetvecChain.Tiling.{blocks_in}
-use Rattle.kernel_dispatch.specs.KernelModel.ValidBlocks.{HasBlock}
+use Rattle.adoption_law.specs.KernelDispatch.GetvecChain.Tiling.{blocks_in}
+use Rattle.adoption_law.specs.KernelDispatch.KernelModel.ValidBlocks.{HasBlock}
 use Rattle.list_passes.proofs.StartMarks.{block-there, there-block}
 use Rattle.list_passes.proofs.starts.has_block.Goals as goal
 

@@ -1,4 +1,4 @@
-use Rattle.kernel_dispatch.specs.TaskBlock.Lists.{modules_in}
+use Rattle.adoption_law.specs.KernelDispatch.TaskBlock.Lists.{modules_in}
 use Rattle.list_passes.proofs.StartMarks.{IsNaming}
 use Rattle.list_passes.proofs.starts.open_modules.Given as goal
 

@@ -1,4 +1,4 @@
-use Rattle.kernel_dispatch.specs.GetvecChain.Tiling.{blocks_in}
+use Rattle.adoption_law.specs.KernelDispatch.GetvecChain.Tiling.{blocks_in}
 use Rattle.list_passes.proofs.StartMarks.{IsMarking}
 use Rattle.list_passes.proofs.starts.open_starts.Given as goal
 

@@ -1,5 +1,5 @@
 use Rattle.std.proofs.Common.{◌≡◌}
-use Rattle.kernel_dispatch.specs.TaskBlock.TaskChain.{tasks_in}
+use Rattle.adoption_law.specs.KernelDispatch.TaskBlock.TaskChain.{tasks_in}
 use Rattle.list_passes.proofs.TaskTable.{address_in}
 use Rattle.list_passes.proofs.table.address_of.Given as goal
 

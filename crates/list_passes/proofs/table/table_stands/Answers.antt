@@ -1,9 +1,9 @@
 use Rattle.std.proofs.Common.{◌∙◌, refl, sym, arith}
 use Rattle.std.proofs.lemmas.Bool.{false≢true}
-use Rattle.kernel_dispatch.specs.TaskBlock.HeldTasks.{address_with}
-use Rattle.kernel_dispatch.specs.KernelModel.Recovered.{lists_in}
-use Rattle.kernel_dispatch.specs.KernelModel.Task.{task_address, task_id}
-use Rattle.kernel_dispatch.specs.KernelModel.Versions.{highest_id_of}
+use Rattle.adoption_law.specs.KernelDispatch.TaskBlock.HeldTasks.{address_with}
+use Rattle.adoption_law.specs.KernelDispatch.KernelModel.Recovered.{lists_in}
+use Rattle.adoption_law.specs.KernelDispatch.KernelModel.Task.{task_address, task_id}
+use Rattle.adoption_law.specs.KernelDispatch.KernelModel.Versions.{highest_id_of}
 use Rattle.list_passes.proofs.TaskTable.{holds-entries}
 use Rattle.list_passes.proofs.table.table_stands.Goals as goal
 

@@ -1,7 +1,7 @@
 use Rattle.std.proofs.Common.{◌≡◌, ◌+◌, ◌<◌, ℕ, get_or}
-use Rattle.kernel_dispatch.specs.TaskBlock.HeldTasks.{address_with}
-use Rattle.kernel_dispatch.specs.KernelModel.Recovered.{lists_in}
-use Rattle.kernel_dispatch.specs.KernelModel.Task.{task_address, task_id}
+use Rattle.adoption_law.specs.KernelDispatch.TaskBlock.HeldTasks.{address_with}
+use Rattle.adoption_law.specs.KernelDispatch.KernelModel.Recovered.{lists_in}
+use Rattle.adoption_law.specs.KernelDispatch.KernelModel.Task.{task_address, task_id}
 use Rattle.list_passes.proofs.table.table_stands.Given as goal
 
 abbrev pub invariant-loop-i : goal.invariant-loop-i

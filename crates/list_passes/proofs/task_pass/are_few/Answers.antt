@@ -1,6 +1,6 @@
 use Rattle.std.proofs.Common.{◌≡◌, arith, refl}
 use Rattle.std.proofs.lemmas.Bool.{false≢true}
-use Rattle.kernel_dispatch.specs.TaskBlock.TaskChain.{tasks_in}
+use Rattle.adoption_law.specs.KernelDispatch.TaskBlock.TaskChain.{tasks_in}
 use Rattle.list_passes.proofs.ClaimedWalks.{chain-walk}
 use Rattle.list_passes.proofs.TaskWalks.{all-counted, counted-none, counts-on, too-many}
 use Rattle.list_passes.proofs.task_pass.are_few.Goals as goal

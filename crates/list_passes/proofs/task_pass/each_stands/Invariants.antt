@@ -1,6 +1,6 @@
-use Rattle.kernel_dispatch.specs.TaskBlock.TaskChain.{tasks_in}
-use Rattle.kernel_dispatch.specs.KernelModel.Recovered.{lists_in, task_in}
-use Rattle.kernel_dispatch.specs.KernelModel.ValidTasks.{IsTask}
+use Rattle.adoption_law.specs.KernelDispatch.TaskBlock.TaskChain.{tasks_in}
+use Rattle.adoption_law.specs.KernelDispatch.KernelModel.Recovered.{lists_in, task_in}
+use Rattle.adoption_law.specs.KernelDispatch.KernelModel.ValidTasks.{IsTask}
 use Rattle.list_passes.specs.CanPass.{CanPass}
 use Rattle.list_passes.proofs.ClaimedWalks.{IsGoing}
 use Rattle.list_passes.proofs.task_pass.each_stands.Given as goal

@@ -1,4 +1,4 @@
-use Rattle.kernel_dispatch.specs.TaskBlock.TaskChain.{tasks_in}
+use Rattle.adoption_law.specs.KernelDispatch.TaskBlock.TaskChain.{tasks_in}
 use Rattle.list_passes.proofs.TaskWalks.{IsCounting}
 use Rattle.list_passes.proofs.task_pass.is_once.Given as goal
 

@@ -1,7 +1,7 @@
 use Rattle.std.proofs.Common.{◌∙◌, refl, sym, subst, ◌≤◌}
 use Rattle.std.proofs.lemmas.Bool.{false≢true}
 use Rattle.word_store.specs.Count.{IsApart, times}
-use Rattle.kernel_dispatch.specs.TaskBlock.TaskChain.{tasks_in}
+use Rattle.adoption_law.specs.KernelDispatch.TaskBlock.TaskChain.{tasks_in}
 use Rattle.list_passes.proofs.ClaimedWalks.{chain-walk, gone}
 use Rattle.list_passes.proofs.TaskWalks.{Once, all-apart, apart-all, ids, ids-lists}
 use Rattle.list_passes.proofs.task_pass.numbers_differ.Goals as goal

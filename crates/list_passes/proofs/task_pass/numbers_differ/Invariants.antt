@@ -1,4 +1,4 @@
-use Rattle.kernel_dispatch.specs.TaskBlock.TaskChain.{tasks_in}
+use Rattle.adoption_law.specs.KernelDispatch.TaskBlock.TaskChain.{tasks_in}
 use Rattle.list_passes.proofs.ClaimedWalks.{IsGoing}
 use Rattle.list_passes.proofs.TaskWalks.{Once}
 use Rattle.list_passes.proofs.task_pass.numbers_differ.Given as goal

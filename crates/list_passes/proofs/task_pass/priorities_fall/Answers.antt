@@ -1,6 +1,6 @@
 use Rattle.std.proofs.Common.{◌≡◌, refl}
 use Rattle.std.proofs.lemmas.Bool.{false≢true}
-use Rattle.kernel_dispatch.specs.TaskBlock.TaskChain.{tasks_in}
+use Rattle.adoption_law.specs.KernelDispatch.TaskBlock.TaskChain.{tasks_in}
 use Rattle.list_passes.proofs.ClaimedWalks.{chain-walk}
 use Rattle.list_passes.proofs.TaskWalks.{all-fall, below-all, falling, falls-lists, falls-not, falls-on}
 use Rattle.list_passes.proofs.task_pass.priorities_fall.Goals as goal

@@ -1,13 +1,13 @@
 use Rattle.std.proofs.Common.{◌≡◌, ◌∙◌, ℕ, ◌+◌, ◌≤◌, cond, eqb, Bool, true, false, set, sym, ap, subst, arith}
 use Rattle.std.proofs.lemmas.Result.{err_from_is_err_and}
-use Rattle.block_calls.specs.KernelDispatch.HunkLoader.GlobalWords.{AreClear}
-use Rattle.block_calls.specs.KernelDispatch.HunkLoader.ModuleHunks.{module_end}
-use Rattle.block_calls.proofs.Shown.KernelDispatch.HunkLoader.HeldModuleLists.{held-modules}
-use Rattle.block_calls.specs.KernelDispatch.TaskBlock.Versions.{module_index, most_modules}
-use Rattle.block_calls.specs.KernelDispatch.KernelModel.Versions.{most_modules_of}
-use Rattle.block_calls.proofs.Shown.CallAnswers.FoundTask.{reads}
-use Rattle.block_calls.proofs.Shown.CallAnswers.MadeCalls.{handed-on}
-use Rattle.block_calls.proofs.Shown.CallAnswers.ListedModules.{module-told}
+use Rattle.task_calls.specs.KernelDispatch.HunkLoader.GlobalWords.{AreClear}
+use Rattle.task_calls.specs.KernelDispatch.HunkLoader.ModuleHunks.{module_end}
+use Rattle.task_calls.proofs.Shown.KernelDispatch.HunkLoader.HeldModuleLists.{held-modules}
+use Rattle.task_calls.specs.KernelDispatch.TaskBlock.Versions.{module_index, most_modules}
+use Rattle.task_calls.specs.KernelDispatch.KernelModel.Versions.{most_modules_of}
+use Rattle.task_calls.proofs.Shown.CallAnswers.FoundTask.{reads}
+use Rattle.task_calls.proofs.Shown.CallAnswers.MadeCalls.{handed-on}
+use Rattle.task_calls.proofs.Shown.CallAnswers.ListedModules.{module-told}
 use Rattle.module_calls.specs.AddModule.{add_module}
 use Rattle.module_calls.proofs.AddedModule.{globals-changed}
 use Rattle.module_calls.proofs.AdditionCall.{add-made, add-no_guest, add-packet, add-unchecked}

@@ -1,9 +1,9 @@
 use Rattle.std.proofs.Common.{◌≡◌, ◌∙◌, Bool, not, true, false, refl, sym}
 use Rattle.std.proofs.lemmas.Bool.{eq-eqb, ne_eqb}
-use Rattle.block_calls.proofs.Shown.KernelDispatch.HunkLoader.HeldModuleLists.{held-modules}
-use Rattle.block_calls.proofs.Shown.KernelDispatch.KernelModel.WalkedLists.{can-walk}
-use Rattle.block_calls.proofs.Shown.CallAnswers.FoundTask.{reads}
-use Rattle.block_calls.proofs.Shown.CallAnswers.ListedModules.{module-told}
+use Rattle.task_calls.proofs.Shown.KernelDispatch.HunkLoader.HeldModuleLists.{held-modules}
+use Rattle.task_calls.proofs.Shown.KernelDispatch.KernelModel.WalkedLists.{can-walk}
+use Rattle.task_calls.proofs.Shown.CallAnswers.FoundTask.{reads}
+use Rattle.task_calls.proofs.Shown.CallAnswers.ListedModules.{module-told}
 use Rattle.module_calls.proofs.AdditionTests.{count-told, dead-told, fits-told, heads-inside, room-told, tests-by, tests-not_dead}
 use Rattle.module_calls.proofs.addition.check_addition.Goals as goal
 

@@ -1,5 +1,5 @@
 use Rattle.std.proofs.Common.{arith}
-use Rattle.block_calls.proofs.Shown.KernelDispatch.HunkLoader.TextModules.{last_word_few, module_found}
+use Rattle.task_calls.proofs.Shown.KernelDispatch.HunkLoader.TextModules.{last_word_few, module_found}
 use Rattle.module_calls.proofs.loading.last_word.Goals as goal
 
 pub overflow_add-result : goal.overflow_add-result

@@ -1,22 +1,22 @@
 use Rattle.std.proofs.Common.{◌≡◌, ◌∙◌, ℕ, ◌+◌, List, Option, Some, None, Result, Ok, Err, refl, sym, ap, subst, arith}
 use Rattle.std.specs.Prelude.{IfErr, IfOk, IsOk}
 use Rattle.std.proofs.lemmas.Result.{err_from_is_err_and}
-use Rattle.block_calls.specs.KernelDispatch.GetvecChain.declared.pieces.Run.{Run}
-use Rattle.block_calls.specs.KernelDispatch.GetvecChain.Run.{first_run, need}
-use Rattle.block_calls.specs.KernelDispatch.GetvecChain.Tiling.{blocks_in}
+use Rattle.task_calls.specs.KernelDispatch.GetvecChain.declared.pieces.Run.{Run}
+use Rattle.task_calls.specs.KernelDispatch.GetvecChain.Run.{first_run, need}
+use Rattle.task_calls.specs.KernelDispatch.GetvecChain.Tiling.{blocks_in}
 use Rattle.hunk_text.specs.Shapes.{check_of}
 use Rattle.hunk_text.specs.declared.check.Shape.{Shape}
 use Rattle.hunk_text.specs.declared.modules.Module.{Module}
-use Rattle.block_calls.specs.KernelDispatch.HunkLoader.LoadOutcome.{IsLoaded, IsRefused}
-use Rattle.block_calls.specs.KernelDispatch.HunkLoader.declared.calls.LoadEnd.{LoadEnd}
-use Rattle.block_calls.specs.KernelDispatch.HunkLoader.declared.calls.LoadEnd.TheVariants.{Module as BadText, NoRoom}
-use Rattle.block_calls.proofs.Shown.KernelDispatch.HunkLoader.HeldModuleLists.{held-modules}
-use Rattle.block_calls.specs.KernelDispatch.KernelModel.ChangedStore.{Knows}
-use Rattle.block_calls.specs.CallAnswers.Made.{IsMade}
-use Rattle.block_calls.proofs.Shown.CallAnswers.FoundTask.{reads}
-use Rattle.block_calls.proofs.Shown.CallAnswers.MadeCalls.{handed-on}
-use Rattle.block_calls.specs.FreeStore.{with_taken}
-use Rattle.block_calls.proofs.Shown.KernelDispatch.WordKinds.OwnedMarks.{size-low}
+use Rattle.task_calls.specs.KernelDispatch.HunkLoader.LoadOutcome.{IsLoaded, IsRefused}
+use Rattle.task_calls.specs.KernelDispatch.HunkLoader.declared.calls.LoadEnd.{LoadEnd}
+use Rattle.task_calls.specs.KernelDispatch.HunkLoader.declared.calls.LoadEnd.TheVariants.{Module as BadText, NoRoom}
+use Rattle.task_calls.proofs.Shown.KernelDispatch.HunkLoader.HeldModuleLists.{held-modules}
+use Rattle.task_calls.specs.KernelDispatch.KernelModel.ChangedStore.{Knows}
+use Rattle.task_calls.specs.CallAnswers.Made.{IsMade}
+use Rattle.task_calls.proofs.Shown.CallAnswers.FoundTask.{reads}
+use Rattle.task_calls.proofs.Shown.CallAnswers.MadeCalls.{handed-on}
+use Rattle.task_calls.specs.BlockCalls.FreeStore.{with_taken}
+use Rattle.task_calls.proofs.Shown.KernelDispatch.WordKinds.OwnedMarks.{size-low}
 use Rattle.module_calls.specs.LoadModule.{load_module}
 use Rattle.module_calls.proofs.CheckedTexts.{code-low, no-module, one-module, text-shape}
 use Rattle.module_calls.proofs.LoadedModule.{load-inside, load-made, load-refused}

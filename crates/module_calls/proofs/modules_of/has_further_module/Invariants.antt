@@ -1,7 +1,7 @@
 use Rattle.std.proofs.Common.{◌≡◌, ◌+◌}
 use Rattle.std.specs.Prelude.{slice_range}
-use Rattle.block_calls.specs.KernelDispatch.LinkedList.Places.{has}
-use Rattle.block_calls.specs.KernelDispatch.TaskBlock.Versions.{head_words}
+use Rattle.task_calls.specs.KernelDispatch.LinkedList.Places.{has}
+use Rattle.task_calls.specs.KernelDispatch.TaskBlock.Versions.{head_words}
 use Rattle.module_calls.proofs.modules_of.has_further_module.Given as goal
 
 abbrev pub invariant-loop-i : goal.invariant-loop-i

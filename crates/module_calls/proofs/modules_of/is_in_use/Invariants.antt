@@ -1,7 +1,7 @@
 use Rattle.std.proofs.Common.{◌≡◌}
 use Rattle.std.specs.List.{AllByRecursion, list_any}
-use Rattle.block_calls.specs.KernelDispatch.LinkedList.Places.{has}
-use Rattle.block_calls.specs.KernelDispatch.TaskBlock.TaskChain.{tasks_in}
+use Rattle.task_calls.specs.KernelDispatch.LinkedList.Places.{has}
+use Rattle.task_calls.specs.KernelDispatch.TaskBlock.TaskChain.{tasks_in}
 use Rattle.module_calls.specs.ModuleFields.{IsTaskIn, module_fields}
 use Rattle.module_calls.proofs.modules_of.is_in_use.Given as goal
 

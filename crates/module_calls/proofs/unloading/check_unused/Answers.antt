@@ -1,7 +1,7 @@
 use Rattle.std.proofs.Common.{◌∙◌, true, false, sym, ap}
-use Rattle.block_calls.proofs.Shown.KernelDispatch.KernelModel.WalkedLists.{can-walk}
-use Rattle.block_calls.specs.CallAnswers.Refusals.{answer_of}
-use Rattle.block_calls.proofs.Shown.CallAnswers.ListedModules.{module-told}
+use Rattle.task_calls.proofs.Shown.KernelDispatch.KernelModel.WalkedLists.{can-walk}
+use Rattle.task_calls.specs.CallAnswers.Refusals.{answer_of}
+use Rattle.task_calls.proofs.Shown.CallAnswers.ListedModules.{module-told}
 use Rattle.module_calls.proofs.ModuleUses.{module-some, tasks-inside, tests-no_module, tests-use, use-told}
 use Rattle.module_calls.proofs.unloading.check_unused.Goals as goal
 

@@ -1,18 +1,18 @@
 use Rattle.std.proofs.Common.{◌≡◌, ◌∙◌, ℕ, ◌+◌, ◌-◌, List, Bool, true, false, Result, Ok, Err, length, get_or, refl, ap, subst, arith}
 use Rattle.std.specs.Prelude.{IsOk, OnErr, OnOk}
 use Rattle.std.proofs.lemmas.Result.{err_from_is_err_and}
-use Rattle.block_calls.specs.KernelDispatch.GetvecChain.Block.{block_end}
-use Rattle.block_calls.specs.KernelDispatch.GetvecChain.Give.{given_store}
-use Rattle.block_calls.proofs.Shown.KernelDispatch.HunkLoader.HeldModuleLists.{held-modules}
-use Rattle.block_calls.specs.KernelDispatch.LinkedList.Places.{without_node}
-use Rattle.block_calls.specs.KernelDispatch.TaskBlock.Lists.{module_link}
-use Rattle.block_calls.specs.KernelDispatch.KernelModel.HoldsLists.{HoldsLists}
-use Rattle.block_calls.specs.KernelDispatch.KernelModel.Lists.{Lists}
-use Rattle.block_calls.specs.CallAnswers.Refusals.{answer_of, first_refusal}
-use Rattle.block_calls.proofs.Shown.CallAnswers.FoundTask.{reads}
-use Rattle.block_calls.proofs.Shown.CallAnswers.Refusals.{answer_of-err, answer_of-ok}
-use Rattle.block_calls.proofs.Shown.CallAnswers.MadeCalls.{handed-plain}
-use Rattle.block_calls.proofs.Shown.CallAnswers.ListedModules.{module-told}
+use Rattle.task_calls.specs.KernelDispatch.GetvecChain.Block.{block_end}
+use Rattle.task_calls.specs.KernelDispatch.GetvecChain.Give.{given_store}
+use Rattle.task_calls.proofs.Shown.KernelDispatch.HunkLoader.HeldModuleLists.{held-modules}
+use Rattle.task_calls.specs.KernelDispatch.LinkedList.Places.{without_node}
+use Rattle.task_calls.specs.KernelDispatch.TaskBlock.Lists.{module_link}
+use Rattle.task_calls.specs.KernelDispatch.KernelModel.HoldsLists.{HoldsLists}
+use Rattle.task_calls.specs.KernelDispatch.KernelModel.Lists.{Lists}
+use Rattle.task_calls.specs.CallAnswers.Refusals.{answer_of, first_refusal}
+use Rattle.task_calls.proofs.Shown.CallAnswers.FoundTask.{reads}
+use Rattle.task_calls.proofs.Shown.CallAnswers.Refusals.{answer_of-err, answer_of-ok}
+use Rattle.task_calls.proofs.Shown.CallAnswers.MadeCalls.{handed-plain}
+use Rattle.task_calls.proofs.Shown.CallAnswers.ListedModules.{module-told}
 use Rattle.module_calls.specs.UnloadModule.{unload_module, use_tests}
 use Rattle.module_calls.proofs.GoneModule.{numbers, own_block, place, unload-made, unload-packet, unload-refused}
 use Rattle.module_calls.proofs.ModuleUses.{IsUnused, tests-passed}

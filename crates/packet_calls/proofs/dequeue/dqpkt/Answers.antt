@@ -1,7 +1,7 @@
 use Rattle.std.proofs.Common.{Err, sym, ap, ◌∙◌, subst}
 use Rattle.std.proofs.lemmas.Result.{err_from_is_err_and}
-use Rattle.block_calls.specs.KernelDispatch.PacketQueue.Log.{Notes}
-use Rattle.block_calls.specs.CallAnswers.Made.{IsMade}
+use Rattle.module_calls.specs.KernelDispatch.PacketQueue.Log.{Notes}
+use Rattle.module_calls.specs.CallAnswers.Made.{IsMade}
 use Rattle.packet_calls.specs.Dqpkt.{dqpkt}
 use Rattle.packet_calls.proofs.DequeueCall.{found-packet, found-queue, is-dequeued, is-noted, not-dequeued, not-noted, not-queued, nowhere, residents-own, some-found}
 use Rattle.packet_calls.proofs.NamedQueues.{Names, names-none, names-some, queue-none, queue-some}

@@ -1,8 +1,8 @@
 use Rattle.std.proofs.Common.{true, false, Some, None, cond, option_map, sym, ap, ◌∙◌, subst, ◌≡◌}
-use Rattle.block_calls.specs.KernelDispatch.LinkedList.Places.{has}
-use Rattle.block_calls.specs.KernelDispatch.PacketQueue.Queue.{HasQueue, queue_at}
-use Rattle.block_calls.specs.KernelDispatch.KernelModel.Changes.{queue_of}
-use Rattle.block_calls.specs.KernelDispatch.KernelModel.ValidQueues.Place.{Work}
+use Rattle.module_calls.specs.KernelDispatch.LinkedList.Places.{has}
+use Rattle.module_calls.specs.KernelDispatch.PacketQueue.Queue.{HasQueue, queue_at}
+use Rattle.module_calls.specs.KernelDispatch.KernelModel.Changes.{queue_of}
+use Rattle.module_calls.specs.KernelDispatch.KernelModel.ValidQueues.Place.{Work}
 use Rattle.packet_calls.specs.Dqpkt.{Search, located}
 use Rattle.packet_calls.specs.PacketMoves.{stands_in}
 use Rattle.packet_calls.specs.QueueWords.{head_of}

@@ -1,8 +1,8 @@
 use Rattle.std.proofs.Common.{◌≡◌, true, false, Some, option_map, sym, ap, ◌∙◌, subst}
-use Rattle.block_calls.specs.KernelDispatch.LinkedList.Places.{has}
-use Rattle.block_calls.specs.KernelDispatch.PacketQueue.Queue.{HasQueue, queue_at}
-use Rattle.block_calls.specs.KernelDispatch.KernelModel.Changes.{queue_of}
-use Rattle.block_calls.specs.KernelDispatch.KernelModel.ValidQueues.Place.{Pending}
+use Rattle.module_calls.specs.KernelDispatch.LinkedList.Places.{has}
+use Rattle.module_calls.specs.KernelDispatch.PacketQueue.Queue.{HasQueue, queue_at}
+use Rattle.module_calls.specs.KernelDispatch.KernelModel.Changes.{queue_of}
+use Rattle.module_calls.specs.KernelDispatch.KernelModel.ValidQueues.Place.{Pending}
 use Rattle.packet_calls.specs.Destinations.{place_of}
 use Rattle.packet_calls.specs.Dqpkt.{located}
 use Rattle.packet_calls.specs.PacketMoves.{stands_in}

@@ -1,5 +1,5 @@
 use Rattle.std.proofs.Common.{not, eqb, ap, ◌∙◌, is_some}
-use Rattle.block_calls.proofs.Shown.CallAnswers.FoundTask.{reads}
+use Rattle.module_calls.proofs.Shown.CallAnswers.FoundTask.{reads}
 use Rattle.packet_calls.proofs.Searches.{fault-told, key-told}
 use Rattle.packet_calls.proofs.dequeue.is_residents_packet.Goals as goal
 

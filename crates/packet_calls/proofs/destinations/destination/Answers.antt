@@ -1,5 +1,5 @@
 use Rattle.std.proofs.Common.{None, Some, ◌∙◌, sym, subst}
-use Rattle.block_calls.proofs.Shown.CallAnswers.FoundTask.{Finds, find-task, reads}
+use Rattle.module_calls.proofs.Shown.CallAnswers.FoundTask.{Finds, find-task, reads}
 use Rattle.packet_calls.proofs.NamedQueues.{names-task}
 use Rattle.packet_calls.proofs.destinations.destination.Goals as goal
 

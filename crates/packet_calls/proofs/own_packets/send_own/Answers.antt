@@ -1,8 +1,8 @@
 use Rattle.std.proofs.Common.{◌∙◌, sym, ap, subst}
 use Rattle.std.proofs.Math.Facts.{to_z-of_z}
 use Rattle.word_store.specs.Arithmetic.{signed, word_of}
-use Rattle.block_calls.specs.KernelDispatch.PacketQueue.Log.{Notes}
-use Rattle.block_calls.specs.KernelDispatch.PacketQueue.declared.events.KernelEvent.TheVariants.{Accepted}
+use Rattle.module_calls.specs.KernelDispatch.PacketQueue.Log.{Notes}
+use Rattle.module_calls.specs.KernelDispatch.PacketQueue.declared.events.KernelEvent.TheVariants.{Accepted}
 use Rattle.packet_calls.specs.Destinations.{destination_of}
 use Rattle.packet_calls.proofs.OwnPackets.{keys-sent, own-noted, own-nowhere, own-packet, own-queue, own-room, task-sent}
 use Rattle.packet_calls.proofs.own_packets.send_own.Goals as goal

@@ -1,6 +1,6 @@
 use Rattle.std.proofs.Common.{◌≡◌}
-use Rattle.block_calls.specs.KernelDispatch.LinkedList.Places.{has}
-use Rattle.block_calls.specs.KernelDispatch.PacketQueue.Queue.{queue_at}
+use Rattle.module_calls.specs.KernelDispatch.LinkedList.Places.{has}
+use Rattle.module_calls.specs.KernelDispatch.PacketQueue.Queue.{queue_at}
 use Rattle.packet_calls.proofs.queues.is_linked.Given as goal
 
 abbrev pub invariant-loop-q : goal.invariant-loop-q

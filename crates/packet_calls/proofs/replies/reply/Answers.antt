@@ -1,11 +1,11 @@
 use Rattle.std.proofs.Common.{◌≡◌, ◌∙◌, sym, ap, subst}
 use Rattle.std.proofs.Math.Facts.{to_z-of_z}
 use Rattle.word_store.specs.Arithmetic.{signed, word_of}
-use Rattle.block_calls.specs.KernelDispatch.PacketQueue.Log.{Notes}
-use Rattle.block_calls.specs.KernelDispatch.PacketQueue.Queue.{CanQueue, HasQueue}
-use Rattle.block_calls.specs.KernelDispatch.PacketQueue.declared.events.KernelEvent.TheVariants.{Accepted}
-use Rattle.block_calls.specs.KernelDispatch.KernelModel.Task.{queue_head}
-use Rattle.block_calls.proofs.Shown.CallAnswers.FoundTask.{reads}
+use Rattle.module_calls.specs.KernelDispatch.PacketQueue.Log.{Notes}
+use Rattle.module_calls.specs.KernelDispatch.PacketQueue.Queue.{CanQueue, HasQueue}
+use Rattle.module_calls.specs.KernelDispatch.PacketQueue.declared.events.KernelEvent.TheVariants.{Accepted}
+use Rattle.module_calls.specs.KernelDispatch.KernelModel.Task.{queue_head}
+use Rattle.module_calls.proofs.Shown.CallAnswers.FoundTask.{reads}
 use Rattle.packet_calls.specs.QueueWords.{enqueued, with_results}
 use Rattle.packet_calls.specs.declared.queues.Queue.TheVariants.{Work}
 use Rattle.packet_calls.proofs.ReplyCall.{is-noted, is-returned, reply-nobody, reply-packet, reply-queue}

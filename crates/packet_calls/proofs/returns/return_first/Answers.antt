@@ -1,19 +1,19 @@
 use Rattle.std.proofs.Common.{◌≡◌, ◌≢◌, ◌∙◌, ◌+◌, ℕ, List, [], ◌∷◌, Option, Some, None, Bool, true, eqb, get_or, refl, sym, subst, ap}
 use Rattle.std.proofs.lemmas.Bool.{eq-eqb, false≢true, or_left}
 use Rattle.word_store.specs.Arithmetic.{signed}
-use Rattle.block_calls.specs.KernelDispatch.LinkedList.Places.{has}
-use Rattle.block_calls.specs.KernelDispatch.PacketQueue.Log.{Notes}
-use Rattle.block_calls.specs.KernelDispatch.PacketQueue.declared.events.KernelEvent.{KernelEvent}
-use Rattle.block_calls.specs.KernelDispatch.PacketQueue.declared.events.KernelEvent.TheVariants.{Accepted, Taken}
-use Rattle.block_calls.specs.KernelDispatch.PacketQueue.Queue.{CanQueue, HasQueue, queue_at}
-use Rattle.block_calls.specs.KernelDispatch.PacketQueue.QueueWords.{HeldQueue}
-use Rattle.block_calls.specs.KernelDispatch.TaskBlock.TaskChain.{task_with, tasks_in}
-use Rattle.block_calls.specs.KernelDispatch.KernelModel.Changes.{queue_of}
-use Rattle.block_calls.specs.KernelDispatch.KernelModel.HoldsLists.{HoldsLists}
-use Rattle.block_calls.specs.KernelDispatch.KernelModel.Lists.{Lists}
-use Rattle.block_calls.specs.KernelDispatch.KernelModel.NotedEvents.{NotesAll}
-use Rattle.block_calls.proofs.Shown.KernelDispatch.KernelModel.NotedInTurn.{notes-none, notes-one, notes-then}
-use Rattle.block_calls.proofs.Shown.CallAnswers.FoundTask.{Finds, TaskAt, find-task, reads}
+use Rattle.module_calls.specs.KernelDispatch.LinkedList.Places.{has}
+use Rattle.module_calls.specs.KernelDispatch.PacketQueue.Log.{Notes}
+use Rattle.module_calls.specs.KernelDispatch.PacketQueue.declared.events.KernelEvent.{KernelEvent}
+use Rattle.module_calls.specs.KernelDispatch.PacketQueue.declared.events.KernelEvent.TheVariants.{Accepted, Taken}
+use Rattle.module_calls.specs.KernelDispatch.PacketQueue.Queue.{CanQueue, HasQueue, queue_at}
+use Rattle.module_calls.specs.KernelDispatch.PacketQueue.QueueWords.{HeldQueue}
+use Rattle.module_calls.specs.KernelDispatch.TaskBlock.TaskChain.{task_with, tasks_in}
+use Rattle.module_calls.specs.KernelDispatch.KernelModel.Changes.{queue_of}
+use Rattle.module_calls.specs.KernelDispatch.KernelModel.HoldsLists.{HoldsLists}
+use Rattle.module_calls.specs.KernelDispatch.KernelModel.Lists.{Lists}
+use Rattle.module_calls.specs.KernelDispatch.KernelModel.NotedEvents.{NotesAll}
+use Rattle.module_calls.proofs.Shown.KernelDispatch.KernelModel.NotedInTurn.{notes-none, notes-one, notes-then}
+use Rattle.module_calls.proofs.Shown.CallAnswers.FoundTask.{Finds, TaskAt, find-task, reads}
 use Rattle.packet_calls.specs.Destinations.{queue_for}
 use Rattle.packet_calls.specs.PacketMoves.{stands_in}
 use Rattle.packet_calls.specs.QueueWords as moves

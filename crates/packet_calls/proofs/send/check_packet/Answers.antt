@@ -1,7 +1,7 @@
 use Rattle.std.proofs.Common.{true, false, sym, ap, ◌∙◌}
 use Rattle.std.proofs.lemmas.Bool.{eq-eqb, false_from_ne_true, false≢true}
-use Rattle.block_calls.specs.KernelDispatch.PacketQueue.Queue.{no_queue}
-use Rattle.block_calls.specs.CallAnswers.Refusals.{answer_of}
+use Rattle.module_calls.specs.KernelDispatch.PacketQueue.Queue.{no_queue}
+use Rattle.module_calls.specs.CallAnswers.Refusals.{answer_of}
 use Rattle.packet_calls.specs.Qpkt.{is_plain}
 use Rattle.packet_calls.proofs.PacketTests.{plain-unowned, tests-are, unowned-plain}
 use Rattle.packet_calls.proofs.send.check_packet.Goals as goal

@@ -1,8 +1,8 @@
 use Rattle.std.proofs.Common.{false, not, ◌+◌, ◌&&◌, sym, ap, ◌∙◌}
 use Rattle.std.specs.Option.{option_map_or}
-use Rattle.block_calls.specs.KernelDispatch.GetvecChain.Block.{has_data}
-use Rattle.block_calls.specs.KernelDispatch.GetvecChain.Tiling.{blocks_in, holding}
-use Rattle.block_calls.proofs.Shown.CallAnswers.FoundTask.{reads}
+use Rattle.module_calls.specs.KernelDispatch.GetvecChain.Block.{has_data}
+use Rattle.module_calls.specs.KernelDispatch.GetvecChain.Tiling.{blocks_in, holding}
+use Rattle.module_calls.proofs.Shown.CallAnswers.FoundTask.{reads}
 use Rattle.packet_calls.proofs.PacketTests.{found-passes}
 use Rattle.packet_calls.proofs.send.is_lodged.Goals as goal
 

@@ -1,11 +1,11 @@
 use Rattle.std.proofs.Common.{◌+◌, Err, get_or, sym, ap, ◌∙◌, subst}
 use Rattle.std.proofs.lemmas.Result.{err_from_is_err_and}
 use Rattle.word_store.specs.Arithmetic.{signed}
-use Rattle.block_calls.specs.KernelDispatch.PacketQueue.Log.{Notes}
-use Rattle.block_calls.specs.KernelDispatch.PacketQueue.declared.events.KernelEvent.TheVariants.{Accepted}
-use Rattle.block_calls.specs.CallAnswers.Made.{IsMade, plain_answer}
-use Rattle.block_calls.specs.CallAnswers.Refusals.{first_refusal}
-use Rattle.block_calls.proofs.Shown.CallAnswers.Refusals.{answer_of-ok}
+use Rattle.module_calls.specs.KernelDispatch.PacketQueue.Log.{Notes}
+use Rattle.module_calls.specs.KernelDispatch.PacketQueue.declared.events.KernelEvent.TheVariants.{Accepted}
+use Rattle.module_calls.specs.CallAnswers.Made.{IsMade, plain_answer}
+use Rattle.module_calls.specs.CallAnswers.Refusals.{first_refusal}
+use Rattle.module_calls.proofs.Shown.CallAnswers.Refusals.{answer_of-ok}
 use Rattle.packet_calls.specs.Destinations.{destination_of}
 use Rattle.packet_calls.specs.Qpkt.{packet_tests, qpkt}
 use Rattle.packet_calls.proofs.NamedQueues.{names-none, names-some, queue-none, queue-some}

@@ -1,8 +1,8 @@
 use Rattle.std.proofs.Common.{◌∙◌, sym, subst, arith}
 use Rattle.word_store.specs.Arithmetic.{signed}
-use Rattle.block_calls.specs.KernelDispatch.PacketQueue.Log.{Notes}
-use Rattle.block_calls.specs.KernelDispatch.PacketQueue.declared.events.KernelEvent.TheVariants.{Taken}
-use Rattle.block_calls.specs.KernelDispatch.KernelModel.Lists.{Lists}
+use Rattle.module_calls.specs.KernelDispatch.PacketQueue.Log.{Notes}
+use Rattle.module_calls.specs.KernelDispatch.PacketQueue.declared.events.KernelEvent.TheVariants.{Taken}
+use Rattle.module_calls.specs.KernelDispatch.KernelModel.Lists.{Lists}
 use Rattle.packet_calls.proofs.CallerTask.{caller-low, caller-runs, caller-state}
 use Rattle.packet_calls.proofs.WaitCall.{none-first, none-noted, none-waits, some-noted, some-taken, taken-first, wait-packet, wait-queue}
 use Rattle.packet_calls.proofs.wait.taskwait.Goals as goal

@@ -1,10 +1,10 @@
 use Rattle.std.proofs.Common.{◌∙◌, Some, take, sym, subst}
-use Rattle.resident_requests.specs.KernelCalls.KernelModel.NotedEvents.{NotesAll}
-use Rattle.resident_requests.specs.Answers.{answered}
-use Rattle.resident_requests.specs.Requests.{taken}
-use Rattle.resident_requests.specs.Turns.{CanServe, IsServed, Served}
-use Rattle.resident_requests.proofs.ResidentTurns.{keeper-taken, turn-idle, turn-served}
-use Rattle.resident_requests.proofs.TakenRequest.{taken-running}
+use Rattle.file_handler.specs.KernelCalls.KernelModel.NotedEvents.{NotesAll}
+use Rattle.file_handler.specs.ResidentRequests.Answers.{answered}
+use Rattle.file_handler.specs.ResidentRequests.Requests.{taken}
+use Rattle.file_handler.specs.ResidentRequests.Turns.{CanServe, IsServed, Served}
+use Rattle.file_handler.proofs.Shown.ResidentRequests.ResidentTurns.{keeper-taken, turn-idle, turn-served}
+use Rattle.file_handler.proofs.Shown.ResidentRequests.TakenRequest.{taken-running}
 use Rattle.pipe_handler.specs.PipeTurns.{pipe_request, pipe_service}
 use Rattle.pipe_handler.proofs.PipeTurns.{can-serve, same-service}
 use Rattle.pipe_handler.proofs.turns.pipe_turn.Goals as goal

@@ -1,11 +1,11 @@
 use Rattle.std.proofs.Common.{◌∙◌, ◌+◌, ◌%◌, ◌++◌, [], ◌∷◌, get_or, sym, subst, ap, append-nil}
-use Rattle.kernel_calls.specs.KernelModel.NotedEvents.{NotesAll}
-use Rattle.kernel_calls.proofs.Shown.KernelModel.NotedInTurn.{notes-none}
-use Rattle.kernel_calls.proofs.Shown.PacketCalls.HeldPlaces.{HasFirst}
+use Rattle.clock_device.specs.KernelCalls.KernelModel.NotedEvents.{NotesAll}
+use Rattle.clock_device.proofs.Shown.KernelCalls.KernelModel.NotedInTurn.{notes-none}
+use Rattle.clock_device.proofs.Shown.KernelCalls.PacketCalls.HeldPlaces.{HasFirst}
 use Rattle.tty_device.specs.Printed.{printed}
-use Rattle.kernel_calls.specs.PacketCalls.Returned.{IsServed}
-use Rattle.kernel_calls.specs.PacketCalls.declared.returns.Device.TheVariants.{Output}
-use Rattle.kernel_calls.proofs.Shown.PacketCalls.DeviceQueues.{none-waits, one-waits, returned-none, served-none}
+use Rattle.clock_device.specs.KernelCalls.PacketCalls.Returned.{IsServed}
+use Rattle.clock_device.specs.KernelCalls.PacketCalls.declared.returns.Device.TheVariants.{Output}
+use Rattle.clock_device.proofs.Shown.KernelCalls.PacketCalls.DeviceQueues.{none-waits, one-waits, returned-none, served-none}
 use Rattle.tty_device.proofs.output.finish_output.Goals as goal
 
 pub returns-then-p-eq0-clause-lists : goal.returns-then-p-eq0-clause-lists

@@ -1,14 +1,14 @@
 use Rattle.std.proofs.Common.{◌≡◌, ◌∙◌, ℕ, List, [], ◌∷◌, Some, None, drop, refl, sym, subst, ap}
 use Rattle.std.specs.Prelude.{slice_get}
-use Rattle.kernel_calls.specs.KernelModel.NotedEvents.{NotesAll}
-use Rattle.kernel_calls.specs.KernelModel.Lists.{Lists}
-use Rattle.kernel_calls.proofs.Shown.KernelModel.NotedInTurn.{notes-none}
-use Rattle.kernel_calls.specs.PacketQueue.QueueWords.{QueuedPacket}
-use Rattle.kernel_calls.proofs.Shown.PacketCalls.HeldPlaces.{HasFirst}
+use Rattle.clock_device.specs.KernelCalls.KernelModel.NotedEvents.{NotesAll}
+use Rattle.clock_device.specs.KernelCalls.KernelModel.Lists.{Lists}
+use Rattle.clock_device.proofs.Shown.KernelCalls.KernelModel.NotedInTurn.{notes-none}
+use Rattle.clock_device.specs.KernelCalls.PacketQueue.QueueWords.{QueuedPacket}
+use Rattle.clock_device.proofs.Shown.KernelCalls.PacketCalls.HeldPlaces.{HasFirst}
 use Rattle.tty_device.specs.Keys.{left_typed, met}
-use Rattle.kernel_calls.specs.PacketCalls.Returned.{IsServed, Served, first_returned, unserved}
-use Rattle.kernel_calls.specs.PacketCalls.declared.returns.Device.TheVariants.{Keyboard}
-use Rattle.kernel_calls.proofs.Shown.PacketCalls.DeviceQueues.{none-waits, one-waits, served-none}
+use Rattle.clock_device.specs.KernelCalls.PacketCalls.Returned.{IsServed, Served, first_returned, unserved}
+use Rattle.clock_device.specs.KernelCalls.PacketCalls.declared.returns.Device.TheVariants.{Keyboard}
+use Rattle.clock_device.proofs.Shown.KernelCalls.PacketCalls.DeviceQueues.{none-waits, one-waits, served-none}
 use Rattle.tty_device.proofs.typed.Tty.meet.Goals as goal
 
 -- with no packet, or no byte, nothing is done

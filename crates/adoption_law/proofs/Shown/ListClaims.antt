@@ -1,0 +1,2 @@
+-- Lemmas of `list_claims`.
+pub use Rattle.list_claims.proofs.ListAnswers

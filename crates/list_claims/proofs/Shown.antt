@@ -1,0 +1,3 @@
+-- Lemmas of lower crates, shown to the crates above.
+pub mod KernelDispatch
+pub mod WordClaims
