@@ -12,10 +12,10 @@ ghost use Rattle.show_run.specs.ShownAnswers.{machine_answer, session_answer};
 
 use crate::Show;
 use crate::machines::show_machine;
-use step_log::{BootEnd, boot};
 use program_answers::{Status, TextAnswers, status_after, write_no_boot, write_refused};
 use session_text::{Session, SessionEnd, read_session};
 use std::alloc::Global;
+use step_log::{BootEnd, boot};
 use tp_io::Sink;
 
 impl TextAnswers for Show {

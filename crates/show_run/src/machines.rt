@@ -8,9 +8,8 @@ ghost use Rattle.step_log.specs.TriposMachine.Step.{run};
 ghost use Rattle.show_run.specs.ShownAnswers.{first_lines, log_of, shown_text, state_of};
 
 use crate::Show;
-use step_log::{Machine, NoLog};
 use state_text::gather_state;
-use step_log::{gather_boot, gather_steps};
+use step_log::{Machine, NoLog, gather_boot, gather_steps};
 use tp_io::{NoSink, Output, Sink, SinkFault, pass_on};
 
 /// Takes the steps of a machine that was booted just now, at most so many, and shows what is asked for.

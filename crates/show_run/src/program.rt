@@ -34,12 +34,7 @@ pub fn run<R: Read + Drop, W: Write + Drop>(
 }
 
 /// Shows what the words of the command line ask for, of the session that is all that the source has left.
-pub fn show<S: Source, K: Sink>(
-    alloc: Global,
-    words: &[String],
-    src: &mut S,
-    out: &mut K,
-) -> Status
+pub fn show<S: Source, K: Sink>(alloc: Global, words: &[String], src: &mut S, out: &mut K) -> Status
     // The status and the bytes are those of the answer to the words and the input, which is all that
     // the source had left.
     ensures answer { (input : List ℕ) × IsInput (S.left src.old) input
@@ -68,8 +63,5 @@ fn write_usage<K: Sink>(out: &mut K) -> Result<(), SinkFault>
     ensures text { Prints (K.holds out.old) (K.holds out.new) usage_text result }
     ensures cause { HasCause (K.faults out.old) (K.faults out.new) result }
 {
-    write_text(
-        out,
-        b"* usage: tripos_show state, log, or log FIRST LAST\n",
-    )
+    write_text(out, b"* usage: tripos_show state, log, or log FIRST LAST\n")
 }
