@@ -1,6 +1,6 @@
 -- What the words of a store say of its kernel's queues and blocks.
 use Rattle.std.proofs.Common.{◌≡◌, ℕ, ◌==◌, Bool, true, false, Option, Some, None, List, [], ◌∷◌, map, refl, sym, ap, ◌∙◌, subst}
-use Rattle.std.specs.Prelude.{if◌then◌else◌, unwrap_or}
+use Rattle.std.specs.Prelude.{if◌then◌else◌, slice_index, unwrap_or}
 use Rattle.std.specs.List.{AllByRecursion}
 use Rattle.std.specs.Option.{option_map}
 use Rattle.machine_history.specs.TriposMachine.KernelCalls.GetvecChain.Tiling.{IsTiled, blocks_in}
@@ -12,6 +12,8 @@ use Rattle.machine_history.specs.TriposMachine.KernelCalls.KernelModel.Task.{que
 use Rattle.machine_history.specs.TriposMachine.KernelCalls.PacketCalls.declared.queues.Queue.TheVariants.{Clock, Keyboard, Output, Work}
 use Rattle.machine_history.specs.TriposMachine.KernelCalls.PacketQueue.Queue.{HasQueue}
 use Rattle.machine_history.specs.TriposMachine.KernelCalls.PacketQueue.QueueWords.{QueuedPacket}
+use Rattle.machine_history.specs.TriposMachine.KernelCalls.TaskBlock.RootWords.{root_address}
+use Rattle.machine_history.specs.TriposMachine.KernelCalls.TaskBlock.declared.roots.RootField.TheVariants.{Tick}
 use Rattle.machine_history.specs.TriposMachine.KernelCalls.TaskBlock.TaskChain.{HasTasks, id_in, task_with, tasks_in}
 use Rattle.machine_history.proofs.Shown.KernelCalls.KernelModel.Reading.{read-lists}
 use Rattle.machine_history.proofs.Shown.KernelCalls.KernelModel.RecoveredLists.{lists-back}
@@ -48,7 +50,7 @@ module _ (s : List ℕ) (l : Lists) (h : HoldsLists s l) where
   back : lists_in s ≡ l
   back = lists-back s l h.valid h.size h.holds
 
-  tasks-back : map (task_in s) (tasks_in s) ≡ l.tasks
+  pub tasks-back : map (task_in s) (tasks_in s) ≡ l.tasks
   unfolding lists_in
   tasks-back = ap (λ (m : Lists). m.tasks) back
 
@@ -63,6 +65,10 @@ module _ (s : List ℕ) (l : Lists) (h : HoldsLists s l) where
       stands : (o : Option ℕ) → task_with s id (tasks_in s) ≡ o → Leads s (option_map Work o) (option_map (queue_in s) o)
       stands None none = tt
       stands (Some t) some = (queue-stands s id (tasks_in s) t some walks.tasks, refl)
+
+  pub tick-back : slice_index s (root_address Tick) ≡ l.tick
+  unfolding lists_in
+  tick-back = ap (λ (m : Lists). m.tick) back
 
   -- ---- devices
 

@@ -11,7 +11,7 @@ pub mod lines;
 pub mod orders;
 pub mod places;
 mod queues;
-mod runs;
+pub mod runs;
 pub mod sessions;
 mod tasks;
 pub mod words;
@@ -22,6 +22,7 @@ pub use instructions::gather_instructions;
 pub use lines::{check_lines, goes_back};
 pub use orders::{BadLine, Order};
 pub use places::gather_registers;
+pub use runs::is_guest_next;
 pub use sessions::debug;
 pub use words::gather_word;
 

@@ -118,8 +118,8 @@ fn is_at(machine: &Machine, stops: &Breakpoints) -> bool
     pc != 0 && stops.has(pc) && is_guest_next(machine)
 }
 
-// Whether a guest is the next to do something; on a machine without a kernel every instruction is a guest's.
-fn is_guest_next(machine: &Machine) -> bool
+/// Whether a guest is the next to do something; on a machine without a kernel every instruction is a guest's.
+pub fn is_guest_next(machine: &Machine) -> bool
     ensures { result ≡ is_guest_next machine.now.state }
 {
     machine.kernel_parts().is_none() || machine.running() >= FIRST_GUEST

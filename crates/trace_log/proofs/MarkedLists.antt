@@ -1,8 +1,9 @@
 -- Lists that begin with marks.
-use Rattle.std.proofs.Common.{◌≡◌, ◌∙◌, ℕ, Bool, Option, None, Some, List, [], ◌∷◌, ◌++◌, refl, ap, append_assoc}
+use Rattle.std.proofs.Common.{◌≡◌, ◌∙◌, ℕ, Bool, Option, None, Some, List, [], ◌∷◌, ◌++◌, refl, sym, ap, append_assoc}
 use Rattle.kernel_dispatch.specs.KernelModel.NotedEvents.{NotesAll}
 use Rattle.kernel_dispatch.specs.PacketQueue.declared.events.KernelEvent.{KernelEvent}
-use Rattle.trace_log.specs.Marks.{byte_marks, marks, number_marks}
+use Rattle.kernel_dispatch.specs.PacketQueue.declared.events.KernelEvent.TheVariants.{Runs}
+use Rattle.trace_log.specs.Marks.{Kept, byte_marks, marks, number_marks}
 
 number_marks-same : (ns ms : List ℕ) (es fs : List KernelEvent) → number_marks ns ++ es ≡ number_marks ms ++ fs → (ns ≡ ms) × (es ≡ fs)
 number_marks-same [] [] es fs e = (refl, cc e)
@@ -23,24 +24,37 @@ byte_marks-same (Some ns) (Some ms) es fs e =
     let same = number_marks-same ns ms es fs rest in
     (ap Some same.0, same.1)
 
+-- what a log keeps, one after another, and its events
+marks-split : (k : Kept) (es : List KernelEvent) → marks k ++ es ≡ Runs k.name ∷ Runs k.faults ∷ byte_marks k.first ++ (number_marks k.before ++ (number_marks k.numbers ++ es))
+marks-split k es =
+    let first = byte_marks k.first in
+    let before = number_marks k.before in
+    let numbers = number_marks k.numbers in
+    ap (λ v. Runs k.name ∷ Runs k.faults ∷ v) (append_assoc first (before ++ numbers) es ∙ ap (λ v. first ++ v) (append_assoc before numbers es))
+
 -- two lists that begin alike
-pub record IsMarkedAs (n m c d : ℕ) (h k : Option (List ℕ)) (es fs : List KernelEvent) : Type 0 where
-  pub name : n ≡ m
-  pub faults : c ≡ d
-  pub first : h ≡ k
+pub record IsMarkedAs (k m : Kept) (es fs : List KernelEvent) : Type 0 where
+  pub name : k.name ≡ m.name
+  pub faults : k.faults ≡ m.faults
+  pub first : k.first ≡ m.first
+  pub before : k.before ≡ m.before
+  pub numbers : k.numbers ≡ m.numbers
   pub rest : es ≡ fs
 
-pub marks-same : (n m c d : ℕ) (h k : Option (List ℕ)) (es fs : List KernelEvent) → marks n c h ++ es ≡ marks m d k ++ fs → IsMarkedAs n m c d h k es fs
-marks-same n m c d h k es fs e =
-    let tail : byte_marks h ++ es ≡ byte_marks k ++ fs = cc e in
-    let same = byte_marks-same h k es fs tail in
-    record { name = cc e; faults = cc e; first = same.0; rest = same.1 }
+pub marks-same : (k m : Kept) (es fs : List KernelEvent) → marks k ++ es ≡ marks m ++ fs → IsMarkedAs k m es fs
+marks-same k m es fs e =
+    let split = sym (marks-split k es) ∙ e ∙ marks-split m fs in
+    let tail : byte_marks k.first ++ (number_marks k.before ++ (number_marks k.numbers ++ es)) ≡ byte_marks m.first ++ (number_marks m.before ++ (number_marks m.numbers ++ fs)) = cc split in
+    let first = byte_marks-same k.first m.first _ _ tail in
+    let before = number_marks-same k.before m.before _ _ first.1 in
+    let numbers = number_marks-same k.numbers m.numbers es fs before.1 in
+    record { name = cc split; faults = cc split; first = first.0; before = before.0; numbers = numbers.0; rest = numbers.1 }
 
 -- a log that has gained events still has its marks
-module _ (n m c d : ℕ) (h k : Option (List ℕ)) (es fs : List KernelEvent) (had_failed has_failed : Bool) (events : List KernelEvent)
-    (all : NotesAll (Some (marks n c h ++ es)) (Some (marks m d k ++ fs)) had_failed has_failed events) where
-  pub marked : IsMarkedAs m n d c k h fs (es ++ all.front)
-  marked = marks-same m n d c k h fs (es ++ all.front) (cc all.gained ∙ append_assoc (marks n c h) es all.front)
+module _ (k m : Kept) (es fs : List KernelEvent) (had_failed has_failed : Bool) (events : List KernelEvent)
+    (all : NotesAll (Some (marks k ++ es)) (Some (marks m ++ fs)) had_failed has_failed events) where
+  pub marked : IsMarkedAs m k fs (es ++ all.front)
+  marked = marks-same m k fs (es ++ all.front) (cc all.gained ∙ append_assoc (marks k) es all.front)
 
   pub NotesAll-rest : NotesAll (Some es) (Some fs) had_failed has_failed events
   NotesAll-rest = record { front = all.front; rest = all.rest; is = all.is; gained = ap Some marked.rest; whole = all.whole; none = all.none; for_good = all.for_good }

@@ -5,7 +5,7 @@ ghost use Rattle.kernel_dispatch.specs.KernelModel.NotedEvents.{NotesAll};
 ghost use Rattle.trace_log.specs.Trails.{events_of};
 ghost use Rattle.trace_log.specs.Traced.{GivesPending, lines_of};
 
-use crate::TraceLog;
+use crate::{TraceLog, TraceWords};
 use kernel_dispatch::{EventLog, KernelEvent};
 use tp_io::{Output, Sink, SinkFault, pass_on};
 
@@ -34,16 +34,17 @@ fn gather_events<K: Sink>(out: &mut K, events: &[KernelEvent]) -> Result<Output,
     ensures text { GivesPending (K.holds out.old) (K.holds out.new) (lines_of events.now) result }
     ensures cause { HasCause (K.faults out.old) (K.faults out.new) result }
 {
-    let mut log = TraceLog::new(out);
+    let mut log = TraceLog::new(out, TraceWords, Output::new());
     note_lines(&mut log, events);
     log.into_pending()
 }
 
 // Notes the events, and says besides that the log writes where it did: its marks are still there.
-fn note_lines<K: Sink>(log: &mut TraceLog<K>, events: &[KernelEvent])
+fn note_lines<K: Sink>(log: &mut TraceLog<K, TraceWords>, events: &[KernelEvent])
     ensures same_reference { log.new.out.ghost_name ≡ log.old.out.ghost_name }
     ensures same_first { K.holds log.new.first.value ≡ K.holds log.old.first.value }
     ensures same_faults { K.faults log.new.first.value ≡ K.faults log.old.first.value }
+    ensures same_before { log.new.before.value ≡ log.old.before.value }
     ensures events { NotesAll (Some (events_of log.old.trail)) (Some (events_of log.new.trail))
         log.old.failed log.new.failed events.now }
 {

@@ -2,10 +2,12 @@
 #![tactic(auto)]
 
 pub mod event_lines;
+pub mod event_words;
 mod lines;
 pub mod logs;
 pub mod trails;
 
 pub use event_lines::{note_all, print_events};
+pub use event_words::{EventWords, TraceWords};
 pub use logs::TraceLog;
 pub use trails::Trail;

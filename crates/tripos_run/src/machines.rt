@@ -25,7 +25,7 @@ use session_generator::{Tally, gather_summary};
 use session_text::Session;
 use std::alloc::Global;
 use tp_io::{NoSink, Output, Sink, SinkFault, pass_on};
-use trace_log::TraceLog;
+use trace_log::{TraceLog, TraceWords};
 
 /// Boots a session, and runs its machine.
 pub(crate) fn answer_session<K: Sink>(
@@ -112,7 +112,7 @@ fn gather_events<K: Sink>(
         (run go machine.old.state).state) }
     ensures cause { HasCause (K.faults out.old) (K.faults out.new) result }
 {
-    let mut log = TraceLog::new(out);
+    let mut log = TraceLog::new(out, TraceWords, Output::new());
     let stop = trace_run(machine, go, &mut log);
     let pending = log.into_pending()?;
     Ok((pending, stop?))
@@ -122,12 +122,13 @@ fn gather_events<K: Sink>(
 fn trace_run<K: Sink>(
     machine: &mut Machine,
     go: u64,
-    log: &mut TraceLog<K>,
+    log: &mut TraceLog<K, TraceWords>,
 ) -> Result<Stop, SinkFault>
     requires { steps_of machine.old.state + go ≤ most_steps }
     ensures same_reference { log.new.out.ghost_name ≡ log.old.out.ghost_name }
     ensures same_first { K.holds log.new.first.value ≡ K.holds log.old.first.value }
     ensures same_faults { K.faults log.new.first.value ≡ K.faults log.old.first.value }
+    ensures same_before { log.new.before.value ≡ log.old.before.value }
     ensures events { NotesAll (Some (events_of log.old.trail)) (Some (events_of log.new.trail))
         log.old.failed log.new.failed
         (boot_events machine.old.state ++ (run go machine.old.state).events) }

@@ -1,4 +1,5 @@
 use Rattle.std.proofs.Common.{◌∙◌, ap, rules}
+use Rattle.kernel_dispatch.specs.PacketQueue.EventLine.{line_of}
 use Rattle.trace_log.specs.Traced.{GivesPending, lines_of}
 use Rattle.trace_log.proofs.GivenLines.{GivesPending-all}
 use Rattle.trace_log.proofs.event_lines.gather_events.Goals as goal
@@ -7,5 +8,6 @@ pub returns-clause-text : goal.returns-clause-text
 returns-clause-text g c =
     let holds = g.K.Sink.holds in
     let all : GivesPending (holds c.args.out.now) (holds c.note_lines.new.log.out.now) (lines_of c.args.events.now) c.into_pending.result =
-    GivesPending-all (holds c.note_lines.new.log.out.now) c.into_pending.result (c.note_lines.ensures.same_first ∙ ap holds c.new-log.ensures.first) c.new-log.ensures.no_events c.note_lines.ensures.events c.into_pending.ensures.whole c.into_pending.ensures.text in
+    GivesPending-all (holds c.note_lines.new.log.out.now) line_of c.into_pending.result (c.note_lines.ensures.same_first ∙ ap holds c.new-log.ensures.first)
+    (c.note_lines.ensures.same_before ∙ c.new-log.ensures.before ∙ c.new.ensures) c.new-log.ensures.no_events c.note_lines.ensures.events c.into_pending.ensures.whole c.into_pending.ensures.text in
     search rules

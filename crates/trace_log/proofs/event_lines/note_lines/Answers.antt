@@ -1,3 +1,5 @@
+use Rattle.std.proofs.Common.{[]}
+use Rattle.trace_log.specs.Marks.{kept}
 use Rattle.trace_log.specs.Trails.{events_of}
 use Rattle.trace_log.proofs.MarkedLists.{NotesAll-rest, marked}
 use Rattle.trace_log.proofs.event_lines.note_lines.Goals as goal
@@ -8,10 +10,13 @@ returns g c =
     let new = c.note_all.new.log in
     let holds = g.K.Sink.holds in
     let faults = g.K.Sink.faults in
-    let is = marked old.out.ghost_name new.out.ghost_name (faults old.first.value) (faults new.first.value) (holds old.first.value) (holds new.first.value) (events_of old.trail) (events_of new.trail) _ _ _ c.note_all.ensures in
+    let was = kept old.out.ghost_name (faults old.first.value) (holds old.first.value) old.before.value [] in
+    let now = kept new.out.ghost_name (faults new.first.value) (holds new.first.value) new.before.value [] in
+    let is = marked was now (events_of old.trail) (events_of new.trail) _ _ _ c.note_all.ensures in
     record {
       same_reference = is.name;
       same_first = is.first;
       same_faults = is.faults;
-      events = NotesAll-rest old.out.ghost_name new.out.ghost_name (faults old.first.value) (faults new.first.value) (holds old.first.value) (holds new.first.value) (events_of old.trail) (events_of new.trail) _ _ _ c.note_all.ensures;
+      same_before = is.before;
+      events = NotesAll-rest was now (events_of old.trail) (events_of new.trail) _ _ _ c.note_all.ensures;
     }

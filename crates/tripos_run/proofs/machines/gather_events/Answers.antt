@@ -2,6 +2,7 @@ use Rattle.std.proofs.Common.{◌∙◌, ◌++◌, Err, ap, rules}
 use Rattle.std.proofs.lemmas.Result.{err_from_is_err_and}
 use Rattle.tp_io.specs.Write.{AppendsPrefix}
 use Rattle.cint_debug.specs.TriposMachine.Step.{boot_events, run}
+use Rattle.cint_debug.specs.TriposMachine.KernelCalls.PacketQueue.EventLine.{line_of}
 use Rattle.trace_log.specs.Traced.{lines_of}
 use Rattle.trace_log.proofs.GivenLines.{GivesPending-all}
 use Rattle.tripos_run.proofs.machines.gather_events.Goals as goal
@@ -13,6 +14,6 @@ returns-in_err-pending-clause-lines g c =
     let e = c.trace_run-stop.ensures in
     let given = c.in_err-pending in
     let all : AppendsPrefix (holds c.args.out.now) (holds c.trace_run-stop.new.log.out.now) (lines_of (boot_events k ++ (run c.args.go k).events)) =
-    GivesPending-all (holds c.trace_run-stop.new.log.out.now) (Err given.field-0) (e.same_first ∙ ap holds c.new-log.ensures.first) c.new-log.ensures.no_events e.events given.ensures.whole given.ensures.text in
+    GivesPending-all (holds c.trace_run-stop.new.log.out.now) line_of (Err given.field-0) (e.same_first ∙ ap holds c.new-log.ensures.first) (e.same_before ∙ c.new-log.ensures.before ∙ c.new.ensures) c.new-log.ensures.no_events e.events given.ensures.whole given.ensures.text in
     let p = err_from_is_err_and c.from_residual.result c.from_residual.ensures.1 in
     search rules
