@@ -8,7 +8,8 @@ use Rattle.step_log.specs.TriposMachine.Step.{Stepped, run}
 use Rattle.program_answers.specs.Answer.{Answer, no_boot_answer, refused_answer}
 use Rattle.program_answers.specs.declared.status.Status.TheVariants.{Done}
 use Rattle.state_text.specs.StateText.{state_text}
-use Rattle.step_log.specs.LogText.{boot_lines, log_text}
+use Rattle.step_log.specs.BootLines.{boot_lines}
+use Rattle.step_log.specs.StepLines.{log_text}
 use Rattle.show_run.specs.declared.commands.Show.{Show}
 use Rattle.show_run.specs.declared.commands.Show.TheVariants.{Log, State as ShowState}
 

@@ -15,7 +15,7 @@ use crate::machines::show_machine;
 use program_answers::{Status, TextAnswers, status_after, write_no_boot, write_refused};
 use session_text::{Session, SessionEnd, read_session};
 use std::alloc::Global;
-use step_log::{BootEnd, boot};
+use step_log::{BootEnd, boot_machine};
 use tp_io::Sink;
 
 impl TextAnswers for Show {
@@ -61,7 +61,7 @@ fn answer_session<K: Sink>(alloc: Global, asked: Show, session: &Session, out: &
     ensures ends { IsTextEnd result }
     ensures cause { HasFaultCause Status.WriteFault (K.faults out.old) (K.faults out.new) result }
 {
-    match boot(alloc, session) {
+    match boot_machine(alloc, session) {
         Ok(mut machine) => {
             let shown = show_machine(asked, &mut machine, session.go, out);
             status_after(shown, Status::Done)

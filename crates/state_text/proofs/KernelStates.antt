@@ -1,0 +1,47 @@
+-- A machine with a kernel, of which the lists are read off its store.
+use Rattle.std.proofs.Common.{◌≡◌, ◌∙◌, ℕ, ◌==◌, ◌&&◌, ◌||◌, Bool, true, false, not, Option, Some, None, List, [], ◌∷◌, cond, is_some, refl, sym, ap, subst}
+use Rattle.cint_debug.specs.Texts.{instructions_text}
+use Rattle.cint_debug.specs.TriposMachine.KernelMachine.declared.parts.Parts.{Parts}
+use Rattle.cint_debug.specs.TriposMachine.State.{StandsFull, State, regs_of, words_of}
+use Rattle.cint_debug.specs.TriposMachine.State.State.{Bare, Full}
+use Rattle.cint_debug.specs.Views.{is_guest_next}
+use Rattle.cint_debug.proofs.KernelParts.{held-lists}
+use Rattle.kernel_dispatch.specs.KernelModel.HoldsLists.{HoldsLists}
+use Rattle.kernel_dispatch.specs.KernelModel.Kernel.{Kernel}
+use Rattle.kernel_dispatch.specs.KernelModel.KernelRanges.{CanWalkLists}
+use Rattle.kernel_dispatch.specs.KernelModel.Lists.{Lists}
+use Rattle.kernel_dispatch.specs.KernelModel.Recovered.{lists_in}
+use Rattle.kernel_dispatch.proofs.Shown.KernelModel.RecoveredLists.{lists-back}
+use Rattle.kernel_dispatch.proofs.Shown.KernelModel.WalkedLists.{can-walk}
+use Rattle.state_text.specs.Runner.{has_keys, idle_line, runner_text, running_line}
+use Rattle.state_text.specs.StateText.{next_line}
+
+-- the lists in the store of the parts can be walked
+pub walks : (p : Parts) (s : State) → StandsFull p s → CanWalkLists p.store
+walks p s x = let held = held-lists p s x in can-walk p.store held.0 held.1
+
+-- what the lists in the store say of a kernel, its own lists say
+pub on-lists : (p : Parts) (s : State) (P : Lists → State → Type 0) → StandsFull p s → ((k : Kernel) → P k.lists (Full k)) → P (lists_in p.store) s
+on-lists p (Bare m) P x each = absurd x
+on-lists p (Full k) P x each =
+    let h = x.keeper.lists in
+    subst (λ l. P l (Full k)) (sym (lists-back p.store k.lists h.valid h.size h.holds)) (each k)
+
+-- where nobody runs, that and the reason are said
+pub idle-runner : (k : Kernel) → k.lists.running ≡ 0 → idle_line k.lists (has_keys (Full k)) ≡ runner_text (Full k)
+idle-runner k none = sym (ap (λ n. cond (n == 0) (idle_line k.lists (has_keys (Full k))) (running_line k.lists.running (is_some k.stop))) none)
+
+-- ---- the next instruction
+
+pub next-of-none : (s : State) → is_guest_next s ≡ false → next_line s ≡ []
+next-of-none s none = rw none refl
+
+pub next-nowhere : (s : State) → (regs_of s).pc ≡ 0 → next_line s ≡ []
+next-nowhere s zero = rw zero (on (is_guest_next s))
+  where
+    on : (b : Bool) → cond (b && false) (instructions_text 0 1 (words_of s)) [] ≡ []
+    on true = refl
+    on false = refl
+
+pub next-there : (s : State) → is_guest_next s ≡ true → ((regs_of s).pc == 0) ≡ false → next_line s ≡ instructions_text (regs_of s).pc 1 (words_of s)
+next-there s guest some = rw (guest, some) refl

@@ -1,0 +1,3 @@
+pub mod GatheredLines
+pub mod KernelStates
+pub mod ListedWords

@@ -1,0 +1,4 @@
+use Rattle.state_text.proofs.awaited.gather_its_line.Goals as goal
+
+pub returns-clause-text : goal.returns-clause-text
+returns-clause-text g c = rw (← c.from.ensures) c.gather_pieces.ensures.text

@@ -1,0 +1,6 @@
+pub mod PacketTexts
+pub mod AwaitedPackets
+pub mod TaskTexts
+pub mod ModuleTexts
+pub mod Runner
+pub mod StateText

@@ -1,0 +1,58 @@
+-- The state of a machine in words.
+use Rattle.std.specs.Prelude.{ℕ, ◌==◌, ◌&&◌, not, if◌then◌else◌, Option, Some, None, List, [], ◌∷◌, codes, decimal}
+use Rattle.tp_io.specs.Pieces.{joined}
+use Rattle.cint_debug.specs.Texts.{blocks_text, instructions_text, registers_line}
+use Rattle.cint_debug.specs.TriposMachine.State.{State, regs_of, running_of, steps_of, stop_of, words_of}
+use Rattle.cint_debug.specs.TriposMachine.State.State.{Bare, Full}
+use Rattle.cint_debug.specs.Views.{is_guest_next}
+use Rattle.kernel_dispatch.specs.KernelModel.Lists.{Lists}
+use Rattle.kernel_dispatch.specs.KernelModel.declared.stops.Stop.{Stop}
+use Rattle.kernel_dispatch.specs.KernelModel.declared.stops.Stop.TheVariants.{Fault, Finish, Quit, Steps}
+use Rattle.state_text.specs.ModuleTexts.{modules_text}
+use Rattle.state_text.specs.PacketTexts.{queues_text}
+use Rattle.state_text.specs.Runner.{runner_text}
+use Rattle.state_text.specs.TaskTexts.{tasks_text}
+
+-- why a machine has stopped
+abbrev pub stopped_line : Stop → List ℕ
+stopped_line Steps = codes "the steps are used up\n"
+stopped_line (Quit code) = joined (codes "quit " ∷ decimal code ∷ codes "\n" ∷ [])
+stopped_line Finish = codes "the shell has finished\n"
+stopped_line (Fault code address task) =
+    joined (codes "fault " ∷ decimal code ∷ codes " at " ∷ decimal address ∷ codes " in task " ∷ decimal task ∷ codes "\n" ∷ [])
+
+-- whether it has stopped, and why
+abbrev pub stop_line : Option Stop → List ℕ
+stop_line None = codes "it can go on\n"
+stop_line (Some stop) = stopped_line stop
+
+-- the steps taken so far
+abbrev pub bare_counts : ℕ → List ℕ
+bare_counts steps = joined (codes "after " ∷ decimal steps ∷ codes " steps: " ∷ [])
+
+-- the steps and the ticks so far
+abbrev pub kernel_counts : ℕ → ℕ → List ℕ
+kernel_counts steps tick = joined (codes "after " ∷ decimal steps ∷ codes " steps, at tick " ∷ decimal tick ∷ codes ": " ∷ [])
+
+-- what was counted so far; a machine without a kernel has no ticks
+abbrev pub count_words : State → List ℕ
+count_words (Bare m) = bare_counts m.steps
+count_words (Full k) = kernel_counts k.steps k.lists.tick
+
+-- the instruction that a guest is to execute next; at address 0 there is none
+abbrev pub next_line : State → List ℕ
+next_line s = if is_guest_next s && not ((regs_of s).pc == 0) then instructions_text (regs_of s).pc 1 (words_of s) else []
+
+-- the lists of a kernel, of which the lines of the blocks are given
+unfoldable pub kernel_text : Lists → List ℕ → List ℕ
+kernel_text l blocks = joined (tasks_text l ∷ queues_text l ∷ codes "blocks\n" ∷ blocks ∷ modules_text l ∷ [])
+
+-- a machine without a kernel has no lists
+abbrev pub lists_text : State → List ℕ
+lists_text (Bare m) = []
+lists_text (Full k) = kernel_text k.lists (blocks_text (Full k))
+
+-- the whole: where it stands, who runs, the registers, the next instruction, and the lists
+unfoldable pub state_text : State → List ℕ
+state_text s =
+    joined (count_words s ∷ stop_line (stop_of s) ∷ runner_text s ∷ registers_line (regs_of s) (running_of s) ∷ next_line s ∷ lists_text s ∷ [])

@@ -1,0 +1,76 @@
+// The modules of a kernel in words.
+ghost use Rattle.std.specs.List.{flat_map};
+ghost use Rattle.tp_io.specs.Pending.{Gathers};
+ghost use Rattle.tp_io.specs.Write.{HasCause};
+ghost use Rattle.kernel_dispatch.specs.KernelModel.KernelRanges.{CanWalkLists, IsModuleIn};
+ghost use Rattle.kernel_dispatch.specs.KernelModel.Recovered.{lists_in, module_in};
+ghost use Rattle.state_text.specs.ModuleTexts.{module_line, modules_text};
+
+use kernel_dispatch::modules;
+use tp_io::Piece::{Decimal, Text};
+use tp_io::{Output, Sink, SinkFault, gather, gather_pieces};
+use word_store::{Store, word_at};
+
+/// The word of a module that has the number of its hunks.
+const HUNK_COUNT: u32 = 1;
+
+/// The words of a module before the lengths of its hunks.
+const HEAD_WORDS: u64 = 2;
+
+/// Gathers a line for each module, the newest first.
+#[tactic(auto, unfolding(crate::specs::ModuleTexts::modules_text))]
+pub(crate) fn gather_modules<K: Sink>(
+    store: &Store,
+    out: &mut K,
+    pending: &mut Output,
+) -> Result<(), SinkFault>
+    requires { CanWalkLists store.now }
+    ensures text { Gathers (K.holds out.old) (K.holds out.new) pending.old pending.new
+        (modules_text (lists_in store.now)) result }
+    ensures cause { HasCause (K.faults out.old) (K.faults out.new) result }
+{
+    gather(out, pending, b"modules\n")?;
+    gather_list(store, out, pending)
+}
+
+// The line of each module.
+fn gather_list<K: Sink>(store: &Store, out: &mut K, pending: &mut Output) -> Result<(), SinkFault>
+    requires { CanWalkLists store.now }
+    ensures text { Gathers (K.holds out.old) (K.holds out.new) pending.old pending.new
+        (flat_map module_line (lists_in store.now).modules) result }
+    ensures cause { HasCause (K.faults out.old) (K.faults out.new) result }
+{
+    for m in modules(store) {
+        gather_module(store, m, out, pending)?;
+    }
+    Ok(())
+}
+
+// The line of the module at m.
+fn gather_module<K: Sink>(
+    store: &Store,
+    m: u32,
+    out: &mut K,
+    pending: &mut Output,
+) -> Result<(), SinkFault>
+    requires { IsModuleIn store.now m }
+    ensures text { Gathers (K.holds out.old) (K.holds out.new) pending.old pending.new
+        (module_line (module_in store.now m)) result }
+    ensures cause { HasCause (K.faults out.old) (K.faults out.new) result }
+{
+    let hunks = u64::from(word_at(store, m, HUNK_COUNT));
+    let first_byte = 4 * (u64::from(m) + HEAD_WORDS + hunks);
+    gather_pieces(
+        out,
+        pending,
+        &[
+            Text(b"module at "),
+            Decimal(u64::from(m)),
+            Text(b", hunks "),
+            Decimal(hunks),
+            Text(b", from byte "),
+            Decimal(first_byte),
+            Text(b"\n"),
+        ],
+    )
+}

@@ -1,0 +1,42 @@
+-- A machine with a kernel, of which it is known for what its parts stand.
+use Rattle.std.proofs.Common.{◌≡◌, ℕ, Option, Some, None, List, [], ◌∷◌, map, refl, sym, ap, ◌∙◌, cond, true, false, Bool, ◌==◌}
+use Rattle.std.specs.List.{find}
+use Rattle.std.specs.Option.{option_map}
+use Rattle.kernel_dispatch.specs.KernelModel.HoldsLists.{HoldsLists}
+use Rattle.kernel_dispatch.specs.KernelModel.Kernel.{Kernel}
+use Rattle.kernel_dispatch.specs.KernelModel.Lists.{Lists}
+use Rattle.kernel_dispatch.specs.KernelModel.Recovered.{lists_in, task_in}
+use Rattle.kernel_dispatch.specs.KernelModel.Task.{Task}
+use Rattle.kernel_dispatch.specs.TaskBlock.TaskChain.{id_in, task_with, tasks_in}
+use Rattle.kernel_dispatch.specs.TaskBlock.RootWords.{root_address}
+use Rattle.kernel_dispatch.specs.TaskBlock.declared.roots.RootField.TheVariants.{Tick}
+use Rattle.std.specs.Prelude.{slice_index}
+use Rattle.cint_debug.specs.TriposMachine.KernelMachine.Stands.{Stands}
+use Rattle.cint_debug.specs.TriposMachine.KernelMachine.declared.parts.Parts.{Parts}
+use Rattle.cint_debug.specs.TriposMachine.State.{StandsFull, State}
+use Rattle.cint_debug.specs.TriposMachine.State.State.{Bare, Full}
+use Rattle.cint_debug.proofs.KernelLists.{tasks-back, tick-back}
+use Rattle.step_log.specs.Answers.{answer_at, answer_of_task, answer_saved}
+
+-- what holds of each kernel for which the parts stand, holds of the machine
+pub on-stands : (p : Parts) (s : State) (P : State → Type 0) → StandsFull p s → ((k : Kernel) → Stands p k → P (Full k)) → P s
+on-stands p (Bare m) P x each = absurd x
+on-stands p (Full k) P x each = each k x
+
+-- ---- what a call answered, as its task's block says
+
+saved-found : (s : List ℕ) (id : ℕ) (ts : List ℕ) → option_map answer_saved (find (λ (t : Task). t.id == id) (map (task_in s) ts)) ≡ option_map (answer_at s) (task_with s id ts)
+saved-found s id [] = refl
+saved-found s id (t ∷ ts) = on (id_in s t == id) (saved-found s id ts)
+  where
+    rest : Option Task
+    rest = find (λ (u : Task). u.id == id) (map (task_in s) ts)
+
+    on : (b : Bool) → option_map answer_saved rest ≡ option_map (answer_at s) (task_with s id ts)
+        → option_map answer_saved (cond b (Some (task_in s t)) rest) ≡ option_map (answer_at s) (cond b (Some t) (task_with s id ts))
+    on true more = refl
+    on false more = more
+
+pub answer-found : (s : List ℕ) (l : Lists) → HoldsLists s l → (id : ℕ) → answer_of_task id l.tasks ≡ option_map (answer_at s) (task_with s id (tasks_in s))
+unfolding answer_of_task
+answer-found s l h id = ap (λ ts. option_map answer_saved (find (λ (t : Task). t.id == id) ts)) (sym (tasks-back s l h)) ∙ saved-found s id (tasks_in s)

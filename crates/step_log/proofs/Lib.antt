@@ -1,0 +1,5 @@
+pub mod Shown
+pub mod ConsoleTexts
+pub mod KeptParts
+pub mod GivenBack
+pub mod SteppedLines

@@ -1,0 +1,2 @@
+-- Lemmas of lower crates, shown to the crates above.
+pub use Rattle.cint_debug.proofs.Shown.TriposMachine

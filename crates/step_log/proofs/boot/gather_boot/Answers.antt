@@ -1,0 +1,40 @@
+use Rattle.std.proofs.Common.{◌≡◌, ◌∙◌, ◌++◌, ap, rules, subst}
+use Rattle.std.specs.List.{flat_map}
+use Rattle.std.proofs.lemmas.Result.{err_from_is_err_and}
+use Rattle.cint_debug.specs.TriposMachine.Step.{boot_events}
+use Rattle.tp_io.specs.Pending.{IsCut, IsGathered}
+use Rattle.trace_log.specs.Traced.{GivesPending}
+use Rattle.trace_log.specs.Trails.{events_of}
+use Rattle.trace_log.proofs.GivenLines.{GivesPending-all}
+use Rattle.step_log.specs.declared.moments.Moment.{Moment}
+use Rattle.step_log.specs.Events.{event_line}
+use Rattle.step_log.specs.BootLines.{before_steps}
+use Rattle.step_log.proofs.GivenBack.{cut-behind, gathered-behind}
+use Rattle.step_log.proofs.boot.gather_boot.Goals as goal
+
+pub returns-in_err-pending-clause-text : goal.returns-in_err-pending-clause-text
+returns-in_err-pending-clause-text g c =
+    let holds = g.K.Sink.holds in
+    let e = c.note_boot.ensures in
+    let log = c.note_boot.new.log in
+    let events = boot_events c.args.machine.now.state in
+    let told = c.into_pending in
+    let text = subst (λ (w : Moment). GivesPending (holds log.first.value) (holds log.out.now) (log.before.value ++ flat_map (event_line w) (events_of log.trail)) told.result) (e.same_words ∙ c.new-log.ensures.words ∙ c.before_steps.ensures) told.ensures.text in
+    let all = GivesPending-all (holds log.out.now) (event_line before_steps) told.result (e.same_first ∙ ap holds c.new-log.ensures.first) (e.same_before ∙ c.new-log.ensures.before ∙ c.replace.ensures.value) c.new-log.ensures.no_events e.events told.ensures.whole text in
+    let p = err_from_is_err_and c.from_residual.result c.from_residual.ensures.1 in
+    let cut : IsCut (holds c.args.out.now) (holds log.out.now) c.args.pending.now (flat_map (event_line before_steps) events) =
+    cut-behind _ _ _ _ (subst (GivesPending (holds c.args.out.now) (holds log.out.now) (c.args.pending.now ++ flat_map (event_line before_steps) events)) c.in_err-pending.was all) in
+    search rules
+
+pub returns-clause-text : goal.returns-clause-text
+returns-clause-text g c =
+    let holds = g.K.Sink.holds in
+    let e = c.note_boot.ensures in
+    let log = c.note_boot.new.log in
+    let events = boot_events c.args.machine.now.state in
+    let told = c.into_pending in
+    let text = subst (λ (w : Moment). GivesPending (holds log.first.value) (holds log.out.now) (log.before.value ++ flat_map (event_line w) (events_of log.trail)) told.result) (e.same_words ∙ c.new-log.ensures.words ∙ c.before_steps.ensures) told.ensures.text in
+    let all = GivesPending-all (holds log.out.now) (event_line before_steps) told.result (e.same_first ∙ ap holds c.new-log.ensures.first) (e.same_before ∙ c.new-log.ensures.before ∙ c.replace.ensures.value) c.new-log.ensures.no_events e.events told.ensures.whole text in
+    let gathered : IsGathered (holds c.args.out.now) (holds log.out.now) c.args.pending.now c.in_ok-pending.field-0 (flat_map (event_line before_steps) events) =
+    gathered-behind _ _ _ _ _ (subst (GivesPending (holds c.args.out.now) (holds log.out.now) (c.args.pending.now ++ flat_map (event_line before_steps) events)) c.in_ok-pending.was all) in
+    search rules

@@ -1,0 +1,10 @@
+pub mod Moments
+pub mod Calls
+pub mod Console
+pub mod Events
+pub mod Refusals
+pub mod Answers
+pub mod StepLines
+pub mod BootLines
+-- shown to the crates above
+pub use Rattle.cint_debug.specs.TriposMachine

@@ -1,0 +1,158 @@
+// The lines of steps.
+ghost use Rattle.std.specs.List.{flat_map};
+ghost use Rattle.std.specs.Option.{option_map};
+ghost use Rattle.std.specs.Prelude.{◌≡◌, ◌+◌, ◌≤◌, ◌<◌, Some, IfOk};
+ghost use Rattle.tp_io.specs.Pending.{Gathers};
+ghost use Rattle.tp_io.specs.Write.{HasCause};
+ghost use Rattle.kernel_dispatch.specs.KernelModel.NotedEvents.{NotesAll};
+ghost use Rattle.trace_log.specs.Trails.{events_of};
+ghost use Rattle.cint_debug.specs.TriposMachine.KernelCalls.KernelModel.Ranges.{most_steps};
+ghost use Rattle.cint_debug.specs.TriposMachine.State.{steps_of};
+ghost use Rattle.cint_debug.specs.TriposMachine.Step.{run, step};
+ghost use Rattle.step_log.specs.Calls.{call_seen};
+ghost use Rattle.step_log.specs.Events.{event_line};
+ghost use Rattle.step_log.specs.StepLines.{change_lines, lines_after, lines_before, log_text, step_lines};
+
+use crate::answers::gather_answer;
+use crate::calls::{Call, gather_call};
+use crate::changes::{Keys, gather_key, gather_stop, gather_tick, keys_left};
+use crate::console::gather_console;
+use crate::guests::{call, gather_guest, moment};
+use crate::moments::Moment;
+use cint_debug::Machine;
+use std::mem;
+use tp_io::{Output, Sink, SinkFault};
+use trace_log::TraceLog;
+
+/// Takes at most n steps, up to one that stops the machine, and gathers what happens in them, a line each: in the order of a step its
+/// instruction, its call, its events, what the call answers, what is written to the console, the tick, the key that came, and the stop.
+/// Each line begins with the number of the step, and the tick, the task and PC before it. `SinkFault` comes only where the sink's count
+/// of faults rose; then a prefix of what was pending, and of the lines after it, has gone to the sink.
+pub fn gather_steps<K: Sink>(
+    machine: &mut Machine,
+    n: u64,
+    out: &mut K,
+    pending: &mut Output,
+) -> Result<(), SinkFault>
+    requires { steps_of machine.old.state + n ≤ most_steps }
+    ensures text { Gathers (K.holds out.old) (K.holds out.new) pending.old pending.new
+        (log_text n machine.old.state) result }
+    ensures state { IfOk result (λ _. machine.new.state ≡ (run n machine.old.state).state) }
+    ensures cause { HasCause (K.faults out.old) (K.faults out.new) result }
+{
+    for _ in 0..n {
+        if machine.stop().is_some() {
+            return Ok(());
+        }
+        gather_step(machine, out, pending)?;
+    }
+    Ok(())
+}
+
+// Takes a step, and gathers its lines.
+fn gather_step<K: Sink>(
+    machine: &mut Machine,
+    out: &mut K,
+    pending: &mut Output,
+) -> Result<(), SinkFault>
+    requires { steps_of machine.old.state < most_steps }
+    ensures text { Gathers (K.holds out.old) (K.holds out.new) pending.old pending.new
+        (step_lines machine.old.state (step machine.old.state)) result }
+    ensures state { IfOk result (λ _. machine.new.state ≡ (step machine.old.state).state) }
+    ensures cause { HasCause (K.faults out.old) (K.faults out.new) result }
+{
+    let m = moment(machine);
+    let call = call(machine);
+    let keys = keys_left(machine);
+    gather_before(m, call, machine, out, pending)?;
+    take_step(m, machine, out, pending)?;
+    gather_after(m, call, keys, machine, out, pending)
+}
+
+// What is known before the step: its instruction, and its call.
+fn gather_before<K: Sink>(
+    m: Moment,
+    call: Option<Call>,
+    machine: &Machine,
+    out: &mut K,
+    pending: &mut Output,
+) -> Result<(), SinkFault>
+    ensures text { Gathers (K.holds out.old) (K.holds out.new) pending.old pending.new
+        (lines_before m (option_map call_seen call) machine.now.state) result }
+    ensures cause { HasCause (K.faults out.old) (K.faults out.new) result }
+{
+    gather_guest(m, machine, out, pending)?;
+    gather_call(m, call, out, pending)
+}
+
+// Takes a step, and gathers the lines of its events as they come.
+fn take_step<K: Sink>(
+    m: Moment,
+    machine: &mut Machine,
+    out: &mut K,
+    pending: &mut Output,
+) -> Result<(), SinkFault>
+    requires { steps_of machine.old.state < most_steps }
+    ensures text { Gathers (K.holds out.old) (K.holds out.new) pending.old pending.new
+        (flat_map (event_line m) (step machine.old.state).events) result }
+    ensures state { machine.new.state ≡ (step machine.old.state).state }
+    ensures output { machine.new.output ≡ (step machine.old.state).bytes }
+    ensures cause { HasCause (K.faults out.old) (K.faults out.new) result }
+{
+    let mut log = TraceLog::new(out, m, mem::replace(pending, Output::new()));
+    note_step(machine, &mut log);
+    *pending = log.into_pending()?;
+    Ok(())
+}
+
+// Notes the events of a step, and says besides that the log writes where and what it did: its marks are still there.
+fn note_step<K: Sink>(machine: &mut Machine, log: &mut TraceLog<K, Moment>)
+    requires { steps_of machine.old.state < most_steps }
+    ensures state { machine.new.state ≡ (step machine.old.state).state }
+    ensures output { machine.new.output ≡ (step machine.old.state).bytes }
+    ensures same_reference { log.new.out.ghost_name ≡ log.old.out.ghost_name }
+    ensures same_first { K.holds log.new.first.value ≡ K.holds log.old.first.value }
+    ensures same_faults { K.faults log.new.first.value ≡ K.faults log.old.first.value }
+    ensures same_before { log.new.before.value ≡ log.old.before.value }
+    ensures same_words { log.new.words ≡ log.old.words }
+    ensures events { NotesAll (Some (events_of log.old.trail)) (Some (events_of log.new.trail))
+        log.old.failed log.new.failed (step machine.old.state).events }
+{
+    machine.step(log);
+}
+
+// What is known after the step: what the call answers, and what else has changed.
+fn gather_after<K: Sink>(
+    m: Moment,
+    call: Option<Call>,
+    before: Keys,
+    machine: &Machine,
+    out: &mut K,
+    pending: &mut Output,
+) -> Result<(), SinkFault>
+    ensures text { Gathers (K.holds out.old) (K.holds out.new) pending.old pending.new
+        (lines_after m (option_map call_seen call) before.count before.first
+        machine.now.output machine.now.state) result }
+    ensures cause { HasCause (K.faults out.old) (K.faults out.new) result }
+{
+    gather_answer(m, call, machine, out, pending)?;
+    gather_console(m, machine.output(), out, pending)?;
+    gather_changes(m, before, machine, out, pending)
+}
+
+// The tick, the key that came, and the stop.
+fn gather_changes<K: Sink>(
+    m: Moment,
+    before: Keys,
+    machine: &Machine,
+    out: &mut K,
+    pending: &mut Output,
+) -> Result<(), SinkFault>
+    ensures text { Gathers (K.holds out.old) (K.holds out.new) pending.old pending.new
+        (change_lines m before.count before.first machine.now.state) result }
+    ensures cause { HasCause (K.faults out.old) (K.faults out.new) result }
+{
+    gather_tick(m, machine, out, pending)?;
+    gather_key(m, before, machine, out, pending)?;
+    gather_stop(m, machine, out, pending)
+}
