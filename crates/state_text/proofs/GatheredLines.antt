@@ -1,5 +1,5 @@
 -- The lines of a list, gathered one after another.
-use Rattle.std.proofs.Common.{◌≡◌, ◌∙◌, Bool, true, false, Option, Result, Ok, Err, List, [], ◌∷◌, ◌++◌, ℕ, cond, filter, refl, sym, ap, subst, append_assoc, append-nil}
+use Rattle.std.proofs.Common.{◌≡◌, ◌∙◌, Bool, true, false, Option, Result, List, [], ◌∷◌, ◌++◌, ℕ, cond, filter, refl, sym, ap, subst, append_assoc, append-nil}
 use Rattle.std.specs.List.{flat_map}
 use Rattle.tp_io.specs.Pending.{Gathers, IsCut, IsGathered}
 use Rattle.tp_io.proofs.GatheredTexts.{Gathers-then, IsCut-more, IsCut-then, IsGathered-nothing, IsGathered-then}
@@ -34,10 +34,6 @@ module _ {X : Type 0} (line : X → List ℕ) where
     -- the sink failed at it
     pub lines-cut : {m : Option (List ℕ)} → IsCut k m q (line x) → IsCut h m p text
     lines-cut {m} cut = subst (IsCut h m p) (sym lines-at) (IsCut-then d.gathered (IsCut-more (flat_map line xs) cut))
-
-  -- all lines
-  pub lines-all : (rest : List X) (text : List ℕ) (h k : Option (List ℕ)) (p q : List ℕ) → rest ≡ [] → IsSoFar line rest text h k p q → IsGathered h k p q text
-  lines-all rest text h k p q none d = subst (IsGathered h k p q) (sym (append-nil d.front) ∙ ap (λ xs. d.front ++ flat_map line xs) (sym none) ∙ d.all) d.gathered
 
   -- the lines of those members that pass a test
   pub lines-filter : (test : X → Bool) (xs : List X) → flat_map (λ x. cond (test x) (line x) []) xs ≡ flat_map line (filter test xs)

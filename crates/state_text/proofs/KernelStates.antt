@@ -1,12 +1,11 @@
 -- A machine with a kernel, of which the lists are read off its store.
-use Rattle.std.proofs.Common.{◌≡◌, ◌∙◌, ℕ, ◌==◌, ◌&&◌, ◌||◌, Bool, true, false, not, Option, Some, None, List, [], ◌∷◌, cond, is_some, refl, sym, ap, subst}
+use Rattle.std.proofs.Common.{◌≡◌, ◌==◌, ◌&&◌, Bool, true, false, [], cond, is_some, refl, sym, ap, subst}
 use Rattle.cint_debug.specs.Texts.{instructions_text}
 use Rattle.cint_debug.specs.TriposMachine.KernelMachine.declared.parts.Parts.{Parts}
 use Rattle.cint_debug.specs.TriposMachine.State.{StandsFull, State, regs_of, words_of}
 use Rattle.cint_debug.specs.TriposMachine.State.State.{Bare, Full}
 use Rattle.cint_debug.specs.Views.{is_guest_next}
 use Rattle.cint_debug.proofs.KernelParts.{held-lists}
-use Rattle.kernel_dispatch.specs.KernelModel.HoldsLists.{HoldsLists}
 use Rattle.kernel_dispatch.specs.KernelModel.Kernel.{Kernel}
 use Rattle.kernel_dispatch.specs.KernelModel.KernelRanges.{CanWalkLists}
 use Rattle.kernel_dispatch.specs.KernelModel.Lists.{Lists}
@@ -42,6 +41,3 @@ next-nowhere s zero = rw zero (on (is_guest_next s))
     on : (b : Bool) → cond (b && false) (instructions_text 0 1 (words_of s)) [] ≡ []
     on true = refl
     on false = refl
-
-pub next-there : (s : State) → is_guest_next s ≡ true → ((regs_of s).pc == 0) ≡ false → next_line s ≡ instructions_text (regs_of s).pc 1 (words_of s)
-next-there s guest some = rw (guest, some) refl

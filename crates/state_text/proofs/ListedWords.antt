@@ -3,10 +3,8 @@ use Rattle.std.proofs.Common.{◌≡◌, ◌∙◌, ℕ, ◌||◌, Bool, Option,
 use Rattle.std.specs.Iterator.{YieldsFirst}
 use Rattle.std.specs.List.{flat_map, list_any}
 use Rattle.std.proofs.lemmas.List.Folds.{list_any-append}
-use Rattle.kernel_dispatch.specs.HunkLoader.HeldModules.{LoadedModule}
 use Rattle.kernel_dispatch.specs.KernelModel.Lists.{Lists, queued}
-use Rattle.kernel_dispatch.specs.KernelModel.Owned.{clock_head, keyboard_head, output_head}
-use Rattle.kernel_dispatch.specs.KernelModel.Recovered.{lists_in, module_in, packets_at, pending_in, task_in}
+use Rattle.kernel_dispatch.specs.KernelModel.Recovered.{lists_in, module_in, task_in}
 use Rattle.kernel_dispatch.specs.KernelModel.Task.{Task}
 use Rattle.kernel_dispatch.specs.PacketQueue.QueueWords.{QueuedPacket}
 use Rattle.kernel_dispatch.specs.TaskBlock.Lists.{modules_in}
@@ -21,22 +19,6 @@ module _ (s : List ℕ) where
   pub listed-modules : map (module_in s) (modules_in s) ≡ (lists_in s).modules
   unfolding lists_in
   listed-modules = refl
-
-  pub listed-clock : packets_at s clock_head ≡ (lists_in s).clock
-  unfolding lists_in
-  listed-clock = refl
-
-  pub listed-keyboard : packets_at s keyboard_head ≡ (lists_in s).keyboard
-  unfolding lists_in
-  listed-keyboard = refl
-
-  pub listed-output : packets_at s output_head ≡ (lists_in s).output
-  unfolding lists_in
-  listed-output = refl
-
-  pub listed-pending : pending_in s ≡ (lists_in s).pending
-  unfolding lists_in
-  listed-pending = refl
 
 -- whether one of the things at these addresses passes a test
 pub any-map : {X : Type 0} (test : X → Bool) (at : ℕ → X) (xs : List ℕ) → list_any test (map at xs) ≡ list_any (λ a. test (at a)) xs

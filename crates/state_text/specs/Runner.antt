@@ -5,7 +5,6 @@ use Rattle.tp_io.specs.Pieces.{joined}
 use Rattle.cint_debug.specs.TriposMachine.State.{State}
 use Rattle.cint_debug.specs.TriposMachine.State.State.{Bare, Full}
 use Rattle.kernel_dispatch.specs.KernelModel.Between.{is_empty_queue}
-use Rattle.kernel_dispatch.specs.KernelModel.Kernel.{Kernel}
 use Rattle.kernel_dispatch.specs.KernelModel.Lists.{Lists}
 use Rattle.kernel_dispatch.specs.KernelModel.Task.{Task}
 use Rattle.kernel_dispatch.specs.KernelModel.ValidTasks.{dead}

@@ -2,7 +2,7 @@
 use Rattle.std.specs.Prelude.{ℕ, ◌==◌, ◌&&◌, not, if◌then◌else◌, Option, Some, None, List, [], ◌∷◌, codes, decimal}
 use Rattle.tp_io.specs.Pieces.{joined}
 use Rattle.cint_debug.specs.Texts.{blocks_text, instructions_text, registers_line}
-use Rattle.cint_debug.specs.TriposMachine.State.{State, regs_of, running_of, steps_of, stop_of, words_of}
+use Rattle.cint_debug.specs.TriposMachine.State.{State, regs_of, running_of, stop_of, words_of}
 use Rattle.cint_debug.specs.TriposMachine.State.State.{Bare, Full}
 use Rattle.cint_debug.specs.Views.{is_guest_next}
 use Rattle.kernel_dispatch.specs.KernelModel.Lists.{Lists}

@@ -3,3 +3,4 @@ pub mod ConsoleTexts
 pub mod KeptParts
 pub mod GivenBack
 pub mod SteppedLines
+pub mod GuestLines

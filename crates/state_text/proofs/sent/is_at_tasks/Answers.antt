@@ -1,7 +1,7 @@
 use Rattle.std.proofs.Common.{◌∙◌, ap, subst, sym}
 use Rattle.std.specs.List.{AllByRecursion, list_any}
 use Rattle.kernel_dispatch.specs.KernelModel.KernelRanges.{CanWalkTask}
-use Rattle.kernel_dispatch.specs.KernelModel.Recovered.{lists_in, task_in}
+use Rattle.kernel_dispatch.specs.KernelModel.Recovered.{task_in}
 use Rattle.kernel_dispatch.specs.TaskBlock.TaskChain.{tasks_in}
 use Rattle.state_text.specs.AwaitedPackets.{is_from}
 use Rattle.state_text.proofs.ListedWords.{any-map, listed-tasks}

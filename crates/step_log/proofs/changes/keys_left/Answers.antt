@@ -6,7 +6,7 @@ use Rattle.step_log.proofs.KeptParts.{on-stands}
 use Rattle.step_log.proofs.changes.keys_left.Goals as goal
 
 pub returns-in-Some-clause-count : goal.returns-in-Some-clause-count
-returns-in-Some-clause-count c = on-stands _ c.args.machine.now.state (λ s. c.len.result ≡ length (keys_to_come s)) c.in-Some.ensures.stand (λ k h. c.len.ensures ∙ ap length (c.rest.ensures ∙ h.keys))
+returns-in-Some-clause-count c = on-stands _ c.args.machine.now.state (λ s. length c.rest.result.now ≡ length (keys_to_come s)) c.in-Some.ensures.stand (λ k h. ap length (c.rest.ensures ∙ h.keys))
 
 pub returns-in-Some-clause-first : goal.returns-in-Some-clause-first
 returns-in-Some-clause-first c = on-stands _ c.args.machine.now.state (λ s. c.first.result ≡ slice_get (keys_to_come s) 0) c.in-Some.ensures.stand (λ k h. c.first.ensures ∙ ap (λ keys. slice_get keys 0) h.keys)
