@@ -1,5 +1,5 @@
 -- What a log of lines gives back, where something was pending before.
-use Rattle.std.proofs.Common.{◌≡◌, ℕ, List, [], ◌∷◌, ◌++◌, Option, Result, Ok, Err}
+use Rattle.std.proofs.Common.{◌≡◌, ℕ, List, [], ◌∷◌, ◌++◌, Option}
 use Rattle.tp_io.specs.Pending.{IsCut, IsGathered}
 use Rattle.tp_io.specs.Write.{AppendsPrefix}
 use Rattle.step_log.specs.declared.moments.Moment.{Moment}

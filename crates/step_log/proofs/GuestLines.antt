@@ -1,5 +1,5 @@
 -- The line of what a guest does.
-use Rattle.std.proofs.Common.{◌≡◌, ℕ, ◌==◌, true, List, ap}
+use Rattle.std.proofs.Common.{◌≡◌, ℕ, ◌==◌, List, ap}
 use Rattle.std.specs.Prelude.{codes, if◌then◌else◌}
 use Rattle.word_store.specs.Bytes.{byte_at}
 use Rattle.step_log.specs.declared.moments.Moment.{Moment}

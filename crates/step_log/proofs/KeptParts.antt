@@ -1,21 +1,18 @@
 -- A machine with a kernel, of which it is known for what its parts stand.
-use Rattle.std.proofs.Common.{◌≡◌, ℕ, Option, Some, None, List, [], ◌∷◌, map, refl, sym, ap, ◌∙◌, cond, true, false, Bool, ◌==◌}
+use Rattle.std.proofs.Common.{◌≡◌, ℕ, Option, Some, List, [], ◌∷◌, map, refl, sym, ap, ◌∙◌, cond, true, false, Bool, ◌==◌}
 use Rattle.std.specs.List.{find}
 use Rattle.std.specs.Option.{option_map}
 use Rattle.kernel_dispatch.specs.KernelModel.HoldsLists.{HoldsLists}
 use Rattle.kernel_dispatch.specs.KernelModel.Kernel.{Kernel}
 use Rattle.kernel_dispatch.specs.KernelModel.Lists.{Lists}
-use Rattle.kernel_dispatch.specs.KernelModel.Recovered.{lists_in, task_in}
+use Rattle.kernel_dispatch.specs.KernelModel.Recovered.{task_in}
 use Rattle.kernel_dispatch.specs.KernelModel.Task.{Task}
 use Rattle.kernel_dispatch.specs.TaskBlock.TaskChain.{id_in, task_with, tasks_in}
-use Rattle.kernel_dispatch.specs.TaskBlock.RootWords.{root_address}
-use Rattle.kernel_dispatch.specs.TaskBlock.declared.roots.RootField.TheVariants.{Tick}
-use Rattle.std.specs.Prelude.{slice_index}
 use Rattle.cint_debug.specs.TriposMachine.KernelMachine.Stands.{Stands}
 use Rattle.cint_debug.specs.TriposMachine.KernelMachine.declared.parts.Parts.{Parts}
 use Rattle.cint_debug.specs.TriposMachine.State.{StandsFull, State}
 use Rattle.cint_debug.specs.TriposMachine.State.State.{Bare, Full}
-use Rattle.cint_debug.proofs.KernelLists.{tasks-back, tick-back}
+use Rattle.cint_debug.proofs.KernelLists.{tasks-back}
 use Rattle.step_log.specs.Answers.{answer_at, answer_of_task, answer_saved}
 
 -- what holds of each kernel for which the parts stand, holds of the machine

@@ -1,11 +1,10 @@
 -- The lines of a step, and of one step after another.
-use Rattle.std.proofs.Common.{◌≡◌, ◌∙◌, ℕ, zero, suc, ◌+◌, ◌-◌, ◌<◌, ◌≤◌, ◌++◌, Bool, true, false, Option, Some, None, List, [], arith, length, refl, sym, ap, subst, append_assoc, append-nil}
+use Rattle.std.proofs.Common.{◌≡◌, ◌∙◌, ℕ, zero, suc, ◌+◌, ◌-◌, ◌<◌, ◌≤◌, ◌++◌, true, false, Option, List, [], arith, length, refl, sym, ap, subst, append_assoc, append-nil}
 use Rattle.std.specs.Prelude.{is_some, slice_get}
 use Rattle.std.specs.List.{flat_map}
 use Rattle.tp_io.specs.Pending.{IsCut, IsGathered}
 use Rattle.tp_io.proofs.GatheredTexts.{IsCut-more, IsCut-then, IsGathered-nothing, IsGathered-then}
 use Rattle.cint_debug.specs.TriposMachine.KernelCalls.KernelModel.Ranges.{most_steps}
-use Rattle.cint_debug.specs.TriposMachine.KernelCalls.KernelModel.declared.stops.Stop.{Stop}
 use Rattle.cint_debug.specs.TriposMachine.State.{State, keys_to_come, steps_of, stop_of}
 use Rattle.cint_debug.specs.TriposMachine.Step.{Stepped, run, step}
 use Rattle.cint_debug.proofs.Shown.TriposMachine.StateRuns.{run-steps, run-stopped}

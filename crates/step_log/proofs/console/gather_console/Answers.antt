@@ -1,10 +1,8 @@
-use Rattle.std.proofs.Common.{List, ℕ, ◌≡◌, [], ◌∷◌, subst}
 use Rattle.std.specs.Prelude.{codes, ◌++◌}
 use Rattle.std.specs.List.{flat_map}
 use Rattle.std.proofs.lemmas.Result.{err_from_is_err_and}
 use Rattle.tp_io.proofs.GatheredTexts.{Gathers-then, IsCut-more, IsCut-then}
-use Rattle.tp_io.specs.Pending.{Gathers, IsCut}
-use Rattle.step_log.specs.Console.{console_lines, shown}
+use Rattle.step_log.specs.Console.{shown}
 use Rattle.step_log.proofs.ConsoleTexts.{bytes-some, console-some}
 use Rattle.step_log.proofs.console.gather_console.Goals as goal
 

@@ -1,7 +1,6 @@
-use Rattle.std.proofs.Common.{◌≡◌, ◌∙◌, ◌<◌, true, false, ap, sym, arith}
+use Rattle.std.proofs.Common.{◌∙◌, ◌<◌, ap, sym, arith}
 use Rattle.std.specs.Prelude.{is_some}
 use Rattle.std.proofs.lemmas.Result.{err_from_is_err_and}
-use Rattle.cint_debug.specs.TriposMachine.State.{stop_of}
 use Rattle.step_log.proofs.SteppedLines.{logged-all, logged-cut, logged-more, logged-none, logged-room, logged-stopped, state-all, state-stopped}
 use Rattle.step_log.proofs.steps.gather_steps.Goals as goal
 

@@ -1,4 +1,4 @@
-use Rattle.std.proofs.Common.{◌≡◌, ◌∙◌, ◌++◌, List, ℕ, ap, rules, subst}
+use Rattle.std.proofs.Common.{◌∙◌, ◌++◌, ap, rules, subst}
 use Rattle.std.specs.List.{flat_map}
 use Rattle.std.proofs.lemmas.Result.{err_from_is_err_and}
 use Rattle.cint_debug.specs.TriposMachine.Step.{step}
