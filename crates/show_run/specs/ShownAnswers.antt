@@ -1,5 +1,5 @@
 -- What is shown of the run of a session, in words.
-use Rattle.std.specs.Prelude.{ℕ, ◌-◌, min, List, [], ◌++◌, Result, Ok, Err, nat_lt, if◌then◌else◌}
+use Rattle.std.specs.Prelude.{ℕ, ◌-◌, min, List, Result, Ok, Err}
 use Rattle.hunk_text.specs.TextReader.Refusal.{Refusal}
 use Rattle.session_text.specs.declared.sessions.Session.{Session}
 use Rattle.step_log.specs.TriposMachine.Boot.{boot}
@@ -8,7 +8,6 @@ use Rattle.step_log.specs.TriposMachine.Step.{Stepped, run}
 use Rattle.program_answers.specs.Answer.{Answer, no_boot_answer, refused_answer}
 use Rattle.program_answers.specs.declared.status.Status.TheVariants.{Done}
 use Rattle.state_text.specs.StateText.{state_text}
-use Rattle.step_log.specs.BootLines.{boot_lines}
 use Rattle.step_log.specs.StepLines.{log_text}
 use Rattle.show_run.specs.declared.commands.Show.{Show}
 use Rattle.show_run.specs.declared.commands.Show.TheVariants.{Log, State as ShowState}
@@ -24,13 +23,9 @@ skipped first go = min (first - 1) go
 abbrev pub shown : ℕ → ℕ → ℕ → ℕ
 shown first last go = min last go - skipped first go
 
--- the events of the boot stand before the first step
-abbrev pub first_lines : ℕ → State → List ℕ
-first_lines first s = if nat_lt 1 first then [] else boot_lines s
-
 -- what happened in the steps from the first to the last, of a run of so many
 abbrev pub log_of : ℕ → ℕ → ℕ → State → List ℕ
-log_of first last go s = first_lines first s ++ log_text (shown first last go) (run (skipped first go) s).state
+log_of first last go s = log_text (shown first last go) (run (skipped first go) s).state
 
 abbrev pub shown_text : Show → ℕ → State → List ℕ
 shown_text ShowState go s = state_of go s

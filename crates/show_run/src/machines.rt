@@ -1,11 +1,10 @@
 // What is shown of a machine's run.
 ghost use Rattle.std.specs.Prelude.{◌≡◌, ◌≤◌, ◌+◌};
-ghost use Rattle.tp_io.specs.Pending.{Gathers};
 ghost use Rattle.tp_io.specs.Write.{HasCause, Prints};
 ghost use Rattle.step_log.specs.TriposMachine.KernelCalls.KernelModel.Ranges.{most_steps};
 ghost use Rattle.step_log.specs.TriposMachine.State.{steps_of};
 ghost use Rattle.step_log.specs.TriposMachine.Step.{run};
-ghost use Rattle.show_run.specs.ShownAnswers.{first_lines, log_of, shown_text, state_of};
+ghost use Rattle.show_run.specs.ShownAnswers.{log_of, shown_text, state_of};
 
 use crate::Show;
 use state_text::gather_state;
@@ -56,29 +55,11 @@ fn show_log<K: Sink>(
     ensures cause { HasCause (K.faults out.old) (K.faults out.new) result }
 {
     let mut pending = Output::new();
-    gather_first(first, machine, out, &mut pending)?;
     let skipped = first.saturating_sub(1).min(go);
     let shown = last.min(go).saturating_sub(skipped);
     take_steps(machine, skipped);
     gather_steps(machine, shown, out, &mut pending)?;
     pass_on(out, &mut pending)
-}
-
-// The events of the boot, before the first step.
-fn gather_first<K: Sink>(
-    first: u64,
-    machine: &Machine,
-    out: &mut K,
-    pending: &mut Output,
-) -> Result<(), SinkFault>
-    ensures text { Gathers (K.holds out.old) (K.holds out.new) pending.old pending.new
-        (first_lines first machine.now.state) result }
-    ensures cause { HasCause (K.faults out.old) (K.faults out.new) result }
-{
-    if first > 1 {
-        return Ok(());
-    }
-    gather_boot(machine, out, pending)
 }
 
 // Takes the steps, of which nothing is written.

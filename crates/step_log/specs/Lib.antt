@@ -5,6 +5,5 @@ pub mod Events
 pub mod Refusals
 pub mod Answers
 pub mod StepLines
-pub mod BootLines
 -- shown to the crates above
 pub use Rattle.cint_debug.specs.TriposMachine

@@ -2,7 +2,6 @@
 #![tactic(auto)]
 
 pub mod answers;
-pub mod boot;
 pub mod call_forms;
 pub mod calls;
 mod changes;
@@ -15,7 +14,6 @@ pub mod parties;
 mod refusals;
 pub mod steps;
 
-pub use boot::gather_boot;
 pub use laws::call_law;
 pub use steps::gather_steps;
 
