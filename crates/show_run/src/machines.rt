@@ -8,7 +8,7 @@ ghost use Rattle.show_run.specs.ShownAnswers.{log_of, shown_text, state_of};
 
 use crate::Show;
 use state_text::gather_state;
-use step_log::{Machine, NoLog, gather_boot, gather_steps};
+use step_log::{Machine, NoLog, gather_steps};
 use tp_io::{NoSink, Output, Sink, SinkFault, pass_on};
 
 /// Takes the steps of a machine that was booted just now, at most so many, and shows what is asked for.
