@@ -4,7 +4,9 @@ ghost use Rattle.tp_io.specs.Write.{HasCause, Prints};
 ghost use Rattle.step_log.specs.TriposMachine.KernelCalls.KernelModel.Ranges.{most_steps};
 ghost use Rattle.step_log.specs.TriposMachine.State.{steps_of};
 ghost use Rattle.step_log.specs.TriposMachine.Step.{run};
-ghost use Rattle.show_run.specs.ShownAnswers.{log_of, shown_text, state_of};
+ghost use Rattle.state_text.specs.StateText.{state_text};
+ghost use Rattle.step_log.specs.StepLines.{log_text};
+ghost use Rattle.show_run.specs.ShownAnswers.{log_of, shown, shown_text, skipped, state_of};
 
 use crate::Show;
 use state_text::gather_state;
@@ -29,6 +31,7 @@ pub(crate) fn show_machine<K: Sink>(
     }
 }
 
+// Takes all steps, and writes the state after them.
 fn show_state<K: Sink>(machine: &mut Machine, go: u64, out: &mut K) -> Result<(), SinkFault>
     requires { steps_of machine.old.state + go ≤ most_steps }
     ensures text { Prints (K.holds out.old) (K.holds out.new)
@@ -36,12 +39,20 @@ fn show_state<K: Sink>(machine: &mut Machine, go: u64, out: &mut K) -> Result<()
     ensures cause { HasCause (K.faults out.old) (K.faults out.new) result }
 {
     take_steps(machine, go);
+    write_state(machine, out)
+}
+
+fn write_state<K: Sink>(machine: &Machine, out: &mut K) -> Result<(), SinkFault>
+    ensures text { Prints (K.holds out.old) (K.holds out.new)
+        (state_text machine.now.state) result }
+    ensures cause { HasCause (K.faults out.old) (K.faults out.new) result }
+{
     let mut pending = Output::new();
     gather_state(machine, out, &mut pending)?;
     pass_on(out, &mut pending)
 }
 
-// The steps before the first are taken without a word, and at most so many in all.
+// The steps before the first are taken without a word.
 fn show_log<K: Sink>(
     first: u64,
     last: u64,
@@ -54,11 +65,33 @@ fn show_log<K: Sink>(
         (log_of first last go machine.old.state) result }
     ensures cause { HasCause (K.faults out.old) (K.faults out.new) result }
 {
+    let before = skipped(first, go);
+    let count = shown(first, last, go);
+    take_steps(machine, before);
+    write_log(machine, count, out)
+}
+
+// How many steps come before the first that is shown, of a run of so many.
+fn skipped(first: u64, go: u64) -> u64
+    ensures { result ≡ skipped first go }
+{
+    first.saturating_sub(1).min(go)
+}
+
+// How many steps are shown.
+fn shown(first: u64, last: u64, go: u64) -> u64
+    ensures { result ≡ shown first last go }
+{
+    last.min(go).saturating_sub(skipped(first, go))
+}
+
+fn write_log<K: Sink>(machine: &mut Machine, n: u64, out: &mut K) -> Result<(), SinkFault>
+    requires { steps_of machine.old.state + n ≤ most_steps }
+    ensures text { Prints (K.holds out.old) (K.holds out.new) (log_text n machine.old.state) result }
+    ensures cause { HasCause (K.faults out.old) (K.faults out.new) result }
+{
     let mut pending = Output::new();
-    let skipped = first.saturating_sub(1).min(go);
-    let shown = last.min(go).saturating_sub(skipped);
-    take_steps(machine, skipped);
-    gather_steps(machine, shown, out, &mut pending)?;
+    gather_steps(machine, n, out, &mut pending)?;
     pass_on(out, &mut pending)
 }
 

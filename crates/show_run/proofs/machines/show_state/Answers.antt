@@ -1,0 +1,9 @@
+use Rattle.std.proofs.Common.{subst}
+use Rattle.tp_io.specs.Write.{Prints}
+use Rattle.state_text.specs.StateText.{state_text}
+use Rattle.show_run.proofs.machines.show_state.Goals as goal
+
+pub returns-clause-text : goal.returns-clause-text
+returns-clause-text g c =
+    let holds = g.K.Sink.holds in
+    subst (λ t. Prints (holds c.args.out.now) (holds c.write_state.new.out) (state_text t) c.write_state.result) c.take_steps.ensures c.write_state.ensures.text
