@@ -1,0 +1,5 @@
+use Rattle.tp_io.proofs.GatheredTexts.{Prints-gathered}
+use Rattle.show_run.proofs.machines.write_state.Goals as goal
+
+pub returns-clause-text : goal.returns-clause-text
+returns-clause-text g c = Prints-gathered _ c.pass_on.result c.new-pending.ensures c.in_ok-gather_state.ensures.text c.pass_on.ensures.text
