@@ -13,7 +13,7 @@ use Rattle.kernel_dispatch.specs.KernelModel.Recovered.{lists_in}
 use Rattle.kernel_dispatch.proofs.Shown.KernelModel.RecoveredLists.{lists-back}
 use Rattle.kernel_dispatch.proofs.Shown.KernelModel.WalkedLists.{can-walk}
 use Rattle.state_text.specs.Runner.{has_keys, idle_line, runner_text, running_line}
-use Rattle.state_text.specs.StateText.{next_line}
+use Rattle.state_text.specs.StateText.{instruction_line}
 
 -- the lists in the store of the parts can be walked
 pub walks : (p : Parts) (s : State) → StandsFull p s → CanWalkLists p.store
@@ -32,10 +32,10 @@ idle-runner k none = sym (ap (λ n. cond (n == 0) (idle_line k.lists (has_keys (
 
 -- ---- the next instruction
 
-pub next-of-none : (s : State) → is_guest_next s ≡ false → next_line s ≡ []
+pub next-of-none : (s : State) → is_guest_next s ≡ false → instruction_line s ≡ []
 next-of-none s none = rw none refl
 
-pub next-nowhere : (s : State) → (regs_of s).pc ≡ 0 → next_line s ≡ []
+pub next-nowhere : (s : State) → (regs_of s).pc ≡ 0 → instruction_line s ≡ []
 next-nowhere s zero = rw zero (on (is_guest_next s))
   where
     on : (b : Bool) → cond (b && false) (instructions_text 0 1 (words_of s)) [] ≡ []

@@ -1,5 +1,5 @@
 -- The state of a machine in words.
-use Rattle.std.specs.Prelude.{ℕ, ◌==◌, ◌&&◌, not, if◌then◌else◌, Option, Some, None, List, [], ◌∷◌, codes, decimal}
+use Rattle.std.specs.Prelude.{ℕ, ◌==◌, ◌&&◌, Bool, true, false, not, if◌then◌else◌, Option, Some, None, List, [], ◌∷◌, codes, decimal}
 use Rattle.tp_io.specs.Pieces.{joined}
 use Rattle.cint_debug.specs.Texts.{blocks_text, instructions_text, registers_line}
 use Rattle.cint_debug.specs.TriposMachine.State.{State, regs_of, running_of, stop_of, words_of}
@@ -39,9 +39,24 @@ abbrev pub count_words : State → List ℕ
 count_words (Bare m) = bare_counts m.steps
 count_words (Full k) = kernel_counts k.steps k.lists.tick
 
--- the instruction that a guest is to execute next; at address 0 there is none
+-- the instruction at PC, if a guest is next; at address 0 there is none
+abbrev pub instruction_line : State → List ℕ
+instruction_line s = if is_guest_next s && not ((regs_of s).pc == 0) then instructions_text (regs_of s).pc 1 (words_of s) else []
+
+-- PC is behind the call that stopped the machine; at a fault it is where the fault was met
+abbrev pub is_end : Stop → Bool
+is_end Steps = false
+is_end (Quit code) = true
+is_end Finish = true
+is_end (Fault code address task) = false
+
+abbrev pub is_past : Option Stop → Bool
+is_past None = false
+is_past (Some stop) = is_end stop
+
+-- the instruction that a guest is to execute next, or at which it met a fault
 abbrev pub next_line : State → List ℕ
-next_line s = if is_guest_next s && not ((regs_of s).pc == 0) then instructions_text (regs_of s).pc 1 (words_of s) else []
+next_line s = if is_past (stop_of s) then [] else instruction_line s
 
 -- the lists of a kernel, of which the lines of the blocks are given
 unfoldable pub kernel_text : Lists → List ℕ → List ℕ

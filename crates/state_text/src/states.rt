@@ -3,17 +3,17 @@ ghost use Rattle.std.specs.Prelude.{◌≡◌};
 ghost use Rattle.tp_io.specs.Pending.{Gathers};
 ghost use Rattle.tp_io.specs.Write.{HasCause};
 ghost use Rattle.cint_debug.specs.Texts.{blocks_text};
-ghost use Rattle.cint_debug.specs.Views.{is_guest_next};
 ghost use Rattle.kernel_dispatch.specs.KernelModel.KernelRanges.{CanWalkLists};
 ghost use Rattle.kernel_dispatch.specs.KernelModel.Recovered.{lists_in};
-ghost use Rattle.state_text.specs.StateText.{bare_counts, count_words, kernel_counts, kernel_text, lists_text, next_line, state_text, stop_line, stopped_line};
+ghost use Rattle.state_text.specs.StateText.{bare_counts, count_words, instruction_line, is_end, is_past, kernel_counts, kernel_text, lists_text, next_line, state_text, stop_line, stopped_line};
 
 use crate::modules::gather_modules;
 use crate::queues::gather_queues;
 use crate::runner::gather_runner;
 use crate::tasks::gather_tasks;
-use cint_debug::{Machine, Stop, gather_blocks, gather_instructions, gather_registers};
-use kernel_dispatch::numbers::FIRST_GUEST;
+use cint_debug::{
+    Machine, Stop, gather_blocks, gather_instructions, gather_registers, is_guest_next,
+};
 use kernel_dispatch::{RootField, root};
 use tp_io::Piece::{Decimal, Text};
 use tp_io::{Output, Sink, SinkFault, gather, gather_pieces};
@@ -152,7 +152,7 @@ fn gather_stopped<K: Sink>(stop: Stop, out: &mut K, pending: &mut Output) -> Res
     }
 }
 
-// The instruction that a guest is to execute next.
+// The instruction that a guest is to execute next, or at which it met a fault.
 fn gather_next<K: Sink>(
     machine: &Machine,
     out: &mut K,
@@ -162,6 +162,41 @@ fn gather_next<K: Sink>(
         (next_line machine.now.state) result }
     ensures cause { HasCause (K.faults out.old) (K.faults out.new) result }
 {
+    if is_past(machine.stop()) {
+        return Ok(());
+    }
+    gather_instruction(machine, out, pending)
+}
+
+// Whether a machine has stopped with PC behind what stopped it.
+fn is_past(stop: Option<Stop>) -> bool
+    ensures { result ≡ is_past stop }
+{
+    match stop {
+        Some(stop) => is_end(stop),
+        None => false,
+    }
+}
+
+fn is_end(stop: Stop) -> bool
+    ensures { result ≡ is_end stop }
+{
+    match stop {
+        Stop::Steps | Stop::Fault { .. } => false,
+        Stop::Quit(_) | Stop::Finish => true,
+    }
+}
+
+// The instruction at PC, if a guest is next.
+fn gather_instruction<K: Sink>(
+    machine: &Machine,
+    out: &mut K,
+    pending: &mut Output,
+) -> Result<(), SinkFault>
+    ensures text { Gathers (K.holds out.old) (K.holds out.new) pending.old pending.new
+        (instruction_line machine.now.state) result }
+    ensures cause { HasCause (K.faults out.old) (K.faults out.new) result }
+{
     if !is_guest_next(machine) {
         return Ok(());
     }
@@ -169,13 +204,6 @@ fn gather_next<K: Sink>(
         0 => Ok(()),
         pc => gather_instructions(machine.store(), pc, 1, out, pending),
     }
-}
-
-// Whether a guest is the next to do something; on a machine without a kernel every instruction is a guest's.
-fn is_guest_next(machine: &Machine) -> bool
-    ensures { result ≡ is_guest_next machine.now.state }
-{
-    machine.kernel_parts().is_none() || machine.running() >= FIRST_GUEST
 }
 
 // The lists of a kernel; none on a machine without one.
