@@ -1,10 +1,8 @@
 -- A machine with a kernel, of which the lists are read off its store.
-use Rattle.std.proofs.Common.{◌≡◌, ◌==◌, ◌&&◌, Bool, true, false, [], cond, is_some, refl, sym, ap, subst}
-use Rattle.cint_debug.specs.Texts.{instructions_text}
+use Rattle.std.proofs.Common.{◌≡◌, ◌==◌, cond, is_some, sym, ap, subst}
 use Rattle.cint_debug.specs.TriposMachine.KernelMachine.declared.parts.Parts.{Parts}
-use Rattle.cint_debug.specs.TriposMachine.State.{StandsFull, State, regs_of, words_of}
+use Rattle.cint_debug.specs.TriposMachine.State.{StandsFull, State}
 use Rattle.cint_debug.specs.TriposMachine.State.State.{Bare, Full}
-use Rattle.cint_debug.specs.Views.{is_guest_next}
 use Rattle.cint_debug.proofs.KernelParts.{held-lists}
 use Rattle.kernel_dispatch.specs.KernelModel.Kernel.{Kernel}
 use Rattle.kernel_dispatch.specs.KernelModel.KernelRanges.{CanWalkLists}
@@ -13,7 +11,6 @@ use Rattle.kernel_dispatch.specs.KernelModel.Recovered.{lists_in}
 use Rattle.kernel_dispatch.proofs.Shown.KernelModel.RecoveredLists.{lists-back}
 use Rattle.kernel_dispatch.proofs.Shown.KernelModel.WalkedLists.{can-walk}
 use Rattle.state_text.specs.Runner.{has_keys, idle_line, runner_text, running_line}
-use Rattle.state_text.specs.StateText.{instruction_line}
 
 -- the lists in the store of the parts can be walked
 pub walks : (p : Parts) (s : State) → StandsFull p s → CanWalkLists p.store
@@ -29,15 +26,3 @@ on-lists p (Full k) P x each =
 -- where nobody runs, that and the reason are said
 pub idle-runner : (k : Kernel) → k.lists.running ≡ 0 → idle_line k.lists (has_keys (Full k)) ≡ runner_text (Full k)
 idle-runner k none = sym (ap (λ n. cond (n == 0) (idle_line k.lists (has_keys (Full k))) (running_line k.lists.running (is_some k.stop))) none)
-
--- ---- the next instruction
-
-pub next-of-none : (s : State) → is_guest_next s ≡ false → instruction_line s ≡ []
-next-of-none s none = rw none refl
-
-pub next-nowhere : (s : State) → (regs_of s).pc ≡ 0 → instruction_line s ≡ []
-next-nowhere s zero = rw zero (on (is_guest_next s))
-  where
-    on : (b : Bool) → cond (b && false) (instructions_text 0 1 (words_of s)) [] ≡ []
-    on true = refl
-    on false = refl
