@@ -8,8 +8,8 @@ ghost use Rattle.tripos_machine.specs.State.{steps_of};
 ghost use Rattle.tripos_machine.specs.Step.{run};
 
 use crate::Machine;
-use history_law::{EventLog, Stop};
-use tp_io::{Output, Sink, SinkFault, gather};
+use history_law::{EventLog, NoLog, Stop};
+use tp_io::{NoSink, Output, Sink, SinkFault, gather};
 
 impl Machine {
     /// Takes at most n steps, whose console bytes are gathered, and whose events are noted. The answer is why the machine has
@@ -47,5 +47,16 @@ impl Machine {
             }
         }
         Ok(self.stop().unwrap_or(Stop::Steps))
+    }
+
+    /// Takes at most n steps. Their console bytes and their events go nowhere.
+    pub fn run_unheard(&mut self, n: u64)
+        requires { steps_of self.old.state + n ≤ most_steps }
+        ensures { self.new.state ≡ (run n self.old.state).state }
+    {
+        match self.run(n, &mut NoSink, &mut Output::new(), &mut NoLog) {
+            Ok(_) => {}
+            Err(SinkFault) => unreachable!(),
+        }
     }
 }

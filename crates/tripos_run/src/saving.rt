@@ -1,12 +1,9 @@
 // The answer to a session whose machine is saved.
-ghost use Rattle.std.specs.Prelude.{◌≡◌, ◌<◌, ◌≤◌, ◌+◌, ◌^◌, length};
+ghost use Rattle.std.specs.Prelude.{◌<◌, ◌^◌, length};
 ghost use Rattle.tp_io.specs.Write.{HasCause, Prints};
 ghost use Rattle.session_text.specs.Canonical.{IsLawful};
 ghost use Rattle.session_text.specs.SessionOfText.{session_of};
 ghost use Rattle.cint_debug.specs.TriposMachine.Boot.{boot};
-ghost use Rattle.cint_debug.specs.TriposMachine.KernelCalls.KernelModel.Ranges.{most_steps};
-ghost use Rattle.cint_debug.specs.TriposMachine.State.{steps_of, stop_of};
-ghost use Rattle.cint_debug.specs.TriposMachine.Step.{run};
 ghost use Rattle.image_print.specs.ImageText.Canonical.{canonical};
 ghost use Rattle.image_print.specs.SavedImage.{saved_image};
 ghost use Rattle.program_answers.specs.Answer.{Answers};
@@ -18,12 +15,12 @@ ghost use Rattle.tripos_run.specs.Texts.{closing_text};
 
 use crate::ends::status_of;
 use crate::messages::gather_closing;
-use cint_debug::{BootEnd, Machine, NoLog, Stop, boot};
+use cint_debug::{BootEnd, Machine, Stop, boot};
 use image_print::print_image;
 use program_answers::{Status, status_after, write_no_boot, write_refused};
 use session_text::{Session, SessionEnd, read_session};
 use std::alloc::Global;
-use tp_io::{NoSink, Output, Sink, SinkFault, pass_on};
+use tp_io::{Output, Sink, SinkFault, pass_on};
 
 /// Runs a session, and writes the text of its machine.
 pub(crate) fn answer_saving<K: Sink>(alloc: Global, text: &[u8], out: &mut K) -> Status
@@ -52,24 +49,13 @@ fn save_session<K: Sink>(alloc: Global, session: &Session, out: &mut K) -> Statu
 {
     match boot(alloc, session) {
         Ok(mut machine) => {
-            run_unheard(&mut machine, session.go);
+            machine.run_unheard(session.go);
             save_machine(&machine, session, out)
         }
         Err(BootEnd::Line { line, code }) => {
             status_after(write_no_boot(out, line, code), Status::NoBoot)
         }
         Err(BootEnd::WantMemory) => Status::WantMemory,
-    }
-}
-
-// Runs a machine for so many steps. Its console bytes go nowhere.
-fn run_unheard(machine: &mut Machine, go: u64)
-    requires { steps_of machine.old.state + go ≤ most_steps }
-    ensures { machine.new.state ≡ (run go machine.old.state).state }
-{
-    match machine.run(go, &mut NoSink, &mut Output::new(), &mut NoLog) {
-        Ok(_) => {}
-        Err(SinkFault) => unreachable!(),
     }
 }
 
