@@ -7,8 +7,8 @@ use Rattle.step_log.proofs.steps.note_step.Goals as goal
 
 pub returns : goal.returns
 returns g c =
-    let old = c.args.log.now in
-    let new = c.step.new.log in
+    let old = c.args.log.now.lines in
+    let new = c.step.new.log.lines in
     let holds = g.K.Sink.holds in
     let faults = g.K.Sink.faults in
     let was = kept old.out.ghost_name (faults old.first.value) (holds old.first.value) old.before.value (old.words.step ∷ old.words.tick ∷ old.words.task ∷ old.words.pc ∷ []) in
