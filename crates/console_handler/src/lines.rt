@@ -7,9 +7,6 @@ use arrayvec::ArrayVec;
 use std::marker::Model;
 use tp_io::Output;
 
-/// The most bytes of a line.
-pub const MOST_LINE_BYTES: usize = 120;
-
 /// What is echoed where a line has no room.
 const BELL: &[u8] = &[7];
 

@@ -11,13 +11,10 @@ ghost use Rattle.fault_reporter.specs.Recorded.{OwnsSame};
 ghost use Rattle.fault_reporter.specs.Texts.{is_unreported_word, most_in_line, report, report_at, reports_in};
 
 use itoa::Buffer;
-use pipe_handler::numbers::{FAULT_ADDRESS, FAULT_WORD, FIRST_GUEST};
+use pipe_handler::numbers::{FAULT_ADDRESS, FAULT_WORD, FIRST_GUEST, REPORTED};
 use pipe_handler::{TcbField, field, find, set_field, tasks};
 use tp_io::Output;
 use word_store::Store;
-
-/// By so much the word of a fault that was reported is larger than its code.
-const REPORTED: u32 = 256;
 
 /// One more than the highest number that a task may have.
 const END_OF_IDS: u32 = 64;

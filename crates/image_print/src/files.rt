@@ -11,11 +11,8 @@ ghost use Rattle.image_print.specs.Texts.{bytes_text, files_text};
 use arrayvec::ArrayVec;
 use hunk_text::TextBytes;
 use image_lines::{print_bytes, print_file};
-use ram_disc::{Disc, Name};
+use ram_disc::{Disc, END_OF_FILES, Name};
 use tp_io::{Output, Sink, SinkFault};
-
-/// One more than the most files of a disc.
-pub(crate) const END_OF_FILES: u32 = 65;
 
 /// The most bytes of a line.
 const BYTES_IN_LINE: u32 = 32;

@@ -11,13 +11,13 @@ ghost use Rattle.machine_image.specs.TriposMachine.KernelMachine.Stands.{Stands}
 ghost use Rattle.machine_image.specs.TriposMachine.KernelSteps.KernelResidents.PipeHandler.PipeCalls.{pipe_numbered};
 ghost use Rattle.image_print.specs.Numbers.{AreWords, HasNumbers, HoldsBytes, KeepsBytes};
 
-use crate::files::END_OF_FILES;
-use crate::pipes::{END_OF_PIPES, held_by};
+use crate::pipes::held_by;
 use crate::words::all_words;
 use arrayvec::ArrayVec;
 use hunk_text::TextBytes;
+use kernel_dispatch::numbers::END_OF_PIPES;
 use machine_image::{KernelParts, Machine, Pipes};
-use ram_disc::{Disc, Name};
+use ram_disc::{Disc, END_OF_FILES, Name};
 use word_store::Regs;
 
 /// Tells that the words of a machine are words, and its bytes bytes.

@@ -12,14 +12,12 @@ use crate::residents::flag;
 use arrayvec::ArrayVec;
 use hunk_text::SliceText;
 use image_lines::print_pipe;
+use kernel_dispatch::numbers::{END_OF_PIPES, MOST_HELD};
 use machine_image::Pipes;
 use tp_io::{Output, Sink, SinkFault};
 
-/// One more than the number of the last pipe.
-pub(crate) const END_OF_PIPES: u32 = 9;
-
-/// The most bytes that a pipe holds.
-const MOST_HELD: u32 = 1024;
+/// The most bytes that a pipe holds, as the places of a walk along them are counted.
+const PLACES: u32 = MOST_HELD as u32;
 
 /// Adds a line for each pipe to what is pending, in the order of their numbers.
 pub(crate) fn print_pipes<K: Sink>(
@@ -71,7 +69,7 @@ pub(crate) fn held_by(pipes: &Pipes, k: u32) -> ArrayVec<u8, 1024>
     ensures { result.items ≡ held_by (pipe_numbered pipes.now k) }
 {
     let mut held = ArrayVec::new();
-    for i in 0..MOST_HELD {
+    for i in 0..PLACES {
         let Some(byte) = byte_at(pipes, k, i) else {
             return held;
         };

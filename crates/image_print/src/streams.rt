@@ -9,11 +9,8 @@ ghost use Rattle.image_print.specs.Texts.{statements_text};
 
 use crate::residents::flag;
 use image_lines::print_stream;
-use ram_disc::Disc;
+use ram_disc::{Disc, END_OF_STREAMS};
 use tp_io::{Output, Sink, SinkFault};
-
-/// One more than the number of the last stream.
-const END_OF_STREAMS: u32 = 18;
 
 /// Adds a line for each stream that is open to what is pending, in the order of their numbers.
 pub(crate) fn print_streams<K: Sink>(

@@ -8,18 +8,15 @@ ghost use Rattle.kernel_check.specs.ConsoleLine.{console_of};
 
 use list_passes::has_residents;
 use list_passes::kernel_dispatch::NO_QUEUE;
-use list_passes::kernel_dispatch::numbers::{KEY_PACKET, PENDING_HEAD};
+use list_passes::kernel_dispatch::numbers::{KEY_PACKET, MOST_LINE, PENDING_HEAD};
 use word_store::{Store, word};
-
-/// The most bytes of the line.
-const MOST_BYTES: usize = 120;
 
 /// Whether the line, which is finished or not, may be the console's. It looks at two words.
 pub fn console_stands(store: &Store, line: &[u8], finished: bool) -> bool
     requires { HoldsLists store.now (lists_in store.now) }
     ensures { IsTrue result ↔ ConsoleStands (lists_in store.now) (console_of line.now finished) }
 {
-    if line.len() > MOST_BYTES {
+    if line.len() > MOST_LINE {
         return false;
     }
     if !has_residents(store) {

@@ -14,7 +14,7 @@ ghost use Rattle.kernel_check.specs.Reports.{is_unreported_as};
 
 use list_passes::has_task;
 use list_passes::kernel_dispatch::numbers::{
-    FAULT_PACKET, FAULT_WORD, FIRST_GUEST, REPORTER, SENDER,
+    FAULT_PACKET, FAULT_WORD, FIRST_GUEST, REPORTED, REPORTER, SENDER,
 };
 use list_passes::kernel_dispatch::{NO_QUEUE, TcbField, field, packets, tasks};
 use word_store::{Store, word, word_at};
@@ -65,7 +65,7 @@ fn are_unreported(store: &Store) -> bool
 fn is_unreported(store: &Store, t: u32) -> bool
     ensures { result ≡ is_unreported (task_in store.now t) }
 {
-    field(store, t, FAULT_WORD) >= 1 && field(store, t, FAULT_WORD) < 256
+    field(store, t, FAULT_WORD) >= 1 && field(store, t, FAULT_WORD) < REPORTED
 }
 
 // Whether the fault packet, where the task that reports faults has it, is from a guest with such a fault.

@@ -67,8 +67,23 @@ pub const FAULT_KIND: u32 = 40;
 /// The word of a task block that has the code of the task's fault: 0 where it had none, and 256 more once it was reported.
 pub const FAULT_WORD: TcbField = TcbField::Extra1;
 
+/// By so much that word is larger once the fault was reported; the codes are smaller.
+pub const REPORTED: u32 = 256;
+
 /// The word of a task block that has the address of that fault.
 pub const FAULT_ADDRESS: TcbField = TcbField::Extra2;
+
+/// The most bytes of a line that is typed, and of the one that the shell has.
+pub const MOST_LINE: usize = 120;
+
+/// The most bytes that are typed ahead.
+pub const MOST_AHEAD: usize = 128;
+
+/// The most bytes that a pipe holds.
+pub const MOST_HELD: usize = 1024;
+
+/// One more than the number of the last pipe.
+pub const END_OF_PIPES: u32 = 9;
 
 /// How many words a resident's task block has.
 pub const RESIDENT_WORDS: u32 = 23;

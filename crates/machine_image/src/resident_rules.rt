@@ -15,14 +15,8 @@ use crate::store_rules::version_of;
 use image_text::{Image, Mode, SavedStream};
 use kernel_check::{console_stands, has_residents, highest_of};
 use ram_disc::codes::SHELL_STREAM;
-use tripos_machine::numbers::FIRST_GUEST;
+use tripos_machine::numbers::{FIRST_GUEST, MOST_AHEAD, MOST_LINE};
 use word_store::Store;
-
-/// The most bytes that are typed ahead.
-const MOST_AHEAD: usize = 128;
-
-/// The most bytes of the shell's line.
-const MOST_LINE: usize = 120;
 
 /// Whether the console's line, the shell, open streams, pipes and what is typed ahead are as the lists have it.
 pub(crate) fn residents_keep(image: &Image) -> bool

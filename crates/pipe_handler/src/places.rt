@@ -7,7 +7,8 @@ ghost use Rattle.pipe_handler.specs.Ends.{handle_at, is_end, is_named, place_for
 ghost use Rattle.pipe_handler.specs.PipeCalls.{are_ends, can_restore, pipe_numbered};
 ghost use Rattle.pipe_handler.specs.Slots.{IsPlaceOf, pipe_in, pipes_in};
 
-use crate::slots::{ROOM, Slot};
+use crate::slots::Slot;
+use file_handler::numbers::MOST_HELD;
 
 /// The place of the pipe of this name, or else the lowest one that is free.
 pub(crate) fn place_for(slots: &[Slot], name: &[u8]) -> Option<usize>
@@ -81,7 +82,7 @@ pub(crate) fn can_restore(
     if !are_ends(ends) {
         return false;
     }
-    bytes.len() <= ROOM
+    bytes.len() <= MOST_HELD
 }
 
 // Whether pipe k, from 1, is one of the eight and not there.

@@ -9,12 +9,10 @@ ghost use Rattle.pipe_handler.specs.PipeCalls.{has_more};
 ghost use Rattle.pipe_handler.specs.Slots.{IsRing, pipe_in};
 
 use circular_buffer::HeapCircularBuffer;
+use file_handler::numbers::MOST_HELD;
 use ram_disc::Name;
 use std::alloc::Global;
 use tp_io::WantMemory;
-
-/// The most bytes that a pipe holds.
-pub(crate) const ROOM: usize = 1024;
 
 /// A pipe, which is there where one of its ends is open: its name, the bytes that were written and not read, and whether its reading
 /// end is open, its writing end is, and that ever was.
@@ -38,7 +36,7 @@ impl Slot {
         ensures ring { IfOk result (λ s. IsRing s.held) }
         ensures empty { IfOk result (λ s. pipe_in s ≡ None) }
     {
-        let Ok(held) = HeapCircularBuffer::with_capacity(alloc, ROOM) else {
+        let Ok(held) = HeapCircularBuffer::with_capacity(alloc, MOST_HELD) else {
             return Err(WantMemory);
         };
         Ok(Slot {
@@ -130,7 +128,7 @@ impl Slot {
     pub(crate) fn has_room(&self) -> bool
         ensures { result ≡ nat_lt (length self.now.held.items) most_held }
     {
-        self.held.len() < ROOM
+        self.held.len() < MOST_HELD
     }
 
     /// Gives the first bytes, as many as there is room for, and how many they are.

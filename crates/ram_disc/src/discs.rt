@@ -18,6 +18,12 @@ use std::alloc::Global;
 use std::marker::Model;
 use tp_io::WantMemory;
 
+/// One more than the most files, up to which a walk goes that looks at the k-th.
+pub const END_OF_FILES: u32 = 65;
+
+/// One more than the number of the last stream.
+pub const END_OF_STREAMS: u32 = 18;
+
 /// A disc of 64 files at most and 4,096 sectors of 512 bytes, on which 17 streams may be open.
 #[derive(Drop)]
 pub struct Disc {

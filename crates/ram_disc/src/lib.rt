@@ -10,6 +10,6 @@ pub mod names;
 mod places;
 mod sectors;
 
-pub use discs::Disc;
+pub use discs::{Disc, END_OF_FILES, END_OF_STREAMS};
 pub use file_bytes::FileBytes;
 pub use names::Name;

@@ -4,11 +4,8 @@ ghost use Rattle.ram_disc.specs.Disc.{IsDisc};
 ghost use Rattle.shell_listings.specs.FileLines.{file_lines, most_in_file_line, most_in_files, name_and_size};
 
 use crate::columns::{append_left, append_right};
-use ram_disc::{Disc, Name};
+use ram_disc::{Disc, END_OF_FILES, Name};
 use tp_io::Output;
-
-/// One more than the most files of a disc.
-const END_OF_FILES: u32 = 65;
 
 /// Writes a line for each file, in byte order of their names: the name left in 12 places, a space, and the size right in 8 places.
 #[tactic(auto, unfolding(crate::specs::FileLines::file_lines))]

@@ -6,10 +6,10 @@ use Rattle.kernel_dispatch.specs.KernelModel.Between.{is_empty_queue}
 use Rattle.kernel_dispatch.specs.KernelModel.Lists.{Lists}
 use Rattle.kernel_dispatch.specs.KernelModel.Task.{Task}
 use Rattle.kernel_dispatch.specs.KernelModel.ValidTasks.{interrupted, runs, waits}
+use Rattle.kernel_dispatch.specs.KernelModel.declared.numbers.TheConstants.{REPORTED}
 use Rattle.state_text.specs.AwaitedPackets.{awaited_lines}
 use Rattle.state_text.specs.PacketTexts.{packet_lines}
 use Rattle.state_text.specs.declared.places.Place.TheVariants.{Task as OfTask}
-use Rattle.state_text.specs.declared.tasks.TheConstants.{REPORTED}
 
 -- what a task does, by the field of its state
 abbrev pub field_words : ℕ → List ℕ

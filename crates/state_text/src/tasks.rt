@@ -13,14 +13,13 @@ use crate::awaited::gather_awaited;
 use crate::packets::gather_packets;
 use crate::places::Place;
 use crate::queues::is_empty_queue;
-use kernel_dispatch::numbers::{FAULT_ADDRESS, FAULT_WORD, HELD, INTERRUPTED, RUNS, WAITS};
+use kernel_dispatch::numbers::{
+    FAULT_ADDRESS, FAULT_WORD, HELD, INTERRUPTED, REPORTED, RUNS, WAITS,
+};
 use kernel_dispatch::{TcbField, field, tasks};
 use tp_io::Piece::{Decimal, Text};
 use tp_io::{Output, Sink, SinkFault, gather, gather_pieces};
 use word_store::Store;
-
-/// By so much the code of a fault is larger once it was reported.
-const REPORTED: u32 = 256;
 
 /// Gathers the lines of each task, in the order of the chain.
 #[tactic(auto, unfolding(crate::specs::TaskTexts::tasks_text))]

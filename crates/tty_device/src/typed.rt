@@ -9,14 +9,12 @@ ghost use Rattle.tty_device.specs.Typed.{with_typed};
 
 use arrayvec::ArrayVec;
 use circular_buffer::HeapCircularBuffer;
+use clock_device::numbers::MOST_AHEAD;
 use clock_device::{Device, EventLog, RootField, return_first, root};
 use std::alloc::Global;
 use std::marker::Model;
 use tp_io::WantMemory;
 use word_store::Store;
-
-/// How many bytes are held at most.
-const ROOM: usize = 128;
 
 /// At most 128 bytes, seen as their list, the first that was typed first.
 #[derive(Drop)]
@@ -41,7 +39,7 @@ impl Tty {
     pub fn new(alloc: Global) -> Result<Tty, WantMemory>
         ensures { IfOk result (λ t. t ≡ []) }
     {
-        match HeapCircularBuffer::with_capacity(alloc, ROOM) {
+        match HeapCircularBuffer::with_capacity(alloc, MOST_AHEAD) {
             Ok(bytes) => Ok(Tty { bytes }),
             Err(_) => Err(WantMemory),
         }

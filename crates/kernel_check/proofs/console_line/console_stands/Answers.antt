@@ -6,7 +6,7 @@ use Rattle.kernel_check.proofs.console_line.console_stands.Goals as goal
 
 pub returns-then-not-has_residents : goal.returns-then-not-has_residents
 returns-then-not-has_residents c =
-    absent-stands (lists_in c.args.store.now) c.args.line.now c.args.finished (omega (arith, c.if-line-gt-MOST_BYTES.false)) (sym c.has_residents.ensures ∙ c.if-not-has_residents.true) c.is_absent.result
+    absent-stands (lists_in c.args.store.now) c.args.line.now c.args.finished (omega (arith, c.if-line-gt-MOST_LINE.false)) (sym c.has_residents.ensures ∙ c.if-not-has_residents.true) c.is_absent.result
     c.is_absent.ensures
 
 pub returns-then-not-key_tells : goal.returns-then-not-key_tells
@@ -14,7 +14,7 @@ returns-then-not-key_tells c = (λ t. absurd (false≢true t), λ h. sym c.if-no
 
 pub returns : goal.returns
 returns c = (
-  λ t. line-stands (lists_in c.args.store.now) c.args.line.now c.args.finished (omega (arith, c.if-line-gt-MOST_BYTES.false)) (sym c.has_residents.ensures ∙ c.if-not-has_residents.false)
+  λ t. line-stands (lists_in c.args.store.now) c.args.line.now c.args.finished (omega (arith, c.if-line-gt-MOST_LINE.false)) (sym c.has_residents.ensures ∙ c.if-not-has_residents.false)
       (c.key_tells.ensures.0 c.if-not-key_tells.false) (c.is_delivered.ensures.0 t),
   λ h. c.is_delivered.ensures.1 h.delivered,
 )
