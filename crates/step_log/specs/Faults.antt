@@ -5,10 +5,10 @@ use Rattle.std.specs.Option.{option_map}
 use Rattle.tp_io.specs.Pieces.{joined}
 use Rattle.kernel_dispatch.specs.KernelModel.Recovered.{task_in}
 use Rattle.kernel_dispatch.specs.KernelModel.Task.{Task}
+use Rattle.kernel_dispatch.specs.KernelModel.declared.numbers.TheConstants.{REPORTED}
 use Rattle.cint_debug.specs.TriposMachine.State.{State}
 use Rattle.cint_debug.specs.TriposMachine.State.State.{Bare, Full}
 use Rattle.step_log.specs.declared.faults.FaultRecord.{FaultRecord}
-use Rattle.step_log.specs.declared.faults.TheConstants.{REPORTED}
 use Rattle.step_log.specs.declared.moments.Moment.{Moment}
 use Rattle.step_log.specs.Moments.{line}
 

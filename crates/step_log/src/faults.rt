@@ -10,14 +10,11 @@ ghost use Rattle.step_log.specs.Faults.{fault_lines, is_same, record_at, record_
 
 use crate::moments::{Moment, gather_line};
 use cint_debug::Machine;
-use kernel_dispatch::numbers::{FAULT_ADDRESS, FAULT_WORD};
+use kernel_dispatch::numbers::{FAULT_ADDRESS, FAULT_WORD, REPORTED};
 use kernel_dispatch::{field, find};
 use tp_io::Piece::{Decimal, Text};
 use tp_io::{Output, Sink, SinkFault};
 use word_store::Store;
-
-/// By so much the code of a fault is larger once it was reported.
-const REPORTED: u32 = 256;
 
 /// What is recorded of a task's fault.
 #[derive(Clone, Copy, Debug, PartialEq, Eq)]
