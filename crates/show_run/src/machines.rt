@@ -91,13 +91,12 @@ fn gather_log<K: Sink>(
 // The boot, where the first step is 0.
 fn gather_boot_part<K: Sink>(
     first: u64,
-    machine: &mut Machine,
+    machine: &Machine,
     out: &mut K,
     pending: &mut Output,
 ) -> Result<(), SinkFault>
     ensures text { Gathers (K.holds out.old) (K.holds out.new) pending.old pending.new
-        (boot_part first machine.old.state) result }
-    ensures state { machine.new.state ≡ machine.old.state }
+        (boot_part first machine.now.state) result }
     ensures cause { HasCause (K.faults out.old) (K.faults out.new) result }
 {
     if first != 0 {

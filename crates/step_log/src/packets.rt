@@ -21,7 +21,7 @@ pub const MOST_TOLD: usize = 64;
 pub(crate) fn keep(told: &mut ArrayVec<Option<u32>, MOST_TOLD>, e: KernelEvent)
     ensures { told.new.items ≡ take MOST_TOLD (told.old.items ++ accepted e ∷ []) }
 {
-    if told.is_full() {
+    if told.len() >= MOST_TOLD {
         return;
     }
     told.push(accepted(e));

@@ -26,7 +26,6 @@ use arrayvec::ArrayVec;
 use cint_debug::Machine;
 use std::mem;
 use tp_io::{Output, Sink, SinkFault};
-use trace_log::TraceLog;
 
 /// Takes at most n steps, up to one that stops the machine, and gathers what happens in them, a line each: in the order of a step its
 /// instruction, its call, its events, the packets that were accepted, what the call answers, a fault of the task, what is written to the
@@ -105,14 +104,16 @@ fn take_step<K: Sink>(
     ensures told { IfOk result (λ told. told.items ≡ told_of (step machine.old.state).events) }
     ensures cause { HasCause (K.faults out.old) (K.faults out.new) result }
 {
-    let mut log = StepEvents {
-        lines: TraceLog::new(out, m, mem::replace(pending, Output::new())),
-        told: ArrayVec::new(),
-    };
+    let mut log = StepEvents::new(out, m, mem::replace(pending, Output::new()));
     note_step(machine, &mut log);
-    let StepEvents { lines, told } = log;
-    *pending = lines.into_pending()?;
-    Ok(told)
+    let (rest, told) = log.into_told();
+    match rest {
+        Ok(rest) => {
+            *pending = rest;
+            Ok(told)
+        }
+        Err(SinkFault) => Err(SinkFault),
+    }
 }
 
 // Notes the events of a step, and says besides that the log writes where and what it did: its marks are still there.
@@ -120,13 +121,13 @@ fn note_step<K: Sink>(machine: &mut Machine, log: &mut StepEvents<K>)
     requires { steps_of machine.old.state < most_steps }
     ensures state { machine.new.state ≡ (step machine.old.state).state }
     ensures output { machine.new.output ≡ (step machine.old.state).bytes }
-    ensures same_reference { log.new.lines.out.ghost_name ≡ log.old.lines.out.ghost_name }
-    ensures same_first { K.holds log.new.lines.first.value ≡ K.holds log.old.lines.first.value }
-    ensures same_faults { K.faults log.new.lines.first.value ≡ K.faults log.old.lines.first.value }
-    ensures same_before { log.new.lines.before.value ≡ log.old.lines.before.value }
-    ensures same_words { log.new.lines.words ≡ log.old.lines.words }
-    ensures events { NotesAll (Some (events_of log.old.lines.trail))
-        (Some (events_of log.new.lines.trail)) log.old.lines.failed log.new.lines.failed
+    ensures same_reference { log.new.out.ghost_name ≡ log.old.out.ghost_name }
+    ensures same_first { K.holds log.new.first.value ≡ K.holds log.old.first.value }
+    ensures same_faults { K.faults log.new.first.value ≡ K.faults log.old.first.value }
+    ensures same_before { log.new.before.value ≡ log.old.before.value }
+    ensures same_moment { log.new.moment ≡ log.old.moment }
+    ensures events { NotesAll (Some (events_of log.old.trail))
+        (Some (events_of log.new.trail)) log.old.failed log.new.failed
         (step machine.old.state).events }
 {
     machine.step(log);

@@ -1,4 +1,4 @@
-use Rattle.std.specs.Prelude.{[], ◌∷◌, refl}
+use Rattle.std.specs.Prelude.{[], ◌∷◌}
 use Rattle.trace_log.specs.Marks.{kept}
 use Rattle.trace_log.specs.Trails.{events_of}
 use Rattle.trace_log.proofs.MarkedLists.{NotesAll-rest, marked}
@@ -15,7 +15,6 @@ returns g c =
     let now = kept new.out.ghost_name (faults new.first.value) (holds new.first.value) new.before.value (new.words.step ∷ new.words.tick ∷ new.words.task ∷ new.words.pc ∷ []) in
     let is = marked was now (events_of old.trail) (events_of new.trail) _ _ _ c.note_boot.ensures in
     record {
-      state = refl;
       same_reference = is.name;
       same_first = is.first;
       same_faults = is.faults;
