@@ -81,7 +81,10 @@ impl<'a, K: Sink> StepEvents<'a, K> {
         ensures whole { OnOk result.0 (self.entry.failed ≡ false) }
     {
         let StepEvents {
-            pending, cut, told, ..
+            pending,
+            cut,
+            told,
+            ..
         } = self;
         (unless_cut(cut, pending), told)
     }
