@@ -38,7 +38,7 @@ start:  LM1             ; the packet is globals 20 to 25: its link is -1,
         L 10
         LF wrch
         K8
-        L 0
+        L 9             ; an argument that is not to be added
         SP 12
         L 2
         LF ask

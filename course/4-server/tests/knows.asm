@@ -1,5 +1,5 @@
-; A client: sends a request of type 9, adds 9, and asks for the sum. It writes both results of each. Before
-; each both hold 99.
+; A client: sends requests of the types 9, 3, 0 and -1, adds 9, and asks for the sum. It writes both results
+; of each. Before each both hold 99.
 
 GLOBAL 1 start
 start:  LM1             ; the packet is globals 20 to 25: its link is -1,
@@ -11,12 +11,21 @@ start:  LM1             ; the packet is globals 20 to 25: its link is -1,
         L 9
         LF ask
         K8
+        L3
+        LF ask
+        K8
+        L0
+        LF ask
+        K8
+        LM1
+        LF ask
+        K8
         L 9
         SP 12
         L 1
         LF ask
         K8
-        L 0
+        L 9             ; an argument that is not to be added
         SP 12
         L 2
         LF ask
