@@ -26,7 +26,7 @@ use Rattle.step_log.specs.Packets.{told_lines, told_of}
 -- ---- the boot
 
 -- what happened before the first step, as lines of a step 0
-unfoldable pub boot_lines : State → List ℕ
+abbrev pub boot_lines : State → List ℕ
 boot_lines s = flat_map (event_line BOOT) (boot_events s)
 
 -- ---- before the step

@@ -20,6 +20,7 @@ pub struct Before {
 }
 
 /// What is known of the machine before its next step.
+#[tactic(auto, unfolding(crate::specs::StepLines::before_of))]
 pub(crate) fn known_before(machine: &Machine) -> Before
     ensures { before_seen result ≡ before_of machine.now.state }
 {
