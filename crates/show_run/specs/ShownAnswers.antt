@@ -1,5 +1,5 @@
 -- What is shown of the run of a session, in words.
-use Rattle.std.specs.Prelude.{ℕ, ◌-◌, min, List, Result, Ok, Err}
+use Rattle.std.specs.Prelude.{ℕ, ◌-◌, ◌==◌, if◌then◌else◌, min, List, [], ◌++◌, Result, Ok, Err}
 use Rattle.hunk_text.specs.TextReader.Refusal.{Refusal}
 use Rattle.session_text.specs.declared.sessions.Session.{Session}
 use Rattle.step_log.specs.TriposMachine.Boot.{boot}
@@ -8,7 +8,7 @@ use Rattle.step_log.specs.TriposMachine.Step.{Stepped, run}
 use Rattle.program_answers.specs.Answer.{Answer, no_boot_answer, refused_answer}
 use Rattle.program_answers.specs.declared.status.Status.TheVariants.{Done}
 use Rattle.state_text.specs.StateText.{state_text}
-use Rattle.step_log.specs.StepLines.{log_text}
+use Rattle.step_log.specs.StepLines.{boot_lines, log_text}
 use Rattle.show_run.specs.declared.commands.Show.{Show}
 use Rattle.show_run.specs.declared.commands.Show.TheVariants.{Log, State as ShowState}
 
@@ -23,9 +23,16 @@ skipped first go = min (first - 1) go
 abbrev pub shown : ℕ → ℕ → ℕ → ℕ
 shown first last go = min last go - skipped first go
 
+-- what happened in the boot, where the first step is 0
+abbrev pub boot_part : ℕ → State → List ℕ
+boot_part first s = if first == 0 then boot_lines s else []
+
 -- what happened in the steps from the first to the last, of a run of so many
+abbrev pub steps_part : ℕ → ℕ → ℕ → State → List ℕ
+steps_part first last go s = log_text (shown first last go) (run (skipped first go) s).state
+
 abbrev pub log_of : ℕ → ℕ → ℕ → State → List ℕ
-log_of first last go s = log_text (shown first last go) (run (skipped first go) s).state
+log_of first last go s = boot_part first s ++ steps_part first last go s
 
 abbrev pub shown_text : Show → ℕ → State → List ℕ
 shown_text ShowState go s = state_of go s

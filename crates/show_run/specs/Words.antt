@@ -11,7 +11,7 @@ use Rattle.show_run.specs.declared.commands.TheConstants.{LAST}
 abbrev pub command_named : List ℕ → Option Show
 command_named word =
     if bytes_eq word (codes "state") then Some State else
-    if bytes_eq word (codes "log") then Some (Log 1 LAST) else
+    if bytes_eq word (codes "log") then Some (Log 0 LAST) else
     None
 
 -- `log` with its first and its last step

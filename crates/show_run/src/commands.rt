@@ -9,9 +9,10 @@ use hunk_text::number;
 pub enum Show {
     /// The state in which it stopped.
     State,
-    /// What happened in its steps, from the first of these to the last, which are counted from 1.
+    /// What happened in its steps, from the first of these to the last, which are counted from 1; where the first is 0, in its boot
+    /// before them.
     Log {
-        /// The first step.
+        /// The first step, or 0 for the boot.
         first: u64,
         /// The last step.
         last: u64,
@@ -38,7 +39,7 @@ fn command_named(word: &str) -> Option<Show>
     match word {
         "state" => Some(Show::State),
         "log" => Some(Show::Log {
-            first: 1,
+            first: 0,
             last: LAST,
         }),
         _ => None,

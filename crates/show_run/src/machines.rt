@@ -1,16 +1,16 @@
 // What is shown of a machine's run.
 ghost use Rattle.std.specs.Prelude.{◌≡◌, ◌≤◌, ◌+◌};
+ghost use Rattle.tp_io.specs.Pending.{Gathers};
 ghost use Rattle.tp_io.specs.Write.{HasCause, Prints};
 ghost use Rattle.step_log.specs.TriposMachine.KernelCalls.KernelModel.Ranges.{most_steps};
 ghost use Rattle.step_log.specs.TriposMachine.State.{steps_of};
 ghost use Rattle.step_log.specs.TriposMachine.Step.{run};
 ghost use Rattle.state_text.specs.StateText.{state_text};
-ghost use Rattle.step_log.specs.StepLines.{log_text};
-ghost use Rattle.show_run.specs.ShownAnswers.{log_of, shown, shown_text, skipped, state_of};
+ghost use Rattle.show_run.specs.ShownAnswers.{boot_part, log_of, shown, shown_text, skipped, state_of, steps_part};
 
 use crate::Show;
 use state_text::gather_state;
-use step_log::{Machine, NoLog, gather_steps};
+use step_log::{Machine, NoLog, gather_boot, gather_steps};
 use tp_io::{NoSink, Output, Sink, SinkFault, pass_on};
 
 /// Takes the steps of a machine that was booted just now, at most so many, and shows what is asked for.
@@ -52,7 +52,7 @@ fn write_state<K: Sink>(machine: &Machine, out: &mut K) -> Result<(), SinkFault>
     pass_on(out, &mut pending)
 }
 
-// The steps before the first are taken without a word.
+// Writes what happened in the steps from the first to the last.
 fn show_log<K: Sink>(
     first: u64,
     last: u64,
@@ -65,10 +65,64 @@ fn show_log<K: Sink>(
         (log_of first last go machine.old.state) result }
     ensures cause { HasCause (K.faults out.old) (K.faults out.new) result }
 {
+    let mut pending = Output::new();
+    gather_log(first, last, machine, go, out, &mut pending)?;
+    pass_on(out, &mut pending)
+}
+
+// The boot, where the first step is 0, and then the steps.
+fn gather_log<K: Sink>(
+    first: u64,
+    last: u64,
+    machine: &mut Machine,
+    go: u64,
+    out: &mut K,
+    pending: &mut Output,
+) -> Result<(), SinkFault>
+    requires { steps_of machine.old.state + go ≤ most_steps }
+    ensures text { Gathers (K.holds out.old) (K.holds out.new) pending.old pending.new
+        (log_of first last go machine.old.state) result }
+    ensures cause { HasCause (K.faults out.old) (K.faults out.new) result }
+{
+    gather_boot_part(first, machine, out, pending)?;
+    gather_steps_part(first, last, machine, go, out, pending)
+}
+
+// The boot, where the first step is 0.
+fn gather_boot_part<K: Sink>(
+    first: u64,
+    machine: &Machine,
+    out: &mut K,
+    pending: &mut Output,
+) -> Result<(), SinkFault>
+    ensures text { Gathers (K.holds out.old) (K.holds out.new) pending.old pending.new
+        (boot_part first machine.now.state) result }
+    ensures cause { HasCause (K.faults out.old) (K.faults out.new) result }
+{
+    if first != 0 {
+        return Ok(());
+    }
+    gather_boot(machine, out, pending)
+}
+
+// The steps before the first are taken without a word.
+fn gather_steps_part<K: Sink>(
+    first: u64,
+    last: u64,
+    machine: &mut Machine,
+    go: u64,
+    out: &mut K,
+    pending: &mut Output,
+) -> Result<(), SinkFault>
+    requires { steps_of machine.old.state + go ≤ most_steps }
+    ensures text { Gathers (K.holds out.old) (K.holds out.new) pending.old pending.new
+        (steps_part first last go machine.old.state) result }
+    ensures cause { HasCause (K.faults out.old) (K.faults out.new) result }
+{
     let before = skipped(first, go);
     let count = shown(first, last, go);
     take_steps(machine, before);
-    write_log(machine, count, out)
+    gather_steps(machine, count, out, pending)
 }
 
 // How many steps come before the first that is shown, of a run of so many.
@@ -83,16 +137,6 @@ fn shown(first: u64, last: u64, go: u64) -> u64
     ensures { result ≡ shown first last go }
 {
     last.min(go).saturating_sub(skipped(first, go))
-}
-
-fn write_log<K: Sink>(machine: &mut Machine, n: u64, out: &mut K) -> Result<(), SinkFault>
-    requires { steps_of machine.old.state + n ≤ most_steps }
-    ensures text { Prints (K.holds out.old) (K.holds out.new) (log_text n machine.old.state) result }
-    ensures cause { HasCause (K.faults out.old) (K.faults out.new) result }
-{
-    let mut pending = Output::new();
-    gather_steps(machine, n, out, &mut pending)?;
-    pass_on(out, &mut pending)
 }
 
 // Takes the steps, of which nothing is written.

@@ -14,26 +14,35 @@ use Rattle.cint_debug.specs.TriposMachine.State.{StandsFull, State}
 use Rattle.cint_debug.specs.TriposMachine.State.State.{Bare, Full}
 use Rattle.cint_debug.proofs.KernelLists.{tasks-back}
 use Rattle.step_log.specs.Answers.{answer_at, answer_of_task, answer_saved}
+use Rattle.step_log.specs.Faults.{record_at, record_of_task, recorded}
 
 -- what holds of each kernel for which the parts stand, holds of the machine
 pub on-stands : (p : Parts) (s : State) (P : State → Type 0) → StandsFull p s → ((k : Kernel) → Stands p k → P (Full k)) → P s
 on-stands p (Bare m) P x each = absurd x
 on-stands p (Full k) P x each = each k x
 
--- ---- what a call answered, as its task's block says
+-- ---- what the block of a task says
 
-saved-found : (s : List ℕ) (id : ℕ) (ts : List ℕ) → option_map answer_saved (find (λ (t : Task). t.id == id) (map (task_in s) ts)) ≡ option_map (answer_at s) (task_with s id ts)
-saved-found s id [] = refl
-saved-found s id (t ∷ ts) = on (id_in s t == id) (saved-found s id ts)
-  where
-    rest : Option Task
-    rest = find (λ (u : Task). u.id == id) (map (task_in s) ts)
+module _ {X : Type 0} (of : Task → X) where
+  of-found : (s : List ℕ) (id : ℕ) (ts : List ℕ) → option_map of (find (λ (t : Task). t.id == id) (map (task_in s) ts)) ≡ option_map (λ t. of (task_in s t)) (task_with s id ts)
+  of-found s id [] = refl
+  of-found s id (t ∷ ts) = on (id_in s t == id) (of-found s id ts)
+    where
+      rest : Option Task
+      rest = find (λ (u : Task). u.id == id) (map (task_in s) ts)
 
-    on : (b : Bool) → option_map answer_saved rest ≡ option_map (answer_at s) (task_with s id ts)
-        → option_map answer_saved (cond b (Some (task_in s t)) rest) ≡ option_map (answer_at s) (cond b (Some t) (task_with s id ts))
-    on true more = refl
-    on false more = more
+      on : (b : Bool) → option_map of rest ≡ option_map (λ t. of (task_in s t)) (task_with s id ts)
+          → option_map of (cond b (Some (task_in s t)) rest) ≡ option_map (λ t. of (task_in s t)) (cond b (Some t) (task_with s id ts))
+      on true more = refl
+      on false more = more
+
+  of-task : (s : List ℕ) (l : Lists) → HoldsLists s l → (id : ℕ) → option_map of (find (λ (t : Task). t.id == id) l.tasks) ≡ option_map (λ t. of (task_in s t)) (task_with s id (tasks_in s))
+  of-task s l h id = ap (λ ts. option_map of (find (λ (t : Task). t.id == id) ts)) (sym (tasks-back s l h)) ∙ of-found s id (tasks_in s)
 
 pub answer-found : (s : List ℕ) (l : Lists) → HoldsLists s l → (id : ℕ) → answer_of_task id l.tasks ≡ option_map (answer_at s) (task_with s id (tasks_in s))
 unfolding answer_of_task
-answer-found s l h id = ap (λ ts. option_map answer_saved (find (λ (t : Task). t.id == id) ts)) (sym (tasks-back s l h)) ∙ saved-found s id (tasks_in s)
+answer-found s l h id = of-task answer_saved s l h id
+
+pub record-found : (s : List ℕ) (l : Lists) → HoldsLists s l → (id : ℕ) → record_of_task id l.tasks ≡ option_map (record_at s) (task_with s id (tasks_in s))
+unfolding record_of_task
+record-found s l h id = of-task recorded s l h id

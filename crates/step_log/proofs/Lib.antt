@@ -4,3 +4,4 @@ pub mod KeptParts
 pub mod GivenBack
 pub mod SteppedLines
 pub mod GuestLines
+pub mod ToldPackets

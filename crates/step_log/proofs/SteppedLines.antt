@@ -1,33 +1,35 @@
 -- The lines of a step, and of one step after another.
-use Rattle.std.proofs.Common.{◌≡◌, ◌∙◌, ℕ, zero, suc, ◌+◌, ◌-◌, ◌<◌, ◌≤◌, ◌++◌, true, false, Option, List, [], arith, length, refl, sym, ap, subst, append_assoc, append-nil}
-use Rattle.std.specs.Prelude.{is_some, slice_get}
+use Rattle.std.proofs.Common.{◌≡◌, ◌∙◌, ℕ, zero, suc, ◌+◌, ◌-◌, ◌<◌, ◌≤◌, ◌++◌, true, false, Option, List, [], arith, refl, sym, ap, subst, append_assoc, append-nil}
+use Rattle.std.specs.Prelude.{is_some}
 use Rattle.std.specs.List.{flat_map}
 use Rattle.tp_io.specs.Pending.{IsCut, IsGathered}
 use Rattle.tp_io.proofs.GatheredTexts.{IsCut-more, IsCut-then, IsGathered-nothing, IsGathered-then}
 use Rattle.cint_debug.specs.TriposMachine.KernelCalls.KernelModel.Ranges.{most_steps}
-use Rattle.cint_debug.specs.TriposMachine.State.{State, keys_to_come, steps_of, stop_of}
+use Rattle.cint_debug.specs.TriposMachine.State.{State, steps_of, stop_of, words_of}
 use Rattle.cint_debug.specs.TriposMachine.Step.{Stepped, run, step}
 use Rattle.cint_debug.proofs.Shown.TriposMachine.StateRuns.{run-steps, run-stopped}
 use Rattle.step_log.specs.declared.moments.Moment.{Moment}
-use Rattle.step_log.specs.Calls.{Call}
 use Rattle.step_log.specs.Events.{event_line}
-use Rattle.step_log.specs.StepLines.{call_of, lines_after, lines_before, log_text, moment_of, step_lines}
+use Rattle.step_log.specs.Packets.{told_lines, told_of}
+use Rattle.step_log.specs.StepLines.{Before, before_of, lines_after, lines_before, log_text, moment_of, step_lines}
 
 -- ---- one step
 
--- what was read before the step, and what stood after it
-pub record AreOf (s : State) (x : Stepped) (m : Moment) (call : Option Call) (count : ℕ) (first : Option (ℕ × ℕ)) : Type 0 where
+-- what was read before the step
+pub record AreOf (s : State) (m : Moment) (b : Before) : Type 0 where
   pub moment : m ≡ moment_of s
-  pub call_is : call ≡ call_of s
-  pub counted : count ≡ length (keys_to_come s)
-  pub first_is : first ≡ slice_get (keys_to_come s) 0
+  pub before : b ≡ before_of s
 
-module _ {s : State} {x : Stepped} {m : Moment} {call : Option Call} {count : ℕ} {first : Option (ℕ × ℕ)} (is : AreOf s x m call count first) where
-  pub step-parts : step_lines s x ≡ lines_before m call s ++ (flat_map (event_line m) x.events ++ lines_after m call count first x.bytes x.state)
+module _ {s : State} {m : Moment} {b : Before} (is : AreOf s m b) where
+  -- what is gathered behind the events
+  abbrev pub rest_of : Stepped → List ℕ
+  rest_of x = told_lines m (words_of x.state) (told_of x.events) ++ lines_after m b x.bytes x.state
+
+  pub step-parts : (x : Stepped) → step_lines s x ≡ lines_before m b s ++ (flat_map (event_line m) x.events ++ rest_of x)
   unfolding step_lines
-  step-parts = λ i.
-      lines_before (sym is.moment i) (sym is.call_is i) s ++ (flat_map (event_line (sym is.moment i)) x.events
-      ++ lines_after (sym is.moment i) (sym is.call_is i) (sym is.counted i) (sym is.first_is i) x.bytes x.state)
+  step-parts x = λ i.
+      lines_before (sym is.moment i) (sym is.before i) s ++ (flat_map (event_line (sym is.moment i)) x.events
+      ++ (told_lines (sym is.moment i) (words_of x.state) (told_of x.events) ++ lines_after (sym is.moment i) (sym is.before i) x.bytes x.state))
 
 -- ---- steps
 

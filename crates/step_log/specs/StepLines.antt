@@ -1,6 +1,7 @@
 -- What happens in a step, in words.
 use Rattle.std.specs.Prelude.{ℕ, zero, suc, ◌+◌, ◌==◌, if◌then◌else◌, is_some, List, [], ◌∷◌, ◌++◌, Option, Some, None, codes, decimal, length, nat_le, slice_get}
 use Rattle.std.specs.List.{flat_map}
+use Rattle.std.specs.Option.{option_map}
 use Rattle.tp_io.specs.Pieces.{joined}
 use Rattle.word_store.specs.Bytes.{byte_at}
 use Rattle.kernel_dispatch.specs.KernelModel.declared.stops.Stop.{Stop}
@@ -9,13 +10,24 @@ use Rattle.cint_debug.specs.Texts.{instructions_text}
 use Rattle.cint_debug.specs.Views.{is_guest_next}
 use Rattle.cint_debug.specs.TriposMachine.State.{State, keys_to_come, regs_of, running_of, steps_of, stop_of, words_of}
 use Rattle.cint_debug.specs.TriposMachine.State.State.{Bare, Full}
-use Rattle.cint_debug.specs.TriposMachine.Step.{Stepped, step}
+use Rattle.cint_debug.specs.TriposMachine.Step.{Stepped, boot_events, step}
+use Rattle.step_log.specs.declared.before.Before.{Before as BeforeInCode}
+use Rattle.step_log.specs.declared.boots.TheConstants.{BOOT}
+use Rattle.step_log.specs.declared.faults.FaultRecord.{FaultRecord}
 use Rattle.step_log.specs.declared.moments.Moment.{Moment}
 use Rattle.step_log.specs.Answers.{answer_lines}
-use Rattle.step_log.specs.Calls.{Call, call_at, call_lines}
+use Rattle.step_log.specs.Calls.{Call, call_at, call_lines, call_seen}
 use Rattle.step_log.specs.Console.{console_lines}
 use Rattle.step_log.specs.Events.{event_line}
+use Rattle.step_log.specs.Faults.{fault_lines, record_of}
 use Rattle.step_log.specs.Moments.{line, start}
+use Rattle.step_log.specs.Packets.{told_lines, told_of}
+
+-- ---- the boot
+
+-- what happened before the first step, as lines of a step 0
+abbrev pub boot_lines : State → List ℕ
+boot_lines s = flat_map (event_line BOOT) (boot_events s)
 
 -- ---- before the step
 
@@ -48,6 +60,29 @@ guest_lines m s = if is_guest_next s then guest_line m (words_of s) else []
 abbrev pub call_of : State → Option Call
 call_of s = if is_guest_next s then call_at (words_of s) (regs_of s) else None
 
+-- What the lines need of the state before, besides the moment.
+pub record Before : Type 0 where
+  -- the call that is made, if one is
+  pub call : Option Call
+  -- how many keys are to come
+  pub count : ℕ
+  -- the first of them: the step at which it is due, and its byte
+  pub first : Option (ℕ × ℕ)
+  -- what is recorded of a fault of the task that runs
+  pub fault : Option FaultRecord
+
+unfoldable pub before_of : State → Before
+before_of s = record {
+  call = call_of s;
+  count = length (keys_to_come s);
+  first = slice_get (keys_to_come s) 0;
+  fault = record_of (running_of s) s;
+}
+
+-- the same, as the code has it
+abbrev pub before_seen : BeforeInCode → Before
+before_seen b = record { call = option_map call_seen b.call; count = b.keys.count; first = b.keys.first; fault = b.fault }
+
 -- ---- after the step
 
 -- the tick, where it is another
@@ -76,22 +111,28 @@ stop_lines m (Some stop) = line m (stop_text stop)
 
 -- ---- the step
 
-abbrev pub lines_before : Moment → Option Call → State → List ℕ
-lines_before m call s = guest_lines m s ++ call_lines m call
+abbrev pub lines_before : Moment → Before → State → List ℕ
+lines_before m b s = guest_lines m s ++ call_lines m b.call
 
-abbrev pub change_lines : Moment → ℕ → Option (ℕ × ℕ) → State → List ℕ
-change_lines m count first s = tick_lines m (tick_of s) ++ (key_lines m count first (length (keys_to_come s)) ++ stop_lines m (stop_of s))
+-- what the call answers, and the fault that was recorded in place of an answer
+abbrev pub end_lines : Moment → Before → State → List ℕ
+end_lines m b s = answer_lines m b.call s ++ fault_lines m b.fault (record_of m.task s)
 
-abbrev pub lines_after : Moment → Option Call → ℕ → Option (ℕ × ℕ) → List ℕ → State → List ℕ
-lines_after m call count first bytes s = answer_lines m call s ++ (console_lines m bytes ++ change_lines m count first s)
+abbrev pub change_lines : Moment → Before → State → List ℕ
+change_lines m b s = tick_lines m (tick_of s) ++ (key_lines m b.count b.first (length (keys_to_come s)) ++ stop_lines m (stop_of s))
 
--- What the next step of a machine does, a line each: the instruction, its call, the events in their order, what the call answers, what is
--- written to the console, the tick, the key that came, and the stop. Each line begins with the step, and where the machine stood before it.
+abbrev pub lines_after : Moment → Before → List ℕ → State → List ℕ
+lines_after m b bytes s = end_lines m b s ++ (console_lines m bytes ++ change_lines m b s)
+
+-- What a step of a machine does, a line each: the instruction, its call, the events in their order, the packets that were accepted, with
+-- their words after the step, what the call answers, a fault of the task, what is written to the console, the tick, the key that came, and
+-- the stop. Each line begins with the step, and where the machine stood before it.
 unfoldable pub step_lines : State → Stepped → List ℕ
 step_lines s x =
     let m = moment_of s in
-    let keys = keys_to_come s in
-    lines_before m (call_of s) s ++ (flat_map (event_line m) x.events ++ lines_after m (call_of s) (length keys) (slice_get keys 0) x.bytes x.state)
+    let b = before_of s in
+    lines_before m b s
+    ++ (flat_map (event_line m) x.events ++ (told_lines m (words_of x.state) (told_of x.events) ++ lines_after m b x.bytes x.state))
 
 -- the lines of the next n steps; a machine that has stopped takes none
 unfoldable pub log_text : ℕ → State → List ℕ

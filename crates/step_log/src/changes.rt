@@ -14,7 +14,7 @@ use tp_io::{Output, Sink, SinkFault};
 
 /// The keys that are still to come: how many, and the first.
 #[derive(Clone, Copy, Debug, PartialEq, Eq)]
-pub(crate) struct Keys {
+pub struct Keys {
     /// How many.
     pub count: usize,
     /// The step at which the first is due, and its byte.

@@ -1,6 +1,5 @@
 // The lines of steps.
 ghost use Rattle.std.specs.List.{flat_map};
-ghost use Rattle.std.specs.Option.{option_map};
 ghost use Rattle.std.specs.Prelude.{◌≡◌, ◌+◌, ◌≤◌, ◌<◌, Some, IfOk};
 ghost use Rattle.tp_io.specs.Pending.{Gathers};
 ghost use Rattle.tp_io.specs.Write.{HasCause};
@@ -9,25 +8,30 @@ ghost use Rattle.trace_log.specs.Trails.{events_of};
 ghost use Rattle.cint_debug.specs.TriposMachine.KernelCalls.KernelModel.Ranges.{most_steps};
 ghost use Rattle.cint_debug.specs.TriposMachine.State.{steps_of};
 ghost use Rattle.cint_debug.specs.TriposMachine.Step.{run, step};
-ghost use Rattle.step_log.specs.Calls.{call_seen};
 ghost use Rattle.step_log.specs.Events.{event_line};
-ghost use Rattle.step_log.specs.StepLines.{change_lines, lines_after, lines_before, log_text, step_lines};
+ghost use Rattle.step_log.specs.Packets.{told_of};
+ghost use Rattle.step_log.specs.StepLines.{before_seen, change_lines, end_lines, lines_after, lines_before, log_text, step_lines};
 
 use crate::answers::gather_answer;
-use crate::calls::{Call, gather_call};
-use crate::changes::{Keys, gather_key, gather_stop, gather_tick, keys_left};
+use crate::before::{Before, known_before};
+use crate::calls::gather_call;
+use crate::changes::{gather_key, gather_stop, gather_tick};
 use crate::console::gather_console;
-use crate::guests::{call, gather_guest, moment};
+use crate::event_logs::StepEvents;
+use crate::faults::gather_fault;
+use crate::guests::{gather_guest, moment};
 use crate::moments::Moment;
+use crate::packets::{MOST_TOLD, gather_told};
+use arrayvec::ArrayVec;
 use cint_debug::Machine;
 use std::mem;
 use tp_io::{Output, Sink, SinkFault};
-use trace_log::TraceLog;
 
 /// Takes at most n steps, up to one that stops the machine, and gathers what happens in them, a line each: in the order of a step its
-/// instruction, its call, its events, what the call answers, what is written to the console, the tick, the key that came, and the stop.
-/// Each line begins with the number of the step, and the tick, the task and PC before it. `SinkFault` comes only where the sink's count
-/// of faults rose; then a prefix of what was pending, and of the lines after it, has gone to the sink.
+/// instruction, its call, its events, the packets that were accepted, what the call answers, a fault of the task, what is written to the
+/// console, the tick, the key that came, and the stop. Each line begins with the number of the step, and the tick, the task and PC before
+/// it. `SinkFault` comes only where the sink's count of faults rose; then a prefix of what was pending, and of the lines after it, has gone
+/// to the sink.
 pub fn gather_steps<K: Sink>(
     machine: &mut Machine,
     n: u64,
@@ -62,51 +66,58 @@ fn gather_step<K: Sink>(
     ensures cause { HasCause (K.faults out.old) (K.faults out.new) result }
 {
     let m = moment(machine);
-    let call = call(machine);
-    let keys = keys_left(machine);
-    gather_before(m, call, machine, out, pending)?;
-    take_step(m, machine, out, pending)?;
-    gather_after(m, call, keys, machine, out, pending)
+    let before = known_before(machine);
+    gather_before(m, before, machine, out, pending)?;
+    let told = take_step(m, machine, out, pending)?;
+    gather_told(m, told.as_slice(), machine.store(), out, pending)?;
+    gather_after(m, before, machine, out, pending)
 }
 
 // What is known before the step: its instruction, and its call.
 fn gather_before<K: Sink>(
     m: Moment,
-    call: Option<Call>,
+    before: Before,
     machine: &Machine,
     out: &mut K,
     pending: &mut Output,
 ) -> Result<(), SinkFault>
     ensures text { Gathers (K.holds out.old) (K.holds out.new) pending.old pending.new
-        (lines_before m (option_map call_seen call) machine.now.state) result }
+        (lines_before m (before_seen before) machine.now.state) result }
     ensures cause { HasCause (K.faults out.old) (K.faults out.new) result }
 {
     gather_guest(m, machine, out, pending)?;
-    gather_call(m, call, out, pending)
+    gather_call(m, before.call, out, pending)
 }
 
-// Takes a step, and gathers the lines of its events as they come.
+// Takes a step, and gathers the lines of its events as they come. The answer has the packets that the first of them accepted.
 fn take_step<K: Sink>(
     m: Moment,
     machine: &mut Machine,
     out: &mut K,
     pending: &mut Output,
-) -> Result<(), SinkFault>
+) -> Result<ArrayVec<Option<u32>, MOST_TOLD>, SinkFault>
     requires { steps_of machine.old.state < most_steps }
     ensures text { Gathers (K.holds out.old) (K.holds out.new) pending.old pending.new
         (flat_map (event_line m) (step machine.old.state).events) result }
     ensures state { machine.new.state ≡ (step machine.old.state).state }
     ensures output { machine.new.output ≡ (step machine.old.state).bytes }
+    ensures told { IfOk result (λ told. told.items ≡ told_of (step machine.old.state).events) }
     ensures cause { HasCause (K.faults out.old) (K.faults out.new) result }
 {
-    let mut log = TraceLog::new(out, m, mem::replace(pending, Output::new()));
+    let mut log = StepEvents::new(out, m, mem::replace(pending, Output::new()));
     note_step(machine, &mut log);
-    *pending = log.into_pending()?;
-    Ok(())
+    let (rest, told) = log.into_told();
+    match rest {
+        Ok(rest) => {
+            *pending = rest;
+            Ok(told)
+        }
+        Err(SinkFault) => Err(SinkFault),
+    }
 }
 
 // Notes the events of a step, and says besides that the log writes where and what it did: its marks are still there.
-fn note_step<K: Sink>(machine: &mut Machine, log: &mut TraceLog<K, Moment>)
+fn note_step<K: Sink>(machine: &mut Machine, log: &mut StepEvents<K>)
     requires { steps_of machine.old.state < most_steps }
     ensures state { machine.new.state ≡ (step machine.old.state).state }
     ensures output { machine.new.output ≡ (step machine.old.state).bytes }
@@ -114,45 +125,60 @@ fn note_step<K: Sink>(machine: &mut Machine, log: &mut TraceLog<K, Moment>)
     ensures same_first { K.holds log.new.first.value ≡ K.holds log.old.first.value }
     ensures same_faults { K.faults log.new.first.value ≡ K.faults log.old.first.value }
     ensures same_before { log.new.before.value ≡ log.old.before.value }
-    ensures same_words { log.new.words ≡ log.old.words }
-    ensures events { NotesAll (Some (events_of log.old.trail)) (Some (events_of log.new.trail))
-        log.old.failed log.new.failed (step machine.old.state).events }
+    ensures same_moment { log.new.moment ≡ log.old.moment }
+    ensures events { NotesAll (Some (events_of log.old.trail))
+        (Some (events_of log.new.trail)) log.old.failed log.new.failed
+        (step machine.old.state).events }
 {
     machine.step(log);
 }
 
-// What is known after the step: what the call answers, and what else has changed.
+// What is known after the step: how it ended for the task, and what else has changed.
 fn gather_after<K: Sink>(
     m: Moment,
-    call: Option<Call>,
-    before: Keys,
+    before: Before,
     machine: &Machine,
     out: &mut K,
     pending: &mut Output,
 ) -> Result<(), SinkFault>
     ensures text { Gathers (K.holds out.old) (K.holds out.new) pending.old pending.new
-        (lines_after m (option_map call_seen call) before.count before.first
-        machine.now.output machine.now.state) result }
+        (lines_after m (before_seen before) machine.now.output machine.now.state) result }
     ensures cause { HasCause (K.faults out.old) (K.faults out.new) result }
 {
-    gather_answer(m, call, machine, out, pending)?;
+    gather_end(m, before, machine, out, pending)?;
     gather_console(m, machine.output(), out, pending)?;
     gather_changes(m, before, machine, out, pending)
+}
+
+// What the call answers, and the fault that was recorded.
+fn gather_end<K: Sink>(
+    m: Moment,
+    before: Before,
+    machine: &Machine,
+    out: &mut K,
+    pending: &mut Output,
+) -> Result<(), SinkFault>
+    ensures text { Gathers (K.holds out.old) (K.holds out.new) pending.old pending.new
+        (end_lines m (before_seen before) machine.now.state) result }
+    ensures cause { HasCause (K.faults out.old) (K.faults out.new) result }
+{
+    gather_answer(m, before.call, machine, out, pending)?;
+    gather_fault(m, before.fault, machine, out, pending)
 }
 
 // The tick, the key that came, and the stop.
 fn gather_changes<K: Sink>(
     m: Moment,
-    before: Keys,
+    before: Before,
     machine: &Machine,
     out: &mut K,
     pending: &mut Output,
 ) -> Result<(), SinkFault>
     ensures text { Gathers (K.holds out.old) (K.holds out.new) pending.old pending.new
-        (change_lines m before.count before.first machine.now.state) result }
+        (change_lines m (before_seen before) machine.now.state) result }
     ensures cause { HasCause (K.faults out.old) (K.faults out.new) result }
 {
     gather_tick(m, machine, out, pending)?;
-    gather_key(m, before, machine, out, pending)?;
+    gather_key(m, before.keys, machine, out, pending)?;
     gather_stop(m, machine, out, pending)
 }

@@ -8,7 +8,7 @@ use Rattle.step_log.proofs.steps.gather_changes.Goals as goal
 pub returns-in_err-gather_tick-clause-text : goal.returns-in_err-gather_tick-clause-text
 returns-in_err-gather_tick-clause-text g c =
     let p = err_from_is_err_and c.from_residual.result c.from_residual.ensures.1 in
-    rw p.1 (IsCut-more (key_lines c.args.m c.args.before.count c.args.before.first (length (keys_to_come c.args.machine.now.state)) ++ stop_lines c.args.m (stop_of c.args.machine.now.state)) c.in_err-gather_tick.ensures.text)
+    rw p.1 (IsCut-more (key_lines c.args.m c.args.before.keys.count c.args.before.keys.first (length (keys_to_come c.args.machine.now.state)) ++ stop_lines c.args.m (stop_of c.args.machine.now.state)) c.in_err-gather_tick.ensures.text)
 
 pub returns-in_err-gather_key-clause-text : goal.returns-in_err-gather_key-clause-text
 returns-in_err-gather_key-clause-text g c =
@@ -19,5 +19,5 @@ pub returns-clause-text : goal.returns-clause-text
 returns-clause-text g c =
     let holds = g.K.Sink.holds in
     let end = c.gather_stop in
-    Gathers-then c.in_ok-gather_tick.ensures.text (holds end.new.out) end.new.pending (key_lines c.args.m c.args.before.count c.args.before.first (length (keys_to_come c.args.machine.now.state)) ++ stop_lines c.args.m (stop_of c.args.machine.now.state)) end.result
+    Gathers-then c.in_ok-gather_tick.ensures.text (holds end.new.out) end.new.pending (key_lines c.args.m c.args.before.keys.count c.args.before.keys.first (length (keys_to_come c.args.machine.now.state)) ++ stop_lines c.args.m (stop_of c.args.machine.now.state)) end.result
     (Gathers-then c.in_ok-gather_key.ensures.text (holds end.new.out) end.new.pending (stop_lines c.args.m (stop_of c.args.machine.now.state)) end.result end.ensures.text)

@@ -11,8 +11,8 @@ returns g c =
     let new = c.step.new.log in
     let holds = g.K.Sink.holds in
     let faults = g.K.Sink.faults in
-    let was = kept old.out.ghost_name (faults old.first.value) (holds old.first.value) old.before.value (old.words.step ∷ old.words.tick ∷ old.words.task ∷ old.words.pc ∷ []) in
-    let now = kept new.out.ghost_name (faults new.first.value) (holds new.first.value) new.before.value (new.words.step ∷ new.words.tick ∷ new.words.task ∷ new.words.pc ∷ []) in
+    let was = kept old.out.ghost_name (faults old.first.value) (holds old.first.value) old.before.value (old.moment.step ∷ old.moment.tick ∷ old.moment.task ∷ old.moment.pc ∷ []) in
+    let now = kept new.out.ghost_name (faults new.first.value) (holds new.first.value) new.before.value (new.moment.step ∷ new.moment.tick ∷ new.moment.task ∷ new.moment.pc ∷ []) in
     let is = marked was now (events_of old.trail) (events_of new.trail) _ _ _ c.step.ensures.events in
     record {
       state = c.step.ensures.state;
@@ -21,6 +21,6 @@ returns g c =
       same_first = is.first;
       same_faults = is.faults;
       same_before = is.before;
-      same_words = moments-same new.words old.words is.numbers;
+      same_moment = moments-same new.moment old.moment is.numbers;
       events = NotesAll-rest was now (events_of old.trail) (events_of new.trail) _ _ _ c.step.ensures.events;
     }
