@@ -262,6 +262,6 @@ $5 == "key" { key = $6; next }
 $5 == "stop" { stop = rest(); next }
 { event[++events] = $5 " " rest() }
 END {
-    if (step != "") { tell_step(); tell_stop() }
     if (has_failed) exit 9
+    if (step != "") { tell_step(); tell_stop() }
 }

@@ -52,13 +52,21 @@ function read_store(step, from, line, at) {
     store_step = "at " step
     split("", word); split("", module_name)
     from = asking("dump", step)
+    is_whole = 0
     while ((from | getline line) > 0) {
-        if (line ~ /^\* stopped after /) { split("", word); continue }
+        if (line ~ /^\* stopped after /) { split("", word); is_whole = 1; continue }
         at = index(line, " ")
         word[substr(line, 1, at - 1)] = substr(line, at + 1)
     }
     close(from)
+    if (!is_whole) give_up()
     walk_modules()
+}
+
+# An answer has no closing line.
+function give_up() {
+    has_failed = 1
+    exit 9
 }
 
 function word_at(a) {
@@ -160,13 +168,16 @@ function send(to, p, from) {
 # By the events up to a step.
 function remember(step, from, line, e) {
     from = asking("trace", step)
+    is_whole = 0
     while ((from | getline line) > 0) {
         split(line, e, " ")
-        if (e[1] == "dequeue") forget(e[3])
+        if (e[1] == "*") is_whole = 1
+        else if (e[1] == "dequeue") forget(e[3])
         else if (e[1] == "accept" && is_back(e[2] + 0, e[3], e[4] + 0)) forget(e[3])
         else if (e[1] == "accept") send(e[2] + 0, e[3], e[4] + 0)
     }
     close(from)
+    if (!is_whole) give_up()
 }
 
 # How PC became 0: by the last step line of the task, a byte address and the instruction there.
