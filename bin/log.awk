@@ -1,347 +1,267 @@
-# The work of bin/log: what is to be asked of the debugger, and what its answers say. The debugger is asked three times, each time
-# for all steps in one run, since only the answers to one run tell where to look in the next:
-#     want=places     asks for the registers and the heads of the devices' queues after each step
-#     want=words      asks for each instruction, the frame's arguments, and the answer of a caller that lost the processor
-#     want=events     puts the kernel's events to their steps, and asks for the packets that they name
-#     want=log        writes the log
-# What is asked is a list of lines, of which each has a known number of lines as its answer:
-#     S step: one step;  J step count: up to this step;  R: registers;  T: tasks, and registers;  D byte: the instruction;
-#     M address count: words
-# room is the folder of the answers, first and last are the steps, and skip is how many events come before them.
+# The words of bin/log, from the lines of ./tripos log, which come on standard input; bin/names.awk has what it shares with bin/state.
+# The lines of a step are gathered, and told when all are there: what the task did, with its call and its fault; the tick, and what the clock
+# sends back; the key, and what the keyboard and the output send back; and who goes on.
 
-function number(hex, i, n) {
-    n = 0
-    for (i = 1; i <= length(hex); i++) n = 16 * n + index("0123456789abcdef", substr(hex, i, 1)) - 1
-    return n
+# ---- which lines are wanted
+
+function begin_kinds(n, w, i) {
+    n = split("call refused send return take dequeue run console key fault die step tick end", w, " ")
+    for (i = 1; i <= n; i++) is_shown[w[i]] = kinds == "" ? w[i] != "step" && w[i] != "tick" : index(kinds, " all ") || index(kinds, " " w[i] " ")
+    if (index(kinds, " packet ")) is_shown["send"] = is_shown["return"] = is_shown["take"] = is_shown["dequeue"] = 1
+    are_packets_shown = is_shown["send"] || is_shown["return"] || is_shown["refused"]
 }
 
-# the n-th word of some in hex, as a number
-function word_of(words, n, w) {
-    split(words, w, " ")
-    return number(w[n])
+# A line of the step; about has the numbers of whom it is besides the task of the step, with blanks around them.
+function write_line(kind, about, words) {
+    if (!is_shown[kind] || only != "" && task != only && index(about, " " only " ") == 0) return
+    printf "%6.0f %5s %4s ", step, (bare ? "-" : tick), (task > 0 ? task : "-")
+    printf "%7s  %-8s %s\n", ((bare || task >= 5) && kind != "run" ? pc : "-"), kind, words
 }
 
-function signed(n) {
-    return n >= 4294000000 ? n - 4294967296 : n
+function begin_log(n, w, i) {
+    request[3, 1] = "read a line"; request[3, 2] = "write"
+    n = split("open to read|open to write|read on|append|close|delete|rename|examine", w, "|")
+    for (i = 1; i <= n; i++) request[4, 9 + i] = w[i]
+    n = split("open a pipe|read a pipe|write a pipe|close a pipe", w, "|")
+    for (i = 1; i <= n; i++) request[4, 19 + i] = w[i]
 }
 
-# ---- the session
-
-function read_session(line, n, w, name, key, i) {
-    while ((getline line < session) > 0) {
-        sub(/\r$/, "", line)
-        n = split(line, w, " ")
-        if (line ~ /^:/) { if (name != "") text[name] = text[name] " " substr(line, 2) }
-        else name = ""
-        if (w[1] == "TRIPOS") version = w[2]
-        else if (w[1] == "STORE") store = w[2] + 0
-        else if (w[1] == "BARE") bare = 1
-        else if (w[1] == "TICK") period = w[2] + 0
-        else if (w[1] == "RESIDENT") residents = 1
-        else if (w[1] == "DEBUG") reporter = 1
-        else if (w[1] == "FILE") { name = w[2]; if (!(name in text)) { file_at[++files] = name; text[name] = "" } }
-        else if (w[1] == "TASK") {
-            program_of[w[2] + 0] = w[5]
-            for (i = 6; i <= n; i++) program_of[w[2] + 0] = program_of[w[2] + 0] "+" w[i]
-            priority_of[w[2] + 0] = w[3] + 0
-        } else if (w[1] == "KEY") add_key(w[2] + 0, number(tolower(w[3])))
-        else if (w[1] == "AT") {
-            sub(/^AT [0-9]+ :/, "", line)
-            for (i = 1; i <= length(line); i++) add_key(w[2] + 0, code[substr(line, i, 1)])
-            add_key(w[2] + 0, 10)
-        }
-    }
-    close(session)
-    if (residents) {
-        program_of[1] = "shell"; priority_of[1] = 1000
-        program_of[3] = "console"; priority_of[3] = 6000
-        program_of[4] = "files"; priority_of[4] = 5000
-        if (reporter) { program_of[2] = "reporter"; priority_of[2] = 3000 }
-    }
+# The low byte of a word, as it is shown inside quotes.
+function shown_byte(b) {
+    b = (b % 256 + 256) % 256
+    return b == 10 ? "\\n" : b == 34 ? "\\\"" : b == 92 ? "\\\\" : b >= 32 && b <= 126 ? sprintf("%c", b) : sprintf("\\x%02x", b)
 }
 
-# At most one key comes in at a step, and none before those before it.
-function add_key(step, byte) {
-    if (step < 1) step = 1
-    if (step <= last_key) step = last_key + 1
-    last_key = step
-    key_at[step] = byte
+function unsigned(n) {
+    return n < 0 ? n + 4294967296 : n + 0
 }
 
-# Which of the session's programs has these words, which begin at its start.
-function program_at(words, i, n, w, t, size, start, j, k, have, same) {
-    n = split(words, have, " ")
-    for (i = 1; i <= files; i++) {
-        size = split(text[file_at[i]], t, " ")
-        if (number(t[1]) != 1000) continue
-        size = number(t[2])
-        if (number(t[2 + size]) == 0) continue
-        for (j = size - 2; number(t[3 + j]) != 0; j -= 2) if (number(t[2 + j]) == 1) start = number(t[3 + j])
-        same = 0
-        # relocated words, of which a start has few, may differ
-        for (k = 1; k <= n && int(start / 4) + k <= size; k++) same += have[k] == t[2 + int(start / 4) + k]
-        if (same >= 2 && same >= (k - 1) * 3 / 4) return file_at[i]
-    }
-    return ""
+# ---- packets
+
+# Words 2 to 5 of a packet that the step has accepted. The log tells them, but not of the boot, and of very many in one step not of all.
+function read_packet(p, told_as, w, i) {
+    if (!told_as && are_packets_shown) {
+        read_store(step)
+        for (i = 1; i <= 4; i++) w[i] = signed(word_at(p + 1 + i))
+    } else split(packet[told_as], w, " ")
+    type = w[1] + 0; result_1 = w[2] + 0; result_2 = w[3] + 0; argument_1 = w[4] + 0
 }
 
-# ---- asking
-
-function ask(what) {
-    print what > (room "/asked." want)
-    split(what, asked, " ")
-    if (asked[1] == "S") print "STEP 1" > (room "/lines." want)
-    if (asked[1] == "J") print "STEP " asked[3] > (room "/lines." want)
-    if (asked[1] == "T") print "TASKS\nREGS" > (room "/lines." want)
-    if (asked[1] == "R") print "REGS" > (room "/lines." want)
-    if (asked[1] == "D") print "DIS " asked[2] " 1" > (room "/lines." want)
-    if (asked[1] == "M") print "MEM " asked[2] " " asked[3] > (room "/lines." want)
+# What a packet asks for.
+function asks(to) {
+    if (to == -1) return ", due at tick " unsigned(result_2)
+    if (to == -2) return ""
+    if (to == -3) return ", the byte \"" shown_byte(argument_1) "\""
+    if ((to, type) in request) return ", type " type ", " request[to, type]
+    return ", type " unsigned(type) ", word 5 is " argument_1
 }
 
-function ask_words(address, count) {
-    if (address >= store) return
-    if (address + count > store) count = store - address
-    ask("M " address " " count)
+# What it says when it comes back from there.
+function says(from) {
+    if (from == -1 || from == -3) return ""
+    if (from == -2) return ", with the key \"" shown_byte(result_1) "\""
+    if (!is_refusal(from)) return ", results " result_1 " and " result_2
+    return ", " ((from, type) in request ? request[from, type] " is " : "") "refused with code " result_2 ": " meaning["request", result_2]
 }
 
-# Reads the answers to what was asked; those of the words and instructions stand under the step after which they were asked.
-function read_answers(which, question, q, line, words, i, step, shown, lines) {
-    while ((getline question < (room "/asked." which)) > 0) {
-        split(question, q, " ")
-        if (q[1] == "S" || q[1] == "J") {
-            step = q[2]
-            lines = 0
-            shown = ""
-            while ((getline line < (room "/answers." which)) > 0) {
-                if (line == "stopped" || index(line, "at " step " PC ") == 1) break
-                shown = shown (lines++ ? "\n" : "") line
-            }
-            if (q[1] == "S") output[step] = shown
-            if (line == "stopped") has_stopped[step] = 1
-        } else if (q[1] == "T") {
-            while ((getline line < (room "/answers." which)) > 0 && line !~ /^REGS /) if (!bare) task_line[++task_lines] = line
-            registers[step] = line
-        } else {
-            words = ""
-            for (i = q[1] == "M" ? q[3] : 1; i > 0; i--) {
-                if ((getline line < (room "/answers." which)) <= 0) break
-                if (q[1] == "M") sub(/^[0-9]+ /, "", line)
-                words = words (words == "" ? "" : " ") line
-            }
-            if (q[1] == "R") registers[step] = words
-            else if (q[1] == "D") { sub(/^[0-9]+ /, "", words); instruction[step] = words }
-            else mem[step, q[2]] = words
-        }
-    }
+function is_refusal(from) {
+    return from >= 1 && from <= 4 && result_1 == -1
 }
 
-function register(step, name, text) {
-    text = registers[step]
-    if (!match(text, " " name "=[0-9]+")) return 0
-    return substr(text, RSTART + length(name) + 2, RLENGTH - length(name) - 2) + 0
-}
-
-# The task that a step is of: 0 if nobody runs. On a bare machine its only program is task 0 too.
-function runner(step) {
-    return register(step, "T")
-}
-
-function is_guest(step) {
-    return bare || runner(step) >= 5
-}
-
-function ask_places(i) {
-    ask("J " first - 1 " " first - 1)
-    for (i = first - 1; i <= last; i++) {
-        if (i >= first) ask("S " i)
-        ask(i < first ? "T" : "R")
-        if (!bare) { ask("M 102 1"); ask("M 105 3") }
-    }
-}
-
-# Whether a task goes on here whose program is none of the session's lines: then its words tell it, if it begins.
-function is_unnamed(i) {
-    return !bare && runner(i) >= 5 && !(runner(i) in program_of) && (i < first || runner(i) != runner(i - 1))
-}
-
-function ask_for_words(i, t) {
-    read_answers("places")
-    ask("J " first - 1 " " first - 1)
-    for (i = first - 1; i <= last; i++) {
-        if (i >= first) ask("S " i)
-        if (!bare && i >= first && runner(i - 1) >= 5 && (runner(i) != runner(i - 1) || has_stopped[i]))
-            ask_words(word_of(mem[i - 1, 102], 1) + 11, 12)
-        if (is_unnamed(i)) ask_words(int(register(i, "PC") / 4), 8)
-        if (i < last && is_guest(i)) {
-            if (register(i, "PC") < 4 * store) ask("D " register(i, "PC"))
-            ask_words(register(i, "P") + 3, 4)
-        }
-    }
-}
-
-# ---- the events of each step
-
-function read_trace(line) {
-    while ((getline line < (room "/trace")) > 0 && line != "") event[++events] = line
-}
-
-# whether the next event begins so
-function next_is(words) {
-    return index(event[now] " ", words " ") == 1
-}
-
-function note(kind, what) {
-    print step "\t" ran "\t" pc "\t" kind "\t" what > (room "/events")
-}
-
-function pass() {
-    split(event[now], e, " ")
-    if (e[1] == "run" && is_unnamed(step)) {
-        e[4] = program_at(mem[step, int(register(step, "PC") / 4)])
-        if (e[4] != "") note("name", e[2] " " e[4])
-    }
-    note(e[1], event[now])
-    if (e[1] != "run") {
-        if (!((step, e[3]) in asked_packet)) { asked_packet[step, e[3]] = 1; packets[step] = packets[step] " " e[3] }
-    }
-    now += 1
-}
-
-# What a device returns; the head of its queue is another one then.
-function pass_returned(device, word, once, done, p) {
-    while (next_is("take " device)) {
-        split(event[now], e, " ")
-        p = e[3]
-        if (word_of(mem[step, 105], word) == p) break
-        pass()
-        if (event[now] ~ ("^accept [0-9]+ " p " " device "$")) pass()
-        if (once) break
-    }
-}
-
-# The answer of the call that the step made: A and B, and where a fault was noted, that.
-function find_answer(words, w) {
-    fault = ""
-    if (runner(step) == runner(step - 1) && !has_stopped[step] || bare || !((step, block + 11) in mem)) {
-        answer = register(step, "A"); code_b = register(step, "B")
+# A packet comes into a queue: it is sent, or goes back to who sent it.
+function accept(p, from, to, told_as, words) {
+    read_packet(p, told_as)
+    words = "packet " p " from " who(from)
+    if (to != 103 && is_back(to, p, from)) {
+        forget(p)
+        write_line(is_refusal(from) ? "refused" : "return", " " to " " from " ", words " back to " who(to) says(from))
         return
     }
-    words = mem[step, block + 11]
-    split(words, w, " ")
-    answer = number(w[1]); code_b = number(w[2])
-    if (number(w[11]) > 0 && number(w[11]) < 256) fault = number(w[11]) " " number(w[12])
+    send(to, p, from)
+    if (to == 103) write_line("send", " " from " 3 ", "packet " p " of " who(from) " waits for a line at the console")
+    else if (to == 2 && p == 310) write_line("send", " 2 " from " ", "the fault of " who(from) " to task 2, in packet 310")
+    else write_line("send", " " to " " from " ", words " to " who(to) asks(to))
 }
 
-function pass_call(t, w, n, i, what, taken, refused) {
-    split(mem[step - 1, register(step - 1, "P") + 3], w, " ")
-    n = number(w[1])
-    what = n
-    for (i = 2; i <= 4; i++) what = what " " number(w[i])
-    find_answer()
-    if (fault != "" || has_stopped[step] && n != 0) {
-        # a return from the bottom is no call, and a fault of the SYS is said at the end
-        if (fault == "" && !bare) note("call", what " 0 0 stop")
-        if (fault != "" && next_is("accept 2 310 " t)) pass()
-        return
+# ---- who goes on
+
+function run_words(t) {
+    return t == 0 ? "nobody runs" : who(t) (t in program_of ? " (" program_of[t] ")" : "") " runs"
+}
+
+# A task that begins has its program's name from the words of its module then.
+function find_program(t) {
+    if (t < 5 || t in is_of_session || t in is_known || !is_shown["run"]) return
+    is_known[t] = 1
+    read_store(step)
+    name_task(t)
+}
+
+# A module that is none of the session's files has no name here.
+function name_task(t, a) {
+    delete program_of[t]
+    for (a = word_at(101); a != 0 && word_at(a + 1) != t;) a = word_at(a)
+    if (programs_at(a) != "" && programs_at(a) != "module") program_of[t] = programs_at(a)
+}
+
+# ---- the step
+
+# The call, with its answer; one that faults is none.
+function tell_call(name, argument, n) {
+    name = call
+    sub(/\(.*/, "", name)
+    n = substr(call, length(name) + 2)
+    sub(/\)$/, "", n)
+    n = split(n, argument, ", ")
+    # where one of these goes on, B is 0
+    if (name ~ /^(callco|resumeco|cowait)$/ && answer == 0 && second > 0) refusal = "code " second ", " meaning["call", second]
+    if (refusal != "") {
+        if (name == "qpkt" && refusal ~ /^code 4,/) { read_store(step); refusal = refusal "; its word 1 is " signed(word_at(argument[1] + 1)) }
+        write_line("refused", "", call ": " refusal)
+    } else if (stop != "") write_line("call", "", call " stops the machine")
+    else if (name == "taskwait" && (answer == "" || is_given)) write_line("call", "", call " waits")
+    else if (name ~ /^(callco|resumeco|cowait)$/) write_line("call", "", call " hands " argument[n] " on")
+    else write_line("call", "", call (name == "wrch" ? ", of \"" shown_byte(argument[1]) "\"," : "") " = " answer \
+        (name == "muldiv" ? ", remainder " second : ""))
+}
+
+function tell_fault(code, address, end) {
+    write_line("fault", "", "code " code " at " address ": " meaning["fault", code] "; " end)
+}
+
+function tell_console() {
+    if (console != "") write_line("console", "", console)
+    console = ""
+}
+
+# The i-th event.
+function tell_event(i, words, p, from, to) {
+    words = event[i]
+    p = words; sub(/.*packet /, "", p); sub(/ .*/, "", p)
+    if (words ~ /^accept /) {
+        to = words; sub(/.* to /, "", to)
+        from = words; sub(/^accept packet [0-9]+ from /, "", from); sub(/ to .*/, "", from)
+        accepts += 1
+        accept(p, party(from), party(to), accepts <= told ? accepts : 0)
+    } else if (words ~ /^take task /) {
+        to = words; sub(/ takes .*/, "", to)
+        from = words; sub(/.* of /, "", from)
+        write_line("take", " " party(substr(to, 6)) " " party(from) " ", substr(words, 6))
+    } else if (words ~ /^dequeue /) {
+        to = words; sub(/.* leaves the queue of /, "", to)
+        forget(p)
+        write_line("dequeue", " " party(to) " ", "packet " p " is taken back from " to)
+    } else if (words ~ /^run /) {
+        to = words ~ /nobody/ ? 0 : party(substr(words, 5)) + 0
+        find_program(to)
+        write_line("run", " " to " ", run_words(to))
     }
-    if (n == 10) {
-        taken = next_is("take " t) && !(event[now + 1] == "run " t)
-        note("call", what " " (taken ? answer : 0) " 0 " (taken ? "taken" : "waits"))
-        if (taken) pass()
-        waits = !taken
-        return
+}
+
+# The first event of who goes on: the last, and the one before it where the task that goes on has waited for that packet.
+function turn_end(n, t) {
+    if (event[events] !~ /^run /) return events + 1
+    if (event[events] !~ /^run task /) return events
+    t = event[events]; sub(/^run /, "", t); sub(/ runs$/, "", t)
+    # a resident begins its turn with its packet
+    if (event[events - 1] !~ ("^take " t " takes ") || party(t) == task && task < 5) return events
+    is_given = party(t) == task
+    return events - 1
+}
+
+function tell_step(i, last, w) {
+    is_given = accepts = 0
+    last = turn_end()
+    if (dies) tell_death()
+    else if (instruction != "") write_line("step", "", instruction)
+    if (call != "" && fault == "" && stop !~ /^fault/) tell_call()
+    for (i = 1; i < last && event[i] !~ /^take the (clock|keyboard|output) /; i++) tell_event(i)
+    if (fault != "") { split(fault, w, " "); tell_fault(w[1], w[3], "the task is held") }
+    if (i >= last || event[i] !~ /^take the output /) tell_console()
+    if (has_tick) write_line("tick", "", "tick " tick)
+    for (; i < last && event[i] ~ /^take the clock | from the clock /; i++) tell_event(i)
+    if (key != "") write_line("key", "", "the key \"" shown_byte(key) "\" comes in")
+    for (; i < last; i++) tell_event(i)
+    tell_console()
+    for (; i <= events; i++) tell_event(i)
+}
+
+# What begins as this task next may be another program.
+function tell_death(words) {
+    words = what_led_to_0(last_done[task])
+    write_line("die", "", "PC is 0" (words == "" ? "" : ": " words) (bare ? "; the machine stops" : "; task " task " is dead"))
+    delete is_known[task]
+}
+
+# The next line is of another step.
+function begin_step() {
+    step = $1; tick = $2; task = $3; pc = $4
+    events = told = has_tick = dies = 0
+    instruction = call = answer = second = refusal = fault = console = key = ""
+}
+
+# The words behind the first five of the line.
+function rest() {
+    return substr($0, length($1 $2 $3 $4 $5) + 6)
+}
+
+# The last words, where the machine has stopped.
+function tell_stop(w) {
+    if (stop == "" || stop == "steps") return
+    split(stop, w, " ")
+    if (w[1] == "fault") tell_fault(w[2], w[4], "the machine stops")
+    if (is_shown["end"] && (only == "" || task == only)) print "the machine stopped after " step " steps: " stop
+}
+
+# The tasks before the first step, as ./tripos state writes them.
+function write_head(line, w, words) {
+    print shown_name ": steps " first " to " last (bare ? ", a bare machine" : ", a tick every " period " steps")
+    while ((getline line < before) > 0) {
+        if (line !~ /^task [0-9]+ at /) continue
+        split(line, w, " ")
+        words = line; sub(/.*priority /, "priority ", words); sub(/, is held$/, ", held", words)
+        if (first > 1 && !(w[2] in is_of_session)) name_before(w[2] + 0, words ~ /is dead/)
+        print "task " w[2] (w[2] in program_of ? ", " program_of[w[2]] : "") ", " words
     }
-    refused = n != 0 && n != 19 && n != 20 && answer == 0 && code_b > 0 && code_b < 29
-    note("call", what " " answer " " code_b " " (refused ? "refused" : n == 0 ? "stop" : "done"))
-    if (n == 11 && !refused) if (event[now] ~ ("^accept -?[0-9]+ " number(w[2]) " " t "$")) pass()
-    if (n == 12 && next_is("dequeue")) pass()
-    if (n == 11 && refused) packets[step] = packets[step] " " number(w[2])
+    print "  step  tick task      pc  kind     what"
 }
 
-function pass_turn(t) {
-    if (!next_is("take " t)) return
-    note("turn", t)
-    pass()
-    while (event[now] ~ /^accept / && !(event[now] ~ /^accept 2 310 / && t != 2) || next_is("take 103") || next_is("dequeue")) pass()
-}
-
-function pass_dispatch(t) {
-    t = runner(step)
-    if (has_stopped[step]) return
-    if (event[now] == "run " t) pass()
-    else if (next_is("take " t) && event[now + 1] == "run " t && (t != runner(step - 1) || waits || pc == 0)) { pass(); pass() }
-}
-
-# What was written to the console in this step.
-function note_output(text) {
-    if (output[step] == "") return
-    text = output[step]
-    gsub(/\\/, "\\\\", text)
-    gsub(/\n/, "\\n", text)
-    note("console", text)
-}
-
-function one_step(t, what, before) {
-    t = runner(step - 1)
-    ran = t; pc = register(step - 1, "PC"); waits = 0
-    block = bare ? 0 : word_of(mem[step - 1, 102], 1)
-    if (is_guest(step - 1)) {
-        what = instruction[step - 1]
-        if (pc == 0) {
-            note("die", (t in last_done) ? last_done[t] : "0 -")
-        } else {
-            note("step", what)
-            last_done[t] = pc " " what
-            if (what == "SYS") pass_call(t)
-            else if (!bare && t != runner(step)) {
-                find_answer()
-                if (next_is("accept 2 310 " t)) pass()
-                else fault = fault != "" && reporter ? fault : ""
-            } else fault = ""
-            if (fault != "" && what != "") note("fault", fault)
-            fault = ""
-        }
-    } else if (t > 0) pass_turn(t)
-    before = event[now]
-    if (output[step] != "" && !next_is("take -3")) { note_output(); output[step] = "" }
-    if (bare) return
-    if (step % period == 0) { note("tick", step / period); pass_returned(-1, 1, 0) }
-    if (step in key_at) note("key", key_at[step])
-    pass_returned(-2, 2, 1)
-    pass_returned(-3, 3, 1)
-    note_output()
-    pass_dispatch()
-}
-
-function find_events(i) {
-    read_answers("places")
-    for (i = first; i <= last; i++) delete output[i]
-    read_answers("words")
-    read_trace()
-    now = skip + 1
-    for (i = 1; i < now; i++) print "0\t-1\t0\tbefore\t" event[i] > (room "/events")
-    if (first == 1) {
-        step = 0; ran = -1; pc = 0
-        for (i = now; i <= boot; i++) pass()
-    }
-    for (step = first; step <= last; step++) one_step()
-    if (now <= events) print "log: " (events - now + 1) " events of the trace have no step" > "/dev/stderr"
-    ask("J " first - 1 " " first - 1)
-    if (first == 1) ask_packets(0)
-    for (i = first; i <= last; i++) { ask("S " i); ask_packets(i) }
-}
-
-function ask_packets(step, n, p, i) {
-    n = split(packets[step], p, " ")
-    for (i = 1; i <= n; i++) ask_words(p[i] + 0, 8)
+# The name of a task that was there before the first step.
+function name_before(t, is_dead) {
+    if (t < 5) return
+    if (!store_is_read) { read_store(first - 1); store_is_read = 1 }
+    name_task(t)
+    if (!is_dead) is_known[t] = 1
 }
 
 BEGIN {
-    # numbers up to 4294967295 are written in full, which not every awk does by itself
-    CONVFMT = OFMT = "%.0f"
-    for (i = 0; i < 256; i++) code[sprintf("%c", i)] = i
-    read_session()
-    if (want == "places") ask_places()
-    if (want == "words") ask_for_words()
-    if (want == "events") find_events()
+    begin_words(); begin_log(); begin_kinds(); read_codes(); read_session()
+    write_head()
+    if (first > 1 && !bare) remember(first - 1)
+    step = ""
+}
+
+$1 == "status" { has_failed = $2 != 0; next }
+$1 != step || step == "" { if (step != "") tell_step(); begin_step() }
+$5 == "step" {
+    instruction = rest()
+    if ($6 == "outside") next
+    last_done[task] = instruction
+    sub(/^[0-9]+ /, "", instruction)
+    next
+}
+$5 == "die" { dies = 1; next }
+$5 == "call" { call = rest(); next }
+$5 == "packet" { packet[++told] = $8 " " $10 " " $12 " " $14; next }
+$5 == "answer" { if ($6 == "=") { answer = $7 + 0; second = $9 + 0 } next }
+$5 == "refused" { refusal = rest(); sub(/:/, ",", refusal); next }
+$5 == "fault" { fault = rest(); next }
+$5 == "console" { console = rest(); next }
+$5 == "tick" { tick = $6; has_tick = 1; next }
+$5 == "key" { key = $6; next }
+$5 == "stop" { stop = rest(); next }
+{ event[++events] = $5 " " rest() }
+END {
+    if (has_failed) exit 9
+    if (step != "") { tell_step(); tell_stop() }
 }
