@@ -1,4 +1,6 @@
 pub mod Words
+pub mod ShortFiles
+pub mod SessionPrograms
 pub mod ShownAnswers
 pub mod InputAnswers
 pub mod Leaves

@@ -8,13 +8,15 @@ use Rattle.step_log.specs.TriposMachine.Step.{Stepped, run}
 use Rattle.program_answers.specs.Answer.{Answer, no_boot_answer, refused_answer}
 use Rattle.program_answers.specs.declared.status.Status.TheVariants.{Done}
 use Rattle.state_text.specs.StateText.{state_text}
+use Rattle.state_text.specs.declared.programs.Program.{Program}
 use Rattle.step_log.specs.StepLines.{boot_lines, log_text}
+use Rattle.show_run.specs.SessionPrograms.{named_programs}
 use Rattle.show_run.specs.declared.commands.Show.{Show}
 use Rattle.show_run.specs.declared.commands.Show.TheVariants.{Log, State as ShowState}
 
--- the state in which a run of so many steps stops
-abbrev pub state_of : ℕ → State → List ℕ
-state_of go s = state_text (run go s).state
+-- the state in which a run of so many steps stops, with the names of these programs
+abbrev pub state_of : List Program → ℕ → State → List ℕ
+state_of programs go s = state_text programs (run go s).state
 
 -- the steps before the first one that is shown, and those from there to the last
 abbrev pub skipped : ℕ → ℕ → ℕ
@@ -34,15 +36,15 @@ steps_part first last go s = log_text (shown first last go) (run (skipped first 
 abbrev pub log_of : ℕ → ℕ → ℕ → State → List ℕ
 log_of first last go s = boot_part first s ++ steps_part first last go s
 
-abbrev pub shown_text : Show → ℕ → State → List ℕ
-shown_text ShowState go s = state_of go s
-shown_text (Log first last) go s = log_of first last go s
+abbrev pub shown_text : Show → List Program → ℕ → State → List ℕ
+shown_text ShowState programs go s = state_of programs go s
+shown_text (Log first last) programs go s = log_of first last go s
 
 -- the machine of a session, where that boots
-abbrev pub machine_answer : Show → ℕ → Result Stepped Refusal → Answer
-machine_answer asked go (Ok x) = record { status = Done; bytes = shown_text asked go x.state }
-machine_answer asked go (Err r) = no_boot_answer r
+abbrev pub machine_answer : Show → List Program → ℕ → Result Stepped Refusal → Answer
+machine_answer asked programs go (Ok x) = record { status = Done; bytes = shown_text asked programs go x.state }
+machine_answer asked programs go (Err r) = no_boot_answer r
 
 abbrev pub session_answer : Show → Result Session Refusal → Answer
-session_answer asked (Ok s) = machine_answer asked s.go (boot s)
+session_answer asked (Ok s) = machine_answer asked (named_programs asked s) s.go (boot s)
 session_answer asked (Err r) = refused_answer r

@@ -8,12 +8,16 @@ ghost use Rattle.program_answers.specs.Answered.{Answered};
 ghost use Rattle.program_answers.specs.Cause.{HasFaultCause};
 ghost use Rattle.program_answers.specs.Input.{IsTextEnd};
 ghost use Rattle.show_run.specs.InputAnswers.{IsShown};
+ghost use Rattle.show_run.specs.SessionPrograms.{named_programs};
+ghost use Rattle.show_run.specs.ShortFiles.{HasShortFiles};
 ghost use Rattle.show_run.specs.ShownAnswers.{machine_answer, session_answer};
 
 use crate::Show;
 use crate::machines::show_machine;
+use crate::programs::named_programs;
 use program_answers::{Status, TextAnswers, status_after, write_no_boot, write_refused};
 use session_text::{Session, SessionEnd, read_session};
+use state_text::Program;
 use std::alloc::Global;
 use step_log::{BootEnd, boot_machine};
 use tp_io::Sink;
@@ -38,7 +42,7 @@ fn answer_text<K: Sink>(alloc: Global, asked: Show, text: &[u8], out: &mut K) ->
 
 // Reads a session, and shows what is asked for of its run.
 fn answer_session_text<K: Sink>(alloc: Global, asked: Show, text: &[u8], out: &mut K) -> Status
-    requires { length text.now < 2 ^ 32 }
+    requires { length text.now < 2 ^ 30 }
     ensures answer { Answers (session_answer asked (session_of text.now))
         (K.holds out.old) (K.holds out.new) result }
     ensures ends { IsTextEnd result }
@@ -53,17 +57,38 @@ fn answer_session_text<K: Sink>(alloc: Global, asked: Show, text: &[u8], out: &m
     }
 }
 
-// Boots a session, and shows what is asked for of its run.
+// Reads the programs of a session, boots it, and shows what is asked for of its run.
 fn answer_session<K: Sink>(alloc: Global, asked: Show, session: &Session, out: &mut K) -> Status
+    requires lawful { IsLawful session.now }
+    requires short { HasShortFiles session.now }
+    ensures answer { Answers (machine_answer asked (named_programs asked session.now)
+        session.now.go (boot session.now)) (K.holds out.old) (K.holds out.new) result }
+    ensures ends { IsTextEnd result }
+    ensures cause { HasFaultCause Status.WriteFault (K.faults out.old) (K.faults out.new) result }
+{
+    match named_programs(alloc, asked, session) {
+        Ok(programs) => answer_machine(alloc, asked, session, programs.as_slice(), out),
+        Err(_) => Status::WantMemory,
+    }
+}
+
+// Boots a session, and shows what is asked for of its run, with the names of these programs.
+fn answer_machine<K: Sink>(
+    alloc: Global,
+    asked: Show,
+    session: &Session,
+    programs: &[Program],
+    out: &mut K,
+) -> Status
     requires { IsLawful session.now }
-    ensures answer { Answers (machine_answer asked session.now.go (boot session.now))
+    ensures answer { Answers (machine_answer asked programs.now session.now.go (boot session.now))
         (K.holds out.old) (K.holds out.new) result }
     ensures ends { IsTextEnd result }
     ensures cause { HasFaultCause Status.WriteFault (K.faults out.old) (K.faults out.new) result }
 {
     match boot_machine(alloc, session) {
         Ok(mut machine) => {
-            let shown = show_machine(asked, &mut machine, session.go, out);
+            let shown = show_machine(asked, programs, &mut machine, session.go, out);
             status_after(shown, Status::Done)
         }
         Err(BootEnd::Line { line, code }) => {

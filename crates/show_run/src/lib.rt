@@ -6,6 +6,7 @@ pub mod commands;
 pub mod laws;
 mod machines;
 pub mod program;
+mod programs;
 
 pub use commands::Show;
 pub use laws::answer_law;

@@ -4,51 +4,60 @@ ghost use Rattle.tp_io.specs.Pending.{Gathers};
 ghost use Rattle.tp_io.specs.Write.{HasCause, Prints};
 ghost use Rattle.step_log.specs.TriposMachine.KernelCalls.KernelModel.Ranges.{most_steps};
 ghost use Rattle.step_log.specs.TriposMachine.State.{steps_of};
-ghost use Rattle.step_log.specs.TriposMachine.Step.{run};
 ghost use Rattle.state_text.specs.StateText.{state_text};
 ghost use Rattle.show_run.specs.ShownAnswers.{boot_part, log_of, shown, shown_text, skipped, state_of, steps_part};
 
 use crate::Show;
-use state_text::gather_state;
-use step_log::{Machine, NoLog, gather_boot, gather_steps};
-use tp_io::{NoSink, Output, Sink, SinkFault, pass_on};
+use state_text::{Program, gather_state};
+use step_log::{Machine, gather_boot, gather_steps};
+use tp_io::{Output, Sink, SinkFault, pass_on};
 
 /// Takes the steps of a machine that was booted just now, at most so many, and shows what is asked for.
 pub(crate) fn show_machine<K: Sink>(
     asked: Show,
+    programs: &[Program],
     machine: &mut Machine,
     go: u64,
     out: &mut K,
 ) -> Result<(), SinkFault>
     requires { steps_of machine.old.state + go ≤ most_steps }
     ensures text { Prints (K.holds out.old) (K.holds out.new)
-        (shown_text asked go machine.old.state) result }
+        (shown_text asked programs.now go machine.old.state) result }
     ensures cause { HasCause (K.faults out.old) (K.faults out.new) result }
 {
     match asked {
-        Show::State => show_state(machine, go, out),
+        Show::State => show_state(programs, machine, go, out),
         Show::Log { first, last } => show_log(first, last, machine, go, out),
     }
 }
 
 // Takes all steps, and writes the state after them.
-fn show_state<K: Sink>(machine: &mut Machine, go: u64, out: &mut K) -> Result<(), SinkFault>
+fn show_state<K: Sink>(
+    programs: &[Program],
+    machine: &mut Machine,
+    go: u64,
+    out: &mut K,
+) -> Result<(), SinkFault>
     requires { steps_of machine.old.state + go ≤ most_steps }
     ensures text { Prints (K.holds out.old) (K.holds out.new)
-        (state_of go machine.old.state) result }
+        (state_of programs.now go machine.old.state) result }
     ensures cause { HasCause (K.faults out.old) (K.faults out.new) result }
 {
-    take_steps(machine, go);
-    write_state(machine, out)
+    machine.run_unheard(go);
+    write_state(programs, machine, out)
 }
 
-fn write_state<K: Sink>(machine: &Machine, out: &mut K) -> Result<(), SinkFault>
+fn write_state<K: Sink>(
+    programs: &[Program],
+    machine: &Machine,
+    out: &mut K,
+) -> Result<(), SinkFault>
     ensures text { Prints (K.holds out.old) (K.holds out.new)
-        (state_text machine.now.state) result }
+        (state_text programs.now machine.now.state) result }
     ensures cause { HasCause (K.faults out.old) (K.faults out.new) result }
 {
     let mut pending = Output::new();
-    gather_state(machine, out, &mut pending)?;
+    gather_state(machine, programs, out, &mut pending)?;
     pass_on(out, &mut pending)
 }
 
@@ -121,7 +130,7 @@ fn gather_steps_part<K: Sink>(
 {
     let before = skipped(first, go);
     let count = shown(first, last, go);
-    take_steps(machine, before);
+    machine.run_unheard(before);
     gather_steps(machine, count, out, pending)
 }
 
@@ -137,15 +146,4 @@ fn shown(first: u64, last: u64, go: u64) -> u64
     ensures { result ≡ shown first last go }
 {
     last.min(go).saturating_sub(skipped(first, go))
-}
-
-// Takes the steps, of which nothing is written.
-fn take_steps(machine: &mut Machine, n: u64)
-    requires { steps_of machine.old.state + n ≤ most_steps }
-    ensures { machine.new.state ≡ (run n machine.old.state).state }
-{
-    match machine.run(n, &mut NoSink, &mut Output::new(), &mut NoLog) {
-        Ok(_) => {}
-        Err(SinkFault) => unreachable!(),
-    }
 }

@@ -1,13 +1,15 @@
 -- A machine with a kernel, of which the lists are read off its store.
-use Rattle.std.proofs.Common.{◌≡◌, ◌==◌, cond, is_some, sym, ap, subst}
+use Rattle.std.proofs.Common.{◌≡◌, ◌==◌, ℕ, List, cond, is_some, sym, ap, subst}
 use Rattle.cint_debug.specs.TriposMachine.KernelMachine.declared.parts.Parts.{Parts}
 use Rattle.cint_debug.specs.TriposMachine.State.{StandsFull, State}
 use Rattle.cint_debug.specs.TriposMachine.State.State.{Bare, Full}
 use Rattle.cint_debug.proofs.KernelParts.{held-lists}
+use Rattle.kernel_dispatch.specs.KernelModel.Image.{image}
 use Rattle.kernel_dispatch.specs.KernelModel.Kernel.{Kernel}
 use Rattle.kernel_dispatch.specs.KernelModel.KernelRanges.{CanWalkLists}
 use Rattle.kernel_dispatch.specs.KernelModel.Lists.{Lists}
 use Rattle.kernel_dispatch.specs.KernelModel.Recovered.{lists_in}
+use Rattle.kernel_dispatch.proofs.Shown.KernelModel.ImageWords.{image-list}
 use Rattle.kernel_dispatch.proofs.Shown.KernelModel.RecoveredLists.{lists-back}
 use Rattle.kernel_dispatch.proofs.Shown.KernelModel.WalkedLists.{can-walk}
 use Rattle.state_text.specs.Runner.{has_keys, idle_line, runner_text, running_line}
@@ -16,12 +18,16 @@ use Rattle.state_text.specs.Runner.{has_keys, idle_line, runner_text, running_li
 pub walks : (p : Parts) (s : State) → StandsFull p s → CanWalkLists p.store
 walks p s x = let held = held-lists p s x in can-walk p.store held.0 held.1
 
--- what the lists in the store say of a kernel, its own lists say
-pub on-lists : (p : Parts) (s : State) (P : Lists → State → Type 0) → StandsFull p s → ((k : Kernel) → P k.lists (Full k)) → P (lists_in p.store) s
-on-lists p (Bare m) P x each = absurd x
-on-lists p (Full k) P x each =
+-- what the store and the lists in it say of a kernel, its own words and lists say
+pub on-words : (p : Parts) (s : State) (P : List ℕ → Lists → State → Type 0) → StandsFull p s → ((k : Kernel) → P (image k) k.lists (Full k)) → P p.store (lists_in p.store) s
+on-words p (Bare m) P x each = absurd x
+on-words p (Full k) P x each =
     let h = x.keeper.lists in
-    subst (λ l. P l (Full k)) (sym (lists-back p.store k.lists h.valid h.size h.holds)) (each k)
+    subst (λ w. P w (lists_in p.store) (Full k)) (sym (image-list p.store k x.image)) (subst (λ l. P (image k) l (Full k)) (sym (lists-back p.store k.lists h.valid h.size h.holds)) (each k))
+
+-- the same of what the lists alone say
+pub on-lists : (p : Parts) (s : State) (P : Lists → State → Type 0) → StandsFull p s → ((k : Kernel) → P k.lists (Full k)) → P (lists_in p.store) s
+on-lists p s P x each = on-words p s (λ w. P) x each
 
 -- where nobody runs, that and the reason are said
 pub idle-runner : (k : Kernel) → k.lists.running ≡ 0 → idle_line k.lists (has_keys (Full k)) ≡ runner_text (Full k)

@@ -1,3 +1,5 @@
+pub mod FurtherNames
 pub mod GatheredLines
 pub mod KernelStates
 pub mod ListedWords
+pub mod LoadedWords

@@ -1,9 +1,10 @@
 -- Where the packets are that a waiting task has sent.
-use Rattle.std.specs.Prelude.{ℕ, ◌==◌, Bool, if◌then◌else◌, List, [], ◌∷◌, codes, decimal, filter}
+use Rattle.std.specs.Prelude.{ℕ, ◌==◌, ◌||◌, Bool, if◌then◌else◌, List, [], ◌∷◌, codes, decimal, filter}
 use Rattle.std.specs.List.{flat_map, list_any}
 use Rattle.tp_io.specs.Pieces.{joined}
 use Rattle.kernel_dispatch.specs.KernelModel.Lists.{Lists, queued}
 use Rattle.kernel_dispatch.specs.KernelModel.Task.{Task}
+use Rattle.kernel_dispatch.specs.KernelModel.declared.numbers.TheConstants.{FILE_HANDLER, REPORTER}
 use Rattle.kernel_dispatch.specs.PacketQueue.QueueWords.{QueuedPacket}
 use Rattle.state_text.specs.declared.places.Place.{Place}
 use Rattle.state_text.specs.declared.places.Place.TheVariants.{Clock, Console, Keyboard, Output, Task as OfTask}
@@ -40,9 +41,17 @@ its_lines id at ps = flat_map (its_packet_line at) (from_sender id ps)
 abbrev pub its_lines_at_task : ℕ → Task → List ℕ
 its_lines_at_task id t = its_lines id (OfTask t.id) t.queue
 
--- that no packet of it is queued, where that is so
+-- whether the number is that of a resident which serves the requests of others: the reporter of faults, or the file handler
+abbrev pub serves_requests : ℕ → Bool
+serves_requests id = (id == REPORTER) || (id == FILE_HANDLER)
+
+-- that a task waits of which no packet is queued
+abbrev pub alone_line : ℕ → List ℕ
+alone_line id = if serves_requests id then codes "  it waits for requests\n" else codes "  no packet of it is on a queue\n"
+
+-- that line, where no packet of it is queued
 abbrev pub none_line : ℕ → Lists → List ℕ
-none_line id l = if list_any (is_from id) (queued l) then [] else codes "  no packet of it is on a queue\n"
+none_line id l = if list_any (is_from id) (queued l) then [] else alone_line id
 
 -- all its packets on queues: at the devices, at the console, and at the tasks in the order of the chain
 unfoldable pub awaited_lines : ℕ → Lists → List ℕ

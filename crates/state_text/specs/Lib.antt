@@ -1,3 +1,4 @@
+pub mod ProgramNames
 pub mod PacketTexts
 pub mod AwaitedPackets
 pub mod TaskTexts

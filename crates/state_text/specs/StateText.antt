@@ -10,8 +10,10 @@ use Rattle.kernel_dispatch.specs.KernelModel.declared.stops.Stop.{Stop}
 use Rattle.kernel_dispatch.specs.KernelModel.declared.stops.Stop.TheVariants.{Fault, Finish, Quit, Steps}
 use Rattle.state_text.specs.ModuleTexts.{modules_text}
 use Rattle.state_text.specs.PacketTexts.{queues_text}
+use Rattle.state_text.specs.ProgramNames.{name_in}
 use Rattle.state_text.specs.Runner.{runner_text}
 use Rattle.state_text.specs.TaskTexts.{tasks_text}
+use Rattle.state_text.specs.declared.programs.Program.{Program}
 
 -- why a machine has stopped
 abbrev pub stopped_line : Stop → List ℕ
@@ -58,16 +60,16 @@ is_past (Some stop) = is_end stop
 abbrev pub next_line : State → List ℕ
 next_line s = if is_past (stop_of s) then [] else instruction_line s
 
--- the lists of a kernel, of which the lines of the blocks are given
-unfoldable pub kernel_text : Lists → List ℕ → List ℕ
-kernel_text l blocks = joined (tasks_text l ∷ queues_text l ∷ codes "blocks\n" ∷ blocks ∷ modules_text l ∷ [])
+-- the lists of a kernel, of which the names of modules and the lines of the blocks are given
+unfoldable pub kernel_text : (ℕ → Option (List ℕ)) → Lists → List ℕ → List ℕ
+kernel_text name_at l blocks = joined (tasks_text name_at l ∷ queues_text l ∷ codes "blocks\n" ∷ blocks ∷ modules_text name_at l ∷ [])
 
--- a machine without a kernel has no lists
-abbrev pub lists_text : State → List ℕ
-lists_text (Bare m) = []
-lists_text (Full k) = kernel_text k.lists (blocks_text (Full k))
+-- a module has the name of the first of the programs whose words stand there; a machine without a kernel has no lists
+abbrev pub lists_text : List Program → State → List ℕ
+lists_text programs (Bare m) = []
+lists_text programs (Full k) = kernel_text (name_in programs (words_of (Full k))) k.lists (blocks_text (Full k))
 
--- the whole: where it stands, who runs, the registers, the next instruction, and the lists
-unfoldable pub state_text : State → List ℕ
-state_text s =
-    joined (count_words s ∷ stop_line (stop_of s) ∷ runner_text s ∷ registers_line (regs_of s) (running_of s) ∷ next_line s ∷ lists_text s ∷ [])
+-- the whole: where it stands, who runs, the registers, the next instruction, and the lists, with the names of these programs
+unfoldable pub state_text : List Program → State → List ℕ
+state_text programs s =
+    joined (count_words s ∷ stop_line (stop_of s) ∷ runner_text s ∷ registers_line (regs_of s) (running_of s) ∷ next_line s ∷ lists_text programs s ∷ [])

@@ -1,5 +1,5 @@
 -- The tasks of a kernel in words.
-use Rattle.std.specs.Prelude.{ℕ, ◌%◌, ◌==◌, ◌&&◌, Bool, if◌then◌else◌, nat_lt, List, [], ◌∷◌, codes, decimal}
+use Rattle.std.specs.Prelude.{ℕ, ◌%◌, ◌==◌, ◌&&◌, Bool, if◌then◌else◌, nat_lt, Option, List, [], ◌∷◌, codes, decimal}
 use Rattle.std.specs.List.{flat_map}
 use Rattle.tp_io.specs.Pieces.{joined}
 use Rattle.kernel_dispatch.specs.KernelModel.Between.{is_empty_queue}
@@ -9,6 +9,7 @@ use Rattle.kernel_dispatch.specs.KernelModel.ValidTasks.{interrupted, runs, wait
 use Rattle.kernel_dispatch.specs.KernelModel.declared.numbers.TheConstants.{REPORTED}
 use Rattle.state_text.specs.AwaitedPackets.{awaited_lines}
 use Rattle.state_text.specs.PacketTexts.{packet_lines}
+use Rattle.state_text.specs.ProgramNames.{first_name, line_end}
 use Rattle.state_text.specs.declared.places.Place.TheVariants.{Task as OfTask}
 
 -- what a task does, by the field of its state
@@ -24,10 +25,14 @@ abbrev pub held_words : Bool → List ℕ
 held_words held = if held then codes ", is held" else []
 
 -- its number, its address, its priority, and its state
-abbrev pub state_line : Task → List ℕ
-state_line t =
+abbrev pub state_words : Task → List ℕ
+state_words t =
     joined (codes "task " ∷ decimal t.id ∷ codes " at " ∷ decimal t.address ∷ codes ", priority " ∷ decimal t.priority ∷ codes ", "
-    ∷ field_words t.field ∷ held_words t.held ∷ codes "\n" ∷ [])
+    ∷ field_words t.field ∷ held_words t.held ∷ [])
+
+-- these, and the first name that one of its modules has
+abbrev pub state_line : (ℕ → Option (List ℕ)) → Task → List ℕ
+state_line name_at t = joined (state_words t ∷ line_end (first_name name_at t.modules) ∷ [])
 
 -- its flags, where one is set
 abbrev pub flags_line : ℕ → List ℕ
@@ -57,11 +62,11 @@ abbrev pub resumption_line : Task → List ℕ
 resumption_line t = if t.field == interrupted then joined (codes "  it goes on at byte " ∷ decimal t.saved.pc ∷ codes "\n" ∷ []) else []
 
 -- the lines of a task
-unfoldable pub task_text : Lists → Task → List ℕ
-task_text l t =
-    joined (state_line t ∷ flags_line t.flags ∷ fault_line t.fault t.fault_address ∷ packet_lines (OfTask t.id) t.queue
+unfoldable pub task_text : (ℕ → Option (List ℕ)) → Lists → Task → List ℕ
+task_text name_at l t =
+    joined (state_line name_at t ∷ flags_line t.flags ∷ fault_line t.fault t.fault_address ∷ packet_lines (OfTask t.id) t.queue
     ∷ awaited_text l t ∷ resumption_line t ∷ [])
 
 -- the lines of all tasks, in the order of the chain
-unfoldable pub tasks_text : Lists → List ℕ
-tasks_text l = joined (codes "tasks\n" ∷ flat_map (task_text l) l.tasks ∷ [])
+unfoldable pub tasks_text : (ℕ → Option (List ℕ)) → Lists → List ℕ
+tasks_text name_at l = joined (codes "tasks\n" ∷ flat_map (task_text name_at l) l.tasks ∷ [])

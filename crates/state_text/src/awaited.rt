@@ -1,17 +1,17 @@
 // The packets in words that a waiting task has sent, wherever they are queued.
-ghost use Rattle.std.specs.Prelude.{if◌then◌else◌, []};
+ghost use Rattle.std.specs.Prelude.{◌≡◌, if◌then◌else◌, []};
 ghost use Rattle.std.specs.List.{flat_map};
 ghost use Rattle.tp_io.specs.Pending.{Gathers};
 ghost use Rattle.tp_io.specs.Write.{HasCause};
 ghost use Rattle.kernel_dispatch.specs.KernelModel.KernelRanges.{CanWalkLists, CanWalkTask};
 ghost use Rattle.kernel_dispatch.specs.KernelModel.Recovered.{lists_in, packet_in, packets_at, pending_in, task_in};
 ghost use Rattle.kernel_dispatch.specs.PacketQueue.Queue.{HasQueue};
-ghost use Rattle.state_text.specs.AwaitedPackets.{awaited_lines, is_from, its_line, its_lines, its_lines_at_task, its_number_line, its_packet_line, none_line};
+ghost use Rattle.state_text.specs.AwaitedPackets.{alone_line, awaited_lines, is_from, its_line, its_lines, its_lines_at_task, its_number_line, its_packet_line, none_line};
 ghost use Rattle.state_text.specs.declared.places.Place.TheVariants.{Console};
 
 use crate::places::Place;
 use crate::sent::has_packet;
-use kernel_dispatch::numbers::{DUE, PENDING_HEAD, SENDER};
+use kernel_dispatch::numbers::{DUE, FILE_HANDLER, PENDING_HEAD, REPORTER, SENDER};
 use kernel_dispatch::{RootField, TcbField, field, packets, root, tasks};
 use tp_io::Piece::{Decimal, Text};
 use tp_io::{Output, Sink, SinkFault, gather, gather_pieces};
@@ -56,7 +56,17 @@ fn gather_none<K: Sink>(
     if has_packet(store, id) {
         return Ok(());
     }
-    gather(out, pending, b"  no packet of it is on a queue\n")
+    gather(out, pending, alone_line(id))
+}
+
+// That a task waits of which no packet is queued: a resident that serves requests does so between them.
+fn alone_line(id: u32) -> &'static [u8]
+    ensures { result.now ≡ alone_line id }
+{
+    match id {
+        REPORTER | FILE_HANDLER => b"  it waits for requests\n",
+        _ => b"  no packet of it is on a queue\n",
+    }
 }
 
 // Its packets among the reads that the console has taken; there is a console where there are residents.

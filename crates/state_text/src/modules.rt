@@ -4,8 +4,11 @@ ghost use Rattle.tp_io.specs.Pending.{Gathers};
 ghost use Rattle.tp_io.specs.Write.{HasCause};
 ghost use Rattle.kernel_dispatch.specs.KernelModel.KernelRanges.{CanWalkLists, IsModuleIn};
 ghost use Rattle.kernel_dispatch.specs.KernelModel.Recovered.{lists_in, module_in};
-ghost use Rattle.state_text.specs.ModuleTexts.{module_line, modules_text};
+ghost use Rattle.state_text.specs.ModuleTexts.{module_line, module_place, modules_text};
+ghost use Rattle.state_text.specs.ProgramNames.{name_in};
 
+use crate::names::gather_line_end;
+use crate::programs::{Program, name_in};
 use kernel_dispatch::modules;
 use tp_io::Piece::{Decimal, Text};
 use tp_io::{Output, Sink, SinkFault, gather, gather_pieces};
@@ -21,27 +24,33 @@ const HEAD_WORDS: u64 = 2;
 #[tactic(auto, unfolding(crate::specs::ModuleTexts::modules_text))]
 pub(crate) fn gather_modules<K: Sink>(
     store: &Store,
+    programs: &[Program],
     out: &mut K,
     pending: &mut Output,
 ) -> Result<(), SinkFault>
     requires { CanWalkLists store.now }
     ensures text { Gathers (K.holds out.old) (K.holds out.new) pending.old pending.new
-        (modules_text (lists_in store.now)) result }
+        (modules_text (name_in programs.now store.now) (lists_in store.now)) result }
     ensures cause { HasCause (K.faults out.old) (K.faults out.new) result }
 {
     gather(out, pending, b"modules\n")?;
-    gather_list(store, out, pending)
+    gather_list(store, programs, out, pending)
 }
 
 // The line of each module.
-fn gather_list<K: Sink>(store: &Store, out: &mut K, pending: &mut Output) -> Result<(), SinkFault>
+fn gather_list<K: Sink>(
+    store: &Store,
+    programs: &[Program],
+    out: &mut K,
+    pending: &mut Output,
+) -> Result<(), SinkFault>
     requires { CanWalkLists store.now }
     ensures text { Gathers (K.holds out.old) (K.holds out.new) pending.old pending.new
-        (flat_map module_line (lists_in store.now).modules) result }
+        (flat_map (module_line (name_in programs.now store.now)) (lists_in store.now).modules) result }
     ensures cause { HasCause (K.faults out.old) (K.faults out.new) result }
 {
     for m in modules(store) {
-        gather_module(store, m, out, pending)?;
+        gather_module(store, programs, m, out, pending)?;
     }
     Ok(())
 }
@@ -49,13 +58,30 @@ fn gather_list<K: Sink>(store: &Store, out: &mut K, pending: &mut Output) -> Res
 // The line of the module at m.
 fn gather_module<K: Sink>(
     store: &Store,
+    programs: &[Program],
     m: u32,
     out: &mut K,
     pending: &mut Output,
 ) -> Result<(), SinkFault>
     requires { IsModuleIn store.now m }
     ensures text { Gathers (K.holds out.old) (K.holds out.new) pending.old pending.new
-        (module_line (module_in store.now m)) result }
+        (module_line (name_in programs.now store.now) (module_in store.now m)) result }
+    ensures cause { HasCause (K.faults out.old) (K.faults out.new) result }
+{
+    gather_place(store, m, out, pending)?;
+    gather_line_end(name_in(programs, store, m), out, pending)
+}
+
+// Its address, how many hunks it has, and where the first of them begins.
+fn gather_place<K: Sink>(
+    store: &Store,
+    m: u32,
+    out: &mut K,
+    pending: &mut Output,
+) -> Result<(), SinkFault>
+    requires { IsModuleIn store.now m }
+    ensures text { Gathers (K.holds out.old) (K.holds out.new) pending.old pending.new
+        (module_place (module_in store.now m)) result }
     ensures cause { HasCause (K.faults out.old) (K.faults out.new) result }
 {
     let hunks = u64::from(word_at(store, m, HUNK_COUNT));
@@ -70,7 +96,6 @@ fn gather_module<K: Sink>(
             Decimal(hunks),
             Text(b", from byte "),
             Decimal(first_byte),
-            Text(b"\n"),
         ],
     )
 }

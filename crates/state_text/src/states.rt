@@ -5,8 +5,10 @@ ghost use Rattle.tp_io.specs.Write.{HasCause};
 ghost use Rattle.cint_debug.specs.Texts.{blocks_text};
 ghost use Rattle.kernel_dispatch.specs.KernelModel.KernelRanges.{CanWalkLists};
 ghost use Rattle.kernel_dispatch.specs.KernelModel.Recovered.{lists_in};
+ghost use Rattle.state_text.specs.ProgramNames.{name_in};
 ghost use Rattle.state_text.specs.StateText.{bare_counts, count_words, instruction_line, is_end, is_past, kernel_counts, kernel_text, lists_text, next_line, state_text, stop_line, stopped_line};
 
+use crate::Program;
 use crate::modules::gather_modules;
 use crate::queues::gather_queues;
 use crate::runner::gather_runner;
@@ -22,15 +24,17 @@ use word_store::Store;
 /// Gathers the state of a machine, a line for each fact. The first line says after how many steps it is, at which tick, and whether the
 /// machine has stopped; then come who runs, or why nobody does, the registers, and the instruction at PC, which is a byte address.
 /// Behind these a machine with a kernel has its tasks with their packets, each queue, the blocks and the modules; their addresses are
-/// word addresses, and sizes are in words. A machine without a kernel has no tick, and none of these lists.
+/// word addresses, and sizes are in words. A module, and a task, has the name of the first of the programs whose words stand there. A
+/// machine without a kernel has no tick, and none of these lists.
 #[tactic(auto, unfolding(crate::specs::StateText::state_text))]
 pub fn gather_state<K: Sink>(
     machine: &Machine,
+    programs: &[Program],
     out: &mut K,
     pending: &mut Output,
 ) -> Result<(), SinkFault>
     ensures text { Gathers (K.holds out.old) (K.holds out.new) pending.old pending.new
-        (state_text machine.now.state) result }
+        (state_text programs.now machine.now.state) result }
     ensures cause { HasCause (K.faults out.old) (K.faults out.new) result }
 {
     gather_counts(machine, out, pending)?;
@@ -38,7 +42,7 @@ pub fn gather_state<K: Sink>(
     gather_runner(machine, out, pending)?;
     gather_registers(machine, out, pending)?;
     gather_next(machine, out, pending)?;
-    gather_lists(machine, out, pending)
+    gather_lists(machine, programs, out, pending)
 }
 
 // The steps taken so far, and the ticks of a machine with a kernel.
@@ -209,15 +213,16 @@ fn gather_instruction<K: Sink>(
 // The lists of a kernel; none on a machine without one.
 fn gather_lists<K: Sink>(
     machine: &Machine,
+    programs: &[Program],
     out: &mut K,
     pending: &mut Output,
 ) -> Result<(), SinkFault>
     ensures text { Gathers (K.holds out.old) (K.holds out.new) pending.old pending.new
-        (lists_text machine.now.state) result }
+        (lists_text programs.now machine.now.state) result }
     ensures cause { HasCause (K.faults out.old) (K.faults out.new) result }
 {
     match machine.kernel_parts() {
-        Some(parts) => gather_kernel(machine, &parts.store, out, pending),
+        Some(parts) => gather_kernel(machine, programs, &parts.store, out, pending),
         None => Ok(()),
     }
 }
@@ -226,18 +231,20 @@ fn gather_lists<K: Sink>(
 #[tactic(auto, unfolding(crate::specs::StateText::kernel_text))]
 fn gather_kernel<K: Sink>(
     machine: &Machine,
+    programs: &[Program],
     store: &Store,
     out: &mut K,
     pending: &mut Output,
 ) -> Result<(), SinkFault>
     requires { CanWalkLists store.now }
     ensures text { Gathers (K.holds out.old) (K.holds out.new) pending.old pending.new
-        (kernel_text (lists_in store.now) (blocks_text machine.now.state)) result }
+        (kernel_text (name_in programs.now store.now) (lists_in store.now)
+        (blocks_text machine.now.state)) result }
     ensures cause { HasCause (K.faults out.old) (K.faults out.new) result }
 {
-    gather_tasks(store, out, pending)?;
+    gather_tasks(store, programs, out, pending)?;
     gather_queues(store, out, pending)?;
     gather(out, pending, b"blocks\n")?;
     gather_blocks(machine, out, pending)?;
-    gather_modules(store, out, pending)
+    gather_modules(store, programs, out, pending)
 }

@@ -6,12 +6,15 @@ ghost use Rattle.tp_io.specs.Write.{HasCause};
 ghost use Rattle.kernel_dispatch.specs.KernelModel.KernelRanges.{CanWalkLists, CanWalkTask};
 ghost use Rattle.kernel_dispatch.specs.KernelModel.Recovered.{lists_in, task_in};
 ghost use Rattle.state_text.specs.PacketTexts.{packet_lines};
-ghost use Rattle.state_text.specs.TaskTexts.{awaited_text, awaits_packet, fault_line, field_words, flags_line, held_words, report_words, resumption_line, state_line, task_text, tasks_text};
+ghost use Rattle.state_text.specs.ProgramNames.{name_in};
+ghost use Rattle.state_text.specs.TaskTexts.{awaited_text, awaits_packet, fault_line, field_words, flags_line, held_words, report_words, resumption_line, state_line, state_words, task_text, tasks_text};
 ghost use Rattle.state_text.specs.declared.places.Place.TheVariants.{Task as OfTask};
 
 use crate::awaited::gather_awaited;
+use crate::names::{gather_line_end, name_of_task};
 use crate::packets::gather_packets;
 use crate::places::Place;
+use crate::programs::Program;
 use crate::queues::is_empty_queue;
 use kernel_dispatch::numbers::{
     FAULT_ADDRESS, FAULT_WORD, HELD, INTERRUPTED, REPORTED, RUNS, WAITS,
@@ -25,27 +28,34 @@ use word_store::Store;
 #[tactic(auto, unfolding(crate::specs::TaskTexts::tasks_text))]
 pub(crate) fn gather_tasks<K: Sink>(
     store: &Store,
+    programs: &[Program],
     out: &mut K,
     pending: &mut Output,
 ) -> Result<(), SinkFault>
     requires { CanWalkLists store.now }
     ensures text { Gathers (K.holds out.old) (K.holds out.new) pending.old pending.new
-        (tasks_text (lists_in store.now)) result }
+        (tasks_text (name_in programs.now store.now) (lists_in store.now)) result }
     ensures cause { HasCause (K.faults out.old) (K.faults out.new) result }
 {
     gather(out, pending, b"tasks\n")?;
-    gather_chain(store, out, pending)
+    gather_chain(store, programs, out, pending)
 }
 
 // The lines of each task.
-fn gather_chain<K: Sink>(store: &Store, out: &mut K, pending: &mut Output) -> Result<(), SinkFault>
+fn gather_chain<K: Sink>(
+    store: &Store,
+    programs: &[Program],
+    out: &mut K,
+    pending: &mut Output,
+) -> Result<(), SinkFault>
     requires { CanWalkLists store.now }
     ensures text { Gathers (K.holds out.old) (K.holds out.new) pending.old pending.new
-        (flat_map (task_text (lists_in store.now)) (lists_in store.now).tasks) result }
+        (flat_map (task_text (name_in programs.now store.now) (lists_in store.now))
+        (lists_in store.now).tasks) result }
     ensures cause { HasCause (K.faults out.old) (K.faults out.new) result }
 {
     for t in tasks(store) {
-        gather_task(store, t, out, pending)?;
+        gather_task(store, programs, t, out, pending)?;
     }
     Ok(())
 }
@@ -54,6 +64,7 @@ fn gather_chain<K: Sink>(store: &Store, out: &mut K, pending: &mut Output) -> Re
 #[tactic(auto, unfolding(crate::specs::TaskTexts::task_text))]
 fn gather_task<K: Sink>(
     store: &Store,
+    programs: &[Program],
     t: u32,
     out: &mut K,
     pending: &mut Output,
@@ -61,10 +72,11 @@ fn gather_task<K: Sink>(
     requires lists { CanWalkLists store.now }
     requires task { CanWalkTask store.now t }
     ensures text { Gathers (K.holds out.old) (K.holds out.new) pending.old pending.new
-        (task_text (lists_in store.now) (task_in store.now t)) result }
+        (task_text (name_in programs.now store.now) (lists_in store.now)
+        (task_in store.now t)) result }
     ensures cause { HasCause (K.faults out.old) (K.faults out.new) result }
 {
-    gather_state_line(store, t, out, pending)?;
+    gather_state_line(store, programs, t, out, pending)?;
     gather_flags(field(store, t, TcbField::Flags), out, pending)?;
     gather_fault(store, t, out, pending)?;
     gather_queue(store, t, out, pending)?;
@@ -72,15 +84,31 @@ fn gather_task<K: Sink>(
     gather_resumption(store, t, out, pending)
 }
 
-// Its number, its address, its priority, and its state.
+// Its number, its address, its priority, its state, and its program.
 fn gather_state_line<K: Sink>(
+    store: &Store,
+    programs: &[Program],
+    t: u32,
+    out: &mut K,
+    pending: &mut Output,
+) -> Result<(), SinkFault>
+    ensures text { Gathers (K.holds out.old) (K.holds out.new) pending.old pending.new
+        (state_line (name_in programs.now store.now) (task_in store.now t)) result }
+    ensures cause { HasCause (K.faults out.old) (K.faults out.new) result }
+{
+    gather_state_words(store, t, out, pending)?;
+    gather_line_end(name_of_task(programs, store, t), out, pending)
+}
+
+// Its number, its address, its priority, and its state.
+fn gather_state_words<K: Sink>(
     store: &Store,
     t: u32,
     out: &mut K,
     pending: &mut Output,
 ) -> Result<(), SinkFault>
     ensures text { Gathers (K.holds out.old) (K.holds out.new) pending.old pending.new
-        (state_line (task_in store.now t)) result }
+        (state_words (task_in store.now t)) result }
     ensures cause { HasCause (K.faults out.old) (K.faults out.new) result }
 {
     let state = field(store, t, TcbField::State);
@@ -97,7 +125,6 @@ fn gather_state_line<K: Sink>(
             Text(b", "),
             Text(field_words(state - state % 4)),
             Text(held_words(state / HELD % 2 == 1)),
-            Text(b"\n"),
         ],
     )
 }

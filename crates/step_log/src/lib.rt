@@ -24,4 +24,4 @@ pub use laws::call_law;
 pub use steps::gather_steps;
 
 // Shown to the crates above.
-pub use cint_debug::{BootEnd, Machine, NoLog, boot as boot_machine};
+pub use cint_debug::{BootEnd, Machine, boot as boot_machine};

@@ -3,7 +3,11 @@ use Rattle.session_text.specs.SessionOfText.{session_of}
 use Rattle.hunk_text.specs.TextReader.Answers.{EndsAs}
 use Rattle.hunk_text.specs.TextReader.Refusal.{refusal}
 use Rattle.program_answers.proofs.AnswerParts.{Answers-refused}
+use Rattle.show_run.proofs.FileLengths.{short-files}
 use Rattle.show_run.proofs.answer.answer_session_text.Goals as goal
+
+pub answer_session-requires-clause-short : goal.answer_session-requires-clause-short
+answer_session-requires-clause-short g c = short-files c.args.text.now c.in-Ok.session c.in-Ok.ensures.value c.requires
 
 pub returns-in-Err-Bad-clause-answer : goal.returns-in-Err-Bad-clause-answer
 returns-in-Err-Bad-clause-answer g c =

@@ -8,4 +8,4 @@ use Rattle.state_text.proofs.awaited.gather_none.Goals as goal
 pub returns-clause-text : goal.returns-clause-text
 returns-clause-text g c =
     let none : list_any (is_from c.args.id) (queued (lists_in c.args.store.now)) ≡ false = sym c.has_packet.ensures ∙ c.if-has_packet.false in
-    rw none c.gather.ensures.text
+    rw (none, ← c.alone_line.ensures) c.gather.ensures.text

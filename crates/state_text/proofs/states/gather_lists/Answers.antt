@@ -1,7 +1,8 @@
 use Rattle.tp_io.specs.Pending.{Gathers}
 use Rattle.cint_debug.specs.Texts.{blocks_text}
+use Rattle.state_text.specs.ProgramNames.{name_in}
 use Rattle.state_text.specs.StateText.{kernel_text, lists_text}
-use Rattle.state_text.proofs.KernelStates.{on-lists, walks}
+use Rattle.state_text.proofs.KernelStates.{on-words, walks}
 use Rattle.state_text.proofs.states.gather_lists.Goals as goal
 
 pub gather_kernel-requires : goal.gather_kernel-requires
@@ -11,7 +12,8 @@ pub returns-in-Some-clause-text : goal.returns-in-Some-clause-text
 returns-in-Some-clause-text g c =
     let holds = g.K.Sink.holds in
     let end = c.gather_kernel in
-    on-lists _ c.args.machine.now.state
-    (λ l s. Gathers (holds c.args.out.now) (holds end.new.out) c.args.pending.now end.new.pending (kernel_text l (blocks_text s)) end.result
-    → Gathers (holds c.args.out.now) (holds end.new.out) c.args.pending.now end.new.pending (lists_text s) end.result)
+    let programs = c.args.programs.now in
+    on-words _ c.args.machine.now.state
+    (λ w l s. Gathers (holds c.args.out.now) (holds end.new.out) c.args.pending.now end.new.pending (kernel_text (name_in programs w) l (blocks_text s)) end.result
+    → Gathers (holds c.args.out.now) (holds end.new.out) c.args.pending.now end.new.pending (lists_text programs s) end.result)
     c.in-Some.ensures.stand (λ k text. text) end.ensures.text

@@ -5,6 +5,7 @@ use Rattle.std.proofs.lemmas.Result.{err_from_is_err_and}
 use Rattle.kernel_dispatch.specs.KernelModel.KernelRanges.{CanWalkTask}
 use Rattle.kernel_dispatch.specs.KernelModel.Recovered.{lists_in, task_in}
 use Rattle.kernel_dispatch.specs.TaskBlock.TaskChain.{tasks_in}
+use Rattle.state_text.specs.ProgramNames.{name_in}
 use Rattle.state_text.specs.TaskTexts.{task_text}
 use Rattle.state_text.proofs.GatheredLines.{lines-cut, lines-first, lines-next}
 use Rattle.state_text.proofs.ListedWords.{listed-tasks}
@@ -13,9 +14,10 @@ use Rattle.state_text.proofs.tasks.gather_chain.Goals as goal
 pub loop-t-init : goal.loop-t-init
 loop-t-init g c =
     let s = c.args.store.now in
+    let names = name_in c.args.programs.now s in
     let is = c.into_iter-t-iterator.ensures.into_iter_gives ∙ c.tasks-t-items.ensures in
     record {
-      so_far = lines-first (λ t. task_text (lists_in s) (task_in s t)) _ (flat_map (task_text (lists_in s)) (lists_in s).tasks) _ _ (ap (flat_map (λ t. task_text (lists_in s) (task_in s t))) is ∙ (sym (flat_map-map (task_text (lists_in s)) (task_in s) (tasks_in s)) ∙ ap (flat_map (task_text (lists_in s))) (listed-tasks s)));
+      so_far = lines-first (λ t. task_text names (lists_in s) (task_in s t)) _ (flat_map (task_text names (lists_in s)) (lists_in s).tasks) _ _ (ap (flat_map (λ t. task_text names (lists_in s) (task_in s t))) is ∙ (sym (flat_map-map (task_text names (lists_in s)) (task_in s) (tasks_in s)) ∙ ap (flat_map (task_text names (lists_in s))) (listed-tasks s)));
       walk = subst (AllByRecursion (CanWalkTask s)) (sym is) (c.requires.tasks);
       later = omega arith;
     }
@@ -23,15 +25,17 @@ loop-t-init g c =
 pub returns-in_err-gather_task-clause-text : goal.returns-in_err-gather_task-clause-text
 returns-in_err-gather_task-clause-text g c =
     let s = c.args.store.now in
+    let names = name_in c.args.programs.now s in
     let p = err_from_is_err_and c.from_residual.result c.from_residual.ensures.1 in
-    rw p.1 (lines-cut (λ t. task_text (lists_in s) (task_in s t)) c.in-Some.t c.next.new.self c.loop-t.t-iterator (flat_map (task_text (lists_in s)) (lists_in s).tasks) c.in-Some.ensures.steps c.loop-t.invariant.so_far c.in_err-gather_task.ensures.text)
+    rw p.1 (lines-cut (λ t. task_text names (lists_in s) (task_in s t)) c.in-Some.t c.next.new.self c.loop-t.t-iterator (flat_map (task_text names (lists_in s)) (lists_in s).tasks) c.in-Some.ensures.steps c.loop-t.invariant.so_far c.in_err-gather_task.ensures.text)
 
 pub loop-t-preserved : goal.loop-t-preserved
 loop-t-preserved g c =
     let s = c.args.store.now in
+    let names = name_in c.args.programs.now s in
     let kept = c.loop-t.invariant in
     record {
-      so_far = lines-next (λ t. task_text (lists_in s) (task_in s t)) c.in-Some.t c.next.new.self c.loop-t.t-iterator (flat_map (task_text (lists_in s)) (lists_in s).tasks) c.in-Some.ensures.steps kept.so_far c.in_ok-gather_task.ensures.text;
+      so_far = lines-next (λ t. task_text names (lists_in s) (task_in s t)) c.in-Some.t c.next.new.self c.loop-t.t-iterator (flat_map (task_text names (lists_in s)) (lists_in s).tasks) c.in-Some.ensures.steps kept.so_far c.in_ok-gather_task.ensures.text;
       walk = (subst (AllByRecursion (CanWalkTask s)) c.in-Some.ensures.steps kept.walk).1;
       later = omega (arith, kept.later, c.in_ok-gather_task.ensures.cause.later);
     }

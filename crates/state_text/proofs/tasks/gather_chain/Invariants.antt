@@ -2,13 +2,14 @@ use Rattle.std.proofs.Common.{◌≤◌}
 use Rattle.std.specs.List.{AllByRecursion, flat_map}
 use Rattle.kernel_dispatch.specs.KernelModel.KernelRanges.{CanWalkTask}
 use Rattle.kernel_dispatch.specs.KernelModel.Recovered.{lists_in, task_in}
+use Rattle.state_text.specs.ProgramNames.{name_in}
 use Rattle.state_text.specs.TaskTexts.{task_text}
 use Rattle.state_text.proofs.GatheredLines.{IsSoFar}
 use Rattle.state_text.proofs.tasks.gather_chain.Given as goal
 
 abbrev pub invariant-loop-t : goal.invariant-loop-t
 invariant-loop-t g l = record {
-  so_far : IsSoFar (λ t. task_text (lists_in l.store) (task_in l.store t)) l.t-iterator (flat_map (task_text (lists_in l.store)) (lists_in l.store).tasks) (g.K.Sink.holds l.fn.out) (g.K.Sink.holds l.out) l.fn.pending l.pending;
+  so_far : IsSoFar (λ t. task_text (name_in l.programs l.store) (lists_in l.store) (task_in l.store t)) l.t-iterator (flat_map (task_text (name_in l.programs l.store) (lists_in l.store)) (lists_in l.store).tasks) (g.K.Sink.holds l.fn.out) (g.K.Sink.holds l.out) l.fn.pending l.pending;
   walk : AllByRecursion (CanWalkTask l.store) l.t-iterator;
   later : g.K.Sink.faults l.fn.out ≤ g.K.Sink.faults l.out;
 }

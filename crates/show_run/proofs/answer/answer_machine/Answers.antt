@@ -9,7 +9,7 @@ use Rattle.step_log.specs.TriposMachine.State.{State, steps_of}
 use Rattle.program_answers.specs.Texts.{no_boot_text}
 use Rattle.program_answers.proofs.AnswerParts.{Answers-done, Answers-no_boot}
 use Rattle.show_run.specs.ShownAnswers.{machine_answer, shown_text}
-use Rattle.show_run.proofs.answer.answer_session.Goals as goal
+use Rattle.show_run.proofs.answer.answer_machine.Goals as goal
 
 pub show_machine-shown-requires : goal.show_machine-shown-requires
 show_machine-shown-requires g c =
@@ -21,9 +21,9 @@ returns-in-Ok-clause-answer g c =
     let holds = g.K.Sink.holds in
     let s = c.args.session.now in
     let (x, is, booted) = c.in-Ok.ensures in
-    let text : Prints (holds c.args.out.now) (holds c.show_machine-shown.new.out) (shown_text c.args.asked s.go x.state) c.show_machine-shown.result =
-    subst (λ (t : State). Prints (holds c.args.out.now) (holds c.show_machine-shown.new.out) (shown_text c.args.asked s.go t) c.show_machine-shown.result) booted.state c.show_machine-shown.ensures.text in
-    rw (is, c.status_after.ensures) (Answers-done (machine_answer c.args.asked s.go (Ok x)) _ _ c.show_machine-shown.result refl text)
+    let text : Prints (holds c.args.out.now) (holds c.show_machine-shown.new.out) (shown_text c.args.asked c.args.programs.now s.go x.state) c.show_machine-shown.result =
+    subst (λ (t : State). Prints (holds c.args.out.now) (holds c.show_machine-shown.new.out) (shown_text c.args.asked c.args.programs.now s.go t) c.show_machine-shown.result) booted.state c.show_machine-shown.ensures.text in
+    rw (is, c.status_after.ensures) (Answers-done (machine_answer c.args.asked c.args.programs.now s.go (Ok x)) _ _ c.show_machine-shown.result refl text)
 
 pub returns-in-Err-Line-clause-answer : goal.returns-in-Err-Line-clause-answer
 returns-in-Err-Line-clause-answer g c =
