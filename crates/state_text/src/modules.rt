@@ -46,7 +46,8 @@ fn gather_list<K: Sink>(
 ) -> Result<(), SinkFault>
     requires { CanWalkLists store.now }
     ensures text { Gathers (K.holds out.old) (K.holds out.new) pending.old pending.new
-        (flat_map (module_line (name_in programs.now store.now)) (lists_in store.now).modules) result }
+        (flat_map (module_line (name_in programs.now store.now))
+        (lists_in store.now).modules) result }
     ensures cause { HasCause (K.faults out.old) (K.faults out.new) result }
 {
     for m in modules(store) {
