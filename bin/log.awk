@@ -219,7 +219,7 @@ function write_head(line, w, words) {
     while ((getline line < before) > 0) {
         if (line !~ /^task [0-9]+ at /) continue
         split(line, w, " ")
-        words = line; sub(/.*priority /, "priority ", words); sub(/, is held$/, ", held", words)
+        words = line; sub(/, program [^,]*$/, "", words); sub(/.*priority /, "priority ", words); sub(/, is held$/, ", held", words)
         if (first > 1 && !(w[2] in is_of_session)) name_before(w[2] + 0, words ~ /is dead/)
         print "task " w[2] (w[2] in program_of ? ", " program_of[w[2]] : "") ", " words
     }

@@ -44,7 +44,7 @@ part == "tasks" && /^task / {
     tasks += 1
     id[tasks] = $2; block_of[$2] = $4 + 0
     priority[$2] = $6 + 0
-    state[$2] = $0; sub(/.*priority [0-9]+, /, "", state[$2]); sub(/, is held$/, ", and is held", state[$2])
+    state[$2] = $0; sub(/, program [^,]*$/, "", state[$2]); sub(/.*priority [0-9]+, /, "", state[$2]); sub(/, is held$/, ", and is held", state[$2])
     next
 }
 /: packet [0-9]+ of / { read_queued($0); next }
