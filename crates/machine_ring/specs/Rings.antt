@@ -21,6 +21,10 @@ pub record Ring : Type 0 where
   -- the machine at which these bytes are typed
   pub right : State
 
+-- these two machines, and this between them
+abbrev pub ring_with : Left → Link → State → Ring
+ring_with left link right = record { left = left; link = link; right = right }
+
 -- what is set for the ring of an input
 abbrev pub terms_of : RingInput → Terms
 terms_of input = record {

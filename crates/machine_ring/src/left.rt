@@ -38,19 +38,17 @@ impl Model for LeftEnd {
 }
 
 impl LeftEnd {
-    /// The machine, of which no byte waits. `WantMemory` comes only where memory could not be had.
-    pub(crate) fn new(alloc: Global, machine: Machine) -> Result<LeftEnd, WantMemory>
-        requires { machine.output ≡ [] }
-        ensures { IfOk result (λ x. x ≡ record { state = machine.state; waiting = [] }) }
+    /// The machine, of which no byte waits, with room for those that will.
+    pub(crate) fn new(machine: Machine, room: HeapCircularBuffer<u8>) -> LeftEnd
+        requires output { machine.output ≡ [] }
+        requires room { room ≡ buffer [] MOST_WAITING }
+        ensures { result ≡ record { state = machine.state; waiting = [] } }
     {
-        let Ok(held) = HeapCircularBuffer::with_capacity(alloc, MOST_WAITING) else {
-            return Err(WantMemory);
-        };
-        Ok(LeftEnd {
+        LeftEnd {
             machine,
-            held,
+            held: room,
             taken: 0,
-        })
+        }
     }
 
     /// Takes a step where at most 8,192 bytes wait, and the machine has neither stopped nor taken so many steps.
@@ -134,6 +132,16 @@ impl LeftEnd {
         }
         take_quiet_steps(&mut self.machine, n);
         self.taken = 0;
+    }
+}
+
+/// Room for the bytes that wait. `WantMemory` comes only where memory could not be had.
+pub(crate) fn waiting_room(alloc: Global) -> Result<HeapCircularBuffer<u8>, WantMemory>
+    ensures { IfOk result (λ room. room ≡ buffer [] MOST_WAITING) }
+{
+    match HeapCircularBuffer::with_capacity(alloc, MOST_WAITING) {
+        Ok(room) => Ok(room),
+        Err(_) => Err(WantMemory),
     }
 }
 

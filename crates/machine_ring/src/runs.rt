@@ -5,6 +5,7 @@ ghost use Rattle.tp_io.specs.Write.{HasCause};
 ghost use Rattle.tripos_machine.specs.KernelCalls.KernelModel.Ranges.{most_steps};
 ghost use Rattle.machine_ring.specs.Links.{carried, carried_byte, carries_back};
 ghost use Rattle.machine_ring.specs.Outcomes.{outcome_of};
+ghost use Rattle.machine_ring.specs.Rings.{first_ring, ring_with};
 ghost use Rattle.machine_ring.specs.Rounds.{after_answer, after_step};
 ghost use Rattle.machine_ring.specs.Runs.{run};
 
@@ -15,7 +16,7 @@ use crate::links::LinkParts;
 use crate::outcomes::{RingOutcome, outcome_after};
 use crate::right::{has_room, step};
 use tp_io::{Output, Sink, SinkFault};
-use tripos_machine::Stop;
+use tripos_machine::{Machine, Stop};
 
 impl Ring {
     /// Takes all rounds, or those up to the one in which the right machine stops, and gathers its console bytes. `SinkFault` comes only
@@ -32,25 +33,46 @@ impl Ring {
             mut link,
             mut right,
         } = self;
-        while link.goes_on() {
-            match right.stop() {
-                Some(stop) => return Ok(outcome_after(&left, &link, stop)),
-                None => {}
-            }
-            let idle = idle_rounds(&left, &link);
-            if idle > 0 {
-                pass(&mut left, &mut link, &mut right, idle, out, pending)?;
-                continue;
-            }
-            match carry(&mut left, &mut link, has_room(&right)) {
-                Some(byte) => right.type_byte(byte),
-                None => {}
-            }
-            step(&mut right, link.right_steps(), out, pending)?;
-        }
-        let end = right.stop().unwrap_or(Stop::Steps);
-        Ok(outcome_after(&left, &link, end))
+        run_rounds(&mut left, &mut link, &mut right, out, pending)
     }
+}
+
+// Takes the rounds of a ring, whose parts are lent.
+fn run_rounds<K: Sink>(
+    left: &mut LeftEnd,
+    link: &mut LinkParts,
+    right: &mut Machine,
+    out: &mut K,
+    pending: &mut Output,
+) -> Result<RingOutcome, SinkFault>
+    requires first { ring_with left.old link.old right.old.state
+        ≡ first_ring link.old.terms left.old.state right.old.state }
+    requires left_steps { link.old.terms.left_steps ≤ most_steps }
+    requires right_steps { link.old.terms.right_steps ≤ most_steps }
+    ensures outcome { IfOk result (λ o. o
+        ≡ outcome_of (run link.old.terms.rounds (ring_with left.old link.old right.old.state))) }
+    ensures bytes { Gathers (K.holds out.old) (K.holds out.new) pending.old pending.new
+        (run link.old.terms.rounds (ring_with left.old link.old right.old.state)).shown result }
+    ensures cause { HasCause (K.faults out.old) (K.faults out.new) result }
+{
+    while link.goes_on() {
+        match right.stop() {
+            Some(stop) => return Ok(outcome_after(left, link, stop)),
+            None => {}
+        }
+        let idle = idle_rounds(left, link);
+        if idle > 0 {
+            pass(left, link, right, idle, out, pending)?;
+            continue;
+        }
+        match carry(left, link, has_room(right)) {
+            Some(byte) => right.type_byte(byte),
+            None => {}
+        }
+        step(right, link.right_steps(), out, pending)?;
+    }
+    let end = right.stop().unwrap_or(Stop::Steps);
+    Ok(outcome_after(left, link, end))
 }
 
 // The left machine takes a step, and the link has a round, with room for a byte at its other end or not. The answer is the byte that it

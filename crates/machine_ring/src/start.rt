@@ -6,9 +6,10 @@ ghost use Rattle.session_text.specs.Canonical.{IsLawful};
 ghost use Rattle.tripos_machine.specs.Boot.{boot};
 ghost use Rattle.tripos_machine.specs.Machine.{BootsAs};
 ghost use Rattle.machine_ring.specs.Boot.{BootsRing, IsBehind, booted_ring};
+ghost use Rattle.machine_ring.specs.Links.{new_link};
 ghost use Rattle.machine_ring.specs.Rings.{terms_of};
 
-use crate::left::LeftEnd;
+use crate::left::{LeftEnd, waiting_room};
 use crate::links::LinkParts;
 use crate::terms::Terms;
 use crate::{Ring, RingBoot};
@@ -27,19 +28,26 @@ impl Ring {
         requires { IsLawfulRing input.now }
         ensures { BootsRing result (booted_ring input.now) }
     {
+        let Ok(link) = link_of(alloc, input) else {
+            return Err(RingBoot::WantMemory);
+        };
+        let Ok(room) = waiting_room(alloc) else {
+            return Err(RingBoot::WantMemory);
+        };
         let left = boot_behind(alloc, input.left_line, &input.left)?;
         let right = boot_behind(alloc, input.right_line, &input.right)?;
-        let Ok(terms) = terms_of(alloc, input) else {
-            return Err(RingBoot::WantMemory);
-        };
-        let Ok(left) = LeftEnd::new(alloc, left) else {
-            return Err(RingBoot::WantMemory);
-        };
-        let Ok(link) = LinkParts::new(alloc, terms) else {
-            return Err(RingBoot::WantMemory);
-        };
+        let left = LeftEnd::new(left, room);
         Ok(Ring { left, link, right })
     }
+}
+
+// The link of an input before the first round.
+fn link_of(alloc: Global, input: &RingInput) -> Result<LinkParts, WantMemory>
+    requires { IsLawfulRing input.now }
+    ensures { IfOk result (λ link. link ≡ new_link (terms_of input.now)) }
+{
+    let terms = terms_of(alloc, input)?;
+    LinkParts::new(alloc, terms)
 }
 
 // The machine of a session whose lines stand behind so many others.

@@ -6,45 +6,45 @@ use Rattle.tripos_machine.specs.KernelCalls.KernelModel.Ranges.{most_steps}
 use Rattle.tripos_machine.specs.Runs.{end_of_run}
 use Rattle.machine_ring.specs.Links.{Link}
 use Rattle.machine_ring.specs.Outcomes.{outcome_of}
-use Rattle.machine_ring.specs.Rings.{Ring}
+use Rattle.machine_ring.specs.Rings.{Ring, ring_with}
 use Rattle.machine_ring.specs.Rounds.{Rounded, first_of, right_after, shown_by, with_typing}
 use Rattle.machine_ring.specs.Runs.{run}
 use Rattle.machine_ring.specs.declared.terms.Terms.{Terms}
 use Rattle.machine_ring.proofs.RingProgress.{acknowledged-few, cut-then, end-left, ended-early, gathered-first, gathered-then, outcome-is, outstanding-none, ran-first, ran-then, round-is, shown-is}
-use Rattle.machine_ring.proofs.rings.Ring.run.Goals as goal
-use Rattle.machine_ring.proofs.rings.Ring.run.Goals.{in-None-carry, in-Some-carry}
+use Rattle.machine_ring.proofs.runs.run_rounds.Goals as goal
+use Rattle.machine_ring.proofs.runs.run_rounds.Goals.{in-None-carry, in-Some-carry}
 
 pub loop-right-init : goal.loop-right-init
 loop-right-init g c =
-    let none = ap (λ (r : Ring). r.link.rounds) c.self.invariant.first in
+    let none = ap (λ (r : Ring). r.link.rounds) c.requires.first in
     record {
-      ran = ran-first c.args.self (record { left = c.self.inside.left; link = c.self.inside.link; right = c.self.inside.right.state }) c.self.view_is none;
+      ran = ran-first (ring_with c.args.left.now c.args.link.now c.args.right.now.state) (record { left = c.args.left.now; link = c.args.link.now; right = c.args.right.now.state }) refl none;
       few = omega (arith, none);
-      terms = ap (λ (r : Ring). r.link.terms) c.self.view_is;
-      gathered = gathered-first c.args.self _ none _ _;
+      terms = refl;
+      gathered = gathered-first (ring_with c.args.left.now c.args.link.now c.args.right.now.state) _ none _ _;
       later = omega arith;
     }
 
 pub outcome_after-requires : goal.outcome_after-requires
 outcome_after-requires g c =
-    acknowledged-few c.args.self c.self.inside.link.terms c.self.inside.left.state c.self.inside.right.state (sym c.self.view_is ∙ c.self.invariant.first) c.loop-right.link.rounds
+    acknowledged-few (ring_with c.args.left.now c.args.link.now c.args.right.now.state) c.args.link.now.terms c.args.left.now.state c.args.right.now.state c.requires.first c.loop-right.link.rounds
     (record { left = c.loop-right.left; link = c.loop-right.link; right = c.loop-right.right.state }) c.loop-right.invariant.ran
 
 pub returns-in-Some-clause-outcome : goal.returns-in-Some-clause-outcome
 returns-in-Some-clause-outcome g c =
     let kept = c.loop-right.invariant in
-    let f = c.args.self in
+    let f = ring_with c.args.left.now c.args.link.now c.args.right.now.state in
     let r : Ring = record { left = c.loop-right.left; link = c.loop-right.link; right = c.loop-right.right.state } in
     let stopped = sym c.stop.ensures ∙ c.in-Some.is in
     let is = c.outcome_after.ensures in
-    outcome-is f c.self.inside.link.terms c.self.inside.left.state c.self.inside.right.state (sym c.self.view_is ∙ c.self.invariant.first) c.loop-right.link.rounds
+    outcome-is f c.args.link.now.terms c.args.left.now.state c.args.right.now.state c.requires.first c.loop-right.link.rounds
     r kept.ran c.outcome_after.result is.rounds is.sent is.delivered is.acknowledged (is.end ∙ sym (ap end_of_run stopped))
     ∙ sym (ap outcome_of (ended-early f r f.link.terms.rounds kept.ran kept.few c.in-Some.stop stopped))
 
 pub returns-in-Some-clause-bytes : goal.returns-in-Some-clause-bytes
 returns-in-Some-clause-bytes g c =
     let kept = c.loop-right.invariant in
-    let f = c.args.self in
+    let f = ring_with c.args.left.now c.args.link.now c.args.right.now.state in
     let r : Ring = record { left = c.loop-right.left; link = c.loop-right.link; right = c.loop-right.right.state } in
     subst (λ (x : Rounded). IsGathered (g.K.Sink.holds c.args.out.now) (g.K.Sink.holds c.loop-right.out) c.args.pending.now c.loop-right.pending x.shown)
     (sym (ended-early f r f.link.terms.rounds kept.ran kept.few c.in-Some.stop (sym c.stop.ensures ∙ c.in-Some.is))) kept.gathered
@@ -52,8 +52,8 @@ returns-in-Some-clause-bytes g c =
 pub step-requires : goal.step-requires
 step-requires g c =
     let r : Ring = record { left = c.loop-right.left; link = c.loop-right.link; right = c.loop-right.right.state } in
-    let same = ap (λ (k : Link). k.terms) (c.carry.ensures.link (first_of r) refl) ∙ c.loop-right.invariant.terms ∙ sym (ap (λ (q : Ring). q.link.terms) c.self.view_is) in
-    subst (λ n. n ≤ most_steps) (sym (c.right_steps.ensures ∙ (λ i. (same i).right_steps))) c.self.invariant.right_steps
+    let same = ap (λ (k : Link). k.terms) (c.carry.ensures.link (first_of r) refl) ∙ c.loop-right.invariant.terms in
+    subst (λ n. n ≤ most_steps) (sym (c.right_steps.ensures ∙ (λ i. (same i).right_steps))) c.requires.right_steps
 
 pub loop-right-smaller : goal.loop-right-smaller
 loop-right-smaller g c =
@@ -65,7 +65,7 @@ loop-right-smaller g c =
 pub loop-right-preserved : goal.loop-right-preserved
 loop-right-preserved g c =
     let kept = c.loop-right.invariant in
-    let f = c.args.self in
+    let f = ring_with c.args.left.now c.args.link.now c.args.right.now.state in
     let r : Ring = record { left = c.loop-right.left; link = c.loop-right.link; right = c.loop-right.right.state } in
     let after : Ring = record { left = c.carry.new.left; link = c.carry.new.link; right = c.step.new.machine.state } in
     let link = c.carry.ensures.link (first_of r) refl in
@@ -96,7 +96,7 @@ loop-right-preserved g c =
 pub returns-in_err-step-clause-bytes : goal.returns-in_err-step-clause-bytes
 returns-in_err-step-clause-bytes g c =
     let kept = c.loop-right.invariant in
-    let f = c.args.self in
+    let f = ring_with c.args.left.now c.args.link.now c.args.right.now.state in
     let r : Ring = record { left = c.loop-right.left; link = c.loop-right.link; right = c.loop-right.right.state } in
     let after : Ring = record { left = c.carry.new.left; link = c.carry.new.link; right = c.step.new.machine.state } in
     let link = c.carry.ensures.link (first_of r) refl in
@@ -121,16 +121,16 @@ returns-in_err-step-clause-bytes g c =
 
 pub pass-requires-clause-idle : goal.pass-requires-clause-idle
 pass-requires-clause-idle g c = λ n few.
-    let f = c.args.self in
+    let f = ring_with c.args.left.now c.args.link.now c.args.right.now.state in
     let r : Ring = record { left = c.loop-right.left; link = c.loop-right.link; right = c.loop-right.right.state } in
-    let new = sym c.self.view_is ∙ c.self.invariant.first in
-    let out = outstanding-none f c.self.inside.link.terms c.self.inside.left.state c.self.inside.right.state new r.link.rounds r c.loop-right.invariant.ran in
+    let new = c.requires.first in
+    let out = outstanding-none f c.args.link.now.terms c.args.left.now.state c.args.right.now.state new r.link.rounds r c.loop-right.invariant.ran in
     c.idle_rounds-idle.ensures n few c.if-idle-gt0.true out
 
 pub loop-right-preserved-then-idle-gt0 : goal.loop-right-preserved-then-idle-gt0
 loop-right-preserved-then-idle-gt0 g c =
     let kept = c.loop-right.invariant in
-    let f = c.args.self in
+    let f = ring_with c.args.left.now c.args.link.now c.args.right.now.state in
     let r : Ring = record { left = c.loop-right.left; link = c.loop-right.link; right = c.loop-right.right.state } in
     let after : Ring = record { left = c.pass.new.left; link = c.pass.new.link; right = c.pass.new.right.state } in
     let m = after.link.rounds - r.link.rounds in
@@ -146,7 +146,7 @@ loop-right-preserved-then-idle-gt0 g c =
 pub returns-in_err-pass-clause-bytes : goal.returns-in_err-pass-clause-bytes
 returns-in_err-pass-clause-bytes g c =
     let kept = c.loop-right.invariant in
-    let f = c.args.self in
+    let f = ring_with c.args.left.now c.args.link.now c.args.right.now.state in
     let r : Ring = record { left = c.loop-right.left; link = c.loop-right.link; right = c.loop-right.right.state } in
     let after : Ring = record { left = c.pass.new.left; link = c.pass.new.link; right = c.pass.new.right.state } in
     let m = after.link.rounds - r.link.rounds in
@@ -157,17 +157,17 @@ returns-in_err-pass-clause-bytes g c =
 
 pub outcome_after-requires-2 : goal.outcome_after-requires-2
 outcome_after-requires-2 g c =
-    acknowledged-few c.args.self c.self.inside.link.terms c.self.inside.left.state c.self.inside.right.state (sym c.self.view_is ∙ c.self.invariant.first) c.loop-right.link.rounds
+    acknowledged-few (ring_with c.args.left.now c.args.link.now c.args.right.now.state) c.args.link.now.terms c.args.left.now.state c.args.right.now.state c.requires.first c.loop-right.link.rounds
     (record { left = c.loop-right.left; link = c.loop-right.link; right = c.loop-right.right.state }) c.loop-right.invariant.ran
 
 pub returns-clause-outcome : goal.returns-clause-outcome
 returns-clause-outcome g c =
     let kept = c.loop-right.invariant in
-    let f = c.args.self in
+    let f = ring_with c.args.left.now c.args.link.now c.args.right.now.state in
     let r : Ring = record { left = c.loop-right.left; link = c.loop-right.link; right = c.loop-right.right.state } in
     let is = c.outcome_after-2.ensures in
     let more = ltb-false c.loop-right.link.rounds c.loop-right.link.terms.rounds (sym c.loop-right-test.ensures.more) in
     let end : c.loop-right.link.rounds ≡ f.link.terms.rounds = omega (arith, kept.few, more, ap (λ (t : Terms). t.rounds) kept.terms) in
-    outcome-is f c.self.inside.link.terms c.self.inside.left.state c.self.inside.right.state (sym c.self.view_is ∙ c.self.invariant.first) c.loop-right.link.rounds
+    outcome-is f c.args.link.now.terms c.args.left.now.state c.args.right.now.state c.requires.first c.loop-right.link.rounds
     r kept.ran c.outcome_after-2.result is.rounds is.sent is.delivered is.acknowledged (is.end ∙ end-left _ _ _ c.stop-2.ensures c.unwrap_or-end.ensures)
     ∙ ap (λ n. outcome_of (run n f)) end
