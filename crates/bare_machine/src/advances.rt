@@ -13,7 +13,7 @@ use session_text::Stop;
 use tp_io::Output;
 
 /// What steps have come to.
-#[derive(Clone, Copy, Debug)]
+#[derive(Clone, Copy)]
 pub(crate) struct Advanced {
     /// How many there were.
     pub steps: u64,

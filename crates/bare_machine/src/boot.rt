@@ -10,7 +10,7 @@ use word_store::{NoStoreMemory, Regs, Store};
 const PROGRAM: u32 = 800;
 
 /// Why a session does not boot.
-#[derive(Clone, Copy, Debug)]
+#[derive(Clone, Copy)]
 pub enum BootEnd {
     /// What this line of the session puts into the machine has no place there: code 1 where its bytes pass the store's end.
     Line { line: u32, code: u32 },

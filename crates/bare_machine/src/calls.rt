@@ -8,7 +8,7 @@ use session_text::Stop;
 use word_store::{Regs, Store, add, mul_div};
 
 /// What a call leaves: new registers, the byte for the console, and why the machine has stopped.
-#[derive(Clone, Copy, Debug)]
+#[derive(Clone, Copy)]
 pub struct CallAnswer {
     pub regs: Regs,
     pub byte: Option<u8>,

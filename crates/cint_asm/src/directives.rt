@@ -3,7 +3,7 @@ ghost use Rattle.std.specs.Prelude.{◌≡◌};
 ghost use Rattle.cint_asm.specs.Directives.{directive_named};
 
 /// What a line says that has no instruction.
-#[derive(Clone, Copy, Debug)]
+#[derive(Clone, Copy)]
 pub enum Directive {
     /// `DB n`: a byte.
     Byte,

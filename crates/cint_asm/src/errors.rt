@@ -1,7 +1,7 @@
 // What is wrong with a line.
 
 /// What is wrong with a line, in the order of the codes that a refusal names.
-#[derive(Clone, Copy, Debug, PartialEq, Eq)]
+#[derive(Clone, Copy)]
 pub enum LineError {
     /// The line has none of the forms.
     NoForm = 1,

@@ -7,7 +7,7 @@ ghost use Rattle.cint_asm.specs.Names.{is_label, is_name, label_of};
 use std::marker::Model;
 
 /// A label, lent by the text and seen as its bytes.
-#[derive(Debug, Drop)]
+#[derive(Drop)]
 pub struct Label<'a> {
     /// The label's bytes.
     name: &'a [u8],

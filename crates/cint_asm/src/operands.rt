@@ -9,7 +9,7 @@ use crate::numbers::number;
 use crate::parts::split_part;
 
 /// The operands of a line, which follow the name.
-#[derive(Debug, Drop)]
+#[derive(Drop)]
 pub enum Operands<'a> {
     Nothing,
     Number(i64),

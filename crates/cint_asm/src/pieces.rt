@@ -11,7 +11,7 @@ use crate::tables::look_up;
 use std::collections::BTreeMap;
 
 /// What a line gives to the hunk.
-#[derive(Debug, Drop)]
+#[derive(Drop)]
 pub struct Piece {
     /// The bytes from the end of the line before.
     pub bytes: LineBytes,

@@ -78,7 +78,7 @@ fn closing_size(pairs: u32) -> u32
 }
 
 /// What a label names.
-#[derive(Clone, Copy, Debug)]
+#[derive(Clone, Copy)]
 pub struct Place {
     /// Its offset in bytes from the hunk's begin.
     pub offset: u32,

@@ -6,7 +6,7 @@ use arrayvec::ArrayVec;
 use std::marker::Model;
 
 /// At most eight bytes, seen as their list.
-#[derive(Debug, Drop)]
+#[derive(Drop)]
 pub struct LineBytes {
     /// The bytes.
     bytes: ArrayVec<u8, 8>,
@@ -50,7 +50,7 @@ impl LineBytes {
 }
 
 /// What an offset may have to be a multiple of.
-#[derive(Clone, Copy, Debug)]
+#[derive(Clone, Copy)]
 pub enum Boundary {
     /// 2 bytes.
     Half,
@@ -59,7 +59,7 @@ pub enum Boundary {
 }
 
 /// What a line says besides its label.
-#[derive(Debug, Drop)]
+#[derive(Drop)]
 pub enum Statement<'a> {
     /// Bytes that are the same wherever they stand: none, an instruction, or the data of `DB`, `DH` and `DW`.
     Fixed(LineBytes),
@@ -78,7 +78,7 @@ pub enum Statement<'a> {
 }
 
 /// A line: the label that it defines, and what else it says.
-#[derive(Debug, Drop)]
+#[derive(Drop)]
 pub struct Line<'a> {
     /// The label that it defines.
     pub label: Option<Label<'a>>,

@@ -13,7 +13,7 @@ const MOST_SHOWN: u64 = 4096;
 const MOST_DEVICE: u64 = 2_147_483_648;
 
 /// What a line asks for.
-#[derive(Clone, Copy, Debug)]
+#[derive(Clone, Copy)]
 pub enum Order {
     /// A breakpoint at this byte address.
     Break(u32),
@@ -42,7 +42,7 @@ pub enum Order {
 }
 
 /// A line that asks for nothing.
-#[derive(Clone, Copy, Debug)]
+#[derive(Clone, Copy)]
 pub struct BadLine {
     /// The number of the line.
     pub line: u32,

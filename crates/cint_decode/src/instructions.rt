@@ -2,7 +2,7 @@
 use cint_table::Effect;
 
 /// An instruction of the machine.
-#[derive(Clone, Copy, Debug, PartialEq, Eq)]
+#[derive(Clone, Copy)]
 pub struct Instr {
     /// The function byte, which has a row in the table.
     pub byte: u8,
@@ -17,7 +17,7 @@ pub struct Instr {
 }
 
 /// Why no instruction stands at a place. Each carries a byte address.
-#[derive(Clone, Copy, Debug, PartialEq, Eq)]
+#[derive(Clone, Copy)]
 pub enum DecodeEnd {
     /// The function byte, or this byte of the operand, is outside.
     Outside(u32),

@@ -7,7 +7,7 @@ use hunk_text::Hunk;
 use std::marker::Model;
 
 /// The words of a hunk, lent as code and seen as their list. Byte 4 * i + k is byte k of word i, the lowest first.
-#[derive(Debug, Drop)]
+#[derive(Drop)]
 pub struct HunkBytes<'a> {
     /// The words of the hunk.
     words: &'a [u32],

@@ -8,7 +8,7 @@ use crate::writes::Writes;
 use word_store::{Regs, Store, add};
 
 /// New registers, and the words to write.
-#[derive(Clone, Copy, Debug)]
+#[derive(Clone, Copy)]
 pub struct Change {
     /// The registers.
     pub regs: Regs,

@@ -32,7 +32,7 @@ pub use cint_table::{Form, Row, byte_of, row};
 ///
 /// 1 a byte without a row, 2 BRK, 3 a read outside the store, 4 a write outside it, 5 a division by zero, 6 a write into a
 /// kernel word, 7 an unknown call, 8 a function or operand byte outside the store. An instruction has no fault 7 itself.
-#[derive(Clone, Copy, Debug, PartialEq, Eq)]
+#[derive(Clone, Copy)]
 pub struct Fault {
     /// What is wrong.
     pub code: u32,
@@ -41,7 +41,7 @@ pub struct Fault {
 }
 
 /// How an instruction ended.
-#[derive(Clone, Copy, Debug, PartialEq, Eq)]
+#[derive(Clone, Copy)]
 pub enum Outcome {
     /// It was executed.
     Next,

@@ -9,7 +9,7 @@ use cint_table::Effect;
 use word_store::{Regs, Store, add};
 
 /// The words that an instruction may write.
-#[derive(Clone, Copy, Debug, PartialEq, Eq)]
+#[derive(Clone, Copy)]
 pub enum Places {
     /// It writes no word.
     Nowhere,

@@ -4,7 +4,7 @@ ghost use Rattle.std.specs.Prelude.{false};
 use word_store::{Guard, Store};
 
 /// No word is the kernel's.
-#[derive(Clone, Copy, Debug)]
+#[derive(Clone, Copy)]
 pub struct NoKernel;
 
 impl Guard for NoKernel {

@@ -8,7 +8,7 @@ use crate::{Fault, Outcome};
 use word_store::{Guard, Regs, Store, add};
 
 /// The words that an instruction writes.
-#[derive(Clone, Copy, Debug)]
+#[derive(Clone, Copy)]
 pub enum Writes {
     Nothing,
     /// One word at an address.

@@ -1,7 +1,7 @@
 // What an instruction does.
 
 /// How a conditional jump compares two words, as signed numbers.
-#[derive(Clone, Copy, Debug, PartialEq, Eq)]
+#[derive(Clone, Copy)]
 pub enum Test {
     /// Equal.
     Eq,
@@ -19,7 +19,7 @@ pub enum Test {
 
 /// What an instruction does. Here n is the operand, k the number that the variant carries, t the target, and x!i the
 /// word at address x + i. To load e means B := A, and then A := e, where e is computed from the old registers.
-#[derive(Clone, Copy, Debug, PartialEq, Eq)]
+#[derive(Clone, Copy)]
 pub enum Effect {
     /// Load n.
     Load,

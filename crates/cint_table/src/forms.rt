@@ -1,7 +1,7 @@
 // Where an instruction's operand stands.
 
 /// Where the operand stands. Operands follow the function byte directly, the lowest byte first.
-#[derive(Clone, Copy, Debug, PartialEq, Eq)]
+#[derive(Clone, Copy)]
 pub enum Form {
     /// In the name: this number, or 0 where the name has none.
     Plain(u32),

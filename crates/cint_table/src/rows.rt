@@ -2,7 +2,7 @@
 use crate::{Effect, Form};
 
 /// A row of the table.
-#[derive(Clone, Copy, Debug, PartialEq, Eq)]
+#[derive(Clone, Copy)]
 pub struct Row {
     /// The instruction's name in assembly text.
     pub name: &'static str,
@@ -13,7 +13,7 @@ pub struct Row {
 }
 
 /// A row without its name.
-#[derive(Clone, Copy, Debug, PartialEq, Eq)]
+#[derive(Clone, Copy)]
 pub struct Shape {
     /// The form of its operand.
     pub form: Form,

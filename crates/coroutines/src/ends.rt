@@ -1,7 +1,7 @@
 // Why a call on a coroutine is refused.
 
 /// A refusal; then neither the store nor the registers have changed.
-#[derive(Clone, Copy, Debug, PartialEq, Eq)]
+#[derive(Clone, Copy)]
 pub enum CoEnd {
     /// Code 21: there is no such coroutine in the task.
     Unknown,

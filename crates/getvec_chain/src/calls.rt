@@ -11,11 +11,11 @@ use crate::search::{first_run, used_at, words_needed};
 use owned_words::Store;
 
 /// No run of free blocks is large enough.
-#[derive(Clone, Copy, Debug, PartialEq, Eq)]
+#[derive(Clone, Copy)]
 pub struct NoRoom;
 
 /// No used block has its data there.
-#[derive(Clone, Copy, Debug, PartialEq, Eq)]
+#[derive(Clone, Copy)]
 pub struct NotABlock;
 
 /// Makes one free block of all words from 200 up to the end word.

@@ -7,7 +7,7 @@ pub const FIRST_BLOCK: u32 = 200;
 
 /// A block: the address of its size word, its size in words, the size word included, and whether it is free. Its data
 /// are the words after the size word.
-#[derive(Clone, Copy, Debug, PartialEq, Eq)]
+#[derive(Clone, Copy)]
 pub struct Block {
     /// The address of its size word.
     pub start: u32,
@@ -18,7 +18,7 @@ pub struct Block {
 }
 
 /// A run of adjacent free blocks: the address of its first word, and the address after its last.
-#[derive(Clone, Copy, Debug, PartialEq, Eq)]
+#[derive(Clone, Copy)]
 pub struct Run {
     /// The address of its first word.
     pub start: u32,

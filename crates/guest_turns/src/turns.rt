@@ -25,7 +25,7 @@ const READ_OUTSIDE: u32 = 3;
 const UNKNOWN_CALL: u32 = 7;
 
 /// How a guest's turn ends.
-#[derive(Clone, Copy, Debug, PartialEq, Eq)]
+#[derive(Clone, Copy)]
 pub enum TurnEnd {
     /// The step goes on.
     Goes,

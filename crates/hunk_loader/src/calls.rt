@@ -15,7 +15,7 @@ use hunk_text::{Shape, TextBytes, check_module};
 use task_block::{RootField, root, set_root};
 
 /// Why no module was loaded.
-#[derive(Clone, Copy, Debug, PartialEq, Eq)]
+#[derive(Clone, Copy)]
 pub enum LoadEnd {
     /// The text is no module: the code of `check_module`.
     Module(u32),
@@ -24,7 +24,7 @@ pub enum LoadEnd {
 }
 
 /// No module of the list stands there.
-#[derive(Clone, Copy, Debug, PartialEq, Eq)]
+#[derive(Clone, Copy)]
 pub struct NoModule;
 
 /// Which word of a module links to the next one.

@@ -13,7 +13,7 @@ pub const END: u32 = 0x3ea;
 
 /// What the next word of a module's text is. `length` is the length of the hunk that was read last, and `more` the number
 /// of words of the same kind that follow the next one.
-#[derive(Clone, Copy, Debug, PartialEq, Eq)]
+#[derive(Clone, Copy)]
 pub enum Expects {
     /// The type of the first item, or the end word.
     FirstType,

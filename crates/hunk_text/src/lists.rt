@@ -6,7 +6,7 @@ use std::alloc::AllocFailed;
 use std::marker::Model;
 
 /// Words of 32 bits, seen as their list.
-#[derive(Debug, Drop)]
+#[derive(Drop)]
 pub struct WordList {
     /// The words.
     list: Vec<u32>,
@@ -53,7 +53,7 @@ impl WordList {
 }
 
 /// Hunks, seen as their list.
-#[derive(Debug, Drop)]
+#[derive(Drop)]
 pub struct Hunks {
     /// The hunks.
     list: Vec<Hunk>,

@@ -2,7 +2,7 @@
 use crate::{Hunks, WordList};
 
 /// A hunk: a piece of code or data, in words.
-#[derive(Debug, Drop)]
+#[derive(Drop)]
 pub struct Hunk {
     /// Its words.
     pub words: WordList,
@@ -12,7 +12,7 @@ pub struct Hunk {
 }
 
 /// A module: hunks, in their order.
-#[derive(Debug, Drop)]
+#[derive(Drop)]
 pub struct Module {
     /// Its hunks, in their order.
     pub hunks: Hunks,

@@ -18,7 +18,7 @@ pub trait TextBytes {
 }
 
 /// A text in memory, seen as its bytes.
-#[derive(Debug, Drop)]
+#[derive(Drop)]
 pub struct SliceText<'a> {
     /// The bytes of the text.
     bytes: &'a [u8],

@@ -9,7 +9,7 @@ use hunk_text::{after_word, number};
 use session_text::number_field;
 
 /// What a line states, with its numbers and names as they stand there.
-#[derive(Clone, Copy, Debug)]
+#[derive(Clone, Copy)]
 pub enum Statement<'a> {
     /// A file of this name.
     File(&'a [u8]),

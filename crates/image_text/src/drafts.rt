@@ -18,7 +18,7 @@ use std::alloc::Global;
 use word_store::{Regs, Store};
 
 /// What may come next in the text of a saved machine.
-#[derive(Clone, Copy, Debug)]
+#[derive(Clone, Copy)]
 pub enum Place {
     /// The version.
     Version,

@@ -43,7 +43,7 @@ pub struct Image {
 }
 
 /// What a shell does next.
-#[derive(Clone, Copy, Debug)]
+#[derive(Clone, Copy)]
 pub enum Mode {
     /// It prompts.
     Prompt,
@@ -56,7 +56,7 @@ pub enum Mode {
 }
 
 /// A file.
-#[derive(Debug, Drop)]
+#[derive(Drop)]
 pub struct SavedFile {
     /// Its name.
     pub name: Name,
@@ -65,7 +65,7 @@ pub struct SavedFile {
 }
 
 /// A stream that is open.
-#[derive(Debug, Drop)]
+#[derive(Drop)]
 pub struct SavedStream {
     /// Its number, from 1 to 17.
     pub k: u32,
@@ -78,7 +78,7 @@ pub struct SavedStream {
 }
 
 /// A pipe.
-#[derive(Debug, Drop)]
+#[derive(Drop)]
 pub struct SavedPipe {
     /// Its number, from 1 to 8.
     pub k: u32,

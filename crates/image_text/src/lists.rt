@@ -12,7 +12,7 @@ use std::alloc::{AllocFailed, Global};
 use std::marker::Model;
 
 /// The files of a saved machine, seen as their list.
-#[derive(Debug, Drop)]
+#[derive(Drop)]
 pub struct Files {
     /// The files, in the order of the text.
     list: Vec<SavedFile>,
@@ -103,7 +103,7 @@ fn with_more(alloc: Global, file: SavedFile, digits: &[u8]) -> Result<SavedFile,
 }
 
 /// The open streams of a saved machine, seen as their list.
-#[derive(Debug, Drop)]
+#[derive(Drop)]
 pub struct Streams {
     /// The streams, in the order of the text.
     list: Vec<SavedStream>,
@@ -143,7 +143,7 @@ impl Streams {
 }
 
 /// The pipes of a saved machine, seen as their list.
-#[derive(Debug, Drop)]
+#[derive(Drop)]
 pub struct Pipes {
     /// The pipes, in the order of the text.
     list: Vec<SavedPipe>,

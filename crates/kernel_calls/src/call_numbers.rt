@@ -6,7 +6,7 @@ use coroutine_calls::kernel_dispatch::{RootField, root};
 use word_store::{Regs, Store, add};
 
 /// A kernel call. Its arguments are words.
-#[derive(Clone, Copy, Debug, PartialEq, Eq)]
+#[derive(Clone, Copy)]
 pub enum KernelCall {
     /// Call 0: the machine stops with the result.
     Quit {
@@ -140,7 +140,7 @@ pub enum KernelCall {
 }
 
 /// How a call ends.
-#[derive(Clone, Copy, Debug, PartialEq, Eq)]
+#[derive(Clone, Copy)]
 pub enum CallOutcome {
     /// It was made or refused, and the caller goes on.
     Done,

@@ -1,7 +1,7 @@
 // Why a machine has stopped.
 
 /// Why a machine has stopped.
-#[derive(Clone, Copy, Debug, PartialEq, Eq)]
+#[derive(Clone, Copy)]
 pub enum Stop {
     /// It has taken all the steps that it was asked for.
     Steps,

@@ -1,7 +1,7 @@
 // What a block is used for.
 
 /// What a block of the store is used for.
-#[derive(Clone, Copy, Debug, PartialEq, Eq)]
+#[derive(Clone, Copy)]
 pub enum Use {
     /// It is free.
     Free,

@@ -18,7 +18,7 @@ use Rattle.tripos_machine.specs.State.State.{Bare, Full}
 use Rattle.image_text.specs.Canonical.{IsLawful, IsLawfulMachine}
 use Rattle.image_text.specs.ImageForm.{IsBare}
 use Rattle.image_text.specs.declared.images.Image.{Image}
-use Rattle.machine_image.specs.Machines.{AreMade, IsMachineOf, IsOfKind, state_in}
+use Rattle.machine_image.specs.Machines.{AreParts, IsMachineOf, IsOfKind, state_in}
 use Rattle.machine_image.specs.Parts.{others_of}
 
 -- ---- a bare machine
@@ -42,7 +42,7 @@ module _ (x : Image) (bare : x.bare ≡ true) (lawful : IsLawful x) where
 -- ---- a machine with a kernel
 
 -- the parts stand for the kernel
-pub parts-stand : (x : Image) (p : Parts) (k : Kernel) → AreMade x p → IsValid k → StandsFor x.store (others_of x) k → Stands p k
+pub parts-stand : (x : Image) (p : Parts) (k : Kernel) → AreParts x p → IsValid k → StandsFor x.store (others_of x) k → Stands p k
 parts-stand x p k m v st =
     let held : HoldsLists x.store k.lists = record { valid = v.lists; size = st.image.size; holds = st.image.holds } in
     record {

@@ -12,6 +12,7 @@ use Rattle.tripos_machine.specs.State.{State}
 use Rattle.tripos_machine.specs.State.State.{Bare, Full}
 use Rattle.image_text.specs.declared.images.Image.{Image}
 use Rattle.machine_image.specs.declared.parts.KeptParts.{KeptParts}
+use Rattle.machine_image.specs.declared.parts.MadeParts.{MadeParts}
 use Rattle.machine_image.specs.Parts.{console_of, disc_with, others_of, placed_pipes, shell_of}
 
 -- a bare one has the words, the registers and the steps, and one with a kernel is a valid kernel that stands for the words and
@@ -51,8 +52,19 @@ pub record AreKept (x : Image) (kept : KeptParts) : Type 0 where
   -- the pipes
   pub pipes : kept.pipes ≡ placed_pipes x.pipes
 
+-- The kernel's words are marked, and the bytes typed ahead and the script are those that were saved.
+pub record AreMade (x : Image) (made : MadeParts) : Type 0 where
+  -- the kernel's words are marked, where the store has a kernel
+  pub marked : (known : List ℕ) (l : Lists) → IsStoreOf x.store known l → MarksAll made.kinds known
+  -- each word has a mark
+  pub marks : length made.kinds ≡ length x.store
+  -- the bytes that are typed ahead
+  pub type_ahead : made.tty ≡ x.ring
+  -- all keys are still to come
+  pub keys : made.keys ≡ record { keys = x.keys; come = 0 }
+
 -- The parts of a machine with a kernel are those that were saved, and the kernel's words are marked.
-pub record AreMade (x : Image) (p : Parts) : Type 0 where
+pub record AreParts (x : Image) (p : Parts) : Type 0 where
   -- the words
   pub store : p.store ≡ x.store
   -- the kernel's words are marked, where the store has a kernel

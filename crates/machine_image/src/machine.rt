@@ -4,7 +4,7 @@ ghost use Rattle.image_text.specs.Canonical.{IsLawful};
 ghost use Rattle.machine_image.specs.Machines.{AreKept, HasMachine, IsResumed};
 
 use crate::discs::disc_of;
-use crate::parts::{KeptParts, parts_of};
+use crate::parts::{KeptParts, made_parts, parts_of};
 use crate::pipes::pipes_of;
 use crate::resident_rules::residents_keep;
 use crate::store_rules::store_stands;
@@ -48,7 +48,8 @@ fn full_machine(alloc: Global, image: Image) -> Result<Option<Machine>, WantMemo
     let Some(kept) = kept_parts(alloc, &image)? else {
         return Ok(None);
     };
-    let parts = parts_of(alloc, image, kept)?;
+    let made = made_parts(alloc, &image)?;
+    let parts = parts_of(image, kept, made);
     Ok(Some(Machine::from_parts(Parts::Full(parts))))
 }
 

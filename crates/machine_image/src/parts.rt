@@ -1,8 +1,9 @@
 // The parts of a machine with a kernel, from what was saved.
 ghost use Rattle.std.specs.Prelude.{◌≡◌, ◌≤◌, IfOk, length};
 ghost use Rattle.tripos_machine.specs.KernelSteps.CliShell.Modes.{mode_of as kernel_mode};
-ghost use Rattle.machine_image.specs.Machines.{AreKept, AreMade};
-ghost use Rattle.machine_image.specs.Parts.{console_of, mode_of, shell_of};
+ghost use Rattle.kernel_check.specs.AdoptionLaw.Adoption.{IsAdopted};
+ghost use Rattle.machine_image.specs.Machines.{AreKept, AreMade, AreParts};
+ghost use Rattle.machine_image.specs.Parts.{console_of, mode_of, others_of, shell_of};
 
 use arrayvec::ArrayVec;
 use image_text::{Image, Mode as SavedMode};
@@ -20,34 +21,50 @@ pub(crate) struct KeptParts {
     pub(crate) pipes: Pipes,
 }
 
-/// The parts, of which these are kept by the file handler. `WantMemory` comes only where memory could not be had.
-pub(crate) fn parts_of(
-    alloc: Global,
-    image: Image,
-    kept: KeptParts,
-) -> Result<KernelParts, WantMemory>
-    requires { AreKept image kept }
-    ensures { IfOk result (AreMade image) }
+/// What takes memory besides the store and what the file handler keeps.
+#[derive(Drop)]
+pub(crate) struct MadeParts {
+    /// Whose each word of the store is.
+    pub(crate) kinds: ByteKinds,
+    /// The bytes that are typed ahead.
+    pub(crate) tty: Tty,
+    /// The keys of the script.
+    pub(crate) keys: Script,
+}
+
+/// What takes memory besides the store and what is kept. `WantMemory` comes only where memory could not be had.
+pub(crate) fn made_parts(alloc: Global, image: &Image) -> Result<MadeParts, WantMemory>
+    requires { IsAdopted image.now.store (others_of image.now) }
+    ensures { IfOk result (AreMade image.now) }
 {
     let kinds = ByteKinds::of_store(alloc, &image.store)?;
     let tty = type_ahead_of(alloc, image.ring.as_slice())?;
     let keys = Script::new(alloc, image.keys.as_slice())?;
+    Ok(MadeParts { kinds, tty, keys })
+}
+
+/// The parts of the machine, of which these are kept by the file handler, and these made.
+pub(crate) fn parts_of(image: Image, kept: KeptParts, made: MadeParts) -> KernelParts
+    requires kept { AreKept image kept }
+    requires made { AreMade image made }
+    ensures { AreParts image result }
+{
     let console = console_in(&image);
     let shell = shell_in(&image);
-    Ok(KernelParts {
+    KernelParts {
         store: image.store,
         regs: image.regs,
-        kinds,
-        tty,
+        kinds: made.kinds,
+        tty: made.tty,
         disc: kept.disc,
         bytes: ArrayVec::new(),
         console,
         shell,
         pipes: kept.pipes,
-        keys,
+        keys: made.keys,
         step: image.step,
         period: image.period,
-    })
+    }
 }
 
 // The type-ahead with these bytes.

@@ -47,7 +47,7 @@ impl Model for LinkParts {
 }
 
 /// What comes out of the link in a round.
-#[derive(Clone, Copy, Debug)]
+#[derive(Clone, Copy)]
 pub(crate) struct Carried {
     /// The byte that its other end takes.
     pub byte: Option<u8>,

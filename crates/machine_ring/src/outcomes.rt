@@ -6,7 +6,7 @@ use crate::links::LinkParts;
 use tripos_machine::Stop;
 
 /// What a run of a ring comes to.
-#[derive(Clone, Copy, Debug, PartialEq, Eq)]
+#[derive(Clone, Copy)]
 pub struct RingOutcome {
     /// The rounds.
     pub rounds: u64,

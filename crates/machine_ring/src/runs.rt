@@ -22,18 +22,23 @@ impl Ring {
     /// Takes all rounds, or those up to the one in which the right machine stops, and gathers its console bytes. `SinkFault` comes only
     /// where the sink's count of faults rose; then the sink has a prefix of what was pending, and of these bytes. No memory is taken.
     /// Rounds in which no byte can come from one machine to the other are taken many at once.
-    pub fn run<K: Sink>(self, out: &mut K, pending: &mut Output) -> Result<RingOutcome, SinkFault>
+    pub fn run<K: Sink>(
+        mut self,
+        out: &mut K,
+        pending: &mut Output,
+    ) -> Result<RingOutcome, SinkFault>
         ensures outcome { IfOk result (λ o. o ≡ outcome_of (run self.link.terms.rounds self)) }
         ensures bytes { Gathers (K.holds out.old) (K.holds out.new) pending.old pending.new
             (run self.link.terms.rounds self).shown result }
         ensures cause { HasCause (K.faults out.old) (K.faults out.new) result }
     {
-        let Ring {
-            mut left,
-            mut link,
-            mut right,
-        } = self;
-        run_rounds(&mut left, &mut link, &mut right, out, pending)
+        run_rounds(
+            &mut self.left,
+            &mut self.link,
+            &mut self.right,
+            out,
+            pending,
+        )
     }
 }
 

@@ -5,7 +5,7 @@ use session_text::Bytes;
 pub const MOST_WAITING: usize = 8_192;
 
 /// What is set for a ring before its first round.
-#[derive(Debug, Drop)]
+#[derive(Drop)]
 pub struct Terms {
     /// The most rounds.
     pub rounds: u64,

@@ -23,7 +23,7 @@ use module_calls::numbers::{
 use word_store::{Store, set_word_at};
 
 /// The queue in which a packet was found: its number, as events name it, and what the call answers then.
-#[derive(Clone, Copy, Debug, PartialEq, Eq)]
+#[derive(Clone, Copy)]
 pub(crate) struct Found {
     /// The queue that has the packet.
     queue: Queue,

@@ -11,7 +11,7 @@ use module_calls::numbers::PENDING_HEAD;
 use word_store::{Store, word};
 
 /// A queue of packets.
-#[derive(Clone, Copy, Debug, PartialEq, Eq)]
+#[derive(Clone, Copy)]
 pub enum Queue {
     /// The work queue of the task whose block is at the address.
     Work(u32),

@@ -16,7 +16,7 @@ use module_calls::numbers::{CLOCK, KEYBOARD, OUTPUT, SENDER};
 use word_store::{Store, word_at};
 
 /// A device that has a queue.
-#[derive(Clone, Copy, Debug, PartialEq, Eq)]
+#[derive(Clone, Copy)]
 pub enum Device {
     /// The clock, -1.
     Clock,

@@ -24,7 +24,7 @@ pub trait EventLog {
 }
 
 /// Keeps no event, and never fails.
-#[derive(Clone, Copy, Debug)]
+#[derive(Clone, Copy)]
 pub struct NoLog;
 
 impl EventLog for NoLog {

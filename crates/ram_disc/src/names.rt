@@ -8,7 +8,7 @@ use arrayvec::ArrayVec;
 use std::marker::Model;
 
 /// The name of a file: 1 to 12 bytes, each a letter, a digit, `-`, `.` or `_`. It is seen as their list.
-#[derive(Clone, Debug, Drop, PartialEq, Eq)]
+#[derive(Clone, Drop)]
 pub struct Name {
     /// The name's bytes.
     bytes: ArrayVec<u8, 12>,

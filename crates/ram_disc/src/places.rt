@@ -12,7 +12,7 @@ const SHELL: usize = 16;
 
 /// Where a stream stands: the slot of its file, the position in it, the sector of that position, where it is in the
 /// file, and whether the stream writes.
-#[derive(Clone, Copy, Debug)]
+#[derive(Clone, Copy)]
 pub(crate) struct Place {
     /// The slot of its file.
     pub(crate) slot: u8,

@@ -18,7 +18,7 @@ pub(crate) const SECTORS: u16 = 4096;
 pub(crate) const SLOTS: usize = 64;
 
 /// A chain: its first and its last sector, where it has any, and how many it has.
-#[derive(Clone, Copy, Debug)]
+#[derive(Clone, Copy)]
 pub(crate) struct Chain {
     /// The first sector, where there is one.
     first: u16,

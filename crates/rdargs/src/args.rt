@@ -11,7 +11,7 @@ use crate::entries::{Role, is_keyword, is_required, is_switch, is_template, word
 use crate::items::{Form, Item, has_open_quote, next_item};
 
 /// What a line gives an entry.
-#[derive(Clone, Copy, Debug, PartialEq, Eq)]
+#[derive(Clone, Copy)]
 pub enum Arg {
     /// Nothing.
     Unset,
@@ -22,7 +22,7 @@ pub enum Arg {
 }
 
 /// Why a line is refused.
-#[derive(Clone, Copy, Debug, PartialEq, Eq)]
+#[derive(Clone, Copy)]
 enum Refusal {
     /// The template is none, or has too many entries.
     Template,

@@ -12,7 +12,7 @@ use crate::cuts::length_before;
 pub const MOST_ENTRIES: usize = 8;
 
 /// What an item is by its template.
-#[derive(Clone, Copy, Debug)]
+#[derive(Clone, Copy)]
 pub enum Role {
     /// A name of the switch with this number.
     SwitchName(usize),

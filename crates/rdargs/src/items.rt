@@ -8,7 +8,7 @@ ghost use Rattle.rdargs.specs.Answer.{is_open};
 use crate::cuts::{length_before, length_of_spaces};
 
 /// How an item stands in its line.
-#[derive(Clone, Copy, Debug, PartialEq, Eq)]
+#[derive(Clone, Copy)]
 pub enum Form {
     /// Bytes up to a space or the line's end.
     Word,
@@ -19,7 +19,7 @@ pub enum Form {
 }
 
 /// An item, and the places in the line where its bytes begin and end.
-#[derive(Clone, Copy, Debug, PartialEq, Eq)]
+#[derive(Clone, Copy)]
 pub struct Item {
     /// How its bytes stand there.
     pub form: Form,

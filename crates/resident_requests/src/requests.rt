@@ -16,7 +16,7 @@ pub const UNKNOWN_TYPE: u32 = 31;
 
 /// A request that was taken: the address of its packet, the task that sent it, its type, and its arguments, the words 5, 6 and 7
 /// of the packet. An argument outside the store is 0.
-#[derive(Clone, Copy, Debug, PartialEq, Eq)]
+#[derive(Clone, Copy)]
 pub struct Request {
     /// The address of its packet, in words.
     pub packet: u32,

@@ -14,7 +14,7 @@ use session_text::{Bytes, number_field};
 use std::alloc::Global;
 
 /// What these lines say.
-#[derive(Debug, Drop)]
+#[derive(Drop)]
 pub struct Head {
     /// The most rounds.
     pub rounds: u64,

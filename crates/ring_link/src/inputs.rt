@@ -14,7 +14,7 @@ pub const MOST_LETTERS: usize = 10_000;
 pub const LEFT_LINE: u32 = 4;
 
 /// The input of a ring: what its link does, and its two machines.
-#[derive(Debug, Drop)]
+#[derive(Drop)]
 pub struct RingInput {
     /// The most rounds.
     pub rounds: u64,

@@ -17,7 +17,7 @@ use hunk_text::{after_word, number_after};
 use std::alloc::Global;
 
 /// What may come next in a session.
-#[derive(Clone, Copy, Debug)]
+#[derive(Clone, Copy)]
 pub enum Place {
     /// The version.
     Version,
@@ -40,7 +40,7 @@ pub enum Place {
 }
 
 /// A session as far as it was read, and what may come next.
-#[derive(Debug, Drop)]
+#[derive(Drop)]
 pub struct Draft {
     /// What may come next.
     pub place: Place,

@@ -11,7 +11,7 @@ use hunk_text::split_line;
 use std::alloc::Global;
 
 /// A session, and where the lines after it begin.
-#[derive(Debug, Drop)]
+#[derive(Drop)]
 pub struct Front {
     /// The session.
     pub session: Session,

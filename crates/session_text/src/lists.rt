@@ -10,7 +10,7 @@ use std::alloc::AllocFailed;
 use std::marker::Model;
 
 /// Bytes, seen as their list.
-#[derive(Debug, Drop)]
+#[derive(Drop)]
 pub struct Bytes {
     /// The bytes.
     list: Vec<u8>,
@@ -58,7 +58,7 @@ impl Bytes {
 }
 
 /// The lines between the head of a session and its `GO`, seen as their list.
-#[derive(Debug, Drop)]
+#[derive(Drop)]
 pub struct Lines {
     /// The lines, in the order of the text.
     list: Vec<SessionLine>,
@@ -146,7 +146,7 @@ fn form_with_text(form: LineForm, text: &[u8]) -> Result<LineForm, SessionEnd>
 }
 
 /// Keys, each with the step at which it is due, seen as their list.
-#[derive(Debug, Drop)]
+#[derive(Drop)]
 pub struct Keys {
     /// The step and the byte of each key, in the order of the text.
     list: Vec<(u64, u8)>,
@@ -202,7 +202,7 @@ impl Keys {
 }
 
 /// At most eight names of files, seen as their list.
-#[derive(Debug, Drop)]
+#[derive(Drop)]
 pub struct Names {
     /// The names, in the order of the text.
     list: ArrayVec<Name, 8>,
@@ -229,12 +229,5 @@ impl Names {
         ensures { result.now ≡ self.now }
     {
         self.list.as_slice()
-    }
-
-    /// The names, without taking memory.
-    pub fn into_array(self) -> ArrayVec<Name, 8>
-        ensures { result.items ≡ self }
-    {
-        self.list
     }
 }

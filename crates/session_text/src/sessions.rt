@@ -3,7 +3,7 @@ use crate::{Bytes, Keys, Lines, Names};
 use ram_disc::Name;
 
 /// A session: the machine to boot, and how many steps it runs.
-#[derive(Debug, Drop)]
+#[derive(Drop)]
 pub struct Session {
     /// 1 or 2.
     pub version: u32,
@@ -26,7 +26,7 @@ pub struct Session {
 }
 
 /// A line of a session, and its number in the text, from 1.
-#[derive(Debug, Drop)]
+#[derive(Drop)]
 pub struct SessionLine {
     /// Its number in the text.
     pub line: u32,
@@ -35,7 +35,7 @@ pub struct SessionLine {
 }
 
 /// What a line of a session puts into the machine.
-#[derive(Debug, Drop)]
+#[derive(Drop)]
 pub enum LineForm {
     /// Bytes of a bare machine's program, which follow those of the lines before.
     Code(Bytes),

@@ -9,7 +9,7 @@ use crate::fields::{are_fields, is_field, is_text, number_field};
 use hunk_text::{after_word, number};
 
 /// What a line states, with its numbers and names as they stand there.
-#[derive(Clone, Copy, Debug)]
+#[derive(Clone, Copy)]
 pub enum Statement<'a> {
     /// A file of this name.
     File(&'a [u8]),

@@ -10,7 +10,7 @@ use ram_disc::Name;
 use rdargs::Arg;
 
 /// What a command line asks of the shell.
-#[derive(Debug, Drop)]
+#[derive(Drop)]
 pub enum Command {
     /// Nothing: the line has no word.
     Nothing,

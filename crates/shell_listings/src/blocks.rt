@@ -13,7 +13,7 @@ use word_store::Store;
 
 /// How many blocks are used and how many words they have, the same of free ones, and the words of free blocks that end the
 /// blocks counted so far, and of the largest run among them.
-#[derive(Clone, Copy, Debug)]
+#[derive(Clone, Copy)]
 pub struct BlockCounts {
     /// How many used blocks.
     pub used: u32,

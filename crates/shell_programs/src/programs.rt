@@ -15,7 +15,7 @@ use ram_disc::{Disc, Name};
 use word_store::Store;
 
 /// Which priority a program gets. The shell has 1,000.
-#[derive(Clone, Copy, Debug, PartialEq, Eq)]
+#[derive(Clone, Copy)]
 pub enum Priority {
     /// This one.
     Given(u32),

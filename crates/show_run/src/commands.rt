@@ -5,7 +5,7 @@ ghost use Rattle.show_run.specs.Words.{command_named, show_of, span};
 use hunk_text::number;
 
 /// What is shown of the run of a session.
-#[derive(Clone, Copy, Debug)]
+#[derive(Clone, Copy)]
 pub enum Show {
     /// The state in which it stopped.
     State,

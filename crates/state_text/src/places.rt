@@ -1,7 +1,7 @@
 // The places where packets wait.
 
 /// Where a packet waits.
-#[derive(Clone, Copy, Debug)]
+#[derive(Clone, Copy)]
 pub(crate) enum Place {
     /// At the clock.
     Clock,

@@ -11,7 +11,7 @@ use ram_disc::Name;
 use word_store::{Store, add};
 
 /// A program: a file whose text is a module.
-#[derive(Debug, Drop)]
+#[derive(Drop)]
 pub struct Program {
     /// The name of the file.
     pub name: Name,

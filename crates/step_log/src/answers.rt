@@ -21,7 +21,7 @@ use tp_io::{Output, Sink, SinkFault};
 use word_store::{Store, signed};
 
 /// What a task has of its call after the step.
-#[derive(Clone, Copy, Debug, PartialEq, Eq)]
+#[derive(Clone, Copy)]
 pub enum CallAnswer {
     /// Nothing yet: it waits.
     Waits,

@@ -24,7 +24,7 @@ pub struct Call {
 }
 
 /// The arguments of a call, which are words.
-#[derive(Clone, Copy, Debug, PartialEq, Eq)]
+#[derive(Clone, Copy)]
 pub enum Arguments {
     /// It has none.
     Zero,

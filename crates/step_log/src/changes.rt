@@ -13,7 +13,7 @@ use tp_io::Piece::{Decimal, Text};
 use tp_io::{Output, Sink, SinkFault};
 
 /// The keys that are still to come: how many, and the first.
-#[derive(Clone, Copy, Debug, PartialEq, Eq)]
+#[derive(Clone, Copy)]
 pub struct Keys {
     /// How many.
     pub count: usize,

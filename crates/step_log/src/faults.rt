@@ -17,7 +17,7 @@ use tp_io::{Output, Sink, SinkFault};
 use word_store::Store;
 
 /// What is recorded of a task's fault.
-#[derive(Clone, Copy, Debug, PartialEq, Eq)]
+#[derive(Clone, Copy)]
 pub struct FaultRecord {
     /// The code, 0 where the task had no fault.
     pub code: u32,

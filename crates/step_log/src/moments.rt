@@ -9,7 +9,7 @@ use tp_io::Piece::{Decimal, Text};
 use tp_io::{Output, Piece, Sink, SinkFault, gather, gather_pieces};
 
 /// The number of a step, and where the machine stands before it.
-#[derive(Clone, Copy, Debug, PartialEq, Eq)]
+#[derive(Clone, Copy)]
 pub struct Moment {
     /// The number of the step; the first step is 1.
     pub step: u64,

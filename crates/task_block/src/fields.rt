@@ -5,7 +5,7 @@ ghost use Rattle.task_block.specs.TaskWords.{word_index};
 use owned_words::{Store, set_word_at, word_at};
 
 /// The words 0 to 22 of a task block, in order. In version 2 a guest's has 30, the others of which have modules.
-#[derive(Clone, Copy, Debug, PartialEq, Eq)]
+#[derive(Clone, Copy)]
 pub enum TcbField {
     /// The next task block of the chain, or 0.
     Link,

@@ -5,7 +5,7 @@ ghost use Rattle.task_block.specs.RootWords.{root_address};
 use owned_words::{Store, word};
 
 /// The words 100 to 112 of the store, in order.
-#[derive(Clone, Copy, Debug, PartialEq, Eq)]
+#[derive(Clone, Copy)]
 pub enum RootField {
     /// The address of the task table, 120.
     Table,

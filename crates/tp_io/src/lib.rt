@@ -22,5 +22,5 @@ pub use standard::{StdSink, StdSource};
 pub use whole::{ReadEnd, read_all};
 
 /// Memory could not be had.
-#[derive(Clone, Copy, Debug, PartialEq, Eq)]
+#[derive(Clone, Copy, Debug)]
 pub struct WantMemory;

@@ -4,7 +4,7 @@ ghost use Rattle.std.specs.Prelude.{None};
 use crate::{Sink, WriteStep};
 
 /// Takes every piece, keeps none, and never fails.
-#[derive(Clone, Copy, Debug)]
+#[derive(Clone, Copy)]
 pub struct NoSink;
 
 impl Sink for NoSink {

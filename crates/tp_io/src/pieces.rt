@@ -9,7 +9,7 @@ use crate::{Output, Sink, SinkFault, gather, pass_on};
 use itoa::Buffer;
 
 /// A part of a printed text.
-#[derive(Clone, Copy, Debug)]
+#[derive(Clone, Copy)]
 pub enum Piece<'a> {
     /// Text as it is.
     Text(&'a [u8]),

@@ -32,7 +32,7 @@ pub trait EventWords: Drop {
 }
 
 /// The words of a trace: `accept Q P S`, `take Q P S`, `dequeue Q P` or `run T`.
-#[derive(Clone, Copy, Debug)]
+#[derive(Clone, Copy)]
 pub struct TraceWords;
 
 impl EventWords for TraceWords {

@@ -5,7 +5,7 @@ ghost use Rattle.tripos_run.specs.Words.{command_named, generation, job_of, seed
 use hunk_text::number;
 
 /// What the program is asked to do.
-#[derive(Clone, Copy, Debug)]
+#[derive(Clone, Copy)]
 pub enum Job {
     /// Answer an input.
     Answer(Command),
@@ -14,7 +14,7 @@ pub enum Job {
 }
 
 /// What the program is asked to do with its input.
-#[derive(Clone, Copy, Debug)]
+#[derive(Clone, Copy)]
 pub enum Command {
     /// Run the session.
     Run,

@@ -1,7 +1,7 @@
 // What is written of a run.
 
 /// What is written of a run, besides its closing line.
-#[derive(Clone, Copy, Debug)]
+#[derive(Clone, Copy)]
 pub enum Report {
     /// The console bytes.
     Console,

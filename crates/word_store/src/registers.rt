@@ -2,7 +2,7 @@
 
 /// A and B, the words that instructions compute with; C, a byte; P and G, the word addresses of the stack frame and of
 /// the globals; PC, the byte address of the instruction.
-#[derive(Clone, Copy, Debug, PartialEq, Eq)]
+#[derive(Clone, Copy)]
 pub struct Regs {
     /// The register A.
     pub a: u32,

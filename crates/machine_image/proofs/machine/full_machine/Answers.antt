@@ -7,8 +7,13 @@ use Rattle.machine_image.specs.Parts.{others_of}
 use Rattle.machine_image.proofs.SavedMachines.{full-machine, parts-stand}
 use Rattle.machine_image.proofs.machine.full_machine.Goals as goal
 
-pub parts_of-requires : goal.parts_of-requires
-parts_of-requires c =
+pub made_parts-requires : goal.made_parts-requires
+made_parts-requires c =
+    let x = c.args.image in
+    (MatchOption-at_some (HasMachine x → ⊥) (AreKept x) c.in-Some.kept c.in-Some.is c.in_ok-kept.ensures).adopted
+
+pub parts_of-parts-requires-clause-kept : goal.parts_of-parts-requires-clause-kept
+parts_of-parts-requires-clause-kept c =
     let x = c.args.image in
     MatchOption-at_some (HasMachine x → ⊥) (AreKept x) c.in-Some.kept c.in-Some.is c.in_ok-kept.ensures
 
@@ -17,16 +22,16 @@ from_parts-requires c =
     let x = c.args.image in
     let kept = MatchOption-at_some (HasMachine x → ⊥) (AreKept x) c.in-Some.kept c.in-Some.is c.in_ok-kept.ensures in
     let k = (has-kernel x.store (others_of x)).1 kept.adopted in
-    (Full k.0, parts-stand x c.in_ok-parts.parts k.0 c.in_ok-parts.ensures k.1 k.2, k.1, k.2.goes)
+    (Full k.0, parts-stand x c.parts_of-parts.result k.0 c.parts_of-parts.ensures k.1 k.2, k.1, k.2.goes)
 
 pub returns : goal.returns
 returns c =
     let x = c.args.image in
     let kept = MatchOption-at_some (HasMachine x → ⊥) (AreKept x) c.in-Some.kept c.in-Some.is c.in_ok-kept.ensures in
     let k = (has-kernel x.store (others_of x)).1 kept.adopted in
-    let is = c.from_parts.ensures.state (Full k.0) (parts-stand x c.in_ok-parts.parts k.0 c.in_ok-parts.ensures k.1 k.2) k.1 k.2.goes in
+    let is = c.from_parts.ensures.state (Full k.0) (parts-stand x c.parts_of-parts.result k.0 c.parts_of-parts.ensures k.1 k.2) k.1 k.2.goes in
     record {
       state = full-machine x c.from_parts.result.state k.0 c.requires.full k.1 k.2 is;
-      keys = c.from_parts.ensures.keys ∙ ap (λ s. s.keys) c.in_ok-parts.ensures.keys;
+      keys = c.from_parts.ensures.keys ∙ ap (λ s. s.keys) c.parts_of-parts.ensures.keys;
       output = c.from_parts.ensures.output;
     }
