@@ -5,9 +5,9 @@ use tripos_run::Pipes;
 
 #[test]
 fn sets_up_pipes(rt: HostRuntime) -> Result<(), Fail> {
-    let mut pipes = Pipes::new(rt.alloc()).map_err(|_| Fail::from("memory"))?;
     let name = Name::read(b"q").ok_or("name")?;
     let other = Name::read(b"r").ok_or("name")?;
+    let mut pipes = Pipes::new(rt.alloc()).map_err(|_| "memory")?;
     assert_eq!(rt; pipes.open(&name, 0), Ok(1));
     for (k, name, wanted) in [
         (1, &other, false),

@@ -2,11 +2,9 @@
 use std::process::Abort;
 use std::test::Fail;
 use tp_io::{MemorySink, MemorySource};
-use tripos_run::{Status, generate, run, tripos};
+use tripos_run::{Status, generate, tripos};
 
 const LETTER: &[u8] = b"TRIPOS 1\nSTORE 1024\nBARE\n:6013a0036041a004916000a003a00491\nGO 100\n";
-
-const LETTER_RUN: &[u8] = b"A\n* stopped after 9 steps: quit 0\n";
 
 // Lines are typed to the shell of a machine with residents, which starts a program and finishes the machine.
 const TYPED: &[u8] =
@@ -79,19 +77,6 @@ fn tells_faults_of_source_and_sink(rt: HostRuntime) -> Result<(), Fail> {
             status
         );
         assert_eq!(rt; out.bytes(), bytes);
-    }
-    Ok(())
-}
-
-#[test]
-fn runs_over_a_reader_and_a_writer(rt: HostRuntime) -> Result<(), Fail> {
-    let words = words_of(&rt, &["run"])?;
-    for (room, wanted) in [(34, 0), (33, 6)] {
-        let mut kept = [0u8; 64];
-        let writer = kept.split_at_mut(room).0;
-        let (status, _) = run(rt.alloc(), words.as_slice(), LETTER, writer);
-        assert_eq!(rt; status, wanted);
-        assert!(rt; kept.starts_with(LETTER_RUN.split_at(room).0));
     }
     Ok(())
 }
