@@ -1,5 +1,5 @@
 -- What the input of a ring puts into its machines before the first round.
-use Rattle.std.specs.Prelude.{◌≡◌, ◌+◌, ℕ, Result, Ok, Err}
+use Rattle.std.specs.Prelude.{◌≡◌, ◌+◌, ◌<◌, ◌^◌, ℕ, Result, Ok, Err}
 use Rattle.hunk_text.specs.TextReader.Refusal.{Refusal, refusal}
 use Rattle.hunk_text.specs.TextReader.Steps.{◌>>=◌}
 use Rattle.ring_link.specs.Machines.{behind}
@@ -22,12 +22,12 @@ BootsRing (Ok ring) booted = booted ≡ Ok ring
 BootsRing (Err (Line line code)) booted = booted ≡ Err (refusal line code)
 BootsRing (Err WantMemory) booted = Unit {0}
 
--- it is this line with this code, unless memory ran out
-abbrev pub IsLineOrWant : ℕ → ℕ → BootEnd → Type 0
-IsLineOrWant n code (Line line m) = (line ≡ n) × (m ≡ code)
-IsLineOrWant n code WantMemory = Unit {0}
+-- behind so many lines, the number of an end's line is one of 32 bits
+abbrev pub FitsBehind : ℕ → BootEnd → Type 0
+FitsBehind before (Line line code) = before + line < 2 ^ 32
+FitsBehind before WantMemory = Unit {0}
 
--- the second end is the first one of a text behind so many lines, unless memory ran out
-abbrev pub IsBehind : ℕ → BootEnd → BootEnd → Type 0
-IsBehind before (Line line code) end = IsLineOrWant (before + line) code end
-IsBehind before WantMemory end = end ≡ WantMemory
+-- the end of a session that stands behind so many lines
+abbrev pub end_behind : ℕ → BootEnd → BootEnd
+end_behind before (Line line code) = Line (before + line) code
+end_behind before WantMemory = WantMemory

@@ -1,10 +1,12 @@
 // Rounds in which nothing happens but that the two machines take their steps: they are taken many at once.
-ghost use Rattle.std.specs.Prelude.{◌≡◌, ◌-◌, ◌<◌, ◌≤◌, None, [], ℕ};
+ghost use Rattle.std.specs.Prelude.{◌≡◌, ◌+◌, ◌-◌, ◌<◌, ◌≤◌, ◌^◌, None, [], false, true, ℕ};
 ghost use Rattle.tp_io.specs.Pending.{Gathers};
 ghost use Rattle.tp_io.specs.Write.{HasCause};
 ghost use Rattle.tripos_machine.specs.KernelCalls.KernelModel.Ranges.{most_steps};
+ghost use Rattle.tripos_machine.specs.Quiet.{IsIdle};
 ghost use Rattle.tripos_machine.specs.State.{stop_of};
-ghost use Rattle.machine_ring.specs.IdleRounds.{AreIdle};
+ghost use Rattle.machine_ring.specs.IdleRounds.{AreIdle, is_empty};
+ghost use Rattle.machine_ring.specs.Rounds.{can_step};
 ghost use Rattle.machine_ring.specs.Runs.{run};
 
 use crate::left::{LeftEnd, can_step};
@@ -13,12 +15,19 @@ use tp_io::{Output, Sink, SinkFault, gather};
 use tripos_machine::{Machine, NoLog};
 
 /// For how many rounds from here nothing happens but that the two machines take their steps, as far as this is known: nothing is in
-/// flight, no byte of the left machine waits, and it takes no step any more, or nobody runs there and no device acts.
+/// flight, no byte of the left machine waits, and it takes no step any more, or nobody runs there and no device acts. Where all that is
+/// so it is some rounds at least, and where no step comes any more as many as there can be.
 pub(crate) fn idle_rounds(left: &LeftEnd, link: &LinkParts) -> u64
     requires { link.now.terms.left_steps ≤ most_steps }
-    ensures { (n : ℕ) → n ≤ result → 0 < result
+    ensures idle { (n : ℕ) → n ≤ result → 0 < result
         → (left.now.waiting ≡ [] → link.now.sender.outstanding ≡ None)
         → AreIdle n left.now link.now }
+    ensures done { is_empty link.now ≡ true → left.now.waiting ≡ []
+        → can_step link.now.terms.left_steps left.now.state ≡ false
+        → result + 1 ≡ 2 ^ 64 }
+    ensures some { is_empty link.now ≡ true → left.now.waiting ≡ []
+        → can_step link.now.terms.left_steps left.now.state ≡ true → IsIdle left.now.state
+        → 0 < result }
 {
     if !link.is_empty() {
         return 0;

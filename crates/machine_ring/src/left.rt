@@ -16,7 +16,6 @@ use tp_io::WantMemory;
 use tripos_machine::{Machine, NoLog};
 
 /// The left machine, and its bytes that wait. It is seen as its state and these bytes.
-#[derive(Drop)]
 pub(crate) struct LeftEnd {
     /// The machine.
     pub(crate) machine: Machine,
@@ -24,6 +23,17 @@ pub(crate) struct LeftEnd {
     pub(crate) held: HeapCircularBuffer<u8>,
     /// How many bytes of the machine's output are held by now, or wait no longer: those before the others.
     pub(crate) taken: usize,
+}
+
+// Written out, so that it is a call: where it is derived, the proof of each function that drops one goes through all its parts.
+impl Drop for LeftEnd {
+    fn drop(self) {
+        let LeftEnd {
+            machine: _,
+            held: _,
+            taken: _,
+        } = self;
+    }
 }
 
 impl Model for LeftEnd {

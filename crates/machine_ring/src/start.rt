@@ -1,11 +1,11 @@
 // The machines of a ring are booted.
 ghost use Rattle.std.specs.Prelude.{◌≡◌, IfOk};
-ghost use Rattle.ring_link.specs.LawfulRing.{IsLawfulRing};
+ghost use Rattle.ring_link.specs.LawfulRing.{FitBehind, IsLawfulRing};
 ghost use Rattle.ring_link.specs.Machines.{behind};
 ghost use Rattle.session_text.specs.Canonical.{IsLawful};
 ghost use Rattle.tripos_machine.specs.Boot.{boot};
 ghost use Rattle.tripos_machine.specs.Machine.{BootsAs};
-ghost use Rattle.machine_ring.specs.Boot.{BootsRing, IsBehind, booted_ring};
+ghost use Rattle.machine_ring.specs.Boot.{BootsRing, FitsBehind, booted_ring, end_behind};
 ghost use Rattle.machine_ring.specs.Links.{new_link};
 ghost use Rattle.machine_ring.specs.Rings.{terms_of};
 
@@ -52,7 +52,8 @@ fn link_of(alloc: Global, input: &RingInput) -> Result<LinkParts, WantMemory>
 
 // The machine of a session whose lines stand behind so many others.
 fn boot_behind(alloc: Global, before: u32, session: &Session) -> Result<Machine, BootEnd>
-    requires { IsLawful session.now }
+    requires lawful { IsLawful session.now }
+    requires fit { FitBehind before session.now.lines }
     ensures { BootsAs result (behind before (boot session.now)) }
 {
     match boot(alloc, session) {
@@ -61,17 +62,17 @@ fn boot_behind(alloc: Global, before: u32, session: &Session) -> Result<Machine,
     }
 }
 
-// Why a session does not boot, with the line in the whole. The numbers of an input's lines have 32 bits; for one that had more the
-// answer would be `WantMemory`.
+// Why a session does not boot, with the line in the whole.
 fn end_behind(before: u32, end: BootEnd) -> BootEnd
-    ensures { IsBehind before end result }
+    requires { FitsBehind before end }
+    ensures { result ≡ end_behind before end }
 {
-    let BootEnd::Line { line, code } = end else {
-        return BootEnd::WantMemory;
-    };
-    match before.checked_add(line) {
-        Some(line) => BootEnd::Line { line, code },
-        None => BootEnd::WantMemory,
+    match end {
+        BootEnd::Line { line, code } => BootEnd::Line {
+            line: before + line,
+            code,
+        },
+        BootEnd::WantMemory => BootEnd::WantMemory,
     }
 }
 

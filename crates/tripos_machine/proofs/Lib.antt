@@ -3,6 +3,7 @@ pub mod Histories
 pub mod KindRuns
 pub mod PlainSteps
 pub mod QuietSteps
+pub mod RefusedLines
 pub mod RunParts
 pub mod Shown
 pub mod StateRuns

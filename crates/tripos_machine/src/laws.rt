@@ -1,5 +1,6 @@
 // Laws of runs.
-ghost use Rattle.std.specs.Prelude.{◌≡◌, ◌≢◌, ◌+◌, ◌≤◌, None, Ok, length, ℕ};
+ghost use Rattle.std.specs.Prelude.{◌≡◌, ◌≢◌, ◌+◌, ◌≤◌, Any, Err, None, Ok, length, ℕ};
+ghost use Rattle.hunk_text.specs.TextReader.Refusal.{Refusal};
 ghost use Rattle.session_text.specs.Canonical.{IsLawful};
 ghost use Rattle.session_text.specs.declared.sessions.Session.{Session};
 ghost use Rattle.bare_machine.specs.Run.{run as bare_run};
@@ -12,6 +13,12 @@ ghost use Rattle.tripos_machine.specs.Histories.{HasBootHistory, HasHistory};
 ghost use Rattle.tripos_machine.specs.State.{IsSound, State, steps_of, stop_of, words_of};
 ghost use Rattle.tripos_machine.specs.State.State.{Bare, Full};
 ghost use Rattle.tripos_machine.specs.Step.{Stepped, and_then, of_bare, of_kernel, quietly, run, step};
+
+/// The line of a session that a boot refuses is one of the session's.
+pub fn boot_law()
+    ensures { (s : Session) (r : Refusal) → boot s ≡ Err r
+        → Any (λ line. line.line ≡ r.line) s.lines }
+{}
 
 /// A run is that of the machine's kind. It may be cut in two; a machine that has stopped stays as it is; and a run takes at most
 /// its steps, and all of them where the machine has not stopped then.

@@ -8,7 +8,7 @@ pub mod parts;
 mod runs;
 mod start;
 
-pub use laws::{history_law, run_law, step_law};
+pub use laws::{boot_law, history_law, run_law, step_law};
 pub use machine::Machine;
 pub use parts::Parts;
 pub use start::boot;

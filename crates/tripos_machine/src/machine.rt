@@ -16,10 +16,16 @@ use std::marker::Model;
 use word_store::{Regs, Store};
 
 /// A machine of either kind. Contracts see it as its state, all keys of its script, and the bytes of what it did last.
-#[derive(Drop)]
 pub struct Machine {
     /// A machine without a kernel, or one with it.
     pub(crate) kind: Kind,
+}
+
+// Written out, so that it is a call: where it is derived, the proof of each function that drops one goes through all its parts.
+impl Drop for Machine {
+    fn drop(self) {
+        let Machine { kind: _ } = self;
+    }
 }
 
 impl Model for Machine {
@@ -52,7 +58,8 @@ impl Machine {
         ensures sound { IsSound self.state }
         ensures keys { keys_of result ≡ self.keys }
     {
-        match self.kind {
+        let Machine { kind } = self;
+        match kind {
             Kind::Bare(machine) => Parts::Bare(machine.into_parts()),
             Kind::Full(machine) => Parts::Full(machine.into_parts()),
         }

@@ -49,10 +49,11 @@ impl Machine {
         Ok(self.stop().unwrap_or(Stop::Steps))
     }
 
-    /// Takes at most n steps. Their console bytes and their events go nowhere.
+    /// Takes at most n steps. Their console bytes and their events go nowhere. The list of its keys stays.
     pub fn run_unheard(&mut self, n: u64)
         requires { steps_of self.old.state + n ≤ most_steps }
-        ensures { self.new.state ≡ (run n self.old.state).state }
+        ensures state { self.new.state ≡ (run n self.old.state).state }
+        ensures keys { self.new.keys ≡ self.old.keys }
     {
         match self.run(n, &mut NoSink, &mut Output::new(), &mut NoLog) {
             Ok(_) => {}

@@ -125,7 +125,7 @@ pass-requires-clause-idle g c = λ n few.
     let r : Ring = record { left = c.loop-right.left; link = c.loop-right.link; right = c.loop-right.right.state } in
     let new = c.requires.first in
     let out = outstanding-none f c.args.link.now.terms c.args.left.now.state c.args.right.now.state new r.link.rounds r c.loop-right.invariant.ran in
-    c.idle_rounds-idle.ensures n few c.if-idle-gt0.true out
+    c.idle_rounds-idle.ensures.idle n few c.if-idle-gt0.true out
 
 pub loop-right-preserved-then-idle-gt0 : goal.loop-right-preserved-then-idle-gt0
 loop-right-preserved-then-idle-gt0 g c =
