@@ -1,9 +1,10 @@
 -- The line that a boot refuses is one of the session's: what is so of the number of each line is so of that one's.
-use Rattle.std.proofs.Common.{◌≡◌, ℕ, suc, ◌+◌, ◌*◌, List, [], ◌∷◌, Result, Ok, Err, Bool, true, false, length, nat_le, arith, refl, replicate, subst}
+use Rattle.std.proofs.Common.{◌≡◌, ◌⊎◌, inl, inr, ℕ, suc, ◌+◌, ◌*◌, List, [], ◌∷◌, Result, Ok, Err, Bool, true, false, length, nat_le, arith, refl, replicate, subst}
 use Rattle.std.specs.Prelude.{if◌then◌else◌, Any}
 use Rattle.std.specs.List.{AllByRecursion}
 use Rattle.hunk_text.specs.TextReader.Refusal.{Refusal, refusal}
 use Rattle.hunk_text.specs.TextReader.Steps.{◌>>=◌}
+use Rattle.hunk_text.proofs.Shown.TextReader.StepLemmas.{bind-err}
 use Rattle.session_text.specs.declared.sessions.Session.{Session}
 use Rattle.session_text.specs.declared.sessions.SessionLine.{SessionLine}
 use Rattle.bare_machine.specs.Boot.{boot as bare_boot, code_of, first_state, program, with_bytes, with_lines as with_code}
@@ -36,11 +37,11 @@ module _ (P : ℕ → Type 0) where
 
   bare-refused : (s : Session) (r : Refusal) → AllLines s.lines → bare_boot s ≡ Err r → P r.line
   unfolding bare_boot
-  bare-refused s r all is = on (with_code (replicate s.store 0) program s.lines) refl is
-    where
-      on : (x : Result (List ℕ) Refusal) → with_code (replicate s.store 0) program s.lines ≡ x → (x >>= (λ words. Ok (first_state words))) ≡ Err r → P r.line
-      on (Ok words) e f = cc
-      on (Err q) e f = (let same : q ≡ r = cc in subst (λ (t : Refusal). P t.line) same (code-refused (replicate s.store 0) program s.lines q all e))
+  bare-refused s r all is =
+      elim (bind-err (with_code (replicate s.store 0) program s.lines) (λ words. Ok (first_state words)) r is) [
+        | inl e ↦ code-refused (replicate s.store 0) program s.lines r all e
+        | inr e ↦ let other = e.2 in cc
+      ]
 
   -- ---- on a machine with a kernel
 
@@ -62,35 +63,35 @@ module _ (P : ℕ → Type 0) where
 
   with-files-refused : (lines : List SessionLine) (k : Kernel) (r : BootRefusal) → AllLines lines → with_files lines k ≡ Err r → P r.line
   unfolding with_files
-  with-files-refused lines k r all is = on (load_files k.disc lines) refl is
-    where
-      on : (x : Result _ BootRefusal) → load_files k.disc lines ≡ x → (x >>= (λ d. Ok (with_disc d k))) ≡ Err r → P r.line
-      on (Ok d) e f = cc
-      on (Err q) e f = (let same : q ≡ r = cc in subst (λ (t : BootRefusal). P t.line) same (files-refused k.disc lines q all e))
+  with-files-refused lines k r all is =
+      elim (bind-err (load_files k.disc lines) (λ d. Ok (with_disc d k)) r is) [
+        | inl e ↦ files-refused k.disc lines r all e
+        | inr e ↦ let other = e.2 in cc
+      ]
 
   with-tasks-refused : (lines : List SessionLine) (k : Kernel) (r : BootRefusal) → AllLines lines → with_tasks lines k ≡ Err r → P r.line
   unfolding with_tasks
-  with-tasks-refused lines k r all is = on (start_tasks k.disc lines (standing (image k) k.lists)) refl is
-    where
-      on : (x : Result Standing BootRefusal) → start_tasks k.disc lines (standing (image k) k.lists) ≡ x → (x >>= (λ y. Ok (with_standing y k))) ≡ Err r → P r.line
-      on (Ok y) e f = cc
-      on (Err q) e f = (let same : q ≡ r = cc in subst (λ (t : BootRefusal). P t.line) same (tasks-refused k.disc lines (standing (image k) k.lists) q all e))
+  with-tasks-refused lines k r all is =
+      elim (bind-err (start_tasks k.disc lines (standing (image k) k.lists)) (λ y. Ok (with_standing y k)) r is) [
+        | inl e ↦ tasks-refused k.disc lines (standing (image k) k.lists) r all e
+        | inr e ↦ let other = e.2 in cc
+      ]
 
   with-lines-refused : (lines : List SessionLine) (k : Kernel) (r : BootRefusal) → AllLines lines → with_lines lines k ≡ Err r → P r.line
   unfolding with_lines
-  with-lines-refused lines k r all is = on (with_files lines k) refl is
-    where
-      on : (x : Result Kernel BootRefusal) → with_files lines k ≡ x → (x >>= (λ j. with_tasks lines j)) ≡ Err r → P r.line
-      on (Ok j) e f = with-tasks-refused lines j r all f
-      on (Err q) e f = (let same : q ≡ r = cc in subst (λ (t : BootRefusal). P t.line) same (with-files-refused lines k q all e))
+  with-lines-refused lines k r all is =
+      elim (bind-err (with_files lines k) (λ j. with_tasks lines j) r is) [
+        | inl e ↦ with-files-refused lines k r all e
+        | inr e ↦ with-tasks-refused lines e.0 r all e.2
+      ]
 
   kernel-refused : (s : Session) (r : BootRefusal) → AllLines s.lines → boot s ≡ Err r → P r.line
   unfolding boot
-  kernel-refused s r all is = on (with_lines s.lines (first_kernel s)) refl is
-    where
-      on : (x : Result Kernel BootRefusal) → with_lines s.lines (first_kernel s) ≡ x → (x >>= (λ k. Ok (started k))) ≡ Err r → P r.line
-      on (Ok k) e f = cc
-      on (Err q) e f = (let same : q ≡ r = cc in subst (λ (t : BootRefusal). P t.line) same (with-lines-refused s.lines (first_kernel s) q all e))
+  kernel-refused s r all is =
+      elim (bind-err (with_lines s.lines (first_kernel s)) (λ k. Ok (started k)) r is) [
+        | inl e ↦ with-lines-refused s.lines (first_kernel s) r all e
+        | inr e ↦ let other = e.2 in cc
+      ]
 
   -- ---- on either
 
