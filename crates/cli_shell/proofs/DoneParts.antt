@@ -14,7 +14,7 @@ use Rattle.shell_programs.specs.KernelCalls.CallAnswers.Made.{Leaves, Made, plai
 use Rattle.shell_programs.specs.KernelCalls.CallAnswers.Outside.{Outside, outside}
 use Rattle.shell_programs.specs.KernelCalls.KernelModel.Standing.{Standing, left_with, standing}
 use Rattle.shell_programs.proofs.Shown.KernelBoot.StandingKernels.{left-is}
-use Rattle.shell_programs.specs.KernelResidents.ResidentRequests.Requests.{RunsResident}
+use Rattle.shell_programs.specs.ConsoleHandler.ResidentRequests.Requests.{RunsResident}
 use Rattle.shell_programs.specs.ShellPacket.{CanPost, post_events, posted, request_words, requested}
 use Rattle.shell_programs.specs.Standings.{HasStanding}
 use Rattle.shell_programs.proofs.SentRules.{posted-runs}

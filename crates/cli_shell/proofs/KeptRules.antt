@@ -34,9 +34,9 @@ use Rattle.shell_programs.specs.KernelCalls.TaskCalls.HoldTask.{held, hold, hold
 use Rattle.shell_programs.specs.KernelCalls.TaskCalls.ReleaseTask.{release, release_tests, released}
 use Rattle.shell_programs.specs.KernelCalls.TaskCalls.SetFlags.{flagged, set_flags}
 use Rattle.shell_programs.specs.KernelCalls.KernelModel.Standing.{Standing, standing}
-use Rattle.shell_programs.specs.KernelResidents.ResidentRequests.Answers.{answered_packet, finished, finished_by, returned}
-use Rattle.shell_programs.specs.KernelResidents.ResidentRequests.Requests.{RunsResident, taken, taken_from, work}
-use Rattle.shell_programs.specs.KernelResidents.ResidentRequests.declared.requests.Request.{Request}
+use Rattle.shell_programs.specs.ConsoleHandler.ResidentRequests.Answers.{answered_packet, finished, finished_by, returned}
+use Rattle.shell_programs.specs.ConsoleHandler.ResidentRequests.Requests.{RunsResident, taken, taken_from, work}
+use Rattle.shell_programs.specs.ConsoleHandler.ResidentRequests.declared.requests.Request.{Request}
 use Rattle.shell_programs.specs.ClearedTasks.{cleared}
 use Rattle.shell_programs.specs.KeptLists.{KeepsResidents, ResidentAlone}
 use Rattle.shell_programs.proofs.KeptFaults.{all-work, begun-faults, cleared-faults, faults-same, posted-faults, started-faults, tells-more}

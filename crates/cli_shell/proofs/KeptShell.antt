@@ -14,9 +14,9 @@ use Rattle.shell_programs.specs.KernelCalls.TaskCalls.HoldTask.{hold}
 use Rattle.shell_programs.specs.KernelCalls.TaskCalls.ReleaseTask.{release}
 use Rattle.shell_programs.specs.KernelCalls.TaskCalls.SetFlags.{set_flags}
 use Rattle.shell_programs.specs.KernelCalls.KernelModel.Standing.{left_with, standing}
-use Rattle.shell_programs.specs.KernelResidents.ResidentRequests.Answers.{finished}
-use Rattle.shell_programs.specs.KernelResidents.ResidentRequests.Requests.{first_request, request_at, taken_from, work}
-use Rattle.shell_programs.specs.KernelResidents.ResidentRequests.declared.requests.Request.{Request}
+use Rattle.shell_programs.specs.ConsoleHandler.ResidentRequests.Answers.{finished}
+use Rattle.shell_programs.specs.ConsoleHandler.ResidentRequests.Requests.{first_request, request_at, taken_from, work}
+use Rattle.shell_programs.specs.ConsoleHandler.ResidentRequests.declared.requests.Request.{Request}
 use Rattle.shell_lines.specs.Command.{command_of}
 use Rattle.shell_lines.specs.declared.commands.Command.{Command}
 use Rattle.shell_lines.specs.declared.commands.Command.TheVariants.{Break, ChangePriority, Delete, Examine, Finish, Hold, Map, Nothing, Release, Rename, Run, Start, Status, «Type»}

@@ -15,9 +15,9 @@ use Rattle.shell_programs.specs.KernelCalls.TaskCalls.HoldTask.{hold}
 use Rattle.shell_programs.specs.KernelCalls.TaskCalls.ReleaseTask.{release}
 use Rattle.shell_programs.specs.KernelCalls.TaskCalls.SetFlags.{set_flags}
 use Rattle.shell_programs.specs.KernelCalls.KernelModel.Standing.{Standing, left_with, standing}
-use Rattle.shell_programs.specs.KernelResidents.ResidentRequests.Answers.{finished, returned}
-use Rattle.shell_programs.specs.KernelResidents.ResidentRequests.Requests.{first_request, request_at, taken, work}
-use Rattle.shell_programs.specs.KernelResidents.ResidentRequests.declared.requests.Request.{Request}
+use Rattle.shell_programs.specs.ConsoleHandler.ResidentRequests.Answers.{finished, returned}
+use Rattle.shell_programs.specs.ConsoleHandler.ResidentRequests.Requests.{first_request, request_at, taken, work}
+use Rattle.shell_programs.specs.ConsoleHandler.ResidentRequests.declared.requests.Request.{Request}
 use Rattle.shell_lines.specs.Command.{command_of}
 use Rattle.shell_lines.specs.declared.commands.Command.{Command}
 use Rattle.shell_lines.specs.declared.commands.Command.TheVariants.{Break, ChangePriority, Delete, Examine, Finish, Hold, Map, Nothing, Release, Rename, Run, Start, Status, «Type»}
@@ -32,7 +32,7 @@ use Rattle.shell_programs.specs.declared.programs.Priority.{Priority}
 use Rattle.shell_programs.specs.declared.programs.Priority.TheVariants.{AboveShell}
 use Rattle.shell_programs.proofs.KeptSteps.{started-there}
 use Rattle.shell_programs.specs.KernelCalls.KernelModel.declared.numbers.TheConstants.{CONSOLE, SHELL, SHELL_PACKET}
-use Rattle.shell_programs.specs.KernelResidents.ConsoleHandler.declared.requests.TheConstants.{READ_LINE}
+use Rattle.shell_programs.specs.ConsoleHandler.declared.requests.TheConstants.{READ_LINE}
 use Rattle.cli_shell.specs.Commands.{after_run, after_start, executed, executed_if, line_executed, program_request, run, run_priority, start, with_program_begun, with_started}
 use Rattle.cli_shell.specs.Prompts.{answered, prompt, prompted, refused, with_packet_sent}
 use Rattle.cli_shell.specs.ShellTurn.{all_parts, ended, first_treated, packet_taken, returned_unknown, result_of, return_code, shell_turn, treated, treated_in, with_cleared}

@@ -19,7 +19,7 @@ use Rattle.shell_programs.specs.KernelCalls.TaskCalls.HoldTask.{held, hold, hold
 use Rattle.shell_programs.specs.KernelCalls.TaskCalls.ReleaseTask.{release, release_tests, released}
 use Rattle.shell_programs.specs.KernelCalls.TaskCalls.SetFlags.{flagged, set_flags}
 use Rattle.shell_programs.specs.KernelCalls.KernelModel.Standing.{Standing}
-use Rattle.shell_programs.specs.KernelResidents.ResidentRequests.Requests.{RunsResident}
+use Rattle.shell_programs.specs.ConsoleHandler.ResidentRequests.Requests.{RunsResident}
 use Rattle.shell_programs.specs.ShellPacket.{posted}
 use Rattle.shell_programs.proofs.KeptTasks.{all-changed, all-without, any-changed}
 use Rattle.shell_programs.proofs.SentRules.{posted-is}

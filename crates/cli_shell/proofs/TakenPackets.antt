@@ -8,11 +8,11 @@ use Rattle.shell_programs.specs.KernelCalls.KernelModel.NotedEvents.{NotesAll}
 use Rattle.ram_disc.specs.Disc.{Disc}
 use Rattle.shell_programs.specs.KernelCalls.CallAnswers.Made.{IsMade, minus_one}
 use Rattle.shell_programs.specs.KernelCalls.CallAnswers.Outside.{Outside, outside}
-use Rattle.shell_programs.specs.KernelResidents.ResidentRequests.Answers.{returned}
-use Rattle.shell_programs.specs.KernelResidents.ResidentRequests.Requests.{HasRequest, IsTaken, RunsResident, TakesRequest, first_request, taken, work}
-use Rattle.shell_programs.specs.KernelResidents.ResidentRequests.declared.requests.Request.{Request}
-use Rattle.shell_programs.proofs.Shown.KernelResidents.ResidentRequests.ResidentTurns.{takes-request}
-use Rattle.shell_programs.proofs.Shown.KernelResidents.ResidentRequests.TakenRequest.{taken-running}
+use Rattle.shell_programs.specs.ConsoleHandler.ResidentRequests.Answers.{returned}
+use Rattle.shell_programs.specs.ConsoleHandler.ResidentRequests.Requests.{HasRequest, IsTaken, RunsResident, TakesRequest, first_request, taken, work}
+use Rattle.shell_programs.specs.ConsoleHandler.ResidentRequests.declared.requests.Request.{Request}
+use Rattle.shell_programs.proofs.Shown.ConsoleHandler.ResidentRequests.ResidentTurns.{takes-request}
+use Rattle.shell_programs.proofs.Shown.ConsoleHandler.ResidentRequests.TakenRequest.{taken-running}
 use Rattle.shell_programs.specs.KernelCalls.KernelModel.declared.numbers.TheConstants.{SHELL_PACKET}
 use Rattle.cli_shell.specs.DoneParts.{IsDone, IsReady, Start}
 use Rattle.cli_shell.specs.ShellTurn.{first_treated, packet_taken, returned_unknown, treated, treated_in}

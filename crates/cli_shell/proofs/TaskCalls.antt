@@ -13,7 +13,7 @@ use Rattle.shell_programs.specs.KernelCalls.TaskCalls.HoldTask.{hold}
 use Rattle.shell_programs.specs.KernelCalls.TaskCalls.ReleaseTask.{release}
 use Rattle.shell_programs.specs.KernelCalls.TaskCalls.SetFlags.{set_flags}
 use Rattle.shell_programs.proofs.Shown.KernelCalls.TaskCalls.SameWords.{change_pri-owners, hold-owners, release-owners, set_flags-owners}
-use Rattle.shell_programs.specs.KernelResidents.ResidentRequests.Requests.{RunsResident}
+use Rattle.shell_programs.specs.ConsoleHandler.ResidentRequests.Requests.{RunsResident}
 use Rattle.shell_programs.specs.KernelCalls.KernelModel.declared.numbers.TheConstants.{SHELL}
 use Rattle.cli_shell.specs.Commands.{by_call}
 use Rattle.cli_shell.specs.DoneParts.{IsDone, IsReady, Start}

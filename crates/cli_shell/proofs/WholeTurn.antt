@@ -10,8 +10,8 @@ use Rattle.ram_disc.specs.Disc.{Disc}
 use Rattle.shell_programs.specs.KernelCalls.CallAnswers.Outside.{Outside}
 use Rattle.shell_programs.specs.KernelCalls.PacketCalls.TaskWait.{first_of_queue}
 use Rattle.shell_programs.specs.KernelCalls.KernelModel.Standing.{left_with}
-use Rattle.shell_programs.specs.KernelResidents.ResidentRequests.Answers.{IsFinished, finished}
-use Rattle.shell_programs.specs.KernelResidents.ResidentRequests.Requests.{work}
+use Rattle.shell_programs.specs.ConsoleHandler.ResidentRequests.Answers.{IsFinished, finished}
+use Rattle.shell_programs.specs.ConsoleHandler.ResidentRequests.Requests.{work}
 use Rattle.shell_programs.specs.ClearedTasks.{cleared}
 use Rattle.shell_programs.specs.Standings.{HasStanding}
 use Rattle.shell_programs.proofs.KeptRules.{cleared-residents, cleared-runs}

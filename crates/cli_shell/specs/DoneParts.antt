@@ -4,7 +4,7 @@ use Rattle.shell_programs.specs.KernelCalls.KernelModel.Kernel.{Shell}
 use Rattle.shell_programs.specs.KernelCalls.KernelModel.NotedEvents.{NotesAll}
 use Rattle.ram_disc.specs.Disc.{Disc}
 use Rattle.shell_programs.specs.KernelCalls.CallAnswers.Outside.{Outside}
-use Rattle.shell_programs.specs.KernelResidents.ResidentRequests.Requests.{RunsResident}
+use Rattle.shell_programs.specs.ConsoleHandler.ResidentRequests.Requests.{RunsResident}
 use Rattle.shell_programs.specs.ShellPacket.{HasPacket}
 use Rattle.shell_programs.specs.Standings.{HasStanding}
 use Rattle.shell_programs.specs.KernelCalls.KernelModel.declared.numbers.TheConstants.{SHELL}

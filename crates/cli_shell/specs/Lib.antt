@@ -7,7 +7,7 @@ pub mod ShellTurn
 pub mod DoneParts
 pub mod KeptLists
 -- shown to the crates above
-pub use Rattle.shell_programs.specs.KernelResidents
+pub use Rattle.shell_programs.specs.ConsoleHandler
 pub use Rattle.shell_programs.specs.KernelBoot
 pub use Rattle.shell_listings.specs as ShellListings
 pub use Rattle.shell_programs.specs as ShellPrograms

@@ -4,7 +4,7 @@ use Rattle.shell_programs.specs.KernelCalls.KernelModel.Kernel.Mode.{Reading}
 use Rattle.shell_listings.specs.NumberLines.{error_line}
 use Rattle.shell_programs.specs.ShellPacket.{post_events, requested}
 use Rattle.shell_programs.specs.KernelCalls.KernelModel.declared.numbers.TheConstants.{CONSOLE}
-use Rattle.shell_programs.specs.KernelResidents.ConsoleHandler.declared.requests.TheConstants.{READ_LINE}
+use Rattle.shell_programs.specs.ConsoleHandler.declared.requests.TheConstants.{READ_LINE}
 use Rattle.cli_shell.specs.TurnParts.{ShellTurn, and_then, in_mode, shown}
 
 abbrev pub prompt : List ℕ

@@ -6,14 +6,14 @@ use Rattle.shell_programs.specs.KernelCalls.KernelModel.Kernel.{Mode, Shell}
 use Rattle.shell_programs.specs.KernelCalls.KernelModel.Kernel.Mode.{Prompt, Reading, Typing, Waiting}
 use Rattle.shell_programs.specs.KernelCalls.KernelModel.Lists.{Lists}
 use Rattle.ram_disc.specs.Disc.{Disc, IsDisc, shell_stream, stream_at}
-use Rattle.shell_programs.specs.KernelResidents.ResidentRequests.Answers.{finished, returned}
-use Rattle.shell_programs.specs.KernelResidents.ResidentRequests.Requests.{RunsResident, first_request, taken, work}
-use Rattle.shell_programs.specs.KernelResidents.ResidentRequests.declared.requests.Request.{Request}
+use Rattle.shell_programs.specs.ConsoleHandler.ResidentRequests.Answers.{finished, returned}
+use Rattle.shell_programs.specs.ConsoleHandler.ResidentRequests.Requests.{RunsResident, first_request, taken, work}
+use Rattle.shell_programs.specs.ConsoleHandler.ResidentRequests.declared.requests.Request.{Request}
 use Rattle.shell_programs.specs.KernelCalls.KernelModel.Standing.{left_with}
 use Rattle.shell_listings.specs.NumberLines.{return_code_line}
 use Rattle.shell_programs.specs.ClearedTasks.{cleared}
 use Rattle.shell_programs.specs.KernelCalls.KernelModel.declared.numbers.TheConstants.{CONSOLE, RES1, SHELL, SHELL_PACKET}
-use Rattle.shell_programs.specs.KernelResidents.ResidentRequests.declared.requests.TheConstants.{UNKNOWN_TYPE}
+use Rattle.shell_programs.specs.ConsoleHandler.ResidentRequests.declared.requests.TheConstants.{UNKNOWN_TYPE}
 use Rattle.cli_shell.specs.Commands.{line_executed}
 use Rattle.cli_shell.specs.Prompts.{prompted}
 use Rattle.cli_shell.specs.TurnParts.{ShellTurn, and_then, begun, called, shown}

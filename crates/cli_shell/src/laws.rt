@@ -8,7 +8,7 @@ ghost use Rattle.shell_programs.specs.KernelCalls.KernelModel.ValidLists.{AreVal
 ghost use Rattle.shell_programs.specs.KernelCalls.KernelModel.Versions.{highest_id_of};
 ghost use Rattle.ram_disc.specs.Disc.{Disc, shell_stream, stream_at};
 ghost use Rattle.shell_programs.specs.KernelCalls.KernelDispatch.Dispatch.{CanDispatch};
-ghost use Rattle.shell_programs.specs.KernelResidents.ResidentRequests.Requests.{RunsResident};
+ghost use Rattle.shell_programs.specs.ConsoleHandler.ResidentRequests.Requests.{RunsResident};
 ghost use Rattle.shell_programs.specs.KernelCalls.KernelModel.declared.numbers.TheConstants.{SHELL};
 ghost use Rattle.cli_shell.specs.KeptLists.{KeepsRest};
 ghost use Rattle.cli_shell.specs.ShellTurn.{RunsShell, shell_turn};

@@ -8,7 +8,7 @@ ghost use Rattle.ram_disc.specs.Disc.{Disc, IsDisc, shell_stream, stream_at};
 ghost use Rattle.cli_shell.specs.DoneParts.{IsDone, IsReady, IsShellTurn, Start};
 ghost use Rattle.cli_shell.specs.ShellTurn.{RunsShell, first_treated, program_ended, return_code, shell_turn, treated_in};
 ghost use Rattle.cli_shell.specs.TurnParts.{ShellTurn, most_shown};
-ghost use Rattle.shell_programs.specs.KernelResidents.ResidentRequests.declared.requests.Request.{Request};
+ghost use Rattle.shell_programs.specs.ConsoleHandler.ResidentRequests.declared.requests.Request.{Request};
 
 use crate::commands::execute_line;
 use crate::modes::Mode;

@@ -11,9 +11,9 @@ use Rattle.session_text.specs.KernelDispatch.KernelModel.Kernel.Mode.{Prompt, Re
 use Rattle.session_text.specs.KernelDispatch.KernelModel.Lists.{Lists}
 use Rattle.session_text.specs.KernelDispatch.KernelModel.Standing.{left_with}
 use Rattle.session_text.specs.KernelDispatch.KernelModel.declared.numbers.TheConstants.{CONSOLE, SHELL_PACKET}
-use Rattle.packet_moves.specs.KernelSteps.KernelResidents.ResidentRequests.Answers.{finished}
-use Rattle.packet_moves.specs.KernelSteps.KernelResidents.ResidentRequests.Requests.{first_request, request_at, work}
-use Rattle.packet_moves.specs.KernelSteps.KernelResidents.ResidentRequests.declared.requests.Request.{Request}
+use Rattle.packet_moves.specs.KernelSteps.ConsoleHandler.ResidentRequests.Answers.{finished}
+use Rattle.packet_moves.specs.KernelSteps.ConsoleHandler.ResidentRequests.Requests.{first_request, request_at, work}
+use Rattle.packet_moves.specs.KernelSteps.ConsoleHandler.ResidentRequests.declared.requests.Request.{Request}
 use Rattle.packet_moves.specs.KernelSteps.CliShell.ShellLines.Arguments.{arguments, name_of, number_of, on_ok, option_number_at, text_at}
 use Rattle.packet_moves.specs.KernelSteps.CliShell.ShellLines.Command.{command_by, command_of, file_in, named_command, nothing_in, task_in}
 use Rattle.packet_moves.specs.KernelSteps.CliShell.ShellLines.CommandNames.{command_named}

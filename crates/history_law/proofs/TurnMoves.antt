@@ -13,7 +13,7 @@ use Rattle.session_text.specs.KernelDispatch.KernelModel.ValidKernel.{IsValid}
 use Rattle.session_text.specs.KernelDispatch.KernelModel.ValidLists.{AreValid}
 use Rattle.packet_moves.specs.KernelMachine.GuestTurns.GuestTurn.{Turned, turn_without_reporter}
 use Rattle.packet_moves.proofs.Shown.GuestTurns.FaultedTurn.{fault-untouched}
-use Rattle.packet_moves.specs.KernelSteps.KernelResidents.FaultReporter.Recorded.{recorded, recorded_events}
+use Rattle.packet_moves.specs.KernelSteps.ConsoleHandler.FaultReporter.Recorded.{recorded, recorded_events}
 use Rattle.packet_moves.specs.KernelSteps.GuestSteps.{guest_step, with_recorded}
 use Rattle.packet_moves.specs.KernelSteps.Parts.{RunsFirst}
 use Rattle.packet_moves.specs.KernelSteps.Step.{Stepped, turn, with_step}

@@ -2,7 +2,7 @@
 use Rattle.std.proofs.Common.{◌≡◌, ℕ, ◌-◌, ◌≤◌, ◌==◌, Bool, true, false, cond, Option, Some, None, List, length, refl, arith}
 use Rattle.machine_image.specs.TriposMachine.KernelCalls.KernelModel.Kernel.{Pipe}
 use Rattle.machine_image.specs.TriposMachine.KernelCalls.KernelModel.Pipes.{ArePipes, pipe_at}
-use Rattle.machine_image.specs.TriposMachine.KernelSteps.KernelResidents.PipeHandler.PipeCalls.{held_by, pipe_numbered}
+use Rattle.machine_image.specs.TriposMachine.KernelSteps.ConsoleHandler.PipeHandler.PipeCalls.{held_by, pipe_numbered}
 
 -- a pipe holds at most 1,024
 pub held-room : (ps : List (Option Pipe)) → ArePipes ps → (k : ℕ) → length (held_by (pipe_numbered ps k)) ≤ 1024

@@ -8,7 +8,7 @@ ghost use Rattle.machine_image.specs.TriposMachine.KernelCalls.KernelModel.Kerne
 ghost use Rattle.machine_image.specs.TriposMachine.KernelCalls.KernelModel.Pipes.{ArePipes};
 ghost use Rattle.machine_image.specs.TriposMachine.KernelCalls.KernelModel.ValidKernel.{IsValid};
 ghost use Rattle.machine_image.specs.TriposMachine.KernelMachine.Stands.{Stands};
-ghost use Rattle.machine_image.specs.TriposMachine.KernelSteps.KernelResidents.PipeHandler.PipeCalls.{pipe_numbered};
+ghost use Rattle.machine_image.specs.TriposMachine.KernelSteps.ConsoleHandler.PipeHandler.PipeCalls.{pipe_numbered};
 ghost use Rattle.image_print.specs.Numbers.{AreWords, HasNumbers, HoldsBytes, KeepsBytes};
 
 use crate::pipes::held_by;

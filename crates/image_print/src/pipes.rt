@@ -4,7 +4,7 @@ ghost use Rattle.image_text.specs.ImageForm.{pipe_statement};
 ghost use Rattle.tp_io.specs.Pending.{Gathers};
 ghost use Rattle.tp_io.specs.Write.{HasCause};
 ghost use Rattle.machine_image.specs.TriposMachine.KernelCalls.KernelModel.Pipes.{ArePipes};
-ghost use Rattle.machine_image.specs.TriposMachine.KernelSteps.KernelResidents.PipeHandler.PipeCalls.{held_by, pipe_numbered};
+ghost use Rattle.machine_image.specs.TriposMachine.KernelSteps.ConsoleHandler.PipeHandler.PipeCalls.{held_by, pipe_numbered};
 ghost use Rattle.image_print.specs.SavedImage.{at_place, numbered_pipes, saved_pipe};
 ghost use Rattle.image_print.specs.Texts.{statements_text};
 

@@ -1,1 +1,4 @@
-pub mod Shown
+pub mod TickLists
+pub mod FirstDue
+pub mod ReturnedPackets
+pub mod WholeTick

@@ -1,3 +1,4 @@
--- shown to the crates above
-pub use Rattle.tty_device.specs.ClockDevice
-pub use Rattle.tty_device.specs as TtyDevice
+pub mod Tick
+pub mod Typed
+pub mod Keys
+pub mod Printed

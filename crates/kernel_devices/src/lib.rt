@@ -1,5 +1,11 @@
-// The devices, as the machine sees them. It has no code of its own.
+// The devices: the clock, which counts ticks and returns packets when they are due; the keyboard, with the bytes that are typed ahead;
+// and the output.
 #![tactic(auto)]
 
-// Shown to the crates above.
-pub use tty_device::{Tty, finish_output, tick};
+pub mod output;
+pub mod ticks;
+pub mod typed;
+
+pub use output::finish_output;
+pub use ticks::tick;
+pub use typed::Tty;

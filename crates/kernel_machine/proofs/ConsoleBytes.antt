@@ -8,16 +8,16 @@ use Rattle.kernel_steps.specs.KernelCalls.KernelModel.Image.{image}
 use Rattle.kernel_steps.specs.KernelCalls.KernelModel.Kernel.{Console, Kernel}
 use Rattle.kernel_steps.specs.KernelCalls.KernelModel.Lists.{Lists}
 use Rattle.kernel_steps.specs.KernelCalls.KernelModel.ValidQueues.{is_key_packet}
-use Rattle.kernel_steps.specs.KernelResidents.ResidentRequests.Buffers.{byte_in, bytes_in, is_count, is_readable, lies_inside}
-use Rattle.kernel_steps.specs.KernelResidents.ResidentRequests.Answers.{returned}
-use Rattle.kernel_steps.specs.KernelResidents.ResidentRequests.Requests.{first_request, taken, words_taken, work}
-use Rattle.kernel_steps.specs.KernelResidents.ResidentRequests.declared.requests.Request.{Request}
-use Rattle.kernel_steps.specs.KernelResidents.ConsoleHandler.ConsoleTurn.{answer_of, bytes_of, key_of, keys_sent, treated, with_first, with_key, with_keys_sent, with_request, with_taken}
-use Rattle.kernel_steps.specs.KernelResidents.ConsoleHandler.Deliveries.{delivered, delivery, handed, with_read}
-use Rattle.kernel_steps.specs.KernelResidents.ConsoleHandler.KeyPacket.{keys_taken}
-use Rattle.kernel_steps.specs.KernelResidents.ConsoleHandler.Line.{flags_of, is_printed, key, keyed, with_end, with_finish, without_end}
-use Rattle.kernel_steps.specs.KernelResidents.ConsoleHandler.Progress.{Progress, and_then, begun}
-use Rattle.kernel_steps.specs.KernelResidents.ConsoleHandler.Reads.{put_off, read_taken, words_read_from}
+use Rattle.kernel_steps.specs.ConsoleHandler.ResidentRequests.Buffers.{byte_in, bytes_in, is_count, is_readable, lies_inside}
+use Rattle.kernel_steps.specs.ConsoleHandler.ResidentRequests.Answers.{returned}
+use Rattle.kernel_steps.specs.ConsoleHandler.ResidentRequests.Requests.{first_request, taken, words_taken, work}
+use Rattle.kernel_steps.specs.ConsoleHandler.ResidentRequests.declared.requests.Request.{Request}
+use Rattle.kernel_steps.specs.ConsoleHandler.ConsoleTurn.{answer_of, bytes_of, key_of, keys_sent, treated, with_first, with_key, with_keys_sent, with_request, with_taken}
+use Rattle.kernel_steps.specs.ConsoleHandler.Deliveries.{delivered, delivery, handed, with_read}
+use Rattle.kernel_steps.specs.ConsoleHandler.KeyPacket.{keys_taken}
+use Rattle.kernel_steps.specs.ConsoleHandler.Line.{flags_of, is_printed, key, keyed, with_end, with_finish, without_end}
+use Rattle.kernel_steps.specs.ConsoleHandler.Progress.{Progress, and_then, begun}
+use Rattle.kernel_steps.specs.ConsoleHandler.Reads.{put_off, read_taken, words_read_from}
 use Rattle.kernel_steps.specs.CliShell.Modes.{awaited}
 use Rattle.kernel_steps.specs.ResidentSteps.{console_step}
 

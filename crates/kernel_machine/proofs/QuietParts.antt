@@ -16,8 +16,8 @@ use Rattle.kernel_steps.specs.KernelCalls.PacketCalls.Returned.{head_of, place_o
 use Rattle.kernel_steps.specs.KernelCalls.PacketCalls.declared.returns.Device.{Device}
 use Rattle.kernel_steps.specs.KernelCalls.PacketCalls.declared.returns.Device.TheVariants.{Clock, Keyboard, Output}
 use Rattle.kernel_steps.proofs.Shown.KernelCalls.PacketCalls.DeviceQueues.{none-waits, one-waits}
-use Rattle.kernel_steps.specs.KernelDevices.ClockDevice.Tick.{is_first_due}
-use Rattle.kernel_steps.proofs.Shown.KernelDevices.ClockDevice.FirstDue.{due-some}
+use Rattle.kernel_steps.specs.KernelDevices.Tick.{is_first_due}
+use Rattle.kernel_steps.proofs.Shown.KernelDevices.FirstDue.{due-some}
 use Rattle.kernel_machine.specs.declared.parts.Parts.{Parts}
 use Rattle.kernel_steps.specs.Quiet.{AreDueAfter, AwaitsTick, ComeAfter, IsQuietFor}
 use Rattle.kernel_steps.proofs.NextTick.{some-period}

@@ -12,8 +12,8 @@ use Rattle.kernel_steps.specs.KernelCalls.KernelModel.ValidKernel.{IsValid}
 use Rattle.kernel_steps.proofs.Shown.KernelCalls.KernelModel.ChangedLists.{changed-none, knows-same}
 use Rattle.kernel_steps.proofs.Shown.KernelCalls.KernelModel.ImageWords.{image-list}
 use Rattle.kernel_steps.specs.KernelCalls.WordKinds.ByteMap.{MarksAll}
-use Rattle.kernel_steps.specs.KernelDevices.ClockDevice.Tick.{with_tick}
-use Rattle.kernel_steps.proofs.Shown.KernelDevices.ClockDevice.TickLists.{tick-owned}
+use Rattle.kernel_steps.specs.KernelDevices.Tick.{with_tick}
+use Rattle.kernel_steps.proofs.Shown.KernelDevices.TickLists.{tick-owned}
 use Rattle.kernel_steps.specs.GuestTurns.Guarded.{is_owned}
 use Rattle.kernel_machine.specs.declared.parts.Parts.{Parts}
 use Rattle.kernel_machine.specs.Stands.{Stands}

@@ -15,15 +15,15 @@ use Rattle.kernel_steps.proofs.Shown.KernelCalls.KernelModel.ChangedLists.{chang
 use Rattle.kernel_steps.proofs.Shown.KernelCalls.KernelModel.ImageWords.{image-list}
 use Rattle.kernel_steps.specs.KernelCalls.WordKinds.ByteMap.{MarksAll}
 use Rattle.kernel_steps.specs.KernelCalls.CallAnswers.Outside.{Outside}
-use Rattle.kernel_steps.specs.KernelResidents.ResidentRequests.Requests.{RunsResident, TakesRequest, first_request, taken, words_taken, work}
-use Rattle.kernel_steps.specs.KernelResidents.ResidentRequests.Turns.{IsResidentTurn, ResidentTurn, Served, request_turn, turn_of}
-use Rattle.kernel_steps.specs.KernelResidents.ResidentRequests.declared.requests.Request.{Request}
-use Rattle.kernel_steps.proofs.Shown.KernelResidents.ResidentRequests.ResidentTurns.{takes-request}
-use Rattle.kernel_steps.specs.KernelResidents.FaultReporter.FaultTurns.{CanReport, fault_turn, fault_turn_from, reported_turn, unknown}
-use Rattle.kernel_steps.specs.KernelResidents.ConsoleHandler.ConsoleTurn.{RunsConsole, all_parts, console_turn, turn_done}
-use Rattle.kernel_steps.specs.KernelResidents.ConsoleHandler.Progress.{Progress, begun}
-use Rattle.kernel_steps.specs.KernelResidents.FileHandler.FileTurn.{RunsFileHandler, disc_after_turn, file_service, file_turn}
-use Rattle.kernel_steps.specs.KernelResidents.PipeHandler.PipeTurns.{pipe_service, pipe_turn, pipes_after_turn}
+use Rattle.kernel_steps.specs.ConsoleHandler.ResidentRequests.Requests.{RunsResident, TakesRequest, first_request, taken, words_taken, work}
+use Rattle.kernel_steps.specs.ConsoleHandler.ResidentRequests.Turns.{IsResidentTurn, ResidentTurn, Served, request_turn, turn_of}
+use Rattle.kernel_steps.specs.ConsoleHandler.ResidentRequests.declared.requests.Request.{Request}
+use Rattle.kernel_steps.proofs.Shown.ConsoleHandler.ResidentRequests.ResidentTurns.{takes-request}
+use Rattle.kernel_steps.specs.ConsoleHandler.FaultReporter.FaultTurns.{CanReport, fault_turn, fault_turn_from, reported_turn, unknown}
+use Rattle.kernel_steps.specs.ConsoleHandler.ConsoleTurn.{RunsConsole, all_parts, console_turn, turn_done}
+use Rattle.kernel_steps.specs.ConsoleHandler.Progress.{Progress, begun}
+use Rattle.kernel_steps.specs.ConsoleHandler.FileHandler.FileTurn.{RunsFileHandler, disc_after_turn, file_service, file_turn}
+use Rattle.kernel_steps.specs.ConsoleHandler.PipeHandler.PipeTurns.{pipe_service, pipe_turn, pipes_after_turn}
 use Rattle.kernel_steps.specs.CliShell.DoneParts.{IsShellTurn}
 use Rattle.kernel_steps.specs.CliShell.Modes.{awaited}
 use Rattle.kernel_steps.specs.CliShell.ShellTurn.{RunsShell, shell_turn}

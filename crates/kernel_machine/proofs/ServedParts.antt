@@ -14,10 +14,10 @@ use Rattle.kernel_steps.specs.KernelCalls.WordKinds.ByteMap.{MarksAll}
 use Rattle.kernel_steps.specs.KernelCalls.KernelDispatch.Dispatch.{CanDispatch, dispatched}
 use Rattle.kernel_steps.specs.KernelCalls.KernelDispatch.Turn.{IsDispatched}
 use Rattle.kernel_steps.specs.KernelCalls.PacketCalls.Returned.{IsServed, Served}
-use Rattle.kernel_steps.specs.KernelDevices.ClockDevice.Tick.{ticked}
-use Rattle.kernel_steps.specs.KernelDevices.TtyDevice.Keys.{left_typed, met}
-use Rattle.kernel_steps.specs.KernelDevices.TtyDevice.Printed.{finished, printed}
-use Rattle.kernel_steps.specs.KernelDevices.TtyDevice.Typed.{with_typed}
+use Rattle.kernel_steps.specs.KernelDevices.Tick.{ticked}
+use Rattle.kernel_steps.specs.KernelDevices.Keys.{left_typed, met}
+use Rattle.kernel_steps.specs.KernelDevices.Printed.{finished, printed}
+use Rattle.kernel_steps.specs.KernelDevices.Typed.{with_typed}
 use Rattle.kernel_steps.specs.KernelCalls.CallAnswers.Outside.{Outside}
 use Rattle.kernel_steps.specs.GuestTurns.GuestTurn.{numbers_of}
 use Rattle.kernel_machine.specs.declared.parts.Parts.{Parts}

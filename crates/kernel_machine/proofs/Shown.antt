@@ -5,5 +5,5 @@ pub use Rattle.kernel_steps.proofs.Shown.KernelBoot
 pub use Rattle.kernel_steps.proofs.Shown.CliShell
 pub use Rattle.kernel_steps.proofs.Shown.GuestTurns
 pub use Rattle.kernel_steps.proofs.Shown.KernelDevices
-pub use Rattle.kernel_steps.proofs.Shown.KernelResidents
+pub use Rattle.kernel_steps.proofs.Shown.ConsoleHandler
 pub use Rattle.kernel_steps.proofs.Shown.ShellPrograms

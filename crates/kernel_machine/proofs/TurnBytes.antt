@@ -28,12 +28,12 @@ use Rattle.tp_io.specs.Pieces.{joined}
 use Rattle.kernel_steps.specs.KernelCalls.TaskBlock.TaskChain.{tasks_in}
 use Rattle.kernel_steps.specs.KernelCalls.KernelModel.HoldsLists.{HoldsLists}
 use Rattle.kernel_steps.specs.KernelCalls.KernelModel.Residents.{fault_packet}
-use Rattle.kernel_steps.specs.KernelResidents.ResidentRequests.Requests.{first_request, taken, words_taken, work}
-use Rattle.kernel_steps.specs.KernelResidents.ResidentRequests.Turns.{Served, request_turn, turn_of}
-use Rattle.kernel_steps.specs.KernelResidents.ResidentRequests.declared.requests.Request.{Request}
-use Rattle.kernel_steps.specs.KernelResidents.FaultReporter.FaultTurns.{fault_turn, fault_turn_from, reported_turn, unknown}
-use Rattle.kernel_steps.specs.KernelResidents.FaultReporter.Texts.{is_unreported_word, most_in_line, report, report_at, reports, reports_in}
-use Rattle.kernel_steps.proofs.Shown.KernelResidents.FaultReporter.ReportLines.{few_digits, lines-room, reports-read}
+use Rattle.kernel_steps.specs.ConsoleHandler.ResidentRequests.Requests.{first_request, taken, words_taken, work}
+use Rattle.kernel_steps.specs.ConsoleHandler.ResidentRequests.Turns.{Served, request_turn, turn_of}
+use Rattle.kernel_steps.specs.ConsoleHandler.ResidentRequests.declared.requests.Request.{Request}
+use Rattle.kernel_steps.specs.ConsoleHandler.FaultReporter.FaultTurns.{fault_turn, fault_turn_from, reported_turn, unknown}
+use Rattle.kernel_steps.specs.ConsoleHandler.FaultReporter.Texts.{is_unreported_word, most_in_line, report, report_at, reports, reports_in}
+use Rattle.kernel_steps.proofs.Shown.ConsoleHandler.FaultReporter.ReportLines.{few_digits, lines-room, reports-read}
 
 wait-bytes : (r : Regs) (ps : List QueuedPacket) (m : Made) → length (of_wait r ps m).bytes ≤ 1
 wait-bytes r [] m = omega arith

@@ -15,7 +15,7 @@ use Rattle.kernel_steps.proofs.Shown.KernelCalls.KernelModel.WalkedLists.{reside
 use Rattle.kernel_steps.proofs.Shown.KernelCalls.CallAnswers.FoundTask.{Finds, find-task, found-there}
 use Rattle.kernel_steps.specs.KernelCalls.PacketCalls.TaskWait.{first_of_queue}
 use Rattle.kernel_steps.proofs.Shown.KernelCalls.PacketCalls.HeldPlaces.{held-at}
-use Rattle.kernel_steps.specs.KernelResidents.ResidentRequests.Requests.{RunsResident, work}
+use Rattle.kernel_steps.specs.ConsoleHandler.ResidentRequests.Requests.{RunsResident, work}
 use Rattle.kernel_steps.specs.ResidentSteps.{is_for_pipes, serves_pipes}
 
 module _ (s : List ℕ) (l : Lists) (h : HoldsLists s l) where

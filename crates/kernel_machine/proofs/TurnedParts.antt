@@ -18,7 +18,7 @@ use Rattle.kernel_steps.specs.GuestTurns.declared.turns.TurnEnd.{TurnEnd}
 use Rattle.kernel_steps.specs.GuestTurns.declared.turns.TurnEnd.TheVariants.{Faults, Goes, Quits}
 use Rattle.kernel_steps.proofs.Shown.GuestTurns.TurnFields.{turn-numbers}
 use Rattle.kernel_steps.proofs.Shown.GuestTurns.TurnParts.{turn-size}
-use Rattle.kernel_steps.specs.KernelResidents.FaultReporter.Recorded.{CanRecord, OwnsSame, recorded, recorded_events}
+use Rattle.kernel_steps.specs.ConsoleHandler.FaultReporter.Recorded.{CanRecord, OwnsSame, recorded, recorded_events}
 use Rattle.kernel_steps.specs.KernelCalls.KernelModel.declared.stops.Stop.{Stop}
 use Rattle.kernel_machine.specs.declared.parts.Parts.{Parts}
 use Rattle.kernel_machine.specs.Stands.{Stands}

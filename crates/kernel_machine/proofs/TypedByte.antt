@@ -6,7 +6,7 @@ use Rattle.kernel_steps.specs.KernelCalls.KernelModel.Image.{HasPlainWords}
 use Rattle.kernel_steps.specs.KernelCalls.KernelModel.Kernel.{Kernel}
 use Rattle.kernel_steps.specs.KernelCalls.KernelModel.ValidKernel.{IsValid}
 use Rattle.kernel_steps.specs.KernelCalls.KernelModel.declared.stops.Stop.{Stop}
-use Rattle.kernel_steps.specs.KernelDevices.TtyDevice.Typed.{with_typed}
+use Rattle.kernel_steps.specs.KernelDevices.Typed.{with_typed}
 use Rattle.kernel_machine.specs.declared.parts.Parts.{Parts}
 use Rattle.kernel_machine.specs.Machine.{IsWhole, kernel_of, with_byte_typed}
 use Rattle.kernel_machine.specs.Stands.{Stands}

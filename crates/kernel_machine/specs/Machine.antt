@@ -5,7 +5,7 @@ use Rattle.kernel_steps.specs.KernelCalls.KernelModel.Kernel.{Kernel}
 use Rattle.kernel_steps.specs.KernelCalls.KernelModel.Recovered.{lists_in}
 use Rattle.kernel_steps.specs.KernelCalls.KernelModel.ValidKernel.{IsValid}
 use Rattle.kernel_steps.specs.KernelCalls.KernelModel.declared.stops.Stop.{Stop}
-use Rattle.kernel_steps.specs.KernelDevices.TtyDevice.Typed.{with_typed}
+use Rattle.kernel_steps.specs.KernelDevices.Typed.{with_typed}
 use Rattle.kernel_machine.specs.declared.parts.Parts.{Parts}
 use Rattle.kernel_machine.specs.Script.{still_to_come}
 use Rattle.kernel_machine.specs.Stands.{Stands}

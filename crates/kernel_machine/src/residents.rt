@@ -5,7 +5,7 @@ ghost use Rattle.kernel_steps.specs.KernelCalls.KernelModel.HoldsLists.{HoldsLis
 ghost use Rattle.kernel_steps.specs.KernelCalls.KernelModel.Kernel.{Kernel};
 ghost use Rattle.kernel_steps.specs.KernelCalls.KernelModel.Lists.{Lists};
 ghost use Rattle.kernel_steps.specs.KernelCalls.CallAnswers.Outside.{outside};
-ghost use Rattle.kernel_steps.specs.KernelResidents.ResidentRequests.Requests.{RunsResident};
+ghost use Rattle.kernel_steps.specs.ConsoleHandler.ResidentRequests.Requests.{RunsResident};
 ghost use Rattle.kernel_machine.specs.Stands.{Stands};
 ghost use Rattle.kernel_steps.specs.ResidentSteps.{console_step, handler_step, reporter_step, resident_step, serves_pipes, shell_step};
 ghost use Rattle.kernel_machine.specs.Leaves.{Leaves, RunsNumber, RunsNoGuest};

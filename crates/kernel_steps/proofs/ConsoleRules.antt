@@ -23,18 +23,18 @@ use Rattle.guest_turns.specs.KernelCalls.CallAnswers.Refusals.{first_refusal}
 use Rattle.guest_turns.specs.KernelCalls.PacketCalls.PacketMoves.{arrived, sent_packet, with_arrived}
 use Rattle.guest_turns.specs.KernelCalls.TaskCalls.SetFlags.{flagged, set_flags}
 use Rattle.guest_turns.specs.KernelCalls.PacketCalls.TaskWait.{waiting}
-use Rattle.cli_shell.specs.KernelResidents.ResidentRequests.Answers.{answered_packet, finished, finished_by, returned}
-use Rattle.cli_shell.specs.KernelResidents.ResidentRequests.Requests.{first_request, request_at, taken, taken_from, words_taken_from, work}
-use Rattle.cli_shell.specs.KernelResidents.ResidentRequests.declared.requests.Request.{Request}
-use Rattle.cli_shell.specs.KernelResidents.ConsoleHandler.ConsoleTurn.{all_parts, answer_of, bytes_of, ended, key_of, keys_sent, treated, with_first, with_key, with_keyed, with_keys_sent, with_keys_taken, with_request, with_taken}
-use Rattle.cli_shell.specs.KernelResidents.ConsoleHandler.Deliveries.{command_after, delivered, delivery, handed, line_after, line_service, with_read}
-use Rattle.cli_shell.specs.KernelResidents.ConsoleHandler.KeyPacket.{keys_taken, keys_taken_from}
-use Rattle.cli_shell.specs.KernelResidents.ConsoleHandler.Line.{Keyed, flags_of, is_printed, key, keyed, with_end, with_finish, without_end}
-use Rattle.cli_shell.specs.KernelResidents.ConsoleHandler.Progress.{Progress, and_then, begun}
-use Rattle.cli_shell.specs.KernelResidents.ConsoleHandler.Reads.{put_off, read_taken_from, words_read_from}
+use Rattle.cli_shell.specs.ConsoleHandler.ResidentRequests.Answers.{answered_packet, finished, finished_by, returned}
+use Rattle.cli_shell.specs.ConsoleHandler.ResidentRequests.Requests.{first_request, request_at, taken, taken_from, words_taken_from, work}
+use Rattle.cli_shell.specs.ConsoleHandler.ResidentRequests.declared.requests.Request.{Request}
+use Rattle.cli_shell.specs.ConsoleHandler.ConsoleTurn.{all_parts, answer_of, bytes_of, ended, key_of, keys_sent, treated, with_first, with_key, with_keyed, with_keys_sent, with_keys_taken, with_request, with_taken}
+use Rattle.cli_shell.specs.ConsoleHandler.Deliveries.{command_after, delivered, delivery, handed, line_after, line_service, with_read}
+use Rattle.cli_shell.specs.ConsoleHandler.KeyPacket.{keys_taken, keys_taken_from}
+use Rattle.cli_shell.specs.ConsoleHandler.Line.{Keyed, flags_of, is_printed, key, keyed, with_end, with_finish, without_end}
+use Rattle.cli_shell.specs.ConsoleHandler.Progress.{Progress, and_then, begun}
+use Rattle.cli_shell.specs.ConsoleHandler.Reads.{put_off, read_taken_from, words_read_from}
 use Rattle.guest_turns.specs.GuestTurn.{Numbers, numbers_of}
 use Rattle.guest_turns.proofs.RunningField.{RunsIn, one-runs, queue-runs}
-use Rattle.cli_shell.proofs.Shown.KernelResidents.FaultReporter.FaultsKept.{KeepsFault, there-same, work-keeps}
+use Rattle.cli_shell.proofs.Shown.ConsoleHandler.FaultReporter.FaultsKept.{KeepsFault, there-same, work-keeps}
 use Rattle.guest_turns.specs.KernelCalls.KernelModel.declared.numbers.TheConstants.{CONSOLE}
 use Rattle.kernel_steps.proofs.CallRules.{set_flags-keeps}
 use Rattle.kernel_steps.proofs.FaultRule.{HasRule, arrived-rule}

@@ -14,10 +14,10 @@ use Rattle.guest_turns.specs.KernelCalls.KernelDispatch.Dispatch.{dispatched, pa
 use Rattle.guest_turns.specs.KernelCalls.PacketCalls.Returned.{first_returned, place_of, returned_by, with_work_for}
 use Rattle.guest_turns.specs.KernelCalls.PacketCalls.declared.returns.Device.{Device}
 use Rattle.guest_turns.specs.KernelCalls.PacketCalls.declared.returns.Device.TheVariants as devices
-use Rattle.kernel_devices.specs.ClockDevice.Tick.{due_packets, later_packets, ticked, with_returned, with_tick}
-use Rattle.kernel_devices.specs.TtyDevice.Keys.{met}
-use Rattle.kernel_devices.specs.TtyDevice.Printed.{finished}
-use Rattle.cli_shell.proofs.Shown.KernelResidents.FaultReporter.FaultsKept.{there-same, work-keeps}
+use Rattle.kernel_devices.specs.Tick.{due_packets, later_packets, ticked, with_returned, with_tick}
+use Rattle.kernel_devices.specs.Keys.{met}
+use Rattle.kernel_devices.specs.Printed.{finished}
+use Rattle.cli_shell.proofs.Shown.ConsoleHandler.FaultReporter.FaultsKept.{there-same, work-keeps}
 use Rattle.kernel_steps.proofs.CallRules.{KeepsRules, beside-keeps, keeps-none, one-keeps, queue-keeps}
 use Rattle.kernel_steps.proofs.ConsoleRules.{NoneIsFault, none-fault}
 use Rattle.kernel_steps.proofs.DispatchKept.{three-ways}

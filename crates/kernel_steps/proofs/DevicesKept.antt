@@ -14,10 +14,10 @@ use Rattle.guest_turns.specs.KernelCalls.KernelDispatch.Dispatch.{CanDispatch}
 use Rattle.guest_turns.specs.KernelCalls.PacketCalls.Returned.{Served, first_returned, place_of, returned_by, with_work_for}
 use Rattle.guest_turns.specs.KernelCalls.PacketCalls.declared.returns.Device.{Device}
 use Rattle.guest_turns.specs.KernelCalls.PacketCalls.declared.returns.Device.TheVariants as devices
-use Rattle.kernel_devices.specs.ClockDevice.Tick.{due_packets, due_returned, later_packets, ticked, with_returned, with_tick}
-use Rattle.kernel_devices.specs.TtyDevice.Keys.{left_typed, met}
-use Rattle.kernel_devices.specs.TtyDevice.Printed.{finished}
-use Rattle.kernel_devices.specs.TtyDevice.Typed.{with_typed}
+use Rattle.kernel_devices.specs.Tick.{due_packets, due_returned, later_packets, ticked, with_returned, with_tick}
+use Rattle.kernel_devices.specs.Keys.{left_typed, met}
+use Rattle.kernel_devices.specs.Printed.{finished}
+use Rattle.kernel_devices.specs.Typed.{with_typed}
 use Rattle.guest_turns.specs.GuestTurn.{Numbers, numbers_of}
 use Rattle.guest_turns.proofs.RunningField.{RunsIn, queue-runs}
 use Rattle.kernel_steps.specs.Parts.{HasSameKeys, HasSameResidents, IsSameMachine, numbers_after_tick}

@@ -20,8 +20,8 @@ use Rattle.guest_turns.proofs.Shown.KernelCalls.KernelModel.EachMember.{find-pas
 use Rattle.guest_turns.specs.KernelCalls.PacketCalls.PacketMoves.{arrived, with_arrived}
 use Rattle.guest_turns.specs.KernelCalls.TaskCalls.ChangePri.{moved}
 use Rattle.guest_turns.specs.KernelCalls.TaskCalls.DeleteTask.{has_packet_out, resident_packets, without_task}
-use Rattle.cli_shell.proofs.Shown.KernelResidents.FaultReporter.FaultPacket.{free-is}
-use Rattle.cli_shell.proofs.Shown.KernelResidents.FaultReporter.FaultsKept.{KeepsFault, any-new, map-faults, queue-faults, tells-same, there-same, work-keeps}
+use Rattle.cli_shell.proofs.Shown.ConsoleHandler.FaultReporter.FaultPacket.{free-is}
+use Rattle.cli_shell.proofs.Shown.ConsoleHandler.FaultReporter.FaultsKept.{KeepsFault, any-new, map-faults, queue-faults, tells-same, there-same, work-keeps}
 
 -- it is asked where a task reports faults
 abbrev pub HasRule : Lists → Type 0

@@ -8,13 +8,13 @@ use Rattle.guest_turns.specs.KernelCalls.KernelModel.Residents.{fault_packet}
 use Rattle.guest_turns.specs.KernelCalls.KernelModel.ValidQueues.{is_fault_packet}
 use Rattle.guest_turns.specs.KernelCalls.KernelModel.ValidQueues.Place.{Work}
 use Rattle.guest_turns.specs.KernelCalls.PacketCalls.TaskWait.{waiting}
-use Rattle.cli_shell.specs.KernelResidents.ResidentRequests.Answers.{answered, answered_packet, finished, finished_by, returned}
-use Rattle.cli_shell.specs.KernelResidents.ResidentRequests.Requests.{IsForeign, TakesRequest, first_request, request_at, taken, taken_from, words_taken, words_taken_from, work}
-use Rattle.cli_shell.specs.KernelResidents.ResidentRequests.Turns.{Served, request_turn, turn_of}
-use Rattle.cli_shell.specs.KernelResidents.ResidentRequests.declared.requests.Request.{Request}
+use Rattle.cli_shell.specs.ConsoleHandler.ResidentRequests.Answers.{answered, answered_packet, finished, finished_by, returned}
+use Rattle.cli_shell.specs.ConsoleHandler.ResidentRequests.Requests.{IsForeign, TakesRequest, first_request, request_at, taken, taken_from, words_taken, words_taken_from, work}
+use Rattle.cli_shell.specs.ConsoleHandler.ResidentRequests.Turns.{Served, request_turn, turn_of}
+use Rattle.cli_shell.specs.ConsoleHandler.ResidentRequests.declared.requests.Request.{Request}
 use Rattle.guest_turns.specs.GuestTurn.{Numbers}
 use Rattle.guest_turns.proofs.RunningField.{RunsIn, one-runs, queue-runs}
-use Rattle.cli_shell.proofs.Shown.KernelResidents.FaultReporter.FaultsKept.{there-same, work-keeps}
+use Rattle.cli_shell.proofs.Shown.ConsoleHandler.FaultReporter.FaultsKept.{there-same, work-keeps}
 use Rattle.kernel_steps.proofs.CallRules.{KeepsRules, keeps-none, one-keeps, queue-keeps}
 use Rattle.kernel_steps.proofs.FaultRule.{arrived-rule, left-rule}
 

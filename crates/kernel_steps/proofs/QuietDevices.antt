@@ -8,12 +8,12 @@ use Rattle.guest_turns.specs.KernelCalls.KernelModel.Lists.{Lists}
 use Rattle.guest_turns.specs.KernelCalls.KernelModel.ValidQueues.{NeverFall}
 use Rattle.guest_turns.specs.KernelCalls.PacketCalls.Returned.{first_returned, unserved}
 use Rattle.guest_turns.specs.KernelCalls.PacketCalls.declared.returns.Device.TheVariants.{Keyboard, Output}
-use Rattle.kernel_devices.specs.ClockDevice.Tick.{events_of_return, is_first_due, ticked, with_returned, with_tick}
-use Rattle.kernel_devices.proofs.Shown.ClockDevice.ReturnedPackets.{all-later}
-use Rattle.kernel_devices.proofs.Shown.ClockDevice.TickLists.{tick-changed, tick-owned}
-use Rattle.kernel_devices.specs.TtyDevice.Keys.{left_typed, met}
-use Rattle.kernel_devices.specs.TtyDevice.Printed.{printed}
-use Rattle.kernel_devices.specs.TtyDevice.Typed.{with_typed}
+use Rattle.kernel_devices.specs.Tick.{events_of_return, is_first_due, ticked, with_returned, with_tick}
+use Rattle.kernel_devices.proofs.ReturnedPackets.{all-later}
+use Rattle.kernel_devices.proofs.TickLists.{tick-changed, tick-owned}
+use Rattle.kernel_devices.specs.Keys.{left_typed, met}
+use Rattle.kernel_devices.specs.Printed.{printed}
+use Rattle.kernel_devices.specs.Typed.{with_typed}
 use Rattle.kernel_steps.specs.Parts.{tick_after}
 use Rattle.kernel_steps.specs.Quiet.{AreDueAfter, AwaitsTick, ComeAfter}
 use Rattle.kernel_steps.specs.Step.{Stepped, key, meet, output, quietly, served, tick, typed_by, where_due}

@@ -9,7 +9,7 @@ use Rattle.guest_turns.specs.KernelCalls.KernelModel.Kernel.{Kernel}
 use Rattle.guest_turns.specs.KernelCalls.KernelModel.Lists.{Lists}
 use Rattle.guest_turns.specs.KernelCalls.KernelModel.Task.{is_guest_id}
 use Rattle.guest_turns.specs.KernelCalls.KernelDispatch.Dispatch.{CanDispatch}
-use Rattle.kernel_devices.specs.ClockDevice.Tick.{with_tick}
+use Rattle.kernel_devices.specs.Tick.{with_tick}
 use Rattle.guest_turns.specs.Guarded.{is_owned}
 use Rattle.guest_turns.proofs.GuardedLists.{holds-kept}
 use Rattle.guest_turns.proofs.MarkedWords.{keeps-marked}

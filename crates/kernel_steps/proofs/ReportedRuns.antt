@@ -9,12 +9,12 @@ use Rattle.guest_turns.specs.KernelCalls.KernelModel.Residents.{fault_packet}
 use Rattle.guest_turns.specs.KernelCalls.KernelModel.Running.{RunsAs}
 use Rattle.guest_turns.specs.KernelCalls.KernelModel.Task.{Task}
 use Rattle.guest_turns.specs.KernelCalls.KernelModel.ValidQueues.Place.{Work}
-use Rattle.cli_shell.specs.KernelResidents.ResidentRequests.Answers.{finished, finished_by, returned}
-use Rattle.cli_shell.specs.KernelResidents.ResidentRequests.Requests.{work}
-use Rattle.cli_shell.specs.KernelResidents.ResidentRequests.Turns.{request_turn}
+use Rattle.cli_shell.specs.ConsoleHandler.ResidentRequests.Answers.{finished, finished_by, returned}
+use Rattle.cli_shell.specs.ConsoleHandler.ResidentRequests.Requests.{work}
+use Rattle.cli_shell.specs.ConsoleHandler.ResidentRequests.Turns.{request_turn}
 use Rattle.guest_turns.specs.GuestTurn.{Numbers}
 use Rattle.guest_turns.proofs.RunningField.{RunsIn, queue-runs}
-use Rattle.cli_shell.specs.KernelResidents.FaultReporter.FaultTurns.{all_reported, fault_turn, fault_turn_from, packet_taken, reported, reported_turn, unknown}
+use Rattle.cli_shell.specs.ConsoleHandler.FaultReporter.FaultTurns.{all_reported, fault_turn, fault_turn_from, packet_taken, reported, reported_turn, unknown}
 use Rattle.kernel_steps.proofs.HandledRules.{finished-runs, request-lists, request-runs}
 
 -- ---- who runs

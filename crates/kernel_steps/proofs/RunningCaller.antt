@@ -10,7 +10,7 @@ use Rattle.guest_turns.specs.KernelCalls.KernelModel.ValidKernel.{IsValid}
 use Rattle.guest_turns.specs.KernelCalls.KernelModel.ValidLists.{AreValid}
 use Rattle.guest_turns.specs.KernelCalls.KernelDispatch.Dispatch.{CanDispatch}
 use Rattle.guest_turns.specs.KernelCalls.CallAnswers.Callers.{HasCaller}
-use Rattle.cli_shell.specs.KernelResidents.ResidentRequests.Requests.{RunsResident}
+use Rattle.cli_shell.specs.ConsoleHandler.ResidentRequests.Requests.{RunsResident}
 use Rattle.guest_turns.specs.GuestTurn.{Numbers}
 use Rattle.guest_turns.specs.KernelCalls.KernelModel.Running.{RunsAlone, RunsAs}
 use Rattle.guest_turns.proofs.RunningField.{RunsIn}

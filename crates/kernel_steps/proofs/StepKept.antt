@@ -9,8 +9,8 @@ use Rattle.guest_turns.specs.KernelCalls.KernelModel.Kernel.{Kernel}
 use Rattle.guest_turns.specs.KernelCalls.KernelModel.ValidKernel.{IsValid}
 use Rattle.guest_turns.specs.KernelCalls.KernelModel.ValidLists.{AreValid}
 use Rattle.guest_turns.specs.KernelCalls.KernelDispatch.Dispatch.{CanDispatch}
-use Rattle.kernel_devices.specs.ClockDevice.Tick.{ticked}
-use Rattle.kernel_devices.specs.TtyDevice.Keys.{met}
+use Rattle.kernel_devices.specs.Tick.{ticked}
+use Rattle.kernel_devices.specs.Keys.{met}
 use Rattle.guest_turns.specs.GuestTurn.{Numbers, numbers_of}
 use Rattle.kernel_steps.specs.Parts.{CanTurn, HasSameKeys, HasSameResidents, IsSameMachine, IsSameSystem, IsTaken, RunsFirst, numbers_after_tick}
 use Rattle.kernel_steps.specs.Step.{dispatch, key, output, served, step, tick, turn, where_due, with_key_typed, with_step}

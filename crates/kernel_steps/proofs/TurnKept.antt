@@ -6,14 +6,14 @@ use Rattle.guest_turns.specs.KernelCalls.KernelModel.Kernel.{Kernel}
 use Rattle.guest_turns.specs.KernelCalls.KernelModel.Lists.{Lists, has_task}
 use Rattle.guest_turns.specs.KernelCalls.KernelModel.Task.{is_guest_id}
 use Rattle.guest_turns.specs.KernelCalls.KernelDispatch.Dispatch.{CanDispatch}
-use Rattle.cli_shell.specs.KernelResidents.ResidentRequests.Requests.{RunsResident}
+use Rattle.cli_shell.specs.ConsoleHandler.ResidentRequests.Requests.{RunsResident}
 use Rattle.guest_turns.specs.GuestTurn.{Turned, numbers_of, turn_without_reporter}
 use Rattle.guest_turns.proofs.RunningField.{RunsIn}
 use Rattle.guest_turns.proofs.TurnFields.{turn-dispatches, turn-numbers}
-use Rattle.cli_shell.specs.KernelResidents.FaultReporter.Recorded.{held_with, recorded, sent_where}
-use Rattle.cli_shell.proofs.Shown.KernelResidents.FaultReporter.RunsKept.{recorded-dispatch}
-use Rattle.cli_shell.specs.KernelResidents.FileHandler.FileTurn.{file_service}
-use Rattle.cli_shell.specs.KernelResidents.PipeHandler.PipeTurns.{pipe_service}
+use Rattle.cli_shell.specs.ConsoleHandler.FaultReporter.Recorded.{held_with, recorded, sent_where}
+use Rattle.cli_shell.proofs.Shown.ConsoleHandler.FaultReporter.RunsKept.{recorded-dispatch}
+use Rattle.cli_shell.specs.ConsoleHandler.FileHandler.FileTurn.{file_service}
+use Rattle.cli_shell.specs.ConsoleHandler.PipeHandler.PipeTurns.{pipe_service}
 use Rattle.cli_shell.specs.Modes.{awaited}
 use Rattle.cli_shell.proofs.KeptRules.{turn-dispatches as shell-dispatches, turn-rest}
 use Rattle.kernel_steps.specs.GuestSteps.{after_turn, turn_of_guest}

@@ -13,16 +13,16 @@ use Rattle.guest_turns.specs.KernelCalls.KernelModel.Task.{is_guest_id}
 use Rattle.guest_turns.specs.KernelCalls.KernelModel.ValidLists.{AreValid}
 use Rattle.guest_turns.specs.KernelCalls.KernelModel.Versions.{highest_id_of}
 use Rattle.guest_turns.specs.KernelCalls.CallAnswers.Callers.{HasCaller}
-use Rattle.cli_shell.specs.KernelResidents.ResidentRequests.Requests.{RunsResident, TakesRequest}
-use Rattle.cli_shell.proofs.Shown.KernelResidents.ResidentRequests.ResidentTurns.{takes-request}
-use Rattle.cli_shell.specs.KernelResidents.ConsoleHandler.ConsoleTurn.{KeysStand}
-use Rattle.cli_shell.proofs.Shown.KernelResidents.ConsoleHandler.KeptKeys.{keys-stand}
-use Rattle.cli_shell.specs.KernelResidents.FaultReporter.Recorded.{CanRecord, held_with, recorded, sent_where}
-use Rattle.cli_shell.proofs.Shown.KernelResidents.FaultReporter.FaultsKept.{recorded-hold, turn-hold}
-use Rattle.cli_shell.specs.KernelResidents.FileHandler.FileTurn.{file_service}
-use Rattle.cli_shell.proofs.Shown.KernelResidents.FileHandler.EndedRequests.{turn-keeps as stream-stays}
-use Rattle.cli_shell.specs.KernelResidents.PipeHandler.PipeTurns.{pipe_service}
-use Rattle.cli_shell.proofs.Shown.KernelResidents.PipeHandler.KeptTurns.{turn-kept}
+use Rattle.cli_shell.specs.ConsoleHandler.ResidentRequests.Requests.{RunsResident, TakesRequest}
+use Rattle.cli_shell.proofs.Shown.ConsoleHandler.ResidentRequests.ResidentTurns.{takes-request}
+use Rattle.cli_shell.specs.ConsoleHandler.ConsoleTurn.{KeysStand}
+use Rattle.cli_shell.proofs.Shown.ConsoleHandler.KeptKeys.{keys-stand}
+use Rattle.cli_shell.specs.ConsoleHandler.FaultReporter.Recorded.{CanRecord, held_with, recorded, sent_where}
+use Rattle.cli_shell.proofs.Shown.ConsoleHandler.FaultReporter.FaultsKept.{recorded-hold, turn-hold}
+use Rattle.cli_shell.specs.ConsoleHandler.FileHandler.FileTurn.{file_service}
+use Rattle.cli_shell.proofs.Shown.ConsoleHandler.FileHandler.EndedRequests.{turn-keeps as stream-stays}
+use Rattle.cli_shell.specs.ConsoleHandler.PipeHandler.PipeTurns.{pipe_service}
+use Rattle.cli_shell.proofs.Shown.ConsoleHandler.PipeHandler.KeptTurns.{turn-kept}
 use Rattle.guest_turns.specs.GuestTurn.{Turned, numbers_of, turn_without_reporter}
 use Rattle.guest_turns.proofs.FaultedTurn.{fault-untouched}
 use Rattle.cli_shell.specs.Modes.{awaited}

@@ -11,7 +11,7 @@ use Rattle.guest_turns.specs.KernelCalls.KernelModel.Lists.{Lists, has_task}
 use Rattle.guest_turns.specs.GuestTurn.{Turned, turn_without_reporter}
 use Rattle.guest_turns.specs.declared.turns.TurnEnd.{TurnEnd}
 use Rattle.guest_turns.specs.declared.turns.TurnEnd.TheVariants.{Faults, Goes, Quits}
-use Rattle.cli_shell.specs.KernelResidents.FaultReporter.Recorded.{recorded, recorded_events}
+use Rattle.cli_shell.specs.ConsoleHandler.FaultReporter.Recorded.{recorded, recorded_events}
 use Rattle.kernel_steps.specs.Stepped.{Stepped, with_store}
 
 -- ---- faults

@@ -5,7 +5,7 @@ use Rattle.guest_turns.specs.KernelCalls.PacketQueue.QueueWords.{QueuedPacket}
 use Rattle.guest_turns.specs.KernelCalls.KernelModel.Image.{image}
 use Rattle.guest_turns.specs.KernelCalls.KernelModel.Kernel.{Kernel}
 use Rattle.guest_turns.specs.KernelCalls.KernelModel.Lists.{Lists}
-use Rattle.kernel_devices.specs.ClockDevice.Tick.{with_tick}
+use Rattle.kernel_devices.specs.Tick.{with_tick}
 use Rattle.guest_turns.specs.Guarded.{is_owned}
 use Rattle.kernel_steps.specs.Step.{with_store}
 

@@ -7,13 +7,13 @@ use Rattle.guest_turns.specs.KernelCalls.KernelModel.Image.{image}
 use Rattle.guest_turns.specs.KernelCalls.KernelModel.Kernel.{Kernel, Pipe}
 use Rattle.guest_turns.specs.KernelCalls.KernelModel.declared.stops.Stop.TheVariants.{Finish}
 use Rattle.guest_turns.specs.KernelCalls.KernelModel.Lists.{Lists}
-use Rattle.cli_shell.specs.KernelResidents.ResidentRequests.Requests.{work}
-use Rattle.cli_shell.specs.KernelResidents.ResidentRequests.Turns.{ResidentTurn}
-use Rattle.cli_shell.specs.KernelResidents.FaultReporter.FaultTurns.{fault_turn}
-use Rattle.cli_shell.specs.KernelResidents.ConsoleHandler.ConsoleTurn.{all_parts, turn_done}
-use Rattle.cli_shell.specs.KernelResidents.ConsoleHandler.Progress.{Progress, begun}
-use Rattle.cli_shell.specs.KernelResidents.FileHandler.FileTurn.{disc_after_turn, file_turn}
-use Rattle.cli_shell.specs.KernelResidents.PipeHandler.PipeTurns.{pipe_turn, pipes_after_turn}
+use Rattle.cli_shell.specs.ConsoleHandler.ResidentRequests.Requests.{work}
+use Rattle.cli_shell.specs.ConsoleHandler.ResidentRequests.Turns.{ResidentTurn}
+use Rattle.cli_shell.specs.ConsoleHandler.FaultReporter.FaultTurns.{fault_turn}
+use Rattle.cli_shell.specs.ConsoleHandler.ConsoleTurn.{all_parts, turn_done}
+use Rattle.cli_shell.specs.ConsoleHandler.Progress.{Progress, begun}
+use Rattle.cli_shell.specs.ConsoleHandler.FileHandler.FileTurn.{disc_after_turn, file_turn}
+use Rattle.cli_shell.specs.ConsoleHandler.PipeHandler.PipeTurns.{pipe_turn, pipes_after_turn}
 use Rattle.cli_shell.specs.Modes.{awaited}
 use Rattle.cli_shell.specs.ShellTurn.{shell_turn}
 use Rattle.cli_shell.specs.TurnParts.{ShellTurn}

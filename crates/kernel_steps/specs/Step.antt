@@ -9,10 +9,10 @@ use Rattle.guest_turns.specs.KernelCalls.KernelModel.Residents.{key_packet, keyb
 use Rattle.guest_turns.specs.KernelCalls.KernelModel.Task.{is_guest_id}
 use Rattle.guest_turns.specs.KernelCalls.KernelDispatch.Dispatch.{Dispatched, dispatched}
 use Rattle.guest_turns.specs.KernelCalls.PacketCalls.Returned.{Served}
-use Rattle.kernel_devices.specs.ClockDevice.Tick.{ticked}
-use Rattle.kernel_devices.specs.TtyDevice.Keys.{left_typed, met}
-use Rattle.kernel_devices.specs.TtyDevice.Printed.{finished, printed}
-use Rattle.kernel_devices.specs.TtyDevice.Typed.{with_typed}
+use Rattle.kernel_devices.specs.Tick.{ticked}
+use Rattle.kernel_devices.specs.Keys.{left_typed, met}
+use Rattle.kernel_devices.specs.Printed.{finished, printed}
+use Rattle.kernel_devices.specs.Typed.{with_typed}
 use Rattle.kernel_steps.specs.GuestSteps.{guest_step}
 use Rattle.kernel_steps.specs.ResidentSteps.{resident_step}
 pub use Rattle.kernel_steps.specs.Stepped.{Stepped, and_then, behind, quietly, where_due, with_store}

@@ -6,5 +6,5 @@ pub use Rattle.kernel_machine.proofs.Shown.CliShell
 pub use Rattle.kernel_machine.proofs.Shown.GuestTurns
 pub use Rattle.kernel_machine.proofs.Shown.KernelBoot
 pub use Rattle.kernel_machine.proofs.Shown.KernelDevices
-pub use Rattle.kernel_machine.proofs.Shown.KernelResidents
+pub use Rattle.kernel_machine.proofs.Shown.ConsoleHandler
 pub use Rattle.kernel_machine.proofs.Shown.ShellPrograms

@@ -9,7 +9,7 @@ use Rattle.ram_disc.specs.Disc.{AreInOrder, Disc, File, IsDisc, Stream, has_file
 use Rattle.ram_disc.specs.DiscCalls.{has_room, with_bytes, with_file}
 use Rattle.ram_disc.proofs.NameOrder.{bytes_eq-other, is_before-back, is_before-differ, is_before-trans}
 use Rattle.tripos_machine.specs.KernelSteps.KernelBoot.BootFiles.{disc_or_code, file_tests, with_new_file}
-use Rattle.tripos_machine.specs.KernelSteps.KernelResidents.KernelCalls.CallAnswers.Refusals.{first_refusal}
+use Rattle.tripos_machine.specs.KernelSteps.ConsoleHandler.KernelCalls.CallAnswers.Refusals.{first_refusal}
 use Rattle.image_text.specs.ImageForm.{AreFiles}
 use Rattle.image_text.specs.declared.images.SavedFile.{SavedFile}
 use Rattle.machine_image.specs.Parts.{file_of}

@@ -6,8 +6,8 @@ use Rattle.std.proofs.lemmas.Bool.{and_from, false_from_ne_true, le-leb, ne_eqb,
 use Rattle.std.proofs.lemmas.Slice.Eq.{bytes_eq-Decides}
 use Rattle.session_text.specs.KernelDispatch.KernelModel.Kernel.{Pipe}
 use Rattle.session_text.specs.KernelDispatch.KernelModel.Pipes.{ArePipes, IsPipe, most_held, most_pipes}
-use Rattle.tripos_machine.specs.KernelSteps.KernelResidents.PipeHandler.Ends.{is_named}
-use Rattle.tripos_machine.specs.KernelSteps.KernelResidents.PipeHandler.PipeCalls.{are_ends, can_restore, pipe_numbered, pipe_with}
+use Rattle.tripos_machine.specs.KernelSteps.ConsoleHandler.PipeHandler.Ends.{is_named}
+use Rattle.tripos_machine.specs.KernelSteps.ConsoleHandler.PipeHandler.PipeCalls.{are_ends, can_restore, pipe_numbered, pipe_with}
 use Rattle.image_text.specs.declared.images.SavedPipe.{SavedPipe}
 use Rattle.machine_image.specs.Parts.{pipe_of, placed_pipes}
 use Rattle.machine_image.proofs.PlacedThings.{AreBelow, Holds, any-where, placed-below, placed-free, placed-more, placed-stays, placed-there}

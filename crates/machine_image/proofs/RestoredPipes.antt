@@ -3,7 +3,7 @@ use Rattle.std.proofs.Common.{◌≡◌, ℕ, ◌+◌, ◌-◌, ◌<◌, ◌≤�
 use Rattle.std.proofs.lemmas.Bool.{and_parts, both_ways, leb-true}
 use Rattle.session_text.specs.KernelDispatch.KernelModel.Kernel.{Pipe}
 use Rattle.session_text.specs.KernelDispatch.KernelModel.Pipes.{ArePipes, most_pipes, no_pipes}
-use Rattle.tripos_machine.specs.KernelSteps.KernelResidents.PipeHandler.PipeCalls.{after_restore, can_restore, pipe_with}
+use Rattle.tripos_machine.specs.KernelSteps.ConsoleHandler.PipeHandler.PipeCalls.{after_restore, can_restore, pipe_with}
 use Rattle.image_text.specs.ImageForm.{ArePipes as AreSavedPipes, flag}
 use Rattle.image_text.specs.Ranges.{is_flag}
 use Rattle.image_text.specs.declared.images.SavedPipe.{SavedPipe}

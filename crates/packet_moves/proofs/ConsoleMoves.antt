@@ -17,12 +17,12 @@ use Rattle.valid_turns.specs.KernelCalls.PacketCalls.Destinations.{queue_for}
 use Rattle.valid_turns.specs.KernelCalls.PacketCalls.PacketMoves.{sent_packet, with_arrived}
 use Rattle.valid_turns.specs.KernelCalls.PacketCalls.QueueWords.{unqueued}
 use Rattle.valid_turns.specs.KernelCalls.PacketCalls.SendOwn.{send_own}
-use Rattle.valid_turns.specs.KernelSteps.KernelResidents.ResidentRequests.Answers.{finished, returned}
-use Rattle.valid_turns.specs.KernelSteps.KernelResidents.ResidentRequests.Requests.{RunsResident, work}
-use Rattle.valid_turns.specs.KernelSteps.KernelResidents.ConsoleHandler.ConsoleTurn.{console_turn, treated, with_keys_sent}
-use Rattle.valid_turns.specs.KernelSteps.KernelResidents.ConsoleHandler.Deliveries.{delivery}
-use Rattle.valid_turns.specs.KernelSteps.KernelResidents.ConsoleHandler.Progress.{Progress, begun}
-use Rattle.valid_turns.specs.KernelSteps.KernelResidents.ConsoleHandler.Reads.{put_off}
+use Rattle.valid_turns.specs.KernelSteps.ConsoleHandler.ResidentRequests.Answers.{finished, returned}
+use Rattle.valid_turns.specs.KernelSteps.ConsoleHandler.ResidentRequests.Requests.{RunsResident, work}
+use Rattle.valid_turns.specs.KernelSteps.ConsoleHandler.ConsoleTurn.{console_turn, treated, with_keys_sent}
+use Rattle.valid_turns.specs.KernelSteps.ConsoleHandler.Deliveries.{delivery}
+use Rattle.valid_turns.specs.KernelSteps.ConsoleHandler.Progress.{Progress, begun}
+use Rattle.valid_turns.specs.KernelSteps.ConsoleHandler.Reads.{put_off}
 use Rattle.valid_turns.proofs.Shown.CliShell.RunningShell.{flags-goes}
 use Rattle.packet_moves.proofs.Ledgers.{ledger-same}
 use Rattle.packet_moves.proofs.Moves.{low-named, move-accepted, moves-same, signed-low}

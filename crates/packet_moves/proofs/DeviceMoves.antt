@@ -16,9 +16,9 @@ use Rattle.valid_turns.specs.KernelCalls.PacketCalls.declared.returns.Device.{De
 use Rattle.valid_turns.specs.KernelCalls.PacketCalls.declared.returns.Device.TheVariants as devices
 use Rattle.valid_turns.proofs.Shown.KernelCalls.PacketCalls.DeviceQueues.{device-place}
 use Rattle.valid_turns.proofs.Shown.KernelCalls.PacketCalls.ReturnedLists.{returned-valid, sender-there}
-use Rattle.valid_turns.specs.KernelSteps.KernelDevices.ClockDevice.Tick.{due_packets, due_returned, events_of_return, later_packets, ticked, with_returned, with_tick}
-use Rattle.valid_turns.specs.KernelSteps.KernelDevices.TtyDevice.Keys.{met}
-use Rattle.valid_turns.specs.KernelSteps.KernelDevices.TtyDevice.Printed.{finished}
+use Rattle.valid_turns.specs.KernelSteps.KernelDevices.Tick.{due_packets, due_returned, events_of_return, later_packets, ticked, with_returned, with_tick}
+use Rattle.valid_turns.specs.KernelSteps.KernelDevices.Keys.{met}
+use Rattle.valid_turns.specs.KernelSteps.KernelDevices.Printed.{finished}
 use Rattle.packet_moves.specs.Queues.{Moves, ledger_of}
 use Rattle.packet_moves.proofs.Ledgers.{IsNamed, number_of}
 use Rattle.packet_moves.proofs.Moves.{low-named, move-accepted, move-none, move-taken, moves-then, nowhere-then, signed-low}

@@ -13,8 +13,8 @@ use Rattle.valid_turns.specs.KernelCalls.KernelModel.Task.{Task}
 use Rattle.valid_turns.specs.KernelCalls.KernelDispatch.Dispatch.{taken_event, packets_taken}
 use Rattle.valid_turns.specs.KernelCalls.PacketCalls.Returned.{first_returned}
 use Rattle.valid_turns.specs.KernelCalls.PacketCalls.declared.returns.Device.TheVariants as devices
-use Rattle.valid_turns.specs.KernelSteps.KernelDevices.ClockDevice.Tick.{due_packets, events_of_return, ticked}
-use Rattle.valid_turns.specs.KernelSteps.KernelDevices.TtyDevice.Keys.{met}
+use Rattle.valid_turns.specs.KernelSteps.KernelDevices.Tick.{due_packets, events_of_return, ticked}
+use Rattle.valid_turns.specs.KernelSteps.KernelDevices.Keys.{met}
 use Rattle.valid_turns.specs.KernelSteps.Step.{Stepped, after_the_turn, and_then, dispatch, key, output, quietly, served, step, tick, turn, unless_stopped, where_due, with_key_typed, with_step}
 use Rattle.valid_turns.proofs.Shown.KernelSteps.DispatchKept.{three-ways}
 use Rattle.event_history.specs.Acceptances.{taken_from}

@@ -16,13 +16,13 @@ use Rattle.valid_turns.specs.KernelCalls.KernelModel.ValidLists.{AreValid}
 use Rattle.valid_turns.specs.KernelCalls.KernelModel.ValidQueues.Place.{Work}
 use Rattle.valid_turns.specs.KernelCalls.KernelModel.declared.numbers.TheConstants.{REPORTER}
 use Rattle.valid_turns.specs.KernelCalls.PacketCalls.PacketMoves.{with_arrived}
-use Rattle.valid_turns.specs.KernelSteps.KernelResidents.ResidentRequests.Answers.{finished}
-use Rattle.valid_turns.specs.KernelSteps.KernelResidents.ResidentRequests.Requests.{RunsResident, work}
-use Rattle.valid_turns.specs.KernelSteps.KernelResidents.ResidentRequests.Turns.{request_turn}
-use Rattle.valid_turns.specs.KernelSteps.KernelResidents.FaultReporter.FaultTurns.{all_reported, fault_turn, fault_turn_from, is_fault_first, packet_taken, reported, reported_turn, unknown}
-use Rattle.valid_turns.specs.KernelSteps.KernelResidents.FaultReporter.Recorded.{events_where, held_with, packet_from, recorded, recorded_events, sent_where, with_fault}
-use Rattle.valid_turns.proofs.Shown.KernelResidents.FaultReporter.HeldGuest.{held-reporter}
-use Rattle.valid_turns.proofs.Shown.KernelResidents.FaultReporter.ReportedTurn.{takes-other}
+use Rattle.valid_turns.specs.KernelSteps.ConsoleHandler.ResidentRequests.Answers.{finished}
+use Rattle.valid_turns.specs.KernelSteps.ConsoleHandler.ResidentRequests.Requests.{RunsResident, work}
+use Rattle.valid_turns.specs.KernelSteps.ConsoleHandler.ResidentRequests.Turns.{request_turn}
+use Rattle.valid_turns.specs.KernelSteps.ConsoleHandler.FaultReporter.FaultTurns.{all_reported, fault_turn, fault_turn_from, is_fault_first, packet_taken, reported, reported_turn, unknown}
+use Rattle.valid_turns.specs.KernelSteps.ConsoleHandler.FaultReporter.Recorded.{events_where, held_with, packet_from, recorded, recorded_events, sent_where, with_fault}
+use Rattle.valid_turns.proofs.Shown.ConsoleHandler.FaultReporter.HeldGuest.{held-reporter}
+use Rattle.valid_turns.proofs.Shown.ConsoleHandler.FaultReporter.ReportedTurn.{takes-other}
 use Rattle.event_history.specs.Ledger.{IsNowhere}
 use Rattle.packet_moves.specs.Queues.{ledger_of}
 use Rattle.packet_moves.proofs.Ledgers.{ledger-same, ledger-task}

@@ -14,10 +14,10 @@ use Rattle.valid_turns.proofs.Shown.KernelCalls.KernelModel.QueuePlaces.{place-s
 use Rattle.valid_turns.specs.KernelCalls.PacketCalls.Destinations.{queue_for}
 use Rattle.valid_turns.specs.KernelCalls.PacketCalls.QueueWords.{unqueued}
 use Rattle.valid_turns.specs.KernelCalls.PacketCalls.TaskWait.{waiting}
-use Rattle.valid_turns.specs.KernelSteps.KernelResidents.ResidentRequests.Answers.{answered, finished, finished_by, returned}
-use Rattle.valid_turns.specs.KernelSteps.KernelResidents.ResidentRequests.Requests.{IsForeign, TakesRequest, first_request, request_at, taken_from, words_taken_from, work}
-use Rattle.valid_turns.specs.KernelSteps.KernelResidents.ResidentRequests.Turns.{ResidentTurn, Served, request_turn, turn_of}
-use Rattle.valid_turns.specs.KernelSteps.KernelResidents.ResidentRequests.declared.requests.Request.{Request}
+use Rattle.valid_turns.specs.KernelSteps.ConsoleHandler.ResidentRequests.Answers.{answered, finished, finished_by, returned}
+use Rattle.valid_turns.specs.KernelSteps.ConsoleHandler.ResidentRequests.Requests.{IsForeign, TakesRequest, first_request, request_at, taken_from, words_taken_from, work}
+use Rattle.valid_turns.specs.KernelSteps.ConsoleHandler.ResidentRequests.Turns.{ResidentTurn, Served, request_turn, turn_of}
+use Rattle.valid_turns.specs.KernelSteps.ConsoleHandler.ResidentRequests.declared.requests.Request.{Request}
 use Rattle.packet_moves.specs.Queues.{ledger_of}
 use Rattle.packet_moves.proofs.Ledgers.{ledger-task}
 use Rattle.packet_moves.proofs.Moves.{low-named, signed-low}

@@ -6,10 +6,10 @@ use Rattle.valid_turns.specs.KernelCalls.PacketQueue.declared.events.KernelEvent
 use Rattle.valid_turns.specs.KernelCalls.KernelModel.HoldsLists.{HoldsLists}
 use Rattle.valid_turns.specs.KernelCalls.KernelModel.Image.{image}
 use Rattle.valid_turns.specs.KernelCalls.KernelModel.Kernel.{Kernel}
-use Rattle.valid_turns.specs.KernelSteps.KernelResidents.ResidentRequests.Requests.{RunsResident, TakesRequest}
-use Rattle.valid_turns.proofs.Shown.KernelResidents.ResidentRequests.ResidentTurns.{takes-request}
-use Rattle.valid_turns.specs.KernelSteps.KernelResidents.FileHandler.FileTurn.{file_service}
-use Rattle.valid_turns.specs.KernelSteps.KernelResidents.PipeHandler.PipeTurns.{pipe_service}
+use Rattle.valid_turns.specs.KernelSteps.ConsoleHandler.ResidentRequests.Requests.{RunsResident, TakesRequest}
+use Rattle.valid_turns.proofs.Shown.ConsoleHandler.ResidentRequests.ResidentTurns.{takes-request}
+use Rattle.valid_turns.specs.KernelSteps.ConsoleHandler.FileHandler.FileTurn.{file_service}
+use Rattle.valid_turns.specs.KernelSteps.ConsoleHandler.PipeHandler.PipeTurns.{pipe_service}
 use Rattle.valid_turns.specs.KernelSteps.CliShell.Modes.{awaited}
 use Rattle.valid_turns.specs.KernelSteps.ResidentSteps.{resident_step}
 use Rattle.valid_turns.specs.KernelSteps.Stepped.{Stepped}

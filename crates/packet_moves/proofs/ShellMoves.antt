@@ -21,8 +21,8 @@ use Rattle.valid_turns.specs.KernelCalls.TaskCalls.SetFlags.{set_flags}
 use Rattle.valid_turns.specs.KernelCalls.PacketCalls.Destinations.{queue_for}
 use Rattle.valid_turns.specs.KernelCalls.PacketCalls.PacketMoves.{sent_packet, with_arrived}
 use Rattle.valid_turns.specs.KernelCalls.PacketCalls.QueueWords.{unqueued}
-use Rattle.valid_turns.specs.KernelSteps.KernelResidents.ResidentRequests.Answers.{finished, returned}
-use Rattle.valid_turns.specs.KernelSteps.KernelResidents.ResidentRequests.Requests.{RunsResident, request_at, work}
+use Rattle.valid_turns.specs.KernelSteps.ConsoleHandler.ResidentRequests.Answers.{finished, returned}
+use Rattle.valid_turns.specs.KernelSteps.ConsoleHandler.ResidentRequests.Requests.{RunsResident, request_at, work}
 use Rattle.valid_turns.specs.KernelSteps.CliShell.ShellPrograms.ClearedTasks.{cleared}
 use Rattle.valid_turns.specs.KernelSteps.CliShell.ShellPrograms.ShellPacket.{HasPacket, post_events, posted, request_words}
 use Rattle.valid_turns.specs.KernelSteps.CliShell.ShellPrograms.StartedProgram.{begun, start_program}

@@ -4,7 +4,7 @@ pub mod EventHistory
 pub use Rattle.valid_turns.proofs.Shown.GuestTurns
 pub use Rattle.valid_turns.proofs.Shown.KernelBoot
 pub use Rattle.valid_turns.proofs.Shown.KernelCalls
-pub use Rattle.valid_turns.proofs.Shown.KernelResidents
+pub use Rattle.valid_turns.proofs.Shown.ConsoleHandler
 pub use Rattle.valid_turns.proofs.Shown.KernelSteps
 pub use Rattle.valid_turns.proofs.Shown.KernelMachine
 pub use Rattle.valid_turns.proofs.Shown.MachineBoot

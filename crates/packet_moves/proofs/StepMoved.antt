@@ -12,8 +12,8 @@ use Rattle.valid_turns.specs.KernelCalls.PacketCalls.Returned.{first_returned, p
 use Rattle.valid_turns.specs.KernelCalls.PacketCalls.declared.returns.Device.{Device}
 use Rattle.valid_turns.specs.KernelCalls.PacketCalls.declared.returns.Device.TheVariants as devices
 use Rattle.valid_turns.proofs.Shown.KernelCalls.PacketCalls.ReturnedLists.{returned-valid}
-use Rattle.valid_turns.specs.KernelSteps.KernelDevices.ClockDevice.Tick.{due_packets, later_packets, ticked, with_returned, with_tick}
-use Rattle.valid_turns.specs.KernelSteps.KernelDevices.TtyDevice.Keys.{met}
+use Rattle.valid_turns.specs.KernelSteps.KernelDevices.Tick.{due_packets, later_packets, ticked, with_returned, with_tick}
+use Rattle.valid_turns.specs.KernelSteps.KernelDevices.Keys.{met}
 use Rattle.valid_turns.specs.KernelSteps.Step.{Stepped, after_the_turn, and_then, devices, dispatch, key, output, quietly, served, step, tick, turn, unless_stopped, where_due, with_key_typed, with_step}
 use Rattle.valid_turns.proofs.Shown.KernelSteps.DevicesKept.{typed-lists}
 use Rattle.packet_moves.specs.Queues.{Moves}

@@ -7,8 +7,8 @@ use Rattle.valid_turns.specs.KernelCalls.KernelModel.HoldsLists.{HoldsLists}
 use Rattle.valid_turns.specs.KernelCalls.KernelModel.Lists.{Lists}
 use Rattle.valid_turns.specs.KernelCalls.KernelModel.Owned.{owned}
 use Rattle.valid_turns.specs.KernelCalls.KernelModel.ValidLists.{AreValid}
-use Rattle.valid_turns.specs.KernelSteps.KernelDevices.ClockDevice.Tick.{with_tick}
-use Rattle.valid_turns.proofs.Shown.KernelDevices.ClockDevice.TickLists.{tick-changed}
+use Rattle.valid_turns.specs.KernelSteps.KernelDevices.Tick.{with_tick}
+use Rattle.valid_turns.proofs.Shown.KernelDevices.TickLists.{tick-changed}
 
 -- a store of their words alone
 abbrev pub store_of : Lists → List ℕ

@@ -14,10 +14,10 @@ use Rattle.valid_turns.proofs.Shown.KernelCalls.KernelModel.QueuePlaces.{place-t
 use Rattle.valid_turns.specs.KernelCalls.PacketCalls.Destinations.{queue_for}
 use Rattle.valid_turns.specs.KernelCalls.PacketCalls.PacketMoves.{sent_packet, with_arrived}
 use Rattle.valid_turns.specs.KernelCalls.PacketCalls.QueueWords.{unqueued}
-use Rattle.valid_turns.specs.KernelSteps.KernelResidents.ResidentRequests.Answers.{answered_packet, returned}
-use Rattle.valid_turns.specs.KernelSteps.KernelResidents.ResidentRequests.Requests.{request_at}
-use Rattle.valid_turns.specs.KernelSteps.KernelResidents.ResidentRequests.declared.requests.Request.{Request}
-use Rattle.valid_turns.specs.KernelSteps.KernelResidents.ConsoleHandler.Reads.{put_off}
+use Rattle.valid_turns.specs.KernelSteps.ConsoleHandler.ResidentRequests.Answers.{answered_packet, returned}
+use Rattle.valid_turns.specs.KernelSteps.ConsoleHandler.ResidentRequests.Requests.{request_at}
+use Rattle.valid_turns.specs.KernelSteps.ConsoleHandler.ResidentRequests.declared.requests.Request.{Request}
+use Rattle.valid_turns.specs.KernelSteps.ConsoleHandler.Reads.{put_off}
 use Rattle.event_history.specs.Ledger.{IsNowhere, clock, same_queue}
 use Rattle.packet_moves.specs.Queues.{Moves, ledger_of}
 use Rattle.packet_moves.specs.SentBy.{AreOfTurn}

@@ -10,12 +10,12 @@ ghost use Rattle.valid_turns.specs.KernelCalls.KernelModel.Kernel.{Console, Kern
 ghost use Rattle.valid_turns.specs.KernelCalls.KernelModel.Lists.{Lists, has_task};
 ghost use Rattle.valid_turns.specs.KernelCalls.KernelModel.ValidLists.{AreValid};
 ghost use Rattle.valid_turns.specs.KernelCalls.KernelModel.declared.numbers.TheConstants.{CONSOLE, REPORTER, SHELL};
-ghost use Rattle.valid_turns.specs.KernelSteps.KernelResidents.ResidentRequests.Requests.{RunsResident, TakesRequest};
-ghost use Rattle.valid_turns.specs.KernelSteps.KernelResidents.ResidentRequests.Turns.{Served, request_turn};
-ghost use Rattle.valid_turns.specs.KernelSteps.KernelResidents.ResidentRequests.declared.requests.Request.{Request};
-ghost use Rattle.valid_turns.specs.KernelSteps.KernelResidents.FaultReporter.FaultTurns.{fault_turn};
-ghost use Rattle.valid_turns.specs.KernelSteps.KernelResidents.FaultReporter.Recorded.{recorded, recorded_events};
-ghost use Rattle.valid_turns.specs.KernelSteps.KernelResidents.ConsoleHandler.ConsoleTurn.{console_turn};
+ghost use Rattle.valid_turns.specs.KernelSteps.ConsoleHandler.ResidentRequests.Requests.{RunsResident, TakesRequest};
+ghost use Rattle.valid_turns.specs.KernelSteps.ConsoleHandler.ResidentRequests.Turns.{Served, request_turn};
+ghost use Rattle.valid_turns.specs.KernelSteps.ConsoleHandler.ResidentRequests.declared.requests.Request.{Request};
+ghost use Rattle.valid_turns.specs.KernelSteps.ConsoleHandler.FaultReporter.FaultTurns.{fault_turn};
+ghost use Rattle.valid_turns.specs.KernelSteps.ConsoleHandler.FaultReporter.Recorded.{recorded, recorded_events};
+ghost use Rattle.valid_turns.specs.KernelSteps.ConsoleHandler.ConsoleTurn.{console_turn};
 ghost use Rattle.valid_turns.specs.KernelSteps.CliShell.ShellTurn.{shell_turn};
 ghost use Rattle.valid_turns.specs.KernelSteps.ResidentSteps.{resident_step};
 ghost use Rattle.packet_moves.specs.Queues.{Moves};

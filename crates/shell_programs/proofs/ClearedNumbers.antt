@@ -1,15 +1,15 @@
 -- Number after number is cleared up.
 use Rattle.std.proofs.Common.{◌≡◌, ℕ, suc, ◌+◌, ◌-◌, ◌<◌, ◌≤◌, List, sym, ap, ◌∙◌, arith}
 use Rattle.std.specs.List.{range_with_len}
-use Rattle.kernel_residents.specs.KernelCalls.TaskBlock.Versions.{highest_id}
-use Rattle.kernel_residents.specs.KernelCalls.KernelModel.HoldsLists.{HoldsLists}
-use Rattle.kernel_residents.specs.KernelCalls.KernelModel.Lists.{Lists}
-use Rattle.kernel_residents.specs.KernelCalls.KernelModel.ValidTasks.{runs}
-use Rattle.kernel_residents.specs.KernelCalls.KernelModel.Versions.{highest_id_of}
-use Rattle.kernel_residents.proofs.Shown.KernelCalls.KernelModel.RootCounts.{highest-low}
-use Rattle.kernel_residents.specs.KernelCalls.KernelModel.Running.{RunsAlive}
-use Rattle.kernel_residents.proofs.Shown.KernelCalls.TaskCalls.ReadNumbers.{highest-read}
-use Rattle.kernel_residents.specs.KernelCalls.KernelModel.Standing.{Standing, standing}
+use Rattle.console_handler.specs.KernelCalls.TaskBlock.Versions.{highest_id}
+use Rattle.console_handler.specs.KernelCalls.KernelModel.HoldsLists.{HoldsLists}
+use Rattle.console_handler.specs.KernelCalls.KernelModel.Lists.{Lists}
+use Rattle.console_handler.specs.KernelCalls.KernelModel.ValidTasks.{runs}
+use Rattle.console_handler.specs.KernelCalls.KernelModel.Versions.{highest_id_of}
+use Rattle.console_handler.proofs.Shown.KernelCalls.KernelModel.RootCounts.{highest-low}
+use Rattle.console_handler.specs.KernelCalls.KernelModel.Running.{RunsAlive}
+use Rattle.console_handler.proofs.Shown.KernelCalls.TaskCalls.ReadNumbers.{highest-read}
+use Rattle.console_handler.specs.KernelCalls.KernelModel.Standing.{Standing, standing}
 use Rattle.shell_programs.specs.ClearedTasks.{cleared, cleared_all, cleared_at}
 use Rattle.shell_programs.specs.Standings.{HasStanding}
 use Rattle.shell_programs.proofs.KeptSteps.{one-cleared}

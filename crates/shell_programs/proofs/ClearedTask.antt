@@ -3,17 +3,17 @@ use Rattle.std.proofs.Common.{◌≡◌, ◌≢◌, ℕ, ◌+◌, ◌≤◌, Lis
 use Rattle.std.specs.Prelude.{find, is_ok}
 use Rattle.std.proofs.lemmas.Bool.{eq-eqb, ne_eqb}
 use Rattle.word_store.specs.Count.{IsApart}
-use Rattle.kernel_residents.specs.KernelCalls.OwnedWords.Owned.{Holds}
-use Rattle.kernel_residents.specs.KernelCalls.KernelModel.ChangedStore.{HasKeeper}
-use Rattle.kernel_residents.specs.KernelCalls.KernelModel.Lists.{Lists, has_task}
-use Rattle.kernel_residents.specs.KernelCalls.KernelModel.Task.{Task, state_words, task_id}
-use Rattle.kernel_residents.specs.KernelCalls.CallAnswers.Guests.{GuestAt, IsGuestOf}
-use Rattle.kernel_residents.specs.KernelCalls.CallAnswers.Made.{IsMade, plain_answer}
-use Rattle.kernel_residents.proofs.Shown.KernelCalls.CallAnswers.FoundTask.{find-numbered}
-use Rattle.kernel_residents.proofs.Shown.KernelCalls.CallAnswers.GuestTask.{guest-words}
-use Rattle.kernel_residents.specs.KernelCalls.ModuleCalls.UnloadModule.{unload_module}
-use Rattle.kernel_residents.specs.KernelCalls.TaskCalls.DeleteTask.{delete_task}
-use Rattle.kernel_residents.specs.KernelCalls.KernelModel.Standing.{Standing, standing}
+use Rattle.console_handler.specs.KernelCalls.OwnedWords.Owned.{Holds}
+use Rattle.console_handler.specs.KernelCalls.KernelModel.ChangedStore.{HasKeeper}
+use Rattle.console_handler.specs.KernelCalls.KernelModel.Lists.{Lists, has_task}
+use Rattle.console_handler.specs.KernelCalls.KernelModel.Task.{Task, state_words, task_id}
+use Rattle.console_handler.specs.KernelCalls.CallAnswers.Guests.{GuestAt, IsGuestOf}
+use Rattle.console_handler.specs.KernelCalls.CallAnswers.Made.{IsMade, plain_answer}
+use Rattle.console_handler.proofs.Shown.KernelCalls.CallAnswers.FoundTask.{find-numbered}
+use Rattle.console_handler.proofs.Shown.KernelCalls.CallAnswers.GuestTask.{guest-words}
+use Rattle.console_handler.specs.KernelCalls.ModuleCalls.UnloadModule.{unload_module}
+use Rattle.console_handler.specs.KernelCalls.TaskCalls.DeleteTask.{delete_task}
+use Rattle.console_handler.specs.KernelCalls.KernelModel.Standing.{Standing, standing}
 use Rattle.kernel_boot.proofs.StartedTasks.{guest-away}
 use Rattle.shell_programs.specs.ClearedTasks.{after_deletion, cleared_at, cleared_task, deleted, first_module_of}
 use Rattle.shell_programs.specs.Standings.{HasStanding, left_by}

@@ -4,27 +4,27 @@ use Rattle.std.proofs.Common.{◌≡◌, ℕ, ◌≤◌, List, [], ◌∷◌, �
 use Rattle.std.specs.List.{AllByRecursion, flat_map, list_any}
 use Rattle.std.proofs.lemmas.Bool.{and_parts, eq-eqb, eqb-true, false≢true, ne_eqb, or_left, or_parts, or_right}
 use Rattle.std.proofs.lemmas.List.Folds.{list_any-append}
-use Rattle.kernel_residents.specs.KernelCalls.LinkedList.Places.{without_first}
-use Rattle.kernel_residents.proofs.Shown.KernelCalls.LinkedList.AllMembers.{all-append}
-use Rattle.kernel_residents.specs.KernelCalls.PacketQueue.QueueWords.{QueuedPacket}
+use Rattle.console_handler.specs.KernelCalls.LinkedList.Places.{without_first}
+use Rattle.console_handler.proofs.Shown.KernelCalls.LinkedList.AllMembers.{all-append}
+use Rattle.console_handler.specs.KernelCalls.PacketQueue.QueueWords.{QueuedPacket}
 use Rattle.ram_disc.specs.Disc.{Disc}
-use Rattle.kernel_residents.specs.KernelCalls.KernelModel.Between.{FaultsStand, Tells, has_unreported, is_unreported}
-use Rattle.kernel_residents.specs.KernelCalls.KernelModel.Changes.{change_of, with_queue, with_tasks, work_of}
-use Rattle.kernel_residents.specs.KernelCalls.KernelModel.Lists.{Lists, has_task}
-use Rattle.kernel_residents.specs.KernelCalls.KernelModel.Residents.{fault_packet}
-use Rattle.kernel_residents.specs.KernelCalls.KernelModel.Task.{Task, is_guest_id}
-use Rattle.kernel_residents.specs.KernelCalls.KernelModel.ValidLists.{AreValid}
-use Rattle.kernel_residents.specs.KernelCalls.KernelModel.ValidQueues.Place.{Work}
-use Rattle.kernel_residents.proofs.Shown.KernelCalls.KernelModel.AllThings.{all-fail}
-use Rattle.kernel_residents.proofs.Shown.FaultReporter.FaultPacket.{free-is}
-use Rattle.kernel_residents.specs.KernelCalls.TaskCalls.DeleteTask.{has_packet_out, resident_packets}
+use Rattle.console_handler.specs.KernelCalls.KernelModel.Between.{FaultsStand, Tells, has_unreported, is_unreported}
+use Rattle.console_handler.specs.KernelCalls.KernelModel.Changes.{change_of, with_queue, with_tasks, work_of}
+use Rattle.console_handler.specs.KernelCalls.KernelModel.Lists.{Lists, has_task}
+use Rattle.console_handler.specs.KernelCalls.KernelModel.Residents.{fault_packet}
+use Rattle.console_handler.specs.KernelCalls.KernelModel.Task.{Task, is_guest_id}
+use Rattle.console_handler.specs.KernelCalls.KernelModel.ValidLists.{AreValid}
+use Rattle.console_handler.specs.KernelCalls.KernelModel.ValidQueues.Place.{Work}
+use Rattle.console_handler.proofs.Shown.KernelCalls.KernelModel.AllThings.{all-fail}
+use Rattle.console_handler.proofs.Shown.FaultReporter.FaultPacket.{free-is}
+use Rattle.console_handler.specs.KernelCalls.TaskCalls.DeleteTask.{has_packet_out, resident_packets}
 use Rattle.kernel_boot.specs.BegunTask.{begun as begun_task}
-use Rattle.kernel_residents.specs.KernelCalls.KernelModel.Standing.{Standing}
-use Rattle.kernel_residents.specs.KernelCalls.KernelModel.declared.numbers.TheConstants.{SHELL_PACKET}
+use Rattle.console_handler.specs.KernelCalls.KernelModel.Standing.{Standing}
+use Rattle.console_handler.specs.KernelCalls.KernelModel.declared.numbers.TheConstants.{SHELL_PACKET}
 use Rattle.shell_programs.specs.ClearedTasks.{cleared}
 use Rattle.shell_programs.specs.StartedProgram.{begun, start_program}
 use Rattle.shell_programs.specs.declared.programs.Priority.{Priority}
-use Rattle.kernel_residents.specs.KernelCalls.PacketCalls.PacketMoves.{sent_packet}
+use Rattle.console_handler.specs.KernelCalls.PacketCalls.PacketMoves.{sent_packet}
 use Rattle.shell_programs.specs.ShellPacket.{posted}
 use Rattle.shell_programs.proofs.SentRules.{posted-is, queue-with}
 use Rattle.shell_programs.proofs.KeptRules.{other-number, other-task}

@@ -3,15 +3,15 @@ use Rattle.std.proofs.Common.{◌≡◌, ℕ, List, ◌++◌, eqb, true, false, 
 use Rattle.std.specs.Prelude.{nat_lt}
 use Rattle.std.specs.List.{AllByRecursion}
 use Rattle.std.proofs.lemmas.Bool.{eqb-true, false≢true, ne_eqb}
-use Rattle.kernel_residents.specs.KernelCalls.LinkedList.Places.{insert_after, without_first}
+use Rattle.console_handler.specs.KernelCalls.LinkedList.Places.{insert_after, without_first}
 use Rattle.ram_disc.specs.Disc.{Disc}
-use Rattle.kernel_residents.specs.KernelCalls.KernelModel.Lists.{Lists, has_task, queued}
-use Rattle.kernel_residents.specs.KernelCalls.KernelModel.Task.{Task, is_guest_id}
-use Rattle.kernel_residents.specs.KernelCalls.KernelModel.ValidTasks.{dead, interrupted, runs}
-use Rattle.kernel_residents.proofs.Shown.KernelCalls.KernelModel.AllThings.{all-inserted}
+use Rattle.console_handler.specs.KernelCalls.KernelModel.Lists.{Lists, has_task, queued}
+use Rattle.console_handler.specs.KernelCalls.KernelModel.Task.{Task, is_guest_id}
+use Rattle.console_handler.specs.KernelCalls.KernelModel.ValidTasks.{dead, interrupted, runs}
+use Rattle.console_handler.proofs.Shown.KernelCalls.KernelModel.AllThings.{all-inserted}
 use Rattle.kernel_boot.specs.BegunTask.{begun as begun_task}
-use Rattle.kernel_residents.specs.KernelCalls.KernelModel.Standing.{Standing}
-use Rattle.kernel_residents.specs.ResidentRequests.Requests.{RunsResident}
+use Rattle.console_handler.specs.KernelCalls.KernelModel.Standing.{Standing}
+use Rattle.console_handler.specs.ResidentRequests.Requests.{RunsResident}
 use Rattle.shell_programs.specs.ClearedTasks.{cleared}
 use Rattle.shell_programs.specs.KeptLists.{KeepsResidents, ResidentAlone}
 use Rattle.shell_programs.specs.StartedProgram.{begun, start_program}

@@ -4,35 +4,35 @@ use Rattle.std.proofs.Common.{◌≡◌, ℕ, zero, suc, ◌+◌, ◌-◌, ◌�
 use Rattle.std.specs.Prelude.{find, is_some, unwrap_or}
 use Rattle.std.specs.List.{list_any, range_with_len}
 use Rattle.std.specs.Option.{option_map}
-use Rattle.kernel_residents.specs.KernelCalls.LinkedList.Places.{without_first}
-use Rattle.kernel_residents.specs.KernelCalls.GetvecChain.declared.pieces.Block.{Block}
-use Rattle.kernel_residents.specs.KernelCalls.HunkLoader.HeldModules.{LoadedModule}
+use Rattle.console_handler.specs.KernelCalls.LinkedList.Places.{without_first}
+use Rattle.console_handler.specs.KernelCalls.GetvecChain.declared.pieces.Block.{Block}
+use Rattle.console_handler.specs.KernelCalls.HunkLoader.HeldModules.{LoadedModule}
 use Rattle.hunk_text.specs.ModuleOfText.{Refusal, module_of}
 use Rattle.hunk_text.specs.declared.modules.Module.{Module}
 use Rattle.ram_disc.specs.Disc.{Disc, file_named}
-use Rattle.kernel_residents.specs.KernelCalls.KernelModel.Changes.{with_new_task, with_tasks}
-use Rattle.kernel_residents.specs.KernelCalls.KernelModel.Lists.{Lists, address_of_task}
-use Rattle.kernel_residents.specs.KernelCalls.KernelModel.Task.{Task, is_guest_id}
-use Rattle.kernel_residents.specs.KernelCalls.KernelModel.ValidTasks.{dead}
-use Rattle.kernel_residents.specs.KernelCalls.KernelModel.Versions.{highest_id_of}
-use Rattle.kernel_residents.specs.KernelCalls.CallAnswers.Guests.{guest_tests}
-use Rattle.kernel_residents.specs.KernelCalls.CallAnswers.Made.{by_refusal, done}
-use Rattle.kernel_residents.specs.KernelCalls.CallAnswers.Refusals.{first_refusal}
-use Rattle.kernel_residents.proofs.Shown.KernelCalls.CallAnswers.Refusals.{high-guest}
-use Rattle.kernel_residents.specs.KernelCalls.ModuleCalls.LoadModule.{load_tests, loaded_at, with_loaded}
-use Rattle.kernel_residents.specs.KernelCalls.ModuleCalls.UnloadModule.{unload_module, unload_tests, without_module}
-use Rattle.kernel_residents.specs.KernelCalls.TaskCalls.ChangePri.{priority_tests}
-use Rattle.kernel_residents.specs.KernelCalls.TaskCalls.CreateTask.{create_task, creation_tests, free_id, has_high_globals, last_word_of, new_task, with_created}
-use Rattle.kernel_residents.specs.KernelCalls.TaskCalls.DeleteTask.{delete_task, deletion_tests, has_no_coroutines, has_no_work, has_packet_out, without_task}
-use Rattle.kernel_residents.proofs.Shown.KernelCalls.TaskCalls.TestsInTurn.{all-passed}
-use Rattle.kernel_residents.specs.KernelCalls.BlockCalls.Freevec.{has_packet_in, with_given}
-use Rattle.kernel_residents.specs.KernelCalls.BlockCalls.FreeStore.{with_taken}
-use Rattle.kernel_residents.specs.KernelCalls.GetvecChain.Give.{given}
-use Rattle.kernel_residents.specs.KernelCalls.HunkLoader.ModuleExchanges.{hunk_words}
-use Rattle.kernel_residents.specs.KernelCalls.BlockCalls.Getvec.{getvec_tests}
-use Rattle.kernel_residents.specs.KernelCalls.CallAnswers.Modules.{has_module}
-use Rattle.kernel_residents.specs.KernelCalls.CallAnswers.Tasks.{is_dead}
-use Rattle.kernel_residents.specs.KernelCalls.KernelModel.Standing.{Standing}
+use Rattle.console_handler.specs.KernelCalls.KernelModel.Changes.{with_new_task, with_tasks}
+use Rattle.console_handler.specs.KernelCalls.KernelModel.Lists.{Lists, address_of_task}
+use Rattle.console_handler.specs.KernelCalls.KernelModel.Task.{Task, is_guest_id}
+use Rattle.console_handler.specs.KernelCalls.KernelModel.ValidTasks.{dead}
+use Rattle.console_handler.specs.KernelCalls.KernelModel.Versions.{highest_id_of}
+use Rattle.console_handler.specs.KernelCalls.CallAnswers.Guests.{guest_tests}
+use Rattle.console_handler.specs.KernelCalls.CallAnswers.Made.{by_refusal, done}
+use Rattle.console_handler.specs.KernelCalls.CallAnswers.Refusals.{first_refusal}
+use Rattle.console_handler.proofs.Shown.KernelCalls.CallAnswers.Refusals.{high-guest}
+use Rattle.console_handler.specs.KernelCalls.ModuleCalls.LoadModule.{load_tests, loaded_at, with_loaded}
+use Rattle.console_handler.specs.KernelCalls.ModuleCalls.UnloadModule.{unload_module, unload_tests, without_module}
+use Rattle.console_handler.specs.KernelCalls.TaskCalls.ChangePri.{priority_tests}
+use Rattle.console_handler.specs.KernelCalls.TaskCalls.CreateTask.{create_task, creation_tests, free_id, has_high_globals, last_word_of, new_task, with_created}
+use Rattle.console_handler.specs.KernelCalls.TaskCalls.DeleteTask.{delete_task, deletion_tests, has_no_coroutines, has_no_work, has_packet_out, without_task}
+use Rattle.console_handler.proofs.Shown.KernelCalls.TaskCalls.TestsInTurn.{all-passed}
+use Rattle.console_handler.specs.KernelCalls.BlockCalls.Freevec.{has_packet_in, with_given}
+use Rattle.console_handler.specs.KernelCalls.BlockCalls.FreeStore.{with_taken}
+use Rattle.console_handler.specs.KernelCalls.GetvecChain.Give.{given}
+use Rattle.console_handler.specs.KernelCalls.HunkLoader.ModuleExchanges.{hunk_words}
+use Rattle.console_handler.specs.KernelCalls.BlockCalls.Getvec.{getvec_tests}
+use Rattle.console_handler.specs.KernelCalls.CallAnswers.Modules.{has_module}
+use Rattle.console_handler.specs.KernelCalls.CallAnswers.Tasks.{is_dead}
+use Rattle.console_handler.specs.KernelCalls.KernelModel.Standing.{Standing}
 use Rattle.kernel_boot.specs.BootTasks.{load_text}
 use Rattle.shell_programs.specs.ClearedTasks.{after_deletion, cleared, cleared_all, cleared_at, cleared_task, deleted, first_module_of}
 use Rattle.shell_programs.specs.Standings.{left_by}

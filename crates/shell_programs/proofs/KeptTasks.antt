@@ -1,9 +1,9 @@
 -- What stays of tasks where one goes out, one comes in, or one changes.
 use Rattle.std.proofs.Common.{◌≡◌, ℕ, List, [], ◌∷◌, ◌++◌, map, cond, eqb, ◌||◌, Bool, true, false, refl, sym, ap}
 use Rattle.std.specs.List.{AllByRecursion, flat_map, list_any}
-use Rattle.kernel_residents.specs.KernelCalls.LinkedList.Places.{insert_after, without_first}
-use Rattle.kernel_residents.specs.KernelCalls.KernelModel.Changes.{change_of, work_of}
-use Rattle.kernel_residents.specs.KernelCalls.KernelModel.Task.{Task}
+use Rattle.console_handler.specs.KernelCalls.LinkedList.Places.{insert_after, without_first}
+use Rattle.console_handler.specs.KernelCalls.KernelModel.Changes.{change_of, work_of}
+use Rattle.console_handler.specs.KernelCalls.KernelModel.Task.{Task}
 
 -- ---- one goes out
 

@@ -1,12 +1,12 @@
 -- What a call leaves of a standing.
 use Rattle.std.proofs.Common.{List, Result, arith, length, subst, sym, ℕ, [], ◌≡◌, ◌≤◌}
-use Rattle.kernel_residents.specs.KernelCalls.KernelModel.ChangedStore.{HasKeeper, IsChanged}
-use Rattle.kernel_residents.specs.KernelCalls.KernelModel.Lists.{Lists}
-use Rattle.kernel_residents.specs.KernelCalls.KernelModel.ValidQueues.{HasGuest}
-use Rattle.kernel_residents.proofs.Shown.KernelCalls.KernelModel.ChangedLists.{knows-same}
-use Rattle.kernel_residents.specs.KernelCalls.CallAnswers.Made.{IsMade, Made}
+use Rattle.console_handler.specs.KernelCalls.KernelModel.ChangedStore.{HasKeeper, IsChanged}
+use Rattle.console_handler.specs.KernelCalls.KernelModel.Lists.{Lists}
+use Rattle.console_handler.specs.KernelCalls.KernelModel.ValidQueues.{HasGuest}
+use Rattle.console_handler.proofs.Shown.KernelCalls.KernelModel.ChangedLists.{knows-same}
+use Rattle.console_handler.specs.KernelCalls.CallAnswers.Made.{IsMade, Made}
 use Rattle.kernel_boot.specs.BegunTask.{with_begun}
-use Rattle.kernel_residents.specs.KernelCalls.KernelModel.Standing.{Standing, standing}
+use Rattle.console_handler.specs.KernelCalls.KernelModel.Standing.{Standing, standing}
 use Rattle.kernel_boot.proofs.BegunTask.{begun-same}
 use Rattle.kernel_boot.proofs.StandingKernels.{keeper-made, left-is}
 use Rattle.shell_programs.specs.Standings.{HasStanding, left_by}

@@ -3,27 +3,27 @@ use Rattle.std.proofs.Common.{◌≡◌, ◌⊎◌, ℕ, ◌+◌, ◌-◌, ◌<�
 use Rattle.std.specs.List.{AllByRecursion, range_with_len}
 use Rattle.std.proofs.lemmas.Bool.{cases_lt}
 use Rattle.word_store.specs.Count.{times}
-use Rattle.kernel_residents.proofs.Shown.KernelCalls.LinkedList.AllMembers.{all-append}
+use Rattle.console_handler.proofs.Shown.KernelCalls.LinkedList.AllMembers.{all-append}
 use Rattle.word_store.proofs.Counts.{range-high, range-low, times-within}
-use Rattle.kernel_residents.specs.KernelCalls.OwnedWords.Owned.{owners}
-use Rattle.kernel_residents.specs.KernelCalls.GetvecChain.declared.pieces.Block.{Block}
-use Rattle.kernel_residents.specs.KernelCalls.GetvecChain.Block.{block_end, used_block}
-use Rattle.kernel_residents.specs.KernelCalls.GetvecChain.Run.{need}
-use Rattle.kernel_residents.specs.KernelCalls.PacketQueue.QueueWords.{QueuedPacket}
-use Rattle.kernel_residents.specs.KernelCalls.KernelModel.Changes.{AreUnowned}
-use Rattle.kernel_residents.specs.KernelCalls.KernelModel.Lists.{Lists, has_task, queued}
-use Rattle.kernel_residents.specs.KernelCalls.KernelModel.Owned.{owned}
-use Rattle.kernel_residents.specs.KernelCalls.KernelModel.Task.{Task}
-use Rattle.kernel_residents.specs.KernelCalls.KernelModel.ValidBlocks.{AreData, last_resident_word}
-use Rattle.kernel_residents.specs.KernelCalls.KernelModel.ValidLists.{AreValid}
-use Rattle.kernel_residents.specs.KernelCalls.KernelModel.ValidQueues.{MayStand}
-use Rattle.kernel_residents.specs.KernelCalls.KernelModel.ValidQueues.Place.{Clock, Keyboard, Output, Pending, Work}
-use Rattle.kernel_residents.proofs.Shown.KernelCalls.KernelModel.DataInside.{HasBlock-data}
-use Rattle.kernel_residents.proofs.Shown.KernelCalls.KernelModel.OwnerCounts.{packets_count}
-use Rattle.kernel_residents.proofs.Shown.KernelCalls.KernelModel.QueuedPackets.{work_packets}
-use Rattle.kernel_residents.proofs.Shown.KernelCalls.KernelModel.TaskPlaces.{last-resident}
-use Rattle.kernel_residents.proofs.Shown.KernelCalls.KernelModel.UsedData.{lodged}
-use Rattle.kernel_residents.specs.KernelCalls.KernelModel.declared.numbers.TheConstants.{SHELL_PACKET}
+use Rattle.console_handler.specs.KernelCalls.OwnedWords.Owned.{owners}
+use Rattle.console_handler.specs.KernelCalls.GetvecChain.declared.pieces.Block.{Block}
+use Rattle.console_handler.specs.KernelCalls.GetvecChain.Block.{block_end, used_block}
+use Rattle.console_handler.specs.KernelCalls.GetvecChain.Run.{need}
+use Rattle.console_handler.specs.KernelCalls.PacketQueue.QueueWords.{QueuedPacket}
+use Rattle.console_handler.specs.KernelCalls.KernelModel.Changes.{AreUnowned}
+use Rattle.console_handler.specs.KernelCalls.KernelModel.Lists.{Lists, has_task, queued}
+use Rattle.console_handler.specs.KernelCalls.KernelModel.Owned.{owned}
+use Rattle.console_handler.specs.KernelCalls.KernelModel.Task.{Task}
+use Rattle.console_handler.specs.KernelCalls.KernelModel.ValidBlocks.{AreData, last_resident_word}
+use Rattle.console_handler.specs.KernelCalls.KernelModel.ValidLists.{AreValid}
+use Rattle.console_handler.specs.KernelCalls.KernelModel.ValidQueues.{MayStand}
+use Rattle.console_handler.specs.KernelCalls.KernelModel.ValidQueues.Place.{Clock, Keyboard, Output, Pending, Work}
+use Rattle.console_handler.proofs.Shown.KernelCalls.KernelModel.DataInside.{HasBlock-data}
+use Rattle.console_handler.proofs.Shown.KernelCalls.KernelModel.OwnerCounts.{packets_count}
+use Rattle.console_handler.proofs.Shown.KernelCalls.KernelModel.QueuedPackets.{work_packets}
+use Rattle.console_handler.proofs.Shown.KernelCalls.KernelModel.TaskPlaces.{last-resident}
+use Rattle.console_handler.proofs.Shown.KernelCalls.KernelModel.UsedData.{lodged}
+use Rattle.console_handler.specs.KernelCalls.KernelModel.declared.numbers.TheConstants.{SHELL_PACKET}
 use Rattle.shell_programs.specs.KeptLists.{KeepsResidents}
 use Rattle.shell_programs.specs.ShellPacket.{HasPacket}
 use Rattle.shell_programs.proofs.PacketWords.{held-by, packet-words, packets-more, row-there, rows-packets}

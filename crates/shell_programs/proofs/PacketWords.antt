@@ -5,38 +5,38 @@ use Rattle.std.specs.List.{AllByRecursion, range_with_len}
 use Rattle.std.proofs.lemmas.Bool.{cases_lt, eqb-true}
 use Rattle.word_store.specs.Count.{hit, times, words_of}
 use Rattle.word_store.proofs.Counts.{hit-other, hit-same, range-high, range-low, times-above, times-below, times-within, times-words_more}
-use Rattle.kernel_residents.specs.KernelCalls.OwnedWords.LinkedWords.{first_of, linked_words}
-use Rattle.kernel_residents.specs.KernelCalls.OwnedWords.Owned.{owners}
-use Rattle.kernel_residents.proofs.Shown.KernelCalls.OwnedWords.OwnedWords.{owners-append}
-use Rattle.kernel_residents.proofs.Shown.KernelCalls.OwnedWords.RowWords.{owners-row}
-use Rattle.kernel_residents.specs.KernelCalls.GetvecChain.declared.pieces.Block.{Block}
-use Rattle.kernel_residents.specs.KernelCalls.GetvecChain.Block.{block_end, has_data, is_used_at, used_block}
-use Rattle.kernel_residents.specs.KernelCalls.GetvecChain.BlockWords.{blocks_words}
-use Rattle.kernel_residents.specs.KernelCalls.GetvecChain.Run.{need}
-use Rattle.kernel_residents.specs.KernelCalls.GetvecChain.Tiling.{Follow, holding}
-use Rattle.kernel_residents.proofs.Shown.KernelCalls.GetvecChain.UsedBlocks.{has_data-true}
-use Rattle.kernel_residents.specs.KernelCalls.HunkLoader.HeldModules.{LoadedModule, module_address, module_words}
-use Rattle.kernel_residents.specs.KernelCalls.PacketQueue.QueueWords.{QueuedPacket, address_of, packet_words}
-use Rattle.kernel_residents.specs.KernelCalls.Coroutines.CoroutineWords.{coroutine_size}
-use Rattle.kernel_residents.specs.KernelCalls.Coroutines.HeldCoroutines.{Coroutine, address_of as coroutine_address}
-use Rattle.kernel_residents.specs.KernelCalls.KernelModel.BlockUse.{coroutine_addresses}
-use Rattle.kernel_residents.specs.KernelCalls.KernelModel.Lists.{Lists, has_task, queued}
-use Rattle.kernel_residents.specs.KernelCalls.KernelModel.Owned.{owned}
-use Rattle.kernel_residents.specs.KernelCalls.KernelModel.Residents.{fault_packet_words, key_words, keyboard, resident_words}
-use Rattle.kernel_residents.specs.KernelCalls.PacketQueue.Queue.{no_queue}
-use Rattle.kernel_residents.specs.KernelCalls.KernelModel.Task.{Task, is_guest_id, task_address, task_words}
-use Rattle.kernel_residents.specs.KernelCalls.KernelModel.ValidBlocks.{HasBlock, last_module_word, last_resident_word}
-use Rattle.kernel_residents.specs.KernelCalls.KernelModel.ValidLists.{AreValid}
-use Rattle.kernel_residents.specs.KernelCalls.KernelModel.ValidTasks.{CoroutinesStand, IsCoroutine, IsTask, resident_place}
-use Rattle.kernel_residents.specs.KernelCalls.KernelModel.Versions.{head_words_of}
-use Rattle.kernel_residents.proofs.Shown.KernelCalls.KernelModel.EachMember.{find-passes}
-use Rattle.kernel_residents.proofs.Shown.KernelCalls.KernelModel.FollowedBlocks.{IsWithin, found-holding, found-within}
-use Rattle.kernel_residents.proofs.Shown.KernelCalls.KernelModel.OwnerCounts.{owners-residents, packets_count}
-use Rattle.kernel_residents.proofs.Shown.KernelCalls.KernelModel.QueueCounts.{owners-packet}
-use Rattle.kernel_residents.proofs.Shown.KernelCalls.KernelModel.QueuedPackets.{work_packets}
-use Rattle.kernel_residents.proofs.Shown.KernelCalls.KernelModel.RootCounts.{head-low, owners-nodes}
-use Rattle.kernel_residents.proofs.Shown.KernelCalls.KernelModel.TaskCounts.{further_count, owners-task_by}
-use Rattle.kernel_residents.proofs.Shown.KernelCalls.KernelModel.TaskPlaces.{last-resident}
+use Rattle.console_handler.specs.KernelCalls.OwnedWords.LinkedWords.{first_of, linked_words}
+use Rattle.console_handler.specs.KernelCalls.OwnedWords.Owned.{owners}
+use Rattle.console_handler.proofs.Shown.KernelCalls.OwnedWords.OwnedWords.{owners-append}
+use Rattle.console_handler.proofs.Shown.KernelCalls.OwnedWords.RowWords.{owners-row}
+use Rattle.console_handler.specs.KernelCalls.GetvecChain.declared.pieces.Block.{Block}
+use Rattle.console_handler.specs.KernelCalls.GetvecChain.Block.{block_end, has_data, is_used_at, used_block}
+use Rattle.console_handler.specs.KernelCalls.GetvecChain.BlockWords.{blocks_words}
+use Rattle.console_handler.specs.KernelCalls.GetvecChain.Run.{need}
+use Rattle.console_handler.specs.KernelCalls.GetvecChain.Tiling.{Follow, holding}
+use Rattle.console_handler.proofs.Shown.KernelCalls.GetvecChain.UsedBlocks.{has_data-true}
+use Rattle.console_handler.specs.KernelCalls.HunkLoader.HeldModules.{LoadedModule, module_address, module_words}
+use Rattle.console_handler.specs.KernelCalls.PacketQueue.QueueWords.{QueuedPacket, address_of, packet_words}
+use Rattle.console_handler.specs.KernelCalls.Coroutines.CoroutineWords.{coroutine_size}
+use Rattle.console_handler.specs.KernelCalls.Coroutines.HeldCoroutines.{Coroutine, address_of as coroutine_address}
+use Rattle.console_handler.specs.KernelCalls.KernelModel.BlockUse.{coroutine_addresses}
+use Rattle.console_handler.specs.KernelCalls.KernelModel.Lists.{Lists, has_task, queued}
+use Rattle.console_handler.specs.KernelCalls.KernelModel.Owned.{owned}
+use Rattle.console_handler.specs.KernelCalls.KernelModel.Residents.{fault_packet_words, key_words, keyboard, resident_words}
+use Rattle.console_handler.specs.KernelCalls.PacketQueue.Queue.{no_queue}
+use Rattle.console_handler.specs.KernelCalls.KernelModel.Task.{Task, is_guest_id, task_address, task_words}
+use Rattle.console_handler.specs.KernelCalls.KernelModel.ValidBlocks.{HasBlock, last_module_word, last_resident_word}
+use Rattle.console_handler.specs.KernelCalls.KernelModel.ValidLists.{AreValid}
+use Rattle.console_handler.specs.KernelCalls.KernelModel.ValidTasks.{CoroutinesStand, IsCoroutine, IsTask, resident_place}
+use Rattle.console_handler.specs.KernelCalls.KernelModel.Versions.{head_words_of}
+use Rattle.console_handler.proofs.Shown.KernelCalls.KernelModel.EachMember.{find-passes}
+use Rattle.console_handler.proofs.Shown.KernelCalls.KernelModel.FollowedBlocks.{IsWithin, found-holding, found-within}
+use Rattle.console_handler.proofs.Shown.KernelCalls.KernelModel.OwnerCounts.{owners-residents, packets_count}
+use Rattle.console_handler.proofs.Shown.KernelCalls.KernelModel.QueueCounts.{owners-packet}
+use Rattle.console_handler.proofs.Shown.KernelCalls.KernelModel.QueuedPackets.{work_packets}
+use Rattle.console_handler.proofs.Shown.KernelCalls.KernelModel.RootCounts.{head-low, owners-nodes}
+use Rattle.console_handler.proofs.Shown.KernelCalls.KernelModel.TaskCounts.{further_count, owners-task_by}
+use Rattle.console_handler.proofs.Shown.KernelCalls.KernelModel.TaskPlaces.{last-resident}
 
 -- ---- blocks
 

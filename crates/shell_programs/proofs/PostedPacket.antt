@@ -5,24 +5,24 @@ use Rattle.std.proofs.lemmas.Bool.{lt-ltb}
 use Rattle.word_store.specs.Arithmetic.{signed, word_of}
 use Rattle.word_store.specs.Count.{times}
 use Rattle.word_store.proofs.Counts.{hit-same, range-high, range-low}
-use Rattle.kernel_residents.specs.KernelCalls.OwnedWords.Owned.{Pairs, owners, written}
-use Rattle.kernel_residents.proofs.Shown.KernelCalls.OwnedWords.OwnedWords.{length-written}
-use Rattle.kernel_residents.proofs.Shown.KernelCalls.OwnedWords.RowWords.{owners-row}
-use Rattle.kernel_residents.specs.KernelCalls.PacketQueue.declared.events.KernelEvent.{KernelEvent}
-use Rattle.kernel_residents.specs.KernelCalls.KernelModel.ChangedStore.{HasKeeper}
-use Rattle.kernel_residents.specs.KernelCalls.KernelModel.HoldsLists.{HoldsLists}
-use Rattle.kernel_residents.specs.KernelCalls.KernelModel.Lists.{Lists, has_task}
-use Rattle.kernel_residents.specs.KernelCalls.KernelModel.NotedEvents.{NotesAll}
-use Rattle.kernel_residents.specs.KernelCalls.KernelModel.Owned.{owned}
-use Rattle.kernel_residents.specs.KernelCalls.KernelModel.ValidLists.{AreValid}
-use Rattle.kernel_residents.proofs.Shown.KernelCalls.KernelModel.AllThings.{all-here}
-use Rattle.kernel_residents.proofs.Shown.KernelCalls.KernelModel.RootCounts.{highest-high}
-use Rattle.kernel_residents.proofs.Shown.KernelCalls.KernelModel.TaskPlaces.{TaskPlace, task-places}
-use Rattle.kernel_residents.specs.KernelCalls.CallAnswers.Made.{IsMade, minus_one}
-use Rattle.kernel_residents.proofs.Shown.KernelCalls.CallAnswers.RunningTask.{there-at}
-use Rattle.kernel_residents.specs.KernelCalls.PacketCalls.SendOwn.{CanSendOwn, send_own}
-use Rattle.kernel_residents.proofs.Shown.KernelCalls.TaskCalls.PlainRows.{plain-set}
-use Rattle.kernel_residents.specs.KernelCalls.KernelModel.Standing.{standing}
+use Rattle.console_handler.specs.KernelCalls.OwnedWords.Owned.{Pairs, owners, written}
+use Rattle.console_handler.proofs.Shown.KernelCalls.OwnedWords.OwnedWords.{length-written}
+use Rattle.console_handler.proofs.Shown.KernelCalls.OwnedWords.RowWords.{owners-row}
+use Rattle.console_handler.specs.KernelCalls.PacketQueue.declared.events.KernelEvent.{KernelEvent}
+use Rattle.console_handler.specs.KernelCalls.KernelModel.ChangedStore.{HasKeeper}
+use Rattle.console_handler.specs.KernelCalls.KernelModel.HoldsLists.{HoldsLists}
+use Rattle.console_handler.specs.KernelCalls.KernelModel.Lists.{Lists, has_task}
+use Rattle.console_handler.specs.KernelCalls.KernelModel.NotedEvents.{NotesAll}
+use Rattle.console_handler.specs.KernelCalls.KernelModel.Owned.{owned}
+use Rattle.console_handler.specs.KernelCalls.KernelModel.ValidLists.{AreValid}
+use Rattle.console_handler.proofs.Shown.KernelCalls.KernelModel.AllThings.{all-here}
+use Rattle.console_handler.proofs.Shown.KernelCalls.KernelModel.RootCounts.{highest-high}
+use Rattle.console_handler.proofs.Shown.KernelCalls.KernelModel.TaskPlaces.{TaskPlace, task-places}
+use Rattle.console_handler.specs.KernelCalls.CallAnswers.Made.{IsMade, minus_one}
+use Rattle.console_handler.proofs.Shown.KernelCalls.CallAnswers.RunningTask.{there-at}
+use Rattle.console_handler.specs.KernelCalls.PacketCalls.SendOwn.{CanSendOwn, send_own}
+use Rattle.console_handler.proofs.Shown.KernelCalls.TaskCalls.PlainRows.{plain-set}
+use Rattle.console_handler.specs.KernelCalls.KernelModel.Standing.{standing}
 use Rattle.shell_programs.specs.ShellPacket.{CanPost, post_events, posted, request_words}
 use Rattle.shell_programs.specs.Standings.{HasStanding}
 use Rattle.shell_programs.proofs.MadeStandings.{made-standing}

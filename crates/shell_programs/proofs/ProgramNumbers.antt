@@ -2,14 +2,14 @@
 use Rattle.std.proofs.Common.{◌≡◌, ℕ, zero, suc, ◌+◌, ◌-◌, ◌<◌, ◌≤◌, List, [], ◌∷◌, cond, eqb, not, Bool, true, false, Option, Some, None, inl, refl, ◌∙◌, arith}
 use Rattle.std.specs.Prelude.{find, unwrap_or}
 use Rattle.std.specs.List.{range_with_len}
-use Rattle.kernel_residents.specs.KernelCalls.TaskBlock.TaskChain.{lowest_free_id}
-use Rattle.kernel_residents.specs.KernelCalls.TaskBlock.Versions.{highest_id}
-use Rattle.kernel_residents.specs.KernelCalls.KernelModel.HoldsLists.{HoldsLists}
-use Rattle.kernel_residents.specs.KernelCalls.KernelModel.Lists.{Lists, has_task}
-use Rattle.kernel_residents.specs.KernelCalls.KernelModel.Versions.{highest_id_of}
-use Rattle.kernel_residents.proofs.Shown.KernelCalls.KernelModel.RootCounts.{highest-high, highest-low}
-use Rattle.kernel_residents.specs.KernelCalls.TaskCalls.CreateTask.{MayCreate, free_id}
-use Rattle.kernel_residents.proofs.Shown.KernelCalls.TaskCalls.ReadNumbers.{free-read, highest-read}
+use Rattle.console_handler.specs.KernelCalls.TaskBlock.TaskChain.{lowest_free_id}
+use Rattle.console_handler.specs.KernelCalls.TaskBlock.Versions.{highest_id}
+use Rattle.console_handler.specs.KernelCalls.KernelModel.HoldsLists.{HoldsLists}
+use Rattle.console_handler.specs.KernelCalls.KernelModel.Lists.{Lists, has_task}
+use Rattle.console_handler.specs.KernelCalls.KernelModel.Versions.{highest_id_of}
+use Rattle.console_handler.proofs.Shown.KernelCalls.KernelModel.RootCounts.{highest-high, highest-low}
+use Rattle.console_handler.specs.KernelCalls.TaskCalls.CreateTask.{MayCreate, free_id}
+use Rattle.console_handler.proofs.Shown.KernelCalls.TaskCalls.ReadNumbers.{free-read, highest-read}
 use Rattle.shell_programs.specs.StartedProgram.{next_number}
 
 -- a number that is found in a range lies in it

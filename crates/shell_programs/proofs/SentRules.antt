@@ -1,16 +1,16 @@
 -- The rules that stay where the shell's packet is sent.
 use Rattle.std.proofs.Common.{◌≡◌, ℕ, ◌≤◌, List, cond, None, sym, ap, subst, arith}
 use Rattle.std.proofs.lemmas.Bool.{ne_eqb}
-use Rattle.kernel_residents.specs.KernelCalls.PacketQueue.QueueWords.{QueuedPacket}
-use Rattle.kernel_residents.specs.KernelCalls.KernelModel.Changes.{queue_of, with_key, with_queue}
-use Rattle.kernel_residents.specs.KernelCalls.KernelModel.Residents.{keyboard}
-use Rattle.kernel_residents.specs.KernelCalls.KernelModel.ValidQueues.Place.{Keyboard, Work}
-use Rattle.kernel_residents.specs.KernelCalls.KernelModel.ValidTasks.{runs}
-use Rattle.kernel_residents.specs.KernelCalls.PacketCalls.PacketMoves.{arrived, sent_packet, with_arrived}
-use Rattle.kernel_residents.specs.KernelCalls.KernelModel.Standing.{Standing}
-use Rattle.kernel_residents.specs.ResidentRequests.Requests.{RunsResident}
-use Rattle.kernel_residents.proofs.Shown.ResidentRequests.RunningResident.{runs-work}
-use Rattle.kernel_residents.specs.KernelCalls.KernelModel.declared.numbers.TheConstants.{SHELL_PACKET}
+use Rattle.console_handler.specs.KernelCalls.PacketQueue.QueueWords.{QueuedPacket}
+use Rattle.console_handler.specs.KernelCalls.KernelModel.Changes.{queue_of, with_key, with_queue}
+use Rattle.console_handler.specs.KernelCalls.KernelModel.Residents.{keyboard}
+use Rattle.console_handler.specs.KernelCalls.KernelModel.ValidQueues.Place.{Keyboard, Work}
+use Rattle.console_handler.specs.KernelCalls.KernelModel.ValidTasks.{runs}
+use Rattle.console_handler.specs.KernelCalls.PacketCalls.PacketMoves.{arrived, sent_packet, with_arrived}
+use Rattle.console_handler.specs.KernelCalls.KernelModel.Standing.{Standing}
+use Rattle.console_handler.specs.ResidentRequests.Requests.{RunsResident}
+use Rattle.console_handler.proofs.Shown.ResidentRequests.RunningResident.{runs-work}
+use Rattle.console_handler.specs.KernelCalls.KernelModel.declared.numbers.TheConstants.{SHELL_PACKET}
 use Rattle.shell_programs.specs.KeptLists.{ResidentAlone}
 use Rattle.shell_programs.specs.ShellPacket.{posted}
 use Rattle.shell_programs.proofs.KeptTasks.{all-changed}

@@ -1,4 +1,4 @@
 -- Lemmas of lower crates, shown to the crates above.
-pub mod KernelResidents
+pub mod ConsoleHandler
 pub mod KernelBoot
-pub use Rattle.kernel_residents.proofs.Shown.KernelCalls
+pub use Rattle.console_handler.proofs.Shown.KernelCalls

@@ -5,13 +5,13 @@ use Rattle.hunk_text.specs.ModuleForm.{IsModule}
 use Rattle.hunk_text.specs.Shapes.{check_of}
 use Rattle.hunk_text.specs.declared.modules.Module.{Module}
 use Rattle.ram_disc.specs.Disc.{Disc}
-use Rattle.kernel_residents.specs.KernelCalls.KernelModel.ChangedStore.{HasKeeper}
-use Rattle.kernel_residents.specs.KernelCalls.KernelModel.Lists.{Lists}
-use Rattle.kernel_residents.specs.KernelCalls.CallAnswers.Made.{IsMade, Made, refused}
-use Rattle.kernel_residents.specs.KernelCalls.ModuleCalls.LoadModule.{load_module}
-use Rattle.kernel_residents.specs.KernelCalls.ModuleCalls.UnloadModule.{unload_module}
-use Rattle.kernel_residents.specs.KernelCalls.TaskCalls.CreateTask.{create_task}
-use Rattle.kernel_residents.specs.KernelCalls.KernelModel.Standing.{Standing, standing}
+use Rattle.console_handler.specs.KernelCalls.KernelModel.ChangedStore.{HasKeeper}
+use Rattle.console_handler.specs.KernelCalls.KernelModel.Lists.{Lists}
+use Rattle.console_handler.specs.KernelCalls.CallAnswers.Made.{IsMade, Made, refused}
+use Rattle.console_handler.specs.KernelCalls.ModuleCalls.LoadModule.{load_module}
+use Rattle.console_handler.specs.KernelCalls.ModuleCalls.UnloadModule.{unload_module}
+use Rattle.console_handler.specs.KernelCalls.TaskCalls.CreateTask.{create_task}
+use Rattle.console_handler.specs.KernelCalls.KernelModel.Standing.{Standing, standing}
 use Rattle.kernel_boot.proofs.StandingKernels.{left-is, text-made}
 use Rattle.shell_programs.specs.Standings.{HasStanding, left_by}
 use Rattle.shell_programs.specs.StartedProgram.{IsStarted, after_creation, after_loading, create_program, creation, load_found, load_program, priority_of, start_program}

@@ -1,13 +1,13 @@
 -- The shell clears up: the tasks that it has made are deleted once they are dead, and their modules go out.
 use Rattle.std.specs.Prelude.{ℕ, ◌-◌, ◌==◌, if◌then◌else◌, Option, Some, None, Result, Ok, Err, List, [], ◌∷◌, find}
 use Rattle.std.specs.List.{range_with_len}
-use Rattle.kernel_residents.specs.KernelCalls.OwnedWords.LinkedWords.{first_of}
-use Rattle.kernel_residents.specs.KernelCalls.KernelModel.Task.{Task}
-use Rattle.kernel_residents.specs.KernelCalls.KernelModel.Versions.{highest_id_of}
-use Rattle.kernel_residents.specs.KernelCalls.ModuleCalls.UnloadModule.{unload_module}
-use Rattle.kernel_residents.specs.KernelCalls.TaskCalls.DeleteTask.{delete_task}
-use Rattle.kernel_residents.specs.KernelCalls.KernelModel.Standing.{Standing}
-use Rattle.kernel_residents.specs.KernelCalls.KernelModel.declared.numbers.TheConstants.{SHELL}
+use Rattle.console_handler.specs.KernelCalls.OwnedWords.LinkedWords.{first_of}
+use Rattle.console_handler.specs.KernelCalls.KernelModel.Task.{Task}
+use Rattle.console_handler.specs.KernelCalls.KernelModel.Versions.{highest_id_of}
+use Rattle.console_handler.specs.KernelCalls.ModuleCalls.UnloadModule.{unload_module}
+use Rattle.console_handler.specs.KernelCalls.TaskCalls.DeleteTask.{delete_task}
+use Rattle.console_handler.specs.KernelCalls.KernelModel.Standing.{Standing}
+use Rattle.console_handler.specs.KernelCalls.KernelModel.declared.numbers.TheConstants.{SHELL}
 use Rattle.shell_programs.specs.Standings.{left_by}
 
 -- the first of a task's modules; a resident has none

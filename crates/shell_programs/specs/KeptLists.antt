@@ -1,10 +1,10 @@
 -- What stays where the shell clears up or starts a program.
 use Rattle.std.specs.Prelude.{◌≡◌, ℕ, ◌≤◌, true, false}
-use Rattle.kernel_residents.specs.KernelCalls.KernelModel.Changes.{work_of}
-use Rattle.kernel_residents.specs.KernelCalls.KernelModel.Lists.{Lists, has_task}
-use Rattle.kernel_residents.specs.KernelCalls.KernelModel.Running.{RunsAlone}
-use Rattle.kernel_residents.specs.KernelCalls.KernelModel.Task.{is_guest_id}
-use Rattle.kernel_residents.specs.KernelCalls.KernelModel.Versions.{highest_id_of}
+use Rattle.console_handler.specs.KernelCalls.KernelModel.Changes.{work_of}
+use Rattle.console_handler.specs.KernelCalls.KernelModel.Lists.{Lists, has_task}
+use Rattle.console_handler.specs.KernelCalls.KernelModel.Running.{RunsAlone}
+use Rattle.console_handler.specs.KernelCalls.KernelModel.Task.{is_guest_id}
+use Rattle.console_handler.specs.KernelCalls.KernelModel.Versions.{highest_id_of}
 
 -- All but the blocks, the modules and the tasks; and of the tasks the residents with their queues.
 pub record KeepsResidents (l m : Lists) : Type 0 where

@@ -1,14 +1,14 @@
 -- The shell's packet, which lies in the resident block.
 use Rattle.std.specs.Prelude.{◌≡◌, ℕ, ◌+◌, true, List, [], ◌∷◌}
 use Rattle.word_store.specs.Arithmetic.{signed}
-use Rattle.kernel_residents.specs.KernelCalls.OwnedWords.Owned.{Pairs, row_from, written}
-use Rattle.kernel_residents.specs.KernelCalls.PacketQueue.declared.events.KernelEvent.{KernelEvent}
-use Rattle.kernel_residents.specs.KernelCalls.PacketQueue.declared.events.KernelEvent.TheVariants.{Accepted}
-use Rattle.kernel_residents.specs.KernelCalls.KernelModel.Changes.{AreUnowned}
-use Rattle.kernel_residents.specs.KernelCalls.KernelModel.Lists.{Lists, has_task}
-use Rattle.kernel_residents.specs.KernelCalls.PacketCalls.SendOwn.{send_own}
-use Rattle.kernel_residents.specs.KernelCalls.KernelModel.Standing.{Standing, standing}
-use Rattle.kernel_residents.specs.KernelCalls.KernelModel.declared.numbers.TheConstants.{SHELL, SHELL_PACKET}
+use Rattle.console_handler.specs.KernelCalls.OwnedWords.Owned.{Pairs, row_from, written}
+use Rattle.console_handler.specs.KernelCalls.PacketQueue.declared.events.KernelEvent.{KernelEvent}
+use Rattle.console_handler.specs.KernelCalls.PacketQueue.declared.events.KernelEvent.TheVariants.{Accepted}
+use Rattle.console_handler.specs.KernelCalls.KernelModel.Changes.{AreUnowned}
+use Rattle.console_handler.specs.KernelCalls.KernelModel.Lists.{Lists, has_task}
+use Rattle.console_handler.specs.KernelCalls.PacketCalls.SendOwn.{send_own}
+use Rattle.console_handler.specs.KernelCalls.KernelModel.Standing.{Standing, standing}
+use Rattle.console_handler.specs.KernelCalls.KernelModel.declared.numbers.TheConstants.{SHELL, SHELL_PACKET}
 use Rattle.shell_programs.specs.Standings.{left_by}
 
 -- it is on no queue: nobody owns its first five words

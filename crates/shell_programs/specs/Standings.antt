@@ -1,8 +1,8 @@
 -- A store and its lists once calls were made.
 use Rattle.std.specs.Prelude.{◌≡◌, ℕ, List}
-use Rattle.kernel_residents.specs.KernelCalls.KernelModel.ChangedStore.{HasKeeper}
-use Rattle.kernel_residents.specs.KernelCalls.CallAnswers.Made.{Made}
-use Rattle.kernel_residents.specs.KernelCalls.KernelModel.Standing.{Standing, left_with}
+use Rattle.console_handler.specs.KernelCalls.KernelModel.ChangedStore.{HasKeeper}
+use Rattle.console_handler.specs.KernelCalls.CallAnswers.Made.{Made}
+use Rattle.console_handler.specs.KernelCalls.KernelModel.Standing.{Standing, left_with}
 
 -- what a call leaves of a store with these words, whether it is accepted or refused
 abbrev pub left_by : List ℕ → Made → Standing

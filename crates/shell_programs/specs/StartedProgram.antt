@@ -3,14 +3,14 @@ use Rattle.std.specs.Prelude.{◌≡◌, ℕ, ◌+◌, Option, Some, None, Resul
 use Rattle.std.specs.Option.{option_map}
 use Rattle.hunk_text.specs.ModuleOfText.{module_of}
 use Rattle.ram_disc.specs.Disc.{Disc, file_named}
-use Rattle.kernel_residents.specs.KernelCalls.KernelModel.Lists.{Lists}
-use Rattle.kernel_residents.specs.KernelCalls.KernelModel.Versions.{highest_id_of}
-use Rattle.kernel_residents.specs.KernelCalls.CallAnswers.Made.{Made, refused}
-use Rattle.kernel_residents.specs.KernelCalls.TaskCalls.CreateTask.{create_task, free_id}
+use Rattle.console_handler.specs.KernelCalls.KernelModel.Lists.{Lists}
+use Rattle.console_handler.specs.KernelCalls.KernelModel.Versions.{highest_id_of}
+use Rattle.console_handler.specs.KernelCalls.CallAnswers.Made.{Made, refused}
+use Rattle.console_handler.specs.KernelCalls.TaskCalls.CreateTask.{create_task, free_id}
 use Rattle.kernel_boot.specs.BegunTask.{with_begun}
-use Rattle.kernel_residents.specs.KernelCalls.KernelModel.Standing.{Standing, left_with}
+use Rattle.console_handler.specs.KernelCalls.KernelModel.Standing.{Standing, left_with}
 use Rattle.kernel_boot.specs.BootTasks.{load_text}
-use Rattle.kernel_residents.specs.KernelCalls.KernelModel.declared.numbers.TheConstants.{SHELL}
+use Rattle.console_handler.specs.KernelCalls.KernelModel.declared.numbers.TheConstants.{SHELL}
 use Rattle.ram_disc.specs.declared.codes.TheConstants.{NO_FILE}
 use Rattle.shell_programs.specs.ClearedTasks.{unloaded}
 use Rattle.shell_programs.specs.Standings.{HasStanding, left_by}

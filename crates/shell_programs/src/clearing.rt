@@ -1,16 +1,14 @@
 // The shell clears up.
 ghost use Rattle.std.specs.Prelude.{◌≡◌, ◌≤◌};
-ghost use Rattle.kernel_residents.specs.KernelCalls.KernelModel.ChangedStore.{HasKeeper};
-ghost use Rattle.kernel_residents.specs.KernelCalls.KernelModel.Lists.{Lists};
-ghost use Rattle.kernel_residents.specs.KernelCalls.KernelModel.Standing.{standing};
+ghost use Rattle.console_handler.specs.KernelCalls.KernelModel.ChangedStore.{HasKeeper};
+ghost use Rattle.console_handler.specs.KernelCalls.KernelModel.Lists.{Lists};
+ghost use Rattle.console_handler.specs.KernelCalls.KernelModel.Standing.{standing};
 ghost use Rattle.shell_programs.specs.ClearedTasks.{cleared, cleared_at};
 ghost use Rattle.shell_programs.specs.Standings.{HasStanding};
-ghost use Rattle.kernel_residents.specs.KernelCalls.KernelModel.Running.{RunsAlive};
+ghost use Rattle.console_handler.specs.KernelCalls.KernelModel.Running.{RunsAlive};
 
-use kernel_residents::numbers::{FIRST_GUEST, SHELL};
-use kernel_residents::{
-    KindKeeper, TcbField, delete_task, field, guest, highest_id, unload_module,
-};
+use console_handler::numbers::{FIRST_GUEST, SHELL};
+use console_handler::{KindKeeper, TcbField, delete_task, field, guest, highest_id, unload_module};
 use word_store::Store;
 
 /// Deletes the dead tasks that the shell has made, in rising id, and unloads of each the first module. What the calls refuse stays,

@@ -1,17 +1,17 @@
 // What clearing up, starting a program and sending the packet keep.
 ghost use Rattle.std.specs.Prelude.{◌≡◌, ◌≤◌, ◌+◌, ℕ, List, Ok, Result, true};
-ghost use Rattle.kernel_residents.specs.KernelCalls.PacketQueue.QueueWords.{QueuedPacket};
+ghost use Rattle.console_handler.specs.KernelCalls.PacketQueue.QueueWords.{QueuedPacket};
 ghost use Rattle.ram_disc.specs.Disc.{Disc};
-ghost use Rattle.kernel_residents.specs.KernelCalls.KernelModel.Between.{FaultsStand};
-ghost use Rattle.kernel_residents.specs.KernelCalls.KernelModel.Changes.{AreUnowned, with_queue};
-ghost use Rattle.kernel_residents.specs.KernelCalls.KernelModel.Lists.{Lists, queued};
-ghost use Rattle.kernel_residents.specs.KernelCalls.KernelModel.ValidBlocks.{AreData};
-ghost use Rattle.kernel_residents.specs.KernelCalls.KernelModel.Task.{is_guest_id};
-ghost use Rattle.kernel_residents.specs.KernelCalls.KernelModel.ValidLists.{AreValid};
-ghost use Rattle.kernel_residents.specs.KernelCalls.KernelModel.ValidQueues.Place.{Work};
-ghost use Rattle.kernel_residents.specs.KernelCalls.KernelModel.Standing.{Standing};
-ghost use Rattle.kernel_residents.specs.ResidentRequests.Requests.{RunsResident};
-ghost use Rattle.kernel_residents.specs.KernelCalls.KernelModel.declared.numbers.TheConstants.{SHELL_PACKET};
+ghost use Rattle.console_handler.specs.KernelCalls.KernelModel.Between.{FaultsStand};
+ghost use Rattle.console_handler.specs.KernelCalls.KernelModel.Changes.{AreUnowned, with_queue};
+ghost use Rattle.console_handler.specs.KernelCalls.KernelModel.Lists.{Lists, queued};
+ghost use Rattle.console_handler.specs.KernelCalls.KernelModel.ValidBlocks.{AreData};
+ghost use Rattle.console_handler.specs.KernelCalls.KernelModel.Task.{is_guest_id};
+ghost use Rattle.console_handler.specs.KernelCalls.KernelModel.ValidLists.{AreValid};
+ghost use Rattle.console_handler.specs.KernelCalls.KernelModel.ValidQueues.Place.{Work};
+ghost use Rattle.console_handler.specs.KernelCalls.KernelModel.Standing.{Standing};
+ghost use Rattle.console_handler.specs.ResidentRequests.Requests.{RunsResident};
+ghost use Rattle.console_handler.specs.KernelCalls.KernelModel.declared.numbers.TheConstants.{SHELL_PACKET};
 ghost use Rattle.shell_programs.specs.ClearedTasks.{cleared};
 ghost use Rattle.shell_programs.specs.KeptLists.{HasProgram, KeepsResidents, ResidentAlone};
 ghost use Rattle.shell_programs.specs.ShellPacket.{HasPacket, posted};

@@ -1,15 +1,15 @@
 // The shell sends its packet.
 ghost use Rattle.std.specs.Prelude.{◌≡◌};
-ghost use Rattle.kernel_residents.specs.KernelCalls.KernelModel.ChangedStore.{HasKeeper};
-ghost use Rattle.kernel_residents.specs.KernelCalls.KernelModel.Lists.{Lists};
-ghost use Rattle.kernel_residents.specs.KernelCalls.KernelModel.NotedEvents.{NotesAll};
-ghost use Rattle.kernel_residents.specs.KernelCalls.OwnedWords.Owned.{written};
-ghost use Rattle.kernel_residents.specs.KernelCalls.KernelModel.Standing.{standing};
+ghost use Rattle.console_handler.specs.KernelCalls.KernelModel.ChangedStore.{HasKeeper};
+ghost use Rattle.console_handler.specs.KernelCalls.KernelModel.Lists.{Lists};
+ghost use Rattle.console_handler.specs.KernelCalls.KernelModel.NotedEvents.{NotesAll};
+ghost use Rattle.console_handler.specs.KernelCalls.OwnedWords.Owned.{written};
+ghost use Rattle.console_handler.specs.KernelCalls.KernelModel.Standing.{standing};
 ghost use Rattle.shell_programs.specs.ShellPacket.{CanPost, post_events, posted, request_words, requested};
 ghost use Rattle.shell_programs.specs.Standings.{HasStanding};
 
-use kernel_residents::numbers::{FIRST, KIND, RES1, RES2, SECOND, SHELL, SHELL_PACKET, THIRD};
-use kernel_residents::{EventLog, KindKeeper, send_own};
+use console_handler::numbers::{FIRST, KIND, RES1, RES2, SECOND, SHELL, SHELL_PACKET, THIRD};
+use console_handler::{EventLog, KindKeeper, send_own};
 use word_store::{Store, set_word_at, signed};
 
 /// Sends the shell's packet, which is on no queue, from the shell to the task with the number as a request of this type: its results

@@ -1,15 +1,15 @@
 // The shell starts a program.
 ghost use Rattle.std.specs.Prelude.{◌≡◌};
-ghost use Rattle.kernel_residents.specs.KernelCalls.KernelModel.ChangedStore.{HasKeeper};
-ghost use Rattle.kernel_residents.specs.KernelCalls.KernelModel.HoldsLists.{HoldsLists};
-ghost use Rattle.kernel_residents.specs.KernelCalls.KernelModel.Lists.{Lists};
-ghost use Rattle.kernel_residents.specs.KernelCalls.CallAnswers.Made.{IsMade};
-ghost use Rattle.kernel_residents.specs.KernelCalls.KernelModel.Standing.{standing};
+ghost use Rattle.console_handler.specs.KernelCalls.KernelModel.ChangedStore.{HasKeeper};
+ghost use Rattle.console_handler.specs.KernelCalls.KernelModel.HoldsLists.{HoldsLists};
+ghost use Rattle.console_handler.specs.KernelCalls.KernelModel.Lists.{Lists};
+ghost use Rattle.console_handler.specs.KernelCalls.CallAnswers.Made.{IsMade};
+ghost use Rattle.console_handler.specs.KernelCalls.KernelModel.Standing.{standing};
 ghost use Rattle.shell_programs.specs.StartedProgram.{IsStarted, create_program, load_program, next_number, priority_of, start_program};
 
 use arrayvec::ArrayVec;
-use kernel_residents::numbers::SHELL;
-use kernel_residents::{KindKeeper, create_task, free_id, highest_id, load_module, unload_module};
+use console_handler::numbers::SHELL;
+use console_handler::{KindKeeper, create_task, free_id, highest_id, load_module, unload_module};
 use ram_disc::codes::NO_FILE;
 use ram_disc::{Disc, Name};
 use word_store::Store;

@@ -1,4 +1,5 @@
 // What no run shows of a disc: a stream that is set up anew, its place, and the byte at a place of a file.
+use crate::same::same;
 use arrayvec::ArrayVec;
 use hunk_text::TextBytes;
 use ram_disc::{Disc, Name};
@@ -16,14 +17,14 @@ fn sets_up_streams(rt: HostRuntime) -> Result<(), Fail> {
 
 // A file of two sectors.
 fn writes_a_file<R: Abort>(rt: &R, disc: &mut Disc, name: &Name) -> Result<(), Fail> {
-    assert_eq!(rt; disc.open_write(name), Ok(1));
-    assert_eq!(rt; disc.append(1, &[b'f'; 512]), Ok(()));
-    assert_eq!(rt; disc.append(1, b"x"), Ok(()));
-    assert_eq!(rt; disc.close(1), Ok(()));
+    same(rt, disc.open_write(name), Ok(1));
+    same(rt, disc.append(1, &[b'f'; 512]), Ok(()));
+    same(rt, disc.append(1, b"x"), Ok(()));
+    same(rt, disc.close(1), Ok(()));
     let mut sectors = ArrayVec::new();
     let file = disc.file(name, &mut sectors).ok_or("file")?;
     let bytes = [file.at(511), file.at(512), file.at(513)];
-    assert_eq!(rt; bytes, [Some(b'f'), Some(b'x'), None]);
+    same(rt, bytes, [Some(b'f'), Some(b'x'), None]);
     Ok(())
 }
 
@@ -51,11 +52,11 @@ fn restores_streams<R: Abort>(
             "{k} at {place}"
         );
     }
-    assert_eq!(rt; disc.stream(17).map(|stream| stream.1), Some(511));
-    assert_eq!(rt; disc.close(17), Ok(()));
+    same(rt, disc.stream(17).map(|stream| stream.1), Some(511));
+    same(rt, disc.close(17), Ok(()));
     assert!(rt; disc.restore_stream(3, name, 513, true));
     assert!(rt; !disc.restore_stream(4, name, 0, false));
-    assert_eq!(rt; disc.append(3, b"!"), Ok(()));
-    assert_eq!(rt; disc.stream(3).map(|stream| stream.1), Some(514));
+    same(rt, disc.append(3, b"!"), Ok(()));
+    same(rt, disc.stream(3).map(|stream| stream.1), Some(514));
     Ok(())
 }

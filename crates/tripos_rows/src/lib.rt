@@ -14,6 +14,8 @@ mod programs;
 #[cfg(test)]
 mod readers;
 #[cfg(test)]
+mod same;
+#[cfg(test)]
 mod sessions;
 #[cfg(test)]
 mod streams;

@@ -1,4 +1,5 @@
 // Logs of events: the lines that are printed, and the events that are kept.
+use crate::same::same;
 use std::test::Fail;
 use tp_io::{MemorySink, SinkFault};
 use tripos_run::{EventLog, KernelEvent, ListLog, SinkLog, print_events};
@@ -27,9 +28,10 @@ fn a_line_for_each_event(rt: HostRuntime) -> Result<(), Fail> {
         log.note(event);
     }
     assert!(rt; !log.failed());
-    assert_eq!(rt;
+    same(
+        &rt,
         sink.bytes(),
-        b"accept -2147483648 4294967295 3\ntake 3 1000 -2\ndequeue -1 120\nrun 12\n".as_slice()
+        b"accept -2147483648 4294967295 3\ntake 3 1000 -2\ndequeue -1 120\nrun 12\n".as_slice(),
     );
     Ok(())
 }
@@ -42,7 +44,7 @@ fn a_list_log_keeps_what_it_has_room_for(rt: HostRuntime) -> Result<(), Fail> {
         assert_eq!(rt; log.failed(), failed, "after task {task}");
     }
     let kept = [KernelEvent::Runs { task: 7 }, KernelEvent::Runs { task: 8 }];
-    assert_eq!(rt; log.events(), kept.as_slice());
+    same(&rt, log.events(), kept.as_slice());
     Ok(())
 }
 

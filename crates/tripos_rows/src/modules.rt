@@ -1,4 +1,5 @@
 // What no command shows: a module printed, its shape, and its words one by one.
+use crate::same::same;
 use hunk_text::{NextWord, Shape, SliceText, check_module, next_word, print_module, read_module};
 use std::test::Fail;
 use tp_io::MemorySink;
@@ -25,8 +26,8 @@ fn reads_and_prints(rt: HostRuntime) -> Result<(), Fail> {
         assert!(rt; text.len() < 1000);
         let module = read_module(rt.alloc(), text)?;
         let mut out = MemorySink::new(rt.alloc(), 1000, &[])?;
-        assert_eq!(rt; print_module(&module, &mut out), Ok(()));
-        assert_eq!(rt; out.bytes(), printed);
+        same(&rt, print_module(&module, &mut out), Ok(()));
+        same(&rt, out.bytes(), printed);
     }
     Ok(())
 }
@@ -34,10 +35,11 @@ fn reads_and_prints(rt: HostRuntime) -> Result<(), Fail> {
 #[test]
 fn tells_the_shape(rt: HostRuntime) {
     let text = SliceText::new(b"3e8 2 0 0 3e9 1 1 3e8 0 3e8 1 0 3ea");
-    assert_eq!(rt; check_module(&text), Ok(Shape { hunks: 3, words: 3 }));
-    assert_eq!(rt;
+    same(&rt, check_module(&text), Ok(Shape { hunks: 3, words: 3 }));
+    same(
+        &rt,
         check_module(&SliceText::new(b"3e8 1 0 3e9 1 1 3ea")),
-        Err(4)
+        Err(4),
     );
 }
 
@@ -52,6 +54,6 @@ fn gives_word_after_word(rt: HostRuntime) {
         (23, None),
         (4_000_000_000, None),
     ] {
-        assert_eq!(rt; next_word(&text, from), wanted);
+        same(&rt, next_word(&text, from), wanted);
     }
 }

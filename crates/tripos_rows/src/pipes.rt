@@ -1,4 +1,5 @@
 // What no run shows of pipes: one set up anew, and the byte at a place.
+use crate::same::same;
 use ram_disc::Name;
 use std::test::Fail;
 use tripos_run::Pipes;
@@ -8,7 +9,7 @@ fn sets_up_pipes(rt: HostRuntime) -> Result<(), Fail> {
     let name = Name::read(b"q").ok_or("name")?;
     let other = Name::read(b"r").ok_or("name")?;
     let mut pipes = Pipes::new(rt.alloc()).map_err(|_| "memory")?;
-    assert_eq!(rt; pipes.open(&name, 0), Ok(1));
+    same(&rt, pipes.open(&name, 0), Ok(1));
     for (k, name, wanted) in [
         (1, &other, false),
         (2, &name, false),
@@ -26,7 +27,7 @@ fn sets_up_pipes(rt: HostRuntime) -> Result<(), Fail> {
         );
     }
     let mut into = [0; 5];
-    assert_eq!(rt; pipes.read(3, true, &mut into), Ok(4));
-    assert_eq!(rt; into, *b"held\0");
+    same(&rt, pipes.read(3, true, &mut into), Ok(4));
+    same(&rt, into, *b"held\0");
     Ok(())
 }

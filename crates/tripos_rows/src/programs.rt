@@ -1,4 +1,5 @@
 // The program's answers where a source or a sink fails.
+use crate::same::same;
 use std::process::Abort;
 use std::test::Fail;
 use tp_io::{MemorySink, MemorySource};
@@ -72,11 +73,12 @@ fn tells_faults_of_source_and_sink(rt: HostRuntime) -> Result<(), Fail> {
         let words = words_of(&rt, words)?;
         let mut src = MemorySource::new(rt.alloc(), input, &[read]).map_err(|_| "memory")?;
         let mut out = MemorySink::new(rt.alloc(), 65536, &[write]).map_err(|_| "memory")?;
-        assert_eq!(rt;
+        same(
+            &rt,
             tripos(rt.alloc(), words.as_slice(), &mut src, &mut out),
-            status
+            status,
         );
-        assert_eq!(rt; out.bytes(), bytes);
+        same(&rt, out.bytes(), bytes);
     }
     Ok(())
 }
@@ -87,9 +89,10 @@ fn runs_the_session_that_a_number_makes(rt: HostRuntime) -> Result<(), Fail> {
     let words = words_of(&rt, &["gen", "7"])?;
     let mut src = MemorySource::new(rt.alloc(), b"", &[1]).map_err(|_| "memory")?;
     let mut out = MemorySink::new(rt.alloc(), 256, &[0]).map_err(|_| "memory")?;
-    assert_eq!(rt;
+    same(
+        &rt,
         tripos(rt.alloc(), words.as_slice(), &mut src, &mut out),
-        Status::Done
+        Status::Done,
     );
     let length = text.len();
     let wanted = format!(in rt.alloc(); "session {length} bytes\n")?;

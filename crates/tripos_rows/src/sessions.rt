@@ -1,4 +1,5 @@
 // What no command shows of a session: its text printed, and the front of a text.
+use crate::same::same;
 use session_text::{print_session, read_front, read_session};
 use std::test::Fail;
 use tp_io::MemorySink;
@@ -29,7 +30,7 @@ KEY 200 48\nKEY 200 69\nKEY 200 0a\nKEY 1 ff\nKEY 7 0a\nGO 10000\n",
             return Err(Fail::from("memory"));
         };
         assert!(rt; print_session(&session, &mut out).is_ok());
-        assert_eq!(rt; out.bytes(), printed.as_bytes());
+        same(&rt, out.bytes(), printed.as_bytes());
     }
     Ok(())
 }
@@ -47,9 +48,9 @@ fn reads_fronts(rt: HostRuntime) -> Result<(), Fail> {
         ),
     ] {
         let front = read_front(rt.alloc(), text.as_bytes())?;
-        assert_eq!(rt; front.session.go, steps);
-        assert_eq!(rt; front.end, end);
-        assert_eq!(rt; front.lines, lines);
+        same(&rt, front.session.go, steps);
+        same(&rt, front.end, end);
+        same(&rt, front.lines, lines);
     }
     assert!(rt; read_front(rt.alloc(), b"TRIPOS 1\nGO 1\nSTORE 1024\nBARE\nGO 1\n").is_err());
     Ok(())

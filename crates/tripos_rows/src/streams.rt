@@ -1,4 +1,5 @@
 // Reading and writing in memory, and over std's readers and writers.
+use crate::same::same;
 use std::io;
 use std::io::{ErrorKind, Read, Write};
 use std::test::Fail;
@@ -45,8 +46,12 @@ fn prints_pieces(rt: HostRuntime) -> Result<(), Fail> {
         (7, 8243, 2, Err(SinkFault), 43),
     ] {
         let mut sink = MemorySink::new(rt.alloc(), room, &[fail]).map_err(|_| "memory")?;
-        assert_eq!(rt; write_pieces(&mut sink, pieces.split_at(count).0), wanted);
-        assert_eq!(rt; sink.bytes().len(), bytes);
+        same(
+            &rt,
+            write_pieces(&mut sink, pieces.split_at(count).0),
+            wanted,
+        );
+        same(&rt, sink.bytes().len(), bytes);
         assert!(rt; bytes == 0 || sink.bytes().starts_with(front));
     }
     Ok(())
@@ -74,13 +79,13 @@ impl Read for CutReader {
 fn a_reader_that_fails_is_not_at_its_end(rt: HostRuntime) -> Result<(), Fail> {
     let mut source = StdSource::new(CutReader { calls: 0 });
     let read = read_all(rt.alloc(), &mut source, 10).map(|bytes| bytes.len());
-    assert_eq!(rt; read, Err(ReadEnd::Fault));
+    same(&rt, read, Err(ReadEnd::Fault));
     let mut source = StdSource::new(b"xyz".as_slice());
     let mut piece = [0u8; 2];
     for wanted in [ReadStep::Got(2), ReadStep::Got(1), ReadStep::End] {
-        assert_eq!(rt; source.read(&mut piece), wanted);
+        same(&rt, source.read(&mut piece), wanted);
     }
-    assert_eq!(rt; piece, *b"zy");
+    same(&rt, piece, *b"zy");
     Ok(())
 }
 
@@ -129,11 +134,11 @@ fn a_write_is_whole_and_flushed(rt: HostRuntime) -> Result<(), Fail> {
     ] {
         assert_eq!(rt; sink.write(piece), wanted, "with {taken} flushes left");
     }
-    assert_eq!(rt; sink.into_writer().taken, 5);
+    same(&rt, sink.into_writer().taken, 5);
     let mut kept = [0u8; 2];
     let mut sink = StdSink::new(kept.as_mut_slice());
-    assert_eq!(rt; sink.write(b"o"), WriteStep::All);
-    assert_eq!(rt; sink.write(b"kk"), WriteStep::Failed);
+    same(&rt, sink.write(b"o"), WriteStep::All);
+    same(&rt, sink.write(b"kk"), WriteStep::Failed);
     Ok(())
 }
 
@@ -158,7 +163,7 @@ impl Write for FullWriter {
 #[test]
 fn a_writer_that_takes_nothing_is_a_fault(rt: HostRuntime) {
     let mut sink = StdSink::new(FullWriter { calls: 0 });
-    assert_eq!(rt; sink.write(b"a"), WriteStep::Failed);
-    assert_eq!(rt; sink.write(b"a"), WriteStep::Failed);
-    assert_eq!(rt; sink.into_writer().calls, 2);
+    same(&rt, sink.write(b"a"), WriteStep::Failed);
+    same(&rt, sink.write(b"a"), WriteStep::Failed);
+    same(&rt, sink.into_writer().calls, 2);
 }

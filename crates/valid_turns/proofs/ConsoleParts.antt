@@ -15,17 +15,17 @@ use Rattle.machine_boot.specs.KernelCalls.TaskCalls.SetFlags.{set_flags}
 use Rattle.machine_boot.specs.KernelCalls.PacketCalls.Destinations.{queue_for}
 use Rattle.machine_boot.specs.KernelCalls.PacketCalls.QueueWords.{unqueued}
 use Rattle.machine_boot.specs.KernelCalls.PacketCalls.SendOwn.{send_own}
-use Rattle.machine_boot.specs.KernelSteps.KernelResidents.ResidentRequests.Answers.{returned}
-use Rattle.machine_boot.specs.KernelSteps.KernelResidents.ResidentRequests.Buffers.{written_buffer}
-use Rattle.machine_boot.specs.KernelSteps.KernelResidents.ResidentRequests.Requests.{first_request, request_at, taken, taken_from, words_taken_from, work}
-use Rattle.machine_boot.specs.KernelSteps.KernelResidents.ResidentRequests.Turns.{Served}
-use Rattle.machine_boot.specs.KernelSteps.KernelResidents.ResidentRequests.declared.requests.Request.{Request}
-use Rattle.machine_boot.specs.KernelSteps.KernelResidents.ConsoleHandler.ConsoleTurn.{answer_of, bytes_of, key_of, keys_sent, treated, with_first, with_key, with_keyed, with_keys_sent, with_keys_taken, with_taken}
-use Rattle.machine_boot.specs.KernelSteps.KernelResidents.ConsoleHandler.Deliveries.{delivered, delivery, handed, line_service, with_read}
-use Rattle.machine_boot.specs.KernelSteps.KernelResidents.ConsoleHandler.KeyPacket.{keys_taken, keys_taken_from}
-use Rattle.machine_boot.specs.KernelSteps.KernelResidents.ConsoleHandler.Line.{Keyed, key}
-use Rattle.machine_boot.specs.KernelSteps.KernelResidents.ConsoleHandler.Progress.{Progress, and_then, settled_words}
-use Rattle.machine_boot.specs.KernelSteps.KernelResidents.ConsoleHandler.Reads.{put_off, read_taken_from, words_read_from}
+use Rattle.machine_boot.specs.KernelSteps.ConsoleHandler.ResidentRequests.Answers.{returned}
+use Rattle.machine_boot.specs.KernelSteps.ConsoleHandler.ResidentRequests.Buffers.{written_buffer}
+use Rattle.machine_boot.specs.KernelSteps.ConsoleHandler.ResidentRequests.Requests.{first_request, request_at, taken, taken_from, words_taken_from, work}
+use Rattle.machine_boot.specs.KernelSteps.ConsoleHandler.ResidentRequests.Turns.{Served}
+use Rattle.machine_boot.specs.KernelSteps.ConsoleHandler.ResidentRequests.declared.requests.Request.{Request}
+use Rattle.machine_boot.specs.KernelSteps.ConsoleHandler.ConsoleTurn.{answer_of, bytes_of, key_of, keys_sent, treated, with_first, with_key, with_keyed, with_keys_sent, with_keys_taken, with_taken}
+use Rattle.machine_boot.specs.KernelSteps.ConsoleHandler.Deliveries.{delivered, delivery, handed, line_service, with_read}
+use Rattle.machine_boot.specs.KernelSteps.ConsoleHandler.KeyPacket.{keys_taken, keys_taken_from}
+use Rattle.machine_boot.specs.KernelSteps.ConsoleHandler.Line.{Keyed, key}
+use Rattle.machine_boot.specs.KernelSteps.ConsoleHandler.Progress.{Progress, and_then, settled_words}
+use Rattle.machine_boot.specs.KernelSteps.ConsoleHandler.Reads.{put_off, read_taken_from, words_read_from}
 
 -- the lists once the first packet of a place was taken, and its request, in the words that taking leaves
 abbrev pub without_work : List QueuedPacket → Lists → Lists

@@ -24,13 +24,13 @@ use Rattle.machine_boot.specs.KernelCalls.PacketCalls.Destinations.{queue_for}
 use Rattle.machine_boot.specs.KernelCalls.PacketCalls.QueueWords.{unqueued}
 use Rattle.machine_boot.specs.KernelCalls.PacketCalls.SendOwn.{send_own}
 use Rattle.machine_boot.proofs.Shown.KernelCalls.PacketCalls.OwnPackets.{keys-sent}
-use Rattle.machine_boot.specs.KernelSteps.KernelResidents.ResidentRequests.Answers.{returned}
-use Rattle.machine_boot.specs.KernelSteps.KernelResidents.ResidentRequests.Requests.{RunsResident, work}
-use Rattle.machine_boot.specs.KernelSteps.KernelResidents.ConsoleHandler.ConsoleTurn.{all_parts, treated, with_keys_sent}
-use Rattle.machine_boot.specs.KernelSteps.KernelResidents.ConsoleHandler.Deliveries.{delivery}
-use Rattle.machine_boot.specs.KernelSteps.KernelResidents.ConsoleHandler.Progress.{Progress, begun, settled_words}
-use Rattle.machine_boot.specs.KernelSteps.KernelResidents.ConsoleHandler.Reads.{put_off}
-use Rattle.machine_boot.proofs.Shown.KernelResidents.ConsoleHandler.SentKeys.{can-send}
+use Rattle.machine_boot.specs.KernelSteps.ConsoleHandler.ResidentRequests.Answers.{returned}
+use Rattle.machine_boot.specs.KernelSteps.ConsoleHandler.ResidentRequests.Requests.{RunsResident, work}
+use Rattle.machine_boot.specs.KernelSteps.ConsoleHandler.ConsoleTurn.{all_parts, treated, with_keys_sent}
+use Rattle.machine_boot.specs.KernelSteps.ConsoleHandler.Deliveries.{delivery}
+use Rattle.machine_boot.specs.KernelSteps.ConsoleHandler.Progress.{Progress, begun, settled_words}
+use Rattle.machine_boot.specs.KernelSteps.ConsoleHandler.Reads.{put_off}
+use Rattle.machine_boot.proofs.Shown.ConsoleHandler.SentKeys.{can-send}
 use Rattle.machine_boot.proofs.Shown.CliShell.RunningShell.{GoesOn, flags-goes}
 use Rattle.valid_turns.proofs.NoKeeper.{no-keeper, tells_nothing}
 use Rattle.valid_turns.proofs.TaskCalls.{set_flags-valid}

@@ -23,8 +23,8 @@ use Rattle.machine_boot.specs.KernelMachine.GuestTurns.Guarded.{is_owned}
 use Rattle.machine_boot.specs.KernelMachine.GuestTurns.GuestTurn.{after_instruction, died, dies, returned, turn_without_reporter}
 use Rattle.machine_boot.proofs.Shown.GuestTurns.FaultedTurn.{fault-untouched}
 use Rattle.machine_boot.proofs.Shown.GuestTurns.GuardedLists.{holds-executed}
-use Rattle.machine_boot.specs.KernelSteps.KernelResidents.FaultReporter.Recorded.{CanRecord, held_with, packet_from, recorded, sent_where}
-use Rattle.machine_boot.proofs.Shown.KernelResidents.FaultReporter.HeldGuest.{held-caller, is-held}
+use Rattle.machine_boot.specs.KernelSteps.ConsoleHandler.FaultReporter.Recorded.{CanRecord, held_with, packet_from, recorded, sent_where}
+use Rattle.machine_boot.proofs.Shown.ConsoleHandler.FaultReporter.HeldGuest.{held-caller, is-held}
 use Rattle.machine_boot.specs.KernelSteps.GuestSteps.{guest_step, turn_of_guest}
 use Rattle.machine_boot.proofs.Shown.KernelSteps.TurnRules.{recordable}
 use Rattle.machine_boot.proofs.Shown.KernelSteps.TurnWays.{IsRecorded, guest-ways}

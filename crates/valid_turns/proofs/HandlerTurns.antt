@@ -12,11 +12,11 @@ use Rattle.machine_boot.specs.KernelCalls.KernelModel.ValidQueues.Place.{Work}
 use Rattle.machine_boot.proofs.Shown.KernelCalls.KernelModel.QueuePlaces.{place-stands}
 use Rattle.machine_boot.specs.KernelCalls.PacketCalls.Destinations.{queue_for}
 use Rattle.machine_boot.specs.KernelCalls.PacketCalls.QueueWords.{unqueued}
-use Rattle.machine_boot.specs.KernelSteps.KernelResidents.ResidentRequests.Answers.{answered, finished, returned}
-use Rattle.machine_boot.specs.KernelSteps.KernelResidents.ResidentRequests.Requests.{IsForeign, RunsResident, TakesRequest, first_request, request_at, taken_from, words_taken_from, work}
-use Rattle.machine_boot.specs.KernelSteps.KernelResidents.ResidentRequests.Turns.{Served, request_turn, turn_of}
-use Rattle.machine_boot.specs.KernelSteps.KernelResidents.ResidentRequests.declared.requests.Request.{Request}
-use Rattle.machine_boot.proofs.Shown.KernelResidents.ResidentRequests.FinishedTurn.{goes-on, waits}
+use Rattle.machine_boot.specs.KernelSteps.ConsoleHandler.ResidentRequests.Answers.{answered, finished, returned}
+use Rattle.machine_boot.specs.KernelSteps.ConsoleHandler.ResidentRequests.Requests.{IsForeign, RunsResident, TakesRequest, first_request, request_at, taken_from, words_taken_from, work}
+use Rattle.machine_boot.specs.KernelSteps.ConsoleHandler.ResidentRequests.Turns.{Served, request_turn, turn_of}
+use Rattle.machine_boot.specs.KernelSteps.ConsoleHandler.ResidentRequests.declared.requests.Request.{Request}
+use Rattle.machine_boot.proofs.Shown.ConsoleHandler.ResidentRequests.FinishedTurn.{goes-on, waits}
 use Rattle.valid_turns.proofs.LeftStores.{left-holds}
 use Rattle.valid_turns.proofs.TakenPackets.{returned-runs, returned-valid}
 

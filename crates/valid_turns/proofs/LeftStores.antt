@@ -8,8 +8,8 @@ use Rattle.machine_boot.specs.KernelCalls.KernelModel.Owned.{owned}
 use Rattle.machine_boot.specs.KernelCalls.KernelModel.ValidLists.{AreValid}
 use Rattle.machine_boot.specs.KernelCalls.CallAnswers.Made.{Made, by_refusal, unless_refused}
 use Rattle.machine_boot.specs.KernelCalls.CallAnswers.Refusals.{first_refusal}
-use Rattle.machine_boot.specs.KernelSteps.KernelResidents.ConsoleHandler.Progress.{settled_words}
-use Rattle.machine_boot.proofs.Shown.KernelResidents.ConsoleHandler.DoneParts.{settled-words}
+use Rattle.machine_boot.specs.KernelSteps.ConsoleHandler.Progress.{settled_words}
+use Rattle.machine_boot.proofs.Shown.ConsoleHandler.DoneParts.{settled-words}
 use Rattle.machine_boot.specs.KernelSteps.CliShell.ShellPrograms.Standings.{left_by}
 
 module _ (s : List ℕ) (m : Lists) (plain : Pairs) (v : AreValid m) (size : length s ≡ m.size) where

@@ -11,13 +11,13 @@ use Rattle.machine_boot.specs.KernelCalls.KernelModel.ValidLists.{AreValid}
 use Rattle.machine_boot.specs.KernelCalls.KernelModel.ValidQueues.Place.{Work}
 use Rattle.machine_boot.proofs.Shown.KernelCalls.KernelModel.ResidentPackets.{fault_unqueued-valid}
 use Rattle.machine_boot.proofs.Shown.KernelCalls.CallAnswers.FoundTask.{Finds, find-task}
-use Rattle.machine_boot.specs.KernelSteps.KernelResidents.ResidentRequests.Requests.{RunsResident, work}
-use Rattle.machine_boot.specs.KernelSteps.KernelResidents.ResidentRequests.Turns.{request_turn}
-use Rattle.machine_boot.specs.KernelSteps.KernelResidents.FaultReporter.FaultTurns.{all_reported, fault_taken_from, fault_turn, fault_turn_from, is_fault_first, packet_taken, reported, reported_turn, unknown}
-use Rattle.machine_boot.specs.KernelSteps.KernelResidents.FaultReporter.Recorded.{OwnsSame}
-use Rattle.machine_boot.specs.KernelSteps.KernelResidents.FaultReporter.Texts.{is_unreported_word}
-use Rattle.machine_boot.proofs.Shown.KernelResidents.FaultReporter.Reported.{marks-begin, marks-end, marks-next, no-guest, nothing-new, one-new, reported_below}
-use Rattle.machine_boot.proofs.Shown.KernelResidents.FaultReporter.ReportedTurn.{reported-runs, taken-runs, takes-other}
+use Rattle.machine_boot.specs.KernelSteps.ConsoleHandler.ResidentRequests.Requests.{RunsResident, work}
+use Rattle.machine_boot.specs.KernelSteps.ConsoleHandler.ResidentRequests.Turns.{request_turn}
+use Rattle.machine_boot.specs.KernelSteps.ConsoleHandler.FaultReporter.FaultTurns.{all_reported, fault_taken_from, fault_turn, fault_turn_from, is_fault_first, packet_taken, reported, reported_turn, unknown}
+use Rattle.machine_boot.specs.KernelSteps.ConsoleHandler.FaultReporter.Recorded.{OwnsSame}
+use Rattle.machine_boot.specs.KernelSteps.ConsoleHandler.FaultReporter.Texts.{is_unreported_word}
+use Rattle.machine_boot.proofs.Shown.ConsoleHandler.FaultReporter.Reported.{marks-begin, marks-end, marks-next, no-guest, nothing-new, one-new, reported_below}
+use Rattle.machine_boot.proofs.Shown.ConsoleHandler.FaultReporter.ReportedTurn.{reported-runs, taken-runs, takes-other}
 use Rattle.valid_turns.proofs.HandlerTurns.{finished-valid, request-valid}
 use Rattle.valid_turns.proofs.LeftStores.{left-holds}
 

@@ -7,10 +7,10 @@ use Rattle.machine_boot.specs.KernelCalls.KernelModel.Kernel.{Kernel}
 use Rattle.machine_boot.specs.KernelCalls.KernelModel.Task.{is_guest_id}
 use Rattle.machine_boot.specs.KernelCalls.KernelModel.ValidKernel.{IsValid}
 use Rattle.machine_boot.specs.KernelCalls.KernelModel.ValidLists.{AreValid}
-use Rattle.machine_boot.specs.KernelSteps.KernelResidents.ResidentRequests.Requests.{RunsResident, TakesRequest}
-use Rattle.machine_boot.proofs.Shown.KernelResidents.ResidentRequests.ResidentTurns.{takes-request}
-use Rattle.machine_boot.specs.KernelSteps.KernelResidents.FileHandler.FileTurn.{file_service}
-use Rattle.machine_boot.specs.KernelSteps.KernelResidents.PipeHandler.PipeTurns.{pipe_service}
+use Rattle.machine_boot.specs.KernelSteps.ConsoleHandler.ResidentRequests.Requests.{RunsResident, TakesRequest}
+use Rattle.machine_boot.proofs.Shown.ConsoleHandler.ResidentRequests.ResidentTurns.{takes-request}
+use Rattle.machine_boot.specs.KernelSteps.ConsoleHandler.FileHandler.FileTurn.{file_service}
+use Rattle.machine_boot.specs.KernelSteps.ConsoleHandler.PipeHandler.PipeTurns.{pipe_service}
 use Rattle.machine_boot.specs.KernelSteps.CliShell.Modes.{awaited}
 use Rattle.machine_boot.specs.KernelSteps.Parts.{RunsFirst}
 use Rattle.machine_boot.specs.KernelSteps.ResidentSteps.{resident_step}

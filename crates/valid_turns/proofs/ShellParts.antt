@@ -23,11 +23,11 @@ use Rattle.machine_boot.specs.KernelCalls.TaskCalls.ChangePri.{change_pri}
 use Rattle.machine_boot.specs.KernelCalls.TaskCalls.HoldTask.{hold}
 use Rattle.machine_boot.specs.KernelCalls.TaskCalls.ReleaseTask.{release}
 use Rattle.machine_boot.specs.KernelCalls.TaskCalls.SetFlags.{set_flags}
-use Rattle.machine_boot.specs.KernelSteps.KernelResidents.ResidentRequests.Answers.{finished, returned}
-use Rattle.machine_boot.specs.KernelSteps.KernelResidents.ResidentRequests.Requests.{first_request, request_at, taken_from, work}
-use Rattle.machine_boot.specs.KernelSteps.KernelResidents.ResidentRequests.declared.requests.Request.{Request}
-use Rattle.machine_boot.specs.KernelSteps.KernelResidents.ResidentRequests.declared.requests.TheConstants.{UNKNOWN_TYPE}
-use Rattle.machine_boot.specs.KernelSteps.KernelResidents.ConsoleHandler.declared.requests.TheConstants.{READ_LINE}
+use Rattle.machine_boot.specs.KernelSteps.ConsoleHandler.ResidentRequests.Answers.{finished, returned}
+use Rattle.machine_boot.specs.KernelSteps.ConsoleHandler.ResidentRequests.Requests.{first_request, request_at, taken_from, work}
+use Rattle.machine_boot.specs.KernelSteps.ConsoleHandler.ResidentRequests.declared.requests.Request.{Request}
+use Rattle.machine_boot.specs.KernelSteps.ConsoleHandler.ResidentRequests.declared.requests.TheConstants.{UNKNOWN_TYPE}
+use Rattle.machine_boot.specs.KernelSteps.ConsoleHandler.declared.requests.TheConstants.{READ_LINE}
 use Rattle.machine_boot.specs.KernelSteps.CliShell.ShellLines.Command.{command_of}
 use Rattle.machine_boot.specs.KernelSteps.CliShell.ShellLines.declared.commands.Command.{Command}
 use Rattle.machine_boot.specs.KernelSteps.CliShell.ShellLines.declared.commands.Command.TheVariants.{Break, ChangePriority, Delete, Examine, Finish, Hold, Map, Nothing, Release, Rename, Run, Start, Status, «Type»}

@@ -33,9 +33,9 @@ use Rattle.machine_boot.specs.KernelCalls.PacketCalls.PacketMoves.{sent_packet}
 use Rattle.machine_boot.specs.KernelCalls.PacketCalls.QueueWords.{unqueued}
 use Rattle.machine_boot.proofs.Shown.KernelCalls.PacketCalls.Departure.{departed-changed}
 use Rattle.machine_boot.proofs.Shown.KernelCalls.PacketCalls.SentPackets.{comes-valid}
-use Rattle.machine_boot.specs.KernelSteps.KernelResidents.ResidentRequests.Answers.{returned}
-use Rattle.machine_boot.specs.KernelSteps.KernelResidents.ResidentRequests.Requests.{RunsResident, IsForeign, request_at, work}
-use Rattle.machine_boot.proofs.Shown.KernelResidents.ResidentRequests.ResidentTurns.{takes-request}
+use Rattle.machine_boot.specs.KernelSteps.ConsoleHandler.ResidentRequests.Answers.{returned}
+use Rattle.machine_boot.specs.KernelSteps.ConsoleHandler.ResidentRequests.Requests.{RunsResident, IsForeign, request_at, work}
+use Rattle.machine_boot.proofs.Shown.ConsoleHandler.ResidentRequests.ResidentTurns.{takes-request}
 use Rattle.machine_boot.proofs.Shown.KernelBoot.StandingKernels.{left-is}
 use Rattle.machine_boot.specs.KernelSteps.CliShell.ShellPrograms.ClearedTasks.{cleared}
 use Rattle.machine_boot.specs.KernelSteps.CliShell.ShellPrograms.KeptLists.{KeepsResidents}

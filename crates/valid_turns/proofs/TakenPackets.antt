@@ -18,11 +18,11 @@ use Rattle.machine_boot.specs.KernelCalls.PacketCalls.PacketMoves.{sent_packet}
 use Rattle.machine_boot.specs.KernelCalls.PacketCalls.QueueWords.{unqueued}
 use Rattle.machine_boot.proofs.Shown.KernelCalls.PacketCalls.Departure.{held-before, others-kept}
 use Rattle.machine_boot.proofs.Shown.KernelCalls.PacketCalls.SentPackets.{comes-valid}
-use Rattle.machine_boot.specs.KernelSteps.KernelResidents.ResidentRequests.Answers.{answered_packet, returned}
-use Rattle.machine_boot.specs.KernelSteps.KernelResidents.ResidentRequests.Requests.{RunsResident, request_at}
-use Rattle.machine_boot.specs.KernelSteps.KernelResidents.ResidentRequests.declared.requests.Request.{Request}
-use Rattle.machine_boot.proofs.Shown.KernelResidents.ResidentRequests.RunningResident.{has_task-work, runs-work}
-use Rattle.machine_boot.specs.KernelSteps.KernelResidents.ConsoleHandler.Reads.{put_off}
+use Rattle.machine_boot.specs.KernelSteps.ConsoleHandler.ResidentRequests.Answers.{answered_packet, returned}
+use Rattle.machine_boot.specs.KernelSteps.ConsoleHandler.ResidentRequests.Requests.{RunsResident, request_at}
+use Rattle.machine_boot.specs.KernelSteps.ConsoleHandler.ResidentRequests.declared.requests.Request.{Request}
+use Rattle.machine_boot.proofs.Shown.ConsoleHandler.ResidentRequests.RunningResident.{has_task-work, runs-work}
+use Rattle.machine_boot.specs.KernelSteps.ConsoleHandler.Reads.{put_off}
 use Rattle.valid_turns.proofs.LeftStores.{left-holds}
 
 -- ---- the lists with another queue

@@ -1,2 +1,3 @@
 -- Lemmas of `kernel_devices`.
-pub use Rattle.kernel_devices.proofs.Shown.ClockDevice
+pub use Rattle.kernel_devices.proofs.FirstDue
+pub use Rattle.kernel_devices.proofs.TickLists

@@ -1,7 +1,7 @@
 use Rattle.std.proofs.Common.{arith}
 use Rattle.shell_programs.specs.KernelCalls.KernelModel.Kernel.Mode.{Reading}
 use Rattle.shell_programs.specs.KernelCalls.KernelModel.declared.numbers.TheConstants.{CONSOLE}
-use Rattle.shell_programs.specs.KernelResidents.ConsoleHandler.declared.requests.TheConstants.{READ_LINE}
+use Rattle.shell_programs.specs.ConsoleHandler.declared.requests.TheConstants.{READ_LINE}
 use Rattle.cli_shell.specs.Prompts.{prompt}
 use Rattle.cli_shell.proofs.DoneParts.{can-post, console-there, done-mode, done-sent, ready-shown}
 use Rattle.cli_shell.proofs.prompts.prompt.Goals as goal

@@ -1,5 +1,5 @@
 use Rattle.std.proofs.Common.{◌∙◌, subst, sym}
-use Rattle.shell_programs.specs.KernelResidents.ResidentRequests.Requests.{IsTaken, taken}
+use Rattle.shell_programs.specs.ConsoleHandler.ResidentRequests.Requests.{IsTaken, taken}
 use Rattle.cli_shell.specs.ShellTurn.{packet_taken}
 use Rattle.cli_shell.proofs.DoneParts.{done-is}
 use Rattle.cli_shell.proofs.TakenPackets.{done-returned, done-taken, other-treated, own-treated, ready-own, shell-takes, taken-treated}

@@ -1,6 +1,6 @@
 use Rattle.std.proofs.Common.{◌∙◌, arith}
 use Rattle.std.proofs.lemmas.List.{take_all}
-use Rattle.machine_image.specs.TriposMachine.KernelSteps.KernelResidents.PipeHandler.PipeCalls.{held_by, pipe_numbered}
+use Rattle.machine_image.specs.TriposMachine.KernelSteps.ConsoleHandler.PipeHandler.PipeCalls.{held_by, pipe_numbered}
 use Rattle.image_print.proofs.HeldBytes.{held-room}
 use Rattle.image_print.proofs.pipes.held_by.Goals as goal
 

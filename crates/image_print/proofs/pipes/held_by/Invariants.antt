@@ -1,6 +1,6 @@
 use Rattle.std.proofs.Common.{◌≡◌, take}
 use Rattle.arrayvec.specs.ArrayVec.{array_vec_len}
-use Rattle.machine_image.specs.TriposMachine.KernelSteps.KernelResidents.PipeHandler.PipeCalls.{held_by, pipe_numbered}
+use Rattle.machine_image.specs.TriposMachine.KernelSteps.ConsoleHandler.PipeHandler.PipeCalls.{held_by, pipe_numbered}
 use Rattle.image_print.proofs.pipes.held_by.Given as goal
 
 abbrev pub invariant-loop-i : goal.invariant-loop-i

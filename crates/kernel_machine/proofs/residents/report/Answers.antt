@@ -1,6 +1,6 @@
 use Rattle.std.proofs.Common.{ap, arith, length}
 use Rattle.std.proofs.lemmas.List.{length-append}
-use Rattle.kernel_steps.specs.KernelResidents.FaultReporter.FaultTurns.{fault_turn}
+use Rattle.kernel_steps.specs.ConsoleHandler.FaultReporter.FaultTurns.{fault_turn}
 use Rattle.kernel_machine.proofs.ResidentParts.{can-report, leaves-report}
 use Rattle.kernel_machine.proofs.TurnBytes.{report-bytes}
 use Rattle.kernel_machine.proofs.residents.report.Goals as goal

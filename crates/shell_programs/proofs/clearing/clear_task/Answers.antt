@@ -1,9 +1,9 @@
 use Rattle.std.proofs.Common.{sym, ap, ◌∙◌}
 use Rattle.std.specs.Prelude.{is_ok}
-use Rattle.kernel_residents.specs.KernelCalls.CallAnswers.Guests.{GuestAt}
-use Rattle.kernel_residents.specs.KernelCalls.CallAnswers.Made.{plain_answer}
-use Rattle.kernel_residents.specs.KernelCalls.KernelModel.Lists.{Lists}
-use Rattle.kernel_residents.specs.KernelCalls.TaskCalls.DeleteTask.{delete_task}
+use Rattle.console_handler.specs.KernelCalls.CallAnswers.Guests.{GuestAt}
+use Rattle.console_handler.specs.KernelCalls.CallAnswers.Made.{plain_answer}
+use Rattle.console_handler.specs.KernelCalls.KernelModel.Lists.{Lists}
+use Rattle.console_handler.specs.KernelCalls.TaskCalls.DeleteTask.{delete_task}
 use Rattle.shell_programs.proofs.ClearedTask.{cleared-none, cleared-other, cleared-refused, cleared-whole, deleted-keeper}
 use Rattle.shell_programs.proofs.clearing.clear_task.Goals as goal
 

@@ -1,6 +1,6 @@
 use Rattle.std.proofs.Common.{◌∙◌, ◌+◌, ℕ, List, sym, refl, arith}
-use Rattle.kernel_residents.specs.KernelCalls.KernelModel.Lists.{Lists}
-use Rattle.kernel_residents.specs.KernelCalls.KernelModel.Standing.{standing}
+use Rattle.console_handler.specs.KernelCalls.KernelModel.Lists.{Lists}
+use Rattle.console_handler.specs.KernelCalls.KernelModel.Standing.{standing}
 use Rattle.shell_programs.specs.ClearedTasks.{cleared, cleared_at}
 use Rattle.shell_programs.proofs.ClearedNumbers.{alive-cleared, first-numbers, last-number, next-number}
 use Rattle.shell_programs.proofs.MadeStandings.{same-standing}

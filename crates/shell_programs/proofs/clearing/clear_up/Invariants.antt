@@ -1,8 +1,8 @@
 use Rattle.std.proofs.Common.{◌≡◌}
-use Rattle.kernel_residents.specs.KernelCalls.KernelModel.ChangedStore.{HasKeeper}
-use Rattle.kernel_residents.specs.KernelCalls.KernelModel.Lists.{Lists}
-use Rattle.kernel_residents.specs.KernelCalls.KernelModel.Running.{RunsAlive}
-use Rattle.kernel_residents.specs.KernelCalls.KernelModel.Standing.{standing}
+use Rattle.console_handler.specs.KernelCalls.KernelModel.ChangedStore.{HasKeeper}
+use Rattle.console_handler.specs.KernelCalls.KernelModel.Lists.{Lists}
+use Rattle.console_handler.specs.KernelCalls.KernelModel.Running.{RunsAlive}
+use Rattle.console_handler.specs.KernelCalls.KernelModel.Standing.{standing}
 use Rattle.shell_programs.specs.ClearedTasks.{cleared}
 use Rattle.shell_programs.proofs.ClearedNumbers.{rest_of}
 use Rattle.shell_programs.proofs.clearing.clear_up.Given as goal

@@ -1,6 +1,6 @@
 use Rattle.std.proofs.Common.{ℕ, sym, subst}
-use Rattle.kernel_residents.specs.KernelCalls.KernelModel.ChangedStore.{HasKeeper}
-use Rattle.kernel_residents.specs.KernelCalls.KernelModel.Standing.{standing}
+use Rattle.console_handler.specs.KernelCalls.KernelModel.ChangedStore.{HasKeeper}
+use Rattle.console_handler.specs.KernelCalls.KernelModel.Standing.{standing}
 use Rattle.shell_programs.specs.ShellPacket.{posted}
 use Rattle.shell_programs.specs.Standings.{HasStanding}
 use Rattle.shell_programs.proofs.PostedPacket.{request-keeper}

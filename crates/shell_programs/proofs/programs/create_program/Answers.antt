@@ -1,7 +1,7 @@
 use Rattle.std.proofs.Common.{sym, ◌∙◌, arith}
-use Rattle.kernel_residents.specs.KernelCalls.CallAnswers.Made.{plain_answer}
-use Rattle.kernel_residents.specs.KernelCalls.KernelModel.Lists.{Lists}
-use Rattle.kernel_residents.specs.KernelCalls.KernelModel.Standing.{standing}
+use Rattle.console_handler.specs.KernelCalls.CallAnswers.Made.{plain_answer}
+use Rattle.console_handler.specs.KernelCalls.KernelModel.Lists.{Lists}
+use Rattle.console_handler.specs.KernelCalls.KernelModel.Standing.{standing}
 use Rattle.shell_programs.specs.StartedProgram.{creation}
 use Rattle.shell_programs.proofs.ProgramNumbers.{may-create_program}
 use Rattle.shell_programs.proofs.StartedParts.{created-keeper, program-created, program-refused}

@@ -1,5 +1,5 @@
 use Rattle.std.proofs.Common.{arith, ◌∙◌}
-use Rattle.kernel_residents.proofs.Shown.KernelCalls.CallAnswers.FoundTask.{reads}
+use Rattle.console_handler.proofs.Shown.KernelCalls.CallAnswers.FoundTask.{reads}
 use Rattle.shell_programs.proofs.ProgramNumbers.{highest-low_enough, next-read}
 use Rattle.shell_programs.proofs.programs.next_number.Goals as goal
 

@@ -1,5 +1,0 @@
-pub mod TickLists
-pub mod FirstDue
-pub mod ReturnedPackets
-pub mod WholeTick
-pub mod Shown

@@ -1,0 +1,36 @@
+// The output device.
+ghost use Rattle.std.specs.Prelude.{◌≡◌, ◌<◌, ◌++◌, length};
+ghost use Rattle.kernel_calls.specs.KernelModel.HoldsLists.{HoldsLists};
+ghost use Rattle.kernel_calls.specs.KernelModel.Lists.{Lists};
+ghost use Rattle.kernel_calls.specs.KernelModel.NotedEvents.{NotesAll};
+ghost use Rattle.kernel_devices.specs.Printed.{finished, printed};
+ghost use Rattle.kernel_calls.specs.PacketCalls.Returned.{IsServed};
+
+use kernel_calls::numbers::FIRST;
+use kernel_calls::{Device, EventLog, RootField, return_first, root};
+use tp_io::Output;
+use word_store::{Store, word_at};
+
+/// The word of a packet that has the byte to be printed.
+const BYTE: u32 = FIRST;
+
+/// Serves the first packet that waits for the output device, where one does: the lowest byte of its word 5 goes to the output,
+/// and the packet is returned from -3 with the results 0 and 0.
+pub fn finish_output<L: EventLog>(store: &mut Store, out: &mut Output, log: &mut L)
+    requires lists { (l : Lists) × HoldsLists store.old l }
+    requires room { length out.old < 8192 }
+    ensures lists { (l : Lists) → HoldsLists store.old l
+        → IsServed store.old store.new l (finished l) }
+    ensures out { (l : Lists) → HoldsLists store.old l
+        → out.new ≡ out.old ++ printed store.old l.output }
+    ensures notes { (l : Lists) → HoldsLists store.old l
+        → NotesAll (L.noted log.old) (L.noted log.new)
+        (L.has_failed log.old) (L.has_failed log.new) (finished l).events }
+{
+    let p = root(store, RootField::OutputQueue);
+    if p == 0 {
+        return;
+    }
+    out.append(&[(word_at(store, p, BYTE) % 256) as u8]);
+    return_first(store, Device::Output, 0, log);
+}

@@ -1,4 +1,0 @@
--- Lemmas of `clock_device`.
-pub use Rattle.clock_device.proofs.FirstDue
-pub use Rattle.clock_device.proofs.ReturnedPackets
-pub use Rattle.clock_device.proofs.TickLists
