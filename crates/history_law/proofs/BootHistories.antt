@@ -2,16 +2,16 @@
 use Rattle.std.proofs.Common.{◌≡◌, ℕ, ◌+◌, ◌≤◌, Ok, ◌++◌, arith}
 use Rattle.session_text.specs.KernelDispatch.KernelModel.Ranges.{most_steps}
 use Rattle.session_text.specs.declared.sessions.Session.{Session}
-use Rattle.packet_moves.specs.KernelSteps.Step.{run}
-use Rattle.packet_moves.specs.KernelSteps.Stepped.{Stepped}
-use Rattle.packet_moves.specs.MachineBoot.Boot.{HasKernel, boot}
-use Rattle.packet_moves.proofs.Shown.MachineBoot.BootedKernels.{booted-events}
-use Rattle.packet_moves.specs.EventHistory.Ledger.{AreOnce}
-use Rattle.packet_moves.proofs.Shown.EventHistory.Following.{follows-join}
-use Rattle.packet_moves.proofs.Shown.EventHistory.Whole.{whole-history}
-use Rattle.packet_moves.specs.Queues.{ledger_of}
-use Rattle.packet_moves.specs.Steps.{history}
-use Rattle.packet_moves.proofs.Runs.{run-follows}
+use Rattle.machine_boot.specs.KernelSteps.Step.{run}
+use Rattle.machine_boot.specs.KernelSteps.Stepped.{Stepped}
+use Rattle.machine_boot.specs.Boot.{HasKernel, boot}
+use Rattle.machine_boot.proofs.BootedKernels.{booted-events}
+use Rattle.event_history.specs.Ledger.{AreOnce}
+use Rattle.event_history.proofs.Following.{follows-join}
+use Rattle.event_history.proofs.Whole.{whole-history}
+use Rattle.history_law.specs.Queues.{ledger_of}
+use Rattle.history_law.specs.Steps.{history}
+use Rattle.history_law.proofs.Runs.{run-follows}
 use Rattle.history_law.proofs.Histories.{each-moves, whole-law}
 use Rattle.history_law.specs.Booted.{BootHistory, boot_history, no_packets}
 use Rattle.history_law.proofs.BootMoves.{boot-moves}

@@ -17,40 +17,40 @@ use Rattle.session_text.specs.KernelDispatch.KernelModel.Residents.{key_packet}
 use Rattle.session_text.specs.KernelDispatch.KernelModel.Standing.{standing, Standing, left_with}
 use Rattle.session_text.specs.KernelDispatch.KernelModel.Task.{Task, is_guest_id}
 use Rattle.session_text.specs.KernelDispatch.KernelModel.ValidQueues.Place.{Keyboard, Work}
-use Rattle.packet_moves.proofs.Shown.KernelCalls.KernelModel.EachMember.{all-each}
+use Rattle.machine_boot.proofs.Shown.KernelCalls.KernelModel.EachMember.{all-each}
 use Rattle.session_text.specs.KernelDispatch.Dispatch.{dispatched, packets_left, resumed, suspended, takes_packet, with_nobody, with_resumed, with_suspended}
-use Rattle.packet_moves.specs.KernelCalls.CallAnswers.Made.{Made, by_refusal}
-use Rattle.packet_moves.specs.KernelCalls.CallAnswers.Refusals.{first_refusal}
-use Rattle.packet_moves.specs.KernelCalls.TaskCalls.CreateTask.{create_task, creation_tests, new_task, number_of as given_number, with_created}
-use Rattle.packet_moves.specs.KernelCalls.PacketCalls.Dqpkt.{pending_number}
-use Rattle.packet_moves.specs.KernelCalls.PacketCalls.PacketMoves.{with_arrived}
+use Rattle.machine_boot.specs.KernelCalls.CallAnswers.Made.{Made, by_refusal}
+use Rattle.machine_boot.specs.KernelCalls.CallAnswers.Refusals.{first_refusal}
+use Rattle.machine_boot.specs.KernelCalls.TaskCalls.CreateTask.{create_task, creation_tests, new_task, number_of as given_number, with_created}
+use Rattle.machine_boot.specs.KernelCalls.PacketCalls.Dqpkt.{pending_number}
+use Rattle.machine_boot.specs.KernelCalls.PacketCalls.PacketMoves.{with_arrived}
 use Rattle.session_text.specs.declared.sessions.LineForm.{LineForm}
 use Rattle.session_text.specs.declared.sessions.LineForm.TheVariants.{Code, File, Task as TaskForm}
 use Rattle.session_text.specs.declared.sessions.Session.{Session}
 use Rattle.session_text.specs.declared.sessions.SessionLine.{SessionLine}
-use Rattle.packet_moves.specs.KernelBoot.BegunTask.{with_begun}
-use Rattle.packet_moves.specs.KernelBoot.BootFiles.{at_line, load_files}
-use Rattle.packet_moves.specs.KernelBoot.BootTasks.{AreBootLines, IsBootForm, begin_it, create_it, load_bytes, load_named, load_names, on_answer, start_form, start_tasks}
-use Rattle.packet_moves.specs.KernelBoot.EmptyKernel.{empty_lists}
-use Rattle.packet_moves.specs.KernelBoot.ResidentKernel.{packet_from, resident_lists, resident_tasks}
-use Rattle.packet_moves.specs.KernelBoot.declared.refusals.BootRefusal.{BootRefusal}
-use Rattle.packet_moves.proofs.Shown.KernelBoot.LawfulLines.{boot-lines}
-use Rattle.packet_moves.proofs.Shown.KernelBoot.StartedTasks.{names-loaded, number-is}
-use Rattle.packet_moves.specs.KernelSteps.ResidentSteps.{with_disc}
-use Rattle.packet_moves.specs.KernelSteps.Step.{boot_events, dispatch, first_events, run_events}
-use Rattle.packet_moves.specs.KernelSteps.Stepped.{Stepped}
-use Rattle.packet_moves.proofs.Shown.KernelSteps.DispatchKept.{dispatch-numbers, three-ways}
-use Rattle.packet_moves.specs.MachineBoot.Boot.{HasKernel, boot, first_kernel, first_lists, started, with_files, with_lines, with_standing, with_tasks}
-use Rattle.packet_moves.specs.MachineBoot.Booted.{IsFresh}
-use Rattle.packet_moves.proofs.Shown.MachineBoot.BegunKernels.{HasBegun, first-begun, lines-begun}
-use Rattle.packet_moves.proofs.Shown.MachineBoot.BootedKernels.{booted-events}
-use Rattle.packet_moves.specs.EventHistory.Ledger.{Follows, IsNowhere, Ledger, same_queue, stands_in, with_queue as put}
-use Rattle.packet_moves.proofs.Shown.EventHistory.Following.{follows-join}
-use Rattle.packet_moves.specs.Queues.{clock_entry, entry_of, ledger_of, timed_by}
-use Rattle.packet_moves.proofs.Ledgers.{ledger-put, ledger-same, ledger-task}
-use Rattle.packet_moves.proofs.Moves.{move-accepted, moves-then, timed-join}
-use Rattle.packet_moves.proofs.ChainMoves.{work-new}
-use Rattle.packet_moves.proofs.ShellCalls.{begun-same, load-same}
+use Rattle.machine_boot.specs.KernelBoot.BegunTask.{with_begun}
+use Rattle.machine_boot.specs.KernelBoot.BootFiles.{at_line, load_files}
+use Rattle.machine_boot.specs.KernelBoot.BootTasks.{AreBootLines, IsBootForm, begin_it, create_it, load_bytes, load_named, load_names, on_answer, start_form, start_tasks}
+use Rattle.machine_boot.specs.KernelBoot.EmptyKernel.{empty_lists}
+use Rattle.machine_boot.specs.KernelBoot.ResidentKernel.{packet_from, resident_lists, resident_tasks}
+use Rattle.machine_boot.specs.KernelBoot.declared.refusals.BootRefusal.{BootRefusal}
+use Rattle.machine_boot.proofs.Shown.KernelBoot.LawfulLines.{boot-lines}
+use Rattle.machine_boot.proofs.Shown.KernelBoot.StartedTasks.{names-loaded, number-is}
+use Rattle.machine_boot.specs.KernelSteps.ResidentSteps.{with_disc}
+use Rattle.machine_boot.specs.KernelSteps.Step.{boot_events, dispatch, first_events, run_events}
+use Rattle.machine_boot.specs.KernelSteps.Stepped.{Stepped}
+use Rattle.machine_boot.proofs.Shown.KernelSteps.DispatchKept.{dispatch-numbers, three-ways}
+use Rattle.machine_boot.specs.Boot.{HasKernel, boot, first_kernel, first_lists, started, with_files, with_lines, with_standing, with_tasks}
+use Rattle.machine_boot.specs.Booted.{IsFresh}
+use Rattle.machine_boot.proofs.BegunKernels.{HasBegun, first-begun, lines-begun}
+use Rattle.machine_boot.proofs.BootedKernels.{booted-events}
+use Rattle.event_history.specs.Ledger.{Follows, IsNowhere, Ledger, same_queue, stands_in, with_queue as put}
+use Rattle.event_history.proofs.Following.{follows-join}
+use Rattle.history_law.specs.Queues.{clock_entry, entry_of, ledger_of, timed_by}
+use Rattle.history_law.proofs.Ledgers.{ledger-put, ledger-same, ledger-task}
+use Rattle.history_law.proofs.Moves.{move-accepted, moves-then, timed-join}
+use Rattle.history_law.proofs.ChainMoves.{work-new}
+use Rattle.history_law.proofs.ShellCalls.{begun-same, load-same}
 use Rattle.history_law.specs.Booted.{no_packets}
 
 -- the same queues

@@ -11,34 +11,34 @@ use Rattle.session_text.specs.KernelDispatch.KernelModel.Lists.{Lists, has_task}
 use Rattle.session_text.specs.KernelDispatch.KernelModel.Standing.{Standing, left_with, standing}
 use Rattle.session_text.specs.KernelDispatch.KernelModel.ValidKernel.{IsValid}
 use Rattle.session_text.specs.KernelDispatch.KernelModel.ValidLists.{AreValid}
-use Rattle.packet_moves.proofs.Shown.KernelCalls.KernelModel.ImageWords.{image-of}
-use Rattle.packet_moves.specs.KernelCalls.CallAnswers.Made.{Made}
-use Rattle.packet_moves.specs.KernelCalls.TaskCalls.CreateTask.{MayCreate, create_task, creation_tests, new_task, number_of, with_created}
+use Rattle.machine_boot.proofs.Shown.KernelCalls.KernelModel.ImageWords.{image-of}
+use Rattle.machine_boot.specs.KernelCalls.CallAnswers.Made.{Made}
+use Rattle.machine_boot.specs.KernelCalls.TaskCalls.CreateTask.{MayCreate, create_task, creation_tests, new_task, number_of, with_created}
 use Rattle.session_text.specs.Canonical.{IsLawfulMachine}
 use Rattle.session_text.specs.declared.sessions.LineForm.{LineForm}
 use Rattle.session_text.specs.declared.sessions.LineForm.TheVariants.{Code, File, Task as TaskForm}
 use Rattle.session_text.specs.declared.sessions.Session.{Session}
 use Rattle.session_text.specs.declared.sessions.SessionLine.{SessionLine}
-use Rattle.packet_moves.specs.KernelBoot.BootFiles.{at_line, load_files}
-use Rattle.packet_moves.specs.KernelBoot.BootTasks.{AreBootLines, IsBootForm, begin_it, create_it, load_bytes, load_named, load_names, on_answer, start_form, start_tasks}
-use Rattle.packet_moves.specs.KernelBoot.EmptyKernel.{empty_lists}
-use Rattle.packet_moves.specs.KernelBoot.ResidentKernel.{resident_lists}
-use Rattle.packet_moves.specs.KernelBoot.declared.refusals.BootRefusal.{BootRefusal}
-use Rattle.packet_moves.proofs.Shown.KernelBoot.EmptyLists.{empty-changed}
-use Rattle.packet_moves.proofs.Shown.KernelBoot.LawfulLines.{boot-lines}
-use Rattle.packet_moves.proofs.Shown.KernelBoot.ResidentLists.{residents-changed}
-use Rattle.packet_moves.proofs.Shown.KernelBoot.StartedTasks.{form-keeps, guest-created, may-create}
-use Rattle.packet_moves.specs.KernelSteps.ResidentSteps.{with_disc}
-use Rattle.packet_moves.specs.KernelSteps.Step.{dispatch, with_store}
-use Rattle.packet_moves.specs.KernelSteps.Stepped.{Stepped}
-use Rattle.packet_moves.proofs.Shown.KernelSteps.StepKept.{dispatch-same}
-use Rattle.packet_moves.proofs.Shown.KernelSteps.StoredWords.{plain-stored}
-use Rattle.packet_moves.specs.MachineBoot.Boot.{HasKernel, boot, first_kernel, first_lists, started, with_files, with_lines, with_standing, with_tasks}
-use Rattle.packet_moves.proofs.Shown.MachineBoot.BegunKernels.{HasBegun, begun-dispatches, first-begun, lines-begun}
-use Rattle.packet_moves.proofs.Shown.MachineBoot.BootedKernels.{booted-full, booted-goes}
-use Rattle.packet_moves.proofs.Shown.ValidTurns.TaskCalls.{create_task-valid}
-use Rattle.packet_moves.proofs.Shown.ValidTurns.LeftStores.{call-holds}
-use Rattle.packet_moves.proofs.Shown.ValidTurns.StartedPrograms.{begun-holds, found-holds}
+use Rattle.machine_boot.specs.KernelBoot.BootFiles.{at_line, load_files}
+use Rattle.machine_boot.specs.KernelBoot.BootTasks.{AreBootLines, IsBootForm, begin_it, create_it, load_bytes, load_named, load_names, on_answer, start_form, start_tasks}
+use Rattle.machine_boot.specs.KernelBoot.EmptyKernel.{empty_lists}
+use Rattle.machine_boot.specs.KernelBoot.ResidentKernel.{resident_lists}
+use Rattle.machine_boot.specs.KernelBoot.declared.refusals.BootRefusal.{BootRefusal}
+use Rattle.machine_boot.proofs.Shown.KernelBoot.EmptyLists.{empty-changed}
+use Rattle.machine_boot.proofs.Shown.KernelBoot.LawfulLines.{boot-lines}
+use Rattle.machine_boot.proofs.Shown.KernelBoot.ResidentLists.{residents-changed}
+use Rattle.machine_boot.proofs.Shown.KernelBoot.StartedTasks.{form-keeps, guest-created, may-create}
+use Rattle.machine_boot.specs.KernelSteps.ResidentSteps.{with_disc}
+use Rattle.machine_boot.specs.KernelSteps.Step.{dispatch, with_store}
+use Rattle.machine_boot.specs.KernelSteps.Stepped.{Stepped}
+use Rattle.machine_boot.proofs.Shown.KernelSteps.StepKept.{dispatch-same}
+use Rattle.machine_boot.proofs.Shown.KernelSteps.StoredWords.{plain-stored}
+use Rattle.machine_boot.specs.Boot.{HasKernel, boot, first_kernel, first_lists, started, with_files, with_lines, with_standing, with_tasks}
+use Rattle.machine_boot.proofs.BegunKernels.{HasBegun, begun-dispatches, first-begun, lines-begun}
+use Rattle.machine_boot.proofs.BootedKernels.{booted-full, booted-goes}
+use Rattle.history_law.proofs.TaskCalls.{create_task-valid}
+use Rattle.history_law.proofs.LeftStores.{call-holds}
+use Rattle.history_law.proofs.StartedPrograms.{begun-holds, found-holds}
 use Rattle.history_law.proofs.PlainWords.{dispatch-left, plain-like}
 use Rattle.history_law.proofs.ValidSteps.{part-valid}
 

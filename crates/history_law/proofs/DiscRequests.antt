@@ -5,15 +5,15 @@ use Rattle.ram_disc.specs.Disc.{Disc, IsDisc}
 use Rattle.ram_disc.specs.DiscCalls.{after_close, after_delete, after_open_read, after_open_write, after_rename, nth_of}
 use Rattle.ram_disc.specs.Name.{IsName}
 use Rattle.session_text.specs.KernelDispatch.KernelModel.Lists.{Lists}
-use Rattle.packet_moves.specs.KernelSteps.ConsoleHandler.ResidentRequests.Buffers.{bytes_in, lies_inside}
-use Rattle.packet_moves.specs.KernelSteps.ConsoleHandler.ResidentRequests.Names.{is_name, is_name_at, string_in}
-use Rattle.packet_moves.specs.KernelSteps.ConsoleHandler.ResidentRequests.Requests.{first_request, taken, work, words_taken}
-use Rattle.packet_moves.specs.KernelSteps.ConsoleHandler.ResidentRequests.declared.requests.Request.{Request}
-use Rattle.packet_moves.proofs.Shown.ConsoleHandler.ResidentRequests.NamesRead.{is_name-lawful}
-use Rattle.packet_moves.specs.KernelSteps.ConsoleHandler.FileHandler.FileCalls.{file_call}
-use Rattle.packet_moves.specs.KernelSteps.ConsoleHandler.FileHandler.FileRequests.{Handled, by_call, by_silent_call, call_handled, examined, file_request, first_name, refused, second_name, unless_refused}
-use Rattle.packet_moves.specs.KernelSteps.ConsoleHandler.FileHandler.FileTurn.{disc_after, disc_after_turn}
-use Rattle.packet_moves.proofs.Shown.ValidTurns.ValidCalls.{append-valid, close-valid, delete-valid, open_read-valid, open_write-valid, read-valid, rename-valid}
+use Rattle.machine_boot.specs.KernelSteps.ConsoleHandler.ResidentRequests.Buffers.{bytes_in, lies_inside}
+use Rattle.machine_boot.specs.KernelSteps.ConsoleHandler.ResidentRequests.Names.{is_name, is_name_at, string_in}
+use Rattle.machine_boot.specs.KernelSteps.ConsoleHandler.ResidentRequests.Requests.{first_request, taken, work, words_taken}
+use Rattle.machine_boot.specs.KernelSteps.ConsoleHandler.ResidentRequests.declared.requests.Request.{Request}
+use Rattle.machine_boot.proofs.Shown.ConsoleHandler.ResidentRequests.NamesRead.{is_name-lawful}
+use Rattle.machine_boot.specs.KernelSteps.ConsoleHandler.FileHandler.FileCalls.{file_call}
+use Rattle.machine_boot.specs.KernelSteps.ConsoleHandler.FileHandler.FileRequests.{Handled, by_call, by_silent_call, call_handled, examined, file_request, first_name, refused, second_name, unless_refused}
+use Rattle.machine_boot.specs.KernelSteps.ConsoleHandler.FileHandler.FileTurn.{disc_after, disc_after_turn}
+use Rattle.history_law.proofs.ValidCalls.{append-valid, close-valid, delete-valid, open_read-valid, open_write-valid, read-valid, rename-valid}
 
 module _ (d : Disc) (valid : IsDisc d) where
   -- refused it is the same disc

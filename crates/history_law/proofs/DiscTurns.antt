@@ -11,27 +11,27 @@ use Rattle.session_text.specs.KernelDispatch.KernelModel.Kernel.Mode.{Prompt, Re
 use Rattle.session_text.specs.KernelDispatch.KernelModel.Lists.{Lists}
 use Rattle.session_text.specs.KernelDispatch.KernelModel.Standing.{left_with}
 use Rattle.session_text.specs.KernelDispatch.KernelModel.declared.numbers.TheConstants.{CONSOLE, SHELL_PACKET}
-use Rattle.packet_moves.specs.KernelSteps.ConsoleHandler.ResidentRequests.Answers.{finished}
-use Rattle.packet_moves.specs.KernelSteps.ConsoleHandler.ResidentRequests.Requests.{first_request, request_at, work}
-use Rattle.packet_moves.specs.KernelSteps.ConsoleHandler.ResidentRequests.declared.requests.Request.{Request}
-use Rattle.packet_moves.specs.KernelSteps.CliShell.ShellLines.Arguments.{arguments, name_of, number_of, on_ok, option_number_at, text_at}
-use Rattle.packet_moves.specs.KernelSteps.CliShell.ShellLines.Command.{command_by, command_of, file_in, named_command, nothing_in, task_in}
-use Rattle.packet_moves.specs.KernelSteps.CliShell.ShellLines.CommandNames.{command_named}
-use Rattle.packet_moves.specs.KernelSteps.CliShell.ShellLines.Words.{first_word, rest_of}
-use Rattle.packet_moves.specs.KernelSteps.CliShell.ShellLines.declared.command_names.CommandName.{CommandName}
-use Rattle.packet_moves.specs.KernelSteps.CliShell.ShellLines.declared.command_names.CommandName.TheVariants.{TypeFile, ListFiles, DeleteFile, RenameFile, ListTasks, CountBlocks, HoldTask, ReleaseTask, SetPriority, SetFlags, RunProgram, FinishMachine}
-use Rattle.packet_moves.specs.KernelSteps.CliShell.ShellLines.declared.commands.Command.{Command}
-use Rattle.packet_moves.specs.KernelSteps.CliShell.ShellLines.declared.commands.Command.TheVariants.{Break, ChangePriority, Delete, Examine, Finish, Hold, Map, Nothing, Release, Rename, Run, Start, Status, «Type»}
-use Rattle.packet_moves.specs.KernelSteps.CliShell.ShellPrograms.StartedProgram.{start_program}
-use Rattle.packet_moves.specs.KernelSteps.CliShell.ShellPrograms.declared.programs.Priority.TheVariants.{AboveShell}
-use Rattle.packet_moves.specs.KernelSteps.CliShell.Commands.{after_run, after_start, executed, executed_if, line_executed, run_priority, with_started}
-use Rattle.packet_moves.specs.KernelSteps.CliShell.Prompts.{answered, prompted}
-use Rattle.packet_moves.specs.KernelSteps.CliShell.ShellTurn.{all_parts, ended, first_treated, packet_taken, returned_unknown, shell_turn, treated, treated_in, with_cleared}
-use Rattle.packet_moves.specs.KernelSteps.CliShell.TurnParts.{ShellTurn, and_then, begun, with_disc}
-use Rattle.packet_moves.specs.KernelSteps.CliShell.TypedFiles.{goes_on, is_typed, opened, typed, typed_if, with_piece, with_stream_closed}
-use Rattle.packet_moves.specs.KernelSteps.Step.{turn}
-use Rattle.packet_moves.proofs.Shown.KernelSteps.TurnWays.{turn-ways}
-use Rattle.packet_moves.proofs.Shown.ValidTurns.ValidCalls.{close-valid, delete-valid, open_read-valid, read-valid, rename-valid}
+use Rattle.machine_boot.specs.KernelSteps.ConsoleHandler.ResidentRequests.Answers.{finished}
+use Rattle.machine_boot.specs.KernelSteps.ConsoleHandler.ResidentRequests.Requests.{first_request, request_at, work}
+use Rattle.machine_boot.specs.KernelSteps.ConsoleHandler.ResidentRequests.declared.requests.Request.{Request}
+use Rattle.machine_boot.specs.KernelSteps.CliShell.ShellLines.Arguments.{arguments, name_of, number_of, on_ok, option_number_at, text_at}
+use Rattle.machine_boot.specs.KernelSteps.CliShell.ShellLines.Command.{command_by, command_of, file_in, named_command, nothing_in, task_in}
+use Rattle.machine_boot.specs.KernelSteps.CliShell.ShellLines.CommandNames.{command_named}
+use Rattle.machine_boot.specs.KernelSteps.CliShell.ShellLines.Words.{first_word, rest_of}
+use Rattle.machine_boot.specs.KernelSteps.CliShell.ShellLines.declared.command_names.CommandName.{CommandName}
+use Rattle.machine_boot.specs.KernelSteps.CliShell.ShellLines.declared.command_names.CommandName.TheVariants.{TypeFile, ListFiles, DeleteFile, RenameFile, ListTasks, CountBlocks, HoldTask, ReleaseTask, SetPriority, SetFlags, RunProgram, FinishMachine}
+use Rattle.machine_boot.specs.KernelSteps.CliShell.ShellLines.declared.commands.Command.{Command}
+use Rattle.machine_boot.specs.KernelSteps.CliShell.ShellLines.declared.commands.Command.TheVariants.{Break, ChangePriority, Delete, Examine, Finish, Hold, Map, Nothing, Release, Rename, Run, Start, Status, «Type»}
+use Rattle.machine_boot.specs.KernelSteps.CliShell.ShellPrograms.StartedProgram.{start_program}
+use Rattle.machine_boot.specs.KernelSteps.CliShell.ShellPrograms.declared.programs.Priority.TheVariants.{AboveShell}
+use Rattle.machine_boot.specs.KernelSteps.CliShell.Commands.{after_run, after_start, executed, executed_if, line_executed, run_priority, with_started}
+use Rattle.machine_boot.specs.KernelSteps.CliShell.Prompts.{answered, prompted}
+use Rattle.machine_boot.specs.KernelSteps.CliShell.ShellTurn.{all_parts, ended, first_treated, packet_taken, returned_unknown, shell_turn, treated, treated_in, with_cleared}
+use Rattle.machine_boot.specs.KernelSteps.CliShell.TurnParts.{ShellTurn, and_then, begun, with_disc}
+use Rattle.machine_boot.specs.KernelSteps.CliShell.TypedFiles.{goes_on, is_typed, opened, typed, typed_if, with_piece, with_stream_closed}
+use Rattle.machine_boot.specs.KernelSteps.Step.{turn}
+use Rattle.machine_boot.proofs.Shown.KernelSteps.TurnWays.{turn-ways}
+use Rattle.history_law.proofs.ValidCalls.{close-valid, delete-valid, open_read-valid, read-valid, rename-valid}
 use Rattle.history_law.proofs.DiscRequests.{handler-disc}
 
 -- ---- the names in commands

@@ -9,15 +9,15 @@ use Rattle.session_text.specs.KernelDispatch.KernelModel.Changes.{change_of, wit
 use Rattle.session_text.specs.KernelDispatch.KernelModel.Lists.{Lists}
 use Rattle.session_text.specs.KernelDispatch.KernelModel.Task.{Task, is_guest_id, task_id}
 use Rattle.session_text.specs.KernelDispatch.KernelModel.ValidLists.{AreValid}
-use Rattle.packet_moves.proofs.Shown.KernelCalls.KernelModel.ChainSplits.{IsBetween, change-between, found-between}
-use Rattle.packet_moves.proofs.Shown.KernelCalls.KernelModel.RunningTask.{running-valid, with_running}
+use Rattle.machine_boot.proofs.Shown.KernelCalls.KernelModel.ChainSplits.{IsBetween, change-between, found-between}
+use Rattle.machine_boot.proofs.Shown.KernelCalls.KernelModel.RunningTask.{running-valid, with_running}
 use Rattle.session_text.specs.KernelDispatch.Dispatch.{CanDispatch, dispatched, packets_left, resumed, takes_packet, with_packet_taken, with_suspended}
 use Rattle.session_text.specs.KernelDispatch.DispatchWords.{with_running_saved, with_started}
-use Rattle.packet_moves.proofs.Shown.KernelCalls.KernelDispatch.StartedTask.{changed-started}
-use Rattle.packet_moves.proofs.Shown.KernelCalls.KernelDispatch.SuspendedLists.{lists-suspended}
-use Rattle.packet_moves.proofs.Shown.KernelCalls.KernelDispatch.TakenPacket.{valid-taken}
-use Rattle.packet_moves.proofs.Shown.KernelSteps.DispatchKept.{three-ways}
-use Rattle.packet_moves.proofs.StoredLists.{store-holds, store_of}
+use Rattle.machine_boot.proofs.Shown.KernelCalls.KernelDispatch.StartedTask.{changed-started}
+use Rattle.machine_boot.proofs.Shown.KernelCalls.KernelDispatch.SuspendedLists.{lists-suspended}
+use Rattle.machine_boot.proofs.Shown.KernelCalls.KernelDispatch.TakenPacket.{valid-taken}
+use Rattle.machine_boot.proofs.Shown.KernelSteps.DispatchKept.{three-ways}
+use Rattle.history_law.proofs.StoredLists.{store-holds, store_of}
 
 -- the first ready task takes the packet with which it goes on, if it takes one
 module _ (m : Lists) (v : AreValid m) (t : Task) (place : IsBetween m.tasks t) where

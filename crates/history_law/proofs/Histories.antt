@@ -5,18 +5,18 @@ use Rattle.session_text.specs.KernelDispatch.KernelModel.Kernel.{Kernel}
 use Rattle.session_text.specs.KernelDispatch.KernelModel.Ranges.{most_steps}
 use Rattle.session_text.specs.KernelDispatch.KernelModel.ValidKernel.{IsValid}
 use Rattle.session_text.specs.KernelDispatch.KernelModel.declared.stops.Stop.{Stop}
-use Rattle.packet_moves.specs.KernelSteps.Step.{Stepped, key, output, step, tick, turn, with_step}
-use Rattle.packet_moves.proofs.Shown.KernelSteps.Runs.{step-steps, step-stopped}
-use Rattle.packet_moves.specs.Queues.{Moves}
-use Rattle.packet_moves.specs.SentBy.{AreOfTurn}
-use Rattle.packet_moves.proofs.Moves.{move-none}
-use Rattle.packet_moves.proofs.Shown.ValidTurns.ResidentTurns.{step-turn-valid}
-use Rattle.packet_moves.specs.HistoryLaw.{HistoryLaw, StepLaw}
-use Rattle.packet_moves.specs.Steps.{EachStep, StepMoves, due_in}
-use Rattle.packet_moves.proofs.HeldSenders.{valid-senders}
-use Rattle.packet_moves.proofs.PartEvents.{dispatch-accepts, dispatch-takes, key-returns, key-takes, output-returns, output-takes, step-parts, tick-returns, tick-takes}
-use Rattle.packet_moves.proofs.Runs.{history-events, run-history}
-use Rattle.packet_moves.proofs.StepMoved.{step-moved}
+use Rattle.machine_boot.specs.KernelSteps.Step.{Stepped, key, output, step, tick, turn, with_step}
+use Rattle.machine_boot.proofs.Shown.KernelSteps.Runs.{step-steps, step-stopped}
+use Rattle.history_law.specs.Queues.{Moves}
+use Rattle.history_law.specs.SentBy.{AreOfTurn}
+use Rattle.history_law.proofs.Moves.{move-none}
+use Rattle.history_law.proofs.ResidentTurns.{step-turn-valid}
+use Rattle.history_law.specs.HistoryLaw.{HistoryLaw, StepLaw}
+use Rattle.history_law.specs.Steps.{EachStep, StepMoves, due_in}
+use Rattle.history_law.proofs.HeldSenders.{valid-senders}
+use Rattle.history_law.proofs.PartEvents.{dispatch-accepts, dispatch-takes, key-returns, key-takes, output-returns, output-takes, step-parts, tick-returns, tick-takes}
+use Rattle.history_law.proofs.Runs.{history-events, run-history}
+use Rattle.history_law.proofs.StepMoved.{step-moved}
 use Rattle.history_law.proofs.ValidSteps.{next-valid}
 use Rattle.history_law.proofs.TurnMoves.{turn-moves}
 

@@ -6,10 +6,10 @@ use Rattle.session_text.specs.KernelDispatch.KernelModel.Kernel.{Kernel}
 use Rattle.session_text.specs.KernelDispatch.KernelModel.Lists.{Lists}
 use Rattle.session_text.specs.KernelDispatch.KernelModel.Owned.{owned}
 use Rattle.session_text.specs.KernelDispatch.KernelModel.ValidLists.{AreValid}
-use Rattle.packet_moves.specs.KernelSteps.Step.{dispatch, step, turn, with_step, with_store}
-use Rattle.packet_moves.proofs.Shown.KernelSteps.StepEnds.{step-ends}
-use Rattle.packet_moves.proofs.Shown.KernelSteps.StoredWords.{plain-stored}
-use Rattle.packet_moves.proofs.Shown.KernelSteps.TurnWays.{turn-ways}
+use Rattle.machine_boot.specs.KernelSteps.Step.{dispatch, step, turn, with_step, with_store}
+use Rattle.machine_boot.proofs.Shown.KernelSteps.StepEnds.{step-ends}
+use Rattle.machine_boot.proofs.Shown.KernelSteps.StoredWords.{plain-stored}
+use Rattle.machine_boot.proofs.Shown.KernelSteps.TurnWays.{turn-ways}
 
 -- a kernel with the lists and the plain words of another
 pub plain-like : (i j : Kernel) → HasPlainWords i → j.lists ≡ i.lists → j.plain ≡ i.plain → HasPlainWords j

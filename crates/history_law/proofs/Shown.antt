@@ -1,5 +1,5 @@
 -- Lemmas of lower crates, shown to the crates above.
-pub use Rattle.packet_moves.proofs.Shown.KernelCalls
-pub use Rattle.packet_moves.proofs.Shown.KernelMachine
-pub use Rattle.packet_moves.proofs.Shown.KernelSteps
-pub use Rattle.packet_moves.proofs.Shown.MachineBoot
+pub mod MachineBoot
+pub use Rattle.machine_boot.proofs.Shown.KernelCalls
+pub use Rattle.machine_boot.proofs.Shown.KernelMachine
+pub use Rattle.machine_boot.proofs.Shown.KernelSteps

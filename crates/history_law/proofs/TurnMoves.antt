@@ -11,21 +11,21 @@ use Rattle.session_text.specs.KernelDispatch.KernelModel.Lists.{Lists, has_task}
 use Rattle.session_text.specs.KernelDispatch.KernelModel.Task.{is_guest_id}
 use Rattle.session_text.specs.KernelDispatch.KernelModel.ValidKernel.{IsValid}
 use Rattle.session_text.specs.KernelDispatch.KernelModel.ValidLists.{AreValid}
-use Rattle.packet_moves.specs.KernelMachine.GuestTurns.GuestTurn.{Turned, turn_without_reporter}
-use Rattle.packet_moves.proofs.Shown.GuestTurns.FaultedTurn.{fault-untouched}
-use Rattle.packet_moves.specs.KernelSteps.ConsoleHandler.FaultReporter.Recorded.{recorded, recorded_events}
-use Rattle.packet_moves.specs.KernelSteps.GuestSteps.{guest_step, with_recorded}
-use Rattle.packet_moves.specs.KernelSteps.Parts.{RunsFirst}
-use Rattle.packet_moves.specs.KernelSteps.Step.{Stepped, turn, with_step}
-use Rattle.packet_moves.proofs.Shown.KernelSteps.RunningCaller.{runs-calls, runs-resident, valid-runs}
-use Rattle.packet_moves.proofs.Shown.KernelSteps.TurnWays.{IsRecorded, guest-ways, turn-guest, turn-nobody, turn-resident}
-use Rattle.packet_moves.specs.Queues.{IsDueIn}
-use Rattle.packet_moves.proofs.Shown.ValidTurns.ResidentTurns.{step-holds}
-use Rattle.packet_moves.proofs.GuestMoves.{guest-moves}
-use Rattle.packet_moves.specs.Steps.{due_in}
-use Rattle.packet_moves.proofs.ReporterMoves.{recorded-moves}
-use Rattle.packet_moves.proofs.ResidentMoves.{resident-moves}
-use Rattle.packet_moves.proofs.TakenMoves.{MovesInTurn, none-moved, then-moved}
+use Rattle.machine_boot.specs.KernelMachine.GuestTurns.GuestTurn.{Turned, turn_without_reporter}
+use Rattle.machine_boot.proofs.Shown.GuestTurns.FaultedTurn.{fault-untouched}
+use Rattle.machine_boot.specs.KernelSteps.ConsoleHandler.FaultReporter.Recorded.{recorded, recorded_events}
+use Rattle.machine_boot.specs.KernelSteps.GuestSteps.{guest_step, with_recorded}
+use Rattle.machine_boot.specs.KernelSteps.Parts.{RunsFirst}
+use Rattle.machine_boot.specs.KernelSteps.Step.{Stepped, turn, with_step}
+use Rattle.machine_boot.proofs.Shown.KernelSteps.RunningCaller.{runs-calls, runs-resident, valid-runs}
+use Rattle.machine_boot.proofs.Shown.KernelSteps.TurnWays.{IsRecorded, guest-ways, turn-guest, turn-nobody, turn-resident}
+use Rattle.history_law.specs.Queues.{IsDueIn}
+use Rattle.history_law.proofs.ResidentTurns.{step-holds}
+use Rattle.history_law.proofs.GuestMoves.{guest-moves}
+use Rattle.history_law.specs.Steps.{due_in}
+use Rattle.history_law.proofs.ReporterMoves.{recorded-moves}
+use Rattle.history_law.proofs.ResidentMoves.{resident-moves}
+use Rattle.history_law.proofs.TakenMoves.{MovesInTurn, none-moved, then-moved}
 
 module _ (due : KernelEvent → ℕ) (k : Kernel) (h : HoldsLists (image k) k.lists) (first : RunsFirst k.lists k.regs) (dues : (p : ℕ) → IsDueIn due (image k) k.lists p) where
   abbrev l : Lists

@@ -7,15 +7,15 @@ use Rattle.session_text.specs.KernelDispatch.KernelModel.ValidKernel.{IsValid}
 use Rattle.session_text.specs.KernelDispatch.KernelModel.ValidLists.{AreValid}
 use Rattle.session_text.specs.KernelDispatch.KernelModel.declared.stops.Stop.{Stop}
 use Rattle.session_text.specs.KernelDispatch.Dispatch.{CanDispatch}
-use Rattle.packet_moves.specs.KernelSteps.Parts.{IsTaken}
-use Rattle.packet_moves.specs.KernelSteps.Step.{devices, dispatch, key, run, step, tick, turn, with_step}
-use Rattle.packet_moves.proofs.Shown.KernelSteps.DevicesKept.{key-dispatch, output-dispatch, tick-dispatch}
-use Rattle.packet_moves.proofs.Shown.KernelSteps.Runs.{step-steps, step-stopped}
-use Rattle.packet_moves.proofs.Shown.KernelSteps.StepEnds.{step-ends}
-use Rattle.packet_moves.proofs.Shown.KernelSteps.StepKept.{step-left, step-turns}
-use Rattle.packet_moves.proofs.Shown.KernelSteps.TurnKept.{turn-dispatch}
-use Rattle.packet_moves.proofs.Shown.ValidTurns.ResidentTurns.{step-turn-valid}
-use Rattle.packet_moves.proofs.StepMoved.{devices-moved}
+use Rattle.machine_boot.specs.KernelSteps.Parts.{IsTaken}
+use Rattle.machine_boot.specs.KernelSteps.Step.{devices, dispatch, key, run, step, tick, turn, with_step}
+use Rattle.machine_boot.proofs.Shown.KernelSteps.DevicesKept.{key-dispatch, output-dispatch, tick-dispatch}
+use Rattle.machine_boot.proofs.Shown.KernelSteps.Runs.{step-steps, step-stopped}
+use Rattle.machine_boot.proofs.Shown.KernelSteps.StepEnds.{step-ends}
+use Rattle.machine_boot.proofs.Shown.KernelSteps.StepKept.{step-left, step-turns}
+use Rattle.machine_boot.proofs.Shown.KernelSteps.TurnKept.{turn-dispatch}
+use Rattle.history_law.proofs.ResidentTurns.{step-turn-valid}
+use Rattle.history_law.proofs.StepMoved.{devices-moved}
 use Rattle.history_law.proofs.DiscTurns.{turn-disc}
 use Rattle.history_law.proofs.DispatchedLists.{dispatched-valid}
 use Rattle.history_law.proofs.PlainWords.{step-plain}

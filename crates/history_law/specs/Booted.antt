@@ -1,12 +1,12 @@
 -- The history of a boot and of the steps after it.
 use Rattle.std.specs.Prelude.{◌≡◌, ℕ, List, [], ◌++◌}
-use Rattle.packet_moves.specs.KernelSteps.Step.{boot_events, run}
-use Rattle.packet_moves.specs.KernelSteps.Stepped.{Stepped}
-use Rattle.packet_moves.specs.EventHistory.Ledger.{Ledger, Timed}
-use Rattle.packet_moves.specs.EventHistory.QueueHistory.{QueueHistory}
-use Rattle.packet_moves.specs.Queues.{ledger_of, timed_by}
-use Rattle.packet_moves.specs.HistoryLaw.{HistoryLaw}
-use Rattle.packet_moves.specs.Steps.{history}
+use Rattle.machine_boot.specs.KernelSteps.Step.{boot_events, run}
+use Rattle.machine_boot.specs.KernelSteps.Stepped.{Stepped}
+use Rattle.event_history.specs.Ledger.{Ledger, Timed}
+use Rattle.event_history.specs.QueueHistory.{QueueHistory}
+use Rattle.history_law.specs.Queues.{ledger_of, timed_by}
+use Rattle.history_law.specs.HistoryLaw.{HistoryLaw}
+use Rattle.history_law.specs.Steps.{history}
 
 -- no queue has a packet
 abbrev pub no_packets : Ledger

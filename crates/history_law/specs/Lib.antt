@@ -1,9 +1,13 @@
+pub mod Queues
+pub mod SentBy
+pub mod Steps
+pub mod Senders
+pub mod HistoryLaw
 pub mod Booted
 -- shown to the crates above
-pub use Rattle.packet_moves.specs.KernelCalls
-pub use Rattle.packet_moves.specs.KernelBoot
-pub use Rattle.packet_moves.specs.KernelMachine
-pub use Rattle.packet_moves.specs.KernelSteps
-pub use Rattle.packet_moves.specs.MachineBoot
-pub use Rattle.packet_moves.specs.ShellListings
-pub use Rattle.packet_moves.specs as PacketMoves
+pub use Rattle.machine_boot.specs.KernelCalls
+pub use Rattle.machine_boot.specs.KernelBoot
+pub use Rattle.machine_boot.specs.KernelMachine
+pub use Rattle.machine_boot.specs.KernelSteps
+pub use Rattle.machine_boot.specs.ShellListings
+pub use Rattle.machine_boot.specs as MachineBoot

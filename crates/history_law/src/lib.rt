@@ -1,12 +1,20 @@
-// The history law: what the events of a run say of its packets. The functions do nothing: their contracts are the laws.
+// The history law: whatever happens in a step, it leaves a valid kernel and moves packets from queue to queue as its events say, so the
+// events of a run say what became of its packets. The functions do nothing: their contracts are the laws.
 #![tactic(auto)]
 
-pub mod boot_laws;
-pub mod history_laws;
-pub mod step_laws;
+pub mod boot_histories;
+pub mod guest_moves;
+pub mod queue_moves;
+pub mod resident_moves;
+pub mod run_histories;
+pub mod step_moves;
+pub mod valid_calls;
+pub mod valid_discs;
+pub mod valid_steps;
+pub mod valid_turns;
 
 // Shown to the crates above.
-pub use packet_moves::{
+pub use machine_boot::{
     Block, ByteKinds, ConsoleState, EventLog, KernelEvent, ListLog, Machine, Mode, NoLog, Parts,
     Pipes, Queue, RootField, Script, ShellState, SinkLog, Stop, Tty, Use, blocks, boot, find, head,
     load_files, numbers, packets, use_of, write_tasks,

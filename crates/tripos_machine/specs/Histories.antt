@@ -2,7 +2,7 @@
 use Rattle.std.specs.Prelude.{◌≡◌, ℕ, List, []}
 use Rattle.history_law.specs.Booted.{BootHistory}
 use Rattle.history_law.specs.KernelCalls.PacketQueue.declared.events.KernelEvent.{KernelEvent}
-use Rattle.history_law.specs.PacketMoves.HistoryLaw.{HistoryLaw}
+use Rattle.history_law.specs.HistoryLaw.{HistoryLaw}
 use Rattle.tripos_machine.specs.State.{State}
 use Rattle.tripos_machine.specs.State.State.{Bare, Full}
 use Rattle.tripos_machine.specs.Step.{Stepped}

@@ -46,11 +46,8 @@ fn restores_streams<R: Abort>(
         (17, name, 511, false, false),
         (3, name, 513, true, false),
     ] {
-        assert_eq!(rt;
-            disc.restore_stream(k, name, place, writes),
-            set,
-            "{k} at {place}"
-        );
+        let got = disc.restore_stream(k, name, place, writes);
+        same(rt, (k, place, got), (k, place, set));
     }
     same(rt, disc.stream(17).map(|stream| stream.1), Some(511));
     same(rt, disc.close(17), Ok(()));

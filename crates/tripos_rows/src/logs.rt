@@ -41,7 +41,7 @@ fn a_list_log_keeps_what_it_has_room_for(rt: HostRuntime) -> Result<(), Fail> {
     let mut log = ListLog::make(rt.alloc(), 2).map_err(|_| "memory")?;
     for (task, failed) in [(7, false), (8, false), (9, true)] {
         log.note(KernelEvent::Runs { task });
-        assert_eq!(rt; log.failed(), failed, "after task {task}");
+        same(&rt, (task, log.failed()), (task, failed));
     }
     let kept = [KernelEvent::Runs { task: 7 }, KernelEvent::Runs { task: 8 }];
     same(&rt, log.events(), kept.as_slice());
@@ -55,15 +55,12 @@ fn lines_go_out_when_there_are_many(rt: HostRuntime) -> Result<(), Fail> {
     let cut = Err(SinkFault);
     for (fails, answer, lines) in [(0, Ok(()), 600), (1, cut, 0), (2, cut, 546)] {
         let mut sink = MemorySink::new(rt.alloc(), 16384, &[fails]).map_err(|_| "memory")?;
-        assert_eq!(rt;
-            print_events(&mut sink, &events),
-            answer,
-            "where write {fails} fails"
-        );
-        assert_eq!(rt;
-            sink.bytes().len(),
-            lines * line.len(),
-            "where write {fails} fails"
+        let got = print_events(&mut sink, &events);
+        let length = lines * line.len();
+        same(
+            &rt,
+            (fails, got, sink.bytes().len()),
+            (fails, answer, length),
         );
         assert!(rt; sink.bytes().chunks(line.len()).all(|l| l == line));
     }

@@ -17,14 +17,11 @@ fn sets_up_pipes(rt: HostRuntime) -> Result<(), Fail> {
         (2, &other, true),
     ] {
         let set = pipes.restore(k, (true, false, true), name, b"held");
-        assert_eq!(rt; set, wanted, "pipe {k}");
+        same(&rt, (k, set), (k, wanted));
     }
     for (place, wanted) in [(0, Some(b'h')), (3, Some(b'd')), (4, None)] {
-        assert_eq!(rt;
-            pipes.pipe(2).and_then(|pipe| pipe.at(place)),
-            wanted,
-            "at {place}"
-        );
+        let got = pipes.pipe(2).and_then(|pipe| pipe.at(place));
+        same(&rt, (place, got), (place, wanted));
     }
     let mut into = [0; 5];
     same(&rt, pipes.read(3, true, &mut into), Ok(4));

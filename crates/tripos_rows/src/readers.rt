@@ -1,4 +1,5 @@
 // Numbers of any length.
+use crate::same::same;
 use hunk_text::any_number;
 
 #[test]
@@ -12,6 +13,10 @@ fn caps_long_numbers(rt: HostRuntime) {
         ("99999999999999999999", Some(18_446_744_073_709_551_615)),
         ("1_", None),
     ] {
-        assert_eq!(rt; any_number(digits.as_bytes()), wanted, "{digits}");
+        same(
+            &rt,
+            (digits, any_number(digits.as_bytes())),
+            (digits, wanted),
+        );
     }
 }

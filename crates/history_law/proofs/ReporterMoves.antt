@@ -1,0 +1,100 @@
+-- A fault is recorded, and reported.
+use Rattle.std.proofs.Common.{◌≡◌, ℕ, ◌+◌, ◌&&◌, not, Bool, true, false, cond, eqb, List, [], ◌∷◌, map, refl, sym, ap, ◌∙◌, subst, arith}
+use Rattle.std.proofs.lemmas.Bool.{eqb-true}
+use Rattle.word_store.specs.Arithmetic.{signed}
+use Rattle.cint_exec.specs.declared.Fault.{Fault}
+use Rattle.machine_boot.specs.KernelCalls.PacketQueue.QueueWords.{QueuedPacket}
+use Rattle.machine_boot.specs.KernelCalls.PacketQueue.declared.events.KernelEvent.{KernelEvent}
+use Rattle.machine_boot.specs.KernelCalls.PacketQueue.declared.events.KernelEvent.TheVariants.{Accepted, Taken}
+use Rattle.machine_boot.specs.KernelCalls.KernelModel.Between.{is_unreported}
+use Rattle.machine_boot.specs.KernelCalls.KernelModel.Changes.{queue_of, with_queue, work_of}
+use Rattle.machine_boot.specs.KernelCalls.KernelModel.HoldsLists.{HoldsLists}
+use Rattle.machine_boot.specs.KernelCalls.KernelModel.Lists.{Lists, has_task, is_queued}
+use Rattle.machine_boot.specs.KernelCalls.KernelModel.Residents.{fault_packet}
+use Rattle.machine_boot.specs.KernelCalls.KernelModel.Task.{Task}
+use Rattle.machine_boot.specs.KernelCalls.KernelModel.ValidLists.{AreValid}
+use Rattle.machine_boot.specs.KernelCalls.KernelModel.ValidQueues.Place.{Work}
+use Rattle.machine_boot.specs.KernelCalls.KernelModel.declared.numbers.TheConstants.{REPORTER}
+use Rattle.machine_boot.specs.KernelCalls.PacketCalls.PacketMoves.{with_arrived}
+use Rattle.machine_boot.specs.KernelSteps.ConsoleHandler.ResidentRequests.Answers.{finished}
+use Rattle.machine_boot.specs.KernelSteps.ConsoleHandler.ResidentRequests.Requests.{RunsResident, work}
+use Rattle.machine_boot.specs.KernelSteps.ConsoleHandler.ResidentRequests.Turns.{request_turn}
+use Rattle.machine_boot.specs.KernelSteps.ConsoleHandler.FaultReporter.FaultTurns.{all_reported, fault_turn, fault_turn_from, is_fault_first, packet_taken, reported, reported_turn, unknown}
+use Rattle.machine_boot.specs.KernelSteps.ConsoleHandler.FaultReporter.Recorded.{events_where, held_with, packet_from, recorded, recorded_events, sent_where, with_fault}
+use Rattle.machine_boot.proofs.Shown.ConsoleHandler.FaultReporter.HeldGuest.{held-reporter}
+use Rattle.machine_boot.proofs.Shown.ConsoleHandler.FaultReporter.ReportedTurn.{takes-other}
+use Rattle.event_history.specs.Ledger.{IsNowhere}
+use Rattle.history_law.specs.Queues.{ledger_of}
+use Rattle.history_law.proofs.Ledgers.{ledger-same, ledger-task}
+use Rattle.history_law.proofs.Moves.{low-named, move-accepted, moves-from, moves-same, signed-low}
+use Rattle.history_law.proofs.SentEvents.{low-clock, turn-accepted}
+use Rattle.history_law.proofs.FreePackets.{unqueued-nowhere}
+use Rattle.history_law.proofs.RequestMoves.{TurnMoves, finished-same, request-moves}
+use Rattle.history_law.proofs.TakenMoves.{MovesInTurn, none-moved, same-moved, taken-moves}
+
+-- ---- the reporter's turn
+
+work-reported : (n : ℕ) (ts : List Task) → work_of n (map reported ts) ≡ work_of n ts
+work-reported n [] = refl
+work-reported n (t ∷ ts) = λ i. cond (eqb (number (is_unreported t) i) n) (packets (is_unreported t) i) (work-reported n ts i)
+  where
+    number : (b : Bool) → (cond b (record t { fault = t.fault + 256 }) t).id ≡ t.id
+    number true = refl
+    number false = refl
+
+    packets : (b : Bool) → (cond b (record t { fault = t.fault + 256 }) t).queue ≡ t.queue
+    packets true = refl
+    packets false = refl
+
+reported-same : (l : Lists) → ledger_of (all_reported l) ≡ ledger_of l
+reported-same l = ledger-same l (all_reported l) (λ n. work-reported n l.tasks) refl refl refl refl
+
+pub reporter-moves : (due : KernelEvent → ℕ) (s : List ℕ) (l : Lists) → HoldsLists s l → RunsResident l → l.running ≡ REPORTER → TurnMoves due l (fault_turn s l)
+reporter-moves due s l h r two = on (work l) refl
+  where
+    queue : (ps : List QueuedPacket) → work l ≡ ps → queue_of (Work 2) l ≡ ps
+    queue ps is = ap (λ i. queue_of (Work i) l) (sym two) ∙ is
+
+    on : (ps : List QueuedPacket) → work l ≡ ps → TurnMoves due l (fault_turn_from ps s l)
+    on [] is = none-moved due (signed l.running) l (finished l) (finished-same l)
+    on (p ∷ ps) is = by (eqb p.address fault_packet) refl
+      where
+        q : Lists
+        q = with_queue (Work 2) ps l
+
+        by : (b : Bool) → eqb p.address fault_packet ≡ b → TurnMoves due l (cond b (reported_turn p ps s l) (request_turn unknown s l))
+        by true e =
+            same-moved due (signed l.running) l q (finished (all_reported (packet_taken ps l))) (Taken (signed 2) fault_packet (signed p.sender) ∷ [])
+            (finished-same (all_reported (packet_taken ps l)) ∙ reported-same (packet_taken ps l) ∙ ledger-same q (packet_taken ps l) (λ n. refl) refl refl refl refl)
+            (subst (λ a. MovesInTurn due (signed l.running) l (Taken (signed 2) a (signed p.sender) ∷ []) q) (eqb-true p.address fault_packet e)
+            (taken-moves due (signed l.running) s l h (Work 2) p ps (queue (p ∷ ps) is) (low-named 2 (omega arith)) (signed 2) (signed-low 2 (omega arith)) (low-clock 2 (omega arith))))
+        by false e = request-moves due unknown s l h (takes-other l h.valid r two (ap is_fault_first is ∙ e))
+
+-- ---- a fault of the running task is recorded
+
+pub recorded-moves : (due : KernelEvent → ℕ) (f : Fault) (l : Lists) → AreValid l → has_task REPORTER l.tasks ≡ true → MovesInTurn due (signed l.running) l (recorded_events f l) (recorded f l)
+recorded-moves due f l v two = record { moves = moves-from due l m (recorded f l) (recorded_events f l) same (on l.fault_packet_free refl).moves; turn = (on l.fault_packet_free refl).turn }
+  where
+    m : Lists
+    m = held_with f l
+
+    same : ledger_of m ≡ ledger_of l
+    same = ledger-task l l.running (with_fault f) (λ t. (refl, refl))
+
+    off : (b c : Bool) → true ≡ (b && not c) → c ≡ false
+    off true true e = cc
+    off true false e = refl
+    off false c e = cc
+
+    on : (b : Bool) → l.fault_packet_free ≡ b → MovesInTurn due (signed l.running) m (events_where b m) (sent_where b m)
+    on false free = none-moved due (signed l.running) m m refl
+    on true free =
+        let p : QueuedPacket = packet_from l.running in
+        let nowhere : IsNowhere fault_packet (ledger_of m) = subst (IsNowhere fault_packet) (sym same) (unqueued-nowhere l v fault_packet (off (has_task 2 l.tasks) (is_queued fault_packet l) (sym free ∙ v.queues.fault))) in
+        record {
+          moves =
+              moves-same due m (with_arrived (Work 2) p m) (sent_where true m) (Accepted (signed 2) fault_packet (signed l.running) ∷ [])
+              (ledger-same (with_arrived (Work 2) p m) (sent_where true m) (λ n. refl) refl refl refl refl)
+              (move-accepted due m (Work 2) p (held-reporter l f two) (low-named 2 (omega arith)) nowhere tt);
+          turn = turn-accepted (signed l.running) (signed 2) fault_packet refl;
+        }
