@@ -1,6 +1,6 @@
 -- The history from a boot on.
 use Rattle.std.proofs.Common.{◌≡◌, ℕ, ◌+◌, ◌≤◌, Ok, ◌++◌, arith}
-use Rattle.session_text.specs.KernelDispatch.KernelModel.Ranges.{most_steps}
+use Rattle.machine_boot.specs.KernelCalls.KernelModel.Ranges.{most_steps}
 use Rattle.session_text.specs.declared.sessions.Session.{Session}
 use Rattle.machine_boot.specs.KernelSteps.Step.{run}
 use Rattle.machine_boot.specs.KernelSteps.Stepped.{Stepped}

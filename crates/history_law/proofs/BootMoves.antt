@@ -6,19 +6,19 @@ use Rattle.std.specs.Option.{option_map}
 use Rattle.word_store.specs.declared.registers.Regs.{Regs}
 use Rattle.hunk_text.specs.TextReader.Steps.{◌>>=◌}
 use Rattle.ram_disc.specs.Disc.{Disc, file_named}
-use Rattle.session_text.specs.KernelDispatch.PacketQueue.QueueWords.{QueuedPacket}
-use Rattle.session_text.specs.KernelDispatch.PacketQueue.declared.events.KernelEvent.{KernelEvent}
-use Rattle.session_text.specs.KernelDispatch.PacketQueue.declared.events.KernelEvent.TheVariants.{Accepted, Runs}
-use Rattle.session_text.specs.KernelDispatch.KernelModel.Changes.{change_of, with_work, work_of}
-use Rattle.session_text.specs.KernelDispatch.KernelModel.Image.{image, settled}
-use Rattle.session_text.specs.KernelDispatch.KernelModel.Kernel.{Kernel}
-use Rattle.session_text.specs.KernelDispatch.KernelModel.Lists.{Lists, has_task}
-use Rattle.session_text.specs.KernelDispatch.KernelModel.Residents.{key_packet}
-use Rattle.session_text.specs.KernelDispatch.KernelModel.Standing.{standing, Standing, left_with}
-use Rattle.session_text.specs.KernelDispatch.KernelModel.Task.{Task, is_guest_id}
-use Rattle.session_text.specs.KernelDispatch.KernelModel.ValidQueues.Place.{Keyboard, Work}
+use Rattle.machine_boot.specs.KernelCalls.PacketQueue.QueueWords.{QueuedPacket}
+use Rattle.machine_boot.specs.KernelCalls.PacketQueue.declared.events.KernelEvent.{KernelEvent}
+use Rattle.machine_boot.specs.KernelCalls.PacketQueue.declared.events.KernelEvent.TheVariants.{Accepted, Runs}
+use Rattle.machine_boot.specs.KernelCalls.KernelModel.Changes.{change_of, with_work, work_of}
+use Rattle.machine_boot.specs.KernelCalls.KernelModel.Image.{image, settled}
+use Rattle.machine_boot.specs.KernelCalls.KernelModel.Kernel.{Kernel}
+use Rattle.machine_boot.specs.KernelCalls.KernelModel.Lists.{Lists, has_task}
+use Rattle.machine_boot.specs.KernelCalls.KernelModel.Residents.{key_packet}
+use Rattle.machine_boot.specs.KernelCalls.KernelModel.Standing.{standing, Standing, left_with}
+use Rattle.machine_boot.specs.KernelCalls.KernelModel.Task.{Task, is_guest_id}
+use Rattle.machine_boot.specs.KernelCalls.KernelModel.ValidQueues.Place.{Keyboard, Work}
 use Rattle.machine_boot.proofs.Shown.KernelCalls.KernelModel.EachMember.{all-each}
-use Rattle.session_text.specs.KernelDispatch.Dispatch.{dispatched, packets_left, resumed, suspended, takes_packet, with_nobody, with_resumed, with_suspended}
+use Rattle.machine_boot.specs.KernelCalls.KernelDispatch.Dispatch.{dispatched, packets_left, resumed, suspended, takes_packet, with_nobody, with_resumed, with_suspended}
 use Rattle.machine_boot.specs.KernelCalls.CallAnswers.Made.{Made, by_refusal}
 use Rattle.machine_boot.specs.KernelCalls.CallAnswers.Refusals.{first_refusal}
 use Rattle.machine_boot.specs.KernelCalls.TaskCalls.CreateTask.{create_task, creation_tests, new_task, number_of as given_number, with_created}
@@ -229,9 +229,9 @@ files-same lines k j is = on (load_files k.disc lines) is
     on (Ok d) f = (let same : with_disc d k ≡ j = cc in ap (λ (z : Kernel). z.lists) (sym same))
     on (Err refusal) f = cc
 
-started-same : (version : ℕ) (lines : List SessionLine) (k j : Kernel) → AreBootLines version lines → with_tasks lines k ≡ Ok j → Same k.lists j.lists
+with_tasks-same : (version : ℕ) (lines : List SessionLine) (k j : Kernel) → AreBootLines version lines → with_tasks lines k ≡ Ok j → Same k.lists j.lists
 unfolding with_tasks
-started-same version lines k j may is = on (start_tasks k.disc lines (standing (image k) k.lists)) refl is
+with_tasks-same version lines k j may is = on (start_tasks k.disc lines (standing (image k) k.lists)) refl is
   where
     on : (r : Result Standing BootRefusal) → start_tasks k.disc lines (standing (image k) k.lists) ≡ r → (r >>= (λ x. Ok (with_standing x k))) ≡ Ok j → Same k.lists j.lists
     on (Ok x) e f =
@@ -244,7 +244,7 @@ unfolding with_lines
 lines-same version lines k j may is = on (with_files lines k) refl is
   where
     on : (r : Result Kernel BootRefusal) → with_files lines k ≡ r → (r >>= with_tasks lines) ≡ Ok j → Same k.lists j.lists
-    on (Ok i) e f = started-same version lines i j may f ∙ ap ledger_of (files-same lines k i e)
+    on (Ok i) e f = with_tasks-same version lines i j may f ∙ ap ledger_of (files-same lines k i e)
     on (Err refusal) e f = cc
 
 -- ---- the first dispatch

@@ -4,13 +4,13 @@ use Rattle.std.specs.Prelude.{unwrap_or}
 use Rattle.std.specs.Option.{option_map}
 use Rattle.hunk_text.specs.TextReader.Steps.{◌>>=◌}
 use Rattle.ram_disc.specs.Disc.{Disc, file_named}
-use Rattle.session_text.specs.KernelDispatch.KernelModel.HoldsLists.{HoldsLists}
-use Rattle.session_text.specs.KernelDispatch.KernelModel.Image.{HasPlainWords, IsImage, image}
-use Rattle.session_text.specs.KernelDispatch.KernelModel.Kernel.{Kernel}
-use Rattle.session_text.specs.KernelDispatch.KernelModel.Lists.{Lists, has_task}
-use Rattle.session_text.specs.KernelDispatch.KernelModel.Standing.{Standing, left_with, standing}
-use Rattle.session_text.specs.KernelDispatch.KernelModel.ValidKernel.{IsValid}
-use Rattle.session_text.specs.KernelDispatch.KernelModel.ValidLists.{AreValid}
+use Rattle.machine_boot.specs.KernelCalls.KernelModel.HoldsLists.{HoldsLists}
+use Rattle.machine_boot.specs.KernelCalls.KernelModel.Image.{HasPlainWords, IsImage, image}
+use Rattle.machine_boot.specs.KernelCalls.KernelModel.Kernel.{Kernel}
+use Rattle.machine_boot.specs.KernelCalls.KernelModel.Lists.{Lists, has_task}
+use Rattle.machine_boot.specs.KernelCalls.KernelModel.Standing.{Standing, left_with, standing}
+use Rattle.machine_boot.specs.KernelCalls.KernelModel.ValidKernel.{IsValid}
+use Rattle.machine_boot.specs.KernelCalls.KernelModel.ValidLists.{AreValid}
 use Rattle.machine_boot.proofs.Shown.KernelCalls.KernelModel.ImageWords.{image-of}
 use Rattle.machine_boot.specs.KernelCalls.CallAnswers.Made.{Made}
 use Rattle.machine_boot.specs.KernelCalls.TaskCalls.CreateTask.{MayCreate, create_task, creation_tests, new_task, number_of, with_created}

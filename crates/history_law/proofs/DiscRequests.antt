@@ -4,7 +4,7 @@ use Rattle.std.proofs.lemmas.Bool.{and_parts, eqb-true}
 use Rattle.ram_disc.specs.Disc.{Disc, IsDisc}
 use Rattle.ram_disc.specs.DiscCalls.{after_close, after_delete, after_open_read, after_open_write, after_rename, nth_of}
 use Rattle.ram_disc.specs.Name.{IsName}
-use Rattle.session_text.specs.KernelDispatch.KernelModel.Lists.{Lists}
+use Rattle.machine_boot.specs.KernelCalls.KernelModel.Lists.{Lists}
 use Rattle.machine_boot.specs.KernelSteps.ConsoleHandler.ResidentRequests.Buffers.{bytes_in, lies_inside}
 use Rattle.machine_boot.specs.KernelSteps.ConsoleHandler.ResidentRequests.Names.{is_name, is_name_at, string_in}
 use Rattle.machine_boot.specs.KernelSteps.ConsoleHandler.ResidentRequests.Requests.{first_request, taken, work, words_taken}

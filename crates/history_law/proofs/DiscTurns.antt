@@ -4,13 +4,13 @@ use Rattle.ram_disc.specs.Disc.{Disc, IsDisc, shell_stream}
 use Rattle.ram_disc.specs.DiscCalls.{after_delete, after_open_read, after_rename}
 use Rattle.ram_disc.specs.Name.{IsName, is_name}
 use Rattle.ram_disc.proofs.NameLemmas.{IsName-from_test}
-use Rattle.session_text.specs.KernelDispatch.PacketQueue.QueueWords.{QueuedPacket}
-use Rattle.session_text.specs.KernelDispatch.KernelModel.Image.{image}
-use Rattle.session_text.specs.KernelDispatch.KernelModel.Kernel.{Kernel, Mode, Shell}
-use Rattle.session_text.specs.KernelDispatch.KernelModel.Kernel.Mode.{Prompt, Reading, Typing, Waiting}
-use Rattle.session_text.specs.KernelDispatch.KernelModel.Lists.{Lists}
-use Rattle.session_text.specs.KernelDispatch.KernelModel.Standing.{left_with}
-use Rattle.session_text.specs.KernelDispatch.KernelModel.declared.numbers.TheConstants.{CONSOLE, SHELL_PACKET}
+use Rattle.machine_boot.specs.KernelCalls.PacketQueue.QueueWords.{QueuedPacket}
+use Rattle.machine_boot.specs.KernelCalls.KernelModel.Image.{image}
+use Rattle.machine_boot.specs.KernelCalls.KernelModel.Kernel.{Kernel, Mode, Shell}
+use Rattle.machine_boot.specs.KernelCalls.KernelModel.Kernel.Mode.{Prompt, Reading, Typing, Waiting}
+use Rattle.machine_boot.specs.KernelCalls.KernelModel.Lists.{Lists}
+use Rattle.machine_boot.specs.KernelCalls.KernelModel.Standing.{left_with}
+use Rattle.machine_boot.specs.KernelCalls.KernelModel.declared.numbers.TheConstants.{CONSOLE, SHELL_PACKET}
 use Rattle.machine_boot.specs.KernelSteps.ConsoleHandler.ResidentRequests.Answers.{finished}
 use Rattle.machine_boot.specs.KernelSteps.ConsoleHandler.ResidentRequests.Requests.{first_request, request_at, work}
 use Rattle.machine_boot.specs.KernelSteps.ConsoleHandler.ResidentRequests.declared.requests.Request.{Request}

@@ -3,16 +3,16 @@ use Rattle.std.proofs.Common.{◌≡◌, ℕ, inl, Bool, true, false, cond, List
 use Rattle.std.proofs.lemmas.Bool.{and_parts}
 use Rattle.word_store.specs.Count.{IsApart}
 use Rattle.word_store.specs.declared.registers.Regs.{Regs}
-use Rattle.session_text.specs.KernelDispatch.PacketQueue.QueueWords.{QueuedPacket}
-use Rattle.session_text.specs.KernelDispatch.KernelModel.Between.{is_ready}
-use Rattle.session_text.specs.KernelDispatch.KernelModel.Changes.{change_of, with_task, with_tasks}
-use Rattle.session_text.specs.KernelDispatch.KernelModel.Lists.{Lists}
-use Rattle.session_text.specs.KernelDispatch.KernelModel.Task.{Task, is_guest_id, task_id}
-use Rattle.session_text.specs.KernelDispatch.KernelModel.ValidLists.{AreValid}
+use Rattle.machine_boot.specs.KernelCalls.PacketQueue.QueueWords.{QueuedPacket}
+use Rattle.machine_boot.specs.KernelCalls.KernelModel.Between.{is_ready}
+use Rattle.machine_boot.specs.KernelCalls.KernelModel.Changes.{change_of, with_task, with_tasks}
+use Rattle.machine_boot.specs.KernelCalls.KernelModel.Lists.{Lists}
+use Rattle.machine_boot.specs.KernelCalls.KernelModel.Task.{Task, is_guest_id, task_id}
+use Rattle.machine_boot.specs.KernelCalls.KernelModel.ValidLists.{AreValid}
 use Rattle.machine_boot.proofs.Shown.KernelCalls.KernelModel.ChainSplits.{IsBetween, change-between, found-between}
 use Rattle.machine_boot.proofs.Shown.KernelCalls.KernelModel.RunningTask.{running-valid, with_running}
-use Rattle.session_text.specs.KernelDispatch.Dispatch.{CanDispatch, dispatched, packets_left, resumed, takes_packet, with_packet_taken, with_suspended}
-use Rattle.session_text.specs.KernelDispatch.DispatchWords.{with_running_saved, with_started}
+use Rattle.machine_boot.specs.KernelCalls.KernelDispatch.Dispatch.{CanDispatch, dispatched, packets_left, resumed, takes_packet, with_packet_taken, with_suspended}
+use Rattle.machine_boot.specs.KernelCalls.KernelDispatch.DispatchWords.{with_running_saved, with_started}
 use Rattle.machine_boot.proofs.Shown.KernelCalls.KernelDispatch.StartedTask.{changed-started}
 use Rattle.machine_boot.proofs.Shown.KernelCalls.KernelDispatch.SuspendedLists.{lists-suspended}
 use Rattle.machine_boot.proofs.Shown.KernelCalls.KernelDispatch.TakenPacket.{valid-taken}

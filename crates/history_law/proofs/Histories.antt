@@ -1,10 +1,10 @@
 -- The history of every run of a valid kernel.
 use Rattle.std.proofs.Common.{◌≡◌, ℕ, zero, suc, ◌+◌, ◌≤◌, Option, Some, None, sym, ◌∙◌, subst, arith, refl}
 use Rattle.word_store.specs.Arithmetic.{signed}
-use Rattle.session_text.specs.KernelDispatch.KernelModel.Kernel.{Kernel}
-use Rattle.session_text.specs.KernelDispatch.KernelModel.Ranges.{most_steps}
-use Rattle.session_text.specs.KernelDispatch.KernelModel.ValidKernel.{IsValid}
-use Rattle.session_text.specs.KernelDispatch.KernelModel.declared.stops.Stop.{Stop}
+use Rattle.machine_boot.specs.KernelCalls.KernelModel.Kernel.{Kernel}
+use Rattle.machine_boot.specs.KernelCalls.KernelModel.Ranges.{most_steps}
+use Rattle.machine_boot.specs.KernelCalls.KernelModel.ValidKernel.{IsValid}
+use Rattle.machine_boot.specs.KernelCalls.KernelModel.declared.stops.Stop.{Stop}
 use Rattle.machine_boot.specs.KernelSteps.Step.{Stepped, key, output, step, tick, turn, with_step}
 use Rattle.machine_boot.proofs.Shown.KernelSteps.Runs.{step-steps, step-stopped}
 use Rattle.history_law.specs.Queues.{Moves}

@@ -1,11 +1,11 @@
 -- The plain words of a kernel after a step are those that nobody owns.
 use Rattle.std.proofs.Common.{◌≡◌, ℕ, List, None, get_or, length, ◌<◌, refl, sym, ap, ◌∙◌, subst, arith}
-use Rattle.session_text.specs.KernelDispatch.OwnedWords.Owned.{owners}
-use Rattle.session_text.specs.KernelDispatch.KernelModel.Image.{HasPlainWords, settled}
-use Rattle.session_text.specs.KernelDispatch.KernelModel.Kernel.{Kernel}
-use Rattle.session_text.specs.KernelDispatch.KernelModel.Lists.{Lists}
-use Rattle.session_text.specs.KernelDispatch.KernelModel.Owned.{owned}
-use Rattle.session_text.specs.KernelDispatch.KernelModel.ValidLists.{AreValid}
+use Rattle.machine_boot.specs.KernelCalls.OwnedWords.Owned.{owners}
+use Rattle.machine_boot.specs.KernelCalls.KernelModel.Image.{HasPlainWords, settled}
+use Rattle.machine_boot.specs.KernelCalls.KernelModel.Kernel.{Kernel}
+use Rattle.machine_boot.specs.KernelCalls.KernelModel.Lists.{Lists}
+use Rattle.machine_boot.specs.KernelCalls.KernelModel.Owned.{owned}
+use Rattle.machine_boot.specs.KernelCalls.KernelModel.ValidLists.{AreValid}
 use Rattle.machine_boot.specs.KernelSteps.Step.{dispatch, step, turn, with_step, with_store}
 use Rattle.machine_boot.proofs.Shown.KernelSteps.StepEnds.{step-ends}
 use Rattle.machine_boot.proofs.Shown.KernelSteps.StoredWords.{plain-stored}

@@ -24,7 +24,7 @@ use Rattle.machine_boot.specs.KernelCalls.CallAnswers.Modules.{has_module}
 use Rattle.machine_boot.specs.KernelCalls.CallAnswers.Refusals.{first_refusal}
 use Rattle.machine_boot.proofs.Shown.KernelCalls.CallAnswers.FoundTask.{reads}
 use Rattle.machine_boot.proofs.Shown.KernelCalls.CallAnswers.ListedModules.{module-told}
-use Rattle.machine_boot.proofs.Shown.KernelCalls.CallAnswers.Refusals.{first_refusal-front}
+use Rattle.machine_boot.proofs.Shown.KernelCalls.CallAnswers.Refusals.{first_refusal-front, passed-tests}
 use Rattle.machine_boot.specs.KernelCalls.BlockCalls.FreeStore.{with_taken}
 use Rattle.machine_boot.specs.KernelCalls.BlockCalls.Getvec.{getvec_tests}
 use Rattle.machine_boot.proofs.Shown.KernelCalls.BlockCalls.TakenStore.{taken-changed}
@@ -43,7 +43,6 @@ use Rattle.machine_boot.proofs.Shown.KernelCalls.TaskCalls.EndTests.{may-go}
 use Rattle.machine_boot.proofs.Shown.KernelCalls.TaskCalls.EndedTask.{removed-made}
 use Rattle.machine_boot.proofs.Shown.KernelCalls.TaskCalls.PlacedTask.{comes}
 use Rattle.machine_boot.proofs.Shown.KernelCalls.TaskCalls.TestsInTurn.{all-passed}
-use Rattle.machine_boot.proofs.Shown.KernelCalls.CallAnswers.Refusals.{passed-tests}
 use Rattle.history_law.proofs.NoKeeper.{tells_nothing}
 use Rattle.history_law.proofs.OneGuest.{guest-stands, state-valid}
 use Rattle.history_law.proofs.TestedCalls.{calling-guest, tested-guest, unless-valid}

@@ -3,14 +3,14 @@ use Rattle.std.proofs.Common.{◌≡◌, ℕ, Bool, true, false, None, inl, inr,
 use Rattle.std.proofs.lemmas.Bool.{cases_eq}
 use Rattle.word_store.specs.Arithmetic.{signed}
 use Rattle.cint_exec.specs.declared.Fault.{Fault}
-use Rattle.session_text.specs.KernelDispatch.PacketQueue.declared.events.KernelEvent.{KernelEvent}
-use Rattle.session_text.specs.KernelDispatch.KernelModel.HoldsLists.{HoldsLists}
-use Rattle.session_text.specs.KernelDispatch.KernelModel.Image.{image, word_of}
-use Rattle.session_text.specs.KernelDispatch.KernelModel.Kernel.{Kernel}
-use Rattle.session_text.specs.KernelDispatch.KernelModel.Lists.{Lists, has_task}
-use Rattle.session_text.specs.KernelDispatch.KernelModel.Task.{is_guest_id}
-use Rattle.session_text.specs.KernelDispatch.KernelModel.ValidKernel.{IsValid}
-use Rattle.session_text.specs.KernelDispatch.KernelModel.ValidLists.{AreValid}
+use Rattle.machine_boot.specs.KernelCalls.PacketQueue.declared.events.KernelEvent.{KernelEvent}
+use Rattle.machine_boot.specs.KernelCalls.KernelModel.HoldsLists.{HoldsLists}
+use Rattle.machine_boot.specs.KernelCalls.KernelModel.Image.{image, word_of}
+use Rattle.machine_boot.specs.KernelCalls.KernelModel.Kernel.{Kernel}
+use Rattle.machine_boot.specs.KernelCalls.KernelModel.Lists.{Lists, has_task}
+use Rattle.machine_boot.specs.KernelCalls.KernelModel.Task.{is_guest_id}
+use Rattle.machine_boot.specs.KernelCalls.KernelModel.ValidKernel.{IsValid}
+use Rattle.machine_boot.specs.KernelCalls.KernelModel.ValidLists.{AreValid}
 use Rattle.machine_boot.specs.KernelMachine.GuestTurns.GuestTurn.{Turned, turn_without_reporter}
 use Rattle.machine_boot.proofs.Shown.GuestTurns.FaultedTurn.{fault-untouched}
 use Rattle.machine_boot.specs.KernelSteps.ConsoleHandler.FaultReporter.Recorded.{recorded, recorded_events}

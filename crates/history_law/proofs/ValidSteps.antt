@@ -1,12 +1,12 @@
 -- A step of a valid kernel leaves a valid kernel.
 use Rattle.std.proofs.Common.{◌≡◌, ℕ, zero, suc, ◌+◌, ◌<◌, ◌≤◌, Option, Some, None, refl, sym, ◌∙◌, subst, arith}
-use Rattle.session_text.specs.KernelDispatch.KernelModel.Image.{image, settled}
-use Rattle.session_text.specs.KernelDispatch.KernelModel.Kernel.{Kernel}
-use Rattle.session_text.specs.KernelDispatch.KernelModel.Ranges.{most_steps}
-use Rattle.session_text.specs.KernelDispatch.KernelModel.ValidKernel.{IsValid}
-use Rattle.session_text.specs.KernelDispatch.KernelModel.ValidLists.{AreValid}
-use Rattle.session_text.specs.KernelDispatch.KernelModel.declared.stops.Stop.{Stop}
-use Rattle.session_text.specs.KernelDispatch.Dispatch.{CanDispatch}
+use Rattle.machine_boot.specs.KernelCalls.KernelModel.Image.{image, settled}
+use Rattle.machine_boot.specs.KernelCalls.KernelModel.Kernel.{Kernel}
+use Rattle.machine_boot.specs.KernelCalls.KernelModel.Ranges.{most_steps}
+use Rattle.machine_boot.specs.KernelCalls.KernelModel.ValidKernel.{IsValid}
+use Rattle.machine_boot.specs.KernelCalls.KernelModel.ValidLists.{AreValid}
+use Rattle.machine_boot.specs.KernelCalls.KernelModel.declared.stops.Stop.{Stop}
+use Rattle.machine_boot.specs.KernelCalls.KernelDispatch.Dispatch.{CanDispatch}
 use Rattle.machine_boot.specs.KernelSteps.Parts.{IsTaken}
 use Rattle.machine_boot.specs.KernelSteps.Step.{devices, dispatch, key, run, step, tick, turn, with_step}
 use Rattle.machine_boot.proofs.Shown.KernelSteps.DevicesKept.{key-dispatch, output-dispatch, tick-dispatch}

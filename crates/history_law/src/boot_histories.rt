@@ -1,8 +1,8 @@
 // Boots, and runs from them.
 ghost use Rattle.std.specs.Prelude.{◌≡◌, ◌≤◌, None, Ok, ℕ};
-ghost use Rattle.session_text.specs.KernelDispatch.PacketQueue.declared.events.KernelEvent.{KernelEvent};
-ghost use Rattle.session_text.specs.KernelDispatch.KernelModel.Ranges.{most_steps};
-ghost use Rattle.session_text.specs.KernelDispatch.KernelModel.ValidKernel.{IsValid};
+ghost use Rattle.machine_boot.specs.KernelCalls.PacketQueue.declared.events.KernelEvent.{KernelEvent};
+ghost use Rattle.machine_boot.specs.KernelCalls.KernelModel.Ranges.{most_steps};
+ghost use Rattle.machine_boot.specs.KernelCalls.KernelModel.ValidKernel.{IsValid};
 ghost use Rattle.session_text.specs.declared.sessions.Session.{Session};
 ghost use Rattle.machine_boot.specs.KernelSteps.Stepped.{Stepped};
 ghost use Rattle.machine_boot.specs.Boot.{HasKernel, boot};

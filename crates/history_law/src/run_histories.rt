@@ -1,9 +1,9 @@
 // Turns, and runs.
 ghost use Rattle.std.specs.Prelude.{◌≡◌, ◌+◌, ◌≤◌, None, ℕ};
 ghost use Rattle.word_store.specs.Arithmetic.{signed};
-ghost use Rattle.session_text.specs.KernelDispatch.KernelModel.Kernel.{Kernel};
-ghost use Rattle.session_text.specs.KernelDispatch.KernelModel.Ranges.{most_steps};
-ghost use Rattle.session_text.specs.KernelDispatch.KernelModel.ValidKernel.{IsValid};
+ghost use Rattle.machine_boot.specs.KernelCalls.KernelModel.Kernel.{Kernel};
+ghost use Rattle.machine_boot.specs.KernelCalls.KernelModel.Ranges.{most_steps};
+ghost use Rattle.machine_boot.specs.KernelCalls.KernelModel.ValidKernel.{IsValid};
 ghost use Rattle.machine_boot.specs.KernelSteps.Step.{turn, with_step};
 ghost use Rattle.history_law.specs.Queues.{Moves};
 ghost use Rattle.history_law.specs.SentBy.{AreOfTurn};

@@ -2,12 +2,12 @@
 ghost use Rattle.std.specs.Prelude.{◌≡◌, ◌+◌, ◌<◌, ◌≤◌, ℕ, List, None};
 ghost use Rattle.word_store.specs.declared.registers.Regs.{Regs};
 ghost use Rattle.ram_disc.specs.Disc.{IsDisc};
-ghost use Rattle.session_text.specs.KernelDispatch.KernelModel.Kernel.{Kernel};
-ghost use Rattle.session_text.specs.KernelDispatch.KernelModel.Lists.{Lists};
-ghost use Rattle.session_text.specs.KernelDispatch.KernelModel.Ranges.{most_steps};
-ghost use Rattle.session_text.specs.KernelDispatch.KernelModel.ValidKernel.{IsValid};
-ghost use Rattle.session_text.specs.KernelDispatch.KernelModel.ValidLists.{AreValid};
-ghost use Rattle.session_text.specs.KernelDispatch.Dispatch.{CanDispatch, dispatched};
+ghost use Rattle.machine_boot.specs.KernelCalls.KernelModel.Kernel.{Kernel};
+ghost use Rattle.machine_boot.specs.KernelCalls.KernelModel.Lists.{Lists};
+ghost use Rattle.machine_boot.specs.KernelCalls.KernelModel.Ranges.{most_steps};
+ghost use Rattle.machine_boot.specs.KernelCalls.KernelModel.ValidKernel.{IsValid};
+ghost use Rattle.machine_boot.specs.KernelCalls.KernelModel.ValidLists.{AreValid};
+ghost use Rattle.machine_boot.specs.KernelCalls.KernelDispatch.Dispatch.{CanDispatch, dispatched};
 ghost use Rattle.machine_boot.specs.KernelSteps.Step.{run, step, turn};
 
 /// The turn of whoever runs leaves a valid disc.

@@ -19,21 +19,7 @@ word_or_outside a (Some w) = Ok w
 abbrev pub argument : List ℕ → Regs → ℕ → Result ℕ CallOutcome
 argument words r i = word_or_outside (add r.p (3 + i)) (slice_get words (add r.p (3 + i)))
 
--- two arguments, and three, read in their order
-abbrev pub two_arguments : List ℕ → Regs → Result (ℕ × ℕ) CallOutcome
-two_arguments words r = do
-  a ← argument words r 1
-  b ← argument words r 2
-  Ok (a, b)
-
-abbrev pub three_arguments : List ℕ → Regs → Result (ℕ × ℕ × ℕ) CallOutcome
-three_arguments words r = do
-  a ← argument words r 1
-  b ← argument words r 2
-  c ← argument words r 3
-  Ok (a, b, c)
-
--- a call with one argument, with two, and with three
+-- a call with one argument, with two, and with three, read in their order
 abbrev pub one : List ℕ → Regs → (ℕ → KernelCall) → Result KernelCall CallOutcome
 one words r call = do
   a ← argument words r 1
@@ -41,37 +27,23 @@ one words r call = do
 
 abbrev pub two : List ℕ → Regs → (ℕ → ℕ → KernelCall) → Result KernelCall CallOutcome
 two words r call = do
-  (a, b) ← two_arguments words r
+  a ← argument words r 1
+  b ← argument words r 2
   Ok (call a b)
 
 abbrev pub three : List ℕ → Regs → (ℕ → ℕ → ℕ → KernelCall) → Result KernelCall CallOutcome
 three words r call = do
-  (a, b, c) ← three_arguments words r
+  a ← argument words r 1
+  b ← argument words r 2
+  c ← argument words r 3
   Ok (call a b c)
 
--- The calls by their numbers, of which there are no others: those of coroutines,
-abbrev pub coroutine_call : List ℕ → Regs → ℕ → Result KernelCall CallOutcome
-coroutine_call words r number =
-    if number == 14 then two words r CreateCo else
-    if number == 15 then one words r DeleteCo else
-    if number == 16 then two words r CallCo else
-    if number == 17 then two words r ResumeCo else
-    if number == 18 then one words r CoWait else
-    Err Unknown
-
--- of packets and modules, of which call 21 is one of version 2,
-abbrev pub packet_call : List ℕ → Regs → ℕ → Result KernelCall CallOutcome
-packet_call words r number =
-    if number == 10 then Ok TaskWait else
-    if number == 11 then one words r Qpkt else
-    if number == 12 then two words r Dqpkt else
-    if number == 13 then one words r Unload else
-    if (number == 21) && (slice_index words (root_address Version) == 2) then two words r AddModule else
-    coroutine_call words r number
-
--- of tasks,
-abbrev pub task_call : List ℕ → Regs → ℕ → Result KernelCall CallOutcome
-task_call words r number =
+-- The calls by their numbers; call 21 is one of version 2, and there is no other.
+abbrev pub numbered : List ℕ → Regs → ℕ → Result KernelCall CallOutcome
+numbered words r number =
+    if number == 0 then one words r Quit else
+    if number == 1 then one words r Getvec else
+    if number == 2 then one words r Freevec else
     if number == 3 then three words r CreateTask else
     if number == 4 then one words r DeleteTask else
     if number == 5 then two words r ChangePri else
@@ -79,17 +51,19 @@ task_call words r number =
     if number == 7 then one words r TestFlags else
     if number == 8 then one words r Hold else
     if number == 9 then one words r Release else
-    packet_call words r number
-
--- and of the machine and its blocks.
-abbrev pub numbered : List ℕ → Regs → ℕ → Result KernelCall CallOutcome
-numbered words r number =
-    if number == 0 then one words r Quit else
-    if number == 1 then one words r Getvec else
-    if number == 2 then one words r Freevec else
+    if number == 10 then Ok TaskWait else
+    if number == 11 then one words r Qpkt else
+    if number == 12 then two words r Dqpkt else
+    if number == 13 then one words r Unload else
+    if number == 14 then two words r CreateCo else
+    if number == 15 then one words r DeleteCo else
+    if number == 16 then two words r CallCo else
+    if number == 17 then two words r ResumeCo else
+    if number == 18 then one words r CoWait else
     if number == 19 then one words r Wrch else
     if number == 20 then three words r MulDiv else
-    task_call words r number
+    if (number == 21) && (slice_index words (root_address Version) == 2) then two words r AddModule else
+    Err Unknown
 
 abbrev pub call_of : List ℕ → Regs → Result KernelCall CallOutcome
 call_of words r = do

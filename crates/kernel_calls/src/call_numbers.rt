@@ -1,6 +1,6 @@
 // What a guest asks of the kernel: a call, with its arguments.
 ghost use Rattle.std.specs.Prelude.{◌≡◌, ◌<◌};
-ghost use Rattle.kernel_calls.specs.CallNumbers.{argument, call_of, coroutine_call, numbered, packet_call, task_call, three_arguments, two_arguments};
+ghost use Rattle.kernel_calls.specs.CallNumbers.{argument, call_of, numbered};
 
 use coroutine_calls::kernel_dispatch::{RootField, root};
 use word_store::{Regs, Store, add};
@@ -162,7 +162,7 @@ pub(crate) fn read_call(store: &Store, regs: Regs) -> Result<KernelCall, CallOut
     numbered(store, regs, number)
 }
 
-// The call of the number, of the machine or of its blocks, or another.
+// The call of the number.
 fn numbered(store: &Store, regs: Regs, number: u32) -> Result<KernelCall, CallOutcome>
     ensures { result ≡ numbered store.now regs number }
 {
@@ -176,42 +176,22 @@ fn numbered(store: &Store, regs: Regs, number: u32) -> Result<KernelCall, CallOu
         2 => Ok(KernelCall::Freevec {
             block: argument(store, regs, 1)?,
         }),
-        19 => Ok(KernelCall::Wrch {
-            character: argument(store, regs, 1)?,
+        3 => Ok(KernelCall::CreateTask {
+            module: argument(store, regs, 1)?,
+            highest: argument(store, regs, 2)?,
+            priority: argument(store, regs, 3)?,
         }),
-        20 => {
-            let (a, b, c) = three_arguments(store, regs)?;
-            Ok(KernelCall::MulDiv { a, b, c })
-        }
-        _ => task_call(store, regs, number),
-    }
-}
-
-// The call of tasks, or another.
-#[inline(always)]
-fn task_call(store: &Store, regs: Regs, number: u32) -> Result<KernelCall, CallOutcome>
-    ensures { result ≡ task_call store.now regs number }
-{
-    match number {
-        3 => {
-            let (module, highest, priority) = three_arguments(store, regs)?;
-            Ok(KernelCall::CreateTask {
-                module,
-                highest,
-                priority,
-            })
-        }
         4 => Ok(KernelCall::DeleteTask {
             id: argument(store, regs, 1)?,
         }),
-        5 => {
-            let (id, priority) = two_arguments(store, regs)?;
-            Ok(KernelCall::ChangePri { id, priority })
-        }
-        6 => {
-            let (id, flags) = two_arguments(store, regs)?;
-            Ok(KernelCall::SetFlags { id, flags })
-        }
+        5 => Ok(KernelCall::ChangePri {
+            id: argument(store, regs, 1)?,
+            priority: argument(store, regs, 2)?,
+        }),
+        6 => Ok(KernelCall::SetFlags {
+            id: argument(store, regs, 1)?,
+            flags: argument(store, regs, 2)?,
+        }),
         7 => Ok(KernelCall::TestFlags {
             mask: argument(store, regs, 1)?,
         }),
@@ -221,81 +201,49 @@ fn task_call(store: &Store, regs: Regs, number: u32) -> Result<KernelCall, CallO
         9 => Ok(KernelCall::Release {
             id: argument(store, regs, 1)?,
         }),
-        _ => packet_call(store, regs, number),
-    }
-}
-
-// The call of packets or of modules, or another.
-#[inline(always)]
-fn packet_call(store: &Store, regs: Regs, number: u32) -> Result<KernelCall, CallOutcome>
-    ensures { result ≡ packet_call store.now regs number }
-{
-    match number {
         10 => Ok(KernelCall::TaskWait),
         11 => Ok(KernelCall::Qpkt {
             packet: argument(store, regs, 1)?,
         }),
-        12 => {
-            let (id, packet) = two_arguments(store, regs)?;
-            Ok(KernelCall::Dqpkt { id, packet })
-        }
+        12 => Ok(KernelCall::Dqpkt {
+            id: argument(store, regs, 1)?,
+            packet: argument(store, regs, 2)?,
+        }),
         13 => Ok(KernelCall::Unload {
             module: argument(store, regs, 1)?,
         }),
-        21 if root(store, RootField::Version) == 2 => {
-            let (id, module) = two_arguments(store, regs)?;
-            Ok(KernelCall::AddModule { id, module })
-        }
-        _ => coroutine_call(store, regs, number),
-    }
-}
-
-// The call of coroutines, or none.
-#[inline(always)]
-fn coroutine_call(store: &Store, regs: Regs, number: u32) -> Result<KernelCall, CallOutcome>
-    ensures { result ≡ coroutine_call store.now regs number }
-{
-    match number {
-        14 => {
-            let (function, highest) = two_arguments(store, regs)?;
-            Ok(KernelCall::CreateCo { function, highest })
-        }
+        14 => Ok(KernelCall::CreateCo {
+            function: argument(store, regs, 1)?,
+            highest: argument(store, regs, 2)?,
+        }),
         15 => Ok(KernelCall::DeleteCo {
             coroutine: argument(store, regs, 1)?,
         }),
-        16 => {
-            let (coroutine, value) = two_arguments(store, regs)?;
-            Ok(KernelCall::CallCo { coroutine, value })
-        }
-        17 => {
-            let (coroutine, value) = two_arguments(store, regs)?;
-            Ok(KernelCall::ResumeCo { coroutine, value })
-        }
+        16 => Ok(KernelCall::CallCo {
+            coroutine: argument(store, regs, 1)?,
+            value: argument(store, regs, 2)?,
+        }),
+        17 => Ok(KernelCall::ResumeCo {
+            coroutine: argument(store, regs, 1)?,
+            value: argument(store, regs, 2)?,
+        }),
         18 => Ok(KernelCall::CoWait {
             value: argument(store, regs, 1)?,
         }),
+        19 => Ok(KernelCall::Wrch {
+            character: argument(store, regs, 1)?,
+        }),
+        20 => Ok(KernelCall::MulDiv {
+            a: argument(store, regs, 1)?,
+            b: argument(store, regs, 2)?,
+            c: argument(store, regs, 3)?,
+        }),
+        21 if root(store, RootField::Version) == 2 => Ok(KernelCall::AddModule {
+            id: argument(store, regs, 1)?,
+            module: argument(store, regs, 2)?,
+        }),
         _ => Err(CallOutcome::Unknown),
     }
-}
-
-// Arguments 1 and 2.
-#[inline(always)]
-fn two_arguments(store: &Store, regs: Regs) -> Result<(u32, u32), CallOutcome>
-    ensures { result ≡ two_arguments store.now regs }
-{
-    Ok((argument(store, regs, 1)?, argument(store, regs, 2)?))
-}
-
-// Arguments 1 to 3.
-#[inline(always)]
-fn three_arguments(store: &Store, regs: Regs) -> Result<(u32, u32, u32), CallOutcome>
-    ensures { result ≡ three_arguments store.now regs }
-{
-    Ok((
-        argument(store, regs, 1)?,
-        argument(store, regs, 2)?,
-        argument(store, regs, 3)?,
-    ))
 }
 
 // Argument i, of which argument 0 is the call's number.

@@ -130,6 +130,7 @@ fn a_write_is_whole_and_flushed(rt: HostRuntime) -> Result<(), Fail> {
     for (piece, wanted) in [
         (b"abc".as_slice(), WriteStep::All),
         (b"".as_slice(), WriteStep::All),
+        // The third flush fails.
         (b"de".as_slice(), WriteStep::Failed),
     ] {
         same(&rt, (piece, sink.write(piece)), (piece, wanted));
