@@ -1,6 +1,6 @@
 // Blocks of a store, and runs of free blocks.
 ghost use Rattle.std.specs.Prelude.{◌≡◌, ◌+◌, ◌<◌, ◌^◌};
-ghost use Rattle.getvec_chain.specs.Block.{block_end, block_of_word, has_data, is_used_at, size_word};
+ghost use Rattle.getvec_chain.specs.Block.{block_end, block_of_word, has_data, is_used_at};
 
 /// The address of the first block.
 pub const FIRST_BLOCK: u32 = 200;
@@ -36,14 +36,6 @@ impl Block {
             size: word - word % 2,
             free: word % 2 == 1,
         }
-    }
-
-    /// The block's size word.
-    pub fn size_word(self) -> u32
-        requires { self.size + 1 < 2 ^ 32 }
-        ensures { result ≡ size_word self }
-    {
-        if self.free { self.size + 1 } else { self.size }
     }
 
     /// The address after the block's last word.
