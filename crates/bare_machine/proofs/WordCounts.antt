@@ -1,6 +1,7 @@
 -- A step leaves as many words as there were.
-use Rattle.std.proofs.Common.{◌≡◌, ℕ, ◌+◌, List, [], ◌∷◌, Bool, true, false, Option, Some, None, Result, Ok, Err, cond, eqb, length, set, length-set, refl, ap, ◌∙◌}
-use Rattle.std.specs.Prelude.{is_some}
+use Rattle.std.proofs.Common.{◌≡◌, arith, ℕ, zero, suc, ◌+◌, ◌%◌, ◌≤◌, ◌&&◌, List, [], ◌∷◌, Bool, true, false, Option, Some, None, Result, Ok, Err, cond, eqb, leb, leb-true, length, set, length-set, refl, sym, subst, ap, ◌∙◌}
+use Rattle.std.specs.Prelude.{IsTrue, is_some}
+use Rattle.std.proofs.lemmas.Bool.{and_from, and_parts, le-leb}
 use Rattle.word_store.specs.Arithmetic.{add}
 use Rattle.word_store.specs.Bytes.{byte_at}
 use Rattle.word_store.specs.declared.registers.Regs.{Regs}
@@ -13,7 +14,9 @@ use Rattle.cint_exec.specs.Instruction.{After, after, decided, effected, instruc
 use Rattle.cint_exec.specs.declared.Fault.{Fault}
 use Rattle.cint_exec.specs.declared.Outcome.{Outcome}
 use Rattle.cint_exec.specs.declared.Outcome.TheVariants.{Next, Returned, Sys, Fault as Faulted}
+use Rattle.session_text.specs.KernelDispatch.KernelModel.Ranges.{is_store_size, most_words}
 use Rattle.bare_machine.specs.Calls.{call_answer}
+use Rattle.bare_machine.specs.Run.{Executes}
 use Rattle.bare_machine.specs.State.{BareState}
 use Rattle.bare_machine.specs.Step.{after_call, after_outcome, instruction_of, step, turn, unmarked}
 use Rattle.bare_machine.specs.declared.calls.CallAnswer.{CallAnswer}
@@ -48,7 +51,7 @@ module _ (marks : ℕ → Bool) (words : List ℕ) (r : Regs) where
   decided-counts (Err e) = refl
   decided-counts (Ok i) = effected-counts i
 
-  instruction-counts : Counts (instruction marks words r)
+  pub instruction-counts : Counts (instruction marks words r)
   instruction-counts = either-counts (eqb r.pc 0) (after Returned words r) (decided marks words r (decoded (byte_at words) r.pc)) refl (decided-counts (decoded (byte_at words) r.pc))
 
 call-words : (c : Result CallAnswer Fault) (m : BareState) → (after_call c m).state.words ≡ m.words
@@ -73,3 +76,31 @@ step-count m = on (is_some m.stop)
     on : (b : Bool) → length (cond b (record { state = m; bytes = [] }) (turn (record m { steps = m.steps + 1 }))).state.words ≡ length m.words
     on true = refl
     on false = turn-count (record m { steps = m.steps + 1 })
+
+-- ---- a store of a size that some version may have
+
+pub instruction_sized : (words left : List ℕ) (r : Regs) → left ≡ (instruction unmarked words r).words → IsTrue (is_store_size 2 (length words)) → IsTrue (is_store_size 2 (length left))
+instruction_sized words left r is sized = subst (λ n. IsTrue (is_store_size 2 n)) (sym (ap length is ∙ instruction-counts unmarked words r)) sized
+
+executed-counts : (n : ℕ) (words left : List ℕ) (r q : Regs) → Executes n words r left q → length left ≡ length words
+executed-counts zero words left r q e = ap length e.0
+executed-counts (suc n) words left r q e = executed-counts n (instruction unmarked words r).words left (instruction unmarked words r).regs q e.1 ∙ instruction-counts unmarked words r
+
+pub executed_sized : (n : ℕ) (words left : List ℕ) (r q : Regs) → Executes n words r left q → IsTrue (is_store_size 2 (length words)) → IsTrue (is_store_size 2 (length left))
+executed_sized n words left r q e sized = subst (λ m. IsTrue (is_store_size 2 m)) (sym (executed-counts n words left r q e)) sized
+
+-- it is at most the largest store
+pub sized-most : (size : ℕ) → IsTrue (is_store_size 2 size) → size ≤ 4194304
+sized-most size sized = leb-true size 4194304 (and_parts (leb 1024 size) (leb size 4194304) (and_parts (leb 1024 size && leb size 4194304) (eqb (size % 2) 0) sized).0).1
+
+-- what one version may have, version 2 may have
+pub any-size : (version size : ℕ) → IsTrue (is_store_size version size) → IsTrue (is_store_size 2 size)
+any-size version size sized =
+    let even = and_parts (leb 1024 size && leb size (most_words version)) (eqb (size % 2) 0) sized in
+    let parts = and_parts (leb 1024 size) (leb size (most_words version)) even.0 in
+    let most : size ≤ 4194304 = on (eqb version 1) (leb-true size (most_words version) parts.1) in
+    and_from (leb 1024 size && leb size 4194304) (eqb (size % 2) 0) (and_from (leb 1024 size) (leb size 4194304) parts.0 (le-leb size 4194304 most)) even.1
+  where
+    on : (b : Bool) → size ≤ cond b 262144 4194304 → size ≤ 4194304
+    on true le = omega (arith, le)
+    on false le = le

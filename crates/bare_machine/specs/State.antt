@@ -1,7 +1,7 @@
 -- The state of a machine without a kernel.
-use Rattle.std.specs.Prelude.{ℕ, ◌≤◌, ◌<◌, List, Option, None}
+use Rattle.std.specs.Prelude.{ℕ, ◌≤◌, ◌<◌, IsTrue, List, Option, None, length}
 use Rattle.word_store.specs.declared.registers.Regs.{Regs}
-use Rattle.session_text.specs.KernelDispatch.KernelModel.Ranges.{most_steps}
+use Rattle.session_text.specs.KernelDispatch.KernelModel.Ranges.{is_store_size, most_steps}
 use Rattle.session_text.specs.KernelDispatch.KernelModel.declared.stops.Stop.{Stop}
 use Rattle.bare_machine.specs.declared.parts.BareParts.{BareParts}
 
@@ -37,3 +37,5 @@ pub record IsSound (p : BareParts) : Type 0 where
   pub byte : p.regs.c < 256
   -- a machine may take so many steps
   pub steps : p.step ≤ most_steps
+  -- some version may have a store of so many words, and so may version 2, which may have all that version 1 may
+  pub size : IsTrue (is_store_size 2 (length p.store))

@@ -1,20 +1,24 @@
 // What a bare session puts into its machine.
-ghost use Rattle.std.specs.Prelude.{◌≡◌, ◌+◌, ◌^◌, ◌<◌, ◌≤◌, [], length, IfOk};
+ghost use Rattle.std.specs.Prelude.{◌≡◌, ◌+◌, ◌^◌, ◌<◌, ◌≤◌, [], length, IfOk, IsTrue};
+ghost use Rattle.session_text.specs.KernelDispatch.KernelModel.Ranges.{is_store_size};
 ghost use Rattle.bare_machine.specs.Boot.{Boots, boot, code_of, with_bytes, with_lines};
 
 use crate::{Bare, BareParts};
 use session_text::{LineForm, Session, SessionLine};
 use std::alloc::Global;
+use thiserror::Error;
 use word_store::{NoStoreMemory, Regs, Store};
 
 const PROGRAM: u32 = 800;
 
 /// Why a session does not boot.
-#[derive(Clone, Copy)]
+#[derive(Clone, Copy, Debug, Error)]
 pub enum BootEnd {
     /// What this line of the session puts into the machine has no place there: code 1 where its bytes pass the store's end.
+    #[error("no boot: line {line} code {code}")]
     Line { line: u32, code: u32 },
     /// Memory could not be had.
+    #[error("memory could not be had")]
     WantMemory,
 }
 
@@ -33,7 +37,7 @@ impl From<NoStoreMemory> for BootEnd {
 /// The first line whose bytes pass the store's end is refused with code 1. `WantMemory` comes only where memory could not be had.
 #[tactic(auto, unfolding(crate::specs::Boot::boot))]
 pub fn boot(alloc: Global, session: &Session) -> Result<Bare, BootEnd>
-    requires { session.now.store ≤ 4194304 }
+    requires { IsTrue (is_store_size 2 session.now.store) }
     ensures state { Boots (λ m. m.state) result (boot session.now) }
     ensures output { IfOk result (λ m. m.output ≡ []) }
 {

@@ -13,6 +13,7 @@ use Rattle.fault_reporter.specs.KernelCalls.TaskCalls.SetFlags.{flagged}
 use Rattle.fault_reporter.specs.ResidentRequests.Answers.{finished_by}
 use Rattle.fault_reporter.specs.ResidentRequests.Requests.{first_request, taken_from, words_taken_from, work}
 use Rattle.fault_reporter.specs.ResidentRequests.declared.requests.Request.{Request}
+use Rattle.console_handler.specs.declared.requests.TheConstants.{READ_LINE}
 use Rattle.console_handler.specs.ConsoleTurn.{KeysStand, all_parts, ended, key_of, keys_sent, treated, with_key, with_keys_taken, with_first, with_keyed, with_keys_sent, with_request, with_taken}
 use Rattle.console_handler.specs.Deliveries.{delivered, delivery, handed, line_after, line_service, with_read}
 use Rattle.console_handler.specs.KeyPacket.{keys_taken, keys_taken_from}
@@ -41,7 +42,7 @@ off-either true p q x y = x
 off-either false p q x y = y
 
 request-off : (s : List ℕ) (l : Lists) (r : Request) (g : Progress) → l.key ≡ g.lists.key → Off g → Off (with_request s l r g)
-request-off s l r g same off = off-either (eqb r.kind 1) _ _ (λ f. ap is_some same ∙ off f) (λ f. ap is_some same ∙ off f)
+request-off s l r g same off = off-either (eqb r.kind READ_LINE) _ _ (λ f. ap is_some same ∙ off f) (λ f. ap is_some same ∙ off f)
 
 first-off : (g : Progress) → Off g → Off (with_first g)
 first-off g off = on (first_request (words_taken_from (work g.lists) g.words g.lists) (work g.lists))

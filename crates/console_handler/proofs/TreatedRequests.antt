@@ -23,6 +23,7 @@ use Rattle.fault_reporter.specs.ResidentRequests.Requests.{IsTaken, RunsResident
 use Rattle.fault_reporter.specs.ResidentRequests.declared.requests.Request.{Request}
 use Rattle.fault_reporter.proofs.Shown.ResidentRequests.ResidentTurns.{keeper-taken, taken-plain, turn-changed}
 use Rattle.fault_reporter.proofs.Shown.ResidentRequests.TakenRequest.{taken-running}
+use Rattle.console_handler.specs.declared.requests.TheConstants.{READ_LINE}
 use Rattle.console_handler.specs.ConsoleTurn.{answer_of, bytes_of, with_first, with_request, with_taken}
 use Rattle.console_handler.specs.Progress.{IsDone, Progress, Start, and_then}
 use Rattle.console_handler.specs.Reads.{put_off}
@@ -79,11 +80,11 @@ module _ (b : Start) (t : List ℕ) (tells : List ℕ → Type 0) (room : ℕ) (
     part-is = ap (λ o. with_taken o (words_taken g.words g.lists) m g) first-is ∙ ap (λ z. with_request z m r g) (ap (λ z. words_taken z g.lists) (sym x.words) ∙ sym y.words)
 
     -- a read waits
-    pub read-done : (u : List ℕ) (told' : List ℕ → Type 0) (after' : ℕ) (noted' : Option (List KernelEvent)) (failed' : Bool) → r.kind ≡ 1 → after' ≡ after → IsMade v u told' (Ok minus_one) (put_off v m r)
+    pub read-done : (u : List ℕ) (told' : List ℕ → Type 0) (after' : ℕ) (noted' : Option (List KernelEvent)) (failed' : Bool) → r.kind ≡ READ_LINE → after' ≡ after → IsMade v u told' (Ok minus_one) (put_off v m r)
         → OwnsRequest m (put_off v m r).lists r → NotesAll noted noted' failed failed' (put_off v m r).events → IsDone b u told' after' (outside now.shown noted' failed') c k (with_first g)
     read-done u told' after' noted' failed' kind room' made owns notes' =
         subst (IsDone b u told' after' (outside now.shown noted' failed') c k)
-        (sym (part-is ∙ ap (λ q. cond q (and_then g (put_off v m r).lists [] ((taken g.lists).events ++ (put_off v m r).events)) (answered v)) (eq-eqb r.kind 1 kind)))
+        (sym (part-is ∙ ap (λ q. cond q (and_then g (put_off v m r).lists [] ((taken g.lists).events ++ (put_off v m r).events)) (answered v)) (eq-eqb r.kind READ_LINE kind)))
         (request-done u told' after' noted' failed' (put_off v m r).lists (put_off v m r).events room' made.leaves.lists made.knows owns
         (record { resident = y.runs.resident; there = y.runs.there; field = y.runs.field }) refl notes')
       where
@@ -91,12 +92,12 @@ module _ (b : Start) (t : List ℕ) (tells : List ℕ → Type 0) (room : ℕ) (
         answered z = record (and_then g (returned m r (answer_of z r)).lists [] ((taken g.lists).events ++ (returned m r (answer_of z r)).events)) { bytes = g.bytes ++ bytes_of z r }
 
     -- all else is answered
-    pub answer-done : (u : List ℕ) (told' : List ℕ → Type 0) (after' : ℕ) (noted' : Option (List KernelEvent)) (failed' : Bool) (answer : Result ℕ ℕ) (shown : List ℕ) → (r.kind ≡ 1 → ⊥) → answer ≡ answer_of v r
+    pub answer-done : (u : List ℕ) (told' : List ℕ → Type 0) (after' : ℕ) (noted' : Option (List KernelEvent)) (failed' : Bool) (answer : Result ℕ ℕ) (shown : List ℕ) → (r.kind ≡ READ_LINE → ⊥) → answer ≡ answer_of v r
         → shown ≡ now.shown ++ bytes_of v r → after' ≡ after → IsMade v u told' (Ok minus_one) (returned m r answer) → OwnsRequest m (returned m r answer).lists r → RunsResident (returned m r answer).lists
         → NotesAll noted noted' failed failed' (returned m r answer).events → IsDone b u told' after' (outside shown noted' failed') c k (with_first g)
     answer-done u told' after' noted' failed' answer shown kind is_answer is_shown room' made owns runs notes' =
         subst (IsDone b u told' after' (outside shown noted' failed') c k)
-        (sym (part-is ∙ (ap (λ q. cond q waiting (with-answer (answer_of v r))) (ne_eqb r.kind 1 kind) ∙ sym (ap with-answer is_answer))))
+        (sym (part-is ∙ (ap (λ q. cond q waiting (with-answer (answer_of v r))) (ne_eqb r.kind READ_LINE kind) ∙ sym (ap with-answer is_answer))))
         (bytes-done b u told' after' (outside now.shown noted' failed') c k _
         (request-done u told' after' noted' failed' (returned m r answer).lists (returned m r answer).events room' made.leaves.lists made.knows owns runs refl notes') (bytes_of v r) shown is_shown)
       where

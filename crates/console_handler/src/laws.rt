@@ -1,9 +1,17 @@
 // Laws over the definitions alone.
-ghost use Rattle.std.specs.Prelude.{List, ℕ};
+ghost use Rattle.std.specs.Prelude.{◌≡◌, List, ℕ};
 ghost use Rattle.fault_reporter.specs.KernelCalls.KernelModel.Kernel.{Console};
 ghost use Rattle.fault_reporter.specs.KernelCalls.KernelModel.Lists.{Lists};
 ghost use Rattle.console_handler.specs.ConsoleTurn.{KeysStand, all_parts};
 ghost use Rattle.console_handler.specs.Progress.{begun};
+
+use crate::requests::{BAD_BUFFER, READ_LINE, WRITE};
+
+/// The types of the console's requests, and the code of one whose buffer may not be read, or written.
+pub fn number_law()
+    ensures types { (READ_LINE ≡ 1) × (WRITE ≡ 2) }
+    ensures code { BAD_BUFFER ≡ 30 }
+{}
 
 /// After a turn too the line is finished exactly where the key packet is on no queue, and then no read waits.
 pub fn keys_law()

@@ -5,13 +5,13 @@ use Rattle.std.specs.Option.{option_map}
 use Rattle.hunk_text.specs.TextReader.Steps.{◌>>=◌}
 use Rattle.ram_disc.specs.Disc.{Disc, file_named}
 use Rattle.machine_boot.specs.KernelCalls.KernelModel.HoldsLists.{HoldsLists}
-use Rattle.machine_boot.specs.KernelCalls.KernelModel.Image.{HasPlainWords, IsImage, image}
+use Rattle.machine_boot.specs.KernelCalls.KernelModel.Image.{image}
 use Rattle.machine_boot.specs.KernelCalls.KernelModel.Kernel.{Kernel}
 use Rattle.machine_boot.specs.KernelCalls.KernelModel.Lists.{Lists, has_task}
+use Rattle.machine_boot.specs.KernelCalls.KernelModel.Pipes.{no_pipes}
 use Rattle.machine_boot.specs.KernelCalls.KernelModel.Standing.{Standing, left_with, standing}
 use Rattle.machine_boot.specs.KernelCalls.KernelModel.ValidKernel.{IsValid}
 use Rattle.machine_boot.specs.KernelCalls.KernelModel.ValidLists.{AreValid}
-use Rattle.machine_boot.proofs.Shown.KernelCalls.KernelModel.ImageWords.{image-of}
 use Rattle.machine_boot.specs.KernelCalls.CallAnswers.Made.{Made}
 use Rattle.machine_boot.specs.KernelCalls.TaskCalls.CreateTask.{MayCreate, create_task, creation_tests, new_task, number_of, with_created}
 use Rattle.session_text.specs.Canonical.{IsLawfulMachine}
@@ -31,7 +31,7 @@ use Rattle.machine_boot.proofs.Shown.KernelBoot.StartedTasks.{form-keeps, guest-
 use Rattle.machine_boot.specs.KernelSteps.ResidentSteps.{with_disc}
 use Rattle.machine_boot.specs.KernelSteps.Step.{dispatch, with_store}
 use Rattle.machine_boot.specs.KernelSteps.Stepped.{Stepped}
-use Rattle.machine_boot.proofs.Shown.KernelSteps.StepKept.{dispatch-same}
+use Rattle.machine_boot.proofs.Shown.KernelSteps.StepKept.{dispatch-residents, dispatch-same}
 use Rattle.machine_boot.proofs.Shown.KernelSteps.StoredWords.{plain-stored}
 use Rattle.machine_boot.specs.Boot.{HasKernel, boot, first_kernel, first_lists, started, with_files, with_lines, with_standing, with_tasks}
 use Rattle.machine_boot.proofs.BegunKernels.{HasBegun, begun-dispatches, first-begun, lines-begun}
@@ -39,7 +39,7 @@ use Rattle.machine_boot.proofs.BootedKernels.{booted-full, booted-goes}
 use Rattle.history_law.proofs.TaskCalls.{create_task-valid}
 use Rattle.history_law.proofs.LeftStores.{call-holds}
 use Rattle.history_law.proofs.StartedPrograms.{begun-holds, found-holds}
-use Rattle.history_law.proofs.PlainWords.{dispatch-left, plain-like}
+use Rattle.history_law.proofs.PlainWords.{Stands, dispatch-left, image-holds, plain-like}
 use Rattle.history_law.proofs.ValidSteps.{part-valid}
 
 -- ---- the lists before the lines
@@ -132,18 +132,9 @@ tasks-hold version d (line ∷ lines) k j may same is h = on (λ i v e x. tasks-
 
 -- ---- the kernel
 
--- its lists are valid, and its plain words are those that nobody owns
-record Stands (k : Kernel) : Type 0 where
-  lists : AreValid k.lists
-  plain : HasPlainWords k
-
 stored-stands : (words : List ℕ) (l : Lists) (k j : Kernel) → AreValid l → j.lists ≡ l → j.plain ≡ (with_store words l k).plain → Stands j
 stored-stands words l k j v lists plain =
     record { lists = subst AreValid (sym lists) v; plain = plain-like (with_store words l k) j (plain-stored words l k v.owns) lists plain }
-
--- so its image holds them
-image-holds : (k : Kernel) → Stands k → HoldsLists (image k) k.lists
-image-holds k h = (let i : IsImage (image k) k = image-of k h.lists.owns.apart h.lists.owns.inside h.plain in record { valid = h.lists; size = i.size; holds = i.holds })
 
 first-stands : (s : Session) → HasKernel s → Stands (first_kernel s)
 unfolding first_kernel
@@ -182,17 +173,18 @@ lines-stand version lines k j may same is h = on (with_files lines k) refl is
 
 -- ---- the boot
 
--- It is valid, has not stopped, and has taken no step.
+-- It is valid, has not stopped, has taken no step, and has no pipe.
 pub record IsBooted (k : Kernel) : Type 0 where
   pub valid : IsValid k
   pub goes : k.stop ≡ None
   pub steps : k.steps ≡ 0
+  pub pipes : k.pipes ≡ no_pipes
 
 module _ (s : Session) (h : HasKernel s) (k : Kernel) (b : HasBegun s k) (stands : Stands k) where
   dispatched-is : IsBooted (dispatch k).kernel
   dispatched-is =
       let v : AreValid (dispatch k).kernel.lists = part-valid k stands.lists (begun-dispatches s h k b) in
-      record { valid = booted-full s h k b v (dispatch-left k v); goes = booted-goes s h k b; steps = (dispatch-same k).steps ∙ b.steps }
+      record { valid = booted-full s h k b v (dispatch-left k v); goes = booted-goes s h k b; steps = (dispatch-same k).steps ∙ b.steps; pipes = (dispatch-residents k).pipes ∙ b.pipes }
 
 pub booted-is : (s : Session) → HasKernel s → (x : Stepped) → boot s ≡ Ok x → IsBooted x.kernel
 unfolding boot

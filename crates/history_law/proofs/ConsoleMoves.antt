@@ -30,9 +30,10 @@ use Rattle.history_law.proofs.SentEvents.{low-clock, turn-accepted}
 use Rattle.history_law.proofs.ConsoleParts.{Allows, parts-on, read_event, read_request, without_work, work_event, work_request}
 use Rattle.history_law.proofs.ConsoleTurns.{IsConsole, console-allows, has-residents, read-sender, work-sender}
 use Rattle.history_law.proofs.GuestMoves.{set_flags-quiet}
+use Rattle.history_law.proofs.FirstTaken.{TakesReads}
 use Rattle.history_law.proofs.FreePackets.{unqueued-nowhere}
 use Rattle.history_law.proofs.RequestMoves.{TurnMoves, finished-same}
-use Rattle.history_law.proofs.TakenMoves.{MovesInTurn, none-moved, put_off-moves, returned-moves, same-moved, taken-moves, then-moved}
+use Rattle.history_law.proofs.TakenMoves.{MovesInTurn, first-moved, none-moved, put_off-moves, returned-moves, same-moved, taken-moves, then-moved}
 
 module _ (due : KernelEvent → ℕ) where
   -- they lead there in the console's turn
@@ -79,6 +80,7 @@ module _ (due : KernelEvent → ℕ) where
             moves-same due l (with_arrived Keyboard q l) n (Accepted (signed keyboard) key_packet (signed CONSOLE) ∷ []) (ledger-same (with_arrived Keyboard q l) n (λ i. refl) refl refl refl refl)
             (move-accepted due l Keyboard q tt tt (unqueued-nowhere l h.valid key_packet (off-queue l.residents (is_queued key_packet l) (sym off ∙ h.valid.queues.key))) tt);
         turn = turn-accepted (signed CONSOLE) (signed keyboard) key_packet refl;
+        takes = tt;
       }
     where
       off-queue : (c d : Bool) → true ≡ (c && not d) → d ≡ false
@@ -93,31 +95,34 @@ module _ (due : KernelEvent → ℕ) where
       console : IsConsole s l es
       moved : Leads b es l
 
-    then-led : (s t : List ℕ) (l m : Lists) (es fs : List KernelEvent) → HasLed s l es → IsConsole t m (es ++ fs) → Leads l fs m → HasLed t m (es ++ fs)
-    then-led s t l m es fs x console moved = record { console = console; moved = then-moved due (signed CONSOLE) b l m es fs x.moved moved }
+    first-led : (s t : List ℕ) (l m : Lists) (es fs : List KernelEvent) → es ≡ [] → HasLed s l es → IsConsole t m (es ++ fs) → Leads l fs m → HasLed t m (es ++ fs)
+    first-led s t l m es fs none x console moved = record { console = console; moved = first-moved due (signed CONSOLE) b l m es fs none x.moved moved }
+
+    then-led : (s t : List ℕ) (l m : Lists) (es fs : List KernelEvent) → HasLed s l es → IsConsole t m (es ++ fs) → Leads l fs m → TakesReads fs → HasLed t m (es ++ fs)
+    then-led s t l m es fs x console moved reads = record { console = console; moved = then-moved due (signed CONSOLE) b l m es fs x.moved moved reads }
 
     flags-lead : (s : List ℕ) (l : Lists) (es : List KernelEvent) (id flags : ℕ) → HasLed s l es → Leads l [] (set_flags l id flags).lists
     flags-lead s l es id flags x =
         let quiet = set_flags-quiet due l id flags in
         subst (λ n. MovesInTurn due (signed n) l [] (set_flags l id flags).lists) x.console.is
-        (subst (λ fs. MovesInTurn due (signed l.running) l fs (set_flags l id flags).lists) (flags-goes l id flags x.console.runs).events (record { moves = quiet.0; turn = quiet.1 }))
+        (subst (λ fs. MovesInTurn due (signed l.running) l fs (set_flags l id flags).lists) (flags-goes l id flags x.console.runs).events (record { moves = quiet.0; turn = quiet.1; takes = quiet.2 }))
 
     console-leads : Allows HasLed
     console-leads =
         record {
-          at_keys = λ s l es p ps is own x. then-led s _ l _ es _ x (console-allows.at_keys s l es p ps is own x.console) (keys-lead s l es x.console p ps is);
-          at_flags = λ s l es id flags x. then-led s _ l _ es [] x (console-allows.at_flags s l es id flags x.console) (flags-lead s l es id flags x);
-          at_answer = λ s l es p ps answer is no_key x. then-led s _ l _ es _ x (console-allows.at_answer s l es p ps answer is no_key x.console) (answer-leads s l es x.console p ps is no_key answer);
-          at_read = λ s l es p ps is no_key x. then-led s _ l _ es _ x (console-allows.at_read s l es p ps is no_key x.console) (read-leads s l es x.console p ps is no_key);
-          at_delivery = λ s l es p ps answer plain is x. then-led s _ l _ es _ x (console-allows.at_delivery s l es p ps answer plain is x.console) (delivery-leads s l es x.console p ps is answer);
-          at_sending = λ s l es off x. then-led s _ l _ es _ x (console-allows.at_sending s l es off x.console) (sending-leads s l x.console.holds off);
+          at_keys = λ s l es p ps none is own x. first-led s _ l _ es _ none x (console-allows.at_keys s l es p ps none is own x.console) (keys-lead s l es x.console p ps is);
+          at_flags = λ s l es id flags x. then-led s _ l _ es [] x (console-allows.at_flags s l es id flags x.console) (flags-lead s l es id flags x) tt;
+          at_answer = λ s l es p ps answer none is no_key x. first-led s _ l _ es _ none x (console-allows.at_answer s l es p ps answer none is no_key x.console) (answer-leads s l es x.console p ps is no_key answer);
+          at_read = λ s l es p ps none is no_key x. first-led s _ l _ es _ none x (console-allows.at_read s l es p ps none is no_key x.console) (read-leads s l es x.console p ps is no_key);
+          at_delivery = λ s l es p ps answer plain is x. then-led s _ l _ es _ x (console-allows.at_delivery s l es p ps answer plain is x.console) (delivery-leads s l es x.console p ps is answer) (refl, (tt, tt));
+          at_sending = λ s l es off x. then-led s _ l _ es _ x (console-allows.at_sending s l es off x.console) (sending-leads s l x.console.holds off) (tt, tt);
         }
 
 pub console-moves : (due : KernelEvent → ℕ) (id : ℕ) (c : Console) (k s : List ℕ) (l : Lists) → HoldsLists s l → RunsResident l → l.running ≡ CONSOLE → TurnMoves due l (console_turn id c k s l)
 console-moves due id c k s l h r is =
     let g : Progress = begun s l c k in
     let d : Progress = with_keys_sent (delivery (treated id (work g.lists) g)) in
-    let x : HasLed due l d.words d.lists d.events = parts-on (HasLed due l) (console-leads due l) id g
+    let x : HasLed due l d.words d.lists d.events = parts-on (HasLed due l) (console-leads due l) id g refl
     (record { console = record { holds = h; runs = r; is = is }; moved = none-moved due (signed CONSOLE) l l refl })
     in
     subst (λ n. MovesInTurn due (signed n) l d.events (finished d.lists)) (sym is) (same-moved due (signed CONSOLE) l d.lists (finished d.lists) d.events (finished-same d.lists) x.moved)

@@ -43,19 +43,19 @@ work_event l p = Taken (signed l.running) p.address (signed p.sender)
 abbrev pub read_event : QueuedPacket → KernelEvent
 read_event p = Taken (signed PENDING) p.address (signed p.sender)
 
--- It goes over: where the key packet is taken; where a task gets flags; where the first packet, which is another one, is returned or put
--- off; where the first read is returned; and where the key packet, which is on no queue, is sent.
+-- It goes over: where the key packet is taken, as the first event; where a task gets flags; where the first packet, which is another one,
+-- is returned or put off, likewise; where the first read is returned; and where the key packet, which is on no queue, is sent.
 pub record Allows (On : List ℕ → Lists → List KernelEvent → Type 0) : Type 0 where
-  pub at_keys : (s : List ℕ) (l : Lists) (es : List KernelEvent) (p : QueuedPacket) (ps : List QueuedPacket) → work l ≡ p ∷ ps → is_key_packet l p ≡ true → On s l es
+  pub at_keys : (s : List ℕ) (l : Lists) (es : List KernelEvent) (p : QueuedPacket) (ps : List QueuedPacket) → es ≡ [] → work l ≡ p ∷ ps → is_key_packet l p ≡ true → On s l es
       → let m : Lists = with_key_word (Some p.res1) (without_work ps l) in
       On (settled_words s m []) m (es ++ work_event l p ∷ [])
   pub at_flags : (s : List ℕ) (l : Lists) (es : List KernelEvent) (id flags : ℕ) → On s l es
       → let m : Lists = (set_flags l id flags).lists in
       On (settled_words s m []) m (es ++ [])
-  pub at_answer : (s : List ℕ) (l : Lists) (es : List KernelEvent) (p : QueuedPacket) (ps : List QueuedPacket) (answer : Result ℕ ℕ) → work l ≡ p ∷ ps → is_key_packet l p ≡ false → On s l es
+  pub at_answer : (s : List ℕ) (l : Lists) (es : List KernelEvent) (p : QueuedPacket) (ps : List QueuedPacket) (answer : Result ℕ ℕ) → es ≡ [] → work l ≡ p ∷ ps → is_key_packet l p ≡ false → On s l es
       → let m = returned (without_work ps l) (work_request s l p) answer in
       On (settled_words s m.lists []) m.lists (es ++ work_event l p ∷ m.events)
-  pub at_read : (s : List ℕ) (l : Lists) (es : List KernelEvent) (p : QueuedPacket) (ps : List QueuedPacket) → work l ≡ p ∷ ps → is_key_packet l p ≡ false → On s l es
+  pub at_read : (s : List ℕ) (l : Lists) (es : List KernelEvent) (p : QueuedPacket) (ps : List QueuedPacket) → es ≡ [] → work l ≡ p ∷ ps → is_key_packet l p ≡ false → On s l es
       → let m = put_off (unqueued s (queue_for l (Work l.running)) p.address) (without_work ps l) (work_request s l p) in
       On (settled_words s m.lists []) m.lists (es ++ work_event l p ∷ m.events)
   pub at_delivery : (s : List ℕ) (l : Lists) (es : List KernelEvent) (p : QueuedPacket) (ps : List QueuedPacket) (answer : Result ℕ ℕ) (plain : Pairs) → l.pending ≡ p ∷ ps → On s l es
@@ -71,8 +71,8 @@ module _ (On : List ℕ → Lists → List KernelEvent → Type 0) (h : Allows O
 
   -- ---- the first packet
 
-  keys-on : (id : ℕ) (k : Keyed) (g : Progress) (p : QueuedPacket) (ps : List QueuedPacket) → work g.lists ≡ p ∷ ps → is_key_packet g.lists p ≡ true → So g → So (with_keyed id k (with_keys_taken g))
-  keys-on id k g p ps is own x = h.at_flags t.words t.lists t.events id k.flags taken
+  keys-on : (id : ℕ) (k : Keyed) (g : Progress) (p : QueuedPacket) (ps : List QueuedPacket) → g.events ≡ [] → work g.lists ≡ p ∷ ps → is_key_packet g.lists p ≡ true → So g → So (with_keyed id k (with_keys_taken g))
+  keys-on id k g p ps none is own x = h.at_flags t.words t.lists t.events id k.flags taken
     where
       t : Progress
       t = with_keys_taken g
@@ -80,10 +80,10 @@ module _ (On : List ℕ → Lists → List KernelEvent → Type 0) (h : Allows O
       taken : So t
       taken =
           subst (λ qs. On (settled_words g.words (keys_taken_from qs g.lists).lists []) (keys_taken_from qs g.lists).lists (g.events ++ (keys_taken_from qs g.lists).events)) (sym is)
-          (h.at_keys g.words g.lists g.events p ps is own x)
+          (h.at_keys g.words g.lists g.events p ps none is own x)
 
-  first-on : (g : Progress) (p : QueuedPacket) (ps : List QueuedPacket) → work g.lists ≡ p ∷ ps → is_key_packet g.lists p ≡ false → So g → So (with_first g)
-  first-on g p ps is other x =
+  first-on : (g : Progress) (p : QueuedPacket) (ps : List QueuedPacket) → g.events ≡ [] → work g.lists ≡ p ∷ ps → is_key_packet g.lists p ≡ false → So g → So (with_first g)
+  first-on g p ps none is other x =
       subst (λ qs. So (with_taken (first_request (words_taken_from qs g.words g.lists) qs) (words_taken_from qs g.words g.lists) (taken_from qs g.lists).lists g)) (sym is) (on (eqb r.kind 1))
     where
       z : List ℕ
@@ -100,22 +100,22 @@ module _ (On : List ℕ → Lists → List KernelEvent → Type 0) (h : Allows O
           (record (and_then g (returned m r (answer_of z r)).lists [] ((taken g.lists).events ++ (returned m r (answer_of z r)).events)) { bytes = g.bytes ++ bytes_of z r }))
       on true =
           subst (λ qs. On (settled_words g.words (put_off z m r).lists []) (put_off z m r).lists (g.events ++ ((taken_from qs g.lists).events ++ (put_off z m r).events))) (sym is)
-          (h.at_read g.words g.lists g.events p ps is other x)
+          (h.at_read g.words g.lists g.events p ps none is other x)
       on false =
           let answer : Result ℕ ℕ = answer_of z r in
           subst (λ qs. On (settled_words g.words (returned m r answer).lists []) (returned m r answer).lists (g.events ++ ((taken_from qs g.lists).events ++ (returned m r answer).events))) (sym is)
-          (h.at_answer g.words g.lists g.events p ps answer is other x)
+          (h.at_answer g.words g.lists g.events p ps answer none is other x)
 
-  treated-on : (id : ℕ) (g : Progress) → So g → So (treated id (work g.lists) g)
-  treated-on id g x = on (work g.lists) refl
+  treated-on : (id : ℕ) (g : Progress) → g.events ≡ [] → So g → So (treated id (work g.lists) g)
+  treated-on id g none x = on (work g.lists) refl
     where
       on : (ps : List QueuedPacket) → work g.lists ≡ ps → So (treated id ps g)
       on [] is = x
       on (p ∷ ps) is = by (is_key_packet g.lists p) refl
         where
           by : (c : Bool) → is_key_packet g.lists p ≡ c → So (cond c (with_key id g) (with_first g))
-          by true own = keys-on id (key g.console (key_of (keys_taken g.lists).answer)) g p ps is own x
-          by false other = first-on g p ps is other x
+          by true own = keys-on id (key g.console (key_of (keys_taken g.lists).answer)) g p ps none is own x
+          by false other = first-on g p ps none is other x
 
   -- ---- the delivery
 
@@ -152,7 +152,7 @@ module _ (On : List ℕ → Lists → List KernelEvent → Type 0) (h : Allows O
       on false off d = x
 
   -- up to the end, at which the console waits or goes on
-  pub parts-on : (id : ℕ) (g : Progress) → So g → So (with_keys_sent (delivery (treated id (work g.lists) g)))
-  parts-on id g x =
+  pub parts-on : (id : ℕ) (g : Progress) → g.events ≡ [] → So g → So (with_keys_sent (delivery (treated id (work g.lists) g)))
+  parts-on id g none x =
       let t : Progress = treated id (work g.lists) g in
-      sent-on (delivery t) (delivered-on t.lists.pending t (treated-on id g x))
+      sent-on (delivery t) (delivered-on t.lists.pending t (treated-on id g none x))

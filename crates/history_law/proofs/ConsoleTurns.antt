@@ -89,19 +89,19 @@ keys-valid s l h off =
 pub console-allows : Allows IsConsole
 console-allows =
     record {
-      at_keys = λ s l es p ps is own x.
+      at_keys = λ s l es p ps none is own x.
           let r : RunsResident (without_work ps l) = runs-then (Work l.running) ps l x.runs in
           left-so s l (with_key (Some p.res1) (without_work ps l)) es _ [] x (key_unqueued-valid l (Work l.running) p [] ps x.holds.valid is own) refl
           (record { resident = r.resident; there = r.there; field = r.field }) refl;
       at_flags = λ s l es id flags x.
           let goes : GoesOn l (set_flags l id flags) = flags-goes l id flags x.runs in
           left-so s l (set_flags l id flags).lists es _ [] x (set_flags-valid l x.holds.valid id flags) (made-size (first_refusal (guest_tests l id)) l (done (with_task id (flagged flags) l)) refl) goes.runs goes.running;
-      at_answer = λ s l es p ps answer is no_key x.
+      at_answer = λ s l es p ps answer none is no_key x.
           let no_fault = work-no_fault s l es x p ps is in
           let from = work-sender s l es x p ps is no_key in
           left-so s l (returned (without_work ps l) (work_request s l p) answer).lists es _ [] x (returned-valid s l x.holds (Work l.running) p ps is no_key no_fault from x.runs answer) refl
           (returned-runs s l x.holds (Work l.running) p ps is no_key no_fault from x.runs answer) refl;
-      at_read = λ s l es p ps is no_key x.
+      at_read = λ s l es p ps none is no_key x.
           let no_fault = work-no_fault s l es x p ps is in
           let from = work-sender s l es x p ps is no_key in
           let r : RunsResident (without_work ps l) = runs-then (Work l.running) ps l x.runs in
@@ -122,5 +122,5 @@ pub console-valid : (id : ℕ) (c : Console) (k s : List ℕ) (l : Lists) → Ho
 console-valid id c k s l h r is =
     let g : Progress = begun s l c k in
     let d : Progress = with_keys_sent (delivery (treated id (work g.lists) g)) in
-    let x : IsConsole d.words d.lists d.events = parts-on IsConsole console-allows id g (record { holds = h; runs = r; is = is }) in
+    let x : IsConsole d.words d.lists d.events = parts-on IsConsole console-allows id g refl (record { holds = h; runs = r; is = is }) in
     finished-valid d.words d.lists x.holds x.runs

@@ -1,6 +1,6 @@
 -- Every call, and the whole turn of a guest, moves packets as its events say.
 use Rattle.std.proofs.Common.{◌≡◌, ℕ, ◌+◌, ◌-◌, ◌&&◌, Bool, true, false, cond, eqb, is_some, Option, Some, None, Result, Ok, Err, List, [], ◌∷◌, ◌++◌, map, inl, refl, sym, ap, ◌∙◌, subst}
-use Rattle.std.specs.Prelude.{find, not, unwrap_or}
+use Rattle.std.specs.Prelude.{find, not, slice_index, unwrap_or}
 use Rattle.std.specs.List.{AllByRecursion, list_any, range_with_len}
 use Rattle.std.proofs.lemmas.Bool.{not-true}
 use Rattle.word_store.specs.Arithmetic.{signed}
@@ -41,7 +41,9 @@ use Rattle.machine_boot.specs.KernelCalls.TaskCalls.SetFlags.{flagged, set_flags
 use Rattle.machine_boot.specs.KernelCalls.TaskCalls.TestFlags.{cleared}
 use Rattle.machine_boot.specs.KernelCalls.ModuleCalls.AddModule.{add_module, addition_tests, global_words, globals_of_task, modules_so_far, task_of, with_further}
 use Rattle.machine_boot.specs.KernelCalls.ModuleCalls.UnloadModule.{unload_module, unload_tests, without_module}
-use Rattle.machine_boot.specs.KernelCalls.PacketCalls.TaskWait.{taskwait}
+use Rattle.machine_boot.specs.KernelCalls.PacketCalls.Dqpkt.{Search, dequeued, dqpkt_tests, found_in}
+use Rattle.machine_boot.specs.KernelCalls.PacketCalls.Qpkt.{qpkt_tests, sent_to}
+use Rattle.machine_boot.specs.KernelCalls.PacketCalls.TaskWait.{taskwait, waited}
 use Rattle.machine_boot.specs.KernelCalls.CoroutineCalls.CallCo.{idle_tests}
 use Rattle.machine_boot.specs.KernelCalls.CoroutineCalls.CallersCoroutines.{coroutines_of_caller, with_changed}
 use Rattle.machine_boot.specs.KernelCalls.CoroutineCalls.CoWait.{ended, wait_tests, with_ended}
@@ -60,6 +62,7 @@ use Rattle.machine_boot.specs.KernelMachine.GuestTurns.GuestTurn.{after_instruct
 use Rattle.history_law.specs.Queues.{IsDueIn, Moves, ledger_of}
 use Rattle.history_law.specs.SentBy.{AreOfTurn}
 use Rattle.history_law.proofs.CallMoves.{dqpkt-moves, qpkt-moves, refused-moves, taskwait-moves}
+use Rattle.history_law.proofs.FirstTaken.{TakesFirst, first-refused}
 use Rattle.history_law.proofs.Ledgers.{ledger-same, ledger-task}
 use Rattle.history_law.proofs.Moves.{move-none}
 use Rattle.history_law.proofs.SentEvents.{dqpkt-turn, qpkt-turn, taskwait-turn, turn-none, turn-refused}
@@ -75,12 +78,12 @@ pub beside-quiet : (l m : Lists) → m.tasks ≡ l.tasks → m.clock ≡ l.clock
 beside-quiet l m ts c k o p = ledger-same l m (λ n. ap (work_of n) ts) c k o p
 
 module _ (due : KernelEvent → ℕ) (l : Lists) where
-  -- The events lead to these lists, and are those of a turn of the running task.
+  -- The events lead to these lists, are those of a turn of the running task, and take a packet first.
   abbrev Goes : List KernelEvent → Lists → Type 0
-  Goes es m = Moves due l es m × AreOfTurn (signed l.running) es
+  Goes es m = Moves due l es m × AreOfTurn (signed l.running) es × TakesFirst es
 
   goes-none : (m : Lists) → Quiet l m → Goes [] m
-  goes-none m same = (move-none due l m same, turn-none (signed l.running))
+  goes-none m same = (move-none due l m same, turn-none (signed l.running), tt)
 
   -- a call without events
   abbrev IsQuiet : Made → Type 0
@@ -90,6 +93,7 @@ module _ (due : KernelEvent → ℕ) (l : Lists) where
   quiet tests m none same = (
     refused-moves due l tests m (λ ok. subst (λ es. Moves due l es m.lists) (sym none) (move-none due l m.lists (same ok))),
     turn-refused (signed l.running) tests l m (λ ok. subst (AreOfTurn (signed l.running)) (sym none) (turn-none (signed l.running))),
+    first-refused tests l m (subst TakesFirst (sym none) tt),
   )
 
   one-quiet : (n : ℕ) (f : Task → Task) → ((t : Task) → ((f t).id ≡ t.id) × ((f t).queue ≡ t.queue)) → Quiet l (with_task n f l)
@@ -200,6 +204,14 @@ module _ (due : KernelEvent → ℕ) (l : Lists) where
 
   -- ---- every call
 
+  taskwait-first : (ps : List QueuedPacket) → TakesFirst (waited ps l).events
+  taskwait-first [] = tt
+  taskwait-first (p ∷ ps) = tt
+
+  dequeued-first : (p : ℕ) (o : Option Search) → TakesFirst (dequeued p o l).events
+  dequeued-first p None = tt
+  dequeued-first p (Some w) = tt
+
   wait-moves : (r : Regs) (ps : List QueuedPacket) (m : Made) → IsQuiet m → Goes (of_wait r ps m).events (of_wait r ps m).lists
   wait-moves r [] m is = is
   wait-moves r (p ∷ ps) m is = is
@@ -216,9 +228,9 @@ module _ (due : KernelEvent → ℕ) (l : Lists) where
     call-moves r (TestFlags mask) = goes-none (with_task l.running (cleared mask) l) (one-quiet l.running (cleared mask) (λ t. (refl, refl)))
     call-moves r (Hold n) = hold-quiet n
     call-moves r (Release n) = release-quiet n
-    call-moves r TaskWait = wait-moves r (queue_of (Work l.running) l) (taskwait l) (taskwait-moves due l v there, taskwait-turn l v there)
-    call-moves r (Qpkt p) = (qpkt-moves due s l p v (dues p), qpkt-turn l v s p)
-    call-moves r (Dqpkt n p) = (dqpkt-moves due l n p v there, dqpkt-turn l v n p)
+    call-moves r TaskWait = wait-moves r (queue_of (Work l.running) l) (taskwait l) (taskwait-moves due l v there, taskwait-turn l v there, taskwait-first (queue_of (Work l.running) l))
+    call-moves r (Qpkt p) = (qpkt-moves due s l p v (dues p), qpkt-turn l v s p, first-refused (qpkt_tests s l p) l (sent_to (slice_index s (p + 1)) s l p) tt)
+    call-moves r (Dqpkt n p) = (dqpkt-moves due l n p v there, dqpkt-turn l v n p, first-refused (dqpkt_tests l n p) l (dequeued p (found_in l n p) l) (dequeued-first p (found_in l n p)))
     call-moves r (Unload m) = unload-quiet m
     call-moves r (CreateCo entry u) = createco-quiet entry u
     call-moves r (DeleteCo c) = deleteco-quiet c

@@ -1,23 +1,30 @@
 -- The history of every run of a valid kernel.
 use Rattle.std.proofs.Common.{◌≡◌, ℕ, zero, suc, ◌+◌, ◌≤◌, Option, Some, None, sym, ◌∙◌, subst, arith, refl}
+use Rattle.std.specs.List.{AllByRecursion}
 use Rattle.word_store.specs.Arithmetic.{signed}
+use Rattle.machine_boot.specs.KernelCalls.KernelModel.HoldsLists.{HoldsLists}
+use Rattle.machine_boot.specs.KernelCalls.KernelModel.Image.{image}
 use Rattle.machine_boot.specs.KernelCalls.KernelModel.Kernel.{Kernel}
 use Rattle.machine_boot.specs.KernelCalls.KernelModel.Ranges.{most_steps}
 use Rattle.machine_boot.specs.KernelCalls.KernelModel.ValidKernel.{IsValid}
 use Rattle.machine_boot.specs.KernelCalls.KernelModel.declared.stops.Stop.{Stop}
-use Rattle.machine_boot.specs.KernelSteps.Step.{Stepped, key, output, step, tick, turn, with_step}
+use Rattle.machine_boot.specs.KernelSteps.Step.{Stepped, dispatch, key, output, run, step, tick, turn, with_step}
 use Rattle.machine_boot.proofs.Shown.KernelSteps.Runs.{step-steps, step-stopped}
-use Rattle.history_law.specs.Queues.{Moves}
+use Rattle.history_law.specs.Queues.{Moves, ledger_of}
+use Rattle.history_law.specs.Senders.{HasSender, PartHolds, StepHolds}
 use Rattle.history_law.specs.SentBy.{AreOfTurn}
 use Rattle.history_law.proofs.Moves.{move-none}
 use Rattle.history_law.proofs.ResidentTurns.{step-turn-valid}
 use Rattle.history_law.specs.HistoryLaw.{HistoryLaw, StepLaw}
 use Rattle.history_law.specs.Steps.{EachStep, StepMoves, due_in}
-use Rattle.history_law.proofs.HeldSenders.{valid-senders}
+use Rattle.history_law.proofs.HeldSenders.{stands-senders, valid-senders}
 use Rattle.history_law.proofs.PartEvents.{dispatch-accepts, dispatch-takes, key-returns, key-takes, output-returns, output-takes, step-parts, tick-returns, tick-takes}
+use Rattle.history_law.proofs.PlainWords.{Stands, image-holds, key-left, output-left, plain-like, tick-left, turn-left}
 use Rattle.history_law.proofs.Runs.{history-events, run-history}
-use Rattle.history_law.proofs.StepMoved.{step-moved}
-use Rattle.history_law.proofs.ValidSteps.{next-valid}
+use Rattle.history_law.proofs.StepMoved.{key-moved, output-moved, step-moved, tick-moved}
+use Rattle.history_law.proofs.TakenMoves.{MovesInTurn}
+use Rattle.history_law.proofs.TakenSenders.{dispatch-senders, first-senders, key-senders, ledger-senders, output-senders, tick-senders}
+use Rattle.history_law.proofs.ValidSteps.{next-valid, run-valid}
 use Rattle.history_law.proofs.TurnMoves.{turn-moves}
 
 -- ---- one step
@@ -30,6 +37,49 @@ step-moves k valid = on k.stop refl
     on (Some stop) is =
         subst (λ x. Moves (due_in k) k.lists x.events x.kernel.lists)
         (sym (step-stopped k (λ none. (let clash : ◌≡◌ {A = Option Stop} (Some stop) None = sym is ∙ none in cc)))) (move-none (due_in k) k.lists k.lists refl)
+
+-- before each part of a step the word 1 of each packet is its sender, while it is queued and when it is taken
+module _ (k : Kernel) (valid : IsValid k) (goes : k.stop ≡ None) where
+  abbrev turn_part : Stepped
+  turn_part = turn (with_step k)
+
+  abbrev clock_part : Stepped
+  clock_part = tick turn_part.kernel
+
+  abbrev keyboard_part : Stepped
+  keyboard_part = key clock_part.kernel
+
+  abbrev output_part : Stepped
+  output_part = output keyboard_part.kernel
+
+  part-holds : (j : Kernel) (x : Stepped) → Stands j → (HoldsLists (image j) j.lists → AllByRecursion (HasSender (image j)) x.events) → PartHolds j x
+  part-holds j x stands taken = record { queued = stands-senders j stands; taken = taken (image-holds j stands) }
+
+  turned-stands : Stands turn_part.kernel
+  turned-stands = (let v = step-turn-valid k valid goes in record { lists = v; plain = turn-left (with_step k) (plain-like k (with_step k) valid.plain refl refl) v })
+
+  ticked-stands : Stands clock_part.kernel
+  ticked-stands = (let v = (tick-moved (λ e. 0) turn_part.kernel turned-stands.lists).valid in record { lists = v; plain = tick-left turn_part.kernel turned-stands.plain v })
+
+  typed-stands : Stands keyboard_part.kernel
+  typed-stands = (let v = (key-moved (λ e. 0) clock_part.kernel ticked-stands.lists).valid in record { lists = v; plain = key-left clock_part.kernel v })
+
+  printed-stands : Stands output_part.kernel
+  printed-stands = (let v = (output-moved (λ e. 0) keyboard_part.kernel typed-stands.lists).valid in record { lists = v; plain = output-left keyboard_part.kernel v })
+
+  step-holds : StepHolds k
+  step-holds =
+      let m : MovesInTurn (due_in k) (signed k.lists.running) k.lists turn_part.events turn_part.kernel.lists = turn-moves k valid goes in
+      record {
+        turn =
+            part-holds k turn_part (record { lists = valid.lists; plain = valid.plain })
+            (λ h. first-senders (image k) (due_in k) (signed k.lists.running) turn_part.events (ledger_of k.lists) (ledger_of turn_part.kernel.lists) (ledger-senders (image k) k.lists h) m.takes
+            (m.turn.sent None) m.moves);
+        clock = part-holds turn_part.kernel clock_part turned-stands (tick-senders turn_part.kernel);
+        keyboard = part-holds clock_part.kernel keyboard_part ticked-stands (key-senders clock_part.kernel);
+        output = part-holds keyboard_part.kernel output_part typed-stands (output-senders keyboard_part.kernel);
+        dispatch = part-holds output_part.kernel (dispatch output_part.kernel) printed-stands (dispatch-senders output_part.kernel);
+      }
 
 step-law : (k : Kernel) → IsValid k → IsValid (step k).kernel → k.stop ≡ None → StepLaw k
 step-law k valid next goes =
@@ -56,7 +106,7 @@ step-law k valid next goes =
             output = output-takes y.kernel;
             dispatch = dispatch-takes o.kernel;
           };
-      words = valid-senders k valid;
+      words = step-holds k valid goes;
       runs = λ on. next.running on;
     }
 
@@ -78,4 +128,5 @@ whole-law n k valid few =
       events = history-events n k;
       queues = run-history n k valid.lists (each-moves n k valid few);
       steps = each-step (λ j. j.stop ≡ None → StepLaw j) step-law n k valid few;
+      left = valid-senders (run n k).kernel (run-valid n k valid few);
     }

@@ -27,6 +27,7 @@ pub mod ValidLedgers
 pub mod Moves
 pub mod CallMoves
 pub mod SentEvents
+pub mod FirstTaken
 pub mod ChainMoves
 pub mod GuestMoves
 pub mod TakenMoves
@@ -43,6 +44,7 @@ pub mod DispatchMoves
 pub mod StepMoved
 pub mod PartEvents
 pub mod HeldSenders
+pub mod TakenSenders
 pub mod Runs
 pub mod DiscRequests
 pub mod DiscTurns
@@ -54,4 +56,5 @@ pub mod Histories
 pub mod BootedLists
 pub mod BootMoves
 pub mod BootHistories
+pub mod PipeRuns
 pub mod Shown

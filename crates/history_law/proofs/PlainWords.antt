@@ -1,15 +1,21 @@
 -- The plain words of a kernel after a step are those that nobody owns.
-use Rattle.std.proofs.Common.{◌≡◌, ℕ, List, None, get_or, length, ◌<◌, refl, sym, ap, ◌∙◌, subst, arith}
+use Rattle.std.proofs.Common.{◌≡◌, ℕ, ◌%◌, List, None, eqb, get_or, length, ◌<◌, refl, sym, ap, ◌∙◌, subst, arith}
 use Rattle.machine_boot.specs.KernelCalls.OwnedWords.Owned.{owners}
-use Rattle.machine_boot.specs.KernelCalls.KernelModel.Image.{HasPlainWords, settled}
+use Rattle.machine_boot.specs.KernelCalls.KernelModel.Image.{HasPlainWords, IsImage, image, settled}
+use Rattle.machine_boot.specs.KernelCalls.KernelModel.HoldsLists.{HoldsLists}
 use Rattle.machine_boot.specs.KernelCalls.KernelModel.Kernel.{Kernel}
 use Rattle.machine_boot.specs.KernelCalls.KernelModel.Lists.{Lists}
 use Rattle.machine_boot.specs.KernelCalls.KernelModel.Owned.{owned}
 use Rattle.machine_boot.specs.KernelCalls.KernelModel.ValidLists.{AreValid}
-use Rattle.machine_boot.specs.KernelSteps.Step.{dispatch, step, turn, with_step, with_store}
+use Rattle.machine_boot.specs.KernelCalls.PacketCalls.Returned.{Served}
+use Rattle.machine_boot.proofs.Shown.KernelCalls.KernelModel.ImageWords.{image-of}
+use Rattle.machine_boot.specs.KernelSteps.KernelDevices.Keys.{left_typed, met}
+use Rattle.machine_boot.specs.KernelSteps.KernelDevices.Printed.{finished}
+use Rattle.machine_boot.specs.KernelSteps.KernelDevices.Tick.{ticked}
+use Rattle.machine_boot.specs.KernelSteps.Step.{dispatch, key, output, served, step, tick, turn, with_key_typed, with_step, with_store}
 use Rattle.machine_boot.proofs.Shown.KernelSteps.StepEnds.{step-ends}
 use Rattle.machine_boot.proofs.Shown.KernelSteps.StoredWords.{plain-stored}
-use Rattle.machine_boot.proofs.Shown.KernelSteps.TurnWays.{turn-ways}
+use Rattle.machine_boot.proofs.Shown.KernelSteps.TurnWays.{due-or-not, turn-ways}
 
 -- a kernel with the lists and the plain words of another
 pub plain-like : (i j : Kernel) → HasPlainWords i → j.lists ≡ i.lists → j.plain ≡ i.plain → HasPlainWords j
@@ -22,6 +28,15 @@ plain-like i j h lists plain =
       owned = λ a some. ap (λ ps. get_or ps a None) plain ∙ h.owned a (subst (λ l. 0 < owners a (owned l)) lists some);
     }
 
+-- its lists are valid, and its plain words are those that nobody owns
+pub record Stands (k : Kernel) : Type 0 where
+  pub lists : AreValid k.lists
+  pub plain : HasPlainWords k
+
+-- so its image holds them
+pub image-holds : (k : Kernel) → Stands k → HoldsLists (image k) k.lists
+image-holds k h = (let i : IsImage (image k) k = image-of k h.lists.owns.apart h.lists.owns.inside h.plain in record { valid = h.lists; size = i.size; holds = i.holds })
+
 -- what a part leaves has plain words, if its lists are valid
 abbrev IsLeft : Kernel → Type 0
 IsLeft j = AreValid j.lists → HasPlainWords j
@@ -29,7 +44,7 @@ IsLeft j = AreValid j.lists → HasPlainWords j
 stored-left : (s : List ℕ) (l : Lists) (k j : Kernel) → j.lists ≡ l → j.plain ≡ (with_store s l k).plain → IsLeft j
 stored-left s l k j lists plain v = plain-like (with_store s l k) j (plain-stored s l k (subst AreValid lists v).owns) lists plain
 
-turn-left : (k : Kernel) → HasPlainWords k → IsLeft (turn k).kernel
+pub turn-left : (k : Kernel) → HasPlainWords k → IsLeft (turn k).kernel
 turn-left k h =
     turn-ways (λ x. IsLeft x.kernel) k
     (record {
@@ -41,6 +56,24 @@ turn-left k h =
       pipes = λ e f. stored-left _ _ k _ refl refl;
       nobody = λ e v. h;
     })
+
+served-left : (k : Kernel) (m : Served) → IsLeft (served k m).kernel
+unfolding settled
+served-left k m = stored-left _ _ k _ refl refl
+
+pub tick-left : (k : Kernel) → HasPlainWords k → IsLeft (tick k).kernel
+unfolding tick
+tick-left k h = due-or-not (λ x. IsLeft x.kernel) (eqb (k.steps % k.lists.period) 0) (λ j. served j (ticked j.lists)) k (λ due. served-left k (ticked k.lists)) (λ none v. h)
+
+pub key-left : (k : Kernel) → IsLeft (key k).kernel
+unfolding key
+key-left k =
+    let j : Kernel = with_key_typed k in
+    served-left (record j { type_ahead = left_typed j.type_ahead j.lists.keyboard }) (met j.type_ahead j.lists)
+
+pub output-left : (k : Kernel) → IsLeft (output k).kernel
+unfolding output
+output-left k = served-left k (finished k.lists)
 
 pub dispatch-left : (k : Kernel) → IsLeft (dispatch k).kernel
 unfolding dispatch settled

@@ -25,6 +25,7 @@ use Rattle.machine_boot.proofs.Shown.ConsoleHandler.FaultReporter.HeldGuest.{hel
 use Rattle.machine_boot.proofs.Shown.ConsoleHandler.FaultReporter.ReportedTurn.{takes-other}
 use Rattle.event_history.specs.Ledger.{IsNowhere}
 use Rattle.history_law.specs.Queues.{ledger_of}
+use Rattle.history_law.proofs.FirstTaken.{TakesReads}
 use Rattle.history_law.proofs.Ledgers.{ledger-same, ledger-task}
 use Rattle.history_law.proofs.Moves.{low-named, move-accepted, moves-from, moves-same, signed-low}
 use Rattle.history_law.proofs.SentEvents.{low-clock, turn-accepted}
@@ -73,7 +74,7 @@ reporter-moves due s l h r two = on (work l) refl
 -- ---- a fault of the running task is recorded
 
 pub recorded-moves : (due : KernelEvent → ℕ) (f : Fault) (l : Lists) → AreValid l → has_task REPORTER l.tasks ≡ true → MovesInTurn due (signed l.running) l (recorded_events f l) (recorded f l)
-recorded-moves due f l v two = record { moves = moves-from due l m (recorded f l) (recorded_events f l) same (on l.fault_packet_free refl).moves; turn = (on l.fault_packet_free refl).turn }
+recorded-moves due f l v two = record { moves = moves-from due l m (recorded f l) (recorded_events f l) same (on l.fault_packet_free refl).moves; turn = (on l.fault_packet_free refl).turn; takes = (on l.fault_packet_free refl).takes }
   where
     m : Lists
     m = held_with f l
@@ -97,4 +98,13 @@ recorded-moves due f l v two = record { moves = moves-from due l m (recorded f l
               (ledger-same (with_arrived (Work 2) p m) (sent_where true m) (λ n. refl) refl refl refl refl)
               (move-accepted due m (Work 2) p (held-reporter l f two) (low-named 2 (omega arith)) nowhere tt);
           turn = turn-accepted (signed l.running) (signed 2) fault_packet refl;
+          takes = tt;
         }
+
+-- and nothing is taken
+pub recorded-reads : (f : Fault) (l : Lists) → TakesReads (recorded_events f l)
+recorded-reads f l = on l.fault_packet_free
+  where
+    on : (b : Bool) → TakesReads (events_where b (held_with f l))
+    on true = (tt, tt)
+    on false = tt

@@ -13,11 +13,14 @@ use Rattle.machine_boot.specs.KernelCalls.KernelModel.Standing.{Standing, standi
 use Rattle.machine_boot.specs.KernelCalls.KernelModel.ValidLists.{AreValid}
 use Rattle.machine_boot.specs.KernelCalls.KernelModel.ValidQueues.Place.{Work}
 use Rattle.machine_boot.specs.KernelCalls.KernelModel.declared.numbers.TheConstants.{SHELL, SHELL_PACKET}
+use Rattle.machine_boot.specs.KernelCalls.KernelModel.Changes.{with_task}
+use Rattle.machine_boot.specs.KernelCalls.CallAnswers.Guests.{guest_tests}
 use Rattle.machine_boot.specs.KernelCalls.CallAnswers.Made.{Made}
-use Rattle.machine_boot.specs.KernelCalls.TaskCalls.ChangePri.{change_pri}
-use Rattle.machine_boot.specs.KernelCalls.TaskCalls.HoldTask.{hold}
-use Rattle.machine_boot.specs.KernelCalls.TaskCalls.ReleaseTask.{release}
-use Rattle.machine_boot.specs.KernelCalls.TaskCalls.SetFlags.{set_flags}
+use Rattle.machine_boot.specs.KernelCalls.CallAnswers.Refusals.{first_refusal}
+use Rattle.machine_boot.specs.KernelCalls.TaskCalls.ChangePri.{change_pri, priority_tests, with_new_priority}
+use Rattle.machine_boot.specs.KernelCalls.TaskCalls.HoldTask.{held, hold, hold_tests}
+use Rattle.machine_boot.specs.KernelCalls.TaskCalls.ReleaseTask.{release, release_tests, released}
+use Rattle.machine_boot.specs.KernelCalls.TaskCalls.SetFlags.{flagged, set_flags}
 use Rattle.machine_boot.specs.KernelCalls.PacketCalls.Destinations.{queue_for}
 use Rattle.machine_boot.specs.KernelCalls.PacketCalls.PacketMoves.{sent_packet, with_arrived}
 use Rattle.machine_boot.specs.KernelCalls.PacketCalls.QueueWords.{unqueued}
@@ -26,11 +29,13 @@ use Rattle.machine_boot.specs.KernelSteps.ConsoleHandler.ResidentRequests.Reques
 use Rattle.machine_boot.specs.KernelSteps.CliShell.ShellPrograms.ClearedTasks.{cleared}
 use Rattle.machine_boot.specs.KernelSteps.CliShell.ShellPrograms.ShellPacket.{HasPacket, post_events, posted, request_words}
 use Rattle.machine_boot.specs.KernelSteps.CliShell.ShellPrograms.StartedProgram.{begun, start_program}
+use Rattle.machine_boot.proofs.Shown.CliShell.RunningShell.{made-events}
 use Rattle.machine_boot.proofs.Shown.ShellPrograms.SentRules.{posted-is}
 use Rattle.machine_boot.specs.KernelSteps.CliShell.ShellTurn.{shell_turn}
 use Rattle.history_law.specs.Queues.{Moves}
 use Rattle.history_law.specs.SentBy.{AreOfTurn}
 use Rattle.history_law.proofs.CallMoves.{unowned-nowhere}
+use Rattle.history_law.proofs.FirstTaken.{TakesFirst, TakesReads}
 use Rattle.history_law.proofs.Moves.{low-named, move-accepted, signed-low}
 use Rattle.history_law.proofs.SentEvents.{low-clock, low-reads, turn-accepted}
 use Rattle.history_law.proofs.ShellParts.{Allows, first_event, sent_back, turn-done, without_first}
@@ -38,7 +43,7 @@ use Rattle.history_law.proofs.ShellTurns.{HasOwn, IsShell, first-sender, shell-a
 use Rattle.history_law.proofs.GuestMoves.{change_pri-quiet, hold-quiet, release-quiet, set_flags-quiet}
 use Rattle.history_law.proofs.RequestMoves.{finished-same}
 use Rattle.history_law.proofs.ShellCalls.{begun-same, cleared-same, started-same}
-use Rattle.history_law.proofs.TakenMoves.{MovesInTurn, none-moved, returned-moves, still-moved, taken-moves, then-moved}
+use Rattle.history_law.proofs.TakenMoves.{MovesInTurn, first-moved, none-moved, returned-moves, still-moved, taken-moves, then-moved}
 
 -- the turn began with the lists b
 module _ (due : KernelEvent → ℕ) (b : Lists) where
@@ -48,6 +53,7 @@ module _ (due : KernelEvent → ℕ) (b : Lists) where
   record HasBegun (k : Standing) (es : List KernelEvent) : Type 0 where
     shell : IsShell k es
     led : Led es k.lists
+    none : es ≡ []
 
   record HasLed (k : Standing) (es : List KernelEvent) : Type 0 where
     own : HasOwn k es
@@ -68,14 +74,14 @@ module _ (due : KernelEvent → ℕ) (b : Lists) where
 
     first-led : Led (es ++ first_event p k ∷ []) (without_first ps k)
     first-led =
-        then-moved due (signed SHELL) b l (without_first ps k) es (first_event p k ∷ []) x.led
+        first-moved due (signed SHELL) b l (without_first ps k) es (first_event p k ∷ []) x.none x.led
         (taken-moves due (signed SHELL) k.words l x.shell.well.holds (Work l.running) p ps is (low-named l.running low) (signed l.running) (signed-low l.running low) (low-clock l.running low))
 
     back-led : Led ((es ++ first_event p k ∷ []) ++ (sent_back p ps k).events) (sent_back p ps k).lists
     back-led =
         subst (λ s. let m : Made = returned (without_first ps k) (request_at s p.address) (Err 31) in Led ((es ++ first_event p k ∷ []) ++ m.events) m.lists) (first-words p ps k es is x.shell)
         (subst (λ fs. Led fs back.lists) (sym (append_assoc es (first_event p k ∷ []) back.events))
-        (then-moved due (signed SHELL) b l back.lists es (first_event p k ∷ back.events) x.led
+        (first-moved due (signed SHELL) b l back.lists es (first_event p k ∷ back.events) x.none x.led
         (returned-moves due (signed SHELL) k.words l x.shell.well.holds (Work l.running) p ps is (low-named l.running low) (signed l.running) (signed-low l.running low) (low-clock l.running low)
         (first-sender p ps k es is x.shell) refl (ap signed (sym x.shell.is)) (Err 31))))
 
@@ -93,12 +99,17 @@ module _ (due : KernelEvent → ℕ) (b : Lists) where
             (subst (λ q. Moves due l (Accepted q SHELL_PACKET (signed SHELL) ∷ []) (with_arrived (Work to) p l)) (sym (signed-low to low))
             (move-accepted due l (Work to) p there (low-named to low) (unowned-nowhere l v SHELL_PACKET (packet.words SHELL_PACKET (omega arith) (omega arith))) tt));
         turn = turn-accepted (signed SHELL) (signed to) SHELL_PACKET (low-reads to low);
+        takes = tt;
       })
+      (tt, tt)
 
   -- a call about a task
-  called-led : (k : Standing) (es : List KernelEvent) (m : Made) → k.lists.running ≡ SHELL → Moves due k.lists m.events m.lists × AreOfTurn (signed k.lists.running) m.events → Led es k.lists → Led (es ++ m.events) m.lists
-  called-led k es m is quiet led =
-      then-moved due (signed SHELL) b k.lists m.lists es m.events led (record { moves = quiet.0; turn = subst (λ n. AreOfTurn (signed n) m.events) is quiet.1 })
+  called-led : (k : Standing) (es : List KernelEvent) (m : Made) → k.lists.running ≡ SHELL → m.events ≡ [] → Moves due k.lists m.events m.lists × AreOfTurn (signed k.lists.running) m.events × TakesFirst m.events
+      → Led es k.lists
+      → Led (es ++ m.events) m.lists
+  called-led k es m is none quiet led =
+      then-moved due (signed SHELL) b k.lists m.lists es m.events led (record { moves = quiet.0; turn = subst (λ n. AreOfTurn (signed n) m.events) is quiet.1; takes = quiet.2 })
+      (subst TakesReads (sym none) tt)
 
   -- ---- the turn
 
@@ -108,6 +119,7 @@ module _ (due : KernelEvent → ℕ) (b : Lists) where
         at_clearing = λ k es x. record {
           shell = shell-allows.at_clearing k es x.shell;
           led = still-moved due (signed SHELL) b k.lists (cleared k).lists es (cleared-same k x.shell.well.holds x.shell.well.runs.field) x.led;
+          none = ap (λ fs. fs ++ []) x.none;
         };
         at_waiting = λ k es x. x.led;
         at_none = λ k es x. still-moved due (signed SHELL) b k.lists k.lists es refl x.led;
@@ -122,13 +134,13 @@ module _ (due : KernelEvent → ℕ) (b : Lists) where
           own = shell-allows.at_beginning id k es guest x.own;
           led = still-moved due (signed SHELL) b k.lists (begun id k).lists es (begun-same id k) x.led;
         };
-        at_hold = λ id k es x. record { own = shell-allows.at_hold id k es x.own; led = called-led k es (hold k.lists id) x.own.shell.is (hold-quiet due k.lists id) x.led };
-        at_release = λ id k es x. record { own = shell-allows.at_release id k es x.own; led = called-led k es (release k.lists id) x.own.shell.is (release-quiet due k.lists id) x.led };
+        at_hold = λ id k es x. record { own = shell-allows.at_hold id k es x.own; led = called-led k es (hold k.lists id) x.own.shell.is (made-events (first_refusal (hold_tests k.lists id)) k.lists (with_task id held k.lists)) (hold-quiet due k.lists id) x.led };
+        at_release = λ id k es x. record { own = shell-allows.at_release id k es x.own; led = called-led k es (release k.lists id) x.own.shell.is (made-events (first_refusal (release_tests k.lists id)) k.lists (with_task id released k.lists)) (release-quiet due k.lists id) x.led };
         at_priority = λ id pri k es x. record {
           own = shell-allows.at_priority id pri k es x.own;
-          led = called-led k es (change_pri k.lists id pri) x.own.shell.is (change_pri-quiet due k.lists x.own.shell.well.holds.valid id pri) x.led;
+          led = called-led k es (change_pri k.lists id pri) x.own.shell.is (made-events (first_refusal (guest_tests k.lists id ++ priority_tests k.lists id pri)) k.lists (with_new_priority id pri k.lists)) (change_pri-quiet due k.lists x.own.shell.well.holds.valid id pri) x.led;
         };
-        at_flags = λ id flags k es x. record { own = shell-allows.at_flags id flags k es x.own; led = called-led k es (set_flags k.lists id flags) x.own.shell.is (set_flags-quiet due k.lists id flags) x.led };
+        at_flags = λ id flags k es x. record { own = shell-allows.at_flags id flags k es x.own; led = called-led k es (set_flags k.lists id flags) x.own.shell.is (made-events (first_refusal (guest_tests k.lists id)) k.lists (with_task id (flagged flags) k.lists)) (set_flags-quiet due k.lists id flags) x.led };
         at_request = λ to kind k es low there x. posted-led to (standing (written (request_words kind) k.words) k.lists) es low there x.own.shell.well.holds.valid x.own.packet x.led;
         at_going_on = λ k es x. posted-led SHELL k es (omega arith) x.own.packet.shell x.own.shell.well.holds.valid x.own.packet x.led;
         at_finish = λ k es x. x.led;
@@ -141,4 +153,4 @@ pub shell-moves : (due : KernelEvent → ℕ) (s : List ℕ) (l : Lists) (sh : S
 shell-moves due s l sh d h r is =
     subst (λ n. MovesInTurn due (signed n) l (shell_turn s l sh d).events (shell_turn s l sh d).standing.lists) (sym is)
     (turn-done (HasBegun due l) (HasLed due l) (λ k es. Led due l es k.lists) (λ m es. Led due l es m) (shell-leads due l) s l sh d
-    (record { shell = record { well = record { holds = h; runs = r }; is = is }; led = none-moved due (signed SHELL) l l refl }))
+    (record { shell = record { well = record { holds = h; runs = r }; is = is }; led = none-moved due (signed SHELL) l l refl; none = refl }))

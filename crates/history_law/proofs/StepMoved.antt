@@ -61,7 +61,7 @@ module _ (due : KernelEvent → ℕ) where
   moved-none : (k : Kernel) → AreValid k.lists → IsMoved due k.lists (quietly k)
   moved-none k v = record { moves = move-none due k.lists k.lists refl; valid = v }
 
-  tick-moved : (k : Kernel) → AreValid k.lists → IsMoved due k.lists (tick k)
+  pub tick-moved : (k : Kernel) → AreValid k.lists → IsMoved due k.lists (tick k)
   unfolding tick settled
   tick-moved k v = on (eqb (k.steps % k.lists.period) 0)
     where
@@ -69,7 +69,7 @@ module _ (due : KernelEvent → ℕ) where
       on true = record { moves = ticked-moves due k.lists v; valid = ticked-valid k.lists v }
       on false = moved-none k v
 
-  key-moved : (k : Kernel) → AreValid k.lists → IsMoved due k.lists (key k)
+  pub key-moved : (k : Kernel) → AreValid k.lists → IsMoved due k.lists (key k)
   unfolding key settled
   key-moved k v =
       let j : Kernel = with_key_typed k in
@@ -79,11 +79,11 @@ module _ (due : KernelEvent → ℕ) where
         valid = met-valid j.type_ahead j.lists w;
       }
 
-  output-moved : (k : Kernel) → AreValid k.lists → IsMoved due k.lists (output k)
+  pub output-moved : (k : Kernel) → AreValid k.lists → IsMoved due k.lists (output k)
   unfolding output settled
   output-moved k v = record { moves = finished-moves due k.lists v; valid = first-valid k.lists devices.Output 0 v }
 
-  dispatch-moved : (k : Kernel) → AreValid k.lists → Moves due k.lists (dispatch k).events (dispatch k).kernel.lists
+  pub dispatch-moved : (k : Kernel) → AreValid k.lists → Moves due k.lists (dispatch k).events (dispatch k).kernel.lists
   unfolding dispatch settled
   dispatch-moved k v = dispatch-moves due (image k) k.lists k.regs v
 

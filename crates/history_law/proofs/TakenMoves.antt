@@ -21,6 +21,7 @@ use Rattle.machine_boot.specs.KernelSteps.ConsoleHandler.Reads.{put_off}
 use Rattle.event_history.specs.Ledger.{IsNowhere, clock, same_queue}
 use Rattle.history_law.specs.Queues.{Moves, ledger_of}
 use Rattle.history_law.specs.SentBy.{AreOfTurn}
+use Rattle.history_law.proofs.FirstTaken.{TakesFirst, TakesReads, first-join}
 use Rattle.history_law.proofs.Ledgers.{IsNamed, number_of}
 use Rattle.history_law.proofs.Moves.{low-named, move-accepted, move-none, move-taken, moves-same, moves-then, nowhere-then, signed-low}
 use Rattle.history_law.proofs.SentEvents.{low-reads, turn-accepted, turn-none, turn-put_off, turn-taken, turn-then}
@@ -31,17 +32,24 @@ use Rattle.history_law.proofs.TakenPackets.{sender-kept, sender-there}
 pub record MovesInTurn (due : KernelEvent → ℕ) (from : ℤ) (l : Lists) (es : List KernelEvent) (m : Lists) : Type 0 where
   pub moves : Moves due l es m
   pub turn : AreOfTurn from es
+  pub takes : TakesFirst es
 
 module _ (due : KernelEvent → ℕ) (from : ℤ) where
   pub none-moved : (l m : Lists) → ledger_of m ≡ ledger_of l → MovesInTurn due from l [] m
-  none-moved l m same = record { moves = move-none due l m same; turn = turn-none from }
+  none-moved l m same = record { moves = move-none due l m same; turn = turn-none from; takes = tt }
 
-  pub then-moved : (l m n : Lists) (es fs : List KernelEvent) → MovesInTurn due from l es m → MovesInTurn due from m fs n → MovesInTurn due from l (es ++ fs) n
-  then-moved l m n es fs x y = record { moves = moves-then due l m n es fs x.moves y.moves; turn = turn-then from es fs x.turn y.turn }
+  -- the second takes no packet but reads
+  pub then-moved : (l m n : Lists) (es fs : List KernelEvent) → MovesInTurn due from l es m → MovesInTurn due from m fs n → TakesReads fs → MovesInTurn due from l (es ++ fs) n
+  then-moved l m n es fs x y reads = record { moves = moves-then due l m n es fs x.moves y.moves; turn = turn-then from es fs x.turn y.turn; takes = first-join es fs x.takes reads }
+
+  -- or the first has no events
+  pub first-moved : (l m n : Lists) (es fs : List KernelEvent) → es ≡ [] → MovesInTurn due from l es m → MovesInTurn due from m fs n → MovesInTurn due from l (es ++ fs) n
+  first-moved l m n es fs none x y =
+      record { moves = moves-then due l m n es fs x.moves y.moves; turn = turn-then from es fs x.turn y.turn; takes = subst (λ gs. TakesFirst (gs ++ fs)) (sym none) y.takes }
 
   -- the lists have other things, and the same queues
   pub same-moved : (l m n : Lists) (es : List KernelEvent) → ledger_of n ≡ ledger_of m → MovesInTurn due from l es m → MovesInTurn due from l es n
-  same-moved l m n es same x = record { moves = moves-same due l m n es same x.moves; turn = x.turn }
+  same-moved l m n es same x = record { moves = moves-same due l m n es same x.moves; turn = x.turn; takes = x.takes }
 
   -- also where no event is added
   pub still-moved : (l m n : Lists) (es : List KernelEvent) → ledger_of n ≡ ledger_of m → MovesInTurn due from l es m → MovesInTurn due from l (es ++ []) n
@@ -69,6 +77,7 @@ module _ (due : KernelEvent → ℕ) (from : ℤ) (s : List ℕ) (l : Lists) (h 
       record {
         moves = subst (λ y. Moves due l (Taken y p.address (signed p.sender) ∷ []) m) (sym here) (move-taken due l at p ps has named is);
         turn = turn-taken from z p.address (signed p.sender) no_clock;
+        takes = tt;
       }
 
   taken-nowhere : IsNowhere p.address (ledger_of m)
@@ -91,7 +100,9 @@ module _ (due : KernelEvent → ℕ) (from : ℤ) (s : List ℕ) (l : Lists) (h 
               (move-accepted due m (Work request.sender) q (sender-there s l h at p ps is there) (low-named request.sender low) taken-nowhere tt);
           turn =
               subst (λ y. AreOfTurn from (Accepted (signed request.sender) p.address y ∷ [])) (is_from ∙ ap signed (sym same)) (turn-accepted from (signed request.sender) p.address (low-reads request.sender low));
+          takes = tt;
         })
+        (tt, tt)
 
     -- or to the reads that wait, from the console's queue
     pub put_off-moves : z ≡ pos 3 → l.residents ≡ true → MovesInTurn due from l (Taken z p.address (signed p.sender) ∷ (put_off words m request).events) (put_off words m request).lists
@@ -106,4 +117,5 @@ module _ (due : KernelEvent → ℕ) (from : ℤ) (s : List ℕ) (l : Lists) (h 
               subst (λ y. AreOfTurn from (Taken y p.address (signed p.sender) ∷ Accepted (signed PENDING) p.address (signed request.sender) ∷ [])) (sym console)
               (subst (λ y. AreOfTurn from (Taken (pos 3) p.address (signed p.sender) ∷ Accepted (signed PENDING) p.address (signed y) ∷ [])) (sym (sender-kept s l h at p ps is))
               (turn-put_off from p.address (signed p.sender)));
+          takes = (tt, tt);
         }

@@ -23,7 +23,7 @@ use Rattle.history_law.specs.Queues.{IsDueIn}
 use Rattle.history_law.proofs.ResidentTurns.{step-holds}
 use Rattle.history_law.proofs.GuestMoves.{guest-moves}
 use Rattle.history_law.specs.Steps.{due_in}
-use Rattle.history_law.proofs.ReporterMoves.{recorded-moves}
+use Rattle.history_law.proofs.ReporterMoves.{recorded-moves, recorded-reads}
 use Rattle.history_law.proofs.ResidentMoves.{resident-moves}
 use Rattle.history_law.proofs.TakenMoves.{MovesInTurn, none-moved, then-moved}
 
@@ -45,7 +45,7 @@ module _ (due : KernelEvent → ℕ) (k : Kernel) (h : HoldsLists (image k) k.li
       there = (runs-calls l k.regs first h.valid guest).there
 
       moved : Turns (turn_without_reporter (image k) l k.regs)
-      moved = (let r = guest-moves due l h.valid there (image k) dues k.regs in record { moves = r.0; turn = r.1 })
+      moved = (let r = guest-moves due l h.valid there (image k) dues k.regs in record { moves = r.0; turn = r.1; takes = r.2 })
 
       record-fault : (f : Fault) → IsRecorded (image k) l k.regs f → Turns (with_recorded f (turn_without_reporter (image k) l k.regs))
       record-fault f r =
@@ -54,6 +54,7 @@ module _ (due : KernelEvent → ℕ) (k : Kernel) (h : HoldsLists (image k) k.li
           then-moved due (signed l.running) l m.lists (recorded f m.lists) m.events (recorded_events f m.lists) moved
           (subst (λ n. MovesInTurn due (signed n) m.lists (recorded_events f m.lists) (recorded f m.lists)) (ap (λ (z : Lists). z.running) same)
           (recorded-moves due f m.lists (subst AreValid (sym same) h.valid) r.reporter))
+          (recorded-reads f m.lists)
 
   turn-leads : Leads (turn k)
   turn-leads = on (is_guest_id l.running) refl

@@ -6,7 +6,7 @@ use Rattle.machine_boot.specs.KernelSteps.Step.{run, step}
 use Rattle.event_history.specs.Ledger.{events_of}
 use Rattle.event_history.specs.QueueHistory.{QueueHistory}
 use Rattle.history_law.specs.Queues.{ledger_of}
-use Rattle.history_law.specs.Senders.{HoldSenders, Senders, TakesDue}
+use Rattle.history_law.specs.Senders.{HoldSenders, Senders, StepHolds, TakesDue}
 use Rattle.history_law.specs.Steps.{EachStep, history}
 
 -- what holds of a step of a kernel that has not stopped
@@ -15,8 +15,8 @@ pub record StepLaw (k : Kernel) : Type 0 where
   pub senders : Senders k
   -- which packets the clock takes
   pub due : TakesDue k
-  -- the word 1 of each queued packet is its sender
-  pub words : HoldSenders k
+  -- the word 1 of each packet is its sender while it is queued, and when it is taken
+  pub words : StepHolds k
   -- after it the first ready task runs, and nobody where none is ready
   pub runs : (step k).kernel.stop ≡ None → FirstRuns (step k).kernel.lists
 
@@ -28,3 +28,5 @@ pub record HistoryLaw (n : ℕ) (k : Kernel) : Type 0 where
   pub queues : QueueHistory (ledger_of k.lists) (history n k) (ledger_of (run n k).kernel.lists)
   -- and of each step
   pub steps : EachStep (λ j. j.stop ≡ None → StepLaw j) n k
+  -- after them too the word 1 of each queued packet is its sender
+  pub left : HoldSenders (run n k).kernel

@@ -4,6 +4,7 @@ pub mod Steps
 pub mod Senders
 pub mod HistoryLaw
 pub mod Booted
+pub mod PipeRuns
 -- shown to the crates above
 pub use Rattle.machine_boot.specs.KernelCalls
 pub use Rattle.machine_boot.specs.KernelBoot

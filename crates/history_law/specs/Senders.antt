@@ -107,6 +107,33 @@ pub record TakesDue (k : Kernel) : Type 0 where
 
 -- ---- word 1
 
--- while a packet is queued its word 1 is its sender
+-- each packet that is queued has its sender as its word 1
 abbrev pub HoldSenders : Kernel → Type 0
 HoldSenders k = (at : Place) → HasPlace k.lists at → AllByRecursion (λ p. slice_index (image k) (p.address + 1) ≡ p.sender) (queue_of at k.lists)
+
+-- a packet that the event takes has its sender as its word 1 in these words
+abbrev pub HasSender : List ℕ → KernelEvent → Type 0
+HasSender words (Accepted q p s) = Unit {0}
+HasSender words (Taken q p s) = signed (slice_index words (p + 1)) ≡ s
+HasSender words (Dequeued q p) = Unit {0}
+HasSender words (Runs t) = Unit {0}
+
+-- Before a part of a step each packet that is queued has its sender as its word 1, and so has each that the part takes.
+pub record PartHolds (k : Kernel) (part : Stepped) : Type 0 where
+  -- what is queued
+  pub queued : HoldSenders k
+  -- what the part takes, from the words before it
+  pub taken : AllByRecursion (HasSender (image k)) part.events
+
+-- It is so before each part of the step: so also of a packet that is accepted in one part and taken in a later one.
+pub record StepHolds (k : Kernel) : Type 0 where
+  -- before the turn
+  pub turn : PartHolds k (turned k)
+  -- before the clock
+  pub clock : PartHolds (turned k).kernel (ticked k)
+  -- before the keyboard
+  pub keyboard : PartHolds (ticked k).kernel (typed k)
+  -- before the output
+  pub output : PartHolds (typed k).kernel (printed k)
+  -- before the dispatch
+  pub dispatch : PartHolds (printed k).kernel (dispatched k)

@@ -4,6 +4,7 @@
 
 pub mod boot_histories;
 pub mod guest_moves;
+pub mod pipe_runs;
 pub mod queue_moves;
 pub mod resident_moves;
 pub mod run_histories;

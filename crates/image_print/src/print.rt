@@ -6,8 +6,8 @@ ghost use Rattle.tp_io.specs.Write.{HasCause};
 ghost use Rattle.machine_image.specs.TriposMachine.KernelCalls.KernelModel.Kernel.{Kernel};
 ghost use Rattle.machine_image.specs.TriposMachine.KernelCalls.KernelModel.ValidKernel.{IsValid};
 ghost use Rattle.machine_image.specs.TriposMachine.KernelMachine.Stands.{Stands};
-ghost use Rattle.machine_image.specs.TriposMachine.State.{IsBare};
-ghost use Rattle.image_print.specs.Numbers.{IsSized, MayTake};
+ghost use Rattle.machine_image.specs.TriposMachine.State.{IsBare, IsSound};
+ghost use Rattle.image_print.specs.Numbers.{HasNumbers, IsSized, MayTake};
 ghost use Rattle.image_print.specs.SavedImage.{saved_image, saved_kernel};
 ghost use Rattle.image_print.specs.Texts.{disc_text, entries_text, front_text};
 
@@ -38,6 +38,10 @@ pub fn print_image<K: Sink>(
     ensures text { Gathers (K.holds out.old) (K.holds out.new) pending.old pending.new
         (canonical (saved_image version machine.now.state go)) result }
     ensures cause { HasCause (K.faults out.old) (K.faults out.new) result }
+
+    // The machine is one between steps, its words are words, and its bytes bytes.
+    ensures sound { IsSound machine.now.state }
+    ensures numbers { HasNumbers machine.now.state }
 
     // What is printed can be read, where the machine may take the steps, and its store is one that the version may have.
     ensures lawful { IsSized version machine.now.state → MayTake machine.now.state go

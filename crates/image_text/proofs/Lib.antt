@@ -5,6 +5,7 @@ pub mod CompleteText
 pub mod FileLists
 pub mod LawfulText
 pub mod PrintedText
+pub mod StepsInTexts
 pub mod Sound
 pub mod StatementLists
 pub mod TextRefusals

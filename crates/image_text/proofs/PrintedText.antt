@@ -265,11 +265,13 @@ plain_image x lines h =
     let regs = plain_regs x.regs h.regs h.regs_line.0 in
     subst (AllByRecursion IsPlain) (sym h.all) (version, (store, (machine, (step, (regs, plain_rest x.bare x h.rest h.rest_lines)))))
 
+pub plain_canonical : (x : Image) → IsLawful x → AllByRecursion IsPlain (canonical_lines x)
+plain_canonical x h = plain_image x (canonical_lines x) (lines_printed x h)
+
 -- ---- read back
 
 pub printed : (x : Image) → IsLawful x → image_of (canonical x) ≡ Ok x
 unfolding canonical
 printed x h =
-    let lines = lines_printed x h in
-    let same = lines_of_text_of_lines (canonical_lines x) (plain_image x (canonical_lines x) lines) in
-    complete (canonical x) x (subst (AreImageLines x) (sym same) lines)
+    let same = lines_of_text_of_lines (canonical_lines x) (plain_canonical x h) in
+    complete (canonical x) x (subst (AreImageLines x) (sym same) (lines_printed x h))

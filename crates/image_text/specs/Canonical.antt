@@ -1,8 +1,8 @@
 -- The canonical text of a saved machine.
-use Rattle.std.specs.Prelude.{ℕ, ◌+◌, ◌<◌, ◌^◌, Bool, true, false, IsTrue, List, [], ◌∷◌, ◌++◌, length, map, codes, decimal}
+use Rattle.std.specs.Prelude.{ℕ, ◌+◌, ◌-◌, ◌<◌, ◌^◌, Bool, true, false, IsTrue, List, [], ◌∷◌, ◌++◌, length, map, take, codes, decimal}
 use Rattle.std.specs.List.{AllByRecursion}
 use Rattle.hex.specs.Hex.{IsBytes}
-use Rattle.hunk_text.specs.TextReader.Lines.{text_of_lines}
+use Rattle.hunk_text.specs.TextReader.Lines.{lines_of, text_of_lines}
 use Rattle.session_text.specs.KernelDispatch.KernelModel.Ranges.{IsVersion, is_period, is_store_size}
 use Rattle.session_text.specs.Ranges.{is_step}
 use Rattle.image_lines.specs.Canonical.{printed_console, printed_regs, printed_ring, printed_shell, statement_text}
@@ -69,3 +69,13 @@ canonical_lines x =
 -- its one canonical text has these lines, each of them ended by LF
 unfoldable pub canonical : Image → List ℕ
 canonical x = text_of_lines (canonical_lines x)
+
+-- ---- other steps
+
+-- all lines but the last
+abbrev pub front_of : List (List ℕ) → List (List ℕ)
+front_of lines = take (length lines - 1) lines
+
+-- a text with these steps in its last line
+abbrev pub with_steps : ℕ → List ℕ → List ℕ
+with_steps n text = text_of_lines (front_of (lines_of text) ++ (codes "GO " ++ decimal n) ∷ [])

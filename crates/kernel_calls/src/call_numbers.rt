@@ -154,8 +154,9 @@ pub enum CallOutcome {
     Outside(u32),
 }
 
-/// The call that a SYS makes: its number is the word P!3, and its arguments follow. All are read before it is made.
-pub(crate) fn read_call(store: &Store, regs: Regs) -> Result<KernelCall, CallOutcome>
+/// The call that a SYS makes: its number is the word P!3, and its arguments follow. All are read before it is made. Else `Unknown`, where
+/// the machine has no call of the number, or `Outside`, where the number or an argument would be outside the store.
+pub fn read_call(store: &Store, regs: Regs) -> Result<KernelCall, CallOutcome>
     ensures { result ≡ call_of store.now regs }
 {
     let number = argument(store, regs, 0)?;

@@ -5,7 +5,7 @@ pub mod call_numbers;
 pub mod calls;
 pub mod laws;
 
-pub use call_numbers::{CallOutcome, KernelCall};
+pub use call_numbers::{CallOutcome, KernelCall, read_call};
 pub use calls::call;
 
 // Shown to the crates above.

@@ -21,4 +21,4 @@ pub use word_kinds::kernel_lists::{
     resume_coroutine, root, set_field, set_module_at, set_root, take_from, tasks, unlink, unload,
     wait_in_coroutine,
 };
-pub use word_kinds::{ByteKinds, KindKeeper, Stop, Use, are_unowned, numbers};
+pub use word_kinds::{ByteKinds, KindKeeper, Stop, Use, Walk, are_unowned, numbers, packet_in};

@@ -5,6 +5,7 @@
 pub mod change_laws;
 pub mod image_laws;
 pub mod list_laws;
+pub mod number_laws;
 pub mod numbers;
 pub mod stops;
 pub mod uses;

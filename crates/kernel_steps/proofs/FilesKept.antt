@@ -14,7 +14,7 @@ pub record HasSameFiles (k j : Kernel) : Type 0 where
   pub pipes : j.pipes ≡ k.pipes
 
 -- what follows on the turn changes nothing that residents keep
-rest-residents : (k : Kernel) → HasSameResidents k (after_the_turn k).kernel
+pub rest-residents : (k : Kernel) → HasSameResidents k (after_the_turn k).kernel
 rest-residents k =
     let ticked : Kernel = (tick k).kernel in
     let typed : Kernel = (key ticked).kernel in

@@ -9,6 +9,7 @@ use Rattle.session_text.specs.KernelDispatch.KernelModel.Kernel.{Kernel}
 use Rattle.session_text.specs.KernelDispatch.KernelModel.Ranges.{most_steps}
 use Rattle.session_text.specs.KernelDispatch.KernelModel.ValidKernel.{IsValid}
 use Rattle.tripos_machine.proofs.Shown.KernelCalls.KernelModel.ImageWords.{image-list}
+use Rattle.tripos_machine.proofs.Shown.WordCounts.{any-size}
 use Rattle.tripos_machine.specs.BareMachine.State.{BareState, going}
 use Rattle.tripos_machine.specs.KernelMachine.Script.{still_to_come}
 use Rattle.tripos_machine.specs.KernelMachine.Stands.{Stands}
@@ -31,7 +32,7 @@ module _ (x : Image) (bare : x.bare ≡ true) (lawful : IsLawful x) where
       let g = and_parts (ltb r.a 4294967296 && ltb r.b 4294967296 && ltb r.c 256 && ltb r.p 4294967296) (ltb r.g 4294967296) pc.0 in
       let p = and_parts (ltb r.a 4294967296 && ltb r.b 4294967296 && ltb r.c 256) (ltb r.p 4294967296) g.0 in
       let c = and_parts (ltb r.a 4294967296 && ltb r.b 4294967296) (ltb r.c 256) p.0 in
-      (ltb-true r.c 256 c.1, omega (arith, leb-true (x.step + x.go) most_steps lawful.steps))
+      (ltb-true r.c 256 c.1, omega (arith, leb-true (x.step + x.go) most_steps lawful.steps), any-size x.version (length x.store) lawful.size)
 
   pub bare-form : IsBare x
   bare-form = subst (λ b. IsLawfulMachine b x) bare lawful.machine

@@ -7,6 +7,15 @@ ghost use Rattle.machine_ring.specs.RoundEvents.{IsTransferOf};
 ghost use Rattle.machine_ring.specs.Runs.{and_then, no_rounds, run};
 ghost use Rattle.machine_ring.specs.declared.terms.Terms.{Terms};
 
+use crate::flights::MOST_IN_FLIGHT;
+use crate::terms::MOST_WAITING;
+
+/// The most bytes that wait where the left machine takes a step, and the most packets that a direction holds.
+pub fn number_law()
+    ensures waiting { MOST_WAITING ≡ 8192 }
+    ensures flights { MOST_IN_FLIGHT ≡ 64 }
+{}
+
 /// Whatever is set for a ring, and whatever its machines do, what happens between them in its rounds is a list of the events that may
 /// happen between the two ends of a link. So the bytes that were typed at the right machine are a prefix of those that the left one
 /// wrote to its console, as many as are counted; no more are acknowledged than were typed, and at most one of these is not. What waits

@@ -2,7 +2,7 @@
 ghost use Rattle.std.specs.Prelude.{◌≡◌, ◌<◌, ◌^◌, List, ℕ, length};
 ghost use Rattle.program_answers.specs.Answer.{Answer};
 ghost use Rattle.program_answers.specs.Answered.{Answered};
-ghost use Rattle.program_answers.specs.Cause.{HasFaultCause};
+ghost use Rattle.program_answers.specs.Cause.{HasFaultCause, HasReadCause};
 ghost use Rattle.program_answers.specs.Input.{InputLeaves, IsInput, IsInputAnswer, IsTextEnd};
 
 use crate::Status;
@@ -39,9 +39,9 @@ pub fn answer_input<A: TextAnswers, S: Source, K: Sink>(
         (K.holds out.old) (K.holds out.new) result }
     // The input is read to its end, or to one byte past the limit.
     ensures source { InputLeaves (S.left src.old) (S.left src.new) result }
-    // The source and the sink are blamed only where their counts of faults rose in this call.
-    ensures read_fault { HasFaultCause Status.ReadFault
-        (S.faults src.old) (S.faults src.new) result }
+    // The source is blamed exactly where it failed, and the sink only where its count of faults rose in
+    // this call.
+    ensures read_fault { HasReadCause (S.faults src.old) (S.faults src.new) result }
     ensures write_fault { HasFaultCause Status.WriteFault
         (K.faults out.old) (K.faults out.new) result }
 {

@@ -6,6 +6,7 @@ mod contents;
 mod directory;
 pub mod discs;
 pub mod file_bytes;
+pub mod laws;
 pub mod names;
 mod places;
 mod sectors;

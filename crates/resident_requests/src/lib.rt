@@ -3,6 +3,7 @@
 
 pub mod answers;
 pub mod buffers;
+pub mod laws;
 pub mod names;
 pub mod requests;
 pub mod services;

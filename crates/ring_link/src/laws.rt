@@ -6,6 +6,14 @@ ghost use Rattle.ring_link.specs.RingOfText.{ring_of};
 ghost use Rattle.ring_link.specs.Transfers.{Event, IsPrefix, transfer_after};
 ghost use Rattle.ring_link.specs.declared.inputs.RingInput.{RingInput};
 
+use crate::inputs::{LEFT_LINE, MOST_LETTERS, MOST_ROUNDS, MOST_WAIT};
+
+/// The line of `LEFT`; and the most rounds, the longest wait and the most letters that the lines before it may have.
+pub fn number_law()
+    ensures line { LEFT_LINE ≡ 4 }
+    ensures most { (MOST_ROUNDS ≡ 4000000000) × (MOST_WAIT ≡ 1000000) × (MOST_LETTERS ≡ 10000) }
+{}
+
 /// After every list of events the delivered bytes are a prefix of those that were offered, as many as the receiver
 /// counts. No more are acknowledged than were delivered, and of those delivered one at most is not acknowledged. What
 /// waits is what was offered and is not acknowledged.

@@ -3,6 +3,13 @@ ghost use Rattle.std.specs.Prelude.{◌≡◌, List, ℕ};
 ghost use Rattle.program_answers.specs.Answer.{Answer};
 ghost use Rattle.show_run.specs.InputAnswers.{IsAnswer};
 
+use crate::commands::LAST;
+
+/// The last step of a log where none is named.
+pub fn number_law()
+    ensures { LAST ≡ 9999999999 }
+{}
+
 /// Words and an input have at most one answer.
 pub fn answer_law()
     ensures { (words : List (List ℕ)) (input : List ℕ) (a b : Answer) →

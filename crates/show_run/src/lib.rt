@@ -10,4 +10,8 @@ mod programs;
 
 pub use commands::Show;
 pub use laws::answer_law;
-pub use program::{run, show};
+pub use program::show;
+
+// Shown to the crates above.
+pub use program_answers::exit_code;
+pub use tp_io::{StdSink, StdSource};

@@ -62,4 +62,4 @@ made_lines m refuses (Some answer) = call_answer_lines m refuses answer
 -- of the call that was made, if one was
 abbrev pub answer_lines : Moment → Option Call → State → List ℕ
 answer_lines m None s = []
-answer_lines m (Some c) s = made_lines m c.form.refuses (answer_of m.task s)
+answer_lines m (Some c) s = made_lines m c.refuses (answer_of m.task s)

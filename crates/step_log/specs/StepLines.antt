@@ -1,5 +1,5 @@
 -- What happens in a step, in words.
-use Rattle.std.specs.Prelude.{ℕ, zero, suc, ◌+◌, ◌==◌, if◌then◌else◌, is_some, List, [], ◌∷◌, ◌++◌, Option, Some, None, codes, decimal, length, nat_le, slice_get}
+use Rattle.std.specs.Prelude.{ℕ, zero, suc, ◌+◌, ◌==◌, Bool, true, false, if◌then◌else◌, is_some, List, [], ◌∷◌, ◌++◌, Option, Some, None, codes, decimal, length, nat_le, slice_get}
 use Rattle.std.specs.List.{flat_map}
 use Rattle.std.specs.Option.{option_map}
 use Rattle.tp_io.specs.Pieces.{joined}
@@ -56,9 +56,14 @@ guest_line m words = if m.pc == 0 then line m (codes "die PC is 0") else listed_
 abbrev pub guest_lines : Moment → State → List ℕ
 guest_lines m s = if is_guest_next s then guest_line m (words_of s) else []
 
+-- a machine without a kernel has calls of its own
+abbrev pub is_bare : State → Bool
+is_bare (Bare m) = true
+is_bare (Full k) = false
+
 -- the call that is made in the next step, if one is
 abbrev pub call_of : State → Option Call
-call_of s = if is_guest_next s then call_at (words_of s) (regs_of s) else None
+call_of s = if is_guest_next s then call_at (is_bare s) (words_of s) (regs_of s) else None
 
 -- What the lines need of the state before, besides the moment.
 pub record Before : Type 0 where

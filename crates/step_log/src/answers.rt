@@ -49,7 +49,7 @@ pub(crate) fn gather_answer<K: Sink>(
     match call {
         Some(call) => {
             let answer = answer(machine, m.task);
-            gather_made(m, call.form.refuses, answer, out, pending)
+            gather_made(m, call.refuses, answer, out, pending)
         }
         None => Ok(()),
     }

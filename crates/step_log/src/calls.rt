@@ -1,26 +1,32 @@
 // The calls of a guest.
 ghost use Rattle.std.specs.Option.{option_map};
-ghost use Rattle.std.specs.Prelude.{◌≡◌, ◌≤◌};
+ghost use Rattle.std.specs.Prelude.{◌≡◌, true, false};
 ghost use Rattle.std.specs.Fmt.{signed_decimal};
 ghost use Rattle.tp_io.specs.Pending.{Gathers};
 ghost use Rattle.tp_io.specs.Pieces.{text_of};
 ghost use Rattle.word_store.specs.Arithmetic.{signed};
 ghost use Rattle.tp_io.specs.Write.{HasCause};
-ghost use Rattle.step_log.specs.Calls.{argument, arguments_from, arguments_seen, call_at, call_line, call_lines, call_seen, numbered_call};
+ghost use Rattle.step_log.specs.Calls.{arguments_seen, bare_call, call_at, call_line, call_lines, call_made, call_seen, kernel_call, told};
 
-use crate::call_forms::{CallForm, SYS, call_form};
 use crate::moments::{Moment, gather_line};
+use bare_machine::calls::call as answer_bare;
+use kernel_calls::{KernelCall, read_call};
 use tp_io::Piece::{Signed, Text};
 use tp_io::{Output, Piece, Sink, SinkFault};
-use word_store::{Regs, Store, add, signed};
+use word_store::{Regs, Store, signed};
+
+/// The function byte of SYS, the instruction that makes a call.
+pub const SYS: u8 = 145;
 
 /// A call that is made.
 #[derive(Clone, Copy)]
 pub struct Call {
-    /// What is known of it.
-    pub form: CallForm,
+    /// Its name.
+    pub name: &'static [u8],
     /// Its arguments.
     pub arguments: Arguments,
+    /// Whether 0 and a code are how it answers where it is refused.
+    pub refuses: bool,
 }
 
 /// The arguments of a call, which are words.
@@ -36,59 +42,113 @@ pub enum Arguments {
     Three(u32, u32, u32),
 }
 
-/// The call that the instruction at PC makes, or `None` where it makes none.
+/// The call that the instruction at PC makes, on a bare machine or in a kernel, or `None` where it makes none.
 #[tactic(auto, unfolding(crate::specs::Calls::call_at))]
-pub(crate) fn call_at(store: &Store, regs: Regs) -> Option<Call>
-    ensures { option_map call_seen result ≡ call_at store.now regs }
+pub(crate) fn call_at(is_bare: bool, store: &Store, regs: Regs) -> Option<Call>
+    ensures { option_map call_seen result ≡ call_at is_bare store.now regs }
 {
     if regs.pc == 0 {
         return None;
     }
     match store.get_byte(regs.pc) {
-        Some(SYS) => numbered_call(store, regs),
+        Some(SYS) => call_made(is_bare, store, regs),
         _ => None,
     }
 }
 
-// The call that the number and the words behind it make.
-#[tactic(auto, unfolding(crate::specs::Calls::numbered_call))]
-fn numbered_call(store: &Store, regs: Regs) -> Option<Call>
-    ensures { option_map call_seen result ≡ numbered_call store.now regs }
+fn call_made(is_bare: bool, store: &Store, regs: Regs) -> Option<Call>
+    ensures { option_map call_seen result ≡ call_made is_bare store.now regs }
 {
-    let number = argument(store, regs, 0)?;
-    let form = call_form(number)?;
-    let arguments = read_arguments(store, regs, form.arguments)?;
-    Some(Call { form, arguments })
+    if is_bare {
+        return bare_call(store, regs);
+    }
+    kernel_call(store, regs)
 }
 
-// So many arguments, where all are in the store.
-fn read_arguments(store: &Store, regs: Regs, count: u32) -> Option<Arguments>
-    requires { count ≤ 3 }
-    ensures { option_map arguments_seen result ≡ arguments_from store.now regs 1 count }
+// A bare machine answers some of the kernel's calls.
+fn bare_call(store: &Store, regs: Regs) -> Option<Call>
+    ensures { option_map call_seen result ≡ bare_call store.now regs }
 {
-    match count {
-        0 => Some(Arguments::Zero),
-        1 => Some(Arguments::One(argument(store, regs, 1)?)),
-        2 => {
-            let a = argument(store, regs, 1)?;
-            let b = argument(store, regs, 2)?;
-            Some(Arguments::Two(a, b))
+    match answer_bare(store, regs) {
+        Ok(_) => kernel_call(store, regs),
+        Err(_) => None,
+    }
+}
+
+// The call that the kernel reads there.
+fn kernel_call(store: &Store, regs: Regs) -> Option<Call>
+    ensures { option_map call_seen result ≡ kernel_call store.now regs }
+{
+    match read_call(store, regs) {
+        Ok(call) => Some(told(call)),
+        Err(_) => None,
+    }
+}
+
+// A call by its name.
+fn told(call: KernelCall) -> Call
+    ensures { call_seen result ≡ told call }
+{
+    match call {
+        KernelCall::Quit { result } => unrefused(b"quit", Arguments::One(result)),
+        KernelCall::Getvec { highest } => refusable(b"getvec", Arguments::One(highest)),
+        KernelCall::Freevec { block } => refusable(b"freevec", Arguments::One(block)),
+        KernelCall::CreateTask {
+            module,
+            highest,
+            priority,
+        } => { refusable(b"createtask", Arguments::Three(module, highest, priority)) }
+        KernelCall::DeleteTask { id } => refusable(b"deletetask", Arguments::One(id)),
+        KernelCall::ChangePri { id, priority } => {
+            refusable(b"changepri", Arguments::Two(id, priority))
         }
-        _ => {
-            let a = argument(store, regs, 1)?;
-            let b = argument(store, regs, 2)?;
-            let c = argument(store, regs, 3)?;
-            Some(Arguments::Three(a, b, c))
+        KernelCall::SetFlags { id, flags } => refusable(b"setflags", Arguments::Two(id, flags)),
+        KernelCall::TestFlags { mask } => refusable(b"testflags", Arguments::One(mask)),
+        KernelCall::Hold { id } => refusable(b"hold", Arguments::One(id)),
+        KernelCall::Release { id } => refusable(b"release", Arguments::One(id)),
+        KernelCall::TaskWait => refusable(b"taskwait", Arguments::Zero),
+        KernelCall::Qpkt { packet } => refusable(b"qpkt", Arguments::One(packet)),
+        KernelCall::Dqpkt { id, packet } => refusable(b"dqpkt", Arguments::Two(id, packet)),
+        KernelCall::Unload { module } => refusable(b"unload", Arguments::One(module)),
+        KernelCall::CreateCo { function, highest } => {
+            refusable(b"createco", Arguments::Two(function, highest))
+        }
+        KernelCall::DeleteCo { coroutine } => refusable(b"deleteco", Arguments::One(coroutine)),
+        KernelCall::CallCo { coroutine, value } => {
+            refusable(b"callco", Arguments::Two(coroutine, value))
+        }
+        KernelCall::ResumeCo { coroutine, value } => {
+            refusable(b"resumeco", Arguments::Two(coroutine, value))
+        }
+        KernelCall::CoWait { value } => refusable(b"cowait", Arguments::One(value)),
+        KernelCall::Wrch { character } => unrefused(b"wrch", Arguments::One(character)),
+        KernelCall::MulDiv { a, b, c } => unrefused(b"muldiv", Arguments::Three(a, b, c)),
+        KernelCall::AddModule { id, module } => {
+            refusable(b"addmodule", Arguments::Two(id, module))
         }
     }
 }
 
-// Argument i, or the number of the call.
-fn argument(store: &Store, regs: Regs, i: u32) -> Option<u32>
-    requires { i ≤ 3 }
-    ensures { result ≡ argument store.now regs i }
+fn refusable(name: &'static [u8], arguments: Arguments) -> Call
+    ensures { call_seen result
+        ≡ record { name = name.now; arguments = arguments_seen arguments; refuses = true } }
 {
-    store.get(add(regs.p, 3 + i))
+    Call {
+        name,
+        arguments,
+        refuses: true,
+    }
+}
+
+fn unrefused(name: &'static [u8], arguments: Arguments) -> Call
+    ensures { call_seen result
+        ≡ record { name = name.now; arguments = arguments_seen arguments; refuses = false } }
+{
+    Call {
+        name,
+        arguments,
+        refuses: false,
+    }
 }
 
 /// Gathers the line of the call, if one is made.
@@ -119,7 +179,7 @@ fn gather_made<K: Sink>(
     ensures cause { HasCause (K.faults out.old) (K.faults out.new) result }
 {
     let start = Text(b"call ");
-    let name = Text(call.form.name);
+    let name = Text(call.name);
     let open = Text(b"(");
     let comma = Text(b", ");
     let close = Text(b")");

@@ -5,7 +5,7 @@ ghost use Rattle.tp_io.specs.Pending.{Gathers};
 ghost use Rattle.tp_io.specs.Write.{HasCause};
 ghost use Rattle.cint_debug.specs.TriposMachine.State.{steps_of};
 ghost use Rattle.step_log.specs.Calls.{call_seen};
-ghost use Rattle.step_log.specs.StepLines.{call_of, guest_line, guest_lines, listed_instruction, moment_of};
+ghost use Rattle.step_log.specs.StepLines.{call_of, guest_line, guest_lines, is_bare, listed_instruction, moment_of};
 
 use crate::calls::{Call, call_at};
 use crate::changes::tick;
@@ -35,7 +35,17 @@ pub(crate) fn call(machine: &Machine) -> Option<Call>
     if !is_guest_next(machine) {
         return None;
     }
-    call_at(machine.store(), machine.regs())
+    call_at(is_bare(machine), machine.store(), machine.regs())
+}
+
+// Whether the machine has no kernel.
+fn is_bare(machine: &Machine) -> bool
+    ensures { result ≡ is_bare machine.now.state }
+{
+    match machine.kernel_parts() {
+        Some(_) => false,
+        None => true,
+    }
 }
 
 /// Gathers the line of a guest's next instruction, if a guest is next.

@@ -1,12 +1,21 @@
-// What holds of the table. The function does nothing: its contract is the law.
+// What the numbers are that definitions cite by name. The functions do nothing: their contracts are the laws.
 ghost use Rattle.std.specs.Prelude.{◌≡◌, Some};
 ghost use Rattle.std.specs.Option.{option_map};
 ghost use Rattle.cint_debug.specs.TriposMachine.CintExec.CintTable.Table.{entry};
 ghost use Rattle.cint_debug.specs.TriposMachine.CintExec.CintTable.declared.effects.Effect.{Effect};
 ghost use Rattle.cint_debug.specs.TriposMachine.CintExec.CintTable.declared.effects.Effect.TheVariants.{Sys};
-ghost use Rattle.step_log.specs.declared.call_forms.TheConstants.{SYS};
+ghost use Rattle.step_log.specs.declared.calls.TheConstants.{SYS};
+
+use crate::boots::BOOT;
+use crate::packets::MOST_TOLD;
 
 /// The byte of calls is that of the instruction that makes them.
 pub fn call_law()
     ensures { option_map (λ e. e.effect) (entry SYS) ≡ Some Sys }
+{}
+
+/// Of a step's events the first 64 are looked through for packets, and a boot is step 0, at no tick, of no task and with no PC.
+pub fn number_law()
+    ensures told { MOST_TOLD ≡ 64 }
+    ensures boot { BOOT ≡ record { step = 0; tick = 0; task = 0; pc = 0 } }
 {}

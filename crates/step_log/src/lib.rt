@@ -4,7 +4,6 @@
 pub mod answers;
 pub mod before;
 pub mod boots;
-pub mod call_forms;
 pub mod calls;
 pub mod changes;
 mod console;
@@ -20,7 +19,7 @@ mod refusals;
 pub mod steps;
 
 pub use boots::gather_boot;
-pub use laws::call_law;
+pub use laws::{call_law, number_law};
 pub use steps::gather_steps;
 
 // Shown to the crates above.

@@ -1,9 +1,11 @@
 -- What a read does to the bytes that a source has left, where it tells them.
-use Rattle.std.specs.Prelude.{ℕ, ◌<◌, ◌≤◌, List, length, take, Option}
+use Rattle.std.specs.Prelude.{◌≡◌, ℕ, ◌<◌, ◌≤◌, List, length, take, Option, Result, Ok, Err}
 use Rattle.std.specs.Io.KnownBytes.{Consumes, IsAtEnd, Keeps}
-use Rattle.tp_io.specs.Faults.{Rose}
+use Rattle.tp_io.specs.Faults.{one_more}
 use Rattle.tp_io.specs.declared.source.ReadStep.{ReadStep}
 use Rattle.tp_io.specs.declared.source.ReadStep.TheVariants.{Got, End, Failed}
+use Rattle.tp_io.specs.declared.whole.ReadEnd.{ReadEnd}
+use Rattle.tp_io.specs.declared.whole.ReadEnd.TheVariants.{Fault, TooLong, WantMemory}
 
 -- The bytes left lose those that the piece has got. At the end none were left, and none are.
 abbrev pub Reads : Option (List ℕ) → Option (List ℕ) → ReadStep → List ℕ → Type 0
@@ -11,18 +13,18 @@ Reads old new (Got n) piece = (0 < n) × (n ≤ length piece) × Consumes old ne
 Reads old new End piece = IsAtEnd old × IsAtEnd new × Keeps old new
 Reads old new Failed piece = Keeps old new
 
--- P holds where the read failed
-abbrev pub OnReadFailed : ReadStep → Type 0 → Type 0
-OnReadFailed Failed P = P
-OnReadFailed (Got n) P = Unit {0}
-OnReadFailed End P = Unit {0}
+-- the count of faults is one more where the read failed, and else it is as it was
+abbrev pub HasReadCause : ℕ → ℕ → ReadStep → Type 0
+HasReadCause before now Failed = now ≡ one_more before
+HasReadCause before now (Got n) = now ≡ before
+HasReadCause before now End = now ≡ before
 
--- the count of faults has not fallen, and has risen where the read failed
-pub record HasReadCause (before now : ℕ) (step : ReadStep) : Type 0 where
-  -- the count of faults has not fallen
-  pub later : before ≤ now
-  -- it rose where the read failed
-  pub failed : OnReadFailed step (Rose before now)
+-- the same of all the reads up to the end, of which at most the last one failed
+abbrev pub HasWholeCause : {T : Type 0} → ℕ → ℕ → Result T ReadEnd → Type 0
+HasWholeCause before now (Err Fault) = now ≡ one_more before
+HasWholeCause before now (Err TooLong) = now ≡ before
+HasWholeCause before now (Err WantMemory) = now ≡ before
+HasWholeCause before now (Ok v) = now ≡ before
 
 -- the read failed exactly where P holds
 abbrev pub ReadFailsWhere : ReadStep → Type 0 → Type 0

@@ -1,6 +1,7 @@
 // A source and a sink in memory, which fail at the calls that they were told to.
 ghost use Rattle.std.specs.Prelude.{◌≡◌, ◌+◌, ◌<◌, ◌↔◌, ◌⊎◌, [], length, Some, IfOk, IsTrue};
 ghost use Rattle.std.specs.Prelude.{Contains, min, take};
+ghost use Rattle.tp_io.specs.Faults.{one_more};
 ghost use Rattle.tp_io.specs.Memory.{after_read, after_write};
 ghost use Rattle.tp_io.specs.Read.{Reads, HasReadCause, ReadFailsWhere};
 ghost use Rattle.tp_io.specs.Write.{Writes, HasWriteCause, WriteFailsWhere};
@@ -76,11 +77,14 @@ impl MemorySource {
 impl Source for MemorySource {
     ghost left = { λ s. Some s.left };
 
+    ghost calls = { λ s. s.calls };
+
     ghost faults = { λ s. s.faults };
 
     fn read(&mut self, into: &mut [u8]) -> ReadStep
         requires { 0 < length into.old }
         ensures bytes { Reads (Some self.old.left) (Some self.new.left) result into.new }
+        ensures count { self.new.calls ≡ one_more self.old.calls }
         ensures cause { HasReadCause self.old.faults self.new.faults result }
         ensures state { self.new ≡ after_read self.old result }
         ensures fails { ReadFailsWhere result (Contains self.old.fails (self.old.calls + 1)) }

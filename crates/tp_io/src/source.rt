@@ -1,5 +1,6 @@
 // Where bytes come from.
-ghost use Rattle.std.specs.Prelude.{◌<◌, List, ℕ, Option, length};
+ghost use Rattle.std.specs.Prelude.{◌≡◌, ◌<◌, List, ℕ, Option, length};
+ghost use Rattle.tp_io.specs.Faults.{one_more};
 ghost use Rattle.tp_io.specs.Read.{Reads, HasReadCause};
 
 /// What a read answers.
@@ -13,10 +14,13 @@ pub enum ReadStep {
     Failed,
 }
 
-/// A source of bytes. It counts its faults, and fails only where the count rises.
+/// A source of bytes. It counts its reads, and of these the ones that fail.
 pub trait Source {
     /// The bytes that are left, where the source tells them.
     ghost left: { Self → Option (List ℕ) };
+
+    /// How often the source was read: at 2 ^ 64 - 1 the count stands still.
+    ghost calls: { Self → ℕ };
 
     /// How often the source has failed: at 2 ^ 64 - 1 the count stands still.
     ghost faults: { Self → ℕ };
@@ -25,5 +29,6 @@ pub trait Source {
     fn read(&mut self, into: &mut [u8]) -> ReadStep
         requires { 0 < length into.old }
         ensures bytes { Reads (left self.old) (left self.new) result into.new }
+        ensures count { calls self.new ≡ one_more (calls self.old) }
         ensures cause { HasReadCause (faults self.old) (faults self.new) result };
 }

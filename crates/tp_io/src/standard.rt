@@ -12,33 +12,42 @@ use std::marker::Model;
 pub struct StdSource<R: Read + Drop> {
     /// The reader.
     reader: R,
+    /// How many reads there were.
+    calls: u64,
     /// How many reads failed.
     faults: u64,
 }
 
 impl<R: Read + Drop> Model for StdSource<R> {
-    ghost use Rattle.tp_io.specs.Standard.{Stream};
+    ghost use Rattle.tp_io.specs.Standard.{ReadStream};
 
-    ghost Value = { Stream };
+    ghost Value = { ReadStream };
 
-    ghost view = { λ s. record { bytes = R.remaining s.reader; faults = s.faults } };
+    ghost view = { λ s. record { bytes = R.remaining s.reader; calls = s.calls; faults = s.faults } };
 }
 
 impl<R: Read + Drop> StdSource<R> {
-    /// A source that has not failed.
+    /// A source that was not read, and has not failed.
     pub fn new(reader: R) -> Self
-        ensures { result ≡ record { bytes = R.remaining reader; faults = 0 } }
+        ensures { result ≡ record { bytes = R.remaining reader; calls = 0; faults = 0 } }
     {
-        StdSource { reader, faults: 0 }
+        StdSource {
+            reader,
+            calls: 0,
+            faults: 0,
+        }
     }
 }
 
 impl<R: Read + Drop> Source for StdSource<R> {
     ghost left = { λ s. s.bytes };
 
+    ghost calls = { λ s. s.calls };
+
     ghost faults = { λ s. s.faults };
 
     fn read(&mut self, into: &mut [u8]) -> ReadStep {
+        self.calls = self.calls.saturating_add(1);
         match self.reader.read(into) {
             Ok(0) => ReadStep::End,
             Ok(n) => ReadStep::Got(n),
@@ -61,9 +70,9 @@ pub struct StdSink<W: Write + Drop> {
 }
 
 impl<W: Write + Drop> Model for StdSink<W> {
-    ghost use Rattle.tp_io.specs.Standard.{Stream};
+    ghost use Rattle.tp_io.specs.Standard.{WriteStream};
 
-    ghost Value = { Stream };
+    ghost Value = { WriteStream };
 
     ghost view = { λ s. record { bytes = W.contents s.writer; faults = s.faults } };
 }

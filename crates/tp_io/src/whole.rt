@@ -1,8 +1,7 @@
 // All the bytes of a source.
 ghost use Rattle.std.specs.Prelude.{◌≡◌, ◌+◌, ◌≤◌, List, ℕ, length, IfOk, OnOk};
 ghost use Rattle.std.specs.Io.KnownBytes.{Consumes, IsAtEnd};
-ghost use Rattle.tp_io.specs.Faults.{Rose};
-ghost use Rattle.tp_io.specs.Read.{TakesAtMost};
+ghost use Rattle.tp_io.specs.Read.{HasWholeCause, TakesAtMost};
 
 use crate::{ReadStep, Source};
 use std::alloc::Global;
@@ -20,23 +19,24 @@ pub enum ReadEnd {
     WantMemory,
 }
 
-/// All the bytes that the source has left, at most `limit` of them. `Fault` comes only where the
-/// source's count of faults rose, after at most `limit` bytes, and `TooLong` exactly where `limit`
-/// bytes were taken and the source gave one more.
+/// All the bytes that the source has left, at most `limit` of them. `Fault` comes exactly where the
+/// source failed, after at most `limit` bytes, and then it is not read again; `TooLong` exactly where
+/// `limit` bytes were taken and the source gave one more.
 pub fn read_all<S: Source>(alloc: Global, src: &mut S, limit: usize) -> Result<Vec<u8>, ReadEnd>
     ensures taken { IfOk result (λ v. Consumes (S.left src.old) (S.left src.new) v.items) }
     ensures end { OnOk result (IsAtEnd (S.left src.new)) }
     ensures short { IfOk result (λ v. length v.items ≤ limit) }
     ensures too_long { result ≡ Err ReadEnd.TooLong → (bytes : List ℕ)
         × (length bytes ≡ limit + 1) × Consumes (S.left src.old) (S.left src.new) bytes }
-    ensures fault { result ≡ Err ReadEnd.Fault → Rose (S.faults src.old) (S.faults src.new) }
+    ensures cause { HasWholeCause (S.faults src.old) (S.faults src.new) result }
     ensures fault_taken { result ≡ Err ReadEnd.Fault
         → TakesAtMost limit (S.left src.old) (S.left src.new) }
 
-    // Whatever the answer is, no more than one byte past the limit was taken, and the count has not
-    // fallen.
+    // Whatever the answer is, no more than one byte past the limit was taken, and each read but the
+    // last gave one byte at least.
     ensures given { TakesAtMost (limit + 1) (S.left src.old) (S.left src.new) }
-    ensures later { S.faults src.old ≤ S.faults src.new }
+    ensures most_calls { S.calls src.new ≤ S.calls src.old + (limit + 1) }
+    ensures calls { IfOk result (λ v. S.calls src.new ≤ S.calls src.old + (length v.items + 1)) }
 {
     let mut bytes = Vec::new(alloc);
     let mut chunk = [0u8; PIECE];

@@ -1,8 +1,9 @@
-// The program: the process's words, input and output are given to the one call that does the rest.
+// The program: the process's words, input and output are given to the one call that answers.
 #![tactic(auto)]
 
 use std::process::ExitCode;
 use std::{env, io};
+use tripos_run::{StdSink, StdSource, exit_code, tripos};
 
 /// Ends with the status of the call, or with 9 where the system can't give the words.
 fn main(rt: HostRuntime) -> ExitCode {
@@ -15,6 +16,8 @@ fn main(rt: HostRuntime) -> ExitCode {
             return ExitCode::from(9);
         }
     }
-    let (status, _) = tripos_run::run(rt.alloc(), words.as_slice(), rt.reader(), io::writer(&rt));
-    ExitCode::from(status)
+    let mut src = StdSource::new(rt.reader());
+    let mut out = StdSink::new(io::writer(&rt));
+    let status = tripos(rt.alloc(), words.as_slice(), &mut src, &mut out);
+    ExitCode::from(exit_code(status))
 }

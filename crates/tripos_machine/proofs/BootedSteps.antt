@@ -1,10 +1,12 @@
 -- A machine that is booted has taken no step.
-use Rattle.std.proofs.Common.{◌≡◌, ℕ, List, Result, Ok, Err, None, Bool, true, false, cond, ap, drop, refl, replicate, subst, sym, ◌∙◌}
+use Rattle.std.proofs.Common.{◌≡◌, ℕ, List, Result, Ok, Err, None, Bool, true, false, cond, ap, drop, length, refl, replicate, subst, sym, ◌∙◌}
+use Rattle.std.proofs.lemmas.List.{length-replicate}
 use Rattle.session_text.specs.declared.sessions.Session.{Session}
 use Rattle.hunk_text.specs.TextReader.Refusal.{Refusal}
 use Rattle.hunk_text.specs.TextReader.Steps.{◌>>=◌}
 use Rattle.bare_machine.specs.Boot.{boot as bare_boot, first_state, program, with_lines as with_code}
 use Rattle.bare_machine.specs.State.{BareState}
+use Rattle.bare_machine.proofs.CodeLines.{with_lines-length}
 use Rattle.history_law.specs.KernelCalls.KernelModel.Kernel.{Kernel}
 use Rattle.history_law.specs.KernelBoot.declared.refusals.BootRefusal.{BootRefusal}
 use Rattle.history_law.specs.KernelSteps.Stepped.{Stepped}
@@ -44,16 +46,22 @@ boot-full s is = ap (boot-by s) is
 -- ---- a bare machine that is booted
 
 module _ (s : Session) (m : BareState) (is : bare_boot s ≡ Ok m) where
-  from-words : (words : List ℕ) × (first_state words ≡ m)
+  from-words : (words : List ℕ) × (with_code (replicate s.store 0) program s.lines ≡ Ok words) × (first_state words ≡ m)
   unfolding bare_boot
-  from-words = on (with_code (replicate s.store 0) program s.lines) is
+  from-words = on (with_code (replicate s.store 0) program s.lines) refl is
     where
-      on : (r : Result (List ℕ) Refusal) → (r >>= (λ words. Ok (first_state words))) ≡ Ok m → (words : List ℕ) × (first_state words ≡ m)
-      on (Ok words) e = (words, cc)
-      on (Err refusal) e = cc
+      on : (r : Result (List ℕ) Refusal) → with_code (replicate s.store 0) program s.lines ≡ r → (r >>= (λ words. Ok (first_state words))) ≡ Ok m
+          → (words : List ℕ) × (with_code (replicate s.store 0) program s.lines ≡ Ok words) × (first_state words ≡ m)
+      on (Ok words) here e = (words, here, cc)
+      on (Err refusal) here e = cc
 
   pub bare-no-steps : m.steps ≡ 0
-  bare-no-steps = ap (λ (b : BareState). b.steps) (sym from-words.1)
+  bare-no-steps = ap (λ (b : BareState). b.steps) (sym from-words.2)
 
   pub bare-goes : m.stop ≡ None
-  bare-goes = ap (λ (b : BareState). b.stop) (sym from-words.1)
+  bare-goes = ap (λ (b : BareState). b.stop) (sym from-words.2)
+
+  -- it has as many words as the session says
+  pub bare-words : length m.words ≡ s.store
+  bare-words =
+      ap (λ (b : BareState). length b.words) (sym from-words.2) ∙ with_lines-length s.lines (replicate s.store 0) program from-words.0 from-words.1 ∙ length-replicate s.store 0

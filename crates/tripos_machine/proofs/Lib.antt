@@ -1,3 +1,4 @@
+pub mod BootedStates
 pub mod BootedSteps
 pub mod Histories
 pub mod KindRuns

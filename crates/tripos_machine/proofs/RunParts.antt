@@ -1,5 +1,5 @@
 -- A run, part by part.
-use Rattle.std.proofs.Common.{◌≡◌, ◌≢◌, ℕ, ◌+◌, ◌-◌, ◌≤◌, ◌++◌, Bool, Option, Some, None, List, refl, sym, ap, ◌∙◌, subst, arith}
+use Rattle.std.proofs.Common.{◌≡◌, ◌≢◌, ℕ, ◌+◌, ◌-◌, ◌<◌, ◌≤◌, ◌++◌, Bool, Option, Some, None, List, inl, inr, refl, sym, ap, ◌∙◌, subst, arith}
 use Rattle.std.specs.Prelude.{unwrap_or}
 use Rattle.std.proofs.lemmas.List.{append-nil}
 use Rattle.tp_io.specs.Faults.{Rose}
@@ -12,7 +12,7 @@ use Rattle.history_law.specs.KernelCalls.KernelModel.NotedEvents.{NotesAll}
 use Rattle.history_law.proofs.Shown.KernelCalls.KernelModel.NotedInTurn.{notes-none, notes-then}
 use Rattle.history_law.specs.KernelCalls.KernelModel.declared.stops.Stop.{Stop}
 use Rattle.history_law.specs.KernelCalls.KernelModel.declared.stops.Stop.TheVariants.{Steps}
-use Rattle.tripos_machine.specs.Runs.{HasRun, end_of_run}
+use Rattle.tripos_machine.specs.Runs.{HasRun, LeavesOutput, end_of_run}
 use Rattle.tripos_machine.specs.State.{State, stop_of}
 use Rattle.tripos_machine.specs.Step.{Stepped, and_then, quietly, run}
 use Rattle.tripos_machine.proofs.StateRuns.{run-more, run-stopped}
@@ -78,6 +78,17 @@ cut-gathered {h0} {h1} {p} {q} x = record { prefix = subst (AppendsPrefix h0 h1)
 
 pub rose-later : (a b c : ℕ) → a ≤ b → Rose b c → Rose a c
 rose-later a b c later rose = omega (arith, later, rose)
+
+-- ---- the output of the last steps
+
+pub left-more : (i n : ℕ) (s t : State) (old new : List ℕ) → i ≤ n → LeavesOutput i s t old new → LeavesOutput n s t old new
+left-more i n s t old new few (inl x) = inl x
+left-more i n s t old new few (inr x) = inr (x.0, x.1, x.2, omega (arith, few, x.3), x.4, x.5, x.6)
+
+pub left-last : (i m n : ℕ) (s t u : State) (old new : List ℕ) → t ≡ (run i s).state → 0 < m → i + m ≤ n → stop_of (run (m - 1) t).state ≡ None → u ≡ (run m t).state → new ≡ (run m t).bytes
+    → LeavesOutput n s u old new
+left-last i m n s t u old new at some few last left wrote =
+    inr (i, m, some, few, subst (λ (z : State). stop_of (run (m - 1) z).state ≡ None) at last, left ∙ ap (λ (z : State). (run m z).state) at ∙ sym (ap (λ (x : Stepped). x.state) (run-more i m s)), wrote ∙ ap (λ (z : State). (run m z).bytes) at)
 
 -- ---- the end of a run, by how the machine stands
 

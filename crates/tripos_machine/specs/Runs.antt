@@ -1,5 +1,5 @@
 -- How a run ends.
-use Rattle.std.specs.Prelude.{◌≡◌, ◌≤◌, ◌⊎◌, ℕ, Bool, true, false, Option, Some, None, List, Result, Ok, Err}
+use Rattle.std.specs.Prelude.{◌≡◌, ◌<◌, ◌≤◌, ◌+◌, ◌-◌, ◌⊎◌, ℕ, Bool, true, false, Option, Some, None, List, Result, Ok, Err}
 use Rattle.tp_io.specs.Faults.{Rose}
 use Rattle.history_law.specs.KernelCalls.KernelModel.declared.stops.Stop.{Stop}
 use Rattle.history_law.specs.KernelCalls.KernelModel.declared.stops.Stop.TheVariants.{Steps}
@@ -19,6 +19,13 @@ pub record HasRun (n : ℕ) (s t : State) (old new : Option (List KernelEvent)) 
   pub state : t ≡ (run n s).state
   -- their events went to the log
   pub events : NotesAll old new had_failed has_failed (run n s).events
+
+-- The output that at most n steps leave, which lead from s to t: what the last of them wrote, one at least, before each of which the
+-- machine had not stopped; and what there was where none was taken.
+abbrev pub LeavesOutput : ℕ → State → State → List ℕ → List ℕ → Type 0
+LeavesOutput n s t old new =
+    ((t ≡ s) × (new ≡ old))
+    ⊎ ((i j : ℕ) × (0 < j) × (i + j ≤ n) × (stop_of (run (j - 1) (run i s).state).state ≡ None) × (t ≡ (run (i + j) s).state) × (new ≡ (run j (run i s).state).bytes))
 
 -- a log has failed, or the sink's count of faults rose
 abbrev pub HasCause : ℕ → ℕ → Bool → Type 0

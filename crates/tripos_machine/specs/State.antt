@@ -1,10 +1,10 @@
 -- The state of a machine of either kind.
-use Rattle.std.specs.Prelude.{◌≡◌, ℕ, ◌<◌, ◌≤◌, List, [], Option}
+use Rattle.std.specs.Prelude.{◌≡◌, ℕ, ◌<◌, ◌≤◌, IsTrue, List, [], Option, length}
 use Rattle.word_store.specs.declared.registers.Regs.{Regs}
 use Rattle.bare_machine.specs.State.{BareState, state_of}
 use Rattle.history_law.specs.KernelCalls.KernelModel.Image.{image}
 use Rattle.history_law.specs.KernelCalls.KernelModel.Kernel.{Kernel}
-use Rattle.history_law.specs.KernelCalls.KernelModel.Ranges.{most_steps}
+use Rattle.history_law.specs.KernelCalls.KernelModel.Ranges.{is_store_size, most_steps}
 use Rattle.history_law.specs.KernelCalls.KernelModel.ValidKernel.{IsValid}
 use Rattle.history_law.specs.KernelCalls.KernelModel.declared.stops.Stop.{Stop}
 use Rattle.history_law.specs.KernelMachine.Machine.{with_byte_typed}
@@ -54,7 +54,7 @@ typed byte (Full k) = Full (with_byte_typed byte k)
 
 -- what holds of it at every moment between steps
 abbrev pub IsSound : State → Type 0
-IsSound (Bare m) = (m.regs.c < 256) × (m.steps ≤ most_steps)
+IsSound (Bare m) = (m.regs.c < 256) × (m.steps ≤ most_steps) × IsTrue (is_store_size 2 (length m.words))
 IsSound (Full k) = IsValid k
 
 abbrev pub IsBare : State → Type 0

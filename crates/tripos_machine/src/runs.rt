@@ -3,7 +3,7 @@ ghost use Rattle.std.specs.Prelude.{◌≡◌, ◌+◌, ◌≤◌, false, ℕ};
 ghost use Rattle.history_law.specs.KernelCalls.KernelModel.Ranges.{most_steps};
 ghost use Rattle.tp_io.specs.Pending.{Gathers};
 ghost use Rattle.tripos_machine.specs.Histories.{HasHistory};
-ghost use Rattle.tripos_machine.specs.Runs.{EndsRun};
+ghost use Rattle.tripos_machine.specs.Runs.{EndsRun, LeavesOutput};
 ghost use Rattle.tripos_machine.specs.State.{steps_of};
 ghost use Rattle.tripos_machine.specs.Step.{run};
 
@@ -14,8 +14,8 @@ use tp_io::{NoSink, Output, Sink, SinkFault, gather};
 impl Machine {
     /// Takes at most n steps, whose console bytes are gathered, and whose events are noted. The answer is why the machine has
     /// stopped. `SinkFault` comes only where the sink's count of faults rose, or the log, which had not failed, has failed; then
-    /// the machine is as it is after the steps taken so far. The list of its keys stays. However many of the steps are taken, their
-    /// events are a history of its packets.
+    /// the machine is as it is after the steps taken so far. Its output is what the last of these wrote. The list of its keys stays.
+    /// However many of the steps are taken, their events are a history of its packets.
     pub fn run<K: Sink, L: EventLog>(
         &mut self,
         n: u64,
@@ -32,6 +32,7 @@ impl Machine {
         ensures bytes { Gathers (K.holds out.old) (K.holds out.new) pending.old pending.new
             (run n self.old.state).bytes result }
         ensures later { K.faults out.old ≤ K.faults out.new }
+        ensures output { LeavesOutput n self.old.state self.new.state self.old.output self.new.output }
         ensures keys { self.new.keys ≡ self.old.keys }
     {
         self.know_sound();
@@ -49,10 +50,12 @@ impl Machine {
         Ok(self.stop().unwrap_or(Stop::Steps))
     }
 
-    /// Takes at most n steps. Their console bytes and their events go nowhere. The list of its keys stays.
+    /// Takes at most n steps. Their console bytes and their events go nowhere, but for the output, which is what the last of them wrote.
+    /// The list of its keys stays.
     pub fn run_unheard(&mut self, n: u64)
         requires { steps_of self.old.state + n ≤ most_steps }
         ensures state { self.new.state ≡ (run n self.old.state).state }
+        ensures output { LeavesOutput n self.old.state self.new.state self.old.output self.new.output }
         ensures keys { self.new.keys ≡ self.old.keys }
     {
         match self.run(n, &mut NoSink, &mut Output::new(), &mut NoLog) {

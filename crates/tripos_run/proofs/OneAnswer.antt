@@ -3,13 +3,19 @@ use Rattle.std.proofs.Common.{◌≡◌, ◌∙◌, ℕ, inl, inr, Bool, true, f
 use Rattle.std.specs.Prelude.{nat_le}
 use Rattle.hunk_text.specs.TextReader.Lines.{lines_of}
 use Rattle.hunk_text.specs.TextReader.Refusal.{Refusal}
+use Rattle.session_text.specs.SessionOfText.{session_of}
+use Rattle.session_text.specs.declared.sessions.Session.{Session}
+use Rattle.cint_debug.specs.TriposMachine.Boot.{boot}
+use Rattle.cint_debug.specs.TriposMachine.KernelCalls.KernelModel.declared.stops.Stop.{Stop}
+use Rattle.cint_debug.specs.TriposMachine.State.{State, stop_of}
+use Rattle.cint_debug.specs.TriposMachine.Step.{Stepped, run}
 use Rattle.image_print.specs.ImageText.ImageOfText.{image_of}
 use Rattle.image_print.specs.ImageText.declared.images.Image.{Image}
 use Rattle.image_print.proofs.Shown.SavedMachines.{which-machine}
 use Rattle.program_answers.specs.Answer.{Answer}
 use Rattle.program_answers.specs.Input.{IsAnswerWithin, IsInputAnswer, limit}
 use Rattle.tripos_run.specs.InputAnswers.{IsAnswer, IsJobAnswer, IsTextAnswer}
-use Rattle.tripos_run.specs.SavedAnswers.{IsResumed, IsResumedImage, resumed_answer}
+use Rattle.tripos_run.specs.SavedAnswers.{IsKept, IsResumed, IsResumedImage, IsSaved, IsSavedSession, resumed_answer}
 use Rattle.tripos_run.specs.Words.{job_of}
 use Rattle.tripos_run.specs.declared.commands.Command.{Command}
 use Rattle.tripos_run.specs.declared.commands.Command.TheVariants.{Run, Dump, Trace, Asm, Disasm, Debug, Save, Resume, Ring}
@@ -31,14 +37,27 @@ one-resumed : (last : ℕ) (r : Result Image Refusal) (a b : Answer) → IsResum
 one-resumed last (Ok x) a b p q = one-of-image last x a b p q
 one-resumed last (Err r) a b p q = the-one p q
 
-one-of-text : (command : Command) (text : List ℕ) (a b : Answer) → IsTextAnswer command text a → IsTextAnswer command text b → a ≡ b
+-- a machine is kept so, or has stopped so
+one-kept : (version go : ℕ) (s : State) (o : Option Stop) (a b : Answer) → IsKept version go s o a → IsKept version go s o b → a ≡ b
+one-kept version go s None a b p q = the-one p.0 q.0
+one-kept version go s (Some stop) a b p q = the-one p q
+
+one-saved : (r : Result Session Refusal) (a b : Answer) → IsSaved r a → IsSaved r b → a ≡ b
+one-saved (Err r) a b p q = the-one p q
+one-saved (Ok s) a b p q = on (boot s) p q
+  where
+    on : (r : Result Stepped Refusal) → IsSavedSession s r a → IsSavedSession s r b → a ≡ b
+    on (Ok x) p q = (let t : State = (run s.go x.state).state in one-kept s.version s.go t (stop_of t) a b p q)
+    on (Err r) p q = the-one p q
+
+pub one-of-text : (command : Command) (text : List ℕ) (a b : Answer) → IsTextAnswer command text a → IsTextAnswer command text b → a ≡ b
 one-of-text Run text a b p q = the-one p q
 one-of-text Dump text a b p q = the-one p q
 one-of-text Trace text a b p q = the-one p q
 one-of-text Asm text a b p q = the-one p q
 one-of-text Disasm text a b p q = the-one p q
 one-of-text Debug text a b p q = the-one p q
-one-of-text Save text a b p q = the-one p q
+one-of-text Save text a b p q = one-saved (session_of text) a b p q
 one-of-text Ring text a b p q = the-one p q
 one-of-text Resume text a b p q = one-resumed (length (lines_of text)) (image_of text) a b p q
 

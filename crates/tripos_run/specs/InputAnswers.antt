@@ -9,7 +9,7 @@ use Rattle.program_answers.specs.Input.{IsInputAnswer}
 use Rattle.program_answers.specs.declared.status.Status.TheVariants.{Usage}
 use Rattle.tripos_run.specs.Answer.{debugging_answer, listed, made_answer, session_answer}
 use Rattle.tripos_run.specs.RingAnswers.{ring_answer}
-use Rattle.tripos_run.specs.SavedAnswers.{IsResumedText, saving_answer}
+use Rattle.tripos_run.specs.SavedAnswers.{IsResumedText, IsSaved}
 use Rattle.tripos_run.specs.Texts.{usage_text}
 use Rattle.tripos_run.specs.Words.{job_of}
 use Rattle.tripos_run.specs.declared.commands.Command.{Command}
@@ -29,7 +29,7 @@ IsTextAnswer RunCommand text a = a ≡ session_answer Console (session_of text)
 IsTextAnswer DumpCommand text a = a ≡ session_answer Words (session_of text)
 IsTextAnswer TraceCommand text a = a ≡ session_answer Events (session_of text)
 IsTextAnswer DebugCommand text a = a ≡ debugging_answer text
-IsTextAnswer SaveCommand text a = a ≡ saving_answer (session_of text)
+IsTextAnswer SaveCommand text a = IsSaved (session_of text) a
 IsTextAnswer ResumeCommand text a = IsResumedText text a
 IsTextAnswer RingCommand text a = a ≡ ring_answer text
 

@@ -2,6 +2,7 @@ pub mod Texts
 pub mod Words
 pub mod Answer
 pub mod SavedAnswers
+pub mod ContinuedAnswers
 pub mod RingAnswers
 pub mod InputAnswers
 pub mod Input

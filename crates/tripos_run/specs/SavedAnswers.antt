@@ -5,12 +5,13 @@ use Rattle.hunk_text.specs.TextReader.Refusal.{Refusal, refusal}
 use Rattle.session_text.specs.declared.sessions.Session.{Session}
 use Rattle.cint_debug.specs.TriposMachine.Boot.{boot}
 use Rattle.cint_debug.specs.TriposMachine.KernelCalls.KernelModel.declared.stops.Stop.{Stop}
-use Rattle.cint_debug.specs.TriposMachine.State.{State, steps_of, stop_of}
+use Rattle.cint_debug.specs.TriposMachine.State.{IsSound, State, steps_of, stop_of}
 use Rattle.cint_debug.specs.TriposMachine.Step.{Stepped, run}
 use Rattle.image_print.specs.ImageText.Canonical.{canonical}
 use Rattle.image_print.specs.ImageText.ImageOfText.{image_of}
 use Rattle.image_print.specs.ImageText.declared.images.Image.{Image}
 use Rattle.image_print.specs.MachineImage.Machines.{HasMachine, IsMachineOf}
+use Rattle.image_print.specs.Numbers.{HasNumbers}
 use Rattle.image_print.specs.SavedImage.{saved_image}
 use Rattle.program_answers.specs.Answer.{Answer, no_boot_answer, refused_answer}
 use Rattle.tripos_run.specs.Answer.{end_since, run_answer, status_of}
@@ -20,23 +21,23 @@ use Rattle.program_answers.specs.declared.status.Status.TheVariants.{Done}
 
 -- ---- a machine is saved
 
--- a machine that goes on is written as its text, with the steps that it is to take; of one that has stopped the closing line alone is
--- written
-abbrev pub kept_answer : ℕ → ℕ → State → Option Stop → Answer
-kept_answer version go s None = record { status = Done; bytes = canonical (saved_image version s go) }
-kept_answer version go s (Some stop) = record { status = status_of stop; bytes = closing_text (steps_of s) stop }
+-- A machine that goes on is written as its text, with the steps that it is to take: it is one between steps, its words are words, and its
+-- bytes bytes. Of one that has stopped the closing line alone is written.
+abbrev pub IsKept : ℕ → ℕ → State → Option Stop → Answer → Type 0
+IsKept version go s None a = (a ≡ record { status = Done; bytes = canonical (saved_image version s go) }) × IsSound s × HasNumbers s
+IsKept version go s (Some stop) a = a ≡ record { status = status_of stop; bytes = closing_text (steps_of s) stop }
 
 -- this state is that of the session's machine, after its steps
-abbrev pub state_answer : Session → State → Answer
-state_answer s after = kept_answer s.version s.go after (stop_of after)
+abbrev pub IsSavedState : Session → State → Answer → Type 0
+IsSavedState s after a = IsKept s.version s.go after (stop_of after) a
 
-abbrev pub saved_answer : Session → Result Stepped Refusal → Answer
-saved_answer s (Ok x) = state_answer s (run s.go x.state).state
-saved_answer s (Err r) = no_boot_answer r
+abbrev pub IsSavedSession : Session → Result Stepped Refusal → Answer → Type 0
+IsSavedSession s (Ok x) a = IsSavedState s (run s.go x.state).state a
+IsSavedSession s (Err r) a = a ≡ no_boot_answer r
 
-abbrev pub saving_answer : Result Session Refusal → Answer
-saving_answer (Ok s) = saved_answer s (boot s)
-saving_answer (Err r) = refused_answer r
+abbrev pub IsSaved : Result Session Refusal → Answer → Type 0
+IsSaved (Ok s) a = IsSavedSession s (boot s) a
+IsSaved (Err r) a = a ≡ refused_answer r
 
 -- ---- a saved machine goes on
 

@@ -1,18 +1,19 @@
 // Laws of the program's answers.
-ghost use Rattle.std.specs.Prelude.{◌≡◌, ◌+◌, ◌++◌, ℕ, List, None, Ok};
+ghost use Rattle.std.specs.Prelude.{◌≡◌, ◌+◌, ℕ, List, None, Ok};
 ghost use Rattle.session_text.specs.SessionOfText.{session_of};
 ghost use Rattle.session_text.specs.declared.sessions.Session.{Session};
 ghost use Rattle.cint_debug.specs.TriposMachine.Boot.{boot};
 ghost use Rattle.cint_debug.specs.TriposMachine.State.{IsSound, State, stop_of};
-ghost use Rattle.cint_debug.specs.TriposMachine.Step.{Stepped, run};
-ghost use Rattle.image_print.specs.ImageText.Canonical.{canonical};
+ghost use Rattle.cint_debug.specs.TriposMachine.Step.{Stepped};
+ghost use Rattle.image_print.specs.ImageText.Canonical.{canonical, with_steps};
 ghost use Rattle.image_print.specs.Numbers.{HasNumbers, IsSized, MayTake};
 ghost use Rattle.image_print.specs.SavedImage.{saved_image};
 ghost use Rattle.program_answers.specs.Answer.{Answer};
+ghost use Rattle.tripos_run.specs.ContinuedAnswers.{IsContinued, IsMachineText};
 ghost use Rattle.tripos_run.specs.InputAnswers.{IsAnswer, IsTextAnswer};
 ghost use Rattle.tripos_run.specs.SavedAnswers.{IsResumedText, resumed_answer};
 ghost use Rattle.tripos_run.specs.TracedHistory.{TracesHistory};
-ghost use Rattle.tripos_run.specs.declared.commands.Command.TheVariants.{Trace};
+ghost use Rattle.tripos_run.specs.declared.commands.Command.TheVariants.{Resume, Run, Save, Trace};
 
 /// Words and an input have at most one answer.
 pub fn answer_law()
@@ -20,15 +21,24 @@ pub fn answer_law()
         IsAnswer words input a → IsAnswer words input b → a ≡ b }
 {}
 
-/// The text of a machine that goes on is answered by the steps that it takes on from there: so a run that is cut in two, and saved
-/// and resumed between, writes what the whole run writes.
+/// A run that is cut in two, saved and resumed between, writes what the whole run writes. Where `save` ends with the text of a
+/// machine, `resume` of that text, with n as its steps, answers what `run` of the session with n steps more answers after the
+/// console bytes of `run` of the session itself.
 pub fn continued_law()
-    ensures resumed { (version : ℕ) (s : State) (go : ℕ) → IsSound s → stop_of s ≡ None
+    ensures answers { (text longer : List ℕ) (s : Session) (n : ℕ) (kept before after whole : Answer)
+        → session_of text ≡ Ok s
+        → session_of longer ≡ Ok (record s { go = s.go + n })
+        → IsTextAnswer Save text kept
+        → IsMachineText kept.bytes
+        → IsTextAnswer Run text before
+        → IsTextAnswer Resume (with_steps n kept.bytes) after
+        → IsTextAnswer Run longer whole
+        → IsContinued s.go before after whole }
+
+    // So it is of every machine between steps, whatever led to it.
+    ensures machines { (version : ℕ) (s : State) (go : ℕ) → IsSound s → stop_of s ≡ None
         → HasNumbers s → IsSized version s → MayTake s go
         → IsResumedText (canonical (saved_image version s go)) (resumed_answer go s) }
-    ensures cut { (m n : ℕ) (s : State) → (run (m + n) s).bytes
-        ≡ (run m s).bytes ++ (run n (run m s).state).bytes }
-    ensures state { (m n : ℕ) (s : State) → (run (m + n) s).state ≡ (run n (run m s).state).state }
 {}
 
 /// `tripos` with `trace` writes the lines of a history: where the text is a session's, and the session boots, there is a line for each

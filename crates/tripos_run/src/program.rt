@@ -1,8 +1,7 @@
 // The program: the words of the command line and an input, to an exit status and the bytes written.
-ghost use Rattle.std.specs.Prelude.{◌≡◌, List, ℕ, map, string_bytes};
+ghost use Rattle.std.specs.Prelude.{List, ℕ, map, string_bytes};
 ghost use Rattle.program_answers.specs.Answered.{Answered};
-ghost use Rattle.program_answers.specs.Cause.{HasFaultCause};
-ghost use Rattle.program_answers.specs.Exit.{exit_code};
+ghost use Rattle.program_answers.specs.Cause.{HasFaultCause, HasReadCause};
 ghost use Rattle.program_answers.specs.Input.{IsInput};
 ghost use Rattle.tripos_run.specs.Input.{Leaves};
 ghost use Rattle.tripos_run.specs.InputAnswers.{IsAnswer};
@@ -11,28 +10,9 @@ ghost use Rattle.tripos_run.specs.Words.{job_of};
 use crate::commands::{Job, job_of};
 use crate::messages::write_usage;
 use crate::session::answer_generated;
-use program_answers::{Status, answer_input, exit_code, status_after};
+use program_answers::{Status, answer_input, status_after};
 use std::alloc::Global;
-use std::io::{Read, Write};
-use tp_io::{Sink, Source, StdSink, StdSource};
-
-/// The exit status of the program with these words, over any reader and any writer, which is given back.
-pub fn run<R: Read + Drop, W: Write + Drop>(
-    alloc: Global,
-    words: &[String],
-    reader: R,
-    writer: W,
-) -> (u8, W)
-    ensures { (input : List ℕ) × (status : Status) × IsInput (R.remaining reader) input
-        × (result.0 ≡ exit_code status)
-        × Answered (IsAnswer (map string_bytes words.now) input)
-        (W.contents writer) (W.contents result.1) status }
-{
-    let mut src = StdSource::new(reader);
-    let mut out = StdSink::new(writer);
-    let status = tripos(alloc, words, &mut src, &mut out);
-    (exit_code(status), out.into_writer())
-}
+use tp_io::{Sink, Source};
 
 /// Answers the words of the command line and all that the source has left.
 pub fn tripos<S: Source, K: Sink>(
@@ -52,9 +32,9 @@ pub fn tripos<S: Source, K: Sink>(
     ensures source { Leaves (job_of (map string_bytes words.now))
         (S.left src.old) (S.left src.new) result }
 
-    // The source and the sink are blamed only where their counts of faults rose in this call.
-    ensures read_fault { HasFaultCause Status.ReadFault
-        (S.faults src.old) (S.faults src.new) result }
+    // The source is blamed exactly where it failed, and the sink only where its count of faults rose in
+    // this call.
+    ensures read_fault { HasReadCause (S.faults src.old) (S.faults src.new) result }
     ensures write_fault { HasFaultCause Status.WriteFault
         (K.faults out.old) (K.faults out.new) result }
 {

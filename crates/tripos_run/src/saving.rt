@@ -1,16 +1,20 @@
 // The answer to a session whose machine is saved.
-ghost use Rattle.std.specs.Prelude.{◌<◌, ◌^◌, length};
+ghost use Rattle.std.specs.Prelude.{◌<◌, ◌≤◌, ◌+◌, ◌^◌, length};
 ghost use Rattle.tp_io.specs.Write.{HasCause, Prints};
 ghost use Rattle.session_text.specs.Canonical.{IsLawful};
 ghost use Rattle.session_text.specs.SessionOfText.{session_of};
 ghost use Rattle.cint_debug.specs.TriposMachine.Boot.{boot};
+ghost use Rattle.cint_debug.specs.TriposMachine.KernelCalls.KernelModel.Ranges.{most_steps};
+ghost use Rattle.cint_debug.specs.TriposMachine.State.{IsSound, steps_of};
+ghost use Rattle.cint_debug.specs.TriposMachine.Step.{run};
 ghost use Rattle.image_print.specs.ImageText.Canonical.{canonical};
+ghost use Rattle.image_print.specs.Numbers.{HasNumbers};
 ghost use Rattle.image_print.specs.SavedImage.{saved_image};
-ghost use Rattle.program_answers.specs.Answer.{Answers};
+ghost use Rattle.program_answers.specs.Answered.{Answered};
 ghost use Rattle.program_answers.specs.Cause.{HasFaultCause};
 ghost use Rattle.program_answers.specs.Input.{IsTextEnd};
 ghost use Rattle.tripos_run.specs.Input.{IsMachineEnd};
-ghost use Rattle.tripos_run.specs.SavedAnswers.{kept_answer, saved_answer, saving_answer, state_answer};
+ghost use Rattle.tripos_run.specs.SavedAnswers.{IsSaved, IsSavedSession, IsSavedState};
 ghost use Rattle.tripos_run.specs.Texts.{closing_text};
 
 use crate::ends::status_of;
@@ -25,7 +29,7 @@ use tp_io::{Output, Sink, SinkFault, pass_on};
 /// Runs a session, and writes the text of its machine.
 pub(crate) fn answer_saving<K: Sink>(alloc: Global, text: &[u8], out: &mut K) -> Status
     requires { length text.now < 2 ^ 32 }
-    ensures answer { Answers (saving_answer (session_of text.now))
+    ensures answer { Answered (IsSaved (session_of text.now))
         (K.holds out.old) (K.holds out.new) result }
     ensures ends { IsTextEnd result }
     ensures cause { HasFaultCause Status.WriteFault (K.faults out.old) (K.faults out.new) result }
@@ -42,16 +46,13 @@ pub(crate) fn answer_saving<K: Sink>(alloc: Global, text: &[u8], out: &mut K) ->
 // Boots a session, and writes the text of its machine after its steps.
 fn save_session<K: Sink>(alloc: Global, session: &Session, out: &mut K) -> Status
     requires { IsLawful session.now }
-    ensures answer { Answers (saved_answer session.now (boot session.now))
+    ensures answer { Answered (IsSavedSession session.now (boot session.now))
         (K.holds out.old) (K.holds out.new) result }
     ensures ends { IsTextEnd result }
     ensures cause { HasFaultCause Status.WriteFault (K.faults out.old) (K.faults out.new) result }
 {
     match boot(alloc, session) {
-        Ok(mut machine) => {
-            machine.run_unheard(session.go);
-            save_machine(&machine, session, out)
-        }
+        Ok(mut machine) => run_and_save(&mut machine, session, out),
         Err(BootEnd::Line { line, code }) => {
             status_after(write_no_boot(out, line, code), Status::NoBoot)
         }
@@ -59,9 +60,22 @@ fn save_session<K: Sink>(alloc: Global, session: &Session, out: &mut K) -> Statu
     }
 }
 
+// Runs a machine of the session that was booted just now, and writes its text. Memory is wanted no more.
+fn run_and_save<K: Sink>(machine: &mut Machine, session: &Session, out: &mut K) -> Status
+    requires { steps_of machine.old.state + session.now.go ≤ most_steps }
+    ensures answer { Answered
+        (IsSavedState session.now (run session.now.go machine.old.state).state)
+        (K.holds out.old) (K.holds out.new) result }
+    ensures ends { IsMachineEnd result }
+    ensures cause { HasFaultCause Status.WriteFault (K.faults out.old) (K.faults out.new) result }
+{
+    machine.run_unheard(session.go);
+    save_machine(machine, session, out)
+}
+
 // Writes the text of a machine of the session, or its closing line where it has stopped.
 fn save_machine<K: Sink>(machine: &Machine, session: &Session, out: &mut K) -> Status
-    ensures answer { Answers (state_answer session.now machine.now.state)
+    ensures answer { Answered (IsSavedState session.now machine.now.state)
         (K.holds out.old) (K.holds out.new) result }
     ensures ends { IsMachineEnd result }
     ensures cause { HasFaultCause Status.WriteFault (K.faults out.old) (K.faults out.new) result }
@@ -80,6 +94,8 @@ fn write_machine<K: Sink>(
 ) -> Result<(), SinkFault>
     ensures text { Prints (K.holds out.old) (K.holds out.new)
         (canonical (saved_image session.now.version machine.now.state session.now.go)) result }
+    ensures sound { IsSound machine.now.state }
+    ensures numbers { HasNumbers machine.now.state }
     ensures cause { HasCause (K.faults out.old) (K.faults out.new) result }
 {
     let mut pending = Output::new();

@@ -1,6 +1,7 @@
-// The program that shows what happened in a run: the process's words, input and output are given to the one call that does the rest.
+// The program that shows what happened in a run: the process's words, input and output are given to the one call that answers.
 #![tactic(auto)]
 
+use show_run::{StdSink, StdSource, exit_code, show};
 use std::process::ExitCode;
 use std::{env, io};
 
@@ -15,6 +16,8 @@ fn main(rt: HostRuntime) -> ExitCode {
             return ExitCode::from(9);
         }
     }
-    let (status, _) = show_run::run(rt.alloc(), words.as_slice(), rt.reader(), io::writer(&rt));
-    ExitCode::from(status)
+    let mut src = StdSource::new(rt.reader());
+    let mut out = StdSink::new(io::writer(&rt));
+    let status = show(rt.alloc(), words.as_slice(), &mut src, &mut out);
+    ExitCode::from(exit_code(status))
 }

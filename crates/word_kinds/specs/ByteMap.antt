@@ -5,6 +5,7 @@ use Rattle.std.proofs.Common.{ap, refl, subst, sym, ◌∙◌}
 use Rattle.std.proofs.lemmas.List.Folds.{list_any-append}
 use Rattle.word_store.specs.Count.{times}
 use Rattle.kernel_model.specs.KernelRanges.{Words, meets}
+use Rattle.word_kinds.specs.Searched.{or-false, or-or}
 
 -- whether the word is marked; there is no mark behind the last one
 abbrev pub is_marked : List Bool → ℕ → Bool
@@ -28,14 +29,6 @@ pub record AreShown (before after : List Bool) (ws : List Words) : Type 0 where
 -- the marked words are those that are listed
 abbrev pub MarksAll : List Bool → List ℕ → Type 0
 MarksAll marks known = (a : ℕ) → (is_marked marks a ≡ true) ↔ (0 < times a known)
-
-or-false : (x : Bool) → x ≡ (x || false)
-or-false true = refl
-or-false false = refl
-
-or-or : (x y z : Bool) → ((x || y) || z) ≡ (x || (y || z))
-or-or true y z = refl
-or-or false y z = refl
 
 pub shown-none : (v : List Bool) → AreShown v v []
 shown-none v = record { size = refl; marks = λ a low. or-false (is_marked v a) }

@@ -1,8 +1,11 @@
 // Questions about ranges of words.
-ghost use Rattle.std.specs.Prelude.{◌+◌, ◌↔◌, IsTrue};
-ghost use Rattle.kernel_model.specs.KernelRanges.{AreClear};
+ghost use Rattle.std.specs.Prelude.{◌≡◌, ◌+◌, ◌↔◌, IsTrue};
+ghost use Rattle.std.specs.List.{list_any};
+ghost use Rattle.kernel_model.specs.KernelRanges.{AreClear, CanWalkLists, meets, packet_ranges};
 
 use crate::keepers::KindKeeper;
+use crate::search::Search;
+use crate::visits::show_packets;
 use word_store::Store;
 
 /// Whether none of the n words from a on is the kernel's.
@@ -21,4 +24,14 @@ pub fn clear<Q: KindKeeper>(kinds: &Q, store: &Store, a: u32, n: u32) -> bool
     }
     // the largest address is one of them as well
     !kinds.is_kernel(store, u32::MAX)
+}
+
+/// Whether one of the n words from a on is among the words 0 to 4 of a queued packet.
+pub fn packet_in(store: &Store, a: u32, n: u32) -> bool
+    requires { CanWalkLists store.now }
+    ensures { result ≡ list_any (meets a (a + n)) (packet_ranges store.now) }
+{
+    let mut search = Search::new(a, n);
+    show_packets(store, &mut search);
+    search.has_found()
 }

@@ -53,8 +53,8 @@ pub fn show_kernel<V: Visitor>(store: &Store, visitor: &mut V)
     show_packets(store, visitor);
 }
 
-// Shows the words of all queued packets.
-fn show_packets<V: Visitor>(store: &Store, visitor: &mut V)
+/// Shows the words of all queued packets.
+pub fn show_packets<V: Visitor>(store: &Store, visitor: &mut V)
     requires { CanWalkLists store.now }
     ensures { V.shown visitor.old visitor.new (packet_ranges store.now) }
 {

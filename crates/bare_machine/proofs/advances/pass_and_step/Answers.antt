@@ -2,6 +2,7 @@ use Rattle.std.proofs.Common.{◌∙◌, ◌+◌, ◌-◌, ap, arith, refl, sym}
 use Rattle.bare_machine.specs.Step.{BareStepped}
 use Rattle.bare_machine.proofs.Instructions.{quiet-behind, ran, ran-behind, ran-goes, same-behind}
 use Rattle.bare_machine.proofs.Breakpoints.{avoids-next, met-there}
+use Rattle.bare_machine.proofs.WordCounts.{executed_sized}
 use Rattle.bare_machine.proofs.advances.pass_and_step.Goals as goal
 use Rattle.bare_machine.proofs.advances.pass_and_step.Goals.{else-steps-gt0-via-then-steps-gt0+else-is_met, else-steps-gt0-via-else-steps-gt0}
 
@@ -39,3 +40,12 @@ returns-then-is_met-clause-last c = ran-goes _ _ _ _ _ c.pass-steps.result c.pas
 
 pub returns-clause-last : goal.returns-clause-last
 returns-clause-last c = ran-goes _ _ _ _ _ c.pass-steps.result c.pass-steps.ensures.executes _ refl (c.pass-steps.result + 1 - 1) (omega arith)
+
+pub returns-then-steps-most-clause-sound : goal.returns-then-steps-most-clause-sound
+returns-then-steps-most-clause-sound c = record { byte = c.pass-steps.ensures.byte; steps = omega (arith, c.requires.steps, c.pass-steps.ensures.most); size = executed_sized _ _ _ _ _ c.pass-steps.ensures.executes c.requires.sound.size }
+
+pub returns-then-is_met-clause-sound : goal.returns-then-is_met-clause-sound
+returns-then-is_met-clause-sound c = record { byte = c.pass-steps.ensures.byte; steps = omega (arith, c.requires.steps, c.pass-steps.ensures.most); size = executed_sized _ _ _ _ _ c.pass-steps.ensures.executes c.requires.sound.size }
+
+pub next_step-stop-requires-clause-sound : goal.next_step-stop-requires-clause-sound
+next_step-stop-requires-clause-sound c = record { byte = c.pass-steps.ensures.byte; steps = omega (arith, c.requires.steps, c.pass-steps.ensures.most); size = executed_sized _ _ _ _ _ c.pass-steps.ensures.executes c.requires.sound.size }

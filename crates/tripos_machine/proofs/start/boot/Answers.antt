@@ -5,7 +5,11 @@ use Rattle.tripos_machine.specs.State.State.{Bare, Full}
 use Rattle.tripos_machine.specs.Step.{of_kernel, quietly}
 use Rattle.history_law.proofs.Shown.MachineBoot.BootedKernels.{booted-events}
 use Rattle.tripos_machine.proofs.BootedSteps.{all-to-come, bare-goes, bare-no-steps, boot-bare, boot-full, booted-steps}
+use Rattle.bare_machine.proofs.WordCounts.{any-size}
 use Rattle.tripos_machine.proofs.start.boot.Goals as goal
+
+pub boot-requires : goal.boot-requires
+boot-requires c = any-size c.args.session.now.version c.args.session.now.store c.requires.store
 
 pub returns-then-session : goal.returns-then-session
 returns-then-session c =

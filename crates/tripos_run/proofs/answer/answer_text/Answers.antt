@@ -1,6 +1,6 @@
 use Rattle.std.proofs.Common.{refl}
 use Rattle.tripos_run.specs.InputAnswers.{IsTextAnswer}
-use Rattle.tripos_run.specs.declared.commands.Command.TheVariants.{Run, Dump, Trace, Asm, Disasm, Debug, Save, Ring}
+use Rattle.tripos_run.specs.declared.commands.Command.TheVariants.{Run, Dump, Trace, Asm, Disasm, Debug, Ring}
 use Rattle.program_answers.proofs.AnswerParts.{Answered-by}
 use Rattle.tripos_run.proofs.answer.answer_text.Goals as goal
 
@@ -21,9 +21,6 @@ returns-in-Disasm-clause-answer g c = rw c.in-Disasm.is (Answered-by (IsTextAnsw
 
 pub returns-in-Debug-clause-answer : goal.returns-in-Debug-clause-answer
 returns-in-Debug-clause-answer g c = rw c.in-Debug.is (Answered-by (IsTextAnswer Debug c.args.text.now) _ refl _ _ c.answer_debugging.result c.answer_debugging.ensures.answer)
-
-pub returns-in-Save-clause-answer : goal.returns-in-Save-clause-answer
-returns-in-Save-clause-answer g c = rw c.in-Save.is (Answered-by (IsTextAnswer Save c.args.text.now) _ refl _ _ c.answer_saving.result c.answer_saving.ensures.answer)
 
 pub returns-in-Ring-clause-answer : goal.returns-in-Ring-clause-answer
 returns-in-Ring-clause-answer g c = rw c.in-Ring.is (Answered-by (IsTextAnswer Ring c.args.text.now) _ refl _ _ c.answer_ring.result c.answer_ring.ensures.answer)

@@ -3,11 +3,11 @@ use Rattle.std.proofs.lemmas.Result.{err_from_is_err_and}
 use Rattle.tripos_machine.specs.State.{steps_of}
 use Rattle.tripos_machine.proofs.Histories.{has-history}
 use Rattle.tripos_machine.proofs.StateRuns.{run-steps}
-use Rattle.tripos_machine.proofs.RunParts.{cut-gathered, cut-more, cut-then, ends-all, ends-stopped, gathered-all, gathered-ended, gathered-none, gathered-then, no-stop, ran-all, ran-ended, ran-none, ran-then, rose-later}
+use Rattle.tripos_machine.proofs.RunParts.{cut-gathered, cut-more, cut-then, ends-all, ends-stopped, gathered-all, gathered-ended, gathered-none, gathered-then, left-last, left-more, no-stop, ran-all, ran-ended, ran-none, ran-then, rose-later}
 use Rattle.tripos_machine.proofs.machine.Machine.run.Goals as goal
 
 pub loop-taken-init : goal.loop-taken-init
-loop-taken-init g c = record { few = omega arith; ran = ran-none c.args.self.now.state _ _; works = c.requires.works; gathered = gathered-none c.args.self.now.state _ _; later = omega arith; keys = refl }
+loop-taken-init g c = record { few = omega arith; ran = ran-none c.args.self.now.state _ _; works = c.requires.works; gathered = gathered-none c.args.self.now.state _ _; later = omega arith; output = inl (refl, refl); keys = refl }
 
 pub returns-in-Some-clause-end : goal.returns-in-Some-clause-end
 returns-in-Some-clause-end g c =
@@ -74,6 +74,7 @@ loop-taken-preserved g c =
       works = sym c.failed.ensures ∙ c.if-failed.false;
       gathered = gathered-then s c.loop-taken.taken m _ _ _ _ _ kept.ran kept.gathered (c.output.ensures ∙ c.advance-taken.ensures.output) c.in_ok-gather.ensures.text;
       later = omega (arith, kept.later, c.in_ok-gather.ensures.cause.later);
+      output = left-last c.loop-taken.taken m _ s _ _ _ _ kept.ran.state c.advance-taken.ensures.some (omega arith) c.advance-taken.ensures.last c.advance-taken.ensures.state c.advance-taken.ensures.output;
       keys = c.advance-taken.ensures.keys ∙ kept.keys;
     }
 
@@ -100,3 +101,21 @@ returns-then-failed-clause-history g c = λ i few. has-history i c.args.self.now
 
 pub returns-clause-history : goal.returns-clause-history
 returns-clause-history g c = λ i few. has-history i c.args.self.now.state c.know_sound.ensures (omega (arith, c.requires.steps, few))
+
+pub returns-in-Some-clause-output : goal.returns-in-Some-clause-output
+returns-in-Some-clause-output g c = left-more c.loop-taken.taken c.args.n _ _ _ _ c.loop-taken.invariant.few c.loop-taken.invariant.output
+
+pub returns-in_err-gather-clause-output : goal.returns-in_err-gather-clause-output
+returns-in_err-gather-clause-output g c =
+    let kept = c.loop-taken.invariant in
+    left-last c.loop-taken.taken c.advance-taken.result c.args.n c.args.self.now.state _ _ _ _ kept.ran.state c.advance-taken.ensures.some
+    (omega (arith, kept.few, c.advance-taken.ensures.most)) c.advance-taken.ensures.last c.advance-taken.ensures.state c.advance-taken.ensures.output
+
+pub returns-then-failed-clause-output : goal.returns-then-failed-clause-output
+returns-then-failed-clause-output g c =
+    let kept = c.loop-taken.invariant in
+    left-last c.loop-taken.taken c.advance-taken.result c.args.n c.args.self.now.state _ _ _ _ kept.ran.state c.advance-taken.ensures.some
+    (omega (arith, kept.few, c.advance-taken.ensures.most)) c.advance-taken.ensures.last c.advance-taken.ensures.state c.advance-taken.ensures.output
+
+pub returns-clause-output : goal.returns-clause-output
+returns-clause-output g c = left-more c.loop-taken.taken c.args.n _ _ _ _ c.loop-taken.invariant.few c.loop-taken.invariant.output

@@ -1,6 +1,6 @@
 use Rattle.std.proofs.Common.{◌≡◌, ◌-◌, ◌≤◌, false}
 use Rattle.tp_io.specs.Pending.{IsGathered}
-use Rattle.tripos_machine.specs.Runs.{HasRun}
+use Rattle.tripos_machine.specs.Runs.{HasRun, LeavesOutput}
 use Rattle.tripos_machine.specs.Step.{run}
 use Rattle.tripos_machine.proofs.machine.Machine.run.Given as goal
 
@@ -11,6 +11,7 @@ invariant-loop-taken g l = record {
   works : g.L.EventLog.has_failed l.log ≡ false;
   gathered : IsGathered (g.K.Sink.holds l.fn.out) (g.K.Sink.holds l.out) l.fn.pending l.pending (run l.taken l.fn.self.state).bytes;
   later : g.K.Sink.faults l.fn.out ≤ g.K.Sink.faults l.out;
+  output : LeavesOutput l.taken l.fn.self.state l.self.state l.fn.self.output l.self.output;
   keys : l.self.keys ≡ l.fn.self.keys;
 }
 

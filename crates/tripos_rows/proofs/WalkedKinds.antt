@@ -1,0 +1,10 @@
+-- The lists of a machine's store can be walked.
+use Rattle.kernel_dispatch.specs.KernelModel.KernelRanges.{CanWalkLists}
+use Rattle.kernel_dispatch.proofs.Shown.KernelModel.WalkedLists.{can-walk}
+use Rattle.tripos_machine.specs.KernelMachine.declared.parts.Parts.{Parts}
+use Rattle.tripos_machine.specs.State.{IsSound, StandsFull, State}
+use Rattle.tripos_machine.specs.State.State.{Bare, Full}
+
+pub walks : (p : Parts) (s : State) → StandsFull p s → IsSound s → CanWalkLists p.store
+walks p (Bare m) stands sound = absurd stands
+walks p (Full k) stands sound = can-walk p.store k.lists (record { valid = sound.lists; size = stands.image.size; holds = stands.image.holds })
