@@ -106,15 +106,13 @@ function name_task(t, a) {
 
 # ---- the step
 
-# The call, with its answer; one that faults is none.
+# The call, with its answer.
 function tell_call(name, argument, n) {
     name = call
     sub(/\(.*/, "", name)
     n = substr(call, length(name) + 2)
     sub(/\)$/, "", n)
     n = split(n, argument, ", ")
-    # where one of these goes on, B is 0
-    if (name ~ /^(callco|resumeco|cowait)$/ && answer == 0 && second > 0) refusal = "code " second ", " meaning["call", second]
     if (refusal != "") {
         if (name == "qpkt" && refusal ~ /^code 4,/) { read_store(step); refusal = refusal "; its word 1 is " signed(word_at(argument[1] + 1)) }
         write_line("refused", "", call ": " refusal)
@@ -174,7 +172,7 @@ function tell_step(i, last, w) {
     last = turn_end()
     if (dies) tell_death()
     else if (instruction != "") write_line("step", "", instruction)
-    if (call != "" && fault == "" && stop !~ /^fault/) tell_call()
+    if (call != "") tell_call()
     for (i = 1; i < last && event[i] !~ /^take the (clock|keyboard|output) /; i++) tell_event(i)
     if (fault != "") { split(fault, w, " "); tell_fault(w[1], w[3], "the task is held") }
     if (i >= last || event[i] !~ /^take the output /) tell_console()
@@ -200,7 +198,7 @@ function begin_step() {
     instruction = call = answer = second = refusal = fault = console = key = ""
 }
 
-# The words behind the first five of the line.
+# The words after the first five of the line.
 function rest() {
     return substr($0, length($1 $2 $3 $4 $5) + 6)
 }

@@ -45,7 +45,7 @@ function asking(command, step) {
     return "sed 's/^GO [0-9][0-9]*/GO " step "/' \"$SESSION\" | \"$TRIPOS\" " command " 2> /dev/null"
 }
 
-# ---- the words of the store after a step; what was written to the console stands before the last closing line
+# ---- the words of the store after a step; what was written to the console is before the last closing line
 
 function read_store(step, from, line, at) {
     if (store_step == "at " step) return

@@ -1,5 +1,5 @@
 # The picture of a run, from the lines of bin/log. A column is the lane of a task or device, and a row is a step in which something
-# happened. The words of a row stand in a column of their own, so that no text is over another.
+# happened. The words of a row are in a column of their own, so that no text is over another.
 
 function escaped(text) {
     gsub(/&/, "\\&amp;", text)
@@ -399,7 +399,7 @@ END {
     sort_lanes()
     y = 20
     page_end = 1060
-    # the body is drawn first, since its height stands in front of it
+    # the body is drawn first, since its height is in front of it
     print "<rect x=\"0\" y=\"0\" width=\"760\" height=\"HEIGHT\" fill=\"#fff\"/>"
     style()
     text(8, y, title, "title")

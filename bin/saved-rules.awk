@@ -60,7 +60,7 @@ function root_stands(    i) {
     if (residents) fixed(112, 201, "the address of the words of the residents, or 0 where there are none,")
     for (i = 113; i <= 119; i++) fixed(i, 0, "a word of the root node that has no use")
     fixed(120, top, "the highest number of a task in version " w(111))
-    for (i = 121 + top; i <= 183; i++) fixed(i, 0, "an entry of the task table behind the highest number")
+    for (i = 121 + top; i <= 183; i++) fixed(i, 0, "an entry of the task table after the highest number")
     fixed(size - 2, 0, "the end word")
 }
 
@@ -88,7 +88,7 @@ function blocks_tile(    a, before) {
         a += block_size[blocks]
         before = block_name(blocks) " ends at " a
     }
-    if (a != size - 2) breaks(before ", behind the end word at " (size - 2))
+    if (a != size - 2) breaks(before ", after the end word at " (size - 2))
 }
 
 # the block that has the word at p among its data, or 0
@@ -235,7 +235,7 @@ function tasks_stand(    i, t, id, before) {
         t = node["chain", i]
         before = node["chain", i - 1]
         if (w(t + 2) >= w(before + 2))
-            breaks("priorities fall along the chain, and task " w(t + 1) " with " w(t + 2) " stands behind task " w(before + 1) \
+            breaks("priorities fall along the chain, and task " w(t + 1) " with " w(t + 2) " is after task " w(before + 1) \
                 " with " w(before + 2))
     }
     for (id = 1; id <= 4; id++) {
@@ -398,7 +398,7 @@ function queues_stand(    i, t, p, before) {
         before = node["clock", i - 1]
         if (w(p + 4) < w(before + 4))
             breaks("due ticks never fall along the queue of the clock, and the packet at " p " is due at " w(p + 4) \
-                ", behind the one at " before ", which is due at " w(before + 4))
+                ", after the one at " before ", which is due at " w(before + 4))
     }
     key_queued = ("packet", 271) in met
     if (residents && !key_queued && w(271) != minus_1)
@@ -558,10 +558,10 @@ function disc_stands(    i, n) {
 function stream_stands(i, k, name, position,    bytes, j) {
     if (!(name in number_of_file)) breaks("stream " k " is open on " name ", and there is no such file")
     bytes = file_size[number_of_file[name]]
-    if (position > bytes) breaks("stream " k " stands at " position " in " name ", which has " count(bytes, "byte", "bytes"))
+    if (position > bytes) breaks("stream " k " is at " position " in " name ", which has " count(bytes, "byte", "bytes"))
     if (!stream_writes[i]) return
     if (position != bytes)
-        breaks("stream " k " writes " name " and stands at " position ", and one that writes stands at the end, at " bytes)
+        breaks("stream " k " writes " name " and is at " position ", and one that writes is at the end, at " bytes)
     for (j = 1; j <= streams; j++)
         if (j != i && stream_file[j] "" == name "")
             breaks("stream " k " writes " name ", and stream " stream_number[j] " is open on that file, too")
@@ -602,7 +602,7 @@ function kernel_stands() {
     running_is_there()
     coroutines_stand()
     heads_stand()
-    if (residents) has_block(201, reporter ? 114 : 86, "task 1, with all words of the residents behind it,")
+    if (residents) has_block(201, reporter ? 114 : 86, "task 1, with all words of the residents after it,")
     queues_stand()
     resident_words_stand()
     numbers_agree()

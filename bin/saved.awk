@@ -21,7 +21,7 @@ function shown(text) {
 }
 
 function expect(what) {
-    refuse(NR, "expected " what ", and here stands " shown($0), 1)
+    refuse(NR, "expected " what ", but found " shown($0), 1)
 }
 
 function count(n, one, more) {
@@ -60,12 +60,12 @@ function is_name(text) {
     return is_field(text) && length(text) <= 12 && text !~ /[^A-Za-z0-9._-]/
 }
 
-# The parts of a line behind its first word, in part[]: so many, the first ones numbers.
+# The parts of a line after its first word, in part[]: so many, the first ones numbers.
 function has_parts(word, parts, numbers,    i) {
     if (split(substr($0, length(word) + 2), part, "[ ]") != parts) return 0
     for (i = 1; i <= numbers; i++) {
         if (!is_number(part[i])) return 0
-        # some awks take digits behind a 0 for octal ones
+        # some awks take digits after a 0 for octal ones
         sub(/^0+/, "", part[i])
         part[i] += 0
     }
@@ -74,12 +74,12 @@ function has_parts(word, parts, numbers,    i) {
 
 function range(what, n, least, most) {
     if (n < least || n > most)
-        refuse(NR, what " is " (least == 0 && most == 1 ? "0 or 1" : "from " least " to " most) ", and here stands " n, 2)
+        refuse(NR, what " is " (least == 0 && most == 1 ? "0 or 1" : "from " least " to " most) ", but found " n, 2)
 }
 
 function lawful(name) {
     if (!is_name(name))
-        refuse(NR, "a name has 1 to 12 bytes, which are letters, digits, \"-\", \".\" and \"_\", and here stands " shown(name), 2)
+        refuse(NR, "a name has 1 to 12 bytes, which are letters, digits, \"-\", \".\" and \"_\", but found " shown(name), 2)
 }
 
 # The number of a line that is a word and a number.
@@ -94,7 +94,7 @@ function word_of(digits) {
         + byte_of[substr(digits, 5, 2)] * 256 + byte_of[substr(digits, 7, 2)]
 }
 
-# What may stand here, where files, streams and all else are told.
+# What may be here, where files, streams and all else are told.
 function expected_here() {
     return at == 9 && files > 0 && file_size[files] % 32 == 0 ? "bytes of the file " file_name[files] ", or " expected[9] : expected[at]
 }
@@ -108,7 +108,7 @@ function head_line() {
         most_words = version == 1 ? 262144 : 4194304
     } else if (at == 2) {
         size = number_line("STORE", "the number of words in version " version, 1024, most_words)
-        if (size % 2 == 1) refuse(NR, "the number of words is even, and here stands " size, 2)
+        if (size % 2 == 1) refuse(NR, "the number of words is even, but found " size, 2)
     } else if (at == 3) {
         bare = $0 == "BARE"
         if (!bare) period = number_line("TICK", "the period", 1, 1000000)
@@ -159,7 +159,7 @@ function file_line(name) {
     if (at > 9) expect(expected[at])
     # the letter before them keeps an awk from comparing names as numbers
     if (files > 0 && !("n" file_name[files] < "n" name))
-        refuse(NR, "the names of files rise in byte order, and " shown(name) " is not behind " file_name[files], 1)
+        refuse(NR, "the names of files rise in byte order, and " shown(name) " is not after " file_name[files], 1)
     lawful(name)
     file_name[++files] = name
     file_size[files] = 0
@@ -172,7 +172,7 @@ function byte_line(    n) {
     if (at > 9 || files == 0) expect(expected[at])
     if (file_size[files] % 32 != 0)
         refuse(NR, "expected no more bytes of " file_name[files] \
-            ", since the line before has fewer than 32, and here stands " shown($0), 1)
+            ", since the line before has fewer than 32, but found " shown($0), 1)
     file_size[files] += n
 }
 
@@ -230,7 +230,7 @@ function word_line(    a, w) {
     a = part[1]
     w = word_of(part[2])
     if (a < floor_of_words) refuse(NR, "the addresses of words rise, and " a " is not above " (floor_of_words - 1), 1)
-    if (a >= size) refuse(NR, "a store of " size " words has the addresses 0 to " (size - 1) ", and here stands " a, 2)
+    if (a >= size) refuse(NR, "a store of " size " words has the addresses 0 to " (size - 1) ", but found " a, 2)
     if (w == 0) refuse(NR, "only a word that is not 0 has a line, and here word " a " is 0", 2)
     word[a] = w
     floor_of_words = a + 1
@@ -271,7 +271,7 @@ BEGIN {
     expected[11] = "a PIPE, KEY, W or GO line"
     expected[12] = "a KEY, W or GO line"
     expected[13] = "a W or GO line"
-    expected[14] = "the end of the text behind the GO line"
+    expected[14] = "the end of the text after the GO line"
     at = 1
 }
 

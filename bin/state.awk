@@ -110,7 +110,7 @@ function why(f) {
 
 function where(words) {
     words = "PC is " (bare ? pc : place_of(pc))
-    if (closing ~ /^quit /) { print (bare ? "" : task_name(running) " ran last; ") words (bare && pc == 0 ? "" : ", behind the SYS"); return }
+    if (closing ~ /^quit /) { print (bare ? "" : task_name(running) " ran last; ") words (bare && pc == 0 ? "" : ", after the SYS"); return }
     words = words (next_words == "" ? "" : "; the instruction there is " next_words)
     if (bare) print words
     else if (closing == "the shell has finished") print "the shell has ended the run"
@@ -121,7 +121,7 @@ function where(words) {
     }
 }
 
-# A part of a list of counts: so many that do this, with a comma before it where a part stands before.
+# A part of a list of counts: so many that do this, with a comma before it where a part is before.
 function part_of(count, before, one, many) {
     return count ? (before ? ", " : "") count " " (count == 1 ? one : many) : ""
 }

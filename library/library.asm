@@ -1,6 +1,6 @@
 ; A library for guests: characters, numbers, strings, vectors, packets, the clock, files
 ; and lines of the console. In version 2 it is a module beside the program's own; in
-; version 1 its text is put behind the program's. The program calls a function by its
+; version 1 its text is put after the program's. The program calls a function by its
 ; global, as K8G 202, with the first argument in A, and finds the answer in A.
 ;
 ; Global 239 is the second result of the last request or call: 0, or the code with which
@@ -188,7 +188,7 @@ freevecs: LG 248
         J freevecs
 freend: RTN
 
-; compare(s, t): A := -1, 0 or 1: the string s comes before t, is t, or comes behind it.
+; compare(s, t): A := -1, 0 or 1: the string s comes before t, is t, or comes after it.
 compare: L0
         GBYT
         SP5

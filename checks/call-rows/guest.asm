@@ -1,6 +1,6 @@
 ; Goes through a table of calls. For each row it writes the call's name and its arguments, makes it, and writes what came back:
 ; " = " and A, or " code " and B. Where another task goes on than the one that wrote last, it writes that task's number first.
-; A row is four words: the number, and three arguments. Behind the numbers of the kernel's calls stand those of the guest itself:
+; A row is four words: the number, and three arguments. After the numbers of the kernel's calls are those of the guest itself:
 ; 24 writes a word, 25 looks at one, 26 returns, and from 30 on the file handler is asked, with the type 20 less.
 start:      SL$ pa              ; what came back
             XCH

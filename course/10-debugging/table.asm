@@ -1,4 +1,4 @@
-; Copies six numbers into a work table, and writes them, a mark, a ! that stands behind
+; Copies six numbers into a work table, and writes them, a mark, a ! that is after
 ; the work table, and in the next line their sum. Three lines are wrong.
 
         J begin

@@ -10,7 +10,7 @@ GLOBAL 33 find          ; {find}
 ; A := how many characters s has.
 length: RTN
 
-; A := -1, 0 or 1: s comes before t, is t, or comes behind t.
+; A := -1, 0 or 1: s comes before t, is t, or comes after t.
 compare: RTN
 
 ; t becomes s. A := t.

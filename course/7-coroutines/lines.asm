@@ -1,5 +1,5 @@
 ; Writes a text in lines of 8 characters. A coroutine, the producer, hands on the
-; characters of the text, one at a time, and 0 behind the last one; two stars are one
+; characters of the text, one at a time, and 0 after the last one; two stars are one
 ; character, a #. Another one, the consumer, makes lines of what it gets.
 
 GLOBAL 1 start

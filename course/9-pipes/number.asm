@@ -1,5 +1,5 @@
 ; Reads the pipe b, and writes its lines to the console, each with its number and a blank
-; before it. It closes the pipe behind the last byte, and returns.
+; before it. It closes the pipe after the last byte, and returns.
 
 GLOBAL 1 start
 GLOBAL 30 ask

@@ -1,5 +1,5 @@
 ; Reads the pipe a, and writes what it reads into the pipe b, with capitals in the place
-; of small letters. It closes both pipes behind the last byte, and returns.
+; of small letters. It closes both pipes after the last byte, and returns.
 
 GLOBAL 1 start
 GLOBAL 30 ask

@@ -10,7 +10,7 @@
         SP4
         LLL list        ; P!5 := the address of the next number
         SP5
-        LLL list        ; P!6 := how many there are, which stands before them
+        LLL list        ; P!6 := how many there are, which is before them
         RV
         SP6
         SP7             ; P!7 := how many are left

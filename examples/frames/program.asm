@@ -4,7 +4,7 @@
 ; K4 in frames at P+4, words 112, 116 and 120. A frame has the caller's P, the
 ; address to return to, the function and the argument. The last argument is 0,
 ; and a dump leaves out the words that are 0. Word 104 is the argument of the
-; call that stops the machine, and from word 200 on stands the program.
+; call that stops the machine, and from word 200 on is the program.
 
         L3              ; A := 3 factorial
         LF fact
@@ -24,4 +24,4 @@ more:   S1              ; n factorial is n times the factorial of n - 1
         MUL
         RTN
 
-; Try this: use K8 for the inner calls too, and see where the frames stand then.
+; Try this: use K8 for the inner calls too, and see where the frames are then.

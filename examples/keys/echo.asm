@@ -44,4 +44,4 @@ ask:    SP4             ; qpkt(packet)
 ; can be sent again as they are.
 ;
 ; Try this: give the debugger the lines STEP 46, STEP 1 and STEP 253, with TASKS
-; behind each. The task waits from step 47 to step 300, when the next keys come.
+; after each. The task waits from step 47 to step 300, when the next keys come.

@@ -3,7 +3,7 @@
 ; A relative operand is one byte, so J reaches 128 bytes back and 127 ahead. J$
 ; goes through a halfword nearby, which RES reserves and which leads up to 32,767
 ; bytes away. The label in J$ is that of the RES line, and RES names the target.
-; The RES line stands behind the J$, where no instruction runs into it.
+; The RES line is after the J$, where no instruction runs into it.
 
         J$ over
 over:   RES start

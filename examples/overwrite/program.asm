@@ -1,5 +1,5 @@
-; Fills a table with the letters A to E, and writes it and the mark that stands
-; behind it. It is to write ABCDE!, and writes ABCDEF: it has a fault, which the
+; Fills a table with the letters A to E, and writes it and the mark that is
+; after it. It is to write ABCDE!, and writes ABCDEF: it has a fault, which the
 ; manual finds by going back from the end.
 ;
 ; ST writes B into the word at A. Both stay as they are.
@@ -17,7 +17,7 @@ fill:   LP5             ; the word := the letter
         LP5             ; and to the next letter
         A1
         SP5
-        L 70            ; once more, if it is not behind the last one
+        L 70            ; once more, if it is not after the last one
         JLE fill
 
         L 19            ; P!3 := 19, the call that writes a character

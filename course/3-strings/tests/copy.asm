@@ -13,7 +13,7 @@ start:  LLL long
         SYS
 
 ; Copies the string in A into the vector, which is full of dots before, and writes its
-; length, a blank and its characters, and below them the six bytes behind them.
+; length, a blank and its characters, and below them the six bytes after them.
 copied: SP5             ; P!5 := the string
         L1
         SP6
@@ -53,7 +53,7 @@ right:  LLL vector      ; P!6 := the length
         SP5
 next:   LP5             ; writes the characters
         LP6
-        JEQ behind
+        JEQ after
         LP5
         A1
         SP5
@@ -63,7 +63,7 @@ next:   LP5             ; writes the characters
         LF write
         K8
         J next
-behind: L10
+after: L10
         LF write
         K8
         LP6             ; P!6 := the last one of the six bytes

@@ -20,7 +20,7 @@ start:  LLL five
         L 19
         SP3
         SYS
-        LF vector       ; the third one stands behind the program, of 200 characters
+        LF vector       ; the third one is after the program, of 200 characters
         K8
         K8G 30          ; {length}
         SP4             ; quit with it

@@ -61,7 +61,7 @@ ask:    SG 22
         K8
         RTN
 
-; Writes the number in A in decimal; before one below 0 stands a -.
+; Writes the number in A in decimal; before one below 0 is a -.
 print:  JGE0 digits
         L 45
         LF wrch

@@ -41,7 +41,7 @@ ask:    SG 22
         SYS
         RTN
 
-; Writes the number in A in decimal; before one below 0 stands a -.
+; Writes the number in A in decimal; before one below 0 is a -.
 print:  JGE0 digits
         L 45
         LF wrch

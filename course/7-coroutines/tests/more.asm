@@ -14,4 +14,4 @@ text:   DB 11
         DB 42
         DB 99
         DB 42
-        DB 42           ; a star behind the text
+        DB 42           ; a star after the text

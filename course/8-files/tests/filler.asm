@@ -40,13 +40,13 @@ next:   ATC             ; the name := it
         LP5
         A1
         SP5
-        L 91            ; behind Z comes a
+        L 91            ; after Z comes a
         JNE on
         L 97
         J set
 on:     XCH
 set:    SP5
-        L 123           ; and behind z come digits
+        L 123           ; and after z come digits
         JNE more
         L 48
         SP5

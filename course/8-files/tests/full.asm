@@ -12,7 +12,7 @@ start:  LM1             ; the packet is globals 20 to 27: its link is -1,
         K8
         LG 23           ; the stream
         SG 25
-        LLG 0           ; what is appended are words that stand here anyhow
+        LLG 0           ; what is appended are words that are here anyhow
         SG 26
         LH 4096         ; 4,096 bytes each time, until they are refused,
         LF append

@@ -20,7 +20,7 @@ line:   LP5             ; writes the number
         LP5             ; the next number
         A1
         SP5
-        L 11            ; {last}: on, if it is not behind the last one
+        L 11            ; {last}: on, if it is not after the last one
         JLE line
 
         L0              ; call 0: stop with 0

@@ -11,7 +11,7 @@ GLOBAL 21 print
 value:  JEQ0 zero
         S1
         JEQ0 one
-        LF value        ; P!4 := value(k - 1), in a frame behind P!4
+        LF value        ; P!4 := value(k - 1), in a frame after P!4
         K5
         SP4
         LP3             ; A := value(k - 2)

@@ -12,7 +12,7 @@ length: L0              ; its byte 0
         GBYT
         RTN
 
-; A := -1, 0 or 1: s comes before t, is t, or comes behind t. P!5 and P!6 are the
+; A := -1, 0 or 1: s comes before t, is t, or comes after t. P!5 and P!6 are the
 ; lengths, and P!7 is how many characters are the same so far.
 compare: L0
         GBYT
@@ -28,7 +28,7 @@ same:   LP7             ; s has no more characters
         JEQ ends
         LP7             ; t has no more characters
         LP6
-        JEQ behind
+        JEQ after
         LP7             ; the next character of each
         A1
         SP7
@@ -42,7 +42,7 @@ same:   LP7             ; s has no more characters
         LP8             ; B := that of s, A := that of t
         JEQ same
         JLS before
-behind: L1
+after: L1
         RTN
 ends:   LP7             ; equal, if t has no more characters either
         LP6

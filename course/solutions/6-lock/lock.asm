@@ -51,11 +51,11 @@ wait:   L0              ; else the packet is the last one that waits
         ST3
         LP5
         LG 12
-        JNE0 behind
+        JNE0 after
         LP5
         SG 12
         J last
-behind: LP5
+after: LP5
         LG 13
         ST3
 last:   LP5

@@ -1,5 +1,5 @@
 ; Writes a text in lines of 8 characters. A coroutine, the producer, hands on the
-; characters of the text, one at a time, and 0 behind the last one; two stars are one
+; characters of the text, one at a time, and 0 after the last one; two stars are one
 ; character, a #. Another one, the consumer, makes lines of what it gets.
 
 GLOBAL 1 start
@@ -35,7 +35,7 @@ produce: LG 50          ; {text}: P!6 := the word address of the text
         SP7
         L0
         SP8
-next:   LP8             ; behind the last character comes 0
+next:   LP8             ; after the last character comes 0
         LP7
         JEQ end
         LP8             ; P!9 := the next character
@@ -50,7 +50,7 @@ next:   LP8             ; behind the last character comes 0
         LP8             ; and not the last character,
         LP7
         JEQ hand
-        LP6             ; with another star behind it?
+        LP6             ; with another star after it?
         LP8
         A1
         GBYT

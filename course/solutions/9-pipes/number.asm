@@ -1,5 +1,5 @@
 ; Reads the pipe b, and writes its lines to the console, each with its number and a blank
-; before it. It closes the pipe behind the last byte, and returns.
+; before it. It closes the pipe after the last byte, and returns.
 ;
 ; Global 10 is the handle, global 11 the number of the line, and global 12 is 1 at the
 ; beginning of a line. The buffer is the globals from 100 on.

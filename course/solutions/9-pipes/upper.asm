@@ -1,5 +1,5 @@
 ; Reads the pipe a, and writes what it reads into the pipe b, with capitals in the place
-; of small letters. It closes both pipes behind the last byte, and returns.
+; of small letters. It closes both pipes after the last byte, and returns.
 ;
 ; Globals 10 and 11 are the handles. The buffer is the globals from 100 on.
 

@@ -1,0 +1,294 @@
+// Drives the page in a headless Chromium as a user does, and compares what it shows with what the programs answer in node.
+import { mkdtempSync, readFileSync, rmSync } from 'node:fs';
+import { tmpdir } from 'node:os';
+import { dirname, join } from 'node:path';
+import { fileURLToPath } from 'node:url';
+import { gunzipSync } from 'node:zlib';
+import { files_of_archive } from '../src/files.js';
+import { run } from '../src/program.js';
+import { start } from './chromium.js';
+
+const page = process.argv[2] ?? join(dirname(fileURLToPath(import.meta.url)), '../page.html');
+const html = readFileSync(page, 'latin1');
+const part = (id) => Buffer.from(new RegExp(`id="${id}">([^<]*)<`).exec(html)[1], 'base64');
+const modules = Object.fromEntries(['tripos', 'tripos_show'].map((name) => [name, new WebAssembly.Module(gunzipSync(part(`program-${name}`)))]));
+const map = files_of_archive(gunzipSync(part('files')));
+const answered = (program, words, input) => Buffer.from(run(modules[program], words, new TextEncoder().encode(input)).bytes).toString('latin1');
+const before_closing = (text) => text.replace(/\n\* stopped after [^\n]*\n$/, '');
+
+const failures = [];
+let tries = 0;
+function same(what, shown, wanted) {
+  tries += 1;
+  if (shown !== wanted) failures.push(`${what}: the page shows ${JSON.stringify(shown)?.slice(0, 300)}, and not ${JSON.stringify(wanted)?.slice(0, 300)}`);
+}
+
+const folder = mkdtempSync(join(tmpdir(), 'ways-'));
+const tab = await start({ width: 1366, height: 768 });
+
+const text_of = (selector) => tab.value(`document.querySelector(${JSON.stringify(selector)})?.textContent`);
+const value_of = (selector) => tab.value(`document.querySelector(${JSON.stringify(selector)})?.value`);
+const ready = () => tab.until("document.body.dataset.ready === 'yes'", 10);
+
+async function go(view) {
+  await tab.click(`#way-${view}`);
+  await tab.until(`document.body.dataset.view === '${view}'`);
+}
+
+async function set(selector, value, kind = 'input') {
+  await tab.value(`(() => { const it = document.querySelector(${JSON.stringify(selector)}); it.value = ${JSON.stringify(value)}; it.dispatchEvent(new Event('${kind}', { bubbles: true })); })()`);
+}
+
+/** The session that the page has now, once it is made. */
+async function session() {
+  await tab.click('#side-session');
+  await tab.until("document.getElementById('session').value.startsWith('TRIPOS')");
+  return value_of('#session');
+}
+
+async function run_page() {
+  await tab.click('#run');
+  await tab.until("/^[✓✕]/.test(document.getElementById('ending').textContent) && !document.getElementById('run').disabled");
+}
+
+/** Opens an example as a user does, and leaves what was changed. */
+async function open_example(name) {
+  await go('learn');
+  await tab.click(`[data-page="examples/${name}"]`);
+  await tab.until(`document.querySelector('.page h1')?.textContent === 'Example ${name}'`);
+  await tab.click('#open-example');
+  await tab.until(`document.body.dataset.view === 'programs' || document.querySelector('dialog[open]')`);
+  if (await tab.value("document.querySelector('dialog[open]') !== null")) await tab.click('dialog[open] .choices button:last-child');
+  await tab.until(`document.getElementById('title')?.value === 'Example ${name}'`);
+  await tab.until("/^[✓✕]/.test(document.getElementById('ending').textContent)");
+}
+
+const ways = {
+  async 'edit and run'() {
+    same('the first run', await text_of('#console'), 'ABC');
+    await tab.click('.file-tab:nth-child(2) button');
+    await tab.click('textarea[data-file="client.asm"]');
+    const text = (await value_of('textarea[data-file="client.asm"]')).replace('L 64 ', 'L 70 ').replace('L 67', 'L 73');
+    await tab.value("document.querySelector('textarea[data-file=\"client.asm\"]').select()");
+    await tab.type(text);
+    await tab.press('Control+Enter');
+    await tab.until("document.getElementById('console').textContent !== 'ABC'");
+    const made = await session();
+    same('what was edited', await text_of('#console'), before_closing(answered('tripos', ['run'], made)));
+    same('what it writes', await text_of('#console'), 'GHI');
+    await tab.value("document.querySelector('textarea[data-file=\"client.asm\"]').focus()");
+    await tab.value("document.execCommand('undo')");
+    same('what was typed can be undone', (await value_of('textarea[data-file="client.asm"]')).includes('L 64 '), true);
+  },
+
+  async 'an error at its line'() {
+    await open_example('hello');
+    await tab.value("document.querySelector('textarea[data-file=\"program.asm\"]').select()");
+    await tab.click('textarea[data-file="program.asm"]');
+    await tab.value("document.querySelector('textarea[data-file=\"program.asm\"]').select()");
+    const wrong = '        L 19\n        SP3\n        L 720\n        LOAD 1\n        SYS\n';
+    await tab.type(wrong);
+    await tab.until("document.querySelectorAll('.error-line').length === 2");
+    const [, line, code] = /line ([0-9]+) code ([0-9]+)/.exec(answered('tripos', ['asm'], wrong));
+    same('the line in error', await tab.value("document.querySelector('.error-line').dataset.line"), line);
+    same('its code', new RegExp(`code ${code}\\)`).test(await text_of('.error-line')), true);
+    same('what was expected', (await text_of('.error-line')).includes('L takes a number from 0 to 255'), true);
+    same('the mark at the line', await tab.value("[...document.querySelectorAll('.gutter .has-error')].map((it) => it.dataset.line).join()"), '3,4');
+    await tab.click('#run');
+    await tab.until("document.getElementById('ending').textContent.includes('program.asm, line 3')");
+    same('a refusal names the line', (await text_of('#problem')).includes('program.asm, line 3'), true);
+  },
+
+  async 'steps forth and back'() {
+    await open_example('recursion');
+    const made = await session();
+    await go('steps');
+    const at = async (step) => {
+      await tab.until(`document.getElementById('step').value === '${step}' && document.getElementById('slider').value === '${step}' && /After/.test(document.getElementById('said').textContent)`);
+      const wanted = /REGS (.*)/.exec(answered('tripos', ['debug'], `${made}STEP ${step}\nREGS\n`))[1];
+      const shown = await tab.value("['A', 'B', 'C', 'P', 'G', 'PC', 'T'].map((name) => `${name}=${document.querySelector(`[data-register=${name}]`).textContent}`).join(' ')");
+      same(`the registers after ${step} steps`, shown, wanted);
+    };
+    await set('#step', '12', 'change');
+    await at(12);
+    await tab.click('#forth');
+    await at(13);
+    await tab.click('#back');
+    await tab.until("document.getElementById('step').value === '12'");
+    await tab.click('#back');
+    await at(11);
+    const line = await tab.value("document.querySelector('.source .is-now').dataset.line");
+    same('the line of the next instruction is marked', Number(line) > 0, true);
+    // a breakpoint at this line, met again from the beginning
+    await tab.click('.source .is-now .number');
+    await tab.click('.controls button:first-child');
+    await tab.until("document.getElementById('step').value === '0'");
+    await tab.click('#go-on');
+    await tab.until("document.getElementById('step').value !== '0'");
+    same('the breakpoint is met at its line', await tab.value("document.querySelector('.source .is-now').dataset.line"), line);
+    const first = await value_of('#step');
+    await tab.click('#go-on');
+    await tab.until(`Number(document.getElementById('step').value) > ${first}`);
+    await tab.click('#go-back');
+    await tab.until(`document.getElementById('step').value === '${first}'`);
+    same('it was met last at the step before', await value_of('#slider'), first);
+    await set('#slider', '20');
+    await at(20);
+  },
+
+  async 'what happened'() {
+    await open_example('packets');
+    const made = await session();
+    await go('happened');
+    await tab.until("document.querySelector('svg.picture') && document.querySelectorAll('.spot').length > 5");
+    const log = answered('tripos_show', ['log'], made);
+    const written = [...log.matchAll(/ console "(.*)"$/gm)].map(([, letters]) => `writes "${letters}"`).join();
+    same('what is written is in the picture',
+      await tab.value("[...document.querySelectorAll('svg.picture text')].map((it) => it.textContent).filter((it) => it.startsWith('writes')).join()"), written);
+    const accepted = [...log.matchAll(/ accept packet /g)].length;
+    same('an arrow for each packet', await tab.value("document.querySelectorAll('svg.picture line.send, svg.picture line.return').length - 2"),
+      accepted);
+    await tab.click('.spot[data-step="24"]');
+    await tab.until("document.getElementById('cursor').value === '24' && document.getElementById('happened-said').textContent.startsWith('After 24 ')");
+    const told = answered('tripos_show', ['state'], made.replace(/^GO .*/m, 'GO 24'));
+    const tasks = [...told.matchAll(/^task ([0-9]+) at ([0-9]+), priority ([0-9]+)/gm)].map(([, number]) => `task ${number}`).join();
+    await tab.until(`[...document.querySelectorAll('#happened-state [data-part=tasks] strong')].map((it) => it.textContent).join() === ${JSON.stringify(tasks)}`);
+    same('the log is at the cursor', await tab.value("document.querySelector('#log .is-now').dataset.step"), '24');
+    same('the state is at the cursor', (await text_of('#happened-said')).includes('After 24 steps'), true);
+  },
+
+  async 'pictures'() {
+    const plain = (text) => text.replace(/&lt;/g, '<').replace(/&gt;/g, '>').replace(/&amp;/g, '&');
+    const joined = (lines) => lines.join(' ').replace(/\s+/g, ' ');
+    for (const path of [...map.keys()].filter((it) => it.endsWith('/picture.svg'))) {
+      const stored = String(map.get(path));
+      await open_example(path.split('/')[1]);
+      await go('happened');
+      await tab.until("document.querySelectorAll('svg.picture .spot').length > 5 && document.getElementById('happened-said').textContent !== ''");
+      const shown = JSON.parse(await tab.value("JSON.stringify(['step', 'words'].map((kind) => [...document.querySelectorAll(`svg.picture text.${kind}`)].map((it) => it.textContent)))"));
+      same(`the rows of ${path}`, shown[0].join(), [...stored.matchAll(/class="step end">([0-9]+)</g)].map(([, step]) => step).join());
+      const wanted = joined([...stored.matchAll(/class="words[^"]*">([^<]*)</g)].map(([,
+        words]) => plain(words))).replace(/the machine stopped after .*/, '');
+      same(`the words of ${path}`, joined(shown[1]).slice(0, wanted.length), wanted);
+    }
+  },
+
+  async 'the terminal'() {
+    await go('terminal');
+    await tab.until("document.getElementById('terminal').textContent.includes('>')");
+    await tab.click('#terminal');
+    for (const letter of 'hello') await tab.press(letter);
+    await tab.press('Enter');
+    await tab.until("/Hello\\n> /.test(document.getElementById('terminal').textContent)");
+    const shown = (await text_of('#terminal')).replace('▏', '');
+    await tab.click('#record');
+    await tab.until("document.body.dataset.view === 'programs' && document.getElementById('session').value.includes('KEY')");
+    const record = await value_of('#session');
+    same('the record writes the same', before_closing(answered('tripos', ['run'], record)), shown);
+  },
+
+  async 'a link'() {
+    await open_example('shell');
+    const made = await session();
+    await tab.until("location.hash.startsWith('#run=')");
+    await new Promise((resolve) => setTimeout(resolve, 700));
+    const hash = (await tab.value('location.hash')).slice(1);
+    await tab.value('localStorage.clear()');
+    await tab.open(page, hash);
+    await ready();
+    await tab.until("/^✓/.test(document.getElementById('ending').textContent)");
+    same('the session of the link', await session(), made);
+    same('its run', await text_of('#console'), before_closing(answered('tripos', ['run'], made)));
+  },
+
+  async 'a saved machine'() {
+    await open_example('packets');
+    const made = await session();
+    await go('saved');
+    await set('#save-at', '50');
+    await tab.click('#save-machine');
+    await tab.until("document.getElementById('saved-text').value.startsWith('TRIPOS-IMAGE')");
+    const saved = await value_of('#saved-text');
+    same('the saved machine', saved, answered('tripos', ['save'], made.replace(/^GO .*/m, 'GO 50')));
+    await tab.downloads(folder);
+    await tab.click('#saved-file');
+    await tab.click('#resume');
+    await tab.until("document.getElementById('saved-output').textContent !== ''");
+    same('what it goes on to write', await text_of('#saved-output'),
+      before_closing(answered('tripos', ['resume'], saved.replace(/^GO .*/m, 'GO 1000'))));
+    same('so the run is whole', `${before_closing(answered('tripos', ['run'], made.replace(/^GO .*/m, 'GO 50')))}${await text_of('#saved-output')}`,
+      before_closing(answered('tripos', ['run'], made)));
+  },
+
+  async 'all examples'() {
+    const names = [...new Set([...map.keys()].filter((path) => /^examples\/.*\/session$/.test(path)).map((path) => path.split('/')[1]))];
+    for (const name of names) {
+      await open_example(name);
+      same(`the session of ${name}`, await session(), String(map.get(`examples/${name}/session`)));
+      same(`${name} is made by the form`, await tab.value("document.getElementById('to-form').hidden"), true);
+    }
+  },
+
+  async 'the keys'() {
+    await tab.click('#new');
+    await tab.until("document.querySelector('dialog[open]') || document.getElementById('title').value === 'Untitled'");
+    if (await tab.value("document.querySelector('dialog[open]') !== null")) await tab.click('dialog[open] .choices button:last-child');
+    await tab.until("document.getElementById('title').value === 'Untitled'");
+    await tab.click('textarea[data-file="program.asm"]');
+    await tab.value("document.querySelector('textarea[data-file=\"program.asm\"]').select()");
+    await tab.press('Backspace');
+    for (const key of ['a', ':', 'Tab', 'L', '7', 'Enter', 'J', ' ', 'a']) await tab.press(key);
+    same('Tab and Enter keep the columns', await value_of('textarea[data-file="program.asm"]'), 'a:      L7\n        J a');
+    await tab.press('F9');
+    same('F9 sets a breakpoint', await tab.value("document.querySelector('.gutter .has-break')?.dataset.line"), '2');
+    await tab.press('Escape', 'Tab');
+    same('Esc and Tab leave the editor', await tab.value("document.activeElement.tagName"), 'BUTTON');
+    await tab.press('2');
+    await tab.until("document.body.dataset.view === 'steps' && document.getElementById('step').value === '0' && document.querySelector('[data-register=PC]')?.textContent === '800'");
+    await tab.press('ArrowRight');
+    await tab.until("document.getElementById('step').value === '1' && document.querySelector('[data-register=PC]').textContent === '801'");
+    await tab.press('?');
+    await tab.until("document.querySelector('dialog[open] .sheet')");
+    await tab.press('Escape');
+    same('the sheet of keys closes', await tab.value("document.querySelector('dialog[open]') === null"), true);
+    await tab.press('1');
+  },
+
+  async Stop() {
+    await open_example('loop');
+    await tab.click('textarea[data-file="program.asm"]');
+    await tab.value("document.querySelector('textarea[data-file=\"program.asm\"]').select()");
+    await tab.type('here:   J here\n');
+    await tab.click('#side-machine');
+    await set('[data-field="steps"]', '4000000000');
+    await tab.click('#run');
+    await tab.until("document.getElementById('run').disabled && !document.getElementById('stop').disabled");
+    await tab.click('#stop');
+    await tab.until("document.getElementById('ending').textContent.includes('Stopped')", 3);
+    same('Run can be pressed again', await tab.value("document.getElementById('run').disabled"), false);
+  },
+};
+
+try {
+  await tab.open(page);
+  await ready();
+  await tab.until("/^✓/.test(document.getElementById('ending').textContent)");
+  for (const [name, way] of Object.entries(ways)) {
+    const begin = Date.now();
+    try {
+      await way();
+    } catch (error) {
+      failures.push(`${name}: ${error.message}`);
+    }
+    if (process.argv.includes('-v')) console.log(`${name}: ${Date.now() - begin} ms`);
+  }
+  const errors = tab.said.filter((it) => it.startsWith('error'));
+  same('errors in the page', errors.join('\n'), '');
+  same('addresses asked for', tab.asked.filter((it) => !/^(file|blob|data|about):/.test(it)).join(), '');
+} finally {
+  await tab.close();
+  rmSync(folder, { recursive: true, force: true });
+}
+for (const failure of failures) console.log(failure);
+console.log(`page: ${tries - failures.length} of ${tries} looks at its ${Object.keys(ways).length} ways are right`);
+process.exitCode = failures.length === 0 ? 0 : 1;
