@@ -2,7 +2,7 @@
 use Rattle.std.proofs.Common.{◌≡◌, ◌∙◌, sym, ap, ℕ, ◌+◌, ◌-◌, ◌<◌, ◌≤◌, ◌⊎◌, inl, inr, false, List, [], arith}
 use Rattle.std.proofs.lemmas.Bool.{cases_lt}
 use Rattle.word_store.specs.declared.registers.Regs.{Regs}
-use Rattle.cint_exec.specs.Breakpoints.{has_breakpoint}
+use Rattle.instruction_set.specs.Breakpoints.{has_breakpoint}
 use Rattle.bare_machine.specs.Run.{Avoids, Executes, is_met, run}
 use Rattle.bare_machine.specs.State.{BareState, going}
 use Rattle.bare_machine.specs.Step.{BareStepped}

@@ -3,7 +3,7 @@ use Rattle.std.proofs.Common.{◌≡◌, ◌∙◌, ℕ, ◌<◌, ◌≤◌, ◌
 use Rattle.std.proofs.Math.ListN.{length-set}
 use Rattle.std.proofs.lemmas.Bool.Decides.{nat_tests}
 use Rattle.word_store.specs.Bytes.{set_byte_at}
-use Rattle.hunk_text.specs.TextReader.Refusal.{refusal}
+use Rattle.module_text.specs.TextReader.Refusal.{refusal}
 use Rattle.session_text.specs.declared.sessions.SessionLine.{SessionLine}
 use Rattle.bare_machine.specs.Boot.{code_of, with_bytes, with_lines}
 

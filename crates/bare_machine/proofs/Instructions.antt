@@ -2,10 +2,10 @@
 use Rattle.std.proofs.Common.{◌≡◌, ℕ, zero, suc, ◌+◌, ◌≤◌, List, None, refl, sym, ap, ◌++◌, ◌∙◌, subst, arith}
 use Rattle.std.proofs.lemmas.List.{append-nil}
 use Rattle.word_store.specs.declared.registers.Regs.{Regs}
-use Rattle.cint_exec.specs.Instruction.{After, instruction}
-use Rattle.cint_exec.specs.declared.Outcome.{Outcome}
-use Rattle.cint_exec.specs.declared.Outcome.TheVariants.{Next, Sys}
-use Rattle.cint_exec.proofs.Unexecuted.{stays-instruction}
+use Rattle.instruction_set.specs.Instruction.{After, instruction}
+use Rattle.instruction_set.specs.declared.Outcome.{Outcome}
+use Rattle.instruction_set.specs.declared.Outcome.TheVariants.{Next, Sys}
+use Rattle.instruction_set.proofs.Unexecuted.{stays-instruction}
 use Rattle.bare_machine.specs.Run.{Executes, run}
 use Rattle.bare_machine.specs.State.{BareState, going}
 use Rattle.bare_machine.specs.Step.{BareStepped, after_outcome, and_then, quietly, step, unmarked}

@@ -2,10 +2,10 @@
 use Rattle.std.proofs.Common.{◌≡◌, ◌≢◌, ℕ, zero, suc, ◌+◌, ◌-◌, ◌≤◌, ◌++◌, Bool, true, false, Option, Some, None, Result, Ok, Err, cond, refl, sym, ap, ◌∙◌, arith}
 use Rattle.std.specs.Prelude.{is_some}
 use Rattle.std.proofs.lemmas.List.{append_assoc, append-nil}
-use Rattle.cint_exec.specs.declared.Fault.{Fault}
-use Rattle.cint_exec.specs.declared.Outcome.{Outcome}
-use Rattle.cint_exec.specs.declared.Outcome.TheVariants.{Next, Sys, Returned, Fault as Faulted}
-use Rattle.session_text.specs.KernelDispatch.KernelModel.declared.stops.Stop.{Stop}
+use Rattle.instruction_set.specs.declared.Fault.{Fault}
+use Rattle.instruction_set.specs.declared.Outcome.{Outcome}
+use Rattle.instruction_set.specs.declared.Outcome.TheVariants.{Next, Sys, Returned, Fault as Faulted}
+use Rattle.kernel_model.specs.declared.kernel_record.stops.Stop.{Stop}
 use Rattle.bare_machine.specs.declared.calls.CallAnswer.{CallAnswer}
 use Rattle.bare_machine.specs.Calls.{call_answer}
 use Rattle.bare_machine.specs.Run.{run}

@@ -1,6 +1,6 @@
 -- Steps behind others, of which none has stopped the machine.
 use Rattle.std.proofs.Common.{◌≡◌, ℕ, ◌+◌, ◌-◌, ◌<◌, ◌≤◌, ◌++◌, Option, None, sym, ap, ◌∙◌, arith}
-use Rattle.session_text.specs.KernelDispatch.KernelModel.declared.stops.Stop.{Stop}
+use Rattle.kernel_model.specs.declared.kernel_record.stops.Stop.{Stop}
 use Rattle.bare_machine.specs.declared.parts.BareParts.{BareParts}
 use Rattle.bare_machine.specs.Run.{run}
 use Rattle.bare_machine.specs.State.{BareState, state_of}

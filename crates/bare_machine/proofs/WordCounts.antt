@@ -5,16 +5,16 @@ use Rattle.std.proofs.lemmas.Bool.{and_from, and_parts, le-leb}
 use Rattle.word_store.specs.Arithmetic.{add}
 use Rattle.word_store.specs.Bytes.{byte_at}
 use Rattle.word_store.specs.declared.registers.Regs.{Regs}
-use Rattle.cint_exec.specs.Change.{Change}
-use Rattle.cint_exec.specs.CintDecode.Decoded.{decoded}
-use Rattle.cint_exec.specs.CintDecode.declared.instructions.DecodeEnd.{DecodeEnd}
-use Rattle.cint_exec.specs.CintDecode.declared.instructions.Instr.{Instr}
-use Rattle.cint_exec.specs.Effect.{change_of}
-use Rattle.cint_exec.specs.Instruction.{After, after, decided, effected, instruction, is_call, made, settled, write_fault, written}
-use Rattle.cint_exec.specs.declared.Fault.{Fault}
-use Rattle.cint_exec.specs.declared.Outcome.{Outcome}
-use Rattle.cint_exec.specs.declared.Outcome.TheVariants.{Next, Returned, Sys, Fault as Faulted}
-use Rattle.session_text.specs.KernelDispatch.KernelModel.Ranges.{is_store_size, most_words}
+use Rattle.instruction_set.specs.Change.{Change}
+use Rattle.instruction_set.specs.OperandForms.Decoded.{decoded}
+use Rattle.instruction_set.specs.declared.operand_forms.instructions.DecodeEnd.{DecodeEnd}
+use Rattle.instruction_set.specs.declared.operand_forms.instructions.Instr.{Instr}
+use Rattle.instruction_set.specs.Effect.{change_of}
+use Rattle.instruction_set.specs.Instruction.{After, after, decided, effected, instruction, is_call, made, settled, write_fault, written}
+use Rattle.instruction_set.specs.declared.Fault.{Fault}
+use Rattle.instruction_set.specs.declared.Outcome.{Outcome}
+use Rattle.instruction_set.specs.declared.Outcome.TheVariants.{Next, Returned, Sys, Fault as Faulted}
+use Rattle.kernel_model.specs.KernelRecord.Ranges.{is_store_size, most_words}
 use Rattle.bare_machine.specs.Calls.{call_answer}
 use Rattle.bare_machine.specs.Run.{Executes}
 use Rattle.bare_machine.specs.State.{BareState}

@@ -2,8 +2,8 @@
 use Rattle.std.specs.Prelude.{ℕ, ◌≡◌, ◌+◌, ◌*◌, List, [], ◌∷◌, length, None, Result, Ok, Err, nat_le, replicate, if◌then◌else◌}
 use Rattle.word_store.specs.Bytes.{set_byte_at}
 use Rattle.word_store.specs.declared.registers.Regs.{Regs}
-use Rattle.hunk_text.specs.TextReader.Refusal.{Refusal, refusal}
-use Rattle.hunk_text.specs.TextReader.Steps.{◌>>=◌}
+use Rattle.module_text.specs.TextReader.Refusal.{Refusal, refusal}
+use Rattle.module_text.specs.TextReader.Steps.{◌>>=◌}
 use Rattle.session_text.specs.declared.sessions.Session.{Session}
 use Rattle.session_text.specs.declared.sessions.SessionLine.{SessionLine}
 use Rattle.session_text.specs.declared.sessions.LineForm.{LineForm}

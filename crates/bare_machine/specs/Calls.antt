@@ -2,10 +2,10 @@
 use Rattle.std.specs.Prelude.{ℕ, ◌+◌, ◌-◌, ◌%◌, ◌^◌, List, Some, None, Result, Ok, Err, ◌==◌, if◌then◌else◌}
 use Rattle.word_store.specs.Arithmetic.{add, mul_div}
 use Rattle.word_store.specs.declared.registers.Regs.{Regs}
-use Rattle.cint_exec.specs.CintDecode.Steps.{◌>>=◌}
-use Rattle.cint_exec.specs.declared.Fault.{Fault}
-use Rattle.cint_exec.specs.Change.{fault, read}
-use Rattle.session_text.specs.KernelDispatch.KernelModel.declared.stops.Stop.TheVariants.{Quit}
+use Rattle.instruction_set.specs.OperandForms.Steps.{◌>>=◌}
+use Rattle.instruction_set.specs.declared.Fault.{Fault}
+use Rattle.instruction_set.specs.Change.{fault, read}
+use Rattle.kernel_model.specs.declared.kernel_record.stops.Stop.TheVariants.{Quit}
 use Rattle.bare_machine.specs.declared.calls.CallAnswer.{CallAnswer}
 
 -- argument i of a call is the word P!(3 + i); argument 0 is the call's number

@@ -1,11 +1,11 @@
 -- A run of a bare machine.
 use Rattle.std.specs.Prelude.{◌≡◌, ℕ, zero, suc, ◌<◌, Bool, false, List, None}
 use Rattle.word_store.specs.declared.registers.Regs.{Regs}
-use Rattle.cint_exec.specs.Breakpoints.{has_breakpoint}
-use Rattle.cint_exec.specs.Places.{DifferAt, addresses}
-use Rattle.cint_exec.specs.declared.places.Places.{Places}
-use Rattle.cint_exec.specs.declared.Outcome.TheVariants.{Next}
-use Rattle.cint_exec.specs.Instruction.{instruction}
+use Rattle.instruction_set.specs.Breakpoints.{has_breakpoint}
+use Rattle.instruction_set.specs.Places.{DifferAt, addresses}
+use Rattle.instruction_set.specs.declared.places.Places.{Places}
+use Rattle.instruction_set.specs.declared.Outcome.TheVariants.{Next}
+use Rattle.instruction_set.specs.Instruction.{instruction}
 use Rattle.bare_machine.specs.State.{BareState}
 use Rattle.bare_machine.specs.Step.{BareStepped, and_then, instruction_of, quietly, step, unmarked}
 

@@ -1,8 +1,8 @@
 -- The state of a machine without a kernel.
 use Rattle.std.specs.Prelude.{ℕ, ◌≤◌, ◌<◌, IsTrue, List, Option, None, length}
 use Rattle.word_store.specs.declared.registers.Regs.{Regs}
-use Rattle.session_text.specs.KernelDispatch.KernelModel.Ranges.{is_store_size, most_steps}
-use Rattle.session_text.specs.KernelDispatch.KernelModel.declared.stops.Stop.{Stop}
+use Rattle.kernel_model.specs.KernelRecord.Ranges.{is_store_size, most_steps}
+use Rattle.kernel_model.specs.declared.kernel_record.stops.Stop.{Stop}
 use Rattle.bare_machine.specs.declared.parts.BareParts.{BareParts}
 
 -- A machine without a kernel, at one moment.

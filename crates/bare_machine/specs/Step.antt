@@ -1,12 +1,12 @@
 -- A step of a bare machine, which has no kernel: all its words are plain.
 use Rattle.std.specs.Prelude.{ℕ, ◌+◌, Bool, false, if◌then◌else◌, is_some, List, [], ◌++◌, Some, Result, Ok, Err}
 use Rattle.std.specs.Option.{option_to_list}
-use Rattle.cint_exec.specs.declared.Fault.{Fault}
-use Rattle.cint_exec.specs.declared.Outcome.{Outcome}
-use Rattle.cint_exec.specs.declared.Outcome.TheVariants.{Next, Sys, Returned, Fault as Faulted}
-use Rattle.cint_exec.specs.Instruction.{After, instruction}
-use Rattle.session_text.specs.KernelDispatch.KernelModel.declared.stops.Stop.{Stop}
-use Rattle.session_text.specs.KernelDispatch.KernelModel.declared.stops.Stop.TheVariants.{Quit, Fault as StopByFault}
+use Rattle.instruction_set.specs.declared.Fault.{Fault}
+use Rattle.instruction_set.specs.declared.Outcome.{Outcome}
+use Rattle.instruction_set.specs.declared.Outcome.TheVariants.{Next, Sys, Returned, Fault as Faulted}
+use Rattle.instruction_set.specs.Instruction.{After, instruction}
+use Rattle.kernel_model.specs.declared.kernel_record.stops.Stop.{Stop}
+use Rattle.kernel_model.specs.declared.kernel_record.stops.Stop.TheVariants.{Quit, Fault as StopByFault}
 use Rattle.bare_machine.specs.declared.calls.CallAnswer.{CallAnswer}
 use Rattle.bare_machine.specs.Calls.{call_answer}
 use Rattle.bare_machine.specs.State.{BareState}

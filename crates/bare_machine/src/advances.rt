@@ -1,16 +1,16 @@
 // Steps, one after another.
 ghost use Rattle.std.specs.Prelude.{◌≡◌, ◌<◌, ◌+◌, ◌-◌, ◌≤◌, [], ◌++◌, None, length, true};
-ghost use Rattle.session_text.specs.KernelDispatch.KernelModel.Ranges.{most_steps};
-ghost use Rattle.cint_exec.specs.Breakpoints.{has_breakpoint};
+ghost use Rattle.kernel_model.specs.KernelRecord.Ranges.{most_steps};
+ghost use Rattle.instruction_set.specs.Breakpoints.{has_breakpoint};
 ghost use Rattle.bare_machine.specs.Run.{Avoids, run};
 ghost use Rattle.bare_machine.specs.State.{IsSound, state_of};
 
 use crate::BareParts;
 use crate::passes::pass;
 use crate::steps::next_step;
-use cint_exec::has_breakpoint;
-use session_text::Stop;
-use tp_io::Output;
+use byte_streams::Output;
+use instruction_set::has_breakpoint;
+use kernel_model::Stop;
 
 /// What steps have come to.
 #[derive(Clone, Copy)]

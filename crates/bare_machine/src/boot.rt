@@ -1,6 +1,6 @@
 // What a bare session puts into its machine.
 ghost use Rattle.std.specs.Prelude.{◌≡◌, ◌+◌, ◌^◌, ◌<◌, ◌≤◌, [], length, IfOk, IsTrue};
-ghost use Rattle.session_text.specs.KernelDispatch.KernelModel.Ranges.{is_store_size};
+ghost use Rattle.kernel_model.specs.KernelRecord.Ranges.{is_store_size};
 ghost use Rattle.bare_machine.specs.Boot.{Boots, boot, code_of, with_bytes, with_lines};
 
 use crate::{Bare, BareParts};

@@ -1,10 +1,9 @@
 // The calls that a bare machine knows.
 ghost use Rattle.std.specs.Prelude.{◌≡◌, ◌<◌};
-ghost use Rattle.bare_machine.specs.Calls.{argument, call_answer, regs_after};
-ghost use Rattle.bare_machine.specs.Calls.{multiply_divide, quit, write_character};
+ghost use Rattle.bare_machine.specs.Calls.{argument, call_answer, regs_after, multiply_divide, quit, write_character};
 
-use cint_exec::Fault;
-use session_text::Stop;
+use instruction_set::Fault;
+use kernel_model::Stop;
 use word_store::{Regs, Store, add, mul_div};
 
 /// What a call leaves: new registers, the byte for the console, and why the machine has stopped.

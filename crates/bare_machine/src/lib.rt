@@ -12,6 +12,3 @@ mod steps;
 
 pub use machine::Bare;
 pub use parts::BareParts;
-
-// Shown to the crates above.
-pub use cint_exec::{Places, has_breakpoint};

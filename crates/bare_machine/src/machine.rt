@@ -1,6 +1,6 @@
 // A machine without a kernel.
 ghost use Rattle.std.specs.Prelude.{◌≡◌, ◌<◌, ◌+◌, ◌-◌, ◌≤◌, [], None, MatchOption};
-ghost use Rattle.session_text.specs.KernelDispatch.KernelModel.Ranges.{most_steps};
+ghost use Rattle.kernel_model.specs.KernelRecord.Ranges.{most_steps};
 ghost use Rattle.bare_machine.specs.Run.{Avoids, IsPlain, IsPlainStep, run};
 ghost use Rattle.bare_machine.specs.State.{IsSound, state_of};
 ghost use Rattle.bare_machine.specs.Step.{step};
@@ -8,10 +8,10 @@ ghost use Rattle.bare_machine.specs.Step.{step};
 use crate::BareParts;
 use crate::advances::advance;
 use crate::steps::{execute_one, step_or_stay};
-use cint_exec::Places;
-use session_text::Stop;
+use byte_streams::Output;
+use instruction_set::Places;
+use kernel_model::Stop;
 use std::marker::Model;
-use tp_io::Output;
 
 /// A machine without a kernel. Contracts see it as its state, and the bytes of what it did last.
 #[derive(Drop)]

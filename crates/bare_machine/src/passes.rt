@@ -1,12 +1,12 @@
 // Instructions that are each a step of their own.
 ghost use Rattle.std.specs.Prelude.{◌≡◌, ◌<◌, ◌≤◌, ℕ, false, true};
-ghost use Rattle.cint_exec.specs.Instruction.{instruction};
-ghost use Rattle.cint_exec.specs.declared.Outcome.TheVariants.{Sys};
+ghost use Rattle.instruction_set.specs.Instruction.{instruction};
+ghost use Rattle.instruction_set.specs.declared.Outcome.TheVariants.{Sys};
 ghost use Rattle.bare_machine.specs.Run.{Avoids, Executes};
 ghost use Rattle.bare_machine.specs.State.{going};
 ghost use Rattle.bare_machine.specs.Step.{unmarked};
 
-use cint_exec::{NoKernel, Outcome, execute, execute_alone, has_breakpoint};
+use instruction_set::{NoKernel, Outcome, execute, execute_alone, has_breakpoint};
 use word_store::{Regs, Store};
 
 /// Executes at most so many instructions, and stops before what is none, and behind the first before a breakpoint. The answer is how

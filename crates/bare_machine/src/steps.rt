@@ -1,7 +1,7 @@
 // A step: an instruction, and what it asks for.
 ghost use Rattle.std.specs.Prelude.{◌≡◌, ◌<◌, [], ◌++◌, None, MatchOption, length, true};
-ghost use Rattle.session_text.specs.KernelDispatch.KernelModel.Ranges.{most_steps};
-ghost use Rattle.cint_exec.specs.declared.Outcome.TheVariants.{Sys};
+ghost use Rattle.kernel_model.specs.KernelRecord.Ranges.{most_steps};
+ghost use Rattle.instruction_set.specs.declared.Outcome.TheVariants.{Sys};
 ghost use Rattle.bare_machine.specs.Calls.{call_answer};
 ghost use Rattle.bare_machine.specs.Run.{IsPlain, IsPlainStep};
 ghost use Rattle.bare_machine.specs.State.{IsSound, state_of};
@@ -9,9 +9,9 @@ ghost use Rattle.bare_machine.specs.Step.{after_call, instruction_of, step};
 
 use crate::BareParts;
 use crate::calls::call;
-use cint_exec::{Fault, NoKernel, Outcome, Places, execute_alone, written_places};
-use session_text::Stop;
-use tp_io::Output;
+use byte_streams::Output;
+use instruction_set::{Fault, NoKernel, Outcome, Places, execute_alone, written_places};
+use kernel_model::Stop;
 
 /// One step of a machine that has stopped or not. One that has stays as it is. The answer is why it has stopped, if it has.
 pub(crate) fn step_or_stay(

@@ -2,16 +2,16 @@
 use Rattle.std.proofs.Common.{◌≡◌, ℕ, ◌+◌, ◌++◌, List, [], ◌∷◌, Bool, true, false, Option, Some, None, Result, Ok, Err, cond, eqb, get_or, refl}
 use Rattle.std.specs.Prelude.{find, unwrap_or}
 use Rattle.word_store.specs.declared.registers.Regs.{Regs}
-use Rattle.kernel_calls.specs.LinkedList.Places.{without_first}
-use Rattle.kernel_calls.specs.PacketQueue.QueueWords.{QueuedPacket}
-use Rattle.kernel_calls.specs.HunkLoader.Globals.{globals_in}
-use Rattle.kernel_calls.specs.Coroutines.CoroutineExchanges.{TaskCoroutines, current_of, with_called, with_resumed, with_waiting}
-use Rattle.kernel_calls.specs.Coroutines.Creation.{highest}
-use Rattle.kernel_calls.specs.KernelModel.Changes.{queue_of, with_task}
-use Rattle.kernel_calls.specs.KernelModel.Lists.{Lists}
-use Rattle.kernel_calls.specs.KernelModel.Task.{Task}
-use Rattle.kernel_calls.specs.KernelModel.ValidQueues.{Place}
-use Rattle.kernel_calls.specs.KernelModel.ValidQueues.Place.{Work}
+use Rattle.kernel_lists.specs.LinkedList.Places.{without_first}
+use Rattle.kernel_lists.specs.PacketQueue.QueueWords.{QueuedPacket}
+use Rattle.kernel_lists.specs.HunkLoader.Globals.{globals_in}
+use Rattle.kernel_lists.specs.Coroutines.CoroutineExchanges.{TaskCoroutines, current_of, with_called, with_resumed, with_waiting}
+use Rattle.kernel_lists.specs.Coroutines.Creation.{highest}
+use Rattle.kernel_model.specs.KernelRecord.Changes.{queue_of, with_task}
+use Rattle.kernel_model.specs.KernelRecord.Lists.{Lists}
+use Rattle.kernel_model.specs.KernelRecord.Task.{Task}
+use Rattle.kernel_model.specs.KernelRecord.ValidQueues.{Place}
+use Rattle.kernel_model.specs.KernelRecord.ValidQueues.Place.{Work}
 use Rattle.kernel_calls.specs.CallAnswers.Guests.{guest_tests}
 use Rattle.kernel_calls.specs.CallAnswers.Made.{Made, by_refusal, done, unless_refused}
 use Rattle.kernel_calls.specs.CallAnswers.Refusals.{first_refusal}

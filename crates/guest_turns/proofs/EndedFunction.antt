@@ -3,31 +3,31 @@ use Rattle.std.proofs.Common.{◌≡◌, ◌≢◌, ℕ, ◌+◌, ◌++◌, List
 use Rattle.std.proofs.lemmas.Bool.{ne_eqb}
 use Rattle.word_store.specs.declared.registers.Regs.{Regs}
 use Rattle.word_store.specs.Count.{IsApart}
-use Rattle.kernel_calls.specs.OwnedWords.Exchange.{Exchange}
-use Rattle.kernel_calls.specs.OwnedWords.LinkedWords.{first_of}
-use Rattle.kernel_calls.proofs.Shown.OwnedWords.Exchanges.{exchange-none}
-use Rattle.kernel_calls.specs.PacketQueue.QueueWords.{queue_words}
-use Rattle.kernel_calls.specs.Coroutines.CoroutineExchanges.{current_of}
-use Rattle.kernel_calls.specs.KernelModel.ChangedStore.{IsChanged}
-use Rattle.kernel_calls.specs.KernelModel.Changes.{change_of, with_task, with_tasks}
-use Rattle.kernel_calls.specs.KernelModel.HoldsLists.{HoldsLists}
-use Rattle.kernel_calls.specs.KernelModel.Lists.{Lists}
-use Rattle.kernel_calls.specs.KernelModel.Owned.{owned}
-use Rattle.kernel_calls.specs.KernelModel.Task.{Task, is_guest_id, queue_bit, queue_head, state_word, task_address, task_id, task_words}
-use Rattle.kernel_calls.specs.KernelModel.ValidLists.{AreValid}
-use Rattle.kernel_calls.specs.KernelModel.ValidTasks.{IsTask}
-use Rattle.kernel_calls.proofs.Shown.KernelModel.ChainSplits.{change-between}
-use Rattle.kernel_calls.proofs.Shown.KernelModel.ChangedLists.{exchange-owned, one_task-owned, owners-exchanged}
-use Rattle.kernel_calls.proofs.Shown.KernelModel.OneTask.{same_task-valid}
-use Rattle.kernel_calls.proofs.Shown.KernelDispatch.StateExchanges.{exchange-state, exchange-task}
+use Rattle.kernel_lists.specs.OwnedWords.Exchange.{Exchange}
+use Rattle.kernel_lists.specs.OwnedWords.LinkedWords.{first_of}
+use Rattle.kernel_lists.proofs.OwnedWords.Exchanges.{exchange-none}
+use Rattle.kernel_lists.specs.PacketQueue.QueueWords.{queue_words}
+use Rattle.kernel_lists.specs.Coroutines.CoroutineExchanges.{current_of}
+use Rattle.kernel_model.specs.KernelRecord.ChangedStore.{IsChanged}
+use Rattle.kernel_model.specs.KernelRecord.Changes.{change_of, with_task, with_tasks}
+use Rattle.kernel_model.specs.KernelRecord.HoldsLists.{HoldsLists}
+use Rattle.kernel_model.specs.KernelRecord.Lists.{Lists}
+use Rattle.kernel_model.specs.KernelRecord.Owned.{owned}
+use Rattle.kernel_model.specs.KernelRecord.Task.{Task, is_guest_id, queue_bit, queue_head, state_word, task_address, task_id, task_words}
+use Rattle.kernel_model.specs.KernelRecord.ValidLists.{AreValid}
+use Rattle.kernel_model.specs.KernelRecord.ValidTasks.{IsTask}
+use Rattle.kernel_model.proofs.KernelRecord.ChainSplits.{change-between}
+use Rattle.kernel_model.proofs.KernelRecord.ChangedLists.{exchange-owned, one_task-owned, owners-exchanged}
+use Rattle.kernel_model.proofs.KernelRecord.OneTask.{same_task-valid}
+use Rattle.kernel_model.proofs.KernelDispatch.StateExchanges.{exchange-state, exchange-task}
 use Rattle.kernel_calls.specs.CallAnswers.Callers.{HasCaller}
 use Rattle.kernel_calls.specs.CallAnswers.Guests.{GuestAt}
-use Rattle.kernel_calls.proofs.Shown.CallAnswers.GuestTask.{GuestFacts, guest-facts}
-use Rattle.kernel_calls.proofs.Shown.PacketCalls.CallerTask.{caller-runs, caller-state}
+use Rattle.kernel_calls.proofs.CallAnswers.GuestTask.{GuestFacts, guest-facts}
+use Rattle.kernel_calls.proofs.PacketCalls.CallerTask.{caller-runs, caller-state}
 use Rattle.kernel_calls.specs.CoroutineCalls.CallersCoroutines.{coroutines_of_caller}
 use Rattle.kernel_calls.specs.CoroutineCalls.CoWait.{IsWithin, ended}
 use Rattle.kernel_calls.specs.CoroutineCalls.Switched.{IsSwitched}
-use Rattle.kernel_calls.proofs.Shown.CoroutineCalls.CallersTask.{callers-found, callers-held}
+use Rattle.kernel_calls.proofs.CoroutineCalls.CallersTask.{callers-found, callers-held}
 use Rattle.guest_turns.specs.GuestTurn.{died, dies, returned}
 
 -- the state of a task that ran and is dead

@@ -1,12 +1,12 @@
 -- A turn that ends with a fault changes nothing.
 use Rattle.std.proofs.Common.{◌≡◌, ℕ, List, Result, Ok, Err, refl, subst}
 use Rattle.word_store.specs.declared.registers.Regs.{Regs}
-use Rattle.cint_exec.specs.Instruction.{After, instruction}
-use Rattle.cint_exec.specs.declared.Fault.{Fault}
-use Rattle.cint_exec.specs.declared.Outcome.{Outcome}
-use Rattle.cint_exec.specs.declared.Outcome.TheVariants.{Next, Sys, Returned, Fault as Faulted}
-use Rattle.cint_exec.proofs.Unexecuted.{stays-instruction}
-use Rattle.kernel_calls.specs.KernelModel.Lists.{Lists}
+use Rattle.instruction_set.specs.Instruction.{After, instruction}
+use Rattle.instruction_set.specs.declared.Fault.{Fault}
+use Rattle.instruction_set.specs.declared.Outcome.{Outcome}
+use Rattle.instruction_set.specs.declared.Outcome.TheVariants.{Next, Sys, Returned, Fault as Faulted}
+use Rattle.instruction_set.proofs.Unexecuted.{stays-instruction}
+use Rattle.kernel_model.specs.KernelRecord.Lists.{Lists}
 use Rattle.kernel_calls.specs.Calls.{kernel_call, made_if_read}
 use Rattle.kernel_calls.specs.CallNumbers.{call_of}
 use Rattle.kernel_calls.specs.declared.call_numbers.CallOutcome.{CallOutcome}

@@ -5,13 +5,13 @@ use Rattle.std.proofs.lemmas.Bool.{cases_lt}
 use Rattle.std.proofs.lemmas.Bool.Decides.{nat_tests}
 use Rattle.word_store.specs.Count.{times}
 use Rattle.word_store.specs.declared.registers.Regs.{Regs}
-use Rattle.cint_exec.specs.Instruction.{instruction}
-use Rattle.kernel_calls.specs.OwnedWords.Owned.{owners}
-use Rattle.kernel_calls.proofs.Shown.OwnedWords.OwnedWords.{Holds-same}
-use Rattle.kernel_calls.specs.KernelModel.HoldsLists.{HoldsLists}
-use Rattle.kernel_calls.specs.KernelModel.Lists.{Lists}
-use Rattle.kernel_calls.specs.KernelModel.Owned.{owned}
-use Rattle.kernel_calls.proofs.Shown.WordKinds.KnownWords.{addresses, times-addresses}
+use Rattle.instruction_set.specs.Instruction.{instruction}
+use Rattle.kernel_lists.specs.OwnedWords.Owned.{owners}
+use Rattle.kernel_lists.proofs.OwnedWords.OwnedWords.{Holds-same}
+use Rattle.kernel_model.specs.KernelRecord.HoldsLists.{HoldsLists}
+use Rattle.kernel_model.specs.KernelRecord.Lists.{Lists}
+use Rattle.kernel_model.specs.KernelRecord.Owned.{owned}
+use Rattle.kernel_model.proofs.WordKinds.KnownWords.{addresses, times-addresses}
 use Rattle.guest_turns.specs.Guarded.{is_owned}
 use Rattle.guest_turns.proofs.MarkedWords.{KeepsMarked, keeps-marked}
 

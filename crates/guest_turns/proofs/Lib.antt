@@ -6,4 +6,3 @@ pub mod RunningField
 pub mod CallFields
 pub mod TurnFields
 pub mod FaultedTurn
-pub mod Shown

@@ -3,14 +3,14 @@ use Rattle.std.proofs.Common.{◌≡◌, ℕ, Bool, true, false, List, [], ◌�
 use Rattle.std.specs.Prelude.{nat_le}
 use Rattle.std.specs.List.{AllByRecursion}
 use Rattle.word_store.specs.declared.registers.Regs.{Regs}
-use Rattle.cint_exec.specs.CintDecode.declared.instructions.Instr.{Instr}
-use Rattle.cint_exec.specs.CintDecode.declared.instructions.DecodeEnd.{DecodeEnd}
-use Rattle.cint_exec.specs.CintDecode.Decoded.{decoded}
-use Rattle.cint_exec.specs.Change.{Change}
-use Rattle.cint_exec.specs.Effect.{change_of}
-use Rattle.cint_exec.specs.Instruction.{After, after, decided, effected, instruction, is_call, made, settled, write_fault, written}
-use Rattle.cint_exec.specs.declared.Fault.{Fault}
-use Rattle.cint_exec.specs.declared.Outcome.TheVariants.{Returned, Sys as Call}
+use Rattle.instruction_set.specs.declared.operand_forms.instructions.Instr.{Instr}
+use Rattle.instruction_set.specs.declared.operand_forms.instructions.DecodeEnd.{DecodeEnd}
+use Rattle.instruction_set.specs.OperandForms.Decoded.{decoded}
+use Rattle.instruction_set.specs.Change.{Change}
+use Rattle.instruction_set.specs.Effect.{change_of}
+use Rattle.instruction_set.specs.Instruction.{After, after, decided, effected, instruction, is_call, made, settled, write_fault, written}
+use Rattle.instruction_set.specs.declared.Fault.{Fault}
+use Rattle.instruction_set.specs.declared.Outcome.TheVariants.{Returned, Sys as Call}
 use Rattle.word_store.specs.Arithmetic.{add}
 use Rattle.word_store.specs.Bytes.{byte_at}
 

@@ -2,17 +2,17 @@
 use Rattle.std.proofs.Common.{◌≡◌, ℕ, List, [], ◌∷◌, Bool, true, false, Option, Some, None, map, cond, eqb, nat_lt}
 use Rattle.std.specs.Prelude.{IfSome, find}
 use Rattle.std.specs.List.{AllByRecursion}
-use Rattle.kernel_calls.specs.LinkedList.Places.{insert_after, without_first}
-use Rattle.kernel_calls.specs.PacketQueue.QueueWords.{QueuedPacket}
-use Rattle.kernel_calls.specs.KernelModel.Changes.{change_of, with_queue, with_task}
-use Rattle.kernel_calls.specs.KernelModel.Lists.{Lists}
-use Rattle.kernel_calls.specs.KernelModel.MovedTask.{with_priority}
-use Rattle.kernel_calls.specs.KernelModel.Running.{RunsAs}
-use Rattle.kernel_calls.specs.KernelModel.Task.{Task}
-use Rattle.kernel_calls.specs.KernelModel.ValidQueues.{Place}
-use Rattle.kernel_calls.specs.KernelModel.ValidQueues.Place.{Clock, Keyboard, Output, Pending, Work}
-use Rattle.kernel_calls.specs.KernelModel.ValidTasks.{runs}
-use Rattle.kernel_calls.proofs.Shown.KernelModel.AllThings.{all-inserted}
+use Rattle.kernel_lists.specs.LinkedList.Places.{insert_after, without_first}
+use Rattle.kernel_lists.specs.PacketQueue.QueueWords.{QueuedPacket}
+use Rattle.kernel_model.specs.KernelRecord.Changes.{change_of, with_queue, with_task}
+use Rattle.kernel_model.specs.KernelRecord.Lists.{Lists}
+use Rattle.kernel_model.specs.KernelRecord.MovedTask.{with_priority}
+use Rattle.kernel_model.specs.KernelRecord.Running.{RunsAs}
+use Rattle.kernel_model.specs.KernelRecord.Task.{Task}
+use Rattle.kernel_model.specs.KernelRecord.ValidQueues.{Place}
+use Rattle.kernel_model.specs.KernelRecord.ValidQueues.Place.{Clock, Keyboard, Output, Pending, Work}
+use Rattle.kernel_model.specs.KernelRecord.ValidTasks.{runs}
+use Rattle.kernel_model.proofs.KernelRecord.AllThings.{all-inserted}
 use Rattle.kernel_calls.specs.TaskCalls.ChangePri.{moved}
 use Rattle.guest_turns.specs.GuestTurn.{Numbers, numbers_of}
 

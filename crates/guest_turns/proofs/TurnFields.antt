@@ -3,17 +3,17 @@ use Rattle.std.proofs.Common.{◌≡◌, ◌<◌, ℕ, List, Bool, true, false, 
 use Rattle.std.specs.List.{AllByRecursion}
 use Rattle.word_store.specs.Bytes.{byte_at}
 use Rattle.word_store.specs.declared.registers.Regs.{Regs}
-use Rattle.cint_exec.specs.CintDecode.Decoded.{decoded}
-use Rattle.cint_exec.specs.CintDecode.declared.instructions.DecodeEnd.{DecodeEnd}
-use Rattle.cint_exec.specs.CintDecode.declared.instructions.Instr.{Instr}
-use Rattle.cint_exec.specs.Instruction.{After, after, decided, instruction}
-use Rattle.cint_exec.specs.declared.Outcome.{Outcome}
-use Rattle.cint_exec.specs.declared.Outcome.TheVariants.{Next, Sys, Returned, Fault as Faulted}
-use Rattle.cint_exec.proofs.ByteRegister.{effected-byte}
-use Rattle.kernel_calls.specs.Coroutines.CoroutineExchanges.{current_of}
-use Rattle.kernel_calls.specs.KernelModel.Lists.{Lists}
-use Rattle.kernel_calls.specs.KernelModel.Task.{is_guest_id}
-use Rattle.kernel_calls.specs.KernelDispatch.Dispatch.{CanDispatch}
+use Rattle.instruction_set.specs.OperandForms.Decoded.{decoded}
+use Rattle.instruction_set.specs.declared.operand_forms.instructions.DecodeEnd.{DecodeEnd}
+use Rattle.instruction_set.specs.declared.operand_forms.instructions.Instr.{Instr}
+use Rattle.instruction_set.specs.Instruction.{After, after, decided, instruction}
+use Rattle.instruction_set.specs.declared.Outcome.{Outcome}
+use Rattle.instruction_set.specs.declared.Outcome.TheVariants.{Next, Sys, Returned, Fault as Faulted}
+use Rattle.instruction_set.proofs.ByteRegister.{effected-byte}
+use Rattle.kernel_lists.specs.Coroutines.CoroutineExchanges.{current_of}
+use Rattle.kernel_model.specs.KernelRecord.Lists.{Lists}
+use Rattle.kernel_model.specs.KernelRecord.Task.{is_guest_id}
+use Rattle.kernel_model.specs.KernelDispatch.Dispatch.{CanDispatch}
 use Rattle.kernel_calls.specs.CallAnswers.Callers.{HasCaller}
 use Rattle.kernel_calls.specs.CoroutineCalls.CallersCoroutines.{coroutines_of_caller}
 use Rattle.kernel_calls.specs.CoroutineCalls.CoWait.{ended, with_ended}
@@ -21,7 +21,7 @@ use Rattle.kernel_calls.specs.Calls.{kernel_call}
 use Rattle.kernel_calls.specs.CallNumbers.{call_of}
 use Rattle.guest_turns.specs.Guarded.{is_owned}
 use Rattle.guest_turns.specs.GuestTurn.{Numbers, Turned, after_instruction, died, dies, numbers_of, turn_without_reporter}
-use Rattle.kernel_calls.specs.KernelModel.Running.{RunsAlone, RunsAs}
+use Rattle.kernel_model.specs.KernelRecord.Running.{RunsAlone, RunsAs}
 use Rattle.guest_turns.proofs.CallFields.{Keeps, KeepsSwitched, read-keeps, switched-keeps}
 use Rattle.guest_turns.proofs.RunningField.{RunsIn, one-runs}
 

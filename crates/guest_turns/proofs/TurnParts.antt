@@ -2,14 +2,14 @@
 use Rattle.std.proofs.Common.{◌≡◌, ℕ, List, length, Ok, refl, sym, ap, ◌∙◌, subst, arith}
 use Rattle.std.proofs.lemmas.List.{append-nil}
 use Rattle.word_store.specs.declared.registers.Regs.{Regs}
-use Rattle.cint_exec.specs.Instruction.{After, instruction}
-use Rattle.cint_exec.specs.declared.Outcome.{Outcome}
-use Rattle.cint_exec.specs.declared.Outcome.TheVariants.{Next, Sys, Returned, Fault as Faulted}
-use Rattle.kernel_calls.specs.KernelModel.ChangedStore.{HasKeeper, Knows}
-use Rattle.kernel_calls.specs.KernelModel.HoldsLists.{HoldsLists}
-use Rattle.kernel_calls.specs.KernelModel.Lists.{Lists}
-use Rattle.kernel_calls.proofs.Shown.KernelModel.ChangedLists.{changed-none, knows-same}
-use Rattle.kernel_calls.proofs.Shown.KernelModel.NotedInTurn.{notes-none}
+use Rattle.instruction_set.specs.Instruction.{After, instruction}
+use Rattle.instruction_set.specs.declared.Outcome.{Outcome}
+use Rattle.instruction_set.specs.declared.Outcome.TheVariants.{Next, Sys, Returned, Fault as Faulted}
+use Rattle.kernel_model.specs.KernelRecord.ChangedStore.{HasKeeper, Knows}
+use Rattle.kernel_model.specs.KernelRecord.HoldsLists.{HoldsLists}
+use Rattle.kernel_model.specs.KernelRecord.Lists.{Lists}
+use Rattle.kernel_model.proofs.KernelRecord.ChangedLists.{changed-none, knows-same}
+use Rattle.kernel_model.proofs.KernelRecord.NotedInTurn.{notes-none}
 use Rattle.kernel_calls.specs.CoroutineCalls.Switched.{IsSwitched, Switched}
 use Rattle.kernel_calls.specs.CallAnswers.Outside.{Outside}
 use Rattle.kernel_calls.specs.Calls.{Called, IsCalled}

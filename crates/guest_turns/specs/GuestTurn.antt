@@ -2,19 +2,19 @@
 -- function.
 use Rattle.std.specs.Prelude.{◌≡◌, ℕ, ◌==◌, Bool, if◌then◌else◌, List, [], ◌++◌, Ok}
 use Rattle.word_store.specs.declared.registers.Regs.{Regs}
-use Rattle.cint_exec.specs.Change.{fault}
-use Rattle.cint_exec.specs.Instruction.{instruction}
-use Rattle.cint_exec.specs.declared.Outcome.{Outcome}
-use Rattle.cint_exec.specs.declared.Outcome.TheVariants.{Next, Sys, Returned, Fault as Faulted}
-use Rattle.kernel_calls.specs.OwnedWords.Owned.{Pairs}
-use Rattle.kernel_calls.specs.PacketQueue.declared.events.KernelEvent.{KernelEvent}
-use Rattle.kernel_calls.specs.Coroutines.CoroutineExchanges.{current_of}
-use Rattle.kernel_calls.specs.KernelModel.ChangedStore.{IsChanged, Knows}
-use Rattle.kernel_calls.specs.KernelModel.Changes.{with_task}
-use Rattle.kernel_calls.specs.KernelModel.Lists.{Lists}
-use Rattle.kernel_calls.specs.KernelModel.NotedEvents.{NotesAll}
-use Rattle.kernel_calls.specs.KernelModel.Task.{Task}
-use Rattle.kernel_calls.specs.KernelModel.ValidTasks.{dead}
+use Rattle.instruction_set.specs.Change.{fault}
+use Rattle.instruction_set.specs.Instruction.{instruction}
+use Rattle.instruction_set.specs.declared.Outcome.{Outcome}
+use Rattle.instruction_set.specs.declared.Outcome.TheVariants.{Next, Sys, Returned, Fault as Faulted}
+use Rattle.kernel_lists.specs.OwnedWords.Owned.{Pairs}
+use Rattle.kernel_lists.specs.declared.packet_queue.events.KernelEvent.{KernelEvent}
+use Rattle.kernel_lists.specs.Coroutines.CoroutineExchanges.{current_of}
+use Rattle.kernel_model.specs.KernelRecord.ChangedStore.{IsChanged, Knows}
+use Rattle.kernel_model.specs.KernelRecord.Changes.{with_task}
+use Rattle.kernel_model.specs.KernelRecord.Lists.{Lists}
+use Rattle.kernel_model.specs.KernelRecord.NotedEvents.{NotesAll}
+use Rattle.kernel_model.specs.KernelRecord.Task.{Task}
+use Rattle.kernel_model.specs.KernelRecord.ValidTasks.{dead}
 use Rattle.kernel_calls.specs.CoroutineCalls.CallersCoroutines.{coroutines_of_caller}
 use Rattle.kernel_calls.specs.CoroutineCalls.CoWait.{ended}
 use Rattle.kernel_calls.specs.CoroutineCalls.Switched.{Switched}

@@ -1,4 +1,2 @@
 pub mod Guarded
 pub mod GuestTurn
--- shown to the crates above
-pub use Rattle.kernel_calls.specs as KernelCalls

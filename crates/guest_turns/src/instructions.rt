@@ -1,13 +1,13 @@
 // A guest executes an instruction, which writes none of the kernel's words.
 ghost use Rattle.std.specs.Prelude.{◌≡◌, ◌≢◌, ◌<◌};
-ghost use Rattle.cint_exec.specs.Instruction.{instruction};
-ghost use Rattle.kernel_calls.specs.KernelModel.ChangedStore.{HasKeeper};
-ghost use Rattle.kernel_calls.specs.KernelModel.HoldsLists.{HoldsLists};
-ghost use Rattle.kernel_calls.specs.KernelModel.Lists.{Lists};
+ghost use Rattle.instruction_set.specs.Instruction.{instruction};
+ghost use Rattle.kernel_model.specs.KernelRecord.ChangedStore.{HasKeeper};
+ghost use Rattle.kernel_model.specs.KernelRecord.HoldsLists.{HoldsLists};
+ghost use Rattle.kernel_model.specs.KernelRecord.Lists.{Lists};
 ghost use Rattle.guest_turns.specs.Guarded.{is_owned};
 
-use cint_exec::{Outcome, execute, execute_alone};
-use kernel_calls::KindKeeper;
+use instruction_set::{Outcome, execute, execute_alone};
+use kernel_model::KindKeeper;
 use word_store::{Regs, Store};
 
 /// Executes the instruction at PC. The words that the kernel's lists own stay as they are: an instruction that would write one

@@ -1,12 +1,12 @@
 // What a turn keeps, so that a dispatch may follow.
 ghost use Rattle.std.specs.Prelude.{◌≡◌, ◌<◌, List, length, ℕ};
 ghost use Rattle.word_store.specs.declared.registers.Regs.{Regs};
-ghost use Rattle.cint_exec.specs.declared.Fault.{Fault};
-ghost use Rattle.kernel_calls.specs.KernelModel.Lists.{Lists};
+ghost use Rattle.instruction_set.specs.declared.Fault.{Fault};
+ghost use Rattle.kernel_model.specs.KernelRecord.Lists.{Lists};
 ghost use Rattle.kernel_calls.specs.CallAnswers.Callers.{HasCaller};
-ghost use Rattle.kernel_calls.specs.KernelDispatch.Dispatch.{CanDispatch};
+ghost use Rattle.kernel_model.specs.KernelDispatch.Dispatch.{CanDispatch};
 ghost use Rattle.guest_turns.specs.GuestTurn.{IsUntouched, numbers_of, turn_without_reporter};
-ghost use Rattle.kernel_calls.specs.KernelModel.Running.{RunsAlone};
+ghost use Rattle.kernel_model.specs.KernelRecord.Running.{RunsAlone};
 ghost use Rattle.guest_turns.specs.declared.turns.TurnEnd.TheVariants.{Faults};
 
 /// However a turn ends: the same task is the running one, no other has the field of one that runs, and C is a byte. So a

@@ -1,8 +1,8 @@
 // A guest's turn: it executes an instruction, makes a call, or its function has returned.
 ghost use Rattle.std.specs.Prelude.{◌≡◌, ◌<◌, Ok, length};
-ghost use Rattle.kernel_calls.specs.KernelModel.ChangedStore.{HasKeeper};
-ghost use Rattle.kernel_calls.specs.KernelModel.HoldsLists.{HoldsLists};
-ghost use Rattle.kernel_calls.specs.KernelModel.Lists.{Lists};
+ghost use Rattle.kernel_model.specs.KernelRecord.ChangedStore.{HasKeeper};
+ghost use Rattle.kernel_model.specs.KernelRecord.HoldsLists.{HoldsLists};
+ghost use Rattle.kernel_model.specs.KernelRecord.Lists.{Lists};
 ghost use Rattle.kernel_calls.specs.CallAnswers.Callers.{HasCaller};
 ghost use Rattle.kernel_calls.specs.CoroutineCalls.Switched.{IsSwitched};
 ghost use Rattle.kernel_calls.specs.CallAnswers.Outside.{outside};
@@ -10,12 +10,12 @@ ghost use Rattle.kernel_calls.specs.Calls.{kernel_call};
 ghost use Rattle.guest_turns.specs.GuestTurn.{IsTurned, called, end_of_call, returned, turn_without_reporter};
 
 use crate::execute_guest;
-use cint_exec::{Fault, Outcome};
-use kernel_calls::numbers::DEAD;
-use kernel_calls::{
-    CallOutcome, EventLog, KindKeeper, TcbField, call, caller, ended, field, set_field,
-};
-use tp_io::Output;
+use byte_streams::Output;
+use instruction_set::{Fault, Outcome};
+use kernel_calls::{CallOutcome, call, caller, ended};
+use kernel_lists::{EventLog, TcbField, field, set_field};
+use kernel_model::KindKeeper;
+use kernel_model::numbers::DEAD;
 use word_store::{Regs, Store};
 
 /// The fault of a read outside the store.

@@ -2,30 +2,30 @@
 use Rattle.std.proofs.Common.{◌≡◌, ℕ, ◌+◌, ◌%◌, Bool, true, false, List, [], ◌∷◌, ◌++◌, get_or, map, inl, inr, refl, sym, ap, ◌∙◌, subst, arith}
 use Rattle.std.proofs.lemmas.List.{append-nil}
 use Rattle.word_store.specs.declared.registers.Regs.{Regs}
-use Rattle.kernel_calls.specs.OwnedWords.Exchange.{Exchange}
-use Rattle.kernel_calls.specs.TaskBlock.HeldTasks.{address_with}
-use Rattle.kernel_calls.specs.OwnedWords.LinkedWords.{first_of}
-use Rattle.kernel_calls.specs.OwnedWords.Owned.{Holds, Pairs, owners, written}
-use Rattle.kernel_calls.proofs.Shown.OwnedWords.Exchanges.{exchange-none}
-use Rattle.kernel_calls.specs.PacketQueue.QueueWords.{QueuedPacket, queue_words}
-use Rattle.kernel_calls.specs.KernelModel.ChangedStore.{IsChanged}
-use Rattle.kernel_calls.specs.KernelModel.Changes.{change_of, with_tasks}
-use Rattle.kernel_calls.specs.KernelModel.HoldsLists.{HoldsLists}
-use Rattle.kernel_calls.specs.KernelModel.Lists.{Lists}
-use Rattle.kernel_calls.specs.KernelModel.Owned.{owned}
-use Rattle.kernel_calls.specs.KernelModel.Task.{Task, is_guest_id, queue_head, state_word, state_words, task_address, task_id, task_words}
-use Rattle.kernel_calls.specs.KernelModel.ValidLists.{AreValid}
-use Rattle.kernel_calls.specs.KernelModel.ValidTasks.{IsField, IsTask}
-use Rattle.kernel_calls.proofs.Shown.KernelModel.ChangedLists.{exchange-owned, one_task-owned, owners-exchanged}
-use Rattle.kernel_calls.proofs.Shown.KernelModel.OneTask.{same_task-valid}
-use Rattle.kernel_calls.specs.KernelDispatch.DispatchWords.{saved_words}
-use Rattle.kernel_calls.proofs.Shown.KernelDispatch.StateExchanges.{exchange-suspended, exchange-task}
-use Rattle.kernel_calls.proofs.Shown.KernelDispatch.TaskStates.{by-field}
+use Rattle.kernel_lists.specs.OwnedWords.Exchange.{Exchange}
+use Rattle.kernel_lists.specs.TaskBlock.HeldTasks.{address_with}
+use Rattle.kernel_lists.specs.OwnedWords.LinkedWords.{first_of}
+use Rattle.kernel_lists.specs.OwnedWords.Owned.{Holds, Pairs, owners, written}
+use Rattle.kernel_lists.proofs.OwnedWords.Exchanges.{exchange-none}
+use Rattle.kernel_lists.specs.PacketQueue.QueueWords.{QueuedPacket, queue_words}
+use Rattle.kernel_model.specs.KernelRecord.ChangedStore.{IsChanged}
+use Rattle.kernel_model.specs.KernelRecord.Changes.{change_of, with_tasks}
+use Rattle.kernel_model.specs.KernelRecord.HoldsLists.{HoldsLists}
+use Rattle.kernel_model.specs.KernelRecord.Lists.{Lists}
+use Rattle.kernel_model.specs.KernelRecord.Owned.{owned}
+use Rattle.kernel_model.specs.KernelRecord.Task.{Task, is_guest_id, queue_head, state_word, state_words, task_address, task_id, task_words}
+use Rattle.kernel_model.specs.KernelRecord.ValidLists.{AreValid}
+use Rattle.kernel_model.specs.KernelRecord.ValidTasks.{IsField, IsTask}
+use Rattle.kernel_model.proofs.KernelRecord.ChangedLists.{exchange-owned, one_task-owned, owners-exchanged}
+use Rattle.kernel_model.proofs.KernelRecord.OneTask.{same_task-valid}
+use Rattle.kernel_model.specs.KernelDispatch.DispatchWords.{saved_words}
+use Rattle.kernel_model.proofs.KernelDispatch.StateExchanges.{exchange-suspended, exchange-task}
+use Rattle.kernel_model.proofs.KernelDispatch.TaskStates.{by-field}
 use Rattle.kernel_calls.specs.CallAnswers.Guests.{GuestAt}
-use Rattle.kernel_calls.proofs.Shown.CallAnswers.Refusals.{guest-at}
-use Rattle.kernel_calls.proofs.Shown.CallAnswers.RunningTask.{there-at}
-use Rattle.kernel_calls.specs.KernelModel.ValidQueues.{HasGuest}
-use Rattle.kernel_calls.proofs.Shown.CallAnswers.GuestTask.{GuestFacts, guest-changed, guest-facts, guest-words}
+use Rattle.kernel_calls.proofs.CallAnswers.Refusals.{guest-at}
+use Rattle.kernel_calls.proofs.CallAnswers.RunningTask.{there-at}
+use Rattle.kernel_model.specs.KernelRecord.ValidQueues.{HasGuest}
+use Rattle.kernel_calls.proofs.CallAnswers.GuestTask.{GuestFacts, guest-changed, guest-facts, guest-words}
 use Rattle.kernel_boot.specs.BegunTask.{begin_regs, begun, with_begun}
 
 -- the two bits of a state stay

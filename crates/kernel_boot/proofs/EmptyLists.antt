@@ -6,14 +6,14 @@ use Rattle.std.specs.Prelude.{IsTrue}
 use Rattle.std.specs.List.{range_with_len}
 use Rattle.word_store.specs.Count.{hit, times}
 use Rattle.word_store.proofs.Counts.{hit-le, hit-other, range-apart, times-above, times-within}
-use Rattle.kernel_calls.specs.OwnedWords.Owned.{owners, written}
-use Rattle.kernel_calls.proofs.Shown.OwnedWords.OwnedWords.{length-written, written-other}
-use Rattle.kernel_calls.specs.KernelModel.Ranges.{IsVersion, is_period, is_store_size}
-use Rattle.kernel_calls.specs.KernelModel.ChangedStore.{IsChanged}
-use Rattle.kernel_calls.specs.KernelModel.HoldsLists.{HoldsLists}
-use Rattle.kernel_calls.specs.KernelModel.Owned.{OwnsApart, owned}
-use Rattle.kernel_calls.specs.KernelModel.ValidLists.{AreValid}
-use Rattle.kernel_calls.proofs.Shown.KernelModel.RootCounts.{owners-nodes}
+use Rattle.kernel_lists.specs.OwnedWords.Owned.{owners, written}
+use Rattle.kernel_lists.proofs.OwnedWords.OwnedWords.{length-written, written-other}
+use Rattle.kernel_model.specs.KernelRecord.Ranges.{IsVersion, is_period, is_store_size}
+use Rattle.kernel_model.specs.KernelRecord.ChangedStore.{IsChanged}
+use Rattle.kernel_model.specs.KernelRecord.HoldsLists.{HoldsLists}
+use Rattle.kernel_model.specs.KernelRecord.Owned.{OwnsApart, owned}
+use Rattle.kernel_model.specs.KernelRecord.ValidLists.{AreValid}
+use Rattle.kernel_model.proofs.KernelRecord.RootCounts.{owners-nodes}
 use Rattle.kernel_boot.specs.EmptyKernel.{empty_lists}
 use Rattle.kernel_boot.proofs.EmptyWords.{holds-empty, pairs}
 use Rattle.kernel_boot.proofs.StoreSizes.{size-even, size-low}

@@ -3,17 +3,17 @@ use Rattle.std.proofs.Common.{◌≡◌, ◌≢◌, ℕ, zero, suc, ◌+◌, ◌
 use Rattle.std.proofs.lemmas.List.{get_or-replicate, length-replicate}
 use Rattle.word_store.specs.Count.{hit}
 use Rattle.word_store.proofs.Counts.{hit-other, hit-same}
-use Rattle.kernel_calls.specs.OwnedWords.Owned.{Holds, Pairs, owners, row_from, written}
-use Rattle.kernel_calls.proofs.Shown.OwnedWords.OwnedWords.{Holds-append, length-written, written-other}
-use Rattle.kernel_calls.specs.GetvecChain.Make.{made_store}
-use Rattle.kernel_calls.specs.TaskBlock.ChainWords.{entries}
-use Rattle.kernel_calls.specs.KernelModel.Owned.{owned}
-use Rattle.kernel_calls.specs.KernelModel.Root.{root_words}
-use Rattle.kernel_calls.specs.KernelModel.Task.{filled}
-use Rattle.kernel_calls.specs.KernelModel.Versions.{highest_id_of}
+use Rattle.kernel_lists.specs.OwnedWords.Owned.{Holds, Pairs, owners, row_from, written}
+use Rattle.kernel_lists.proofs.OwnedWords.OwnedWords.{Holds-append, length-written, written-other}
+use Rattle.kernel_lists.specs.GetvecChain.Make.{made_store}
+use Rattle.kernel_lists.specs.TaskBlock.ChainWords.{entries}
+use Rattle.kernel_model.specs.KernelRecord.Owned.{owned}
+use Rattle.kernel_model.specs.KernelRecord.Root.{root_words}
+use Rattle.kernel_model.specs.KernelRecord.Task.{filled}
+use Rattle.kernel_model.specs.KernelRecord.Versions.{highest_id_of}
 use Rattle.kernel_boot.specs.BootWords.{root_pairs}
 use Rattle.kernel_boot.specs.EmptyKernel.{empty_lists}
-use Rattle.kernel_calls.proofs.Shown.KernelModel.RootCounts.{highest-high}
+use Rattle.kernel_model.proofs.KernelRecord.RootCounts.{highest-high}
 
 -- what was written stands, where it was not written over
 written-here : (front : Pairs) (b w : ℕ) (back : Pairs) (s : List ℕ) → owners b front ≡ 0 → b < length s → get_or (written (front ++ (b, w) ∷ back) s) b 0 ≡ w

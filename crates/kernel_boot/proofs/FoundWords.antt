@@ -5,8 +5,8 @@ use Rattle.std.proofs.lemmas.Bool.Decides.{nat_tests}
 use Rattle.std.proofs.lemmas.List.{get_or-replicate, length-replicate}
 use Rattle.std.specs.Prelude.{nat_le}
 use Rattle.word_store.proofs.Counts.{hit-other}
-use Rattle.kernel_calls.specs.OwnedWords.Owned.{Holds, Pairs, owners, written}
-use Rattle.kernel_calls.proofs.Shown.OwnedWords.OwnedWords.{length-written, written-other}
+use Rattle.kernel_lists.specs.OwnedWords.Owned.{Holds, Pairs, owners, written}
+use Rattle.kernel_lists.proofs.OwnedWords.OwnedWords.{length-written, written-other}
 
 -- the word at the address, where all others are 0
 abbrev pub word_among : Pairs → ℕ → ℕ

@@ -3,14 +3,14 @@ use Rattle.std.proofs.Common.{◌≡◌, ℕ, ◌≤◌, ◌&&◌, leb, Bool, tr
 use Rattle.std.specs.List.{AllByRecursion, list_all}
 use Rattle.std.proofs.lemmas.Bool.{and_parts, cases_eq, leb-true}
 use Rattle.session_text.specs.Canonical.{IsLawful, IsLawfulForm}
-use Rattle.kernel_calls.specs.KernelModel.Ranges.{IsVersion}
+use Rattle.kernel_model.specs.KernelRecord.Ranges.{IsVersion}
 use Rattle.session_text.specs.Ranges.{highest_task, is_priority, is_stack, is_task, most_names}
 use Rattle.ram_disc.specs.Name.{is_name}
 use Rattle.session_text.specs.declared.sessions.LineForm.{LineForm}
 use Rattle.session_text.specs.declared.sessions.LineForm.TheVariants.{Code, File, Task}
 use Rattle.session_text.specs.declared.sessions.Session.{Session}
 use Rattle.session_text.specs.declared.sessions.SessionLine.{SessionLine}
-use Rattle.kernel_calls.specs.KernelModel.Versions.{highest_id_of, most_modules_of}
+use Rattle.kernel_model.specs.KernelRecord.Versions.{highest_id_of, most_modules_of}
 use Rattle.kernel_boot.specs.BootTasks.{AreBootLines, IsBootForm}
 
 by-version : (P : ℕ → Type 0) (version : ℕ) → IsVersion version → P 1 → P 2 → P version

@@ -6,19 +6,19 @@ use Rattle.std.specs.Prelude.{IsTrue, ◌==◌, ◌&&◌, ◌||◌, nat_le, nat_
 use Rattle.std.specs.List.{range_with_len}
 use Rattle.word_store.specs.Count.{hit, times}
 use Rattle.word_store.proofs.Counts.{hit-le, hit-other, hit-same, range-apart, times-above, times-below, times-within}
-use Rattle.kernel_calls.specs.OwnedWords.LinkedWords.{linked_words}
-use Rattle.kernel_calls.specs.OwnedWords.Owned.{Pairs, owners, written}
-use Rattle.kernel_calls.proofs.Shown.OwnedWords.OwnedWords.{length-written, owners-append, written-other}
-use Rattle.kernel_calls.specs.KernelModel.Ranges.{IsVersion, is_period, is_store_size}
-use Rattle.kernel_calls.specs.KernelModel.ChangedStore.{IsChanged}
-use Rattle.kernel_calls.specs.KernelModel.HoldsLists.{HoldsLists}
-use Rattle.kernel_calls.specs.KernelModel.Lists.{Lists}
-use Rattle.kernel_calls.specs.KernelModel.Owned.{owned}
-use Rattle.kernel_calls.specs.KernelModel.Task.{Task, task_address, task_words}
-use Rattle.kernel_calls.specs.KernelModel.ValidLists.{AreValid}
-use Rattle.kernel_calls.proofs.Shown.KernelModel.CutRanges.{times-cut}
-use Rattle.kernel_calls.proofs.Shown.KernelModel.RootCounts.{owners-nodes}
-use Rattle.kernel_calls.proofs.Shown.KernelModel.TaskCounts.{owners-task_by}
+use Rattle.kernel_lists.specs.OwnedWords.LinkedWords.{linked_words}
+use Rattle.kernel_lists.specs.OwnedWords.Owned.{Pairs, owners, written}
+use Rattle.kernel_lists.proofs.OwnedWords.OwnedWords.{length-written, owners-append, written-other}
+use Rattle.kernel_model.specs.KernelRecord.Ranges.{IsVersion, is_period, is_store_size}
+use Rattle.kernel_model.specs.KernelRecord.ChangedStore.{IsChanged}
+use Rattle.kernel_model.specs.KernelRecord.HoldsLists.{HoldsLists}
+use Rattle.kernel_model.specs.KernelRecord.Lists.{Lists}
+use Rattle.kernel_model.specs.KernelRecord.Owned.{owned}
+use Rattle.kernel_model.specs.KernelRecord.Task.{Task, task_address, task_words}
+use Rattle.kernel_model.specs.KernelRecord.ValidLists.{AreValid}
+use Rattle.kernel_model.proofs.KernelRecord.CutRanges.{times-cut}
+use Rattle.kernel_model.proofs.KernelRecord.RootCounts.{owners-nodes}
+use Rattle.kernel_model.proofs.KernelRecord.TaskCounts.{owners-task_by}
 use Rattle.kernel_boot.specs.BootWords.{resident_pairs}
 use Rattle.kernel_boot.specs.ResidentKernel.{console, fault_reporter, files, resident_block_size, resident_lists, shell}
 use Rattle.kernel_boot.proofs.ResidentRules.{residents-coroutines, residents-numbers, residents-queues, residents-tasks, residents-tile}

@@ -3,17 +3,17 @@ use Rattle.std.proofs.Common.{◌≡◌, ℕ, ◌%◌, ◌≤◌, Bool, true, fa
 use Rattle.std.specs.Prelude.{IsTrue}
 use Rattle.std.specs.List.{AllByRecursion}
 use Rattle.word_store.specs.Count.{IsApart}
-use Rattle.kernel_calls.specs.LinkedList.Places.{has}
+use Rattle.kernel_lists.specs.LinkedList.Places.{has}
 use Rattle.word_store.proofs.Counts.{IsApart-cons}
-use Rattle.kernel_calls.specs.PacketQueue.QueueWords.{QueuedPacket}
-use Rattle.kernel_calls.specs.KernelModel.Ranges.{IsVersion, is_period, is_store_size}
-use Rattle.kernel_calls.specs.KernelModel.BlockUse.{coroutine_addresses}
-use Rattle.kernel_calls.specs.KernelModel.Lists.{Lists}
-use Rattle.kernel_calls.specs.KernelModel.Task.{Task, is_guest_id}
-use Rattle.kernel_calls.specs.KernelModel.ValidBlocks.{BlocksTile, NumbersStand}
-use Rattle.kernel_calls.specs.KernelModel.ValidQueues.{Keyboard, MayStand, QueuesStand, Work}
-use Rattle.kernel_calls.specs.KernelModel.ValidTasks.{CoroutinesStand, IsCoroutine, IsTask, TasksStand, resident_place}
-use Rattle.kernel_calls.specs.GetvecChain.Block.{used_block}
+use Rattle.kernel_lists.specs.PacketQueue.QueueWords.{QueuedPacket}
+use Rattle.kernel_model.specs.KernelRecord.Ranges.{IsVersion, is_period, is_store_size}
+use Rattle.kernel_model.specs.KernelRecord.BlockUse.{coroutine_addresses}
+use Rattle.kernel_model.specs.KernelRecord.Lists.{Lists}
+use Rattle.kernel_model.specs.KernelRecord.Task.{Task, is_guest_id}
+use Rattle.kernel_model.specs.KernelRecord.ValidBlocks.{BlocksTile, NumbersStand}
+use Rattle.kernel_model.specs.KernelRecord.ValidQueues.{Keyboard, MayStand, QueuesStand, Work}
+use Rattle.kernel_model.specs.KernelRecord.ValidTasks.{CoroutinesStand, IsCoroutine, IsTask, TasksStand, resident_place}
+use Rattle.kernel_lists.specs.GetvecChain.Block.{used_block}
 use Rattle.kernel_boot.specs.ResidentKernel.{console, fault_reporter, files, packet_from, resident_lists, shell, waiting_resident}
 
 -- a resident that waits at its place

@@ -1,16 +1,16 @@
 -- The words of a kernel with residents.
 use Rattle.std.proofs.Common.{◌≡◌, ℕ, ◌-◌, ◌≤◌, Bool, true, false, List, [], ◌∷◌, ◌++◌, map, replicate, inl, inr, refl, sym, subst, arith}
 use Rattle.std.proofs.lemmas.Bool.{cases_eq}
-use Rattle.kernel_calls.specs.OwnedWords.Owned.{Holds, Pairs, row_from, written}
-use Rattle.kernel_calls.proofs.Shown.OwnedWords.OwnedWords.{Holds-append}
-use Rattle.kernel_calls.specs.GetvecChain.BlockWords.{blocks_words}
-use Rattle.kernel_calls.specs.HunkLoader.ModuleExchanges.{modules_words}
-use Rattle.kernel_calls.specs.KernelModel.Ranges.{IsVersion}
-use Rattle.kernel_calls.specs.KernelModel.Lists.{Lists, address_of_task}
-use Rattle.kernel_calls.specs.KernelModel.Owned.{device_words, owned, tasks_words}
-use Rattle.kernel_calls.specs.KernelModel.Residents.{resident_words}
-use Rattle.kernel_calls.specs.KernelModel.Root.{number_words, root_words, unused_entries}
-use Rattle.kernel_calls.specs.KernelModel.Versions.{highest_id_of}
+use Rattle.kernel_lists.specs.OwnedWords.Owned.{Holds, Pairs, row_from, written}
+use Rattle.kernel_lists.proofs.OwnedWords.OwnedWords.{Holds-append}
+use Rattle.kernel_lists.specs.GetvecChain.BlockWords.{blocks_words}
+use Rattle.kernel_lists.specs.HunkLoader.ModuleExchanges.{modules_words}
+use Rattle.kernel_model.specs.KernelRecord.Ranges.{IsVersion}
+use Rattle.kernel_model.specs.KernelRecord.Lists.{Lists, address_of_task}
+use Rattle.kernel_model.specs.KernelRecord.Owned.{device_words, owned, tasks_words}
+use Rattle.kernel_model.specs.KernelRecord.Residents.{resident_words}
+use Rattle.kernel_model.specs.KernelRecord.Root.{number_words, root_words, unused_entries}
+use Rattle.kernel_model.specs.KernelRecord.Versions.{highest_id_of}
 use Rattle.kernel_boot.specs.BootWords.{resident_pairs}
 use Rattle.kernel_boot.specs.ResidentKernel.{resident_lists}
 use Rattle.kernel_boot.proofs.FoundWords.{all-found, are_low, end-zero, word_among}

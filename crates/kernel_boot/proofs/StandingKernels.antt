@@ -2,17 +2,17 @@
 use Rattle.std.proofs.Common.{◌≡◌, cond, false, ℕ, ◌+◌, ◌<◌, ◌≤◌, List, [], ◌∷◌, ◌++◌, length, get_or, drop, Option, Some, Result, Ok, Err, inl, inr, refl, sym, ap, ◌∙◌, arith, add-one, drop-cons}
 use Rattle.std.proofs.lemmas.Bool.{cases_eq}
 use Rattle.std.proofs.lemmas.List.{ext_get_or}
-use Rattle.kernel_calls.specs.OwnedWords.Owned.{Holds, Pairs, owners, written}
-use Rattle.kernel_calls.proofs.Shown.OwnedWords.OwnedWords.{Holds-written, length-written, word_in-holds, written-other}
-use Rattle.hunk_text.specs.ModuleForm.{IsModule}
-use Rattle.hunk_text.specs.ModuleOfText.{Refusal, module_of}
-use Rattle.hunk_text.specs.Shapes.{check, check_of}
-use Rattle.hunk_text.specs.declared.modules.Module.{Module}
-use Rattle.hunk_text.proofs.Sound.{sound}
-use Rattle.kernel_calls.specs.KernelModel.ChangedStore.{HasKeeper, IsChanged}
-use Rattle.kernel_calls.specs.KernelModel.Lists.{Lists, has_task}
-use Rattle.kernel_calls.specs.KernelModel.ValidQueues.{HasGuest}
-use Rattle.kernel_calls.proofs.Shown.KernelModel.ChangedLists.{knows-same}
+use Rattle.kernel_lists.specs.OwnedWords.Owned.{Holds, Pairs, owners, written}
+use Rattle.kernel_lists.proofs.OwnedWords.OwnedWords.{Holds-written, length-written, word_in-holds, written-other}
+use Rattle.module_text.specs.ModuleForm.{IsModule}
+use Rattle.module_text.specs.ModuleOfText.{Refusal, module_of}
+use Rattle.module_text.specs.Shapes.{check, check_of}
+use Rattle.module_text.specs.declared.modules.Module.{Module}
+use Rattle.module_text.proofs.Sound.{sound}
+use Rattle.kernel_model.specs.KernelRecord.ChangedStore.{HasKeeper, IsChanged}
+use Rattle.kernel_model.specs.KernelRecord.Lists.{Lists, has_task}
+use Rattle.kernel_model.specs.KernelRecord.ValidQueues.{HasGuest}
+use Rattle.kernel_model.proofs.KernelRecord.ChangedLists.{knows-same}
 use Rattle.ram_disc.specs.Disc.{Disc}
 use Rattle.session_text.specs.declared.sessions.SessionLine.{SessionLine}
 use Rattle.kernel_calls.specs.TaskCalls.CreateTask.{create_task}
@@ -20,11 +20,11 @@ use Rattle.kernel_boot.specs.BegunTask.{with_begun}
 use Rattle.kernel_boot.specs.BootFiles.{at_line}
 use Rattle.kernel_boot.proofs.BegunTask.{begun-same}
 use Rattle.kernel_boot.proofs.StartedTasks.{form-keeps}
-use Rattle.kernel_calls.specs.KernelModel.Owned.{owned}
+use Rattle.kernel_model.specs.KernelRecord.Owned.{owned}
 use Rattle.kernel_calls.specs.CallAnswers.Made.{IsMade, Made, refused}
 use Rattle.kernel_calls.specs.ModuleCalls.LoadModule.{load_module}
 use Rattle.kernel_boot.specs.BootTasks.{IsLeft, after_call, begin_it, create_it, load_named, load_names, load_text, on_answer, start_form, start_task, start_tasks}
-use Rattle.kernel_calls.specs.KernelModel.Standing.{Standing, left_with, standing}
+use Rattle.kernel_model.specs.KernelRecord.Standing.{Standing, left_with, standing}
 
 module _ (s t : List ℕ) (l : Lists) (plain : Pairs) (ch : IsChanged s t l plain) where
   abbrev words : List ℕ

@@ -5,26 +5,26 @@ use Rattle.std.specs.Option.{option_map}
 use Rattle.std.specs.Prelude.{is_ok, unwrap_or}
 use Rattle.std.proofs.lemmas.Bool.{eq-eqb, ne_eqb}
 use Rattle.std.proofs.lemmas.List.{length-append}
-use Rattle.hunk_text.specs.ModuleOfText.{Refusal, module_of}
-use Rattle.hunk_text.specs.declared.modules.Module.{Module}
-use Rattle.kernel_calls.specs.LinkedList.Places.{insert_after}
+use Rattle.module_text.specs.ModuleOfText.{Refusal, module_of}
+use Rattle.module_text.specs.declared.modules.Module.{Module}
+use Rattle.kernel_lists.specs.LinkedList.Places.{insert_after}
 use Rattle.ram_disc.specs.Disc.{Disc, file_named}
 use Rattle.ram_disc.proofs.NameOrder.{all-get_or}
 use Rattle.session_text.specs.declared.sessions.SessionLine.{SessionLine}
-use Rattle.kernel_calls.specs.KernelModel.ValidQueues.{HasGuest}
+use Rattle.kernel_model.specs.KernelRecord.ValidQueues.{HasGuest}
 use Rattle.session_text.specs.declared.sessions.LineForm.{LineForm}
 use Rattle.session_text.specs.declared.sessions.LineForm.TheVariants.{Code, File, Task}
-use Rattle.kernel_calls.specs.KernelModel.Lists.{Lists, has_task}
-use Rattle.kernel_calls.specs.KernelModel.Task.{Task as TaskRecord, is_guest_id}
-use Rattle.kernel_calls.specs.KernelModel.Versions.{highest_id_of, most_modules_of}
+use Rattle.kernel_model.specs.KernelRecord.Lists.{Lists, has_task}
+use Rattle.kernel_model.specs.KernelRecord.Task.{Task as TaskRecord, is_guest_id}
+use Rattle.kernel_model.specs.KernelRecord.Versions.{highest_id_of, most_modules_of}
 use Rattle.kernel_calls.specs.CallAnswers.Made.{Made, by_refusal}
 use Rattle.kernel_calls.specs.CallAnswers.Guests.{IsGuestOf}
 use Rattle.kernel_calls.specs.CallAnswers.Refusals.{first_refusal}
-use Rattle.kernel_calls.proofs.Shown.CallAnswers.Refusals.{high-guest}
+use Rattle.kernel_calls.proofs.CallAnswers.Refusals.{high-guest}
 use Rattle.kernel_calls.specs.ModuleCalls.LoadModule.{load_tests}
 use Rattle.kernel_calls.specs.TaskCalls.CreateTask.{MayCreate, create_task, creation_tests, free_id, new_task, number_of, with_created}
 use Rattle.kernel_boot.specs.BootTasks.{AreBootLines, IsBootForm, MayStart, begin_it, create_it, load_bytes, load_named, load_names, load_text, on_answer, start_form}
-use Rattle.kernel_calls.specs.KernelModel.Standing.{Standing, left_with, standing}
+use Rattle.kernel_model.specs.KernelRecord.Standing.{Standing, left_with, standing}
 
 -- ---- loading
 

@@ -2,7 +2,7 @@
 use Rattle.std.proofs.Common.{◌≡◌, ℕ, ◌%◌, ◌≤◌, true, eqb, ◌&&◌}
 use Rattle.std.proofs.lemmas.Bool.{and_parts, eqb-true, leb-true}
 use Rattle.std.specs.Prelude.{IsTrue, nat_le}
-use Rattle.kernel_calls.specs.KernelModel.Ranges.{is_store_size, most_words}
+use Rattle.kernel_model.specs.KernelRecord.Ranges.{is_store_size, most_words}
 
 module _ (v n : ℕ) (size : IsTrue (is_store_size v n)) where
   parts : ((nat_le 1024 n && nat_le n (most_words v)) ≡ true) × (eqb (n % 2) 0 ≡ true)

@@ -1,10 +1,10 @@
 -- A task that is to begin at its function, without a packet.
 use Rattle.std.specs.Prelude.{ℕ, ◌+◌, List, slice_index}
 use Rattle.word_store.specs.declared.registers.Regs.{Regs}
-use Rattle.kernel_calls.specs.KernelModel.Changes.{with_task}
-use Rattle.kernel_calls.specs.KernelModel.Lists.{Lists}
-use Rattle.kernel_calls.specs.KernelModel.Task.{Task, globals_of, stack_of}
-use Rattle.kernel_calls.specs.KernelModel.ValidTasks.{interrupted}
+use Rattle.kernel_model.specs.KernelRecord.Changes.{with_task}
+use Rattle.kernel_model.specs.KernelRecord.Lists.{Lists}
+use Rattle.kernel_model.specs.KernelRecord.Task.{Task, globals_of, stack_of}
+use Rattle.kernel_model.specs.KernelRecord.ValidTasks.{interrupted}
 
 -- its function is the one that its global 1 names, and it runs on its own stack and with its own globals
 abbrev pub begin_regs : ℕ → List ℕ → Task → Regs

@@ -3,16 +3,16 @@ use Rattle.std.specs.Prelude.{ℕ, ◌≡◌, ◌+◌, ◌≤◌, if◌then◌el
 use Rattle.std.specs.List.{AllByRecursion}
 use Rattle.std.specs.Option.{option_map}
 use Rattle.arrayvec.specs.ArrayVec.{ArrayVec}
-use Rattle.hunk_text.specs.ModuleOfText.{Refusal, module_of}
-use Rattle.hunk_text.specs.declared.modules.Module.{Module}
+use Rattle.module_text.specs.ModuleOfText.{Refusal, module_of}
+use Rattle.module_text.specs.declared.modules.Module.{Module}
 use Rattle.ram_disc.specs.Disc.{Disc, file_named}
 use Rattle.session_text.specs.declared.sessions.LineForm.{LineForm}
 use Rattle.session_text.specs.declared.sessions.LineForm.TheVariants.{Code, File, Task}
 use Rattle.session_text.specs.declared.sessions.SessionLine.{SessionLine}
-use Rattle.kernel_calls.specs.KernelModel.ChangedStore.{HasKeeper}
-use Rattle.kernel_calls.specs.KernelModel.Lists.{Lists, has_task}
-use Rattle.kernel_calls.specs.KernelModel.Standing.{Standing, left_with, standing}
-use Rattle.kernel_calls.specs.KernelModel.Versions.{highest_id_of, most_modules_of}
+use Rattle.kernel_model.specs.KernelRecord.ChangedStore.{HasKeeper}
+use Rattle.kernel_model.specs.KernelRecord.Lists.{Lists, has_task}
+use Rattle.kernel_model.specs.KernelRecord.Standing.{Standing, left_with, standing}
+use Rattle.kernel_model.specs.KernelRecord.Versions.{highest_id_of, most_modules_of}
 use Rattle.kernel_calls.specs.CallAnswers.Made.{Made, refused}
 use Rattle.kernel_calls.specs.ModuleCalls.LoadModule.{load_module}
 use Rattle.kernel_calls.specs.TaskCalls.CreateTask.{create_task}

@@ -1,8 +1,8 @@
 -- The words that are not 0 when a kernel begins, each with its address. The pair that is written last comes first.
 use Rattle.std.specs.Prelude.{ℕ, ◌+◌, ◌-◌, Bool, if◌then◌else◌, [], ◌∷◌, ◌++◌}
-use Rattle.kernel_calls.specs.OwnedWords.Owned.{Pairs}
-use Rattle.kernel_calls.specs.PacketQueue.Queue.{no_queue}
-use Rattle.kernel_calls.specs.KernelModel.Versions.{highest_id_of}
+use Rattle.kernel_lists.specs.OwnedWords.Owned.{Pairs}
+use Rattle.kernel_lists.specs.PacketQueue.Queue.{no_queue}
+use Rattle.kernel_model.specs.KernelRecord.Versions.{highest_id_of}
 use Rattle.kernel_boot.specs.ResidentKernel.{resident_block_size}
 
 -- the words of the root that each kernel has, for a store of so many words, the version and the period

@@ -1,7 +1,7 @@
 -- The lists of a kernel that has no tasks, no modules and no packets: all its store from 200 up to the end word is one free block.
 use Rattle.std.specs.Prelude.{ℕ, ◌-◌, false, None, [], ◌∷◌}
-use Rattle.kernel_calls.specs.GetvecChain.Block.{free_block}
-use Rattle.kernel_calls.specs.KernelModel.Lists.{Lists}
+use Rattle.kernel_lists.specs.GetvecChain.Block.{free_block}
+use Rattle.kernel_model.specs.KernelRecord.Lists.{Lists}
 
 abbrev pub empty_lists : ℕ → ℕ → ℕ → Lists
 empty_lists version period size =

@@ -1,13 +1,13 @@
 -- The lists of a kernel with which a session with residents begins: the residents wait, the console's key packet is at the
 -- keyboard, and the shell has a packet of its own. The first block is theirs, and the rest of the store is one free block.
 use Rattle.std.specs.Prelude.{ℕ, ◌+◌, ◌-◌, Bool, true, false, if◌then◌else◌, None, List, [], ◌∷◌}
-use Rattle.kernel_calls.specs.Coroutines.CoroutineExchanges.{TaskCoroutines}
-use Rattle.kernel_calls.specs.GetvecChain.Block.{free_block, used_block}
-use Rattle.kernel_calls.specs.PacketQueue.QueueWords.{QueuedPacket}
-use Rattle.kernel_calls.specs.KernelModel.Lists.{Lists}
-use Rattle.kernel_calls.specs.KernelModel.Residents.{key_packet}
-use Rattle.kernel_calls.specs.KernelModel.Task.{Task}
-use Rattle.kernel_calls.specs.KernelModel.ValidTasks.{no_regs, waits}
+use Rattle.kernel_lists.specs.Coroutines.CoroutineExchanges.{TaskCoroutines}
+use Rattle.kernel_lists.specs.GetvecChain.Block.{free_block, used_block}
+use Rattle.kernel_lists.specs.PacketQueue.QueueWords.{QueuedPacket}
+use Rattle.kernel_model.specs.KernelRecord.Lists.{Lists}
+use Rattle.kernel_model.specs.KernelRecord.Residents.{key_packet}
+use Rattle.kernel_model.specs.KernelRecord.Task.{Task}
+use Rattle.kernel_model.specs.KernelRecord.ValidTasks.{no_regs, waits}
 
 -- the size of the residents' block, which is larger where one of them reports faults
 abbrev pub resident_block_size : Bool → ℕ

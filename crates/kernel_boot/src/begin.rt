@@ -1,15 +1,16 @@
 // A task that is to begin.
 ghost use Rattle.std.specs.Prelude.{◌≡◌, ◌%◌, ◌+◌, []};
-ghost use Rattle.kernel_calls.specs.OwnedWords.Owned.{written};
-ghost use Rattle.kernel_calls.specs.KernelModel.ChangedStore.{IsChanged};
-ghost use Rattle.kernel_calls.specs.KernelModel.HoldsLists.{HoldsLists};
-ghost use Rattle.kernel_calls.specs.KernelModel.Lists.{Lists};
-ghost use Rattle.kernel_calls.specs.KernelModel.ValidQueues.{HasGuest};
-ghost use Rattle.kernel_calls.specs.KernelDispatch.DispatchWords.{saved_words};
+ghost use Rattle.kernel_lists.specs.OwnedWords.Owned.{written};
+ghost use Rattle.kernel_model.specs.KernelRecord.ChangedStore.{IsChanged};
+ghost use Rattle.kernel_model.specs.KernelRecord.HoldsLists.{HoldsLists};
+ghost use Rattle.kernel_model.specs.KernelRecord.Lists.{Lists};
+ghost use Rattle.kernel_model.specs.KernelRecord.ValidQueues.{HasGuest};
+ghost use Rattle.kernel_model.specs.KernelDispatch.DispatchWords.{saved_words};
 ghost use Rattle.kernel_boot.specs.BegunTask.{with_begun};
 
-use kernel_calls::numbers::INTERRUPTED;
-use kernel_calls::{TcbField, field, guest, set_field};
+use kernel_calls::guest;
+use kernel_lists::{TcbField, field, set_field};
+use kernel_model::numbers::INTERRUPTED;
 use word_store::{Regs, Store, word_at};
 
 /// Lets the guest with the number begin at its function, with A, B and C 0, once it is its turn: as if it had been interrupted

@@ -1,17 +1,17 @@
 // A kernel with residents.
 ghost use Rattle.std.specs.Prelude.{◌≡◌, ◌≤◌, ◌+◌, [], IsTrue, if◌then◌else◌, length, replicate};
-ghost use Rattle.kernel_calls.specs.OwnedWords.Owned.{written};
-ghost use Rattle.kernel_calls.specs.KernelModel.Ranges.{IsVersion, is_period, is_store_size};
-ghost use Rattle.kernel_calls.specs.KernelModel.ChangedStore.{IsChanged};
+ghost use Rattle.kernel_lists.specs.OwnedWords.Owned.{written};
+ghost use Rattle.kernel_model.specs.KernelRecord.Ranges.{IsVersion, is_period, is_store_size};
+ghost use Rattle.kernel_model.specs.KernelRecord.ChangedStore.{IsChanged};
 ghost use Rattle.kernel_boot.specs.BootWords.{block_pairs, chain_pairs, fault_pairs, key_pairs, reporter_pairs, shell_pairs, waiting_pairs};
 ghost use Rattle.kernel_boot.specs.ResidentKernel.{resident_block_size, resident_lists};
 
 use crate::start::write_root;
-use kernel_calls::numbers::{
+use kernel_lists::{FIRST_BLOCK, NO_QUEUE, RootField, TcbField, set_field, set_root};
+use kernel_model::numbers::{
     CONSOLE, FAULT_PACKET, FILE_HANDLER, KEY_PACKET, REPORTER, RESIDENT_DATA, SENDER, SHELL,
     SHELL_PACKET, TABLE, WAITS,
 };
-use kernel_calls::{FIRST_BLOCK, NO_QUEUE, RootField, TcbField, set_field, set_root};
 use word_store::Store;
 
 /// A resident: its number, the address of its task block, and its priority.

@@ -1,14 +1,14 @@
 // A kernel without tasks, modules and packets.
 ghost use Rattle.std.specs.Prelude.{◌≡◌, IsTrue, [], length, replicate};
-ghost use Rattle.kernel_calls.specs.OwnedWords.Owned.{written};
-ghost use Rattle.kernel_calls.specs.KernelModel.Ranges.{IsVersion, is_period, is_store_size};
-ghost use Rattle.kernel_calls.specs.KernelModel.ChangedStore.{IsChanged};
-ghost use Rattle.kernel_calls.specs.KernelModel.Versions.{highest_id_of};
+ghost use Rattle.kernel_lists.specs.OwnedWords.Owned.{written};
+ghost use Rattle.kernel_model.specs.KernelRecord.Ranges.{IsVersion, is_period, is_store_size};
+ghost use Rattle.kernel_model.specs.KernelRecord.ChangedStore.{IsChanged};
+ghost use Rattle.kernel_model.specs.KernelRecord.Versions.{highest_id_of};
 ghost use Rattle.kernel_boot.specs.BootWords.{root_pairs};
 ghost use Rattle.kernel_boot.specs.EmptyKernel.{empty_lists};
 
-use kernel_calls::numbers::TABLE;
-use kernel_calls::{FIRST_BLOCK, RootField, make, set_root};
+use kernel_lists::{FIRST_BLOCK, RootField, make, set_root};
+use kernel_model::numbers::TABLE;
 use word_store::Store;
 
 /// Makes a kernel in a store of zeros: the root node, the task table, and one free block of all words from 200 up to the end

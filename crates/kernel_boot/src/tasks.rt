@@ -1,14 +1,15 @@
 // The tasks of a session.
 ghost use Rattle.std.specs.Prelude.{◌≡◌, ◌≤◌, length, []};
-ghost use Rattle.kernel_calls.specs.KernelModel.ChangedStore.{HasKeeper};
-ghost use Rattle.kernel_calls.specs.KernelModel.Lists.{Lists};
+ghost use Rattle.kernel_model.specs.KernelRecord.ChangedStore.{HasKeeper};
+ghost use Rattle.kernel_model.specs.KernelRecord.Lists.{Lists};
 ghost use Rattle.kernel_calls.specs.CallAnswers.Made.{IsMade};
 ghost use Rattle.kernel_boot.specs.BootTasks.{AreBootLines, AreLoaded, IsBootForm, IsLeft, MayStart, load_named, load_names, start_form, start_task, start_tasks};
-ghost use Rattle.kernel_calls.specs.KernelModel.Standing.{standing};
+ghost use Rattle.kernel_model.specs.KernelRecord.Standing.{standing};
 
 use crate::{BootRefusal, begin_task};
 use arrayvec::ArrayVec;
-use kernel_calls::{KindKeeper, create_task_of, guest, load_module};
+use kernel_calls::{create_task_of, guest, load_module};
+use kernel_model::KindKeeper;
 use ram_disc::codes::NO_FILE;
 use ram_disc::{Disc, Name};
 use session_text::{LineForm, SessionLine};

@@ -2,19 +2,19 @@
 use Rattle.std.proofs.Common.{◌≡◌, ℕ, List, [], ◌∷◌, ◌++◌, Some, None, Result, Ok, refl, sym, ap, ◌∙◌, subst}
 use Rattle.std.proofs.lemmas.List.{append-nil}
 use Rattle.word_store.specs.declared.registers.Regs.{Regs}
-use Rattle.coroutine_calls.specs.KernelDispatch.OwnedWords.Owned.{owners}
-use Rattle.coroutine_calls.specs.KernelDispatch.PacketQueue.QueueWords.{QueuedPacket}
-use Rattle.coroutine_calls.specs.KernelDispatch.KernelModel.ChangedStore.{Knows}
-use Rattle.coroutine_calls.specs.KernelDispatch.KernelModel.HoldsLists.{HoldsLists}
-use Rattle.coroutine_calls.specs.KernelDispatch.KernelModel.Lists.{Lists}
-use Rattle.coroutine_calls.specs.KernelDispatch.KernelModel.NotedEvents.{NotesAll}
-use Rattle.coroutine_calls.specs.KernelDispatch.KernelModel.Owned.{owned}
-use Rattle.coroutine_calls.proofs.Shown.KernelDispatch.KernelModel.ChangedLists.{changed-none, knows-same}
-use Rattle.coroutine_calls.proofs.Shown.KernelDispatch.KernelModel.NotedInTurn.{notes-none}
-use Rattle.coroutine_calls.specs.CallAnswers.Made.{IsMade, Leaves, Made}
-use Rattle.coroutine_calls.specs.Switched.{IsSwitched, Switched}
-use Rattle.coroutine_calls.specs.PacketCalls.TaskWait.{answer_of_wait, first_of_queue}
-use Rattle.coroutine_calls.specs.CallAnswers.Outside.{Outside}
+use Rattle.kernel_lists.specs.OwnedWords.Owned.{owners}
+use Rattle.kernel_lists.specs.PacketQueue.QueueWords.{QueuedPacket}
+use Rattle.kernel_model.specs.KernelRecord.ChangedStore.{Knows}
+use Rattle.kernel_model.specs.KernelRecord.HoldsLists.{HoldsLists}
+use Rattle.kernel_model.specs.KernelRecord.Lists.{Lists}
+use Rattle.kernel_model.specs.KernelRecord.NotedEvents.{NotesAll}
+use Rattle.kernel_model.specs.KernelRecord.Owned.{owned}
+use Rattle.kernel_model.proofs.KernelRecord.ChangedLists.{changed-none, knows-same}
+use Rattle.kernel_model.proofs.KernelRecord.NotedInTurn.{notes-none}
+use Rattle.kernel_calls.specs.CallAnswers.Made.{IsMade, Leaves, Made}
+use Rattle.kernel_calls.specs.CoroutineCalls.Switched.{IsSwitched, Switched}
+use Rattle.kernel_calls.specs.PacketCalls.TaskWait.{answer_of_wait, first_of_queue}
+use Rattle.kernel_calls.specs.CallAnswers.Outside.{Outside}
 use Rattle.kernel_calls.specs.Calls.{IsCalled, answered, ended_with, of_byte, of_made, of_switched, of_wait, regs_of_switch}
 use Rattle.kernel_calls.specs.declared.call_numbers.CallOutcome.{CallOutcome}
 use Rattle.kernel_calls.specs.declared.call_numbers.CallOutcome.TheVariants.{Done, Waits}

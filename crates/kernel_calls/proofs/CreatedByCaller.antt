@@ -1,12 +1,12 @@
 -- A task may be created by the one that calls.
 use Rattle.std.proofs.Common.{◌≤◌, ℕ, List, [], ◌∷◌, cond, eqb, true, false, inl, refl, subst, arith}
-use Rattle.coroutine_calls.specs.KernelDispatch.KernelModel.HoldsLists.{HoldsLists}
-use Rattle.coroutine_calls.specs.KernelDispatch.KernelModel.Lists.{Lists}
-use Rattle.coroutine_calls.specs.KernelDispatch.KernelModel.ValidTasks.{IsGuest}
-use Rattle.coroutine_calls.specs.KernelDispatch.KernelModel.Versions.{highest_id_of, most_modules_of}
-use Rattle.coroutine_calls.specs.CallAnswers.Guests.{GuestAt}
-use Rattle.coroutine_calls.proofs.Shown.CallAnswers.GuestTask.{guest-facts}
-use Rattle.coroutine_calls.specs.TaskCalls.CreateTask.{MayCreate}
+use Rattle.kernel_model.specs.KernelRecord.HoldsLists.{HoldsLists}
+use Rattle.kernel_model.specs.KernelRecord.Lists.{Lists}
+use Rattle.kernel_model.specs.KernelRecord.ValidTasks.{IsGuest}
+use Rattle.kernel_model.specs.KernelRecord.Versions.{highest_id_of, most_modules_of}
+use Rattle.kernel_calls.specs.CallAnswers.Guests.{GuestAt}
+use Rattle.kernel_calls.proofs.CallAnswers.GuestTask.{guest-facts}
+use Rattle.kernel_calls.specs.TaskCalls.CreateTask.{MayCreate}
 
 some-module : (version : ℕ) → 1 ≤ most_modules_of version
 some-module version = elim (eqb version 2) as (λ b. 1 ≤ cond b 8 1) [ true ↦ omega arith | false ↦ omega arith ]

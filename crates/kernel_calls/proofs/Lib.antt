@@ -1,5 +1,10 @@
+pub mod CallAnswers
+pub mod BlockCalls
+pub mod TaskCalls
+pub mod ModuleCalls
+pub mod PacketCalls
+pub mod CoroutineCalls
 pub mod SilentCalls
 pub mod CalledAnswers
 pub mod CreatedByCaller
 pub mod RefusedCalls
-pub mod Shown

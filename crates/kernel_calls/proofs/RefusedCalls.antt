@@ -3,15 +3,15 @@ use Rattle.std.proofs.Common.{◌≡◌, ℕ, List, [], cond, eqb, get_or, Bool,
 use Rattle.std.proofs.lemmas.Bool.{cases_lt}
 use Rattle.std.proofs.lemmas.List.{ext_get_or}
 use Rattle.word_store.specs.declared.registers.Regs.{Regs}
-use Rattle.coroutine_calls.specs.KernelDispatch.OwnedWords.Owned.{owners, word_in}
-use Rattle.coroutine_calls.proofs.Shown.KernelDispatch.OwnedWords.OwnedWords.{word_in-holds}
-use Rattle.coroutine_calls.specs.KernelDispatch.KernelModel.ChangedStore.{IsChanged}
-use Rattle.coroutine_calls.specs.KernelDispatch.KernelModel.HoldsLists.{HoldsLists}
-use Rattle.coroutine_calls.specs.KernelDispatch.KernelModel.Lists.{Lists}
-use Rattle.coroutine_calls.specs.KernelDispatch.KernelModel.Owned.{owned}
-use Rattle.coroutine_calls.specs.CallAnswers.Made.{Made, by_refusal, done, unless_refused}
-use Rattle.coroutine_calls.specs.CallAnswers.Refusals.{first_refusal}
-use Rattle.coroutine_calls.specs.BlockCalls.Freevec.{freevec_tests, with_given}
+use Rattle.kernel_lists.specs.OwnedWords.Owned.{owners, word_in}
+use Rattle.kernel_lists.proofs.OwnedWords.OwnedWords.{word_in-holds}
+use Rattle.kernel_model.specs.KernelRecord.ChangedStore.{IsChanged}
+use Rattle.kernel_model.specs.KernelRecord.HoldsLists.{HoldsLists}
+use Rattle.kernel_model.specs.KernelRecord.Lists.{Lists}
+use Rattle.kernel_model.specs.KernelRecord.Owned.{owned}
+use Rattle.kernel_calls.specs.CallAnswers.Made.{Made, by_refusal, done, unless_refused}
+use Rattle.kernel_calls.specs.CallAnswers.Refusals.{first_refusal}
+use Rattle.kernel_calls.specs.BlockCalls.Freevec.{freevec_tests, with_given}
 use Rattle.kernel_calls.specs.Calls.{kernel_call, made, of_made, past_call, made_if_read}
 use Rattle.kernel_calls.specs.Refusals.{IsRefused, refused, tests_of}
 use Rattle.kernel_calls.specs.declared.call_numbers.KernelCall.{KernelCall}

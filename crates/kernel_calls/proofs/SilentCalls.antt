@@ -1,26 +1,26 @@
 -- Calls that note no event.
 use Rattle.std.proofs.Common.{◌≡◌, ℕ, ◌+◌, ◌++◌, List, [], ◌∷◌, Bool, true, false, cond, eqb, Option, Some, None, Ok, refl}
 use Rattle.std.specs.Prelude.{unwrap_or}
-use Rattle.coroutine_calls.specs.KernelDispatch.HunkLoader.Globals.{globals_in}
-use Rattle.coroutine_calls.specs.KernelDispatch.KernelModel.Changes.{with_task}
-use Rattle.coroutine_calls.specs.KernelDispatch.KernelModel.Lists.{Lists}
-use Rattle.coroutine_calls.specs.CallAnswers.Guests.{guest_tests}
-use Rattle.coroutine_calls.specs.CallAnswers.Made.{Made, by_refusal, done, unless_refused}
-use Rattle.coroutine_calls.specs.CallAnswers.Refusals.{first_refusal}
-use Rattle.coroutine_calls.specs.BlockCalls.FreeStore.{data_taken, with_taken}
-use Rattle.coroutine_calls.specs.BlockCalls.Freevec.{freevec, freevec_tests, with_given}
-use Rattle.coroutine_calls.specs.BlockCalls.Getvec.{getvec, getvec_tests}
-use Rattle.coroutine_calls.specs.CreateCo.{create_tests, created, createco}
-use Rattle.coroutine_calls.specs.DeleteCo.{delete_tests, deleteco, with_deleted_at}
-use Rattle.coroutine_calls.specs.KernelDispatch.Coroutines.Creation.{highest}
-use Rattle.coroutine_calls.specs.ModuleCalls.AddModule.{add_module, addition_tests, global_words, globals_of_task, modules_so_far, task_of, with_further}
-use Rattle.coroutine_calls.specs.ModuleCalls.UnloadModule.{unload_module, unload_tests, without_module}
-use Rattle.coroutine_calls.specs.TaskCalls.ChangePri.{change_pri, priority_tests, with_new_priority}
-use Rattle.coroutine_calls.specs.TaskCalls.CreateTask.{create_task, creation_tests, new_task, number_of, with_created}
-use Rattle.coroutine_calls.specs.TaskCalls.DeleteTask.{delete_task, deletion_tests, without_task}
-use Rattle.coroutine_calls.specs.TaskCalls.HoldTask.{held, hold, hold_tests}
-use Rattle.coroutine_calls.specs.TaskCalls.ReleaseTask.{release, release_tests, released}
-use Rattle.coroutine_calls.specs.TaskCalls.SetFlags.{flagged, set_flags}
+use Rattle.kernel_lists.specs.HunkLoader.Globals.{globals_in}
+use Rattle.kernel_model.specs.KernelRecord.Changes.{with_task}
+use Rattle.kernel_model.specs.KernelRecord.Lists.{Lists}
+use Rattle.kernel_calls.specs.CallAnswers.Guests.{guest_tests}
+use Rattle.kernel_calls.specs.CallAnswers.Made.{Made, by_refusal, done, unless_refused}
+use Rattle.kernel_calls.specs.CallAnswers.Refusals.{first_refusal}
+use Rattle.kernel_calls.specs.BlockCalls.FreeStore.{data_taken, with_taken}
+use Rattle.kernel_calls.specs.BlockCalls.Freevec.{freevec, freevec_tests, with_given}
+use Rattle.kernel_calls.specs.BlockCalls.Getvec.{getvec, getvec_tests}
+use Rattle.kernel_calls.specs.CoroutineCalls.CreateCo.{create_tests, created, createco}
+use Rattle.kernel_calls.specs.CoroutineCalls.DeleteCo.{delete_tests, deleteco, with_deleted_at}
+use Rattle.kernel_lists.specs.Coroutines.Creation.{highest}
+use Rattle.kernel_calls.specs.ModuleCalls.AddModule.{add_module, addition_tests, global_words, globals_of_task, modules_so_far, task_of, with_further}
+use Rattle.kernel_calls.specs.ModuleCalls.UnloadModule.{unload_module, unload_tests, without_module}
+use Rattle.kernel_calls.specs.TaskCalls.ChangePri.{change_pri, priority_tests, with_new_priority}
+use Rattle.kernel_calls.specs.TaskCalls.CreateTask.{create_task, creation_tests, new_task, number_of, with_created}
+use Rattle.kernel_calls.specs.TaskCalls.DeleteTask.{delete_task, deletion_tests, without_task}
+use Rattle.kernel_calls.specs.TaskCalls.HoldTask.{held, hold, hold_tests}
+use Rattle.kernel_calls.specs.TaskCalls.ReleaseTask.{release, release_tests, released}
+use Rattle.kernel_calls.specs.TaskCalls.SetFlags.{flagged, set_flags}
 
 -- refused or not
 refused-silent : (o : Option ℕ) (l : Lists) (m : Made) → m.events ≡ [] → (by_refusal o l m).events ≡ []

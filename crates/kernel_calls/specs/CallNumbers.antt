@@ -2,9 +2,9 @@
 use Rattle.std.specs.Prelude.{ℕ, ◌+◌, ◌==◌, ◌&&◌, if◌then◌else◌, List, Option, Some, None, Result, Ok, Err, slice_get, slice_index}
 use Rattle.word_store.specs.Arithmetic.{add}
 use Rattle.word_store.specs.declared.registers.Regs.{Regs}
-use Rattle.hunk_text.specs.TextReader.Steps.{◌>>=◌}
-use Rattle.coroutine_calls.specs.KernelDispatch.TaskBlock.RootWords.{root_address}
-use Rattle.coroutine_calls.specs.KernelDispatch.TaskBlock.declared.roots.RootField.TheVariants.{Version}
+use Rattle.module_text.specs.TextReader.Steps.{◌>>=◌}
+use Rattle.kernel_lists.specs.TaskBlock.RootWords.{root_address}
+use Rattle.kernel_lists.specs.declared.task_block.roots.RootField.TheVariants.{Version}
 use Rattle.kernel_calls.specs.declared.call_numbers.CallOutcome.{CallOutcome}
 use Rattle.kernel_calls.specs.declared.call_numbers.CallOutcome.TheVariants.{Outside, Unknown}
 use Rattle.kernel_calls.specs.declared.call_numbers.KernelCall.{KernelCall}

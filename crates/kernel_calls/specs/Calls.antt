@@ -2,36 +2,36 @@
 use Rattle.std.specs.Prelude.{◌≡◌, ℕ, ◌%◌, List, [], ◌∷◌, ◌++◌, Result, Ok, Err}
 use Rattle.word_store.specs.Arithmetic.{add, mul_div}
 use Rattle.word_store.specs.declared.registers.Regs.{Regs}
-use Rattle.coroutine_calls.specs.KernelDispatch.OwnedWords.Owned.{Pairs}
-use Rattle.coroutine_calls.specs.KernelDispatch.PacketQueue.QueueWords.{QueuedPacket}
-use Rattle.coroutine_calls.specs.KernelDispatch.PacketQueue.declared.events.KernelEvent.{KernelEvent}
-use Rattle.coroutine_calls.specs.KernelDispatch.KernelModel.ChangedStore.{IsChanged, Knows}
-use Rattle.coroutine_calls.specs.KernelDispatch.KernelModel.Changes.{queue_of}
-use Rattle.coroutine_calls.specs.KernelDispatch.KernelModel.Lists.{Lists}
-use Rattle.coroutine_calls.specs.KernelDispatch.KernelModel.NotedEvents.{NotesAll}
-use Rattle.coroutine_calls.specs.KernelDispatch.KernelModel.ValidQueues.Place.{Work}
-use Rattle.coroutine_calls.specs.CallAnswers.Made.{Made, minus_one}
-use Rattle.coroutine_calls.specs.CallAnswers.Outside.{Outside}
-use Rattle.coroutine_calls.specs.BlockCalls.Freevec.{freevec}
-use Rattle.coroutine_calls.specs.BlockCalls.Getvec.{getvec}
-use Rattle.coroutine_calls.specs.ModuleCalls.AddModule.{add_module}
-use Rattle.coroutine_calls.specs.ModuleCalls.UnloadModule.{unload_module}
-use Rattle.coroutine_calls.specs.PacketCalls.Dqpkt.{dqpkt}
-use Rattle.coroutine_calls.specs.PacketCalls.Qpkt.{qpkt}
-use Rattle.coroutine_calls.specs.PacketCalls.TaskWait.{taskwait}
-use Rattle.coroutine_calls.specs.TaskCalls.ChangePri.{change_pri}
-use Rattle.coroutine_calls.specs.TaskCalls.CreateTask.{create_task}
-use Rattle.coroutine_calls.specs.TaskCalls.DeleteTask.{delete_task}
-use Rattle.coroutine_calls.specs.TaskCalls.HoldTask.{hold}
-use Rattle.coroutine_calls.specs.TaskCalls.ReleaseTask.{release}
-use Rattle.coroutine_calls.specs.TaskCalls.SetFlags.{set_flags}
-use Rattle.coroutine_calls.specs.TaskCalls.TestFlags.{test_flags}
-use Rattle.coroutine_calls.specs.CallCo.{callco}
-use Rattle.coroutine_calls.specs.CoWait.{cowait}
-use Rattle.coroutine_calls.specs.CreateCo.{createco}
-use Rattle.coroutine_calls.specs.DeleteCo.{deleteco}
-use Rattle.coroutine_calls.specs.ResumeCo.{resumeco}
-use Rattle.coroutine_calls.specs.Switched.{Switched}
+use Rattle.kernel_lists.specs.OwnedWords.Owned.{Pairs}
+use Rattle.kernel_lists.specs.PacketQueue.QueueWords.{QueuedPacket}
+use Rattle.kernel_lists.specs.declared.packet_queue.events.KernelEvent.{KernelEvent}
+use Rattle.kernel_model.specs.KernelRecord.ChangedStore.{IsChanged, Knows}
+use Rattle.kernel_model.specs.KernelRecord.Changes.{queue_of}
+use Rattle.kernel_model.specs.KernelRecord.Lists.{Lists}
+use Rattle.kernel_model.specs.KernelRecord.NotedEvents.{NotesAll}
+use Rattle.kernel_model.specs.KernelRecord.ValidQueues.Place.{Work}
+use Rattle.kernel_calls.specs.CallAnswers.Made.{Made, minus_one}
+use Rattle.kernel_calls.specs.CallAnswers.Outside.{Outside}
+use Rattle.kernel_calls.specs.BlockCalls.Freevec.{freevec}
+use Rattle.kernel_calls.specs.BlockCalls.Getvec.{getvec}
+use Rattle.kernel_calls.specs.ModuleCalls.AddModule.{add_module}
+use Rattle.kernel_calls.specs.ModuleCalls.UnloadModule.{unload_module}
+use Rattle.kernel_calls.specs.PacketCalls.Dqpkt.{dqpkt}
+use Rattle.kernel_calls.specs.PacketCalls.Qpkt.{qpkt}
+use Rattle.kernel_calls.specs.PacketCalls.TaskWait.{taskwait}
+use Rattle.kernel_calls.specs.TaskCalls.ChangePri.{change_pri}
+use Rattle.kernel_calls.specs.TaskCalls.CreateTask.{create_task}
+use Rattle.kernel_calls.specs.TaskCalls.DeleteTask.{delete_task}
+use Rattle.kernel_calls.specs.TaskCalls.HoldTask.{hold}
+use Rattle.kernel_calls.specs.TaskCalls.ReleaseTask.{release}
+use Rattle.kernel_calls.specs.TaskCalls.SetFlags.{set_flags}
+use Rattle.kernel_calls.specs.TaskCalls.TestFlags.{test_flags}
+use Rattle.kernel_calls.specs.CoroutineCalls.CallCo.{callco}
+use Rattle.kernel_calls.specs.CoroutineCalls.CoWait.{cowait}
+use Rattle.kernel_calls.specs.CoroutineCalls.CreateCo.{createco}
+use Rattle.kernel_calls.specs.CoroutineCalls.DeleteCo.{deleteco}
+use Rattle.kernel_calls.specs.CoroutineCalls.ResumeCo.{resumeco}
+use Rattle.kernel_calls.specs.CoroutineCalls.Switched.{Switched}
 use Rattle.kernel_calls.specs.CallNumbers.{call_of}
 use Rattle.kernel_calls.specs.declared.call_numbers.CallOutcome.{CallOutcome}
 use Rattle.kernel_calls.specs.declared.call_numbers.CallOutcome.TheVariants.{Done, Waits, Quit as Quits}

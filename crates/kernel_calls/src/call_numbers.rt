@@ -2,7 +2,7 @@
 ghost use Rattle.std.specs.Prelude.{◌≡◌, ◌<◌};
 ghost use Rattle.kernel_calls.specs.CallNumbers.{argument, call_of, numbered};
 
-use coroutine_calls::kernel_dispatch::{RootField, root};
+use kernel_lists::{RootField, root};
 use word_store::{Regs, Store, add};
 
 /// A kernel call. Its arguments are words.

@@ -1,21 +1,25 @@
 // The kernel call that the running guest makes.
 ghost use Rattle.std.specs.Prelude.{◌≡◌, ◌<◌, ◌∷◌, Ok, [], length};
-ghost use Rattle.coroutine_calls.specs.KernelDispatch.KernelModel.ChangedStore.{HasKeeper};
-ghost use Rattle.coroutine_calls.specs.KernelDispatch.KernelModel.Lists.{Lists};
-ghost use Rattle.coroutine_calls.specs.CallAnswers.Callers.{HasCaller};
-ghost use Rattle.coroutine_calls.specs.CallAnswers.Made.{IsMade, plain_answer};
-ghost use Rattle.coroutine_calls.specs.TaskCalls.CreateTask.{create_task};
-ghost use Rattle.coroutine_calls.specs.CallAnswers.Outside.{outside};
+ghost use Rattle.kernel_model.specs.KernelRecord.ChangedStore.{HasKeeper};
+ghost use Rattle.kernel_model.specs.KernelRecord.Lists.{Lists};
+ghost use Rattle.kernel_calls.specs.CallAnswers.Callers.{HasCaller};
+ghost use Rattle.kernel_calls.specs.CallAnswers.Made.{IsMade, plain_answer};
+ghost use Rattle.kernel_calls.specs.TaskCalls.CreateTask.{create_task};
+ghost use Rattle.kernel_calls.specs.CallAnswers.Outside.{outside};
 ghost use Rattle.kernel_calls.specs.Calls.{IsCalled, answered, kernel_call, made, regs_of_switch};
 
+use crate::block_calls::{freevec, getvec};
+use crate::call_answers::caller;
 use crate::call_numbers::{CallOutcome, KernelCall, read_call};
-use coroutine_calls::kernel_dispatch::{EventLog, KindKeeper, TcbField, field};
-use coroutine_calls::{
-    add_module, callco, caller, change_pri, cowait, create_task, createco, delete_task, deleteco,
-    dqpkt, freevec, getvec, hold_task, qpkt, release_task, resumeco, set_flags, taskwait,
-    test_flags, unload_module,
+use crate::coroutine_calls::{callco, cowait, createco, deleteco, resumeco};
+use crate::module_calls::{add_module, unload_module};
+use crate::packet_calls::{dqpkt, qpkt, taskwait};
+use crate::task_calls::{
+    change_pri, create_task, delete_task, hold_task, release_task, set_flags, test_flags,
 };
-use tp_io::Output;
+use byte_streams::Output;
+use kernel_lists::{EventLog, TcbField, field};
+use kernel_model::KindKeeper;
 use word_store::{Regs, Store, add, mul_div};
 
 /// Makes the call that the running guest asks for: its number is the word P!3, and its arguments follow. An accepted call sets A

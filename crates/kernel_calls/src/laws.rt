@@ -1,9 +1,9 @@
 // What a refused call leaves.
 ghost use Rattle.std.specs.Prelude.{◌≡◌, ℕ, List};
 ghost use Rattle.word_store.specs.declared.registers.Regs.{Regs};
-ghost use Rattle.coroutine_calls.specs.KernelDispatch.KernelModel.ChangedStore.{IsChanged};
-ghost use Rattle.coroutine_calls.specs.KernelDispatch.KernelModel.HoldsLists.{HoldsLists};
-ghost use Rattle.coroutine_calls.specs.KernelDispatch.KernelModel.Lists.{Lists};
+ghost use Rattle.kernel_model.specs.KernelRecord.ChangedStore.{IsChanged};
+ghost use Rattle.kernel_model.specs.KernelRecord.HoldsLists.{HoldsLists};
+ghost use Rattle.kernel_model.specs.KernelRecord.Lists.{Lists};
 ghost use Rattle.kernel_calls.specs.Calls.{kernel_call};
 ghost use Rattle.kernel_calls.specs.Refusals.{IsRefused, refused};
 

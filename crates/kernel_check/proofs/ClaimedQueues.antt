@@ -3,25 +3,25 @@ use Rattle.std.proofs.Common.{◌≡◌, ℕ, zero, suc, ◌+◌, ◌-◌, ◌<�
 use Rattle.std.specs.List.{AllByRecursion, flat_map, range_with_len}
 use Rattle.word_store.specs.Count.{times, words_of}
 use Rattle.word_store.proofs.Counts.{IsApart-cons, times-append, times-within, times-words_more}
-use Rattle.list_passes.specs.KernelDispatch.LinkedList.Chain.{IsChain}
-use Rattle.list_passes.specs.KernelDispatch.LinkedList.Linked.{IsNode}
-use Rattle.list_passes.specs.KernelDispatch.GetvecChain.Tiling.{Follow, blocks_in}
-use Rattle.list_passes.proofs.Shown.KernelDispatch.GetvecChain.Tilings.{IsTiled-inside}
-use Rattle.list_passes.specs.KernelDispatch.PacketQueue.Queue.{link_of, packet_size, queue_at}
-use Rattle.list_passes.specs.KernelDispatch.TaskBlock.TaskChain.{tasks_in}
-use Rattle.list_passes.specs.KernelDispatch.KernelModel.KernelRanges.{has_residents, task_size_in}
-use Rattle.list_passes.specs.KernelDispatch.KernelModel.Owned.{clock_head, keyboard_head, output_head}
-use Rattle.list_passes.specs.KernelDispatch.KernelModel.Task.{queue_head}
-use Rattle.list_passes.specs.KernelDispatch.KernelModel.ValidBlocks.{AreData}
-use Rattle.list_passes.proofs.Shown.KernelDispatch.KernelModel.BlockStarts.{Tiles-Follow}
-use Rattle.list_passes.specs.ListClaims.BlockData.{is_used_data}
-use Rattle.list_passes.specs.ListClaims.ListEnds.{TaskListsEnd}
-use Rattle.list_passes.specs.ListClaims.ListWords.{all_words, chain_words, console_rest, console_words, coroutine_words_at, device_rest, keyboard_rest, module_rest, module_words_in, output_rest, packet_rest, queue_words_at, resident_words_in, task_list_words, task_rest}
-use Rattle.list_passes.proofs.Shown.ListClaims.ListAnswers.{task-size}
-use Rattle.list_passes.proofs.Shown.AdoptionLaw.BlockData.{LiesInData, lies-in-data, one-block}
-use Rattle.list_passes.proofs.Shown.AdoptionLaw.ClaimableStore.{counted}
-use Rattle.list_passes.specs.ClaimedStore.{IsClaimed}
-use Rattle.list_passes.proofs.Residents.{the-blocks}
+use Rattle.kernel_lists.specs.LinkedList.Chain.{IsChain}
+use Rattle.kernel_lists.specs.LinkedList.Linked.{IsNode}
+use Rattle.kernel_lists.specs.GetvecChain.Tiling.{Follow, blocks_in}
+use Rattle.kernel_lists.proofs.GetvecChain.Tilings.{IsTiled-inside}
+use Rattle.kernel_lists.specs.PacketQueue.Queue.{link_of, packet_size, queue_at}
+use Rattle.kernel_lists.specs.TaskBlock.TaskChain.{tasks_in}
+use Rattle.kernel_model.specs.KernelRecord.KernelRanges.{has_residents, task_size_in}
+use Rattle.kernel_model.specs.KernelRecord.Owned.{clock_head, keyboard_head, output_head}
+use Rattle.kernel_model.specs.KernelRecord.Task.{queue_head}
+use Rattle.kernel_model.specs.KernelRecord.ValidBlocks.{AreData}
+use Rattle.kernel_model.proofs.KernelRecord.BlockStarts.{Tiles-Follow}
+use Rattle.store_claims.specs.ListClaims.BlockData.{is_used_data}
+use Rattle.store_claims.specs.ListClaims.ListEnds.{TaskListsEnd}
+use Rattle.store_claims.specs.ListClaims.ListWords.{all_words, chain_words, console_rest, console_words, coroutine_words_at, device_rest, keyboard_rest, module_rest, module_words_in, output_rest, packet_rest, queue_words_at, resident_words_in, task_list_words, task_rest}
+use Rattle.store_claims.proofs.ListClaims.ListAnswers.{task-size}
+use Rattle.store_claims.proofs.AdoptionLaw.BlockData.{LiesInData, lies-in-data, one-block}
+use Rattle.store_claims.proofs.AdoptionLaw.ClaimableStore.{counted}
+use Rattle.kernel_check.specs.ListPasses.ClaimedStore.{IsClaimed}
+use Rattle.kernel_check.proofs.ListPasses.Residents.{the-blocks}
 use Rattle.kernel_check.specs.ClaimedQueue.{IsClaimedQueue}
 
 module _ (s : List ℕ) (c : IsClaimed s) where

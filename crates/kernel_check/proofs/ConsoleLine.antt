@@ -2,12 +2,12 @@
 use Rattle.std.proofs.Common.{◌≡◌, ◌≢◌, ◌↔◌, ℕ, zero, suc, ◌<◌, ◌≤◌, Bool, true, false, not, List, [], ◌∷◌, cond, eqb, get_or, length, map, refl, sym, ap, ◌∙◌, subst, arith}
 use Rattle.std.specs.Prelude.{is_some}
 use Rattle.std.proofs.lemmas.Bool.{false≢true}
-use Rattle.list_passes.specs.KernelDispatch.LinkedList.Chain.{links_from}
-use Rattle.list_passes.specs.KernelDispatch.PacketQueue.Queue.{link_of}
-use Rattle.list_passes.specs.KernelDispatch.KernelModel.Between.{ConsoleStands}
-use Rattle.list_passes.specs.KernelDispatch.KernelModel.Kernel.{no_line}
-use Rattle.list_passes.specs.KernelDispatch.KernelModel.Lists.{Lists}
-use Rattle.list_passes.specs.KernelDispatch.KernelModel.Recovered.{lists_in, packet_in}
+use Rattle.kernel_lists.specs.LinkedList.Chain.{links_from}
+use Rattle.kernel_lists.specs.PacketQueue.Queue.{link_of}
+use Rattle.kernel_model.specs.KernelRecord.Between.{ConsoleStands}
+use Rattle.kernel_model.specs.KernelRecord.Kernel.{no_line}
+use Rattle.kernel_model.specs.KernelRecord.Lists.{Lists}
+use Rattle.kernel_model.specs.KernelRecord.Recovered.{lists_in, packet_in}
 use Rattle.kernel_check.specs.ConsoleLine.{console_of}
 use Rattle.kernel_check.proofs.QueueRules.{key-free, key-other, pending-some}
 

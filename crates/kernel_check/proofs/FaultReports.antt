@@ -2,16 +2,16 @@
 use Rattle.std.proofs.Common.{◌≡◌, ◌≢◌, ◌↔◌, ℕ, ◌+◌, ◌||◌, Bool, true, false, not, List, [], ◌∷◌, cond, eqb, get_or, map, refl, sym, ap, ◌∙◌, subst}
 use Rattle.std.specs.List.{AllByRecursion, list_any}
 use Rattle.std.proofs.lemmas.Bool.{eq-eqb, eqb-true, false≢true, ne_eqb}
-use Rattle.list_passes.specs.KernelDispatch.PacketQueue.QueueWords.{QueuedPacket}
-use Rattle.list_passes.specs.KernelDispatch.TaskBlock.TaskChain.{id_in, tasks_in}
-use Rattle.list_passes.specs.KernelDispatch.KernelModel.Between.{Tells, has_unreported}
-use Rattle.list_passes.specs.KernelDispatch.KernelModel.Changes.{work_of}
-use Rattle.list_passes.specs.KernelDispatch.KernelModel.HoldsLists.{HoldsLists}
-use Rattle.list_passes.specs.KernelDispatch.KernelModel.KernelRanges.{CanWalkTask}
-use Rattle.list_passes.specs.KernelDispatch.KernelModel.Recovered.{lists_in, packet_in, packets_at, task_in}
-use Rattle.list_passes.specs.KernelDispatch.KernelModel.Task.{Task, queue_head}
-use Rattle.list_passes.proofs.Shown.KernelDispatch.KernelModel.WalkedLists.{can-walk}
-use Rattle.list_passes.proofs.ClaimedWalks.{in-lists}
+use Rattle.kernel_lists.specs.PacketQueue.QueueWords.{QueuedPacket}
+use Rattle.kernel_lists.specs.TaskBlock.TaskChain.{id_in, tasks_in}
+use Rattle.kernel_model.specs.KernelRecord.Between.{Tells, has_unreported}
+use Rattle.kernel_model.specs.KernelRecord.Changes.{work_of}
+use Rattle.kernel_model.specs.KernelRecord.HoldsLists.{HoldsLists}
+use Rattle.kernel_model.specs.KernelRecord.KernelRanges.{CanWalkTask}
+use Rattle.kernel_model.specs.KernelRecord.Recovered.{lists_in, packet_in, packets_at, task_in}
+use Rattle.kernel_model.specs.KernelRecord.Task.{Task, queue_head}
+use Rattle.kernel_model.proofs.KernelRecord.WalkedLists.{can-walk}
+use Rattle.kernel_check.proofs.ListPasses.ClaimedWalks.{in-lists}
 
 -- ---- whether some task is such
 

@@ -1,3 +1,4 @@
+pub mod ListPasses
 pub mod ClaimedQueues
 pub mod TaskNumbers
 pub mod PacketRules
@@ -7,4 +8,3 @@ pub mod WholeCheck
 pub mod RunningTask
 pub mod FaultReports
 pub mod ConsoleLine
-pub mod Shown

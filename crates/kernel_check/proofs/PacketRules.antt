@@ -1,10 +1,10 @@
 -- Whether a packet may stand where it is queued, rule by rule.
 use Rattle.std.proofs.Common.{◌≡◌, ◌↔◌, ℕ, Bool, true, false, eqb, sym, ◌∙◌, subst}
 use Rattle.std.proofs.lemmas.Bool.{and_parts, eqb-true, false≢true}
-use Rattle.list_passes.specs.KernelDispatch.PacketQueue.QueueWords.{QueuedPacket}
-use Rattle.list_passes.specs.KernelDispatch.KernelModel.Lists.{Lists, has_task}
-use Rattle.list_passes.specs.KernelDispatch.KernelModel.ValidBlocks.{AreData}
-use Rattle.list_passes.specs.KernelDispatch.KernelModel.ValidQueues.{HasSender, IsFaultPacket, IsKeyPacket, MayStand, Place, is_fault_packet, is_key_packet}
+use Rattle.kernel_lists.specs.PacketQueue.QueueWords.{QueuedPacket}
+use Rattle.kernel_model.specs.KernelRecord.Lists.{Lists, has_task}
+use Rattle.kernel_model.specs.KernelRecord.ValidBlocks.{AreData}
+use Rattle.kernel_model.specs.KernelRecord.ValidQueues.{HasSender, IsFaultPacket, IsKeyPacket, MayStand, Place, is_fault_packet, is_key_packet}
 
 -- the key packet is not the fault packet
 other-packet : (l : Lists) (p : QueuedPacket) → is_key_packet l p ≡ true → is_fault_packet l p ≡ true → ⊥

@@ -3,20 +3,20 @@ use Rattle.std.proofs.Common.{◌≡◌, ◌≢◌, ◌↔◌, ◌⊎◌, inl, i
 use Rattle.std.specs.Prelude.{is_some}
 use Rattle.std.specs.List.{AllByRecursion}
 use Rattle.std.proofs.lemmas.Bool.{cases_eq, eq-eqb, false≢true, ne_eqb}
-use Rattle.list_passes.specs.KernelDispatch.PacketQueue.Queue.{no_queue}
-use Rattle.list_passes.specs.KernelDispatch.PacketQueue.QueueWords.{QueuedPacket}
-use Rattle.list_passes.specs.KernelDispatch.TaskBlock.TaskChain.{id_in, tasks_in}
-use Rattle.list_passes.specs.KernelDispatch.KernelModel.Lists.{address_of_task, has_task}
-use Rattle.list_passes.specs.KernelDispatch.KernelModel.Recovered.{lists_in, packet_in, packets_at, task_in}
-use Rattle.list_passes.specs.KernelDispatch.KernelModel.Task.{queue_head}
-use Rattle.list_passes.specs.KernelDispatch.KernelModel.ValidBlocks.{AreData}
-use Rattle.list_passes.specs.KernelDispatch.KernelModel.ValidTasks.{TasksStand}
-use Rattle.list_passes.specs.KernelDispatch.KernelModel.ValidQueues.{MayStand, NeverFall, Place}
-use Rattle.list_passes.specs.KernelDispatch.KernelModel.ValidQueues.Place.{Work}
-use Rattle.list_passes.specs.ClaimedStore.{IsClaimed}
-use Rattle.list_passes.proofs.ClaimedWalks.{heads, of-tasks}
-use Rattle.list_passes.proofs.FreePackets.{free-is, key-is}
-use Rattle.list_passes.proofs.TaskTable.{running-none}
+use Rattle.kernel_lists.specs.PacketQueue.Queue.{no_queue}
+use Rattle.kernel_lists.specs.PacketQueue.QueueWords.{QueuedPacket}
+use Rattle.kernel_lists.specs.TaskBlock.TaskChain.{id_in, tasks_in}
+use Rattle.kernel_model.specs.KernelRecord.Lists.{address_of_task, has_task}
+use Rattle.kernel_model.specs.KernelRecord.Recovered.{lists_in, packet_in, packets_at, task_in}
+use Rattle.kernel_model.specs.KernelRecord.Task.{queue_head}
+use Rattle.kernel_model.specs.KernelRecord.ValidBlocks.{AreData}
+use Rattle.kernel_model.specs.KernelRecord.ValidTasks.{TasksStand}
+use Rattle.kernel_model.specs.KernelRecord.ValidQueues.{MayStand, NeverFall, Place}
+use Rattle.kernel_model.specs.KernelRecord.ValidQueues.Place.{Work}
+use Rattle.kernel_check.specs.ListPasses.ClaimedStore.{IsClaimed}
+use Rattle.kernel_check.proofs.ListPasses.ClaimedWalks.{heads, of-tasks}
+use Rattle.kernel_check.proofs.ListPasses.FreePackets.{free-is, key-is}
+use Rattle.kernel_check.proofs.ListPasses.TaskTable.{running-none}
 use Rattle.kernel_check.specs.ClaimedQueue.{IsClaimedQueue}
 use Rattle.kernel_check.specs.KnownTasks.{AreTasksKnown}
 use Rattle.kernel_check.proofs.ClaimedQueues.{some-tasks, work-queues}

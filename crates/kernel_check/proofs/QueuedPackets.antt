@@ -2,15 +2,15 @@
 use Rattle.std.proofs.Common.{◌≡◌, ℕ, ◌+◌, ◌≤◌, ◌||◌, Bool, true, false, List, [], ◌∷◌, ◌++◌, cond, eqb, length, map, refl, sym, ap, ◌∙◌, subst}
 use Rattle.std.specs.List.{AllByRecursion, flat_map, list_any}
 use Rattle.std.proofs.lemmas.List.Folds.{list_any-append}
-use Rattle.list_passes.specs.KernelDispatch.PacketQueue.Queue.{queue_at}
-use Rattle.list_passes.specs.KernelDispatch.PacketQueue.QueueWords.{QueuedPacket}
-use Rattle.list_passes.specs.KernelDispatch.TaskBlock.TaskChain.{tasks_in}
-use Rattle.list_passes.specs.KernelDispatch.KernelModel.Lists.{is_queued}
-use Rattle.list_passes.specs.KernelDispatch.KernelModel.Owned.{clock_head, keyboard_head, output_head}
-use Rattle.list_passes.specs.KernelDispatch.KernelModel.Recovered.{has_residents, lists_in, packet_in, packets_at, pending_in, task_in}
-use Rattle.list_passes.specs.KernelDispatch.KernelModel.Task.{queue_head}
-use Rattle.list_passes.specs.ClaimedStore.{IsClaimed}
-use Rattle.list_passes.proofs.ClaimedWalks.{heads}
+use Rattle.kernel_lists.specs.PacketQueue.Queue.{queue_at}
+use Rattle.kernel_lists.specs.PacketQueue.QueueWords.{QueuedPacket}
+use Rattle.kernel_lists.specs.TaskBlock.TaskChain.{tasks_in}
+use Rattle.kernel_model.specs.KernelRecord.Lists.{is_queued}
+use Rattle.kernel_model.specs.KernelRecord.Owned.{clock_head, keyboard_head, output_head}
+use Rattle.kernel_model.specs.KernelRecord.Recovered.{has_residents, lists_in, packet_in, packets_at, pending_in, task_in}
+use Rattle.kernel_model.specs.KernelRecord.Task.{queue_head}
+use Rattle.kernel_check.specs.ListPasses.ClaimedStore.{IsClaimed}
+use Rattle.kernel_check.proofs.ListPasses.ClaimedWalks.{heads}
 use Rattle.kernel_check.specs.ClaimedQueue.{IsClaimedQueue}
 use Rattle.kernel_check.proofs.ClaimedQueues.{work-queues}
 

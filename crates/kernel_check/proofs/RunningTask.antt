@@ -4,15 +4,15 @@ use Rattle.std.specs.Prelude.{find}
 use Rattle.std.specs.List.{AllByRecursion}
 use Rattle.std.specs.Option.{option_map, option_map_or}
 use Rattle.std.proofs.lemmas.Bool.{and_parts, eq-eqb, eqb-true, false≢true}
-use Rattle.list_passes.specs.KernelDispatch.Dispatch.{first_ready_block}
-use Rattle.list_passes.specs.KernelDispatch.TaskBlock.TaskChain.{id_in, tasks_in}
-use Rattle.list_passes.specs.KernelDispatch.KernelModel.Between.{FirstRuns, first_ready, is_ready}
-use Rattle.list_passes.specs.KernelDispatch.KernelModel.HoldsLists.{HoldsLists}
-use Rattle.list_passes.specs.KernelDispatch.KernelModel.Lists.{Lists}
-use Rattle.list_passes.specs.KernelDispatch.KernelModel.Recovered.{lists_in, task_in}
-use Rattle.list_passes.specs.KernelDispatch.KernelModel.Running.{RunsAs, RunsIf}
-use Rattle.list_passes.specs.KernelDispatch.KernelModel.Task.{Task, task_address}
-use Rattle.list_passes.proofs.Shown.KernelDispatch.KernelModel.EachMember.{all-both, all-each}
+use Rattle.kernel_model.specs.KernelDispatch.Dispatch.{first_ready_block}
+use Rattle.kernel_lists.specs.TaskBlock.TaskChain.{id_in, tasks_in}
+use Rattle.kernel_model.specs.KernelRecord.Between.{FirstRuns, first_ready, is_ready}
+use Rattle.kernel_model.specs.KernelRecord.HoldsLists.{HoldsLists}
+use Rattle.kernel_model.specs.KernelRecord.Lists.{Lists}
+use Rattle.kernel_model.specs.KernelRecord.Recovered.{lists_in, task_in}
+use Rattle.kernel_model.specs.KernelRecord.Running.{RunsAs, RunsIf}
+use Rattle.kernel_model.specs.KernelRecord.Task.{Task, task_address}
+use Rattle.kernel_model.proofs.KernelRecord.EachMember.{all-both, all-each}
 
 -- ---- the first ready task
 

@@ -2,15 +2,15 @@
 use Rattle.std.proofs.Common.{◌≡◌, ◌≢◌, ℕ, ◌+◌, ◌-◌, ◌<◌, ◌≤◌, ◌||◌, Bool, true, false, not, List, [], ◌∷◌, cond, eqb, get_or, refl, sym, ap, ◌∙◌, subst, arith}
 use Rattle.std.specs.List.{AllByRecursion}
 use Rattle.std.proofs.lemmas.Bool.{eqb-true, false≢true, ne_eqb}
-use Rattle.list_passes.specs.KernelDispatch.TaskBlock.HeldTasks.{address_with}
-use Rattle.list_passes.specs.KernelDispatch.KernelModel.Lists.{Lists, has_task}
-use Rattle.list_passes.specs.KernelDispatch.KernelModel.Recovered.{lists_in}
-use Rattle.list_passes.specs.KernelDispatch.KernelModel.Task.{Task, task_address, task_id}
-use Rattle.list_passes.specs.KernelDispatch.KernelModel.ValidTasks.{IsTask}
-use Rattle.list_passes.specs.KernelDispatch.KernelModel.Versions.{highest_id_of}
-use Rattle.list_passes.proofs.ClaimedWalks.{of-tasks}
-use Rattle.list_passes.proofs.TaskTable.{holds-entries}
-use Rattle.list_passes.proofs.TaskWalks.{IsNumber, task-number}
+use Rattle.kernel_lists.specs.TaskBlock.HeldTasks.{address_with}
+use Rattle.kernel_model.specs.KernelRecord.Lists.{Lists, has_task}
+use Rattle.kernel_model.specs.KernelRecord.Recovered.{lists_in}
+use Rattle.kernel_model.specs.KernelRecord.Task.{Task, task_address, task_id}
+use Rattle.kernel_model.specs.KernelRecord.ValidTasks.{IsTask}
+use Rattle.kernel_model.specs.KernelRecord.Versions.{highest_id_of}
+use Rattle.kernel_check.proofs.ListPasses.ClaimedWalks.{of-tasks}
+use Rattle.kernel_check.proofs.ListPasses.TaskTable.{holds-entries}
+use Rattle.kernel_check.proofs.ListPasses.TaskWalks.{IsNumber, task-number}
 use Rattle.kernel_check.specs.KnownTasks.{AreTasksKnown}
 use Rattle.kernel_check.proofs.ClaimedQueues.{some-tasks}
 

@@ -3,22 +3,22 @@ use Rattle.std.proofs.Common.{◌≡◌, ◌↔◌, ℕ, Bool, true, false, List
 use Rattle.std.specs.List.{AllByRecursion}
 use Rattle.std.proofs.lemmas.Bool.{cases_lt, false≢true}
 use Rattle.std.proofs.lemmas.List.{get_or-replicate, get_or_past, length-replicate}
-use Rattle.list_passes.specs.KernelDispatch.KernelModel.HoldsLists.{HoldsLists}
-use Rattle.list_passes.specs.KernelDispatch.KernelModel.Recovered.{lists_in, task_in}
-use Rattle.list_passes.specs.KernelDispatch.TaskBlock.Lists.{coroutines_in}
-use Rattle.list_passes.specs.KernelDispatch.TaskBlock.TaskChain.{tasks_in}
-use Rattle.list_passes.specs.KernelDispatch.KernelModel.ValidTasks.{CoroutinesStand}
-use Rattle.list_passes.proofs.Shown.KernelDispatch.KernelModel.EachMember.{all-each}
-use Rattle.list_passes.specs.WordClaims.Marks.{is_open}
-use Rattle.list_passes.specs.AdoptionLaw.Passes.{HeadStands, Passes}
-use Rattle.list_passes.proofs.Shown.AdoptionLaw.AllPasses.{passes}
-use Rattle.list_passes.proofs.Shown.AdoptionLaw.ClaimableStore.{valid-claimable}
-use Rattle.list_passes.specs.ClaimedStore.{IsClaimed}
-use Rattle.list_passes.specs.Frames.{HasParent, OwnsCoroutines}
-use Rattle.list_passes.proofs.ClaimedWalks.{of-tasks}
-use Rattle.list_passes.proofs.FrameWords.{Frame, frames-all, parents-tell}
+use Rattle.kernel_model.specs.KernelRecord.HoldsLists.{HoldsLists}
+use Rattle.kernel_model.specs.KernelRecord.Recovered.{lists_in, task_in}
+use Rattle.kernel_lists.specs.TaskBlock.Lists.{coroutines_in}
+use Rattle.kernel_lists.specs.TaskBlock.TaskChain.{tasks_in}
+use Rattle.kernel_model.specs.KernelRecord.ValidTasks.{CoroutinesStand}
+use Rattle.kernel_model.proofs.KernelRecord.EachMember.{all-each}
+use Rattle.store_claims.specs.WordClaims.Marks.{is_open}
+use Rattle.store_claims.specs.AdoptionLaw.Passes.{HeadStands, Passes}
+use Rattle.store_claims.proofs.AdoptionLaw.AllPasses.{passes}
+use Rattle.store_claims.proofs.AdoptionLaw.ClaimableStore.{valid-claimable}
+use Rattle.kernel_check.specs.ListPasses.ClaimedStore.{IsClaimed}
+use Rattle.kernel_check.specs.ListPasses.Frames.{HasParent, OwnsCoroutines}
+use Rattle.kernel_check.proofs.ListPasses.ClaimedWalks.{of-tasks}
+use Rattle.kernel_check.proofs.ListPasses.FrameWords.{Frame, frames-all, parents-tell}
 use Rattle.kernel_check.proofs.ClaimedQueues.{some-tasks}
-use Rattle.list_passes.specs.StartMarks.{IsShut}
+use Rattle.kernel_check.specs.ListPasses.StartMarks.{IsShut}
 
 -- a pass that does not find what it looks for
 pub refuse : (s : List ℕ) (P : Type 0) (b : Bool) → ((b ≡ true) ↔ P) → b ≡ false → (Passes s → P) → (false ≡ true) ↔ HoldsLists s (lists_in s)

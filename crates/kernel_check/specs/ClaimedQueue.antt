@@ -1,9 +1,9 @@
 -- A queue whose words were claimed.
 use Rattle.std.specs.Prelude.{ℕ, List}
 use Rattle.std.specs.List.{AllByRecursion}
-use Rattle.list_passes.specs.KernelDispatch.PacketQueue.Queue.{HasQueue, queue_at}
-use Rattle.list_passes.specs.KernelDispatch.KernelModel.Recovered.{lists_in}
-use Rattle.list_passes.specs.KernelDispatch.KernelModel.ValidBlocks.{AreData}
+use Rattle.kernel_lists.specs.PacketQueue.Queue.{HasQueue, queue_at}
+use Rattle.kernel_model.specs.KernelRecord.Recovered.{lists_in}
+use Rattle.kernel_model.specs.KernelRecord.ValidBlocks.{AreData}
 
 -- The queue at a head stands, and the words of each packet are data of one used block.
 pub record IsClaimedQueue (s : List ℕ) (head : ℕ) : Type 0 where

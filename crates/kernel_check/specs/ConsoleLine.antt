@@ -1,6 +1,6 @@
 -- The console's line, in its parts.
 use Rattle.std.specs.Prelude.{ℕ, Bool, List}
-use Rattle.list_passes.specs.KernelDispatch.KernelModel.Kernel.{Console}
+use Rattle.kernel_model.specs.KernelRecord.Kernel.{Console}
 
 abbrev pub console_of : List ℕ → Bool → Console
 console_of line finished = record { line = line; finished = finished }

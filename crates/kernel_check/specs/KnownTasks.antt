@@ -1,13 +1,13 @@
 -- What the pass over the queues may rest on.
 use Rattle.std.specs.Prelude.{ℕ, List}
-use Rattle.list_passes.specs.KernelDispatch.OwnedWords.Owned.{Holds}
-use Rattle.list_passes.specs.KernelDispatch.TaskBlock.ChainWords.{entries}
-use Rattle.list_passes.specs.KernelDispatch.TaskBlock.HeldTasks.{address_with}
-use Rattle.list_passes.specs.KernelDispatch.KernelModel.Recovered.{lists_in}
-use Rattle.list_passes.specs.KernelDispatch.KernelModel.Task.{task_address, task_id}
-use Rattle.list_passes.specs.KernelDispatch.KernelModel.ValidTasks.{TasksStand}
-use Rattle.list_passes.specs.KernelDispatch.KernelModel.Versions.{highest_id_of}
-use Rattle.list_passes.specs.ClaimedStore.{IsClaimed}
+use Rattle.kernel_lists.specs.OwnedWords.Owned.{Holds}
+use Rattle.kernel_lists.specs.TaskBlock.ChainWords.{entries}
+use Rattle.kernel_lists.specs.TaskBlock.HeldTasks.{address_with}
+use Rattle.kernel_model.specs.KernelRecord.Recovered.{lists_in}
+use Rattle.kernel_model.specs.KernelRecord.Task.{task_address, task_id}
+use Rattle.kernel_model.specs.KernelRecord.ValidTasks.{TasksStand}
+use Rattle.kernel_model.specs.KernelRecord.Versions.{highest_id_of}
+use Rattle.kernel_check.specs.ListPasses.ClaimedStore.{IsClaimed}
 
 -- All words were claimed, the tasks stand, and the table leads to each of them.
 pub record AreTasksKnown (s : List ℕ) : Type 0 where

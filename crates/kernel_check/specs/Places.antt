@@ -1,6 +1,6 @@
 -- The places at which packets are queued, as the check names them.
-use Rattle.list_passes.specs.KernelDispatch.KernelModel.ValidQueues.{Place}
-use Rattle.list_passes.specs.KernelDispatch.KernelModel.ValidQueues.Place.{Clock, Keyboard, Output, Pending, Work}
+use Rattle.kernel_model.specs.KernelRecord.ValidQueues.{Place}
+use Rattle.kernel_model.specs.KernelRecord.ValidQueues.Place.{Clock, Keyboard, Output, Pending, Work}
 use Rattle.kernel_check.specs.declared.places.QueuePlace.{QueuePlace}
 use Rattle.kernel_check.specs.declared.places.QueuePlace.TheVariants.{OfClock, OfConsole, OfKeyboard, OfOutput, OfTask}
 

@@ -1,7 +1,7 @@
 -- A task with a number and a fault that was not reported yet.
 use Rattle.std.specs.Prelude.{ℕ, ◌==◌, ◌&&◌, Bool}
-use Rattle.list_passes.specs.KernelDispatch.KernelModel.Between.{is_unreported}
-use Rattle.list_passes.specs.KernelDispatch.KernelModel.Task.{Task, is_guest_id}
+use Rattle.kernel_model.specs.KernelRecord.Between.{is_unreported}
+use Rattle.kernel_model.specs.KernelRecord.Task.{Task, is_guest_id}
 
 -- it is the guest with this number, and has such a fault
 abbrev pub is_unreported_as : ℕ → Task → Bool

@@ -1,17 +1,18 @@
 // What holds between steps besides, of the lists of a store that holds the words of valid ones.
 ghost use Rattle.std.specs.Prelude.{◌≡◌, ◌↔◌, ◌/◌, IsTrue};
 ghost use Rattle.std.specs.List.{AllByRecursion};
-ghost use Rattle.list_passes.specs.KernelDispatch.LinkedList.Walk.{CanWalk};
-ghost use Rattle.list_passes.specs.KernelDispatch.TaskBlock.RootWords.{first_task};
-ghost use Rattle.list_passes.specs.KernelDispatch.TaskBlock.TaskChain.{task_link};
-ghost use Rattle.list_passes.specs.KernelDispatch.KernelModel.Between.{FirstRuns, RegistersStand, first_ready};
-ghost use Rattle.list_passes.specs.KernelDispatch.KernelModel.HoldsLists.{HoldsLists};
-ghost use Rattle.list_passes.specs.KernelDispatch.KernelModel.Recovered.{lists_in, task_in};
-ghost use Rattle.list_passes.specs.KernelDispatch.KernelModel.Running.{RunsAs, RunsIf};
+ghost use Rattle.kernel_lists.specs.LinkedList.Walk.{CanWalk};
+ghost use Rattle.kernel_lists.specs.TaskBlock.RootWords.{first_task};
+ghost use Rattle.kernel_lists.specs.TaskBlock.TaskChain.{task_link};
+ghost use Rattle.kernel_model.specs.KernelRecord.Between.{FirstRuns, RegistersStand, first_ready};
+ghost use Rattle.kernel_model.specs.KernelRecord.HoldsLists.{HoldsLists};
+ghost use Rattle.kernel_model.specs.KernelRecord.Recovered.{lists_in, task_in};
+ghost use Rattle.kernel_model.specs.KernelRecord.Running.{RunsAs, RunsIf};
 
-use list_passes::kernel_dispatch::numbers::{FIRST_GUEST, WAITS};
-use list_passes::kernel_dispatch::{RootField, TcbField, choose, field, root, tasks};
-use list_passes::running_of;
+use crate::list_passes::running_of;
+use kernel_lists::{RootField, TcbField, field, root, tasks};
+use kernel_model::kernel_dispatch::choose;
+use kernel_model::numbers::{FIRST_GUEST, WAITS};
 use word_store::{Regs, Store};
 
 /// Whether the first ready task runs, or nobody where none is ready, and exactly that task has the state of one that runs. It

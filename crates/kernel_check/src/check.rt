@@ -1,17 +1,17 @@
 // All passes, in their order.
 ghost use Rattle.std.specs.Prelude.{◌↔◌, IfOk, IsTrue};
-ghost use Rattle.list_passes.specs.KernelDispatch.KernelModel.HoldsLists.{HoldsLists};
-ghost use Rattle.list_passes.specs.KernelDispatch.KernelModel.Recovered.{lists_in};
-ghost use Rattle.list_passes.specs.ClaimedStore.{IsClaimed};
+ghost use Rattle.kernel_model.specs.KernelRecord.HoldsLists.{HoldsLists};
+ghost use Rattle.kernel_model.specs.KernelRecord.Recovered.{lists_in};
+ghost use Rattle.kernel_check.specs.ListPasses.ClaimedStore.{IsClaimed};
 
-use crate::queue_pass::queues_stand;
-use list_passes::{
-    Claims, are_tiled, claim_lists, coroutines_stand, heads_stand, modules_stand, open_blocks,
-    open_modules, open_starts, resident_block_stands, resident_words_stand, root_stands,
-    running_stands, table_stands, tasks_stand,
+use crate::list_passes::{
+    coroutines_stand, heads_stand, modules_stand, open_modules, open_starts, resident_block_stands,
+    resident_words_stand, root_stands, running_stands, table_stands, tasks_stand,
 };
+use crate::queue_pass::queues_stand;
+use byte_streams::WantMemory;
 use std::alloc::Global;
-use tp_io::WantMemory;
+use store_claims::{Claims, are_tiled, claim_lists, open_blocks};
 use word_store::Store;
 
 /// Whether the lists that are read off the store are valid, and the store holds their words: exactly where some valid lists' words

@@ -1,14 +1,14 @@
 // Whether the console's line is as it must be, between steps.
 ghost use Rattle.std.specs.Prelude.{◌≡◌, ◌↔◌, [], IsTrue, is_some, true};
-ghost use Rattle.list_passes.specs.KernelDispatch.KernelModel.Between.{ConsoleStands};
-ghost use Rattle.list_passes.specs.KernelDispatch.KernelModel.HoldsLists.{HoldsLists};
-ghost use Rattle.list_passes.specs.KernelDispatch.KernelModel.Kernel.{no_line};
-ghost use Rattle.list_passes.specs.KernelDispatch.KernelModel.Recovered.{lists_in};
+ghost use Rattle.kernel_model.specs.KernelRecord.Between.{ConsoleStands};
+ghost use Rattle.kernel_model.specs.KernelRecord.HoldsLists.{HoldsLists};
+ghost use Rattle.kernel_model.specs.KernelRecord.Kernel.{no_line};
+ghost use Rattle.kernel_model.specs.KernelRecord.Recovered.{lists_in};
 ghost use Rattle.kernel_check.specs.ConsoleLine.{console_of};
 
-use list_passes::has_residents;
-use list_passes::kernel_dispatch::NO_QUEUE;
-use list_passes::kernel_dispatch::numbers::{KEY_PACKET, MOST_LINE, PENDING_HEAD};
+use crate::list_passes::has_residents;
+use kernel_lists::NO_QUEUE;
+use kernel_model::numbers::{KEY_PACKET, MOST_LINE, PENDING_HEAD};
 use word_store::{Store, word};
 
 /// Whether the line, which is finished or not, may be the console's. It looks at two words.

@@ -1,22 +1,20 @@
 // Whether faults are reported as they must be, between steps.
 ghost use Rattle.std.specs.Prelude.{◌≡◌, ◌↔◌, IsTrue, not, true};
 ghost use Rattle.std.specs.List.{AllByRecursion, list_any};
-ghost use Rattle.list_passes.specs.KernelDispatch.LinkedList.Walk.{CanWalk};
-ghost use Rattle.list_passes.specs.KernelDispatch.PacketQueue.Queue.{HasQueue};
-ghost use Rattle.list_passes.specs.KernelDispatch.TaskBlock.RootWords.{first_task};
-ghost use Rattle.list_passes.specs.KernelDispatch.TaskBlock.TaskChain.{task_link};
-ghost use Rattle.list_passes.specs.KernelDispatch.KernelModel.Between.{FaultsStand, Tells, has_unreported, is_unreported};
-ghost use Rattle.list_passes.specs.KernelDispatch.KernelModel.Changes.{work_of};
-ghost use Rattle.list_passes.specs.KernelDispatch.KernelModel.HoldsLists.{HoldsLists};
-ghost use Rattle.list_passes.specs.KernelDispatch.KernelModel.Lists.{has_task};
-ghost use Rattle.list_passes.specs.KernelDispatch.KernelModel.Recovered.{lists_in, packet_in, packets_at, task_in};
+ghost use Rattle.kernel_lists.specs.LinkedList.Walk.{CanWalk};
+ghost use Rattle.kernel_lists.specs.PacketQueue.Queue.{HasQueue};
+ghost use Rattle.kernel_lists.specs.TaskBlock.RootWords.{first_task};
+ghost use Rattle.kernel_lists.specs.TaskBlock.TaskChain.{task_link};
+ghost use Rattle.kernel_model.specs.KernelRecord.Between.{FaultsStand, Tells, has_unreported, is_unreported};
+ghost use Rattle.kernel_model.specs.KernelRecord.Changes.{work_of};
+ghost use Rattle.kernel_model.specs.KernelRecord.HoldsLists.{HoldsLists};
+ghost use Rattle.kernel_model.specs.KernelRecord.Lists.{has_task};
+ghost use Rattle.kernel_model.specs.KernelRecord.Recovered.{lists_in, packet_in, packets_at, task_in};
 ghost use Rattle.kernel_check.specs.Reports.{is_unreported_as};
 
-use list_passes::has_task;
-use list_passes::kernel_dispatch::numbers::{
-    FAULT_PACKET, FAULT_WORD, FIRST_GUEST, REPORTED, REPORTER, SENDER,
-};
-use list_passes::kernel_dispatch::{NO_QUEUE, TcbField, field, packets, tasks};
+use kernel_lists::{NO_QUEUE, TcbField, field, packets, tasks};
+use kernel_model::numbers::{FAULT_PACKET, FAULT_WORD, FIRST_GUEST, REPORTED, REPORTER, SENDER};
+use store_claims::has_task;
 use word_store::{Store, word, word_at};
 
 /// Whether the fault packet, where there is one, is on a queue exactly where some fault was not reported yet, and is from a guest

@@ -5,6 +5,7 @@ pub mod between;
 pub mod check;
 pub mod console_line;
 pub mod fault_reports;
+pub mod list_passes;
 mod packet_rules;
 pub mod places;
 pub mod queue_pass;
@@ -14,7 +15,4 @@ pub use between::{first_runs, registers_stand, ticks_stand};
 pub use check::holds_lists;
 pub use console_line::console_stands;
 pub use fault_reports::faults_stand;
-
-// Shown to the crates above.
-pub use list_passes::kernel_dispatch::{RootField, root};
 pub use list_passes::{has_residents, highest_of};

@@ -1,19 +1,19 @@
 // Whether a packet may stand where it is queued.
 ghost use Rattle.std.specs.Prelude.{◌≡◌, ◌↔◌, IsTrue, true};
-ghost use Rattle.list_passes.specs.KernelDispatch.KernelModel.Lists.{has_task};
-ghost use Rattle.list_passes.specs.KernelDispatch.KernelModel.Recovered.{lists_in, packet_in};
-ghost use Rattle.list_passes.specs.KernelDispatch.KernelModel.ValidBlocks.{AreData};
-ghost use Rattle.list_passes.specs.KernelDispatch.KernelModel.ValidQueues.{HasSender, IsFaultPacket, IsKeyPacket, IsKeyPlace, MayStand, Place, is_fault_packet, is_key_packet};
-ghost use Rattle.list_passes.specs.KernelDispatch.KernelModel.ValidQueues.Place.{Work};
+ghost use Rattle.kernel_model.specs.KernelRecord.Lists.{has_task};
+ghost use Rattle.kernel_model.specs.KernelRecord.Recovered.{lists_in, packet_in};
+ghost use Rattle.kernel_model.specs.KernelRecord.ValidBlocks.{AreData};
+ghost use Rattle.kernel_model.specs.KernelRecord.ValidQueues.{HasSender, IsFaultPacket, IsKeyPacket, IsKeyPlace, MayStand, Place, is_fault_packet, is_key_packet};
+ghost use Rattle.kernel_model.specs.KernelRecord.ValidQueues.Place.{Work};
 ghost use Rattle.kernel_check.specs.KnownTasks.{AreTasksKnown};
 ghost use Rattle.kernel_check.specs.Places.{place_of};
 
+use crate::list_passes::{has_residents, highest_of};
 use crate::places::QueuePlace;
-use list_passes::kernel_dispatch::numbers::{
+use kernel_model::numbers::{
     CONSOLE, FAULT_KIND, FAULT_PACKET, FIRST_GUEST, KEY_PACKET, KEYBOARD, KIND, REPORTER, RES1,
     RES2, SENDER, TABLE,
 };
-use list_passes::{has_residents, highest_of};
 use word_store::{Store, word, word_at};
 
 /// Whether the packet at p may stand at the place. It looks at its words and at one entry of the task table.

@@ -1,27 +1,25 @@
 // The queued packets.
 ghost use Rattle.std.specs.Prelude.{◌≡◌, ◌↔◌, ◌+◌, ◌≤◌, ◌&&◌, IsTrue, is_some, length, not, slice_index};
 ghost use Rattle.std.specs.List.{AllByRecursion};
-ghost use Rattle.list_passes.specs.KernelDispatch.PacketQueue.Queue.{HasQueue};
-ghost use Rattle.list_passes.specs.KernelDispatch.TaskBlock.RootWords.{root_address};
-ghost use Rattle.list_passes.specs.KernelDispatch.TaskBlock.declared.roots.RootField.TheVariants.{Running};
-ghost use Rattle.list_passes.specs.KernelDispatch.KernelModel.Lists.{address_of_task, has_task, is_queued};
-ghost use Rattle.list_passes.specs.KernelDispatch.KernelModel.Recovered.{lists_in, packet_in, packets_at, task_in};
-ghost use Rattle.list_passes.specs.KernelDispatch.KernelModel.Residents.{fault_packet, key_packet};
-ghost use Rattle.list_passes.specs.KernelDispatch.KernelModel.Task.{queue_head};
-ghost use Rattle.list_passes.specs.KernelDispatch.KernelModel.ValidQueues.{MayStand, NeverFall, Place, QueuesStand};
-ghost use Rattle.list_passes.specs.KernelDispatch.KernelModel.ValidQueues.Place.{Clock, Keyboard, Output, Pending, Work};
+ghost use Rattle.kernel_lists.specs.PacketQueue.Queue.{HasQueue};
+ghost use Rattle.kernel_lists.specs.TaskBlock.RootWords.{root_address};
+ghost use Rattle.kernel_lists.specs.declared.task_block.roots.RootField.TheVariants.{Running};
+ghost use Rattle.kernel_model.specs.KernelRecord.Lists.{address_of_task, has_task, is_queued};
+ghost use Rattle.kernel_model.specs.KernelRecord.Recovered.{lists_in, packet_in, packets_at, task_in};
+ghost use Rattle.kernel_model.specs.KernelRecord.Residents.{fault_packet, key_packet};
+ghost use Rattle.kernel_model.specs.KernelRecord.Task.{queue_head};
+ghost use Rattle.kernel_model.specs.KernelRecord.ValidQueues.{MayStand, NeverFall, Place, QueuesStand};
+ghost use Rattle.kernel_model.specs.KernelRecord.ValidQueues.Place.{Clock, Keyboard, Output, Pending, Work};
 ghost use Rattle.kernel_check.specs.KnownTasks.{AreTasksKnown};
 ghost use Rattle.kernel_check.specs.ClaimedQueue.{IsClaimedQueue};
 ghost use Rattle.kernel_check.specs.Places.{place_of};
 
+use crate::list_passes::has_residents;
 use crate::packet_rules::{is_task, packet_stands};
 use crate::places::QueuePlace;
 use crate::queued::is_queued;
-use list_passes::has_residents;
-use list_passes::kernel_dispatch::numbers::{
-    FAULT_PACKET, KEY_PACKET, PENDING_HEAD, REPORTER, RES2,
-};
-use list_passes::kernel_dispatch::{NO_QUEUE, RootField, TcbField, field, packets, tasks};
+use kernel_lists::{NO_QUEUE, RootField, TcbField, field, packets, tasks};
+use kernel_model::numbers::{FAULT_PACKET, KEY_PACKET, PENDING_HEAD, REPORTER, RES2};
 use word_store::{Store, word, word_at};
 
 /// Whether each queued packet may stand where it does, due ticks never fall along the clock's queue, and the packets of residents

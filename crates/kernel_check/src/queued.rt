@@ -1,14 +1,14 @@
 // Whether a packet is on a queue.
 ghost use Rattle.std.specs.Prelude.{◌≡◌, ◌==◌};
 ghost use Rattle.std.specs.List.{flat_map, list_any};
-ghost use Rattle.list_passes.specs.KernelDispatch.PacketQueue.Queue.{HasQueue, queue_at};
-ghost use Rattle.list_passes.specs.KernelDispatch.KernelModel.Lists.{is_queued};
-ghost use Rattle.list_passes.specs.KernelDispatch.KernelModel.Recovered.{lists_in};
-ghost use Rattle.list_passes.specs.ClaimedStore.{IsClaimed};
+ghost use Rattle.kernel_lists.specs.PacketQueue.Queue.{HasQueue, queue_at};
+ghost use Rattle.kernel_model.specs.KernelRecord.Lists.{is_queued};
+ghost use Rattle.kernel_model.specs.KernelRecord.Recovered.{lists_in};
+ghost use Rattle.kernel_check.specs.ListPasses.ClaimedStore.{IsClaimed};
 
-use list_passes::has_residents;
-use list_passes::kernel_dispatch::numbers::PENDING_HEAD;
-use list_passes::kernel_dispatch::{RootField, TcbField, packets, tasks};
+use crate::list_passes::has_residents;
+use kernel_lists::{RootField, TcbField, packets, tasks};
+use kernel_model::numbers::PENDING_HEAD;
 use word_store::Store;
 
 /// Whether the packet at p is on one of the queues. It looks at all packets.

@@ -1,13 +1,13 @@
 -- Whether the first packet at the clock is due, as the store has it.
 use Rattle.std.proofs.Common.{◌≡◌, ◌≢◌, ℕ, ◌+◌, ◌<◌, false, List, [], ◌∷◌, get_or, leb, refl, sym, ap, ◌∙◌, arith}
 use Rattle.std.specs.List.{AllByRecursion}
-use Rattle.kernel_calls.specs.OwnedWords.Owned.{Holds}
-use Rattle.kernel_calls.specs.PacketQueue.QueueWords.{QueuedPacket, first_packet, queue_words}
-use Rattle.kernel_calls.specs.KernelModel.HoldsLists.{HoldsLists}
-use Rattle.kernel_calls.specs.KernelModel.Lists.{Lists}
-use Rattle.kernel_calls.specs.KernelModel.Owned.{clock_head}
-use Rattle.kernel_calls.specs.PacketCalls.declared.returns.Device.TheVariants.{Clock}
-use Rattle.kernel_calls.proofs.Shown.PacketCalls.DeviceQueues.{device-held}
+use Rattle.kernel_lists.specs.OwnedWords.Owned.{Holds}
+use Rattle.kernel_lists.specs.PacketQueue.QueueWords.{QueuedPacket, first_packet, queue_words}
+use Rattle.kernel_model.specs.KernelRecord.HoldsLists.{HoldsLists}
+use Rattle.kernel_model.specs.KernelRecord.Lists.{Lists}
+use Rattle.kernel_model.specs.KernelRecord.Owned.{clock_head}
+use Rattle.kernel_calls.specs.declared.packet_calls.returns.Device.TheVariants.{Clock}
+use Rattle.kernel_calls.proofs.PacketCalls.DeviceQueues.{device-held}
 use Rattle.kernel_devices.specs.Tick.{is_first_due}
 
 module _ (s : List ℕ) (l : Lists) (now : ℕ) (h : HoldsLists s l) (p : ℕ) (is : p ≡ get_or s clock_head 0) where

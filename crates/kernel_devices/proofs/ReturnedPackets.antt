@@ -3,26 +3,26 @@ use Rattle.std.proofs.Common.{◌≡◌, ℕ, ◌<◌, ◌≤◌, Bool, true, fa
 use Rattle.std.specs.List.{AllByRecursion}
 use Rattle.std.proofs.lemmas.Bool.Decides.{nat_tests}
 use Rattle.std.proofs.lemmas.List.{append-nil, append_assoc}
-use Rattle.kernel_calls.specs.OwnedWords.Owned.{owners}
-use Rattle.kernel_calls.specs.PacketQueue.Queue.{queue_at}
-use Rattle.kernel_calls.specs.PacketQueue.QueueWords.{QueuedPacket, address_of}
-use Rattle.kernel_calls.specs.PacketQueue.declared.events.KernelEvent.{KernelEvent}
-use Rattle.kernel_calls.proofs.Shown.PacketQueue.HeldQueues.{held-queue}
-use Rattle.kernel_calls.specs.KernelModel.ChangedStore.{IsChanged}
-use Rattle.kernel_calls.specs.KernelModel.Changes.{with_queue}
-use Rattle.kernel_calls.specs.KernelModel.HoldsLists.{HoldsLists}
-use Rattle.kernel_calls.specs.KernelModel.Lists.{Lists}
-use Rattle.kernel_calls.specs.KernelModel.NotedEvents.{NotesAll}
-use Rattle.kernel_calls.specs.KernelModel.Owned.{clock_head, owned}
-use Rattle.kernel_calls.specs.KernelModel.ValidQueues.{NeverFall}
-use Rattle.kernel_calls.specs.KernelModel.ValidQueues.Place.{Clock}
-use Rattle.kernel_calls.proofs.Shown.KernelModel.ChangedLists.{changed-none, changed-then}
-use Rattle.kernel_calls.proofs.Shown.KernelModel.EachMember.{all-each}
-use Rattle.kernel_calls.proofs.Shown.KernelModel.NotedInTurn.{notes-none, notes-then}
+use Rattle.kernel_lists.specs.OwnedWords.Owned.{owners}
+use Rattle.kernel_lists.specs.PacketQueue.Queue.{queue_at}
+use Rattle.kernel_lists.specs.PacketQueue.QueueWords.{QueuedPacket, address_of}
+use Rattle.kernel_lists.specs.declared.packet_queue.events.KernelEvent.{KernelEvent}
+use Rattle.kernel_lists.proofs.PacketQueue.HeldQueues.{held-queue}
+use Rattle.kernel_model.specs.KernelRecord.ChangedStore.{IsChanged}
+use Rattle.kernel_model.specs.KernelRecord.Changes.{with_queue}
+use Rattle.kernel_model.specs.KernelRecord.HoldsLists.{HoldsLists}
+use Rattle.kernel_model.specs.KernelRecord.Lists.{Lists}
+use Rattle.kernel_model.specs.KernelRecord.NotedEvents.{NotesAll}
+use Rattle.kernel_model.specs.KernelRecord.Owned.{clock_head, owned}
+use Rattle.kernel_model.specs.KernelRecord.ValidQueues.{NeverFall}
+use Rattle.kernel_model.specs.KernelRecord.ValidQueues.Place.{Clock}
+use Rattle.kernel_model.proofs.KernelRecord.ChangedLists.{changed-none, changed-then}
+use Rattle.kernel_model.proofs.KernelRecord.EachMember.{all-each}
+use Rattle.kernel_model.proofs.KernelRecord.NotedInTurn.{notes-none, notes-then}
 use Rattle.kernel_calls.specs.PacketCalls.Returned.{IsServed, Served, first_returned, return_events, returned_by, with_work_for}
-use Rattle.kernel_calls.specs.PacketCalls.declared.returns.Device.TheVariants as devices
+use Rattle.kernel_calls.specs.declared.packet_calls.returns.Device.TheVariants as devices
 use Rattle.kernel_devices.specs.Tick.{due_packets, due_returned, events_of_return, is_first_due, later_packets, with_returned}
-use Rattle.kernel_calls.proofs.Shown.PacketCalls.DeviceQueues.{device-held}
+use Rattle.kernel_calls.proofs.PacketCalls.DeviceQueues.{device-held}
 
 -- ---- the first packet
 

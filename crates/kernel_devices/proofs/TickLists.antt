@@ -1,28 +1,28 @@
 -- The ticks are another number.
 use Rattle.std.proofs.Common.{◌≡◌, ℕ, ◌-◌, List, [], ◌∷◌, ◌++◌, set, refl, sym, arith}
 use Rattle.std.specs.List.{AllByRecursion}
-use Rattle.kernel_calls.specs.OwnedWords.Exchange.{Exchange}
-use Rattle.kernel_calls.specs.OwnedWords.Owned.{Pairs, owners, row_from}
-use Rattle.kernel_calls.proofs.Shown.OwnedWords.Exchanges.{exchange-left}
-use Rattle.kernel_calls.specs.GetvecChain.BlockWords.{blocks_words}
-use Rattle.kernel_calls.specs.HunkLoader.ModuleExchanges.{modules_words}
-use Rattle.kernel_calls.specs.PacketQueue.QueueWords.{QueuedPacket}
-use Rattle.kernel_calls.specs.KernelModel.ChangedStore.{IsChanged}
-use Rattle.kernel_calls.specs.KernelModel.HoldsLists.{HoldsLists}
-use Rattle.kernel_calls.specs.KernelModel.Lists.{Lists, address_of_task}
-use Rattle.kernel_calls.specs.KernelModel.Owned.{device_words, owned, tasks_words}
-use Rattle.kernel_calls.specs.KernelModel.Residents.{resident_words}
-use Rattle.kernel_calls.specs.KernelModel.Root.{resident_data, root_words, unused_entries}
-use Rattle.kernel_calls.specs.KernelModel.Task.{filled}
-use Rattle.kernel_calls.specs.KernelModel.ValidLists.{AreValid}
-use Rattle.kernel_calls.specs.KernelModel.ValidQueues.{MayStand, Place}
-use Rattle.kernel_calls.specs.KernelModel.ValidQueues.Place.{Clock, Keyboard, Output, Pending, Work}
-use Rattle.kernel_calls.specs.KernelModel.ValidTasks.{CoroutinesStand, IsTask}
-use Rattle.kernel_calls.specs.KernelModel.Versions.{highest_id_of}
-use Rattle.kernel_calls.proofs.Shown.KernelModel.ChangedLists.{exchange-owned, owners-exchanged}
-use Rattle.kernel_calls.proofs.Shown.KernelModel.EachMember.{all-each}
-use Rattle.kernel_calls.proofs.Shown.KernelModel.OwnerCounts.{owns-without}
-use Rattle.kernel_calls.proofs.Shown.KernelModel.RulesKept.{CoroutinesStand-same, IsTask-kept, MayStand-more, TasksStand-same}
+use Rattle.kernel_lists.specs.OwnedWords.Exchange.{Exchange}
+use Rattle.kernel_lists.specs.OwnedWords.Owned.{Pairs, owners, row_from}
+use Rattle.kernel_lists.proofs.OwnedWords.Exchanges.{exchange-left}
+use Rattle.kernel_lists.specs.GetvecChain.BlockWords.{blocks_words}
+use Rattle.kernel_lists.specs.HunkLoader.ModuleExchanges.{modules_words}
+use Rattle.kernel_lists.specs.PacketQueue.QueueWords.{QueuedPacket}
+use Rattle.kernel_model.specs.KernelRecord.ChangedStore.{IsChanged}
+use Rattle.kernel_model.specs.KernelRecord.HoldsLists.{HoldsLists}
+use Rattle.kernel_model.specs.KernelRecord.Lists.{Lists, address_of_task}
+use Rattle.kernel_model.specs.KernelRecord.Owned.{device_words, owned, tasks_words}
+use Rattle.kernel_model.specs.KernelRecord.Residents.{resident_words}
+use Rattle.kernel_model.specs.KernelRecord.Root.{resident_data, root_words, unused_entries}
+use Rattle.kernel_model.specs.KernelRecord.Task.{filled}
+use Rattle.kernel_model.specs.KernelRecord.ValidLists.{AreValid}
+use Rattle.kernel_model.specs.KernelRecord.ValidQueues.{MayStand, Place}
+use Rattle.kernel_model.specs.KernelRecord.ValidQueues.Place.{Clock, Keyboard, Output, Pending, Work}
+use Rattle.kernel_model.specs.KernelRecord.ValidTasks.{CoroutinesStand, IsTask}
+use Rattle.kernel_model.specs.KernelRecord.Versions.{highest_id_of}
+use Rattle.kernel_model.proofs.KernelRecord.ChangedLists.{exchange-owned, owners-exchanged}
+use Rattle.kernel_model.proofs.KernelRecord.EachMember.{all-each}
+use Rattle.kernel_model.proofs.KernelRecord.OwnerCounts.{owns-without}
+use Rattle.kernel_model.proofs.KernelRecord.RulesKept.{CoroutinesStand-same, IsTask-kept, MayStand-more, TasksStand-same}
 use Rattle.kernel_devices.specs.Tick.{with_tick}
 
 -- the words of the root behind that of the ticks

@@ -1,13 +1,13 @@
 -- What a tick leaves.
 use Rattle.std.proofs.Common.{◌≡◌, ℕ, ◌+◌, Bool, Option, List, [], get_or, set, sym, ap, ◌∙◌, subst}
-use Rattle.kernel_calls.specs.PacketQueue.declared.events.KernelEvent.{KernelEvent}
-use Rattle.kernel_calls.specs.KernelModel.ChangedStore.{IsChanged}
-use Rattle.kernel_calls.specs.KernelModel.HoldsLists.{HoldsLists}
-use Rattle.kernel_calls.specs.KernelModel.Lists.{Lists}
-use Rattle.kernel_calls.specs.KernelModel.NotedEvents.{NotesAll}
-use Rattle.kernel_calls.proofs.Shown.KernelModel.ChangedLists.{changed-then}
+use Rattle.kernel_lists.specs.declared.packet_queue.events.KernelEvent.{KernelEvent}
+use Rattle.kernel_model.specs.KernelRecord.ChangedStore.{IsChanged}
+use Rattle.kernel_model.specs.KernelRecord.HoldsLists.{HoldsLists}
+use Rattle.kernel_model.specs.KernelRecord.Lists.{Lists}
+use Rattle.kernel_model.specs.KernelRecord.NotedEvents.{NotesAll}
+use Rattle.kernel_model.proofs.KernelRecord.ChangedLists.{changed-then}
 use Rattle.kernel_calls.specs.PacketCalls.Returned.{IsServed, Served}
-use Rattle.kernel_calls.proofs.Shown.CallAnswers.RootTold.{tick-told}
+use Rattle.kernel_calls.proofs.CallAnswers.RootTold.{tick-told}
 use Rattle.kernel_devices.specs.Tick.{due_returned, ticked, with_tick}
 use Rattle.kernel_devices.proofs.TickLists.{tick-changed, tick-owned}
 

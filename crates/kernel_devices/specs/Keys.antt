@@ -1,9 +1,9 @@
 -- A byte that was typed meets a packet that waits for one.
 use Rattle.std.specs.Prelude.{ℕ, List, [], ◌∷◌, drop}
-use Rattle.kernel_calls.specs.PacketQueue.QueueWords.{QueuedPacket}
-use Rattle.kernel_calls.specs.KernelModel.Lists.{Lists}
+use Rattle.kernel_lists.specs.PacketQueue.QueueWords.{QueuedPacket}
+use Rattle.kernel_model.specs.KernelRecord.Lists.{Lists}
 use Rattle.kernel_calls.specs.PacketCalls.Returned.{Served, first_returned, unserved}
-use Rattle.kernel_calls.specs.PacketCalls.declared.returns.Device.TheVariants.{Keyboard}
+use Rattle.kernel_calls.specs.declared.packet_calls.returns.Device.TheVariants.{Keyboard}
 
 -- the first packet is returned with the first byte, where there are both
 abbrev pub met : List ℕ → Lists → Served

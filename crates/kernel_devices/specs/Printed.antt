@@ -1,10 +1,10 @@
 -- A packet that waits for the output device is served.
 use Rattle.std.specs.Prelude.{ℕ, ◌+◌, ◌%◌, List, [], ◌∷◌, slice_index}
-use Rattle.kernel_calls.specs.PacketQueue.QueueWords.{QueuedPacket}
-use Rattle.kernel_calls.specs.KernelModel.Lists.{Lists}
+use Rattle.kernel_lists.specs.PacketQueue.QueueWords.{QueuedPacket}
+use Rattle.kernel_model.specs.KernelRecord.Lists.{Lists}
 use Rattle.kernel_calls.specs.PacketCalls.Returned.{Served, first_returned}
-use Rattle.kernel_calls.specs.PacketCalls.declared.returns.Device.TheVariants.{Output}
-use Rattle.kernel_calls.specs.KernelModel.declared.numbers.TheConstants.{FIRST}
+use Rattle.kernel_calls.specs.declared.packet_calls.returns.Device.TheVariants.{Output}
+use Rattle.kernel_model.specs.declared.kernel_record.numbers.TheConstants.{FIRST}
 
 -- the byte that is printed, where these packets waited: what word 5 of the first one ends with; beyond the store it is 0
 abbrev pub printed : List ℕ → List QueuedPacket → List ℕ

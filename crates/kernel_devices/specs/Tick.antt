@@ -1,13 +1,13 @@
 -- A tick of the clock.
 use Rattle.std.specs.Prelude.{ℕ, ◌+◌, Bool, false, not, List, [], ◌∷◌, filter, nat_le}
 use Rattle.std.specs.List.{flat_map}
-use Rattle.kernel_calls.specs.PacketQueue.QueueWords.{QueuedPacket}
-use Rattle.kernel_calls.specs.PacketQueue.declared.events.KernelEvent.{KernelEvent}
-use Rattle.kernel_calls.specs.KernelModel.Changes.{with_queue}
-use Rattle.kernel_calls.specs.KernelModel.Lists.{Lists}
-use Rattle.kernel_calls.specs.KernelModel.ValidQueues.Place.{Clock}
+use Rattle.kernel_lists.specs.PacketQueue.QueueWords.{QueuedPacket}
+use Rattle.kernel_lists.specs.declared.packet_queue.events.KernelEvent.{KernelEvent}
+use Rattle.kernel_model.specs.KernelRecord.Changes.{with_queue}
+use Rattle.kernel_model.specs.KernelRecord.Lists.{Lists}
+use Rattle.kernel_model.specs.KernelRecord.ValidQueues.Place.{Clock}
 use Rattle.kernel_calls.specs.PacketCalls.Returned.{Served, return_events, returned_by, with_work_for}
-use Rattle.kernel_calls.specs.PacketCalls.declared.returns.Device.TheVariants as devices
+use Rattle.kernel_calls.specs.declared.packet_calls.returns.Device.TheVariants as devices
 
 -- a packet is due at this tick or before, and it is not
 abbrev pub due_packets : ℕ → List QueuedPacket → List QueuedPacket

@@ -1,14 +1,15 @@
 // The output device.
 ghost use Rattle.std.specs.Prelude.{◌≡◌, ◌<◌, ◌++◌, length};
-ghost use Rattle.kernel_calls.specs.KernelModel.HoldsLists.{HoldsLists};
-ghost use Rattle.kernel_calls.specs.KernelModel.Lists.{Lists};
-ghost use Rattle.kernel_calls.specs.KernelModel.NotedEvents.{NotesAll};
+ghost use Rattle.kernel_model.specs.KernelRecord.HoldsLists.{HoldsLists};
+ghost use Rattle.kernel_model.specs.KernelRecord.Lists.{Lists};
+ghost use Rattle.kernel_model.specs.KernelRecord.NotedEvents.{NotesAll};
 ghost use Rattle.kernel_devices.specs.Printed.{finished, printed};
 ghost use Rattle.kernel_calls.specs.PacketCalls.Returned.{IsServed};
 
-use kernel_calls::numbers::FIRST;
-use kernel_calls::{Device, EventLog, RootField, return_first, root};
-use tp_io::Output;
+use byte_streams::Output;
+use kernel_calls::{Device, return_first};
+use kernel_lists::{EventLog, RootField, root};
+use kernel_model::numbers::FIRST;
 use word_store::{Store, word_at};
 
 /// The word of a packet that has the byte to be printed.

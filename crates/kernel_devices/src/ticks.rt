@@ -1,13 +1,14 @@
 // A tick of the clock.
 ghost use Rattle.std.specs.Prelude.{◌≡◌, ◌<◌, ◌-◌, ◌^◌};
-ghost use Rattle.kernel_calls.specs.KernelModel.HoldsLists.{HoldsLists};
-ghost use Rattle.kernel_calls.specs.KernelModel.Lists.{Lists};
-ghost use Rattle.kernel_calls.specs.KernelModel.NotedEvents.{NotesAll};
+ghost use Rattle.kernel_model.specs.KernelRecord.HoldsLists.{HoldsLists};
+ghost use Rattle.kernel_model.specs.KernelRecord.Lists.{Lists};
+ghost use Rattle.kernel_model.specs.KernelRecord.NotedEvents.{NotesAll};
 ghost use Rattle.kernel_calls.specs.PacketCalls.Returned.{IsServed};
 ghost use Rattle.kernel_devices.specs.Tick.{due_returned, is_first_due, ticked};
 
-use kernel_calls::numbers::DUE;
-use kernel_calls::{Device, EventLog, RootField, return_first, root, set_root};
+use kernel_calls::{Device, return_first};
+use kernel_lists::{EventLog, RootField, root, set_root};
+use kernel_model::numbers::DUE;
 use word_store::{Store, word_at};
 
 /// The ticks are one more, and every packet at the clock that is due by then is returned to its sender, in the order of the

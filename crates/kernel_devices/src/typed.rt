@@ -1,19 +1,20 @@
 // The bytes that were typed, and that no packet has taken yet.
 ghost use Rattle.std.specs.Prelude.{◌≡◌, ◌+◌, ◌<◌, ◌≤◌, ◌↔◌, [], ◌++◌, IfOk, IsTrue, drop, length, slice_get};
-ghost use Rattle.kernel_calls.specs.KernelModel.HoldsLists.{HoldsLists};
-ghost use Rattle.kernel_calls.specs.KernelModel.Lists.{Lists};
-ghost use Rattle.kernel_calls.specs.KernelModel.NotedEvents.{NotesAll};
+ghost use Rattle.kernel_model.specs.KernelRecord.HoldsLists.{HoldsLists};
+ghost use Rattle.kernel_model.specs.KernelRecord.Lists.{Lists};
+ghost use Rattle.kernel_model.specs.KernelRecord.NotedEvents.{NotesAll};
 ghost use Rattle.kernel_devices.specs.Keys.{left_typed, met};
 ghost use Rattle.kernel_calls.specs.PacketCalls.Returned.{IsServed};
 ghost use Rattle.kernel_devices.specs.Typed.{with_typed};
 
 use arrayvec::ArrayVec;
+use byte_streams::WantMemory;
 use circular_buffer::HeapCircularBuffer;
-use kernel_calls::numbers::MOST_AHEAD;
-use kernel_calls::{Device, EventLog, RootField, return_first, root};
+use kernel_calls::{Device, return_first};
+use kernel_lists::{EventLog, RootField, root};
+use kernel_model::numbers::MOST_AHEAD;
 use std::alloc::Global;
 use std::marker::Model;
-use tp_io::WantMemory;
 use word_store::Store;
 
 /// At most 128 bytes, seen as their list, the first that was typed first.

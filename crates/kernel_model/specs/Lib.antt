@@ -1,31 +1,3 @@
-pub mod Between
-pub mod BlockUse
-pub mod ChangedStore
-pub mod Changes
-pub mod HoldsLists
-pub mod Image
-pub mod Kernel
-pub mod KernelRanges
-pub mod Lists
-pub mod MovedTask
-pub mod NotedEvents
-pub mod OneKernel
-pub mod Owned
-pub mod Pipes
-pub mod Ranges
-pub mod ReadsLists
-pub mod Recovered
-pub mod Residents
-pub mod Root
-pub mod Running
-pub mod Standing
-pub mod Task
-pub mod UsedData
-pub mod ValidBlocks
-pub mod ValidKernel
-pub mod ValidLists
-pub mod ValidQueues
-pub mod ValidTasks
-pub mod Versions
--- shown to the crates above
-pub use Rattle.kernel_lists.specs as KernelLists
+pub mod KernelRecord
+pub mod WordKinds
+pub mod KernelDispatch

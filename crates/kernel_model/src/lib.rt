@@ -1,17 +1,8 @@
-// The kernel as a record of lists, which owns words of the store, and its numbers. Its functions do nothing: their contracts are
-// the laws.
 #![tactic(auto)]
 
-pub mod change_laws;
-pub mod image_laws;
-pub mod list_laws;
-pub mod number_laws;
-pub mod numbers;
-pub mod stops;
-pub mod uses;
+pub mod kernel_dispatch;
+pub mod kernel_record;
+pub mod word_kinds;
 
-pub use stops::Stop;
-pub use uses::Use;
-
-// Shown to the crates above.
-pub use kernel_lists;
+pub use kernel_record::{Stop, Use, numbers};
+pub use word_kinds::{ByteKinds, KindKeeper, Walk, are_unowned, packet_in};

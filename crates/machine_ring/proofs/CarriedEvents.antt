@@ -5,10 +5,10 @@ use Rattle.std.specs.List.{All}
 use Rattle.std.proofs.lemmas.List.{append-nil, append_assoc}
 use Rattle.std.proofs.lemmas.List.Elements.{All-append, All-cons, All-drop, All-get_or, All-nil, All-take, All-weaker}
 use Rattle.std.proofs.lemmas.Option.{slice_get_within, unwrap_or-slice_get}
-use Rattle.ring_link.specs.Receivers.{count_after, is_taken}
-use Rattle.ring_link.specs.Senders.{Sender, is_new_count, sender_after_count, sender_after_turn, sent_in_turn}
-use Rattle.ring_link.specs.Transfers.{Event, Transfer, after_acknowledgement, after_data as data_after, after_event, after_events, sent_after}
-use Rattle.ring_link.specs.Transfers.Event.{Acknowledgement, Data, Offer, Turn}
+use Rattle.machine_ring.specs.RingLink.Receivers.{count_after, is_taken}
+use Rattle.machine_ring.specs.RingLink.Senders.{Sender, is_new_count, sender_after_count, sender_after_turn, sent_in_turn}
+use Rattle.machine_ring.specs.RingLink.Transfers.{Event, Transfer, after_acknowledgement, after_data as data_after, after_event, after_events, sent_after}
+use Rattle.machine_ring.specs.RingLink.Transfers.Event.{Acknowledgement, Data, Offer, Turn}
 use Rattle.machine_ring.specs.Flights.{coming, staying, with_any_packet, with_packet}
 use Rattle.machine_ring.specs.Links.{Link, after_count, after_data, after_turn, byte_taken, carried, carried_byte, carries_back, coming_count, coming_data, counts_after, is_new, letter_after, listed, received_after, sender_after_answer, staying_counts, staying_data}
 

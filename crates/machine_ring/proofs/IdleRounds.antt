@@ -3,7 +3,7 @@ use Rattle.std.proofs.Common.{◌≡◌, ◌≢◌, ℕ, zero, suc, ◌+◌, ◌
 use Rattle.std.specs.Prelude.{◌==◌, ◌||◌, is_none, nat_le, nat_lt, slice_get}
 use Rattle.std.proofs.lemmas.Bool.{and_parts, eqb-true, ltb-true}
 use Rattle.std.proofs.lemmas.List.{nil_from_length}
-use Rattle.tripos_machine.specs.KernelCalls.KernelModel.declared.stops.Stop.{Stop}
+use Rattle.kernel_model.specs.declared.kernel_record.stops.Stop.{Stop}
 use Rattle.tripos_machine.specs.Quiet.{AreQuiet}
 use Rattle.tripos_machine.specs.State.{State, steps_of, stop_of}
 use Rattle.tripos_machine.specs.Step.{Stepped, run as machine_run, step}

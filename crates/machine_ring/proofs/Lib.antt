@@ -1,3 +1,4 @@
+pub mod RingLink
 pub mod CarriedEvents
 pub mod QuietSteps
 pub mod IdleRounds

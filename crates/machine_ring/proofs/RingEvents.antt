@@ -3,10 +3,10 @@ use Rattle.std.proofs.Common.{None, Option, Some, ◌≡◌, ℕ, zero, suc, ◌
 use Rattle.std.specs.Prelude.{is_some, slice_get}
 use Rattle.std.proofs.lemmas.List.{append-nil}
 use Rattle.std.proofs.lemmas.List.Elements.{All-nil}
-use Rattle.ring_link.specs.Senders.{Sender}
-use Rattle.ring_link.specs.Transfers.{Event, IsPrefix, Transfer, after_events, new_transfer, transfer_after}
-use Rattle.ring_link.proofs.InStep.{IsInStep, delivered-prefix, in_step, length-delivered}
-use Rattle.ring_link.proofs.ListPlaces.{slice_get-drop}
+use Rattle.machine_ring.specs.RingLink.Senders.{Sender}
+use Rattle.machine_ring.specs.RingLink.Transfers.{Event, IsPrefix, Transfer, after_events, new_transfer, transfer_after}
+use Rattle.machine_ring.proofs.RingLink.InStep.{IsInStep, delivered-prefix, in_step, length-delivered}
+use Rattle.machine_ring.proofs.RingLink.ListPlaces.{slice_get-drop}
 use Rattle.tripos_machine.specs.State.{State, stop_of}
 use Rattle.tripos_machine.specs.Step.{step}
 use Rattle.machine_ring.specs.Links.{carried, carries_back, listed}

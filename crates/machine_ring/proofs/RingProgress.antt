@@ -1,10 +1,10 @@
 -- How far the rounds of a ring have come.
 use Rattle.std.proofs.Common.{[], ◌≡◌, ℕ, ◌+◌, ◌-◌, ◌≤◌, ◌++◌, Bool, Option, Some, None, List, length, sym, ap, ◌∙◌, subst, arith, length-append, length-drop}
 use Rattle.std.specs.Prelude.{unwrap_or}
-use Rattle.tp_io.specs.Pending.{IsCut, IsGathered}
-use Rattle.tp_io.proofs.GatheredTexts.{IsCut-more, IsCut-then, IsGathered-nothing, IsGathered-then}
-use Rattle.tripos_machine.specs.KernelCalls.KernelModel.declared.stops.Stop.{Stop}
-use Rattle.tripos_machine.specs.KernelCalls.KernelModel.declared.stops.Stop.TheVariants.{Steps}
+use Rattle.byte_streams.specs.Pending.{IsCut, IsGathered}
+use Rattle.byte_streams.proofs.GatheredTexts.{IsCut-more, IsCut-then, IsGathered-nothing, IsGathered-then}
+use Rattle.kernel_model.specs.declared.kernel_record.stops.Stop.{Stop}
+use Rattle.kernel_model.specs.declared.kernel_record.stops.Stop.TheVariants.{Steps}
 use Rattle.tripos_machine.specs.Runs.{end_of_run}
 use Rattle.tripos_machine.specs.State.{State, stop_of}
 use Rattle.machine_ring.specs.Links.{Link, carried, carried_byte, carries_back}

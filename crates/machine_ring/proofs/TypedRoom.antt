@@ -3,7 +3,7 @@ use Rattle.std.proofs.Common.{◌≡◌, ℕ, Bool, true, false, List, length, r
 use Rattle.std.specs.Prelude.{is_none, nat_lt, slice_get}
 use Rattle.std.proofs.lemmas.Bool.{ltb-false, ltb-true}
 use Rattle.std.proofs.lemmas.Option.{slice_get-get_or, slice_get_past}
-use Rattle.tripos_machine.specs.KernelMachine.declared.parts.Parts.{Parts as KernelParts}
+use Rattle.kernel_machine.specs.declared.running_machine.parts.Parts.{Parts as KernelParts}
 use Rattle.tripos_machine.specs.State.{StandsFull, State}
 use Rattle.tripos_machine.specs.State.State.{Bare, Full}
 use Rattle.machine_ring.specs.Rounds.{has_room}

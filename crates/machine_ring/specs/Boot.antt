@@ -1,11 +1,11 @@
 -- What the input of a ring puts into its machines before the first round.
 use Rattle.std.specs.Prelude.{◌≡◌, ◌+◌, ◌<◌, ◌^◌, ℕ, Result, Ok, Err}
-use Rattle.hunk_text.specs.TextReader.Refusal.{Refusal, refusal}
-use Rattle.hunk_text.specs.TextReader.Steps.{◌>>=◌}
-use Rattle.ring_link.specs.Machines.{behind}
-use Rattle.ring_link.specs.declared.inputs.RingInput.{RingInput}
-use Rattle.tripos_machine.specs.BareMachine.declared.boot.BootEnd.{BootEnd}
-use Rattle.tripos_machine.specs.BareMachine.declared.boot.BootEnd.TheVariants.{Line, WantMemory}
+use Rattle.module_text.specs.TextReader.Refusal.{Refusal, refusal}
+use Rattle.module_text.specs.TextReader.Steps.{◌>>=◌}
+use Rattle.machine_ring.specs.RingLink.Machines.{behind}
+use Rattle.machine_ring.specs.declared.ring_link.inputs.RingInput.{RingInput}
+use Rattle.bare_machine.specs.declared.boot.BootEnd.{BootEnd}
+use Rattle.bare_machine.specs.declared.boot.BootEnd.TheVariants.{Line, WantMemory}
 use Rattle.tripos_machine.specs.Boot.{boot}
 use Rattle.machine_ring.specs.Rings.{Ring, first_ring, terms_of}
 

@@ -1,6 +1,6 @@
 -- A ring before its first round as the code has it.
 use Rattle.std.specs.Prelude.{◌≡◌, ◌≤◌, None}
-use Rattle.tripos_machine.specs.KernelCalls.KernelModel.Ranges.{most_steps}
+use Rattle.kernel_model.specs.KernelRecord.Ranges.{most_steps}
 use Rattle.tripos_machine.specs.State.{stop_of}
 use Rattle.machine_ring.specs.Rings.{Ring, first_ring}
 use Rattle.machine_ring.specs.declared.rings.Ring.TheInside.{Inside}

@@ -1,3 +1,4 @@
+pub mod RingLink
 pub mod Flights
 pub mod Links
 pub mod LinkParts
@@ -10,5 +11,3 @@ pub mod FirstRings
 pub mod Boot
 pub mod Outcomes
 pub mod RoundEvents
--- shown to the crates above
-pub use Rattle.ring_link.specs as RingLink

@@ -1,6 +1,6 @@
 -- The link as the code has it.
 use Rattle.std.specs.Prelude.{◌≡◌, ◌<◌, ◌≤◌, length}
-use Rattle.ring_link.specs.declared.inputs.TheConstants.{MOST_ROUNDS}
+use Rattle.machine_ring.specs.declared.ring_link.inputs.TheConstants.{MOST_ROUNDS}
 use Rattle.machine_ring.specs.Links.{Link}
 use Rattle.machine_ring.specs.declared.flights.TheConstants.{MOST_IN_FLIGHT}
 use Rattle.machine_ring.specs.declared.links.LinkParts.TheInside.{Inside}

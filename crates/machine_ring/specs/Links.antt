@@ -1,7 +1,7 @@
 -- What is between the two machines of a ring, and what a round does to it.
 use Rattle.std.specs.Prelude.{ℕ, ◌+◌, ◌%◌, if◌then◌else◌, Bool, false, Option, Some, None, List, [], ◌∷◌, length, slice_index}
-use Rattle.ring_link.specs.Receivers.{count_after, is_taken}
-use Rattle.ring_link.specs.Senders.{Sender, is_new_count, new_sender, sender_after_count, sender_after_turn, sent_in_turn}
+use Rattle.machine_ring.specs.RingLink.Receivers.{count_after, is_taken}
+use Rattle.machine_ring.specs.RingLink.Senders.{Sender, is_new_count, new_sender, sender_after_count, sender_after_turn, sent_in_turn}
 use Rattle.machine_ring.specs.Flights.{coming, staying, with_any_packet, with_packet}
 use Rattle.machine_ring.specs.declared.terms.Terms.{Terms}
 

@@ -1,6 +1,6 @@
 -- A ring at one moment, and before its first round.
 use Rattle.std.specs.Prelude.{ℕ, List, []}
-use Rattle.ring_link.specs.declared.inputs.RingInput.{RingInput}
+use Rattle.machine_ring.specs.declared.ring_link.inputs.RingInput.{RingInput}
 use Rattle.tripos_machine.specs.State.{State}
 use Rattle.machine_ring.specs.Links.{Link, new_link}
 use Rattle.machine_ring.specs.declared.terms.Terms.{Terms}

@@ -1,6 +1,6 @@
 -- What happened between the two ends of a ring's link in its rounds.
 use Rattle.std.specs.Prelude.{◌≡◌}
-use Rattle.ring_link.specs.Transfers.{Transfer}
+use Rattle.machine_ring.specs.RingLink.Transfers.{Transfer}
 use Rattle.machine_ring.specs.Rounds.{Rounded}
 
 -- the two ends of the link, and all that went from one to the other, are those of the rounds

@@ -1,8 +1,8 @@
 // Rounds in which nothing happens but that the two machines take their steps: they are taken many at once.
 ghost use Rattle.std.specs.Prelude.{◌≡◌, ◌+◌, ◌-◌, ◌<◌, ◌≤◌, ◌^◌, None, [], false, true, ℕ};
-ghost use Rattle.tp_io.specs.Pending.{Gathers};
-ghost use Rattle.tp_io.specs.Write.{HasCause};
-ghost use Rattle.tripos_machine.specs.KernelCalls.KernelModel.Ranges.{most_steps};
+ghost use Rattle.byte_streams.specs.Pending.{Gathers};
+ghost use Rattle.byte_streams.specs.Write.{HasCause};
+ghost use Rattle.kernel_model.specs.KernelRecord.Ranges.{most_steps};
 ghost use Rattle.tripos_machine.specs.Quiet.{IsIdle};
 ghost use Rattle.tripos_machine.specs.State.{stop_of};
 ghost use Rattle.machine_ring.specs.IdleRounds.{AreIdle, is_empty};
@@ -11,8 +11,9 @@ ghost use Rattle.machine_ring.specs.Runs.{run};
 
 use crate::left::{LeftEnd, can_step};
 use crate::links::LinkParts;
-use tp_io::{Output, Sink, SinkFault, gather};
-use tripos_machine::{Machine, NoLog};
+use byte_streams::{Output, Sink, SinkFault, gather};
+use kernel_lists::NoLog;
+use tripos_machine::Machine;
 
 /// For how many rounds from here nothing happens but that the two machines take their steps, as far as this is known: nothing is in
 /// flight, no byte of the left machine waits, and it takes no step any more, or nobody runs there and no device acts. Where all that is

@@ -1,6 +1,6 @@
 // The laws of a ring's rounds.
 ghost use Rattle.std.specs.Prelude.{◌≡◌, ◌≢◌, ◌+◌, ◌≤◌, None, drop, length, List, ℕ};
-ghost use Rattle.ring_link.specs.Transfers.{Event, IsPrefix, transfer_after};
+ghost use Rattle.machine_ring.specs.RingLink.Transfers.{Event, IsPrefix, transfer_after};
 ghost use Rattle.tripos_machine.specs.State.{State, stop_of};
 ghost use Rattle.machine_ring.specs.Rings.{Ring, first_ring};
 ghost use Rattle.machine_ring.specs.RoundEvents.{IsTransferOf};

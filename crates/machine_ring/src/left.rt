@@ -1,7 +1,7 @@
 // The left machine, and those of its console bytes that wait.
 ghost use Rattle.std.specs.Prelude.{◌≡◌, ◌+◌, ◌-◌, ◌<◌, ◌≤◌, ◌^◌, [], ◌++◌, IfOk, drop, false, length, slice_get, true, ℕ};
 ghost use Rattle.circular_buffer.specs.Buffer.{buffer};
-ghost use Rattle.tripos_machine.specs.KernelCalls.KernelModel.Ranges.{most_steps};
+ghost use Rattle.kernel_model.specs.KernelRecord.Ranges.{most_steps};
 ghost use Rattle.tripos_machine.specs.Quiet.{AreQuiet, IsIdle};
 ghost use Rattle.tripos_machine.specs.State.{steps_of};
 ghost use Rattle.tripos_machine.specs.Step.{run};
@@ -9,11 +9,12 @@ ghost use Rattle.machine_ring.specs.IdleRounds.{IsStill, left_after};
 ghost use Rattle.machine_ring.specs.Rounds.{after_step, can_step};
 
 use crate::terms::MOST_WAITING;
+use byte_streams::WantMemory;
 use circular_buffer::HeapCircularBuffer;
+use kernel_lists::NoLog;
 use std::alloc::Global;
 use std::marker::Model;
-use tp_io::WantMemory;
-use tripos_machine::{Machine, NoLog};
+use tripos_machine::Machine;
 
 /// The left machine, and its bytes that wait. It is seen as its state and these bytes.
 pub(crate) struct LeftEnd {

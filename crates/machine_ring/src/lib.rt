@@ -8,14 +8,13 @@ mod left;
 mod links;
 pub mod outcomes;
 mod right;
+pub mod ring_link;
 pub mod rings;
 mod runs;
 mod start;
 pub mod terms;
 
+pub use bare_machine::boot::BootEnd as RingBoot;
 pub use outcomes::RingOutcome;
-pub use rings::Ring;
-pub use tripos_machine::BootEnd as RingBoot;
-
-// Shown to the crates above.
 pub use ring_link::{RingInput, read_ring};
+pub use rings::Ring;

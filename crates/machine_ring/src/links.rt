@@ -4,17 +4,17 @@ ghost use Rattle.circular_buffer.specs.Buffer.{buffer};
 ghost use Rattle.machine_ring.specs.Flights.{coming, staying, with_any_packet};
 ghost use Rattle.machine_ring.specs.IdleRounds.{is_empty, later};
 ghost use Rattle.machine_ring.specs.Links.{byte_taken, carried, carried_byte, carries_back, counts_after, is_new, letter_after, new_link, received_after, sender_after_answer};
-ghost use Rattle.ring_link.specs.Heads.{is_round_count, is_wait};
-ghost use Rattle.ring_link.specs.Senders.{sender_after_turn, sent_in_turn};
+ghost use Rattle.machine_ring.specs.RingLink.Heads.{is_round_count, is_wait};
+ghost use Rattle.machine_ring.specs.RingLink.Senders.{sender_after_turn, sent_in_turn};
 
 use crate::flights::{MOST_IN_FLIGHT, act, send};
+use crate::ring_link::inputs::MOST_ROUNDS;
+use crate::ring_link::{Receiver, Sender};
 use crate::terms::Terms;
+use byte_streams::WantMemory;
 use circular_buffer::HeapCircularBuffer;
-use ring_link::inputs::MOST_ROUNDS;
-use ring_link::{Receiver, Sender};
 use std::alloc::Global;
 use std::marker::Model;
-use tp_io::WantMemory;
 
 /// The link. It is seen as what is set for it, and all that its two ends know and that is in flight.
 pub(crate) struct LinkParts {

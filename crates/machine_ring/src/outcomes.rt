@@ -3,7 +3,7 @@ ghost use Rattle.std.specs.Prelude.{◌≡◌, ◌+◌, ◌≤◌, length};
 
 use crate::left::LeftEnd;
 use crate::links::LinkParts;
-use tripos_machine::Stop;
+use kernel_model::Stop;
 
 /// What a run of a ring comes to.
 #[derive(Clone, Copy)]

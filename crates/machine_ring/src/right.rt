@@ -1,13 +1,14 @@
 // The right machine, at which bytes are typed.
 ghost use Rattle.std.specs.Prelude.{◌≡◌, ◌≤◌};
-ghost use Rattle.tp_io.specs.Pending.{Gathers};
-ghost use Rattle.tp_io.specs.Write.{HasCause};
-ghost use Rattle.tripos_machine.specs.KernelCalls.KernelModel.Ranges.{most_steps};
+ghost use Rattle.byte_streams.specs.Pending.{Gathers};
+ghost use Rattle.byte_streams.specs.Write.{HasCause};
+ghost use Rattle.kernel_model.specs.KernelRecord.Ranges.{most_steps};
 ghost use Rattle.machine_ring.specs.Rounds.{has_room, right_after, shown_by};
 
 use crate::left::can_step;
-use tp_io::{Output, Sink, SinkFault, gather};
-use tripos_machine::{Machine, NoLog};
+use byte_streams::{Output, Sink, SinkFault, gather};
+use kernel_lists::NoLog;
+use tripos_machine::Machine;
 
 /// The place of the last byte that may be typed ahead.
 const LAST_PLACE: u32 = 127;

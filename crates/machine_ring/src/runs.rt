@@ -1,8 +1,8 @@
 // The rounds of a ring, one after another.
 ghost use Rattle.std.specs.Prelude.{◌≡◌, ◌<◌, ◌≤◌, IfOk, Option, slice_get, ℕ};
-ghost use Rattle.tp_io.specs.Pending.{Gathers};
-ghost use Rattle.tp_io.specs.Write.{HasCause};
-ghost use Rattle.tripos_machine.specs.KernelCalls.KernelModel.Ranges.{most_steps};
+ghost use Rattle.byte_streams.specs.Pending.{Gathers};
+ghost use Rattle.byte_streams.specs.Write.{HasCause};
+ghost use Rattle.kernel_model.specs.KernelRecord.Ranges.{most_steps};
 ghost use Rattle.machine_ring.specs.Links.{carried, carried_byte, carries_back};
 ghost use Rattle.machine_ring.specs.Outcomes.{outcome_of};
 ghost use Rattle.machine_ring.specs.Rings.{first_ring, ring_with};
@@ -15,8 +15,9 @@ use crate::left::LeftEnd;
 use crate::links::LinkParts;
 use crate::outcomes::{RingOutcome, outcome_after};
 use crate::right::{has_room, step};
-use tp_io::{Output, Sink, SinkFault};
-use tripos_machine::{Machine, Stop};
+use byte_streams::{Output, Sink, SinkFault};
+use kernel_model::Stop;
+use tripos_machine::Machine;
 
 impl Ring {
     /// Takes all rounds, or those up to the one in which the right machine stops, and gathers its console bytes. `SinkFault` comes only

@@ -1,7 +1,7 @@
 // The machines of a ring are booted.
 ghost use Rattle.std.specs.Prelude.{◌≡◌, IfOk};
-ghost use Rattle.ring_link.specs.LawfulRing.{FitBehind, IsLawfulRing};
-ghost use Rattle.ring_link.specs.Machines.{behind};
+ghost use Rattle.machine_ring.specs.RingLink.LawfulRing.{FitBehind, IsLawfulRing};
+ghost use Rattle.machine_ring.specs.RingLink.Machines.{behind};
 ghost use Rattle.session_text.specs.Canonical.{IsLawful};
 ghost use Rattle.tripos_machine.specs.Boot.{boot};
 ghost use Rattle.tripos_machine.specs.Machine.{BootsAs};
@@ -9,15 +9,16 @@ ghost use Rattle.machine_ring.specs.Boot.{BootsRing, FitsBehind, booted_ring, en
 ghost use Rattle.machine_ring.specs.Links.{new_link};
 ghost use Rattle.machine_ring.specs.Rings.{terms_of};
 
+use crate::Ring;
 use crate::left::{LeftEnd, waiting_room};
 use crate::links::LinkParts;
+use crate::ring_link::RingInput;
 use crate::terms::Terms;
-use crate::{Ring, RingBoot};
-use ring_link::RingInput;
+use bare_machine::boot::{BootEnd, BootEnd as RingBoot};
+use byte_streams::WantMemory;
 use session_text::{Bytes, Session};
 use std::alloc::Global;
-use tp_io::WantMemory;
-use tripos_machine::{BootEnd, Machine, boot};
+use tripos_machine::{Machine, boot};
 
 impl Ring {
     /// The ring of an input before its first round. The left machine boots first, and then the right one. `Line` comes exactly where a

@@ -4,8 +4,8 @@ use Rattle.std.specs.Prelude.{is_ok, if◌then◌else◌}
 use Rattle.std.proofs.lemmas.Bool.{le-leb, lt-leb}
 use Rattle.std.specs.Io.KnownBytes.{Consumes, IsAtEnd, Keeps}
 use Rattle.std.proofs.KnownBytes.{Keeps-refl}
-use Rattle.tp_io.specs.Write.{Prints}
-use Rattle.hunk_text.specs.TextReader.Refusal.{Refusal}
+use Rattle.byte_streams.specs.Write.{Prints}
+use Rattle.module_text.specs.TextReader.Refusal.{Refusal}
 use Rattle.program_answers.specs.declared.status.Status.{Status}
 use Rattle.program_answers.specs.declared.status.Status.TheVariants.{Done, GuestFault, Usage, Refused, NoBoot, ReadFault, WriteFault, TooLong, WantMemory}
 use Rattle.program_answers.specs.Answer.{Answer, Answers, no_boot_answer, refused_answer, too_long_answer}

@@ -1,1 +1,2 @@
+pub mod TraceLog
 pub mod AnswerParts

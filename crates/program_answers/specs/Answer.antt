@@ -1,8 +1,8 @@
 -- An answer: a status, and the bytes that are written.
 use Rattle.std.specs.Prelude.{ℕ, ◌≡◌, List, Option}
 use Rattle.std.specs.Io.KnownBytes.{Appends, Keeps}
-use Rattle.tp_io.specs.Write.{AppendsPrefix}
-use Rattle.hunk_text.specs.TextReader.Refusal.{Refusal}
+use Rattle.byte_streams.specs.Write.{AppendsPrefix}
+use Rattle.module_text.specs.TextReader.Refusal.{Refusal}
 use Rattle.program_answers.specs.declared.status.Status.{Status}
 use Rattle.program_answers.specs.declared.status.Status.TheVariants.{Done, GuestFault, Usage, Refused, NoBoot, ReadFault, WriteFault, TooLong, WantMemory}
 use Rattle.program_answers.specs.Texts.{no_boot_text, refused_text, too_long_text}

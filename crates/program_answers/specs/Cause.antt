@@ -1,6 +1,6 @@
 -- When a call ends with the fault of its source, and when it may end with that of its sink.
 use Rattle.std.specs.Prelude.{◌≡◌, ◌≢◌, ℕ, ◌≤◌}
-use Rattle.tp_io.specs.Faults.{Rose, one_more}
+use Rattle.byte_streams.specs.Faults.{Rose, one_more}
 use Rattle.program_answers.specs.declared.status.Status.{Status}
 use Rattle.program_answers.specs.declared.status.Status.TheVariants.{ReadFault}
 

@@ -1,7 +1,7 @@
 -- An input: what it is, which answer it has, and what a call leaves of it.
 use Rattle.std.specs.Prelude.{ℕ, ◌≡◌, ◌+◌, ◌⊎◌, Bool, true, false, List, length, Option, Some, None, nat_le}
 use Rattle.std.specs.Io.KnownBytes.{Consumes, IsAtEnd}
-use Rattle.tp_io.specs.Read.{TakesAtMost}
+use Rattle.byte_streams.specs.Read.{TakesAtMost}
 use Rattle.program_answers.specs.Answer.{Answer, too_long_answer}
 use Rattle.program_answers.specs.declared.status.Status.{Status}
 use Rattle.program_answers.specs.declared.status.Status.TheVariants.{Done, GuestFault, Usage, Refused, NoBoot, ReadFault, WriteFault, TooLong, WantMemory}

@@ -1,3 +1,4 @@
+pub mod TraceLog
 pub mod Answer
 pub mod Answered
 pub mod Cause

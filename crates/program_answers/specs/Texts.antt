@@ -1,7 +1,7 @@
 -- The texts of an input that has no other answer.
 use Rattle.std.specs.Prelude.{ℕ, List, [], ◌∷◌, codes, decimal}
-use Rattle.tp_io.specs.Pieces.{joined}
-use Rattle.hunk_text.specs.TextReader.Refusal.{Refusal}
+use Rattle.byte_streams.specs.Pieces.{joined}
+use Rattle.module_text.specs.TextReader.Refusal.{Refusal}
 
 abbrev pub too_long_text : List ℕ
 too_long_text = codes "* input too long\n"

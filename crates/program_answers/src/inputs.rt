@@ -7,8 +7,8 @@ ghost use Rattle.program_answers.specs.Input.{InputLeaves, IsInput, IsInputAnswe
 
 use crate::Status;
 use crate::messages::{status_after, write_too_long};
+use byte_streams::{ReadEnd, Sink, Source, read_all};
 use std::alloc::Global;
-use tp_io::{ReadEnd, Sink, Source, read_all};
 
 const LIMIT: usize = 67_108_864;
 

@@ -4,6 +4,7 @@
 pub mod inputs;
 pub mod messages;
 pub mod status;
+pub mod trace_log;
 
 pub use inputs::{TextAnswers, answer_input};
 pub use messages::{status_after, write_no_boot, write_refused};

@@ -1,11 +1,11 @@
 // The texts of an input that has no other answer.
 ghost use Rattle.std.specs.Prelude.{◌≡◌, is_ok, if◌then◌else◌};
-ghost use Rattle.tp_io.specs.Write.{Prints, HasCause};
+ghost use Rattle.byte_streams.specs.Write.{Prints, HasCause};
 ghost use Rattle.program_answers.specs.Texts.{no_boot_text, refused_text, too_long_text};
 
 use crate::Status;
-use tp_io::Piece::{Decimal, Text};
-use tp_io::{Sink, SinkFault, write_pieces, write_text};
+use byte_streams::Piece::{Decimal, Text};
+use byte_streams::{Sink, SinkFault, write_pieces, write_text};
 
 /// The status of a call that has printed its text, or the sink's failure.
 pub fn status_after(end: Result<(), SinkFault>, status: Status) -> Status

@@ -1,15 +1,14 @@
 // The bytes of a disc's files. Each slot has a chain of sectors, as many as its bytes take, and its bytes stand in them.
-ghost use Rattle.std.specs.Prelude.{◌≡◌, ◌≢◌, ◌+◌, ◌*◌, ◌/◌, ◌%◌, ◌^◌, ◌<◌, ◌≤◌, ◌↔◌, ℕ, [], ◌∷◌, ◌++◌, IfOk, IsTrue, drop, length, replicate, take, vec_len};
-ghost use Rattle.std.specs.Prelude.{slice_index, slice_index_or};
+ghost use Rattle.std.specs.Prelude.{◌≡◌, ◌≢◌, ◌+◌, ◌*◌, ◌/◌, ◌%◌, ◌^◌, ◌<◌, ◌≤◌, ◌↔◌, ℕ, [], ◌∷◌, ◌++◌, IfOk, IsTrue, drop, length, replicate, take, vec_len, slice_index, slice_index_or};
 ghost use Rattle.ram_disc.specs.Contents.{Adds, Empties, Reserves, bytes_at, chain_at, with_piece};
 ghost use Rattle.ram_disc.specs.Disc.{most_files, most_sectors, sectors_of};
 
 use crate::file_bytes::FileBytes;
 use crate::sectors::{SECTORS, SLOTS, Sectors};
 use arrayvec::ArrayVec;
+use byte_streams::WantMemory;
 use std::alloc::Global;
 use std::marker::Model;
-use tp_io::WantMemory;
 
 /// The bytes of a sector.
 pub(crate) const SECTOR_BYTES: u32 = 512;

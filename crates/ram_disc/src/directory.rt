@@ -9,9 +9,9 @@ ghost use Rattle.ram_disc.specs.Slots.{AreSlots, HasPlace, IsAt, name_in};
 use crate::Name;
 use crate::sectors::SLOTS;
 use arrayvec::ArrayVec;
+use byte_streams::WantMemory;
 use std::alloc::Global;
 use std::cmp::Ordering;
-use tp_io::WantMemory;
 
 /// A name for each slot, the slots that are used, in byte order of their names, and those that are not.
 #[derive(Drop)]

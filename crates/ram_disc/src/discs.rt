@@ -14,9 +14,9 @@ use crate::places::{
     writer,
 };
 use arrayvec::ArrayVec;
+use byte_streams::WantMemory;
 use std::alloc::Global;
 use std::marker::Model;
-use tp_io::WantMemory;
 
 /// One more than the most files, up to which a walk goes that looks at the k-th.
 pub const END_OF_FILES: u32 = 65;

@@ -2,7 +2,7 @@
 ghost use Rattle.std.specs.Prelude.{◌≡◌, ◌<◌, ◌≤◌, ◌*◌, ℕ, length};
 ghost use Rattle.ram_disc.specs.Contents.{bytes_in, place_in};
 
-use hunk_text::TextBytes;
+use module_text::TextBytes;
 use std::marker::Model;
 
 /// The bytes of a file, seen as their list. A look at any of them costs the same: the file's sectors were listed when the

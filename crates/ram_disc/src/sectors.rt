@@ -1,15 +1,14 @@
 // The sectors of a disc: each is in the chain of a slot, or it is free. A sector has a link, which names the next one of
 // its chain; the links of the free ones make a chain too.
-ghost use Rattle.std.specs.Prelude.{◌≡◌, ◌+◌, ◌-◌, ◌<◌, ◌≤◌, ℕ, [], ◌∷◌, ◌++◌, IfOk, length, replicate, vec_len};
-ghost use Rattle.std.specs.Prelude.{slice_index, slice_index_or, slice_set};
+ghost use Rattle.std.specs.Prelude.{◌≡◌, ◌+◌, ◌-◌, ◌<◌, ◌≤◌, ℕ, [], ◌∷◌, ◌++◌, IfOk, length, replicate, vec_len, slice_index, slice_index_or, slice_set};
 ghost use Rattle.arrayvec.specs.ArrayVec.{array_vec_len};
 ghost use Rattle.ram_disc.specs.Chain.{AreApart, sector_before, times_in, with_last};
 ghost use Rattle.ram_disc.specs.Disc.{most_files, most_sectors};
 
 use arrayvec::ArrayVec;
+use byte_streams::WantMemory;
 use std::alloc::Global;
 use std::marker::Model;
-use tp_io::WantMemory;
 
 /// The number of sectors.
 pub(crate) const SECTORS: u16 = 4096;

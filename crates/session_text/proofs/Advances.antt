@@ -1,10 +1,10 @@
 -- How far the lines of a text are read.
 use Rattle.std.proofs.Common.{◌≡◌, ◌∙◌, ℕ, ◌+◌, ◌==◌, ◌%◌, ◌&&◌, ◌⊎◌, inl, inr, Bool, true, false, cond, Result, Ok, Err, List, [], ◌∷◌, ◌++◌, length, refl, ap, subst, arith, nat_le}
 use Rattle.std.specs.Prelude.{codes}
-use Rattle.hunk_text.specs.TextReader.Refusal.{Refusal, refusal}
-use Rattle.hunk_text.specs.TextReader.Steps.{◌>>=◌}
-use Rattle.hunk_text.proofs.Shown.TextReader.StepLemmas.{Err-same, bind-err, bind-ok}
-use Rattle.kernel_dispatch.specs.KernelModel.Ranges.{is_store_size}
+use Rattle.module_text.specs.TextReader.Refusal.{Refusal, refusal}
+use Rattle.module_text.specs.TextReader.Steps.{◌>>=◌}
+use Rattle.module_text.proofs.TextReader.StepLemmas.{Err-same, bind-err, bind-ok}
+use Rattle.kernel_model.specs.KernelRecord.Ranges.{is_store_size}
 use Rattle.session_text.specs.SessionForm.{AreSessionLines}
 use Rattle.session_text.specs.SessionOfText.{draft, ended, first_draft, read_on, step}
 use Rattle.session_text.specs.Statements.{statement_of}

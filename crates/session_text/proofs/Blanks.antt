@@ -9,8 +9,8 @@ use Rattle.std.proofs.lemmas.Bool.{and_parts}
 use Rattle.std.proofs.lemmas.Bool.Decides.{nat_tests}
 use Rattle.std.proofs.lemmas.List.Sums.{passes_at_first}
 use Rattle.std.proofs.lemmas.Str.Parse.{digit_from_value}
-use Rattle.hunk_text.specs.TextReader.Numbers.{IsNumber, number_of}
-use Rattle.hunk_text.proofs.Shown.TextReader.NumberLemmas.{number_in-again, number_in-ok}
+use Rattle.module_text.specs.TextReader.Numbers.{IsNumber, number_of}
+use Rattle.module_text.proofs.TextReader.NumberLemmas.{number_in-again, number_in-ok}
 use Rattle.session_text.specs.Statements.{fields, is_field, names_text, number_field, split_at_blank}
 use Rattle.session_text.proofs.FieldParts.{place_is}
 

@@ -5,12 +5,12 @@ use Rattle.std.specs.List.{AllByRecursion}
 use Rattle.std.specs.Str.{bytes_eq}
 use Rattle.std.proofs.lemmas.Bool.{cases_eq}
 use Rattle.std.proofs.lemmas.Fmt.{decimal_digit}
-use Rattle.hunk_text.specs.TextReader.Fields.{IsNumberLine, after_word}
-use Rattle.hunk_text.specs.TextReader.Lines.{lines_of}
-use Rattle.hunk_text.proofs.Shown.TextReader.FieldLemmas.{after_word-again, number_line-again}
+use Rattle.module_text.specs.TextReader.Fields.{IsNumberLine, after_word}
+use Rattle.module_text.specs.TextReader.Lines.{lines_of}
+use Rattle.module_text.proofs.TextReader.FieldLemmas.{after_word-again, number_line-again}
 use Rattle.session_text.specs.Entries.{AreEntries, Entry, MayHave, colon_line, is_in_range, keys_in, lines_in, names_fit}
 use Rattle.session_text.specs.FileText.{with_text}
-use Rattle.kernel_dispatch.specs.KernelModel.Ranges.{is_period, is_store_size}
+use Rattle.kernel_model.specs.KernelRecord.Ranges.{is_period, is_store_size}
 use Rattle.session_text.specs.Ranges.{is_step}
 use Rattle.session_text.specs.SessionForm.{AreBareLines, AreClockLines, AreCodeLines, AreOptions, AreSessionLines, IsBare, IsSession, IsVersionLine, code_line}
 use Rattle.session_text.specs.SessionOfText.{draft, entry_step, read_on, session_lines, session_of, step, version_line, with_statement}

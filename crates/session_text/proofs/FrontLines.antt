@@ -4,10 +4,10 @@ use Rattle.std.specs.Prelude.{codes}
 use Rattle.std.specs.List.{onto_first, starts_with}
 use Rattle.std.proofs.lemmas.Bool.Decides.{nat_tests}
 use Rattle.std.proofs.lemmas.List.{drop_all}
-use Rattle.hunk_text.specs.TextReader.Lines.{lines_of}
-use Rattle.hunk_text.specs.TextReader.Answers.{EndsAs}
-use Rattle.hunk_text.specs.TextReader.Refusal.{Refusal}
-use Rattle.hunk_text.specs.TextReader.declared.ends.TextEnd.{TextEnd}
+use Rattle.module_text.specs.TextReader.Lines.{lines_of}
+use Rattle.module_text.specs.TextReader.Answers.{EndsAs}
+use Rattle.module_text.specs.TextReader.Refusal.{Refusal}
+use Rattle.module_text.specs.declared.text_reader.ends.TextEnd.{TextEnd}
 use Rattle.session_text.specs.SessionOfText.{session_lines, session_of}
 use Rattle.session_text.specs.declared.sessions.Session.{Session}
 use Rattle.session_text.specs.Front.{front_count, front_lines, place_after}

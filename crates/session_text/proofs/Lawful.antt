@@ -6,9 +6,9 @@ use Rattle.std.specs.List.{AllByRecursion}
 use Rattle.std.proofs.lemmas.Bool.{and_parts}
 use Rattle.std.proofs.lemmas.Bool.Decides.{nat_tests}
 use Rattle.hex.proofs.HexLemmas.{decode_of-ok}
-use Rattle.hunk_text.specs.TextReader.Answers.{Gives}
-use Rattle.hunk_text.specs.TextReader.Lines.{lines_of, text_of_lines}
-use Rattle.hunk_text.specs.TextReader.declared.ends.TextEnd.{TextEnd}
+use Rattle.module_text.specs.TextReader.Answers.{Gives}
+use Rattle.module_text.specs.TextReader.Lines.{lines_of, text_of_lines}
+use Rattle.module_text.specs.declared.text_reader.ends.TextEnd.{TextEnd}
 use Rattle.session_text.specs.Canonical.{IsLawful, IsLawfulForm, IsLawfulKey, IsLawfulMachine}
 use Rattle.session_text.specs.Entries.{AreEntries, Entry, MayHave, is_in_range, keys_in, lines_in, names_fit, statement_keys, statement_lines}
 use Rattle.session_text.specs.Ranges.{is_step, most_names}

@@ -1,9 +1,9 @@
 -- The lines of a session that was read have the numbers of lines.
 use Rattle.std.proofs.Common.{◌≡◌, ℕ, ◌≤◌, ◌+◌, ◌⊎◌, inl, inr, Bool, Result, Ok, Err, List, [], ◌∷◌, ◌++◌, length, sym, ap, subst, arith}
 use Rattle.std.specs.Prelude.{IfOk}
-use Rattle.hunk_text.specs.TextReader.Answers.{Gives}
-use Rattle.hunk_text.specs.TextReader.Lines.{lines_of, text_of_lines}
-use Rattle.hunk_text.specs.TextReader.declared.ends.TextEnd.{TextEnd}
+use Rattle.module_text.specs.TextReader.Answers.{Gives}
+use Rattle.module_text.specs.TextReader.Lines.{lines_of, text_of_lines}
+use Rattle.module_text.specs.declared.text_reader.ends.TextEnd.{TextEnd}
 use Rattle.session_text.specs.Entries.{Entry, lines_in, statement_lines}
 use Rattle.session_text.specs.Numbering.{AreNumbered, IsNumbered, RiseFrom}
 use Rattle.session_text.specs.SessionForm.{AreBareLines, AreClockLines, AreCodeLines}

@@ -5,12 +5,12 @@ use Rattle.std.specs.List.{starts_with}
 use Rattle.std.specs.Option.{option_map_or}
 use Rattle.std.specs.Str.{bytes_eq}
 use Rattle.std.proofs.lemmas.Slice.Eq.{bytes_eq-Decides}
-use Rattle.hunk_text.specs.TextReader.Fields.{after_word, number_line}
-use Rattle.hunk_text.specs.TextReader.Refusal.{Refusal, refusal}
-use Rattle.hunk_text.proofs.Shown.TextReader.FieldLemmas.{after_word-ok, number_line-ok}
-use Rattle.hunk_text.proofs.Shown.TextReader.StepLemmas.{bind-ok, cond-cases}
+use Rattle.module_text.specs.TextReader.Fields.{after_word, number_line}
+use Rattle.module_text.specs.TextReader.Refusal.{Refusal, refusal}
+use Rattle.module_text.proofs.TextReader.FieldLemmas.{after_word-ok, number_line-ok}
+use Rattle.module_text.proofs.TextReader.StepLemmas.{bind-ok, cond-cases}
 use Rattle.session_text.specs.Forms.{Form, Store, Tick, File, Task, At, Key, Go, Fixed, HasForm, HasStatement, form_of}
-use Rattle.kernel_dispatch.specs.KernelModel.Ranges.{is_period, is_store_size}
+use Rattle.kernel_model.specs.KernelRecord.Ranges.{is_period, is_store_size}
 use Rattle.session_text.specs.Ranges.{is_step}
 use Rattle.session_text.specs.SessionOfText.{bytes_step, draft, entry_step, file_step, go_step, step, version_line}
 use Rattle.session_text.specs.Statements.{Statement, File as FileOf, Task as TaskOf, At as AtOf, Key as KeyOf, Go as GoOf, States}

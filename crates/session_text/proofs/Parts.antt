@@ -2,8 +2,8 @@
 use Rattle.std.proofs.Common.{◌≡◌, ◌∙◌, ℕ, ◌+◌, Bool, true, false, List, [], ◌∷◌, ◌++◌, map, length, append_assoc, append-nil, refl, sym, ap}
 use Rattle.std.specs.Prelude.{codes, IsTrue}
 use Rattle.std.specs.List.{AllByRecursion}
-use Rattle.hunk_text.specs.TextReader.Fields.{IsNumberLine}
-use Rattle.hunk_text.specs.TextReader.Lines.{text_of_lines}
+use Rattle.module_text.specs.TextReader.Fields.{IsNumberLine}
+use Rattle.module_text.specs.TextReader.Lines.{text_of_lines}
 use Rattle.session_text.specs.Entries.{AreEntries, Entry, MayHave, colon_line, keys_in, lines_in, statement_keys, statement_lines}
 use Rattle.session_text.specs.FileText.{with_text}
 use Rattle.session_text.specs.Ranges.{is_step}

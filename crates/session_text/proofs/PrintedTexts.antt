@@ -5,7 +5,7 @@ use Rattle.std.proofs.Math.Seq.{split_at, take-suc}
 use Rattle.std.proofs.lemmas.Grind.{flat_map-append}
 use Rattle.std.proofs.lemmas.List.{map-append, take-append-drop}
 use Rattle.hex.specs.Hex.{encode_lower, encode_with}
-use Rattle.hunk_text.specs.TextReader.Lines.{lines_of, text_of_lines}
+use Rattle.module_text.specs.TextReader.Lines.{lines_of, text_of_lines}
 use Rattle.session_text.specs.Canonical.{canonical, form_text, head_text, keys_text, lines_text, machine_text, statement_text}
 use Rattle.session_text.specs.Entries.{colon_line}
 use Rattle.session_text.specs.Statements.{Go, Key, Task, names_text}

@@ -7,14 +7,14 @@ use Rattle.std.proofs.lemmas.Bool.Decides.{nat_tests}
 use Rattle.std.proofs.lemmas.List.{length-map}
 use Rattle.hex.specs.Hex.{encode_lower}
 use Rattle.hex.proofs.HexLemmas.{decode_of-encode_lower}
-use Rattle.hunk_text.specs.TextReader.Lines.{lines_of, text_of_lines}
-use Rattle.hunk_text.proofs.Shown.TextReader.NumberLemmas.{decimal_number}
-use Rattle.hunk_text.proofs.Shown.TextReader.PlainLines.{lines_of_text_of_lines}
+use Rattle.module_text.specs.TextReader.Lines.{lines_of, text_of_lines}
+use Rattle.module_text.proofs.TextReader.NumberLemmas.{decimal_number}
+use Rattle.module_text.proofs.TextReader.PlainLines.{lines_of_text_of_lines}
 use Rattle.session_text.specs.Canonical.{IsFileText, IsLawful, IsLawfulForm, IsLawfulKey, IsLawfulMachine, canonical, canonical_lines, form_text, keys_text, lines_text, machine_text, numbered, statement_text, with_numbers}
 use Rattle.session_text.specs.Entries.{AreEntries, Entry, IsEntry, colon_line, is_in_range, keys_in, lines_in, statement_lines}
 use Rattle.session_text.specs.Ranges.{highest_task, is_priority, is_stack, is_step, is_task, most_names}
 use Rattle.ram_disc.specs.Name.{is_name}
-use Rattle.kernel_dispatch.specs.KernelModel.Ranges.{is_period, is_store_size, most_steps, most_words}
+use Rattle.kernel_model.specs.KernelRecord.Ranges.{is_period, is_store_size, most_steps, most_words}
 use Rattle.session_text.specs.SessionForm.{AreBareLines, AreClockLines, AreCodeLines, AreOptions, AreSessionLines, IsCodeLine}
 use Rattle.session_text.specs.SessionOfText.{session_of}
 use Rattle.session_text.specs.Statements.{File as FileOf, Task as TaskOf, At as AtOf, Key as KeyOf, is_text}

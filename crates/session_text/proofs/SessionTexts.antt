@@ -8,9 +8,9 @@ use Rattle.std.proofs.lemmas.Bool.Decides.{nat_tests}
 use Rattle.std.proofs.lemmas.List.Elements.{All-weaker, recursion_from_All}
 use Rattle.hex.specs.Hex.{decode_of, is_hex_digit}
 use Rattle.hex.proofs.HexLemmas.{decode_of-ok}
-use Rattle.hunk_text.specs.TextReader.Fields.{IsNumberLine}
-use Rattle.hunk_text.specs.TextReader.Lines.{text_of_lines}
-use Rattle.hunk_text.proofs.Shown.TextReader.PlainLines.{IsPlain, IsPlainByte, lines_of_text_of_lines, plain_append, plain_decimal, plain_digits, plain_hex_digit, plain_literal}
+use Rattle.module_text.specs.TextReader.Fields.{IsNumberLine}
+use Rattle.module_text.specs.TextReader.Lines.{text_of_lines}
+use Rattle.module_text.proofs.TextReader.PlainLines.{IsPlain, IsPlainByte, lines_of_text_of_lines, plain_append, plain_decimal, plain_digits, plain_hex_digit, plain_literal}
 use Rattle.session_text.specs.Entries.{AreEntries, Entry, MayHave, colon_line}
 use Rattle.session_text.specs.FirstError.{BeginSession}
 use Rattle.session_text.specs.SessionForm.{AreBareLines, AreClockLines, AreCodeLines, AreOptions, AreSessionLines}

@@ -7,15 +7,15 @@ use Rattle.std.proofs.lemmas.Fmt.{decimal_digit}
 use Rattle.std.proofs.lemmas.Slice.Eq.{bytes_eq-Decides}
 use Rattle.hex.specs.Hex.{decode_of}
 use Rattle.hex.specs.declared.error.FromHexError.{FromHexError}
-use Rattle.hunk_text.specs.TextReader.Fields.{IsNumberLine, after_word, number_line}
-use Rattle.hunk_text.specs.TextReader.Lines.{lines_of}
-use Rattle.hunk_text.specs.TextReader.Refusal.{Refusal, refusal}
-use Rattle.hunk_text.specs.TextReader.Steps.{◌>>=◌}
-use Rattle.hunk_text.proofs.Shown.TextReader.FieldLemmas.{after_word-ok, number_line-ok}
-use Rattle.hunk_text.proofs.Shown.TextReader.StepLemmas.{Ok-same, bind-ok, guard-ok, ok_or-ok}
+use Rattle.module_text.specs.TextReader.Fields.{IsNumberLine, after_word, number_line}
+use Rattle.module_text.specs.TextReader.Lines.{lines_of}
+use Rattle.module_text.specs.TextReader.Refusal.{Refusal, refusal}
+use Rattle.module_text.specs.TextReader.Steps.{◌>>=◌}
+use Rattle.module_text.proofs.TextReader.FieldLemmas.{after_word-ok, number_line-ok}
+use Rattle.module_text.proofs.TextReader.StepLemmas.{Ok-same, bind-ok, guard-ok, ok_or-ok}
 use Rattle.session_text.specs.Entries.{MayHave, colon_line, is_in_range, lines_in, names_fit}
 use Rattle.session_text.specs.FileText.{with_text}
-use Rattle.kernel_dispatch.specs.KernelModel.Ranges.{is_period, is_store_size}
+use Rattle.kernel_model.specs.KernelRecord.Ranges.{is_period, is_store_size}
 use Rattle.session_text.specs.Ranges.{is_step}
 use Rattle.session_text.specs.SessionForm.{AreOptions, AreSessionLines, IsSession, IsVersionLine, code_line}
 use Rattle.session_text.specs.SessionOfText.{bytes_or_refusal, bytes_step, draft, entry_step, file_step, first_draft, go_step, read_on, session_lines, session_of, statement_step, step, store_step, tick_step, version_line, version_step, with_statement}

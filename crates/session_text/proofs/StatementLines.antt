@@ -8,10 +8,10 @@ use Rattle.std.proofs.lemmas.Bool.Decides.{nat_tests}
 use Rattle.std.proofs.lemmas.Option.{cond_some}
 use Rattle.hex.specs.Hex.{decode_of}
 use Rattle.hex.specs.declared.error.FromHexError.{FromHexError}
-use Rattle.hunk_text.specs.TextReader.Fields.{after_word}
-use Rattle.hunk_text.specs.TextReader.Numbers.{IsNumber, number_of}
-use Rattle.hunk_text.proofs.Shown.TextReader.FieldLemmas.{after_word-ok}
-use Rattle.hunk_text.proofs.Shown.TextReader.NumberLemmas.{number_in-again, number_in-ok}
+use Rattle.module_text.specs.TextReader.Fields.{after_word}
+use Rattle.module_text.specs.TextReader.Numbers.{IsNumber, number_of}
+use Rattle.module_text.proofs.TextReader.FieldLemmas.{after_word-ok}
+use Rattle.module_text.proofs.TextReader.NumberLemmas.{number_in-again, number_in-ok}
 use Rattle.session_text.specs.Entries.{names_fit}
 use Rattle.session_text.specs.Ranges.{most_names}
 use Rattle.session_text.specs.Statements.{Statement, File, Task, At, Key, Go, States, are_fields, at_of, fields, file_of, go_of, is_field, is_text, key_of, names_text, number_field, one_byte, statement_of, task_of}

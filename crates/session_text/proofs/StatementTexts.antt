@@ -8,7 +8,7 @@ use Rattle.std.proofs.lemmas.Bool.Decides.{nat_tests}
 use Rattle.hex.specs.Hex.{IsBytes, encode_lower}
 use Rattle.hex.proofs.HexLemmas.{decode_of-encode_lower}
 use Rattle.ram_disc.specs.Name.{is_name, is_name_byte}
-use Rattle.hunk_text.proofs.Shown.TextReader.NumberLemmas.{decimal_number}
+use Rattle.module_text.proofs.TextReader.NumberLemmas.{decimal_number}
 use Rattle.session_text.specs.Canonical.{statement_text}
 use Rattle.session_text.specs.Statements.{Statement, File, Task, At, Key, Go, States, is_field, is_text}
 

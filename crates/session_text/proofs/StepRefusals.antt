@@ -7,17 +7,17 @@ use Rattle.std.specs.Str.{bytes_eq}
 use Rattle.std.proofs.lemmas.List.{length-map}
 use Rattle.hex.specs.Hex.{decode_of}
 use Rattle.hex.specs.declared.error.FromHexError.{FromHexError}
-use Rattle.hunk_text.specs.TextReader.Fields.{IsNumberLine, after_word, number_line}
-use Rattle.hunk_text.specs.TextReader.Refusal.{Refusal, refusal}
-use Rattle.hunk_text.proofs.Shown.TextReader.FieldLemmas.{number_line-again, number_line-err}
-use Rattle.hunk_text.proofs.Shown.TextReader.NumberLemmas.{decimal_number}
-use Rattle.hunk_text.proofs.Shown.TextReader.StepLemmas.{Err-same, bind-err, cond-cases, guard-err, ok_or-err, ok_or-ok}
+use Rattle.module_text.specs.TextReader.Fields.{IsNumberLine, after_word, number_line}
+use Rattle.module_text.specs.TextReader.Refusal.{Refusal, refusal}
+use Rattle.module_text.proofs.TextReader.FieldLemmas.{number_line-again, number_line-err}
+use Rattle.module_text.proofs.TextReader.NumberLemmas.{decimal_number}
+use Rattle.module_text.proofs.TextReader.StepLemmas.{Err-same, bind-err, cond-cases, guard-err, ok_or-err, ok_or-ok}
 use Rattle.session_text.specs.Canonical.{statement_text}
 use Rattle.session_text.specs.Entries.{is_in_range, names_fit}
 use Rattle.session_text.specs.FileText.{with_text}
 use Rattle.session_text.specs.Forms.{Form, Store, Tick, File, Task, At, Key, Go, Fixed, HasForm, HasStatement, form_of}
 use Rattle.ram_disc.specs.Name.{is_name}
-use Rattle.kernel_dispatch.specs.KernelModel.Ranges.{is_period, is_store_size}
+use Rattle.kernel_model.specs.KernelRecord.Ranges.{is_period, is_store_size}
 use Rattle.session_text.specs.Ranges.{is_step, most_names}
 use Rattle.session_text.specs.SessionOfText.{bytes_or_refusal, bytes_step, draft, entry_step, file_step, go_step, statement_step, step, store_step, tick_step, version_line, with_statement}
 use Rattle.session_text.specs.SessionForm.{code_line}

@@ -1,7 +1,7 @@
 -- A text is refused exactly where and why it is by the rules.
 use Rattle.std.proofs.Common.{◌≡◌, ◌∙◌, ℕ, zero, suc, ◌≤◌, ◌+◌, ◌↔◌, inl, inr, Result, Ok, Err, List, [], ◌∷◌, ◌++◌, length, refl, sym, ap, subst, arith, append-nil}
-use Rattle.hunk_text.specs.TextReader.Lines.{lines_of}
-use Rattle.hunk_text.specs.TextReader.Refusal.{Refusal, refusal}
+use Rattle.module_text.specs.TextReader.Lines.{lines_of}
+use Rattle.module_text.specs.TextReader.Refusal.{Refusal, refusal}
 use Rattle.session_text.specs.FirstError.{BeginSession, EndsEarly, HasNoForm, IsFirstError, IsOutOfRange, MayStand}
 use Rattle.session_text.specs.Forms.{Form}
 use Rattle.session_text.specs.SessionForm.{IsSession}

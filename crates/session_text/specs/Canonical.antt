@@ -2,9 +2,9 @@
 use Rattle.std.specs.Prelude.{ℕ, ◌≡◌, ◌+◌, ◌<◌, ◌≤◌, Bool, true, false, if◌then◌else◌, IsTrue, List, [], ◌∷◌, ◌++◌, map, length, codes, decimal}
 use Rattle.std.specs.List.{AllByRecursion, flat_map}
 use Rattle.hex.specs.Hex.{IsBytes, encode_lower}
-use Rattle.hunk_text.specs.TextReader.Lines.{lines_of, text_of_lines}
+use Rattle.module_text.specs.TextReader.Lines.{lines_of, text_of_lines}
 use Rattle.session_text.specs.Entries.{colon_line, is_in_range}
-use Rattle.kernel_dispatch.specs.KernelModel.Ranges.{IsVersion, is_period, is_store_size}
+use Rattle.kernel_model.specs.KernelRecord.Ranges.{IsVersion, is_period, is_store_size}
 use Rattle.ram_disc.specs.Name.{is_name}
 use Rattle.session_text.specs.Ranges.{is_step, most_names}
 use Rattle.session_text.specs.SessionForm.{IsBare}

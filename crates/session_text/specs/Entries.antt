@@ -1,7 +1,7 @@
 -- The entries of a machine with a clock: files with their text, tasks, and keys; and what each puts into the session.
 use Rattle.std.specs.Prelude.{ℕ, ◌≡◌, ◌+◌, ◌&&◌, Bool, true, IsTrue, List, [], ◌∷◌, ◌++◌, map, length, codes, nat_le}
 use Rattle.std.specs.List.{AllByRecursion, flat_map, list_all}
-use Rattle.hunk_text.specs.TextReader.Lines.{text_of_lines}
+use Rattle.module_text.specs.TextReader.Lines.{text_of_lines}
 use Rattle.ram_disc.specs.Name.{is_name}
 use Rattle.session_text.specs.Ranges.{is_priority, is_stack, is_step, is_task, most_names}
 use Rattle.session_text.specs.Statements.{Statement, File, Task, At, Key, Go, States, is_text}

@@ -1,6 +1,6 @@
 -- Which line of a text is the first in error, and why.
 use Rattle.std.specs.Prelude.{ℕ, ◌≡◌, ◌+◌, List, [], ◌∷◌, ◌++◌, length}
-use Rattle.hunk_text.specs.TextReader.Lines.{lines_of}
+use Rattle.module_text.specs.TextReader.Lines.{lines_of}
 use Rattle.session_text.specs.Forms.{Form, HasForm}
 use Rattle.session_text.specs.SessionForm.{IsSession}
 use Rattle.session_text.specs.declared.sessions.Session.{Session}

@@ -1,6 +1,6 @@
 -- The forms of a session's lines, whatever their numbers and names are.
 use Rattle.std.specs.Prelude.{ℕ, ◌≡◌, List, length, codes}
-use Rattle.hunk_text.specs.TextReader.Fields.{IsNumberLine}
+use Rattle.module_text.specs.TextReader.Fields.{IsNumberLine}
 use Rattle.session_text.specs.Statements.{Statement, File as FileOf, Task as TaskOf, At as AtOf, Key as KeyOf, Go as GoOf, States}
 
 -- A form for each kind of line with a number or a name, for tasks one for each count of names. A line without them has

@@ -1,7 +1,7 @@
 -- The lines of a session that other lines follow.
 use Rattle.std.specs.Prelude.{ℕ, zero, suc, ◌+◌, ◌==◌, if◌then◌else◌, List, [], ◌∷◌, codes, nat_eq, take}
 use Rattle.std.specs.List.{starts_with}
-use Rattle.hunk_text.specs.TextReader.Lines.{lines_of}
+use Rattle.module_text.specs.TextReader.Lines.{lines_of}
 
 -- how many lines there are up to the first that begins with `GO `, that one included; all where there is none
 abbrev pub front_count : List (List ℕ) → ℕ

@@ -10,5 +10,3 @@ pub mod Seen
 pub mod SessionForm
 pub mod SessionOfText
 pub mod Statements
--- shown to the crates above
-pub use Rattle.kernel_dispatch.specs as KernelDispatch

@@ -1,6 +1,6 @@
 -- The ranges of the numbers of a session, beside those of its machine.
 use Rattle.std.specs.Prelude.{ℕ, ◌&&◌, ◌==◌, if◌then◌else◌, Bool, nat_le}
-use Rattle.kernel_dispatch.specs.KernelModel.Ranges.{most_steps}
+use Rattle.kernel_model.specs.KernelRecord.Ranges.{most_steps}
 
 abbrev pub is_step : ℕ → Bool
 is_step n = nat_le n most_steps

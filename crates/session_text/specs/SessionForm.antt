@@ -1,10 +1,10 @@
 -- What a session's text is, line by line.
 use Rattle.std.specs.Prelude.{ℕ, ◌≡◌, ◌+◌, ◌⊎◌, Bool, true, false, IsTrue, List, [], ◌∷◌, ◌++◌, length, Ok, codes, decimal}
 use Rattle.hex.specs.Hex.{decode_of}
-use Rattle.hunk_text.specs.TextReader.Lines.{lines_of}
-use Rattle.hunk_text.specs.TextReader.Fields.{IsNumberLine}
+use Rattle.module_text.specs.TextReader.Lines.{lines_of}
+use Rattle.module_text.specs.TextReader.Fields.{IsNumberLine}
 use Rattle.session_text.specs.Entries.{Entry, AreEntries, keys_in, lines_in}
-use Rattle.kernel_dispatch.specs.KernelModel.Ranges.{IsVersion, is_period, is_store_size}
+use Rattle.kernel_model.specs.KernelRecord.Ranges.{IsVersion, is_period, is_store_size}
 use Rattle.session_text.specs.Ranges.{is_step}
 use Rattle.session_text.specs.declared.sessions.Session.{Session}
 use Rattle.session_text.specs.declared.sessions.SessionLine.{SessionLine}

@@ -4,13 +4,13 @@ use Rattle.std.specs.Option.{ok_or, option_map_or}
 use Rattle.std.specs.Str.{bytes_eq}
 use Rattle.hex.specs.Hex.{decode_of}
 use Rattle.hex.specs.declared.error.FromHexError.{FromHexError}
-use Rattle.hunk_text.specs.TextReader.Fields.{after_word, number_line}
-use Rattle.hunk_text.specs.TextReader.Lines.{lines_of}
-use Rattle.hunk_text.specs.TextReader.Refusal.{Refusal, refusal}
-use Rattle.hunk_text.specs.TextReader.Steps.{◌>>=◌}
+use Rattle.module_text.specs.TextReader.Fields.{after_word, number_line}
+use Rattle.module_text.specs.TextReader.Lines.{lines_of}
+use Rattle.module_text.specs.TextReader.Refusal.{Refusal, refusal}
+use Rattle.module_text.specs.TextReader.Steps.{◌>>=◌}
 use Rattle.session_text.specs.Entries.{is_in_range, statement_keys, statement_lines}
 use Rattle.session_text.specs.FileText.{with_text}
-use Rattle.kernel_dispatch.specs.KernelModel.Ranges.{is_period, is_store_size}
+use Rattle.kernel_model.specs.KernelRecord.Ranges.{is_period, is_store_size}
 use Rattle.session_text.specs.Ranges.{is_step}
 use Rattle.session_text.specs.SessionForm.{code_line}
 use Rattle.session_text.specs.Statements.{Statement, File, Go, is_text, statement_of}

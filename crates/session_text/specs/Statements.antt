@@ -5,8 +5,8 @@ use Rattle.std.specs.List.{flat_map, list_all, position, slice_split}
 use Rattle.std.specs.Option.{option_map_or}
 use Rattle.hex.specs.Hex.{decode_of}
 use Rattle.hex.specs.declared.error.FromHexError.{FromHexError}
-use Rattle.hunk_text.specs.TextReader.Fields.{IsNumberLine, after_word}
-use Rattle.hunk_text.specs.TextReader.Numbers.{IsNumber, number_of}
+use Rattle.module_text.specs.TextReader.Fields.{IsNumberLine, after_word}
+use Rattle.module_text.specs.TextReader.Numbers.{IsNumber, number_of}
 use Rattle.session_text.specs.Ranges.{most_names}
 
 pub data Statement : Type 0 where

@@ -1,7 +1,7 @@
 // A session as far as it was read.
 ghost use Rattle.std.specs.Prelude.{◌≡◌, ◌≤◌, length, OnOk};
 ghost use Rattle.hex.specs.Hex.{decode_of};
-ghost use Rattle.hunk_text.specs.TextReader.Answers.{Gives};
+ghost use Rattle.module_text.specs.TextReader.Answers.{Gives};
 ghost use Rattle.session_text.specs.Seen.{seen};
 ghost use Rattle.session_text.specs.SessionOfText.{bytes_or_refusal, bytes_step, code_step, debug_step, ended, entry_step, file_step, first_draft, go_step, machine_step, resident_step, statement_step, step, store_step, text_step, tick_step, version_line, version_step};
 ghost use Rattle.session_text.specs.Statements.{At, File, Go, HasFewNames, Key, Task, fields};
@@ -13,7 +13,7 @@ use crate::ranges::{
 use crate::statements::{Statement, statement_of};
 use crate::{Bytes, Keys, LineForm, Lines, Session, SessionEnd, SessionLine};
 use hex::FromHexError;
-use hunk_text::{after_word, number_after};
+use module_text::{after_word, number_after};
 use std::alloc::Global;
 
 /// What may come next in a session.

@@ -4,7 +4,7 @@ ghost use Rattle.std.specs.Char.{is_ascii_graphic};
 ghost use Rattle.std.specs.List.{list_all, position};
 ghost use Rattle.session_text.specs.Statements.{are_fields, fields, is_field, is_text, number_field, split_at_blank};
 
-use hunk_text::number;
+use module_text::number;
 
 /// What stands before and after the first blank; `None` exactly where there is none.
 pub fn split_at_blank(text: &[u8]) -> Option<(&[u8], &[u8])>

@@ -1,13 +1,13 @@
 // Reading a session that other lines follow.
 ghost use Rattle.std.specs.Prelude.{◌≡◌, ◌==◌, ◌-◌, ◌^◌, ◌<◌, ◌≤◌, if◌then◌else◌, length, IfOk};
-ghost use Rattle.hunk_text.specs.TextReader.Answers.{Gives};
-ghost use Rattle.hunk_text.specs.TextReader.Lines.{lines_of};
+ghost use Rattle.module_text.specs.TextReader.Answers.{Gives};
+ghost use Rattle.module_text.specs.TextReader.Lines.{lines_of};
 ghost use Rattle.session_text.specs.Canonical.{IsLawful};
 ghost use Rattle.session_text.specs.Front.{front_count, front_end, front_lines, place_after};
 ghost use Rattle.session_text.specs.SessionOfText.{session_lines};
 
 use crate::{Session, SessionEnd, read_session};
-use hunk_text::split_line;
+use module_text::split_line;
 use std::alloc::Global;
 
 /// A session, and where the lines after it begin.

@@ -14,11 +14,8 @@ mod statements;
 
 pub use fields::number_field;
 pub use fronts::{Front, read_front};
-pub use hunk_text::TextEnd as SessionEnd;
 pub use lists::{Bytes, Keys, Lines, Names};
+pub use module_text::TextEnd as SessionEnd;
 pub use print::print_session;
 pub use read::read_session;
 pub use sessions::{LineForm, Session, SessionLine};
-
-// Shown to the crates above.
-pub use kernel_dispatch::Stop;

@@ -1,6 +1,6 @@
 // The lists in a session. Each is made from a vector and lent as a slice, and takes no memory.
 ghost use Rattle.std.specs.Prelude.{◌≡◌, [], ◌∷◌, ◌++◌, Ok, OnErr, OnOk, map};
-ghost use Rattle.hunk_text.specs.TextReader.Answers.{Gives};
+ghost use Rattle.module_text.specs.TextReader.Answers.{Gives};
 ghost use Rattle.session_text.specs.FileText.{form_with_text, line_with_text, with_text};
 
 use crate::{LineForm, SessionEnd, SessionLine};

@@ -1,16 +1,16 @@
 // Printing a session.
 ghost use Rattle.std.specs.Prelude.{◌≡◌, [], ◌∷◌, ◌++◌, false, if◌then◌else◌, map};
 ghost use Rattle.hex.specs.Hex.{encode_lower};
-ghost use Rattle.tp_io.specs.Write.{Prints, HasCause};
-ghost use Rattle.hunk_text.specs.TextReader.Lines.{lines_of, text_of_lines};
+ghost use Rattle.byte_streams.specs.Write.{Prints, HasCause};
+ghost use Rattle.module_text.specs.TextReader.Lines.{lines_of, text_of_lines};
 ghost use Rattle.session_text.specs.Canonical.{canonical, form_text, head_text, keys_text, lines_text, machine_text, statement_text};
 ghost use Rattle.session_text.specs.Entries.{colon_line};
 ghost use Rattle.session_text.specs.Statements.{File, Go, Key, Task, names_text};
 
 use crate::{LineForm, Session, SessionLine};
-use hunk_text::split_line;
+use byte_streams::{Piece, Sink, SinkFault, write_pieces};
+use module_text::split_line;
 use ram_disc::Name;
-use tp_io::{Piece, Sink, SinkFault, write_pieces};
 
 /// Writes the canonical text of a session. It takes no memory. `SinkFault` comes only where the sink's count of faults
 /// rose; then a prefix of the text is written.

@@ -2,7 +2,7 @@
 ghost use Rattle.std.specs.Prelude.{◌≡◌, ◌≤◌, Some, None, if◌then◌else◌, length};
 ghost use Rattle.std.specs.List.{list_all};
 ghost use Rattle.ram_disc.specs.Name.{is_name};
-ghost use Rattle.kernel_dispatch.specs.KernelModel.Ranges.{is_period, is_store_size};
+ghost use Rattle.kernel_model.specs.KernelRecord.Ranges.{is_period, is_store_size};
 ghost use Rattle.session_text.specs.Ranges.{is_priority, is_stack, is_step, is_task};
 ghost use Rattle.session_text.specs.Statements.{fields};
 

@@ -1,13 +1,13 @@
 // Reading a session.
 ghost use Rattle.std.specs.Prelude.{◌≡◌, ◌^◌, ◌<◌, length, IfOk};
-ghost use Rattle.hunk_text.specs.TextReader.Answers.{Gives};
+ghost use Rattle.module_text.specs.TextReader.Answers.{Gives};
 ghost use Rattle.session_text.specs.Canonical.{IsLawful};
 ghost use Rattle.session_text.specs.Numbering.{IsNumbered};
 ghost use Rattle.session_text.specs.SessionOfText.{session_of};
 
 use crate::drafts::Draft;
 use crate::{Session, SessionEnd};
-use hunk_text::split_line;
+use module_text::split_line;
 use std::alloc::Global;
 
 /// The session of a text. Unless memory runs out, `Bad` comes exactly where the text is none, with the first line in

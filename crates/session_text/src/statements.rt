@@ -6,7 +6,7 @@ ghost use Rattle.session_text.specs.Seen.{seen};
 ghost use Rattle.session_text.specs.Statements.{HasFewNames, at_of, file_of, go_of, key_of, one_byte, statement_of, task_of};
 
 use crate::fields::{are_fields, is_field, is_text, number_field};
-use hunk_text::{after_word, number};
+use module_text::{after_word, number};
 
 /// What a line states, with its numbers and names as they stand there.
 #[derive(Clone, Copy)]

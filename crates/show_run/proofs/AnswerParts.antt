@@ -1,6 +1,6 @@
 -- Answers, from what the words ask for.
 use Rattle.std.proofs.Common.{◌≡◌, ℕ, Option, None, Result, List, refl}
-use Rattle.tp_io.specs.Write.{Prints}
+use Rattle.byte_streams.specs.Write.{Prints}
 use Rattle.program_answers.specs.Answered.{Answered}
 use Rattle.program_answers.specs.Input.{IsInput}
 use Rattle.program_answers.specs.declared.status.Status.TheVariants.{Usage}

@@ -1,7 +1,7 @@
 -- The files of a session are no longer than its text, so each is short enough to be read as a module.
 use Rattle.std.proofs.Common.{◌≡◌, ◌∙◌, ℕ, suc, ◌+◌, ◌-◌, ◌<◌, ◌≤◌, ◌^◌, ◌==◌, ◌&&◌, Bool, true, false, cond, Ok, inl, inr, List, [], ◌∷◌, ◌++◌, length, map, nat_eq, sym, ap, subst, arith, length-append}
 use Rattle.std.specs.List.{AllByRecursion, onto_first, starts_with}
-use Rattle.hunk_text.specs.TextReader.Lines.{lines_of, text_of_lines}
+use Rattle.module_text.specs.TextReader.Lines.{lines_of, text_of_lines}
 use Rattle.session_text.specs.Entries.{AreEntries, Entry, IsEntry, colon_line, lines_in, statement_lines}
 use Rattle.session_text.specs.SessionForm.{AreBareLines, AreClockLines, AreCodeLines, AreSessionLines}
 use Rattle.session_text.specs.SessionOfText.{session_of}

@@ -1,3 +1,4 @@
+pub mod StepLog
 pub mod AnswerParts
 pub mod FileLengths
 pub mod OneAnswer

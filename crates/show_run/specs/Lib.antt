@@ -1,3 +1,4 @@
+pub mod StepLog
 pub mod Words
 pub mod ShortFiles
 pub mod SessionPrograms

@@ -1,9 +1,9 @@
 -- The programs of a session: its files whose texts are modules.
 use Rattle.std.specs.Prelude.{ℕ, List, [], ◌∷◌, Result, Ok, Err}
 use Rattle.std.specs.List.{flat_map}
-use Rattle.hunk_text.specs.ModuleOfText.{module_of}
-use Rattle.hunk_text.specs.TextReader.Refusal.{Refusal}
-use Rattle.hunk_text.specs.declared.modules.Module.{Module}
+use Rattle.module_text.specs.ModuleOfText.{module_of}
+use Rattle.module_text.specs.TextReader.Refusal.{Refusal}
+use Rattle.module_text.specs.declared.modules.Module.{Module}
 use Rattle.session_text.specs.declared.sessions.LineForm.{LineForm}
 use Rattle.session_text.specs.declared.sessions.LineForm.TheVariants.{Code, File, Task}
 use Rattle.session_text.specs.declared.sessions.Session.{Session}

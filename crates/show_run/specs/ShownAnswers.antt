@@ -1,15 +1,15 @@
 -- What is shown of the run of a session, in words.
 use Rattle.std.specs.Prelude.{ℕ, ◌-◌, ◌==◌, if◌then◌else◌, min, List, [], ◌++◌, Result, Ok, Err}
-use Rattle.hunk_text.specs.TextReader.Refusal.{Refusal}
+use Rattle.module_text.specs.TextReader.Refusal.{Refusal}
 use Rattle.session_text.specs.declared.sessions.Session.{Session}
-use Rattle.step_log.specs.TriposMachine.Boot.{boot}
-use Rattle.step_log.specs.TriposMachine.State.{State}
-use Rattle.step_log.specs.TriposMachine.Step.{Stepped, run}
+use Rattle.tripos_machine.specs.Boot.{boot}
+use Rattle.tripos_machine.specs.State.{State}
+use Rattle.tripos_machine.specs.Step.{Stepped, run}
 use Rattle.program_answers.specs.Answer.{Answer, no_boot_answer, refused_answer}
 use Rattle.program_answers.specs.declared.status.Status.TheVariants.{Done}
 use Rattle.state_text.specs.StateText.{state_text}
 use Rattle.state_text.specs.declared.programs.Program.{Program}
-use Rattle.step_log.specs.StepLines.{boot_lines, log_text}
+use Rattle.show_run.specs.StepLog.StepLines.{boot_lines, log_text}
 use Rattle.show_run.specs.SessionPrograms.{named_programs}
 use Rattle.show_run.specs.declared.commands.Show.{Show}
 use Rattle.show_run.specs.declared.commands.Show.TheVariants.{Log, State as ShowState}

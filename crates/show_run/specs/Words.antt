@@ -2,7 +2,7 @@
 use Rattle.std.specs.Prelude.{ℕ, List, [], ◌∷◌, codes, Option, Some, None, if◌then◌else◌}
 use Rattle.std.specs.Option.{option_and_then, option_map}
 use Rattle.std.specs.Str.{bytes_eq}
-use Rattle.hunk_text.specs.TextReader.Numbers.{number_of}
+use Rattle.module_text.specs.TextReader.Numbers.{number_of}
 use Rattle.show_run.specs.declared.commands.Show.{Show}
 use Rattle.show_run.specs.declared.commands.Show.TheVariants.{Log, State}
 use Rattle.show_run.specs.declared.commands.TheConstants.{LAST}

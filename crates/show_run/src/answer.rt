@@ -2,7 +2,7 @@
 ghost use Rattle.std.specs.Prelude.{◌<◌, ◌^◌, length};
 ghost use Rattle.session_text.specs.Canonical.{IsLawful};
 ghost use Rattle.session_text.specs.SessionOfText.{session_of};
-ghost use Rattle.step_log.specs.TriposMachine.Boot.{boot};
+ghost use Rattle.tripos_machine.specs.Boot.{boot};
 ghost use Rattle.program_answers.specs.Answer.{Answers};
 ghost use Rattle.program_answers.specs.Answered.{Answered};
 ghost use Rattle.program_answers.specs.Cause.{HasFaultCause};
@@ -15,12 +15,13 @@ ghost use Rattle.show_run.specs.ShownAnswers.{machine_answer, session_answer};
 use crate::Show;
 use crate::machines::show_machine;
 use crate::programs::named_programs;
+use bare_machine::boot::BootEnd;
+use byte_streams::Sink;
 use program_answers::{Status, TextAnswers, status_after, write_no_boot, write_refused};
 use session_text::{Session, SessionEnd, read_session};
 use state_text::Program;
 use std::alloc::Global;
-use step_log::{BootEnd, boot_machine};
-use tp_io::Sink;
+use tripos_machine::boot as boot_machine;
 
 impl TextAnswers for Show {
     ghost is_answer = { IsShown };

@@ -2,7 +2,7 @@
 ghost use Rattle.std.specs.Prelude.{◌≡◌, map, string_bytes};
 ghost use Rattle.show_run.specs.Words.{command_named, show_of, span};
 
-use hunk_text::number;
+use module_text::number;
 
 /// What is shown of the run of a session.
 #[derive(Clone, Copy)]

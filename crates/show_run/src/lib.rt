@@ -7,11 +7,8 @@ pub mod laws;
 mod machines;
 pub mod program;
 mod programs;
+pub mod step_log;
 
 pub use commands::Show;
 pub use laws::answer_law;
 pub use program::show;
-
-// Shown to the crates above.
-pub use program_answers::exit_code;
-pub use tp_io::{StdSink, StdSource};

@@ -1,16 +1,17 @@
 // What is shown of a machine's run.
 ghost use Rattle.std.specs.Prelude.{◌≡◌, ◌≤◌, ◌+◌};
-ghost use Rattle.tp_io.specs.Pending.{Gathers};
-ghost use Rattle.tp_io.specs.Write.{HasCause, Prints};
-ghost use Rattle.step_log.specs.TriposMachine.KernelCalls.KernelModel.Ranges.{most_steps};
-ghost use Rattle.step_log.specs.TriposMachine.State.{steps_of};
+ghost use Rattle.byte_streams.specs.Pending.{Gathers};
+ghost use Rattle.byte_streams.specs.Write.{HasCause, Prints};
+ghost use Rattle.kernel_model.specs.KernelRecord.Ranges.{most_steps};
+ghost use Rattle.tripos_machine.specs.State.{steps_of};
 ghost use Rattle.state_text.specs.StateText.{state_text};
 ghost use Rattle.show_run.specs.ShownAnswers.{boot_part, log_of, shown, shown_text, skipped, state_of, steps_part};
 
 use crate::Show;
+use crate::step_log::{gather_boot, gather_steps};
+use byte_streams::{Output, Sink, SinkFault, pass_on};
 use state_text::{Program, gather_state};
-use step_log::{Machine, gather_boot, gather_steps};
-use tp_io::{Output, Sink, SinkFault, pass_on};
+use tripos_machine::Machine;
 
 /// Takes the steps of a machine that was booted just now, at most so many, and shows what is asked for.
 pub(crate) fn show_machine<K: Sink>(

@@ -3,15 +3,15 @@ ghost use Rattle.std.specs.Prelude.{List, ℕ, map, string_bytes};
 ghost use Rattle.program_answers.specs.Answered.{Answered};
 ghost use Rattle.program_answers.specs.Cause.{HasFaultCause, HasReadCause};
 ghost use Rattle.program_answers.specs.Input.{IsInput};
-ghost use Rattle.tp_io.specs.Write.{HasCause, Prints};
+ghost use Rattle.byte_streams.specs.Write.{HasCause, Prints};
 ghost use Rattle.show_run.specs.InputAnswers.{IsAnswer};
 ghost use Rattle.show_run.specs.Leaves.{Leaves};
 ghost use Rattle.show_run.specs.Words.{show_of, usage_text};
 
 use crate::commands::show_of;
+use byte_streams::{Sink, SinkFault, Source, write_text};
 use program_answers::{Status, answer_input, status_after};
 use std::alloc::Global;
-use tp_io::{Sink, SinkFault, Source, write_text};
 
 /// Shows what the words of the command line ask for, of the session that is all that the source has left.
 pub fn show<S: Source, K: Sink>(alloc: Global, words: &[String], src: &mut S, out: &mut K) -> Status

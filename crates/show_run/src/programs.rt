@@ -1,11 +1,11 @@
 // The programs of a session, which have names.
 ghost use Rattle.std.specs.Prelude.{◌≡◌, ◌++◌, Ok};
-ghost use Rattle.hunk_text.specs.TextReader.Answers.{Gives};
+ghost use Rattle.module_text.specs.TextReader.Answers.{Gives};
 ghost use Rattle.show_run.specs.SessionPrograms.{line_programs, named_programs, programs_of};
 ghost use Rattle.show_run.specs.ShortFiles.{HasShortFiles, IsShortLine};
 
 use crate::Show;
-use hunk_text::{TextEnd, read_module};
+use module_text::{TextEnd, read_module};
 use session_text::{LineForm, Session, SessionLine};
 use state_text::Program;
 use std::alloc::Global;

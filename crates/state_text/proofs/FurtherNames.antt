@@ -5,7 +5,7 @@ use Rattle.std.specs.Option.{option_copied, option_or}
 use Rattle.std.proofs.Math.Seq.{take-nil}
 use Rattle.std.proofs.lemmas.Bool.{cases_lt, false≢true, ne_eqb}
 use Rattle.std.proofs.lemmas.List.{drop_all, drop_more, get_or_past}
-use Rattle.kernel_dispatch.specs.TaskBlock.Versions.{head_words, module_index, most_modules}
+use Rattle.kernel_lists.specs.TaskBlock.Versions.{head_words, module_index, most_modules}
 use Rattle.state_text.specs.ProgramNames.{first_name}
 
 -- the words that are not 0

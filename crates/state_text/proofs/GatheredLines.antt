@@ -1,8 +1,8 @@
 -- The lines of a list, gathered one after another.
 use Rattle.std.proofs.Common.{◌≡◌, ◌∙◌, Bool, true, false, Option, Result, List, [], ◌∷◌, ◌++◌, ℕ, cond, filter, refl, sym, ap, subst, append_assoc, append-nil}
 use Rattle.std.specs.List.{flat_map}
-use Rattle.tp_io.specs.Pending.{Gathers, IsCut, IsGathered}
-use Rattle.tp_io.proofs.GatheredTexts.{Gathers-then, IsCut-more, IsCut-then, IsGathered-nothing, IsGathered-then}
+use Rattle.byte_streams.specs.Pending.{Gathers, IsCut, IsGathered}
+use Rattle.byte_streams.proofs.GatheredTexts.{Gathers-then, IsCut-more, IsCut-then, IsGathered-nothing, IsGathered-then}
 
 -- the last of several texts
 pub gathers-last : {T E : Type 0} {h m : Option (List ℕ)} {p q a : List ℕ} → IsGathered h m p q a → (k : Option (List ℕ)) (r b : List ℕ) (result : Result T E) → Gathers m k q r b result

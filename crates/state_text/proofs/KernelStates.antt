@@ -1,17 +1,17 @@
 -- A machine with a kernel, of which the lists are read off its store.
 use Rattle.std.proofs.Common.{◌≡◌, ◌==◌, ℕ, List, cond, is_some, sym, ap, subst}
-use Rattle.cint_debug.specs.TriposMachine.KernelMachine.declared.parts.Parts.{Parts}
-use Rattle.cint_debug.specs.TriposMachine.State.{StandsFull, State}
-use Rattle.cint_debug.specs.TriposMachine.State.State.{Bare, Full}
-use Rattle.cint_debug.proofs.KernelParts.{held-lists}
-use Rattle.kernel_dispatch.specs.KernelModel.Image.{image}
-use Rattle.kernel_dispatch.specs.KernelModel.Kernel.{Kernel}
-use Rattle.kernel_dispatch.specs.KernelModel.KernelRanges.{CanWalkLists}
-use Rattle.kernel_dispatch.specs.KernelModel.Lists.{Lists}
-use Rattle.kernel_dispatch.specs.KernelModel.Recovered.{lists_in}
-use Rattle.kernel_dispatch.proofs.Shown.KernelModel.ImageWords.{image-list}
-use Rattle.kernel_dispatch.proofs.Shown.KernelModel.RecoveredLists.{lists-back}
-use Rattle.kernel_dispatch.proofs.Shown.KernelModel.WalkedLists.{can-walk}
+use Rattle.kernel_machine.specs.declared.running_machine.parts.Parts.{Parts}
+use Rattle.tripos_machine.specs.State.{StandsFull, State}
+use Rattle.tripos_machine.specs.State.State.{Bare, Full}
+use Rattle.debugger.proofs.KernelParts.{held-lists}
+use Rattle.kernel_model.specs.KernelRecord.Image.{image}
+use Rattle.kernel_model.specs.KernelRecord.Kernel.{Kernel}
+use Rattle.kernel_model.specs.KernelRecord.KernelRanges.{CanWalkLists}
+use Rattle.kernel_model.specs.KernelRecord.Lists.{Lists}
+use Rattle.kernel_model.specs.KernelRecord.Recovered.{lists_in}
+use Rattle.kernel_model.proofs.KernelRecord.ImageWords.{image-list}
+use Rattle.kernel_model.proofs.KernelRecord.RecoveredLists.{lists-back}
+use Rattle.kernel_model.proofs.KernelRecord.WalkedLists.{can-walk}
 use Rattle.state_text.specs.Runner.{has_keys, idle_line, runner_text, running_line}
 
 -- the lists in the store of the parts can be walked

@@ -3,12 +3,12 @@ use Rattle.std.proofs.Common.{◌≡◌, ◌∙◌, ℕ, ◌||◌, Bool, Option,
 use Rattle.std.specs.Iterator.{YieldsFirst}
 use Rattle.std.specs.List.{flat_map, list_any}
 use Rattle.std.proofs.lemmas.List.Folds.{list_any-append}
-use Rattle.kernel_dispatch.specs.KernelModel.Lists.{Lists, queued}
-use Rattle.kernel_dispatch.specs.KernelModel.Recovered.{lists_in, module_in, task_in}
-use Rattle.kernel_dispatch.specs.KernelModel.Task.{Task}
-use Rattle.kernel_dispatch.specs.PacketQueue.QueueWords.{QueuedPacket}
-use Rattle.kernel_dispatch.specs.TaskBlock.Lists.{modules_in}
-use Rattle.kernel_dispatch.specs.TaskBlock.TaskChain.{tasks_in}
+use Rattle.kernel_model.specs.KernelRecord.Lists.{Lists, queued}
+use Rattle.kernel_model.specs.KernelRecord.Recovered.{lists_in, module_in, task_in}
+use Rattle.kernel_model.specs.KernelRecord.Task.{Task}
+use Rattle.kernel_lists.specs.PacketQueue.QueueWords.{QueuedPacket}
+use Rattle.kernel_lists.specs.TaskBlock.Lists.{modules_in}
+use Rattle.kernel_lists.specs.TaskBlock.TaskChain.{tasks_in}
 use Rattle.state_text.specs.Runner.{has_member}
 
 module _ (s : List ℕ) where

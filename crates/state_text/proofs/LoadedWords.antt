@@ -3,10 +3,10 @@ use Rattle.std.proofs.Common.{◌≡◌, ◌≢◌, ◌∙◌, ℕ, ◌+◌, ◌
 use Rattle.std.specs.List.{starts_with}
 use Rattle.std.proofs.lemmas.Bool.{eq-eqb, eqb-false, eqb-true, ne_eqb}
 use Rattle.std.proofs.lemmas.List.{at_drop_more, drop_all, drop_more, get_or-set_other, get_or-set_same, nil_from_length}
-use Rattle.hunk_text.specs.declared.modules.Hunk.{Hunk}
+use Rattle.module_text.specs.declared.modules.Hunk.{Hunk}
 use Rattle.word_store.specs.Arithmetic.{add}
-use Rattle.kernel_dispatch.specs.HunkLoader.ModuleRow.{hunks_image}
-use Rattle.kernel_dispatch.specs.HunkLoader.RelocatedWords.{relocated}
+use Rattle.kernel_lists.specs.HunkLoader.ModuleRow.{hunks_image}
+use Rattle.kernel_lists.specs.HunkLoader.RelocatedWords.{relocated}
 
 -- ---- a word of a hunk
 

@@ -1,11 +1,11 @@
 -- Where the packets are that a waiting task has sent.
 use Rattle.std.specs.Prelude.{ℕ, ◌==◌, ◌||◌, Bool, if◌then◌else◌, List, [], ◌∷◌, codes, decimal, filter}
 use Rattle.std.specs.List.{flat_map, list_any}
-use Rattle.tp_io.specs.Pieces.{joined}
-use Rattle.kernel_dispatch.specs.KernelModel.Lists.{Lists, queued}
-use Rattle.kernel_dispatch.specs.KernelModel.Task.{Task}
-use Rattle.kernel_dispatch.specs.KernelModel.declared.numbers.TheConstants.{FILE_HANDLER, REPORTER}
-use Rattle.kernel_dispatch.specs.PacketQueue.QueueWords.{QueuedPacket}
+use Rattle.byte_streams.specs.Pieces.{joined}
+use Rattle.kernel_model.specs.KernelRecord.Lists.{Lists, queued}
+use Rattle.kernel_model.specs.KernelRecord.Task.{Task}
+use Rattle.kernel_model.specs.declared.kernel_record.numbers.TheConstants.{FILE_HANDLER, REPORTER}
+use Rattle.kernel_lists.specs.PacketQueue.QueueWords.{QueuedPacket}
 use Rattle.state_text.specs.declared.places.Place.{Place}
 use Rattle.state_text.specs.declared.places.Place.TheVariants.{Clock, Console, Keyboard, Output, Task as OfTask}
 

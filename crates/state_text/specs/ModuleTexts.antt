@@ -1,9 +1,9 @@
 -- The modules of a kernel in words.
 use Rattle.std.specs.Prelude.{ℕ, ◌+◌, ◌*◌, Option, List, [], ◌∷◌, codes, decimal, length}
 use Rattle.std.specs.List.{flat_map}
-use Rattle.tp_io.specs.Pieces.{joined}
-use Rattle.kernel_dispatch.specs.HunkLoader.HeldModules.{LoadedModule}
-use Rattle.kernel_dispatch.specs.KernelModel.Lists.{Lists}
+use Rattle.byte_streams.specs.Pieces.{joined}
+use Rattle.kernel_lists.specs.HunkLoader.HeldModules.{LoadedModule}
+use Rattle.kernel_model.specs.KernelRecord.Lists.{Lists}
 use Rattle.state_text.specs.ProgramNames.{line_end}
 
 -- The byte address at which the words of its first hunk begin: they follow its link, its number of hunks, and their lengths.

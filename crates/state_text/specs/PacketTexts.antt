@@ -1,10 +1,10 @@
 -- The packets of a queue in words.
 use Rattle.std.specs.Prelude.{ℕ, ◌==◌, if◌then◌else◌, List, [], ◌∷◌, codes, decimal}
 use Rattle.std.specs.List.{flat_map}
-use Rattle.tp_io.specs.Pieces.{joined}
-use Rattle.kernel_dispatch.specs.KernelModel.Lists.{Lists}
-use Rattle.kernel_dispatch.specs.KernelModel.declared.numbers.TheConstants.{CLOCK, KEYBOARD, OUTPUT}
-use Rattle.kernel_dispatch.specs.PacketQueue.QueueWords.{QueuedPacket}
+use Rattle.byte_streams.specs.Pieces.{joined}
+use Rattle.kernel_model.specs.KernelRecord.Lists.{Lists}
+use Rattle.kernel_model.specs.declared.kernel_record.numbers.TheConstants.{CLOCK, KEYBOARD, OUTPUT}
+use Rattle.kernel_lists.specs.PacketQueue.QueueWords.{QueuedPacket}
 use Rattle.state_text.specs.declared.places.Place.{Place}
 use Rattle.state_text.specs.declared.places.Place.TheVariants.{Clock, Console, Keyboard, Output, Task}
 

@@ -2,8 +2,8 @@
 use Rattle.std.specs.Prelude.{ℕ, ◌+◌, Bool, Option, Some, None, List, [], ◌∷◌, codes, drop, nat_eq}
 use Rattle.std.specs.List.{find, starts_with}
 use Rattle.std.specs.Option.{option_map, option_or}
-use Rattle.tp_io.specs.Pieces.{joined}
-use Rattle.kernel_dispatch.specs.HunkLoader.ModuleRow.{module_row}
+use Rattle.byte_streams.specs.Pieces.{joined}
+use Rattle.kernel_lists.specs.HunkLoader.ModuleRow.{module_row}
 use Rattle.state_text.specs.declared.programs.Program.{Program}
 
 -- the words of a program that is loaded at m, but for the link: the number of its hunks, their lengths, and their words, relocated

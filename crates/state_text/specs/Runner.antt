@@ -1,13 +1,13 @@
 -- Who runs, or why nobody does.
 use Rattle.std.specs.Prelude.{ℕ, ◌==◌, ◌&&◌, ◌||◌, Bool, true, false, not, if◌then◌else◌, is_some, List, [], ◌∷◌, codes, decimal}
 use Rattle.std.specs.List.{list_all}
-use Rattle.tp_io.specs.Pieces.{joined}
-use Rattle.cint_debug.specs.TriposMachine.State.{State}
-use Rattle.cint_debug.specs.TriposMachine.State.State.{Bare, Full}
-use Rattle.kernel_dispatch.specs.KernelModel.Between.{is_empty_queue}
-use Rattle.kernel_dispatch.specs.KernelModel.Lists.{Lists}
-use Rattle.kernel_dispatch.specs.KernelModel.Task.{Task}
-use Rattle.kernel_dispatch.specs.KernelModel.ValidTasks.{dead}
+use Rattle.byte_streams.specs.Pieces.{joined}
+use Rattle.tripos_machine.specs.State.{State}
+use Rattle.tripos_machine.specs.State.State.{Bare, Full}
+use Rattle.kernel_model.specs.KernelRecord.Between.{is_empty_queue}
+use Rattle.kernel_model.specs.KernelRecord.Lists.{Lists}
+use Rattle.kernel_model.specs.KernelRecord.Task.{Task}
+use Rattle.kernel_model.specs.KernelRecord.ValidTasks.{dead}
 
 -- whether a list has a member
 abbrev pub has_member : {X : Type 0} → List X → Bool

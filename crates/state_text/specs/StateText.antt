@@ -1,13 +1,13 @@
 -- The state of a machine in words.
 use Rattle.std.specs.Prelude.{ℕ, ◌==◌, ◌&&◌, Bool, true, false, not, if◌then◌else◌, Option, Some, None, List, [], ◌∷◌, codes, decimal}
-use Rattle.tp_io.specs.Pieces.{joined}
-use Rattle.cint_debug.specs.Texts.{blocks_text, instructions_text, registers_line}
-use Rattle.cint_debug.specs.TriposMachine.State.{State, regs_of, running_of, stop_of, words_of}
-use Rattle.cint_debug.specs.TriposMachine.State.State.{Bare, Full}
-use Rattle.cint_debug.specs.Views.{is_guest_next}
-use Rattle.kernel_dispatch.specs.KernelModel.Lists.{Lists}
-use Rattle.kernel_dispatch.specs.KernelModel.declared.stops.Stop.{Stop}
-use Rattle.kernel_dispatch.specs.KernelModel.declared.stops.Stop.TheVariants.{Fault, Finish, Quit, Steps}
+use Rattle.byte_streams.specs.Pieces.{joined}
+use Rattle.debugger.specs.Texts.{blocks_text, instructions_text, registers_line}
+use Rattle.tripos_machine.specs.State.{State, regs_of, running_of, stop_of, words_of}
+use Rattle.tripos_machine.specs.State.State.{Bare, Full}
+use Rattle.debugger.specs.Views.{is_guest_next}
+use Rattle.kernel_model.specs.KernelRecord.Lists.{Lists}
+use Rattle.kernel_model.specs.declared.kernel_record.stops.Stop.{Stop}
+use Rattle.kernel_model.specs.declared.kernel_record.stops.Stop.TheVariants.{Fault, Finish, Quit, Steps}
 use Rattle.state_text.specs.ModuleTexts.{modules_text}
 use Rattle.state_text.specs.PacketTexts.{queues_text}
 use Rattle.state_text.specs.ProgramNames.{name_in}

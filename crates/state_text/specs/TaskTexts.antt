@@ -1,12 +1,12 @@
 -- The tasks of a kernel in words.
 use Rattle.std.specs.Prelude.{ℕ, ◌%◌, ◌==◌, ◌&&◌, Bool, if◌then◌else◌, nat_lt, Option, List, [], ◌∷◌, codes, decimal}
 use Rattle.std.specs.List.{flat_map}
-use Rattle.tp_io.specs.Pieces.{joined}
-use Rattle.kernel_dispatch.specs.KernelModel.Between.{is_empty_queue}
-use Rattle.kernel_dispatch.specs.KernelModel.Lists.{Lists}
-use Rattle.kernel_dispatch.specs.KernelModel.Task.{Task}
-use Rattle.kernel_dispatch.specs.KernelModel.ValidTasks.{interrupted, runs, waits}
-use Rattle.kernel_dispatch.specs.KernelModel.declared.numbers.TheConstants.{REPORTED}
+use Rattle.byte_streams.specs.Pieces.{joined}
+use Rattle.kernel_model.specs.KernelRecord.Between.{is_empty_queue}
+use Rattle.kernel_model.specs.KernelRecord.Lists.{Lists}
+use Rattle.kernel_model.specs.KernelRecord.Task.{Task}
+use Rattle.kernel_model.specs.KernelRecord.ValidTasks.{interrupted, runs, waits}
+use Rattle.kernel_model.specs.declared.kernel_record.numbers.TheConstants.{REPORTED}
 use Rattle.state_text.specs.AwaitedPackets.{awaited_lines}
 use Rattle.state_text.specs.PacketTexts.{packet_lines}
 use Rattle.state_text.specs.ProgramNames.{first_name, line_end}

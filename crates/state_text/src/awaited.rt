@@ -1,20 +1,20 @@
 // The packets in words that a waiting task has sent, wherever they are queued.
 ghost use Rattle.std.specs.Prelude.{◌≡◌, if◌then◌else◌, []};
 ghost use Rattle.std.specs.List.{flat_map};
-ghost use Rattle.tp_io.specs.Pending.{Gathers};
-ghost use Rattle.tp_io.specs.Write.{HasCause};
-ghost use Rattle.kernel_dispatch.specs.KernelModel.KernelRanges.{CanWalkLists, CanWalkTask};
-ghost use Rattle.kernel_dispatch.specs.KernelModel.Recovered.{lists_in, packet_in, packets_at, pending_in, task_in};
-ghost use Rattle.kernel_dispatch.specs.PacketQueue.Queue.{HasQueue};
+ghost use Rattle.byte_streams.specs.Pending.{Gathers};
+ghost use Rattle.byte_streams.specs.Write.{HasCause};
+ghost use Rattle.kernel_model.specs.KernelRecord.KernelRanges.{CanWalkLists, CanWalkTask};
+ghost use Rattle.kernel_model.specs.KernelRecord.Recovered.{lists_in, packet_in, packets_at, pending_in, task_in};
+ghost use Rattle.kernel_lists.specs.PacketQueue.Queue.{HasQueue};
 ghost use Rattle.state_text.specs.AwaitedPackets.{alone_line, awaited_lines, is_from, its_line, its_lines, its_lines_at_task, its_number_line, its_packet_line, none_line};
 ghost use Rattle.state_text.specs.declared.places.Place.TheVariants.{Console};
 
 use crate::places::Place;
 use crate::sent::has_packet;
-use kernel_dispatch::numbers::{DUE, FILE_HANDLER, PENDING_HEAD, REPORTER, SENDER};
-use kernel_dispatch::{RootField, TcbField, field, packets, root, tasks};
-use tp_io::Piece::{Decimal, Text};
-use tp_io::{Output, Sink, SinkFault, gather, gather_pieces};
+use byte_streams::Piece::{Decimal, Text};
+use byte_streams::{Output, Sink, SinkFault, gather, gather_pieces};
+use kernel_lists::{RootField, TcbField, field, packets, root, tasks};
+use kernel_model::numbers::{DUE, FILE_HANDLER, PENDING_HEAD, REPORTER, SENDER};
 use word_store::{Store, word_at};
 
 /// Gathers a line for each queued packet that the task with the number has sent, or that there is none.

@@ -1,17 +1,17 @@
 // The modules of a kernel in words.
 ghost use Rattle.std.specs.List.{flat_map};
-ghost use Rattle.tp_io.specs.Pending.{Gathers};
-ghost use Rattle.tp_io.specs.Write.{HasCause};
-ghost use Rattle.kernel_dispatch.specs.KernelModel.KernelRanges.{CanWalkLists, IsModuleIn};
-ghost use Rattle.kernel_dispatch.specs.KernelModel.Recovered.{lists_in, module_in};
+ghost use Rattle.byte_streams.specs.Pending.{Gathers};
+ghost use Rattle.byte_streams.specs.Write.{HasCause};
+ghost use Rattle.kernel_model.specs.KernelRecord.KernelRanges.{CanWalkLists, IsModuleIn};
+ghost use Rattle.kernel_model.specs.KernelRecord.Recovered.{lists_in, module_in};
 ghost use Rattle.state_text.specs.ModuleTexts.{module_line, module_place, modules_text};
 ghost use Rattle.state_text.specs.ProgramNames.{name_in};
 
 use crate::names::gather_line_end;
 use crate::programs::{Program, name_in};
-use kernel_dispatch::modules;
-use tp_io::Piece::{Decimal, Text};
-use tp_io::{Output, Sink, SinkFault, gather, gather_pieces};
+use byte_streams::Piece::{Decimal, Text};
+use byte_streams::{Output, Sink, SinkFault, gather, gather_pieces};
+use kernel_lists::modules;
 use word_store::{Store, word_at};
 
 /// The word of a module that has the number of its hunks.

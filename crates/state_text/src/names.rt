@@ -1,17 +1,17 @@
 // The names of programs in words.
 ghost use Rattle.std.specs.Prelude.{◌≡◌, ◌+◌, ◌==◌, filter, if◌then◌else◌, not, slice_range, None};
 ghost use Rattle.std.specs.Option.{option_copied};
-ghost use Rattle.tp_io.specs.Pending.{Gathers};
-ghost use Rattle.tp_io.specs.Write.{HasCause};
-ghost use Rattle.kernel_dispatch.specs.KernelModel.Recovered.{modules_of};
-ghost use Rattle.kernel_dispatch.specs.TaskBlock.Versions.{head_words};
+ghost use Rattle.byte_streams.specs.Pending.{Gathers};
+ghost use Rattle.byte_streams.specs.Write.{HasCause};
+ghost use Rattle.kernel_model.specs.KernelRecord.Recovered.{modules_of};
+ghost use Rattle.kernel_lists.specs.TaskBlock.Versions.{head_words};
 ghost use Rattle.state_text.specs.ProgramNames.{first_name, line_end, name_in};
 
 use crate::programs::{Program, name_in};
-use kernel_dispatch::numbers::FIRST_GUEST;
-use kernel_dispatch::{TcbField, field, module_at, most_modules};
-use tp_io::Piece::Text;
-use tp_io::{Output, Sink, SinkFault, gather, gather_pieces};
+use byte_streams::Piece::Text;
+use byte_streams::{Output, Sink, SinkFault, gather, gather_pieces};
+use kernel_lists::{TcbField, field, module_at, most_modules};
+use kernel_model::numbers::FIRST_GUEST;
 use word_store::Store;
 
 /// The first name that one of the modules of the task at t has.

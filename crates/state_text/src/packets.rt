@@ -1,16 +1,16 @@
 // The packets of a queue in words.
 ghost use Rattle.std.specs.Prelude.{◌≡◌};
-ghost use Rattle.tp_io.specs.Pending.{Gathers};
-ghost use Rattle.tp_io.specs.Write.{HasCause};
-ghost use Rattle.kernel_dispatch.specs.KernelModel.Recovered.{packet_in, packets_at};
-ghost use Rattle.kernel_dispatch.specs.PacketQueue.Queue.{HasQueue};
+ghost use Rattle.byte_streams.specs.Pending.{Gathers};
+ghost use Rattle.byte_streams.specs.Write.{HasCause};
+ghost use Rattle.kernel_model.specs.KernelRecord.Recovered.{packet_in, packets_at};
+ghost use Rattle.kernel_lists.specs.PacketQueue.Queue.{HasQueue};
 ghost use Rattle.state_text.specs.PacketTexts.{name_of, packet_end, packet_front, packet_line, packet_lines, queue_name};
 
 use crate::places::Place;
-use kernel_dispatch::numbers::{CLOCK, DUE, KEYBOARD, KIND, OUTPUT, SENDER};
-use kernel_dispatch::packets;
-use tp_io::Piece::{Decimal, Text};
-use tp_io::{Output, Sink, SinkFault, gather, gather_pieces};
+use byte_streams::Piece::{Decimal, Text};
+use byte_streams::{Output, Sink, SinkFault, gather, gather_pieces};
+use kernel_lists::packets;
+use kernel_model::numbers::{CLOCK, DUE, KEYBOARD, KIND, OUTPUT, SENDER};
 use word_store::{Store, word_at};
 
 /// Gathers a line for each packet of the queue at the head, which is that of the place.

@@ -2,11 +2,11 @@
 ghost use Rattle.std.specs.Prelude.{◌≡◌, ◌+◌, ◌<◌, ◌≤◌, ◌^◌, ◌++◌, IsTrue, drop, length, nat_eq, slice_index};
 ghost use Rattle.std.specs.List.{starts_with};
 ghost use Rattle.std.specs.Option.{option_copied};
-ghost use Rattle.kernel_dispatch.specs.HunkLoader.ModuleRow.{hunks_image, lengths_of};
-ghost use Rattle.kernel_dispatch.specs.HunkLoader.RelocatedWords.{relocated};
+ghost use Rattle.kernel_lists.specs.HunkLoader.ModuleRow.{hunks_image, lengths_of};
+ghost use Rattle.kernel_lists.specs.HunkLoader.RelocatedWords.{relocated};
 ghost use Rattle.state_text.specs.ProgramNames.{is_loaded, name_in};
 
-use hunk_text::{Hunk, Hunks};
+use module_text::{Hunk, Hunks};
 use ram_disc::Name;
 use word_store::{Store, add};
 

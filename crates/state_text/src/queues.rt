@@ -1,19 +1,19 @@
 // The queues of the devices and of the console in words.
 ghost use Rattle.std.specs.Prelude.{◌≡◌};
-ghost use Rattle.tp_io.specs.Pending.{Gathers};
-ghost use Rattle.tp_io.specs.Write.{HasCause};
-ghost use Rattle.kernel_dispatch.specs.KernelModel.Between.{is_empty_queue};
-ghost use Rattle.kernel_dispatch.specs.KernelModel.KernelRanges.{CanWalkLists};
-ghost use Rattle.kernel_dispatch.specs.KernelModel.Recovered.{lists_in, packets_at, pending_in};
-ghost use Rattle.kernel_dispatch.specs.PacketQueue.Queue.{HasQueue};
+ghost use Rattle.byte_streams.specs.Pending.{Gathers};
+ghost use Rattle.byte_streams.specs.Write.{HasCause};
+ghost use Rattle.kernel_model.specs.KernelRecord.Between.{is_empty_queue};
+ghost use Rattle.kernel_model.specs.KernelRecord.KernelRanges.{CanWalkLists};
+ghost use Rattle.kernel_model.specs.KernelRecord.Recovered.{lists_in, packets_at, pending_in};
+ghost use Rattle.kernel_lists.specs.PacketQueue.Queue.{HasQueue};
 ghost use Rattle.state_text.specs.PacketTexts.{packet_lines, queues_text};
 ghost use Rattle.state_text.specs.declared.places.Place.TheVariants.{Console};
 
 use crate::packets::gather_packets;
 use crate::places::Place;
-use kernel_dispatch::numbers::PENDING_HEAD;
-use kernel_dispatch::{RootField, packets, root};
-use tp_io::{Output, Sink, SinkFault, gather};
+use byte_streams::{Output, Sink, SinkFault, gather};
+use kernel_lists::{RootField, packets, root};
+use kernel_model::numbers::PENDING_HEAD;
 use word_store::Store;
 
 /// Gathers a line for each packet that is at a device, or that the console has taken.

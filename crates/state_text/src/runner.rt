@@ -1,18 +1,18 @@
 // Who runs, or why nobody does.
 ghost use Rattle.std.specs.Prelude.{◌≡◌};
 ghost use Rattle.std.specs.List.{list_all};
-ghost use Rattle.tp_io.specs.Pending.{Gathers};
-ghost use Rattle.tp_io.specs.Write.{HasCause};
-ghost use Rattle.kernel_dispatch.specs.KernelModel.KernelRanges.{CanWalkLists};
-ghost use Rattle.kernel_dispatch.specs.KernelModel.Recovered.{lists_in};
+ghost use Rattle.byte_streams.specs.Pending.{Gathers};
+ghost use Rattle.byte_streams.specs.Write.{HasCause};
+ghost use Rattle.kernel_model.specs.KernelRecord.KernelRanges.{CanWalkLists};
+ghost use Rattle.kernel_model.specs.KernelRecord.Recovered.{lists_in};
 ghost use Rattle.state_text.specs.Runner.{can_answer, has_keys, has_member, idle_line, idle_words, is_dead, runner_text, running_line};
 
 use crate::queues::is_empty_queue;
-use cint_debug::Machine;
-use kernel_dispatch::numbers::DEAD;
-use kernel_dispatch::{RootField, TcbField, field, tasks};
-use tp_io::Piece::{Decimal, Text};
-use tp_io::{Output, Sink, SinkFault, gather_pieces};
+use byte_streams::Piece::{Decimal, Text};
+use byte_streams::{Output, Sink, SinkFault, gather_pieces};
+use kernel_lists::{RootField, TcbField, field, tasks};
+use kernel_model::numbers::DEAD;
+use tripos_machine::Machine;
 use word_store::Store;
 
 /// Gathers who runs, or why nobody does; nothing on a machine without a kernel, which has no tasks.

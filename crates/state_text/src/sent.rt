@@ -1,14 +1,14 @@
 // Whether a task has sent a packet that is queued.
 ghost use Rattle.std.specs.Prelude.{◌≡◌};
 ghost use Rattle.std.specs.List.{list_any};
-ghost use Rattle.kernel_dispatch.specs.KernelModel.KernelRanges.{CanWalkLists, CanWalkTask};
-ghost use Rattle.kernel_dispatch.specs.KernelModel.Lists.{queued};
-ghost use Rattle.kernel_dispatch.specs.KernelModel.Recovered.{lists_in, packets_at, pending_in, task_in};
-ghost use Rattle.kernel_dispatch.specs.PacketQueue.Queue.{HasQueue};
+ghost use Rattle.kernel_model.specs.KernelRecord.KernelRanges.{CanWalkLists, CanWalkTask};
+ghost use Rattle.kernel_model.specs.KernelRecord.Lists.{queued};
+ghost use Rattle.kernel_model.specs.KernelRecord.Recovered.{lists_in, packets_at, pending_in, task_in};
+ghost use Rattle.kernel_lists.specs.PacketQueue.Queue.{HasQueue};
 ghost use Rattle.state_text.specs.AwaitedPackets.{is_from};
 
-use kernel_dispatch::numbers::{PENDING_HEAD, SENDER};
-use kernel_dispatch::{RootField, TcbField, packets, root, tasks};
+use kernel_lists::{RootField, TcbField, packets, root, tasks};
+use kernel_model::numbers::{PENDING_HEAD, SENDER};
 use word_store::{Store, word_at};
 
 /// Whether a packet that the task with the number has sent is on any queue.

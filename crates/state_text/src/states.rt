@@ -1,10 +1,10 @@
 // The state of a machine in words.
 ghost use Rattle.std.specs.Prelude.{◌≡◌};
-ghost use Rattle.tp_io.specs.Pending.{Gathers};
-ghost use Rattle.tp_io.specs.Write.{HasCause};
-ghost use Rattle.cint_debug.specs.Texts.{blocks_text};
-ghost use Rattle.kernel_dispatch.specs.KernelModel.KernelRanges.{CanWalkLists};
-ghost use Rattle.kernel_dispatch.specs.KernelModel.Recovered.{lists_in};
+ghost use Rattle.byte_streams.specs.Pending.{Gathers};
+ghost use Rattle.byte_streams.specs.Write.{HasCause};
+ghost use Rattle.debugger.specs.Texts.{blocks_text};
+ghost use Rattle.kernel_model.specs.KernelRecord.KernelRanges.{CanWalkLists};
+ghost use Rattle.kernel_model.specs.KernelRecord.Recovered.{lists_in};
 ghost use Rattle.state_text.specs.ProgramNames.{name_in};
 ghost use Rattle.state_text.specs.StateText.{bare_counts, count_words, instruction_line, is_end, is_past, kernel_counts, kernel_text, lists_text, next_line, state_text, stop_line, stopped_line};
 
@@ -13,12 +13,12 @@ use crate::modules::gather_modules;
 use crate::queues::gather_queues;
 use crate::runner::gather_runner;
 use crate::tasks::gather_tasks;
-use cint_debug::{
-    Machine, Stop, gather_blocks, gather_instructions, gather_registers, is_guest_next,
-};
-use kernel_dispatch::{RootField, root};
-use tp_io::Piece::{Decimal, Text};
-use tp_io::{Output, Sink, SinkFault, gather, gather_pieces};
+use byte_streams::Piece::{Decimal, Text};
+use byte_streams::{Output, Sink, SinkFault, gather, gather_pieces};
+use debugger::{gather_blocks, gather_instructions, gather_registers, is_guest_next};
+use kernel_lists::{RootField, root};
+use kernel_model::Stop;
+use tripos_machine::Machine;
 use word_store::Store;
 
 /// Gathers the state of a machine, a line for each fact. The first line says after how many steps it is, at which tick, and whether the

@@ -1,10 +1,10 @@
 // The tasks of a kernel in words.
 ghost use Rattle.std.specs.Prelude.{◌≡◌};
 ghost use Rattle.std.specs.List.{flat_map};
-ghost use Rattle.tp_io.specs.Pending.{Gathers};
-ghost use Rattle.tp_io.specs.Write.{HasCause};
-ghost use Rattle.kernel_dispatch.specs.KernelModel.KernelRanges.{CanWalkLists, CanWalkTask};
-ghost use Rattle.kernel_dispatch.specs.KernelModel.Recovered.{lists_in, task_in};
+ghost use Rattle.byte_streams.specs.Pending.{Gathers};
+ghost use Rattle.byte_streams.specs.Write.{HasCause};
+ghost use Rattle.kernel_model.specs.KernelRecord.KernelRanges.{CanWalkLists, CanWalkTask};
+ghost use Rattle.kernel_model.specs.KernelRecord.Recovered.{lists_in, task_in};
 ghost use Rattle.state_text.specs.PacketTexts.{packet_lines};
 ghost use Rattle.state_text.specs.ProgramNames.{name_in};
 ghost use Rattle.state_text.specs.TaskTexts.{awaited_text, awaits_packet, fault_line, field_words, flags_line, held_words, report_words, resumption_line, state_line, state_words, task_text, tasks_text};
@@ -16,12 +16,10 @@ use crate::packets::gather_packets;
 use crate::places::Place;
 use crate::programs::Program;
 use crate::queues::is_empty_queue;
-use kernel_dispatch::numbers::{
-    FAULT_ADDRESS, FAULT_WORD, HELD, INTERRUPTED, REPORTED, RUNS, WAITS,
-};
-use kernel_dispatch::{TcbField, field, tasks};
-use tp_io::Piece::{Decimal, Text};
-use tp_io::{Output, Sink, SinkFault, gather, gather_pieces};
+use byte_streams::Piece::{Decimal, Text};
+use byte_streams::{Output, Sink, SinkFault, gather, gather_pieces};
+use kernel_lists::{TcbField, field, tasks};
+use kernel_model::numbers::{FAULT_ADDRESS, FAULT_WORD, HELD, INTERRUPTED, REPORTED, RUNS, WAITS};
 use word_store::Store;
 
 /// Gathers the lines of each task, in the order of the chain.

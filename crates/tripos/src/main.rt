@@ -1,9 +1,11 @@
 // The program: the process's words, input and output are given to the one call that answers.
 #![tactic(auto)]
 
+use byte_streams::{StdSink, StdSource};
+use program_answers::exit_code;
 use std::process::ExitCode;
 use std::{env, io};
-use tripos_run::{StdSink, StdSource, exit_code, tripos};
+use tripos_run::tripos;
 
 /// Ends with the status of the call, or with 9 where the system can't give the words.
 fn main(rt: HostRuntime) -> ExitCode {

@@ -1,6 +1,6 @@
 -- The state that a session boots: it has taken no step, and on a bare machine as many words as the session says, also after a run.
 use Rattle.std.proofs.Common.{◌≡◌, ℕ, zero, suc, Bool, true, false, Result, Ok, Err, [], length, refl, sym, subst, ◌∙◌}
-use Rattle.hunk_text.specs.TextReader.Refusal.{Refusal}
+use Rattle.module_text.specs.TextReader.Refusal.{Refusal}
 use Rattle.session_text.specs.Canonical.{IsLawful}
 use Rattle.session_text.specs.declared.sessions.Session.{Session}
 use Rattle.bare_machine.specs.Boot.{boot as bare_boot}
@@ -8,9 +8,9 @@ use Rattle.bare_machine.specs.Run.{run as bare_run}
 use Rattle.bare_machine.specs.State.{BareState}
 use Rattle.bare_machine.specs.Step.{step as bare_step}
 use Rattle.bare_machine.proofs.WordCounts.{step-count as bare-size}
-use Rattle.history_law.specs.KernelBoot.declared.refusals.BootRefusal.{BootRefusal}
-use Rattle.history_law.specs.KernelSteps.Stepped.{Stepped as KernelStepped}
-use Rattle.history_law.specs.MachineBoot.Boot.{boot as kernel_boot, first_kernel}
+use Rattle.kernel_boot.specs.declared.refusals.BootRefusal.{BootRefusal}
+use Rattle.kernel_machine.specs.KernelSteps.Stepped.{Stepped as KernelStepped}
+use Rattle.kernel_machine.specs.MachineBoot.Boot.{boot as kernel_boot, first_kernel}
 use Rattle.tripos_machine.specs.Boot.{bare_booted, boot, kernel_booted}
 use Rattle.tripos_machine.specs.State.{State, steps_of}
 use Rattle.tripos_machine.specs.State.State.{Bare, Full}

@@ -2,19 +2,19 @@
 use Rattle.std.proofs.Common.{◌≡◌, ℕ, List, Result, Ok, Err, None, Bool, true, false, cond, ap, drop, length, refl, replicate, subst, sym, ◌∙◌}
 use Rattle.std.proofs.lemmas.List.{length-replicate}
 use Rattle.session_text.specs.declared.sessions.Session.{Session}
-use Rattle.hunk_text.specs.TextReader.Refusal.{Refusal}
-use Rattle.hunk_text.specs.TextReader.Steps.{◌>>=◌}
+use Rattle.module_text.specs.TextReader.Refusal.{Refusal}
+use Rattle.module_text.specs.TextReader.Steps.{◌>>=◌}
 use Rattle.bare_machine.specs.Boot.{boot as bare_boot, first_state, program, with_lines as with_code}
 use Rattle.bare_machine.specs.State.{BareState}
 use Rattle.bare_machine.proofs.CodeLines.{with_lines-length}
-use Rattle.history_law.specs.KernelCalls.KernelModel.Kernel.{Kernel}
-use Rattle.history_law.specs.KernelBoot.declared.refusals.BootRefusal.{BootRefusal}
-use Rattle.history_law.specs.KernelSteps.Stepped.{Stepped}
-use Rattle.history_law.specs.KernelMachine.Stands.{Stands}
-use Rattle.history_law.specs.KernelMachine.declared.parts.Parts.{Parts}
-use Rattle.history_law.proofs.Shown.KernelSteps.StepKept.{dispatch-same}
-use Rattle.history_law.specs.MachineBoot.Boot.{HasKernel, boot, first_kernel, started, with_lines}
-use Rattle.history_law.proofs.Shown.MachineBoot.BegunKernels.{first-begun, lines-begun}
+use Rattle.kernel_model.specs.KernelRecord.Kernel.{Kernel}
+use Rattle.kernel_boot.specs.declared.refusals.BootRefusal.{BootRefusal}
+use Rattle.kernel_machine.specs.KernelSteps.Stepped.{Stepped}
+use Rattle.kernel_machine.specs.RunningMachine.Stands.{Stands}
+use Rattle.kernel_machine.specs.declared.running_machine.parts.Parts.{Parts}
+use Rattle.kernel_machine.proofs.KernelSteps.StepKept.{dispatch-same}
+use Rattle.kernel_machine.specs.MachineBoot.Boot.{HasKernel, boot, first_kernel, started, with_lines}
+use Rattle.kernel_machine.proofs.MachineBoot.BegunKernels.{first-begun, lines-begun}
 use Rattle.tripos_machine.specs.Boot.{bare_booted, boot as machine_boot, kernel_booted}
 use Rattle.tripos_machine.specs.Step.{Stepped as MachineStepped}
 

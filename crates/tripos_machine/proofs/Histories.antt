@@ -1,16 +1,16 @@
 -- The events of a machine of either kind are a history of its packets.
 use Rattle.std.proofs.Common.{◌≡◌, ℕ, ◌+◌, ◌≤◌, Bool, true, false, Result, Ok, Err, [], refl, sym, subst, ◌∙◌}
-use Rattle.hunk_text.specs.TextReader.Refusal.{Refusal}
+use Rattle.module_text.specs.TextReader.Refusal.{Refusal}
 use Rattle.session_text.specs.Canonical.{IsLawful}
 use Rattle.session_text.specs.declared.sessions.Session.{Session}
 use Rattle.bare_machine.specs.Boot.{boot as bare_boot}
 use Rattle.bare_machine.specs.State.{BareState}
-use Rattle.history_law.specs.KernelBoot.declared.refusals.BootRefusal.{BootRefusal}
-use Rattle.history_law.specs.KernelCalls.KernelModel.Ranges.{most_steps}
-use Rattle.history_law.specs.KernelSteps.Stepped.{Stepped as KernelStepped}
-use Rattle.history_law.specs.MachineBoot.Boot.{boot as kernel_boot}
-use Rattle.history_law.proofs.BootHistories.{booted-history}
-use Rattle.history_law.proofs.Histories.{whole-law}
+use Rattle.kernel_boot.specs.declared.refusals.BootRefusal.{BootRefusal}
+use Rattle.kernel_model.specs.KernelRecord.Ranges.{most_steps}
+use Rattle.kernel_machine.specs.KernelSteps.Stepped.{Stepped as KernelStepped}
+use Rattle.kernel_machine.specs.MachineBoot.Boot.{boot as kernel_boot}
+use Rattle.tripos_machine.proofs.PacketHistory.BootHistories.{booted-history}
+use Rattle.tripos_machine.proofs.PacketHistory.Histories.{whole-law}
 use Rattle.tripos_machine.specs.Boot.{bare_booted, boot, kernel_booted}
 use Rattle.tripos_machine.specs.Histories.{HasBootHistory, HasHistory}
 use Rattle.tripos_machine.specs.State.{IsSound, State, steps_of}

@@ -2,12 +2,12 @@
 use Rattle.std.proofs.Common.{◌≡◌, ℕ, ◌-◌, List, Bool, Option, None, sym, ap, arith, ◌∙◌, subst}
 use Rattle.bare_machine.specs.Run.{Avoids as BareAvoids, run as bare_run}
 use Rattle.bare_machine.specs.State.{BareState}
-use Rattle.history_law.specs.KernelCalls.KernelModel.Kernel.{Kernel}
-use Rattle.history_law.specs.KernelCalls.KernelModel.NotedEvents.{NotesAll}
-use Rattle.history_law.specs.KernelCalls.PacketQueue.declared.events.KernelEvent.{KernelEvent}
-use Rattle.history_law.proofs.Shown.KernelCalls.KernelModel.NotedInTurn.{notes-none}
-use Rattle.history_law.specs.KernelMachine.Runs.{Avoids as KernelAvoids, IsQuietButLast}
-use Rattle.history_law.specs.KernelSteps.Step.{run as kernel_run}
+use Rattle.kernel_model.specs.KernelRecord.Kernel.{Kernel}
+use Rattle.kernel_model.specs.KernelRecord.NotedEvents.{NotesAll}
+use Rattle.kernel_lists.specs.declared.packet_queue.events.KernelEvent.{KernelEvent}
+use Rattle.kernel_model.proofs.KernelRecord.NotedInTurn.{notes-none}
+use Rattle.kernel_machine.specs.RunningMachine.Runs.{Avoids as KernelAvoids, IsQuietButLast}
+use Rattle.kernel_machine.specs.KernelSteps.Step.{run as kernel_run}
 use Rattle.tripos_machine.specs.Breakpoints.{Avoids, is_met}
 use Rattle.tripos_machine.specs.State.{State, stop_of}
 use Rattle.tripos_machine.specs.State.State.{Bare, Full}

@@ -1,3 +1,5 @@
+pub mod EventHistory
+pub mod PacketHistory
 pub mod BootedStates
 pub mod BootedSteps
 pub mod Histories
@@ -6,6 +8,5 @@ pub mod PlainSteps
 pub mod QuietSteps
 pub mod RefusedLines
 pub mod RunParts
-pub mod Shown
 pub mod StateRuns
 pub mod StepSizes

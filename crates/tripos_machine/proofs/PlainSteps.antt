@@ -1,11 +1,11 @@
 -- A plain step of a machine of either kind.
 use Rattle.std.proofs.Common.{◌≡◌, ap, arith, suc, ℕ, ◌∷◌, List, Option, Some, None, MatchOption, subst, sym}
-use Rattle.bare_machine.specs.CintExec.Places.{DifferAt, addresses}
-use Rattle.bare_machine.specs.CintExec.declared.places.Places.{Places}
+use Rattle.instruction_set.specs.Places.{DifferAt, addresses}
+use Rattle.instruction_set.specs.declared.places.Places.{Places}
 use Rattle.bare_machine.specs.Run.{IsPlainStep as IsBarePlainStep}
 use Rattle.bare_machine.specs.State.{BareState}
-use Rattle.history_law.specs.KernelCalls.KernelModel.Kernel.{Kernel}
-use Rattle.history_law.specs.KernelMachine.PlainSteps.{IsPlainStep as IsKernelPlainStep}
+use Rattle.kernel_model.specs.KernelRecord.Kernel.{Kernel}
+use Rattle.kernel_machine.specs.RunningMachine.PlainSteps.{IsPlainStep as IsKernelPlainStep}
 use Rattle.tripos_machine.specs.Breakpoints.{IsPlainStep}
 use Rattle.tripos_machine.specs.State.{State}
 use Rattle.tripos_machine.specs.State.State.{Bare, Full}

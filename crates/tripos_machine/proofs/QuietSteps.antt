@@ -1,8 +1,8 @@
 -- Quiet steps of a machine of one kind, as those of its state.
 use Rattle.std.proofs.Common.{◌≡◌, ℕ, ◌≤◌, None, refl, sym, ap, ◌∙◌, subst, arith}
-use Rattle.history_law.specs.KernelCalls.KernelModel.Kernel.{Kernel}
-use Rattle.history_law.specs.KernelMachine.Runs.{AreQuiet as AreKernelQuiet}
-use Rattle.history_law.specs.KernelSteps.Step.{run as kernel_run}
+use Rattle.kernel_model.specs.KernelRecord.Kernel.{Kernel}
+use Rattle.kernel_machine.specs.RunningMachine.Runs.{AreQuiet as AreKernelQuiet}
+use Rattle.kernel_machine.specs.KernelSteps.Step.{run as kernel_run}
 use Rattle.tripos_machine.specs.Quiet.{AreQuiet}
 use Rattle.tripos_machine.specs.State.{State, stop_of}
 use Rattle.tripos_machine.specs.State.State.{Full}

@@ -2,22 +2,22 @@
 use Rattle.std.proofs.Common.{◌≡◌, ◌⊎◌, inl, inr, ℕ, suc, ◌+◌, ◌*◌, List, [], ◌∷◌, Result, Ok, Err, Bool, true, false, length, nat_le, arith, refl, replicate, subst}
 use Rattle.std.specs.Prelude.{if◌then◌else◌, Any}
 use Rattle.std.specs.List.{AllByRecursion}
-use Rattle.hunk_text.specs.TextReader.Refusal.{Refusal, refusal}
-use Rattle.hunk_text.specs.TextReader.Steps.{◌>>=◌}
-use Rattle.hunk_text.proofs.Shown.TextReader.StepLemmas.{bind-err}
+use Rattle.module_text.specs.TextReader.Refusal.{Refusal, refusal}
+use Rattle.module_text.specs.TextReader.Steps.{◌>>=◌}
+use Rattle.module_text.proofs.TextReader.StepLemmas.{bind-err}
 use Rattle.session_text.specs.declared.sessions.Session.{Session}
 use Rattle.session_text.specs.declared.sessions.SessionLine.{SessionLine}
 use Rattle.bare_machine.specs.Boot.{boot as bare_boot, code_of, first_state, program, with_bytes, with_lines as with_code}
 use Rattle.bare_machine.specs.State.{BareState}
-use Rattle.history_law.specs.KernelCalls.KernelModel.Kernel.{Kernel}
-use Rattle.history_law.specs.KernelCalls.KernelModel.Standing.{Standing, standing}
-use Rattle.history_law.specs.KernelCalls.KernelModel.Image.{image}
-use Rattle.history_law.specs.KernelBoot.BootFiles.{at_line, boot_refusal, load_files, load_form}
-use Rattle.history_law.specs.KernelBoot.BootTasks.{start_form, start_tasks}
-use Rattle.history_law.specs.KernelBoot.declared.refusals.BootRefusal.{BootRefusal}
-use Rattle.history_law.specs.KernelSteps.ResidentSteps.{with_disc}
-use Rattle.history_law.specs.KernelSteps.Stepped.{Stepped}
-use Rattle.history_law.specs.MachineBoot.Boot.{boot, first_kernel, started, with_files, with_lines, with_standing, with_tasks}
+use Rattle.kernel_model.specs.KernelRecord.Kernel.{Kernel}
+use Rattle.kernel_model.specs.KernelRecord.Standing.{Standing, standing}
+use Rattle.kernel_model.specs.KernelRecord.Image.{image}
+use Rattle.kernel_boot.specs.BootFiles.{at_line, boot_refusal, load_files, load_form}
+use Rattle.kernel_boot.specs.BootTasks.{start_form, start_tasks}
+use Rattle.kernel_boot.specs.declared.refusals.BootRefusal.{BootRefusal}
+use Rattle.kernel_machine.specs.KernelSteps.ResidentSteps.{with_disc}
+use Rattle.kernel_machine.specs.KernelSteps.Stepped.{Stepped}
+use Rattle.kernel_machine.specs.MachineBoot.Boot.{boot, first_kernel, started, with_files, with_lines, with_standing, with_tasks}
 use Rattle.tripos_machine.specs.Boot.{bare_booted, boot as machine_boot, kernel_booted}
 
 module _ (P : ℕ → Type 0) where

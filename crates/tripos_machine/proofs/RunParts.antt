@@ -2,16 +2,16 @@
 use Rattle.std.proofs.Common.{◌≡◌, ◌≢◌, ℕ, ◌+◌, ◌-◌, ◌<◌, ◌≤◌, ◌++◌, Bool, Option, Some, None, List, inl, inr, refl, sym, ap, ◌∙◌, subst, arith}
 use Rattle.std.specs.Prelude.{unwrap_or}
 use Rattle.std.proofs.lemmas.List.{append-nil}
-use Rattle.tp_io.specs.Faults.{Rose}
-use Rattle.tp_io.specs.Pending.{IsCut, IsGathered}
-use Rattle.tp_io.proofs.AppendedTexts.{AppendsPrefix-whole}
-use Rattle.tp_io.proofs.GatheredTexts.{IsCut-more, IsCut-then, IsGathered-nothing, IsGathered-then}
-use Rattle.tp_io.specs.Write.{AppendsPrefix}
-use Rattle.history_law.specs.KernelCalls.PacketQueue.declared.events.KernelEvent.{KernelEvent}
-use Rattle.history_law.specs.KernelCalls.KernelModel.NotedEvents.{NotesAll}
-use Rattle.history_law.proofs.Shown.KernelCalls.KernelModel.NotedInTurn.{notes-none, notes-then}
-use Rattle.history_law.specs.KernelCalls.KernelModel.declared.stops.Stop.{Stop}
-use Rattle.history_law.specs.KernelCalls.KernelModel.declared.stops.Stop.TheVariants.{Steps}
+use Rattle.byte_streams.specs.Faults.{Rose}
+use Rattle.byte_streams.specs.Pending.{IsCut, IsGathered}
+use Rattle.byte_streams.proofs.AppendedTexts.{AppendsPrefix-whole}
+use Rattle.byte_streams.proofs.GatheredTexts.{IsCut-more, IsCut-then, IsGathered-nothing, IsGathered-then}
+use Rattle.byte_streams.specs.Write.{AppendsPrefix}
+use Rattle.kernel_lists.specs.declared.packet_queue.events.KernelEvent.{KernelEvent}
+use Rattle.kernel_model.specs.KernelRecord.NotedEvents.{NotesAll}
+use Rattle.kernel_model.proofs.KernelRecord.NotedInTurn.{notes-none, notes-then}
+use Rattle.kernel_model.specs.declared.kernel_record.stops.Stop.{Stop}
+use Rattle.kernel_model.specs.declared.kernel_record.stops.Stop.TheVariants.{Steps}
 use Rattle.tripos_machine.specs.Runs.{HasRun, LeavesOutput, end_of_run}
 use Rattle.tripos_machine.specs.State.{State, stop_of}
 use Rattle.tripos_machine.specs.Step.{Stepped, and_then, quietly, run}

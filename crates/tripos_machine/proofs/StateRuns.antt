@@ -5,9 +5,9 @@ use Rattle.bare_machine.specs.Run.{run as bare_run}
 use Rattle.bare_machine.specs.State.{BareState}
 use Rattle.bare_machine.specs.Step.{step as bare_step}
 use Rattle.bare_machine.proofs.Runs.{run-counts as bare-run-counts, run-later as bare-run-later, run-steps as bare-run-steps, run-stopped as bare-run-stopped}
-use Rattle.history_law.specs.KernelCalls.KernelModel.Kernel.{Kernel}
-use Rattle.history_law.specs.KernelSteps.Step.{run as kernel_run, step as kernel_step}
-use Rattle.history_law.proofs.Shown.KernelSteps.Runs.{run-counts as kernel-run-counts, run-later as kernel-run-later, run-steps as kernel-run-steps, run-stopped as kernel-run-stopped}
+use Rattle.kernel_model.specs.KernelRecord.Kernel.{Kernel}
+use Rattle.kernel_machine.specs.KernelSteps.Step.{run as kernel_run, step as kernel_step}
+use Rattle.kernel_machine.proofs.KernelSteps.Runs.{run-counts as kernel-run-counts, run-later as kernel-run-later, run-steps as kernel-run-steps, run-stopped as kernel-run-stopped}
 use Rattle.tripos_machine.specs.State.{State, steps_of, stop_of}
 use Rattle.tripos_machine.specs.State.State.{Bare, Full}
 use Rattle.tripos_machine.specs.Step.{Stepped, and_then, of_bare, of_kernel, quietly, run, step}

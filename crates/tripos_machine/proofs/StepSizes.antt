@@ -3,11 +3,11 @@ use Rattle.std.proofs.Common.{◌≡◌, ◌+◌, None, length, sym, ◌∙◌}
 use Rattle.std.proofs.lemmas.List.FromFn.{length-map-range_with_len}
 use Rattle.bare_machine.proofs.Runs.{step-counts as bare-counts}
 use Rattle.bare_machine.proofs.WordCounts.{step-count as bare-size}
-use Rattle.history_law.specs.KernelCalls.KernelModel.Image.{image, word_of}
-use Rattle.history_law.specs.KernelCalls.KernelModel.Kernel.{Kernel}
-use Rattle.history_law.specs.KernelSteps.Step.{step as kernel_step}
-use Rattle.history_law.proofs.Shown.KernelSteps.NumbersKept.{step-size as kernel-size}
-use Rattle.history_law.proofs.Shown.KernelSteps.Runs.{step-counts as kernel-counts}
+use Rattle.kernel_model.specs.KernelRecord.Image.{image, word_of}
+use Rattle.kernel_model.specs.KernelRecord.Kernel.{Kernel}
+use Rattle.kernel_machine.specs.KernelSteps.Step.{step as kernel_step}
+use Rattle.kernel_machine.proofs.KernelSteps.NumbersKept.{step-size as kernel-size}
+use Rattle.kernel_machine.proofs.KernelSteps.Runs.{step-counts as kernel-counts}
 use Rattle.tripos_machine.specs.State.{IsSound, State, steps_of, stop_of, words_of}
 use Rattle.tripos_machine.specs.State.State.{Bare, Full}
 use Rattle.tripos_machine.specs.Step.{step}

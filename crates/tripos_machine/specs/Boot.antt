@@ -1,14 +1,14 @@
 -- What a session puts into its machine before the first step.
 use Rattle.std.specs.Prelude.{◌≡◌, if◌then◌else◌, Result, Ok, Err}
-use Rattle.hunk_text.specs.TextReader.Refusal.{Refusal, refusal}
+use Rattle.module_text.specs.TextReader.Refusal.{Refusal, refusal}
 use Rattle.session_text.specs.declared.sessions.Session.{Session}
 use Rattle.bare_machine.specs.Boot.{boot as bare_boot}
 use Rattle.bare_machine.specs.State.{BareState}
 use Rattle.bare_machine.specs.declared.boot.BootEnd.{BootEnd}
 use Rattle.bare_machine.specs.declared.boot.BootEnd.TheVariants.{Line, WantMemory}
-use Rattle.history_law.specs.MachineBoot.Boot.{boot as kernel_boot}
-use Rattle.history_law.specs.KernelBoot.declared.refusals.BootRefusal.{BootRefusal}
-use Rattle.history_law.specs.KernelSteps.Stepped.{Stepped as KernelStepped}
+use Rattle.kernel_machine.specs.MachineBoot.Boot.{boot as kernel_boot}
+use Rattle.kernel_boot.specs.declared.refusals.BootRefusal.{BootRefusal}
+use Rattle.kernel_machine.specs.KernelSteps.Stepped.{Stepped as KernelStepped}
 use Rattle.tripos_machine.specs.State.State.{Bare}
 use Rattle.tripos_machine.specs.Step.{Stepped, of_kernel, quietly}
 

@@ -1,12 +1,12 @@
 -- Steps up to a breakpoint, and steps that tell where they wrote.
 use Rattle.std.specs.Prelude.{◌≡◌, ℕ, ◌<◌, Bool, false, List, ◌∷◌, None}
-use Rattle.bare_machine.specs.CintExec.Places.{DifferAt, addresses}
-use Rattle.bare_machine.specs.CintExec.declared.places.Places.{Places}
+use Rattle.instruction_set.specs.Places.{DifferAt, addresses}
+use Rattle.instruction_set.specs.declared.places.Places.{Places}
 use Rattle.bare_machine.specs.Run.{IsPlain as IsBarePlain, is_met as bare_is_met}
-use Rattle.history_law.specs.KernelCalls.TaskBlock.RootWords.{root_address}
-use Rattle.history_law.specs.KernelCalls.TaskBlock.declared.roots.RootField.TheVariants.{Tick}
-use Rattle.history_law.specs.KernelMachine.PlainSteps.{IsPlain as IsKernelPlain}
-use Rattle.history_law.specs.KernelMachine.Runs.{is_met as kernel_is_met}
+use Rattle.kernel_lists.specs.TaskBlock.RootWords.{root_address}
+use Rattle.kernel_lists.specs.declared.task_block.roots.RootField.TheVariants.{Tick}
+use Rattle.kernel_machine.specs.RunningMachine.PlainSteps.{IsPlain as IsKernelPlain}
+use Rattle.kernel_machine.specs.RunningMachine.Runs.{is_met as kernel_is_met}
 use Rattle.tripos_machine.specs.State.{State, stop_of, words_of}
 use Rattle.tripos_machine.specs.State.State.{Bare, Full}
 use Rattle.tripos_machine.specs.Step.{quietly, run, step}

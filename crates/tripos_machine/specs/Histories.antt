@@ -1,8 +1,8 @@
 -- What the events of a machine say of its packets.
 use Rattle.std.specs.Prelude.{◌≡◌, ℕ, List, []}
-use Rattle.history_law.specs.Booted.{BootHistory}
-use Rattle.history_law.specs.KernelCalls.PacketQueue.declared.events.KernelEvent.{KernelEvent}
-use Rattle.history_law.specs.HistoryLaw.{HistoryLaw}
+use Rattle.tripos_machine.specs.PacketHistory.Booted.{BootHistory}
+use Rattle.kernel_lists.specs.declared.packet_queue.events.KernelEvent.{KernelEvent}
+use Rattle.tripos_machine.specs.PacketHistory.HistoryLaw.{HistoryLaw}
 use Rattle.tripos_machine.specs.State.{State}
 use Rattle.tripos_machine.specs.State.State.{Bare, Full}
 use Rattle.tripos_machine.specs.Step.{Stepped}

@@ -1,3 +1,5 @@
+pub mod EventHistory
+pub mod PacketHistory
 pub mod State
 pub mod Step
 pub mod Boot
@@ -6,10 +8,3 @@ pub mod Runs
 pub mod Breakpoints
 pub mod Quiet
 pub mod Histories
--- shown to the crates above
-pub use Rattle.bare_machine.specs as BareMachine
-pub use Rattle.bare_machine.specs.CintExec
-pub use Rattle.history_law.specs.KernelCalls
-pub use Rattle.history_law.specs.KernelMachine
-pub use Rattle.history_law.specs.KernelSteps
-pub use Rattle.history_law.specs.ShellListings

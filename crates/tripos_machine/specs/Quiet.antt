@@ -1,6 +1,6 @@
 -- Steps of which nobody outside the machine sees anything.
 use Rattle.std.specs.Prelude.{◌≡◌, ℕ, None}
-use Rattle.history_law.specs.KernelMachine.Runs.{IsIdle as IsKernelIdle}
+use Rattle.kernel_machine.specs.RunningMachine.Runs.{IsIdle as IsKernelIdle}
 use Rattle.tripos_machine.specs.State.{State, stop_of}
 use Rattle.tripos_machine.specs.State.State.{Bare, Full}
 use Rattle.tripos_machine.specs.Step.{quietly, run}

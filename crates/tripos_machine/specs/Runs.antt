@@ -1,10 +1,10 @@
 -- How a run ends.
 use Rattle.std.specs.Prelude.{◌≡◌, ◌<◌, ◌≤◌, ◌+◌, ◌-◌, ◌⊎◌, ℕ, Bool, true, false, Option, Some, None, List, Result, Ok, Err}
-use Rattle.tp_io.specs.Faults.{Rose}
-use Rattle.history_law.specs.KernelCalls.KernelModel.declared.stops.Stop.{Stop}
-use Rattle.history_law.specs.KernelCalls.KernelModel.declared.stops.Stop.TheVariants.{Steps}
-use Rattle.history_law.specs.KernelCalls.KernelModel.NotedEvents.{NotesAll}
-use Rattle.history_law.specs.KernelCalls.PacketQueue.declared.events.KernelEvent.{KernelEvent}
+use Rattle.byte_streams.specs.Faults.{Rose}
+use Rattle.kernel_model.specs.declared.kernel_record.stops.Stop.{Stop}
+use Rattle.kernel_model.specs.declared.kernel_record.stops.Stop.TheVariants.{Steps}
+use Rattle.kernel_model.specs.KernelRecord.NotedEvents.{NotesAll}
+use Rattle.kernel_lists.specs.declared.packet_queue.events.KernelEvent.{KernelEvent}
 use Rattle.tripos_machine.specs.State.{State, stop_of}
 use Rattle.tripos_machine.specs.Step.{run}
 

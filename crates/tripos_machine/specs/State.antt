@@ -2,14 +2,14 @@
 use Rattle.std.specs.Prelude.{◌≡◌, ℕ, ◌<◌, ◌≤◌, IsTrue, List, [], Option, length}
 use Rattle.word_store.specs.declared.registers.Regs.{Regs}
 use Rattle.bare_machine.specs.State.{BareState, state_of}
-use Rattle.history_law.specs.KernelCalls.KernelModel.Image.{image}
-use Rattle.history_law.specs.KernelCalls.KernelModel.Kernel.{Kernel}
-use Rattle.history_law.specs.KernelCalls.KernelModel.Ranges.{is_store_size, most_steps}
-use Rattle.history_law.specs.KernelCalls.KernelModel.ValidKernel.{IsValid}
-use Rattle.history_law.specs.KernelCalls.KernelModel.declared.stops.Stop.{Stop}
-use Rattle.history_law.specs.KernelMachine.Machine.{with_byte_typed}
-use Rattle.history_law.specs.KernelMachine.Stands.{Stands}
-use Rattle.history_law.specs.KernelMachine.declared.parts.Parts.{Parts as FullParts}
+use Rattle.kernel_model.specs.KernelRecord.Image.{image}
+use Rattle.kernel_model.specs.KernelRecord.Kernel.{Kernel}
+use Rattle.kernel_model.specs.KernelRecord.Ranges.{is_store_size, most_steps}
+use Rattle.kernel_model.specs.KernelRecord.ValidKernel.{IsValid}
+use Rattle.kernel_model.specs.declared.kernel_record.stops.Stop.{Stop}
+use Rattle.kernel_machine.specs.RunningMachine.Machine.{with_byte_typed}
+use Rattle.kernel_machine.specs.RunningMachine.Stands.{Stands}
+use Rattle.kernel_machine.specs.declared.running_machine.parts.Parts.{Parts as FullParts}
 use Rattle.tripos_machine.specs.declared.parts.Parts.{Parts}
 use Rattle.tripos_machine.specs.declared.parts.Parts.TheVariants.{Bare as BareMachine, Full as FullMachine}
 

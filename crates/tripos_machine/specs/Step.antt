@@ -1,9 +1,9 @@
 -- A step of a machine of either kind, and a run.
 use Rattle.std.specs.Prelude.{ℕ, zero, suc, List, [], ◌++◌}
 use Rattle.bare_machine.specs.Step.{BareStepped, step as bare_step}
-use Rattle.history_law.specs.KernelCalls.PacketQueue.declared.events.KernelEvent.{KernelEvent}
-use Rattle.history_law.specs.KernelSteps.Step.{boot_events as kernel_boot_events, step as kernel_step}
-use Rattle.history_law.specs.KernelSteps.Stepped.{Stepped as KernelStepped}
+use Rattle.kernel_lists.specs.declared.packet_queue.events.KernelEvent.{KernelEvent}
+use Rattle.kernel_machine.specs.KernelSteps.Step.{boot_events as kernel_boot_events, step as kernel_step}
+use Rattle.kernel_machine.specs.KernelSteps.Stepped.{Stepped as KernelStepped}
 use Rattle.tripos_machine.specs.State.{State}
 use Rattle.tripos_machine.specs.State.State.{Bare, Full}
 

@@ -1,7 +1,7 @@
 // The two kinds of machines.
 
 use bare_machine::Bare;
-use history_law::Machine as FullMachine;
+use kernel_machine::Machine as FullMachine;
 
 /// A machine without a kernel, or one with a kernel.
 #[derive(Drop)]

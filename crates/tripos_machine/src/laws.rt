@@ -1,13 +1,13 @@
 // Laws of runs.
 ghost use Rattle.std.specs.Prelude.{◌≡◌, ◌≢◌, ◌+◌, ◌≤◌, Any, Err, None, Ok, length, ℕ};
-ghost use Rattle.hunk_text.specs.TextReader.Refusal.{Refusal};
+ghost use Rattle.module_text.specs.TextReader.Refusal.{Refusal};
 ghost use Rattle.session_text.specs.Canonical.{IsLawful};
 ghost use Rattle.session_text.specs.declared.sessions.Session.{Session};
 ghost use Rattle.bare_machine.specs.Run.{run as bare_run};
 ghost use Rattle.bare_machine.specs.State.{BareState};
-ghost use Rattle.history_law.specs.KernelCalls.KernelModel.Kernel.{Kernel};
-ghost use Rattle.history_law.specs.KernelCalls.KernelModel.Ranges.{most_steps};
-ghost use Rattle.history_law.specs.KernelSteps.Step.{run as kernel_run};
+ghost use Rattle.kernel_model.specs.KernelRecord.Kernel.{Kernel};
+ghost use Rattle.kernel_model.specs.KernelRecord.Ranges.{most_steps};
+ghost use Rattle.kernel_machine.specs.KernelSteps.Step.{run as kernel_run};
 ghost use Rattle.tripos_machine.specs.Boot.{boot};
 ghost use Rattle.tripos_machine.specs.Histories.{HasBootHistory, HasHistory};
 ghost use Rattle.tripos_machine.specs.State.{IsSound, State, steps_of, stop_of, words_of};

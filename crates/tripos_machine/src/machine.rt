@@ -1,7 +1,7 @@
 // A machine of either kind.
 ghost use Rattle.std.specs.Prelude.{◌≡◌, ◌<◌, ◌+◌, ◌-◌, ◌≤◌, [], None, MatchOption, ℕ};
-ghost use Rattle.history_law.specs.KernelCalls.KernelModel.NotedEvents.{NotesAll};
-ghost use Rattle.history_law.specs.KernelCalls.KernelModel.Ranges.{most_steps};
+ghost use Rattle.kernel_model.specs.KernelRecord.NotedEvents.{NotesAll};
+ghost use Rattle.kernel_model.specs.KernelRecord.Ranges.{most_steps};
 ghost use Rattle.tripos_machine.specs.Breakpoints.{Avoids, IsPlain, IsPlainStep};
 ghost use Rattle.tripos_machine.specs.Histories.{HasHistory};
 ghost use Rattle.tripos_machine.specs.Quiet.{AreQuiet, IsIdle};
@@ -10,8 +10,11 @@ ghost use Rattle.tripos_machine.specs.Step.{boot_events, run, step};
 
 use crate::Parts;
 use crate::kinds::Kind;
-use bare_machine::{Bare, Places};
-use history_law::{EventLog, Machine as FullMachine, Parts as FullParts, Stop};
+use bare_machine::Bare;
+use instruction_set::Places;
+use kernel_lists::EventLog;
+use kernel_machine::{Machine as FullMachine, Parts as FullParts};
+use kernel_model::Stop;
 use std::marker::Model;
 use word_store::{Regs, Store};
 

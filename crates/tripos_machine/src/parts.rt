@@ -1,7 +1,7 @@
 // What a machine consists of.
 
 use bare_machine::BareParts;
-use history_law::Parts as FullParts;
+use kernel_machine::Parts as FullParts;
 
 /// What a machine of either kind consists of, at one moment. Whether it has stopped is no part of it.
 #[derive(Drop)]

@@ -1,15 +1,16 @@
 // Runs of a machine of either kind.
 ghost use Rattle.std.specs.Prelude.{◌≡◌, ◌+◌, ◌≤◌, false, ℕ};
-ghost use Rattle.history_law.specs.KernelCalls.KernelModel.Ranges.{most_steps};
-ghost use Rattle.tp_io.specs.Pending.{Gathers};
+ghost use Rattle.kernel_model.specs.KernelRecord.Ranges.{most_steps};
+ghost use Rattle.byte_streams.specs.Pending.{Gathers};
 ghost use Rattle.tripos_machine.specs.Histories.{HasHistory};
 ghost use Rattle.tripos_machine.specs.Runs.{EndsRun, LeavesOutput};
 ghost use Rattle.tripos_machine.specs.State.{steps_of};
 ghost use Rattle.tripos_machine.specs.Step.{run};
 
 use crate::Machine;
-use history_law::{EventLog, NoLog, Stop};
-use tp_io::{NoSink, Output, Sink, SinkFault, gather};
+use byte_streams::{NoSink, Output, Sink, SinkFault, gather};
+use kernel_lists::{EventLog, NoLog};
+use kernel_model::Stop;
 
 impl Machine {
     /// Takes at most n steps, whose console bytes are gathered, and whose events are noted. The answer is why the machine has

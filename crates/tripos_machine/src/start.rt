@@ -3,10 +3,11 @@ ghost use Rattle.session_text.specs.Canonical.{IsLawful};
 ghost use Rattle.tripos_machine.specs.Boot.{boot};
 ghost use Rattle.tripos_machine.specs.Machine.{BootsAs};
 
+use crate::Machine;
 use crate::kinds::Kind;
-use crate::{BootEnd, Machine};
-use bare_machine::boot::boot as boot_bare;
-use history_law::{Machine as FullMachine, boot as boot_kernel};
+use bare_machine::boot::{BootEnd, boot as boot_bare};
+use kernel_machine::Machine as FullMachine;
+use kernel_machine::machine_boot::boot as boot_kernel;
 use session_text::Session;
 use std::alloc::Global;
 

@@ -1,7 +1,7 @@
 -- The lists of a machine's store can be walked.
-use Rattle.kernel_dispatch.specs.KernelModel.KernelRanges.{CanWalkLists}
-use Rattle.kernel_dispatch.proofs.Shown.KernelModel.WalkedLists.{can-walk}
-use Rattle.tripos_machine.specs.KernelMachine.declared.parts.Parts.{Parts}
+use Rattle.kernel_model.specs.KernelRecord.KernelRanges.{CanWalkLists}
+use Rattle.kernel_model.proofs.KernelRecord.WalkedLists.{can-walk}
+use Rattle.kernel_machine.specs.declared.running_machine.parts.Parts.{Parts}
 use Rattle.tripos_machine.specs.State.{IsSound, StandsFull, State}
 use Rattle.tripos_machine.specs.State.State.{Bare, Full}
 

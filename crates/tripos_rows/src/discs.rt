@@ -1,7 +1,7 @@
 // What no run shows of a disc: a stream that is set up anew, its place, and the byte at a place of a file.
 use crate::same::same;
 use arrayvec::ArrayVec;
-use hunk_text::TextBytes;
+use module_text::TextBytes;
 use ram_disc::{Disc, Name};
 use std::process::Abort;
 use std::test::Fail;

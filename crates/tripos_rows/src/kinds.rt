@@ -1,7 +1,7 @@
 // The quick answer to which words are the kernel's, tried against a walk over its lists.
 
 use crate::same::same;
-use kernel_dispatch::{Walk, packet_in};
+use kernel_model::{Walk, packet_in};
 use session_text::read_session;
 use std::process::Abort;
 use std::test::Fail;

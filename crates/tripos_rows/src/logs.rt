@@ -1,8 +1,9 @@
 // Logs of events: the lines that are printed, and the events that are kept.
 use crate::same::same;
+use byte_streams::{MemorySink, SinkFault};
+use kernel_lists::{EventLog, KernelEvent, ListLog, SinkLog};
+use program_answers::trace_log::print_events;
 use std::test::Fail;
-use tp_io::{MemorySink, SinkFault};
-use tripos_run::{EventLog, KernelEvent, ListLog, SinkLog, print_events};
 
 #[test]
 fn a_line_for_each_event(rt: HostRuntime) -> Result<(), Fail> {

@@ -1,8 +1,8 @@
 // What no command shows: a module printed, its shape, and its words one by one.
 use crate::same::same;
-use hunk_text::{NextWord, Shape, SliceText, check_module, next_word, print_module, read_module};
+use byte_streams::MemorySink;
+use module_text::{NextWord, Shape, SliceText, check_module, next_word, print_module, read_module};
 use std::test::Fail;
-use tp_io::MemorySink;
 
 const EXAMPLE: &[u8] = b"000003e8 00000007\n\
 00000007 03a01360 0000007b 00000000 00000001 00000004 00000001\n000003ea\n";

@@ -1,8 +1,8 @@
 // What no run shows of pipes: one set up anew, and the byte at a place.
 use crate::same::same;
 use ram_disc::Name;
+use resident_tasks::Pipes;
 use std::test::Fail;
-use tripos_run::Pipes;
 
 #[test]
 fn sets_up_pipes(rt: HostRuntime) -> Result<(), Fail> {

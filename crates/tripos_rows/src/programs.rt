@@ -1,9 +1,10 @@
 // The program's answers where a source or a sink fails.
 use crate::same::same;
+use byte_streams::{MemorySink, MemorySource};
+use program_answers::Status;
 use std::process::Abort;
 use std::test::Fail;
-use tp_io::{MemorySink, MemorySource};
-use tripos_run::{Status, generate, tripos};
+use tripos_run::{generate, tripos};
 
 const LETTER: &[u8] = b"TRIPOS 1\nSTORE 1024\nBARE\n:6013a0036041a004916000a003a00491\nGO 100\n";
 

@@ -1,6 +1,6 @@
 // Numbers of any length.
 use crate::same::same;
-use hunk_text::any_number;
+use module_text::any_number;
 
 #[test]
 fn caps_long_numbers(rt: HostRuntime) {

@@ -1,8 +1,8 @@
 // What no command shows of a session: its text printed, and the front of a text.
 use crate::same::same;
+use byte_streams::MemorySink;
 use session_text::{print_session, read_front, read_session};
 use std::test::Fail;
-use tp_io::MemorySink;
 
 #[test]
 fn reads_and_prints(rt: HostRuntime) -> Result<(), Fail> {

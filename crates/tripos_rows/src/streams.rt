@@ -1,12 +1,12 @@
 // Reading and writing in memory, and over std's readers and writers.
 use crate::same::same;
-use std::io;
-use std::io::{ErrorKind, Read, Write};
-use std::test::Fail;
-use tp_io::{
+use byte_streams::{
     MemorySink, MemorySource, Piece, ReadEnd, ReadStep, Sink, SinkFault, Source, StdSink,
     StdSource, WriteStep, read_all, write_pieces,
 };
+use std::io;
+use std::io::{ErrorKind, Read, Write};
+use std::test::Fail;
 
 #[test]
 fn reads_up_to_a_limit(rt: HostRuntime) -> Result<(), Fail> {

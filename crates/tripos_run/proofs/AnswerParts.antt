@@ -1,14 +1,14 @@
 -- Answers, from what was read, run and written.
 use Rattle.std.proofs.Common.{◌≡◌, ◌∙◌, ℕ, Option, None, Result, Ok, Err, List, [], ◌++◌, length, refl, sym, ap, subst}
 use Rattle.std.specs.Io.KnownBytes.{Appends}
-use Rattle.tp_io.specs.Write.{AppendsPrefix, Prints}
-use Rattle.tp_io.specs.Pending.{IsGathered}
-use Rattle.tp_io.proofs.AppendedTexts.{AppendsPrefix-more}
-use Rattle.tp_io.proofs.GatheredTexts.{Prints-after}
+use Rattle.byte_streams.specs.Write.{AppendsPrefix, Prints}
+use Rattle.byte_streams.specs.Pending.{IsGathered}
+use Rattle.byte_streams.proofs.AppendedTexts.{AppendsPrefix-more}
+use Rattle.byte_streams.proofs.GatheredTexts.{Prints-after}
 use Rattle.session_text.specs.SessionOfText.{session_of}
-use Rattle.session_generator.specs.Generated.{generated}
-use Rattle.cint_debug.specs.TriposMachine.KernelCalls.KernelModel.declared.stops.Stop.{Stop}
-use Rattle.cint_debug.specs.TriposMachine.KernelCalls.KernelModel.declared.stops.Stop.TheVariants.{Steps, Quit, Finish, Fault}
+use Rattle.tripos_run.specs.SessionGenerator.Generated.{generated}
+use Rattle.kernel_model.specs.declared.kernel_record.stops.Stop.{Stop}
+use Rattle.kernel_model.specs.declared.kernel_record.stops.Stop.TheVariants.{Steps, Quit, Finish, Fault}
 use Rattle.program_answers.specs.Answer.{Answer, Answers}
 use Rattle.program_answers.specs.Answered.{Answered}
 use Rattle.program_answers.specs.Input.{IsInput}

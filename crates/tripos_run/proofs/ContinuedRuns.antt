@@ -1,33 +1,33 @@
 -- A machine that is saved goes on as it would have.
 use Rattle.std.proofs.Common.{◌≡◌, ℕ, ◌+◌, ◌-◌, ◌<◌, ◌^◌, Option, None, Some, Ok, Err, Result, List, [], ◌++◌, append-nil, arith, get_or, inl, length, refl, subst, sym, ap, leb-true, ◌∙◌}
 use Rattle.std.specs.Prelude.{IsTrue}
-use Rattle.hunk_text.specs.TextReader.Lines.{lines_of}
-use Rattle.hunk_text.specs.TextReader.Refusal.{Refusal}
+use Rattle.module_text.specs.TextReader.Lines.{lines_of}
+use Rattle.module_text.specs.TextReader.Refusal.{Refusal}
 use Rattle.session_text.specs.Canonical.{IsLawful as IsLawfulSession}
 use Rattle.session_text.specs.Ranges.{is_step}
 use Rattle.session_text.specs.SessionOfText.{session_of}
 use Rattle.session_text.specs.declared.sessions.Session.{Session}
 use Rattle.session_text.proofs.Lawful.{session_is_lawful}
 use Rattle.session_text.proofs.Sound.{sound}
-use Rattle.cint_debug.specs.TriposMachine.Boot.{boot}
-use Rattle.cint_debug.specs.TriposMachine.KernelCalls.KernelModel.Ranges.{is_store_size, most_steps}
-use Rattle.cint_debug.specs.TriposMachine.KernelCalls.KernelModel.declared.stops.Stop.{Stop}
-use Rattle.cint_debug.specs.TriposMachine.KernelCalls.KernelModel.declared.stops.Stop.TheVariants.{Steps, Quit, Finish, Fault}
-use Rattle.cint_debug.specs.TriposMachine.Runs.{end_of_run}
-use Rattle.cint_debug.specs.TriposMachine.State.{IsSound, State, steps_of, stop_of}
-use Rattle.cint_debug.specs.TriposMachine.State.State.{Bare, Full}
-use Rattle.cint_debug.specs.TriposMachine.Step.{Stepped, run}
-use Rattle.cint_debug.proofs.Shown.TriposMachine.BootedStates.{HasWords, IsFirst, boot-alike, booted-first, words-after}
-use Rattle.cint_debug.proofs.Shown.TriposMachine.StateRuns.{run-counts, run-later, run-more}
-use Rattle.image_print.specs.ImageText.Canonical.{IsLawful, canonical, with_steps}
-use Rattle.image_print.specs.ImageText.ImageOfText.{image_of}
-use Rattle.image_print.specs.ImageText.declared.images.Image.{Image}
-use Rattle.image_print.specs.Numbers.{HasNumbers, IsSized, MayTake}
-use Rattle.image_print.specs.SavedImage.{saved_image}
-use Rattle.image_print.proofs.LawfulImages.{saved_lawful}
-use Rattle.image_print.proofs.ResumedMachines.{resumed}
-use Rattle.image_print.proofs.Shown.PrintedText.{printed}
-use Rattle.image_print.proofs.Shown.StepsInTexts.{with-steps}
+use Rattle.tripos_machine.specs.Boot.{boot}
+use Rattle.kernel_model.specs.KernelRecord.Ranges.{is_store_size, most_steps}
+use Rattle.kernel_model.specs.declared.kernel_record.stops.Stop.{Stop}
+use Rattle.kernel_model.specs.declared.kernel_record.stops.Stop.TheVariants.{Steps, Quit, Finish, Fault}
+use Rattle.tripos_machine.specs.Runs.{end_of_run}
+use Rattle.tripos_machine.specs.State.{IsSound, State, steps_of, stop_of}
+use Rattle.tripos_machine.specs.State.State.{Bare, Full}
+use Rattle.tripos_machine.specs.Step.{Stepped, run}
+use Rattle.tripos_machine.proofs.BootedStates.{HasWords, IsFirst, boot-alike, booted-first, words-after}
+use Rattle.tripos_machine.proofs.StateRuns.{run-counts, run-later, run-more}
+use Rattle.saved_text.specs.Canonical.{IsLawful, canonical, with_steps}
+use Rattle.saved_text.specs.ImageOfText.{image_of}
+use Rattle.saved_text.specs.declared.images.Image.{Image}
+use Rattle.saved_machine.specs.ImagePrint.Numbers.{HasNumbers, IsSized, MayTake}
+use Rattle.saved_machine.specs.ImagePrint.SavedImage.{saved_image}
+use Rattle.saved_machine.proofs.ImagePrint.LawfulImages.{saved_lawful}
+use Rattle.saved_machine.proofs.ImagePrint.ResumedMachines.{resumed}
+use Rattle.saved_text.proofs.PrintedText.{printed}
+use Rattle.saved_text.proofs.StepsInTexts.{with-steps}
 use Rattle.program_answers.specs.Answer.{Answer, no_boot_answer}
 use Rattle.program_answers.specs.declared.status.Status.{Status}
 use Rattle.program_answers.specs.declared.status.Status.TheVariants.{Done}

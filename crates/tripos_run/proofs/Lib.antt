@@ -1,3 +1,4 @@
+pub mod SessionGenerator
 pub mod DumpLines
 pub mod AnswerParts
 pub mod FrontPlace

@@ -1,13 +1,13 @@
 -- The events of a run, from those that a log was given.
 use Rattle.std.proofs.Common.{◌≡◌, ◌∙◌, ℕ, ◌+◌, ◌-◌, ◌≤◌, Bool, true, Option, Result, Ok, Err, List, [], ◌++◌, inl, inr, sym, ap, subst, append_assoc, arith}
 use Rattle.std.specs.Bool.{OnFalse}
-use Rattle.cint_debug.specs.TriposMachine.KernelCalls.KernelModel.declared.stops.Stop.{Stop}
-use Rattle.cint_debug.specs.TriposMachine.KernelCalls.PacketQueue.declared.events.KernelEvent.{KernelEvent}
-use Rattle.cint_debug.specs.TriposMachine.State.{State}
-use Rattle.cint_debug.specs.TriposMachine.KernelCalls.KernelModel.NotedEvents.{NotesAll}
-use Rattle.cint_debug.specs.TriposMachine.Step.{Stepped, run}
-use Rattle.cint_debug.proofs.Shown.TriposMachine.StateRuns.{run-more}
-use Rattle.cint_debug.specs.TriposMachine.Runs.{EndsRun, HasCause}
+use Rattle.kernel_model.specs.declared.kernel_record.stops.Stop.{Stop}
+use Rattle.kernel_lists.specs.declared.packet_queue.events.KernelEvent.{KernelEvent}
+use Rattle.tripos_machine.specs.State.{State}
+use Rattle.kernel_model.specs.KernelRecord.NotedEvents.{NotesAll}
+use Rattle.tripos_machine.specs.Step.{Stepped, run}
+use Rattle.tripos_machine.proofs.StateRuns.{run-more}
+use Rattle.tripos_machine.specs.Runs.{EndsRun, HasCause}
 
 -- the first steps of a run have its first events
 first-events : (i n : ℕ) (k : State) → i ≤ n → (run n k).events ≡ (run i k).events ++ (run (n - i) (run i k).state).events

@@ -1,17 +1,17 @@
 -- Words and an input have at most one answer.
 use Rattle.std.proofs.Common.{◌≡◌, ◌∙◌, ℕ, inl, inr, Bool, true, false, List, length, Option, None, Some, Result, Ok, Err, sym, ap}
 use Rattle.std.specs.Prelude.{nat_le}
-use Rattle.hunk_text.specs.TextReader.Lines.{lines_of}
-use Rattle.hunk_text.specs.TextReader.Refusal.{Refusal}
+use Rattle.module_text.specs.TextReader.Lines.{lines_of}
+use Rattle.module_text.specs.TextReader.Refusal.{Refusal}
 use Rattle.session_text.specs.SessionOfText.{session_of}
 use Rattle.session_text.specs.declared.sessions.Session.{Session}
-use Rattle.cint_debug.specs.TriposMachine.Boot.{boot}
-use Rattle.cint_debug.specs.TriposMachine.KernelCalls.KernelModel.declared.stops.Stop.{Stop}
-use Rattle.cint_debug.specs.TriposMachine.State.{State, stop_of}
-use Rattle.cint_debug.specs.TriposMachine.Step.{Stepped, run}
-use Rattle.image_print.specs.ImageText.ImageOfText.{image_of}
-use Rattle.image_print.specs.ImageText.declared.images.Image.{Image}
-use Rattle.image_print.proofs.Shown.SavedMachines.{which-machine}
+use Rattle.tripos_machine.specs.Boot.{boot}
+use Rattle.kernel_model.specs.declared.kernel_record.stops.Stop.{Stop}
+use Rattle.tripos_machine.specs.State.{State, stop_of}
+use Rattle.tripos_machine.specs.Step.{Stepped, run}
+use Rattle.saved_text.specs.ImageOfText.{image_of}
+use Rattle.saved_text.specs.declared.images.Image.{Image}
+use Rattle.saved_machine.proofs.MachineImage.SavedMachines.{which-machine}
 use Rattle.program_answers.specs.Answer.{Answer}
 use Rattle.program_answers.specs.Input.{IsAnswerWithin, IsInputAnswer, limit}
 use Rattle.tripos_run.specs.InputAnswers.{IsAnswer, IsJobAnswer, IsTextAnswer}

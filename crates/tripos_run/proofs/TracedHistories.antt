@@ -1,18 +1,18 @@
 -- The lines that `trace` writes are those of a history.
 use Rattle.std.proofs.Common.{◌≡◌, ℕ, ◌≤◌, ◌++◌, List, Ok, append-nil, leb-true, ap, ◌∙◌}
-use Rattle.hunk_text.specs.TextReader.Lines.{lines_of as text_lines}
+use Rattle.module_text.specs.TextReader.Lines.{lines_of as text_lines}
 use Rattle.session_text.specs.Canonical.{IsLawful}
 use Rattle.session_text.specs.SessionOfText.{session_of}
 use Rattle.session_text.specs.declared.sessions.Session.{Session}
 use Rattle.session_text.proofs.Lawful.{session_is_lawful}
 use Rattle.session_text.proofs.Sound.{sound}
-use Rattle.cint_debug.specs.TriposMachine.Boot.{boot}
-use Rattle.cint_debug.specs.TriposMachine.KernelCalls.KernelModel.Ranges.{most_steps}
-use Rattle.cint_debug.specs.TriposMachine.Runs.{end_of_run}
-use Rattle.cint_debug.specs.TriposMachine.State.{steps_of, stop_of}
-use Rattle.cint_debug.specs.TriposMachine.Step.{Stepped, run}
-use Rattle.cint_debug.proofs.Shown.TriposMachine.Histories.{has-boot-history}
-use Rattle.trace_log.specs.Traced.{lines_of}
+use Rattle.tripos_machine.specs.Boot.{boot}
+use Rattle.kernel_model.specs.KernelRecord.Ranges.{most_steps}
+use Rattle.tripos_machine.specs.Runs.{end_of_run}
+use Rattle.tripos_machine.specs.State.{steps_of, stop_of}
+use Rattle.tripos_machine.specs.Step.{Stepped, run}
+use Rattle.tripos_machine.proofs.Histories.{has-boot-history}
+use Rattle.program_answers.specs.TraceLog.Traced.{lines_of}
 use Rattle.tripos_run.specs.declared.reports.Report.TheVariants.{Events}
 use Rattle.program_answers.specs.Answer.{Answer}
 use Rattle.tripos_run.specs.Answer.{machine_answer, session_answer}

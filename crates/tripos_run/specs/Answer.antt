@@ -1,24 +1,24 @@
 -- The program's answer to its words and its input: a status, and the bytes that it writes.
 use Rattle.std.specs.Prelude.{ℕ, ◌≡◌, ◌+◌, ◌-◌, drop, List, [], ◌++◌, length, Option, Some, None, Result, Ok, Err, if◌then◌else◌}
-use Rattle.hunk_text.specs.TextReader.Lines.{lines_of as text_lines}
-use Rattle.hunk_text.specs.TextReader.Refusal.{Refusal, refusal}
-use Rattle.hunk_text.specs.declared.modules.Module.{Module}
-use Rattle.listing_law.specs.CintDisasm.HunkListing.{listing_of_module}
+use Rattle.module_text.specs.TextReader.Lines.{lines_of as text_lines}
+use Rattle.module_text.specs.TextReader.Refusal.{Refusal, refusal}
+use Rattle.module_text.specs.declared.modules.Module.{Module}
+use Rattle.assembly.specs.ModuleListing.HunkListing.{listing_of_module}
 use Rattle.session_text.specs.Front.{front_end, front_lines}
 use Rattle.session_text.specs.SessionOfText.{session_lines}
 use Rattle.session_text.specs.declared.sessions.Session.{Session}
-use Rattle.session_generator.specs.Summary.{summary}
-use Rattle.cint_debug.specs.TriposMachine.KernelCalls.KernelModel.declared.stops.Stop.{Stop}
-use Rattle.cint_debug.specs.TriposMachine.KernelCalls.KernelModel.declared.stops.Stop.TheVariants.{Steps, Quit, Finish, Fault}
-use Rattle.cint_debug.specs.TriposMachine.KernelCalls.PacketQueue.declared.events.KernelEvent.{KernelEvent}
-use Rattle.trace_log.specs.Traced.{lines_of}
-use Rattle.cint_debug.specs.TriposMachine.Boot.{boot}
-use Rattle.cint_debug.specs.TriposMachine.Runs.{end_of_run}
-use Rattle.cint_debug.specs.TriposMachine.State.{State, steps_of, stop_of, words_of}
-use Rattle.cint_debug.specs.TriposMachine.Step.{Stepped, quietly, run}
-use Rattle.cint_debug.specs.declared.orders.BadLine.{BadLine}
-use Rattle.cint_debug.specs.Debugged.{Told, debugged}
-use Rattle.cint_debug.specs.OrderLines.{first_bad, goes_back}
+use Rattle.tripos_run.specs.SessionGenerator.Summary.{summary}
+use Rattle.kernel_model.specs.declared.kernel_record.stops.Stop.{Stop}
+use Rattle.kernel_model.specs.declared.kernel_record.stops.Stop.TheVariants.{Steps, Quit, Finish, Fault}
+use Rattle.kernel_lists.specs.declared.packet_queue.events.KernelEvent.{KernelEvent}
+use Rattle.program_answers.specs.TraceLog.Traced.{lines_of}
+use Rattle.tripos_machine.specs.Boot.{boot}
+use Rattle.tripos_machine.specs.Runs.{end_of_run}
+use Rattle.tripos_machine.specs.State.{State, steps_of, stop_of, words_of}
+use Rattle.tripos_machine.specs.Step.{Stepped, quietly, run}
+use Rattle.debugger.specs.declared.orders.BadLine.{BadLine}
+use Rattle.debugger.specs.Debugged.{Told, debugged}
+use Rattle.debugger.specs.OrderLines.{first_bad, goes_back}
 use Rattle.program_answers.specs.Answer.{Answer, no_boot_answer, refused_answer}
 use Rattle.program_answers.specs.declared.status.Status.{Status}
 use Rattle.program_answers.specs.declared.status.Status.TheVariants.{Done, GuestFault}

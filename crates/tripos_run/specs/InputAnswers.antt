@@ -1,9 +1,9 @@
 -- Which answer the program's words and its input get.
 use Rattle.std.specs.Prelude.{ℕ, ◌≡◌, List, length, Option, Some, None}
-use Rattle.hunk_text.specs.ModuleOfText.{module_of}
-use Rattle.listing_law.specs.CintAsm.Assembly.{assembled}
+use Rattle.module_text.specs.ModuleOfText.{module_of}
+use Rattle.assembly.specs.AssemblyText.Assembly.{assembled}
 use Rattle.session_text.specs.SessionOfText.{session_of}
-use Rattle.session_generator.specs.Generated.{generated}
+use Rattle.tripos_run.specs.SessionGenerator.Generated.{generated}
 use Rattle.program_answers.specs.Answer.{Answer}
 use Rattle.program_answers.specs.Input.{IsInputAnswer}
 use Rattle.program_answers.specs.declared.status.Status.TheVariants.{Usage}

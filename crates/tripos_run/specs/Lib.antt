@@ -1,3 +1,4 @@
+pub mod SessionGenerator
 pub mod Texts
 pub mod Words
 pub mod Answer

@@ -1,12 +1,12 @@
 -- What the rounds of a ring write.
 use Rattle.std.specs.Prelude.{List, ℕ, [], ◌∷◌, ◌++◌, codes, decimal, Result, Ok, Err}
-use Rattle.tp_io.specs.Pieces.{joined}
-use Rattle.hunk_text.specs.TextReader.Refusal.{Refusal}
+use Rattle.byte_streams.specs.Pieces.{joined}
+use Rattle.module_text.specs.TextReader.Refusal.{Refusal}
 use Rattle.machine_ring.specs.Boot.{booted_ring}
 use Rattle.machine_ring.specs.Outcomes.{outcome_of}
 use Rattle.machine_ring.specs.Rings.{Ring}
 use Rattle.machine_ring.specs.RingLink.RingOfText.{ring_of}
-use Rattle.machine_ring.specs.RingLink.declared.inputs.RingInput.{RingInput}
+use Rattle.machine_ring.specs.declared.ring_link.inputs.RingInput.{RingInput}
 use Rattle.machine_ring.specs.Rounds.{Rounded}
 use Rattle.machine_ring.specs.Runs.{run}
 use Rattle.machine_ring.specs.declared.outcomes.RingOutcome.{RingOutcome}

@@ -1,18 +1,18 @@
 -- What is written where a machine is saved, and where a saved machine goes on.
 use Rattle.std.specs.Prelude.{ℕ, ◌≡◌, ◌⊎◌, Option, Some, None, List, length, Result, Ok, Err}
-use Rattle.hunk_text.specs.TextReader.Lines.{lines_of}
-use Rattle.hunk_text.specs.TextReader.Refusal.{Refusal, refusal}
+use Rattle.module_text.specs.TextReader.Lines.{lines_of}
+use Rattle.module_text.specs.TextReader.Refusal.{Refusal, refusal}
 use Rattle.session_text.specs.declared.sessions.Session.{Session}
-use Rattle.cint_debug.specs.TriposMachine.Boot.{boot}
-use Rattle.cint_debug.specs.TriposMachine.KernelCalls.KernelModel.declared.stops.Stop.{Stop}
-use Rattle.cint_debug.specs.TriposMachine.State.{IsSound, State, steps_of, stop_of}
-use Rattle.cint_debug.specs.TriposMachine.Step.{Stepped, run}
-use Rattle.image_print.specs.ImageText.Canonical.{canonical}
-use Rattle.image_print.specs.ImageText.ImageOfText.{image_of}
-use Rattle.image_print.specs.ImageText.declared.images.Image.{Image}
-use Rattle.image_print.specs.MachineImage.Machines.{HasMachine, IsMachineOf}
-use Rattle.image_print.specs.Numbers.{HasNumbers}
-use Rattle.image_print.specs.SavedImage.{saved_image}
+use Rattle.tripos_machine.specs.Boot.{boot}
+use Rattle.kernel_model.specs.declared.kernel_record.stops.Stop.{Stop}
+use Rattle.tripos_machine.specs.State.{IsSound, State, steps_of, stop_of}
+use Rattle.tripos_machine.specs.Step.{Stepped, run}
+use Rattle.saved_text.specs.Canonical.{canonical}
+use Rattle.saved_text.specs.ImageOfText.{image_of}
+use Rattle.saved_text.specs.declared.images.Image.{Image}
+use Rattle.saved_machine.specs.MachineImage.Machines.{HasMachine, IsMachineOf}
+use Rattle.saved_machine.specs.ImagePrint.Numbers.{HasNumbers}
+use Rattle.saved_machine.specs.ImagePrint.SavedImage.{saved_image}
 use Rattle.program_answers.specs.Answer.{Answer, no_boot_answer, refused_answer}
 use Rattle.tripos_run.specs.Answer.{end_since, run_answer, status_of}
 use Rattle.tripos_run.specs.Texts.{closing_text}

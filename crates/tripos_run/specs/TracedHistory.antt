@@ -1,11 +1,11 @@
 -- What `trace` writes.
 use Rattle.std.specs.Prelude.{◌≡◌, ◌++◌}
 use Rattle.session_text.specs.declared.sessions.Session.{Session}
-use Rattle.cint_debug.specs.TriposMachine.Histories.{HasBootHistory}
-use Rattle.cint_debug.specs.TriposMachine.Runs.{end_of_run}
-use Rattle.cint_debug.specs.TriposMachine.State.{steps_of, stop_of}
-use Rattle.cint_debug.specs.TriposMachine.Step.{Stepped, run}
-use Rattle.trace_log.specs.Traced.{lines_of}
+use Rattle.tripos_machine.specs.Histories.{HasBootHistory}
+use Rattle.tripos_machine.specs.Runs.{end_of_run}
+use Rattle.tripos_machine.specs.State.{steps_of, stop_of}
+use Rattle.tripos_machine.specs.Step.{Stepped, run}
+use Rattle.program_answers.specs.TraceLog.Traced.{lines_of}
 use Rattle.program_answers.specs.Answer.{Answer}
 use Rattle.tripos_run.specs.Texts.{closing_text}
 

@@ -1,10 +1,10 @@
 -- A run whose events are gathered as lines.
 use Rattle.std.specs.Prelude.{◌≡◌, ℕ, List, [], Option, Result, Ok, Err}
-use Rattle.tp_io.specs.Pending.{IsGathered}
-use Rattle.tp_io.specs.Write.{AppendsPrefix}
-use Rattle.cint_debug.specs.TriposMachine.KernelCalls.KernelModel.declared.stops.Stop.{Stop}
-use Rattle.cint_debug.specs.TriposMachine.Runs.{end_of_run}
-use Rattle.cint_debug.specs.TriposMachine.State.{State, stop_of}
+use Rattle.byte_streams.specs.Pending.{IsGathered}
+use Rattle.byte_streams.specs.Write.{AppendsPrefix}
+use Rattle.kernel_model.specs.declared.kernel_record.stops.Stop.{Stop}
+use Rattle.tripos_machine.specs.Runs.{end_of_run}
+use Rattle.tripos_machine.specs.State.{State, stop_of}
 
 -- the state that is left is this one, and a run that left it ends so
 abbrev pub StopsAt : State → Stop → State → Type 0

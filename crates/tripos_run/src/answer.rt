@@ -1,7 +1,7 @@
 // The answer to a text that was read.
 ghost use Rattle.std.specs.Prelude.{◌<◌, ◌^◌, length};
-ghost use Rattle.hunk_text.specs.ModuleOfText.{module_of};
-ghost use Rattle.listing_law.specs.CintAsm.Assembly.{assembled};
+ghost use Rattle.module_text.specs.ModuleOfText.{module_of};
+ghost use Rattle.assembly.specs.AssemblyText.Assembly.{assembled};
 ghost use Rattle.program_answers.specs.Answer.{Answers};
 ghost use Rattle.program_answers.specs.Answered.{Answered};
 ghost use Rattle.program_answers.specs.Cause.{HasFaultCause};
@@ -16,11 +16,11 @@ use crate::resuming::answer_resuming;
 use crate::rings::answer_ring;
 use crate::saving::answer_saving;
 use crate::session::answer_session_text;
-use hunk_text::{HunkEnd, read_module};
-use listing_law::{AsmEnd, assemble, disassemble_module};
+use assembly::{AsmEnd, assemble, disassemble_module};
+use byte_streams::{Sink, write_text};
+use module_text::{HunkEnd, read_module};
 use program_answers::{Status, TextAnswers, status_after, write_refused};
 use std::alloc::Global;
-use tp_io::{Sink, write_text};
 
 impl TextAnswers for Command {
     ghost is_answer = { IsTextAnswer };

@@ -2,7 +2,7 @@
 ghost use Rattle.std.specs.Prelude.{◌≡◌, map, string_bytes};
 ghost use Rattle.tripos_run.specs.Words.{command_named, generation, job_of, seed};
 
-use hunk_text::number;
+use module_text::number;
 
 /// What the program is asked to do.
 #[derive(Clone, Copy)]

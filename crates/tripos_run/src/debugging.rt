@@ -1,12 +1,12 @@
 // The answer to a session that is debugged.
 ghost use Rattle.std.specs.Prelude.{◌≡◌, ◌<◌, ◌≤◌, ◌+◌, ◌^◌, [], Some, None, drop, length};
-ghost use Rattle.hunk_text.specs.TextReader.Lines.{lines_of};
+ghost use Rattle.module_text.specs.TextReader.Lines.{lines_of};
 ghost use Rattle.session_text.specs.Canonical.{IsLawful};
-ghost use Rattle.cint_debug.specs.TriposMachine.KernelCalls.KernelModel.Ranges.{most_steps};
-ghost use Rattle.cint_debug.specs.TriposMachine.Boot.{boot};
-ghost use Rattle.cint_debug.specs.TriposMachine.State.{steps_of};
-ghost use Rattle.cint_debug.specs.Debugged.{debugged};
-ghost use Rattle.cint_debug.specs.MachineHistory.Pasts.{now_of};
+ghost use Rattle.kernel_model.specs.KernelRecord.Ranges.{most_steps};
+ghost use Rattle.tripos_machine.specs.Boot.{boot};
+ghost use Rattle.tripos_machine.specs.State.{steps_of};
+ghost use Rattle.debugger.specs.Debugged.{debugged};
+ghost use Rattle.debugger.specs.MachineHistory.Pasts.{now_of};
 ghost use Rattle.program_answers.specs.Answer.{Answers};
 ghost use Rattle.tripos_run.specs.Answer.{checked_answer, debugging_answer, first_past, lines_answer, told_answer};
 ghost use Rattle.program_answers.specs.Cause.{HasFaultCause};
@@ -15,13 +15,14 @@ ghost use Rattle.tripos_run.specs.Input.{IsMachineEnd};
 
 use crate::machines::write_run_end;
 use crate::reports::Report;
-use cint_debug::{
-    BadLine, BootEnd, History, Machine, Stop, boot, check_lines, debug, debug_back, goes_back,
-};
+use bare_machine::boot::BootEnd;
+use byte_streams::{Output, Sink, SinkFault, WantMemory};
+use debugger::{BadLine, History, check_lines, debug, debug_back, goes_back};
+use kernel_model::Stop;
 use program_answers::{Status, status_after, write_no_boot, write_refused};
 use session_text::{Session, SessionEnd, read_front};
 use std::alloc::Global;
-use tp_io::{Output, Sink, SinkFault, WantMemory};
+use tripos_machine::{Machine, boot};
 
 /// Boots the session at the front of a text, and does with its machine what the lines behind it ask for. They are checked before.
 pub(crate) fn answer_debugging<K: Sink>(alloc: Global, text: &[u8], out: &mut K) -> Status

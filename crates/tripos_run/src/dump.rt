@@ -1,11 +1,11 @@
 // The words of a store, printed.
 ghost use Rattle.std.specs.Prelude.{◌≡◌, ◌<◌, ◌^◌, length};
-ghost use Rattle.tp_io.specs.Pending.{Gathers};
-ghost use Rattle.tp_io.specs.Write.{HasCause};
+ghost use Rattle.byte_streams.specs.Pending.{Gathers};
+ghost use Rattle.byte_streams.specs.Write.{HasCause};
 ghost use Rattle.tripos_run.specs.Texts.{dump_text, word_text};
 
-use cint_debug::gather_word as gather_line;
-use tp_io::{Output, Sink, SinkFault};
+use byte_streams::{Output, Sink, SinkFault};
+use debugger::gather_word as gather_line;
 
 /// Gathers a line for each word that is not 0, in rising order: its address in decimal, and eight hex digits.
 pub fn gather_dump<K: Sink>(

@@ -1,16 +1,16 @@
 // How a run ends, on a machine of either kind.
 ghost use Rattle.std.specs.Prelude.{◌≡◌, ◌++◌};
-ghost use Rattle.tp_io.specs.Pending.{Gathers};
-ghost use Rattle.tp_io.specs.Write.{Prints, HasCause};
+ghost use Rattle.byte_streams.specs.Pending.{Gathers};
+ghost use Rattle.byte_streams.specs.Write.{Prints, HasCause};
 ghost use Rattle.tripos_run.specs.Answer.{status_of, words_text};
 ghost use Rattle.tripos_run.specs.Texts.{closing_text};
 
 use crate::dump::gather_dump;
 use crate::messages::gather_closing;
 use crate::reports::Report;
-use cint_debug::Stop;
+use byte_streams::{Output, Sink, SinkFault, pass_on};
+use kernel_model::Stop;
 use program_answers::Status;
-use tp_io::{Output, Sink, SinkFault, pass_on};
 use word_store::Store;
 
 /// Writes what is pending, the closing line, and what is asked for besides.

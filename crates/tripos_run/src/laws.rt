@@ -2,12 +2,12 @@
 ghost use Rattle.std.specs.Prelude.{◌≡◌, ◌+◌, ℕ, List, None, Ok};
 ghost use Rattle.session_text.specs.SessionOfText.{session_of};
 ghost use Rattle.session_text.specs.declared.sessions.Session.{Session};
-ghost use Rattle.cint_debug.specs.TriposMachine.Boot.{boot};
-ghost use Rattle.cint_debug.specs.TriposMachine.State.{IsSound, State, stop_of};
-ghost use Rattle.cint_debug.specs.TriposMachine.Step.{Stepped};
-ghost use Rattle.image_print.specs.ImageText.Canonical.{canonical, with_steps};
-ghost use Rattle.image_print.specs.Numbers.{HasNumbers, IsSized, MayTake};
-ghost use Rattle.image_print.specs.SavedImage.{saved_image};
+ghost use Rattle.tripos_machine.specs.Boot.{boot};
+ghost use Rattle.tripos_machine.specs.State.{IsSound, State, stop_of};
+ghost use Rattle.tripos_machine.specs.Step.{Stepped};
+ghost use Rattle.saved_text.specs.Canonical.{canonical, with_steps};
+ghost use Rattle.saved_machine.specs.ImagePrint.Numbers.{HasNumbers, IsSized, MayTake};
+ghost use Rattle.saved_machine.specs.ImagePrint.SavedImage.{saved_image};
 ghost use Rattle.program_answers.specs.Answer.{Answer};
 ghost use Rattle.tripos_run.specs.ContinuedAnswers.{IsContinued, IsMachineText};
 ghost use Rattle.tripos_run.specs.InputAnswers.{IsAnswer, IsTextAnswer};

@@ -15,13 +15,8 @@ mod resuming;
 mod rings;
 mod saving;
 mod session;
+pub mod session_generator;
 
 pub use laws::{answer_law, continued_law, trace_law};
 pub use program::tripos;
-
-// Shown to the crates above.
-pub use cint_debug::{EventLog, KernelEvent, ListLog, Pipes, SinkLog};
-pub use program_answers::{Status, exit_code};
 pub use session_generator::generate;
-pub use tp_io::{StdSink, StdSource};
-pub use trace_log::print_events;

@@ -1,15 +1,15 @@
 // The answer to a session, by a run of its machine.
 ghost use Rattle.std.specs.Prelude.{◌≡◌, ◌≤◌, ◌+◌, ◌++◌, [], Some, true, IfOk, MatchResult};
-ghost use Rattle.tp_io.specs.Write.{HasCause};
+ghost use Rattle.byte_streams.specs.Write.{HasCause};
 ghost use Rattle.session_text.specs.Canonical.{IsLawful};
-ghost use Rattle.cint_debug.specs.TriposMachine.KernelCalls.KernelModel.Ranges.{most_steps};
-ghost use Rattle.cint_debug.specs.TriposMachine.KernelCalls.KernelModel.NotedEvents.{NotesAll};
-ghost use Rattle.cint_debug.specs.TriposMachine.Runs.{end_of_run};
-ghost use Rattle.cint_debug.specs.TriposMachine.Boot.{boot};
-ghost use Rattle.cint_debug.specs.TriposMachine.State.{steps_of, stop_of};
-ghost use Rattle.cint_debug.specs.TriposMachine.Step.{boot_events, quietly, run};
-ghost use Rattle.trace_log.specs.Trails.{events_of};
-ghost use Rattle.trace_log.specs.Traced.{lines_of};
+ghost use Rattle.kernel_model.specs.KernelRecord.Ranges.{most_steps};
+ghost use Rattle.kernel_model.specs.KernelRecord.NotedEvents.{NotesAll};
+ghost use Rattle.tripos_machine.specs.Runs.{end_of_run};
+ghost use Rattle.tripos_machine.specs.Boot.{boot};
+ghost use Rattle.tripos_machine.specs.State.{steps_of, stop_of};
+ghost use Rattle.tripos_machine.specs.Step.{boot_events, quietly, run};
+ghost use Rattle.program_answers.specs.TraceLog.Trails.{events_of};
+ghost use Rattle.program_answers.specs.TraceLog.Traced.{lines_of};
 ghost use Rattle.program_answers.specs.Answer.{Answers};
 ghost use Rattle.tripos_run.specs.Answer.{closed_answer, end_after, machine_answer, run_answer};
 ghost use Rattle.program_answers.specs.Cause.{HasFaultCause};
@@ -19,13 +19,16 @@ ghost use Rattle.tripos_run.specs.TracedRun.{GivesLines, StopsAt};
 
 use crate::ends::{status_of, write_end};
 use crate::reports::Report;
-use cint_debug::{BootEnd, EventLog, Machine, NoLog, Stop, boot};
+use crate::session_generator::{Tally, gather_summary};
+use bare_machine::boot::BootEnd;
+use byte_streams::{NoSink, Output, Sink, SinkFault, pass_on};
+use kernel_lists::{EventLog, NoLog};
+use kernel_model::Stop;
+use program_answers::trace_log::{TraceLog, TraceWords};
 use program_answers::{Status, status_after, write_no_boot};
-use session_generator::{Tally, gather_summary};
 use session_text::Session;
 use std::alloc::Global;
-use tp_io::{NoSink, Output, Sink, SinkFault, pass_on};
-use trace_log::{TraceLog, TraceWords};
+use tripos_machine::{Machine, boot};
 
 /// Boots a session, and runs its machine.
 pub(crate) fn answer_session<K: Sink>(

@@ -1,11 +1,11 @@
 // The lines that the program writes besides the console bytes.
-ghost use Rattle.tp_io.specs.Pending.{Gathers};
-ghost use Rattle.tp_io.specs.Write.{Prints, HasCause};
+ghost use Rattle.byte_streams.specs.Pending.{Gathers};
+ghost use Rattle.byte_streams.specs.Write.{Prints, HasCause};
 ghost use Rattle.tripos_run.specs.Texts.{closing_text, usage_text};
 
-use cint_debug::Stop;
-use tp_io::Piece::{Decimal, Text};
-use tp_io::{Output, Sink, SinkFault, gather_pieces, write_text};
+use byte_streams::Piece::{Decimal, Text};
+use byte_streams::{Output, Sink, SinkFault, gather_pieces, write_text};
+use kernel_model::Stop;
 
 const STOPPED: &[u8] = b"\n* stopped after ";
 

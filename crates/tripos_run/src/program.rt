@@ -10,9 +10,9 @@ ghost use Rattle.tripos_run.specs.Words.{job_of};
 use crate::commands::{Job, job_of};
 use crate::messages::write_usage;
 use crate::session::answer_generated;
+use byte_streams::{Sink, Source};
 use program_answers::{Status, answer_input, status_after};
 use std::alloc::Global;
-use tp_io::{Sink, Source};
 
 /// Answers the words of the command line and all that the source has left.
 pub fn tripos<S: Source, K: Sink>(

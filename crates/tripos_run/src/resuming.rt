@@ -1,8 +1,8 @@
 // The answer to the text of a saved machine.
 ghost use Rattle.std.specs.Prelude.{◌≡◌, ◌<◌, ◌≤◌, ◌+◌, ◌^◌, length};
-ghost use Rattle.cint_debug.specs.TriposMachine.KernelCalls.KernelModel.Ranges.{most_steps};
-ghost use Rattle.cint_debug.specs.TriposMachine.State.{steps_of};
-ghost use Rattle.image_print.specs.ImageText.Canonical.{IsLawful};
+ghost use Rattle.kernel_model.specs.KernelRecord.Ranges.{most_steps};
+ghost use Rattle.tripos_machine.specs.State.{steps_of};
+ghost use Rattle.saved_text.specs.Canonical.{IsLawful};
 ghost use Rattle.program_answers.specs.Answer.{Answers};
 ghost use Rattle.program_answers.specs.Cause.{HasFaultCause};
 ghost use Rattle.program_answers.specs.Input.{IsTextEnd};
@@ -12,12 +12,14 @@ ghost use Rattle.tripos_run.specs.SavedAnswers.{IsResumedImage, IsResumedText, n
 
 use crate::ends::{status_of, write_end};
 use crate::reports::Report;
-use cint_debug::{Machine, NoLog};
-use hunk_text::TextEnd;
-use image_print::{Image, machine_of, read_image};
+use byte_streams::{Output, Sink, SinkFault, WantMemory};
+use kernel_lists::NoLog;
+use module_text::TextEnd;
 use program_answers::{Status, status_after, write_refused};
+use saved_machine::machine_of;
+use saved_text::{Image, read_image};
 use std::alloc::Global;
-use tp_io::{Output, Sink, SinkFault, WantMemory};
+use tripos_machine::Machine;
 
 /// The code of a text that has the form of a saved machine, and is none.
 const NO_MACHINE: u32 = 10;

@@ -1,6 +1,6 @@
 // The answer to the text of a ring.
 ghost use Rattle.std.specs.Prelude.{◌≡◌, ◌<◌, ◌++◌, ◌^◌, length};
-ghost use Rattle.tp_io.specs.Write.{HasCause, Prints};
+ghost use Rattle.byte_streams.specs.Write.{HasCause, Prints};
 ghost use Rattle.machine_ring.specs.Boot.{booted_ring};
 ghost use Rattle.machine_ring.specs.RingLink.LawfulRing.{IsLawfulRing};
 ghost use Rattle.program_answers.specs.Answer.{Answers};
@@ -10,12 +10,12 @@ ghost use Rattle.tripos_run.specs.Input.{IsMachineEnd};
 ghost use Rattle.tripos_run.specs.RingAnswers.{booted_answer, ring_answer, ring_text, run_ring_answer};
 
 use crate::ends::status_of;
-use hunk_text::TextEnd;
+use byte_streams::Piece::{Decimal, Text};
+use byte_streams::{Output, Sink, SinkFault, gather_pieces, pass_on};
 use machine_ring::{Ring, RingBoot, RingInput, RingOutcome, read_ring};
+use module_text::TextEnd;
 use program_answers::{Status, status_after, write_no_boot, write_refused};
 use std::alloc::Global;
-use tp_io::Piece::{Decimal, Text};
-use tp_io::{Output, Sink, SinkFault, gather_pieces, pass_on};
 
 /// Runs the ring of a text, and writes the console bytes of its right machine.
 pub(crate) fn answer_ring<K: Sink>(alloc: Global, text: &[u8], out: &mut K) -> Status

@@ -1,15 +1,15 @@
 // The answer to a session whose machine is saved.
 ghost use Rattle.std.specs.Prelude.{◌<◌, ◌≤◌, ◌+◌, ◌^◌, length};
-ghost use Rattle.tp_io.specs.Write.{HasCause, Prints};
+ghost use Rattle.byte_streams.specs.Write.{HasCause, Prints};
 ghost use Rattle.session_text.specs.Canonical.{IsLawful};
 ghost use Rattle.session_text.specs.SessionOfText.{session_of};
-ghost use Rattle.cint_debug.specs.TriposMachine.Boot.{boot};
-ghost use Rattle.cint_debug.specs.TriposMachine.KernelCalls.KernelModel.Ranges.{most_steps};
-ghost use Rattle.cint_debug.specs.TriposMachine.State.{IsSound, steps_of};
-ghost use Rattle.cint_debug.specs.TriposMachine.Step.{run};
-ghost use Rattle.image_print.specs.ImageText.Canonical.{canonical};
-ghost use Rattle.image_print.specs.Numbers.{HasNumbers};
-ghost use Rattle.image_print.specs.SavedImage.{saved_image};
+ghost use Rattle.tripos_machine.specs.Boot.{boot};
+ghost use Rattle.kernel_model.specs.KernelRecord.Ranges.{most_steps};
+ghost use Rattle.tripos_machine.specs.State.{IsSound, steps_of};
+ghost use Rattle.tripos_machine.specs.Step.{run};
+ghost use Rattle.saved_text.specs.Canonical.{canonical};
+ghost use Rattle.saved_machine.specs.ImagePrint.Numbers.{HasNumbers};
+ghost use Rattle.saved_machine.specs.ImagePrint.SavedImage.{saved_image};
 ghost use Rattle.program_answers.specs.Answered.{Answered};
 ghost use Rattle.program_answers.specs.Cause.{HasFaultCause};
 ghost use Rattle.program_answers.specs.Input.{IsTextEnd};
@@ -19,12 +19,14 @@ ghost use Rattle.tripos_run.specs.Texts.{closing_text};
 
 use crate::ends::status_of;
 use crate::messages::gather_closing;
-use cint_debug::{BootEnd, Machine, Stop, boot};
-use image_print::print_image;
+use bare_machine::boot::BootEnd;
+use byte_streams::{Output, Sink, SinkFault, pass_on};
+use kernel_model::Stop;
 use program_answers::{Status, status_after, write_no_boot, write_refused};
+use saved_machine::image_print::print_image;
 use session_text::{Session, SessionEnd, read_session};
 use std::alloc::Global;
-use tp_io::{Output, Sink, SinkFault, pass_on};
+use tripos_machine::{Machine, boot};
 
 /// Runs a session, and writes the text of its machine.
 pub(crate) fn answer_saving<K: Sink>(alloc: Global, text: &[u8], out: &mut K) -> Status

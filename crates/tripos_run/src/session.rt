@@ -9,11 +9,11 @@ ghost use Rattle.tripos_run.specs.InputAnswers.{generated_answer};
 
 use crate::machines::answer_session;
 use crate::reports::Report;
+use crate::session_generator::generate;
+use byte_streams::{Sink, WantMemory};
 use program_answers::{Status, status_after, write_refused};
-use session_generator::generate;
 use session_text::{SessionEnd, read_session};
 use std::alloc::Global;
-use tp_io::{Sink, WantMemory};
 
 /// Makes the session of the number, runs it, and sums up what it writes.
 pub fn answer_generated<K: Sink>(alloc: Global, n: u32, out: &mut K) -> Status

@@ -1,7 +1,9 @@
 // The program that shows what happened in a run: the process's words, input and output are given to the one call that answers.
 #![tactic(auto)]
 
-use show_run::{StdSink, StdSource, exit_code, show};
+use byte_streams::{StdSink, StdSource};
+use program_answers::exit_code;
+use show_run::show;
 use std::process::ExitCode;
 use std::{env, io};
 

@@ -1,7 +1,7 @@
 use Rattle.std.proofs.Common.{◌∙◌, ◌≤◌, ℕ, ap, arith, length, replicate, subst, sym}
 use Rattle.std.specs.Prelude.{IsTrue}
 use Rattle.std.proofs.lemmas.List.{length-replicate}
-use Rattle.session_text.specs.KernelDispatch.KernelModel.Ranges.{is_store_size}
+use Rattle.kernel_model.specs.KernelRecord.Ranges.{is_store_size}
 use Rattle.bare_machine.proofs.CodeLines.{with_lines-length}
 use Rattle.bare_machine.proofs.WordCounts.{sized-most}
 use Rattle.bare_machine.proofs.boot.boot.Goals as goal

@@ -1,6 +1,6 @@
 use Rattle.std.proofs.Common.{◌∙◌, arith, inl, inr, sym}
-use Rattle.cint_exec.specs.Instruction.{instruction}
-use Rattle.cint_exec.proofs.Unexecuted.{not-next}
+use Rattle.instruction_set.specs.Instruction.{instruction}
+use Rattle.instruction_set.proofs.Unexecuted.{not-next}
 use Rattle.bare_machine.specs.Step.{unmarked}
 use Rattle.bare_machine.proofs.Breakpoints.{avoids-next, met-there}
 use Rattle.bare_machine.proofs.Instructions.{executes-next, executes-same}

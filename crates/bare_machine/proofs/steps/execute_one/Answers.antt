@@ -1,6 +1,6 @@
 use Rattle.std.proofs.Common.{◌∙◌, arith, refl, subst, sym}
-use Rattle.cint_exec.specs.Places.{DifferAt, addresses}
-use Rattle.cint_exec.proofs.Unexecuted.{not-next}
+use Rattle.instruction_set.specs.Places.{DifferAt, addresses}
+use Rattle.instruction_set.proofs.Unexecuted.{not-next}
 use Rattle.bare_machine.specs.Step.{unmarked}
 use Rattle.bare_machine.proofs.Instructions.{step-as}
 use Rattle.bare_machine.proofs.WordCounts.{instruction_sized}

@@ -1,9 +1,9 @@
 use Rattle.std.proofs.Common.{◌≡◌, ap, ◌∙◌}
-use Rattle.cint_exec.specs.Instruction.{instruction}
-use Rattle.kernel_calls.specs.KernelModel.ChangedStore.{HasKeeper}
-use Rattle.kernel_calls.specs.KernelModel.Lists.{Lists}
-use Rattle.kernel_calls.specs.KernelModel.Owned.{owned}
-use Rattle.kernel_calls.proofs.Shown.WordKinds.KnownWords.{addresses, store-of, tells-owned}
+use Rattle.instruction_set.specs.Instruction.{instruction}
+use Rattle.kernel_model.specs.KernelRecord.ChangedStore.{HasKeeper}
+use Rattle.kernel_model.specs.KernelRecord.Lists.{Lists}
+use Rattle.kernel_model.specs.KernelRecord.Owned.{owned}
+use Rattle.kernel_model.proofs.WordKinds.KnownWords.{addresses, store-of, tells-owned}
 use Rattle.guest_turns.specs.Guarded.{is_owned}
 use Rattle.guest_turns.proofs.GuardedLists.{holds-executed, marks-lists}
 use Rattle.guest_turns.proofs.instructions.execute_guest.Goals as goal

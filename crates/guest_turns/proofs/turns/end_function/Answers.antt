@@ -1,6 +1,6 @@
 use Rattle.std.proofs.Common.{◌≢◌, ◌+◌, get_or, set, sym, ap, ◌∙◌, arith}
-use Rattle.kernel_calls.specs.KernelModel.Lists.{Lists}
-use Rattle.kernel_calls.proofs.Shown.PacketCalls.CallerTask.{caller-low, caller-runs, caller-state}
+use Rattle.kernel_model.specs.KernelRecord.Lists.{Lists}
+use Rattle.kernel_calls.proofs.PacketCalls.CallerTask.{caller-low, caller-runs, caller-state}
 use Rattle.guest_turns.proofs.EndedFunction.{is-within, returns-in_root, returns-inside}
 use Rattle.guest_turns.proofs.turns.end_function.Goals as goal
 

@@ -1,6 +1,6 @@
 use Rattle.std.proofs.Common.{sym, ◌∙◌}
-use Rattle.cint_exec.specs.declared.Outcome.TheVariants.{Next, Sys, Returned, Fault as Faulted}
-use Rattle.kernel_calls.specs.KernelModel.Lists.{Lists}
+use Rattle.instruction_set.specs.declared.Outcome.TheVariants.{Next, Sys, Returned, Fault as Faulted}
+use Rattle.kernel_model.specs.KernelRecord.Lists.{Lists}
 use Rattle.kernel_calls.specs.CallAnswers.Outside.{Outside, outside}
 use Rattle.guest_turns.specs.GuestTurn.{returned}
 use Rattle.guest_turns.specs.declared.turns.TurnEnd.TheVariants.{Faults, Goes}

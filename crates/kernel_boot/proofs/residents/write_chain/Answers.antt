@@ -1,6 +1,6 @@
 use Rattle.std.proofs.Common.{◌≡◌, ℕ, Bool, List, [], ◌∷◌, ◌++◌, if◌then◌else◌, sym, ap, ◌∙◌}
-use Rattle.kernel_calls.specs.OwnedWords.Owned.{Pairs, written}
-use Rattle.kernel_calls.proofs.Shown.OwnedWords.OwnedWords.{written-append}
+use Rattle.kernel_lists.specs.OwnedWords.Owned.{Pairs, written}
+use Rattle.kernel_lists.proofs.OwnedWords.OwnedWords.{written-append}
 use Rattle.kernel_boot.specs.BootWords.{reporter_pairs, waiting_pairs}
 use Rattle.kernel_boot.proofs.residents.write_chain.Goals as goal
 

@@ -1,7 +1,7 @@
 use Rattle.std.proofs.Common.{◌≡◌, ℕ, ◌+◌, ◌-◌, List, [], length, replicate, set, sym, ap, ◌∙◌, subst}
-use Rattle.kernel_calls.specs.OwnedWords.Owned.{written}
-use Rattle.kernel_calls.proofs.Shown.OwnedWords.OwnedWords.{length-written}
-use Rattle.kernel_calls.specs.KernelModel.ChangedStore.{IsChanged}
+use Rattle.kernel_lists.specs.OwnedWords.Owned.{written}
+use Rattle.kernel_lists.proofs.OwnedWords.OwnedWords.{length-written}
+use Rattle.kernel_model.specs.KernelRecord.ChangedStore.{IsChanged}
 use Rattle.kernel_boot.specs.BootWords.{root_pairs}
 use Rattle.kernel_boot.specs.EmptyKernel.{empty_lists}
 use Rattle.kernel_boot.proofs.EmptyLists.{empty-changed}

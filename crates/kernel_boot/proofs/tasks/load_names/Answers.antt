@@ -1,8 +1,8 @@
 use Rattle.std.proofs.Common.{◌∙◌, ◌+◌, ℕ, List, Ok, drop, sym, ap, arith}
 use Rattle.std.proofs.lemmas.List.{at_drop_all}
-use Rattle.kernel_calls.specs.KernelModel.Lists.{Lists}
+use Rattle.kernel_model.specs.KernelRecord.Lists.{Lists}
 use Rattle.kernel_boot.specs.BootTasks.{load_named, load_names}
-use Rattle.kernel_calls.specs.KernelModel.Standing.{standing}
+use Rattle.kernel_model.specs.KernelRecord.Standing.{standing}
 use Rattle.kernel_boot.proofs.StandingKernels.{keeper-made, names-next}
 use Rattle.kernel_boot.proofs.tasks.load_names.Goals as goal
 

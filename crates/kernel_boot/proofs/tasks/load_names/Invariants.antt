@@ -1,8 +1,8 @@
 use Rattle.std.proofs.Common.{◌≡◌, ◌≤◌, [], drop, length}
-use Rattle.kernel_calls.specs.KernelModel.ChangedStore.{HasKeeper}
-use Rattle.kernel_calls.specs.KernelModel.Lists.{Lists}
+use Rattle.kernel_model.specs.KernelRecord.ChangedStore.{HasKeeper}
+use Rattle.kernel_model.specs.KernelRecord.Lists.{Lists}
 use Rattle.kernel_boot.specs.BootTasks.{load_names}
-use Rattle.kernel_calls.specs.KernelModel.Standing.{standing}
+use Rattle.kernel_model.specs.KernelRecord.Standing.{standing}
 use Rattle.kernel_boot.proofs.tasks.load_names.Given as goal
 
 abbrev pub invariant-loop-name : goal.invariant-loop-name

@@ -1,9 +1,9 @@
 use Rattle.std.proofs.Common.{◌∙◌, ℕ, List, Result, Ok, Err, sym, ap, subst, arith}
 use Rattle.std.proofs.lemmas.Result.{err_from_is_err_and}
-use Rattle.kernel_calls.specs.KernelModel.Lists.{Lists}
+use Rattle.kernel_model.specs.KernelRecord.Lists.{Lists}
 use Rattle.kernel_calls.specs.TaskCalls.CreateTask.{create_task}
 use Rattle.kernel_boot.specs.BootTasks.{IsLeft, start_task}
-use Rattle.kernel_calls.specs.KernelModel.Standing.{standing}
+use Rattle.kernel_model.specs.KernelRecord.Standing.{standing}
 use Rattle.kernel_boot.proofs.StandingKernels.{begun-is, created-is}
 use Rattle.kernel_boot.proofs.StartedTasks.{guest-away, guest-created, may-create}
 use Rattle.kernel_boot.proofs.tasks.start_task.Goals as goal

@@ -1,7 +1,7 @@
 use Rattle.std.proofs.Common.{◌∙◌, ℕ, List, sym}
 use Rattle.std.proofs.lemmas.List.{at_drop_all}
 use Rattle.session_text.specs.declared.sessions.SessionLine.{SessionLine}
-use Rattle.kernel_calls.specs.KernelModel.Standing.{standing}
+use Rattle.kernel_model.specs.KernelRecord.Standing.{standing}
 use Rattle.kernel_boot.specs.BootTasks.{start_tasks}
 use Rattle.kernel_boot.proofs.StandingKernels.{line-started}
 use Rattle.kernel_boot.proofs.StartedTasks.{boot-form}

@@ -1,8 +1,8 @@
 use Rattle.std.proofs.Common.{◌≡◌, drop}
-use Rattle.kernel_calls.specs.KernelModel.ChangedStore.{HasKeeper}
-use Rattle.kernel_calls.specs.KernelModel.Lists.{Lists}
+use Rattle.kernel_model.specs.KernelRecord.ChangedStore.{HasKeeper}
+use Rattle.kernel_model.specs.KernelRecord.Lists.{Lists}
 use Rattle.kernel_boot.specs.BootTasks.{AreBootLines, start_tasks}
-use Rattle.kernel_calls.specs.KernelModel.Standing.{standing}
+use Rattle.kernel_model.specs.KernelRecord.Standing.{standing}
 use Rattle.kernel_boot.proofs.tasks.start_tasks.Given as goal
 
 abbrev pub invariant-loop-line : goal.invariant-loop-line

@@ -1,5 +1,5 @@
 use Rattle.std.proofs.Common.{refl, sym, ◌∙◌, subst}
-use Rattle.coroutine_calls.specs.CallAnswers.Outside.{outside}
+use Rattle.kernel_calls.specs.CallAnswers.Outside.{outside}
 use Rattle.kernel_calls.specs.Calls.{IsCalled, kernel_call, made, made_if_read}
 use Rattle.kernel_calls.proofs.CalledAnswers.{called-ended}
 use Rattle.kernel_calls.proofs.calls.call.Goals as goal

@@ -1,8 +1,8 @@
 use Rattle.std.proofs.Common.{◌≡◌, [], ◌∷◌, sym, ◌∙◌, subst}
-use Rattle.coroutine_calls.specs.CallAnswers.Guests.{GuestAt}
-use Rattle.coroutine_calls.specs.CallAnswers.Made.{IsMade}
-use Rattle.coroutine_calls.proofs.Shown.PacketCalls.CallerTask.{caller-number}
-use Rattle.coroutine_calls.specs.TaskCalls.CreateTask.{MayCreate, create_task}
+use Rattle.kernel_calls.specs.CallAnswers.Guests.{GuestAt}
+use Rattle.kernel_calls.specs.CallAnswers.Made.{IsMade}
+use Rattle.kernel_calls.proofs.PacketCalls.CallerTask.{caller-number}
+use Rattle.kernel_calls.specs.TaskCalls.CreateTask.{MayCreate, create_task}
 use Rattle.kernel_calls.proofs.CreatedByCaller.{caller-creates}
 use Rattle.kernel_calls.proofs.calls.create.Goals as goal
 

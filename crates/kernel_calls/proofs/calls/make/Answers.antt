@@ -1,27 +1,27 @@
 use Rattle.std.proofs.Common.{◌%◌, [], ◌∷◌, Ok, refl, sym, ap, ◌∙◌, subst}
-use Rattle.coroutine_calls.specs.KernelDispatch.KernelModel.Changes.{queue_of}
-use Rattle.coroutine_calls.specs.KernelDispatch.KernelModel.ValidQueues.Place.{Work}
-use Rattle.coroutine_calls.specs.CallAnswers.Made.{IsMade, minus_one, plain_answer}
-use Rattle.coroutine_calls.specs.BlockCalls.Freevec.{freevec}
-use Rattle.coroutine_calls.specs.BlockCalls.Getvec.{getvec}
-use Rattle.coroutine_calls.specs.CallCo.{callco}
-use Rattle.coroutine_calls.specs.CoWait.{cowait}
-use Rattle.coroutine_calls.specs.CreateCo.{createco}
-use Rattle.coroutine_calls.specs.DeleteCo.{deleteco}
-use Rattle.coroutine_calls.specs.ResumeCo.{resumeco}
-use Rattle.coroutine_calls.specs.ModuleCalls.AddModule.{add_module}
-use Rattle.coroutine_calls.specs.ModuleCalls.UnloadModule.{unload_module}
-use Rattle.coroutine_calls.specs.PacketCalls.Qpkt.{qpkt}
-use Rattle.coroutine_calls.specs.PacketCalls.TaskWait.{answer_of_wait, taskwait}
-use Rattle.coroutine_calls.specs.TaskCalls.ChangePri.{change_pri}
-use Rattle.coroutine_calls.specs.TaskCalls.CreateTask.{create_task}
-use Rattle.coroutine_calls.specs.TaskCalls.DeleteTask.{delete_task}
-use Rattle.coroutine_calls.specs.TaskCalls.HoldTask.{hold}
-use Rattle.coroutine_calls.specs.TaskCalls.ReleaseTask.{release}
-use Rattle.coroutine_calls.specs.TaskCalls.SetFlags.{set_flags}
-use Rattle.coroutine_calls.specs.TaskCalls.TestFlags.{test_flags}
-use Rattle.coroutine_calls.proofs.Shown.TaskCalls.SameWords.{change_pri-owners, hold-owners, release-owners, set_flags-owners, test_flags-owners}
-use Rattle.coroutine_calls.specs.CallAnswers.Outside.{outside}
+use Rattle.kernel_model.specs.KernelRecord.Changes.{queue_of}
+use Rattle.kernel_model.specs.KernelRecord.ValidQueues.Place.{Work}
+use Rattle.kernel_calls.specs.CallAnswers.Made.{IsMade, minus_one, plain_answer}
+use Rattle.kernel_calls.specs.BlockCalls.Freevec.{freevec}
+use Rattle.kernel_calls.specs.BlockCalls.Getvec.{getvec}
+use Rattle.kernel_calls.specs.CoroutineCalls.CallCo.{callco}
+use Rattle.kernel_calls.specs.CoroutineCalls.CoWait.{cowait}
+use Rattle.kernel_calls.specs.CoroutineCalls.CreateCo.{createco}
+use Rattle.kernel_calls.specs.CoroutineCalls.DeleteCo.{deleteco}
+use Rattle.kernel_calls.specs.CoroutineCalls.ResumeCo.{resumeco}
+use Rattle.kernel_calls.specs.ModuleCalls.AddModule.{add_module}
+use Rattle.kernel_calls.specs.ModuleCalls.UnloadModule.{unload_module}
+use Rattle.kernel_calls.specs.PacketCalls.Qpkt.{qpkt}
+use Rattle.kernel_calls.specs.PacketCalls.TaskWait.{answer_of_wait, taskwait}
+use Rattle.kernel_calls.specs.TaskCalls.ChangePri.{change_pri}
+use Rattle.kernel_calls.specs.TaskCalls.CreateTask.{create_task}
+use Rattle.kernel_calls.specs.TaskCalls.DeleteTask.{delete_task}
+use Rattle.kernel_calls.specs.TaskCalls.HoldTask.{hold}
+use Rattle.kernel_calls.specs.TaskCalls.ReleaseTask.{release}
+use Rattle.kernel_calls.specs.TaskCalls.SetFlags.{set_flags}
+use Rattle.kernel_calls.specs.TaskCalls.TestFlags.{test_flags}
+use Rattle.kernel_calls.proofs.TaskCalls.SameWords.{change_pri-owners, hold-owners, release-owners, set_flags-owners, test_flags-owners}
+use Rattle.kernel_calls.specs.CallAnswers.Outside.{outside}
 use Rattle.kernel_calls.specs.Calls.{answered, divided}
 use Rattle.kernel_calls.proofs.CalledAnswers.{called-byte, called-ended, called-noting, called-silent, called-switched, called-taking, called-waiting, made-same}
 use Rattle.kernel_calls.proofs.SilentCalls.{add_module-silent, change_pri-silent, create_task-silent, createco-silent, delete_task-silent, deleteco-silent, freevec-silent, getvec-silent, hold-silent, release-silent, set_flags-silent, unload_module-silent}

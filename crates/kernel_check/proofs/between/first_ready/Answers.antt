@@ -1,4 +1,4 @@
-use Rattle.list_passes.specs.KernelDispatch.KernelModel.Recovered.{lists_in}
+use Rattle.kernel_model.specs.KernelRecord.Recovered.{lists_in}
 use Rattle.kernel_check.proofs.RunningTask.{some-ready}
 use Rattle.kernel_check.proofs.between.first_ready.Goals as goal
 

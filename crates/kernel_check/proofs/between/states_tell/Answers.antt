@@ -1,8 +1,8 @@
 use Rattle.std.proofs.Common.{◌≡◌, ◌∙◌, refl, sym}
 use Rattle.std.proofs.lemmas.Bool.{false≢true}
-use Rattle.list_passes.specs.KernelDispatch.TaskBlock.TaskChain.{tasks_in}
-use Rattle.list_passes.specs.KernelDispatch.KernelModel.Recovered.{task_in}
-use Rattle.list_passes.proofs.ClaimedWalks.{all-any, first, goes, going, gone, of-tasks}
+use Rattle.kernel_lists.specs.TaskBlock.TaskChain.{tasks_in}
+use Rattle.kernel_model.specs.KernelRecord.Recovered.{task_in}
+use Rattle.kernel_check.proofs.ListPasses.ClaimedWalks.{all-any, first, goes, going, gone, of-tasks}
 use Rattle.kernel_check.proofs.RunningTask.{Tells}
 use Rattle.kernel_check.proofs.between.states_tell.Goals as goal
 

@@ -1,6 +1,6 @@
-use Rattle.list_passes.specs.KernelDispatch.TaskBlock.TaskChain.{tasks_in}
-use Rattle.list_passes.specs.KernelDispatch.KernelModel.Recovered.{task_in}
-use Rattle.list_passes.proofs.ClaimedWalks.{IsGoing}
+use Rattle.kernel_lists.specs.TaskBlock.TaskChain.{tasks_in}
+use Rattle.kernel_model.specs.KernelRecord.Recovered.{task_in}
+use Rattle.kernel_check.proofs.ListPasses.ClaimedWalks.{IsGoing}
 use Rattle.kernel_check.proofs.RunningTask.{Tells}
 use Rattle.kernel_check.proofs.between.states_tell.Given as goal
 

@@ -1,6 +1,6 @@
 use Rattle.std.proofs.Common.{◌∙◌, false, replicate, ap}
-use Rattle.list_passes.proofs.Shown.AdoptionLaw.OwnedOnce.{owned-once}
-use Rattle.list_passes.proofs.Shown.AdoptionLaw.AllPasses.{holds-lists, passes}
+use Rattle.store_claims.proofs.AdoptionLaw.OwnedOnce.{owned-once}
+use Rattle.store_claims.proofs.AdoptionLaw.AllPasses.{holds-lists, passes}
 use Rattle.kernel_check.proofs.WholeCheck.{all-owned, owned-stand, is-shut, refuse}
 use Rattle.kernel_check.proofs.check.holds_claimed.Goals as goal
 

@@ -1,8 +1,8 @@
 use Rattle.std.proofs.Common.{◌∙◌, false, length, replicate, sym, ap}
 use Rattle.std.proofs.lemmas.Bool.{false≢true}
 use Rattle.std.proofs.lemmas.List.{length-replicate}
-use Rattle.list_passes.specs.AdoptionLaw.ClaimableStore.{OpensData}
-use Rattle.list_passes.proofs.Shown.AdoptionLaw.ClaimableStore.{from-claimable, to-claimable, valid-claimable}
+use Rattle.store_claims.specs.AdoptionLaw.ClaimableStore.{OpensData}
+use Rattle.store_claims.proofs.AdoptionLaw.ClaimableStore.{from-claimable, to-claimable, valid-claimable}
 use Rattle.kernel_check.proofs.WholeCheck.{refuse}
 use Rattle.kernel_check.proofs.check.holds_lists.Goals as goal
 

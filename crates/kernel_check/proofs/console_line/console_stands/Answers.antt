@@ -1,6 +1,6 @@
 use Rattle.std.proofs.Common.{◌∙◌, arith, sym}
 use Rattle.std.proofs.lemmas.Bool.{false≢true}
-use Rattle.list_passes.specs.KernelDispatch.KernelModel.Recovered.{lists_in}
+use Rattle.kernel_model.specs.KernelRecord.Recovered.{lists_in}
 use Rattle.kernel_check.proofs.ConsoleLine.{absent-stands, line-stands}
 use Rattle.kernel_check.proofs.console_line.console_stands.Goals as goal
 

@@ -1,7 +1,7 @@
 use Rattle.std.proofs.Common.{arith}
-use Rattle.list_passes.specs.KernelDispatch.KernelModel.Recovered.{lists_in}
-use Rattle.list_passes.proofs.Shown.KernelDispatch.GetvecChain.Tilings.{IsTiled-inside}
-use Rattle.list_passes.proofs.Shown.KernelDispatch.KernelModel.WalkedLists.{can-walk}
+use Rattle.kernel_model.specs.KernelRecord.Recovered.{lists_in}
+use Rattle.kernel_lists.proofs.GetvecChain.Tilings.{IsTiled-inside}
+use Rattle.kernel_model.proofs.KernelRecord.WalkedLists.{can-walk}
 use Rattle.kernel_check.proofs.ConsoleLine.{pending-empty}
 use Rattle.kernel_check.proofs.console_line.is_delivered.Goals as goal
 

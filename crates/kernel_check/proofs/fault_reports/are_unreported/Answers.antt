@@ -1,6 +1,6 @@
 use Rattle.std.proofs.Common.{◌≡◌, ◌∙◌}
-use Rattle.list_passes.specs.KernelDispatch.KernelModel.Between.{is_unreported}
-use Rattle.list_passes.specs.KernelDispatch.TaskBlock.TaskChain.{tasks_in}
+use Rattle.kernel_model.specs.KernelRecord.Between.{is_unreported}
+use Rattle.kernel_lists.specs.TaskBlock.TaskChain.{tasks_in}
 use Rattle.kernel_check.proofs.FaultReports.{any-behind, any-first, any-here, any-none}
 use Rattle.kernel_check.proofs.fault_reports.are_unreported.Goals as goal
 

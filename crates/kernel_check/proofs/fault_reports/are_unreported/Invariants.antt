@@ -1,7 +1,7 @@
 use Rattle.std.proofs.Common.{◌≡◌}
 use Rattle.std.specs.List.{list_any}
-use Rattle.list_passes.specs.KernelDispatch.KernelModel.Between.{is_unreported}
-use Rattle.list_passes.specs.KernelDispatch.KernelModel.Recovered.{lists_in}
+use Rattle.kernel_model.specs.KernelRecord.Between.{is_unreported}
+use Rattle.kernel_model.specs.KernelRecord.Recovered.{lists_in}
 use Rattle.kernel_check.proofs.FaultReports.{any_in}
 use Rattle.kernel_check.proofs.fault_reports.are_unreported.Given as goal
 

@@ -1,6 +1,6 @@
 use Rattle.std.proofs.Common.{◌≡◌}
 use Rattle.std.specs.List.{list_any}
-use Rattle.list_passes.specs.KernelDispatch.KernelModel.Recovered.{lists_in}
+use Rattle.kernel_model.specs.KernelRecord.Recovered.{lists_in}
 use Rattle.kernel_check.specs.Reports.{is_unreported_as}
 use Rattle.kernel_check.proofs.FaultReports.{any_in}
 use Rattle.kernel_check.proofs.fault_reports.has_unreported.Given as goal

@@ -1,11 +1,11 @@
 use Rattle.std.proofs.Common.{◌∙◌, refl, sym}
 use Rattle.std.specs.List.{list_any}
 use Rattle.std.proofs.lemmas.Bool.{false≢true}
-use Rattle.list_passes.specs.KernelDispatch.KernelModel.Between.{is_unreported}
-use Rattle.list_passes.specs.KernelDispatch.KernelModel.Lists.{has_task}
-use Rattle.list_passes.specs.KernelDispatch.KernelModel.Recovered.{lists_in}
-use Rattle.list_passes.proofs.Shown.KernelDispatch.KernelModel.WalkedLists.{can-walk}
-use Rattle.list_passes.proofs.Residents.{has-id}
+use Rattle.kernel_model.specs.KernelRecord.Between.{is_unreported}
+use Rattle.kernel_model.specs.KernelRecord.Lists.{has_task}
+use Rattle.kernel_model.specs.KernelRecord.Recovered.{lists_in}
+use Rattle.kernel_model.proofs.KernelRecord.WalkedLists.{can-walk}
+use Rattle.kernel_check.proofs.ListPasses.Residents.{has-id}
 use Rattle.kernel_check.proofs.FaultReports.{under-task, waits-free, waits-queued}
 use Rattle.kernel_check.proofs.QueueRules.{fault-free, fault-other}
 use Rattle.kernel_check.proofs.fault_reports.packet_waits.Goals as goal

@@ -1,9 +1,9 @@
 use Rattle.std.proofs.Common.{◌≡◌, ◌∙◌, refl, sym}
 use Rattle.std.proofs.lemmas.Bool.{false≢true}
-use Rattle.list_passes.specs.KernelDispatch.PacketQueue.Queue.{queue_at}
-use Rattle.list_passes.specs.KernelDispatch.KernelModel.Between.{Tells}
-use Rattle.list_passes.specs.KernelDispatch.KernelModel.Recovered.{lists_in, packet_in}
-use Rattle.list_passes.proofs.ClaimedWalks.{all-any, first, goes, going, gone, of-map}
+use Rattle.kernel_lists.specs.PacketQueue.Queue.{queue_at}
+use Rattle.kernel_model.specs.KernelRecord.Between.{Tells}
+use Rattle.kernel_model.specs.KernelRecord.Recovered.{lists_in, packet_in}
+use Rattle.kernel_check.proofs.ListPasses.ClaimedWalks.{all-any, first, goes, going, gone, of-map}
 use Rattle.kernel_check.proofs.FaultReports.{PacketTells}
 use Rattle.kernel_check.proofs.fault_reports.packets_tell.Goals as goal
 

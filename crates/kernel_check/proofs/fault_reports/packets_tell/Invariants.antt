@@ -1,5 +1,5 @@
-use Rattle.list_passes.specs.KernelDispatch.PacketQueue.Queue.{queue_at}
-use Rattle.list_passes.proofs.ClaimedWalks.{IsGoing}
+use Rattle.kernel_lists.specs.PacketQueue.Queue.{queue_at}
+use Rattle.kernel_check.proofs.ListPasses.ClaimedWalks.{IsGoing}
 use Rattle.kernel_check.proofs.FaultReports.{PacketTells}
 use Rattle.kernel_check.proofs.fault_reports.packets_tell.Given as goal
 

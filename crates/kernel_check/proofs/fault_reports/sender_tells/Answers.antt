@@ -1,10 +1,10 @@
 use Rattle.std.proofs.Common.{◌≡◌, ◌∙◌, ◌+◌, ap, refl, subst, sym}
-use Rattle.list_passes.specs.KernelDispatch.PacketQueue.Queue.{HasQueue}
-use Rattle.list_passes.specs.KernelDispatch.TaskBlock.TaskChain.{tasks_in}
-use Rattle.list_passes.specs.KernelDispatch.KernelModel.Changes.{work_of}
-use Rattle.list_passes.specs.KernelDispatch.KernelModel.Recovered.{lists_in}
-use Rattle.list_passes.specs.KernelDispatch.KernelModel.Task.{queue_head}
-use Rattle.list_passes.proofs.Shown.KernelDispatch.KernelModel.WalkedLists.{can-walk}
+use Rattle.kernel_lists.specs.PacketQueue.Queue.{HasQueue}
+use Rattle.kernel_lists.specs.TaskBlock.TaskChain.{tasks_in}
+use Rattle.kernel_model.specs.KernelRecord.Changes.{work_of}
+use Rattle.kernel_model.specs.KernelRecord.Recovered.{lists_in}
+use Rattle.kernel_model.specs.KernelRecord.Task.{queue_head}
+use Rattle.kernel_model.proofs.KernelRecord.WalkedLists.{can-walk}
 use Rattle.kernel_check.proofs.FaultReports.{its-queue, next-walk, no-queue, queue-tells, seeking, seeks-on}
 use Rattle.kernel_check.proofs.fault_reports.sender_tells.Goals as goal
 

@@ -1,7 +1,7 @@
 use Rattle.std.proofs.Common.{◌∙◌, sym}
 use Rattle.std.proofs.lemmas.Bool.{false≢true}
-use Rattle.list_passes.specs.KernelDispatch.KernelModel.Recovered.{lists_in}
-use Rattle.list_passes.specs.KernelDispatch.KernelModel.ValidQueues.Place.{Clock, Keyboard, Output}
+use Rattle.kernel_model.specs.KernelRecord.Recovered.{lists_in}
+use Rattle.kernel_model.specs.KernelRecord.ValidQueues.Place.{Clock, Keyboard, Output}
 use Rattle.kernel_check.proofs.ClaimedQueues.{clock-queue, keyboard-queue, output-queue}
 use Rattle.kernel_check.proofs.QueuedPackets.{queue-at}
 use Rattle.kernel_check.proofs.QueueRules.{clock-read, keyboard-read, output-read, read-at}

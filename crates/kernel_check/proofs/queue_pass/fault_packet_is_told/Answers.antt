@@ -1,6 +1,6 @@
 use Rattle.std.proofs.Common.{◌∙◌, refl, sym}
-use Rattle.list_passes.specs.KernelDispatch.KernelModel.Lists.{has_task, is_queued}
-use Rattle.list_passes.specs.KernelDispatch.KernelModel.Recovered.{lists_in}
+use Rattle.kernel_model.specs.KernelRecord.Lists.{has_task, is_queued}
+use Rattle.kernel_model.specs.KernelRecord.Recovered.{lists_in}
 use Rattle.kernel_check.proofs.QueueRules.{fault-absent, fault-free, fault-other, said-free, said-queued}
 use Rattle.kernel_check.proofs.queue_pass.fault_packet_is_told.Goals as goal
 

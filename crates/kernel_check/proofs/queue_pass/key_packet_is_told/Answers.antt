@@ -1,7 +1,7 @@
 use Rattle.std.proofs.Common.{◌∙◌, refl, sym}
 use Rattle.std.specs.Prelude.{is_some}
-use Rattle.list_passes.specs.KernelDispatch.KernelModel.Lists.{is_queued}
-use Rattle.list_passes.specs.KernelDispatch.KernelModel.Recovered.{lists_in}
+use Rattle.kernel_model.specs.KernelRecord.Lists.{is_queued}
+use Rattle.kernel_model.specs.KernelRecord.Recovered.{lists_in}
 use Rattle.kernel_check.proofs.QueueRules.{key-absent, key-free, key-other, said-free, said-queued}
 use Rattle.kernel_check.proofs.queue_pass.key_packet_is_told.Goals as goal
 

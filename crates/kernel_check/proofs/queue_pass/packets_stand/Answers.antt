@@ -1,9 +1,9 @@
 use Rattle.std.proofs.Common.{◌≡◌, ◌∙◌, refl, sym}
 use Rattle.std.proofs.lemmas.Bool.{false≢true}
-use Rattle.list_passes.specs.KernelDispatch.PacketQueue.Queue.{queue_at}
-use Rattle.list_passes.specs.KernelDispatch.KernelModel.Recovered.{lists_in, packet_in}
-use Rattle.list_passes.specs.KernelDispatch.KernelModel.ValidQueues.{MayStand}
-use Rattle.list_passes.proofs.ClaimedWalks.{first, goes, going, gone, known-first, of-map}
+use Rattle.kernel_lists.specs.PacketQueue.Queue.{queue_at}
+use Rattle.kernel_model.specs.KernelRecord.Recovered.{lists_in, packet_in}
+use Rattle.kernel_model.specs.KernelRecord.ValidQueues.{MayStand}
+use Rattle.kernel_check.proofs.ListPasses.ClaimedWalks.{first, goes, going, gone, known-first, of-map}
 use Rattle.kernel_check.specs.Places.{place_of}
 use Rattle.kernel_check.proofs.QueueRules.{Lodged, May}
 use Rattle.kernel_check.proofs.queue_pass.packets_stand.Goals as goal

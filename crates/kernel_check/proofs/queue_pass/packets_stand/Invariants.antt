@@ -1,5 +1,5 @@
-use Rattle.list_passes.specs.KernelDispatch.PacketQueue.Queue.{queue_at}
-use Rattle.list_passes.proofs.ClaimedWalks.{IsGoing}
+use Rattle.kernel_lists.specs.PacketQueue.Queue.{queue_at}
+use Rattle.kernel_check.proofs.ListPasses.ClaimedWalks.{IsGoing}
 use Rattle.kernel_check.specs.Places.{place_of}
 use Rattle.kernel_check.proofs.QueueRules.{Lodged, May}
 use Rattle.kernel_check.proofs.queue_pass.packets_stand.Given as goal

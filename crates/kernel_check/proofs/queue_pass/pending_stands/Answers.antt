@@ -1,8 +1,8 @@
 use Rattle.std.proofs.Common.{◌∙◌, refl, subst, sym}
 use Rattle.std.specs.List.{AllByRecursion}
-use Rattle.list_passes.specs.KernelDispatch.KernelModel.Recovered.{lists_in}
-use Rattle.list_passes.specs.KernelDispatch.KernelModel.ValidQueues.{MayStand}
-use Rattle.list_passes.specs.KernelDispatch.KernelModel.ValidQueues.Place.{Pending}
+use Rattle.kernel_model.specs.KernelRecord.Recovered.{lists_in}
+use Rattle.kernel_model.specs.KernelRecord.ValidQueues.{MayStand}
+use Rattle.kernel_model.specs.KernelRecord.ValidQueues.Place.{Pending}
 use Rattle.kernel_check.proofs.ClaimedQueues.{pending-queue}
 use Rattle.kernel_check.proofs.QueuedPackets.{residents-in}
 use Rattle.kernel_check.proofs.QueueRules.{pending-none, pending-some, read-at}

@@ -1,5 +1,5 @@
 use Rattle.std.proofs.Common.{◌∙◌, ◌+◌, ap}
-use Rattle.list_passes.specs.KernelDispatch.KernelModel.Task.{queue_head}
+use Rattle.kernel_model.specs.KernelRecord.Task.{queue_head}
 use Rattle.kernel_check.proofs.QueuedPackets.{queue-at}
 use Rattle.kernel_check.proofs.QueueRules.{work-at}
 use Rattle.kernel_check.proofs.queue_pass.task_queue_stands.Goals as goal

@@ -1,6 +1,6 @@
 use Rattle.std.proofs.Common.{◌≡◌, refl}
 use Rattle.std.proofs.lemmas.Bool.{false≢true}
-use Rattle.list_passes.specs.KernelDispatch.PacketQueue.Queue.{queue_at}
+use Rattle.kernel_lists.specs.PacketQueue.Queue.{queue_at}
 use Rattle.kernel_check.proofs.QueueRules.{all-rise, of-rises, rises-not, rises-on, rising}
 use Rattle.kernel_check.proofs.queue_pass.ticks_rise.Goals as goal
 

@@ -1,4 +1,4 @@
-use Rattle.list_passes.specs.KernelDispatch.PacketQueue.Queue.{queue_at}
+use Rattle.kernel_lists.specs.PacketQueue.Queue.{queue_at}
 use Rattle.kernel_check.proofs.QueueRules.{IsRising}
 use Rattle.kernel_check.proofs.queue_pass.ticks_rise.Given as goal
 

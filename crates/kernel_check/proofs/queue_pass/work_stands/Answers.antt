@@ -1,11 +1,11 @@
 use Rattle.std.proofs.Common.{◌≡◌, ◌∙◌, refl, sym}
 use Rattle.std.specs.List.{AllByRecursion}
 use Rattle.std.proofs.lemmas.Bool.{false≢true}
-use Rattle.list_passes.specs.KernelDispatch.TaskBlock.TaskChain.{tasks_in}
-use Rattle.list_passes.specs.KernelDispatch.KernelModel.Recovered.{lists_in}
-use Rattle.list_passes.specs.KernelDispatch.KernelModel.ValidQueues.{MayStand}
-use Rattle.list_passes.specs.KernelDispatch.KernelModel.ValidQueues.Place.{Work}
-use Rattle.list_passes.proofs.ClaimedWalks.{chain-walk, first, goes, going, gone, known-first, of-tasks}
+use Rattle.kernel_lists.specs.TaskBlock.TaskChain.{tasks_in}
+use Rattle.kernel_model.specs.KernelRecord.Recovered.{lists_in}
+use Rattle.kernel_model.specs.KernelRecord.ValidQueues.{MayStand}
+use Rattle.kernel_model.specs.KernelRecord.ValidQueues.Place.{Work}
+use Rattle.kernel_check.proofs.ListPasses.ClaimedWalks.{chain-walk, first, goes, going, gone, known-first, of-tasks}
 use Rattle.kernel_check.proofs.QueueRules.{IsKnown, WorkStands, all-known}
 use Rattle.kernel_check.proofs.queue_pass.work_stands.Goals as goal
 

@@ -1,5 +1,5 @@
-use Rattle.list_passes.specs.KernelDispatch.TaskBlock.TaskChain.{tasks_in}
-use Rattle.list_passes.proofs.ClaimedWalks.{IsGoing}
+use Rattle.kernel_lists.specs.TaskBlock.TaskChain.{tasks_in}
+use Rattle.kernel_check.proofs.ListPasses.ClaimedWalks.{IsGoing}
 use Rattle.kernel_check.proofs.QueueRules.{IsKnown, WorkStands}
 use Rattle.kernel_check.proofs.queue_pass.work_stands.Given as goal
 

@@ -1,6 +1,6 @@
 use Rattle.std.proofs.Common.{◌≡◌, ◌∙◌, false, cond, ap, sym}
-use Rattle.list_passes.specs.KernelDispatch.KernelModel.Lists.{is_queued}
-use Rattle.list_passes.specs.KernelDispatch.KernelModel.Recovered.{lists_in}
+use Rattle.kernel_model.specs.KernelRecord.Lists.{is_queued}
+use Rattle.kernel_model.specs.KernelRecord.Recovered.{lists_in}
 use Rattle.kernel_check.proofs.ClaimedQueues.{clock-queue, keyboard-queue, output-queue, pending-queue}
 use Rattle.kernel_check.proofs.QueuedPackets.{at-clock, at-keyboard, at-last, at-output, has-at, has_in, queue-at, residents-in}
 use Rattle.kernel_check.proofs.queued.is_queued.Goals as goal

@@ -1,6 +1,6 @@
 use Rattle.std.proofs.Common.{◌≡◌, ◌∙◌, ◌+◌, ap, sym}
-use Rattle.list_passes.specs.KernelDispatch.TaskBlock.TaskChain.{tasks_in}
-use Rattle.list_passes.proofs.ClaimedWalks.{chain-walk}
+use Rattle.kernel_lists.specs.TaskBlock.TaskChain.{tasks_in}
+use Rattle.kernel_check.proofs.ListPasses.ClaimedWalks.{chain-walk}
 use Rattle.kernel_check.proofs.QueuedPackets.{has_in, looked, looking, looks-on, next-queue, queue-at, work-found}
 use Rattle.kernel_check.proofs.queued.is_work.Goals as goal
 

@@ -1,11 +1,11 @@
 use Rattle.std.proofs.Common.{◌∙◌, ◌+◌, ◌%◌, ◌++◌, [], ◌∷◌, get_or, sym, subst, ap, append-nil}
-use Rattle.kernel_calls.specs.KernelModel.NotedEvents.{NotesAll}
-use Rattle.kernel_calls.proofs.Shown.KernelModel.NotedInTurn.{notes-none}
-use Rattle.kernel_calls.proofs.Shown.PacketCalls.HeldPlaces.{HasFirst}
+use Rattle.kernel_model.specs.KernelRecord.NotedEvents.{NotesAll}
+use Rattle.kernel_model.proofs.KernelRecord.NotedInTurn.{notes-none}
+use Rattle.kernel_calls.proofs.PacketCalls.HeldPlaces.{HasFirst}
 use Rattle.kernel_devices.specs.Printed.{printed}
 use Rattle.kernel_calls.specs.PacketCalls.Returned.{IsServed}
-use Rattle.kernel_calls.specs.PacketCalls.declared.returns.Device.TheVariants.{Output}
-use Rattle.kernel_calls.proofs.Shown.PacketCalls.DeviceQueues.{none-waits, one-waits, returned-none, served-none}
+use Rattle.kernel_calls.specs.declared.packet_calls.returns.Device.TheVariants.{Output}
+use Rattle.kernel_calls.proofs.PacketCalls.DeviceQueues.{none-waits, one-waits, returned-none, served-none}
 use Rattle.kernel_devices.proofs.output.finish_output.Goals as goal
 
 pub returns-then-p-eq0-clause-lists : goal.returns-then-p-eq0-clause-lists

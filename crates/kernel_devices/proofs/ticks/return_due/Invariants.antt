@@ -1,8 +1,8 @@
 use Rattle.std.proofs.Common.{length}
-use Rattle.kernel_calls.specs.PacketQueue.Queue.{queue_at}
-use Rattle.kernel_calls.specs.KernelModel.HoldsLists.{HoldsLists}
-use Rattle.kernel_calls.specs.KernelModel.Lists.{Lists}
-use Rattle.kernel_calls.specs.KernelModel.Owned.{clock_head}
+use Rattle.kernel_lists.specs.PacketQueue.Queue.{queue_at}
+use Rattle.kernel_model.specs.KernelRecord.HoldsLists.{HoldsLists}
+use Rattle.kernel_model.specs.KernelRecord.Lists.{Lists}
+use Rattle.kernel_model.specs.KernelRecord.Owned.{clock_head}
 use Rattle.kernel_devices.proofs.ReturnedPackets.{HasReturned}
 use Rattle.kernel_devices.proofs.ticks.return_due.Given as goal
 

@@ -1,6 +1,6 @@
 use Rattle.std.proofs.Common.{arith, ◌+◌}
-use Rattle.kernel_calls.specs.KernelModel.Lists.{Lists}
-use Rattle.kernel_calls.proofs.Shown.CallAnswers.RootTold.{tick-told}
+use Rattle.kernel_model.specs.KernelRecord.Lists.{Lists}
+use Rattle.kernel_calls.proofs.CallAnswers.RootTold.{tick-told}
 use Rattle.kernel_devices.specs.Tick.{with_tick}
 use Rattle.kernel_devices.proofs.WholeTick.{tick-held, tick-noted, tick-served}
 use Rattle.kernel_devices.proofs.ticks.tick.Goals as goal

@@ -1,6 +1,6 @@
 use Rattle.std.proofs.Common.{◌≡◌, ◌-◌, ◌≤◌, ap, arith, false, sym, subst, true, ◌∙◌}
-use Rattle.tp_io.specs.Pending.{Gathers, IsGathered}
-use Rattle.tp_io.proofs.GatheredTexts.{IsGathered-nothing}
+use Rattle.byte_streams.specs.Pending.{Gathers, IsGathered}
+use Rattle.byte_streams.proofs.GatheredTexts.{IsGathered-nothing}
 use Rattle.tripos_machine.specs.State.{steps_of}
 use Rattle.machine_ring.specs.IdleRounds.{IsStill, left_after}
 use Rattle.machine_ring.specs.Rounds.{Rounded, can_step}

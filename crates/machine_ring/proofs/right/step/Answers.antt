@@ -1,8 +1,8 @@
 use Rattle.std.proofs.Common.{◌≡◌, ◌∙◌, List, [], ap, cond, length, subst, sym, true, ℕ}
 use Rattle.std.proofs.lemmas.Bool.{eqb-true}
 use Rattle.std.proofs.lemmas.List.{nil_from_length}
-use Rattle.tp_io.specs.Pending.{IsGathered}
-use Rattle.tp_io.proofs.GatheredTexts.{IsGathered-nothing}
+use Rattle.byte_streams.specs.Pending.{IsGathered}
+use Rattle.byte_streams.proofs.GatheredTexts.{IsGathered-nothing}
 use Rattle.tripos_machine.specs.Step.{step}
 use Rattle.machine_ring.specs.Rounds.{can_step, shown_by}
 use Rattle.machine_ring.proofs.right.step.Goals as goal

@@ -1,8 +1,8 @@
 use Rattle.std.proofs.Common.{◌+◌, ◌-◌, ◌≡◌, ◌≤◌, ap, arith, refl, sym, subst, ◌∙◌}
 use Rattle.std.proofs.lemmas.Bool.{ltb-false, ltb-true}
 use Rattle.std.proofs.lemmas.Result.{err_from_is_err_and}
-use Rattle.tp_io.specs.Pending.{IsCut, IsGathered}
-use Rattle.tripos_machine.specs.KernelCalls.KernelModel.Ranges.{most_steps}
+use Rattle.byte_streams.specs.Pending.{IsCut, IsGathered}
+use Rattle.kernel_model.specs.KernelRecord.Ranges.{most_steps}
 use Rattle.tripos_machine.specs.Runs.{end_of_run}
 use Rattle.machine_ring.specs.Links.{Link}
 use Rattle.machine_ring.specs.Outcomes.{outcome_of}

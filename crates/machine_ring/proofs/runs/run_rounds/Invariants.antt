@@ -1,5 +1,5 @@
 use Rattle.std.proofs.Common.{◌≡◌, ◌-◌, ◌≤◌}
-use Rattle.tp_io.specs.Pending.{IsGathered}
+use Rattle.byte_streams.specs.Pending.{IsGathered}
 use Rattle.machine_ring.specs.Rings.{ring_with}
 use Rattle.machine_ring.specs.Runs.{run}
 use Rattle.machine_ring.proofs.runs.run_rounds.Given as goal

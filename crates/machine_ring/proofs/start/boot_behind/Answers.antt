@@ -1,10 +1,10 @@
 use Rattle.std.proofs.Common.{ℕ, ◌+◌, ◌<◌}
 use Rattle.std.specs.Prelude.{◌^◌}
-use Rattle.hunk_text.specs.TextReader.Refusal.{refusal}
+use Rattle.module_text.specs.TextReader.Refusal.{refusal}
 use Rattle.session_text.specs.declared.sessions.Session.{Session}
-use Rattle.ring_link.specs.LawfulRing.{FitBehind}
-use Rattle.tripos_machine.specs.BareMachine.declared.boot.BootEnd.{BootEnd}
-use Rattle.tripos_machine.specs.BareMachine.declared.boot.BootEnd.TheVariants.{Line, WantMemory}
+use Rattle.machine_ring.specs.RingLink.LawfulRing.{FitBehind}
+use Rattle.bare_machine.specs.declared.boot.BootEnd.{BootEnd}
+use Rattle.bare_machine.specs.declared.boot.BootEnd.TheVariants.{Line, WantMemory}
 use Rattle.tripos_machine.specs.Boot.{EndsAs, boot}
 use Rattle.tripos_machine.proofs.RefusedLines.{boot-refused}
 use Rattle.machine_ring.specs.Boot.{FitsBehind}

@@ -1,5 +1,5 @@
 use Rattle.std.proofs.Common.{◌≡◌, ◌≤◌, ◌+◌, length}
-use Rattle.hunk_text.specs.TextReader.Lines.{lines_of}
+use Rattle.module_text.specs.TextReader.Lines.{lines_of}
 use Rattle.session_text.specs.Front.{front_count}
 use Rattle.session_text.proofs.fronts.front_count.Given as goal
 

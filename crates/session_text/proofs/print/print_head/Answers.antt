@@ -1,5 +1,5 @@
 use Rattle.std.proofs.Common.{ℕ, List, sym, subst}
-use Rattle.tp_io.specs.Write.{Prints}
+use Rattle.byte_streams.specs.Write.{Prints}
 use Rattle.session_text.proofs.PrintedTexts.{head_pieces}
 use Rattle.session_text.proofs.print.print_head.Goals as goal
 

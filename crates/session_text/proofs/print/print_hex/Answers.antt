@@ -1,8 +1,8 @@
 use Rattle.std.proofs.Common.{arith}
 use Rattle.std.proofs.lemmas.Result.{err_from_is_err_and}
-use Rattle.tp_io.proofs.FailedPrint.{Prints-cut}
+use Rattle.byte_streams.proofs.FailedPrint.{Prints-cut}
 use Rattle.session_text.proofs.PrintedTexts.{hex_at, hex_more}
-use Rattle.tp_io.proofs.AppendedTexts.{Appends-then}
+use Rattle.byte_streams.proofs.AppendedTexts.{Appends-then}
 use Rattle.session_text.proofs.print.print_hex.Goals as goal
 
 pub returns-in_err-print_byte-clause-text : goal.returns-in_err-print_byte-clause-text

@@ -1,5 +1,5 @@
 use Rattle.std.proofs.lemmas.Result.{err_from_is_err_and}
-use Rattle.tp_io.proofs.FailedPrint.{Prints-cut}
+use Rattle.byte_streams.proofs.FailedPrint.{Prints-cut}
 use Rattle.session_text.proofs.PrintedTexts.{keys_at}
 use Rattle.session_text.proofs.print.print_keys.Goals as goal
 

@@ -1,6 +1,6 @@
 use Rattle.std.proofs.Common.{◌≤◌, take}
 use Rattle.std.specs.Io.KnownBytes.{Appends}
-use Rattle.hunk_text.specs.TextReader.Lines.{text_of_lines}
+use Rattle.module_text.specs.TextReader.Lines.{text_of_lines}
 use Rattle.session_text.specs.Canonical.{keys_text}
 use Rattle.session_text.proofs.print.print_keys.Given as goal
 

@@ -1,7 +1,7 @@
 use Rattle.std.proofs.Common.{[]}
 use Rattle.std.proofs.lemmas.Result.{err_from_is_err_and}
-use Rattle.tp_io.proofs.FailedPrint.{Prints-cut}
-use Rattle.tp_io.proofs.AppendedTexts.{Appends-nothing, Appends-then, Prints-then}
+use Rattle.byte_streams.proofs.FailedPrint.{Prints-cut}
+use Rattle.byte_streams.proofs.AppendedTexts.{Appends-nothing, Appends-then, Prints-then}
 use Rattle.session_text.proofs.PrintedTexts.{canonical_fourth, canonical_parts, canonical_third}
 use Rattle.session_text.proofs.print.print_session.Goals as goal
 

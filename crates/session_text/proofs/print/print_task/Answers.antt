@@ -1,8 +1,8 @@
 use Rattle.std.proofs.Common.{ℕ, List, [], ◌∷◌, sym, subst}
 use Rattle.std.proofs.lemmas.Result.{err_from_is_err_and}
-use Rattle.tp_io.proofs.FailedPrint.{Prints-cut}
-use Rattle.tp_io.proofs.AppendedTexts.{Appends-nothing, Prints-then}
-use Rattle.tp_io.specs.Write.{Prints}
+use Rattle.byte_streams.proofs.FailedPrint.{Prints-cut}
+use Rattle.byte_streams.proofs.AppendedTexts.{Appends-nothing, Prints-then}
+use Rattle.byte_streams.specs.Write.{Prints}
 use Rattle.session_text.proofs.PrintedTexts.{task_pieces}
 use Rattle.session_text.proofs.print.print_task.Goals as goal
 

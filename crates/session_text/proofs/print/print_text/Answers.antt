@@ -1,7 +1,7 @@
 use Rattle.std.proofs.Common.{◌∙◌, ◌∷◌, [], ◌++◌, sym, append_assoc, arith}
 use Rattle.std.proofs.lemmas.Result.{err_from_is_err_and}
-use Rattle.tp_io.proofs.FailedPrint.{Prints-cut}
-use Rattle.tp_io.proofs.AppendedTexts.{Appends-then}
+use Rattle.byte_streams.proofs.FailedPrint.{Prints-cut}
+use Rattle.byte_streams.proofs.AppendedTexts.{Appends-then}
 use Rattle.session_text.proofs.PrintedTexts.{colon_text, colon_text-more}
 use Rattle.session_text.proofs.print.print_text.Goals as goal
 

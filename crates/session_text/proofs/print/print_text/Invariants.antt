@@ -1,6 +1,6 @@
 use Rattle.std.proofs.Common.{◌≡◌, ◌≤◌, ◌++◌, List, ℕ, length, map}
 use Rattle.std.specs.Io.KnownBytes.{Appends}
-use Rattle.hunk_text.specs.TextReader.Lines.{lines_of, text_of_lines}
+use Rattle.module_text.specs.TextReader.Lines.{lines_of, text_of_lines}
 use Rattle.session_text.specs.Entries.{colon_line}
 use Rattle.session_text.proofs.print.print_text.Given as goal
 

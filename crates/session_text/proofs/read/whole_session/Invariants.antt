@@ -1,5 +1,5 @@
 use Rattle.std.proofs.Common.{◌≡◌, ◌^◌, ◌<◌, ◌≤◌, ◌+◌, ◌⊎◌, length}
-use Rattle.hunk_text.specs.TextReader.Lines.{lines_of}
+use Rattle.module_text.specs.TextReader.Lines.{lines_of}
 use Rattle.session_text.specs.SessionOfText.{read_on, session_of}
 use Rattle.session_text.specs.declared.drafts.Place.TheVariants.{Version}
 use Rattle.session_text.proofs.read.whole_session.Given as goal

@@ -1,11 +1,11 @@
 use Rattle.std.proofs.Common.{◌≡◌, Ok, Err, refl, ap, subst, arith}
 use Rattle.std.proofs.lemmas.Bool.{leb-true}
-use Rattle.tp_io.specs.Write.{Prints}
-use Rattle.hunk_text.specs.TextReader.Refusal.{refusal}
-use Rattle.step_log.specs.TriposMachine.BareMachine.declared.boot.BootEnd.{BootEnd}
-use Rattle.step_log.specs.TriposMachine.KernelCalls.KernelModel.Ranges.{most_steps}
-use Rattle.step_log.specs.TriposMachine.Boot.{EndsAs, boot}
-use Rattle.step_log.specs.TriposMachine.State.{State, steps_of}
+use Rattle.byte_streams.specs.Write.{Prints}
+use Rattle.module_text.specs.TextReader.Refusal.{refusal}
+use Rattle.bare_machine.specs.declared.boot.BootEnd.{BootEnd}
+use Rattle.kernel_model.specs.KernelRecord.Ranges.{most_steps}
+use Rattle.tripos_machine.specs.Boot.{EndsAs, boot}
+use Rattle.tripos_machine.specs.State.{State, steps_of}
 use Rattle.program_answers.specs.Texts.{no_boot_text}
 use Rattle.program_answers.proofs.AnswerParts.{Answers-done, Answers-no_boot}
 use Rattle.show_run.specs.ShownAnswers.{machine_answer, shown_text}

@@ -1,7 +1,7 @@
 use Rattle.std.proofs.Common.{subst}
 use Rattle.session_text.specs.SessionOfText.{session_of}
-use Rattle.hunk_text.specs.TextReader.Answers.{EndsAs}
-use Rattle.hunk_text.specs.TextReader.Refusal.{refusal}
+use Rattle.module_text.specs.TextReader.Answers.{EndsAs}
+use Rattle.module_text.specs.TextReader.Refusal.{refusal}
 use Rattle.program_answers.proofs.AnswerParts.{Answers-refused}
 use Rattle.show_run.proofs.FileLengths.{short-files}
 use Rattle.show_run.proofs.answer.answer_session_text.Goals as goal

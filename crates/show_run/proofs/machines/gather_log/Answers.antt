@@ -1,5 +1,5 @@
 use Rattle.std.proofs.lemmas.Result.{err_from_is_err_and}
-use Rattle.tp_io.proofs.GatheredTexts.{Gathers-then, IsCut-more}
+use Rattle.byte_streams.proofs.GatheredTexts.{Gathers-then, IsCut-more}
 use Rattle.show_run.specs.ShownAnswers.{steps_part}
 use Rattle.show_run.proofs.machines.gather_log.Goals as goal
 

@@ -1,9 +1,9 @@
 use Rattle.std.proofs.Common.{ap, arith, subst}
-use Rattle.tp_io.specs.Pending.{Gathers}
-use Rattle.step_log.specs.StepLines.{log_text}
-use Rattle.step_log.specs.TriposMachine.State.{steps_of}
-use Rattle.step_log.specs.TriposMachine.Step.{run}
-use Rattle.step_log.proofs.Shown.TriposMachine.StateRuns.{run-steps}
+use Rattle.byte_streams.specs.Pending.{Gathers}
+use Rattle.show_run.specs.StepLog.StepLines.{log_text}
+use Rattle.tripos_machine.specs.State.{steps_of}
+use Rattle.tripos_machine.specs.Step.{run}
+use Rattle.tripos_machine.proofs.StateRuns.{run-steps}
 use Rattle.show_run.specs.ShownAnswers.{shown}
 use Rattle.show_run.proofs.machines.gather_steps_part.Goals as goal
 

@@ -1,4 +1,4 @@
-use Rattle.tp_io.proofs.GatheredTexts.{Prints-gathered}
+use Rattle.byte_streams.proofs.GatheredTexts.{Prints-gathered}
 use Rattle.show_run.proofs.machines.show_log.Goals as goal
 
 pub returns-clause-text : goal.returns-clause-text

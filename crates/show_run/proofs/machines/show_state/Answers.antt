@@ -1,5 +1,5 @@
 use Rattle.std.proofs.Common.{subst}
-use Rattle.tp_io.specs.Write.{Prints}
+use Rattle.byte_streams.specs.Write.{Prints}
 use Rattle.state_text.specs.StateText.{state_text}
 use Rattle.show_run.proofs.machines.show_state.Goals as goal
 

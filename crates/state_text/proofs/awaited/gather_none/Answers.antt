@@ -1,7 +1,7 @@
 use Rattle.std.proofs.Common.{◌≡◌, ◌∙◌, false, sym}
 use Rattle.std.specs.List.{list_any}
-use Rattle.kernel_dispatch.specs.KernelModel.Lists.{queued}
-use Rattle.kernel_dispatch.specs.KernelModel.Recovered.{lists_in}
+use Rattle.kernel_model.specs.KernelRecord.Lists.{queued}
+use Rattle.kernel_model.specs.KernelRecord.Recovered.{lists_in}
 use Rattle.state_text.specs.AwaitedPackets.{is_from}
 use Rattle.state_text.proofs.awaited.gather_none.Goals as goal
 

@@ -2,8 +2,8 @@ use Rattle.std.proofs.Common.{◌∙◌, [], ap, arith, cond, sym}
 use Rattle.std.specs.List.{flat_map}
 use Rattle.std.proofs.lemmas.List.Folds.{flat_map-map}
 use Rattle.std.proofs.lemmas.Result.{err_from_is_err_and}
-use Rattle.kernel_dispatch.specs.KernelModel.Recovered.{packet_in, packets_at}
-use Rattle.kernel_dispatch.specs.PacketQueue.Queue.{queue_at}
+use Rattle.kernel_model.specs.KernelRecord.Recovered.{packet_in, packets_at}
+use Rattle.kernel_lists.specs.PacketQueue.Queue.{queue_at}
 use Rattle.state_text.specs.AwaitedPackets.{is_from, its_lines, its_packet_line}
 use Rattle.state_text.proofs.GatheredLines.{lines-cut, lines-filter, lines-first, lines-next}
 use Rattle.state_text.proofs.awaited.gather_sent.Goals as goal

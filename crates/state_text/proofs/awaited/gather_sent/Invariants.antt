@@ -1,5 +1,5 @@
 use Rattle.std.proofs.Common.{◌≤◌, [], cond}
-use Rattle.kernel_dispatch.specs.KernelModel.Recovered.{packet_in, packets_at}
+use Rattle.kernel_model.specs.KernelRecord.Recovered.{packet_in, packets_at}
 use Rattle.state_text.specs.AwaitedPackets.{is_from, its_lines, its_packet_line}
 use Rattle.state_text.proofs.GatheredLines.{IsSoFar}
 use Rattle.state_text.proofs.awaited.gather_sent.Given as goal

@@ -1,7 +1,7 @@
 use Rattle.std.proofs.Common.{◌≤◌}
 use Rattle.std.specs.List.{AllByRecursion, flat_map}
-use Rattle.kernel_dispatch.specs.KernelModel.KernelRanges.{CanWalkTask}
-use Rattle.kernel_dispatch.specs.KernelModel.Recovered.{lists_in, task_in}
+use Rattle.kernel_model.specs.KernelRecord.KernelRanges.{CanWalkTask}
+use Rattle.kernel_model.specs.KernelRecord.Recovered.{lists_in, task_in}
 use Rattle.state_text.specs.AwaitedPackets.{its_lines_at_task}
 use Rattle.state_text.proofs.GatheredLines.{IsSoFar}
 use Rattle.state_text.proofs.awaited.gather_sent_to_tasks.Given as goal

@@ -2,9 +2,9 @@ use Rattle.std.proofs.Common.{◌∙◌, ap, arith, subst, sym}
 use Rattle.std.specs.List.{AllByRecursion, flat_map}
 use Rattle.std.proofs.lemmas.List.Folds.{flat_map-map}
 use Rattle.std.proofs.lemmas.Result.{err_from_is_err_and}
-use Rattle.kernel_dispatch.specs.KernelModel.KernelRanges.{IsModuleIn}
-use Rattle.kernel_dispatch.specs.KernelModel.Recovered.{lists_in, module_in}
-use Rattle.kernel_dispatch.specs.TaskBlock.Lists.{modules_in}
+use Rattle.kernel_model.specs.KernelRecord.KernelRanges.{IsModuleIn}
+use Rattle.kernel_model.specs.KernelRecord.Recovered.{lists_in, module_in}
+use Rattle.kernel_lists.specs.TaskBlock.Lists.{modules_in}
 use Rattle.state_text.specs.ModuleTexts.{module_line}
 use Rattle.state_text.specs.ProgramNames.{name_in}
 use Rattle.state_text.proofs.GatheredLines.{lines-cut, lines-first, lines-next}

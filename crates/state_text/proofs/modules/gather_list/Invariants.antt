@@ -1,7 +1,7 @@
 use Rattle.std.proofs.Common.{◌≤◌}
 use Rattle.std.specs.List.{AllByRecursion, flat_map}
-use Rattle.kernel_dispatch.specs.KernelModel.KernelRanges.{IsModuleIn}
-use Rattle.kernel_dispatch.specs.KernelModel.Recovered.{lists_in, module_in}
+use Rattle.kernel_model.specs.KernelRecord.KernelRanges.{IsModuleIn}
+use Rattle.kernel_model.specs.KernelRecord.Recovered.{lists_in, module_in}
 use Rattle.state_text.specs.ModuleTexts.{module_line}
 use Rattle.state_text.specs.ProgramNames.{name_in}
 use Rattle.state_text.proofs.GatheredLines.{IsSoFar}

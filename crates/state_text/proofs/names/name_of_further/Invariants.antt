@@ -1,6 +1,6 @@
 use Rattle.std.proofs.Common.{◌≡◌, ◌+◌}
 use Rattle.std.specs.Prelude.{slice_range}
-use Rattle.kernel_dispatch.specs.TaskBlock.Versions.{head_words}
+use Rattle.kernel_lists.specs.TaskBlock.Versions.{head_words}
 use Rattle.state_text.specs.ProgramNames.{first_name, name_in}
 use Rattle.state_text.proofs.FurtherNames.{modules_among}
 use Rattle.state_text.proofs.names.name_of_further.Given as goal

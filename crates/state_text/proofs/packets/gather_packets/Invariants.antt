@@ -1,5 +1,5 @@
 use Rattle.std.proofs.Common.{◌≤◌}
-use Rattle.kernel_dispatch.specs.KernelModel.Recovered.{packet_in, packets_at}
+use Rattle.kernel_model.specs.KernelRecord.Recovered.{packet_in, packets_at}
 use Rattle.state_text.specs.PacketTexts.{packet_line, packet_lines}
 use Rattle.state_text.proofs.GatheredLines.{IsSoFar}
 use Rattle.state_text.proofs.packets.gather_packets.Given as goal

@@ -2,8 +2,8 @@ use Rattle.std.proofs.Common.{◌∙◌, ◌+◌, ap, length, sym}
 use Rattle.std.specs.Prelude.{nat_eq}
 use Rattle.std.specs.List.{starts_with}
 use Rattle.std.proofs.lemmas.List.{length-map}
-use Rattle.hunk_text.specs.declared.modules.Hunk.{Hunk}
-use Rattle.kernel_dispatch.specs.HunkLoader.ModuleRow.{hunks_image, lengths_of}
+use Rattle.module_text.specs.declared.modules.Hunk.{Hunk}
+use Rattle.kernel_lists.specs.HunkLoader.ModuleRow.{hunks_image, lengths_of}
 use Rattle.state_text.proofs.LoadedWords.{both-next, both-other}
 use Rattle.state_text.proofs.programs.has_hunks.Goals as goal
 

@@ -1,5 +1,5 @@
 use Rattle.std.proofs.Common.{◌∙◌, ◌<◌, ◌≤◌, ℕ, List, length, ap, arith, sym}
-use Rattle.kernel_dispatch.specs.HunkLoader.RelocatedWords.{relocated}
+use Rattle.kernel_lists.specs.HunkLoader.RelocatedWords.{relocated}
 use Rattle.state_text.proofs.LoadedWords.{length-relocated, starts-end, starts-none, starts-other}
 use Rattle.state_text.proofs.programs.has_image.Goals as goal
 

@@ -1,7 +1,7 @@
 use Rattle.std.proofs.Common.{◌≡◌, ◌+◌, drop, length}
 use Rattle.std.specs.Prelude.{nat_eq}
 use Rattle.std.specs.List.{starts_with}
-use Rattle.kernel_dispatch.specs.HunkLoader.RelocatedWords.{relocated}
+use Rattle.kernel_lists.specs.HunkLoader.RelocatedWords.{relocated}
 use Rattle.state_text.proofs.programs.has_image.Given as goal
 
 abbrev pub invariant-loop-i : goal.invariant-loop-i

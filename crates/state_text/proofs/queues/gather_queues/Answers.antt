@@ -1,6 +1,6 @@
 use Rattle.std.proofs.lemmas.Result.{err_from_is_err_and}
-use Rattle.tp_io.proofs.GatheredTexts.{Gathers-then, IsCut-more, IsCut-then}
-use Rattle.kernel_dispatch.specs.KernelModel.Recovered.{lists_in}
+use Rattle.byte_streams.proofs.GatheredTexts.{Gathers-then, IsCut-more, IsCut-then}
+use Rattle.kernel_model.specs.KernelRecord.Recovered.{lists_in}
 use Rattle.state_text.specs.PacketTexts.{queues_text}
 use Rattle.state_text.proofs.GatheredLines.{gathers-last}
 use Rattle.state_text.proofs.queues.gather_queues.Goals as goal

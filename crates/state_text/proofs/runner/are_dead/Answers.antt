@@ -1,8 +1,8 @@
 use Rattle.std.proofs.Common.{◌∙◌, ap, sym}
 use Rattle.std.specs.List.{list_all}
 use Rattle.std.proofs.lemmas.List.Folds.{list_all-map}
-use Rattle.kernel_dispatch.specs.KernelModel.Recovered.{task_in}
-use Rattle.kernel_dispatch.specs.TaskBlock.TaskChain.{tasks_in}
+use Rattle.kernel_model.specs.KernelRecord.Recovered.{task_in}
+use Rattle.kernel_lists.specs.TaskBlock.TaskChain.{tasks_in}
 use Rattle.state_text.specs.Runner.{is_dead}
 use Rattle.state_text.proofs.ListedWords.{listed-tasks}
 use Rattle.state_text.proofs.runner.are_dead.Goals as goal

@@ -1,6 +1,6 @@
 use Rattle.std.proofs.Common.{◌≡◌, ◌∙◌, false, refl, sym, true}
-use Rattle.kernel_dispatch.specs.KernelModel.Between.{is_empty_queue}
-use Rattle.kernel_dispatch.specs.KernelModel.Recovered.{lists_in}
+use Rattle.kernel_model.specs.KernelRecord.Between.{is_empty_queue}
+use Rattle.kernel_model.specs.KernelRecord.Recovered.{lists_in}
 use Rattle.state_text.proofs.runner.can_answer.Goals as goal
 
 pub returns-then-not-is_empty_queue : goal.returns-then-not-is_empty_queue

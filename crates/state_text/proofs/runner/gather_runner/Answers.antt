@@ -1,6 +1,6 @@
 use Rattle.std.proofs.Common.{◌≡◌, ◌∙◌, subst, sym}
-use Rattle.tp_io.specs.Pending.{Gathers}
-use Rattle.cint_debug.specs.TriposMachine.State.{running_of}
+use Rattle.byte_streams.specs.Pending.{Gathers}
+use Rattle.tripos_machine.specs.State.{running_of}
 use Rattle.state_text.specs.Runner.{has_keys, idle_line, runner_text}
 use Rattle.state_text.proofs.KernelStates.{idle-runner, on-lists, walks}
 use Rattle.state_text.proofs.runner.gather_runner.Goals as goal

@@ -1,5 +1,5 @@
 use Rattle.std.proofs.Common.{◌∙◌, ap, map}
-use Rattle.kernel_dispatch.specs.KernelModel.Recovered.{task_in}
+use Rattle.kernel_model.specs.KernelRecord.Recovered.{task_in}
 use Rattle.state_text.specs.Runner.{has_member}
 use Rattle.state_text.proofs.ListedWords.{first-member, listed-tasks}
 use Rattle.state_text.proofs.runner.has_tasks.Goals as goal

@@ -1,6 +1,6 @@
 use Rattle.std.proofs.Common.{◌≡◌, ◌∙◌, false, refl, sym, true}
 use Rattle.std.specs.List.{list_any}
-use Rattle.kernel_dispatch.specs.KernelModel.Recovered.{lists_in}
+use Rattle.kernel_model.specs.KernelRecord.Recovered.{lists_in}
 use Rattle.state_text.specs.AwaitedPackets.{is_from}
 use Rattle.state_text.proofs.ListedWords.{any-queued}
 use Rattle.state_text.proofs.sent.has_packet.Goals as goal

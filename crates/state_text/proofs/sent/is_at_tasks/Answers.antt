@@ -1,8 +1,8 @@
 use Rattle.std.proofs.Common.{◌∙◌, ap, subst, sym}
 use Rattle.std.specs.List.{AllByRecursion, list_any}
-use Rattle.kernel_dispatch.specs.KernelModel.KernelRanges.{CanWalkTask}
-use Rattle.kernel_dispatch.specs.KernelModel.Recovered.{task_in}
-use Rattle.kernel_dispatch.specs.TaskBlock.TaskChain.{tasks_in}
+use Rattle.kernel_model.specs.KernelRecord.KernelRanges.{CanWalkTask}
+use Rattle.kernel_model.specs.KernelRecord.Recovered.{task_in}
+use Rattle.kernel_lists.specs.TaskBlock.TaskChain.{tasks_in}
 use Rattle.state_text.specs.AwaitedPackets.{is_from}
 use Rattle.state_text.proofs.ListedWords.{any-map, listed-tasks}
 use Rattle.state_text.proofs.sent.is_at_tasks.Goals as goal

@@ -1,7 +1,7 @@
 use Rattle.std.proofs.Common.{◌≡◌}
 use Rattle.std.specs.List.{AllByRecursion, list_any}
-use Rattle.kernel_dispatch.specs.KernelModel.KernelRanges.{CanWalkTask}
-use Rattle.kernel_dispatch.specs.KernelModel.Recovered.{lists_in, task_in}
+use Rattle.kernel_model.specs.KernelRecord.KernelRanges.{CanWalkTask}
+use Rattle.kernel_model.specs.KernelRecord.Recovered.{lists_in, task_in}
 use Rattle.state_text.specs.AwaitedPackets.{is_from}
 use Rattle.state_text.proofs.sent.is_at_tasks.Given as goal
 

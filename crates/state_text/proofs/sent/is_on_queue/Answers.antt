@@ -1,7 +1,7 @@
 use Rattle.std.proofs.Common.{◌∙◌, ap, sym}
 use Rattle.std.specs.List.{list_any}
-use Rattle.kernel_dispatch.specs.KernelModel.Recovered.{packet_in}
-use Rattle.kernel_dispatch.specs.PacketQueue.Queue.{queue_at}
+use Rattle.kernel_model.specs.KernelRecord.Recovered.{packet_in}
+use Rattle.kernel_lists.specs.PacketQueue.Queue.{queue_at}
 use Rattle.state_text.specs.AwaitedPackets.{is_from}
 use Rattle.state_text.proofs.ListedWords.{any-map}
 use Rattle.state_text.proofs.sent.is_on_queue.Goals as goal

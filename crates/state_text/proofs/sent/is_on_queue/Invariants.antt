@@ -1,6 +1,6 @@
 use Rattle.std.proofs.Common.{◌≡◌}
 use Rattle.std.specs.List.{list_any}
-use Rattle.kernel_dispatch.specs.KernelModel.Recovered.{packet_in, packets_at}
+use Rattle.kernel_model.specs.KernelRecord.Recovered.{packet_in, packets_at}
 use Rattle.state_text.specs.AwaitedPackets.{is_from}
 use Rattle.state_text.proofs.sent.is_on_queue.Given as goal
 

@@ -1,7 +1,7 @@
-use Rattle.tp_io.specs.Pending.{Gathers}
-use Rattle.cint_debug.specs.TriposMachine.State.{steps_of}
-use Rattle.cint_debug.proofs.KernelParts.{on-bare}
-use Rattle.kernel_dispatch.specs.KernelModel.Recovered.{lists_in}
+use Rattle.byte_streams.specs.Pending.{Gathers}
+use Rattle.tripos_machine.specs.State.{steps_of}
+use Rattle.debugger.proofs.KernelParts.{on-bare}
+use Rattle.kernel_model.specs.KernelRecord.Recovered.{lists_in}
 use Rattle.state_text.specs.StateText.{bare_counts, count_words, kernel_counts}
 use Rattle.state_text.proofs.KernelStates.{on-lists}
 use Rattle.state_text.proofs.states.gather_counts.Goals as goal

@@ -1,5 +1,5 @@
-use Rattle.tp_io.specs.Pending.{Gathers}
-use Rattle.cint_debug.specs.Texts.{blocks_text}
+use Rattle.byte_streams.specs.Pending.{Gathers}
+use Rattle.debugger.specs.Texts.{blocks_text}
 use Rattle.state_text.specs.ProgramNames.{name_in}
 use Rattle.state_text.specs.StateText.{kernel_text, lists_text}
 use Rattle.state_text.proofs.KernelStates.{on-words, walks}

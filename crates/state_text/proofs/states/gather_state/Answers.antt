@@ -1,5 +1,5 @@
 use Rattle.std.proofs.lemmas.Result.{err_from_is_err_and}
-use Rattle.tp_io.proofs.GatheredTexts.{Gathers-then, IsCut-more, IsCut-then}
+use Rattle.byte_streams.proofs.GatheredTexts.{Gathers-then, IsCut-more, IsCut-then}
 use Rattle.state_text.specs.StateText.{state_text}
 use Rattle.state_text.proofs.GatheredLines.{gathers-last}
 use Rattle.state_text.proofs.states.gather_state.Goals as goal

@@ -2,9 +2,9 @@ use Rattle.std.proofs.Common.{◌∙◌, ap, arith, subst, sym}
 use Rattle.std.specs.List.{AllByRecursion, flat_map}
 use Rattle.std.proofs.lemmas.List.Folds.{flat_map-map}
 use Rattle.std.proofs.lemmas.Result.{err_from_is_err_and}
-use Rattle.kernel_dispatch.specs.KernelModel.KernelRanges.{CanWalkTask}
-use Rattle.kernel_dispatch.specs.KernelModel.Recovered.{lists_in, task_in}
-use Rattle.kernel_dispatch.specs.TaskBlock.TaskChain.{tasks_in}
+use Rattle.kernel_model.specs.KernelRecord.KernelRanges.{CanWalkTask}
+use Rattle.kernel_model.specs.KernelRecord.Recovered.{lists_in, task_in}
+use Rattle.kernel_lists.specs.TaskBlock.TaskChain.{tasks_in}
 use Rattle.state_text.specs.ProgramNames.{name_in}
 use Rattle.state_text.specs.TaskTexts.{task_text}
 use Rattle.state_text.proofs.GatheredLines.{lines-cut, lines-first, lines-next}

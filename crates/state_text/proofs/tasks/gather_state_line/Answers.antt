@@ -1,5 +1,5 @@
 use Rattle.std.proofs.lemmas.Result.{err_from_is_err_and}
-use Rattle.tp_io.proofs.GatheredTexts.{IsCut-more}
+use Rattle.byte_streams.proofs.GatheredTexts.{IsCut-more}
 use Rattle.state_text.proofs.GatheredLines.{gathers-last}
 use Rattle.state_text.proofs.tasks.gather_state_line.Goals as goal
 

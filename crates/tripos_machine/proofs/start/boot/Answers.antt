@@ -1,9 +1,9 @@
 use Rattle.std.proofs.Common.{◌∙◌, ap, refl}
-use Rattle.history_law.specs.MachineBoot.Boot.{HasKernel}
+use Rattle.kernel_machine.specs.MachineBoot.Boot.{HasKernel}
 use Rattle.tripos_machine.specs.Boot.{bare_booted, kernel_booted}
 use Rattle.tripos_machine.specs.State.State.{Bare, Full}
 use Rattle.tripos_machine.specs.Step.{of_kernel, quietly}
-use Rattle.history_law.proofs.Shown.MachineBoot.BootedKernels.{booted-events}
+use Rattle.kernel_machine.proofs.MachineBoot.BootedKernels.{booted-events}
 use Rattle.tripos_machine.proofs.BootedSteps.{all-to-come, bare-goes, bare-no-steps, boot-bare, boot-full, booted-steps}
 use Rattle.bare_machine.proofs.WordCounts.{any-size}
 use Rattle.tripos_machine.proofs.start.boot.Goals as goal

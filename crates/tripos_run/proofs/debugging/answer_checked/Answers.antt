@@ -1,4 +1,4 @@
-use Rattle.hunk_text.specs.TextReader.Refusal.{refusal}
+use Rattle.module_text.specs.TextReader.Refusal.{refusal}
 use Rattle.program_answers.proofs.AnswerParts.{Answers-refused}
 use Rattle.tripos_run.proofs.debugging.answer_checked.Goals as goal
 

@@ -1,7 +1,7 @@
 use Rattle.std.proofs.Common.{subst, arith}
-use Rattle.hunk_text.specs.TextReader.Answers.{EndsAs}
-use Rattle.hunk_text.specs.TextReader.Lines.{lines_of}
-use Rattle.hunk_text.specs.TextReader.Refusal.{refusal}
+use Rattle.module_text.specs.TextReader.Answers.{EndsAs}
+use Rattle.module_text.specs.TextReader.Lines.{lines_of}
+use Rattle.module_text.specs.TextReader.Refusal.{refusal}
 use Rattle.session_text.specs.Front.{front_count, front_lines}
 use Rattle.session_text.specs.SessionOfText.{session_lines}
 use Rattle.program_answers.proofs.AnswerParts.{Answers-refused}

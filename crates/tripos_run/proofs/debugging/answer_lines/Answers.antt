@@ -1,14 +1,14 @@
 use Rattle.std.proofs.Common.{◌≡◌, Result, Err, sym, ap, subst, arith}
 use Rattle.std.proofs.lemmas.Bool.{leb-true}
-use Rattle.tp_io.specs.Write.{Prints}
-use Rattle.hunk_text.specs.TextReader.Lines.{lines_of}
-use Rattle.hunk_text.specs.TextReader.Refusal.{Refusal, refusal}
-use Rattle.cint_debug.specs.TriposMachine.BareMachine.declared.boot.BootEnd.{BootEnd}
-use Rattle.cint_debug.specs.TriposMachine.KernelCalls.KernelModel.Ranges.{most_steps}
-use Rattle.cint_debug.specs.TriposMachine.Boot.{EndsAs, boot}
-use Rattle.cint_debug.specs.TriposMachine.State.{State, steps_of}
-use Rattle.cint_debug.specs.TriposMachine.Step.{Stepped}
-use Rattle.cint_debug.specs.Debugged.{debugged}
+use Rattle.byte_streams.specs.Write.{Prints}
+use Rattle.module_text.specs.TextReader.Lines.{lines_of}
+use Rattle.module_text.specs.TextReader.Refusal.{Refusal, refusal}
+use Rattle.bare_machine.specs.declared.boot.BootEnd.{BootEnd}
+use Rattle.kernel_model.specs.KernelRecord.Ranges.{most_steps}
+use Rattle.tripos_machine.specs.Boot.{EndsAs, boot}
+use Rattle.tripos_machine.specs.State.{State, steps_of}
+use Rattle.tripos_machine.specs.Step.{Stepped}
+use Rattle.debugger.specs.Debugged.{debugged}
 use Rattle.program_answers.specs.Texts.{no_boot_text}
 use Rattle.program_answers.specs.Answer.{Answers}
 use Rattle.tripos_run.specs.Answer.{first_past, lines_answer, told_answer}

@@ -1,11 +1,11 @@
 use Rattle.std.proofs.Common.{◌≡◌, [], Some, subst}
 use Rattle.std.specs.Prelude.{IfOk}
-use Rattle.tp_io.specs.Pending.{Gathers}
-use Rattle.tp_io.proofs.GatheredTexts.{IsCut-first}
-use Rattle.hunk_text.specs.TextReader.Lines.{lines_of}
-use Rattle.cint_debug.specs.TriposMachine.State.{State}
-use Rattle.cint_debug.specs.TriposMachine.Step.{quietly}
-use Rattle.cint_debug.specs.Debugged.{debugged}
+use Rattle.byte_streams.specs.Pending.{Gathers}
+use Rattle.byte_streams.proofs.GatheredTexts.{IsCut-first}
+use Rattle.module_text.specs.TextReader.Lines.{lines_of}
+use Rattle.tripos_machine.specs.State.{State}
+use Rattle.tripos_machine.specs.Step.{quietly}
+use Rattle.debugger.specs.Debugged.{debugged}
 use Rattle.program_answers.specs.Answer.{Answers}
 use Rattle.tripos_run.specs.Answer.{closed_answer, end_after}
 use Rattle.tripos_run.specs.declared.reports.Report.TheVariants.{Console}

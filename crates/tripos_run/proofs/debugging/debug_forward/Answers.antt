@@ -1,10 +1,10 @@
 use Rattle.std.proofs.Common.{[], None, subst}
-use Rattle.tp_io.proofs.GatheredTexts.{IsCut-first}
-use Rattle.hunk_text.specs.TextReader.Lines.{lines_of}
-use Rattle.cint_debug.specs.TriposMachine.State.{State}
-use Rattle.cint_debug.specs.TriposMachine.Step.{quietly}
-use Rattle.cint_debug.proofs.Shown.TriposMachine.RunParts.{ends-all}
-use Rattle.cint_debug.specs.Debugged.{debugged}
+use Rattle.byte_streams.proofs.GatheredTexts.{IsCut-first}
+use Rattle.module_text.specs.TextReader.Lines.{lines_of}
+use Rattle.tripos_machine.specs.State.{State}
+use Rattle.tripos_machine.specs.Step.{quietly}
+use Rattle.tripos_machine.proofs.RunParts.{ends-all}
+use Rattle.debugger.specs.Debugged.{debugged}
 use Rattle.program_answers.specs.Answer.{Answers}
 use Rattle.tripos_run.specs.Answer.{closed_answer, end_after}
 use Rattle.tripos_run.specs.declared.reports.Report.TheVariants.{Console}

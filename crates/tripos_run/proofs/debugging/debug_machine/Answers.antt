@@ -1,8 +1,8 @@
 use Rattle.std.proofs.Common.{Bool, [], List, None, Option, Some, ap, subst}
 use Rattle.std.specs.Prelude.{if◌then◌else◌}
-use Rattle.hunk_text.specs.TextReader.Lines.{lines_of}
-use Rattle.cint_debug.specs.TriposMachine.State.{State}
-use Rattle.cint_debug.specs.Debugged.{debugged}
+use Rattle.module_text.specs.TextReader.Lines.{lines_of}
+use Rattle.tripos_machine.specs.State.{State}
+use Rattle.debugger.specs.Debugged.{debugged}
 use Rattle.program_answers.specs.Answer.{Answers}
 use Rattle.tripos_run.specs.Answer.{told_answer}
 use Rattle.tripos_run.proofs.debugging.debug_machine.Goals as goal

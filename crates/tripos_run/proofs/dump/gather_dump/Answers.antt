@@ -1,6 +1,6 @@
 use Rattle.std.proofs.Common.{[], ◌++◌, get_or, arith}
 use Rattle.std.proofs.lemmas.Result.{err_from_is_err_and}
-use Rattle.tp_io.proofs.GatheredTexts.{IsCut-more, IsCut-then, IsGathered-nothing, IsGathered-then}
+use Rattle.byte_streams.proofs.GatheredTexts.{IsCut-more, IsCut-then, IsGathered-nothing, IsGathered-then}
 use Rattle.tripos_run.specs.Texts.{word_text}
 use Rattle.tripos_run.proofs.DumpLines.{dump-all, dump-at, dump-first, dump-next}
 use Rattle.tripos_run.proofs.dump.gather_dump.Goals as goal

@@ -1,5 +1,5 @@
 use Rattle.std.proofs.Common.{◌≤◌, ℕ, List}
-use Rattle.tp_io.specs.Pending.{IsGathered}
+use Rattle.byte_streams.specs.Pending.{IsGathered}
 use Rattle.tripos_run.proofs.DumpLines.{IsDumpSoFar}
 use Rattle.tripos_run.proofs.dump.gather_dump.Given as goal
 

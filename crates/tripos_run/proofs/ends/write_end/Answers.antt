@@ -1,5 +1,5 @@
 use Rattle.std.proofs.lemmas.Result.{err_from_is_err_and}
-use Rattle.tp_io.proofs.GatheredTexts.{IsCut-more, IsCut-then, IsGathered-then, Prints-passed}
+use Rattle.byte_streams.proofs.GatheredTexts.{IsCut-more, IsCut-then, IsGathered-then, Prints-passed}
 use Rattle.tripos_run.proofs.ends.write_end.Goals as goal
 
 pub returns-in_err-gather_closing-clause-text : goal.returns-in_err-gather_closing-clause-text

@@ -1,13 +1,13 @@
 use Rattle.std.proofs.Common.{◌≡◌, List, Result, Err, sym, ap, subst, arith}
 use Rattle.std.proofs.lemmas.Bool.{leb-true}
-use Rattle.tp_io.specs.Write.{Prints}
-use Rattle.hunk_text.specs.TextReader.Refusal.{Refusal, refusal}
-use Rattle.cint_debug.specs.TriposMachine.BareMachine.declared.boot.BootEnd.{BootEnd}
-use Rattle.cint_debug.specs.TriposMachine.KernelCalls.KernelModel.Ranges.{most_steps}
-use Rattle.cint_debug.specs.TriposMachine.KernelCalls.PacketQueue.declared.events.KernelEvent.{KernelEvent}
-use Rattle.cint_debug.specs.TriposMachine.Boot.{EndsAs, boot}
-use Rattle.cint_debug.specs.TriposMachine.State.{State, steps_of}
-use Rattle.cint_debug.specs.TriposMachine.Step.{Stepped, boot_events, run}
+use Rattle.byte_streams.specs.Write.{Prints}
+use Rattle.module_text.specs.TextReader.Refusal.{Refusal, refusal}
+use Rattle.bare_machine.specs.declared.boot.BootEnd.{BootEnd}
+use Rattle.kernel_model.specs.KernelRecord.Ranges.{most_steps}
+use Rattle.kernel_lists.specs.declared.packet_queue.events.KernelEvent.{KernelEvent}
+use Rattle.tripos_machine.specs.Boot.{EndsAs, boot}
+use Rattle.tripos_machine.specs.State.{State, steps_of}
+use Rattle.tripos_machine.specs.Step.{Stepped, boot_events, run}
 use Rattle.program_answers.specs.Texts.{no_boot_text}
 use Rattle.program_answers.specs.Answer.{Answers}
 use Rattle.tripos_run.specs.Answer.{end_after, machine_answer, run_answer}

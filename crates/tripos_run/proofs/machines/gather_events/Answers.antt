@@ -1,10 +1,10 @@
 use Rattle.std.proofs.Common.{◌∙◌, ◌++◌, Err, ap, rules}
 use Rattle.std.proofs.lemmas.Result.{err_from_is_err_and}
-use Rattle.tp_io.specs.Write.{AppendsPrefix}
-use Rattle.cint_debug.specs.TriposMachine.Step.{boot_events, run}
-use Rattle.cint_debug.specs.TriposMachine.KernelCalls.PacketQueue.EventLine.{line_of}
-use Rattle.trace_log.specs.Traced.{lines_of}
-use Rattle.trace_log.proofs.GivenLines.{GivesPending-all}
+use Rattle.byte_streams.specs.Write.{AppendsPrefix}
+use Rattle.tripos_machine.specs.Step.{boot_events, run}
+use Rattle.kernel_lists.specs.PacketQueue.EventLine.{line_of}
+use Rattle.program_answers.specs.TraceLog.Traced.{lines_of}
+use Rattle.program_answers.proofs.TraceLog.GivenLines.{GivesPending-all}
 use Rattle.tripos_run.proofs.machines.gather_events.Goals as goal
 
 pub returns-in_err-pending-clause-lines : goal.returns-in_err-pending-clause-lines

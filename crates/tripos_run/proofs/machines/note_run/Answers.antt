@@ -1,5 +1,5 @@
-use Rattle.cint_debug.proofs.Shown.KernelCalls.KernelModel.NotedInTurn.{notes-then}
-use Rattle.cint_debug.specs.TriposMachine.Step.{boot_events, run}
+use Rattle.kernel_model.proofs.KernelRecord.NotedInTurn.{notes-then}
+use Rattle.tripos_machine.specs.Step.{boot_events, run}
 use Rattle.tripos_run.proofs.NotedRuns.{notes-run}
 use Rattle.tripos_run.proofs.machines.note_run.Goals as goal
 

@@ -1,9 +1,9 @@
 use Rattle.std.proofs.Common.{[], subst}
-use Rattle.tp_io.specs.Pending.{IsCut, IsGathered}
-use Rattle.tp_io.proofs.GatheredTexts.{IsCut-first}
-use Rattle.session_generator.specs.Summary.{summary}
-use Rattle.cint_debug.specs.TriposMachine.State.{State}
-use Rattle.cint_debug.specs.TriposMachine.Step.{boot_events, quietly, run}
+use Rattle.byte_streams.specs.Pending.{IsCut, IsGathered}
+use Rattle.byte_streams.proofs.GatheredTexts.{IsCut-first}
+use Rattle.tripos_run.specs.SessionGenerator.Summary.{summary}
+use Rattle.tripos_machine.specs.State.{State}
+use Rattle.tripos_machine.specs.Step.{boot_events, quietly, run}
 use Rattle.program_answers.specs.Answer.{Answers}
 use Rattle.tripos_run.specs.Answer.{closed_answer, end_after}
 use Rattle.tripos_run.specs.declared.reports.Report.TheVariants.{Sums}

@@ -1,7 +1,7 @@
 use Rattle.std.proofs.Common.{[]}
-use Rattle.trace_log.specs.Marks.{kept}
-use Rattle.trace_log.specs.Trails.{events_of}
-use Rattle.trace_log.proofs.MarkedLists.{NotesAll-rest, marked}
+use Rattle.program_answers.specs.TraceLog.Marks.{kept}
+use Rattle.program_answers.specs.TraceLog.Trails.{events_of}
+use Rattle.program_answers.proofs.TraceLog.MarkedLists.{NotesAll-rest, marked}
 use Rattle.tripos_run.proofs.machines.trace_run.Goals as goal
 
 pub returns-clause-same_first : goal.returns-clause-same_first

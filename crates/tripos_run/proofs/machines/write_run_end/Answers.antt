@@ -1,5 +1,5 @@
 use Rattle.std.proofs.Common.{[]}
-use Rattle.cint_debug.specs.TriposMachine.Step.{quietly}
+use Rattle.tripos_machine.specs.Step.{quietly}
 use Rattle.tripos_run.specs.Answer.{end_after}
 use Rattle.tripos_run.proofs.AnswerParts.{Answers-closed}
 use Rattle.tripos_run.proofs.machines.write_run_end.Goals as goal

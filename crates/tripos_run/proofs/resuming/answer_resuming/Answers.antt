@@ -1,9 +1,9 @@
 use Rattle.std.proofs.Common.{◌≡◌, Result, length, refl, subst, sym}
-use Rattle.hunk_text.specs.TextReader.Answers.{EndsAs}
-use Rattle.hunk_text.specs.TextReader.Lines.{lines_of}
-use Rattle.hunk_text.specs.TextReader.Refusal.{Refusal, refusal}
-use Rattle.image_print.specs.ImageText.ImageOfText.{image_of}
-use Rattle.image_print.specs.ImageText.declared.images.Image.{Image}
+use Rattle.module_text.specs.TextReader.Answers.{EndsAs}
+use Rattle.module_text.specs.TextReader.Lines.{lines_of}
+use Rattle.module_text.specs.TextReader.Refusal.{Refusal, refusal}
+use Rattle.saved_text.specs.ImageOfText.{image_of}
+use Rattle.saved_text.specs.declared.images.Image.{Image}
 use Rattle.program_answers.specs.Answer.{refused_answer}
 use Rattle.program_answers.specs.Answered.{Answered}
 use Rattle.tripos_run.specs.SavedAnswers.{IsResumed, IsResumedImage}

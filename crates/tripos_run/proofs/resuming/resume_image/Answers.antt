@@ -1,7 +1,7 @@
 use Rattle.std.proofs.Common.{inl, inr, refl, subst}
 use Rattle.std.specs.Prelude.{MatchOption}
-use Rattle.hunk_text.specs.TextReader.Refusal.{refusal}
-use Rattle.image_print.specs.MachineImage.Machines.{HasMachine, IsResumed}
+use Rattle.module_text.specs.TextReader.Refusal.{refusal}
+use Rattle.saved_machine.specs.MachineImage.Machines.{HasMachine, IsResumed}
 use Rattle.program_answers.specs.Answer.{refused_answer}
 use Rattle.tripos_run.specs.SavedAnswers.{IsResumedImage, no_machine_code, resumed_answer}
 use Rattle.program_answers.specs.declared.status.Status.TheVariants.{Refused}

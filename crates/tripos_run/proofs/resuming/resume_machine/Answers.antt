@@ -1,9 +1,9 @@
 use Rattle.std.proofs.Common.{◌≡◌, ◌∙◌, ◌-◌, ap, arith, refl}
-use Rattle.tp_io.proofs.GatheredTexts.{IsCut-first}
-use Rattle.cint_debug.specs.TriposMachine.Runs.{end_of_run}
-use Rattle.cint_debug.specs.TriposMachine.State.{State, steps_of, stop_of, words_of}
-use Rattle.cint_debug.specs.TriposMachine.Step.{run}
-use Rattle.cint_debug.proofs.Shown.TriposMachine.StateRuns.{run-later}
+use Rattle.byte_streams.proofs.GatheredTexts.{IsCut-first}
+use Rattle.tripos_machine.specs.Runs.{end_of_run}
+use Rattle.tripos_machine.specs.State.{State, steps_of, stop_of, words_of}
+use Rattle.tripos_machine.specs.Step.{run}
+use Rattle.tripos_machine.proofs.StateRuns.{run-later}
 use Rattle.tripos_run.specs.Answer.{end_since}
 use Rattle.tripos_run.specs.declared.reports.Report.TheVariants.{Console}
 use Rattle.tripos_run.proofs.AnswerParts.{Answers-closed, AppendsPrefix-closed, Prints-first}

@@ -1,6 +1,6 @@
 use Rattle.std.proofs.Common.{subst}
-use Rattle.hunk_text.specs.TextReader.Answers.{EndsAs}
-use Rattle.hunk_text.specs.TextReader.Refusal.{refusal}
+use Rattle.module_text.specs.TextReader.Answers.{EndsAs}
+use Rattle.module_text.specs.TextReader.Refusal.{refusal}
 use Rattle.machine_ring.specs.RingLink.RingOfText.{ring_of}
 use Rattle.program_answers.proofs.AnswerParts.{Answers-refused}
 use Rattle.tripos_run.proofs.rings.answer_ring.Goals as goal

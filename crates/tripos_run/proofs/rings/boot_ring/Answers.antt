@@ -1,5 +1,5 @@
 use Rattle.std.proofs.Common.{◌≡◌, Result, Err, subst, sym}
-use Rattle.hunk_text.specs.TextReader.Refusal.{Refusal, refusal}
+use Rattle.module_text.specs.TextReader.Refusal.{Refusal, refusal}
 use Rattle.machine_ring.specs.Boot.{BootsRing, booted_ring}
 use Rattle.machine_ring.specs.Rings.{Ring}
 use Rattle.program_answers.specs.Answer.{Answers, no_boot_answer}

@@ -1,7 +1,7 @@
 use Rattle.std.proofs.Common.{◌++◌, ap, subst, sym}
-use Rattle.tp_io.specs.Write.{Prints}
-use Rattle.tp_io.proofs.AppendedTexts.{AppendsPrefix-more}
-use Rattle.tp_io.proofs.GatheredTexts.{IsCut-first}
+use Rattle.byte_streams.specs.Write.{Prints}
+use Rattle.byte_streams.proofs.AppendedTexts.{AppendsPrefix-more}
+use Rattle.byte_streams.proofs.GatheredTexts.{IsCut-first}
 use Rattle.machine_ring.specs.Outcomes.{outcome_of}
 use Rattle.machine_ring.specs.Runs.{run}
 use Rattle.tripos_run.specs.Answer.{status_of}

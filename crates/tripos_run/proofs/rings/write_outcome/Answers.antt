@@ -1,4 +1,4 @@
-use Rattle.tp_io.proofs.GatheredTexts.{Prints-passed}
+use Rattle.byte_streams.proofs.GatheredTexts.{Prints-passed}
 use Rattle.tripos_run.proofs.rings.write_outcome.Goals as goal
 
 pub returns-clause-text : goal.returns-clause-text

@@ -1,6 +1,6 @@
 use Rattle.std.proofs.Common.{◌≡◌, Result, refl, subst, sym}
-use Rattle.hunk_text.specs.TextReader.Answers.{EndsAs}
-use Rattle.hunk_text.specs.TextReader.Refusal.{Refusal, refusal}
+use Rattle.module_text.specs.TextReader.Answers.{EndsAs}
+use Rattle.module_text.specs.TextReader.Refusal.{Refusal, refusal}
 use Rattle.session_text.specs.SessionOfText.{session_of}
 use Rattle.session_text.specs.declared.sessions.Session.{Session}
 use Rattle.program_answers.specs.Answer.{refused_answer}

@@ -1,9 +1,9 @@
 use Rattle.std.proofs.Common.{◌≡◌, ◌∙◌, ℕ, Option, None, Some, refl, subst, sym}
-use Rattle.tp_io.specs.Write.{Prints}
-use Rattle.cint_debug.specs.TriposMachine.KernelCalls.KernelModel.declared.stops.Stop.{Stop}
-use Rattle.cint_debug.specs.TriposMachine.State.{steps_of}
-use Rattle.image_print.specs.ImageText.Canonical.{canonical}
-use Rattle.image_print.specs.SavedImage.{saved_image}
+use Rattle.byte_streams.specs.Write.{Prints}
+use Rattle.kernel_model.specs.declared.kernel_record.stops.Stop.{Stop}
+use Rattle.tripos_machine.specs.State.{steps_of}
+use Rattle.saved_text.specs.Canonical.{canonical}
+use Rattle.saved_machine.specs.ImagePrint.SavedImage.{saved_image}
 use Rattle.program_answers.specs.Answer.{Answer}
 use Rattle.program_answers.specs.Answered.{Answered}
 use Rattle.program_answers.specs.declared.status.Status.TheVariants.{Done}

@@ -1,10 +1,10 @@
 use Rattle.std.proofs.Common.{◌≡◌, ◌∙◌, Result, Err, refl, subst, sym, ap}
-use Rattle.tp_io.specs.Write.{Prints}
-use Rattle.hunk_text.specs.TextReader.Refusal.{Refusal, refusal}
-use Rattle.cint_debug.specs.TriposMachine.BareMachine.declared.boot.BootEnd.{BootEnd}
-use Rattle.cint_debug.specs.TriposMachine.Boot.{EndsAs, boot}
-use Rattle.cint_debug.specs.TriposMachine.State.{State}
-use Rattle.cint_debug.specs.TriposMachine.Step.{Stepped, run}
+use Rattle.byte_streams.specs.Write.{Prints}
+use Rattle.module_text.specs.TextReader.Refusal.{Refusal, refusal}
+use Rattle.bare_machine.specs.declared.boot.BootEnd.{BootEnd}
+use Rattle.tripos_machine.specs.Boot.{EndsAs, boot}
+use Rattle.tripos_machine.specs.State.{State}
+use Rattle.tripos_machine.specs.Step.{Stepped, run}
 use Rattle.program_answers.specs.Answer.{Answer, no_boot_answer}
 use Rattle.program_answers.specs.Answered.{Answered}
 use Rattle.program_answers.specs.Texts.{no_boot_text}

@@ -1,4 +1,4 @@
-use Rattle.tp_io.proofs.GatheredTexts.{Prints-gathered}
+use Rattle.byte_streams.proofs.GatheredTexts.{Prints-gathered}
 use Rattle.tripos_run.proofs.saving.write_machine.Goals as goal
 
 pub returns-clause-text : goal.returns-clause-text

@@ -1,14 +1,14 @@
 use Rattle.std.proofs.Common.{◌≡◌, ◌∙◌, ℕ, List, [], ◌∷◌, Some, None, drop, refl, sym, subst, ap}
 use Rattle.std.specs.Prelude.{slice_get}
-use Rattle.kernel_calls.specs.KernelModel.NotedEvents.{NotesAll}
-use Rattle.kernel_calls.specs.KernelModel.Lists.{Lists}
-use Rattle.kernel_calls.proofs.Shown.KernelModel.NotedInTurn.{notes-none}
-use Rattle.kernel_calls.specs.PacketQueue.QueueWords.{QueuedPacket}
-use Rattle.kernel_calls.proofs.Shown.PacketCalls.HeldPlaces.{HasFirst}
+use Rattle.kernel_model.specs.KernelRecord.NotedEvents.{NotesAll}
+use Rattle.kernel_model.specs.KernelRecord.Lists.{Lists}
+use Rattle.kernel_model.proofs.KernelRecord.NotedInTurn.{notes-none}
+use Rattle.kernel_lists.specs.PacketQueue.QueueWords.{QueuedPacket}
+use Rattle.kernel_calls.proofs.PacketCalls.HeldPlaces.{HasFirst}
 use Rattle.kernel_devices.specs.Keys.{left_typed, met}
 use Rattle.kernel_calls.specs.PacketCalls.Returned.{IsServed, Served, first_returned, unserved}
-use Rattle.kernel_calls.specs.PacketCalls.declared.returns.Device.TheVariants.{Keyboard}
-use Rattle.kernel_calls.proofs.Shown.PacketCalls.DeviceQueues.{none-waits, one-waits, served-none}
+use Rattle.kernel_calls.specs.declared.packet_calls.returns.Device.TheVariants.{Keyboard}
+use Rattle.kernel_calls.proofs.PacketCalls.DeviceQueues.{none-waits, one-waits, served-none}
 use Rattle.kernel_devices.proofs.typed.Tty.meet.Goals as goal
 
 -- with no packet, or no byte, nothing is done

@@ -1,6 +1,6 @@
 use Rattle.std.proofs.Common.{◌≡◌, ◌∙◌, List, [], ◌∷◌, ◌++◌, Ok, ap, sym}
-use Rattle.hunk_text.specs.TextReader.Refusal.{Refusal}
-use Rattle.hunk_text.proofs.Shown.TextReader.StepLemmas.{Ok-same}
+use Rattle.module_text.specs.TextReader.Refusal.{Refusal}
+use Rattle.module_text.proofs.TextReader.StepLemmas.{Ok-same}
 use Rattle.session_text.specs.FileText.{line_with_text, with_text}
 use Rattle.session_text.specs.declared.sessions.SessionLine.{SessionLine}
 use Rattle.session_text.proofs.FileTexts.{with_text-push}

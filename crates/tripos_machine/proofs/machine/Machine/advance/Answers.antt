@@ -1,5 +1,5 @@
 use Rattle.std.proofs.Common.{◌∙◌, ap, arith, subst, sym}
-use Rattle.history_law.specs.KernelCalls.KernelModel.NotedEvents.{NotesAll}
+use Rattle.kernel_model.specs.KernelRecord.NotedEvents.{NotesAll}
 use Rattle.tripos_machine.specs.Machine.{MachineView, view_of}
 use Rattle.tripos_machine.specs.Step.{run}
 use Rattle.tripos_machine.proofs.Histories.{has-history}

@@ -1,5 +1,5 @@
 use Rattle.std.proofs.Common.{◌≡◌, ◌-◌, ◌≤◌, false}
-use Rattle.tp_io.specs.Pending.{IsGathered}
+use Rattle.byte_streams.specs.Pending.{IsGathered}
 use Rattle.tripos_machine.specs.Runs.{HasRun, LeavesOutput}
 use Rattle.tripos_machine.specs.Step.{run}
 use Rattle.tripos_machine.proofs.machine.Machine.run.Given as goal

@@ -1,5 +1,5 @@
 use Rattle.std.proofs.Common.{◌∙◌, ap, sym}
-use Rattle.history_law.proofs.Shown.KernelCalls.KernelModel.ImageWords.{image-list}
+use Rattle.kernel_model.proofs.KernelRecord.ImageWords.{image-list}
 use Rattle.tripos_machine.specs.Machine.{MachineView, view_of}
 use Rattle.tripos_machine.specs.State.{words_of}
 use Rattle.tripos_machine.proofs.machine.Machine.store.Goals as goal

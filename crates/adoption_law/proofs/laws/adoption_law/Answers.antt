@@ -1,8 +1,0 @@
-use Rattle.adoption_law.proofs.OneKernel.{has-kernel, one-kernel-in}
-use Rattle.adoption_law.proofs.laws.adoption_law.Goals as goal
-
-pub returns-clause-exists : goal.returns-clause-exists
-returns-clause-exists c = has-kernel
-
-pub returns-clause-one : goal.returns-clause-one
-returns-clause-one c = one-kernel-in

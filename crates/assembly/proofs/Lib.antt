@@ -1,0 +1,9 @@
+pub mod AssemblyText
+pub mod ModuleListing
+pub mod CodeBytes
+pub mod LineParts
+pub mod ListedLines
+pub mod ListingAgain
+pub mod SourceLines
+pub mod SourceNames
+pub mod SourcePrograms

@@ -1,0 +1,6 @@
+-- What the code keeps of the hunk while it goes over the lines.
+use Rattle.assembly.specs.AssemblyText.Encoding.{Code}
+use Rattle.assembly.specs.declared.assembly_text.encode.Encoded.{Encoded}
+
+abbrev pub kept_code : Encoded → Code
+kept_code e = record { bytes = e.bytes.items; relocations = e.relocations.items; pairs = e.pairs.items }

@@ -1,0 +1,48 @@
+-- The operands of a line, which follow the name.
+use Rattle.std.specs.Prelude.{ℕ, ℤ, List, [], ◌∷◌, Result, Ok, Err}
+use Rattle.std.specs.Option.{option_map_or}
+use Rattle.assembly.specs.AssemblyText.Names.{label_of}
+use Rattle.assembly.specs.AssemblyText.Numbers.{number_of}
+use Rattle.assembly.specs.declared.assembly_text.errors.LineError.{LineError}
+use Rattle.assembly.specs.declared.assembly_text.errors.LineError.TheVariants.{NoForm, UnknownName}
+use Rattle.assembly.specs.declared.assembly_text.operands.Operands.{Operands}
+use Rattle.assembly.specs.declared.assembly_text.operands.Operands.TheVariants.{Nothing, Number, Label, NumberAndLabel, Other}
+
+-- one part is a number or a label
+abbrev pub one_operand : List ℕ → Operands
+one_operand part = option_map_or Number (number_of part) (option_map_or Label (label_of part) Other)
+
+-- two parts are a number and a label
+abbrev pub both : List ℕ → List ℕ → Operands
+both p q = option_map_or (λ n. option_map_or (NumberAndLabel n) (label_of q) Other) (number_of p) Other
+
+-- the operands that the parts after the name are
+abbrev pub operands_of : List (List ℕ) → Operands
+operands_of [] = Nothing
+operands_of (p ∷ []) = one_operand p
+operands_of (p ∷ q ∷ []) = both p q
+operands_of (p ∷ q ∷ r ∷ more) = Other
+
+-- a name asks for operands of one shape; others are no form of its line
+abbrev pub no_operand : Operands → Result Unit LineError
+no_operand Nothing = Ok tt
+no_operand _ = Err NoForm
+
+abbrev pub number_operand : Operands → Result ℤ LineError
+number_operand (Number n) = Ok n
+number_operand _ = Err NoForm
+
+abbrev pub label_operand : Operands → Result (List ℕ) LineError
+label_operand (Label l) = Ok l
+label_operand _ = Err NoForm
+
+abbrev pub numbered_label : Operands → Result (ℤ × List ℕ) LineError
+numbered_label (NumberAndLabel n l) = Ok (n, l)
+numbered_label _ = Err NoForm
+
+-- a name that is unknown may have nothing, a number or a label behind it
+abbrev pub unknown_name : Operands → LineError
+unknown_name Nothing = UnknownName
+unknown_name (Number n) = UnknownName
+unknown_name (Label l) = UnknownName
+unknown_name _ = NoForm

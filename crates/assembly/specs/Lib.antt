@@ -1,0 +1,4 @@
+pub mod AssemblyText
+pub mod ModuleListing
+pub mod PlainCode
+pub mod Source

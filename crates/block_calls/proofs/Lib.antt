@@ -1,8 +1,0 @@
-pub mod JoinedRuns
-pub mod TakenStore
-pub mod TakenWords
-pub mod TakenBlock
-pub mod IdleBlocks
-pub mod BlockUses
-pub mod GivenBlock
-pub mod Shown

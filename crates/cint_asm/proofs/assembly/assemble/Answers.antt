@@ -1,5 +1,0 @@
-use Rattle.cint_asm.proofs.Printable.{printable_text}
-use Rattle.cint_asm.proofs.assembly.assemble.Goals as goal
-
-pub module_text-requires : goal.module_text-requires
-module_text-requires c = printable_text c.args.text.now _ c.in_ok-module.ensures

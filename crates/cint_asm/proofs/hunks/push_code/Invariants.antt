@@ -1,9 +1,0 @@
-use Rattle.std.proofs.Common.{◌≡◌, ◌++◌, length}
-use Rattle.cint_asm.specs.HunkWords.{words_of}
-use Rattle.cint_asm.proofs.hunks.push_code.Given as goal
-
-abbrev pub invariant-loop-rest : goal.invariant-loop-rest
-invariant-loop-rest l = l.words.items ++ words_of l.rest ≡ l.fn.words.items ++ words_of l.bytes
-
-abbrev pub decreases-loop-rest : goal.decreases-loop-rest
-decreases-loop-rest l = length l.rest

@@ -1,8 +1,0 @@
-use Rattle.cint_asm.proofs.SaidLines.{line-said, said-line}
-use Rattle.cint_asm.proofs.laws.line_law.Goals as goal
-
-pub returns-clause-sound : goal.returns-clause-sound
-returns-clause-sound c = line-said
-
-pub returns-clause-complete : goal.returns-clause-complete
-returns-clause-complete c = said-line

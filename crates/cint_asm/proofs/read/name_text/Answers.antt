@@ -1,6 +1,0 @@
-use Rattle.cint_asm.proofs.NameLemmas.{name_is_text, ok_from_cases}
-use Rattle.cint_asm.proofs.read.name_text.Goals as goal
-
-pub unwrap-requires : goal.unwrap-requires
-unwrap-requires c =
-    ok_from_cases c.from_utf8.result _ _ c.from_utf8.ensures.cases (λ e h. h.0 (name_is_text c.args.name.now c.requires))

@@ -1,7 +1,0 @@
-use Rattle.std.proofs.Common.{subst}
-use Rattle.cint_debug.specs.Views.{Leads}
-use Rattle.cint_debug.proofs.QueueTexts.{leads-stands}
-use Rattle.cint_debug.proofs.queues.gather_queue.Goals as goal
-
-pub head-requires : goal.head-requires
-head-requires g c = leads-stands c.args.store.now _ c.requires.0 (subst (λ q. Leads c.args.store.now q c.requires.0) c.in-Some.is c.requires.1)

@@ -1,5 +1,0 @@
-use Rattle.tp_io.proofs.GatheredTexts.{Prints-gathered}
-use Rattle.cint_disasm.proofs.listing.disassemble_module.Goals as goal
-
-pub returns-clause-text : goal.returns-clause-text
-returns-clause-text g c = Prints-gathered _ c.pass_on.result c.new-pending.ensures c.in_ok-gather_hunks.ensures.text c.pass_on.ensures.text

@@ -1,3 +1,0 @@
--- Lemmas of lower crates, shown to the crates above.
-pub mod CintTable
-pub mod CintDecode

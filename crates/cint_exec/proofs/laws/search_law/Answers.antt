@@ -1,8 +1,0 @@
-use Rattle.cint_exec.proofs.SearchLaw.{key_found, no_key}
-use Rattle.cint_exec.proofs.laws.search_law.Goals as goal
-
-pub returns-clause-found : goal.returns-clause-found
-returns-clause-found c = key_found
-
-pub returns-clause-none : goal.returns-clause-none
-returns-clause-none c = no_key

@@ -1,7 +1,0 @@
-use Rattle.std.proofs.Common.{refl}
-use Rattle.cint_table.specs.Table.{entry, column0, column1, column2, column3, column4, column5, column6, column7}
-use Rattle.cint_table.proofs.row_names.names.Goals as goal
-
-pub returns : goal.returns
-unfolding entry column0 column1 column2 column3 column4 column5 column6 column7
-returns c = refl

@@ -1,0 +1,5 @@
+pub mod ArgumentTemplates
+mod AskedCommands
+mod LineParts
+mod NameCodes
+mod ValuesInside

@@ -1,0 +1,19 @@
+use Rattle.std.proofs.Common.{rules, tests, ◌==◌, ◌≤◌, length, arith, ◌∙◌, ap, sym}
+use Rattle.std.proofs.lemmas.Iterator.Splits.{YieldsList-from_slice_split}
+use Rattle.std.proofs.lemmas.Iterator.{YieldsList-from_slice, YieldsList-from_zip}
+use Rattle.std.proofs.lemmas.Iterator.Consumers.{YieldsList-at}
+use Rattle.std.proofs.lemmas.Iterator.Search.{position_from_yields_List}
+use Rattle.std.specs.List.{position, zip}
+use Rattle.command_lines.specs.ArgumentTemplates.Answer.{is_free}
+use Rattle.std.proofs.lemmas.Bool.Decides.{nat_tests}
+use Rattle.command_lines.proofs.ArgumentTemplates.Chains.{entries-split}
+use Rattle.command_lines.proofs.argument_templates.args.free_entry.Goals as goal
+
+pub returns-clause-value : goal.returns-clause-value
+returns-clause-value c =
+    let e = c.if-is_empty.ensures in
+    let some : 1 ≤ length c.args.template.now = grind (arith, nat_tests) in
+    position_from_yields_List is_free c.position.new.self _ c.position.result c.position.ensures.ran
+    (YieldsList-from_zip (YieldsList-at c.zip.ensures.first (YieldsList-from_slice_split _ (λ b. b == 44) c.args.template.now (cc) (cc) (cc) (λ x b q k. search (rules, tests)))) (YieldsList-at c.zip.ensures.second (YieldsList-from_slice c.args.out.now cc)))
+    (λ x b q k. search (rules, tests))
+    ∙ ap (λ all. position is_free (zip all c.args.out.now)) (sym (entries-split c.args.template.now some))

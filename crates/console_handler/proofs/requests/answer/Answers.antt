@@ -1,6 +1,0 @@
-use Rattle.std.proofs.Common.{◌∙◌, sym}
-use Rattle.console_handler.proofs.TreatedRequests.{readable-few}
-use Rattle.console_handler.proofs.requests.answer.Goals as goal
-
-pub read_buffer-bytes-requires : goal.read_buffer-bytes-requires
-read_buffer-bytes-requires c = readable-few c.args.store.now c.args.request.first c.args.request.second (sym c.can_read.ensures ∙ c.if-not-can_read.false)

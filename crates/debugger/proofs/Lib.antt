@@ -1,0 +1,16 @@
+pub mod UndoJournal
+pub mod MachineHistory
+pub mod BlockLines
+pub mod DebuggedRuns
+pub mod EndedSteps
+pub mod KernelLists
+pub mod KernelParts
+pub mod ListedStore
+pub mod OrderForms
+pub mod QueueTexts
+pub mod StepsTo
+pub mod PastSteps
+pub mod ReachedStates
+pub mod KeptLines
+pub mod ToldLines
+pub mod WordLines

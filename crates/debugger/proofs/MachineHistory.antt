@@ -1,0 +1,13 @@
+pub mod FilesThen
+pub mod StatesInOrder
+pub mod FilesOfStates
+pub mod KeptStates
+pub mod Members
+pub mod NotedStates
+pub mod NotedHistories
+pub mod SteppedHistories
+pub mod SplitLists
+pub mod ReturnedHistories
+pub mod KernelMoments
+pub mod StandingParts
+pub mod ReturnedParts

@@ -1,0 +1,21 @@
+-- The text of a queue that stands in a store.
+use Rattle.std.proofs.Common.{◌≡◌, ℕ, Option, Some, None, List, refl, ap}
+use Rattle.kernel_model.specs.KernelRecord.Recovered.{packets_at}
+use Rattle.kernel_calls.specs.PacketCalls.QueueWords.{head_of}
+use Rattle.kernel_calls.specs.declared.packet_calls.queues.Queue.{Queue}
+use Rattle.kernel_lists.specs.PacketQueue.Queue.{HasQueue}
+use Rattle.kernel_lists.specs.PacketQueue.QueueWords.{QueuedPacket}
+use Rattle.debugger.specs.Texts.{packet_lines, queue_text}
+use Rattle.debugger.specs.Views.{Leads}
+
+pub leads-stands : (s : List ℕ) (queue : Queue) (ps : Option (List QueuedPacket)) → Leads s (Some queue) ps → HasQueue s (head_of queue)
+leads-stands s queue None x = absurd x
+leads-stands s queue (Some ps) x = x.0
+
+pub leads-text : (s : List ℕ) (queue : Queue) (ps : Option (List QueuedPacket)) → Leads s (Some queue) ps → packet_lines (packets_at s (head_of queue)) ≡ queue_text ps
+leads-text s queue None x = absurd x
+leads-text s queue (Some ps) x = ap packet_lines x.1
+
+pub leads-none : (s : List ℕ) (ps : Option (List QueuedPacket)) → Leads s None ps → queue_text None ≡ queue_text ps
+leads-none s None x = refl
+leads-none s (Some ps) x = absurd x

@@ -1,0 +1,14 @@
+use Rattle.std.proofs.Common.{◌≡◌, ◌≤◌, length, take}
+use Rattle.debugger.specs.UndoJournal.FormerWords.{former_words, with_new_words}
+use Rattle.debugger.specs.UndoJournal.Rings.{ring_with}
+use Rattle.debugger.proofs.undo_journal.former_words.note_words.Given as goal
+
+abbrev pub invariant-loop-address : goal.invariant-loop-address
+invariant-loop-address l = record {
+  sizes : length l.latest ≡ length l.store;
+  latest : l.latest ≡ with_new_words l.fn.latest l.store (take l.address-index l.addresses);
+  room : length l.former.items ≤ l.former.capacity;
+  former : l.former ≡ ring_with l.fn.former (former_words l.fn.latest l.store (take l.address-index l.addresses));
+  count : l.count ≡ length (former_words l.fn.latest l.store (take l.address-index l.addresses));
+  most : l.count ≤ l.address-index;
+}

@@ -1,0 +1,9 @@
+pub mod UndoJournal
+pub mod MachineHistory
+pub mod Orders
+pub mod OrderLines
+pub mod Breakpoints
+pub mod Views
+pub mod Texts
+pub mod Debugged
+pub mod Runs

@@ -1,0 +1,4 @@
+pub mod Pasts
+pub mod FilesBefore
+pub mod Moments
+pub mod Histories

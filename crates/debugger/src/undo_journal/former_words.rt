@@ -1,0 +1,109 @@
+// Former words: what stood at an address before another word came there.
+ghost use Rattle.std.specs.Prelude.{◌≡◌, ◌-◌, ◌^◌, ◌<◌, ◌≤◌, drop, length, take};
+ghost use Rattle.circular_buffer.specs.Buffer.{buffer};
+ghost use Rattle.debugger.specs.UndoJournal.FormerWords.{addresses_of, former_at, former_words, with_new_word, with_new_words, words_before};
+ghost use Rattle.debugger.specs.UndoJournal.Rings.{ring_with};
+
+use circular_buffer::HeapCircularBuffer;
+use word_store::{Store, word};
+
+/// A word, and where it stood.
+#[derive(Drop)]
+pub(crate) struct FormerWord {
+    /// The address at which it stood.
+    pub(crate) address: u32,
+    /// The word.
+    pub(crate) word: u32,
+}
+
+/// Takes the word at an address over from the store. Where another one stood there, it is noted. The answer is how many were noted.
+pub(crate) fn note_word(
+    latest: &mut Store,
+    store: &Store,
+    former: &mut HeapCircularBuffer<FormerWord>,
+    address: u32,
+) -> usize
+    requires sizes { length latest.old ≡ length store.now }
+    requires room { length former.old.items ≤ former.old.capacity }
+    ensures latest { latest.new ≡ with_new_word latest.old store.now address }
+    ensures former { former.new ≡
+        ring_with former.old (former_at latest.old store.now address) }
+    ensures count { result ≡ length (former_at latest.old store.now address) }
+{
+    let old = word(latest, address);
+    let new = word(store, address);
+    if old == new {
+        return 0;
+    }
+    latest.set(address, new);
+    former.push_back(FormerWord { address, word: old });
+    1
+}
+
+/// The same at all addresses.
+pub(crate) fn note_all_words(
+    latest: &mut Store,
+    store: &Store,
+    former: &mut HeapCircularBuffer<FormerWord>,
+) -> usize
+    requires sizes { length latest.old ≡ length store.now }
+    requires room { length former.old.items ≤ former.old.capacity }
+    ensures latest { latest.new ≡
+        with_new_words latest.old store.now (addresses_of store.now) }
+    ensures former { former.new ≡
+        ring_with former.old (former_words latest.old store.now (addresses_of store.now)) }
+    ensures count { result ≡ length (former_words latest.old store.now (addresses_of store.now)) }
+    ensures most { result < 2 ^ 32 }
+{
+    let mut count = 0;
+    for address in 0..store.size() {
+        count += note_word(latest, store, former, address);
+    }
+    count
+}
+
+/// The same at these addresses, one after another.
+pub(crate) fn note_words(
+    latest: &mut Store,
+    store: &Store,
+    former: &mut HeapCircularBuffer<FormerWord>,
+    addresses: &[u32],
+) -> usize
+    requires sizes { length latest.old ≡ length store.now }
+    requires room { length former.old.items ≤ former.old.capacity }
+    ensures latest { latest.new ≡ with_new_words latest.old store.now addresses.now }
+    ensures former { former.new ≡
+        ring_with former.old (former_words latest.old store.now addresses.now) }
+    ensures count { result ≡ length (former_words latest.old store.now addresses.now) }
+    ensures most { result < 2 ^ 63 }
+{
+    let mut count = 0;
+    for address in addresses {
+        count += note_word(latest, store, former, *address);
+    }
+    count
+}
+
+/// Puts the last former words, so many, back into both stores, the last one first.
+pub(crate) fn put_back(
+    former: &mut HeapCircularBuffer<FormerWord>,
+    count: usize,
+    latest: &mut Store,
+    store: &mut Store,
+)
+    requires enough { count ≤ length former.old.items }
+    requires same { store.old ≡ latest.old }
+    ensures former { former.new ≡ buffer
+        (take (length former.old.items - count) former.old.items) former.old.capacity }
+    ensures latest { latest.new ≡
+        words_before (drop (length former.old.items - count) former.old.items) latest.old }
+    ensures store { store.new ≡ latest.new }
+{
+    for _i in 0..count {
+        let Some(last) = former.pop_back() else {
+            return;
+        };
+        latest.set(last.address, last.word);
+        store.set(last.address, last.word);
+    }
+}

@@ -1,5 +1,0 @@
-mod NamedFiles
-mod HandledCalls
-mod FileTurns
-pub mod EndedRequests
-pub mod Shown

@@ -1,8 +1,0 @@
-use Rattle.getvec_chain.proofs.BlockExchanges.{take-exchange, give-exchange}
-use Rattle.getvec_chain.proofs.laws.block_words_law.Goals as goal
-
-pub returns-clause-take : goal.returns-clause-take
-returns-clause-take c = take-exchange
-
-pub returns-clause-give : goal.returns-clause-give
-returns-clause-give c = give-exchange

@@ -1,8 +1,0 @@
-use Rattle.std.proofs.Common.{rules}
-use borrow.Author.Tests.{tests}
-use Rattle.getvec_chain.specs.Block.{is_used_at}
-use Rattle.getvec_chain.proofs.FirstFound.{found-first}
-use Rattle.getvec_chain.proofs.search.used_at.Goals as goal
-
-pub returns : goal.returns
-returns c = found-first (is_used_at c.args.v) _ _ _ c.find.result c.find.ensures.ran c.blocks-2.ensures.blocks (λ x b q k. search (rules, tests))

@@ -1,3 +1,0 @@
--- Lemmas of `machine_boot`.
-pub use Rattle.machine_boot.proofs.BegunKernels
-pub use Rattle.machine_boot.proofs.BootedKernels

@@ -1,8 +1,0 @@
-use Rattle.history_law.proofs.BootedLists.{booted-is}
-use Rattle.history_law.proofs.boot_histories.valid_law.Goals as goal
-
-pub returns-clause-valid : goal.returns-clause-valid
-returns-clause-valid c = λ s x h is. (booted-is s h x is).valid
-
-pub returns-clause-goes : goal.returns-clause-goes
-returns-clause-goes c = λ s x h is. (booted-is s h x is).goes

@@ -1,8 +1,0 @@
-use Rattle.history_law.proofs.GuestMoves.{guest-moves}
-use Rattle.history_law.proofs.guest_moves.guest_law.Goals as goal
-
-pub returns-clause-moves : goal.returns-clause-moves
-returns-clause-moves c = λ due s l r v there dues. (guest-moves due l v there s dues r).0
-
-pub returns-clause-senders : goal.returns-clause-senders
-returns-clause-senders c = λ due s l r v there dues. (guest-moves due l v there s dues r).1

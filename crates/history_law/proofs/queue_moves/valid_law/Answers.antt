@@ -1,8 +1,0 @@
-use Rattle.history_law.proofs.ValidLedgers.{valid-falls, valid-once}
-use Rattle.history_law.proofs.queue_moves.valid_law.Goals as goal
-
-pub returns-clause-once : goal.returns-clause-once
-returns-clause-once c = λ l v. valid-once l v
-
-pub returns-clause-falls : goal.returns-clause-falls
-returns-clause-falls c = λ l v. valid-falls l v

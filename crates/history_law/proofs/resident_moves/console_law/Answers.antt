@@ -1,8 +1,0 @@
-use Rattle.history_law.proofs.ConsoleMoves.{console-moves}
-use Rattle.history_law.proofs.resident_moves.console_law.Goals as goal
-
-pub returns-clause-moves : goal.returns-clause-moves
-returns-clause-moves c = λ due id console k s l h r is. (console-moves due id console k s l h r is).moves
-
-pub returns-clause-senders : goal.returns-clause-senders
-returns-clause-senders c = λ id console k s l h r is. (console-moves (λ e. 0) id console k s l h r is).turn

@@ -1,3 +1,0 @@
--- Lemmas of lower crates, shown to the crates above.
-pub mod GetvecChain
-pub mod TaskBlock

@@ -1,5 +1,0 @@
-use Rattle.hunk_loader.proofs.HunkWalk.{SetLeft}
-use Rattle.hunk_loader.proofs.globals.init_globals.Given as goal
-
-abbrev pub invariant-loop-i : goal.invariant-loop-i
-invariant-loop-i l = SetLeft l.fn.store l.store l.m l.g l.i l.base

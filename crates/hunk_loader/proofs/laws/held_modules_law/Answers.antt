@@ -1,8 +1,0 @@
-use Rattle.hunk_loader.proofs.HeldModuleLists.{held-modules}
-use Rattle.hunk_loader.proofs.laws.held_modules_law.Goals as goal
-
-pub returns-clause-modules : goal.returns-clause-modules
-returns-clause-modules c = λ s ms h. (held-modules s ms h).modules
-
-pub returns-clause-list : goal.returns-clause-list
-returns-clause-list c = λ s ms h. (held-modules s ms h).list

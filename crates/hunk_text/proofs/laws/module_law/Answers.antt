@@ -1,9 +1,0 @@
-use Rattle.hunk_text.proofs.Complete.{complete}
-use Rattle.hunk_text.proofs.Sound.{sound}
-use Rattle.hunk_text.proofs.laws.module_law.Goals as goal
-
-pub returns-clause-sound : goal.returns-clause-sound
-returns-clause-sound c = sound
-
-pub returns-clause-complete : goal.returns-clause-complete
-returns-clause-complete c = complete

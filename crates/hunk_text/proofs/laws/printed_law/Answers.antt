@@ -1,5 +1,0 @@
-use Rattle.hunk_text.proofs.RoundTrip.{printed_again}
-use Rattle.hunk_text.proofs.laws.printed_law.Goals as goal
-
-pub returns : goal.returns
-returns c = printed_again

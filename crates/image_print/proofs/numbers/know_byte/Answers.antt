@@ -1,6 +1,0 @@
-use Rattle.std.proofs.Common.{◌∙◌, sym}
-use Rattle.image_print.proofs.KnownNumbers.{no-byte-at}
-use Rattle.image_print.proofs.numbers.know_byte.Goals as goal
-
-pub returns-in_default : goal.returns-in_default
-returns-in_default g c = no-byte-at (g.X.TextBytes.text c.args.text.now) c.args.i (sym c.in_default.is ∙ c.at.ensures)

@@ -1,7 +1,0 @@
-use Rattle.std.proofs.Common.{◌-◌, take}
-use Rattle.std.specs.List.{AllByRecursion}
-use Rattle.image_print.specs.Numbers.{HoldsBytes}
-use Rattle.image_print.proofs.numbers.know_pipes.Given as goal
-
-abbrev pub invariant-loop-k : goal.invariant-loop-k
-invariant-loop-k l = AllByRecursion HoldsBytes (take (l.k - 1) l.pipes)

@@ -1,9 +1,0 @@
-use Rattle.image_text.proofs.CompleteText.{complete}
-use Rattle.image_text.proofs.Sound.{sound}
-use Rattle.image_text.proofs.laws.image_law.Goals as goal
-
-pub returns-clause-sound : goal.returns-clause-sound
-returns-clause-sound c = sound
-
-pub returns-clause-complete : goal.returns-clause-complete
-returns-clause-complete c = complete

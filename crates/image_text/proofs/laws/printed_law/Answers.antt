@@ -1,5 +1,0 @@
-use Rattle.image_text.proofs.PrintedText.{printed}
-use Rattle.image_text.proofs.laws.printed_law.Goals as goal
-
-pub returns : goal.returns
-returns c = printed

@@ -1,0 +1,14 @@
+-- The effect of each row follows from its name.
+use Rattle.std.proofs.Common.{◌≡◌, ℕ, Some, IfSome, map, refl}
+use Rattle.std.specs.List.{range_with_len}
+use Rattle.std.specs.Option.{option_map}
+use Rattle.instruction_set.specs.InstructionTable.EffectRule.{effect_named}
+use Rattle.instruction_set.specs.InstructionTable.Table.{entry, column0, column1, column2, column3, column4, column5, column6, column7}
+use Rattle.instruction_set.proofs.InstructionTable.Entries.{agrees_at}
+
+all_follow : map (λ byte. option_map (λ e. Some e.effect) (entry byte)) (range_with_len 0 256) ≡ map (λ byte. option_map (λ e. effect_named e.name) (entry byte)) (range_with_len 0 256)
+unfolding entry column0 column1 column2 column3 column4 column5 column6 column7 effect_named
+all_follow = refl
+
+pub effect_follows : (byte : ℕ) → IfSome (entry byte) (λ e. Some e.effect ≡ effect_named e.name)
+effect_follows = agrees_at (λ e. Some e.effect) (λ e. effect_named e.name) all_follow

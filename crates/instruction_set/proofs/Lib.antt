@@ -1,0 +1,7 @@
+pub mod InstructionTable
+pub mod OperandForms
+pub mod ByteRegister
+pub mod PlacesWritten
+pub mod Unexecuted
+pub mod SearchLaw
+pub mod KeySearch

@@ -1,0 +1,10 @@
+pub mod InstructionTable
+pub mod OperandForms
+pub mod Breakpoints
+pub mod Change
+pub mod Effect
+pub mod Instruction
+pub mod Places
+pub mod SearchOrder
+pub mod Switch
+pub mod Writes

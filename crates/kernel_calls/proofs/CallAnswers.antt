@@ -1,0 +1,9 @@
+pub mod FoundTask
+pub mod ListedModules
+pub mod RootTold
+pub mod Refusals
+pub mod GuestTask
+pub mod RunningTask
+pub mod MadeCalls
+pub mod ChangedTwice
+pub mod JoinedRows

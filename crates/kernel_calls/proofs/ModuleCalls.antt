@@ -1,0 +1,14 @@
+pub mod CheckedTexts
+pub mod ModuleParts
+pub mod LoadedWords
+pub mod LoadedModule
+pub mod ModuleUses
+pub mod FurtherModules
+pub mod GoneModule
+pub mod AdditionTests
+pub mod AddedModule
+pub mod AddedWords
+pub mod TaskGlobals
+pub mod GlobalOwners
+pub mod GlobalPackets
+pub mod AdditionCall

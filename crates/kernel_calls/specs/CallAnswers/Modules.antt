@@ -1,0 +1,9 @@
+-- Which modules there are.
+use Rattle.std.specs.Prelude.{ℕ, Bool, map}
+use Rattle.kernel_lists.specs.LinkedList.Places.{has}
+use Rattle.kernel_lists.specs.HunkLoader.HeldModules.{module_address}
+use Rattle.kernel_model.specs.KernelRecord.Lists.{Lists}
+
+-- a module stands there
+abbrev pub has_module : Lists → ℕ → Bool
+has_module l m = has m (map module_address l.modules)

@@ -1,0 +1,8 @@
+pub mod CallersCoroutines
+pub mod Switched
+pub mod Refusals
+pub mod CallCo
+pub mod ResumeCo
+pub mod CoWait
+pub mod CreateCo
+pub mod DeleteCo

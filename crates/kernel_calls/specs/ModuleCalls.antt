@@ -1,0 +1,4 @@
+pub mod LoadModule
+pub mod UnloadModule
+pub mod ModuleFields
+pub mod AddModule

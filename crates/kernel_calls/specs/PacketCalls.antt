@@ -1,0 +1,9 @@
+pub mod Destinations
+pub mod PacketMoves
+pub mod QueueWords
+pub mod Qpkt
+pub mod TaskWait
+pub mod Dqpkt
+pub mod Reply
+pub mod SendOwn
+pub mod Returned

@@ -1,0 +1,10 @@
+pub mod OneTask
+pub mod HoldTask
+pub mod ReleaseTask
+pub mod SetFlags
+pub mod TestFlags
+pub mod ChangePri
+pub mod PacketsOut
+pub mod DeleteTask
+pub mod CreateTask
+pub mod NewTasks

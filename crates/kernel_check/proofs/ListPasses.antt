@@ -1,0 +1,13 @@
+pub mod RootWords
+pub mod StartMarks
+pub mod ModuleWalk
+pub mod ClaimedWalks
+pub mod CoroutineWalks
+pub mod GuestWords
+pub mod Residents
+pub mod TaskTable
+pub mod TaskWalks
+pub mod FreePackets
+pub mod HeadWords
+pub mod FurtherModules
+pub mod FrameWords

@@ -1,0 +1,14 @@
+-- What a pass over the lists may rest on.
+use Rattle.std.specs.Prelude.{ℕ, List}
+use Rattle.kernel_lists.specs.GetvecChain.Tiling.{IsTiled}
+use Rattle.store_claims.specs.AdoptionLaw.Passes.{RootStands}
+use Rattle.store_claims.specs.AdoptionLaw.ClaimableStore.{AreClaimable}
+
+-- Root and blocks stand, and the walks have claimed all words.
+pub record IsClaimed (s : List ℕ) : Type 0 where
+  -- the root
+  pub root : RootStands s
+  -- the blocks
+  pub tiled : IsTiled s
+  -- the lists
+  pub claims : AreClaimable s

@@ -1,4 +1,0 @@
--- Lemmas of `word_kinds`.
-pub use Rattle.word_kinds.proofs.KnownWords
-pub use Rattle.word_kinds.proofs.OwnedMarks
-pub use Rattle.word_kinds.proofs.ToldWords

@@ -1,0 +1,14 @@
+pub mod AfterGive
+pub mod AfterTake
+pub mod BlockExchanges
+pub mod FirstFound
+pub mod GiveAnswer
+pub mod MaximalRuns
+pub mod OpenRun
+pub mod Runs
+pub mod SizeWords
+pub mod Splits
+pub mod Takes
+pub mod Tilings
+pub mod UsedBlocks
+pub mod Writes

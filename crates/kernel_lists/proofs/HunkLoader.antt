@@ -1,0 +1,12 @@
+pub mod CopiedWords
+pub mod RelocationLists
+pub mod PlacedHunks
+pub mod ModuleBlocks
+pub mod LoadedModules
+pub mod UnloadedModules
+pub mod TextModules
+pub mod GlobalLists
+pub mod LoadCall
+pub mod HunkWalk
+pub mod HeldModuleLists
+pub mod ModuleExchanges

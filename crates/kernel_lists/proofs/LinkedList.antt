@@ -1,0 +1,11 @@
+pub mod Chains
+pub mod Frames
+pub mod Insertion
+pub mod Lists
+pub mod AllMembers
+pub mod Members
+pub mod MappedLists
+pub mod Places
+pub mod Removal
+pub mod UnlinkAnswer
+pub mod Walks

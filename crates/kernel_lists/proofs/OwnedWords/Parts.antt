@@ -1,0 +1,64 @@
+-- An exchange in a part is one of the whole.
+use Rattle.std.proofs.Common.{◌≡◌, ℕ, List, [], ◌∷◌, ◌++◌, refl, sym, subst, arith}
+use Rattle.std.specs.List.{flat_map}
+use Rattle.kernel_lists.specs.OwnedWords.Owned.{Pairs}
+use Rattle.kernel_lists.specs.OwnedWords.Exchange.{Exchange, Splits}
+use Rattle.kernel_lists.specs.OwnedWords.LinkedWords.{first_of, linked_words}
+use Rattle.kernel_lists.proofs.OwnedWords.OwnedWords.{Holds-append, Holds-left, Holds-right, owners-append}
+
+-- the part of a part
+pub splits-within : (L rest part rest' part' : Pairs) → Splits L rest part → Splits part rest' part' → Splits L (rest ++ rest') part'
+splits-within L rest part rest' part' x y =
+    record {
+      count = λ a. omega (arith, x.count a, y.count a, owners-append a rest rest');
+      opens = λ s h.
+          let l = x.opens s h in
+          let r = y.opens s l.1 in
+          (Holds-append s rest rest' l.0 r.0, r.1);
+      closes = λ s h k. x.closes s (Holds-left s rest rest' h) (y.closes s (Holds-right s rest rest' h) k);
+    }
+
+-- an exchange in a part, where the rest is the same
+pub exchange-within : (L M R A B old new : Pairs) → Splits L R A → Splits M R B → Exchange A B old new → Exchange L M old new
+exchange-within L M R A B old new x y e =
+    record { rest = R ++ e.rest; first = splits-within L R A e.rest old x e.first; then' = splits-within M R B e.rest new y e.then' }
+
+-- the first of joined pairs
+splits-first : (A L : Pairs) → Splits (A ++ L) L A
+splits-first A L =
+    record {
+      count = λ a. omega (arith, owners-append a A L);
+      opens = λ s h. (Holds-right s A L h, Holds-left s A L h);
+      closes = λ s h k. Holds-append s A L k h;
+    }
+
+-- a part behind the first of joined pairs
+splits-behind : (A L F B part : Pairs) → Splits L (F ++ B) part → Splits (A ++ L) ((A ++ F) ++ B) part
+splits-behind A L F B part x =
+    record {
+      count = λ a. omega (arith, x.count a, owners-append a A L, owners-append a (A ++ F) B, owners-append a A F, owners-append a F B);
+      opens = λ s h.
+          let l = x.opens s (Holds-right s A L h) in
+          (Holds-append s (A ++ F) B (Holds-append s A F (Holds-left s A L h) (Holds-left s F B l.0)) (Holds-right s F B l.0), l.1);
+      closes = λ s h k.
+          let f = Holds-left s (A ++ F) B h in
+          Holds-append s A L (Holds-left s A F f) (x.closes s (Holds-append s F B (Holds-right s A F f) (Holds-right s (A ++ F) B h)) k);
+    }
+
+-- one of the linked things
+pub splits-linked : {X : Type 0} (address : X → ℕ) (words : X → ℕ → Pairs) (xs : List X) (x : X) (ys : List X) (end : ℕ)
+    → Splits (linked_words address words (xs ++ x ∷ ys) end) (linked_words address words xs (address x) ++ linked_words address words ys end) (words x (first_of address ys end))
+splits-linked address words [] x ys end = splits-first (words x (first_of address ys end)) (linked_words address words ys end)
+splits-linked {X} address words (z ∷ zs) x ys end =
+    subst (λ n. Splits (words z (first_of address (zs ++ x ∷ ys) end) ++ linked_words address words (zs ++ x ∷ ys) end) ((words z n ++ linked_words address words zs (address x)) ++ linked_words address words ys end) (words x (first_of address ys end)))
+    (sym (first_of-member zs))
+    (splits-behind (words z (first_of address (zs ++ x ∷ ys) end)) _ (linked_words address words zs (address x)) (linked_words address words ys end) _ (splits-linked address words zs x ys end))
+  where
+    first_of-member : (zs : List X) → first_of address zs (address x) ≡ first_of address (zs ++ x ∷ ys) end
+    first_of-member [] = refl
+    first_of-member (w ∷ ws) = refl
+
+-- one piece of joined pieces
+pub splits-piece : {X : Type 0} (f : X → Pairs) (xs : List X) (x : X) (ys : List X) → Splits (flat_map f (xs ++ x ∷ ys)) (flat_map f xs ++ flat_map f ys) (f x)
+splits-piece f [] x ys = splits-first (f x) (flat_map f ys)
+splits-piece f (z ∷ zs) x ys = splits-behind (f z) _ (flat_map f zs) (flat_map f ys) _ (splits-piece f zs x ys)

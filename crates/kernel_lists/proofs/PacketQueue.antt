@@ -1,0 +1,5 @@
+pub mod PacketWords
+pub mod NumberOrder
+pub mod QueueChanges
+pub mod DueWords
+pub mod HeldQueues

@@ -1,0 +1,25 @@
+use Rattle.std.proofs.Common.{sym, subst, drop, arith}
+use Rattle.kernel_lists.specs.Coroutines.Active.{active_in}
+use Rattle.kernel_lists.proofs.Coroutines.ActiveChanges.{wait-again}
+use Rattle.kernel_lists.proofs.Coroutines.CoroutineLists.{Built}
+use Rattle.kernel_lists.specs.TaskBlock.Lists.{coroutines_in}
+use Rattle.kernel_lists.proofs.Coroutines.Switches.{bounds}
+use Rattle.kernel_lists.proofs.coroutine_lists.calls.ended.Goals as goal
+use Rattle.kernel_lists.proofs.coroutine_lists.calls.ended.Goals.{After-leave}
+
+pub address_of-regs-requires : goal.address_of-regs-requires
+address_of-regs-requires c = omega (arith, (bounds c.args.store.now c.args.t c.requires.coroutines).current, c.field-current.ensures)
+
+after : (c : After-leave) → Built c.leave.new.store c.args.t (coroutines_in c.args.store.now c.args.t) (drop 1 (active_in c.args.store.now c.args.t))
+after c =
+    subst (λ z. Built z c.args.t (coroutines_in c.args.store.now c.args.t) (drop 1 (active_in c.args.store.now c.args.t))) (sym c.leave.ensures.words)
+    (wait-again c.args.store.now c.args.t _ _ c.requires.coroutines c.requires.within)
+
+pub returns-clause-active : goal.returns-clause-active
+returns-clause-active c = (after c).active
+
+pub returns-clause-coroutines : goal.returns-clause-coroutines
+returns-clause-coroutines c = (after c).list
+
+pub returns-clause-stand : goal.returns-clause-stand
+returns-clause-stand c = (after c).stand

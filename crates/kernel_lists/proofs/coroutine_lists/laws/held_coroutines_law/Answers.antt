@@ -1,0 +1,11 @@
+use Rattle.kernel_lists.proofs.Coroutines.HeldCoroutineLists.{held-coroutines}
+use Rattle.kernel_lists.proofs.coroutine_lists.laws.held_coroutines_law.Goals as goal
+
+pub returns-clause-stand : goal.returns-clause-stand
+returns-clause-stand c = λ s t cs act h. (held-coroutines s t act cs h).stand
+
+pub returns-clause-coroutines : goal.returns-clause-coroutines
+returns-clause-coroutines c = λ s t cs act h. (held-coroutines s t act cs h).list
+
+pub returns-clause-active : goal.returns-clause-active
+returns-clause-active c = λ s t cs act h. (held-coroutines s t act cs h).active

@@ -1,0 +1,5 @@
+pub mod Chain
+pub mod Changed
+pub mod Linked
+pub mod Places
+pub mod Walk

@@ -1,0 +1,4 @@
+pub mod Exchange
+pub mod LinkedWords
+pub mod Owned
+pub mod Written

@@ -1,0 +1,3 @@
+// Owned words: which words of a store belong to what stands there, and their exchange.
+
+pub mod laws;

@@ -1,7 +1,0 @@
-use Rattle.std.proofs.Common.{◌∙◌, ap, sym}
-use Rattle.kernel_machine.specs.Machine.{MachineView}
-use Rattle.kernel_machine.proofs.OneMachine.{stop-of}
-use Rattle.kernel_machine.proofs.machine.Machine.stop.Goals as goal
-
-pub returns : goal.returns
-returns c = sym (stop-of c.self.inside.parts c.self.inside.stop) ∙ ap (λ (v : MachineView). v.kernel.stop) c.self.view_is

@@ -1,5 +1,0 @@
-use Rattle.kernel_machine.proofs.UncountedSteps.{IsCounting}
-use Rattle.kernel_machine.proofs.spans.execute_uncounted.Given as goal
-
-abbrev pub invariant-loop-taken : goal.invariant-loop-taken
-invariant-loop-taken l = IsCounting l.fn.parts l.parts l.most l.taken

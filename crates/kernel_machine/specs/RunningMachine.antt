@@ -1,0 +1,6 @@
+pub mod Stands
+pub mod Leaves
+pub mod Machine
+pub mod Runs
+pub mod PlainSteps
+pub mod Script

@@ -1,0 +1,84 @@
+// A step: the running task's turn, the devices, and dispatch.
+ghost use Rattle.std.specs.Prelude.{◌≡◌, ◌<◌, [], None, length};
+ghost use Rattle.kernel_model.specs.KernelRecord.Ranges.{most_steps};
+ghost use Rattle.kernel_model.specs.KernelRecord.Kernel.{Kernel};
+ghost use Rattle.kernel_model.specs.KernelRecord.ValidKernel.{IsValid};
+ghost use Rattle.kernel_calls.specs.CallAnswers.Outside.{outside};
+ghost use Rattle.kernel_machine.specs.RunningMachine.Stands.{Stands};
+ghost use Rattle.kernel_machine.specs.KernelSteps.Parts.{IsTaken};
+ghost use Rattle.kernel_machine.specs.KernelSteps.Step.{after_the_turn, step};
+ghost use Rattle.kernel_machine.specs.RunningMachine.Leaves.{CanServe, Leaves};
+
+use crate::running_machine::Parts;
+use crate::running_machine::devices::{dispatch, key, output, tick};
+use crate::running_machine::turns::turn;
+use byte_streams::Output;
+use kernel_lists::EventLog;
+use kernel_model::Stop;
+
+/// One step of a machine that has stopped or not. One that has stays as it is. The answer is why it has stopped, if it has.
+pub(crate) fn step_or_stay<L: EventLog>(
+    parts: &mut Parts,
+    stop: Option<Stop>,
+    out: &mut Output,
+    log: &mut L,
+) -> Option<Stop>
+    requires stands { (k : Kernel) × Stands parts.old k × IsValid k
+        × (stop ≡ k.stop) × (k.steps < most_steps) }
+    requires empty { out.old ≡ [] }
+    ensures stepped { (k : Kernel) → Stands parts.old k → IsValid k
+        → stop ≡ k.stop
+        → k.steps < most_steps → Leaves parts.new
+        (outside out.old (L.noted log.old) (L.has_failed log.old))
+        (outside out.new (L.noted log.new) (L.has_failed log.new)) (step k) }
+    ensures stop { (k : Kernel) → Stands parts.old k → IsValid k
+        → stop ≡ k.stop
+        → k.steps < most_steps → result ≡ (step k).kernel.stop }
+    ensures keys { parts.new.keys.keys ≡ parts.old.keys.keys }
+    ensures taken { (k : Kernel) → Stands parts.old k → IsValid k → k.stop ≡ None
+        → stop ≡ k.stop
+        → k.steps < most_steps → IsTaken k }
+{
+    match stop {
+        Some(_) => stop,
+        None => step(parts, out, log),
+    }
+}
+
+// One step of a machine that has not stopped. The answer is why it stops in this step, if it does.
+fn step<L: EventLog>(parts: &mut Parts, out: &mut Output, log: &mut L) -> Option<Stop>
+    requires stands { (k : Kernel) × Stands parts.old k × IsValid k × (k.stop ≡ None)
+        × (k.steps < most_steps) }
+    requires empty { out.old ≡ [] }
+    ensures stepped { (k : Kernel) → Stands parts.old k → IsValid k → k.stop ≡ None
+        → k.steps < most_steps → Leaves parts.new
+        (outside out.old (L.noted log.old) (L.has_failed log.old))
+        (outside out.new (L.noted log.new) (L.has_failed log.new)) (step k) }
+    ensures stop { (k : Kernel) → Stands parts.old k → IsValid k → k.stop ≡ None
+        → k.steps < most_steps → result ≡ (step k).kernel.stop }
+    ensures keys { parts.new.keys.keys ≡ parts.old.keys.keys }
+    ensures taken { (k : Kernel) → Stands parts.old k → IsValid k → k.stop ≡ None
+        → k.steps < most_steps → IsTaken k }
+{
+    parts.step += 1;
+    let stop = turn(parts, out, log);
+    if stop.is_none() {
+        serve(parts, out, log);
+    }
+    stop
+}
+
+// The devices, and then dispatch.
+fn serve<L: EventLog>(parts: &mut Parts, out: &mut Output, log: &mut L)
+    requires stands { (k : Kernel) × Stands parts.old k × CanServe k }
+    requires room_for_byte { length out.old < 8192 }
+    ensures served { (k : Kernel) → Stands parts.old k → CanServe k → Leaves parts.new
+        (outside out.old (L.noted log.old) (L.has_failed log.old))
+        (outside out.new (L.noted log.new) (L.has_failed log.new)) (after_the_turn k) }
+    ensures keys { parts.new.keys.keys ≡ parts.old.keys.keys }
+{
+    tick(parts, out, log);
+    key(parts, out, log);
+    output(parts, out, log);
+    dispatch(parts, out, log);
+}

@@ -1,0 +1,12 @@
+pub mod TaskStates
+pub mod ReadyChoice
+pub mod StateExchanges
+pub mod SuspendedTask
+pub mod StartedTask
+pub mod TakenPacket
+pub mod TakenWork
+pub mod SuspendedLists
+pub mod ResumedTask
+pub mod NextRegisters
+pub mod WholeDispatch
+pub mod NobodyRuns

@@ -1,0 +1,4 @@
+pub mod Marks
+pub mod KnownWords
+pub mod ToldWords
+pub mod OwnedMarks

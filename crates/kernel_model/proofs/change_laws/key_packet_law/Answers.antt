@@ -1,8 +1,0 @@
-use Rattle.kernel_model.proofs.ResidentPackets.{key_queued-valid, key_unqueued-valid}
-use Rattle.kernel_model.proofs.change_laws.key_packet_law.Goals as goal
-
-pub returns-clause-queued : goal.returns-clause-queued
-returns-clause-queued c = key_queued-valid
-
-pub returns-clause-unqueued : goal.returns-clause-unqueued
-returns-clause-unqueued c = key_unqueued-valid

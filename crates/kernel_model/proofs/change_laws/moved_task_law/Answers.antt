@@ -1,5 +1,0 @@
-use Rattle.kernel_model.proofs.MovedTask.{moved_task-valid}
-use Rattle.kernel_model.proofs.change_laws.moved_task_law.Goals as goal
-
-pub returns : goal.returns
-returns c = moved_task-valid

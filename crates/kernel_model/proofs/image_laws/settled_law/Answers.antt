@@ -1,8 +1,0 @@
-use Rattle.kernel_model.proofs.SettledWords.{settled-image, settled-plain}
-use Rattle.kernel_model.proofs.image_laws.settled_law.Goals as goal
-
-pub returns-clause-image : goal.returns-clause-image
-returns-clause-image c = settled-image
-
-pub returns-clause-plain : goal.returns-clause-plain
-returns-clause-plain c = settled-plain

@@ -1,0 +1,5 @@
+use Rattle.kernel_model.proofs.WordKinds.Marks.{claimed-marks}
+use Rattle.kernel_model.proofs.word_kinds.byte_kinds.ByteKindsKindKeeper.claim.Goals as goal
+
+pub returns-clause-tells : goal.returns-clause-tells
+returns-clause-tells c = λ before after known all. claimed-marks c.args.self.now c.set.new.self c.args.a c.args.n before after known c.set.ensures c.requires all

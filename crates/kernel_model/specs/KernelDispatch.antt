@@ -1,0 +1,3 @@
+pub mod Dispatch
+pub mod DispatchWords
+pub mod Turn

@@ -1,3 +1,0 @@
--- Lemmas of `kernel_devices`.
-pub use Rattle.kernel_devices.proofs.FirstDue
-pub use Rattle.kernel_devices.proofs.TickLists

@@ -1,8 +1,0 @@
-use Rattle.kernel_steps.proofs.FilesKept.{step-files}
-use Rattle.kernel_steps.proofs.step_laws.files_law.Goals as goal
-
-pub returns-clause-disc : goal.returns-clause-disc
-returns-clause-disc c = λ k shell handler. (step-files k shell handler).disc
-
-pub returns-clause-pipes : goal.returns-clause-pipes
-returns-clause-pipes c = λ k shell handler. (step-files k shell handler).pipes

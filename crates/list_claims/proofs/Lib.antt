@@ -1,7 +1,0 @@
-pub mod TiledWords
-pub mod OpenBlocks
-pub mod JoinedClaims
-pub mod ListAnswers
-pub mod TaskWalk
-pub mod OutwardWalk
-pub mod Shown

@@ -1,2 +1,0 @@
--- Lemmas of `word_claims`.
-pub use Rattle.word_claims.proofs.ClaimedWords

@@ -1,2 +1,0 @@
--- Lemmas of `cint_disasm`.
-pub use Rattle.cint_disasm.proofs.HunkLines

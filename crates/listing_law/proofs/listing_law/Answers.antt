@@ -1,8 +1,0 @@
-use Rattle.listing_law.proofs.ListingAgain.{again, printed_again}
-use Rattle.listing_law.proofs.listing_law.Goals as goal
-
-pub returns-clause-again : goal.returns-clause-again
-returns-clause-again c = again
-
-pub returns-clause-printed : goal.returns-clause-printed
-returns-clause-printed c = printed_again

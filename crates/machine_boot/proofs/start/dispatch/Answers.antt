@@ -1,9 +1,0 @@
-use Rattle.std.proofs.Common.{sym, subst}
-use Rattle.kernel_machine.specs.KernelCalls.KernelDispatch.Dispatch.{CanDispatch}
-use Rattle.machine_boot.proofs.DispatchedParts.{dispatched-stands}
-use Rattle.machine_boot.proofs.start.dispatch.Goals as goal
-
-pub returns-clause-stands : goal.returns-clause-stands
-returns-clause-stands c = λ k h can.
-    dispatched-stands c.args.parts.now k h c.switch.new.store c.switch.new.regs c.switch.new.kinds _ _ _ _ c.switch.ensures.room
-    (c.switch.ensures.dispatched k.lists h.keeper (subst (CanDispatch k.lists) (sym h.regs) can))

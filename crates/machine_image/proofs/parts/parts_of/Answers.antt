@@ -1,8 +1,0 @@
-use Rattle.machine_image.proofs.AdoptedParts.{residents-adopted}
-use Rattle.machine_image.proofs.parts.parts_of.Goals as goal
-
-pub console_in-console-requires : goal.console_in-console-requires
-console_in-console-requires c = (residents-adopted c.args.image c.requires.kept.adopted).console.line
-
-pub shell_in-shell-requires : goal.shell_in-shell-requires
-shell_in-shell-requires c = (residents-adopted c.args.image c.requires.kept.adopted).shell.line

@@ -1,0 +1,15 @@
+pub mod TextReader
+pub mod Complete
+pub mod Digits
+pub mod Hex
+pub mod HunkLists
+pub mod PrintParts
+pub mod Progress
+pub mod ReadingOn
+pub mod RoundTrip
+pub mod Runs
+pub mod ShapeCounts
+pub mod Sizes
+pub mod Sound
+pub mod Spans
+pub mod TextRefusals

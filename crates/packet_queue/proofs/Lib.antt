@@ -1,6 +1,0 @@
-pub mod PacketWords
-pub mod NumberOrder
-pub mod QueueChanges
-pub mod DueWords
-pub mod HeldQueues
-pub mod Shown

@@ -1,8 +1,0 @@
-use Rattle.packet_queue.proofs.DueWords.{ArrivesLast-appended, NeverFalls-appended}
-use Rattle.packet_queue.proofs.laws.due_order_law.Goals as goal
-
-pub returns-clause-never_falls : goal.returns-clause-never_falls
-returns-clause-never_falls c = NeverFalls-appended
-
-pub returns-clause-arrival : goal.returns-clause-arrival
-returns-clause-arrival c = ArrivesLast-appended

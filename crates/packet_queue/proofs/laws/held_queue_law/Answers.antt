@@ -1,8 +1,0 @@
-use Rattle.packet_queue.proofs.HeldQueues.{held-queue}
-use Rattle.packet_queue.proofs.laws.held_queue_law.Goals as goal
-
-pub returns-clause-queue : goal.returns-clause-queue
-returns-clause-queue c = λ s head ps h. (held-queue s head ps h).stands
-
-pub returns-clause-packets : goal.returns-clause-packets
-returns-clause-packets c = λ s head ps h. (held-queue s head ps h).list

@@ -1,9 +1,0 @@
-pub mod KeptPipes
-pub mod SlotPipes
-pub mod SlotCalls
-pub mod AfterRequests
-pub mod Histories
-pub mod PipeTurns
-pub mod KeptTurns
-pub mod RequestsInTurns
-pub mod Shown

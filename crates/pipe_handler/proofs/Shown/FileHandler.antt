@@ -1,2 +1,0 @@
--- Lemmas of `file_handler`.
-pub use Rattle.file_handler.proofs.EndedRequests

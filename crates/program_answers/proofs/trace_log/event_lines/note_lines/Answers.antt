@@ -1,0 +1,22 @@
+use Rattle.std.proofs.Common.{[]}
+use Rattle.program_answers.specs.TraceLog.Marks.{kept}
+use Rattle.program_answers.specs.TraceLog.Trails.{events_of}
+use Rattle.program_answers.proofs.TraceLog.MarkedLists.{NotesAll-rest, marked}
+use Rattle.program_answers.proofs.trace_log.event_lines.note_lines.Goals as goal
+
+pub returns : goal.returns
+returns g c =
+    let old = c.args.log.now in
+    let new = c.note_all.new.log in
+    let holds = g.K.Sink.holds in
+    let faults = g.K.Sink.faults in
+    let was = kept old.out.ghost_name (faults old.first.value) (holds old.first.value) old.before.value [] in
+    let now = kept new.out.ghost_name (faults new.first.value) (holds new.first.value) new.before.value [] in
+    let is = marked was now (events_of old.trail) (events_of new.trail) _ _ _ c.note_all.ensures in
+    record {
+      same_reference = is.name;
+      same_first = is.first;
+      same_faults = is.faults;
+      same_before = is.before;
+      events = NotesAll-rest was now (events_of old.trail) (events_of new.trail) _ _ _ c.note_all.ensures;
+    }

@@ -1,8 +1,0 @@
-use Rattle.rdargs.proofs.Rules.{answer-complete, answer-sound}
-use Rattle.rdargs.proofs.laws.args_law.Goals as goal
-
-pub returns-clause-sound : goal.returns-clause-sound
-returns-clause-sound c = answer-sound
-
-pub returns-clause-complete : goal.returns-clause-complete
-returns-clause-complete c template line outcome rules = answer-complete rules

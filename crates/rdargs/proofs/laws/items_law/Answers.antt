@@ -1,8 +1,0 @@
-use Rattle.rdargs.proofs.CutLines.{items-complete, items-cut}
-use Rattle.rdargs.proofs.laws.items_law.Goals as goal
-
-pub returns-clause-sound : goal.returns-clause-sound
-returns-clause-sound c = items-cut
-
-pub returns-clause-complete : goal.returns-clause-complete
-returns-clause-complete c = items-complete

@@ -1,0 +1,11 @@
+pub mod TakenKeys
+pub mod WaitingReads
+pub mod DoneParts
+pub mod SentKeys
+pub mod PressedKeys
+pub mod TreatedRequests
+pub mod HandedLines
+pub mod WholeDelivery
+pub mod FreeKeys
+pub mod WholeTurn
+pub mod KeptKeys

@@ -1,0 +1,4 @@
+mod NamedFiles
+mod HandledCalls
+mod FileTurns
+pub mod EndedRequests

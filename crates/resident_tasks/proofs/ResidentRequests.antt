@@ -1,0 +1,10 @@
+pub mod BufferTests
+pub mod NamesRead
+pub mod WordBytes
+pub mod WrittenBuffer
+pub mod RunningResident
+pub mod TakenRequest
+pub mod ReturnedRequest
+pub mod FinishedTurn
+pub mod AnsweredRequest
+pub mod ResidentTurns

@@ -1,0 +1,35 @@
+-- The console's key packet, which comes back from the keyboard with a key as its first result.
+use Rattle.std.specs.Prelude.{◌≡◌, true, Some, Ok, List, [], ◌∷◌}
+use Rattle.word_store.specs.Arithmetic.{signed}
+use Rattle.kernel_lists.specs.PacketQueue.QueueWords.{QueuedPacket}
+use Rattle.kernel_lists.specs.declared.packet_queue.events.KernelEvent.TheVariants.{Taken}
+use Rattle.kernel_model.specs.KernelRecord.Changes.{with_key, with_queue}
+use Rattle.kernel_model.specs.KernelRecord.Lists.{Lists}
+use Rattle.kernel_model.specs.KernelRecord.ValidQueues.{is_key_packet}
+use Rattle.kernel_model.specs.KernelRecord.ValidQueues.Place.{Work}
+use Rattle.kernel_calls.specs.CallAnswers.Made.{Made, done}
+use Rattle.resident_tasks.specs.ResidentRequests.Requests.{RunsResident, work}
+
+abbrev pub StartsWithKeys : Lists → List QueuedPacket → Type 0
+StartsWithKeys l [] = ⊥
+StartsWithKeys l (p ∷ ps) = is_key_packet l p ≡ true
+
+-- the resident that runs has the key packet as its first
+pub record FindsKeys (l : Lists) : Type 0 where
+  -- a resident runs
+  pub runs : RunsResident l
+  -- its first packet is the key packet
+  pub first : StartsWithKeys l (work l)
+
+-- It is taken, and then on no queue. Its answer is the key.
+abbrev pub keys_taken_from : List QueuedPacket → Lists → Made
+keys_taken_from [] l = done l
+keys_taken_from (p ∷ ps) l = record {
+  answer = Ok p.res1;
+  lists = with_key (Some p.res1) (with_queue (Work l.running) ps l);
+  plain = [];
+  events = Taken (signed l.running) p.address (signed p.sender) ∷ [];
+}
+
+abbrev pub keys_taken : Lists → Made
+keys_taken l = keys_taken_from (work l) l

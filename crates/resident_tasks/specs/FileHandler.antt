@@ -1,0 +1,3 @@
+pub mod FileCalls
+pub mod FileRequests
+pub mod FileTurn

@@ -1,0 +1,5 @@
+pub mod ResidentRequests
+pub mod FileHandler
+pub mod PipeHandler
+pub mod FaultReporter
+pub mod ConsoleHandler

@@ -1,5 +1,0 @@
-use Rattle.ring_link.proofs.LawfulRings.{is_lawful}
-use Rattle.ring_link.proofs.read.read_ring.Goals as goal
-
-pub returns-clause-lawful : goal.returns-clause-lawful
-returns-clause-lawful c = is_lawful c.args.text.now _ c.requires c.whole_ring.ensures

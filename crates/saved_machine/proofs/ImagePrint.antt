@@ -1,0 +1,12 @@
+pub mod PrintedParts
+pub mod StatementTexts
+pub mod NumberedPlaces
+pub mod FileTexts
+pub mod HeadTexts
+pub mod PlacedNames
+pub mod ResumedMachines
+pub mod KnownNumbers
+pub mod PlacedAgain
+pub mod HeldBytes
+pub mod LawfulImages
+pub mod WholeText

@@ -1,0 +1,10 @@
+pub mod PlacedThings
+pub mod PlacedStreams
+pub mod PlacedPipes
+pub mod FiledDiscs
+pub mod SetStreams
+pub mod RestoredPipes
+pub mod PutFiles
+pub mod ResidentRules
+pub mod AdoptedParts
+pub mod SavedMachines

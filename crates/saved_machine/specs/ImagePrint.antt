@@ -1,0 +1,3 @@
+pub mod SavedImage
+pub mod Numbers
+pub mod Texts

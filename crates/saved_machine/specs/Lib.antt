@@ -1,0 +1,2 @@
+pub mod MachineImage
+pub mod ImagePrint

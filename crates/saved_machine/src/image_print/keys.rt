@@ -1,0 +1,40 @@
+// The keys of a machine's text.
+ghost use Rattle.std.specs.Prelude.{map};
+ghost use Rattle.saved_text.specs.ImageForm.{key_statement};
+ghost use Rattle.byte_streams.specs.Pending.{Gathers};
+ghost use Rattle.byte_streams.specs.Write.{HasCause};
+ghost use Rattle.kernel_machine.specs.RunningMachine.Script.{still_to_come};
+ghost use Rattle.saved_machine.specs.ImagePrint.Texts.{statements_text};
+
+use byte_streams::{Output, Sink, SinkFault};
+use saved_text::saved_lines::print_key;
+use tripos_machine::KernelParts;
+
+/// Adds a line for each key that is still to come to what is pending.
+pub(crate) fn print_coming_keys<K: Sink>(
+    parts: &KernelParts,
+    out: &mut K,
+    pending: &mut Output,
+) -> Result<(), SinkFault>
+    ensures text { Gathers (K.holds out.old) (K.holds out.new) pending.old pending.new
+        (statements_text (map key_statement (still_to_come parts.now.keys))) result }
+    ensures cause { HasCause (K.faults out.old) (K.faults out.new) result }
+{
+    print_keys(parts.keys.rest(), out, pending)
+}
+
+// A line for each of these keys.
+fn print_keys<K: Sink>(
+    keys: &[(u64, u8)],
+    out: &mut K,
+    pending: &mut Output,
+) -> Result<(), SinkFault>
+    ensures text { Gathers (K.holds out.old) (K.holds out.new) pending.old pending.new
+        (statements_text (map key_statement keys.now)) result }
+    ensures cause { HasCause (K.faults out.old) (K.faults out.new) result }
+{
+    for key in keys {
+        print_key(key.0, key.1, out, pending)?;
+    }
+    Ok(())
+}

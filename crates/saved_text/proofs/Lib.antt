@@ -1,0 +1,12 @@
+pub mod SavedLines
+pub mod Acceptance
+pub mod Advances
+pub mod Complete
+pub mod CompleteText
+pub mod FileLists
+pub mod LawfulText
+pub mod PrintedText
+pub mod StepsInTexts
+pub mod Sound
+pub mod StatementLists
+pub mod TextRefusals

@@ -1,9 +1,0 @@
-use Rattle.session_generator.specs.Generated.{file}
-use Rattle.session_generator.proofs.DrawnTexts.{with_next-none, with_next-turn}
-use Rattle.session_generator.proofs.sessions.add_files.Goals as goal
-
-pub loop-number-init : goal.loop-number-init
-loop-number-init c = with_next-none c.args.draft.now file
-
-pub loop-number-preserved : goal.loop-number-preserved
-loop-number-preserved c = with_next-turn c.args.draft.now file c.loop-number.number c.loop-number.invariant c.in_ok-add_file.ensures

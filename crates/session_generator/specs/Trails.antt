@@ -1,8 +1,0 @@
--- The bytes of a trail.
-use Rattle.std.specs.Prelude.{ℕ, List, [], ◌∷◌, ◌++◌}
-use Rattle.session_generator.specs.declared.trails.Trail.{Trail, Start, More'}
-
--- the bytes, in order
-abbrev pub bytes_of : Trail → List ℕ
-bytes_of Start = []
-bytes_of (More' marker before byte) = bytes_of before ++ byte ∷ []

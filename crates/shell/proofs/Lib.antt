@@ -1,0 +1,12 @@
+pub mod ShellListings
+pub mod ShellPrograms
+pub mod RunningShell
+pub mod DoneParts
+pub mod TaskCalls
+pub mod TypedFiles
+pub mod StartedPrograms
+pub mod TakenPackets
+pub mod WholeTurn
+pub mod KeptTurns
+pub mod KeptRules
+pub mod KeptShell

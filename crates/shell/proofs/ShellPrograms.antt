@@ -1,0 +1,13 @@
+pub mod PacketWords
+pub mod PacketPlace
+pub mod MadeStandings
+pub mod ClearedTask
+pub mod ProgramNumbers
+pub mod StartedParts
+pub mod PostedPacket
+pub mod KeptTasks
+pub mod KeptSteps
+pub mod ClearedNumbers
+pub mod KeptRules
+pub mod SentRules
+pub mod KeptFaults

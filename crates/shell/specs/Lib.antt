@@ -1,0 +1,10 @@
+pub mod ShellListings
+pub mod ShellPrograms
+pub mod Modes
+pub mod TurnParts
+pub mod Prompts
+pub mod TypedFiles
+pub mod Commands
+pub mod ShellTurn
+pub mod DoneParts
+pub mod KeptLists

@@ -1,0 +1,67 @@
+-- The tasks of the chain, a line for each.
+use Rattle.std.specs.Prelude.{ℕ, ◌+◌, ◌-◌, ◌/◌, ◌%◌, ◌==◌, Bool, true, false, not, if◌then◌else◌, List, [], ◌∷◌, codes, decimal, slice_index}
+use Rattle.std.specs.List.{flat_map}
+use Rattle.byte_streams.specs.Pieces.{joined}
+use Rattle.kernel_lists.specs.TaskBlock.TaskChain.{id_in, priority_in, tasks_in}
+use Rattle.kernel_lists.specs.TaskBlock.TaskWords.{word_index}
+use Rattle.kernel_lists.specs.declared.task_block.fields.TcbField.TheVariants.{State}
+use Rattle.kernel_model.specs.KernelRecord.Between.{is_empty_queue}
+use Rattle.kernel_model.specs.KernelRecord.Task.{Task}
+use Rattle.kernel_model.specs.KernelRecord.ValidTasks.{interrupted, runs, waits}
+use Rattle.shell.specs.ShellListings.Columns.{right_in}
+
+-- the word of a task's state, without its marks: it runs, it waits, it was interrupted, it is dead
+abbrev pub field_name : ℕ → List ℕ
+field_name field =
+    if field == runs then codes "run" else
+    if field == waits then codes "wait" else
+    if field == interrupted then codes "int" else
+    codes "dead"
+
+-- a mark, where it is set
+abbrev pub mark : List ℕ → Bool → List ℕ
+mark text true = text
+mark text false = []
+
+-- with the marks that packets wait, and that the task is held
+abbrev pub state_text : ℕ → Bool → Bool → List ℕ
+state_text field waiting held = joined (field_name field ∷ mark (codes " pkt") waiting ∷ mark (codes " held") held ∷ [])
+
+-- the number and the priority, and the text of the state
+abbrev pub line_with : ℕ → ℕ → List ℕ → List ℕ
+line_with id priority state = joined (right_in 3 (decimal id) ∷ codes " " ∷ right_in 5 (decimal priority) ∷ codes " " ∷ state ∷ codes "\n" ∷ [])
+
+abbrev pub task_line : Task → List ℕ
+task_line t = line_with t.id t.priority (state_text t.field (not (is_empty_queue t.queue)) t.held)
+
+unfoldable pub task_lines : List Task → List ℕ
+task_lines ts = flat_map task_line ts
+
+-- a line has at most so many bytes, and the lines of at most 64 tasks have at most so many
+abbrev pub most_in_task_line : ℕ
+most_in_task_line = 36
+
+abbrev pub most_in_tasks : ℕ
+most_in_tasks = 2304
+
+-- ---- the same, as the words of a store say
+
+-- the field of a state, and its two marks
+abbrev pub field_of : ℕ → ℕ
+field_of w = w - w % 4
+
+abbrev pub has_packets : ℕ → Bool
+has_packets w = w % 2 == 1
+
+abbrev pub is_held : ℕ → Bool
+is_held w = w / 2 % 2 == 1
+
+abbrev pub line_of_words : ℕ → ℕ → ℕ → List ℕ
+line_of_words id priority state = line_with id priority (state_text (field_of state) (has_packets state) (is_held state))
+
+-- that of the task block at t
+abbrev pub task_line_at : List ℕ → ℕ → List ℕ
+task_line_at s t = line_of_words (id_in s t) (priority_in s t) (slice_index s (t + word_index State))
+
+unfoldable pub task_lines_in : List ℕ → List ℕ
+task_lines_in s = flat_map (task_line_at s) (tasks_in s)

@@ -1,4 +1,0 @@
-mod AskedCommands
-mod LineParts
-mod NameCodes
-mod ValuesInside

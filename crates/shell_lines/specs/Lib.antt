@@ -1,5 +1,0 @@
-pub mod Arguments
-pub mod Command
-pub mod CommandForm
-pub mod CommandNames
-pub mod Words

@@ -1,0 +1,24 @@
+use Rattle.std.specs.Prelude.{[], ◌∷◌}
+use Rattle.program_answers.specs.TraceLog.Marks.{kept}
+use Rattle.program_answers.specs.TraceLog.Trails.{events_of}
+use Rattle.program_answers.proofs.TraceLog.MarkedLists.{NotesAll-rest, marked}
+use Rattle.show_run.proofs.StepLog.GivenBack.{moments-same}
+use Rattle.show_run.proofs.step_log.boots.note_boot.Goals as goal
+
+pub returns : goal.returns
+returns g c =
+    let old = c.args.log.now in
+    let new = c.note_boot.new.log in
+    let holds = g.K.Sink.holds in
+    let faults = g.K.Sink.faults in
+    let was = kept old.out.ghost_name (faults old.first.value) (holds old.first.value) old.before.value (old.words.step ∷ old.words.tick ∷ old.words.task ∷ old.words.pc ∷ []) in
+    let now = kept new.out.ghost_name (faults new.first.value) (holds new.first.value) new.before.value (new.words.step ∷ new.words.tick ∷ new.words.task ∷ new.words.pc ∷ []) in
+    let is = marked was now (events_of old.trail) (events_of new.trail) _ _ _ c.note_boot.ensures in
+    record {
+      same_reference = is.name;
+      same_first = is.first;
+      same_faults = is.faults;
+      same_before = is.before;
+      same_words = moments-same new.words old.words is.numbers;
+      events = NotesAll-rest was now (events_of old.trail) (events_of new.trail) _ _ _ c.note_boot.ensures;
+    }

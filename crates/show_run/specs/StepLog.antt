@@ -1,0 +1,9 @@
+pub mod Moments
+pub mod Calls
+pub mod Console
+pub mod Events
+pub mod Faults
+pub mod Packets
+pub mod Refusals
+pub mod Answers
+pub mod StepLines

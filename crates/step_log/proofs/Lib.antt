@@ -1,7 +1,0 @@
-pub mod Shown
-pub mod ConsoleTexts
-pub mod KeptParts
-pub mod GivenBack
-pub mod SteppedLines
-pub mod GuestLines
-pub mod ToldPackets

@@ -1,4 +1,0 @@
-use Rattle.step_log.proofs.changes.gather_stopped.Goals as goal
-
-pub returns-in-Finish-clause-text : goal.returns-in-Finish-clause-text
-returns-in-Finish-clause-text g c = rw c.in-Finish.is c.gather_line-in-Finish.ensures.text

@@ -1,0 +1,3 @@
+pub mod WordClaims
+pub mod ListClaims
+pub mod AdoptionLaw

@@ -1,0 +1,5 @@
+pub mod OtherParts
+pub mod Adoption
+pub mod Passes
+pub mod ClaimCounts
+pub mod ClaimableStore

@@ -1,0 +1,3 @@
+pub mod BlockData
+pub mod ListWords
+pub mod ListEnds

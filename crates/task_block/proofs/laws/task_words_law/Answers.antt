@@ -1,8 +1,0 @@
-use Rattle.task_block.proofs.ChainExchanges.{blocks-insert, blocks-unlink}
-use Rattle.task_block.proofs.laws.task_words_law.Goals as goal
-
-pub returns-clause-insert : goal.returns-clause-insert
-returns-clause-insert c = blocks-insert
-
-pub returns-clause-unlink : goal.returns-clause-unlink
-returns-clause-unlink c = blocks-unlink

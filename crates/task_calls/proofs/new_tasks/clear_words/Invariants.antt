@@ -1,6 +1,0 @@
-use Rattle.std.proofs.Common.{◌≡◌, suc, ◌+◌, ◌-◌, replicate}
-use Rattle.word_store.specs.Row.{with_words}
-use Rattle.task_calls.proofs.new_tasks.clear_words.Given as goal
-
-abbrev pub invariant-loop-i : goal.invariant-loop-i
-invariant-loop-i l = with_words l.store (l.a + l.i) (replicate (suc (l.last - l.i)) 0) ≡ with_words l.fn.store l.a (replicate (suc l.last) 0)

@@ -1,7 +1,0 @@
-use Rattle.std.proofs.Common.{◌≡◌, ◌+◌, eqb, get_or}
-use Rattle.std.specs.List.{list_any}
-use Rattle.task_calls.specs.PacketsOut.{is_sender_at}
-use Rattle.task_calls.proofs.packets_out.is_sender_at.Given as goal
-
-abbrev pub invariant-loop-p : goal.invariant-loop-p
-invariant-loop-p l = is_sender_at l.store l.head l.id ≡ list_any (λ p. eqb (get_or l.store (p + 1) 0) l.id) l.p-iterator

@@ -1,9 +1,0 @@
-use Rattle.std.proofs.Common.{◌≡◌, ◌<◌, ◌^◌, drop}
-use Rattle.text_reader.proofs.NumberLemmas.{number_after_value}
-use Rattle.text_reader.proofs.numbers.number.Given as goal
-
-abbrev pub invariant-loop-byte : goal.invariant-loop-byte
-invariant-loop-byte l = record {
-  number : number_after_value 10 l.value (drop l.byte-index l.digits) ≡ number_after_value 10 0 l.digits;
-  small : l.value < 10 ^ l.byte-index;
-}

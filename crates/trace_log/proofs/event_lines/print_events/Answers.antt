@@ -1,6 +1,0 @@
-use Rattle.std.proofs.Common.{refl}
-use Rattle.tp_io.proofs.GatheredTexts.{Prints-gathered}
-use Rattle.trace_log.proofs.event_lines.print_events.Goals as goal
-
-pub returns-clause-text : goal.returns-clause-text
-returns-clause-text g c = Prints-gathered _ c.pass_on.result refl c.in_ok-pending.ensures.text c.pass_on.ensures.text

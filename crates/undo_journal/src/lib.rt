@@ -1,9 +1,0 @@
-// A journal of stores, from which steps are taken back. It knows no machine.
-#![tactic(auto)]
-
-mod former_words;
-pub mod journals;
-pub mod laws;
-mod members;
-
-pub use journals::Journal;

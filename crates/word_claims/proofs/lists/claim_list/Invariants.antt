@@ -1,6 +1,0 @@
-use Rattle.std.proofs.Common.{◌+◌}
-use Rattle.word_claims.proofs.ClaimWalk.{Walked}
-use Rattle.word_claims.proofs.lists.claim_list.Given as goal
-
-abbrev pub invariant-loop-i : goal.invariant-loop-i
-invariant-loop-i g l = Walked l.store (λ p. p + l.offset) (g.K.NodeKind.words_in l.kind l.store) l.fn.claims l.claims l.head l.at l.i

@@ -1,5 +1,0 @@
-pub mod Marks
-pub mod KnownWords
-pub mod ToldWords
-pub mod OwnedMarks
-pub mod Shown

@@ -1,6 +1,0 @@
-use Rattle.std.proofs.Common.{◌-◌}
-use Rattle.word_kinds.specs.ByteMap.{IsSet}
-use Rattle.word_kinds.proofs.byte_kinds.ByteKinds.set.Given as goal
-
-abbrev pub invariant-loop-a : goal.invariant-loop-a
-invariant-loop-a l = IsSet l.fn.self l.self-inside.marks.items l.first (l.a - l.first) l.value

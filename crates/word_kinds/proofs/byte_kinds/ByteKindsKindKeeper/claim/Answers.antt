@@ -1,5 +1,0 @@
-use Rattle.word_kinds.proofs.Marks.{claimed-marks}
-use Rattle.word_kinds.proofs.byte_kinds.ByteKindsKindKeeper.claim.Goals as goal
-
-pub returns-clause-tells : goal.returns-clause-tells
-returns-clause-tells c = λ before after known all. claimed-marks c.args.self.now c.set.new.self c.args.a c.args.n before after known c.set.ensures c.requires all

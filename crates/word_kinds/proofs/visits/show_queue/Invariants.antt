@@ -1,8 +1,0 @@
-use Rattle.std.proofs.Common.{◌≡◌, ◌++◌, map}
-use Rattle.kernel_model.specs.KernelLists.PacketQueue.Queue.{queue_at}
-use Rattle.kernel_model.specs.KernelRanges.{words}
-use Rattle.word_kinds.proofs.visits.show_queue.Given as goal
-
-abbrev pub invariant-loop-p : goal.invariant-loop-p
-invariant-loop-p g l =
-    g.V.Visitor.shown l.fn.visitor l.visitor (map (λ p. words p 5) l.yielded) × (queue_at l.store l.head ≡ l.yielded ++ l.p-iterator)
