@@ -5,6 +5,7 @@ use Rattle.std.specs.List.{AllByRecursion, join_with_byte, position_or_len, slic
 use Rattle.std.proofs.lemmas.Bool.Decides.{nat_tests}
 use Rattle.module_text.proofs.TextReader.PlainLines.{IsPlain}
 use Rattle.assembly.specs.AssemblyText.Parts.{parts_of, without_comment}
+use Rattle.assembly.proofs.AssemblyText.PartLemmas.{kept_first}
 
 -- a byte that ends neither a part nor a line, and begins no comment
 abbrev pub IsPartByte : ℕ → Type 0
@@ -33,15 +34,12 @@ split_nowhere (c ∷ cs) h =
     let no : (c == 32) ≡ false = grind (arith, nat_tests) in
     rw (no, split_nowhere cs h.1) refl
 
-kept : (part : List ℕ) (parts : List (List ℕ)) → 0 < length part → filter (λ p. nat_lt 0 (length p)) (part ∷ parts) ≡ part ∷ filter (λ p. nat_lt 0 (length p)) parts
-kept part parts some = let yes : nat_lt 0 (length part) ≡ true = grind (arith, nat_tests) in rw yes refl
-
 parts_of_joined : (parts : List (List ℕ)) → AllByRecursion IsPart parts → parts_of (join_with_byte 32 parts) ≡ parts
 unfolding parts_of
 parts_of_joined [] h = refl
-parts_of_joined (p ∷ []) h = rw (split_nowhere p h.0.1, kept p [] h.0.0) refl
+parts_of_joined (p ∷ []) h = rw (split_nowhere p h.0.1, kept_first p [] h.0.0) refl
 parts_of_joined (p ∷ q ∷ ps) h =
-    rw (split_at_space p (join_with_byte 32 (q ∷ ps)) h.0.1, kept p (slice_split (λ c. c == 32) (join_with_byte 32 (q ∷ ps))) h.0.0)
+    rw (split_at_space p (join_with_byte 32 (q ∷ ps)) h.0.1, kept_first p (slice_split (λ c. c == 32) (join_with_byte 32 (q ∷ ps))) h.0.0)
     (ap (λ (l : List (List ℕ)). p ∷ l) (parts_of_joined (q ∷ ps) h.1))
 
 -- ---- the bytes of the line

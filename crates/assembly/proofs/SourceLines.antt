@@ -32,7 +32,8 @@ use Rattle.assembly.specs.PlainCode.{IsPlainAs, IsPlainAt, IsPlainForm}
 use Rattle.assembly.specs.Source.{label, operand_parts, parts_as, parts_at}
 use Rattle.assembly.proofs.CodeBytes.{bytes_from, bytes_standing}
 use Rattle.assembly.proofs.LineParts.{IsPart, parts_read}
-use Rattle.assembly.proofs.SourceNames.{colon_part, colon_read, decimal_part, decimal_read, label_part, label_read, name_part, tested_bytes}
+use Rattle.assembly.proofs.SourceNames.{colon_part, decimal_part, decimal_read, label_part, label_read, name_part, tested_bytes}
+use Rattle.assembly.proofs.AssemblyText.SaidLines.{colon-read}
 
 -- the table has the label of the offset, there
 abbrev pub HasLabel : Table → ℕ → Type 0
@@ -68,7 +69,7 @@ parts_with true a parts lt h = (colon_part a (omega arith), h)
 parts_with false a parts lt h = h
 
 line_with_label : (a : ℕ) (parts : List (List ℕ)) (s : Statement) → a < 10 ^ 10 → IsNamed parts s → line_of_parts ((label a ++ codes ":") ∷ parts) ≡ Ok (line_with true a s)
-line_with_label a parts s lt h = rw (colon_read (label a), label_read a lt, h.read) refl
+line_with_label a parts s lt h = rw (colon-read (label a), label_read a lt, h.read) refl
 
 line_without : (a : ℕ) (parts : List (List ℕ)) (s : Statement) → IsNamed parts s → line_of_parts parts ≡ Ok (line_with false a s)
 line_without a parts s h =

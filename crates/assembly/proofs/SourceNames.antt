@@ -6,7 +6,7 @@ use Rattle.std.specs.List.{AllByRecursion, ends_with, list_all}
 use Rattle.std.specs.Option.{option_map, option_map_or}
 use Rattle.std.specs.Str.Parse.{AllDigits, digits_value}
 use Rattle.std.proofs.Math.Seq.{take-append_seam}
-use Rattle.std.proofs.lemmas.Bool.{and_parts}
+use Rattle.std.proofs.lemmas.Bool.{and_parts, not-true}
 use Rattle.std.proofs.lemmas.Bool.Decides.{nat_tests}
 use Rattle.std.proofs.lemmas.Fmt.{decimal_is_IsNumeral, length-decimal-le}
 use Rattle.std.proofs.lemmas.Str.Parse.{digit_from_value}
@@ -20,6 +20,7 @@ use Rattle.assembly.specs.AssemblyText.Numbers.{number_of}
 use Rattle.assembly.proofs.AssemblyText.InstructionLemmas.{byte_below}
 use Rattle.assembly.specs.Source.{label}
 use Rattle.assembly.proofs.LineParts.{IsPart, IsPartByte}
+use Rattle.assembly.proofs.AssemblyText.SaidLines.{colon-read}
 
 -- ---- digits
 
@@ -85,11 +86,6 @@ drop_seam : (xs ys : List ℕ) → drop (length xs) (xs ++ ys) ≡ ys
 drop_seam [] ys = refl
 drop_seam (x ∷ xs) ys = drop_seam xs ys
 
-pub colon_read : (part : List ℕ) → before_colon (part ++ codes ":") ≡ Some part
-colon_read part =
-    let size : length (part ++ codes ":") - 1 ≡ length part = omega (arith, length-append part (codes ":")) in
-    rw (size, drop_seam part (codes ":"), take-append_seam part (codes ":")) refl
-
 -- ---- the names of the table
 
 abbrev is_part_byte : ℕ → Bool
@@ -118,12 +114,8 @@ tested_bytes (c ∷ cs) h =
     let t3 : not (c == 59) ≡ true = d.1 in
     ((grind (arith, nat_tests), grind (arith, nat_tests), grind (arith, nat_tests), grind (arith, nat_tests)), tested_bytes cs p.1)
 
-false_from : (b : Bool) → not b ≡ true → b ≡ false
-false_from true h = cc h
-false_from false h = refl
-
 no_colon : (name : List ℕ) → not (ends_with nat_eq name (codes ":")) ≡ true → before_colon name ≡ None
-no_colon name h = rw (false_from (ends_with nat_eq name (codes ":")) h) refl
+no_colon name h = rw (not-true (ends_with nat_eq name (codes ":")) h) refl
 
 name_tested : (name : List ℕ) → is_part_name name ≡ true → IsPart name × (before_colon name ≡ None)
 name_tested name h =

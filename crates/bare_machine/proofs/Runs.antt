@@ -36,7 +36,7 @@ run-behind n k j quiet = run-more n 1 k ∙ ap (λ (x : BareStepped). and_then x
 
 -- ---- a machine that has stopped
 
-has-stopped : (o : Option Stop) → o ≢ None → is_some o ≡ true
+pub has-stopped : (o : Option Stop) → o ≢ None → is_some o ≡ true
 has-stopped None some = absurd (some refl)
 has-stopped (Some stop) some = refl
 

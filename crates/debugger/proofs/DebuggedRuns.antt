@@ -9,11 +9,12 @@ use Rattle.tripos_machine.proofs.StateRuns.{run-counts, run-later, run-more, run
 use Rattle.debugger.specs.declared.limits.Limits.{Limits}
 use Rattle.debugger.specs.Debugged.{Debugging, HasDebugged, steps_left, went_back}
 use Rattle.debugger.specs.Runs.{IsWithin}
-use Rattle.debugger.proofs.StepsTo.{run-zero, went-on}
+use Rattle.debugger.proofs.StepsTo.{went-on}
+use Rattle.tripos_machine.proofs.QuietSteps.{run-none}
 
 -- no step was taken
 pub debugged-none : (n : ℕ) (s : State) → HasDebugged n s s
-debugged-none n s = record { steps = 0; few = omega arith; state = sym (ap (λ (x : Stepped). x.state) (run-zero s)) }
+debugged-none n s = record { steps = 0; few = omega arith; state = sym (ap (λ (x : Stepped). x.state) (run-none s)) }
 
 -- more may be taken
 pub debugged-more : (n m : ℕ) (s t : State) → n ≤ m → HasDebugged n s t → HasDebugged m s t

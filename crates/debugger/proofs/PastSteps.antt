@@ -6,7 +6,8 @@ use Rattle.kernel_model.specs.declared.kernel_record.stops.Stop.{Stop}
 use Rattle.tripos_machine.specs.State.{State, stop_of}
 use Rattle.tripos_machine.specs.Step.{Stepped, run, step}
 use Rattle.debugger.specs.Debugged.{past_after, steps_to}
-use Rattle.debugger.proofs.StepsTo.{end-none, run-suc, run-zero, to-further, to-here, went-on}
+use Rattle.debugger.proofs.StepsTo.{end-none, run-suc, to-further, to-here, went-on}
+use Rattle.tripos_machine.proofs.QuietSteps.{run-none}
 
 -- a machine that has stopped takes no step
 pub past-stopped : (n : ℕ) (past : List State) (s : State) → is_some (stop_of s) ≡ true → past_after n past s ≡ past
@@ -19,7 +20,7 @@ past-on n past s goes = ap (λ o. if is_some o then past else past_after n (reme
 -- one step more
 past-next : (n : ℕ) (past : List State) (s : State) → stop_of (run n s).state ≡ None → past_after (suc n) past s ≡ remembered (past_after n past s) (run n s).state (step (run n s).state).state
 past-next zero past s goes =
-    let here : (run 0 s).state ≡ s = ap (λ (x : Stepped). x.state) (run-zero s) in
+    let here : (run 0 s).state ≡ s = ap (λ (x : Stepped). x.state) (run-none s) in
     past-on 0 past s (sym (ap stop_of here) ∙ goes) ∙ ap (λ t. remembered past t (step t).state) (sym here)
 past-next (suc n) past s goes =
     let t : State = (step s).state in

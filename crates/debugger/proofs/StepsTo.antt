@@ -13,6 +13,7 @@ use Rattle.debugger.specs.Debugged.{steps_to}
 use Rattle.std.proofs.lemmas.Bool.{cases_lt}
 use Rattle.std.proofs.lemmas.List.{append-nil}
 use Rattle.debugger.specs.Views.{is_at, is_end, is_guest_next}
+use Rattle.tripos_machine.proofs.QuietSteps.{run-none}
 
 pub to-here : (stops : List ℕ) (n : ℕ) (s : State) → is_end stops (step s).state ≡ true → steps_to stops (suc n) s ≡ 1
 to-here stops n s here = ap (λ b. if b then 1 else suc (steps_to stops n (step s).state)) here
@@ -56,10 +57,6 @@ never-at t = and-false (is_guest_next t) (not ((regs_of t).pc == 0))
 pub end-none : (t : State) → is_end [] t ≡ is_some (stop_of t)
 end-none t = or-false (is_some (stop_of t)) (is_at [] t) (never-at t)
 
-pub run-zero : (s : State) → run 0 s ≡ quietly s
-unfolding run
-run-zero s = refl
-
 pub run-suc : (n : ℕ) (s : State) → run (suc n) s ≡ and_then (step s) (run n)
 unfolding run
 run-suc n s = refl
@@ -78,7 +75,7 @@ to-all (suc n) s = on (is_some (stop_of (step s).state)) refl (to-all n (step s)
     on : (b : Bool) → is_some (stop_of t) ≡ b → run (steps_to [] n t) t ≡ run n t → run (steps_to [] (suc n) s) s ≡ run (suc n) s
     on true is more =
         ap (λ i. run i s) (to-here [] n s (end-none t ∙ is)) ∙ run-suc 0 s
-        ∙ ap (λ (x : Stepped). and_then (step s) (λ _. x)) (run-zero t ∙ sym (run-stopped n t (not-none (stop_of t) is))) ∙ sym (run-suc n s)
+        ∙ ap (λ (x : Stepped). and_then (step s) (λ _. x)) (run-none t ∙ sym (run-stopped n t (not-none (stop_of t) is))) ∙ sym (run-suc n s)
     on false is more =
         ap (λ i. run i s) (to-further [] n s (end-none t ∙ is)) ∙ run-suc (steps_to [] n t) s
         ∙ ap (λ (x : Stepped). and_then (step s) (λ _. x)) more ∙ sym (run-suc n s)
@@ -95,7 +92,7 @@ to-earlier stops (suc n) (suc i) s some few = on (is_end stops (step s).state) r
     on false is more = first i refl
       where
         first : (j : ℕ) → i ≡ j → is_end stops (run (suc i) s).state ≡ false
-        first zero none = ap (λ k. is_end stops (run (suc k) s).state) none ∙ ap (λ (x : Stepped). is_end stops x.state) (run-suc 0 s) ∙ ap (λ (x : Stepped). is_end stops x.state) (run-zero (step s).state) ∙ is
+        first zero none = ap (λ k. is_end stops (run (suc k) s).state) none ∙ ap (λ (x : Stepped). is_end stops x.state) (run-suc 0 s) ∙ ap (λ (x : Stepped). is_end stops x.state) (run-none (step s).state) ∙ is
         first (suc j) there = ap (λ (x : Stepped). is_end stops x.state) (run-suc i s) ∙ more (omega (arith, there)) (omega (arith, few, to-further stops n s is))
 
 pub to-last : (stops : List ℕ) (n : ℕ) (s : State) → steps_to stops n s < n → is_end stops (run (steps_to stops n s) s).state ≡ true
@@ -108,7 +105,7 @@ to-last stops (suc n) s few = on (is_end stops (step s).state) refl (to-last sto
     on : (b : Bool) → is_end stops t ≡ b → (steps_to stops n t < n → is_end stops (run (steps_to stops n t) t).state ≡ true) → is_end stops (run (steps_to stops (suc n) s) s).state ≡ true
     on true is more =
         ap (λ k. is_end stops (run k s).state) (to-here stops n s is) ∙ ap (λ (x : Stepped). is_end stops x.state) (run-suc 0 s)
-        ∙ ap (λ (x : Stepped). is_end stops x.state) (run-zero t) ∙ is
+        ∙ ap (λ (x : Stepped). is_end stops x.state) (run-none t) ∙ is
     on false is more =
         ap (λ k. is_end stops (run k s).state) (to-further stops n s is) ∙ ap (λ (x : Stepped). is_end stops x.state) (run-suc (steps_to stops n t) s)
         ∙ more (omega (arith, few, to-further stops n s is))
@@ -118,7 +115,7 @@ to-last stops (suc n) s few = on (is_end stops (step s).state) refl (to-last sto
 pub run-one : (s : State) → run 1 s ≡ step s
 run-one s =
     let t : State = (step s).state in
-    run-suc 0 s ∙ ap (λ (x : Stepped). and_then (step s) (λ _. x)) (run-zero t)
+    run-suc 0 s ∙ ap (λ (x : Stepped). and_then (step s) (λ _. x)) (run-none t)
     ∙ (λ i. record { state = t; bytes = append-nil (step s).bytes i; events = append-nil (step s).events i })
 
 pub one-state : (s : State) → (step s).state ≡ (run 1 s).state
@@ -134,7 +131,7 @@ one-unended stops s i some less = absurd (omega (arith, some, less))
 to-past : (stops : List ℕ) (m rest : ℕ) (t : State) → m ≤ rest → ((i : ℕ) → 0 < i → i ≤ m → is_end stops (run i t).state ≡ false) → steps_to stops rest t ≡ m + steps_to stops (rest - m) (run m t).state
 to-past stops zero rest t few none =
     let whole : rest ≡ rest - 0 = omega arith in
-    let same : steps_to stops rest t ≡ steps_to stops (rest - 0) (run 0 t).state = λ j. steps_to stops (whole j) (sym (ap (λ (x : Stepped). x.state) (run-zero t)) j) in
+    let same : steps_to stops rest t ≡ steps_to stops (rest - 0) (run 0 t).state = λ j. steps_to stops (whole j) (sym (ap (λ (x : Stepped). x.state) (run-none t)) j) in
     omega (arith, same)
 to-past stops (suc m) zero t few none = absurd (omega (arith, few))
 to-past stops (suc m) (suc rest) t few none =

@@ -31,7 +31,7 @@ address_of w = w.0
 first-contained : (a : ℕ) (at : List ℕ) → Contains (a ∷ at) a
 first-contained a at = (zero, omega arith, refl)
 
-rest-contained : (a b : ℕ) (at : List ℕ) → Contains at b → Contains (a ∷ at) b
+pub rest-contained : (a b : ℕ) (at : List ℕ) → Contains at b → Contains (a ∷ at) b
 rest-contained a b at (i, inside, is) = (suc i, omega arith, is)
 
 written-differ : (ws : List (ℕ × ℕ)) (words : List ℕ) → DifferAt (map address_of ws) words (written words ws)

@@ -45,7 +45,7 @@ tick-exchange l now =
 pub tick-owned : (l : Lists) (now a : ℕ) → owners a (owned (with_tick now l)) ≡ owners a (owned l)
 tick-owned l now a = sym (owners-exchanged (owned l) (owned (with_tick now l)) _ _ a (tick-exchange l now) refl)
 
-tick-valid : (l : Lists) (now : ℕ) → AreValid l → AreValid (with_tick now l)
+pub tick-valid : (l : Lists) (now : ℕ) → AreValid l → AreValid (with_tick now l)
 tick-valid l now v =
     record {
       blocks = v.blocks;

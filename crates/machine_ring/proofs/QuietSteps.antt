@@ -7,12 +7,9 @@ use Rattle.tripos_machine.specs.State.{State, steps_of, stop_of}
 use Rattle.tripos_machine.specs.Step.{Stepped, run as machine_run, step}
 use Rattle.tripos_machine.proofs.StateRuns.{run-more}
 use Rattle.machine_ring.specs.Rounds.{can_step}
+use Rattle.kernel_machine.proofs.RunningMachine.RunParts.{no-front}
 
 -- ---- joined lists of which nothing is left
-
-pub no-front : {A : Type 0} (xs ys : List A) → xs ++ ys ≡ [] → xs ≡ []
-no-front [] ys e = refl
-no-front (x ∷ xs) ys e = cc
 
 pub no-back : {A : Type 0} (xs ys : List A) → xs ++ ys ≡ [] → ys ≡ []
 no-back [] ys e = e

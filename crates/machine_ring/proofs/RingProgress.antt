@@ -16,6 +16,7 @@ use Rattle.machine_ring.specs.declared.outcomes.RingOutcome.{RingOutcome}
 use Rattle.machine_ring.specs.declared.terms.Terms.{Terms}
 use Rattle.machine_ring.proofs.RingEvents.{rounds-acknowledged, rounds-count, rounds-outstanding, rounds-prefix, rounds-waiting}
 use Rattle.machine_ring.proofs.RingRuns.{run-ended, run-more, run-one, run-zero}
+use Rattle.tripos_machine.proofs.RunParts.{ends-all}
 
 -- the rounds of a ring led to this one
 abbrev pub Ran : Ring → Ring → Type 0
@@ -118,8 +119,3 @@ pub ended-early : (f r : Ring) (total : ℕ) → Ran f r → r.link.rounds ≤ t
 ended-early f r total ran few stop is =
     run-ended r.link.rounds total f few
     (λ none. (let other : Some stop ≡ None = sym is ∙ ap (λ (q : Ring). stop_of q.right) ran ∙ none in cc other))
-
--- why it has ended, by whether it has stopped
-pub end-left : (o answer : Option Stop) (end : Stop) → answer ≡ o → end ≡ unwrap_or answer Steps → end ≡ end_of_run o
-end-left None answer end e is = is ∙ ap (λ z. unwrap_or z Steps) e
-end-left (Some stop) answer end e is = is ∙ ap (λ z. unwrap_or z Steps) e

@@ -7,6 +7,7 @@ use Rattle.tripos_machine.specs.State.{stop_of}
 use Rattle.machine_ring.specs.Rings.{Ring}
 use Rattle.machine_ring.specs.Rounds.{Rounded, round}
 use Rattle.machine_ring.specs.Runs.{and_then, no_rounds, run}
+use Rattle.bare_machine.proofs.Runs.{has-stopped}
 
 -- ---- one after another
 
@@ -26,17 +27,13 @@ then-none x = λ i. record { ring = x.ring; shown = append-nil x.shown i; offere
 
 -- ---- a ring whose right machine has stopped
 
-is-some : (o : Option Stop) → o ≢ None → is_some o ≡ true
-is-some None some = absurd (some refl)
-is-some (Some stop) some = refl
-
 is-none : (o : Option Stop) → o ≡ None → is_some o ≡ false
 is-none o none = ap is_some none
 
 pub run-stopped : (n : ℕ) (r : Ring) → stop_of r.right ≢ None → run n r ≡ no_rounds r
 unfolding run
 run-stopped zero r stopped = refl
-run-stopped (suc n) r stopped = ap (λ b. cond b (no_rounds r) (and_then (round r) (run n))) (is-some (stop_of r.right) stopped)
+run-stopped (suc n) r stopped = ap (λ b. cond b (no_rounds r) (and_then (round r) (run n))) (has-stopped (stop_of r.right) stopped)
 
 pub run-next : (n : ℕ) (r : Ring) → stop_of r.right ≡ None → run (suc n) r ≡ and_then (round r) (run n)
 unfolding run

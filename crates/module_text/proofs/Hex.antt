@@ -5,7 +5,7 @@ use Rattle.std.specs.Char.{digit_value}
 use Rattle.std.specs.Int.{w32, to_be_bytes}
 use Rattle.std.specs.List.{AllByRecursion}
 use Rattle.std.specs.Str.Parse.{AllDigits, digits_value_after}
-use Rattle.std.proofs.lemmas.Bool.{and_parts, cases_lt, eqb-true}
+use Rattle.std.proofs.lemmas.Bool.{and_parts, cases_lt, eqb-true, not-true}
 use Rattle.hex.specs.Hex.{encode_lower, encode_with, lower_digits}
 use Rattle.hex.proofs.HexLemmas.{length-encode_with}
 use Rattle.byte_streams.specs.Pieces.{hex_digits_of}
@@ -32,15 +32,11 @@ read_back_at (suc n) k h lt =
           rw e parts.0
     ]
 
-not_true : (b : Bool) → not b ≡ true → b ≡ false
-not_true true e = cc e
-not_true false e = refl
-
 -- a digit has its value, and is no blank
 digit : (d : ℕ) → d < 16 → (digit_value (slice_index lower_digits d) ≡ d) × (is_blank (slice_index lower_digits d) ≡ false)
 digit d lt =
     let parts = and_parts (digit_value (slice_index lower_digits d) == d) (not (is_blank (slice_index lower_digits d))) (read_back_at 16 d refl lt) in
-    (eqb-true (digit_value (slice_index lower_digits d)) d parts.0, not_true (is_blank (slice_index lower_digits d)) parts.1)
+    (eqb-true (digit_value (slice_index lower_digits d)) d parts.0, not-true (is_blank (slice_index lower_digits d)) parts.1)
 
 -- ---- bytes
 

@@ -15,7 +15,7 @@ IsName-from_test bytes e =
     let high : nat_le (length bytes) 12 ≡ true = q.1 in
     (grind (arith, nat_tests), grind (arith, nat_tests), AllPass-from_list_all is_name_byte bytes p.1)
 
-is_name-from : (bytes : List ℕ) → IsName bytes → is_name bytes ≡ true
+pub is_name-from : (bytes : List ℕ) → IsName bytes → is_name bytes ≡ true
 is_name-from bytes h =
     let low : nat_le 1 (length bytes) ≡ true = let a = h.0 in grind (arith, nat_tests) in
     let high : nat_le (length bytes) 12 ≡ true = let a = h.1 in grind (arith, nat_tests) in

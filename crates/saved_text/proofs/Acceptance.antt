@@ -3,7 +3,7 @@ use Rattle.std.proofs.Common.{◌≡◌, ◌∙◌, ℕ, ◌<◌, ◌≤◌, ◌
 use Rattle.std.specs.Prelude.{IsTrue, slice_set}
 use Rattle.std.specs.List.{flat_map}
 use Rattle.std.specs.Option.{ok_or, option_map_or}
-use Rattle.std.proofs.lemmas.Bool.{and_parts, eqb-true}
+use Rattle.std.proofs.lemmas.Bool.{and_parts, eqb-true, not-true}
 use Rattle.std.proofs.lemmas.Bool.Decides.{nat_tests}
 use Rattle.std.proofs.lemmas.Grind.{flat_map-append}
 use Rattle.std.proofs.lemmas.List.{length-set, map-append}
@@ -341,10 +341,6 @@ word_later AtKey x floor h e = subst (λ (a : ℕ). Zeros a x.store) (Some-same 
 word_later (AtWord a) x floor h e = subst (λ (b : ℕ). Zeros b x.store) (Some-same a floor e) h
 word_later AtEnd x floor h e = cc e
 
-not_true : (b : Bool) → not b ≡ true → b ≡ false
-not_true true e = cc e
-not_true false e = refl
-
 pub word-accepted : (p : Place) (x : Image) (n a w : ℕ) (d : Draft) → Later p x → AreEntries x → word_step p x n a w ≡ Ok d → IsAccepted x (Word a w) d
 word-accepted p x n a w d l h e =
     let new : Draft = draft (AtWord (a + 1)) (record x { store = slice_set x.store a w }) in
@@ -363,7 +359,7 @@ word-accepted p x n a w d l h e =
     let ks = map key_statement x.keys in
     let ws = word_statements 0 x.store in
     let zero_a : 0 + a ≡ a = omega arith in
-    let more = words-more 0 a x.store w inside (not_true (w == 0) t.1) (λ i le. z i (omega (arith, low, le))) ∙ ap (λ (k : ℕ). ws ++ Word k w ∷ []) zero_a in
+    let more = words-more 0 a x.store w inside (not-true (w == 0) t.1) (λ i le. z i (omega (arith, low, le))) ∙ ap (λ (k : ℕ). ws ++ Word k w ∷ []) zero_a in
     subst (IsAccepted x (Word a w)) g.1 (record {
       later = zeros-set b.0 a x.store w z low;
       entries = record { files = h.files; streams = h.streams; pipes = h.pipes; keys = h.keys };

@@ -18,7 +18,7 @@ use Rattle.session_text.proofs.StatementTexts.{is_field-name}
 use Rattle.saved_text.specs.SavedLines.Canonical.{IsPrintable, printed_console, printed_regs, printed_ring, printed_shell, statement_text}
 use Rattle.saved_text.specs.SavedLines.Heads.{are_regs}
 use Rattle.saved_text.specs.SavedLines.Statements.{Statement, Bytes, Word, Go}
-use Rattle.saved_text.proofs.SavedLines.PrintedLines.{console_printed, plain_console, plain_number, plain_regs, plain_ring, plain_shell, plain_states, regs_printed, ring_printed, shell_printed, states_text}
+use Rattle.saved_text.proofs.SavedLines.PrintedLines.{console_printed, plain_console, plain_regs, plain_ring, plain_shell, plain_states, regs_printed, ring_printed, shell_printed, states_text}
 use Rattle.saved_text.specs.Canonical.{IsLawful, IsLawfulMachine, canonical, canonical_lines, kernel_text, machine_text}
 use Rattle.saved_text.specs.ImageForm.{AreFiles, AreImageLines, ArePipes, AreRestLines, AreStated, AreStreams, IsMachineLine, awaited, file_statements, flag, key_statement, mode_number, pipe_statement, statements_of, stream_statement, word_statement, word_statements}
 use Rattle.saved_text.specs.ImageOfText.{image_of}
@@ -30,6 +30,9 @@ use Rattle.saved_text.specs.declared.images.SavedFile.{SavedFile}
 use Rattle.saved_text.specs.declared.images.SavedPipe.{SavedPipe}
 use Rattle.saved_text.specs.declared.images.SavedStream.{SavedStream}
 use Rattle.saved_text.proofs.CompleteText.{complete}
+use Rattle.session_text.proofs.RoundTrip.{store_bound, step_bound, period_bound}
+use Rattle.session_text.proofs.SessionTexts.{plain_number}
+use Rattle.session_text.proofs.StepRefusals.{number_printed}
 
 -- ---- statements that can be printed
 
@@ -107,9 +110,6 @@ printable_pipes floor (p ∷ ps) h b =
     let n = pipe_numbers p.k (flag p.reading) (flag p.writing) (flag p.written) h.1.0 in
     ((n.0, n.1, n.2, n.3, is_field-name p.name h.1.1, b.0), printable_pipes (p.k + 1) ps h.2 b.1)
 
-step_bound : (n : ℕ) → is_step n ≡ true → n < 10 ^ 10
-step_bound n e = let most : nat_le n most_steps ≡ true = e in grind (arith, nat_tests)
-
 printable_keys : (keys : List (ℕ × ℕ)) → AllByRecursion (λ key. IsTrue (is_step key.0)) keys → AllByRecursion (λ key. key.1 < 256) keys → ArePrintable (map key_statement keys)
 printable_keys [] h b = tt
 printable_keys (key ∷ keys) h b = ((step_bound key.0 h.0, b.0), printable_keys keys h.1 b.1)
@@ -124,19 +124,6 @@ printable_word a w h k = by (w == 0)
 printable_words : (a : ℕ) (ws : List ℕ) → a + length ws < 10 ^ 10 → AllByRecursion (λ w. w < 2 ^ 32) ws → ArePrintable (word_statements a ws)
 printable_words a [] lt h = tt
 printable_words a (w ∷ ws) lt h = all-append IsPrintable (word_statement a w) (word_statements (a + 1) ws) (printable_word a w (omega arith) h.0) (printable_words (a + 1) ws (omega arith) h.1)
-
-store_bound : (version store : ℕ) → is_store_size version store ≡ true → store < 10 ^ 10
-store_bound version store e =
-    let a = and_parts (nat_le 1024 store && nat_le store (most_words version)) (store % 2 == 0) e in
-    let b = and_parts (nat_le 1024 store) (nat_le store (most_words version)) a.0 in
-    let most : nat_le store (most_words version) ≡ true = b.1 in
-    grind (arith, nat_tests)
-
-period_bound : (n : ℕ) → is_period n ≡ true → n < 10 ^ 10
-period_bound n e =
-    let b = and_parts (nat_le 1 n) (nat_le n 1000000) e in
-    let most : nat_le n 1000000 ≡ true = b.1 in
-    grind (arith, nat_tests)
 
 -- both the steps taken and those to come
 steps_bound : (step go : ℕ) → is_step (step + go) ≡ true → (step < 10 ^ 10) × (go < 10 ^ 10)
@@ -163,12 +150,9 @@ stated_printed (s ∷ ss) h = (states_text s h.0, stated_printed ss h.1)
 
 -- ---- the whole text
 
-number_line : (word : List ℕ) (n : ℕ) → n < 10 ^ 10 → IsNumberLine word n (word ++ decimal n)
-number_line word n lt = (decimal n, refl, decimal_number n lt)
-
 machine_printed : (b : Bool) (x : Image) → IsLawfulMachine b x → IsMachineLine b x (machine_text b x.period)
 machine_printed true x h = (refl, h)
-machine_printed false x h = (number_line (codes "TICK ") x.period (period_bound x.period h), h)
+machine_printed false x h = (number_printed (codes "TICK ") x.period (period_bound x.period h), h)
 
 mode_bound : (m : Mode) → mode_number m < 10 ^ 10
 mode_bound Prompt = omega arith
@@ -221,9 +205,9 @@ lines_printed x h =
       rest = kernel_text x.bare x ++ map statement_text (statements_of x ++ Go x.go ∷ []);
       all = refl;
       version_line = (h.version, refl);
-      store_line = (number_line (codes "STORE ") (length x.store) (store_bound x.version (length x.store) h.size), h.size);
+      store_line = (number_printed (codes "STORE ") (length x.store) (store_bound x.version (length x.store) h.size), h.size);
       machine_line = machine_printed x.bare x h.machine;
-      step_line = (number_line (codes "STEP ") x.step (steps_bound x.step x.go h.steps).0, h.steps);
+      step_line = (number_printed (codes "STEP ") x.step (steps_bound x.step x.go h.steps).0, h.steps);
       regs_line = (regs_printed x.regs r.0 r.1, h.regs);
       rest_lines = rest_printed x.bare x h;
       entries = h.entries;

@@ -12,6 +12,7 @@ use Rattle.saved_text.proofs.Advances.{BeginLines, IsOf, StopsAt, advance, advan
 use Rattle.saved_text.proofs.CompleteText.{complete}
 use Rattle.saved_text.proofs.PrintedText.{plain_image}
 use Rattle.saved_text.proofs.Sound.{sound}
+use Rattle.session_text.proofs.TextRefusals.{line_of-same, bound_of}
 
 -- ---- lines and texts
 
@@ -41,9 +42,6 @@ module _ (front : List (List ℕ)) (at : Draft) (before : advance first_draft 1 
   refused_begins line r e b = let a = next_accepted line b in cc (sym a.1 ∙ e)
 
 -- ---- what a refusal says
-
-line_of-same : (m n code k : ℕ) → refusal m code ≡ refusal n k → (m ≡ n) × (code ≡ k)
-line_of-same m n code k e = (ap (λ (r : Refusal). r.line) e, ap (λ (r : Refusal). r.code) e)
 
 first_error : (text : List ℕ) (n : ℕ) (r : Refusal) (s : StopsAt first_draft 1 (lines_of text) r) → 1 + length s.front ≡ n → IsFirstError text n
 first_error text n r s number = record {
@@ -92,11 +90,6 @@ says_end : (text : List ℕ) (n code : ℕ) → code ≡ 3 → Meaning text n co
 says_end text n code h (inr m) = m.1
 says_end text n code h (inl (inl e, m)) = absurd (omega (arith, h, e))
 says_end text n code h (inl (inr e, m)) = absurd (omega (arith, h, e))
-
-bound_of : (text : List ℕ) (n code : ℕ) → Meaning text n code → (1 ≤ code) × (code ≤ 3)
-bound_of text n code (inl (inl e, m)) = (omega (arith, e), omega (arith, e))
-bound_of text n code (inl (inr e, m)) = (omega (arith, e), omega (arith, e))
-bound_of text n code (inr m) = let e = m.0 in (omega (arith, e), omega (arith, e))
 
 pub code_bound : (text : List ℕ) (n code : ℕ) → IsRefused text n code → (1 ≤ code) × (code ≤ 3)
 code_bound text n code e = bound_of text n code (says text n code e)

@@ -19,7 +19,7 @@ text_of_lines-append a b = flat_map-append (λ line. line ++ 10 ∷ []) a b
 -- ---- hex
 
 -- the hex digits of bytes, one after another
-encode_lower-append : (a b : List ℕ) → encode_lower (a ++ b) ≡ encode_lower a ++ encode_lower b
+pub encode_lower-append : (a b : List ℕ) → encode_lower (a ++ b) ≡ encode_lower a ++ encode_lower b
 unfolding encode_with
 encode_lower-append [] b = refl
 encode_lower-append (x ∷ a) b = ap (λ t. encode_lower (x ∷ []) ++ t) (encode_lower-append a b)

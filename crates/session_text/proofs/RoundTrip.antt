@@ -28,17 +28,17 @@ use Rattle.session_text.proofs.StatementTexts.{IsBytes-one, are_fields-names, is
 
 -- ---- ranges are below 10 ^ 10
 
-store_bound : (version store : ℕ) → is_store_size version store ≡ true → store < 10 ^ 10
+pub store_bound : (version store : ℕ) → is_store_size version store ≡ true → store < 10 ^ 10
 store_bound version store e =
     let a = and_parts (nat_le 1024 store && nat_le store (most_words version)) (store % 2 == 0) e in
     let b = and_parts (nat_le 1024 store) (nat_le store (most_words version)) a.0 in
     let most : nat_le store (most_words version) ≡ true = b.1 in
     grind (arith, nat_tests)
 
-step_bound : (n : ℕ) → is_step n ≡ true → n < 10 ^ 10
+pub step_bound : (n : ℕ) → is_step n ≡ true → n < 10 ^ 10
 step_bound n e = let most : nat_le n most_steps ≡ true = e in grind (arith, nat_tests)
 
-period_bound : (n : ℕ) → is_period n ≡ true → n < 10 ^ 10
+pub period_bound : (n : ℕ) → is_period n ≡ true → n < 10 ^ 10
 period_bound n e =
     let b = and_parts (nat_le 1 n) (nat_le n 1000000) e in
     let most : nat_le n 1000000 ≡ true = b.1 in

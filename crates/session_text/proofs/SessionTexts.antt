@@ -60,7 +60,7 @@ plain_bytes digits bytes h = recursion_from_All IsPlainByte digits (All-weaker (
 -- ---- lines
 
 -- a line of a word and a number has no LF and no CR
-plain_number : (word line : List ℕ) (n : ℕ) → IsPlain word → IsNumberLine word n line → IsPlain line
+pub plain_number : (word line : List ℕ) (n : ℕ) → IsPlain word → IsNumberLine word n line → IsPlain line
 plain_number word line n w h = subst IsPlain (sym h.1) (plain_append word h.0 w (plain_digits h.0 h.2.numeral.1))
 
 -- nor has a statement

@@ -121,7 +121,7 @@ pub record IsAccepted (s : Session) (n : ℕ) (line : List ℕ) (next : Draft) :
   pub in_range : is_in_range s.version statement ≡ true
   pub is : with_statement s n statement ≡ next
 
-fits_by : (b : Bool) (x y : Statement) → cond b (Some x) None ≡ Some y → b ≡ true
+pub fits_by : (b : Bool) (x y : Statement) → cond b (Some x) None ≡ Some y → b ≡ true
 fits_by true x y e = refl
 fits_by false x y e = cc e
 

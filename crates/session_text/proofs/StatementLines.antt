@@ -49,7 +49,7 @@ task_by most rest x id pri stack a b c e =
     subst (λ (y : Statement). States y (codes "TASK " ++ rest)) p.1 (i.0, j.0, k.0, i.1, j.1, k.1, n.0, n.1, ap (λ (t : List ℕ). codes "TASK " ++ t) text)
 
 -- a step that gave a value
-and_then-ok : {A B : Type 0} (o : Option A) (f : A → Option B) (y : B) → option_and_then f o ≡ Some y → (x : A) × (o ≡ Some x) × (f x ≡ Some y)
+pub and_then-ok : {A B : Type 0} (o : Option A) (f : A → Option B) (y : B) → option_and_then f o ≡ Some y → (x : A) × (o ≡ Some x) × (f x ≡ Some y)
 and_then-ok None f y e = cc e
 and_then-ok (Some x) f y e = (x, refl, e)
 

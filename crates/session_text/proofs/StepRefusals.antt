@@ -28,7 +28,7 @@ use Rattle.session_text.specs.declared.drafts.Place.TheVariants.{Version as AtVe
 use Rattle.session_text.specs.declared.sessions.Session.{Session}
 use Rattle.session_text.proofs.Advances.{least_store}
 use Rattle.session_text.proofs.Complete.{MayHaveEntry, enters, statement_again}
-use Rattle.session_text.proofs.Sound.{entry_step-ok}
+use Rattle.session_text.proofs.Sound.{entry_step-ok, fits_by}
 use Rattle.session_text.proofs.StatementLines.{statement_of-again, statement_of-ok}
 use Rattle.session_text.proofs.StatementTexts.{IsBytes-one, IsPrintable, states_text}
 use Rattle.session_text.proofs.LineRefusals.{Accepts, IsWrong, Stands, StandsAsEntry, shape, stands_entry, wrong_colon, wrong_form}
@@ -86,10 +86,6 @@ names_fit-form version (AtOf k text) = refl
 names_fit-form version (KeyOf k byte) = refl
 names_fit-form version (GoOf steps) = refl
 
-some_fits : (b : Bool) (x y : Statement) → cond b (Some x) None ≡ Some y → b ≡ true
-some_fits true x y e = refl
-some_fits false x y e = cc e
-
 none_fits : (b : Bool) (x : Statement) → cond b (Some x) None ≡ None → b ≡ true → ⊥
 none_fits true x e t = cc e
 none_fits false x e t = cc t
@@ -100,7 +96,7 @@ module _ (p : Place) (s : Session) (n : ℕ) (a : MayHaveEntry p) where
   accepted_fits line x e h ok =
       let y = entry_step-ok s n line e (sym (enters p s n line x a h) ∙ ok) in
       let some : statement_of s.version line ≡ Some y.statement = statement_of-again s.version line y.statement y.states ∙ rw y.fits refl in
-      some_fits (names_fit s.version x) x y.statement (sym (statement_of-again s.version line x h) ∙ some)
+      fits_by (names_fit s.version x) x y.statement (sym (statement_of-again s.version line x h) ∙ some)
 
   -- a line that states nothing has no form of an accepted line
   statement_lacks : (line : List ℕ) (form : Form) → statement_of s.version line ≡ None → HasStatement form line → (l : List ℕ) → HasStatement form l → (e : Draft) → step (draft p s) n l ≡ Ok e → ⊥
@@ -173,7 +169,7 @@ sample_in_range version (GoOf steps) = refl
 -- ---- the steps
 
 -- a line of a number, printed
-number_printed : (word : List ℕ) (n : ℕ) → n < 10 ^ 10 → IsNumberLine word n (word ++ decimal n)
+pub number_printed : (word : List ℕ) (n : ℕ) → n < 10 ^ 10 → IsNumberLine word n (word ++ decimal n)
 number_printed word n lt = (decimal n, refl, decimal_number n lt)
 
 version_err : (n : ℕ) (r : Refusal) (one two : Bool) → cond {A = Result ℕ Refusal} one (Ok 1) (cond two (Ok 2) (Err (refusal n 1))) ≡ Err r → refusal n 1 ≡ r
@@ -200,7 +196,7 @@ module _ (p : Place) (s : Session) (n : ℕ) (line : List ℕ) (r : Refusal) (re
             let g = guard-err (is_in_range s.version x) (with_statement s n x) (refusal n 2) r q.2 in
             let y = sample x in
             let printed = states_text y (sample_prints x line states) in
-            let fit : names_fit s.version x ≡ true = some_fits (names_fit s.version x) x x (sym (statement_of-again s.version line x states) ∙ some) in
+            let fit : names_fit s.version x ≡ true = fits_by (names_fit s.version x) x x (sym (statement_of-again s.version line x states) ∙ some) in
             let fits : names_fit s.version y ≡ true = names_fit-form s.version y ∙ ap (form_fits s.version) (form_of-sample x) ∙ sym (names_fit-form s.version x) ∙ fit in
             let has_y = subst (λ (f : Form). HasForm f (statement_text y)) (form_of-sample x) (has_form y (statement_text y) printed) in
             inr (g.1, (form_of x, (statement_text y, has_y, with_statement s n y, statement_again p s n (statement_text y) y a printed fits (sample_in_range s.version x)), has_form x line states))

@@ -46,6 +46,8 @@ use Rattle.shell.proofs.ShellPrograms.SentRules.{posted-alone, posted-is}
 use Rattle.kernel_model.specs.declared.kernel_record.numbers.TheConstants.{SHELL}
 use Rattle.shell.specs.ShellTurn.{shell_turn}
 use Rattle.shell.proofs.KeptTurns.{Allows, turn-keeps}
+use Rattle.kernel_model.proofs.KernelRecord.MovedTask.{or-swap}
+use Rattle.resident_tasks.proofs.FaultReporter.FaultsKept.{queue-faults}
 
 -- ---- the parts that change tasks alone
 
@@ -201,12 +203,6 @@ turn-dispatches s l sh d r runs c =
 
 -- ---- the fault packet waits where some fault was not reported yet
 
-or-swap : (a b c : Bool) → (a || (b || c)) ≡ (b || (a || c))
-or-swap true true c = refl
-or-swap true false c = refl
-or-swap false true c = refl
-or-swap false false c = refl
-
 module _ (g : Task → Bool) where
   any-come : (f : Task → Bool) (t : Task) (ts : List Task) → list_any g (insert_after f t ts) ≡ (g t || list_any g ts)
   any-come f t [] = refl
@@ -241,19 +237,6 @@ no-work (t ∷ ts) none = on (eqb t.id 2) none (no-work ts)
 
 absent : (l : Lists) → has_task 2 l.tasks ≡ false → FaultsStand l
 absent l none = record { waits = λ there. absurd (false≢true (sym none ∙ there)); sender = subst (AllByRecursion (Tells l.tasks)) (sym (no-work l.tasks none)) tt }
-
--- a queue is another
-queue-faults : (l : Lists) (n : ℕ) (ps : List QueuedPacket) → (n ≡ 2 → AllByRecursion (Tells l.tasks) ps) → FaultsStand l → FaultsStand (with_queue (Work n) ps l)
-queue-faults l n ps new h =
-    record {
-      waits = λ there. h.waits (sym (any-changed n f (λ t. eqb t.id 2) (λ t. refl) l.tasks) ∙ there) ∙ ap not (sym (any-changed n f is_unreported (λ t. refl) l.tasks));
-      sender =
-          tells-more l.tasks (with_queue (Work n) ps l).tasks (λ id. any-changed n f (λ u. eqb u.id id && is_guest_id id && is_unreported u) (λ t. refl) l.tasks) (work_of 2 (with_queue (Work n) ps l).tasks)
-          (all-work (Tells l.tasks) n ps l.tasks new h.sender);
-    }
-  where
-    f : Task → Task
-    f t = record t { queue = ps }
 
 faults-one : (l : Lists) (n : ℕ) (f : Task → Task) → IsLight f → FaultsStand l → FaultsStand (with_task n f l)
 faults-one l n f same h =

@@ -11,6 +11,7 @@ use Rattle.session_text.specs.declared.sessions.SessionLine.{SessionLine}
 use Rattle.session_text.proofs.PrintedTexts.{text_of_lines-append}
 use Rattle.session_text.proofs.Sound.{sound}
 use Rattle.show_run.specs.ShortFiles.{HasShortFiles, IsShortLine}
+use Rattle.kernel_lists.proofs.LinkedList.AllMembers.{all-append}
 
 -- ---- how long lines are, each with its end
 
@@ -45,10 +46,6 @@ size-colons [] = omega arith
 size-colons (l ∷ ls) = omega (arith, size-colons ls, size-cons l ls, size-cons (colon_line l) (map colon_line ls))
 
 -- ---- the files of such lines
-
-all-append : {X : Type 0} (P : X → Type 0) (xs ys : List X) → AllByRecursion P xs → AllByRecursion P ys → AllByRecursion P (xs ++ ys)
-all-append P [] ys a b = b
-all-append P (x ∷ xs) ys a b = (a.0, all-append P xs ys a.1 b)
 
 -- a statement gives a file with this text, or none
 short-statement : (n : ℕ) (st : Statement) (bytes : List ℕ) → length bytes < 2 ^ 32 - 1 → AllByRecursion IsShortLine (statement_lines n st bytes)

@@ -7,15 +7,9 @@ use Rattle.module_text.specs.declared.modules.Hunk.{Hunk}
 use Rattle.word_store.specs.Arithmetic.{add}
 use Rattle.kernel_lists.specs.HunkLoader.ModuleRow.{hunks_image}
 use Rattle.kernel_lists.specs.HunkLoader.RelocatedWords.{relocated}
+use Rattle.kernel_lists.proofs.HunkLoader.RelocationLists.{length-relocated}
 
 -- ---- a word of a hunk
-
--- a word is relocated where it stands
-pub length-relocated : (base : ℕ) (words os : List ℕ) → length (relocated base words os) ≡ length words
-length-relocated base words [] = refl
-length-relocated base words (o ∷ os) =
-    let w = add (get_or words o 0) base in
-    length-relocated base (set words o w) os ∙ length-set words o w
 
 -- the base was added to word i once for each of the offsets that is i
 abbrev pub relocated_one : ℕ → ℕ → ℕ → List ℕ → ℕ

@@ -9,7 +9,7 @@ use Rattle.tripos_machine.specs.State.State.{Full}
 use Rattle.tripos_machine.specs.Step.{Stepped, of_kernel, quietly, run}
 use Rattle.tripos_machine.proofs.StateRuns.{run-full}
 
-run-none : (s : State) → run 0 s ≡ quietly s
+pub run-none : (s : State) → run 0 s ≡ quietly s
 unfolding run
 run-none s = refl
 

@@ -16,10 +16,7 @@ use Rattle.tripos_machine.specs.Runs.{HasRun, LeavesOutput, end_of_run}
 use Rattle.tripos_machine.specs.State.{State, stop_of}
 use Rattle.tripos_machine.specs.Step.{Stepped, and_then, quietly, run}
 use Rattle.tripos_machine.proofs.StateRuns.{run-more, run-stopped}
-
-run-zero : (s : State) → run 0 s ≡ quietly s
-unfolding run
-run-zero s = refl
+use Rattle.tripos_machine.proofs.QuietSteps.{run-none}
 
 and-quietly : (x : Stepped) → and_then x quietly ≡ x
 and-quietly x = λ i. record { state = x.state; bytes = append-nil x.bytes i; events = append-nil x.events i }
@@ -40,10 +37,10 @@ bytes-split i n s few = ap (λ (x : Stepped). x.bytes) (run-split i n s few)
 module _ (s : State) where
   -- nothing was done yet
   pub ran-none : (o : Option (List KernelEvent)) (f : Bool) → HasRun 0 s s o o f f
-  ran-none o f = record { state = sym (ap (λ (x : Stepped). x.state) (run-zero s)); events = subst (NotesAll o o f f) (sym (ap (λ (x : Stepped). x.events) (run-zero s))) (notes-none o f) }
+  ran-none o f = record { state = sym (ap (λ (x : Stepped). x.state) (run-none s)); events = subst (NotesAll o o f f) (sym (ap (λ (x : Stepped). x.events) (run-none s))) (notes-none o f) }
 
   pub gathered-none : (h : Option (List ℕ)) (p : List ℕ) → IsGathered h h p p (run 0 s).bytes
-  gathered-none h p = subst (IsGathered h h p p) (sym (ap (λ (x : Stepped). x.bytes) (run-zero s))) (IsGathered-nothing h p)
+  gathered-none h p = subst (IsGathered h h p p) (sym (ap (λ (x : Stepped). x.bytes) (run-none s))) (IsGathered-nothing h p)
 
   -- one part after another
   module _ (i m : ℕ) (t : State) (a b : Option (List KernelEvent)) (f g : Bool) (one : HasRun i s t a b f g) where

@@ -52,7 +52,7 @@ parts_of-none line e =
     grind (arith, nat_tests) in
     ap parts_of (sym (append-nil line)) ∙ parts_of-spaces line [] spaces
 
-kept_first : (part : List ℕ) (parts : List (List ℕ)) → 0 < length part → filter (λ p. nat_lt 0 (length p)) (part ∷ parts) ≡ part ∷ filter (λ p. nat_lt 0 (length p)) parts
+pub kept_first : (part : List ℕ) (parts : List (List ℕ)) → 0 < length part → filter (λ p. nat_lt 0 (length p)) (part ∷ parts) ≡ part ∷ filter (λ p. nat_lt 0 (length p)) parts
 kept_first part parts some = grind (arith, nat_tests)
 
 part_before_space : (line : List ℕ) → 0 < end_at line → end_at line < length line → parts_of line ≡ take (end_at line) line ∷ parts_of (drop (end_at line) line)

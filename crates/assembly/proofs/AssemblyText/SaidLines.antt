@@ -260,7 +260,7 @@ colon-only ys e = sym ((bytes_eq-Decides (codes ":") ys).0 e)
 colon-behind : (part : List ℕ) → ends_with nat_eq part (codes ":") ≡ true → take (length part - 1) part ++ codes ":" ≡ part
 colon-behind part e = ap (λ z. take (length part - 1) part ++ z) (sym (colon-only (drop (length part - 1) part) e)) ∙ take-append-drop (length part - 1) part
 
-colon-read : (name : List ℕ) → before_colon (name ++ codes ":") ≡ Some name
+pub colon-read : (name : List ℕ) → before_colon (name ++ codes ":") ≡ Some name
 colon-read name =
     let size : length (name ++ codes ":") - 1 ≡ length name = omega (arith, length-append name (codes ":")) in
     rw (size, drop_at name (codes ":") (length name) refl, take_at name (codes ":") (length name) refl) refl

@@ -10,7 +10,7 @@ use Rattle.command_lines.specs.ArgumentTemplates.Line.{item, items, items_in}
 use Rattle.command_lines.specs.ArgumentTemplates.Line.Place.{between, in_word, in_quotes}
 
 -- one byte more at the front of a text
-behind : (at k : ℕ) → at + suc k ≡ at + 1 + k
+pub behind : (at k : ℕ) → at + suc k ≡ at + 1 + k
 behind at k = omega arith
 
 -- ---- the items are cut by the rules

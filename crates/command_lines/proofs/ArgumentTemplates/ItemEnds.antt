@@ -8,14 +8,8 @@ use Rattle.std.proofs.lemmas.List.Sums.{passes_at_first}
 use Rattle.command_lines.specs.declared.argument_templates.items.Form.TheVariants.{Word, Quoted, Open}
 use Rattle.command_lines.specs.ArgumentTemplates.Line.{item, items_from, items_in}
 use Rattle.command_lines.specs.ArgumentTemplates.Line.Place.{between, in_word, in_quotes}
-
-not-false : (b : Bool) → not b ≡ true → b ≡ false
-not-false true e = cc e
-not-false false e = refl
-
--- one byte more at the front of a text, which a search passes
-passed-place : (at k : ℕ) → at + suc k ≡ at + 1 + k
-passed-place at k = omega arith
+use Rattle.std.proofs.lemmas.Bool.{not-true}
+use Rattle.command_lines.proofs.ArgumentTemplates.CutLines.{behind as passed-place}
 
 passed-length : (k : ℕ) → 1 + k ≡ suc k
 passed-length k = omega arith
@@ -124,4 +118,4 @@ no_space-behind line at to e less =
     let passes = passes_at_first p (drop at line) 0 lt in
     let same = get_or-drop at line (position_or_len p (drop at line)) 0 in
     let other : not (eqb (get_or line to 0) 32) ≡ true = rw (e, ← same) passes in
-    not-false (eqb (get_or line to 0) 32) other
+    not-true (eqb (get_or line to 0) 32) other

@@ -40,7 +40,7 @@ use Rattle.kernel_model.proofs.KernelRecord.OwnerCounts.{owners-linked_between, 
 use Rattle.kernel_model.proofs.KernelRecord.RootCounts.{head-low, owners-nodes}
 use Rattle.kernel_model.proofs.KernelRecord.TaskCounts.{further_count, owners-task_by}
 use Rattle.kernel_model.proofs.KernelRecord.TaskPlaces.{has-each, last-resident}
-use Rattle.kernel_calls.proofs.ModuleCalls.ModuleParts.{owners-module}
+use Rattle.kernel_model.proofs.KernelRecord.ModuleMoves.{owners-module}
 
 -- linked things of which none owns an address do not stand there
 differ : {X : Type 0} (v : ℕ) (address : X → ℕ) (words : X → ℕ → Pairs) → ((x : X) (n : ℕ) → 0 < owners (address x) (words x n)) → (xs : List X) (end : ℕ) → owners v (linked_words address words xs end) ≡ 0

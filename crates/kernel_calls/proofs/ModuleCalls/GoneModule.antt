@@ -32,7 +32,7 @@ use Rattle.kernel_model.specs.KernelRecord.ValidLists.{AreValid}
 use Rattle.kernel_model.proofs.KernelRecord.AllThings.{all-fail, all-here}
 use Rattle.kernel_model.proofs.KernelRecord.ChangedLists.{changed-then, exchange-owned, knows-same}
 use Rattle.kernel_model.proofs.KernelRecord.ListRanges.{HasCount}
-use Rattle.kernel_model.proofs.KernelRecord.ModuleMoves.{gone_module-unowned, gone_module-valid}
+use Rattle.kernel_model.proofs.KernelRecord.ModuleMoves.{gone_module-unowned, gone_module-valid, owners-module}
 use Rattle.kernel_model.proofs.KernelRecord.UnownedBlocks.{unowned-user}
 use Rattle.kernel_model.proofs.KernelRecord.WalkedLists.{counts-read}
 use Rattle.kernel_calls.specs.CallAnswers.Made.{IsMade, Made, done, minus_one}
@@ -48,7 +48,7 @@ use Rattle.kernel_calls.proofs.BlockCalls.IdleBlocks.{idle-unowned, none-idle, u
 use Rattle.kernel_model.proofs.WordKinds.OwnedMarks.{size-low}
 use Rattle.kernel_calls.proofs.BlockCalls.TakenStore.{given-changed, given-owners}
 use Rattle.kernel_calls.specs.ModuleCalls.UnloadModule.{is_in_use, unload_module, unload_tests, use_tests, without_module}
-use Rattle.kernel_calls.proofs.ModuleCalls.ModuleParts.{modules-exchange, owners-module}
+use Rattle.kernel_calls.proofs.ModuleCalls.ModuleParts.{modules-exchange}
 use Rattle.kernel_calls.proofs.ModuleCalls.ModuleUses.{tests-use}
 
 -- refused by the tests of its use

@@ -26,7 +26,7 @@ use Rattle.kernel_model.specs.KernelRecord.ValidBlocks.{HasBlock, last_module_wo
 use Rattle.kernel_model.specs.KernelRecord.ValidLists.{AreValid}
 use Rattle.kernel_model.proofs.KernelRecord.ChangedLists.{exchange-changed}
 use Rattle.kernel_model.proofs.KernelRecord.DataInside.{HasBlock-inside}
-use Rattle.kernel_model.proofs.KernelRecord.ModuleMoves.{new_module-valid}
+use Rattle.kernel_model.proofs.KernelRecord.ModuleMoves.{new_module-valid, owners-module}
 use Rattle.kernel_calls.specs.CallAnswers.Made.{IsMade, Made}
 use Rattle.kernel_calls.proofs.CallAnswers.ChangedTwice.{changed-twice}
 use Rattle.kernel_calls.proofs.CallAnswers.FoundTask.{reads}
@@ -37,7 +37,7 @@ use Rattle.kernel_calls.specs.BlockCalls.FreeStore.{data_of_front, with_taken}
 use Rattle.kernel_calls.proofs.BlockCalls.TakenStore.{HasTakenBlock, taken-changed}
 use Rattle.kernel_calls.specs.ModuleCalls.LoadModule.{load_module, load_tests, loaded_at, with_loaded}
 use Rattle.kernel_calls.proofs.ModuleCalls.LoadedWords.{hunks-apart, hunks-high, hunks-low, last-word, load-written}
-use Rattle.kernel_calls.proofs.ModuleCalls.ModuleParts.{modules-exchange, owners-module}
+use Rattle.kernel_calls.proofs.ModuleCalls.ModuleParts.{modules-exchange}
 
 module _ (s t text : List ℕ) (l : Lists) (m : ℕ) (h : HoldsLists s l) (is_loaded : IsLoaded s t text m) where
   abbrev hunks : List Hunk

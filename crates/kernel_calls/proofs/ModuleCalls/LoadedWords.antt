@@ -14,20 +14,11 @@ use Rattle.kernel_lists.specs.HunkLoader.ModuleExchanges.{first_of_modules, hunk
 use Rattle.kernel_lists.specs.HunkLoader.ModuleRow.{hunks_image, last_word, lengths_of, module_row}
 use Rattle.kernel_lists.proofs.HunkLoader.LoadedModules.{length-lengths, length-row}
 use Rattle.kernel_model.specs.KernelRecord.ValidBlocks.{last_module_word}
-use Rattle.kernel_calls.proofs.CallAnswers.JoinedRows.{row_from-append}
+use Rattle.kernel_lists.proofs.HunkLoader.ModuleExchanges.{row-append, row-split}
 
 -- its last word, counted from its lengths
 pub last-word : (m : ℕ) (hunks : List Hunk) → last_module_word (loaded_module m hunks) ≡ last_word hunks
 last-word m hunks = λ i. 1 + length-lengths hunks i + sum-map (λ (h : Hunk). length h.words) hunks i
-
--- a module's row is its own words and those of its hunks
-row-split : (m link : ℕ) (hunks : List Hunk) → row_from m 0 (module_row link m hunks) ≡ module_words (loaded_module m hunks) link ++ hunk_words m hunks
-row-split m link hunks =
-    let image : List ℕ = hunks_image (m + 2 + length hunks) hunks in
-    ap (λ z. (z, link) ∷ (m + 1, length hunks) ∷ row_from m 2 (lengths_of hunks ++ image)) (add-zero m)
-    ∙ ap (λ z. (m, link) ∷ (m + 1, length hunks) ∷ z) (row_from-append m 2 (lengths_of hunks) image)
-    ∙ ap (λ n. (m, link) ∷ (m + 1, length hunks) ∷ (row_from m 2 (lengths_of hunks) ++ row_from m (2 + n) image)) (length-lengths hunks)
-    ∙ ap (λ n. (m, link) ∷ (m + 1, n) ∷ (row_from m 2 (lengths_of hunks) ++ row_from m (2 + length hunks) image)) (sym (length-lengths hunks))
 
 -- so a load writes the owned words, and these
 pub load-written : (s t : List ℕ) (m link : ℕ) (hunks : List Hunk) (ms : List LoadedModule) → link ≡ first_of_modules ms → t ≡ set (with_words s m (module_row link m hunks)) 104 m

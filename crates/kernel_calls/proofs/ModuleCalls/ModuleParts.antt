@@ -13,6 +13,7 @@ use Rattle.kernel_model.specs.KernelRecord.Changes.{with_modules}
 use Rattle.kernel_model.specs.KernelRecord.Lists.{Lists, address_of_task}
 use Rattle.kernel_model.specs.KernelRecord.Owned.{owned, tasks_words}
 use Rattle.kernel_model.specs.KernelRecord.Root.{root_words}
+use Rattle.kernel_model.proofs.KernelRecord.ModuleMoves.{owners-module}
 
 -- an exchange of the words of modules is one of owned words
 pub modules-exchange : (l : Lists) (ms : List LoadedModule) (old new : Pairs) → Exchange (modules_words l.modules) (modules_words ms) old new → Exchange (owned l) (owned (with_modules ms l)) old new
@@ -20,7 +21,3 @@ unfolding owned
 modules-exchange l ms old new x =
     exchange-right (root_words l (address_of_task l l.running)) _ _ old new
     (exchange-right (blocks_words l.blocks) _ _ old new (exchange-right (tasks_words l) _ _ old new (exchange-left (modules_words l.modules) (modules_words ms) _ old new x)))
-
--- a module owns its words before those of its hunks
-pub owners-module : (a : ℕ) (m : LoadedModule) (n : ℕ) → owners a (module_words m n) ≡ times a (range_with_len m.address (suc (suc (length m.lengths))))
-owners-module a m n = ap (λ z. hit a m.address + z) (owners-row a m.address 1 (length m.lengths ∷ m.lengths))

@@ -34,8 +34,9 @@ use Rattle.kernel_calls.specs.declared.packet_calls.dequeue.Found.{Found}
 use Rattle.kernel_calls.proofs.PacketCalls.Departure.{departed-changed, owners-departed, packet-inside}
 use Rattle.kernel_calls.proofs.PacketCalls.HeldPlaces.{StandsBetween, has-at, stands-at, stands-between}
 use Rattle.kernel_calls.proofs.PacketCalls.KeptWords.{changed-plain}
-use Rattle.kernel_calls.proofs.PacketCalls.PacketTests.{found-passes, neither}
+use Rattle.kernel_calls.proofs.PacketCalls.PacketTests.{found-passes}
 use Rattle.kernel_calls.proofs.PacketCalls.Searches.{IsFound}
+use Rattle.std.proofs.lemmas.Bool.{or_parts}
 
 module _ (s : List ℕ) (tells : List ℕ → Type 0) (room : ℕ) (l : Lists) (id p : ℕ) (k : HasKeeper s tells room l) where
   tests-are : (destination found own : Bool) → is_destination l id ≡ destination → is_some (found_in l id p) ≡ found → is_residents_packet l p ≡ own
@@ -89,7 +90,7 @@ module _ (s : List ℕ) (tells : List ℕ → Type 0) (room : ℕ) (l : Lists) (
       accepted = tests-are true true false names some-found plain
 
       none : (l.residents && eqb p key_packet ≡ false) × (has_task 2 l.tasks && eqb p fault_packet ≡ false)
-      none = neither (l.residents && eqb p key_packet) (has_task 2 l.tasks && eqb p fault_packet) plain
+      none = or_parts (l.residents && eqb p key_packet) (has_task 2 l.tasks && eqb p fault_packet) plain
 
       no_key : is_key_packet l q ≡ false
       no_key = ap (λ a. l.residents && eqb a key_packet) between.address ∙ none.0

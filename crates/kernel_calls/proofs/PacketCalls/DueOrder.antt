@@ -9,7 +9,7 @@ use Rattle.kernel_model.specs.KernelRecord.ValidQueues.{NeverFall}
 use Rattle.kernel_model.proofs.KernelRecord.AllThings.{all-fail, all-inserted, any-found}
 use Rattle.kernel_model.proofs.KernelRecord.EachMember.{all-each}
 
-later : (a b : ℕ) → leb a b ≡ false → b ≤ a
+pub later : (a b : ℕ) → leb a b ≡ false → b ≤ a
 later a b e = grind (arith, nat_tests)
 
 pub falls-inserted : (p : QueuedPacket) (ps : List QueuedPacket) → NeverFall ps → NeverFall (insert_after (λ q. leb q.last p.last) p ps)

@@ -2,7 +2,7 @@
 use Rattle.std.proofs.Common.{◌≡◌, ℕ, zero, suc, ◌+◌, ◌<◌, ◌≤◌, ◌&&◌, ◌||◌, Bool, true, false, not, Option, Some, None, Result, Err, List, [], ◌∷◌, cond, eqb, ltb, find, get_or, inl, inr, refl, sym, ap, ◌∙◌, arith}
 use Rattle.std.specs.List.{list_any, range_with_len}
 use Rattle.std.specs.Option.{option_map_or}
-use Rattle.std.proofs.lemmas.Bool.{and_parts, cases_eq, cases_lt, lt-ltb, ltb-true}
+use Rattle.std.proofs.lemmas.Bool.{and_parts, cases_eq, cases_lt, lt-ltb, ltb-true, not-true, or_parts}
 use Rattle.kernel_lists.specs.OwnedWords.Owned.{owners}
 use Rattle.kernel_lists.specs.declared.getvec_chain.pieces.Block.{Block}
 use Rattle.kernel_lists.specs.GetvecChain.Block.{block_end, has_data}
@@ -14,6 +14,7 @@ use Rattle.kernel_model.specs.KernelRecord.Owned.{owned}
 use Rattle.kernel_model.specs.KernelRecord.ValidBlocks.{AreData}
 use Rattle.kernel_calls.specs.CallAnswers.Refusals.{answer_of, first_refusal}
 use Rattle.kernel_calls.specs.PacketCalls.Qpkt.{is_lodged, is_plain, packet_tests}
+use Rattle.kernel_calls.proofs.CallAnswers.Refusals.{answer_of-err}
 
 -- what was found passes the test
 pub found-passes : {X : Type 0} (f : X → Bool) (xs : List X) (x : X) → find f xs ≡ Some x → f x ≡ true
@@ -23,10 +24,6 @@ found-passes {X} f (z ∷ zs) x e = on (f z) refl e (found-passes f zs x)
     on : (b : Bool) → f z ≡ b → cond b (Some z) (find f zs) ≡ Some x → (find f zs ≡ Some x → f x ≡ true) → f x ≡ true
     on true is e more = (let same : z ≡ x = cc in ap f (sym same) ∙ is)
     on false is e more = more e
-
-not-true : (b : Bool) → not b ≡ true → b ≡ false
-not-true true e = cc
-not-true false e = refl
 
 -- ---- data of one used block
 
@@ -46,19 +43,15 @@ lodged-data l p e = on (holding p l.blocks) refl e
 
 -- ---- plain words
 
-pub neither : (x y : Bool) → (x || y) ≡ false → (x ≡ false) × (y ≡ false)
-neither true y e = cc
-neither false y e = (refl, e)
-
-any-none : (f : ℕ → Bool) (n a : ℕ) → ((c : ℕ) → a ≤ c → c < a + n → f c ≡ false) → list_any f (range_with_len a n) ≡ false
+pub any-none : (f : ℕ → Bool) (n a : ℕ) → ((c : ℕ) → a ≤ c → c < a + n → f c ≡ false) → list_any f (range_with_len a n) ≡ false
 any-none f zero a none = refl
 any-none f (suc n) a none =
     ap (λ b. b || list_any f (range_with_len (a + 1) n)) (none a (omega arith) (omega arith)) ∙ any-none f n (a + 1) (λ c low high. none c (omega (arith, low)) (omega (arith, high)))
 
-none-each : (f : ℕ → Bool) (n a : ℕ) → list_any f (range_with_len a n) ≡ false → (c : ℕ) → a ≤ c → c < a + n → f c ≡ false
+pub none-each : (f : ℕ → Bool) (n a : ℕ) → list_any f (range_with_len a n) ≡ false → (c : ℕ) → a ≤ c → c < a + n → f c ≡ false
 none-each f zero a none c low high = absurd (omega (arith, low, high))
 none-each f (suc n) a none c low high =
-    let both = neither (f a) (list_any f (range_with_len (a + 1) n)) none in
+    let both = or_parts (f a) (list_any f (range_with_len (a + 1) n)) none in
     elim (cases_eq c a) [
       | inl e ↦ ap f e ∙ both.0
       | inr ne ↦ none-each f n (a + 1) both.1 c (omega (arith, low, ne)) (omega (arith, high))
@@ -96,8 +89,3 @@ passes-tests s l p e = on (is_lodged l p) (eqb (get_or s p 0) no_queue) (is_plai
     on true true false a c e = cc
     on true false c a d e = cc
     on false b c a d e = cc
-
--- what a part of a call answers
-pub refused-with : (o : Option ℕ) (code : ℕ) → ◌≡◌ {A = Result (Unit {0}) ℕ} (Err code) (answer_of o) → o ≡ Some code
-refused-with None code e = cc
-refused-with (Some n) code e = cc

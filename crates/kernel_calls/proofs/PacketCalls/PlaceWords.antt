@@ -23,11 +23,12 @@ use Rattle.kernel_model.specs.KernelRecord.Task.{Task, fault_words, globals_of, 
 use Rattle.kernel_model.specs.KernelRecord.ValidQueues.{Place}
 use Rattle.kernel_model.specs.KernelRecord.ValidQueues.Place.{Clock, Keyboard, Output, Pending, Work}
 use Rattle.kernel_model.specs.KernelRecord.ValidTasks.{IsField}
-use Rattle.kernel_model.proofs.KernelRecord.ChainSplits.{address-between}
+use Rattle.kernel_model.proofs.KernelRecord.ChainSplits.{address-between, number-there}
 use Rattle.kernel_model.proofs.KernelRecord.ChangedLists.{one_task-owned}
 use Rattle.kernel_model.proofs.KernelRecord.WorkQueues.{WorkSplit, work-split}
 use Rattle.kernel_calls.specs.PacketCalls.Destinations.{queue_for}
 use Rattle.kernel_calls.specs.PacketCalls.QueueWords.{head_of, state_left, state_with_packets}
+use Rattle.kernel_model.proofs.KernelDispatch.TaskStates.{by-field}
 
 -- ---- the state of the task whose queue it is
 
@@ -43,10 +44,6 @@ state_pairs l Clock ps = []
 state_pairs l Keyboard ps = []
 state_pairs l Output ps = []
 state_pairs l Pending ps = []
-
-number-there : (front : List Task) (t : Task) (back : List Task) → 0 < times t.id (map task_id (front ++ t ∷ back))
-number-there [] t back = omega (arith, hit-same t.id t.id refl)
-number-there (z ∷ zs) t back = omega (arith, number-there zs t back)
 
 state-between : (front : List Task) (t : Task) (back : List Task) (ps : List QueuedPacket) → IsApart (map task_id (front ++ t ∷ back))
     → state_of_work t.id (front ++ t ∷ back) ps ≡ state_word (record t { queue = ps })
@@ -162,14 +159,6 @@ place-exchange l Output qs old new apart has x = output-exchange l qs old new x
 place-exchange l Pending qs old new apart has x = reads-exchange l qs old new has x
 
 -- ---- the state where packets come and go
-
--- what holds of the four fields
-pub by-field : (P : ℕ → Type 0) → P 0 → P 4 → P 8 → P 12 → (n : ℕ) → IsField n → P n
-by-field P a b c d n f =
-    elim f [
-      | inl e ↦ subst P (sym e) a
-      | inr f ↦ elim f [ inl e ↦ subst P (sym e) b | inr f ↦ elim f [ inl e ↦ subst P (sym e) c | inr e ↦ subst P (sym e) d ] ]
-    ]
 
 -- a state with a bit more where packets wait
 abbrev with_bit : ℕ → Bool → ℕ → ℕ

@@ -54,11 +54,11 @@ number_in Pending = 0
 
 -- ---- a task with no packets
 
-waits-more : (f b h : ℕ) → f ≡ 0 → f + b + h + 4 ≡ 4 + b + h
+pub waits-more : (f b h : ℕ) → f ≡ 0 → f + b + h + 4 ≡ 4 + b + h
 waits-more f b h e = omega arith
 
 -- its state alone changes
-waiting-exchange : (version : ℕ) (t : Task) (n : ℕ)
+pub waiting-exchange : (version : ℕ) (t : Task) (n : ℕ)
     → Exchange (task_words version t n) (task_words version (waiting t) n) ((t.address + 4, state_word t) ∷ []) ((t.address + 4, state_word (waiting t)) ∷ [])
 waiting-exchange version t n =
     exchange-right ((t.address, n) ∷ name_words t) _ _ _ _

@@ -29,7 +29,7 @@ use Rattle.kernel_calls.specs.TaskCalls.NewTasks.{MayPlace, place_task}
 use Rattle.kernel_calls.proofs.TaskCalls.ChangedPriority.{accepted-parts}
 
 -- a number that is found in a range lies in it
-found-range : (f : ℕ → Bool) (a n x : ℕ) → find f (range_with_len a n) ≡ Some x → (a ≤ x) × (x < a + n)
+pub found-range : (f : ℕ → Bool) (a n x : ℕ) → find f (range_with_len a n) ≡ Some x → (a ≤ x) × (x < a + n)
 found-range f a zero x e = cc
 found-range f a (suc n) x e = on (f a) e (λ k. found-range f (a + 1) n x k)
   where

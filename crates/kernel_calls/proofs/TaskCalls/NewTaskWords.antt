@@ -10,9 +10,9 @@ use Rattle.kernel_model.specs.KernelRecord.Lists.{Lists}
 use Rattle.kernel_model.specs.KernelRecord.Task.{Task, filled, is_guest_id, other_words, queue_head}
 use Rattle.kernel_model.specs.KernelRecord.Versions.{head_words_of}
 use Rattle.kernel_calls.specs.CallAnswers.Tasks.{no_coroutines}
-use Rattle.kernel_calls.proofs.CallAnswers.JoinedRows.{row_from-append}
 use Rattle.kernel_calls.specs.TaskCalls.CreateTask.{new_task}
 use Rattle.kernel_calls.specs.TaskCalls.NewTasks.{first_words, head_row}
+use Rattle.kernel_lists.proofs.HunkLoader.ModuleExchanges.{row-append}
 
 module _ (s : List ℕ) (l : Lists) (number : ℕ) (modules : List ℕ) (u pri maker : ℕ) (guest : is_guest_id number ≡ true) where
   abbrev t : Task
@@ -91,6 +91,6 @@ module _ (s : List ℕ) (l : Lists) (number : ℕ) (modules : List ℕ) (u pri m
       modules_held : Holds s (row_from t.address 23 further)
       modules_held =
           let behind : Holds s (row_from t.address 23 (further ++ rest)) =
-          Holds-right s (row_from t.address 0 fixed) (row_from t.address 23 (further ++ rest)) (subst (Holds s) (row_from-append t.address 0 fixed (further ++ rest)) h)
+          Holds-right s (row_from t.address 0 fixed) (row_from t.address 23 (further ++ rest)) (subst (Holds s) (row-append t.address 0 fixed (further ++ rest)) h)
           in
-          Holds-left s (row_from t.address 23 further) (row_from t.address (23 + length further) rest) (subst (Holds s) (row_from-append t.address 23 further rest) behind)
+          Holds-left s (row_from t.address 23 further) (row_from t.address (23 + length further) rest) (subst (Holds s) (row-append t.address 23 further rest) behind)

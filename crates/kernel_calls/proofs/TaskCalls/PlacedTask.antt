@@ -53,7 +53,6 @@ use Rattle.kernel_calls.specs.CallAnswers.Made.{IsMade}
 use Rattle.kernel_calls.proofs.CallAnswers.ChangedTwice.{changed-twice}
 use Rattle.kernel_calls.proofs.CallAnswers.FoundTask.{reads}
 use Rattle.kernel_calls.proofs.CallAnswers.MadeCalls.{made-accepted}
-use Rattle.kernel_calls.proofs.CallAnswers.JoinedRows.{row_from-append}
 use Rattle.kernel_calls.specs.BlockCalls.FreeStore.{data_of_front, with_taken}
 use Rattle.kernel_calls.specs.BlockCalls.Getvec.{getvec, getvec_tests}
 use Rattle.kernel_model.proofs.WordKinds.OwnedMarks.{size-low}
@@ -69,6 +68,7 @@ use Rattle.kernel_calls.proofs.TaskCalls.NewTaskWords.{new_words-held}
 use Rattle.kernel_calls.proofs.TaskCalls.RowsInRows.{globals-before, globals-row_behind, length-zeros}
 use Rattle.kernel_calls.proofs.TaskCalls.PlainRows.{row-changed, row-holds}
 use Rattle.kernel_calls.proofs.TaskCalls.StayingData.{data-no_start, data-stays}
+use Rattle.kernel_lists.proofs.HunkLoader.ModuleExchanges.{row-append}
 
 -- the block has its data
 module _ (l : Lists) (number : ℕ) (modules : List ℕ) (u pri maker : ℕ) (s v : List ℕ) (t : ℕ) (h : HoldsLists s l) (may : MayPlace l number modules pri maker)
@@ -346,7 +346,7 @@ module _ (l : Lists) (number : ℕ) (modules : List ℕ) (u pri maker : ℕ) (s 
           let mine : times a (range_with_len (t + 0) (length row)) ≡ times a (range_with_len x.address head) =
           λ i. times a (range_with_len (start i) (length-row v t head number modules u pri maker rest high few i))
           in
-          ap (λ z. get_or (written z s) a 0) (append-nil all ∙ row_from-append t 0 row behind)
+          ap (λ z. get_or (written z s) a 0) (append-nil all ∙ row-append t 0 row behind)
           ∙ ap (λ z. get_or z a 0) (written-append (row_from t 0 row) (row_from t (0 + length row) behind) s)
           ∙ written-other a (row_from t 0 row) (written (row_from t (0 + length row) behind) s) (omega (arith, owners-row a t 0 row, mine, new-count after m x comes a, none))
           ∙ (λ i. get_or (written (row_from (sym at i) (end i) behind) s) a 0)

@@ -17,7 +17,7 @@ use Rattle.kernel_model.specs.KernelRecord.Lists.{Lists, address_of_task}
 use Rattle.kernel_model.specs.KernelRecord.Owned.{device_words, owned, tasks_words}
 use Rattle.kernel_model.specs.KernelRecord.Residents.{resident_words}
 use Rattle.kernel_model.specs.KernelRecord.Root.{root_words}
-use Rattle.kernel_model.proofs.KernelRecord.FollowedBlocks.{IsWithin, found-within}
+use Rattle.kernel_model.proofs.KernelRecord.FollowedBlocks.{IsWithin, found-within, starts-low}
 
 -- two stores that hold the same owned words
 holds-agree : (s t : List ℕ) (es : Pairs) (a : ℕ) → Holds s es → Holds t es → 0 < owners a es → get_or t a 0 ≡ get_or s a 0
@@ -58,12 +58,6 @@ data-stays s t l bs a h x none =
 
     after : Holds t (root l bs ++ (blocks_words bs ++ behind l bs))
     after = subst (Holds t) (owned-cut l bs) x.written.holds
-
--- the data of a block that was found are no size words
-starts-low : (at : ℕ) (bs : List Block) (end a : ℕ) → Follow at bs end → a < at → owners a (blocks_words bs) ≡ 0
-starts-low at [] end a f low = refl
-starts-low at (b ∷ bs) end a f low =
-    omega (arith, hit-other a b.start (λ e. absurd (omega (arith, e, f.0, low))), starts-low (block_end b) bs end a f.3 (omega (arith, f.0, low)))
 
 pub data-no_start : (test : Block → Bool) (at : ℕ) (bs : List Block) (end : ℕ) (b : Block) (a : ℕ) → Follow at bs end → find test bs ≡ Some b → b.start < a → a < block_end b → owners a (blocks_words bs) ≡ 0
 data-no_start test at [] end b a f e above below = cc

@@ -7,7 +7,7 @@ use Rattle.std.proofs.lemmas.Bool.Decides.{nat_tests}
 use Rattle.word_store.specs.Count.{times}
 use Rattle.kernel_lists.specs.LinkedList.Places.{has}
 use Rattle.kernel_lists.proofs.LinkedList.AllMembers.{all-has, all-members}
-use Rattle.kernel_lists.proofs.LinkedList.Members.{has-times, times-has}
+use Rattle.kernel_lists.proofs.LinkedList.Members.{has-times, times-has, none-times}
 use Rattle.kernel_lists.specs.GetvecChain.Tiling.{blocks_in}
 use Rattle.kernel_lists.specs.TaskBlock.Lists.{coroutines_in}
 use Rattle.kernel_lists.specs.Coroutines.Active.{active_in}
@@ -23,6 +23,7 @@ use Rattle.kernel_check.specs.ListPasses.StartMarks.{IsShut, OpensMembers}
 use Rattle.kernel_check.specs.ListPasses.CanPass.{CanPass}
 use Rattle.kernel_check.specs.ListPasses.Frames.{TellsParent}
 use Rattle.kernel_check.proofs.ListPasses.ClaimedWalks.{of-map}
+use Rattle.store_claims.proofs.AdoptionLaw.WordCounts.{map-coroutines}
 
 abbrev pub Body : List ℕ → ℕ → Type 0
 Body s c = IsCoroutine (lists_in s) (coroutine_in s c)
@@ -32,7 +33,7 @@ Own s t = CoroutinesStand (lists_in s) (task_in s t)
 
 -- ---- one coroutine
 
-the-blocks : (s : List ℕ) → (lists_in s).blocks ≡ blocks_in s
+pub the-blocks : (s : List ℕ) → (lists_in s).blocks ≡ blocks_in s
 unfolding lists_in
 the-blocks s = refl
 
@@ -43,13 +44,6 @@ pub is-body : (s : List ℕ) (c h : ℕ) → h ≡ (coroutine_in s c).highest �
 is-body s c h read b = (omega (arith, read, b.high), subst (HasBlock (blocks_in s) c) (sym read) (subst (λ bs. HasBlock bs c (coroutine_in s c).highest) (the-blocks s) b.block))
 
 -- ---- those of one task
-
-map-coroutines : (s : List ℕ) (cs : List ℕ) → map address_of (map (coroutine_in s) cs) ≡ cs
-map-coroutines s [] = refl
-map-coroutines s (c ∷ cs) = ap (λ z. c ∷ z) (map-coroutines s cs)
-
-no-times : (a : ℕ) (xs : List ℕ) → has a xs ≡ false → times a xs ≡ 0
-no-times a xs none = elim (cases_lt 0 (times a xs)) [ inl some ↦ absurd (false≢true (sym none ∙ times-has a xs some)) | inr few ↦ omega (arith, few) ]
 
 pub members-read : (s : List ℕ) (t : ℕ) → coroutine_addresses (task_in s t) ≡ coroutines_in s t
 members-read s t = map-coroutines s (coroutines_in s t)
@@ -92,7 +86,7 @@ module _ (s : List ℕ) (t : ℕ) (marks : List Bool) (can : CanPass s t) (o : O
               shut : (x : Bool) → is_open new a ≡ x → is_open new a ≡ false
               shut true e = absurd (omega (arith, ((c.marks a).0 e).1, has-times a (active_in s t) is))
               shut false e = e
-          on false is before = (c.marks a).1 (before, no-times a (active_in s t) is)
+          on false is before = (c.marks a).1 (before, none-times a (active_in s t) is)
 
   -- what is left open are coroutines
   pub left-open : (new : List Bool) → AreClaimed marks new (active_in s t) → (a : ℕ) → is_open new a ≡ true → has a (coroutines_in s t) ≡ true

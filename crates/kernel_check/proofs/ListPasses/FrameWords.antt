@@ -22,23 +22,13 @@ use Rattle.kernel_model.specs.KernelRecord.Recovered.{coroutine_in, coroutines_o
 use Rattle.kernel_check.specs.ListPasses.CanPass.{CanPass}
 use Rattle.kernel_check.specs.ListPasses.Frames.{HasFrame, HasParent, OwnsCoroutines, TellsParent}
 use Rattle.kernel_check.proofs.ListPasses.CoroutineWalks.{members-read}
+use Rattle.store_claims.proofs.ListClaims.OutwardWalk.{goes, ends}
 
 -- ---- the walk outwards
 
 out-step : (m : ℕ) (s : List ℕ) (t at d : ℕ) → d ≡ get_or s at 0 → outwards (suc m) s t at ≡ cond (eqb d 0 || eqb d t) [] (d ∷ outwards m s t (d + 1))
 unfolding outwards
 out-step m s t at d read = ap (λ w. cond (eqb w 0 || eqb w t) [] (w ∷ outwards m s t (w + 1))) (sym read)
-
-ends : (d t : ℕ) → (d ≡ 0) ⊎ (d ≡ t) → (eqb d 0 || eqb d t) ≡ true
-ends d t (inl none) = ap (λ b. b || eqb d t) (eq-eqb d 0 none)
-ends d t (inr root) = on (eqb d 0)
-  where
-    on : (b : Bool) → (b || eqb d t) ≡ true
-    on true = refl
-    on false = eq-eqb d t root
-
-goes : (d t : ℕ) → d ≢ 0 → d ≢ t → (eqb d 0 || eqb d t) ≡ false
-goes d t some other = λ i. ne_eqb d 0 some i || ne_eqb d t other i
 
 out-zero : (s : List ℕ) (t at : ℕ) → outwards 0 s t at ≡ []
 unfolding outwards

@@ -22,7 +22,7 @@ pub key-is : (s : List ℕ) → (lists_in s).key ≡ cond ((lists_in s).resident
 unfolding lists_in
 key-is s = refl
 
-there-and : (r : Bool) → (r && false) ≡ false
+pub there-and : (r : Bool) → (r && false) ≡ false
 there-and true = refl
 there-and false = refl
 

@@ -15,11 +15,7 @@ use Rattle.kernel_check.specs.ListPasses.CanPass.{CanPass}
 use Rattle.kernel_check.specs.ListPasses.TaskRules.{HasWord, IsDense}
 use Rattle.kernel_check.proofs.ListPasses.GuestWords.{filter-some, head-is}
 use Rattle.kernel_check.proofs.ListPasses.HeadWords.{first-some, skip-first}
-
-length-filled : (n : ℕ) (xs : List ℕ) → length (filled n xs) ≡ n
-length-filled zero xs = refl
-length-filled (suc n) [] = ap suc (length-filled n [])
-length-filled (suc n) (x ∷ xs) = ap suc (length-filled n xs)
+use Rattle.kernel_model.proofs.KernelRecord.RootCounts.{length-filled}
 
 -- ---- a row is what stands there
 

@@ -26,6 +26,7 @@ use Rattle.kernel_check.specs.ListPasses.ClaimedStore.{IsClaimed}
 use Rattle.kernel_check.specs.ListPasses.StartMarks.{OpensMembers}
 use Rattle.kernel_check.specs.ListPasses.CanPass.{CanPass}
 use Rattle.kernel_check.specs.ListPasses.TaskRules.{AreNamed, HasModules, HasWord, IsIdle}
+use Rattle.kernel_check.proofs.ListPasses.CoroutineWalks.{the-blocks}
 
 nz : ℕ → Bool
 nz m = not (eqb m 0)
@@ -175,15 +176,11 @@ word-here first ws some = record { at = 0; low = omega arith; some = some }
 
 -- ---- the block of a guest
 
-blocks-are : (s : List ℕ) → (lists_in s).blocks ≡ blocks_in s
-unfolding lists_in
-blocks-are s = refl
-
 pub guest-block : (s : List ℕ) (t u : ℕ) → u ≡ head_words s + 1001 + get_or s (t + 7) 0 → HasBlock (blocks_in s) t u ↔ HasBlock (lists_in s).blocks t (head_words_of (lists_in s).version + 1001 + (task_in s t).highest)
 guest-block s t u is =
     let e : u ≡ head_words_of (lists_in s).version + 1001 + (task_in s t).highest = omega (arith, is, head-is s) in (
-      λ h. subst (λ bs. HasBlock bs t (head_words_of (lists_in s).version + 1001 + (task_in s t).highest)) (sym (blocks-are s)) (subst (HasBlock (blocks_in s) t) e h),
-      λ h. subst (HasBlock (blocks_in s) t) (sym e) (subst (λ bs. HasBlock bs t (head_words_of (lists_in s).version + 1001 + (task_in s t).highest)) (blocks-are s) h),
+      λ h. subst (λ bs. HasBlock bs t (head_words_of (lists_in s).version + 1001 + (task_in s t).highest)) (sym (the-blocks s)) (subst (HasBlock (blocks_in s) t) e h),
+      λ h. subst (HasBlock (blocks_in s) t) (sym e) (subst (λ bs. HasBlock bs t (head_words_of (lists_in s).version + 1001 + (task_in s t).highest)) (the-blocks s) h),
     )
 
 -- ---- a resident

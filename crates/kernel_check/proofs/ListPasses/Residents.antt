@@ -8,6 +8,7 @@ use Rattle.kernel_model.specs.KernelRecord.Lists.{has_task}
 use Rattle.kernel_model.specs.KernelRecord.Recovered.{lists_in}
 use Rattle.kernel_model.specs.KernelRecord.ValidBlocks.{HasBlock, last_resident_word}
 use Rattle.kernel_check.proofs.ListPasses.ClaimedWalks.{in-lists}
+use Rattle.kernel_check.proofs.ListPasses.CoroutineWalks.{the-blocks}
 
 abbrev pub has_id : List ℕ → ℕ → List ℕ → Bool
 has_id s id ts = list_any (λ t. eqb (id_in s t) id) ts
@@ -27,10 +28,6 @@ residents-is s = refl
 
 pub residents-read : (s : List ℕ) (w : ℕ) → w ≡ get_or s 112 0 → not (eqb w 0) ≡ (lists_in s).residents
 residents-read s w read = ap (λ z. not (eqb z 0)) read ∙ sym (residents-is s)
-
-pub the-blocks : (s : List ℕ) → (lists_in s).blocks ≡ blocks_in s
-unfolding lists_in
-the-blocks s = refl
 
 pub resident-block : (s : List ℕ) (u : ℕ) (b : Bool) → (lists_in s).residents ≡ true → u ≡ last_resident_word (lists_in s) → ((b ≡ true) ↔ HasBlock (blocks_in s) 201 u)
     → (b ≡ true) ↔ ((lists_in s).residents ≡ true → HasBlock (lists_in s).blocks 201 (last_resident_word (lists_in s)))

@@ -12,6 +12,7 @@ use Rattle.kernel_model.specs.KernelRecord.ValidBlocks.{HasBlock}
 use Rattle.store_claims.specs.WordClaims.Marks.{IsSet, is_open}
 use Rattle.store_claims.proofs.WordClaims.ClaimedWords.{open-low}
 use Rattle.kernel_check.specs.ListPasses.StartMarks.{IsShut, OpensMembers, OpensStarts, starts_at}
+use Rattle.std.proofs.Math.Bool.{or_assoc}
 
 -- one word is opened
 opened-one : (m v : List Bool) (p a : ℕ) → IsSet m v p 1 true → a < length m → is_open v a ≡ (is_open m a || eqb p a)
@@ -25,10 +26,6 @@ opened-one m v p a set low = set.marks a low ∙ ap (λ z. cond z true (is_open 
     turn true false = refl
     turn false true = refl
     turn false false = refl
-
-or-or : (x y z : Bool) → ((x || y) || z) ≡ (x || (y || z))
-or-or true y z = refl
-or-or false y z = refl
 
 or-false : (x : Bool) → (x || false) ≡ x
 or-false true = refl
@@ -63,7 +60,7 @@ marked-used s m v bs all b rest g is used set = record {
   size = set.size ∙ g.size;
   shown = λ a low.
       ap (λ z. z || starts_at a rest) (opened-one m v b.start a set (omega (arith, low, g.size)))
-      ∙ or-or (is_open m a) (eqb b.start a) (starts_at a rest)
+      ∙ or_assoc (is_open m a) (eqb b.start a) (starts_at a rest)
       ∙ ap (λ f. is_open m a || ((not f && eqb b.start a) || starts_at a rest)) (sym used) ∙ ap (λ z. is_open m a || starts_at a z) (sym is) ∙ g.shown a low;
 }
 
@@ -86,7 +83,7 @@ pub named : (s : List ℕ) (m v : List Bool) (ps all : List ℕ) (p : ℕ) (rest
 named s m v ps all p rest g is set = record {
   size = set.size ∙ g.size;
   shown = λ a low.
-      ap (λ z. z || has a rest) (opened-one m v p a set (omega (arith, low, g.size))) ∙ or-or (is_open m a) (eqb p a) (has a rest)
+      ap (λ z. z || has a rest) (opened-one m v p a set (omega (arith, low, g.size))) ∙ or_assoc (is_open m a) (eqb p a) (has a rest)
       ∙ ap (λ z. is_open m a || (z || has a rest)) (flip p a) ∙ ap (λ z. is_open m a || has a z) (sym is) ∙ g.shown a low;
 }
   where

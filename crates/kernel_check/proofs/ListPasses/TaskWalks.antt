@@ -16,6 +16,7 @@ use Rattle.kernel_model.specs.KernelRecord.Task.{Task, is_guest_id, task_id}
 use Rattle.kernel_model.specs.KernelRecord.ValidTasks.{IsField, IsGuest, IsResident, IsTask, PrioritiesFall, TasksStand, resident_place}
 use Rattle.kernel_model.specs.KernelRecord.Versions.{highest_id_of}
 use Rattle.kernel_check.specs.ListPasses.TaskRules.{HasNumbers, HasResidents}
+use Rattle.kernel_model.proofs.KernelRecord.RootCounts.{highest-low, highest-high}
 
 -- ---- priorities
 
@@ -174,13 +175,6 @@ field-is w (inr (inr (inr e))) = omega (arith, e)
 abbrev pub IsNumber : Lists → ℕ → Type 0
 IsNumber l id = (1 ≤ id) × (id ≤ highest_id_of l.version)
 
-highest-low : (v : ℕ) → 20 ≤ highest_id_of v
-highest-low v = on (eqb v 2)
-  where
-    on : (b : Bool) → 20 ≤ cond b 63 20
-    on true = omega arith
-    on false = omega arith
-
 pub task-number : (l : Lists) (t : Task) → IsTask l t → IsNumber l t.id
 task-number l t k = elim (cases_lt t.id 5) [
   | inl low ↦
@@ -191,13 +185,6 @@ task-number l t k = elim (cases_lt t.id 5) [
       ]
   | inr high ↦ (omega (arith, high), (k.guest (guest-is t.id t.id refl (omega (arith, high)))).high)
 ]
-
-highest-high : (v : ℕ) → highest_id_of v ≤ 63
-highest-high v = on (eqb v 2)
-  where
-    on : (b : Bool) → cond b 63 20 ≤ 63
-    on true = omega arith
-    on false = omega arith
 
 ids-low : (l : Lists) (ts : List Task) → AllByRecursion (IsTask l) ts → AllByRecursion (λ i. i < 64) (map task_id ts)
 ids-low l [] all = tt

@@ -21,14 +21,14 @@ use Rattle.kernel_lists.proofs.HunkLoader.HeldModuleLists.{HasTheseModules, are_
 use Rattle.kernel_lists.proofs.HunkLoader.LoadedModules.{length-lengths}
 use Rattle.kernel_lists.proofs.HunkLoader.UnloadedModules.{LinkedOut, out_linked}
 
-row-append : (a i : ℕ) (xs ys : List ℕ) → row_from a i (xs ++ ys) ≡ row_from a i xs ++ row_from a (i + length xs) ys
+pub row-append : (a i : ℕ) (xs ys : List ℕ) → row_from a i (xs ++ ys) ≡ row_from a i xs ++ row_from a (i + length xs) ys
 row-append a i [] ys = ap (λ j. row_from a j ys) (sym (add-zero i))
 row-append a i (x ∷ xs) ys =
     let next : suc i + length xs ≡ i + suc (length xs) = omega arith in
     ap (λ z. (a + i, x) ∷ z) (row-append a (suc i) xs ys) ∙ ap (λ j. (a + i, x) ∷ (row_from a (suc i) xs ++ row_from a j ys)) next
 
 -- a module's row is its own words and those of its hunks
-row-split : (m link : ℕ) (hunks : List Hunk) → row_from m 0 (module_row link m hunks) ≡ module_words (loaded_module m hunks) link ++ hunk_words m hunks
+pub row-split : (m link : ℕ) (hunks : List Hunk) → row_from m 0 (module_row link m hunks) ≡ module_words (loaded_module m hunks) link ++ hunk_words m hunks
 row-split m link hunks =
     let image : List ℕ = hunks_image (m + 2 + length hunks) hunks in
     ap (λ z. (z, link) ∷ (m + 1, length hunks) ∷ row_from m 2 (lengths_of hunks ++ image)) (add-zero m)

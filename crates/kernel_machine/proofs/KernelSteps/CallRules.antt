@@ -2,7 +2,7 @@
 use Rattle.std.proofs.Common.{◌≡◌, ℕ, zero, suc, ◌+◌, ◌-◌, ◌≤◌, ◌||◌, ◌&&◌, ◌++◌, Bool, true, false, not, Option, Some, None, Result, Ok, Err, List, [], ◌∷◌, cond, eqb, get_or, ltb, refl, sym, ap, ◌∙◌, subst, arith}
 use Rattle.std.specs.Prelude.{find, unwrap_or}
 use Rattle.std.specs.List.{AllByRecursion, list_any, range_with_len}
-use Rattle.std.proofs.lemmas.Bool.{ltb-false, ne_eqb}
+use Rattle.std.proofs.lemmas.Bool.{ltb-false, ne_eqb, not-true}
 use Rattle.word_store.specs.declared.registers.Regs.{Regs}
 use Rattle.kernel_lists.specs.LinkedList.Places.{without_first}
 use Rattle.kernel_lists.specs.HunkLoader.Globals.{globals_in}
@@ -113,10 +113,6 @@ refused-keeps l tests m kept = on (first_refusal tests) refl
     on : (o : Option ℕ) → first_refusal tests ≡ o → KeepsRules l (by_refusal o l m).lists
     on None e = kept (tests-passed tests e)
     on (Some code) e = keeps-none l
-
-not-true : (b : Bool) → not b ≡ true → b ≡ false
-not-true true e = cc
-not-true false e = refl
 
 either-none : (b c : Bool) → (b || c) ≡ false → b ≡ false
 either-none true c e = cc

@@ -132,7 +132,7 @@ typed-ways P (key ∷ rest) k none some = on (leb key.0 k.steps)
     on true = some key rest refl
     on false = none
 
-most-typed : (byte : ℕ) (bytes : List ℕ) → length bytes ≤ 128 → length (with_typed byte bytes) ≤ 128
+pub most-typed : (byte : ℕ) (bytes : List ℕ) → length bytes ≤ 128 → length (with_typed byte bytes) ≤ 128
 most-typed byte bytes most = on (ltb (length bytes) 128) refl
   where
     on : (b : Bool) → ltb (length bytes) 128 ≡ b → length (cond b (bytes ++ byte ∷ []) bytes) ≤ 128

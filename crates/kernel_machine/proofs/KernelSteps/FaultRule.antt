@@ -2,7 +2,7 @@
 use Rattle.std.proofs.Common.{◌≡◌, ℕ, ◌||◌, ◌&&◌, Bool, true, false, not, Option, Some, None, List, [], ◌∷◌, ◌++◌, map, cond, eqb, refl, sym, ap, ◌∙◌, subst, arith}
 use Rattle.std.specs.Prelude.{find}
 use Rattle.std.specs.List.{AllByRecursion, flat_map, list_any}
-use Rattle.std.proofs.lemmas.Bool.{and_parts, eq-eqb, eqb-true, false≢true, leb-true, ne_eqb, or_left, or_right}
+use Rattle.std.proofs.lemmas.Bool.{and_parts, eq-eqb, eqb-true, false≢true, leb-true, ne_eqb, or_left, or_right, or_parts}
 use Rattle.std.proofs.lemmas.List.Folds.{list_any-append}
 use Rattle.kernel_lists.specs.LinkedList.Places.{insert_after, without_first}
 use Rattle.kernel_lists.proofs.LinkedList.AllMembers.{all-append}
@@ -22,6 +22,9 @@ use Rattle.kernel_calls.specs.TaskCalls.ChangePri.{moved}
 use Rattle.kernel_calls.specs.TaskCalls.DeleteTask.{has_packet_out, resident_packets, without_task}
 use Rattle.resident_tasks.proofs.FaultReporter.FaultPacket.{free-is}
 use Rattle.resident_tasks.proofs.FaultReporter.FaultsKept.{KeepsFault, any-new, map-faults, queue-faults, tells-same, there-same, work-keeps}
+use Rattle.kernel_model.proofs.KernelRecord.AllThings.{all-fail}
+use Rattle.kernel_model.proofs.KernelRecord.MovedTask.{or-swap}
+use Rattle.shell.proofs.ShellPrograms.KeptFaults.{none-from, some-own}
 
 -- it is asked where a task reports faults
 abbrev pub HasRule : Lists → Type 0
@@ -138,19 +141,13 @@ fewer-rule l n f id fault fewer h = λ there.
 
 -- ---- the chain
 
-swapped : (a b c : Bool) → (a || (b || c)) ≡ (b || (a || c))
-swapped true true c = refl
-swapped true false c = refl
-swapped false true c = refl
-swapped false false c = refl
-
 module _ (g : Task → Bool) where
   any-in : (f : Task → Bool) (t : Task) (ts : List Task) → list_any g (insert_after f t ts) ≡ (g t || list_any g ts)
   any-in f t [] = refl
   any-in f t (q ∷ qs) = on (list_any f (q ∷ qs)) (any-in f t qs)
     where
       on : (b : Bool) → list_any g (insert_after f t qs) ≡ (g t || list_any g qs) → list_any g (cond b (q ∷ insert_after f t qs) (t ∷ q ∷ qs)) ≡ (g t || (g q || list_any g qs))
-      on true more = ap (λ b. g q || b) more ∙ swapped (g q) (g t) (list_any g qs)
+      on true more = ap (λ b. g q || b) more ∙ or-swap (g q) (g t) (list_any g qs)
       on false more = refl
 
   any-out : (f : Task → Bool) (t : Task) (ts : List Task) → find f ts ≡ Some t → list_any g ts ≡ (g t || list_any g (without_first f ts))
@@ -160,7 +157,7 @@ module _ (g : Task → Bool) where
       on : (b : Bool) → cond b (Some q) (find f qs) ≡ Some t → (find f qs ≡ Some t → list_any g qs ≡ (g t || list_any g (without_first f qs)))
           → (g q || list_any g qs) ≡ (g t || list_any g (cond b qs (q ∷ without_first f qs)))
       on true e more = (let same : q ≡ t = cc in ap (λ (u : Task). g u || list_any g qs) same)
-      on false e more = ap (λ b. g q || b) (more e) ∙ swapped (g q) (g t) (list_any g (without_first f qs))
+      on false e more = ap (λ b. g q || b) (more e) ∙ or-swap (g q) (g t) (list_any g (without_first f qs))
 
   -- one fewer
   any-less : (f : Task → Bool) (ts : List Task) → list_any g (without_first f ts) ≡ true → list_any g ts ≡ true
@@ -247,52 +244,15 @@ moved-rule l pri n guest (Some t) is h = λ there.
 
 -- ---- a guest goes
 
--- what no member of a list passes
-all-fail : {X : Type 0} (f : X → Bool) (xs : List X) → list_any f xs ≡ false → AllByRecursion (λ x. f x ≡ false) xs
-all-fail f [] e = tt
-all-fail f (x ∷ xs) e = (none (f x) e, all-fail f xs (rest (f x) e))
-  where
-    none : (b : Bool) → (b || list_any f xs) ≡ false → b ≡ false
-    none true e = cc
-    none false e = refl
-
     rest : (b : Bool) → (b || list_any f xs) ≡ false → list_any f xs ≡ false
     rest true e = cc
     rest false e = e
-
-either-false : (b c : Bool) → (b || c) ≡ false → (b ≡ false) × (c ≡ false)
-either-false true c e = cc
-either-false false c e = (refl, e)
-
--- the reporter of faults has no packet from the guest
-none-from : (n : ℕ) (ts : List Task) → list_any (λ p. eqb p.sender n) (flat_map resident_packets ts) ≡ false → AllByRecursion (λ p. eqb p.sender n ≡ false) (work_of 2 ts)
-none-from n [] e = tt
-none-from n (t ∷ ts) e =
-    let parts = either-false (list_any (λ p. eqb p.sender n) (resident_packets t)) (list_any (λ p. eqb p.sender n) (flat_map resident_packets ts))
-    (sym (list_any-append (λ p. eqb p.sender n) (resident_packets t) (flat_map resident_packets ts)) ∙ e)
-    in
-    on (eqb t.id 2) refl parts.0 (none-from n ts parts.1)
-  where
-    on : (b : Bool) → eqb t.id 2 ≡ b → list_any (λ p. eqb p.sender n) (resident_packets t) ≡ false → AllByRecursion (λ p. eqb p.sender n ≡ false) (work_of 2 ts)
-        → AllByRecursion (λ p. eqb p.sender n ≡ false) (cond b t.queue (work_of 2 ts))
-    on true e none rest =
-        let low : is_guest_id t.id ≡ false = ap is_guest_id (eqb-true t.id 2 e) in
-        all-fail (λ p. eqb p.sender n) t.queue (sym (ap (λ b. list_any (λ p. eqb p.sender n) (cond b [] t.queue)) low) ∙ none)
-    on false e none rest = rest
 
 -- one who has a new fault is not the guest that goes
 new-stays : (n id : ℕ) → eqb id n ≡ false → (t : Task) → eqb t.id n ≡ true → IsNew id t ≡ false
 new-stays n id other t e =
     let apart : eqb t.id id ≡ false = ne_eqb t.id id (λ same. absurd (false≢true (sym other ∙ eq-eqb id n (sym same ∙ eqb-true t.id n e)))) in
     ap (λ b. b && is_guest_id id && is_unreported t) apart
-
-some-new : (id : ℕ) (ts : List Task) → has_unreported id ts ≡ true → list_any is_unreported ts ≡ true
-some-new id [] e = e
-some-new id (t ∷ ts) e = on (IsNew id t) refl e (some-new id ts)
-  where
-    on : (b : Bool) → IsNew id t ≡ b → (b || has_unreported id ts) ≡ true → (has_unreported id ts ≡ true → list_any is_unreported ts ≡ true) → (is_unreported t || list_any is_unreported ts) ≡ true
-    on true is e more = or_left (is_unreported t) (list_any is_unreported ts) (and_parts (eqb t.id id && is_guest_id id) (is_unreported t) is).1
-    on false is e more = or_right (is_unreported t) (list_any is_unreported ts) (more e)
 
 module _ (l : Lists) (n : ℕ) (v : AreValid l) (guest : is_guest_id n ≡ true) (out : has_packet_out l n ≡ false) (x : FaultsStand l) (there : has_task 2 l.tasks ≡ true) where
   abbrev f : Task → Bool
@@ -305,7 +265,7 @@ module _ (l : Lists) (n : ℕ) (v : AreValid l) (guest : is_guest_id n ≡ true)
   from-others =
       let f : QueuedPacket → Bool = λ p. eqb p.sender n in
       none-from n l.tasks
-      (either-false (list_any f (flat_map resident_packets l.tasks)) (list_any f (l.clock ++ (l.keyboard ++ (l.output ++ l.pending))))
+      (or_parts (list_any f (flat_map resident_packets l.tasks)) (list_any f (l.clock ++ (l.keyboard ++ (l.output ++ l.pending))))
       (sym (list_any-append f (flat_map resident_packets l.tasks) (l.clock ++ (l.keyboard ++ (l.output ++ l.pending)))) ∙ out)).0
 
   still-tell : (ps : List QueuedPacket) → AllByRecursion (Tells l.tasks) ps → AllByRecursion (λ p. eqb p.sender n ≡ false) ps → AllByRecursion (Tells m.tasks) ps
@@ -323,7 +283,7 @@ module _ (l : Lists) (n : ℕ) (v : AreValid l) (guest : is_guest_id n ≡ true)
     where
       on : (b : Bool) → eqb fault_packet p.address ≡ b → (b || list_any (λ q. eqb fault_packet q.address) ps) ≡ true → (list_any (λ q. eqb fault_packet q.address) ps ≡ true → list_any is_unreported m.tasks ≡ true)
           → list_any is_unreported m.tasks ≡ true
-      on true is e more = some-new p.sender m.tasks (tell.0 (eq-eqb p.address fault_packet (sym (eqb-true fault_packet p.address is))))
+      on true is e more = some-own p.sender m.tasks (tell.0 (eq-eqb p.address fault_packet (sym (eqb-true fault_packet p.address is))))
       on false is e more = more e
 
   waits-still : (b : Bool) → l.fault_packet_free ≡ b → b ≡ not (list_any is_unreported m.tasks)

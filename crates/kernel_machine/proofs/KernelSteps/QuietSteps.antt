@@ -62,7 +62,7 @@ quiet-rest s k n q =
 
 -- ---- a step
 
-step-goes : (k : Kernel) → k.stop ≡ None → step k ≡ and_then (turn (with_step k)) (unless_stopped after_the_turn)
+pub step-goes : (k : Kernel) → k.stop ≡ None → step k ≡ and_then (turn (with_step k)) (unless_stopped after_the_turn)
 unfolding step
 step-goes k goes = ap (λ s. cond (is_some s) (quietly k) (and_then (turn (with_step k)) (unless_stopped after_the_turn))) goes
 

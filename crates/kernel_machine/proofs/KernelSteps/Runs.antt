@@ -9,6 +9,7 @@ use Rattle.kernel_machine.proofs.KernelSteps.DevicesKept.{key-same, output-same,
 use Rattle.kernel_machine.proofs.KernelSteps.StepEnds.{step-ends, turned}
 use Rattle.kernel_machine.proofs.KernelSteps.StepKept.{dispatch-same}
 use Rattle.kernel_machine.proofs.KernelSteps.TurnKept.{turn-same}
+use Rattle.bare_machine.proofs.Runs.{has-stopped}
 
 then-assoc : (x : Stepped) (f g : Kernel → Stepped) → and_then (and_then x f) g ≡ and_then x (λ j. and_then (f j) g)
 then-assoc x f g =
@@ -24,10 +25,6 @@ run-more (suc m) n k =
     ap (λ i. run i k) next ∙ ap (behind (step k).bytes (step k).events) (run-more m n (step k).kernel) ∙ sym (then-assoc (step k) (run m) (run n))
 
 -- ---- a machine that has stopped
-
-has-stopped : (o : Option Stop) → o ≢ None → is_some o ≡ true
-has-stopped None some = absurd (some refl)
-has-stopped (Some stop) some = refl
 
 pub step-stopped : (k : Kernel) → k.stop ≢ None → step k ≡ quietly k
 unfolding step

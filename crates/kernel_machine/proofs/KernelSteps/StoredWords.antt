@@ -17,6 +17,7 @@ use Rattle.kernel_model.specs.KernelRecord.ValidKernel.{IsValid}
 use Rattle.kernel_model.specs.KernelRecord.ValidLists.{AreValid}
 use Rattle.kernel_model.proofs.KernelRecord.ImageWords.{image-list, valid-image}
 use Rattle.kernel_machine.specs.KernelSteps.Step.{with_store}
+use Rattle.kernel_model.proofs.KernelRecord.SettledWords.{word_in-some}
 
 -- the store of a kernel with valid lists
 pub record HasStore (s : List ℕ) (k : Kernel) : Type 0 where
@@ -35,14 +36,6 @@ pub valid-store : (k : Kernel) → IsValid k → HasStore (image k) k
 valid-store k h = record { valid = h.lists; image = valid-image k h; plain = h.plain }
 
 -- ---- plain words
-
-word_in-some : (a : ℕ) (es : Pairs) → 0 < owners a es → is_some (word_in a es) ≡ true
-word_in-some a [] some = absurd (omega (arith, some))
-word_in-some a (e ∷ es) some = on (eqb a e.0) some (word_in-some a es)
-  where
-    on : (b : Bool) → 0 < cond b 1 0 + owners a es → (0 < owners a es → is_some (word_in a es) ≡ true) → is_some (cond b (Some e.1) (word_in a es)) ≡ true
-    on true some more = refl
-    on false some more = more (omega (arith, some))
 
 module _ (s : List ℕ) (l : Lists) where
   abbrev word_at : ℕ → Option ℕ

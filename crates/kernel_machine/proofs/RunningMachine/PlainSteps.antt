@@ -31,17 +31,15 @@ use Rattle.kernel_machine.specs.RunningMachine.Runs.{HasPassed, IsOnWay, counted
 use Rattle.kernel_machine.proofs.RunningMachine.MachineStep.{goes-passed, run-passed, whole-passed}
 use Rattle.kernel_machine.proofs.RunningMachine.QuietSpan.{instruction-here, on-way-first, on-way-next}
 use Rattle.kernel_machine.proofs.RunningMachine.RunParts.{run-one}
+use Rattle.instruction_set.proofs.PlacesWritten.{rest-contained}
 
 -- ---- the words beside the ticks
-
-in-rest : (a b : ℕ) (at : List ℕ) → Contains at b → Contains (a ∷ at) b
-in-rest a b at (i, inside, is) = (suc i, omega arith, is)
 
 -- a word is written
 differ-ticked : (a w : ℕ) (at old new : List ℕ) → DifferAt at old new → DifferAt (a ∷ at) old (set new a w)
 differ-ticked a w at old new d b other = elim (cases_eq b a) [
   | inl same ↦ subst (Contains (a ∷ at)) (sym same) (zero, omega arith, refl)
-  | inr ne ↦ in-rest a b at (d b (λ same. other (same ∙ sym (get_or-set_other new a b w 0 ne))))
+  | inr ne ↦ rest-contained a b at (d b (λ same. other (same ∙ sym (get_or-set_other new a b w 0 ne))))
 ]
 
 -- ---- the parts

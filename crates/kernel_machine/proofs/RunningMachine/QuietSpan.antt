@@ -30,15 +30,7 @@ use Rattle.kernel_machine.specs.RunningMachine.Machine.{IsWhole, kernel_of}
 use Rattle.kernel_machine.specs.RunningMachine.Runs.{AreQuiet, HasPassed, IsOnWay, counted}
 use Rattle.kernel_machine.proofs.RunningMachine.LeftParts.{stands-changed}
 use Rattle.kernel_machine.proofs.RunningMachine.OneMachine.{stop-of}
-use Rattle.kernel_machine.proofs.RunningMachine.RunParts.{are-quiet, none-quiet}
-
-run-zero : (k : Kernel) → run 0 k ≡ quietly k
-unfolding run
-run-zero k = refl
-
-run-one : (k : Kernel) → run 1 k ≡ and_then (step k) (run 0)
-unfolding run
-run-one k = refl
+use Rattle.kernel_machine.proofs.RunningMachine.RunParts.{are-quiet, none-quiet, run-zero, run-first}
 
 -- n steps that were quiet, and left this kernel
 passed-by : (n : ℕ) (k j : Kernel) (p : Parts) → run n k ≡ quietly j → Stands p j → IsValid j → j.stop ≡ None → HasPassed n k p
@@ -153,7 +145,7 @@ module _ (k : Kernel) (n m : ℕ) (p : Parts) (way : IsOnWay k n (suc m) p) (few
 
     more-steps : run (n + 1) k ≡ quietly there
     more-steps =
-        run-more n 1 k ∙ ap (λ (x : Stepped). and_then x (run 1)) way.passed.quiet ∙ run-one here ∙ ap (λ (x : Stepped). and_then x (run 0)) one-step ∙ run-zero there
+        run-more n 1 k ∙ ap (λ (x : Stepped). and_then x (run 1)) way.passed.quiet ∙ run-first here ∙ ap (λ (x : Stepped). and_then x (run 0)) one-step ∙ run-zero there
 
     same : (run (n + 1) k).kernel ≡ there
     same = ap (λ (x : Stepped). x.kernel) more-steps

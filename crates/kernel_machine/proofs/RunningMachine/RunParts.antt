@@ -7,11 +7,11 @@ use Rattle.kernel_machine.specs.KernelSteps.Step.{Stepped, and_then, quietly, ru
 use Rattle.kernel_machine.proofs.KernelSteps.Runs.{run-more, run-stopped}
 use Rattle.kernel_machine.specs.RunningMachine.Runs.{AreQuiet, IsQuietButLast}
 
-run-zero : (k : Kernel) → run 0 k ≡ quietly k
+pub run-zero : (k : Kernel) → run 0 k ≡ quietly k
 unfolding run
 run-zero k = refl
 
-run-first : (k : Kernel) → run 1 k ≡ and_then (step k) (run 0)
+pub run-first : (k : Kernel) → run 1 k ≡ and_then (step k) (run 0)
 unfolding run
 run-first k = refl
 
@@ -43,7 +43,7 @@ none-quiet n k none goes = are-quiet n k k (ap (λ m. run m k) none ∙ run-zero
 pub last-behind : (q n : ℕ) (k j : Kernel) → n ≡ q + 1 → run q k ≡ quietly j → j.stop ≡ None → IsQuietButLast n k
 last-behind q n k j next quiet goes = (let before : n - 1 ≡ q = omega (arith, next) in are-quiet (n - 1) k j (ap (λ i. run i k) before ∙ quiet) goes)
 
-no-front : {A : Type 0} (xs ys : List A) → xs ++ ys ≡ [] → xs ≡ []
+pub no-front : {A : Type 0} (xs ys : List A) → xs ++ ys ≡ [] → xs ≡ []
 no-front [] ys e = refl
 no-front (x ∷ xs) ys e = cc
 

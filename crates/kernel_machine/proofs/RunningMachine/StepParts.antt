@@ -17,6 +17,7 @@ use Rattle.kernel_machine.proofs.KernelSteps.DevicesKept.{key-dispatch, key-stop
 use Rattle.kernel_machine.proofs.KernelSteps.StepKept.{step-turns}
 use Rattle.kernel_machine.proofs.KernelSteps.TurnKept.{numbers-turn, turn-dispatch}
 use Rattle.kernel_machine.specs.RunningMachine.Leaves.{CanServe}
+use Rattle.kernel_machine.proofs.KernelSteps.QuietSteps.{step-goes}
 
 -- a dispatch may follow on each of the devices
 pub record Serving (k : Kernel) : Type 0 where
@@ -65,11 +66,6 @@ stands-step p k n st e = record {
 }
 
 -- ---- the whole step
-
--- it begins with the turn
-pub step-goes : (k : Kernel) → k.stop ≡ None → step k ≡ and_then (turn (with_step k)) (unless_stopped after_the_turn)
-unfolding step
-step-goes k goes = ap (λ s. cond (is_some s) (quietly k) (and_then (turn (with_step k)) (unless_stopped after_the_turn))) goes
 
 -- and ends with it where that stopped the machine
 pub rest-stops : (k : Kernel) (s : Stop) → k.stop ≡ Some s → unless_stopped after_the_turn k ≡ quietly k

@@ -10,14 +10,7 @@ use Rattle.kernel_devices.specs.Typed.{with_typed}
 use Rattle.kernel_machine.specs.declared.running_machine.parts.Parts.{Parts}
 use Rattle.kernel_machine.specs.RunningMachine.Machine.{IsWhole, kernel_of, with_byte_typed}
 use Rattle.kernel_machine.specs.RunningMachine.Stands.{Stands}
-
--- there are at most 128 bytes then
-typed-few : (byte : ℕ) (bytes : List ℕ) → length bytes ≤ 128 → length (with_typed byte bytes) ≤ 128
-typed-few byte bytes few = on (nat_lt (length bytes) 128) refl
-  where
-    on : (b : Bool) → nat_lt (length bytes) 128 ≡ b → length (cond b (bytes ++ byte ∷ []) bytes) ≤ 128
-    on true is = let less = ltb-true (length bytes) 128 is in omega (arith, less, length-append bytes (byte ∷ []))
-    on false is = few
+use Rattle.kernel_machine.proofs.KernelSteps.DevicesKept.{most-typed}
 
 plain-typed : (byte : ℕ) (k : Kernel) → HasPlainWords k → HasPlainWords (with_byte_typed byte k)
 plain-typed byte k h = record { size = h.size; plain = h.plain; owned = h.owned }
@@ -37,7 +30,7 @@ valid-typed byte k h =
         shell = residents.shell;
         disc = residents.disc;
         pipes = residents.pipes;
-        ahead = typed-few byte k.type_ahead residents.ahead;
+        ahead = most-typed byte k.type_ahead residents.ahead;
       };
       steps = record { steps = h.steps.steps; keys = h.steps.keys };
     }

@@ -2,7 +2,7 @@
 use Rattle.std.proofs.Common.{◌≡◌, ◌≢◌, ℕ, ◌+◌, ◌<◌, ◌&&◌, ◌||◌, Bool, true, false, Option, List, [], ◌∷◌, cond, eqb, get_or, leb, map, take, inl, inr, refl, sym, ap, ◌∙◌, subst, arith}
 use Rattle.std.specs.List.{AllByRecursion}
 use Rattle.std.specs.Prelude.{not}
-use Rattle.std.proofs.lemmas.Bool.{and_parts, eq-eqb, eqb-true, ne_eqb}
+use Rattle.std.proofs.lemmas.Bool.{and_parts, eq-eqb, eqb-true, ne_eqb, not-true}
 use Rattle.word_store.specs.declared.registers.Regs.{Regs}
 use Rattle.kernel_lists.specs.OwnedWords.LinkedWords.{first_of}
 use Rattle.kernel_lists.specs.OwnedWords.Owned.{written}
@@ -151,10 +151,6 @@ same-saved j r w = on (eqb w.id j)
 first-one : (ps : List QueuedPacket) → first_of address_of (take 1 ps) 0 ≡ first_of address_of ps 0
 first-one [] = refl
 first-one (p ∷ ps) = refl
-
-not-true : (b : Bool) → not b ≡ true → b ≡ false
-not-true true e = cc
-not-true false e = refl
 
 module _ (s0 s1 : List ℕ) (tells told : List ℕ → Type 0) (room : ℕ) (l : Lists) (w : Task) (t : ℕ) (k : HasKeeper s0 tells room l) (n : IsNext l w t) (r : Regs) (packet : ℕ)
     (before mid : Option (List KernelEvent)) (f g : Bool) (x : HasTaken s0 s1 l w packet told before mid f g) (some_field : w.field ≢ 0) where

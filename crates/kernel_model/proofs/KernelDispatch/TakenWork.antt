@@ -64,7 +64,7 @@ has-work t f ready takes = (let w = on t.held t.queue ready takes in record { pa
     on true [] = λ e _. cc
     on false [] = by-field (Works false []) (λ _ e. cc) (λ e _. cc) (λ _ e. cc) (λ e _. cc) t.field f
 
-signed-low : (n : ℕ) → n ≤ 63 → signed n ≡ pos n
+pub signed-low : (n : ℕ) → n ≤ 63 → signed n ≡ pos n
 signed-low n low = ap (λ b. cond b (pos n) (pos n -ℤ pos (2 ^ 32))) (lt-ltb n (2 ^ 31) (omega (arith, low)))
 
 -- ---- the next task

@@ -43,7 +43,7 @@ numbered id (z ∷ zs) some = on (eqb z.id id) refl some (numbered id zs)
 
 -- ---- its number is not another's
 
-number-there : (front : List Task) (t : Task) (back : List Task) → 0 < times t.id (map task_id (front ++ t ∷ back))
+pub number-there : (front : List Task) (t : Task) (back : List Task) → 0 < times t.id (map task_id (front ++ t ∷ back))
 number-there [] t back = omega (arith, hit-same t.id t.id refl)
 number-there (z ∷ zs) t back = omega (arith, number-there zs t back)
 

@@ -13,7 +13,7 @@ use Rattle.kernel_lists.proofs.GetvecChain.SizeWords.{Follow-order}
 has_data-from : (b : Block) (a : ℕ) → b.start < a → a < block_end b → has_data b a ≡ true
 has_data-from b a above below = and_from (ltb b.start a) (ltb a (block_end b)) (lt-ltb b.start a above) (lt-ltb a (block_end b) below)
 
-has_data-behind : (b : Block) (a : ℕ) → block_end b ≤ a → has_data b a ≡ false
+pub has_data-behind : (b : Block) (a : ℕ) → block_end b ≤ a → has_data b a ≡ false
 has_data-behind b a behind = and_right (ltb b.start a) (ltb a (block_end b)) (le-ltb a (block_end b) behind)
 
 -- a block among those that follow one another
@@ -49,7 +49,7 @@ found-holding test at (c ∷ cs) end b a f e above below = on (test c) e (λ lat
         ap (λ t. cond t (Some c) (holding a cs)) (has_data-behind c a (omega (arith, w.low, above))) ∙ more e
 
 -- no block begins before the first one
-starts-low : (at : ℕ) (bs : List Block) (end a : ℕ) → Follow at bs end → a < at → owners a (blocks_words bs) ≡ 0
+pub starts-low : (at : ℕ) (bs : List Block) (end a : ℕ) → Follow at bs end → a < at → owners a (blocks_words bs) ≡ 0
 starts-low at [] end a f low = refl
 starts-low at (b ∷ bs) end a f low =
     omega (arith, hit-other a b.start (λ e. absurd (omega (arith, e, f.0, low))), starts-low (block_end b) bs end a f.3 (omega (arith, f.0, low)))

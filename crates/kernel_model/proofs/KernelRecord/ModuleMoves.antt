@@ -64,7 +64,7 @@ modules-valid l ms v stand keeps owns =
     moved at ps all = all-each (MayStand l at) (MayStand m at) (λ p h. MayStand-more l m at p refl refl (λ d. d) (λ i some. some) h) ps all
 
 -- a module owns its words before those of its hunks
-owners-module : (a : ℕ) (m : LoadedModule) (n : ℕ) → owners a (module_words m n) ≡ times a (range_with_len m.address (suc (suc (length m.lengths))))
+pub owners-module : (a : ℕ) (m : LoadedModule) (n : ℕ) → owners a (module_words m n) ≡ times a (range_with_len m.address (suc (suc (length m.lengths))))
 owners-module a m n = ap (λ z. hit a m.address + z) (owners-row a m.address 1 (length m.lengths ∷ m.lengths))
 
 module _ (l : Lists) (front back : List LoadedModule) (m : LoadedModule) (v : AreValid l) where

@@ -27,7 +27,7 @@ use Rattle.kernel_model.proofs.KernelRecord.OwnerCounts.{owned-tasks, owners-tas
 use Rattle.kernel_model.proofs.KernelRecord.QueuedPackets.{fault-kept, is_queued-same, key-kept, stands_in, work_packets}
 use Rattle.kernel_model.proofs.KernelRecord.RulesKept.{MayStand-more}
 
-or-swap : (x y z : Bool) → (x || (y || z)) ≡ (y || (x || z))
+pub or-swap : (x y z : Bool) → (x || (y || z)) ≡ (y || (x || z))
 or-swap true true z = refl
 or-swap true false z = refl
 or-swap false y z = refl

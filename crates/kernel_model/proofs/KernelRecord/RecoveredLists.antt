@@ -56,7 +56,7 @@ any-number s i [] all = refl
 any-number s i (t ∷ ts) all = λ j. eqb (all.0 j) i || any-number s i ts all.1 j
 
 -- a store has no word at the address that marks a packet on no queue
-size-low : (l : Lists) → AreValid l → l.size < no_queue
+pub size-low : (l : Lists) → AreValid l → l.size < no_queue
 size-low l v =
     let le : leb l.size (most_words l.version) ≡ true = (and_parts (leb 1024 l.size) (leb l.size (most_words l.version)) (and_parts (leb 1024 l.size && leb l.size (most_words l.version)) _ v.numbers.size).0).1 in
     let most : most_words l.version ≤ 4194304 = elim (eqb l.version 1) as (λ b. cond b 262144 4194304 ≤ 4194304) [ true ↦ omega arith | false ↦ omega arith ] in

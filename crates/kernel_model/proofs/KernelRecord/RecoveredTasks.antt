@@ -36,7 +36,7 @@ field-even f (inr (inl e)) = omega (arith, e)
 field-even f (inr (inr (inl e))) = omega (arith, e)
 field-even f (inr (inr (inr e))) = omega (arith, e)
 
-bit-low : (ps : List QueuedPacket) → queue_bit ps ≤ 1
+pub bit-low : (ps : List QueuedPacket) → queue_bit ps ≤ 1
 bit-low [] = omega arith
 bit-low (p ∷ ps) = omega arith
 

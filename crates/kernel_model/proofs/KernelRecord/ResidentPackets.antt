@@ -28,10 +28,10 @@ use Rattle.kernel_model.proofs.KernelRecord.TaskPlaces.{last-resident}
 -- ---- what they own while they are on no queue
 
 -- five words, as on a queue
-owners-key : (a res1 : ℕ) → owners a (key_words (Some res1)) ≡ times a (range_with_len key_packet 5)
+pub owners-key : (a res1 : ℕ) → owners a (key_words (Some res1)) ≡ times a (range_with_len key_packet 5)
 owners-key a res1 = owners-row a key_packet 0 (no_queue ∷ keyboard ∷ 0 ∷ res1 ∷ 0 ∷ [])
 
-owners-fault : (a : ℕ) → owners a (fault_packet_words true) ≡ times a (range_with_len fault_packet 5)
+pub owners-fault : (a : ℕ) → owners a (fault_packet_words true) ≡ times a (range_with_len fault_packet 5)
 owners-fault a = owners-row a fault_packet 0 (no_queue ∷ 0 ∷ 0 ∷ 0 ∷ 0 ∷ [])
 
 -- another state of the two

@@ -12,7 +12,7 @@ use Rattle.kernel_model.specs.KernelRecord.Owned.{OwnsApart, owned}
 use Rattle.kernel_model.proofs.KernelRecord.ImageWords.{image-list}
 
 -- an address that is owned has a word
-word_in-some : (a : ℕ) (es : Pairs) → 0 < owners a es → is_some (word_in a es) ≡ true
+pub word_in-some : (a : ℕ) (es : Pairs) → 0 < owners a es → is_some (word_in a es) ≡ true
 word_in-some a [] some = absurd (omega (arith, some))
 word_in-some a (e ∷ es) some = on (eqb a e.0) refl some (word_in-some a es)
   where

@@ -26,7 +26,7 @@ use Rattle.kernel_model.specs.KernelRecord.Residents.{pending_head}
 use Rattle.kernel_model.specs.KernelRecord.ReadsLists.{ReadsLists}
 use Rattle.kernel_model.specs.KernelRecord.Task.{Task, filled, further_modules, is_guest_id, queue_head, task_address, task_words}
 use Rattle.kernel_model.specs.KernelRecord.Versions.{head_words_of}
-use Rattle.kernel_model.proofs.KernelRecord.EachMember.{all-both, all-each}
+use Rattle.kernel_model.proofs.KernelRecord.EachMember.{all-both, all-each, holds-each}
 use Rattle.kernel_model.proofs.KernelRecord.OwnedParts.{HoldsParts, holds-parts}
 use Rattle.kernel_model.proofs.KernelRecord.Reading.{read-lists}
 use Rattle.kernel_model.proofs.KernelRecord.RootCounts.{RootWords, head-low, length-filled, root-held}
@@ -34,16 +34,6 @@ use Rattle.kernel_model.proofs.KernelRecord.TaskKind.{are_tasks}
 use Rattle.kernel_model.specs.KernelRecord.HoldsLists.{HoldsLists}
 use Rattle.kernel_model.specs.KernelRecord.KernelRanges.{CanWalkLists, CanWalkTask, IsModuleIn, has_reporter, has_residents, task_size_in}
 use Rattle.kernel_model.proofs.KernelRecord.ListRanges.{HasCount, TaskReads}
-
--- what the words of each of the linked things say
-holds-each : {X : Type 0} (address : X → ℕ) (words : X → ℕ → Pairs) (s : List ℕ) (Q : X → Type 0) → ((x : X) (n : ℕ) → Holds s (words x n) → Q x)
-    → (xs : List X) (end : ℕ) → Holds s (linked_words address words xs end) → AllByRecursion Q xs
-holds-each address words s Q each [] end h = tt
-holds-each address words s Q each (x ∷ xs) end h =
-    let n : ℕ = first_of address xs end in (
-      each x n (Holds-left s (words x n) (linked_words address words xs end) h),
-      holds-each address words s Q each xs end (Holds-right s (words x n) (linked_words address words xs end) h),
-    )
 
 -- what holds of each thing holds of its address
 all-addresses : {X : Type 0} (address : X → ℕ) (P : ℕ → Type 0) (xs : List X) → AllByRecursion (λ x. P (address x)) xs → AllByRecursion P (map address xs)

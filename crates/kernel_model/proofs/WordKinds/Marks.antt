@@ -26,7 +26,7 @@ place a first n =
       ]
     ]
 
-inside : (a first n : ℕ) → first ≤ a → a < first + n → (leb first a && ltb a (first + n)) ≡ true
+pub inside : (a first n : ℕ) → first ≤ a → a < first + n → (leb first a && ltb a (first + n)) ≡ true
 inside a first n above below = grind (arith, nat_tests, above, below)
 
 -- what is marked as it was is known as it was

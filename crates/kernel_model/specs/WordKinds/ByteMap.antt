@@ -5,7 +5,8 @@ use Rattle.std.proofs.Common.{ap, refl, subst, sym, ◌∙◌}
 use Rattle.std.proofs.lemmas.List.Folds.{list_any-append}
 use Rattle.word_store.specs.Count.{times}
 use Rattle.kernel_model.specs.KernelRecord.KernelRanges.{Words, meets}
-use Rattle.kernel_model.specs.WordKinds.Searched.{or-false, or-or}
+use Rattle.kernel_model.specs.WordKinds.Searched.{or-false}
+use Rattle.std.proofs.Math.Bool.{or_assoc}
 
 -- whether the word is marked; there is no mark behind the last one
 abbrev pub is_marked : List Bool → ℕ → Bool
@@ -39,5 +40,5 @@ shown-both u v w xs ys one two = record {
   marks = λ a low.
       let f : Words → Bool = meets a (a + 1) in
       two.marks a (subst (λ n. a < n) (sym one.size) low)
-      ∙ (ap (λ z. z || list_any f ys) (one.marks a low) ∙ (or-or (is_marked u a) (list_any f xs) (list_any f ys) ∙ ap (λ z. is_marked u a || z) (sym (list_any-append f xs ys))));
+      ∙ (ap (λ z. z || list_any f ys) (one.marks a low) ∙ (or_assoc (is_marked u a) (list_any f xs) (list_any f ys) ∙ ap (λ z. is_marked u a || z) (sym (list_any-append f xs ys))));
 }

@@ -5,6 +5,7 @@ use Rattle.std.specs.List.{list_any}
 use Rattle.std.proofs.lemmas.List.Folds.{list_any-append}
 use Rattle.kernel_model.specs.KernelRecord.KernelRanges.{Words, meets}
 use Rattle.kernel_model.specs.declared.word_kinds.search.Search.{Search}
+use Rattle.std.proofs.Math.Bool.{or_assoc}
 
 -- it looks for the same words, and has found one where it had before, or where one of them is in the ranges
 pub record Searched (u v : Search) (ws : List Words) : Type 0 where
@@ -19,10 +20,6 @@ pub or-false : (x : Bool) → x ≡ (x || false)
 or-false true = refl
 or-false false = refl
 
-pub or-or : (x y z : Bool) → ((x || y) || z) ≡ (x || (y || z))
-or-or true y z = refl
-or-or false y z = refl
-
 pub searched_none : (v : Search) → Searched v v []
 searched_none v = record { from = refl; to = refl; found = or-false v.found }
 
@@ -35,5 +32,5 @@ searched_both u v w xs ys one two =
       found =
           two.found
           ∙ ((λ i. one.found i || list_any (meets (one.from i) (one.to i)) ys)
-          ∙ (or-or u.found (list_any f xs) (list_any f ys) ∙ ap (λ z. u.found || z) (sym (list_any-append f xs ys))));
+          ∙ (or_assoc u.found (list_any f xs) (list_any f ys) ∙ ap (λ z. u.found || z) (sym (list_any-append f xs ys))));
     }

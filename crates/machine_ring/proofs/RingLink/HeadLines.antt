@@ -19,6 +19,7 @@ use Rattle.machine_ring.specs.RingLink.NextLines.{line_after, next_line}
 use Rattle.machine_ring.specs.RingLink.RingForm.{AreLetters}
 use Rattle.machine_ring.specs.RingLink.TwoNumbers.{HasNumbers, two_numbers}
 use Rattle.machine_ring.specs.declared.ring_link.heads.Head.{Head}
+use Rattle.session_text.proofs.StatementLines.{and_then-ok}
 
 -- ---- one line after another
 
@@ -36,10 +37,6 @@ pub line_after-again : (word : List ℕ) (n : ℕ) (rest : List (List ℕ)) → 
 line_after-again word n rest = rw ((bytes_eq-Decides word word).1 refl) refl
 
 -- ---- the two numbers
-
-and_then-ok : {A B : Type 0} (o : Option A) (f : A → Option B) (y : B) → option_and_then f o ≡ Some y → (x : A) × (o ≡ Some x) × (f x ≡ Some y)
-and_then-ok None f y e = cc e
-and_then-ok (Some x) f y e = (x, refl, e)
 
 two_numbers-ok : (line : List ℕ) (both : ℕ × ℕ) → two_numbers line ≡ Some both → HasNumbers both line
 two_numbers-ok line both e =

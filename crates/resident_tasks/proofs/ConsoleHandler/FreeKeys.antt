@@ -13,13 +13,7 @@ use Rattle.kernel_calls.proofs.CallAnswers.FoundTask.{reads}
 use Rattle.kernel_calls.proofs.PacketCalls.PlaceWords.{keys-exchange}
 use Rattle.resident_tasks.specs.ConsoleHandler.ConsoleTurn.{keys_sent, with_keys_sent}
 use Rattle.resident_tasks.specs.ConsoleHandler.Progress.{Progress}
-
--- a store has no word at the address that marks a packet on no queue
-size-low : (l : Lists) → AreValid l → l.size < no_queue
-size-low l v =
-    let le : leb l.size (most_words l.version) ≡ true = (and_parts (leb 1024 l.size) (leb l.size (most_words l.version)) (and_parts (leb 1024 l.size && leb l.size (most_words l.version)) _ v.numbers.size).0).1 in
-    let most : most_words l.version ≤ 4194304 = elim (eqb l.version 1) as (λ b. cond b 262144 4194304 ≤ 4194304) [ true ↦ omega arith | false ↦ omega arith ] in
-    omega (arith, leb-true l.size (most_words l.version) le, most)
+use Rattle.kernel_model.proofs.KernelRecord.RecoveredLists.{size-low}
 
 module _ (s : List ℕ) (l : Lists) (h : HoldsLists s l) (residents : l.residents ≡ true) where
   words : Holds s (key_words l.key)

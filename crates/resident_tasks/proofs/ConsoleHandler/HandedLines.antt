@@ -26,6 +26,7 @@ use Rattle.resident_tasks.specs.ConsoleHandler.Deliveries.{command_after, given,
 use Rattle.resident_tasks.specs.ConsoleHandler.Progress.{IsDone, Progress, Start}
 use Rattle.resident_tasks.specs.ConsoleHandler.Reads.{IsReadTaken, read_taken, read_taken_from, words_read_from}
 use Rattle.resident_tasks.proofs.ConsoleHandler.DoneParts.{done-then}
+use Rattle.resident_tasks.proofs.FileHandler.HandledCalls.{taken-few}
 
 -- the read that was taken was the first
 read-plain : (v : List ℕ) (l : Lists) (r : Request) (ps : List QueuedPacket) → Some r ≡ first_request v ps → (read_taken_from ps l).plain ≡ (r.packet, no_queue) ∷ []
@@ -40,19 +41,13 @@ pub read-running : (l : Lists) (ps : List QueuedPacket) → (read_taken_from ps 
 read-running l [] = refl
 read-running l (p ∷ ps) = refl
 
--- its buffer may be written, where it gets bytes
-length-take : (n : ℕ) (xs : List ℕ) → length (take n xs) ≤ n
-length-take zero xs = omega arith
-length-take (suc n) [] = omega arith
-length-take (suc n) (x ∷ xs) = omega (arith, length-take n xs)
-
 line-fits : (s : List ℕ) (l : Lists) (line : List ℕ) (r : Request) → CanServe s l r (line_service s l line r)
 line-fits s l line r = on (eqb r.sender SHELL) (is_writable s l r.packet r.first r.second) refl
   where
     on : (shell writable : Bool) → is_writable s l r.packet r.first r.second ≡ writable
         → CanServe s l r (cond shell (service (Ok (length line)) r.first []) (cond writable (service (Ok (given line r)) r.first (take (given line r) line)) (service (Err 30) r.first [])))
     on true writable e = inl refl
-    on false true e = inr (r.second, e, omega (arith, length-take (given line r) line))
+    on false true e = inr (r.second, e, omega (arith, taken-few (given line r) line))
     on false false e = inl refl
 
 module _ (b : Start) (t : List ℕ) (tells : List ℕ → Type 0) (room : ℕ) (now : Outside) (c : Console) (k : List ℕ) (g : Progress) (x : IsDone b t tells room now c k g) where

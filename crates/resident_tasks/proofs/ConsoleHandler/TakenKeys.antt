@@ -29,7 +29,7 @@ use Rattle.kernel_model.specs.KernelRecord.ValidQueues.Place.{Work}
 use Rattle.kernel_model.proofs.KernelRecord.NotedInTurn.{notes-one}
 use Rattle.kernel_model.proofs.KernelRecord.PacketMoves.{unqueued-unowned}
 use Rattle.kernel_model.proofs.KernelRecord.QueuePlaces.{place-stands}
-use Rattle.kernel_model.proofs.KernelRecord.ResidentPackets.{key_unqueued-valid}
+use Rattle.kernel_model.proofs.KernelRecord.ResidentPackets.{key_unqueued-valid, owners-key}
 use Rattle.kernel_calls.specs.CallAnswers.Made.{Leaves}
 use Rattle.kernel_calls.specs.PacketCalls.Destinations.{queue_for}
 use Rattle.kernel_calls.specs.PacketCalls.PacketMoves.{stands_in}
@@ -53,13 +53,9 @@ keys-first : (l : Lists) (ps : List QueuedPacket) → StartsWithKeys l ps → Ha
 keys-first l [] none = absurd none
 keys-first l (p ∷ ps) e = record { packet = p; back = ps; is = refl; key = e }
 
--- its words while it is on no queue
-off-words : (a res1 : ℕ) → owners a (key_words (Some res1)) ≡ times a (range_with_len key_packet 5)
-off-words a res1 = owners-row a key_packet 0 (no_queue ∷ keyboard ∷ 0 ∷ res1 ∷ 0 ∷ [])
-
 no-words : (x : Option ℕ) → owners key_packet (key_words x) ≡ 0 → (a : ℕ) → owners a (key_words x) ≡ 0
 no-words None e a = refl
-no-words (Some res1) e a = absurd (omega (arith, e, off-words key_packet res1, times-within key_packet key_packet 5 (omega arith) (omega arith)))
+no-words (Some res1) e a = absurd (omega (arith, e, owners-key key_packet res1, times-within key_packet key_packet 5 (omega arith) (omega arith)))
 
 module _ (s : List ℕ) (l : Lists) (h : HoldsLists s l) (f : FindsKeys l) (t : ℕ) (at : t ≡ address_of_task l l.running) where
   abbrev there : has_task l.running l.tasks ≡ true
@@ -128,7 +124,7 @@ module _ (s : List ℕ) (l : Lists) (h : HoldsLists s l) (f : FindsKeys l) (t : 
         put.first.count a,
         put.then'.count a,
         none-before a,
-        off-words a q.res1,
+        owners-key a q.res1,
         owners-departed s l (Work l.running) q [] back h first.is a,
         ap (λ z. times a (range_with_len z 5)) address,
       )

@@ -29,7 +29,7 @@ use Rattle.kernel_model.proofs.KernelRecord.ChangedLists.{changed-none}
 use Rattle.kernel_model.proofs.KernelRecord.QueuePlaces.{is_queued-here, is_queued-place, place-stands}
 use Rattle.kernel_model.proofs.KernelRecord.QueuedPackets.{is_queued-parts, stands_in, work_packets}
 use Rattle.kernel_model.proofs.KernelRecord.ReadQueues.{packets-some}
-use Rattle.kernel_model.proofs.KernelRecord.ResidentPackets.{fault_queued-valid}
+use Rattle.kernel_model.proofs.KernelRecord.ResidentPackets.{fault_queued-valid, owners-fault}
 use Rattle.kernel_calls.specs.CallAnswers.Callers.{HasCaller}
 use Rattle.kernel_calls.proofs.CallAnswers.FoundTask.{Finds, find-task, found-address}
 use Rattle.kernel_lists.specs.LinkedList.Places.{has}
@@ -50,9 +50,6 @@ use Rattle.kernel_model.proofs.KernelRecord.NotedInTurn.{notes-one}
 use Rattle.resident_tasks.specs.FaultReporter.Recorded.{OwnsSame, events_where, packet_from, sent, sent_events, sent_where}
 
 -- ---- its words, while it is on no queue
-
-pub fault-count : (a : ℕ) → owners a (fault_packet_words true) ≡ times a (range_with_len fault_packet 5)
-fault-count a = owners-row a fault_packet 0 (no_queue ∷ 0 ∷ 0 ∷ 0 ∷ 0 ∷ [])
 
 -- all owned words, with these at the end of the residents'
 abbrev around : Lists → Pairs → Pairs
@@ -233,7 +230,7 @@ module _ (s : List ℕ) (l : Lists) (h : HoldsLists s l) (c : HasCaller l) (ther
               end-owners s base (Work 2) q ws kept holds h.size h.valid.tasks.distinct there valid some tt (fields-stand l h.valid) own are_set stands a,
               gone.first.count a,
               gone.then'.count a,
-              fault-count a,
+              owners-fault a,
               ap (λ b. owners a (fault_packet_words b)) free,
             );
       }

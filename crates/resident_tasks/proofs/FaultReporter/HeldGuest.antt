@@ -25,6 +25,7 @@ use Rattle.kernel_calls.specs.CallAnswers.Guests.{GuestAt}
 use Rattle.kernel_calls.proofs.CallAnswers.GuestTask.{GuestFacts, guest-changed, guest-facts}
 use Rattle.kernel_calls.proofs.PacketCalls.CallerTask.{caller-runs}
 use Rattle.resident_tasks.specs.FaultReporter.Recorded.{CanRecord, OwnsSame, held_with, with_fault}
+use Rattle.kernel_model.proofs.KernelRecord.RecoveredTasks.{bit-low}
 
 -- its fault words are others
 pub fault-exchange : (t : Task) (code address : ℕ) (words : List ℕ)
@@ -72,10 +73,6 @@ faulty-task l f t r guest h =
 -- the state of one that runs, with the bit that says that it is held
 held-state : (w field bit held : ℕ) → w ≡ field + bit + held → field ≡ 0 → bit ≤ 1 → held % 2 ≡ 0 → w % 2 + 2 ≡ field + bit + 2
 held-state w field bit held is runs low even = omega arith
-
-bit-low : (ps : List QueuedPacket) → queue_bit ps ≤ 1
-bit-low [] = omega arith
-bit-low (p ∷ ps) = omega arith
 
 even-held : (b : Bool) → cond b 2 0 % 2 ≡ 0
 even-held true = refl

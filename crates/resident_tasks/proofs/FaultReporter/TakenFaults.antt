@@ -21,7 +21,7 @@ use Rattle.kernel_model.specs.KernelRecord.ValidLists.{AreValid}
 use Rattle.kernel_model.specs.KernelRecord.ValidQueues.{IsFaultPacket, MayStand}
 use Rattle.kernel_model.specs.KernelRecord.ValidQueues.Place.{Work}
 use Rattle.kernel_model.proofs.KernelRecord.QueuePlaces.{place-stands}
-use Rattle.kernel_model.proofs.KernelRecord.ResidentPackets.{fault_unqueued-valid}
+use Rattle.kernel_model.proofs.KernelRecord.ResidentPackets.{fault_unqueued-valid, owners-fault}
 use Rattle.kernel_calls.specs.PacketCalls.Destinations.{queue_for}
 use Rattle.kernel_calls.specs.PacketCalls.PacketMoves.{stands_in}
 use Rattle.kernel_calls.specs.PacketCalls.QueueWords.{head_of, unqueued}
@@ -31,7 +31,7 @@ use Rattle.kernel_calls.proofs.PacketCalls.HeldPlaces.{has-at, stands-at}
 use Rattle.resident_tasks.specs.ResidentRequests.Requests.{RunsResident, work}
 use Rattle.resident_tasks.specs.FaultReporter.FaultTurns.{IsFaultFirst, packet_taken, sender_of, fault_taken_from}
 use Rattle.resident_tasks.specs.FaultReporter.Recorded.{OwnsSame}
-use Rattle.resident_tasks.proofs.FaultReporter.FaultPacket.{fault-count, free-is, packet-exchange}
+use Rattle.resident_tasks.proofs.FaultReporter.FaultPacket.{free-is, packet-exchange}
 
 -- a queue that begins with the fault packet
 record FaultFirst (qs : List QueuedPacket) : Type 0 where
@@ -120,7 +120,7 @@ module _ (s : List ℕ) (l : Lists) (h : HoldsLists s l) (r : RunsResident l) (t
       five a = owners-departed s l (Work 2) q [] back h is a ∙ ap (λ z. owners a (owned m) + times a (range_with_len z 5)) first.address
 
       more : (a : ℕ) → owners a (owned after) ≡ owners a comes.rest + times a (range_with_len fault_packet 5)
-      more a = omega (arith, comes.then'.count a, fault-count a)
+      more a = omega (arith, comes.then'.count a, owners-fault a)
 
       rest-is : (a : ℕ) → owners a (owned m) ≡ owners a comes.rest
       rest-is a = omega (arith, comes.first.count a, ap (λ b. owners a (fault_packet_words b)) waits)

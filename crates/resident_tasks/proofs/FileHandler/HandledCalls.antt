@@ -36,7 +36,7 @@ silent-two : (d : Disc) (test other : Bool) (code last : ℕ) (m : Handled) → 
 silent-two d true other code last m e = silent d other last m e
 silent-two d false other code last m e = refl
 
-taken-few : (n : ℕ) (xs : List ℕ) → length (take n xs) ≤ n
+pub taken-few : (n : ℕ) (xs : List ℕ) → length (take n xs) ≤ n
 taken-few n xs = omega (arith, length-take n xs)
 
 read-few : (d : Disc) (k count : ℕ) → length (bytes_read d k count) ≤ count

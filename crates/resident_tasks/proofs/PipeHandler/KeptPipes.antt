@@ -3,7 +3,7 @@ use Rattle.std.proofs.Common.{◌≡◌, ◌≢◌, ℕ, zero, suc, ◌+◌, ◌
 use Rattle.std.specs.List.{list_any, position, position_or_len}
 use Rattle.std.specs.Option.{is_none, option_or}
 use Rattle.std.specs.Str.{bytes_eq}
-use Rattle.std.proofs.lemmas.Bool.{and_parts, cases_eq, ltb-false, or_right, true≢false}
+use Rattle.std.proofs.lemmas.Bool.{and_parts, cases_eq, ltb-false, or_right, true≢false, or_parts}
 use Rattle.std.proofs.lemmas.List.{get_or-set_other, get_or-set_same, length-set}
 use Rattle.std.proofs.lemmas.List.Quantifiers.{position-Some}
 use Rattle.std.proofs.lemmas.Slice.Eq.{bytes_eq-Decides}
@@ -186,14 +186,10 @@ open-kept ps i name writes a lawful e = (let at = place-for ps name i e in on at
 
 -- ---- a pipe is restored
 
-or_none : (a b : Bool) → (a || b) ≡ false → (a ≡ false) × (b ≡ false)
-or_none true b e = absurd (true≢false e)
-or_none false b e = (refl, e)
-
 any-none : (g : Option Pipe → Bool) (ps : List (Option Pipe)) → list_any g ps ≡ false → (k : ℕ) → k < length ps → g (get_or ps k None) ≡ false
 any-none g [] none k h = absurd (omega (arith, h))
-any-none g (p ∷ ps) none zero h = (or_none (g p) (list_any g ps) none).0
-any-none g (p ∷ ps) none (suc k) h = any-none g ps (or_none (g p) (list_any g ps) none).1 k (omega (arith, h))
+any-none g (p ∷ ps) none zero h = (or_parts (g p) (list_any g ps) none).0
+any-none g (p ∷ ps) none (suc k) h = any-none g ps (or_parts (g p) (list_any g ps) none).1 k (omega (arith, h))
 
 pub restore-kept : (ps : List (Option Pipe)) (j : ℕ) (ends : Bool × Bool × Bool) (name bytes : List ℕ) → ArePipes ps → j < length ps → IsName name → list_any (is_named name) ps ≡ false → are_ends ends ≡ true
     → length bytes ≤ most_held → ArePipes (set ps j (Some (pipe_with ends name bytes)))

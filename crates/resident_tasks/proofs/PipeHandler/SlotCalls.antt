@@ -2,7 +2,7 @@
 use Rattle.std.proofs.Common.{Bool, List, None, Option, Some, ap, arith, cond, drop, eqb, false, get_or, leb, length, length-append, ltb, not, refl, set, subst, sym, take, true, ℕ, [], ◌&&◌, ◌++◌, ◌-◌, ◌<◌, ◌||◌, ◌∙◌, ◌∷◌, ◌≡◌, ◌≤◌}
 use Rattle.std.specs.List.{list_any}
 use Rattle.std.specs.Option.{is_none, is_some, unwrap_or}
-use Rattle.std.proofs.lemmas.Bool.{and_parts, le-leb, leb-true, ne_eqb, true≢false}
+use Rattle.std.proofs.lemmas.Bool.{and_parts, le-leb, leb-true, ne_eqb, true≢false, not-true}
 use Rattle.std.proofs.lemmas.List.{length-drop, length-take, length-map}
 use Rattle.circular_buffer.specs.Buffer.{buffer}
 use Rattle.kernel_model.specs.KernelRecord.Kernel.{Pipe}
@@ -173,10 +173,6 @@ pub open-there : (slots : List Slot) (i : ℕ) (w b : Bool) (s : Slot) → i < l
 open-there slots i w b s inside at e = ap (is_open w) (at-slot slots i s inside at) ∙ sym e
 
 -- ---- restoring
-
-not-true : (b : Bool) → not b ≡ true → b ≡ false
-not-true true e = absurd (true≢false (sym e))
-not-true false e = refl
 
 -- the tests, one by one
 module _ (slots : List Slot) (k : ℕ) (ends : Bool × Bool × Bool) (name bytes : List ℕ) where

@@ -1,27 +1,13 @@
 -- What the test of a buffer's words says.
 use Rattle.std.proofs.Common.{◌≡◌, ◌↔◌, ℕ, zero, suc, ◌+◌, ◌<◌, ◌≤◌, Bool, true, false, not, IsTrue, ◌||◌, ltb, inl, inr, refl, sym, ap, ◌∙◌, subst, arith}
 use Rattle.std.specs.List.{list_any, range_with_len}
-use Rattle.std.proofs.lemmas.Bool.{cases_eq, cases_lt, lt-ltb, not-true}
+use Rattle.std.proofs.lemmas.Bool.{cases_eq, cases_lt, lt-ltb, not-true, or_parts}
 use Rattle.kernel_lists.specs.OwnedWords.Owned.{owners}
 use Rattle.kernel_model.specs.KernelRecord.Changes.{AreUnowned}
 use Rattle.kernel_model.specs.KernelRecord.Lists.{Lists}
 use Rattle.kernel_model.specs.KernelRecord.Owned.{owned}
-use Rattle.kernel_calls.proofs.PacketCalls.PacketTests.{neither}
 use Rattle.resident_tasks.specs.ResidentRequests.Buffers.{covered, is_unowned}
-
-any-none : (f : ℕ → Bool) (n a : ℕ) → ((c : ℕ) → a ≤ c → c < a + n → f c ≡ false) → list_any f (range_with_len a n) ≡ false
-any-none f zero a none = refl
-any-none f (suc n) a none =
-    ap (λ b. b || list_any f (range_with_len (a + 1) n)) (none a (omega arith) (omega arith)) ∙ any-none f n (a + 1) (λ c low high. none c (omega (arith, low)) (omega (arith, high)))
-
-none-each : (f : ℕ → Bool) (n a : ℕ) → list_any f (range_with_len a n) ≡ false → (c : ℕ) → a ≤ c → c < a + n → f c ≡ false
-none-each f zero a none c low high = absurd (omega (arith, low, high))
-none-each f (suc n) a none c low high =
-    let both = neither (f a) (list_any f (range_with_len (a + 1) n)) none in
-    elim (cases_eq c a) [
-      | inl e ↦ ap f e ∙ both.0
-      | inr ne ↦ none-each f n (a + 1) both.1 c (omega (arith, low, ne)) (omega (arith, high))
-    ]
+use Rattle.kernel_calls.proofs.PacketCalls.PacketTests.{any-none, none-each}
 
 -- the words of a buffer that passes are nobody's, and the other way round
 pub unowned-words : (l : Lists) (a n : ℕ) → is_unowned l a n ≡ true → AreUnowned l a (a + covered n)

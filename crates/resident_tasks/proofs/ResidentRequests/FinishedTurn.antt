@@ -28,18 +28,7 @@ use Rattle.kernel_calls.proofs.PacketCalls.HeldPlaces.{HasFirst, first-there, he
 use Rattle.resident_tasks.specs.ResidentRequests.Answers.{IsFinished, finished, finished_by}
 use Rattle.resident_tasks.specs.ResidentRequests.Requests.{RunsResident, work}
 use Rattle.resident_tasks.proofs.ResidentRequests.RunningResident.{resident-at, resident-first, resident-runs, resident-state}
-
-waits-more : (f b h : ℕ) → f ≡ 0 → f + b + h + 4 ≡ 4 + b + h
-waits-more f b h e = omega arith
-
--- the state of a task that waits is another
-waiting-exchange : (version : ℕ) (t : Task) (n : ℕ)
-    → Exchange (task_words version t n) (task_words version (waiting t) n) ((t.address + 4, state_word t) ∷ []) ((t.address + 4, state_word (waiting t)) ∷ [])
-waiting-exchange version t n =
-    exchange-right ((t.address, n) ∷ name_words t) _ _ _ _
-    (exchange-left (state_words version t) (state_words version (waiting t)) (fault_words version t ++ (queue_words (queue_head t.address) t.queue ++ words_of_coroutines t.address t.coroutines)) _ _
-    (exchange-row t.address 4 (state_word t) (state_word (waiting t)) []
-    (t.flags ∷ stack_of version t ∷ t.highest ∷ globals_of version t ∷ t.maker ∷ first_of (λ m. m) t.modules 0 ∷ t.saved.a ∷ t.saved.b ∷ t.saved.c ∷ t.saved.p ∷ t.saved.g ∷ t.saved.pc ∷ [])))
+use Rattle.kernel_calls.proofs.PacketCalls.WaitCall.{waits-more, waiting-exchange}
 
 resident-waits : (l : Lists) (t : Task) → is_guest_id t.id ≡ false → IsTask l t → IsTask l (waiting t)
 resident-waits l t resident h =

@@ -10,7 +10,7 @@ use Rattle.std.proofs.lemmas.List.Sums.{sum_by-cons}
 use Rattle.std.proofs.lemmas.Slice.Eq.{bytes_eq-Decides}
 use Rattle.ram_disc.specs.Disc.{AreInOrder, Disc, File, IsDisc, Stream, has_name, sectors_of, sectors_taken, stream_at}
 use Rattle.ram_disc.specs.Name.{IsName, is_name}
-use Rattle.ram_disc.proofs.NameLemmas.{name_read}
+use Rattle.ram_disc.proofs.NameLemmas.{name_read, is_name-from}
 use Rattle.kernel_model.specs.KernelRecord.Kernel.{Pipe}
 use Rattle.kernel_model.specs.KernelRecord.Pipes.{ArePipes as StandAsPipes}
 use Rattle.saved_text.specs.ImageForm.{AreFiles, ArePipes, AreStreams, flag}
@@ -19,17 +19,10 @@ use Rattle.saved_machine.specs.ImagePrint.SavedImage.{numbered, numbered_pipes, 
 
 -- ---- names
 
-lawful-name : (bytes : List ℕ) → IsName bytes → is_name bytes ≡ true
-lawful-name bytes h = by (is_name bytes) (name_read bytes (Some bytes) (h, refl))
-  where
-    by : (b : Bool) → Some bytes ≡ cond b (Some bytes) None → b ≡ true
-    by true e = refl
-    by false e = cc
-
 pub are-files : (fs : List File) → AreInOrder (map (λ f. f.name) fs) → AllByRecursion (λ f. IsName f.name) fs → AreFiles (map saved_file fs)
 are-files [] order lawful = tt
-are-files (f ∷ []) order lawful = lawful-name f.name lawful.0
-are-files (f ∷ g ∷ fs) order lawful = (lawful-name f.name lawful.0, order.0.0, are-files (g ∷ fs) order.1 lawful.1)
+are-files (f ∷ []) order lawful = is_name-from f.name lawful.0
+are-files (f ∷ g ∷ fs) order lawful = (is_name-from f.name lawful.0, order.0.0, are-files (g ∷ fs) order.1 lawful.1)
 
 -- the name of a file that is there is lawful
 named-lawful : (name : List ℕ) (fs : List File) → AllByRecursion (λ f. IsName f.name) fs → list_any (has_name name) fs ≡ true → is_name name ≡ true
@@ -37,7 +30,7 @@ named-lawful name [] lawful there = cc
 named-lawful name (f ∷ fs) lawful there = by (bytes_eq f.name name) (λ e. (bytes_eq-Decides f.name name).0 e) there (named-lawful name fs lawful.1)
   where
     by : (b : Bool) → (b ≡ true → f.name ≡ name) → (b || list_any (has_name name) fs) ≡ true → (list_any (has_name name) fs ≡ true → is_name name ≡ true) → is_name name ≡ true
-    by true same there others = ap is_name (sym (same refl)) ∙ lawful-name f.name lawful.0
+    by true same there others = ap is_name (sym (same refl)) ∙ is_name-from f.name lawful.0
     by false same there others = others there
 
 -- ---- sizes
@@ -104,7 +97,7 @@ numbered-named : (ps : List (Option Pipe)) (k floor : ℕ) → floor ≤ k → 1
 numbered-named [] k floor low one few named = tt
 numbered-named (None ∷ ps) k floor low one few named = numbered-named ps (k + 1) floor (omega (arith, low)) (omega arith) (omega (arith, few)) (λ i p e. named (suc i) p e)
 numbered-named (Some p ∷ ps) k floor low one few named =
-    (low, (pipe-numbers k p.reading p.writing p.written one (omega (arith, few)), lawful-name p.name (named 0 p refl)), numbered-named ps (k + 1) (k + 1) (omega arith) (omega arith) (omega (arith, few)) (λ i q e. named (suc i) q e))
+    (low, (pipe-numbers k p.reading p.writing p.written one (omega (arith, few)), is_name-from p.name (named 0 p refl)), numbered-named ps (k + 1) (k + 1) (omega arith) (omega arith) (omega (arith, few)) (λ i q e. named (suc i) q e))
 
 pub are-pipes : (ps : List (Option Pipe)) → StandAsPipes ps → ArePipes 0 (numbered_pipes ps)
 are-pipes ps h = numbered-named ps 1 0 (omega arith) (omega arith) (let n = h.places in omega (arith, n)) (λ i p e. (h.each i p e).name)

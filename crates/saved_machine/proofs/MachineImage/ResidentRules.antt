@@ -20,6 +20,7 @@ use Rattle.saved_machine.proofs.MachineImage.PlacedPipes.{number as pipe_number}
 use Rattle.saved_machine.proofs.MachineImage.PlacedThings.{placed-at, placed-none, placed-there}
 use Rattle.saved_machine.proofs.MachineImage.RestoredPipes.{pipes-rise}
 use Rattle.saved_machine.proofs.MachineImage.SetStreams.{number, streams-rise}
+use Rattle.kernel_machine.proofs.MachineBoot.LoadedDiscs.{none-shut as shut-none}
 
 -- ---- the shell's stream
 
@@ -70,10 +71,6 @@ is-some lent xs b told is f =
       | inl some ↦ some
       | inr none ↦ absurd (eqb-false (length lent) 0 (sym told ∙ f) (omega (arith, none, ap length is)))
     ]
-
-shut-none : (n : ℕ) → AreShut (replicate n None)
-shut-none zero = tt
-shut-none (suc n) = (refl, shut-none n)
 
 -- what is shut has no open stream
 shut-open : (ss : List (Option Stream)) (i : ℕ) (s : Stream) → AreShut ss → get_or ss i None ≡ Some s → ⊥

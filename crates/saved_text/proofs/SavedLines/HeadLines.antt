@@ -14,7 +14,8 @@ use Rattle.session_text.specs.Statements.{number_field}
 use Rattle.session_text.proofs.Blanks.{number_field-again, number_field-ok}
 use Rattle.saved_text.specs.SavedLines.Heads.{IsConsoleLine, IsRegsLine, IsRingLine, IsShellLine, are_regs, console_of, hex_field, regs_line, regs_or_refusal, ring_of, shell_of, six_numbers}
 use Rattle.saved_text.specs.SavedLines.HexText.{bytes_of}
-use Rattle.saved_text.proofs.SavedLines.LineFields.{Some-same, and_then-ok, hex_field-again, hex_field-ok}
+use Rattle.saved_text.proofs.SavedLines.LineFields.{Some-same, hex_field-again, hex_field-ok}
+use Rattle.session_text.proofs.StatementLines.{and_then-ok}
 
 -- ---- registers
 

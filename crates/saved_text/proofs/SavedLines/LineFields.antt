@@ -11,11 +11,7 @@ use Rattle.saved_text.specs.SavedLines.Heads.{hex_field}
 use Rattle.saved_text.specs.SavedLines.HexText.{bytes_of, is_hex}
 use Rattle.saved_text.specs.SavedLines.Statements.{field_before_blank}
 use Rattle.saved_text.proofs.SavedLines.HexTexts.{bytes_of-bytes, bytes_of-ok, is_hex-encode}
-
--- a step that gave a value
-pub and_then-ok : {A B : Type 0} (o : Option A) (f : A → Option B) (y : B) → option_and_then f o ≡ Some y → (x : A) × (o ≡ Some x) × (f x ≡ Some y)
-and_then-ok None f y e = cc e
-and_then-ok (Some x) f y e = (x, refl, e)
+use Rattle.session_text.proofs.StatementLines.{and_then-ok}
 
 pub Some-same : {A : Type 0} (x y : A) → Some x ≡ Some y → x ≡ y
 Some-same x y e = cc

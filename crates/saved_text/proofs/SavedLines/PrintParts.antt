@@ -6,16 +6,14 @@ use Rattle.std.proofs.lemmas.List.{take_all}
 use Rattle.hex.specs.Hex.{encode_lower, encode_with}
 use Rattle.saved_text.specs.SavedLines.Canonical.{printed_console, printed_shell, statement_text}
 use Rattle.saved_text.specs.SavedLines.Statements.{Pipe}
+use Rattle.word_store.proofs.Rows.{range_none}
+use Rattle.session_text.proofs.PrintedTexts.{encode_lower-append}
 
 -- ---- ranges
 
 -- all of a text
 pub whole_range : (text : List ℕ) → slice_range text 0 (length text) ≡ text
 whole_range text = take_all (length text - 0) text (omega arith)
-
--- none of it
-no_range : (text : List ℕ) (from : ℕ) → slice_range text from from ≡ []
-no_range text from = let none : from - from ≡ 0 = omega arith in ap (λ (k : ℕ). take k (drop from text)) none
 
 drop_none : (k : ℕ) → drop {A = ℕ} k [] ≡ []
 drop_none zero = refl
@@ -47,15 +45,10 @@ byte_inside (c ∷ text) (suc i) lt = byte_inside text i (omega arith)
 
 -- ---- hex
 
-encode_lower-append : (a b : List ℕ) → encode_lower (a ++ b) ≡ encode_lower a ++ encode_lower b
-unfolding encode_with
-encode_lower-append [] b = refl
-encode_lower-append (x ∷ a) b = ap (λ t. encode_lower (x ∷ []) ++ t) (encode_lower-append a b)
-
 -- no bytes
 pub no_hex : (text : List ℕ) (from : ℕ) → encode_lower (slice_range text from from) ≡ []
 unfolding encode_with
-no_hex text from = ap encode_lower (no_range text from)
+no_hex text from = ap encode_lower (range_none text from)
 
 -- the hex of a range, cut round a byte of it
 pub hex_at : (text : List ℕ) (from i to : ℕ) → from ≤ i → i < to → to ≤ length text
@@ -67,7 +60,7 @@ hex_at text from i to low high inside =
 -- one byte more
 pub hex_more : (text : List ℕ) (from i : ℕ) → from ≤ i → i < length text → encode_lower (slice_range text from (i + 1)) ≡ encode_lower (slice_range text from i) ++ encode_lower (get_or text i 0 ∷ [])
 hex_more text from i low inside =
-    ap encode_lower (range_at text from i (i + 1) low (omega arith) (omega arith) ∙ ap (λ (t : List ℕ). slice_range text from i ++ get_or text i 0 ∷ t) (no_range text (i + 1)))
+    ap encode_lower (range_at text from i (i + 1) low (omega arith) (omega arith) ∙ ap (λ (t : List ℕ). slice_range text from i ++ get_or text i 0 ∷ t) (range_none text (i + 1)))
     ∙ encode_lower-append (slice_range text from i) (get_or text i 0 ∷ [])
 
 -- ---- lines with bytes

@@ -10,11 +10,12 @@ use Rattle.module_text.specs.TextReader.Fields.{IsNumberLine}
 use Rattle.module_text.specs.TextReader.Numbers.{IsNumber}
 use Rattle.module_text.proofs.TextReader.NumberLemmas.{decimal_number}
 use Rattle.module_text.proofs.TextReader.PlainLines.{IsPlain, plain_append, plain_digits, plain_literal}
-use Rattle.session_text.proofs.SessionTexts.{plain_bytes, plain_field}
+use Rattle.session_text.proofs.SessionTexts.{plain_bytes, plain_field, plain_number}
 use Rattle.saved_text.specs.SavedLines.Canonical.{IsPrintable, printed_console, printed_regs, printed_ring, printed_shell, statement_text}
 use Rattle.saved_text.specs.SavedLines.Heads.{IsConsoleLine, IsRegsLine, IsRingLine, IsShellLine}
 use Rattle.saved_text.specs.SavedLines.Statements.{Statement, File, Bytes, Stream, Pipe, Key, Word, Go, States}
-use Rattle.saved_text.proofs.SavedLines.StatementLines.{IsBytes-one, word_bytes}
+use Rattle.saved_text.proofs.SavedLines.StatementLines.{word_bytes}
+use Rattle.session_text.proofs.StatementTexts.{IsBytes-one}
 
 -- ---- what is printed
 
@@ -62,9 +63,6 @@ plain_field_before digits text n h k = plain_append digits (32 ∷ text) (plain_
 
 plain_colon : (bytes : List ℕ) → IsBytes bytes → IsPlain (codes ":" ++ encode_lower bytes)
 plain_colon bytes h = ((plain_literal (codes ":") refl).0, plain_hex bytes h)
-
-pub plain_number : (word line : List ℕ) (n : ℕ) → IsPlain word → IsNumberLine word n line → IsPlain line
-plain_number word line n w h = subst IsPlain (sym h.1) (plain_append word h.0 w (plain_digits h.0 h.2.numeral.1))
 
 pub plain_states : (s : Statement) (line : List ℕ) → States s line → IsPlain line
 plain_states (File name) line h = subst IsPlain (sym h.1) (plain_append (codes "FILE ") name (plain_literal (codes "FILE ") refl) (plain_field name h.0))

@@ -19,7 +19,9 @@ use Rattle.saved_text.specs.SavedLines.Heads.{hex_field}
 use Rattle.saved_text.specs.SavedLines.HexText.{bytes_of, is_hex}
 use Rattle.saved_text.specs.SavedLines.Statements.{Statement, File, Bytes, Stream, Pipe, Key, Word, Go, States, byte_line_of, byte_of, field_before_blank, file_of, go_of, key_of, pipe_of, statement_of, stream_of, word_line_of, word_of}
 use Rattle.saved_text.proofs.SavedLines.HexTexts.{bytes_of-bytes, bytes_of-ok, is_hex-encode, length-digits}
-use Rattle.saved_text.proofs.SavedLines.LineFields.{Some-same, and_then-ok, field_before_blank-again, field_before_blank-ok, hex_field-again, hex_field-ok}
+use Rattle.saved_text.proofs.SavedLines.LineFields.{Some-same, field_before_blank-again, field_before_blank-ok, hex_field-again, hex_field-ok}
+use Rattle.session_text.proofs.StatementLines.{and_then-ok}
+use Rattle.session_text.proofs.StatementTexts.{IsBytes-one}
 
 -- ---- from what was stated to the bytes
 
@@ -165,10 +167,6 @@ bytes_again bytes some few h =
     let a : nat_le 2 (length (encode_lower bytes)) ≡ true = grind (arith, nat_tests) in
     let b : nat_le (length (encode_lower bytes)) 64 ≡ true = grind (arith, nat_tests) in
     rw (p.0, a, b, p.1) refl
-
-pub IsBytes-one : (byte : ℕ) → byte < 256 → IsBytes (byte ∷ [])
-IsBytes-one byte h zero = h
-IsBytes-one byte h (suc i) = omega arith
 
 byte_by : (digits bytes : List ℕ) → is_hex digits ≡ true → length digits ≡ 2 → bytes_of digits ≡ bytes → byte_of digits ≡ Some (slice_index bytes 0)
 byte_by digits bytes h two e =

@@ -22,6 +22,7 @@ use Rattle.shell.specs.declared.shell_listings.blocks.BlockCounts.{BlockCounts}
 use Rattle.shell.specs.ShellListings.BlockCounts.{counted, counts_from, counts_of, no_counts, with_free, with_used}
 use Rattle.shell.specs.ShellListings.BlockLine.{block_line, count_text, free_blocks, largest_run, line_of_counts, most_in_block_line, used_blocks, words_of_blocks}
 use Rattle.shell.proofs.ShellListings.LineLengths.{few_digits}
+use Rattle.kernel_model.proofs.WordKinds.OwnedMarks.{size-low}
 
 -- one more block has its words
 words-more : (b : Block) (bs : List Block) → words_of_blocks (b ∷ bs) ≡ b.size + words_of_blocks bs
@@ -165,12 +166,6 @@ counts-length a b c = simp length-append (omega arith)
 line_of-short : (e : BlockCounts) → MayCountAll e [] → length (line_of e) ≤ most_in_block_line
 line_of-short e m =
     omega (arith, counts-length (count_text (codes "used ") e.used e.used_words) (count_text (codes "free ") e.free e.free_words) (decimal e.largest), count_text-length (codes "used ") (decimal e.used) (decimal e.used_words), count_text-length (codes "free ") (decimal e.free) (decimal e.free_words), few_digits e.used (omega (arith, m.used, m.words)), few_digits e.used_words (omega (arith, m.words)), few_digits e.free (omega (arith, m.free, m.words)), few_digits e.free_words (omega (arith, m.words)), few_digits e.largest (omega (arith, m.largest, m.words)))
-
-size-low : (l : Lists) → AreValid l → l.size < 2 ^ 32
-size-low l v =
-    let le : leb l.size (most_words l.version) ≡ true = (and_parts (leb 1024 l.size) (leb l.size (most_words l.version)) (and_parts (leb 1024 l.size && leb l.size (most_words l.version)) _ v.numbers.size).0).1 in
-    let most : most_words l.version ≤ 4194304 = elim (eqb l.version 1) as (λ b. cond b 262144 4194304 ≤ 4194304) [ true ↦ omega arith | false ↦ omega arith ] in
-    omega (arith, leb-true l.size (most_words l.version) le, most)
 
 pub block_line-short : (l : Lists) → AreValid l → length (block_line l.blocks) ≤ most_in_block_line
 block_line-short l v =

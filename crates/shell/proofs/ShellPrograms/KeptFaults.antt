@@ -101,7 +101,7 @@ record FaultsQueued (l : Lists) : Type 0 where
   wait : FaultsStand l
 
 -- the reporter has no packet from a guest of which none is out
-none-from : (n : ℕ) (ts : List Task) → list_any (λ p. eqb p.sender n) (flat_map resident_packets ts) ≡ false → AllByRecursion (λ p. eqb p.sender n ≡ false) (work_of 2 ts)
+pub none-from : (n : ℕ) (ts : List Task) → list_any (λ p. eqb p.sender n) (flat_map resident_packets ts) ≡ false → AllByRecursion (λ p. eqb p.sender n ≡ false) (work_of 2 ts)
 none-from n [] e = tt
 none-from n (t ∷ ts) e =
     let parts = or_parts (list_any (λ p. eqb p.sender n) (resident_packets t)) (list_any (λ p. eqb p.sender n) (flat_map resident_packets ts)) (sym (list_any-append (λ p. eqb p.sender n) (resident_packets t) (flat_map resident_packets ts)) ∙ e) in
@@ -114,7 +114,7 @@ none-from n (t ∷ ts) e =
     on false is none rest = rest
 
 -- a guest with a fault that was not reported is one of the tasks
-some-own : (id : ℕ) (ts : List Task) → has_unreported id ts ≡ true → list_any is_unreported ts ≡ true
+pub some-own : (id : ℕ) (ts : List Task) → has_unreported id ts ≡ true → list_any is_unreported ts ≡ true
 some-own id [] e = e
 some-own id (t ∷ ts) e = on (eqb t.id id && is_guest_id id && is_unreported t) refl e (some-own id ts)
   where

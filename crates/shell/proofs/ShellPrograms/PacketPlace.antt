@@ -27,6 +27,7 @@ use Rattle.kernel_model.specs.declared.kernel_record.numbers.TheConstants.{SHELL
 use Rattle.shell.specs.ShellPrograms.KeptLists.{KeepsResidents}
 use Rattle.shell.specs.ShellPrograms.ShellPacket.{HasPacket}
 use Rattle.shell.proofs.ShellPrograms.PacketWords.{held-by, packet-words, packets-more, row-there, rows-packets}
+use Rattle.kernel_calls.proofs.BlockCalls.IdleBlocks.{queued-lodged}
 
 -- it lies in the resident block
 pub packet-lodged : (l : Lists) → AreValid l → l.residents ≡ true → AreData l.blocks SHELL_PACKET 8
@@ -41,14 +42,6 @@ packet-five l v residents = HasBlock-data l 201 (last_resident_word l) SHELL_PAC
 work-lodged : (l : Lists) (ts : List Task) → AllByRecursion (λ t. AllByRecursion (MayStand l (Work t.id)) t.queue) ts → AllByRecursion (λ p. AreData l.blocks p.address 5) (work_packets ts)
 work-lodged l [] all = tt
 work-lodged l (t ∷ ts) all = all-append (λ p. AreData l.blocks p.address 5) t.queue (work_packets ts) (lodged l (Work t.id) t.queue all.0) (work-lodged l ts all.1)
-
-queued-lodged : (l : Lists) → AreValid l → AllByRecursion (λ p. AreData l.blocks p.address 5) (queued l)
-queued-lodged l v =
-    let P : QueuedPacket → Type 0 = λ p. AreData l.blocks p.address 5 in
-    all-append P (work_packets l.tasks) (l.clock ++ (l.keyboard ++ (l.output ++ l.pending))) (work-lodged l l.tasks v.queues.tasks)
-    (all-append P l.clock (l.keyboard ++ (l.output ++ l.pending)) (lodged l Clock l.clock v.queues.clock)
-    (all-append P l.keyboard (l.output ++ l.pending) (lodged l Keyboard l.keyboard v.queues.keyboard)
-    (all-append P l.output l.pending (lodged l Output l.output v.queues.output) (lodged l Pending l.pending v.queues.pending))))
 
 module _ (l : Lists) (v : AreValid l) (residents : l.residents ≡ true) (a : ℕ) (low : 284 ≤ a) (high : a ≤ 286) where
   abbrev last : ℕ

@@ -30,7 +30,7 @@ use Rattle.kernel_model.specs.KernelRecord.ValidLists.{AreValid}
 use Rattle.kernel_model.specs.KernelRecord.ValidTasks.{CoroutinesStand, IsCoroutine, IsTask, resident_place}
 use Rattle.kernel_model.specs.KernelRecord.Versions.{head_words_of}
 use Rattle.kernel_model.proofs.KernelRecord.EachMember.{find-passes}
-use Rattle.kernel_model.proofs.KernelRecord.FollowedBlocks.{IsWithin, found-holding, found-within}
+use Rattle.kernel_model.proofs.KernelRecord.FollowedBlocks.{IsWithin, found-holding, found-within, starts-low}
 use Rattle.kernel_model.proofs.KernelRecord.OwnerCounts.{owners-residents, packets_count}
 use Rattle.kernel_model.proofs.KernelRecord.QueueCounts.{owners-packet}
 use Rattle.kernel_model.proofs.KernelRecord.QueuedPackets.{work_packets}
@@ -39,12 +39,6 @@ use Rattle.kernel_model.proofs.KernelRecord.TaskCounts.{further_count, owners-ta
 use Rattle.kernel_model.proofs.KernelRecord.TaskPlaces.{last-resident}
 
 -- ---- blocks
-
--- no block begins before the first
-starts-low : (at : ℕ) (bs : List Block) (end a : ℕ) → Follow at bs end → a < at → owners a (blocks_words bs) ≡ 0
-starts-low at [] end a f low = refl
-starts-low at (b ∷ bs) end a f low =
-    omega (arith, hit-other a b.start (λ e. absurd (omega (arith, e, f.0, low))), starts-low (block_end b) bs end a f.3 (omega (arith, f.0, low)))
 
 -- none begins at an address that a block holds
 held-no_start : (at : ℕ) (bs : List Block) (end a : ℕ) (b : Block) → Follow at bs end → holding a bs ≡ Some b → owners a (blocks_words bs) ≡ 0

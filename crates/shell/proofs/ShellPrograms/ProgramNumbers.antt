@@ -11,15 +11,7 @@ use Rattle.kernel_model.proofs.KernelRecord.RootCounts.{highest-high, highest-lo
 use Rattle.kernel_calls.specs.TaskCalls.CreateTask.{MayCreate, free_id}
 use Rattle.kernel_calls.proofs.TaskCalls.ReadNumbers.{free-read, highest-read}
 use Rattle.shell.specs.ShellPrograms.StartedProgram.{next_number}
-
--- a number that is found in a range lies in it
-found-range : (f : ℕ → Bool) (a n x : ℕ) → find f (range_with_len a n) ≡ Some x → (a ≤ x) × (x < a + n)
-found-range f a zero x e = cc
-found-range f a (suc n) x e = on (f a) e (found-range f (a + 1) n x)
-  where
-    on : (b : Bool) → cond b (Some a) (find f (range_with_len (a + 1) n)) ≡ Some x → (find f (range_with_len (a + 1) n) ≡ Some x → (a + 1 ≤ x) × (x < a + 1 + n)) → (a ≤ x) × (x < a + suc n)
-    on true k more = (let same : a ≡ x = cc in (omega (arith, same), omega (arith, same)))
-    on false k more = (let r = more k in (omega (arith, r.0), omega (arith, r.1)))
+use Rattle.kernel_calls.proofs.TaskCalls.CreationTests.{found-range}
 
 -- a free number is one of a guest's
 pub free-range : (l : Lists) (n : ℕ) → free_id l ≡ Some n → (5 ≤ n) × (n ≤ highest_id_of l.version)

@@ -11,15 +11,7 @@ use Rattle.kernel_lists.proofs.GetvecChain.SizeWords.{Follow-order}
 use Rattle.kernel_lists.proofs.GetvecChain.UsedBlocks.{has_data-true}
 use Rattle.kernel_model.specs.KernelRecord.ValidBlocks.{AreData}
 use Rattle.store_claims.specs.ListClaims.BlockData.{is_used_data}
-
-has_data-behind : (b : Block) (a : ℕ) → block_end b ≤ a → has_data b a ≡ false
-has_data-behind b a behind = and_right (ltb b.start a) (ltb a (block_end b)) (le-ltb a (block_end b) behind)
-
--- no block begins before the first one
-starts-low : (at : ℕ) (bs : List Block) (end a : ℕ) → Follow at bs end → a < at → owners a (blocks_words bs) ≡ 0
-starts-low at [] end a f low = refl
-starts-low at (b ∷ bs) end a f low =
-    omega (arith, hit-other a b.start (λ e. absurd (omega (arith, e, f.0, low))), starts-low (block_end b) bs end a f.3 (omega (arith, f.0, low)))
+use Rattle.kernel_model.proofs.KernelRecord.FollowedBlocks.{has_data-behind, starts-low}
 
 abbrev here : Block → ℕ → Bool
 here b a = not b.free && has_data b a

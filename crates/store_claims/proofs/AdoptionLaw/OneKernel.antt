@@ -16,16 +16,9 @@ use Rattle.kernel_model.specs.KernelRecord.ValidKernel.{IsValid}
 use Rattle.kernel_model.proofs.KernelRecord.RecoveredLists.{lists-back}
 use Rattle.store_claims.specs.AdoptionLaw.OtherParts.{OtherParts}
 use Rattle.store_claims.specs.AdoptionLaw.Adoption.{HasKernel, IsAdopted, OthersStand, StandsFor, kernel_in}
+use Rattle.kernel_model.proofs.KernelRecord.SettledWords.{word_in-some}
 
 -- ---- the plain words of a store beside some lists
-
-word_in-some : (a : ℕ) (es : Pairs) → 0 < owners a es → is_some (word_in a es) ≡ true
-word_in-some a [] some = absurd (omega (arith, some))
-word_in-some a (e ∷ es) some = on (eqb a e.0) refl some (word_in-some a es)
-  where
-    on : (b : Bool) → eqb a e.0 ≡ b → 0 < cond b 1 0 + owners a es → (0 < owners a es → is_some (word_in a es) ≡ true) → is_some (cond b (Some e.1) (word_in a es)) ≡ true
-    on true e some more = refl
-    on false e some more = more (omega (arith, some))
 
 module _ (s : List ℕ) (l : Lists) where
   abbrev plain_word : ℕ → Option ℕ

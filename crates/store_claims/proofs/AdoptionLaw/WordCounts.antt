@@ -48,7 +48,7 @@ count-queue a s head = count-packets a s (queue_at s head) 0
 
 -- ---- tasks
 
-map-coroutines : (s : List ℕ) (cs : List ℕ) → map coroutine_address (map (coroutine_in s) cs) ≡ cs
+pub map-coroutines : (s : List ℕ) (cs : List ℕ) → map coroutine_address (map (coroutine_in s) cs) ≡ cs
 map-coroutines s [] = refl
 map-coroutines s (c ∷ cs) = ap (λ z. c ∷ z) (map-coroutines s cs)
 

@@ -19,11 +19,11 @@ leads-more s t at [] to p h read some other = (ap (λ z. get_or s z 0) h ∙ sym
 leads-more s t at (c ∷ cs) to p h read some other = (h.0, h.1, h.2, leads-more s t (parent_cell c) cs to p h.3 read some other)
 
 -- a word that does not end the walk
-goes : (c t : ℕ) → c ≢ 0 → c ≢ t → (eqb c 0 || eqb c t) ≡ false
+pub goes : (c t : ℕ) → c ≢ 0 → c ≢ t → (eqb c 0 || eqb c t) ≡ false
 goes c t some other = λ i. ne_eqb c 0 some i || ne_eqb c t other i
 
 -- one that does
-ends : (c t : ℕ) → (c ≡ 0) ⊎ (c ≡ t) → (eqb c 0 || eqb c t) ≡ true
+pub ends : (c t : ℕ) → (c ≡ 0) ⊎ (c ≡ t) → (eqb c 0 || eqb c t) ≡ true
 ends c t (inl none) = ap (λ b. b || eqb c t) (eq-eqb c 0 none)
 ends c t (inr root) = on (eqb c 0)
   where

@@ -7,6 +7,7 @@ use Rattle.std.proofs.lemmas.List.{get_or_past}
 use Rattle.word_store.specs.Count.{times}
 use Rattle.word_store.proofs.Counts.{times-above, times-append, times-below, times-within}
 use Rattle.store_claims.specs.WordClaims.Marks.{AreClaimed, AreOpen, IsSet, is_open}
+use Rattle.kernel_model.proofs.WordKinds.Marks.{inside}
 
 -- a word is one of the n from `first` on, or is before them, or behind them
 pub data Place (a first n : ℕ) : Type 0 where
@@ -22,9 +23,6 @@ place a first n =
         | inr behind ↦ Outside (times-above a first n (omega (arith, behind))) (grind (arith, nat_tests, behind))
       ]
     ]
-
-inside : (a first n : ℕ) → first ≤ a → a < first + n → (leb first a && ltb a (first + n)) ≡ true
-inside a first n above below = grind (arith, nat_tests, above, below)
 
 -- an open word has a mark
 pub open-low : (marks : List Bool) (a : ℕ) → is_open marks a ≡ true → a < length marks

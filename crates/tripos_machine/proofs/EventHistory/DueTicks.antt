@@ -7,11 +7,9 @@ use Rattle.kernel_lists.specs.declared.packet_queue.events.KernelEvent.{KernelEv
 use Rattle.kernel_lists.specs.declared.packet_queue.events.KernelEvent.TheVariants.{Accepted, Taken, Dequeued, Runs}
 use Rattle.tripos_machine.specs.EventHistory.Ledger.{Entry, Follows, Ledger, NeverFall, Timed, after_event, arrived, clock, entry_on}
 use Rattle.tripos_machine.proofs.EventHistory.Queues.{queue-ways}
+use Rattle.kernel_calls.proofs.PacketCalls.DueOrder.{later}
 
 -- ---- one comes, or goes
-
-later : (a b : ℕ) → leb a b ≡ false → b ≤ a
-later a b e = omega (arith, leb-false a b e)
 
 module _ (d : ℕ) where
   high-insert : (f : Entry → Bool) (x : Entry) (ys : List Entry) → d ≤ x.due → AllByRecursion (λ y. d ≤ y.due) ys → AllByRecursion (λ y. d ≤ y.due) (insert_after f x ys)

@@ -29,9 +29,10 @@ use Rattle.tripos_machine.specs.EventHistory.Ledger.{IsNowhere, stands_in}
 use Rattle.tripos_machine.proofs.EventHistory.Packets.{some-counted}
 use Rattle.tripos_machine.specs.PacketHistory.Queues.{IsDueIn, Moves, ledger_of}
 use Rattle.tripos_machine.proofs.PacketHistory.Ledgers.{IsNamed, ledger-task, number_of}
-use Rattle.tripos_machine.proofs.PacketHistory.Moves.{IsDueBy, low-named, move-accepted, move-dequeued, move-none, move-taken, signed-low}
+use Rattle.tripos_machine.proofs.PacketHistory.Moves.{IsDueBy, low-named, move-accepted, move-dequeued, move-none, move-taken}
 use Rattle.tripos_machine.proofs.PacketHistory.ValidLedgers.{IsNumber, IsPlaceOf, count-place, has-place, ledger-count, task-number}
 use Rattle.kernel_calls.proofs.CallAnswers.Refusals.{passed-tests}
+use Rattle.kernel_model.proofs.KernelDispatch.TakenWork.{signed-low}
 
 -- ---- the call by which a task takes its first packet, or waits
 

@@ -25,7 +25,7 @@ use Rattle.resident_tasks.specs.ConsoleHandler.Progress.{Progress, begun}
 use Rattle.resident_tasks.specs.ConsoleHandler.Reads.{put_off}
 use Rattle.shell.proofs.RunningShell.{flags-goes}
 use Rattle.tripos_machine.proofs.PacketHistory.Ledgers.{ledger-same}
-use Rattle.tripos_machine.proofs.PacketHistory.Moves.{low-named, move-accepted, moves-same, signed-low}
+use Rattle.tripos_machine.proofs.PacketHistory.Moves.{low-named, move-accepted, moves-same}
 use Rattle.tripos_machine.proofs.PacketHistory.SentEvents.{low-clock, turn-accepted}
 use Rattle.tripos_machine.proofs.PacketHistory.ConsoleParts.{Allows, parts-on, read_event, read_request, without_work, work_event, work_request}
 use Rattle.tripos_machine.proofs.PacketHistory.ConsoleTurns.{IsConsole, console-allows, has-residents, read-sender, work-sender}
@@ -34,6 +34,7 @@ use Rattle.tripos_machine.proofs.PacketHistory.FirstTaken.{TakesReads}
 use Rattle.tripos_machine.proofs.PacketHistory.FreePackets.{unqueued-nowhere}
 use Rattle.tripos_machine.proofs.PacketHistory.RequestMoves.{TurnMoves, finished-same}
 use Rattle.tripos_machine.proofs.PacketHistory.TakenMoves.{MovesInTurn, first-moved, none-moved, put_off-moves, returned-moves, same-moved, taken-moves, then-moved}
+use Rattle.kernel_model.proofs.KernelDispatch.TakenWork.{signed-low}
 
 module _ (due : KernelEvent → ℕ) where
   -- they lead there in the console's turn

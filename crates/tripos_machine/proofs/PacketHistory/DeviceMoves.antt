@@ -21,9 +21,10 @@ use Rattle.kernel_devices.specs.Keys.{met}
 use Rattle.kernel_devices.specs.Printed.{finished}
 use Rattle.tripos_machine.specs.PacketHistory.Queues.{Moves, ledger_of}
 use Rattle.tripos_machine.proofs.PacketHistory.Ledgers.{IsNamed, number_of}
-use Rattle.tripos_machine.proofs.PacketHistory.Moves.{low-named, move-accepted, move-none, move-taken, moves-then, nowhere-then, signed-low}
+use Rattle.tripos_machine.proofs.PacketHistory.Moves.{low-named, move-accepted, move-none, move-taken, moves-then, nowhere-then}
 use Rattle.tripos_machine.proofs.PacketHistory.ValidLedgers.{IsNumber, task-number, valid-once}
-use Rattle.tripos_machine.proofs.PacketHistory.StoredLists.{tick-valid}
+use Rattle.kernel_model.proofs.KernelDispatch.TakenWork.{signed-low}
+use Rattle.kernel_devices.proofs.TickLists.{tick-valid}
 
 -- the device's number
 device-named : (d : Device) → IsNamed (place_of d)

@@ -16,14 +16,11 @@ use Rattle.tripos_machine.specs.EventHistory.Ledger.{AreOnce, Follows, IsFirst, 
 use Rattle.tripos_machine.proofs.EventHistory.Following.{taken-nowhere, follows-join}
 use Rattle.tripos_machine.specs.PacketHistory.Queues.{Moves, clock_entry, entry_of, ledger_of, timed_by}
 use Rattle.tripos_machine.proofs.PacketHistory.Ledgers.{IsNamed, any-at, entries-end, entries-insert, entries-without, entries_at, ledger-at, ledger-put, number_of}
+use Rattle.kernel_model.proofs.KernelDispatch.TakenWork.{signed-low}
 
 pub timed-join : (due : KernelEvent → ℕ) (es fs : List KernelEvent) → timed_by due (es ++ fs) ≡ timed_by due es ++ timed_by due fs
 timed-join due [] fs = refl
 timed-join due (e ∷ es) fs = ap (λ z. record { event = e; due = due e } ∷ z) (timed-join due es fs)
-
--- a number of a task is what it is as a signed one, and is not 103
-pub signed-low : (n : ℕ) → n ≤ 63 → signed n ≡ pos n
-signed-low n low = ap (λ b. cond b (pos n) (pos n -ℤ pos (2 ^ 32))) (lt-ltb n (2 ^ 31) (omega (arith, low)))
 
 pub low-named : (n : ℕ) → n ≤ 63 → n ≢ pending_number
 low-named n low e = absurd (omega (arith, low, e))

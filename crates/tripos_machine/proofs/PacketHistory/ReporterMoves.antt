@@ -27,11 +27,12 @@ use Rattle.tripos_machine.specs.EventHistory.Ledger.{IsNowhere}
 use Rattle.tripos_machine.specs.PacketHistory.Queues.{ledger_of}
 use Rattle.tripos_machine.proofs.PacketHistory.FirstTaken.{TakesReads}
 use Rattle.tripos_machine.proofs.PacketHistory.Ledgers.{ledger-same, ledger-task}
-use Rattle.tripos_machine.proofs.PacketHistory.Moves.{low-named, move-accepted, moves-from, moves-same, signed-low}
+use Rattle.tripos_machine.proofs.PacketHistory.Moves.{low-named, move-accepted, moves-from, moves-same}
 use Rattle.tripos_machine.proofs.PacketHistory.SentEvents.{low-clock, turn-accepted}
 use Rattle.tripos_machine.proofs.PacketHistory.FreePackets.{unqueued-nowhere}
 use Rattle.tripos_machine.proofs.PacketHistory.RequestMoves.{TurnMoves, finished-same, request-moves}
 use Rattle.tripos_machine.proofs.PacketHistory.TakenMoves.{MovesInTurn, none-moved, same-moved, taken-moves}
+use Rattle.kernel_model.proofs.KernelDispatch.TakenWork.{signed-low}
 
 -- ---- the reporter's turn
 

@@ -20,10 +20,11 @@ use Rattle.resident_tasks.specs.ResidentRequests.Turns.{ResidentTurn, Served, re
 use Rattle.resident_tasks.specs.declared.resident_requests.requests.Request.{Request}
 use Rattle.tripos_machine.specs.PacketHistory.Queues.{ledger_of}
 use Rattle.tripos_machine.proofs.PacketHistory.Ledgers.{ledger-task}
-use Rattle.tripos_machine.proofs.PacketHistory.Moves.{low-named, signed-low}
+use Rattle.tripos_machine.proofs.PacketHistory.Moves.{low-named}
 use Rattle.tripos_machine.proofs.PacketHistory.SentEvents.{low-clock}
 use Rattle.tripos_machine.proofs.PacketHistory.ValidLedgers.{IsNumber, task-number}
 use Rattle.tripos_machine.proofs.PacketHistory.TakenMoves.{MovesInTurn, none-moved, returned-moves, same-moved}
+use Rattle.kernel_model.proofs.KernelDispatch.TakenWork.{signed-low}
 
 -- at its end a turn moves nothing
 pub finished-same : (l : Lists) → ledger_of (finished l) ≡ ledger_of l

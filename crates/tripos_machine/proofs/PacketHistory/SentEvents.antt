@@ -22,9 +22,10 @@ use Rattle.tripos_machine.specs.EventHistory.Ledger.{clock, same_queue}
 use Rattle.tripos_machine.specs.PacketHistory.SentBy.{AreOfTurn, AreSentBy, IsFrom}
 use Rattle.tripos_machine.proofs.PacketHistory.CallMoves.{names}
 use Rattle.tripos_machine.proofs.PacketHistory.Ledgers.{IsNamed, number_of}
-use Rattle.tripos_machine.proofs.PacketHistory.Moves.{low-named, signed-low}
+use Rattle.tripos_machine.proofs.PacketHistory.Moves.{low-named}
 use Rattle.tripos_machine.proofs.PacketHistory.ValidLedgers.{task-number}
 use Rattle.kernel_calls.proofs.CallAnswers.Refusals.{passed-tests}
+use Rattle.kernel_model.proofs.KernelDispatch.TakenWork.{signed-low}
 
 taken-join : (es fs : List KernelEvent) → taken_from clock es ≡ [] → taken_from clock fs ≡ [] → taken_from clock (es ++ fs) ≡ []
 taken-join [] fs x y = y

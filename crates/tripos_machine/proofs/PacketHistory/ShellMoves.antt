@@ -36,7 +36,7 @@ use Rattle.tripos_machine.specs.PacketHistory.Queues.{Moves}
 use Rattle.tripos_machine.specs.PacketHistory.SentBy.{AreOfTurn}
 use Rattle.tripos_machine.proofs.PacketHistory.CallMoves.{unowned-nowhere}
 use Rattle.tripos_machine.proofs.PacketHistory.FirstTaken.{TakesFirst, TakesReads}
-use Rattle.tripos_machine.proofs.PacketHistory.Moves.{low-named, move-accepted, signed-low}
+use Rattle.tripos_machine.proofs.PacketHistory.Moves.{low-named, move-accepted}
 use Rattle.tripos_machine.proofs.PacketHistory.SentEvents.{low-clock, low-reads, turn-accepted}
 use Rattle.tripos_machine.proofs.PacketHistory.ShellParts.{Allows, first_event, sent_back, turn-done, without_first}
 use Rattle.tripos_machine.proofs.PacketHistory.ShellTurns.{HasOwn, IsShell, first-sender, shell-allows, first-words}
@@ -44,6 +44,7 @@ use Rattle.tripos_machine.proofs.PacketHistory.GuestMoves.{change_pri-quiet, hol
 use Rattle.tripos_machine.proofs.PacketHistory.RequestMoves.{finished-same}
 use Rattle.tripos_machine.proofs.PacketHistory.ShellCalls.{begun-same, cleared-same, started-same}
 use Rattle.tripos_machine.proofs.PacketHistory.TakenMoves.{MovesInTurn, first-moved, none-moved, returned-moves, still-moved, taken-moves, then-moved}
+use Rattle.kernel_model.proofs.KernelDispatch.TakenWork.{signed-low}
 
 -- the turn began with the lists b
 module _ (due : KernelEvent → ℕ) (b : Lists) where

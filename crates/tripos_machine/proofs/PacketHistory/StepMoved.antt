@@ -20,7 +20,7 @@ use Rattle.tripos_machine.specs.PacketHistory.Queues.{Moves}
 use Rattle.tripos_machine.proofs.PacketHistory.Moves.{move-none, moves-then}
 use Rattle.tripos_machine.proofs.PacketHistory.DeviceMoves.{due-first, finished-moves, met-moves, ticked-moves}
 use Rattle.tripos_machine.proofs.PacketHistory.DispatchMoves.{dispatch-moves}
-use Rattle.tripos_machine.proofs.PacketHistory.StoredLists.{tick-valid}
+use Rattle.kernel_devices.proofs.TickLists.{tick-valid}
 
 -- ---- lists stay valid
 

@@ -8,7 +8,7 @@ use Rattle.kernel_model.specs.KernelRecord.Lists.{Lists}
 use Rattle.kernel_model.specs.KernelRecord.Owned.{owned}
 use Rattle.kernel_model.specs.KernelRecord.ValidLists.{AreValid}
 use Rattle.kernel_devices.specs.Tick.{with_tick}
-use Rattle.kernel_devices.proofs.TickLists.{tick-changed}
+use Rattle.kernel_devices.proofs.TickLists.{tick-changed, tick-valid}
 
 -- a store of their words alone
 abbrev pub store_of : Lists → List ℕ
@@ -22,6 +22,3 @@ store-holds l v =
       size = length-written (owned l) (replicate l.size 0) ∙ size;
       holds = Holds-written (owned l) (replicate l.size 0) v.owns.apart (λ a some. omega (arith, v.owns.inside a some, size));
     }
-
-pub tick-valid : (l : Lists) (now : ℕ) → AreValid l → AreValid (with_tick now l)
-tick-valid l now v = (tick-changed (store_of l) (set (store_of l) 108 now) l now (store-holds l v) refl).lists.valid

@@ -23,10 +23,11 @@ use Rattle.tripos_machine.specs.PacketHistory.Queues.{Moves, ledger_of}
 use Rattle.tripos_machine.specs.PacketHistory.SentBy.{AreOfTurn}
 use Rattle.tripos_machine.proofs.PacketHistory.FirstTaken.{TakesFirst, TakesReads, first-join}
 use Rattle.tripos_machine.proofs.PacketHistory.Ledgers.{IsNamed, number_of}
-use Rattle.tripos_machine.proofs.PacketHistory.Moves.{low-named, move-accepted, move-none, move-taken, moves-same, moves-then, nowhere-then, signed-low}
+use Rattle.tripos_machine.proofs.PacketHistory.Moves.{low-named, move-accepted, move-none, move-taken, moves-same, moves-then, nowhere-then}
 use Rattle.tripos_machine.proofs.PacketHistory.SentEvents.{low-reads, turn-accepted, turn-none, turn-put_off, turn-taken, turn-then}
 use Rattle.tripos_machine.proofs.PacketHistory.ValidLedgers.{task-number, valid-once}
 use Rattle.tripos_machine.proofs.PacketHistory.TakenPackets.{sender-kept, sender-there}
+use Rattle.kernel_model.proofs.KernelDispatch.TakenWork.{signed-low}
 
 -- They lead from these lists to those, and are events of the turn of this task.
 pub record MovesInTurn (due : KernelEvent → ℕ) (from : ℤ) (l : Lists) (es : List KernelEvent) (m : Lists) : Type 0 where

@@ -28,6 +28,7 @@ use Rattle.tripos_machine.proofs.EventHistory.Packets.{none-counted, some-counte
 use Rattle.tripos_machine.proofs.EventHistory.Queues.{same-true}
 use Rattle.tripos_machine.specs.PacketHistory.Queues.{clock_entry, entry_of, ledger_of}
 use Rattle.tripos_machine.proofs.PacketHistory.Ledgers.{IsNamed, any-at, entries_at, ledger-at, number_of, work-other}
+use Rattle.resident_tasks.proofs.ResidentRequests.RunningResident.{has_task-work}
 
 -- ---- the tasks that are there
 
@@ -39,10 +40,6 @@ has_task-changed i id f same (t ∷ ts) = λ k. eqb (on (eqb t.id id) k) i || ha
     on : (b : Bool) → (cond b (f t) t).id ≡ t.id
     on true = same t
     on false = refl
-
--- and where a queue is another
-pub has_task-work : (i id : ℕ) (ps : List QueuedPacket) (ts : List Task) → has_task i (map (with_work id ps) ts) ≡ has_task i ts
-has_task-work i id ps ts = has_task-changed i id (λ t. record t { queue = ps }) (λ t. refl) ts
 
 -- ---- numbers of tasks
 

@@ -11,8 +11,9 @@ use Rattle.debugger.specs.Debugged.{past_after, steps_to}
 use Rattle.debugger.specs.Views.{is_end}
 use Rattle.debugger.proofs.EndedSteps.{cut-behind, end-goes}
 use Rattle.debugger.proofs.PastSteps.{past-more}
-use Rattle.debugger.proofs.StepsTo.{next-bytes, next-state, one-bytes, one-state, one-unended, run-zero, told-end, told-further, told-here, told-some}
+use Rattle.debugger.proofs.StepsTo.{next-bytes, next-state, one-bytes, one-state, one-unended, told-end, told-further, told-here, told-some}
 use Rattle.debugger.proofs.histories.take_noted.Goals as goal
+use Rattle.tripos_machine.proofs.QuietSteps.{run-none}
 
 pub loop-taken-init : goal.loop-taken-init
 loop-taken-init g c =
@@ -21,7 +22,7 @@ loop-taken-init g c =
     let same = ap (λ n. steps_to c.args.stops.now n s) whole in
     record {
       few = omega arith;
-      state = sym (ap (λ (x : Stepped). x.state) (run-zero s));
+      state = sym (ap (λ (x : Stepped). x.state) (run-none s));
       told = omega (arith, same);
       text = gathered-none s _ _;
       goes = c.requires.goes;

@@ -10,9 +10,10 @@ use Rattle.machine_ring.specs.Rings.{Ring, ring_with}
 use Rattle.machine_ring.specs.Rounds.{Rounded, first_of, right_after, shown_by, with_typing}
 use Rattle.machine_ring.specs.Runs.{run}
 use Rattle.machine_ring.specs.declared.terms.Terms.{Terms}
-use Rattle.machine_ring.proofs.RingProgress.{acknowledged-few, cut-then, end-left, ended-early, gathered-first, gathered-then, outcome-is, outstanding-none, ran-first, ran-then, round-is, shown-is}
+use Rattle.machine_ring.proofs.RingProgress.{acknowledged-few, cut-then, ended-early, gathered-first, gathered-then, outcome-is, outstanding-none, ran-first, ran-then, round-is, shown-is}
 use Rattle.machine_ring.proofs.runs.run_rounds.Goals as goal
 use Rattle.machine_ring.proofs.runs.run_rounds.Goals.{in-None-carry, in-Some-carry}
+use Rattle.tripos_machine.proofs.RunParts.{ends-all}
 
 pub loop-right-init : goal.loop-right-init
 loop-right-init g c =
@@ -169,5 +170,5 @@ returns-clause-outcome g c =
     let more = ltb-false c.loop-right.link.rounds c.loop-right.link.terms.rounds (sym c.loop-right-test.ensures.more) in
     let end : c.loop-right.link.rounds ≡ f.link.terms.rounds = omega (arith, kept.few, more, ap (λ (t : Terms). t.rounds) kept.terms) in
     outcome-is f c.args.link.now.terms c.args.left.now.state c.args.right.now.state c.requires.first c.loop-right.link.rounds
-    r kept.ran c.outcome_after-2.result is.rounds is.sent is.delivered is.acknowledged (is.end ∙ end-left _ _ _ c.stop-2.ensures c.unwrap_or-end.ensures)
+    r kept.ran c.outcome_after-2.result is.rounds is.sent is.delivered is.acknowledged (is.end ∙ ends-all _ _ _ c.stop-2.ensures c.unwrap_or-end.ensures)
     ∙ ap (λ n. outcome_of (run n f)) end

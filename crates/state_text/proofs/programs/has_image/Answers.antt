@@ -1,7 +1,8 @@
 use Rattle.std.proofs.Common.{◌∙◌, ◌<◌, ◌≤◌, ℕ, List, length, ap, arith, sym}
 use Rattle.kernel_lists.specs.HunkLoader.RelocatedWords.{relocated}
-use Rattle.state_text.proofs.LoadedWords.{length-relocated, starts-end, starts-none, starts-other}
+use Rattle.state_text.proofs.LoadedWords.{starts-end, starts-none, starts-other}
 use Rattle.state_text.proofs.programs.has_image.Goals as goal
+use Rattle.kernel_lists.proofs.HunkLoader.RelocationLists.{length-relocated}
 
 pub returns-in_default-clause-words : goal.returns-in_default-clause-words
 returns-in_default-clause-words c =

@@ -5,11 +5,11 @@ use Rattle.module_text.specs.TextReader.Refusal.{refusal}
 use Rattle.session_text.specs.Front.{front_count, front_lines}
 use Rattle.session_text.specs.SessionOfText.{session_lines}
 use Rattle.program_answers.proofs.AnswerParts.{Answers-refused}
-use Rattle.tripos_run.proofs.FrontPlace.{place-within}
 use Rattle.tripos_run.proofs.debugging.answer_debugging.Goals as goal
+use Rattle.session_text.proofs.FrontLines.{place_after-within}
 
 pub text_behind-lines-requires : goal.text_behind-lines-requires
-text_behind-lines-requires g c = omega (arith, c.in-Ok.ensures.end, place-within (front_count (lines_of c.args.text.now)) c.args.text.now)
+text_behind-lines-requires g c = omega (arith, c.in-Ok.ensures.end, place_after-within (front_count (lines_of c.args.text.now)) c.args.text.now)
 
 pub returns-in-Err-Bad-clause-answer : goal.returns-in-Err-Bad-clause-answer
 returns-in-Err-Bad-clause-answer g c =

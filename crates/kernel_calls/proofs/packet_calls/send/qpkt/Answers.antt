@@ -5,11 +5,10 @@ use Rattle.kernel_lists.specs.PacketQueue.Log.{Notes}
 use Rattle.kernel_lists.specs.declared.packet_queue.events.KernelEvent.TheVariants.{Accepted}
 use Rattle.kernel_calls.specs.CallAnswers.Made.{IsMade, plain_answer}
 use Rattle.kernel_calls.specs.CallAnswers.Refusals.{first_refusal}
-use Rattle.kernel_calls.proofs.CallAnswers.Refusals.{answer_of-ok}
+use Rattle.kernel_calls.proofs.CallAnswers.Refusals.{answer_of-ok, answer_of-err}
 use Rattle.kernel_calls.specs.PacketCalls.Destinations.{destination_of}
 use Rattle.kernel_calls.specs.PacketCalls.Qpkt.{packet_tests, qpkt}
 use Rattle.kernel_calls.proofs.PacketCalls.NamedQueues.{names-none, names-some, queue-none, queue-some}
-use Rattle.kernel_calls.proofs.PacketCalls.PacketTests.{refused-with}
 use Rattle.kernel_calls.proofs.PacketCalls.SendCall.{is-noted, is-sent, misplaced, not-noted, not-sent, nowhere, send-packet, send-queue, send-room}
 use Rattle.kernel_calls.proofs.packet_calls.send.qpkt.Goals as goal
 
@@ -21,7 +20,7 @@ returns-in_err-check_packet-clause-made g c = λ l k r.
     subst (λ z. IsMade s s (g.Q.KindKeeper.tells c.args.kinds.now) (plain_answer z) (qpkt s l c.args.p)) (sym (p.1 ∙ ap Err p.2))
     (not-sent s (g.Q.KindKeeper.tells c.args.kinds.now) (g.Q.KindKeeper.room c.args.kinds.now) l c.args.p k code
     (misplaced s (g.Q.KindKeeper.tells c.args.kinds.now) (g.Q.KindKeeper.room c.args.kinds.now) l c.args.p k code
-    (refused-with (first_refusal (packet_tests s l c.args.p)) code (c.in_err-check_packet.ensures l k))))
+    (answer_of-err (first_refusal (packet_tests s l c.args.p)) code (c.in_err-check_packet.ensures l k))))
 
 pub returns-in_err-check_packet-clause-notes : goal.returns-in_err-check_packet-clause-notes
 returns-in_err-check_packet-clause-notes g c = λ l k r.
@@ -29,7 +28,7 @@ returns-in_err-check_packet-clause-notes g c = λ l k r.
     let code = c.in_err-check_packet.field-0.0 in
     not-noted s (g.Q.KindKeeper.tells c.args.kinds.now) (g.Q.KindKeeper.room c.args.kinds.now) l c.args.p k code (g.L.EventLog.noted c.args.log.now) (g.L.EventLog.has_failed c.args.log.now)
     (misplaced s (g.Q.KindKeeper.tells c.args.kinds.now) (g.Q.KindKeeper.room c.args.kinds.now) l c.args.p k code
-    (refused-with (first_refusal (packet_tests s l c.args.p)) code (c.in_err-check_packet.ensures l k)))
+    (answer_of-err (first_refusal (packet_tests s l c.args.p)) code (c.in_err-check_packet.ensures l k)))
 
 pub returns-in_err-queue-clause-made : goal.returns-in_err-queue-clause-made
 returns-in_err-queue-clause-made g c = λ l k r.

@@ -2,8 +2,9 @@ use Rattle.std.proofs.Common.{◌∙◌, refl, subst, sym}
 use Rattle.kernel_machine.specs.KernelSteps.Step.{after_the_turn, turn, unless_stopped, with_step}
 use Rattle.kernel_machine.specs.RunningMachine.Leaves.{Leaves}
 use Rattle.kernel_machine.proofs.RunningMachine.LeftParts.{leaves-none, leaves-then}
-use Rattle.kernel_machine.proofs.RunningMachine.StepParts.{can-serve, can-turn, none-stopped, rest-goes, rest-stops, some-stopped, stands-step, step-goes, stop-in-turn, taken, told}
+use Rattle.kernel_machine.proofs.RunningMachine.StepParts.{can-serve, can-turn, none-stopped, rest-goes, rest-stops, some-stopped, stands-step, stop-in-turn, taken, told}
 use Rattle.kernel_machine.proofs.running_machine.steps.step.Goals as goal
+use Rattle.kernel_machine.proofs.KernelSteps.QuietSteps.{step-goes}
 
 pub turn-stop-requires-clause-stands : goal.turn-stop-requires-clause-stands
 turn-stop-requires-clause-stands g c =

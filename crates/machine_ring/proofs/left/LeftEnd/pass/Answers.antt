@@ -3,8 +3,8 @@ use Rattle.tripos_machine.specs.Step.{run}
 use Rattle.machine_ring.specs.Rings.{Left}
 use Rattle.machine_ring.specs.Rounds.{can_step}
 use Rattle.machine_ring.proofs.IdleRounds.{left-passed, left-stays}
-use Rattle.machine_ring.proofs.QuietSteps.{no-front}
 use Rattle.machine_ring.proofs.left.LeftEnd.pass.Goals as goal
+use Rattle.kernel_machine.proofs.RunningMachine.RunParts.{no-front}
 
 pub returns-then-not-can_step : goal.returns-then-not-can_step
 returns-then-not-can_step c =
