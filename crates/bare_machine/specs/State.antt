@@ -24,8 +24,8 @@ pub record BareView : Type 0 where
   pub output : List ℕ
 
 -- the parts, and why the machine has stopped, as a state
-abbrev pub state_of : BareParts → Option Stop → BareState
-state_of p stop = record { words = p.store; regs = p.regs; steps = p.step; stop = stop }
+abbrev pub bare_state : BareParts → Option Stop → BareState
+bare_state p stop = record { words = p.store; regs = p.regs; steps = p.step; stop = stop }
 
 -- the state of a machine that has not stopped
 abbrev pub going : List ℕ → Regs → ℕ → BareState

@@ -3,7 +3,7 @@ ghost use Rattle.std.specs.Prelude.{◌≡◌, ◌<◌, ◌+◌, ◌-◌, ◌≤
 ghost use Rattle.kernel_model.specs.KernelRecord.Ranges.{most_steps};
 ghost use Rattle.instruction_set.specs.Breakpoints.{has_breakpoint};
 ghost use Rattle.bare_machine.specs.Run.{Avoids, run};
-ghost use Rattle.bare_machine.specs.State.{IsSound, state_of};
+ghost use Rattle.bare_machine.specs.State.{IsSound, bare_state};
 
 use crate::BareParts;
 use crate::passes::pass;
@@ -35,11 +35,11 @@ pub(crate) fn advance(
     requires empty { out.old ≡ [] }
     ensures some { 0 < result.steps }
     ensures most { result.steps ≤ most }
-    ensures state { state_of parts.new result.stop
-        ≡ (run result.steps (state_of parts.old None)).state }
-    ensures bytes { out.new ≡ (run result.steps (state_of parts.old None)).bytes }
-    ensures last { (run (result.steps - 1) (state_of parts.old None)).state.stop ≡ None }
-    ensures before { Avoids breakpoints.now result.steps (state_of parts.old None) }
+    ensures state { bare_state parts.new result.stop
+        ≡ (run result.steps (bare_state parts.old None)).state }
+    ensures bytes { out.new ≡ (run result.steps (bare_state parts.old None)).bytes }
+    ensures last { (run (result.steps - 1) (bare_state parts.old None)).state.stop ≡ None }
+    ensures before { Avoids breakpoints.now result.steps (bare_state parts.old None) }
     ensures sound { IsSound parts.new }
 {
     let mut done = pass_and_step(parts, most, breakpoints, out);
@@ -85,11 +85,11 @@ fn pass_and_step(
     requires room { length out.old < 8192 }
     ensures some { 0 < result.steps }
     ensures most { result.steps ≤ most }
-    ensures state { state_of parts.new result.stop
-        ≡ (run result.steps (state_of parts.old None)).state }
-    ensures bytes { out.new ≡ out.old ++ (run result.steps (state_of parts.old None)).bytes }
-    ensures last { (run (result.steps - 1) (state_of parts.old None)).state.stop ≡ None }
-    ensures before { Avoids breakpoints.now result.steps (state_of parts.old None) }
+    ensures state { bare_state parts.new result.stop
+        ≡ (run result.steps (bare_state parts.old None)).state }
+    ensures bytes { out.new ≡ out.old ++ (run result.steps (bare_state parts.old None)).bytes }
+    ensures last { (run (result.steps - 1) (bare_state parts.old None)).state.stop ≡ None }
+    ensures before { Avoids breakpoints.now result.steps (bare_state parts.old None) }
     ensures sound { IsSound parts.new }
 {
     let mut calls = false;

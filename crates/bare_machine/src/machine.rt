@@ -2,7 +2,7 @@
 ghost use Rattle.std.specs.Prelude.{◌≡◌, ◌<◌, ◌+◌, ◌-◌, ◌≤◌, [], None, MatchOption};
 ghost use Rattle.kernel_model.specs.KernelRecord.Ranges.{most_steps};
 ghost use Rattle.bare_machine.specs.Run.{Avoids, IsPlain, IsPlainStep, run};
-ghost use Rattle.bare_machine.specs.State.{IsSound, state_of};
+ghost use Rattle.bare_machine.specs.State.{IsSound, bare_state};
 ghost use Rattle.bare_machine.specs.Step.{step};
 
 use crate::BareParts;
@@ -22,11 +22,11 @@ pub struct Bare {
 }
 
 impl Model for Bare {
-    ghost use Rattle.bare_machine.specs.State.{BareView, IsSound, state_of};
+    ghost use Rattle.bare_machine.specs.State.{BareView, IsSound, bare_state};
 
     ghost Value = { BareView };
 
-    ghost view = { λ m. record { state = state_of m.parts m.stop; output = m.output } };
+    ghost view = { λ m. record { state = bare_state m.parts m.stop; output = m.output } };
 
     ghost invariant = { λ m. IsSound m.parts };
 }
@@ -35,7 +35,7 @@ impl Bare {
     /// The machine with these parts, which has not stopped, and has no output.
     pub fn from_parts(parts: BareParts) -> Bare
         requires { IsSound parts }
-        ensures state { result.state ≡ state_of parts None }
+        ensures state { result.state ≡ bare_state parts None }
         ensures output { result.output ≡ [] }
     {
         Bare {
@@ -47,7 +47,7 @@ impl Bare {
 
     /// Its parts.
     pub fn into_parts(self) -> BareParts
-        ensures parts { state_of result self.state.stop ≡ self.state }
+        ensures parts { bare_state result self.state.stop ≡ self.state }
         ensures sound { IsSound result }
     {
         self.parts
@@ -55,7 +55,7 @@ impl Bare {
 
     /// Its parts, lent.
     pub fn parts(&self) -> &BareParts
-        ensures parts { state_of result.now self.now.state.stop ≡ self.now.state }
+        ensures parts { bare_state result.now self.now.state.stop ≡ self.now.state }
         ensures sound { IsSound result.now }
     {
         &self.parts

@@ -4,7 +4,7 @@ ghost use Rattle.kernel_model.specs.KernelRecord.Ranges.{most_steps};
 ghost use Rattle.instruction_set.specs.declared.Outcome.TheVariants.{Sys};
 ghost use Rattle.bare_machine.specs.Calls.{call_answer};
 ghost use Rattle.bare_machine.specs.Run.{IsPlain, IsPlainStep};
-ghost use Rattle.bare_machine.specs.State.{IsSound, state_of};
+ghost use Rattle.bare_machine.specs.State.{IsSound, bare_state};
 ghost use Rattle.bare_machine.specs.Step.{after_call, instruction_of, step};
 
 use crate::BareParts;
@@ -22,8 +22,8 @@ pub(crate) fn step_or_stay(
     requires sound { IsSound parts.old }
     requires steps { parts.old.step < most_steps }
     requires empty { out.old ≡ [] }
-    ensures state { state_of parts.new result ≡ (step (state_of parts.old stop)).state }
-    ensures bytes { out.new ≡ (step (state_of parts.old stop)).bytes }
+    ensures state { bare_state parts.new result ≡ (step (bare_state parts.old stop)).state }
+    ensures bytes { out.new ≡ (step (bare_state parts.old stop)).bytes }
     ensures sound { IsSound parts.new }
 {
     match stop {
@@ -38,9 +38,9 @@ pub(crate) fn next_step(parts: &mut BareParts, calls: bool, out: &mut Output) ->
     requires sound { IsSound parts.old }
     requires steps { parts.old.step < most_steps }
     requires room { length out.old < 8192 }
-    requires calls { calls ≡ true → (instruction_of (state_of parts.old None)).outcome ≡ Sys }
-    ensures state { state_of parts.new result ≡ (step (state_of parts.old None)).state }
-    ensures bytes { out.new ≡ out.old ++ (step (state_of parts.old None)).bytes }
+    requires calls { calls ≡ true → (instruction_of (bare_state parts.old None)).outcome ≡ Sys }
+    ensures state { bare_state parts.new result ≡ (step (bare_state parts.old None)).state }
+    ensures bytes { out.new ≡ out.old ++ (step (bare_state parts.old None)).bytes }
     ensures sound { IsSound parts.new }
 {
     if !calls {
@@ -56,8 +56,8 @@ pub(crate) fn execute_one(parts: &mut BareParts) -> Option<Places>
     requires sound { IsSound parts.old }
     requires steps { parts.old.step < most_steps }
     ensures step { MatchOption result (parts.new ≡ parts.old)
-        (λ p. IsPlainStep p (state_of parts.old None) (state_of parts.new None)) }
-    ensures none { result ≡ None → IsPlain (state_of parts.old None) → ⊥ }
+        (λ p. IsPlainStep p (bare_state parts.old None) (bare_state parts.new None)) }
+    ensures none { result ≡ None → IsPlain (bare_state parts.old None) → ⊥ }
     ensures sound { IsSound parts.new }
 {
     let places = written_places(&parts.store, parts.regs);
@@ -77,8 +77,8 @@ fn step(parts: &mut BareParts, out: &mut Output) -> Option<Stop>
     requires sound { IsSound parts.old }
     requires steps { parts.old.step < most_steps }
     requires room { length out.old < 8192 }
-    ensures state { state_of parts.new result ≡ (step (state_of parts.old None)).state }
-    ensures bytes { out.new ≡ out.old ++ (step (state_of parts.old None)).bytes }
+    ensures state { bare_state parts.new result ≡ (step (bare_state parts.old None)).state }
+    ensures bytes { out.new ≡ out.old ++ (step (bare_state parts.old None)).bytes }
     ensures sound { IsSound parts.new }
 {
     parts.step += 1;
@@ -94,9 +94,9 @@ fn step(parts: &mut BareParts, out: &mut Output) -> Option<Stop>
 fn answer_call(parts: &mut BareParts, out: &mut Output) -> Option<Stop>
     requires sound { IsSound parts.old }
     requires room { length out.old < 8192 }
-    ensures state { let m = state_of parts.old None in
-        state_of parts.new result ≡ (after_call (call_answer m.words m.regs) m).state }
-    ensures bytes { let m = state_of parts.old None in
+    ensures state { let m = bare_state parts.old None in
+        bare_state parts.new result ≡ (after_call (call_answer m.words m.regs) m).state }
+    ensures bytes { let m = bare_state parts.old None in
         out.new ≡ out.old ++ (after_call (call_answer m.words m.regs) m).bytes }
     ensures sound { IsSound parts.new }
 {

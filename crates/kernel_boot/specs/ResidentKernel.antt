@@ -8,6 +8,7 @@ use Rattle.kernel_model.specs.KernelRecord.Lists.{Lists}
 use Rattle.kernel_model.specs.KernelRecord.Residents.{key_packet}
 use Rattle.kernel_model.specs.KernelRecord.Task.{Task}
 use Rattle.kernel_model.specs.KernelRecord.ValidTasks.{no_regs, waits}
+use Rattle.kernel_calls.specs.CallAnswers.Tasks.{no_coroutines}
 
 -- the size of the residents' block, which is larger where one of them reports faults
 abbrev pub resident_block_size : Bool → ℕ
@@ -16,9 +17,6 @@ resident_block_size reporter = if reporter then 116 else 88
 -- a packet of which nothing but the sender is said
 abbrev pub packet_from : ℕ → ℕ → QueuedPacket
 packet_from sender address = record { address = address; sender = sender; kind = 0; res1 = 0; last = 0 }
-
-abbrev pub no_coroutines : TaskCoroutines
-no_coroutines = record { list = []; active = []; root_p = 0; root_pc = 0 }
 
 -- a resident that waits, with its number, its address, its priority and its packets
 abbrev pub waiting_resident : ℕ → ℕ → ℕ → List QueuedPacket → Task

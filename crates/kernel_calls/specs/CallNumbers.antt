@@ -39,8 +39,8 @@ three words r call = do
   Ok (call a b c)
 
 -- The calls by their numbers; call 21 is one of version 2, and there is no other.
-abbrev pub numbered : List ℕ → Regs → ℕ → Result KernelCall CallOutcome
-numbered words r number =
+abbrev pub call_numbered : List ℕ → Regs → ℕ → Result KernelCall CallOutcome
+call_numbered words r number =
     if number == 0 then one words r Quit else
     if number == 1 then one words r Getvec else
     if number == 2 then one words r Freevec else
@@ -68,4 +68,4 @@ numbered words r number =
 abbrev pub call_of : List ℕ → Regs → Result KernelCall CallOutcome
 call_of words r = do
   number ← argument words r 0
-  numbered words r number
+  call_numbered words r number

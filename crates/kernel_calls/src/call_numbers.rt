@@ -1,6 +1,6 @@
 // What a guest asks of the kernel: a call, with its arguments.
 ghost use Rattle.std.specs.Prelude.{◌≡◌, ◌<◌};
-ghost use Rattle.kernel_calls.specs.CallNumbers.{argument, call_of, numbered};
+ghost use Rattle.kernel_calls.specs.CallNumbers.{argument, call_of, call_numbered};
 
 use kernel_lists::{RootField, root};
 use word_store::{Regs, Store, add};
@@ -160,12 +160,12 @@ pub fn read_call(store: &Store, regs: Regs) -> Result<KernelCall, CallOutcome>
     ensures { result ≡ call_of store.now regs }
 {
     let number = argument(store, regs, 0)?;
-    numbered(store, regs, number)
+    call_numbered(store, regs, number)
 }
 
 // The call of the number.
-fn numbered(store: &Store, regs: Regs, number: u32) -> Result<KernelCall, CallOutcome>
-    ensures { result ≡ numbered store.now regs number }
+fn call_numbered(store: &Store, regs: Regs, number: u32) -> Result<KernelCall, CallOutcome>
+    ensures { result ≡ call_numbered store.now regs number }
 {
     match number {
         0 => Ok(KernelCall::Quit {

@@ -7,7 +7,8 @@ use Rattle.kernel_lists.specs.PacketQueue.QueueWords.{QueuedPacket}
 use Rattle.kernel_lists.specs.TaskBlock.TaskChain.{tasks_in}
 use Rattle.kernel_model.specs.KernelRecord.Lists.{is_queued}
 use Rattle.kernel_model.specs.KernelRecord.Owned.{clock_head, keyboard_head, output_head}
-use Rattle.kernel_model.specs.KernelRecord.Recovered.{has_residents, lists_in, packet_in, packets_at, pending_in, task_in}
+use Rattle.kernel_model.specs.KernelRecord.Recovered.{lists_in, packet_in, packets_at, pending_in, task_in}
+use Rattle.kernel_model.specs.KernelRecord.KernelRanges.{has_residents}
 use Rattle.kernel_model.specs.KernelRecord.Task.{queue_head}
 use Rattle.kernel_check.specs.ListPasses.ClaimedStore.{IsClaimed}
 use Rattle.kernel_check.proofs.ListPasses.ClaimedWalks.{heads}

@@ -10,7 +10,7 @@ use Rattle.hex.proofs.HexLemmas.{decode_of-encode_lower}
 use Rattle.module_text.specs.TextReader.Lines.{lines_of, text_of_lines}
 use Rattle.module_text.proofs.TextReader.NumberLemmas.{decimal_number}
 use Rattle.module_text.proofs.TextReader.PlainLines.{lines_of_text_of_lines}
-use Rattle.session_text.specs.Canonical.{IsFileText, IsLawful, IsLawfulForm, IsLawfulKey, IsLawfulMachine, canonical, canonical_lines, form_text, keys_text, lines_text, machine_text, numbered, statement_text, with_numbers}
+use Rattle.session_text.specs.Canonical.{IsFileText, IsLawful, IsLawfulForm, IsLawfulKey, IsLawfulMachine, canonical, canonical_lines, form_text, keys_text, lines_text, machine_text, numbered_lines, statement_text, with_numbers}
 use Rattle.session_text.specs.Entries.{AreEntries, Entry, IsEntry, colon_line, is_in_range, keys_in, lines_in, statement_lines}
 use Rattle.session_text.specs.Ranges.{highest_task, is_priority, is_stack, is_step, is_task, most_names}
 use Rattle.ram_disc.specs.Name.{is_name}
@@ -67,12 +67,12 @@ code_again version n (File name bytes) h = absurd h
 code_again version n (Task id pri stack names) h = absurd h
 
 -- and so are several, with the numbers that they have there
-codes_again : (version n : ℕ) (lines : List SessionLine) → AllByRecursion (λ line. IsLawfulForm true version line.form) lines → AreCodeLines n (numbered n lines) (lines_text lines)
+codes_again : (version n : ℕ) (lines : List SessionLine) → AllByRecursion (λ line. IsLawfulForm true version line.form) lines → AreCodeLines n (numbered_lines n lines) (lines_text lines)
 codes_again version n [] h = tt
 codes_again version n (line ∷ lines) h =
     let one = code_again version n line.form h.0 in
     let more = codes_again version (n + 1) lines h.1 in
-    subst (λ (t : List (List ℕ)). AreCodeLines n (record line { line = n } ∷ numbered (n + length t) lines) (t ++ lines_text lines)) (sym one.1) (one.2, more)
+    subst (λ (t : List (List ℕ)). AreCodeLines n (record line { line = n } ∷ numbered_lines (n + length t) lines) (t ++ lines_text lines)) (sym one.1) (one.2, more)
 
 -- ---- a machine with a clock
 
@@ -147,7 +147,7 @@ keys_have_no_lines : (n : ℕ) (keys : List (ℕ × ℕ)) → lines_in n (map ke
 keys_have_no_lines n [] = refl
 keys_have_no_lines n (key ∷ keys) = keys_have_no_lines (n + 1 + 0) keys
 
-lines_again : (version n : ℕ) (lines : List SessionLine) (keys : List (ℕ × ℕ)) → AllByRecursion (λ line. IsLawfulForm false version line.form) lines → numbered n lines ≡ lines_in n (entries_of lines keys)
+lines_again : (version n : ℕ) (lines : List SessionLine) (keys : List (ℕ × ℕ)) → AllByRecursion (λ line. IsLawfulForm false version line.form) lines → numbered_lines n lines ≡ lines_in n (entries_of lines keys)
 lines_again version n [] keys h = sym (keys_have_no_lines n keys)
 lines_again version n (line ∷ lines) keys h =
     let one = line_again version n line.form h.0 in
@@ -181,9 +181,9 @@ options_again false false h = refl
 
 -- ---- the whole text
 
--- the session, with its lines numbered behind those of its machine
+-- the session, with its lines numbered_lines behind those of its machine
 abbrev numbered_behind : Bool → Session → Session
-numbered_behind bare s = record s { lines = numbered (3 + length (machine_text bare s.period s.resident s.debug)) s.lines }
+numbered_behind bare s = record s { lines = numbered_lines (3 + length (machine_text bare s.period s.resident s.debug)) s.lines }
 
 machine_again : (bare : Bool) (s : Session) → s.bare ≡ bare → IsLawfulMachine bare s → AllByRecursion (λ line. IsLawfulForm bare s.version line.form) s.lines
     → AreBareLines (numbered_behind bare s) (machine_text bare s.period s.resident s.debug ++ (lines_text s.lines ++ keys_text s.keys))

@@ -99,11 +99,11 @@ canonical s = text_of_lines (canonical_lines s)
 -- ---- the numbers of its lines
 
 -- the lines with their numbers from n on, and all else as it was
-abbrev pub numbered : ℕ → List SessionLine → List SessionLine
-numbered n [] = []
-numbered n (line ∷ lines) = record line { line = n } ∷ numbered (n + length (form_text line.form)) lines
+abbrev pub numbered_lines : ℕ → List SessionLine → List SessionLine
+numbered_lines n [] = []
+numbered_lines n (line ∷ lines) = record line { line = n } ∷ numbered_lines (n + length (form_text line.form)) lines
 
 -- the session with the numbers that its lines have in its text
 abbrev pub with_numbers : Session → Session
 with_numbers s =
-    record s { lines = numbered (3 + length (machine_text s.bare s.period s.resident s.debug)) s.lines }
+    record s { lines = numbered_lines (3 + length (machine_text s.bare s.period s.resident s.debug)) s.lines }

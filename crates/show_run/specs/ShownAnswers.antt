@@ -15,8 +15,8 @@ use Rattle.show_run.specs.declared.commands.Show.{Show}
 use Rattle.show_run.specs.declared.commands.Show.TheVariants.{Log, State as ShowState}
 
 -- the state in which a run of so many steps stops, with the names of these programs
-abbrev pub state_of : List Program → ℕ → State → List ℕ
-state_of programs go s = state_text programs (run go s).state
+abbrev pub shown_state : List Program → ℕ → State → List ℕ
+shown_state programs go s = state_text programs (run go s).state
 
 -- the steps before the first one that is shown, and those from there to the last
 abbrev pub skipped : ℕ → ℕ → ℕ
@@ -37,7 +37,7 @@ abbrev pub log_of : ℕ → ℕ → ℕ → State → List ℕ
 log_of first last go s = boot_part first s ++ steps_part first last go s
 
 abbrev pub shown_text : Show → List Program → ℕ → State → List ℕ
-shown_text ShowState programs go s = state_of programs go s
+shown_text ShowState programs go s = shown_state programs go s
 shown_text (Log first last) programs go s = log_of first last go s
 
 -- the machine of a session, where that boots

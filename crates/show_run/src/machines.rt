@@ -5,7 +5,7 @@ ghost use Rattle.byte_streams.specs.Write.{HasCause, Prints};
 ghost use Rattle.kernel_model.specs.KernelRecord.Ranges.{most_steps};
 ghost use Rattle.tripos_machine.specs.State.{steps_of};
 ghost use Rattle.state_text.specs.StateText.{state_text};
-ghost use Rattle.show_run.specs.ShownAnswers.{boot_part, log_of, shown, shown_text, skipped, state_of, steps_part};
+ghost use Rattle.show_run.specs.ShownAnswers.{boot_part, log_of, shown, shown_text, skipped, shown_state, steps_part};
 
 use crate::Show;
 use crate::step_log::{gather_boot, gather_steps};
@@ -41,7 +41,7 @@ fn show_state<K: Sink>(
 ) -> Result<(), SinkFault>
     requires { steps_of machine.old.state + go ≤ most_steps }
     ensures text { Prints (K.holds out.old) (K.holds out.new)
-        (state_of programs.now go machine.old.state) result }
+        (shown_state programs.now go machine.old.state) result }
     ensures cause { HasCause (K.faults out.old) (K.faults out.new) result }
 {
     machine.run_unheard(go);

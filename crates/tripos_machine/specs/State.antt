@@ -1,7 +1,7 @@
 -- The state of a machine of either kind.
 use Rattle.std.specs.Prelude.{◌≡◌, ℕ, ◌<◌, ◌≤◌, IsTrue, List, [], Option, length}
 use Rattle.word_store.specs.declared.registers.Regs.{Regs}
-use Rattle.bare_machine.specs.State.{BareState, state_of}
+use Rattle.bare_machine.specs.State.{BareState, bare_state}
 use Rattle.kernel_model.specs.KernelRecord.Image.{image}
 use Rattle.kernel_model.specs.KernelRecord.Kernel.{Kernel}
 use Rattle.kernel_model.specs.KernelRecord.Ranges.{is_store_size, most_steps}
@@ -68,7 +68,7 @@ StandsFull p (Full k) = Stands p k
 
 -- These parts are those of the state. Whether the machine has stopped is no part of them.
 abbrev pub StandFor : Parts → State → Type 0
-StandFor (BareMachine p) (Bare m) = state_of p m.stop ≡ m
+StandFor (BareMachine p) (Bare m) = bare_state p m.stop ≡ m
 StandFor (FullMachine p) (Full k) = Stands p k
 StandFor _ _ = ⊥
 

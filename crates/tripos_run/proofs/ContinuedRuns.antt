@@ -22,7 +22,7 @@ use Rattle.tripos_machine.proofs.StateRuns.{run-counts, run-later, run-more}
 use Rattle.saved_text.specs.Canonical.{IsLawful, canonical, with_steps}
 use Rattle.saved_text.specs.ImageOfText.{image_of}
 use Rattle.saved_text.specs.declared.images.Image.{Image}
-use Rattle.saved_machine.specs.ImagePrint.Numbers.{HasNumbers, IsSized, MayTake}
+use Rattle.saved_machine.specs.ImagePrint.Numbers.{HasWordsAndBytes, IsSized, MayTake}
 use Rattle.saved_machine.specs.ImagePrint.SavedImage.{saved_image}
 use Rattle.saved_machine.proofs.ImagePrint.LawfulImages.{saved_lawful}
 use Rattle.saved_machine.proofs.ImagePrint.ResumedMachines.{resumed}
@@ -45,7 +45,7 @@ steps-to-go : (version : ℕ) (s : State) (go : ℕ) → (saved_image version s 
 steps-to-go version (Bare m) go = refl
 steps-to-go version (Full k) go = refl
 
-pub saved-goes-on : (version : ℕ) (s : State) (go : ℕ) → IsSound s → stop_of s ≡ None → HasNumbers s → IsSized version s → MayTake s go → IsResumedText (canonical (saved_image version s go)) (resumed_answer go s)
+pub saved-goes-on : (version : ℕ) (s : State) (go : ℕ) → IsSound s → stop_of s ≡ None → HasWordsAndBytes s → IsSized version s → MayTake s go → IsResumedText (canonical (saved_image version s go)) (resumed_answer go s)
 saved-goes-on version s go sound goes numbers sized may =
     let x : Image = saved_image version s go in
     let read : image_of (canonical x) ≡ Ok x = printed x (saved_lawful version s go sound numbers sized may) in
@@ -125,7 +125,7 @@ module _ (s : Session) (n : ℕ) (x : Stepped) (lawful : IsLawfulSession s) (few
         ∙ ap (λ (c : List ℕ). answer_of (status_of last) ((a.bytes ++ b.bytes) ++ c)) (append-nil (closing_text (s.go + new_steps) last))
 
     -- the text with n steps is the one of the machine, which takes them
-    resumes : (kept after : Answer) → kept.bytes ≡ canonical (saved_image s.version a.state s.go) → IsSound a.state → HasNumbers a.state → IsResumedText (with_steps n kept.bytes) after → after ≡ resumed_answer n a.state
+    resumes : (kept after : Answer) → kept.bytes ≡ canonical (saved_image s.version a.state s.go) → IsSound a.state → HasWordsAndBytes a.state → IsResumedText (with_steps n kept.bytes) after → after ≡ resumed_answer n a.state
     resumes kept after is sound numbers resumed =
         let image : Image = saved_image s.version a.state s.go in
         let lawful_image : IsLawful (saved_image s.version a.state n) = saved_lawful s.version a.state n sound numbers size may in

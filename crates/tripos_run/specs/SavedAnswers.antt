@@ -11,7 +11,7 @@ use Rattle.saved_text.specs.Canonical.{canonical}
 use Rattle.saved_text.specs.ImageOfText.{image_of}
 use Rattle.saved_text.specs.declared.images.Image.{Image}
 use Rattle.saved_machine.specs.MachineImage.Machines.{HasMachine, IsMachineOf}
-use Rattle.saved_machine.specs.ImagePrint.Numbers.{HasNumbers}
+use Rattle.saved_machine.specs.ImagePrint.Numbers.{HasWordsAndBytes}
 use Rattle.saved_machine.specs.ImagePrint.SavedImage.{saved_image}
 use Rattle.program_answers.specs.Answer.{Answer, no_boot_answer, refused_answer}
 use Rattle.tripos_run.specs.Answer.{end_since, run_answer, status_of}
@@ -24,7 +24,7 @@ use Rattle.program_answers.specs.declared.status.Status.TheVariants.{Done}
 -- A machine that goes on is written as its text, with the steps that it is to take: it is one between steps, its words are words, and its
 -- bytes bytes. Of one that has stopped the closing line alone is written.
 abbrev pub IsKept : ℕ → ℕ → State → Option Stop → Answer → Type 0
-IsKept version go s None a = (a ≡ record { status = Done; bytes = canonical (saved_image version s go) }) × IsSound s × HasNumbers s
+IsKept version go s None a = (a ≡ record { status = Done; bytes = canonical (saved_image version s go) }) × IsSound s × HasWordsAndBytes s
 IsKept version go s (Some stop) a = a ≡ record { status = status_of stop; bytes = closing_text (steps_of s) stop }
 
 -- this state is that of the session's machine, after its steps

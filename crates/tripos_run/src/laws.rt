@@ -6,7 +6,7 @@ ghost use Rattle.tripos_machine.specs.Boot.{boot};
 ghost use Rattle.tripos_machine.specs.State.{IsSound, State, stop_of};
 ghost use Rattle.tripos_machine.specs.Step.{Stepped};
 ghost use Rattle.saved_text.specs.Canonical.{canonical, with_steps};
-ghost use Rattle.saved_machine.specs.ImagePrint.Numbers.{HasNumbers, IsSized, MayTake};
+ghost use Rattle.saved_machine.specs.ImagePrint.Numbers.{HasWordsAndBytes, IsSized, MayTake};
 ghost use Rattle.saved_machine.specs.ImagePrint.SavedImage.{saved_image};
 ghost use Rattle.program_answers.specs.Answer.{Answer};
 ghost use Rattle.tripos_run.specs.ContinuedAnswers.{IsContinued, IsMachineText};
@@ -37,7 +37,7 @@ pub fn continued_law()
 
     // So it is of every machine between steps, whatever led to it.
     ensures machines { (version : ℕ) (s : State) (go : ℕ) → IsSound s → stop_of s ≡ None
-        → HasNumbers s → IsSized version s → MayTake s go
+        → HasWordsAndBytes s → IsSized version s → MayTake s go
         → IsResumedText (canonical (saved_image version s go)) (resumed_answer go s) }
 {}
 

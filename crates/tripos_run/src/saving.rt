@@ -8,7 +8,7 @@ ghost use Rattle.kernel_model.specs.KernelRecord.Ranges.{most_steps};
 ghost use Rattle.tripos_machine.specs.State.{IsSound, steps_of};
 ghost use Rattle.tripos_machine.specs.Step.{run};
 ghost use Rattle.saved_text.specs.Canonical.{canonical};
-ghost use Rattle.saved_machine.specs.ImagePrint.Numbers.{HasNumbers};
+ghost use Rattle.saved_machine.specs.ImagePrint.Numbers.{HasWordsAndBytes};
 ghost use Rattle.saved_machine.specs.ImagePrint.SavedImage.{saved_image};
 ghost use Rattle.program_answers.specs.Answered.{Answered};
 ghost use Rattle.program_answers.specs.Cause.{HasFaultCause};
@@ -97,7 +97,7 @@ fn write_machine<K: Sink>(
     ensures text { Prints (K.holds out.old) (K.holds out.new)
         (canonical (saved_image session.now.version machine.now.state session.now.go)) result }
     ensures sound { IsSound machine.now.state }
-    ensures numbers { HasNumbers machine.now.state }
+    ensures numbers { HasWordsAndBytes machine.now.state }
     ensures cause { HasCause (K.faults out.old) (K.faults out.new) result }
 {
     let mut pending = Output::new();

@@ -15,7 +15,7 @@ use Rattle.instruction_set.specs.OperandForms.BytesAt.{StandsAt, with_number}
 use Rattle.instruction_set.proofs.OperandForms.Encoding.{number_decoded}
 use Rattle.assembly.specs.AssemblyText.Directives.{directive_named}
 use Rattle.assembly.specs.AssemblyText.InstructionOperands.{operands_with}
-use Rattle.assembly.specs.AssemblyText.Names.{is_name}
+use Rattle.assembly.specs.AssemblyText.Names.{has_name_form}
 use Rattle.assembly.specs.AssemblyText.Numbers.{is_from_to, word_of}
 use Rattle.assembly.specs.AssemblyText.LineText.{instruction, instruction_named, statement_named}
 use Rattle.assembly.specs.declared.assembly_text.errors.LineError.{LineError}
@@ -26,7 +26,7 @@ use Rattle.assembly.specs.declared.assembly_text.statements.Statement.TheVariant
 -- ---- each name of the table is a name, and no directive's
 
 abbrev is_instruction_name : List ℕ → Bool
-is_instruction_name name = is_name name && is_none (directive_named name)
+is_instruction_name name = has_name_form name && is_none (directive_named name)
 
 abbrev fits : Option Entry → Bool
 fits o = option_map_or (λ e. is_instruction_name e.name) o true
@@ -82,7 +82,7 @@ with_room byte n Switch h = refl
 pub statement_of_row : (byte : ℕ) (row : Entry) (operands : Operands) → entry byte ≡ Some row → statement_named row.name operands ≡ instruction byte row.form operands
 statement_of_row byte row operands e =
     let tests = name_fits (entry byte) row e (passes_at (λ b. fits (entry b)) 256 byte all_fit (byte_below byte row e)) in
-    let p = and_parts (is_name row.name) (is_none (directive_named row.name)) tests in
+    let p = and_parts (has_name_form row.name) (is_none (directive_named row.name)) tests in
     let directive = is_none_from (directive_named row.name) p.1 in
     let instr = named byte row e in
     rw (p.0, directive, instr) refl

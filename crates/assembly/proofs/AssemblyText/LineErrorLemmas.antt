@@ -8,7 +8,7 @@ use Rattle.assembly.specs.AssemblyText.AssemblyForm.{IsBadLine, IsBadOperand, Is
 use Rattle.assembly.specs.AssemblyText.Directives.{directive_named}
 use Rattle.assembly.specs.AssemblyText.Labels.{Table}
 use Rattle.assembly.specs.AssemblyText.LineErrors.{code_of}
-use Rattle.assembly.specs.AssemblyText.Names.{is_name, label_of}
+use Rattle.assembly.specs.AssemblyText.Names.{has_name_form, label_of}
 use Rattle.assembly.specs.AssemblyText.Numbers.{is_from_to}
 use Rattle.assembly.specs.AssemblyText.Operands.{label_operand, no_operand, number_operand, numbered_label, operands_of, unknown_name}
 use Rattle.assembly.specs.AssemblyText.Parts.{parts_of, without_comment}
@@ -126,7 +126,7 @@ statement_low : (parts : List (List ℕ)) → ErrIs IsLow (statement_of parts)
 statement_low [] = no_error
 statement_low (name ∷ parts) =
     let o = operands_of parts in
-    cond_is (not (is_name name)) (this_error (lit≤ tt))
+    cond_is (not (has_name_form name)) (this_error (lit≤ tt))
     (option_is (λ d. directed d o) (directive_named name) (λ d. directed_low d o)
     (option_is (λ i. instruction i.0 i.1 o) (instruction_named name) (λ i. instruction_low i.0 i.1 o) (this_error (unknown_low o))))
 

@@ -7,7 +7,7 @@ use Rattle.std.specs.Str.{IsUtf8}
 use Rattle.std.proofs.lemmas.Bool.{and_parts}
 use Rattle.std.proofs.lemmas.Bool.Decides.{nat_tests}
 use Rattle.std.proofs.lemmas.Str.{IsUtf8-from_ascii}
-use Rattle.assembly.specs.AssemblyText.Names.{is_name}
+use Rattle.assembly.specs.AssemblyText.Names.{has_name_form}
 
 letters_low : (cs : List ℕ) → list_all (λ d. is_ascii_alphanumeric d || (d == 36)) cs ≡ true → AllByRecursion (λ c. c < 128) cs
 letters_low [] h = tt
@@ -21,7 +21,7 @@ low_at [] h i = omega arith
 low_at (c ∷ cs) h zero = h.0
 low_at (c ∷ cs) h (suc i) = low_at cs h.1 i
 
-pub name_is_text : (name : List ℕ) → is_name name ≡ true → IsUtf8 name
+pub name_is_text : (name : List ℕ) → has_name_form name ≡ true → IsUtf8 name
 name_is_text [] h = cc h
 name_is_text (c ∷ cs) h =
     let p = and_parts (is_ascii_alphabetic c) (list_all (λ d. is_ascii_alphanumeric d || (d == 36)) cs) h in

@@ -21,7 +21,7 @@ use Rattle.assembly.specs.AssemblyText.LineForm.{AreParts, BeginsPlain, IsCommen
 use Rattle.assembly.specs.AssemblyText.LineForm.IsLine.{labelled as with_label, plain}
 use Rattle.assembly.specs.AssemblyText.LineForm.Says.{nothing, alone, number, relative, indirect, bytes, reserve, address, align_half, align_word, global as global_pair}
 use Rattle.assembly.specs.AssemblyText.LineText.{align, before_colon, directed, instruction, instruction_named, labelled, line_of, line_of_parts, statement_named, statement_of, unlabelled, with_number}
-use Rattle.assembly.specs.AssemblyText.Names.{is_label, is_name, label_of}
+use Rattle.assembly.specs.AssemblyText.Names.{is_label, has_name_form, label_of}
 use Rattle.assembly.specs.AssemblyText.Numbers.{is_from_to, number_of, word_of}
 use Rattle.assembly.specs.AssemblyText.Operands.{label_operand, no_operand, number_operand, numbered_label, operands_of, unknown_name}
 use Rattle.assembly.specs.AssemblyText.Parts.{parts_of, without_comment}
@@ -242,7 +242,7 @@ module _ (name : List ℕ) (parts : List (List ℕ)) where
 
 statement-ok : (parts : List (List ℕ)) → OkIs (Says parts) (statement_of parts)
 statement-ok [] = this_ok nothing
-statement-ok (name ∷ parts) = on (is_name name)
+statement-ok (name ∷ parts) = on (has_name_form name)
   where
     on : (b : Bool) → OkIs (Says (name ∷ parts)) (cond (not b) (Err NoForm) (option_map_or (λ d. directed d (operands_of parts)) (directive_named name)
         (option_map_or (λ (i : ℕ × Form). instruction i.0 i.1 (operands_of parts)) (instruction_named name) (Err (unknown_name (operands_of parts))))))

@@ -8,7 +8,7 @@ use Rattle.instruction_set.specs.InstructionTable.Table.{entry}
 use Rattle.instruction_set.specs.declared.instruction_table.forms.Form.{Form}
 use Rattle.instruction_set.specs.declared.instruction_table.forms.Form.TheVariants.{Plain, Byte, BytePlus, Half, Word, Relative, Indirect, Switch}
 use Rattle.assembly.specs.AssemblyText.Directives.{directive_named}
-use Rattle.assembly.specs.AssemblyText.Names.{is_name, label_of}
+use Rattle.assembly.specs.AssemblyText.Names.{has_name_form, label_of}
 use Rattle.assembly.specs.AssemblyText.Numbers.{is_from_to, word_of}
 use Rattle.assembly.specs.AssemblyText.Operands.{label_operand, no_operand, number_operand, numbered_label, operands_of, unknown_name}
 use Rattle.assembly.specs.AssemblyText.Parts.{parts_of, without_comment}
@@ -90,7 +90,7 @@ instruction_named name = option_and_then (λ byte. option_map (λ e. (byte, e.fo
 -- a name and its operands
 abbrev pub statement_named : List ℕ → Operands → Result Statement LineError
 statement_named name operands =
-    if not (is_name name) then Err NoForm else
+    if not (has_name_form name) then Err NoForm else
     option_map_or
     (λ d. directed d operands)
     (directive_named name)

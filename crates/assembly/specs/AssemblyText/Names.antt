@@ -13,6 +13,6 @@ abbrev pub label_of : List ℕ → Option (List ℕ)
 label_of part = if is_label part then Some part else None
 
 -- a name is a letter, and any number of letters, digits and `$`
-abbrev pub is_name : List ℕ → Bool
-is_name [] = false
-is_name (c ∷ cs) = is_ascii_alphabetic c && list_all (λ d. is_ascii_alphanumeric d || (d == 36)) cs
+abbrev pub has_name_form : List ℕ → Bool
+has_name_form [] = false
+has_name_form (c ∷ cs) = is_ascii_alphabetic c && list_all (λ d. is_ascii_alphanumeric d || (d == 36)) cs

@@ -2,7 +2,7 @@
 ghost use Rattle.std.specs.Prelude.{◌≡◌, ◌||◌, ◌==◌};
 ghost use Rattle.std.specs.Char.{is_ascii_alphanumeric};
 ghost use Rattle.std.specs.List.{list_all};
-ghost use Rattle.assembly.specs.AssemblyText.Names.{is_label, is_name, label_of};
+ghost use Rattle.assembly.specs.AssemblyText.Names.{is_label, has_name_form, label_of};
 
 use std::marker::Model;
 
@@ -61,8 +61,8 @@ fn goes_on_label(others: &[u8]) -> bool
 }
 
 /// Whether this part of a line may be a name: a letter, and any number of letters, digits and `$`.
-pub fn is_name(part: &[u8]) -> bool
-    ensures { result ≡ is_name part.now }
+pub fn has_name_form(part: &[u8]) -> bool
+    ensures { result ≡ has_name_form part.now }
 {
     match part.split_first() {
         None => false,

@@ -1,14 +1,14 @@
 // Reading a line.
 ghost use Rattle.std.specs.Prelude.{◌≡◌, IsTrue};
 ghost use Rattle.std.specs.Option.{option_copied};
-ghost use Rattle.assembly.specs.AssemblyText.Names.{is_name};
+ghost use Rattle.assembly.specs.AssemblyText.Names.{has_name_form};
 ghost use Rattle.assembly.specs.AssemblyText.Parts.{parts_of};
 ghost use Rattle.assembly.specs.AssemblyText.LineText.{before_colon, instruction_named, labelled, line_of, line_of_parts, statement_named, statement_of, unlabelled};
 
 use crate::assembly_text::LineError;
 use crate::assembly_text::directives::directive_named;
 use crate::assembly_text::instructions::{directed, instruction};
-use crate::assembly_text::labels::{Label, is_name};
+use crate::assembly_text::labels::{Label, has_name_form};
 use crate::assembly_text::operands::{Operands, read_operands};
 use crate::assembly_text::parts::{split_part, without_comment};
 use crate::assembly_text::statements::{Line, LineBytes, Statement};
@@ -74,7 +74,7 @@ fn read_statement(parts: &[u8]) -> Result<Statement<'_>, LineError>
 fn statement_named<'a>(name: &[u8], operands: Operands<'a>) -> Result<Statement<'a>, LineError>
     ensures { result ≡ statement_named name.now operands.entry }
 {
-    if !is_name(name) {
+    if !has_name_form(name) {
         return Err(LineError::NoForm);
     }
     if let Some(directive) = directive_named(name) {
@@ -88,7 +88,7 @@ fn statement_named<'a>(name: &[u8], operands: Operands<'a>) -> Result<Statement<
 
 // The byte of an instruction's name, and the form of its operand.
 fn instruction_named(name: &[u8]) -> Option<(u8, Form)>
-    requires { IsTrue (is_name name.now) }
+    requires { IsTrue (has_name_form name.now) }
     ensures { result ≡ instruction_named name.now }
 {
     let byte = byte_of(name_text(name))?;
@@ -98,7 +98,7 @@ fn instruction_named(name: &[u8]) -> Option<(u8, Form)>
 
 // A name, which has ASCII alone, as text.
 fn name_text(name: &[u8]) -> &str
-    requires { IsTrue (is_name name.now) }
+    requires { IsTrue (has_name_form name.now) }
     ensures { result.now ≡ name.now }
 {
     str::from_utf8(name).unwrap()

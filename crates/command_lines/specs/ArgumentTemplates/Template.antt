@@ -33,8 +33,8 @@ abbrev pub is_switch : List ℕ → Bool
 is_switch entry = list_any (λ c. c == 83) (qualifiers entry)
 
 -- one or more letters and digits
-abbrev pub is_name : List ℕ → Bool
-is_name text = nat_le 1 (length text) && list_all is_ascii_alphanumeric text
+abbrev pub is_entry_name : List ℕ → Bool
+is_entry_name text = nat_le 1 (length text) && list_all is_ascii_alphanumeric text
 
 -- whether a word is one of an entry's names, case ignored
 abbrev pub has_name : List ℕ → List ℕ → Bool
@@ -47,7 +47,7 @@ stands_once all entry name =
 
 -- an entry's names are names, and stand nowhere else
 abbrev pub are_names : List (List ℕ) → List ℕ → Bool
-are_names all entry = list_all (λ name. is_name name && stands_once all entry name) (names entry)
+are_names all entry = list_all (λ name. is_entry_name name && stands_once all entry name) (names entry)
 
 abbrev pub is_entry : List (List ℕ) → List ℕ → Bool
 is_entry all entry = are_qualifiers (qualifiers entry) && are_names all entry

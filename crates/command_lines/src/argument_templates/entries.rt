@@ -3,7 +3,7 @@ ghost use Rattle.std.specs.Prelude.{◌≡◌, ◌==◌, ◌&&◌, ◌||◌, ◌
 ghost use Rattle.std.specs.List.{count_by, list_all, before_first};
 ghost use Rattle.std.specs.Char.{is_ascii_alphanumeric};
 ghost use Rattle.std.specs.Str.{str_eq_ignore_ascii_case};
-ghost use Rattle.command_lines.specs.ArgumentTemplates.Template.{entries, names, qualifiers, are_names, are_qualifiers, is_name, has_name, stands_once, is_entry, is_template, is_switch, is_keyword, is_required};
+ghost use Rattle.command_lines.specs.ArgumentTemplates.Template.{entries, names, qualifiers, are_names, are_qualifiers, is_entry_name, has_name, stands_once, is_entry, is_template, is_switch, is_keyword, is_required};
 ghost use Rattle.command_lines.specs.ArgumentTemplates.Answer.{IsBelow, other_named, switch_named, word_role};
 
 use crate::argument_templates::cuts::length_before;
@@ -95,7 +95,7 @@ fn are_names(template: &[u8], entry: &[u8]) -> bool
 {
     names(entry)
         .split(|c| *c == b'=')
-        .all(|name| is_name(name) && stands_once(template, entry, name))
+        .all(|name| is_entry_name(name) && stands_once(template, entry, name))
 }
 
 // The switch that has this name.
@@ -144,8 +144,8 @@ fn are_qualifiers(text: &[u8]) -> bool
     matches!(text, b"" | b"/A" | b"/K" | b"/A/K" | b"/K/A" | b"/S")
 }
 
-fn is_name(name: &[u8]) -> bool
-    ensures { result ≡ is_name name.now }
+fn is_entry_name(name: &[u8]) -> bool
+    ensures { result ≡ is_entry_name name.now }
 {
     !name.is_empty() && are_letters_and_digits(name)
 }

@@ -85,7 +85,7 @@ module-at m (x ∷ xs) some = on (eqb m x.address) refl some (module-at m xs)
 
 -- The word behind a module's link has the number of its hunks, and the word before it the size of its block, which has room for its
 -- words before those of the hunks.
-pub record HasNumbers (s : List ℕ) (m : ℕ) (it : LoadedModule) (b : Block) : Type 0 where
+pub record HasModuleNumbers (s : List ℕ) (m : ℕ) (it : LoadedModule) (b : Block) : Type 0 where
   pub count : get_or s (m + 1) 0 ≡ length it.lengths
   pub size : get_or s (m - 1) 0 ≡ b.size
   pub some : 1 ≤ m
@@ -111,7 +111,7 @@ module _ (s : List ℕ) (l : Lists) (m : ℕ) (h : HoldsLists s l) (some : has_m
   own_block = used_block block.start (need (last_module_word place.it))
 
   -- what the store says of its size
-  pub numbers : HasNumbers s m place.it own_block
+  pub numbers : HasModuleNumbers s m place.it own_block
   numbers =
       let u : UsedBlock s 200 m own_block = used_at-is s 200 (blocks_in s) m own_block (reads s l h).tiled (ap (used_at m) (reads s l h).blocks ∙ block.block) in
       let inside : own_block.start + need (last_module_word place.it) + 2 ≤ length s = omega (arith, u.inside) in

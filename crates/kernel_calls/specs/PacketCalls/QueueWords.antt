@@ -11,6 +11,7 @@ use Rattle.kernel_model.specs.KernelRecord.Residents.{pending_head}
 use Rattle.kernel_model.specs.KernelRecord.Task.{queue_head}
 use Rattle.kernel_calls.specs.declared.packet_calls.queues.Queue.{Queue}
 use Rattle.kernel_calls.specs.declared.packet_calls.queues.Queue.TheVariants.{Clock, Keyboard, Output, Pending, Work}
+use Rattle.kernel_model.specs.KernelDispatch.DispatchWords.{state_of}
 
 -- the word that leads to its first packet
 abbrev pub head_of : Queue → ℕ
@@ -19,10 +20,6 @@ head_of Clock = clock_head
 head_of Keyboard = keyboard_head
 head_of Output = output_head
 head_of Pending = pending_head
-
--- a word of the task block at t
-abbrev pub state_of : List ℕ → ℕ → ℕ
-state_of s t = slice_index s (t + word_index State)
 
 -- a state is odd where packets wait
 abbrev pub state_with_packets : ℕ → ℕ

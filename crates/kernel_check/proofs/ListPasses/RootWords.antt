@@ -5,7 +5,8 @@ use Rattle.kernel_model.specs.KernelRecord.Ranges.{is_period, is_store_size}
 use Rattle.kernel_lists.specs.OwnedWords.Owned.{Holds, row_from}
 use Rattle.kernel_lists.proofs.OwnedWords.OwnedWords.{Holds-append}
 use Rattle.kernel_model.specs.KernelRecord.Lists.{Lists}
-use Rattle.kernel_model.specs.KernelRecord.Recovered.{has_residents, lists_in}
+use Rattle.kernel_model.specs.KernelRecord.Recovered.{lists_in}
+use Rattle.kernel_model.specs.KernelRecord.KernelRanges.{has_residents}
 use Rattle.kernel_model.specs.KernelRecord.Root.{number_words, resident_data, root_words, unused_entries}
 use Rattle.kernel_model.specs.KernelRecord.Task.{filled}
 use Rattle.kernel_model.specs.KernelRecord.Versions.{highest_id_of}

@@ -15,7 +15,7 @@ use Rattle.kernel_model.specs.KernelRecord.Recovered.{lists_in, task_in}
 use Rattle.kernel_model.specs.KernelRecord.Task.{Task, is_guest_id, task_id}
 use Rattle.kernel_model.specs.KernelRecord.ValidTasks.{IsField, IsGuest, IsResident, IsTask, PrioritiesFall, TasksStand, resident_place}
 use Rattle.kernel_model.specs.KernelRecord.Versions.{highest_id_of}
-use Rattle.kernel_check.specs.ListPasses.TaskRules.{HasNumbers, HasResidents}
+use Rattle.kernel_check.specs.ListPasses.TaskRules.{HasTaskNumbers, HasResidents}
 use Rattle.kernel_model.proofs.KernelRecord.RootCounts.{highest-low, highest-high}
 
 -- ---- priorities
@@ -139,19 +139,19 @@ guest-is n w read low = grind (arith, nat_tests)
 pub guest-not : (n w : ℕ) → w ≡ n → w < 5 → is_guest_id n ≡ false
 guest-not n w read low = grind (arith, nat_tests)
 
-pub guest-task : (l : Lists) (t : Task) → HasNumbers l t → is_guest_id t.id ≡ true → IsGuest l t ↔ IsTask l t
+pub guest-task : (l : Lists) (t : Task) → HasTaskNumbers l t → is_guest_id t.id ≡ true → IsGuest l t ↔ IsTask l t
 guest-task l t n is = (
   λ g. record { low = n.low; high = n.high; maker = n.maker; field = n.field; byte = n.byte; guest = λ e. g; resident = λ e. absurd (false≢true (sym e ∙ is)) },
   λ k. k.guest is,
 )
 
-pub resident-task : (l : Lists) (t : Task) → HasNumbers l t → is_guest_id t.id ≡ false → IsResident t ↔ IsTask l t
+pub resident-task : (l : Lists) (t : Task) → HasTaskNumbers l t → is_guest_id t.id ≡ false → IsResident t ↔ IsTask l t
 resident-task l t n is = (
   λ g. record { low = n.low; high = n.high; maker = n.maker; field = n.field; byte = n.byte; guest = λ e. absurd (false≢true (sym is ∙ e)); resident = λ e. g },
   λ k. k.resident is,
 )
 
-pub task-numbers : (l : Lists) (t : Task) → IsTask l t → HasNumbers l t
+pub task-numbers : (l : Lists) (t : Task) → IsTask l t → HasTaskNumbers l t
 task-numbers l t k = record { low = k.low; high = k.high; maker = k.maker; field = k.field; byte = k.byte }
 
 pub is-field : (w : ℕ) → w < 16 → IsField (w - w % 4)

@@ -10,7 +10,7 @@ use Rattle.kernel_model.specs.KernelRecord.Versions.{highest_id_of, most_modules
 use Rattle.store_claims.specs.WordClaims.Marks.{is_open}
 
 -- What is asked of guests and residents alike.
-pub record HasNumbers (l : Lists) (t : Task) : Type 0 where
+pub record HasTaskNumbers (l : Lists) (t : Task) : Type 0 where
   -- priorities begin with 1
   pub low : 1 ≤ t.priority
   -- and end with 10,000

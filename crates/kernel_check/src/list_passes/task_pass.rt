@@ -10,7 +10,7 @@ ghost use Rattle.kernel_model.specs.KernelRecord.ValidTasks.{IsTask, PrioritiesF
 ghost use Rattle.kernel_check.specs.ListPasses.ClaimedStore.{IsClaimed};
 ghost use Rattle.kernel_check.specs.ListPasses.StartMarks.{OpensMembers, OpensStarts};
 ghost use Rattle.kernel_check.specs.ListPasses.CanPass.{CanPass};
-ghost use Rattle.kernel_check.specs.ListPasses.TaskRules.{HasNumbers, HasResidents};
+ghost use Rattle.kernel_check.specs.ListPasses.TaskRules.{HasTaskNumbers, HasResidents};
 
 use crate::list_passes::guests::{guest_stands, resident_stands};
 use crate::list_passes::resident_pass::{has_residents, has_task};
@@ -81,7 +81,7 @@ fn task_stands(store: &Store, starts: &Claims, modules: &Claims, t: u32) -> bool
 
 // Whether its priority, its maker, its saved C and its state are those that a task may have.
 fn has_numbers(store: &Store, t: u32) -> bool
-    ensures { IsTrue result ↔ HasNumbers (lists_in store.now) (task_in store.now t) }
+    ensures { IsTrue result ↔ HasTaskNumbers (lists_in store.now) (task_in store.now t) }
 {
     let priority = field(store, t, TcbField::Pri);
     if priority < 1 || priority > 10_000 {

@@ -15,7 +15,8 @@ use Rattle.kernel_lists.specs.Coroutines.CoroutineExchanges.{HoldsCoroutines}
 use Rattle.kernel_model.specs.KernelRecord.Lists.{Lists, address_of_task, has_task, is_queued}
 use Rattle.kernel_model.specs.KernelRecord.Owned.{clock_head, keyboard_head, output_head, owned}
 use Rattle.kernel_model.specs.KernelRecord.ReadsLists.{ReadsLists}
-use Rattle.kernel_model.specs.KernelRecord.Recovered.{has_residents, has_task_in, is_free, key_in, lists_in, number_of, packets_at, pending_in, task_in}
+use Rattle.kernel_model.specs.KernelRecord.Recovered.{has_task_in, is_free, key_in, lists_in, number_of, packets_at, pending_in, task_in}
+use Rattle.kernel_model.specs.KernelRecord.KernelRanges.{has_residents}
 use Rattle.kernel_model.specs.KernelRecord.Residents.{fault_packet, fault_packet_words, key_arguments, key_packet, key_words, pending_head, resident_words}
 use Rattle.kernel_model.specs.KernelRecord.Task.{Task, queue_head, task_address, task_id, task_words}
 use Rattle.kernel_model.specs.KernelRecord.ValidLists.{AreValid}

@@ -21,6 +21,7 @@ use Rattle.kernel_model.specs.KernelRecord.Lists.{Lists}
 use Rattle.kernel_model.specs.KernelRecord.Owned.{clock_head, keyboard_head, output_head}
 use Rattle.kernel_model.specs.KernelRecord.Residents.{fault_packet, key_packet, pending_head}
 use Rattle.kernel_model.specs.KernelRecord.Task.{Task, is_guest_id, queue_head}
+use Rattle.kernel_model.specs.KernelRecord.KernelRanges.{has_residents}
 
 -- a word of the root, and one of a task block
 abbrev pub root_in : List ℕ → ℕ → ℕ
@@ -97,9 +98,6 @@ module_in s m = record { address = m; lengths = lengths_in s m }
 -- the number of the task at an address, 0 for none
 abbrev pub number_of : List ℕ → ℕ → ℕ
 number_of s t = if t == 0 then 0 else id_in s t
-
-abbrev pub has_residents : List ℕ → Bool
-has_residents s = not (root_in s (root_address Residents) == 0)
 
 -- whether a packet of the residents is there and on no queue
 abbrev pub is_free : List ℕ → ℕ → Bool

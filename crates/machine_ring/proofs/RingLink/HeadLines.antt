@@ -17,7 +17,7 @@ use Rattle.session_text.proofs.Blanks.{number_field-again, number_field-ok}
 use Rattle.machine_ring.specs.RingLink.Heads.{head_lines, is_letter, is_letter_count, is_round_count, is_wait, letters, letters_after, letters_line, numbers, numbers_line}
 use Rattle.machine_ring.specs.RingLink.NextLines.{line_after, next_line}
 use Rattle.machine_ring.specs.RingLink.RingForm.{AreLetters}
-use Rattle.machine_ring.specs.RingLink.TwoNumbers.{HasNumbers, two_numbers}
+use Rattle.machine_ring.specs.RingLink.TwoNumbers.{SaysTwoNumbers, two_numbers}
 use Rattle.machine_ring.specs.declared.ring_link.heads.Head.{Head}
 use Rattle.session_text.proofs.StatementLines.{and_then-ok}
 
@@ -38,7 +38,7 @@ line_after-again word n rest = rw ((bytes_eq-Decides word word).1 refl) refl
 
 -- ---- the two numbers
 
-two_numbers-ok : (line : List ℕ) (both : ℕ × ℕ) → two_numbers line ≡ Some both → HasNumbers both line
+two_numbers-ok : (line : List ℕ) (both : ℕ × ℕ) → two_numbers line ≡ Some both → SaysTwoNumbers both line
 two_numbers-ok line both e =
     let a = and_then-ok (after_word (codes "RING ") line) (λ text. option_and_then (λ rounds. option_and_then (λ wait. Some (rounds.0, wait)) (number_of rounds.1)) (number_field text)) both e in
     let b = and_then-ok (number_field a.0) (λ rounds. option_and_then (λ wait. Some (rounds.0, wait)) (number_of rounds.1)) both a.2 in
@@ -46,20 +46,20 @@ two_numbers-ok line both e =
     let same : (b.0.0, c.0) ≡ both = cc c.2 in
     let field = number_field-ok a.0 b.0 b.1 in
     let is = after_word-ok (codes "RING ") line a.0 a.1 ∙ ap (λ (text : List ℕ). codes "RING " ++ text) field.2 in
-    subst (λ (x : ℕ × ℕ). HasNumbers x line) same (field.0, b.0.1, field.1, number_in-ok 10 10 b.0.1 c.0 c.1, is)
+    subst (λ (x : ℕ × ℕ). SaysTwoNumbers x line) same (field.0, b.0.1, field.1, number_in-ok 10 10 b.0.1 c.0 c.1, is)
 
-two_numbers-again : (line : List ℕ) (both : ℕ × ℕ) → HasNumbers both line → two_numbers line ≡ Some both
+two_numbers-again : (line : List ℕ) (both : ℕ × ℕ) → SaysTwoNumbers both line → two_numbers line ≡ Some both
 two_numbers-again line both h =
     rw (h.4, number_field-again h.0 h.1 both.0 h.2, number_in-again 10 10 h.1 both.1 h.3) refl
 
-numbers-ok : (line : List ℕ) (both : ℕ × ℕ) → numbers line ≡ Ok both → HasNumbers both line × (is_round_count both.0 ≡ true) × (is_wait both.1 ≡ true)
+numbers-ok : (line : List ℕ) (both : ℕ × ℕ) → numbers line ≡ Ok both → SaysTwoNumbers both line × (is_round_count both.0 ≡ true) × (is_wait both.1 ≡ true)
 numbers-ok line both e =
     let b = bind-ok (ok_or (two_numbers line) (refusal 1 1)) (λ x. cond (is_round_count x.0 && is_wait x.1) (Ok x) (Err (refusal 1 2))) both e in
     let g = guard-ok (is_round_count b.0.0 && is_wait b.0.1) b.0 both (refusal 1 2) b.2 in
     let t = and_parts (is_round_count b.0.0) (is_wait b.0.1) g.0 in
-    subst (λ (x : ℕ × ℕ). HasNumbers x line × (is_round_count x.0 ≡ true) × (is_wait x.1 ≡ true)) g.1 (two_numbers-ok line b.0 (ok_or-ok _ _ b.0 b.1), t.0, t.1)
+    subst (λ (x : ℕ × ℕ). SaysTwoNumbers x line × (is_round_count x.0 ≡ true) × (is_wait x.1 ≡ true)) g.1 (two_numbers-ok line b.0 (ok_or-ok _ _ b.0 b.1), t.0, t.1)
 
-pub numbers-again : (line : List ℕ) (both : ℕ × ℕ) → HasNumbers both line → is_round_count both.0 ≡ true → is_wait both.1 ≡ true → numbers line ≡ Ok both
+pub numbers-again : (line : List ℕ) (both : ℕ × ℕ) → SaysTwoNumbers both line → is_round_count both.0 ≡ true → is_wait both.1 ≡ true → numbers line ≡ Ok both
 numbers-again line both h r w = rw (two_numbers-again line both h, r, w) refl
 
 -- ---- letters
@@ -82,13 +82,13 @@ letters_after-again word n x h = rw (after_word-again word x, h.0, h.1) refl
 -- ---- all four
 
 numbers_line-ok : (lines : List (List ℕ)) (x : (ℕ × ℕ) × List (List ℕ)) → numbers_line lines ≡ Ok x
-    → (line : List ℕ) × (lines ≡ line ∷ x.1) × HasNumbers x.0 line × (is_round_count x.0.0 ≡ true) × (is_wait x.0.1 ≡ true)
+    → (line : List ℕ) × (lines ≡ line ∷ x.1) × SaysTwoNumbers x.0 line × (is_round_count x.0.0 ≡ true) × (is_wait x.0.1 ≡ true)
 numbers_line-ok [] x e = cc e
 numbers_line-ok (line ∷ lines) x e =
     let b = bind-ok (numbers line) (λ both. Ok (both, lines)) x e in
     let same : (b.0, lines) ≡ x = cc b.2 in
     let both = numbers-ok line b.0 b.1 in
-    subst (λ (y : (ℕ × ℕ) × List (List ℕ)). (l : List ℕ) × (line ∷ lines ≡ l ∷ y.1) × HasNumbers y.0 l × (is_round_count y.0.0 ≡ true) × (is_wait y.0.1 ≡ true)) same
+    subst (λ (y : (ℕ × ℕ) × List (List ℕ)). (l : List ℕ) × (line ∷ lines ≡ l ∷ y.1) × SaysTwoNumbers y.0 l × (is_round_count y.0.0 ≡ true) × (is_wait y.0.1 ≡ true)) same
     (line, refl, both.0, both.1, both.2)
 
 letters_line-ok : (word : List ℕ) (n : ℕ) (lines : List (List ℕ)) (x : List ℕ × List (List ℕ)) → letters_line word n lines ≡ Ok x → (lines ≡ (word ++ x.0) ∷ x.1) × AreLetters x.0
@@ -106,7 +106,7 @@ pub record AreHeadLines (head : Head) (lines rest : List (List ℕ)) : Type 0 wh
   -- the lines after these
   pub all : lines ≡ first ∷ (codes "LINK :" ++ head.link) ∷ (codes "ACKS :" ++ head.acks) ∷ codes "LEFT" ∷ rest
   -- the first line has the rounds and the wait
-  pub numbers : HasNumbers (head.rounds, head.wait) first
+  pub numbers : SaysTwoNumbers (head.rounds, head.wait) first
   -- in their ranges
   pub rounds : is_round_count head.rounds ≡ true
   pub wait : is_wait head.wait ≡ true

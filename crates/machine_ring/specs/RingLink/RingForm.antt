@@ -4,7 +4,7 @@ use Rattle.std.specs.List.{list_all}
 use Rattle.module_text.specs.TextReader.Lines.{lines_of}
 use Rattle.session_text.specs.SessionForm.{AreSessionLines}
 use Rattle.machine_ring.specs.RingLink.Heads.{is_letter, is_letter_count, is_round_count, is_wait}
-use Rattle.machine_ring.specs.RingLink.TwoNumbers.{HasNumbers}
+use Rattle.machine_ring.specs.RingLink.TwoNumbers.{SaysTwoNumbers}
 use Rattle.machine_ring.specs.declared.ring_link.inputs.RingInput.{RingInput}
 use Rattle.machine_ring.specs.declared.ring_link.inputs.TheConstants.{LEFT_LINE}
 
@@ -24,7 +24,7 @@ pub record AreRingLines (ring : RingInput) (lines : List (List ℕ)) : Type 0 wh
   pub all :
       lines ≡ first ∷ (codes "LINK :" ++ ring.link) ∷ (codes "ACKS :" ++ ring.acks) ∷ codes "LEFT" ∷ (left ++ codes "RIGHT" ∷ right)
   -- the first line has the rounds and the wait
-  pub numbers : HasNumbers (ring.rounds, ring.wait) first
+  pub numbers : SaysTwoNumbers (ring.rounds, ring.wait) first
   -- they are a number of rounds
   pub rounds : IsTrue (is_round_count ring.rounds)
   -- and a wait

@@ -5,8 +5,8 @@ use Rattle.module_text.specs.TextReader.Numbers.{IsNumber, number_of}
 use Rattle.session_text.specs.Statements.{number_field}
 
 -- the line has these two, with one blank between
-abbrev pub HasNumbers : ℕ × ℕ → List ℕ → Type 0
-HasNumbers both line = (a b : List ℕ) × IsNumber a both.0 × IsNumber b both.1 × (line ≡ codes "RING " ++ (a ++ 32 ∷ b))
+abbrev pub SaysTwoNumbers : ℕ × ℕ → List ℕ → Type 0
+SaysTwoNumbers both line = (a b : List ℕ) × IsNumber a both.0 × IsNumber b both.1 × (line ≡ codes "RING " ++ (a ++ 32 ∷ b))
 
 infixl 10 ◌>>=◌
 abbrev ◌>>=◌ : {A B : Type 0} → Option A → (A → Option B) → Option B

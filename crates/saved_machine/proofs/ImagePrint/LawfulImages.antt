@@ -20,8 +20,8 @@ use Rattle.kernel_model.proofs.KernelRecord.ImageWords.{valid-image}
 use Rattle.saved_text.specs.SavedLines.Heads.{are_regs}
 use Rattle.saved_text.specs.Canonical.{IsLawful}
 use Rattle.saved_text.specs.ImageForm.{awaited}
-use Rattle.saved_machine.specs.ImagePrint.Numbers.{AreWords, HasNumbers, HoldsBytes, IsSized, MayTake}
-use Rattle.saved_machine.specs.ImagePrint.SavedImage.{numbered, saved_file, saved_image, saved_mode, saved_pipe}
+use Rattle.saved_machine.specs.ImagePrint.Numbers.{AreWords, HasWordsAndBytes, HoldsBytes, IsSized, MayTake}
+use Rattle.saved_machine.specs.ImagePrint.SavedImage.{with_places, saved_file, saved_image, saved_mode, saved_pipe}
 use Rattle.saved_machine.proofs.ImagePrint.PlacedNames.{are-files, are-pipes, are-streams}
 
 below : (n most : ℕ) → n < most → nat_lt n most ≡ true
@@ -35,7 +35,7 @@ files-bytes : (fs : List File) → AllByRecursion (λ f. IsBytes f.bytes) fs →
 files-bytes [] h = tt
 files-bytes (f ∷ fs) h = (h.0, files-bytes fs h.1)
 
-pipes-bytes : (k : ℕ) (ps : List (Option Pipe)) → AllByRecursion HoldsBytes ps → AllByRecursion (λ p. IsBytes p.held) (numbered saved_pipe k ps)
+pipes-bytes : (k : ℕ) (ps : List (Option Pipe)) → AllByRecursion HoldsBytes ps → AllByRecursion (λ p. IsBytes p.held) (with_places saved_pipe k ps)
 pipes-bytes k [] h = tt
 pipes-bytes k (None ∷ ps) h = pipes-bytes (k + 1) ps h.1
 pipes-bytes k (Some p ∷ ps) h = (h.0, pipes-bytes (k + 1) ps h.1)
@@ -58,7 +58,7 @@ waits-word version (Waiting id) h = by (version == 2) h.1
 no-bytes : IsBytes []
 no-bytes i = omega arith
 
-bare-lawful : (version : ℕ) (m : BareState) (go : ℕ) → IsSound (Bare m) → HasNumbers (Bare m) → IsSized version (Bare m) → MayTake (Bare m) go → IsLawful (saved_image version (Bare m) go)
+bare-lawful : (version : ℕ) (m : BareState) (go : ℕ) → IsSound (Bare m) → HasWordsAndBytes (Bare m) → IsSized version (Bare m) → MayTake (Bare m) go → IsLawful (saved_image version (Bare m) go)
 bare-lawful version m go sound numbers sized may = record {
   version = sized.0;
   size = sized.1;
@@ -74,7 +74,7 @@ bare-lawful version m go sound numbers sized may = record {
   words = numbers.words;
 }
 
-full-lawful : (version : ℕ) (k : Kernel) (go : ℕ) → IsValid k → HasNumbers (Full k) → MayTake (Full k) go → IsLawful (saved_image version (Full k) go)
+full-lawful : (version : ℕ) (k : Kernel) (go : ℕ) → IsValid k → HasWordsAndBytes (Full k) → MayTake (Full k) go → IsLawful (saved_image version (Full k) go)
 full-lawful version k go valid numbers may =
     let stand = valid.residents in
     record {
@@ -97,6 +97,6 @@ full-lawful version k go valid numbers may =
       words = numbers.words;
     }
 
-pub saved_lawful : (version : ℕ) (s : State) (go : ℕ) → IsSound s → HasNumbers s → IsSized version s → MayTake s go → IsLawful (saved_image version s go)
+pub saved_lawful : (version : ℕ) (s : State) (go : ℕ) → IsSound s → HasWordsAndBytes s → IsSized version s → MayTake s go → IsLawful (saved_image version s go)
 saved_lawful version (Bare m) go sound numbers sized may = bare-lawful version m go sound numbers sized may
 saved_lawful version (Full k) go sound numbers sized may = full-lawful version k go sound numbers may

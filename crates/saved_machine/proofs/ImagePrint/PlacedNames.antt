@@ -15,7 +15,7 @@ use Rattle.kernel_model.specs.KernelRecord.Kernel.{Pipe}
 use Rattle.kernel_model.specs.KernelRecord.Pipes.{ArePipes as StandAsPipes}
 use Rattle.saved_text.specs.ImageForm.{AreFiles, ArePipes, AreStreams, flag}
 use Rattle.saved_text.specs.Ranges.{are_pipe_numbers, are_stream_numbers, is_flag}
-use Rattle.saved_machine.specs.ImagePrint.SavedImage.{numbered, numbered_pipes, numbered_streams, saved_file, saved_pipe, saved_stream}
+use Rattle.saved_machine.specs.ImagePrint.SavedImage.{with_places, numbered_pipes, numbered_streams, saved_file, saved_pipe, saved_stream}
 
 -- ---- names
 
@@ -63,7 +63,7 @@ stream-numbers k position writes low high few =
 abbrev IsFit : Stream → Type 0
 IsFit s = (is_name s.name ≡ true) × (s.position < 2 ^ 32)
 
-numbered-fit : (ss : List (Option Stream)) (k floor : ℕ) → floor ≤ k → 1 ≤ k → k + length ss ≤ 18 → ((i : ℕ) (s : Stream) → slice_index_or ss i None ≡ Some s → IsFit s) → AreStreams floor (numbered saved_stream k ss)
+numbered-fit : (ss : List (Option Stream)) (k floor : ℕ) → floor ≤ k → 1 ≤ k → k + length ss ≤ 18 → ((i : ℕ) (s : Stream) → slice_index_or ss i None ≡ Some s → IsFit s) → AreStreams floor (with_places saved_stream k ss)
 numbered-fit [] k floor low one few fit = tt
 numbered-fit (None ∷ ss) k floor low one few fit = numbered-fit ss (k + 1) floor (omega (arith, low)) (omega arith) (omega (arith, few)) (λ i s e. fit (suc i) s e)
 numbered-fit (Some s ∷ ss) k floor low one few fit =
@@ -93,7 +93,7 @@ pipe-numbers k r w e low high =
     let b : nat_le k 8 ≡ true = grind (arith, nat_tests) in
     and_from _ _ (and_from _ _ (and_from _ _ (and_from _ _ a b) (is-flag r)) (is-flag w)) (is-flag e)
 
-numbered-named : (ps : List (Option Pipe)) (k floor : ℕ) → floor ≤ k → 1 ≤ k → k + length ps ≤ 9 → ((i : ℕ) (p : Pipe) → slice_index_or ps i None ≡ Some p → IsName p.name) → ArePipes floor (numbered saved_pipe k ps)
+numbered-named : (ps : List (Option Pipe)) (k floor : ℕ) → floor ≤ k → 1 ≤ k → k + length ps ≤ 9 → ((i : ℕ) (p : Pipe) → slice_index_or ps i None ≡ Some p → IsName p.name) → ArePipes floor (with_places saved_pipe k ps)
 numbered-named [] k floor low one few named = tt
 numbered-named (None ∷ ps) k floor low one few named = numbered-named ps (k + 1) floor (omega (arith, low)) (omega arith) (omega (arith, few)) (λ i p e. named (suc i) p e)
 numbered-named (Some p ∷ ps) k floor low one few named =

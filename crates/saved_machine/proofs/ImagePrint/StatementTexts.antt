@@ -11,7 +11,7 @@ use Rattle.saved_text.specs.SavedLines.Statements.{Statement, Bytes}
 use Rattle.saved_text.specs.ImageForm.{key_statement, pipe_statement, stream_statement, word_statement, word_statements}
 use Rattle.ram_disc.specs.Disc.{Disc, stream_at}
 use Rattle.kernel_model.specs.KernelRecord.Kernel.{Pipe}
-use Rattle.saved_machine.specs.ImagePrint.SavedImage.{at_place, numbered, saved_pipe, saved_stream}
+use Rattle.saved_machine.specs.ImagePrint.SavedImage.{at_place, with_places, saved_pipe, saved_stream}
 use Rattle.saved_machine.specs.ImagePrint.Texts.{statements_text}
 use Rattle.saved_machine.proofs.ImagePrint.NumberedPlaces.{numbered-step}
 
@@ -78,31 +78,31 @@ line-range bytes i =
 
 -- what stands at place k, and at those behind it
 numbered-at : {A B : Type 0} (f : ℕ → A → B) (statement : B → Statement) (xs : List (Option A)) (k : ℕ) → 0 < k
-    → statements_text (map statement (numbered f k (drop (k - 1) xs)))
+    → statements_text (map statement (with_places f k (drop (k - 1) xs)))
     ≡ statements_text (map statement (at_place f k (if k == 0 then None else slice_index_or xs (k - 1) None)))
-    ++ statements_text (map statement (numbered f (k + 1) (drop (k + 1 - 1) xs)))
+    ++ statements_text (map statement (with_places f (k + 1) (drop (k + 1 - 1) xs)))
 numbered-at f statement xs k low =
     let some : (k == 0) ≡ false = ne_eqb k 0 (λ e. omega (arith, low, e)) in
     let next : suc (k - 1) ≡ k + 1 - 1 = omega (arith, low) in
     let here = at_place f k (slice_index_or xs (k - 1) None) in
-    let others = numbered f (k + 1) (drop (suc (k - 1)) xs) in
+    let others = with_places f (k + 1) (drop (suc (k - 1)) xs) in
     ap (λ ys. statements_text (map statement ys)) (numbered-step f k (k - 1) xs)
     ∙ ap statements_text (map-append statement here others) ∙ statements_text-append (map statement here) (map statement others)
     ∙ ap (λ b. statements_text (map statement (at_place f k (if b then None else slice_index_or xs (k - 1) None))) ++ statements_text (map statement others)) (sym some)
-    ∙ ap (λ (n : ℕ). statements_text (map statement (at_place f k (if k == 0 then None else slice_index_or xs (k - 1) None))) ++ statements_text (map statement (numbered f (k + 1) (drop n xs)))) next
+    ∙ ap (λ (n : ℕ). statements_text (map statement (at_place f k (if k == 0 then None else slice_index_or xs (k - 1) None))) ++ statements_text (map statement (with_places f (k + 1) (drop n xs)))) next
 
 pub streams-at : (d : Disc) (k : ℕ) → 0 < k
-    → statements_text (map stream_statement (numbered saved_stream k (drop (k - 1) d.streams)))
+    → statements_text (map stream_statement (with_places saved_stream k (drop (k - 1) d.streams)))
     ≡ statements_text (map stream_statement (at_place saved_stream k (stream_at d k)))
-    ++ statements_text (map stream_statement (numbered saved_stream (k + 1) (drop (k + 1 - 1) d.streams)))
+    ++ statements_text (map stream_statement (with_places saved_stream (k + 1) (drop (k + 1 - 1) d.streams)))
 streams-at d k low = numbered-at saved_stream stream_statement d.streams k low
 
 pub pipes-at : (ps : List (Option Pipe)) (k : ℕ) → 0 < k
-    → statements_text (map pipe_statement (numbered saved_pipe k (drop (k - 1) ps)))
+    → statements_text (map pipe_statement (with_places saved_pipe k (drop (k - 1) ps)))
     ≡ statements_text (map pipe_statement (at_place saved_pipe k (if k == 0 then None else slice_index_or ps (k - 1) None)))
-    ++ statements_text (map pipe_statement (numbered saved_pipe (k + 1) (drop (k + 1 - 1) ps)))
+    ++ statements_text (map pipe_statement (with_places saved_pipe (k + 1) (drop (k + 1 - 1) ps)))
 pipes-at ps k low = numbered-at saved_pipe pipe_statement ps k low
 
 -- nothing stands behind the last place
-pub numbered-end : {A B : Type 0} (f : ℕ → A → B) (statement : B → Statement) (xs : List (Option A)) (k : ℕ) → length xs ≤ k - 1 → statements_text (map statement (numbered f k (drop (k - 1) xs))) ≡ []
-numbered-end f statement xs k le = ap (λ ys. statements_text (map statement (numbered f k ys))) (drop_all (k - 1) xs le)
+pub numbered-end : {A B : Type 0} (f : ℕ → A → B) (statement : B → Statement) (xs : List (Option A)) (k : ℕ) → length xs ≤ k - 1 → statements_text (map statement (with_places f k (drop (k - 1) xs))) ≡ []
+numbered-end f statement xs k le = ap (λ ys. statements_text (map statement (with_places f k ys))) (drop_all (k - 1) xs le)

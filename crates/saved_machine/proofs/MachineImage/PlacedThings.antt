@@ -7,7 +7,7 @@ use Rattle.std.proofs.lemmas.Option.{none-some, same_Some}
 use Rattle.std.proofs.lemmas.List.{ext_get_or, get_or-set_other, get_or-replicate, get_or-set_same, get_or_past, length-replicate, length-set, take-append-drop, take_more}
 use Rattle.std.proofs.lemmas.List.Folds.{find-append}
 use Rattle.std.proofs.lemmas.List.FromFn.{get_or-map-range_with_len, length-map-range_with_len}
-use Rattle.saved_machine.specs.MachineImage.Placed.{numbered, placed}
+use Rattle.saved_machine.specs.MachineImage.Placed.{thing_numbered, placed}
 
 -- in some place is a thing that passes the test
 abbrev pub Holds : {B : Type 0} → (Option B → Bool) → List (Option B) → Type 0
@@ -43,11 +43,11 @@ module _ {A B : Type 0} (number : A → ℕ) (thing : A → B) (places : ℕ) wh
 
   pub length-placed : (xs : List A) → length (Placed xs) ≡ places
   unfolding placed
-  length-placed xs = length-map-range_with_len (λ i. numbered number thing xs (i + 1)) 0 places
+  length-placed xs = length-map-range_with_len (λ i. thing_numbered number thing xs (i + 1)) 0 places
 
-  pub placed-at : (xs : List A) (i : ℕ) → i < places → get_or (Placed xs) i None ≡ numbered number thing xs (i + 1)
+  pub placed-at : (xs : List A) (i : ℕ) → i < places → get_or (Placed xs) i None ≡ thing_numbered number thing xs (i + 1)
   unfolding placed
-  placed-at xs i low = get_or-map-range_with_len (λ j. numbered number thing xs (j + 1)) 0 places i i None low (omega arith)
+  placed-at xs i low = get_or-map-range_with_len (λ j. thing_numbered number thing xs (j + 1)) 0 places i i None low (omega arith)
 
   -- a number that is above all others is no other's
   find-above : (xs : List A) (k : ℕ) → AreBelow k xs → find (has k) xs ≡ None
@@ -75,7 +75,7 @@ module _ {A B : Type 0} (number : A → ℕ) (thing : A → B) (places : ℕ) wh
   pub placed-free : (xs : List A) (a : A) → AreBelow (number a) xs → 1 ≤ number a → number a ≤ places → get_or (Placed xs) (number a - 1) None ≡ None
   placed-free xs a below low high =
       placed-at xs (number a - 1) (omega arith)
-      ∙ ap (numbered number thing xs) (omega arith)
+      ∙ ap (thing_numbered number thing xs) (omega arith)
       ∙ ap (option_map thing) (find-above xs (number a) below)
 
   -- it has the thing of its number, whatever comes behind
@@ -83,7 +83,7 @@ module _ {A B : Type 0} (number : A → ℕ) (thing : A → B) (places : ℕ) wh
       → get_or (Placed (xs ++ a ∷ ys)) (number a - 1) None ≡ Some (thing a)
   placed-there xs ys a below low high =
       placed-at (xs ++ a ∷ ys) (number a - 1) (omega arith)
-      ∙ ap (numbered number thing (xs ++ a ∷ ys)) (omega arith)
+      ∙ ap (thing_numbered number thing (xs ++ a ∷ ys)) (omega arith)
       ∙ ap (option_map thing) (find-behind xs (a ∷ ys) (number a) below ∙ find-here a ys)
 
   -- one thing more, with a number that is above all others

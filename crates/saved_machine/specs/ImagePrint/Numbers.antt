@@ -43,7 +43,7 @@ StateKeepsBytes (Bare m) = Unit {0}
 StateKeepsBytes (Full k) = KeepsBytes k
 
 -- its words are words, and its bytes are bytes, as those of every machine
-pub record HasNumbers (s : State) : Type 0 where
+pub record HasWordsAndBytes (s : State) : Type 0 where
   -- the words of the store
   pub words : AllByRecursion (λ w. w < 2 ^ 32) (words_of s)
   -- the registers

@@ -37,16 +37,16 @@ abbrev pub at_place : {A B : Type 0} → (ℕ → A → B) → ℕ → Option A 
 at_place f k x = option_to_list (option_map (f k) x)
 
 -- what stands at the places of a list, each with the number of its place, of which the first is k
-abbrev pub numbered : {A B : Type 0} → (ℕ → A → B) → ℕ → List (Option A) → List B
-numbered f k [] = []
-numbered f k (x ∷ xs) = at_place f k x ++ numbered f (k + 1) xs
+abbrev pub with_places : {A B : Type 0} → (ℕ → A → B) → ℕ → List (Option A) → List B
+with_places f k [] = []
+with_places f k (x ∷ xs) = at_place f k x ++ with_places f (k + 1) xs
 
 -- the streams that are open, and the pipes that are there, with their numbers from 1 on
 abbrev pub numbered_streams : List (Option Stream) → List SavedStream
-numbered_streams ss = numbered saved_stream 1 ss
+numbered_streams ss = with_places saved_stream 1 ss
 
 abbrev pub numbered_pipes : List (Option Pipe) → List SavedPipe
-numbered_pipes ps = numbered saved_pipe 1 ps
+numbered_pipes ps = with_places saved_pipe 1 ps
 
 -- ---- the whole
 

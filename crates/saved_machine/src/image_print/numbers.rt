@@ -9,7 +9,7 @@ ghost use Rattle.kernel_model.specs.KernelRecord.Pipes.{ArePipes};
 ghost use Rattle.kernel_model.specs.KernelRecord.ValidKernel.{IsValid};
 ghost use Rattle.kernel_machine.specs.RunningMachine.Stands.{Stands};
 ghost use Rattle.resident_tasks.specs.PipeHandler.PipeCalls.{pipe_numbered};
-ghost use Rattle.saved_machine.specs.ImagePrint.Numbers.{AreWords, HasNumbers, HoldsBytes, KeepsBytes};
+ghost use Rattle.saved_machine.specs.ImagePrint.Numbers.{AreWords, HasWordsAndBytes, HoldsBytes, KeepsBytes};
 
 use crate::image_print::pipes::held_by;
 use crate::image_print::words::all_words;
@@ -23,7 +23,7 @@ use word_store::Regs;
 
 /// Tells that the words of a machine are words, and its bytes bytes.
 pub(crate) fn know_numbers(machine: &Machine)
-    ensures { HasNumbers machine.now.state }
+    ensures { HasWordsAndBytes machine.now.state }
 {
     know_words(all_words(machine.store()));
     know_regs(machine.regs());

@@ -7,7 +7,7 @@ ghost use Rattle.kernel_model.specs.KernelRecord.Kernel.{Kernel};
 ghost use Rattle.kernel_model.specs.KernelRecord.ValidKernel.{IsValid};
 ghost use Rattle.kernel_machine.specs.RunningMachine.Stands.{Stands};
 ghost use Rattle.tripos_machine.specs.State.{IsBare, IsSound};
-ghost use Rattle.saved_machine.specs.ImagePrint.Numbers.{HasNumbers, IsSized, MayTake};
+ghost use Rattle.saved_machine.specs.ImagePrint.Numbers.{HasWordsAndBytes, IsSized, MayTake};
 ghost use Rattle.saved_machine.specs.ImagePrint.SavedImage.{saved_image, saved_kernel};
 ghost use Rattle.saved_machine.specs.ImagePrint.Texts.{disc_text, entries_text, front_text};
 
@@ -41,7 +41,7 @@ pub fn print_image<K: Sink>(
 
     // The machine is one between steps, its words are words, and its bytes bytes.
     ensures sound { IsSound machine.now.state }
-    ensures numbers { HasNumbers machine.now.state }
+    ensures numbers { HasWordsAndBytes machine.now.state }
 
     // What is printed can be read, where the machine may take the steps, and its store is one that the version may have.
     ensures lawful { IsSized version machine.now.state → MayTake machine.now.state go

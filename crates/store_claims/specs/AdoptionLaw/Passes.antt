@@ -16,7 +16,8 @@ use Rattle.kernel_lists.specs.Coroutines.CoroutineExchanges.{words_of_coroutines
 use Rattle.kernel_model.specs.KernelRecord.KernelRanges.{IsModuleIn}
 use Rattle.kernel_model.specs.KernelRecord.Lists.{Lists, address_of_task}
 use Rattle.kernel_model.specs.KernelRecord.Owned.{OwnsApart, clock_head, keyboard_head, output_head}
-use Rattle.kernel_model.specs.KernelRecord.Recovered.{has_residents, lists_in}
+use Rattle.kernel_model.specs.KernelRecord.Recovered.{lists_in}
+use Rattle.kernel_model.specs.KernelRecord.KernelRanges.{has_residents}
 use Rattle.kernel_model.specs.KernelRecord.Residents.{pending_head, resident_words}
 use Rattle.kernel_model.specs.KernelRecord.Root.{root_words}
 use Rattle.kernel_model.specs.KernelRecord.Task.{Task, fault_words, state_words, task_address, task_id}

@@ -6,7 +6,7 @@ use Rattle.word_store.proofs.Counts.{hit-same}
 use Rattle.kernel_lists.specs.LinkedList.Places.{insert_after, without_first}
 use Rattle.kernel_lists.specs.declared.packet_queue.events.KernelEvent.{KernelEvent}
 use Rattle.kernel_lists.specs.declared.packet_queue.events.KernelEvent.TheVariants.{Accepted, Taken, Dequeued, Runs}
-use Rattle.tripos_machine.specs.EventHistory.Acceptances.{Acceptance, accepted_by, accepted_in, accepted_on, at_start, ends_before, from_end, is_end, leaves}
+use Rattle.tripos_machine.specs.EventHistory.Acceptances.{Acceptance, accepted_by, accepted_in, accepted_on, at_start, has_later_events, from_end, is_end, leaves}
 use Rattle.tripos_machine.specs.EventHistory.Ledger.{AreOnce, Entry, Follows, IsFirst, Ledger, May, Timed, after_event, arrived, clock, count_of, entry_on, events_of, same_queue, stands_in}
 use Rattle.tripos_machine.proofs.EventHistory.Ends.{EndsOf, dequeue-ends, take-ends}
 use Rattle.tripos_machine.proofs.EventHistory.Following.{elsewhere, first-stands, once-after}
@@ -32,14 +32,14 @@ module _ (n : ℕ) where
   -- how many of them end before the last n events
   abbrev ending : List Acceptance → ℕ
   ending [] = 0
-  ending (z ∷ zs) = one_if (ends_before n z) + ending zs
+  ending (z ∷ zs) = one_if (has_later_events n z) + ending zs
 
   ending-append : (xs ys : List Acceptance) → ending (xs ++ ys) ≡ ending xs + ending ys
   ending-append [] ys = omega arith
   ending-append (x ∷ xs) ys = omega (arith, ending-append xs ys)
 
-  ending-counted : (zs : List Acceptance) → ending zs ≡ count_by (ends_before n) zs
-  ending-counted = is_count_by ending (ends_before n) refl (λ z zs. on (ends_before n z) (ending zs))
+  ending-counted : (zs : List Acceptance) → ending zs ≡ count_by (has_later_events n) zs
+  ending-counted = is_count_by ending (has_later_events n) refl (λ z zs. on (has_later_events n z) (ending zs))
     where
       on : (b : Bool) (k : ℕ) → one_if b + k ≡ cond b (1 + k) k
       on true k = refl
@@ -51,7 +51,7 @@ module _ (n : ℕ) where
 
   -- ---- too late
 
-  too-late : (es : List KernelEvent) (y : Entry) → length es ≤ n → ends_before n (at_start es y) ≡ false
+  too-late : (es : List KernelEvent) (y : Entry) → length es ≤ n → has_later_events n (at_start es y) ≡ false
   too-late es y few = ne_eqb (length (from_end y.packet es)) (suc n) (λ e. absurd (omega (arith, e, few, short-end y.packet es)))
 
   late-start : (es : List KernelEvent) (ys : List Entry) → length es ≤ n → starting es ys ≡ 0
@@ -80,7 +80,7 @@ module _ (n : ℕ) where
   now-of p e es [] of is = refl
   now-of p e es (y ∷ ys) of is = λ i. on (eqb p y.packet) (of.end y.packet) i + now-of p e es ys of is i
     where
-      on : (b : Bool) → is_end y.packet e ≡ b → one_if (ends_before n (at_start (e ∷ es) y)) ≡ one_if b
+      on : (b : Bool) → is_end y.packet e ≡ b → one_if (has_later_events n (at_start (e ∷ es) y)) ≡ one_if b
       on true end = ap (λ c. one_if (eqb (length (cond c (e ∷ es) (from_end y.packet es))) (suc n))) end ∙ ap one_if (eq-eqb (suc (length es)) (suc n) (ap suc is))
       on false end = ap (λ c. one_if (eqb (length (cond c (e ∷ es) (from_end y.packet es))) (suc n))) end ∙ ap one_if (too-late es y (omega (arith, is)))
 
@@ -114,10 +114,10 @@ module _ (n : ℕ) where
   later-same e es (y ∷ ys) no_end = λ i. one_if (eqb (length (cond (no_end y.packet i) (e ∷ es) (from_end y.packet es))) (suc n)) + later-same e es ys no_end i
 
   module _ (p : ℕ) (e : KernelEvent) (es : List KernelEvent) (of : EndsOf p e) (far : n < length es) where
-    other-later : (y : Entry) → eqb p y.packet ≡ false → ends_before n (at_start (e ∷ es) y) ≡ ends_before n (at_start es y)
+    other-later : (y : Entry) → eqb p y.packet ≡ false → has_later_events n (at_start (e ∷ es) y) ≡ has_later_events n (at_start es y)
     other-later y other = ap (λ c. eqb (length (cond c (e ∷ es) (from_end y.packet es))) (suc n)) (of.end y.packet ∙ other)
 
-    this-now : (y : Entry) → eqb p y.packet ≡ true → ends_before n (at_start (e ∷ es) y) ≡ false
+    this-now : (y : Entry) → eqb p y.packet ≡ true → has_later_events n (at_start (e ∷ es) y) ≡ false
     this-now y is = ap (λ c. eqb (length (cond c (e ∷ es) (from_end y.packet es))) (suc n)) (of.end y.packet ∙ is) ∙ ne_eqb (suc (length es)) (suc n) (λ k. absurd (omega (arith, k, far)))
 
     later-other : (ys : List Entry) → stands_in p ys ≡ false → starting (e ∷ es) ys ≡ starting es ys
@@ -210,10 +210,10 @@ module _ (x : Timed) (back : List Timed) where
       )
 
 pub ended-once : (xs front : List Timed) (x : Timed) (back : List Timed) (b a : Ledger) → AreOnce b → Follows xs b a → xs ≡ front ++ x ∷ back
-    → (q : ℤ) → count_by (ends_before (length back)) (accepted_on q b xs) ≡ cond (leaves q x.event) 1 0
+    → (q : ℤ) → count_by (has_later_events (length back)) (accepted_on q b xs) ≡ cond (leaves q x.event) 1 0
 ended-once xs front x back b a once f is q =
     let n : ℕ = length back in
-    subst (λ zs. count_by (ends_before n) (accepted_on q b zs) ≡ cond (leaves q x.event) 1 0) (sym is)
+    subst (λ zs. count_by (has_later_events n) (accepted_on q b zs) ≡ cond (leaves q x.event) 1 0) (sym is)
     (sym (ending-counted n (accepted_on q b (front ++ x ∷ back)))
     ∙ ending-append n (map (at_start (events_of (front ++ x ∷ back))) (b q)) (accepted_in q (front ++ x ∷ back))
     ∙ cut-ending x back front b a q once (subst (λ zs. Follows zs b a) is f))

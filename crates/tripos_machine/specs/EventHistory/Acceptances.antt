@@ -51,8 +51,8 @@ abbrev pub is_repeated : Acceptance → Bool
 is_repeated x = list_any (accepts x.entry.packet) (before_end x.entry.packet x.later)
 
 -- so many events come after its end
-abbrev pub ends_before : ℕ → Acceptance → Bool
-ends_before n x = length (from_end x.entry.packet x.later) == suc n
+abbrev pub has_later_events : ℕ → Acceptance → Bool
+has_later_events n x = length (from_end x.entry.packet x.later) == suc n
 
 -- an end is on the same queue, and where the packet is taken it is from the same sender
 abbrev pub IsEnd : ℤ → Entry → KernelEvent → Type 0

@@ -1,7 +1,7 @@
 -- What the events say of the queues, from those at the start to those at the end.
 use Rattle.std.specs.Prelude.{◌≡◌, ℕ, ℤ, ◌==◌, false, not, if◌then◌else◌, List, ◌∷◌, ◌++◌, filter, length, map}
 use Rattle.std.specs.List.{AllByRecursion, count_by}
-use Rattle.tripos_machine.specs.EventHistory.Acceptances.{Acceptance, HasEnd, accepted_on, end_of, ends_before, is_dequeued, is_open, is_repeated, leaves, pair_of, taken_from}
+use Rattle.tripos_machine.specs.EventHistory.Acceptances.{Acceptance, HasEnd, accepted_on, end_of, has_later_events, is_dequeued, is_open, is_repeated, leaves, pair_of, taken_from}
 use Rattle.tripos_machine.specs.EventHistory.Ledger.{AreOnce, Entry, Ledger, NeverFall, Timed, clock, events_of, same_queue}
 
 -- ---- which acceptances
@@ -47,7 +47,7 @@ pub record QueueHistory (b : Ledger) (xs : List Timed) (a : Ledger) : Type 0 whe
   pub ends : (q : ℤ) → AllByRecursion (IsEnded q) (accepted_on q b xs)
   -- each event that takes or dequeues a packet is the end of exactly one acceptance, which is on its queue
   pub ended : (front : List Timed) (x : Timed) (back : List Timed) → xs ≡ front ++ x ∷ back
-      → (q : ℤ) → count_by (ends_before (length back)) (accepted_on q b xs) ≡ (if leaves q x.event then 1 else 0)
+      → (q : ℤ) → count_by (has_later_events (length back)) (accepted_on q b xs) ≡ (if leaves q x.event then 1 else 0)
   -- the packets that are queued at the end are exactly those of the acceptances without an end, each on its queue
   pub left : (q : ℤ) (p : ℕ) → map pair_of (of_packet p (a q)) ≡ map pair_of (of_packet p (entries_of (open_ones (accepted_on q b xs))))
   -- and there once
