@@ -1,7 +1,8 @@
 pub mod Faults
-pub mod Read
-pub mod Write
 pub mod Memory
-pub mod Standard
-pub mod Pieces
 pub mod Pending
+pub mod Pieces
+pub mod Read
+pub mod Sinks
+pub mod Standard
+pub mod Write

@@ -1,7 +1,6 @@
 // Output that is gathered before it goes to a sink.
 ghost use Rattle.std.specs.Prelude.{◌≡◌, []};
-ghost use Rattle.byte_streams.specs.Pending.{Gathers};
-ghost use Rattle.byte_streams.specs.Write.{Prints, HasCause};
+ghost use Rattle.byte_streams.specs.Sinks.{FailsBySink, GathersFor, PrintsTo};
 
 use crate::{Output, Sink, SinkFault, write_text};
 
@@ -10,9 +9,9 @@ use crate::{Output, Sink, SinkFault, write_text};
 /// sink's count of faults rose; then a prefix of what was pending, and of the text after it, has gone
 /// to the sink.
 pub fn gather<K: Sink>(out: &mut K, pending: &mut Output, text: &[u8]) -> Result<(), SinkFault>
-    ensures text { Gathers (K.holds out.old) (K.holds out.new) pending.old pending.new
+    ensures text { GathersFor K.Sink out.old out.new pending.old pending.new
         text.now result }
-    ensures cause { HasCause (K.faults out.old) (K.faults out.new) result }
+    ensures cause { FailsBySink K.Sink out.old out.new result }
 {
     if text.len() <= pending.room() {
         pending.append(text);
@@ -29,9 +28,9 @@ pub fn gather<K: Sink>(out: &mut K, pending: &mut Output, text: &[u8]) -> Result
 /// Passes on what is pending. `SinkFault` comes only where the sink's count of faults rose; then a
 /// prefix of it has gone to the sink, and the rest is lost.
 pub fn pass_on<K: Sink>(out: &mut K, pending: &mut Output) -> Result<(), SinkFault>
-    ensures text { Prints (K.holds out.old) (K.holds out.new) pending.old result }
+    ensures text { PrintsTo K.Sink out.old out.new pending.old result }
     ensures none { pending.new ≡ [] }
-    ensures cause { HasCause (K.faults out.old) (K.faults out.new) result }
+    ensures cause { FailsBySink K.Sink out.old out.new result }
 {
     let result = write_text(out, pending.bytes());
     pending.clear();

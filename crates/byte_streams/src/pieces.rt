@@ -1,9 +1,8 @@
 // Texts, printed piece by piece and without memory.
 ghost use Rattle.std.specs.List.{flat_map};
 ghost use Rattle.std.specs.Prelude.{◌≡◌};
-ghost use Rattle.byte_streams.specs.Pending.{Gathers};
 ghost use Rattle.byte_streams.specs.Pieces.{hex_digits_of, text_of};
-ghost use Rattle.byte_streams.specs.Write.{Prints, HasCause};
+ghost use Rattle.byte_streams.specs.Sinks.{FailsBySink, GathersFor, PrintsTo};
 
 use crate::{Output, Sink, SinkFault, gather, pass_on};
 use itoa::Buffer;
@@ -24,8 +23,8 @@ pub enum Piece<'a> {
 /// Writes the pieces, one after the other. `SinkFault` comes only where the sink's count of faults rose; then a
 /// prefix of their text is written.
 pub fn write_pieces<K: Sink>(out: &mut K, pieces: &[Piece]) -> Result<(), SinkFault>
-    ensures text { Prints (K.holds out.old) (K.holds out.new) (flat_map text_of pieces.now) result }
-    ensures cause { HasCause (K.faults out.old) (K.faults out.new) result }
+    ensures text { PrintsTo K.Sink out.old out.new (flat_map text_of pieces.now) result }
+    ensures cause { FailsBySink K.Sink out.old out.new result }
 {
     let mut pending = Output::new();
     gather_pieces(out, &mut pending, pieces)?;
@@ -38,9 +37,9 @@ pub fn gather_pieces<K: Sink>(
     pending: &mut Output,
     pieces: &[Piece],
 ) -> Result<(), SinkFault>
-    ensures text { Gathers (K.holds out.old) (K.holds out.new) pending.old pending.new
+    ensures text { GathersFor K.Sink out.old out.new pending.old pending.new
         (flat_map text_of pieces.now) result }
-    ensures cause { HasCause (K.faults out.old) (K.faults out.new) result }
+    ensures cause { FailsBySink K.Sink out.old out.new result }
 {
     for piece in pieces {
         gather_piece(out, pending, *piece)?;
@@ -49,9 +48,9 @@ pub fn gather_pieces<K: Sink>(
 }
 
 fn gather_piece<K: Sink>(out: &mut K, pending: &mut Output, piece: Piece) -> Result<(), SinkFault>
-    ensures text { Gathers (K.holds out.old) (K.holds out.new) pending.old pending.new
+    ensures text { GathersFor K.Sink out.old out.new pending.old pending.new
         (text_of piece.entry) result }
-    ensures cause { HasCause (K.faults out.old) (K.faults out.new) result }
+    ensures cause { FailsBySink K.Sink out.old out.new result }
 {
     match piece {
         Piece::Text(text) => gather(out, pending, text),

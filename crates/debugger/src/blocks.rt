@@ -1,7 +1,7 @@
 // The blocks of a machine.
 ghost use Rattle.std.specs.Prelude.{◌≡◌, ◌<◌, ◌+◌, ◌^◌};
 ghost use Rattle.byte_streams.specs.Pending.{Gathers};
-ghost use Rattle.byte_streams.specs.Write.{HasCause};
+ghost use Rattle.byte_streams.specs.Sinks.{FailsBySink, GathersFor};
 ghost use Rattle.kernel_model.specs.KernelRecord.HoldsLists.{HoldsLists};
 ghost use Rattle.kernel_model.specs.KernelRecord.Lists.{Lists};
 ghost use Rattle.debugger.specs.Texts.{block_line, block_lines, blocks_text, use_name};
@@ -20,9 +20,9 @@ pub fn gather_blocks<K: Sink>(
     out: &mut K,
     pending: &mut Output,
 ) -> Result<(), SinkFault>
-    ensures text { Gathers (K.holds out.old) (K.holds out.new) pending.old pending.new
+    ensures text { GathersFor K.Sink out.old out.new pending.old pending.new
         (blocks_text machine.now.state) result }
-    ensures cause { HasCause (K.faults out.old) (K.faults out.new) result }
+    ensures cause { FailsBySink K.Sink out.old out.new result }
 {
     match machine.kernel_parts() {
         Some(parts) => gather_lines(&parts.store, out, pending),
@@ -33,9 +33,9 @@ pub fn gather_blocks<K: Sink>(
 fn gather_lines<K: Sink>(store: &Store, out: &mut K, pending: &mut Output) -> Result<(), SinkFault>
     requires { (l : Lists) × HoldsLists store.now l }
     ensures text { (l : Lists) → HoldsLists store.now l
-        → Gathers (K.holds out.old) (K.holds out.new) pending.old pending.new
+        → GathersFor K.Sink out.old out.new pending.old pending.new
         (block_lines l l.blocks) result }
-    ensures cause { HasCause (K.faults out.old) (K.faults out.new) result }
+    ensures cause { FailsBySink K.Sink out.old out.new result }
 {
     for block in blocks(store) {
         gather_block(block, use_of(store, block), out, pending)?;
@@ -49,9 +49,9 @@ fn gather_block<K: Sink>(
     out: &mut K,
     pending: &mut Output,
 ) -> Result<(), SinkFault>
-    ensures text { Gathers (K.holds out.old) (K.holds out.new) pending.old pending.new
+    ensures text { GathersFor K.Sink out.old out.new pending.old pending.new
         (block_line block used) result }
-    ensures cause { HasCause (K.faults out.old) (K.faults out.new) result }
+    ensures cause { FailsBySink K.Sink out.old out.new result }
 {
     gather_pieces(
         out,

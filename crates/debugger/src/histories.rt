@@ -3,8 +3,7 @@ ghost use Rattle.std.specs.Prelude.{◌≡◌, ◌<◌, ◌+◌, ◌≤◌, ◌+
 ghost use Rattle.std.specs.List.{AllByRecursion};
 ghost use Rattle.module_text.specs.TextReader.Lines.{lines_of};
 ghost use Rattle.debugger.specs.MachineHistory.Pasts.{now_of, past_back, state_back};
-ghost use Rattle.byte_streams.specs.Pending.{Gathers};
-ghost use Rattle.byte_streams.specs.Write.{HasCause};
+ghost use Rattle.byte_streams.specs.Sinks.{FailsBySink, GathersFor};
 ghost use Rattle.kernel_model.specs.KernelRecord.Ranges.{most_steps};
 ghost use Rattle.tripos_machine.specs.State.{steps_of, stop_of};
 ghost use Rattle.tripos_machine.specs.Step.{run};
@@ -40,7 +39,7 @@ pub fn debug_back<K: Sink>(
 ) -> (Machine, Result<(), SinkFault>)
     requires steps { steps_of machine.state + budget ≤ most_steps }
     requires begins { history.old ≡ record { past = []; now = now_of machine.state machine.keys } }
-    ensures text { Gathers (K.holds out.old) (K.holds out.new) pending.old pending.new
+    ensures text { GathersFor K.Sink out.old out.new pending.old pending.new
         (debugged budget (lines_of lines.now) machine.state (Some [])).bytes result.1 }
     ensures state { IfOk result.1 (λ _. result.0.state
         ≡ (debugged budget (lines_of lines.now) machine.state (Some [])).after.state) }
@@ -48,7 +47,7 @@ pub fn debug_back<K: Sink>(
         ≡ (debugged budget (lines_of lines.now) machine.state (Some [])).after.past) }
     ensures now { history.new.now ≡ now_of result.0.state result.0.keys }
     ensures steps { HasDebugged budget machine.state result.0.state }
-    ensures cause { HasCause (K.faults out.old) (K.faults out.new) result.1 }
+    ensures cause { FailsBySink K.Sink out.old out.new result.1 }
 {
     let first = machine.steps();
     let limits = Limits {
@@ -83,13 +82,13 @@ fn obey_line<K: Sink>(
     requires past { AllByRecursion (IsWithin limits) history.old.past }
     requires now { history.old.now ≡ now_of machine.state machine.keys }
     ensures text { let d : Debugging = record { state = machine.state; stops = stops.old; past = Some history.old.past } in
-        Gathers (K.holds out.old) (K.holds out.new) pending.old pending.new
+        GathersFor K.Sink out.old out.new pending.old pending.new
         (line_obeyed limits (order_of 0 line.now) d).bytes result.1 }
     ensures end { let d : Debugging = record { state = machine.state; stops = stops.old; past = Some history.old.past } in
         EndsToldBack limits d (line_obeyed limits (order_of 0 line.now) d)
         result.0.state stops.new history.new.past result.1 }
     ensures now { history.new.now ≡ now_of result.0.state result.0.keys }
-    ensures cause { HasCause (K.faults out.old) (K.faults out.new) result.1 }
+    ensures cause { FailsBySink K.Sink out.old out.new result.1 }
 {
     match order_of(0, line) {
         Ok(Order::Back(n)) => go_back(n, limits, machine, history, out, pending),
@@ -115,12 +114,12 @@ fn go_back<K: Sink>(
     requires past { AllByRecursion (IsWithin limits) history.old.past }
     requires now { history.old.now ≡ now_of machine.state machine.keys }
     ensures text { let past = history.old.past in
-        Gathers (K.holds out.old) (K.holds out.new) pending.old pending.new
+        GathersFor K.Sink out.old out.new pending.old pending.new
         (fewer_text n past ++ place_text limits.first (state_back n past machine.state)) result.1 }
     ensures state { result.0.state ≡ state_back n history.old.past machine.state }
     ensures past { history.new.past ≡ past_back n history.old.past }
     ensures now { history.new.now ≡ now_of result.0.state result.0.keys }
-    ensures cause { HasCause (K.faults out.old) (K.faults out.new) result.1 }
+    ensures cause { FailsBySink K.Sink out.old out.new result.1 }
 {
     let fewer = history.len() < n;
     let machine = history.back(machine, n);
@@ -142,13 +141,13 @@ fn go_on<K: Sink>(
     requires on { is_back (Ok order) ≡ false }
     requires now { history.old.now ≡ now_of machine.old.state machine.old.keys }
     ensures text { let d : Debugging = record { state = machine.old.state; stops = stops.old; past = Some history.old.past } in
-        Gathers (K.holds out.old) (K.holds out.new) pending.old pending.new
+        GathersFor K.Sink out.old out.new pending.old pending.new
         (obeyed limits order d).bytes result }
     ensures end { let d : Debugging = record { state = machine.old.state; stops = stops.old; past = Some history.old.past } in
         EndsToldBack limits d (obeyed limits order d)
         machine.new.state stops.new history.new.past result }
     ensures now { history.new.now ≡ now_of machine.new.state machine.new.keys }
-    ensures cause { HasCause (K.faults out.old) (K.faults out.new) result }
+    ensures cause { FailsBySink K.Sink out.old out.new result }
 {
     match order {
         Order::Step(n) => step_noted(machine, history, u64::from(n), limits, out, pending),
@@ -171,12 +170,12 @@ fn step_noted<K: Sink>(
     ensures state { let most = steps_left limits machine.old.state in
         EndsSteps (min n most) most machine.old.state machine.new.state result }
     ensures text { let n = min n (steps_left limits machine.old.state) in
-        Gathers (K.holds out.old) (K.holds out.new) pending.old pending.new
+        GathersFor K.Sink out.old out.new pending.old pending.new
         (steps_text limits n machine.old.state) result }
     ensures past { IfOk result (λ _. history.new.past
         ≡ past_after (min n (steps_left limits machine.old.state)) history.old.past machine.old.state) }
     ensures now { history.new.now ≡ now_of machine.new.state machine.new.keys }
-    ensures cause { HasCause (K.faults out.old) (K.faults out.new) result }
+    ensures cause { FailsBySink K.Sink out.old out.new result }
 {
     let steps = n.min(steps_left(machine, limits));
     take_noted(machine, history, &Breakpoints::new(), steps, out, pending)?;
@@ -198,12 +197,12 @@ fn go_on_noted<K: Sink>(
         EndsSteps (steps_to stops.now most machine.old.state) most
         machine.old.state machine.new.state result }
     ensures text { let n = steps_to stops.now (steps_left limits machine.old.state) machine.old.state in
-        Gathers (K.holds out.old) (K.holds out.new) pending.old pending.new
+        GathersFor K.Sink out.old out.new pending.old pending.new
         (steps_text limits n machine.old.state) result }
     ensures past { let n = steps_to stops.now (steps_left limits machine.old.state) machine.old.state in
         IfOk result (λ _. history.new.past ≡ past_after n history.old.past machine.old.state) }
     ensures now { history.new.now ≡ now_of machine.new.state machine.new.keys }
-    ensures cause { HasCause (K.faults out.old) (K.faults out.new) result }
+    ensures cause { FailsBySink K.Sink out.old out.new result }
 {
     let most = steps_left(machine, limits);
     take_noted(machine, history, stops, most, out, pending)?;
@@ -224,12 +223,12 @@ fn take_noted<K: Sink>(
     requires now { history.old.now ≡ now_of machine.old.state machine.old.keys }
     ensures state { EndsSteps (steps_to stops.now most machine.old.state) most
         machine.old.state machine.new.state result }
-    ensures text { Gathers (K.holds out.old) (K.holds out.new) pending.old pending.new
+    ensures text { GathersFor K.Sink out.old out.new pending.old pending.new
         (run (steps_to stops.now most machine.old.state) machine.old.state).bytes result }
     ensures past { IfOk result (λ _. history.new.past
         ≡ past_after (steps_to stops.now most machine.old.state) history.old.past machine.old.state) }
     ensures now { history.new.now ≡ now_of machine.new.state machine.new.keys }
-    ensures cause { HasCause (K.faults out.old) (K.faults out.new) result }
+    ensures cause { FailsBySink K.Sink out.old out.new result }
 {
     let mut taken = 0;
     while taken < most {

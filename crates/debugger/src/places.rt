@@ -1,7 +1,7 @@
 // Where a machine stands.
 ghost use Rattle.std.specs.Prelude.{◌≡◌, ◌≤◌, ◌++◌, [], codes, if◌then◌else◌};
 ghost use Rattle.byte_streams.specs.Pending.{Gathers};
-ghost use Rattle.byte_streams.specs.Write.{HasCause};
+ghost use Rattle.byte_streams.specs.Sinks.{FailsBySink, GathersFor};
 ghost use Rattle.tripos_machine.specs.State.{regs_of, running_of, steps_of};
 ghost use Rattle.debugger.specs.Texts.{at_line, place_text, registers_line};
 
@@ -17,9 +17,9 @@ pub(crate) fn gather_place<K: Sink>(
     pending: &mut Output,
 ) -> Result<(), SinkFault>
     requires { first ≤ steps_of machine.now.state }
-    ensures text { Gathers (K.holds out.old) (K.holds out.new) pending.old pending.new
+    ensures text { GathersFor K.Sink out.old out.new pending.old pending.new
         (place_text first machine.now.state) result }
-    ensures cause { HasCause (K.faults out.old) (K.faults out.new) result }
+    ensures cause { FailsBySink K.Sink out.old out.new result }
 {
     if machine.stop().is_some() {
         return gather(out, pending, b"\nstopped\n");
@@ -37,9 +37,9 @@ pub(crate) fn gather_return<K: Sink>(
     pending: &mut Output,
 ) -> Result<(), SinkFault>
     requires { first ≤ steps_of machine.now.state }
-    ensures text { Gathers (K.holds out.old) (K.holds out.new) pending.old pending.new
+    ensures text { GathersFor K.Sink out.old out.new pending.old pending.new
         ((if fewer then codes "? no more\n" else []) ++ place_text first machine.now.state) result }
-    ensures cause { HasCause (K.faults out.old) (K.faults out.new) result }
+    ensures cause { FailsBySink K.Sink out.old out.new result }
 {
     gather(out, pending, no_more(fewer))?;
     gather_place(machine, first, out, pending)
@@ -58,9 +58,9 @@ fn gather_at<K: Sink>(
     out: &mut K,
     pending: &mut Output,
 ) -> Result<(), SinkFault>
-    ensures text { Gathers (K.holds out.old) (K.holds out.new) pending.old pending.new
+    ensures text { GathersFor K.Sink out.old out.new pending.old pending.new
         (at_line steps pc task) result }
-    ensures cause { HasCause (K.faults out.old) (K.faults out.new) result }
+    ensures cause { FailsBySink K.Sink out.old out.new result }
 {
     gather_pieces(
         out,
@@ -83,9 +83,9 @@ pub fn gather_registers<K: Sink>(
     out: &mut K,
     pending: &mut Output,
 ) -> Result<(), SinkFault>
-    ensures text { Gathers (K.holds out.old) (K.holds out.new) pending.old pending.new
+    ensures text { GathersFor K.Sink out.old out.new pending.old pending.new
         (registers_line (regs_of machine.now.state) (running_of machine.now.state)) result }
-    ensures cause { HasCause (K.faults out.old) (K.faults out.new) result }
+    ensures cause { FailsBySink K.Sink out.old out.new result }
 {
     let regs = machine.regs();
     gather_pieces(

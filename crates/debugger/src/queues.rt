@@ -2,7 +2,7 @@
 ghost use Rattle.std.specs.Prelude.{◌≡◌, None, List, Option};
 ghost use Rattle.std.specs.Option.{option_map};
 ghost use Rattle.byte_streams.specs.Pending.{Gathers};
-ghost use Rattle.byte_streams.specs.Write.{HasCause};
+ghost use Rattle.byte_streams.specs.Sinks.{FailsBySink, GathersFor};
 ghost use Rattle.kernel_model.specs.KernelRecord.HoldsLists.{HoldsLists};
 ghost use Rattle.kernel_model.specs.KernelRecord.Lists.{Lists};
 ghost use Rattle.kernel_model.specs.KernelRecord.Recovered.{packet_in, packets_at};
@@ -27,9 +27,9 @@ pub(crate) fn gather_task_queue<K: Sink>(
     out: &mut K,
     pending: &mut Output,
 ) -> Result<(), SinkFault>
-    ensures text { Gathers (K.holds out.old) (K.holds out.new) pending.old pending.new
+    ensures text { GathersFor K.Sink out.old out.new pending.old pending.new
         (task_queue_text id machine.now.state) result }
-    ensures cause { HasCause (K.faults out.old) (K.faults out.new) result }
+    ensures cause { FailsBySink K.Sink out.old out.new result }
 {
     match machine.kernel_parts() {
         Some(parts) => {
@@ -47,9 +47,9 @@ pub(crate) fn gather_device_queue<K: Sink>(
     out: &mut K,
     pending: &mut Output,
 ) -> Result<(), SinkFault>
-    ensures text { Gathers (K.holds out.old) (K.holds out.new) pending.old pending.new
+    ensures text { GathersFor K.Sink out.old out.new pending.old pending.new
         (device_queue_text number machine.now.state) result }
-    ensures cause { HasCause (K.faults out.old) (K.faults out.new) result }
+    ensures cause { FailsBySink K.Sink out.old out.new result }
 {
     match machine.kernel_parts() {
         Some(parts) => {
@@ -82,9 +82,9 @@ fn queue_of_device(store: &Store, number: u32) -> Option<Queue>
 
 // There is no such queue.
 fn gather_none<K: Sink>(out: &mut K, pending: &mut Output) -> Result<(), SinkFault>
-    ensures text { Gathers (K.holds out.old) (K.holds out.new) pending.old pending.new
+    ensures text { GathersFor K.Sink out.old out.new pending.old pending.new
         (queue_text None) result }
-    ensures cause { HasCause (K.faults out.old) (K.faults out.new) result }
+    ensures cause { FailsBySink K.Sink out.old out.new result }
 {
     gather(out, pending, b"? none\n")
 }
@@ -97,9 +97,9 @@ fn gather_queue<K: Sink>(
 ) -> Result<(), SinkFault>
     requires { (ps : Option (List QueuedPacket)) × Leads store.now queue ps }
     ensures text { (ps : Option (List QueuedPacket)) → Leads store.now queue ps
-        → Gathers (K.holds out.old) (K.holds out.new) pending.old pending.new
+        → GathersFor K.Sink out.old out.new pending.old pending.new
         (queue_text ps) result }
-    ensures cause { HasCause (K.faults out.old) (K.faults out.new) result }
+    ensures cause { FailsBySink K.Sink out.old out.new result }
 {
     match queue {
         Some(queue) => gather_packets(store, head(store, queue), out, pending),
@@ -115,9 +115,9 @@ fn gather_packets<K: Sink>(
     pending: &mut Output,
 ) -> Result<(), SinkFault>
     requires { HasQueue store.now head }
-    ensures text { Gathers (K.holds out.old) (K.holds out.new) pending.old pending.new
+    ensures text { GathersFor K.Sink out.old out.new pending.old pending.new
         (packet_lines (packets_at store.now head)) result }
-    ensures cause { HasCause (K.faults out.old) (K.faults out.new) result }
+    ensures cause { FailsBySink K.Sink out.old out.new result }
 {
     for p in packets(store, head) {
         gather_packet(store, p, out, pending)?;
@@ -132,9 +132,9 @@ fn gather_packet<K: Sink>(
     out: &mut K,
     pending: &mut Output,
 ) -> Result<(), SinkFault>
-    ensures text { Gathers (K.holds out.old) (K.holds out.new) pending.old pending.new
+    ensures text { GathersFor K.Sink out.old out.new pending.old pending.new
         (packet_line (packet_in store.now p)) result }
-    ensures cause { HasCause (K.faults out.old) (K.faults out.new) result }
+    ensures cause { FailsBySink K.Sink out.old out.new result }
 {
     let sender = word_at(store, p, SENDER);
     let kind = word_at(store, p, KIND);

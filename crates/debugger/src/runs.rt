@@ -1,7 +1,6 @@
 // Steps of a machine that is debugged.
 ghost use Rattle.std.specs.Prelude.{◌≡◌, ◌+◌, ◌<◌, ◌≤◌, None, min};
-ghost use Rattle.byte_streams.specs.Pending.{Gathers};
-ghost use Rattle.byte_streams.specs.Write.{HasCause};
+ghost use Rattle.byte_streams.specs.Sinks.{FailsBySink, GathersFor};
 ghost use Rattle.kernel_model.specs.KernelRecord.Ranges.{most_steps};
 ghost use Rattle.tripos_machine.specs.State.{steps_of, stop_of};
 ghost use Rattle.tripos_machine.specs.Step.{run};
@@ -29,9 +28,9 @@ pub(crate) fn step<K: Sink>(
     ensures state { let most = steps_left limits machine.old.state in
         EndsSteps (min n most) most machine.old.state machine.new.state result }
     ensures text { let n = min n (steps_left limits machine.old.state) in
-        Gathers (K.holds out.old) (K.holds out.new) pending.old pending.new
+        GathersFor K.Sink out.old out.new pending.old pending.new
         (steps_text limits n machine.old.state) result }
-    ensures cause { HasCause (K.faults out.old) (K.faults out.new) result }
+    ensures cause { FailsBySink K.Sink out.old out.new result }
 {
     let steps = n.min(steps_left(machine, limits));
     take_steps(machine, steps, out, pending)?;
@@ -51,9 +50,9 @@ pub(crate) fn go_on<K: Sink>(
         EndsSteps (steps_to stops.now most machine.old.state) most
         machine.old.state machine.new.state result }
     ensures text { let n = steps_to stops.now (steps_left limits machine.old.state) machine.old.state in
-        Gathers (K.holds out.old) (K.holds out.new) pending.old pending.new
+        GathersFor K.Sink out.old out.new pending.old pending.new
         (steps_text limits n machine.old.state) result }
-    ensures cause { HasCause (K.faults out.old) (K.faults out.new) result }
+    ensures cause { FailsBySink K.Sink out.old out.new result }
 {
     let most = steps_left(machine, limits);
     take_steps_to(machine, stops, most, out, pending)?;
@@ -69,9 +68,9 @@ fn take_steps<K: Sink>(
 ) -> Result<(), SinkFault>
     requires { steps_of machine.old.state + n ≤ most_steps }
     ensures state { EndsSteps n n machine.old.state machine.new.state result }
-    ensures text { Gathers (K.holds out.old) (K.holds out.new) pending.old pending.new
+    ensures text { GathersFor K.Sink out.old out.new pending.old pending.new
         (run n machine.old.state).bytes result }
-    ensures cause { HasCause (K.faults out.old) (K.faults out.new) result }
+    ensures cause { FailsBySink K.Sink out.old out.new result }
 {
     machine.run(n, out, pending, &mut NoLog)?;
     Ok(())
@@ -89,9 +88,9 @@ fn take_steps_to<K: Sink>(
     requires goes { 0 < most → stop_of machine.old.state ≡ None }
     ensures state { EndsSteps (steps_to stops.now most machine.old.state) most
         machine.old.state machine.new.state result }
-    ensures text { Gathers (K.holds out.old) (K.holds out.new) pending.old pending.new
+    ensures text { GathersFor K.Sink out.old out.new pending.old pending.new
         (run (steps_to stops.now most machine.old.state) machine.old.state).bytes result }
-    ensures cause { HasCause (K.faults out.old) (K.faults out.new) result }
+    ensures cause { FailsBySink K.Sink out.old out.new result }
 {
     let mut taken = 0;
     while taken < most {

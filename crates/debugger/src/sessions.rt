@@ -2,7 +2,7 @@
 ghost use Rattle.std.specs.Prelude.{◌≡◌, ◌+◌, ◌≤◌, ◌++◌, [], None, IfOk, false};
 ghost use Rattle.module_text.specs.TextReader.Lines.{lines_of};
 ghost use Rattle.byte_streams.specs.Pending.{Gathers};
-ghost use Rattle.byte_streams.specs.Write.{HasCause};
+ghost use Rattle.byte_streams.specs.Sinks.{FailsBySink, GathersFor};
 ghost use Rattle.kernel_model.specs.KernelRecord.Ranges.{most_steps};
 ghost use Rattle.tripos_machine.specs.State.{steps_of};
 ghost use Rattle.debugger.specs.Breakpoints.{with_breakpoint};
@@ -38,12 +38,12 @@ pub fn debug<K: Sink>(
     pending: &mut Output,
 ) -> Result<(), SinkFault>
     requires { steps_of machine.old.state + budget ≤ most_steps }
-    ensures text { Gathers (K.holds out.old) (K.holds out.new) pending.old pending.new
+    ensures text { GathersFor K.Sink out.old out.new pending.old pending.new
         (debugged budget (lines_of lines.now) machine.old.state None).bytes result }
     ensures state { IfOk result (λ _. machine.new.state
         ≡ (debugged budget (lines_of lines.now) machine.old.state None).after.state) }
     ensures steps { HasDebugged budget machine.old.state machine.new.state }
-    ensures cause { HasCause (K.faults out.old) (K.faults out.new) result }
+    ensures cause { FailsBySink K.Sink out.old out.new result }
 {
     let first = machine.steps();
     let limits = Limits {
@@ -70,12 +70,12 @@ fn obey_line<K: Sink>(
 ) -> Result<(), SinkFault>
     requires { IsWithin limits machine.old.state }
     ensures text { let d : Debugging = record { state = machine.old.state; stops = stops.old; past = None } in
-        Gathers (K.holds out.old) (K.holds out.new) pending.old pending.new
+        GathersFor K.Sink out.old out.new pending.old pending.new
         (line_obeyed limits (order_of 0 line.now) d).bytes result }
     ensures end { let d : Debugging = record { state = machine.old.state; stops = stops.old; past = None } in
         EndsTold limits d (line_obeyed limits (order_of 0 line.now) d)
         machine.new.state stops.new result }
-    ensures cause { HasCause (K.faults out.old) (K.faults out.new) result }
+    ensures cause { FailsBySink K.Sink out.old out.new result }
 {
     match order_of(0, line) {
         Ok(order) => obey(order, limits, machine, stops, out, pending),
@@ -94,12 +94,12 @@ pub(crate) fn obey<K: Sink>(
 ) -> Result<(), SinkFault>
     requires { IsWithin limits machine.old.state }
     ensures text { let d : Debugging = record { state = machine.old.state; stops = stops.old; past = None } in
-        Gathers (K.holds out.old) (K.holds out.new) pending.old pending.new
+        GathersFor K.Sink out.old out.new pending.old pending.new
         (obeyed limits order d).bytes result }
     ensures end { let d : Debugging = record { state = machine.old.state; stops = stops.old; past = None } in
         EndsTold limits d (obeyed limits order d) machine.new.state stops.new result }
     ensures stays { takes_steps order ≡ false → machine.new ≡ machine.old }
-    ensures cause { HasCause (K.faults out.old) (K.faults out.new) result }
+    ensures cause { FailsBySink K.Sink out.old out.new result }
 {
     match order {
         Order::Break(a) => set_breakpoint(a, stops, out, pending),
@@ -131,9 +131,9 @@ fn go_back<K: Sink>(
     pending: &mut Output,
 ) -> Result<(), SinkFault>
     requires { IsWithin limits machine.now.state }
-    ensures text { Gathers (K.holds out.old) (K.holds out.new) pending.old pending.new
+    ensures text { GathersFor K.Sink out.old out.new pending.old pending.new
         (fewer_text n [] ++ place_text limits.first machine.now.state) result }
-    ensures cause { HasCause (K.faults out.old) (K.faults out.new) result }
+    ensures cause { FailsBySink K.Sink out.old out.new result }
 {
     gather_return(n > 0, machine, limits.first, out, pending)
 }
@@ -145,10 +145,10 @@ fn set_breakpoint<K: Sink>(
     out: &mut K,
     pending: &mut Output,
 ) -> Result<(), SinkFault>
-    ensures text { Gathers (K.holds out.old) (K.holds out.new) pending.old pending.new
+    ensures text { GathersFor K.Sink out.old out.new pending.old pending.new
         (full_text a stops.old) result }
     ensures stops { stops.new ≡ with_breakpoint a stops.old }
-    ensures cause { HasCause (K.faults out.old) (K.faults out.new) result }
+    ensures cause { FailsBySink K.Sink out.old out.new result }
 {
     if stops.add(a) {
         return gather(out, pending, b"? full\n");

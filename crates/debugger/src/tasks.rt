@@ -1,6 +1,6 @@
 // The tasks of a machine.
 ghost use Rattle.byte_streams.specs.Pending.{Gathers};
-ghost use Rattle.byte_streams.specs.Write.{HasCause};
+ghost use Rattle.byte_streams.specs.Sinks.{FailsBySink, GathersFor};
 ghost use Rattle.debugger.specs.Texts.{tasks_text};
 
 use byte_streams::{Output, Sink, SinkFault, gather};
@@ -13,9 +13,9 @@ pub(crate) fn gather_tasks<K: Sink>(
     out: &mut K,
     pending: &mut Output,
 ) -> Result<(), SinkFault>
-    ensures text { Gathers (K.holds out.old) (K.holds out.new) pending.old pending.new
+    ensures text { GathersFor K.Sink out.old out.new pending.old pending.new
         (tasks_text machine.now.state) result }
-    ensures cause { HasCause (K.faults out.old) (K.faults out.new) result }
+    ensures cause { FailsBySink K.Sink out.old out.new result }
 {
     match machine.kernel_parts() {
         Some(parts) => {

@@ -1,7 +1,6 @@
 // Rounds in which nothing happens but that the two machines take their steps: they are taken many at once.
 ghost use Rattle.std.specs.Prelude.{◌≡◌, ◌+◌, ◌-◌, ◌<◌, ◌≤◌, ◌^◌, None, [], false, true, ℕ};
-ghost use Rattle.byte_streams.specs.Pending.{Gathers};
-ghost use Rattle.byte_streams.specs.Write.{HasCause};
+ghost use Rattle.byte_streams.specs.Sinks.{FailsBySink, GathersFor};
 ghost use Rattle.kernel_model.specs.KernelRecord.Ranges.{most_steps};
 ghost use Rattle.tripos_machine.specs.Quiet.{IsIdle};
 ghost use Rattle.tripos_machine.specs.State.{stop_of};
@@ -58,10 +57,10 @@ pub(crate) fn pass<K: Sink>(
     ensures ring { record { left = left.new; link = link.new; right = right.new.state }
         ≡ (run (link.new.rounds - link.old.rounds)
         (record { left = left.old; link = link.old; right = right.old.state })).ring }
-    ensures bytes { Gathers (K.holds out.old) (K.holds out.new) pending.old pending.new
+    ensures bytes { GathersFor K.Sink out.old out.new pending.old pending.new
         (run (link.new.rounds - link.old.rounds)
         (record { left = left.old; link = link.old; right = right.old.state })).shown result }
-    ensures cause { HasCause (K.faults out.old) (K.faults out.new) result }
+    ensures cause { FailsBySink K.Sink out.old out.new result }
 {
     let rounds = link.rest().min(most);
     if !can_step(right, link.right_steps()) {

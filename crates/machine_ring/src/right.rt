@@ -1,7 +1,6 @@
 // The right machine, at which bytes are typed.
 ghost use Rattle.std.specs.Prelude.{◌≡◌, ◌≤◌};
-ghost use Rattle.byte_streams.specs.Pending.{Gathers};
-ghost use Rattle.byte_streams.specs.Write.{HasCause};
+ghost use Rattle.byte_streams.specs.Sinks.{FailsBySink, GathersFor};
 ghost use Rattle.kernel_model.specs.KernelRecord.Ranges.{most_steps};
 ghost use Rattle.machine_ring.specs.Rounds.{has_room, right_after, shown_by};
 
@@ -32,9 +31,9 @@ pub(crate) fn step<K: Sink>(
 ) -> Result<(), SinkFault>
     requires { most ≤ most_steps }
     ensures state { machine.new.state ≡ right_after most machine.old.state }
-    ensures bytes { Gathers (K.holds out.old) (K.holds out.new) pending.old pending.new
+    ensures bytes { GathersFor K.Sink out.old out.new pending.old pending.new
         (shown_by most machine.old.state) result }
-    ensures cause { HasCause (K.faults out.old) (K.faults out.new) result }
+    ensures cause { FailsBySink K.Sink out.old out.new result }
 {
     if !can_step(machine, most) {
         return Ok(());

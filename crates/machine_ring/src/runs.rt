@@ -1,7 +1,6 @@
 // The rounds of a ring, one after another.
 ghost use Rattle.std.specs.Prelude.{◌≡◌, ◌<◌, ◌≤◌, IfOk, Option, slice_get, ℕ};
-ghost use Rattle.byte_streams.specs.Pending.{Gathers};
-ghost use Rattle.byte_streams.specs.Write.{HasCause};
+ghost use Rattle.byte_streams.specs.Sinks.{FailsBySink, GathersFor};
 ghost use Rattle.kernel_model.specs.KernelRecord.Ranges.{most_steps};
 ghost use Rattle.machine_ring.specs.Links.{carried, carried_byte, carries_back};
 ghost use Rattle.machine_ring.specs.Outcomes.{outcome_of};
@@ -29,9 +28,9 @@ impl Ring {
         pending: &mut Output,
     ) -> Result<RingOutcome, SinkFault>
         ensures outcome { IfOk result (λ o. o ≡ outcome_of (run self.link.terms.rounds self)) }
-        ensures bytes { Gathers (K.holds out.old) (K.holds out.new) pending.old pending.new
+        ensures bytes { GathersFor K.Sink out.old out.new pending.old pending.new
             (run self.link.terms.rounds self).shown result }
-        ensures cause { HasCause (K.faults out.old) (K.faults out.new) result }
+        ensures cause { FailsBySink K.Sink out.old out.new result }
     {
         run_rounds(
             &mut self.left,
@@ -57,9 +56,9 @@ fn run_rounds<K: Sink>(
     requires right_steps { link.old.terms.right_steps ≤ most_steps }
     ensures outcome { IfOk result (λ o. o
         ≡ outcome_of (run link.old.terms.rounds (ring_with left.old link.old right.old.state))) }
-    ensures bytes { Gathers (K.holds out.old) (K.holds out.new) pending.old pending.new
+    ensures bytes { GathersFor K.Sink out.old out.new pending.old pending.new
         (run link.old.terms.rounds (ring_with left.old link.old right.old.state)).shown result }
-    ensures cause { HasCause (K.faults out.old) (K.faults out.new) result }
+    ensures cause { FailsBySink K.Sink out.old out.new result }
 {
     while link.goes_on() {
         match right.stop() {

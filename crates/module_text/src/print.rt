@@ -2,7 +2,7 @@
 ghost use Rattle.std.specs.Prelude.{◌≡◌, ◌<◌, ◌^◌, length};
 ghost use Rattle.std.specs.List.{AllByRecursion, flat_map};
 ghost use Rattle.byte_streams.specs.Pending.{Gathers};
-ghost use Rattle.byte_streams.specs.Write.{Prints, HasCause};
+ghost use Rattle.byte_streams.specs.Sinks.{FailsBySink, GathersFor, PrintsTo};
 ghost use Rattle.module_text.specs.Canonical.{IsPrintable, IsPrintableHunk, after_word, end_text, head_text, item_text, printed, relocations_text, text_of_hunk, word_text, words_text};
 
 use crate::grammar::{END, HUNK, RELOCATIONS};
@@ -18,8 +18,8 @@ const WORDS_A_LINE: usize = 8;
 /// faults rose; then a prefix of the text is written.
 pub fn print_module<K: Sink>(m: &Module, out: &mut K) -> Result<(), SinkFault>
     requires { IsPrintable m.now }
-    ensures text { Prints (K.holds out.old) (K.holds out.new) (printed m.now) result }
-    ensures cause { HasCause (K.faults out.old) (K.faults out.new) result }
+    ensures text { PrintsTo K.Sink out.old out.new (printed m.now) result }
+    ensures cause { FailsBySink K.Sink out.old out.new result }
 {
     let mut pending = Output::new();
     gather_module(m, out, &mut pending)?;
@@ -29,9 +29,9 @@ pub fn print_module<K: Sink>(m: &Module, out: &mut K) -> Result<(), SinkFault>
 #[tactic(auto, unfolding(crate::specs::Canonical::printed))]
 fn gather_module<K: Sink>(m: &Module, out: &mut K, pending: &mut Output) -> Result<(), SinkFault>
     requires { IsPrintable m.now }
-    ensures text { Gathers (K.holds out.old) (K.holds out.new) pending.old pending.new
+    ensures text { GathersFor K.Sink out.old out.new pending.old pending.new
         (printed m.now) result }
-    ensures cause { HasCause (K.faults out.old) (K.faults out.new) result }
+    ensures cause { FailsBySink K.Sink out.old out.new result }
 {
     gather_hunks(m.hunks.as_slice(), out, pending)?;
     gather_end(out, pending)
@@ -39,18 +39,18 @@ fn gather_module<K: Sink>(m: &Module, out: &mut K, pending: &mut Output) -> Resu
 
 // Gathers the line of the end word.
 fn gather_end<K: Sink>(out: &mut K, pending: &mut Output) -> Result<(), SinkFault>
-    ensures text { Gathers (K.holds out.old) (K.holds out.new) pending.old pending.new
+    ensures text { GathersFor K.Sink out.old out.new pending.old pending.new
         end_text result }
-    ensures cause { HasCause (K.faults out.old) (K.faults out.new) result }
+    ensures cause { FailsBySink K.Sink out.old out.new result }
 {
     gather_pieces(out, pending, &[Piece::Word(END), Piece::Text(b"\n")])
 }
 
 fn gather_hunks<K: Sink>(hunks: &[Hunk], out: &mut K, pending: &mut Output) -> Result<(), SinkFault>
     requires { AllByRecursion IsPrintableHunk hunks.now }
-    ensures text { Gathers (K.holds out.old) (K.holds out.new) pending.old pending.new
+    ensures text { GathersFor K.Sink out.old out.new pending.old pending.new
         (flat_map text_of_hunk hunks.now) result }
-    ensures cause { HasCause (K.faults out.old) (K.faults out.new) result }
+    ensures cause { FailsBySink K.Sink out.old out.new result }
 {
     for hunk in hunks {
         gather_hunk(hunk, out, pending)?;
@@ -61,9 +61,9 @@ fn gather_hunks<K: Sink>(hunks: &[Hunk], out: &mut K, pending: &mut Output) -> R
 // Gathers a hunk and its relocations.
 fn gather_hunk<K: Sink>(hunk: &Hunk, out: &mut K, pending: &mut Output) -> Result<(), SinkFault>
     requires { IsPrintableHunk hunk.now }
-    ensures text { Gathers (K.holds out.old) (K.holds out.new) pending.old pending.new
+    ensures text { GathersFor K.Sink out.old out.new pending.old pending.new
         (text_of_hunk hunk.now) result }
-    ensures cause { HasCause (K.faults out.old) (K.faults out.new) result }
+    ensures cause { FailsBySink K.Sink out.old out.new result }
 {
     gather_item(HUNK, hunk.words.as_slice(), out, pending)?;
     gather_relocations(hunk.relocations.as_slice(), out, pending)
@@ -76,9 +76,9 @@ fn gather_relocations<K: Sink>(
     pending: &mut Output,
 ) -> Result<(), SinkFault>
     requires { length offsets.now < 2 ^ 32 }
-    ensures text { Gathers (K.holds out.old) (K.holds out.new) pending.old pending.new
+    ensures text { GathersFor K.Sink out.old out.new pending.old pending.new
         (relocations_text offsets.now) result }
-    ensures cause { HasCause (K.faults out.old) (K.faults out.new) result }
+    ensures cause { FailsBySink K.Sink out.old out.new result }
 {
     if offsets.is_empty() {
         return Ok(());
@@ -94,9 +94,9 @@ fn gather_item<K: Sink>(
     pending: &mut Output,
 ) -> Result<(), SinkFault>
     requires { length words.now < 2 ^ 32 }
-    ensures text { Gathers (K.holds out.old) (K.holds out.new) pending.old pending.new
+    ensures text { GathersFor K.Sink out.old out.new pending.old pending.new
         (item_text kind words.now) result }
-    ensures cause { HasCause (K.faults out.old) (K.faults out.new) result }
+    ensures cause { FailsBySink K.Sink out.old out.new result }
 {
     gather_head(kind, words.len() as u32, out, pending)?;
     gather_words(words, out, pending)
@@ -109,9 +109,9 @@ fn gather_head<K: Sink>(
     out: &mut K,
     pending: &mut Output,
 ) -> Result<(), SinkFault>
-    ensures text { Gathers (K.holds out.old) (K.holds out.new) pending.old pending.new
+    ensures text { GathersFor K.Sink out.old out.new pending.old pending.new
         (head_text kind count) result }
-    ensures cause { HasCause (K.faults out.old) (K.faults out.new) result }
+    ensures cause { FailsBySink K.Sink out.old out.new result }
 {
     gather_pieces(
         out,
@@ -127,9 +127,9 @@ fn gather_head<K: Sink>(
 
 // Gathers words, eight a line.
 fn gather_words<K: Sink>(words: &[u32], out: &mut K, pending: &mut Output) -> Result<(), SinkFault>
-    ensures text { Gathers (K.holds out.old) (K.holds out.new) pending.old pending.new
+    ensures text { GathersFor K.Sink out.old out.new pending.old pending.new
         (words_text 0 (length words.now) words.now) result }
-    ensures cause { HasCause (K.faults out.old) (K.faults out.new) result }
+    ensures cause { FailsBySink K.Sink out.old out.new result }
 {
     for (i, word) in words.iter().enumerate() {
         gather_word(i, words.len(), *word, out, pending)?;
@@ -146,9 +146,9 @@ fn gather_word<K: Sink>(
     pending: &mut Output,
 ) -> Result<(), SinkFault>
     requires { i < n }
-    ensures text { Gathers (K.holds out.old) (K.holds out.new) pending.old pending.new
+    ensures text { GathersFor K.Sink out.old out.new pending.old pending.new
         (word_text i n word) result }
-    ensures cause { HasCause (K.faults out.old) (K.faults out.new) result }
+    ensures cause { FailsBySink K.Sink out.old out.new result }
 {
     let after = after_word(i, n);
     gather_pieces(out, pending, &[Piece::Word(word), Piece::Text(after)])

@@ -1,6 +1,6 @@
 // The texts of an input that has no other answer.
 ghost use Rattle.std.specs.Prelude.{◌≡◌, is_ok, if◌then◌else◌};
-ghost use Rattle.byte_streams.specs.Write.{Prints, HasCause};
+ghost use Rattle.byte_streams.specs.Sinks.{FailsBySink, PrintsTo};
 ghost use Rattle.program_answers.specs.Texts.{no_boot_text, refused_text, too_long_text};
 
 use crate::Status;
@@ -19,17 +19,17 @@ pub fn status_after(end: Result<(), SinkFault>, status: Status) -> Status
 
 // The input is too long.
 pub(crate) fn write_too_long<K: Sink>(out: &mut K) -> Result<(), SinkFault>
-    ensures text { Prints (K.holds out.old) (K.holds out.new) too_long_text result }
-    ensures cause { HasCause (K.faults out.old) (K.faults out.new) result }
+    ensures text { PrintsTo K.Sink out.old out.new too_long_text result }
+    ensures cause { FailsBySink K.Sink out.old out.new result }
 {
     write_text(out, b"* input too long\n")
 }
 
 /// Where and why the input was refused.
 pub fn write_refused<K: Sink>(out: &mut K, line: u32, code: u32) -> Result<(), SinkFault>
-    ensures text { Prints (K.holds out.old) (K.holds out.new)
+    ensures text { PrintsTo K.Sink out.old out.new
         (refused_text (record { line = line; code = code })) result }
-    ensures cause { HasCause (K.faults out.old) (K.faults out.new) result }
+    ensures cause { FailsBySink K.Sink out.old out.new result }
 {
     write_pieces(
         out,
@@ -45,9 +45,9 @@ pub fn write_refused<K: Sink>(out: &mut K, line: u32, code: u32) -> Result<(), S
 
 /// Where and why the session does not boot.
 pub fn write_no_boot<K: Sink>(out: &mut K, line: u32, code: u32) -> Result<(), SinkFault>
-    ensures text { Prints (K.holds out.old) (K.holds out.new)
+    ensures text { PrintsTo K.Sink out.old out.new
         (no_boot_text (record { line = line; code = code })) result }
-    ensures cause { HasCause (K.faults out.old) (K.faults out.new) result }
+    ensures cause { FailsBySink K.Sink out.old out.new result }
 {
     write_pieces(
         out,

@@ -1,7 +1,7 @@
 // Printing a session.
 ghost use Rattle.std.specs.Prelude.{◌≡◌, [], ◌∷◌, ◌++◌, false, if◌then◌else◌, map};
 ghost use Rattle.hex.specs.Hex.{encode_lower};
-ghost use Rattle.byte_streams.specs.Write.{Prints, HasCause};
+ghost use Rattle.byte_streams.specs.Sinks.{FailsBySink, PrintsTo};
 ghost use Rattle.module_text.specs.TextReader.Lines.{lines_of, text_of_lines};
 ghost use Rattle.session_text.specs.Canonical.{canonical, form_text, head_text, keys_text, lines_text, machine_text, statement_text};
 ghost use Rattle.session_text.specs.Entries.{colon_line};
@@ -15,8 +15,8 @@ use ram_disc::Name;
 /// Writes the canonical text of a session. It takes no memory. `SinkFault` comes only where the sink's count of faults
 /// rose; then a prefix of the text is written.
 pub fn print_session<K: Sink>(s: &Session, out: &mut K) -> Result<(), SinkFault>
-    ensures text { Prints (K.holds out.old) (K.holds out.new) (canonical s.now) result }
-    ensures cause { HasCause (K.faults out.old) (K.faults out.new) result }
+    ensures text { PrintsTo K.Sink out.old out.new (canonical s.now) result }
+    ensures cause { FailsBySink K.Sink out.old out.new result }
 {
     print_head(s.version, s.store, out)?;
     print_machine(s.bare, s.period, s.resident, s.debug, out)?;
@@ -28,8 +28,8 @@ pub fn print_session<K: Sink>(s: &Session, out: &mut K) -> Result<(), SinkFault>
 // Writes the first two lines.
 fn print_head<K: Sink>(version: u32, store: u32, out: &mut K) -> Result<(), SinkFault>
     ensures text { let text = text_of_lines (head_text version store) in
-        Prints (K.holds out.old) (K.holds out.new) text result }
-    ensures cause { HasCause (K.faults out.old) (K.faults out.new) result }
+        PrintsTo K.Sink out.old out.new text result }
+    ensures cause { FailsBySink K.Sink out.old out.new result }
 {
     write_pieces(
         out,
@@ -52,8 +52,8 @@ fn print_machine<K: Sink>(
     out: &mut K,
 ) -> Result<(), SinkFault>
     ensures text { let text = text_of_lines (machine_text bare period resident debug) in
-        Prints (K.holds out.old) (K.holds out.new) text result }
-    ensures cause { HasCause (K.faults out.old) (K.faults out.new) result }
+        PrintsTo K.Sink out.old out.new text result }
+    ensures cause { FailsBySink K.Sink out.old out.new result }
 {
     if bare {
         write_pieces(out, &[Piece::Text(b"BARE\n")])
@@ -69,8 +69,8 @@ fn print_clock<K: Sink>(
     out: &mut K,
 ) -> Result<(), SinkFault>
     ensures text { let text = text_of_lines (machine_text false period resident debug) in
-        Prints (K.holds out.old) (K.holds out.new) text result }
-    ensures cause { HasCause (K.faults out.old) (K.faults out.new) result }
+        PrintsTo K.Sink out.old out.new text result }
+    ensures cause { FailsBySink K.Sink out.old out.new result }
 {
     write_pieces(
         out,
@@ -87,8 +87,8 @@ fn print_clock<K: Sink>(
 // Writes a line, where it is to be there.
 fn print_option<K: Sink>(shown: bool, line: &[u8], out: &mut K) -> Result<(), SinkFault>
     ensures text { let text = if shown then line.now else [] in
-        Prints (K.holds out.old) (K.holds out.new) text result }
-    ensures cause { HasCause (K.faults out.old) (K.faults out.new) result }
+        PrintsTo K.Sink out.old out.new text result }
+    ensures cause { FailsBySink K.Sink out.old out.new result }
 {
     if shown {
         write_pieces(out, &[Piece::Text(line)])
@@ -100,8 +100,8 @@ fn print_option<K: Sink>(shown: bool, line: &[u8], out: &mut K) -> Result<(), Si
 // Writes the lines of code, or of files and tasks.
 fn print_lines<K: Sink>(lines: &[SessionLine], out: &mut K) -> Result<(), SinkFault>
     ensures text { let text = text_of_lines (lines_text lines.now) in
-        Prints (K.holds out.old) (K.holds out.new) text result }
-    ensures cause { HasCause (K.faults out.old) (K.faults out.new) result }
+        PrintsTo K.Sink out.old out.new text result }
+    ensures cause { FailsBySink K.Sink out.old out.new result }
 {
     for line in lines {
         print_form(&line.form, out)?;
@@ -112,8 +112,8 @@ fn print_lines<K: Sink>(lines: &[SessionLine], out: &mut K) -> Result<(), SinkFa
 // Writes the lines of code, of a file or of a task.
 fn print_form<K: Sink>(form: &LineForm, out: &mut K) -> Result<(), SinkFault>
     ensures text { let text = text_of_lines (form_text form.now) in
-        Prints (K.holds out.old) (K.holds out.new) text result }
-    ensures cause { HasCause (K.faults out.old) (K.faults out.new) result }
+        PrintsTo K.Sink out.old out.new text result }
+    ensures cause { FailsBySink K.Sink out.old out.new result }
 {
     match form {
         LineForm::Code(bytes) => print_code(bytes.as_slice(), out),
@@ -130,8 +130,8 @@ fn print_form<K: Sink>(form: &LineForm, out: &mut K) -> Result<(), SinkFault>
 // Writes a line of code.
 fn print_code<K: Sink>(bytes: &[u8], out: &mut K) -> Result<(), SinkFault>
     ensures text { let text = 58 ∷ (encode_lower bytes.now ++ 10 ∷ []) in
-        Prints (K.holds out.old) (K.holds out.new) text result }
-    ensures cause { HasCause (K.faults out.old) (K.faults out.new) result }
+        PrintsTo K.Sink out.old out.new text result }
+    ensures cause { FailsBySink K.Sink out.old out.new result }
 {
     write_pieces(out, &[Piece::Text(b":")])?;
     print_hex(bytes, out)?;
@@ -142,8 +142,8 @@ fn print_code<K: Sink>(bytes: &[u8], out: &mut K) -> Result<(), SinkFault>
 fn print_file<K: Sink>(name: &Name, bytes: &[u8], out: &mut K) -> Result<(), SinkFault>
     ensures text { let lines = map colon_line (lines_of bytes.now) in
         let text = text_of_lines (statement_text (File name.now) ∷ lines) in
-        Prints (K.holds out.old) (K.holds out.new) text result }
-    ensures cause { HasCause (K.faults out.old) (K.faults out.new) result }
+        PrintsTo K.Sink out.old out.new text result }
+    ensures cause { FailsBySink K.Sink out.old out.new result }
 {
     write_pieces(
         out,
@@ -159,8 +159,8 @@ fn print_file<K: Sink>(name: &Name, bytes: &[u8], out: &mut K) -> Result<(), Sin
 // Writes the lines of a text, each behind a colon.
 fn print_text<K: Sink>(text: &[u8], out: &mut K) -> Result<(), SinkFault>
     ensures text { let text = text_of_lines (map colon_line (lines_of text.now)) in
-        Prints (K.holds out.old) (K.holds out.new) text result }
-    ensures cause { HasCause (K.faults out.old) (K.faults out.new) result }
+        PrintsTo K.Sink out.old out.new text result }
+    ensures cause { FailsBySink K.Sink out.old out.new result }
 {
     let mut rest = text;
     while let Some((line, others)) = split_line(rest) {
@@ -182,8 +182,8 @@ fn print_task<K: Sink>(
     out: &mut K,
 ) -> Result<(), SinkFault>
     ensures text { let text = text_of_lines (statement_text (Task id pri stack names.now) ∷ []) in
-        Prints (K.holds out.old) (K.holds out.new) text result }
-    ensures cause { HasCause (K.faults out.old) (K.faults out.new) result }
+        PrintsTo K.Sink out.old out.new text result }
+    ensures cause { FailsBySink K.Sink out.old out.new result }
 {
     write_pieces(
         out,
@@ -202,8 +202,8 @@ fn print_task<K: Sink>(
 
 // Writes names, each behind a blank.
 fn print_names<K: Sink>(names: &[Name], out: &mut K) -> Result<(), SinkFault>
-    ensures text { Prints (K.holds out.old) (K.holds out.new) (names_text names.now) result }
-    ensures cause { HasCause (K.faults out.old) (K.faults out.new) result }
+    ensures text { PrintsTo K.Sink out.old out.new (names_text names.now) result }
+    ensures cause { FailsBySink K.Sink out.old out.new result }
 {
     for name in names {
         write_pieces(out, &[Piece::Text(b" "), Piece::Text(name.bytes())])?;
@@ -214,8 +214,8 @@ fn print_names<K: Sink>(names: &[Name], out: &mut K) -> Result<(), SinkFault>
 // Writes a line for each key.
 fn print_keys<K: Sink>(keys: &[(u64, u8)], out: &mut K) -> Result<(), SinkFault>
     ensures text { let text = text_of_lines (keys_text keys.now) in
-        Prints (K.holds out.old) (K.holds out.new) text result }
-    ensures cause { HasCause (K.faults out.old) (K.faults out.new) result }
+        PrintsTo K.Sink out.old out.new text result }
+    ensures cause { FailsBySink K.Sink out.old out.new result }
 {
     for key in keys {
         print_key(key.0, key.1, out)?;
@@ -225,8 +225,8 @@ fn print_keys<K: Sink>(keys: &[(u64, u8)], out: &mut K) -> Result<(), SinkFault>
 
 fn print_key<K: Sink>(step: u64, byte: u8, out: &mut K) -> Result<(), SinkFault>
     ensures text { let text = text_of_lines (statement_text (Key step byte) ∷ []) in
-        Prints (K.holds out.old) (K.holds out.new) text result }
-    ensures cause { HasCause (K.faults out.old) (K.faults out.new) result }
+        PrintsTo K.Sink out.old out.new text result }
+    ensures cause { FailsBySink K.Sink out.old out.new result }
 {
     write_pieces(
         out,
@@ -243,8 +243,8 @@ fn print_key<K: Sink>(step: u64, byte: u8, out: &mut K) -> Result<(), SinkFault>
 // Writes the last line.
 fn print_go<K: Sink>(go: u64, out: &mut K) -> Result<(), SinkFault>
     ensures text { let text = text_of_lines (statement_text (Go go) ∷ []) in
-        Prints (K.holds out.old) (K.holds out.new) text result }
-    ensures cause { HasCause (K.faults out.old) (K.faults out.new) result }
+        PrintsTo K.Sink out.old out.new text result }
+    ensures cause { FailsBySink K.Sink out.old out.new result }
 {
     write_pieces(
         out,
@@ -255,8 +255,8 @@ fn print_go<K: Sink>(go: u64, out: &mut K) -> Result<(), SinkFault>
 // Writes bytes in hex, each as two digits.
 #[tactic(auto, unfolding(hex::specs::Hex::encode_with))]
 fn print_hex<K: Sink>(bytes: &[u8], out: &mut K) -> Result<(), SinkFault>
-    ensures text { Prints (K.holds out.old) (K.holds out.new) (encode_lower bytes.now) result }
-    ensures cause { HasCause (K.faults out.old) (K.faults out.new) result }
+    ensures text { PrintsTo K.Sink out.old out.new (encode_lower bytes.now) result }
+    ensures cause { FailsBySink K.Sink out.old out.new result }
 {
     for byte in bytes {
         print_byte(*byte, out)?;
@@ -265,8 +265,8 @@ fn print_hex<K: Sink>(bytes: &[u8], out: &mut K) -> Result<(), SinkFault>
 }
 
 fn print_byte<K: Sink>(byte: u8, out: &mut K) -> Result<(), SinkFault>
-    ensures text { Prints (K.holds out.old) (K.holds out.new) (encode_lower (byte ∷ [])) result }
-    ensures cause { HasCause (K.faults out.old) (K.faults out.new) result }
+    ensures text { PrintsTo K.Sink out.old out.new (encode_lower (byte ∷ [])) result }
+    ensures cause { FailsBySink K.Sink out.old out.new result }
 {
     write_pieces(out, &[Piece::Text(&hex_digits(byte))])
 }

@@ -1,7 +1,6 @@
 // What is shown of a machine's run.
 ghost use Rattle.std.specs.Prelude.{◌≡◌, ◌≤◌, ◌+◌};
-ghost use Rattle.byte_streams.specs.Pending.{Gathers};
-ghost use Rattle.byte_streams.specs.Write.{HasCause, Prints};
+ghost use Rattle.byte_streams.specs.Sinks.{FailsBySink, GathersFor, PrintsTo};
 ghost use Rattle.kernel_model.specs.KernelRecord.Ranges.{most_steps};
 ghost use Rattle.tripos_machine.specs.State.{steps_of};
 ghost use Rattle.state_text.specs.StateText.{state_text};
@@ -22,9 +21,9 @@ pub(crate) fn show_machine<K: Sink>(
     out: &mut K,
 ) -> Result<(), SinkFault>
     requires { steps_of machine.old.state + go ≤ most_steps }
-    ensures text { Prints (K.holds out.old) (K.holds out.new)
+    ensures text { PrintsTo K.Sink out.old out.new
         (shown_text asked programs.now go machine.old.state) result }
-    ensures cause { HasCause (K.faults out.old) (K.faults out.new) result }
+    ensures cause { FailsBySink K.Sink out.old out.new result }
 {
     match asked {
         Show::State => show_state(programs, machine, go, out),
@@ -40,9 +39,9 @@ fn show_state<K: Sink>(
     out: &mut K,
 ) -> Result<(), SinkFault>
     requires { steps_of machine.old.state + go ≤ most_steps }
-    ensures text { Prints (K.holds out.old) (K.holds out.new)
+    ensures text { PrintsTo K.Sink out.old out.new
         (shown_state programs.now go machine.old.state) result }
-    ensures cause { HasCause (K.faults out.old) (K.faults out.new) result }
+    ensures cause { FailsBySink K.Sink out.old out.new result }
 {
     machine.run_unheard(go);
     write_state(programs, machine, out)
@@ -53,9 +52,9 @@ fn write_state<K: Sink>(
     machine: &Machine,
     out: &mut K,
 ) -> Result<(), SinkFault>
-    ensures text { Prints (K.holds out.old) (K.holds out.new)
+    ensures text { PrintsTo K.Sink out.old out.new
         (state_text programs.now machine.now.state) result }
-    ensures cause { HasCause (K.faults out.old) (K.faults out.new) result }
+    ensures cause { FailsBySink K.Sink out.old out.new result }
 {
     let mut pending = Output::new();
     gather_state(machine, programs, out, &mut pending)?;
@@ -71,9 +70,9 @@ fn show_log<K: Sink>(
     out: &mut K,
 ) -> Result<(), SinkFault>
     requires { steps_of machine.old.state + go ≤ most_steps }
-    ensures text { Prints (K.holds out.old) (K.holds out.new)
+    ensures text { PrintsTo K.Sink out.old out.new
         (log_of first last go machine.old.state) result }
-    ensures cause { HasCause (K.faults out.old) (K.faults out.new) result }
+    ensures cause { FailsBySink K.Sink out.old out.new result }
 {
     let mut pending = Output::new();
     gather_log(first, last, machine, go, out, &mut pending)?;
@@ -90,9 +89,9 @@ fn gather_log<K: Sink>(
     pending: &mut Output,
 ) -> Result<(), SinkFault>
     requires { steps_of machine.old.state + go ≤ most_steps }
-    ensures text { Gathers (K.holds out.old) (K.holds out.new) pending.old pending.new
+    ensures text { GathersFor K.Sink out.old out.new pending.old pending.new
         (log_of first last go machine.old.state) result }
-    ensures cause { HasCause (K.faults out.old) (K.faults out.new) result }
+    ensures cause { FailsBySink K.Sink out.old out.new result }
 {
     gather_boot_part(first, machine, out, pending)?;
     gather_steps_part(first, last, machine, go, out, pending)
@@ -105,9 +104,9 @@ fn gather_boot_part<K: Sink>(
     out: &mut K,
     pending: &mut Output,
 ) -> Result<(), SinkFault>
-    ensures text { Gathers (K.holds out.old) (K.holds out.new) pending.old pending.new
+    ensures text { GathersFor K.Sink out.old out.new pending.old pending.new
         (boot_part first machine.now.state) result }
-    ensures cause { HasCause (K.faults out.old) (K.faults out.new) result }
+    ensures cause { FailsBySink K.Sink out.old out.new result }
 {
     if first != 0 {
         return Ok(());
@@ -125,9 +124,9 @@ fn gather_steps_part<K: Sink>(
     pending: &mut Output,
 ) -> Result<(), SinkFault>
     requires { steps_of machine.old.state + go ≤ most_steps }
-    ensures text { Gathers (K.holds out.old) (K.holds out.new) pending.old pending.new
+    ensures text { GathersFor K.Sink out.old out.new pending.old pending.new
         (steps_part first last go machine.old.state) result }
-    ensures cause { HasCause (K.faults out.old) (K.faults out.new) result }
+    ensures cause { FailsBySink K.Sink out.old out.new result }
 {
     let before = skipped(first, go);
     let count = shown(first, last, go);

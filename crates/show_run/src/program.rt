@@ -3,7 +3,7 @@ ghost use Rattle.std.specs.Prelude.{List, ℕ, map, string_bytes};
 ghost use Rattle.program_answers.specs.Answered.{Answered};
 ghost use Rattle.program_answers.specs.Cause.{HasFaultCause, HasReadCause};
 ghost use Rattle.program_answers.specs.Input.{IsInput};
-ghost use Rattle.byte_streams.specs.Write.{HasCause, Prints};
+ghost use Rattle.byte_streams.specs.Sinks.{FailsBySink, PrintsTo};
 ghost use Rattle.show_run.specs.InputAnswers.{IsAnswer};
 ghost use Rattle.show_run.specs.Leaves.{Leaves};
 ghost use Rattle.show_run.specs.Words.{show_of, usage_text};
@@ -40,8 +40,8 @@ pub fn show<S: Source, K: Sink>(alloc: Global, words: &[String], src: &mut S, ou
 
 // The words that there are.
 fn write_usage<K: Sink>(out: &mut K) -> Result<(), SinkFault>
-    ensures text { Prints (K.holds out.old) (K.holds out.new) usage_text result }
-    ensures cause { HasCause (K.faults out.old) (K.faults out.new) result }
+    ensures text { PrintsTo K.Sink out.old out.new usage_text result }
+    ensures cause { FailsBySink K.Sink out.old out.new result }
 {
     write_text(out, b"* usage: tripos_show state, log, or log FIRST LAST\n")
 }

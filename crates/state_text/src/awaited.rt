@@ -2,7 +2,7 @@
 ghost use Rattle.std.specs.Prelude.{◌≡◌, if◌then◌else◌, []};
 ghost use Rattle.std.specs.List.{flat_map};
 ghost use Rattle.byte_streams.specs.Pending.{Gathers};
-ghost use Rattle.byte_streams.specs.Write.{HasCause};
+ghost use Rattle.byte_streams.specs.Sinks.{FailsBySink, GathersFor};
 ghost use Rattle.kernel_model.specs.KernelRecord.KernelRanges.{CanWalkLists, CanWalkTask};
 ghost use Rattle.kernel_model.specs.KernelRecord.Recovered.{lists_in, packet_in, packets_at, pending_in, task_in};
 ghost use Rattle.kernel_lists.specs.PacketQueue.Queue.{HasQueue};
@@ -26,9 +26,9 @@ pub(crate) fn gather_awaited<K: Sink>(
     pending: &mut Output,
 ) -> Result<(), SinkFault>
     requires { CanWalkLists store.now }
-    ensures text { Gathers (K.holds out.old) (K.holds out.new) pending.old pending.new
+    ensures text { GathersFor K.Sink out.old out.new pending.old pending.new
         (awaited_lines id (lists_in store.now)) result }
-    ensures cause { HasCause (K.faults out.old) (K.faults out.new) result }
+    ensures cause { FailsBySink K.Sink out.old out.new result }
 {
     let clock = RootField::ClockQueue.address();
     let keyboard = RootField::KeyQueue.address();
@@ -49,9 +49,9 @@ fn gather_none<K: Sink>(
     pending: &mut Output,
 ) -> Result<(), SinkFault>
     requires { CanWalkLists store.now }
-    ensures text { Gathers (K.holds out.old) (K.holds out.new) pending.old pending.new
+    ensures text { GathersFor K.Sink out.old out.new pending.old pending.new
         (none_line id (lists_in store.now)) result }
-    ensures cause { HasCause (K.faults out.old) (K.faults out.new) result }
+    ensures cause { FailsBySink K.Sink out.old out.new result }
 {
     if has_packet(store, id) {
         return Ok(());
@@ -77,9 +77,9 @@ fn gather_sent_reads<K: Sink>(
     pending: &mut Output,
 ) -> Result<(), SinkFault>
     requires { CanWalkLists store.now }
-    ensures text { Gathers (K.holds out.old) (K.holds out.new) pending.old pending.new
+    ensures text { GathersFor K.Sink out.old out.new pending.old pending.new
         (its_lines id Console (pending_in store.now)) result }
-    ensures cause { HasCause (K.faults out.old) (K.faults out.new) result }
+    ensures cause { FailsBySink K.Sink out.old out.new result }
 {
     if root(store, RootField::Residents) == 0 {
         return Ok(());
@@ -95,9 +95,9 @@ fn gather_sent_to_tasks<K: Sink>(
     pending: &mut Output,
 ) -> Result<(), SinkFault>
     requires { CanWalkLists store.now }
-    ensures text { Gathers (K.holds out.old) (K.holds out.new) pending.old pending.new
+    ensures text { GathersFor K.Sink out.old out.new pending.old pending.new
         (flat_map (its_lines_at_task id) (lists_in store.now).tasks) result }
-    ensures cause { HasCause (K.faults out.old) (K.faults out.new) result }
+    ensures cause { FailsBySink K.Sink out.old out.new result }
 {
     for t in tasks(store) {
         gather_sent_to_task(store, id, t, out, pending)?;
@@ -114,9 +114,9 @@ fn gather_sent_to_task<K: Sink>(
     pending: &mut Output,
 ) -> Result<(), SinkFault>
     requires { CanWalkTask store.now t }
-    ensures text { Gathers (K.holds out.old) (K.holds out.new) pending.old pending.new
+    ensures text { GathersFor K.Sink out.old out.new pending.old pending.new
         (its_lines_at_task id (task_in store.now t)) result }
-    ensures cause { HasCause (K.faults out.old) (K.faults out.new) result }
+    ensures cause { FailsBySink K.Sink out.old out.new result }
 {
     let place = Place::Task(field(store, t, TcbField::Id));
     let head = store.address_of(t, TcbField::Queue.index());
@@ -133,9 +133,9 @@ fn gather_sent<K: Sink>(
     pending: &mut Output,
 ) -> Result<(), SinkFault>
     requires { HasQueue store.now head }
-    ensures text { Gathers (K.holds out.old) (K.holds out.new) pending.old pending.new
+    ensures text { GathersFor K.Sink out.old out.new pending.old pending.new
         (its_lines id place (packets_at store.now head)) result }
-    ensures cause { HasCause (K.faults out.old) (K.faults out.new) result }
+    ensures cause { FailsBySink K.Sink out.old out.new result }
 {
     for p in packets(store, head) {
         gather_if_sent(store, id, place, p, out, pending)?;
@@ -152,10 +152,10 @@ fn gather_if_sent<K: Sink>(
     out: &mut K,
     pending: &mut Output,
 ) -> Result<(), SinkFault>
-    ensures text { Gathers (K.holds out.old) (K.holds out.new) pending.old pending.new
+    ensures text { GathersFor K.Sink out.old out.new pending.old pending.new
         (if is_from id (packet_in store.now p)
         then its_packet_line place (packet_in store.now p) else []) result }
-    ensures cause { HasCause (K.faults out.old) (K.faults out.new) result }
+    ensures cause { FailsBySink K.Sink out.old out.new result }
 {
     if word_at(store, p, SENDER) != id {
         return Ok(());
@@ -171,9 +171,9 @@ fn gather_its_packet<K: Sink>(
     out: &mut K,
     pending: &mut Output,
 ) -> Result<(), SinkFault>
-    ensures text { Gathers (K.holds out.old) (K.holds out.new) pending.old pending.new
+    ensures text { GathersFor K.Sink out.old out.new pending.old pending.new
         (its_packet_line place (packet_in store.now p)) result }
-    ensures cause { HasCause (K.faults out.old) (K.faults out.new) result }
+    ensures cause { FailsBySink K.Sink out.old out.new result }
 {
     match place {
         Place::Clock => {
@@ -194,9 +194,9 @@ fn gather_its_line<K: Sink>(
     out: &mut K,
     pending: &mut Output,
 ) -> Result<(), SinkFault>
-    ensures text { Gathers (K.holds out.old) (K.holds out.new) pending.old pending.new
+    ensures text { GathersFor K.Sink out.old out.new pending.old pending.new
         (its_line p text.now) result }
-    ensures cause { HasCause (K.faults out.old) (K.faults out.new) result }
+    ensures cause { FailsBySink K.Sink out.old out.new result }
 {
     gather_pieces(
         out,
@@ -218,9 +218,9 @@ fn gather_number_line<K: Sink>(
     out: &mut K,
     pending: &mut Output,
 ) -> Result<(), SinkFault>
-    ensures text { Gathers (K.holds out.old) (K.holds out.new) pending.old pending.new
+    ensures text { GathersFor K.Sink out.old out.new pending.old pending.new
         (its_number_line p text.now n) result }
-    ensures cause { HasCause (K.faults out.old) (K.faults out.new) result }
+    ensures cause { FailsBySink K.Sink out.old out.new result }
 {
     gather_pieces(
         out,

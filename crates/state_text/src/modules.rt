@@ -1,7 +1,7 @@
 // The modules of a kernel in words.
 ghost use Rattle.std.specs.List.{flat_map};
 ghost use Rattle.byte_streams.specs.Pending.{Gathers};
-ghost use Rattle.byte_streams.specs.Write.{HasCause};
+ghost use Rattle.byte_streams.specs.Sinks.{FailsBySink, GathersFor};
 ghost use Rattle.kernel_model.specs.KernelRecord.KernelRanges.{CanWalkLists, IsModuleIn};
 ghost use Rattle.kernel_model.specs.KernelRecord.Recovered.{lists_in, module_in};
 ghost use Rattle.state_text.specs.ModuleTexts.{module_line, module_place, modules_text};
@@ -29,9 +29,9 @@ pub(crate) fn gather_modules<K: Sink>(
     pending: &mut Output,
 ) -> Result<(), SinkFault>
     requires { CanWalkLists store.now }
-    ensures text { Gathers (K.holds out.old) (K.holds out.new) pending.old pending.new
+    ensures text { GathersFor K.Sink out.old out.new pending.old pending.new
         (modules_text (name_in programs.now store.now) (lists_in store.now)) result }
-    ensures cause { HasCause (K.faults out.old) (K.faults out.new) result }
+    ensures cause { FailsBySink K.Sink out.old out.new result }
 {
     gather(out, pending, b"modules\n")?;
     gather_list(store, programs, out, pending)
@@ -45,10 +45,10 @@ fn gather_list<K: Sink>(
     pending: &mut Output,
 ) -> Result<(), SinkFault>
     requires { CanWalkLists store.now }
-    ensures text { Gathers (K.holds out.old) (K.holds out.new) pending.old pending.new
+    ensures text { GathersFor K.Sink out.old out.new pending.old pending.new
         (flat_map (module_line (name_in programs.now store.now))
         (lists_in store.now).modules) result }
-    ensures cause { HasCause (K.faults out.old) (K.faults out.new) result }
+    ensures cause { FailsBySink K.Sink out.old out.new result }
 {
     for m in modules(store) {
         gather_module(store, programs, m, out, pending)?;
@@ -65,9 +65,9 @@ fn gather_module<K: Sink>(
     pending: &mut Output,
 ) -> Result<(), SinkFault>
     requires { IsModuleIn store.now m }
-    ensures text { Gathers (K.holds out.old) (K.holds out.new) pending.old pending.new
+    ensures text { GathersFor K.Sink out.old out.new pending.old pending.new
         (module_line (name_in programs.now store.now) (module_in store.now m)) result }
-    ensures cause { HasCause (K.faults out.old) (K.faults out.new) result }
+    ensures cause { FailsBySink K.Sink out.old out.new result }
 {
     gather_place(store, m, out, pending)?;
     gather_line_end(name_in(programs, store, m), out, pending)
@@ -81,9 +81,9 @@ fn gather_place<K: Sink>(
     pending: &mut Output,
 ) -> Result<(), SinkFault>
     requires { IsModuleIn store.now m }
-    ensures text { Gathers (K.holds out.old) (K.holds out.new) pending.old pending.new
+    ensures text { GathersFor K.Sink out.old out.new pending.old pending.new
         (module_place (module_in store.now m)) result }
-    ensures cause { HasCause (K.faults out.old) (K.faults out.new) result }
+    ensures cause { FailsBySink K.Sink out.old out.new result }
 {
     let hunks = u64::from(word_at(store, m, HUNK_COUNT));
     let first_byte = 4 * (u64::from(m) + HEAD_WORDS + hunks);

@@ -2,7 +2,7 @@
 ghost use Rattle.std.specs.Prelude.{◌≡◌, ◌+◌, ◌==◌, filter, if◌then◌else◌, not, slice_range, None};
 ghost use Rattle.std.specs.Option.{option_copied};
 ghost use Rattle.byte_streams.specs.Pending.{Gathers};
-ghost use Rattle.byte_streams.specs.Write.{HasCause};
+ghost use Rattle.byte_streams.specs.Sinks.{FailsBySink, GathersFor};
 ghost use Rattle.kernel_model.specs.KernelRecord.Recovered.{modules_of};
 ghost use Rattle.kernel_lists.specs.TaskBlock.Versions.{head_words};
 ghost use Rattle.state_text.specs.ProgramNames.{first_name, line_end, name_in};
@@ -58,9 +58,9 @@ pub(crate) fn gather_line_end<K: Sink>(
     out: &mut K,
     pending: &mut Output,
 ) -> Result<(), SinkFault>
-    ensures text { Gathers (K.holds out.old) (K.holds out.new) pending.old pending.new
+    ensures text { GathersFor K.Sink out.old out.new pending.old pending.new
         (line_end (option_copied name.entry)) result }
-    ensures cause { HasCause (K.faults out.old) (K.faults out.new) result }
+    ensures cause { FailsBySink K.Sink out.old out.new result }
 {
     match name {
         Some(name) => gather_pieces(

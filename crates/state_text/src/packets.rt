@@ -1,7 +1,7 @@
 // The packets of a queue in words.
 ghost use Rattle.std.specs.Prelude.{◌≡◌};
 ghost use Rattle.byte_streams.specs.Pending.{Gathers};
-ghost use Rattle.byte_streams.specs.Write.{HasCause};
+ghost use Rattle.byte_streams.specs.Sinks.{FailsBySink, GathersFor};
 ghost use Rattle.kernel_model.specs.KernelRecord.Recovered.{packet_in, packets_at};
 ghost use Rattle.kernel_lists.specs.PacketQueue.Queue.{HasQueue};
 ghost use Rattle.state_text.specs.PacketTexts.{name_of, packet_end, packet_front, packet_line, packet_lines, queue_name};
@@ -22,9 +22,9 @@ pub(crate) fn gather_packets<K: Sink>(
     pending: &mut Output,
 ) -> Result<(), SinkFault>
     requires { HasQueue store.now head }
-    ensures text { Gathers (K.holds out.old) (K.holds out.new) pending.old pending.new
+    ensures text { GathersFor K.Sink out.old out.new pending.old pending.new
         (packet_lines place (packets_at store.now head)) result }
-    ensures cause { HasCause (K.faults out.old) (K.faults out.new) result }
+    ensures cause { FailsBySink K.Sink out.old out.new result }
 {
     for p in packets(store, head) {
         gather_packet(store, place, p, out, pending)?;
@@ -40,9 +40,9 @@ fn gather_packet<K: Sink>(
     out: &mut K,
     pending: &mut Output,
 ) -> Result<(), SinkFault>
-    ensures text { Gathers (K.holds out.old) (K.holds out.new) pending.old pending.new
+    ensures text { GathersFor K.Sink out.old out.new pending.old pending.new
         (packet_line place (packet_in store.now p)) result }
-    ensures cause { HasCause (K.faults out.old) (K.faults out.new) result }
+    ensures cause { FailsBySink K.Sink out.old out.new result }
 {
     gather_front(store, place, p, out, pending)?;
     gather_name(word_at(store, p, SENDER), out, pending)?;
@@ -57,9 +57,9 @@ fn gather_front<K: Sink>(
     out: &mut K,
     pending: &mut Output,
 ) -> Result<(), SinkFault>
-    ensures text { Gathers (K.holds out.old) (K.holds out.new) pending.old pending.new
+    ensures text { GathersFor K.Sink out.old out.new pending.old pending.new
         (packet_front place (packet_in store.now p)) result }
-    ensures cause { HasCause (K.faults out.old) (K.faults out.new) result }
+    ensures cause { FailsBySink K.Sink out.old out.new result }
 {
     gather_pieces(
         out,
@@ -87,9 +87,9 @@ fn queue_name(place: Place) -> &'static [u8]
 
 // Who has the number.
 fn gather_name<K: Sink>(id: u32, out: &mut K, pending: &mut Output) -> Result<(), SinkFault>
-    ensures text { Gathers (K.holds out.old) (K.holds out.new) pending.old pending.new
+    ensures text { GathersFor K.Sink out.old out.new pending.old pending.new
         (name_of id) result }
-    ensures cause { HasCause (K.faults out.old) (K.faults out.new) result }
+    ensures cause { FailsBySink K.Sink out.old out.new result }
 {
     match id {
         CLOCK => gather(out, pending, b"the clock"),
@@ -107,9 +107,9 @@ fn gather_end<K: Sink>(
     out: &mut K,
     pending: &mut Output,
 ) -> Result<(), SinkFault>
-    ensures text { Gathers (K.holds out.old) (K.holds out.new) pending.old pending.new
+    ensures text { GathersFor K.Sink out.old out.new pending.old pending.new
         (packet_end place (packet_in store.now p)) result }
-    ensures cause { HasCause (K.faults out.old) (K.faults out.new) result }
+    ensures cause { FailsBySink K.Sink out.old out.new result }
 {
     let kind = u64::from(word_at(store, p, KIND));
     match place {

@@ -1,7 +1,7 @@
 // The queues of the devices and of the console in words.
 ghost use Rattle.std.specs.Prelude.{◌≡◌};
 ghost use Rattle.byte_streams.specs.Pending.{Gathers};
-ghost use Rattle.byte_streams.specs.Write.{HasCause};
+ghost use Rattle.byte_streams.specs.Sinks.{FailsBySink, GathersFor};
 ghost use Rattle.kernel_model.specs.KernelRecord.Between.{is_empty_queue};
 ghost use Rattle.kernel_model.specs.KernelRecord.KernelRanges.{CanWalkLists};
 ghost use Rattle.kernel_model.specs.KernelRecord.Recovered.{lists_in, packets_at, pending_in};
@@ -24,9 +24,9 @@ pub(crate) fn gather_queues<K: Sink>(
     pending: &mut Output,
 ) -> Result<(), SinkFault>
     requires { CanWalkLists store.now }
-    ensures text { Gathers (K.holds out.old) (K.holds out.new) pending.old pending.new
+    ensures text { GathersFor K.Sink out.old out.new pending.old pending.new
         (queues_text (lists_in store.now)) result }
-    ensures cause { HasCause (K.faults out.old) (K.faults out.new) result }
+    ensures cause { FailsBySink K.Sink out.old out.new result }
 {
     let clock = RootField::ClockQueue.address();
     let keyboard = RootField::KeyQueue.address();
@@ -41,9 +41,9 @@ pub(crate) fn gather_queues<K: Sink>(
 // The reads that the console has taken; there is a console where there are residents.
 fn gather_reads<K: Sink>(store: &Store, out: &mut K, pending: &mut Output) -> Result<(), SinkFault>
     requires { CanWalkLists store.now }
-    ensures text { Gathers (K.holds out.old) (K.holds out.new) pending.old pending.new
+    ensures text { GathersFor K.Sink out.old out.new pending.old pending.new
         (packet_lines Console (pending_in store.now)) result }
-    ensures cause { HasCause (K.faults out.old) (K.faults out.new) result }
+    ensures cause { FailsBySink K.Sink out.old out.new result }
 {
     if root(store, RootField::Residents) == 0 {
         return Ok(());

@@ -2,7 +2,7 @@
 ghost use Rattle.std.specs.Prelude.{◌≡◌};
 ghost use Rattle.std.specs.List.{list_all};
 ghost use Rattle.byte_streams.specs.Pending.{Gathers};
-ghost use Rattle.byte_streams.specs.Write.{HasCause};
+ghost use Rattle.byte_streams.specs.Sinks.{FailsBySink, GathersFor};
 ghost use Rattle.kernel_model.specs.KernelRecord.KernelRanges.{CanWalkLists};
 ghost use Rattle.kernel_model.specs.KernelRecord.Recovered.{lists_in};
 ghost use Rattle.state_text.specs.Runner.{can_answer, has_keys, has_member, idle_line, idle_words, is_dead, runner_text, running_line};
@@ -21,9 +21,9 @@ pub(crate) fn gather_runner<K: Sink>(
     out: &mut K,
     pending: &mut Output,
 ) -> Result<(), SinkFault>
-    ensures text { Gathers (K.holds out.old) (K.holds out.new) pending.old pending.new
+    ensures text { GathersFor K.Sink out.old out.new pending.old pending.new
         (runner_text machine.now.state) result }
-    ensures cause { HasCause (K.faults out.old) (K.faults out.new) result }
+    ensures cause { FailsBySink K.Sink out.old out.new result }
 {
     match machine.kernel_parts() {
         Some(parts) => match machine.running() {
@@ -41,9 +41,9 @@ fn gather_running<K: Sink>(
     out: &mut K,
     pending: &mut Output,
 ) -> Result<(), SinkFault>
-    ensures text { Gathers (K.holds out.old) (K.holds out.new) pending.old pending.new
+    ensures text { GathersFor K.Sink out.old out.new pending.old pending.new
         (running_line id stopped) result }
-    ensures cause { HasCause (K.faults out.old) (K.faults out.new) result }
+    ensures cause { FailsBySink K.Sink out.old out.new result }
 {
     let words: &[u8] = if stopped { b" ran last\n" } else { b" runs\n" };
     gather_pieces(
@@ -61,9 +61,9 @@ fn gather_idle<K: Sink>(
     pending: &mut Output,
 ) -> Result<(), SinkFault>
     requires { CanWalkLists store.now }
-    ensures text { Gathers (K.holds out.old) (K.holds out.new) pending.old pending.new
+    ensures text { GathersFor K.Sink out.old out.new pending.old pending.new
         (idle_line (lists_in store.now) keys) result }
-    ensures cause { HasCause (K.faults out.old) (K.faults out.new) result }
+    ensures cause { FailsBySink K.Sink out.old out.new result }
 {
     gather_pieces(
         out,

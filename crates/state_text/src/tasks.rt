@@ -2,7 +2,7 @@
 ghost use Rattle.std.specs.Prelude.{◌≡◌};
 ghost use Rattle.std.specs.List.{flat_map};
 ghost use Rattle.byte_streams.specs.Pending.{Gathers};
-ghost use Rattle.byte_streams.specs.Write.{HasCause};
+ghost use Rattle.byte_streams.specs.Sinks.{FailsBySink, GathersFor};
 ghost use Rattle.kernel_model.specs.KernelRecord.KernelRanges.{CanWalkLists, CanWalkTask};
 ghost use Rattle.kernel_model.specs.KernelRecord.Recovered.{lists_in, task_in};
 ghost use Rattle.state_text.specs.PacketTexts.{packet_lines};
@@ -31,9 +31,9 @@ pub(crate) fn gather_tasks<K: Sink>(
     pending: &mut Output,
 ) -> Result<(), SinkFault>
     requires { CanWalkLists store.now }
-    ensures text { Gathers (K.holds out.old) (K.holds out.new) pending.old pending.new
+    ensures text { GathersFor K.Sink out.old out.new pending.old pending.new
         (tasks_text (name_in programs.now store.now) (lists_in store.now)) result }
-    ensures cause { HasCause (K.faults out.old) (K.faults out.new) result }
+    ensures cause { FailsBySink K.Sink out.old out.new result }
 {
     gather(out, pending, b"tasks\n")?;
     gather_chain(store, programs, out, pending)
@@ -47,10 +47,10 @@ fn gather_chain<K: Sink>(
     pending: &mut Output,
 ) -> Result<(), SinkFault>
     requires { CanWalkLists store.now }
-    ensures text { Gathers (K.holds out.old) (K.holds out.new) pending.old pending.new
+    ensures text { GathersFor K.Sink out.old out.new pending.old pending.new
         (flat_map (task_text (name_in programs.now store.now) (lists_in store.now))
         (lists_in store.now).tasks) result }
-    ensures cause { HasCause (K.faults out.old) (K.faults out.new) result }
+    ensures cause { FailsBySink K.Sink out.old out.new result }
 {
     for t in tasks(store) {
         gather_task(store, programs, t, out, pending)?;
@@ -69,10 +69,10 @@ fn gather_task<K: Sink>(
 ) -> Result<(), SinkFault>
     requires lists { CanWalkLists store.now }
     requires task { CanWalkTask store.now t }
-    ensures text { Gathers (K.holds out.old) (K.holds out.new) pending.old pending.new
+    ensures text { GathersFor K.Sink out.old out.new pending.old pending.new
         (task_text (name_in programs.now store.now) (lists_in store.now)
         (task_in store.now t)) result }
-    ensures cause { HasCause (K.faults out.old) (K.faults out.new) result }
+    ensures cause { FailsBySink K.Sink out.old out.new result }
 {
     gather_state_line(store, programs, t, out, pending)?;
     gather_flags(field(store, t, TcbField::Flags), out, pending)?;
@@ -90,9 +90,9 @@ fn gather_state_line<K: Sink>(
     out: &mut K,
     pending: &mut Output,
 ) -> Result<(), SinkFault>
-    ensures text { Gathers (K.holds out.old) (K.holds out.new) pending.old pending.new
+    ensures text { GathersFor K.Sink out.old out.new pending.old pending.new
         (state_line (name_in programs.now store.now) (task_in store.now t)) result }
-    ensures cause { HasCause (K.faults out.old) (K.faults out.new) result }
+    ensures cause { FailsBySink K.Sink out.old out.new result }
 {
     gather_state_words(store, t, out, pending)?;
     gather_line_end(name_of_task(programs, store, t), out, pending)
@@ -105,9 +105,9 @@ fn gather_state_words<K: Sink>(
     out: &mut K,
     pending: &mut Output,
 ) -> Result<(), SinkFault>
-    ensures text { Gathers (K.holds out.old) (K.holds out.new) pending.old pending.new
+    ensures text { GathersFor K.Sink out.old out.new pending.old pending.new
         (state_words (task_in store.now t)) result }
-    ensures cause { HasCause (K.faults out.old) (K.faults out.new) result }
+    ensures cause { FailsBySink K.Sink out.old out.new result }
 {
     let state = field(store, t, TcbField::State);
     gather_pieces(
@@ -148,9 +148,9 @@ fn held_words(held: bool) -> &'static [u8]
 
 // Its flags, where one is set.
 fn gather_flags<K: Sink>(flags: u32, out: &mut K, pending: &mut Output) -> Result<(), SinkFault>
-    ensures text { Gathers (K.holds out.old) (K.holds out.new) pending.old pending.new
+    ensures text { GathersFor K.Sink out.old out.new pending.old pending.new
         (flags_line flags) result }
-    ensures cause { HasCause (K.faults out.old) (K.faults out.new) result }
+    ensures cause { FailsBySink K.Sink out.old out.new result }
 {
     if flags == 0 {
         return Ok(());
@@ -173,9 +173,9 @@ fn gather_fault<K: Sink>(
     out: &mut K,
     pending: &mut Output,
 ) -> Result<(), SinkFault>
-    ensures text { Gathers (K.holds out.old) (K.holds out.new) pending.old pending.new
+    ensures text { GathersFor K.Sink out.old out.new pending.old pending.new
         (fault_line (task_in store.now t).fault (task_in store.now t).fault_address) result }
-    ensures cause { HasCause (K.faults out.old) (K.faults out.new) result }
+    ensures cause { FailsBySink K.Sink out.old out.new result }
 {
     let fault = field(store, t, FAULT_WORD);
     if fault == 0 {
@@ -215,9 +215,9 @@ fn gather_queue<K: Sink>(
     pending: &mut Output,
 ) -> Result<(), SinkFault>
     requires { CanWalkTask store.now t }
-    ensures text { Gathers (K.holds out.old) (K.holds out.new) pending.old pending.new
+    ensures text { GathersFor K.Sink out.old out.new pending.old pending.new
         (packet_lines (OfTask (task_in store.now t).id) (task_in store.now t).queue) result }
-    ensures cause { HasCause (K.faults out.old) (K.faults out.new) result }
+    ensures cause { FailsBySink K.Sink out.old out.new result }
 {
     let place = Place::Task(field(store, t, TcbField::Id));
     let head = store.address_of(t, TcbField::Queue.index());
@@ -233,9 +233,9 @@ fn gather_awaited_text<K: Sink>(
 ) -> Result<(), SinkFault>
     requires lists { CanWalkLists store.now }
     requires task { CanWalkTask store.now t }
-    ensures text { Gathers (K.holds out.old) (K.holds out.new) pending.old pending.new
+    ensures text { GathersFor K.Sink out.old out.new pending.old pending.new
         (awaited_text (lists_in store.now) (task_in store.now t)) result }
-    ensures cause { HasCause (K.faults out.old) (K.faults out.new) result }
+    ensures cause { FailsBySink K.Sink out.old out.new result }
 {
     if !awaits_packet(store, t) {
         return Ok(());
@@ -262,9 +262,9 @@ fn gather_resumption<K: Sink>(
     out: &mut K,
     pending: &mut Output,
 ) -> Result<(), SinkFault>
-    ensures text { Gathers (K.holds out.old) (K.holds out.new) pending.old pending.new
+    ensures text { GathersFor K.Sink out.old out.new pending.old pending.new
         (resumption_line (task_in store.now t)) result }
-    ensures cause { HasCause (K.faults out.old) (K.faults out.new) result }
+    ensures cause { FailsBySink K.Sink out.old out.new result }
 {
     let state = field(store, t, TcbField::State);
     if state - state % 4 != INTERRUPTED {

@@ -1,7 +1,7 @@
 // Runs of a machine of either kind.
 ghost use Rattle.std.specs.Prelude.{◌≡◌, ◌+◌, ◌≤◌, false, ℕ};
 ghost use Rattle.kernel_model.specs.KernelRecord.Ranges.{most_steps};
-ghost use Rattle.byte_streams.specs.Pending.{Gathers};
+ghost use Rattle.byte_streams.specs.Sinks.{GathersFor};
 ghost use Rattle.tripos_machine.specs.Histories.{HasHistory};
 ghost use Rattle.tripos_machine.specs.Runs.{EndsRun, LeavesOutput};
 ghost use Rattle.tripos_machine.specs.State.{steps_of};
@@ -30,7 +30,7 @@ impl Machine {
             (L.has_failed log.old) (L.has_failed log.new)
             (K.faults out.old) (K.faults out.new) result }
         ensures history { (i : ℕ) → i ≤ n → HasHistory i self.old.state }
-        ensures bytes { Gathers (K.holds out.old) (K.holds out.new) pending.old pending.new
+        ensures bytes { GathersFor K.Sink out.old out.new pending.old pending.new
             (run n self.old.state).bytes result }
         ensures later { K.faults out.old ≤ K.faults out.new }
         ensures output { LeavesOutput n self.old.state self.new.state self.old.output self.new.output }

@@ -1,7 +1,7 @@
 // The words of a store, printed.
 ghost use Rattle.std.specs.Prelude.{◌≡◌, ◌<◌, ◌^◌, length};
 ghost use Rattle.byte_streams.specs.Pending.{Gathers};
-ghost use Rattle.byte_streams.specs.Write.{HasCause};
+ghost use Rattle.byte_streams.specs.Sinks.{FailsBySink, GathersFor};
 ghost use Rattle.tripos_run.specs.Texts.{dump_text, word_text};
 
 use byte_streams::{Output, Sink, SinkFault};
@@ -13,9 +13,9 @@ pub fn gather_dump<K: Sink>(
     out: &mut K,
     pending: &mut Output,
 ) -> Result<(), SinkFault>
-    ensures text { Gathers (K.holds out.old) (K.holds out.new) pending.old pending.new
+    ensures text { GathersFor K.Sink out.old out.new pending.old pending.new
         (dump_text 0 words.now) result }
-    ensures cause { HasCause (K.faults out.old) (K.faults out.new) result }
+    ensures cause { FailsBySink K.Sink out.old out.new result }
 {
     for (a, w) in words.iter().enumerate() {
         gather_word(a as u64, *w, out, pending)?;
@@ -24,9 +24,9 @@ pub fn gather_dump<K: Sink>(
 }
 
 fn gather_word<K: Sink>(a: u64, w: u32, out: &mut K, pending: &mut Output) -> Result<(), SinkFault>
-    ensures text { Gathers (K.holds out.old) (K.holds out.new) pending.old pending.new
+    ensures text { GathersFor K.Sink out.old out.new pending.old pending.new
         (word_text a w) result }
-    ensures cause { HasCause (K.faults out.old) (K.faults out.new) result }
+    ensures cause { FailsBySink K.Sink out.old out.new result }
 {
     if w == 0 {
         return Ok(());

@@ -1,7 +1,6 @@
 // How a run ends, on a machine of either kind.
 ghost use Rattle.std.specs.Prelude.{◌≡◌, ◌++◌};
-ghost use Rattle.byte_streams.specs.Pending.{Gathers};
-ghost use Rattle.byte_streams.specs.Write.{Prints, HasCause};
+ghost use Rattle.byte_streams.specs.Sinks.{FailsBySink, GathersFor, PrintsTo};
 ghost use Rattle.tripos_run.specs.Answer.{status_of, words_text};
 ghost use Rattle.tripos_run.specs.Texts.{closing_text};
 
@@ -22,9 +21,9 @@ pub(crate) fn write_end<K: Sink>(
     out: &mut K,
     pending: &mut Output,
 ) -> Result<(), SinkFault>
-    ensures text { Prints (K.holds out.old) (K.holds out.new)
+    ensures text { PrintsTo K.Sink out.old out.new
         (pending.old ++ (closing_text steps stop ++ words_text report store.now)) result }
-    ensures cause { HasCause (K.faults out.old) (K.faults out.new) result }
+    ensures cause { FailsBySink K.Sink out.old out.new result }
 {
     gather_closing(steps, stop, out, pending)?;
     gather_words(report, store, out, pending)?;
@@ -37,9 +36,9 @@ fn gather_words<K: Sink>(
     out: &mut K,
     pending: &mut Output,
 ) -> Result<(), SinkFault>
-    ensures text { Gathers (K.holds out.old) (K.holds out.new) pending.old pending.new
+    ensures text { GathersFor K.Sink out.old out.new pending.old pending.new
         (words_text report store.now) result }
-    ensures cause { HasCause (K.faults out.old) (K.faults out.new) result }
+    ensures cause { FailsBySink K.Sink out.old out.new result }
 {
     match report {
         Report::Console | Report::Events | Report::Sums(_) => Ok(()),

@@ -1,6 +1,6 @@
 // The answer to a session, by a run of its machine.
 ghost use Rattle.std.specs.Prelude.{◌≡◌, ◌≤◌, ◌+◌, ◌++◌, [], Some, true, IfOk, MatchResult};
-ghost use Rattle.byte_streams.specs.Write.{HasCause};
+ghost use Rattle.byte_streams.specs.Sinks.{FailsBySink};
 ghost use Rattle.session_text.specs.Canonical.{IsLawful};
 ghost use Rattle.kernel_model.specs.KernelRecord.Ranges.{most_steps};
 ghost use Rattle.kernel_model.specs.KernelRecord.NotedEvents.{NotesAll};
@@ -113,7 +113,7 @@ fn gather_events<K: Sink>(
         (lines_of (boot_events machine.old.state ++ (run go machine.old.state).events)) result }
     ensures end { IfOk result (λ given. StopsAt machine.new.state given.1
         (run go machine.old.state).state) }
-    ensures cause { HasCause (K.faults out.old) (K.faults out.new) result }
+    ensures cause { FailsBySink K.Sink out.old out.new result }
 {
     let mut log = TraceLog::new(out, TraceWords, Output::new());
     let stop = trace_run(machine, go, &mut log);

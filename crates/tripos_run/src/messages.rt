@@ -1,6 +1,5 @@
 // The lines that the program writes besides the console bytes.
-ghost use Rattle.byte_streams.specs.Pending.{Gathers};
-ghost use Rattle.byte_streams.specs.Write.{Prints, HasCause};
+ghost use Rattle.byte_streams.specs.Sinks.{FailsBySink, GathersFor, PrintsTo};
 ghost use Rattle.tripos_run.specs.Texts.{closing_text, usage_text};
 
 use byte_streams::Piece::{Decimal, Text};
@@ -11,8 +10,8 @@ const STOPPED: &[u8] = b"\n* stopped after ";
 
 /// The commands that there are.
 pub fn write_usage<K: Sink>(out: &mut K) -> Result<(), SinkFault>
-    ensures text { Prints (K.holds out.old) (K.holds out.new) usage_text result }
-    ensures cause { HasCause (K.faults out.old) (K.faults out.new) result }
+    ensures text { PrintsTo K.Sink out.old out.new usage_text result }
+    ensures cause { FailsBySink K.Sink out.old out.new result }
 {
     write_text(
         out,
@@ -27,9 +26,9 @@ pub fn gather_closing<K: Sink>(
     out: &mut K,
     pending: &mut Output,
 ) -> Result<(), SinkFault>
-    ensures text { Gathers (K.holds out.old) (K.holds out.new) pending.old pending.new
+    ensures text { GathersFor K.Sink out.old out.new pending.old pending.new
         (closing_text steps stop) result }
-    ensures cause { HasCause (K.faults out.old) (K.faults out.new) result }
+    ensures cause { FailsBySink K.Sink out.old out.new result }
 {
     match stop {
         Stop::Steps => gather_steps(steps, out, pending),
@@ -44,9 +43,9 @@ pub fn gather_closing<K: Sink>(
 }
 
 fn gather_steps<K: Sink>(steps: u64, out: &mut K, pending: &mut Output) -> Result<(), SinkFault>
-    ensures text { Gathers (K.holds out.old) (K.holds out.new) pending.old pending.new
+    ensures text { GathersFor K.Sink out.old out.new pending.old pending.new
         (closing_text steps Stop.Steps) result }
-    ensures cause { HasCause (K.faults out.old) (K.faults out.new) result }
+    ensures cause { FailsBySink K.Sink out.old out.new result }
 {
     gather_pieces(
         out,
@@ -56,9 +55,9 @@ fn gather_steps<K: Sink>(steps: u64, out: &mut K, pending: &mut Output) -> Resul
 }
 
 fn gather_finish<K: Sink>(steps: u64, out: &mut K, pending: &mut Output) -> Result<(), SinkFault>
-    ensures text { Gathers (K.holds out.old) (K.holds out.new) pending.old pending.new
+    ensures text { GathersFor K.Sink out.old out.new pending.old pending.new
         (closing_text steps Stop.Finish) result }
-    ensures cause { HasCause (K.faults out.old) (K.faults out.new) result }
+    ensures cause { FailsBySink K.Sink out.old out.new result }
 {
     gather_pieces(
         out,
@@ -73,9 +72,9 @@ fn gather_quit<K: Sink>(
     out: &mut K,
     pending: &mut Output,
 ) -> Result<(), SinkFault>
-    ensures text { Gathers (K.holds out.old) (K.holds out.new) pending.old pending.new
+    ensures text { GathersFor K.Sink out.old out.new pending.old pending.new
         (closing_text steps (Stop.Quit code)) result }
-    ensures cause { HasCause (K.faults out.old) (K.faults out.new) result }
+    ensures cause { FailsBySink K.Sink out.old out.new result }
 {
     gather_pieces(
         out,
@@ -98,9 +97,9 @@ fn gather_fault<K: Sink>(
     out: &mut K,
     pending: &mut Output,
 ) -> Result<(), SinkFault>
-    ensures text { Gathers (K.holds out.old) (K.holds out.new) pending.old pending.new
+    ensures text { GathersFor K.Sink out.old out.new pending.old pending.new
         (closing_text steps (Stop.Fault code address task)) result }
-    ensures cause { HasCause (K.faults out.old) (K.faults out.new) result }
+    ensures cause { FailsBySink K.Sink out.old out.new result }
 {
     gather_pieces(
         out,

@@ -1,6 +1,6 @@
 // The answer to the text of a ring.
 ghost use Rattle.std.specs.Prelude.{◌≡◌, ◌<◌, ◌++◌, ◌^◌, length};
-ghost use Rattle.byte_streams.specs.Write.{HasCause, Prints};
+ghost use Rattle.byte_streams.specs.Sinks.{FailsBySink, PrintsTo};
 ghost use Rattle.machine_ring.specs.Boot.{booted_ring};
 ghost use Rattle.machine_ring.specs.RingLink.LawfulRing.{IsLawfulRing};
 ghost use Rattle.program_answers.specs.Answer.{Answers};
@@ -71,9 +71,9 @@ fn write_outcome<K: Sink>(
     out: &mut K,
     pending: &mut Output,
 ) -> Result<(), SinkFault>
-    ensures text { Prints (K.holds out.old) (K.holds out.new)
+    ensures text { PrintsTo K.Sink out.old out.new
         (pending.old ++ ring_text outcome) result }
-    ensures cause { HasCause (K.faults out.old) (K.faults out.new) result }
+    ensures cause { FailsBySink K.Sink out.old out.new result }
 {
     gather_pieces(
         out,

@@ -1,6 +1,6 @@
 // The answer to a session whose machine is saved.
 ghost use Rattle.std.specs.Prelude.{◌<◌, ◌≤◌, ◌+◌, ◌^◌, length};
-ghost use Rattle.byte_streams.specs.Write.{HasCause, Prints};
+ghost use Rattle.byte_streams.specs.Sinks.{FailsBySink, PrintsTo};
 ghost use Rattle.session_text.specs.Canonical.{IsLawful};
 ghost use Rattle.session_text.specs.SessionOfText.{session_of};
 ghost use Rattle.tripos_machine.specs.Boot.{boot};
@@ -94,11 +94,11 @@ fn write_machine<K: Sink>(
     session: &Session,
     out: &mut K,
 ) -> Result<(), SinkFault>
-    ensures text { Prints (K.holds out.old) (K.holds out.new)
+    ensures text { PrintsTo K.Sink out.old out.new
         (canonical (saved_image session.now.version machine.now.state session.now.go)) result }
     ensures sound { IsSound machine.now.state }
     ensures numbers { HasWordsAndBytes machine.now.state }
-    ensures cause { HasCause (K.faults out.old) (K.faults out.new) result }
+    ensures cause { FailsBySink K.Sink out.old out.new result }
 {
     let mut pending = Output::new();
     print_image(machine, session.version, session.go, out, &mut pending)?;
@@ -107,8 +107,8 @@ fn write_machine<K: Sink>(
 
 // Writes the closing line.
 fn write_closing<K: Sink>(steps: u64, stop: Stop, out: &mut K) -> Result<(), SinkFault>
-    ensures text { Prints (K.holds out.old) (K.holds out.new) (closing_text steps stop) result }
-    ensures cause { HasCause (K.faults out.old) (K.faults out.new) result }
+    ensures text { PrintsTo K.Sink out.old out.new (closing_text steps stop) result }
+    ensures cause { FailsBySink K.Sink out.old out.new result }
 {
     let mut pending = Output::new();
     gather_closing(steps, stop, out, &mut pending)?;

@@ -1,7 +1,6 @@
 // The line of one instruction.
 ghost use Rattle.std.specs.Prelude.{◌≡◌, ◌≤◌, IfOk, IsSome};
-ghost use Rattle.byte_streams.specs.Pending.{Gathers};
-ghost use Rattle.byte_streams.specs.Write.{Prints, HasCause};
+ghost use Rattle.byte_streams.specs.Sinks.{FailsBySink, GathersFor, PrintsTo};
 ghost use Rattle.assembly.specs.ModuleListing.Lines.{byte_line, instruction_line, number_line, plain_line, target_line};
 ghost use Rattle.assembly.specs.ModuleListing.Listing.{listed};
 
@@ -15,11 +14,11 @@ use word_store::signed;
 /// one byte. `SinkFault` comes only where the sink's count of faults rose; then a prefix of the line is written.
 pub fn line_at<X: Code, K: Sink>(code: &X, a: u32, out: &mut K) -> Result<u32, SinkFault>
     requires { IsSome (X.code_bytes code.now a) }
-    ensures text { Prints (K.holds out.old) (K.holds out.new)
+    ensures text { PrintsTo K.Sink out.old out.new
         (listed (X.code_bytes code.now) a).text result }
     ensures length { IfOk result (λ n. n ≡ (listed (X.code_bytes code.now) a).length) }
     ensures bounds { IfOk result (λ n. (1 ≤ n) × (n ≤ 5)) }
-    ensures cause { HasCause (K.faults out.old) (K.faults out.new) result }
+    ensures cause { FailsBySink K.Sink out.old out.new result }
 {
     let mut pending = Output::new();
     let length = gather_line(code, a, out, &mut pending)?;
@@ -35,11 +34,11 @@ pub fn gather_line<X: Code, K: Sink>(
     pending: &mut Output,
 ) -> Result<u32, SinkFault>
     requires { IsSome (X.code_bytes code.now a) }
-    ensures text { Gathers (K.holds out.old) (K.holds out.new) pending.old pending.new
+    ensures text { GathersFor K.Sink out.old out.new pending.old pending.new
         (listed (X.code_bytes code.now) a).text result }
     ensures length { IfOk result (λ n. n ≡ (listed (X.code_bytes code.now) a).length) }
     ensures bounds { IfOk result (λ n. (1 ≤ n) × (n ≤ 5)) }
-    ensures cause { HasCause (K.faults out.old) (K.faults out.new) result }
+    ensures cause { FailsBySink K.Sink out.old out.new result }
 {
     let byte = code.byte(a).unwrap();
     let Ok(i) = decode(code, a) else {
@@ -58,9 +57,9 @@ fn gather_instruction<K: Sink>(
     out: &mut K,
     pending: &mut Output,
 ) -> Result<(), SinkFault>
-    ensures text { Gathers (K.holds out.old) (K.holds out.new) pending.old pending.new
+    ensures text { GathersFor K.Sink out.old out.new pending.old pending.new
         (instruction_line row.form a row.name.now i) result }
-    ensures cause { HasCause (K.faults out.old) (K.faults out.new) result }
+    ensures cause { FailsBySink K.Sink out.old out.new result }
 {
     match row.form {
         Form::Plain(_) | Form::Switch => gather_plain(a, row.name, out, pending),
@@ -77,9 +76,9 @@ fn gather_plain<K: Sink>(
     out: &mut K,
     pending: &mut Output,
 ) -> Result<(), SinkFault>
-    ensures text { Gathers (K.holds out.old) (K.holds out.new) pending.old pending.new
+    ensures text { GathersFor K.Sink out.old out.new pending.old pending.new
         (plain_line a name.now) result }
-    ensures cause { HasCause (K.faults out.old) (K.faults out.new) result }
+    ensures cause { FailsBySink K.Sink out.old out.new result }
 {
     gather_pieces(
         out,
@@ -100,9 +99,9 @@ fn gather_number<K: Sink>(
     out: &mut K,
     pending: &mut Output,
 ) -> Result<(), SinkFault>
-    ensures text { Gathers (K.holds out.old) (K.holds out.new) pending.old pending.new
+    ensures text { GathersFor K.Sink out.old out.new pending.old pending.new
         (number_line a name.now n) result }
-    ensures cause { HasCause (K.faults out.old) (K.faults out.new) result }
+    ensures cause { FailsBySink K.Sink out.old out.new result }
 {
     gather_pieces(
         out,
@@ -125,9 +124,9 @@ fn gather_target<K: Sink>(
     out: &mut K,
     pending: &mut Output,
 ) -> Result<(), SinkFault>
-    ensures text { Gathers (K.holds out.old) (K.holds out.new) pending.old pending.new
+    ensures text { GathersFor K.Sink out.old out.new pending.old pending.new
         (target_line a name.now t) result }
-    ensures cause { HasCause (K.faults out.old) (K.faults out.new) result }
+    ensures cause { FailsBySink K.Sink out.old out.new result }
 {
     gather_pieces(
         out,
@@ -149,9 +148,9 @@ fn gather_byte<K: Sink>(
     out: &mut K,
     pending: &mut Output,
 ) -> Result<(), SinkFault>
-    ensures text { Gathers (K.holds out.old) (K.holds out.new) pending.old pending.new
+    ensures text { GathersFor K.Sink out.old out.new pending.old pending.new
         (byte_line a byte) result }
-    ensures cause { HasCause (K.faults out.old) (K.faults out.new) result }
+    ensures cause { FailsBySink K.Sink out.old out.new result }
 {
     gather_pieces(
         out,

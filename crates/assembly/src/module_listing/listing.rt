@@ -2,7 +2,7 @@
 ghost use Rattle.std.specs.Prelude.{◌≡◌, ◌<◌, ◌^◌, length};
 ghost use Rattle.std.specs.List.{AllByRecursion};
 ghost use Rattle.byte_streams.specs.Pending.{Gathers};
-ghost use Rattle.byte_streams.specs.Write.{Prints, HasCause};
+ghost use Rattle.byte_streams.specs.Sinks.{FailsBySink, GathersFor, PrintsTo};
 ghost use Rattle.assembly.specs.ModuleListing.HunkListing.{head_line, lines_of_words, listing, listing_of_module};
 
 use crate::module_listing::hunks::HunkBytes;
@@ -15,9 +15,9 @@ use module_text::{Hunk, Module};
 /// the sink's count of faults rose; then a prefix of the listing is written.
 pub fn disassemble<K: Sink>(hunk: &Hunk, number: u32, out: &mut K) -> Result<(), SinkFault>
     requires { length hunk.now.words < 2 ^ 30 }
-    ensures text { Prints (K.holds out.old) (K.holds out.new)
+    ensures text { PrintsTo K.Sink out.old out.new
         (listing number hunk.now.words) result }
-    ensures cause { HasCause (K.faults out.old) (K.faults out.new) result }
+    ensures cause { FailsBySink K.Sink out.old out.new result }
 {
     let mut pending = Output::new();
     gather_hunk(hunk, number, out, &mut pending)?;
@@ -29,9 +29,9 @@ pub fn disassemble<K: Sink>(hunk: &Hunk, number: u32, out: &mut K) -> Result<(),
 pub fn disassemble_module<K: Sink>(m: &Module, out: &mut K) -> Result<(), SinkFault>
     requires count { length m.now.hunks < 2 ^ 32 }
     requires words { AllByRecursion (λ h. length h.words < 2 ^ 30) m.now.hunks }
-    ensures text { Prints (K.holds out.old) (K.holds out.new)
+    ensures text { PrintsTo K.Sink out.old out.new
         (listing_of_module m.now.hunks) result }
-    ensures cause { HasCause (K.faults out.old) (K.faults out.new) result }
+    ensures cause { FailsBySink K.Sink out.old out.new result }
 {
     let mut pending = Output::new();
     gather_hunks(m, out, &mut pending)?;
@@ -41,9 +41,9 @@ pub fn disassemble_module<K: Sink>(m: &Module, out: &mut K) -> Result<(), SinkFa
 fn gather_hunks<K: Sink>(m: &Module, out: &mut K, pending: &mut Output) -> Result<(), SinkFault>
     requires count { length m.now.hunks < 2 ^ 32 }
     requires words { AllByRecursion (λ h. length h.words < 2 ^ 30) m.now.hunks }
-    ensures text { Gathers (K.holds out.old) (K.holds out.new) pending.old pending.new
+    ensures text { GathersFor K.Sink out.old out.new pending.old pending.new
         (listing_of_module m.now.hunks) result }
-    ensures cause { HasCause (K.faults out.old) (K.faults out.new) result }
+    ensures cause { FailsBySink K.Sink out.old out.new result }
 {
     for (i, hunk) in m.hunks.as_slice().iter().enumerate() {
         gather_hunk(hunk, i as u32 + 1, out, pending)?;
@@ -59,9 +59,9 @@ fn gather_hunk<K: Sink>(
     pending: &mut Output,
 ) -> Result<(), SinkFault>
     requires { length hunk.now.words < 2 ^ 30 }
-    ensures text { Gathers (K.holds out.old) (K.holds out.new) pending.old pending.new
+    ensures text { GathersFor K.Sink out.old out.new pending.old pending.new
         (listing number hunk.now.words) result }
-    ensures cause { HasCause (K.faults out.old) (K.faults out.new) result }
+    ensures cause { FailsBySink K.Sink out.old out.new result }
 {
     let code = HunkBytes::new(hunk);
     gather_head(number, code.words(), out, pending)?;
@@ -74,9 +74,9 @@ fn gather_head<K: Sink>(
     out: &mut K,
     pending: &mut Output,
 ) -> Result<(), SinkFault>
-    ensures text { Gathers (K.holds out.old) (K.holds out.new) pending.old pending.new
+    ensures text { GathersFor K.Sink out.old out.new pending.old pending.new
         (head_line number words) result }
-    ensures cause { HasCause (K.faults out.old) (K.faults out.new) result }
+    ensures cause { FailsBySink K.Sink out.old out.new result }
 {
     gather_pieces(
         out,
@@ -97,9 +97,9 @@ fn gather_lines<K: Sink>(
     out: &mut K,
     pending: &mut Output,
 ) -> Result<(), SinkFault>
-    ensures text { Gathers (K.holds out.old) (K.holds out.new) pending.old pending.new
+    ensures text { GathersFor K.Sink out.old out.new pending.old pending.new
         (lines_of_words code.now) result }
-    ensures cause { HasCause (K.faults out.old) (K.faults out.new) result }
+    ensures cause { FailsBySink K.Sink out.old out.new result }
 {
     let end = u64::from(4 * code.words());
     let mut place = 0;

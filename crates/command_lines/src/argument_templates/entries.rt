@@ -93,9 +93,8 @@ fn is_entry(template: &[u8], entry: &[u8]) -> bool
 fn are_names(template: &[u8], entry: &[u8]) -> bool
     ensures { result ≡ are_names (entries template.now) entry.now }
 {
-    names(entry)
-        .split(|c| *c == b'=')
-        .all(|name| is_entry_name(name) && stands_once(template, entry, name))
+    names(entry).split(|c| *c == b'=').all(|name| is_entry_name(name)
+        && stands_once(template, entry, name))
 }
 
 // The switch that has this name.

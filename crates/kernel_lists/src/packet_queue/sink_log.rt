@@ -1,7 +1,7 @@
 // A log that writes a line for each event.
 ghost use Rattle.std.specs.Prelude.{◌≡◌, None, false};
 ghost use Rattle.std.specs.Bool.{OnTrue};
-ghost use Rattle.byte_streams.specs.Write.{Prints, HasCause};
+ghost use Rattle.byte_streams.specs.Sinks.{FailsBySink, PrintsTo};
 ghost use Rattle.kernel_lists.specs.PacketQueue.EventLine.{line_of, sender_line};
 ghost use Rattle.kernel_lists.specs.PacketQueue.LineNote.{WritesLine, HasFailCause};
 ghost use Rattle.kernel_lists.specs.PacketQueue.Log.{Notes};
@@ -55,8 +55,8 @@ impl<K: Sink> EventLog for SinkLog<'_, K> {
 }
 
 fn write_line<K: Sink>(out: &mut K, e: KernelEvent) -> Result<(), SinkFault>
-    ensures text { Prints (K.holds out.old) (K.holds out.new) (line_of e) result }
-    ensures cause { HasCause (K.faults out.old) (K.faults out.new) result }
+    ensures text { PrintsTo K.Sink out.old out.new (line_of e) result }
+    ensures cause { FailsBySink K.Sink out.old out.new result }
 {
     match e {
         KernelEvent::Accepted {
@@ -81,9 +81,9 @@ fn write_with_sender<K: Sink>(
     packet: u32,
     sender: i32,
 ) -> Result<(), SinkFault>
-    ensures text { Prints (K.holds out.old) (K.holds out.new)
+    ensures text { PrintsTo K.Sink out.old out.new
         (sender_line verb.now queue packet sender) result }
-    ensures cause { HasCause (K.faults out.old) (K.faults out.new) result }
+    ensures cause { FailsBySink K.Sink out.old out.new result }
 {
     write_pieces(
         out,
@@ -101,9 +101,9 @@ fn write_with_sender<K: Sink>(
 }
 
 fn write_dequeued<K: Sink>(out: &mut K, queue: i32, packet: u32) -> Result<(), SinkFault>
-    ensures text { Prints (K.holds out.old) (K.holds out.new)
+    ensures text { PrintsTo K.Sink out.old out.new
         (line_of (KernelEvent.Dequeued queue packet)) result }
-    ensures cause { HasCause (K.faults out.old) (K.faults out.new) result }
+    ensures cause { FailsBySink K.Sink out.old out.new result }
 {
     write_pieces(
         out,
@@ -118,9 +118,9 @@ fn write_dequeued<K: Sink>(out: &mut K, queue: i32, packet: u32) -> Result<(), S
 }
 
 fn write_runs<K: Sink>(out: &mut K, task: u32) -> Result<(), SinkFault>
-    ensures text { Prints (K.holds out.old) (K.holds out.new)
+    ensures text { PrintsTo K.Sink out.old out.new
         (line_of (KernelEvent.Runs task)) result }
-    ensures cause { HasCause (K.faults out.old) (K.faults out.new) result }
+    ensures cause { FailsBySink K.Sink out.old out.new result }
 {
     write_pieces(
         out,

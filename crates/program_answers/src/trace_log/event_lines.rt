@@ -1,6 +1,6 @@
 // The lines of events, by way of a log. `note_all` is generic over its log, and the others show what a caller learns from it.
 ghost use Rattle.std.specs.Prelude.{◌≡◌, Some};
-ghost use Rattle.byte_streams.specs.Write.{Prints, HasCause};
+ghost use Rattle.byte_streams.specs.Sinks.{FailsBySink, PrintsTo};
 ghost use Rattle.kernel_model.specs.KernelRecord.NotedEvents.{NotesAll};
 ghost use Rattle.program_answers.specs.TraceLog.Trails.{events_of};
 ghost use Rattle.program_answers.specs.TraceLog.Traced.{GivesPending, lines_of};
@@ -22,8 +22,8 @@ pub fn note_all<L: EventLog>(log: &mut L, events: &[KernelEvent])
 /// Writes a line for each of the events. `SinkFault` comes only where the sink's count of faults rose; then a prefix of the
 /// lines is written.
 pub fn print_events<K: Sink>(out: &mut K, events: &[KernelEvent]) -> Result<(), SinkFault>
-    ensures text { Prints (K.holds out.old) (K.holds out.new) (lines_of events.now) result }
-    ensures cause { HasCause (K.faults out.old) (K.faults out.new) result }
+    ensures text { PrintsTo K.Sink out.old out.new (lines_of events.now) result }
+    ensures cause { FailsBySink K.Sink out.old out.new result }
 {
     let mut pending = gather_events(out, events)?;
     pass_on(out, &mut pending)
@@ -32,7 +32,7 @@ pub fn print_events<K: Sink>(out: &mut K, events: &[KernelEvent]) -> Result<(), 
 // The lines of the events, of which the last are given back.
 fn gather_events<K: Sink>(out: &mut K, events: &[KernelEvent]) -> Result<Output, SinkFault>
     ensures text { GivesPending (K.holds out.old) (K.holds out.new) (lines_of events.now) result }
-    ensures cause { HasCause (K.faults out.old) (K.faults out.new) result }
+    ensures cause { FailsBySink K.Sink out.old out.new result }
 {
     let mut log = TraceLog::new(out, TraceWords, Output::new());
     note_lines(&mut log, events);

@@ -1,7 +1,7 @@
 // The words in which a log writes its events.
 ghost use Rattle.std.specs.Prelude.{List, ℕ};
 ghost use Rattle.byte_streams.specs.Pending.{Gathers};
-ghost use Rattle.byte_streams.specs.Write.{HasCause};
+ghost use Rattle.byte_streams.specs.Sinks.{FailsBySink, GathersFor};
 ghost use Rattle.kernel_lists.specs.PacketQueue.EventLine.{line_of};
 ghost use Rattle.kernel_lists.specs.declared.packet_queue.events.KernelEvent.{KernelEvent};
 
@@ -26,9 +26,9 @@ pub trait EventWords: Drop {
         out: &mut K,
         pending: &mut Output,
     ) -> Result<(), SinkFault>
-        ensures text { Gathers (K.holds out.old) (K.holds out.new) pending.old pending.new
+        ensures text { GathersFor K.Sink out.old out.new pending.old pending.new
             (line self.now e) result }
-        ensures cause { HasCause (K.faults out.old) (K.faults out.new) result };
+        ensures cause { FailsBySink K.Sink out.old out.new result };
 }
 
 /// The words of a trace: `accept Q P S`, `take Q P S`, `dequeue Q P` or `run T`.

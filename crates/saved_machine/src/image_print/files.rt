@@ -4,8 +4,7 @@ ghost use Rattle.std.specs.Option.{option_to_list};
 ghost use Rattle.saved_text.specs.SavedLines.Canonical.{statement_text};
 ghost use Rattle.saved_text.specs.SavedLines.Statements.{Bytes};
 ghost use Rattle.ram_disc.specs.Disc.{IsDisc, file_named};
-ghost use Rattle.byte_streams.specs.Pending.{Gathers};
-ghost use Rattle.byte_streams.specs.Write.{HasCause};
+ghost use Rattle.byte_streams.specs.Sinks.{FailsBySink, GathersFor};
 ghost use Rattle.saved_machine.specs.ImagePrint.Texts.{bytes_text, files_text};
 
 use arrayvec::ArrayVec;
@@ -24,9 +23,9 @@ pub(crate) fn print_files<K: Sink>(
     pending: &mut Output,
 ) -> Result<(), SinkFault>
     requires { IsDisc disc.now }
-    ensures text { Gathers (K.holds out.old) (K.holds out.new) pending.old pending.new
+    ensures text { GathersFor K.Sink out.old out.new pending.old pending.new
         (files_text disc.now.files) result }
-    ensures cause { HasCause (K.faults out.old) (K.faults out.new) result }
+    ensures cause { FailsBySink K.Sink out.old out.new result }
 {
     for k in 1..END_OF_FILES {
         print_nth_file(disc, k, out, pending)?;
@@ -43,9 +42,9 @@ fn print_nth_file<K: Sink>(
 ) -> Result<(), SinkFault>
     requires valid { IsDisc disc.now }
     requires from_one { 0 < k }
-    ensures text { Gathers (K.holds out.old) (K.holds out.new) pending.old pending.new
+    ensures text { GathersFor K.Sink out.old out.new pending.old pending.new
         (files_text (option_to_list (slice_get disc.now.files (k - 1)))) result }
-    ensures cause { HasCause (K.faults out.old) (K.faults out.new) result }
+    ensures cause { FailsBySink K.Sink out.old out.new result }
 {
     let Some((name, _size)) = disc.nth(k) else {
         return Ok(());
@@ -60,9 +59,9 @@ fn print_named_file<K: Sink>(
     out: &mut K,
     pending: &mut Output,
 ) -> Result<(), SinkFault>
-    ensures text { Gathers (K.holds out.old) (K.holds out.new) pending.old pending.new
+    ensures text { GathersFor K.Sink out.old out.new pending.old pending.new
         (files_text (option_to_list (file_named disc.now name.now))) result }
-    ensures cause { HasCause (K.faults out.old) (K.faults out.new) result }
+    ensures cause { FailsBySink K.Sink out.old out.new result }
 {
     let mut sectors = ArrayVec::new();
     let Some(bytes) = disc.file(name, &mut sectors) else {
@@ -78,9 +77,9 @@ fn print_byte_lines<X: TextBytes, K: Sink>(
     out: &mut K,
     pending: &mut Output,
 ) -> Result<(), SinkFault>
-    ensures text { Gathers (K.holds out.old) (K.holds out.new) pending.old pending.new
+    ensures text { GathersFor K.Sink out.old out.new pending.old pending.new
         (bytes_text (X.text bytes.now)) result }
-    ensures cause { HasCause (K.faults out.old) (K.faults out.new) result }
+    ensures cause { FailsBySink K.Sink out.old out.new result }
 {
     for i in 0..line_count(bytes.len()) {
         print_byte_line(bytes, i, out, pending)?;
@@ -96,9 +95,9 @@ fn print_byte_line<X: TextBytes, K: Sink>(
     pending: &mut Output,
 ) -> Result<(), SinkFault>
     requires { 32 * i < length (X.text bytes.now) }
-    ensures text { Gathers (K.holds out.old) (K.holds out.new) pending.old pending.new
+    ensures text { GathersFor K.Sink out.old out.new pending.old pending.new
         (statement_text (Bytes (take 32 (drop (32 * i) (X.text bytes.now)))) ++ 10 ∷ []) result }
-    ensures cause { HasCause (K.faults out.old) (K.faults out.new) result }
+    ensures cause { FailsBySink K.Sink out.old out.new result }
 {
     let len = bytes.len();
     let from = BYTES_IN_LINE * i;

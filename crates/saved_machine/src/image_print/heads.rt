@@ -1,8 +1,7 @@
 // The first lines of the text of a machine.
 ghost use Rattle.std.specs.Prelude.{false, true};
 ghost use Rattle.module_text.specs.TextReader.Lines.{text_of_lines};
-ghost use Rattle.byte_streams.specs.Pending.{Gathers};
-ghost use Rattle.byte_streams.specs.Write.{HasCause};
+ghost use Rattle.byte_streams.specs.Sinks.{FailsBySink, GathersFor};
 ghost use Rattle.saved_machine.specs.ImagePrint.Texts.{head_lines};
 
 use byte_streams::Piece::{Decimal, Text};
@@ -20,9 +19,9 @@ pub(crate) fn print_kernel_head<K: Sink>(
     out: &mut K,
     pending: &mut Output,
 ) -> Result<(), SinkFault>
-    ensures text { Gathers (K.holds out.old) (K.holds out.new) pending.old pending.new
+    ensures text { GathersFor K.Sink out.old out.new pending.old pending.new
         (text_of_lines (head_lines version words false period step regs.now)) result }
-    ensures cause { HasCause (K.faults out.old) (K.faults out.new) result }
+    ensures cause { FailsBySink K.Sink out.old out.new result }
 {
     gather_pieces(
         out,
@@ -51,9 +50,9 @@ pub(crate) fn print_bare_head<K: Sink>(
     out: &mut K,
     pending: &mut Output,
 ) -> Result<(), SinkFault>
-    ensures text { Gathers (K.holds out.old) (K.holds out.new) pending.old pending.new
+    ensures text { GathersFor K.Sink out.old out.new pending.old pending.new
         (text_of_lines (head_lines version words true 0 step regs.now)) result }
-    ensures cause { HasCause (K.faults out.old) (K.faults out.new) result }
+    ensures cause { FailsBySink K.Sink out.old out.new result }
 {
     gather_pieces(
         out,

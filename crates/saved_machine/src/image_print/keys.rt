@@ -1,8 +1,7 @@
 // The keys of a machine's text.
 ghost use Rattle.std.specs.Prelude.{map};
 ghost use Rattle.saved_text.specs.ImageForm.{key_statement};
-ghost use Rattle.byte_streams.specs.Pending.{Gathers};
-ghost use Rattle.byte_streams.specs.Write.{HasCause};
+ghost use Rattle.byte_streams.specs.Sinks.{FailsBySink, GathersFor};
 ghost use Rattle.kernel_machine.specs.RunningMachine.Script.{still_to_come};
 ghost use Rattle.saved_machine.specs.ImagePrint.Texts.{statements_text};
 
@@ -16,9 +15,9 @@ pub(crate) fn print_coming_keys<K: Sink>(
     out: &mut K,
     pending: &mut Output,
 ) -> Result<(), SinkFault>
-    ensures text { Gathers (K.holds out.old) (K.holds out.new) pending.old pending.new
+    ensures text { GathersFor K.Sink out.old out.new pending.old pending.new
         (statements_text (map key_statement (still_to_come parts.now.keys))) result }
-    ensures cause { HasCause (K.faults out.old) (K.faults out.new) result }
+    ensures cause { FailsBySink K.Sink out.old out.new result }
 {
     print_keys(parts.keys.rest(), out, pending)
 }
@@ -29,9 +28,9 @@ fn print_keys<K: Sink>(
     out: &mut K,
     pending: &mut Output,
 ) -> Result<(), SinkFault>
-    ensures text { Gathers (K.holds out.old) (K.holds out.new) pending.old pending.new
+    ensures text { GathersFor K.Sink out.old out.new pending.old pending.new
         (statements_text (map key_statement keys.now)) result }
-    ensures cause { HasCause (K.faults out.old) (K.faults out.new) result }
+    ensures cause { FailsBySink K.Sink out.old out.new result }
 {
     for key in keys {
         print_key(key.0, key.1, out, pending)?;

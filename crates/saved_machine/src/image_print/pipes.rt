@@ -1,8 +1,7 @@
 // The pipes of a machine's text.
 ghost use Rattle.std.specs.Prelude.{◌≡◌, map, slice_get};
 ghost use Rattle.saved_text.specs.ImageForm.{pipe_statement};
-ghost use Rattle.byte_streams.specs.Pending.{Gathers};
-ghost use Rattle.byte_streams.specs.Write.{HasCause};
+ghost use Rattle.byte_streams.specs.Sinks.{FailsBySink, GathersFor};
 ghost use Rattle.kernel_model.specs.KernelRecord.Pipes.{ArePipes};
 ghost use Rattle.resident_tasks.specs.PipeHandler.PipeCalls.{held_by, pipe_numbered};
 ghost use Rattle.saved_machine.specs.ImagePrint.SavedImage.{at_place, numbered_pipes, saved_pipe};
@@ -26,9 +25,9 @@ pub(crate) fn print_pipes<K: Sink>(
     pending: &mut Output,
 ) -> Result<(), SinkFault>
     requires { ArePipes pipes.now }
-    ensures text { Gathers (K.holds out.old) (K.holds out.new) pending.old pending.new
+    ensures text { GathersFor K.Sink out.old out.new pending.old pending.new
         (statements_text (map pipe_statement (numbered_pipes pipes.now))) result }
-    ensures cause { HasCause (K.faults out.old) (K.faults out.new) result }
+    ensures cause { FailsBySink K.Sink out.old out.new result }
 {
     for k in 1..END_OF_PIPES {
         print_pipe_at(pipes, k, out, pending)?;
@@ -43,10 +42,10 @@ fn print_pipe_at<K: Sink>(
     out: &mut K,
     pending: &mut Output,
 ) -> Result<(), SinkFault>
-    ensures text { Gathers (K.holds out.old) (K.holds out.new) pending.old pending.new
+    ensures text { GathersFor K.Sink out.old out.new pending.old pending.new
         (statements_text (map pipe_statement (at_place saved_pipe k (pipe_numbered pipes.now k))))
         result }
-    ensures cause { HasCause (K.faults out.old) (K.faults out.new) result }
+    ensures cause { FailsBySink K.Sink out.old out.new result }
 {
     let Some(pipe) = pipes.pipe(k) else {
         return Ok(());

@@ -1,8 +1,7 @@
 // Printing a machine.
 ghost use Rattle.saved_text.specs.Canonical.{IsLawful, canonical};
 ghost use Rattle.ram_disc.specs.Disc.{IsDisc};
-ghost use Rattle.byte_streams.specs.Pending.{Gathers};
-ghost use Rattle.byte_streams.specs.Write.{HasCause};
+ghost use Rattle.byte_streams.specs.Sinks.{FailsBySink, GathersFor};
 ghost use Rattle.kernel_model.specs.KernelRecord.Kernel.{Kernel};
 ghost use Rattle.kernel_model.specs.KernelRecord.ValidKernel.{IsValid};
 ghost use Rattle.kernel_machine.specs.RunningMachine.Stands.{Stands};
@@ -35,9 +34,9 @@ pub fn print_image<K: Sink>(
     out: &mut K,
     pending: &mut Output,
 ) -> Result<(), SinkFault>
-    ensures text { Gathers (K.holds out.old) (K.holds out.new) pending.old pending.new
+    ensures text { GathersFor K.Sink out.old out.new pending.old pending.new
         (canonical (saved_image version machine.now.state go)) result }
-    ensures cause { HasCause (K.faults out.old) (K.faults out.new) result }
+    ensures cause { FailsBySink K.Sink out.old out.new result }
 
     // The machine is one between steps, its words are words, and its bytes bytes.
     ensures sound { IsSound machine.now.state }
@@ -63,9 +62,9 @@ fn print_bare<K: Sink>(
     pending: &mut Output,
 ) -> Result<(), SinkFault>
     requires { IsBare machine.now.state }
-    ensures text { Gathers (K.holds out.old) (K.holds out.new) pending.old pending.new
+    ensures text { GathersFor K.Sink out.old out.new pending.old pending.new
         (canonical (saved_image version machine.now.state go)) result }
-    ensures cause { HasCause (K.faults out.old) (K.faults out.new) result }
+    ensures cause { FailsBySink K.Sink out.old out.new result }
 {
     let store = machine.store();
     let (step, regs) = (machine.steps(), machine.regs());
@@ -82,9 +81,9 @@ fn print_kernel<K: Sink>(
 ) -> Result<(), SinkFault>
     requires { (k : Kernel) × Stands parts.now k × IsValid k }
     ensures text { (k : Kernel) → Stands parts.now k → IsValid k
-        → Gathers (K.holds out.old) (K.holds out.new) pending.old pending.new
+        → GathersFor K.Sink out.old out.new pending.old pending.new
         (canonical (saved_kernel k go)) result }
-    ensures cause { HasCause (K.faults out.old) (K.faults out.new) result }
+    ensures cause { FailsBySink K.Sink out.old out.new result }
 {
     print_front(parts, out, pending)?;
     print_entries(parts, out, pending)?;
@@ -99,9 +98,9 @@ fn print_front<K: Sink>(
 ) -> Result<(), SinkFault>
     requires { (k : Kernel) × Stands parts.now k × IsValid k }
     ensures text { (k : Kernel) → Stands parts.now k → IsValid k
-        → Gathers (K.holds out.old) (K.holds out.new) pending.old pending.new
+        → GathersFor K.Sink out.old out.new pending.old pending.new
         (front_text k) result }
-    ensures cause { HasCause (K.faults out.old) (K.faults out.new) result }
+    ensures cause { FailsBySink K.Sink out.old out.new result }
 {
     let store = &parts.store;
     let version = root(store, RootField::Version);
@@ -125,9 +124,9 @@ fn print_entries<K: Sink>(
 ) -> Result<(), SinkFault>
     requires { (k : Kernel) × Stands parts.now k × IsValid k }
     ensures text { (k : Kernel) → Stands parts.now k → IsValid k
-        → Gathers (K.holds out.old) (K.holds out.new) pending.old pending.new
+        → GathersFor K.Sink out.old out.new pending.old pending.new
         (entries_text k) result }
-    ensures cause { HasCause (K.faults out.old) (K.faults out.new) result }
+    ensures cause { FailsBySink K.Sink out.old out.new result }
 {
     print_disc(&parts.disc, out, pending)?;
     print_pipes(&parts.pipes, out, pending)?;
@@ -137,9 +136,9 @@ fn print_entries<K: Sink>(
 // The files and the streams.
 fn print_disc<K: Sink>(disc: &Disc, out: &mut K, pending: &mut Output) -> Result<(), SinkFault>
     requires { IsDisc disc.now }
-    ensures text { Gathers (K.holds out.old) (K.holds out.new) pending.old pending.new
+    ensures text { GathersFor K.Sink out.old out.new pending.old pending.new
         (disc_text disc.now) result }
-    ensures cause { HasCause (K.faults out.old) (K.faults out.new) result }
+    ensures cause { FailsBySink K.Sink out.old out.new result }
 {
     print_files(disc, out, pending)?;
     print_streams(disc, out, pending)

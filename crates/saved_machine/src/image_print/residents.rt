@@ -2,8 +2,7 @@
 ghost use Rattle.std.specs.Prelude.{◌≡◌, ◌∷◌, ◌++◌, []};
 ghost use Rattle.module_text.specs.TextReader.Lines.{text_of_lines};
 ghost use Rattle.saved_text.specs.ImageForm.{awaited, flag, mode_number};
-ghost use Rattle.byte_streams.specs.Pending.{Gathers};
-ghost use Rattle.byte_streams.specs.Write.{HasCause};
+ghost use Rattle.byte_streams.specs.Sinks.{FailsBySink, GathersFor};
 ghost use Rattle.shell.specs.Modes.{mode_of};
 ghost use Rattle.saved_machine.specs.ImagePrint.SavedImage.{saved_mode};
 ghost use Rattle.saved_machine.specs.ImagePrint.Texts.{console_line, resident_lines, shell_line};
@@ -21,9 +20,9 @@ pub(crate) fn print_residents<K: Sink>(
     out: &mut K,
     pending: &mut Output,
 ) -> Result<(), SinkFault>
-    ensures text { Gathers (K.holds out.old) (K.holds out.new) pending.old pending.new
+    ensures text { GathersFor K.Sink out.old out.new pending.old pending.new
         (text_of_lines (resident_lines parts.now.tty parts.now.console parts.now.shell)) result }
-    ensures cause { HasCause (K.faults out.old) (K.faults out.new) result }
+    ensures cause { FailsBySink K.Sink out.old out.new result }
 {
     let ahead = parts.tty.bytes();
     print_ring(&SliceText::new(ahead.as_slice()), out, pending)?;
@@ -36,9 +35,9 @@ fn print_console_line<K: Sink>(
     out: &mut K,
     pending: &mut Output,
 ) -> Result<(), SinkFault>
-    ensures text { Gathers (K.holds out.old) (K.holds out.new) pending.old pending.new
+    ensures text { GathersFor K.Sink out.old out.new pending.old pending.new
         (console_line console.now ++ 10 ∷ []) result }
-    ensures cause { HasCause (K.faults out.old) (K.faults out.new) result }
+    ensures cause { FailsBySink K.Sink out.old out.new result }
 {
     let line = SliceText::new(console.line());
     print_console(flag(console.is_finished()), &line, out, pending)
@@ -49,9 +48,9 @@ fn print_shell_line<K: Sink>(
     out: &mut K,
     pending: &mut Output,
 ) -> Result<(), SinkFault>
-    ensures text { Gathers (K.holds out.old) (K.holds out.new) pending.old pending.new
+    ensures text { GathersFor K.Sink out.old out.new pending.old pending.new
         (shell_line shell.now ++ 10 ∷ []) result }
-    ensures cause { HasCause (K.faults out.old) (K.faults out.new) result }
+    ensures cause { FailsBySink K.Sink out.old out.new result }
 {
     let line = SliceText::new(shell.line());
     let (number, awaited) = mode_numbers(shell.mode());

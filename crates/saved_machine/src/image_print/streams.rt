@@ -2,8 +2,7 @@
 ghost use Rattle.std.specs.Prelude.{◌<◌, map};
 ghost use Rattle.saved_text.specs.ImageForm.{stream_statement};
 ghost use Rattle.ram_disc.specs.Disc.{IsDisc, stream_at};
-ghost use Rattle.byte_streams.specs.Pending.{Gathers};
-ghost use Rattle.byte_streams.specs.Write.{HasCause};
+ghost use Rattle.byte_streams.specs.Sinks.{FailsBySink, GathersFor};
 ghost use Rattle.saved_machine.specs.ImagePrint.SavedImage.{at_place, numbered_streams, saved_stream};
 ghost use Rattle.saved_machine.specs.ImagePrint.Texts.{statements_text};
 
@@ -19,9 +18,9 @@ pub(crate) fn print_streams<K: Sink>(
     pending: &mut Output,
 ) -> Result<(), SinkFault>
     requires { IsDisc disc.now }
-    ensures text { Gathers (K.holds out.old) (K.holds out.new) pending.old pending.new
+    ensures text { GathersFor K.Sink out.old out.new pending.old pending.new
         (statements_text (map stream_statement (numbered_streams disc.now.streams))) result }
-    ensures cause { HasCause (K.faults out.old) (K.faults out.new) result }
+    ensures cause { FailsBySink K.Sink out.old out.new result }
 {
     for k in 1..END_OF_STREAMS {
         print_stream_at(disc, k, out, pending)?;
@@ -36,10 +35,10 @@ fn print_stream_at<K: Sink>(
     out: &mut K,
     pending: &mut Output,
 ) -> Result<(), SinkFault>
-    ensures text { Gathers (K.holds out.old) (K.holds out.new) pending.old pending.new
+    ensures text { GathersFor K.Sink out.old out.new pending.old pending.new
         (statements_text (map stream_statement (at_place saved_stream k (stream_at disc.now k))))
         result }
-    ensures cause { HasCause (K.faults out.old) (K.faults out.new) result }
+    ensures cause { FailsBySink K.Sink out.old out.new result }
 {
     let Some((name, position, writes)) = disc.stream(k) else {
         return Ok(());

@@ -1,8 +1,7 @@
 // The words of a machine's text, and its last line.
 ghost use Rattle.std.specs.Prelude.{◌≡◌};
 ghost use Rattle.saved_text.specs.ImageForm.{word_statement, word_statements};
-ghost use Rattle.byte_streams.specs.Pending.{Gathers};
-ghost use Rattle.byte_streams.specs.Write.{HasCause};
+ghost use Rattle.byte_streams.specs.Sinks.{FailsBySink, GathersFor};
 ghost use Rattle.saved_machine.specs.ImagePrint.Texts.{end_text, statements_text};
 
 use byte_streams::{Output, Sink, SinkFault};
@@ -16,9 +15,9 @@ pub(crate) fn print_end<K: Sink>(
     out: &mut K,
     pending: &mut Output,
 ) -> Result<(), SinkFault>
-    ensures text { Gathers (K.holds out.old) (K.holds out.new) pending.old pending.new
+    ensures text { GathersFor K.Sink out.old out.new pending.old pending.new
         (end_text go store.now) result }
-    ensures cause { HasCause (K.faults out.old) (K.faults out.new) result }
+    ensures cause { FailsBySink K.Sink out.old out.new result }
 {
     print_words(all_words(store), out, pending)?;
     print_go(go, out, pending)
@@ -35,9 +34,9 @@ pub(crate) fn all_words(store: &Store) -> &[u32]
 }
 
 fn print_words<K: Sink>(words: &[u32], out: &mut K, pending: &mut Output) -> Result<(), SinkFault>
-    ensures text { Gathers (K.holds out.old) (K.holds out.new) pending.old pending.new
+    ensures text { GathersFor K.Sink out.old out.new pending.old pending.new
         (statements_text (word_statements 0 words.now)) result }
-    ensures cause { HasCause (K.faults out.old) (K.faults out.new) result }
+    ensures cause { FailsBySink K.Sink out.old out.new result }
 {
     for (a, w) in words.iter().enumerate() {
         print_word_at(a as u64, *w, out, pending)?;
@@ -51,9 +50,9 @@ fn print_word_at<K: Sink>(
     out: &mut K,
     pending: &mut Output,
 ) -> Result<(), SinkFault>
-    ensures text { Gathers (K.holds out.old) (K.holds out.new) pending.old pending.new
+    ensures text { GathersFor K.Sink out.old out.new pending.old pending.new
         (statements_text (word_statement a w)) result }
-    ensures cause { HasCause (K.faults out.old) (K.faults out.new) result }
+    ensures cause { FailsBySink K.Sink out.old out.new result }
 {
     if w == 0 {
         return Ok(());

@@ -1,8 +1,7 @@
 // Printing the lines of a saved machine.
 ghost use Rattle.std.specs.Prelude.{◌≡◌, ◌≤◌, ◌∷◌, ◌++◌, [], length, slice_range};
 ghost use Rattle.hex.specs.Hex.{encode_lower};
-ghost use Rattle.byte_streams.specs.Pending.{Gathers};
-ghost use Rattle.byte_streams.specs.Write.{HasCause};
+ghost use Rattle.byte_streams.specs.Sinks.{FailsBySink, GathersFor};
 ghost use Rattle.saved_text.specs.SavedLines.Canonical.{printed_console, printed_regs, printed_ring, printed_shell, statement_text};
 ghost use Rattle.saved_text.specs.SavedLines.Statements.{Bytes, File, Go, Key, Pipe, Stream, Word};
 
@@ -14,9 +13,9 @@ use word_store::Regs;
 /// Adds the line of the registers to what is pending. `SinkFault` comes only where the sink's count of faults rose; so it
 /// is for all lines.
 pub fn print_regs<K: Sink>(r: &Regs, out: &mut K, pending: &mut Output) -> Result<(), SinkFault>
-    ensures text { Gathers (K.holds out.old) (K.holds out.new) pending.old pending.new
+    ensures text { GathersFor K.Sink out.old out.new pending.old pending.new
         (printed_regs r.now ++ 10 ∷ []) result }
-    ensures cause { HasCause (K.faults out.old) (K.faults out.new) result }
+    ensures cause { FailsBySink K.Sink out.old out.new result }
 {
     gather_pieces(
         out,
@@ -41,9 +40,9 @@ pub fn print_regs<K: Sink>(r: &Regs, out: &mut K, pending: &mut Output) -> Resul
 
 /// Adds the line of a file's name.
 pub fn print_file<K: Sink>(name: &[u8], out: &mut K, pending: &mut Output) -> Result<(), SinkFault>
-    ensures text { Gathers (K.holds out.old) (K.holds out.new) pending.old pending.new
+    ensures text { GathersFor K.Sink out.old out.new pending.old pending.new
         (statement_text (File name.now) ++ 10 ∷ []) result }
-    ensures cause { HasCause (K.faults out.old) (K.faults out.new) result }
+    ensures cause { FailsBySink K.Sink out.old out.new result }
 {
     gather_pieces(out, pending, &[Text(b"FILE "), Text(name), Text(b"\n")])
 }
@@ -57,9 +56,9 @@ pub fn print_stream<K: Sink>(
     out: &mut K,
     pending: &mut Output,
 ) -> Result<(), SinkFault>
-    ensures text { Gathers (K.holds out.old) (K.holds out.new) pending.old pending.new
+    ensures text { GathersFor K.Sink out.old out.new pending.old pending.new
         (statement_text (Stream k mode position name.now) ++ 10 ∷ []) result }
-    ensures cause { HasCause (K.faults out.old) (K.faults out.new) result }
+    ensures cause { FailsBySink K.Sink out.old out.new result }
 {
     gather_pieces(
         out,
@@ -85,9 +84,9 @@ pub fn print_word<K: Sink>(
     out: &mut K,
     pending: &mut Output,
 ) -> Result<(), SinkFault>
-    ensures text { Gathers (K.holds out.old) (K.holds out.new) pending.old pending.new
+    ensures text { GathersFor K.Sink out.old out.new pending.old pending.new
         (statement_text (Word address word) ++ 10 ∷ []) result }
-    ensures cause { HasCause (K.faults out.old) (K.faults out.new) result }
+    ensures cause { FailsBySink K.Sink out.old out.new result }
 {
     gather_pieces(
         out,
@@ -109,9 +108,9 @@ pub fn print_key<K: Sink>(
     out: &mut K,
     pending: &mut Output,
 ) -> Result<(), SinkFault>
-    ensures text { Gathers (K.holds out.old) (K.holds out.new) pending.old pending.new
+    ensures text { GathersFor K.Sink out.old out.new pending.old pending.new
         (statement_text (Key step byte) ++ 10 ∷ []) result }
-    ensures cause { HasCause (K.faults out.old) (K.faults out.new) result }
+    ensures cause { FailsBySink K.Sink out.old out.new result }
 {
     gather_pieces(
         out,
@@ -128,9 +127,9 @@ pub fn print_key<K: Sink>(
 
 /// Adds the last line, with the steps to take.
 pub fn print_go<K: Sink>(steps: u64, out: &mut K, pending: &mut Output) -> Result<(), SinkFault>
-    ensures text { Gathers (K.holds out.old) (K.holds out.new) pending.old pending.new
+    ensures text { GathersFor K.Sink out.old out.new pending.old pending.new
         (statement_text (Go steps) ++ 10 ∷ []) result }
-    ensures cause { HasCause (K.faults out.old) (K.faults out.new) result }
+    ensures cause { FailsBySink K.Sink out.old out.new result }
 {
     gather_pieces(out, pending, &[Text(b"GO "), Decimal(steps), Text(b"\n")])
 }
@@ -145,9 +144,9 @@ pub fn print_bytes<X: TextBytes, K: Sink>(
 ) -> Result<(), SinkFault>
     requires rises { from ≤ to }
     requires inside { to ≤ length (X.text bytes.now) }
-    ensures text { Gathers (K.holds out.old) (K.holds out.new) pending.old pending.new
+    ensures text { GathersFor K.Sink out.old out.new pending.old pending.new
         (statement_text (Bytes (slice_range (X.text bytes.now) from to)) ++ 10 ∷ []) result }
-    ensures cause { HasCause (K.faults out.old) (K.faults out.new) result }
+    ensures cause { FailsBySink K.Sink out.old out.new result }
 {
     gather(out, pending, b":")?;
     gather_hex_line(bytes, from, to, out, pending)
@@ -159,9 +158,9 @@ pub fn print_ring<X: TextBytes, K: Sink>(
     out: &mut K,
     pending: &mut Output,
 ) -> Result<(), SinkFault>
-    ensures text { Gathers (K.holds out.old) (K.holds out.new) pending.old pending.new
+    ensures text { GathersFor K.Sink out.old out.new pending.old pending.new
         (printed_ring (X.text bytes.now) ++ 10 ∷ []) result }
-    ensures cause { HasCause (K.faults out.old) (K.faults out.new) result }
+    ensures cause { FailsBySink K.Sink out.old out.new result }
 {
     gather(out, pending, b"RING ")?;
     print_bytes(bytes, 0, bytes.len(), out, pending)
@@ -174,9 +173,9 @@ pub fn print_console<X: TextBytes, K: Sink>(
     out: &mut K,
     pending: &mut Output,
 ) -> Result<(), SinkFault>
-    ensures text { Gathers (K.holds out.old) (K.holds out.new) pending.old pending.new
+    ensures text { GathersFor K.Sink out.old out.new pending.old pending.new
         (printed_console d (X.text bytes.now) ++ 10 ∷ []) result }
-    ensures cause { HasCause (K.faults out.old) (K.faults out.new) result }
+    ensures cause { FailsBySink K.Sink out.old out.new result }
 {
     gather_pieces(out, pending, &[Text(b"CONSOLE "), Decimal(d), Text(b" ")])?;
     print_bytes(bytes, 0, bytes.len(), out, pending)
@@ -190,9 +189,9 @@ pub fn print_shell<X: TextBytes, K: Sink>(
     out: &mut K,
     pending: &mut Output,
 ) -> Result<(), SinkFault>
-    ensures text { Gathers (K.holds out.old) (K.holds out.new) pending.old pending.new
+    ensures text { GathersFor K.Sink out.old out.new pending.old pending.new
         (printed_shell m x (X.text bytes.now) ++ 10 ∷ []) result }
-    ensures cause { HasCause (K.faults out.old) (K.faults out.new) result }
+    ensures cause { FailsBySink K.Sink out.old out.new result }
 {
     gather_pieces(
         out,
@@ -218,9 +217,9 @@ pub fn print_pipe<X: TextBytes, K: Sink>(
     out: &mut K,
     pending: &mut Output,
 ) -> Result<(), SinkFault>
-    ensures text { Gathers (K.holds out.old) (K.holds out.new) pending.old pending.new
+    ensures text { GathersFor K.Sink out.old out.new pending.old pending.new
         (statement_text (Pipe k ends.0 ends.1 ends.2 name.now (X.text bytes.now)) ++ 10 ∷ []) result }
-    ensures cause { HasCause (K.faults out.old) (K.faults out.new) result }
+    ensures cause { FailsBySink K.Sink out.old out.new result }
 {
     gather_pieces(
         out,
@@ -254,9 +253,9 @@ fn gather_hex_line<X: TextBytes, K: Sink>(
 ) -> Result<(), SinkFault>
     requires rises { from ≤ to }
     requires inside { to ≤ length (X.text bytes.now) }
-    ensures text { Gathers (K.holds out.old) (K.holds out.new) pending.old pending.new
+    ensures text { GathersFor K.Sink out.old out.new pending.old pending.new
         (encode_lower (slice_range (X.text bytes.now) from to) ++ 10 ∷ []) result }
-    ensures cause { HasCause (K.faults out.old) (K.faults out.new) result }
+    ensures cause { FailsBySink K.Sink out.old out.new result }
 {
     gather_hex(bytes, from, to, out, pending)?;
     gather(out, pending, b"\n")
@@ -272,9 +271,9 @@ fn gather_hex<X: TextBytes, K: Sink>(
 ) -> Result<(), SinkFault>
     requires rises { from ≤ to }
     requires inside { to ≤ length (X.text bytes.now) }
-    ensures text { Gathers (K.holds out.old) (K.holds out.new) pending.old pending.new
+    ensures text { GathersFor K.Sink out.old out.new pending.old pending.new
         (encode_lower (slice_range (X.text bytes.now) from to)) result }
-    ensures cause { HasCause (K.faults out.old) (K.faults out.new) result }
+    ensures cause { FailsBySink K.Sink out.old out.new result }
 {
     for i in from..to {
         gather_byte(bytes.at(i).unwrap(), out, pending)?;
@@ -283,9 +282,9 @@ fn gather_hex<X: TextBytes, K: Sink>(
 }
 
 fn gather_byte<K: Sink>(byte: u8, out: &mut K, pending: &mut Output) -> Result<(), SinkFault>
-    ensures text { Gathers (K.holds out.old) (K.holds out.new) pending.old pending.new
+    ensures text { GathersFor K.Sink out.old out.new pending.old pending.new
         (encode_lower (byte ∷ [])) result }
-    ensures cause { HasCause (K.faults out.old) (K.faults out.new) result }
+    ensures cause { FailsBySink K.Sink out.old out.new result }
 {
     gather(out, pending, &hex_digits(byte))
 }

@@ -5,7 +5,7 @@ ghost use Rattle.std.specs.Fmt.{signed_decimal};
 ghost use Rattle.byte_streams.specs.Pending.{Gathers};
 ghost use Rattle.byte_streams.specs.Pieces.{text_of};
 ghost use Rattle.word_store.specs.Arithmetic.{signed};
-ghost use Rattle.byte_streams.specs.Write.{HasCause};
+ghost use Rattle.byte_streams.specs.Sinks.{FailsBySink, GathersFor};
 ghost use Rattle.show_run.specs.StepLog.Calls.{arguments_seen, bare_call, call_at, call_line, call_lines, call_made, call_seen, kernel_call, told};
 
 use crate::step_log::moments::{Moment, gather_line};
@@ -158,9 +158,9 @@ pub(crate) fn gather_call<K: Sink>(
     out: &mut K,
     pending: &mut Output,
 ) -> Result<(), SinkFault>
-    ensures text { Gathers (K.holds out.old) (K.holds out.new) pending.old pending.new
+    ensures text { GathersFor K.Sink out.old out.new pending.old pending.new
         (call_lines m (option_map call_seen call)) result }
-    ensures cause { HasCause (K.faults out.old) (K.faults out.new) result }
+    ensures cause { FailsBySink K.Sink out.old out.new result }
 {
     match call {
         Some(call) => gather_made(m, call, out, pending),
@@ -174,9 +174,9 @@ fn gather_made<K: Sink>(
     out: &mut K,
     pending: &mut Output,
 ) -> Result<(), SinkFault>
-    ensures text { Gathers (K.holds out.old) (K.holds out.new) pending.old pending.new
+    ensures text { GathersFor K.Sink out.old out.new pending.old pending.new
         (call_line m (call_seen call)) result }
-    ensures cause { HasCause (K.faults out.old) (K.faults out.new) result }
+    ensures cause { FailsBySink K.Sink out.old out.new result }
 {
     let start = Text(b"call ");
     let name = Text(call.name);

@@ -1,7 +1,7 @@
 // What a step changes besides: the tick, the keys that are to come, and whether the machine goes on.
 ghost use Rattle.std.specs.Prelude.{◌≡◌, length, slice_get};
 ghost use Rattle.byte_streams.specs.Pending.{Gathers};
-ghost use Rattle.byte_streams.specs.Write.{HasCause};
+ghost use Rattle.byte_streams.specs.Sinks.{FailsBySink, GathersFor};
 ghost use Rattle.tripos_machine.specs.State.{keys_to_come, stop_of};
 ghost use Rattle.show_run.specs.StepLog.Moments.{line};
 ghost use Rattle.show_run.specs.StepLog.StepLines.{key_line, key_lines, stop_lines, stop_text, tick_lines, tick_of};
@@ -56,9 +56,9 @@ pub(crate) fn gather_tick<K: Sink>(
     out: &mut K,
     pending: &mut Output,
 ) -> Result<(), SinkFault>
-    ensures text { Gathers (K.holds out.old) (K.holds out.new) pending.old pending.new
+    ensures text { GathersFor K.Sink out.old out.new pending.old pending.new
         (tick_lines m (tick_of machine.now.state)) result }
-    ensures cause { HasCause (K.faults out.old) (K.faults out.new) result }
+    ensures cause { FailsBySink K.Sink out.old out.new result }
 {
     let tick = tick(machine);
     if m.tick == tick {
@@ -75,10 +75,10 @@ pub(crate) fn gather_key<K: Sink>(
     out: &mut K,
     pending: &mut Output,
 ) -> Result<(), SinkFault>
-    ensures text { Gathers (K.holds out.old) (K.holds out.new) pending.old pending.new
+    ensures text { GathersFor K.Sink out.old out.new pending.old pending.new
         (key_lines m before.count before.first
         (length (keys_to_come machine.now.state))) result }
-    ensures cause { HasCause (K.faults out.old) (K.faults out.new) result }
+    ensures cause { FailsBySink K.Sink out.old out.new result }
 {
     if keys_left(machine).count >= before.count {
         return Ok(());
@@ -96,9 +96,9 @@ pub(crate) fn gather_stop<K: Sink>(
     out: &mut K,
     pending: &mut Output,
 ) -> Result<(), SinkFault>
-    ensures text { Gathers (K.holds out.old) (K.holds out.new) pending.old pending.new
+    ensures text { GathersFor K.Sink out.old out.new pending.old pending.new
         (stop_lines m (stop_of machine.now.state)) result }
-    ensures cause { HasCause (K.faults out.old) (K.faults out.new) result }
+    ensures cause { FailsBySink K.Sink out.old out.new result }
 {
     match machine.stop() {
         Some(stop) => gather_stopped(m, stop, out, pending),
@@ -112,9 +112,9 @@ fn gather_stopped<K: Sink>(
     out: &mut K,
     pending: &mut Output,
 ) -> Result<(), SinkFault>
-    ensures text { Gathers (K.holds out.old) (K.holds out.new) pending.old pending.new
+    ensures text { GathersFor K.Sink out.old out.new pending.old pending.new
         (line m (stop_text stop)) result }
-    ensures cause { HasCause (K.faults out.old) (K.faults out.new) result }
+    ensures cause { FailsBySink K.Sink out.old out.new result }
 {
     match stop {
         Stop::Steps => gather_line(m, &[Text(b"stop steps")], out, pending),

@@ -3,7 +3,7 @@ ghost use Rattle.std.specs.List.{flat_map};
 ghost use Rattle.std.specs.Prelude.{◌≡◌, ◌∷◌, []};
 ghost use Rattle.hex.specs.Hex.{encode_lower};
 ghost use Rattle.byte_streams.specs.Pending.{Gathers};
-ghost use Rattle.byte_streams.specs.Write.{HasCause};
+ghost use Rattle.byte_streams.specs.Sinks.{FailsBySink, GathersFor};
 ghost use Rattle.show_run.specs.StepLog.Console.{console_lines, shown};
 
 use crate::step_log::moments::{Moment, gather_start};
@@ -17,9 +17,9 @@ pub(crate) fn gather_console<K: Sink>(
     out: &mut K,
     pending: &mut Output,
 ) -> Result<(), SinkFault>
-    ensures text { Gathers (K.holds out.old) (K.holds out.new) pending.old pending.new
+    ensures text { GathersFor K.Sink out.old out.new pending.old pending.new
         (console_lines m bytes.now) result }
-    ensures cause { HasCause (K.faults out.old) (K.faults out.new) result }
+    ensures cause { FailsBySink K.Sink out.old out.new result }
 {
     if bytes.is_empty() {
         return Ok(());
@@ -30,9 +30,9 @@ pub(crate) fn gather_console<K: Sink>(
 }
 
 fn gather_shown<K: Sink>(bytes: &[u8], out: &mut K, pending: &mut Output) -> Result<(), SinkFault>
-    ensures text { Gathers (K.holds out.old) (K.holds out.new) pending.old pending.new
+    ensures text { GathersFor K.Sink out.old out.new pending.old pending.new
         (flat_map shown bytes.now) result }
-    ensures cause { HasCause (K.faults out.old) (K.faults out.new) result }
+    ensures cause { FailsBySink K.Sink out.old out.new result }
 {
     for b in bytes {
         gather_byte(*b, out, pending)?;
@@ -43,9 +43,9 @@ fn gather_shown<K: Sink>(bytes: &[u8], out: &mut K, pending: &mut Output) -> Res
 // A byte as it is shown between quotes.
 #[tactic(auto, unfolding(crate::specs::StepLog::Console::shown))]
 fn gather_byte<K: Sink>(b: u8, out: &mut K, pending: &mut Output) -> Result<(), SinkFault>
-    ensures text { Gathers (K.holds out.old) (K.holds out.new) pending.old pending.new
+    ensures text { GathersFor K.Sink out.old out.new pending.old pending.new
         (shown b) result }
-    ensures cause { HasCause (K.faults out.old) (K.faults out.new) result }
+    ensures cause { FailsBySink K.Sink out.old out.new result }
 {
     match b {
         b'\n' => gather(out, pending, b"\\n"),

@@ -2,7 +2,7 @@
 ghost use Rattle.std.specs.List.{flat_map};
 ghost use Rattle.byte_streams.specs.Pending.{Gathers};
 ghost use Rattle.byte_streams.specs.Pieces.{text_of};
-ghost use Rattle.byte_streams.specs.Write.{HasCause};
+ghost use Rattle.byte_streams.specs.Sinks.{FailsBySink, GathersFor};
 ghost use Rattle.show_run.specs.StepLog.Moments.{line, prefix, start};
 
 use byte_streams::Piece::{Decimal, Text};
@@ -29,9 +29,9 @@ pub(crate) fn gather_line<K: Sink>(
     out: &mut K,
     pending: &mut Output,
 ) -> Result<(), SinkFault>
-    ensures text { Gathers (K.holds out.old) (K.holds out.new) pending.old pending.new
+    ensures text { GathersFor K.Sink out.old out.new pending.old pending.new
         (line m (flat_map text_of what.now)) result }
-    ensures cause { HasCause (K.faults out.old) (K.faults out.new) result }
+    ensures cause { FailsBySink K.Sink out.old out.new result }
 {
     gather_start(m, what, out, pending)?;
     gather(out, pending, b"\n")
@@ -45,9 +45,9 @@ pub(crate) fn gather_start<K: Sink>(
     out: &mut K,
     pending: &mut Output,
 ) -> Result<(), SinkFault>
-    ensures text { Gathers (K.holds out.old) (K.holds out.new) pending.old pending.new
+    ensures text { GathersFor K.Sink out.old out.new pending.old pending.new
         (start m (flat_map text_of what.now)) result }
-    ensures cause { HasCause (K.faults out.old) (K.faults out.new) result }
+    ensures cause { FailsBySink K.Sink out.old out.new result }
 {
     gather_prefix(m, out, pending)?;
     gather_pieces(out, pending, what)
@@ -55,9 +55,9 @@ pub(crate) fn gather_start<K: Sink>(
 
 #[tactic(auto, unfolding(crate::specs::StepLog::Moments::prefix))]
 fn gather_prefix<K: Sink>(m: Moment, out: &mut K, pending: &mut Output) -> Result<(), SinkFault>
-    ensures text { Gathers (K.holds out.old) (K.holds out.new) pending.old pending.new
+    ensures text { GathersFor K.Sink out.old out.new pending.old pending.new
         (prefix m) result }
-    ensures cause { HasCause (K.faults out.old) (K.faults out.new) result }
+    ensures cause { FailsBySink K.Sink out.old out.new result }
 {
     gather_pieces(
         out,

@@ -1,7 +1,7 @@
 // Why a call is refused.
 ghost use Rattle.std.specs.Prelude.{◌≡◌, None, Some, MatchOption};
 ghost use Rattle.byte_streams.specs.Pending.{Gathers};
-ghost use Rattle.byte_streams.specs.Write.{HasCause};
+ghost use Rattle.byte_streams.specs.Sinks.{FailsBySink, GathersFor};
 ghost use Rattle.show_run.specs.StepLog.Refusals.{refusal, refusal_lines};
 
 use crate::step_log::moments::{Moment, gather_line};
@@ -15,9 +15,9 @@ pub(crate) fn gather_refusal<K: Sink>(
     out: &mut K,
     pending: &mut Output,
 ) -> Result<(), SinkFault>
-    ensures text { Gathers (K.holds out.old) (K.holds out.new) pending.old pending.new
+    ensures text { GathersFor K.Sink out.old out.new pending.old pending.new
         (refusal_lines m code) result }
-    ensures cause { HasCause (K.faults out.old) (K.faults out.new) result }
+    ensures cause { FailsBySink K.Sink out.old out.new result }
 {
     let Some(text) = refusal(code) else {
         return Ok(());

@@ -1,8 +1,7 @@
 // The lines of steps.
 ghost use Rattle.std.specs.List.{flat_map};
 ghost use Rattle.std.specs.Prelude.{◌≡◌, ◌+◌, ◌≤◌, ◌<◌, Some, IfOk};
-ghost use Rattle.byte_streams.specs.Pending.{Gathers};
-ghost use Rattle.byte_streams.specs.Write.{HasCause};
+ghost use Rattle.byte_streams.specs.Sinks.{FailsBySink, GathersFor};
 ghost use Rattle.kernel_model.specs.KernelRecord.NotedEvents.{NotesAll};
 ghost use Rattle.program_answers.specs.TraceLog.Trails.{events_of};
 ghost use Rattle.kernel_model.specs.KernelRecord.Ranges.{most_steps};
@@ -39,10 +38,10 @@ pub fn gather_steps<K: Sink>(
     pending: &mut Output,
 ) -> Result<(), SinkFault>
     requires { steps_of machine.old.state + n ≤ most_steps }
-    ensures text { Gathers (K.holds out.old) (K.holds out.new) pending.old pending.new
+    ensures text { GathersFor K.Sink out.old out.new pending.old pending.new
         (log_text n machine.old.state) result }
     ensures state { IfOk result (λ _. machine.new.state ≡ (run n machine.old.state).state) }
-    ensures cause { HasCause (K.faults out.old) (K.faults out.new) result }
+    ensures cause { FailsBySink K.Sink out.old out.new result }
 {
     for _ in 0..n {
         if machine.stop().is_some() {
@@ -60,10 +59,10 @@ fn gather_step<K: Sink>(
     pending: &mut Output,
 ) -> Result<(), SinkFault>
     requires { steps_of machine.old.state < most_steps }
-    ensures text { Gathers (K.holds out.old) (K.holds out.new) pending.old pending.new
+    ensures text { GathersFor K.Sink out.old out.new pending.old pending.new
         (step_lines machine.old.state (step machine.old.state)) result }
     ensures state { IfOk result (λ _. machine.new.state ≡ (step machine.old.state).state) }
-    ensures cause { HasCause (K.faults out.old) (K.faults out.new) result }
+    ensures cause { FailsBySink K.Sink out.old out.new result }
 {
     let m = moment(machine);
     let before = known_before(machine);
@@ -81,9 +80,9 @@ fn gather_before<K: Sink>(
     out: &mut K,
     pending: &mut Output,
 ) -> Result<(), SinkFault>
-    ensures text { Gathers (K.holds out.old) (K.holds out.new) pending.old pending.new
+    ensures text { GathersFor K.Sink out.old out.new pending.old pending.new
         (lines_before m (before_seen before) machine.now.state) result }
-    ensures cause { HasCause (K.faults out.old) (K.faults out.new) result }
+    ensures cause { FailsBySink K.Sink out.old out.new result }
 {
     gather_guest(m, machine, out, pending)?;
     gather_call(m, before.call, out, pending)
@@ -97,12 +96,12 @@ fn take_step<K: Sink>(
     pending: &mut Output,
 ) -> Result<ArrayVec<Option<u32>, MOST_TOLD>, SinkFault>
     requires { steps_of machine.old.state < most_steps }
-    ensures text { Gathers (K.holds out.old) (K.holds out.new) pending.old pending.new
+    ensures text { GathersFor K.Sink out.old out.new pending.old pending.new
         (flat_map (event_line m) (step machine.old.state).events) result }
     ensures state { machine.new.state ≡ (step machine.old.state).state }
     ensures output { machine.new.output ≡ (step machine.old.state).bytes }
     ensures told { IfOk result (λ told. told.items ≡ told_of (step machine.old.state).events) }
-    ensures cause { HasCause (K.faults out.old) (K.faults out.new) result }
+    ensures cause { FailsBySink K.Sink out.old out.new result }
 {
     let mut log = StepEvents::new(out, m, mem::replace(pending, Output::new()));
     note_step(machine, &mut log);
@@ -141,9 +140,9 @@ fn gather_after<K: Sink>(
     out: &mut K,
     pending: &mut Output,
 ) -> Result<(), SinkFault>
-    ensures text { Gathers (K.holds out.old) (K.holds out.new) pending.old pending.new
+    ensures text { GathersFor K.Sink out.old out.new pending.old pending.new
         (lines_after m (before_seen before) machine.now.output machine.now.state) result }
-    ensures cause { HasCause (K.faults out.old) (K.faults out.new) result }
+    ensures cause { FailsBySink K.Sink out.old out.new result }
 {
     gather_end(m, before, machine, out, pending)?;
     gather_console(m, machine.output(), out, pending)?;
@@ -158,9 +157,9 @@ fn gather_end<K: Sink>(
     out: &mut K,
     pending: &mut Output,
 ) -> Result<(), SinkFault>
-    ensures text { Gathers (K.holds out.old) (K.holds out.new) pending.old pending.new
+    ensures text { GathersFor K.Sink out.old out.new pending.old pending.new
         (end_lines m (before_seen before) machine.now.state) result }
-    ensures cause { HasCause (K.faults out.old) (K.faults out.new) result }
+    ensures cause { FailsBySink K.Sink out.old out.new result }
 {
     gather_answer(m, before.call, machine, out, pending)?;
     gather_fault(m, before.fault, machine, out, pending)
@@ -174,9 +173,9 @@ fn gather_changes<K: Sink>(
     out: &mut K,
     pending: &mut Output,
 ) -> Result<(), SinkFault>
-    ensures text { Gathers (K.holds out.old) (K.holds out.new) pending.old pending.new
+    ensures text { GathersFor K.Sink out.old out.new pending.old pending.new
         (change_lines m (before_seen before) machine.now.state) result }
-    ensures cause { HasCause (K.faults out.old) (K.faults out.new) result }
+    ensures cause { FailsBySink K.Sink out.old out.new result }
 {
     gather_tick(m, machine, out, pending)?;
     gather_key(m, before.keys, machine, out, pending)?;

@@ -1,6 +1,5 @@
 // The lines that sum up a run.
-ghost use Rattle.byte_streams.specs.Pending.{Gathers};
-ghost use Rattle.byte_streams.specs.Write.{HasCause};
+ghost use Rattle.byte_streams.specs.Sinks.{FailsBySink, GathersFor};
 ghost use Rattle.tripos_run.specs.SessionGenerator.Summary.{summary};
 
 use crate::session_generator::Tally;
@@ -14,9 +13,9 @@ pub fn gather_summary<K: Sink>(
     out: &mut K,
     pending: &mut Output,
 ) -> Result<(), SinkFault>
-    ensures text { Gathers (K.holds out.old) (K.holds out.new) pending.old pending.new
+    ensures text { GathersFor K.Sink out.old out.new pending.old pending.new
         (summary session_bytes console.now) result }
-    ensures cause { HasCause (K.faults out.old) (K.faults out.new) result }
+    ensures cause { FailsBySink K.Sink out.old out.new result }
 {
     gather_pieces(
         out,
