@@ -2,9 +2,9 @@
 ghost use Rattle.std.specs.Prelude.{◌≡◌, ◌<◌, ◌++◌, length};
 ghost use Rattle.kernel_model.specs.KernelRecord.HoldsLists.{HoldsLists};
 ghost use Rattle.kernel_model.specs.KernelRecord.Lists.{Lists};
-ghost use Rattle.kernel_model.specs.KernelRecord.NotedEvents.{NotesAll};
 ghost use Rattle.kernel_devices.specs.Printed.{finished, printed};
 ghost use Rattle.kernel_calls.specs.PacketCalls.Returned.{IsServed};
+ghost use Rattle.kernel_model.specs.KernelRecord.LoggedEvents.{LogsAll};
 
 use byte_streams::Output;
 use kernel_calls::{Device, return_first};
@@ -25,8 +25,7 @@ pub fn finish_output<L: EventLog>(store: &mut Store, out: &mut Output, log: &mut
     ensures out { (l : Lists) → HoldsLists store.old l
         → out.new ≡ out.old ++ printed store.old l.output }
     ensures notes { (l : Lists) → HoldsLists store.old l
-        → NotesAll (L.noted log.old) (L.noted log.new)
-        (L.has_failed log.old) (L.has_failed log.new) (finished l).events }
+        → LogsAll L.EventLog log.old log.new (finished l).events }
 {
     let p = root(store, RootField::OutputQueue);
     if p == 0 {

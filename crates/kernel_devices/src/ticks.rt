@@ -2,9 +2,9 @@
 ghost use Rattle.std.specs.Prelude.{◌≡◌, ◌<◌, ◌-◌, ◌^◌};
 ghost use Rattle.kernel_model.specs.KernelRecord.HoldsLists.{HoldsLists};
 ghost use Rattle.kernel_model.specs.KernelRecord.Lists.{Lists};
-ghost use Rattle.kernel_model.specs.KernelRecord.NotedEvents.{NotesAll};
 ghost use Rattle.kernel_calls.specs.PacketCalls.Returned.{IsServed};
 ghost use Rattle.kernel_devices.specs.Tick.{due_returned, is_first_due, ticked};
+ghost use Rattle.kernel_model.specs.KernelRecord.LoggedEvents.{LogsAll};
 
 use kernel_calls::{Device, return_first};
 use kernel_lists::{EventLog, RootField, root, set_root};
@@ -18,8 +18,7 @@ pub fn tick<L: EventLog>(store: &mut Store, log: &mut L)
     ensures lists { (l : Lists) → HoldsLists store.old l → l.tick < 2 ^ 32 - 1
         → IsServed store.old store.new l (ticked l) }
     ensures notes { (l : Lists) → HoldsLists store.old l → l.tick < 2 ^ 32 - 1
-        → NotesAll (L.noted log.old) (L.noted log.new)
-        (L.has_failed log.old) (L.has_failed log.new) (ticked l).events }
+        → LogsAll L.EventLog log.old log.new (ticked l).events }
 {
     let now = root(store, RootField::Tick) + 1;
     set_root(store, RootField::Tick, now);
@@ -32,8 +31,7 @@ fn return_due<L: EventLog>(store: &mut Store, now: u32, log: &mut L)
     ensures lists { (l : Lists) → HoldsLists store.old l
         → IsServed store.old store.new l (due_returned now l) }
     ensures notes { (l : Lists) → HoldsLists store.old l
-        → NotesAll (L.noted log.old) (L.noted log.new)
-        (L.has_failed log.old) (L.has_failed log.new) (due_returned now l).events }
+        → LogsAll L.EventLog log.old log.new (due_returned now l).events }
 {
     while is_first_due(store, now) {
         return_first(store, Device::Clock, 0, log);

@@ -2,10 +2,10 @@
 ghost use Rattle.std.specs.Prelude.{◌≡◌, ◌+◌, ◌<◌, ◌≤◌, ◌↔◌, [], ◌++◌, IfOk, IsTrue, drop, length, slice_get};
 ghost use Rattle.kernel_model.specs.KernelRecord.HoldsLists.{HoldsLists};
 ghost use Rattle.kernel_model.specs.KernelRecord.Lists.{Lists};
-ghost use Rattle.kernel_model.specs.KernelRecord.NotedEvents.{NotesAll};
 ghost use Rattle.kernel_devices.specs.Keys.{left_typed, met};
 ghost use Rattle.kernel_calls.specs.PacketCalls.Returned.{IsServed};
 ghost use Rattle.kernel_devices.specs.Typed.{with_typed};
+ghost use Rattle.kernel_model.specs.KernelRecord.LoggedEvents.{LogsAll};
 
 use arrayvec::ArrayVec;
 use byte_streams::WantMemory;
@@ -90,8 +90,7 @@ impl Tty {
         ensures left { (l : Lists) → HoldsLists store.old l
             → self.new ≡ left_typed self.old l.keyboard }
         ensures notes { (l : Lists) → HoldsLists store.old l
-            → NotesAll (L.noted log.old) (L.noted log.new)
-            (L.has_failed log.old) (L.has_failed log.new) (met self.old l).events }
+            → LogsAll L.EventLog log.old log.new (met self.old l).events }
     {
         if root(store, RootField::KeyQueue) == 0 {
             return;

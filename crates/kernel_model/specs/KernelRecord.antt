@@ -8,6 +8,7 @@ pub mod Kernel
 pub mod KernelRanges
 pub mod Lists
 pub mod MovedTask
+pub mod LoggedEvents
 pub mod NotedEvents
 pub mod OneKernel
 pub mod Owned

@@ -1,12 +1,12 @@
 // A machine of either kind.
 ghost use Rattle.std.specs.Prelude.{◌≡◌, ◌<◌, ◌+◌, ◌-◌, ◌≤◌, [], None, MatchOption, ℕ};
-ghost use Rattle.kernel_model.specs.KernelRecord.NotedEvents.{NotesAll};
 ghost use Rattle.kernel_model.specs.KernelRecord.Ranges.{most_steps};
 ghost use Rattle.tripos_machine.specs.Breakpoints.{Avoids, IsPlain, IsPlainStep};
 ghost use Rattle.tripos_machine.specs.Histories.{HasHistory};
 ghost use Rattle.tripos_machine.specs.Quiet.{AreQuiet, IsIdle};
 ghost use Rattle.tripos_machine.specs.State.{IsBare, IsSound, StandFor, StandsFull, State, keys_of, regs_of, running_of, steps_of, stop_of, typed, words_of};
 ghost use Rattle.tripos_machine.specs.Step.{boot_events, run, step};
+ghost use Rattle.kernel_model.specs.KernelRecord.LoggedEvents.{LogsAll};
 
 use crate::Parts;
 use crate::kinds::Kind;
@@ -146,8 +146,7 @@ impl Machine {
 
     /// Notes the events of the boot of a machine that has taken no step; one without a kernel has none.
     pub fn note_boot<L: EventLog>(&self, log: &mut L)
-        ensures { NotesAll (L.noted log.old) (L.noted log.new) (L.has_failed log.old)
-            (L.has_failed log.new) (boot_events self.now.state) }
+        ensures { LogsAll L.EventLog log.old log.new (boot_events self.now.state) }
     {
         match &self.kind {
             Kind::Bare(_) => {}
@@ -173,8 +172,7 @@ impl Machine {
         requires { steps_of self.old.state < most_steps }
         ensures state { self.new.state ≡ (step self.old.state).state }
         ensures output { self.new.output ≡ (step self.old.state).bytes }
-        ensures events { NotesAll (L.noted log.old) (L.noted log.new) (L.has_failed log.old)
-            (L.has_failed log.new) (step self.old.state).events }
+        ensures events { LogsAll L.EventLog log.old log.new (step self.old.state).events }
         ensures history { HasHistory 1 self.old.state }
         ensures stop { result ≡ stop_of self.new.state }
         ensures keys { self.new.keys ≡ self.old.keys }
@@ -228,8 +226,7 @@ impl Machine {
         ensures most { result ≤ most }
         ensures state { self.new.state ≡ (run result self.old.state).state }
         ensures output { self.new.output ≡ (run result self.old.state).bytes }
-        ensures events { NotesAll (L.noted log.old) (L.noted log.new) (L.has_failed log.old)
-            (L.has_failed log.new) (run result self.old.state).events }
+        ensures events { LogsAll L.EventLog log.old log.new (run result self.old.state).events }
         ensures history { HasHistory result self.old.state }
         ensures last { stop_of (run (result - 1) self.old.state).state ≡ None }
         ensures before { Avoids breakpoints.now result self.old.state }

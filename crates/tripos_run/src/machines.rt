@@ -16,6 +16,7 @@ ghost use Rattle.program_answers.specs.Cause.{HasFaultCause};
 ghost use Rattle.program_answers.specs.Input.{IsTextEnd};
 ghost use Rattle.tripos_run.specs.Input.{IsMachineEnd};
 ghost use Rattle.tripos_run.specs.TracedRun.{GivesLines, StopsAt};
+ghost use Rattle.kernel_model.specs.KernelRecord.LoggedEvents.{LogsAll};
 
 use crate::ends::{status_of, write_end};
 use crate::reports::Report;
@@ -144,8 +145,7 @@ fn trace_run<K: Sink>(
 // Notes the events of the boot, and then those of the run. `SinkFault` comes only where the log has failed.
 fn note_run<L: EventLog>(machine: &mut Machine, go: u64, log: &mut L) -> Result<Stop, SinkFault>
     requires { steps_of machine.old.state + go ≤ most_steps }
-    ensures events { NotesAll (L.noted log.old) (L.noted log.new) (L.has_failed log.old)
-        (L.has_failed log.new)
+    ensures events { LogsAll L.EventLog log.old log.new
         (boot_events machine.old.state ++ (run go machine.old.state).events) }
     ensures end { MatchResult result (λ stop. StopsAt machine.new.state stop
         (run go machine.old.state).state) (λ _. L.has_failed log.new ≡ true) }

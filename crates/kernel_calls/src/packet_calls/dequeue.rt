@@ -1,14 +1,14 @@
 // A task takes a packet back out of a queue.
 ghost use Rattle.std.specs.Prelude.{◌≡◌, true};
 ghost use Rattle.std.specs.Option.{option_map};
-ghost use Rattle.kernel_model.specs.KernelRecord.ChangedStore.{HasKeeper};
 ghost use Rattle.kernel_model.specs.KernelRecord.HoldsLists.{HoldsLists};
 ghost use Rattle.kernel_model.specs.KernelRecord.Lists.{Lists};
-ghost use Rattle.kernel_model.specs.KernelRecord.NotedEvents.{NotesAll};
 ghost use Rattle.kernel_calls.specs.CallAnswers.Callers.{HasCaller};
 ghost use Rattle.kernel_calls.specs.CallAnswers.Made.{IsMade};
 ghost use Rattle.kernel_calls.specs.PacketCalls.Destinations.{is_destination, place_of, queue_for};
 ghost use Rattle.kernel_calls.specs.PacketCalls.Dqpkt.{dqpkt, found_in, found_in_own, is_residents_packet, located};
+ghost use Rattle.kernel_model.specs.KernelRecord.LoggedEvents.{LogsAll};
+ghost use Rattle.kernel_model.specs.WordKinds.KeptStores.{IsKeptBy};
 
 use crate::call_answers::caller;
 use crate::call_answers::codes::{NO_DESTINATION, NOT_QUEUED, RESIDENT};
@@ -46,14 +46,13 @@ pub fn dqpkt<Q: KindKeeper, L: EventLog>(
     p: u32,
     log: &mut L,
 ) -> Result<u32, u32>
-    requires { (l : Lists) × HasKeeper store.old (Q.tells kinds.old) (Q.room kinds.old) l
+    requires { (l : Lists) × IsKeptBy Q.KindKeeper store.old kinds.old l
         × HasCaller l }
-    ensures made { (l : Lists) → HasKeeper store.old (Q.tells kinds.old) (Q.room kinds.old) l
+    ensures made { (l : Lists) → IsKeptBy Q.KindKeeper store.old kinds.old l
         → HasCaller l
         → IsMade store.old store.new (Q.tells kinds.new) result (dqpkt l id p) }
-    ensures notes { (l : Lists) → HasKeeper store.old (Q.tells kinds.old) (Q.room kinds.old) l
-        → HasCaller l → NotesAll (L.noted log.old) (L.noted log.new)
-        (L.has_failed log.old) (L.has_failed log.new) (dqpkt l id p).events }
+    ensures notes { (l : Lists) → IsKeptBy Q.KindKeeper store.old kinds.old l
+        → HasCaller l → LogsAll L.EventLog log.old log.new (dqpkt l id p).events }
     ensures room { Q.room kinds.new ≡ Q.room kinds.old }
 {
     let named = destination(store, id).ok_or(NO_DESTINATION)?;

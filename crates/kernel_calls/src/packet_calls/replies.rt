@@ -3,9 +3,9 @@ ghost use Rattle.std.specs.Prelude.{◌≡◌, Ok};
 ghost use Rattle.word_store.specs.Arithmetic.{word_of};
 ghost use Rattle.kernel_model.specs.KernelRecord.HoldsLists.{HoldsLists};
 ghost use Rattle.kernel_model.specs.KernelRecord.Lists.{Lists};
-ghost use Rattle.kernel_model.specs.KernelRecord.NotedEvents.{NotesAll};
 ghost use Rattle.kernel_calls.specs.CallAnswers.Made.{Leaves, minus_one};
 ghost use Rattle.kernel_calls.specs.PacketCalls.Reply.{CanReply, reply};
+ghost use Rattle.kernel_model.specs.KernelRecord.LoggedEvents.{LogsAll};
 
 use crate::packet_calls::Queue;
 use crate::packet_calls::destinations::number_word;
@@ -23,8 +23,7 @@ pub fn reply<L: EventLog>(store: &mut Store, p: u32, from: i32, res1: u32, res2:
     ensures made { (l : Lists) → HoldsLists store.old l → CanReply store.old l p (word_of from)
         → Leaves store.old store.new (Ok minus_one) (reply store.old l p (word_of from) res1 res2) }
     ensures notes { (l : Lists) → HoldsLists store.old l → CanReply store.old l p (word_of from)
-        → NotesAll (L.noted log.old) (L.noted log.new)
-        (L.has_failed log.old) (L.has_failed log.new) (reply store.old l p (word_of from) res1 res2).events }
+        → LogsAll L.EventLog log.old log.new (reply store.old l p (word_of from) res1 res2).events }
 {
     let sender = word_at(store, p, SENDER);
     let Some(task) = find(store, sender) else {

@@ -3,9 +3,9 @@ ghost use Rattle.std.specs.Prelude.{◌≡◌};
 ghost use Rattle.kernel_model.specs.KernelRecord.Changes.{queue_of};
 ghost use Rattle.kernel_model.specs.KernelRecord.HoldsLists.{HoldsLists};
 ghost use Rattle.kernel_model.specs.KernelRecord.Lists.{Lists};
-ghost use Rattle.kernel_model.specs.KernelRecord.NotedEvents.{NotesAll};
 ghost use Rattle.kernel_calls.specs.PacketCalls.Destinations.{queue_for};
 ghost use Rattle.kernel_calls.specs.PacketCalls.Returned.{IsServed, first_returned, number_of, place_of};
+ghost use Rattle.kernel_model.specs.KernelRecord.LoggedEvents.{LogsAll};
 
 use crate::packet_calls::Queue;
 use crate::packet_calls::events::{accepted, taken};
@@ -32,8 +32,7 @@ pub fn return_first<L: EventLog>(store: &mut Store, device: Device, res1: u32, l
     requires { (l : Lists) × HoldsLists store.old l }
     ensures lists { (l : Lists) → HoldsLists store.old l → IsServed store.old store.new l
         (first_returned device res1 (queue_of (place_of device) l) l) }
-    ensures notes { (l : Lists) → HoldsLists store.old l → NotesAll
-        (L.noted log.old) (L.noted log.new) (L.has_failed log.old) (L.has_failed log.new)
+    ensures notes { (l : Lists) → HoldsLists store.old l → LogsAll L.EventLog log.old log.new
         (first_returned device res1 (queue_of (place_of device) l) l).events }
 {
     let queue = queue(device);

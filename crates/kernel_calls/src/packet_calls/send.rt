@@ -1,14 +1,14 @@
 // A task sends a packet.
 ghost use Rattle.std.specs.Prelude.{◌≡◌, ◌+◌, ◌&&◌, not, true};
 ghost use Rattle.kernel_lists.specs.GetvecChain.Block.{has_data};
-ghost use Rattle.kernel_model.specs.KernelRecord.ChangedStore.{HasKeeper};
 ghost use Rattle.kernel_model.specs.KernelRecord.HoldsLists.{HoldsLists};
 ghost use Rattle.kernel_model.specs.KernelRecord.Lists.{Lists};
-ghost use Rattle.kernel_model.specs.KernelRecord.NotedEvents.{NotesAll};
 ghost use Rattle.kernel_calls.specs.CallAnswers.Callers.{HasCaller};
 ghost use Rattle.kernel_calls.specs.CallAnswers.Made.{IsMade, plain_answer};
 ghost use Rattle.kernel_calls.specs.CallAnswers.Refusals.{answer_of, first_refusal};
 ghost use Rattle.kernel_calls.specs.PacketCalls.Qpkt.{is_lodged, packet_tests, qpkt};
+ghost use Rattle.kernel_model.specs.KernelRecord.LoggedEvents.{LogsAll};
+ghost use Rattle.kernel_model.specs.WordKinds.KeptStores.{IsKeptBy};
 
 use crate::call_answers::caller;
 use crate::call_answers::codes::{LINK_IN_USE, MISPLACED, NO_DESTINATION};
@@ -32,15 +32,14 @@ pub fn qpkt<Q: KindKeeper, L: EventLog>(
     p: u32,
     log: &mut L,
 ) -> Result<(), u32>
-    requires { (l : Lists) × HasKeeper store.old (Q.tells kinds.old) (Q.room kinds.old) l
+    requires { (l : Lists) × IsKeptBy Q.KindKeeper store.old kinds.old l
         × HasCaller l }
-    ensures made { (l : Lists) → HasKeeper store.old (Q.tells kinds.old) (Q.room kinds.old) l
+    ensures made { (l : Lists) → IsKeptBy Q.KindKeeper store.old kinds.old l
         → HasCaller l
         → IsMade store.old store.new (Q.tells kinds.new) (plain_answer result)
         (qpkt store.old l p) }
-    ensures notes { (l : Lists) → HasKeeper store.old (Q.tells kinds.old) (Q.room kinds.old) l
-        → HasCaller l → NotesAll (L.noted log.old) (L.noted log.new)
-        (L.has_failed log.old) (L.has_failed log.new) (qpkt store.old l p).events }
+    ensures notes { (l : Lists) → IsKeptBy Q.KindKeeper store.old kinds.old l
+        → HasCaller l → LogsAll L.EventLog log.old log.new (qpkt store.old l p).events }
     ensures room { Q.room kinds.new ≡ Q.room kinds.old }
 {
     check_packet(store, kinds, p)?;
@@ -55,8 +54,8 @@ pub fn qpkt<Q: KindKeeper, L: EventLog>(
 
 // Refused where the packet may not come into a queue.
 fn check_packet<Q: KindKeeper>(store: &Store, kinds: &Q, p: u32) -> Result<(), u32>
-    requires { (l : Lists) × HasKeeper store.now (Q.tells kinds.now) (Q.room kinds.now) l }
-    ensures { (l : Lists) → HasKeeper store.now (Q.tells kinds.now) (Q.room kinds.now) l
+    requires { (l : Lists) × IsKeptBy Q.KindKeeper store.now kinds.now l }
+    ensures { (l : Lists) → IsKeptBy Q.KindKeeper store.now kinds.now l
         → result ≡ answer_of (first_refusal (packet_tests store.now l p)) }
 {
     if !is_lodged(store, p) {

@@ -4,11 +4,11 @@ ghost use Rattle.kernel_model.specs.KernelRecord.Ranges.{most_steps};
 ghost use Rattle.kernel_model.specs.KernelRecord.HoldsLists.{HoldsLists};
 ghost use Rattle.kernel_model.specs.KernelRecord.Kernel.{Kernel};
 ghost use Rattle.kernel_model.specs.KernelRecord.Lists.{Lists};
-ghost use Rattle.kernel_model.specs.KernelRecord.NotedEvents.{NotesAll};
 ghost use Rattle.kernel_model.specs.KernelRecord.ValidKernel.{IsValid};
 ghost use Rattle.kernel_machine.specs.RunningMachine.Stands.{Stands};
 ghost use Rattle.kernel_machine.specs.KernelSteps.Step.{boot_events, first_events, run_events, step};
 ghost use Rattle.kernel_machine.specs.RunningMachine.Machine.{kernel_of, with_byte_typed};
+ghost use Rattle.kernel_model.specs.KernelRecord.LoggedEvents.{LogsAll};
 
 use crate::running_machine::Parts;
 use crate::running_machine::steps::step_or_stay;
@@ -100,8 +100,7 @@ impl Machine {
     /// Notes the events of the boot of a machine that has taken no step: where there are residents, that the console has sent its key
     /// packet and that the shell's packet has come to it; and then that its running task runs, where there is one.
     pub fn note_boot<L: EventLog>(&self, log: &mut L)
-        ensures { NotesAll (L.noted log.old) (L.noted log.new) (L.has_failed log.old)
-            (L.has_failed log.new) (boot_events self.now.kernel) }
+        ensures { LogsAll L.EventLog log.old log.new (boot_events self.now.kernel) }
     {
         note_residents(&self.parts.store, log);
         note_running(&self.parts.store, log);
@@ -122,8 +121,7 @@ impl Machine {
         requires { self.old.kernel.steps < most_steps }
         ensures kernel { self.new.kernel ≡ (step self.old.kernel).kernel }
         ensures output { self.new.output ≡ (step self.old.kernel).bytes }
-        ensures events { NotesAll (L.noted log.old) (L.noted log.new) (L.has_failed log.old)
-            (L.has_failed log.new) (step self.old.kernel).events }
+        ensures events { LogsAll L.EventLog log.old log.new (step self.old.kernel).events }
         ensures stop { result ≡ self.new.kernel.stop }
         ensures keys { self.new.keys ≡ self.old.keys }
     {
@@ -137,8 +135,7 @@ impl Machine {
 fn note_residents<L: EventLog>(store: &Store, log: &mut L)
     requires { (l : Lists) × HoldsLists store.now l }
     ensures { (l : Lists) → HoldsLists store.now l
-        → NotesAll (L.noted log.old) (L.noted log.new) (L.has_failed log.old)
-        (L.has_failed log.new) (first_events l.residents) }
+        → LogsAll L.EventLog log.old log.new (first_events l.residents) }
 {
     if root(store, RootField::Residents) == 0 {
         return;
@@ -159,8 +156,7 @@ fn note_residents<L: EventLog>(store: &Store, log: &mut L)
 fn note_running<L: EventLog>(store: &Store, log: &mut L)
     requires { (l : Lists) × HoldsLists store.now l }
     ensures { (l : Lists) → HoldsLists store.now l
-        → NotesAll (L.noted log.old) (L.noted log.new) (L.has_failed log.old)
-        (L.has_failed log.new) (run_events l.running) }
+        → LogsAll L.EventLog log.old log.new (run_events l.running) }
 {
     let task = running(store);
     if task != 0 {

@@ -1,10 +1,10 @@
 // Several steps of a machine with a kernel.
 ghost use Rattle.std.specs.Prelude.{◌≡◌, ◌<◌, ◌+◌, ◌≤◌, [], MatchOption, None, ℕ};
-ghost use Rattle.kernel_model.specs.KernelRecord.NotedEvents.{NotesAll};
 ghost use Rattle.kernel_model.specs.KernelRecord.Ranges.{most_steps};
 ghost use Rattle.kernel_machine.specs.KernelSteps.Step.{quietly, run};
 ghost use Rattle.kernel_machine.specs.RunningMachine.PlainSteps.{IsPlain, IsPlainStep};
 ghost use Rattle.kernel_machine.specs.RunningMachine.Runs.{AreQuiet, Avoids, IsIdle, IsQuietButLast, is_met};
+ghost use Rattle.kernel_model.specs.KernelRecord.LoggedEvents.{LogsAll};
 
 use crate::running_machine::machine::Machine;
 use crate::running_machine::plain_steps::execute_one;
@@ -27,8 +27,7 @@ impl Machine {
         ensures before { Avoids breakpoints.now result self.old.kernel }
         ensures kernel { self.new.kernel ≡ (run result self.old.kernel).kernel }
         ensures output { self.new.output ≡ (run result self.old.kernel).bytes }
-        ensures events { NotesAll (L.noted log.old) (L.noted log.new) (L.has_failed log.old)
-            (L.has_failed log.new) (run result self.old.kernel).events }
+        ensures events { LogsAll L.EventLog log.old log.new (run result self.old.kernel).events }
         ensures keys { self.new.keys ≡ self.old.keys }
     {
         let quiet = self.pass(most, breakpoints);

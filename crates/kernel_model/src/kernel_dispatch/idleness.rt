@@ -1,8 +1,8 @@
 // Nobody runs.
 ghost use Rattle.std.specs.Prelude.{◌≡◌};
-ghost use Rattle.kernel_model.specs.KernelRecord.NotedEvents.{NotesAll};
 ghost use Rattle.kernel_model.specs.KernelRecord.ValidTasks.{no_regs};
 ghost use Rattle.kernel_model.specs.KernelDispatch.DispatchWords.{idle_events, with_nobody_running};
+ghost use Rattle.kernel_model.specs.KernelRecord.LoggedEvents.{LogsAll};
 
 use crate::kernel_dispatch::registers::no_regs;
 use crate::kernel_dispatch::saving::suspend;
@@ -13,8 +13,7 @@ use word_store::{Regs, Store};
 pub(crate) fn idle<L: EventLog>(store: &mut Store, regs: &mut Regs, log: &mut L)
     ensures words { store.new ≡ with_nobody_running store.old regs.old }
     ensures regs { regs.new ≡ no_regs }
-    ensures events { NotesAll (L.noted log.old) (L.noted log.new) (L.has_failed log.old)
-        (L.has_failed log.new) (idle_events store.old) }
+    ensures events { LogsAll L.EventLog log.old log.new (idle_events store.old) }
 {
     let ran = root(store, RootField::Running);
     suspend(store, regs);

@@ -4,6 +4,7 @@ ghost use Rattle.byte_streams.specs.Sinks.{FailsBySink, PrintsTo};
 ghost use Rattle.kernel_model.specs.KernelRecord.NotedEvents.{NotesAll};
 ghost use Rattle.program_answers.specs.TraceLog.Trails.{events_of};
 ghost use Rattle.program_answers.specs.TraceLog.Traced.{GivesPending, lines_of};
+ghost use Rattle.kernel_model.specs.KernelRecord.LoggedEvents.{LogsAll};
 
 use crate::trace_log::{TraceLog, TraceWords};
 use byte_streams::{Output, Sink, SinkFault, pass_on};
@@ -11,8 +12,7 @@ use kernel_lists::{EventLog, KernelEvent};
 
 /// Notes the events in order.
 pub fn note_all<L: EventLog>(log: &mut L, events: &[KernelEvent])
-    ensures { NotesAll (L.noted log.old) (L.noted log.new) (L.has_failed log.old)
-        (L.has_failed log.new) events.now }
+    ensures { LogsAll L.EventLog log.old log.new events.now }
 {
     for event in events {
         log.note(*event);

@@ -3,7 +3,6 @@ ghost use Rattle.std.specs.Prelude.{◌≡◌, ◌&&◌, List, Ok, is_some, not,
 ghost use Rattle.kernel_lists.specs.OwnedWords.Owned.{owners};
 ghost use Rattle.kernel_model.specs.KernelRecord.HoldsLists.{HoldsLists};
 ghost use Rattle.kernel_model.specs.KernelRecord.Lists.{Lists};
-ghost use Rattle.kernel_model.specs.KernelRecord.NotedEvents.{NotesAll};
 ghost use Rattle.kernel_model.specs.KernelRecord.Owned.{owned};
 ghost use Rattle.kernel_calls.specs.CallAnswers.Made.{Leaves};
 ghost use Rattle.kernel_calls.specs.CallAnswers.Outside.{outside};
@@ -12,6 +11,7 @@ ghost use Rattle.resident_tasks.specs.ConsoleHandler.ConsoleTurn.{keys_sent, wit
 ghost use Rattle.resident_tasks.specs.ConsoleHandler.KeyPacket.{FindsKeys, keys_taken};
 ghost use Rattle.resident_tasks.specs.ConsoleHandler.Progress.{IsDone, Progress, Start};
 ghost use Rattle.resident_tasks.specs.ResidentRequests.Requests.{RunsResident};
+ghost use Rattle.kernel_model.specs.KernelRecord.LoggedEvents.{LogsAll};
 
 use crate::console_handler::lines::ConsoleState;
 use kernel_calls::{Queue, send_own, taken, unqueue};
@@ -27,8 +27,7 @@ pub fn take_keys<L: EventLog>(store: &mut Store, log: &mut L) -> u32
     ensures taken { (l : Lists) → HoldsLists store.old l → FindsKeys l
         → Leaves store.old store.new (Ok result) (keys_taken l) }
     ensures notes { (l : Lists) → HoldsLists store.old l → FindsKeys l
-        → NotesAll (L.noted log.old) (L.noted log.new)
-        (L.has_failed log.old) (L.has_failed log.new) (keys_taken l).events }
+        → LogsAll L.EventLog log.old log.new (keys_taken l).events }
     ensures same { (l : Lists) (a : ℕ) → HoldsLists store.old l → FindsKeys l
         → owners a (owned (keys_taken l).lists) ≡ owners a (owned l) }
     ensures runs { (l : Lists) → HoldsLists store.old l → FindsKeys l

@@ -6,9 +6,9 @@ ghost use Rattle.resident_tasks.specs.ResidentRequests.Requests.{RunsResident, w
 ghost use Rattle.resident_tasks.specs.FaultReporter.FaultTurns.{IsFaultFirst, sender_of, fault_taken_from};
 ghost use Rattle.kernel_model.specs.KernelRecord.HoldsLists.{HoldsLists};
 ghost use Rattle.kernel_model.specs.KernelRecord.Lists.{Lists, has_task};
-ghost use Rattle.kernel_model.specs.KernelRecord.NotedEvents.{NotesAll};
 ghost use Rattle.kernel_calls.specs.CallAnswers.Callers.{HasCaller};
 ghost use Rattle.resident_tasks.specs.FaultReporter.Recorded.{OwnsSame, sent, sent_events};
+ghost use Rattle.kernel_model.specs.KernelRecord.LoggedEvents.{LogsAll};
 
 use kernel_calls::{Queue, accepted, caller, has_packet, send, taken, unqueue};
 use kernel_lists::{EventLog, RootField, TcbField, field, find, root};
@@ -21,7 +21,7 @@ pub(crate) fn send_packet<L: EventLog>(store: &mut Store, log: &mut L)
     ensures sent { (l : Lists) → HoldsLists store.old l → HasCaller l → has_task REPORTER l.tasks ≡ true
         → OwnsSame store.old store.new l (sent l) }
     ensures notes { (l : Lists) → HoldsLists store.old l → HasCaller l → has_task REPORTER l.tasks ≡ true
-        → NotesAll (L.noted log.old) (L.noted log.new) (L.has_failed log.old) (L.has_failed log.new)
+        → LogsAll L.EventLog log.old log.new
         (sent_events l) }
 {
     let Some(reporter) = find(store, REPORTER) else {
@@ -44,8 +44,7 @@ pub(crate) fn take_packet<L: EventLog>(store: &mut Store, log: &mut L)
     ensures taken { (l : Lists) → HoldsLists store.old l → RunsResident l → l.running ≡ REPORTER
         → IsFaultFirst (work l) → OwnsSame store.old store.new l (fault_taken_from (work l) l) }
     ensures notes { (l : Lists) → HoldsLists store.old l → RunsResident l → l.running ≡ REPORTER
-        → IsFaultFirst (work l) → NotesAll (L.noted log.old) (L.noted log.new)
-        (L.has_failed log.old) (L.has_failed log.new)
+        → IsFaultFirst (work l) → LogsAll L.EventLog log.old log.new
         (Taken (signed REPORTER) FAULT_PACKET (signed (sender_of (work l))) ∷ []) }
 {
     let task = root(store, RootField::Running);

@@ -2,8 +2,8 @@
 ghost use Rattle.std.specs.Prelude.{◌≡◌};
 ghost use Rattle.kernel_model.specs.KernelRecord.HoldsLists.{HoldsLists};
 ghost use Rattle.kernel_model.specs.KernelRecord.Lists.{Lists};
-ghost use Rattle.kernel_model.specs.KernelRecord.NotedEvents.{NotesAll};
 ghost use Rattle.resident_tasks.specs.FaultReporter.Recorded.{CanRecord, OwnsSame, held_with, recorded, recorded_events};
+ghost use Rattle.kernel_model.specs.KernelRecord.LoggedEvents.{LogsAll};
 
 use crate::fault_reporter::packet::send_packet;
 use instruction_set::Fault;
@@ -20,7 +20,7 @@ pub fn record_fault<L: EventLog>(store: &mut Store, fault: Fault, log: &mut L)
     ensures recorded { (l : Lists) → HoldsLists store.old l → CanRecord l fault
         → OwnsSame store.old store.new l (recorded fault l) }
     ensures notes { (l : Lists) → HoldsLists store.old l → CanRecord l fault
-        → NotesAll (L.noted log.old) (L.noted log.new) (L.has_failed log.old) (L.has_failed log.new)
+        → LogsAll L.EventLog log.old log.new
         (recorded_events fault l) }
 {
     hold_with(store, fault);

@@ -2,10 +2,8 @@
 ghost use Rattle.std.specs.Prelude.{◌≡◌, ◌+◌, ◌++◌, [], ◌∷◌};
 ghost use Rattle.word_store.specs.Arithmetic.{signed};
 ghost use Rattle.kernel_lists.specs.declared.packet_queue.events.KernelEvent.TheVariants.{Taken};
-ghost use Rattle.kernel_model.specs.KernelRecord.ChangedStore.{HasKeeper};
 ghost use Rattle.kernel_model.specs.KernelRecord.HoldsLists.{HoldsLists};
 ghost use Rattle.kernel_model.specs.KernelRecord.Lists.{Lists};
-ghost use Rattle.kernel_model.specs.KernelRecord.NotedEvents.{NotesAll};
 ghost use Rattle.kernel_calls.specs.CallAnswers.Outside.{outside};
 ghost use Rattle.resident_tasks.specs.ResidentRequests.Answers.{finished};
 ghost use Rattle.resident_tasks.specs.ResidentRequests.Requests.{RunsResident, work};
@@ -13,6 +11,8 @@ ghost use Rattle.resident_tasks.specs.ResidentRequests.Turns.{IsResidentTurn};
 ghost use Rattle.resident_tasks.specs.FaultReporter.FaultTurns.{CanReport, IsFaultFirst, all_reported, fault_turn, is_fault_first, sender_of, fault_taken_from};
 ghost use Rattle.resident_tasks.specs.FaultReporter.Recorded.{OwnsSame};
 ghost use Rattle.resident_tasks.specs.FaultReporter.Texts.{reports};
+ghost use Rattle.kernel_model.specs.KernelRecord.LoggedEvents.{LogsAll};
+ghost use Rattle.kernel_model.specs.WordKinds.KeptStores.{IsKeptBy};
 
 use crate::fault_reporter::packet::take_packet;
 use crate::fault_reporter::reports::{mark_reports, print_reports};
@@ -33,9 +33,9 @@ pub fn fault_turn<Q: KindKeeper, L: EventLog>(
     out: &mut Output,
     log: &mut L,
 )
-    requires { (l : Lists) × HasKeeper store.old (Q.tells kinds.old) (Q.room kinds.old) l
+    requires { (l : Lists) × IsKeptBy Q.KindKeeper store.old kinds.old l
         × CanReport out.old l }
-    ensures turn { (l : Lists) → HasKeeper store.old (Q.tells kinds.old) (Q.room kinds.old) l
+    ensures turn { (l : Lists) → IsKeptBy Q.KindKeeper store.old kinds.old l
         → CanReport out.old l → IsResidentTurn store.new (Q.tells kinds.new)
         (outside out.old (L.noted log.old) (L.has_failed log.old))
         (outside out.new (L.noted log.new) (L.has_failed log.new)) (fault_turn store.old l) }
@@ -83,8 +83,7 @@ fn report_faults<L: EventLog>(store: &mut Store, out: &mut Output, log: &mut L)
     ensures bytes { (l : Lists) → HoldsLists store.old l → CanReport out.old l
         → IsFaultFirst (work l) → out.new ≡ out.old ++ reports l }
     ensures notes { (l : Lists) → HoldsLists store.old l → CanReport out.old l
-        → IsFaultFirst (work l) → NotesAll (L.noted log.old) (L.noted log.new)
-        (L.has_failed log.old) (L.has_failed log.new)
+        → IsFaultFirst (work l) → LogsAll L.EventLog log.old log.new
         (Taken (signed REPORTER) FAULT_PACKET (signed (sender_of (work l))) ∷ []) }
 {
     take_packet(store, log);

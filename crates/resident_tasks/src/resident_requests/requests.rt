@@ -1,11 +1,11 @@
 // A resident takes a request.
 ghost use Rattle.std.specs.Prelude.{◌≡◌};
-ghost use Rattle.kernel_model.specs.KernelRecord.ChangedStore.{HasKeeper};
 ghost use Rattle.kernel_model.specs.KernelRecord.HoldsLists.{HoldsLists};
 ghost use Rattle.kernel_model.specs.KernelRecord.Lists.{Lists};
-ghost use Rattle.kernel_model.specs.KernelRecord.NotedEvents.{NotesAll};
 ghost use Rattle.kernel_calls.specs.PacketCalls.TaskWait.{first_of_queue};
 ghost use Rattle.resident_tasks.specs.ResidentRequests.Requests.{IsTaken, RunsResident, TakesRequest, request_at, taken, work};
+ghost use Rattle.kernel_model.specs.KernelRecord.LoggedEvents.{LogsAll};
+ghost use Rattle.kernel_model.specs.WordKinds.KeptStores.{IsKeptBy};
 
 use kernel_calls::{Queue, taken, unqueue};
 use kernel_lists::{EventLog, RootField, TcbField, field, root};
@@ -41,13 +41,12 @@ pub fn take_request<Q: KindKeeper, L: EventLog>(
     kinds: &mut Q,
     log: &mut L,
 ) -> Option<Request>
-    requires { (l : Lists) × HasKeeper store.old (Q.tells kinds.old) (Q.room kinds.old) l
+    requires { (l : Lists) × IsKeptBy Q.KindKeeper store.old kinds.old l
         × TakesRequest l }
-    ensures taken { (l : Lists) → HasKeeper store.old (Q.tells kinds.old) (Q.room kinds.old) l
+    ensures taken { (l : Lists) → IsKeptBy Q.KindKeeper store.old kinds.old l
         → TakesRequest l → IsTaken store.old store.new (Q.tells kinds.new) l result }
-    ensures notes { (l : Lists) → HasKeeper store.old (Q.tells kinds.old) (Q.room kinds.old) l
-        → TakesRequest l → NotesAll (L.noted log.old) (L.noted log.new)
-        (L.has_failed log.old) (L.has_failed log.new) (taken l).events }
+    ensures notes { (l : Lists) → IsKeptBy Q.KindKeeper store.old kinds.old l
+        → TakesRequest l → LogsAll L.EventLog log.old log.new (taken l).events }
     ensures room { Q.room kinds.new ≡ Q.room kinds.old }
 {
     let task = root(store, RootField::Running);

@@ -1,12 +1,12 @@
 // The shell sends its packet.
 ghost use Rattle.std.specs.Prelude.{◌≡◌};
-ghost use Rattle.kernel_model.specs.KernelRecord.ChangedStore.{HasKeeper};
 ghost use Rattle.kernel_model.specs.KernelRecord.Lists.{Lists};
-ghost use Rattle.kernel_model.specs.KernelRecord.NotedEvents.{NotesAll};
 ghost use Rattle.kernel_lists.specs.OwnedWords.Owned.{written};
 ghost use Rattle.kernel_model.specs.KernelRecord.Standing.{standing};
 ghost use Rattle.shell.specs.ShellPrograms.ShellPacket.{CanPost, post_events, posted, request_words, requested};
 ghost use Rattle.shell.specs.ShellPrograms.Standings.{HasStanding};
+ghost use Rattle.kernel_model.specs.KernelRecord.LoggedEvents.{LogsAll};
+ghost use Rattle.kernel_model.specs.WordKinds.KeptStores.{IsKeptBy};
 
 use kernel_calls::send_own;
 use kernel_lists::EventLog;
@@ -23,14 +23,13 @@ pub fn send_shell_packet<Q: KindKeeper, L: EventLog>(
     kind: u32,
     log: &mut L,
 )
-    requires { (l : Lists) × HasKeeper store.old (Q.tells kinds.old) (Q.room kinds.old) l
+    requires { (l : Lists) × IsKeptBy Q.KindKeeper store.old kinds.old l
         × CanPost l to }
-    ensures sent { (l : Lists) → HasKeeper store.old (Q.tells kinds.old) (Q.room kinds.old) l
+    ensures sent { (l : Lists) → IsKeptBy Q.KindKeeper store.old kinds.old l
         → CanPost l to → HasStanding store.new (Q.tells kinds.new) (Q.room kinds.new)
         (requested to kind (standing store.old l)) }
-    ensures notes { (l : Lists) → HasKeeper store.old (Q.tells kinds.old) (Q.room kinds.old) l
-        → CanPost l to → NotesAll (L.noted log.old) (L.noted log.new)
-        (L.has_failed log.old) (L.has_failed log.new) (post_events to) }
+    ensures notes { (l : Lists) → IsKeptBy Q.KindKeeper store.old kinds.old l
+        → CanPost l to → LogsAll L.EventLog log.old log.new (post_events to) }
     ensures room { Q.room kinds.new ≡ Q.room kinds.old }
 {
     write_request(store, kind);
@@ -57,14 +56,13 @@ pub fn post_shell_packet<Q: KindKeeper, L: EventLog>(
     to: u32,
     log: &mut L,
 )
-    requires { (l : Lists) × HasKeeper store.old (Q.tells kinds.old) (Q.room kinds.old) l
+    requires { (l : Lists) × IsKeptBy Q.KindKeeper store.old kinds.old l
         × CanPost l to }
-    ensures sent { (l : Lists) → HasKeeper store.old (Q.tells kinds.old) (Q.room kinds.old) l
+    ensures sent { (l : Lists) → IsKeptBy Q.KindKeeper store.old kinds.old l
         → CanPost l to → HasStanding store.new (Q.tells kinds.new) (Q.room kinds.new)
         (posted to (standing store.old l)) }
-    ensures notes { (l : Lists) → HasKeeper store.old (Q.tells kinds.old) (Q.room kinds.old) l
-        → CanPost l to → NotesAll (L.noted log.old) (L.noted log.new)
-        (L.has_failed log.old) (L.has_failed log.new) (post_events to) }
+    ensures notes { (l : Lists) → IsKeptBy Q.KindKeeper store.old kinds.old l
+        → CanPost l to → LogsAll L.EventLog log.old log.new (post_events to) }
     ensures room { Q.room kinds.new ≡ Q.room kinds.old }
 {
     send_own(store, kinds, SHELL_PACKET, SHELL, signed(to), log);
