@@ -44,4 +44,3 @@ pub fn listed_law()
 pub use assembly_text::assemble;
 pub use module_listing::disassemble_module;
 pub use module_listing::lines::gather_line;
-pub use module_text::TextEnd as AsmEnd;

@@ -8,8 +8,8 @@ use Rattle.session_text.specs.declared.sessions.Session.{Session}
 use Rattle.session_text.specs.declared.sessions.SessionLine.{SessionLine}
 use Rattle.session_text.specs.declared.sessions.LineForm.{LineForm}
 use Rattle.session_text.specs.declared.sessions.LineForm.TheVariants.{Code, File, Task}
-use Rattle.bare_machine.specs.declared.boot.BootEnd.{BootEnd}
-use Rattle.bare_machine.specs.declared.boot.BootEnd.TheVariants.{Line, WantMemory}
+use Rattle.session_text.specs.declared.boot_ends.BootEnd.{BootEnd}
+use Rattle.session_text.specs.declared.boot_ends.BootEnd.TheVariants.{Line, WantMemory}
 use Rattle.bare_machine.specs.State.{BareState}
 
 -- the byte address of the program

@@ -4,34 +4,11 @@ ghost use Rattle.kernel_model.specs.KernelRecord.Ranges.{is_store_size};
 ghost use Rattle.bare_machine.specs.Boot.{Boots, boot, code_of, with_bytes, with_lines};
 
 use crate::{Bare, BareParts};
-use session_text::{LineForm, Session, SessionLine};
+use session_text::{BootEnd, LineForm, Session, SessionLine};
 use std::alloc::Global;
-use thiserror::Error;
-use word_store::{NoStoreMemory, Regs, Store};
+use word_store::{Regs, Store};
 
 const PROGRAM: u32 = 800;
-
-/// Why a session does not boot.
-#[derive(Clone, Copy, Debug, Error)]
-pub enum BootEnd {
-    /// What this line of the session puts into the machine has no place there: code 1 where its bytes pass the store's end.
-    #[error("no boot: line {line} code {code}")]
-    Line { line: u32, code: u32 },
-    /// Memory could not be had.
-    #[error("memory could not be had")]
-    WantMemory,
-}
-
-impl From<NoStoreMemory> for BootEnd {
-    ghost use Rattle.std.specs.Prelude.{◌≡◌};
-    ghost use Rattle.bare_machine.specs.declared.boot.BootEnd.TheVariants.{WantMemory};
-
-    ghost from_gives = { λ _ e. e ≡ WantMemory };
-
-    fn from(_: NoStoreMemory) -> BootEnd {
-        BootEnd::WantMemory
-    }
-}
 
 /// The machine of a bare session before its first step: its code stands in the store from byte 800 on, and all other words are 0.
 /// The first line whose bytes pass the store's end is refused with code 1. `WantMemory` comes only where memory could not be had.

@@ -12,8 +12,7 @@ use crate::breakpoints::Breakpoints;
 use crate::limits::Limits;
 use crate::places::gather_place;
 use byte_streams::{Output, Sink, SinkFault, gather};
-use kernel_lists::NoLog;
-use kernel_model::numbers::FIRST_GUEST;
+use kernel_lists::{FIRST_GUEST, NoLog};
 use tripos_machine::Machine;
 
 /// Takes at most so many steps, and gathers their console bytes, and where the machine stands then.

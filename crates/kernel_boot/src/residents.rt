@@ -7,10 +7,10 @@ ghost use Rattle.kernel_boot.specs.BootWords.{block_pairs, chain_pairs, fault_pa
 ghost use Rattle.kernel_boot.specs.ResidentKernel.{resident_block_size, resident_lists};
 
 use crate::start::write_root;
-use kernel_lists::{FIRST_BLOCK, NO_QUEUE, RootField, TcbField, set_field, set_root};
+use kernel_lists::{FIRST_BLOCK, NO_QUEUE, RootField, TABLE, TcbField, set_field, set_root};
 use kernel_model::numbers::{
     CONSOLE, FAULT_PACKET, FILE_HANDLER, KEY_PACKET, REPORTER, RESIDENT_DATA, SENDER, SHELL,
-    SHELL_PACKET, TABLE, WAITS,
+    SHELL_PACKET, WAITS,
 };
 use word_store::Store;
 

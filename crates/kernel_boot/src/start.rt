@@ -7,8 +7,7 @@ ghost use Rattle.kernel_model.specs.KernelRecord.Versions.{highest_id_of};
 ghost use Rattle.kernel_boot.specs.BootWords.{root_pairs};
 ghost use Rattle.kernel_boot.specs.EmptyKernel.{empty_lists};
 
-use kernel_lists::{FIRST_BLOCK, RootField, make, set_root};
-use kernel_model::numbers::TABLE;
+use kernel_lists::{FIRST_BLOCK, RootField, TABLE, make, set_root};
 use word_store::Store;
 
 /// Makes a kernel in a store of zeros: the root node, the task table, and one free block of all words from 200 up to the end

@@ -10,9 +10,9 @@ ghost use Rattle.kernel_model.specs.KernelRecord.Recovered.{lists_in, task_in};
 ghost use Rattle.kernel_model.specs.KernelRecord.Running.{RunsAs, RunsIf};
 
 use crate::list_passes::running_of;
-use kernel_lists::{RootField, TcbField, field, root, tasks};
+use kernel_lists::{FIRST_GUEST, RootField, TcbField, field, root, tasks};
 use kernel_model::kernel_dispatch::choose;
-use kernel_model::numbers::{FIRST_GUEST, WAITS};
+use kernel_model::numbers::WAITS;
 use word_store::{Regs, Store};
 
 /// Whether the first ready task runs, or nobody where none is ready, and exactly that task has the state of one that runs. It

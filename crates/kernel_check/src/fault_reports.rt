@@ -12,8 +12,8 @@ ghost use Rattle.kernel_model.specs.KernelRecord.Lists.{has_task};
 ghost use Rattle.kernel_model.specs.KernelRecord.Recovered.{lists_in, packet_in, packets_at, task_in};
 ghost use Rattle.kernel_check.specs.Reports.{is_unreported_as};
 
-use kernel_lists::{NO_QUEUE, TcbField, field, packets, tasks};
-use kernel_model::numbers::{FAULT_PACKET, FAULT_WORD, FIRST_GUEST, REPORTED, REPORTER, SENDER};
+use kernel_lists::{FIRST_GUEST, NO_QUEUE, TcbField, field, packets, tasks};
+use kernel_model::numbers::{FAULT_PACKET, FAULT_WORD, REPORTED, REPORTER, SENDER};
 use store_claims::has_task;
 use word_store::{Store, word, word_at};
 

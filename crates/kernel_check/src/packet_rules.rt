@@ -10,9 +10,9 @@ ghost use Rattle.kernel_check.specs.Places.{place_of};
 
 use crate::list_passes::{has_residents, highest_of};
 use crate::places::QueuePlace;
+use kernel_lists::{FIRST_GUEST, TABLE};
 use kernel_model::numbers::{
-    CONSOLE, FAULT_KIND, FAULT_PACKET, FIRST_GUEST, KEY_PACKET, KEYBOARD, KIND, REPORTER, RES1,
-    RES2, SENDER, TABLE,
+    CONSOLE, FAULT_KIND, FAULT_PACKET, KEY_PACKET, KEYBOARD, KIND, REPORTER, RES1, RES2, SENDER,
 };
 use word_store::{Store, word, word_at};
 

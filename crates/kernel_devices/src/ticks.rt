@@ -7,8 +7,7 @@ ghost use Rattle.kernel_devices.specs.Tick.{due_returned, is_first_due, ticked};
 ghost use Rattle.kernel_model.specs.KernelRecord.LoggedEvents.{LogsAll};
 
 use kernel_calls::{Device, return_first};
-use kernel_lists::{EventLog, RootField, root, set_root};
-use kernel_model::numbers::DUE;
+use kernel_lists::{DUE, EventLog, RootField, root, set_root};
 use word_store::{Store, word_at};
 
 /// The ticks are one more, and every packet at the clock that is due by then is returned to its sender, in the order of the

@@ -4,8 +4,8 @@ use Rattle.module_text.specs.TextReader.Refusal.{Refusal, refusal}
 use Rattle.module_text.specs.TextReader.Steps.{◌>>=◌}
 use Rattle.machine_ring.specs.RingLink.Machines.{behind}
 use Rattle.machine_ring.specs.declared.ring_link.inputs.RingInput.{RingInput}
-use Rattle.bare_machine.specs.declared.boot.BootEnd.{BootEnd}
-use Rattle.bare_machine.specs.declared.boot.BootEnd.TheVariants.{Line, WantMemory}
+use Rattle.session_text.specs.declared.boot_ends.BootEnd.{BootEnd}
+use Rattle.session_text.specs.declared.boot_ends.BootEnd.TheVariants.{Line, WantMemory}
 use Rattle.tripos_machine.specs.Boot.{boot}
 use Rattle.machine_ring.specs.Rings.{Ring, first_ring, terms_of}
 

@@ -14,7 +14,6 @@ mod runs;
 mod start;
 pub mod terms;
 
-pub use bare_machine::boot::BootEnd as RingBoot;
 pub use outcomes::RingOutcome;
 pub use ring_link::{RingInput, read_ring};
 pub use rings::Ring;

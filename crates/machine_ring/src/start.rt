@@ -14,9 +14,8 @@ use crate::left::{LeftEnd, waiting_room};
 use crate::links::LinkParts;
 use crate::ring_link::RingInput;
 use crate::terms::Terms;
-use bare_machine::boot::{BootEnd, BootEnd as RingBoot};
 use byte_streams::WantMemory;
-use session_text::{Bytes, Session};
+use session_text::{BootEnd, Bytes, Session};
 use std::alloc::Global;
 use tripos_machine::{Machine, boot};
 
@@ -25,15 +24,15 @@ impl Ring {
     /// line of a session is refused, with its number in the whole input and the code of `boot`. All memory is taken here; `WantMemory`
     /// comes only where it could not be had.
     #[tactic(auto, unfolding(crate::specs::Boot::booted_ring))]
-    pub fn new(alloc: Global, input: &RingInput) -> Result<Ring, RingBoot>
+    pub fn new(alloc: Global, input: &RingInput) -> Result<Ring, BootEnd>
         requires { IsLawfulRing input.now }
         ensures { BootsRing result (booted_ring input.now) }
     {
         let Ok(link) = link_of(alloc, input) else {
-            return Err(RingBoot::WantMemory);
+            return Err(BootEnd::WantMemory);
         };
         let Ok(room) = waiting_room(alloc) else {
-            return Err(RingBoot::WantMemory);
+            return Err(BootEnd::WantMemory);
         };
         let left = boot_behind(alloc, input.left_line, &input.left)?;
         let right = boot_behind(alloc, input.right_line, &input.right)?;

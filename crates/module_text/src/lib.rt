@@ -19,8 +19,6 @@ pub use lists::{Hunks, WordList};
 pub use modules::{Hunk, Module};
 pub use print::print_module;
 pub use read::read_module;
-pub use text_reader::{
-    TextEnd, TextEnd as HunkEnd, after_word, any_number, number, number_after, split_line,
-};
+pub use text_reader::{TextEnd, after_word, any_number, number, number_after, split_line};
 pub use texts::{SliceText, TextBytes};
 pub use tokens::{NextWord, next_word};

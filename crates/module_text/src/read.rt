@@ -11,7 +11,7 @@ ghost use Rattle.module_text.specs.ModuleOfText.{Adds, Rest, hunk, module_of, pu
 
 use crate::grammar::{Expects, finish};
 use crate::step::{Step, read_token};
-use crate::text_reader::TextEnd as HunkEnd;
+use crate::text_reader::TextEnd;
 use crate::tokens::{Span, next_span};
 use crate::{Hunk, Hunks, Module, SliceText, WordList};
 use std::alloc::Global;
@@ -20,7 +20,7 @@ use std::alloc::Global;
 /// those before it, or of the text's end, and its code: 1 it is no word, 2 the text ends inside an item, 3 no item of this
 /// type may stand here, 4 an offset is not below its hunk's length, 5 the text ends where an item could begin, 6 a token
 /// follows the end word.
-pub fn read_module(alloc: Global, text: &[u8]) -> Result<Module, HunkEnd>
+pub fn read_module(alloc: Global, text: &[u8]) -> Result<Module, TextEnd>
     requires { length text.now < 2 ^ 32 - 1 }
     ensures value { Gives (λ m. m) result (module_of text.now) }
 
@@ -33,7 +33,7 @@ pub fn read_module(alloc: Global, text: &[u8]) -> Result<Module, HunkEnd>
 }
 
 // The module of a text, token by token.
-fn whole_module(alloc: Global, text: &[u8]) -> Result<Module, HunkEnd>
+fn whole_module(alloc: Global, text: &[u8]) -> Result<Module, TextEnd>
     requires { length text.now < 2 ^ 32 - 1 }
     ensures { Gives (λ m. m) result (module_of text.now) }
 {
@@ -53,25 +53,25 @@ fn whole_module(alloc: Global, text: &[u8]) -> Result<Module, HunkEnd>
 }
 
 // A token more, or the refusal of it.
-fn step_or_refusal(text: &[u8], expects: Expects, token: Span) -> Result<Step, HunkEnd>
+fn step_or_refusal(text: &[u8], expects: Expects, token: Span) -> Result<Step, TextEnd>
     requires short { length text.now < 2 ^ 32 - 1 }
     requires some { token.start < token.end }
     requires inside { token.end ≤ length text.now }
     ensures { let step = read_token expects (bytes_in text.now token) in
         result ≡ or_bad (line_at text.now token.start) step }
 {
-    read_token(&SliceText::new(text), expects, token).map_err(|code| HunkEnd::Bad {
+    read_token(&SliceText::new(text), expects, token).map_err(|code| TextEnd::Bad {
         line: line_at(text, token.start),
         code,
     })
 }
 
 // The end of the text, or the refusal of it.
-fn finish_or_refusal(text: &[u8], expects: Expects) -> Result<(), HunkEnd>
+fn finish_or_refusal(text: &[u8], expects: Expects) -> Result<(), TextEnd>
     requires { length text.now < 2 ^ 32 - 1 }
     ensures { result ≡ or_bad (line_at text.now (length text.now)) (finish expects) }
 {
-    finish(expects).map_err(|code| HunkEnd::Bad {
+    finish(expects).map_err(|code| TextEnd::Bad {
         line: line_at(text, text.len() as u32),
         code,
     })
@@ -88,7 +88,7 @@ fn line_at(text: &[u8], place: u32) -> u32
 }
 
 // Adds a word of which this was expected to the hunks: a length begins a hunk.
-fn put(alloc: Global, hunks: &mut Vec<Hunk>, expects: Expects, word: u32) -> Result<(), HunkEnd>
+fn put(alloc: Global, hunks: &mut Vec<Hunk>, expects: Expects, word: u32) -> Result<(), TextEnd>
     ensures added { OnOk result (Adds (put expects word) hunks.old.items hunks.new.items) }
     ensures memory { IfErr result (λ e. e ≡ WantMemory) }
 {
@@ -112,7 +112,7 @@ fn no_words(alloc: Global) -> Hunk
 }
 
 // Adds a word to the last hunk.
-fn push_word(hunks: &mut Vec<Hunk>, word: u32) -> Result<(), HunkEnd>
+fn push_word(hunks: &mut Vec<Hunk>, word: u32) -> Result<(), TextEnd>
     ensures added { let with_word = λ (r : Rest). rest (word ∷ r.words) r.relocations r.hunks in
         OnOk result (Adds with_word hunks.old.items hunks.new.items) }
     ensures memory { IfErr result (λ e. e ≡ WantMemory) }
@@ -124,7 +124,7 @@ fn push_word(hunks: &mut Vec<Hunk>, word: u32) -> Result<(), HunkEnd>
 }
 
 // Adds a relocation to the last hunk.
-fn push_offset(hunks: &mut Vec<Hunk>, offset: u32) -> Result<(), HunkEnd>
+fn push_offset(hunks: &mut Vec<Hunk>, offset: u32) -> Result<(), TextEnd>
     ensures added { let with_offset = λ (r : Rest). rest r.words (offset ∷ r.relocations) r.hunks in
         OnOk result (Adds with_offset hunks.old.items hunks.new.items) }
     ensures memory { IfErr result (λ e. e ≡ WantMemory) }

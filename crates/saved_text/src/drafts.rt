@@ -14,7 +14,7 @@ use crate::saved_lines::{
     Statement, console_of, decoded, read_regs, ring_of, shell_of, statement_of,
 };
 use crate::{Files, Image, Mode, Pipes, SavedFile, SavedPipe, Streams};
-use module_text::{TextEnd as ImageEnd, number_after};
+use module_text::{TextEnd, number_after};
 use session_text::{Bytes, Keys};
 use std::alloc::Global;
 use word_store::{Regs, Store};
@@ -63,7 +63,7 @@ pub struct Draft {
 
 impl Draft {
     /// Nothing was read. `WantMemory` comes only where memory could not be had.
-    pub fn new(alloc: Global) -> Result<Draft, ImageEnd>
+    pub fn new(alloc: Global) -> Result<Draft, TextEnd>
         ensures { Gives (λ d. d) result (Ok first_draft) }
     {
         let store = zeros(alloc, 0)?;
@@ -92,7 +92,7 @@ impl Draft {
 
     /// Reads line n.
     #[tactic(auto, unfolding(crate::specs::ImageOfText::step))]
-    pub fn read_line(&mut self, alloc: Global, n: u32, line: &[u8]) -> Result<(), ImageEnd>
+    pub fn read_line(&mut self, alloc: Global, n: u32, line: &[u8]) -> Result<(), TextEnd>
         ensures value { Gives (λ _. self.new) result (step self.old n line.now) }
         ensures long { OnOk result (self.old.place ≡ Place.Version → 14 ≤ length line.now) }
     {
@@ -110,16 +110,16 @@ impl Draft {
     }
 
     /// The machine, where its last line was read; line n would be the next.
-    pub fn end(self, n: u32) -> Result<Image, ImageEnd>
+    pub fn end(self, n: u32) -> Result<Image, TextEnd>
         ensures { Gives (λ x. x) result (ended self.place self.image n) }
     {
         match self.place {
             Place::End => Ok(self.image),
-            _ => Err(ImageEnd::Bad { line: n, code: 3 }),
+            _ => Err(TextEnd::Bad { line: n, code: 3 }),
         }
     }
 
-    fn read_version(&mut self, n: u32, line: &[u8]) -> Result<(), ImageEnd>
+    fn read_version(&mut self, n: u32, line: &[u8]) -> Result<(), TextEnd>
         ensures value { Gives (λ _. self.new) result (version_step self.old.image n line.now) }
         ensures long { OnOk result (length line.now ≡ 14) }
     {
@@ -128,19 +128,19 @@ impl Draft {
         Ok(())
     }
 
-    fn read_store(&mut self, alloc: Global, n: u32, line: &[u8]) -> Result<(), ImageEnd>
+    fn read_store(&mut self, alloc: Global, n: u32, line: &[u8]) -> Result<(), TextEnd>
         ensures { Gives (λ _. self.new) result (store_step self.old.image n line.now) }
     {
         let words = number_after(b"STORE ", n, line)?;
         if !is_store_size(self.image.version, words) {
-            return Err(ImageEnd::Bad { line: n, code: 2 });
+            return Err(TextEnd::Bad { line: n, code: 2 });
         }
         self.image.store = zeros(alloc, words as u32)?;
         self.place = Place::Machine;
         Ok(())
     }
 
-    fn read_machine(&mut self, n: u32, line: &[u8]) -> Result<(), ImageEnd>
+    fn read_machine(&mut self, n: u32, line: &[u8]) -> Result<(), TextEnd>
         ensures { Gives (λ _. self.new) result (machine_step self.old.image n line.now) }
     {
         if line == b"BARE".as_slice() {
@@ -151,31 +151,31 @@ impl Draft {
         self.read_period(n, line)
     }
 
-    fn read_period(&mut self, n: u32, line: &[u8]) -> Result<(), ImageEnd>
+    fn read_period(&mut self, n: u32, line: &[u8]) -> Result<(), TextEnd>
         ensures { Gives (λ _. self.new) result (tick_step self.old.image n line.now) }
     {
         let period = number_after(b"TICK ", n, line)?;
         if !is_period(period) {
-            return Err(ImageEnd::Bad { line: n, code: 2 });
+            return Err(TextEnd::Bad { line: n, code: 2 });
         }
         self.image.period = period as u32;
         self.place = Place::Step;
         Ok(())
     }
 
-    fn read_step(&mut self, n: u32, line: &[u8]) -> Result<(), ImageEnd>
+    fn read_step(&mut self, n: u32, line: &[u8]) -> Result<(), TextEnd>
         ensures { Gives (λ _. self.new) result (step_step self.old.image n line.now) }
     {
         let step = number_after(b"STEP ", n, line)?;
         if !is_step(step) {
-            return Err(ImageEnd::Bad { line: n, code: 2 });
+            return Err(TextEnd::Bad { line: n, code: 2 });
         }
         self.image.step = step;
         self.place = Place::Regs;
         Ok(())
     }
 
-    fn read_registers(&mut self, n: u32, line: &[u8]) -> Result<(), ImageEnd>
+    fn read_registers(&mut self, n: u32, line: &[u8]) -> Result<(), TextEnd>
         ensures { Gives (λ _. self.new) result (regs_step self.old.image n line.now) }
     {
         self.image.regs = read_regs(n, line)?;
@@ -187,25 +187,25 @@ impl Draft {
         Ok(())
     }
 
-    fn read_ring(&mut self, alloc: Global, n: u32, line: &[u8]) -> Result<(), ImageEnd>
+    fn read_ring(&mut self, alloc: Global, n: u32, line: &[u8]) -> Result<(), TextEnd>
         ensures { Gives (λ _. self.new) result (ring_step self.old.image n line.now) }
     {
         let Some(digits) = ring_of(line) else {
-            return Err(ImageEnd::Bad { line: n, code: 1 });
+            return Err(TextEnd::Bad { line: n, code: 1 });
         };
         self.image.ring = Bytes::new(decoded(alloc, digits)?);
         self.place = Place::Console;
         Ok(())
     }
 
-    fn read_console(&mut self, alloc: Global, n: u32, line: &[u8]) -> Result<(), ImageEnd>
+    fn read_console(&mut self, alloc: Global, n: u32, line: &[u8]) -> Result<(), TextEnd>
         ensures { Gives (λ _. self.new) result (console_step self.old.image n line.now) }
     {
         let Some((d, digits)) = console_of(line) else {
-            return Err(ImageEnd::Bad { line: n, code: 1 });
+            return Err(TextEnd::Bad { line: n, code: 1 });
         };
         let Some(finished) = flag_of(d) else {
-            return Err(ImageEnd::Bad { line: n, code: 2 });
+            return Err(TextEnd::Bad { line: n, code: 2 });
         };
         self.image.line = Bytes::new(decoded(alloc, digits)?);
         self.image.finished = finished;
@@ -213,14 +213,14 @@ impl Draft {
         Ok(())
     }
 
-    fn read_shell(&mut self, alloc: Global, n: u32, line: &[u8]) -> Result<(), ImageEnd>
+    fn read_shell(&mut self, alloc: Global, n: u32, line: &[u8]) -> Result<(), TextEnd>
         ensures { Gives (λ _. self.new) result (shell_step self.old.image n line.now) }
     {
         let Some((m, x, digits)) = shell_of(line) else {
-            return Err(ImageEnd::Bad { line: n, code: 1 });
+            return Err(TextEnd::Bad { line: n, code: 1 });
         };
         let Some(mode) = mode_of(m, x) else {
-            return Err(ImageEnd::Bad { line: n, code: 2 });
+            return Err(TextEnd::Bad { line: n, code: 2 });
         };
         self.image.command = Bytes::new(decoded(alloc, digits)?);
         self.image.mode = mode;
@@ -228,17 +228,17 @@ impl Draft {
         Ok(())
     }
 
-    fn read_entry(&mut self, alloc: Global, n: u32, line: &[u8]) -> Result<(), ImageEnd>
+    fn read_entry(&mut self, alloc: Global, n: u32, line: &[u8]) -> Result<(), TextEnd>
         ensures { Gives (λ _. self.new) result
             (entry_step self.old.place self.old.image n line.now) }
     {
         match statement_of(line) {
             Some(statement) => self.add(alloc, n, statement),
-            None => Err(ImageEnd::Bad { line: n, code: 1 }),
+            None => Err(TextEnd::Bad { line: n, code: 1 }),
         }
     }
 
-    fn add(&mut self, alloc: Global, n: u32, statement: Statement<'_>) -> Result<(), ImageEnd>
+    fn add(&mut self, alloc: Global, n: u32, statement: Statement<'_>) -> Result<(), TextEnd>
         requires { HasHex statement }
         ensures { Gives (λ _. self.new) result
             (statement_step self.old.place self.old.image n (seen statement.entry)) }
@@ -266,15 +266,15 @@ impl Draft {
         }
     }
 
-    fn add_file(&mut self, alloc: Global, n: u32, name: &[u8]) -> Result<(), ImageEnd>
+    fn add_file(&mut self, alloc: Global, n: u32, name: &[u8]) -> Result<(), TextEnd>
         ensures { Gives (λ _. self.new) result
             (file_step self.old.place self.old.image n name.now) }
     {
         if !has_files(self.place) || !self.image.files.are_before(name) {
-            return Err(ImageEnd::Bad { line: n, code: 1 });
+            return Err(TextEnd::Bad { line: n, code: 1 });
         }
         let Some(name) = name_of(name) else {
-            return Err(ImageEnd::Bad { line: n, code: 2 });
+            return Err(TextEnd::Bad { line: n, code: 2 });
         };
         let bytes = no_bytes(alloc);
         self.image.files.push(SavedFile { name, bytes })?;
@@ -282,13 +282,13 @@ impl Draft {
         Ok(())
     }
 
-    fn add_bytes(&mut self, alloc: Global, n: u32, digits: &[u8]) -> Result<(), ImageEnd>
+    fn add_bytes(&mut self, alloc: Global, n: u32, digits: &[u8]) -> Result<(), TextEnd>
         requires { IsTrue (is_hex digits.now) }
         ensures { Gives (λ _. self.new) result
             (bytes_step self.old.place self.old.image n (bytes_of digits.now)) }
     {
         if !has_files(self.place) || !self.image.files.takes_bytes() {
-            return Err(ImageEnd::Bad { line: n, code: 1 });
+            return Err(TextEnd::Bad { line: n, code: 1 });
         }
         self.image.files.add_bytes(alloc, digits)?;
         self.place = Place::File;
@@ -302,18 +302,18 @@ impl Draft {
         mode: u64,
         position: u64,
         name: &[u8],
-    ) -> Result<(), ImageEnd>
+    ) -> Result<(), TextEnd>
         ensures { Gives (λ _. self.new) result
             (stream_step self.old.place self.old.image n k mode position name.now) }
     {
         let Some(floor) = stream_floor(self.place) else {
-            return Err(ImageEnd::Bad { line: n, code: 1 });
+            return Err(TextEnd::Bad { line: n, code: 1 });
         };
         if k < floor {
-            return Err(ImageEnd::Bad { line: n, code: 1 });
+            return Err(TextEnd::Bad { line: n, code: 1 });
         }
         let Some(stream) = stream_of(k, mode, position, name) else {
-            return Err(ImageEnd::Bad { line: n, code: 2 });
+            return Err(TextEnd::Bad { line: n, code: 2 });
         };
         self.image.streams.push(stream)?;
         self.place = Place::Stream(k + 1);
@@ -330,22 +330,22 @@ impl Draft {
         e: u64,
         name: &[u8],
         digits: &[u8],
-    ) -> Result<(), ImageEnd>
+    ) -> Result<(), TextEnd>
         requires { IsTrue (is_hex digits.now) }
         ensures { Gives (λ _. self.new) result
             (pipe_step self.old.place self.old.image n k r w e name.now (bytes_of digits.now)) }
     {
         let Some(floor) = pipe_floor(self.place) else {
-            return Err(ImageEnd::Bad { line: n, code: 1 });
+            return Err(TextEnd::Bad { line: n, code: 1 });
         };
         if k < floor {
-            return Err(ImageEnd::Bad { line: n, code: 1 });
+            return Err(TextEnd::Bad { line: n, code: 1 });
         }
         if !are_pipe_numbers(k, r, w, e) {
-            return Err(ImageEnd::Bad { line: n, code: 2 });
+            return Err(TextEnd::Bad { line: n, code: 2 });
         }
         let Some(name) = name_of(name) else {
-            return Err(ImageEnd::Bad { line: n, code: 2 });
+            return Err(TextEnd::Bad { line: n, code: 2 });
         };
         let pipe = SavedPipe {
             k: k as u32,
@@ -360,47 +360,47 @@ impl Draft {
         Ok(())
     }
 
-    fn add_key(&mut self, n: u32, step: u64, byte: u8) -> Result<(), ImageEnd>
+    fn add_key(&mut self, n: u32, step: u64, byte: u8) -> Result<(), TextEnd>
         ensures { Gives (λ _. self.new) result
             (key_step self.old.place self.old.image n step byte) }
     {
         if !has_keys(self.place) {
-            return Err(ImageEnd::Bad { line: n, code: 1 });
+            return Err(TextEnd::Bad { line: n, code: 1 });
         }
         if !is_step(step) {
-            return Err(ImageEnd::Bad { line: n, code: 2 });
+            return Err(TextEnd::Bad { line: n, code: 2 });
         }
         self.image.keys.push(step, byte)?;
         self.place = Place::Key;
         Ok(())
     }
 
-    fn add_word(&mut self, n: u32, address: u64, word: u32) -> Result<(), ImageEnd>
+    fn add_word(&mut self, n: u32, address: u64, word: u32) -> Result<(), TextEnd>
         ensures { Gives (λ _. self.new) result
             (word_step self.old.place self.old.image n address word) }
     {
         let Some(floor) = word_floor(self.place) else {
-            return Err(ImageEnd::Bad { line: n, code: 1 });
+            return Err(TextEnd::Bad { line: n, code: 1 });
         };
         if address < floor {
-            return Err(ImageEnd::Bad { line: n, code: 1 });
+            return Err(TextEnd::Bad { line: n, code: 1 });
         }
         if address >= u64::from(self.image.store.size()) || word == 0 {
-            return Err(ImageEnd::Bad { line: n, code: 2 });
+            return Err(TextEnd::Bad { line: n, code: 2 });
         }
         self.image.store.set(address as u32, word);
         self.place = Place::Word(address + 1);
         Ok(())
     }
 
-    fn add_go(&mut self, n: u32, go: u64) -> Result<(), ImageEnd>
+    fn add_go(&mut self, n: u32, go: u64) -> Result<(), TextEnd>
         ensures { Gives (λ _. self.new) result (go_step self.old.place self.old.image n go) }
     {
         if !has_go(self.place) {
-            return Err(ImageEnd::Bad { line: n, code: 1 });
+            return Err(TextEnd::Bad { line: n, code: 1 });
         }
         if !may_take(self.image.step, go) {
-            return Err(ImageEnd::Bad { line: n, code: 2 });
+            return Err(TextEnd::Bad { line: n, code: 2 });
         }
         self.image.go = go;
         self.place = Place::End;
@@ -467,7 +467,7 @@ fn has_go(place: Place) -> bool
 // ---- parts of a draft
 
 // The version that line n says.
-fn version_of(n: u32, line: &[u8]) -> Result<u32, ImageEnd>
+fn version_of(n: u32, line: &[u8]) -> Result<u32, TextEnd>
     ensures value { Gives (λ x. x) result (version_line n line.now) }
     ensures long { OnOk result (length line.now ≡ 14) }
 {
@@ -476,17 +476,17 @@ fn version_of(n: u32, line: &[u8]) -> Result<u32, ImageEnd>
     } else if line == b"TRIPOS-IMAGE 2".as_slice() {
         Ok(2)
     } else {
-        Err(ImageEnd::Bad { line: n, code: 1 })
+        Err(TextEnd::Bad { line: n, code: 1 })
     }
 }
 
 // A store of that many zeros.
-fn zeros(alloc: Global, words: u32) -> Result<Store, ImageEnd>
+fn zeros(alloc: Global, words: u32) -> Result<Store, TextEnd>
     ensures { Gives (λ s. s) result (Ok (replicate words 0)) }
 {
     match Store::new(alloc, words) {
         Ok(store) => Ok(store),
-        Err(_) => Err(ImageEnd::WantMemory),
+        Err(_) => Err(TextEnd::WantMemory),
     }
 }
 

@@ -7,7 +7,7 @@ ghost use Rattle.saved_text.specs.Files.{is_behind, takes_bytes, with_bytes, wit
 
 use crate::saved_lines::decoded;
 use crate::{SavedFile, SavedPipe, SavedStream};
-use module_text::TextEnd as ImageEnd;
+use module_text::TextEnd;
 use session_text::Bytes;
 use std::alloc::{AllocFailed, Global};
 use std::marker::Model;
@@ -45,7 +45,7 @@ impl Files {
     }
 
     /// Adds the bytes that these digits are to the last file, if there is one.
-    pub fn add_bytes(&mut self, alloc: Global, digits: &[u8]) -> Result<(), ImageEnd>
+    pub fn add_bytes(&mut self, alloc: Global, digits: &[u8]) -> Result<(), TextEnd>
         requires { IsTrue (is_hex digits.now) }
         ensures { Gives (λ _. self.new) result (Ok (with_bytes self.old (bytes_of digits.now))) }
     {
@@ -91,7 +91,7 @@ fn is_before(a: &[u8], b: &[u8]) -> bool
 }
 
 // The file with the bytes that these digits are behind its bytes.
-fn with_more(alloc: Global, file: SavedFile, digits: &[u8]) -> Result<SavedFile, ImageEnd>
+fn with_more(alloc: Global, file: SavedFile, digits: &[u8]) -> Result<SavedFile, TextEnd>
     requires { IsTrue (is_hex digits.now) }
     ensures { Gives (λ f. f) result (Ok (with_more file (bytes_of digits.now))) }
 {

@@ -7,7 +7,7 @@ ghost use Rattle.saved_text.specs.ImageOfText.{image_of};
 
 use crate::Image;
 use crate::drafts::Draft;
-use module_text::{TextEnd as ImageEnd, split_line};
+use module_text::{TextEnd, split_line};
 use std::alloc::Global;
 
 /// A saved machine, and how many lines its text has.
@@ -23,7 +23,7 @@ pub struct ReadImage {
 /// error, from 1, and its code: 1 where no such form may stand there, or a name, a number or an address does not rise, 2
 /// where a number or a name is out of its range, and 3 where the text ended before its `GO` line, which is one more than the
 /// lines that there are. `WantMemory` comes only where memory could not be had.
-pub fn read_image(alloc: Global, text: &[u8]) -> Result<ReadImage, ImageEnd>
+pub fn read_image(alloc: Global, text: &[u8]) -> Result<ReadImage, TextEnd>
     requires { length text.now < 2 ^ 32 }
     ensures value { Gives (λ r. r.image) result (image_of text.now) }
     ensures lines { IfOk result (λ r. r.lines ≡ length (lines_of text.now)) }
@@ -35,7 +35,7 @@ pub fn read_image(alloc: Global, text: &[u8]) -> Result<ReadImage, ImageEnd>
 }
 
 // The saved machine of a text, line by line.
-fn whole_image(alloc: Global, text: &[u8]) -> Result<ReadImage, ImageEnd>
+fn whole_image(alloc: Global, text: &[u8]) -> Result<ReadImage, TextEnd>
     requires { length text.now < 2 ^ 32 }
     ensures value { Gives (λ r. r.image) result (image_of text.now) }
     ensures lines { IfOk result (λ r. r.lines ≡ length (lines_of text.now)) }

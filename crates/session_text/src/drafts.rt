@@ -11,9 +11,9 @@ use crate::ranges::{
     is_period, is_priority, is_stack, is_step, is_store_size, is_task, name_of, names_of,
 };
 use crate::statements::{Statement, statement_of};
-use crate::{Bytes, Keys, LineForm, Lines, Session, SessionEnd, SessionLine};
+use crate::{Bytes, Keys, LineForm, Lines, Session, SessionLine};
 use hex::FromHexError;
-use module_text::{after_word, number_after};
+use module_text::{TextEnd, after_word, number_after};
 use std::alloc::Global;
 
 /// What may come next in a session.
@@ -71,7 +71,7 @@ impl Draft {
 
     /// Reads line n.
     #[tactic(auto, unfolding(crate::specs::SessionOfText::step))]
-    pub fn read_line(&mut self, alloc: Global, n: u32, line: &[u8]) -> Result<(), SessionEnd>
+    pub fn read_line(&mut self, alloc: Global, n: u32, line: &[u8]) -> Result<(), TextEnd>
         ensures value { Gives (λ _. self.new) result (step self.old n line.now) }
         ensures long { OnOk result (self.old.place ≡ Place.Version → 8 ≤ length line.now) }
     {
@@ -84,21 +84,21 @@ impl Draft {
             Place::Debug => self.read_debug(alloc, n, line),
             Place::Entry => self.read_entry(alloc, n, line),
             Place::Text => self.read_text(alloc, n, line),
-            Place::End => Err(SessionEnd::Bad { line: n, code: 1 }),
+            Place::End => Err(TextEnd::Bad { line: n, code: 1 }),
         }
     }
 
     /// The session, where its last line was read; line n would be the next.
-    pub fn end(self, n: u32) -> Result<Session, SessionEnd>
+    pub fn end(self, n: u32) -> Result<Session, TextEnd>
         ensures { Gives (λ s. s) result (ended self.place self.session n) }
     {
         match self.place {
             Place::End => Ok(self.session),
-            _ => Err(SessionEnd::Bad { line: n, code: 3 }),
+            _ => Err(TextEnd::Bad { line: n, code: 3 }),
         }
     }
 
-    fn read_version(&mut self, n: u32, line: &[u8]) -> Result<(), SessionEnd>
+    fn read_version(&mut self, n: u32, line: &[u8]) -> Result<(), TextEnd>
         ensures value { Gives (λ _. self.new) result (version_step self.old.session n line.now) }
         ensures long { OnOk result (length line.now ≡ 8) }
     {
@@ -107,19 +107,19 @@ impl Draft {
         Ok(())
     }
 
-    fn read_store(&mut self, n: u32, line: &[u8]) -> Result<(), SessionEnd>
+    fn read_store(&mut self, n: u32, line: &[u8]) -> Result<(), TextEnd>
         ensures { Gives (λ _. self.new) result (store_step self.old.session n line.now) }
     {
         let words = number_after(b"STORE ", n, line)?;
         if !is_store_size(self.session.version, words) {
-            return Err(SessionEnd::Bad { line: n, code: 2 });
+            return Err(TextEnd::Bad { line: n, code: 2 });
         }
         self.session.store = words as u32;
         self.place = Place::Machine;
         Ok(())
     }
 
-    fn read_machine(&mut self, n: u32, line: &[u8]) -> Result<(), SessionEnd>
+    fn read_machine(&mut self, n: u32, line: &[u8]) -> Result<(), TextEnd>
         ensures { Gives (λ _. self.new) result (machine_step self.old.session n line.now) }
     {
         if line == b"BARE".as_slice() {
@@ -130,19 +130,19 @@ impl Draft {
         self.read_period(n, line)
     }
 
-    fn read_period(&mut self, n: u32, line: &[u8]) -> Result<(), SessionEnd>
+    fn read_period(&mut self, n: u32, line: &[u8]) -> Result<(), TextEnd>
         ensures { Gives (λ _. self.new) result (tick_step self.old.session n line.now) }
     {
         let period = number_after(b"TICK ", n, line)?;
         if !is_period(period) {
-            return Err(SessionEnd::Bad { line: n, code: 2 });
+            return Err(TextEnd::Bad { line: n, code: 2 });
         }
         self.session.period = period as u32;
         self.place = Place::Resident;
         Ok(())
     }
 
-    fn read_code(&mut self, alloc: Global, n: u32, line: &[u8]) -> Result<(), SessionEnd>
+    fn read_code(&mut self, alloc: Global, n: u32, line: &[u8]) -> Result<(), TextEnd>
         ensures { Gives (λ _. self.new) result (code_step self.old.session n line.now) }
     {
         match after_word(b":", line) {
@@ -151,7 +151,7 @@ impl Draft {
         }
     }
 
-    fn read_bytes(&mut self, alloc: Global, n: u32, digits: &[u8]) -> Result<(), SessionEnd>
+    fn read_bytes(&mut self, alloc: Global, n: u32, digits: &[u8]) -> Result<(), TextEnd>
         ensures { Gives (λ _. self.new) result (bytes_step self.old.session n digits.now) }
     {
         let bytes = bytes_of(alloc, n, digits)?;
@@ -161,19 +161,19 @@ impl Draft {
         Ok(())
     }
 
-    fn read_steps(&mut self, n: u32, line: &[u8]) -> Result<(), SessionEnd>
+    fn read_steps(&mut self, n: u32, line: &[u8]) -> Result<(), TextEnd>
         ensures { Gives (λ _. self.new) result (go_step self.old.session n line.now) }
     {
         let go = number_after(b"GO ", n, line)?;
         if !is_step(go) {
-            return Err(SessionEnd::Bad { line: n, code: 2 });
+            return Err(TextEnd::Bad { line: n, code: 2 });
         }
         self.session.go = go;
         self.place = Place::End;
         Ok(())
     }
 
-    fn read_resident(&mut self, alloc: Global, n: u32, line: &[u8]) -> Result<(), SessionEnd>
+    fn read_resident(&mut self, alloc: Global, n: u32, line: &[u8]) -> Result<(), TextEnd>
         ensures { Gives (λ _. self.new) result (resident_step self.old.session n line.now) }
     {
         if line == b"RESIDENT".as_slice() {
@@ -184,7 +184,7 @@ impl Draft {
         self.read_entry(alloc, n, line)
     }
 
-    fn read_debug(&mut self, alloc: Global, n: u32, line: &[u8]) -> Result<(), SessionEnd>
+    fn read_debug(&mut self, alloc: Global, n: u32, line: &[u8]) -> Result<(), TextEnd>
         ensures { Gives (λ _. self.new) result (debug_step self.old.session n line.now) }
     {
         if line == b"DEBUG".as_slice() {
@@ -195,7 +195,7 @@ impl Draft {
         self.read_entry(alloc, n, line)
     }
 
-    fn read_text(&mut self, alloc: Global, n: u32, line: &[u8]) -> Result<(), SessionEnd>
+    fn read_text(&mut self, alloc: Global, n: u32, line: &[u8]) -> Result<(), TextEnd>
         ensures { Gives (λ _. self.new) result (text_step self.old.session n line.now) }
     {
         match after_word(b":", line) {
@@ -204,27 +204,27 @@ impl Draft {
         }
     }
 
-    fn add_text(&mut self, n: u32, text: &[u8]) -> Result<(), SessionEnd>
+    fn add_text(&mut self, n: u32, text: &[u8]) -> Result<(), TextEnd>
         ensures { Gives (λ _. self.new) result (file_step self.old.session n text.now) }
     {
         if !is_text(text) {
-            return Err(SessionEnd::Bad { line: n, code: 1 });
+            return Err(TextEnd::Bad { line: n, code: 1 });
         }
         self.session.lines.add_text(text)?;
         self.place = Place::Text;
         Ok(())
     }
 
-    fn read_entry(&mut self, alloc: Global, n: u32, line: &[u8]) -> Result<(), SessionEnd>
+    fn read_entry(&mut self, alloc: Global, n: u32, line: &[u8]) -> Result<(), TextEnd>
         ensures { Gives (λ _. self.new) result (entry_step self.old.session n line.now) }
     {
         match statement_of(self.session.version, line) {
             Some(statement) => self.add(alloc, n, statement),
-            None => Err(SessionEnd::Bad { line: n, code: 1 }),
+            None => Err(TextEnd::Bad { line: n, code: 1 }),
         }
     }
 
-    fn add(&mut self, alloc: Global, n: u32, statement: Statement<'_>) -> Result<(), SessionEnd>
+    fn add(&mut self, alloc: Global, n: u32, statement: Statement<'_>) -> Result<(), TextEnd>
         requires { HasFewNames (seen statement) }
         ensures { Gives (λ _. self.new) result
             (statement_step self.old.session n (seen statement.entry)) }
@@ -243,11 +243,11 @@ impl Draft {
         }
     }
 
-    fn add_file(&mut self, alloc: Global, n: u32, name: &[u8]) -> Result<(), SessionEnd>
+    fn add_file(&mut self, alloc: Global, n: u32, name: &[u8]) -> Result<(), TextEnd>
         ensures { Gives (λ _. self.new) result (statement_step self.old.session n (File name.now)) }
     {
         let Some(name) = name_of(name) else {
-            return Err(SessionEnd::Bad { line: n, code: 2 });
+            return Err(TextEnd::Bad { line: n, code: 2 });
         };
         let bytes = Bytes::new(Vec::new(alloc));
         let form = LineForm::File { name, bytes };
@@ -263,16 +263,16 @@ impl Draft {
         pri: u64,
         stack: u64,
         names: &[u8],
-    ) -> Result<(), SessionEnd>
+    ) -> Result<(), TextEnd>
         requires { length (fields names.now) ≤ 8 }
         ensures { Gives (λ _. self.new) result
             (statement_step self.old.session n (Task id pri stack (fields names.now))) }
     {
         if !is_task(self.session.version, id) || !is_priority(pri) || !is_stack(stack) {
-            return Err(SessionEnd::Bad { line: n, code: 2 });
+            return Err(TextEnd::Bad { line: n, code: 2 });
         }
         let Some(names) = names_of(names) else {
-            return Err(SessionEnd::Bad { line: n, code: 2 });
+            return Err(TextEnd::Bad { line: n, code: 2 });
         };
         let form = LineForm::Task {
             id: id as u32,
@@ -285,12 +285,12 @@ impl Draft {
         Ok(())
     }
 
-    fn add_typed(&mut self, n: u32, step: u64, text: &[u8]) -> Result<(), SessionEnd>
+    fn add_typed(&mut self, n: u32, step: u64, text: &[u8]) -> Result<(), TextEnd>
         ensures { Gives (λ _. self.new) result
             (statement_step self.old.session n (At step text.now)) }
     {
         if !is_step(step) {
-            return Err(SessionEnd::Bad { line: n, code: 2 });
+            return Err(TextEnd::Bad { line: n, code: 2 });
         }
         self.session.keys.add_text(step, text)?;
         self.session.keys.push(step, b'\n')?;
@@ -298,22 +298,22 @@ impl Draft {
         Ok(())
     }
 
-    fn add_key(&mut self, n: u32, step: u64, byte: u8) -> Result<(), SessionEnd>
+    fn add_key(&mut self, n: u32, step: u64, byte: u8) -> Result<(), TextEnd>
         ensures { Gives (λ _. self.new) result (statement_step self.old.session n (Key step byte)) }
     {
         if !is_step(step) {
-            return Err(SessionEnd::Bad { line: n, code: 2 });
+            return Err(TextEnd::Bad { line: n, code: 2 });
         }
         self.session.keys.push(step, byte)?;
         self.place = Place::Entry;
         Ok(())
     }
 
-    fn add_steps(&mut self, n: u32, steps: u64) -> Result<(), SessionEnd>
+    fn add_steps(&mut self, n: u32, steps: u64) -> Result<(), TextEnd>
         ensures { Gives (λ _. self.new) result (statement_step self.old.session n (Go steps)) }
     {
         if !is_step(steps) {
-            return Err(SessionEnd::Bad { line: n, code: 2 });
+            return Err(TextEnd::Bad { line: n, code: 2 });
         }
         self.session.go = steps;
         self.place = Place::End;
@@ -322,7 +322,7 @@ impl Draft {
 }
 
 // The version that line n says.
-fn version_of(n: u32, line: &[u8]) -> Result<u32, SessionEnd>
+fn version_of(n: u32, line: &[u8]) -> Result<u32, TextEnd>
     ensures value { Gives (λ x. x) result (version_line n line.now) }
     ensures long { OnOk result (length line.now ≡ 8) }
 {
@@ -331,17 +331,17 @@ fn version_of(n: u32, line: &[u8]) -> Result<u32, SessionEnd>
     } else if line == b"TRIPOS 2".as_slice() {
         Ok(2)
     } else {
-        Err(SessionEnd::Bad { line: n, code: 1 })
+        Err(TextEnd::Bad { line: n, code: 1 })
     }
 }
 
 // The bytes that the digits of line n are.
-fn bytes_of(alloc: Global, n: u32, digits: &[u8]) -> Result<Bytes, SessionEnd>
+fn bytes_of(alloc: Global, n: u32, digits: &[u8]) -> Result<Bytes, TextEnd>
     ensures { Gives (λ b. b) result (bytes_or_refusal n (decode_of digits.now)) }
 {
     match hex::decode(alloc, digits) {
         Ok(bytes) => Ok(Bytes::new(bytes)),
-        Err(FromHexError::OutOfMemory) => Err(SessionEnd::WantMemory),
-        Err(_) => Err(SessionEnd::Bad { line: n, code: 1 }),
+        Err(FromHexError::OutOfMemory) => Err(TextEnd::WantMemory),
+        Err(_) => Err(TextEnd::Bad { line: n, code: 1 }),
     }
 }

@@ -6,8 +6,8 @@ ghost use Rattle.session_text.specs.Canonical.{IsLawful};
 ghost use Rattle.session_text.specs.Front.{front_count, front_end, front_lines, place_after};
 ghost use Rattle.session_text.specs.SessionOfText.{session_lines};
 
-use crate::{Session, SessionEnd, read_session};
-use module_text::split_line;
+use crate::{Session, read_session};
+use module_text::{TextEnd, split_line};
 use std::alloc::Global;
 
 /// A session, and where the lines after it begin.
@@ -24,7 +24,7 @@ pub struct Front {
 /// The session of the lines up to the first that begins with `GO `, that one included, or of all lines where there is none,
 /// with the place after these lines and their number. `Bad` comes exactly where these lines alone are refused, with their
 /// line and code, and `WantMemory` only where memory could not be had.
-pub fn read_front(alloc: Global, text: &[u8]) -> Result<Front, SessionEnd>
+pub fn read_front(alloc: Global, text: &[u8]) -> Result<Front, TextEnd>
     requires { length text.now < 2 ^ 32 }
     ensures lawful { IfOk result (λ f. IsLawful f.session) }
     ensures session { Gives (λ f. f.session) result (session_lines (front_lines text.now)) }

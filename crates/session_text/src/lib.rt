@@ -1,6 +1,7 @@
 // The text of a session: what it says, read and printed.
 #![tactic(auto)]
 
+pub mod boot_ends;
 mod drafts;
 mod fields;
 pub mod fronts;
@@ -12,10 +13,10 @@ pub mod read;
 pub mod sessions;
 mod statements;
 
+pub use boot_ends::BootEnd;
 pub use fields::number_field;
 pub use fronts::{Front, read_front};
 pub use lists::{Bytes, Keys, Lines, Names};
-pub use module_text::TextEnd as SessionEnd;
 pub use print::print_session;
 pub use read::read_session;
 pub use sessions::{LineForm, Session, SessionLine};

@@ -3,8 +3,9 @@ ghost use Rattle.std.specs.Prelude.{◌≡◌, [], ◌∷◌, ◌++◌, Ok, OnEr
 ghost use Rattle.module_text.specs.TextReader.Answers.{Gives};
 ghost use Rattle.session_text.specs.FileText.{form_with_text, line_with_text, with_text};
 
-use crate::{LineForm, SessionEnd, SessionLine};
+use crate::{LineForm, SessionLine};
 use arrayvec::ArrayVec;
+use module_text::TextEnd;
 use ram_disc::Name;
 use std::alloc::AllocFailed;
 use std::marker::Model;
@@ -40,7 +41,7 @@ impl Bytes {
     }
 
     /// A line of text behind the bytes, with an LF.
-    pub fn with_line(self, text: &[u8]) -> Result<Bytes, SessionEnd>
+    pub fn with_line(self, text: &[u8]) -> Result<Bytes, TextEnd>
         ensures { Gives (λ b. b) result (Ok (self ++ (text.now ++ 10 ∷ []))) }
     {
         let mut list = self.list;
@@ -90,7 +91,7 @@ impl Lines {
     }
 
     /// Adds a line of text to the last file, if that is the last line.
-    pub fn add_text(&mut self, text: &[u8]) -> Result<(), SessionEnd>
+    pub fn add_text(&mut self, text: &[u8]) -> Result<(), TextEnd>
         ensures { Gives (λ _. self.new) result (Ok (with_text self.old text.now)) }
     {
         if let Some(last) = self.list.pop() {
@@ -114,7 +115,7 @@ impl Lines {
     }
 }
 
-fn line_with_text(line: SessionLine, text: &[u8]) -> Result<SessionLine, SessionEnd>
+fn line_with_text(line: SessionLine, text: &[u8]) -> Result<SessionLine, TextEnd>
     ensures { Gives (λ l. l) result (Ok (line_with_text line text.now)) }
 {
     let SessionLine { line, form } = line;
@@ -122,7 +123,7 @@ fn line_with_text(line: SessionLine, text: &[u8]) -> Result<SessionLine, Session
     Ok(SessionLine { line, form })
 }
 
-fn form_with_text(form: LineForm, text: &[u8]) -> Result<LineForm, SessionEnd>
+fn form_with_text(form: LineForm, text: &[u8]) -> Result<LineForm, TextEnd>
     ensures { Gives (λ f. f) result (Ok (form_with_text form text.now)) }
 {
     match form {
@@ -177,7 +178,7 @@ impl Keys {
     }
 
     /// Adds the bytes of a text at the end, as keys that are due at one step.
-    pub fn add_text(&mut self, step: u64, text: &[u8]) -> Result<(), SessionEnd>
+    pub fn add_text(&mut self, step: u64, text: &[u8]) -> Result<(), TextEnd>
         ensures { Gives (λ _. self.new) result (Ok (self.old ++ map (λ c. (step, c)) text.now)) }
     {
         for byte in text {

@@ -5,16 +5,16 @@ ghost use Rattle.session_text.specs.Canonical.{IsLawful};
 ghost use Rattle.session_text.specs.Numbering.{IsNumbered};
 ghost use Rattle.session_text.specs.SessionOfText.{session_of};
 
+use crate::Session;
 use crate::drafts::Draft;
-use crate::{Session, SessionEnd};
-use module_text::split_line;
+use module_text::{TextEnd, split_line};
 use std::alloc::Global;
 
 /// The session of a text. Unless memory runs out, `Bad` comes exactly where the text is none, with the first line in
 /// error, from 1, and its code: 1 where no such form may stand there, 2 where a number or a name is out of its range, and
 /// 3 where the text ended before its `GO` line, which is one more than the lines that there are. `WantMemory` comes only
 /// where memory could not be had.
-pub fn read_session(alloc: Global, text: &[u8]) -> Result<Session, SessionEnd>
+pub fn read_session(alloc: Global, text: &[u8]) -> Result<Session, TextEnd>
     requires { length text.now < 2 ^ 32 }
     ensures value { Gives (λ s. s) result (session_of text.now) }
 
@@ -26,7 +26,7 @@ pub fn read_session(alloc: Global, text: &[u8]) -> Result<Session, SessionEnd>
 }
 
 // The session of a text, line by line.
-fn whole_session(alloc: Global, text: &[u8]) -> Result<Session, SessionEnd>
+fn whole_session(alloc: Global, text: &[u8]) -> Result<Session, TextEnd>
     requires { length text.now < 2 ^ 32 }
     ensures { Gives (λ s. s) result (session_of text.now) }
 {

@@ -15,10 +15,10 @@ ghost use Rattle.show_run.specs.ShownAnswers.{machine_answer, session_answer};
 use crate::Show;
 use crate::machines::show_machine;
 use crate::programs::named_programs;
-use bare_machine::boot::BootEnd;
 use byte_streams::Sink;
+use module_text::TextEnd;
 use program_answers::{Status, TextAnswers, status_after, write_no_boot, write_refused};
-use session_text::{Session, SessionEnd, read_session};
+use session_text::{BootEnd, Session, read_session};
 use state_text::Program;
 use std::alloc::Global;
 use tripos_machine::boot as boot_machine;
@@ -51,10 +51,10 @@ fn answer_session_text<K: Sink>(alloc: Global, asked: Show, text: &[u8], out: &m
 {
     match read_session(alloc, text) {
         Ok(session) => answer_session(alloc, asked, &session, out),
-        Err(SessionEnd::Bad { line, code }) => {
+        Err(TextEnd::Bad { line, code }) => {
             status_after(write_refused(out, line, code), Status::Refused)
         }
-        Err(SessionEnd::WantMemory) => Status::WantMemory,
+        Err(TextEnd::WantMemory) => Status::WantMemory,
     }
 }
 

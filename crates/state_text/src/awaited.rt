@@ -13,8 +13,8 @@ use crate::places::Place;
 use crate::sent::has_packet;
 use byte_streams::Piece::{Decimal, Text};
 use byte_streams::{Output, Sink, SinkFault, gather, gather_pieces};
-use kernel_lists::{RootField, TcbField, field, packets, root, tasks};
-use kernel_model::numbers::{DUE, FILE_HANDLER, PENDING_HEAD, REPORTER, SENDER};
+use kernel_lists::{DUE, RootField, TcbField, field, packets, root, tasks};
+use kernel_model::numbers::{FILE_HANDLER, PENDING_HEAD, REPORTER, SENDER};
 use word_store::{Store, word_at};
 
 /// Gathers a line for each queued packet that the task with the number has sent, or that there is none.

@@ -10,8 +10,7 @@ ghost use Rattle.state_text.specs.ProgramNames.{first_name, line_end, name_in};
 use crate::programs::{Program, name_in};
 use byte_streams::Piece::Text;
 use byte_streams::{Output, Sink, SinkFault, gather, gather_pieces};
-use kernel_lists::{TcbField, field, module_at, most_modules};
-use kernel_model::numbers::FIRST_GUEST;
+use kernel_lists::{FIRST_GUEST, TcbField, field, module_at, most_modules};
 use word_store::Store;
 
 /// The first name that one of the modules of the task at t has.

@@ -9,8 +9,8 @@ ghost use Rattle.state_text.specs.PacketTexts.{name_of, packet_end, packet_front
 use crate::places::Place;
 use byte_streams::Piece::{Decimal, Text};
 use byte_streams::{Output, Sink, SinkFault, gather, gather_pieces};
-use kernel_lists::packets;
-use kernel_model::numbers::{CLOCK, DUE, KEYBOARD, KIND, OUTPUT, SENDER};
+use kernel_lists::{DUE, packets};
+use kernel_model::numbers::{CLOCK, KEYBOARD, KIND, OUTPUT, SENDER};
 use word_store::{Store, word_at};
 
 /// Gathers a line for each packet of the queue at the head, which is that of the place.

@@ -4,8 +4,8 @@ use Rattle.module_text.specs.TextReader.Refusal.{Refusal, refusal}
 use Rattle.session_text.specs.declared.sessions.Session.{Session}
 use Rattle.bare_machine.specs.Boot.{boot as bare_boot}
 use Rattle.bare_machine.specs.State.{BareState}
-use Rattle.bare_machine.specs.declared.boot.BootEnd.{BootEnd}
-use Rattle.bare_machine.specs.declared.boot.BootEnd.TheVariants.{Line, WantMemory}
+use Rattle.session_text.specs.declared.boot_ends.BootEnd.{BootEnd}
+use Rattle.session_text.specs.declared.boot_ends.BootEnd.TheVariants.{Line, WantMemory}
 use Rattle.kernel_machine.specs.MachineBoot.Boot.{boot as kernel_boot}
 use Rattle.kernel_boot.specs.declared.refusals.BootRefusal.{BootRefusal}
 use Rattle.kernel_machine.specs.KernelSteps.Stepped.{Stepped as KernelStepped}

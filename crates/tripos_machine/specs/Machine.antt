@@ -1,7 +1,7 @@
 -- A machine of either kind, as contracts see it.
 use Rattle.std.specs.Prelude.{◌≡◌, ℕ, List, [], None, Result, Ok, Err}
 use Rattle.module_text.specs.TextReader.Refusal.{Refusal}
-use Rattle.bare_machine.specs.declared.boot.BootEnd.{BootEnd}
+use Rattle.session_text.specs.declared.boot_ends.BootEnd.{BootEnd}
 use Rattle.tripos_machine.specs.Boot.{EndsAs}
 use Rattle.tripos_machine.specs.State.{State, keys_to_come, steps_of, stop_of}
 use Rattle.tripos_machine.specs.State.State.{Bare, Full}

@@ -10,7 +10,6 @@ pub mod parts;
 mod runs;
 mod start;
 
-pub use kernel_machine::Parts as KernelParts;
 pub use laws::{boot_law, history_law, run_law, step_law};
 pub use machine::Machine;
 pub use parts::Parts;

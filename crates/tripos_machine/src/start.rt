@@ -5,10 +5,10 @@ ghost use Rattle.tripos_machine.specs.Machine.{BootsAs};
 
 use crate::Machine;
 use crate::kinds::Kind;
-use bare_machine::boot::{BootEnd, boot as boot_bare};
+use bare_machine::boot::boot as boot_bare;
 use kernel_machine::Machine as FullMachine;
 use kernel_machine::machine_boot::boot as boot_kernel;
-use session_text::Session;
+use session_text::{BootEnd, Session};
 use std::alloc::Global;
 
 /// The machine of a session before its first step. On a bare machine its code stands in the store from byte 800 on, and the first

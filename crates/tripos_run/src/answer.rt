@@ -16,9 +16,9 @@ use crate::resuming::answer_resuming;
 use crate::rings::answer_ring;
 use crate::saving::answer_saving;
 use crate::session::answer_session_text;
-use assembly::{AsmEnd, assemble, disassemble_module};
+use assembly::{assemble, disassemble_module};
 use byte_streams::{Sink, write_text};
-use module_text::{HunkEnd, read_module};
+use module_text::{TextEnd, read_module};
 use program_answers::{Status, TextAnswers, status_after, write_refused};
 use std::alloc::Global;
 
@@ -61,11 +61,11 @@ fn answer_assembly<K: Sink>(alloc: Global, text: &[u8], out: &mut K) -> Status
 {
     match assemble(alloc, text) {
         Ok(module) => status_after(write_text(out, &module), Status::Done),
-        Err(AsmEnd::Bad { line, code }) => status_after(
+        Err(TextEnd::Bad { line, code }) => status_after(
             write_refused(out, line, code),
             Status::Refused,
         ),
-        Err(AsmEnd::WantMemory) => Status::WantMemory,
+        Err(TextEnd::WantMemory) => Status::WantMemory,
     }
 }
 
@@ -79,10 +79,10 @@ fn answer_module<K: Sink>(alloc: Global, text: &[u8], out: &mut K) -> Status
 {
     match read_module(alloc, text) {
         Ok(module) => status_after(disassemble_module(&module, out), Status::Done),
-        Err(HunkEnd::Bad { line, code }) => status_after(
+        Err(TextEnd::Bad { line, code }) => status_after(
             write_refused(out, line, code),
             Status::Refused,
         ),
-        Err(HunkEnd::WantMemory) => Status::WantMemory,
+        Err(TextEnd::WantMemory) => Status::WantMemory,
     }
 }

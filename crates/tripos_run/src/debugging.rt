@@ -15,12 +15,12 @@ ghost use Rattle.tripos_run.specs.Input.{IsMachineEnd};
 
 use crate::machines::write_run_end;
 use crate::reports::Report;
-use bare_machine::boot::BootEnd;
 use byte_streams::{Output, Sink, SinkFault, WantMemory};
 use debugger::{BadLine, History, check_lines, debug, debug_back, goes_back};
 use kernel_model::Stop;
+use module_text::TextEnd;
 use program_answers::{Status, status_after, write_no_boot, write_refused};
-use session_text::{Session, SessionEnd, read_front};
+use session_text::{BootEnd, Session, read_front};
 use std::alloc::Global;
 use tripos_machine::{Machine, boot};
 
@@ -36,10 +36,10 @@ pub(crate) fn answer_debugging<K: Sink>(alloc: Global, text: &[u8], out: &mut K)
             let lines = text_behind(front.end as usize, text);
             answer_checked(alloc, &front.session, lines, front.lines + 1, out)
         }
-        Err(SessionEnd::Bad { line, code }) => {
+        Err(TextEnd::Bad { line, code }) => {
             status_after(write_refused(out, line, code), Status::Refused)
         }
-        Err(SessionEnd::WantMemory) => Status::WantMemory,
+        Err(TextEnd::WantMemory) => Status::WantMemory,
     }
 }
 

@@ -21,13 +21,12 @@ ghost use Rattle.kernel_model.specs.KernelRecord.LoggedEvents.{LogsAll};
 use crate::ends::{status_of, write_end};
 use crate::reports::Report;
 use crate::session_generator::{Tally, gather_summary};
-use bare_machine::boot::BootEnd;
 use byte_streams::{NoSink, Output, Sink, SinkFault, pass_on};
 use kernel_lists::{EventLog, NoLog};
 use kernel_model::Stop;
 use program_answers::trace_log::{TraceLog, TraceWords};
 use program_answers::{Status, status_after, write_no_boot};
-use session_text::Session;
+use session_text::{BootEnd, Session};
 use std::alloc::Global;
 use tripos_machine::{Machine, boot};
 

@@ -12,9 +12,10 @@ ghost use Rattle.tripos_run.specs.RingAnswers.{booted_answer, ring_answer, ring_
 use crate::ends::status_of;
 use byte_streams::Piece::{Decimal, Text};
 use byte_streams::{Output, Sink, SinkFault, gather_pieces, pass_on};
-use machine_ring::{Ring, RingBoot, RingInput, RingOutcome, read_ring};
+use machine_ring::{Ring, RingInput, RingOutcome, read_ring};
 use module_text::TextEnd;
 use program_answers::{Status, status_after, write_no_boot, write_refused};
+use session_text::BootEnd;
 use std::alloc::Global;
 
 /// Runs the ring of a text, and writes the console bytes of its right machine.
@@ -43,10 +44,10 @@ fn boot_ring<K: Sink>(alloc: Global, input: &RingInput, out: &mut K) -> Status
 {
     match Ring::new(alloc, input) {
         Ok(ring) => run_ring(ring, out),
-        Err(RingBoot::Line { line, code }) => {
+        Err(BootEnd::Line { line, code }) => {
             status_after(write_no_boot(out, line, code), Status::NoBoot)
         }
-        Err(RingBoot::WantMemory) => Status::WantMemory,
+        Err(BootEnd::WantMemory) => Status::WantMemory,
     }
 }
 

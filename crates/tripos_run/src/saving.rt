@@ -19,12 +19,12 @@ ghost use Rattle.tripos_run.specs.Texts.{closing_text};
 
 use crate::ends::status_of;
 use crate::messages::gather_closing;
-use bare_machine::boot::BootEnd;
 use byte_streams::{Output, Sink, SinkFault, pass_on};
 use kernel_model::Stop;
+use module_text::TextEnd;
 use program_answers::{Status, status_after, write_no_boot, write_refused};
 use saved_machine::image_print::print_image;
-use session_text::{Session, SessionEnd, read_session};
+use session_text::{BootEnd, Session, read_session};
 use std::alloc::Global;
 use tripos_machine::{Machine, boot};
 
@@ -38,10 +38,10 @@ pub(crate) fn answer_saving<K: Sink>(alloc: Global, text: &[u8], out: &mut K) ->
 {
     match read_session(alloc, text) {
         Ok(session) => save_session(alloc, &session, out),
-        Err(SessionEnd::Bad { line, code }) => {
+        Err(TextEnd::Bad { line, code }) => {
             status_after(write_refused(out, line, code), Status::Refused)
         }
-        Err(SessionEnd::WantMemory) => Status::WantMemory,
+        Err(TextEnd::WantMemory) => Status::WantMemory,
     }
 }
 

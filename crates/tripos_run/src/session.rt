@@ -11,8 +11,9 @@ use crate::machines::answer_session;
 use crate::reports::Report;
 use crate::session_generator::generate;
 use byte_streams::{Sink, WantMemory};
+use module_text::TextEnd;
 use program_answers::{Status, status_after, write_refused};
-use session_text::{SessionEnd, read_session};
+use session_text::read_session;
 use std::alloc::Global;
 
 /// Makes the session of the number, runs it, and sums up what it writes.
@@ -45,9 +46,9 @@ pub fn answer_session_text<K: Sink>(
 {
     match read_session(alloc, text) {
         Ok(session) => answer_session(alloc, report, &session, out),
-        Err(SessionEnd::Bad { line, code }) => {
+        Err(TextEnd::Bad { line, code }) => {
             status_after(write_refused(out, line, code), Status::Refused)
         }
-        Err(SessionEnd::WantMemory) => Status::WantMemory,
+        Err(TextEnd::WantMemory) => Status::WantMemory,
     }
 }

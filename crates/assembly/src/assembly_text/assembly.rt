@@ -9,12 +9,12 @@ use crate::assembly_text::hunks::hunk_words;
 use crate::assembly_text::places::hunk_size;
 use crate::assembly_text::sinks::TextSink;
 use crate::assembly_text::survey::survey;
-use module_text::{Hunk, Hunks, Module, TextEnd as AsmEnd, WordList, print_module};
+use module_text::{Hunk, Hunks, Module, TextEnd, WordList, print_module};
 use std::alloc::Global;
 
 /// The module text of the one hunk that the assembly text makes. `Bad` comes exactly where it makes none, with the first
 /// bad line, from 1, and the lowest code that applies to it. Codes 4 and 6 come only where no line has another code.
-pub fn assemble(alloc: Global, text: &[u8]) -> Result<Vec<u8>, AsmEnd>
+pub fn assemble(alloc: Global, text: &[u8]) -> Result<Vec<u8>, TextEnd>
     requires { length text.now < 2 ^ 32 }
     ensures { Gives (λ bytes. bytes.items) result (assembled text.now) }
 {
@@ -24,7 +24,7 @@ pub fn assemble(alloc: Global, text: &[u8]) -> Result<Vec<u8>, AsmEnd>
 
 // The module of a text.
 #[tactic(auto, unfolding(crate::specs::AssemblyText::Assembly::assembly_of))]
-fn assemble_module(alloc: Global, text: &[u8]) -> Result<Module, AsmEnd>
+fn assemble_module(alloc: Global, text: &[u8]) -> Result<Module, TextEnd>
     requires { length text.now < 2 ^ 32 }
     ensures { Gives (λ m. m) result (assembly_of text.now) }
 {
@@ -43,13 +43,13 @@ fn assemble_module(alloc: Global, text: &[u8]) -> Result<Module, AsmEnd>
 }
 
 // The printed text of a module.
-fn module_text(alloc: Global, m: &Module) -> Result<Vec<u8>, AsmEnd>
+fn module_text(alloc: Global, m: &Module) -> Result<Vec<u8>, TextEnd>
     requires { IsPrintable m.now }
     ensures { Gives (λ bytes. bytes.items) result (Ok (printed m.now)) }
 {
     let mut text = TextSink::new(alloc);
     if print_module(m, &mut text).is_err() {
-        return Err(AsmEnd::WantMemory);
+        return Err(TextEnd::WantMemory);
     }
     Ok(text.bytes)
 }

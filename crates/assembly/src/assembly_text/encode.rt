@@ -11,7 +11,7 @@ use crate::assembly_text::pieces::{Piece, piece_of};
 use crate::assembly_text::places::{FIRST_OFFSET, Place};
 use crate::assembly_text::read::read_line;
 use crate::assembly_text::survey::refused;
-use module_text::{TextEnd as AsmEnd, split_line};
+use module_text::{TextEnd, split_line};
 use std::alloc::{AllocError, Global};
 use std::collections::BTreeMap;
 
@@ -32,7 +32,7 @@ pub fn encode(
     alloc: Global,
     text: &[u8],
     labels: &BTreeMap<&[u8], Place>,
-) -> Result<Encoded, AsmEnd>
+) -> Result<Encoded, TextEnd>
     requires short { length text.now < 2 ^ 32 }
     requires surveyed { IsOk (survey 1 no_lines (lines_of text.now)) }
     ensures { Gives kept_code result (encode 1 (table_of labels.now) 4 (lines_of text.now)) }
@@ -61,7 +61,7 @@ fn encode_line(
     n: u32,
     offset: u32,
     text: &[u8],
-) -> Result<Piece, AsmEnd>
+) -> Result<Piece, TextEnd>
     requires { offset < 2 ^ 30 }
     ensures { Gives (λ p. p) result (encode_line n (table_of labels.now) offset text.now) }
 {

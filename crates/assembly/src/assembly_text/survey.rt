@@ -16,7 +16,7 @@ use crate::assembly_text::places::{
 use crate::assembly_text::read::read_line;
 use crate::assembly_text::statements::{Line, Statement};
 use crate::assembly_text::tables::{define, look_up};
-use module_text::{TextEnd as AsmEnd, split_line};
+use module_text::{TextEnd, split_line};
 use std::alloc::{AllocError, Global};
 use std::collections::BTreeMap;
 
@@ -33,7 +33,7 @@ pub struct Surveyed<'a> {
 
 /// The whole text, surveyed. Refused is the first line that cannot be read, that repeats a label or that makes the hunk too
 /// long.
-pub fn survey(alloc: Global, text: &[u8]) -> Result<Surveyed<'_>, AsmEnd>
+pub fn survey(alloc: Global, text: &[u8]) -> Result<Surveyed<'_>, TextEnd>
     requires { length text.now < 2 ^ 32 }
     ensures value { Gives layout_of result (survey 1 no_lines (lines_of text.now)) }
     ensures low { IfOk result (λ s. s.offset ≤ 262144) }
@@ -55,7 +55,7 @@ pub fn survey(alloc: Global, text: &[u8]) -> Result<Surveyed<'_>, AsmEnd>
 }
 
 // Line n comes next.
-fn survey_line<'a>(known: &mut Surveyed<'a>, n: u32, text: &'a [u8]) -> Result<(), AsmEnd>
+fn survey_line<'a>(known: &mut Surveyed<'a>, n: u32, text: &'a [u8]) -> Result<(), TextEnd>
     requires low { known.old.offset ≤ 262144 }
     requires few { known.old.pairs ≤ 65536 }
     ensures value { let layout = survey_line n (layout_of known.old) text.now in
@@ -70,10 +70,10 @@ fn survey_line<'a>(known: &mut Surveyed<'a>, n: u32, text: &'a [u8]) -> Result<(
 }
 
 /// The refusal of line n.
-pub fn refused(n: u32, error: LineError) -> AsmEnd
+pub fn refused(n: u32, error: LineError) -> TextEnd
     ensures { result ≡ Bad n (code_of error) }
 {
-    AsmEnd::Bad {
+    TextEnd::Bad {
         line: n,
         code: error.code(),
     }

@@ -5,10 +5,10 @@ ghost use Rattle.debugger.specs.MachineHistory.FilesBefore.{front_from_last, gon
 
 use byte_streams::WantMemory;
 use circular_buffer::HeapCircularBuffer;
+use kernel_machine::Parts as KernelParts;
 use ram_disc::Disc;
 use resident_tasks::Pipes;
 use std::alloc::Global;
-use tripos_machine::KernelParts;
 
 /// How many are kept: those that 16 turns have left, and those before them.
 const PLACES: usize = 17;

@@ -4,9 +4,10 @@ ghost use Rattle.debugger.specs.MachineHistory.Moments.{IsMomentOf, IsTakenFrom,
 
 use arrayvec::ArrayVec;
 use bare_machine::BareParts;
+use kernel_machine::Parts as KernelParts;
 use resident_tasks::console_handler::ConsoleState;
 use shell::ShellState;
-use tripos_machine::{KernelParts, Machine};
+use tripos_machine::Machine;
 use word_store::Regs;
 
 /// A machine at one moment, but for the words of its store, its files and its pipes.

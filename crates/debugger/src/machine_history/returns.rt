@@ -11,7 +11,7 @@ use crate::machine_history::moments::Moment;
 use crate::undo_journal::Journal;
 use bare_machine::BareParts;
 use circular_buffer::HeapCircularBuffer;
-use tripos_machine::KernelParts;
+use kernel_machine::Parts as KernelParts;
 use word_store::Store;
 
 /// Makes a machine without a kernel what it was n steps before.

@@ -4,8 +4,7 @@ ghost use Rattle.kernel_model.specs.KernelRecord.Lists.{Lists};
 ghost use Rattle.kernel_calls.specs.CallAnswers.Guests.{IsGuestOf};
 
 use crate::call_answers::codes::{NO_TASK, RESIDENT};
-use kernel_lists::find;
-use kernel_model::numbers::FIRST_GUEST;
+use kernel_lists::{FIRST_GUEST, find};
 use word_store::Store;
 
 /// The address of the guest's task block. Refused where there is no such task, or it is a resident.

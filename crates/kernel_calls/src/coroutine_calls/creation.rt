@@ -9,9 +9,9 @@ ghost use Rattle.kernel_model.specs.WordKinds.KeptStores.{IsKeptBy};
 use crate::block_calls::tell_take;
 use crate::call_answers::caller;
 use crate::call_answers::codes::NO_COROUTINE_ROOM;
-use kernel_lists::create_coroutine;
+use kernel_lists::{LEAST_HIGHEST, create_coroutine};
 use kernel_model::KindKeeper;
-use kernel_model::numbers::{COROUTINE_WORDS, LEAST_HIGHEST};
+use kernel_model::numbers::COROUTINE_WORDS;
 use word_store::Store;
 
 /// Makes a coroutine of the running task, the first in its list, in a block with the data words 0 to u, or to 16 where u is

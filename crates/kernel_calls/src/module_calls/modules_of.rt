@@ -8,8 +8,7 @@ ghost use Rattle.kernel_lists.specs.TaskBlock.TaskChain.{task_link, tasks_in};
 ghost use Rattle.kernel_lists.specs.TaskBlock.Versions.{head_words};
 ghost use Rattle.kernel_calls.specs.ModuleCalls.ModuleFields.{IsTaskIn, module_fields};
 
-use kernel_lists::{TcbField, field, module_at, most_modules, tasks};
-use kernel_model::numbers::FIRST_GUEST;
+use kernel_lists::{FIRST_GUEST, TcbField, field, module_at, most_modules, tasks};
 use word_store::Store;
 
 /// Whether a task has the module at m.

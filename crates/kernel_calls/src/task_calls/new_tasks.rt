@@ -14,9 +14,9 @@ ghost use Rattle.kernel_model.specs.WordKinds.KeptStores.{IsKeptBy};
 
 use crate::block_calls::getvec;
 use crate::call_answers::codes::NO_ROOM;
-use kernel_lists::{TcbField, head_words, init_globals, insert, set_field};
+use kernel_lists::{MOST_GLOBALS, TcbField, head_words, init_globals, insert, set_field};
 use kernel_model::KindKeeper;
-use kernel_model::numbers::{DEAD, GLOBAL_WORDS, MOST_GLOBALS};
+use kernel_model::numbers::{DEAD, GLOBAL_WORDS};
 use word_store::{Store, set_word_at, set_words};
 
 /// Which word of a task block has the second module; the others follow.

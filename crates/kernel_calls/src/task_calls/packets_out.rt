@@ -10,8 +10,8 @@ ghost use Rattle.kernel_model.specs.KernelRecord.Owned.{clock_head, keyboard_hea
 ghost use Rattle.kernel_model.specs.KernelRecord.Residents.{pending_head};
 ghost use Rattle.kernel_calls.specs.TaskCalls.PacketsOut.{is_sender_at, is_sender_at_device, is_sender_of_read, is_sender_out, is_sender_to, is_sender_to_residents};
 
-use kernel_lists::{RootField, TcbField, field, packets, root, tasks};
-use kernel_model::numbers::{FIRST_GUEST, PENDING_HEAD, SENDER};
+use kernel_lists::{FIRST_GUEST, RootField, TcbField, field, packets, root, tasks};
+use kernel_model::numbers::{PENDING_HEAD, SENDER};
 use word_store::{Store, word_at};
 
 /// Whether a resident or a device has a packet from the task with the number, or one of its reads waits for a line.

@@ -14,8 +14,8 @@ ghost use Rattle.kernel_check.specs.ListPasses.TaskRules.{IsDense};
 
 use crate::list_passes::frames::frames_stand;
 use crate::list_passes::guests::has_word;
-use kernel_lists::{TcbField, field, head_words, tasks};
-use kernel_model::numbers::{FIRST_GUEST, GLOBAL_WORDS, RESIDENT_WORDS};
+use kernel_lists::{FIRST_GUEST, TcbField, field, head_words, tasks};
+use kernel_model::numbers::{GLOBAL_WORDS, RESIDENT_WORDS};
 use word_store::Store;
 
 /// Whether the words of tasks stand that follow from others: the bit of the queue, the addresses of stack and globals, the zeros

@@ -11,8 +11,7 @@ ghost use Rattle.kernel_model.specs.KernelRecord.Task.{task_address, task_id};
 ghost use Rattle.kernel_model.specs.KernelRecord.Versions.{highest_id_of};
 ghost use Rattle.kernel_check.specs.ListPasses.ClaimedStore.{IsClaimed};
 
-use kernel_lists::{RootField, TcbField, field, root, tasks};
-use kernel_model::numbers::TABLE;
+use kernel_lists::{RootField, TABLE, TcbField, field, root, tasks};
 use word_store::{Store, word};
 
 /// Whether the task table leads to each task, and to nothing else.

@@ -15,8 +15,8 @@ ghost use Rattle.kernel_check.specs.ListPasses.TaskRules.{HasTaskNumbers, HasRes
 use crate::list_passes::guests::{guest_stands, resident_stands};
 use crate::list_passes::resident_pass::{has_residents, has_task};
 use crate::list_passes::table::highest_of;
-use kernel_lists::{TcbField, field, tasks};
-use kernel_model::numbers::{CONSOLE, FILE_HANDLER, FIRST_GUEST, REPORTER, SHELL};
+use kernel_lists::{FIRST_GUEST, TcbField, field, tasks};
+use kernel_model::numbers::{CONSOLE, FILE_HANDLER, REPORTER, SHELL};
 use store_claims::Claims;
 use word_store::Store;
 

@@ -244,10 +244,6 @@ moved-rule l pri n guest (Some t) is h = λ there.
 
 -- ---- a guest goes
 
-    rest : (b : Bool) → (b || list_any f xs) ≡ false → list_any f xs ≡ false
-    rest true e = cc
-    rest false e = e
-
 -- one who has a new fault is not the guest that goes
 new-stays : (n id : ℕ) → eqb id n ≡ false → (t : Task) → eqb t.id n ≡ true → IsNew id t ≡ false
 new-stays n id other t e =

@@ -6,7 +6,7 @@ use Rattle.std.proofs.lemmas.Bool.{cases_lt}
 use Rattle.kernel_lists.specs.OwnedWords.Owned.{owners, word_in}
 use Rattle.kernel_lists.proofs.OwnedWords.OwnedWords.{word_in-holds}
 use Rattle.byte_streams.specs.declared.WantMemory.{WantMemory}
-use Rattle.bare_machine.specs.declared.boot.BootEnd.{BootEnd}
+use Rattle.session_text.specs.declared.boot_ends.BootEnd.{BootEnd}
 use Rattle.ram_disc.specs.Disc.{empty_disc}
 use Rattle.session_text.specs.declared.sessions.Session.{Session}
 use Rattle.kernel_model.specs.KernelRecord.ChangedStore.{IsChanged}

@@ -1,8 +1,8 @@
 -- What a function that boots leaves.
 use Rattle.std.specs.Prelude.{◌≡◌, ◌≤◌, ◌⊎◌, Bool, true, false, None, List, [], Result, Ok, Err}
 use Rattle.std.specs.List.{AllByRecursion}
-use Rattle.bare_machine.specs.declared.boot.BootEnd.{BootEnd}
-use Rattle.bare_machine.specs.declared.boot.BootEnd.TheVariants.{Line, WantMemory}
+use Rattle.session_text.specs.declared.boot_ends.BootEnd.{BootEnd}
+use Rattle.session_text.specs.declared.boot_ends.BootEnd.TheVariants.{Line, WantMemory}
 use Rattle.kernel_model.specs.KernelRecord.Kernel.{Kernel}
 use Rattle.kernel_model.specs.KernelRecord.Lists.{Lists}
 use Rattle.kernel_model.specs.KernelRecord.Task.{Task, is_guest_id}

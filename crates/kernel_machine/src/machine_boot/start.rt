@@ -11,7 +11,6 @@ ghost use Rattle.kernel_machine.specs.MachineBoot.Booted.{BootsAs, CanStart, Can
 
 use crate::running_machine::{Parts, Script};
 use arrayvec::ArrayVec;
-use bare_machine::boot::BootEnd;
 use byte_streams::WantMemory;
 use kernel_boot::{BootRefusal, load_files, make_kernel, make_resident_kernel, start_tasks};
 use kernel_devices::Tty;
@@ -21,7 +20,7 @@ use kernel_model::kernel_dispatch::switch;
 use ram_disc::Disc;
 use resident_tasks::Pipes;
 use resident_tasks::console_handler::ConsoleState;
-use session_text::{Session, SessionLine};
+use session_text::{BootEnd, Session, SessionLine};
 use shell::ShellState;
 use std::alloc::Global;
 use word_store::{Regs, Store};

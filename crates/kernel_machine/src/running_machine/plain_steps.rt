@@ -10,7 +10,7 @@ use crate::running_machine::spans::{before_key, before_return, count, serves_now
 use crate::running_machine::turns::running;
 use guest_turns::execute_guest;
 use instruction_set::{Outcome, Places, written_places};
-use kernel_model::numbers::FIRST_GUEST;
+use kernel_lists::FIRST_GUEST;
 
 /// Takes one step of a machine that has not stopped, if nothing happens in it but that the running guest executes an instruction.
 /// The answer tells the words that the instruction may have written. Else it is `None`, and nothing changes.

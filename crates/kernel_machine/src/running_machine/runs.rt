@@ -10,8 +10,7 @@ use crate::running_machine::machine::Machine;
 use crate::running_machine::plain_steps::execute_one;
 use crate::running_machine::spans::{idle_steps, pass};
 use instruction_set::{Places, has_breakpoint};
-use kernel_lists::EventLog;
-use kernel_model::numbers::FIRST_GUEST;
+use kernel_lists::{EventLog, FIRST_GUEST};
 
 impl Machine {
     /// Takes some steps, at most `most`, of a machine that has not stopped, of which only the last one may write bytes, have events

@@ -13,8 +13,7 @@ use crate::running_machine::Parts;
 use crate::running_machine::turns::running;
 use guest_turns::{execute_guest, execute_next};
 use instruction_set::{Outcome, has_breakpoint};
-use kernel_lists::{RootField, root, set_root};
-use kernel_model::numbers::{DUE, FIRST_GUEST};
+use kernel_lists::{DUE, FIRST_GUEST, RootField, root, set_root};
 use word_store::word_at;
 
 /// Takes at most `most` steps of a machine that has not stopped, in which nothing happens but that the running task executes

@@ -16,9 +16,9 @@ use crate::running_machine::residents::resident;
 use byte_streams::Output;
 use guest_turns::{TurnEnd, guest_turn};
 use instruction_set::Fault;
-use kernel_lists::{EventLog, RootField, TcbField, field, find, root};
+use kernel_lists::{EventLog, FIRST_GUEST, RootField, TcbField, field, find, root};
 use kernel_model::Stop;
-use kernel_model::numbers::{FIRST_GUEST, REPORTER};
+use kernel_model::numbers::REPORTER;
 use resident_tasks::record_fault;
 use word_store::Store;
 

@@ -3,8 +3,8 @@ ghost use Rattle.std.specs.Prelude.{◌≡◌};
 ghost use Rattle.kernel_model.specs.KernelRecord.ValidTasks.{no_regs};
 ghost use Rattle.kernel_model.specs.KernelDispatch.DispatchWords.{entry_in, guest_regs_in, next_regs_in, saved_in};
 
-use crate::kernel_record::numbers::{DEAD, FIRST_GUEST, INTERRUPTED};
-use kernel_lists::{RootField, TcbField, field, root};
+use crate::kernel_record::numbers::{DEAD, INTERRUPTED};
+use kernel_lists::{FIRST_GUEST, RootField, TcbField, field, root};
 use word_store::{Regs, Store, word_at};
 
 /// Those of the task at t, which has taken the packet. `regs` are the live ones, which it has where it is the one that runs.

@@ -10,9 +10,9 @@ ghost use Rattle.kernel_model.specs.WordKinds.KeptStores.{IsKeptBy};
 
 use crate::kernel_dispatch::registers::next_regs;
 use crate::kernel_dispatch::saving::{start, suspend, take_work};
-use crate::kernel_record::numbers::{FIRST_GUEST, PACKET_WORDS};
+use crate::kernel_record::numbers::PACKET_WORDS;
 use crate::word_kinds::KindKeeper;
-use kernel_lists::{EventLog, KernelEvent, TcbField, field};
+use kernel_lists::{EventLog, FIRST_GUEST, KernelEvent, TcbField, field};
 use word_store::{Regs, Store, signed, word_at};
 
 /// The task at t goes on, with its packet where it takes one.

@@ -2,7 +2,6 @@
 // task blocks, coroutines and packets.
 
 use kernel_lists::TcbField;
-pub use kernel_lists::{DUE, FIRST_GUEST, LEAST_HIGHEST, MOST_GLOBALS, PACKET_LINK, TABLE};
 
 /// The number of the shell.
 pub const SHELL: u32 = 1;

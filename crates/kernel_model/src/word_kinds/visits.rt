@@ -11,11 +11,11 @@ ghost use Rattle.kernel_model.specs.KernelRecord.Residents.{pending_head};
 ghost use Rattle.kernel_model.specs.KernelRecord.KernelRanges.{CanWalkLists, CanWalkTask, IsModuleIn, Words, block_range, console_ranges, coroutine_ranges, fault_ranges, has_reporter, has_residents, kernel_ranges, list_ranges, module_ranges, packet_ranges, packets_at, pending_packets, task_ranges, task_size_in, work_packets, words};
 
 use crate::kernel_record::numbers::{
-    COROUTINE_WORDS, FAULT_PACKET, FIRST_GUEST, PACKET_WORDS, PENDING_HEAD, REPORTER,
-    RESIDENT_WORDS,
+    COROUTINE_WORDS, FAULT_PACKET, PACKET_WORDS, PENDING_HEAD, REPORTER, RESIDENT_WORDS,
 };
 use kernel_lists::{
-    RootField, TcbField, blocks, coroutine_list, field, head_words, modules, packets, root, tasks,
+    FIRST_GUEST, RootField, TcbField, blocks, coroutine_list, field, head_words, modules, packets,
+    root, tasks,
 };
 use word_store::{Store, word_at};
 

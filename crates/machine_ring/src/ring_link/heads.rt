@@ -8,7 +8,7 @@ ghost use Rattle.machine_ring.specs.RingLink.TwoNumbers.{two_numbers};
 
 use crate::ring_link::inputs::{MOST_LETTERS, MOST_ROUNDS, MOST_WAIT};
 use crate::ring_link::lines::{first_line, rest_after};
-use module_text::{TextEnd as RingEnd, after_word, number};
+use module_text::{TextEnd, after_word, number};
 use session_text::{Bytes, number_field};
 use std::alloc::Global;
 
@@ -26,7 +26,7 @@ pub struct Head {
 }
 
 /// Reads them: what they say, and the text after them.
-pub fn read_head(alloc: Global, text: &[u8]) -> Result<(Head, &[u8]), RingEnd>
+pub fn read_head(alloc: Global, text: &[u8]) -> Result<(Head, &[u8]), TextEnd>
     ensures value { Gives (λ x. (x.0, lines_of x.1.now)) result (head_lines (lines_of text.now)) }
     ensures shorter { IfOk result (λ x. length x.1.now + 7 ≤ length text.now) }
 {
@@ -44,7 +44,7 @@ pub fn read_head(alloc: Global, text: &[u8]) -> Result<(Head, &[u8]), RingEnd>
 }
 
 // The rounds and the wait that the first line says, and the text after it.
-fn read_numbers(text: &[u8]) -> Result<(u64, u32, &[u8]), RingEnd>
+fn read_numbers(text: &[u8]) -> Result<(u64, u32, &[u8]), TextEnd>
     ensures value { Gives (λ x. ((x.0, x.1), lines_of x.2.now)) result
         (numbers_line (lines_of text.now)) }
     ensures shorter { IfOk result (λ x. length x.2.now < length text.now) }
@@ -54,14 +54,14 @@ fn read_numbers(text: &[u8]) -> Result<(u64, u32, &[u8]), RingEnd>
     Ok((rounds, wait, rest))
 }
 
-fn numbers_of(line: &[u8]) -> Result<(u64, u32), RingEnd>
+fn numbers_of(line: &[u8]) -> Result<(u64, u32), TextEnd>
     ensures { Gives (λ x. x) result (numbers line.now) }
 {
     let Some((rounds, wait)) = two_numbers(line) else {
-        return Err(RingEnd::Bad { line: 1, code: 1 });
+        return Err(TextEnd::Bad { line: 1, code: 1 });
     };
     if !is_round_count(rounds) || !is_wait(wait) {
-        return Err(RingEnd::Bad { line: 1, code: 2 });
+        return Err(TextEnd::Bad { line: 1, code: 2 });
     }
     Ok((rounds, wait as u32))
 }
@@ -93,7 +93,7 @@ fn read_letters<'a>(
     word: &[u8],
     n: u32,
     text: &'a [u8],
-) -> Result<(Bytes, &'a [u8]), RingEnd>
+) -> Result<(Bytes, &'a [u8]), TextEnd>
     ensures value { Gives (λ x. (x.0, lines_of x.1.now)) result
         (letters_line word.now n (lines_of text.now)) }
     ensures shorter { IfOk result (λ x. length x.1.now < length text.now) }
@@ -103,23 +103,23 @@ fn read_letters<'a>(
     Ok((letters, rest))
 }
 
-fn letters_after(alloc: Global, word: &[u8], n: u32, line: &[u8]) -> Result<Bytes, RingEnd>
+fn letters_after(alloc: Global, word: &[u8], n: u32, line: &[u8]) -> Result<Bytes, TextEnd>
     ensures { Gives (λ b. b) result (letters_after word.now n line.now) }
 {
     match after_word(word, line) {
         Some(text) => letters_of(alloc, n, text),
-        None => Err(RingEnd::Bad { line: n, code: 1 }),
+        None => Err(TextEnd::Bad { line: n, code: 1 }),
     }
 }
 
-fn letters_of(alloc: Global, n: u32, text: &[u8]) -> Result<Bytes, RingEnd>
+fn letters_of(alloc: Global, n: u32, text: &[u8]) -> Result<Bytes, TextEnd>
     ensures { Gives (λ b. b) result (letters n text.now) }
 {
     if !are_letters(text) {
-        return Err(RingEnd::Bad { line: n, code: 1 });
+        return Err(TextEnd::Bad { line: n, code: 1 });
     }
     if !is_letter_count(text.len()) {
-        return Err(RingEnd::Bad { line: n, code: 2 });
+        return Err(TextEnd::Bad { line: n, code: 2 });
     }
     Ok(Bytes::new(Vec::from_slice(alloc, text)?))
 }

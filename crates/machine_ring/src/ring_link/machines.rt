@@ -7,12 +7,12 @@ ghost use Rattle.session_text.specs.Canonical.{IsLawful};
 ghost use Rattle.session_text.specs.Front.{front_count};
 ghost use Rattle.machine_ring.specs.RingLink.Machines.{IsUpTo, bare_end, end_behind, has_bare, kernel_lines, left_lines};
 
-use module_text::{TextEnd as RingEnd, split_line};
+use module_text::{TextEnd, split_line};
 use session_text::{Session, read_front, read_session};
 use std::alloc::Global;
 
 /// The session of the left machine at the front of a text, the text after it, and how many lines the session has.
-pub fn read_left(alloc: Global, text: &[u8]) -> Result<(Session, &[u8], u32), RingEnd>
+pub fn read_left(alloc: Global, text: &[u8]) -> Result<(Session, &[u8], u32), TextEnd>
     requires { length text.now < 2 ^ 32 }
     ensures value { Gives (λ x. (x.0, (lines_of x.1.now, x.2))) result
         (left_lines (lines_of text.now)) }
@@ -33,7 +33,7 @@ fn text_behind(place: usize, text: &[u8]) -> &[u8]
 }
 
 /// The session of the right machine, which has a kernel: `BARE` is refused with code 1, unless a line before it is refused.
-pub fn read_right(alloc: Global, text: &[u8]) -> Result<Session, RingEnd>
+pub fn read_right(alloc: Global, text: &[u8]) -> Result<Session, TextEnd>
     requires { length text.now < 2 ^ 32 }
     ensures value { Gives (λ s. s) result (kernel_lines (lines_of text.now)) }
     ensures within { IfErr result (λ end. IsUpTo (length text.now + 1) end) }
@@ -46,13 +46,13 @@ pub fn read_right(alloc: Global, text: &[u8]) -> Result<Session, RingEnd>
 }
 
 // Why a session whose third line is `BARE` is refused.
-fn bare_end(read: Result<Session, RingEnd>) -> RingEnd
+fn bare_end(read: Result<Session, TextEnd>) -> TextEnd
     ensures { result ≡ bare_end read }
 {
     match read {
-        Err(RingEnd::Bad { line, code }) if line < 3 => RingEnd::Bad { line, code },
-        Err(RingEnd::WantMemory) => RingEnd::WantMemory,
-        _ => RingEnd::Bad { line: 3, code: 1 },
+        Err(TextEnd::Bad { line, code }) if line < 3 => TextEnd::Bad { line, code },
+        Err(TextEnd::WantMemory) => TextEnd::WantMemory,
+        _ => TextEnd::Bad { line: 3, code: 1 },
     }
 }
 
@@ -76,15 +76,15 @@ fn third_line(text: &[u8]) -> Option<&[u8]>
 }
 
 /// Why a text behind so many lines is refused, with the line in the whole.
-pub fn end_behind(before: u32, end: RingEnd) -> RingEnd
+pub fn end_behind(before: u32, end: TextEnd) -> TextEnd
     requires { IsUpTo (2 ^ 32 - 1 - before) end }
     ensures { result ≡ end_behind before end }
 {
     match end {
-        RingEnd::Bad { line, code } => RingEnd::Bad {
+        TextEnd::Bad { line, code } => TextEnd::Bad {
             line: before + line,
             code,
         },
-        RingEnd::WantMemory => RingEnd::WantMemory,
+        TextEnd::WantMemory => TextEnd::WantMemory,
     }
 }

@@ -9,14 +9,14 @@ use crate::ring_link::heads::read_head;
 use crate::ring_link::inputs::LEFT_LINE;
 use crate::ring_link::lines::rest_after;
 use crate::ring_link::machines::{end_behind, read_left, read_right};
-use module_text::TextEnd as RingEnd;
+use module_text::TextEnd;
 use std::alloc::Global;
 
 /// The ring of a text. Unless memory runs out, `Bad` comes exactly where the text is none, with the first line in
 /// error, from 1, and its code: 1 where no such form may stand there, 2 where a number, a name or the number of
 /// letters is out of its range, and 3 where the text ended before the right machine's `GO` line, which is one more
 /// than the lines that there are. `WantMemory` comes only where memory could not be had.
-pub fn read_ring(alloc: Global, text: &[u8]) -> Result<RingInput, RingEnd>
+pub fn read_ring(alloc: Global, text: &[u8]) -> Result<RingInput, TextEnd>
     requires { length text.now < 2 ^ 32 }
     ensures value { Gives (λ x. x) result (ring_of text.now) }
 
@@ -28,7 +28,7 @@ pub fn read_ring(alloc: Global, text: &[u8]) -> Result<RingInput, RingEnd>
 
 // The ring of a text, part by part.
 #[tactic(auto, unfolding(crate::specs::RingLink::RingOfText::ring_of))]
-fn whole_ring(alloc: Global, text: &[u8]) -> Result<RingInput, RingEnd>
+fn whole_ring(alloc: Global, text: &[u8]) -> Result<RingInput, TextEnd>
     requires { length text.now < 2 ^ 32 }
     ensures { Gives (λ x. x) result (ring_of text.now) }
 {

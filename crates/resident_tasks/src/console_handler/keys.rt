@@ -15,9 +15,9 @@ ghost use Rattle.kernel_model.specs.KernelRecord.LoggedEvents.{LogsAll};
 
 use crate::console_handler::lines::ConsoleState;
 use kernel_calls::{Queue, send_own, taken, unqueue};
-use kernel_lists::{EventLog, NO_QUEUE, RootField, TcbField, field, root};
+use kernel_lists::{EventLog, NO_QUEUE, PACKET_LINK, RootField, TcbField, field, root};
 use kernel_model::KindKeeper;
-use kernel_model::numbers::{CONSOLE, KEY_PACKET, PACKET_LINK, RES1, SENDER, SIGNED_KEYBOARD};
+use kernel_model::numbers::{CONSOLE, KEY_PACKET, RES1, SENDER, SIGNED_KEYBOARD};
 use word_store::{Store, word_at};
 
 /// The resident that runs takes the key packet, which is its first, and answers the key, its first result. The packet is on no

@@ -12,8 +12,8 @@ ghost use Rattle.resident_tasks.specs.FaultReporter.Texts.{is_unreported_word, m
 
 use byte_streams::Output;
 use itoa::Buffer;
-use kernel_lists::{TcbField, field, find, set_field, tasks};
-use kernel_model::numbers::{FAULT_ADDRESS, FAULT_WORD, FIRST_GUEST, REPORTED};
+use kernel_lists::{FIRST_GUEST, TcbField, field, find, set_field, tasks};
+use kernel_model::numbers::{FAULT_ADDRESS, FAULT_WORD, REPORTED};
 use word_store::Store;
 
 /// One more than the highest number that a task may have.

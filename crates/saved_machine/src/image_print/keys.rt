@@ -6,8 +6,8 @@ ghost use Rattle.kernel_machine.specs.RunningMachine.Script.{still_to_come};
 ghost use Rattle.saved_machine.specs.ImagePrint.Texts.{statements_text};
 
 use byte_streams::{Output, Sink, SinkFault};
+use kernel_machine::Parts as KernelParts;
 use saved_text::saved_lines::print_key;
-use tripos_machine::KernelParts;
 
 /// Adds a line for each key that is still to come to what is pending.
 pub(crate) fn print_coming_keys<K: Sink>(

@@ -14,11 +14,12 @@ ghost use Rattle.saved_machine.specs.ImagePrint.Numbers.{AreWords, HasWordsAndBy
 use crate::image_print::pipes::held_by;
 use crate::image_print::words::all_words;
 use arrayvec::ArrayVec;
+use kernel_machine::Parts as KernelParts;
 use kernel_model::numbers::END_OF_PIPES;
 use module_text::TextBytes;
 use ram_disc::{Disc, END_OF_FILES, Name};
 use resident_tasks::Pipes;
-use tripos_machine::{KernelParts, Machine};
+use tripos_machine::Machine;
 use word_store::Regs;
 
 /// Tells that the words of a machine are words, and its bytes bytes.

@@ -20,8 +20,9 @@ use crate::image_print::streams::print_streams;
 use crate::image_print::words::print_end;
 use byte_streams::{Output, Sink, SinkFault};
 use kernel_lists::{RootField, root};
+use kernel_machine::Parts as KernelParts;
 use ram_disc::Disc;
-use tripos_machine::{KernelParts, Machine};
+use tripos_machine::Machine;
 
 /// Adds the text of a machine that is to take `go` more steps to what is pending. A machine without a kernel has the version
 /// that is told; one with a kernel knows its own. It takes no memory. `SinkFault` comes only where the sink's count of faults

@@ -8,11 +8,11 @@ ghost use Rattle.saved_machine.specs.ImagePrint.SavedImage.{saved_mode};
 ghost use Rattle.saved_machine.specs.ImagePrint.Texts.{console_line, resident_lines, shell_line};
 
 use byte_streams::{Output, Sink, SinkFault};
+use kernel_machine::Parts as KernelParts;
 use module_text::SliceText;
 use resident_tasks::console_handler::ConsoleState;
 use saved_text::saved_lines::{print_console, print_ring, print_shell};
 use shell::{Mode, ShellState};
-use tripos_machine::KernelParts;
 
 /// Adds the lines of the type-ahead, the console and the shell to what is pending.
 pub(crate) fn print_residents<K: Sink>(

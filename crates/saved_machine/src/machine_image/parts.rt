@@ -8,7 +8,7 @@ ghost use Rattle.saved_machine.specs.MachineImage.Parts.{console_of, mode_of, ot
 use arrayvec::ArrayVec;
 use byte_streams::WantMemory;
 use kernel_devices::Tty;
-use kernel_machine::Script;
+use kernel_machine::{Parts as KernelParts, Script};
 use kernel_model::ByteKinds;
 use ram_disc::Disc;
 use resident_tasks::Pipes;
@@ -16,7 +16,6 @@ use resident_tasks::console_handler::ConsoleState;
 use saved_text::{Image, Mode as SavedMode};
 use shell::{Mode, ShellState};
 use std::alloc::Global;
-use tripos_machine::KernelParts;
 
 /// What the file handler keeps.
 #[derive(Drop)]

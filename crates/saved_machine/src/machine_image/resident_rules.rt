@@ -13,7 +13,8 @@ ghost use Rattle.saved_machine.specs.MachineImage.Rules.{ResidentsKeep, lists_of
 
 use crate::machine_image::store_rules::version_of;
 use kernel_check::{console_stands, has_residents, highest_of};
-use kernel_model::numbers::{FIRST_GUEST, MOST_AHEAD, MOST_LINE};
+use kernel_lists::FIRST_GUEST;
+use kernel_model::numbers::{MOST_AHEAD, MOST_LINE};
 use ram_disc::codes::SHELL_STREAM;
 use saved_text::{Image, Mode, SavedStream};
 use word_store::Store;

@@ -8,9 +8,9 @@ ghost use Rattle.kernel_model.specs.KernelRecord.Running.{RunsAlive};
 ghost use Rattle.kernel_model.specs.WordKinds.KeptStores.{IsKeptBy};
 
 use kernel_calls::{delete_task, guest, unload_module};
-use kernel_lists::{TcbField, field, highest_id};
+use kernel_lists::{FIRST_GUEST, TcbField, field, highest_id};
 use kernel_model::KindKeeper;
-use kernel_model::numbers::{FIRST_GUEST, SHELL};
+use kernel_model::numbers::SHELL;
 use word_store::Store;
 
 /// Deletes the dead tasks that the shell has made, in rising id, and unloads of each the first module. What the calls refuse stays,

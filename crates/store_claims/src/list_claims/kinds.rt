@@ -5,8 +5,8 @@ ghost use Rattle.kernel_model.specs.KernelRecord.KernelRanges.{task_size_in};
 ghost use Rattle.store_claims.specs.ListClaims.ListWords.{module_size_in};
 
 use crate::word_claims::NodeKind;
-use kernel_lists::{TcbField, field, head_words};
-use kernel_model::numbers::{COROUTINE_WORDS, FIRST_GUEST, PACKET_WORDS, RESIDENT_WORDS};
+use kernel_lists::{FIRST_GUEST, TcbField, field, head_words};
+use kernel_model::numbers::{COROUTINE_WORDS, PACKET_WORDS, RESIDENT_WORDS};
 use word_store::{Store, word_at};
 
 /// The packets of a queue.

@@ -3,8 +3,8 @@ use Rattle.std.specs.Prelude.{◌^◌}
 use Rattle.module_text.specs.TextReader.Refusal.{refusal}
 use Rattle.session_text.specs.declared.sessions.Session.{Session}
 use Rattle.machine_ring.specs.RingLink.LawfulRing.{FitBehind}
-use Rattle.bare_machine.specs.declared.boot.BootEnd.{BootEnd}
-use Rattle.bare_machine.specs.declared.boot.BootEnd.TheVariants.{Line, WantMemory}
+use Rattle.session_text.specs.declared.boot_ends.BootEnd.{BootEnd}
+use Rattle.session_text.specs.declared.boot_ends.BootEnd.TheVariants.{Line, WantMemory}
 use Rattle.tripos_machine.specs.Boot.{EndsAs, boot}
 use Rattle.tripos_machine.proofs.RefusedLines.{boot-refused}
 use Rattle.machine_ring.specs.Boot.{FitsBehind}

@@ -3,7 +3,7 @@ use Rattle.std.proofs.lemmas.Bool.{leb-true}
 use Rattle.byte_streams.specs.Write.{Prints}
 use Rattle.module_text.specs.TextReader.Lines.{lines_of}
 use Rattle.module_text.specs.TextReader.Refusal.{Refusal, refusal}
-use Rattle.bare_machine.specs.declared.boot.BootEnd.{BootEnd}
+use Rattle.session_text.specs.declared.boot_ends.BootEnd.{BootEnd}
 use Rattle.kernel_model.specs.KernelRecord.Ranges.{most_steps}
 use Rattle.tripos_machine.specs.Boot.{EndsAs, boot}
 use Rattle.tripos_machine.specs.State.{State, steps_of}

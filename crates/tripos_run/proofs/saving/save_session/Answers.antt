@@ -1,7 +1,7 @@
 use Rattle.std.proofs.Common.{◌≡◌, ◌∙◌, Result, Err, refl, subst, sym, ap}
 use Rattle.byte_streams.specs.Write.{Prints}
 use Rattle.module_text.specs.TextReader.Refusal.{Refusal, refusal}
-use Rattle.bare_machine.specs.declared.boot.BootEnd.{BootEnd}
+use Rattle.session_text.specs.declared.boot_ends.BootEnd.{BootEnd}
 use Rattle.tripos_machine.specs.Boot.{EndsAs, boot}
 use Rattle.tripos_machine.specs.State.{State}
 use Rattle.tripos_machine.specs.Step.{Stepped, run}
