@@ -5,7 +5,8 @@ use Rattle.std.proofs.lemmas.List.{ext_get_or}
 use Rattle.kernel_lists.specs.OwnedWords.Owned.{Holds, Pairs, owners, written}
 use Rattle.kernel_lists.proofs.OwnedWords.OwnedWords.{Holds-written, length-written, word_in-holds, written-other}
 use Rattle.module_text.specs.ModuleForm.{IsModule}
-use Rattle.module_text.specs.ModuleOfText.{Refusal, module_of}
+use Rattle.module_text.specs.ModuleOfText.{module_of}
+use Rattle.module_text.specs.TextReader.Refusal.{Refusal}
 use Rattle.module_text.specs.Shapes.{check, check_of}
 use Rattle.module_text.specs.declared.modules.Module.{Module}
 use Rattle.module_text.proofs.Sound.{sound}

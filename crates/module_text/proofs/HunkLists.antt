@@ -3,7 +3,8 @@ use Rattle.std.proofs.Common.{◌≡◌, ◌∙◌, ℕ, zero, suc, ◌+◌, ari
 use Rattle.module_text.specs.Tokens.{line_at}
 use Rattle.module_text.specs.Places.{bytes_in, next_span}
 use Rattle.module_text.specs.Grammar.{finish}
-use Rattle.module_text.specs.ModuleOfText.{Refusal, Rest, Stop, hunk, module_of, module_or_refusal, put, read_token, refusal, rest, with_rest}
+use Rattle.module_text.specs.ModuleOfText.{Rest, Stop, hunk, module_of, module_or_refusal, put, read_token, rest, with_rest}
+use Rattle.module_text.specs.TextReader.Refusal.{Refusal, refusal}
 use Rattle.module_text.specs.Answers.{or_bad}
 use Rattle.module_text.specs.TextReader.Answers.{Gives}
 use Rattle.module_text.specs.declared.text_reader.ends.TextEnd.{TextEnd}

@@ -7,7 +7,8 @@ use Rattle.module_text.proofs.TextReader.StepLemmas.{Ok-same, bind-ok, cond-case
 use Rattle.module_text.specs.FirstError.{BeginModule, IsBegun, IsInsideItem, IsOffsetDue, IsTypeDue, IsWhole}
 use Rattle.module_text.specs.Grammar.{finish, first_type, follow, offsets_or_type, words_or_type}
 use Rattle.module_text.specs.ModuleForm.{end_word, hunk_type, item, relocation_type}
-use Rattle.module_text.specs.ModuleOfText.{Rest, ◌>>=◌, hunk, put, rest}
+use Rattle.module_text.specs.ModuleOfText.{Rest, hunk, put, rest}
+use Rattle.module_text.specs.TextReader.Steps.{◌>>=◌}
 use Rattle.module_text.specs.declared.grammar.Expects.{Expects}
 use Rattle.module_text.specs.declared.grammar.Expects.TheVariants.{FirstType, NextType, Length, Word, Count, Offset, Nothing}
 use Rattle.module_text.proofs.Complete.{hunks_again}

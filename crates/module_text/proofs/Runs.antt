@@ -5,7 +5,8 @@ use Rattle.module_text.specs.Tokens.{Token}
 use Rattle.module_text.specs.Words.{word_of}
 use Rattle.module_text.specs.ModuleForm.{AreWords}
 use Rattle.module_text.specs.Grammar.{finish, follow}
-use Rattle.module_text.specs.ModuleOfText.{Rest, ◌>>=◌, or_stop, put, read_token, rest, rest_of}
+use Rattle.module_text.specs.ModuleOfText.{Rest, or_stop, put, read_token, rest, rest_of}
+use Rattle.module_text.specs.TextReader.Steps.{◌>>=◌}
 use Rattle.module_text.specs.declared.grammar.Expects.{Expects}
 use Rattle.module_text.specs.declared.step.Step.{Step}
 use Rattle.module_text.proofs.TextReader.StepLemmas.{Ok-same, bind-ok}

@@ -4,7 +4,8 @@ use Rattle.std.proofs.lemmas.List.Sums.{sum_by-cons}
 use Rattle.module_text.specs.Tokens.{tokens_from, tokens_of}
 use Rattle.module_text.specs.Places.{bytes_in, next_span}
 use Rattle.module_text.specs.Grammar.{finish}
-use Rattle.module_text.specs.ModuleOfText.{Rest, Stop, ◌>>=◌, hunk, module_of, module_or_refusal, or_stop, put, read_token, rest, rest_of}
+use Rattle.module_text.specs.ModuleOfText.{Rest, Stop, hunk, module_of, module_or_refusal, or_stop, put, read_token, rest, rest_of}
+use Rattle.module_text.specs.TextReader.Steps.{◌>>=◌}
 use Rattle.module_text.specs.Shapes.{check, check_of, counted, shape, words_in}
 use Rattle.module_text.specs.declared.modules.Hunk.{Hunk}
 use Rattle.module_text.specs.declared.tokens.Span.{Span}

@@ -6,7 +6,8 @@ use Rattle.std.proofs.lemmas.Bool.Decides.{nat_tests}
 use Rattle.module_text.specs.Tokens.{tokens_of}
 use Rattle.module_text.specs.Grammar.{first_type, follow, offsets_or_type, words_or_type}
 use Rattle.module_text.specs.ModuleForm.{AreHunks, IsModule, end_word, hunk_type, item, relocation_items, relocation_type}
-use Rattle.module_text.specs.ModuleOfText.{Rest, Stop, ◌>>=◌, hunk, module_of, module_or_refusal, put, rest, rest_of}
+use Rattle.module_text.specs.ModuleOfText.{Rest, Stop, hunk, module_of, module_or_refusal, put, rest, rest_of}
+use Rattle.module_text.specs.TextReader.Steps.{◌>>=◌}
 use Rattle.module_text.specs.declared.modules.Hunk.{Hunk}
 use Rattle.module_text.specs.declared.modules.Module.{Module}
 use Rattle.module_text.specs.declared.grammar.Expects.{Expects}

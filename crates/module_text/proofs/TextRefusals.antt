@@ -6,7 +6,9 @@ use Rattle.module_text.proofs.TextReader.StepLemmas.{Err-same, Ok-same, bind-ok,
 use Rattle.module_text.specs.FirstError.{EndsEarly, HasWord, IsBeyond, IsFirstError, IsInsideItem, IsNoOffset, IsNoType, IsNoWord, IsTypeDue}
 use Rattle.module_text.specs.Grammar.{finish, first_type, follow, offsets_or_type}
 use Rattle.module_text.specs.ModuleForm.{AreWords, end_word, hunk_type, relocation_type}
-use Rattle.module_text.specs.ModuleOfText.{Refusal, Rest, Stop, ◌>>=◌, module_of, module_or_refusal, or_stop, put, read_token, refusal, rest, rest_of, stop}
+use Rattle.module_text.specs.ModuleOfText.{Rest, Stop, module_of, module_or_refusal, or_stop, put, read_token, rest, rest_of, stop}
+use Rattle.module_text.specs.TextReader.Refusal.{Refusal, refusal}
+use Rattle.module_text.specs.TextReader.Steps.{◌>>=◌}
 use Rattle.module_text.specs.Tokens.{Token, line_at, tokens_of}
 use Rattle.module_text.specs.Words.{IsWord, word_of}
 use Rattle.module_text.specs.declared.grammar.Expects.{Expects}

@@ -1,8 +1,8 @@
 -- A module read token by token, or the first token that cannot follow.
 use Rattle.std.specs.Prelude.{ℕ, ◌≡◌, List, [], ◌∷◌, ◌++◌, length, Result, Ok, Err}
 use Rattle.std.specs.Option.{ok_or}
-pub use Rattle.module_text.specs.TextReader.Refusal.{Refusal, refusal}
-pub use Rattle.module_text.specs.TextReader.Steps.{◌>>=◌}
+use Rattle.module_text.specs.TextReader.Refusal.{Refusal, refusal}
+use Rattle.module_text.specs.TextReader.Steps.{◌>>=◌}
 use Rattle.module_text.specs.Tokens.{Token, line_at, tokens_of}
 use Rattle.module_text.specs.Words.{word_of}
 use Rattle.module_text.specs.Grammar.{finish, follow}

@@ -1,6 +1,7 @@
 -- How large a module is.
 use Rattle.std.specs.Prelude.{ℕ, ◌+◌, List, length, Result, Ok, Err, sum_by}
-use Rattle.module_text.specs.ModuleOfText.{Refusal, module_of}
+use Rattle.module_text.specs.ModuleOfText.{module_of}
+use Rattle.module_text.specs.TextReader.Refusal.{Refusal}
 use Rattle.module_text.specs.declared.modules.Module.{Module}
 use Rattle.module_text.specs.declared.modules.Hunk.{Hunk}
 use Rattle.module_text.specs.declared.check.Shape.{Shape}

@@ -11,5 +11,4 @@ pub mod saved_lines;
 
 pub use images::{Image, Mode, SavedFile, SavedPipe, SavedStream};
 pub use lists::{Files, Pipes, Streams};
-pub(crate) use module_text::TextEnd;
 pub use read::{ReadImage, read_image};

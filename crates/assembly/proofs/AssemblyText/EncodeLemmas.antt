@@ -7,7 +7,8 @@ use Rattle.assembly.specs.AssemblyText.Labels.{Table}
 use Rattle.assembly.specs.AssemblyText.Pieces.{piece_of}
 use Rattle.assembly.specs.AssemblyText.Places.{end_of, hunk_size, most_words, pairs_of}
 use Rattle.assembly.specs.AssemblyText.LineText.{line_of}
-use Rattle.assembly.specs.AssemblyText.Refusal.{Refusal, at_line}
+use Rattle.assembly.specs.AssemblyText.Refusal.{at_line}
+use Rattle.module_text.specs.TextReader.Refusal.{Refusal}
 use Rattle.module_text.specs.TextReader.Steps.{◌>>=◌}
 use Rattle.assembly.specs.AssemblyText.Survey.{Layout, survey}
 use Rattle.assembly.specs.declared.assembly_text.pieces.Piece.{Piece}

@@ -1,7 +1,8 @@
 -- Steps that were made for a line.
 use Rattle.std.proofs.Common.{◌≡◌, ℕ, Result, Ok, Err, refl, sym, ap}
 use Rattle.assembly.specs.AssemblyText.LineErrors.{code_of}
-use Rattle.assembly.specs.AssemblyText.Refusal.{Refusal, at_line, refusal}
+use Rattle.assembly.specs.AssemblyText.Refusal.{at_line}
+use Rattle.module_text.specs.TextReader.Refusal.{Refusal, refusal}
 use Rattle.assembly.specs.declared.assembly_text.errors.LineError.{LineError}
 
 pub at_line_ok : {A : Type 0} (n : ℕ) (r : Result A LineError) (x : A) → at_line n r ≡ Ok x → r ≡ Ok x

@@ -11,7 +11,8 @@ use Rattle.assembly.specs.AssemblyText.LineErrors.{code_of}
 use Rattle.assembly.specs.AssemblyText.Places.{end_of, first_offset, hunk_size, most_words, pairs_of}
 use Rattle.assembly.specs.AssemblyText.Program.{AreRead, defined, labels_of, placed, program_size}
 use Rattle.assembly.specs.AssemblyText.LineText.{line_of}
-use Rattle.assembly.specs.AssemblyText.Refusal.{Refusal, at_line, refusal}
+use Rattle.assembly.specs.AssemblyText.Refusal.{at_line}
+use Rattle.module_text.specs.TextReader.Refusal.{Refusal, refusal}
 use Rattle.module_text.specs.TextReader.Steps.{◌>>=◌}
 use Rattle.assembly.specs.AssemblyText.Survey.{Layout, admitted, no_lines, survey, survey_line, with_line}
 use Rattle.assembly.specs.declared.assembly_text.errors.LineError.{LineError}

@@ -6,7 +6,7 @@ use Rattle.module_text.specs.TextReader.Lines.{lines_of}
 use Rattle.assembly.specs.AssemblyText.Encoding.{Code, encode}
 use Rattle.assembly.specs.AssemblyText.HunkWords.{hunk_words}
 use Rattle.assembly.specs.AssemblyText.Places.{first_offset}
-use Rattle.assembly.specs.AssemblyText.Refusal.{Refusal}
+use Rattle.module_text.specs.TextReader.Refusal.{Refusal}
 use Rattle.module_text.specs.TextReader.Steps.{◌>>=◌}
 use Rattle.assembly.specs.AssemblyText.Survey.{no_lines, survey}
 

@@ -3,7 +3,8 @@ use Rattle.std.specs.Prelude.{ℕ, ◌+◌, List, [], ◌∷◌, ◌++◌, lengt
 use Rattle.assembly.specs.AssemblyText.Labels.{Table}
 use Rattle.assembly.specs.AssemblyText.Pieces.{piece_of}
 use Rattle.assembly.specs.AssemblyText.LineText.{line_of}
-use Rattle.assembly.specs.AssemblyText.Refusal.{Refusal, at_line}
+use Rattle.assembly.specs.AssemblyText.Refusal.{at_line}
+use Rattle.module_text.specs.TextReader.Refusal.{Refusal}
 use Rattle.module_text.specs.TextReader.Steps.{◌>>=◌}
 use Rattle.assembly.specs.declared.assembly_text.pieces.Piece.{Piece}
 

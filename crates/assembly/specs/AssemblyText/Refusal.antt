@@ -1,6 +1,6 @@
 -- Where and why a text is refused.
 use Rattle.std.specs.Prelude.{ℕ, Result, Ok, Err}
-pub use Rattle.module_text.specs.TextReader.Refusal.{Refusal, refusal}
+use Rattle.module_text.specs.TextReader.Refusal.{Refusal, refusal}
 use Rattle.assembly.specs.AssemblyText.LineErrors.{code_of}
 use Rattle.assembly.specs.declared.assembly_text.errors.LineError.{LineError}
 

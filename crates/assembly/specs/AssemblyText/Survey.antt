@@ -3,7 +3,8 @@ use Rattle.std.specs.Prelude.{ℕ, ◌+◌, if◌then◌else◌, List, [], ◌�
 use Rattle.assembly.specs.AssemblyText.Labels.{Table, no_labels, repeats, with_label}
 use Rattle.assembly.specs.AssemblyText.Places.{end_of, first_offset, hunk_size, most_words, pairs_of}
 use Rattle.assembly.specs.AssemblyText.LineText.{line_of}
-use Rattle.assembly.specs.AssemblyText.Refusal.{Refusal, at_line}
+use Rattle.assembly.specs.AssemblyText.Refusal.{at_line}
+use Rattle.module_text.specs.TextReader.Refusal.{Refusal}
 use Rattle.module_text.specs.TextReader.Steps.{◌>>=◌}
 use Rattle.assembly.specs.declared.assembly_text.errors.LineError.{LineError}
 use Rattle.assembly.specs.declared.assembly_text.errors.LineError.TheVariants.{RepeatedLabel, HunkTooLong}

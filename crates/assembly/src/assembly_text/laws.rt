@@ -6,7 +6,7 @@ ghost use Rattle.assembly.specs.AssemblyText.AssemblyForm.{Assembles, IsBadLine,
 ghost use Rattle.assembly.specs.AssemblyText.LineErrors.{code_of};
 ghost use Rattle.assembly.specs.AssemblyText.LineForm.{IsLine};
 ghost use Rattle.assembly.specs.AssemblyText.LineText.{line_of};
-ghost use Rattle.assembly.specs.AssemblyText.Refusal.{refusal};
+ghost use Rattle.module_text.specs.TextReader.Refusal.{refusal};
 ghost use Rattle.assembly.specs.declared.assembly_text.errors.LineError.{LineError};
 ghost use Rattle.assembly.specs.declared.assembly_text.statements.Line.{Line};
 

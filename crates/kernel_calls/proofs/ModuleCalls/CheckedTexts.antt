@@ -1,7 +1,8 @@
 -- What a checked text says of the module whose text it is.
 use Rattle.std.proofs.Common.{◌≡◌, ℕ, ◌+◌, ◌≤◌, Result, Ok, Err, List, length, refl, sym, ap, ◌∙◌, subst}
 use Rattle.module_text.specs.ModuleForm.{IsModule}
-use Rattle.module_text.specs.ModuleOfText.{Refusal, module_of}
+use Rattle.module_text.specs.ModuleOfText.{module_of}
+use Rattle.module_text.specs.TextReader.Refusal.{Refusal}
 use Rattle.module_text.specs.Shapes.{check, check_of, shape_of}
 use Rattle.module_text.specs.declared.check.Shape.{Shape}
 use Rattle.module_text.specs.declared.modules.Module.{Module}

@@ -1,7 +1,8 @@
 -- The module of a text that was checked, and how long it is.
 use Rattle.std.proofs.Common.{◌≡◌, ◌∙◌, ℕ, ◌+◌, ◌≤◌, Result, Ok, Err, List, [], ◌∷◌, length, refl, sym, ap, arith, length-append}
 use Rattle.module_text.specs.ModuleForm.{AreHunks, IsModule, hunk_type, item, relocation_items}
-use Rattle.module_text.specs.ModuleOfText.{Refusal, module_of}
+use Rattle.module_text.specs.ModuleOfText.{module_of}
+use Rattle.module_text.specs.TextReader.Refusal.{Refusal}
 use Rattle.module_text.specs.ReadingOn.{Reads}
 use Rattle.module_text.specs.Shapes.{check, check_of, shape_of, words_in}
 use Rattle.module_text.specs.declared.check.Shape.{Shape}

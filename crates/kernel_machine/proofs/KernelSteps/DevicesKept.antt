@@ -21,7 +21,8 @@ use Rattle.kernel_devices.specs.Typed.{with_typed}
 use Rattle.guest_turns.specs.GuestTurn.{Numbers, numbers_of}
 use Rattle.guest_turns.proofs.RunningField.{RunsIn, queue-runs}
 use Rattle.kernel_machine.specs.KernelSteps.Parts.{HasSameKeys, HasSameResidents, IsSameMachine, numbers_after_tick}
-use Rattle.kernel_machine.specs.KernelSteps.Step.{Stepped, key, output, quietly, served, tick, typed_by, with_key_typed}
+use Rattle.kernel_machine.specs.KernelSteps.Step.{key, output, served, tick, typed_by, with_key_typed}
+use Rattle.kernel_machine.specs.KernelSteps.Stepped.{Stepped, quietly}
 use Rattle.kernel_machine.proofs.KernelSteps.RunningCaller.{dispatch-after}
 use Rattle.kernel_machine.proofs.KernelSteps.TurnWays.{due-or-not}
 

@@ -16,7 +16,8 @@ use Rattle.kernel_devices.specs.Printed.{printed}
 use Rattle.kernel_devices.specs.Typed.{with_typed}
 use Rattle.kernel_machine.specs.KernelSteps.Parts.{tick_after}
 use Rattle.kernel_machine.specs.KernelSteps.Quiet.{AreDueAfter, AwaitsTick, ComeAfter}
-use Rattle.kernel_machine.specs.KernelSteps.Step.{Stepped, key, meet, output, quietly, served, tick, typed_by, where_due}
+use Rattle.kernel_machine.specs.KernelSteps.Step.{key, meet, output, served, tick, typed_by}
+use Rattle.kernel_machine.specs.KernelSteps.Stepped.{Stepped, quietly, where_due}
 use Rattle.kernel_machine.proofs.KernelSteps.StoredWords.{HasStore, changed-store, settled-same, store-holds}
 
 -- a device that serves nobody

@@ -17,7 +17,8 @@ use Rattle.kernel_model.proofs.KernelRecord.TaskPlaces.{task-places}
 use Rattle.kernel_model.specs.KernelDispatch.Dispatch.{dispatched, first_ready_task, goes_on, suspended, unchanged, with_next, with_suspended}
 use Rattle.kernel_model.proofs.KernelDispatch.SuspendedLists.{none-runs}
 use Rattle.kernel_machine.specs.KernelSteps.Parts.{RunsFirst}
-use Rattle.kernel_machine.specs.KernelSteps.Step.{dispatch, quietly, switched}
+use Rattle.kernel_machine.specs.KernelSteps.Step.{dispatch, switched}
+use Rattle.kernel_machine.specs.KernelSteps.Stepped.{quietly}
 use Rattle.kernel_machine.proofs.KernelSteps.FoundTask.{found-holds}
 use Rattle.kernel_machine.proofs.KernelSteps.StoredWords.{HasStore, settled-same}
 

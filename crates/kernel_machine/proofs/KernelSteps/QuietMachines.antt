@@ -10,7 +10,8 @@ use Rattle.kernel_model.specs.KernelRecord.ValidLists.{AreValid}
 use Rattle.ram_disc.specs.Disc.{IsDisc}
 use Rattle.kernel_machine.specs.KernelSteps.Parts.{IsTaken}
 use Rattle.kernel_machine.specs.KernelSteps.Quiet.{IsQuietFor, after_instruction_of, instruction_of, passed}
-use Rattle.kernel_machine.specs.KernelSteps.Step.{Stepped, quietly, step, turn, with_step}
+use Rattle.kernel_machine.specs.KernelSteps.Step.{step, turn, with_step}
+use Rattle.kernel_machine.specs.KernelSteps.Stepped.{Stepped, quietly}
 use Rattle.kernel_machine.proofs.KernelSteps.NextTick.{some-period}
 use Rattle.kernel_machine.proofs.KernelSteps.QuietDevices.{ticked-store}
 use Rattle.kernel_machine.proofs.KernelSteps.QuietSpans.{valid-ready, guest-passed, passed-more, passed-none, quiet-behind, quiet-first}

@@ -11,7 +11,8 @@ use Rattle.kernel_model.specs.KernelRecord.Lists.{Lists}
 use Rattle.kernel_model.specs.KernelRecord.Task.{is_guest_id}
 use Rattle.kernel_model.specs.KernelRecord.ValidKernel.{IsValid}
 use Rattle.kernel_machine.specs.KernelSteps.Quiet.{AreDueAfter, AwaitsTick, ComeAfter, IsQuietFor, after_instruction_of, instruction_of, passed, with_ticks}
-use Rattle.kernel_machine.specs.KernelSteps.Step.{and_then, quietly, run, step, with_step}
+use Rattle.kernel_machine.specs.KernelSteps.Step.{run, step, with_step}
+use Rattle.kernel_machine.specs.KernelSteps.Stepped.{and_then, quietly}
 use Rattle.kernel_machine.proofs.KernelSteps.NextTick.{next-tick, some-period}
 use Rattle.kernel_machine.proofs.KernelSteps.QuietSteps.{IsReady, guest-step, idle-ready, idle-step}
 use Rattle.kernel_machine.proofs.KernelSteps.RunningCaller.{valid-runs}

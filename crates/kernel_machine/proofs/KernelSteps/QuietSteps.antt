@@ -19,7 +19,8 @@ use Rattle.guest_turns.proofs.TurnFields.{turn-dispatches}
 use Rattle.kernel_machine.specs.KernelSteps.GuestSteps.{after_turn}
 use Rattle.kernel_machine.specs.KernelSteps.Parts.{RunsFirst}
 use Rattle.kernel_machine.specs.KernelSteps.Quiet.{AwaitsTick, ComeAfter, IsQuietFor, after_instruction_of, instruction_of, passed, with_ticks}
-use Rattle.kernel_machine.specs.KernelSteps.Step.{after_the_turn, and_then, dispatch, key, output, quietly, step, tick, turn, unless_stopped, with_step}
+use Rattle.kernel_machine.specs.KernelSteps.Step.{after_the_turn, dispatch, key, output, step, tick, turn, unless_stopped, with_step}
+use Rattle.kernel_machine.specs.KernelSteps.Stepped.{and_then, quietly}
 use Rattle.kernel_machine.proofs.KernelSteps.NextTick.{some-period, tick-periods}
 use Rattle.kernel_machine.proofs.KernelSteps.QuietDevices.{key-stays, output-stays, tick-stays, ticked-store, ticks_to}
 use Rattle.kernel_machine.proofs.KernelSteps.QuietDispatch.{dispatch-stays}

@@ -4,7 +4,8 @@ use Rattle.std.specs.Prelude.{is_some}
 use Rattle.std.proofs.lemmas.List.{append_assoc}
 use Rattle.kernel_model.specs.KernelRecord.Kernel.{Kernel}
 use Rattle.kernel_model.specs.declared.kernel_record.stops.Stop.{Stop}
-use Rattle.kernel_machine.specs.KernelSteps.Step.{Stepped, after_the_turn, and_then, behind, key, output, quietly, run, step, tick, turn, unless_stopped, with_step}
+use Rattle.kernel_machine.specs.KernelSteps.Step.{after_the_turn, key, output, run, step, tick, turn, unless_stopped, with_step}
+use Rattle.kernel_machine.specs.KernelSteps.Stepped.{Stepped, and_then, behind, quietly}
 use Rattle.kernel_machine.proofs.KernelSteps.DevicesKept.{key-same, output-same, tick-same}
 use Rattle.kernel_machine.proofs.KernelSteps.StepEnds.{step-ends, turned}
 use Rattle.kernel_machine.proofs.KernelSteps.StepKept.{dispatch-same}

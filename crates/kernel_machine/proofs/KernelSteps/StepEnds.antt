@@ -3,7 +3,8 @@ use Rattle.std.proofs.Common.{◌≡◌, ◌≢◌, Option, Some, None, cond, re
 use Rattle.std.specs.Prelude.{is_some}
 use Rattle.kernel_model.specs.KernelRecord.Kernel.{Kernel}
 use Rattle.kernel_model.specs.declared.kernel_record.stops.Stop.{Stop}
-use Rattle.kernel_machine.specs.KernelSteps.Step.{Stepped, after_the_turn, and_then, quietly, step, turn, unless_stopped, with_step}
+use Rattle.kernel_machine.specs.KernelSteps.Step.{after_the_turn, step, turn, unless_stopped, with_step}
+use Rattle.kernel_machine.specs.KernelSteps.Stepped.{Stepped, and_then, quietly}
 
 -- what is left out where the machine has stopped
 unless-ways : (P : Stepped → Type 0) (part : Kernel → Stepped) (k : Kernel) → (k.stop ≢ None → P (quietly k)) → (k.stop ≡ None → P (part k)) → P (unless_stopped part k)

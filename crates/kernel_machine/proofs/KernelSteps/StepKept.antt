@@ -13,7 +13,8 @@ use Rattle.kernel_devices.specs.Tick.{ticked}
 use Rattle.kernel_devices.specs.Keys.{met}
 use Rattle.guest_turns.specs.GuestTurn.{Numbers, numbers_of}
 use Rattle.kernel_machine.specs.KernelSteps.Parts.{CanTurn, HasSameKeys, HasSameResidents, IsSameMachine, IsSameSystem, IsTaken, RunsFirst, numbers_after_tick}
-use Rattle.kernel_machine.specs.KernelSteps.Step.{dispatch, key, output, served, step, tick, turn, where_due, with_key_typed, with_step}
+use Rattle.kernel_machine.specs.KernelSteps.Step.{dispatch, key, output, served, step, tick, turn, with_key_typed, with_step}
+use Rattle.kernel_machine.specs.KernelSteps.Stepped.{where_due}
 use Rattle.kernel_machine.proofs.KernelSteps.CallRules.{KeepsRules, keeps-none}
 use Rattle.kernel_machine.proofs.KernelSteps.DeviceRules.{NoDeviceHas, dispatch-keeps, finished-output-keeps, met-devices, met-keeps, no-device-has, tick-keeps, ticked-devices}
 use Rattle.kernel_machine.proofs.KernelSteps.DevicesKept.{key-ahead, key-dispatch, key-keys, key-numbers, key-residents, key-same, output-dispatch, output-keys, output-numbers, output-residents, output-same, tick-dispatch, tick-keys, tick-numbers, tick-residents, tick-same, typed-lists}

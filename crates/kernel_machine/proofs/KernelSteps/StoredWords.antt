@@ -16,7 +16,7 @@ use Rattle.kernel_model.specs.KernelRecord.Owned.{OwnsApart, owned}
 use Rattle.kernel_model.specs.KernelRecord.ValidKernel.{IsValid}
 use Rattle.kernel_model.specs.KernelRecord.ValidLists.{AreValid}
 use Rattle.kernel_model.proofs.KernelRecord.ImageWords.{image-list, valid-image}
-use Rattle.kernel_machine.specs.KernelSteps.Step.{with_store}
+use Rattle.kernel_machine.specs.KernelSteps.Stepped.{with_store}
 use Rattle.kernel_model.proofs.KernelRecord.SettledWords.{word_in-some}
 
 -- the store of a kernel with valid lists

@@ -32,7 +32,8 @@ use Rattle.shell.proofs.KeptShell.{IsSound, turn-sound}
 use Rattle.kernel_machine.specs.KernelSteps.GuestSteps.{guest_step, turn_of_guest}
 use Rattle.kernel_machine.specs.KernelSteps.Parts.{CanTurn, HasSameResidents, IsSameSystem}
 use Rattle.kernel_machine.specs.KernelSteps.ResidentSteps.{console_parts, console_step, file_step, pipe_step, reporter_step, serves_pipes, shell_step}
-use Rattle.kernel_machine.specs.KernelSteps.Step.{Stepped, quietly, turn}
+use Rattle.kernel_machine.specs.KernelSteps.Step.{turn}
+use Rattle.kernel_machine.specs.KernelSteps.Stepped.{Stepped, quietly}
 use Rattle.kernel_machine.proofs.KernelSteps.CallRules.{KeepsRules, turn-keeps}
 use Rattle.kernel_machine.proofs.KernelSteps.ConsoleRules.{IsKept}
 use Rattle.kernel_machine.proofs.KernelSteps.FaultCodes.{fault-code}

@@ -11,7 +11,8 @@ use Rattle.guest_turns.specs.declared.turns.TurnEnd.{TurnEnd}
 use Rattle.guest_turns.specs.declared.turns.TurnEnd.TheVariants.{Faults, Goes, Quits}
 use Rattle.kernel_machine.specs.KernelSteps.GuestSteps.{guest_step, is_recorded, reported_by, turn_of_guest, with_recorded}
 use Rattle.kernel_machine.specs.KernelSteps.ResidentSteps.{console_step, file_step, handler_step, pipe_step, reporter_step, resident_step, serves_pipes, shell_step}
-use Rattle.kernel_machine.specs.KernelSteps.Step.{Stepped, quietly, turn, where_due}
+use Rattle.kernel_machine.specs.KernelSteps.Step.{turn}
+use Rattle.kernel_machine.specs.KernelSteps.Stepped.{Stepped, quietly, where_due}
 
 -- what is due, or is not
 pub due-or-not : (P : Stepped → Type 0) (b : Bool) (part : Kernel → Stepped) (k : Kernel) → (b ≡ true → P (part k)) → (b ≡ false → P (quietly k)) → P (where_due b part k)

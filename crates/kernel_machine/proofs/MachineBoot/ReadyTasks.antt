@@ -4,7 +4,8 @@ use Rattle.std.specs.Prelude.{IfSome, find, unwrap_or}
 use Rattle.std.specs.List.{AllByRecursion, list_any}
 use Rattle.std.proofs.lemmas.Bool.{eqb-true}
 use Rattle.std.specs.Option.{option_map}
-use Rattle.module_text.specs.ModuleOfText.{Refusal, module_of}
+use Rattle.module_text.specs.ModuleOfText.{module_of}
+use Rattle.module_text.specs.TextReader.Refusal.{Refusal}
 use Rattle.module_text.specs.declared.modules.Module.{Module}
 use Rattle.ram_disc.specs.Disc.{Disc, file_named}
 use Rattle.session_text.specs.declared.sessions.SessionLine.{SessionLine}

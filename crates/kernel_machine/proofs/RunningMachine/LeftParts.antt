@@ -11,7 +11,7 @@ use Rattle.kernel_model.specs.WordKinds.ByteMap.{MarksAll}
 use Rattle.kernel_calls.specs.CallAnswers.Outside.{Outside}
 use Rattle.kernel_machine.specs.declared.running_machine.parts.Parts.{Parts}
 use Rattle.kernel_machine.specs.RunningMachine.Stands.{Stands}
-use Rattle.kernel_machine.specs.KernelSteps.Step.{Stepped, and_then, quietly, with_store}
+use Rattle.kernel_machine.specs.KernelSteps.Stepped.{Stepped, and_then, quietly, with_store}
 use Rattle.kernel_machine.proofs.KernelSteps.StoredWords.{image-stored, plain-stored}
 use Rattle.kernel_machine.specs.RunningMachine.Leaves.{Leaves}
 

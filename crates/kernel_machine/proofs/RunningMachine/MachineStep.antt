@@ -7,7 +7,8 @@ use Rattle.kernel_calls.specs.CallAnswers.Outside.{Outside}
 use Rattle.kernel_model.specs.declared.kernel_record.stops.Stop.{Stop}
 use Rattle.kernel_machine.specs.declared.running_machine.parts.Parts.{Parts}
 use Rattle.kernel_machine.specs.KernelSteps.Parts.{IsTaken}
-use Rattle.kernel_machine.specs.KernelSteps.Step.{Stepped, quietly, run, step}
+use Rattle.kernel_machine.specs.KernelSteps.Step.{run, step}
+use Rattle.kernel_machine.specs.KernelSteps.Stepped.{Stepped, quietly}
 use Rattle.kernel_machine.proofs.KernelSteps.StepKept.{step-left}
 use Rattle.kernel_machine.specs.RunningMachine.Leaves.{Leaves}
 use Rattle.kernel_machine.specs.RunningMachine.Machine.{IsWhole, kernel_of}

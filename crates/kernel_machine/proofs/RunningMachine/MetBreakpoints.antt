@@ -5,7 +5,8 @@ use Rattle.instruction_set.specs.Breakpoints.{has_breakpoint}
 use Rattle.kernel_model.specs.KernelRecord.Kernel.{Kernel}
 use Rattle.kernel_model.specs.KernelRecord.Task.{is_guest_id}
 use Rattle.kernel_machine.specs.declared.running_machine.parts.Parts.{Parts}
-use Rattle.kernel_machine.specs.KernelSteps.Step.{Stepped, run}
+use Rattle.kernel_machine.specs.KernelSteps.Step.{run}
+use Rattle.kernel_machine.specs.KernelSteps.Stepped.{Stepped}
 use Rattle.kernel_machine.proofs.KernelSteps.Runs.{run-more}
 use Rattle.kernel_machine.specs.RunningMachine.Runs.{Avoids, IsOnWay, is_met}
 

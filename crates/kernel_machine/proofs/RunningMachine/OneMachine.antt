@@ -12,7 +12,7 @@ use Rattle.kernel_model.proofs.KernelRecord.RecoveredLists.{lists-back}
 use Rattle.kernel_model.specs.declared.kernel_record.stops.Stop.{Stop}
 use Rattle.kernel_machine.specs.declared.running_machine.parts.Parts.{Parts}
 use Rattle.kernel_machine.specs.RunningMachine.Stands.{Stands}
-use Rattle.kernel_machine.specs.KernelSteps.Step.{with_store}
+use Rattle.kernel_machine.specs.KernelSteps.Stepped.{with_store}
 use Rattle.kernel_machine.proofs.KernelSteps.StoredWords.{image-stored, plain-stored}
 use Rattle.kernel_machine.specs.RunningMachine.Machine.{IsWhole, kernel_of}
 

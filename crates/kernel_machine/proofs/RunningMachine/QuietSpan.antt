@@ -18,7 +18,8 @@ use Rattle.guest_turns.specs.Guarded.{is_owned}
 use Rattle.kernel_machine.specs.declared.running_machine.parts.Parts.{Parts}
 use Rattle.kernel_machine.specs.RunningMachine.Stands.{Stands}
 use Rattle.kernel_machine.specs.KernelSteps.Quiet.{IsQuietFor, after_instruction_of, instruction_of, passed}
-use Rattle.kernel_machine.specs.KernelSteps.Step.{Stepped, and_then, quietly, run, step, with_store}
+use Rattle.kernel_machine.specs.KernelSteps.Step.{run, step}
+use Rattle.kernel_machine.specs.KernelSteps.Stepped.{Stepped, and_then, quietly, with_store}
 use Rattle.kernel_machine.proofs.KernelSteps.NextTick.{some-period}
 use Rattle.kernel_machine.proofs.KernelSteps.QuietMachines.{guest-valid, idle-valid}
 use Rattle.kernel_machine.proofs.KernelSteps.QuietSteps.{IsReady}

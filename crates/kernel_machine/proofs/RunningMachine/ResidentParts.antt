@@ -35,7 +35,7 @@ use Rattle.kernel_machine.specs.declared.running_machine.parts.Parts.{Parts}
 use Rattle.kernel_machine.specs.RunningMachine.Stands.{Stands}
 use Rattle.kernel_machine.proofs.RunningMachine.PartsBeside.{stands-beside}
 use Rattle.kernel_machine.specs.KernelSteps.ResidentSteps.{after_resident, console_parts, console_step, file_step, handler_step, pipe_step, reporter_step, resident_step, serves_pipes, shell_step, with_console_lines, with_disc, with_pipes}
-use Rattle.kernel_machine.specs.KernelSteps.Step.{quietly, with_store}
+use Rattle.kernel_machine.specs.KernelSteps.Stepped.{quietly, with_store}
 use Rattle.kernel_machine.proofs.KernelSteps.HandledRules.{request-runs}
 use Rattle.kernel_machine.proofs.KernelSteps.ReportedRuns.{report-runs}
 use Rattle.kernel_machine.proofs.KernelSteps.RunningCaller.{runs-alone, runs-resident}

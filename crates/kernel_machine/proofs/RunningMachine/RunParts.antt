@@ -3,7 +3,8 @@ use Rattle.std.proofs.Common.{◌≡◌, ℕ, ◌+◌, ◌-◌, ◌<◌, Option,
 use Rattle.std.proofs.lemmas.List.{append-nil}
 use Rattle.kernel_model.specs.KernelRecord.Kernel.{Kernel}
 use Rattle.kernel_model.specs.declared.kernel_record.stops.Stop.{Stop}
-use Rattle.kernel_machine.specs.KernelSteps.Step.{Stepped, and_then, quietly, run, step}
+use Rattle.kernel_machine.specs.KernelSteps.Step.{run, step}
+use Rattle.kernel_machine.specs.KernelSteps.Stepped.{Stepped, and_then, quietly}
 use Rattle.kernel_machine.proofs.KernelSteps.Runs.{run-more, run-stopped}
 use Rattle.kernel_machine.specs.RunningMachine.Runs.{AreQuiet, IsQuietButLast}
 

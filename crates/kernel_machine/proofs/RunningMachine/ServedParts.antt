@@ -23,7 +23,8 @@ use Rattle.guest_turns.specs.GuestTurn.{numbers_of}
 use Rattle.kernel_machine.specs.declared.running_machine.parts.Parts.{Parts}
 use Rattle.kernel_machine.specs.RunningMachine.Stands.{Stands}
 use Rattle.kernel_machine.specs.KernelSteps.Parts.{numbers_after_tick}
-use Rattle.kernel_machine.specs.KernelSteps.Step.{dispatch, key, output, quietly, served, switched, tick, typed_by, with_key_typed, with_store}
+use Rattle.kernel_machine.specs.KernelSteps.Step.{dispatch, key, output, served, switched, tick, typed_by, with_key_typed}
+use Rattle.kernel_machine.specs.KernelSteps.Stepped.{quietly, with_store}
 use Rattle.kernel_machine.proofs.KernelSteps.DevicesKept.{key-numbers, output-numbers, tick-numbers}
 use Rattle.kernel_machine.proofs.KernelSteps.DispatchKept.{dispatch-numbers}
 use Rattle.kernel_machine.specs.RunningMachine.Leaves.{CanServe, Leaves}

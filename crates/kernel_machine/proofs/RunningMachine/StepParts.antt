@@ -12,7 +12,8 @@ use Rattle.kernel_model.specs.declared.kernel_record.stops.Stop.{Stop}
 use Rattle.kernel_machine.specs.declared.running_machine.parts.Parts.{Parts}
 use Rattle.kernel_machine.specs.RunningMachine.Stands.{Stands}
 use Rattle.kernel_machine.specs.KernelSteps.Parts.{CanTurn, IsTaken}
-use Rattle.kernel_machine.specs.KernelSteps.Step.{after_the_turn, and_then, dispatch, key, output, quietly, step, tick, turn, unless_stopped, with_step}
+use Rattle.kernel_machine.specs.KernelSteps.Step.{after_the_turn, dispatch, key, output, step, tick, turn, unless_stopped, with_step}
+use Rattle.kernel_machine.specs.KernelSteps.Stepped.{and_then, quietly}
 use Rattle.kernel_machine.proofs.KernelSteps.DevicesKept.{key-dispatch, key-stop, output-dispatch, output-stop, tick-dispatch, tick-stop}
 use Rattle.kernel_machine.proofs.KernelSteps.StepKept.{step-turns}
 use Rattle.kernel_machine.proofs.KernelSteps.TurnKept.{numbers-turn, turn-dispatch}

@@ -7,7 +7,7 @@ use Rattle.kernel_model.specs.KernelRecord.Kernel.{Kernel}
 use Rattle.kernel_model.specs.KernelRecord.Lists.{Lists}
 use Rattle.kernel_devices.specs.Tick.{with_tick}
 use Rattle.guest_turns.specs.Guarded.{is_owned}
-use Rattle.kernel_machine.specs.KernelSteps.Step.{with_store}
+use Rattle.kernel_machine.specs.KernelSteps.Stepped.{with_store}
 
 -- the first key, which comes before any other, comes after this step
 abbrev pub ComeAfter : ℕ → List (ℕ × ℕ) → Type 0

@@ -15,7 +15,7 @@ use Rattle.kernel_devices.specs.Printed.{finished, printed}
 use Rattle.kernel_devices.specs.Typed.{with_typed}
 use Rattle.kernel_machine.specs.KernelSteps.GuestSteps.{guest_step}
 use Rattle.kernel_machine.specs.KernelSteps.ResidentSteps.{resident_step}
-pub use Rattle.kernel_machine.specs.KernelSteps.Stepped.{Stepped, and_then, behind, quietly, where_due, with_store}
+use Rattle.kernel_machine.specs.KernelSteps.Stepped.{Stepped, and_then, behind, quietly, where_due, with_store}
 
 -- ---- the running task's turn
 

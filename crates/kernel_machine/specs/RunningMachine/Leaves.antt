@@ -8,7 +8,7 @@ use Rattle.kernel_calls.specs.CallAnswers.Outside.{Outside}
 use Rattle.kernel_machine.specs.declared.running_machine.parts.Parts.{Parts}
 use Rattle.kernel_machine.specs.RunningMachine.Stands.{Stands}
 use Rattle.kernel_machine.specs.KernelSteps.Parts.{CanTurn}
-use Rattle.kernel_machine.specs.KernelSteps.Step.{Stepped}
+use Rattle.kernel_machine.specs.KernelSteps.Stepped.{Stepped}
 
 -- the code leaves what the part of the step leaves
 pub record Leaves (p : Parts) (old new : Outside) (x : Stepped) : Type 0 where

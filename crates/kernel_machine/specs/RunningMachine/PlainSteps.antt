@@ -9,7 +9,8 @@ use Rattle.kernel_model.specs.KernelRecord.Image.{image}
 use Rattle.kernel_model.specs.KernelRecord.Kernel.{Kernel}
 use Rattle.kernel_model.specs.KernelRecord.Task.{is_guest_id}
 use Rattle.kernel_machine.specs.KernelSteps.Quiet.{IsQuietFor, instruction_of}
-use Rattle.kernel_machine.specs.KernelSteps.Step.{quietly, step}
+use Rattle.kernel_machine.specs.KernelSteps.Step.{step}
+use Rattle.kernel_machine.specs.KernelSteps.Stepped.{quietly}
 
 -- the words are the same but at the word of the ticks and at these places
 abbrev pub DifferBeside : Places → List ℕ → List ℕ → Type 0

@@ -9,7 +9,8 @@ use Rattle.kernel_model.specs.KernelRecord.ValidKernel.{IsValid}
 use Rattle.kernel_machine.specs.declared.running_machine.parts.Parts.{Parts}
 use Rattle.kernel_machine.specs.RunningMachine.Stands.{Stands}
 use Rattle.kernel_machine.specs.KernelSteps.Quiet.{IsQuietFor}
-use Rattle.kernel_machine.specs.KernelSteps.Step.{quietly, run}
+use Rattle.kernel_machine.specs.KernelSteps.Step.{run}
+use Rattle.kernel_machine.specs.KernelSteps.Stepped.{quietly}
 
 -- n steps of the kernel k, which left the parts p; none of them showed or noted anything, or stopped the machine
 pub record HasPassed (n : ℕ) (k : Kernel) (p : Parts) : Type 0 where

@@ -10,7 +10,8 @@ ghost use Rattle.kernel_model.specs.KernelRecord.Task.{is_guest_id};
 ghost use Rattle.kernel_model.specs.KernelRecord.ValidKernel.{IsValid};
 ghost use Rattle.kernel_calls.specs.PacketCalls.Returned.{unserved};
 ghost use Rattle.kernel_machine.specs.KernelSteps.Quiet.{IsQuietFor, after_instruction_of, instruction_of, passed};
-ghost use Rattle.kernel_machine.specs.KernelSteps.Step.{dispatch, quietly, run, served, step, with_step};
+ghost use Rattle.kernel_machine.specs.KernelSteps.Step.{dispatch, run, served, step, with_step};
+ghost use Rattle.kernel_machine.specs.KernelSteps.Stepped.{quietly};
 
 /// A dispatch between steps changes nothing, and neither does a device that serves nobody.
 pub fn settled_law()

@@ -1,7 +1,8 @@
 // Runs.
 ghost use Rattle.std.specs.Prelude.{◌≡◌, ◌≢◌, ◌+◌, ◌≤◌, None, ℕ};
 ghost use Rattle.kernel_model.specs.KernelRecord.Kernel.{Kernel};
-ghost use Rattle.kernel_machine.specs.KernelSteps.Step.{and_then, quietly, run};
+ghost use Rattle.kernel_machine.specs.KernelSteps.Step.{run};
+ghost use Rattle.kernel_machine.specs.KernelSteps.Stepped.{and_then, quietly};
 
 /// A run may be cut in two. A machine that has stopped stays as it is, and a run takes at most its steps.
 pub fn run_law()

@@ -11,7 +11,8 @@ ghost use Rattle.kernel_model.specs.KernelDispatch.Dispatch.{CanDispatch};
 ghost use Rattle.guest_turns.specs.GuestTurn.{numbers_of};
 ghost use Rattle.kernel_model.specs.KernelRecord.Running.{RunsAlone};
 ghost use Rattle.kernel_machine.specs.KernelSteps.Parts.{CanTurn, HasSameKeys, IsSameMachine, RunsFirst};
-ghost use Rattle.kernel_machine.specs.KernelSteps.Step.{quietly, turn};
+ghost use Rattle.kernel_machine.specs.KernelSteps.Step.{turn};
+ghost use Rattle.kernel_machine.specs.KernelSteps.Stepped.{quietly};
 
 /// Between steps the first ready task runs. Where that is a guest, it may make a call.
 pub fn running_law()

@@ -1,7 +1,8 @@
 // Several steps of a machine with a kernel.
 ghost use Rattle.std.specs.Prelude.{◌≡◌, ◌<◌, ◌+◌, ◌≤◌, [], MatchOption, None, ℕ};
 ghost use Rattle.kernel_model.specs.KernelRecord.Ranges.{most_steps};
-ghost use Rattle.kernel_machine.specs.KernelSteps.Step.{quietly, run};
+ghost use Rattle.kernel_machine.specs.KernelSteps.Step.{run};
+ghost use Rattle.kernel_machine.specs.KernelSteps.Stepped.{quietly};
 ghost use Rattle.kernel_machine.specs.RunningMachine.PlainSteps.{IsPlain, IsPlainStep};
 ghost use Rattle.kernel_machine.specs.RunningMachine.Runs.{AreQuiet, Avoids, IsIdle, IsQuietButLast, is_met};
 ghost use Rattle.kernel_model.specs.KernelRecord.LoggedEvents.{LogsAll};

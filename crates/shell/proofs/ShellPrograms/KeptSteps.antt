@@ -7,7 +7,8 @@ use Rattle.std.specs.Option.{option_map}
 use Rattle.kernel_lists.specs.LinkedList.Places.{without_first}
 use Rattle.kernel_lists.specs.declared.getvec_chain.pieces.Block.{Block}
 use Rattle.kernel_lists.specs.HunkLoader.HeldModules.{LoadedModule}
-use Rattle.module_text.specs.ModuleOfText.{Refusal, module_of}
+use Rattle.module_text.specs.ModuleOfText.{module_of}
+use Rattle.module_text.specs.TextReader.Refusal.{Refusal}
 use Rattle.module_text.specs.declared.modules.Module.{Module}
 use Rattle.ram_disc.specs.Disc.{Disc, file_named}
 use Rattle.kernel_model.specs.KernelRecord.Changes.{with_new_task, with_tasks}

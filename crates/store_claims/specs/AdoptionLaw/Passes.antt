@@ -13,11 +13,10 @@ use Rattle.kernel_lists.specs.TaskBlock.RootWords.{first_module, first_task, roo
 use Rattle.kernel_lists.specs.TaskBlock.TaskChain.{task_link, tasks_in}
 use Rattle.kernel_lists.specs.declared.task_block.roots.RootField.TheVariants.{Running}
 use Rattle.kernel_lists.specs.Coroutines.CoroutineExchanges.{words_of_coroutines}
-use Rattle.kernel_model.specs.KernelRecord.KernelRanges.{IsModuleIn}
+use Rattle.kernel_model.specs.KernelRecord.KernelRanges.{IsModuleIn, has_residents}
 use Rattle.kernel_model.specs.KernelRecord.Lists.{Lists, address_of_task}
 use Rattle.kernel_model.specs.KernelRecord.Owned.{OwnsApart, clock_head, keyboard_head, output_head}
 use Rattle.kernel_model.specs.KernelRecord.Recovered.{lists_in}
-use Rattle.kernel_model.specs.KernelRecord.KernelRanges.{has_residents}
 use Rattle.kernel_model.specs.KernelRecord.Residents.{pending_head, resident_words}
 use Rattle.kernel_model.specs.KernelRecord.Root.{root_words}
 use Rattle.kernel_model.specs.KernelRecord.Task.{Task, fault_words, state_words, task_address, task_id}

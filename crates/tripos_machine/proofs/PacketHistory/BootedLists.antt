@@ -29,8 +29,8 @@ use Rattle.kernel_boot.proofs.LawfulLines.{boot-lines}
 use Rattle.kernel_boot.proofs.ResidentLists.{residents-changed}
 use Rattle.kernel_boot.proofs.StartedTasks.{form-keeps, guest-created, may-create}
 use Rattle.kernel_machine.specs.KernelSteps.ResidentSteps.{with_disc}
-use Rattle.kernel_machine.specs.KernelSteps.Step.{dispatch, with_store}
-use Rattle.kernel_machine.specs.KernelSteps.Stepped.{Stepped}
+use Rattle.kernel_machine.specs.KernelSteps.Step.{dispatch}
+use Rattle.kernel_machine.specs.KernelSteps.Stepped.{with_store, Stepped}
 use Rattle.kernel_machine.proofs.KernelSteps.StepKept.{dispatch-residents, dispatch-same}
 use Rattle.kernel_machine.proofs.KernelSteps.StoredWords.{plain-stored}
 use Rattle.kernel_machine.specs.MachineBoot.Boot.{HasKernel, boot, first_kernel, first_lists, started, with_files, with_lines, with_standing, with_tasks}

@@ -8,7 +8,8 @@ use Rattle.kernel_model.specs.KernelRecord.Kernel.{Kernel}
 use Rattle.kernel_model.specs.KernelRecord.Ranges.{most_steps}
 use Rattle.kernel_model.specs.KernelRecord.ValidKernel.{IsValid}
 use Rattle.kernel_model.specs.declared.kernel_record.stops.Stop.{Stop}
-use Rattle.kernel_machine.specs.KernelSteps.Step.{Stepped, dispatch, key, output, run, step, tick, turn, with_step}
+use Rattle.kernel_machine.specs.KernelSteps.Step.{dispatch, key, output, run, step, tick, turn, with_step}
+use Rattle.kernel_machine.specs.KernelSteps.Stepped.{Stepped}
 use Rattle.kernel_machine.proofs.KernelSteps.Runs.{step-steps, step-stopped}
 use Rattle.tripos_machine.specs.PacketHistory.Queues.{Moves, ledger_of}
 use Rattle.tripos_machine.specs.PacketHistory.Senders.{HasSender, PartHolds, StepHolds}

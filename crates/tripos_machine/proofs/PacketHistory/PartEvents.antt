@@ -15,7 +15,8 @@ use Rattle.kernel_calls.specs.PacketCalls.Returned.{first_returned}
 use Rattle.kernel_calls.specs.declared.packet_calls.returns.Device.TheVariants as devices
 use Rattle.kernel_devices.specs.Tick.{due_packets, events_of_return, ticked}
 use Rattle.kernel_devices.specs.Keys.{met}
-use Rattle.kernel_machine.specs.KernelSteps.Step.{Stepped, after_the_turn, and_then, dispatch, key, output, quietly, served, step, tick, turn, unless_stopped, where_due, with_key_typed, with_step}
+use Rattle.kernel_machine.specs.KernelSteps.Step.{after_the_turn, dispatch, key, output, served, step, tick, turn, unless_stopped, with_key_typed, with_step}
+use Rattle.kernel_machine.specs.KernelSteps.Stepped.{Stepped, and_then, quietly, where_due}
 use Rattle.kernel_machine.proofs.KernelSteps.DispatchKept.{three-ways}
 use Rattle.tripos_machine.specs.EventHistory.Acceptances.{taken_from}
 use Rattle.tripos_machine.specs.EventHistory.Ledger.{clock, same_queue}

@@ -20,7 +20,8 @@ use Rattle.session_text.specs.declared.sessions.Session.{Session}
 use Rattle.kernel_machine.specs.MachineBoot.Boot.{HasKernel, boot}
 use Rattle.kernel_machine.specs.KernelSteps.Parts.{HasSameResidents}
 use Rattle.kernel_machine.specs.KernelSteps.ResidentSteps.{file_step, pipe_step, resident_step, serves_pipes}
-use Rattle.kernel_machine.specs.KernelSteps.Step.{Stepped, after_the_turn, run, step, turn, with_step}
+use Rattle.kernel_machine.specs.KernelSteps.Step.{after_the_turn, run, step, turn, with_step}
+use Rattle.kernel_machine.specs.KernelSteps.Stepped.{Stepped}
 use Rattle.kernel_machine.proofs.KernelSteps.FilesKept.{rest-residents}
 use Rattle.kernel_machine.proofs.KernelSteps.StepEnds.{step-ends, turned}
 use Rattle.kernel_machine.proofs.KernelSteps.TurnWays.{turn-resident, turn-ways}

@@ -12,7 +12,8 @@ use Rattle.kernel_model.proofs.KernelRecord.ImageWords.{image-of}
 use Rattle.kernel_devices.specs.Keys.{left_typed, met}
 use Rattle.kernel_devices.specs.Printed.{finished}
 use Rattle.kernel_devices.specs.Tick.{ticked}
-use Rattle.kernel_machine.specs.KernelSteps.Step.{dispatch, key, output, served, step, tick, turn, with_key_typed, with_step, with_store}
+use Rattle.kernel_machine.specs.KernelSteps.Step.{dispatch, key, output, served, step, tick, turn, with_key_typed, with_step}
+use Rattle.kernel_machine.specs.KernelSteps.Stepped.{with_store}
 use Rattle.kernel_machine.proofs.KernelSteps.StepEnds.{step-ends}
 use Rattle.kernel_machine.proofs.KernelSteps.StoredWords.{plain-stored}
 use Rattle.kernel_machine.proofs.KernelSteps.TurnWays.{due-or-not, turn-ways}

@@ -2,7 +2,8 @@
 use Rattle.std.proofs.Common.{◌≡◌, ℕ, ◌++◌, Option, Some, None, Result, Ok, Err, List, [], ◌∷◌, refl, sym, ◌∙◌, subst}
 use Rattle.std.specs.Prelude.{unwrap_or}
 use Rattle.std.specs.Option.{option_map}
-use Rattle.module_text.specs.ModuleOfText.{Refusal, module_of}
+use Rattle.module_text.specs.ModuleOfText.{module_of}
+use Rattle.module_text.specs.TextReader.Refusal.{Refusal}
 use Rattle.module_text.specs.declared.modules.Module.{Module}
 use Rattle.ram_disc.specs.Disc.{Disc, file_named}
 use Rattle.kernel_lists.specs.HunkLoader.ModuleExchanges.{hunk_words}

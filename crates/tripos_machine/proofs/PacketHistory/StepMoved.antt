@@ -14,7 +14,8 @@ use Rattle.kernel_calls.specs.declared.packet_calls.returns.Device.TheVariants a
 use Rattle.kernel_calls.proofs.PacketCalls.ReturnedLists.{returned-valid}
 use Rattle.kernel_devices.specs.Tick.{due_packets, later_packets, ticked, with_returned, with_tick}
 use Rattle.kernel_devices.specs.Keys.{met}
-use Rattle.kernel_machine.specs.KernelSteps.Step.{Stepped, after_the_turn, and_then, devices, dispatch, key, output, quietly, served, step, tick, turn, unless_stopped, where_due, with_key_typed, with_step}
+use Rattle.kernel_machine.specs.KernelSteps.Step.{after_the_turn, devices, dispatch, key, output, served, step, tick, turn, unless_stopped, with_key_typed, with_step}
+use Rattle.kernel_machine.specs.KernelSteps.Stepped.{Stepped, and_then, quietly, where_due}
 use Rattle.kernel_machine.proofs.KernelSteps.DevicesKept.{typed-lists}
 use Rattle.tripos_machine.specs.PacketHistory.Queues.{Moves}
 use Rattle.tripos_machine.proofs.PacketHistory.Moves.{move-none, moves-then}

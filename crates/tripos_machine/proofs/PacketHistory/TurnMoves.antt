@@ -16,7 +16,8 @@ use Rattle.guest_turns.proofs.FaultedTurn.{fault-untouched}
 use Rattle.resident_tasks.specs.FaultReporter.Recorded.{recorded, recorded_events}
 use Rattle.kernel_machine.specs.KernelSteps.GuestSteps.{guest_step, with_recorded}
 use Rattle.kernel_machine.specs.KernelSteps.Parts.{RunsFirst}
-use Rattle.kernel_machine.specs.KernelSteps.Step.{Stepped, turn, with_step}
+use Rattle.kernel_machine.specs.KernelSteps.Step.{turn, with_step}
+use Rattle.kernel_machine.specs.KernelSteps.Stepped.{Stepped}
 use Rattle.kernel_machine.proofs.KernelSteps.RunningCaller.{runs-calls, runs-resident, valid-runs}
 use Rattle.kernel_machine.proofs.KernelSteps.TurnWays.{IsRecorded, guest-ways, turn-guest, turn-nobody, turn-resident}
 use Rattle.tripos_machine.specs.PacketHistory.Queues.{IsDueIn}

@@ -1,4 +1,5 @@
-use Rattle.kernel_machine.specs.KernelSteps.Step.{and_then, dispatch, key, output, tick}
+use Rattle.kernel_machine.specs.KernelSteps.Step.{dispatch, key, output, tick}
+use Rattle.kernel_machine.specs.KernelSteps.Stepped.{and_then}
 use Rattle.kernel_machine.proofs.RunningMachine.LeftParts.{leaves-then}
 use Rattle.kernel_machine.proofs.RunningMachine.StepParts.{serving}
 use Rattle.kernel_machine.proofs.running_machine.steps.serve.Goals as goal

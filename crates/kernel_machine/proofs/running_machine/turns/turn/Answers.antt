@@ -3,7 +3,7 @@ use Rattle.std.proofs.lemmas.List.{length-append}
 use Rattle.ram_disc.specs.Disc.{IsDisc}
 use Rattle.kernel_machine.specs.KernelSteps.GuestSteps.{guest_step}
 use Rattle.kernel_machine.specs.KernelSteps.ResidentSteps.{resident_step}
-use Rattle.kernel_machine.specs.KernelSteps.Step.{Stepped}
+use Rattle.kernel_machine.specs.KernelSteps.Stepped.{Stepped}
 use Rattle.kernel_machine.proofs.KernelSteps.TurnWays.{turn-guest, turn-resident}
 use Rattle.kernel_machine.specs.RunningMachine.Leaves.{Leaves}
 use Rattle.kernel_machine.proofs.RunningMachine.RunningTask.{guest-number, other-number}

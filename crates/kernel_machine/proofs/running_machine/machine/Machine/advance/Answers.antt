@@ -1,7 +1,7 @@
 use Rattle.std.proofs.Common.{◌∙◌, ap, arith, refl, subst, sym}
 use Rattle.kernel_model.specs.KernelRecord.NotedEvents.{NotesAll}
 use Rattle.kernel_model.proofs.KernelRecord.NotedInTurn.{notes-none}
-use Rattle.kernel_machine.specs.KernelSteps.Step.{Stepped}
+use Rattle.kernel_machine.specs.KernelSteps.Stepped.{Stepped}
 use Rattle.kernel_machine.proofs.KernelSteps.Runs.{run-steps}
 use Rattle.kernel_machine.specs.RunningMachine.Runs.{is_met}
 use Rattle.kernel_machine.proofs.RunningMachine.MetBreakpoints.{avoids-next}
