@@ -4,7 +4,7 @@ ghost use Rattle.instruction_set.specs.Instruction.{instruction};
 ghost use Rattle.kernel_model.specs.KernelRecord.HoldsLists.{HoldsLists};
 ghost use Rattle.kernel_model.specs.KernelRecord.Lists.{Lists};
 ghost use Rattle.guest_turns.specs.Guarded.{is_owned};
-ghost use Rattle.kernel_model.specs.WordKinds.KeptStores.{IsKeptBy};
+ghost use Rattle.kernel_model.specs.KernelRecord.ChangedStore.{HasKeeper};
 
 use instruction_set::{Outcome, execute, execute_alone};
 use kernel_model::KindKeeper;
@@ -14,14 +14,14 @@ use word_store::{Regs, Store};
 /// of them is fault 6, and writes nothing.
 pub fn execute_guest<Q: KindKeeper>(store: &mut Store, regs: &mut Regs, kinds: &Q) -> Outcome
     requires byte { regs.old.c < 256 }
-    requires keeper { (l : Lists) × IsKeptBy Q.KindKeeper store.old kinds.now l }
-    ensures outcome { (l : Lists) → IsKeptBy Q.KindKeeper store.old kinds.now l
+    requires keeper { (l : Lists) × HasKeeper store.old (Q.tells kinds.now) (Q.room kinds.now) l }
+    ensures outcome { (l : Lists) → HasKeeper store.old (Q.tells kinds.now) (Q.room kinds.now) l
         → result ≡ (instruction (is_owned l) store.old regs.old).outcome }
-    ensures words { (l : Lists) → IsKeptBy Q.KindKeeper store.old kinds.now l
+    ensures words { (l : Lists) → HasKeeper store.old (Q.tells kinds.now) (Q.room kinds.now) l
         → store.new ≡ (instruction (is_owned l) store.old regs.old).words }
-    ensures regs { (l : Lists) → IsKeptBy Q.KindKeeper store.old kinds.now l
+    ensures regs { (l : Lists) → HasKeeper store.old (Q.tells kinds.now) (Q.room kinds.now) l
         → regs.new ≡ (instruction (is_owned l) store.old regs.old).regs }
-    ensures lists { (l : Lists) → IsKeptBy Q.KindKeeper store.old kinds.now l
+    ensures lists { (l : Lists) → HasKeeper store.old (Q.tells kinds.now) (Q.room kinds.now) l
         → HoldsLists store.new l }
     ensures byte { regs.new.c < 256 }
 {
@@ -33,14 +33,14 @@ pub fn execute_guest<Q: KindKeeper>(store: &mut Store, regs: &mut Regs, kinds: &
 #[inline(always)]
 pub fn execute_next<Q: KindKeeper>(store: &mut Store, regs: &mut Regs, kinds: &Q) -> Outcome
     requires byte { regs.old.c < 256 }
-    requires keeper { (l : Lists) × IsKeptBy Q.KindKeeper store.old kinds.now l }
-    ensures outcome { (l : Lists) → IsKeptBy Q.KindKeeper store.old kinds.now l
+    requires keeper { (l : Lists) × HasKeeper store.old (Q.tells kinds.now) (Q.room kinds.now) l }
+    ensures outcome { (l : Lists) → HasKeeper store.old (Q.tells kinds.now) (Q.room kinds.now) l
         → result ≡ (instruction (is_owned l) store.old regs.old).outcome }
-    ensures words { (l : Lists) → IsKeptBy Q.KindKeeper store.old kinds.now l
+    ensures words { (l : Lists) → HasKeeper store.old (Q.tells kinds.now) (Q.room kinds.now) l
         → store.new ≡ (instruction (is_owned l) store.old regs.old).words }
-    ensures regs { (l : Lists) → IsKeptBy Q.KindKeeper store.old kinds.now l
+    ensures regs { (l : Lists) → HasKeeper store.old (Q.tells kinds.now) (Q.room kinds.now) l
         → regs.new ≡ (instruction (is_owned l) store.old regs.old).regs }
-    ensures lists { (l : Lists) → IsKeptBy Q.KindKeeper store.old kinds.now l
+    ensures lists { (l : Lists) → HasKeeper store.old (Q.tells kinds.now) (Q.room kinds.now) l
         → HoldsLists store.new l }
     ensures stays { result ≢ Outcome.Next → (store.new ≡ store.old) × (regs.new ≡ regs.old) }
     ensures byte { regs.new.c < 256 }

@@ -7,7 +7,7 @@ ghost use Rattle.kernel_calls.specs.CoroutineCalls.Switched.{IsSwitched};
 ghost use Rattle.kernel_calls.specs.CallAnswers.Outside.{outside};
 ghost use Rattle.kernel_calls.specs.Calls.{kernel_call};
 ghost use Rattle.guest_turns.specs.GuestTurn.{IsTurned, called, end_of_call, returned, turn_without_reporter};
-ghost use Rattle.kernel_model.specs.WordKinds.KeptStores.{IsKeptBy};
+ghost use Rattle.kernel_model.specs.KernelRecord.ChangedStore.{HasKeeper};
 
 use crate::execute_guest;
 use byte_streams::Output;
@@ -47,9 +47,9 @@ pub fn guest_turn<Q: KindKeeper, L: EventLog>(
 ) -> TurnEnd
     requires byte { regs.old.c < 256 }
     requires caller { (l : Lists)
-        × IsKeptBy Q.KindKeeper store.old kinds.old l × HasCaller l }
+        × HasKeeper store.old (Q.tells kinds.old) (Q.room kinds.old) l × HasCaller l }
     requires room_for_byte { length out.old < 8192 }
-    ensures turned { (l : Lists) → IsKeptBy Q.KindKeeper store.old kinds.old l
+    ensures turned { (l : Lists) → HasKeeper store.old (Q.tells kinds.old) (Q.room kinds.old) l
         → HasCaller l
         → IsTurned store.new regs.new (Q.tells kinds.new)
         (outside out.old (L.noted log.old) (L.has_failed log.old))
@@ -77,9 +77,9 @@ fn make_call<Q: KindKeeper, L: EventLog>(
     log: &mut L,
 ) -> TurnEnd
     requires caller { (l : Lists)
-        × IsKeptBy Q.KindKeeper store.old kinds.old l × HasCaller l }
+        × HasKeeper store.old (Q.tells kinds.old) (Q.room kinds.old) l × HasCaller l }
     requires room_for_byte { length out.old < 8192 }
-    ensures turned { (l : Lists) → IsKeptBy Q.KindKeeper store.old kinds.old l
+    ensures turned { (l : Lists) → HasKeeper store.old (Q.tells kinds.old) (Q.room kinds.old) l
         → HasCaller l
         → IsTurned store.new regs.new (Q.tells kinds.new)
         (outside out.old (L.noted log.old) (L.has_failed log.old))

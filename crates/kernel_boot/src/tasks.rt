@@ -4,7 +4,7 @@ ghost use Rattle.kernel_model.specs.KernelRecord.Lists.{Lists};
 ghost use Rattle.kernel_calls.specs.CallAnswers.Made.{IsMade};
 ghost use Rattle.kernel_boot.specs.BootTasks.{AreBootLines, AreLoaded, IsBootForm, IsLeft, MayStart, load_named, load_names, start_form, start_task, start_tasks};
 ghost use Rattle.kernel_model.specs.KernelRecord.Standing.{standing};
-ghost use Rattle.kernel_model.specs.WordKinds.KeptStores.{IsKeptBy};
+ghost use Rattle.kernel_model.specs.KernelRecord.ChangedStore.{HasKeeper};
 
 use crate::{BootRefusal, begin_task};
 use arrayvec::ArrayVec;
@@ -33,10 +33,10 @@ pub fn start_tasks<Q: KindKeeper>(
     lines: &[SessionLine],
 ) -> Result<(), BootRefusal>
     requires { (l : Lists)
-        × IsKeptBy Q.KindKeeper store.old kinds.old l
+        × HasKeeper store.old (Q.tells kinds.old) (Q.room kinds.old) l
         × AreBootLines l.version lines.now }
     ensures started { (l : Lists)
-        → IsKeptBy Q.KindKeeper store.old kinds.old l
+        → HasKeeper store.old (Q.tells kinds.old) (Q.room kinds.old) l
         → AreBootLines l.version lines.now
         → IsLeft store.new (Q.tells kinds.new) (Q.room kinds.new) result
         (start_tasks disc.now lines.now (standing store.old l)) }
@@ -61,10 +61,10 @@ fn start_form<Q: KindKeeper>(
     form: &LineForm,
 ) -> Result<(), u32>
     requires { (l : Lists)
-        × IsKeptBy Q.KindKeeper store.old kinds.old l
+        × HasKeeper store.old (Q.tells kinds.old) (Q.room kinds.old) l
         × IsBootForm l.version form.now }
     ensures started { (l : Lists)
-        → IsKeptBy Q.KindKeeper store.old kinds.old l
+        → HasKeeper store.old (Q.tells kinds.old) (Q.room kinds.old) l
         → IsBootForm l.version form.now
         → IsLeft store.new (Q.tells kinds.new) (Q.room kinds.new) result
         (start_form disc.now form.now (standing store.old l)) }
@@ -92,10 +92,10 @@ fn start_task<Q: KindKeeper>(
     names: &[Name],
 ) -> Result<(), u32>
     requires { (l : Lists)
-        × IsKeptBy Q.KindKeeper store.old kinds.old l
+        × HasKeeper store.old (Q.tells kinds.old) (Q.room kinds.old) l
         × MayStart l.version id names.now }
     ensures started { (l : Lists)
-        → IsKeptBy Q.KindKeeper store.old kinds.old l
+        → HasKeeper store.old (Q.tells kinds.old) (Q.room kinds.old) l
         → MayStart l.version id names.now
         → IsLeft store.new (Q.tells kinds.new) (Q.room kinds.new) result
         (start_task disc.now id pri stack names.now (standing store.old l)) }
@@ -117,10 +117,10 @@ fn load_names<Q: KindKeeper>(
     disc: &Disc,
     names: &[Name],
 ) -> Result<ArrayVec<u32, 8>, u32>
-    requires holds { (l : Lists) × IsKeptBy Q.KindKeeper store.old kinds.old l }
+    requires holds { (l : Lists) × HasKeeper store.old (Q.tells kinds.old) (Q.room kinds.old) l }
     requires few { length names.now ≤ 8 }
     ensures loaded { (l : Lists)
-        → IsKeptBy Q.KindKeeper store.old kinds.old l
+        → HasKeeper store.old (Q.tells kinds.old) (Q.room kinds.old) l
         → AreLoaded store.new (Q.tells kinds.new) (Q.room kinds.new) result
         (load_names disc.now names.now [] (standing store.old l)) }
     ensures room { Q.room kinds.new ≡ Q.room kinds.old }
@@ -139,9 +139,9 @@ fn load_named<Q: KindKeeper>(
     disc: &Disc,
     name: &Name,
 ) -> Result<u32, u32>
-    requires { (l : Lists) × IsKeptBy Q.KindKeeper store.old kinds.old l }
+    requires { (l : Lists) × HasKeeper store.old (Q.tells kinds.old) (Q.room kinds.old) l }
     ensures made { (l : Lists)
-        → IsKeptBy Q.KindKeeper store.old kinds.old l
+        → HasKeeper store.old (Q.tells kinds.old) (Q.room kinds.old) l
         → IsMade store.old store.new (Q.tells kinds.new) result (load_named disc.now name.now l) }
     ensures room { Q.room kinds.new ≡ Q.room kinds.old }
 {

@@ -6,7 +6,7 @@ ghost use Rattle.kernel_calls.specs.CallAnswers.Made.{IsMade, plain_answer};
 ghost use Rattle.kernel_calls.specs.TaskCalls.CreateTask.{create_task};
 ghost use Rattle.kernel_calls.specs.CallAnswers.Outside.{outside};
 ghost use Rattle.kernel_calls.specs.Calls.{IsCalled, answered, kernel_call, made, regs_of_switch};
-ghost use Rattle.kernel_model.specs.WordKinds.KeptStores.{IsKeptBy};
+ghost use Rattle.kernel_model.specs.KernelRecord.ChangedStore.{HasKeeper};
 
 use crate::block_calls::{freevec, getvec};
 use crate::call_answers::caller;
@@ -33,9 +33,9 @@ pub fn call<Q: KindKeeper, L: EventLog>(
     log: &mut L,
 ) -> CallOutcome
     requires caller { (l : Lists)
-        × IsKeptBy Q.KindKeeper store.old kinds.old l × HasCaller l }
+        × HasKeeper store.old (Q.tells kinds.old) (Q.room kinds.old) l × HasCaller l }
     requires room_for_byte { length out.old < 8192 }
-    ensures called { (l : Lists) → IsKeptBy Q.KindKeeper store.old kinds.old l
+    ensures called { (l : Lists) → HasKeeper store.old (Q.tells kinds.old) (Q.room kinds.old) l
         → HasCaller l
         → IsCalled store.old store.new regs.new (Q.tells kinds.new)
         (outside out.old (L.noted log.old) (L.has_failed log.old))
@@ -62,9 +62,9 @@ fn make<Q: KindKeeper, L: EventLog>(
     call: KernelCall,
 ) -> CallOutcome
     requires caller { (l : Lists)
-        × IsKeptBy Q.KindKeeper store.old kinds.old l × HasCaller l }
+        × HasKeeper store.old (Q.tells kinds.old) (Q.room kinds.old) l × HasCaller l }
     requires room_for_byte { length out.old < 8192 }
-    ensures called { (l : Lists) → IsKeptBy Q.KindKeeper store.old kinds.old l
+    ensures called { (l : Lists) → HasKeeper store.old (Q.tells kinds.old) (Q.room kinds.old) l
         → HasCaller l
         → IsCalled store.old store.new regs.new (Q.tells kinds.new)
         (outside out.old (L.noted log.old) (L.has_failed log.old))
@@ -136,8 +136,8 @@ fn create<Q: KindKeeper>(
     priority: u32,
 ) -> Result<u32, u32>
     requires { (l : Lists)
-        × IsKeptBy Q.KindKeeper store.old kinds.old l × HasCaller l }
-    ensures made { (l : Lists) → IsKeptBy Q.KindKeeper store.old kinds.old l
+        × HasKeeper store.old (Q.tells kinds.old) (Q.room kinds.old) l × HasCaller l }
+    ensures made { (l : Lists) → HasKeeper store.old (Q.tells kinds.old) (Q.room kinds.old) l
         → HasCaller l
         → IsMade store.old store.new (Q.tells kinds.new) result
         (create_task store.old l 0 («module» ∷ []) highest priority l.running) }

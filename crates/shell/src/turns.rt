@@ -8,7 +8,7 @@ ghost use Rattle.shell.specs.DoneParts.{IsDone, IsReady, IsShellTurn, Start};
 ghost use Rattle.shell.specs.ShellTurn.{RunsShell, first_treated, program_ended, return_code, shell_turn, treated_in};
 ghost use Rattle.shell.specs.TurnParts.{ShellTurn, most_shown};
 ghost use Rattle.resident_tasks.specs.declared.resident_requests.requests.Request.{Request};
-ghost use Rattle.kernel_model.specs.WordKinds.KeptStores.{IsKeptBy};
+ghost use Rattle.kernel_model.specs.KernelRecord.ChangedStore.{HasKeeper};
 
 use crate::commands::execute_line;
 use crate::modes::Mode;
@@ -40,9 +40,9 @@ pub fn shell_turn<Q: KindKeeper, L: EventLog>(
     log: &mut L,
 ) -> bool
     requires empty { out.old ≡ [] }
-    requires shell { (l : Lists) × IsKeptBy Q.KindKeeper store.old kinds.old l
+    requires shell { (l : Lists) × HasKeeper store.old (Q.tells kinds.old) (Q.room kinds.old) l
         × RunsShell l state.old disc.old }
-    ensures turn { (l : Lists) → IsKeptBy Q.KindKeeper store.old kinds.old l
+    ensures turn { (l : Lists) → HasKeeper store.old (Q.tells kinds.old) (Q.room kinds.old) l
         → RunsShell l state.old disc.old
         → IsShellTurn store.new (Q.tells kinds.new) (Q.room kinds.new)
         (outside out.old (L.noted log.old) (L.has_failed log.old))

@@ -2,7 +2,7 @@
 ghost use Rattle.kernel_model.specs.KernelRecord.Lists.{Lists};
 ghost use Rattle.kernel_calls.specs.CallAnswers.Made.{IsMade, plain_answer};
 ghost use Rattle.kernel_calls.specs.BlockCalls.Freevec.{freevec};
-ghost use Rattle.kernel_model.specs.WordKinds.KeptStores.{IsKeptBy};
+ghost use Rattle.kernel_model.specs.KernelRecord.ChangedStore.{HasKeeper};
 
 use crate::block_calls::uses::users_block;
 use crate::call_answers::codes::PACKET_INSIDE;
@@ -14,9 +14,9 @@ use word_store::Store;
 /// has its data there (6), as blocks of tasks, modules, coroutines and the residents are none, and where a word of a queued
 /// packet lies in it (7).
 pub fn freevec<Q: KindKeeper>(store: &mut Store, kinds: &Q, v: u32) -> Result<(), u32>
-    requires { (l : Lists) × IsKeptBy Q.KindKeeper store.old kinds.now l }
+    requires { (l : Lists) × HasKeeper store.old (Q.tells kinds.now) (Q.room kinds.now) l }
     ensures made { (l : Lists)
-        → IsKeptBy Q.KindKeeper store.old kinds.now l
+        → HasKeeper store.old (Q.tells kinds.now) (Q.room kinds.now) l
         → IsMade store.old store.new (Q.tells kinds.now) (plain_answer result) (freevec l v) }
 {
     if v == 0 {

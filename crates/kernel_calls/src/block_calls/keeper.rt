@@ -2,12 +2,11 @@
 ghost use Rattle.std.specs.Prelude.{◌≡◌, ◌≤◌, IfErr, IfOk, None, OnErr, OnOk, Some};
 ghost use Rattle.kernel_lists.specs.GetvecChain.Run.{first_run, need};
 ghost use Rattle.kernel_lists.specs.GetvecChain.Tiling.{IsTiledFrom, blocks_from, blocks_in};
-ghost use Rattle.kernel_model.specs.KernelRecord.ChangedStore.{Knows};
+ghost use Rattle.kernel_model.specs.KernelRecord.ChangedStore.{HasKeeper, Knows};
 ghost use Rattle.kernel_model.specs.KernelRecord.Lists.{Lists};
 ghost use Rattle.kernel_calls.specs.BlockCalls.FreeStore.{with_taken};
 ghost use Rattle.kernel_model.specs.WordKinds.ToldWords.{WasClaimed, WasReleased};
 ghost use Rattle.kernel_calls.specs.BlockCalls.JoinedStarts.{is_joined, joined_start, joined_starts, rest_start};
-ghost use Rattle.kernel_model.specs.WordKinds.KeptStores.{IsKeptBy};
 
 use crate::call_answers::codes::NO_ROOM;
 use kernel_lists::{Block, Run, blocks_from, first_run};
@@ -18,9 +17,9 @@ use word_store::Store;
 /// taken, all size words but the first are plain then, and the one of the rest, where there is any, is the kernel's. No word
 /// of the store changes. The answer is that run. Refused where no run is large enough (1).
 pub fn tell_take<Q: KindKeeper>(store: &Store, kinds: &mut Q, u: u32) -> Result<Run, u32>
-    requires { (l : Lists) × IsKeptBy Q.KindKeeper store.now kinds.old l }
+    requires { (l : Lists) × HasKeeper store.now (Q.tells kinds.old) (Q.room kinds.old) l }
     ensures knows { (l : Lists)
-        → IsKeptBy Q.KindKeeper store.now kinds.old l
+        → HasKeeper store.now (Q.tells kinds.old) (Q.room kinds.old) l
         → OnOk result (Knows (Q.tells kinds.new) (with_taken u l)) }
     ensures first { IfOk result (λ run. first_run (need u) (blocks_in store.now) ≡ Some run) }
     ensures no_room { OnErr result (first_run (need u) (blocks_in store.now) ≡ None) }

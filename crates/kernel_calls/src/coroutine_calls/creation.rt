@@ -4,7 +4,7 @@ ghost use Rattle.kernel_model.specs.KernelRecord.Lists.{Lists};
 ghost use Rattle.kernel_calls.specs.CallAnswers.Callers.{HasCaller};
 ghost use Rattle.kernel_calls.specs.CallAnswers.Made.{IsMade};
 ghost use Rattle.kernel_calls.specs.CoroutineCalls.CreateCo.{createco};
-ghost use Rattle.kernel_model.specs.WordKinds.KeptStores.{IsKeptBy};
+ghost use Rattle.kernel_model.specs.KernelRecord.ChangedStore.{HasKeeper};
 
 use crate::block_calls::tell_take;
 use crate::call_answers::caller;
@@ -24,8 +24,8 @@ pub fn createco<Q: KindKeeper>(
     u: u32,
 ) -> Result<u32, u32>
     requires { (l : Lists)
-        × IsKeptBy Q.KindKeeper store.old kinds.old l × HasCaller l }
-    ensures made { (l : Lists) → IsKeptBy Q.KindKeeper store.old kinds.old l
+        × HasKeeper store.old (Q.tells kinds.old) (Q.room kinds.old) l × HasCaller l }
+    ensures made { (l : Lists) → HasKeeper store.old (Q.tells kinds.old) (Q.room kinds.old) l
         → HasCaller l
         → IsMade store.old store.new (Q.tells kinds.new) result (createco l function u) }
     ensures room { Q.room kinds.new ≡ Q.room kinds.old }

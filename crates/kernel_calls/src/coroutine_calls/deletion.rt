@@ -7,7 +7,7 @@ ghost use Rattle.kernel_model.specs.KernelRecord.Lists.{Lists};
 ghost use Rattle.kernel_calls.specs.CallAnswers.Callers.{HasCaller};
 ghost use Rattle.kernel_calls.specs.CallAnswers.Made.{IsMade, plain_answer};
 ghost use Rattle.kernel_calls.specs.CoroutineCalls.DeleteCo.{IsRoomy, deleteco};
-ghost use Rattle.kernel_model.specs.WordKinds.KeptStores.{IsKeptBy};
+ghost use Rattle.kernel_model.specs.KernelRecord.ChangedStore.{HasKeeper};
 
 use crate::call_answers::caller;
 use crate::call_answers::codes::PACKET_IN_COROUTINE;
@@ -21,8 +21,8 @@ use word_store::{Store, word};
 /// where it has a parent (22), and where a queued packet lies in its block (24).
 pub fn deleteco<Q: KindKeeper>(store: &mut Store, kinds: &mut Q, c: u32) -> Result<(), u32>
     requires { (l : Lists)
-        × IsKeptBy Q.KindKeeper store.old kinds.old l × HasCaller l }
-    ensures made { (l : Lists) → IsKeptBy Q.KindKeeper store.old kinds.old l
+        × HasKeeper store.old (Q.tells kinds.old) (Q.room kinds.old) l × HasCaller l }
+    ensures made { (l : Lists) → HasKeeper store.old (Q.tells kinds.old) (Q.room kinds.old) l
         → HasCaller l
         → IsMade store.old store.new (Q.tells kinds.new) (plain_answer result) (deleteco l c) }
     ensures room { Q.room kinds.new ≡ Q.room kinds.old }
@@ -40,9 +40,9 @@ pub fn deleteco<Q: KindKeeper>(store: &mut Store, kinds: &mut Q, c: u32) -> Resu
 // Whether nobody owns the words of the block at c that come behind a coroutine's own.
 fn is_clear_behind<Q: KindKeeper>(store: &Store, kinds: &Q, c: u32) -> bool
     requires { (l : Lists) × (b : Block)
-        × IsKeptBy Q.KindKeeper store.now kinds.now l × IsRoomy l c b }
+        × HasKeeper store.now (Q.tells kinds.now) (Q.room kinds.now) l × IsRoomy l c b }
     ensures { (l : Lists) (b : Block)
-        → IsKeptBy Q.KindKeeper store.now kinds.now l → IsRoomy l c b
+        → HasKeeper store.now (Q.tells kinds.now) (Q.room kinds.now) l → IsRoomy l c b
         → IsTrue result ↔ AreUnowned l (c + 10) (block_end b) }
 {
     let size = word(store, c - 1);

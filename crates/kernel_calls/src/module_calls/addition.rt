@@ -10,7 +10,7 @@ ghost use Rattle.kernel_calls.specs.CallAnswers.Guests.{GuestAt};
 ghost use Rattle.kernel_calls.specs.CallAnswers.Made.{IsMade};
 ghost use Rattle.kernel_calls.specs.ModuleCalls.AddModule.{IsCounted, add_module};
 ghost use Rattle.kernel_calls.specs.ModuleCalls.ModuleFields.{further_count};
-ghost use Rattle.kernel_model.specs.WordKinds.KeptStores.{IsKeptBy};
+ghost use Rattle.kernel_model.specs.KernelRecord.ChangedStore.{HasKeeper};
 
 use crate::call_answers::codes::{
     GLOBALS_TOO_HIGH, MODULES_FULL, NO_MODULE, NOT_DEAD, PACKET_INSIDE,
@@ -29,9 +29,9 @@ use word_store::Store;
 /// hunk of the module has a number of a global above 1,000 (18), and where a word of a queued packet lies in the task's
 /// globals (7).
 pub fn add_module<Q: KindKeeper>(store: &mut Store, kinds: &Q, id: u32, m: u32) -> Result<u32, u32>
-    requires { (l : Lists) × IsKeptBy Q.KindKeeper store.old kinds.now l }
+    requires { (l : Lists) × HasKeeper store.old (Q.tells kinds.now) (Q.room kinds.now) l }
     ensures made { (l : Lists)
-        → IsKeptBy Q.KindKeeper store.old kinds.now l
+        → HasKeeper store.old (Q.tells kinds.now) (Q.room kinds.now) l
         → IsMade store.old store.new (Q.tells kinds.now) result (add_module store.old l id m) }
 {
     let task = guest(store, id)?;

@@ -6,7 +6,7 @@ ghost use Rattle.module_text.specs.declared.modules.Module.{Module};
 ghost use Rattle.kernel_model.specs.KernelRecord.Lists.{Lists};
 ghost use Rattle.kernel_calls.specs.CallAnswers.Made.{IsMade, refused};
 ghost use Rattle.kernel_calls.specs.ModuleCalls.LoadModule.{load_module};
-ghost use Rattle.kernel_model.specs.WordKinds.KeptStores.{IsKeptBy};
+ghost use Rattle.kernel_model.specs.KernelRecord.ChangedStore.{HasKeeper};
 
 use crate::block_calls::tell_take;
 use kernel_lists::load;
@@ -25,13 +25,13 @@ pub fn load_module<Q: KindKeeper, X: TextBytes>(
     kinds: &mut Q,
     text: &X,
 ) -> Result<u32, u32>
-    requires { (l : Lists) × IsKeptBy Q.KindKeeper store.old kinds.old l }
+    requires { (l : Lists) × HasKeeper store.old (Q.tells kinds.old) (Q.room kinds.old) l }
     ensures made { (l : Lists) (m : Module)
-        → IsKeptBy Q.KindKeeper store.old kinds.old l
+        → HasKeeper store.old (Q.tells kinds.old) (Q.room kinds.old) l
         → IsModule (X.text text.now) m
         → IsMade store.old store.new (Q.tells kinds.new) result (load_module l m.hunks) }
     ensures no_module { (l : Lists) (code : ℕ)
-        → IsKeptBy Q.KindKeeper store.old kinds.old l
+        → HasKeeper store.old (Q.tells kinds.old) (Q.room kinds.old) l
         → check_of (X.text text.now) ≡ Err code
         → IsMade store.old store.new (Q.tells kinds.new) result (refused l (60 + code)) }
     ensures room { Q.room kinds.new ≡ Q.room kinds.old }

@@ -5,7 +5,7 @@ ghost use Rattle.kernel_model.specs.KernelRecord.Lists.{Lists};
 ghost use Rattle.kernel_calls.specs.CallAnswers.Made.{IsMade, plain_answer};
 ghost use Rattle.kernel_calls.specs.CallAnswers.Refusals.{answer_of, first_refusal};
 ghost use Rattle.kernel_calls.specs.ModuleCalls.UnloadModule.{unload_module, use_tests};
-ghost use Rattle.kernel_model.specs.WordKinds.KeptStores.{IsKeptBy};
+ghost use Rattle.kernel_model.specs.KernelRecord.ChangedStore.{HasKeeper};
 
 use crate::call_answers::codes::{MODULE_IN_USE, NO_MODULE, PACKET_INSIDE};
 use crate::call_answers::is_module;
@@ -17,9 +17,9 @@ use word_store::{Store, word, word_at};
 /// Takes the module at m out of the list, and gives its block back. Refused where there is no such module (17), where a task
 /// has it among its modules (26), and where a word of a queued packet lies in its block (7).
 pub fn unload_module<Q: KindKeeper>(store: &mut Store, kinds: &mut Q, m: u32) -> Result<(), u32>
-    requires { (l : Lists) × IsKeptBy Q.KindKeeper store.old kinds.old l }
+    requires { (l : Lists) × HasKeeper store.old (Q.tells kinds.old) (Q.room kinds.old) l }
     ensures made { (l : Lists)
-        → IsKeptBy Q.KindKeeper store.old kinds.old l
+        → HasKeeper store.old (Q.tells kinds.old) (Q.room kinds.old) l
         → IsMade store.old store.new (Q.tells kinds.new) (plain_answer result) (unload_module l m) }
     ensures room { Q.room kinds.new ≡ Q.room kinds.old }
 {

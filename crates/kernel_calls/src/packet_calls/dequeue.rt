@@ -8,7 +8,7 @@ ghost use Rattle.kernel_calls.specs.CallAnswers.Made.{IsMade};
 ghost use Rattle.kernel_calls.specs.PacketCalls.Destinations.{is_destination, place_of, queue_for};
 ghost use Rattle.kernel_calls.specs.PacketCalls.Dqpkt.{dqpkt, found_in, found_in_own, is_residents_packet, located};
 ghost use Rattle.kernel_model.specs.KernelRecord.LoggedEvents.{LogsAll};
-ghost use Rattle.kernel_model.specs.WordKinds.KeptStores.{IsKeptBy};
+ghost use Rattle.kernel_model.specs.KernelRecord.ChangedStore.{HasKeeper};
 
 use crate::call_answers::caller;
 use crate::call_answers::codes::{NO_DESTINATION, NOT_QUEUED, RESIDENT};
@@ -46,12 +46,12 @@ pub fn dqpkt<Q: KindKeeper, L: EventLog>(
     p: u32,
     log: &mut L,
 ) -> Result<u32, u32>
-    requires { (l : Lists) × IsKeptBy Q.KindKeeper store.old kinds.old l
+    requires { (l : Lists) × HasKeeper store.old (Q.tells kinds.old) (Q.room kinds.old) l
         × HasCaller l }
-    ensures made { (l : Lists) → IsKeptBy Q.KindKeeper store.old kinds.old l
+    ensures made { (l : Lists) → HasKeeper store.old (Q.tells kinds.old) (Q.room kinds.old) l
         → HasCaller l
         → IsMade store.old store.new (Q.tells kinds.new) result (dqpkt l id p) }
-    ensures notes { (l : Lists) → IsKeptBy Q.KindKeeper store.old kinds.old l
+    ensures notes { (l : Lists) → HasKeeper store.old (Q.tells kinds.old) (Q.room kinds.old) l
         → HasCaller l → LogsAll L.EventLog log.old log.new (dqpkt l id p).events }
     ensures room { Q.room kinds.new ≡ Q.room kinds.old }
 {

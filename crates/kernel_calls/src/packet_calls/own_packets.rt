@@ -5,7 +5,7 @@ ghost use Rattle.kernel_model.specs.KernelRecord.Lists.{Lists};
 ghost use Rattle.kernel_calls.specs.CallAnswers.Made.{IsMade, minus_one};
 ghost use Rattle.kernel_calls.specs.PacketCalls.SendOwn.{CanSendOwn, send_own};
 ghost use Rattle.kernel_model.specs.KernelRecord.LoggedEvents.{LogsAll};
-ghost use Rattle.kernel_model.specs.WordKinds.KeptStores.{IsKeptBy};
+ghost use Rattle.kernel_model.specs.KernelRecord.ChangedStore.{HasKeeper};
 
 use crate::packet_calls::destinations::{destination, number_word};
 use crate::packet_calls::events::accepted;
@@ -26,13 +26,13 @@ pub fn send_own<Q: KindKeeper, L: EventLog>(
     to: i32,
     log: &mut L,
 )
-    requires { (l : Lists) × IsKeptBy Q.KindKeeper store.old kinds.old l
+    requires { (l : Lists) × HasKeeper store.old (Q.tells kinds.old) (Q.room kinds.old) l
         × CanSendOwn l p from (word_of to) }
-    ensures made { (l : Lists) → IsKeptBy Q.KindKeeper store.old kinds.old l
+    ensures made { (l : Lists) → HasKeeper store.old (Q.tells kinds.old) (Q.room kinds.old) l
         → CanSendOwn l p from (word_of to)
         → IsMade store.old store.new (Q.tells kinds.new) (Ok minus_one)
         (send_own store.old l p from (word_of to)) }
-    ensures notes { (l : Lists) → IsKeptBy Q.KindKeeper store.old kinds.old l
+    ensures notes { (l : Lists) → HasKeeper store.old (Q.tells kinds.old) (Q.room kinds.old) l
         → CanSendOwn l p from (word_of to) → LogsAll L.EventLog log.old log.new (send_own store.old l p from (word_of to)).events }
     ensures room { Q.room kinds.new ≡ Q.room kinds.old }
 {

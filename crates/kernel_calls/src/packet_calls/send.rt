@@ -8,7 +8,7 @@ ghost use Rattle.kernel_calls.specs.CallAnswers.Made.{IsMade, plain_answer};
 ghost use Rattle.kernel_calls.specs.CallAnswers.Refusals.{answer_of, first_refusal};
 ghost use Rattle.kernel_calls.specs.PacketCalls.Qpkt.{is_lodged, packet_tests, qpkt};
 ghost use Rattle.kernel_model.specs.KernelRecord.LoggedEvents.{LogsAll};
-ghost use Rattle.kernel_model.specs.WordKinds.KeptStores.{IsKeptBy};
+ghost use Rattle.kernel_model.specs.KernelRecord.ChangedStore.{HasKeeper};
 
 use crate::call_answers::caller;
 use crate::call_answers::codes::{LINK_IN_USE, MISPLACED, NO_DESTINATION};
@@ -32,13 +32,13 @@ pub fn qpkt<Q: KindKeeper, L: EventLog>(
     p: u32,
     log: &mut L,
 ) -> Result<(), u32>
-    requires { (l : Lists) × IsKeptBy Q.KindKeeper store.old kinds.old l
+    requires { (l : Lists) × HasKeeper store.old (Q.tells kinds.old) (Q.room kinds.old) l
         × HasCaller l }
-    ensures made { (l : Lists) → IsKeptBy Q.KindKeeper store.old kinds.old l
+    ensures made { (l : Lists) → HasKeeper store.old (Q.tells kinds.old) (Q.room kinds.old) l
         → HasCaller l
         → IsMade store.old store.new (Q.tells kinds.new) (plain_answer result)
         (qpkt store.old l p) }
-    ensures notes { (l : Lists) → IsKeptBy Q.KindKeeper store.old kinds.old l
+    ensures notes { (l : Lists) → HasKeeper store.old (Q.tells kinds.old) (Q.room kinds.old) l
         → HasCaller l → LogsAll L.EventLog log.old log.new (qpkt store.old l p).events }
     ensures room { Q.room kinds.new ≡ Q.room kinds.old }
 {
@@ -54,8 +54,8 @@ pub fn qpkt<Q: KindKeeper, L: EventLog>(
 
 // Refused where the packet may not come into a queue.
 fn check_packet<Q: KindKeeper>(store: &Store, kinds: &Q, p: u32) -> Result<(), u32>
-    requires { (l : Lists) × IsKeptBy Q.KindKeeper store.now kinds.now l }
-    ensures { (l : Lists) → IsKeptBy Q.KindKeeper store.now kinds.now l
+    requires { (l : Lists) × HasKeeper store.now (Q.tells kinds.now) (Q.room kinds.now) l }
+    ensures { (l : Lists) → HasKeeper store.now (Q.tells kinds.now) (Q.room kinds.now) l
         → result ≡ answer_of (first_refusal (packet_tests store.now l p)) }
 {
     if !is_lodged(store, p) {

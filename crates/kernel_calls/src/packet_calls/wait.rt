@@ -7,7 +7,7 @@ ghost use Rattle.kernel_calls.specs.CallAnswers.Callers.{HasCaller};
 ghost use Rattle.kernel_calls.specs.CallAnswers.Made.{IsMade};
 ghost use Rattle.kernel_calls.specs.PacketCalls.TaskWait.{answer_of_wait, first_of_queue, taskwait};
 ghost use Rattle.kernel_model.specs.KernelRecord.LoggedEvents.{LogsAll};
-ghost use Rattle.kernel_model.specs.WordKinds.KeptStores.{IsKeptBy};
+ghost use Rattle.kernel_model.specs.KernelRecord.ChangedStore.{HasKeeper};
 
 use crate::call_answers::caller;
 use crate::packet_calls::Queue;
@@ -25,14 +25,14 @@ pub fn taskwait<Q: KindKeeper, L: EventLog>(
     kinds: &mut Q,
     log: &mut L,
 ) -> Option<u32>
-    requires { (l : Lists) × IsKeptBy Q.KindKeeper store.old kinds.old l
+    requires { (l : Lists) × HasKeeper store.old (Q.tells kinds.old) (Q.room kinds.old) l
         × HasCaller l }
-    ensures made { (l : Lists) → IsKeptBy Q.KindKeeper store.old kinds.old l
+    ensures made { (l : Lists) → HasKeeper store.old (Q.tells kinds.old) (Q.room kinds.old) l
         → HasCaller l
         → IsMade store.old store.new (Q.tells kinds.new) (answer_of_wait result) (taskwait l) }
-    ensures packet { (l : Lists) → IsKeptBy Q.KindKeeper store.old kinds.old l
+    ensures packet { (l : Lists) → HasKeeper store.old (Q.tells kinds.old) (Q.room kinds.old) l
         → HasCaller l → result ≡ first_of_queue (queue_of (Work l.running) l) }
-    ensures notes { (l : Lists) → IsKeptBy Q.KindKeeper store.old kinds.old l
+    ensures notes { (l : Lists) → HasKeeper store.old (Q.tells kinds.old) (Q.room kinds.old) l
         → HasCaller l → LogsAll L.EventLog log.old log.new (taskwait l).events }
     ensures room { Q.room kinds.new ≡ Q.room kinds.old }
 {

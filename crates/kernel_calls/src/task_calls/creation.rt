@@ -5,7 +5,7 @@ ghost use Rattle.kernel_model.specs.KernelRecord.HoldsLists.{HoldsLists};
 ghost use Rattle.kernel_model.specs.KernelRecord.Lists.{Lists};
 ghost use Rattle.kernel_calls.specs.CallAnswers.Made.{IsMade};
 ghost use Rattle.kernel_calls.specs.TaskCalls.CreateTask.{MayCreate, create_task, number_of};
-ghost use Rattle.kernel_model.specs.WordKinds.KeptStores.{IsKeptBy};
+ghost use Rattle.kernel_model.specs.KernelRecord.ChangedStore.{HasKeeper};
 
 use crate::call_answers::codes::NO_FREE_ID;
 use crate::task_calls::module_tests::{check_globals, check_modules};
@@ -26,10 +26,10 @@ pub fn create_task<Q: KindKeeper>(
     maker: u32,
 ) -> Result<u32, u32>
     requires { (l : Lists)
-        × IsKeptBy Q.KindKeeper store.old kinds.old l
+        × HasKeeper store.old (Q.tells kinds.old) (Q.room kinds.old) l
         × MayCreate l id («module» ∷ []) maker }
     ensures made { (l : Lists)
-        → IsKeptBy Q.KindKeeper store.old kinds.old l
+        → HasKeeper store.old (Q.tells kinds.old) (Q.room kinds.old) l
         → MayCreate l id («module» ∷ []) maker
         → IsMade store.old store.new (Q.tells kinds.new) result
         (create_task store.old l id («module» ∷ []) u pri maker) }
@@ -54,10 +54,10 @@ pub fn create_task_of<Q: KindKeeper>(
     maker: u32,
 ) -> Result<u32, u32>
     requires { (l : Lists)
-        × IsKeptBy Q.KindKeeper store.old kinds.old l
+        × HasKeeper store.old (Q.tells kinds.old) (Q.room kinds.old) l
         × MayCreate l id modules.now maker }
     ensures made { (l : Lists)
-        → IsKeptBy Q.KindKeeper store.old kinds.old l
+        → HasKeeper store.old (Q.tells kinds.old) (Q.room kinds.old) l
         → MayCreate l id modules.now maker
         → IsMade store.old store.new (Q.tells kinds.new) result
         (create_task store.old l id modules.now u pri maker) }

@@ -7,7 +7,7 @@ ghost use Rattle.kernel_calls.specs.CallAnswers.Refusals.{answer_of, first_refus
 ghost use Rattle.kernel_calls.specs.TaskCalls.DeleteTask.{HasEnded, delete_task, deletion_tests, without_task};
 ghost use Rattle.kernel_model.specs.KernelRecord.Running.{RunsAlive};
 ghost use Rattle.kernel_calls.specs.BlockCalls.Freevec.{has_packet_in};
-ghost use Rattle.kernel_model.specs.WordKinds.KeptStores.{IsKeptBy};
+ghost use Rattle.kernel_model.specs.KernelRecord.ChangedStore.{HasKeeper};
 
 use crate::call_answers::codes::{
     HAS_COROUTINES, NOT_DEAD, PACKET_INSIDE, PACKET_OUT, QUEUE_NOT_EMPTY,
@@ -25,9 +25,9 @@ use word_store::Store;
 /// where a queued packet lies in its block (7).
 pub fn delete_task<Q: KindKeeper>(store: &mut Store, kinds: &mut Q, id: u32) -> Result<(), u32>
     requires { (l : Lists)
-        × IsKeptBy Q.KindKeeper store.old kinds.old l × RunsAlive l }
+        × HasKeeper store.old (Q.tells kinds.old) (Q.room kinds.old) l × RunsAlive l }
     ensures made { (l : Lists)
-        → IsKeptBy Q.KindKeeper store.old kinds.old l → RunsAlive l
+        → HasKeeper store.old (Q.tells kinds.old) (Q.room kinds.old) l → RunsAlive l
         → IsMade store.old store.new (Q.tells kinds.new) (plain_answer result) (delete_task l id) }
     ensures room { Q.room kinds.new ≡ Q.room kinds.old }
 {
@@ -39,9 +39,9 @@ pub fn delete_task<Q: KindKeeper>(store: &mut Store, kinds: &mut Q, id: u32) -> 
 
 // Refused where the guest with the number, whose task block is at `task`, may not be deleted.
 fn check_deletion<Q: KindKeeper>(store: &Store, kinds: &Q, task: u32, id: u32) -> Result<(), u32>
-    requires { (l : Lists) × IsKeptBy Q.KindKeeper store.now kinds.now l
+    requires { (l : Lists) × HasKeeper store.now (Q.tells kinds.now) (Q.room kinds.now) l
         × RunsAlive l × GuestAt l id task }
-    ensures { (l : Lists) → IsKeptBy Q.KindKeeper store.now kinds.now l
+    ensures { (l : Lists) → HasKeeper store.now (Q.tells kinds.now) (Q.room kinds.now) l
         → RunsAlive l → GuestAt l id task
         → result ≡ answer_of (first_refusal (deletion_tests l id)) }
 {
@@ -66,9 +66,9 @@ fn check_deletion<Q: KindKeeper>(store: &Store, kinds: &Q, task: u32, id: u32) -
 // Whether a queued packet lies in the block of the task, which has no packets and no coroutines of its own.
 fn has_packet_inside<Q: KindKeeper>(store: &Store, kinds: &Q, task: u32) -> bool
     requires { (l : Lists) × (id : ℕ)
-        × IsKeptBy Q.KindKeeper store.now kinds.now l × HasEnded l id task }
+        × HasKeeper store.now (Q.tells kinds.now) (Q.room kinds.now) l × HasEnded l id task }
     ensures { (l : Lists) (id : ℕ)
-        → IsKeptBy Q.KindKeeper store.now kinds.now l → HasEnded l id task
+        → HasKeeper store.now (Q.tells kinds.now) (Q.room kinds.now) l → HasEnded l id task
         → result ≡ has_packet_in l task }
 {
     let head = head_words(store);
@@ -79,10 +79,10 @@ fn has_packet_inside<Q: KindKeeper>(store: &Store, kinds: &Q, task: u32) -> bool
 // Takes the task out of the chain, tells the keeper, and gives the block back.
 fn remove_task<Q: KindKeeper>(store: &mut Store, kinds: &mut Q, task: u32)
     requires { (l : Lists) × (id : ℕ)
-        × IsKeptBy Q.KindKeeper store.old kinds.old l
+        × HasKeeper store.old (Q.tells kinds.old) (Q.room kinds.old) l
         × HasEnded l id task × (has_packet_in l task ≡ false) }
     ensures made { (l : Lists) (id : ℕ)
-        → IsKeptBy Q.KindKeeper store.old kinds.old l
+        → HasKeeper store.old (Q.tells kinds.old) (Q.room kinds.old) l
         → HasEnded l id task → has_packet_in l task ≡ false
         → IsMade store.old store.new (Q.tells kinds.new) (Ok minus_one)
         (done (without_task l id)) }

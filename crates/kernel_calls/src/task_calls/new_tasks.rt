@@ -10,7 +10,7 @@ ghost use Rattle.word_store.specs.Row.{with_words};
 ghost use Rattle.kernel_calls.specs.CallAnswers.Made.{IsMade};
 ghost use Rattle.kernel_calls.specs.TaskCalls.CreateTask.{new_task};
 ghost use Rattle.kernel_calls.specs.TaskCalls.NewTasks.{IsLastWord, MayPlace, MaySetGlobals, head_row, place_task};
-ghost use Rattle.kernel_model.specs.WordKinds.KeptStores.{IsKeptBy};
+ghost use Rattle.kernel_model.specs.KernelRecord.ChangedStore.{HasKeeper};
 
 use crate::block_calls::getvec;
 use crate::call_answers::codes::NO_ROOM;
@@ -34,10 +34,10 @@ pub(crate) fn place_task<Q: KindKeeper>(
     maker: u32,
 ) -> Result<u32, u32>
     requires { (l : Lists)
-        × IsKeptBy Q.KindKeeper store.old kinds.old l
+        × HasKeeper store.old (Q.tells kinds.old) (Q.room kinds.old) l
         × MayPlace l number modules.now pri maker }
     ensures made { (l : Lists)
-        → IsKeptBy Q.KindKeeper store.old kinds.old l
+        → HasKeeper store.old (Q.tells kinds.old) (Q.room kinds.old) l
         → MayPlace l number modules.now pri maker
         → IsMade store.old store.new (Q.tells kinds.new) result
         (place_task store.old l (new_task l number modules.now u pri maker)) }

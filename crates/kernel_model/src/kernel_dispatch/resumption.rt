@@ -6,7 +6,7 @@ ghost use Rattle.kernel_model.specs.KernelRecord.Task.{Task};
 ghost use Rattle.kernel_model.specs.KernelDispatch.Dispatch.{CanDispatch, goes_on};
 ghost use Rattle.kernel_model.specs.KernelDispatch.DispatchWords.{takes_packet_by};
 ghost use Rattle.kernel_model.specs.KernelDispatch.Turn.{HasTaken, IsDispatched, IsNext};
-ghost use Rattle.kernel_model.specs.WordKinds.KeptStores.{IsKeptBy};
+ghost use Rattle.kernel_model.specs.KernelRecord.ChangedStore.{HasKeeper};
 
 use crate::kernel_dispatch::registers::next_regs;
 use crate::kernel_dispatch::saving::{start, suspend, take_work};
@@ -24,9 +24,9 @@ pub(crate) fn resume<Q: KindKeeper, L: EventLog>(
     log: &mut L,
 )
     requires { (l : Lists) × (w : Task)
-        × IsKeptBy Q.KindKeeper store.old kinds.old l × IsNext l w t }
+        × HasKeeper store.old (Q.tells kinds.old) (Q.room kinds.old) l × IsNext l w t }
     ensures dispatched { (l : Lists) (w : Task)
-        → IsKeptBy Q.KindKeeper store.old kinds.old l → IsNext l w t
+        → HasKeeper store.old (Q.tells kinds.old) (Q.room kinds.old) l → IsNext l w t
         → CanDispatch l regs.old → goes_on l (Some w) ≡ false
         → IsDispatched store.old store.new l regs.old regs.new (Q.tells kinds.new)
         (L.noted log.old) (L.noted log.new) (L.has_failed log.old) (L.has_failed log.new) }
@@ -49,9 +49,9 @@ fn take_due<Q: KindKeeper, L: EventLog>(
     log: &mut L,
 ) -> u32
     requires { (l : Lists) × (w : Task)
-        × IsKeptBy Q.KindKeeper store.old kinds.old l × IsNext l w t }
+        × HasKeeper store.old (Q.tells kinds.old) (Q.room kinds.old) l × IsNext l w t }
     ensures taken { (l : Lists) (w : Task)
-        → IsKeptBy Q.KindKeeper store.old kinds.old l → IsNext l w t
+        → HasKeeper store.old (Q.tells kinds.old) (Q.room kinds.old) l → IsNext l w t
         → HasTaken store.old store.new l w result (Q.tells kinds.new)
         (L.noted log.old) (L.noted log.new) (L.has_failed log.old) (L.has_failed log.new) }
     ensures room { Q.room kinds.new ≡ Q.room kinds.old }

@@ -4,7 +4,7 @@ ghost use Rattle.kernel_model.specs.KernelRecord.Lists.{Lists};
 ghost use Rattle.kernel_model.specs.KernelDispatch.Dispatch.{CanDispatch};
 ghost use Rattle.kernel_model.specs.KernelDispatch.DispatchWords.{goes_on_in};
 ghost use Rattle.kernel_model.specs.KernelDispatch.Turn.{IsDispatched};
-ghost use Rattle.kernel_model.specs.WordKinds.KeptStores.{IsKeptBy};
+ghost use Rattle.kernel_model.specs.KernelRecord.ChangedStore.{HasKeeper};
 
 use crate::kernel_dispatch::choice::choose;
 use crate::kernel_dispatch::idleness::idle;
@@ -20,10 +20,10 @@ pub fn switch<Q: KindKeeper, L: EventLog>(
     kinds: &mut Q,
     log: &mut L,
 )
-    requires { (l : Lists) × IsKeptBy Q.KindKeeper store.old kinds.old l
+    requires { (l : Lists) × HasKeeper store.old (Q.tells kinds.old) (Q.room kinds.old) l
         × CanDispatch l regs.old }
     ensures dispatched { (l : Lists)
-        → IsKeptBy Q.KindKeeper store.old kinds.old l → CanDispatch l regs.old
+        → HasKeeper store.old (Q.tells kinds.old) (Q.room kinds.old) l → CanDispatch l regs.old
         → IsDispatched store.old store.new l regs.old regs.new (Q.tells kinds.new)
         (L.noted log.old) (L.noted log.new) (L.has_failed log.old) (L.has_failed log.new) }
     ensures room { Q.room kinds.new ≡ Q.room kinds.old }

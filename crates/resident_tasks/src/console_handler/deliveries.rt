@@ -5,7 +5,7 @@ ghost use Rattle.kernel_model.specs.KernelRecord.Lists.{Lists};
 ghost use Rattle.resident_tasks.specs.ConsoleHandler.Deliveries.{command_after, delivery, handed_if_finished, is_handed, line_after, line_service};
 ghost use Rattle.resident_tasks.specs.ConsoleHandler.Progress.{IsDone, Progress, Start};
 ghost use Rattle.resident_tasks.specs.ResidentRequests.Turns.{service};
-ghost use Rattle.kernel_model.specs.WordKinds.KeptStores.{IsKeptBy};
+ghost use Rattle.kernel_model.specs.KernelRecord.ChangedStore.{HasKeeper};
 
 use crate::console_handler::lines::{ConsoleState, copy_line};
 use crate::console_handler::reads::take_read;
@@ -85,9 +85,9 @@ fn line_answer<'a, Q: KindKeeper>(
     kinds: &Q,
     read: Request,
 ) -> (Result<u32, u32>, &'a [u8])
-    requires keeper { (l : Lists) × IsKeptBy Q.KindKeeper store.now kinds.now l }
+    requires keeper { (l : Lists) × HasKeeper store.now (Q.tells kinds.now) (Q.room kinds.now) l }
     requires fits { length line.now ≤ 120 }
-    ensures service { (l : Lists) → IsKeptBy Q.KindKeeper store.now kinds.now l
+    ensures service { (l : Lists) → HasKeeper store.now (Q.tells kinds.now) (Q.room kinds.now) l
         → service result.0 read.first result.1.now ≡ line_service store.now l line.now read }
     ensures fits { length result.1.now ≤ 120 }
 {

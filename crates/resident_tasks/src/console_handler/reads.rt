@@ -6,7 +6,7 @@ ghost use Rattle.resident_tasks.specs.ConsoleHandler.Reads.{IsReadTaken, put_off
 ghost use Rattle.resident_tasks.specs.ResidentRequests.Answers.{OwnsRequest};
 ghost use Rattle.resident_tasks.specs.ResidentRequests.Requests.{HasRequest};
 ghost use Rattle.kernel_model.specs.KernelRecord.LoggedEvents.{LogsAll};
-ghost use Rattle.kernel_model.specs.WordKinds.KeptStores.{IsKeptBy};
+ghost use Rattle.kernel_model.specs.KernelRecord.ChangedStore.{HasKeeper};
 
 use crate::resident_requests::{Request, request_at};
 use kernel_calls::{Queue, accepted, first, send, taken, unqueue};
@@ -23,16 +23,16 @@ pub fn put_off<Q: KindKeeper, L: EventLog>(
     request: Request,
     log: &mut L,
 )
-    requires { (l : Lists) × IsKeptBy Q.KindKeeper store.old kinds.old l
+    requires { (l : Lists) × HasKeeper store.old (Q.tells kinds.old) (Q.room kinds.old) l
         × HasRequest store.old l request × (l.residents ≡ true) }
-    ensures made { (l : Lists) → IsKeptBy Q.KindKeeper store.old kinds.old l
+    ensures made { (l : Lists) → HasKeeper store.old (Q.tells kinds.old) (Q.room kinds.old) l
         → HasRequest store.old l request → l.residents ≡ true
         → IsMade store.old store.new (Q.tells kinds.new) (Ok minus_one) (put_off store.old l request) }
-    ensures notes { (l : Lists) → IsKeptBy Q.KindKeeper store.old kinds.old l
+    ensures notes { (l : Lists) → HasKeeper store.old (Q.tells kinds.old) (Q.room kinds.old) l
         → HasRequest store.old l request → l.residents ≡ true
         → LogsAll L.EventLog log.old log.new
         (put_off store.old l request).events }
-    ensures owns { (l : Lists) → IsKeptBy Q.KindKeeper store.old kinds.old l
+    ensures owns { (l : Lists) → HasKeeper store.old (Q.tells kinds.old) (Q.room kinds.old) l
         → HasRequest store.old l request → l.residents ≡ true
         → OwnsRequest l (put_off store.old l request).lists request }
     ensures room { Q.room kinds.new ≡ Q.room kinds.old }
@@ -49,11 +49,11 @@ pub fn take_read<Q: KindKeeper, L: EventLog>(
     kinds: &mut Q,
     log: &mut L,
 ) -> Option<Request>
-    requires { (l : Lists) × IsKeptBy Q.KindKeeper store.old kinds.old l
+    requires { (l : Lists) × HasKeeper store.old (Q.tells kinds.old) (Q.room kinds.old) l
         × (l.residents ≡ true) }
-    ensures taken { (l : Lists) → IsKeptBy Q.KindKeeper store.old kinds.old l
+    ensures taken { (l : Lists) → HasKeeper store.old (Q.tells kinds.old) (Q.room kinds.old) l
         → l.residents ≡ true → IsReadTaken store.old store.new (Q.tells kinds.new) l result }
-    ensures notes { (l : Lists) → IsKeptBy Q.KindKeeper store.old kinds.old l
+    ensures notes { (l : Lists) → HasKeeper store.old (Q.tells kinds.old) (Q.room kinds.old) l
         → l.residents ≡ true → LogsAll L.EventLog log.old log.new (read_taken l).events }
     ensures room { Q.room kinds.new ≡ Q.room kinds.old }
 {

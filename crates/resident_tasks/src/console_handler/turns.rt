@@ -6,7 +6,7 @@ ghost use Rattle.resident_tasks.specs.ConsoleHandler.ConsoleTurn.{RunsConsole, a
 ghost use Rattle.resident_tasks.specs.ConsoleHandler.Progress.{IsDone, Progress, Start, begun};
 ghost use Rattle.resident_tasks.specs.ResidentRequests.Requests.{work};
 ghost use Rattle.resident_tasks.specs.ResidentRequests.Turns.{IsResidentTurn};
-ghost use Rattle.kernel_model.specs.WordKinds.KeptStores.{IsKeptBy};
+ghost use Rattle.kernel_model.specs.KernelRecord.ChangedStore.{HasKeeper};
 
 use crate::console_handler::deliveries::deliver;
 use crate::console_handler::keys::send_free_keys;
@@ -36,18 +36,18 @@ pub fn console_turn<Q: KindKeeper, L: EventLog>(
     log: &mut L,
 )
     requires empty { out.old ≡ [] }
-    requires console { (l : Lists) × IsKeptBy Q.KindKeeper store.old kinds.old l
+    requires console { (l : Lists) × HasKeeper store.old (Q.tells kinds.old) (Q.room kinds.old) l
         × RunsConsole l }
-    ensures turn { (l : Lists) → IsKeptBy Q.KindKeeper store.old kinds.old l
+    ensures turn { (l : Lists) → HasKeeper store.old (Q.tells kinds.old) (Q.room kinds.old) l
         → RunsConsole l
         → IsResidentTurn store.new (Q.tells kinds.new)
         (outside out.old (L.noted log.old) (L.has_failed log.old))
         (outside out.new (L.noted log.new) (L.has_failed log.new))
         (console_turn awaited state.old shell_line.old.items store.old l) }
-    ensures line { (l : Lists) → IsKeptBy Q.KindKeeper store.old kinds.old l
+    ensures line { (l : Lists) → HasKeeper store.old (Q.tells kinds.old) (Q.room kinds.old) l
         → RunsConsole l → state.new
         ≡ (all_parts awaited (begun store.old l state.old shell_line.old.items)).console }
-    ensures shell { (l : Lists) → IsKeptBy Q.KindKeeper store.old kinds.old l
+    ensures shell { (l : Lists) → HasKeeper store.old (Q.tells kinds.old) (Q.room kinds.old) l
         → RunsConsole l → shell_line.new.items
         ≡ (all_parts awaited (begun store.old l state.old shell_line.old.items)).command }
     ensures room { Q.room kinds.new ≡ Q.room kinds.old }

@@ -12,7 +12,7 @@ ghost use Rattle.resident_tasks.specs.FaultReporter.FaultTurns.{CanReport, IsFau
 ghost use Rattle.resident_tasks.specs.FaultReporter.Recorded.{OwnsSame};
 ghost use Rattle.resident_tasks.specs.FaultReporter.Texts.{reports};
 ghost use Rattle.kernel_model.specs.KernelRecord.LoggedEvents.{LogsAll};
-ghost use Rattle.kernel_model.specs.WordKinds.KeptStores.{IsKeptBy};
+ghost use Rattle.kernel_model.specs.KernelRecord.ChangedStore.{HasKeeper};
 
 use crate::fault_reporter::packet::take_packet;
 use crate::fault_reporter::reports::{mark_reports, print_reports};
@@ -33,9 +33,9 @@ pub fn fault_turn<Q: KindKeeper, L: EventLog>(
     out: &mut Output,
     log: &mut L,
 )
-    requires { (l : Lists) × IsKeptBy Q.KindKeeper store.old kinds.old l
+    requires { (l : Lists) × HasKeeper store.old (Q.tells kinds.old) (Q.room kinds.old) l
         × CanReport out.old l }
-    ensures turn { (l : Lists) → IsKeptBy Q.KindKeeper store.old kinds.old l
+    ensures turn { (l : Lists) → HasKeeper store.old (Q.tells kinds.old) (Q.room kinds.old) l
         → CanReport out.old l → IsResidentTurn store.new (Q.tells kinds.new)
         (outside out.old (L.noted log.old) (L.has_failed log.old))
         (outside out.new (L.noted log.new) (L.has_failed log.new)) (fault_turn store.old l) }

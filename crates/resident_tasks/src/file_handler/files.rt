@@ -2,7 +2,7 @@
 ghost use Rattle.std.specs.Prelude.{◌≡◌, []};
 ghost use Rattle.kernel_model.specs.KernelRecord.Lists.{Lists};
 ghost use Rattle.resident_tasks.specs.FileHandler.FileRequests.{delete, examine, handled, name_buffer, open_to_read, open_to_write, rename};
-ghost use Rattle.kernel_model.specs.WordKinds.KeptStores.{IsKeptBy};
+ghost use Rattle.kernel_model.specs.KernelRecord.ChangedStore.{HasKeeper};
 
 use crate::file_handler::pieces::{put_all, put_zeros};
 use crate::resident_requests::{Request, can_write, name_at};
@@ -62,9 +62,9 @@ pub(crate) fn examine<Q: KindKeeper>(
     request: Request,
     bytes: &mut ArrayVec<u8, 4096>,
 ) -> Result<u32, u32>
-    requires keeper { (l : Lists) × IsKeptBy Q.KindKeeper store.now kinds.now l }
+    requires keeper { (l : Lists) × HasKeeper store.now (Q.tells kinds.now) (Q.room kinds.now) l }
     requires empty { bytes.old.items ≡ [] }
-    ensures { (l : Lists) → IsKeptBy Q.KindKeeper store.now kinds.now l
+    ensures { (l : Lists) → HasKeeper store.now (Q.tells kinds.now) (Q.room kinds.now) l
         → handled disc.now result bytes.new.items ≡ examine disc.now store.now l request }
 {
     let (name, size) = disc.nth(request.first).ok_or(NO_FILE)?;

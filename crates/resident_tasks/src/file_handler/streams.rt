@@ -5,7 +5,7 @@ ghost use Rattle.kernel_model.specs.KernelRecord.Lists.{Lists};
 ghost use Rattle.ram_disc.specs.Disc.{stream_at};
 ghost use Rattle.ram_disc.specs.DiscCalls.{after_read_on, bytes_read, is_reader, is_writer};
 ghost use Rattle.resident_tasks.specs.FileHandler.FileRequests.{append, close, handled, handler_stream, read_on};
-ghost use Rattle.kernel_model.specs.WordKinds.KeptStores.{IsKeptBy};
+ghost use Rattle.kernel_model.specs.KernelRecord.ChangedStore.{HasKeeper};
 
 use crate::file_handler::pieces::put_zeros;
 use crate::resident_requests::{Request, can_read, can_write, read_buffer_into};
@@ -25,9 +25,9 @@ pub(crate) fn read_on<Q: KindKeeper>(
     request: Request,
     bytes: &mut ArrayVec<u8, 4096>,
 ) -> Result<u32, u32>
-    requires keeper { (l : Lists) × IsKeptBy Q.KindKeeper store.now kinds.now l }
+    requires keeper { (l : Lists) × HasKeeper store.now (Q.tells kinds.now) (Q.room kinds.now) l }
     requires empty { bytes.old.items ≡ [] }
-    ensures { (l : Lists) → IsKeptBy Q.KindKeeper store.now kinds.now l
+    ensures { (l : Lists) → HasKeeper store.now (Q.tells kinds.now) (Q.room kinds.now) l
         → handled disc.new result bytes.new.items ≡ read_on disc.old store.now l request }
 {
     if !is_reader(disc, request.first) {

@@ -5,7 +5,7 @@ ghost use Rattle.kernel_calls.specs.CallAnswers.Outside.{outside};
 ghost use Rattle.resident_tasks.specs.ResidentRequests.Turns.{IsResidentTurn};
 ghost use Rattle.resident_tasks.specs.FileHandler.FileRequests.{file_request, handled};
 ghost use Rattle.resident_tasks.specs.FileHandler.FileTurn.{RunsFileHandler, disc_after_turn, file_turn};
-ghost use Rattle.kernel_model.specs.WordKinds.KeptStores.{IsKeptBy};
+ghost use Rattle.kernel_model.specs.KernelRecord.ChangedStore.{HasKeeper};
 
 use crate::file_handler::calls::{FileCall, file_call};
 use crate::file_handler::files::{delete, examine, open_to_read, open_to_write, rename};
@@ -30,15 +30,15 @@ pub fn file_turn<Q: KindKeeper, L: EventLog>(
     bytes: &mut ArrayVec<u8, 4096>,
     log: &mut L,
 )
-    requires { (l : Lists) × IsKeptBy Q.KindKeeper store.old kinds.old l
+    requires { (l : Lists) × HasKeeper store.old (Q.tells kinds.old) (Q.room kinds.old) l
         × RunsFileHandler l }
     ensures turn { (l : Lists) (shown : List ℕ)
-        → IsKeptBy Q.KindKeeper store.old kinds.old l → RunsFileHandler l
+        → HasKeeper store.old (Q.tells kinds.old) (Q.room kinds.old) l → RunsFileHandler l
         → IsResidentTurn store.new (Q.tells kinds.new)
         (outside shown (L.noted log.old) (L.has_failed log.old))
         (outside shown (L.noted log.new) (L.has_failed log.new))
         (file_turn disc.old store.old l) }
-    ensures disc { (l : Lists) → IsKeptBy Q.KindKeeper store.old kinds.old l
+    ensures disc { (l : Lists) → HasKeeper store.old (Q.tells kinds.old) (Q.room kinds.old) l
         → RunsFileHandler l → disc.new ≡ disc_after_turn disc.old store.old l }
     ensures room { Q.room kinds.new ≡ Q.room kinds.old }
 {
@@ -71,9 +71,9 @@ fn file_request<Q: KindKeeper>(
     request: Request,
     bytes: &mut ArrayVec<u8, 4096>,
 ) -> Result<u32, u32>
-    requires keeper { (l : Lists) × IsKeptBy Q.KindKeeper store.now kinds.now l }
+    requires keeper { (l : Lists) × HasKeeper store.now (Q.tells kinds.now) (Q.room kinds.now) l }
     requires empty { bytes.old.items ≡ [] }
-    ensures { (l : Lists) → IsKeptBy Q.KindKeeper store.now kinds.now l
+    ensures { (l : Lists) → HasKeeper store.now (Q.tells kinds.now) (Q.room kinds.now) l
         → handled disc.new result bytes.new.items ≡ file_request disc.old store.now l request }
 {
     match file_call(request.kind) {

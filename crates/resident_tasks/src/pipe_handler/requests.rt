@@ -5,7 +5,7 @@ ghost use Rattle.resident_tasks.specs.ResidentRequests.Buffers.{is_readable};
 ghost use Rattle.resident_tasks.specs.ResidentRequests.Names.{name_at};
 ghost use Rattle.resident_tasks.specs.PipeHandler.PipeCalls.{after_read, after_write};
 ghost use Rattle.resident_tasks.specs.PipeHandler.PipeTurns.{after_open_named, bytes_of_buffer, call_outcome, pipe_request};
-ghost use Rattle.kernel_model.specs.WordKinds.KeptStores.{IsKeptBy};
+ghost use Rattle.kernel_model.specs.KernelRecord.ChangedStore.{HasKeeper};
 
 use crate::pipe_handler::Pipes;
 use crate::pipe_handler::calls::{PipeCall, pipe_call};
@@ -26,12 +26,12 @@ pub(crate) fn serve<Q: KindKeeper>(
     bytes: &mut [u8],
 ) -> (Result<u32, u32>, usize)
     requires room { length bytes.old ≡ 4096 }
-    requires keeper { (l : Lists) × IsKeptBy Q.KindKeeper store.now kinds.now l }
-    ensures answer { (l : Lists) → IsKeptBy Q.KindKeeper store.now kinds.now l
+    requires keeper { (l : Lists) × HasKeeper store.now (Q.tells kinds.now) (Q.room kinds.now) l }
+    ensures answer { (l : Lists) → HasKeeper store.now (Q.tells kinds.now) (Q.room kinds.now) l
         → result.0 ≡ (pipe_request pipes.old store.now l request).answer }
-    ensures pipes { (l : Lists) → IsKeptBy Q.KindKeeper store.now kinds.now l
+    ensures pipes { (l : Lists) → HasKeeper store.now (Q.tells kinds.now) (Q.room kinds.now) l
         → pipes.new ≡ (pipe_request pipes.old store.now l request).pipes }
-    ensures bytes { (l : Lists) → IsKeptBy Q.KindKeeper store.now kinds.now l
+    ensures bytes { (l : Lists) → HasKeeper store.now (Q.tells kinds.now) (Q.room kinds.now) l
         → take result.1 bytes.new ≡ (pipe_request pipes.old store.now l request).bytes }
     ensures few { result.1 ≤ 4096 }
 {
@@ -51,12 +51,12 @@ fn make<Q: KindKeeper>(
     bytes: &mut [u8],
 ) -> (Result<u32, u32>, usize)
     requires room { length bytes.old ≡ 4096 }
-    requires keeper { (l : Lists) × IsKeptBy Q.KindKeeper store.now kinds.now l }
-    ensures answer { (l : Lists) → IsKeptBy Q.KindKeeper store.now kinds.now l
+    requires keeper { (l : Lists) × HasKeeper store.now (Q.tells kinds.now) (Q.room kinds.now) l }
+    ensures answer { (l : Lists) → HasKeeper store.now (Q.tells kinds.now) (Q.room kinds.now) l
         → result.0 ≡ (call_outcome pipes.old store.now l packet (Some call)).answer }
-    ensures pipes { (l : Lists) → IsKeptBy Q.KindKeeper store.now kinds.now l
+    ensures pipes { (l : Lists) → HasKeeper store.now (Q.tells kinds.now) (Q.room kinds.now) l
         → pipes.new ≡ (call_outcome pipes.old store.now l packet (Some call)).pipes }
-    ensures bytes { (l : Lists) → IsKeptBy Q.KindKeeper store.now kinds.now l
+    ensures bytes { (l : Lists) → HasKeeper store.now (Q.tells kinds.now) (Q.room kinds.now) l
         → take result.1 bytes.new ≡ (call_outcome pipes.old store.now l packet (Some call)).bytes }
     ensures few { result.1 ≤ 4096 }
 {

@@ -5,7 +5,7 @@ ghost use Rattle.kernel_calls.specs.CallAnswers.Outside.{outside};
 ghost use Rattle.resident_tasks.specs.ResidentRequests.Requests.{TakesRequest};
 ghost use Rattle.resident_tasks.specs.ResidentRequests.Turns.{IsResidentTurn};
 ghost use Rattle.resident_tasks.specs.PipeHandler.PipeTurns.{pipe_turn, pipes_after_turn};
-ghost use Rattle.kernel_model.specs.WordKinds.KeptStores.{IsKeptBy};
+ghost use Rattle.kernel_model.specs.KernelRecord.ChangedStore.{HasKeeper};
 
 use crate::pipe_handler::Pipes;
 use crate::pipe_handler::requests::serve;
@@ -23,16 +23,16 @@ pub fn pipe_turn<Q: KindKeeper, L: EventLog>(
     kinds: &mut Q,
     log: &mut L,
 )
-    requires { (l : Lists) × IsKeptBy Q.KindKeeper store.old kinds.old l
+    requires { (l : Lists) × HasKeeper store.old (Q.tells kinds.old) (Q.room kinds.old) l
         × TakesRequest l × (FILE_HANDLER ≡ l.running) }
     ensures turn { (l : Lists) (shown : List ℕ)
-        → IsKeptBy Q.KindKeeper store.old kinds.old l → TakesRequest l
+        → HasKeeper store.old (Q.tells kinds.old) (Q.room kinds.old) l → TakesRequest l
         → FILE_HANDLER ≡ l.running
         → IsResidentTurn store.new (Q.tells kinds.new)
         (outside shown (L.noted log.old) (L.has_failed log.old))
         (outside shown (L.noted log.new) (L.has_failed log.new))
         (pipe_turn pipes.old store.old l) }
-    ensures pipes { (l : Lists) → IsKeptBy Q.KindKeeper store.old kinds.old l
+    ensures pipes { (l : Lists) → HasKeeper store.old (Q.tells kinds.old) (Q.room kinds.old) l
         → TakesRequest l → pipes.new ≡ pipes_after_turn pipes.old store.old l }
     ensures room { Q.room kinds.new ≡ Q.room kinds.old }
 {

@@ -7,7 +7,7 @@ ghost use Rattle.kernel_calls.specs.CallAnswers.Made.{IsMade, minus_one};
 ghost use Rattle.resident_tasks.specs.ResidentRequests.Answers.{IsFinished, OwnsRequest, answered, res1_of, res2_of, returned};
 ghost use Rattle.resident_tasks.specs.ResidentRequests.Requests.{HasRequest, RunsResident};
 ghost use Rattle.kernel_model.specs.KernelRecord.LoggedEvents.{LogsAll};
-ghost use Rattle.kernel_model.specs.WordKinds.KeptStores.{IsKeptBy};
+ghost use Rattle.kernel_model.specs.KernelRecord.ChangedStore.{HasKeeper};
 
 use crate::resident_requests::requests::Request;
 use kernel_calls::reply;
@@ -30,16 +30,16 @@ pub fn return_request<Q: KindKeeper, L: EventLog>(
     answer: Result<u32, u32>,
     log: &mut L,
 )
-    requires { (l : Lists) × IsKeptBy Q.KindKeeper store.old kinds.old l
+    requires { (l : Lists) × HasKeeper store.old (Q.tells kinds.old) (Q.room kinds.old) l
         × RunsResident l × HasRequest store.old l request × (word_of from ≡ l.running) }
-    ensures made { (l : Lists) → IsKeptBy Q.KindKeeper store.old kinds.old l
+    ensures made { (l : Lists) → HasKeeper store.old (Q.tells kinds.old) (Q.room kinds.old) l
         → RunsResident l → HasRequest store.old l request → word_of from ≡ l.running
         → IsMade store.old store.new (Q.tells kinds.new) (Ok minus_one) (returned l request answer) }
-    ensures notes { (l : Lists) → IsKeptBy Q.KindKeeper store.old kinds.old l
+    ensures notes { (l : Lists) → HasKeeper store.old (Q.tells kinds.old) (Q.room kinds.old) l
         → RunsResident l → HasRequest store.old l request → word_of from ≡ l.running
         → LogsAll L.EventLog log.old log.new
         (returned l request answer).events }
-    ensures owns { (l : Lists) → IsKeptBy Q.KindKeeper store.old kinds.old l
+    ensures owns { (l : Lists) → HasKeeper store.old (Q.tells kinds.old) (Q.room kinds.old) l
         → RunsResident l → HasRequest store.old l request → word_of from ≡ l.running
         → OwnsRequest l (returned l request answer).lists request }
     ensures runs { (l : Lists) → RunsResident l → RunsResident (returned l request answer).lists }
@@ -83,16 +83,16 @@ pub fn answer_request<Q: KindKeeper, L: EventLog>(
     answer: Result<u32, u32>,
     log: &mut L,
 )
-    requires { (l : Lists) × IsKeptBy Q.KindKeeper store.old kinds.old l
+    requires { (l : Lists) × HasKeeper store.old (Q.tells kinds.old) (Q.room kinds.old) l
         × RunsResident l × HasRequest store.old l request × (word_of from ≡ l.running) }
-    ensures made { (l : Lists) → IsKeptBy Q.KindKeeper store.old kinds.old l
+    ensures made { (l : Lists) → HasKeeper store.old (Q.tells kinds.old) (Q.room kinds.old) l
         → RunsResident l → HasRequest store.old l request → word_of from ≡ l.running
         → IsMade store.old store.new (Q.tells kinds.new) (Ok minus_one) (answered l request answer) }
-    ensures notes { (l : Lists) → IsKeptBy Q.KindKeeper store.old kinds.old l
+    ensures notes { (l : Lists) → HasKeeper store.old (Q.tells kinds.old) (Q.room kinds.old) l
         → RunsResident l → HasRequest store.old l request → word_of from ≡ l.running
         → LogsAll L.EventLog log.old log.new
         (answered l request answer).events }
-    ensures owns { (l : Lists) → IsKeptBy Q.KindKeeper store.old kinds.old l
+    ensures owns { (l : Lists) → HasKeeper store.old (Q.tells kinds.old) (Q.room kinds.old) l
         → RunsResident l → HasRequest store.old l request → word_of from ≡ l.running
         → OwnsRequest l (answered l request answer).lists request }
     ensures room { Q.room kinds.new ≡ Q.room kinds.old }

@@ -6,7 +6,7 @@ ghost use Rattle.resident_tasks.specs.ResidentRequests.Buffers.{byte_in, bytes_i
 ghost use Rattle.resident_tasks.specs.ResidentRequests.Requests.{HasRequest};
 ghost use Rattle.resident_tasks.specs.ResidentRequests.Turns.{HasWritten};
 ghost use Rattle.resident_tasks.specs.declared.resident_requests.requests.Request.{Request};
-ghost use Rattle.kernel_model.specs.WordKinds.KeptStores.{IsKeptBy};
+ghost use Rattle.kernel_model.specs.KernelRecord.ChangedStore.{HasKeeper};
 
 use arrayvec::ArrayVec;
 use kernel_model::numbers::PACKET_WORDS;
@@ -30,8 +30,8 @@ pub fn can_read(store: &Store, a: u32, n: u32) -> bool
 /// Whether the buffer may be written for the request whose packet is at p: it may be read, and none of its words is the
 /// kernel's, as the first five of the packet are.
 pub fn can_write<Q: KindKeeper>(store: &Store, kinds: &Q, p: u32, a: u32, n: u32) -> bool
-    requires { (l : Lists) × IsKeptBy Q.KindKeeper store.now kinds.now l }
-    ensures { (l : Lists) → IsKeptBy Q.KindKeeper store.now kinds.now l
+    requires { (l : Lists) × HasKeeper store.now (Q.tells kinds.now) (Q.room kinds.now) l }
+    ensures { (l : Lists) → HasKeeper store.now (Q.tells kinds.now) (Q.room kinds.now) l
         → result ≡ is_writable store.now l p a n }
 {
     if !can_read(store, a, n) {
@@ -45,9 +45,9 @@ pub fn can_write<Q: KindKeeper>(store: &Store, kinds: &Q, p: u32, a: u32, n: u32
 
 // Whether none of the words of the buffer is the kernel's.
 fn has_no_kernel_word<Q: KindKeeper>(store: &Store, kinds: &Q, a: u32, n: u32) -> bool
-    requires keeper { (l : Lists) × IsKeptBy Q.KindKeeper store.now kinds.now l }
+    requires keeper { (l : Lists) × HasKeeper store.now (Q.tells kinds.now) (Q.room kinds.now) l }
     requires count { n ≤ 4096 }
-    ensures { (l : Lists) → IsKeptBy Q.KindKeeper store.now kinds.now l
+    ensures { (l : Lists) → HasKeeper store.now (Q.tells kinds.now) (Q.room kinds.now) l
         → result ≡ is_unowned l a n }
 {
     are_unowned(store, kinds, a, covered(n))

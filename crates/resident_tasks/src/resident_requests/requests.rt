@@ -5,7 +5,7 @@ ghost use Rattle.kernel_model.specs.KernelRecord.Lists.{Lists};
 ghost use Rattle.kernel_calls.specs.PacketCalls.TaskWait.{first_of_queue};
 ghost use Rattle.resident_tasks.specs.ResidentRequests.Requests.{IsTaken, RunsResident, TakesRequest, request_at, taken, work};
 ghost use Rattle.kernel_model.specs.KernelRecord.LoggedEvents.{LogsAll};
-ghost use Rattle.kernel_model.specs.WordKinds.KeptStores.{IsKeptBy};
+ghost use Rattle.kernel_model.specs.KernelRecord.ChangedStore.{HasKeeper};
 
 use kernel_calls::{Queue, taken, unqueue};
 use kernel_lists::{EventLog, RootField, TcbField, field, root};
@@ -41,11 +41,11 @@ pub fn take_request<Q: KindKeeper, L: EventLog>(
     kinds: &mut Q,
     log: &mut L,
 ) -> Option<Request>
-    requires { (l : Lists) × IsKeptBy Q.KindKeeper store.old kinds.old l
+    requires { (l : Lists) × HasKeeper store.old (Q.tells kinds.old) (Q.room kinds.old) l
         × TakesRequest l }
-    ensures taken { (l : Lists) → IsKeptBy Q.KindKeeper store.old kinds.old l
+    ensures taken { (l : Lists) → HasKeeper store.old (Q.tells kinds.old) (Q.room kinds.old) l
         → TakesRequest l → IsTaken store.old store.new (Q.tells kinds.new) l result }
-    ensures notes { (l : Lists) → IsKeptBy Q.KindKeeper store.old kinds.old l
+    ensures notes { (l : Lists) → HasKeeper store.old (Q.tells kinds.old) (Q.room kinds.old) l
         → TakesRequest l → LogsAll L.EventLog log.old log.new (taken l).events }
     ensures room { Q.room kinds.new ≡ Q.room kinds.old }
 {

@@ -6,7 +6,7 @@ ghost use Rattle.resident_tasks.specs.ResidentRequests.Answers.{answered};
 ghost use Rattle.resident_tasks.specs.ResidentRequests.Requests.{HasRequest, RunsResident};
 ghost use Rattle.resident_tasks.specs.ResidentRequests.Turns.{CanServe, IsServed, service};
 ghost use Rattle.kernel_model.specs.KernelRecord.LoggedEvents.{LogsAll};
-ghost use Rattle.kernel_model.specs.WordKinds.KeptStores.{IsKeptBy};
+ghost use Rattle.kernel_model.specs.KernelRecord.ChangedStore.{HasKeeper};
 
 use crate::resident_requests::answers::answer_request;
 use crate::resident_requests::buffers::write_buffer;
@@ -28,14 +28,14 @@ pub fn serve_request<Q: KindKeeper, L: EventLog>(
     log: &mut L,
 )
     requires fits { length bytes.now ≤ 4096 }
-    requires request { (l : Lists) × IsKeptBy Q.KindKeeper store.old kinds.old l
+    requires request { (l : Lists) × HasKeeper store.old (Q.tells kinds.old) (Q.room kinds.old) l
         × RunsResident l × HasRequest store.old l request × (word_of from ≡ l.running)
         × CanServe store.old l request (service answer at bytes.now) }
-    ensures served { (l : Lists) → IsKeptBy Q.KindKeeper store.old kinds.old l
+    ensures served { (l : Lists) → HasKeeper store.old (Q.tells kinds.old) (Q.room kinds.old) l
         → RunsResident l → HasRequest store.old l request → word_of from ≡ l.running
         → CanServe store.old l request (service answer at bytes.now)
         → IsServed store.old store.new (Q.tells kinds.new) l request (service answer at bytes.now) }
-    ensures notes { (l : Lists) → IsKeptBy Q.KindKeeper store.old kinds.old l
+    ensures notes { (l : Lists) → HasKeeper store.old (Q.tells kinds.old) (Q.room kinds.old) l
         → RunsResident l → HasRequest store.old l request → word_of from ≡ l.running
         → CanServe store.old l request (service answer at bytes.now)
         → LogsAll L.EventLog log.old log.new

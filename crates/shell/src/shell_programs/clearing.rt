@@ -5,7 +5,7 @@ ghost use Rattle.kernel_model.specs.KernelRecord.Standing.{standing};
 ghost use Rattle.shell.specs.ShellPrograms.ClearedTasks.{cleared, cleared_at};
 ghost use Rattle.shell.specs.ShellPrograms.Standings.{HasStanding};
 ghost use Rattle.kernel_model.specs.KernelRecord.Running.{RunsAlive};
-ghost use Rattle.kernel_model.specs.WordKinds.KeptStores.{IsKeptBy};
+ghost use Rattle.kernel_model.specs.KernelRecord.ChangedStore.{HasKeeper};
 
 use kernel_calls::{delete_task, guest, unload_module};
 use kernel_lists::{FIRST_GUEST, TcbField, field, highest_id};
@@ -17,9 +17,9 @@ use word_store::Store;
 /// as a task of which a packet still waits for the shell.
 pub fn clear_up<Q: KindKeeper>(store: &mut Store, kinds: &mut Q)
     requires { (l : Lists)
-        × IsKeptBy Q.KindKeeper store.old kinds.old l × RunsAlive l }
+        × HasKeeper store.old (Q.tells kinds.old) (Q.room kinds.old) l × RunsAlive l }
     ensures cleared { (l : Lists)
-        → IsKeptBy Q.KindKeeper store.old kinds.old l → RunsAlive l
+        → HasKeeper store.old (Q.tells kinds.old) (Q.room kinds.old) l → RunsAlive l
         → HasStanding store.new (Q.tells kinds.new) (Q.room kinds.new)
         (cleared (standing store.old l)) }
     ensures room { Q.room kinds.new ≡ Q.room kinds.old }
@@ -33,9 +33,9 @@ pub fn clear_up<Q: KindKeeper>(store: &mut Store, kinds: &mut Q)
 fn clear_task<Q: KindKeeper>(store: &mut Store, kinds: &mut Q, id: u32)
     requires guest { FIRST_GUEST ≤ id }
     requires holds { (l : Lists)
-        × IsKeptBy Q.KindKeeper store.old kinds.old l × RunsAlive l }
+        × HasKeeper store.old (Q.tells kinds.old) (Q.room kinds.old) l × RunsAlive l }
     ensures cleared { (l : Lists)
-        → IsKeptBy Q.KindKeeper store.old kinds.old l → RunsAlive l
+        → HasKeeper store.old (Q.tells kinds.old) (Q.room kinds.old) l → RunsAlive l
         → HasStanding store.new (Q.tells kinds.new) (Q.room kinds.new)
         (cleared_at id (standing store.old l)) }
     ensures room { Q.room kinds.new ≡ Q.room kinds.old }

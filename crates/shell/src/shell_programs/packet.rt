@@ -6,7 +6,7 @@ ghost use Rattle.kernel_model.specs.KernelRecord.Standing.{standing};
 ghost use Rattle.shell.specs.ShellPrograms.ShellPacket.{CanPost, post_events, posted, request_words, requested};
 ghost use Rattle.shell.specs.ShellPrograms.Standings.{HasStanding};
 ghost use Rattle.kernel_model.specs.KernelRecord.LoggedEvents.{LogsAll};
-ghost use Rattle.kernel_model.specs.WordKinds.KeptStores.{IsKeptBy};
+ghost use Rattle.kernel_model.specs.KernelRecord.ChangedStore.{HasKeeper};
 
 use kernel_calls::send_own;
 use kernel_lists::EventLog;
@@ -23,12 +23,12 @@ pub fn send_shell_packet<Q: KindKeeper, L: EventLog>(
     kind: u32,
     log: &mut L,
 )
-    requires { (l : Lists) × IsKeptBy Q.KindKeeper store.old kinds.old l
+    requires { (l : Lists) × HasKeeper store.old (Q.tells kinds.old) (Q.room kinds.old) l
         × CanPost l to }
-    ensures sent { (l : Lists) → IsKeptBy Q.KindKeeper store.old kinds.old l
+    ensures sent { (l : Lists) → HasKeeper store.old (Q.tells kinds.old) (Q.room kinds.old) l
         → CanPost l to → HasStanding store.new (Q.tells kinds.new) (Q.room kinds.new)
         (requested to kind (standing store.old l)) }
-    ensures notes { (l : Lists) → IsKeptBy Q.KindKeeper store.old kinds.old l
+    ensures notes { (l : Lists) → HasKeeper store.old (Q.tells kinds.old) (Q.room kinds.old) l
         → CanPost l to → LogsAll L.EventLog log.old log.new (post_events to) }
     ensures room { Q.room kinds.new ≡ Q.room kinds.old }
 {
@@ -56,12 +56,12 @@ pub fn post_shell_packet<Q: KindKeeper, L: EventLog>(
     to: u32,
     log: &mut L,
 )
-    requires { (l : Lists) × IsKeptBy Q.KindKeeper store.old kinds.old l
+    requires { (l : Lists) × HasKeeper store.old (Q.tells kinds.old) (Q.room kinds.old) l
         × CanPost l to }
-    ensures sent { (l : Lists) → IsKeptBy Q.KindKeeper store.old kinds.old l
+    ensures sent { (l : Lists) → HasKeeper store.old (Q.tells kinds.old) (Q.room kinds.old) l
         → CanPost l to → HasStanding store.new (Q.tells kinds.new) (Q.room kinds.new)
         (posted to (standing store.old l)) }
-    ensures notes { (l : Lists) → IsKeptBy Q.KindKeeper store.old kinds.old l
+    ensures notes { (l : Lists) → HasKeeper store.old (Q.tells kinds.old) (Q.room kinds.old) l
         → CanPost l to → LogsAll L.EventLog log.old log.new (post_events to) }
     ensures room { Q.room kinds.new ≡ Q.room kinds.old }
 {

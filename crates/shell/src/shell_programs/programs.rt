@@ -5,7 +5,7 @@ ghost use Rattle.kernel_model.specs.KernelRecord.Lists.{Lists};
 ghost use Rattle.kernel_calls.specs.CallAnswers.Made.{IsMade};
 ghost use Rattle.kernel_model.specs.KernelRecord.Standing.{standing};
 ghost use Rattle.shell.specs.ShellPrograms.StartedProgram.{IsStarted, create_program, load_program, next_number, priority_of, start_program};
-ghost use Rattle.kernel_model.specs.WordKinds.KeptStores.{IsKeptBy};
+ghost use Rattle.kernel_model.specs.KernelRecord.ChangedStore.{HasKeeper};
 
 use arrayvec::ArrayVec;
 use kernel_calls::{create_task, load_module, unload_module};
@@ -47,9 +47,9 @@ pub fn start_program<Q: KindKeeper>(
     rest: Result<(), u32>,
     priority: Priority,
 ) -> Result<u32, u32>
-    requires { (l : Lists) × IsKeptBy Q.KindKeeper store.old kinds.old l }
+    requires { (l : Lists) × HasKeeper store.old (Q.tells kinds.old) (Q.room kinds.old) l }
     ensures started { (l : Lists)
-        → IsKeptBy Q.KindKeeper store.old kinds.old l
+        → HasKeeper store.old (Q.tells kinds.old) (Q.room kinds.old) l
         → IsStarted store.new (Q.tells kinds.new) (Q.room kinds.new) result
         (start_program disc.now program.now rest priority (standing store.old l)) }
     ensures room { Q.room kinds.new ≡ Q.room kinds.old }
@@ -66,9 +66,9 @@ fn load_program<Q: KindKeeper>(
     program: &Name,
     rest: Result<(), u32>,
 ) -> Result<u32, u32>
-    requires { (l : Lists) × IsKeptBy Q.KindKeeper store.old kinds.old l }
+    requires { (l : Lists) × HasKeeper store.old (Q.tells kinds.old) (Q.room kinds.old) l }
     ensures made { (l : Lists)
-        → IsKeptBy Q.KindKeeper store.old kinds.old l
+        → HasKeeper store.old (Q.tells kinds.old) (Q.room kinds.old) l
         → IsMade store.old store.new (Q.tells kinds.new) result
         (load_program disc.now program.now rest l) }
     ensures room { Q.room kinds.new ≡ Q.room kinds.old }
@@ -88,9 +88,9 @@ fn create_program<Q: KindKeeper>(
     module: u32,
     priority: Priority,
 ) -> Result<u32, u32>
-    requires { (l : Lists) × IsKeptBy Q.KindKeeper store.old kinds.old l }
+    requires { (l : Lists) × HasKeeper store.old (Q.tells kinds.old) (Q.room kinds.old) l }
     ensures started { (l : Lists)
-        → IsKeptBy Q.KindKeeper store.old kinds.old l
+        → HasKeeper store.old (Q.tells kinds.old) (Q.room kinds.old) l
         → IsStarted store.new (Q.tells kinds.new) (Q.room kinds.new) result
         (create_program priority «module» (standing store.old l)) }
     ensures room { Q.room kinds.new ≡ Q.room kinds.old }
