@@ -1,4 +1,5 @@
-// A listing assembles to the bytes that it lists. The functions do nothing: their contracts are the laws.
+// Assembly and listings: the module that an assembly text makes, the listing of a module, and how each leads back to the other. The functions
+// here do nothing: their contracts are the laws.
 #![tactic(auto)]
 
 pub mod assembly_text;

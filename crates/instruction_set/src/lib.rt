@@ -1,4 +1,4 @@
-// One instruction of the machine.
+// The instructions: the table of the 256 codes, the forms of operands, and here what one instruction does.
 #![tactic(auto)]
 
 ghost use Rattle.std.specs.Prelude.{◌≡◌, ◌≢◌, ◌<◌};

@@ -1,4 +1,4 @@
-// Whether a store, whatever its words are, holds the words of valid lists. It is the door of its room.
+// Whether a store, whatever its words are, holds the words of valid lists.
 #![tactic(auto)]
 
 pub mod between;

@@ -1,4 +1,4 @@
-// The lists in the store, as the rooms above see them. It has no code of its own.
+// The lists in the store: blocks, tasks, queues of packets, modules and coroutines, and whose words these are.
 #![tactic(auto)]
 
 pub mod coroutine_lists;

@@ -1,3 +1,4 @@
+// The machine with a kernel: what a step does to it, how it runs, and how a session boots it.
 #![tactic(auto)]
 
 pub mod kernel_steps;

@@ -1,3 +1,4 @@
+// The kernel as a record of lists that owns words of the store; which words are its own, and which task runs.
 #![tactic(auto)]
 
 pub mod kernel_dispatch;

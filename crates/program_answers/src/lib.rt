@@ -1,4 +1,4 @@
-// How a program answers the input that it reads: a status, the bytes that it writes, and who is blamed where it can't.
+// What both programs share: how a program answers the input that it reads, and lines for the kernel's events.
 #![tactic(auto)]
 
 pub mod inputs;

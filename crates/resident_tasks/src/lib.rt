@@ -1,3 +1,4 @@
+// The residents: how they take and answer requests, and the turns of the file handler, the reporter of faults and the console.
 #![tactic(auto)]
 
 pub mod console_handler;

@@ -1,3 +1,4 @@
+// Each word of a store is claimed once, whatever the words are; and what a check of a store has to find.
 #![tactic(auto)]
 
 pub mod adoption_law;

@@ -1,4 +1,4 @@
-// A machine of either kind, from a session to its runs.
+// A machine of either kind, from a session to its runs, and the history that the events of each run are.
 #![tactic(auto)]
 
 pub mod event_history;
