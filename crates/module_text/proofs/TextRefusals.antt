@@ -191,7 +191,7 @@ Meaning text line (suc (suc (suc (suc (suc (suc zero)))))) = IsFirstError text l
 Meaning text line (suc (suc (suc (suc (suc (suc (suc code))))))) = ⊥
 
 -- the same of two codes that are one
-pub meaning_of : (text : List ℕ) (line k code : ℕ) → k ≡ code → Meaning text line k → Meaning text line code
+meaning_of : (text : List ℕ) (line k code : ℕ) → k ≡ code → Meaning text line k → Meaning text line code
 meaning_of text line k code e m = subst (λ (c : ℕ). Meaning text line c) e m
 
 at_token : (text : List ℕ) (line : ℕ) (d : Stop) (Why : List ℕ → List ℕ → Type 0) (s : StopsAt FirstType (tokens_of text) d) → line_at text d.place ≡ line → Why s.words s.token.bytes → IsFirstError text line Why

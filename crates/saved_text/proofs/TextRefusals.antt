@@ -12,7 +12,7 @@ use Rattle.saved_text.proofs.Advances.{BeginLines, IsOf, StopsAt, advance, advan
 use Rattle.saved_text.proofs.CompleteText.{complete}
 use Rattle.saved_text.proofs.PrintedText.{plain_image}
 use Rattle.saved_text.proofs.Sound.{sound}
-use Rattle.session_text.proofs.TextRefusals.{line_of-same, bound_of}
+use Rattle.session_text.proofs.TextRefusals.{line_of-same}
 
 -- ---- lines and texts
 
@@ -90,6 +90,11 @@ says_end : (text : List ℕ) (n code : ℕ) → code ≡ 3 → Meaning text n co
 says_end text n code h (inr m) = m.1
 says_end text n code h (inl (inl e, m)) = absurd (omega (arith, h, e))
 says_end text n code h (inl (inr e, m)) = absurd (omega (arith, h, e))
+
+bound_of : (text : List ℕ) (n code : ℕ) → Meaning text n code → (1 ≤ code) × (code ≤ 3)
+bound_of text n code (inl (inl e, m)) = (omega (arith, e), omega (arith, e))
+bound_of text n code (inl (inr e, m)) = (omega (arith, e), omega (arith, e))
+bound_of text n code (inr m) = let e = m.0 in (omega (arith, e), omega (arith, e))
 
 pub code_bound : (text : List ℕ) (n code : ℕ) → IsRefused text n code → (1 ≤ code) × (code ≤ 3)
 code_bound text n code e = bound_of text n code (says text n code e)

@@ -14,7 +14,6 @@ use Rattle.session_text.proofs.LineRefusals.{Accepts, IsWrong}
 use Rattle.session_text.proofs.SessionTexts.{begin_lines, begin_text}
 use Rattle.session_text.proofs.Sound.{sound}
 use Rattle.session_text.proofs.StepRefusals.{step-err}
-use Rattle.module_text.proofs.TextRefusals.{meaning_of}
 
 -- ---- behind lines that were accepted
 
@@ -52,6 +51,10 @@ Meaning text n (suc zero) = IsFirstError text n HasNoForm
 Meaning text n (suc (suc zero)) = IsFirstError text n IsOutOfRange
 Meaning text n (suc (suc (suc zero))) = EndsEarly text n
 Meaning text n (suc (suc (suc (suc code)))) = ⊥
+
+-- the same of two codes that are one
+meaning_of : (text : List ℕ) (n k code : ℕ) → k ≡ code → Meaning text n k → Meaning text n code
+meaning_of text n k code e m = subst (λ (c : ℕ). Meaning text n c) e m
 
 -- a reading stops at the first line in error
 first_error : (text : List ℕ) (n : ℕ) (r : Refusal) (Why : List (List ℕ) → List ℕ → Type 0) (s : StopsAt first_draft 1 (lines_of text) r) → 1 + length s.front ≡ n → Why s.front s.line → IsFirstError text n Why
@@ -91,7 +94,7 @@ says text n code e =
           })
     ]
 
-pub bound_of : (text : List ℕ) (n code : ℕ) → Meaning text n code → (1 ≤ code) × (code ≤ 3)
+bound_of : (text : List ℕ) (n code : ℕ) → Meaning text n code → (1 ≤ code) × (code ≤ 3)
 bound_of text n zero m = absurd m
 bound_of text n (suc zero) m = (omega arith, omega arith)
 bound_of text n (suc (suc zero)) m = (omega arith, omega arith)
