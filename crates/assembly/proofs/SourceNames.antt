@@ -82,10 +82,6 @@ label_read a lt =
 pub label_same : (a b : ℕ) → a < 2 ^ 64 → b < 2 ^ 64 → label a ≡ label b → a ≡ b
 label_same a b p q e = decimal_same a b p q (ap (drop 1) e)
 
-drop_seam : (xs ys : List ℕ) → drop (length xs) (xs ++ ys) ≡ ys
-drop_seam [] ys = refl
-drop_seam (x ∷ xs) ys = drop_seam xs ys
-
 -- ---- the names of the table
 
 abbrev is_part_byte : ℕ → Bool

@@ -9,10 +9,6 @@ use Rattle.bare_machine.specs.Step.{BareStepped}
 use Rattle.bare_machine.proofs.Instructions.{executed-run}
 use Rattle.bare_machine.proofs.Runs.{run-more}
 
--- none is met where there is none
-pub avoids-none : (bs : List ℕ) (n : ℕ) (m : BareState) → bs ≡ [] → Avoids bs n m
-avoids-none bs n m none i some less = ap (λ (b : List ℕ). is_met b (run i m).state) none
-
 -- none lies between, where there is at most one step
 pub avoids-few : (bs : List ℕ) (n : ℕ) (m : BareState) → n ≤ 1 → Avoids bs n m
 avoids-few bs n m few i some less = absurd (omega arith)

@@ -45,8 +45,3 @@ module _ (l : Lists) (b : Block) (bs rest : List Block) (is : rest ≡ b ∷ bs)
   -- the sink failed at it
   pub blocks-cut : {m : Option (List ℕ)} → IsCut k m q (block_line b used) → IsCut h m p (block_lines l l.blocks)
   blocks-cut {m} cut = subst (IsCut h m p) (sym blocks-at) (IsCut-then d.gathered (IsCut-more (block_lines l bs) cut))
-
--- all lines
-pub blocks-all : (l : Lists) (rest : List Block) (h k : Option (List ℕ)) (p q : List ℕ) → rest ≡ [] → IsBlocksSoFar l rest h k p q → IsGathered h k p q (block_lines l l.blocks)
-blocks-all l rest h k p q none d =
-    subst (IsGathered h k p q) (sym (append-nil d.front) ∙ ap (λ xs. d.front ++ block_lines l xs) (sym none) ∙ d.all) d.gathered

@@ -49,11 +49,6 @@ pub ends-set : {T E : Type 0} (c : Limits) (a : ℕ) (d : Debugging) (stops : Li
 ends-set c a d stops (Ok x) is = (refl, is)
 ends-set c a d stops (Err e) is = debugged-none _ _
 
--- a line that takes steps
-pub ends-stepped : {T E : Type 0} (c : Limits) (d : Debugging) (n : ℕ) (t : State) (r : Result T E) → EndsSteps n (steps_left c d.state) d.state t r → EndsTold c d (stepped c n d) t d.stops r
-ends-stepped c d n t (Ok x) is = (is, refl)
-ends-stepped c d n t (Err e) cut = cut
-
 -- a line that undoes steps, where no history is kept
 pub ends-returned : {T E : Type 0} (c : Limits) (n : ℕ) (d : Debugging) (r : Result T E) → d.past ≡ None → EndsTold c d (undone c n d) d.state d.stops r
 ends-returned c n d (Ok x) none = (sym (back-stays n d none), refl)

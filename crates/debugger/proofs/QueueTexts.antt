@@ -11,11 +11,3 @@ use Rattle.debugger.specs.Views.{Leads}
 pub leads-stands : (s : List ℕ) (queue : Queue) (ps : Option (List QueuedPacket)) → Leads s (Some queue) ps → HasQueue s (head_of queue)
 leads-stands s queue None x = absurd x
 leads-stands s queue (Some ps) x = x.0
-
-pub leads-text : (s : List ℕ) (queue : Queue) (ps : Option (List QueuedPacket)) → Leads s (Some queue) ps → packet_lines (packets_at s (head_of queue)) ≡ queue_text ps
-leads-text s queue None x = absurd x
-leads-text s queue (Some ps) x = ap packet_lines x.1
-
-pub leads-none : (s : List ℕ) (ps : Option (List QueuedPacket)) → Leads s None ps → queue_text None ≡ queue_text ps
-leads-none s None x = refl
-leads-none s (Some ps) x = absurd x

@@ -26,11 +26,3 @@ module _ {from : ℕ} {words : List ℕ} {a : ℕ} {bytes : List ℕ} (d : IsWor
   words-all h = d.same ∙ ap (λ ws. bytes ++ word_lines (from + a) ws) (drop_all a words h) ∙ append-nil bytes
 
 -- ---- the words of a store that are there
-
-pub taken-there : (k n m : ℕ) (xs : List ℕ) → k ≡ min n m → length xs ≤ n → take k xs ≡ take m xs
-taken-there k n m xs is few = elim (cases_lt n m) [
-  | inl less ↦
-      let all : k ≡ n = omega (arith, is, less) in
-      ap (λ i. take i xs) all ∙ take_all n xs few ∙ sym (take_all m xs (omega (arith, few, less)))
-  | inr more ↦ (let some : k ≡ m = omega (arith, is, more) in ap (λ i. take i xs) some)
-]

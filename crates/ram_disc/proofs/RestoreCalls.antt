@@ -26,10 +26,6 @@ May ps k slot place size writes = leb place size && not (list_any (writes_on slo
 abbrev pub Free : List (Option Place) → ℕ → Bool
 Free ps k = leb 1 k && leb k most_streams && is_none (place_in ps k)
 
-grouped : (x t u v : Bool) → (x && true && t && u && v) ≡ (x && (t && u && v))
-grouped true t u v = refl
-grouped false t u v = refl
-
 missing : (x t u v : Bool) → (x && false && t && u && v) ≡ false
 missing true t u v = refl
 missing false t u v = refl

@@ -50,10 +50,6 @@ stream_at-place names ps d k e =
     on true = refl
     on false = refl
 
-is_none-stream : (names : List (List ℕ)) (p : Option Place) → is_none (stream_in names p) ≡ is_none p
-is_none-stream names None = refl
-is_none-stream names (Some p) = refl
-
 first-none : (names : List (List ℕ)) (ps : List (Option Place)) → position_or_len is_none (streams_in names ps) ≡ position_or_len is_none ps
 first-none names [] = refl
 first-none names (None ∷ ps) = refl

@@ -68,9 +68,6 @@ current-first : (v : List ℕ) (t : ℕ) (act : List ℕ) → LeadsOut v t 0 (t 
 current-first v t [] out = out
 current-first v t (c ∷ cs) out = out.0
 
-within-some : (k : TaskCoroutines) → is_within k ≡ true → current_of k ≢ 0
-within-some k within e = false≢true (sym (ap (λ z. not (eqb z 0)) e) ∙ within)
-
 module _ (s : List ℕ) (l : Lists) (t : ℕ) (h : HoldsLists s l) (g : GuestAt l l.running t) (r : Regs) where
   abbrev own : TaskCoroutines
   own = g.task.coroutines

@@ -149,20 +149,10 @@ pub shut-next : (s : List ℕ) (m v : List Bool) (c : ℕ) (bs rest : List ℕ) 
 shut-next s m v c bs rest true g is answer set none = shut-one s m v c bs rest g is set
 shut-next s m v c bs rest false g is answer set none = shut-none s m v c bs rest g is none (λ open_words. false≢true (answer.1 open_words))
 
-pub all-shut : (s : List ℕ) (m : List Bool) (bs : List ℕ) → IsShutting s m bs → bs ≡ [] → IsShut s m
-all-shut s m bs g is = record { size = g.size; none = λ a shown. false≢true (ap (has a) (sym is) ∙ g.only a shown) }
-
 -- ---- their parents
 
 pub tells-open : (s : List ℕ) (t c : ℕ) (m : List Bool) (b : Bool) → is_open m c ≡ not (has c (active_in s t)) → ((b ≡ true) ↔ (eqb (get_or s (c + 1) 0) 0 ≡ is_open m c)) → (b ≡ true) ↔ TellsParent s t c
 tells-open s t c m b idle answer = (λ y. answer.0 y ∙ idle, λ h. answer.1 (h ∙ sym idle))
-
-pub no-word : (w : ℕ) (v : ℕ) (b : Bool) → w ≡ v → w ≡ 0 → (b ≡ true) ↔ (eqb v 0 ≡ b)
-no-word w v b read none =
-    let z : eqb v 0 ≡ true = eq-eqb v 0 (sym read ∙ none) in (
-      λ t. z ∙ sym t,
-      λ e. sym e ∙ z,
-    )
 
 pub some-word : (w : ℕ) (v : ℕ) (b : Bool) → w ≡ v → w ≢ 0 → (not b ≡ true) ↔ (eqb v 0 ≡ b)
 some-word w v b read some =

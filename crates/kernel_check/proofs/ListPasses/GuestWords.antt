@@ -28,9 +28,6 @@ use Rattle.kernel_check.specs.ListPasses.CanPass.{CanPass}
 use Rattle.kernel_check.specs.ListPasses.TaskRules.{AreNamed, HasModules, HasWord, IsIdle}
 use Rattle.kernel_check.proofs.ListPasses.CoroutineWalks.{the-blocks}
 
-nz : ℕ → Bool
-nz m = not (eqb m 0)
-
 -- ---- words that are not 0
 
 pub all-filter : (P : ℕ → Type 0) (ws : List ℕ) → ((k : ℕ) → k < length ws → get_or ws k 0 ≢ 0 → P (get_or ws k 0)) → AllByRecursion P (filter (λ m. not (eqb m 0)) ws)

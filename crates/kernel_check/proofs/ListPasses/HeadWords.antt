@@ -41,14 +41,8 @@ bit-low s t = on (task_in s t).queue
 pub guest-stack : (s : List ℕ) (t : ℕ) → is_guest_id (id_in s t) ≡ true → t + head_words s + 1001 ≡ stack_of (lists_in s).version (task_in s t)
 guest-stack s t is = (let e : t + head_words s + 1001 ≡ t + head_words_of (lists_in s).version + 1001 = omega (arith, head-is s) in e ∙ ap (λ b. cond b (t + head_words_of (lists_in s).version + 1001) 0) (sym is))
 
-pub no-stack : (s : List ℕ) (t : ℕ) → is_guest_id (id_in s t) ≡ false → 0 ≡ stack_of (lists_in s).version (task_in s t)
-no-stack s t is = ap (λ b. cond b (t + head_words_of (lists_in s).version + 1001) 0) (sym is)
-
 pub guest-globals : (s : List ℕ) (t : ℕ) → is_guest_id (id_in s t) ≡ true → t + head_words s ≡ globals_of (lists_in s).version (task_in s t)
 guest-globals s t is = (let e : t + head_words s ≡ t + head_words_of (lists_in s).version = omega (arith, head-is s) in e ∙ ap (λ b. cond b (t + head_words_of (lists_in s).version) 0) (sym is))
-
-pub no-globals : (s : List ℕ) (t : ℕ) → is_guest_id (id_in s t) ≡ false → 0 ≡ globals_of (lists_in s).version (task_in s t)
-no-globals s t is = ap (λ b. cond b (t + head_words_of (lists_in s).version) 0) (sym is)
 
 -- ---- the first module
 

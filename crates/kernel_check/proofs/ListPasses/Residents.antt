@@ -16,12 +16,6 @@ has_id s id ts = list_any (λ t. eqb (id_in s t) id) ts
 pub has-id : (s : List ℕ) (id : ℕ) → has_id s id (tasks_in s) ≡ has_task id (lists_in s).tasks
 has-id s id = in-lists s (λ t. eqb t.id id)
 
-pub id-here : (s ts : List ℕ) (t : ℕ) (rest : List ℕ) (id w : ℕ) → ts ≡ t ∷ rest → w ≡ id_in s t → w ≡ id → has_id s id ts ≡ true
-id-here s ts t rest id w is read same = ap (has_id s id) is ∙ ap (λ b. b || has_id s id rest) (eq-eqb (id_in s t) id (sym read ∙ same))
-
-pub id-behind : (s ts : List ℕ) (t : ℕ) (rest : List ℕ) (id w : ℕ) → ts ≡ t ∷ rest → w ≡ id_in s t → w ≢ id → has_id s id ts ≡ has_id s id rest
-id-behind s ts t rest id w is read other = ap (has_id s id) is ∙ ap (λ b. b || has_id s id rest) (ne_eqb (id_in s t) id (λ e. other (read ∙ e)))
-
 residents-is : (s : List ℕ) → (lists_in s).residents ≡ not (eqb (get_or s 112 0) 0)
 unfolding lists_in
 residents-is s = refl

@@ -45,39 +45,11 @@ pub record IsMarking (s : List ℕ) (m : List Bool) (rest all : List Block) : Ty
   pub size : length m ≡ length s
   pub shown : (a : ℕ) → a < length s → (is_open m a || starts_at a rest) ≡ starts_at a all
 
-pub marking : (s : List ℕ) (m : List Bool) (bs all : List Block) → IsShut s m → bs ≡ all → IsMarking s m bs all
-marking s m bs all shut is = record { size = shut.size; shown = λ a low. ap (λ b. b || starts_at a bs) (shut-false s m a shut) ∙ ap (starts_at a) is }
-
-pub marked-free : (s : List ℕ) (m : List Bool) (bs all : List Block) (b : Block) (rest : List Block) → IsMarking s m bs all → bs ≡ b ∷ rest → b.free ≡ true → IsMarking s m rest all
-marked-free s m bs all b rest g is free = record {
-  size = g.size;
-  shown = λ a low. ap (λ f. is_open m a || ((not f && eqb b.start a) || starts_at a rest)) (sym free) ∙ ap (λ z. is_open m a || starts_at a z) (sym is) ∙ g.shown a low;
-}
-
-pub marked-used : (s : List ℕ) (m v : List Bool) (bs all : List Block) (b : Block) (rest : List Block) → IsMarking s m bs all → bs ≡ b ∷ rest → b.free ≡ false → IsSet m v b.start 1 true
-    → IsMarking s v rest all
-marked-used s m v bs all b rest g is used set = record {
-  size = set.size ∙ g.size;
-  shown = λ a low.
-      ap (λ z. z || starts_at a rest) (opened-one m v b.start a set (omega (arith, low, g.size)))
-      ∙ or_assoc (is_open m a) (eqb b.start a) (starts_at a rest)
-      ∙ ap (λ f. is_open m a || ((not f && eqb b.start a) || starts_at a rest)) (sym used) ∙ ap (λ z. is_open m a || starts_at a z) (sym is) ∙ g.shown a low;
-}
-
-pub marked-all : (s : List ℕ) (m : List Bool) (bs : List Block) → IsMarking s m bs (blocks_in s) → bs ≡ [] → OpensStarts s m
-marked-all s m bs g none = record {
-  size = g.size;
-  are_open = λ a low. sym (or-false (is_open m a)) ∙ ap (λ z. is_open m a || starts_at a z) (sym none) ∙ g.shown a low;
-}
-
 -- ---- modules
 
 pub record IsNaming (s : List ℕ) (m : List Bool) (rest all : List ℕ) : Type 0 where
   pub size : length m ≡ length s
   pub shown : (a : ℕ) → a < length s → (is_open m a || has a rest) ≡ has a all
-
-pub naming : (s : List ℕ) (m : List Bool) (ps all : List ℕ) → IsShut s m → ps ≡ all → IsNaming s m ps all
-naming s m ps all shut is = record { size = shut.size; shown = λ a low. ap (λ b. b || has a ps) (shut-false s m a shut) ∙ ap (has a) is }
 
 pub named : (s : List ℕ) (m v : List Bool) (ps all : List ℕ) (p : ℕ) (rest : List ℕ) → IsNaming s m ps all → ps ≡ p ∷ rest → IsSet m v p 1 true → IsNaming s v rest all
 named s m v ps all p rest g is set = record {
@@ -89,12 +61,6 @@ named s m v ps all p rest g is set = record {
   where
     flip : (x y : ℕ) → eqb x y ≡ eqb y x
     flip x y = grind (arith, nat_tests)
-
-pub named-all : (s : List ℕ) (m : List Bool) (ps all : List ℕ) → IsNaming s m ps all → ps ≡ [] → OpensMembers s all m
-named-all s m ps all g none = record {
-  size = g.size;
-  are_open = λ a low. sym (or-false (is_open m a)) ∙ ap (λ z. is_open m a || has a z) (sym none) ∙ g.shown a low;
-}
 
 -- ---- a block of a size
 
@@ -146,7 +112,3 @@ module _ (s : List ℕ) (m : List Bool) (tiled : IsTiled s) (o : OpensStarts s m
       let is : used_at (start + 1) (blocks_in s) ≡ Some (used_block start (need u)) = h.block ∙ ap (λ z. Some (used_block z (need u))) at in
       let b : UsedBlock s 200 (start + 1) (used_block start (need u)) = used_at-is s 200 (blocks_in s) (start + 1) (used_block start (need u)) tiled is in
       (o.are_open start (omega (arith, b.inside)) ∙ there-used start (blocks_in s) (used_block start (need u)) is, b.word)
-
--- no block's data begin at 0
-pub none-at-zero : (bs : List Block) (u : ℕ) → HasBlock bs 0 u → ⊥
-none-at-zero bs u h = omega (arith, h.here)

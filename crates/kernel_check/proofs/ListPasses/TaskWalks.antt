@@ -124,13 +124,6 @@ module _ (s : List ℕ) (id : ℕ) (met : Bool) (bs all : List ℕ) (t : ℕ) (r
   pub met-other : w ≢ id → IsCounting s id met rest all
   met-other other = record { count = omega (arith, counted-next, hit-other id (id_in s t) (λ e. other (read ∙ sym e))) }
 
-pub counted-all : (s : List ℕ) (id : ℕ) (met : Bool) (bs all : List ℕ) → IsCounting s id met bs all → bs ≡ [] → times id (ids s all) ≤ 1
-counted-all s id met bs all g is = omega (arith, g.count, ap (λ z. times id (ids s z)) is, one met)
-  where
-    one : (b : Bool) → cond b 1 0 ≤ 1
-    one true = omega arith
-    one false = omega arith
-
 -- ---- one task
 
 pub guest-is : (n w : ℕ) → w ≡ n → 5 ≤ w → is_guest_id n ≡ true
@@ -138,37 +131,6 @@ guest-is n w read low = grind (arith, nat_tests)
 
 pub guest-not : (n w : ℕ) → w ≡ n → w < 5 → is_guest_id n ≡ false
 guest-not n w read low = grind (arith, nat_tests)
-
-pub guest-task : (l : Lists) (t : Task) → HasTaskNumbers l t → is_guest_id t.id ≡ true → IsGuest l t ↔ IsTask l t
-guest-task l t n is = (
-  λ g. record { low = n.low; high = n.high; maker = n.maker; field = n.field; byte = n.byte; guest = λ e. g; resident = λ e. absurd (false≢true (sym e ∙ is)) },
-  λ k. k.guest is,
-)
-
-pub resident-task : (l : Lists) (t : Task) → HasTaskNumbers l t → is_guest_id t.id ≡ false → IsResident t ↔ IsTask l t
-resident-task l t n is = (
-  λ g. record { low = n.low; high = n.high; maker = n.maker; field = n.field; byte = n.byte; guest = λ e. absurd (false≢true (sym is ∙ e)); resident = λ e. g },
-  λ k. k.resident is,
-)
-
-pub task-numbers : (l : Lists) (t : Task) → IsTask l t → HasTaskNumbers l t
-task-numbers l t k = record { low = k.low; high = k.high; maker = k.maker; field = k.field; byte = k.byte }
-
-pub is-field : (w : ℕ) → w < 16 → IsField (w - w % 4)
-is-field w low = on (w / 4) refl
-  where
-    on : (q : ℕ) → w / 4 ≡ q → IsField (w - w % 4)
-    on zero e = inl (omega (arith, e))
-    on (suc zero) e = inr (inl (omega (arith, e)))
-    on (suc (suc zero)) e = inr (inr (inl (omega (arith, e))))
-    on (suc (suc (suc zero))) e = inr (inr (inr (omega (arith, e))))
-    on (suc (suc (suc (suc q)))) e = absurd (omega (arith, e, low))
-
-pub field-is : (w : ℕ) → IsField (w - w % 4) → w < 16
-field-is w (inl e) = omega (arith, e)
-field-is w (inr (inl e)) = omega (arith, e)
-field-is w (inr (inr (inl e))) = omega (arith, e)
-field-is w (inr (inr (inr e))) = omega (arith, e)
 
 -- ---- numbers of tasks
 
@@ -222,9 +184,3 @@ pub all-counted : (s : List ℕ) (n : ℕ) (bs : List ℕ) → IsCounted s n bs 
 all-counted s n bs g is = (let e : length bs ≡ 0 = ap length is in omega (arith, g.all, g.few, e))
 
 -- ---- all rules
-
-pub tasks-are : (l : Lists) → AllByRecursion (IsTask l) l.tasks → PrioritiesFall l.tasks → IsApart (map task_id l.tasks) → HasResidents l → TasksStand l
-tasks-are l each order distinct r = record { each = each; distinct = distinct; order = order; shell = r.shell; console = r.console; files = r.files; reporter = r.reporter }
-
-pub tasks-residents : (l : Lists) → TasksStand l → HasResidents l
-tasks-residents l k = record { shell = k.shell; console = k.console; files = k.files; reporter = k.reporter }

@@ -92,16 +92,3 @@ IsTiledFrom-next s at b t some read = first_of_list (blocks_from s at) refl t
           tiled = IsTiledFrom-by s (block_end b) bs tiles;
           inside = Tiles-inside s (block_end b) bs tiles;
         }
-
--- a store has no more blocks than words
-pub length-first_blocks : (n : ℕ) (s : List ℕ) (at : ℕ) → length (first_blocks n s at) ≤ n
-unfolding first_blocks
-length-first_blocks zero s at = omega arith
-length-first_blocks (suc n) s at = on (eqb (get_or s at 0) 0) (length-first_blocks n s (block_end (block_of_word at (get_or s at 0))))
-  where
-    rest : List Block
-    rest = first_blocks n s (block_end (block_of_word at (get_or s at 0)))
-
-    on : (x : Bool) → length rest ≤ n → length (cond x [] (block_of_word at (get_or s at 0) ∷ rest)) ≤ suc n
-    on true later = omega arith
-    on false later = omega (arith, later)

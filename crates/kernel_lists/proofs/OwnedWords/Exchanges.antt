@@ -90,12 +90,6 @@ exchange-left L M K old new x = record { rest = x.rest ++ K; first = splits-left
 pub exchange-right : (K L M old new : Pairs) → Exchange L M old new → Exchange (K ++ L) (K ++ M) old new
 exchange-right K L M old new x = exchange-both K K [] [] L M old new (exchange-none K) x
 
--- in one piece of joined pieces
-pub exchange-piece : {X : Type 0} (f : X → Pairs) (xs : List X) (x y : X) (ys : List X) (old new : Pairs) → Exchange (f x) (f y) old new
-    → Exchange (flat_map f (xs ++ x ∷ ys)) (flat_map f (xs ++ y ∷ ys)) old new
-exchange-piece f [] x y ys old new inner = exchange-left (f x) (f y) (flat_map f ys) old new inner
-exchange-piece f (z ∷ zs) x y ys old new inner = exchange-right (f z) _ _ _ _ (exchange-piece f zs x y ys old new inner)
-
 -- the new words in another order
 pub exchange-as : (L M old new other : Pairs) → Exchange L M old new → ((a : ℕ) → owners a other ≡ owners a new) → ((s : List ℕ) → Holds s new → Holds s other)
     → ((s : List ℕ) → Holds s other → Holds s new) → Exchange L M old other

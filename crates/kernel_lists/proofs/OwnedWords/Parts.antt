@@ -44,21 +44,3 @@ splits-behind A L F B part x =
           let f = Holds-left s (A ++ F) B h in
           Holds-append s A L (Holds-left s A F f) (x.closes s (Holds-append s F B (Holds-right s A F f) (Holds-right s (A ++ F) B h)) k);
     }
-
--- one of the linked things
-pub splits-linked : {X : Type 0} (address : X → ℕ) (words : X → ℕ → Pairs) (xs : List X) (x : X) (ys : List X) (end : ℕ)
-    → Splits (linked_words address words (xs ++ x ∷ ys) end) (linked_words address words xs (address x) ++ linked_words address words ys end) (words x (first_of address ys end))
-splits-linked address words [] x ys end = splits-first (words x (first_of address ys end)) (linked_words address words ys end)
-splits-linked {X} address words (z ∷ zs) x ys end =
-    subst (λ n. Splits (words z (first_of address (zs ++ x ∷ ys) end) ++ linked_words address words (zs ++ x ∷ ys) end) ((words z n ++ linked_words address words zs (address x)) ++ linked_words address words ys end) (words x (first_of address ys end)))
-    (sym (first_of-member zs))
-    (splits-behind (words z (first_of address (zs ++ x ∷ ys) end)) _ (linked_words address words zs (address x)) (linked_words address words ys end) _ (splits-linked address words zs x ys end))
-  where
-    first_of-member : (zs : List X) → first_of address zs (address x) ≡ first_of address (zs ++ x ∷ ys) end
-    first_of-member [] = refl
-    first_of-member (w ∷ ws) = refl
-
--- one piece of joined pieces
-pub splits-piece : {X : Type 0} (f : X → Pairs) (xs : List X) (x : X) (ys : List X) → Splits (flat_map f (xs ++ x ∷ ys)) (flat_map f xs ++ flat_map f ys) (f x)
-splits-piece f [] x ys = splits-first (f x) (flat_map f ys)
-splits-piece f (z ∷ zs) x ys = splits-behind (f z) _ (flat_map f zs) (flat_map f ys) _ (splits-piece f zs x ys)

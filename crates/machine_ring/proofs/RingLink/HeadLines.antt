@@ -33,9 +33,6 @@ line_after-ok word n lines rest e =
     let g = guard-ok (bytes_eq a.0.0 word) a.0.1 rest (refusal n 1) a.2 in
     next_line-ok n lines a.0 a.1 ∙ (λ i. (bytes_eq-Decides a.0.0 word).0 g.0 i ∷ g.1 i)
 
-pub line_after-again : (word : List ℕ) (n : ℕ) (rest : List (List ℕ)) → line_after word n (word ∷ rest) ≡ Ok rest
-line_after-again word n rest = rw ((bytes_eq-Decides word word).1 refl) refl
-
 -- ---- the two numbers
 
 two_numbers-ok : (line : List ℕ) (both : ℕ × ℕ) → two_numbers line ≡ Some both → SaysTwoNumbers both line

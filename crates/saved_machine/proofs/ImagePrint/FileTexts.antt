@@ -100,10 +100,3 @@ named-parts d name bytes e = on (file_named d name) refl e
         ap (λ (o : Option File). files_text (option_to_list o)) is ∙ file-parts f
         ∙ ap (λ (n : List ℕ). (statement_text (FileLine n) ++ 10 ∷ []) ++ bytes_text f.bytes) (found-name name d.files f is)
         ∙ ap (λ (bs : List ℕ). (statement_text (FileLine name) ++ 10 ∷ []) ++ bytes_text bs) (sym (Some-same bytes f.bytes e))
-
-pub named-none : (d : Disc) (name : List ℕ) → None ≡ option_map (λ (f : File). f.bytes) (file_named d name) → files_text (option_to_list (file_named d name)) ≡ []
-named-none d name e = on (file_named d name) e
-  where
-    on : (o : Option File) → None ≡ option_map (λ (f : File). f.bytes) o → files_text (option_to_list o) ≡ []
-    on None e = refl
-    on (Some f) e = cc

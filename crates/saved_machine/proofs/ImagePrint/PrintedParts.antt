@@ -12,10 +12,6 @@ pub record HasPrinted (h k : Option (List ℕ)) (p q whole rest : List ℕ) : Ty
   -- they are gathered
   pub gathered : IsGathered h k p q bytes
 
--- nothing is printed yet
-pub printed-first : (h : Option (List ℕ)) (p whole : List ℕ) → HasPrinted h h p p whole whole
-printed-first h p whole = record { bytes = []; same = refl; gathered = IsGathered-nothing h p }
-
 module _ {h k : Option (List ℕ)} {p q whole rest : List ℕ} (d : HasPrinted h k p q whole rest) where
   -- the next part, and what follows it
   module _ (part more : List ℕ) (e : rest ≡ part ++ more) where

@@ -31,9 +31,6 @@ pub keys-at : (keys : List (ℕ × ℕ)) (i : ℕ) (d : ℕ × ℕ) → i < leng
     ≡ (statement_text (key_statement (get_or keys i d)) ++ 10 ∷ []) ++ statements_text (map key_statement (drop (i + 1) keys))
 keys-at keys i d lt = rw (drop-cons keys i d lt, add-one) refl
 
-pub keys-end : (keys : List (ℕ × ℕ)) (i : ℕ) → length keys ≤ i → statements_text (map key_statement (drop i keys)) ≡ []
-keys-end keys i le = ap (λ (ks : List (ℕ × ℕ)). statements_text (map key_statement ks)) (drop_all i keys le)
-
 -- ---- words
 
 pub words-at : (words : List ℕ) (a : ℕ) → a < length words
@@ -42,9 +39,6 @@ pub words-at : (words : List ℕ) (a : ℕ) → a < length words
 words-at words a lt =
     let next : word_statements a (drop a words) ≡ word_statement a (get_or words a 0) ++ word_statements (a + 1) (drop (a + 1) words) = rw (drop-cons words a 0 lt, add-one) refl in
     ap statements_text next ∙ statements_text-append (word_statement a (get_or words a 0)) (word_statements (a + 1) (drop (a + 1) words))
-
-pub words-end : (words : List ℕ) (a : ℕ) → length words ≤ a → statements_text (word_statements a (drop a words)) ≡ []
-words-end words a le = ap (λ (ws : List ℕ). statements_text (word_statements a ws)) (drop_all a words le)
 
 -- ---- the bytes of a file
 
@@ -61,11 +55,6 @@ lines-at bytes i lt =
     ap (λ (k : ℕ). statements_text (map (λ line. Bytes line) (first_chunks 32 k (drop (32 * i) bytes)))) left
     ∙ ap (λ (xs : List ℕ). (statement_text (Bytes (take 32 (drop (32 * i) bytes))) ++ 10 ∷ []) ++ statements_text (map (λ line. Bytes line) (first_chunks 32 (n - (i + 1)) xs)))
     (drop-drop 32 (32 * i) bytes ∙ ap (λ (k : ℕ). drop k bytes) place)
-
-pub lines-end : (bytes : List ℕ) (i : ℕ) → (length bytes + 31) / 32 ≤ i → lines_from i bytes ≡ []
-lines-end bytes i le =
-    let none : (length bytes + 31) / 32 - i ≡ 0 = omega (arith, le) in
-    ap (λ (k : ℕ). statements_text (map (λ line. Bytes line) (first_chunks 32 k (drop (32 * i) bytes)))) none
 
 -- the bytes of line i
 pub line-range : (bytes : List ℕ) (i : ℕ) → slice_range bytes (32 * i) (32 * i + min 32 (length bytes - 32 * i)) ≡ take 32 (drop (32 * i) bytes)
@@ -102,7 +91,3 @@ pub pipes-at : (ps : List (Option Pipe)) (k : ℕ) → 0 < k
     ≡ statements_text (map pipe_statement (at_place saved_pipe k (if k == 0 then None else slice_index_or ps (k - 1) None)))
     ++ statements_text (map pipe_statement (with_places saved_pipe (k + 1) (drop (k + 1 - 1) ps)))
 pipes-at ps k low = numbered-at saved_pipe pipe_statement ps k low
-
--- nothing stands behind the last place
-pub numbered-end : {A B : Type 0} (f : ℕ → A → B) (statement : B → Statement) (xs : List (Option A)) (k : ℕ) → length xs ≤ k - 1 → statements_text (map statement (with_places f k (drop (k - 1) xs))) ≡ []
-numbered-end f statement xs k le = ap (λ ys. statements_text (map statement (with_places f k ys))) (drop_all (k - 1) xs le)

@@ -95,10 +95,6 @@ err_by n line d (Some x) e h =
     let g = guard-err (are_regs x.0 x.1 x.2 x.3 x.4 x.5) (regs x) (refusal n 2) d h in
     inr (g.1, (regs x, numbers_line line x e, g.0))
 
-pub regs_line-err : (n : ℕ) (line : List ℕ) (d : Refusal) → regs_line n line ≡ Err d
-    → ((refusal n 1 ≡ d) × ((r : Regs) → ¬ IsRegsLine r line)) ⊎ ((refusal n 2 ≡ d) × ((r : Regs) × IsRegsLine r line × (are_regs r.a r.b r.c r.p r.g r.pc ≡ false)))
-regs_line-err n line d e = err_by n line d (option_and_then six_numbers (after_word (codes "REGS ") line)) refl e
-
 -- ---- type-ahead, console and shell
 
 pub ring_of-ok : (line digits : List ℕ) → ring_of line ≡ Some digits → IsRingLine (bytes_of digits) line

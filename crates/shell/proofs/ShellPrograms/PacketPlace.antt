@@ -38,11 +38,6 @@ packet-five l v residents = HasBlock-data l 201 (last_resident_word l) SHELL_PAC
 
 -- ---- its arguments
 
--- what is queued is lodged
-work-lodged : (l : Lists) (ts : List Task) → AllByRecursion (λ t. AllByRecursion (MayStand l (Work t.id)) t.queue) ts → AllByRecursion (λ p. AreData l.blocks p.address 5) (work_packets ts)
-work-lodged l [] all = tt
-work-lodged l (t ∷ ts) all = all-append (λ p. AreData l.blocks p.address 5) t.queue (work_packets ts) (lodged l (Work t.id) t.queue all.0) (work-lodged l ts all.1)
-
 module _ (l : Lists) (v : AreValid l) (residents : l.residents ≡ true) (a : ℕ) (low : 284 ≤ a) (high : a ≤ 286) where
   abbrev last : ℕ
   last = last_resident_word l

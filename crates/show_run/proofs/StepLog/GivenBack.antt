@@ -4,9 +4,6 @@ use Rattle.byte_streams.specs.Pending.{IsCut, IsGathered}
 use Rattle.byte_streams.specs.Write.{AppendsPrefix}
 use Rattle.show_run.specs.declared.step_log.moments.Moment.{Moment}
 
-pub gathered-behind : (h k : Option (List ℕ)) (p q text : List ℕ) → IsGathered h k [] q (p ++ text) → IsGathered h k p q text
-gathered-behind h k p q text g = record { front = g.front; whole = g.whole; sent = g.sent }
-
 pub cut-behind : (h k : Option (List ℕ)) (p text : List ℕ) → AppendsPrefix h k (p ++ text) → IsCut h k p text
 cut-behind h k p text cut = record { prefix = cut }
 

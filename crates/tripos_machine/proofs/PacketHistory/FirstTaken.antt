@@ -35,9 +35,6 @@ pub first-join : (es fs : List KernelEvent) → TakesFirst es → TakesReads fs 
 first-join [] fs x y = reads-first fs y
 first-join (e ∷ es) fs x y = reads-join es fs x y
 
-pub first-still : (es : List KernelEvent) → TakesFirst es → TakesFirst (es ++ [])
-first-still es x = subst TakesFirst (sym (append-nil es)) x
-
 -- a call that is refused has no events
 pub first-refused : (tests : List (Bool × ℕ)) (l : Lists) (m : Made) → TakesFirst m.events → TakesFirst (unless_refused tests l m).events
 first-refused tests l m x = on (first_refusal tests)
