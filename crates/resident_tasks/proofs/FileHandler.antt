@@ -1,4 +1,4 @@
-mod NamedFiles
-mod HandledCalls
-mod FileTurns
+pub mod NamedFiles
+pub mod HandledCalls
+pub mod FileTurns
 pub mod EndedRequests

@@ -1,2 +1,2 @@
 pub mod DrawnTexts
-mod DrawnLengths
+pub mod DrawnLengths
