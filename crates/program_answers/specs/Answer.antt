@@ -4,7 +4,7 @@ use Rattle.std.specs.Io.KnownBytes.{Appends, Keeps}
 use Rattle.byte_streams.specs.Write.{AppendsPrefix}
 use Rattle.module_text.specs.TextReader.Refusal.{Refusal}
 use Rattle.program_answers.specs.declared.status.Status.{Status}
-use Rattle.program_answers.specs.declared.status.Status.TheVariants.{Done, GuestFault, Usage, Refused, NoBoot, ReadFault, WriteFault, TooLong, WantMemory}
+use Rattle.program_answers.specs.declared.status.Status.TheVariants.{NoBoot, ReadFault, Refused, TooLong, WantMemory, WriteFault}
 use Rattle.program_answers.specs.Texts.{no_boot_text, refused_text, too_long_text}
 
 pub record Answer : Type 0 where
@@ -25,12 +25,7 @@ too_long_answer = record { status = TooLong; bytes = too_long_text }
 -- What a call has written where it ends with a status. A fault of the source and want of memory come before anything is
 -- written, a fault of the sink leaves a prefix, and every other status is the answer's.
 abbrev pub Answers : Answer → Option (List ℕ) → Option (List ℕ) → Status → Type 0
-Answers a old new Done = (a.status ≡ Done) × Appends old new a.bytes
-Answers a old new GuestFault = (a.status ≡ GuestFault) × Appends old new a.bytes
-Answers a old new Usage = (a.status ≡ Usage) × Appends old new a.bytes
-Answers a old new Refused = (a.status ≡ Refused) × Appends old new a.bytes
-Answers a old new NoBoot = (a.status ≡ NoBoot) × Appends old new a.bytes
-Answers a old new TooLong = (a.status ≡ TooLong) × Appends old new a.bytes
 Answers a old new WriteFault = AppendsPrefix old new a.bytes
 Answers a old new ReadFault = Keeps old new
 Answers a old new WantMemory = Keeps old new
+Answers a old new status = (a.status ≡ status) × Appends old new a.bytes
