@@ -21,6 +21,7 @@ use Rattle.debugger.specs.MachineHistory.Moments.{HoldsKernel, IsMomentOf, IsTak
 use Rattle.debugger.specs.MachineHistory.Pasts.{Files}
 use Rattle.debugger.specs.declared.machine_history.moments.KernelMoment.{KernelMoment}
 use Rattle.debugger.specs.declared.machine_history.moments.Moment.TheVariants.{Full as FullKind}
+use Rattle.kernel_model.proofs.WordKinds.KnownWords.{store-known}
 
 -- ---- a moment of a machine
 
@@ -75,7 +76,7 @@ module _ (keys : List (ℕ × ℕ)) (words : List ℕ) (f : Files) (m : KernelMo
       → Stands (record (with_moment m p) { store = words; disc = f.disc; pipes = f.pipes; kinds = kinds }) k
   unfolding kernel_in
   stands-back p same kinds size marks = record {
-    keeper = record { lists = held-lists; knows = λ known same. marks known k.lists (record { lists = held-lists; addresses = same }); enough = omega (arith, size) };
+    keeper = record { lists = held-lists; knows = λ known same. marks known k.lists (store-known words known k.lists held-lists same); enough = omega (arith, size) };
     marks = size;
     image = h.image;
     plain = h.plain;

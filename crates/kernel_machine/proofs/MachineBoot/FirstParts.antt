@@ -19,6 +19,7 @@ use Rattle.kernel_model.specs.KernelRecord.Kernel.{no_command, no_line}
 use Rattle.kernel_model.specs.KernelRecord.ValidTasks.{no_regs}
 use Rattle.kernel_model.specs.WordKinds.ByteMap.{MarksAll}
 use Rattle.kernel_model.specs.WordKinds.Keeper.{IsStoreOf}
+use Rattle.kernel_model.proofs.WordKinds.KnownWords.{store-known}
 use Rattle.kernel_boot.specs.EmptyKernel.{empty_lists}
 use Rattle.kernel_boot.specs.ResidentKernel.{resident_lists}
 use Rattle.kernel_machine.proofs.KernelSteps.StoredWords.{HasStore, stored}
@@ -99,7 +100,7 @@ module _ (s : Session) (p : Parts) (m : AreMade s p) where
     keeper =
         record {
           lists = m.store.lists;
-          knows = λ known same. m.marks known lists (record { lists = m.store.lists; addresses = same });
+          knows = λ known same. m.marks known lists (store-known p.store known lists m.store.lists same);
           enough = omega (arith, m.kinds);
         };
     marks = m.kinds;

@@ -30,13 +30,17 @@ pub times-addresses : (a : ℕ) (es : Pairs) → times a (addresses es) ≡ owne
 times-addresses a [] = refl
 times-addresses a (e ∷ es) = omega (arith, times-addresses a es)
 
-pub store-of : (s : List ℕ) (l : Lists) → HoldsLists s l → IsStoreOf s (addresses (owned l)) l
-store-of s l h = record {
+-- a store that holds lists, of whose words these are the addresses
+pub store-known : (s known : List ℕ) (l : Lists) → HoldsLists s l → ((a : ℕ) → times a known ≡ owners a (owned l)) → IsStoreOf s known l
+store-known s known l h same = record {
   lists = h;
-  addresses = λ a. times-addresses a (owned l);
+  addresses = same;
   walk = can-walk s l h;
-  kernel = λ a. subst (λ n. (is_kernel_word s a ≡ true) ↔ (0 < n)) (sym (times-addresses a (owned l))) (ranges-owned s l h a);
+  kernel = λ a. subst (λ n. (is_kernel_word s a ≡ true) ↔ (0 < n)) (sym (same a)) (ranges-owned s l h a);
 }
+
+pub store-of : (s : List ℕ) (l : Lists) → HoldsLists s l → IsStoreOf s (addresses (owned l)) l
+store-of s l h = store-known s (addresses (owned l)) l h (λ a. times-addresses a (owned l))
 
 pub tells-owned : (tells : List ℕ → Type 0) (l : Lists) → Knows tells l → tells (addresses (owned l))
 tells-owned tells l knows = knows (addresses (owned l)) (λ a. times-addresses a (owned l))

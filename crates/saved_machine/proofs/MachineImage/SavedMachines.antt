@@ -21,6 +21,7 @@ use Rattle.saved_text.specs.ImageForm.{IsBare}
 use Rattle.saved_text.specs.declared.images.Image.{Image}
 use Rattle.saved_machine.specs.MachineImage.Machines.{AreParts, IsMachineOf, IsOfKind, state_in}
 use Rattle.saved_machine.specs.MachineImage.Parts.{others_of}
+use Rattle.kernel_model.proofs.WordKinds.KnownWords.{store-known}
 
 -- ---- a bare machine
 
@@ -50,7 +51,7 @@ parts-stand x p k m v st =
       keeper =
           record {
             lists = subst (λ s. HoldsLists s k.lists) (sym m.store) held;
-            knows = λ known same. m.marked known k.lists (record { lists = held; addresses = same });
+            knows = λ known same. m.marked known k.lists (store-known x.store known k.lists held same);
             enough = omega (arith, m.marks, ap length m.store);
           };
       marks = m.marks ∙ sym (ap length m.store);
