@@ -181,7 +181,7 @@ options_again false false h = refl
 
 -- ---- the whole text
 
--- the session, with its lines numbered_lines behind those of its machine
+-- the session, with its lines numbered after those of its machine
 abbrev numbered_behind : Bool → Session → Session
 numbered_behind bare s = record s { lines = numbered_lines (3 + length (machine_text bare s.period s.resident s.debug)) s.lines }
 

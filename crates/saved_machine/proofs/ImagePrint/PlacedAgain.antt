@@ -1,4 +1,4 @@
--- The things at the places of a list, with_places and placed again.
+-- The things at the places of a list, numbered and placed again.
 use Rattle.std.proofs.Common.{◌≡◌, ◌∙◌, ℕ, zero, suc, ◌+◌, ◌<◌, ◌==◌, cond, Option, Some, None, List, [], ◌∷◌, length, map, refl, sym, ap, arith}
 use Rattle.std.specs.List.{range_with_len}
 use Rattle.std.specs.Option.{option_map}
@@ -10,7 +10,7 @@ use Rattle.kernel_model.specs.KernelRecord.Pipes.{most_pipes}
 use Rattle.saved_text.specs.declared.images.SavedPipe.{SavedPipe}
 use Rattle.saved_text.specs.declared.images.SavedStream.{SavedStream}
 use Rattle.saved_machine.specs.MachineImage.Parts.{pipe_of, placed_pipes, placed_streams, stream_of}
-use Rattle.saved_machine.specs.MachineImage.Placed.{with_places as place_of, placed}
+use Rattle.saved_machine.specs.MachineImage.Placed.{placed, thing_numbered}
 use Rattle.saved_machine.specs.ImagePrint.SavedImage.{with_places, numbered_pipes, numbered_streams, saved_pipe, saved_stream}
 
 module _ {A B : Type 0} (f : ℕ → A → B) (number : B → ℕ) (thing : B → A) (told : (k : ℕ) (x : A) → number (f k x) ≡ k) (back : (k : ℕ) (x : A) → thing (f k x) ≡ x) where
@@ -23,10 +23,10 @@ module _ {A B : Type 0} (f : ℕ → A → B) (number : B → ℕ) (thing : B �
       ∙ none-before xs (j + 1) k (omega (arith, lt))
 
   -- the thing with a number is that of its place
-  at-number : (xs : List (Option A)) (j i : ℕ) → place_of number thing (with_places f j xs) (j + i) ≡ slice_index_or xs i None
+  at-number : (xs : List (Option A)) (j i : ℕ) → thing_numbered number thing (with_places f j xs) (j + i) ≡ slice_index_or xs i None
   at-number [] j i = refl
   at-number (None ∷ xs) j zero = ap (option_map thing) (none-before xs (j + 1) (j + 0) (omega arith))
-  at-number (None ∷ xs) j (suc i) = let next : j + suc i ≡ (j + 1) + i = omega arith in ap (place_of number thing (with_places f (j + 1) xs)) next ∙ at-number xs (j + 1) i
+  at-number (None ∷ xs) j (suc i) = let next : j + suc i ≡ (j + 1) + i = omega arith in ap (thing_numbered number thing (with_places f (j + 1) xs)) next ∙ at-number xs (j + 1) i
   at-number (Some x ∷ xs) j zero =
       let same : j ≡ j + 0 = omega arith in
       ap (λ b. option_map thing (cond b (Some (f j x)) (find (λ y. number y == (j + 0)) (with_places f (j + 1) xs)))) (ap (λ (n : ℕ). n == (j + 0)) (told j x) ∙ eq-eqb j (j + 0) same)
@@ -34,7 +34,7 @@ module _ {A B : Type 0} (f : ℕ → A → B) (number : B → ℕ) (thing : B �
   at-number (Some x ∷ xs) j (suc i) =
       let next : j + suc i ≡ (j + 1) + i = omega arith in
       ap (λ b. option_map thing (cond b (Some (f j x)) (find (λ y. number y == (j + suc i)) (with_places f (j + 1) xs)))) (ap (λ (n : ℕ). n == (j + suc i)) (told j x) ∙ ne_eqb j (j + suc i) (λ e. omega (arith, e)))
-      ∙ ap (place_of number thing (with_places f (j + 1) xs)) next ∙ at-number xs (j + 1) i
+      ∙ ap (thing_numbered number thing (with_places f (j + 1) xs)) next ∙ at-number xs (j + 1) i
 
   -- the elements of a list, by their places
   by-places : (ys : List (Option A)) (g : ℕ → Option A) (a : ℕ) → ((i : ℕ) → g (a + i) ≡ slice_index_or ys i None) → map g (range_with_len a (length ys)) ≡ ys
@@ -46,9 +46,9 @@ module _ {A B : Type 0} (f : ℕ → A → B) (number : B → ℕ) (thing : B �
 
   placed-again : (xs : List (Option A)) → placed number thing (length xs) (with_places f 1 xs) ≡ xs
   unfolding placed
-  placed-again xs = by-places xs (λ i. place_of number thing (with_places f 1 xs) (i + 1)) 0 (λ i. let next : 0 + i + 1 ≡ 1 + i = omega arith in ap (place_of number thing (with_places f 1 xs)) next ∙ at-number xs 1 i)
+  placed-again xs = by-places xs (λ i. thing_numbered number thing (with_places f 1 xs) (i + 1)) 0 (λ i. let next : 0 + i + 1 ≡ 1 + i = omega arith in ap (thing_numbered number thing (with_places f 1 xs)) next ∙ at-number xs 1 i)
 
--- streams and pipes, with_places and placed again, are as they were
+-- streams and pipes, numbered and placed again, are as they were
 pub streams-again : (ss : List (Option Stream)) → length ss ≡ most_streams → placed_streams (numbered_streams ss) ≡ ss
 streams-again ss size = ap (λ (n : ℕ). placed (λ (s : SavedStream). s.k) stream_of n (numbered_streams ss)) (sym size) ∙ placed-again saved_stream (λ s. s.k) stream_of (λ k s. refl) (λ k s. refl) ss
 
