@@ -1,0 +1,91 @@
+# What ./session takes for the map of a session, which says where each line of its programs is; bin/where and bin/debug read it.
+#
+# Its lines are
+#     program NAME FILE               the program of this name comes from this file
+#     hunk NAME WORD..                the words of its hunk in the store, in hex; - is a word that is relocated
+#     at NAME BYTE                    on a bare machine: the byte address of its hunk, whose code begins 4 bytes after
+#     line NAME OFFSET LINE LABEL     a line of the file: the offset of its bytes in the hunk, and the label that is last
+#                                     before it or on it; - if there is none. Of a module text they are the lines that bin/unasm makes of it
+
+# Where a hunk is loaded, its words are these. The module is standard input.
+hunk_of() { # NAME
+    awk -v name="$1" "$reads_modules"'
+        END {
+            for (k = 1; k <= relocations[1]; k++) hex[1, relocated[1, k]] = "-"
+            printf "hunk %s", name
+            for (i = 0; i < size[1]; i++) printf " %s", hex[1, i]
+            print ""
+        }'
+}
+
+# The text with a label on each line that gives bytes, and without its globals. The labels go to a file, each as LINE LABEL SHOWN,
+# where SHOWN is - for a label that the text does not have.
+labelled() { # MARKS
+    awk -v marks="$1" '
+        {
+            text = $0
+            sub(/\r$/, "", text)
+            sub(/;.*/, "", text)
+            gsub(/^ +| +$/, "", text)
+            head = text
+            sub(/ .*/, "", head)
+            if (head ~ /:$/) {
+                label[NR] = substr(head, 1, length(head) - 1)
+                sub(/^[^ ]* */, "", text)
+            }
+            rest[NR] = text
+        }
+        END {
+            new = "z"
+            for (i = 1; i <= NR; i++) while (index(label[i], new) == 1) new = new "z"
+            for (i = 1; i <= NR; i++) {
+                if (rest[i] ~ /^GLOBAL( |$)/) rest[i] = ""
+                if (rest[i] == "" && label[i] == "") { print ""; continue }
+                own = label[i] == "" ? new i : label[i]
+                print own ": " rest[i]
+                print i, own, (label[i] == "" ? "-" : label[i]) > marks
+            }
+        }'
+}
+
+# The offsets of the global table of the module on standard input.
+global_offsets() {
+    awk "$reads_modules"'END { read_globals(1); for (k = numbers[1]; k >= 1; k--) print place_of[1, k] }'
+}
+
+# Adds a program to the map, if there is to be one and it does not have it: the file's module is in $module, its assembly in $plain.
+add_to_map() { # NAME FILE
+    [ -n "$map" ] && ! grep -q "^program $1 " "$map" || return 0
+    case $2 in
+        *.module)
+            plain=$log.plain
+            "$top/bin/unasm" "$2" > "$plain" || exit 1
+            if [ "$(grep -c '^; HUNK ' "$plain")" -ne 1 ] || grep -q '^; HUNK 1, as words' "$plain"; then
+                note "$2 is not in the map, which has programs of one hunk that assembly can make"
+                return 0
+            fi
+            ;;
+    esac
+    printf 'program %s %s\n' "$1" "$2" >> "$map"
+    printf '%s\n' "$module" | hunk_of "$1" >> "$map"
+    : > "$log.marks"
+    : > "$log.offsets"
+    labelled "$log.marks" < "$plain" > "$log.labelled"
+    marks=$(wc -l < "$log.marks") first=1
+    # a module has at most 1,000 globals
+    while [ "$first" -le "$marks" ]; do
+        sed -n "$first,$((first + 999))p" "$log.marks" > "$log.some"
+        some=$(wc -l < "$log.some")
+        { cat "$log.labelled" && awk '{ print "GLOBAL " NR " " $2 }' "$log.some"; } > "$log.text"
+        "$top/tripos" asm < "$log.text" 2> "$log" | global_offsets >> "$log.offsets"
+        first=$((first + 1000))
+    done
+    paste -d ' ' "$log.offsets" "$log.marks" | awk -v name="$1" '
+        $4 != "-" { label = $4 }
+        { print "line", name, $1, $2, (label == "" ? "-" : label) }' >> "$map"
+}
+
+# Begins the map, if there is to be one.
+begin_map() {
+    [ -z "$map" ] || : > "$map" || fail 9 "$map cannot be written"
+}
