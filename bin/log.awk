@@ -91,10 +91,16 @@ function run_words(t) {
 
 # A task that begins has its program's name from the words of its module then.
 function find_program(t) {
-    if (t < 5 || t in is_of_session || t in is_known || !is_shown["run"]) return
+    if (t < 5 || t in is_of_session || t in is_known || !is_shown["run"] && !has_names) return
     is_known[t] = 1
     read_store(step)
+    if (has_names) walk_hunks()
     name_task(t)
+}
+
+# The function in which the task of the step is, where it has a name.
+function here() {
+    return has_names && task >= 5 ? in_function(pc) : ""
 }
 
 # A module that is none of the session's files has no name here.
@@ -115,16 +121,16 @@ function tell_call(name, argument, n) {
     n = split(n, argument, ", ")
     if (refusal != "") {
         if (name == "qpkt" && refusal ~ /^code 4,/) { read_store(step); refusal = refusal "; its word 1 is " signed(word_at(argument[1] + 1)) }
-        write_line("refused", "", call ": " refusal)
-    } else if (stop != "") write_line("call", "", call " stops the machine")
-    else if (name == "taskwait" && (answer == "" || is_given)) write_line("call", "", call " waits")
-    else if (name ~ /^(callco|resumeco|cowait)$/) write_line("call", "", call " hands " argument[n] " on")
+        write_line("refused", "", call ": " refusal here())
+    } else if (stop != "") write_line("call", "", call " stops the machine" here())
+    else if (name == "taskwait" && (answer == "" || is_given)) write_line("call", "", call " waits" here())
+    else if (name ~ /^(callco|resumeco|cowait)$/) write_line("call", "", call " hands " argument[n] " on" here())
     else write_line("call", "", call (name == "wrch" ? ", of \"" shown_byte(argument[1]) "\"," : "") " = " answer \
-        (name == "muldiv" ? ", remainder " second : ""))
+        (name == "muldiv" ? ", remainder " second : "") here())
 }
 
 function tell_fault(code, address, end) {
-    write_line("fault", "", "code " code " at " address ": " meaning["fault", code] "; " end)
+    write_line("fault", "", "code " code " at " address here() ": " meaning["fault", code] "; " end)
 }
 
 function tell_console() {
@@ -236,6 +242,7 @@ BEGIN {
     begin_words(); begin_log(); begin_kinds(); read_codes(); read_session()
     write_head()
     if (first > 1 && !bare) remember(first - 1)
+    if (has_names && !bare) { read_store(first - 1); walk_hunks() }
     step = ""
 }
 

@@ -1,4 +1,4 @@
-# What bin/log and bin/state share: the session, the words of the store, and the names of programs. A program is known by the words of its
+# What bin/log, bin/state and bin/debug share: the session, the words of the store, and the names of programs. A program is known by the words of its
 # module, which are those of one of the session's files. session is that text.
 
 function number(hex, i, n) {
@@ -12,12 +12,17 @@ function signed(n) {
     return n >= 2147483648 ? n - 4294967296 : n
 }
 
-# ---- the session
+# ---- the session; has_names is set where its files may have functions with names
 
 function read_session(line, n, w, name, i) {
     while ((getline line < session) > 0) {
         sub(/\r$/, "", line)
-        if (line ~ /^:/) { if (name != "") text[name] = text[name] " " substr(line, 2); continue }
+        if (line ~ /^:/) {
+            if (name == "") continue
+            text[name] = text[name] " " substr(line, 2)
+            if (tolower(line) ~ /dfdf/) has_names = 1
+            continue
+        }
         n = split(line, w, " ")
         name = ""
         if (w[1] == "TRIPOS") version = w[2]
@@ -120,6 +125,67 @@ function programs_at(a, i, names) {
     return names
 }
 
+# ---- the hunks of all modules, and the functions in them
+
+function walk_hunks(i, h, m, a) {
+    hunks = 0
+    split("", function_words)
+    for (i = 1; i <= modules; i++) {
+        m = at_module[i]
+        a = m + 2 + word_at(m + 1)
+        for (h = 0; h < word_at(m + 1); h++) {
+            hunks += 1
+            hunk_from[hunks] = a
+            hunk_to[hunks] = a += word_at(m + 2 + h)
+            hunk_name[hunks] = name_of_module(m) (word_at(m + 1) > 1 ? ", hunk " h + 1 : "")
+        }
+    }
+}
+
+# The name of the function after the words that a BCPL compiler leaves before it: dfdf, and a string of 7 or 11 characters with blanks at its end.
+function name_after(a, digits, count, name, i, b) {
+    if (word[a] != "0000dfdf") return ""
+    count = word_at(a + 1) % 256
+    if (count != 7 && count != 11) return ""
+    for (i = 1; i <= count; i++) {
+        digits = word[a + 1 + int(i / 4)]
+        b = number(substr(digits, 7 - 2 * (i % 4), 2))
+        if (!(b in letter_of)) return ""
+        name = name letter_of[b]
+    }
+    sub(/ +$/, "", name)
+    return name
+}
+
+# The function in which a word of the hunk lies: that of the last such words at or before it.
+function function_at(a, from, name) {
+    for (a -= 3; a >= from; a--) if ((name = name_after(a)) != "") return name
+    return ""
+}
+
+# Where a byte address lies, in words: a module, and the function that has a name there.
+function place_in(byte, i, name) {
+    for (i = 1; i <= hunks; i++) if (byte >= 4 * hunk_from[i] && byte < 4 * hunk_to[i]) {
+        name = function_at(int(byte / 4), hunk_from[i])
+        return "in " (name == "" ? "" : "the function " name " of ") hunk_name[i] " at offset " byte - 4 * hunk_from[i]
+    }
+    return ""
+}
+
+# That a byte address lies in a function that has a name, in words before others.
+function in_function(byte, place) {
+    if (!(byte in function_words)) {
+        place = place_in(byte)
+        function_words[byte] = place ~ /^in the function / ? ", " place : ""
+    }
+    return function_words[byte]
+}
+
+function place_of(byte, place) {
+    place = place_in(byte)
+    return byte (place == "" ? "" : ", " place)
+}
+
 # ---- words
 
 function begin_words(i) {
@@ -127,6 +193,7 @@ function begin_words(i) {
     CONVFMT = OFMT = "%.0f"
     device[-1] = "the clock"; device[-2] = "the keyboard"; device[-3] = "the output"; device[103] = "the reads at the console"
     for (i in device) number_of[device[i]] = i + 0
+    for (i = 32; i <= 126; i++) letter_of[i] = sprintf("%c", i)
 }
 
 function read_codes(line, w) {
@@ -181,14 +248,16 @@ function remember(step, from, line, e) {
 }
 
 # How PC became 0: by the last step line of the task, a byte address and the instruction there.
-function what_led_to_0(step_line, w, what) {
+function what_led_to_0(step_line, w, what, place) {
     if (step_line == "") return ""
     split(step_line, w, " ")
     what = step_line
     sub(/^[0-9]+ /, "", what)
+    place = in_function(w[1])
+    place = w[1] (place == "" ? "" : place ",")
     if (w[2] == "RTN" && !bare) return "its start has returned"
-    if (what ~ /^K[0-9]+G/) return what " at " w[1] " called global " w[3] ", which is 0"
-    if (what ~ /^K/) return what " at " w[1] " called address 0"
-    if (what ~ /^RTN/) return "RTN at " w[1] " returned from the bottom of the stack"
-    return what " at " w[1] " led there"
+    if (what ~ /^K[0-9]+G/) return what " at " place " called global " w[3] ", which is 0"
+    if (what ~ /^K/) return what " at " place " called address 0"
+    if (what ~ /^RTN/) return "RTN at " place " returned from the bottom of the stack"
+    return what " at " place " led there"
 }

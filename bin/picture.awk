@@ -147,7 +147,7 @@ function read_event(task, kind, words, lane, p, n) {
     } else if (kind == "dequeue") { say(words, ""); mark(lane, "dot") }
     else if (kind == "call") {
         if (words ~ /^taskwait\(\) waits/) { leaving = lane; leaves = "wait" }
-        else if (words !~ /^(taskwait|qpkt|wrch)\(/) { n = words; sub(/ = -1$/, "", n); say(n, ""); mark(lane, "dot") }
+        else if (words !~ /^(taskwait|qpkt|wrch)\(/) { n = words; sub(/ = -1$/, "", n); sub(/ = -1, in /, ", in ", n); say(n, ""); mark(lane, "dot") }
         if (words ~ /^hold\(/) { n = words; sub(/^hold\(/, "", n); hold(n + 0) }
         if (words ~ /^release\(/) { n = words; sub(/^release\(/, "", n); set_state(n + 0, n + 0 in held_from ? held_from[n + 0] : "ready") }
     } else if (kind == "console") {

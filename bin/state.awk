@@ -64,18 +64,8 @@ function read_dead(line, w, done) {
 
 # ---- names
 
-# The hunks of all modules, and whose coroutine is where.
-function walk_store(i, h, m, a) {
-    for (i = 1; i <= modules; i++) {
-        m = at_module[i]
-        a = m + 2 + word_at(m + 1)
-        for (h = 0; h < word_at(m + 1); h++) {
-            hunks += 1
-            hunk_from[hunks] = a
-            hunk_to[hunks] = a += word_at(m + 2 + h)
-            hunk_name[hunks] = name_of_module(m) (word_at(m + 1) > 1 ? ", hunk " h + 1 : "")
-        }
-    }
+# Whose coroutine is where.
+function find_coroutines(i, m) {
     for (i = 1; i <= tasks; i++)
         for (m = word_at(block_of[id[i]] + 17); m != 0 && coroutines < 100000; m = word_at(m + 2)) { coroutine_of[m] = id[i]; coroutines += 1 }
 }
@@ -88,13 +78,6 @@ function module_of(t) {
 function task_name(t, name) {
     if (t in block_of) name = module_of(t)
     return who(t) (name == "" ? "" : " (" name ")")
-}
-
-# Where a byte address lies, in words.
-function place_of(byte, i) {
-    for (i = 1; i <= hunks; i++) if (byte >= 4 * hunk_from[i] && byte < 4 * hunk_to[i])
-        return byte ", in " hunk_name[i] " at offset " byte - 4 * hunk_from[i]
-    return byte
 }
 
 # ---- why and where
@@ -312,8 +295,9 @@ function tell_lists() {
 BEGIN { begin_words(); read_codes(); read_session() }
 
 END {
-    read_keys(); read_dead()
-    if (!bare) { read_store(last); walk_store(); remember(last) }
+    read_keys()
+    if (!bare) { read_store(last); walk_hunks(); find_coroutines(); remember(last) }
+    read_dead()
     tell_head()
     if (want == "state") tell_state()
     else tell_lists()
