@@ -3,19 +3,15 @@
 # ---- whether assembly can make a hunk
 
 # Why it cannot, or nothing.
-function why_words(h, k, most, last) {
+function why_words(h, k) {
     if (size[h] < 2) return "it has " size[h] (size[h] == 1 ? " word" : " words") ", and assembly makes at least 2"
     if (size[h] > 65536) return "it has " size[h] " words, and assembly makes at most 65536"
     if (word(h, 0) != size[h]) return "its first word, " word(h, 0) ", is not its length, " size[h]
-    last = word(h, size[h] - 1)
     if (table_at[h] < 1 || word(h, table_at[h]) != 0) return "no word 0 is before its global table"
-    if (last != 0 && numbers[h] == 0) return "its last word, " last ", is not 0, and no globals are before it"
     for (k = 1; k <= numbers[h]; k++) {
         if (!sets(h, k)) return "it sets global " number_of[h, k] ", and a global has a number from 1 to 1000"
         if (place_of[h, k] < 4 || place_of[h, k] > code_end) return "its global " number_of[h, k] " is at offset " place_of[h, k] ", outside of its code"
-        if (number_of[h, k] > most) most = number_of[h, k]
     }
-    if (most + 0 != last) return "its last word, " last ", is not the highest number of its globals, " most + 0
     return why_relocated(h)
 }
 
@@ -156,14 +152,20 @@ function write_unit(a, kind) {
     return a + long[a]
 }
 
-function write_assembly(h, a, k) {
+function write_assembly(h, a, k, most) {
     find_labels(h)
     name_labels(h)
     split("", string_place)
     for (a in target_of) if (a in unit && unit[a] == "code" && name_at[byte[a]] ~ /^LLL/) string_place[target_of[a]] = 1
     for (a = 4; a < code_end; a = a in unit ? write_unit(a) : write_data(a)) continue
     if (code_end in wanted) print label(code_end) ":"
-    for (k = numbers[h]; k >= 1; k--) print "GLOBAL " number_of[h, k] " " label(place_of[h, k])
+    most = 0
+    for (k = numbers[h]; k >= 1; k--) {
+        print "GLOBAL " number_of[h, k] " " label(place_of[h, k])
+        if (number_of[h, k] > most) most = number_of[h, k]
+    }
+    # a compiler may put the highest number that the module uses in the place of the highest that it sets
+    if (word(h, size[h] - 1) != most) print "; LAST " word(h, size[h] - 1)
 }
 
 function write_words(h, i) {
