@@ -57,13 +57,13 @@ function find_labels(h, k, a) {
 }
 
 # The letters and digits of a name, as a label that no other place has.
-function new_label(name, label, n) {
+function new_label(name, own, n) {
     gsub(/[^A-Za-z0-9]/, "", name)
     if (name !~ /^[A-Za-z]/ || name ~ /^[Lg][0-9]+$/) name = "f" name
-    name = label = substr(name, 1, 12)
-    for (n = 2; label in is_label; n++) label = name n
-    is_label[label] = 1
-    return label
+    name = own = substr(name, 1, 12)
+    for (n = 2; own in is_label; n++) own = name n
+    is_label[own] = 1
+    return own
 }
 
 function name_labels(h, k, a) {
