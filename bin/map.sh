@@ -5,15 +5,15 @@
 #     hunk NAME WORD..                the words of its hunk in the store, in hex; - is a word that is relocated
 #     at NAME BYTE                    on a bare machine: the byte address of its hunk, whose code begins 4 bytes after
 #     line NAME OFFSET LINE LABEL     a line of the file: the offset of its bytes in the hunk, and the label that is last
-#                                     before it or on it; - if there is none. Of a module text they are the lines that bin/unasm makes of it
+#                                     before it or on it; - if there is none
 
 # Where a hunk is loaded, its words are these. The module is standard input.
-hunk_of() { # NAME
-    awk -v name="$1" "$reads_modules"'
+hunk_of() { # NAME HUNK
+    awk -v name="$1" -v h="$2" "$reads_modules"'
         END {
-            for (k = 1; k <= relocations[1]; k++) hex[1, relocated[1, k]] = "-"
+            for (k = 1; k <= relocations[h]; k++) hex[h, relocated[h, k]] = "-"
             printf "hunk %s", name
-            for (i = 0; i < size[1]; i++) printf " %s", hex[1, i]
+            for (i = 0; i < size[h]; i++) printf " %s", hex[h, i]
             print ""
         }'
 }
@@ -53,21 +53,10 @@ global_offsets() {
     awk "$reads_modules"'END { read_globals(1); for (k = numbers[1]; k >= 1; k--) print place_of[1, k] }'
 }
 
-# Adds a program to the map, if there is to be one and it does not have it: the file's module is in $module, its assembly in $plain.
-add_to_map() { # NAME FILE
-    [ -n "$map" ] && ! grep -q "^program $1 " "$map" || return 0
-    case $2 in
-        *.module)
-            plain=$log.plain
-            "$top/bin/unasm" "$2" > "$plain" || exit 1
-            if [ "$(grep -c '^; HUNK ' "$plain")" -ne 1 ] || grep -q '^; HUNK 1, as words' "$plain"; then
-                note "$2 is not in the map, which has programs of one hunk that assembly can make"
-                return 0
-            fi
-            ;;
-    esac
+# Adds a hunk of a program to the map: the file's module is in $module, the hunk's assembly in $plain.
+map_hunk() { # NAME FILE HUNK
     printf 'program %s %s\n' "$1" "$2" >> "$map"
-    printf '%s\n' "$module" | hunk_of "$1" >> "$map"
+    printf '%s\n' "$module" | hunk_of "$1" "$3" >> "$map"
     : > "$log.marks"
     : > "$log.offsets"
     labelled "$log.marks" < "$plain" > "$log.labelled"
@@ -75,7 +64,6 @@ add_to_map() { # NAME FILE
     # a module has at most 1,000 globals
     while [ "$first" -le "$marks" ]; do
         sed -n "$first,$((first + 999))p" "$log.marks" > "$log.some"
-        some=$(wc -l < "$log.some")
         { cat "$log.labelled" && awk '{ print "GLOBAL " NR " " $2 }' "$log.some"; } > "$log.text"
         "$top/tripos" asm < "$log.text" 2> "$log" | global_offsets >> "$log.offsets"
         first=$((first + 1000))
@@ -83,6 +71,27 @@ add_to_map() { # NAME FILE
     paste -d ' ' "$log.offsets" "$log.marks" | awk -v name="$1" '
         $4 != "-" { label = $4 }
         { print "line", name, $1, $2, (label == "" ? "-" : label) }' >> "$map"
+}
+
+# Adds a program to the map, if there is to be one and it does not have it. The hunks of a module text are NAME, NAME.2 and so on, with the
+# lines of what bin/unasm makes of the text.
+add_to_map() { # NAME FILE
+    [ -n "$map" ] && ! grep -q "^program $1 " "$map" || return 0
+    case $2 in
+        *.module) ;;
+        *) map_hunk "$1" "$2" 1; return ;;
+    esac
+    "$top/bin/unasm" "$2" > "$log.whole" || exit 1
+    hunk=1 count=$(grep -c '^; HUNK ' "$log.whole") plain=$log.plain
+    while [ "$hunk" -le "$count" ]; do
+        awk -v hunk="$hunk" '/^; HUNK / { n += 1 } { print (n == hunk ? $0 : "") }' "$log.whole" > "$plain"
+        if grep -q '^; HUNK [0-9]*, as words' "$plain"; then
+            note "hunk $hunk of $2 is not in the map: no assembly makes it"
+        else
+            map_hunk "$1$([ "$hunk" -eq 1 ] || echo ".$hunk")" "$2" "$hunk"
+        fi
+        hunk=$((hunk + 1))
+    done
 }
 
 # Begins the map, if there is to be one.
