@@ -91,16 +91,27 @@ function run_words(t) {
 
 # A task that begins has its program's name from the words of its module then.
 function find_program(t) {
-    if (t < 5 || t in is_of_session || t in is_known || !is_shown["run"] && !has_names) return
+    if (t < 5 || t in is_of_session || t in is_known) return
     is_known[t] = 1
+    modules_from = step
+    if (!is_shown["run"]) return
     read_store(step)
-    if (has_names) walk_hunks()
     name_task(t)
 }
 
-# The function in which the task of the step is, where it has a name.
-function here() {
-    return has_names && task >= 5 ? in_function(pc) : ""
+# The modules of the store, from the step on at which one of them may be new: a log that tells no place asks for none.
+function find_modules() {
+    if (modules_from == "" || bare) return
+    read_store(modules_from)
+    walk_hunks()
+    modules_from = ""
+}
+
+# Where the task of the step is, for a line of this kind.
+function here(kind) {
+    if (task < 5 || !is_shown[kind]) return ""
+    find_modules()
+    return comma_place(pc)
 }
 
 # A module that is none of the session's files has no name here.
@@ -121,16 +132,18 @@ function tell_call(name, argument, n) {
     n = split(n, argument, ", ")
     if (refusal != "") {
         if (name == "qpkt" && refusal ~ /^code 4,/) { read_store(step); refusal = refusal "; its word 1 is " signed(word_at(argument[1] + 1)) }
-        write_line("refused", "", call ": " refusal here())
-    } else if (stop != "") write_line("call", "", call " stops the machine" here())
-    else if (name == "taskwait" && (answer == "" || is_given)) write_line("call", "", call " waits" here())
-    else if (name ~ /^(callco|resumeco|cowait)$/) write_line("call", "", call " hands " argument[n] " on" here())
+        write_line("refused", "", call here("refused") ": " refusal)
+    } else if (stop != "") write_line("call", "", call " stops the machine" here("call"))
+    else if (name == "taskwait" && (answer == "" || is_given)) write_line("call", "", call " waits" here("call"))
+    else if (name ~ /^(callco|resumeco|cowait)$/) write_line("call", "", call " hands " argument[n] " on" here("call"))
     else write_line("call", "", call (name == "wrch" ? ", of \"" shown_byte(argument[1]) "\"," : "") " = " answer \
-        (name == "muldiv" ? ", remainder " second : "") here())
+        (name == "muldiv" ? ", remainder " second : "") here("call"))
 }
 
+# The address of some faults is another one than that of the instruction.
 function tell_fault(code, address, end) {
-    write_line("fault", "", "code " code " at " address here() ": " meaning["fault", code] "; " end)
+    write_line("fault", "", "code " code " at " address (address == pc ? here("fault") : "") ": " meaning["fault", code] "; " end \
+        (address == pc ? "" : here("fault")))
 }
 
 function tell_console() {
@@ -192,6 +205,7 @@ function tell_step(i, last, w) {
 
 # What begins as this task next may be another program.
 function tell_death(words) {
+    if (is_shown["die"]) find_modules()
     words = what_led_to_0(last_done[task])
     write_line("die", "", "PC is 0" (words == "" ? "" : ": " words) (bare ? "; the machine stops" : "; task " task " is dead"))
     delete is_known[task]
@@ -242,7 +256,7 @@ BEGIN {
     begin_words(); begin_log(); begin_kinds(); read_codes(); read_session()
     write_head()
     if (first > 1 && !bare) remember(first - 1)
-    if (has_names && !bare) { read_store(first - 1); walk_hunks() }
+    modules_from = first - 1
     step = ""
 }
 

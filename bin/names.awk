@@ -12,7 +12,7 @@ function signed(n) {
     return n >= 2147483648 ? n - 4294967296 : n
 }
 
-# ---- the session; has_names is set where its files may have functions with names
+# ---- the session
 
 function read_session(line, n, w, name, i) {
     while ((getline line < session) > 0) {
@@ -20,7 +20,6 @@ function read_session(line, n, w, name, i) {
         if (line ~ /^:/) {
             if (name == "") continue
             text[name] = text[name] " " substr(line, 2)
-            if (tolower(line) ~ /dfdf/) has_names = 1
             continue
         }
         n = split(line, w, " ")
@@ -129,7 +128,7 @@ function programs_at(a, i, names) {
 
 function walk_hunks(i, h, m, a) {
     hunks = 0
-    split("", function_words)
+    split("", known_place)
     for (i = 1; i <= modules; i++) {
         m = at_module[i]
         a = m + 2 + word_at(m + 1)
@@ -172,18 +171,17 @@ function place_in(byte, i, name) {
     return ""
 }
 
-# That a byte address lies in a function that has a name, in words before others.
-function in_function(byte, place) {
-    if (!(byte in function_words)) {
+# The same with a comma before it, for words that go before.
+function comma_place(byte, place) {
+    if (!(byte in known_place)) {
         place = place_in(byte)
-        function_words[byte] = place ~ /^in the function / ? ", " place : ""
+        known_place[byte] = place == "" ? "" : ", " place
     }
-    return function_words[byte]
+    return known_place[byte]
 }
 
-function place_of(byte, place) {
-    place = place_in(byte)
-    return byte (place == "" ? "" : ", " place)
+function place_of(byte) {
+    return byte comma_place(byte)
 }
 
 # ---- words
@@ -253,7 +251,7 @@ function what_led_to_0(step_line, w, what, place) {
     split(step_line, w, " ")
     what = step_line
     sub(/^[0-9]+ /, "", what)
-    place = in_function(w[1])
+    place = comma_place(w[1])
     place = w[1] (place == "" ? "" : place ",")
     if (w[2] == "RTN" && !bare) return "its start has returned"
     if (what ~ /^K[0-9]+G/) return what " at " place " called global " w[3] ", which is 0"

@@ -1,11 +1,11 @@
 # The picture of a run, from the lines of bin/log. A column is the lane of a task or device, and a row is a step in which something
 # happened. The words of a row are in a column of their own, so that no text is over another.
 
-function escaped(text) {
-    gsub(/&/, "\\&amp;", text)
-    gsub(/</, "\\&lt;", text)
-    gsub(/>/, "\\&gt;", text)
-    return text
+function escaped(words) {
+    gsub(/&/, "\\&amp;", words)
+    gsub(/</, "\\&lt;", words)
+    gsub(/>/, "\\&gt;", words)
+    return words
 }
 
 # The lane of "task 5", "the clock" and so on, as a key.

@@ -4,12 +4,13 @@ import { ending_in_words } from './codes.js';
 import { after_pause, button, fill, labelled, make } from './elements.js';
 import { lines_of_log, steps_of_log } from './log.js';
 import { is_session, length_of, state_at, steps_of, with_steps } from './moment.js';
+import { places_after, places_in_run, what_led_to_0 } from './names.js';
 import { picture_of } from './picture.js';
 import { line_at, loaded_programs, programs_of } from './places.js';
 import { file_named } from './project.js';
 import { ending_of } from './run.js';
 import { change, state, watch } from './state.js';
-import { state_parts } from './state_view.js';
+import { state_parts, with_places } from './state_view.js';
 import { story_of } from './story.js';
 import { go_to_step } from './steps.js';
 import { save_as } from './text.js';
@@ -37,13 +38,32 @@ async function read_story(from) {
     const log = await ask('tripos_show', ['log', String(from), String(to)], with_steps(session, to), 'what happened in each step is told');
     const lines = lines_of_log(log.text);
     const period = Number(/^TICK ([0-9]+)/m.exec(session)?.[1] ?? 0);
-    const story = period ? story_of(steps_of_log(lines), before.state.parts.tasks ?? []) : null;
-    if (story) await name_lanes(story, session, to);
+    let story = null;
+    if (period) {
+      const steps = steps_of_log(lines);
+      const tasks = before.state.parts.tasks ?? [];
+      const place_at = await places_in_run(session, from, steps, tasks);
+      story = story_of(steps, tasks, place_at);
+      tell_places(lines, place_at);
+      await name_lanes(story, session, to);
+    }
     if (own !== reading) return;
     change({ story: { session, from, to, last, closing, is_known, lines, period, ...story }, cursor: Math.min(Math.max(state.cursor, from), to) });
     go_to_cursor(state.cursor);
   } catch (error) {
     if (own === reading && !(error instanceof Stopped)) change({ story: { failed: error.message } });
+  }
+}
+
+/** Gives the lines of a call, a fault and a death words for where the task is. */
+function tell_places(lines, place_at) {
+  const last_done = new Map();
+  for (const line of lines) {
+    const { step, task, pc, kind, words } = line;
+    if (task < 5) continue;
+    if (kind === 'step' && !words.startsWith('outside')) last_done.set(task, words);
+    if (kind === 'die') line.place = what_led_to_0(last_done.get(task), (byte) => place_at(step, byte));
+    else if (kind === 'call' || kind === 'fault' || (kind === 'stop' && words.startsWith('fault '))) line.place = place_at(step, pc);
   }
 }
 
@@ -69,7 +89,8 @@ async function go_to_cursor(step) {
     const moment = await state_at(story.session, cursor);
     const made = made_of(story.session);
     const loaded = made ? loaded_programs(made, await programs_of(made), moment) : [];
-    if (state.cursor === cursor && state.story === story) change({ at_cursor: { ...moment, loaded, cursor } });
+    const place_in = await places_after(story.session, cursor);
+    if (state.cursor === cursor && state.story === story) change({ at_cursor: { ...moment, loaded, place_in, cursor } });
   } catch (error) {
     if (!(error instanceof Stopped)) change({ notice: error.message });
   }
@@ -100,7 +121,9 @@ function code_at_cursor({ story, cursor, at_cursor }) {
   if (!line) return make('p', { class: 'help' }, cursor === 0 ? 'Step 0 is the boot.' : 'No instruction of a guest in this step.');
   const place = at_cursor?.cursor === cursor ? line_at(at_cursor.loaded, line.pc) : null;
   const done = line.kind === 'step' ? line.words.replace(/^[0-9]+ /, '') : line.words;
-  const told = make('p', {}, `${line.task ? `task ${line.task}: ` : ''}${done} at ${line.pc}${place ? `, line ${place.line} of ${place.file}` : ''}`);
+  const words = line.task >= 5 && at_cursor?.cursor === cursor ? at_cursor.place_in(line.pc) : '';
+  const told = make('p', {}, `${line.task ? `task ${line.task}: ` : ''}${done} at ${line.pc}${words && `, ${words}`}`
+    + `${place ? `, line ${place.line} of ${place.file}` : ''}`);
   if (!place) return told;
   const lines = (file_named(place.file)?.text ?? '').split('\n');
   const first = Math.max(0, place.line - 4);
@@ -116,9 +139,10 @@ function log_table({ story, cursor }, has_steps) {
   const first = Math.max(0, Math.min(shown.length - MOST_LINES, (now < 0 ? shown.length : now) - MOST_LINES / 2));
   const lines = shown.slice(first, first + MOST_LINES);
   const node = make('table', { class: 'words log' }, make('tr', {}, ['step', 'task', 'at', 'what'].map((it) => make('th', { scope: 'col' }, it))),
-    lines.map(({ step, task, pc, kind, words }) => make('tr', { 'data-step': String(step) },
+    lines.map(({ step, task, pc, kind, words, place }) => make('tr', { 'data-step': String(step) },
       make('td', {}, String(step)), make('td', {}, task ? String(task) : '–'), make('td', {}, pc ? String(pc) : '–'),
-      make('td', { class: 'wide' }, make('strong', {}, kind), ` ${kind === 'step' ? words.replace(/^[0-9]+ /, '') : words}`))));
+      make('td', { class: 'wide' }, make('strong', {}, kind), ` ${kind === 'step' ? words.replace(/^[0-9]+ /, '') : words}`,
+        place ? `${kind === 'die' ? ':' : ','} ${place}` : ''))));
   return { node, from: first === 0 ? 0 : lines[0].step + 1, to: first + MOST_LINES >= shown.length ? Infinity : lines.at(-1).step - 1 };
 }
 
@@ -233,7 +257,7 @@ export function happened_view() {
     const is_end = cursor === story.last && story.is_known;
     const end = `. ${ending_in_words(story.closing)}${story.closing.why === 'steps' ? ` (GO ${steps_of(story.session)})` : ''}`;
     fill(said, make('strong', {}, told.said.replace(/^after/, 'After')), is_end ? end : told.who ? `. ${told.who}` : '');
-    fill(words, state_parts(told.parts, told.parts.tasks ? ['tasks', 'queues', 'blocks', 'modules'] : []),
+    fill(words, state_parts(with_places(told, at_cursor.place_in), told.parts.tasks ? ['tasks', 'queues', 'blocks', 'modules'] : []),
       told.parts.tasks ? null : registers_part(told.registers));
   }
 

@@ -16,6 +16,15 @@ function task_row({ line, more }) {
       more.map((it) => make('div', { class: 'sub' }, it)));
 }
 
+/** The parts of a state, where the task that runs and those that go on say where that is. */
+export function with_places({ parts, registers: { PC, T }, next }, place_in) {
+  const place_of = (byte) => { const words = place_in(Number(byte)); return `${byte}${words && `, ${words}`}`; };
+  const tasks = parts.tasks?.map(({ line, more }) => ({ line, more: [
+    ...(T >= 5 && line.startsWith(`task ${T} `) ? [`PC is ${place_of(PC)}${next ? `; the instruction there is ${next}` : ''}`] : []),
+    ...more.map((it) => it.replace(/^it goes on at byte ([0-9]+)$/, (_, byte) => `it goes on at ${place_of(byte)}`))] }));
+  return { ...parts, tasks };
+}
+
 function block_row({ line }) {
   const [first, size, use] = line.split(' ');
   return make('tr', {}, make('td', {}, first), make('td', {}, size), make('td', {}, use));

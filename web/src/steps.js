@@ -5,13 +5,14 @@ import { ask_for_text } from './dialogs.js';
 import { button, fill, labelled, make } from './elements.js';
 import { effect_of } from './instructions.js';
 import { go_on_from, is_session, last_stop_before, length_of, listing_at, state_at, steps_of, with_steps, words_at } from './moment.js';
+import { places_after } from './names.js';
 import { addresses_of, line_at, loaded_programs, programs_of } from './places.js';
 import { is_assembly } from './project.js';
 import { ending_of } from './run.js';
 import { screen_text } from './screen.js';
 import { source_view } from './source_view.js';
 import { change, state, watch } from './state.js';
-import { state_parts } from './state_view.js';
+import { state_parts, with_places } from './state_view.js';
 import { counted, signed_word } from './text.js';
 import { made_of, session_now } from './work.js';
 
@@ -45,6 +46,7 @@ export async function go_to_step(wanted) {
     const step = Math.min(state.step, last);
     const moment = await state_at(session, step);
     const loaded = await places_at(session, moment);
+    const place_in = await places_after(session, moment.step);
     const { P, PC } = moment.state.registers;
     const is_going = PC !== 0;
     const listing = is_going ? await listing_at(session, moment, PC, LISTED) : [];
@@ -54,7 +56,7 @@ export async function go_to_step(wanted) {
     const words = await words_at(session, moment, address_in(place.text, moment.state.registers) ?? 0, place.count);
     if (own !== going) return;
     const before = state.moment?.session === session ? state.moment : null;
-    change({ step: moment.step, moment: { ...moment, session, last, is_known, loaded, listing, frames, words, before: before
+    change({ step: moment.step, moment: { ...moment, session, last, is_known, loaded, place_in, listing, frames, words, before: before
       && { registers: before.state.registers, words: before.words, frames: before.frames } } });
   } catch (error) {
     if (own === going && !(error instanceof Stopped)) change({ moment: { failed: error.message } });
@@ -179,10 +181,14 @@ function frame_words({ state: told, frames, before }) {
   return words_table(words, before?.frames, (at) => names[at - P] ?? `P!${at - P}`);
 }
 
-function calls_list({ state: told, frames, loaded }) {
+function calls_list({ state: told, frames, loaded, place_in }) {
   const rows = [];
   let { P, PC } = told.registers;
-  const told_place = (byte) => { const place = line_at(loaded, byte); return place ? `${byte} (${place.file}:${place.line})` : String(byte); };
+  const told_place = (byte) => {
+    const place = line_at(loaded, byte);
+    const words = place_in(byte);
+    return `${byte}${words && `, ${words}`}${place ? ` (${place.file}:${place.line})` : ''}`;
+  };
   for (let depth = 0; depth < 20 && frames.has(P + 2); depth++) {
     const [caller, back, entry] = [frames.get(P), frames.get(P + 1), frames.get(P + 2)];
     if (back === 0) break;
@@ -302,7 +308,7 @@ export function steps_view() {
     fill(words, moment.words.size > 0 ? words_table(moment.words, moment.before?.words,
       (at) => `${/^[PG]/.test(from) ? from[0] : ''}${/^[PG]/.test(from) ? `!${at - told.registers[from[0]]}` : ''}`)
       : make('p', { class: 'help' }, 'The store has no such word.'));
-    fill(right_above, told.parts.tasks ? state_parts(told.parts, ['tasks', 'queues']) : []);
+    fill(right_above, told.parts.tasks ? state_parts(with_places(told, moment.place_in), ['tasks', 'queues']) : []);
     fill(right, told.parts.tasks ? state_parts(told.parts, ['blocks', 'modules']) : []);
     fill(output, screen_text(moment.console.slice(-20000)));
     output.scrollTop = output.scrollHeight;

@@ -2,6 +2,7 @@
 // tasks change. The rules are those of the picture that bin/picture draws.
 import { meaning } from './codes.js';
 import { name_of_party, party_of, shown_letter } from './log.js';
+import { what_led_to_0 } from './names.js';
 
 const RESIDENTS = { 1: 'shell', 2: 'reporter', 3: 'console', 4: 'files' };
 
@@ -36,8 +37,10 @@ class Story {
   #leaves = null;
   #row = null;
   #last_done = new Map();
+  #place_at;
 
-  constructor(tasks) {
+  constructor(tasks, place_at) {
+    this.#place_at = place_at;
     for (const { line } of tasks) {
       const [, number, priority, rest] = /^task ([0-9]+) at [0-9]+, priority ([0-9]+), (.*)$/.exec(line);
       const party = Number(number);
@@ -135,13 +138,22 @@ class Story {
     }
   }
 
-  #read_call({ task, call, answer, refused, stop }) {
-    if (refused) { this.#say(`${call}: ${refused}`, true); this.#mark(task, 'cross'); return; }
+  /** Where the task of a step is, with a comma before it. */
+  #here({ step, task, pc }) {
+    const words = task >= 5 ? this.#place_at(step, pc) : '';
+    return words && `, ${words}`;
+  }
+
+  #read_call(step) {
+    const { task, call, answer, refused, stop } = step;
+    const here = this.#here(step);
+    if (refused) { this.#say(`${call}${here}: ${refused.replace(':', ',')}`, true); this.#mark(task, 'cross'); return; }
     if (answer === 'waits' && call.startsWith('taskwait')) this.#leaves = 'wait';
     if (!/^(taskwait|qpkt|wrch)\(/.test(call)) {
-      const value = /^= (-?[0-9]+)/.exec(answer ?? '')?.[1];
-      this.#say(stop ? `${call} stops the machine` : /^(callco|resumeco|cowait)\(/.test(call) ? `${call} hands ${/([^ (]*)\)$/.exec(call)[1]} on`
-        : value === undefined || value === '-1' ? call : `${call} = ${value}`);
+      const [, value, second] = /^= (-?[0-9]+), second (-?[0-9]+)/.exec(answer ?? '') ?? [];
+      const says = stop ? `${call} stops the machine` : /^(callco|resumeco|cowait)\(/.test(call) ? `${call} hands ${/([^ (]*)\)$/.exec(call)[1]} on`
+        : call.startsWith('muldiv(') ? `${call} = ${value}, remainder ${second}` : value === undefined || value === '-1' ? call : `${call} = ${value}`;
+      this.#say(says + here);
       this.#mark(task, 'dot');
     }
     const other = Number(/^(?:hold|release)\(([0-9]+)/.exec(call)?.[1] ?? 0);
@@ -173,13 +185,13 @@ class Story {
     const { task } = step;
     const is_told = step.is_dead || step.events.length > 0 || step.console || step.key !== undefined || step.fault || /^fault /.test(step.stop ?? '')
       || (step.call && (!/^(taskwait|qpkt|wrch)\(/.test(step.call) || step.refused));
-    if (step.step_line) this.#last_done.set(task, step.step_line);
+    if (step.step_line && !step.step_line.startsWith('outside')) this.#last_done.set(task, step.step_line);
     if (!is_told) return;
     this.#row = { step: step.step, tick: step.tick, has_tick: Boolean(step.has_tick), task, arrows: [], words: [], changes: [], moved: new Set() };
     this.rows.push(this.#row);
     if (step.is_dead) {
-      const is_return = / RTN$/.test(this.#last_done.get(task) ?? '');
-      this.#say(`${is_return ? 'PC is 0: its start has returned' : `PC is 0 after ${this.#last_done.get(task) ?? 'its last step'}`}; task ${task} is dead`, !is_return);
+      const words = what_led_to_0(this.#last_done.get(task), (byte) => this.#place_at(step.step, byte));
+      this.#say(`PC is 0${words && `: ${words}`}; task ${task} is dead`, words !== 'its start has returned');
       this.#mark(task, 'end');
       this.#leaves = 'dead';
     }
@@ -198,8 +210,10 @@ class Story {
     read_while(({ words }) => at < last && !/^the (clock|keyboard|output) takes /.test(words));
     const fault = /^([0-9]+) at ([0-9]+)/.exec(step.fault ?? '') ?? (stop_fault && [null, stop_fault[1], stop_fault[2]]);
     if (fault) {
-      this.#say(`fault: code ${fault[1]} at ${fault[2]}: ${meaning('fault', fault[1])}; ${stop_fault ? 'the machine stops' : 'the task is held'}`,
-        true);
+      const here = this.#here(step);
+      const is_here = Number(fault[2]) === step.pc;
+      this.#say(`fault: code ${fault[1]} at ${fault[2]}${is_here ? here : ''}: ${meaning('fault', fault[1])}; `
+        + `${stop_fault ? 'the machine stops' : 'the task is held'}${is_here ? '' : here}`, true);
       this.#mark(task, 'cross');
       this.#leaves = 'held';
     }
@@ -213,9 +227,12 @@ class Story {
   }
 }
 
-/** The story of the steps of a log; `tasks` are the tasks of the state before them. Gives `{rows, lanes}`, the lanes from left to right. */
-export function story_of(steps, tasks) {
-  const story = new Story(tasks);
+/**
+ * The story of the steps of a log; `tasks` are the tasks of the state before them, and `place_at` says where a byte address lies at a step. Gives
+ * `{rows, lanes}`, the lanes from left to right.
+ */
+export function story_of(steps, tasks, place_at) {
+  const story = new Story(tasks, place_at);
   for (const step of steps) story.read(step);
   const used = [...story.lanes.values()].filter((lane) => lane.is_used);
   const of_tasks = used.filter(({ party }) => party > 0).sort((a, b) => (b.priority ?? 0) - (a.priority ?? 0));

@@ -1,5 +1,6 @@
 // Drives the page in a headless Chromium as a user does, and compares what it shows with what the programs answer in node.
-import { mkdtempSync, readFileSync, rmSync } from 'node:fs';
+import { execFileSync } from 'node:child_process';
+import { mkdtempSync, readFileSync, rmSync, writeFileSync } from 'node:fs';
 import { tmpdir } from 'node:os';
 import { dirname, join } from 'node:path';
 import { fileURLToPath } from 'node:url';
@@ -8,7 +9,8 @@ import { files_of_archive } from '../src/files.js';
 import { run } from '../src/program.js';
 import { start } from './chromium.js';
 
-const page = process.argv[2] ?? join(dirname(fileURLToPath(import.meta.url)), '../page.html');
+const top = join(dirname(fileURLToPath(import.meta.url)), '../..');
+const page = process.argv[2] ?? join(top, 'web/page.html');
 const html = readFileSync(page, 'latin1');
 const part = (id) => Buffer.from(new RegExp(`id="${id}">([^<]*)<`).exec(html)[1], 'base64');
 const modules = Object.fromEntries(['tripos', 'tripos_show'].map((name) => [name, new WebAssembly.Module(gunzipSync(part(`program-${name}`)))]));
@@ -62,6 +64,46 @@ async function open_example(name) {
   await tab.until(`document.getElementById('title')?.value === 'Example ${name}'`);
   await tab.until("/^[✓✕]/.test(document.getElementById('ending').textContent)");
 }
+
+const plain = (text) => text.replace(/&lt;/g, '<').replace(/&gt;/g, '>').replace(/&amp;/g, '&');
+const joined = (lines) => lines.join(' ').replace(/\s+/g, ' ');
+
+/** Compares the picture that is shown with one that bin/picture has drawn: its rows and its words. */
+async function same_picture(path, drawn) {
+  const shown = JSON.parse(await tab.value("JSON.stringify(['step', 'words'].map((kind) => [...document.querySelectorAll(`svg.picture text.${kind}`)].map((it) => it.textContent)))"));
+  same(`the rows of ${path}`, shown[0].join(), [...drawn.matchAll(/class="step end">([0-9]+)</g)].map(([, step]) => step).join());
+  const wanted = joined([...drawn.matchAll(/class="words[^"]*">([^<]*)</g)].map(([, words]) => plain(words))).replace(/the machine stopped after .*/, '');
+  same(`the words of ${path}`, joined(shown[1]).slice(0, wanted.length), wanted);
+}
+
+// a function with the name that a BCPL compiler leaves before it, and a program without names
+const NAMED = `        ALIGN 4
+        DW 0xDFDF
+        DW 0x7669640b   ; divide
+        DW 0x20656469
+        DW 0x20202020
+divide: LP3
+        SP4
+        L9              ; release(0), which is refused
+        SP3
+        SYS
+        L0
+        DIV
+        RTN
+        ALIGN 4
+        DW 0xDFDF
+        DW 0x61747307   ; start
+        DW 0x20207472
+start:  LF divide
+        K5
+        RTN
+GLOBAL 1 start
+`;
+const UNNAMED = 'GLOBAL 1 start\nstart: L1\nSP3\nL10\nSP4\nSYS\nL0\nDIV\nRTN\n';
+const UNSET = 'GLOBAL 1 start\nstart: K8G 40\nRTN\n';
+
+/** What a script writes. */
+const written_by = (script, ...words) => execFileSync(join(top, script), words, { encoding: 'latin1' });
 
 const ways = {
   async 'edit and run'() {
@@ -158,18 +200,11 @@ const ways = {
   },
 
   async 'pictures'() {
-    const plain = (text) => text.replace(/&lt;/g, '<').replace(/&gt;/g, '>').replace(/&amp;/g, '&');
-    const joined = (lines) => lines.join(' ').replace(/\s+/g, ' ');
     for (const path of [...map.keys()].filter((it) => it.endsWith('/picture.svg'))) {
-      const stored = String(map.get(path));
       await open_example(path.split('/')[1]);
       await go('happened');
       await tab.until("document.querySelectorAll('svg.picture .spot').length > 5 && document.getElementById('happened-said').textContent !== ''");
-      const shown = JSON.parse(await tab.value("JSON.stringify(['step', 'words'].map((kind) => [...document.querySelectorAll(`svg.picture text.${kind}`)].map((it) => it.textContent)))"));
-      same(`the rows of ${path}`, shown[0].join(), [...stored.matchAll(/class="step end">([0-9]+)</g)].map(([, step]) => step).join());
-      const wanted = joined([...stored.matchAll(/class="words[^"]*">([^<]*)</g)].map(([,
-        words]) => plain(words))).replace(/the machine stopped after .*/, '');
-      same(`the words of ${path}`, joined(shown[1]).slice(0, wanted.length), wanted);
+      await same_picture(path, String(map.get(path)));
     }
   },
 
@@ -266,6 +301,37 @@ const ways = {
     await tab.click('#stop');
     await tab.until("document.getElementById('ending').textContent.includes('Stopped')", 3);
     same('Run can be pressed again', await tab.value("document.getElementById('run').disabled"), false);
+  },
+
+  async 'functions and modules'() {
+    const path = (name) => join(folder, name);
+    writeFileSync(path('named.s'), NAMED);
+    writeFileSync(path('plain.asm'), UNNAMED);
+    writeFileSync(path('unset.asm'), UNSET);
+    const made = written_by('session', 'shell', '-d', '3000', 'program', path('named.s'), 'program', path('plain.asm'), 'program', path('unset.asm'),
+      'type', '100', 'RUN named', 'type', '1000', 'RUN plain', 'type', '2000', 'RUN unset');
+    writeFileSync(path('session'), made);
+    await go('programs');
+    await tab.click('#new');
+    await tab.until("document.querySelector('dialog[open]') || document.getElementById('title').value === 'Untitled'");
+    if (await tab.value("document.querySelector('dialog[open]') !== null")) await tab.click('dialog[open] .choices button:last-child');
+    await tab.click('#side-session');
+    await set('#session', made);
+    await run_page();
+    await go('happened');
+    await tab.until("document.querySelectorAll('svg.picture .spot').length > 20 && document.getElementById('happened-said').textContent !== ''");
+    await same_picture('programs with names and without', written_by('bin/picture', path('session')));
+    const log = written_by('bin/log', path('session'));
+    const place = 'in (?:the function [^ ]+ of )?[^ ]+ at offset [0-9]+';
+    for (const [, step, words] of log.matchAll(/^ *([0-9]+) +\S+ +\S+ +\S+ +(?:fault|die) +([^\n]*)/gm)) {
+      await set('#cursor', step, 'change');
+      await tab.until(`document.getElementById('cursor').value === '${step}' && document.getElementById('happened-said').textContent.startsWith('After ${step} ')`);
+      same(`the place in the log of step ${step}`, await tab.value(`[...document.querySelectorAll('#log .is-now')].map((it) => /^(?:fault|die) .*?(${place})/.exec(it.lastChild.textContent)?.[1]).filter(Boolean).join()`),
+        new RegExp(place).exec(words)[0]);
+      const wanted = [...written_by('bin/state', path('session'), '--at', step).matchAll(/(?:PC is|it goes on at) [0-9]+, in [^;\n]*/g)].map(([all]) => all);
+      const shown = await tab.value("[...document.querySelectorAll('#happened-state .sub')].flatMap((it) => /^(PC is|it goes on at) [0-9]+, in [^;]*/.exec(it.textContent)?.[0] ?? []).sort().join()");
+      same(`the places in the state after step ${step}`, shown, wanted.sort().join());
+    }
   },
 };
 
