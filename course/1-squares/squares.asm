@@ -1,6 +1,6 @@
 ; Writes a table: a line for each number, with the number, a blank and its square.
 
-        L 2             ; {first}: the first number
+first:  L 2             ; {first}: the first number
         SP5             ; P!5 := it
 
 line:   LP5             ; writes the number

@@ -1,6 +1,6 @@
 ; Writes a table: a line for each number, with the number, a blank and its square.
 
-        L 2             ; {first}: the first number
+first:  L 2             ; {first}: the first number
         SP5             ; P!5 := it
 
 line:   LP5             ; writes the number
@@ -20,7 +20,7 @@ line:   LP5             ; writes the number
         LP5             ; the next number
         A1
         SP5
-        L 11            ; {last}: on, if it is not after the last one
+last:   L 11            ; {last}: on, if it is not after the last one
         JLE line
 
         L0              ; call 0: stop with 0
