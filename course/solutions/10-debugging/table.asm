@@ -1,5 +1,5 @@
 ; Copies six numbers into a work table, and writes them, a mark, a ! that is after
-; the work table, and in the next line their sum. Three lines are wrong.
+; the work table, and in the next line their sum. Two lines are wrong, and one is missing.
 
         J begin
         ALIGN 4
