@@ -27,24 +27,24 @@ pub(crate) fn advance(
     parts: &mut BareParts,
     most: u64,
     breakpoints: &[u32],
-    out: &mut Output,
+    bytes: &mut Output,
 ) -> Advanced
     requires sound { IsSound parts.old }
     requires some { 0 < most }
     requires steps { parts.old.step + most ≤ most_steps }
-    requires empty { out.old ≡ [] }
+    requires empty { bytes.old ≡ [] }
     ensures some { 0 < result.steps }
     ensures most { result.steps ≤ most }
     ensures state { bare_state parts.new result.stop
         ≡ (run result.steps (bare_state parts.old None)).state }
-    ensures bytes { out.new ≡ (run result.steps (bare_state parts.old None)).bytes }
+    ensures bytes { bytes.new ≡ (run result.steps (bare_state parts.old None)).bytes }
     ensures last { (run (result.steps - 1) (bare_state parts.old None)).state.stop ≡ None }
     ensures before { Avoids breakpoints.now result.steps (bare_state parts.old None) }
     ensures sound { IsSound parts.new }
 {
-    let mut done = pass_and_step(parts, most, breakpoints, out);
-    while may_go_on(done, most, out) && !is_met(parts, breakpoints) {
-        let more = pass_and_step(parts, most - done.steps, breakpoints, out);
+    let mut done = pass_and_step(parts, most, breakpoints, bytes);
+    while may_go_on(done, most, bytes) && !is_met(parts, breakpoints) {
+        let more = pass_and_step(parts, most - done.steps, breakpoints, bytes);
         done = Advanced {
             steps: done.steps + more.steps,
             stop: more.stop,
@@ -55,12 +55,12 @@ pub(crate) fn advance(
 
 // Whether more steps may follow: the machine has not stopped, some are left, and there is room for a byte.
 #[inline(always)]
-fn may_go_on(done: Advanced, most: u64, out: &Output) -> bool
+fn may_go_on(done: Advanced, most: u64, bytes: &Output) -> bool
     ensures goes { result ≡ true → done.stop ≡ None }
     ensures left { result ≡ true → done.steps < most }
-    ensures room { result ≡ true → length out.now < 8192 }
+    ensures room { result ≡ true → length bytes.now < 8192 }
 {
-    done.stop.is_none() && done.steps < most && out.room() > 0
+    done.stop.is_none() && done.steps < most && bytes.room() > 0
 }
 
 // Whether the next instruction is at a breakpoint. Most runs have none, so that is asked first.
@@ -77,17 +77,17 @@ fn pass_and_step(
     parts: &mut BareParts,
     most: u64,
     breakpoints: &[u32],
-    out: &mut Output,
+    bytes: &mut Output,
 ) -> Advanced
     requires sound { IsSound parts.old }
     requires some { 0 < most }
     requires steps { parts.old.step + most ≤ most_steps }
-    requires room { length out.old < 8192 }
+    requires room { length bytes.old < 8192 }
     ensures some { 0 < result.steps }
     ensures most { result.steps ≤ most }
     ensures state { bare_state parts.new result.stop
         ≡ (run result.steps (bare_state parts.old None)).state }
-    ensures bytes { out.new ≡ out.old ++ (run result.steps (bare_state parts.old None)).bytes }
+    ensures bytes { bytes.new ≡ bytes.old ++ (run result.steps (bare_state parts.old None)).bytes }
     ensures last { (run (result.steps - 1) (bare_state parts.old None)).state.stop ≡ None }
     ensures before { Avoids breakpoints.now result.steps (bare_state parts.old None) }
     ensures sound { IsSound parts.new }
@@ -107,7 +107,7 @@ fn pass_and_step(
     if steps > 0 && is_met(parts, breakpoints) {
         return Advanced { steps, stop: None };
     }
-    let stop = next_step(parts, calls, out);
+    let stop = next_step(parts, calls, bytes);
     Advanced {
         steps: steps + 1,
         stop,

@@ -17,37 +17,37 @@ use kernel_model::Stop;
 pub(crate) fn step_or_stay(
     parts: &mut BareParts,
     stop: Option<Stop>,
-    out: &mut Output,
+    bytes: &mut Output,
 ) -> Option<Stop>
     requires sound { IsSound parts.old }
     requires steps { parts.old.step < most_steps }
-    requires empty { out.old ≡ [] }
+    requires empty { bytes.old ≡ [] }
     ensures state { bare_state parts.new result ≡ (step (bare_state parts.old stop)).state }
-    ensures bytes { out.new ≡ (step (bare_state parts.old stop)).bytes }
+    ensures bytes { bytes.new ≡ (step (bare_state parts.old stop)).bytes }
     ensures sound { IsSound parts.new }
 {
     match stop {
         Some(_) => stop,
-        None => step(parts, out),
+        None => step(parts, bytes),
     }
 }
 
 /// One step of a machine that has not stopped, and whether it is known that its instruction is a call, which is not decoded then.
 /// The answer is why it stops in this step, if it does.
-pub(crate) fn next_step(parts: &mut BareParts, calls: bool, out: &mut Output) -> Option<Stop>
+pub(crate) fn next_step(parts: &mut BareParts, calls: bool, bytes: &mut Output) -> Option<Stop>
     requires sound { IsSound parts.old }
     requires steps { parts.old.step < most_steps }
-    requires room { length out.old < 8192 }
+    requires room { length bytes.old < 8192 }
     requires calls { calls ≡ true → (instruction_of (bare_state parts.old None)).outcome ≡ Sys }
     ensures state { bare_state parts.new result ≡ (step (bare_state parts.old None)).state }
-    ensures bytes { out.new ≡ out.old ++ (step (bare_state parts.old None)).bytes }
+    ensures bytes { bytes.new ≡ bytes.old ++ (step (bare_state parts.old None)).bytes }
     ensures sound { IsSound parts.new }
 {
     if !calls {
-        return step(parts, out);
+        return step(parts, bytes);
     }
     parts.step += 1;
-    answer_call(parts, out)
+    answer_call(parts, bytes)
 }
 
 /// One step of a machine that has not stopped, if it is an instruction alone. The answer tells where the instruction may have written;
@@ -73,38 +73,38 @@ pub(crate) fn execute_one(parts: &mut BareParts) -> Option<Places>
 // One step of a machine that has not stopped. The answer is why it stops in this step, if it does.
 #[cold]
 #[inline(never)]
-fn step(parts: &mut BareParts, out: &mut Output) -> Option<Stop>
+fn step(parts: &mut BareParts, bytes: &mut Output) -> Option<Stop>
     requires sound { IsSound parts.old }
     requires steps { parts.old.step < most_steps }
-    requires room { length out.old < 8192 }
+    requires room { length bytes.old < 8192 }
     ensures state { bare_state parts.new result ≡ (step (bare_state parts.old None)).state }
-    ensures bytes { out.new ≡ out.old ++ (step (bare_state parts.old None)).bytes }
+    ensures bytes { bytes.new ≡ bytes.old ++ (step (bare_state parts.old None)).bytes }
     ensures sound { IsSound parts.new }
 {
     parts.step += 1;
     match execute_alone(&mut parts.store, &mut parts.regs, &NoKernel) {
         Outcome::Next => None,
-        Outcome::Sys => answer_call(parts, out),
+        Outcome::Sys => answer_call(parts, bytes),
         Outcome::Returned => Some(Stop::Quit(0)),
         Outcome::Fault(fault) => Some(stop_by(fault)),
     }
 }
 
 // The call of a step that is counted already. The answer is why the machine stops, if it does.
-fn answer_call(parts: &mut BareParts, out: &mut Output) -> Option<Stop>
+fn answer_call(parts: &mut BareParts, bytes: &mut Output) -> Option<Stop>
     requires sound { IsSound parts.old }
-    requires room { length out.old < 8192 }
+    requires room { length bytes.old < 8192 }
     ensures state { let m = bare_state parts.old None in
         bare_state parts.new result ≡ (after_call (call_answer m.words m.regs) m).state }
     ensures bytes { let m = bare_state parts.old None in
-        out.new ≡ out.old ++ (after_call (call_answer m.words m.regs) m).bytes }
+        bytes.new ≡ bytes.old ++ (after_call (call_answer m.words m.regs) m).bytes }
     ensures sound { IsSound parts.new }
 {
     match call(&parts.store, parts.regs) {
         Ok(answer) => {
             parts.regs = answer.regs;
             if let Some(byte) = answer.byte {
-                out.append(&[byte]);
+                bytes.append(&[byte]);
             }
             answer.stop
         }

@@ -42,24 +42,24 @@ pub fn guest_turn<Q: KindKeeper, L: EventLog>(
     store: &mut Store,
     regs: &mut Regs,
     kinds: &mut Q,
-    out: &mut Output,
+    bytes: &mut Output,
     log: &mut L,
 ) -> TurnEnd
     requires byte { regs.old.c < 256 }
     requires caller { (l : Lists)
         × HasKeeper store.old (Q.tells kinds.old) (Q.room kinds.old) l × HasCaller l }
-    requires room_for_byte { length out.old < 8192 }
+    requires room_for_byte { length bytes.old < 8192 }
     ensures turned { (l : Lists) → HasKeeper store.old (Q.tells kinds.old) (Q.room kinds.old) l
         → HasCaller l
         → IsTurned store.new regs.new (Q.tells kinds.new)
-        (outside out.old (L.noted log.old) (L.has_failed log.old))
-        (outside out.new (L.noted log.new) (L.has_failed log.new))
+        (outside bytes.old (L.noted log.old) (L.has_failed log.old))
+        (outside bytes.new (L.noted log.new) (L.has_failed log.new))
         result (turn_without_reporter store.old l regs.old) }
     ensures room { Q.room kinds.new ≡ Q.room kinds.old }
 {
     match execute_guest(store, regs, kinds) {
         Outcome::Next => TurnEnd::Goes,
-        Outcome::Sys => make_call(store, regs, kinds, out, log),
+        Outcome::Sys => make_call(store, regs, kinds, bytes, log),
         Outcome::Returned => {
             end_function(store, regs);
             TurnEnd::Goes
@@ -73,22 +73,22 @@ fn make_call<Q: KindKeeper, L: EventLog>(
     store: &mut Store,
     regs: &mut Regs,
     kinds: &mut Q,
-    out: &mut Output,
+    bytes: &mut Output,
     log: &mut L,
 ) -> TurnEnd
     requires caller { (l : Lists)
         × HasKeeper store.old (Q.tells kinds.old) (Q.room kinds.old) l × HasCaller l }
-    requires room_for_byte { length out.old < 8192 }
+    requires room_for_byte { length bytes.old < 8192 }
     ensures turned { (l : Lists) → HasKeeper store.old (Q.tells kinds.old) (Q.room kinds.old) l
         → HasCaller l
         → IsTurned store.new regs.new (Q.tells kinds.new)
-        (outside out.old (L.noted log.old) (L.has_failed log.old))
-        (outside out.new (L.noted log.new) (L.has_failed log.new))
+        (outside bytes.old (L.noted log.old) (L.has_failed log.old))
+        (outside bytes.new (L.noted log.new) (L.has_failed log.new))
         result (called store.old regs.old.pc (kernel_call store.old l regs.old)) }
     ensures room { Q.room kinds.new ≡ Q.room kinds.old }
 {
     let place = regs.pc;
-    let outcome = call(store, regs, kinds, out, log);
+    let outcome = call(store, regs, kinds, bytes, log);
     end_of_call(place, outcome)
 }
 

@@ -29,24 +29,24 @@ pub fn call<Q: KindKeeper, L: EventLog>(
     store: &mut Store,
     regs: &mut Regs,
     kinds: &mut Q,
-    out: &mut Output,
+    bytes: &mut Output,
     log: &mut L,
 ) -> CallOutcome
     requires caller { (l : Lists)
         × HasKeeper store.old (Q.tells kinds.old) (Q.room kinds.old) l × HasCaller l }
-    requires room_for_byte { length out.old < 8192 }
+    requires room_for_byte { length bytes.old < 8192 }
     ensures called { (l : Lists) → HasKeeper store.old (Q.tells kinds.old) (Q.room kinds.old) l
         → HasCaller l
         → IsCalled store.old store.new regs.new (Q.tells kinds.new)
-        (outside out.old (L.noted log.old) (L.has_failed log.old))
-        (outside out.new (L.noted log.new) (L.has_failed log.new))
+        (outside bytes.old (L.noted log.old) (L.has_failed log.old))
+        (outside bytes.new (L.noted log.new) (L.has_failed log.new))
         result (kernel_call store.old l regs.old) }
     ensures room { Q.room kinds.new ≡ Q.room kinds.old }
 {
     match read_call(store, *regs) {
         Ok(call) => {
             regs.pc = add(regs.pc, 1);
-            make(store, regs, kinds, out, log, call)
+            make(store, regs, kinds, bytes, log, call)
         }
         Err(end) => end,
     }
@@ -57,18 +57,18 @@ fn make<Q: KindKeeper, L: EventLog>(
     store: &mut Store,
     regs: &mut Regs,
     kinds: &mut Q,
-    out: &mut Output,
+    bytes: &mut Output,
     log: &mut L,
     call: KernelCall,
 ) -> CallOutcome
     requires caller { (l : Lists)
         × HasKeeper store.old (Q.tells kinds.old) (Q.room kinds.old) l × HasCaller l }
-    requires room_for_byte { length out.old < 8192 }
+    requires room_for_byte { length bytes.old < 8192 }
     ensures called { (l : Lists) → HasKeeper store.old (Q.tells kinds.old) (Q.room kinds.old) l
         → HasCaller l
         → IsCalled store.old store.new regs.new (Q.tells kinds.new)
-        (outside out.old (L.noted log.old) (L.has_failed log.old))
-        (outside out.new (L.noted log.new) (L.has_failed log.new))
+        (outside bytes.old (L.noted log.old) (L.has_failed log.old))
+        (outside bytes.new (L.noted log.new) (L.has_failed log.new))
         result (made store.old l regs.old call) }
     ensures room { Q.room kinds.new ≡ Q.room kinds.old }
 {
@@ -114,7 +114,7 @@ fn make<Q: KindKeeper, L: EventLog>(
             go_on(regs, switch)
         }
         KernelCall::Wrch { character } => {
-            out.append(&[(character % 256) as u8]);
+            bytes.append(&[(character % 256) as u8]);
             answer(regs, Ok(character))
         }
         KernelCall::MulDiv { a, b, c } => {

@@ -17,13 +17,13 @@ const BYTE: u32 = FIRST;
 
 /// Serves the first packet that waits for the output device, where one does: the lowest byte of its word 5 goes to the output,
 /// and the packet is returned from -3 with the results 0 and 0.
-pub fn finish_output<L: EventLog>(store: &mut Store, out: &mut Output, log: &mut L)
+pub fn finish_output<L: EventLog>(store: &mut Store, bytes: &mut Output, log: &mut L)
     requires lists { (l : Lists) × HoldsLists store.old l }
-    requires room { length out.old < 8192 }
+    requires room { length bytes.old < 8192 }
     ensures lists { (l : Lists) → HoldsLists store.old l
         → IsServed store.old store.new l (finished l) }
-    ensures out { (l : Lists) → HoldsLists store.old l
-        → out.new ≡ out.old ++ printed store.old l.output }
+    ensures bytes { (l : Lists) → HoldsLists store.old l
+        → bytes.new ≡ bytes.old ++ printed store.old l.output }
     ensures notes { (l : Lists) → HoldsLists store.old l
         → LogsAll L.EventLog log.old log.new (finished l).events }
 {
@@ -31,6 +31,6 @@ pub fn finish_output<L: EventLog>(store: &mut Store, out: &mut Output, log: &mut
     if p == 0 {
         return;
     }
-    out.append(&[(word_at(store, p, BYTE) % 256) as u8]);
+    bytes.append(&[(word_at(store, p, BYTE) % 256) as u8]);
     return_first(store, Device::Output, 0, log);
 }

@@ -26,27 +26,27 @@ pub(crate) fn execute_line<Q: KindKeeper, L: EventLog>(
     disc: &mut Disc,
     store: &mut Store,
     kinds: &mut Q,
-    out: &mut Output,
+    bytes: &mut Output,
     log: &mut L,
 ) -> bool
-    requires room { length out.old + most_shown ≤ 8192 }
+    requires room { length bytes.old + most_shown ≤ 8192 }
     requires valid { IsDisc disc.old }
     requires closed { stream_at disc.old shell_stream ≡ None }
     requires ready { (b : Start) × (x : ShellTurn)
         × IsReady b store.old (Q.tells kinds.old) (Q.room kinds.old)
-        (outside out.old (L.noted log.old) (L.has_failed log.old)) state.old disc.old x }
+        (outside bytes.old (L.noted log.old) (L.has_failed log.old)) state.old disc.old x }
     ensures done { (b : Start) (x : ShellTurn)
         → IsReady b store.old (Q.tells kinds.old) (Q.room kinds.old)
-        (outside out.old (L.noted log.old) (L.has_failed log.old)) state.old disc.old x
+        (outside bytes.old (L.noted log.old) (L.has_failed log.old)) state.old disc.old x
         → IsDone b store.new (Q.tells kinds.new) (Q.room kinds.new)
-        (outside out.new (L.noted log.new) (L.has_failed log.new)) state.new disc.new result
+        (outside bytes.new (L.noted log.new) (L.has_failed log.new)) state.new disc.new result
         (line_executed x) }
-    ensures short { length out.new ≤ length out.old + most_shown }
+    ensures short { length bytes.new ≤ length bytes.old + most_shown }
 {
     match read_command(state.line()) {
-        Ok(command) => execute(command, state, disc, store, kinds, out, log),
+        Ok(command) => execute(command, state, disc, store, kinds, bytes, log),
         Err(code) => {
-            refuse(code, state, store, kinds, out, log);
+            refuse(code, state, store, kinds, bytes, log);
             false
         }
     }
@@ -59,48 +59,62 @@ fn execute<Q: KindKeeper, L: EventLog>(
     disc: &mut Disc,
     store: &mut Store,
     kinds: &mut Q,
-    out: &mut Output,
+    bytes: &mut Output,
     log: &mut L,
 ) -> bool
-    requires room { length out.old + most_shown ≤ 8192 }
+    requires room { length bytes.old + most_shown ≤ 8192 }
     requires valid { IsDisc disc.old }
     requires closed { stream_at disc.old shell_stream ≡ None }
     requires ready { (b : Start) × (x : ShellTurn)
         × IsReady b store.old (Q.tells kinds.old) (Q.room kinds.old)
-        (outside out.old (L.noted log.old) (L.has_failed log.old)) state.old disc.old x }
+        (outside bytes.old (L.noted log.old) (L.has_failed log.old)) state.old disc.old x }
     ensures done { (b : Start) (x : ShellTurn)
         → IsReady b store.old (Q.tells kinds.old) (Q.room kinds.old)
-        (outside out.old (L.noted log.old) (L.has_failed log.old)) state.old disc.old x
+        (outside bytes.old (L.noted log.old) (L.has_failed log.old)) state.old disc.old x
         → IsDone b store.new (Q.tells kinds.new) (Q.room kinds.new)
-        (outside out.new (L.noted log.new) (L.has_failed log.new)) state.new disc.new result
+        (outside bytes.new (L.noted log.new) (L.has_failed log.new)) state.new disc.new result
         (executed command x) }
-    ensures short { length out.new ≤ length out.old + most_shown }
+    ensures short { length bytes.new ≤ length bytes.old + most_shown }
 {
     match command {
-        Command::Nothing => prompt(state, store, kinds, out, log),
-        Command::Type(name) => type_file(&name, state, disc, store, kinds, out, log),
-        Command::Examine => list_files(state, disc, store, kinds, out, log),
-        Command::Delete(name) => answer(disc.delete(&name), state, store, kinds, out, log),
+        Command::Nothing => prompt(state, store, kinds, bytes, log),
+        Command::Type(name) => type_file(&name, state, disc, store, kinds, bytes, log),
+        Command::Examine => list_files(state, disc, store, kinds, bytes, log),
+        Command::Delete(name) => answer(disc.delete(&name), state, store, kinds, bytes, log),
         Command::Rename { from, to } => {
-            answer(disc.rename(&from, &to), state, store, kinds, out, log);
+            answer(disc.rename(&from, &to), state, store, kinds, bytes, log);
         }
-        Command::Status => list_tasks(state, store, kinds, out, log),
-        Command::Map => count_blocks(state, store, kinds, out, log),
-        Command::Hold(task) => answer(hold_task(store, task), state, store, kinds, out, log),
-        Command::Release(task) => answer(release_task(store, task), state, store, kinds, out, log),
+        Command::Status => list_tasks(state, store, kinds, bytes, log),
+        Command::Map => count_blocks(state, store, kinds, bytes, log),
+        Command::Hold(task) => answer(hold_task(store, task), state, store, kinds, bytes, log),
+        Command::Release(task) => answer(
+            release_task(store, task),
+            state,
+            store,
+            kinds,
+            bytes,
+            log,
+        ),
         Command::ChangePriority { task, priority } => {
             let outcome = change_pri(store, task, priority);
-            answer(outcome, state, store, kinds, out, log);
+            answer(outcome, state, store, kinds, bytes, log);
         }
         Command::Break { task, flags } => {
-            answer(set_flags(store, task, flags), state, store, kinds, out, log);
+            answer(
+                set_flags(store, task, flags),
+                state,
+                store,
+                kinds,
+                bytes,
+                log,
+            );
         }
         Command::Run { program, priority } => {
-            run(&program, priority, state, disc, store, kinds, out, log);
+            run(&program, priority, state, disc, store, kinds, bytes, log);
         }
         Command::Finish => return true,
         Command::Start { program, rest } => {
-            start(&program, rest, state, disc, store, kinds, out, log);
+            start(&program, rest, state, disc, store, kinds, bytes, log);
         }
     }
     false

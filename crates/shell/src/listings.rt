@@ -22,24 +22,24 @@ pub(crate) fn list_files<Q: KindKeeper, L: EventLog>(
     disc: &Disc,
     store: &mut Store,
     kinds: &mut Q,
-    out: &mut Output,
+    bytes: &mut Output,
     log: &mut L,
 )
     requires valid { IsDisc disc.now }
-    requires room { length out.old + most_shown ≤ 8192 }
+    requires room { length bytes.old + most_shown ≤ 8192 }
     requires ready { (b : Start) × (x : ShellTurn)
         × IsReady b store.old (Q.tells kinds.old) (Q.room kinds.old)
-        (outside out.old (L.noted log.old) (L.has_failed log.old)) state.old disc.now x }
+        (outside bytes.old (L.noted log.old) (L.has_failed log.old)) state.old disc.now x }
     ensures done { (b : Start) (x : ShellTurn)
         → IsReady b store.old (Q.tells kinds.old) (Q.room kinds.old)
-        (outside out.old (L.noted log.old) (L.has_failed log.old)) state.old disc.now x
+        (outside bytes.old (L.noted log.old) (L.has_failed log.old)) state.old disc.now x
         → IsDone b store.new (Q.tells kinds.new) (Q.room kinds.new)
-        (outside out.new (L.noted log.new) (L.has_failed log.new)) state.new disc.now false
+        (outside bytes.new (L.noted log.new) (L.has_failed log.new)) state.new disc.now false
         (executed Examine x) }
-    ensures short { length out.new ≤ length out.old + most_shown }
+    ensures short { length bytes.new ≤ length bytes.old + most_shown }
 {
-    write_files(disc, out);
-    prompt(state, store, kinds, out, log);
+    write_files(disc, bytes);
+    prompt(state, store, kinds, bytes, log);
 }
 
 /// Lists the tasks.
@@ -47,23 +47,23 @@ pub(crate) fn list_tasks<Q: KindKeeper, L: EventLog>(
     state: &mut ShellState,
     store: &mut Store,
     kinds: &mut Q,
-    out: &mut Output,
+    bytes: &mut Output,
     log: &mut L,
 )
-    requires room { length out.old + most_shown ≤ 8192 }
+    requires room { length bytes.old + most_shown ≤ 8192 }
     requires ready { (b : Start) × (d : Disc) × (x : ShellTurn)
         × IsReady b store.old (Q.tells kinds.old) (Q.room kinds.old)
-        (outside out.old (L.noted log.old) (L.has_failed log.old)) state.old d x }
+        (outside bytes.old (L.noted log.old) (L.has_failed log.old)) state.old d x }
     ensures done { (b : Start) (d : Disc) (x : ShellTurn)
         → IsReady b store.old (Q.tells kinds.old) (Q.room kinds.old)
-        (outside out.old (L.noted log.old) (L.has_failed log.old)) state.old d x
+        (outside bytes.old (L.noted log.old) (L.has_failed log.old)) state.old d x
         → IsDone b store.new (Q.tells kinds.new) (Q.room kinds.new)
-        (outside out.new (L.noted log.new) (L.has_failed log.new)) state.new d false
+        (outside bytes.new (L.noted log.new) (L.has_failed log.new)) state.new d false
         (executed Status x) }
-    ensures short { length out.new ≤ length out.old + most_shown }
+    ensures short { length bytes.new ≤ length bytes.old + most_shown }
 {
-    write_tasks(store, out);
-    prompt(state, store, kinds, out, log);
+    write_tasks(store, bytes);
+    prompt(state, store, kinds, bytes, log);
 }
 
 /// Counts the blocks and their words.
@@ -71,21 +71,21 @@ pub(crate) fn count_blocks<Q: KindKeeper, L: EventLog>(
     state: &mut ShellState,
     store: &mut Store,
     kinds: &mut Q,
-    out: &mut Output,
+    bytes: &mut Output,
     log: &mut L,
 )
-    requires room { length out.old + most_shown ≤ 8192 }
+    requires room { length bytes.old + most_shown ≤ 8192 }
     requires ready { (b : Start) × (d : Disc) × (x : ShellTurn)
         × IsReady b store.old (Q.tells kinds.old) (Q.room kinds.old)
-        (outside out.old (L.noted log.old) (L.has_failed log.old)) state.old d x }
+        (outside bytes.old (L.noted log.old) (L.has_failed log.old)) state.old d x }
     ensures done { (b : Start) (d : Disc) (x : ShellTurn)
         → IsReady b store.old (Q.tells kinds.old) (Q.room kinds.old)
-        (outside out.old (L.noted log.old) (L.has_failed log.old)) state.old d x
+        (outside bytes.old (L.noted log.old) (L.has_failed log.old)) state.old d x
         → IsDone b store.new (Q.tells kinds.new) (Q.room kinds.new)
-        (outside out.new (L.noted log.new) (L.has_failed log.new)) state.new d false
+        (outside bytes.new (L.noted log.new) (L.has_failed log.new)) state.new d false
         (executed Map x) }
-    ensures short { length out.new ≤ length out.old + most_shown }
+    ensures short { length bytes.new ≤ length bytes.old + most_shown }
 {
-    write_blocks(store, out);
-    prompt(state, store, kinds, out, log);
+    write_blocks(store, bytes);
+    prompt(state, store, kinds, bytes, log);
 }

@@ -29,29 +29,29 @@ pub(crate) fn run<Q: KindKeeper, L: EventLog>(
     disc: &Disc,
     store: &mut Store,
     kinds: &mut Q,
-    out: &mut Output,
+    bytes: &mut Output,
     log: &mut L,
 )
-    requires room { length out.old + 32 ≤ 8192 }
+    requires room { length bytes.old + 32 ≤ 8192 }
     requires ready { (b : Start) × (x : ShellTurn)
         × IsReady b store.old (Q.tells kinds.old) (Q.room kinds.old)
-        (outside out.old (L.noted log.old) (L.has_failed log.old)) state.old disc.now x }
+        (outside bytes.old (L.noted log.old) (L.has_failed log.old)) state.old disc.now x }
     ensures done { (b : Start) (x : ShellTurn)
         → IsReady b store.old (Q.tells kinds.old) (Q.room kinds.old)
-        (outside out.old (L.noted log.old) (L.has_failed log.old)) state.old disc.now x
+        (outside bytes.old (L.noted log.old) (L.has_failed log.old)) state.old disc.now x
         → IsDone b store.new (Q.tells kinds.new) (Q.room kinds.new)
-        (outside out.new (L.noted log.new) (L.has_failed log.new)) state.new disc.now false
+        (outside bytes.new (L.noted log.new) (L.has_failed log.new)) state.new disc.now false
         (run program.now priority x) }
-    ensures short { length out.new ≤ length out.old + 32 }
+    ensures short { length bytes.new ≤ length bytes.old + 32 }
 {
     let priority = run_priority(priority);
     match start_program(store, kinds, disc, program, Ok(()), priority) {
         Ok(id) => {
             begin_task(store, id);
-            write_task_number(id, out);
-            prompt(state, store, kinds, out, log);
+            write_task_number(id, bytes);
+            prompt(state, store, kinds, bytes, log);
         }
-        Err(code) => refuse(code, state, store, kinds, out, log),
+        Err(code) => refuse(code, state, store, kinds, bytes, log),
     }
 }
 
@@ -74,26 +74,26 @@ pub(crate) fn start<Q: KindKeeper, L: EventLog>(
     disc: &Disc,
     store: &mut Store,
     kinds: &mut Q,
-    out: &mut Output,
+    bytes: &mut Output,
     log: &mut L,
 )
-    requires room { length out.old + 32 ≤ 8192 }
+    requires room { length bytes.old + 32 ≤ 8192 }
     requires ready { (b : Start) × (x : ShellTurn)
         × IsReady b store.old (Q.tells kinds.old) (Q.room kinds.old)
-        (outside out.old (L.noted log.old) (L.has_failed log.old)) state.old disc.now x }
+        (outside bytes.old (L.noted log.old) (L.has_failed log.old)) state.old disc.now x }
     ensures done { (b : Start) (x : ShellTurn)
         → IsReady b store.old (Q.tells kinds.old) (Q.room kinds.old)
-        (outside out.old (L.noted log.old) (L.has_failed log.old)) state.old disc.now x
+        (outside bytes.old (L.noted log.old) (L.has_failed log.old)) state.old disc.now x
         → IsDone b store.new (Q.tells kinds.new) (Q.room kinds.new)
-        (outside out.new (L.noted log.new) (L.has_failed log.new)) state.new disc.now false
+        (outside bytes.new (L.noted log.new) (L.has_failed log.new)) state.new disc.now false
         (start program.now rest x) }
-    ensures short { length out.new ≤ length out.old + 32 }
+    ensures short { length bytes.new ≤ length bytes.old + 32 }
 {
     match start_program(store, kinds, disc, program, rest, Priority::AboveShell) {
         Ok(id) => {
             send_shell_packet(store, kinds, id, PROGRAM_REQUEST, log);
             state.set_mode(Mode::Waiting(id));
         }
-        Err(code) => refuse(code, state, store, kinds, out, log),
+        Err(code) => refuse(code, state, store, kinds, bytes, log),
     }
 }

@@ -24,22 +24,22 @@ pub(crate) fn prompt<Q: KindKeeper, L: EventLog>(
     state: &mut ShellState,
     store: &mut Store,
     kinds: &mut Q,
-    out: &mut Output,
+    bytes: &mut Output,
     log: &mut L,
 )
-    requires room { length out.old + 2 ≤ 8192 }
+    requires room { length bytes.old + 2 ≤ 8192 }
     requires ready { (b : Start) × (d : Disc) × (x : ShellTurn)
         × IsReady b store.old (Q.tells kinds.old) (Q.room kinds.old)
-        (outside out.old (L.noted log.old) (L.has_failed log.old)) state.old d x }
+        (outside bytes.old (L.noted log.old) (L.has_failed log.old)) state.old d x }
     ensures done { (b : Start) (d : Disc) (x : ShellTurn)
         → IsReady b store.old (Q.tells kinds.old) (Q.room kinds.old)
-        (outside out.old (L.noted log.old) (L.has_failed log.old)) state.old d x
+        (outside bytes.old (L.noted log.old) (L.has_failed log.old)) state.old d x
         → IsDone b store.new (Q.tells kinds.new) (Q.room kinds.new)
-        (outside out.new (L.noted log.new) (L.has_failed log.new)) state.new d false
+        (outside bytes.new (L.noted log.new) (L.has_failed log.new)) state.new d false
         (prompted x) }
-    ensures short { length out.new ≤ length out.old + 2 }
+    ensures short { length bytes.new ≤ length bytes.old + 2 }
 {
-    out.append(PROMPT);
+    bytes.append(PROMPT);
     send_shell_packet(store, kinds, CONSOLE, READ_LINE, log);
     state.set_mode(Mode::Reading);
 }
@@ -50,23 +50,23 @@ pub(crate) fn refuse<Q: KindKeeper, L: EventLog>(
     state: &mut ShellState,
     store: &mut Store,
     kinds: &mut Q,
-    out: &mut Output,
+    bytes: &mut Output,
     log: &mut L,
 )
-    requires room { length out.old + 32 ≤ 8192 }
+    requires room { length bytes.old + 32 ≤ 8192 }
     requires ready { (b : Start) × (d : Disc) × (x : ShellTurn)
         × IsReady b store.old (Q.tells kinds.old) (Q.room kinds.old)
-        (outside out.old (L.noted log.old) (L.has_failed log.old)) state.old d x }
+        (outside bytes.old (L.noted log.old) (L.has_failed log.old)) state.old d x }
     ensures done { (b : Start) (d : Disc) (x : ShellTurn)
         → IsReady b store.old (Q.tells kinds.old) (Q.room kinds.old)
-        (outside out.old (L.noted log.old) (L.has_failed log.old)) state.old d x
+        (outside bytes.old (L.noted log.old) (L.has_failed log.old)) state.old d x
         → IsDone b store.new (Q.tells kinds.new) (Q.room kinds.new)
-        (outside out.new (L.noted log.new) (L.has_failed log.new)) state.new d false
+        (outside bytes.new (L.noted log.new) (L.has_failed log.new)) state.new d false
         (refused code x) }
-    ensures short { length out.new ≤ length out.old + 32 }
+    ensures short { length bytes.new ≤ length bytes.old + 32 }
 {
-    write_error(code, out);
-    prompt(state, store, kinds, out, log);
+    write_error(code, bytes);
+    prompt(state, store, kinds, bytes, log);
 }
 
 /// Prompts after a command that was done; after one that was refused it writes the code before.
@@ -75,23 +75,23 @@ pub(crate) fn answer<Q: KindKeeper, L: EventLog>(
     state: &mut ShellState,
     store: &mut Store,
     kinds: &mut Q,
-    out: &mut Output,
+    bytes: &mut Output,
     log: &mut L,
 )
-    requires room { length out.old + 32 ≤ 8192 }
+    requires room { length bytes.old + 32 ≤ 8192 }
     requires ready { (b : Start) × (d : Disc) × (x : ShellTurn)
         × IsReady b store.old (Q.tells kinds.old) (Q.room kinds.old)
-        (outside out.old (L.noted log.old) (L.has_failed log.old)) state.old d x }
+        (outside bytes.old (L.noted log.old) (L.has_failed log.old)) state.old d x }
     ensures done { (b : Start) (d : Disc) (x : ShellTurn)
         → IsReady b store.old (Q.tells kinds.old) (Q.room kinds.old)
-        (outside out.old (L.noted log.old) (L.has_failed log.old)) state.old d x
+        (outside bytes.old (L.noted log.old) (L.has_failed log.old)) state.old d x
         → IsDone b store.new (Q.tells kinds.new) (Q.room kinds.new)
-        (outside out.new (L.noted log.new) (L.has_failed log.new)) state.new d false
+        (outside bytes.new (L.noted log.new) (L.has_failed log.new)) state.new d false
         (answered outcome x) }
-    ensures short { length out.new ≤ length out.old + 32 }
+    ensures short { length bytes.new ≤ length bytes.old + 32 }
 {
     match outcome {
-        Ok(()) => prompt(state, store, kinds, out, log),
-        Err(code) => refuse(code, state, store, kinds, out, log),
+        Ok(()) => prompt(state, store, kinds, bytes, log),
+        Err(code) => refuse(code, state, store, kinds, bytes, log),
     }
 }

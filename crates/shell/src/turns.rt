@@ -36,19 +36,19 @@ pub fn shell_turn<Q: KindKeeper, L: EventLog>(
     disc: &mut Disc,
     store: &mut Store,
     kinds: &mut Q,
-    out: &mut Output,
+    bytes: &mut Output,
     log: &mut L,
 ) -> bool
-    requires empty { out.old ≡ [] }
+    requires empty { bytes.old ≡ [] }
     requires shell { (l : Lists) × HasKeeper store.old (Q.tells kinds.old) (Q.room kinds.old) l
         × RunsShell l state.old disc.old }
     ensures turn { (l : Lists) → HasKeeper store.old (Q.tells kinds.old) (Q.room kinds.old) l
         → RunsShell l state.old disc.old
         → IsShellTurn store.new (Q.tells kinds.new) (Q.room kinds.new)
-        (outside out.old (L.noted log.old) (L.has_failed log.old))
-        (outside out.new (L.noted log.new) (L.has_failed log.new)) state.new disc.new result
+        (outside bytes.old (L.noted log.old) (L.has_failed log.old))
+        (outside bytes.new (L.noted log.new) (L.has_failed log.new)) state.new disc.new result
         (shell_turn store.old l state.old disc.old) }
-    ensures short { length out.new ≤ most_shown }
+    ensures short { length bytes.new ≤ most_shown }
     ensures room { Q.room kinds.new ≡ Q.room kinds.old }
 {
     let Some(_) = first_packet(store) else {
@@ -56,7 +56,7 @@ pub fn shell_turn<Q: KindKeeper, L: EventLog>(
         return false;
     };
     clear_up(store, kinds);
-    if treat_first(state, disc, store, kinds, out, log) {
+    if treat_first(state, disc, store, kinds, bytes, log) {
         return true;
     }
     finish_turn(store);
@@ -69,22 +69,22 @@ fn treat_first<Q: KindKeeper, L: EventLog>(
     disc: &mut Disc,
     store: &mut Store,
     kinds: &mut Q,
-    out: &mut Output,
+    bytes: &mut Output,
     log: &mut L,
 ) -> bool
-    requires empty { out.old ≡ [] }
+    requires empty { bytes.old ≡ [] }
     requires valid { IsDisc disc.old }
     requires typing { is_some (stream_at disc.old shell_stream) ≡ is_typing state.old.mode }
     requires done { (b : Start) × (x : ShellTurn)
         × IsDone b store.old (Q.tells kinds.old) (Q.room kinds.old)
-        (outside out.old (L.noted log.old) (L.has_failed log.old)) state.old disc.old false x }
+        (outside bytes.old (L.noted log.old) (L.has_failed log.old)) state.old disc.old false x }
     ensures done { (b : Start) (x : ShellTurn)
         → IsDone b store.old (Q.tells kinds.old) (Q.room kinds.old)
-        (outside out.old (L.noted log.old) (L.has_failed log.old)) state.old disc.old false x
+        (outside bytes.old (L.noted log.old) (L.has_failed log.old)) state.old disc.old false x
         → IsDone b store.new (Q.tells kinds.new) (Q.room kinds.new)
-        (outside out.new (L.noted log.new) (L.has_failed log.new)) state.new disc.new result
+        (outside bytes.new (L.noted log.new) (L.has_failed log.new)) state.new disc.new result
         (first_treated x) }
-    ensures short { length out.new ≤ length out.old + most_shown }
+    ensures short { length bytes.new ≤ length bytes.old + most_shown }
 {
     let Some(request) = take_request(store, kinds, log) else {
         return false;
@@ -93,7 +93,7 @@ fn treat_first<Q: KindKeeper, L: EventLog>(
         return_request(store, kinds, request, SHELL as i32, Err(UNKNOWN_TYPE), log);
         return false;
     }
-    treat_own(request, state, disc, store, kinds, out, log)
+    treat_own(request, state, disc, store, kinds, bytes, log)
 }
 
 // Does what the shell's mode says of its own packet. The answer is whether the machine is finished.
@@ -103,33 +103,33 @@ fn treat_own<Q: KindKeeper, L: EventLog>(
     disc: &mut Disc,
     store: &mut Store,
     kinds: &mut Q,
-    out: &mut Output,
+    bytes: &mut Output,
     log: &mut L,
 ) -> bool
-    requires empty { out.old ≡ [] }
+    requires empty { bytes.old ≡ [] }
     requires valid { IsDisc disc.old }
     requires typing { is_some (stream_at disc.old shell_stream) ≡ is_typing state.old.mode }
     requires ready { (b : Start) × (x : ShellTurn)
         × IsReady b store.old (Q.tells kinds.old) (Q.room kinds.old)
-        (outside out.old (L.noted log.old) (L.has_failed log.old)) state.old disc.old x }
+        (outside bytes.old (L.noted log.old) (L.has_failed log.old)) state.old disc.old x }
     ensures done { (b : Start) (x : ShellTurn)
         → IsReady b store.old (Q.tells kinds.old) (Q.room kinds.old)
-        (outside out.old (L.noted log.old) (L.has_failed log.old)) state.old disc.old x
+        (outside bytes.old (L.noted log.old) (L.has_failed log.old)) state.old disc.old x
         → IsDone b store.new (Q.tells kinds.new) (Q.room kinds.new)
-        (outside out.new (L.noted log.new) (L.has_failed log.new)) state.new disc.new result
+        (outside bytes.new (L.noted log.new) (L.has_failed log.new)) state.new disc.new result
         (treated_in state.old.mode request x) }
-    ensures short { length out.new ≤ length out.old + most_shown }
+    ensures short { length bytes.new ≤ length bytes.old + most_shown }
 {
     match state.mode() {
-        Mode::Prompt => prompt(state, store, kinds, out, log),
+        Mode::Prompt => prompt(state, store, kinds, bytes, log),
         Mode::Reading => {
             if request.sender == CONSOLE {
-                return execute_line(state, disc, store, kinds, out, log);
+                return execute_line(state, disc, store, kinds, bytes, log);
             }
-            prompt(state, store, kinds, out, log);
+            prompt(state, store, kinds, bytes, log);
         }
-        Mode::Waiting(_) => end_program(state, store, kinds, out, log),
-        Mode::Typing => type_on(state, disc, store, kinds, out, log),
+        Mode::Waiting(_) => end_program(state, store, kinds, bytes, log),
+        Mode::Typing => type_on(state, disc, store, kinds, bytes, log),
     }
     false
 }
@@ -139,33 +139,33 @@ fn end_program<Q: KindKeeper, L: EventLog>(
     state: &mut ShellState,
     store: &mut Store,
     kinds: &mut Q,
-    out: &mut Output,
+    bytes: &mut Output,
     log: &mut L,
 )
-    requires empty { out.old ≡ [] }
+    requires empty { bytes.old ≡ [] }
     requires ready { (b : Start) × (d : Disc) × (x : ShellTurn)
         × IsReady b store.old (Q.tells kinds.old) (Q.room kinds.old)
-        (outside out.old (L.noted log.old) (L.has_failed log.old)) state.old d x }
+        (outside bytes.old (L.noted log.old) (L.has_failed log.old)) state.old d x }
     ensures done { (b : Start) (d : Disc) (x : ShellTurn)
         → IsReady b store.old (Q.tells kinds.old) (Q.room kinds.old)
-        (outside out.old (L.noted log.old) (L.has_failed log.old)) state.old d x
+        (outside bytes.old (L.noted log.old) (L.has_failed log.old)) state.old d x
         → IsDone b store.new (Q.tells kinds.new) (Q.room kinds.new)
-        (outside out.new (L.noted log.new) (L.has_failed log.new)) state.new d false
+        (outside bytes.new (L.noted log.new) (L.has_failed log.new)) state.new d false
         (program_ended x) }
-    ensures short { length out.new ≤ length out.old + most_shown }
+    ensures short { length bytes.new ≤ length bytes.old + most_shown }
 {
-    write_result(word_at(store, SHELL_PACKET, RES1), out);
-    prompt(state, store, kinds, out, log);
+    write_result(word_at(store, SHELL_PACKET, RES1), bytes);
+    prompt(state, store, kinds, bytes, log);
 }
 
 // Writes what a program has given back, unless it is 0.
-fn write_result(given: u32, out: &mut Output)
-    requires { length out.old + 32 ≤ 8192 }
-    ensures text { out.new ≡ out.old ++ return_code given }
-    ensures short { length out.new ≤ length out.old + 32 }
+fn write_result(given: u32, bytes: &mut Output)
+    requires { length bytes.old + 32 ≤ 8192 }
+    ensures text { bytes.new ≡ bytes.old ++ return_code given }
+    ensures short { length bytes.new ≤ length bytes.old + 32 }
 {
     if given == 0 {
         return;
     }
-    write_return_code(given, out);
+    write_return_code(given, bytes);
 }

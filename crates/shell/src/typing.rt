@@ -29,25 +29,25 @@ pub(crate) fn type_file<Q: KindKeeper, L: EventLog>(
     disc: &mut Disc,
     store: &mut Store,
     kinds: &mut Q,
-    out: &mut Output,
+    bytes: &mut Output,
     log: &mut L,
 )
-    requires room { length out.old + 600 ≤ 8192 }
+    requires room { length bytes.old + 600 ≤ 8192 }
     requires closed { stream_at disc.old shell_stream ≡ None }
     requires ready { (b : Start) × (x : ShellTurn)
         × IsReady b store.old (Q.tells kinds.old) (Q.room kinds.old)
-        (outside out.old (L.noted log.old) (L.has_failed log.old)) state.old disc.old x }
+        (outside bytes.old (L.noted log.old) (L.has_failed log.old)) state.old disc.old x }
     ensures done { (b : Start) (x : ShellTurn)
         → IsReady b store.old (Q.tells kinds.old) (Q.room kinds.old)
-        (outside out.old (L.noted log.old) (L.has_failed log.old)) state.old disc.old x
+        (outside bytes.old (L.noted log.old) (L.has_failed log.old)) state.old disc.old x
         → IsDone b store.new (Q.tells kinds.new) (Q.room kinds.new)
-        (outside out.new (L.noted log.new) (L.has_failed log.new)) state.new disc.new false
+        (outside bytes.new (L.noted log.new) (L.has_failed log.new)) state.new disc.new false
         (with_file_typed name.now x) }
-    ensures short { length out.new ≤ length out.old + 600 }
+    ensures short { length bytes.new ≤ length bytes.old + 600 }
 {
     match disc.open_read(name, true) {
-        Ok(_) => type_on(state, disc, store, kinds, out, log),
-        Err(code) => refuse(code, state, store, kinds, out, log),
+        Ok(_) => type_on(state, disc, store, kinds, bytes, log),
+        Err(code) => refuse(code, state, store, kinds, bytes, log),
     }
 }
 
@@ -57,40 +57,40 @@ pub(crate) fn type_on<Q: KindKeeper, L: EventLog>(
     disc: &mut Disc,
     store: &mut Store,
     kinds: &mut Q,
-    out: &mut Output,
+    bytes: &mut Output,
     log: &mut L,
 )
-    requires room { length out.old + 600 ≤ 8192 }
+    requires room { length bytes.old + 600 ≤ 8192 }
     requires ready { (b : Start) × (x : ShellTurn)
         × IsReady b store.old (Q.tells kinds.old) (Q.room kinds.old)
-        (outside out.old (L.noted log.old) (L.has_failed log.old)) state.old disc.old x }
+        (outside bytes.old (L.noted log.old) (L.has_failed log.old)) state.old disc.old x }
     ensures done { (b : Start) (x : ShellTurn)
         → IsReady b store.old (Q.tells kinds.old) (Q.room kinds.old)
-        (outside out.old (L.noted log.old) (L.has_failed log.old)) state.old disc.old x
+        (outside bytes.old (L.noted log.old) (L.has_failed log.old)) state.old disc.old x
         → IsDone b store.new (Q.tells kinds.new) (Q.room kinds.new)
-        (outside out.new (L.noted log.new) (L.has_failed log.new)) state.new disc.new false
+        (outside bytes.new (L.noted log.new) (L.has_failed log.new)) state.new disc.new false
         (typed x) }
-    ensures short { length out.new ≤ length out.old + 600 }
+    ensures short { length bytes.new ≤ length bytes.old + 600 }
 {
-    type_piece(disc, out);
+    type_piece(disc, bytes);
     if is_typed(disc) {
         close(disc);
-        prompt(state, store, kinds, out, log);
+        prompt(state, store, kinds, bytes, log);
         return;
     }
-    type_later(state, store, kinds, out, log);
+    type_later(state, store, kinds, bytes, log);
 }
 
 // Writes the next bytes of the shell's stream, 512 or all that are left.
-fn type_piece(disc: &mut Disc, out: &mut Output)
-    requires { length out.old + 512 ≤ 8192 }
+fn type_piece(disc: &mut Disc, bytes: &mut Output)
+    requires { length bytes.old + 512 ≤ 8192 }
     ensures disc { disc.new ≡ after_piece disc.old }
-    ensures bytes { out.new ≡ out.old ++ next_piece disc.old }
-    ensures short { length out.new ≤ length out.old + 512 }
+    ensures bytes { bytes.new ≡ bytes.old ++ next_piece disc.old }
+    ensures short { length bytes.new ≤ length bytes.old + 512 }
 {
-    let mut bytes = [0; PIECE_SIZE];
-    let count = disc.read_on(SHELL_STREAM, &mut bytes).unwrap_or(0);
-    out.append(&bytes[..count as usize]);
+    let mut piece = [0; PIECE_SIZE];
+    let count = disc.read_on(SHELL_STREAM, &mut piece).unwrap_or(0);
+    bytes.append(&piece[..count as usize]);
 }
 
 // Whether the shell's stream stands at the end of its file.
@@ -114,17 +114,17 @@ fn type_later<Q: KindKeeper, L: EventLog>(
     state: &mut ShellState,
     store: &mut Store,
     kinds: &mut Q,
-    out: &Output,
+    bytes: &Output,
     log: &mut L,
 )
     requires { (b : Start) × (d : Disc) × (x : ShellTurn)
         × IsReady b store.old (Q.tells kinds.old) (Q.room kinds.old)
-        (outside out.now (L.noted log.old) (L.has_failed log.old)) state.old d x }
+        (outside bytes.now (L.noted log.old) (L.has_failed log.old)) state.old d x }
     ensures { (b : Start) (d : Disc) (x : ShellTurn)
         → IsReady b store.old (Q.tells kinds.old) (Q.room kinds.old)
-        (outside out.now (L.noted log.old) (L.has_failed log.old)) state.old d x
+        (outside bytes.now (L.noted log.old) (L.has_failed log.old)) state.old d x
         → IsDone b store.new (Q.tells kinds.new) (Q.room kinds.new)
-        (outside out.now (L.noted log.new) (L.has_failed log.new)) state.new d false
+        (outside bytes.now (L.noted log.new) (L.has_failed log.new)) state.new d false
         (goes_on x) }
 {
     post_shell_packet(store, kinds, SHELL, log);

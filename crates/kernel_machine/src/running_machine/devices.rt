@@ -14,12 +14,12 @@ use kernel_lists::EventLog;
 use kernel_model::kernel_dispatch::switch;
 
 /// In a step that is a multiple of the period the clock ticks.
-pub(crate) fn tick<L: EventLog>(parts: &mut Parts, out: &Output, log: &mut L)
+pub(crate) fn tick<L: EventLog>(parts: &mut Parts, bytes: &Output, log: &mut L)
     requires { (k : Kernel) × Stands parts.old k × CanServe k }
     ensures left { (k : Kernel) → Stands parts.old k → CanServe k
         → Leaves parts.new
-        (outside out.now (L.noted log.old) (L.has_failed log.old))
-        (outside out.now (L.noted log.new) (L.has_failed log.new)) (tick k) }
+        (outside bytes.now (L.noted log.old) (L.has_failed log.old))
+        (outside bytes.now (L.noted log.new) (L.has_failed log.new)) (tick k) }
     ensures keys { parts.new.keys.keys ≡ parts.old.keys.keys }
 {
     if parts.step % u64::from(parts.period) == 0 {
@@ -28,12 +28,12 @@ pub(crate) fn tick<L: EventLog>(parts: &mut Parts, out: &Output, log: &mut L)
 }
 
 /// The key that is due is typed, and the first byte that is typed ahead meets the first packet that waits for one.
-pub(crate) fn key<L: EventLog>(parts: &mut Parts, out: &Output, log: &mut L)
+pub(crate) fn key<L: EventLog>(parts: &mut Parts, bytes: &Output, log: &mut L)
     requires { (k : Kernel) × Stands parts.old k × CanDispatch k.lists k.regs }
     ensures left { (k : Kernel) → Stands parts.old k → CanDispatch k.lists k.regs
         → Leaves parts.new
-        (outside out.now (L.noted log.old) (L.has_failed log.old))
-        (outside out.now (L.noted log.new) (L.has_failed log.new)) (key k) }
+        (outside bytes.now (L.noted log.old) (L.has_failed log.old))
+        (outside bytes.now (L.noted log.new) (L.has_failed log.new)) (key k) }
     ensures keys { parts.new.keys.keys ≡ parts.old.keys.keys }
 {
     enter_key(parts);
@@ -54,25 +54,25 @@ fn enter_key(parts: &mut Parts)
 }
 
 /// The first packet that waits for the output device is served.
-pub(crate) fn output<L: EventLog>(parts: &mut Parts, out: &mut Output, log: &mut L)
+pub(crate) fn output<L: EventLog>(parts: &mut Parts, bytes: &mut Output, log: &mut L)
     requires stands { (k : Kernel) × Stands parts.old k × CanDispatch k.lists k.regs }
-    requires room_for_byte { length out.old < 8192 }
+    requires room_for_byte { length bytes.old < 8192 }
     ensures left { (k : Kernel) → Stands parts.old k → CanDispatch k.lists k.regs
         → Leaves parts.new
-        (outside out.old (L.noted log.old) (L.has_failed log.old))
-        (outside out.new (L.noted log.new) (L.has_failed log.new)) (output k) }
+        (outside bytes.old (L.noted log.old) (L.has_failed log.old))
+        (outside bytes.new (L.noted log.new) (L.has_failed log.new)) (output k) }
     ensures keys { parts.new.keys.keys ≡ parts.old.keys.keys }
 {
-    finish_output(&mut parts.store, out, log);
+    finish_output(&mut parts.store, bytes, log);
 }
 
 /// The first ready task runs.
-pub(crate) fn dispatch<L: EventLog>(parts: &mut Parts, out: &Output, log: &mut L)
+pub(crate) fn dispatch<L: EventLog>(parts: &mut Parts, bytes: &Output, log: &mut L)
     requires { (k : Kernel) × Stands parts.old k × CanDispatch k.lists k.regs }
     ensures left { (k : Kernel) → Stands parts.old k → CanDispatch k.lists k.regs
         → Leaves parts.new
-        (outside out.now (L.noted log.old) (L.has_failed log.old))
-        (outside out.now (L.noted log.new) (L.has_failed log.new)) (dispatch k) }
+        (outside bytes.now (L.noted log.old) (L.has_failed log.old))
+        (outside bytes.now (L.noted log.new) (L.has_failed log.new)) (dispatch k) }
     ensures keys { parts.new.keys.keys ≡ parts.old.keys.keys }
 {
     switch(&mut parts.store, &mut parts.regs, &mut parts.kinds, log);

@@ -26,27 +26,27 @@ use word_store::{Store, word_at};
 pub(crate) fn resident<L: EventLog>(
     parts: &mut Parts,
     task: u32,
-    out: &mut Output,
+    bytes: &mut Output,
     log: &mut L,
 ) -> Option<Stop>
     requires stands { (k : Kernel) × Stands parts.old k × RunsNoGuest task k }
-    requires empty { out.old ≡ [] }
+    requires empty { bytes.old ≡ [] }
     ensures turned { (k : Kernel) → Stands parts.old k → RunsNoGuest task k
         → Leaves parts.new
-        (outside out.old (L.noted log.old) (L.has_failed log.old))
-        (outside out.new (L.noted log.new) (L.has_failed log.new)) (resident_step task k) }
+        (outside bytes.old (L.noted log.old) (L.has_failed log.old))
+        (outside bytes.new (L.noted log.new) (L.has_failed log.new)) (resident_step task k) }
     ensures stop { (k : Kernel) → Stands parts.old k → RunsNoGuest task k
         → result ≡ (resident_step task k).kernel.stop }
     ensures keys { parts.new.keys.keys ≡ parts.old.keys.keys }
     ensures disc { IsDisc parts.new.disc }
-    ensures room { length out.new < 8192 }
+    ensures room { length bytes.new < 8192 }
 {
     match task {
-        SHELL => return shell(parts, out, log),
-        REPORTER => report(parts, out, log),
-        CONSOLE => console(parts, out, log),
+        SHELL => return shell(parts, bytes, log),
+        REPORTER => report(parts, bytes, log),
+        CONSOLE => console(parts, bytes, log),
         FILE_HANDLER => {
-            handle(parts, out, log);
+            handle(parts, bytes, log);
             know_disc(&parts.disc);
         }
         _ => {}
@@ -55,25 +55,25 @@ pub(crate) fn resident<L: EventLog>(
 }
 
 // The shell's turn, which may be the last.
-fn shell<L: EventLog>(parts: &mut Parts, out: &mut Output, log: &mut L) -> Option<Stop>
+fn shell<L: EventLog>(parts: &mut Parts, bytes: &mut Output, log: &mut L) -> Option<Stop>
     requires stands { (k : Kernel) × Stands parts.old k × RunsNumber 1 k }
-    requires empty { out.old ≡ [] }
+    requires empty { bytes.old ≡ [] }
     ensures turned { (k : Kernel) → Stands parts.old k → RunsNumber 1 k
         → Leaves parts.new
-        (outside out.old (L.noted log.old) (L.has_failed log.old))
-        (outside out.new (L.noted log.new) (L.has_failed log.new)) (shell_step k) }
+        (outside bytes.old (L.noted log.old) (L.has_failed log.old))
+        (outside bytes.new (L.noted log.new) (L.has_failed log.new)) (shell_step k) }
     ensures stop { (k : Kernel) → Stands parts.old k → RunsNumber 1 k
         → result ≡ (shell_step k).kernel.stop }
     ensures keys { parts.new.keys.keys ≡ parts.old.keys.keys }
     ensures disc { IsDisc parts.new.disc }
-    ensures room { length out.new < 8192 }
+    ensures room { length bytes.new < 8192 }
 {
     let finished = shell_turn(
         &mut parts.shell,
         &mut parts.disc,
         &mut parts.store,
         &mut parts.kinds,
-        out,
+        bytes,
         log,
     );
     know_disc(&parts.disc);
@@ -81,18 +81,18 @@ fn shell<L: EventLog>(parts: &mut Parts, out: &mut Output, log: &mut L) -> Optio
 }
 
 // The task that reports faults.
-fn report<L: EventLog>(parts: &mut Parts, out: &mut Output, log: &mut L)
+fn report<L: EventLog>(parts: &mut Parts, bytes: &mut Output, log: &mut L)
     requires stands { (k : Kernel) × Stands parts.old k × RunsNumber 2 k }
-    requires empty { out.old ≡ [] }
+    requires empty { bytes.old ≡ [] }
     ensures turned { (k : Kernel) → Stands parts.old k → RunsNumber 2 k
         → Leaves parts.new
-        (outside out.old (L.noted log.old) (L.has_failed log.old))
-        (outside out.new (L.noted log.new) (L.has_failed log.new)) (reporter_step k) }
+        (outside bytes.old (L.noted log.old) (L.has_failed log.old))
+        (outside bytes.new (L.noted log.new) (L.has_failed log.new)) (reporter_step k) }
     ensures keys { parts.new.keys.keys ≡ parts.old.keys.keys }
-    ensures room { length out.new < 8192 }
+    ensures room { length bytes.new < 8192 }
 {
     know_words(&parts.store);
-    fault_turn(&mut parts.store, &mut parts.kinds, out, log);
+    fault_turn(&mut parts.store, &mut parts.kinds, bytes, log);
 }
 
 // Tells what words are: numbers below 2^32.
@@ -110,13 +110,13 @@ fn know_numbers(words: &[u32])
 {}
 
 // The console.
-fn console<L: EventLog>(parts: &mut Parts, out: &mut Output, log: &mut L)
+fn console<L: EventLog>(parts: &mut Parts, bytes: &mut Output, log: &mut L)
     requires stands { (k : Kernel) × Stands parts.old k × RunsNumber 3 k }
-    requires empty { out.old ≡ [] }
+    requires empty { bytes.old ≡ [] }
     ensures turned { (k : Kernel) → Stands parts.old k → RunsNumber 3 k
         → Leaves parts.new
-        (outside out.old (L.noted log.old) (L.has_failed log.old))
-        (outside out.new (L.noted log.new) (L.has_failed log.new)) (console_step k) }
+        (outside bytes.old (L.noted log.old) (L.has_failed log.old))
+        (outside bytes.new (L.noted log.new) (L.has_failed log.new)) (console_step k) }
     ensures keys { parts.new.keys.keys ≡ parts.old.keys.keys }
 {
     let awaited = parts.shell.awaited();
@@ -127,19 +127,19 @@ fn console<L: EventLog>(parts: &mut Parts, out: &mut Output, log: &mut L)
         awaited,
         &mut parts.store,
         &mut parts.kinds,
-        out,
+        bytes,
         log,
     );
     parts.shell.put_line(line);
 }
 
 // The file handler, which in version 2 serves requests for pipes too.
-fn handle<L: EventLog>(parts: &mut Parts, out: &Output, log: &mut L)
+fn handle<L: EventLog>(parts: &mut Parts, bytes: &Output, log: &mut L)
     requires { (k : Kernel) × Stands parts.old k × RunsNumber 4 k }
     ensures turned { (k : Kernel) → Stands parts.old k → RunsNumber 4 k
         → Leaves parts.new
-        (outside out.now (L.noted log.old) (L.has_failed log.old))
-        (outside out.now (L.noted log.new) (L.has_failed log.new)) (handler_step k) }
+        (outside bytes.now (L.noted log.old) (L.has_failed log.old))
+        (outside bytes.now (L.noted log.new) (L.has_failed log.new)) (handler_step k) }
     ensures keys { parts.new.keys.keys ≡ parts.old.keys.keys }
 {
     if serves_pipes(&parts.store) {

@@ -20,17 +20,17 @@ use kernel_model::Stop;
 pub(crate) fn step_or_stay<L: EventLog>(
     parts: &mut Parts,
     stop: Option<Stop>,
-    out: &mut Output,
+    bytes: &mut Output,
     log: &mut L,
 ) -> Option<Stop>
     requires stands { (k : Kernel) × Stands parts.old k × IsValid k
         × (stop ≡ k.stop) × (k.steps < most_steps) }
-    requires empty { out.old ≡ [] }
+    requires empty { bytes.old ≡ [] }
     ensures stepped { (k : Kernel) → Stands parts.old k → IsValid k
         → stop ≡ k.stop
         → k.steps < most_steps → Leaves parts.new
-        (outside out.old (L.noted log.old) (L.has_failed log.old))
-        (outside out.new (L.noted log.new) (L.has_failed log.new)) (step k) }
+        (outside bytes.old (L.noted log.old) (L.has_failed log.old))
+        (outside bytes.new (L.noted log.new) (L.has_failed log.new)) (step k) }
     ensures stop { (k : Kernel) → Stands parts.old k → IsValid k
         → stop ≡ k.stop
         → k.steps < most_steps → result ≡ (step k).kernel.stop }
@@ -41,19 +41,19 @@ pub(crate) fn step_or_stay<L: EventLog>(
 {
     match stop {
         Some(_) => stop,
-        None => step(parts, out, log),
+        None => step(parts, bytes, log),
     }
 }
 
 // One step of a machine that has not stopped. The answer is why it stops in this step, if it does.
-fn step<L: EventLog>(parts: &mut Parts, out: &mut Output, log: &mut L) -> Option<Stop>
+fn step<L: EventLog>(parts: &mut Parts, bytes: &mut Output, log: &mut L) -> Option<Stop>
     requires stands { (k : Kernel) × Stands parts.old k × IsValid k × (k.stop ≡ None)
         × (k.steps < most_steps) }
-    requires empty { out.old ≡ [] }
+    requires empty { bytes.old ≡ [] }
     ensures stepped { (k : Kernel) → Stands parts.old k → IsValid k → k.stop ≡ None
         → k.steps < most_steps → Leaves parts.new
-        (outside out.old (L.noted log.old) (L.has_failed log.old))
-        (outside out.new (L.noted log.new) (L.has_failed log.new)) (step k) }
+        (outside bytes.old (L.noted log.old) (L.has_failed log.old))
+        (outside bytes.new (L.noted log.new) (L.has_failed log.new)) (step k) }
     ensures stop { (k : Kernel) → Stands parts.old k → IsValid k → k.stop ≡ None
         → k.steps < most_steps → result ≡ (step k).kernel.stop }
     ensures keys { parts.new.keys.keys ≡ parts.old.keys.keys }
@@ -61,24 +61,24 @@ fn step<L: EventLog>(parts: &mut Parts, out: &mut Output, log: &mut L) -> Option
         → k.steps < most_steps → IsTaken k }
 {
     parts.step += 1;
-    let stop = turn(parts, out, log);
+    let stop = turn(parts, bytes, log);
     if stop.is_none() {
-        serve(parts, out, log);
+        serve(parts, bytes, log);
     }
     stop
 }
 
 // The devices, and then dispatch.
-fn serve<L: EventLog>(parts: &mut Parts, out: &mut Output, log: &mut L)
+fn serve<L: EventLog>(parts: &mut Parts, bytes: &mut Output, log: &mut L)
     requires stands { (k : Kernel) × Stands parts.old k × CanServe k }
-    requires room_for_byte { length out.old < 8192 }
+    requires room_for_byte { length bytes.old < 8192 }
     ensures served { (k : Kernel) → Stands parts.old k → CanServe k → Leaves parts.new
-        (outside out.old (L.noted log.old) (L.has_failed log.old))
-        (outside out.new (L.noted log.new) (L.has_failed log.new)) (after_the_turn k) }
+        (outside bytes.old (L.noted log.old) (L.has_failed log.old))
+        (outside bytes.new (L.noted log.new) (L.has_failed log.new)) (after_the_turn k) }
     ensures keys { parts.new.keys.keys ≡ parts.old.keys.keys }
 {
-    tick(parts, out, log);
-    key(parts, out, log);
-    output(parts, out, log);
-    dispatch(parts, out, log);
+    tick(parts, bytes, log);
+    key(parts, bytes, log);
+    output(parts, bytes, log);
+    dispatch(parts, bytes, log);
 }

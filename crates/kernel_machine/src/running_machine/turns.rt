@@ -27,34 +27,34 @@ const KERNEL_WORD: u32 = 6;
 
 /// The running guest's instruction, call, or end of its function, or the running resident's turn; nothing where nobody runs. The
 /// answer is why the machine stops, if it does.
-pub(crate) fn turn<L: EventLog>(parts: &mut Parts, out: &mut Output, log: &mut L) -> Option<Stop>
+pub(crate) fn turn<L: EventLog>(parts: &mut Parts, bytes: &mut Output, log: &mut L) -> Option<Stop>
     requires stands { (k : Kernel) × Stands parts.old k × CanTurn k }
-    requires empty { out.old ≡ [] }
+    requires empty { bytes.old ≡ [] }
     ensures turned { (k : Kernel) → Stands parts.old k → CanTurn k
         → Leaves parts.new
-        (outside out.old (L.noted log.old) (L.has_failed log.old))
-        (outside out.new (L.noted log.new) (L.has_failed log.new)) (turn k) }
+        (outside bytes.old (L.noted log.old) (L.has_failed log.old))
+        (outside bytes.new (L.noted log.new) (L.has_failed log.new)) (turn k) }
     ensures stop { (k : Kernel) → Stands parts.old k → CanTurn k
         → result ≡ (turn k).kernel.stop }
     ensures keys { parts.new.keys.keys ≡ parts.old.keys.keys }
     ensures disc { IsDisc parts.new.disc }
-    ensures room { length out.new < 8192 }
+    ensures room { length bytes.new < 8192 }
 {
     let task = running(&parts.store);
     if task < FIRST_GUEST {
-        return resident(parts, task, out, log);
+        return resident(parts, task, bytes, log);
     }
-    guest(parts, task, out, log)
+    guest(parts, task, bytes, log)
 }
 
 // The running guest's turn. Where a task reports faults, a fault is recorded, unless it is a write into a word of the kernel's.
-fn guest<L: EventLog>(parts: &mut Parts, task: u32, out: &mut Output, log: &mut L) -> Option<Stop>
+fn guest<L: EventLog>(parts: &mut Parts, task: u32, bytes: &mut Output, log: &mut L) -> Option<Stop>
     requires stands { (k : Kernel) × Stands parts.old k × RunsGuest task k }
-    requires empty { out.old ≡ [] }
+    requires empty { bytes.old ≡ [] }
     ensures turned { (k : Kernel) → Stands parts.old k → RunsGuest task k
         → Leaves parts.new
-        (outside out.old (L.noted log.old) (L.has_failed log.old))
-        (outside out.new (L.noted log.new) (L.has_failed log.new)) (guest_step k) }
+        (outside bytes.old (L.noted log.old) (L.has_failed log.old))
+        (outside bytes.new (L.noted log.new) (L.has_failed log.new)) (guest_step k) }
     ensures stop { (k : Kernel) → Stands parts.old k → RunsGuest task k
         → result ≡ (guest_step k).kernel.stop }
     ensures keys { parts.new.keys.keys ≡ parts.old.keys.keys }
@@ -63,7 +63,7 @@ fn guest<L: EventLog>(parts: &mut Parts, task: u32, out: &mut Output, log: &mut 
         &mut parts.store,
         &mut parts.regs,
         &mut parts.kinds,
-        out,
+        bytes,
         log,
     );
     let TurnEnd::Faults(fault) = end else {

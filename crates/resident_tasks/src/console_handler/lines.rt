@@ -78,59 +78,59 @@ impl ConsoleState {
     /// Does what the key says, and answers the flags that it sets. Bytes from 32 to 126 come to the end of the line and are
     /// echoed, or 7 is where the line has 120 bytes; 8 and 127 take the last byte away; 10 and 13 finish the line; 2 to 5 set the
     /// flags 1, 2, 4 and 8. Other keys do nothing. At most three bytes are echoed.
-    pub fn press(&mut self, byte: u32, out: &mut Output) -> u32
-        requires { length out.old + 3 ≤ 8192 }
+    pub fn press(&mut self, byte: u32, bytes: &mut Output) -> u32
+        requires { length bytes.old + 3 ≤ 8192 }
         ensures console { self.new ≡ (key self.old byte).console }
-        ensures echo { out.new ≡ out.old ++ (key self.old byte).echo }
+        ensures echo { bytes.new ≡ bytes.old ++ (key self.old byte).echo }
         ensures flags { result ≡ (key self.old byte).flags }
     {
         if is_printed(byte) {
-            self.append(byte as u8, out);
+            self.append(byte as u8, bytes);
             return 0;
         }
         match byte {
-            8 | 127 => self.rub_out(out),
-            10 | 13 => self.finish(out),
+            8 | 127 => self.rub_out(bytes),
+            10 | 13 => self.finish(bytes),
             _ => return flags_of(byte),
         }
         0
     }
 
     // A byte comes to the end of the line, where there is room.
-    fn append(&mut self, byte: u8, out: &mut Output)
-        requires { length out.old + 3 ≤ 8192 }
+    fn append(&mut self, byte: u8, bytes: &mut Output)
+        requires { length bytes.old + 3 ≤ 8192 }
         ensures console { self.new ≡ (with_end byte self.old).console }
-        ensures echo { out.new ≡ out.old ++ (with_end byte self.old).echo }
+        ensures echo { bytes.new ≡ bytes.old ++ (with_end byte self.old).echo }
     {
         if self.line.is_full() {
-            out.append(BELL);
+            bytes.append(BELL);
             return;
         }
         self.line.push(byte);
-        out.append(&[byte]);
+        bytes.append(&[byte]);
     }
 
     // The last byte goes, where there is one.
-    fn rub_out(&mut self, out: &mut Output)
-        requires { length out.old + 3 ≤ 8192 }
+    fn rub_out(&mut self, bytes: &mut Output)
+        requires { length bytes.old + 3 ≤ 8192 }
         ensures console { self.new ≡ (without_end self.old).console }
-        ensures echo { out.new ≡ out.old ++ (without_end self.old).echo }
+        ensures echo { bytes.new ≡ bytes.old ++ (without_end self.old).echo }
     {
         if self.line.is_empty() {
             return;
         }
         self.line.pop();
-        out.append(RUBBED_OUT);
+        bytes.append(RUBBED_OUT);
     }
 
     // The line is finished.
-    fn finish(&mut self, out: &mut Output)
-        requires { length out.old + 3 ≤ 8192 }
+    fn finish(&mut self, bytes: &mut Output)
+        requires { length bytes.old + 3 ≤ 8192 }
         ensures console { self.new ≡ (with_finish self.old).console }
-        ensures echo { out.new ≡ out.old ++ (with_finish self.old).echo }
+        ensures echo { bytes.new ≡ bytes.old ++ (with_finish self.old).echo }
     {
         self.finished = true;
-        out.append(LINE_FEED);
+        bytes.append(LINE_FEED);
     }
 }
 

@@ -19,22 +19,22 @@ pub(crate) fn take_key<Q: KindKeeper, L: EventLog>(
     awaited: u32,
     store: &mut Store,
     kinds: &Q,
-    out: &mut Output,
+    bytes: &mut Output,
     log: &mut L,
 )
-    requires room { length out.old + 3 ≤ 8192 }
+    requires room { length bytes.old + 3 ≤ 8192 }
     requires first { (b : Start) × (k : List ℕ) × (g : Progress)
         × IsDone b store.old (Q.tells kinds.now) (Q.room kinds.now)
-        (outside out.old (L.noted log.old) (L.has_failed log.old)) state.old k g
+        (outside bytes.old (L.noted log.old) (L.has_failed log.old)) state.old k g
         × FindsKeys g.lists }
     ensures { (b : Start) (k : List ℕ) (g : Progress)
         → IsDone b store.old (Q.tells kinds.now) (Q.room kinds.now)
-        (outside out.old (L.noted log.old) (L.has_failed log.old)) state.old k g
+        (outside bytes.old (L.noted log.old) (L.has_failed log.old)) state.old k g
         → FindsKeys g.lists
         → IsDone b store.new (Q.tells kinds.now) (Q.room kinds.now)
-        (outside out.new (L.noted log.new) (L.has_failed log.new)) state.new k (with_key awaited g) }
+        (outside bytes.new (L.noted log.new) (L.has_failed log.new)) state.new k (with_key awaited g) }
 {
     let key = take_keys(store, log);
-    let flags = state.press(key, out);
+    let flags = state.press(key, bytes);
     let _unknown = set_flags(store, awaited, flags);
 }

@@ -28,18 +28,18 @@ pub const BAD_BUFFER: u32 = 30;
 pub(crate) fn take_first<Q: KindKeeper, L: EventLog>(
     store: &mut Store,
     kinds: &mut Q,
-    out: &mut Output,
+    bytes: &mut Output,
     log: &mut L,
 )
-    requires room { length out.old + 4096 ≤ 8192 }
+    requires room { length bytes.old + 4096 ≤ 8192 }
     requires first { (b : Start) × (c : Console) × (k : List ℕ) × (g : Progress)
         × IsDone b store.old (Q.tells kinds.old) (Q.room kinds.old)
-        (outside out.old (L.noted log.old) (L.has_failed log.old)) c k g × TakesRequest g.lists }
+        (outside bytes.old (L.noted log.old) (L.has_failed log.old)) c k g × TakesRequest g.lists }
     ensures done { (b : Start) (c : Console) (k : List ℕ) (g : Progress)
         → IsDone b store.old (Q.tells kinds.old) (Q.room kinds.old)
-        (outside out.old (L.noted log.old) (L.has_failed log.old)) c k g → TakesRequest g.lists
+        (outside bytes.old (L.noted log.old) (L.has_failed log.old)) c k g → TakesRequest g.lists
         → IsDone b store.new (Q.tells kinds.new) (Q.room kinds.new)
-        (outside out.new (L.noted log.new) (L.has_failed log.new)) c k (with_first g) }
+        (outside bytes.new (L.noted log.new) (L.has_failed log.new)) c k (with_first g) }
     ensures room { Q.room kinds.new ≡ Q.room kinds.old }
 {
     let Some(request) = take_request(store, kinds, log) else {
@@ -49,16 +49,16 @@ pub(crate) fn take_first<Q: KindKeeper, L: EventLog>(
         put_off(store, kinds, request, log);
         return;
     }
-    let answer = answer(store, request, out);
+    let answer = answer(store, request, bytes);
     return_request(store, kinds, request, CONSOLE as i32, answer, log);
 }
 
 // The bytes of a write go out, and the answer is their number. Refused where its buffer may not be read (30), and where the request
 // is no write (31).
-fn answer(store: &Store, request: Request, out: &mut Output) -> Result<u32, u32>
-    requires { length out.old + 4096 ≤ 8192 }
+fn answer(store: &Store, request: Request, bytes: &mut Output) -> Result<u32, u32>
+    requires { length bytes.old + 4096 ≤ 8192 }
     ensures answer { result ≡ answer_of store.now request }
-    ensures bytes { out.new ≡ out.old ++ bytes_of store.now request }
+    ensures bytes { bytes.new ≡ bytes.old ++ bytes_of store.now request }
 {
     if request.kind != WRITE {
         return Err(UNKNOWN_TYPE);
@@ -66,7 +66,7 @@ fn answer(store: &Store, request: Request, out: &mut Output) -> Result<u32, u32>
     if !can_read(store, request.first, request.second) {
         return Err(BAD_BUFFER);
     }
-    let bytes = read_buffer(store, request.first, request.second);
-    out.append(bytes.as_slice());
+    let text = read_buffer(store, request.first, request.second);
+    bytes.append(text.as_slice());
     Ok(request.second)
 }

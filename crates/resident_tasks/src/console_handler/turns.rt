@@ -32,17 +32,17 @@ pub fn console_turn<Q: KindKeeper, L: EventLog>(
     awaited: u32,
     store: &mut Store,
     kinds: &mut Q,
-    out: &mut Output,
+    bytes: &mut Output,
     log: &mut L,
 )
-    requires empty { out.old ≡ [] }
+    requires empty { bytes.old ≡ [] }
     requires console { (l : Lists) × HasKeeper store.old (Q.tells kinds.old) (Q.room kinds.old) l
         × RunsConsole l }
     ensures turn { (l : Lists) → HasKeeper store.old (Q.tells kinds.old) (Q.room kinds.old) l
         → RunsConsole l
         → IsResidentTurn store.new (Q.tells kinds.new)
-        (outside out.old (L.noted log.old) (L.has_failed log.old))
-        (outside out.new (L.noted log.new) (L.has_failed log.new))
+        (outside bytes.old (L.noted log.old) (L.has_failed log.old))
+        (outside bytes.new (L.noted log.new) (L.has_failed log.new))
         (console_turn awaited state.old shell_line.old.items store.old l) }
     ensures line { (l : Lists) → HasKeeper store.old (Q.tells kinds.old) (Q.room kinds.old) l
         → RunsConsole l → state.new
@@ -52,7 +52,7 @@ pub fn console_turn<Q: KindKeeper, L: EventLog>(
         ≡ (all_parts awaited (begun store.old l state.old shell_line.old.items)).command }
     ensures room { Q.room kinds.new ≡ Q.room kinds.old }
 {
-    treat_first(state, awaited, store, kinds, out, log);
+    treat_first(state, awaited, store, kinds, bytes, log);
     deliver(state, shell_line, store, kinds, log);
     send_free_keys(state, store, kinds, log);
     finish_turn(store);
@@ -64,18 +64,18 @@ fn treat_first<Q: KindKeeper, L: EventLog>(
     awaited: u32,
     store: &mut Store,
     kinds: &mut Q,
-    out: &mut Output,
+    bytes: &mut Output,
     log: &mut L,
 )
-    requires empty { out.old ≡ [] }
+    requires empty { bytes.old ≡ [] }
     requires console { (b : Start) × (k : List ℕ) × (g : Progress)
         × IsDone b store.old (Q.tells kinds.old) (Q.room kinds.old)
-        (outside out.old (L.noted log.old) (L.has_failed log.old)) state.old k g }
+        (outside bytes.old (L.noted log.old) (L.has_failed log.old)) state.old k g }
     ensures treated { (b : Start) (k : List ℕ) (g : Progress)
         → IsDone b store.old (Q.tells kinds.old) (Q.room kinds.old)
-        (outside out.old (L.noted log.old) (L.has_failed log.old)) state.old k g
+        (outside bytes.old (L.noted log.old) (L.has_failed log.old)) state.old k g
         → IsDone b store.new (Q.tells kinds.new) (Q.room kinds.new)
-        (outside out.new (L.noted log.new) (L.has_failed log.new)) state.new k
+        (outside bytes.new (L.noted log.new) (L.has_failed log.new)) state.new k
         (treated awaited (work g.lists) g) }
     ensures room { Q.room kinds.new ≡ Q.room kinds.old }
 {
@@ -83,8 +83,8 @@ fn treat_first<Q: KindKeeper, L: EventLog>(
         return;
     };
     if p == KEY_PACKET {
-        take_key(state, awaited, store, kinds, out, log);
+        take_key(state, awaited, store, kinds, bytes, log);
         return;
     }
-    take_first(store, kinds, out, log);
+    take_first(store, kinds, bytes, log);
 }

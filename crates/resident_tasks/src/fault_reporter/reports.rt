@@ -21,21 +21,21 @@ const END_OF_IDS: u32 = 64;
 
 /// Adds a line for each fault that was not reported yet, in the order of the chain. There is room for a line of each task.
 #[tactic(auto, unfolding(crate::specs::FaultReporter::Texts::reports_in))]
-pub(crate) fn print_reports(store: &Store, out: &mut Output)
+pub(crate) fn print_reports(store: &Store, bytes: &mut Output)
     requires chain { CanWalk store.now task_link first_task }
-    requires room { length out.old + most_in_line * length (tasks_in store.now) ≤ 8192 }
-    ensures { out.new ≡ out.old ++ reports_in store.now }
+    requires room { length bytes.old + most_in_line * length (tasks_in store.now) ≤ 8192 }
+    ensures { bytes.new ≡ bytes.old ++ reports_in store.now }
 {
     for t in tasks(store) {
-        print_report(store, t, out);
+        print_report(store, t, bytes);
     }
 }
 
 // Adds the line of the task at t, where it has a fault that was not reported yet.
-fn print_report(store: &Store, t: u32, out: &mut Output)
-    requires { length out.old + most_in_line ≤ 8192 }
-    ensures text { out.new ≡ out.old ++ report_at store.now t }
-    ensures short { length out.new ≤ length out.old + most_in_line }
+fn print_report(store: &Store, t: u32, bytes: &mut Output)
+    requires { length bytes.old + most_in_line ≤ 8192 }
+    ensures text { bytes.new ≡ bytes.old ++ report_at store.now t }
+    ensures short { length bytes.new ≤ length bytes.old + most_in_line }
 {
     let fault = field(store, t, FAULT_WORD);
     if !is_unreported(fault) {
@@ -43,32 +43,32 @@ fn print_report(store: &Store, t: u32, out: &mut Output)
     }
     let id = field(store, t, TcbField::Id);
     let address = field(store, t, FAULT_ADDRESS);
-    append_report(out, id, fault, address);
+    append_report(bytes, id, fault, address);
 }
 
-fn append_report(out: &mut Output, id: u32, fault: u32, address: u32)
-    requires { length out.old + most_in_line ≤ 8192 }
-    ensures text { out.new ≡ out.old ++ report id fault address }
-    ensures short { length out.new ≤ length out.old + most_in_line }
+fn append_report(bytes: &mut Output, id: u32, fault: u32, address: u32)
+    requires { length bytes.old + most_in_line ≤ 8192 }
+    ensures text { bytes.new ≡ bytes.old ++ report id fault address }
+    ensures short { length bytes.new ≤ length bytes.old + most_in_line }
 {
-    out.append(b"Task ");
-    append_number(out, id);
-    out.append(b" fault ");
-    append_number(out, fault);
-    out.append(b" at ");
-    append_number(out, address);
-    out.append(b"\n");
+    bytes.append(b"Task ");
+    append_number(bytes, id);
+    bytes.append(b" fault ");
+    append_number(bytes, fault);
+    bytes.append(b" at ");
+    append_number(bytes, address);
+    bytes.append(b"\n");
 }
 
 // Adds a number in decimal, which has at most 10 digits.
 #[tactic(auto, using(crate::proofs::FaultReporter::ReportLines::few_digits))]
-fn append_number(out: &mut Output, n: u32)
-    requires { length out.old + 10 ≤ 8192 }
-    ensures text { out.new ≡ out.old ++ decimal n }
-    ensures short { length out.new ≤ length out.old + 10 }
+fn append_number(bytes: &mut Output, n: u32)
+    requires { length bytes.old + 10 ≤ 8192 }
+    ensures text { bytes.new ≡ bytes.old ++ decimal n }
+    ensures short { length bytes.new ≤ length bytes.old + 10 }
 {
     let mut buffer = Buffer::new();
-    out.append(buffer.format(n).as_bytes());
+    bytes.append(buffer.format(n).as_bytes());
 }
 
 // Whether a fault word says that the task has a fault that was not reported yet.

@@ -30,19 +30,19 @@ use word_store::Store;
 pub fn fault_turn<Q: KindKeeper, L: EventLog>(
     store: &mut Store,
     kinds: &mut Q,
-    out: &mut Output,
+    bytes: &mut Output,
     log: &mut L,
 )
     requires { (l : Lists) × HasKeeper store.old (Q.tells kinds.old) (Q.room kinds.old) l
-        × CanReport out.old l }
+        × CanReport bytes.old l }
     ensures turn { (l : Lists) → HasKeeper store.old (Q.tells kinds.old) (Q.room kinds.old) l
-        → CanReport out.old l → IsResidentTurn store.new (Q.tells kinds.new)
-        (outside out.old (L.noted log.old) (L.has_failed log.old))
-        (outside out.new (L.noted log.new) (L.has_failed log.new)) (fault_turn store.old l) }
+        → CanReport bytes.old l → IsResidentTurn store.new (Q.tells kinds.new)
+        (outside bytes.old (L.noted log.old) (L.has_failed log.old))
+        (outside bytes.new (L.noted log.new) (L.has_failed log.new)) (fault_turn store.old l) }
     ensures room { Q.room kinds.new ≡ Q.room kinds.old }
 {
     if is_fault_first(store) {
-        report_faults(store, out, log);
+        report_faults(store, bytes, log);
         return;
     }
     match take_request(store, kinds, log) {
@@ -75,19 +75,19 @@ fn is_fault_first(store: &Store) -> bool
 }
 
 // The fault packet is taken, and all faults are reported.
-fn report_faults<L: EventLog>(store: &mut Store, out: &mut Output, log: &mut L)
-    requires { (l : Lists) × HoldsLists store.old l × CanReport out.old l × IsFaultFirst (work l) }
-    ensures lists { (l : Lists) → HoldsLists store.old l → CanReport out.old l
+fn report_faults<L: EventLog>(store: &mut Store, bytes: &mut Output, log: &mut L)
+    requires { (l : Lists) × HoldsLists store.old l × CanReport bytes.old l × IsFaultFirst (work l) }
+    ensures lists { (l : Lists) → HoldsLists store.old l → CanReport bytes.old l
         → IsFaultFirst (work l)
         → OwnsSame store.old store.new l (finished (all_reported (fault_taken_from (work l) l))) }
-    ensures bytes { (l : Lists) → HoldsLists store.old l → CanReport out.old l
-        → IsFaultFirst (work l) → out.new ≡ out.old ++ reports l }
-    ensures notes { (l : Lists) → HoldsLists store.old l → CanReport out.old l
+    ensures bytes { (l : Lists) → HoldsLists store.old l → CanReport bytes.old l
+        → IsFaultFirst (work l) → bytes.new ≡ bytes.old ++ reports l }
+    ensures notes { (l : Lists) → HoldsLists store.old l → CanReport bytes.old l
         → IsFaultFirst (work l) → LogsAll L.EventLog log.old log.new
         (Taken (signed REPORTER) FAULT_PACKET (signed (sender_of (work l))) ∷ []) }
 {
     take_packet(store, log);
-    print_reports(store, out);
+    print_reports(store, bytes);
     mark_reports(store);
     finish_turn(store);
 }

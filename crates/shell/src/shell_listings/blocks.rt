@@ -31,13 +31,13 @@ pub struct BlockCounts {
 
 /// Writes how many blocks are used and how many words they have, the same of free ones, and the words of the largest run of
 /// neighbouring free blocks.
-pub fn write_blocks(store: &Store, out: &mut Output)
+pub fn write_blocks(store: &Store, bytes: &mut Output)
     requires lists { (l : Lists) × HoldsLists store.now l }
-    requires room { length out.old + most_in_block_line ≤ 8192 }
-    ensures text { (l : Lists) → HoldsLists store.now l → out.new ≡ out.old ++ block_line l.blocks }
-    ensures short { length out.new ≤ length out.old + most_in_block_line }
+    requires room { length bytes.old + most_in_block_line ≤ 8192 }
+    ensures text { (l : Lists) → HoldsLists store.now l → bytes.new ≡ bytes.old ++ block_line l.blocks }
+    ensures short { length bytes.new ≤ length bytes.old + most_in_block_line }
 {
-    write_counts(count_blocks(store), out);
+    write_counts(count_blocks(store), bytes);
 }
 
 // The counts of all blocks.
@@ -82,29 +82,29 @@ fn counted(counts: BlockCounts, block: Block) -> BlockCounts
     }
 }
 
-fn write_counts(counts: BlockCounts, out: &mut Output)
-    requires { length out.old + most_in_block_line ≤ 8192 }
-    ensures text { out.new ≡ out.old ++ line_of_counts counts.used counts.used_words counts.free
+fn write_counts(counts: BlockCounts, bytes: &mut Output)
+    requires { length bytes.old + most_in_block_line ≤ 8192 }
+    ensures text { bytes.new ≡ bytes.old ++ line_of_counts counts.used counts.used_words counts.free
         counts.free_words counts.largest }
-    ensures short { length out.new ≤ length out.old + most_in_block_line }
+    ensures short { length bytes.new ≤ length bytes.old + most_in_block_line }
 {
-    append_count(out, b"used ", counts.used, counts.used_words);
-    append_count(out, b"free ", counts.free, counts.free_words);
-    out.append(b"largest run ");
-    append_number(out, counts.largest);
-    out.append(b"\n");
+    append_count(bytes, b"used ", counts.used, counts.used_words);
+    append_count(bytes, b"free ", counts.free, counts.free_words);
+    bytes.append(b"largest run ");
+    append_number(bytes, counts.largest);
+    bytes.append(b"\n");
 }
 
 // Adds the number of blocks of a kind, and their words.
-fn append_count(out: &mut Output, kind: &[u8], count: u32, words: u32)
+fn append_count(bytes: &mut Output, kind: &[u8], count: u32, words: u32)
     requires few { length kind.now ≤ 5 }
-    requires room { length out.old + 41 ≤ 8192 }
-    ensures text { out.new ≡ out.old ++ count_text kind.now count words }
-    ensures short { length out.new ≤ length out.old + 41 }
+    requires room { length bytes.old + 41 ≤ 8192 }
+    ensures text { bytes.new ≡ bytes.old ++ count_text kind.now count words }
+    ensures short { length bytes.new ≤ length bytes.old + 41 }
 {
-    out.append(kind);
-    append_number(out, count);
-    out.append(b" blocks ");
-    append_number(out, words);
-    out.append(b" words, ");
+    bytes.append(kind);
+    append_number(bytes, count);
+    bytes.append(b" blocks ");
+    append_number(bytes, words);
+    bytes.append(b" words, ");
 }

@@ -15,63 +15,63 @@ use word_store::Store;
 
 /// Writes a line for each task, in the order of the chain: its number right in 3 places, a space, its priority right in 5
 /// places, a space, `run`, `wait`, `int` or `dead`, then ` pkt` where packets wait and ` held` where it is held.
-pub fn write_tasks(store: &Store, out: &mut Output)
+pub fn write_tasks(store: &Store, bytes: &mut Output)
     requires lists { (l : Lists) × HoldsLists store.now l }
-    requires room { length out.old + most_in_tasks ≤ 8192 }
-    ensures text { (l : Lists) → HoldsLists store.now l → out.new ≡ out.old ++ task_lines l.tasks }
-    ensures short { length out.new ≤ length out.old + most_in_tasks }
+    requires room { length bytes.old + most_in_tasks ≤ 8192 }
+    ensures text { (l : Lists) → HoldsLists store.now l → bytes.new ≡ bytes.old ++ task_lines l.tasks }
+    ensures short { length bytes.new ≤ length bytes.old + most_in_tasks }
 {
-    write_chain(store, out);
+    write_chain(store, bytes);
 }
 
 // There is room for a line of each task.
 #[tactic(auto, unfolding(crate::specs::ShellListings::TaskLines::task_lines_in))]
-fn write_chain(store: &Store, out: &mut Output)
+fn write_chain(store: &Store, bytes: &mut Output)
     requires chain { CanWalk store.now task_link first_task }
-    requires room { length out.old + most_in_task_line * length (tasks_in store.now) ≤ 8192 }
-    ensures text { out.new ≡ out.old ++ task_lines_in store.now }
-    ensures short { length out.new
-        ≤ length out.old + most_in_task_line * length (tasks_in store.now) }
+    requires room { length bytes.old + most_in_task_line * length (tasks_in store.now) ≤ 8192 }
+    ensures text { bytes.new ≡ bytes.old ++ task_lines_in store.now }
+    ensures short { length bytes.new
+        ≤ length bytes.old + most_in_task_line * length (tasks_in store.now) }
 {
     for t in tasks(store) {
-        write_task(store, t, out);
+        write_task(store, t, bytes);
     }
 }
 
 // The line of the task block at t.
-fn write_task(store: &Store, t: u32, out: &mut Output)
-    requires { length out.old + most_in_task_line ≤ 8192 }
-    ensures text { out.new ≡ out.old ++ task_line_at store.now t }
-    ensures short { length out.new ≤ length out.old + most_in_task_line }
+fn write_task(store: &Store, t: u32, bytes: &mut Output)
+    requires { length bytes.old + most_in_task_line ≤ 8192 }
+    ensures text { bytes.new ≡ bytes.old ++ task_line_at store.now t }
+    ensures short { length bytes.new ≤ length bytes.old + most_in_task_line }
 {
     let id = field(store, t, TcbField::Id);
     let priority = field(store, t, TcbField::Pri);
     let state = field(store, t, TcbField::State);
-    append_line(out, id, priority, state);
+    append_line(bytes, id, priority, state);
 }
 
-fn append_line(out: &mut Output, id: u32, priority: u32, state: u32)
-    requires { length out.old + most_in_task_line ≤ 8192 }
-    ensures text { out.new ≡ out.old ++ line_of_words id priority state }
-    ensures short { length out.new ≤ length out.old + most_in_task_line }
+fn append_line(bytes: &mut Output, id: u32, priority: u32, state: u32)
+    requires { length bytes.old + most_in_task_line ≤ 8192 }
+    ensures text { bytes.new ≡ bytes.old ++ line_of_words id priority state }
+    ensures short { length bytes.new ≤ length bytes.old + most_in_task_line }
 {
-    append_right(out, 3, id);
-    out.append(b" ");
-    append_right(out, 5, priority);
-    out.append(b" ");
-    append_state(out, state);
-    out.append(b"\n");
+    append_right(bytes, 3, id);
+    bytes.append(b" ");
+    append_right(bytes, 5, priority);
+    bytes.append(b" ");
+    append_state(bytes, state);
+    bytes.append(b"\n");
 }
 
 // Adds the word for the state of a task, and its marks.
-fn append_state(out: &mut Output, state: u32)
-    requires { length out.old + 13 ≤ 8192 }
-    ensures text { out.new ≡ out.old ++ state_text (field_of state) (has_packets state) (is_held state) }
-    ensures short { length out.new ≤ length out.old + 13 }
+fn append_state(bytes: &mut Output, state: u32)
+    requires { length bytes.old + 13 ≤ 8192 }
+    ensures text { bytes.new ≡ bytes.old ++ state_text (field_of state) (has_packets state) (is_held state) }
+    ensures short { length bytes.new ≤ length bytes.old + 13 }
 {
-    out.append(field_name(state - state % 4));
-    append_mark(out, b" pkt", state % 2 == 1);
-    append_mark(out, b" held", state / 2 % 2 == 1);
+    bytes.append(field_name(state - state % 4));
+    append_mark(bytes, b" pkt", state % 2 == 1);
+    append_mark(bytes, b" held", state / 2 % 2 == 1);
 }
 
 // The word for the field of a state.
@@ -87,13 +87,13 @@ fn field_name(field: u32) -> &'static [u8]
     }
 }
 
-fn append_mark(out: &mut Output, text: &[u8], set: bool)
+fn append_mark(bytes: &mut Output, text: &[u8], set: bool)
     requires few { length text.now ≤ 5 }
-    requires room { length out.old + 5 ≤ 8192 }
-    ensures text { out.new ≡ out.old ++ mark text.now set }
-    ensures short { length out.new ≤ length out.old + length text.now }
+    requires room { length bytes.old + 5 ≤ 8192 }
+    ensures text { bytes.new ≡ bytes.old ++ mark text.now set }
+    ensures short { length bytes.new ≤ length bytes.old + length text.now }
 {
     if set {
-        out.append(text);
+        bytes.append(text);
     }
 }

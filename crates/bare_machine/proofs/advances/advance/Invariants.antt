@@ -8,7 +8,7 @@ invariant-loop-parts l = record {
   some : 0 < l.done.steps;
   most : l.done.steps ≤ l.most;
   state : bare_state l.parts l.done.stop ≡ (run l.done.steps (bare_state l.fn.parts None)).state;
-  bytes : l.out ≡ (run l.done.steps (bare_state l.fn.parts None)).bytes;
+  bytes : l.bytes ≡ (run l.done.steps (bare_state l.fn.parts None)).bytes;
   last : (run (l.done.steps - 1) (bare_state l.fn.parts None)).state.stop ≡ None;
   before : Avoids l.breakpoints l.done.steps (bare_state l.fn.parts None);
   sound : IsSound l.parts;

@@ -25,7 +25,7 @@ end_function-requires g c =
 pub returns-in-Next-clause-turned : goal.returns-in-Next-clause-turned
 returns-in-Next-clause-turned g c = λ l k calls.
     let x = c.execute_guest.ensures in
-    let now : Outside = outside c.args.out.now (g.L.EventLog.noted c.args.log.now) (g.L.EventLog.has_failed c.args.log.now) in
+    let now : Outside = outside c.args.bytes.now (g.L.EventLog.noted c.args.log.now) (g.L.EventLog.has_failed c.args.log.now) in
     turned-by c.execute_guest.new.store c.execute_guest.new.regs (g.Q.KindKeeper.tells c.args.kinds.now) now now Goes
     c.args.store.now c.execute_guest.new.store l c.args.regs.now c.execute_guest.new.regs Next (x.words l k) (x.regs l k) (sym c.in-Next.is ∙ x.outcome l k)
     (turned-ended c.execute_guest.new.store c.execute_guest.new.regs (g.Q.KindKeeper.tells c.args.kinds.now) now Goes l (x.lists l k) k.knows)
@@ -34,8 +34,8 @@ pub returns-in-Sys-clause-turned : goal.returns-in-Sys-clause-turned
 returns-in-Sys-clause-turned g c = λ l k calls.
     let x = c.execute_guest.ensures in
     turned-by c.make_call.new.store c.make_call.new.regs (g.Q.KindKeeper.tells c.make_call.new.kinds)
-    (outside c.args.out.now (g.L.EventLog.noted c.args.log.now) (g.L.EventLog.has_failed c.args.log.now))
-    (outside c.make_call.new.out (g.L.EventLog.noted c.make_call.new.log) (g.L.EventLog.has_failed c.make_call.new.log)) c.make_call.result
+    (outside c.args.bytes.now (g.L.EventLog.noted c.args.log.now) (g.L.EventLog.has_failed c.args.log.now))
+    (outside c.make_call.new.bytes (g.L.EventLog.noted c.make_call.new.log) (g.L.EventLog.has_failed c.make_call.new.log)) c.make_call.result
     c.args.store.now c.execute_guest.new.store l c.args.regs.now c.execute_guest.new.regs Sys (x.words l k) (x.regs l k) (sym c.in-Sys.is ∙ x.outcome l k)
     (c.make_call.ensures.turned l
     (keeper-after c.args.store.now c.execute_guest.new.store (g.Q.KindKeeper.tells c.args.kinds.now) (g.Q.KindKeeper.room c.args.kinds.now) l k (x.lists l k))
@@ -44,7 +44,7 @@ returns-in-Sys-clause-turned g c = λ l k calls.
 pub returns-in-Returned-clause-turned : goal.returns-in-Returned-clause-turned
 returns-in-Returned-clause-turned g c = λ l k calls.
     let x = c.execute_guest.ensures in
-    let now : Outside = outside c.args.out.now (g.L.EventLog.noted c.args.log.now) (g.L.EventLog.has_failed c.args.log.now) in
+    let now : Outside = outside c.args.bytes.now (g.L.EventLog.noted c.args.log.now) (g.L.EventLog.has_failed c.args.log.now) in
     turned-by c.end_function.new.store c.end_function.new.regs (g.Q.KindKeeper.tells c.args.kinds.now) now now Goes
     c.args.store.now c.execute_guest.new.store l c.args.regs.now c.execute_guest.new.regs Returned (x.words l k) (x.regs l k) (sym c.in-Returned.is ∙ x.outcome l k)
     (turned-returned c.end_function.new.store c.end_function.new.regs (g.Q.KindKeeper.tells c.args.kinds.now) now c.execute_guest.new.store l (returned l c.execute_guest.new.regs)
@@ -53,7 +53,7 @@ returns-in-Returned-clause-turned g c = λ l k calls.
 pub returns-in-Fault-clause-turned : goal.returns-in-Fault-clause-turned
 returns-in-Fault-clause-turned g c = λ l k calls.
     let x = c.execute_guest.ensures in
-    let now : Outside = outside c.args.out.now (g.L.EventLog.noted c.args.log.now) (g.L.EventLog.has_failed c.args.log.now) in
+    let now : Outside = outside c.args.bytes.now (g.L.EventLog.noted c.args.log.now) (g.L.EventLog.has_failed c.args.log.now) in
     turned-by c.execute_guest.new.store c.execute_guest.new.regs (g.Q.KindKeeper.tells c.args.kinds.now) now now (Faults c.in-Fault.fault)
     c.args.store.now c.execute_guest.new.store l c.args.regs.now c.execute_guest.new.regs (Faulted c.in-Fault.fault) (x.words l k) (x.regs l k) (sym c.in-Fault.is ∙ x.outcome l k)
     (turned-ended c.execute_guest.new.store c.execute_guest.new.regs (g.Q.KindKeeper.tells c.args.kinds.now) now (Faults c.in-Fault.fault) l (x.lists l k) k.knows)

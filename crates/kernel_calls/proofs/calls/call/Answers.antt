@@ -10,14 +10,14 @@ returns-in-Ok-clause-called g c = λ l k calls.
     let s = c.args.store.now in
     subst
     (λ q. IsCalled s c.make.new.store c.make.new.regs (g.Q.KindKeeper.tells c.make.new.kinds)
-    (outside c.args.out.now (g.L.EventLog.noted c.args.log.now) (g.L.EventLog.has_failed c.args.log.now))
-    (outside c.make.new.out (g.L.EventLog.noted c.make.new.log) (g.L.EventLog.has_failed c.make.new.log))
+    (outside c.args.bytes.now (g.L.EventLog.noted c.args.log.now) (g.L.EventLog.has_failed c.args.log.now))
+    (outside c.make.new.bytes (g.L.EventLog.noted c.make.new.log) (g.L.EventLog.has_failed c.make.new.log))
     c.make.result (made_if_read s l c.args.regs.now q))
     (sym c.in-Ok.is ∙ c.read_call.ensures)
     (subst
     (λ pc. IsCalled s c.make.new.store c.make.new.regs (g.Q.KindKeeper.tells c.make.new.kinds)
-    (outside c.args.out.now (g.L.EventLog.noted c.args.log.now) (g.L.EventLog.has_failed c.args.log.now))
-    (outside c.make.new.out (g.L.EventLog.noted c.make.new.log) (g.L.EventLog.has_failed c.make.new.log))
+    (outside c.args.bytes.now (g.L.EventLog.noted c.args.log.now) (g.L.EventLog.has_failed c.args.log.now))
+    (outside c.make.new.bytes (g.L.EventLog.noted c.make.new.log) (g.L.EventLog.has_failed c.make.new.log))
     c.make.result (made s l (record c.args.regs.now { pc = pc }) c.in-Ok.call))
     c.add-regs.ensures
     (c.make.ensures.called l k calls))
@@ -28,10 +28,10 @@ returns-in-Err-clause-called g c = λ l k calls.
     let s = c.args.store.now in
     subst
     (λ q. IsCalled s s c.args.regs.now (g.Q.KindKeeper.tells c.args.kinds.now)
-    (outside c.args.out.now (g.L.EventLog.noted c.args.log.now) (g.L.EventLog.has_failed c.args.log.now))
-    (outside c.args.out.now (g.L.EventLog.noted c.args.log.now) (g.L.EventLog.has_failed c.args.log.now))
+    (outside c.args.bytes.now (g.L.EventLog.noted c.args.log.now) (g.L.EventLog.has_failed c.args.log.now))
+    (outside c.args.bytes.now (g.L.EventLog.noted c.args.log.now) (g.L.EventLog.has_failed c.args.log.now))
     c.in-Err.end (made_if_read s l c.args.regs.now q))
     (sym c.in-Err.is ∙ c.read_call.ensures)
     (called-ended s (g.Q.KindKeeper.tells c.args.kinds.now) c.args.regs.now
-    (outside c.args.out.now (g.L.EventLog.noted c.args.log.now) (g.L.EventLog.has_failed c.args.log.now))
+    (outside c.args.bytes.now (g.L.EventLog.noted c.args.log.now) (g.L.EventLog.has_failed c.args.log.now))
     l k.lists k.knows c.args.regs.now c.in-Err.end c.in-Err.end refl refl)

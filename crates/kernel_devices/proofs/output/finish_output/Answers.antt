@@ -12,19 +12,19 @@ pub returns-then-p-eq0-clause-lists : goal.returns-then-p-eq0-clause-lists
 returns-then-p-eq0-clause-lists g c = λ l h.
     subst (IsServed c.args.store.now c.args.store.now l) (sym (returned-none c.args.store.now l Output h 0 (sym c.root-p.ensures ∙ c.if-p-eq0.true))) (served-none c.args.store.now l Output h)
 
-pub returns-then-p-eq0-clause-out : goal.returns-then-p-eq0-clause-out
-returns-then-p-eq0-clause-out g c = λ l h.
-    sym (append-nil c.args.out.now) ∙ ap (λ ps. c.args.out.now ++ printed c.args.store.now ps) (sym (none-waits c.args.store.now l Output h (sym c.root-p.ensures ∙ c.if-p-eq0.true)))
+pub returns-then-p-eq0-clause-bytes : goal.returns-then-p-eq0-clause-bytes
+returns-then-p-eq0-clause-bytes g c = λ l h.
+    sym (append-nil c.args.bytes.now) ∙ ap (λ ps. c.args.bytes.now ++ printed c.args.store.now ps) (sym (none-waits c.args.store.now l Output h (sym c.root-p.ensures ∙ c.if-p-eq0.true)))
 
 pub returns-then-p-eq0-clause-notes : goal.returns-then-p-eq0-clause-notes
 returns-then-p-eq0-clause-notes g c = λ l h.
     subst (λ m. NotesAll (g.L.EventLog.noted c.args.log.now) (g.L.EventLog.noted c.args.log.now) (g.L.EventLog.has_failed c.args.log.now) (g.L.EventLog.has_failed c.args.log.now) m.events)
     (sym (returned-none c.args.store.now l Output h 0 (sym c.root-p.ensures ∙ c.if-p-eq0.true))) (notes-none (g.L.EventLog.noted c.args.log.now) (g.L.EventLog.has_failed c.args.log.now))
 
-pub returns-clause-out : goal.returns-clause-out
-returns-clause-out g c = λ l h.
+pub returns-clause-bytes : goal.returns-clause-bytes
+returns-clause-bytes g c = λ l h.
     let f : HasFirst c.root-p.result l.output = one-waits c.args.store.now l Output h c.root-p.result c.root-p.ensures c.if-p-eq0.false in
     c.append.ensures
-    ∙ (λ i. c.args.out.now ++ (c.word_at.ensures i % 256 ∷ []))
-    ∙ ap (λ p. c.args.out.now ++ (get_or c.args.store.now (p + 5) 0 % 256 ∷ [])) (sym f.address)
-    ∙ ap (λ ps. c.args.out.now ++ printed c.args.store.now ps) (sym f.is)
+    ∙ (λ i. c.args.bytes.now ++ (c.word_at.ensures i % 256 ∷ []))
+    ∙ ap (λ p. c.args.bytes.now ++ (get_or c.args.store.now (p + 5) 0 % 256 ∷ [])) (sym f.address)
+    ∙ ap (λ ps. c.args.bytes.now ++ printed c.args.store.now ps) (sym f.is)

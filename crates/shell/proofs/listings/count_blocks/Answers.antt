@@ -9,7 +9,7 @@ pub prompt-requires-clause-ready : goal.prompt-requires-clause-ready
 prompt-requires-clause-ready g c =
     let x = c.requires.ready.2 in
     let r = c.requires.ready.3 in
-    (_, _, _, ready-shown r (block_line x.standing.lists.blocks) c.write_blocks.new.out (c.write_blocks.ensures.text x.standing.lists r.done.stands.keeper.lists))
+    (_, _, _, ready-shown r (block_line x.standing.lists.blocks) c.write_blocks.new.bytes (c.write_blocks.ensures.text x.standing.lists r.done.stands.keeper.lists))
 
 pub returns-clause-done : goal.returns-clause-done
-returns-clause-done g c = λ b d x r. c.prompt.ensures.done b d _ (ready-shown r (block_line x.standing.lists.blocks) c.write_blocks.new.out (c.write_blocks.ensures.text x.standing.lists r.done.stands.keeper.lists))
+returns-clause-done g c = λ b d x r. c.prompt.ensures.done b d _ (ready-shown r (block_line x.standing.lists.blocks) c.write_blocks.new.bytes (c.write_blocks.ensures.text x.standing.lists r.done.stands.keeper.lists))

@@ -9,7 +9,7 @@ pub prompt-requires-clause-ready : goal.prompt-requires-clause-ready
 prompt-requires-clause-ready g c =
     let x = c.requires.ready.2 in
     let r = c.requires.ready.3 in
-    (_, _, _, ready-shown r (task_lines x.standing.lists.tasks) c.write_tasks.new.out (c.write_tasks.ensures.text x.standing.lists r.done.stands.keeper.lists))
+    (_, _, _, ready-shown r (task_lines x.standing.lists.tasks) c.write_tasks.new.bytes (c.write_tasks.ensures.text x.standing.lists r.done.stands.keeper.lists))
 
 pub returns-clause-done : goal.returns-clause-done
-returns-clause-done g c = λ b d x r. c.prompt.ensures.done b d _ (ready-shown r (task_lines x.standing.lists.tasks) c.write_tasks.new.out (c.write_tasks.ensures.text x.standing.lists r.done.stands.keeper.lists))
+returns-clause-done g c = λ b d x r. c.prompt.ensures.done b d _ (ready-shown r (task_lines x.standing.lists.tasks) c.write_tasks.new.bytes (c.write_tasks.ensures.text x.standing.lists r.done.stands.keeper.lists))

@@ -28,7 +28,7 @@ prompt-requires-clause-ready g c =
     let is = started-answer r c.args.program.now (Ok tt) c.run_priority-priority.result c.start_program.new.store (g.Q.KindKeeper.tells c.start_program.new.kinds) (g.Q.KindKeeper.room c.start_program.new.kinds) (Ok c.in-Ok.id) y in
     let guest = started-guest x c.args.program.now (Ok tt) c.run_priority-priority.result c.in-Ok.id is in
     let begins = ready-begun z c.in-Ok.id c.begin_task.new.store guest (c.begin_task.ensures _ z.done.stands.keeper.lists guest) in
-    let told = ready-shown begins (task_number_line c.in-Ok.id) c.write_task_number.new.out c.write_task_number.ensures.text in
+    let told = ready-shown begins (task_number_line c.in-Ok.id) c.write_task_number.new.bytes c.write_task_number.ensures.text in
     (_, _, _, told)
 
 pub refuse-requires-clause-ready : goal.refuse-requires-clause-ready
@@ -46,7 +46,7 @@ returns-in-Ok-clause-done g c = λ b x r.
     let is = started-answer r c.args.program.now (Ok tt) c.run_priority-priority.result c.start_program.new.store (g.Q.KindKeeper.tells c.start_program.new.kinds) (g.Q.KindKeeper.room c.start_program.new.kinds) (Ok c.in-Ok.id) y in
     let guest = started-guest x c.args.program.now (Ok tt) c.run_priority-priority.result c.in-Ok.id is in
     let begins = ready-begun z c.in-Ok.id c.begin_task.new.store guest (c.begin_task.ensures _ z.done.stands.keeper.lists guest) in
-    let told = ready-shown begins (task_number_line c.in-Ok.id) c.write_task_number.new.out c.write_task_number.ensures.text in
+    let told = ready-shown begins (task_number_line c.in-Ok.id) c.write_task_number.new.bytes c.write_task_number.ensures.text in
     done-is (c.prompt.ensures.done b _ _ told) _
     (ap (λ a. after_run a (with_started (start_program x.disc c.args.program.now (Ok tt) c.run_priority-priority.result x.standing) x)) is
     ∙ ap (λ p. by_run (start_program x.disc c.args.program.now (Ok tt) p x.standing) x) c.run_priority-priority.ensures)

@@ -17,10 +17,10 @@ returns-then-serves_pipes-clause-turned g c = λ k st r.
     let runs = runs-handler c.args.parts.now k st r in
     let takes = takes-pipes c.args.parts.now k st r in
     let x = c.pipe_turn.ensures in
-    leaves-pipe c.args.parts.now k st r _ _ _ _ _ (x.turn k.lists c.args.out.now st.keeper takes (sym r.is)) x.room (x.pipes k.lists st.keeper takes) (sym (c.serves_pipes.ensures k.lists st.keeper.lists runs.runs) ∙ c.if-serves_pipes.true)
+    leaves-pipe c.args.parts.now k st r _ _ _ _ _ (x.turn k.lists c.args.bytes.now st.keeper takes (sym r.is)) x.room (x.pipes k.lists st.keeper takes) (sym (c.serves_pipes.ensures k.lists st.keeper.lists runs.runs) ∙ c.if-serves_pipes.true)
 
 pub returns-clause-turned : goal.returns-clause-turned
 returns-clause-turned g c = λ k st r.
     let runs = runs-handler c.args.parts.now k st r in
     let x = c.file_turn.ensures in
-    leaves-file (record c.args.parts.now { bytes = c.file_turn.new.bytes }) k (stands-buffer c.args.parts.now k c.file_turn.new.bytes st) r _ _ _ _ _ (x.turn k.lists c.args.out.now st.keeper runs) x.room (x.disc k.lists st.keeper runs) (sym (c.serves_pipes.ensures k.lists st.keeper.lists runs.runs) ∙ c.if-serves_pipes.false)
+    leaves-file (record c.args.parts.now { bytes = c.file_turn.new.bytes }) k (stands-buffer c.args.parts.now k c.file_turn.new.bytes st) r _ _ _ _ _ (x.turn k.lists c.args.bytes.now st.keeper runs) x.room (x.disc k.lists st.keeper runs) (sym (c.serves_pipes.ensures k.lists st.keeper.lists runs.runs) ∙ c.if-serves_pipes.false)

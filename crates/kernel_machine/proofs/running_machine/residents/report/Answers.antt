@@ -19,4 +19,4 @@ returns-clause-room g c =
     let (k, st, r) = c.requires.stands in
     let turn = c.fault_turn.ensures.turn k.lists st.keeper (can-report c.args.parts.now k st r _ c.requires.empty) in
     omega
-    (arith, ap length turn.bytes, length-append c.args.out.now (fault_turn c.args.parts.now.store k.lists).bytes, report-bytes c.args.parts.now.store k.lists st.keeper.lists c.know_words.ensures, ap length c.requires.empty)
+    (arith, ap length turn.bytes, length-append c.args.bytes.now (fault_turn c.args.parts.now.store k.lists).bytes, report-bytes c.args.parts.now.store k.lists st.keeper.lists c.know_words.ensures, ap length c.requires.empty)

@@ -11,7 +11,7 @@ pub returns-in-3-clause-room : goal.returns-in-3-clause-room
 returns-in-3-clause-room g c =
     let (k, st, r) = c.requires.stands in
     let left = c.console.ensures.turned k st (record { can = r.can; is = sym r.is ∙ c.in-3.is }) in
-    omega (arith, ap length left.bytes, length-append c.args.out.now (console_step k).bytes, console-bytes k, ap length c.requires.empty)
+    omega (arith, ap length left.bytes, length-append c.args.bytes.now (console_step k).bytes, console-bytes k, ap length c.requires.empty)
 
 pub returns-in-4-clause-turned : goal.returns-in-4-clause-turned
 returns-in-4-clause-turned g c = λ k st r. leaves-four c.args.task k c.in-4.is (c.handle.ensures.turned k st (record { can = r.can; is = sym r.is ∙ c.in-4.is }))

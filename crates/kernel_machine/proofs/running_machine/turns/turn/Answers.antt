@@ -48,4 +48,4 @@ returns-clause-room g c =
     let is = c.running-task.ensures k.lists st.keeper.lists in
     let guest = guest-number c.running-task.result k.lists.running is (omega (arith, c.if-task-lt-FIRST_GUEST.false)) in
     let left = c.guest.ensures.turned k st (record { can = can; is = is; guest = guest }) in
-    omega (arith, ap length left.bytes, length-append c.args.out.now (guest_step k).bytes, turn-bytes k, ap length c.requires.empty)
+    omega (arith, ap length left.bytes, length-append c.args.bytes.now (guest_step k).bytes, turn-bytes k, ap length c.requires.empty)

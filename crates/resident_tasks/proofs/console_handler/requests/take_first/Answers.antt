@@ -7,8 +7,8 @@ use Rattle.resident_tasks.proofs.console_handler.requests.take_first.Goals as go
 
 pub returns-in_default-clause-done : goal.returns-in_default-clause-done
 returns-in_default-clause-done g c = λ b console k p x takes.
-    let keeper = done-keeper b c.args.store.now (g.Q.KindKeeper.tells c.args.kinds.now) (g.Q.KindKeeper.room c.args.kinds.now) (outside c.args.out.now (g.L.EventLog.noted c.args.log.now) (g.L.EventLog.has_failed c.args.log.now)) console k p x in
-    none-done b c.args.store.now (g.Q.KindKeeper.tells c.args.kinds.now) (g.Q.KindKeeper.room c.args.kinds.now) (outside c.args.out.now (g.L.EventLog.noted c.args.log.now) (g.L.EventLog.has_failed c.args.log.now)) console k p x
+    let keeper = done-keeper b c.args.store.now (g.Q.KindKeeper.tells c.args.kinds.now) (g.Q.KindKeeper.room c.args.kinds.now) (outside c.args.bytes.now (g.L.EventLog.noted c.args.log.now) (g.L.EventLog.has_failed c.args.log.now)) console k p x in
+    none-done b c.args.store.now (g.Q.KindKeeper.tells c.args.kinds.now) (g.Q.KindKeeper.room c.args.kinds.now) (outside c.args.bytes.now (g.L.EventLog.noted c.args.log.now) (g.L.EventLog.has_failed c.args.log.now)) console k p x
     c.take_request.new.store (g.Q.KindKeeper.tells c.take_request.new.kinds) (g.Q.KindKeeper.room c.take_request.new.kinds) (g.L.EventLog.noted c.take_request.new.log) (g.L.EventLog.has_failed c.take_request.new.log)
     (subst (IsTaken c.args.store.now c.take_request.new.store (g.Q.KindKeeper.tells c.take_request.new.kinds) p.lists) c.in_default.is (c.take_request.ensures.taken p.lists keeper takes)) c.take_request.ensures.room
     (c.take_request.ensures.notes p.lists keeper takes)
@@ -21,8 +21,8 @@ put_off-requires g c =
     let p = c.requires.first.3 in
     let x = c.requires.first.4 in
     let takes = c.requires.first.5 in
-    let keeper = done-keeper b c.args.store.now (g.Q.KindKeeper.tells c.args.kinds.now) (g.Q.KindKeeper.room c.args.kinds.now) (outside c.args.out.now (g.L.EventLog.noted c.args.log.now) (g.L.EventLog.has_failed c.args.log.now)) console k p x in
-    let now = outside c.args.out.now (g.L.EventLog.noted c.args.log.now) (g.L.EventLog.has_failed c.args.log.now) in
+    let keeper = done-keeper b c.args.store.now (g.Q.KindKeeper.tells c.args.kinds.now) (g.Q.KindKeeper.room c.args.kinds.now) (outside c.args.bytes.now (g.L.EventLog.noted c.args.log.now) (g.L.EventLog.has_failed c.args.log.now)) console k p x in
+    let now = outside c.args.bytes.now (g.L.EventLog.noted c.args.log.now) (g.L.EventLog.has_failed c.args.log.now) in
     let y = subst (IsTaken c.args.store.now c.take_request.new.store (g.Q.KindKeeper.tells c.take_request.new.kinds) p.lists) c.in-Some.is (c.take_request.ensures.taken p.lists keeper takes) in
     let notes = c.take_request.ensures.notes p.lists keeper takes in (
       (taken p.lists).lists,
@@ -35,8 +35,8 @@ put_off-requires g c =
 
 pub returns-then-request-eq-READ_LINE-clause-done : goal.returns-then-request-eq-READ_LINE-clause-done
 returns-then-request-eq-READ_LINE-clause-done g c = λ b console k p x takes.
-    let keeper = done-keeper b c.args.store.now (g.Q.KindKeeper.tells c.args.kinds.now) (g.Q.KindKeeper.room c.args.kinds.now) (outside c.args.out.now (g.L.EventLog.noted c.args.log.now) (g.L.EventLog.has_failed c.args.log.now)) console k p x in
-    let now = outside c.args.out.now (g.L.EventLog.noted c.args.log.now) (g.L.EventLog.has_failed c.args.log.now) in
+    let keeper = done-keeper b c.args.store.now (g.Q.KindKeeper.tells c.args.kinds.now) (g.Q.KindKeeper.room c.args.kinds.now) (outside c.args.bytes.now (g.L.EventLog.noted c.args.log.now) (g.L.EventLog.has_failed c.args.log.now)) console k p x in
+    let now = outside c.args.bytes.now (g.L.EventLog.noted c.args.log.now) (g.L.EventLog.has_failed c.args.log.now) in
     let y = subst (IsTaken c.args.store.now c.take_request.new.store (g.Q.KindKeeper.tells c.take_request.new.kinds) p.lists) c.in-Some.is (c.take_request.ensures.taken p.lists keeper takes) in
     let notes = c.take_request.ensures.notes p.lists keeper takes in
     let held = request-keeper b c.args.store.now (g.Q.KindKeeper.tells c.args.kinds.now) (g.Q.KindKeeper.room c.args.kinds.now) now console k p x c.take_request.new.store (g.Q.KindKeeper.tells c.take_request.new.kinds)
@@ -56,8 +56,8 @@ return_request-requires g c =
     let p = c.requires.first.3 in
     let x = c.requires.first.4 in
     let takes = c.requires.first.5 in
-    let keeper = done-keeper b c.args.store.now (g.Q.KindKeeper.tells c.args.kinds.now) (g.Q.KindKeeper.room c.args.kinds.now) (outside c.args.out.now (g.L.EventLog.noted c.args.log.now) (g.L.EventLog.has_failed c.args.log.now)) console k p x in
-    let now = outside c.args.out.now (g.L.EventLog.noted c.args.log.now) (g.L.EventLog.has_failed c.args.log.now) in
+    let keeper = done-keeper b c.args.store.now (g.Q.KindKeeper.tells c.args.kinds.now) (g.Q.KindKeeper.room c.args.kinds.now) (outside c.args.bytes.now (g.L.EventLog.noted c.args.log.now) (g.L.EventLog.has_failed c.args.log.now)) console k p x in
+    let now = outside c.args.bytes.now (g.L.EventLog.noted c.args.log.now) (g.L.EventLog.has_failed c.args.log.now) in
     let y = subst (IsTaken c.args.store.now c.take_request.new.store (g.Q.KindKeeper.tells c.take_request.new.kinds) p.lists) c.in-Some.is (c.take_request.ensures.taken p.lists keeper takes) in
     let notes = c.take_request.ensures.notes p.lists keeper takes in (
       (taken p.lists).lists,
@@ -71,8 +71,8 @@ return_request-requires g c =
 
 pub returns-clause-done : goal.returns-clause-done
 returns-clause-done g c = λ b console k p x takes.
-    let keeper = done-keeper b c.args.store.now (g.Q.KindKeeper.tells c.args.kinds.now) (g.Q.KindKeeper.room c.args.kinds.now) (outside c.args.out.now (g.L.EventLog.noted c.args.log.now) (g.L.EventLog.has_failed c.args.log.now)) console k p x in
-    let now = outside c.args.out.now (g.L.EventLog.noted c.args.log.now) (g.L.EventLog.has_failed c.args.log.now) in
+    let keeper = done-keeper b c.args.store.now (g.Q.KindKeeper.tells c.args.kinds.now) (g.Q.KindKeeper.room c.args.kinds.now) (outside c.args.bytes.now (g.L.EventLog.noted c.args.log.now) (g.L.EventLog.has_failed c.args.log.now)) console k p x in
+    let now = outside c.args.bytes.now (g.L.EventLog.noted c.args.log.now) (g.L.EventLog.has_failed c.args.log.now) in
     let y = subst (IsTaken c.args.store.now c.take_request.new.store (g.Q.KindKeeper.tells c.take_request.new.kinds) p.lists) c.in-Some.is (c.take_request.ensures.taken p.lists keeper takes) in
     let notes = c.take_request.ensures.notes p.lists keeper takes in
     let held = request-keeper b c.args.store.now (g.Q.KindKeeper.tells c.args.kinds.now) (g.Q.KindKeeper.room c.args.kinds.now) now console k p x c.take_request.new.store (g.Q.KindKeeper.tells c.take_request.new.kinds)
@@ -82,5 +82,5 @@ returns-clause-done g c = λ b console k p x takes.
     answer-done b c.args.store.now (g.Q.KindKeeper.tells c.args.kinds.now) (g.Q.KindKeeper.room c.args.kinds.now) now console k p x c.take_request.new.store (g.Q.KindKeeper.tells c.take_request.new.kinds)
     (g.Q.KindKeeper.room c.take_request.new.kinds) (g.L.EventLog.noted c.take_request.new.log) (g.L.EventLog.has_failed c.take_request.new.log) c.in-Some.request y c.take_request.ensures.room notes
     c.return_request.new.store (g.Q.KindKeeper.tells c.return_request.new.kinds) (g.Q.KindKeeper.room c.return_request.new.kinds) (g.L.EventLog.noted c.return_request.new.log) (g.L.EventLog.has_failed c.return_request.new.log)
-    c.answer-answer.result c.answer-answer.new.out c.if-request-eq-READ_LINE.false c.answer-answer.ensures.answer c.answer-answer.ensures.bytes c.return_request.ensures.room
+    c.answer-answer.result c.answer-answer.new.bytes c.if-request-eq-READ_LINE.false c.answer-answer.ensures.answer c.answer-answer.ensures.bytes c.return_request.ensures.room
     (c.return_request.ensures.made _ held y.runs y.stands number) (c.return_request.ensures.owns _ held y.runs y.stands number) (c.return_request.ensures.runs _ y.runs) (c.return_request.ensures.notes _ held y.runs y.stands number)

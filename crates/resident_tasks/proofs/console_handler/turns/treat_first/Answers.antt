@@ -9,13 +9,13 @@ first_packet-requires g c = (let x = c.requires.console.3 in (_, x.lists.lists, 
 
 pub returns-in_default-clause-treated : goal.returns-in_default-clause-treated
 returns-in_default-clause-treated g c = λ b k p x.
-    let now = outside c.args.out.now (g.L.EventLog.noted c.args.log.now) (g.L.EventLog.has_failed c.args.log.now) in
+    let now = outside c.args.bytes.now (g.L.EventLog.noted c.args.log.now) (g.L.EventLog.has_failed c.args.log.now) in
     subst (IsDone b c.args.store.now (g.Q.KindKeeper.tells c.args.kinds.now) (g.Q.KindKeeper.room c.args.kinds.now) now c.args.state.now k)
     (sym (none-treated c.args.awaited p (sym c.in_default.is ∙ c.first_packet.ensures p.lists x.lists.lists x.runs))) x
 
 pub take_key-requires-clause-first : goal.take_key-requires-clause-first
 take_key-requires-clause-first g c =
-    let now = outside c.args.out.now (g.L.EventLog.noted c.args.log.now) (g.L.EventLog.has_failed c.args.log.now) in
+    let now = outside c.args.bytes.now (g.L.EventLog.noted c.args.log.now) (g.L.EventLog.has_failed c.args.log.now) in
     let p = c.requires.console.2 in
     let x = c.requires.console.3 in (
       c.requires.console.0,
@@ -28,8 +28,8 @@ take_key-requires-clause-first g c =
 
 pub returns-then-p-eq-KEY_PACKET-clause-treated : goal.returns-then-p-eq-KEY_PACKET-clause-treated
 returns-then-p-eq-KEY_PACKET-clause-treated g c = λ b k p x.
-    let now = outside c.args.out.now (g.L.EventLog.noted c.args.log.now) (g.L.EventLog.has_failed c.args.log.now) in
-    let after = outside c.take_key.new.out (g.L.EventLog.noted c.take_key.new.log) (g.L.EventLog.has_failed c.take_key.new.log) in
+    let now = outside c.args.bytes.now (g.L.EventLog.noted c.args.log.now) (g.L.EventLog.has_failed c.args.log.now) in
+    let after = outside c.take_key.new.bytes (g.L.EventLog.noted c.take_key.new.log) (g.L.EventLog.has_failed c.take_key.new.log) in
     let first = sym c.in-Some.is ∙ c.first_packet.ensures p.lists x.lists.lists x.runs in
     subst (IsDone b c.take_key.new.store (g.Q.KindKeeper.tells c.args.kinds.now) (g.Q.KindKeeper.room c.args.kinds.now) after c.take_key.new.state k)
     (key-treated b c.args.store.now (g.Q.KindKeeper.tells c.args.kinds.now) (g.Q.KindKeeper.room c.args.kinds.now) now c.args.state.now k p x c.in-Some.p first c.if-p-eq-KEY_PACKET.true c.args.awaited)
@@ -38,7 +38,7 @@ returns-then-p-eq-KEY_PACKET-clause-treated g c = λ b k p x.
 
 pub take_first-requires-clause-first : goal.take_first-requires-clause-first
 take_first-requires-clause-first g c =
-    let now = outside c.args.out.now (g.L.EventLog.noted c.args.log.now) (g.L.EventLog.has_failed c.args.log.now) in
+    let now = outside c.args.bytes.now (g.L.EventLog.noted c.args.log.now) (g.L.EventLog.has_failed c.args.log.now) in
     let p = c.requires.console.2 in
     let x = c.requires.console.3 in (
       c.requires.console.0,
@@ -52,8 +52,8 @@ take_first-requires-clause-first g c =
 
 pub returns-clause-treated : goal.returns-clause-treated
 returns-clause-treated g c = λ b k p x.
-    let now = outside c.args.out.now (g.L.EventLog.noted c.args.log.now) (g.L.EventLog.has_failed c.args.log.now) in
-    let after = outside c.take_first.new.out (g.L.EventLog.noted c.take_first.new.log) (g.L.EventLog.has_failed c.take_first.new.log) in
+    let now = outside c.args.bytes.now (g.L.EventLog.noted c.args.log.now) (g.L.EventLog.has_failed c.args.log.now) in
+    let after = outside c.take_first.new.bytes (g.L.EventLog.noted c.take_first.new.log) (g.L.EventLog.has_failed c.take_first.new.log) in
     let first = sym c.in-Some.is ∙ c.first_packet.ensures p.lists x.lists.lists x.runs in
     subst (IsDone b c.take_first.new.store (g.Q.KindKeeper.tells c.take_first.new.kinds) (g.Q.KindKeeper.room c.take_first.new.kinds) after c.args.state.now k)
     (request-treated b c.args.store.now (g.Q.KindKeeper.tells c.args.kinds.now) (g.Q.KindKeeper.room c.args.kinds.now) now c.args.state.now k p x c.in-Some.p first c.if-p-eq-KEY_PACKET.false c.args.awaited)

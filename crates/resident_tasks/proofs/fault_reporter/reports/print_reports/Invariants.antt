@@ -6,6 +6,6 @@ use Rattle.resident_tasks.proofs.fault_reporter.reports.print_reports.Given as g
 
 abbrev pub invariant-loop-t : goal.invariant-loop-t
 invariant-loop-t l = record {
-  text : l.out ++ flat_map (report_at l.store) l.t-iterator ≡ l.fn.out ++ flat_map (report_at l.store) (tasks_in l.store);
-  room : length l.out + most_in_line * length l.t-iterator ≤ 8192;
+  text : l.bytes ++ flat_map (report_at l.store) l.t-iterator ≡ l.fn.bytes ++ flat_map (report_at l.store) (tasks_in l.store);
+  room : length l.bytes + most_in_line * length l.t-iterator ≤ 8192;
 }

@@ -19,7 +19,7 @@ report_faults-requires g c =
 pub returns-then-is_fault_first-clause-turn : goal.returns-then-is_fault_first-clause-turn
 returns-then-is_fault_first-clause-turn g c = λ l k r.
     let f = sym (c.is_fault_first.ensures l k.lists r.runs) ∙ c.if-is_fault_first.true in
-    turn-reported c.args.store.now c.report_faults.new.store (g.Q.KindKeeper.tells c.args.kinds.now) (g.Q.KindKeeper.room c.args.kinds.now) l c.args.out.now c.report_faults.new.out (g.L.EventLog.noted c.args.log.now)
+    turn-reported c.args.store.now c.report_faults.new.store (g.Q.KindKeeper.tells c.args.kinds.now) (g.Q.KindKeeper.room c.args.kinds.now) l c.args.bytes.now c.report_faults.new.bytes (g.L.EventLog.noted c.args.log.now)
     (g.L.EventLog.noted c.report_faults.new.log) (g.L.EventLog.has_failed c.args.log.now) (g.L.EventLog.has_failed c.report_faults.new.log) k f
     (c.report_faults.ensures.lists l k.lists r f) (c.report_faults.ensures.bytes l k.lists r f) (c.report_faults.ensures.notes l k.lists r f)
 
@@ -66,10 +66,10 @@ returns-in-Some-clause-turn g c = λ l k r.
     (g.Q.KindKeeper.room c.take_request.new.kinds) l (Some c.in-Some.request) k x c.take_request.ensures.room
     in
     let from = sym r.reporter ∙ sym (taken-running l) in
-    subst (IsResidentTurn c.serve_request.new.store (g.Q.KindKeeper.tells c.serve_request.new.kinds) (outside c.args.out.now (g.L.EventLog.noted c.args.log.now) (g.L.EventLog.has_failed c.args.log.now))
-    (outside c.args.out.now (g.L.EventLog.noted c.serve_request.new.log) (g.L.EventLog.has_failed c.serve_request.new.log))) (other-turn l k.lists.valid r.runs r.reporter other c.args.store.now)
+    subst (IsResidentTurn c.serve_request.new.store (g.Q.KindKeeper.tells c.serve_request.new.kinds) (outside c.args.bytes.now (g.L.EventLog.noted c.args.log.now) (g.L.EventLog.has_failed c.args.log.now))
+    (outside c.args.bytes.now (g.L.EventLog.noted c.serve_request.new.log) (g.L.EventLog.has_failed c.serve_request.new.log))) (other-turn l k.lists.valid r.runs r.reporter other c.args.store.now)
     (turn-served c.args.store.now c.take_request.new.store c.serve_request.new.store l (g.Q.KindKeeper.tells c.serve_request.new.kinds) (g.Q.KindKeeper.tells c.take_request.new.kinds)
-    unknown c.args.out.now (g.L.EventLog.noted c.args.log.now) (g.L.EventLog.noted c.take_request.new.log) (g.L.EventLog.noted c.serve_request.new.log)
+    unknown c.args.bytes.now (g.L.EventLog.noted c.args.log.now) (g.L.EventLog.noted c.take_request.new.log) (g.L.EventLog.noted c.serve_request.new.log)
     (g.L.EventLog.has_failed c.args.log.now) (g.L.EventLog.has_failed c.take_request.new.log) (g.L.EventLog.has_failed c.serve_request.new.log) c.in-Some.request x
     (c.serve_request.ensures.served m k' x.runs x.stands from (inl (refl {a = []}))) (c.in-Some.ensures.notes l k takes) (c.serve_request.ensures.notes m k' x.runs x.stands from (inl (refl {a = []}))))
 
@@ -78,9 +78,9 @@ returns-in-None-clause-turn g c = λ l k r.
     let other = sym (c.is_fault_first.ensures l k.lists r.runs) ∙ c.if-is_fault_first.false in
     let takes = takes-other l k.lists.valid r.runs r.reporter other in
     let x = c.in-None.ensures.taken l k takes in
-    subst (IsResidentTurn c.finish_turn.new.store (g.Q.KindKeeper.tells c.take_request.new.kinds) (outside c.args.out.now (g.L.EventLog.noted c.args.log.now) (g.L.EventLog.has_failed c.args.log.now))
-    (outside c.args.out.now (g.L.EventLog.noted c.take_request.new.log) (g.L.EventLog.has_failed c.take_request.new.log))) (other-turn l k.lists.valid r.runs r.reporter other c.args.store.now)
+    subst (IsResidentTurn c.finish_turn.new.store (g.Q.KindKeeper.tells c.take_request.new.kinds) (outside c.args.bytes.now (g.L.EventLog.noted c.args.log.now) (g.L.EventLog.has_failed c.args.log.now))
+    (outside c.args.bytes.now (g.L.EventLog.noted c.take_request.new.log) (g.L.EventLog.has_failed c.take_request.new.log))) (other-turn l k.lists.valid r.runs r.reporter other c.args.store.now)
     (turn-idle c.args.store.now c.take_request.new.store c.finish_turn.new.store l (g.Q.KindKeeper.tells c.take_request.new.kinds) (g.Q.KindKeeper.tells c.take_request.new.kinds)
-    unknown c.args.out.now (g.L.EventLog.noted c.args.log.now) (g.L.EventLog.noted c.args.log.now) (g.L.EventLog.noted c.take_request.new.log)
+    unknown c.args.bytes.now (g.L.EventLog.noted c.args.log.now) (g.L.EventLog.noted c.args.log.now) (g.L.EventLog.noted c.take_request.new.log)
     (g.L.EventLog.has_failed c.args.log.now) (g.L.EventLog.has_failed c.args.log.now) (g.L.EventLog.has_failed c.take_request.new.log) x
     (c.finish_turn.ensures (taken l).lists x.lists.lists x.runs) (c.in-None.ensures.notes l k takes))

@@ -17,7 +17,7 @@ pub print_reports-requires-clause-room : goal.print_reports-requires-clause-room
 print_reports-requires-clause-room g c =
     let l = c.requires.0 in
     let x = c.take_packet.ensures.taken l c.requires.1 c.requires.2.runs c.requires.2.reporter c.requires.3 in
-    lines-room c.take_packet.new.store (fault_taken_from (work l) l) (length c.args.out.now) x.lists.lists c.requires.2.room
+    lines-room c.take_packet.new.store (fault_taken_from (work l) l) (length c.args.bytes.now) x.lists.lists c.requires.2.room
 
 pub mark_reports-requires : goal.mark_reports-requires
 mark_reports-requires g c =
@@ -42,4 +42,4 @@ returns-clause-lists g c = λ l h r f.
 pub returns-clause-bytes : goal.returns-clause-bytes
 returns-clause-bytes g c = λ l h r f.
     let x = c.take_packet.ensures.taken l h r.runs r.reporter f in
-    c.print_reports.ensures ∙ ap (λ z. c.args.out.now ++ z) (reports-read c.take_packet.new.store (fault_taken_from (work l) l) x.lists.lists ∙ reports-same l)
+    c.print_reports.ensures ∙ ap (λ z. c.args.bytes.now ++ z) (reports-read c.take_packet.new.store (fault_taken_from (work l) l) x.lists.lists ∙ reports-same l)

@@ -6,6 +6,6 @@ use Rattle.shell.proofs.shell_listings.tasks.write_chain.Given as goal
 
 abbrev pub invariant-loop-t : goal.invariant-loop-t
 invariant-loop-t l = record {
-  text : l.out ++ flat_map (task_line_at l.store) l.t-iterator ≡ l.fn.out ++ flat_map (task_line_at l.store) (tasks_in l.store);
-  room : length l.out + most_in_task_line * length l.t-iterator ≤ length l.fn.out + most_in_task_line * length (tasks_in l.store);
+  text : l.bytes ++ flat_map (task_line_at l.store) l.t-iterator ≡ l.fn.bytes ++ flat_map (task_line_at l.store) (tasks_in l.store);
+  room : length l.bytes + most_in_task_line * length l.t-iterator ≤ length l.fn.bytes + most_in_task_line * length (tasks_in l.store);
 }

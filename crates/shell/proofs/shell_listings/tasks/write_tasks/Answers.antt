@@ -10,7 +10,7 @@ pub write_chain-requires-clause-room : goal.write_chain-requires-clause-room
 write_chain-requires-clause-room c = omega (arith, c.requires.room, tasks-room c.args.store.now c.requires.lists.0 c.requires.lists.1)
 
 pub returns-clause-text : goal.returns-clause-text
-returns-clause-text c = λ l h. c.write_chain.ensures.text ∙ ap (λ text. c.args.out.now ++ text) (tasks-read c.args.store.now l h)
+returns-clause-text c = λ l h. c.write_chain.ensures.text ∙ ap (λ text. c.args.bytes.now ++ text) (tasks-read c.args.store.now l h)
 
 pub returns-clause-short : goal.returns-clause-short
 returns-clause-short c = omega (arith, c.write_chain.ensures.short, tasks-room c.args.store.now c.requires.lists.0 c.requires.lists.1)
