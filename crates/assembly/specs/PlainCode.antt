@@ -27,6 +27,7 @@ abbrev pub IsPlainAs : (ℕ → Type 0) → Option Entry → Result Instr Decode
 IsPlainAs leads (Some row) (Ok i) = IsPlainForm leads row.form i
 IsPlainAs leads _ _ = Unit {0}
 
+-- the instruction or the byte at an address is plain: its line says all of it
 abbrev pub IsPlainAt : (ℕ → Type 0) → (ℕ → Option ℕ) → ℕ → Type 0
 IsPlainAt leads code a = IsPlainAs leads (entry (unwrap_or (code a) 0)) (decoded code a)
 

@@ -30,6 +30,7 @@ abbrev pub parts_as : Option Entry → Result Instr DecodeEnd → ℕ → List (
 parts_as (Some row) (Ok i) byte = row.name ∷ operand_parts row.form i
 parts_as _ _ byte = codes "DB" ∷ decimal byte ∷ []
 
+-- the parts of the assembly line for what is at an address
 abbrev pub parts_of_byte : (ℕ → Option ℕ) → ℕ → ℕ → List (List ℕ)
 parts_of_byte code a byte = parts_as (entry byte) (decoded code a) byte
 

@@ -39,6 +39,7 @@ with_lines words a (line ∷ lines) =
 abbrev pub first_regs : Regs
 first_regs = record { a = 0; b = 0; c = 0; p = 100; g = 20; pc = program }
 
+-- a machine with these words, before its first step
 abbrev pub first_state : List ℕ → BareState
 first_state words = record { words = words; regs = first_regs; steps = 0; stop = None }
 
@@ -48,11 +49,12 @@ boot s = do
   words ← with_lines (replicate s.store 0) program s.lines
   Ok (first_state words)
 
--- what a booting function returned, seen by view, is what the definition gives, unless memory ran out
+-- a boot that failed did so as the definition says: it was refused at a line with a code, unless memory ran out
 abbrev pub BootEndsAs : {X : Type 0} → BootEnd → Result X Refusal → Type 0
 BootEndsAs (Line line code) booted = booted ≡ Err (refusal line code)
 BootEndsAs WantMemory booted = Unit {0}
 
+-- what a booting function returned, seen by `view`, is what the definition gives, unless memory ran out
 abbrev pub Boots : {X Y : Type 0} → (X → Y) → Result X BootEnd → Result Y Refusal → Type 0
 Boots view (Ok x) booted = booted ≡ Ok (view x)
 Boots view (Err e) booted = BootEndsAs e booted

@@ -18,6 +18,7 @@ pub record BareStepped : Type 0 where
   -- the bytes that they wrote to the console
   pub bytes : List ℕ
 
+-- a state that steps come to without writing anything
 abbrev pub quietly : BareState → BareStepped
 quietly m = record { state = m; bytes = [] }
 
@@ -25,6 +26,7 @@ quietly m = record { state = m; bytes = [] }
 abbrev pub and_then : BareStepped → (BareState → BareStepped) → BareStepped
 and_then x next = record { state = (next x.state).state; bytes = x.bytes ++ (next x.state).bytes }
 
+-- the machine stops, and nothing is written
 abbrev pub stopped_by : Stop → BareState → BareStepped
 stopped_by stop m = quietly (record m { stop = Some stop })
 
@@ -48,6 +50,7 @@ after_outcome (Faulted f) m = faulted_by f m
 abbrev pub unmarked : ℕ → Bool
 unmarked a = false
 
+-- what the next instruction does, on words of which none is the kernel's
 abbrev pub instruction_of : BareState → After
 instruction_of m = instruction unmarked m.words m.regs
 

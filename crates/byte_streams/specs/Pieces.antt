@@ -11,6 +11,7 @@ use Rattle.byte_streams.specs.declared.pieces.Piece.TheVariants.{Text, Decimal, 
 abbrev pub hex_digits_of : ℕ → List ℕ
 hex_digits_of w = encode_lower (to_be_bytes w32 w)
 
+-- the bytes that a piece prints
 abbrev pub text_of : Piece → List ℕ
 text_of (Text t) = t.now
 text_of (Decimal n) = decimal n

@@ -37,6 +37,7 @@ text_of line (Span from to) = slice_range line from to
 abbrev pub text_at : List ℕ → List Arg → ℕ → List ℕ
 text_at line args k = text_of line (slice_index_or args k Unset)
 
+-- whether an entry was given a value, or was set as a switch
 abbrev pub is_set : Arg → Bool
 is_set Unset = false
 is_set Switch = true
@@ -58,5 +59,6 @@ number_of text = if are_digits 10 text && nat_lt (digits_value 10 text) (2 ^ 32)
 abbrev pub option_number_of : List ℕ → Arg → Result (Option ℕ) ℕ
 option_number_of line arg = if is_set arg then on_ok (number_of (text_of line arg)) (λ n. Ok (Some n)) else Ok None
 
+-- the number of the k-th entry, from 0, where it was given one
 abbrev pub option_number_at : List ℕ → List Arg → ℕ → Result (Option ℕ) ℕ
 option_number_at line args k = option_number_of line (slice_index_or args k Unset)

@@ -84,10 +84,12 @@ named_command FinishMachine rest = on_ok (nothing_in rest) (λ none. Ok Finish)
 abbrev pub program_named : List ℕ → List ℕ → Result Command ℕ
 program_named word rest = on_ok (name_of word) (λ program. Ok (Start program (nothing_in rest)))
 
+-- the command that the first word of a line names, or the program
 abbrev pub command_by : Option CommandName → List ℕ → List ℕ → Result Command ℕ
 command_by (Some name) word rest = named_command name rest
 command_by None word rest = program_named word rest
 
+-- A line without a word asks nothing; otherwise its first word says what, and the rest is read by that.
 unfoldable pub command_of : List ℕ → Result Command ℕ
 command_of line =
     if length (first_word line) == 0 then Ok Nothing

@@ -67,6 +67,7 @@ names_in _ rest args = []
 abbrev pub value_of : List ℕ → ℕ
 value_of text = digits_value 10 text
 
+-- decimal digits, one or more, whose number is a word
 abbrev pub is_number : List ℕ → Bool
 is_number text = are_digits 10 text && nat_lt (value_of text) (2 ^ 32)
 
@@ -102,6 +103,7 @@ abbrev pub without_arguments : Result (List Arg) ℕ → Result (Unit {0}) ℕ
 without_arguments (Ok args) = Ok tt
 without_arguments (Err code) = Err code
 
+-- what a line asks of the shell: a command, or the code with which it is refused
 pub data Asks (line : List ℕ) : Result Command ℕ → Type 0 where
   -- a line without a word asks nothing
   nothing : IsBlank line → Asks line (Ok Nothing)

@@ -5,6 +5,7 @@ use Rattle.std.specs.Str.{str_eq_ignore_ascii_case}
 use Rattle.command_lines.specs.declared.command_names.CommandName.{CommandName}
 use Rattle.command_lines.specs.declared.command_names.CommandName.TheVariants.{TypeFile, ListFiles, DeleteFile, RenameFile, ListTasks, CountBlocks, HoldTask, ReleaseTask, SetPriority, SetFlags, RunProgram, FinishMachine}
 
+-- the name of each command, and the command
 abbrev pub command_names : List (List ℕ × CommandName)
 command_names =
     (codes "TYPE", TypeFile) ∷

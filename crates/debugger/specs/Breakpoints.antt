@@ -10,12 +10,13 @@ most_breakpoints = 16
 abbrev pub is_full_for : ℕ → List ℕ → Bool
 is_full_for a stops = not (has_breakpoint a stops) && nat_le most_breakpoints (length stops)
 
--- with one more, where it is new and there is room
+-- the breakpoints with one more, where it is new and there is room
 abbrev pub with_breakpoint : ℕ → List ℕ → List ℕ
 with_breakpoint a stops =
     if has_breakpoint a stops then stops else
     if nat_le most_breakpoints (length stops) then stops else
     stops ++ a ∷ []
 
+-- the breakpoints without the one at this address
 abbrev pub without_breakpoint : ℕ → List ℕ → List ℕ
 without_breakpoint a stops = filter (λ b. not (b == a)) stops

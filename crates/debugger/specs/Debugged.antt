@@ -29,6 +29,7 @@ pub record Told : Type 0 where
   -- the bytes that they wrote
   pub bytes : List ℕ
 
+-- these bytes are written, and this is the machine afterwards
 abbrev pub tell : List ℕ → Debugging → Told
 tell bytes d = record { after = d; bytes = bytes }
 
@@ -58,6 +59,7 @@ past_after zero past s = past
 past_after (suc n) past s =
     if is_some (stop_of s) then past else past_after n (remembered past s (step s).state) (step s).state
 
+-- n steps are taken, and those before them are kept where steps can be undone
 abbrev pub stepped : Limits → ℕ → Debugging → Told
 stepped c n d =
     tell (steps_text c n d.state) (record d { state = (run n d.state).state; past = option_map (λ past. past_after n past d.state) d.past })
@@ -72,9 +74,11 @@ past_of d = unwrap_or d.past []
 abbrev pub fewer_text : ℕ → List State → List ℕ
 fewer_text n past = if nat_lt (length past) n then codes "? no more\n" else []
 
+-- the machine n steps before, or as many as can be undone
 abbrev pub went_back : ℕ → Debugging → Debugging
 went_back n d = record d { state = state_back n (past_of d) d.state; past = option_map (past_back n) d.past }
 
+-- n steps are undone; what is written says where the machine is then, and that fewer can be undone, where it is so
 abbrev pub undone : Limits → ℕ → Debugging → Told
 undone c n d = tell (fewer_text n (past_of d) ++ place_text c.first (went_back n d).state) (went_back n d)
 
@@ -84,6 +88,7 @@ undone c n d = tell (fewer_text n (past_of d) ++ place_text c.first (went_back n
 abbrev pub full_text : ℕ → List ℕ → List ℕ
 full_text a stops = if is_full_for a stops then codes "? full\n" else []
 
+-- what each order does, and writes
 abbrev pub obeyed : Limits → Order → Debugging → Told
 obeyed c (Break a) d = tell (full_text a d.stops) (record d { stops = with_breakpoint a d.stops })
 obeyed c (Unbreak a) d = tell [] (record d { stops = without_breakpoint a d.stops })
@@ -105,6 +110,7 @@ line_obeyed c (Err line) d = tell [] d
 
 -- ---- lines, one after another
 
+-- each line is obeyed, where it asks for something that is in its range
 unfoldable pub lines_obeyed : Limits → List (List ℕ) → Debugging → Told
 lines_obeyed c [] d = tell [] d
 lines_obeyed c (line ∷ lines) d = told_then (line_obeyed c (order_of 0 line) d) (lines_obeyed c lines)

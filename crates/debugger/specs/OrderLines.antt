@@ -18,6 +18,7 @@ first_bad n (line ∷ lines) = bad_or (first_bad (n + 1) lines) (order_of n line
 
 -- ---- whether steps are to be undone
 
+-- whether a line asks that steps are undone
 abbrev pub is_back : Result Order BadLine → Bool
 is_back (Ok (Back n)) = true
 is_back _ = false

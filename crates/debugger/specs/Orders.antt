@@ -60,6 +60,7 @@ is_in_range (Instructions a n) = is_span a n
 
 -- ---- what a line asks for
 
+-- a line of the debugger, counted from 1, asks for nothing, with a code that says why
 abbrev pub bad : ℕ → ℕ → BadLine
 bad line code = record { line = line; code = code }
 
@@ -71,6 +72,7 @@ given n value = ok_or value (bad n 1)
 abbrev pub at_most : ℕ → ℕ → ℕ → Result ℕ BadLine
 at_most most n value = if nat_le value most then Ok value else Err (bad n 2)
 
+-- a word that a line asks about
 abbrev pub word_field : ℕ → List ℕ → Result ℕ BadLine
 word_field n digits = do
   value ← given n (number_of digits)
@@ -85,47 +87,56 @@ span_fields n text = do
   count ← at_most most_shown n second
   Ok (from, count)
 
+-- the address of a breakpoint that comes
 abbrev pub break_order : ℕ → List ℕ → Result Order BadLine
 break_order n text = do
   a ← word_field n text
   Ok (Break a)
 
+-- the address of a breakpoint that goes
 abbrev pub unbreak_order : ℕ → List ℕ → Result Order BadLine
 unbreak_order n text = do
   a ← word_field n text
   Ok (Unbreak a)
 
+-- how many steps are to be taken
 abbrev pub step_order : ℕ → List ℕ → Result Order BadLine
 step_order n text = do
   steps ← word_field n text
   Ok (Step steps)
 
+-- how many steps are to be undone
 abbrev pub back_order : ℕ → List ℕ → Result Order BadLine
 back_order n text = do
   steps ← word_field n text
   Ok (Back steps)
 
+-- the words that are to be shown
 abbrev pub words_order : ℕ → List ℕ → Result Order BadLine
 words_order n text = do
   span ← span_fields n text
   Ok (Words span.0 span.1)
 
+-- the instructions that are to be shown
 abbrev pub instructions_order : ℕ → List ℕ → Result Order BadLine
 instructions_order n text = do
   span ← span_fields n text
   Ok (Instructions span.0 span.1)
 
+-- the number of the task whose queue is to be shown
 abbrev pub task_queue_order : ℕ → List ℕ → Result Order BadLine
 task_queue_order n text = do
   id ← word_field n text
   Ok (TaskQueue id)
 
+-- the number of the device whose queue is to be shown, without its sign
 abbrev pub device_queue_order : ℕ → List ℕ → Result Order BadLine
 device_queue_order n text = do
   value ← given n (number_of text)
   number ← at_most most_device n value
   Ok (DeviceQueue number)
 
+-- the queue that is to be shown: with a sign before the number it is that of a device, else that of a task
 abbrev pub queue_order : ℕ → List ℕ → Result Order BadLine
 queue_order n text = option_map_or (device_queue_order n) (after_word (codes "-") text) (task_queue_order n text)
 

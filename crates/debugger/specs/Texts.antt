@@ -31,6 +31,7 @@ place_text first s =
 
 -- ---- registers and words
 
+-- the line of the registers, and of the number of the task that runs
 abbrev pub registers_line : Regs → ℕ → List ℕ
 registers_line r task =
     joined (codes "REGS A=" ∷ decimal r.a ∷ codes " B=" ∷ decimal r.b ∷ codes " C=" ∷ decimal r.c ∷ codes " P=" ∷ decimal r.p
@@ -51,6 +52,7 @@ words_text from count words = word_lines from (take count (drop from words))
 
 -- ---- lists of the kernel; a machine without a kernel has none
 
+-- a line for each task, in falling priority
 abbrev pub tasks_text : State → List ℕ
 tasks_text (Bare m) = []
 tasks_text (Full k) = task_lines k.lists.tasks
@@ -60,21 +62,26 @@ abbrev pub packet_line : QueuedPacket → List ℕ
 packet_line p =
     joined (decimal p.address ∷ codes " " ∷ signed_decimal (signed p.sender) ∷ codes " " ∷ decimal p.kind ∷ codes "\n" ∷ [])
 
+-- a line for each packet, the oldest first
 abbrev pub packet_lines : List QueuedPacket → List ℕ
 packet_lines ps = flat_map packet_line ps
 
+-- the lines of a queue, or that there is none
 abbrev pub queue_text : Option (List QueuedPacket) → List ℕ
 queue_text None = codes "? none\n"
 queue_text (Some ps) = packet_lines ps
 
+-- the packets on the queue of a task
 abbrev pub task_queue_text : ℕ → State → List ℕ
 task_queue_text id (Bare m) = queue_text None
 task_queue_text id (Full k) = queue_text (task_queue id k.lists.tasks)
 
+-- the packets at device -n
 abbrev pub device_queue_text : ℕ → State → List ℕ
 device_queue_text n (Bare m) = queue_text None
 device_queue_text n (Full k) = queue_text (device_queue n k.lists)
 
+-- the word that says what a block is used for
 abbrev pub use_name : Use → List ℕ
 use_name Free = codes "free"
 use_name User = codes "user"
@@ -87,9 +94,11 @@ use_name OfResidents = codes "resident"
 abbrev pub block_line : Block → Use → List ℕ
 block_line b used = joined (decimal b.start ∷ codes " " ∷ decimal b.size ∷ codes " " ∷ use_name used ∷ codes "\n" ∷ [])
 
+-- a line for each block, in the order of their addresses
 abbrev pub block_lines : Lists → List Block → List ℕ
 block_lines l bs = flat_map (λ b. block_line b (use_of l b)) bs
 
+-- the lines of all blocks of the store
 abbrev pub blocks_text : State → List ℕ
 blocks_text (Bare m) = []
 blocks_text (Full k) = block_lines k.lists k.lists.blocks

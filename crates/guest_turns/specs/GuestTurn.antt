@@ -71,6 +71,7 @@ called s place c = record {
 
 -- ---- a function that has returned
 
+-- a task whose function has returned, and which begins anew with its next packet
 abbrev pub died : Task → Task
 died t = record t { field = dead }
 
@@ -82,6 +83,7 @@ dies l r = record { answer = Ok tt; lists = with_task l.running died l; regs = r
 abbrev pub returned : Lists → Regs → Switched
 returned l r = if current_of (coroutines_of_caller l) == 0 then dies l r else ended l r
 
+-- what a turn leaves where another coroutine of the task goes on, or the task has died: no word is written besides those of lists
 abbrev pub goes_on : List ℕ → Switched → Turned
 goes_on s m = record { words = s; lists = m.lists; plain = []; regs = m.regs; bytes = []; events = []; ends = Goes }
 
@@ -132,6 +134,7 @@ pub record Numbers : Type 0 where
   -- the words of the store
   pub size : ℕ
 
+-- these numbers of the lists
 abbrev pub numbers_of : Lists → Numbers
 numbers_of l = record { running = l.running; period = l.period; tick = l.tick; version = l.version; residents = l.residents; size = l.size }
 

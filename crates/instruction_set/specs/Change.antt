@@ -17,6 +17,7 @@ pub record Change : Type 0 where
   -- the addresses and words that are written
   pub writes : List (ℕ × ℕ)
 
+-- the fault with a code, at an address
 abbrev pub fault : ℕ → ℕ → Fault
 fault code address = record { code = code; address = address }
 
@@ -110,6 +111,7 @@ holds Gr x y = int_lt (signed y) (signed x)
 holds Le x y = not (int_lt (signed y) (signed x))
 holds Ge x y = not (int_lt (signed x) (signed y))
 
+-- PC goes to an address where the test holds; else it stays at the next instruction
 abbrev pub jump_if : Bool → Regs → ℕ → Result Change Fault
 jump_if b r to = if b then jump r to else keep r
 

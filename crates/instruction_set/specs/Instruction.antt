@@ -15,6 +15,7 @@ use Rattle.instruction_set.specs.declared.Outcome.TheVariants.{Next, Sys as Call
 use Rattle.instruction_set.specs.Change.{Change, fault}
 use Rattle.instruction_set.specs.Effect.{change_of}
 
+-- what one instruction leaves
 pub record After : Type 0 where
   -- how it ended
   pub outcome : Outcome
@@ -23,6 +24,7 @@ pub record After : Type 0 where
   -- the registers
   pub regs : Regs
 
+-- these three parts as one
 abbrev pub after : Outcome → List ℕ → Regs → After
 after outcome words r = record { outcome = outcome; words = words; regs = r }
 
@@ -41,6 +43,7 @@ write_fault marks words (w ∷ ws) =
     if marks w.0 then Some (fault 6 w.0) else
     write_fault marks words ws
 
+-- the words once the writes are made, in their order
 abbrev pub written : List ℕ → List (ℕ × ℕ) → List ℕ
 written words [] = words
 written words (w ∷ ws) = written (slice_set words w.0 w.1) ws
@@ -50,10 +53,12 @@ abbrev pub made : Option Fault → List ℕ → Regs → Change → After
 made (Some f) words r change = after (Faulted f) words r
 made None words r change = after Next (written words change.writes) change.regs
 
+-- a change is tried on the words and registers before the instruction; a fault on the way there leaves both as they were
 abbrev pub settled : (ℕ → Bool) → List ℕ → Regs → Result Change Fault → After
 settled marks words r (Err f) = after (Faulted f) words r
 settled marks words r (Ok change) = made (write_fault marks words change.writes) words r change
 
+-- whether an effect is a call of the kernel
 abbrev pub is_call : Effect → Bool
 is_call Sys = true
 is_call _ = false
@@ -64,6 +69,7 @@ effected marks words r i =
     if is_call i.effect then after Call words r else
     settled marks words r (change_of i.effect words (record r { pc = add r.pc i.length }) i.operand i.target r.pc)
 
+-- what was decoded is done; a byte without a row, or an operand outside the store, is a fault
 abbrev pub decided : (ℕ → Bool) → List ℕ → Regs → Result Instr DecodeEnd → After
 decided marks words r (Err end) = after (Faulted (decode_fault end)) words r
 decided marks words r (Ok i) = effected marks words r i

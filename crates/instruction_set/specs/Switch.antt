@@ -48,6 +48,7 @@ search_from (suc k) words r t count i =
     if nat_lt count i then jump_by words r (add t 2) else
     (halfword words (add t (4 * i)) >>= λ key. compared (search_from k words r t count) words r t i key)
 
+-- the table begins with the count of its pairs, a halfword
 abbrev pub switch_by_key : List ℕ → Regs → ℕ → Result Change Fault
 switch_by_key words r t = do
   count ← halfword words t

@@ -21,5 +21,6 @@ begin_regs version words t = record {
 abbrev pub begun : ℕ → List ℕ → Task → Task
 begun version words t = record t { field = interrupted; saved = begin_regs version words t }
 
+-- the lists once the task with the number is to begin so
 abbrev pub with_begun : List ℕ → ℕ → Lists → Lists
 with_begun words id l = with_task id (begun l.version words) l

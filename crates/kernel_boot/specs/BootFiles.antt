@@ -11,6 +11,7 @@ use Rattle.kernel_boot.specs.declared.refusals.BootRefusal.{BootRefusal}
 
 -- ---- lines
 
+-- a boot is refused at a line of the session, counted from 1, with a code
 abbrev pub boot_refusal : ℕ → ℕ → BootRefusal
 boot_refusal line code = record { line = line; code = code }
 

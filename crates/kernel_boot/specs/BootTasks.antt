@@ -29,6 +29,7 @@ abbrev pub on_answer : {A : Type 0} → Result ℕ ℕ → Standing → (ℕ →
 on_answer (Ok n) k next = next n k
 on_answer (Err code) k next = Err code
 
+-- what follows a call, with its answer, and with the store and the lists that it left
 abbrev pub after_call : {A : Type 0} → List ℕ → Made → (ℕ → Standing → Result A ℕ) → Result A ℕ
 after_call words made next = on_answer made.answer (left_with words made.lists made.plain) next
 
@@ -44,6 +45,7 @@ abbrev pub load_bytes : Lists → Option (List ℕ) → Made
 load_bytes l None = refused l NO_FILE
 load_bytes l (Some bytes) = load_text l (module_of bytes)
 
+-- the module in the file of this name is loaded
 abbrev pub load_named : Disc → List ℕ → Lists → Made
 load_named d name l = load_bytes l (option_map (λ f. f.bytes) (file_named d name))
 
@@ -59,6 +61,7 @@ load_names d (name ∷ names) modules k =
 abbrev pub begin_it : ℕ → Standing → Result Standing ℕ
 begin_it id k = Ok (left_with k.words (with_begun k.words id k.lists) [])
 
+-- the task of the modules that were loaded is created, and is to begin at its function
 abbrev pub create_it : ℕ → ℕ → ℕ → Result (List ℕ × Standing) ℕ → Result Standing ℕ
 create_it id pri stack (Err code) = Err code
 create_it id pri stack (Ok x) = after_call x.1.words (create_task x.1.words x.1.lists id x.0 stack pri 0) begin_it
@@ -94,11 +97,13 @@ pub record MayStart (version id : ℕ) (names : List (List ℕ)) : Type 0 where
   -- it has no more than it may have
   pub most : length names ≤ most_modules_of version
 
+-- a line that a boot can be given: the task in it has a number and modules that a task may have
 abbrev pub IsBootForm : ℕ → LineForm → Type 0
 IsBootForm version (Task id pri stack names) = MayStart version id names
 IsBootForm version (File name bytes) = Unit {0}
 IsBootForm version (Code bytes) = Unit {0}
 
+-- lines that a boot can be given
 abbrev pub AreBootLines : ℕ → List SessionLine → Type 0
 AreBootLines version lines = AllByRecursion (λ line. IsBootForm version line.form) lines
 

@@ -17,6 +17,7 @@ block_pairs n block = (200 + block, n - 202 - block + 1) ∷ (200, block) ∷ (1
 abbrev pub waiting_pairs : ℕ → ℕ → ℕ → ℕ → Pairs
 waiting_pairs id t priority next = (120 + id, t) ∷ (t + 4, 4) ∷ (t + 2, priority) ∷ (t + 1, id) ∷ (t + 0, next) ∷ []
 
+-- the task that reports faults, where there is one, waits as the others do
 abbrev pub reporter_pairs : Bool → Pairs
 reporter_pairs reporter = if reporter then waiting_pairs 2 287 3000 201 else []
 
@@ -25,10 +26,11 @@ abbrev pub chain_pairs : Bool → Pairs
 chain_pairs reporter =
     waiting_pairs 1 201 1000 0 ++ (reporter_pairs reporter ++ (waiting_pairs 4 247 5000 (if reporter then 287 else 201) ++ (waiting_pairs 3 224 6000 247 ++ (101, 224) ∷ [])))
 
--- the key packet is at the keyboard, and the shell's packet on its own queue
+-- the key packet is at the keyboard
 abbrev pub key_pairs : Pairs
 key_pairs = (272, 3) ∷ (106, 271) ∷ []
 
+-- the shell's packet is on its own queue
 abbrev pub shell_pairs : Pairs
 shell_pairs = (280, 1) ∷ (201 + 4, 5) ∷ (201 + 3, 279) ∷ []
 
@@ -36,6 +38,7 @@ shell_pairs = (280, 1) ∷ (201 + 4, 5) ∷ (201 + 3, 279) ∷ []
 abbrev pub fault_pairs : Bool → Pairs
 fault_pairs reporter = if reporter then (310, no_queue) ∷ [] else []
 
+-- all words that are not 0 when a kernel with residents begins, in a store of n words
 abbrev pub resident_pairs : ℕ → ℕ → ℕ → Bool → Pairs
 resident_pairs n version period reporter =
     fault_pairs reporter ++ (shell_pairs ++ (key_pairs ++ (chain_pairs reporter ++ (block_pairs n (resident_block_size reporter) ++ root_pairs n version period))))

@@ -3,6 +3,7 @@ use Rattle.std.specs.Prelude.{ℕ, ◌-◌, false, None, [], ◌∷◌}
 use Rattle.kernel_lists.specs.GetvecChain.Block.{free_block}
 use Rattle.kernel_model.specs.KernelRecord.Lists.{Lists}
 
+-- the lists of a version, with this many steps from one tick to the next, in a store of this many words
 abbrev pub empty_lists : ℕ → ℕ → ℕ → Lists
 empty_lists version period size =
     record {

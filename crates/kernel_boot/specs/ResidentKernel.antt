@@ -37,22 +37,27 @@ waiting_resident id address priority queue = record {
   coroutines = no_coroutines;
 }
 
--- the console, the file handler, the reporter of faults, and the shell, to which its own packet comes
+-- the console, task 3
 abbrev pub console : Task
 console = waiting_resident 3 224 6000 []
 
+-- the file handler, task 4
 abbrev pub files : Task
 files = waiting_resident 4 247 5000 []
 
+-- the reporter of faults, task 2
 abbrev pub fault_reporter : Task
 fault_reporter = waiting_resident 2 287 3000 []
 
+-- the shell, task 1, to which its own packet comes
 abbrev pub shell : Task
 shell = waiting_resident 1 201 1000 (packet_from 1 279 ∷ [])
 
+-- the residents in falling priority, with or without the reporter of faults
 abbrev pub resident_tasks : Bool → List Task
 resident_tasks reporter = console ∷ files ∷ (if reporter then fault_reporter ∷ shell ∷ [] else shell ∷ [])
 
+-- the lists of a version, with this many steps from one tick to the next, in a store of this many words
 abbrev pub resident_lists : ℕ → ℕ → ℕ → Bool → Lists
 resident_lists version period size reporter =
     let block : ℕ = resident_block_size reporter in

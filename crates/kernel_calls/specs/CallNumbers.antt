@@ -19,18 +19,20 @@ word_or_outside a (Some w) = Ok w
 abbrev pub argument : List ℕ → Regs → ℕ → Result ℕ CallOutcome
 argument words r i = word_or_outside (add r.p (3 + i)) (slice_get words (add r.p (3 + i)))
 
--- a call with one argument, with two, and with three, read in their order
+-- a call with one argument
 abbrev pub one : List ℕ → Regs → (ℕ → KernelCall) → Result KernelCall CallOutcome
 one words r call = do
   a ← argument words r 1
   Ok (call a)
 
+-- a call with two arguments, read in their order
 abbrev pub two : List ℕ → Regs → (ℕ → ℕ → KernelCall) → Result KernelCall CallOutcome
 two words r call = do
   a ← argument words r 1
   b ← argument words r 2
   Ok (call a b)
 
+-- a call with three arguments, read in their order
 abbrev pub three : List ℕ → Regs → (ℕ → ℕ → ℕ → KernelCall) → Result KernelCall CallOutcome
 three words r call = do
   a ← argument words r 1
@@ -65,6 +67,7 @@ call_numbered words r number =
     if (number == 21) && (slice_index words (root_address Version) == 2) then two words r AddModule else
     Err Unknown
 
+-- the call that the words from P!3 on ask for; an argument outside the store is the first reason that there is none
 abbrev pub call_of : List ℕ → Regs → Result KernelCall CallOutcome
 call_of words r = do
   number ← argument words r 0

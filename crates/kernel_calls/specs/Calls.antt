@@ -80,6 +80,7 @@ abbrev pub regs_of_switch : Regs → Result (Unit {0}) ℕ → Regs
 regs_of_switch r (Ok u) = r
 regs_of_switch r (Err code) = answered r (Err code)
 
+-- what a call leaves that goes on in another coroutine: it writes no plain word, and neither shows bytes nor notes events
 abbrev pub of_switched : Switched → Called
 of_switched m = record { lists = m.lists; plain = []; regs = regs_of_switch m.regs m.answer; bytes = []; events = []; outcome = Done }
 
@@ -98,6 +99,7 @@ divided r q = record r { a = q.0; b = q.1 }
 
 -- ---- the calls
 
+-- what each call makes of the lists and of the caller's registers
 abbrev pub made : List ℕ → Lists → Regs → KernelCall → Called
 made s l r (Quit result) = ended_with (Quits result) l (answered r (Ok minus_one))
 made s l r (Getvec u) = of_made r (getvec l u)
@@ -127,6 +129,7 @@ abbrev pub made_if_read : List ℕ → Lists → Regs → Result KernelCall Call
 made_if_read s l r (Ok call) = made s l (past_call r) call
 made_if_read s l r (Err outcome) = ended_with outcome l r
 
+-- the call that the caller's registers and its frame ask for
 unfoldable pub kernel_call : List ℕ → Lists → Regs → Called
 kernel_call s l r = made_if_read s l r (call_of s r)
 

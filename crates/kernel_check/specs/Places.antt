@@ -4,6 +4,7 @@ use Rattle.kernel_model.specs.KernelRecord.ValidQueues.Place.{Clock, Keyboard, O
 use Rattle.kernel_check.specs.declared.places.QueuePlace.{QueuePlace}
 use Rattle.kernel_check.specs.declared.places.QueuePlace.TheVariants.{OfClock, OfConsole, OfKeyboard, OfOutput, OfTask}
 
+-- each place that the check names, as the lists name it
 abbrev pub place_of : QueuePlace → Place
 place_of (OfTask id) = Work id
 place_of OfClock = Clock

@@ -4,9 +4,11 @@ use Rattle.machine_ring.specs.Rings.{Left}
 use Rattle.machine_ring.specs.declared.left.LeftEnd.TheInside.{Inside}
 use Rattle.machine_ring.specs.declared.terms.TheConstants.{MOST_WAITING}
 
+-- the left machine with its bytes that wait, in the order in which it wrote them
 abbrev pub left_of : Inside → Left
 left_of x = record { state = x.machine.state; waiting = x.held.items ++ drop x.taken x.machine.output }
 
+-- There is room for all bytes that may wait, and no more bytes are taken than the machine wrote.
 pub record IsLeftEnd (x : Inside) : Type 0 where
   -- there is room for as many bytes as may wait where the machine takes a step
   pub room : x.held.capacity ≡ MOST_WAITING

@@ -5,6 +5,7 @@ use Rattle.machine_ring.specs.Links.{Link}
 use Rattle.machine_ring.specs.declared.flights.TheConstants.{MOST_IN_FLIGHT}
 use Rattle.machine_ring.specs.declared.links.LinkParts.TheInside.{Inside}
 
+-- the link that these parts are
 abbrev pub link_of : Inside → Link
 link_of x = record {
   terms = x.terms;
@@ -15,6 +16,7 @@ link_of x = record {
   rounds = x.rounds;
 }
 
+-- the parts have room for all that a link carries at one time, and its terms are lawful
 pub record HasLink (x : Inside) : Type 0 where
   -- the timer has not come to the wait
   pub timer : x.sender.timer < x.terms.wait

@@ -39,10 +39,11 @@ after_turn first k = record k {
 
 -- ---- data comes
 
--- by the letter of the link
+-- the data that comes out of the link in this round, as the letter of the round says
 abbrev pub coming_data : Link → Option (ℕ × ℕ)
 coming_data k = coming (letter_after k.rounds k.terms.link) k.packets
 
+-- the data that is left on the way then
 abbrev pub staying_data : Link → List (ℕ × ℕ)
 staying_data k = staying (letter_after k.rounds k.terms.link) k.packets
 
@@ -56,11 +57,12 @@ abbrev pub byte_taken : ℕ → Bool → Option (ℕ × ℕ) → Option ℕ
 byte_taken received room None = None
 byte_taken received room (Some numbered) = if is_taken received numbered.0 room then Some numbered.1 else None
 
--- whatever comes, their count is acknowledged
+-- whatever data comes, the count of all bytes received is sent back
 abbrev pub counts_after : ℕ → Bool → Option (ℕ × ℕ) → List ℕ → List ℕ
 counts_after received room None counts = counts
 counts_after received room (Some numbered) counts = with_packet (count_after received numbered.0 room) counts
 
+-- the link once data has come, where the right machine has room for a byte, or has none
 abbrev pub after_data : Bool → Link → Link
 after_data room k = record k {
   packets = staying_data k;
@@ -70,22 +72,25 @@ after_data room k = record k {
 
 -- ---- an acknowledgement comes
 
--- by the letter of the acknowledgements
+-- the acknowledged count that comes back in this round, as the letter of the round says
 abbrev pub coming_count : Link → Option ℕ
 coming_count k = coming (letter_after k.rounds k.terms.acks) k.counts
 
+-- the counts that are left on the way then
 abbrev pub staying_counts : Link → List ℕ
 staying_counts k = staying (letter_after k.rounds k.terms.acks) k.counts
 
+-- the sender once a count has come, where one has
 abbrev pub sender_after_answer : Option ℕ → Sender → Sender
 sender_after_answer None s = s
 sender_after_answer (Some count) s = sender_after_count s count
 
--- it is a new one
+-- whether a count that has come acknowledges more than those before it
 abbrev pub is_new : Option ℕ → Sender → Bool
 is_new None s = false
 is_new (Some count) s = is_new_count s count
 
+-- the link once a count has come back, where one has
 abbrev pub after_count : Link → Link
 after_count k = record k { sender = sender_after_answer (coming_count k) k.sender; counts = staying_counts k }
 

@@ -5,6 +5,7 @@ use Rattle.tripos_machine.specs.State.{stop_of}
 use Rattle.machine_ring.specs.Rounds.{Rounded}
 use Rattle.machine_ring.specs.declared.outcomes.RingOutcome.{RingOutcome}
 
+-- the numbers that a run of a ring ends with, and why it ends
 abbrev pub outcome_of : Rounded → RingOutcome
 outcome_of x = record {
   rounds = x.ring.link.rounds;

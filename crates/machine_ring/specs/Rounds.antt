@@ -18,10 +18,11 @@ can_step most s = is_none (stop_of s) && nat_lt (steps_of s) most
 abbrev pub left_steps : ℕ → Left → Bool
 left_steps most x = nat_le (length x.waiting) MOST_WAITING && can_step most x.state
 
--- and its console bytes wait then
+-- the left machine takes a step, and its console bytes wait then
 abbrev pub with_step : Left → Left
 with_step x = record { state = (step x.state).state; waiting = x.waiting ++ (step x.state).bytes }
 
+-- the left machine takes a step where it may take one in this round, and else stays
 abbrev pub after_step : ℕ → Left → Left
 after_step most x = if left_steps most x then with_step x else x
 
@@ -82,6 +83,7 @@ byte_in r = carried_byte (first_of r) (has_room r.right) r.link
 abbrev pub right_before : Ring → State
 right_before r = with_typing (byte_in r) r.right
 
+-- the ring once a round is over
 abbrev pub after_round : Ring → Ring
 after_round r = record {
   left = after_answer (carries_back (first_of r) (has_room r.right) r.link) (stepped r);
@@ -89,6 +91,7 @@ after_round r = record {
   right = right_after r.link.terms.right_steps (right_before r);
 }
 
+-- a round, and what it told of bytes: those shown, offered to the sender and typed at the right machine
 unfoldable pub round : Ring → Rounded
 round r = record {
   ring = after_round r;

@@ -15,6 +15,7 @@ pub record IsPrintableHunk (h : Hunk) : Type 0 where
   -- each relocates one of its words
   pub inside : AllByRecursion (λ offset. offset < length h.words) h.relocations
 
+-- each hunk of the module can be printed
 abbrev pub IsPrintable : Module → Type 0
 IsPrintable m = AllByRecursion IsPrintableHunk m.hunks
 

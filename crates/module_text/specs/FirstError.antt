@@ -65,6 +65,7 @@ IsBegun words = IsWhole words ⊎ (IsTypeDue words ⊎ IsInsideItem words)
 
 -- ---- what is wrong with a token after words
 
+-- the bytes are the digits of some word
 abbrev pub HasWord : List ℕ → Type 0
 HasWord bytes = (w : ℕ) × IsWord bytes w
 

@@ -6,13 +6,15 @@ use Rattle.module_text.specs.Words.{IsWord}
 use Rattle.module_text.specs.declared.modules.Hunk.{Hunk}
 use Rattle.module_text.specs.declared.modules.Module.{Module}
 
--- the types of a hunk and of a relocation list, and the end word
+-- the word with which a hunk begins
 abbrev pub hunk_type : ℕ
 hunk_type = 0x3e8
 
+-- the word with which the list of a hunk's relocations begins
 abbrev pub relocation_type : ℕ
 relocation_type = 0x3e9
 
+-- the word with which a module ends
 abbrev pub end_word : ℕ
 end_word = 0x3ea
 

@@ -26,9 +26,11 @@ pub record Stop : Type 0 where
   -- the code that says why
   pub code : ℕ
 
+-- the reading stops at a place, in bytes from the start of the text, with a code
 abbrev pub stop : ℕ → ℕ → Stop
 stop place code = record { place = place; code = code }
 
+-- what a step gave; where it failed with a code, the reading stops at that place
 abbrev pub or_stop : {A : Type 0} → ℕ → Result A ℕ → Result A Stop
 or_stop place (Ok x) = Ok x
 or_stop place (Err code) = Err (stop place code)
@@ -42,9 +44,11 @@ pub record Rest : Type 0 where
   -- the hunks after it
   pub hunks : List Hunk
 
+-- these words and relocations for the hunk that is being read, and the hunks after it
 abbrev pub rest : List ℕ → List ℕ → List Hunk → Rest
 rest words relocations hunks = record { words = words; relocations = relocations; hunks = hunks }
 
+-- the hunk with these words, to some of which the hunk's own address is added when it is loaded
 abbrev pub hunk : List ℕ → List ℕ → Hunk
 hunk words relocations = record { words = words; relocations = relocations }
 

@@ -15,10 +15,11 @@ token_start text from = from + prefix_len is_blank (drop from text)
 abbrev pub token_end : List ℕ → ℕ → ℕ
 token_end text from = from + prefix_len (λ c. not (is_blank c)) (drop from text)
 
--- the first token from a place on, if one is left
+-- the bytes of a text from one place up to another
 abbrev pub span : ℕ → ℕ → Span
 span start end = record { start = start; end = end }
 
+-- the first token from a place on, if one is left
 abbrev pub next_span : List ℕ → ℕ → Option Span
 next_span text from =
     if nat_lt (token_start text from) (length text) then

@@ -8,6 +8,7 @@ use Rattle.module_text.specs.declared.check.Shape.{Shape}
 use Rattle.module_text.specs.declared.grammar.Expects.{Expects}
 use Rattle.module_text.specs.declared.grammar.Expects.TheVariants.{FirstType, NextType, Length, Word, Count, Offset, Nothing}
 
+-- a module of so many hunks, which have so many words together
 abbrev pub shape : ℕ → ℕ → Shape
 shape hunks words = record { hunks = hunks; words = words }
 
@@ -34,5 +35,6 @@ abbrev pub check : Result Module Refusal → Result Shape ℕ
 check (Ok m) = Ok (shape_of m.hunks)
 check (Err e) = Err e.code
 
+-- the same of a text
 abbrev pub check_of : List ℕ → Result Shape ℕ
 check_of text = check (module_of text)

@@ -7,18 +7,22 @@ use Rattle.program_answers.specs.declared.status.Status.{Status}
 use Rattle.program_answers.specs.declared.status.Status.TheVariants.{NoBoot, ReadFault, Refused, TooLong, WantMemory, WriteFault}
 use Rattle.program_answers.specs.Texts.{no_boot_text, refused_text, too_long_text}
 
+-- What the program ends with, and what it writes.
 pub record Answer : Type 0 where
   -- the exit status
   pub status : Status
   -- the bytes that are written
   pub bytes : List ℕ
 
+-- the answer to a session that is lawful, but does not boot
 abbrev pub no_boot_answer : Refusal → Answer
 no_boot_answer r = record { status = NoBoot; bytes = no_boot_text r }
 
+-- the answer to a text that is refused
 abbrev pub refused_answer : Refusal → Answer
 refused_answer r = record { status = Refused; bytes = refused_text r }
 
+-- the answer to an input of more bytes than the program reads
 abbrev pub too_long_answer : Answer
 too_long_answer = record { status = TooLong; bytes = too_long_text }
 

@@ -20,6 +20,7 @@ abbrev pub IsAnswerWithin : Bool → (List ℕ → Answer → Type 0) → List �
 IsAnswerWithin true IsTextAnswer input a = IsTextAnswer input a
 IsAnswerWithin false IsTextAnswer input a = a ≡ too_long_answer
 
+-- an input has this answer: that of its text, or that it is too long
 unfoldable pub IsInputAnswer : (List ℕ → Answer → Type 0) → List ℕ → Answer → Type 0
 IsInputAnswer IsTextAnswer input a = IsAnswerWithin (nat_le (length input) limit) IsTextAnswer input a
 

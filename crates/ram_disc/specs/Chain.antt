@@ -10,6 +10,7 @@ unfoldable pub chain_from : List ℕ → ℕ → ℕ → List ℕ
 chain_from links first zero = []
 chain_from links first (suc n) = first ∷ chain_from links (slice_index links first) n
 
+-- the sectors of a chain, in their order
 abbrev pub chain_of : List ℕ → Chain → List ℕ
 chain_of links c = chain_from links c.first c.length
 

@@ -58,6 +58,7 @@ sectors_taken files = sum_by (λ f. sectors_of (length f.bytes)) files
 abbrev pub is_before : List ℕ → List ℕ → Bool
 is_before a b = is_lt (slice_cmp nat_cmp a b)
 
+-- whether it is the name of the file
 abbrev pub has_name : List ℕ → File → Bool
 has_name name f = bytes_eq f.name name
 
@@ -65,6 +66,7 @@ has_name name f = bytes_eq f.name name
 abbrev pub file_named : Disc → List ℕ → Option File
 file_named d name = find (has_name name) d.files
 
+-- whether there is a file of this name
 abbrev pub has_file : Disc → List ℕ → Bool
 has_file d name = list_any (has_name name) d.files
 

@@ -19,6 +19,7 @@ unless_refused d [] answer next = record { answer = Ok answer; disc = next }
 unless_refused d (test ∷ tests) answer next =
     if test.0 then unless_refused d tests answer next else record { answer = Err test.1; disc = d }
 
+-- the file with a name and its bytes
 abbrev pub file : List ℕ → List ℕ → File
 file name bytes = record { name = name; bytes = bytes }
 
@@ -38,9 +39,11 @@ with_bytes d name bytes = record d { files = with_file (file name bytes) d.files
 abbrev pub with_stream : Disc → ℕ → Option Stream → Disc
 with_stream d k s = record d { streams = slice_set d.streams (k - 1) s }
 
+-- a stream that reads a file, from a place in it, in bytes
 abbrev pub reader : List ℕ → ℕ → Stream
 reader name place = record { name = name; position = place; writes = false }
 
+-- a stream that writes a file, at a place in it, in bytes
 abbrev pub writer : List ℕ → ℕ → Stream
 writer name place = record { name = name; position = place; writes = true }
 
@@ -60,6 +63,8 @@ free_stream d = unwrap_or (position is_none (handler_streams d)) 0 + 1
 abbrev pub stream_to_read : Disc → Bool → ℕ
 stream_to_read d shell = if shell then shell_stream else free_stream d
 
+-- A file is opened to read from its first byte. Refused where there is no such file, where a stream writes it, and where no
+-- stream is free; the shell has a stream of its own.
 abbrev pub after_open_read : Disc → List ℕ → Bool → Outcome ℕ
 after_open_read d name shell =
     unless_refused d ((has_file d name, NO_FILE) ∷ (not (is_written d name), IN_USE) ∷ (shell || has_free_stream d, NO_STREAM) ∷ [])
@@ -69,6 +74,8 @@ after_open_read d name shell =
 abbrev pub has_place : Disc → List ℕ → Bool
 has_place d name = has_file d name || nat_lt (length d.files) most_files
 
+-- A file is opened to write, and begins empty. Refused where a stream is open on it, where no stream is free, and where a new
+-- file has no room in the directory.
 abbrev pub after_open_write : Disc → List ℕ → Outcome ℕ
 after_open_write d name =
     unless_refused d ((not (is_used d name), IN_USE) ∷ (has_free_stream d, NO_STREAM) ∷ (has_place d name, DIRECTORY_FULL) ∷ [])
@@ -97,6 +104,7 @@ moved_on n s = option_map (λ (t : Stream). record t { position = t.position + n
 abbrev pub bytes_read : Disc → ℕ → ℕ → List ℕ
 bytes_read d k count = if is_reader (stream_at d k) then take count (bytes_left d (stream_at d k)) else []
 
+-- A stream reads its next bytes, at most so many, and moves on past them. Refused where it is not open to read.
 abbrev pub after_read_on : Disc → ℕ → ℕ → Outcome ℕ
 after_read_on d k count =
     unless_refused d ((is_reader (stream_at d k), NOT_OPEN) ∷ [])
@@ -111,14 +119,18 @@ with_more d (Some s) bytes = with_bytes d s.name (bytes_of d s.name ++ bytes)
 abbrev pub has_room : Disc → Bool
 has_room d = nat_le (sectors_taken d.files) most_sectors
 
+-- A stream writes these bytes at the end of its file. Refused where it is not open to write, and where the disc would be too
+-- full.
 abbrev pub after_append : Disc → ℕ → List ℕ → Outcome Unit
 after_append d k bytes =
     unless_refused d ((is_writer (stream_at d k), NOT_OPEN) ∷ (has_room (with_more d (stream_at d k) bytes), DISC_FULL) ∷ [])
     tt (with_stream (with_more d (stream_at d k) bytes) k (moved_on (length bytes) (stream_at d k)))
 
+-- A stream is closed. Refused where it is not open.
 abbrev pub after_close : Disc → ℕ → Outcome Unit
 after_close d k = unless_refused d ((is_some (stream_at d k), NOT_OPEN) ∷ []) tt (with_stream d k None)
 
+-- A file goes. Refused where there is none of this name, and while a stream is open on it.
 abbrev pub after_delete : Disc → List ℕ → Outcome Unit
 after_delete d name =
     unless_refused d ((has_file d name, NO_FILE) ∷ (not (is_used d name), IN_USE) ∷ [])
@@ -128,6 +140,8 @@ after_delete d name =
 abbrev pub renamed : Disc → List ℕ → List ℕ → List File
 renamed d old new = with_file (file new (bytes_of d old)) (without_file old d.files)
 
+-- A file gets another name. Refused where there is none of the old name, where there is one of the new name, and while a stream
+-- is open on it.
 abbrev pub after_rename : Disc → List ℕ → List ℕ → Outcome Unit
 after_rename d old new =
     unless_refused d ((has_file d old, NO_FILE) ∷ (not (has_file d new), NAME_TAKEN) ∷ (not (is_used d old), IN_USE) ∷ [])
@@ -160,5 +174,6 @@ can_stand d k name place writes =
 abbrev pub with_place : Disc → ℕ → List ℕ → ℕ → Bool → Disc
 with_place d k name place writes = with_stream d k (Some (record { name = name; position = place; writes = writes }))
 
+-- a stream is put back to a place of a file, as a saved machine or an undone step has it, where it can be there
 abbrev pub after_restore : Disc → ℕ → List ℕ → ℕ → Bool → Disc
 after_restore d k name place writes = if can_stand d k name place writes then with_place d k name place writes else d

@@ -7,9 +7,11 @@ use Rattle.ram_disc.specs.Disc.{AreInOrder, Disc, File, Stream, is_before, most_
 use Rattle.ram_disc.specs.Name.{IsName}
 use Rattle.ram_disc.specs.declared.places.Place.{Place}
 
+-- the name in a slot
 abbrev pub name_in : List (List ℕ) → ℕ → List ℕ
 name_in names slot = slice_index_or names slot []
 
+-- the file in a slot
 abbrev pub file_in : List (List ℕ) → List (List ℕ) → ℕ → File
 file_in names bytes slot = record { name = name_in names slot; bytes = slice_index_or bytes slot [] }
 
@@ -17,10 +19,12 @@ file_in names bytes slot = record { name = name_in names slot; bytes = slice_ind
 abbrev pub files_in : List (List ℕ) → List (List ℕ) → List ℕ → List File
 files_in names bytes used = map (file_in names bytes) used
 
+-- the stream that is open at a place: the file of the place's slot, how far it is, and whether it writes
 abbrev pub stream_in : List (List ℕ) → Option Place → Option Stream
 stream_in names None = None
 stream_in names (Some p) = Some (record { name = name_in names p.slot; position = p.position; writes = p.writes })
 
+-- all streams, each open at its place or closed
 abbrev pub streams_in : List (List ℕ) → List (Option Place) → List (Option Stream)
 streams_in names places = map (stream_in names) places
 
@@ -98,6 +102,7 @@ pub record StandsAt (a : Area) (used : List ℕ) (places : List (Option Place)) 
   -- before the end its sector is that of its position
   pub sector : p.position < length (bytes_at a p.slot) → p.sector ≡ slice_index (chain_at a p.slot) (p.position / 512)
 
+-- the parts in which the code keeps a disc fit together: slots, sectors and streams
 pub record AreKept (names : List (List ℕ)) (a : Area) (used unused : List ℕ) (places : List (Option Place)) : Type 0 where
   -- the slots and their names
   pub slots : AreSlots names used unused

@@ -32,12 +32,15 @@ file_statements f = File f.name ∷ map (λ bytes. Bytes bytes) (byte_lines f.by
 abbrev pub flag : Bool → ℕ
 flag b = if b then 1 else 0
 
+-- the statement of an open stream
 abbrev pub stream_statement : SavedStream → Statement
 stream_statement s = Stream s.k (flag s.writes) s.position s.name
 
+-- the statement of a pipe
 abbrev pub pipe_statement : SavedPipe → Statement
 pipe_statement p = Pipe p.k (flag p.reading) (flag p.writing) (flag p.written) p.name p.held
 
+-- the statement of a key that is still to come: its step and its byte
 abbrev pub key_statement : ℕ × ℕ → Statement
 key_statement key = Key key.0 key.1
 
@@ -71,6 +74,7 @@ AreFiles [] = Unit {0}
 AreFiles (f ∷ []) = IsTrue (is_name f.name)
 AreFiles (f ∷ g ∷ fs) = IsTrue (is_name f.name) × IsTrue (is_before f.name g.name) × AreFiles (g ∷ fs)
 
+-- the numbers and the name of a stream are in their ranges
 abbrev pub IsStream : SavedStream → Type 0
 IsStream s = IsTrue (are_stream_numbers s.k (flag s.writes) s.position) × IsTrue (is_name s.name)
 
@@ -79,6 +83,7 @@ abbrev pub AreStreams : ℕ → List SavedStream → Type 0
 AreStreams floor [] = Unit {0}
 AreStreams floor (s ∷ ss) = (floor ≤ s.k) × IsStream s × AreStreams (s.k + 1) ss
 
+-- the numbers and the name of a pipe are in their ranges
 abbrev pub IsPipe : SavedPipe → Type 0
 IsPipe p = IsTrue (are_pipe_numbers p.k (flag p.reading) (flag p.writing) (flag p.written)) × IsTrue (is_name p.name)
 

@@ -56,6 +56,7 @@ version_line n line =
     if bytes_eq line (codes "TRIPOS-IMAGE 2") then Ok 2 else
     Err (refusal n 1)
 
+-- the first line says the version, and the store's line comes next
 abbrev pub version_step : Image → ℕ → List ℕ → Result Draft Refusal
 version_step x n line = do
   version ← version_line n line
@@ -84,10 +85,11 @@ step_step x n line = do
   step ← number_line (codes "STEP ") is_step n line
   Ok (draft AtRegs (record x { step = step }))
 
--- the registers, behind which the words of a bare machine follow
+-- what comes after the registers: on a bare machine its words, else the type-ahead
 abbrev pub place_after_regs : Bool → Place
 place_after_regs bare = if bare then AtWord 0 else AtRing
 
+-- the line of registers is read
 abbrev pub regs_step : Image → ℕ → List ℕ → Result Draft Refusal
 regs_step x n line = do
   regs ← regs_line n line
@@ -101,6 +103,7 @@ ring_line n line = do
   digits ← ok_or (ring_of line) (refusal n 1)
   Ok (bytes_of digits)
 
+-- the line of the type-ahead is read, and the console's comes next
 abbrev pub ring_step : Image → ℕ → List ℕ → Result Draft Refusal
 ring_step x n line = do
   ring ← ring_line n line
@@ -110,12 +113,14 @@ ring_step x n line = do
 abbrev pub flag_of : ℕ → Option Bool
 flag_of d = if d == 0 then Some false else if d == 1 then Some true else None
 
+-- whether the console's line is finished, and its bytes
 abbrev pub console_line : ℕ → List ℕ → Result (Bool × List ℕ) Refusal
 console_line n line = do
   console ← ok_or (console_of line) (refusal n 1)
   finished ← ok_or (flag_of console.0) (refusal n 2)
   Ok (finished, bytes_of console.1)
 
+-- the line of the console is read, and the shell's comes next
 abbrev pub console_step : Image → ℕ → List ℕ → Result Draft Refusal
 console_step x n line = do
   console ← console_line n line
@@ -128,6 +133,7 @@ shell_line n line = do
   mode ← ok_or (mode_of shell.0 shell.1) (refusal n 2)
   Ok (mode, bytes_of shell.2)
 
+-- the line of the shell is read, and files may come next
 abbrev pub shell_step : Image → ℕ → List ℕ → Result Draft Refusal
 shell_step x n line = do
   shell ← shell_line n line
@@ -187,6 +193,7 @@ go_step p x n go =
     if is_step (x.step + go) then Ok (draft AtEnd (record x { go = go })) else
     Err (refusal n 2)
 
+-- a statement is read where its place allows it
 abbrev pub statement_step : Place → Image → ℕ → Statement → Result Draft Refusal
 statement_step p x n (File name) = file_step p x n name
 statement_step p x n (Bytes bytes) = bytes_step p x n bytes
@@ -196,6 +203,7 @@ statement_step p x n (Key step byte) = key_step p x n step byte
 statement_step p x n (Word a w) = word_step p x n a w
 statement_step p x n (Go go) = go_step p x n go
 
+-- a line that states something is read
 abbrev pub entry_step : Place → Image → ℕ → List ℕ → Result Draft Refusal
 entry_step p x n line = do
   statement ← ok_or (statement_of line) (refusal n 1)
@@ -215,6 +223,7 @@ step_at AtConsole x n line = console_step x n line
 step_at AtShell x n line = shell_step x n line
 step_at p x n line = entry_step p x n line
 
+-- line n is read, and says what may come next, or is the first in error
 unfoldable pub step : Draft → ℕ → List ℕ → Result Draft Refusal
 step d n line = step_at d.place d.image n line
 

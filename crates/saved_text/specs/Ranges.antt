@@ -10,20 +10,22 @@ use Rattle.saved_text.specs.declared.images.SavedStream.{SavedStream}
 abbrev pub is_flag : ℕ → Bool
 is_flag n = nat_le n 1
 
--- the stream that these numbers and this name are, if they are in their ranges
+-- the number of a stream is from 1 to 17, whether it writes is 0 or 1, and its position is a word
 abbrev pub are_stream_numbers : ℕ → ℕ → ℕ → Bool
 are_stream_numbers k m position = nat_le 1 k && nat_le k 17 && is_flag m && nat_lt position (2 ^ 32)
 
+-- the stream with these numbers and this name, where they are in their ranges
 abbrev pub stream_of : ℕ → ℕ → ℕ → List ℕ → Option SavedStream
 stream_of k m position name =
     if are_stream_numbers k m position && is_name name
     then Some (record { k = k; writes = m == 1; position = position; name = name })
     else None
 
--- the pipe that these are
+-- the number of a pipe is from 1 to 8, and each of its three facts is 0 or 1
 abbrev pub are_pipe_numbers : ℕ → ℕ → ℕ → ℕ → Bool
 are_pipe_numbers k r w e = nat_le 1 k && nat_le k 8 && is_flag r && is_flag w && is_flag e
 
+-- the pipe with these numbers, this name and these bytes, where the numbers and the name are in their ranges
 abbrev pub pipe_of : ℕ → ℕ → ℕ → ℕ → List ℕ → List ℕ → Option SavedPipe
 pipe_of k r w e name held =
     if are_pipe_numbers k r w e && is_name name

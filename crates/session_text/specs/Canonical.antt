@@ -79,6 +79,7 @@ form_text (Code bytes) = (codes ":" ++ encode_lower bytes) ∷ []
 form_text (File name bytes) = statement_text (FileOf name) ∷ map colon_line (lines_of bytes)
 form_text (Task id pri stack names) = statement_text (TaskOf id pri stack names) ∷ []
 
+-- the lines of all of these, one after another
 abbrev pub lines_text : List SessionLine → List (List ℕ)
 lines_text lines = flat_map (λ line. form_text line.form) lines
 

@@ -10,6 +10,7 @@ form_with_text (File name bytes) text = File name (bytes ++ (text ++ 10 ∷ []))
 form_with_text (Code bytes) text = Code bytes
 form_with_text (Task id pri stack names) text = Task id pri stack names
 
+-- the same of a session's line, with its place
 abbrev pub line_with_text : SessionLine → List ℕ → SessionLine
 line_with_text line text = record line { form = form_with_text line.form text }
 

@@ -15,6 +15,7 @@ pub data Form : Type 0 where
   Go : Form
   Fixed : List ℕ → Form
 
+-- the form of a statement
 abbrev pub form_of : Statement → Form
 form_of (FileOf name) = File
 form_of (TaskOf id pri stack names) = Task (length names)

@@ -2,6 +2,7 @@
 use Rattle.std.specs.Prelude.{ℕ, ◌&&◌, ◌==◌, if◌then◌else◌, Bool, nat_le}
 use Rattle.kernel_model.specs.KernelRecord.Ranges.{most_steps}
 
+-- a number of steps: no machine takes more than the most
 abbrev pub is_step : ℕ → Bool
 is_step n = nat_le n most_steps
 
@@ -13,6 +14,7 @@ highest_task version = if version == 1 then 20 else 63
 abbrev pub is_task : ℕ → ℕ → Bool
 is_task version id = nat_le 5 id && nat_le id (highest_task version)
 
+-- a priority that a session may give a task: from 1 to 10,000
 abbrev pub is_priority : ℕ → Bool
 is_priority pri = nat_le 1 pri && nat_le pri 10000
 

@@ -3,6 +3,7 @@ use Rattle.session_text.specs.Statements.{Statement as Stated, File, Task, At, K
 use Rattle.session_text.specs.declared.statements.Statement.{Statement}
 use Rattle.session_text.specs.declared.statements.Statement.TheVariants.{File as FileSlice, Task as TaskSlices, At as AtSlice, Key as KeyByte, Go as GoSteps}
 
+-- each statement, with its slices of the line as bytes
 abbrev pub seen : Statement → Stated
 seen (FileSlice name) = File name.now
 seen (TaskSlices id pri stack names) = Task id pri stack (fields names.now)

@@ -46,6 +46,7 @@ version_line n line =
     if bytes_eq line (codes "TRIPOS 2") then Ok 2 else
     Err (refusal n 1)
 
+-- the first line says the version, and the store's line comes next
 abbrev pub version_step : Session → ℕ → List ℕ → Result Draft Refusal
 version_step s n line = do
   version ← version_line n line
@@ -156,6 +157,7 @@ step_at AtEntry s n line = entry_step s n line
 step_at AtText s n line = text_step s n line
 step_at AtEnd s n line = Err (refusal n 1)
 
+-- line n is read, and says what may come next, or is the first in error
 unfoldable pub step : Draft → ℕ → List ℕ → Result Draft Refusal
 step d n line = step_at d.place d.session n line
 

@@ -9,6 +9,7 @@ use Rattle.module_text.specs.TextReader.Fields.{IsNumberLine, after_word}
 use Rattle.module_text.specs.TextReader.Numbers.{IsNumber, number_of}
 use Rattle.session_text.specs.Ranges.{most_names}
 
+-- a statement, with its numbers and names in the order in which the line has them
 pub data Statement : Type 0 where
   File : List ℕ → Statement
   Task : ℕ → ℕ → ℕ → List (List ℕ) → Statement
@@ -56,6 +57,7 @@ States (Go steps) line = IsNumberLine (codes "GO ") steps line
 -- ---- the statement of a line
 
 infixl 10 ◌>>=◌
+-- a step, and then the next one with what it gave, unless it gave nothing
 abbrev ◌>>=◌ : {A B : Type 0} → Option A → (A → Option B) → Option B
 o >>= f = option_and_then f o
 
@@ -79,9 +81,11 @@ one_byte _ = None
 abbrev pub are_fields : ℕ → List (List ℕ) → Bool
 are_fields most parts = list_all is_field parts && nat_le (length parts) most
 
+-- a file's name, after `FILE`
 abbrev pub file_of : List ℕ → Option Statement
 file_of name = if is_field name then Some (File name) else None
 
+-- a task's number, priority, stack and names, after `TASK`, of which there are at most so many
 abbrev pub task_of : ℕ → List ℕ → Option Statement
 task_of most text = do
   id ← number_field text
@@ -89,18 +93,21 @@ task_of most text = do
   stack ← number_field pri.1
   if are_fields most (fields stack.1) then Some (Task id.0 pri.0 stack.0 (fields stack.1)) else None
 
+-- the step and the text that is typed then, after `AT`
 abbrev pub at_of : List ℕ → Option Statement
 at_of text = do
   step ← number_field text
   typed ← after_word (codes ":") step.1
   if is_text typed then Some (At step.0 typed) else None
 
+-- the step and the byte that is typed then, after `KEY`
 abbrev pub key_of : List ℕ → Option Statement
 key_of text = do
   step ← number_field text
   byte ← one_byte (decode_of step.1)
   Some (Key step.0 byte)
 
+-- the number of steps, after `GO`
 abbrev pub go_of : List ℕ → Option Statement
 go_of text = option_map (λ steps. Go steps) (number_of text)
 

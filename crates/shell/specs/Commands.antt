@@ -21,10 +21,11 @@ use Rattle.shell.specs.Prompts.{answered, prompted, refused, with_packet_sent}
 use Rattle.shell.specs.TurnParts.{ShellTurn, and_then, called, in_mode, shown, with_disc}
 use Rattle.shell.specs.TypedFiles.{with_file_typed}
 
--- a call on the disc, or one about a task
+-- a command that is one call on the disc: the shell prompts, or tells the code
 abbrev pub by_disc : {A : Type 0} → Outcome A → ShellTurn → ShellTurn
 by_disc o x = answered o.answer (with_disc o.disc x)
 
+-- a command that is one of the kernel's calls about a task: the shell prompts, or tells the code
 abbrev pub by_call : Made → ShellTurn → ShellTurn
 by_call m x = answered m.answer (called m x)
 
@@ -39,17 +40,20 @@ abbrev pub run_priority : Option ℕ → Priority
 run_priority None = BelowShell
 run_priority (Some priority) = Given priority
 
--- it is made ready to begin, and its number is told
+-- the task of the program is made ready to begin
 abbrev pub with_program_begun : ℕ → ShellTurn → ShellTurn
 with_program_begun id x = and_then (begun id x.standing) [] x
 
+-- the number of the new task is told, or the code of the refusal
 abbrev pub after_run : Result ℕ ℕ → ShellTurn → ShellTurn
 after_run (Ok id) x = prompted (shown (task_number_line id) (with_program_begun id x))
 after_run (Err code) x = refused code x
 
+-- what is left where a program beside the shell was to be started
 abbrev pub by_run : Started → ShellTurn → ShellTurn
 by_run m x = after_run m.answer (with_started m x)
 
+-- a program runs beside the shell, as a task of a priority that may be given; the shell prompts at once
 abbrev pub run : List ℕ → Option ℕ → ShellTurn → ShellTurn
 run program priority x = by_run (start_program x.disc program (Ok tt) (run_priority priority) x.standing) x
 
@@ -62,9 +66,11 @@ abbrev pub after_start : Result ℕ ℕ → ShellTurn → ShellTurn
 after_start (Ok id) x = in_mode (Waiting id) (with_packet_sent id program_request x)
 after_start (Err code) x = refused code x
 
+-- what is left where a program whose name was typed was to be started
 abbrev pub by_start : Started → ShellTurn → ShellTurn
 by_start m x = after_start m.answer (with_started m x)
 
+-- a program whose name was typed is started, and runs before the shell; it is refused where words follow its name
 abbrev pub start : List ℕ → Result (Unit {0}) ℕ → ShellTurn → ShellTurn
 start program rest x = by_start (start_program x.disc program rest AboveShell x.standing) x
 
@@ -74,6 +80,7 @@ start program rest x = by_start (start_program x.disc program rest AboveShell x.
 abbrev pub with_finish : ShellTurn → ShellTurn
 with_finish x = record x { finished = true }
 
+-- each command, done
 abbrev pub executed : Command → ShellTurn → ShellTurn
 executed Nothing x = prompted x
 executed («Type» name) x = with_file_typed name x
@@ -90,6 +97,7 @@ executed (Run program priority) x = run program priority x
 executed Finish x = with_finish x
 executed (Start program rest) x = start program rest x
 
+-- a command is done, or the code of its refusal is told
 abbrev pub executed_if : Result Command ℕ → ShellTurn → ShellTurn
 executed_if (Ok command) x = executed command x
 executed_if (Err code) x = refused code x

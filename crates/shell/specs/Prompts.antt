@@ -7,6 +7,7 @@ use Rattle.kernel_model.specs.declared.kernel_record.numbers.TheConstants.{CONSO
 use Rattle.resident_tasks.specs.declared.console_handler.requests.TheConstants.{READ_LINE}
 use Rattle.shell.specs.TurnParts.{ShellTurn, and_then, in_mode, shown}
 
+-- the text by which the shell says that it reads a line
 abbrev pub prompt : List ℕ
 prompt = codes "> "
 
@@ -18,6 +19,7 @@ with_packet_sent to kind x = and_then (requested to kind x.standing) (post_event
 abbrev pub prompted : ShellTurn → ShellTurn
 prompted x = in_mode Reading (with_packet_sent CONSOLE READ_LINE (shown prompt x))
 
+-- the shell tells a code, and prompts
 abbrev pub refused : ℕ → ShellTurn → ShellTurn
 refused code x = prompted (shown (error_line code) x)
 

@@ -25,16 +25,19 @@ use Rattle.shell.specs.TypedFiles.{typed}
 abbrev pub line_read : Request → ShellTurn → ShellTurn
 line_read r x = if r.sender == CONSOLE then line_executed x else prompted x
 
--- what a program gives back, the first result of the packet; 0 is not told
+-- what a program gives back: the first result of the shell's packet
 abbrev pub result_of : ShellTurn → ℕ
 result_of x = slice_index x.standing.words (SHELL_PACKET + RES1)
 
+-- the line that tells it; 0 is not told
 abbrev pub return_code : ℕ → List ℕ
 return_code result = if result == 0 then [] else return_code_line result
 
+-- the program for which the shell waited has ended: its result is told, and the shell prompts
 abbrev pub program_ended : ShellTurn → ShellTurn
 program_ended x = prompted (shown (return_code (result_of x)) x)
 
+-- what the shell does when its own packet comes, in each of its modes
 abbrev pub treated_in : Mode → Request → ShellTurn → ShellTurn
 treated_in Prompt r x = prompted x
 treated_in Reading r x = line_read r x
@@ -47,6 +50,7 @@ treated_in Typing r x = typed x
 abbrev pub returned_unknown : Request → ShellTurn → ShellTurn
 returned_unknown r x = called (returned x.standing.lists r (Err UNKNOWN_TYPE)) x
 
+-- the shell's own packet goes by the mode; any other one is returned, refused
 abbrev pub treated : Option Request → ShellTurn → ShellTurn
 treated None x = x
 treated (Some r) x = if r.packet == SHELL_PACKET then treated_in x.shell.mode r x else returned_unknown r x
@@ -59,11 +63,13 @@ packet_taken x = and_then (left_with x.standing.words (taken x.standing.lists).l
 abbrev pub request_of : ShellTurn → Option Request
 request_of x = first_request (packet_taken x).standing.words (work x.standing.lists)
 
+-- the first packet is taken and treated
 abbrev pub first_treated : ShellTurn → ShellTurn
 first_treated x = treated (request_of x) (packet_taken x)
 
 -- ---- the turn
 
+-- the tasks of the shell that are dead go, with their modules
 abbrev pub with_cleared : ShellTurn → ShellTurn
 with_cleared x = and_then (cleared x.standing) [] x
 
@@ -76,6 +82,7 @@ all_parts (p ∷ ps) x = first_treated (with_cleared x)
 abbrev pub ended : ShellTurn → ShellTurn
 ended x = if x.finished then x else and_then (left_with x.standing.words (finished x.standing.lists) []) [] x
 
+-- the turn of the shell, in these words and lists, from what it keeps and the disc
 unfoldable pub shell_turn : List ℕ → Lists → Shell → Disc → ShellTurn
 shell_turn words l sh d = ended (all_parts (work l) (begun words l sh d))
 

@@ -12,10 +12,11 @@ use Rattle.shell.specs.TurnParts.{ShellTurn, and_then, in_mode, shown, with_disc
 abbrev pub piece_size : ℕ
 piece_size = 512
 
--- the next piece, and the disc once it was read
+-- the bytes of the next piece
 abbrev pub next_piece : Disc → List ℕ
 next_piece d = bytes_read d shell_stream piece_size
 
+-- the disc once the next piece was read
 abbrev pub after_piece : Disc → Disc
 after_piece d = (after_read_on d shell_stream piece_size).disc
 
@@ -44,18 +45,21 @@ goes_on x = in_mode Typing (and_then (posted SHELL x.standing) (post_events SHEL
 abbrev pub after_typing : ShellTurn → ShellTurn
 after_typing x = if is_typed x.disc then prompted (with_disc (with_stream_closed x.disc) x) else goes_on x
 
+-- the next piece is typed, and the shell prompts where it was the last one
 abbrev pub typed : ShellTurn → ShellTurn
 typed x = after_typing (with_piece x)
 
 -- ---- the command
 
--- the file is opened (41, 47), and its first piece typed at once
+-- the disc with the file open on the shell's stream
 abbrev pub opened : Outcome ℕ → ShellTurn → ShellTurn
 opened o x = with_disc o.disc x
 
+-- where the file was opened its first piece is typed; else the code is told
 abbrev pub typed_if : Result ℕ ℕ → ShellTurn → ShellTurn
 typed_if (Ok stream) x = typed x
 typed_if (Err code) x = refused code x
 
+-- A file is opened (41, 47), and its first piece typed at once.
 abbrev pub with_file_typed : List ℕ → ShellTurn → ShellTurn
 with_file_typed name x = typed_if (after_open_read x.disc name true).answer (opened (after_open_read x.disc name true) x)

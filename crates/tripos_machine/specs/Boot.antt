@@ -12,10 +12,12 @@ use Rattle.kernel_machine.specs.KernelSteps.Stepped.{Stepped as KernelStepped}
 use Rattle.tripos_machine.specs.State.State.{Bare}
 use Rattle.tripos_machine.specs.Step.{Stepped, of_kernel, quietly}
 
+-- a bare machine that has begun, as a machine of either kind; nothing was written, and there are no events
 abbrev pub bare_booted : Result BareState Refusal → Result Stepped Refusal
 bare_booted (Ok m) = Ok (quietly (Bare m))
 bare_booted (Err r) = Err r
 
+-- a machine with a kernel that has begun, as a machine of either kind, or the line that was refused
 abbrev pub kernel_booted : Result KernelStepped BootRefusal → Result Stepped Refusal
 kernel_booted (Ok x) = Ok (of_kernel x)
 kernel_booted (Err r) = Err (refusal r.line r.code)

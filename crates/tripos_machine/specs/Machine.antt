@@ -18,6 +18,7 @@ pub record MachineView : Type 0 where
   -- the bytes for the console that were not taken yet
   pub output : List ℕ
 
+-- what contracts see of a machine of each kind
 abbrev pub view_of : Kind → MachineView
 view_of (BareKind m) = record { state = Bare m.state; keys = []; output = m.output }
 view_of (FullKind m) = record { state = Full m.kernel; keys = m.keys; output = m.output }

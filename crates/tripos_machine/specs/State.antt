@@ -23,6 +23,7 @@ abbrev pub words_of : State → List ℕ
 words_of (Bare m) = m.words
 words_of (Full k) = image k
 
+-- its registers: those of the program, or of the task that runs
 abbrev pub regs_of : State → Regs
 regs_of (Bare m) = m.regs
 regs_of (Full k) = k.regs
@@ -57,6 +58,7 @@ abbrev pub IsSound : State → Type 0
 IsSound (Bare m) = (m.regs.c < 256) × (m.steps ≤ most_steps) × IsTrue (is_store_size 2 (length m.words))
 IsSound (Full k) = IsValid k
 
+-- the machine has no kernel
 abbrev pub IsBare : State → Type 0
 IsBare (Bare m) = Unit {0}
 IsBare (Full k) = ⊥

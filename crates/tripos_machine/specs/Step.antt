@@ -16,6 +16,7 @@ pub record Stepped : Type 0 where
   -- the events, in their order
   pub events : List KernelEvent
 
+-- a state that steps come to without writing anything, and without events
 abbrev pub quietly : State → Stepped
 quietly s = record { state = s; bytes = []; events = [] }
 
@@ -27,9 +28,11 @@ and_then x next = record { state = (next x.state).state; bytes = x.bytes ++ (nex
 abbrev pub of_bare : BareStepped → Stepped
 of_bare x = record { state = Bare x.state; bytes = x.bytes; events = [] }
 
+-- what steps of a machine with a kernel come to, as those of a machine of either kind
 abbrev pub of_kernel : KernelStepped → Stepped
 of_kernel x = record { state = Full x.kernel; bytes = x.bytes; events = x.events }
 
+-- a step, by the kind of the machine
 abbrev pub step : State → Stepped
 step (Bare m) = of_bare (bare_step m)
 step (Full k) = of_kernel (kernel_step k)

@@ -28,6 +28,7 @@ use Rattle.tripos_run.specs.Texts.{closing_text, dump_text}
 
 -- ---- runs
 
+-- the exit status of the program, by the reason for which the machine stopped
 abbrev pub status_of : Stop → Status
 status_of Steps = Done
 status_of (Quit code) = Done
@@ -89,6 +90,7 @@ closed_answer report before x = record {
   bytes = before ++ (closing_text x.steps x.stop ++ words_text report x.words);
 }
 
+-- the answer to a run, in the form that is asked for
 abbrev pub run_answer : Report → RunEnd → Answer
 run_answer report x = closed_answer report (text_before report x) x
 
@@ -97,6 +99,7 @@ abbrev pub machine_answer : Report → ℕ → Result Stepped Refusal → Answer
 machine_answer report go (Ok x) = run_answer report (end_after x.events (run go x.state))
 machine_answer report go (Err r) = no_boot_answer r
 
+-- the answer to a session: its run, or that its text is refused
 abbrev pub session_answer : Report → Result Session Refusal → Answer
 session_answer report (Ok s) = machine_answer report s.go (boot s)
 session_answer report (Err r) = refused_answer r
@@ -130,6 +133,7 @@ abbrev pub front_answer : List ℕ → Result Session Refusal → Answer
 front_answer text (Ok s) = checked_answer s (length (front_lines text) + 1) (text_lines (drop (front_end text) text))
 front_answer text (Err r) = refused_answer r
 
+-- the answer to a session with lines of the debugger after it
 abbrev pub debugging_answer : List ℕ → Answer
 debugging_answer text = front_answer text (session_lines (front_lines text))
 

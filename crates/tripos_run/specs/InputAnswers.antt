@@ -39,6 +39,7 @@ IsTextAnswer RingCommand text a = a ≡ ring_answer text
 unfoldable pub generated_answer : ℕ → Answer
 generated_answer n = session_answer (Sums (length (generated n))) (session_of (generated n))
 
+-- the answer to words that ask for nothing
 abbrev pub usage_answer : Answer
 usage_answer = record { status = Usage; bytes = usage_text }
 

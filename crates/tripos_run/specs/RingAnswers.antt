@@ -32,6 +32,7 @@ abbrev pub booted_answer : Result Ring Refusal → Answer
 booted_answer (Ok r) = run_ring_answer r
 booted_answer (Err r) = no_boot_answer r
 
+-- the answer to the text of a ring
 abbrev pub input_answer : Result RingInput Refusal → Answer
 input_answer (Ok input) = booted_answer (booted_ring input)
 input_answer (Err r) = refused_answer r

@@ -31,10 +31,12 @@ IsKept version go s (Some stop) a = a ≡ record { status = status_of stop; byte
 abbrev pub IsSavedState : Session → State → Answer → Type 0
 IsSavedState s after a = IsKept s.version s.go after (stop_of after) a
 
+-- the answer to a session whose machine is to be saved, where it boots, and where it does not
 abbrev pub IsSavedSession : Session → Result Stepped Refusal → Answer → Type 0
 IsSavedSession s (Ok x) a = IsSavedState s (run s.go x.state).state a
 IsSavedSession s (Err r) a = a ≡ no_boot_answer r
 
+-- the answer to the text of such a session
 abbrev pub IsSaved : Result Session Refusal → Answer → Type 0
 IsSaved (Ok s) a = IsSavedSession s (boot s) a
 IsSaved (Err r) a = a ≡ refused_answer r
@@ -55,6 +57,7 @@ IsResumedImage last x a =
     ((s : State) × IsMachineOf x s × (a ≡ resumed_answer x.go s))
     ⊎ ((HasMachine x → ⊥) × (a ≡ refused_answer (refusal last no_machine_code)))
 
+-- the answer to the text of a saved machine, whose last line has this number
 abbrev pub IsResumed : ℕ → Result Image Refusal → Answer → Type 0
 IsResumed last (Ok x) a = IsResumedImage last x a
 IsResumed last (Err r) a = a ≡ refused_answer r

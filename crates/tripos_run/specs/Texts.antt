@@ -5,6 +5,7 @@ use Rattle.debugger.specs.Texts.{word_line}
 use Rattle.kernel_model.specs.declared.kernel_record.stops.Stop.{Stop}
 use Rattle.kernel_model.specs.declared.kernel_record.stops.Stop.TheVariants.{Steps, Quit, Finish, Fault}
 
+-- the line that says which words the program takes
 abbrev pub usage_text : List ℕ
 usage_text =
     codes "* usage: tripos run, dump, trace, asm, disasm, debug, save, resume, ring or gen N\n"

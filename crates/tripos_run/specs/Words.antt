@@ -26,6 +26,7 @@ command_named word =
 abbrev pub seed : ℕ → Option ℕ
 seed n = if nat_lt n (2 ^ 32) then Some n else None
 
+-- the words `gen` and a number, which ask for the session that the number makes
 abbrev pub generation : List ℕ → List ℕ → Option Job
 generation word number = if bytes_eq word (codes "gen") then option_map GenerateJob (option_and_then seed (number_of number)) else None
 

@@ -1,13 +1,15 @@
 -- Arithmetic of words, which are whole numbers below 2 ^ 32.
 use Rattle.std.specs.Prelude.{ℕ, ℤ, pos, negsuc, ◌+◌, ◌-◌, ◌*◌, ◌/◌, ◌%◌, ◌^◌, ◌-ℤ◌, ◌*ℤ◌, Option, Some, None, nat_lt, int_div, int_rem, ◌==◌, if◌then◌else◌}
 
--- sums, differences and products are taken modulo 2 ^ 32
+-- the sum of two words, modulo 2 ^ 32
 abbrev pub add : ℕ → ℕ → ℕ
 add x y = (x + y) % 2 ^ 32
 
+-- the difference of two words, modulo 2 ^ 32
 abbrev pub sub : ℕ → ℕ → ℕ
 sub x y = (x + (2 ^ 32 - y)) % 2 ^ 32
 
+-- the product of two words, modulo 2 ^ 32
 abbrev pub mul : ℕ → ℕ → ℕ
 mul x y = (x * y) % 2 ^ 32
 
@@ -25,13 +27,15 @@ word_of (negsuc n) = 2 ^ 32 - 1 - n % 2 ^ 32
 abbrev pub div : ℕ → ℕ → Option ℕ
 div x y = if y == 0 then None else Some (word_of (int_div (signed x) (signed y)))
 
+-- The remainder of two signed numbers has the sign of the first. There is none by 0.
 abbrev pub rem : ℕ → ℕ → Option ℕ
 rem x y = if y == 0 then None else Some (word_of (int_rem (signed x) (signed y)))
 
--- a shift by 32 or more gives 0
+-- a word shifted left, with zeros at its low end; a shift by 32 or more gives 0
 abbrev pub shl : ℕ → ℕ → ℕ
 shl x y = if nat_lt y 32 then (x * 2 ^ y) % 2 ^ 32 else 0
 
+-- a word shifted right, with zeros at its high end; a shift by 32 or more gives 0
 abbrev pub shr : ℕ → ℕ → ℕ
 shr x y = if nat_lt y 32 then x / 2 ^ y else 0
 

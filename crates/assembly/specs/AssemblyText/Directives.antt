@@ -4,6 +4,7 @@ use Rattle.std.specs.Str.{bytes_eq}
 use Rattle.assembly.specs.declared.assembly_text.directives.Directive.{Directive}
 use Rattle.assembly.specs.declared.assembly_text.directives.Directive.TheVariants.{Byte, Half, Word, Reserve, Address, Align, Global}
 
+-- the directive that a name is, if it is one
 abbrev pub directive_named : List ℕ → Option Directive
 directive_named name =
     if bytes_eq name (codes "DB") then Some Byte else

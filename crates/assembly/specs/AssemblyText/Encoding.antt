@@ -17,6 +17,7 @@ pub record Code : Type 0 where
   -- the number and the offset of each global
   pub pairs : List (ℕ × ℕ)
 
+-- nothing yet: the hunk before its first line
 abbrev pub no_code : Code
 no_code = record { bytes = []; relocations = []; pairs = [] }
 

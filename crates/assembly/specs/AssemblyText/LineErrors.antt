@@ -3,6 +3,7 @@ use Rattle.std.specs.Prelude.{ℕ}
 use Rattle.assembly.specs.declared.assembly_text.errors.LineError.{LineError}
 use Rattle.assembly.specs.declared.assembly_text.errors.LineError.TheVariants.{NoForm, UnknownName, OutOfRange, UndefinedLabel, RepeatedLabel, OutOfReach, HunkTooLong}
 
+-- the code that the user reads, of each reason for which a line is refused
 abbrev pub code_of : LineError → ℕ
 code_of NoForm = 1
 code_of UnknownName = 2

@@ -84,6 +84,7 @@ stands_alone (Plain k) = true
 stands_alone Switch = true
 stands_alone _ = false
 
+-- the name of each directive, as a line has it
 abbrev pub directive_name : Directive → List ℕ
 directive_name directive.Byte = codes "DB"
 directive_name directive.Half = codes "DH"

@@ -118,6 +118,7 @@ unlabelled parts = do
   statement ← statement_of parts
   Ok (record { label = None; statement = statement })
 
+-- the parts of a line, read: the first part is a label where it ends with a colon
 abbrev pub line_of_parts : List (List ℕ) → Result Line LineError
 line_of_parts [] = unlabelled []
 line_of_parts (part ∷ parts) = option_map_or (λ name. labelled name parts) (before_colon part) (unlabelled (part ∷ parts))

@@ -23,19 +23,22 @@ operands_of (p ∷ []) = one_operand p
 operands_of (p ∷ q ∷ []) = both p q
 operands_of (p ∷ q ∷ r ∷ more) = Other
 
--- a name asks for operands of one shape; others are no form of its line
+-- an instruction or directive that takes no operand; with one, its line has no form
 abbrev pub no_operand : Operands → Result Unit LineError
 no_operand Nothing = Ok tt
 no_operand _ = Err NoForm
 
+-- the one number that follows a name; any other operand gives the line no form
 abbrev pub number_operand : Operands → Result ℤ LineError
 number_operand (Number n) = Ok n
 number_operand _ = Err NoForm
 
+-- the one label that follows a name; any other operand gives the line no form
 abbrev pub label_operand : Operands → Result (List ℕ) LineError
 label_operand (Label l) = Ok l
 label_operand _ = Err NoForm
 
+-- the number and the label that follow a name; any other operands give the line no form
 abbrev pub numbered_label : Operands → Result (ℤ × List ℕ) LineError
 numbered_label (NumberAndLabel n l) = Ok (n, l)
 numbered_label _ = Err NoForm

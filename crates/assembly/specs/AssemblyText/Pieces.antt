@@ -47,6 +47,7 @@ relative table offset byte label = do
   operand ← distance 128 (offset + 1) place.offset
   Ok (plain (byte ∷ operand ∷ []))
 
+-- the operand byte leads to a word near it, which has the address of the label
 abbrev pub indirect : Table → ℕ → ℕ → List ℕ → Result Piece LineError
 indirect table offset byte label = do
   place ← found table label

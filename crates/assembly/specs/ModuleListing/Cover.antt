@@ -3,6 +3,7 @@ use Rattle.std.specs.Prelude.{◌≡◌, ℕ, zero, suc, ◌+◌, ◌*◌, ◌�
 use Rattle.word_store.specs.Bytes.{byte_at}
 use Rattle.assembly.specs.ModuleListing.Listing.{listed}
 
+-- a line of a listing, and the bytes of the hunk that it is for
 pub record ListedLine : Type 0 where
   -- the offset of its first byte
   pub offset : ℕ

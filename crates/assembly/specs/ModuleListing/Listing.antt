@@ -18,6 +18,7 @@ abbrev pub listed_as : Option Entry → Result Instr DecodeEnd → ℕ → ℕ �
 listed_as (Some row) (Ok i) a byte = record { text = instruction_line row.form a row.name i; length = i.length }
 listed_as _ _ a byte = record { text = byte_line a byte; length = 1 }
 
+-- the line for the byte at an address, and how many bytes it is for: an instruction, or that byte alone
 abbrev pub listed_byte : (ℕ → Option ℕ) → ℕ → ℕ → Listed
 listed_byte code a byte = listed_as (entry byte) (decoded code a) a byte
 

@@ -10,13 +10,16 @@ use Rattle.command_lines.specs.declared.argument_templates.entries.Role.TheVaria
 use Rattle.command_lines.specs.ArgumentTemplates.Line.{items}
 use Rattle.command_lines.specs.ArgumentTemplates.Template.{entries, has_name, is_keyword, is_required, is_switch, is_template}
 
+-- whether an entry was given nothing yet
 abbrev pub is_unset : Arg → Bool
 is_unset Unset = true
 is_unset _ = false
 
+-- whether an item begins with a quote that nothing closes
 abbrev pub is_open : Item → Bool
 is_open item = elim item.form [ Open ↦ true | Word ↦ false | Quoted ↦ false ]
 
+-- whether an item is a word without quotes
 abbrev pub is_word : Item → Bool
 is_word item = elim item.form [ Word ↦ true | Open ↦ false | Quoted ↦ false ]
 
@@ -24,10 +27,11 @@ is_word item = elim item.form [ Word ↦ true | Open ↦ false | Quoted ↦ fals
 abbrev pub span : Item → Arg
 span item = Span item.from item.to
 
--- the switch, and the other entry, that has this word among its names
+-- the place of the switch that has this word among its names
 abbrev pub switch_named : List ℕ → List (List ℕ) → Option ℕ
 switch_named word all = position (λ entry. has_name word entry && is_switch entry) all
 
+-- the place of the entry, not a switch, that has this word among its names
 abbrev pub other_named : List ℕ → List (List ℕ) → Option ℕ
 other_named word all = position (λ entry. has_name word entry && not (is_switch entry)) all
 
@@ -54,12 +58,15 @@ is_free pair = is_unset pair.1 && not (is_keyword pair.0 || is_switch pair.0)
 abbrev pub Step : Type 0
 Step = Result (List Arg × Option ℕ) ℕ
 
+-- the switch at place k is set, unless it was before (53)
 abbrev pub switched : List Arg → ℕ → Step
 switched args k = if is_unset (slice_index_or args k Unset) then Ok (slice_set args k Switch, None) else Err 53
 
+-- the entry at place k gets the next item, unless it was given one before (53)
 abbrev pub waits : List Arg → ℕ → Step
 waits args k = if is_unset (slice_index_or args k Unset) then Ok (args, Some k) else Err 53
 
+-- the item goes to the entry at this place; where no entry is left it is one too many (52)
 abbrev pub placed : List Arg → Item → Option ℕ → Step
 placed args item None = Err 52
 placed args item (Some k) = Ok (slice_set args k (span item), None)
@@ -75,6 +82,7 @@ abbrev pub step : List (List ℕ) → List ℕ → List Arg → Option ℕ → I
 step all line args (Some k) item = Ok (slice_set args k (span item), None)
 step all line args None item = act all args item (role_of line all item)
 
+-- a step, and then the next one, unless the first is refused
 abbrev pub and_then : Step → (List Arg → Option ℕ → Result (List Arg) ℕ) → Result (List Arg) ℕ
 and_then (Ok next) f = f next.0 next.1
 and_then (Err code) f = Err code
@@ -86,13 +94,15 @@ filled all line args (Some k) [] = Err 53
 filled all line args name (item ∷ items) =
     and_then (step all line args name item) (λ after waiting. filled all line after waiting items)
 
--- a required entry that is unset, and that there is none
+-- whether a required entry is unset
 abbrev pub lacks : List ℕ × Arg → Bool
 lacks pair = is_required pair.0 && is_unset pair.1
 
+-- whether no required entry is unset
 abbrev pub is_whole : List (List ℕ) → List Arg → Bool
 is_whole all args = list_all (λ pair. not (lacks pair)) (zip all args)
 
+-- the values of all entries, unless a required one has none (51)
 abbrev pub whole : List (List ℕ) → Result (List Arg) ℕ → Result (List Arg) ℕ
 whole all (Ok args) = if is_whole all args then Ok args else Err 51
 whole all (Err code) = Err code

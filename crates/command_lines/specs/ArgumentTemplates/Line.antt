@@ -32,5 +32,6 @@ items_in (in_quotes from) at (c ∷ cs) =
 abbrev pub items_from : ℕ → List ℕ → List Item
 items_from at rest = items_in between at rest
 
+-- the items of a line, in their order
 abbrev pub items : List ℕ → List Item
 items line = items_from 0 line

@@ -22,13 +22,15 @@ abbrev pub are_qualifiers : List ℕ → Bool
 are_qualifiers text =
     list_any (λ lawful. bytes_eq text lawful) ([] ∷ codes "/A" ∷ codes "/K" ∷ codes "/A/K" ∷ codes "/K/A" ∷ codes "/S" ∷ [])
 
--- whether an entry has the qualifier of this letter
+-- whether an entry has to be given a value: it has the qualifier A
 abbrev pub is_required : List ℕ → Bool
 is_required entry = list_any (λ c. c == 65) (qualifiers entry)
 
+-- whether an entry is given its value by its name alone: it has the qualifier K
 abbrev pub is_keyword : List ℕ → Bool
 is_keyword entry = list_any (λ c. c == 75) (qualifiers entry)
 
+-- whether an entry is set by its name, and has no value: it has the qualifier S
 abbrev pub is_switch : List ℕ → Bool
 is_switch entry = list_any (λ c. c == 83) (qualifiers entry)
 
@@ -49,6 +51,7 @@ stands_once all entry name =
 abbrev pub are_names : List (List ℕ) → List ℕ → Bool
 are_names all entry = list_all (λ name. is_entry_name name && stands_once all entry name) (names entry)
 
+-- whether it is an entry: its qualifiers and its names are lawful
 abbrev pub is_entry : List (List ℕ) → List ℕ → Bool
 is_entry all entry = are_qualifiers (qualifiers entry) && are_names all entry
 

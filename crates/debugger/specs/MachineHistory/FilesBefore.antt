@@ -6,14 +6,16 @@ use Rattle.kernel_model.specs.KernelRecord.Pipes.{no_pipes}
 use Rattle.debugger.specs.MachineHistory.Pasts.{Files}
 use Rattle.debugger.specs.declared.machine_history.files.KeptFiles.{KeptFiles}
 
+-- the disc and the pipes that were kept
 abbrev pub files_in : KeptFiles → Files
 files_in f = record { disc = f.disc; pipes = f.pipes }
 
--- those that stood once n steps were taken: the last that had come to be by then
+-- the files once n steps were taken: the last that were kept by then
 abbrev pub files_from : ℕ → KeptFiles → List KeptFiles → Files
 files_from n f [] = files_in f
 files_from n f (g ∷ gs) = if nat_le g.since n then files_from n g gs else files_in f
 
+-- the files that there were once n steps were taken; before any are kept, none
 abbrev pub files_at : ℕ → List KeptFiles → Files
 files_at n [] = record { disc = empty_disc; pipes = no_pipes }
 files_at n (f ∷ fs) = files_from n f fs
@@ -24,7 +26,7 @@ second_since [] = 0
 second_since (f ∷ []) = 0
 second_since (f ∷ g ∷ gs) = g.since
 
--- those of a moment that is gone stand for none: they had been from the start on
+-- files of a moment that is gone are marked: as if they had been there from the start
 abbrev pub forgotten : KeptFiles → KeptFiles
 forgotten f = record f { since = 0 }
 
@@ -33,6 +35,7 @@ abbrev pub is_later : ℕ → Option KeptFiles → Bool
 is_later n None = false
 is_later n (Some f) = nat_lt n f.since
 
+-- the last of them goes to the front, marked so: its place is free to keep others
 abbrev pub to_front : Option KeptFiles → List KeptFiles → List KeptFiles
 to_front None fs = fs
 to_front (Some f) fs = forgotten f ∷ take (length fs - 1) fs

@@ -20,11 +20,12 @@ abbrev pub ring_of : Option (Buffer KeptFiles) → List KeptFiles
 ring_of None = []
 ring_of (Some b) = b.items
 
--- those that are now
+-- the files that are now, where any are kept
 abbrev pub latest : ℕ → Option (Buffer KeptFiles) → Option Files
 latest n None = None
 latest n (Some b) = Some (files_at n b.items)
 
+-- what contracts see of a history: the states that it keeps, and the one that is now
 abbrev pub view_of : Inside → HistoryView
 view_of h = record {
   past = states h.keys.items (ring_of h.files) h.journal.past;
@@ -54,6 +55,7 @@ abbrev pub turn_steps : List State → List ℕ
 turn_steps [] = []
 turn_steps (s ∷ ss) = if is_file_turn s then (steps_of s + 1) ∷ turn_steps ss else turn_steps ss
 
+-- the machine has a kernel
 abbrev pub IsFull : State → Type 0
 IsFull (Bare m) = ⊥
 IsFull (Full k) = Unit {0}
@@ -125,9 +127,11 @@ files_back n (Some b) = Some (buffer (gone_back 17 n b.items) b.capacity)
 
 -- ---- the parts of a machine once it has gone back
 
+-- the files that were kept last, if any were
 abbrev pub last_files : List KeptFiles → Option KeptFiles
 last_files fs = last_item fs
 
+-- the parts of a machine with these files and pipes, if there are any
 abbrev pub with_files_of : Option KeptFiles → Parts → Parts
 with_files_of None p = p
 with_files_of (Some f) p = record p { disc = f.disc; pipes = f.pipes }
@@ -137,6 +141,7 @@ abbrev pub bare_parts_back : Option Moment → List ℕ → BareParts → BarePa
 bare_parts_back (Some (BareKind m)) words p = record p { store = words; regs = m.regs; step = m.step }
 bare_parts_back _ words p = record p { store = words }
 
+-- the parts of a machine with the words of its store, and what was kept at the moment, if it was one of its kind
 abbrev pub at_moment : Option Moment → List ℕ → Parts → Parts
 at_moment (Some (FullKind m)) words p = with_moment m (record p { store = words })
 at_moment _ words p = record p { store = words }
@@ -146,6 +151,7 @@ abbrev pub with_kept_files : Option (Buffer KeptFiles) → Parts → Parts
 with_kept_files None p = p
 with_kept_files (Some b) p = with_files_of (last_files (gone_back 17 p.step b.items)) p
 
+-- the parts of a machine at a moment: its words, what was kept of it, and its files and pipes
 abbrev pub parts_back : Option Moment → List ℕ → Option (Buffer KeptFiles) → Parts → Parts
 parts_back moment words files p = with_kept_files files (at_moment moment words p)
 

@@ -30,19 +30,21 @@ kernel_in keys words files m = record {
   stop = None;
 }
 
--- the steps taken at a moment
+-- the steps that were taken at a moment
 abbrev pub number : Moment → ℕ
 number (BareKind m) = m.step
 number (FullKind m) = m.step
 
+-- the state at a moment, from the keys of the session, the words of the store, the files and what was kept
 abbrev pub state_in : List (ℕ × ℕ) → List ℕ → Files → Moment → State
 state_in keys words files (BareKind m) = Bare (record { words = words; regs = m.regs; steps = m.step; stop = None })
 state_in keys words files (FullKind m) = Full (kernel_in keys words files m)
 
--- the state of a member of a journal
+-- the state that a member of a journal keeps
 abbrev pub read : List (ℕ × ℕ) → List KeptFiles → Past Moment → State
 read keys fs p = state_in keys p.words (files_at (number p.side) fs) p.side
 
+-- the states that the members of a journal keep, the oldest first
 abbrev pub states : List (ℕ × ℕ) → List KeptFiles → List (Past Moment) → List State
 states keys fs ps = map (read keys fs) ps
 

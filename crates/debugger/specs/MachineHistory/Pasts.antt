@@ -29,6 +29,7 @@ pub record Now : Type 0 where
   -- all keys of its script, those that have come too
   pub keys : List (ℕ × ℕ)
 
+-- what a history knows of a state
 abbrev pub now_of : State → List (ℕ × ℕ) → Now
 now_of s keys = record { words = words_of s; files = files_of s; steps = steps_of s; keys = keys }
 
@@ -58,6 +59,7 @@ abbrev pub is_file_turn : State → Bool
 is_file_turn (Bare m) = false
 is_file_turn (Full k) = k.lists.running == 1 || k.lists.running == 4
 
+-- how many of these states have such a turn next
 abbrev pub file_turns : List State → ℕ
 file_turns [] = 0
 file_turns (s ∷ ss) = (if is_file_turn s then 1 else 0) + file_turns ss
@@ -72,6 +74,7 @@ abbrev pub changes : List State → State → ℕ
 changes [] now = 0
 changes (s ∷ ss) now = differing (words_of s) (words_of (first_of ss now)) + changes ss now
 
+-- a history has room for these states: for their number, for the words that change between them, and for their files
 abbrev pub fits : List State → State → Bool
 fits ss now = nat_le (length ss) most_states && nat_le (changes ss now) most_changes && nat_le (file_turns ss) most_turns
 

@@ -20,6 +20,7 @@ pub record NameParts : Type 0 where
   -- all after these
   pub rest : List ℕ
 
+-- a name, cut into these three parts
 abbrev pub parts_of : List ℕ → NameParts
 parts_of name =
     let letters = take_while is_ascii_uppercase name in

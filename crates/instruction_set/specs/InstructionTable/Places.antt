@@ -3,10 +3,11 @@
 use Rattle.std.specs.Prelude.{ℕ, ◌+◌, ◌*◌, ◌/◌, ◌%◌, ◌^◌, List, fold, slice_index}
 use Rattle.instruction_set.specs.declared.instruction_table.places.TheConstants.{BYTES, SHIFTS}
 
--- letters as one number, and with one letter more
+-- a number that stands for letters, with one letter more
 abbrev pub key_with : ℕ → ℕ → ℕ
 key_with key letter = (124 * key + letter) % 2 ^ 32
 
+-- the number that stands for all letters of a name
 abbrev pub key_of : List ℕ → ℕ
 key_of name = fold key_with 0 name
 
@@ -18,6 +19,7 @@ shift_at choice = slice_index SHIFTS choice
 abbrev pub place_by : ℕ → ℕ
 place_by key = (key / 64 + shift_at (key % 64)) % 256
 
+-- the function byte that the code keeps at a place
 abbrev pub byte_at : ℕ → ℕ
 byte_at place = slice_index BYTES place
 

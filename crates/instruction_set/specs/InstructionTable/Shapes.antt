@@ -10,6 +10,7 @@ use Rattle.instruction_set.specs.declared.instruction_table.slots.Slot.{Slot}
 use Rattle.instruction_set.specs.declared.instruction_table.slots.TheConstants.{SLOTS}
 use Rattle.instruction_set.specs.InstructionTable.Table.{Entry}
 
+-- the operand form and the effect of a row
 abbrev pub shape_of : Entry → Shape
 shape_of e = record { form = e.form; effect = e.effect }
 

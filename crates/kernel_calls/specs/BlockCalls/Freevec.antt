@@ -48,6 +48,7 @@ has_packet_in l v = holds_packet l (used_at v l.blocks)
 abbrev pub freevec_tests : Lists → ℕ → List (Bool × ℕ)
 freevec_tests l v = (is_users_block l v, 6) ∷ (not (has_packet_in l v), 7) ∷ []
 
+-- the lists once the block whose data begin at v is free, and is joined with free blocks beside it
 abbrev pub with_given : ℕ → Lists → Lists
 with_given v l = with_blocks (given v l.blocks) l
 

@@ -8,10 +8,11 @@ use Rattle.kernel_lists.specs.declared.getvec_chain.pieces.Run.{Run}
 abbrev pub is_joined : Run → Block → Bool
 is_joined run b = nat_lt run.start b.start && nat_lt b.start run.end
 
--- the starts of such blocks
+-- the start of a block that is joined to the free block before it: its size word is no size word any more
 abbrev pub joined_start : Run → Block → List ℕ
 joined_start run b = if is_joined run b then b.start ∷ [] else []
 
+-- the starts of all blocks that are joined so in a run
 abbrev pub joined_starts : Run → List Block → List ℕ
 joined_starts run bs = flat_map (joined_start run) bs
 

@@ -11,5 +11,6 @@ pub record Outside : Type 0 where
   -- whether the log has failed
   pub failed : Bool
 
+-- these three as one: bytes shown, events noted, and whether the log has failed
 abbrev pub outside : List ℕ → Option (List KernelEvent) → Bool → Outside
 outside shown noted failed = record { shown = shown; noted = noted; failed = failed }

@@ -23,5 +23,7 @@ with_created_at c entry u l = with_callers (with_created c entry u) (with_taken 
 abbrev pub created : ℕ → ℕ → ℕ → Lists → Made
 created c entry u l = record { answer = Ok c; lists = with_created_at c entry u l; plain = []; events = [] }
 
+-- A new coroutine of the running task, with its function at the byte address `entry`, and words up to the index u. Its address is
+-- the answer, unless it is refused.
 abbrev pub createco : Lists → ℕ → ℕ → Made
 createco l entry u = unless_refused (create_tests l u) l (created (data_taken (highest u) l) entry u l)

@@ -21,6 +21,7 @@ with_deleted c k = with_list (filter (λ x. not (x.address == c)) k.list) k
 abbrev pub with_deleted_at : ℕ → Lists → Lists
 with_deleted_at c l = with_given c (with_callers (with_deleted c) l)
 
+-- The coroutine at c goes, unless it is refused; the answer is -1.
 abbrev pub deleteco : Lists → ℕ → Made
 deleteco l c = unless_refused (delete_tests l c) l (done (with_deleted_at c l))
 

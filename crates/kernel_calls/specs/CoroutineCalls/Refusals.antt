@@ -3,6 +3,7 @@ use Rattle.std.specs.Prelude.{ℕ, Result, Ok, Err}
 use Rattle.kernel_lists.specs.declared.coroutine_lists.ends.CoEnd.{CoEnd}
 use Rattle.kernel_lists.specs.declared.coroutine_lists.ends.CoEnd.TheVariants.{HasParent, NoParent, Unknown}
 
+-- the code that a guest gets, of each reason for which a call on coroutines is refused
 abbrev pub code_of : CoEnd → ℕ
 code_of Unknown = 21
 code_of HasParent = 22

@@ -37,10 +37,11 @@ unless_refused tests l r made = by_refusal (first_refusal tests) l r made
 abbrev pub of_one : (Coroutine → ℕ) → ℕ → List Coroutine → ℕ
 of_one part c xs = option_map_or part (find (λ x. x.address == c) xs) 0
 
--- the P and the PC that are saved for the coroutine at c, or for the root, which 0 names
+-- the P that is saved for the coroutine at c, or for the root, which 0 names
 abbrev pub p_of : ℕ → TaskCoroutines → ℕ
 p_of c k = if c == 0 then k.root_p else of_one (λ x. x.saved_p) c k.list
 
+-- the PC that is saved for it
 abbrev pub pc_of : ℕ → TaskCoroutines → ℕ
 pc_of c k = if c == 0 then k.root_pc else of_one (λ x. x.saved_pc) c k.list
 

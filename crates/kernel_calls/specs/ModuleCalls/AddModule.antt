@@ -23,18 +23,21 @@ has_module_room l id = list_any (λ t. (t.id == id) && nat_lt (length t.modules)
 abbrev pub globals_fit : List ℕ → ℕ → Bool
 globals_fit s m = list_all (λ h. nat_le (highest h.words) most_globals) (hunks_in s m)
 
--- the task with the number, seen by these two: its globals, and how many modules it has
+-- where the globals of a task begin, 0 where there is no such task
 abbrev pub globals_at : ℕ → Option Task → ℕ
 globals_at version None = 0
 globals_at version (Some t) = globals_of version t
 
+-- how many modules a task has, 0 where there is no such task
 abbrev pub modules_so_far : Option Task → ℕ
 modules_so_far None = 0
 modules_so_far (Some t) = length t.modules
 
+-- the task with the number, if it is there
 abbrev pub task_of : ℕ → Lists → Option Task
 task_of id l = find (λ t. t.id == id) l.tasks
 
+-- where its globals begin
 abbrev pub globals_of_task : ℕ → Lists → ℕ
 globals_of_task id l = globals_at l.version (task_of id l)
 

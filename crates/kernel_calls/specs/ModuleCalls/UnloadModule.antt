@@ -20,6 +20,7 @@ use_tests l m = (has_module l m, 17) ∷ (not (is_in_use l m), 26) ∷ []
 abbrev pub unload_tests : Lists → ℕ → List (Bool × ℕ)
 unload_tests l m = use_tests l m ++ (not (has_packet_in l m), 7) ∷ []
 
+-- the lists without the module at m
 abbrev pub without_module : ℕ → Lists → Lists
 without_module m l = with_modules (without_first (λ x. m == x.address) l.modules) l
 

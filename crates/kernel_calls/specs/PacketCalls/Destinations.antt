@@ -8,6 +8,7 @@ use Rattle.kernel_model.specs.KernelRecord.ValidQueues.Place.{Clock, Keyboard, O
 use Rattle.kernel_calls.specs.declared.packet_calls.queues.Queue.{Queue}
 use Rattle.kernel_calls.specs.declared.packet_calls.queues.Queue.TheVariants as queues
 
+-- the queue that a number names
 abbrev pub place_of : ℕ → Place
 place_of n =
     if n == device 1 then Clock else

@@ -67,5 +67,6 @@ dequeued p (Some w) l = record {
   events = Dequeued (signed w.number) p ∷ [];
 }
 
+-- The packet at p goes out of the queue that `id` names, or else out of that of the running task, unless it is refused.
 abbrev pub dqpkt : Lists → ℕ → ℕ → Made
 dqpkt l id p = unless_refused (dqpkt_tests l id p) l (dequeued p (found_in l id p) l)

@@ -16,20 +16,22 @@ packet_at s p =
 
 -- ---- a packet comes
 
--- at the clock it stands after all that are due no later, and elsewhere at the end
+-- the queue once a packet has come to it: at the clock after all that are due no later, and elsewhere at the end
 abbrev pub arrived : Place → QueuedPacket → List QueuedPacket → List QueuedPacket
 arrived Clock p ps = insert_after (λ q. nat_le q.last p.last) p ps
 arrived _ p ps = ps ++ p ∷ []
 
+-- the lists once a packet has come to the queue at a place
 abbrev pub with_arrived : Place → QueuedPacket → Lists → Lists
 with_arrived at p l = with_queue at (arrived at p (queue_of at l)) l
 
--- A packet that is sent there has its sender in word 1; at the clock its word 4 is the tick at which it is due, so many ticks from
--- now on as its word 5 says.
+-- word 4 of a packet that is sent to a place: at the clock the tick at which it is due, which is as many ticks from now on as its
+-- word 5 says, and elsewhere the word that was there
 abbrev pub sent_last : List ℕ → Lists → ℕ → Place → ℕ
 sent_last s l p Clock = due_tick l.tick (slice_index s (p + 5))
 sent_last s l p _ = slice_index s (p + 4)
 
+-- a packet that is sent to a place: its word 1 has its sender
 abbrev pub sent_packet : List ℕ → Lists → Place → ℕ → ℕ → QueuedPacket
 sent_packet s l at p sender = record (packet_at s p) { sender = sender; last = sent_last s l p at }
 
@@ -39,8 +41,10 @@ sent_packet s l at p sender = record (packet_at s p) { sender = sender; last = s
 abbrev pub stands_in : ℕ → List QueuedPacket → Bool
 stands_in p ps = list_any (λ q. p == q.address) ps
 
+-- the queue without the packet at p
 abbrev pub departed : ℕ → List QueuedPacket → List QueuedPacket
 departed p ps = without_first (λ q. p == q.address) ps
 
+-- the lists once the packet at p has gone out of the queue at a place
 abbrev pub with_departed : ℕ → Place → Lists → Lists
 with_departed p at l = with_queue at (departed p (queue_of at l)) l

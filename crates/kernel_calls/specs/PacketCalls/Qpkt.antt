@@ -40,5 +40,6 @@ sent_to number s l p = record {
   events = Accepted (signed number) p (signed l.running) ∷ [];
 }
 
+-- The packet at p goes to the queue that its word 1 names, from the running task, unless it is refused.
 abbrev pub qpkt : List ℕ → Lists → ℕ → Made
 qpkt s l p = unless_refused (qpkt_tests s l p) l (sent_to (slice_index s (p + 1)) s l p)

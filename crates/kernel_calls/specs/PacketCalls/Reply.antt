@@ -26,6 +26,7 @@ pub record CanReply (s : List ℕ) (l : Lists) (p from : ℕ) : Type 0 where
 abbrev pub returned : List ℕ → ℕ → ℕ → ℕ → ℕ → QueuedPacket
 returned s p from res1 res2 = record (packet_at s p) { sender = from; res1 = res1; last = res2 }
 
+-- The packet at p goes back to the work queue of the task that its word 1 names, with these results.
 abbrev pub reply : List ℕ → Lists → ℕ → ℕ → ℕ → ℕ → Made
 reply s l p from res1 res2 = record {
   answer = Ok minus_one;

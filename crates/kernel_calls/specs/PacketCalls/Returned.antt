@@ -40,6 +40,7 @@ pub record Served : Type 0 where
   -- the events, in their order
   pub events : List KernelEvent
 
+-- a device that has nothing to do leaves all as it was
 abbrev pub unserved : Lists → Served
 unserved l = record { lists = l; events = [] }
 

@@ -33,6 +33,7 @@ pub record CanSendKeys (l : Lists) (p from to : ℕ) : Type 0 where
   -- the keyboard gets it
   pub to_keyboard : to ≡ keyboard
 
+-- a packet that a resident may send: to a task, or its key packet to the keyboard
 abbrev pub CanSendOwn : Lists → ℕ → ℕ → ℕ → Type 0
 CanSendOwn l p from to = CanSendToTask l p from to ⊎ CanSendKeys l p from to
 
@@ -43,6 +44,7 @@ with_sent s p from to l =
     then with_key None (with_arrived Keyboard (sent_packet s l Keyboard p from) l)
     else with_arrived (Work to) (sent_packet s l (Work to) p from) l
 
+-- The packet at p is sent by a resident; nothing refuses it.
 abbrev pub send_own : List ℕ → Lists → ℕ → ℕ → ℕ → Made
 send_own s l p from to = record {
   answer = Ok minus_one;

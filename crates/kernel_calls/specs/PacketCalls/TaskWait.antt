@@ -11,6 +11,7 @@ use Rattle.kernel_model.specs.KernelRecord.ValidQueues.Place.{Work}
 use Rattle.kernel_model.specs.KernelRecord.ValidTasks.{waits}
 use Rattle.kernel_calls.specs.CallAnswers.Made.{Made}
 
+-- a task that waits for a packet
 abbrev pub waiting : Task → Task
 waiting t = record t { field = waits }
 
@@ -34,5 +35,6 @@ waited (p ∷ ps) l = record {
   events = Taken (signed l.running) p.address (signed p.sender) ∷ [];
 }
 
+-- The running task takes its first packet, or waits for one.
 abbrev pub taskwait : Lists → Made
 taskwait l = waited (queue_of (Work l.running) l) l

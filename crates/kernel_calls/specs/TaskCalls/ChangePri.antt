@@ -8,6 +8,7 @@ use Rattle.kernel_model.specs.KernelRecord.Task.{Task}
 use Rattle.kernel_calls.specs.CallAnswers.Guests.{guest_tests}
 use Rattle.kernel_calls.specs.CallAnswers.Made.{Made, done, unless_refused}
 
+-- a priority that a guest may have: from 1 to 10,000
 abbrev pub is_priority : ℕ → Bool
 is_priority pri = nat_le 1 pri && nat_le pri 10000
 
@@ -24,8 +25,10 @@ abbrev pub moved : ℕ → Option Task → List Task → Lists → Lists
 moved pri None others l = l
 moved pri (Some t) others l = with_moved_task pri t others l
 
+-- the lists with the task of this number at the place that its new priority gives it in the chain
 abbrev pub with_new_priority : ℕ → ℕ → Lists → Lists
 with_new_priority id pri l = moved pri (find (λ t. t.id == id) l.tasks) (without_first (λ t. t.id == id) l.tasks) l
 
+-- The guest with the number gets another priority, unless it is refused; the answer is -1.
 abbrev pub change_pri : Lists → ℕ → ℕ → Made
 change_pri l id pri = unless_refused (guest_tests l id ++ priority_tests l id pri) l (done (with_new_priority id pri l))

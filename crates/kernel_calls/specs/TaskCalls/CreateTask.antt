@@ -86,6 +86,8 @@ with_created s l t =
       events = [];
     }
 
+-- A new guest with these modules, a stack with the indices 0 to u, a priority and a maker. Its number is `id`, or the lowest that
+-- is free where that is 0; it is the answer, unless the call is refused.
 abbrev pub create_task : List ℕ → Lists → ℕ → List ℕ → ℕ → ℕ → ℕ → Made
 create_task s l id modules u pri maker =
     unless_refused (creation_tests s l id modules u pri) l

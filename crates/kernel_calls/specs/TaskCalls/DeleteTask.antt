@@ -23,10 +23,11 @@ has_no_work l id = list_any (λ t. (t.id == id) && is_empty_queue t.queue) l.tas
 abbrev pub has_no_coroutines : Lists → ℕ → Bool
 has_no_coroutines l id = list_any (λ t. (t.id == id) && (length t.coroutines.list == 0)) l.tasks
 
--- the packets that residents and devices have, and those that wait for a line
+-- the packets on the work queue of a resident; a guest's are its own
 abbrev pub resident_packets : Task → List QueuedPacket
 resident_packets t = if is_guest_id t.id then [] else t.queue
 
+-- the packets that residents and devices have, and the reads that wait for a line
 abbrev pub packets_out : Lists → List QueuedPacket
 packets_out l = flat_map resident_packets l.tasks ++ (l.clock ++ (l.keyboard ++ (l.output ++ l.pending)))
 
@@ -46,6 +47,7 @@ deletion_tests l id = end_tests l id ++ (not (has_packet_in l (address_of_task l
 abbrev pub without_task : Lists → ℕ → Lists
 without_task l id = with_blocks (given (address_of_task l id) l.blocks) (with_tasks (without_first (λ t. t.id == id) l.tasks) l)
 
+-- The guest with the number goes, and its block is given back, unless it is refused; the answer is -1.
 abbrev pub delete_task : Lists → ℕ → Made
 delete_task l id = unless_refused (guest_tests l id ++ deletion_tests l id) l (done (without_task l id))
 

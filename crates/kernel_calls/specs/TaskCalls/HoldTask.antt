@@ -11,8 +11,10 @@ use Rattle.kernel_calls.specs.TaskCalls.OneTask.{is_held}
 abbrev pub hold_tests : Lists → ℕ → List (Bool × ℕ)
 hold_tests l id = guest_tests l id ++ (not (is_held l id), 16) ∷ []
 
+-- a task that is held: it does not run until it is released
 abbrev pub held : Task → Task
 held t = record t { held = true }
 
+-- The guest with the number is held, unless it is refused; the answer is -1.
 abbrev pub hold : Lists → ℕ → Made
 hold l id = unless_refused (hold_tests l id) l (done (with_task id held l))

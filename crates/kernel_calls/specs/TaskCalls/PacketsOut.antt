@@ -16,6 +16,7 @@ is_sender_at s head id = list_any (λ p. slice_index s (p + 1) == id) (queue_at 
 abbrev pub is_sender_to : List ℕ → ℕ → ℕ → Bool
 is_sender_to s id t = if is_guest_id (id_in s t) then false else is_sender_at s (queue_head t) id
 
+-- one on the work queue of any resident is
 abbrev pub is_sender_to_residents : List ℕ → ℕ → Bool
 is_sender_to_residents s id = list_any (is_sender_to s id) (tasks_in s)
 
@@ -27,5 +28,6 @@ is_sender_of_read s id = if has_residents s then is_sender_at s pending_head id 
 abbrev pub is_sender_at_device : List ℕ → ℕ → Bool
 is_sender_at_device s id = is_sender_at s clock_head id || (is_sender_at s keyboard_head id || is_sender_at s output_head id)
 
+-- a resident, a device or the console has a packet from the task with the number
 abbrev pub is_sender_out : List ℕ → ℕ → Bool
 is_sender_out s id = is_sender_to_residents s id || (is_sender_at_device s id || is_sender_of_read s id)

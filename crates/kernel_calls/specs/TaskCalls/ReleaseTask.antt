@@ -11,8 +11,10 @@ use Rattle.kernel_calls.specs.TaskCalls.OneTask.{is_held}
 abbrev pub release_tests : Lists → ℕ → List (Bool × ℕ)
 release_tests l id = guest_tests l id ++ (is_held l id, 15) ∷ []
 
+-- a task that is not held
 abbrev pub released : Task → Task
 released t = record t { held = false }
 
+-- The guest with the number is released, unless it is refused; the answer is -1.
 abbrev pub release : Lists → ℕ → Made
 release l id = unless_refused (release_tests l id) l (done (with_task id released l))

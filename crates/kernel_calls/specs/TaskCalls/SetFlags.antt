@@ -10,5 +10,6 @@ use Rattle.kernel_calls.specs.CallAnswers.Made.{Made, done, unless_refused}
 abbrev pub flagged : ℕ → Task → Task
 flagged flags t = record t { flags = bit_or t.flags flags }
 
+-- The guest with the number gets these flags besides its own, unless it is refused; the answer is -1.
 abbrev pub set_flags : Lists → ℕ → ℕ → Made
 set_flags l id flags = unless_refused (guest_tests l id) l (done (with_task id (flagged flags) l))

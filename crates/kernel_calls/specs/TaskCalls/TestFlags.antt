@@ -14,5 +14,6 @@ flags_among l mask = option_map_or (λ t. bit_and t.flags mask) (find (λ t. t.i
 abbrev pub cleared : ℕ → Task → Task
 cleared mask t = record t { flags = bit_and t.flags (2 ^ 32 - 1 - mask) }
 
+-- The running task learns which flags of the mask it has, and loses them.
 abbrev pub test_flags : Lists → ℕ → Made
 test_flags l mask = record { answer = Ok (flags_among l mask); lists = with_task l.running (cleared mask) l; plain = []; events = [] }

@@ -76,34 +76,38 @@ with_saved p pc k =
 abbrev pub switch_words : ℕ → TaskCoroutines → ℕ → ℕ → ℕ → Pairs
 switch_words t k p pc c = (current_cell t, c) ∷ (saved_pc t (current_of k), pc) ∷ (saved_p t (current_of k), p) ∷ []
 
--- c is called
+-- the task's coroutines once c is called: it becomes the current one, and the P and PC of its caller are saved
 abbrev pub with_called : ℕ → ℕ → ℕ → TaskCoroutines → TaskCoroutines
 with_called c p pc k = record (with_saved p pc k) { active = c ∷ k.active }
 
+-- what a call of c writes: its parent, and the words of every switch
 abbrev pub CallExchange : List ℕ → List ℕ → ℕ → TaskCoroutines → ℕ → ℕ → ℕ → Type 0
 CallExchange s v t k c p pc =
     Rewrites s v (words_of_coroutines t k) (words_of_coroutines t (with_called c p pc k))
     ((parent_cell c, as_parent t (current_of k)) ∷ switch_words t k p pc c)
 
--- the current one waits
+-- the task's coroutines once the current one waits: its parent becomes the current one
 abbrev pub with_waiting : ℕ → ℕ → TaskCoroutines → TaskCoroutines
 with_waiting p pc k = record (with_saved p pc k) { active = drop 1 k.active }
 
+-- what a wait writes: that the current one has no parent any more, and the words of every switch
 abbrev pub WaitExchange : List ℕ → List ℕ → ℕ → TaskCoroutines → ℕ → ℕ → Type 0
 WaitExchange s v t k p pc =
     Rewrites s v (words_of_coroutines t k) (words_of_coroutines t (with_waiting p pc k))
     ((parent_cell (current_of k), 0) ∷ switch_words t k p pc (first_active (drop 1 k.active) 0))
 
--- c takes the place of the current one, unless it is that
+-- the task's coroutines once c takes the place of the current one, unless it is that
 abbrev pub with_resumed : ℕ → ℕ → ℕ → TaskCoroutines → TaskCoroutines
 with_resumed c p pc k = if current_of k == c then k else record (with_saved p pc k) { active = c ∷ drop 1 k.active }
 
+-- the words that a resume writes: c gets the parent of the current one, which then has none; where c is the current one, nothing
 abbrev pub resume_words : ℕ → TaskCoroutines → ℕ → ℕ → ℕ → Pairs
 resume_words t k c p pc =
     if current_of k == c
     then []
     else (parent_cell (current_of k), 0) ∷ (parent_cell c, first_active (drop 1 k.active) t) ∷ switch_words t k p pc c
 
+-- what a resume of c writes: these words
 abbrev pub ResumeExchange : List ℕ → List ℕ → ℕ → TaskCoroutines → ℕ → ℕ → ℕ → Type 0
 ResumeExchange s v t k c p pc = Rewrites s v (words_of_coroutines t k) (words_of_coroutines t (with_resumed c p pc k)) (resume_words t k c p pc)
 

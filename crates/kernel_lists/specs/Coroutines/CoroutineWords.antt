@@ -5,9 +5,11 @@ use Rattle.std.specs.Prelude.{ℕ, ◌+◌, ◌==◌, if◌then◌else◌, List,
 use Rattle.kernel_lists.specs.TaskBlock.TaskWords.{word_index}
 use Rattle.kernel_lists.specs.declared.task_block.fields.TcbField.TheVariants.{CurrentCo, RootP, RootPc}
 
+-- a coroutine has 10 words, whichever it is
 abbrev pub coroutine_size : ℕ → ℕ
 coroutine_size c = 10
 
+-- the word of a coroutine that has its parent
 abbrev pub parent_cell : ℕ → ℕ
 parent_cell c = c + 1
 
@@ -19,15 +21,19 @@ bottom c = c + 7
 abbrev pub current_cell : ℕ → ℕ
 current_cell t = t + word_index CurrentCo
 
+-- what names the current coroutine of the task at t, 0 while its root is current
 abbrev pub current_in : List ℕ → ℕ → ℕ
 current_in s t = slice_index s (current_cell t)
 
+-- the parent of the coroutine at c: another one, its task where that is the root, or 0 while c is not active
 abbrev pub parent_in : List ℕ → ℕ → ℕ
 parent_in s c = slice_index s (parent_cell c)
 
+-- the byte address of the function with which the coroutine at c begins
 abbrev pub function_in : List ℕ → ℕ → ℕ
 function_in s c = slice_index s (c + 3)
 
+-- the highest index of a word of the coroutine at c
 abbrev pub highest_in : List ℕ → ℕ → ℕ
 highest_in s c = slice_index s (c + 4)
 
@@ -39,10 +45,11 @@ saved_p t c = if c == 0 then t + word_index RootP else c
 abbrev pub saved_pc : ℕ → ℕ → ℕ
 saved_pc t c = if c == 0 then t + word_index RootPc else c + 6
 
--- the root is named 0 where it is current, and by its task where it is a parent
+-- how a coroutine is named where it is a parent: by its address, and the root by the address of its task
 abbrev pub as_parent : ℕ → ℕ → ℕ
 as_parent t c = if c == 0 then t else c
 
+-- how it is named where it is current: by its address, and the root by 0
 abbrev pub as_current : ℕ → ℕ → ℕ
 as_current t p = if p == t then 0 else p
 

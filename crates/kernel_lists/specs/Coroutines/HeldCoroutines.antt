@@ -26,6 +26,7 @@ pub record Coroutine : Type 0 where
   -- its PC while it does not run, a byte address; while it runs the one at which it ran last
   pub saved_pc : ℕ
 
+-- where the words of a coroutine begin
 abbrev pub address_of : Coroutine → ℕ
 address_of c = c.address
 

@@ -24,14 +24,16 @@ has_parent s t c = has c (active_in s t)
 abbrev pub is_within : List ℕ → ℕ → Bool
 is_within s t = not (current_in s t == 0)
 
--- what is deleted or called has to be a coroutine of the task without a parent
+-- whether c may be deleted or called: it has to be a coroutine of the task, without a parent
 abbrev pub idle_answer : List ℕ → ℕ → ℕ → Result Unit CoEnd
 idle_answer s t c = first_refusal ((is_known s t c, Unknown) ∷ (not (has_parent s t c), HasParent) ∷ [])
 
--- the current one may be resumed too
+-- whether c may be resumed: it has to be a coroutine of the task, without a parent or the current one, and the root may not be
+-- current
 abbrev pub resume_answer : List ℕ → ℕ → ℕ → Result Unit CoEnd
 resume_answer s t c =
     first_refusal ((is_known s t c, Unknown) ∷ (is_within s t, NoParent) ∷ (not (has_parent s t c) || (current_in s t == c), HasParent) ∷ [])
 
+-- whether the current coroutine may wait: it may not be the root
 abbrev pub wait_answer : List ℕ → ℕ → Result Unit CoEnd
 wait_answer s t = first_refusal ((is_within s t, NoParent) ∷ [])

@@ -10,9 +10,11 @@ size_word b = if b.free then b.size + 1 else b.size
 abbrev pub block_of_word : ℕ → ℕ → Block
 block_of_word at w = record { start = at; size = w - w % 2; free = w % 2 == 1 }
 
+-- the block of n words at an address, its size word among them, that is handed out
 abbrev pub used_block : ℕ → ℕ → Block
 used_block at n = record { start = at; size = n; free = false }
 
+-- the block of n words at an address, its size word among them, that is free
 abbrev pub free_block : ℕ → ℕ → Block
 free_block at n = record { start = at; size = n; free = true }
 

@@ -10,9 +10,11 @@ use Rattle.kernel_lists.specs.GetvecChain.Run.{AreFree, need}
 use Rattle.kernel_lists.specs.GetvecChain.Take.{left_over}
 use Rattle.kernel_lists.specs.GetvecChain.Tiling.{Follow, blocks_in}
 
+-- the one word that a block owns: its size word, whose lowest bit says that the block is free
 abbrev pub block_words : Block → Pairs
 block_words b = (b.start, size_word b) ∷ []
 
+-- the size words of blocks, in their order
 abbrev pub blocks_words : List Block → Pairs
 blocks_words bs = flat_map block_words bs
 

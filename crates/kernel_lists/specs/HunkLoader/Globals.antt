@@ -23,6 +23,7 @@ pub record Global : Type 0 where
   -- the word that it is set to
   pub value : ℕ
 
+-- the global with a number, and the word to which it is set
 abbrev pub global : ℕ → ℕ → Global
 global number value = record { number = number; value = value }
 

@@ -15,6 +15,7 @@ pub record LoadedModule : Type 0 where
   -- how many words each of its hunks has, in their order
   pub lengths : List ℕ
 
+-- where the words of a module begin
 abbrev pub module_address : LoadedModule → ℕ
 module_address m = m.address
 

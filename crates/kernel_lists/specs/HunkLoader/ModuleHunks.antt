@@ -8,13 +8,15 @@ pub record PlacedHunk : Type 0 where
   -- its words, as they stand there
   pub words : List ℕ
 
+-- the hunk with these words, from an address on
 abbrev pub placed : ℕ → List ℕ → PlacedHunk
 placed base words = record { base = base; words = words }
 
--- the number of the hunks of the module at m, and the numbers of their words
+-- how many hunks the module at m has
 abbrev pub hunk_count : List ℕ → ℕ → ℕ
 hunk_count s m = slice_index s (m + 1)
 
+-- how many words each of them has, in their order
 abbrev pub lengths_in : List ℕ → ℕ → List ℕ
 lengths_in s m = slice_range s (m + 2) (m + 2 + hunk_count s m)
 

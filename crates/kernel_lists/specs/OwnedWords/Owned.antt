@@ -2,6 +2,7 @@
 use Rattle.std.specs.Prelude.{◌≡◌, ℕ, suc, ◌+◌, ◌<◌, ◌≤◌, ◌==◌, if◌then◌else◌, Option, Some, None, List, [], ◌∷◌, length, slice_index, slice_set}
 use Rattle.word_store.specs.Count.{hit}
 
+-- words that are owned, each with its address before it
 abbrev pub Pairs : Type 0
 Pairs = List (ℕ × ℕ)
 

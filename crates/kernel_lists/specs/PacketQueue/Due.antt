@@ -7,6 +7,7 @@ use Rattle.kernel_lists.specs.PacketQueue.Queue.{link_of, queue_at}
 abbrev pub due_word : ℕ → ℕ
 due_word p = p + 4
 
+-- the tick at which the packet at p is due
 abbrev pub due_of : List ℕ → ℕ → ℕ
 due_of s p = slice_index s (due_word p)
 

@@ -22,6 +22,7 @@ pub record QueuedPacket : Type 0 where
   -- its word 4: its second result, or, at the clock, the tick at which it is due
   pub last : ℕ
 
+-- where the words of a packet begin
 abbrev pub address_of : QueuedPacket → ℕ
 address_of p = p.address
 
@@ -62,10 +63,11 @@ pub record QueueExchange (s t : List ℕ) (before after old new writes : Pairs) 
   -- these alone are written
   pub words : t ≡ written writes s
 
--- the word that holds the link behind these packets, and the first of those packets
+-- the word that has the link after these packets: the head, or word 0 of the last of them
 abbrev pub link_behind : ℕ → List QueuedPacket → ℕ
 link_behind head ps = last_cell address_of head ps
 
+-- the first of these packets, or 0 where there are none
 abbrev pub first_packet : List QueuedPacket → ℕ
 first_packet ps = first_of address_of ps 0
 

@@ -35,10 +35,12 @@ pub record ComesIn {X : Type 0} (address id priority : X → ℕ) (s : List ℕ)
   -- and its priority
   pub level : priority_in s (address x) ≡ priority x
 
--- the entry of x and the link behind the front of a chain, where x is not in it, and where it comes next
+-- two words while x is not in the chain: its entry, which is 0, and the link after the tasks before its place, which leads to
+-- those after it
 abbrev pub absent_words : {X : Type 0} → (X → ℕ) → (X → ℕ) → List X → X → List X → Pairs
 absent_words address id front x back = (table_entry (id x), 0) ∷ (last_cell address first_task front, first_of address back 0) ∷ []
 
+-- the same two words while x is in the chain: both lead to x
 abbrev pub present_words : {X : Type 0} → (X → ℕ) → (X → ℕ) → List X → X → Pairs
 present_words address id front x = (table_entry (id x), address x) ∷ (last_cell address first_task front, address x) ∷ []
 
@@ -75,32 +77,41 @@ pub record UnlinkExchange {X : Type 0} (address id : X → ℕ) (words : X → �
 
 -- ---- a kind of task: its address, and what is in its words 1 to 22
 
+-- a task, as the words of its block say
 pub record TaskBlock : Type 0 where
   -- the word address of its word 0
   pub address : ℕ
   -- what its word i holds, for i from 1 to 22
   pub word : ℕ → ℕ
 
+-- where the words of a task begin
 abbrev pub block_address : TaskBlock → ℕ
 block_address b = b.address
 
+-- the number of a task
 abbrev pub block_id : TaskBlock → ℕ
 block_id b = b.word (word_index Id)
 
+-- the priority of a task
 abbrev pub block_priority : TaskBlock → ℕ
 block_priority b = b.word (word_index Pri)
 
+-- the words of a task's block, with this link
 abbrev pub block_words : TaskBlock → ℕ → Pairs
 block_words b link = (b.address, link) ∷ row_from b.address 1 (map b.word (range_with_len 1 22))
 
+-- the store holds the words of these tasks, the table and the head of the chain
 abbrev pub HeldBlocks : List ℕ → List TaskBlock → Type 0
 HeldBlocks s bs = HeldTasks block_address block_id block_words s bs
 
+-- this task, which is not in the chain, may come in
 abbrev pub BlockComesIn : List ℕ → TaskBlock → Type 0
 BlockComesIn s b = ComesIn block_address block_id block_priority s b
 
+-- what it exchanges and writes when this task comes in
 abbrev pub BlockInsert : List ℕ → List ℕ → List TaskBlock → TaskBlock → Type 0
 BlockInsert s t bs b = InsertExchange block_address block_id block_priority block_words s t bs b
 
+-- what it exchanges and writes when this task goes out from between two parts of the chain
 abbrev pub BlockUnlink : List ℕ → List ℕ → List TaskBlock → TaskBlock → List TaskBlock → Type 0
 BlockUnlink s t front b back = UnlinkExchange block_address block_id block_words s t front b back

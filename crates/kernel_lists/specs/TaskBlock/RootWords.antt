@@ -3,6 +3,7 @@ use Rattle.std.specs.Prelude.{ℕ, ◌+◌}
 use Rattle.kernel_lists.specs.declared.task_block.roots.RootField.{RootField}
 use Rattle.kernel_lists.specs.declared.task_block.roots.RootField.TheVariants.{Table, FirstTask, Running, FirstBlock, FirstModule, ClockQueue, KeyQueue, OutputQueue, Tick, Size, Period, Version, Residents}
 
+-- the address of each word of the root node
 abbrev pub root_address : RootField → ℕ
 root_address Table = 100
 root_address FirstTask = 101
@@ -18,10 +19,11 @@ root_address Period = 110
 root_address Version = 111
 root_address Residents = 112
 
--- the head of the chain of tasks, and that of the list of modules
+-- the head of the chain of tasks
 abbrev pub first_task : ℕ
 first_task = root_address FirstTask
 
+-- the head of the list of modules
 abbrev pub first_module : ℕ
 first_module = root_address FirstModule
 

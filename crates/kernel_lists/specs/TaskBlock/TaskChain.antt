@@ -9,10 +9,11 @@ use Rattle.kernel_lists.specs.TaskBlock.TaskWords.{word_index}
 use Rattle.kernel_lists.specs.TaskBlock.Versions.{highest_id}
 use Rattle.kernel_lists.specs.declared.task_block.fields.TcbField.TheVariants.{Id, Pri}
 
--- a task block's link is its word 0, and every task block has the words 0 to 22
+-- a task block's link is its word 0
 abbrev pub task_link : ℕ → ℕ
 task_link t = t
 
+-- every task block has 23 words, its link among them
 abbrev pub task_size : ℕ → ℕ
 task_size t = 23
 
@@ -20,10 +21,11 @@ task_size t = 23
 abbrev pub tasks_in : List ℕ → List ℕ
 tasks_in s = list_at s task_link first_task
 
--- the number of a task, and its priority
+-- the number of the task at t
 abbrev pub id_in : List ℕ → ℕ → ℕ
 id_in s t = slice_index s (t + word_index Id)
 
+-- its priority
 abbrev pub priority_in : List ℕ → ℕ → ℕ
 priority_in s t = slice_index s (t + word_index Pri)
 

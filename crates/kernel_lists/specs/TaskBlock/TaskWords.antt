@@ -3,6 +3,7 @@ use Rattle.std.specs.Prelude.{ℕ}
 use Rattle.kernel_lists.specs.declared.task_block.fields.TcbField.{TcbField}
 use Rattle.kernel_lists.specs.declared.task_block.fields.TcbField.TheVariants.{Link, Id, Pri, Queue, State, Flags, Stack, StackTop, Globals, Maker, Module, SavedA, SavedB, SavedC, SavedP, SavedG, SavedPc, FirstCo, CurrentCo, RootP, RootPc, Extra1, Extra2}
 
+-- which word of a task block has each name, from 0
 abbrev pub word_index : TcbField → ℕ
 word_index Link = 0
 word_index Id = 1

@@ -24,11 +24,13 @@ is_recorded l f = has_task 2 l.tasks && not (f.code == 6)
 abbrev pub with_recorded : Fault → Turned → Turned
 with_recorded f m = record m { lists = recorded f m.lists; events = m.events ++ recorded_events f m.lists; ends = Goes }
 
+-- A fault is recorded where there is a task that reports it; else the turn is as it was.
 abbrev pub reported_by : TurnEnd → Turned → Turned
 reported_by Goes m = m
 reported_by (Quits result) m = m
 reported_by (Faults f) m = if is_recorded m.lists f then with_recorded f m else m
 
+-- what the running guest does in a step, and the fault that is recorded of it
 abbrev pub turn_of_guest : List ℕ → Lists → Regs → Turned
 turn_of_guest s l r = reported_by (turn_without_reporter s l r).ends (turn_without_reporter s l r)
 
@@ -40,6 +42,7 @@ stop_by running Goes = None
 stop_by running (Quits result) = Some (Quit result)
 stop_by running (Faults f) = Some (StopByFault f.code f.address running)
 
+-- the machine once a turn has left this: the turn's plain words are written, and the machine stops where the turn says so
 abbrev pub after_turn : Kernel → Turned → Stepped
 after_turn k m = record {
   kernel = record (with_store (written m.plain m.words) m.lists k) { regs = m.regs; stop = stop_by k.lists.running m.ends };
@@ -47,5 +50,6 @@ after_turn k m = record {
   events = m.events;
 }
 
+-- a step's turn, where a guest runs
 abbrev pub guest_step : Kernel → Stepped
 guest_step k = after_turn k (turn_of_guest (image k) k.lists k.regs)

@@ -55,6 +55,7 @@ pub record HasSameResidents (k j : Kernel) : Type 0 where
 abbrev pub tick_after : Kernel → ℕ
 tick_after k = if k.steps % k.lists.period == 0 then k.lists.tick + 1 else k.lists.tick
 
+-- the running task and the numbers of the lists once the clock was asked
 abbrev pub numbers_after_tick : Kernel → Numbers
 numbers_after_tick k = record (numbers_of k.lists) { tick = tick_after k }
 

@@ -45,6 +45,7 @@ passed m k = with_ticks (record k { steps = k.steps + m })
 
 -- ---- a guest's instruction
 
+-- what the running guest's next instruction does, where it may write no word of the kernel
 abbrev pub instruction_of : Kernel → After
 instruction_of k = instruction (is_owned k.lists) (image k) k.regs
 

@@ -33,16 +33,19 @@ after_shell x k = record {
   events = x.events;
 }
 
+-- a step's turn, where the shell runs
 abbrev pub shell_step : Kernel → Stepped
 shell_step k = after_shell (shell_turn (image k) k.lists k.shell k.disc) k
 
 -- ---- the task that reports faults
 
+-- a step's turn, where the task runs that reports faults
 abbrev pub reporter_step : Kernel → Stepped
 reporter_step k = after_resident (fault_turn (image k) k.lists) k
 
 -- ---- the console
 
+-- what the console does in its turn, and how far it comes; the shell's wait says whose flags its keys set
 abbrev pub console_parts : Kernel → Progress
 console_parts k = all_parts (awaited k.shell.mode) (begun (image k) k.lists k.console k.shell.line)
 
@@ -50,20 +53,25 @@ console_parts k = all_parts (awaited k.shell.mode) (begun (image k) k.lists k.co
 abbrev pub with_console_lines : Progress → Kernel → Kernel
 with_console_lines g k = record k { console = g.console; shell = record k.shell { line = g.command } }
 
+-- a step's turn, where the console runs
 abbrev pub console_step : Kernel → Stepped
 console_step k = after_resident (turn_done (image k) (console_parts k)) (with_console_lines (console_parts k) k)
 
 -- ---- the file handler
 
+-- the machine with another disc
 abbrev pub with_disc : Disc → Kernel → Kernel
 with_disc d k = record k { disc = d }
 
+-- the machine with other pipes
 abbrev pub with_pipes : List (Option Pipe) → Kernel → Kernel
 with_pipes ps k = record k { pipes = ps }
 
+-- a step's turn, where the file handler runs, and its request is for a file
 abbrev pub file_step : Kernel → Stepped
 file_step k = after_resident (file_turn k.disc (image k) k.lists) (with_disc (disc_after_turn k.disc (image k) k.lists) k)
 
+-- a step's turn, where the file handler runs, and its request is for a pipe
 abbrev pub pipe_step : Kernel → Stepped
 pipe_step k = after_resident (pipe_turn k.pipes (image k) k.lists) (with_pipes (pipes_after_turn k.pipes (image k) k.lists) k)
 
@@ -76,6 +84,7 @@ is_for_pipes (p ∷ ps) = nat_le 20 p.kind && nat_le p.kind 23
 abbrev pub serves_pipes : Lists → Bool
 serves_pipes l = (l.version == 2) && is_for_pipes (work l)
 
+-- a step's turn, where the file handler runs
 abbrev pub handler_step : Kernel → Stepped
 handler_step k = if serves_pipes k.lists then pipe_step k else file_step k
 

@@ -38,6 +38,7 @@ abbrev pub typed_by : List (ℕ × ℕ) → Kernel → Kernel
 typed_by [] k = k
 typed_by (key ∷ keys) k = if nat_le key.0 k.steps then record k { keys = keys; type_ahead = with_typed key.1 k.type_ahead } else k
 
+-- the first key of the session to come is typed, where it is due
 abbrev pub with_key_typed : Kernel → Kernel
 with_key_typed k = typed_by k.keys k
 
@@ -45,6 +46,7 @@ with_key_typed k = typed_by k.keys k
 abbrev pub meet : Kernel → Stepped
 meet k = served (record k { type_ahead = left_typed k.type_ahead k.lists.keyboard }) (met k.type_ahead k.lists)
 
+-- the keyboard's part of a step: a key that is due is typed, and a byte meets a packet
 unfoldable pub key : Kernel → Stepped
 key k = meet (with_key_typed k)
 
@@ -54,14 +56,17 @@ output k = record (served k (finished k.lists)) { bytes = printed (image k) k.li
 
 -- ---- dispatch
 
+-- the machine once a dispatch has left this: the task that runs, its registers and the dispatch's events
 abbrev pub switched : Kernel → Dispatched → Stepped
 switched k m = record { kernel = record (settled m.plain k m.lists) { regs = m.regs }; bytes = []; events = m.events }
 
+-- the last part of a step: the first ready task goes on
 unfoldable pub dispatch : Kernel → Stepped
 dispatch k = switched k (dispatched (image k) k.lists k.regs)
 
 -- ---- the step
 
+-- the clock's part of a step, the keyboard's and the output's, in this order
 abbrev pub devices : Kernel → Stepped
 devices k = and_then (and_then (tick k) key) output
 
@@ -69,9 +74,11 @@ devices k = and_then (and_then (tick k) key) output
 abbrev pub unless_stopped : (Kernel → Stepped) → Kernel → Stepped
 unless_stopped rest k = if is_some k.stop then quietly k else rest k
 
+-- what follows the turn in a step: the devices, and then dispatch
 abbrev pub after_the_turn : Kernel → Stepped
 after_the_turn k = and_then (devices k) dispatch
 
+-- one more step is counted
 abbrev pub with_step : Kernel → Kernel
 with_step k = record k { steps = k.steps + 1 }
 

@@ -53,10 +53,11 @@ with_files lines k = do
   d ← load_files k.disc lines
   Ok (with_disc d k)
 
--- the lines' tasks are ready
+-- the machine with these words and lists
 abbrev pub with_standing : Standing → Kernel → Kernel
 with_standing x k = with_store x.words x.lists k
 
+-- the tasks of these lines of the session are created, one after another, or the first is refused that can't be
 unfoldable pub with_tasks : List SessionLine → Kernel → Result Kernel BootRefusal
 with_tasks lines k = do
   x ← start_tasks k.disc lines (standing (image k) k.lists)

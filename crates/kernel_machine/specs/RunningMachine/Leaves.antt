@@ -19,7 +19,7 @@ pub record Leaves (p : Parts) (old new : Outside) (x : Stepped) : Type 0 where
   -- its events went to the log, or the first of them where that failed
   pub notes : NotesAll old.noted new.noted old.failed new.failed x.events
 
--- a turn may be taken, and the task with this number runs: a guest, a resident or nobody, or the one that is meant
+-- a turn may be taken, and the task with this number runs, a guest
 pub record RunsGuest (task : ℕ) (k : Kernel) : Type 0 where
   -- a turn may be taken
   pub can : CanTurn k
@@ -28,6 +28,7 @@ pub record RunsGuest (task : ℕ) (k : Kernel) : Type 0 where
   -- which is a guest
   pub guest : is_guest_id k.lists.running ≡ true
 
+-- a turn may be taken, and the task with this number runs, a resident, or nobody does
 pub record RunsNoGuest (task : ℕ) (k : Kernel) : Type 0 where
   -- a turn may be taken
   pub can : CanTurn k
@@ -36,6 +37,7 @@ pub record RunsNoGuest (task : ℕ) (k : Kernel) : Type 0 where
   -- it is none of a guest
   pub none : is_guest_id k.lists.running ≡ false
 
+-- a turn may be taken, and the task with this number runs
 pub record RunsNumber (task : ℕ) (k : Kernel) : Type 0 where
   -- a turn may be taken
   pub can : CanTurn k

@@ -8,6 +8,7 @@ pub record KeyScript : Type 0 where
   -- how many of them have come
   pub come : ℕ
 
+-- the keys that are still to come
 abbrev pub still_to_come : KeyScript → List (ℕ × ℕ)
 still_to_come s = drop s.come s.keys
 

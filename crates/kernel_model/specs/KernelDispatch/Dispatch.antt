@@ -29,10 +29,11 @@ pub record Dispatched : Type 0 where
 
 -- ---- the task that ran
 
--- its registers are saved, and where it ran it is interrupted
+-- a task that stops running: its registers are saved, and where it ran it is interrupted
 abbrev pub suspended : Regs → Task → Task
 suspended r t = record t { saved = r; field = if t.field == runs then interrupted else t.field }
 
+-- the lists once the running task is suspended with its registers
 abbrev pub with_suspended : Regs → Lists → Lists
 with_suspended r l = with_task l.running (suspended r) l
 
@@ -46,16 +47,19 @@ takes_packet t = is_guest_id t.id && ((t.field == waits) || (t.field == dead))
 abbrev pub packets_taken : Task → List QueuedPacket
 packets_taken t = if takes_packet t then take 1 t.queue else []
 
+-- the packets that stay on its queue
 abbrev pub packets_left : Task → List QueuedPacket
 packets_left t = if takes_packet t then drop 1 t.queue else t.queue
 
--- the task once it has taken them, and once it runs
+-- the task once it has taken its packet
 abbrev pub with_packet_taken : Task → Task
 with_packet_taken t = record t { queue = packets_left t }
 
+-- the task once it runs, with its queue as it was
 abbrev pub started : Task → Task
 started t = record t { field = runs }
 
+-- the task once it has taken its packet and runs
 abbrev pub resumed : Task → Task
 resumed t = record t { field = runs; queue = packets_left t }
 
@@ -81,9 +85,11 @@ guest_regs version words t =
     if t.field == waits then record t.saved { a = first_of address_of t.queue 0; b = 0 } else
     t.saved
 
+-- the registers with which a task goes on: those of a guest, or all 0 for a resident
 abbrev pub resumed_regs : ℕ → List ℕ → Task → Regs
 resumed_regs version words t = if is_guest_id t.id then guest_regs version words t else no_regs
 
+-- the event that a task took a packet, and from whom
 abbrev pub taken_event : Task → QueuedPacket → KernelEvent
 taken_event t p = Taken (pos t.id) p.address (signed p.sender)
 
@@ -103,6 +109,7 @@ with_nobody l = record {
   events = if l.running == 0 then [] else Runs 0 ∷ [];
 }
 
+-- this task takes its packet, where it takes one, and runs
 abbrev pub with_resumed : List ℕ → Task → Lists → Dispatched
 with_resumed words t l = record {
   lists = record (with_task t.id resumed l) { running = t.id };
@@ -111,10 +118,12 @@ with_resumed words t l = record {
   events = map (taken_event t) (packets_taken t) ++ Runs t.id ∷ [];
 }
 
+-- the ready task runs; without one nobody does
 abbrev pub with_next : List ℕ → Lists → Option Task → Dispatched
 with_next words l None = with_nobody l
 with_next words l (Some t) = with_resumed words t l
 
+-- the first task of the chain that is ready, so the ready one of highest priority
 abbrev pub first_ready_task : Lists → Option Task
 first_ready_task l = find is_ready l.tasks
 
@@ -122,6 +131,7 @@ first_ready_task l = find is_ready l.tasks
 abbrev pub first_ready_block : Lists → Option ℕ
 first_ready_block l = option_map task_address (first_ready_task l)
 
+-- the same task runs on with the same registers, and nothing is written
 abbrev pub unchanged : Lists → Regs → Dispatched
 unchanged l r = record { lists = l; plain = []; regs = r; events = [] }
 

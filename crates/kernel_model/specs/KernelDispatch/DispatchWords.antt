@@ -12,7 +12,7 @@ use Rattle.kernel_lists.specs.declared.task_block.roots.RootField.TheVariants.{R
 use Rattle.kernel_model.specs.KernelRecord.Task.{is_guest_id}
 use Rattle.kernel_model.specs.KernelRecord.ValidTasks.{no_regs}
 
--- a word of the task block at t
+-- word 4 of the task block at t: its field, 2 more while it is held, and 1 more while packets wait
 abbrev pub state_of : List ℕ → ℕ → ℕ
 state_of s t = slice_index s (t + word_index State)
 
@@ -20,6 +20,7 @@ state_of s t = slice_index s (t + word_index State)
 abbrev pub suspended_state : ℕ → ℕ
 suspended_state w = if nat_lt w 4 then w + 8 else w
 
+-- the words of the task block at t that a suspension writes: its state, and the six registers
 abbrev pub saved_words : ℕ → ℕ → Regs → Pairs
 saved_words t state r =
     (t + word_index State, state) ∷ (t + word_index SavedPc, r.pc) ∷ (t + word_index SavedG, r.g) ∷ (t + word_index SavedP, r.p)
@@ -29,17 +30,19 @@ saved_words t state r =
 abbrev pub with_saved : List ℕ → ℕ → Regs → List ℕ
 with_saved s t r = written (saved_words t (suspended_state (state_of s t)) r) s
 
--- that of the task that runs, where one does
+-- the address of the task that runs, 0 where none does
 abbrev pub running_in : List ℕ → ℕ
 running_in s = slice_index s (root_address Running)
 
+-- the store in which the running task, where there is one, is suspended with these registers
 abbrev pub with_running_saved : List ℕ → Regs → List ℕ
 with_running_saved s r = if running_in s == 0 then s else with_saved s (running_in s) r
 
--- the store in which nobody runs, and the events: one where somebody ran
+-- the store in which the task that ran is suspended, and nobody runs
 abbrev pub with_nobody_running : List ℕ → Regs → List ℕ
 with_nobody_running s r = slice_set (with_running_saved s r) (root_address Running) 0
 
+-- the event that nobody runs any more, where somebody ran
 abbrev pub idle_events : List ℕ → List KernelEvent
 idle_events s = if running_in s == 0 then [] else Runs 0 ∷ []
 
@@ -59,7 +62,7 @@ with_started s t = slice_set (slice_set s (t + word_index State) (state_of s t %
 
 -- ---- the registers of the task at t, which goes on
 
--- a dead one begins at its entry
+-- a dead one begins at its entry, with its packet in A
 abbrev pub entry_in : List ℕ → ℕ → ℕ → Regs
 entry_in s t packet = record {
   a = packet;
@@ -70,7 +73,7 @@ entry_in s t packet = record {
   pc = slice_index s (slice_index s (t + word_index Globals) + 1);
 }
 
--- those that were saved, or the live ones where it is the task that ran
+-- the registers that were saved, or the live ones where it is the task that ran
 abbrev pub saved_in : List ℕ → Regs → ℕ → Regs
 saved_in s r t = if running_in s == t then r else record {
   a = slice_index s (t + word_index SavedA);
@@ -81,12 +84,15 @@ saved_in s r t = if running_in s == t then r else record {
   pc = slice_index s (t + word_index SavedPc);
 }
 
+-- The registers of a guest: a dead one begins at its entry, an interrupted one goes on with those that were saved, and one that
+-- waited has its packet in A besides, and 0 in B.
 abbrev pub guest_regs_in : List ℕ → Regs → ℕ → ℕ → Regs
 guest_regs_in s r t packet =
     if nat_le 12 (state_of s t) then entry_in s t packet else
     if nat_le 8 (state_of s t) then saved_in s r t else
     record (saved_in s r t) { a = packet; b = 0 }
 
+-- the registers of any task: those of a guest, or all 0 for a resident
 abbrev pub next_regs_in : List ℕ → Regs → ℕ → ℕ → Regs
 next_regs_in s r t packet = if is_guest_id (slice_index s (t + word_index Id)) then guest_regs_in s r t packet else no_regs
 

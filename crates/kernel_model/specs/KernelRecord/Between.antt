@@ -18,6 +18,7 @@ use Rattle.kernel_model.specs.KernelRecord.Versions.{highest_id_of}
 
 -- ---- the running task
 
+-- whether no packet is on a queue
 abbrev pub is_empty_queue : List QueuedPacket → Bool
 is_empty_queue [] = true
 is_empty_queue (p ∷ ps) = false
@@ -83,13 +84,14 @@ pub record ConsoleStands (l : Lists) (c : Console) : Type 0 where
 
 -- ---- the shell
 
--- the shell types a file, or waits for this task
+-- whether the shell types a file
 abbrev pub is_typing : Mode → Bool
 is_typing Prompt = false
 is_typing Reading = false
 is_typing (Waiting id) = false
 is_typing Typing = true
 
+-- where the shell waits for a task, its number is that of a guest: from 5 up to the highest
 abbrev pub IsAwaited : ℕ → Mode → Type 0
 IsAwaited highest Prompt = Unit {0}
 IsAwaited highest Reading = Unit {0}

@@ -14,6 +14,7 @@ use Rattle.kernel_model.specs.KernelRecord.Task.{Task, task_address}
 abbrev pub coroutine_addresses : Task → List ℕ
 coroutine_addresses t = map address_of t.coroutines.list
 
+-- the use of a used block, by the address at which its data begin
 abbrev pub use_of_data : Lists → ℕ → Use
 use_of_data l v =
     if l.residents && (v == 201) then OfResidents else
@@ -22,5 +23,6 @@ use_of_data l v =
     if has v (flat_map coroutine_addresses l.tasks) then OfCoroutine else
     User
 
+-- the use of a block, free or used
 abbrev pub use_of : Lists → Block → Use
 use_of l b = if b.free then Free else use_of_data l (b.start + 1)

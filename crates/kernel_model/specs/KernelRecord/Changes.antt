@@ -20,6 +20,7 @@ use Rattle.kernel_model.specs.KernelRecord.ValidQueues.Place.{Clock, Keyboard, O
 
 -- ---- blocks
 
+-- the lists with these blocks in the place of theirs
 abbrev pub with_blocks : List Block → Lists → Lists
 with_blocks bs l = record l { blocks = bs }
 
@@ -41,6 +42,7 @@ AreUnowned l a b = (c : ℕ) → a ≤ c → c < b → owners c (owned l) ≡ 0
 
 -- ---- queues
 
+-- the task, with these packets on its work queue where it has this number
 abbrev pub with_work : ℕ → List QueuedPacket → Task → Task
 with_work id ps t = if t.id == id then record t { queue = ps } else t
 
@@ -49,7 +51,7 @@ abbrev pub work_of : ℕ → List Task → List QueuedPacket
 work_of id [] = []
 work_of id (t ∷ ts) = if t.id == id then t.queue else work_of id ts
 
--- the queue that stands at a place, and the lists with another one there
+-- the packets that are queued at a place
 abbrev pub queue_of : Place → Lists → List QueuedPacket
 queue_of (Work id) l = work_of id l.tasks
 queue_of Clock l = l.clock
@@ -57,6 +59,7 @@ queue_of Keyboard l = l.keyboard
 queue_of Output l = l.output
 queue_of Pending l = l.pending
 
+-- the lists with these packets at a place
 abbrev pub with_queue : Place → List QueuedPacket → Lists → Lists
 with_queue (Work id) ps l = record l { tasks = map (with_work id ps) l.tasks }
 with_queue Clock ps l = record l { clock = ps }
@@ -71,16 +74,17 @@ HasPlace l (Work id) = has_task id l.tasks ≡ true
 HasPlace l Pending = l.residents ≡ true
 HasPlace l _ = Unit {0}
 
--- The lists with another state of the residents' two packets: the key packet's first result where it is on no queue (invariant 21),
--- and whether the fault packet is on none (22).
+-- the lists with this state of the key packet: its first result where it is on no queue, else nothing (21)
 abbrev pub with_key : Option ℕ → Lists → Lists
 with_key x l = record l { key = x }
 
+-- the lists with this state of the fault packet: whether it is on no queue (22)
 abbrev pub with_fault_packet : Bool → Lists → Lists
 with_fault_packet f l = record l { fault_packet_free = f }
 
 -- ---- modules
 
+-- the lists with these modules in the place of theirs
 abbrev pub with_modules : List LoadedModule → Lists → Lists
 with_modules ms l = record l { modules = ms }
 
@@ -99,6 +103,7 @@ pub record SameTask (t u : Task) : Type 0 where
   -- which coroutines it has, in the same order
   pub coroutines : coroutine_addresses u ≡ coroutine_addresses t
 
+-- the lists with these tasks in the place of theirs
 abbrev pub with_tasks : List Task → Lists → Lists
 with_tasks ts l = record l { tasks = ts }
 
@@ -106,10 +111,11 @@ with_tasks ts l = record l { tasks = ts }
 abbrev pub with_coroutines : List Coroutine → Task → Task
 with_coroutines cs t = record t { coroutines = with_list cs t.coroutines }
 
--- the lists with the task of this number changed
+-- the task, changed where it has this number
 abbrev pub change_of : ℕ → (Task → Task) → Task → Task
 change_of id change t = if t.id == id then change t else t
 
+-- the lists with the task of this number changed
 abbrev pub with_task : ℕ → (Task → Task) → Lists → Lists
 with_task id change l = with_tasks (map (change_of id change) l.tasks) l
 

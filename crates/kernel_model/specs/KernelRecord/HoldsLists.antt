@@ -5,6 +5,7 @@ use Rattle.kernel_model.specs.KernelRecord.Lists.{Lists}
 use Rattle.kernel_model.specs.KernelRecord.Owned.{owned}
 use Rattle.kernel_model.specs.KernelRecord.ValidLists.{AreValid}
 
+-- The store holds the lists: they are valid, and each word that they own is in it.
 pub record HoldsLists (s : List ℕ) (l : Lists) : Type 0 where
   -- the lists are valid
   pub valid : AreValid l

@@ -14,6 +14,7 @@ plain_at k a = slice_index_or k.plain a None
 unfoldable pub word_of : Kernel → ℕ → ℕ
 word_of k a = unwrap_or (word_in a (owned k.lists)) (unwrap_or (plain_at k a) 0)
 
+-- the words of the store, from address 0
 unfoldable pub image : Kernel → List ℕ
 image k = map (word_of k) (range_with_len 0 k.lists.size)
 

@@ -23,6 +23,7 @@ pub record Words : Type 0 where
   -- how many words
   pub count : ℕ
 
+-- the range of so many words from an address on
 abbrev pub words : ℕ → ℕ → Words
 words first count = record { first = first; count = count }
 
@@ -36,19 +37,23 @@ AreClear marked a b = (c : ℕ) → a ≤ c → c < b → c < 2 ^ 32 → marked 
 
 -- ---- packets
 
+-- the words 0 to 4 of each packet that is queued at a head
 abbrev pub packets_at : List ℕ → ℕ → List Words
 packets_at s head = map (λ p. words p 5) (queue_at s head)
 
+-- whether the store has a block of residents: the root has its address, or 0
 abbrev pub has_residents : List ℕ → Bool
 has_residents s = not (slice_index s (root_address Residents) == 0)
 
--- those that wait for a line
+-- those of the reads that wait for a line
 abbrev pub pending_packets : List ℕ → List Words
 pending_packets s = if has_residents s then packets_at s pending_head else []
 
+-- those of the packets at the clock, the keyboard and the output, and of the reads that wait for a line
 abbrev pub device_packets : List ℕ → List Words
 device_packets s = packets_at s clock_head ++ (packets_at s keyboard_head ++ (packets_at s output_head ++ pending_packets s))
 
+-- those of the packets on the tasks' work queues
 abbrev pub work_packets : List ℕ → List Words
 work_packets s = flat_map (λ t. packets_at s (queue_head t)) (tasks_in s)
 
@@ -62,9 +67,11 @@ packet_words_of ps = map (λ p. words p.address 5) ps
 
 -- ---- the words of all else
 
+-- the root node with the task table, words 100 to 183, and the end word
 abbrev pub root_ranges : List ℕ → List Words
 root_ranges s = words 100 84 ∷ words (length s - 2) 1 ∷ []
 
+-- the size word of a block
 abbrev pub block_range : Block → Words
 block_range b = words b.start 1
 
@@ -72,10 +79,11 @@ block_range b = words b.start 1
 abbrev pub task_size_in : List ℕ → ℕ → ℕ
 task_size_in s t = if is_guest_id (id_in s t) then head_words s else 23
 
--- a task block, and the words 0 to 9 of its coroutines
+-- the words 0 to 9 of the coroutines of the task at t
 abbrev pub coroutine_ranges : List ℕ → ℕ → List Words
 coroutine_ranges s t = map (λ c. words c 10) (coroutines_in s t)
 
+-- its task block, and those of its coroutines
 abbrev pub task_ranges : List ℕ → ℕ → List Words
 task_ranges s t = words t (task_size_in s t) ∷ coroutine_ranges s t
 
@@ -83,22 +91,25 @@ task_ranges s t = words t (task_size_in s t) ∷ coroutine_ranges s t
 abbrev pub module_ranges : List ℕ → ℕ → List Words
 module_ranges s m = words m 2 ∷ words (m + 2) (hunk_count s m) ∷ []
 
--- The residents' words that are in no list: the head of the reads that wait for a line and the key packet, and the fault packet,
--- where a task reports faults.
+-- whether task 2 is there, which reports faults
 abbrev pub has_reporter : List ℕ → Bool
 has_reporter s = list_any (λ t. id_in s t == 2) (tasks_in s)
 
+-- where there are residents: the head of the reads that wait for a line, and the eight words of the key packet
 abbrev pub console_ranges : List ℕ → List Words
 console_ranges s = if has_residents s then words pending_head 9 ∷ [] else []
 
+-- the five words of the fault packet, where there is a task that reports faults
 abbrev pub fault_ranges : List ℕ → List Words
 fault_ranges s = if has_reporter s then words fault_packet 5 ∷ [] else []
 
+-- the kernel's words but for those of queued packets
 unfoldable pub list_ranges : List ℕ → List Words
 list_ranges s =
     root_ranges s
     ++ (map block_range (blocks_in s) ++ (flat_map (task_ranges s) (tasks_in s) ++ (flat_map (module_ranges s) (modules_in s) ++ (console_ranges s ++ fault_ranges s))))
 
+-- all of the kernel's words
 abbrev pub kernel_ranges : List ℕ → List Words
 kernel_ranges s = list_ranges s ++ packet_ranges s
 

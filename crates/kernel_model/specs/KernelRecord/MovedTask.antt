@@ -4,6 +4,7 @@ use Rattle.kernel_model.specs.KernelRecord.Changes.{with_new_task, with_tasks}
 use Rattle.kernel_model.specs.KernelRecord.Lists.{Lists}
 use Rattle.kernel_model.specs.KernelRecord.Task.{Task}
 
+-- the task with another priority
 abbrev pub with_priority : ℕ → Task → Task
 with_priority priority t = record t { priority = priority }
 

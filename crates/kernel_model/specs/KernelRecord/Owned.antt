@@ -13,13 +13,15 @@ use Rattle.kernel_model.specs.KernelRecord.Root.{root_words}
 use Rattle.kernel_model.specs.KernelRecord.Task.{task_address, task_id, task_words}
 use Rattle.kernel_model.specs.KernelRecord.Versions.{highest_id_of}
 
--- the heads of the queues of the clock, the keyboard and the output
+-- the word that leads to the packets at the clock, device -1
 abbrev pub clock_head : ℕ
 clock_head = root_address ClockQueue
 
+-- the word that leads to the packets at the keyboard, device -2
 abbrev pub keyboard_head : ℕ
 keyboard_head = root_address KeyQueue
 
+-- the word that leads to the packets at the output, device -3
 abbrev pub output_head : ℕ
 output_head = root_address OutputQueue
 
@@ -31,6 +33,8 @@ tasks_words l = listed_words task_address task_id (task_words l.version) (highes
 abbrev pub device_words : Lists → Pairs
 device_words l = queue_words clock_head l.clock ++ (queue_words keyboard_head l.keyboard ++ queue_words output_head l.output)
 
+-- All owned words: the root and the end word, the blocks, the tasks, the modules, the queues of devices, and what is the
+-- residents'.
 unfoldable pub owned : Lists → Pairs
 owned l =
     root_words l (address_of_task l l.running)

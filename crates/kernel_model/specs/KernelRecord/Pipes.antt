@@ -4,13 +4,15 @@ use Rattle.ram_disc.specs.Name.{IsName}
 use Rattle.kernel_model.specs.KernelRecord.Kernel.{Pipe}
 use Rattle.kernel_model.specs.KernelRecord.Lists.{Lists}
 
--- the most pipes, and the most bytes that one holds
+-- the most pipes that there can be at one time
 abbrev pub most_pipes : ℕ
 most_pipes = 8
 
+-- the most bytes that a pipe holds
 abbrev pub most_held : ℕ
 most_held = 1024
 
+-- none of the pipes is there
 abbrev pub no_pipes : List (Option Pipe)
 no_pipes = replicate most_pipes None
 

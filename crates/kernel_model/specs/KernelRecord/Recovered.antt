@@ -23,13 +23,15 @@ use Rattle.kernel_model.specs.KernelRecord.Residents.{fault_packet, key_packet, 
 use Rattle.kernel_model.specs.KernelRecord.Task.{Task, is_guest_id, queue_head}
 use Rattle.kernel_model.specs.KernelRecord.KernelRanges.{has_residents}
 
--- a word of the root, and one of a task block
+-- a word of the root, by its address
 abbrev pub root_in : List ℕ → ℕ → ℕ
 root_in s a = slice_index s a
 
+-- a word of the task block at t, by its name
 abbrev pub field_in : List ℕ → ℕ → TcbField → ℕ
 field_in s t f = slice_index s (t + word_index f)
 
+-- the packet at p, as its words say
 abbrev pub packet_in : List ℕ → ℕ → QueuedPacket
 packet_in s p = record {
   address = p;
@@ -39,9 +41,11 @@ packet_in s p = record {
   last = slice_index s (p + 4);
 }
 
+-- the packets that are queued at a head
 abbrev pub packets_at : List ℕ → ℕ → List QueuedPacket
 packets_at s head = map (packet_in s) (queue_at s head)
 
+-- the coroutine at c, as its words say
 abbrev pub coroutine_in : List ℕ → ℕ → Coroutine
 coroutine_in s c = record {
   address = c;
@@ -51,6 +55,7 @@ coroutine_in s c = record {
   saved_pc = slice_index s (c + 6);
 }
 
+-- the coroutines of the task at t, those that are active, and what its root has saved
 abbrev pub coroutines_of : List ℕ → ℕ → TaskCoroutines
 coroutines_of s t = record {
   list = map (coroutine_in s) (coroutines_in s t);
@@ -67,6 +72,8 @@ further_words s t = if is_guest_id (id_in s t) then slice_range s (t + 23) (t + 
 abbrev pub modules_of : List ℕ → ℕ → List ℕ
 modules_of s t = filter (λ m. not (m == 0)) (field_in s t Module ∷ further_words s t)
 
+-- The task at t, as its words say. Of its state the lowest bit says nothing of its own, the next one that the task is held, and
+-- the rest is its field.
 abbrev pub task_in : List ℕ → ℕ → Task
 task_in s t = record {
   id = id_in s t;
@@ -92,6 +99,7 @@ task_in s t = record {
   coroutines = coroutines_of s t;
 }
 
+-- the module at m, with the lengths of its hunks
 abbrev pub module_in : List ℕ → ℕ → LoadedModule
 module_in s m = record { address = m; lengths = lengths_in s m }
 
@@ -107,12 +115,15 @@ is_free s p = has_residents s && (slice_index s p == no_queue)
 abbrev pub has_task_in : List ℕ → ℕ → Bool
 has_task_in s id = list_any (λ t. id_in s t == id) (tasks_in s)
 
+-- the reads that wait for a line, where there are residents
 abbrev pub pending_in : List ℕ → List QueuedPacket
 pending_in s = if has_residents s then packets_at s pending_head else []
 
+-- the first result of the key packet, where that is on no queue
 abbrev pub key_in : List ℕ → Option ℕ
 key_in s = if is_free s key_packet then Some (slice_index s (key_packet + 3)) else None
 
+-- all lists and numbers of the kernel, as the store's words say
 unfoldable pub lists_in : List ℕ → Lists
 lists_in s = record {
   size = root_in s (root_address Size);

@@ -20,6 +20,7 @@ number_words l = l.tick ∷ l.size ∷ l.period ∷ l.version ∷ resident_data 
 abbrev pub unused_entries : ℕ → Pairs
 unused_entries version = row_from (table_entry 0) (highest_id_of version + 1) (filled (63 - highest_id_of version) [])
 
+-- the words of the root node, where the task that runs is at this address, and the end word, which is 0
 abbrev pub root_words : Lists → ℕ → Pairs
 root_words l running =
     (root_address Table, table_entry 0) ∷ (root_address Running, running) ∷ (root_address FirstBlock, 200)

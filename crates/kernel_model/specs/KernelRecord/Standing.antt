@@ -11,6 +11,7 @@ pub record Standing : Type 0 where
   -- the lists that they hold
   pub lists : Lists
 
+-- these words and these lists as one
 abbrev pub standing : List ℕ → Lists → Standing
 standing words l = record { words = words; lists = l }
 

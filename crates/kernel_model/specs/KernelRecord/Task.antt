@@ -40,12 +40,15 @@ pub record Task : Type 0 where
   -- its coroutines, the newest first, and those that are active
   pub coroutines : TaskCoroutines
 
+-- where the task block begins
 abbrev pub task_address : Task → ℕ
 task_address t = t.address
 
+-- the number of a task
 abbrev pub task_id : Task → ℕ
 task_id t = t.id
 
+-- the priority of a task
 abbrev pub task_priority : Task → ℕ
 task_priority t = t.priority
 
@@ -57,11 +60,12 @@ is_guest_id id = nat_le 5 id
 abbrev pub queue_head : ℕ → ℕ
 queue_head t = t + word_index Queue
 
--- A guest's task block, its 1,001 words of globals and its stack follow one another in its block; a resident has no globals and
--- no stack.
+-- where the globals of a task begin: after its task block, in the block that a guest's 1,001 globals and its stack share with it;
+-- a resident has none, and 0
 abbrev pub globals_of : ℕ → Task → ℕ
 globals_of version t = if is_guest_id t.id then t.address + head_words_of version else 0
 
+-- where its stack begins: after its globals; a resident has none, and 0
 abbrev pub stack_of : ℕ → Task → ℕ
 stack_of version t = if is_guest_id t.id then t.address + head_words_of version + 1001 else 0
 

@@ -45,6 +45,7 @@ use Rattle.kernel_model.specs.KernelRecord.ValidBlocks.{BlocksTile, NumbersStand
 use Rattle.kernel_model.specs.KernelRecord.ValidQueues.{QueuesStand}
 use Rattle.kernel_model.specs.KernelRecord.ValidTasks.{CoroutinesStand, TasksStand}
 
+-- the lists satisfy all of these invariants
 pub record AreValid (l : Lists) : Type 0 where
   -- invariant 1
   pub blocks : BlocksTile l

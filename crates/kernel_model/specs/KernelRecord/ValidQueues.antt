@@ -15,17 +15,19 @@ pub data Place : Type 0 where
   Output : Place
   Pending : Place
 
--- the address is that of the key packet, or of the fault packet; without a task that reports faults there is none
+-- whether it is the address of the key packet; without residents there is none
 abbrev pub is_key_at : Lists → ℕ → Bool
 is_key_at l a = l.residents && (a == key_packet)
 
+-- whether it is the address of the fault packet; without a task that reports faults there is none
 abbrev pub is_fault_at : Lists → ℕ → Bool
 is_fault_at l a = has_task 2 l.tasks && (a == fault_packet)
 
--- the packet is the one or the other
+-- whether a packet is the key packet
 abbrev pub is_key_packet : Lists → QueuedPacket → Bool
 is_key_packet l p = is_key_at l p.address
 
+-- whether a packet is the fault packet
 abbrev pub is_fault_packet : Lists → QueuedPacket → Bool
 is_fault_packet l p = is_fault_at l p.address
 

@@ -12,19 +12,23 @@ use Rattle.kernel_model.specs.KernelRecord.Task.{Task, is_guest_id, task_id}
 use Rattle.kernel_model.specs.KernelRecord.ValidBlocks.{HasBlock}
 use Rattle.kernel_model.specs.KernelRecord.Versions.{head_words_of, highest_id_of, most_modules_of}
 
--- the fields of a state: it runs, it waits, it is interrupted, it is dead
+-- the field of the state of a task that runs
 abbrev pub runs : ℕ
 runs = 0
 
+-- the field of one that waits for a packet
 abbrev pub waits : ℕ
 waits = 4
 
+-- the field of one that ran until the kernel let another one go on
 abbrev pub interrupted : ℕ
 interrupted = 8
 
+-- the field of one that begins at its entry when its next packet comes
 abbrev pub dead : ℕ
 dead = 12
 
+-- each state has one of these four fields
 abbrev pub IsField : ℕ → Type 0
 IsField f = (f ≡ runs) ⊎ (f ≡ waits) ⊎ (f ≡ interrupted) ⊎ (f ≡ dead)
 

@@ -16,13 +16,16 @@ pub record Searched (u v : Search) (ws : List Words) : Type 0 where
   -- where one is in a range, it is found
   pub found : v.found ≡ (u.found || list_any (meets u.from u.to) ws)
 
+-- nothing is added by a range that is not there
 pub or-false : (x : Bool) → x ≡ (x || false)
 or-false true = refl
 or-false false = refl
 
+-- before any range it has found what it had found
 pub searched_none : (v : Search) → Searched v v []
 searched_none v = record { from = refl; to = refl; found = or-false v.found }
 
+-- what was shown some ranges, and then others, was shown all of them
 pub searched_both : (u v w : Search) (xs ys : List Words) → Searched u v xs → Searched v w ys → Searched u w (xs ++ ys)
 searched_both u v w xs ys one two =
     let f : Words → Bool = meets u.from u.to in

@@ -24,17 +24,19 @@ is_wait n = nat_le 1 n && nat_le n MOST_WAIT
 abbrev pub is_letter : ℕ → Bool
 is_letter c = (c == 68) || (c == 88) || (c == 82) || (c == 79) || (c == 46)
 
+-- a number of letters that a line of the link may have: from 1 to the most
 abbrev pub is_letter_count : ℕ → Bool
 is_letter_count n = nat_le 1 n && nat_le n MOST_LETTERS
 
 -- ---- each line
 
--- the rounds and the wait
+-- the two numbers of the first line: the rounds, and how many rounds the sender waits until it sends again
 abbrev pub numbers : List ℕ → Result (ℕ × ℕ) Refusal
 numbers line = do
   both ← ok_or (two_numbers line) (refusal 1 1)
   if is_round_count both.0 && is_wait both.1 then Ok both else Err (refusal 1 2)
 
+-- the first line, and the lines after it
 abbrev pub numbers_line : List (List ℕ) → Result ((ℕ × ℕ) × List (List ℕ)) Refusal
 numbers_line lines = do
   first ← next_line 1 lines
@@ -52,6 +54,7 @@ letters_after word n line = do
   text ← ok_or (after_word word line) (refusal n 1)
   letters n text
 
+-- the letters of line n, after its word, and the lines after it
 abbrev pub letters_line : List ℕ → ℕ → List (List ℕ) → Result (List ℕ × List (List ℕ)) Refusal
 letters_line word n lines = do
   first ← next_line n lines
@@ -60,6 +63,7 @@ letters_line word n lines = do
 
 -- ---- all four
 
+-- the four lines, and the lines after them
 abbrev pub head_lines : List (List ℕ) → Result (Head × List (List ℕ)) Refusal
 head_lines lines = do
   both ← numbers_line lines

@@ -59,6 +59,7 @@ after_acknowledgement t (Some count) = record t {
   waiting = if is_new_count t.sender count then drop 1 t.waiting else t.waiting;
 }
 
+-- what each event makes of a transfer
 abbrev pub after_event : Transfer → Event → Transfer
 after_event t (Offer byte) = record t { offered = t.offered ++ byte ∷ []; waiting = t.waiting ++ byte ∷ [] }
 after_event t (Turn wait) = record t {

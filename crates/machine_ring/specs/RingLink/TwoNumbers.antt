@@ -9,6 +9,7 @@ abbrev pub SaysTwoNumbers : ℕ × ℕ → List ℕ → Type 0
 SaysTwoNumbers both line = (a b : List ℕ) × IsNumber a both.0 × IsNumber b both.1 × (line ≡ codes "RING " ++ (a ++ 32 ∷ b))
 
 infixl 10 ◌>>=◌
+-- a step, and then the next one with what it gave, unless it gave nothing
 abbrev ◌>>=◌ : {A B : Type 0} → Option A → (A → Option B) → Option B
 o >>= f = option_and_then f o
 

@@ -30,6 +30,7 @@ number_in radix most digits =
 abbrev pub IsNumber : List ℕ → ℕ → Type 0
 IsNumber digits n = IsNumberIn 10 10 digits n
 
+-- the number that such digits are, if they are one
 abbrev pub number_of : List ℕ → Option ℕ
 number_of digits = number_in 10 10 digits
 

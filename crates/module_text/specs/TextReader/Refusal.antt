@@ -8,5 +8,6 @@ pub record Refusal : Type 0 where
   -- the code that says why
   pub code : ℕ
 
+-- a text is refused in a line, counted from 1, with a code
 abbrev pub refusal : ℕ → ℕ → Refusal
 refusal line code = record { line = line; code = code }

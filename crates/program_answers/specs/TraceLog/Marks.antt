@@ -18,6 +18,7 @@ pub record Kept : Type 0 where
   -- the numbers that its words tell
   pub numbers : List ℕ
 
+-- these five as one
 abbrev pub kept : ℕ → ℕ → Option (List ℕ) → List ℕ → List ℕ → Kept
 kept name faults first before numbers = record { name = name; faults = faults; first = first; before = before; numbers = numbers }
 

@@ -30,22 +30,24 @@ pub record RunsConsole (l : Lists) : Type 0 where
 
 -- ---- a key
 
--- The line becomes what the key makes of it, the echo goes out, and the task for which the shell waits gets the flags, where it is
--- there.
+-- the task for which the shell waits gets the flags, where it is there
 abbrev pub with_flags : ℕ → ℕ → Progress → Progress
 with_flags id flags g = and_then g (set_flags g.lists id flags).lists [] []
 
+-- The line becomes what the key makes of it, the echo goes out, and the task for which the shell waits gets the flags of the key.
 abbrev pub with_keyed : ℕ → Keyed → Progress → Progress
 with_keyed id k g = with_flags id k.flags (record g { console = k.console; bytes = g.bytes ++ k.echo })
 
+-- the key packet is taken, and on no queue
 abbrev pub with_keys_taken : Progress → Progress
 with_keys_taken g = and_then g (keys_taken g.lists).lists [] (keys_taken g.lists).events
 
--- the key packet was taken, and has the key
+-- the key that the key packet brought
 abbrev pub key_of : Result ℕ ℕ → ℕ
 key_of (Ok b) = b
 key_of (Err code) = 0
 
+-- the key packet is taken, and its key is treated
 abbrev pub with_key : ℕ → Progress → Progress
 with_key id g = with_keyed id (key g.console (key_of (keys_taken g.lists).answer)) (with_keys_taken g)
 
@@ -55,12 +57,14 @@ with_key id g = with_keyed id (key g.console (key_of (keys_taken g.lists).answer
 abbrev pub written_bytes : List ℕ → Request → List ℕ
 written_bytes s r = if is_readable s r.first r.second then bytes_in s r.first 0 r.second else []
 
+-- what a request other than a read gets as its answer: the number of a write's bytes, or the code of its refusal
 abbrev pub answer_of : List ℕ → Request → Result ℕ ℕ
 answer_of s r =
     if r.kind == WRITE
     then (if is_readable s r.first r.second then Ok r.second else Err BAD_BUFFER)
     else Err UNKNOWN_TYPE
 
+-- the bytes that a request shows at the console: those of a write
 abbrev pub bytes_of : List ℕ → Request → List ℕ
 bytes_of s r = if r.kind == WRITE then written_bytes s r else []
 
@@ -71,15 +75,18 @@ with_request s l r g =
     then and_then g (put_off s l r).lists [] ((taken g.lists).events ++ (put_off s l r).events)
     else record (and_then g (returned l r (answer_of s r)).lists [] ((taken g.lists).events ++ (returned l r (answer_of s r)).events)) { bytes = g.bytes ++ bytes_of s r }
 
+-- the request that was taken is treated, where there was one
 abbrev pub with_taken : Option Request → List ℕ → Lists → Progress → Progress
 with_taken None s l g = g
 with_taken (Some r) s l g = with_request s l r g
 
+-- the first request is taken and treated
 abbrev pub with_first : Progress → Progress
 with_first g = with_taken (first_request (words_taken g.words g.lists) (work g.lists)) (words_taken g.words g.lists) (taken g.lists).lists g
 
 -- ---- the turn
 
+-- the first packet is treated: as the key packet, or else as a request; without a packet nothing is done
 abbrev pub treated : ℕ → List QueuedPacket → Progress → Progress
 treated id [] g = g
 treated id (p ∷ ps) g =
@@ -110,6 +117,7 @@ all_parts id g = ended (with_keys_sent (delivery (treated id (work g.lists) g)))
 abbrev pub turn_done : List ℕ → Progress → ResidentTurn
 turn_done s g = record { words = s; lists = g.lists; plain = g.plain; bytes = g.bytes; events = g.events }
 
+-- the console's turn, from what it keeps: the line, and the command of the shell
 abbrev pub console_turn : ℕ → Console → List ℕ → List ℕ → Lists → ResidentTurn
 console_turn id c k s l = turn_done s (all_parts id (begun s l c k))
 

@@ -41,6 +41,7 @@ with_served s l r w g = record (and_then g (returned l r w.answer).lists (writte
   command = command_after r g.console.line g.command;
 }
 
+-- the first read gets the line, where there was a read
 abbrev pub with_read : Option Request → List ℕ → Lists → Progress → Progress
 with_read None s l g = g
 with_read (Some r) s l g = with_served s l r (line_service s l g.console.line r) g
@@ -55,16 +56,19 @@ abbrev pub delivered : List QueuedPacket → Progress → Progress
 delivered [] g = g
 delivered (p ∷ ps) g = if g.console.finished then delivered ps (handed g) else g
 
+-- the first read gets the line, where that is finished
 abbrev pub handed_if_finished : Progress → Progress
 handed_if_finished g = if g.console.finished then handed g else g
 
--- whether a line is finished and a read waits
+-- whether a read waits
 abbrev pub has_reads : List QueuedPacket → Bool
 has_reads [] = false
 has_reads (p ∷ ps) = true
 
+-- whether a line is finished and a read waits
 abbrev pub is_handed : Progress → Bool
 is_handed g = g.console.finished && has_reads g.lists.pending
 
+-- the line is handed to one read after the other, in the order in which they came, until one has taken it
 abbrev pub delivery : Progress → Progress
 delivery g = delivered g.lists.pending g

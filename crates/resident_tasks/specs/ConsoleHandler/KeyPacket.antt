@@ -10,6 +10,7 @@ use Rattle.kernel_model.specs.KernelRecord.ValidQueues.Place.{Work}
 use Rattle.kernel_calls.specs.CallAnswers.Made.{Made, done}
 use Rattle.resident_tasks.specs.ResidentRequests.Requests.{RunsResident, work}
 
+-- the first packet of the queue is the key packet
 abbrev pub StartsWithKeys : Lists → List QueuedPacket → Type 0
 StartsWithKeys l [] = ⊥
 StartsWithKeys l (p ∷ ps) = is_key_packet l p ≡ true
@@ -31,5 +32,6 @@ keys_taken_from (p ∷ ps) l = record {
   events = Taken (signed l.running) p.address (signed p.sender) ∷ [];
 }
 
+-- the running task takes the key packet
 abbrev pub keys_taken : Lists → Made
 keys_taken l = keys_taken_from (work l) l

@@ -11,6 +11,7 @@ pub record Keyed : Type 0 where
   -- the flags that are set of the task for which the shell waits, one a bit; 0 for none
   pub flags : ℕ
 
+-- a key leaves this line, echoes these bytes and sets these flags
 abbrev pub keyed : Console → List ℕ → ℕ → Keyed
 keyed c echo flags = record { console = c; echo = echo; flags = flags }
 
@@ -32,9 +33,11 @@ without_end c =
     then keyed c [] 0
     else keyed (record c { line = take (length c.line - 1) c.line }) (8 ∷ 32 ∷ 8 ∷ []) 0
 
+-- the line is finished, and a line feed is echoed; the next read gets it
 abbrev pub with_finish : Console → Keyed
 with_finish c = keyed (record c { finished = true }) (10 ∷ []) 0
 
+-- a byte that has a character of its own, from the space to the tilde
 abbrev pub is_printed : ℕ → Bool
 is_printed b = nat_le 32 b && nat_le b 126
 

@@ -30,6 +30,7 @@ put_off s l r = record {
 
 -- ---- the first read goes
 
+-- The first of these reads is taken, and is then on no queue; without one nothing is done.
 abbrev pub read_taken_from : List QueuedPacket → Lists → Taking
 read_taken_from [] l = record { lists = l; plain = []; events = [] }
 read_taken_from (p ∷ ps) l = record {
@@ -38,6 +39,7 @@ read_taken_from (p ∷ ps) l = record {
   events = Taken (signed PENDING) p.address (signed p.sender) ∷ [];
 }
 
+-- the first read that waits is taken
 abbrev pub read_taken : Lists → Taking
 read_taken l = read_taken_from l.pending l
 

@@ -30,6 +30,7 @@ pub record CanReport (shown : List ℕ) (l : Lists) : Type 0 where
 abbrev pub reported : Task → Task
 reported t = if is_unreported t then record t { fault = t.fault + 256 } else t
 
+-- the lists once each fault is reported that was not
 abbrev pub all_reported : Lists → Lists
 all_reported l = with_tasks (map reported l.tasks) l
 
@@ -56,23 +57,27 @@ abbrev pub is_fault_first : List QueuedPacket → Bool
 is_fault_first [] = false
 is_fault_first (p ∷ ps) = p.address == fault_packet
 
+-- the first packet is the fault packet
 abbrev pub IsFaultFirst : List QueuedPacket → Type 0
 IsFaultFirst ps = is_fault_first ps ≡ true
 
+-- With the fault packet first, all faults are reported; any other packet is a request, which is refused.
 abbrev pub fault_turn_from : List QueuedPacket → List ℕ → Lists → ResidentTurn
 fault_turn_from [] s l = idle_turn s l
 fault_turn_from (p ∷ ps) s l = if p.address == fault_packet then reported_turn p ps s l else request_turn unknown s l
 
+-- the turn of the task that reports faults
 abbrev pub fault_turn : List ℕ → Lists → ResidentTurn
 fault_turn s l = fault_turn_from (work l) s l
 
 -- ---- its parts
 
--- the lists once the first packet, the fault packet, was taken; and its sender
+-- the lists once the first packet, the fault packet, is taken
 abbrev pub fault_taken_from : List QueuedPacket → Lists → Lists
 fault_taken_from [] l = l
 fault_taken_from (p ∷ ps) l = packet_taken ps l
 
+-- the task that sent the first packet
 abbrev pub sender_of : List QueuedPacket → ℕ
 sender_of [] = 0
 sender_of (p ∷ ps) = p.sender

@@ -33,34 +33,41 @@ pub record CanRecord (l : Lists) (f : Fault) : Type 0 where
 abbrev pub with_fault : Fault → Task → Task
 with_fault f t = record t { held = true; fault = f.code; fault_address = f.address }
 
+-- the lists once the running task is held with this fault
 abbrev pub held_with : Fault → Lists → Lists
 held_with f l = with_task l.running (with_fault f) l
 
 -- ---- the fault packet
 
+-- the fault packet, as the task with this number sends it
 abbrev pub packet_from : ℕ → QueuedPacket
 packet_from id = record { address = fault_packet; sender = id; kind = FAULT_KIND; res1 = 0; last = 0 }
 
--- where it is on no queue the running task sends it to task 2
+-- where the fault packet is on no queue the running task sends it to task 2
 abbrev pub sent_where : Bool → Lists → Lists
 sent_where false l = l
 sent_where true l = with_fault_packet false (with_arrived (Work REPORTER) (packet_from l.running) l)
 
+-- the event that it is sent, where it is
 abbrev pub events_where : Bool → Lists → List KernelEvent
 events_where false l = []
 events_where true l = Accepted (signed REPORTER) fault_packet (signed l.running) ∷ []
 
+-- task 2 is told of a fault, unless the fault packet is already on its way to it
 abbrev pub sent : Lists → Lists
 sent l = sent_where l.fault_packet_free l
 
+-- the event of that
 abbrev pub sent_events : Lists → List KernelEvent
 sent_events l = events_where l.fault_packet_free l
 
 -- ---- both
 
+-- the running task is held with this fault, and task 2 is told
 abbrev pub recorded : Fault → Lists → Lists
 recorded f l = sent (held_with f l)
 
+-- the event of that, if there is one
 abbrev pub recorded_events : Fault → Lists → List KernelEvent
 recorded_events f l = sent_events (held_with f l)
 

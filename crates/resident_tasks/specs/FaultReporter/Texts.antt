@@ -14,16 +14,19 @@ use Rattle.kernel_model.specs.declared.kernel_record.numbers.TheConstants.{FAULT
 abbrev pub report : ℕ → ℕ → ℕ → List ℕ
 report id fault address = joined (codes "Task " ∷ decimal id ∷ codes " fault " ∷ decimal fault ∷ codes " at " ∷ decimal address ∷ codes "\n" ∷ [])
 
+-- the line of a task whose fault was not reported yet; no bytes for any other task
 abbrev pub report_of : Task → List ℕ
 report_of t = if is_unreported t then report t.id t.fault t.fault_address else []
 
+-- the lines of all tasks
 unfoldable pub reports : Lists → List ℕ
 reports l = flat_map report_of l.tasks
 
--- A line has at most so many bytes: its words, three of them numbers of at most 10 digits. All lines have at most so many.
+-- a line has at most so many bytes: its words, and three numbers of at most 10 digits
 abbrev pub most_in_line : ℕ
 most_in_line = 47
 
+-- all lines have at most so many bytes
 abbrev pub most_reported : ℕ
 most_reported = 3008
 
@@ -40,5 +43,6 @@ report_at s t =
     then report (slice_index s (t + word_index Id)) (slice_index s (t + word_index FAULT_WORD)) (slice_index s (t + word_index FAULT_ADDRESS))
     else []
 
+-- the lines of all tasks, as the words of a store say
 unfoldable pub reports_in : List ℕ → List ℕ
 reports_in s = flat_map (report_at s) (tasks_in s)

@@ -3,6 +3,7 @@ use Rattle.std.specs.Prelude.{ℕ, ◌==◌, if◌then◌else◌, Option, Some, 
 use Rattle.resident_tasks.specs.declared.file_handler.calls.FileCall.{FileCall}
 use Rattle.resident_tasks.specs.declared.file_handler.calls.FileCall.TheVariants.{Append, Close, Delete, Examine, OpenToRead, OpenToWrite, ReadOn, Rename}
 
+-- what a request of each type asks of the file handler; other types ask nothing
 abbrev pub file_call : ℕ → Option FileCall
 file_call kind =
     if kind == 10 then Some OpenToRead else

@@ -22,6 +22,7 @@ pub record Handled : Type 0 where
   -- the bytes for its buffer, from the buffer's first
   pub bytes : List ℕ
 
+-- a request leaves this disc, and gets this answer, and these bytes in its buffer
 abbrev pub handled : Disc → Result ℕ ℕ → List ℕ → Handled
 handled d answer bytes = record { disc = d; answer = answer; bytes = bytes }
 
@@ -44,15 +45,17 @@ abbrev pub answer_with : ℕ → Result (Unit {0}) ℕ → Result ℕ ℕ
 answer_with n (Ok u) = Ok n
 answer_with n (Err code) = Err code
 
+-- what a call on the disc leaves that gives nothing back: its answer is n where it is accepted
 abbrev pub by_silent_call : ℕ → Outcome (Unit {0}) → Handled
 by_silent_call n o = handled o.disc (answer_with n o.answer) []
 
 -- ---- files
 
--- the name that the first argument has, and the second
+-- the name at the first argument
 abbrev pub first_name : List ℕ → Request → List ℕ
 first_name s r = string_in s r.first
 
+-- the name at the second argument
 abbrev pub second_name : List ℕ → Request → List ℕ
 second_name s r = string_in s r.second
 
@@ -87,6 +90,7 @@ examined d s l r None = refused d NO_FILE
 examined d s l r (Some file) =
     unless_refused d ((is_writable s l r.packet r.second 16, BAD_BUFFER) ∷ []) (handled d (Ok file.1) (name_buffer file.0))
 
+-- the name and the length of one file, by its place in byte order
 abbrev pub examine : Disc → List ℕ → Lists → Request → Handled
 examine d s l r = examined d s l r (nth_of d r.first)
 
@@ -117,6 +121,7 @@ close d r =
 
 -- ---- all requests
 
+-- what the file handler makes of a request, by what its type asks
 abbrev pub call_handled : Disc → List ℕ → Lists → Request → Option FileCall → Handled
 call_handled d s l r (Some OpenToRead) = open_to_read d s r
 call_handled d s l r (Some OpenToWrite) = open_to_write d s r

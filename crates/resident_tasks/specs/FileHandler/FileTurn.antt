@@ -19,9 +19,11 @@ pub record RunsFileHandler (l : Lists) : Type 0 where
 abbrev pub served : Request → Handled → Served
 served r m = service m.answer r.second m.bytes
 
+-- what the sender of a request gets
 abbrev pub file_service : Disc → List ℕ → Lists → Request → Served
 file_service d s l r = served r (file_request d s l r)
 
+-- the file handler takes its first request, and answers it
 abbrev pub file_turn : Disc → List ℕ → Lists → ResidentTurn
 file_turn d s l = request_turn (file_service d) s l
 
@@ -30,6 +32,7 @@ abbrev pub disc_after : Option Request → Disc → List ℕ → Lists → Disc
 disc_after None d s l = d
 disc_after (Some r) d s l = (file_request d s l r).disc
 
+-- the disc once the file handler has had its turn
 abbrev pub disc_after_turn : Disc → List ℕ → Lists → Disc
 disc_after_turn d s l =
     disc_after (first_request (words_taken s l) (work l)) d (words_taken s l) (taken l).lists

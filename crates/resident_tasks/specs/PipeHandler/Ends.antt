@@ -20,6 +20,7 @@ opened name true None = record { name = name; held = []; reading = false; writin
 opened name false (Some p) = record p { reading = true }
 opened name true (Some p) = record p { writing = true; written = true }
 
+-- the pipe once one of its ends is closed, the writing one where that is true
 abbrev pub closed : Bool → Pipe → Pipe
 closed false p = record p { reading = false }
 closed true p = record p { writing = false }
@@ -40,10 +41,11 @@ abbrev pub handle_at : ℕ → Bool → ℕ
 handle_at i false = 2 * i + 1
 handle_at i true = 2 * i + 2
 
--- the place of the pipe that a handle names, and whether it names its writing end
+-- the place of the pipe that a handle names, from 0
 abbrev pub place_of : ℕ → ℕ
 place_of handle = (handle - 1) / 2
 
+-- whether a handle names the end that writes
 abbrev pub names_writer : ℕ → Bool
 names_writer handle = handle % 2 == 0
 
@@ -62,6 +64,7 @@ is_end ps handle writes = names_end handle writes && is_open writes (pipe_of ps 
 
 -- ---- names
 
+-- whether there is a pipe at a place, and it has the name
 abbrev pub is_named : List ℕ → Option Pipe → Bool
 is_named name None = false
 is_named name (Some p) = bytes_eq p.name name

@@ -19,6 +19,7 @@ abbrev pub IsLawful : PipeRequest → Type 0
 IsLawful (Open name end) = IsName name
 IsLawful _ = Unit {0}
 
+-- what each request answers, and the pipes after it
 abbrev pub after : List (Option Pipe) → PipeRequest → Outcome
 after ps (Open name end) = after_open ps name end
 after ps (Read handle buffer count) = after_read ps handle buffer count
@@ -30,11 +31,12 @@ abbrev pub counted : Result ℕ ℕ → List ℕ → List ℕ
 counted (Ok count) bytes = take count bytes
 counted (Err code) bytes = []
 
--- the bytes that a request put into the pipe at a place, and those that it took from there
+-- the bytes that a request put into the pipe at a place
 abbrev pub written_to : ℕ → PipeRequest → Outcome → List ℕ
 written_to i (Write handle buffer bytes) o = if place_of handle == i then counted o.answer bytes else []
 written_to i _ o = []
 
+-- the bytes that a request took from the pipe at a place
 abbrev pub read_from : ℕ → PipeRequest → Outcome → List ℕ
 read_from i (Read handle buffer count) o = if place_of handle == i then o.bytes else []
 read_from i _ o = []
@@ -46,6 +48,7 @@ pub record History : Type 0 where
   -- the bytes that were read, the first ones first
   pub read : List ℕ
 
+-- nothing was written or read yet
 abbrev pub no_history : History
 no_history = record { written = []; read = [] }
 
@@ -59,15 +62,18 @@ abbrev pub history_of : Option Pipe → History → History
 history_of None h = no_history
 history_of (Some p) h = h
 
+-- the history with further bytes that were written, and further ones that were read
 abbrev pub with_more : History → List ℕ → List ℕ → History
 with_more h written read = record { written = h.written ++ written; read = h.read ++ read }
 
+-- the history of the pipe at a place once these requests are made, one after the other
 abbrev pub history_after : ℕ → List (Option Pipe) → History → List PipeRequest → History
 history_after i ps h [] = history_of (pipe_at ps i) h
 history_after i ps h (r ∷ rs) =
     let o = after ps r in
     history_after i o.pipes (with_more (history_of (pipe_at ps i) h) (written_to i r o) (read_from i r o)) rs
 
+-- the pipes once these requests are made
 abbrev pub pipes_after : List (Option Pipe) → List PipeRequest → List (Option Pipe)
 pipes_after ps [] = ps
 pipes_after ps (r ∷ rs) = pipes_after (after ps r).pipes rs

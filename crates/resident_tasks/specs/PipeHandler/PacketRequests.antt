@@ -15,6 +15,7 @@ use Rattle.resident_tasks.specs.PipeHandler.Histories.PipeRequest.{Close, Open, 
 use Rattle.resident_tasks.specs.PipeHandler.PipeCalls.{Outcome, refused}
 use Rattle.resident_tasks.specs.PipeHandler.PipeTurns.{bytes_of_buffer}
 
+-- the request to open the end of the pipe with a name, unless the name is bad
 abbrev pub opening : Result (List ℕ) ℕ → ℕ → Result PipeRequest ℕ
 opening (Ok name) end = Ok (Open name end)
 opening (Err code) end = Err code
@@ -27,6 +28,7 @@ asked_by s l packet (Some (WriteBytes handle buffer count)) = Ok (Write handle (
 asked_by s l packet (Some (CloseEnd handle)) = Ok (Close handle)
 asked_by s l packet None = Err UNKNOWN_TYPE
 
+-- the request that a packet makes
 abbrev pub asked : List ℕ → Lists → Request → Result PipeRequest ℕ
 asked s l r = asked_by s l r.packet (pipe_call r)
 
@@ -40,9 +42,11 @@ abbrev pub requests_of : Result PipeRequest ℕ → List PipeRequest
 requests_of (Ok q) = q ∷ []
 requests_of (Err code) = []
 
+-- the request of a packet that was taken, or none
 abbrev pub requests_by : List ℕ → Lists → Option Request → List PipeRequest
 requests_by s l None = []
 requests_by s l (Some r) = requests_of (asked s l r)
 
+-- the request for a pipe that is made in a turn of the file handler, or none
 abbrev pub requests_in_turn : List ℕ → Lists → List PipeRequest
 requests_in_turn s l = requests_by (words_taken s l) (taken l).lists (first_request (words_taken s l) (work l))

@@ -16,6 +16,7 @@ pub record Outcome : Type 0 where
   -- the pipes after it, by their places
   pub pipes : List (Option Pipe)
 
+-- a request is accepted with this answer, gives these bytes, and leaves these pipes
 abbrev pub accepted : ℕ → List ℕ → List (Option Pipe) → Outcome
 accepted answer bytes ps = record { answer = Ok answer; bytes = bytes; pipes = ps }
 
@@ -48,10 +49,12 @@ after_open ps name end =
 
 -- ---- reading
 
+-- the bytes that a pipe holds; none where it is not there
 abbrev pub held_by : Option Pipe → List ℕ
 held_by None = []
 held_by (Some p) = p.held
 
+-- the pipe, where it is there, with these bytes in it
 abbrev pub holding : List ℕ → Option Pipe → Option Pipe
 holding bytes pipe = option_map (λ (p : Pipe). record p { held = bytes }) pipe
 
@@ -82,6 +85,7 @@ after_write ps handle buffer bytes =
 
 -- ---- closing
 
+-- An end is closed. Refused where it is not open; the pipe goes with its last end.
 abbrev pub after_close : List (Option Pipe) → ℕ → Outcome
 after_close ps handle =
     unless_refused ps ((is_end ps handle (names_writer handle), NOT_OPEN) ∷ [])
@@ -103,9 +107,12 @@ can_restore ps k ends name bytes =
     nat_le 1 k && nat_le k most_pipes && is_none (pipe_numbered ps k) && not (list_any (is_named name) ps) && are_ends ends
     && nat_le (length bytes) most_held
 
+-- a pipe with its name and bytes, and three facts: whether it is open for reading, for writing, and whether it was so for writing
+-- at any time
 abbrev pub pipe_with : Bool × Bool × Bool → List ℕ → List ℕ → Pipe
 pipe_with ends name bytes = record { name = name; held = bytes; reading = ends.0; writing = ends.1; written = ends.2 }
 
+-- pipe k as a saved machine or an undone step has it, where it may be made
 abbrev pub after_restore : List (Option Pipe) → ℕ → Bool × Bool × Bool → List ℕ → List ℕ → List (Option Pipe)
 after_restore ps k ends name bytes =
     if can_restore ps k ends name bytes then slice_set ps (k - 1) (Some (pipe_with ends name bytes)) else ps

@@ -31,6 +31,7 @@ call_outcome ps s l packet (Some (WriteBytes handle buffer count)) =
 call_outcome ps s l packet (Some (CloseEnd handle)) = after_close ps handle
 call_outcome ps s l packet None = refused UNKNOWN_TYPE ps
 
+-- what is made of a request, as its type asks
 abbrev pub pipe_request : List (Option Pipe) → List ℕ → Lists → Request → Outcome
 pipe_request ps s l r = call_outcome ps s l r.packet (pipe_call r)
 
@@ -38,6 +39,7 @@ pipe_request ps s l r = call_outcome ps s l r.packet (pipe_call r)
 abbrev pub pipe_service : List (Option Pipe) → List ℕ → Lists → Request → Served
 pipe_service ps s l r = service (pipe_request ps s l r).answer r.second (pipe_request ps s l r).bytes
 
+-- the file handler takes its first request, which is for a pipe, and answers it
 abbrev pub pipe_turn : List (Option Pipe) → List ℕ → Lists → ResidentTurn
 pipe_turn ps s l = request_turn (pipe_service ps) s l
 
@@ -46,5 +48,6 @@ abbrev pub pipes_by : List (Option Pipe) → List ℕ → Lists → Option Reque
 pipes_by ps s l None = ps
 pipes_by ps s l (Some r) = (pipe_request ps s l r).pipes
 
+-- the pipes once the file handler has had its turn
 abbrev pub pipes_after_turn : List (Option Pipe) → List ℕ → Lists → List (Option Pipe)
 pipes_after_turn ps s l = pipes_by ps (words_taken s l) (taken l).lists (first_request (words_taken s l) (work l))

@@ -11,9 +11,11 @@ use Rattle.resident_tasks.specs.declared.pipe_handler.slots.Slot.{Slot}
 abbrev pub told : Slot → Pipe
 told s = record { name = s.name; held = s.held.items; reading = s.reading; writing = s.writing; written = s.written }
 
+-- the pipe of a slot, where one of its ends is open
 abbrev pub pipe_in : Slot → Option Pipe
 pipe_in s = if s.reading || s.writing then Some (told s) else None
 
+-- the pipes of all slots, in their order
 abbrev pub pipes_in : List Slot → List (Option Pipe)
 pipes_in slots = map pipe_in slots
 
@@ -24,6 +26,7 @@ pub record IsRing (ring : Buffer ℕ) : Type 0 where
   -- it holds no more
   pub most : length ring.items ≤ most_held
 
+-- the slots keep pipes that may be there together
 pub record AreSlots (slots : List Slot) : Type 0 where
   -- each slot has such a ring
   pub rings : All (λ s. IsRing s.held) slots

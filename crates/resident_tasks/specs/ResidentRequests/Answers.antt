@@ -18,11 +18,12 @@ use Rattle.kernel_model.specs.declared.kernel_record.numbers.TheConstants.{PACKE
 use Rattle.resident_tasks.specs.ResidentRequests.Requests.{work}
 use Rattle.resident_tasks.specs.declared.resident_requests.requests.Request.{Request}
 
--- A request that is accepted gets its answer as res1 and 0 as res2; one that is refused gets -1 and the code.
+-- the first result of a request: its answer where it is accepted, -1 where it is refused
 abbrev pub res1_of : Result ℕ ℕ → ℕ
 res1_of (Ok answer) = answer
 res1_of (Err code) = minus_one
 
+-- the second result: 0 where it is accepted, the code where it is refused
 abbrev pub res2_of : Result ℕ ℕ → ℕ
 res2_of (Ok answer) = 0
 res2_of (Err code) = code
@@ -49,6 +50,7 @@ abbrev pub finished_by : List QueuedPacket → Lists → Lists
 finished_by [] l = with_task l.running waiting l
 finished_by (p ∷ ps) l = l
 
+-- the lists once the running task, a resident, has ended its turn
 abbrev pub finished : Lists → Lists
 finished l = finished_by (work l) l
 

@@ -19,6 +19,7 @@ bytes_in s a i n = map (byte_in s a) (range_with_len i n)
 
 -- ---- writing
 
+-- the words with another byte i
 abbrev pub with_byte_in : List ℕ → ℕ → ℕ → ℕ → List ℕ
 with_byte_in s a i b = slice_set s (a + i / 4) (with_byte (slice_index s (a + i / 4)) (i % 4) b)
 
@@ -33,9 +34,11 @@ with_bytes s a i (b ∷ bs) = with_bytes (with_byte_in s a i b) a (i + 1) bs
 abbrev pub covered : ℕ → ℕ
 covered n = (n + 3) / 4
 
+-- whether the first n bytes from word a on lie in the store
 abbrev pub lies_inside : List ℕ → ℕ → ℕ → Bool
 lies_inside s a n = nat_le (a + covered n) (length s)
 
+-- a number of bytes that a buffer may have: from 1 to 4,096
 abbrev pub is_count : ℕ → Bool
 is_count n = nat_le 1 n && nat_le n 4096
 

@@ -13,6 +13,7 @@ is_name bytes = nat_le 1 (length bytes) && (nat_le (length bytes) 12 && list_all
 abbrev pub string_in : List ℕ → ℕ → List ℕ
 string_in s a = bytes_in s a 1 (byte_in s a 0)
 
+-- whether the bytes at word a lie in the store and are a file's name
 abbrev pub is_name_at : List ℕ → ℕ → Bool
 is_name_at s a = lies_inside s a (byte_in s a 0 + 1) && is_name (string_in s a)
 

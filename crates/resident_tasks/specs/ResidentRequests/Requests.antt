@@ -55,6 +55,7 @@ pub record Taking : Type 0 where
   -- the events, in their order
   pub events : List KernelEvent
 
+-- the running task takes the first of these packets from its work queue
 abbrev pub taken_from : List QueuedPacket → Lists → Taking
 taken_from [] l = record { lists = l; plain = []; events = [] }
 taken_from (p ∷ ps) l = record {
@@ -63,6 +64,7 @@ taken_from (p ∷ ps) l = record {
   events = Taken (signed l.running) p.address (signed p.sender) ∷ [];
 }
 
+-- the running task takes its first packet
 abbrev pub taken : Lists → Taking
 taken l = taken_from (work l) l
 
@@ -71,6 +73,7 @@ abbrev pub words_taken_from : List QueuedPacket → List ℕ → Lists → List 
 words_taken_from [] s l = s
 words_taken_from (p ∷ ps) s l = unqueued s (queue_for l (Work l.running)) p.address
 
+-- the store once the running task has taken its first packet
 abbrev pub words_taken : List ℕ → Lists → List ℕ
 words_taken s l = words_taken_from (work l) s l
 
@@ -85,6 +88,7 @@ request_at s p = record {
   third = slice_index s (p + THIRD);
 }
 
+-- the request of the first of these packets
 abbrev pub first_request : List ℕ → List QueuedPacket → Option Request
 first_request s [] = None
 first_request s (p ∷ ps) = Some (request_at s p.address)

@@ -57,6 +57,7 @@ pub record Served : Type 0 where
   -- the bytes that go into it, from its first
   pub bytes : List ℕ
 
+-- a handler gives this answer, and these bytes for the buffer at a word
 abbrev pub service : Result ℕ ℕ → ℕ → List ℕ → Served
 service answer at bytes = record { answer = answer; at = at; bytes = bytes }
 
@@ -93,5 +94,6 @@ abbrev pub turn_of : Option Request → (Request → Served) → List ℕ → Li
 turn_of None serve s l = idle_turn s l
 turn_of (Some r) serve s l = served_turn s l r (serve r)
 
+-- the turn of a handler that serves its requests so: it takes the first one and answers it
 abbrev pub request_turn : (List ℕ → Lists → Request → Served) → List ℕ → Lists → ResidentTurn
 request_turn serve s l = turn_of (first_request (words_taken s l) (work l)) (serve (words_taken s l) (taken l).lists) s l

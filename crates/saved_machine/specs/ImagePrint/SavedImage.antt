@@ -17,15 +17,19 @@ use Rattle.saved_text.specs.declared.images.SavedStream.{SavedStream}
 
 -- ---- its parts, in the words of a text
 
+-- a file, as a text has it
 abbrev pub saved_file : File → SavedFile
 saved_file f = record { name = f.name; bytes = f.bytes }
 
+-- stream k, as a text has it
 abbrev pub saved_stream : ℕ → Stream → SavedStream
 saved_stream k s = record { k = k; writes = s.writes; position = s.position; name = s.name }
 
+-- pipe k, as a text has it
 abbrev pub saved_pipe : ℕ → Pipe → SavedPipe
 saved_pipe k p = record { k = k; reading = p.reading; writing = p.writing; written = p.written; name = p.name; held = p.held }
 
+-- the mode of the shell, as a text has it
 abbrev pub saved_mode : KernelMode → Mode
 saved_mode KernelPrompt = Prompt
 saved_mode KernelReading = Reading
@@ -41,10 +45,11 @@ abbrev pub with_places : {A B : Type 0} → (ℕ → A → B) → ℕ → List (
 with_places f k [] = []
 with_places f k (x ∷ xs) = at_place f k x ++ with_places f (k + 1) xs
 
--- the streams that are open, and the pipes that are there, with their numbers from 1 on
+-- the streams that are open, with their numbers from 1 on
 abbrev pub numbered_streams : List (Option Stream) → List SavedStream
 numbered_streams ss = with_places saved_stream 1 ss
 
+-- the pipes that are there, with their numbers from 1 on
 abbrev pub numbered_pipes : List (Option Pipe) → List SavedPipe
 numbered_pipes ps = with_places saved_pipe 1 ps
 

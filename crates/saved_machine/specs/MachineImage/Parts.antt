@@ -15,15 +15,19 @@ use Rattle.saved_machine.specs.MachineImage.Placed.{placed}
 
 -- ---- one of each kind
 
+-- the file that a text says
 abbrev pub file_of : SavedFile → File
 file_of f = record { name = f.name; bytes = f.bytes }
 
+-- the stream that a text says
 abbrev pub stream_of : SavedStream → Stream
 stream_of s = record { name = s.name; position = s.position; writes = s.writes }
 
+-- the pipe that a text says
 abbrev pub pipe_of : SavedPipe → Pipe
 pipe_of p = record { name = p.name; held = p.held; reading = p.reading; writing = p.writing; written = p.written }
 
+-- the mode of the shell that a text says
 abbrev pub mode_of : SavedMode → Mode
 mode_of SavedPrompt = Prompt
 mode_of SavedReading = Reading
@@ -52,9 +56,11 @@ with_streams d streams = record d { streams = placed_streams streams }
 abbrev pub disc_with : List SavedFile → List SavedStream → Disc
 disc_with files streams = record { files = map file_of files; streams = placed_streams streams }
 
+-- the console's line, finished or not
 abbrev pub console_of : Image → Console
 console_of x = record { line = x.line; finished = x.finished }
 
+-- the shell's mode and line
 abbrev pub shell_of : Image → Shell
 shell_of x = record { mode = mode_of x.mode; line = x.command }
 

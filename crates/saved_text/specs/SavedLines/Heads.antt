@@ -54,6 +54,7 @@ IsShellLine m x bytes line =
 -- ---- what a line gives
 
 infixl 10 ◌>>=◌
+-- a step, and then the next one with what it gave, unless it gave nothing
 abbrev ◌>>=◌ : {A B : Type 0} → Option A → (A → Option B) → Option B
 o >>= f = option_and_then f o
 

@@ -5,6 +5,7 @@ use Rattle.saved_text.specs.SavedLines.Statements.{Statement as Stated, File, By
 use Rattle.saved_text.specs.declared.saved_lines.statements.Statement.{Statement}
 use Rattle.saved_text.specs.declared.saved_lines.statements.Statement.TheVariants.{File as FileSlice, Bytes as BytesSlice, Stream as StreamSlice, Pipe as PipeSlices, Key as KeyByte, Word as WordAt, Go as GoSteps}
 
+-- each statement, with its slices of the line as bytes
 abbrev pub seen : Statement → Stated
 seen (FileSlice name) = File name.now
 seen (BytesSlice digits) = Bytes (bytes_of digits.now)

@@ -50,9 +50,11 @@ States (Go steps) line = IsNumberLine (codes "GO ") steps line
 -- ---- the statement of a line
 
 infixl 10 ◌>>=◌
+-- a step, and then the next one with what it gave, unless it gave nothing
 abbrev ◌>>=◌ : {A B : Type 0} → Option A → (A → Option B) → Option B
 o >>= f = option_and_then f o
 
+-- a file's name
 abbrev pub file_of : List ℕ → Option Statement
 file_of name = if is_field name then Some (File name) else None
 
@@ -61,6 +63,7 @@ abbrev pub byte_line_of : List ℕ → Option Statement
 byte_line_of digits =
     if is_hex digits && nat_le 2 (length digits) && nat_le (length digits) 64 then Some (Bytes (bytes_of digits)) else None
 
+-- the numbers and the name of a stream that is open: its own number, whether it writes, and its position
 abbrev pub stream_of : List ℕ → Option Statement
 stream_of text = do
   k ← number_field text
@@ -74,6 +77,7 @@ field_before_blank text = do
   parts ← split_at_blank text
   if is_field parts.0 then Some parts else None
 
+-- a pipe's number, its three facts, its name and its bytes
 abbrev pub pipe_of : List ℕ → Option Statement
 pipe_of text = do
   k ← number_field text
@@ -88,6 +92,7 @@ pipe_of text = do
 abbrev pub byte_of : List ℕ → Option ℕ
 byte_of digits = if is_hex digits && (length digits == 2) then Some (slice_index (bytes_of digits) 0) else None
 
+-- a key that is still to come: its step and its byte
 abbrev pub key_of : List ℕ → Option Statement
 key_of text = do
   step ← number_field text
@@ -98,12 +103,14 @@ key_of text = do
 abbrev pub word_of : List ℕ → Option ℕ
 word_of digits = if is_hex digits && (length digits == 8) then Some (from_be_bytes w32 (bytes_of digits)) else None
 
+-- a word of the store: its address and itself
 abbrev pub word_line_of : List ℕ → Option Statement
 word_line_of text = do
   address ← number_field text
   word ← word_of address.1
   Some (Word address.0 word)
 
+-- the number of steps that the machine is to take
 abbrev pub go_of : List ℕ → Option Statement
 go_of text = option_map (λ steps. Go steps) (number_of text)
 

@@ -7,14 +7,16 @@ use Rattle.shell.specs.declared.shell_listings.blocks.BlockCounts.{BlockCounts}
 abbrev pub no_counts : BlockCounts
 no_counts = record { used = 0; used_words = 0; free = 0; free_words = 0; run = 0; largest = 0 }
 
--- with one more block; a used one ends the run before it
+-- the counts with one more used block, which ends the run before it
 abbrev pub with_used : BlockCounts → Block → BlockCounts
 with_used c b = record c { used = c.used + 1; used_words = c.used_words + b.size; run = 0 }
 
+-- the counts with one more free block, which is added to its run
 abbrev pub with_free : BlockCounts → Block → BlockCounts
 with_free c b =
     record c { free = c.free + 1; free_words = c.free_words + b.size; run = c.run + b.size; largest = max c.largest (c.run + b.size) }
 
+-- the counts with one more block
 abbrev pub counted : BlockCounts → Block → BlockCounts
 counted c b = if b.free then with_free c b else with_used c b
 
@@ -23,6 +25,7 @@ abbrev pub counts_from : BlockCounts → List Block → BlockCounts
 counts_from c [] = c
 counts_from c (b ∷ bs) = counts_from (counted c b) bs
 
+-- the counts of all blocks of a store
 abbrev pub counts_of : List Block → BlockCounts
 counts_of bs = counts_from no_counts bs
 

@@ -4,9 +4,11 @@ use Rattle.byte_streams.specs.Pieces.{joined}
 use Rattle.kernel_lists.specs.declared.getvec_chain.pieces.Block.{Block}
 use Rattle.kernel_lists.specs.GetvecChain.Run.{run_size}
 
+-- the blocks that are handed out, in the order of their addresses
 abbrev pub used_blocks : List Block → List Block
 used_blocks bs = filter (λ b. not b.free) bs
 
+-- the blocks that are not, in the order of their addresses
 abbrev pub free_blocks : List Block → List Block
 free_blocks bs = filter (λ b. b.free) bs
 
@@ -28,6 +30,7 @@ abbrev pub line_of_counts : ℕ → ℕ → ℕ → ℕ → ℕ → List ℕ
 line_of_counts used used_words free free_words largest =
     joined (count_text (codes "used ") used used_words ∷ count_text (codes "free ") free free_words ∷ codes "largest run " ∷ decimal largest ∷ codes "\n" ∷ [])
 
+-- the line of the blocks of a store
 unfoldable pub block_line : List Block → List ℕ
 block_line bs =
     line_of_counts (length (used_blocks bs)) (words_of_blocks (used_blocks bs)) (length (free_blocks bs)) (words_of_blocks (free_blocks bs)) (largest_run bs)

@@ -9,15 +9,18 @@ use Rattle.shell.specs.ShellListings.Columns.{left_in, right_in}
 abbrev pub name_and_size : List ℕ → ℕ → List ℕ
 name_and_size name size = joined (left_in 12 name ∷ codes " " ∷ right_in 8 (decimal size) ∷ codes "\n" ∷ [])
 
+-- the name of a file, and how many bytes it has
 abbrev pub file_line : File → List ℕ
 file_line f = name_and_size f.name (length f.bytes)
 
+-- the lines of all files of a disc
 unfoldable pub file_lines : Disc → List ℕ
 file_lines d = flat_map file_line d.files
 
--- a line has at most so many bytes, and the lines of at most 64 files have at most so many
+-- a line has at most so many bytes
 abbrev pub most_in_file_line : ℕ
 most_in_file_line = 24
 
+-- the lines of all files, at most 64, have at most so many bytes
 abbrev pub most_in_files : ℕ
 most_in_files = 1536

@@ -2,6 +2,7 @@
 use Rattle.std.specs.Prelude.{ℕ, List, [], ◌∷◌, codes, decimal}
 use Rattle.byte_streams.specs.Pieces.{joined}
 
+-- a text, and a number in decimal after it
 abbrev pub number_line : List ℕ → ℕ → List ℕ
 number_line text n = joined (text ∷ decimal n ∷ codes "\n" ∷ [])
 

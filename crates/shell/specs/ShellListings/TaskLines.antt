@@ -27,35 +27,41 @@ mark text false = []
 abbrev pub state_text : ℕ → Bool → Bool → List ℕ
 state_text field waiting held = joined (field_name field ∷ mark (codes " pkt") waiting ∷ mark (codes " held") held ∷ [])
 
--- the number and the priority, and the text of the state
+-- the line with a task's number, its priority, and the text of its state
 abbrev pub line_with : ℕ → ℕ → List ℕ → List ℕ
 line_with id priority state = joined (right_in 3 (decimal id) ∷ codes " " ∷ right_in 5 (decimal priority) ∷ codes " " ∷ state ∷ codes "\n" ∷ [])
 
+-- the line of a task
 abbrev pub task_line : Task → List ℕ
 task_line t = line_with t.id t.priority (state_text t.field (not (is_empty_queue t.queue)) t.held)
 
+-- the lines of all of these tasks
 unfoldable pub task_lines : List Task → List ℕ
 task_lines ts = flat_map task_line ts
 
--- a line has at most so many bytes, and the lines of at most 64 tasks have at most so many
+-- a line has at most so many bytes
 abbrev pub most_in_task_line : ℕ
 most_in_task_line = 36
 
+-- the lines of all tasks, at most 64, have at most so many bytes
 abbrev pub most_in_tasks : ℕ
 most_in_tasks = 2304
 
 -- ---- the same, as the words of a store say
 
--- the field of a state, and its two marks
+-- the field of a state, without the two bits that say more of the task
 abbrev pub field_of : ℕ → ℕ
 field_of w = w - w % 4
 
+-- the bit of a state by which packets wait for the task
 abbrev pub has_packets : ℕ → Bool
 has_packets w = w % 2 == 1
 
+-- the bit of a state by which the task is held
 abbrev pub is_held : ℕ → Bool
 is_held w = w / 2 % 2 == 1
 
+-- the line of a task, by its number, its priority and the word of its state
 abbrev pub line_of_words : ℕ → ℕ → ℕ → List ℕ
 line_of_words id priority state = line_with id priority (state_text (field_of state) (has_packets state) (is_held state))
 
@@ -63,5 +69,6 @@ line_of_words id priority state = line_with id priority (state_text (field_of st
 abbrev pub task_line_at : List ℕ → ℕ → List ℕ
 task_line_at s t = line_of_words (id_in s t) (priority_in s t) (slice_index s (t + word_index State))
 
+-- the lines of all tasks of the chain, as the words of a store say
 unfoldable pub task_lines_in : List ℕ → List ℕ
 task_lines_in s = flat_map (task_line_at s) (tasks_in s)

@@ -32,6 +32,7 @@ abbrev pub cleared_task : ℕ → Option Task → Standing → Standing
 cleared_task id None k = k
 cleared_task id (Some t) k = if t.maker == SHELL then deleted id (first_module_of t) k else k
 
+-- the task with the number, where it is there, is cleared up
 abbrev pub cleared_at : ℕ → Standing → Standing
 cleared_at id k = cleared_task id (find (λ t. t.id == id) k.lists.tasks) k
 

@@ -29,6 +29,7 @@ pub record CanPost (l : Lists) (to : ℕ) : Type 0 where
 abbrev pub posted : ℕ → Standing → Standing
 posted to k = left_by k.words (send_own k.words k.lists SHELL_PACKET SHELL to)
 
+-- the event that the shell's packet is sent to a task
 abbrev pub post_events : ℕ → List KernelEvent
 post_events to = Accepted (signed to) SHELL_PACKET (signed SHELL) ∷ []
 

@@ -38,6 +38,7 @@ pub record Started : Type 0 where
   -- the store and its lists
   pub left : Standing
 
+-- a start has this answer, and leaves this store with its lists
 abbrev pub started : Result ℕ ℕ → Standing → Started
 started answer k = record { answer = answer; left = k }
 
@@ -49,6 +50,7 @@ load_found None rest l = refused l NO_FILE
 load_found (Some bytes) (Err code) l = refused l code
 load_found (Some bytes) (Ok u) l = load_text l (module_of bytes)
 
+-- the module of the program in the file of this name
 abbrev pub load_program : Disc → List ℕ → Result (Unit {0}) ℕ → Lists → Made
 load_program d name rest l = load_found (option_map (λ f. f.bytes) (file_named d name)) rest l
 
@@ -63,15 +65,18 @@ after_creation (Err code) m k = started (Err code) (unloaded m k)
 abbrev pub creation : Priority → ℕ → Standing → Made
 creation priority m k = create_task k.words k.lists 0 (m ∷ []) program_stack (priority_of priority k.lists) SHELL
 
+-- A task of a module, which is dead until a packet comes; where none can be created the module goes again.
 abbrev pub create_program : Priority → ℕ → Standing → Started
 create_program priority m k = after_creation (creation priority m k).answer m (left_by k.words (creation priority m k))
 
 -- ---- both
 
+-- where the module was loaded a task of it is created
 abbrev pub after_loading : Result ℕ ℕ → Priority → Standing → Started
 after_loading (Ok m) priority k = create_program priority m k
 after_loading (Err code) priority k = started (Err code) k
 
+-- A program is started from the file of this name; what followed the name on the line is looked at once the file is found.
 unfoldable pub start_program : Disc → List ℕ → Result (Unit {0}) ℕ → Priority → Standing → Started
 start_program d name rest priority k =
     after_loading (load_program d name rest k.lists).answer priority (left_by k.words (load_program d name rest k.lists))

@@ -13,9 +13,11 @@ use Rattle.kernel_model.specs.KernelRecord.Task.{queue_head}
 
 -- ---- one list
 
+-- the links of the packets from a head on come to an end
 abbrev pub QueueEnds : List ℕ → ℕ → Type 0
 QueueEnds s head = IsChain s link_of head (queue_at s head)
 
+-- the links of the coroutines of the task at t come to an end
 abbrev pub CoroutinesEnd : List ℕ → ℕ → Type 0
 CoroutinesEnd s t = IsChain s coroutine_link (first_coroutine t) (coroutines_in s t)
 
@@ -32,6 +34,7 @@ pub record TaskListsEnd (s : List ℕ) (t : ℕ) : Type 0 where
 abbrev pub PacketsEnd : Type 0
 PacketsEnd = Unit {0} × (Unit {0} × Unit {0})
 
+-- the reads that wait for a line end; the packets after them have no links
 abbrev pub ConsoleQueueEnds : List ℕ → Type 0
 ConsoleQueueEnds s = QueueEnds s pending_head × PacketsEnd
 
@@ -39,23 +42,30 @@ ConsoleQueueEnds s = QueueEnds s pending_head × PacketsEnd
 abbrev pub ConsoleAll : List ℕ → Type 0
 ConsoleAll s = Unit {0} × ConsoleQueueEnds s
 
+-- so they do where there are residents
 abbrev pub ConsoleEnds : List ℕ → Type 0
 ConsoleEnds s = has_residents s ≡ true → ConsoleAll s
 
+-- the packets at the output end, and all that come after them in the order
 abbrev pub OutputEnds : List ℕ → Type 0
 OutputEnds s = QueueEnds s output_head × ConsoleEnds s
 
+-- the packets at the keyboard end, and all that come after them
 abbrev pub KeyboardEnds : List ℕ → Type 0
 KeyboardEnds s = QueueEnds s keyboard_head × OutputEnds s
 
+-- the packets at the clock end, and all that come after them
 abbrev pub DevicesEnd : List ℕ → Type 0
 DevicesEnd s = QueueEnds s clock_head × KeyboardEnds s
 
+-- the lists of each task end, and all that come after them
 abbrev pub TasksEnd : List ℕ → Type 0
 TasksEnd s = AllByRecursion (TaskListsEnd s) (tasks_in s) × DevicesEnd s
 
+-- the list of modules ends, and all that come after it
 abbrev pub ModulesEnd : List ℕ → Type 0
 ModulesEnd s = IsChain s module_link first_module (modules_in s) × TasksEnd s
 
+-- the chain of tasks ends, and all that come after it
 abbrev pub AllEnd : List ℕ → Type 0
 AllEnd s = IsChain s task_link first_task (tasks_in s) × ModulesEnd s

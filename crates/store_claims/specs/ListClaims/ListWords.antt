@@ -33,9 +33,11 @@ AreBlocks s ts = AllByRecursion (λ t. t + 23 ≤ length s) ts
 
 -- ---- one list
 
+-- the addresses of the five words of each packet from a head on
 abbrev pub queue_words_at : List ℕ → ℕ → List ℕ
 queue_words_at s head = words_of packet_size (queue_at s head)
 
+-- the addresses of the ten words of each coroutine of the task at t
 abbrev pub coroutine_words_at : List ℕ → ℕ → List ℕ
 coroutine_words_at s t = words_of coroutine_size (coroutines_in s t)
 
@@ -43,6 +45,7 @@ coroutine_words_at s t = words_of coroutine_size (coroutines_in s t)
 abbrev pub task_list_words : List ℕ → ℕ → List ℕ
 task_list_words s t = queue_words_at s (queue_head t) ++ coroutine_words_at s t
 
+-- the addresses of the words of all task blocks
 abbrev pub chain_words : List ℕ → List ℕ
 chain_words s = words_of (task_size_in s) (tasks_in s)
 
@@ -50,6 +53,7 @@ chain_words s = words_of (task_size_in s) (tasks_in s)
 abbrev pub module_size_in : List ℕ → ℕ → ℕ
 module_size_in s m = 2 + hunk_count s m
 
+-- the addresses of the words of all modules, but for those of their hunks
 abbrev pub module_words_in : List ℕ → List ℕ
 module_words_in s = words_of (module_size_in s) (modules_in s)
 
@@ -57,6 +61,7 @@ module_words_in s = words_of (module_size_in s) (modules_in s)
 abbrev pub free_packet : Bool → List ℕ → ℕ → List ℕ
 free_packet there s p = if there && (slice_index s p == no_queue) then range_with_len p 5 else []
 
+-- the words of the fault packet, where it is there and on no queue
 abbrev pub fault_words_in : List ℕ → List ℕ
 fault_words_in s = free_packet (has_reporter s) s fault_packet
 
@@ -78,6 +83,7 @@ console_rest s = queue_words_at s pending_head ++ packet_rest s
 abbrev pub console_words : List ℕ → List ℕ
 console_words s = range_with_len pending_head 1 ++ console_rest s
 
+-- the same; without residents there are none
 abbrev pub resident_words_in : List ℕ → List ℕ
 resident_words_in s = if has_residents s then console_words s else []
 
